@@ -1,0 +1,36 @@
+use jz_data::{Seq, Text};
+use jz_io::Span;
+
+/// A token, and the place of its first byte. The end of the text is one, just past the last byte.
+#[derive(Debug, Drop, PartialEq, Eq)]
+pub struct Token {
+    pub kind: TokenKind,
+    pub span: Span,
+}
+
+#[derive(Debug, Drop, PartialEq, Eq)]
+pub enum TokenKind {
+    Ident(Text),
+    Keyword(Text),
+    Num(i128),
+    Sign(Text),
+    End,
+}
+
+/// The tokens of a text in order, the last one its end.
+pub type Tokens = Seq<Token>;
+
+/// Why a text has no token at a place.
+#[derive(Clone, Copy, Debug, PartialEq, Eq)]
+pub enum LexKind {
+    /// A byte that begins no token.
+    BadByte,
+    /// A number that is too large, `0x` without a digit, or a number with a letter behind it.
+    BadNumber,
+}
+
+#[derive(Clone, Copy, Debug, PartialEq, Eq)]
+pub struct LexFault {
+    pub kind: LexKind,
+    pub span: Span,
+}

@@ -1,0 +1,5 @@
+//! The stages from a text to bytes and their run, and the call over all of them.
+#![tactic(auto)]
+
+pub mod jz_lex;
+pub mod jz_tree;

@@ -1,0 +1,20 @@
+//! The outside: sources of bytes by name, sinks of bytes, and how a text is read and written whole.
+#![tactic(auto)]
+
+mod memory;
+mod sink;
+mod source;
+mod span;
+
+use jz_data::Seq;
+pub use memory::{MemSink, MemSource};
+pub use sink::{Sink, write_all};
+pub use source::{ReadRefused, Source, read_all};
+pub use span::Span;
+
+/// Bytes that contracts see as a list.
+pub type Bytes = Seq<u8>;
+
+/// A read or a write failed, and the source or sink has counted it.
+#[derive(Clone, Copy, Debug, PartialEq, Eq)]
+pub struct Failed;

@@ -1,0 +1,6 @@
+/// A place in a text: line and column in bytes, both from 1. A line ends at the byte 10 alone.
+#[derive(Clone, Copy, PartialEq, Eq, Debug)]
+pub struct Span {
+    pub line: u32,
+    pub col: u32,
+}
