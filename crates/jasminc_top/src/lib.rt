@@ -1,5 +1,9 @@
 //! The stages from a text to bytes and their run, and the call over all of them.
 #![tactic(auto)]
 
+pub mod jz_leak;
 pub mod jz_lex;
 pub mod jz_tree;
+mod listing;
+
+pub use listing::{Arg, Compiled, Pre};
