@@ -1,5 +1,5 @@
 -- The spellings of instructions in bytes (Intel SDM vol. 2, chapter 2). Each byte is a number below 256.
-use Rattle.std.specs.Prelude.{◌≡◌, ◌<◌, ◌≤◌, ℕ, ◌+◌, ◌*◌, ◌%◌, Bool, true, false, ◌&&◌, ◌==◌, nat_lt, if◌then◌else◌, Option, Some, None, is_some, IfSome, IsTrue, List, [], ◌∷◌, ◌++◌, length, take}
+use Rattle.std.specs.Prelude.{◌≡◌, ◌<◌, ◌≤◌, ℕ, ◌+◌, ◌*◌, ◌%◌, Bool, true, false, ◌&&◌, ◌==◌, nat_lt, nat_le, if◌then◌else◌, Option, Some, None, is_some, IfSome, IsTrue, List, [], ◌∷◌, ◌++◌, length, take}
 use Rattle.std.specs.List.{list_all}
 use Rattle.std.specs.Option.{option_to_list}
 use Rattle.x64_insn.specs.declared.types.Reg.{Reg}
@@ -36,7 +36,7 @@ is_byte b = nat_lt b 256
 
 -- REX; with 66 it has no W
 abbrev pub is_rex : Option ℕ → ℕ → Bool
-is_rex operand_size b = (nat_lt 0x3F b) && nat_lt b (if is_some operand_size then 0x48 else 0x50)
+is_rex operand_size b = nat_le 0x40 b && nat_lt b (if is_some operand_size then 0x48 else 0x50)
 
 -- a byte that passes a test where one has to stand, and none elsewhere
 abbrev pub StandsIf : Bool → (ℕ → Bool) → Option ℕ → Type 0
