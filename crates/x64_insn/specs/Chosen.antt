@@ -1,8 +1,11 @@
 -- The spelling that is chosen among those of an instruction.
-use Rattle.std.specs.Prelude.{ℕ, ◌+◌, ◌*◌, ◌/◌, ◌%◌, Option, Some, None, List, []}
+use Rattle.std.specs.Prelude.{ℕ, ◌+◌, ◌*◌, ◌/◌, ◌%◌, Bool, true, false, ◌&&◌, Option, Some, None, List, []}
+use Rattle.jz_words.specs.declared.size.Size.{Size}
+use Rattle.jz_words.specs.declared.size.Size.TheVariants.{S64}
 use Rattle.x64_insn.specs.declared.types.Alu.{Alu}
 use Rattle.x64_insn.specs.declared.types.Alu.TheVariants as alu
 use Rattle.x64_insn.specs.declared.types.Reg.{Reg}
+use Rattle.x64_insn.specs.declared.types.Operand.{Operand}
 use Rattle.x64_insn.specs.declared.types.Operand.TheVariants as operand
 use Rattle.x64_insn.specs.declared.types.Insn.{Insn}
 use Rattle.x64_insn.specs.declared.types.Insn.TheVariants as insn
@@ -51,3 +54,23 @@ bytes_of_fields (Some f) = spelling_of f
 -- the bytes that are chosen for an instruction that has a spelling
 unfoldable pub chosen_bytes : Insn → List ℕ
 chosen_bytes i = bytes_of_fields (chosen_fields i)
+
+-- ---- which instructions have a spelling
+abbrev pub is_add : Alu → Bool
+is_add alu.Add = true
+is_add other = false
+
+abbrev pub is_64 : Size → Bool
+is_64 S64 = true
+is_64 other = false
+
+abbrev pub are_registers : Operand → Operand → Bool
+are_registers (operand.Reg to) (operand.Reg from) = true
+are_registers to from = false
+
+-- ADD and MOV from register to register of 64 bits, and RET
+abbrev pub is_spelled : Insn → Bool
+is_spelled (insn.Alu alu size to from) = is_add alu && (is_64 size && are_registers to from)
+is_spelled (insn.Mov size to from) = is_64 size && are_registers to from
+is_spelled insn.Ret = true
+is_spelled other = false
