@@ -4,3 +4,4 @@
 pub mod jz_lex;
 pub mod jz_tree;
 pub mod x64_decode;
+pub mod x64_encode;
