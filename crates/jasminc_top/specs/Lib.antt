@@ -1,2 +1,5 @@
 pub mod Transformers
 pub mod Listing
+pub mod ByteReading
+pub mod Decoding
+pub mod EncodedFields

@@ -7,3 +7,5 @@ pub mod jz_tree;
 mod listing;
 
 pub use listing::{Arg, Compiled, Pre};
+pub mod x64_decode;
+pub mod x64_encode;

@@ -1,6 +1,7 @@
 //! Instructions of x86-64: their parts, what each does, and their spellings.
 #![tactic(auto)]
 
+pub mod table;
 mod types;
 
 pub use types::{
