@@ -3,3 +3,4 @@ pub mod Listing
 pub mod ByteReading
 pub mod Decoding
 pub mod EncodedFields
+pub mod Steps

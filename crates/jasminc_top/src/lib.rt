@@ -5,7 +5,8 @@ pub mod jz_leak;
 pub mod jz_lex;
 pub mod jz_tree;
 mod listing;
-
-pub use listing::{Arg, Compiled, Pre};
 pub mod x64_decode;
 pub mod x64_encode;
+pub mod x64_machine;
+
+pub use listing::{Arg, Compiled, Pre};

@@ -1,11 +1,11 @@
 //! Instructions of x86-64: their parts, what each does, and their spellings.
 #![tactic(auto)]
 
-pub mod table;
 mod answer;
 mod bus;
 mod effects;
 mod laws;
+pub mod table;
 mod types;
 
 pub use bus::Bus;
