@@ -6,3 +6,4 @@ pub mod FieldParts
 pub mod DecodeExact
 pub mod DecodeSizes
 mod DecodeExamples
+pub mod Numerals

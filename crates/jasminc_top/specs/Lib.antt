@@ -4,3 +4,4 @@ pub mod ByteReading
 pub mod Decoding
 pub mod EncodedFields
 pub mod Steps
+pub mod Words

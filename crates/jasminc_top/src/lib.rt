@@ -5,6 +5,7 @@ pub mod jz_leak;
 pub mod jz_lex;
 pub mod jz_tree;
 mod listing;
+mod words;
 pub mod x64_decode;
 pub mod x64_encode;
 pub mod x64_machine;
