@@ -1,2 +1,4 @@
 pub mod Slots
 pub mod Sums
+pub mod MemoryEntries
+pub mod MemorySpans

@@ -1,6 +1,6 @@
 -- The bytes of a slot, and the fault of one that is not valid.
 use Rattle.std.proofs.Common.{◌≡◌, ℕ, zero, suc, ◌+◌, ◌*◌, ◌%◌, ◌^◌, ◌<◌, ◌↔◌, ◌⊎◌, inl, inr, sym, ap, ◌∙◌, refl, subst, arith}
-use Rattle.std.specs.Prelude.{Option, Some, None, Result, Ok, Err}
+use Rattle.std.specs.Prelude.{Option, Some, None, Ok, Err}
 use Rattle.std.specs.Option.{option_and_then}
 use Rattle.std.specs.FinMap.{get}
 use Rattle.jz_words.specs.declared.size.Size.TheVariants.{S64}
@@ -12,8 +12,7 @@ use Rattle.x64_insn.specs.declared.types.Alu.TheVariants as alu
 use Rattle.x64_insn.specs.declared.types.Insn.{Insn}
 use Rattle.x64_insn.specs.declared.types.Insn.TheVariants as insn
 use Rattle.x64_insn.specs.declared.types.State.{State}
-use Rattle.x64_insn.specs.declared.types.FaultKind.{FaultKind}
-use Rattle.x64_insn.specs.declared.types.FaultKind.TheVariants.{NoInsn, BadAddress}
+use Rattle.x64_insn.specs.declared.types.FaultKind.TheVariants.{BadAddress}
 use Rattle.x64_insn.specs.Rows.{After, effect_of, reg_value, or_bad_address, add_row, mov_row, ret_row}
 use Rattle.x64_insn.specs.Laws.{HasInvalidByte}
 
@@ -51,11 +50,12 @@ invalid_byte : (m : Memory) (a n : ℕ) → a < 2 ^ 64 → loaded m a n ≡ None
 unfolding loaded
 invalid_byte m a zero fits e = cc
 invalid_byte m a (suc n) fits e = elim (missing (get m a) (loaded m ((a + 1) % 2 ^ 64) n) e) [
-    inl gone ↦ (zero, omega arith, ap (get m) (first_place a fits) ∙ gone)
+  | inl gone ↦ (zero, omega arith, ap (get m) (first_place a fits) ∙ gone)
   | inr gone ↦ let h = invalid_byte m ((a + 1) % 2 ^ 64) n (omega arith) gone in
       let k = h.0 in
       let below : k < n = h.1 in
-      (suc k, omega arith, ap (get m) (sym (next_place a k)) ∙ h.2) ]
+      (suc k, omega arith, ap (get m) (sym (next_place a k)) ∙ h.2)
+]
 
 -- the fault of a row that reads a slot
 or_bad_faults : (o : Option ℕ) (f : ℕ → After) → or_bad_address o (λ v. Ok (f v)) ≡ Err BadAddress → o ≡ None
@@ -87,6 +87,7 @@ only_ret other next st m e = cc
 -- a bad address is a RET over a slot with a byte that is not valid
 pub bad_address : (i : Insn) (next : ℕ) (st : State) (m : Memory) → reg_value st reg.Rsp < 2 ^ 64
     → ((effect_of i next st m ≡ Err BadAddress) ↔ ((i ≡ insn.Ret) × HasInvalidByte m (reg_value st reg.Rsp) 8))
-bad_address i next st m fits =
-    ( (λ e. let h = only_ret i next st m e in (h.0, invalid_byte m (reg_value st reg.Rsp) 8 fits h.1))
-    , (λ h. subst (λ j. effect_of j next st m ≡ Err BadAddress) (sym h.0) (ret_at_none st m (no_load m (reg_value st reg.Rsp) 8 fits h.1.0 h.1.1 h.1.2))) )
+bad_address i next st m fits = (
+  (λ e. let h = only_ret i next st m e in (h.0, invalid_byte m (reg_value st reg.Rsp) 8 fits h.1)),
+  (λ h. subst (λ j. effect_of j next st m ≡ Err BadAddress) (sym h.0) (ret_at_none st m (no_load m (reg_value st reg.Rsp) 8 fits h.1.0 h.1.1 h.1.2))),
+)

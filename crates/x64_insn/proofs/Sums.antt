@@ -1,6 +1,6 @@
 -- What the flags of a sum show.
-use Rattle.std.proofs.Common.{◌≡◌, ◌≢◌, ℕ, ◌+◌, ◌%◌, ◌^◌, ◌<◌, ◌≤◌, ◌↔◌, ◌⊎◌, inl, inr, Bool, true, false, not, ◌||◌, sym, ap, ◌∙◌, refl, subst, arith, ℤ, pos, ◌+ℤ◌, ◌-ℤ◌, ◌<ℤ◌, ◌≤ℤ◌}
-use Rattle.std.specs.Prelude.{Option, Some, None, Result, Ok, Err, nat_le, int_lt, ◌==◌, slice_get}
+use Rattle.std.proofs.Common.{◌≡◌, ◌≢◌, ℕ, ◌+◌, ◌%◌, ◌^◌, ◌≤◌, ◌↔◌, ◌⊎◌, inl, inr, Bool, true, false, not, ◌||◌, sym, ap, refl, subst, arith, ℤ, pos, ◌+ℤ◌, ◌-ℤ◌, ◌<ℤ◌, ◌≤ℤ◌}
+use Rattle.std.specs.Prelude.{Option, Some, Ok, nat_le, int_lt, ◌==◌, slice_get}
 use Rattle.std.proofs.lemmas.Bool.{le-leb, leb-true}
 use Rattle.std.proofs.lemmas.Int.{ints}
 use Rattle.jz_words.specs.declared.size.Size.TheVariants.{S64}
@@ -86,7 +86,7 @@ sum_shows a b st e =
       sign = shows _ _ (ap (λ fs. slice_get fs 2) e) (subst (λ x. (nat_le (2 ^ 63) x ≡ true) ↔ (2 ^ 63 ≤ (a + b) % 2 ^ 64)) (sym plain) (at_least (2 ^ 63) ((a + b) % 2 ^ 64)));
       parity = shows _ _ (ap (λ fs. slice_get fs 3) e) (subst (λ x. (has_even_ones x ≡ true) ↔ (has_even_ones ((a + b) % 2 ^ 64) ≡ true)) (sym plain) (λ h. h, λ h. h));
       zero = shows _ _ (ap (λ fs. slice_get fs 4) e) (subst (λ x. ((x == 0) ≡ true) ↔ ((a + b) % 2 ^ 64 ≡ 0)) (sym plain) (is_zero ((a + b) % 2 ^ 64)));
-      defined = no_flag_undefined _ _ _ st e
+      defined = no_flag_undefined _ _ _ st e;
     }
 
 pub add_shows : (to from : Reg) (next : ℕ) (st : State) (m : Memory) → (after : After) × (effect_of (insn.Alu alu.Add S64 (operand.Reg to) (operand.Reg from)) next st m ≡ Ok after) × ShowsSum (reg_word st S64 to) (reg_word st S64 from) after.state

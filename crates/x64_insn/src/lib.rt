@@ -5,6 +5,8 @@ mod answer;
 mod bus;
 mod effects;
 mod laws;
+#[cfg(test)]
+mod tests;
 mod types;
 
 pub use bus::Bus;
