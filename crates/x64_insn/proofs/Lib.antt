@@ -3,3 +3,5 @@ pub mod ChosenSpelling
 mod Examples
 pub mod Slots
 pub mod Sums
+pub mod MemoryEntries
+pub mod MemorySpans

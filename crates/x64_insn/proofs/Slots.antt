@@ -1,6 +1,6 @@
 -- The bytes of a slot, and the fault of one that is not valid.
 use Rattle.std.proofs.Common.{◌≡◌, ℕ, zero, suc, ◌+◌, ◌*◌, ◌%◌, ◌^◌, ◌<◌, ◌↔◌, ◌⊎◌, inl, inr, sym, ap, ◌∙◌, refl, subst, arith}
-use Rattle.std.specs.Prelude.{Option, Some, None, Result, Ok, Err}
+use Rattle.std.specs.Prelude.{Option, Some, None, Ok, Err}
 use Rattle.std.specs.Option.{option_and_then}
 use Rattle.std.specs.FinMap.{get}
 use Rattle.jz_words.specs.declared.size.Size.TheVariants.{S64}
@@ -12,8 +12,7 @@ use Rattle.x64_insn.specs.declared.types.Alu.TheVariants as alu
 use Rattle.x64_insn.specs.declared.types.Insn.{Insn}
 use Rattle.x64_insn.specs.declared.types.Insn.TheVariants as insn
 use Rattle.x64_insn.specs.declared.types.State.{State}
-use Rattle.x64_insn.specs.declared.types.FaultKind.{FaultKind}
-use Rattle.x64_insn.specs.declared.types.FaultKind.TheVariants.{NoInsn, BadAddress}
+use Rattle.x64_insn.specs.declared.types.FaultKind.TheVariants.{BadAddress}
 use Rattle.x64_insn.specs.Rows.{After, effect_of, reg_value, or_bad_address, add_row, mov_row, ret_row}
 use Rattle.x64_insn.specs.Laws.{HasInvalidByte}
 

@@ -1,5 +1,5 @@
 -- The result of an operation on words, and the status flags that it leaves (Intel SDM vol. 1, 3.4.3.1).
-use Rattle.std.specs.Prelude.{ℕ, Bool, true, false, not, ◌||◌, ◌==◌, nat_le, int_lt, if◌then◌else◌, List, [], ◌∷◌, ℤ, pos, ◌+ℤ◌, ◌-ℤ◌}
+use Rattle.std.specs.Prelude.{ℕ, Bool, not, ◌||◌, ◌==◌, nat_le, int_lt, if◌then◌else◌, List, [], ◌∷◌, ℤ, pos, ◌+ℤ◌, ◌-ℤ◌}
 use Rattle.jz_words.specs.declared.size.Size.{Size}
 use Rattle.jz_words.specs.Sizes.{half, signed}
 use Rattle.jz_words.specs.Words.{carried, sum_of, carry_of, has_even_ones}

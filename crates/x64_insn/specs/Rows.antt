@@ -9,9 +9,7 @@ use Rattle.x64_insn.specs.declared.types.Reg.TheVariants as reg
 use Rattle.x64_insn.specs.declared.types.Flag.{Flag}
 use Rattle.x64_insn.specs.declared.types.Flag.TheVariants.{Of, Cf, Sf, Pf, Zf}
 use Rattle.x64_insn.specs.declared.types.FlagVal.{FlagVal}
-use Rattle.x64_insn.specs.declared.types.Operand.{Operand}
 use Rattle.x64_insn.specs.declared.types.Operand.TheVariants as operand
-use Rattle.x64_insn.specs.declared.types.Alu.{Alu}
 use Rattle.x64_insn.specs.declared.types.Alu.TheVariants as alu
 use Rattle.x64_insn.specs.declared.types.Insn.{Insn}
 use Rattle.x64_insn.specs.declared.types.Insn.TheVariants as insn

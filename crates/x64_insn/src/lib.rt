@@ -6,6 +6,8 @@ mod bus;
 mod effects;
 mod laws;
 pub mod table;
+#[cfg(test)]
+mod tests;
 mod types;
 
 pub use bus::Bus;
