@@ -52,3 +52,77 @@ pub fn read_again()
 pub fn one_form()
     ensures { (a b x y : List ℕ) (i j : Insn) → Spells a i → Spells b j → a ++ x ≡ b ++ y → (a ≡ b) × (i ≡ j) }
 {}
+
+#[cfg(test)]
+mod tests {
+    use super::*;
+    use jz_words::Size;
+    use x64_insn::{Alu, Operand, Reg};
+
+    fn mov(to: Reg, from: Reg) -> Decoded {
+        let insn = Insn::Mov(Size::S64, Operand::Reg(to), Operand::Reg(from));
+        Decoded::Insn { insn, len: 3 }
+    }
+
+    fn add(to: Reg, from: Reg) -> Decoded {
+        let insn = Insn::Alu(Alu::Add, Size::S64, Operand::Reg(to), Operand::Reg(from));
+        Decoded::Insn { insn, len: 3 }
+    }
+
+    // The instructions as binutils 2.40 disassembles them.
+    #[test]
+    fn decodes_what_a_disassembler_shows(rt: HostRuntime) {
+        for (spelling, want) in [
+            ([0x48, 0x89, 0xF8], mov(Reg::Rax, Reg::Rdi)),
+            ([0x48, 0x01, 0xF0], add(Reg::Rax, Reg::Rsi)),
+            ([0x4C, 0x8B, 0xC8], mov(Reg::R9, Reg::Rax)),
+            ([0x49, 0x03, 0xC1], add(Reg::Rax, Reg::R9)),
+            ([0x4D, 0x01, 0xEF], add(Reg::R15, Reg::R13)),
+            // REX.X has no use
+            ([0x4A, 0x89, 0xF8], mov(Reg::Rax, Reg::Rdi)),
+            ([0x4F, 0x03, 0xC8], add(Reg::R9, Reg::R8)),
+        ] {
+            let [first, second, third] = spelling;
+            assert_eq!(rt; decode(&spelling), want, "at {spelling:?}");
+            assert_eq!(rt;
+                decode(&[first, second, third, 0x90]),
+                want,
+                "at {spelling:?}"
+            );
+            assert_eq!(rt;
+                decode(&[first, second]),
+                Decoded::Truncated,
+                "at {spelling:?}"
+            );
+            assert_eq!(rt; decode(&[first]), Decoded::Truncated, "at {spelling:?}");
+        }
+        let ret = Decoded::Insn {
+            insn: Insn::Ret,
+            len: 1,
+        };
+        assert_eq!(rt; decode(&[0xC3]), ret);
+        assert_eq!(rt; decode(&[]), Decoded::Truncated);
+    }
+
+    #[test]
+    fn knows_no_other_bytes(rt: HostRuntime) {
+        // prefix 66, SYSCALL, RET with REX, operands of 32 bits, memory operands, REX twice, NOP
+        for bytes in [
+            [0x66, 0x48, 0x89, 0xF8],
+            [0x0F, 0x05, 0x90, 0x90],
+            [0x48, 0xC3, 0x90, 0x90],
+            [0x40, 0xC3, 0x90, 0x90],
+            [0x89, 0xF8, 0x90, 0x90],
+            [0x40, 0x89, 0xF8, 0x90],
+            [0x48, 0x89, 0x07, 0x90],
+            [0x48, 0x8B, 0x47, 0x08],
+            [0x48, 0x48, 0x89, 0xF8],
+            [0x90, 0x90, 0x90, 0x90],
+        ] {
+            assert_eq!(rt; decode(&bytes), Decoded::Unknown, "at {bytes:?}");
+        }
+        assert_eq!(rt; decode(&[0x66]), Decoded::Unknown);
+        assert_eq!(rt; decode(&[0x0F]), Decoded::Unknown);
+        assert_eq!(rt; decode(&[0x40]), Decoded::Unknown);
+    }
+}

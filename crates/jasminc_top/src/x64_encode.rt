@@ -135,3 +135,67 @@ pub fn encode(insn: &Insn) -> Code15
 pub fn round_trip()
     ensures { (i : Insn) (rest : List ℕ) → HasSpelling i → decoded_of (chosen_bytes i ++ rest) ≡ Decoded.Insn i (length (chosen_bytes i)) }
 {}
+
+#[cfg(test)]
+mod tests {
+    use super::*;
+    use crate::x64_decode::decode;
+    use x64_insn::table::reg_of;
+
+    // The bytes that binutils 2.40 assembles.
+    #[test]
+    fn encodes_as_an_assembler_does(rt: HostRuntime) {
+        let rax = Operand::Reg(Reg::Rax);
+        let r9 = Operand::Reg(Reg::R9);
+        for (insn, want) in [
+            (
+                Insn::Mov(Size::S64, rax, Operand::Reg(Reg::Rdi)),
+                [0x48, 0x89, 0xF8],
+            ),
+            (
+                Insn::Alu(Alu::Add, Size::S64, rax, Operand::Reg(Reg::Rsi)),
+                [0x48, 0x01, 0xF0],
+            ),
+            (Insn::Mov(Size::S64, r9, rax), [0x49, 0x89, 0xC1]),
+            (Insn::Mov(Size::S64, rax, r9), [0x4C, 0x89, 0xC8]),
+        ] {
+            assert!(rt; has_spelling(&insn), "at {insn:?}");
+            let code = encode(&insn);
+            assert_eq!(rt; code.as_slice(), want.as_slice(), "at {insn:?}");
+        }
+        assert!(rt; has_spelling(&Insn::Ret));
+        let code = encode(&Insn::Ret);
+        assert_eq!(rt; code.as_slice(), [0xC3].as_slice());
+    }
+
+    #[test]
+    fn decodes_each_pair_of_registers(rt: HostRuntime) {
+        for to in 0..16 {
+            for from in 0..16 {
+                let to = Operand::Reg(reg_of(to));
+                let from = Operand::Reg(reg_of(from));
+                let mov = Insn::Mov(Size::S64, to, from);
+                let add = Insn::Alu(Alu::Add, Size::S64, to, from);
+                for insn in [mov, add] {
+                    assert!(rt; has_spelling(&insn), "at {insn:?}");
+                    let code = encode(&insn);
+                    let want = Decoded::Insn { insn, len: 3 };
+                    assert_eq!(rt; decode(code.as_slice()), want, "at {insn:?}");
+                }
+            }
+        }
+    }
+
+    #[test]
+    fn has_no_other_spelling(rt: HostRuntime) {
+        let rax = Operand::Reg(Reg::Rax);
+        for insn in [
+            Insn::Alu(Alu::Sub, Size::S64, rax, rax),
+            Insn::Alu(Alu::Add, Size::S32, rax, rax),
+            Insn::Mov(Size::S64, rax, Operand::Imm(1)),
+            Insn::Cqo,
+        ] {
+            assert!(rt; !has_spelling(&insn), "at {insn:?}");
+        }
+    }
+}

@@ -24,7 +24,7 @@ impl Model for Code15 {
 
 impl Code15 {
     /// No bytes.
-    pub fn new() -> Self
+    pub(super) fn new() -> Self
         ensures { result ≡ [] }
     {
         Code15 {
@@ -42,7 +42,7 @@ impl Code15 {
     }
 
     /// Puts a byte at the end.
-    pub fn push(&mut self, byte: u8)
+    pub(super) fn push(&mut self, byte: u8)
         requires { length self.old < 15 }
         ensures { self.new ≡ self.old ++ byte ∷ [] }
     {
@@ -51,7 +51,7 @@ impl Code15 {
     }
 
     /// Puts a byte at the end, if there is one.
-    pub fn push_option(&mut self, byte: Option<u8>)
+    pub(super) fn push_option(&mut self, byte: Option<u8>)
         requires { length self.old < 15 }
         ensures { self.new ≡ self.old ++ option_to_list byte }
     {
