@@ -1,0 +1,3 @@
+pub mod LexingNumbers
+pub mod LexingWords
+pub mod LexingFront
