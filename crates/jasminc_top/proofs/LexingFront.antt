@@ -127,3 +127,27 @@ kept_signed n z h =
 
 pub number_fits : (text : List ℕ) → heads is_digit text ≡ true → numeral_length text ≤ length text
 number_fits text h = let q = number_stands text h in omega (arith, ap length q.2, length-append q.0 q.1, q.3)
+
+-- ---- shapes
+pub shape_word : (w : List ℕ) → shape_of w ≡ shape.Word → is_word w ≡ true
+shape_word w h = by_cases _ (is_word w) (λ e. e) (λ e. absurd (go (is_numeral w) (sym (if_false (is_word w) shape.Word (if is_numeral w then shape.Number (pos (value_of w)) else shape.Sign) e) ∙ h)))
+  where
+    go : (b : Bool) → (if b then shape.Number (pos (value_of w)) else shape.Sign) ≡ shape.Word → ⊥
+    go true e = cc
+    go false e = cc
+
+pub shape_number : (w : List ℕ) (z : ℤ) → shape_of w ≡ shape.Number z → (is_word w ≡ false) × (is_numeral w ≡ true) × (pos (value_of w) ≡ z)
+shape_number w z h = go (is_word w) (is_numeral w) h
+  where
+    go : (a b : Bool) → (if a then shape.Word else if b then shape.Number (pos (value_of w)) else shape.Sign) ≡ shape.Number z → (a ≡ false) × (b ≡ true) × (pos (value_of w) ≡ z)
+    go true b e = cc
+    go false true e = let f : pos (value_of w) ≡ z = cc in (refl, refl, f)
+    go false false e = cc
+
+pub shape_sign : (w : List ℕ) → is_lexeme w ≡ true → shape_of w ≡ shape.Sign → (is_word w ≡ false) × (is_numeral w ≡ false) × (is_sign w ≡ true)
+shape_sign w l h = go (is_word w) (is_numeral w) (is_sign w) l h
+  where
+    go : (a b c : Bool) → (a || b || c) ≡ true → (if a then shape.Word else if b then shape.Number (pos (value_of w)) else shape.Sign) ≡ shape.Sign → (a ≡ false) × (b ≡ false) × (c ≡ true)
+    go true b c l e = cc
+    go false true c l e = cc
+    go false false c l e = (refl, refl, l)

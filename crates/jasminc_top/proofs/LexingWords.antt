@@ -2,6 +2,7 @@
 use Rattle.std.proofs.Common.{◌≡◌, ◌⊎◌, inl, inr, ⊎_elim, if◌then◌else◌, ℕ, zero, suc, ◌+◌, ◌<◌, ◌≤◌, List, [], ◌∷◌, ◌++◌, length, take, drop, Bool, true, false, not, ◌&&◌, ◌||◌, ◌==◌, nat_le, cond, Option, Some, None, refl, sym, ap, ap₂, ◌∙◌, subst, arith, length-append}
 use Rattle.std.specs.List.{list_all, list_any, take_while, prefix_len, starts_with}
 use Rattle.std.proofs.lemmas.List.Sums.{take_while-cons}
+use Rattle.std.specs.Str.{IsAscii}
 use Rattle.std.specs.Cmp.Lexicographic.{pointwise}
 use Rattle.jasminc_top.specs.LexingWords.{signs, is_among, begins, begins_word, in_word, is_digit, in_decimal, is_hex_digit, in_hexadecimal, is_word, is_decimal, are_hex_digits, is_hexadecimal, is_numeral, is_sign, is_lexeme}
 use Rattle.jasminc_top.specs.Lexing.{heads, is_blank, Longest}
@@ -94,6 +95,17 @@ entry_in test (w ∷ ws) v a h =
       (λ j. subst (λ z. test z ≡ true) (same_is w v j) p.0)
       (λ j. entry_in test ws v p.1 j)
       (or_true (pointwise ◌==◌ w v) (is_among ws v) h)
+
+-- w is none of these words
+abbrev pub IsNone : List (List ℕ) → List ℕ → Type 0
+IsNone [] w = Unit {0}
+IsNone (v ∷ vs) w = (w ≡ v → ⊥) × IsNone vs w
+
+pub none_among : (ws : List (List ℕ)) (w : List ℕ) → IsNone ws w → is_among ws w ≡ false
+none_among [] w h = refl
+none_among (v ∷ vs) w h = by_cases _ (pointwise ◌==◌ v w)
+    (λ e. absurd (h.0 (sym (same_is v w e))))
+    (λ e. rw e (none_among vs w h.1))
 
 abbrev falling : List (List ℕ) → Bool
 falling [] = true
@@ -364,3 +376,35 @@ sign_stands b bs w l d e =
 pub no_sign : (b : ℕ) (bs : List ℕ) → begins_word b ≡ false → is_digit b ≡ false → first_of signs (b ∷ bs) ≡ None → (v more : List ℕ) → v ++ more ≡ b ∷ bs → is_lexeme v ≡ true → ⊥
 no_sign b bs l d e v more f h = sign_cases b bs v more _ l d f h
     (λ i. let j = first_longest signs (b ∷ bs) v more signs_fall f i in some_none j.0 (sym j.1 ∙ e))
+
+-- ---- bytes below 128
+below : (test : ℕ → Bool) → ((b : ℕ) → test b ≡ true → b < 128) → (bs : List ℕ) → list_all test bs ≡ true → IsAscii bs
+below test f [] h i = omega arith
+below test f (b ∷ bs) h zero = f b (and_true (test b) (list_all test bs) h).0
+below test f (b ∷ bs) h (suc i) = below test f bs (and_true (test b) (list_all test bs) h).1 i
+
+in_word_below : (b : ℕ) → in_word b ≡ true → b < 128
+unfolding in_word
+in_word_below b h = grind arith
+
+begins_word_below : (b : ℕ) → begins_word b ≡ true → b < 128
+unfolding begins_word
+begins_word_below b h = grind arith
+
+abbrev is_low : ℕ → Bool
+is_low b = nat_le b 127
+
+is_low_below : (b : ℕ) → is_low b ≡ true → b < 128
+is_low_below b h = grind arith
+
+signs_low : every (λ w. list_all is_low w) signs ≡ true
+unfolding signs
+signs_low = refl
+
+pub word_ascii : (w : List ℕ) → is_word w ≡ true → IsAscii w
+word_ascii [] h i = cc
+word_ascii (b ∷ bs) h zero = begins_word_below b (word_head b bs h).0
+word_ascii (b ∷ bs) h (suc i) = below in_word in_word_below bs (word_head b bs h).1 i
+
+pub sign_ascii : (w : List ℕ) → is_sign w ≡ true → IsAscii w
+sign_ascii w h = below is_low is_low_below w (entry_in (λ v. list_all is_low v) signs w signs_low h)
