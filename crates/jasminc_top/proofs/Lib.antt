@@ -7,3 +7,8 @@ pub mod DecodeExact
 pub mod DecodeSizes
 mod DecodeExamples
 pub mod Numerals
+pub mod LexingNumbers
+pub mod LexingWords
+pub mod LexingFront
+pub mod Lexing
+pub mod LexingUnique

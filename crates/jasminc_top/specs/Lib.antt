@@ -5,3 +5,6 @@ pub mod Decoding
 pub mod EncodedFields
 pub mod Steps
 pub mod Words
+pub mod LexingWords
+pub mod Lexing
+pub mod LexingFront

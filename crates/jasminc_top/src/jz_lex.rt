@@ -1,5 +1,13 @@
 //! The tokens of a text.
 
+mod bytes;
+mod front;
+mod kind;
+mod laws;
+mod number;
+mod text;
 mod token;
 
+pub use laws::{end_stands_last, lexed_or_refused, one_fault, one_lexing};
+pub use text::lex;
 pub use token::{LexFault, LexKind, Token, TokenKind, Tokens};

@@ -1,0 +1,36 @@
+-- The part at the front of a text, and how it is found.
+use Rattle.std.specs.Prelude.{◌≡◌, ℕ, ℤ, pos, ◌+◌, ◌^◌, List, [], ◌∷◌, ◌++◌, Bool, true, false, nat_lt, if◌then◌else◌, Option, Some, None, length, take, drop}
+use Rattle.std.specs.List.{take_while}
+use Rattle.jasminc_top.specs.LexingWords.{begins, is_word, is_numeral, is_hexadecimal, in_decimal, in_hexadecimal, is_lexeme, value_of}
+use Rattle.jasminc_top.specs.Lexing.{heads, is_blank, Longest, is_no_number, HasNone}
+use Rattle.jasminc_top.specs.declared.jz_lex.front.Shape.{Shape}
+use Rattle.jasminc_top.specs.declared.jz_lex.front.Shape.TheVariants as shape
+use Rattle.jasminc_top.specs.declared.jz_lex.front.Part.{Part}
+use Rattle.jasminc_top.specs.declared.jz_lex.front.Part.TheVariants as part
+
+-- the number, where it is at most 2 ^ 127 - 1
+abbrev pub kept_number : ℕ → Option ℤ
+kept_number n = if nat_lt n (2 ^ 127) then Some (pos n) else None
+
+-- the number, where it is below 2 ^ 128
+abbrev pub wide_number : ℕ → Option ℕ
+wide_number n = if nat_lt n (2 ^ 128) then Some n else None
+
+-- the first of these words that stands at the front of the text
+abbrev pub first_of : List (List ℕ) → List ℕ → Option (List ℕ)
+first_of [] text = None
+first_of (w ∷ ws) text = if begins w text then Some w else first_of ws text
+
+-- how long the numeral is at the front of a text that begins with a digit
+unfoldable pub numeral_length : List ℕ → ℕ
+numeral_length text = if is_hexadecimal (take 3 text) then 3 + length (take_while in_hexadecimal (drop 3 text)) else 1 + length (take_while in_decimal (drop 1 text))
+
+-- what sort of lexeme these bytes are, and a numeral's number
+abbrev pub shape_of : List ℕ → Shape
+shape_of w = if is_word w then shape.Word else if is_numeral w then shape.Number (pos (value_of w)) else shape.Sign
+
+-- a part at the front of the text: a blank, the longest lexeme, or none
+abbrev pub PartAt : List ℕ → Part → Type 0
+PartAt text part.Blank = (b : ℕ) × (more : List ℕ) × (text ≡ b ∷ more) × (is_blank b ≡ true)
+PartAt text (part.Lexeme s n) = (w : List ℕ) × (more : List ℕ) × (text ≡ w ++ more) × (length w ≡ n) × Longest w more × (is_no_number w more ≡ false) × (shape_of w ≡ s)
+PartAt text (part.NoToken k) = HasNone k text
