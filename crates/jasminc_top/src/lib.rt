@@ -2,4 +2,5 @@
 #![tactic(auto)]
 
 pub mod jz_lex;
+pub mod jz_parse;
 pub mod jz_tree;
