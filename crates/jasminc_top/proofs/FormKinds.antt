@@ -1,17 +1,16 @@
 -- The kinds that stand at places, and what may go on after tokens that stand at the first of them.
-use Rattle.std.proofs.Common.{◌≡◌, ◌≢◌, ℕ, zero, suc, ◌+◌, ◌<◌, ◌≤◌, Bool, true, false, not, ◌&&◌, ◌||◌, ◌==◌, nat_lt, nat_eq, if◌then◌else◌, List, [], ◌∷◌, ◌++◌, length, map, codes, slice_index_or, refl, sym, ap, ◌∙◌, arith, subst, ◌⊎◌, inl, inr, append_assoc, length-append, add-one, replicate}
+use Rattle.std.proofs.Common.{◌≡◌, ◌≢◌, ℕ, zero, suc, ◌<◌, Bool, true, false, nat_lt, if◌then◌else◌, List, [], ◌∷◌, ◌++◌, length, map, slice_index_or, refl, sym, ap, ◌∙◌, arith, subst, ◌⊎◌, inl, inr, append_assoc, length-append, add-one, replicate}
 use borrow.Author.Tests.{ltb-true}
-use Rattle.std.specs.List.{list_any, list_all}
+use Rattle.std.specs.List.{list_all}
 use Rattle.std.proofs.lemmas.List.{append-nil}
-use Rattle.jz_io.specs.declared.span.Span.{Span}
 use Rattle.jasminc_top.specs.declared.jz_lex.token.Token.{Token}
 use Rattle.jasminc_top.specs.declared.jz_lex.token.TokenKind.{TokenKind}
 use Rattle.jasminc_top.specs.declared.jz_lex.token.TokenKind.TheVariants.{Ident, Keyword, Num, Sign, End}
 use Rattle.jasminc_top.specs.declared.jz_parse.form.Slot.{Slot}
 use Rattle.jasminc_top.specs.declared.jz_parse.form.Slot.TheVariants as slot
-use Rattle.jasminc_top.specs.Parsing.{kind_of, is_name, is_name_byte, reserved}
-use Rattle.jasminc_top.proofs.Differing.{Each, Different, In, each_append, each_weaker, in_append, in_get, total, longer_is_new, different_more, different_front}
-use Rattle.jasminc_top.proofs.FormRuns.{Place, fixed, known, fresh, place, count, places, Head, Run}
+use Rattle.jasminc_top.specs.Parsing.{kind_of, is_name, is_name_byte}
+use Rattle.jasminc_top.proofs.Differing.{Each, Different, In, each_weaker, in_append, in_get, total, longer_is_new, different_more, different_front}
+use Rattle.jasminc_top.proofs.FormRuns.{Place, fixed, known, fresh, count, places, Run}
 
 -- the kinds at the places after the names so far, with the names that come
 abbrev pub kinds : List Place → List (List ℕ) → List (List ℕ) → List TokenKind

@@ -1,23 +1,21 @@
 -- What the form's tokens derive and begin, and where they go wrong.
-use Rattle.std.proofs.Common.{◌≡◌, ◌≢◌, ℕ, zero, suc, ◌+◌, ◌-◌, ◌<◌, ◌≤◌, Bool, true, false, nat_lt, if◌then◌else◌, List, [], ◌∷◌, ◌++◌, length, map, take, drop, slice_get, Option, Some, None, Result, Ok, Err, refl, sym, ap, ◌∙◌, arith, subst, ◌⊎◌, inl, inr, append_assoc, length-append, length-drop}
+use Rattle.std.proofs.Common.{◌≡◌, ℕ, ◌-◌, ◌<◌, ◌≤◌, Bool, true, false, nat_lt, if◌then◌else◌, List, [], ◌∷◌, ◌++◌, length, map, drop, slice_get, Some, Result, Ok, Err, refl, sym, ap, ◌∙◌, arith, subst, ◌⊎◌, inl, inr, append_assoc, length-append, length-drop}
 use borrow.Author.Tests.{ltb-true, ltb-false}
 use Rattle.std.specs.Option.{option_map_or}
 use Rattle.jz_data.specs.declared.failure.Failure.{Failure}
 use Rattle.jz_data.specs.declared.failure.Failure.TheVariants.{Refused}
-use Rattle.std.specs.List.{All, AllPairs, Contains}
 use Rattle.std.proofs.lemmas.List.{append-nil, map-append}
 use Rattle.jz_io.specs.declared.span.Span.{Span}
 use Rattle.jasminc_top.specs.declared.jz_lex.token.Token.{Token}
 use Rattle.jasminc_top.specs.declared.jz_lex.token.TokenKind.{TokenKind}
 use Rattle.jasminc_top.specs.declared.jz_lex.token.TokenKind.TheVariants.{Ident, Keyword, Num, Sign, End}
 use Rattle.jasminc_top.specs.declared.jz_tree.Program.{Program}
-use Rattle.jasminc_top.specs.declared.jz_parse.fault.SyntaxKind.{SyntaxKind}
 use Rattle.jasminc_top.specs.declared.jz_parse.fault.SyntaxFault.{SyntaxFault}
 use Rattle.jasminc_top.specs.declared.jz_parse.form.TheConstants.{FORM}
-use Rattle.jasminc_top.specs.Parsing.{form, tree_of, kind_of, span_at, span_or_start, Derives, Begins, IsNameAfter, IsRefused, IsUnexpected, is_name}
+use Rattle.jasminc_top.specs.Parsing.{form, tree_of, kind_of, span_at, span_or_start, Derives, Begins, IsNameAfter, IsRefused, IsUnexpected}
 use Rattle.jasminc_top.specs.ParsingForm.{follow, name_in, IsFaultAt}
-use Rattle.jasminc_top.proofs.Differing.{Each, Different, In, all_of_each, each_weaker, pairs_of_different, different_of_pairs, contains_of_in}
-use Rattle.jasminc_top.proofs.FormRuns.{Place, fixed, known, fresh, places, Head, Run, Stuck, Stops, stops_of_follow, run_of_follow}
+use Rattle.jasminc_top.proofs.Differing.{Different, In, all_of_each, each_weaker, pairs_of_different, different_of_pairs, contains_of_in}
+use Rattle.jasminc_top.proofs.FormRuns.{Place, fixed, known, fresh, places, Run, Stuck, Stops, stops_of_follow, run_of_follow}
 use Rattle.jasminc_top.proofs.FormKinds.{kinds, opens, Known, Rest, Before, After, Halves, finish, complete, glue, run_well, run_plain, run_different, run_names, run_unique, run_halves, places_well, places_plain}
 
 -- the places of the form

@@ -1,15 +1,14 @@
 -- What tokens that follow the places are, without the tests: kinds in order and names that differ.
-use Rattle.std.proofs.Common.{◌≡◌, ◌≢◌, ℕ, zero, suc, ◌+◌, ◌<◌, ◌≤◌, Bool, true, false, not, ◌==◌, nat_lt, nat_eq, if◌then◌else◌, List, [], ◌∷◌, ◌++◌, length, map, codes, slice_index_or, refl, sym, ap, ◌∙◌, arith, subst, ◌⊎◌, inl, inr, Result, Ok, Err, append_assoc, length-append, add-one}
+use Rattle.std.proofs.Common.{◌≡◌, ◌≢◌, ℕ, suc, Bool, true, false, not, ◌==◌, nat_lt, if◌then◌else◌, List, [], ◌∷◌, ◌++◌, length, codes, slice_index_or, refl, sym, ap, ◌∙◌, arith, subst, Result, Ok, Err, length-append, add-one}
 use Rattle.std.specs.List.{list_any}
 use Rattle.std.specs.Cmp.Lexicographic.{pointwise, same_text}
-use Rattle.std.proofs.lemmas.List.{append-nil}
 use Rattle.jasminc_top.specs.declared.jz_lex.token.Token.{Token}
 use Rattle.jasminc_top.specs.declared.jz_lex.token.TokenKind.{TokenKind}
 use Rattle.jasminc_top.specs.declared.jz_lex.token.TokenKind.TheVariants.{Ident, Keyword, Num, Sign, End}
 use Rattle.jasminc_top.specs.declared.jz_parse.form.Slot.{Slot}
 use Rattle.jasminc_top.specs.declared.jz_parse.form.Slot.TheVariants as slot
-use Rattle.jasminc_top.specs.ParsingForm.{follow, fits, fits_name, names_after, stands, is_word, is_sign, is_end}
-use Rattle.jasminc_top.proofs.Differing.{Each, Different, different_more, different_front, new_to_each, each_to_new, same_texts}
+use Rattle.jasminc_top.specs.ParsingForm.{follow, fits, names_after, stands, is_word, is_sign, is_end}
+use Rattle.jasminc_top.proofs.Differing.{Each, new_to_each, each_to_new, same_texts}
 
 -- a place: a fixed kind, a name that stood before, or a new one
 pub data Place : Type 0 where

@@ -1,9 +1,8 @@
 -- One step of following the places, by the number of the token.
-use Rattle.std.proofs.Common.{◌≡◌, ℕ, zero, suc, ◌+◌, ◌<◌, ◌≤◌, List, [], ◌∷◌, length, drop, refl, ap, ◌∙◌, arith, slice_get, Option, Some, None, Result, Ok, Err, add-one, if◌then◌else◌, Bool, true, false, subst, sym, slice_index_or, Bor}
+use Rattle.std.proofs.Common.{◌≡◌, ℕ, zero, suc, ◌+◌, ◌<◌, ◌≤◌, List, [], ◌∷◌, length, drop, refl, ap, ◌∙◌, arith, slice_get, Option, Some, None, Err, add-one, if◌then◌else◌, Bool, true, false, sym, slice_index_or, Bor}
 use Rattle.std.specs.Option.{option_copied}
 use Rattle.std.proofs.lemmas.Option.{slice_get-get_or, slice_get_past}
 use Rattle.jasminc_top.specs.declared.jz_parse.form.Slot.TheVariants.{Export}
-use Rattle.std.proofs.lemmas.Grind.{common_steps}
 use Rattle.jasminc_top.specs.declared.jz_lex.token.Token.{Token}
 use Rattle.jasminc_top.specs.declared.jz_parse.form.Slot.{Slot}
 use Rattle.jasminc_top.specs.ParsingForm.{follow, fits, names_after}

@@ -1,5 +1,5 @@
 -- How tokens follow the table of what stands at each place.
-use Rattle.std.specs.Prelude.{not, ◌≡◌, ℕ, zero, suc, ◌+◌, Bool, true, false, if◌then◌else◌, ◌==◌, nat_lt, List, [], ◌∷◌, ◌++◌, length, codes, slice_index_or, Result, Ok, Err, ◌≤◌, ◌-◌, drop}
+use Rattle.std.specs.Prelude.{not, ◌≡◌, ℕ, Bool, true, false, if◌then◌else◌, ◌==◌, nat_lt, List, [], ◌∷◌, ◌++◌, length, codes, slice_index_or, Result, Ok, Err, ◌≤◌, ◌-◌, drop}
 use Rattle.std.specs.List.{list_any}
 use Rattle.std.specs.Cmp.Lexicographic.{pointwise}
 use Rattle.jasminc_top.specs.declared.jz_parse.fault.SyntaxKind.TheVariants.{Unexpected}

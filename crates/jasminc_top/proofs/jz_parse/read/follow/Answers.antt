@@ -1,4 +1,4 @@
-use Rattle.std.proofs.Common.{◌≡◌, [], ◌+◌, ◌<◌, ◌≤◌, length, slice_get, Some, None, drop, sym, ◌∙◌, arith}
+use Rattle.std.proofs.Common.{◌≡◌, ◌<◌, ◌≤◌, length, sym, ◌∙◌, arith}
 use Rattle.jasminc_top.proofs.FormSteps.{taken, refused, ended, past_end}
 use Rattle.jasminc_top.proofs.jz_parse.read.follow.Goals as goal
 

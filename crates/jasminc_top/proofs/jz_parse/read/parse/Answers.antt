@@ -1,4 +1,4 @@
-use Rattle.std.proofs.Common.{◌≡◌, [], length, Err, sym, subst}
+use Rattle.std.proofs.Common.{sym, subst}
 use Rattle.jasminc_top.specs.declared.jz_tree.Program.{Program}
 use Rattle.jasminc_top.specs.declared.jz_parse.fault.SyntaxFault.{SyntaxFault}
 use Rattle.jasminc_top.specs.Parsing.{Derives}
