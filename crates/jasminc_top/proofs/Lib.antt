@@ -3,3 +3,11 @@ pub mod Differing
 pub mod FormRuns
 pub mod FormKinds
 pub mod FormLaws
+pub mod Spaces
+pub mod ByteReaders
+pub mod ByteCounts
+pub mod PartsRead
+pub mod FieldParts
+pub mod DecodeExact
+pub mod DecodeSizes
+mod DecodeExamples

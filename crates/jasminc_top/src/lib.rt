@@ -1,6 +1,13 @@
 //! The stages from a text to bytes and their run, and the call over all of them.
 #![tactic(auto)]
 
+pub mod jz_leak;
 pub mod jz_lex;
 pub mod jz_parse;
 pub mod jz_tree;
+mod listing;
+pub mod x64_decode;
+pub mod x64_encode;
+pub mod x64_machine;
+
+pub use listing::{Arg, Compiled, Pre};

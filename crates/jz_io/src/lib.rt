@@ -5,12 +5,14 @@ mod memory;
 mod sink;
 mod source;
 mod span;
+mod verdict;
 
 use jz_data::Seq;
 pub use memory::{MemSink, MemSource};
 pub use sink::{Sink, write_all};
 pub use source::{ReadRefused, Source, read_all};
 pub use span::Span;
+pub use verdict::{Ct, CtKind};
 
 /// Bytes that contracts see as a list.
 pub type Bytes = Seq<u8>;

@@ -1,6 +1,12 @@
 //! Words of 8, 16, 32 and 64 bits, each operation by its whole-number formula.
 #![tactic(auto)]
 
+mod operations;
 mod size;
+#[cfg(test)]
+mod tests;
+mod word;
 
+pub use operations::{add_carry, mul_wide, parity, rol, ror, sar, shl, shr, sub_borrow};
 pub use size::Size;
+pub use word::Word;

@@ -1,3 +1,8 @@
+//! The sizes of words.
+
+ghost use Rattle.std.specs.Prelude.{◌≡◌};
+ghost use Rattle.jz_words.specs.Sizes.{bits_of, bytes_of, modulus};
+
 /// How many bits a word has.
 #[derive(Clone, Copy, PartialEq, Eq, Debug)]
 pub enum Size {
@@ -5,4 +10,42 @@ pub enum Size {
     S16,
     S32,
     S64,
+}
+
+impl Size {
+    /// The number of bits.
+    pub fn bits(self) -> u32
+        ensures { result ≡ bits_of self }
+    {
+        match self {
+            Size::S8 => 8,
+            Size::S16 => 16,
+            Size::S32 => 32,
+            Size::S64 => 64,
+        }
+    }
+
+    /// The number of bytes.
+    pub fn bytes(self) -> u32
+        ensures { result ≡ bytes_of self }
+    {
+        match self {
+            Size::S8 => 1,
+            Size::S16 => 2,
+            Size::S32 => 4,
+            Size::S64 => 8,
+        }
+    }
+
+    // How many words of the size there are.
+    pub(crate) fn modulus(self) -> u128
+        ensures { result ≡ modulus self }
+    {
+        match self {
+            Size::S8 => 1 << 8,
+            Size::S16 => 1 << 16,
+            Size::S32 => 1 << 32,
+            Size::S64 => 1 << 64,
+        }
+    }
 }

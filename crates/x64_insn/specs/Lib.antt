@@ -1,0 +1,6 @@
+pub mod Table
+pub mod Encoding
+pub mod Chosen
+pub mod Answers
+pub mod Rows
+pub mod Laws

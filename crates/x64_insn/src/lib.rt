@@ -1,8 +1,16 @@
 //! Instructions of x86-64: their parts, what each does, and their spellings.
 #![tactic(auto)]
 
+mod answer;
+mod bus;
+mod effects;
+mod laws;
+pub mod table;
 mod types;
 
+pub use bus::Bus;
+pub use effects::effect;
+pub use laws::{add_shows_its_sum, bad_address_is_an_invalid_slot, faults_change_nothing};
 pub use types::{
     Alu, Base, Cond, Count, FaultKind, Flag, FlagVal, Insn, Mem, One, Operand, Reg, Shift, State,
     StepLeak, Wide, Width,

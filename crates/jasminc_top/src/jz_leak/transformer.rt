@@ -1,0 +1,43 @@
+use jz_data::Seq;
+
+/// A number of an event, by the leaked numbers of a statement and the stack pointer at entry.
+#[derive(Clone, Copy, Debug, PartialEq, Eq)]
+pub enum Form {
+    /// A constant.
+    Num(u64),
+    /// The leaked number at this place, from 0.
+    Leaked(u64),
+    /// The stack pointer at entry plus an offset, modulo 2^64.
+    Frame(i64),
+    /// The stack pointer at entry plus an offset, plus a factor times the leaked number at a place, modulo 2^64.
+    Indexed(i64, u64, u64),
+}
+
+/// An event of the machine, its numbers as forms.
+#[derive(Clone, Copy, Debug, PartialEq, Eq)]
+pub enum Out {
+    Branch(bool),
+    Addr(Form),
+    Div(Form, Form, Form),
+}
+
+/// One case for each item of a leak.
+#[derive(Debug, Drop, PartialEq, Eq)]
+pub struct Tr {
+    pub cases: Seq<Case>,
+}
+
+/// What a statement's item of a leak becomes.
+#[derive(Debug, Drop, PartialEq, Eq)]
+pub enum Case {
+    /// The events of an operation.
+    Op(Seq<Out>),
+}
+
+/// The transformer of a function: the events before its body, those of the body, and those after it.
+#[derive(Debug, Drop, PartialEq, Eq)]
+pub struct Transformer {
+    pub before: Seq<Out>,
+    pub body: Tr,
+    pub after: Seq<Out>,
+}

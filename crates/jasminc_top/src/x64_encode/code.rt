@@ -1,0 +1,62 @@
+//! The bytes of one instruction.
+
+ghost use Rattle.std.specs.Prelude.{◌≡◌, ℕ, ◌+◌, ◌<◌, ◌≤◌, List, [], ◌∷◌, ◌++◌, length, take};
+ghost use Rattle.std.specs.Option.{option_to_list};
+
+use std::marker::Model;
+
+/// Up to 15 bytes, as many as an instruction may have (Intel SDM vol. 2, 2.3.11). Contracts see the list of them.
+#[derive(Drop)]
+pub struct Code15 {
+    bytes: [u8; 15],
+    len: u8,
+}
+
+impl Model for Code15 {
+    ghost use Rattle.std.specs.Prelude.{ℕ, ◌≤◌, List, take};
+
+    ghost Value = { List ℕ };
+
+    ghost view = { λ c. take c.len c.bytes };
+
+    ghost invariant = { λ c. c.len ≤ 15 };
+}
+
+impl Code15 {
+    /// No bytes.
+    pub fn new() -> Self
+        ensures { result ≡ [] }
+    {
+        Code15 {
+            bytes: [0; 15],
+            len: 0,
+        }
+    }
+
+    /// The bytes.
+    pub fn as_slice(&self) -> &[u8]
+        ensures value { result.now ≡ self.now }
+        ensures fits { length self.now ≤ 15 }
+    {
+        &self.bytes[..usize::from(self.len)]
+    }
+
+    /// Puts a byte at the end.
+    pub fn push(&mut self, byte: u8)
+        requires { length self.old < 15 }
+        ensures { self.new ≡ self.old ++ byte ∷ [] }
+    {
+        self.bytes[usize::from(self.len)] = byte;
+        self.len += 1;
+    }
+
+    /// Puts a byte at the end, if there is one.
+    pub fn push_option(&mut self, byte: Option<u8>)
+        requires { length self.old < 15 }
+        ensures { self.new ≡ self.old ++ option_to_list byte }
+    {
+        if let Some(byte) = byte {
+            self.push(byte);
+        }
+    }
+}

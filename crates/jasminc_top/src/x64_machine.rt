@@ -1,0 +1,5 @@
+//! A machine that runs bytes.
+
+mod step;
+
+pub use step::Step;

@@ -1,0 +1,10 @@
+use x64_insn::FaultKind;
+
+/// What a step answers.
+#[derive(Clone, Copy, Debug, PartialEq, Eq)]
+pub enum Step {
+    Running,
+    /// The return from the entry was made.
+    Ended,
+    Fault(FaultKind),
+}

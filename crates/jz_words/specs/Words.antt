@@ -1,0 +1,49 @@
+-- Operations on words of a size, as whole numbers.
+use Rattle.std.specs.Prelude.{ℕ, ◌+◌, ◌-◌, ◌*◌, ◌/◌, ◌%◌, ◌^◌, Bool, true, false, ◌==◌, nat_lt, nat_le, count_ones, ℤ, pos, negsuc}
+use Rattle.std.specs.Int.{int_div_euclid}
+use Rattle.jz_words.specs.declared.size.Size.{Size}
+use Rattle.jz_words.specs.Sizes.{bits_of, modulus, signed}
+
+-- a carry or a borrow as a number
+abbrev pub carried : Bool → ℕ
+carried true = 1
+carried false = 0
+
+-- a + b + c, and whether the word has no room for it
+abbrev pub sum_of : Size → ℕ → ℕ → Bool → ℕ
+sum_of s a b c = (a + b + carried c) % modulus s
+
+abbrev pub carry_of : Size → ℕ → ℕ → Bool → Bool
+carry_of s a b c = nat_le (modulus s) (a + b + carried c)
+
+-- a - b - c, and whether it is below 0
+abbrev pub difference_of : Size → ℕ → ℕ → Bool → ℕ
+difference_of s a b c = (a + modulus s - (b + carried c)) % modulus s
+
+abbrev pub borrow_of : ℕ → ℕ → Bool → Bool
+borrow_of a b c = nat_lt a (b + carried c)
+
+-- the lowest byte has an even number of ones
+abbrev pub has_even_ones : ℕ → Bool
+has_even_ones a = count_ones (a % 256) % 2 == 0
+
+-- the word that a signed number stands for
+abbrev pub residue : Size → ℤ → ℕ
+residue s (pos n) = n % modulus s
+residue s (negsuc n) = modulus s - 1 - n % modulus s
+
+abbrev pub shl_of : Size → ℕ → ℕ → ℕ
+shl_of s a n = a * 2 ^ n % modulus s
+
+abbrev pub shr_of : ℕ → ℕ → ℕ
+shr_of a n = a / 2 ^ n
+
+abbrev pub sar_of : Size → ℕ → ℕ → ℕ
+sar_of s a n = residue s (int_div_euclid (signed s a) (pos (2 ^ n)))
+
+-- the bits that leave at one end come in at the other
+abbrev pub rol_of : Size → ℕ → ℕ → ℕ
+rol_of s a n = let k = n % bits_of s in (a * 2 ^ k + a / 2 ^ (bits_of s - k)) % modulus s
+
+abbrev pub ror_of : Size → ℕ → ℕ → ℕ
+ror_of s a n = let k = n % bits_of s in (a * 2 ^ (bits_of s - k) + a / 2 ^ k) % modulus s

@@ -1,0 +1,57 @@
+//! A word: as many bits as its size says.
+
+ghost use Rattle.std.specs.Prelude.{◌≡◌, ◌<◌, ◌%◌};
+ghost use Rattle.jz_words.specs.Sizes.{modulus};
+
+use crate::size::Size;
+
+/// A word of a size, by its bits as an unsigned number.
+#[derive(Clone, Copy, PartialEq, Eq, Debug)]
+pub struct Word {
+    size: Size,
+    bits: u64,
+    pub ghost fits: { bits < modulus size },
+}
+
+impl Word {
+    /// The word with these bits.
+    pub fn new(size: Size, bits: u64) -> Self
+        requires { bits < modulus size }
+        ensures size { result.size ≡ size }
+        ensures bits { result.bits ≡ bits }
+    {
+        Word { size, bits }
+    }
+
+    /// The word of a number's lowest bits.
+    pub fn truncate(size: Size, value: u64) -> Self
+        ensures size { result.size ≡ size }
+        ensures bits { result.bits ≡ value % modulus size }
+    {
+        Word::reduced(size, value as u128)
+    }
+
+    // The same of a longer number.
+    pub(crate) fn reduced(size: Size, value: u128) -> Self
+        ensures size { result.size ≡ size }
+        ensures bits { result.bits ≡ value % modulus size }
+    {
+        let bits = (value % size.modulus()) as u64;
+        Word { size, bits }
+    }
+
+    /// How many bits the word has.
+    pub fn size(self) -> Size
+        ensures { result ≡ self.size }
+    {
+        self.size
+    }
+
+    /// The bits as an unsigned number.
+    pub fn bits(self) -> u64
+        ensures value { result ≡ self.bits }
+        ensures fits { result < modulus self.size }
+    {
+        self.bits
+    }
+}

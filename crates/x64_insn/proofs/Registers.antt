@@ -1,0 +1,42 @@
+-- Registers and their numbers.
+use Rattle.std.proofs.Common.{◌≡◌, ◌<◌, refl, arith}
+use Rattle.x64_insn.specs.declared.types.Reg.{Reg}
+use Rattle.x64_insn.specs.declared.types.Reg.TheVariants as reg
+use Rattle.x64_insn.specs.Table.{number_of, reg_of}
+
+pub reg_of_number : (r : Reg) → reg_of (number_of r) ≡ r
+unfolding reg_of
+reg_of_number reg.Rax = refl
+reg_of_number reg.Rcx = refl
+reg_of_number reg.Rdx = refl
+reg_of_number reg.Rbx = refl
+reg_of_number reg.Rsp = refl
+reg_of_number reg.Rbp = refl
+reg_of_number reg.Rsi = refl
+reg_of_number reg.Rdi = refl
+reg_of_number reg.R8 = refl
+reg_of_number reg.R9 = refl
+reg_of_number reg.R10 = refl
+reg_of_number reg.R11 = refl
+reg_of_number reg.R12 = refl
+reg_of_number reg.R13 = refl
+reg_of_number reg.R14 = refl
+reg_of_number reg.R15 = refl
+
+pub number_small : (r : Reg) → number_of r < 16
+number_small reg.Rax = omega arith
+number_small reg.Rcx = omega arith
+number_small reg.Rdx = omega arith
+number_small reg.Rbx = omega arith
+number_small reg.Rsp = omega arith
+number_small reg.Rbp = omega arith
+number_small reg.Rsi = omega arith
+number_small reg.Rdi = omega arith
+number_small reg.R8 = omega arith
+number_small reg.R9 = omega arith
+number_small reg.R10 = omega arith
+number_small reg.R11 = omega arith
+number_small reg.R12 = omega arith
+number_small reg.R13 = omega arith
+number_small reg.R14 = omega arith
+number_small reg.R15 = omega arith

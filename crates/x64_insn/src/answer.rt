@@ -1,0 +1,103 @@
+//! The result of an operation on words, and the status flags that it leaves.
+
+ghost use Rattle.std.specs.Prelude.{◌≡◌, ◌<◌, ◌≤ℤ◌, ◌+ℤ◌, pos, negsuc, ◌^◌};
+ghost use Rattle.jz_words.specs.Sizes.{half, modulus, signed};
+ghost use Rattle.jz_words.specs.Words.{carried};
+ghost use Rattle.x64_insn.specs.Answers.{flag, overflows, flags_of, sum_answer};
+
+use crate::types::FlagVal;
+use jz_words::{Size, Word, add_carry, parity};
+
+/// A word of the result, and the flags in the order of `Flag`.
+#[derive(Clone, Copy)]
+pub(crate) struct Answer {
+    pub(crate) value: u64,
+    pub(crate) flags: [FlagVal; 5],
+}
+
+fn flag(set: bool) -> FlagVal
+    ensures { result ≡ flag set }
+{
+    if set { FlagVal::True } else { FlagVal::False }
+}
+
+// The least word whose sign is minus.
+fn half(size: Size) -> u64
+    ensures { result ≡ half size }
+{
+    match size {
+        Size::S8 => 1 << 7,
+        Size::S16 => 1 << 15,
+        Size::S32 => 1 << 31,
+        Size::S64 => 1 << 63,
+    }
+}
+
+// A word as a signed number.
+#[tactic(auto, unfolding(jz_words::specs::Sizes::signed))]
+fn signed(word: Word) -> i128
+    ensures value { result ≡ signed word.size word.bits }
+    ensures low { negsuc (2 ^ 63) ≤ℤ result }
+    ensures high { result ≤ℤ pos (2 ^ 63) }
+{
+    let half = half(word.size());
+    let bits = word.bits() as i128;
+    if word.bits() < half {
+        bits
+    } else {
+        bits - 2 * half as i128
+    }
+}
+
+// Whether no signed word of the size is this number.
+#[tactic(auto, unfolding(crate::specs::Answers::overflows))]
+fn overflows(size: Size, value: i128) -> bool
+    ensures { result ≡ overflows size value }
+{
+    let half = half(size) as i128;
+    value < -half || half <= value
+}
+
+#[tactic(auto, unfolding(crate::specs::Answers::flags_of))]
+fn flags_of(overflow: bool, carry: bool, word: Word) -> [FlagVal; 5]
+    ensures { result ≡ flags_of word.size overflow carry word.bits }
+{
+    [
+        flag(overflow),
+        flag(carry),
+        flag(half(word.size()) <= word.bits()),
+        flag(parity(word)),
+        flag(word.bits() == 0),
+    ]
+}
+
+// A carry as a number.
+fn carried(c: bool) -> i128
+    ensures value { result ≡ pos (carried c) }
+    ensures low { pos 0 ≤ℤ result }
+    ensures high { result ≤ℤ pos 1 }
+{
+    if c { 1 } else { 0 }
+}
+
+// The sum of two words and a carry as signed numbers.
+fn signed_sum(a: Word, b: Word, c: bool) -> i128
+    ensures { result ≡ (signed a.size a.bits +ℤ signed b.size b.bits) +ℤ pos (carried c) }
+{
+    signed(a) + signed(b) + carried(c)
+}
+
+/// The sum of two words of one size and a carry.
+#[tactic(auto, unfolding(crate::specs::Answers::sum_answer))]
+pub(crate) fn sum_answer(a: Word, b: Word, c: bool) -> Answer
+    requires { a.size ≡ b.size }
+    ensures value { result ≡ sum_answer a.size a.bits b.bits c }
+    ensures fits { result.value < modulus a.size }
+{
+    let (sum, carry) = add_carry(a, b, c);
+    let overflow = overflows(a.size(), signed_sum(a, b, c));
+    Answer {
+        value: sum.bits(),
+        flags: flags_of(overflow, carry, sum),
+    }
+}
