@@ -1,3 +1,8 @@
+pub mod FormSteps
+pub mod Differing
+pub mod FormRuns
+pub mod FormKinds
+pub mod FormLaws
 pub mod Spaces
 pub mod ByteReaders
 pub mod ByteCounts

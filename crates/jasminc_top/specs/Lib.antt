@@ -1,3 +1,5 @@
+pub mod Parsing
+pub mod ParsingForm
 pub mod Transformers
 pub mod Listing
 pub mod ByteReading

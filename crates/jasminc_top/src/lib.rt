@@ -3,6 +3,7 @@
 
 pub mod jz_leak;
 pub mod jz_lex;
+pub mod jz_parse;
 pub mod jz_tree;
 mod listing;
 mod words;

@@ -1,0 +1,22 @@
+use Rattle.std.proofs.Common.{sym, subst}
+use Rattle.jasminc_top.specs.declared.jz_tree.Program.{Program}
+use Rattle.jasminc_top.specs.declared.jz_parse.fault.SyntaxFault.{SyntaxFault}
+use Rattle.jasminc_top.specs.Parsing.{Derives}
+use Rattle.jasminc_top.specs.ParsingForm.{IsFaultAt}
+use Rattle.jasminc_top.proofs.FormLaws.{program_of_names, unexpected, same_fault}
+use Rattle.jasminc_top.proofs.jz_parse.read.parse.Goals as goal
+
+pub program-requires : goal.program-requires
+program-requires c = (program_of_names c.args.tokens.now c.in-Ok.names c.in-Ok.ensures).0
+
+pub returns-in_ok-program-in-Ok-clause-program : goal.returns-in_ok-program-in-Ok-clause-program
+returns-in_ok-program-in-Ok-clause-program c =
+    subst (λ (p : Program). Derives c.args.tokens.now p) (sym c.in_ok-program-in-Ok.ensures)
+    (program_of_names c.args.tokens.now c.in-Ok.names c.in-Ok.ensures).1
+
+pub returns-in-Err-Refused-clause-fault : goal.returns-in-Err-Refused-clause-fault
+returns-in-Err-Refused-clause-fault c =
+    let e = rw c.in-Err-Refused.field-0-is at c.in-Err-Refused.ensures
+    in let f = rw c.in-Err-Refused.field-0-is at c.fault_at.ensures
+    in λ fault h. unexpected c.args.tokens.now c.in-Err-Refused.number fault e.0 e.1
+    (subst (λ (x : SyntaxFault). IsFaultAt c.args.tokens.now c.in-Err-Refused.number x) (same_fault c.fault_at.result fault h) f)

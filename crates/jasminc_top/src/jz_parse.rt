@@ -1,0 +1,12 @@
+//! The program that a list of tokens derives. The texts that are read have one form, an export function of two words
+//! that adds them.
+
+mod fault;
+mod form;
+mod read;
+#[cfg(test)]
+mod tests;
+mod tree;
+
+pub use fault::{SyntaxFault, SyntaxKind};
+pub use read::{no_fault_of_a_program, one_fault, one_program, parse};
