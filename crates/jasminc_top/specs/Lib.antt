@@ -10,3 +10,6 @@ pub mod Words
 pub mod LexingWords
 pub mod Lexing
 pub mod LexingFront
+pub mod Reading
+pub mod Compiling
+pub mod Refusals

@@ -75,7 +75,7 @@ saved_text [] = codes " -"
 saved_text (r ∷ rs) = concat (map saved_reg_text (r ∷ rs))
 
 -- a line and a column
-abbrev pub span_text : Span → List ℕ
+unfoldable pub span_text : Span → List ℕ
 span_text s = decimal s.line ++ codes ":" ++ decimal s.col
 
 abbrev pub kind_text : CtKind → List ℕ

@@ -6,9 +6,11 @@ pub mod jz_lex;
 pub mod jz_parse;
 pub mod jz_tree;
 mod listing;
+mod refusal;
 mod words;
 pub mod x64_decode;
 pub mod x64_encode;
 pub mod x64_machine;
 
 pub use listing::{Arg, Compiled, Pre};
+pub use refusal::{Refusal, Status};

@@ -66,6 +66,7 @@ pub fn write_number(text: &mut Vec<u8>, number: u64) -> Result<(), AllocError>
 }
 
 /// A line and a column.
+#[tactic(auto, unfolding(crate::specs::Listing::span_text))]
 pub fn write_span(text: &mut Vec<u8>, span: Span) -> Result<(), AllocError>
     ensures { OnOk result (text.new.items ≡ text.old.items ++ span_text span) }
 {

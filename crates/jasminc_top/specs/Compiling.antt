@@ -1,0 +1,78 @@
+-- The functions that a program compiles to, and their code.
+use Rattle.std.specs.Prelude.{ℕ, List, [], ◌∷◌, ◌++◌, map, length, Option, Some, None, pos, if◌then◌else◌}
+use Rattle.std.specs.List.{concat}
+use Rattle.std.specs.Str.{bytes_eq}
+use Rattle.jz_words.specs.declared.size.Size.TheVariants.{S64}
+use Rattle.jz_io.specs.declared.verdict.Ct.TheVariants.{Yes}
+use Rattle.x64_insn.specs.declared.types.Reg.{Reg}
+use Rattle.x64_insn.specs.declared.types.Reg.TheVariants as reg
+use Rattle.x64_insn.specs.declared.types.Alu.TheVariants.{Add}
+use Rattle.x64_insn.specs.declared.types.Operand.TheVariants as operand
+use Rattle.x64_insn.specs.declared.types.Insn.{Insn}
+use Rattle.x64_insn.specs.declared.types.Insn.TheVariants as insn
+use Rattle.x64_insn.specs.Chosen.{chosen_bytes}
+use Rattle.jasminc_top.specs.declared.jz_tree.Program.{Program}
+use Rattle.jasminc_top.specs.declared.jz_tree.Fun.{Fun}
+use Rattle.jasminc_top.specs.declared.jz_tree.Param.{Param}
+use Rattle.jasminc_top.specs.declared.jz_tree.Var.{Var}
+use Rattle.jasminc_top.specs.declared.jz_leak.transformer.Form.TheVariants.{Frame}
+use Rattle.jasminc_top.specs.declared.jz_leak.transformer.Out.TheVariants as out
+use Rattle.jasminc_top.specs.declared.jz_leak.transformer.Case.TheVariants.{Op}
+use Rattle.jasminc_top.specs.declared.jz_leak.transformer.Transformer.{Transformer}
+use Rattle.jasminc_top.specs.declared.listing.compiled.Arg.{Arg}
+use Rattle.jasminc_top.specs.declared.listing.compiled.Compiled.{Compiled}
+
+-- the registers of integer arguments and results, in their order (System V AMD64 ABI, 3.2.3)
+abbrev pub argument_registers : List Reg
+argument_registers = reg.Rdi ∷ reg.Rsi ∷ reg.Rdx ∷ reg.Rcx ∷ reg.R8 ∷ reg.R9 ∷ []
+
+abbrev pub result_registers : List Reg
+result_registers = reg.Rax ∷ reg.Rdx ∷ []
+
+-- variables in these registers, one after the other; each is a word of 64 bits
+abbrev pub args_of : List Var → List Reg → List Arg
+args_of [] rs = []
+args_of (v ∷ vs) [] = []
+args_of (v ∷ vs) (r ∷ rs) = record { name = v.name; size = S64; reg = r } ∷ args_of vs rs
+
+abbrev pub variable_of : Param → Var
+variable_of p = p.var
+
+-- the code of r = x; r += y; return r; with x in RDI, y in RSI and r in RAX
+abbrev pub add_code : List Insn
+add_code =
+    insn.Mov S64 (operand.Reg reg.Rax) (operand.Reg reg.Rdi)
+    ∷ insn.Alu Add S64 (operand.Reg reg.Rax) (operand.Reg reg.Rsi)
+    ∷ insn.Ret
+    ∷ []
+
+-- its transformer: two operations that show nothing, and the return's slot
+abbrev pub add_transformer : Transformer
+add_transformer = record {
+  before = [];
+  body = record { cases = Op [] ∷ Op [] ∷ [] };
+  after = out.Addr (Frame (pos 0)) ∷ [];
+}
+
+-- a function of the one form that is read
+abbrev pub compiled_of : Fun → Compiled
+compiled_of f = record {
+  name = f.name;
+  args = args_of (map variable_of f.params) argument_registers;
+  rets = args_of f.result result_registers;
+  pre = [];
+  frame = 0;
+  saved = [];
+  insns = length add_code;
+  code = concat (map chosen_bytes add_code);
+  tr = add_transformer;
+  ct = Yes;
+}
+
+abbrev pub made_of : Program → List Compiled
+made_of p = map compiled_of p.funs
+
+-- the function with this name, if there is one
+abbrev pub function_named : List ℕ → List Compiled → Option Compiled
+function_named name [] = None
+function_named name (c ∷ cs) = if bytes_eq c.name name then Some c else function_named name cs
