@@ -57,9 +57,15 @@ sign_part (b ∷ bs) n z l d e = go (first_of signs (b ∷ bs)) refl e
     go None f g = cc
     go (Some w) f g =
         let q = sign_stands b bs w l d f in
-        let m : length w ≡ n = cc in
-        (w, q.0, q.1, m, q.2, no_number_false w q.0 (sign_no_numeral w q.3),
-          if_false (is_word w) shape.Word (if is_numeral w then shape.Number (pos (value_of w)) else shape.Sign) (sign_no_word w q.3) ∙ if_false (is_numeral w) (shape.Number (pos (value_of w))) shape.Sign (sign_no_numeral w q.3))
+        let m : length w ≡ n = cc in (
+          w,
+          q.0,
+          q.1,
+          m,
+          q.2,
+          no_number_false w q.0 (sign_no_numeral w q.3),
+          if_false (is_word w) shape.Word (if is_numeral w then shape.Number (pos (value_of w)) else shape.Sign) (sign_no_word w q.3) ∙ if_false (is_numeral w) (shape.Number (pos (value_of w))) shape.Sign (sign_no_numeral w q.3),
+        )
 
 pub none_part : (text : List ℕ) → 0 < length text → is_blank (get_or text 0 0) ≡ false → begins_word (get_or text 0 0) ≡ false → is_digit (get_or text 0 0) ≡ false → option_map (λ w. length w) (first_of signs text) ≡ None → HasNone BadByte text
 none_part [] z s l d e = absurd (omega (arith, z))
@@ -109,10 +115,16 @@ pub number_part : (text w more : List ℕ) (z : ℤ) → heads is_digit text ≡
 number_part text w more z h e l a k =
     let q = numeral_here text w more h e l in
     let v = kept_some (value_of w) z k in
-    let n : is_no_number w more ≡ false = rw q.1 (rw a (rw v.0 refl)) in
-    (w, more, e, l, q.0, n,
+    let n : is_no_number w more ≡ false = rw q.1 (rw a (rw v.0 refl)) in (
+      w,
+      more,
+      e,
+      l,
+      q.0,
+      n,
       if_false (is_word w) shape.Word (if is_numeral w then shape.Number (pos (value_of w)) else shape.Sign) (numeral_no_word w q.1)
-        ∙ if_true (is_numeral w) (shape.Number (pos (value_of w))) shape.Sign q.1 ∙ ap (λ y. shape.Number y) v.1)
+          ∙ if_true (is_numeral w) (shape.Number (pos (value_of w))) shape.Sign q.1 ∙ ap (λ y. shape.Number y) v.1,
+    )
 
 -- a number that is kept is the same as a signed one of 128 bits
 pub kept_signed : (n : ℕ) (z : ℤ) → kept_number n ≡ Some z → to_z w128 (of_z w128 z) ≡ z

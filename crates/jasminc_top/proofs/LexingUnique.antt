@@ -124,7 +124,7 @@ none_ends s text [] ts e rest u = subst (λ z. All (λ t. t.kind ≡ kind.End �
 none_ends s text (Blank c ∷ ps) ts e rest u = none_ends (after s (c ∷ [])) u.0 ps ts e rest u.3
 none_ends s text (Lexeme w ∷ ps) ts e rest u =
     subst (λ z. All (λ t. t.kind ≡ kind.End → ⊥) z) (sym u.5)
-      (All-cons (λ t. t.kind ≡ kind.End → ⊥) (record { kind = kind_of w; span = s }) u.1 (no_end w) (none_ends (after s w) u.0 ps u.1 e rest u.6))
+    (All-cons (λ t. t.kind ≡ kind.End → ⊥) (record { kind = kind_of w; span = s }) u.1 (no_end w) (none_ends (after s w) u.0 ps u.1 e rest u.6))
 
 pub end_stands_last : (text : List ℕ) (tokens : List Token) → IsLexed text tokens → (before : List Token) × (e : Span) × (tokens ≡ before ++ record { kind = kind.End; span = e } ∷ []) × All (λ t. t.kind ≡ kind.End → ⊥) before
 end_stands_last text tokens x = (x.1, x.2, x.4, none_ends first_place text x.0 x.1 x.2 [] x.3)

@@ -92,9 +92,9 @@ entry_in test [] v a h = cc
 entry_in test (w ∷ ws) v a h =
     let p = and_true (test w) (every test ws) a in
     ⊎_elim
-      (λ j. subst (λ z. test z ≡ true) (same_is w v j) p.0)
-      (λ j. entry_in test ws v p.1 j)
-      (or_true (pointwise ◌==◌ w v) (is_among ws v) h)
+    (λ j. subst (λ z. test z ≡ true) (same_is w v j) p.0)
+    (λ j. entry_in test ws v p.1 j)
+    (or_true (pointwise ◌==◌ w v) (is_among ws v) h)
 
 -- w is none of these words
 abbrev pub IsNone : List (List ℕ) → List ℕ → Type 0
@@ -116,11 +116,11 @@ first_stands : (ws : List (List ℕ)) (text w : List ℕ) → first_of ws text �
 first_stands [] text w h = cc
 first_stands (s ∷ ss) text w h = by_cases _ (begins s text)
     (λ e. let f : ◌≡◌ {A = Option (List ℕ)} (Some s) (Some w) = sym (if_true (begins s text) (Some s) (first_of ss text) e) ∙ h in
-      let g : s ≡ w = cc in
-      let here : (text ≡ s ++ drop (length s) text) × (is_among (s ∷ ss) s ≡ true) = (begins_split s text e, or_left _ _ (same_self s)) in
-      (drop (length s) text, subst (λ z. text ≡ z ++ drop (length s) text) g here.0, subst (λ z. is_among (s ∷ ss) z ≡ true) g here.1))
+    let g : s ≡ w = cc in
+    let here : (text ≡ s ++ drop (length s) text) × (is_among (s ∷ ss) s ≡ true) = (begins_split s text e, or_left _ _ (same_self s)) in
+    (drop (length s) text, subst (λ z. text ≡ z ++ drop (length s) text) g here.0, subst (λ z. is_among (s ∷ ss) z ≡ true) g here.1))
     (λ e. let q = first_stands ss text w (sym (if_false (begins s text) (Some s) (first_of ss text) e) ∙ h) in
-      (q.0, q.1, or_right (pointwise ◌==◌ s w) (is_among ss w) q.2))
+    (q.0, q.1, or_right (pointwise ◌==◌ s w) (is_among ss w) q.2))
 
 -- and none that stands there is longer
 first_longest : (ws : List (List ℕ)) (text v more : List ℕ) → falling ws ≡ true → v ++ more ≡ text → is_among ws v ≡ true → (w : List ℕ) × (first_of ws text ≡ Some w) × (length v ≤ length w)
@@ -128,15 +128,15 @@ first_longest [] text v more f e h = cc
 first_longest (s ∷ ss) text v more f e h =
     let p = and_true (every (λ u. nat_le (length u) (length s)) ss) (falling ss) f in
     ⊎_elim
-      (λ j.
-        let same : s ≡ v = same_is s v j in
-        let t : text ≡ s ++ more = sym e ∙ ap (λ z. z ++ more) (sym same) in
-        let fit : begins s text ≡ true = ap (begins s) t ∙ begins_self s more in
-        (s, if_true (begins s text) _ _ fit, omega (arith, ap length same)))
-      (λ j. by_cases _ (begins s text)
-        (λ c. (s, if_true (begins s text) _ _ c, le_is (length v) (length s) (entry_in (λ u. nat_le (length u) (length s)) ss v p.0 j)))
-        (λ c. let i = first_longest ss text v more p.1 e j in (i.0, if_false (begins s text) _ _ c ∙ i.1, i.2)))
-      (or_true (pointwise ◌==◌ s v) (is_among ss v) h)
+    (λ j.
+    let same : s ≡ v = same_is s v j in
+    let t : text ≡ s ++ more = sym e ∙ ap (λ z. z ++ more) (sym same) in
+    let fit : begins s text ≡ true = ap (begins s) t ∙ begins_self s more in
+    (s, if_true (begins s text) _ _ fit, omega (arith, ap length same)))
+    (λ j. by_cases _ (begins s text)
+    (λ c. (s, if_true (begins s text) _ _ c, le_is (length v) (length s) (entry_in (λ u. nat_le (length u) (length s)) ss v p.0 j)))
+    (λ c. let i = first_longest ss text v more p.1 e j in (i.0, if_false (begins s text) _ _ c ∙ i.1, i.2)))
+    (or_true (pointwise ◌==◌ s v) (is_among ss v) h)
 
 -- ---- runs of bytes
 -- what stands behind the bytes from the front that pass
@@ -154,11 +154,12 @@ pub run : (test : ℕ → Bool) (bs : List ℕ) → (bs ≡ take_while test bs +
 unfolding behind
 run test [] = (refl, refl)
 run test (b ∷ bs) = by_cases _ (test b)
-    (λ e. let i = run test bs in let w = while_true test b bs e in
-      (subst (λ z. b ∷ bs ≡ z ++ behind test (b ∷ bs)) (sym w) (rw e (ap (λ z. b ∷ z) i.0)),
-       subst (λ z. list_all test z ≡ true) (sym w) (rw e i.1)))
+    (λ e. let i = run test bs in let w = while_true test b bs e in (
+      subst (λ z. b ∷ bs ≡ z ++ behind test (b ∷ bs)) (sym w) (rw e (ap (λ z. b ∷ z) i.0)),
+      subst (λ z. list_all test z ≡ true) (sym w) (rw e i.1),
+    ))
     (λ e. let w = while_false test b bs e in
-      (subst (λ z. b ∷ bs ≡ z ++ behind test (b ∷ bs)) (sym w) (rw e refl), subst (λ z. list_all test z ≡ true) (sym w) refl))
+    (subst (λ z. b ∷ bs ≡ z ++ behind test (b ∷ bs)) (sym w) (rw e refl), subst (λ z. list_all test z ≡ true) (sym w) refl))
 
 pub run_longest : (test : ℕ → Bool) (vs more bs : List ℕ) → vs ++ more ≡ bs → list_all test vs ≡ true → length vs ≤ length (take_while test bs)
 run_longest test [] more bs e h = omega arith
@@ -253,9 +254,9 @@ word_most b bs (c ∷ v) rest l e h =
     let x : c ≡ b = cc in
     let t : v ++ rest ≡ bs = cc in
     lexeme_cases _ (c ∷ v) h
-      (λ i. let m = run_longest in_word v rest bs t (word_head c v i).1 in omega (arith, m))
-      (λ i. apart b _ l (ap is_digit (sym x) ∙ numeral_head c v i))
-      (λ i. true_false (begins_word b) _ l (ap begins_word (sym x) ∙ (sign_head c v i).0))
+    (λ i. let m = run_longest in_word v rest bs t (word_head c v i).1 in omega (arith, m))
+    (λ i. apart b _ l (ap is_digit (sym x) ∙ numeral_head c v i))
+    (λ i. true_false (begins_word b) _ l (ap begins_word (sym x) ∙ (sign_head c v i).0))
 
 pub word_stands : (b : ℕ) (bs : List ℕ) → begins_word b ≡ true → Longest (b ∷ take_while in_word bs) (behind in_word bs) × (is_word (b ∷ take_while in_word bs) ≡ true) × (b ∷ bs ≡ (b ∷ take_while in_word bs) ++ behind in_word bs)
 word_stands b bs l =
@@ -293,16 +294,16 @@ hexadecimal_stands d bs h =
         let x : c ≡ 48 = cc in
         let t : v ++ rest ≡ 120 ∷ d ∷ (take_while in_hexadecimal bs ++ behind in_hexadecimal bs) = cc in
         lexeme_cases _ (c ∷ v) i
-          (λ j. apart c _ (word_head c v j).0 (ap is_digit x ∙ zero_is))
-          (λ j. ⊎_elim
-            (λ k. let m = at_x v rest t (and_true (is_digit c) (list_all in_decimal v) k).1 in omega (arith, m))
-            (λ k. let q = hexadecimal_parts c v k in
-              let u : (120 ∷ q.0 ∷ q.1) ++ rest ≡ 120 ∷ d ∷ (take_while in_hexadecimal bs ++ behind in_hexadecimal bs) = subst (λ z. z ++ rest ≡ 120 ∷ d ∷ (take_while in_hexadecimal bs ++ behind in_hexadecimal bs)) q.2 t in
-              let y : q.1 ++ rest ≡ take_while in_hexadecimal bs ++ behind in_hexadecimal bs = cc in
-              let m = run_longest in_hexadecimal q.1 rest bs (y ∙ sym (run in_hexadecimal bs).0) q.5 in
-              omega (arith, m, ap length q.2))
-            (or_true (is_decimal (c ∷ v)) (is_hexadecimal (c ∷ v)) j))
-          (λ j. true_false (is_digit c) _ (ap is_digit x ∙ zero_is) (sign_head c v j).1)
+        (λ j. apart c _ (word_head c v j).0 (ap is_digit x ∙ zero_is))
+        (λ j. ⊎_elim
+        (λ k. let m = at_x v rest t (and_true (is_digit c) (list_all in_decimal v) k).1 in omega (arith, m))
+        (λ k. let q = hexadecimal_parts c v k in
+        let u : (120 ∷ q.0 ∷ q.1) ++ rest ≡ 120 ∷ d ∷ (take_while in_hexadecimal bs ++ behind in_hexadecimal bs) = subst (λ z. z ++ rest ≡ 120 ∷ d ∷ (take_while in_hexadecimal bs ++ behind in_hexadecimal bs)) q.2 t in
+        let y : q.1 ++ rest ≡ take_while in_hexadecimal bs ++ behind in_hexadecimal bs = cc in
+        let m = run_longest in_hexadecimal q.1 rest bs (y ∙ sym (run in_hexadecimal bs).0) q.5 in
+        omega (arith, m, ap length q.2))
+        (or_true (is_decimal (c ∷ v)) (is_hexadecimal (c ∷ v)) j))
+        (λ j. true_false (is_digit c) _ (ap is_digit x ∙ zero_is) (sign_head c v j).1)
 
 -- a digit, with no such `0x`
 pub decimal_stands : (b : ℕ) (bs : List ℕ) → is_digit b ≡ true → is_hexadecimal (take 3 (b ∷ bs)) ≡ false → (w : List ℕ) × (w ≡ b ∷ take_while in_decimal bs) × Longest w (behind in_decimal bs) × (is_numeral w ≡ true)
@@ -321,14 +322,14 @@ decimal_stands b bs h g =
         let x : c ≡ b = cc in
         let t : v ++ rest ≡ bs = cc in
         lexeme_cases _ (c ∷ v) i
-          (λ j. apart c _ (word_head c v j).0 (ap is_digit x ∙ h))
-          (λ j. ⊎_elim
-            (λ k. let m = run_longest in_decimal v rest bs t (and_true (is_digit c) (list_all in_decimal v) k).1 in omega (arith, m))
-            (λ k. let q = hexadecimal_parts c v k in
-              let y : b ∷ bs ≡ 48 ∷ 120 ∷ q.0 ∷ (q.1 ++ rest) = ap₂ (λ z zs. z ∷ zs) (sym x ∙ q.3) (sym t ∙ ap (λ z. z ++ rest) q.2) in
-              true_false (is_hexadecimal (take 3 (b ∷ bs))) _ (ap (λ z. is_hexadecimal (take 3 z)) y ∙ front q.0 (q.1 ++ rest) q.4) g)
-            (or_true (is_decimal (c ∷ v)) (is_hexadecimal (c ∷ v)) j))
-          (λ j. true_false (is_digit c) _ (ap is_digit x ∙ h) (sign_head c v j).1)
+        (λ j. apart c _ (word_head c v j).0 (ap is_digit x ∙ h))
+        (λ j. ⊎_elim
+        (λ k. let m = run_longest in_decimal v rest bs t (and_true (is_digit c) (list_all in_decimal v) k).1 in omega (arith, m))
+        (λ k. let q = hexadecimal_parts c v k in
+        let y : b ∷ bs ≡ 48 ∷ 120 ∷ q.0 ∷ (q.1 ++ rest) = ap₂ (λ z zs. z ∷ zs) (sym x ∙ q.3) (sym t ∙ ap (λ z. z ++ rest) q.2) in
+        true_false (is_hexadecimal (take 3 (b ∷ bs))) _ (ap (λ z. is_hexadecimal (take 3 z)) y ∙ front q.0 (q.1 ++ rest) q.4) g)
+        (or_true (is_decimal (c ∷ v)) (is_hexadecimal (c ∷ v)) j))
+        (λ j. true_false (is_digit c) _ (ap is_digit x ∙ h) (sign_head c v j).1)
 
 hexadecimal_at : (b : ℕ) (bs : List ℕ) → is_hexadecimal (take 3 (b ∷ bs)) ≡ true → (w : List ℕ) × (more : List ℕ) × (b ∷ bs ≡ w ++ more) × (length w ≡ numeral_length (b ∷ bs)) × Longest w more × (is_numeral w ≡ true)
 unfolding numeral_length
@@ -348,7 +349,7 @@ number_stands [] h = cc
 number_stands (b ∷ bs) h = by_cases _ (is_hexadecimal (take 3 (b ∷ bs)))
     (λ g. hexadecimal_at b bs g)
     (λ g. let q = decimal_stands b bs h g in
-      (q.0, behind in_decimal bs, ap (λ z. b ∷ z) (run in_decimal bs).0 ∙ ap (λ z. z ++ behind in_decimal bs) (sym q.1), ap length q.1 ∙ rw g (omega arith), q.2, q.3))
+    (q.0, behind in_decimal bs, ap (λ z. b ∷ z) (run in_decimal bs).0 ∙ ap (λ z. z ++ behind in_decimal bs) (sym q.1), ap length q.1 ∙ rw g (omega arith), q.2, q.3))
 
 -- ---- the longest sign
 sign_cases : (b : ℕ) (bs v rest : List ℕ) (P : Type 0) → begins_word b ≡ false → is_digit b ≡ false → v ++ rest ≡ b ∷ bs → is_lexeme v ≡ true → (is_sign v ≡ true → P) → P
@@ -356,9 +357,9 @@ sign_cases b bs [] rest P l d e h f = true_false (is_lexeme []) _ h no_empty
 sign_cases b bs (c ∷ v) rest P l d e h f =
     let x : c ≡ b = cc in
     lexeme_cases _ (c ∷ v) h
-      (λ i. true_false (begins_word c) _ (word_head c v i).0 (ap begins_word x ∙ l))
-      (λ i. true_false (is_digit c) _ (numeral_head c v i) (ap is_digit x ∙ d))
-      f
+    (λ i. true_false (begins_word c) _ (word_head c v i).0 (ap begins_word x ∙ l))
+    (λ i. true_false (is_digit c) _ (numeral_head c v i) (ap is_digit x ∙ d))
+    f
 
 same_some : (a b : List ℕ) → ◌≡◌ {A = Option (List ℕ)} (Some a) (Some b) → a ≡ b
 same_some a b h = cc
@@ -368,10 +369,17 @@ some_none a h = cc
 
 pub sign_stands : (b : ℕ) (bs w : List ℕ) → begins_word b ≡ false → is_digit b ≡ false → first_of signs (b ∷ bs) ≡ Some w → (rest : List ℕ) × (b ∷ bs ≡ w ++ rest) × Longest w rest × (is_sign w ≡ true)
 sign_stands b bs w l d e =
-    let q = first_stands signs (b ∷ bs) w e in
-    (q.0, q.1, (or_right _ _ q.2, λ v rest f h. sign_cases b bs v rest _ l d (f ∙ sym q.1) h
-      (λ i. let j = first_longest signs (b ∷ bs) v rest signs_fall (f ∙ sym q.1) i in
-        subst (λ z. length v ≤ length z) (same_some j.0 w (sym j.1 ∙ e)) j.2)), q.2)
+    let q = first_stands signs (b ∷ bs) w e in (
+      q.0,
+      q.1,
+      (
+        or_right _ _ q.2,
+        λ v rest f h. sign_cases b bs v rest _ l d (f ∙ sym q.1) h
+            (λ i. let j = first_longest signs (b ∷ bs) v rest signs_fall (f ∙ sym q.1) i in
+            subst (λ z. length v ≤ length z) (same_some j.0 w (sym j.1 ∙ e)) j.2),
+      ),
+      q.2,
+    )
 
 pub no_sign : (b : ℕ) (bs : List ℕ) → begins_word b ≡ false → is_digit b ≡ false → first_of signs (b ∷ bs) ≡ None → (v more : List ℕ) → v ++ more ≡ b ∷ bs → is_lexeme v ≡ true → ⊥
 no_sign b bs l d e v more f h = sign_cases b bs v more _ l d f h

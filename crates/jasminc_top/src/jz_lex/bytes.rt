@@ -72,5 +72,7 @@ pub(super) fn decimal_length(text: &[u8]) -> usize
 pub(super) fn hexadecimal_length(text: &[u8]) -> usize
     ensures value { result ≡ length (take_while in_hexadecimal text.now) }
 {
-    text.iter().take_while(|byte| in_hexadecimal(**byte)).count()
+    text.iter()
+        .take_while(|byte| in_hexadecimal(**byte))
+        .count()
 }

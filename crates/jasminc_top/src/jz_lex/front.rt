@@ -6,7 +6,9 @@ ghost use Rattle.jasminc_top.specs.Lexing.{heads, is_blank};
 ghost use Rattle.jasminc_top.specs.LexingWords.{begins, begins_word, is_digit, signs};
 ghost use Rattle.jasminc_top.specs.LexingFront.{first_of, numeral_length, PartAt};
 
-use super::bytes::{begins_word, decimal_length, hexadecimal_length, is_blank, is_digit, is_hex_digit, word_length};
+use super::bytes::{
+    begins_word, decimal_length, hexadecimal_length, is_blank, is_digit, is_hex_digit, word_length,
+};
 use super::number::numeral_value;
 use super::token::LexKind;
 
