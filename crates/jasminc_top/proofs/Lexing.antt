@@ -2,7 +2,7 @@
 use Rattle.std.proofs.Common.{◌≡◌, ◌⊎◌, inl, inr, ⊎_elim, if◌then◌else◌, ℕ, zero, suc, ◌+◌, ◌<◌, ◌≤◌, List, [], ◌∷◌, ◌++◌, length, drop, take, Bool, true, false, ◌==◌, refl, sym, ap, ap₂, ◌∙◌, subst, arith, length-append}
 use Rattle.jasminc_top.specs.LexingWords.{is_lexeme, kind_of}
 use Rattle.jasminc_top.specs.Lexing.{is_blank, Longest, is_no_number, Part, Blank, Lexeme, first_place, after, UpTo, IsLexed, HasNone, HasNoToken}
-use Rattle.jasminc_top.specs.LexingFront.{shape_of, PartAt}
+use Rattle.jasminc_top.specs.LexingFront.{shape_of, IsFront}
 use Rattle.jz_io.specs.declared.span.Span.{Span}
 use Rattle.jasminc_top.specs.declared.jz_lex.token.Token.{Token}
 use Rattle.jasminc_top.specs.declared.jz_lex.token.TokenKind.TheVariants as kind
@@ -10,7 +10,7 @@ use Rattle.jasminc_top.specs.declared.jz_lex.token.LexKind.{LexKind}
 use Rattle.jasminc_top.specs.declared.jz_lex.token.LexKind.TheVariants.{BadByte, BadNumber}
 use Rattle.jasminc_top.specs.declared.jz_lex.token.LexFault.{LexFault}
 use Rattle.jasminc_top.specs.declared.jz_lex.front.Shape.{Shape}
-use Rattle.jasminc_top.specs.declared.jz_lex.front.Part.TheVariants as part
+use Rattle.jasminc_top.specs.declared.jz_lex.front.Front.TheVariants as front
 use Rattle.jasminc_top.proofs.LexingWords.{cut, no_empty, true_false, lexeme_blank}
 
 -- the text is lexed up to rest at e
@@ -31,33 +31,33 @@ lexeme_more s text (Blank c ∷ ps) ts e rest w more u f l n = (u.0, u.1, u.2, l
 lexeme_more s text (Lexeme v ∷ ps) ts e rest w more u f l n =
     (u.0, u.1 ++ record { kind = kind_of w; span = e } ∷ [], u.2, u.3, u.4, ap (λ z. z ++ record { kind = kind_of w; span = e } ∷ []) u.5, lexeme_more (after s v) u.0 ps u.1 e rest w more u.6 f l n)
 
-pub blank_step : (text : List ℕ) (ts : List Token) (e : Span) (rest w more : List ℕ) → Until text ts e rest → PartAt rest part.Blank → rest ≡ w ++ more → length w ≡ 1 → Until text ts (after e w) more
+pub blank_step : (text : List ℕ) (ts : List Token) (e : Span) (rest w more : List ℕ) → Until text ts e rest → IsFront rest front.Blank → rest ≡ w ++ more → length w ≡ 1 → Until text ts (after e w) more
 blank_step text ts e rest w more u p f l =
     let c = cut (p.0 ∷ []) w p.1 more (sym p.2 ∙ f) (sym l) in
     let k = blank_more first_place text u.0 ts e rest p.0 p.1 u.1 p.2 p.3 in
     (u.0 ++ Blank p.0 ∷ [], subst (λ z. UpTo first_place text (u.0 ++ Blank p.0 ∷ []) ts (after e w) z) c.1 (subst (λ z. UpTo first_place text (u.0 ++ Blank p.0 ∷ []) ts (after e z) p.1) c.0 k))
 
 -- what the lexeme's bytes are
-pub lexeme_is : (rest w more : List ℕ) (s : Shape) (n : ℕ) → PartAt rest (part.Lexeme s n) → rest ≡ w ++ more → length w ≡ n → Longest w more × (is_no_number w more ≡ false) × (shape_of w ≡ s)
+pub lexeme_is : (rest w more : List ℕ) (s : Shape) (n : ℕ) → IsFront rest (front.Lexeme s n) → rest ≡ w ++ more → length w ≡ n → Longest w more × (is_no_number w more ≡ false) × (shape_of w ≡ s)
 lexeme_is rest w more s n p f l =
     let c = cut p.0 w p.1 more (sym p.2 ∙ f) (p.3 ∙ sym l) in
     let k : Longest w more = subst (λ z. Longest w z) c.1 (subst (λ z. Longest z p.1) c.0 p.4) in
     let m : is_no_number w more ≡ false = sym (ap₂ is_no_number c.0 c.1) ∙ p.5 in
     (k, m, ap shape_of (sym c.0) ∙ p.6)
 
-pub lexeme_step : (text : List ℕ) (ts : List Token) (e : Span) (rest w more : List ℕ) (s : Shape) (n : ℕ) → Until text ts e rest → PartAt rest (part.Lexeme s n) → rest ≡ w ++ more → length w ≡ n → Until text (ts ++ record { kind = kind_of w; span = e } ∷ []) (after e w) more
+pub lexeme_step : (text : List ℕ) (ts : List Token) (e : Span) (rest w more : List ℕ) (s : Shape) (n : ℕ) → Until text ts e rest → IsFront rest (front.Lexeme s n) → rest ≡ w ++ more → length w ≡ n → Until text (ts ++ record { kind = kind_of w; span = e } ∷ []) (after e w) more
 lexeme_step text ts e rest w more s n u p f l =
     let q = lexeme_is rest w more s n p f l in
     (u.0 ++ Lexeme w ∷ [], lexeme_more first_place text u.0 ts e rest w more u.1 f q.0 q.1)
 
-pub lexeme_length : (rest : List ℕ) (s : Shape) (n : ℕ) → PartAt rest (part.Lexeme s n) → (n ≤ length rest) × (0 < n)
+pub lexeme_length : (rest : List ℕ) (s : Shape) (n : ℕ) → IsFront rest (front.Lexeme s n) → (n ≤ length rest) × (0 < n)
 lexeme_length rest s n p = (omega (arith, ap length p.2, length-append p.0 p.1, p.3), subst (λ z. 0 < z) p.3 (some p.0 p.4.0))
   where
     some : (w : List ℕ) → is_lexeme w ≡ true → 0 < length w
     some [] h = true_false (is_lexeme []) _ h no_empty
     some (b ∷ w) h = omega arith
 
-pub refused_here : (text : List ℕ) (ts : List Token) (e : Span) (rest : List ℕ) (k : LexKind) → Until text ts e rest → PartAt rest (part.NoToken k) → HasNoToken text (record { kind = k; span = e })
+pub refused_here : (text : List ℕ) (ts : List Token) (e : Span) (rest : List ℕ) (k : LexKind) → Until text ts e rest → IsFront rest (front.NoToken k) → HasNoToken text (record { kind = k; span = e })
 refused_here text ts e rest k u p = (u.0, ts, rest, u.1, p)
 
 pub lexed_here : (text : List ℕ) (ts : List Token) (e : Span) (rest : List ℕ) → Until text ts e rest → length rest ≡ 0 → IsLexed text (ts ++ record { kind = kind.End; span = e } ∷ [])

@@ -8,14 +8,14 @@ use mir.Syntax.{w128}
 use Rattle.std.specs.Char.{is_ascii_alphabetic}
 use Rattle.jasminc_top.specs.LexingWords.{signs, begins_word, in_word, is_digit, is_word, is_numeral, is_sign, is_lexeme, value_of}
 use Rattle.jasminc_top.specs.Lexing.{heads, is_blank, Longest, is_no_number, HasNone}
-use Rattle.jasminc_top.specs.LexingFront.{kept_number, first_of, numeral_length, shape_of, PartAt}
+use Rattle.jasminc_top.specs.LexingFront.{kept_number, first_of, numeral_length, shape_of, IsFront}
 use Rattle.jasminc_top.specs.declared.jz_lex.token.LexKind.TheVariants.{BadByte, BadNumber}
 use Rattle.jasminc_top.specs.declared.jz_lex.front.Shape.TheVariants as shape
-use Rattle.jasminc_top.specs.declared.jz_lex.front.Part.TheVariants as part
+use Rattle.jasminc_top.specs.declared.jz_lex.front.Front.TheVariants as front
 use Rattle.jasminc_top.proofs.LexingWords.{by_cases, true_false, if_true, if_false, or_left, or_right, cut, behind, apart, word_head, numeral_head, sign_head, word_stands, number_stands, sign_stands, no_sign}
 
-pub split_is : (n : ℕ) (text front back : List ℕ) → front ≡ take n text → back ≡ drop n text → text ≡ front ++ back
-split_is n text front back e f = sym (take-append-drop n text) ∙ ap₂ (λ x y. x ++ y) (sym e) (sym f)
+pub split_is : (n : ℕ) (text w more : List ℕ) → w ≡ take n text → more ≡ drop n text → text ≡ w ++ more
+split_is n text w more e f = sym (take-append-drop n text) ∙ ap₂ (λ x y. x ++ y) (sym e) (sym f)
 
 false_if : (b : Bool) → (b ≡ true → ⊥) → b ≡ false
 false_if true h = absurd (h refl)
@@ -40,7 +40,7 @@ no_number_false : (w more : List ℕ) → is_numeral w ≡ false → is_no_numbe
 no_number_false w more h = rw h refl
 
 -- ---- words
-pub word_part : (text : List ℕ) (n : ℕ) → 0 < length text → begins_word (get_or text 0 0) ≡ true → n ≡ length (take_while in_word (take (length text - 1) (drop 1 text))) → PartAt text (part.Lexeme shape.Word (1 + n))
+pub word_part : (text : List ℕ) (n : ℕ) → 0 < length text → begins_word (get_or text 0 0) ≡ true → n ≡ length (take_while in_word (take (length text - 1) (drop 1 text))) → IsFront text (front.Lexeme shape.Word (1 + n))
 word_part [] n z h e = absurd (omega (arith, z))
 word_part (b ∷ bs) n z h f =
     let e : n ≡ length (take_while in_word bs) = f ∙ ap (λ z. length (take_while in_word z)) (take_all (length (b ∷ bs) - 1) bs (omega arith)) in
@@ -49,11 +49,11 @@ word_part (b ∷ bs) n z h f =
     (w, behind in_word bs, q.2, omega (arith, e), q.0, no_number_false w (behind in_word bs) (word_no_numeral w q.1), if_true (is_word w) shape.Word (if is_numeral w then shape.Number (pos (value_of w)) else shape.Sign) q.1)
 
 -- ---- signs
-pub sign_part : (text : List ℕ) (n : ℕ) → 0 < length text → begins_word (get_or text 0 0) ≡ false → is_digit (get_or text 0 0) ≡ false → option_map (λ w. length w) (first_of signs text) ≡ Some n → PartAt text (part.Lexeme shape.Sign n)
+pub sign_part : (text : List ℕ) (n : ℕ) → 0 < length text → begins_word (get_or text 0 0) ≡ false → is_digit (get_or text 0 0) ≡ false → option_map (λ w. length w) (first_of signs text) ≡ Some n → IsFront text (front.Lexeme shape.Sign n)
 sign_part [] n z l d e = absurd (omega (arith, z))
 sign_part (b ∷ bs) n z l d e = go (first_of signs (b ∷ bs)) refl e
   where
-    go : (o : Option (List ℕ)) → first_of signs (b ∷ bs) ≡ o → option_map (λ w. length w) o ≡ Some n → PartAt (b ∷ bs) (part.Lexeme shape.Sign n)
+    go : (o : Option (List ℕ)) → first_of signs (b ∷ bs) ≡ o → option_map (λ w. length w) o ≡ Some n → IsFront (b ∷ bs) (front.Lexeme shape.Sign n)
     go None f g = cc
     go (Some w) f g =
         let q = sign_stands b bs w l d f in
@@ -111,7 +111,7 @@ large_part text w more h e l a =
     let t : not (nat_lt (value_of w) (2 ^ 127)) ≡ true = ap not (kept_none (value_of w) a) in
     (w, more, e, q.0, rw q.1 (or_right (heads is_ascii_alphabetic more) (not (nat_lt (value_of w) (2 ^ 127))) t))
 
-pub number_part : (text w more : List ℕ) (z : ℤ) → heads is_digit text ≡ true → text ≡ w ++ more → length w ≡ numeral_length text → heads is_ascii_alphabetic more ≡ false → kept_number (value_of w) ≡ Some z → PartAt text (part.Lexeme (shape.Number z) (numeral_length text))
+pub number_part : (text w more : List ℕ) (z : ℤ) → heads is_digit text ≡ true → text ≡ w ++ more → length w ≡ numeral_length text → heads is_ascii_alphabetic more ≡ false → kept_number (value_of w) ≡ Some z → IsFront text (front.Lexeme (shape.Number z) (numeral_length text))
 number_part text w more z h e l a k =
     let q = numeral_here text w more h e l in
     let v = kept_some (value_of w) z k in

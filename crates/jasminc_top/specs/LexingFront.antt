@@ -5,8 +5,8 @@ use Rattle.jasminc_top.specs.LexingWords.{begins, is_word, is_numeral, is_hexade
 use Rattle.jasminc_top.specs.Lexing.{heads, is_blank, Longest, is_no_number, HasNone}
 use Rattle.jasminc_top.specs.declared.jz_lex.front.Shape.{Shape}
 use Rattle.jasminc_top.specs.declared.jz_lex.front.Shape.TheVariants as shape
-use Rattle.jasminc_top.specs.declared.jz_lex.front.Part.{Part}
-use Rattle.jasminc_top.specs.declared.jz_lex.front.Part.TheVariants as part
+use Rattle.jasminc_top.specs.declared.jz_lex.front.Front.{Front}
+use Rattle.jasminc_top.specs.declared.jz_lex.front.Front.TheVariants as front
 
 -- the number, where it is at most 2 ^ 127 - 1
 abbrev pub kept_number : ℕ → Option ℤ
@@ -30,7 +30,7 @@ abbrev pub shape_of : List ℕ → Shape
 shape_of w = if is_word w then shape.Word else if is_numeral w then shape.Number (pos (value_of w)) else shape.Sign
 
 -- a part at the front of the text: a blank, the longest lexeme, or none
-abbrev pub PartAt : List ℕ → Part → Type 0
-PartAt text part.Blank = (b : ℕ) × (more : List ℕ) × (text ≡ b ∷ more) × (is_blank b ≡ true)
-PartAt text (part.Lexeme s n) = (w : List ℕ) × (more : List ℕ) × (text ≡ w ++ more) × (length w ≡ n) × Longest w more × (is_no_number w more ≡ false) × (shape_of w ≡ s)
-PartAt text (part.NoToken k) = HasNone k text
+abbrev pub IsFront : List ℕ → Front → Type 0
+IsFront text front.Blank = (b : ℕ) × (more : List ℕ) × (text ≡ b ∷ more) × (is_blank b ≡ true)
+IsFront text (front.Lexeme s n) = (w : List ℕ) × (more : List ℕ) × (text ≡ w ++ more) × (length w ≡ n) × Longest w more × (is_no_number w more ≡ false) × (shape_of w ≡ s)
+IsFront text (front.NoToken k) = HasNone k text

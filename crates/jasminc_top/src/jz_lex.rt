@@ -5,6 +5,8 @@ mod front;
 mod kind;
 mod laws;
 mod number;
+#[cfg(test)]
+mod tests;
 mod text;
 mod token;
 

@@ -4,7 +4,7 @@ ghost use Rattle.std.specs.Prelude.{◌≡◌, ◌<◌, ◌≤◌, ◌+◌, true
 ghost use Rattle.std.specs.Char.{is_ascii_alphabetic};
 ghost use Rattle.jasminc_top.specs.Lexing.{heads, is_blank};
 ghost use Rattle.jasminc_top.specs.LexingWords.{begins, begins_word, is_digit, signs};
-ghost use Rattle.jasminc_top.specs.LexingFront.{first_of, numeral_length, PartAt};
+ghost use Rattle.jasminc_top.specs.LexingFront.{first_of, numeral_length, IsFront};
 
 use super::bytes::{
     begins_word, decimal_length, hexadecimal_length, is_blank, is_digit, is_hex_digit, word_length,
@@ -22,7 +22,7 @@ pub(super) enum Shape {
 
 /// What stands at the front of a text: a blank byte, a lexeme and its length, or no token.
 #[derive(Clone, Copy, Debug, PartialEq, Eq)]
-pub(super) enum Part {
+pub(super) enum Front {
     Blank,
     Lexeme(Shape, usize),
     NoToken(LexKind),
@@ -71,41 +71,41 @@ fn begins_with_letter(text: &[u8]) -> bool
     }
 }
 
-fn number_at(text: &[u8]) -> Part
+fn number_at(text: &[u8]) -> Front
     requires { heads is_digit text.now ≡ true }
-    ensures { PartAt text.now result }
+    ensures { IsFront text.now result }
 {
     let length = numeral_length(text);
     let (numeral, more) = text.split_at(length);
     if begins_with_letter(more) {
-        return Part::NoToken(LexKind::BadNumber);
+        return Front::NoToken(LexKind::BadNumber);
     }
     match numeral_value(numeral) {
-        Some(value) => Part::Lexeme(Shape::Number(value), length),
-        None => Part::NoToken(LexKind::BadNumber),
+        Some(value) => Front::Lexeme(Shape::Number(value), length),
+        None => Front::NoToken(LexKind::BadNumber),
     }
 }
 
 /// What stands at the front of a text that is not empty.
-pub(super) fn part_at(text: &[u8]) -> Part
+pub(super) fn front_of(text: &[u8]) -> Front
     requires { 0 < length text.now }
-    ensures { PartAt text.now result }
+    ensures { IsFront text.now result }
 {
     match text {
         [] => unreachable!(),
         [first, rest @ ..] => {
             if is_blank(*first) {
-                return Part::Blank;
+                return Front::Blank;
             }
             if begins_word(*first) {
-                return Part::Lexeme(Shape::Word, 1 + word_length(rest));
+                return Front::Lexeme(Shape::Word, 1 + word_length(rest));
             }
             if is_digit(*first) {
                 return number_at(text);
             }
             match sign_length(text) {
-                Some(length) => Part::Lexeme(Shape::Sign, length),
-                None => Part::NoToken(LexKind::BadByte),
+                Some(length) => Front::Lexeme(Shape::Sign, length),
+                None => Front::NoToken(LexKind::BadByte),
             }
         }
     }

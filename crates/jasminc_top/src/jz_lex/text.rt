@@ -5,7 +5,7 @@ ghost use Rattle.jasminc_top.specs.Lexing.{after, IsLexed, HasNoToken, IfRefused
 ghost use Rattle.jasminc_top.specs.declared.jz_lex.token.Token.{Token};
 ghost use Rattle.jasminc_top.specs.declared.jz_lex.token.LexFault.{LexFault};
 
-use super::front::{Part, part_at};
+use super::front::{Front, front_of};
 use super::kind::kind_of;
 use super::token::{LexFault, Token, TokenKind, Tokens};
 use jz_data::{Failure, Seq};
@@ -43,20 +43,20 @@ pub fn lex(alloc: Global, text: &[u8]) -> Result<Tokens, Failure<LexFault>>
     let mut span = Span { line: 1, col: 1 };
     let mut rest = text;
     while rest.len() > 0 {
-        match part_at(rest) {
-            Part::Blank => {
+        match front_of(rest) {
+            Front::Blank => {
                 let (blank, more) = rest.split_at(1);
                 span = after(span, blank);
                 rest = more;
             }
-            Part::Lexeme(shape, length) => {
+            Front::Lexeme(shape, length) => {
                 let (lexeme, more) = rest.split_at(length);
                 let kind = kind_of(alloc, shape, lexeme)?;
                 tokens.push(Token { kind, span })?;
                 span = after(span, lexeme);
                 rest = more;
             }
-            Part::NoToken(kind) => return Err(Failure::Refused(LexFault { kind, span })),
+            Front::NoToken(kind) => return Err(Failure::Refused(LexFault { kind, span })),
         }
     }
     tokens.push(Token {

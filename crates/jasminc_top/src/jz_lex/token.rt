@@ -1,3 +1,5 @@
+//! Tokens, their kinds, and the faults of a text that has none somewhere.
+
 use jz_data::{Seq, Text};
 use jz_io::Span;
 

@@ -2,9 +2,9 @@ use Rattle.std.proofs.Common.{◌≡◌, ◌≤◌, ◌++◌, ◌∙◌, sym, ap
 use Rattle.std.specs.Char.{is_ascii_alphabetic}
 use Rattle.jasminc_top.specs.Lexing.{heads}
 use Rattle.jasminc_top.specs.LexingWords.{value_of}
-use Rattle.jasminc_top.specs.LexingFront.{PartAt}
+use Rattle.jasminc_top.specs.LexingFront.{IsFront}
 use Rattle.jasminc_top.specs.declared.jz_lex.front.Shape.TheVariants as shape
-use Rattle.jasminc_top.specs.declared.jz_lex.front.Part.TheVariants as part
+use Rattle.jasminc_top.specs.declared.jz_lex.front.Front.TheVariants as front
 use Rattle.jasminc_top.proofs.LexingFront.{split_is, kept_signed, letter_part, large_part, number_part, number_fits}
 use Rattle.jasminc_top.proofs.jz_lex.front.number_at.Goals as goal
 
@@ -29,6 +29,8 @@ returns-in-Some c =
     k in
     subst (λ z. PartAt text (part.Lexeme (shape.Number z) c.numeral_length-length.result)) (sym (kept_signed (value_of c.split_at.result.0.now) c.in-Some.value k))
     (subst (λ n. PartAt text (part.Lexeme (shape.Number c.in-Some.value) n)) (sym c.numeral_length-length.ensures) m)
+    subst (λ z. IsFront text (front.Lexeme (shape.Number z) c.numeral_length-length.result)) (sym (kept_signed (value_of c.split_at.result.0.now) c.in-Some.value k))
+    (subst (λ n. IsFront text (front.Lexeme (shape.Number c.in-Some.value) n)) (sym c.numeral_length-length.ensures) m)
 
 pub returns-in-None : goal.returns-in-None
 returns-in-None c =

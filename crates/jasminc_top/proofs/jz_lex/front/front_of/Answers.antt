@@ -1,6 +1,6 @@
 use Rattle.std.proofs.Common.{◌≡◌, ◌∙◌, sym, ap, subst}
 use Rattle.jasminc_top.proofs.LexingFront.{word_part, sign_part, none_part}
-use Rattle.jasminc_top.proofs.jz_lex.front.part_at.Goals as goal
+use Rattle.jasminc_top.proofs.jz_lex.front.front_of.Goals as goal
 
 pub returns-then-begins_word : goal.returns-then-begins_word
 returns-then-begins_word c = word_part c.args.text.now c.word_length.result c.requires (sym c.begins_word.ensures ∙ c.if-begins_word.true) c.word_length.ensures.value
