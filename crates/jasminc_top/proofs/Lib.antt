@@ -11,3 +11,5 @@ pub mod FieldParts
 pub mod DecodeExact
 pub mod DecodeSizes
 mod DecodeExamples
+pub mod MemorySegments
+pub mod MemorySpans

@@ -6,3 +6,5 @@ pub mod ByteReading
 pub mod Decoding
 pub mod EncodedFields
 pub mod Steps
+pub mod MemoryMap
+pub mod MemoryMapSegments
