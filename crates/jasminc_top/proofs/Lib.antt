@@ -13,3 +13,4 @@ pub mod DecodeSizes
 mod DecodeExamples
 pub mod MemorySegments
 pub mod MemorySpans
+pub mod MachineRunning

@@ -8,3 +8,4 @@ pub mod EncodedFields
 pub mod Steps
 pub mod MemoryMap
 pub mod MemoryMapSegments
+pub mod MachineRuns

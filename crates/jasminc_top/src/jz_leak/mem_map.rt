@@ -70,11 +70,13 @@ impl MemMap {
         ensures valid { result ≡ is_some (map.get self.old addr) }
         ensures after { self.new ≡ (if result then map.insert self.old addr value else self.old) }
     {
-        let Some(index) = index_of(&self.segments, addr) else {
-            return false;
-        };
-        set_byte(&mut self.segments[index], addr, value);
-        true
+        match index_of(&self.segments, addr) {
+            None => false,
+            Some(index) => {
+                set_byte(&mut self.segments[index], addr, value);
+                true
+            }
+        }
     }
 
     /// The bytes of an access as a little-endian number, where each of them is valid.

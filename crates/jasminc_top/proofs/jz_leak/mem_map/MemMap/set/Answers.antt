@@ -7,9 +7,9 @@ use Rattle.jasminc_top.specs.MemoryMapSegments.{with_byte, all_entries}
 use Rattle.jasminc_top.proofs.MemorySegments.{found, not_found, found_valid, found_there, found_inside, held_within, written}
 use Rattle.jasminc_top.proofs.jz_leak.mem_map.MemMap.set.Goals as goal
 
-pub returns-in_default-clause-valid : goal.returns-in_default-clause-valid
-returns-in_default-clause-valid c =
-    let none = not_found c.self.inside.segments.items c.deref.result.now c.args.addr c.deref.ensures.value (sym c.in_default.is ∙ c.index_of.ensures)
+pub returns-in-None-clause-valid : goal.returns-in-None-clause-valid
+returns-in-None-clause-valid c =
+    let none = not_found c.self.inside.segments.items c.deref.result.now c.args.addr c.deref.ensures.value c.in-None.ensures
     in ap is_some (sym none) ∙ ap (λ m. is_some (map.get m c.args.addr)) c.self.view_is
 
 pub index_mut-requires : goal.index_mut-requires
@@ -30,14 +30,14 @@ set_byte-requires-clause-within c =
     in let h = found ss c.deref.result.now c.args.addr c.in-Some.index c.deref.ensures.value c.in-Some.ensures
     in (found_inside ss c.args.addr c.in-Some.index c.index_mut.result.now h c.index_mut.ensures.value).1
 
-pub returns-clause-valid : goal.returns-clause-valid
-returns-clause-valid c =
+pub returns-in-Some-clause-valid : goal.returns-in-Some-clause-valid
+returns-in-Some-clause-valid c =
     let ss = c.self.inside.segments.items
     in let h = found ss c.deref.result.now c.args.addr c.in-Some.index c.deref.ensures.value c.in-Some.ensures
     in sym (found_valid ss c.args.addr c.in-Some.index h) ∙ ap (λ m. is_some (map.get m c.args.addr)) c.self.view_is
 
-pub returns-clause-after : goal.returns-clause-after
-returns-clause-after c =
+pub returns-in-Some-clause-after : goal.returns-in-Some-clause-after
+returns-in-Some-clause-after c =
     let ss = c.self.inside.segments.items
     in let h = found ss c.deref.result.now c.args.addr c.in-Some.index c.deref.ensures.value c.in-Some.ensures
     in let s = c.index_mut.result.now
