@@ -17,3 +17,6 @@ pub mod LexingWords
 pub mod LexingFront
 pub mod Lexing
 pub mod LexingUnique
+pub mod MemorySegments
+pub mod MemorySpans
+pub mod MachineRunning

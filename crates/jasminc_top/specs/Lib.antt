@@ -13,3 +13,6 @@ pub mod LexingFront
 pub mod Reading
 pub mod Compiling
 pub mod Refusals
+pub mod MemoryMap
+pub mod MemoryMapSegments
+pub mod MachineRuns

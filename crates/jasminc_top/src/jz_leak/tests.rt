@@ -1,0 +1,27 @@
+use crate::jz_leak::MemMap;
+use jz_words::Size;
+use std::test::Fail;
+
+#[test]
+fn keeps_bytes_by_address(rt: HostRuntime) -> Result<(), Fail> {
+    let mut memory = MemMap::new(rt.alloc());
+    memory.add(16, &[1, 2, 3])?;
+    memory.add(0, &[9])?;
+    assert_eq!(rt; memory.get(17), Some(2));
+    assert_eq!(rt; memory.get(19), None);
+    assert!(rt; memory.set(18, 7));
+    assert!(rt; !memory.set(19, 7));
+    assert_eq!(rt; memory.get(18), Some(7));
+    assert_eq!(rt; memory.load(16, Size::S16), Some(513));
+    assert_eq!(rt; memory.load(17, Size::S32), None);
+    Ok(())
+}
+
+#[test]
+fn drops_bytes_past_the_last_address(rt: HostRuntime) -> Result<(), Fail> {
+    let mut memory = MemMap::new(rt.alloc());
+    memory.add(u64::MAX, &[5, 6])?;
+    assert_eq!(rt; memory.get(u64::MAX), Some(5));
+    assert_eq!(rt; memory.get(0), None);
+    Ok(())
+}
