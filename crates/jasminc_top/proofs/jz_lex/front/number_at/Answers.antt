@@ -27,8 +27,6 @@ returns-in-Some c =
     (c.split_at.ensures.front_len ∙ c.numeral_length-length.ensures)
     (sym c.begins_with_letter.ensures ∙ c.if-begins_with_letter.false)
     k in
-    subst (λ z. PartAt text (part.Lexeme (shape.Number z) c.numeral_length-length.result)) (sym (kept_signed (value_of c.split_at.result.0.now) c.in-Some.value k))
-    (subst (λ n. PartAt text (part.Lexeme (shape.Number c.in-Some.value) n)) (sym c.numeral_length-length.ensures) m)
     subst (λ z. IsFront text (front.Lexeme (shape.Number z) c.numeral_length-length.result)) (sym (kept_signed (value_of c.split_at.result.0.now) c.in-Some.value k))
     (subst (λ n. IsFront text (front.Lexeme (shape.Number c.in-Some.value) n)) (sym c.numeral_length-length.ensures) m)
 
