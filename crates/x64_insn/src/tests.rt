@@ -29,60 +29,15 @@ fn flag(set: u8) -> FlagVal {
 
 #[test]
 fn add_is_the_processors(rt: HostRuntime) {
-    for (a, b, sum, of, cf, sf, pf, zf) in [
-        (
-            0xffff_ffff_ffff_fffe,
-            1,
-            0xffff_ffff_ffff_ffff,
-            0,
-            0,
-            1,
-            1,
-            0,
-        ),
-        (
-            0x8000_0000_0000_0000,
-            0x8000_0000_0000_0000,
-            0,
-            1,
-            1,
-            0,
-            1,
-            1,
-        ),
-        (
-            0x7fff_ffff_ffff_ffff,
-            1,
-            0x8000_0000_0000_0000,
-            1,
-            0,
-            1,
-            1,
-            0,
-        ),
-        (5, 250, 0xff, 0, 0, 0, 1, 0),
-        (
-            0x8000_0000_0000_0000,
-            0xffff_ffff_ffff_ffff,
-            0x7fff_ffff_ffff_ffff,
-            1,
-            1,
-            0,
-            1,
-            0,
-        ),
-        (0xffff_ffff_ffff_ffff, 1, 0, 0, 1, 0, 1, 1),
-        (0x100, 0x200, 0x300, 0, 0, 0, 1, 0),
-        (
-            0xff00_0000_0000_0000,
-            7,
-            0xff00_0000_0000_0007,
-            0,
-            0,
-            1,
-            0,
-            0,
-        ),
+    for (a, b, sum, flags) in [
+        (0xffff_ffff_ffff_fffe, 1, u64::MAX, [0, 0, 1, 1, 0]),
+        (1 << 63, 1 << 63, 0, [1, 1, 0, 1, 1]),
+        (0x7fff_ffff_ffff_ffff, 1, 1 << 63, [1, 0, 1, 1, 0]),
+        (5, 250, 0xff, [0, 0, 0, 1, 0]),
+        (1 << 63, u64::MAX, 0x7fff_ffff_ffff_ffff, [1, 1, 0, 1, 0]),
+        (u64::MAX, 1, 0, [0, 1, 0, 1, 1]),
+        (0x100, 0x200, 0x300, [0, 0, 0, 1, 0]),
+        (0xff << 56, 7, 0xff00_0000_0000_0007, [0, 0, 1, 0, 0]),
     ] {
         let mut state = start(a, b, 0);
         let mut memory = MemMap::new(rt.alloc());
@@ -97,10 +52,9 @@ fn add_is_the_processors(rt: HostRuntime) {
         assert_eq!(rt; state.regs[0], sum, "{a} + {b}");
         assert_eq!(rt; state.regs[3], b);
         assert_eq!(rt; state.rip, 0x40_0003);
-        assert!(rt;
-            state.flags == [flag(of), flag(cf), flag(sf), flag(pf), flag(zf)],
-            "flags of {a} + {b}"
-        );
+        let [of, cf, sf, pf, zf] = flags;
+        let want = [flag(of), flag(cf), flag(sf), flag(pf), flag(zf)];
+        assert!(rt; state.flags == want, "flags of {a} + {b}");
     }
 }
 
