@@ -20,3 +20,6 @@ pub mod LexingUnique
 pub mod MemorySegments
 pub mod MemorySpans
 pub mod MachineRunning
+pub mod AddCode
+pub mod Following
+pub mod ArgumentRegisters

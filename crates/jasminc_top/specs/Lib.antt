@@ -16,3 +16,4 @@ pub mod Refusals
 pub mod MemoryMap
 pub mod MemoryMapSegments
 pub mod MachineRuns
+pub mod Running

@@ -2,6 +2,7 @@
 #![tactic(auto)]
 
 mod compile;
+mod exec;
 pub mod jz_leak;
 pub mod jz_lex;
 pub mod jz_parse;

@@ -1,0 +1,113 @@
+-- A run of compiled code to its end: where it starts, where it ends, and its text.
+use Rattle.std.specs.Prelude.{◌≡◌, ◌<◌, ◌≤◌, ℕ, ◌-◌, true, false, List, [], ◌∷◌, ◌++◌, map, drop, codes, decimal, replicate, slice_set, if◌then◌else◌}
+use Rattle.std.specs.List.{concat}
+use Rattle.std.specs.FinMap as map_of
+use Rattle.std.specs.Int.{w64, to_be_bytes}
+use Rattle.hex.specs.Hex.{encode_lower}
+use Rattle.jz_words.specs.declared.size.Size.{Size}
+use Rattle.jz_words.specs.Sizes.{bytes_of}
+use Rattle.jz_words.specs.Memory.{Memory}
+use Rattle.x64_insn.specs.declared.types.Reg.{Reg}
+use Rattle.x64_insn.specs.declared.types.Reg.TheVariants as reg
+use Rattle.x64_insn.specs.declared.types.State.{State}
+use Rattle.x64_insn.specs.declared.types.FlagVal.TheVariants.{Undefined}
+use Rattle.x64_insn.specs.Rows.{number_of, reg_value}
+use Rattle.jasminc_top.specs.declared.jz_leak.event.Event.{Event}
+use Rattle.jasminc_top.specs.declared.jz_leak.event.Event.TheVariants as event
+use Rattle.jasminc_top.specs.declared.listing.compiled.Arg.{Arg}
+use Rattle.jasminc_top.specs.declared.listing.compiled.Compiled.{Compiled}
+use Rattle.jasminc_top.specs.declared.exec.Finish.{Finish}
+use Rattle.jasminc_top.specs.declared.exec.Finish.TheVariants as finish
+use Rattle.jasminc_top.specs.Compiling.{argument_registers}
+use Rattle.jasminc_top.specs.MemoryMap.{AddsBytes}
+use Rattle.jasminc_top.specs.MachineRuns.{start_of}
+use Rattle.jasminc_top.specs.Steps.{Config, Ran, step_of, steps_of}
+use Rattle.jasminc_top.specs.declared.x64_machine.step.Step.TheVariants.{Fault}
+
+-- ---- the start of `exec`
+
+-- where the code stands
+abbrev pub code_base : ℕ
+code_base = 0x400000
+
+-- where the return address stands
+abbrev pub return_slot : ℕ
+return_slot = 0x7fffffff0008
+
+-- the registers with numbers in these registers, one after the other
+abbrev pub with_numbers : List ℕ → List Reg → List ℕ → List ℕ
+with_numbers [] rs regs = regs
+with_numbers (n ∷ ns) [] regs = regs
+with_numbers (n ∷ ns) (r ∷ rs) regs = with_numbers ns rs (slice_set regs (number_of r) n)
+
+-- each register 0, but for the stack pointer
+abbrev pub bare_registers : List ℕ
+bare_registers = slice_set (replicate 16 0) (number_of reg.Rsp) return_slot
+
+-- the items stand whole in the argument registers, and no flag is defined
+abbrev pub start_state : List ℕ → State
+start_state items = record {
+  regs = with_numbers items argument_registers bare_registers;
+  rip = code_base;
+  flags = replicate 5 Undefined;
+}
+
+-- the return slot alone is valid, and holds 0
+abbrev pub IsStartMemory : Memory → Type 0
+IsStartMemory m = AddsBytes map_of.empty m return_slot (replicate 8 0)
+
+-- ---- runs
+
+-- the run ends with its k-th step, and not before
+pub record EndsAfter (code : List ℕ) (base : ℕ) (c : Config) (k : ℕ) : Type 0 where
+  pub ended : (steps_of code base c k).after.ended ≡ true
+  pub before : (j : ℕ) → j < k → (steps_of code base c j).after.ended ≡ false
+
+-- how a run of at most so many steps ended, and where it stands then
+abbrev pub Finishes : List ℕ → ℕ → Config → ℕ → Config → Finish → Type 0
+Finishes code base c limit now (finish.Ended k events) =
+    (k ≤ limit) × EndsAfter code base c k × (events ≡ (steps_of code base c k).events) × (now ≡ (steps_of code base c k).after)
+Finishes code base c limit now finish.OutOfFuel = (j : ℕ) → j ≤ limit → (steps_of code base c j).after.ended ≡ false
+Finishes code base c limit now (finish.Faulted f) =
+    (j : ℕ) × (j < limit) × ((i : ℕ) → i ≤ j → (steps_of code base c i).after.ended ≡ false)
+    × ((step_of code base (steps_of code base c j).after).answer ≡ Fault f)
+
+-- ---- the text of a run
+
+-- a number of 64 bits in hexadecimal digits
+abbrev pub number_text : ℕ → List ℕ
+number_text n = codes "0x" ++ encode_lower (to_be_bytes w64 n)
+
+-- the low bits of a number, as many as the size has
+abbrev pub word_text : Size → ℕ → List ℕ
+word_text s n = codes "0x" ++ encode_lower (drop (8 - bytes_of s) (to_be_bytes w64 n))
+
+abbrev pub event_line : Event → List ℕ
+event_line (event.Branch taken) = codes "branch " ++ (if taken then codes "1" else codes "0") ++ codes "\n"
+event_line (event.Addr a) = codes "addr " ++ number_text a ++ codes "\n"
+event_line (event.Div high low divisor) =
+    codes "div " ++ number_text high ++ codes " " ++ number_text low ++ codes " " ++ number_text divisor ++ codes "\n"
+
+-- a result, by its register at the end
+abbrev pub result_line : State → Arg → List ℕ
+result_line st a = codes "result " ++ a.name ++ codes " " ++ word_text a.size (reg_value st a.reg) ++ codes "\n"
+
+-- the events, the number of steps, and the results
+abbrev pub run_text : Compiled → Ran → ℕ → List ℕ
+run_text c ran k =
+    concat (map event_line ran.events)
+    ++ codes "end " ++ decimal k ++ codes "\n"
+    ++ concat (map (result_line ran.after.state) c.rets)
+
+-- where `exec` starts a function
+abbrev pub exec_start : List ℕ → Memory → Config
+exec_start items m = start_of (start_state items) m
+
+-- the text of the run of a function on items, to the end of its code
+pub record RunsTo (c : Compiled) (items : List ℕ) (limit : ℕ) (output : List ℕ) : Type 0 where
+  pub memory : Memory
+  pub is_start : IsStartMemory memory
+  pub steps : ℕ
+  pub within : steps ≤ limit
+  pub ends : EndsAfter c.code code_base (exec_start items memory) steps
+  pub text : output ≡ run_text c (steps_of c.code code_base (exec_start items memory) steps) steps

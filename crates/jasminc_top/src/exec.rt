@@ -1,0 +1,194 @@
+// Runs of compiled code on the machine.
+ghost use Rattle.std.specs.Prelude.{◌≡◌, ◌++◌, ◌∷◌, [], ◌≤◌, List, ℕ, map, length, false, IfOk, OnOk, codes};
+ghost use Rattle.std.specs.List.{concat};
+ghost use Rattle.jasminc_top.specs.MachineRuns.{code_of, base_of, config_of, start_of, SameCode};
+ghost use Rattle.jasminc_top.specs.Steps.{events_of, steps_of};
+ghost use Rattle.jasminc_top.specs.Running.{IsStartMemory, start_state, with_numbers, Finishes, number_text, word_text, event_line, result_line, run_text};
+ghost use Rattle.jasminc_top.specs.Compiling.{argument_registers};
+
+use crate::compile::ARGUMENT_REGISTERS;
+use crate::jz_leak::{Event, Events, MemMap};
+use crate::listing::{Arg, Compiled, write_number};
+use crate::x64_machine::{Machine, Step};
+use jz_data::Seq;
+use jz_words::Size;
+use std::alloc::{AllocError, Global};
+use x64_insn::{FaultKind, FlagVal, Reg, State, StepLeak};
+
+const CODE_BASE: u64 = 0x40_0000;
+const RETURN_SLOT: u64 = 0x7fff_ffff_0008;
+
+/// How a run ended.
+#[derive(Debug, Drop)]
+pub enum Finish {
+    /// The code returned, after so many steps with these events.
+    Ended { steps: u64, events: Events },
+    /// It was still running after all the steps.
+    OutOfFuel,
+    /// A step faulted.
+    Faulted(FaultKind),
+}
+
+// The return slot, which holds 0.
+fn start_memory(alloc: Global) -> Result<MemMap, AllocError>
+    ensures { IfOk result (λ memory. IsStartMemory memory) }
+{
+    let mut memory = MemMap::new(alloc);
+    memory.add(RETURN_SLOT, &[0; 8])?;
+    Ok(memory)
+}
+
+// Items in the argument registers; each other register is 0.
+fn registers(items: &[u64]) -> [u64; 16]
+    ensures { result ≡ (start_state items.now).regs }
+{
+    let mut regs = [0; 16];
+    regs[Reg::Rsp as usize] = RETURN_SLOT;
+    for (i, item) in items.iter().enumerate() {
+        let Some(reg) = ARGUMENT_REGISTERS.get(i) else {
+            return regs;
+        };
+        regs[*reg as usize] = *item;
+    }
+    regs
+}
+
+fn start_state(items: &[u64]) -> State
+    ensures { result ≡ start_state items.now }
+{
+    State {
+        regs: registers(items),
+        rip: CODE_BASE,
+        flags: [FlagVal::Undefined; 5],
+    }
+}
+
+// The events of a step: branch, access, division.
+fn push_events(events: &mut Vec<Event>, leak: StepLeak) -> Result<(), AllocError>
+    ensures { OnOk result (events.new.items ≡ events.old.items ++ events_of leak) }
+{
+    if let Some(taken) = leak.branch {
+        events.push(Event::Branch(taken))?;
+    }
+    if let Some(address) = leak.addr {
+        events.push(Event::Addr(address))?;
+    }
+    if let Some((high, low, divisor)) = leak.div {
+        events.push(Event::Div(high, low, divisor))?;
+    }
+    Ok(())
+}
+
+// Up to so many steps, to the end of the code.
+fn run_to_end(
+    alloc: Global,
+    machine: &mut Machine,
+    limit: u64,
+) -> Result<Finish, AllocError>
+    requires { (config_of machine.old).ended ≡ false }
+    ensures { IfOk result (λ finish. Finishes (code_of machine.old) (base_of machine.old) (config_of machine.old) limit (config_of machine.new) finish) }
+{
+    let mut events = Vec::new(alloc);
+    for made in 0..limit {
+        let (answer, leak) = machine.step();
+        push_events(&mut events, leak)?;
+        match answer {
+            Step::Running => {}
+            Step::Ended => {
+                return Ok(Finish::Ended {
+                    steps: made + 1,
+                    events: Seq::from_vec(events),
+                });
+            }
+            Step::Fault(fault) => return Ok(Finish::Faulted(fault)),
+        }
+    }
+    Ok(Finish::OutOfFuel)
+}
+
+// A number of 64 bits in hexadecimal digits.
+fn write_hexadecimal(alloc: Global, text: &mut Vec<u8>, number: u64) -> Result<(), AllocError>
+    ensures { OnOk result (text.new.items ≡ text.old.items ++ number_text number) }
+{
+    let digits = hex::encode(alloc, number.to_be_bytes())?;
+    text.extend_from_slice(b"0x")?;
+    text.extend_from_slice(digits.as_str().as_bytes())
+}
+
+// The low bits of a number, as many as the size has.
+fn write_word(
+    alloc: Global,
+    text: &mut Vec<u8>,
+    size: Size,
+    number: u64,
+) -> Result<(), AllocError>
+    ensures { OnOk result (text.new.items ≡ text.old.items ++ word_text size number) }
+{
+    let bytes = number.to_be_bytes();
+    let digits = hex::encode(alloc, &bytes[8 - size.bytes() as usize..])?;
+    text.extend_from_slice(b"0x")?;
+    text.extend_from_slice(digits.as_str().as_bytes())
+}
+
+fn write_event(alloc: Global, text: &mut Vec<u8>, event: Event) -> Result<(), AllocError>
+    ensures { OnOk result (text.new.items ≡ text.old.items ++ event_line event) }
+{
+    match event {
+        Event::Branch(taken) => {
+            text.extend_from_slice(b"branch ")?;
+            text.extend_from_slice(if taken { b"1" } else { b"0" })?;
+        }
+        Event::Addr(address) => {
+            text.extend_from_slice(b"addr ")?;
+            write_hexadecimal(alloc, text, address)?;
+        }
+        Event::Div(high, low, divisor) => {
+            text.extend_from_slice(b"div ")?;
+            write_hexadecimal(alloc, text, high)?;
+            text.extend_from_slice(b" ")?;
+            write_hexadecimal(alloc, text, low)?;
+            text.extend_from_slice(b" ")?;
+            write_hexadecimal(alloc, text, divisor)?;
+        }
+    }
+    text.extend_from_slice(b"\n")
+}
+
+fn write_result(
+    alloc: Global,
+    text: &mut Vec<u8>,
+    state: &State,
+    result_in: &Arg,
+) -> Result<(), AllocError>
+    ensures { OnOk result (text.new.items ≡ text.old.items ++ result_line state.now result_in.now) }
+{
+    text.extend_from_slice(b"result ")?;
+    text.extend_from_slice(result_in.name.as_str().as_bytes())?;
+    text.extend_from_slice(b" ")?;
+    let value = state.regs[result_in.reg as usize];
+    write_word(alloc, text, result_in.size, value)?;
+    text.extend_from_slice(b"\n")
+}
+
+fn write_events(alloc: Global, text: &mut Vec<u8>, events: &Events) -> Result<(), AllocError>
+    ensures { OnOk result (text.new.items ≡ text.old.items ++ concat (map event_line events.now)) }
+{
+    for event in events.as_slice() {
+        write_event(alloc, text, *event)?;
+    }
+    Ok(())
+}
+
+fn write_results(
+    alloc: Global,
+    text: &mut Vec<u8>,
+    state: &State,
+    rets: &Seq<Arg>,
+) -> Result<(), AllocError>
+    ensures { OnOk result (text.new.items ≡ text.old.items ++ concat (map (result_line state.now) rets.now)) }
+{
+    for ret in rets.as_slice() {
+        write_result(alloc, text, state, ret)?;
+    }
+    Ok(())
+}
