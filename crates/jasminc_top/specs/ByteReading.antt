@@ -4,6 +4,7 @@ use Rattle.jasminc_top.specs.declared.x64_decode.fields.Stop.{Stop}
 use Rattle.jasminc_top.specs.declared.x64_decode.fields.Stop.TheVariants.{Short, Bad}
 use Rattle.x64_insn.specs.Encoding.{is_byte}
 
+-- what reads a value from the left
 abbrev pub Reader : Type 0 → Type 0
 Reader A = List ℕ → Result (A × List ℕ) Stop
 

@@ -11,38 +11,48 @@ use Rattle.jasminc_top.specs.declared.x64_decode.fields.Stop.TheVariants.{Short,
 use Rattle.jasminc_top.specs.declared.x64_decode.fields.FieldsRead.{FieldsRead}
 use Rattle.jasminc_top.specs.ByteReading.{Reader, prefix, byte_where, byte_if, some_bytes, follow}
 
--- ---- which byte may come next, by the table: each begins some spelling
+-- ---- which byte may come next: one behind which the table has a spelling
+-- 66, where rows have operands of 16 bits
 abbrev pub may_be_operand_size : ℕ → Bool
 may_be_operand_size b = has_size S16 && (b == 0x66)
 
+-- REX, where rows have operands of the size that it gives
 abbrev pub may_be_rex : Option ℕ → ℕ → Bool
 may_be_rex operand_size b = is_rex operand_size b && (has_w (Some b) || has_size S32)
 
+-- 0F, where rows stand behind it
 abbrev pub may_be_escape : ℕ → Bool
 may_be_escape b = has_escaped_rows && (b == 0x0F)
 
+-- whether there is a row and it allows these prefixes
 abbrev pub allowed : Option ℕ → Option ℕ → Option Row → Bool
 allowed operand_size rex None = false
 allowed operand_size rex (Some row) = allows row operand_size rex
 
+-- the opcode of a row that allows these prefixes
 unfoldable pub may_be_opcode : Option ℕ → Option ℕ → Option ℕ → ℕ → Bool
 may_be_opcode operand_size rex escape b = allowed operand_size rex (row_of escape b)
 
+-- whether there is a row and it has a ModRM
 abbrev pub row_has_modrm : Option Row → Bool
 row_has_modrm None = false
 row_has_modrm (Some row) = has_modrm row
 
+-- whether there is a row and a byte may be its ModRM
 abbrev pub row_takes : Option Row → ℕ → Bool
 row_takes None b = false
 row_takes (Some row) b = takes_modrm row b
 
+-- the ModRM of an opcode's row
 unfoldable pub may_be_modrm : Option ℕ → ℕ → ℕ → Bool
 may_be_modrm escape opcode b = row_takes (row_of escape opcode) b
 
+-- how many bytes a row's immediate has, if there is a row
 abbrev pub row_immediate : Option ℕ → Option ℕ → Option Row → ℕ
 row_immediate operand_size rex None = 0
 row_immediate operand_size rex (Some row) = immediate_length row (size_of operand_size rex)
 
+-- how many bytes the immediate of an opcode's row has
 unfoldable pub immediate_bytes : Option ℕ → Option ℕ → Option ℕ → ℕ → ℕ
 immediate_bytes operand_size rex escape opcode = row_immediate operand_size rex (row_of escape opcode)
 
@@ -63,6 +73,7 @@ fields_of a = record {
   immediate = a.1.1.1.1.1.1.1;
 }
 
+-- prefixes, opcode, ModRM, SIB, displacement and immediate, each where it may stand
 unfoldable pub parts : Reader Parts
 parts =
     follow (prefix may_be_operand_size) (λ p.
@@ -78,6 +89,7 @@ parts =
 abbrev pub parts_read : FieldsRead → Parts
 parts_read f = (f.operand_size, (f.rex, (f.escape, (f.opcode, (f.modrm, (f.sib, (f.displacement.now, f.immediate.now)))))))
 
+-- the answer for what was read
 abbrev pub answer_of : Result (Parts × List ℕ) Stop → Decoded
 answer_of (Ok x) = decoded.Insn (insn_of (fields_of x.0)) (length (spelling_of (fields_of x.0)))
 answer_of (Err Short) = decoded.Truncated

@@ -146,6 +146,9 @@ chosen_spells (insn.Mov size to from) h = mov_spells size to from h
 chosen_spells insn.Ret h = (opcode_alone 0xC3, ret_fields, refl, ret_means)
 chosen_spells i h = never _ h
 
+pub spelling_exists : (i : Insn) → is_spelled i ≡ true → HasSpelling i
+spelling_exists i h = (chosen_bytes i, chosen_spells i h)
+
 -- ---- and only these have a spelling
 size_so : (s : Size) → has_size s ≡ true → is_64 s ≡ true
 size_so S64 h = refl

@@ -47,6 +47,7 @@ chosen_fields (insn.Mov size (operand.Reg to) (operand.Reg from)) = Some (two_re
 chosen_fields insn.Ret = Some (opcode_alone 0xC3)
 chosen_fields other = None
 
+-- the bytes of fields, where there are any
 abbrev pub bytes_of_fields : Option Fields → List ℕ
 bytes_of_fields None = []
 bytes_of_fields (Some f) = spelling_of f
@@ -56,14 +57,17 @@ unfoldable pub chosen_bytes : Insn → List ℕ
 chosen_bytes i = bytes_of_fields (chosen_fields i)
 
 -- ---- which instructions have a spelling
+-- whether an operation is ADD
 abbrev pub is_add : Alu → Bool
 is_add alu.Add = true
 is_add other = false
 
+-- whether a size is 64 bits
 abbrev pub is_64 : Size → Bool
 is_64 S64 = true
 is_64 other = false
 
+-- whether both operands are registers
 abbrev pub are_registers : Operand → Operand → Bool
 are_registers (operand.Reg to) (operand.Reg from) = true
 are_registers to from = false

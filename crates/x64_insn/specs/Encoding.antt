@@ -31,10 +31,11 @@ unfoldable pub spelling_of : Fields → List ℕ
 spelling_of f = option_to_list f.operand_size ++ (option_to_list f.rex ++ (option_to_list f.escape ++ ((f.opcode ∷ []) ++ (option_to_list f.modrm ++ (option_to_list f.sib ++ (f.displacement ++ f.immediate))))))
 
 -- ---- which fields may stand there
+-- a number that a byte can hold
 abbrev pub is_byte : ℕ → Bool
 is_byte b = nat_lt b 256
 
--- REX; with 66 it has no W
+-- REX, 40 to 4F; behind 66 it has no W
 abbrev pub is_rex : Option ℕ → ℕ → Bool
 is_rex operand_size b = nat_le 0x40 b && nat_lt b (if is_some operand_size then 0x48 else 0x50)
 
@@ -82,15 +83,16 @@ pub record AreFields (f : Fields) : Type 0 where
   pub immediate : AreBytes (immediate_length row (size_of f.operand_size f.rex)) f.immediate
 
 -- ---- what fields mean
+-- a byte, or 0 where none stands
 abbrev pub or_zero : Option ℕ → ℕ
 or_zero None = 0
 or_zero (Some b) = b
 
--- the register of ModRM's reg field, whose fourth bit is REX.R (2.2.1.2, figure 2-4)
+-- the register of ModRM's reg field, whose fourth bit is REX.R (2.2.1.2, figure 2-5)
 abbrev pub reg_of_modrm : Fields → Reg
 reg_of_modrm f = reg_of (8 * r_of f.rex + reg_field (or_zero f.modrm))
 
--- the operand of ModRM's rm field: a register, whose fourth bit is REX.B (2.2.1.2, figure 2-4)
+-- the operand of ModRM's rm field: a register, whose fourth bit is REX.B (2.2.1.2, figure 2-5)
 abbrev pub rm_of_modrm : Fields → Operand
 rm_of_modrm f = operand.Reg (reg_of (8 * b_of f.rex + rm_field (or_zero f.modrm)))
 

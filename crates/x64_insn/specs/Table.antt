@@ -9,6 +9,7 @@ use Rattle.x64_insn.specs.declared.table.Row.{Row}
 use Rattle.x64_insn.specs.declared.table.Row.TheVariants as row
 
 -- ---- the numbers of registers (2.1.5, table 2-2; 2.2.1.2, table 2-4)
+-- the number of a register
 abbrev pub number_of : Reg → ℕ
 number_of reg.Rax = 0
 number_of reg.Rcx = 1
@@ -58,15 +59,19 @@ abbrev pub rex_bits : Option ℕ → ℕ
 rex_bits None = 0
 rex_bits (Some b) = b % 16
 
+-- whether W is set
 abbrev pub has_w : Option ℕ → Bool
 has_w rex = nat_le 8 (rex_bits rex)
 
+-- the bit R
 abbrev pub r_of : Option ℕ → ℕ
 r_of rex = rex_bits rex / 4 % 2
 
+-- the bit X
 abbrev pub x_of : Option ℕ → ℕ
 x_of rex = rex_bits rex / 2 % 2
 
+-- the bit B
 abbrev pub b_of : Option ℕ → ℕ
 b_of rex = rex_bits rex % 2
 
@@ -83,12 +88,15 @@ allows row.MovRegRm operand_size rex = has_size (size_of operand_size rex)
 allows row.Ret operand_size rex = not (is_some operand_size) && not (is_some rex)
 
 -- ---- ModRM: two bits of mode, three of reg, three of rm (2.1.3)
+-- the mode: 3 says that rm names a register (2.1.5, table 2-2)
 abbrev pub mod_of : ℕ → ℕ
 mod_of modrm = modrm / 64
 
+-- the reg field
 abbrev pub reg_field : ℕ → ℕ
 reg_field modrm = modrm / 8 % 8
 
+-- the rm field
 abbrev pub rm_field : ℕ → ℕ
 rm_field modrm = modrm % 8
 
