@@ -1,8 +1,8 @@
 -- The part at the front of a text, and how it is found.
-use Rattle.std.specs.Prelude.{◌≡◌, ℕ, ℤ, pos, ◌+◌, ◌^◌, List, [], ◌∷◌, ◌++◌, Bool, true, false, nat_lt, if◌then◌else◌, Option, Some, None, length, take, drop}
+use Rattle.std.specs.Prelude.{◌≡◌, ℕ, ℤ, pos, ◌+◌, ◌^◌, List, [], ◌∷◌, ◌++◌, true, false, nat_lt, if◌then◌else◌, Option, Some, None, length, take, drop}
 use Rattle.std.specs.List.{take_while}
-use Rattle.jasminc_top.specs.LexingWords.{begins, is_word, is_numeral, is_hexadecimal, in_decimal, in_hexadecimal, is_lexeme, value_of}
-use Rattle.jasminc_top.specs.Lexing.{heads, is_blank, Longest, is_no_number, HasNone}
+use Rattle.jasminc_top.specs.LexingWords.{begins, is_word, is_numeral, is_hexadecimal, in_decimal, in_hexadecimal, value_of}
+use Rattle.jasminc_top.specs.Lexing.{is_blank, Longest, is_no_number, HasNone}
 use Rattle.jasminc_top.specs.declared.jz_lex.front.Shape.{Shape}
 use Rattle.jasminc_top.specs.declared.jz_lex.front.Shape.TheVariants as shape
 use Rattle.jasminc_top.specs.declared.jz_lex.front.Front.{Front}
