@@ -1,17 +1,15 @@
 -- Parts of a text, one after the other.
-use Rattle.std.proofs.Common.{◌≡◌, ◌⊎◌, inl, inr, ⊎_elim, if◌then◌else◌, ℕ, zero, suc, ◌+◌, ◌<◌, ◌≤◌, List, [], ◌∷◌, ◌++◌, length, drop, take, Bool, true, false, ◌==◌, refl, sym, ap, ap₂, ◌∙◌, subst, arith, length-append}
+use Rattle.std.proofs.Common.{◌≡◌, ℕ, ◌<◌, ◌≤◌, List, [], ◌∷◌, ◌++◌, length, true, false, refl, sym, ap, ap₂, ◌∙◌, subst, arith, length-append}
 use Rattle.jasminc_top.specs.LexingWords.{is_lexeme, kind_of}
-use Rattle.jasminc_top.specs.Lexing.{is_blank, Longest, is_no_number, Part, Blank, Lexeme, first_place, after, UpTo, IsLexed, HasNone, HasNoToken}
+use Rattle.jasminc_top.specs.Lexing.{is_blank, Longest, is_no_number, Part, Blank, Lexeme, first_place, after, UpTo, IsLexed, HasNoToken}
 use Rattle.jasminc_top.specs.LexingFront.{shape_of, IsFront}
 use Rattle.jz_io.specs.declared.span.Span.{Span}
 use Rattle.jasminc_top.specs.declared.jz_lex.token.Token.{Token}
 use Rattle.jasminc_top.specs.declared.jz_lex.token.TokenKind.TheVariants as kind
 use Rattle.jasminc_top.specs.declared.jz_lex.token.LexKind.{LexKind}
-use Rattle.jasminc_top.specs.declared.jz_lex.token.LexKind.TheVariants.{BadByte, BadNumber}
-use Rattle.jasminc_top.specs.declared.jz_lex.token.LexFault.{LexFault}
 use Rattle.jasminc_top.specs.declared.jz_lex.front.Shape.{Shape}
 use Rattle.jasminc_top.specs.declared.jz_lex.front.Front.TheVariants as front
-use Rattle.jasminc_top.proofs.LexingWords.{cut, no_empty, true_false, lexeme_blank}
+use Rattle.jasminc_top.proofs.LexingWords.{cut, no_empty, true_false}
 
 -- the text is lexed up to rest at e
 abbrev pub Until : List ℕ → List Token → Span → List ℕ → Type 0

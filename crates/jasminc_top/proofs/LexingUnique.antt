@@ -1,12 +1,11 @@
 -- A text is lexed in one way.
-use Rattle.std.proofs.Common.{◌≡◌, ◌⊎◌, inl, inr, ⊎_elim, ℕ, ◌+◌, ◌<◌, ◌≤◌, List, [], ◌∷◌, ◌++◌, length, Bool, true, false, pos, if◌then◌else◌, refl, sym, ap, ap₂, ◌∙◌, subst, arith}
+use Rattle.std.proofs.Common.{◌≡◌, ◌⊎◌, inl, inr, ⊎_elim, ℕ, List, [], ◌∷◌, ◌++◌, Bool, true, false, pos, if◌then◌else◌, refl, sym, ap, ap₂, ◌∙◌, subst, arith}
 use Rattle.std.specs.List.{All}
 use Rattle.std.proofs.lemmas.List.Elements.{All-nil, All-cons}
 use Rattle.jasminc_top.specs.LexingWords.{is_word, is_numeral, is_among, keywords, value_of, is_lexeme, kind_of}
 use Rattle.jasminc_top.specs.Lexing.{is_blank, Longest, is_no_number, Part, Blank, Lexeme, first_place, after, UpTo, IsLexed, HasNone, HasNoToken}
 use Rattle.jz_io.specs.declared.span.Span.{Span}
 use Rattle.jasminc_top.specs.declared.jz_lex.token.Token.{Token}
-use Rattle.jasminc_top.specs.declared.jz_lex.token.TokenKind.{TokenKind}
 use Rattle.jasminc_top.specs.declared.jz_lex.token.TokenKind.TheVariants as kind
 use Rattle.jasminc_top.specs.declared.jz_lex.token.LexKind.{LexKind}
 use Rattle.jasminc_top.specs.declared.jz_lex.token.LexKind.TheVariants.{BadByte, BadNumber}

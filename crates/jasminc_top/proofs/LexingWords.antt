@@ -1,10 +1,10 @@
 -- The lexeme found at the front of a text is the longest.
-use Rattle.std.proofs.Common.{◌≡◌, ◌⊎◌, inl, inr, ⊎_elim, if◌then◌else◌, ℕ, zero, suc, ◌+◌, ◌<◌, ◌≤◌, List, [], ◌∷◌, ◌++◌, length, take, drop, Bool, true, false, not, ◌&&◌, ◌||◌, ◌==◌, nat_le, cond, Option, Some, None, refl, sym, ap, ap₂, ◌∙◌, subst, arith, length-append}
-use Rattle.std.specs.List.{list_all, list_any, take_while, prefix_len, starts_with}
+use Rattle.std.proofs.Common.{◌≡◌, ◌⊎◌, inl, inr, ⊎_elim, if◌then◌else◌, ℕ, zero, suc, ◌+◌, ◌<◌, ◌≤◌, List, [], ◌∷◌, ◌++◌, length, take, drop, Bool, true, false, not, ◌&&◌, ◌||◌, ◌==◌, nat_le, Option, Some, None, refl, sym, ap, ap₂, ◌∙◌, subst, arith}
+use Rattle.std.specs.List.{list_all, take_while, starts_with}
 use Rattle.std.proofs.lemmas.List.Sums.{take_while-cons}
 use Rattle.std.specs.Str.{IsAscii}
 use Rattle.std.specs.Cmp.Lexicographic.{pointwise}
-use Rattle.jasminc_top.specs.LexingWords.{signs, is_among, begins, begins_word, in_word, is_digit, in_decimal, is_hex_digit, in_hexadecimal, is_word, is_decimal, are_hex_digits, is_hexadecimal, is_numeral, is_sign, is_lexeme}
+use Rattle.jasminc_top.specs.LexingWords.{signs, is_among, begins, begins_word, in_word, is_digit, in_decimal, is_hex_digit, in_hexadecimal, is_word, is_decimal, is_hexadecimal, is_numeral, is_sign, is_lexeme}
 use Rattle.jasminc_top.specs.Lexing.{heads, is_blank, Longest}
 use Rattle.jasminc_top.specs.LexingFront.{first_of, numeral_length}
 

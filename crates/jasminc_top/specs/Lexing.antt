@@ -1,5 +1,5 @@
 -- A text is blanks and lexemes in turn, each lexeme the longest that stands there; its tokens, and the first place that has none.
-use Rattle.std.specs.Prelude.{◌≡◌, ◌⊎◌, ◌≤◌, ℕ, ◌+◌, ◌^◌, List, [], ◌∷◌, ◌++◌, Bool, true, false, not, ◌&&◌, ◌||◌, ◌==◌, nat_lt, if◌then◌else◌, length}
+use Rattle.std.specs.Prelude.{◌≡◌, ◌≤◌, ℕ, ◌+◌, ◌^◌, List, [], ◌∷◌, ◌++◌, Bool, true, false, not, ◌&&◌, ◌||◌, ◌==◌, nat_lt, if◌then◌else◌, length}
 use Rattle.std.specs.Char.{is_ascii_alphabetic}
 use Rattle.jasminc_top.specs.LexingWords.{is_lexeme, is_numeral, value_of, kind_of}
 use Rattle.jz_io.specs.declared.span.Span.{Span}

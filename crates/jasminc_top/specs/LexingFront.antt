@@ -1,8 +1,8 @@
--- The part at the front of a text, and how it is found.
-use Rattle.std.specs.Prelude.{◌≡◌, ℕ, ℤ, pos, ◌+◌, ◌^◌, List, [], ◌∷◌, ◌++◌, Bool, true, false, nat_lt, if◌then◌else◌, Option, Some, None, length, take, drop}
+-- What stands at the front of a text, and how it is found.
+use Rattle.std.specs.Prelude.{◌≡◌, ℕ, ℤ, pos, ◌+◌, ◌^◌, List, [], ◌∷◌, ◌++◌, true, false, nat_lt, if◌then◌else◌, Option, Some, None, length, take, drop}
 use Rattle.std.specs.List.{take_while}
-use Rattle.jasminc_top.specs.LexingWords.{begins, is_word, is_numeral, is_hexadecimal, in_decimal, in_hexadecimal, is_lexeme, value_of}
-use Rattle.jasminc_top.specs.Lexing.{heads, is_blank, Longest, is_no_number, HasNone}
+use Rattle.jasminc_top.specs.LexingWords.{begins, is_word, is_numeral, is_hexadecimal, in_decimal, in_hexadecimal, value_of}
+use Rattle.jasminc_top.specs.Lexing.{is_blank, Longest, is_no_number, HasNone}
 use Rattle.jasminc_top.specs.declared.jz_lex.front.Shape.{Shape}
 use Rattle.jasminc_top.specs.declared.jz_lex.front.Shape.TheVariants as shape
 use Rattle.jasminc_top.specs.declared.jz_lex.front.Front.{Front}
@@ -29,7 +29,7 @@ numeral_length text = if is_hexadecimal (take 3 text) then 3 + length (take_whil
 abbrev pub shape_of : List ℕ → Shape
 shape_of w = if is_word w then shape.Word else if is_numeral w then shape.Number (pos (value_of w)) else shape.Sign
 
--- a part at the front of the text: a blank, the longest lexeme, or none
+-- what stands at the front of the text: a blank, the longest lexeme, or no token
 abbrev pub IsFront : List ℕ → Front → Type 0
 IsFront text front.Blank = (b : ℕ) × (more : List ℕ) × (text ≡ b ∷ more) × (is_blank b ≡ true)
 IsFront text (front.Lexeme s n) = (w : List ℕ) × (more : List ℕ) × (text ≡ w ++ more) × (length w ≡ n) × Longest w more × (is_no_number w more ≡ false) × (shape_of w ≡ s)

@@ -32,7 +32,11 @@ fn after(start: Span, bytes: &[u8]) -> Span
     Span { line, col }
 }
 
-/// The tokens of a text, the last one its end; or why, and where, the first place that has none has none.
+/// The tokens of a text, the last one its end; or the first place that has no token, and why.
+///
+/// Between tokens may stand tabs, line feeds, carriage returns and spaces. A token is the longest that stands at its place.
+/// A number is decimal, or `0x` and hexadecimal digits of either case, with underscores anywhere after its first digit; it
+/// is at most 2^127 - 1, and no letter follows it.
 #[tactic(auto, using(crate::proofs::Lexing::blank_step, crate::proofs::Lexing::lexeme_length, crate::proofs::Lexing::refused_here, crate::proofs::Lexing::lexed_here))]
 pub fn lex(alloc: Global, text: &[u8]) -> Result<Tokens, Failure<LexFault>>
     requires { length text.now ≤ 2 ^ 32 - 2 }

@@ -1,4 +1,4 @@
-use Rattle.std.proofs.Common.{◌≡◌, ◌∙◌, sym, ap, subst}
+use Rattle.std.proofs.Common.{◌∙◌, sym}
 use Rattle.jasminc_top.proofs.LexingFront.{word_part, sign_part, none_part}
 use Rattle.jasminc_top.proofs.jz_lex.front.front_of.Goals as goal
 

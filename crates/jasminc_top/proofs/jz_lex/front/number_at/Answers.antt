@@ -1,6 +1,4 @@
-use Rattle.std.proofs.Common.{◌≡◌, ◌≤◌, ◌++◌, ◌∙◌, sym, ap, subst, length}
-use Rattle.std.specs.Char.{is_ascii_alphabetic}
-use Rattle.jasminc_top.specs.Lexing.{heads}
+use Rattle.std.proofs.Common.{◌≤◌, ◌∙◌, sym, subst, length}
 use Rattle.jasminc_top.specs.LexingWords.{value_of}
 use Rattle.jasminc_top.specs.LexingFront.{IsFront}
 use Rattle.jasminc_top.specs.declared.jz_lex.front.Shape.TheVariants as shape

@@ -1,4 +1,4 @@
-use Rattle.std.proofs.Common.{◌≡◌, ◌≤◌, ◌<◌, ◌∙◌, sym, ap, subst, arith}
+use Rattle.std.proofs.Common.{◌≤◌, ◌∙◌, sym, ap, subst, arith}
 use Rattle.std.specs.Char.{digit_value}
 use Rattle.jasminc_top.proofs.LexingNumbers.{rest_first, over, next_kept, skip_kept, rest_last}
 use Rattle.jasminc_top.proofs.jz_lex.number.digits_value.Goals as goal

@@ -1,4 +1,4 @@
-use Rattle.std.proofs.Common.{◌≡◌, ◌++◌, ◌∷◌, [], ◌∙◌, sym, ap, subst, arith, length, length-append}
+use Rattle.std.proofs.Common.{◌≡◌, ◌++◌, ◌∷◌, [], sym, ap, subst, arith, length, length-append}
 use Rattle.jasminc_top.specs.LexingWords.{kind_of}
 use Rattle.jasminc_top.proofs.LexingFront.{split_is}
 use Rattle.jasminc_top.proofs.Lexing.{Until, blank_step, lexeme_step, lexeme_length}
