@@ -1,6 +1,6 @@
 -- Runs: an end stays, and a fault repeats.
-use Rattle.std.proofs.Common.{◌≡◌, ℕ, zero, suc, ◌+◌, ◌-◌, ◌<◌, ◌≤◌, List, [], ◌∷◌, ◌++◌, append_assoc, Bool, true, false, refl, sym, ap, ◌∙◌, subst, arith, if◌then◌else◌, ◌&&◌}
-use Rattle.std.specs.Prelude.{Result, Ok, Err, Option, Some, None}
+use Rattle.std.proofs.Common.{◌≡◌, ℕ, zero, suc, ◌+◌, ◌-◌, ◌<◌, List, [], ◌++◌, append_assoc, Bool, true, false, refl, sym, ap, ◌∙◌, subst, arith, if◌then◌else◌}
+use Rattle.std.specs.Prelude.{Result, Ok, Err}
 use Rattle.x64_insn.specs.declared.types.FaultKind.{FaultKind}
 use Rattle.x64_insn.specs.Rows.{After, no_event}
 use Rattle.jasminc_top.specs.declared.x64_decode.Decoded.{Decoded}
@@ -227,17 +227,17 @@ end_stays code base zero c h = refl
 end_stays code base (suc k) c h =
     let none : step_of code base c ≡ stopped c = ended_step code base c h
     in ap (λ (m : Moved). record { after = (steps_of code base m.after k).after; events = events_of m.leak ++ (steps_of code base m.after k).events }) none
-       ∙ end_stays code base k c h
+    ∙ end_stays code base k c h
 
 first_ran : (code : List ℕ) (base k : ℕ) (c : Config)
     → steps_of code base c (suc k)
-      ≡ record { after = (steps_of code base (step_of code base c).after k).after; events = events_of (step_of code base c).leak ++ (steps_of code base (step_of code base c).after k).events }
+    ≡ record { after = (steps_of code base (step_of code base c).after k).after; events = events_of (step_of code base c).leak ++ (steps_of code base (step_of code base c).after k).events }
 unfolding steps_of
 first_ran code base k c = refl
 
 regrouped : (front : List Event) (r s : Ran)
     → ◌≡◌ {A = Ran} (record { after = (followed r s).after; events = front ++ (followed r s).events })
-      (followed (record { after = r.after; events = front ++ r.events }) s)
+    (followed (record { after = r.after; events = front ++ r.events }) s)
 regrouped front r s = ap (λ es. record { after = s.after; events = es }) (sym (append_assoc front r.events s.events))
 
 pub steps_both : (code : List ℕ) (base i j : ℕ) (c : Config)
@@ -248,6 +248,6 @@ steps_both code base (suc i) j c =
     let e : suc i + j ≡ suc (i + j) = omega arith
     in let next : Config = (step_of code base c).after
     in ap (steps_of code base c) e ∙ first_ran code base (i + j) c
-       ∙ ap (λ (r : Ran). record { after = r.after; events = events_of (step_of code base c).leak ++ r.events }) (steps_both code base i j (step_of code base c).after)
-       ∙ regrouped (events_of (step_of code base c).leak) (steps_of code base (step_of code base c).after i)
-         (steps_of code base (steps_of code base (step_of code base c).after i).after j)
+    ∙ ap (λ (r : Ran). record { after = r.after; events = events_of (step_of code base c).leak ++ r.events }) (steps_both code base i j (step_of code base c).after)
+    ∙ regrouped (events_of (step_of code base c).leak) (steps_of code base (step_of code base c).after i)
+    (steps_of code base (steps_of code base (step_of code base c).after i).after j)

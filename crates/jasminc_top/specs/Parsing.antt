@@ -1,7 +1,5 @@
 -- The program that a list of tokens derives, and the first token at which none can be derived any more.
-use Rattle.std.specs.Prelude.{◌≡◌, ◌≢◌, ℕ, Bool, true, false, ◌&&◌, ◌||◌, not, ◌==◌, nat_le, List, [], ◌∷◌, ◌++◌, length, ◌-◌, map, codes, slice_get, Option, Some, None, All, AllPairs, Contains, ◌⊎◌}
-use Rattle.std.specs.List.{list_any, list_all}
-use Rattle.std.specs.Cmp.Lexicographic.{pointwise}
+use Rattle.std.specs.Prelude.{◌≡◌, ◌≢◌, ℕ, List, [], ◌∷◌, ◌++◌, length, ◌-◌, map, codes, slice_get, Option, Some, None, All, AllPairs, Contains, ◌⊎◌}
 use Rattle.jz_io.specs.declared.span.Span.{Span}
 use Rattle.jz_words.specs.declared.size.Size.TheVariants.{S64}
 use Rattle.jasminc_top.specs.declared.jz_lex.token.Token.{Token}
