@@ -8,7 +8,8 @@ use Rattle.jasminc_top.specs.declared.jz_lex.token.TokenKind.{TokenKind}
 use Rattle.jasminc_top.specs.declared.jz_lex.token.TokenKind.TheVariants.{Ident, Keyword, Num, Sign, End}
 use Rattle.jasminc_top.specs.declared.jz_parse.form.Slot.{Slot}
 use Rattle.jasminc_top.specs.declared.jz_parse.form.Slot.TheVariants as slot
-use Rattle.jasminc_top.specs.Parsing.{kind_of, is_name, is_name_byte}
+use Rattle.jasminc_top.specs.LexingWords.{begins_word, in_word, keywords}
+use Rattle.jasminc_top.specs.Parsing.{kind_of, IsName}
 use Rattle.jasminc_top.proofs.Differing.{Each, Different, In, each_weaker, in_append, in_get, total, longer_is_new, different_more, different_front}
 use Rattle.jasminc_top.proofs.FormRuns.{Place, fixed, known, fresh, count, places, Run}
 
@@ -192,7 +193,7 @@ complete (fresh ∷ ps) names (m ∷ later) (t ∷ ts) ks e n d =
 
 -- an identifier is a name of a text or one of the list
 abbrev pub Known : List (List ℕ) → TokenKind → Type 0
-Known names (Ident n) = (is_name n ≡ true) ⊎ In n names
+Known names (Ident n) = IsName n ⊎ In n names
 Known names (Keyword w) = Unit {0}
 Known names (Num n) = Unit {0}
 Known names (Sign s) = Unit {0}
@@ -219,21 +220,23 @@ length_all : (n : ℕ) → length {A = ℕ} (replicate n 97) ≡ n
 length_all zero = refl
 length_all (suc n) = ap suc (length_all n)
 
-all_letters : (n : ℕ) → list_all is_name_byte (replicate n 97) ≡ true
+all_letters : (n : ℕ) → list_all in_word (replicate n 97) ≡ true
+unfolding in_word
 all_letters zero = refl
 all_letters (suc n) = all_letters n
 
-new_is_name : (n : ℕ) → is_name (97 ∷ replicate n 97) ≡ true
+new_is_name : (n : ℕ) → IsName (97 ∷ replicate n 97)
+unfolding keywords begins_word
 new_is_name n = rw (all_letters n) refl
 
 new_is_new : (names : List (List ℕ)) → Each (λ m. m ≢ new_name names) names
 new_is_new names = longer_is_new names (new_name names) (let e : length {A = ℕ} (replicate (total names) 97) ≡ total names = length_all (total names) in omega arith)
 
-known_front : (names : List (List ℕ)) (n : List ℕ) → is_name n ≡ true → (k : TokenKind) → Known (names ++ n ∷ []) k → Known names k
+known_front : (names : List (List ℕ)) (n : List ℕ) → IsName n → (k : TokenKind) → Known (names ++ n ∷ []) k → Known names k
 known_front names n is (Ident m) h = elim h [ inl a ↦ inl a | inr b ↦ split (in_append m names (n ∷ []) b) ]
   where
-    split : In m names ⊎ In m (n ∷ []) → (is_name m ≡ true) ⊎ In m names
-    split h = elim h [ inl a ↦ inr a | inr b ↦ elim b [ inl e ↦ inl (subst (λ x. is_name x ≡ true) e is) | inr none ↦ absurd none ] ]
+    split : In m names ⊎ In m (n ∷ []) → IsName m ⊎ In m names
+    split h = elim h [ inl a ↦ inr a | inr b ↦ elim b [ inl e ↦ inl (subst IsName e is) | inr none ↦ absurd none ] ]
 known_front names n is (Keyword w) h = tt
 known_front names n is (Num w) h = tt
 known_front names n is (Sign w) h = tt

@@ -1,14 +1,15 @@
 -- Runs: an end stays, and a fault repeats.
-use Rattle.std.proofs.Common.{◌≡◌, ℕ, zero, suc, ◌+◌, ◌-◌, ◌<◌, ◌≤◌, List, Bool, true, false, refl, sym, ap, ◌∙◌, subst, arith, if◌then◌else◌, ◌&&◌}
-use Rattle.std.specs.Prelude.{Result, Ok, Err, Option, Some, None}
+use Rattle.std.proofs.Common.{◌≡◌, ℕ, zero, suc, ◌+◌, ◌-◌, ◌<◌, List, [], ◌++◌, append_assoc, Bool, true, false, refl, sym, ap, ◌∙◌, subst, arith, if◌then◌else◌}
+use Rattle.std.specs.Prelude.{Result, Ok, Err}
 use Rattle.x64_insn.specs.declared.types.FaultKind.{FaultKind}
 use Rattle.x64_insn.specs.Rows.{After, no_event}
 use Rattle.jasminc_top.specs.declared.x64_decode.Decoded.{Decoded}
 use Rattle.jasminc_top.specs.declared.x64_decode.Decoded.TheVariants as decoded
 use Rattle.jasminc_top.specs.declared.x64_machine.step.Step.{Step}
 use Rattle.jasminc_top.specs.declared.x64_machine.step.Step.TheVariants.{Running, Ended, Fault}
-use Rattle.jasminc_top.specs.Steps.{Config, Moved, insn_at, moved, by_insn, step_of, steps_of}
-use Rattle.jasminc_top.specs.MachineRuns.{first_answer, last_answer}
+use Rattle.jasminc_top.specs.declared.jz_leak.event.Event.{Event}
+use Rattle.jasminc_top.specs.Steps.{Config, Moved, Ran, insn_at, moved, by_insn, faulted, events_of, step_of, steps_of}
+use Rattle.jasminc_top.specs.MachineRuns.{first_answer, last_answer, followed}
 
 abbrev stopped : Config → Moved
 stopped c = record { answer = Ended; leak = no_event; after = c }
@@ -165,3 +166,88 @@ same_step x y p q c h k = cc
 pub none_answered_running : (code : List ℕ) (base : ℕ) (c : Config) → c.ended ≡ false → last_answer code base c 0 ≡ Running
 unfolding last_answer
 none_answered_running code base c h = ap (λ b. if b then Ended else Running) h
+
+-- ---- laws of steps, whatever the code
+
+fault_same : (f g : FaultKind) → Fault f ≡ Fault g → f ≡ g
+fault_same f g h = cc
+
+fault_moved : (c : Config) (ends : Bool) (r : Result After FaultKind) (f : FaultKind) → (moved c ends r).answer ≡ Fault f → moved c ends r ≡ faulted c f
+fault_moved c true (Ok a) f h = cc
+fault_moved c false (Ok a) f h = cc
+fault_moved c ends (Err e) f h = ap (faulted c) (fault_same e f h)
+
+fault_insn : (c : Config) (d : Decoded) (f : FaultKind) → (by_insn c d).answer ≡ Fault f → by_insn c d ≡ faulted c f
+fault_insn c decoded.Unknown f h = ap (faulted c) (fault_same _ f h)
+fault_insn c decoded.Truncated f h = ap (faulted c) (fault_same _ f h)
+fault_insn c (decoded.Insn i len) f h = fault_moved c _ _ f h
+
+fault_flag : (code : List ℕ) (base : ℕ) (c : Config) (f : FaultKind) (b : Bool)
+    → (if b then stopped c else by_insn c (insn_at code base c.state.rip)).answer ≡ Fault f
+    → (if b then stopped c else by_insn c (insn_at code base c.state.rip)) ≡ faulted c f
+fault_flag code base c f true h = cc
+fault_flag code base c f false h = fault_insn c (insn_at code base c.state.rip) f h
+
+pub fault_step : (code : List ℕ) (base : ℕ) (c : Config) (f : FaultKind) → (step_of code base c).answer ≡ Fault f → step_of code base c ≡ faulted c f
+unfolding step_of
+fault_step code base c f h = fault_flag code base c f c.ended h
+
+-- the entry's stack pointer and return address
+abbrev pub SameEntry : Config → Config → Type 0
+SameEntry c d = (d.entry_rsp ≡ c.entry_rsp) × (d.entry_return ≡ c.entry_return)
+
+entry_moved : (c : Config) (ends : Bool) (r : Result After FaultKind) → SameEntry c (moved c ends r).after
+entry_moved c ends (Ok a) = (refl, refl)
+entry_moved c ends (Err e) = (refl, refl)
+
+entry_insn : (c : Config) (d : Decoded) → SameEntry c (by_insn c d).after
+entry_insn c decoded.Unknown = (refl, refl)
+entry_insn c decoded.Truncated = (refl, refl)
+entry_insn c (decoded.Insn i len) = entry_moved c _ _
+
+entry_flag : (code : List ℕ) (base : ℕ) (c : Config) (b : Bool) → SameEntry c (if b then stopped c else by_insn c (insn_at code base c.state.rip)).after
+entry_flag code base c true = (refl, refl)
+entry_flag code base c false = entry_insn c (insn_at code base c.state.rip)
+
+entry_step : (code : List ℕ) (base : ℕ) (c : Config) → SameEntry c (step_of code base c).after
+unfolding step_of
+entry_step code base c = entry_flag code base c c.ended
+
+pub entry_steps : (code : List ℕ) (base k : ℕ) (c : Config) → SameEntry c (after_steps code base c k)
+unfolding steps_of
+entry_steps code base zero c = (refl, refl)
+entry_steps code base (suc k) c =
+    let now = entry_step code base c
+    in let later = entry_steps code base k (step_of code base c).after
+    in (later.0 ∙ now.0, later.1 ∙ now.1)
+
+pub end_stays : (code : List ℕ) (base k : ℕ) (c : Config) → c.ended ≡ true → steps_of code base c k ≡ record { after = c; events = [] }
+unfolding steps_of
+end_stays code base zero c h = refl
+end_stays code base (suc k) c h =
+    let none : step_of code base c ≡ stopped c = ended_step code base c h
+    in ap (λ (m : Moved). record { after = (steps_of code base m.after k).after; events = events_of m.leak ++ (steps_of code base m.after k).events }) none
+    ∙ end_stays code base k c h
+
+first_ran : (code : List ℕ) (base k : ℕ) (c : Config)
+    → steps_of code base c (suc k)
+    ≡ record { after = (steps_of code base (step_of code base c).after k).after; events = events_of (step_of code base c).leak ++ (steps_of code base (step_of code base c).after k).events }
+unfolding steps_of
+first_ran code base k c = refl
+
+regrouped : (front : List Event) (r s : Ran)
+    → ◌≡◌ {A = Ran} (record { after = (followed r s).after; events = front ++ (followed r s).events })
+    (followed (record { after = r.after; events = front ++ r.events }) s)
+regrouped front r s = ap (λ es. record { after = s.after; events = es }) (sym (append_assoc front r.events s.events))
+
+pub steps_both : (code : List ℕ) (base i j : ℕ) (c : Config)
+    → steps_of code base c (i + j) ≡ followed (steps_of code base c i) (steps_of code base (steps_of code base c i).after j)
+unfolding steps_of
+steps_both code base zero j c = let e : zero + j ≡ j = omega arith in ap (steps_of code base c) e
+steps_both code base (suc i) j c =
+    let e : suc i + j ≡ suc (i + j) = omega arith
+    in let next : Config = (step_of code base c).after
+    in ap (steps_of code base c) e ∙ first_ran code base (i + j) c
+    ∙ ap (λ (r : Ran). record { after = r.after; events = events_of (step_of code base c).leak ++ r.events }) (steps_both code base i j (step_of code base c).after)
+    ∙ regrouped (events_of (step_of code base c).leak) (steps_of code base (step_of code base c).after i)
+    (steps_of code base (steps_of code base (step_of code base c).after i).after j)

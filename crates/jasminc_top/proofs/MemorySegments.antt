@@ -7,9 +7,8 @@ use Rattle.std.proofs.lemmas.List.{length-take}
 use Rattle.std.specs.declared.cmp.Ordering.TheVariants.{Less, Equal, Greater}
 use Rattle.std.specs.Ordering.{nat_cmp, is_eq, eq_by_cmp, MatchOrdering}
 use Rattle.std.specs.Cmp.{nat_cmp_total, ranks}
-use Rattle.std.specs.FinMap.{FinMap, get, find, from_entries, get-from_entries, get-insert, insert, same_map, nat_cmp-IsAntisymmetric}
+use Rattle.std.specs.FinMap.{get, find, from_entries, get-from_entries, get-insert, insert, same_map, nat_cmp-IsAntisymmetric}
 use Rattle.jasminc_top.specs.declared.jz_leak.segment.Segment.{Segment}
-use Rattle.jz_words.specs.Memory.{Memory}
 use Rattle.jasminc_top.specs.MemoryMap.{byte_from, or_else}
 use Rattle.jasminc_top.specs.MemoryMapSegments.{entries_from, all_entries, byte_of, read_at, index_of, with_byte}
 

@@ -1,5 +1,5 @@
 -- A machine as a configuration over its code, and what a run of it answers.
-use Rattle.std.specs.Prelude.{◌≡◌, ℕ, zero, suc, false, if◌then◌else◌, List, Option}
+use Rattle.std.specs.Prelude.{◌≡◌, ℕ, zero, suc, false, if◌then◌else◌, List, ◌++◌}
 use Rattle.jz_words.specs.Memory.{Memory, loaded}
 use Rattle.x64_insn.specs.declared.types.Reg.TheVariants as reg
 use Rattle.x64_insn.specs.declared.types.State.{State}
@@ -7,7 +7,7 @@ use Rattle.x64_insn.specs.Rows.{reg_value}
 use Rattle.jasminc_top.specs.declared.x64_machine.machine.Machine.{Machine}
 use Rattle.jasminc_top.specs.declared.x64_machine.step.Step.{Step}
 use Rattle.jasminc_top.specs.declared.x64_machine.step.Step.TheVariants.{Running, Ended}
-use Rattle.jasminc_top.specs.Steps.{Config, step_of, steps_of}
+use Rattle.jasminc_top.specs.Steps.{Config, Ran, step_of, steps_of}
 
 -- the code that a machine runs
 abbrev pub code_of : Machine → List ℕ
@@ -46,6 +46,10 @@ pub record Starts (m : Machine) (code : List ℕ) (base : ℕ) (st : State) (mem
 -- the code and its place stay
 abbrev pub SameCode : Machine → Machine → Type 0
 SameCode m n = (code_of n ≡ code_of m) × (base_of n ≡ base_of m)
+
+-- one run after another
+abbrev pub followed : Ran → Ran → Ran
+followed r s = record { after = s.after; events = r.events ++ s.events }
 
 -- what no step answers: that the run has ended, or that it goes on
 abbrev pub first_answer : Config → Step

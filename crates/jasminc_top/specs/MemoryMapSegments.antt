@@ -1,5 +1,5 @@
 -- A memory that is kept in segments.
-use Rattle.std.specs.Prelude.{◌≡◌, ℕ, ◌+◌, ◌-◌, if◌then◌else◌, Option, Some, None, is_some, List, [], ◌∷◌, ◌++◌, slice_set}
+use Rattle.std.specs.Prelude.{ℕ, ◌+◌, ◌-◌, if◌then◌else◌, Option, Some, None, is_some, List, [], ◌∷◌, ◌++◌, slice_set}
 use Rattle.jasminc_top.specs.declared.jz_leak.segment.Segment.{Segment}
 use Rattle.jasminc_top.specs.MemoryMap.{byte_from, or_else}
 

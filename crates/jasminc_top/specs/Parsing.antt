@@ -1,12 +1,11 @@
 -- The program that a list of tokens derives, and the first token at which none can be derived any more.
-use Rattle.std.specs.Prelude.{◌≡◌, ◌≢◌, ℕ, Bool, true, false, ◌&&◌, ◌||◌, not, ◌==◌, nat_le, List, [], ◌∷◌, ◌++◌, length, ◌-◌, map, codes, slice_get, Option, Some, None, All, AllPairs, Contains, ◌⊎◌}
-use Rattle.std.specs.List.{list_any, list_all}
-use Rattle.std.specs.Cmp.Lexicographic.{pointwise}
+use Rattle.std.specs.Prelude.{◌≡◌, ◌≢◌, ℕ, List, [], ◌∷◌, ◌++◌, length, ◌-◌, map, codes, slice_get, Option, Some, None, All, AllPairs, Contains, ◌⊎◌}
 use Rattle.jz_io.specs.declared.span.Span.{Span}
 use Rattle.jz_words.specs.declared.size.Size.TheVariants.{S64}
 use Rattle.jasminc_top.specs.declared.jz_lex.token.Token.{Token}
 use Rattle.jasminc_top.specs.declared.jz_lex.token.TokenKind.{TokenKind}
 use Rattle.jasminc_top.specs.declared.jz_lex.token.TokenKind.TheVariants.{Ident, Keyword, Num, Sign, End}
+use Rattle.jasminc_top.specs.LexingWords as lexeme
 use Rattle.jasminc_top.specs.declared.jz_tree.Program.{Program}
 use Rattle.jasminc_top.specs.declared.jz_tree.Decl.{Decl}
 use Rattle.jasminc_top.specs.declared.jz_tree.Var.{Var}
@@ -86,26 +85,13 @@ Derives ts p =
     × (map kind_of ts ≡ form f a b c)
     × (p ≡ tree_of ts f a b c)
 
--- a letter or `_`
-abbrev pub is_letter : ℕ → Bool
-is_letter b = (nat_le 65 b && nat_le b 90) || (nat_le 97 b && nat_le b 122) || (b == 95)
-
--- a letter, `_` or a digit
-abbrev pub is_name_byte : ℕ → Bool
-is_name_byte b = is_letter b || (nat_le 48 b && nat_le b 57)
-
--- the words that are no names
-abbrev pub reserved : List (List ℕ)
-reserved = codes "export" ∷ codes "fn" ∷ codes "reg" ∷ codes "u64" ∷ codes "return" ∷ []
-
--- what a name of a text is: letters, digits and `_`, not a digit first, and no reserved word
-abbrev pub is_name : List ℕ → Bool
-is_name [] = false
-is_name (b ∷ bs) = is_letter b && list_all is_name_byte bs && not (list_any (λ w. pointwise ◌==◌ w (b ∷ bs)) reserved)
+-- what a text may have as an identifier: a word that is no keyword
+abbrev pub IsName : List ℕ → Type 0
+IsName w = lexeme.kind_of w ≡ Ident w
 
 -- an identifier is a name of a text, or stands in front
 abbrev pub IsNameAfter : List Token → TokenKind → Type 0
-IsNameAfter front (Ident n) = (is_name n ≡ true) ⊎ Contains (map kind_of front) (Ident n)
+IsNameAfter front (Ident n) = IsName n ⊎ Contains (map kind_of front) (Ident n)
 IsNameAfter front (Keyword w) = Unit {0}
 IsNameAfter front (Num n) = Unit {0}
 IsNameAfter front (Sign s) = Unit {0}

@@ -59,6 +59,7 @@ impl MemMap {
         Ok(())
     }
 
+    /// The byte at an address, if that is valid.
     pub fn get(&self, addr: u64) -> Option<u8>
         ensures { result ≡ map.get self.now addr }
     {

@@ -1,6 +1,5 @@
-use Rattle.std.proofs.Common.{◌≡◌, ◌<◌, arith, sym, ap, ◌∙◌, true, false}
+use Rattle.std.proofs.Common.{◌≡◌, ◌<◌, arith, sym, ap, ◌∙◌}
 use Rattle.std.specs.Prelude.{is_some}
-use Rattle.std.specs.FinMap.{get}
 use Rattle.jasminc_top.proofs.MemorySpans.{none_valid, not_valid, more_valid}
 use Rattle.jasminc_top.proofs.jz_leak.mem_map.MemMap.+are_valid.Goals as goal
 

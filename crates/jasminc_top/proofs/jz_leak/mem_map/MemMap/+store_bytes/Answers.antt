@@ -1,4 +1,4 @@
-use Rattle.std.proofs.Common.{◌≡◌, ◌<◌, ◌+◌, ◌-◌, ◌%◌, ◌^◌, ◌/◌, arith, refl, sym, ap, ◌∙◌, true, if◌then◌else◌}
+use Rattle.std.proofs.Common.{◌≡◌, ◌<◌, ◌+◌, ◌-◌, ◌%◌, ◌^◌, ◌/◌, arith, refl, sym, ap, ◌∙◌, if◌then◌else◌}
 use Rattle.std.specs.FinMap.{insert}
 use Rattle.jz_words.specs.Memory.{Memory, stored, all_valid}
 use Rattle.jasminc_top.proofs.MemorySpans.{stored_more, all_valid_after, valid_parts}

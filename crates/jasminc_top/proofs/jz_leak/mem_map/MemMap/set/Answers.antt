@@ -1,9 +1,9 @@
-use Rattle.std.proofs.Common.{◌≡◌, ◌<◌, length, arith, sym, ap, ◌∙◌}
+use Rattle.std.proofs.Common.{length, arith, sym, ap, ◌∙◌}
 use Rattle.std.specs.Prelude.{is_some, slice_set}
 use Rattle.std.specs.Ordering.{nat_cmp}
 use Rattle.std.specs.FinMap as map
 use Rattle.jasminc_top.specs.declared.jz_leak.segment.Segment.{Segment}
-use Rattle.jasminc_top.specs.MemoryMapSegments.{with_byte, all_entries}
+use Rattle.jasminc_top.specs.MemoryMapSegments.{all_entries}
 use Rattle.jasminc_top.proofs.MemorySegments.{found, not_found, found_valid, found_there, found_inside, held_within, written}
 use Rattle.jasminc_top.proofs.jz_leak.mem_map.MemMap.set.Goals as goal
 

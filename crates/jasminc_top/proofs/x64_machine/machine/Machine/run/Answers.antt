@@ -1,8 +1,7 @@
-use Rattle.std.proofs.Common.{◌≡◌, ℕ, refl, sym, ap, ◌∙◌}
-use Rattle.jasminc_top.specs.declared.x64_machine.step.Step.TheVariants.{Running, Ended}
-use Rattle.jasminc_top.specs.Steps.{Config, Moved, step_of, steps_of}
-use Rattle.jasminc_top.specs.MachineRuns.{code_of, base_of, config_of, last_answer}
-use Rattle.jasminc_top.proofs.MachineRunning.{Whole, same_step, ended_first, none_made, none_answered_running, stops_at, goes_on}
+use Rattle.std.proofs.Common.{refl, sym, ap, ◌∙◌}
+use Rattle.jasminc_top.specs.Steps.{Moved}
+use Rattle.jasminc_top.specs.MachineRuns.{code_of, base_of, config_of}
+use Rattle.jasminc_top.proofs.MachineRunning.{same_step, ended_first, none_made, none_answered_running, stops_at, goes_on}
 use Rattle.jasminc_top.proofs.x64_machine.machine.Machine.run.Goals as goal
 
 pub returns-then-self-clause-answer : goal.returns-then-self-clause-answer
