@@ -23,3 +23,5 @@ pub mod MachineRunning
 pub mod AddCode
 pub mod Following
 pub mod ArgumentRegisters
+pub mod Begun
+pub mod Causes

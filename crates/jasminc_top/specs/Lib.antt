@@ -17,3 +17,5 @@ pub mod MemoryMap
 pub mod MemoryMapSegments
 pub mod MachineRuns
 pub mod Running
+pub mod Answers
+pub mod Halting

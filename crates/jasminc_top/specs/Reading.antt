@@ -1,10 +1,20 @@
--- The program that a text reads as.
+-- The program that a text reads as, and why it reads as none.
 use Rattle.std.specs.Prelude.{ℕ, List}
 use Rattle.jasminc_top.specs.declared.jz_lex.token.Token.{Token}
+use Rattle.jasminc_top.specs.declared.jz_lex.token.LexFault.{LexFault}
+use Rattle.jasminc_top.specs.declared.jz_parse.fault.SyntaxFault.{SyntaxFault}
 use Rattle.jasminc_top.specs.declared.jz_tree.Program.{Program}
-use Rattle.jasminc_top.specs.Lexing.{IsLexed}
-use Rattle.jasminc_top.specs.Parsing.{Derives}
+use Rattle.jasminc_top.specs.Lexing.{IsLexed, HasNoToken}
+use Rattle.jasminc_top.specs.Parsing.{Derives, IsUnexpected}
 
 -- the text has tokens, and the grammar derives the program from them
-abbrev pub Reads : List ℕ → Program → Type 0
+unfoldable pub Reads : List ℕ → Program → Type 0
 Reads text p = (tokens : List Token) × IsLexed text tokens × Derives tokens p
+
+-- at this place the text has no token, and before it has
+unfoldable pub LexFails : List ℕ → LexFault → Type 0
+LexFails text f = HasNoToken text f
+
+-- the text has tokens, and this is the first of them that no program goes on with
+unfoldable pub ParseFails : List ℕ → SyntaxFault → Type 0
+ParseFails text f = (tokens : List Token) × IsLexed text tokens × IsUnexpected tokens f

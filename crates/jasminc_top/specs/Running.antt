@@ -92,12 +92,10 @@ event_line (event.Div high low divisor) =
 abbrev pub result_line : State → Arg → List ℕ
 result_line st a = codes "result " ++ a.name ++ codes " " ++ word_text a.size (reg_value st a.reg) ++ codes "\n"
 
--- the events, the number of steps, and the results
-abbrev pub run_text : Compiled → Ran → ℕ → List ℕ
-run_text c ran k =
-    concat (map event_line ran.events)
-    ++ codes "end " ++ decimal k ++ codes "\n"
-    ++ concat (map (result_line ran.after.state) c.rets)
+-- the events, the number of steps, and the results in the state at the end
+abbrev pub run_text : Compiled → State → List Event → ℕ → List ℕ
+run_text c st events k =
+    concat (map event_line events) ++ codes "end " ++ decimal k ++ codes "\n" ++ concat (map (result_line st) c.rets)
 
 -- where `exec` starts a function
 abbrev pub exec_start : List ℕ → Memory → Config
@@ -110,4 +108,4 @@ pub record RunsTo (c : Compiled) (items : List ℕ) (limit : ℕ) (output : List
   pub steps : ℕ
   pub within : steps ≤ limit
   pub ends : EndsAfter c.code code_base (exec_start items memory) steps
-  pub text : output ≡ run_text c (steps_of c.code code_base (exec_start items memory) steps) steps
+  pub text : let ran = steps_of c.code code_base (exec_start items memory) steps in output ≡ run_text c ran.after.state ran.events steps

@@ -11,6 +11,7 @@ use crate::jz_leak::{Event, Events, MemMap};
 use crate::listing::{Arg, Compiled, write_number};
 use crate::x64_machine::{Machine, Step};
 use jz_data::Seq;
+use jz_io::Bytes;
 use jz_words::Size;
 use std::alloc::{AllocError, Global};
 use x64_insn::{FaultKind, FlagVal, Reg, State, StepLeak};
@@ -191,4 +192,23 @@ fn write_results(
         write_result(alloc, text, state, ret)?;
     }
     Ok(())
+}
+
+// The text of a run: the events, the number of steps, and the results.
+fn run_text(
+    alloc: Global,
+    compiled: &Compiled,
+    state: &State,
+    events: &Events,
+    steps: u64,
+) -> Result<Bytes, AllocError>
+    ensures { IfOk result (λ text. text ≡ run_text compiled.now state.now events.now steps) }
+{
+    let mut text = Vec::new(alloc);
+    write_events(alloc, &mut text, events)?;
+    text.extend_from_slice(b"end ")?;
+    write_number(&mut text, steps)?;
+    text.extend_from_slice(b"\n")?;
+    write_results(alloc, &mut text, state, &compiled.rets)?;
+    Ok(Bytes::from_vec(text))
 }

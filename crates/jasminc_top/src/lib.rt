@@ -1,6 +1,7 @@
 //! The stages from a text to bytes and their run, and the call over all of them.
 #![tactic(auto)]
 
+mod answer;
 mod compile;
 mod exec;
 pub mod jz_leak;

@@ -1,0 +1,205 @@
+-- What a command may answer: the table of causes, and the table of commands.
+use Rattle.std.specs.Prelude.{◌≡◌, ◌<◌, ◌≤◌, ◌⊎◌, ◌++◌, ℕ, List, [], length, find, Option, Some, None, IsSome, ⊤, Result, Ok, Err}
+use Rattle.std.specs.Str.{bytes_eq}
+use Rattle.jz_io.specs.Causes.{Rose}
+use Rattle.jz_io.specs.Telling.{Telling, text_of, IsWhole}
+use Rattle.jasminc_top.specs.Words.{Wanted, compile, exec, file_of}
+use Rattle.jasminc_top.specs.Reading.{Reads, LexFails, ParseFails}
+use Rattle.jasminc_top.specs.Compiling.{made_of}
+use Rattle.jasminc_top.specs.Listing.{listing_text}
+use Rattle.jasminc_top.specs.Running.{RunsTo}
+use Rattle.jasminc_top.specs.Refusals.{status_of, line_of, stage_of, all_stages}
+use Rattle.jasminc_top.specs.declared.jz_tree.Program.{Program}
+use Rattle.jasminc_top.specs.declared.jz_tree.Fun.{Fun}
+use Rattle.jasminc_top.specs.declared.listing.compiled.Compiled.{Compiled}
+use Rattle.jasminc_top.specs.declared.refusal.Status.{Status}
+use Rattle.jasminc_top.specs.declared.refusal.Status.TheVariants as status
+use Rattle.jasminc_top.specs.declared.refusal.Refusal.{Refusal}
+use Rattle.jasminc_top.specs.declared.refusal.Refusal.TheVariants.{Usage, Source, Lex, Parse, NoFunction, Items}
+use Rattle.jasminc_top.specs.declared.answer.Halt.{Halt}
+use Rattle.jasminc_top.specs.declared.answer.Halt.TheVariants.{Refused, Stopped}
+use Rattle.jasminc_top.specs.declared.answer.Reply.{Reply}
+use Rattle.jasminc_top.specs.declared.answer.Stop.TheVariants as stop
+
+-- the longest text that is read
+abbrev pub source_limit : ℕ
+source_limit = 1048576
+
+-- how many steps a run may take
+abbrev pub step_limit : ℕ
+step_limit = 1000000
+
+-- the first function with this name
+abbrev pub function_named : List ℕ → List Fun → Option Fun
+function_named name funs = find (λ f. bytes_eq f.name name) funs
+
+abbrev pub compiled_named : List ℕ → List Compiled → Option Compiled
+compiled_named name made = find (λ c. bytes_eq c.name name) made
+
+-- ---- the table of causes
+
+-- why a text is refused
+abbrev pub TextCause : List ℕ → Refusal → Type 0
+TextCause text Source = source_limit < length text
+TextCause text (Lex fault) = LexFails text fault
+TextCause text (Parse fault) = ParseFails text fault
+TextCause text _ = ⊥
+
+-- no function of the text's program has the name
+pub record HasNoFunction (text fun name : List ℕ) : Type 0 where
+  pub program : Program
+  pub reads : Reads text program
+  pub none : function_named fun program.funs ≡ None
+  pub named : name ≡ fun
+
+-- the function has another number of parameters than there are items
+pub record HasOtherItems (text fun items : List ℕ) : Type 0 where
+  pub program : Program
+  pub reads : Reads text program
+  pub function : Fun
+  pub found : function_named fun program.funs ≡ Some function
+  pub differ : length items ≡ length function.params → ⊥
+
+-- why a run of a function on items is refused
+abbrev pub ExecCause : List ℕ → List ℕ → List ℕ → Refusal → Type 0
+ExecCause fun items text (NoFunction name) = HasNoFunction text fun name
+ExecCause fun items text Items = HasOtherItems text fun items
+ExecCause fun items text Usage = ⊥
+ExecCause fun items text Source = TextCause text Source
+ExecCause fun items text (Lex fault) = TextCause text (Lex fault)
+ExecCause fun items text (Parse fault) = TextCause text (Parse fault)
+
+abbrev pub IsUsage : Refusal → Type 0
+IsUsage Usage = ⊤
+IsUsage _ = ⊥
+
+abbrev pub Cause : Option Wanted → List ℕ → Refusal → Type 0
+Cause None text = IsUsage
+Cause (Some (compile file)) text = TextCause text
+Cause (Some (exec file fun items)) text = ExecCause fun items text
+
+-- no stage before this one has a cause
+abbrev pub Clear : (Refusal → Type 0) → ℕ → Type 0
+Clear causes stage = (r : Refusal) → stage_of r < stage → causes r → ⊥
+
+-- the first cause
+pub record IsFirstCause (causes : Refusal → Type 0) (r : Refusal) : Type 0 where
+  pub cause : causes r
+  pub first : Clear causes (stage_of r)
+
+-- ---- the table of commands: status, output and what is made where nothing refuses
+
+-- the functions of the text's program, and their listing
+pub record GivesListing (text : List ℕ) (s : Status) (output : List ℕ) (made : List Compiled) : Type 0 where
+  pub program : Program
+  pub reads : Reads text program
+  pub made_is : made ≡ made_of program
+  pub output_is : output ≡ listing_text made
+  pub ok : s ≡ status.Ok
+
+-- the functions of the text's program, and the run of one of them on the items
+pub record GivesRun (text fun items : List ℕ) (s : Status) (output : List ℕ) (made : List Compiled) : Type 0 where
+  pub program : Program
+  pub reads : Reads text program
+  pub made_is : made ≡ made_of program
+  pub compiled : Compiled
+  pub found : compiled_named fun made ≡ Some compiled
+  pub runs : RunsTo compiled items step_limit output
+  pub ok : s ≡ status.Ok
+
+abbrev pub Gives : Wanted → List ℕ → Status → List ℕ → List Compiled → Type 0
+Gives (compile file) text s output made = GivesListing text s output made
+Gives (exec file fun items) text s output made = GivesRun text fun items s output made
+
+-- ---- what is due
+
+-- the first cause, with its status and line
+pub record IsRefused (wish : Option Wanted) (text : List ℕ) (s : Status) (output : List ℕ) (made : List Compiled) : Type 0 where
+  pub refusal : Refusal
+  pub cause : Cause wish text refusal
+  pub first : Clear (Cause wish text) (stage_of refusal)
+  pub status : s ≡ status_of refusal
+  pub line : output ≡ line_of refusal
+  pub none : made ≡ []
+
+-- no cause, and what the command gives
+pub record IsDone (wish : Option Wanted) (text : List ℕ) (s : Status) (output : List ℕ) (made : List Compiled) : Type 0 where
+  pub command : Wanted
+  pub is : wish ≡ Some command
+  pub clear : Clear (Cause wish text) all_stages
+  pub gives : Gives command text s output made
+
+abbrev pub Answers : Option Wanted → List ℕ → Status → List ℕ → List Compiled → Type 0
+Answers wish text s output made = IsRefused wish text s output made ⊎ IsDone wish text s output made
+
+-- ---- the source
+
+-- what the source tells of a file, if it tells anything
+abbrev pub HasFile : List ℕ → Option Telling → List ℕ → Type 0
+HasFile file None text = ⊤
+HasFile file (Some told) text = text_of told.texts file ≡ Some text
+
+abbrev pub IsLongFile : List ℕ → Option Telling → Type 0
+IsLongFile file told = (text : List ℕ) × HasFile file told text × (source_limit < length text)
+
+-- a file that is there wasn't missed
+abbrev pub IsNotMissed : List ℕ → Option Telling → Option Telling → Type 0
+IsNotMissed file None new = ⊤
+IsNotMissed file (Some old) None = ⊥
+IsNotMissed file (Some old) (Some new) = IsSome (text_of old.texts file) → new.missed ≡ old.missed
+
+-- the text of the command's file; without a command there is none
+abbrev pub HasText : Option Wanted → Option Telling → List ℕ → Type 0
+HasText None told text = text ≡ []
+HasText (Some wish) told text = HasFile (file_of wish) told text
+
+-- a fault of reading: of a command, counted, with no name missed that is there
+abbrev pub Faulted : Option Wanted → Option Telling → Option Telling → ℕ → ℕ → Type 0
+Faulted None old new before now = ⊥
+Faulted (Some wish) old new before now = Rose before now × IsNotMissed (file_of wish) old new
+
+abbrev pub IsNoCommand : Option Wanted → Type 0
+IsNoCommand None = ⊤
+IsNoCommand (Some wish) = ⊥
+
+-- the source is at its end, unless the words or the length refuse
+abbrev pub IsRead : Option Wanted → List ℕ → Option Telling → Type 0
+IsRead wish text new = IsWhole new ⊎ IsNoCommand wish ⊎ Cause wish text Source
+
+-- a stage refuses at the first cause, or stops
+abbrev pub Halts : Option Wanted → Option Telling → Option Telling → ℕ → ℕ → Halt → Type 0
+Halts wish old new before now (Refused r) = (text : List ℕ) × HasText wish old text × IsFirstCause (Cause wish text) r
+    × IsRead wish text new × (now ≡ before)
+Halts wish old new before now (Stopped stop.Fault) = Faulted wish old new before now
+Halts wish old new before now (Stopped stop.Memory) = ⊤
+
+-- what is due by the text of the file
+pub record IsDue (wish : Option Wanted) (old new : Option Telling) (s : Status) (output : List ℕ) (made : List Compiled) : Type 0 where
+  pub text : List ℕ
+  pub has : HasText wish old text
+  pub answers : Answers wish text s output made
+  pub read : IsRead wish text new
+
+-- how the reading of a file ends a command
+abbrev pub FileHalts : List ℕ → Option Telling → Option Telling → ℕ → ℕ → Halt → Type 0
+FileHalts file old new before now (Refused Source) = IsLongFile file old × (now ≡ before)
+FileHalts file old new before now (Refused r) = ⊥
+FileHalts file old new before now (Stopped stop.Fault) = Rose before now × IsNotMissed file old new
+FileHalts file old new before now (Stopped stop.Memory) = ⊤
+
+-- how the stages of a text end a command
+abbrev pub TextHalts : (Refusal → Type 0) → Halt → Type 0
+TextHalts causes (Refused r) = IsFirstCause causes r
+TextHalts causes (Stopped stop.Fault) = ⊥
+TextHalts causes (Stopped stop.Memory) = ⊤
+
+-- what the stages after the reading make of a text
+abbrev pub After : Option Wanted → List ℕ → Result Reply Halt → Type 0
+After wish text (Ok reply) = IsDone wish text reply.status reply.text reply.made
+After wish text (Err halt) = TextHalts (Cause wish text) halt
+
+-- what all stages make of the words
+abbrev pub Performs : Option Wanted → Option Telling → Option Telling → ℕ → ℕ → Result Reply Halt → Type 0
+Performs wish old new before now (Ok reply) = (text : List ℕ) × HasText wish old text
+    × IsDone wish text reply.status reply.text reply.made × IsRead wish text new × (now ≡ before)
+Performs wish old new before now (Err halt) = Halts wish old new before now halt

@@ -1,0 +1,17 @@
+-- How a failure of the lexer or the parser ends a command.
+use Rattle.jz_data.specs.declared.failure.Failure.{Failure}
+use Rattle.jz_data.specs.declared.failure.Failure.TheVariants as failure
+use Rattle.jasminc_top.specs.declared.jz_lex.token.LexFault.{LexFault}
+use Rattle.jasminc_top.specs.declared.jz_parse.fault.SyntaxFault.{SyntaxFault}
+use Rattle.jasminc_top.specs.declared.refusal.Refusal.TheVariants.{Lex, Parse}
+use Rattle.jasminc_top.specs.declared.answer.Halt.{Halt}
+use Rattle.jasminc_top.specs.declared.answer.Halt.TheVariants.{Refused, Stopped}
+use Rattle.jasminc_top.specs.declared.answer.Stop.TheVariants.{Memory}
+
+abbrev pub lexer_halt : Failure LexFault → Halt
+lexer_halt (failure.Refused fault) = Refused (Lex fault)
+lexer_halt failure.OutOfMemory = Stopped Memory
+
+abbrev pub parser_halt : Failure SyntaxFault → Halt
+parser_halt (failure.Refused fault) = Refused (Parse fault)
+parser_halt failure.OutOfMemory = Stopped Memory

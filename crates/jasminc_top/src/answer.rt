@@ -1,0 +1,148 @@
+// From the words and the source to what is due: a reply, or a stop that has no memory to say more.
+ghost use Rattle.std.specs.Prelude.{◌≡◌, ◌≤◌, ℕ, List, Some, IfOk, IfErr, OnOk, IsErrOf, length, map, string_bytes, find};
+ghost use Rattle.std.specs.Option.{option_copied};
+ghost use Rattle.jz_io.specs.Causes.{Rose};
+ghost use Rattle.jz_io.specs.Telling.{IsWhole};
+ghost use Rattle.jasminc_top.specs.Words.{texts_of, wanted, wanted_of, compile, exec};
+ghost use Rattle.jasminc_top.specs.Reading.{Reads};
+ghost use Rattle.jasminc_top.specs.Answers.{source_limit, function_named, compiled_named, TextCause, TextHalts, FileHalts, HasFile, IsLongFile, IsNotMissed, IsDue, Faulted, After, Performs};
+
+use crate::compile::compile_program;
+use crate::jz_lex::{LexFault, lex};
+use crate::jz_parse::{SyntaxFault, parse};
+use crate::jz_tree::{Fun, Program};
+use crate::listing::{Compiled, listing};
+use crate::refusal::{Refusal, Status};
+use crate::words::{Request, request_of};
+use jz_data::{Failure, Seq, Text};
+use jz_io::{Bytes, ReadRefused, Source, read_all};
+use std::alloc::{AllocError, Global};
+
+const SOURCE_LIMIT: usize = 1_048_576;
+
+/// What is due: a status, the text to write, and what was made.
+#[derive(Drop)]
+pub struct Reply {
+    pub status: Status,
+    pub text: Bytes,
+    pub made: Seq<Compiled>,
+}
+
+/// What stops a command without a reply of its own.
+#[derive(Clone, Copy, Debug, PartialEq, Eq)]
+pub enum Stop {
+    Fault,
+    Memory,
+}
+
+/// A stage refuses, or stops.
+#[derive(Drop)]
+pub enum Halt {
+    Refused(Refusal),
+    Stopped(Stop),
+}
+
+impl From<AllocError> for Halt {
+    ghost use Rattle.std.specs.Prelude.{◌≡◌};
+    ghost use Rattle.jasminc_top.specs.declared.answer.Halt.TheVariants.{Stopped};
+    ghost use Rattle.jasminc_top.specs.declared.answer.Stop.TheVariants.{Memory};
+
+    ghost from_gives = { λ _ e. e ≡ Stopped Memory };
+
+    fn from(_: AllocError) -> Self {
+        Halt::Stopped(Stop::Memory)
+    }
+}
+
+impl From<Failure<LexFault>> for Halt {
+    ghost use Rattle.std.specs.Prelude.{◌≡◌};
+    ghost use Rattle.jasminc_top.specs.Halting.{lexer_halt};
+
+    ghost from_gives = { λ failure halt. halt ≡ lexer_halt failure };
+
+    fn from(failure: Failure<LexFault>) -> Self {
+        match failure {
+            Failure::Refused(fault) => Halt::Refused(Refusal::Lex(fault)),
+            Failure::OutOfMemory => Halt::Stopped(Stop::Memory),
+        }
+    }
+}
+
+impl From<Failure<SyntaxFault>> for Halt {
+    ghost use Rattle.std.specs.Prelude.{◌≡◌};
+    ghost use Rattle.jasminc_top.specs.Halting.{parser_halt};
+
+    ghost from_gives = { λ failure halt. halt ≡ parser_halt failure };
+
+    fn from(failure: Failure<SyntaxFault>) -> Self {
+        match failure {
+            Failure::Refused(fault) => Halt::Refused(Refusal::Parse(fault)),
+            Failure::OutOfMemory => Halt::Stopped(Stop::Memory),
+        }
+    }
+}
+
+// The text of a file, up to the limit.
+fn read_text<S: Source>(alloc: Global, src: &mut S, file: &str) -> Result<Bytes, ReadRefused>
+    ensures text { IfOk result (λ text. HasFile file.now (S.told src.old) text × (length text ≤ source_limit)) }
+    ensures whole { OnOk result (IsWhole (S.told src.new) × (S.faults src.new ≡ S.faults src.old)) }
+    ensures long { IsErrOf result ReadRefused.TooLong → IsLongFile file.now (S.told src.old) × (S.faults src.new ≡ S.faults src.old) }
+    ensures fault { IsErrOf result ReadRefused.Fault → Rose (S.faults src.old) (S.faults src.new) × IsNotMissed file.now (S.told src.old) (S.told src.new) }
+{
+    match src.begin(file) {
+        Ok(()) => read_all(alloc, src, SOURCE_LIMIT),
+        Err(_) => Err(ReadRefused::Fault),
+    }
+}
+
+// The text of a command's file, or the end of the command.
+fn file_text<S: Source>(alloc: Global, src: &mut S, file: &str) -> Result<Bytes, Halt>
+    ensures text { IfOk result (λ text. HasFile file.now (S.told src.old) text × (length text ≤ source_limit)) }
+    ensures whole { OnOk result (IsWhole (S.told src.new) × (S.faults src.new ≡ S.faults src.old)) }
+    ensures halt { IfErr result (FileHalts file.now (S.told src.old) (S.told src.new) (S.faults src.old) (S.faults src.new)) }
+{
+    match read_text(alloc, src, file) {
+        Ok(text) => Ok(text),
+        Err(ReadRefused::Fault) => Err(Halt::Stopped(Stop::Fault)),
+        Err(ReadRefused::TooLong) => Err(Halt::Refused(Refusal::Source)),
+        Err(ReadRefused::OutOfMemory) => Err(Halt::Stopped(Stop::Memory)),
+    }
+}
+
+// The program that a text reads as.
+fn read_program(alloc: Global, text: &[u8]) -> Result<Program, Halt>
+    requires { length text.now ≤ source_limit }
+    ensures program { IfOk result (λ program. Reads text.now program) }
+    ensures halt { IfErr result (TextHalts (TextCause text.now)) }
+{
+    let tokens = lex(alloc, text)?;
+    Ok(parse(alloc, &tokens)?)
+}
+
+// The listing of a text's functions.
+fn compile_text(alloc: Global, file: &str, text: &[u8]) -> Result<Reply, Halt>
+    requires { length text.now ≤ source_limit }
+    ensures { After (Some (compile file.now)) text.now result }
+{
+    let program = read_program(alloc, text)?;
+    let made = compile_program(alloc, &program)?;
+    let listing = listing(alloc, made.as_slice())?;
+    Ok(Reply {
+        status: Status::Ok,
+        text: listing,
+        made,
+    })
+}
+
+// The first function with this name.
+fn function_named<'a>(funs: &'a [Fun], name: &str) -> Option<&'a Fun>
+    ensures { option_copied result ≡ function_named name.now funs.now }
+{
+    funs.iter().find(|fun| fun.name.as_str() == name)
+}
+
+fn compiled_named<'a>(made: &'a [Compiled], name: &str) -> Option<&'a Compiled>
+    ensures { option_copied result ≡ compiled_named name.now made.now }
+{
+    made.iter().find(|compiled| compiled.name.as_str() == name)
+}
