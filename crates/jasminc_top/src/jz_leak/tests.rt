@@ -1,3 +1,5 @@
+//! Bytes by their addresses.
+
 use crate::jz_leak::MemMap;
 use jz_words::Size;
 use std::test::Fail;

@@ -1,3 +1,5 @@
+//! Why tokens derive no program.
+
 use jz_io::Span;
 
 /// Why tokens derive no program.

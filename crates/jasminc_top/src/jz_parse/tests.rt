@@ -1,3 +1,5 @@
+//! The form, and the first token that is refused.
+
 use crate::jz_lex::{Token, TokenKind, Tokens};
 use crate::jz_parse::{SyntaxFault, SyntaxKind, parse};
 use crate::jz_tree::{Lval, Program, StmtKind};

@@ -1,3 +1,5 @@
+//! The memory of a machine behind a bus.
+
 ghost use Rattle.std.specs.Prelude.{◌≡◌};
 
 use crate::jz_leak::MemMap;

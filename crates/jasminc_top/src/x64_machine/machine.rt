@@ -1,6 +1,8 @@
+//! The machine: its start, a step, and a run.
+
 ghost use Rattle.std.specs.Prelude.{◌≡◌, IfOk};
 ghost use Rattle.jasminc_top.specs.Steps.{at_entry, insn_at, step_of, steps_of};
-ghost use Rattle.jasminc_top.specs.MachineRuns.{code_of, base_of, config_of, start_of, SameCode, last_answer, Starts};
+ghost use Rattle.jasminc_top.specs.MachineRuns.{code_of, base_of, config_of, SameCode, last_answer, Starts};
 
 use crate::jz_leak::MemMap;
 use crate::x64_decode::{Decoded, decode};

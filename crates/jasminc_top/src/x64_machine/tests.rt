@@ -1,3 +1,5 @@
+//! A run to the return, and a fault outside the code.
+
 use crate::jz_leak::MemMap;
 use crate::x64_machine::{Machine, Step};
 use std::alloc::{AllocError, Global};
