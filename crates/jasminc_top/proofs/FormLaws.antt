@@ -13,7 +13,7 @@ use Rattle.jasminc_top.specs.declared.jz_tree.Program.{Program}
 use Rattle.jasminc_top.specs.declared.jz_parse.fault.SyntaxFault.{SyntaxFault}
 use Rattle.jasminc_top.specs.declared.jz_parse.form.TheConstants.{FORM}
 use Rattle.jasminc_top.specs.Parsing.{form, tree_of, kind_of, span_at, span_or_start, Derives, Begins, IsNameAfter, IsRefused, IsUnexpected}
-use Rattle.jasminc_top.specs.ParsingForm.{follow, name_in, IsFaultAt}
+use Rattle.jasminc_top.specs.ParsingForm.{follow, name_in, IsFaultAt, is_end}
 use Rattle.jasminc_top.proofs.Differing.{Different, In, all_of_each, each_weaker, pairs_of_different, different_of_pairs, contains_of_in}
 use Rattle.jasminc_top.proofs.FormRuns.{Place, fixed, known, fresh, places, Run, Stuck, Stops, stops_of_follow, run_of_follow}
 use Rattle.jasminc_top.proofs.FormKinds.{kinds, opens, Known, Rest, Before, After, Halves, finish, complete, glue, run_well, run_plain, run_different, run_names, run_unique, run_halves, places_well, places_plain}
@@ -281,3 +281,74 @@ one_fault_lem ts f g u v =
     fault_same : (f g : SyntaxFault) → f.kind ≡ g.kind → f.token ≡ g.token → f.span ≡ g.span → f ≡ g
     fault_same f g k t s =
         ap (λ x. record f { kind = x }) k ∙ ap (λ x. record f { kind = g.kind; token = x }) t ∙ ap (λ x. record g { span = x }) s
+
+-- ---- an end token stands last
+
+no_more : List TokenKind → Bool
+no_more [] = true
+no_more (k ∷ ks) = false
+
+-- nothing comes behind an end token
+abbrev ends_once : List TokenKind → Bool
+ends_once [] = true
+ends_once (k ∷ ks) = if is_end k then no_more ks else ends_once ks
+
+not_empty : (xs ys : List TokenKind) (y : TokenKind) → no_more (xs ++ y ∷ ys) ≡ false
+unfolding no_more
+not_empty [] ys y = refl
+not_empty (x ∷ xs) ys y = refl
+
+no_more_empty : (ks : List TokenKind) → no_more ks ≡ true → ks ≡ []
+unfolding no_more
+no_more_empty [] h = refl
+no_more_empty (k ∷ ks) h = cc
+
+true_or_false : true ≡ false → ⊥
+true_or_false h = cc
+
+by_kind : (xs ys : List TokenKind) (b : Bool) → (ends_once (xs ++ End ∷ ys) ≡ true → ys ≡ [])
+    → (if b then no_more (xs ++ End ∷ ys) else ends_once (xs ++ End ∷ ys)) ≡ true → ys ≡ []
+by_kind xs ys true more h = absurd (true_or_false (sym h ∙ not_empty xs ys End))
+by_kind xs ys false more h = more h
+
+after_end : (xs ys : List TokenKind) → ends_once (xs ++ End ∷ ys) ≡ true → ys ≡ []
+after_end [] ys h = no_more_empty ys h
+after_end (x ∷ xs) ys h = by_kind xs ys (is_end x) (after_end xs ys) h
+
+form_ends_once : (f a b c : List ℕ) → ends_once (form f a b c) ≡ true
+unfolding no_more
+form_ends_once f a b c = refl
+
+no_tokens : (ts : List Token) → map kind_of ts ≡ [] → ts ≡ []
+no_tokens [] h = refl
+no_tokens (t ∷ ts) h = cc
+
+-- what ends in an end token and begins a program is that program
+ended_program : (front more : List Token) (last : Token) (p : Program) → last.kind ≡ End → Derives ((front ++ last ∷ []) ++ more) p
+    → Derives (front ++ last ∷ []) p
+ended_program front more last p is d =
+    let split : map kind_of ((front ++ last ∷ []) ++ more) ≡ map kind_of front ++ last.kind ∷ map kind_of more =
+    ap (map kind_of) (append_assoc front (last ∷ []) more) ∙ map-append kind_of front (last ∷ more)
+    in let whole : form d.0 d.1 d.2 d.3 ≡ map kind_of front ++ End ∷ map kind_of more =
+    sym d.5 ∙ split ∙ ap (λ k. map kind_of front ++ k ∷ map kind_of more) is
+    in let none : more ≡ [] =
+    no_tokens more (after_end (map kind_of front) (map kind_of more)
+    (subst (λ ks. ends_once ks ≡ true) whole (form_ends_once d.0 d.1 d.2 d.3)))
+    in subst (λ x. Derives x p) (append-nil (front ++ last ∷ [])) (subst (λ x. Derives ((front ++ last ∷ []) ++ x) p) none d)
+
+-- where the tokens end in an end token, a fault is at one of them
+pub at_a_token : (front : List Token) (last : Token) (fault : SyntaxFault) → last.kind ≡ End → IsUnexpected (front ++ last ∷ []) fault
+    → fault.token < length (front ++ last ∷ [])
+at_a_token front last fault is u = by_rest u.0 u.1 u.2 u.3 u.4 u.5
+  where
+    by_rest : (before rest : List Token) → front ++ last ∷ [] ≡ before ++ rest → length before ≡ fault.token → Begins before
+        → IsRefused before rest fault.span → fault.token < length (front ++ last ∷ [])
+    by_rest before [] e n b r =
+        let same : before ≡ front ++ last ∷ [] = sym (append-nil before) ∙ sym e
+        in let whole : Derives (front ++ last ∷ []) b.1 =
+        ended_program front b.0 last b.1 is (subst (λ x. Derives (x ++ b.0) b.1) same b.2)
+        in absurd (r.0 b.1 (subst (λ x. Derives x b.1) (sym same) whole))
+    by_rest before (t ∷ rest) e n b r =
+        let count : length (front ++ last ∷ []) ≡ length (before ++ t ∷ rest) = ap length e
+        in let longer_than : length before < length (before ++ t ∷ rest) = longer before t rest
+        in omega arith

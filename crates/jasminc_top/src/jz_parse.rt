@@ -9,4 +9,4 @@ mod tests;
 mod tree;
 
 pub use fault::{SyntaxFault, SyntaxKind};
-pub use read::{no_fault_of_a_program, one_fault, one_program, parse};
+pub use read::{a_fault_is_at_a_token, no_fault_of_a_program, one_fault, one_program, parse};

@@ -1,6 +1,7 @@
 //! Following the form token by token.
 
-ghost use Rattle.std.specs.Prelude.{◌≡◌, [], List, IfOk};
+ghost use Rattle.std.specs.Prelude.{◌≡◌, ◌<◌, [], ◌∷◌, ◌++◌, List, IfOk, length};
+ghost use Rattle.jasminc_top.specs.declared.jz_lex.token.TokenKind.TheVariants.{End};
 ghost use Rattle.jasminc_top.specs.declared.jz_lex.token.Token.{Token};
 ghost use Rattle.jasminc_top.specs.Parsing.{Derives, IsUnexpected};
 ghost use Rattle.jasminc_top.specs.ParsingForm.{follow, IsFollowed, IsFaultAt};
@@ -74,4 +75,9 @@ pub fn no_fault_of_a_program()
 /// The tokens have one fault at most.
 pub fn one_fault()
     ensures { (tokens : List Token) (fault other : SyntaxFault) → IsUnexpected tokens fault → IsUnexpected tokens other → fault ≡ other }
+{}
+
+/// Where an end token stands last, a fault is at one of the tokens.
+pub fn a_fault_is_at_a_token()
+    ensures { (front : List Token) (last : Token) (fault : SyntaxFault) → last.kind ≡ End → IsUnexpected (front ++ last ∷ []) fault → fault.token < length (front ++ last ∷ []) }
 {}
