@@ -25,3 +25,6 @@ pub mod Following
 pub mod ArgumentRegisters
 pub mod Begun
 pub mod Causes
+pub mod StepRuns
+pub mod AddRun
+pub mod ExecStart
