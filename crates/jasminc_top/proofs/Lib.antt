@@ -28,3 +28,4 @@ pub mod Causes
 pub mod StepRuns
 pub mod AddRun
 pub mod ExecStart
+pub mod Rows
