@@ -1,6 +1,7 @@
 -- Causes, and what excludes them.
-use Rattle.std.proofs.Common.{◌≡◌, ℕ, ◌<◌, ◌≤◌, List, length, sym, ◌∙◌, arith, Option, Some, None, subst, ap, refl}
-use Rattle.std.specs.Prelude.{⊤}
+use Rattle.std.proofs.Common.{◌≡◌, ℕ, ◌<◌, ◌≤◌, List, length, sym, ◌∙◌, arith, [], ◌∷◌, Option, Some, None, subst, ap, refl, Bool, true, false}
+use Rattle.std.specs.Prelude.{map, IsSome}
+use Rattle.std.specs.Str.{bytes_eq}
 use Rattle.jasminc_top.specs.declared.jz_lex.token.Token.{Token}
 use Rattle.jasminc_top.specs.declared.jz_lex.token.LexFault.{LexFault}
 use Rattle.jasminc_top.specs.declared.jz_parse.fault.SyntaxFault.{SyntaxFault}
@@ -15,12 +16,16 @@ use Rattle.jasminc_top.specs.Lexing.{IsLexed, HasNoToken, IfRefused}
 use Rattle.jasminc_top.specs.Parsing.{Derives, IsUnexpected}
 use Rattle.jasminc_top.specs.Reading.{Reads, LexFails, ParseFails}
 use Rattle.jasminc_top.specs.Refusals.{stage_of, all_stages}
-use Rattle.jasminc_top.specs.Words.{compile}
-use Rattle.jasminc_top.specs.Compiling.{made_of}
+use Rattle.jasminc_top.specs.Words.{compile, exec}
+use Rattle.jasminc_top.specs.Compiling.{made_of, compiled_of}
 use Rattle.jasminc_top.specs.Listing.{listing_text}
 use Rattle.jasminc_top.specs.declared.listing.compiled.Compiled.{Compiled}
+use Rattle.jasminc_top.specs.declared.refusal.Status.{Status}
 use Rattle.jasminc_top.specs.declared.refusal.Status.TheVariants as status
-use Rattle.jasminc_top.specs.Answers.{source_limit, function_named, TextCause, TextHalts, ExecCause, HasNoFunction, HasOtherItems, Clear, IsFirstCause, IsDone}
+use Rattle.jasminc_top.specs.declared.answer.Halt.{Halt}
+use Rattle.jasminc_top.specs.declared.answer.Halt.TheVariants.{Refused, Stopped}
+use Rattle.jasminc_top.specs.declared.answer.Stop.TheVariants as stop
+use Rattle.jasminc_top.specs.Answers.{source_limit, function_named, compiled_named, RunsProgram, TextCause, TextHalts, ExecCause, HasNoFunction, HasOtherItems, Clear, IsFirstCause, IsDone}
 use Rattle.jasminc_top.proofs.LexingUnique.{one_lexing, lexed_or_refused}
 use Rattle.jasminc_top.proofs.FormLaws.{one_program_lem, no_fault_lem}
 
@@ -195,3 +200,36 @@ listing_done file text p output made short a m o = record {
   clear = text_clear text p short a;
   gives = record { program = p; reads = a; made_is = m; output_is = o; ok = refl };
 }
+
+-- what `exec` gives
+pub run_done : (file fun items text : List ℕ) (p : Program) (f : Fun) (s : Status) (output : List ℕ) (made : List Compiled)
+    → length text ≤ source_limit → Reads text p → function_named fun p.funs ≡ Some f → length items ≡ length f.params
+    → RunsProgram p fun items s output made → IsDone (Some (exec file fun items)) text s output made
+run_done file fun items text p f s output made short a found count run = record {
+  command = exec file fun items;
+  is = refl;
+  clear = exec_clear text fun items p f short a found count;
+  gives = record { program = p; reads = a; run = run };
+}
+
+-- how a text that is refused ends a run
+pub exec_halts : (text fun items : List ℕ) (h : Halt) → TextHalts (TextCause text) h → TextHalts (ExecCause fun items text) h
+exec_halts text fun items (Refused r) h = exec_first text fun items r h
+exec_halts text fun items (Stopped stop.Fault) h = h
+exec_halts text fun items (Stopped stop.Memory) h = h
+
+-- the compiled function of a name is the function of that name, compiled
+pub compiled_found : (name : List ℕ) (funs : List Fun) (f : Fun) → function_named name funs ≡ Some f
+    → compiled_named name (map compiled_of funs) ≡ Some (compiled_of f)
+compiled_found name [] f h = cc
+compiled_found name (g ∷ gs) f h = by_name (bytes_eq g.name name) refl (compiled_found name gs f)
+  where
+    by_name : (b : Bool) → bytes_eq g.name name ≡ b
+        → (function_named name gs ≡ Some f → compiled_named name (map compiled_of gs) ≡ Some (compiled_of f))
+        → compiled_named name (map compiled_of (g ∷ gs)) ≡ Some (compiled_of f)
+    by_name true e rest = rw e (let here : Some g ≡ Some f = rw e at h in let same : g ≡ f = cc in ap (λ (x : Fun). Some (compiled_of x)) same)
+    by_name false e rest = rw e (rest (rw e at h))
+
+pub some_function : (o : Option Fun) → IsSome o → (f : Fun) × (o ≡ Some f)
+some_function None h = cc
+some_function (Some f) h = (f, refl)

@@ -25,3 +25,7 @@ pub mod Following
 pub mod ArgumentRegisters
 pub mod Begun
 pub mod Causes
+pub mod StepRuns
+pub mod AddRun
+pub mod ExecStart
+pub mod Rows

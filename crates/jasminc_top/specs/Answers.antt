@@ -97,15 +97,19 @@ pub record GivesListing (text : List ℕ) (s : Status) (output : List ℕ) (made
   pub output_is : output ≡ listing_text made
   pub ok : s ≡ status.Ok
 
--- the functions of the text's program, and the run of one of them on the items
-pub record GivesRun (text fun items : List ℕ) (s : Status) (output : List ℕ) (made : List Compiled) : Type 0 where
-  pub program : Program
-  pub reads : Reads text program
+-- the functions of a program, and the run of one of them on the items
+pub record RunsProgram (program : Program) (fun items : List ℕ) (s : Status) (output : List ℕ) (made : List Compiled) : Type 0 where
   pub made_is : made ≡ made_of program
   pub compiled : Compiled
   pub found : compiled_named fun made ≡ Some compiled
   pub runs : RunsTo compiled items step_limit output
   pub ok : s ≡ status.Ok
+
+-- the same of the text's program
+pub record GivesRun (text fun items : List ℕ) (s : Status) (output : List ℕ) (made : List Compiled) : Type 0 where
+  pub program : Program
+  pub reads : Reads text program
+  pub run : RunsProgram program fun items s output made
 
 abbrev pub Gives : Wanted → List ℕ → Status → List ℕ → List Compiled → Type 0
 Gives (compile file) text s output made = GivesListing text s output made

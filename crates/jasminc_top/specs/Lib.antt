@@ -19,3 +19,4 @@ pub mod MachineRuns
 pub mod Running
 pub mod Answers
 pub mod Halting
+pub mod Runs

@@ -1,13 +1,14 @@
 // From the words and the source to what is due: a reply, or a stop that has no memory to say more.
-ghost use Rattle.std.specs.Prelude.{◌≡◌, ◌≤◌, ℕ, List, Some, IfOk, IfErr, OnOk, IsErrOf, length, map, string_bytes, find};
+ghost use Rattle.std.specs.Prelude.{◌≡◌, ◌≤◌, ℕ, List, Some, IfOk, IfErr, OnOk, IsErrOf, IsSome, length, find};
 ghost use Rattle.std.specs.Option.{option_copied};
 ghost use Rattle.jz_io.specs.Causes.{Rose};
 ghost use Rattle.jz_io.specs.Telling.{IsWhole};
 ghost use Rattle.jasminc_top.specs.Words.{texts_of, wanted, wanted_of, compile, exec};
 ghost use Rattle.jasminc_top.specs.Reading.{Reads};
-ghost use Rattle.jasminc_top.specs.Answers.{source_limit, function_named, compiled_named, TextCause, TextHalts, FileHalts, HasFile, IsLongFile, IsNotMissed, IsDue, Faulted, After, Performs};
+ghost use Rattle.jasminc_top.specs.Answers.{source_limit, function_named, compiled_named, TextCause, TextHalts, FileHalts, RunsProgram, HasFile, IsLongFile, IsNotMissed, IsDue, Faulted, After, Performs};
 
 use crate::compile::compile_program;
+use crate::exec::exec_text;
 use crate::jz_lex::{LexFault, lex};
 use crate::jz_parse::{SyntaxFault, parse};
 use crate::jz_tree::{Fun, Program};
@@ -145,4 +146,91 @@ fn compiled_named<'a>(made: &'a [Compiled], name: &str) -> Option<&'a Compiled>
     ensures { option_copied result ≡ compiled_named name.now made.now }
 {
     made.iter().find(|compiled| compiled.name.as_str() == name)
+}
+
+// The run of a program's function on items.
+fn run_reply(
+    alloc: Global,
+    program: &Program,
+    fun: &str,
+    items: &[u64],
+) -> Result<Reply, AllocError>
+    requires { IsSome (function_named fun.now program.now.funs) }
+    ensures { IfOk result (λ reply. RunsProgram program.now fun.now items.now reply.status reply.text reply.made) }
+{
+    let made = compile_program(alloc, program)?;
+    let Some(compiled) = compiled_named(made.as_slice(), fun) else {
+        unreachable!()
+    };
+    let text = exec_text(alloc, compiled, items)?;
+    Ok(Reply {
+        status: Status::Ok,
+        text,
+        made,
+    })
+}
+
+// The run of a text's function on items.
+fn exec_reply(
+    alloc: Global,
+    file: &str,
+    fun: &str,
+    items: &[u64],
+    text: &[u8],
+) -> Result<Reply, Halt>
+    requires { length text.now ≤ source_limit }
+    ensures { After (Some (exec file.now fun.now items.now)) text.now result }
+{
+    let program = read_program(alloc, text)?;
+    let Some(function) = function_named(program.funs.as_slice(), fun) else {
+        let name = Text::from_string(String::from_str(alloc, fun)?);
+        return Err(Halt::Refused(Refusal::NoFunction(name)));
+    };
+    if items.len() != function.params.len() {
+        return Err(Halt::Refused(Refusal::Items));
+    }
+    Ok(run_reply(alloc, &program, fun, items)?)
+}
+
+// A request, from the reading on.
+fn perform<S: Source>(alloc: Global, request: Request<'_>, src: &mut S) -> Result<Reply, Halt>
+    ensures { Performs (Some (wanted_of request.entry)) (S.told src.old) (S.told src.new) (S.faults src.old) (S.faults src.new) result }
+{
+    let text = file_text(alloc, src, request.file())?;
+    match request {
+        Request::Compile { file } => compile_text(alloc, file, text.as_slice()),
+        Request::Exec { file, fun, items } => {
+            exec_reply(alloc, file, fun, items.as_slice(), text.as_slice())
+        }
+    }
+}
+
+// The stages in their order: each refuses, stops or goes on.
+fn stages<S: Source>(alloc: Global, words: &[String], src: &mut S) -> Result<Reply, Halt>
+    ensures { Performs (wanted (texts_of words.now)) (S.told src.old) (S.told src.new) (S.faults src.old) (S.faults src.new) result }
+{
+    match request_of(alloc, words)? {
+        Some(request) => perform(alloc, request, src),
+        None => Err(Halt::Refused(Refusal::Usage)),
+    }
+}
+
+/// What is due, the lines of refusals among it.
+pub fn answer<S: Source>(alloc: Global, words: &[String], src: &mut S) -> Result<Reply, Stop>
+    ensures due { IfOk result (λ reply. IsDue (wanted (texts_of words.now)) (S.told src.old) (S.told src.new) reply.status reply.text reply.made
+        × (S.faults src.new ≡ S.faults src.old)) }
+    ensures fault { IsErrOf result Stop.Fault → Faulted (wanted (texts_of words.now)) (S.told src.old) (S.told src.new) (S.faults src.old) (S.faults src.new) }
+{
+    match stages(alloc, words, src) {
+        Ok(reply) => Ok(reply),
+        Err(Halt::Stopped(stop)) => Err(stop),
+        Err(Halt::Refused(refusal)) => match refusal.line(alloc) {
+            Ok(line) => Ok(Reply {
+                status: refusal.status(),
+                text: Bytes::from_vec(line),
+                made: Seq::new(alloc),
+            }),
+            Err(_) => Err(Stop::Memory),
+        },
+    }
 }

@@ -3,8 +3,10 @@ ghost use Rattle.std.specs.Prelude.{◌≡◌, ◌++◌, ◌∷◌, [], ◌≤�
 ghost use Rattle.std.specs.List.{concat};
 ghost use Rattle.jasminc_top.specs.MachineRuns.{code_of, base_of, config_of, start_of, SameCode};
 ghost use Rattle.jasminc_top.specs.Steps.{events_of, steps_of};
-ghost use Rattle.jasminc_top.specs.Running.{IsStartMemory, start_state, with_numbers, Finishes, number_text, word_text, event_line, result_line, run_text};
-ghost use Rattle.jasminc_top.specs.Compiling.{argument_registers};
+ghost use Rattle.jasminc_top.specs.Running.{IsStartMemory, start_state, with_numbers, Finishes, number_text, word_text, event_line, result_line, run_text, RunsTo};
+ghost use Rattle.jasminc_top.specs.Compiling.{add_code, argument_registers};
+ghost use Rattle.jasminc_top.specs.Answers.{step_limit};
+ghost use Rattle.x64_insn.specs.Chosen.{chosen_bytes};
 
 use crate::compile::ARGUMENT_REGISTERS;
 use crate::jz_leak::{Event, Events, MemMap};
@@ -18,6 +20,7 @@ use x64_insn::{FaultKind, FlagVal, Reg, State, StepLeak};
 
 const CODE_BASE: u64 = 0x40_0000;
 const RETURN_SLOT: u64 = 0x7fff_ffff_0008;
+const STEP_LIMIT: u64 = 1_000_000;
 
 /// How a run ended.
 #[derive(Debug, Drop)]
@@ -211,4 +214,21 @@ fn run_text(
     text.extend_from_slice(b"\n")?;
     write_results(alloc, &mut text, state, &compiled.rets)?;
     Ok(Bytes::from_vec(text))
+}
+
+/// The text of the run of a function on items. The function is of the one form that is read, whose code ends within
+/// the limit.
+pub fn exec_text(alloc: Global, compiled: &Compiled, items: &[u64]) -> Result<Bytes, AllocError>
+    requires { compiled.now.code ≡ concat (map chosen_bytes add_code) }
+    ensures { IfOk result (λ text. RunsTo compiled.now items.now step_limit text) }
+{
+    let memory = start_memory(alloc)?;
+    let code = compiled.code.as_slice();
+    let mut machine = Machine::new(alloc, code, CODE_BASE, start_state(items), memory)?;
+    match run_to_end(alloc, &mut machine, STEP_LIMIT)? {
+        Finish::Ended { steps, events } => {
+            run_text(alloc, compiled, &machine.state, &events, steps)
+        }
+        Finish::OutOfFuel | Finish::Faulted(_) => unreachable!(),
+    }
 }

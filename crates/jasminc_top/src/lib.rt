@@ -10,6 +10,7 @@ pub mod jz_parse;
 pub mod jz_tree;
 mod listing;
 mod refusal;
+mod run;
 mod words;
 pub mod x64_decode;
 pub mod x64_encode;
@@ -17,3 +18,4 @@ pub mod x64_machine;
 
 pub use listing::{Arg, Compiled, Pre};
 pub use refusal::{Refusal, Status};
+pub use run::{Done, jasminc_run};
