@@ -1,14 +1,20 @@
 //! Bytes by their addresses.
 
+use std::alloc::{AllocError, Global};
+use std::test::Fail;
+
 use crate::jz_leak::MemMap;
 use jz_words::Size;
-use std::test::Fail;
+
+fn filled(alloc: Global, addr: u64, bytes: &[u8]) -> Result<MemMap, AllocError> {
+    let mut memory = MemMap::new(alloc);
+    memory.add(addr, bytes)?;
+    Ok(memory)
+}
 
 #[test]
 fn keeps_bytes_by_address(rt: HostRuntime) -> Result<(), Fail> {
-    let mut memory = MemMap::new(rt.alloc());
-    memory.add(16, &[1, 2, 3])?;
-    memory.add(0, &[9])?;
+    let mut memory = filled(rt.alloc(), 16, &[1, 2, 3])?;
     assert_eq!(rt; memory.get(17), Some(2));
     assert_eq!(rt; memory.get(19), None);
     assert!(rt; memory.set(18, 7));
@@ -21,8 +27,7 @@ fn keeps_bytes_by_address(rt: HostRuntime) -> Result<(), Fail> {
 
 #[test]
 fn drops_bytes_past_the_last_address(rt: HostRuntime) -> Result<(), Fail> {
-    let mut memory = MemMap::new(rt.alloc());
-    memory.add(u64::MAX, &[5, 6])?;
+    let memory = filled(rt.alloc(), u64::MAX, &[5, 6])?;
     assert_eq!(rt; memory.get(u64::MAX), Some(5));
     assert_eq!(rt; memory.get(0), None);
     Ok(())
