@@ -12,7 +12,8 @@ use Rattle.jasminc_top.specs.declared.refusal.Refusal.TheVariants.{Usage, Source
 use Rattle.jz_data.specs.declared.failure.Failure.{Failure}
 use Rattle.jz_data.specs.declared.failure.Failure.TheVariants as failure
 use Rattle.jasminc_top.specs.Halting.{lexer_halt, parser_halt}
-use Rattle.jasminc_top.specs.Lexing.{IsLexed, HasNoToken, IfRefused}
+use Rattle.jz_data.specs.Failures.{IfRefused}
+use Rattle.jasminc_top.specs.Lexing.{IsLexed, HasNoToken}
 use Rattle.jasminc_top.specs.Parsing.{Derives, IsUnexpected}
 use Rattle.jasminc_top.specs.Reading.{Reads, LexFails, ParseFails}
 use Rattle.jasminc_top.specs.Refusals.{stage_of, all_stages}
@@ -90,8 +91,8 @@ lexer_halts text (failure.Refused f) short h = lexer_first text f short h
 lexer_halts text failure.OutOfMemory short h = tt
 
 pub parser_halts : (text : List ℕ) (tokens : List Token) (e : Failure SyntaxFault) → length text ≤ source_limit → IsLexed text tokens
-    → ((f : SyntaxFault) → e ≡ failure.Refused f → IsUnexpected tokens f) → TextHalts (TextCause text) (parser_halt e)
-parser_halts text tokens (failure.Refused f) short l h = parser_first text tokens f short l (h f refl)
+    → IfRefused e (λ f. IsUnexpected tokens f) → TextHalts (TextCause text) (parser_halt e)
+parser_halts text tokens (failure.Refused f) short l h = parser_first text tokens f short l h
 parser_halts text tokens failure.OutOfMemory short l h = tt
 
 -- a text that reads as a program has no cause

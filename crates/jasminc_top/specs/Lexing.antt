@@ -3,8 +3,6 @@ use Rattle.std.specs.Prelude.{◌≡◌, ◌≤◌, ℕ, ◌+◌, ◌^◌, List,
 use Rattle.std.specs.Char.{is_ascii_alphabetic}
 use Rattle.jasminc_top.specs.LexingWords.{is_lexeme, is_numeral, value_of, kind_of}
 use Rattle.jz_io.specs.declared.span.Span.{Span}
-use Rattle.jz_data.specs.declared.failure.Failure.{Failure}
-use Rattle.jz_data.specs.declared.failure.Failure.TheVariants.{Refused, OutOfMemory}
 use Rattle.jasminc_top.specs.declared.jz_lex.token.Token.{Token}
 use Rattle.jasminc_top.specs.declared.jz_lex.token.TokenKind.TheVariants as kind
 use Rattle.jasminc_top.specs.declared.jz_lex.token.LexKind.{LexKind}
@@ -60,8 +58,3 @@ HasNone BadNumber rest = (w : List ℕ) × (more : List ℕ) × (rest ≡ w ++ m
 -- up to this place the text is blanks and lexemes in turn, and there stands no token
 abbrev pub HasNoToken : List ℕ → LexFault → Type 0
 HasNoToken text f = (parts : List Part) × (before : List Token) × (rest : List ℕ) × UpTo first_place text parts before f.span rest × HasNone f.kind rest
-
--- P holds of the cause of a refusal
-abbrev pub IfRefused : {E : Type 0} → Failure E → (E → Type 0) → Type 0
-IfRefused (Refused e) P = P e
-IfRefused OutOfMemory P = Unit {0}

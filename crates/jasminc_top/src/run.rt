@@ -1,9 +1,9 @@
 // The call over all stages.
-ghost use Rattle.std.specs.Prelude.{◌≡◌, ◌≢◌, None, List, []};
+ghost use Rattle.std.specs.Prelude.{◌≡◌, ◌≢◌, ◌⊎◌, None, List, []};
 ghost use Rattle.jz_io.specs.Causes.{Rose};
 ghost use Rattle.jasminc_top.specs.Words.{texts_of, wanted};
 ghost use Rattle.jasminc_top.specs.Answers.{Faulted};
-ghost use Rattle.jasminc_top.specs.Runs.{Runs, Writes, ComesOnly, Refuses, Completes, ReadsAll};
+ghost use Rattle.jasminc_top.specs.Runs.{Runs, Writes, ComesOnly, Refuses, Completes, ReadsAll, IsFree};
 
 use crate::answer::{Reply, Stop, answer};
 use crate::listing::Compiled;
@@ -84,6 +84,10 @@ pub fn jasminc_run<S: Source, K: Sink>(
 
     // The file was read to its end.
     ensures read { ReadsAll (wanted (texts_of words.now)) (S.told src.old) (S.told src.new) result.status }
+
+    // Where a count of faults rose, the status says so.
+    ensures source_quiet { IsFree result.status ⊎ (S.faults src.new ≡ S.faults src.old) }
+    ensures sink_quiet { (result.status ≡ Status.WriteFault) ⊎ (K.faults out.new ≡ K.faults out.old) }
 
     // What was made is told at Ok alone.
     ensures made { result.status ≢ Status.Ok → result.made ≡ [] }

@@ -11,3 +11,6 @@ pub use boxed::Boxed;
 pub use failure::Failure;
 pub use seq::Seq;
 pub use text::Text;
+
+#[cfg(test)]
+mod tests;

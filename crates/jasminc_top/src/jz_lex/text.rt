@@ -1,7 +1,8 @@
 //! The tokens of a whole text.
 
 ghost use Rattle.std.specs.Prelude.{◌≡◌, ◌<◌, ◌≤◌, ◌+◌, ◌-◌, ◌^◌, List, length, IfOk, IfErr};
-ghost use Rattle.jasminc_top.specs.Lexing.{after, IsLexed, HasNoToken, IfRefused};
+ghost use Rattle.jz_data.specs.Failures.{IfRefused};
+ghost use Rattle.jasminc_top.specs.Lexing.{after, IsLexed, HasNoToken};
 ghost use Rattle.jasminc_top.specs.declared.jz_lex.token.Token.{Token};
 ghost use Rattle.jasminc_top.specs.declared.jz_lex.token.LexFault.{LexFault};
 

@@ -1,6 +1,7 @@
 //! Following the form token by token.
 
-ghost use Rattle.std.specs.Prelude.{◌≡◌, ◌<◌, [], ◌∷◌, ◌++◌, List, IfOk, length};
+ghost use Rattle.std.specs.Prelude.{◌≡◌, ◌<◌, [], ◌∷◌, ◌++◌, List, IfOk, IfErr, length};
+ghost use Rattle.jz_data.specs.Failures.{IfRefused};
 ghost use Rattle.jasminc_top.specs.declared.jz_lex.token.TokenKind.TheVariants.{End};
 ghost use Rattle.jasminc_top.specs.declared.jz_lex.token.Token.{Token};
 ghost use Rattle.jasminc_top.specs.Parsing.{Derives, IsUnexpected};
@@ -53,7 +54,7 @@ fn fault_at(tokens: &Tokens, number: usize) -> SyntaxFault
 /// The program that the tokens derive, or the first token at which they begin none.
 pub fn parse(alloc: Global, tokens: &Tokens) -> Result<Program, Failure<SyntaxFault>>
     ensures program { IfOk result (λ program. Derives tokens.now program) }
-    ensures fault { (fault : SyntaxFault) → result ≡ Err (Failure.Refused fault) → IsUnexpected tokens.now fault }
+    ensures fault { IfErr result (λ failure. IfRefused failure (λ fault. IsUnexpected tokens.now fault)) }
 {
     match follow(alloc, &FORM, tokens) {
         Ok(names) => Ok(program(alloc, tokens, &names)?),

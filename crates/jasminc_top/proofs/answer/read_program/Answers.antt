@@ -1,4 +1,3 @@
-use Rattle.std.proofs.Common.{ap, Err}
 use Rattle.std.proofs.lemmas.Result.{err_from_is_err_and}
 use Rattle.jasminc_top.proofs.Causes.{reads_from, lexer_halts, parser_halts}
 use Rattle.jasminc_top.proofs.answer.read_program.Goals as goal
@@ -12,7 +11,7 @@ pub returns-in_err-parse-clause-halt : goal.returns-in_err-parse-clause-halt
 returns-in_err-parse-clause-halt c =
     let p = err_from_is_err_and c.from_residual-in_err-parse.result c.from_residual-in_err-parse.ensures.1 in
     rw (p.1, p.2) (parser_halts c.args.text.now c.in_ok-tokens.tokens _ c.requires c.in_ok-tokens.ensures.tokens
-    (λ f e. c.in_err-parse.ensures.fault f (ap Err e)))
+    c.in_err-parse.ensures.fault)
 
 pub returns-clause-program : goal.returns-clause-program
 returns-clause-program c =

@@ -18,5 +18,4 @@ pub returns-in-Err-Refused-clause-fault : goal.returns-in-Err-Refused-clause-fau
 returns-in-Err-Refused-clause-fault c =
     let e = rw c.in-Err-Refused.field-0-is at c.in-Err-Refused.ensures
     in let f = rw c.in-Err-Refused.field-0-is at c.fault_at.ensures
-    in λ fault h. unexpected c.args.tokens.now c.in-Err-Refused.number fault e.0 e.1
-    (subst (λ (x : SyntaxFault). IsFaultAt c.args.tokens.now c.in-Err-Refused.number x) (same_fault c.fault_at.result fault h) f)
+    in unexpected c.args.tokens.now c.in-Err-Refused.number c.fault_at.result e.0 e.1 f
