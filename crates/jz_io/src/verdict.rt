@@ -1,11 +1,16 @@
+// What is said of constant time.
+
 use crate::Span;
 use jz_data::Text;
 
-/// How a secret shows.
+/// How a secret shows in what an observer sees.
 #[derive(Clone, Copy, PartialEq, Eq, Debug)]
 pub enum CtKind {
+    /// It decides a branch.
     Branch,
+    /// It is part of an address.
     Address,
+    /// It is an operand of a division.
     Divide,
 }
 
