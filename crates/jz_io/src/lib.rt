@@ -5,6 +5,8 @@ mod memory;
 mod sink;
 mod source;
 mod span;
+#[cfg(test)]
+mod tests;
 mod verdict;
 
 use jz_data::Seq;
