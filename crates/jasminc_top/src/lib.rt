@@ -11,6 +11,8 @@ pub mod jz_tree;
 mod listing;
 mod refusal;
 mod run;
+#[cfg(test)]
+mod tests;
 mod words;
 pub mod x64_decode;
 pub mod x64_encode;
