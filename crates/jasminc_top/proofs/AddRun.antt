@@ -1,6 +1,6 @@
 -- The run of MOV RAX, RDI; ADD RAX, RSI; RET, from any configuration at its entry.
-use Rattle.std.proofs.Common.{◌≡◌, ℕ, zero, suc, ◌+◌, ◌-◌, ◌*◌, ◌%◌, ◌^◌, ◌<◌, ◌≤◌, Bool, true, false, List, [], ◌∷◌, ◌++◌, length, drop, refl, sym, ap, ◌∙◌, arith}
-use Rattle.std.specs.Prelude.{Option, Some, ◌&&◌, ◌==◌, Ok, slice_index, slice_set}
+use Rattle.std.proofs.Common.{◌≡◌, ℕ, ◌+◌, ◌%◌, ◌^◌, ◌<◌, ◌≤◌, true, false, List, [], ◌∷◌, length, drop, refl, sym, ap, ◌∙◌, arith}
+use Rattle.std.specs.Prelude.{Some, ◌&&◌, Ok, slice_index, slice_set}
 use Rattle.std.proofs.lemmas.Bool.{eq-eqb}
 use Rattle.std.proofs.lemmas.List.{get_or-set_same, get_or-set_other, length-set}
 use Rattle.jz_words.specs.declared.size.Size.TheVariants.{S64}
@@ -13,14 +13,13 @@ use Rattle.x64_insn.specs.declared.types.Insn.TheVariants as insn
 use Rattle.x64_insn.specs.Table.{row_of, reg_of}
 use Rattle.x64_insn.specs.Encoding.{spelling_of, insn_of, displacement_length}
 use Rattle.x64_insn.specs.Answers.{sum_answer}
-use Rattle.x64_insn.specs.Rows.{After, reg_value, reg_word, with_reg, no_event, address_event, or_bad_address, effect_of, mov_row, add_row, ret_row}
-use Rattle.jasminc_top.specs.declared.jz_leak.event.Event.{Event}
+use Rattle.x64_insn.specs.Rows.{After, reg_value, reg_word, with_reg, no_event, address_event, effect_of, mov_row, add_row, ret_row}
 use Rattle.jasminc_top.specs.declared.jz_leak.event.Event.TheVariants as event
 use Rattle.jasminc_top.specs.declared.x64_decode.Decoded.TheVariants as decoded
 use Rattle.jasminc_top.specs.declared.x64_machine.step.Step.TheVariants.{Running, Ended}
 use Rattle.jasminc_top.specs.ByteReading.{follow, prefix, byte_where, byte_if, some_bytes}
 use Rattle.jasminc_top.specs.Decoding.{decoded_of, parts, may_be_opcode, may_be_modrm, immediate_bytes}
-use Rattle.jasminc_top.specs.Steps.{Config, Moved, Ran, insn_at, same_number, at_entry, is_ret, step_of, events_of, steps_of}
+use Rattle.jasminc_top.specs.Steps.{Config, Moved, Ran, same_number, at_entry, step_of, steps_of}
 use Rattle.jasminc_top.proofs.StepRuns.{at_place, made, step_made, run_on, no_step}
 
 -- MOV RAX, RDI; ADD RAX, RSI; RET

@@ -1,5 +1,5 @@
 -- A text that was begun, and what was read of it.
-use Rattle.std.proofs.Common.{◌≡◌, ℕ, List, [], ◌++◌, refl, sym, ◌∙◌, ap, Some, None, Ok, Option, Result}
+use Rattle.std.proofs.Common.{◌≡◌, ℕ, List, [], ◌++◌, sym, ◌∙◌, ap, Some, None, Ok, Option}
 use Rattle.jz_io.specs.Telling.{Telling, Begins, BeginsAt, Takes, text_of}
 use Rattle.jasminc_top.specs.Answers.{HasFile}
 

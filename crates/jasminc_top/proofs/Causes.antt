@@ -1,5 +1,5 @@
 -- Causes, and what excludes them.
-use Rattle.std.proofs.Common.{◌≡◌, ℕ, ◌<◌, ◌≤◌, List, length, sym, ◌∙◌, arith, [], ◌∷◌, Option, Some, None, subst, ap, refl, Bool, true, false}
+use Rattle.std.proofs.Common.{◌≡◌, ℕ, ◌<◌, ◌≤◌, List, length, ◌∙◌, arith, [], ◌∷◌, Option, Some, None, subst, ap, refl, Bool, true, false}
 use Rattle.std.specs.Prelude.{map, IsSome}
 use Rattle.std.specs.Str.{bytes_eq}
 use Rattle.jasminc_top.specs.declared.jz_lex.token.Token.{Token}
@@ -16,7 +16,7 @@ use Rattle.jz_data.specs.Failures.{IfRefused}
 use Rattle.jasminc_top.specs.Lexing.{IsLexed, HasNoToken}
 use Rattle.jasminc_top.specs.Parsing.{Derives, IsUnexpected}
 use Rattle.jasminc_top.specs.Reading.{Reads, LexFails, ParseFails}
-use Rattle.jasminc_top.specs.Refusals.{stage_of, all_stages}
+use Rattle.jasminc_top.specs.Refusals.{all_stages}
 use Rattle.jasminc_top.specs.Words.{compile, exec}
 use Rattle.jasminc_top.specs.Compiling.{made_of, compiled_of}
 use Rattle.jasminc_top.specs.Listing.{listing_text}

@@ -1,11 +1,10 @@
 -- The start of a run on items, and the end of a run of the addition.
-use Rattle.std.proofs.Common.{◌≡◌, ℕ, zero, suc, ◌+◌, ◌*◌, ◌-◌, ◌^◌, ◌<◌, ◌≤◌, Bool, true, false, List, [], ◌∷◌, ◌++◌, length, get_or, refl, sym, ap, ◌∙◌, arith, subst, lit<, lit≤, Option, Some, None}
-use Rattle.std.specs.Prelude.{◌&&◌, not, ◌==◌, map, slice_index, slice_set, slice_get, replicate, nat_lt, if◌then◌else◌}
+use Rattle.std.proofs.Common.{◌≡◌, ℕ, zero, suc, ◌^◌, ◌<◌, ◌≤◌, Bool, true, false, List, [], ◌∷◌, length, get_or, refl, sym, ap, ◌∙◌, arith, subst, lit<, lit≤, Some}
+use Rattle.std.specs.Prelude.{◌&&◌, not, ◌==◌, map, slice_index, slice_set, replicate}
 use Rattle.std.specs.List.{concat, list_all}
-use Rattle.std.specs.Ordering.{nat_cmp}
 use Rattle.std.specs.FinMap as map_of
 use Rattle.std.proofs.lemmas.Bool.Decides.{nat_tests}
-use Rattle.std.proofs.lemmas.List.{get_or-set_other, get_or-set_same, length-set}
+use Rattle.std.proofs.lemmas.List.{get_or-set_other, length-set}
 use Rattle.jz_words.specs.Memory.{Memory, loaded}
 use Rattle.x64_insn.specs.declared.types.Reg.{Reg}
 use Rattle.x64_insn.specs.declared.types.Reg.TheVariants as reg
@@ -13,8 +12,6 @@ use Rattle.x64_insn.specs.Encoding.{spelling_of}
 use Rattle.x64_insn.specs.Chosen.{chosen_bytes}
 use Rattle.x64_insn.specs.Rows.{number_of, reg_value}
 use Rattle.jasminc_top.specs.Compiling.{add_code, argument_registers}
-use Rattle.jasminc_top.specs.MachineRuns.{start_of}
-use Rattle.jasminc_top.specs.MemoryMap.{byte_from, or_else}
 use Rattle.jasminc_top.specs.Running.{code_base, return_slot, with_numbers, bare_registers, start_state, IsStartMemory, exec_start, Finishes, EndsAfter, RunsTo, run_text}
 use Rattle.jasminc_top.specs.declared.jz_leak.event.Event.{Event}
 use Rattle.jasminc_top.specs.declared.listing.compiled.Compiled.{Compiled}
@@ -122,7 +119,7 @@ module _ (code : List ℕ) (base : ℕ) (c : Config) (items : List ℕ) (m : Mem
   runs h =
       let begins = at_add items m h.words h.memory in
       let there : add.AtAdd base c 0 =
-        subst (λ (d : Config). add.AtAdd base d 0) (sym h.start_is) (subst (λ b. add.AtAdd b (exec_start items m) 0) (sym h.base_is) begins)
+      subst (λ (d : Config). add.AtAdd base d 0) (sym h.start_is) (subst (λ b. add.AtAdd b (exec_start items m) 0) (sym h.base_is) begins)
       in add.adds base c 0 there
 
   same_code : RunsAdd code base c items m → code ≡ add.add_code
@@ -140,7 +137,7 @@ module _ (code : List ℕ) (base : ℕ) (c : Config) (items : List ℕ) (m : Mem
   not_faulted h now f fault =
       let r = runs h in
       let k = subst (λ bs. (j : ℕ) × (j < 1000000) × ((i : ℕ) → i ≤ j → (steps_of bs base c i).after.ended ≡ false)
-        × ((step_of bs base (steps_of bs base c j).after).answer ≡ Fault f)) (same_code h) fault in
+      × ((step_of bs base (steps_of bs base c j).after).answer ≡ Fault f)) (same_code h) fault in
       by_step r k.0 k.2 k.3
     where
       by_step : add.AddRuns base c 0 → (j : ℕ) → ((i : ℕ) → i ≤ j → (steps_of add.add_code base c i).after.ended ≡ false)
@@ -161,8 +158,8 @@ module _ (c : Compiled) (items : List ℕ) (m : Memory) (k : ℕ) (output : List
       → output ≡ run_text c now.state events k → RunsTo c items 1000000 output
   ended_run code base start now events code_is base_is start_is memory fin text =
       let written = text ∙ ap (λ es. run_text c now.state es k) fin.2
-        ∙ ap (λ (d : Config). run_text c d.state (steps_of code base start k).events k) fin.3 in
+      ∙ ap (λ (d : Config). run_text c d.state (steps_of code base start k).events k) fin.3 in
       let told : Told code base start = (fin.1, written) in
       let there = subst (λ (d : Config). Told c.code code_base d) start_is
-        (subst (λ b. Told c.code b start) base_is (subst (λ bs. Told bs base start) code_is told)) in
+      (subst (λ b. Told c.code b start) base_is (subst (λ bs. Told bs base start) code_is told)) in
       record { memory = m; is_start = memory; steps = k; within = fin.0; ends = there.0; text = there.1 }

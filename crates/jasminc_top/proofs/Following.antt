@@ -1,5 +1,5 @@
 -- A run, one step after another.
-use Rattle.std.proofs.Common.{◌≡◌, ℕ, zero, suc, ◌+◌, ◌<◌, ◌≤◌, List, [], ◌∷◌, ◌++◌, Bool, true, false, refl, sym, ap, ◌∙◌, arith, append_assoc, add-one, if◌then◌else◌, ◌⊎◌, inl, inr, ⊎_elim, subst}
+use Rattle.std.proofs.Common.{◌≡◌, ℕ, zero, suc, ◌+◌, ◌<◌, List, [], ◌++◌, Bool, true, false, refl, sym, ap, ◌∙◌, arith, append_assoc, add-one, ◌⊎◌, ⊎_elim, subst}
 use Rattle.std.specs.Prelude.{Result, Ok, Err}
 use Rattle.std.proofs.lemmas.List.{append-nil}
 use Rattle.x64_insn.specs.Rows.{After}
@@ -7,7 +7,7 @@ use Rattle.x64_insn.specs.declared.types.FaultKind.{FaultKind}
 use Rattle.jasminc_top.specs.declared.jz_leak.event.Event.{Event}
 use Rattle.jasminc_top.specs.declared.x64_decode.Decoded.{Decoded}
 use Rattle.jasminc_top.specs.declared.x64_decode.Decoded.TheVariants as decoded
-use Rattle.jasminc_top.specs.declared.x64_machine.step.Step.TheVariants.{Running, Ended, Fault}
+use Rattle.jasminc_top.specs.declared.x64_machine.step.Step.TheVariants.{Running, Ended}
 use Rattle.jasminc_top.specs.Steps.{Config, Moved, insn_at, moved, by_insn, step_of, steps_of, events_of}
 use Rattle.jasminc_top.proofs.MachineRunning.{last_made, none_made}
 

@@ -1,5 +1,5 @@
 -- The rows of the table of causes, from the whole meaning of a run.
-use Rattle.std.proofs.Common.{◌≡◌, ℕ, ◌<◌, ◌≤◌, ◌⊎◌, inl, inr, List, [], sym, ◌∙◌, subst, arith, Option, Some, None}
+use Rattle.std.proofs.Common.{◌≡◌, ℕ, ◌<◌, ◌≤◌, inl, inr, List, sym, ◌∙◌, subst, arith, Option, Some, None}
 use Rattle.jz_io.specs.Telling.{Telling, text_of}
 use Rattle.jasminc_top.specs.Words.{Wanted, file_of}
 use Rattle.jasminc_top.specs.declared.listing.compiled.Compiled.{Compiled}

@@ -1,6 +1,6 @@
 -- Pieces with a space between them, one after another.
 use Rattle.std.proofs.Common.{◌≡◌, ℕ, zero, suc, ◌+◌, ◌<◌, List, [], ◌∷◌, ◌++◌, length, get_or, take, refl, sym, ap, ◌∙◌, arith, append_assoc, add-one, false}
-use Rattle.std.specs.Prelude.{map, ◌==◌, if◌then◌else◌}
+use Rattle.std.specs.Prelude.{map, ◌==◌}
 use Rattle.std.specs.List.{concat}
 use Rattle.std.proofs.lemmas.List.{append-nil}
 use Rattle.std.proofs.lemmas.Bool.Decides.{nat_tests}

@@ -1,15 +1,13 @@
 -- A step whose instruction is known, and runs of such steps.
-use Rattle.std.proofs.Common.{◌≡◌, ℕ, zero, suc, ◌+◌, ◌-◌, ◌%◌, ◌^◌, ◌<◌, Bool, true, false, List, [], ◌++◌, length, drop, refl, sym, ap, ◌∙◌, arith, if◌then◌else◌}
-use Rattle.std.specs.Prelude.{Result, Ok, ◌&&◌, nat_le, nat_lt}
+use Rattle.std.proofs.Common.{◌≡◌, ℕ, zero, suc, ◌+◌, ◌-◌, ◌%◌, ◌^◌, ◌<◌, Bool, true, false, List, [], ◌++◌, length, drop, refl, ap, ◌∙◌, arith, if◌then◌else◌}
+use Rattle.std.specs.Prelude.{Ok, ◌&&◌, nat_le, nat_lt}
 use Rattle.std.proofs.lemmas.Bool.{le-leb, lt-ltb}
 use Rattle.x64_insn.specs.declared.types.Insn.{Insn}
-use Rattle.x64_insn.specs.declared.types.FaultKind.{FaultKind}
 use Rattle.x64_insn.specs.Rows.{After, effect_of, no_event}
-use Rattle.jasminc_top.specs.declared.x64_decode.Decoded.{Decoded}
 use Rattle.jasminc_top.specs.declared.x64_decode.Decoded.TheVariants as decoded
 use Rattle.jasminc_top.specs.declared.x64_machine.step.Step.TheVariants.{Running, Ended}
 use Rattle.jasminc_top.specs.Decoding.{decoded_of}
-use Rattle.jasminc_top.specs.Steps.{Config, Moved, Ran, insn_at, is_ret, at_entry, moved, by_insn, step_of, events_of, steps_of}
+use Rattle.jasminc_top.specs.Steps.{Config, Moved, insn_at, is_ret, at_entry, moved, by_insn, step_of, events_of, steps_of}
 
 -- the instruction at a place in the code
 pub at_place : (code : List ℕ) (base place rip : ℕ) → rip ≡ base + place → place < length code → insn_at code base rip ≡ decoded_of (drop place code)

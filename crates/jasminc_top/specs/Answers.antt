@@ -1,5 +1,5 @@
 -- What a command may answer: the table of causes, and the table of commands.
-use Rattle.std.specs.Prelude.{◌≡◌, ◌<◌, ◌≤◌, ◌⊎◌, ◌++◌, ℕ, List, [], length, find, Option, Some, None, IsSome, ⊤, Result, Ok, Err}
+use Rattle.std.specs.Prelude.{◌≡◌, ◌<◌, ◌⊎◌, ℕ, List, [], length, find, Option, Some, None, IsSome, ⊤, Result, Ok, Err}
 use Rattle.std.specs.Str.{bytes_eq}
 use Rattle.jz_io.specs.Causes.{Rose}
 use Rattle.jz_io.specs.Telling.{Telling, text_of, IsWhole}

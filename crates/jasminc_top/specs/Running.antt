@@ -21,7 +21,7 @@ use Rattle.jasminc_top.specs.declared.exec.Finish.TheVariants as finish
 use Rattle.jasminc_top.specs.Compiling.{argument_registers}
 use Rattle.jasminc_top.specs.MemoryMap.{AddsBytes}
 use Rattle.jasminc_top.specs.MachineRuns.{start_of}
-use Rattle.jasminc_top.specs.Steps.{Config, Ran, step_of, steps_of}
+use Rattle.jasminc_top.specs.Steps.{Config, step_of, steps_of}
 use Rattle.jasminc_top.specs.declared.x64_machine.step.Step.TheVariants.{Fault}
 
 -- ---- the start of `exec`

@@ -1,5 +1,5 @@
 -- What the words of a command line ask for.
-use Rattle.std.specs.Prelude.{◌≡◌, ◌&&◌, ◌==◌, ℕ, ◌^◌, Bool, true, false, not, List, [], ◌∷◌, map, drop, length, nat_lt, Option, Some, None, if◌then◌else◌, string_bytes, codes, String}
+use Rattle.std.specs.Prelude.{◌&&◌, ◌==◌, ℕ, ◌^◌, Bool, false, not, List, [], ◌∷◌, map, drop, length, nat_lt, Option, Some, None, if◌then◌else◌, string_bytes, codes, String}
 use Rattle.std.specs.List.{list_any, list_all, starts_with}
 use Rattle.std.specs.Option.{option_and_then, option_map}
 use Rattle.std.specs.Char.{digit_value}

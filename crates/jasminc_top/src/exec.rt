@@ -19,7 +19,9 @@ use std::alloc::{AllocError, Global};
 use x64_insn::{FaultKind, FlagVal, Reg, State, StepLeak};
 
 const CODE_BASE: u64 = 0x40_0000;
+
 const RETURN_SLOT: u64 = 0x7fff_ffff_0008;
+
 const STEP_LIMIT: u64 = 1_000_000;
 
 /// How a run ended.
@@ -84,11 +86,7 @@ fn push_events(events: &mut Vec<Event>, leak: StepLeak) -> Result<(), AllocError
 }
 
 // Up to so many steps, to the end of the code.
-fn run_to_end(
-    alloc: Global,
-    machine: &mut Machine,
-    limit: u64,
-) -> Result<Finish, AllocError>
+fn run_to_end(alloc: Global, machine: &mut Machine, limit: u64) -> Result<Finish, AllocError>
     requires { (config_of machine.old).ended ≡ false }
     ensures { IfOk result (λ finish. Finishes (code_of machine.old) (base_of machine.old) (config_of machine.old) limit (config_of machine.new) finish) }
 {
@@ -120,12 +118,7 @@ fn write_hexadecimal(alloc: Global, text: &mut Vec<u8>, number: u64) -> Result<(
 }
 
 // The low bits of a number, as many as the size has.
-fn write_word(
-    alloc: Global,
-    text: &mut Vec<u8>,
-    size: Size,
-    number: u64,
-) -> Result<(), AllocError>
+fn write_word(alloc: Global, text: &mut Vec<u8>, size: Size, number: u64) -> Result<(), AllocError>
     ensures { OnOk result (text.new.items ≡ text.old.items ++ word_text size number) }
 {
     let bytes = number.to_be_bytes();

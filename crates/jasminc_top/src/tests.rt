@@ -36,7 +36,7 @@ const NO_FAULTS: Faults = Faults {
 };
 
 fn written(alloc: Global, sink: &MemSink) -> Result<Vec<u8>, AllocError> {
-    sink.bytes().to_vec(alloc)
+    sink.written().to_vec(alloc)
 }
 
 /// A command over one file in memory, add.jazz.

@@ -1,10 +1,9 @@
 //! Bytes by their addresses.
 
-use std::alloc::{AllocError, Global};
-use std::test::Fail;
-
 use crate::jz_leak::MemMap;
 use jz_words::Size;
+use std::alloc::{AllocError, Global};
+use std::test::Fail;
 
 fn filled(alloc: Global, addr: u64, bytes: &[u8]) -> Result<MemMap, AllocError> {
     let mut memory = MemMap::new(alloc);

@@ -1,4 +1,4 @@
-use Rattle.std.proofs.Common.{◌≡◌, ◌∙◌, sym, ap, subst, Option, Some, None, List, ℕ}
+use Rattle.std.proofs.Common.{◌≡◌, ◌∙◌, sym, ap, subst, List, ℕ}
 use Rattle.std.specs.Option.{option_copied}
 use Rattle.jasminc_top.specs.declared.refusal.Refusal.TheVariants.{NoFunction}
 use Rattle.jasminc_top.specs.Answers.{function_named, ExecCause, IsFirstCause}

@@ -1,4 +1,4 @@
-use Rattle.std.proofs.Common.{◌≡◌, ◌∙◌, ℕ, List, ap, arith, subst, ⊎_elim}
+use Rattle.std.proofs.Common.{◌≡◌, ◌∙◌, ap, arith, subst, ⊎_elim}
 use Rattle.std.proofs.lemmas.Result.{IfOk-weaker}
 use Rattle.jasminc_top.specs.declared.exec.Finish.{Finish}
 use Rattle.jasminc_top.specs.MachineRuns.{code_of, base_of, config_of, start_of}
@@ -34,6 +34,6 @@ returns c =
     IfOk-weaker c.run_text.result (λ text. text ≡ run_text compiled now.state c.in-Ended.events c.in-Ended.steps)
     (λ text. RunsTo compiled c.args.items.now 1000000 text)
     (λ text e. ended_run compiled c.args.items.now memory c.in-Ended.steps text (code_of machine) (base_of machine) (config_of machine) now c.in-Ended.events
-      (c.in_ok-machine.ensures.code_is ∙ c.as_slice-code.ensures) c.in_ok-machine.ensures.base_is start_is c.in_ok-memory.ensures
-      (subst P c.in-Ended.is c.in_ok-steps.ensures) e)
+    (c.in_ok-machine.ensures.code_is ∙ c.as_slice-code.ensures) c.in_ok-machine.ensures.base_is start_is c.in_ok-memory.ensures
+    (subst P c.in-Ended.is c.in_ok-steps.ensures) e)
     c.run_text.ensures

@@ -1,4 +1,4 @@
-use Rattle.std.proofs.Common.{◌≡◌, ℕ, ◌+◌, ◌++◌, refl, sym, ap, ◌∙◌, arith, false}
+use Rattle.std.proofs.Common.{◌≡◌, ◌+◌, ◌++◌, refl, sym, ap, ◌∙◌, arith, false}
 use Rattle.jasminc_top.specs.MachineRuns.{code_of, base_of, config_of}
 use Rattle.jasminc_top.specs.Steps.{Config, Moved, steps_of, events_of}
 use Rattle.jasminc_top.proofs.MachineRunning.{none_made, same_step}
@@ -36,7 +36,7 @@ returns-in-Ended c =
         before = known.open_before;
       },
       c.from_vec.ensures ∙ c.in_ok-push_events.ensures
-      ∙ ap (λ l. c.loop-made.events.items ++ events_of l) (c.step-answer.ensures.leak ∙ ap (λ (m : Moved). m.leak) same) ∙ shown,
+          ∙ ap (λ l. c.loop-made.events.items ++ events_of l) (c.step-answer.ensures.leak ∙ ap (λ (m : Moved). m.leak) same) ∙ shown,
       c.step-answer.ensures.after ∙ ap (λ (m : Moved). m.after) same ∙ moved,
     )
 
@@ -57,7 +57,7 @@ loop-made-preserved c =
       same_base = c.step-answer.ensures.code.1 ∙ known.same_base;
       stands = c.step-answer.ensures.after ∙ ap (λ (m : Moved). m.after) same ∙ moved;
       shown = c.in_ok-push_events.ensures
-      ∙ ap (λ l. c.loop-made.events.items ++ events_of l) (c.step-answer.ensures.leak ∙ ap (λ (m : Moved). m.leak) same) ∙ shown;
+          ∙ ap (λ l. c.loop-made.events.items ++ events_of l) (c.step-answer.ensures.leak ∙ ap (λ (m : Moved). m.leak) same) ∙ shown;
       open_before = up_to (λ j. (steps_of code base start j).after.ended ≡ false) (made + 1) known.open_before
-      (ap (λ (d : Config). d.ended) (sym moved) ∙ goes code base here is_open answer);
+          (ap (λ (d : Config). d.ended) (sym moved) ∙ goes code base here is_open answer);
     }

@@ -1,9 +1,7 @@
 use Rattle.std.proofs.Common.{sym, subst}
 use Rattle.jasminc_top.specs.declared.jz_tree.Program.{Program}
-use Rattle.jasminc_top.specs.declared.jz_parse.fault.SyntaxFault.{SyntaxFault}
 use Rattle.jasminc_top.specs.Parsing.{Derives}
-use Rattle.jasminc_top.specs.ParsingForm.{IsFaultAt}
-use Rattle.jasminc_top.proofs.FormLaws.{program_of_names, unexpected, same_fault}
+use Rattle.jasminc_top.proofs.FormLaws.{program_of_names, unexpected}
 use Rattle.jasminc_top.proofs.jz_parse.read.parse.Goals as goal
 
 pub program-requires : goal.program-requires

@@ -1,4 +1,4 @@
-use Rattle.std.proofs.Common.{arith, ap, sym, length, false}
+use Rattle.std.proofs.Common.{arith, ap, length, false}
 use Rattle.jasminc_top.specs.declared.jz_leak.transformer.Out.TheVariants as out
 use Rattle.jasminc_top.specs.Transformers.{out_text}
 use Rattle.jasminc_top.proofs.Spaces.{next_piece}
