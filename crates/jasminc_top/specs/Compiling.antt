@@ -1,7 +1,6 @@
 -- The functions that a program compiles to, and their code.
-use Rattle.std.specs.Prelude.{ℕ, List, [], ◌∷◌, map, length, Option, Some, None, pos, if◌then◌else◌}
+use Rattle.std.specs.Prelude.{List, [], ◌∷◌, map, length, pos}
 use Rattle.std.specs.List.{concat}
-use Rattle.std.specs.Str.{bytes_eq}
 use Rattle.jz_words.specs.declared.size.Size.TheVariants.{S64}
 use Rattle.jz_io.specs.declared.verdict.Ct.TheVariants.{Yes}
 use Rattle.x64_insn.specs.declared.types.Reg.{Reg}
@@ -71,8 +70,3 @@ compiled_of f = record {
 
 abbrev pub made_of : Program → List Compiled
 made_of p = map compiled_of p.funs
-
--- the function with this name, if there is one
-abbrev pub function_named : List ℕ → List Compiled → Option Compiled
-function_named name [] = None
-function_named name (c ∷ cs) = if bytes_eq c.name name then Some c else function_named name cs
