@@ -29,3 +29,5 @@ pub mod StepRuns
 pub mod AddRun
 pub mod ExecStart
 pub mod Rows
+pub mod RunSteady
+pub mod SourceLaws

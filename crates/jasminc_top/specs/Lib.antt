@@ -20,3 +20,10 @@ pub mod Running
 pub mod Answers
 pub mod Halting
 pub mod Runs
+pub mod RunTrees
+pub mod RunLeaks
+pub mod RunRules
+pub mod SourceStates
+pub mod SourceValues
+pub mod SourceRuns
+pub mod RunLaws

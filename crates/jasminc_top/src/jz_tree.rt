@@ -1,8 +1,11 @@
 //! The syntax tree of a text: plain data. It has what the texts that are read need.
 
+mod laws;
+
 use jz_data::{Seq, Text};
 use jz_io::Span;
 use jz_words::Size;
+pub use laws::{one_outcome, same_with_more_turns, some_outcome};
 
 #[derive(Debug, Drop, PartialEq, Eq)]
 pub struct Program {
