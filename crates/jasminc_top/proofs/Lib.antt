@@ -31,3 +31,4 @@ pub mod ExecStart
 pub mod Rows
 pub mod RunSteady
 pub mod SourceLaws
+pub mod AddSource

@@ -1,0 +1,108 @@
+-- The source run of the function that is read: the sum of its words, at every number of turns.
+use Rattle.std.proofs.Common.{◌≡◌, ◌≢◌, ℕ, zero, suc, ◌+◌, ◌%◌, ◌^◌, ◌<◌, List, [], ◌∷◌, Option, Some, None, refl, sym, ◌∙◌, ap, subst, arith, Bool, true, false, ◌==◌, nat_eq}
+use Rattle.std.specs.List.{AllPairs, Contains}
+use Rattle.std.specs.Cmp.Lexicographic.{pointwise}
+use Rattle.std.specs.Prelude.{if◌then◌else◌}
+use Rattle.jz_words.specs.Memory.{Memory}
+use Rattle.jasminc_top.specs.declared.jz_lex.token.Token.{Token}
+use Rattle.jasminc_top.specs.declared.jz_tree.Program.{Program}
+use Rattle.jasminc_top.specs.declared.jz_tree.Fun.{Fun}
+use Rattle.jasminc_top.specs.declared.jz_tree.BinOp.TheVariants.{Add}
+use Rattle.jasminc_top.specs.declared.jz_tree.Lval.TheVariants as lval
+use Rattle.jasminc_top.specs.Parsing.{Derives, tree_of, reg_u64, span_at, declared_at, used_at, assignment}
+use Rattle.jasminc_top.specs.Reading.{Reads}
+use Rattle.jasminc_top.specs.RunTrees.{done}
+use Rattle.jasminc_top.specs.RunLeaks.{Leak, over, ran}
+use Rattle.jasminc_top.specs.RunRules.{went, Outcome, End, Goes, finished, did}
+use Rattle.jasminc_top.specs.SourceStates.{Value, word, Key, Store, empty_store, put, State}
+use Rattle.jasminc_top.specs.SourceValues.{defined, and_then}
+use Rattle.jasminc_top.specs.SourceRuns.{source, block, begun, written, combined, word_of, returned, returned_words, FunOutcome, IsInput, IsRun}
+use Rattle.jasminc_top.proofs.Differing.{Different, different_of_pairs, different_texts, same_texts}
+
+-- ---- a store after a variable was set
+put_same : (store : Store) (name : List ℕ) (v : Value) → put store (record { name = name }) v (record { name = name }) ≡ Some v
+put_same store name v = ap (λ (z : Bool). if z then Some v else store (record { name = name })) (same_texts name name (pointwise nat_eq name name) refl refl)
+
+put_other : (store : Store) (name other : List ℕ) (v : Value) → other ≢ name → put store (record { name = name }) v (record { name = other }) ≡ store (record { name = other })
+put_other store name other v ne = ap (λ (z : Bool). if z then Some v else store (record { name = other })) (different_texts other name (pointwise nat_eq other name) refl ne)
+
+-- the outcome: the sum, the memory as it was, all turns left, and a leak of two items without numbers
+abbrev pub added : ℕ → ℕ → Memory → ℕ → FunOutcome
+added x y memory n = End (record { words = (x + y) % 2 ^ 64 ∷ []; memory = memory }) n (ran [] (ran [] over))
+
+module _ (ts : List Token) (f a b c : List ℕ) (different : Different (f ∷ a ∷ b ∷ c ∷ [])) (x y : ℕ) (memory : Memory) where
+  -- the function of the form
+  abbrev form_fun : Fun
+  form_fun = record {
+    name = f;
+    span = span_at ts 2;
+    params = record { var = declared_at ts 6 a } ∷ record { var = declared_at ts 10 b } ∷ [];
+    rets = record { decl = reg_u64 } ∷ [];
+    vars = declared_at ts 18 c ∷ [];
+    body = assignment ts 20 c None 22 a ∷ assignment ts 24 c (Some Add) 26 b ∷ [];
+    result = used_at ts 29 c ∷ [];
+  }
+
+  -- its stores: at the start, after the first statement, after the second
+  abbrev first_store : Store
+  first_store = put (put empty_store (record { name = a }) (word x)) (record { name = b }) (word y)
+
+  abbrev second_store : Store
+  second_store = put first_store (record { name = c }) (word x)
+
+  abbrev sum : Value
+  sum = word ((x + y) % 2 ^ 64)
+
+  abbrev last_store : Store
+  last_store = put second_store (record { name = c }) sum
+
+  first_of_a : first_store (record { name = a }) ≡ Some (word x)
+  first_of_a = put_other (put empty_store (record { name = a }) (word x)) b a (word y) different.1.0.0 ∙ put_same empty_store a (word x)
+
+  second_of_c : second_store (record { name = c }) ≡ Some (word x)
+  second_of_c = put_same first_store c (word x)
+
+  second_of_b : second_store (record { name = b }) ≡ Some (word y)
+  second_of_b = put_other first_store c b (word x) different.1.1.0.0 ∙ put_same (put empty_store (record { name = a }) (word x)) b (word y)
+
+  last_of_c : last_store (record { name = c }) ≡ Some sum
+  last_of_c = put_same second_store c sum
+
+  abbrev state_at : Store → State
+  state_at store = record { store = store; memory = memory }
+
+  -- the function's body runs through both statements
+  body_goes : (n : ℕ) → Goes source (block form_fun.body done) n (state_at first_store) (End (state_at last_store) n (ran [] (ran [] over)))
+  body_goes n =
+      did (ap (λ o. and_then (defined (span_at ts 22) o) (λ v. written (lval.Var (used_at ts 20 c)) v (state_at first_store))) first_of_a)
+      (did (ap (λ o. and_then (and_then (defined (span_at ts 24) o) (λ v. and_then (defined (span_at ts 26) (second_store (record { name = b }))) (λ w. went [] (combined Add v w)))) (λ v. written (lval.Var (used_at ts 24 c)) v (state_at second_store))) second_of_c
+          ∙ ap (λ o. and_then (and_then (defined (span_at ts 24) (Some (word x))) (λ v. and_then (defined (span_at ts 26) o) (λ w. went [] (combined Add v w)))) (λ v. written (lval.Var (used_at ts 24 c)) v (state_at second_store))) second_of_b)
+      finished)
+
+  gives_sum : (n : ℕ) → returned form_fun.result (End (state_at last_store) n (ran [] (ran [] over))) ≡ added x y memory n
+  gives_sum n = ap (λ o. returned_words memory n (ran [] (ran [] over)) (and_then (defined (span_at ts 29) o) (λ v. went [] (word_of v ∷ [])))) last_of_c
+
+  form_runs : (n : ℕ) → x < 2 ^ 64 → y < 2 ^ 64 → IsRun (tree_of ts f a b c) form_fun (x ∷ y ∷ []) memory n (added x y memory n)
+  form_runs n fits_x fits_y = record {
+    input = record { of_program = (0, omega arith, refl); arguments = (fits_x, (fits_y, tt)) };
+    out = End (state_at last_store) n (ran [] (ran [] over));
+    goes = body_goes n;
+    gives = gives_sum n;
+  }
+
+-- the function is the only one
+only_runs : (ts : List Token) (f a b c : List ℕ) → Different (f ∷ a ∷ b ∷ c ∷ []) → (g : Fun) → Contains (tree_of ts f a b c).funs g → (x y : ℕ) (memory : Memory) (n : ℕ) → x < 2 ^ 64 → y < 2 ^ 64 → IsRun (tree_of ts f a b c) g (x ∷ y ∷ []) memory n (added x y memory n)
+only_runs ts f a b c d g (zero, lt, e) x y memory n fits_x fits_y =
+    subst (λ (h : Fun). IsRun (tree_of ts f a b c) h (x ∷ y ∷ []) memory n (added x y memory n)) e (form_runs ts f a b c d x y memory n fits_x fits_y)
+only_runs ts f a b c d g (suc k, lt, e) x y memory n fits_x fits_y = absurd (omega (arith, lt))
+
+-- each function of a program that derives from tokens
+derived_runs : (ts : List Token) (p : Program) → Derives ts p → (g : Fun) → Contains p.funs g → (x y : ℕ) (memory : Memory) (n : ℕ) → x < 2 ^ 64 → y < 2 ^ 64 → IsRun p g (x ∷ y ∷ []) memory n (added x y memory n)
+derived_runs ts p (f, a, b, c, pairs, kinds, is) g has x y memory n fits_x fits_y =
+    subst (λ (q : Program). IsRun q g (x ∷ y ∷ []) memory n (added x y memory n)) (sym is)
+    (only_runs ts f a b c (different_of_pairs (f ∷ a ∷ b ∷ c ∷ []) pairs) g (subst (λ (q : Program). Contains q.funs g) is has) x y memory n fits_x fits_y)
+
+-- each function of a program that a text reads as, on every two words and at every number of turns
+pub add_runs : (text : List ℕ) (p : Program) → Reads text p → (g : Fun) → Contains p.funs g → (x y : ℕ) (memory : Memory) (n : ℕ) → x < 2 ^ 64 → y < 2 ^ 64 → IsRun p g (x ∷ y ∷ []) memory n (added x y memory n)
+unfolding Reads
+add_runs text p (ts, lexed, derives) g has x y memory n fits_x fits_y = derived_runs ts p derives g has x y memory n fits_x fits_y
