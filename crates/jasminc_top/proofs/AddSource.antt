@@ -7,6 +7,7 @@ use Rattle.jz_words.specs.Memory.{Memory}
 use Rattle.jasminc_top.specs.declared.jz_lex.token.Token.{Token}
 use Rattle.jasminc_top.specs.declared.jz_tree.Program.{Program}
 use Rattle.jasminc_top.specs.declared.jz_tree.Fun.{Fun}
+use Rattle.jasminc_top.specs.declared.jz_tree.Param.{Param}
 use Rattle.jasminc_top.specs.declared.jz_tree.BinOp.TheVariants.{Add}
 use Rattle.jasminc_top.specs.declared.jz_tree.Lval.TheVariants as lval
 use Rattle.jasminc_top.specs.Parsing.{Derives, tree_of, reg_u64, span_at, declared_at, used_at, assignment}
@@ -16,7 +17,8 @@ use Rattle.jasminc_top.specs.RunLeaks.{Leak, over, ran}
 use Rattle.jasminc_top.specs.RunRules.{went, Outcome, End, Goes, finished, did}
 use Rattle.jasminc_top.specs.SourceStates.{Value, word, Key, Store, empty_store, put, State}
 use Rattle.jasminc_top.specs.SourceValues.{defined, and_then}
-use Rattle.jasminc_top.specs.SourceRuns.{source, block, begun, written, combined, word_of, returned, returned_words, FunOutcome, IsInput, IsRun}
+use Rattle.jasminc_top.specs.SourceRuns.{source, block, begun, written, combined, word_of, returned, returned_words, FunOutcome, AreArguments, IsInput, IsRun}
+use Rattle.jasminc_top.proofs.SourceLaws.{fun_one}
 use Rattle.jasminc_top.proofs.Differing.{Different, different_of_pairs, different_texts, same_texts}
 
 -- ---- a store after a variable was set
@@ -30,13 +32,17 @@ put_other store name other v ne = ap (λ (z : Bool). if z then Some v else store
 abbrev pub added : ℕ → ℕ → Memory → ℕ → FunOutcome
 added x y memory n = End (record { words = (x + y) % 2 ^ 64 ∷ []; memory = memory }) n (ran [] (ran [] over))
 
+-- the parameters of the form
+abbrev form_params : List Token → List ℕ → List ℕ → List Param
+form_params ts a b = record { var = declared_at ts 6 a } ∷ record { var = declared_at ts 10 b } ∷ []
+
 module _ (ts : List Token) (f a b c : List ℕ) (different : Different (f ∷ a ∷ b ∷ c ∷ [])) (x y : ℕ) (memory : Memory) where
   -- the function of the form
   abbrev form_fun : Fun
   form_fun = record {
     name = f;
     span = span_at ts 2;
-    params = record { var = declared_at ts 6 a } ∷ record { var = declared_at ts 10 b } ∷ [];
+    params = form_params ts a b;
     rets = record { decl = reg_u64 } ∷ [];
     vars = declared_at ts 18 c ∷ [];
     body = assignment ts 20 c None 22 a ∷ assignment ts 24 c (Some Add) 26 b ∷ [];
@@ -76,7 +82,7 @@ module _ (ts : List Token) (f a b c : List ℕ) (different : Different (f ∷ a 
   body_goes n =
       did (ap (λ o. and_then (defined (span_at ts 22) o) (λ v. written (lval.Var (used_at ts 20 c)) v (state_at first_store))) first_of_a)
       (did (ap (λ o. and_then (and_then (defined (span_at ts 24) o) (λ v. and_then (defined (span_at ts 26) (second_store (record { name = b }))) (λ w. went [] (combined Add v w)))) (λ v. written (lval.Var (used_at ts 24 c)) v (state_at second_store))) second_of_c
-          ∙ ap (λ o. and_then (and_then (defined (span_at ts 24) (Some (word x))) (λ v. and_then (defined (span_at ts 26) o) (λ w. went [] (combined Add v w)))) (λ v. written (lval.Var (used_at ts 24 c)) v (state_at second_store))) second_of_b)
+      ∙ ap (λ o. and_then (and_then (defined (span_at ts 24) (Some (word x))) (λ v. and_then (defined (span_at ts 26) o) (λ w. went [] (combined Add v w)))) (λ v. written (lval.Var (used_at ts 24 c)) v (state_at second_store))) second_of_b)
       finished)
 
   gives_sum : (n : ℕ) → returned form_fun.result (End (state_at last_store) n (ran [] (ran [] over))) ≡ added x y memory n
@@ -106,3 +112,43 @@ derived_runs ts p (f, a, b, c, pairs, kinds, is) g has x y memory n fits_x fits_
 pub add_runs : (text : List ℕ) (p : Program) → Reads text p → (g : Fun) → Contains p.funs g → (x y : ℕ) (memory : Memory) (n : ℕ) → x < 2 ^ 64 → y < 2 ^ 64 → IsRun p g (x ∷ y ∷ []) memory n (added x y memory n)
 unfolding Reads
 add_runs text p (ts, lexed, derives) g has x y memory n fits_x fits_y = derived_runs ts p derives g has x y memory n fits_x fits_y
+
+-- an input of such a function is two words
+pub record TwoWords (words : List ℕ) : Type 0 where
+  pub x : ℕ
+  pub y : ℕ
+  pub are : words ≡ x ∷ y ∷ []
+  pub x_fits : x < 2 ^ 64
+  pub y_fits : y < 2 ^ 64
+
+two_words : (ts : List Token) (f a b c : List ℕ) (words : List ℕ) → AreArguments (form_params ts a b) words → TwoWords words
+two_words ts f a b c [] h = absurd h
+two_words ts f a b c (x ∷ []) h = absurd h.1
+two_words ts f a b c (x ∷ y ∷ []) h = record { x = x; y = y; are = refl; x_fits = h.0; y_fits = h.1.0 }
+two_words ts f a b c (x ∷ y ∷ z ∷ more) h = absurd h.1.1
+
+only_two_words : (ts : List Token) (f a b c : List ℕ) (g : Fun) → Contains (tree_of ts f a b c).funs g → (words : List ℕ) → AreArguments g.params words → TwoWords words
+only_two_words ts f a b c g (zero, lt, e) words h = two_words ts f a b c words (subst (λ (k : Fun). AreArguments k.params words) (sym e) h)
+only_two_words ts f a b c g (suc k, lt, e) words h = absurd (omega (arith, lt))
+
+derived_inputs : (ts : List Token) (p : Program) → Derives ts p → (g : Fun) (words : List ℕ) → IsInput p g words → TwoWords words
+derived_inputs ts p (f, a, b, c, pairs, kinds, is) g words i =
+    only_two_words ts f a b c g (subst (λ (q : Program). Contains q.funs g) is i.of_program) words i.arguments
+
+pub add_inputs : (text : List ℕ) (p : Program) → Reads text p → (g : Fun) (words : List ℕ) → IsInput p g words → TwoWords words
+unfolding Reads
+add_inputs text p (ts, lexed, derives) g words i = derived_inputs ts p derives g words i
+
+-- so every run of it has that outcome
+pub record Adds (words : List ℕ) (memory : Memory) (n : ℕ) (o : FunOutcome) : Type 0 where
+  pub input : TwoWords words
+  pub outcome : o ≡ added input.x input.y memory n
+
+pub add_outcome : (text : List ℕ) (p : Program) → Reads text p → (g : Fun) (words : List ℕ) (memory : Memory) (n : ℕ) (o : FunOutcome) → IsRun p g words memory n o → Adds words memory n o
+add_outcome text p reads g words memory n o run =
+    let i = add_inputs text p reads g words run.input in
+    let r = add_runs text p reads g run.input.of_program i.x i.y memory n i.x_fits i.y_fits in
+    record {
+      input = i;
+      outcome = fun_one p g words memory n o (added i.x i.y memory n) run (subst (λ (ws : List ℕ). IsRun p g ws memory n (added i.x i.y memory n)) (sym i.are) r);
+    }

@@ -62,10 +62,11 @@ assigned _ o r at s = stuck_at at Init
 
 -- ---- the statements of a body
 
--- there is no test, no counter and no call yet
+-- a body of assignments: no statement has a test, a counter or a call yet
 abbrev pub Block : Type 0
 Block = Tree Assignment ⊥ ⊥ ⊥
 
+-- what the parts of a body do; none of them is quiet yet
 abbrev pub source : Parts Assignment ⊥ ⊥ ⊥ State Why
 source = record {
   does = λ a s. assigned a.to a.op a.rhs a.at s;
@@ -141,7 +142,7 @@ AreArguments [] (w ∷ ws) = ⊥
 AreArguments (p ∷ ps) [] = ⊥
 AreArguments (p ∷ ps) (w ∷ ws) = FitsDecl p.var.decl w × AreArguments ps ws
 
--- an input of a function of the program
+-- an input of a function of the program; its memory is any one, since no region can be declared yet
 pub record IsInput (p : Program) (f : Fun) (words : List ℕ) : Type 0 where
   pub of_program : Contains p.funs f
   pub arguments : AreArguments f.params words
