@@ -1,6 +1,6 @@
 -- The source run of the function that is read: the sum of its words, at every number of turns.
-use Rattle.std.proofs.Common.{◌≡◌, ◌≢◌, ℕ, zero, suc, ◌+◌, ◌%◌, ◌^◌, ◌<◌, List, [], ◌∷◌, Option, Some, None, refl, sym, ◌∙◌, ap, subst, arith, Bool, true, false, ◌==◌, nat_eq}
-use Rattle.std.specs.List.{AllPairs, Contains}
+use Rattle.std.proofs.Common.{◌≡◌, ◌≢◌, ℕ, zero, suc, ◌+◌, ◌%◌, ◌^◌, ◌<◌, List, [], ◌∷◌, Some, None, refl, sym, ◌∙◌, ap, subst, arith, Bool, nat_eq}
+use Rattle.std.specs.List.{Contains}
 use Rattle.std.specs.Cmp.Lexicographic.{pointwise}
 use Rattle.std.specs.Prelude.{if◌then◌else◌}
 use Rattle.jz_words.specs.Memory.{Memory}
@@ -13,11 +13,11 @@ use Rattle.jasminc_top.specs.declared.jz_tree.Lval.TheVariants as lval
 use Rattle.jasminc_top.specs.Parsing.{Derives, tree_of, reg_u64, span_at, declared_at, used_at, assignment}
 use Rattle.jasminc_top.specs.Reading.{Reads}
 use Rattle.jasminc_top.specs.RunTrees.{done}
-use Rattle.jasminc_top.specs.RunLeaks.{Leak, over, ran}
-use Rattle.jasminc_top.specs.RunRules.{went, Outcome, End, Goes, finished, did}
-use Rattle.jasminc_top.specs.SourceStates.{Value, word, Key, Store, empty_store, put, State}
+use Rattle.jasminc_top.specs.RunLeaks.{over, ran}
+use Rattle.jasminc_top.specs.RunRules.{went, End, Goes, finished, did}
+use Rattle.jasminc_top.specs.SourceStates.{Value, word, Store, empty_store, put, State}
 use Rattle.jasminc_top.specs.SourceValues.{defined, and_then}
-use Rattle.jasminc_top.specs.SourceRuns.{source, block, begun, written, combined, word_of, returned, returned_words, FunOutcome, AreArguments, IsInput, IsRun}
+use Rattle.jasminc_top.specs.SourceRuns.{source, block, written, combined, word_of, returned, returned_words, FunOutcome, AreArguments, IsInput, IsRun}
 use Rattle.jasminc_top.proofs.SourceLaws.{fun_one}
 use Rattle.jasminc_top.proofs.Differing.{Different, different_of_pairs, different_texts, same_texts}
 
