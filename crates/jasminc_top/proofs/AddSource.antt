@@ -1,8 +1,9 @@
 -- The source run of the function that is read: the sum of its words, at every number of turns.
-use Rattle.std.proofs.Common.{◌≡◌, ◌≢◌, ℕ, zero, suc, ◌+◌, ◌%◌, ◌^◌, ◌<◌, List, [], ◌∷◌, Some, None, refl, sym, ◌∙◌, ap, subst, arith, Bool, nat_eq}
+use Rattle.std.proofs.Common.{◌≡◌, ◌≢◌, ℕ, zero, suc, ◌+◌, ◌%◌, ◌^◌, ◌<◌, List, [], ◌∷◌, Option, Some, None, refl, sym, ◌∙◌, ap, subst, arith, Bool, nat_eq}
 use Rattle.std.specs.List.{Contains}
 use Rattle.std.specs.Cmp.Lexicographic.{pointwise}
 use Rattle.std.specs.Prelude.{if◌then◌else◌}
+use Rattle.jz_words.specs.declared.size.Size.TheVariants.{S64}
 use Rattle.jz_words.specs.Memory.{Memory}
 use Rattle.jasminc_top.specs.declared.jz_lex.token.Token.{Token}
 use Rattle.jasminc_top.specs.declared.jz_tree.Program.{Program}
@@ -22,11 +23,11 @@ use Rattle.jasminc_top.proofs.SourceLaws.{fun_one}
 use Rattle.jasminc_top.proofs.Differing.{Different, different_of_pairs, different_texts, same_texts}
 
 -- ---- a store after a variable was set
-put_same : (store : Store) (name : List ℕ) (v : Value) → put store (record { name = name }) v (record { name = name }) ≡ Some v
-put_same store name v = ap (λ (z : Bool). if z then Some v else store (record { name = name })) (same_texts name name (pointwise nat_eq name name) refl refl)
+put_same : (store : Store) (name : List ℕ) (v : Option Value) → put store (record { name = name }) v (record { name = name }) ≡ v
+put_same store name v = ap (λ (z : Bool). if z then v else store (record { name = name })) (same_texts name name (pointwise nat_eq name name) refl refl)
 
-put_other : (store : Store) (name other : List ℕ) (v : Value) → other ≢ name → put store (record { name = name }) v (record { name = other }) ≡ store (record { name = other })
-put_other store name other v ne = ap (λ (z : Bool). if z then Some v else store (record { name = other })) (different_texts other name (pointwise nat_eq other name) refl ne)
+put_other : (store : Store) (name other : List ℕ) (v : Option Value) → other ≢ name → put store (record { name = name }) v (record { name = other }) ≡ store (record { name = other })
+put_other store name other v ne = ap (λ (z : Bool). if z then v else store (record { name = other })) (different_texts other name (pointwise nat_eq other name) refl ne)
 
 -- the outcome: the sum, the memory as it was, all turns left, and a leak of two items without numbers
 abbrev pub added : ℕ → ℕ → Memory → ℕ → FunOutcome
@@ -51,28 +52,28 @@ module _ (ts : List Token) (f a b c : List ℕ) (different : Different (f ∷ a 
 
   -- its stores: at the start, after the first statement, after the second
   abbrev first_store : Store
-  first_store = put (put empty_store (record { name = a }) (word x)) (record { name = b }) (word y)
+  first_store = put (put empty_store (record { name = a }) (Some (word S64 x))) (record { name = b }) (Some (word S64 y))
 
   abbrev second_store : Store
-  second_store = put first_store (record { name = c }) (word x)
+  second_store = put first_store (record { name = c }) (Some (word S64 x))
 
   abbrev sum : Value
-  sum = word ((x + y) % 2 ^ 64)
+  sum = word S64 ((x + y) % 2 ^ 64)
 
   abbrev last_store : Store
-  last_store = put second_store (record { name = c }) sum
+  last_store = put second_store (record { name = c }) (Some sum)
 
-  first_of_a : first_store (record { name = a }) ≡ Some (word x)
-  first_of_a = put_other (put empty_store (record { name = a }) (word x)) b a (word y) different.1.0.0 ∙ put_same empty_store a (word x)
+  first_of_a : first_store (record { name = a }) ≡ Some (word S64 x)
+  first_of_a = put_other (put empty_store (record { name = a }) (Some (word S64 x))) b a (Some (word S64 y)) different.1.0.0 ∙ put_same empty_store a (Some (word S64 x))
 
-  second_of_c : second_store (record { name = c }) ≡ Some (word x)
-  second_of_c = put_same first_store c (word x)
+  second_of_c : second_store (record { name = c }) ≡ Some (word S64 x)
+  second_of_c = put_same first_store c (Some (word S64 x))
 
-  second_of_b : second_store (record { name = b }) ≡ Some (word y)
-  second_of_b = put_other first_store c b (word x) different.1.1.0.0 ∙ put_same (put empty_store (record { name = a }) (word x)) b (word y)
+  second_of_b : second_store (record { name = b }) ≡ Some (word S64 y)
+  second_of_b = put_other first_store c b (Some (word S64 x)) different.1.1.0.0 ∙ put_same (put empty_store (record { name = a }) (Some (word S64 x))) b (Some (word S64 y))
 
   last_of_c : last_store (record { name = c }) ≡ Some sum
-  last_of_c = put_same second_store c sum
+  last_of_c = put_same second_store c (Some sum)
 
   abbrev state_at : Store → State
   state_at store = record { store = store; memory = memory }
@@ -82,7 +83,7 @@ module _ (ts : List Token) (f a b c : List ℕ) (different : Different (f ∷ a 
   body_goes n =
       did (ap (λ o. and_then (defined (span_at ts 22) o) (λ v. written (lval.Var (used_at ts 20 c)) v (state_at first_store))) first_of_a)
       (did (ap (λ o. and_then (and_then (defined (span_at ts 24) o) (λ v. and_then (defined (span_at ts 26) (second_store (record { name = b }))) (λ w. went [] (combined Add v w)))) (λ v. written (lval.Var (used_at ts 24 c)) v (state_at second_store))) second_of_c
-      ∙ ap (λ o. and_then (and_then (defined (span_at ts 24) (Some (word x))) (λ v. and_then (defined (span_at ts 26) o) (λ w. went [] (combined Add v w)))) (λ v. written (lval.Var (used_at ts 24 c)) v (state_at second_store))) second_of_b)
+      ∙ ap (λ o. and_then (and_then (defined (span_at ts 24) (Some (word S64 x))) (λ v. and_then (defined (span_at ts 26) o) (λ w. went [] (combined Add v w)))) (λ v. written (lval.Var (used_at ts 24 c)) v (state_at second_store))) second_of_b)
       finished)
 
   gives_sum : (n : ℕ) → returned form_fun.result (End (state_at last_store) n (ran [] (ran [] over))) ≡ added x y memory n

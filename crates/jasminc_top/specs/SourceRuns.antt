@@ -1,6 +1,6 @@
 -- The run of a source function: what its statements do, parameters in and results out. The statements are those of the text, and no
 -- place and no code is named. The rules are those of the Jasmin documentation, for the statements that are read.
-use Rattle.std.specs.Prelude.{◌≡◌, ◌<◌, ℕ, ◌+◌, ◌%◌, ◌^◌, List, [], ◌∷◌, Option, Some, None, Contains}
+use Rattle.std.specs.Prelude.{◌≡◌, ◌<◌, ℕ, ◌+◌, ◌%◌, List, [], ◌∷◌, Option, Some, None, Contains}
 use Rattle.jz_io.specs.declared.span.Span.{Span}
 use Rattle.jz_words.specs.Memory.{Memory}
 use Rattle.jz_words.specs.Sizes.{modulus}
@@ -37,7 +37,7 @@ pub record Assignment : Type 0 where
 
 -- the left side, written: a variable gets the value
 abbrev pub written : Lval → Value → State → Got State
-written (lval.Var x) v s = went [] (record s { store = put s.store (key_of x) v })
+written (lval.Var x) v s = went [] (record s { store = put s.store (key_of x) (Some v) })
 
 -- the value that the left side has before
 abbrev pub left_value : Lval → State → Got Value
@@ -46,9 +46,9 @@ left_value (lval.Var x) s = variable_value x s.store
 abbrev pub right_value : Rhs → State → Got Value
 right_value (rhs.Value e) s = evaluated e s
 
--- words of 64 bits: the sum modulo 2 ^ 64
+-- the operands have one size: the sum modulo 2 to the bits of that size, for 64 bits modulo 2 ^ 64
 abbrev pub combined : BinOp → Value → Value → Value
-combined Add (word a) (word b) = word ((a + b) % 2 ^ 64)
+combined Add (word size a) (word other b) = word size ((a + b) % modulus size)
 
 -- the value that is assigned: `d op= e` is `d = d op e`
 abbrev pub assigned_value : Lval → Option BinOp → Rhs → State → Got Value
@@ -90,18 +90,26 @@ block (s ∷ ss) rest = statement s.kind s.span (block ss rest)
 
 -- ---- functions
 
+abbrev pub value_of_type : Ty → ℕ → Value
+value_of_type (Word size) w = word size w
+
+-- what a parameter of this declaration is for an argument word; without one it has no value
+abbrev pub argument : Option Decl → ℕ → Option Value
+argument None w = None
+argument (Some d) w = Some (value_of_type d.ty w)
+
 -- the argument words are the parameters' values
 abbrev pub with_arguments : List Param → List ℕ → Store → Store
 with_arguments [] ws store = store
 with_arguments (p ∷ ps) [] store = store
-with_arguments (p ∷ ps) (w ∷ ws) store = with_arguments ps ws (put store (key_of p.var) (word w))
+with_arguments (p ∷ ps) (w ∷ ws) store = with_arguments ps ws (put store (key_of p.var) (argument p.var.decl w))
 
 -- where a function begins: no other variable has a value
 abbrev pub begun : Fun → List ℕ → Memory → State
 begun f words memory = record { store = with_arguments f.params words empty_store; memory = memory }
 
 abbrev pub word_of : Value → ℕ
-word_of (word w) = w
+word_of (word size w) = w
 
 -- the words of the variables that are returned, in their order
 abbrev pub result_words : List Var → Store → Got (List ℕ)

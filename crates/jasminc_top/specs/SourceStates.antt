@@ -1,13 +1,14 @@
 -- Stores of a source run: what the variables are, and the valid bytes of the memory.
-use Rattle.std.specs.Prelude.{ℕ, ◌==◌, Bool, List, Option, Some, None, if◌then◌else◌}
+use Rattle.std.specs.Prelude.{ℕ, ◌==◌, Bool, List, Option, None, if◌then◌else◌}
 use Rattle.std.specs.Cmp.Lexicographic.{pointwise}
 use Rattle.jz_io.specs.declared.span.Span.{Span}
+use Rattle.jz_words.specs.declared.size.Size.{Size}
 use Rattle.jz_words.specs.Memory.{Memory}
 use Rattle.jasminc_top.specs.declared.jz_tree.Var.{Var}
 
--- what a variable may be: a word
+-- what a variable may be: a word of a size, by its bits as an unsigned number
 pub data Value : Type 0 where
-  word : ℕ → Value
+  word : Size → ℕ → Value
 
 -- what has a value: a variable, by its name
 pub record Key : Type 0 where
@@ -27,9 +28,9 @@ Store = Key → Option Value
 abbrev pub empty_store : Store
 empty_store k = None
 
--- the store in which this key has this value
-abbrev pub put : Store → Key → Value → Store
-put store k v q = if same_key q k then Some v else store q
+-- the store in which this key has this value, or none
+abbrev pub put : Store → Key → Option Value → Store
+put store k v q = if same_key q k then v else store q
 
 pub record State : Type 0 where
   pub store : Store
