@@ -43,6 +43,7 @@ written (lval.Var x) v s = went [] (record s { store = put s.store (key_of x) (S
 abbrev pub left_value : Lval → State → Got Value
 left_value (lval.Var x) s = variable_value x s.store
 
+-- the value of a right side
 abbrev pub right_value : Rhs → State → Got Value
 right_value (rhs.Value e) s = evaluated e s
 
@@ -90,6 +91,7 @@ block (s ∷ ss) rest = statement s.kind s.span (block ss rest)
 
 -- ---- functions
 
+-- a word of this type
 abbrev pub value_of_type : Ty → ℕ → Value
 value_of_type (Word size) w = word size w
 
@@ -108,6 +110,7 @@ with_arguments (p ∷ ps) (w ∷ ws) store = with_arguments ps ws (put store (ke
 abbrev pub begun : Fun → List ℕ → Memory → State
 begun f words memory = record { store = with_arguments f.params words empty_store; memory = memory }
 
+-- the bits of a word
 abbrev pub word_of : Value → ℕ
 word_of (word size w) = w
 
@@ -121,9 +124,11 @@ pub record Returned : Type 0 where
   pub words : List ℕ
   pub memory : Memory
 
+-- what a run of a function comes to
 abbrev pub FunOutcome : Type 0
 FunOutcome = Outcome Returned Why Leak
 
+-- an end with these words, or stuck where a returned variable has no value
 abbrev pub returned_words : Memory → ℕ → Leak → Got (List ℕ) → FunOutcome
 returned_words memory n l (stuck w) = Stuck w
 returned_words memory n l (went ns ws) = End (record { words = ws; memory = memory }) n l

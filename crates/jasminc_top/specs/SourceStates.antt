@@ -14,9 +14,11 @@ pub data Value : Type 0 where
 pub record Key : Type 0 where
   pub name : List ℕ
 
+-- the key of a variable, wherever it stands
 abbrev pub key_of : Var → Key
 key_of x = record { name = x.name }
 
+-- two keys are one
 abbrev pub same_key : Key → Key → Bool
 same_key a b = pointwise ◌==◌ a.name b.name
 
@@ -32,6 +34,7 @@ empty_store k = None
 abbrev pub put : Store → Key → Option Value → Store
 put store k v q = if same_key q k then v else store q
 
+-- where a run stands
 pub record State : Type 0 where
   pub store : Store
   pub memory : Memory

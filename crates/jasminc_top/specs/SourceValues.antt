@@ -11,6 +11,7 @@ use Rattle.jasminc_top.specs.SourceStates.{Value, key_of, Store, State, Reason, 
 abbrev pub Got : Type 0 → Type 0
 Got A = Attempt Why A
 
+-- stuck at this place for this reason
 abbrev pub stuck_at : {A : Type 0} → Span → Reason → Got A
 stuck_at span reason = stuck (record { span = span; reason = reason })
 
@@ -37,10 +38,12 @@ variable_value x store = defined x.span (store (key_of x))
 abbrev pub evaluated : Expr → State → Got Value
 evaluated (expr.Var x) s = variable_value x s.store
 
+-- the value, or where and why there is none
 abbrev pub value_in : Got Value → Result Value Why
 value_in (stuck w) = Err w
 value_in (went ns v) = Ok v
 
+-- the numbers, of what is not stuck
 abbrev pub numbers_in : Got Value → List ℕ
 numbers_in (stuck w) = []
 numbers_in (went ns v) = ns
