@@ -28,4 +28,6 @@ pub mod Causes
 pub mod StepRuns
 pub mod AddRun
 pub mod ExecStart
+pub mod AddKept
+pub mod StartLaws
 pub mod Rows

@@ -18,5 +18,8 @@ pub mod MemoryMapSegments
 pub mod MachineRuns
 pub mod Running
 pub mod Answers
+pub mod Frames
+pub mod Starts
+pub mod Agreement
 pub mod Halting
 pub mod Runs
