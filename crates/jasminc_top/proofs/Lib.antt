@@ -30,4 +30,5 @@ pub mod AddRun
 pub mod ExecStart
 pub mod AddKept
 pub mod StartLaws
+pub mod FrameLaws
 pub mod Rows

@@ -12,11 +12,10 @@ use Rattle.x64_insn.specs.declared.types.Reg.{Reg}
 use Rattle.x64_insn.specs.declared.types.Reg.TheVariants as reg
 use Rattle.x64_insn.specs.Rows.{reg_value, number_of}
 use Rattle.jasminc_top.specs.declared.jz_tree.Fun.{Fun}
-use Rattle.jasminc_top.specs.declared.jz_tree.Param.{Param}
-use Rattle.jasminc_top.specs.declared.jz_tree.Var.{Var}
 use Rattle.jasminc_top.specs.declared.jz_leak.event.Event.TheVariants as event
 use Rattle.jasminc_top.specs.declared.x64_machine.step.Step.TheVariants.{Ended, Fault}
 use Rattle.jasminc_top.specs.Compiling.{compiled_of, variable_of, args_of, argument_registers, result_registers, add_code}
+use Rattle.jasminc_top.specs.OneForm.{TakesTwo}
 use Rattle.jasminc_top.specs.Parsing.{Derives, tree_of}
 use Rattle.jasminc_top.specs.declared.jz_tree.Program.{Program}
 use Rattle.jasminc_top.specs.declared.jz_lex.token.Token.{Token}
@@ -31,19 +30,11 @@ use Rattle.jasminc_top.proofs.AddRun as add
 use Rattle.jasminc_top.proofs.ExecStart.{add_bytes, AreWords, at_add}
 
 -- ---- functions of the one form that is read
--- two parameters and one result
-pub record IsAddition (f : Fun) : Type 0 where
-  pub left : Param
-  pub right : Param
-  pub sum : Var
-  pub params_are : f.params ≡ left ∷ right ∷ []
-  pub result_is : f.result ≡ sum ∷ []
-
 -- each program of the form has one function, and it is of this form
-pub derived : (ts : List Token) (p : Program) → Derives ts p → (f : Fun) × (p.funs ≡ f ∷ []) × IsAddition f
+pub derived : (ts : List Token) (p : Program) → Derives ts p → (f : Fun) × (p.funs ≡ f ∷ []) × TakesTwo f
 derived ts p h = by_tree h.0 h.1 h.2 h.3 h.6
   where
-    by_tree : (g a b c : List ℕ) → p ≡ tree_of ts g a b c → (f : Fun) × (p.funs ≡ f ∷ []) × IsAddition f
+    by_tree : (g a b c : List ℕ) → p ≡ tree_of ts g a b c → (f : Fun) × (p.funs ≡ f ∷ []) × TakesTwo f
     by_tree g a b c e = (_, ap (λ (q : Program). q.funs) e, record { left = _; right = _; sum = _; params_are = refl; result_is = refl })
 
 -- ---- a valid slot holds a number
@@ -66,10 +57,10 @@ loads m a (suc (suc n)) h valid =
 add_length : length (concat (map chosen_bytes add_code)) ≡ 7
 add_length = ap length add_bytes
 
-arguments_are : (f : Fun) (h : IsAddition f) → (compiled_of f).args ≡ args_of (map variable_of (h.left ∷ h.right ∷ [])) argument_registers
+arguments_are : (f : Fun) (h : TakesTwo f) → (compiled_of f).args ≡ args_of (map variable_of (h.left ∷ h.right ∷ [])) argument_registers
 arguments_are f h = ap (λ ps. args_of (map variable_of ps) argument_registers) h.params_are
 
-results_are : (f : Fun) (h : IsAddition f) → (compiled_of f).rets ≡ args_of (h.sum ∷ []) result_registers
+results_are : (f : Fun) (h : TakesTwo f) → (compiled_of f).rets ≡ args_of (h.sum ∷ []) result_registers
 results_are f h = ap (λ vs. args_of vs result_registers) h.result_is
 
 -- the numbers of the preserved registers are neither that of RAX nor that of RSP
@@ -136,7 +127,7 @@ sum_stands : (rax rdi rsi x y : ℕ) → rdi < 2 ^ 64 → rsi < 2 ^ 64 → rdi %
 sum_stands rax rdi rsi x y a b e g h = omega (arith, a, b, e, g, h)
 
 -- From each start of a function of the one form its code ends with the third step, with the sum, the memory as it was, one event and no fault.
-pub ends_from_each_start : (f : Fun) → IsAddition f → (x y : ℕ) (memory : Memory) (rsp0 base : ℕ) (s : Config)
+pub ends_from_each_start : (f : Fun) → TakesTwo f → (x y : ℕ) (memory : Memory) (rsp0 base : ℕ) (s : Config)
     → IsStart (compiled_of f) (x ∷ y ∷ []) memory rsp0 base s
     → EndsWith (compiled_of f) (x ∷ y ∷ []) rsp0 base s 3 ((x + y) % 2 ^ 64 ∷ []) memory (event.Addr rsp0 ∷ [])
 ends_from_each_start f form x y memory rsp0 base s h =
@@ -207,7 +198,7 @@ start_valid m h q within =
     in ap is_some byte
 
 -- Where `exec` starts a function of the one form is a start of it, on the words that are its items.
-pub exec_starts : (f : Fun) → IsAddition f → (x y : ℕ) (memory m : Memory) → x < 2 ^ 64 → y < 2 ^ 64 → IsStartMemory m
+pub exec_starts : (f : Fun) → TakesTwo f → (x y : ℕ) (memory m : Memory) → x < 2 ^ 64 → y < 2 ^ 64 → IsStartMemory m
     → IsStart (compiled_of f) (x ∷ y ∷ []) memory return_slot code_base (exec_start (x ∷ y ∷ []) m)
 exec_starts f form x y memory m left right h =
     let words : AreWords (x ∷ y ∷ []) = item_words x y left right in
@@ -239,7 +230,7 @@ exec_starts f form x y memory m left right h =
     item_words x y l r (suc (suc k)) = lit< tt
 
 -- Two words meet the preconditions of a function of the one form, which has no regions.
-pub words_meet : (f : Fun) → IsAddition f → (x y : ℕ) → x < 2 ^ 64 → y < 2 ^ 64 → MeetsPreconditions (compiled_of f) (x ∷ y ∷ []) map_of.empty
+pub words_meet : (f : Fun) → TakesTwo f → (x y : ℕ) → x < 2 ^ 64 → y < 2 ^ 64 → MeetsPreconditions (compiled_of f) (x ∷ y ∷ []) map_of.empty
 words_meet f form x y left right = record {
   sizes = subst (λ args. AreOfSizes args (x ∷ y ∷ [])) (sym (arguments_are f form)) (left, (right, tt));
   met = tt;

@@ -21,5 +21,6 @@ pub mod Answers
 pub mod Frames
 pub mod Starts
 pub mod Agreement
+pub mod OneForm
 pub mod Halting
 pub mod Runs
