@@ -28,6 +28,9 @@ pub mod Causes
 pub mod StepRuns
 pub mod AddRun
 pub mod ExecStart
+pub mod AddKept
+pub mod StartLaws
+pub mod FrameLaws
 pub mod Rows
 pub mod RunSteady
 pub mod SourceLaws

@@ -18,6 +18,10 @@ pub mod MemoryMapSegments
 pub mod MachineRuns
 pub mod Running
 pub mod Answers
+pub mod Frames
+pub mod Starts
+pub mod Agreement
+pub mod OneForm
 pub mod Halting
 pub mod Runs
 pub mod RunTrees

@@ -11,6 +11,7 @@ pub mod jz_tree;
 mod listing;
 mod refusal;
 mod run;
+mod starts;
 #[cfg(test)]
 mod tests;
 mod words;
@@ -21,3 +22,7 @@ pub mod x64_machine;
 pub use listing::{Arg, Compiled, Pre};
 pub use refusal::{Refusal, Status};
 pub use run::{Done, jasminc_run};
+pub use starts::{
+    each_start_ends, exec_is_a_start, form_takes_two, frame_is_least, frame_of_the_form,
+    words_are_an_input,
+};

@@ -1,0 +1,71 @@
+-- The size of a frame, and that of a function of the one form.
+use Rattle.std.proofs.Common.{◌≡◌, ℕ, ◌+◌, ◌-◌, ◌*◌, ◌/◌, ◌%◌, ◌<◌, ◌≤◌, false, List, [], ◌∷◌, refl, sym, ap, ◌∙◌, arith, if◌then◌else◌, ◌==◌, Option, Some, None}
+use Rattle.std.specs.Prelude.{◌++◌}
+use Rattle.std.proofs.lemmas.Bool.Decides.{nat_tests}
+use Rattle.jz_words.specs.Memory.{Memory}
+use Rattle.x64_insn.specs.declared.types.Reg.TheVariants as reg
+use Rattle.jasminc_top.specs.declared.jz_tree.Storage.{Storage}
+use Rattle.jasminc_top.specs.declared.jz_tree.Storage.TheVariants as storage
+use Rattle.jasminc_top.specs.declared.jz_tree.Decl.{Decl}
+use Rattle.jasminc_top.specs.declared.jz_tree.Var.{Var}
+use Rattle.jasminc_top.specs.declared.jz_tree.Fun.{Fun}
+use Rattle.jasminc_top.specs.declared.listing.compiled.Compiled.{Compiled}
+use Rattle.jasminc_top.specs.Compiling.{add_code, compiled_of}
+use Rattle.jasminc_top.specs.Frames.{slots_by, slots_if, slots_among, end_from, saved_of, frame_end, frame_size, frame_of, preserved_registers}
+use Rattle.jasminc_top.specs.Starts.{IsStart}
+use Rattle.jasminc_top.specs.Steps.{Config}
+
+-- ---- the least size
+opened : (end : ℕ) → 0 < end → frame_size end ≡ 16 * ((end + 7) / 16) + 8
+opened end lt =
+    let k : (end == 0) ≡ false = grind (arith, nat_tests) in
+    ap (λ b. if b then 0 else 16 * ((end + 7) / 16) + 8) k
+
+pub holds : (end : ℕ) → 0 < end → end ≤ frame_size end
+holds end lt = let e = opened end lt in omega (arith, e, lt)
+
+pub shape : (end : ℕ) → 0 < end → frame_size end % 16 ≡ 8
+shape end lt = let e = opened end lt in omega (arith, e)
+
+pub least : (end n : ℕ) → 0 < end → end ≤ n → n % 16 ≡ 8 → frame_size end ≤ n
+least end n lt le h = let e = opened end lt in omega (arith, e, le, h)
+
+-- so the stack pointer behind the prologue is a multiple of 16
+pub aligned_below : (c : Compiled) (words : List ℕ) (memory : Memory) (rsp0 base : ℕ) (s : Config) (end : ℕ) → IsStart c words memory rsp0 base s
+    → 0 < end → c.frame ≡ frame_size end → (rsp0 - c.frame) % 16 ≡ 0
+aligned_below c words memory rsp0 base s end h lt e =
+    let k = shape end lt in let a = h.aligned in let b = h.room_below in omega (arith, k, a, b, e)
+
+-- ---- a function of the one form
+none_by : (s : Storage) (v : Var) → slots_by s v ≡ []
+none_by storage.Reg v = refl
+
+none_if : (d : Option Decl) (v : Var) → slots_if d v ≡ []
+none_if None v = refl
+none_if (Some d) v = none_by d.storage v
+
+none_among : (vs : List Var) → slots_among vs ≡ []
+none_among [] = refl
+none_among (v ∷ vs) = ap (λ s. s ++ slots_among vs) (none_if v.decl v) ∙ none_among vs
+
+pub frame_is : (f : Fun) → (compiled_of f).frame ≡ frame_of f add_code
+frame_is f = sym (ap (λ ss. frame_size (frame_end (end_from 0 ss) (saved_of add_code))) (none_among f.vars))
+
+pub saved_is : (f : Fun) → (compiled_of f).saved ≡ saved_of add_code
+saved_is f = refl
+
+-- ---- sizes of frames: one cell of 64 bits, eight of them, two preserved registers alone, six preserved registers, and one byte with a preserved register
+one_cell : frame_size (frame_end 8 []) ≡ 8
+one_cell = refl
+
+eight_cells : frame_size (frame_end 64 []) ≡ 72
+eight_cells = refl
+
+two_registers : frame_size (frame_end 0 (reg.Rbx ∷ reg.Rbp ∷ [])) ≡ 24
+two_registers = refl
+
+six_registers : frame_size (frame_end 0 preserved_registers) ≡ 56
+six_registers = refl
+
+byte_and_register : frame_size (frame_end 1 (reg.Rbx ∷ [])) ≡ 24
+byte_and_register = refl

@@ -1,0 +1,144 @@
+-- The frame of a function: the places of its stack variables, the preserved registers that its code names, and its size.
+use Rattle.std.specs.Prelude.{ℕ, ◌+◌, ◌*◌, ◌-◌, ◌/◌, Bool, false, ◌||◌, ◌==◌, if◌then◌else◌, Option, Some, None, List, [], ◌∷◌, ◌++◌, length}
+use Rattle.std.specs.List.{list_any, filter}
+use Rattle.jz_words.specs.declared.size.Size.{Size}
+use Rattle.jz_words.specs.Sizes.{bytes_of}
+use Rattle.x64_insn.specs.declared.types.Reg.{Reg}
+use Rattle.x64_insn.specs.declared.types.Reg.TheVariants as reg
+use Rattle.x64_insn.specs.declared.types.Base.{Base}
+use Rattle.x64_insn.specs.declared.types.Base.TheVariants as base
+use Rattle.x64_insn.specs.declared.types.Mem.{Mem}
+use Rattle.x64_insn.specs.declared.types.Operand.{Operand}
+use Rattle.x64_insn.specs.declared.types.Operand.TheVariants as operand
+use Rattle.x64_insn.specs.declared.types.Insn.{Insn}
+use Rattle.x64_insn.specs.declared.types.Insn.TheVariants as insn
+use Rattle.x64_insn.specs.Rows.{number_of}
+use Rattle.jasminc_top.specs.declared.jz_tree.Storage.{Storage}
+use Rattle.jasminc_top.specs.declared.jz_tree.Storage.TheVariants as storage
+use Rattle.jasminc_top.specs.declared.jz_tree.Decl.{Decl}
+use Rattle.jasminc_top.specs.declared.jz_tree.Var.{Var}
+use Rattle.jasminc_top.specs.declared.jz_tree.Fun.{Fun}
+
+-- ---- the layout
+
+-- a stack variable: its name, the size of its cells, and how many it has
+pub record Slots : Type 0 where
+  pub name : List ℕ
+  pub cell : Size
+  pub count : ℕ
+
+-- a place in the frame, counted from the stack pointer behind the prologue upwards
+pub record Place : Type 0 where
+  pub of : Slots
+  pub offset : ℕ
+
+-- what a declaration of this storage keeps in the frame
+abbrev pub slots_by : Storage → Var → List Slots
+slots_by storage.Reg v = []
+
+-- what a variable keeps there by its declaration
+abbrev pub slots_if : Option Decl → Var → List Slots
+slots_if None v = []
+slots_if (Some d) v = slots_by d.storage v
+
+-- what declared variables keep there, in the order of their declarations
+abbrev pub slots_among : List Var → List Slots
+slots_among [] = []
+slots_among (v ∷ vs) = slots_if v.decl v ++ slots_among vs
+
+-- the stack variables of a function
+abbrev pub slots_of : Fun → List Slots
+slots_of f = slots_among f.vars
+
+-- a number, or the least multiple of k above it
+abbrev pub rounded_up : ℕ → ℕ → ℕ
+rounded_up k n = (n + (k - 1)) / k * k
+
+-- where cells begin behind an end, and where they end
+abbrev pub begins_at : ℕ → Slots → ℕ
+begins_at end s = rounded_up (bytes_of s.cell) end
+
+abbrev pub ends_at : ℕ → Slots → ℕ
+ends_at end s = begins_at end s + s.count * bytes_of s.cell
+
+-- stack variables one above the other, each at the next multiple of its cells' size
+abbrev pub places_from : ℕ → List Slots → List Place
+places_from end [] = []
+places_from end (s ∷ ss) = record { of = s; offset = begins_at end s } ∷ places_from (ends_at end s) ss
+
+-- where the last of them ends
+abbrev pub end_from : ℕ → List Slots → ℕ
+end_from end [] = end
+end_from end (s ∷ ss) = end_from (ends_at end s) ss
+
+abbrev pub layout_of : Fun → List Place
+layout_of f = places_from 0 (slots_of f)
+
+abbrev pub layout_end : Fun → ℕ
+layout_end f = end_from 0 (slots_of f)
+
+-- ---- the preserved registers
+
+-- the registers besides the stack pointer that belong to the caller (System V AMD64 ABI, 3.2.1)
+abbrev pub preserved_registers : List Reg
+preserved_registers = reg.Rbx ∷ reg.Rbp ∷ reg.R12 ∷ reg.R13 ∷ reg.R14 ∷ reg.R15 ∷ []
+
+abbrev pub is_reg : Reg → Reg → Bool
+is_reg r q = number_of r == number_of q
+
+abbrev pub base_names : Base → Reg → Bool
+base_names (base.Reg b) r = is_reg b r
+base_names other r = false
+
+abbrev pub index_names : Option (Reg × ℕ) → Reg → Bool
+index_names None r = false
+index_names (Some i) r = is_reg i.0 r
+
+-- an address names its base and its index
+abbrev pub mem_names : Mem → Reg → Bool
+mem_names m r = base_names m.base r || index_names m.index r
+
+abbrev pub operand_names : Operand → Reg → Bool
+operand_names (operand.Reg q) r = is_reg q r
+operand_names (operand.Imm n) r = false
+operand_names (operand.Mem m) r = mem_names m r
+
+-- an instruction names the registers of its operands
+abbrev pub names : Insn → Reg → Bool
+names (insn.Alu alu s to from) r = operand_names to r || operand_names from r
+names (insn.Mov s to from) r = operand_names to r || operand_names from r
+names (insn.Extend signed to from q rm) r = is_reg q r || operand_names rm r
+names (insn.Lea q m) r = is_reg q r || mem_names m r
+names (insn.One one s o) r = operand_names o r
+names (insn.Wide wide s o) r = operand_names o r
+names (insn.Imul s q o) r = is_reg q r || operand_names o r
+names (insn.ImulBy s q o n) r = is_reg q r || operand_names o r
+names (insn.Shift shift s o count) r = operand_names o r
+names (insn.Bswap s q) r = is_reg q r
+names insn.Cdq r = false
+names insn.Cqo r = false
+names (insn.Set cond o) r = operand_names o r
+names (insn.Cmov cond s q o) r = is_reg q r || operand_names o r
+names (insn.Jcc cond width n) r = false
+names (insn.Jmp width n) r = false
+names (insn.Call n) r = false
+names insn.Ret r = false
+
+-- the preserved registers that some instruction of the code names, in their order
+abbrev pub saved_of : List Insn → List Reg
+saved_of code = filter (λ r. list_any (λ i. names i r) code) preserved_registers
+
+-- ---- the size
+
+-- the end of what stands in the frame: the preserved registers stand above the variables, from the next multiple of 8 on
+abbrev pub frame_end : ℕ → List Reg → ℕ
+frame_end end [] = end
+frame_end end (r ∷ rs) = rounded_up 8 end + 8 * length (r ∷ rs)
+
+-- 0 for an empty frame, else the least number at or above its end that is 8 more than a multiple of 16
+abbrev pub frame_size : ℕ → ℕ
+frame_size end = if end == 0 then 0 else 16 * ((end + 7) / 16) + 8
+
+-- the frame of a function whose code is these instructions
+abbrev pub frame_of : Fun → List Insn → ℕ
+frame_of f code = frame_size (frame_end (layout_end f) (saved_of code))

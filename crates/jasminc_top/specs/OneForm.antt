@@ -1,0 +1,13 @@
+-- The shape of the functions that are read.
+use Rattle.std.specs.Prelude.{◌≡◌, [], ◌∷◌}
+use Rattle.jasminc_top.specs.declared.jz_tree.Var.{Var}
+use Rattle.jasminc_top.specs.declared.jz_tree.Param.{Param}
+use Rattle.jasminc_top.specs.declared.jz_tree.Fun.{Fun}
+
+-- two parameters and one result
+pub record TakesTwo (f : Fun) : Type 0 where
+  pub left : Param
+  pub right : Param
+  pub sum : Var
+  pub params_are : f.params ≡ left ∷ right ∷ []
+  pub result_is : f.result ≡ sum ∷ []
