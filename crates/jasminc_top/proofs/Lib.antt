@@ -35,3 +35,4 @@ pub mod Rows
 pub mod RunSteady
 pub mod SourceLaws
 pub mod AddSource
+pub mod AddCarries

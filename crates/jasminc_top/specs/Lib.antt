@@ -31,3 +31,5 @@ pub mod SourceStates
 pub mod SourceValues
 pub mod SourceRuns
 pub mod RunLaws
+pub mod Applying
+pub mod Correctness

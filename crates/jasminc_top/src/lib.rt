@@ -3,6 +3,7 @@
 
 mod answer;
 mod compile;
+pub mod correctness;
 mod exec;
 pub mod jz_leak;
 pub mod jz_lex;
