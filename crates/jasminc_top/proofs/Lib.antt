@@ -31,4 +31,5 @@ pub mod ExecStart
 pub mod AddKept
 pub mod StartLaws
 pub mod FrameLaws
+mod RegionExamples
 pub mod Rows
