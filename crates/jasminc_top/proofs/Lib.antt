@@ -37,3 +37,4 @@ pub mod RunSteady
 pub mod SourceLaws
 pub mod AddSource
 pub mod AddCarries
+pub mod AddCorrect
