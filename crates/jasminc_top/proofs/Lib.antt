@@ -38,3 +38,4 @@ pub mod SourceLaws
 pub mod AddSource
 pub mod AddCarries
 pub mod AddCorrect
+pub mod Headline
