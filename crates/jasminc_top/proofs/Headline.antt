@@ -18,7 +18,7 @@ use Rattle.jasminc_top.specs.Headline.{PrintsCorrect, Compiles}
 use Rattle.jasminc_top.proofs.AddCorrect.{correct}
 
 -- no refusal has the status of success
-never_ok : (r : Refusal) → status.Ok ≡ status_of r → ⊥
+pub never_ok : (r : Refusal) → status.Ok ≡ status_of r → ⊥
 never_ok Usage e = cc
 never_ok Source e = cc
 never_ok (Lex fault) e = cc
@@ -26,7 +26,7 @@ never_ok (Parse fault) e = cc
 never_ok (NoFunction name) e = cc
 never_ok Items e = cc
 
-same_command : (a b : Wanted) → Some a ≡ Some b → a ≡ b
+pub same_command : (a b : Wanted) → Some a ≡ Some b → a ≡ b
 same_command a b e = cc
 
 listing_of : (file text output : List ℕ) (made : List Compiled) → IsDone (Some (compile file)) text status.Ok output made → GivesListing text status.Ok output made

@@ -39,3 +39,5 @@ pub mod AddSource
 pub mod AddCarries
 pub mod AddCorrect
 pub mod Headline
+pub mod ItemsFit
+pub mod ExecHeadline

@@ -1,14 +1,20 @@
--- What the program promises of a listing that it prints.
-use Rattle.std.specs.Prelude.{List, ℕ, Option, Some, None, ⊤}
+-- What the program promises of a listing and of a run that it prints.
+use Rattle.std.specs.Prelude.{◌≡◌, List, ℕ, Option, Some, None, ⊤}
 use Rattle.std.specs.Io.KnownBytes.{Appends}
+use Rattle.std.specs.FinMap as map_of
 use Rattle.jz_io.specs.Telling.{Telling}
+use Rattle.jz_words.specs.Memory.{Memory}
 use Rattle.jasminc_top.specs.declared.jz_tree.Program.{Program}
+use Rattle.jasminc_top.specs.declared.jz_tree.Fun.{Fun}
 use Rattle.jasminc_top.specs.declared.listing.compiled.Compiled.{Compiled}
 use Rattle.jasminc_top.specs.Words.{Wanted, compile, exec}
 use Rattle.jasminc_top.specs.Reading.{Reads}
 use Rattle.jasminc_top.specs.Listing.{listing_text}
-use Rattle.jasminc_top.specs.Answers.{HasFile}
-use Rattle.jasminc_top.specs.Correctness.{AreCorrect}
+use Rattle.jasminc_top.specs.Answers.{HasFile, function_named, compiled_named}
+use Rattle.jasminc_top.specs.Steps.{steps_of}
+use Rattle.jasminc_top.specs.Running.{EndsAfter, code_base, return_slot, exec_start, run_text}
+use Rattle.jasminc_top.specs.Starts.{MeetsPreconditions, IsStart}
+use Rattle.jasminc_top.specs.Correctness.{IsCorrect, AreCorrect}
 
 -- The file's text reads as a program, what is made has a correct function for each of its functions, in the order of the text, and
 -- their listing was written and nothing else.
@@ -25,3 +31,29 @@ abbrev pub Compiles : Option Wanted → Option Telling → Option (List ℕ) →
 Compiles None told written written_after made = ⊤
 Compiles (Some (compile file)) told written written_after made = PrintsCorrect file told written written_after made
 Compiles (Some (exec file fun items)) told written written_after made = ⊤
+
+-- The function of that name is compiled correctly, the items meet its preconditions, and what was written is the text of its run on
+-- the machine, from a start on these items to the step that ends it, and nothing else.
+pub record PrintsRun (file fun items : List ℕ) (told : Option Telling) (written written_after : Option (List ℕ)) (made : List Compiled) : Type 0 where
+  pub text : List ℕ
+  pub has : HasFile file told text
+  pub program : Program
+  pub reads : Reads text program
+  pub function : Fun
+  pub found : function_named fun program.funs ≡ Some function
+  pub compiled : Compiled
+  pub compiled_is : compiled_named fun made ≡ Some compiled
+  pub correct : IsCorrect program function compiled
+  pub meets : MeetsPreconditions compiled items map_of.empty
+  pub memory : Memory
+  pub start : IsStart compiled items map_of.empty return_slot code_base (exec_start items memory)
+  pub steps : ℕ
+  pub ends : EndsAfter compiled.code code_base (exec_start items memory) steps
+  pub wrote : let ran = steps_of compiled.code code_base (exec_start items memory) steps in
+      Appends written written_after (run_text compiled ran.after.state ran.events steps)
+
+-- the same of a command; it speaks of `exec` alone
+abbrev pub Executes : Option Wanted → Option Telling → Option (List ℕ) → Option (List ℕ) → List Compiled → Type 0
+Executes None told written written_after made = ⊤
+Executes (Some (compile file)) told written written_after made = ⊤
+Executes (Some (exec file fun items)) told written written_after made = PrintsRun file fun items told written written_after made
