@@ -1,8 +1,9 @@
 -- The size of a frame, and that of a function of the one form.
 use Rattle.std.proofs.Common.{◌≡◌, ℕ, ◌+◌, ◌-◌, ◌*◌, ◌/◌, ◌%◌, ◌<◌, ◌≤◌, false, List, [], ◌∷◌, refl, sym, ap, ◌∙◌, arith, if◌then◌else◌, ◌==◌, Option, Some, None}
-use Rattle.std.specs.Prelude.{◌++◌}
+use Rattle.std.specs.Prelude.{◌++◌, map}
 use Rattle.std.proofs.lemmas.Bool.Decides.{nat_tests}
 use Rattle.jz_words.specs.Memory.{Memory}
+use Rattle.jz_words.specs.declared.size.Size.TheVariants.{S8, S16, S64}
 use Rattle.x64_insn.specs.declared.types.Reg.TheVariants as reg
 use Rattle.jasminc_top.specs.declared.jz_tree.Storage.{Storage}
 use Rattle.jasminc_top.specs.declared.jz_tree.Storage.TheVariants as storage
@@ -11,7 +12,7 @@ use Rattle.jasminc_top.specs.declared.jz_tree.Var.{Var}
 use Rattle.jasminc_top.specs.declared.jz_tree.Fun.{Fun}
 use Rattle.jasminc_top.specs.declared.listing.compiled.Compiled.{Compiled}
 use Rattle.jasminc_top.specs.Compiling.{add_code, compiled_of}
-use Rattle.jasminc_top.specs.Frames.{slots_by, slots_if, slots_among, end_from, saved_of, frame_end, frame_size, frame_of, preserved_registers}
+use Rattle.jasminc_top.specs.Frames.{StackVariable, Place, places_from, saved_slots, stacked_by, stacked_if, stacked_among, end_from, saved_of, frame_end, frame_size, frame_of, preserved_registers}
 use Rattle.jasminc_top.specs.Starts.{IsStart}
 use Rattle.jasminc_top.specs.Steps.{Config}
 
@@ -37,16 +38,16 @@ aligned_below c words memory rsp0 base s end h lt e =
     let k = shape end lt in let a = h.aligned in let b = h.room_below in omega (arith, k, a, b, e)
 
 -- ---- a function of the one form
-none_by : (s : Storage) (v : Var) → slots_by s v ≡ []
+none_by : (s : Storage) (v : Var) → stacked_by s v ≡ []
 none_by storage.Reg v = refl
 
-none_if : (d : Option Decl) (v : Var) → slots_if d v ≡ []
+none_if : (d : Option Decl) (v : Var) → stacked_if d v ≡ []
 none_if None v = refl
 none_if (Some d) v = none_by d.storage v
 
-none_among : (vs : List Var) → slots_among vs ≡ []
+none_among : (vs : List Var) → stacked_among vs ≡ []
 none_among [] = refl
-none_among (v ∷ vs) = ap (λ s. s ++ slots_among vs) (none_if v.decl v) ∙ none_among vs
+none_among (v ∷ vs) = ap (λ s. s ++ stacked_among vs) (none_if v.decl v) ∙ none_among vs
 
 pub frame_is : (f : Fun) → (compiled_of f).frame ≡ frame_of f add_code
 frame_is f = sym (ap (λ ss. frame_size (frame_end (end_from 0 ss) (saved_of add_code))) (none_among f.vars))
@@ -69,3 +70,23 @@ six_registers = refl
 
 byte_and_register : frame_size (frame_end 1 (reg.Rbx ∷ [])) ≡ 24
 byte_and_register = refl
+
+-- ---- a layout: one byte, a cell of 64 bits, three of 16, and two preserved registers above them
+abbrev three : List StackVariable
+three =
+    record { name = []; cell = S8; count = 1 } ∷ record { name = []; cell = S64; count = 1 } ∷ record { name = []; cell = S16; count = 3 } ∷ []
+
+abbrev offset_of : Place → ℕ
+offset_of p = p.offset
+
+three_places : map offset_of (places_from 0 three) ≡ 0 ∷ 8 ∷ 16 ∷ []
+three_places = refl
+
+three_end : end_from 0 three ≡ 22
+three_end = refl
+
+three_slots : saved_slots 22 (reg.Rbx ∷ reg.R12 ∷ []) ≡ (reg.Rbx, 24) ∷ (reg.R12, 32) ∷ []
+three_slots = refl
+
+three_size : frame_size (frame_end 22 (reg.Rbx ∷ reg.R12 ∷ [])) ≡ 40
+three_size = refl

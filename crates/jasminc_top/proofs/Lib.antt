@@ -31,6 +31,7 @@ pub mod ExecStart
 pub mod AddKept
 pub mod StartLaws
 pub mod FrameLaws
+mod RegionExamples
 pub mod Rows
 pub mod RunSteady
 pub mod SourceLaws

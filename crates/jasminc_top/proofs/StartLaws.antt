@@ -22,7 +22,7 @@ use Rattle.jasminc_top.specs.declared.jz_lex.token.Token.{Token}
 use Rattle.jasminc_top.proofs.MachineRunning.{none_made, end_stays, steps_both}
 use Rattle.jasminc_top.proofs.AddKept.{keeps}
 use Rattle.jasminc_top.specs.Steps.{Config, Ran, step_of, steps_of}
-use Rattle.jasminc_top.specs.Running.{code_base, return_slot, IsStartMemory, exec_start, start_state}
+use Rattle.jasminc_top.specs.Running.{EndsAfter, code_base, return_slot, IsStartMemory, exec_start, start_state}
 use Rattle.jasminc_top.specs.Starts.{IsIn, IsValid, AreOfSizes, MeetsPreconditions, IsStart, Stand, stack_at}
 use Rattle.jasminc_top.specs.Frames.{preserved_registers}
 use Rattle.jasminc_top.specs.Agreement.{Agrees, NeverFaults, EndsWith}
@@ -105,6 +105,21 @@ never_faults base s t r (suc (suc (suc j))) f e =
     let n : 3 + j ≡ suc (suc (suc j)) = omega arith in
     let past : (steps_of add.add_code base s (suc (suc (suc j)))).after.ended ≡ true = subst (λ k. (steps_of add.add_code base s k).after.ended ≡ true) n (ended_past base s r.ended_at_3 j) in
     let a : Ended ≡ Fault f = sym (answers_ended add.add_code base (steps_of add.add_code base s (suc (suc (suc j)))).after past) ∙ e in cc
+
+-- a run ends once
+pub one_end : (code : List ℕ) (base j k : ℕ) (c : Config) → EndsAfter code base c j → EndsAfter code base c k → j ≡ k
+one_end code base j k c h g = by_order (order j k)
+  where
+    order : (j k : ℕ) → (j < k) ⊎ ((k < j) ⊎ (j ≡ k))
+    order j k = grind arith
+
+    clash : (b : Bool) → b ≡ true → b ≡ false → ⊥
+    clash b e f = cc
+
+    by_order : (j < k) ⊎ ((k < j) ⊎ (j ≡ k)) → j ≡ k
+    by_order o =
+        ⊎_elim (λ lt. let a = h.ended in let b = g.before j lt in absurd (clash _ a b))
+        (⊎_elim (λ lt. let a = g.ended in let b = h.before k lt in absurd (clash _ a b)) (λ e. e)) o
 
 -- a start of the addition is one at its first byte, with a return address
 begins : (f : Fun) (words : List ℕ) (memory : Memory) (rsp0 base : ℕ) (s : Config) → IsStart (compiled_of f) words memory rsp0 base s → (t : ℕ) × add.AtAdd base s t

@@ -1,5 +1,5 @@
 -- The frame of a function: the places of its stack variables, the preserved registers that its code names, and its size.
-use Rattle.std.specs.Prelude.{ℕ, ◌+◌, ◌*◌, ◌-◌, ◌/◌, Bool, false, ◌||◌, ◌==◌, if◌then◌else◌, Option, Some, None, List, [], ◌∷◌, ◌++◌, length}
+use Rattle.std.specs.Prelude.{ℕ, ◌+◌, ◌*◌, ◌-◌, ◌/◌, Bool, false, ◌||◌, ◌==◌, if◌then◌else◌, Option, Some, None, ℤ, pos, ◌-ℤ◌, List, [], ◌∷◌, ◌++◌, length}
 use Rattle.std.specs.List.{list_any, filter}
 use Rattle.jz_words.specs.declared.size.Size.{Size}
 use Rattle.jz_words.specs.Sizes.{bytes_of}
@@ -22,60 +22,60 @@ use Rattle.jasminc_top.specs.declared.jz_tree.Fun.{Fun}
 -- ---- the layout
 
 -- a stack variable: its name, the size of its cells, and how many it has
-pub record Slots : Type 0 where
+pub record StackVariable : Type 0 where
   pub name : List ℕ
   pub cell : Size
   pub count : ℕ
 
 -- a place in the frame, counted from the stack pointer behind the prologue upwards
 pub record Place : Type 0 where
-  pub of : Slots
+  pub of : StackVariable
   pub offset : ℕ
 
 -- what a declaration of this storage keeps in the frame
-abbrev pub slots_by : Storage → Var → List Slots
-slots_by storage.Reg v = []
+abbrev pub stacked_by : Storage → Var → List StackVariable
+stacked_by storage.Reg v = []
 
 -- what a variable keeps there by its declaration
-abbrev pub slots_if : Option Decl → Var → List Slots
-slots_if None v = []
-slots_if (Some d) v = slots_by d.storage v
+abbrev pub stacked_if : Option Decl → Var → List StackVariable
+stacked_if None v = []
+stacked_if (Some d) v = stacked_by d.storage v
 
 -- what declared variables keep there, in the order of their declarations
-abbrev pub slots_among : List Var → List Slots
-slots_among [] = []
-slots_among (v ∷ vs) = slots_if v.decl v ++ slots_among vs
+abbrev pub stacked_among : List Var → List StackVariable
+stacked_among [] = []
+stacked_among (v ∷ vs) = stacked_if v.decl v ++ stacked_among vs
 
 -- the stack variables of a function
-abbrev pub slots_of : Fun → List Slots
-slots_of f = slots_among f.vars
+abbrev pub stack_variables_of : Fun → List StackVariable
+stack_variables_of f = stacked_among f.vars
 
 -- a number, or the least multiple of k above it
 abbrev pub rounded_up : ℕ → ℕ → ℕ
 rounded_up k n = (n + (k - 1)) / k * k
 
 -- where cells begin behind an end, and where they end
-abbrev pub begins_at : ℕ → Slots → ℕ
+abbrev pub begins_at : ℕ → StackVariable → ℕ
 begins_at end s = rounded_up (bytes_of s.cell) end
 
-abbrev pub ends_at : ℕ → Slots → ℕ
+abbrev pub ends_at : ℕ → StackVariable → ℕ
 ends_at end s = begins_at end s + s.count * bytes_of s.cell
 
 -- stack variables one above the other, each at the next multiple of its cells' size
-abbrev pub places_from : ℕ → List Slots → List Place
+abbrev pub places_from : ℕ → List StackVariable → List Place
 places_from end [] = []
 places_from end (s ∷ ss) = record { of = s; offset = begins_at end s } ∷ places_from (ends_at end s) ss
 
 -- where the last of them ends
-abbrev pub end_from : ℕ → List Slots → ℕ
+abbrev pub end_from : ℕ → List StackVariable → ℕ
 end_from end [] = end
 end_from end (s ∷ ss) = end_from (ends_at end s) ss
 
 abbrev pub layout_of : Fun → List Place
-layout_of f = places_from 0 (slots_of f)
+layout_of f = places_from 0 (stack_variables_of f)
 
 abbrev pub layout_end : Fun → ℕ
-layout_end f = end_from 0 (slots_of f)
+layout_end f = end_from 0 (stack_variables_of f)
 
 -- ---- the preserved registers
 
@@ -127,6 +127,18 @@ names insn.Ret r = false
 -- the preserved registers that some instruction of the code names, in their order
 abbrev pub saved_of : List Insn → List Reg
 saved_of code = filter (λ r. list_any (λ i. names i r) code) preserved_registers
+
+-- their slots in the frame, one above the other, the first at the next multiple of 8 above the variables
+abbrev pub slots_from : ℕ → List Reg → List (Reg × ℕ)
+slots_from at [] = []
+slots_from at (r ∷ rs) = (r, at) ∷ slots_from (at + 8) rs
+
+abbrev pub saved_slots : ℕ → List Reg → List (Reg × ℕ)
+saved_slots end saved = slots_from (rounded_up 8 end) saved
+
+-- an offset in a frame of that size, counted from the stack pointer at entry
+abbrev pub from_entry : ℕ → ℕ → ℤ
+from_entry size offset = pos offset -ℤ pos size
 
 -- ---- the size
 

@@ -8,7 +8,7 @@ ghost use Rattle.jasminc_top.specs.Compiling.{add_code, compiled_of};
 ghost use Rattle.jasminc_top.specs.OneForm.{TakesTwo};
 ghost use Rattle.jasminc_top.specs.Parsing.{Derives};
 ghost use Rattle.jasminc_top.specs.Frames.{frame_of, frame_size, saved_of};
-ghost use Rattle.jasminc_top.specs.Running.{code_base, return_slot, exec_start, IsStartMemory};
+ghost use Rattle.jasminc_top.specs.Running.{EndsAfter, code_base, return_slot, exec_start, IsStartMemory};
 ghost use Rattle.jasminc_top.specs.Starts.{IsStart, MeetsPreconditions};
 ghost use Rattle.jasminc_top.specs.Agreement.{EndsWith};
 ghost use Rattle.jasminc_top.specs.declared.jz_leak.event.Event.TheVariants as event;
@@ -16,6 +16,11 @@ ghost use Rattle.jasminc_top.specs.declared.jz_lex.token.Token.{Token};
 ghost use Rattle.jasminc_top.specs.declared.jz_tree.Fun.{Fun};
 ghost use Rattle.jasminc_top.specs.declared.jz_tree.Program.{Program};
 ghost use Rattle.jasminc_top.specs.declared.listing.compiled.Compiled.{Compiled};
+
+/// A run ends once.
+pub fn one_end()
+    ensures { (code : List ℕ) (base j k : ℕ) (c : Config) → EndsAfter code base c j → EndsAfter code base c k → j ≡ k }
+{}
 
 /// A frame that is not empty is the least that holds what stands in it and leaves the stack pointer at a multiple of 16 (System V AMD64 ABI, 3.2.2).
 pub fn frame_is_least()
