@@ -37,3 +37,5 @@ pub mod RunSteady
 pub mod SourceLaws
 pub mod AddSource
 pub mod AddCarries
+pub mod AddCorrect
+pub mod Headline

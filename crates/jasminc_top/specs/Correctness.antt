@@ -1,9 +1,37 @@
 -- What the bytes of a compiled function owe to the runs of its source.
-use Rattle.std.specs.Prelude.{◌≡◌, ◌≤◌, ℕ, ◌+◌, ◌*◌, List, false}
+use Rattle.std.specs.Prelude.{◌≡◌, ◌≤◌, ℕ, ◌+◌, ◌*◌, ℤ, ◌≤ℤ◌, ◌<ℤ◌, pos, List, [], ◌∷◌, ◌++◌, map, length, Option, Some, None, Contains, false, ⊤}
 use Rattle.jz_words.specs.Memory.{Memory}
+use Rattle.jz_words.specs.Sizes.{bytes_of}
+use Rattle.x64_insn.specs.declared.types.Reg.{Reg}
+use Rattle.x64_insn.specs.declared.types.Insn.{Insn}
+use Rattle.x64_insn.specs.Encoding.{Spells}
 use Rattle.jasminc_top.specs.declared.jz_tree.Program.{Program}
 use Rattle.jasminc_top.specs.declared.jz_tree.Fun.{Fun}
+use Rattle.jasminc_top.specs.declared.jz_tree.Param.{Param}
+use Rattle.jasminc_top.specs.declared.jz_tree.Ret.{Ret}
+use Rattle.jasminc_top.specs.declared.jz_tree.Decl.{Decl}
+use Rattle.jasminc_top.specs.declared.jz_tree.Ty.TheVariants.{Word}
+use Rattle.jasminc_top.specs.declared.jz_tree.Var.{Var}
+use Rattle.jasminc_top.specs.declared.jz_tree.Expr.{Expr}
+use Rattle.jasminc_top.specs.declared.jz_tree.Expr.TheVariants as expr
+use Rattle.jasminc_top.specs.declared.jz_tree.Lval.{Lval}
+use Rattle.jasminc_top.specs.declared.jz_tree.Lval.TheVariants as lval
+use Rattle.jasminc_top.specs.declared.jz_tree.Rhs.{Rhs}
+use Rattle.jasminc_top.specs.declared.jz_tree.Rhs.TheVariants as rhs
+use Rattle.jasminc_top.specs.declared.jz_tree.Stmt.{Stmt}
+use Rattle.jasminc_top.specs.declared.jz_tree.StmtKind.{StmtKind}
+use Rattle.jasminc_top.specs.declared.jz_tree.StmtKind.TheVariants as kind
+use Rattle.jasminc_top.specs.declared.jz_leak.transformer.Form.{Form}
+use Rattle.jasminc_top.specs.declared.jz_leak.transformer.Form.TheVariants as form
+use Rattle.jasminc_top.specs.declared.jz_leak.transformer.Out.{Out}
+use Rattle.jasminc_top.specs.declared.jz_leak.transformer.Out.TheVariants as out
+use Rattle.jasminc_top.specs.declared.jz_leak.transformer.Case.{Case}
+use Rattle.jasminc_top.specs.declared.jz_leak.transformer.Case.TheVariants.{Op}
+use Rattle.jasminc_top.specs.declared.listing.compiled.Arg.{Arg}
+use Rattle.jasminc_top.specs.declared.listing.compiled.Pre.{Pre}
 use Rattle.jasminc_top.specs.declared.listing.compiled.Compiled.{Compiled}
+use Rattle.jasminc_top.specs.Compiling.{argument_registers, result_registers}
+use Rattle.jasminc_top.specs.Frames.{Place, layout_of, layout_end, saved_of, saved_slots, frame_of, from_entry}
 use Rattle.jasminc_top.specs.RunLeaks.{Leak}
 use Rattle.jasminc_top.specs.RunRules.{End, Cut, Stuck}
 use Rattle.jasminc_top.specs.SourceRuns.{Returned, FunOutcome, IsRun}
@@ -46,3 +74,112 @@ Matches c words rsp0 base s n (Stuck w) = ⊥
 pub record CarriesOver (p : Program) (f : Fun) (c : Compiled) : Type 0 where
   pub matches : (words : List ℕ) (memory : Memory) (n : ℕ) (o : FunOutcome) → IsRun p f words memory n o → MeetsPreconditions c words memory
       → (rsp0 base : ℕ) (s : Config) → IsStart c words memory rsp0 base s → Matches c words rsp0 base s n o
+
+-- ---- the lines of the listing
+
+-- a line for a variable of this name and declaration, in this register
+abbrev pub IsLineOf : List ℕ → Option Decl → Reg → Arg → Type 0
+IsLineOf name None r a = ⊥
+IsLineOf name (Some d) r a = (a.name ≡ name) × (Word a.size ≡ d.ty) × (a.reg ≡ r)
+
+-- a line for each parameter, in the order of the text and of the registers
+abbrev pub AreArgumentLines : List Reg → List Param → List Arg → Type 0
+AreArgumentLines rs [] [] = ⊤
+AreArgumentLines (r ∷ rs) (p ∷ ps) (a ∷ args) = IsLineOf p.var.name p.var.decl r a × AreArgumentLines rs ps args
+AreArgumentLines _ _ _ = ⊥
+
+-- a line for each result, with the declared type
+abbrev pub AreResultLines : List Reg → List Var → List Ret → List Arg → Type 0
+AreResultLines rs [] [] [] = ⊤
+AreResultLines (r ∷ rs) (v ∷ vs) (t ∷ ts) (a ∷ args) = IsLineOf v.name (Some t.decl) r a × AreResultLines rs vs ts args
+AreResultLines _ _ _ _ = ⊥
+
+-- the preconditions that a function declares; no text that is read can declare one
+abbrev pub declared_preconditions : Fun → List Pre
+declared_preconditions f = []
+
+-- ---- the code
+
+-- the bytes are spellings of the instructions, one after another
+abbrev pub AreSpelled : List Insn → List ℕ → Type 0
+AreSpelled [] code = code ≡ []
+AreSpelled (i ∷ is) code = (bytes : List ℕ) × (rest : List ℕ) × (code ≡ bytes ++ rest) × Spells bytes i × AreSpelled is rest
+
+-- ---- what a transformer may show of the frame
+
+-- the variables that a statement names
+abbrev pub expression_names : Expr → List (List ℕ)
+expression_names (expr.Var x) = x.name ∷ []
+
+abbrev pub left_name : Lval → List ℕ
+left_name (lval.Var x) = x.name
+
+abbrev pub right_names : Rhs → List (List ℕ)
+right_names (rhs.Value e) = expression_names e
+
+abbrev pub kind_names : StmtKind → List (List ℕ)
+kind_names (kind.Assign to op r) = map left_name to ++ right_names r
+
+-- an offset from the stack pointer at entry lies in the place of a stack variable with one of these names
+abbrev pub LiesInPlace : Fun → ℕ → List (List ℕ) → ℤ → Type 0
+LiesInPlace f frame names offset =
+    (q : Place) × Contains (layout_of f) q × Contains names q.of.name
+    × (from_entry frame q.offset ≤ℤ offset) × (offset <ℤ from_entry frame (q.offset + q.of.count * bytes_of q.of.cell))
+
+abbrev pub FormStaysIn : Fun → ℕ → List (List ℕ) → Form → Type 0
+FormStaysIn f frame names (form.Num n) = ⊤
+FormStaysIn f frame names (form.Leaked i) = ⊤
+FormStaysIn f frame names (form.Frame offset) = LiesInPlace f frame names offset
+FormStaysIn f frame names (form.Indexed offset factor i) = LiesInPlace f frame names offset
+
+abbrev pub OutStaysIn : Fun → ℕ → List (List ℕ) → Out → Type 0
+OutStaysIn f frame names (out.Branch taken) = ⊤
+OutStaysIn f frame names (out.Addr address) = FormStaysIn f frame names address
+OutStaysIn f frame names (out.Div high low divisor) =
+    FormStaysIn f frame names high × FormStaysIn f frame names low × FormStaysIn f frame names divisor
+
+abbrev pub OutsStayIn : Fun → ℕ → List (List ℕ) → List Out → Type 0
+OutsStayIn f frame names [] = ⊤
+OutsStayIn f frame names (o ∷ outs) = OutStaysIn f frame names o × OutsStayIn f frame names outs
+
+-- each form of a place in the frame lies in the place of a stack variable that its statement names
+abbrev pub CasesStayIn : Fun → ℕ → List Stmt → List Case → Type 0
+CasesStayIn f frame [] [] = ⊤
+CasesStayIn f frame (s ∷ ss) (Op outs ∷ cases) = OutsStayIn f frame (kind_names s.kind) outs × CasesStayIn f frame ss cases
+CasesStayIn f frame _ _ = ⊥
+
+-- the access to a slot of the frame
+abbrev pub slot_access : ℕ → Reg × ℕ → Out
+slot_access frame slot = out.Addr (form.Frame (from_entry frame slot.1))
+
+-- the accesses of the prologue: one for each preserved register that is saved
+abbrev pub saving_accesses : Fun → Compiled → List Out
+saving_accesses f c = map (slot_access c.frame) (saved_slots (layout_end f) c.saved)
+
+-- ---- correct compilation
+
+-- A compiled function is correct for a function of a program. The line `ct` is not spoken of.
+pub record IsCorrect (p : Program) (f : Fun) (c : Compiled) : Type 0 where
+  -- what a caller is told
+  pub name : c.name ≡ f.name
+  pub args : AreArgumentLines argument_registers f.params c.args
+  pub rets : AreResultLines result_registers f.result f.rets c.rets
+  pub pre : c.pre ≡ declared_preconditions f
+  -- the code, its frame, and the preserved registers that it names
+  pub insns : List Insn
+  pub spelled : AreSpelled insns c.code
+  pub counted : c.insns ≡ length insns
+  pub frame : c.frame ≡ frame_of f insns
+  pub saved : c.saved ≡ saved_of insns
+  -- the first and the last list show the saved registers' slots, and the last one that of the return; the others stay in places
+  pub before : c.tr.before ≡ saving_accesses f c
+  pub after : c.tr.after ≡ saving_accesses f c ++ out.Addr (form.Frame (pos 0)) ∷ []
+  pub places : CasesStayIn f c.frame f.body c.tr.body.cases
+  -- what runs do
+  pub carries : CarriesOver p f c
+
+-- one for each function, in the order of the text
+abbrev pub AreCorrect : Program → List Fun → List Compiled → Type 0
+AreCorrect p [] [] = ⊤
+AreCorrect p (f ∷ fs) (c ∷ cs) = IsCorrect p f c × AreCorrect p fs cs
+AreCorrect p _ _ = ⊥

@@ -33,3 +33,4 @@ pub mod SourceRuns
 pub mod RunLaws
 pub mod Applying
 pub mod Correctness
+pub mod Headline

@@ -3,6 +3,7 @@ ghost use Rattle.std.specs.Prelude.{◌≡◌, ◌≢◌, ◌⊎◌, None, List,
 ghost use Rattle.jz_io.specs.Causes.{Rose};
 ghost use Rattle.jasminc_top.specs.Words.{texts_of, wanted};
 ghost use Rattle.jasminc_top.specs.Answers.{Faulted};
+ghost use Rattle.jasminc_top.specs.Headline.{Compiles};
 ghost use Rattle.jasminc_top.specs.Runs.{Runs, Writes, ComesOnly, Refuses, Completes, ReadsAll, IsFree};
 
 use crate::answer::{Reply, Stop, answer};
@@ -66,6 +67,9 @@ pub fn jasminc_run<S: Source, K: Sink>(
     // The whole meaning: what was due, and that it was written.
     ensures runs { Runs (wanted (texts_of words.now)) (S.told src.old) (S.told src.new) (S.faults src.old) (S.faults src.new)
         (K.written out.old) (K.written out.new) (K.faults out.old) (K.faults out.new) result.status result.made }
+
+    // What is printed at Ok is the listing of correct functions, one for each of the text.
+    ensures compiles { result.status ≡ Status.Ok → Compiles (wanted (texts_of words.now)) (S.told src.old) (K.written out.old) (K.written out.new) result.made }
 
     // Each answer comes only with its cause.
     ensures usage { result.status ≡ Status.Usage → wanted (texts_of words.now) ≡ None }
