@@ -1,8 +1,6 @@
 -- The addition's source run and that of its bytes, side by side.
-use Rattle.std.proofs.Common.{◌≡◌, ℕ, zero, suc, ◌+◌, ◌%◌, ◌^◌, ◌<◌, ◌≤◌, List, [], ◌∷◌, refl, sym, ap, ◌∙◌, arith, subst}
-use Rattle.std.specs.Prelude.{Contains, pos}
-use Rattle.jz_words.specs.declared.size.Size.TheVariants.{S64}
-use Rattle.jz_words.specs.Words.{residue}
+use Rattle.std.proofs.Common.{◌≡◌, ℕ, zero, suc, ◌+◌, ◌%◌, ◌^◌, ◌<◌, List, [], ◌∷◌, sym, ap, arith, subst}
+use Rattle.std.specs.Prelude.{Contains}
 use Rattle.jz_words.specs.Memory.{Memory}
 use Rattle.jasminc_top.specs.declared.jz_tree.Program.{Program}
 use Rattle.jasminc_top.specs.declared.jz_tree.Fun.{Fun}
@@ -13,10 +11,9 @@ use Rattle.jasminc_top.specs.Reading.{Reads}
 use Rattle.jasminc_top.specs.Compiling.{compiled_of, add_transformer}
 use Rattle.jasminc_top.specs.OneForm.{TakesTwo}
 use Rattle.jasminc_top.specs.RunLeaks.{over, ran}
-use Rattle.jasminc_top.specs.RunRules.{End}
 use Rattle.jasminc_top.specs.SourceRuns.{FunOutcome, IsRun}
 use Rattle.jasminc_top.specs.Steps.{Config}
-use Rattle.jasminc_top.specs.Starts.{MeetsPreconditions, IsStart}
+use Rattle.jasminc_top.specs.Starts.{IsStart}
 use Rattle.jasminc_top.specs.Agreement.{EndsWith}
 use Rattle.jasminc_top.specs.Applying.{apply_of, Fits}
 use Rattle.jasminc_top.specs.Correctness.{Matches, CarriesOver}

@@ -1,8 +1,7 @@
 -- What is made of a program that is read is correct.
-use Rattle.std.proofs.Common.{◌≡◌, ℕ, List, [], ◌∷◌, refl, sym, ap, arith, subst}
+use Rattle.std.proofs.Common.{ℕ, List, refl, sym, arith, subst}
 use Rattle.std.specs.Prelude.{Contains, map}
 use Rattle.std.specs.List.{concat}
-use Rattle.x64_insn.specs.declared.types.Insn.{Insn}
 use Rattle.x64_insn.specs.Chosen.{chosen_bytes}
 use Rattle.x64_insn.proofs.ChosenSpelling.{chosen_spells}
 use Rattle.jasminc_top.specs.declared.jz_tree.Program.{Program}
@@ -11,7 +10,7 @@ use Rattle.jasminc_top.specs.declared.jz_lex.token.Token.{Token}
 use Rattle.jasminc_top.specs.Parsing.{Derives, tree_of}
 use Rattle.jasminc_top.specs.Reading.{Reads}
 use Rattle.jasminc_top.specs.Compiling.{compiled_of, made_of, add_code}
-use Rattle.jasminc_top.specs.Correctness.{CarriesOver, IsCorrect, AreCorrect, AreSpelled}
+use Rattle.jasminc_top.specs.Correctness.{CarriesOver, AreCorrect, AreSpelled}
 use Rattle.jasminc_top.proofs.AddCarries.{carries}
 
 -- the bytes of the three instructions, one after another
@@ -20,7 +19,8 @@ add_spelled = (_, _, refl, chosen_spells _ refl, (_, _, refl, chosen_spells _ re
 
 tree_correct : (ts : List Token) (f a b c : List ℕ) → ((g : Fun) → Contains (tree_of ts f a b c).funs g → CarriesOver (tree_of ts f a b c) g (compiled_of g))
     → AreCorrect (tree_of ts f a b c) (tree_of ts f a b c).funs (made_of (tree_of ts f a b c))
-tree_correct ts f a b c all = (record {
+tree_correct ts f a b c all = (
+  record {
     name = refl;
     args = ((refl, refl, refl), ((refl, refl, refl), tt));
     rets = ((refl, refl, refl), tt);
@@ -34,7 +34,9 @@ tree_correct ts f a b c all = (record {
     after = refl;
     places = (tt, (tt, tt));
     carries = all _ (0, omega arith, refl);
-  }, tt)
+  },
+  tt,
+)
 
 derived_correct : (ts : List Token) (p : Program) → Derives ts p → ((g : Fun) → Contains p.funs g → CarriesOver p g (compiled_of g)) → AreCorrect p p.funs (made_of p)
 derived_correct ts p (f, a, b, c, pairs, kinds, is) all =

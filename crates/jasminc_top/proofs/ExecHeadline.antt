@@ -1,5 +1,5 @@
 -- A run that is printed is that of a correct function, from a start.
-use Rattle.std.proofs.Common.{◌≡◌, ◌≢◌, ◌∙◌, ℕ, ◌<◌, ◌^◌, Bool, true, false, if◌then◌else◌, List, [], ◌∷◌, length, map, Option, Some, None, refl, sym, ap, subst, inl, inr, arith}
+use Rattle.std.proofs.Common.{◌≡◌, ◌∙◌, ℕ, ◌<◌, ◌^◌, Bool, true, false, if◌then◌else◌, List, [], ◌∷◌, length, map, Option, Some, None, refl, sym, ap, subst, inl, inr, arith}
 use Rattle.std.specs.FinMap as map_of
 use Rattle.std.specs.Str.{bytes_eq}
 use Rattle.std.specs.Io.KnownBytes.{Appends}
@@ -11,13 +11,12 @@ use Rattle.jasminc_top.specs.declared.jz_lex.token.Token.{Token}
 use Rattle.jasminc_top.specs.declared.listing.compiled.Compiled.{Compiled}
 use Rattle.jasminc_top.specs.declared.refusal.Status.{Status}
 use Rattle.jasminc_top.specs.declared.refusal.Status.TheVariants as status
-use Rattle.jasminc_top.specs.declared.refusal.Refusal.{Refusal}
 use Rattle.jasminc_top.specs.declared.refusal.Refusal.TheVariants.{NoFunction, Items}
 use Rattle.jasminc_top.specs.Parsing.{Derives}
 use Rattle.jasminc_top.specs.Reading.{Reads}
 use Rattle.jasminc_top.specs.OneForm.{TakesTwo}
-use Rattle.jasminc_top.specs.Compiling.{made_of, compiled_of}
-use Rattle.jasminc_top.specs.Answers.{HasFile, IsDue, IsDone, Gives, GivesRun, RunsProgram, Cause, ExecCause, Clear, function_named, compiled_named, step_limit}
+use Rattle.jasminc_top.specs.Compiling.{compiled_of}
+use Rattle.jasminc_top.specs.Answers.{HasFile, IsDue, IsDone, Gives, GivesRun, RunsProgram, ExecCause, Clear, function_named, compiled_named, step_limit}
 use Rattle.jasminc_top.specs.Refusals.{all_stages}
 use Rattle.jasminc_top.specs.Running.{RunsTo, IsStartMemory, code_base, return_slot, exec_start}
 use Rattle.jasminc_top.specs.Starts.{MeetsPreconditions, IsStart}
@@ -97,7 +96,7 @@ run_printed : (file fun items text output : List ℕ) (told : Option Telling) (w
     → RunsProgram p fun items status.Ok output made → Appends written written_after output → PrintsRun file fun items told written written_after made
 run_printed file fun items text output told written written_after made p f has reads found many fit r wrote =
     let there : compiled_named fun made ≡ Some (compiled_of f) =
-        subst (λ (m : List Compiled). compiled_named fun m ≡ Some (compiled_of f)) (sym r.made_is) (compiled_found fun p.funs f found) in
+    subst (λ (m : List Compiled). compiled_named fun m ≡ Some (compiled_of f)) (sym r.made_is) (compiled_found fun p.funs f found) in
     let same : r.compiled ≡ compiled_of f = same_compiled r.compiled (compiled_of f) (compiled_named fun made) r.found there in
     let runs : RunsTo (compiled_of f) items step_limit output = subst (λ (c : Compiled). RunsTo c items step_limit output) same r.runs in
     let both = reading_named text p reads fun f found (correct text p reads) in
@@ -130,7 +129,7 @@ done_printed file fun items text output told written written_after made has fit 
     let g = given_run file fun items text output made x in
     let f = function_there text fun items g.program g.reads x.clear in
     run_printed file fun items text output told written written_after made g.program f.0 has g.reads f.1
-        (as_many_items text fun items g.program f.0 g.reads f.1 x.clear) fit g.run wrote
+    (as_many_items text fun items g.program f.0 g.reads f.1 x.clear) fit g.run wrote
 
 due_printed : (file fun items output : List ℕ) (old new : Option Telling) (made : List Compiled) (written written_after : Option (List ℕ))
     → ItemsFit items → IsDue (Some (exec file fun items)) old new status.Ok output made → Appends written written_after output

@@ -8,8 +8,6 @@ use Rattle.jasminc_top.specs.declared.refusal.Status.{Status}
 use Rattle.jasminc_top.specs.declared.refusal.Status.TheVariants as status
 use Rattle.jasminc_top.specs.declared.refusal.Refusal.{Refusal}
 use Rattle.jasminc_top.specs.declared.refusal.Refusal.TheVariants.{Usage, Source, Lex, Parse, NoFunction, Items}
-use Rattle.jasminc_top.specs.Listing.{listing_text}
-use Rattle.jasminc_top.specs.Compiling.{made_of}
 use Rattle.jasminc_top.specs.Refusals.{status_of}
 use Rattle.jasminc_top.specs.Answers.{IsDue, IsDone, Gives, GivesListing}
 use Rattle.jasminc_top.specs.Runs.{Due, Runs}
@@ -37,15 +35,15 @@ printed : (file : List ℕ) (old new : Option Telling) (output : List ℕ) (made
 printed file old new output made written written_after d wrote = elim d.answers [
   | inl x ↦ absurd (never_ok x.refusal x.status)
   | inr x ↦
-    let g = listing_of file d.text output made x in
-    record {
-      text = d.text;
-      has = d.has;
-      program = g.program;
-      reads = g.reads;
-      correct = subst (λ (m : List Compiled). AreCorrect g.program g.program.funs m) (sym g.made_is) (correct d.text g.program g.reads);
-      wrote = subst (λ (o : List ℕ). Appends written written_after o) g.output_is wrote;
-    }
+      let g = listing_of file d.text output made x in
+      record {
+        text = d.text;
+        has = d.has;
+        program = g.program;
+        reads = g.reads;
+        correct = subst (λ (m : List Compiled). AreCorrect g.program g.program.funs m) (sym g.made_is) (correct d.text g.program g.reads);
+        wrote = subst (λ (o : List ℕ). Appends written written_after o) g.output_is wrote;
+      }
 ]
 
 due_printed : (file : List ℕ) (old new : Option Telling) (before now : ℕ) (s : Status) (output : List ℕ) (made : List Compiled) (written written_after : Option (List ℕ))

@@ -53,7 +53,7 @@ pub record EndsSo (c : Compiled) (words : List ℕ) (rsp0 base : ℕ) (s : Confi
   pub ends : EndsWith c words rsp0 base s steps r.words r.memory (apply_of c.tr l rsp0)
 
 -- The source wants one turn more: the bytes are running after n steps, never fault, and what they show after some number of steps,
--- at most a pass over the code short of n, is the transformer applied to what the source leaked up to there.
+-- at most as many short of n as the code has instructions, is the transformer applied to what the source leaked up to there.
 pub record RunsSo (c : Compiled) (rsp0 base : ℕ) (s : Config) (n : ℕ) (l : Leak) : Type 0 where
   pub fits : Fits c.tr l
   pub running : (steps_of c.code base s n).after.ended ≡ false
@@ -142,7 +142,7 @@ abbrev pub OutsStayIn : Fun → ℕ → List (List ℕ) → List Out → Type 0
 OutsStayIn f frame names [] = ⊤
 OutsStayIn f frame names (o ∷ outs) = OutStaysIn f frame names o × OutsStayIn f frame names outs
 
--- each form of a place in the frame lies in the place of a stack variable that its statement names
+-- the offset of each form of the frame lies in the place of a stack variable that its statement names
 abbrev pub CasesStayIn : Fun → ℕ → List Stmt → List Case → Type 0
 CasesStayIn f frame [] [] = ⊤
 CasesStayIn f frame (s ∷ ss) (Op outs ∷ cases) = OutsStayIn f frame (kind_names s.kind) outs × CasesStayIn f frame ss cases
@@ -171,7 +171,8 @@ pub record IsCorrect (p : Program) (f : Fun) (c : Compiled) : Type 0 where
   pub counted : c.insns ≡ length insns
   pub frame : c.frame ≡ frame_of f insns
   pub saved : c.saved ≡ saved_of insns
-  -- the first and the last list show the saved registers' slots, and the last one that of the return; the others stay in places
+  -- the first list shows the slots of the saved registers, the last the same and then the slot of the return; the lists between them
+  -- show of the frame the places of variables alone
   pub before : c.tr.before ≡ saving_accesses f c
   pub after : c.tr.after ≡ saving_accesses f c ++ out.Addr (form.Frame (pos 0)) ∷ []
   pub places : CasesStayIn f c.frame f.body c.tr.body.cases

@@ -1,5 +1,5 @@
--- The run of a source function: what its statements do, parameters in and results out. The statements are those of the text, and no
--- place and no code is named. The rules are those of the Jasmin documentation, for the statements that are read.
+-- The run of a source function: what its statements do, parameters in and results out. The statements are those of the text; no
+-- register, no address of a variable and no code is named. The rules are those of the Jasmin documentation, for the statements that are read.
 use Rattle.std.specs.Prelude.{◌≡◌, ◌<◌, ℕ, ◌+◌, ◌%◌, List, [], ◌∷◌, Option, Some, None, Contains}
 use Rattle.jz_io.specs.declared.span.Span.{Span}
 use Rattle.jz_words.specs.Memory.{Memory}

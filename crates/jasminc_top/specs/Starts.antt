@@ -133,7 +133,7 @@ frame_at rsp0 size = record { from = rsp0 - size; count = size }
 abbrev pub stack_at : ℕ → ℕ → ByteRange
 stack_at rsp0 size = record { from = rsp0 - size; count = size + 8 }
 
--- A start of a compiled function on an input, with this stack pointer at entry and this place of its code. What is not said is anything.
+-- A start of a compiled function on an input, with this stack pointer at entry and this place of its code. What is not said is free.
 -- The code is no part of the memory.
 pub record IsStart (c : Compiled) (words : List ℕ) (memory : Memory) (rsp0 base : ℕ) (s : Config) : Type 0 where
   pub machine : IsMachine s

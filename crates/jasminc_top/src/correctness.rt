@@ -8,7 +8,8 @@ ghost use Rattle.jasminc_top.specs.Compiling.{compiled_of, made_of};
 ghost use Rattle.jasminc_top.specs.Correctness.{CarriesOver, AreCorrect};
 
 /// For each function of a text that is read: where the source ends within n turns, the bytes end without a fault, with
-/// its results and memory, and show the printed transformer applied to what the source leaks; else they still run.
+/// its results and memory, and show the printed transformer applied to what the source leaks; where it wants one turn
+/// more, they still run. It is never stuck, and no step faults.
 pub fn runs_carry_over()
     ensures { (text : List ℕ) (p : Program) → Reads text p → (f : Fun) → Contains p.funs f → CarriesOver p f (compiled_of f) }
 {}

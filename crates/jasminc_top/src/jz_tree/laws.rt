@@ -1,4 +1,4 @@
-//! What holds of every run of a source function, and of a list of statements, apart from any code.
+//! What holds of every run of a source function, and of a body, apart from any code.
 
 ghost use Rattle.std.specs.Prelude.{◌≡◌, ℕ, ◌+◌, List};
 ghost use Rattle.jz_words.specs.Memory.{Memory};
