@@ -2,20 +2,20 @@
 use Rattle.std.proofs.Common.{◌≡◌, ℕ, zero, suc, ◌+◌, ◌%◌, ◌^◌, ◌<◌, List, [], ◌∷◌, sym, ap, arith, subst}
 use Rattle.std.specs.Prelude.{Contains}
 use Rattle.jz_words.specs.Memory.{Memory}
-use Rattle.jasminc_top.specs.declared.jz_tree.Program.{Program}
-use Rattle.jasminc_top.specs.declared.jz_tree.Fun.{Fun}
-use Rattle.jasminc_top.specs.declared.jz_lex.token.Token.{Token}
-use Rattle.jasminc_top.specs.declared.jz_leak.event.Event.TheVariants as event
-use Rattle.jasminc_top.specs.Parsing.{Derives}
-use Rattle.jasminc_top.specs.Reading.{Reads}
+use Rattle.jz_tree.specs.declared.Program.{Program}
+use Rattle.jz_tree.specs.declared.Fun.{Fun}
+use Rattle.jz_lex.specs.declared.token.Token.{Token}
+use Rattle.jz_leak.specs.declared.event.Event.TheVariants as event
+use Rattle.jz_parse.specs.Parsing.{Derives}
+use Rattle.jz_parse.specs.Reading.{Reads}
 use Rattle.jasminc_top.specs.Compiling.{compiled_of, add_transformer}
 use Rattle.jasminc_top.specs.OneForm.{TakesTwo}
-use Rattle.jasminc_top.specs.RunLeaks.{over, ran}
-use Rattle.jasminc_top.specs.SourceRuns.{FunOutcome, IsRun}
-use Rattle.jasminc_top.specs.Steps.{Config}
+use Rattle.jz_leak.specs.RunLeaks.{over, ran}
+use Rattle.jz_meaning.specs.SourceRuns.{FunOutcome, IsRun}
+use Rattle.x64_machine.specs.Steps.{Config}
 use Rattle.jasminc_top.specs.Starts.{IsStart}
 use Rattle.jasminc_top.specs.Agreement.{EndsWith}
-use Rattle.jasminc_top.specs.Applying.{apply_of, Fits}
+use Rattle.jz_leak.specs.Applying.{apply_of, Fits}
 use Rattle.jasminc_top.specs.Correctness.{Matches, CarriesOver}
 use Rattle.jasminc_top.proofs.AddSource.{added, add_outcome}
 use Rattle.jasminc_top.proofs.StartLaws.{derived, ends_from_each_start}

@@ -4,11 +4,11 @@ use Rattle.std.specs.Prelude.{Contains, map}
 use Rattle.std.specs.List.{concat}
 use Rattle.x64_insn.specs.Chosen.{chosen_bytes}
 use Rattle.x64_insn.proofs.ChosenSpelling.{chosen_spells}
-use Rattle.jasminc_top.specs.declared.jz_tree.Program.{Program}
-use Rattle.jasminc_top.specs.declared.jz_tree.Fun.{Fun}
-use Rattle.jasminc_top.specs.declared.jz_lex.token.Token.{Token}
-use Rattle.jasminc_top.specs.Parsing.{Derives, tree_of}
-use Rattle.jasminc_top.specs.Reading.{Reads}
+use Rattle.jz_tree.specs.declared.Program.{Program}
+use Rattle.jz_tree.specs.declared.Fun.{Fun}
+use Rattle.jz_lex.specs.declared.token.Token.{Token}
+use Rattle.jz_parse.specs.Parsing.{Derives, tree_of}
+use Rattle.jz_parse.specs.Reading.{Reads}
 use Rattle.jasminc_top.specs.Compiling.{compiled_of, made_of, add_code}
 use Rattle.jasminc_top.specs.Correctness.{CarriesOver, AreCorrect, AreSpelled}
 use Rattle.jasminc_top.proofs.AddCarries.{carries}

@@ -13,10 +13,10 @@ use Rattle.x64_insn.specs.Table.{row_of, reg_of}
 use Rattle.x64_insn.specs.Encoding.{spelling_of, insn_of, displacement_length}
 use Rattle.x64_insn.specs.Answers.{sum_answer}
 use Rattle.x64_insn.specs.Rows.{After, reg_value, reg_word, with_reg, no_event, address_event, effect_of, mov_row, add_row, ret_row}
-use Rattle.jasminc_top.specs.declared.x64_decode.Decoded.TheVariants as decoded
-use Rattle.jasminc_top.specs.ByteReading.{follow, prefix, byte_where, byte_if, some_bytes}
-use Rattle.jasminc_top.specs.Decoding.{decoded_of, parts, may_be_opcode, may_be_modrm, immediate_bytes}
-use Rattle.jasminc_top.specs.Steps.{Config, Ran, same_number, at_entry, steps_of}
+use Rattle.x64_decode.specs.declared.Decoded.TheVariants as decoded
+use Rattle.x64_decode.specs.ByteReading.{follow, prefix, byte_where, byte_if, some_bytes}
+use Rattle.x64_decode.specs.Decoding.{decoded_of, parts, may_be_opcode, may_be_modrm, immediate_bytes}
+use Rattle.x64_machine.specs.Steps.{Config, Ran, same_number, at_entry, steps_of}
 use Rattle.jasminc_top.proofs.StepRuns.{at_place, made, step_made, run_on, no_step}
 use Rattle.jasminc_top.proofs.AddRun.{add_code, AtAdd}
 

@@ -14,12 +14,12 @@ use Rattle.x64_insn.specs.Table.{row_of, reg_of}
 use Rattle.x64_insn.specs.Encoding.{spelling_of, insn_of, displacement_length}
 use Rattle.x64_insn.specs.Answers.{sum_answer}
 use Rattle.x64_insn.specs.Rows.{After, reg_value, reg_word, with_reg, no_event, address_event, effect_of, mov_row, add_row, ret_row}
-use Rattle.jasminc_top.specs.declared.jz_leak.event.Event.TheVariants as event
-use Rattle.jasminc_top.specs.declared.x64_decode.Decoded.TheVariants as decoded
-use Rattle.jasminc_top.specs.declared.x64_machine.step.Step.TheVariants.{Running, Ended}
-use Rattle.jasminc_top.specs.ByteReading.{follow, prefix, byte_where, byte_if, some_bytes}
-use Rattle.jasminc_top.specs.Decoding.{decoded_of, parts, may_be_opcode, may_be_modrm, immediate_bytes}
-use Rattle.jasminc_top.specs.Steps.{Config, Moved, Ran, same_number, at_entry, step_of, steps_of}
+use Rattle.jz_leak.specs.declared.event.Event.TheVariants as event
+use Rattle.x64_decode.specs.declared.Decoded.TheVariants as decoded
+use Rattle.x64_machine.specs.declared.step.Step.TheVariants.{Running, Ended}
+use Rattle.x64_decode.specs.ByteReading.{follow, prefix, byte_where, byte_if, some_bytes}
+use Rattle.x64_decode.specs.Decoding.{decoded_of, parts, may_be_opcode, may_be_modrm, immediate_bytes}
+use Rattle.x64_machine.specs.Steps.{Config, Moved, Ran, same_number, at_entry, step_of, steps_of}
 use Rattle.jasminc_top.proofs.StepRuns.{at_place, made, step_made, run_on, no_step}
 
 -- MOV RAX, RDI; ADD RAX, RSI; RET

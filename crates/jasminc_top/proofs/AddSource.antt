@@ -5,22 +5,22 @@ use Rattle.std.specs.Cmp.Lexicographic.{pointwise}
 use Rattle.std.specs.Prelude.{if◌then◌else◌}
 use Rattle.jz_words.specs.declared.size.Size.TheVariants.{S64}
 use Rattle.jz_words.specs.Memory.{Memory}
-use Rattle.jasminc_top.specs.declared.jz_lex.token.Token.{Token}
-use Rattle.jasminc_top.specs.declared.jz_tree.Program.{Program}
-use Rattle.jasminc_top.specs.declared.jz_tree.Fun.{Fun}
-use Rattle.jasminc_top.specs.declared.jz_tree.Param.{Param}
-use Rattle.jasminc_top.specs.declared.jz_tree.BinOp.TheVariants.{Add}
-use Rattle.jasminc_top.specs.declared.jz_tree.Lval.TheVariants as lval
-use Rattle.jasminc_top.specs.Parsing.{Derives, tree_of, reg_u64, span_at, declared_at, used_at, assignment}
-use Rattle.jasminc_top.specs.Reading.{Reads}
-use Rattle.jasminc_top.specs.RunTrees.{done}
-use Rattle.jasminc_top.specs.RunLeaks.{over, ran}
-use Rattle.jasminc_top.specs.RunRules.{went, End, Goes, finished, did}
-use Rattle.jasminc_top.specs.SourceStates.{Value, word, Store, empty_store, put, State}
-use Rattle.jasminc_top.specs.SourceValues.{defined, and_then}
-use Rattle.jasminc_top.specs.SourceRuns.{source, block, written, combined, word_of, returned, returned_words, FunOutcome, AreArguments, IsInput, IsRun}
-use Rattle.jasminc_top.proofs.SourceLaws.{fun_one}
-use Rattle.jasminc_top.proofs.Differing.{Different, different_of_pairs, different_texts, same_texts}
+use Rattle.jz_lex.specs.declared.token.Token.{Token}
+use Rattle.jz_tree.specs.declared.Program.{Program}
+use Rattle.jz_tree.specs.declared.Fun.{Fun}
+use Rattle.jz_tree.specs.declared.Param.{Param}
+use Rattle.jz_tree.specs.declared.BinOp.TheVariants.{Add}
+use Rattle.jz_tree.specs.declared.Lval.TheVariants as lval
+use Rattle.jz_parse.specs.Parsing.{Derives, tree_of, reg_u64, span_at, declared_at, used_at, assignment}
+use Rattle.jz_parse.specs.Reading.{Reads}
+use Rattle.jz_meaning.specs.RunTrees.{done}
+use Rattle.jz_leak.specs.RunLeaks.{over, ran}
+use Rattle.jz_meaning.specs.RunRules.{went, End, Goes, finished, did}
+use Rattle.jz_meaning.specs.SourceStates.{Value, word, Store, empty_store, put, State}
+use Rattle.jz_meaning.specs.SourceValues.{defined, and_then}
+use Rattle.jz_meaning.specs.SourceRuns.{source, block, written, combined, word_of, returned, returned_words, FunOutcome, AreArguments, IsInput, IsRun}
+use Rattle.jz_meaning.proofs.SourceLaws.{fun_one}
+use Rattle.jz_parse.proofs.Differing.{Different, different_of_pairs, different_texts, same_texts}
 
 -- ---- a store after a variable was set
 put_same : (store : Store) (name : List ℕ) (v : Option Value) → put store (record { name = name }) v (record { name = name }) ≡ v

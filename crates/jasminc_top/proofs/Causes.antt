@@ -2,33 +2,33 @@
 use Rattle.std.proofs.Common.{◌≡◌, ℕ, ◌<◌, ◌≤◌, List, length, ◌∙◌, arith, [], ◌∷◌, Option, Some, None, subst, ap, refl, Bool, true, false}
 use Rattle.std.specs.Prelude.{map, IsSome}
 use Rattle.std.specs.Str.{bytes_eq}
-use Rattle.jasminc_top.specs.declared.jz_lex.token.Token.{Token}
-use Rattle.jasminc_top.specs.declared.jz_lex.token.LexFault.{LexFault}
-use Rattle.jasminc_top.specs.declared.jz_parse.fault.SyntaxFault.{SyntaxFault}
-use Rattle.jasminc_top.specs.declared.jz_tree.Program.{Program}
-use Rattle.jasminc_top.specs.declared.jz_tree.Fun.{Fun}
+use Rattle.jz_lex.specs.declared.token.Token.{Token}
+use Rattle.jz_lex.specs.declared.token.LexFault.{LexFault}
+use Rattle.jz_parse.specs.declared.fault.SyntaxFault.{SyntaxFault}
+use Rattle.jz_tree.specs.declared.Program.{Program}
+use Rattle.jz_tree.specs.declared.Fun.{Fun}
 use Rattle.jasminc_top.specs.declared.refusal.Refusal.{Refusal}
 use Rattle.jasminc_top.specs.declared.refusal.Refusal.TheVariants.{Usage, Source, Lex, Parse, NoFunction, Items}
 use Rattle.jz_data.specs.declared.failure.Failure.{Failure}
 use Rattle.jz_data.specs.declared.failure.Failure.TheVariants as failure
 use Rattle.jasminc_top.specs.Halting.{lexer_halt, parser_halt}
 use Rattle.jz_data.specs.Failures.{IfRefused}
-use Rattle.jasminc_top.specs.Lexing.{IsLexed, HasNoToken}
-use Rattle.jasminc_top.specs.Parsing.{Derives, IsUnexpected}
-use Rattle.jasminc_top.specs.Reading.{Reads, LexFails, ParseFails}
+use Rattle.jz_lex.specs.Lexing.{IsLexed, HasNoToken}
+use Rattle.jz_parse.specs.Parsing.{Derives, IsUnexpected}
+use Rattle.jz_parse.specs.Reading.{Reads, LexFails, ParseFails}
 use Rattle.jasminc_top.specs.Refusals.{all_stages}
 use Rattle.jasminc_top.specs.Words.{compile, exec}
 use Rattle.jasminc_top.specs.Compiling.{made_of, compiled_of}
-use Rattle.jasminc_top.specs.Listing.{listing_text}
-use Rattle.jasminc_top.specs.declared.listing.compiled.Compiled.{Compiled}
+use Rattle.jz_listing.specs.Listing.{listing_text}
+use Rattle.jz_listing.specs.declared.compiled.Compiled.{Compiled}
 use Rattle.jasminc_top.specs.declared.refusal.Status.{Status}
 use Rattle.jasminc_top.specs.declared.refusal.Status.TheVariants as status
 use Rattle.jasminc_top.specs.declared.answer.Halt.{Halt}
 use Rattle.jasminc_top.specs.declared.answer.Halt.TheVariants.{Refused, Stopped}
 use Rattle.jasminc_top.specs.declared.answer.Stop.TheVariants as stop
 use Rattle.jasminc_top.specs.Answers.{source_limit, function_named, compiled_named, RunsProgram, TextCause, TextHalts, ExecCause, HasNoFunction, HasOtherItems, Clear, IsFirstCause, IsDone}
-use Rattle.jasminc_top.proofs.LexingUnique.{one_lexing, lexed_or_refused}
-use Rattle.jasminc_top.proofs.FormLaws.{one_program_lem, no_fault_lem}
+use Rattle.jz_lex.proofs.LexingUnique.{one_lexing, lexed_or_refused}
+use Rattle.jz_parse.proofs.FormLaws.{one_program_lem, no_fault_lem}
 
 -- ---- texts
 pub reads_from : (text : List ℕ) (tokens : List Token) (p : Program) → IsLexed text tokens → Derives tokens p → Reads text p

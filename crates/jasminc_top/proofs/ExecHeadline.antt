@@ -5,15 +5,15 @@ use Rattle.std.specs.Str.{bytes_eq}
 use Rattle.std.specs.Io.KnownBytes.{Appends}
 use Rattle.jz_io.specs.Telling.{Telling}
 use Rattle.jasminc_top.specs.Words.{Wanted, compile, exec, wanted}
-use Rattle.jasminc_top.specs.declared.jz_tree.Program.{Program}
-use Rattle.jasminc_top.specs.declared.jz_tree.Fun.{Fun}
-use Rattle.jasminc_top.specs.declared.jz_lex.token.Token.{Token}
-use Rattle.jasminc_top.specs.declared.listing.compiled.Compiled.{Compiled}
+use Rattle.jz_tree.specs.declared.Program.{Program}
+use Rattle.jz_tree.specs.declared.Fun.{Fun}
+use Rattle.jz_lex.specs.declared.token.Token.{Token}
+use Rattle.jz_listing.specs.declared.compiled.Compiled.{Compiled}
 use Rattle.jasminc_top.specs.declared.refusal.Status.{Status}
 use Rattle.jasminc_top.specs.declared.refusal.Status.TheVariants as status
 use Rattle.jasminc_top.specs.declared.refusal.Refusal.TheVariants.{NoFunction, Items}
-use Rattle.jasminc_top.specs.Parsing.{Derives}
-use Rattle.jasminc_top.specs.Reading.{Reads}
+use Rattle.jz_parse.specs.Parsing.{Derives}
+use Rattle.jz_parse.specs.Reading.{Reads}
 use Rattle.jasminc_top.specs.OneForm.{TakesTwo}
 use Rattle.jasminc_top.specs.Compiling.{compiled_of}
 use Rattle.jasminc_top.specs.Answers.{HasFile, IsDue, IsDone, Gives, GivesRun, RunsProgram, ExecCause, Clear, function_named, compiled_named, step_limit}

@@ -13,13 +13,13 @@ use Rattle.x64_insn.specs.Chosen.{chosen_bytes}
 use Rattle.x64_insn.specs.Rows.{number_of, reg_value}
 use Rattle.jasminc_top.specs.Compiling.{add_code, argument_registers}
 use Rattle.jasminc_top.specs.Running.{code_base, return_slot, with_numbers, bare_registers, start_state, IsStartMemory, exec_start, Finishes, EndsAfter, RunsTo, run_text}
-use Rattle.jasminc_top.specs.declared.jz_leak.event.Event.{Event}
-use Rattle.jasminc_top.specs.declared.listing.compiled.Compiled.{Compiled}
+use Rattle.jz_leak.specs.declared.event.Event.{Event}
+use Rattle.jz_listing.specs.declared.compiled.Compiled.{Compiled}
 use Rattle.x64_insn.specs.declared.types.FaultKind.{FaultKind}
 use Rattle.jasminc_top.specs.declared.exec.Finish.TheVariants as finish
-use Rattle.jasminc_top.specs.declared.x64_machine.step.Step.TheVariants.{Fault}
-use Rattle.jasminc_top.specs.Steps.{Config, step_of, steps_of}
-use Rattle.jasminc_top.proofs.MachineRunning.{none_made}
+use Rattle.x64_machine.specs.declared.step.Step.TheVariants.{Fault}
+use Rattle.x64_machine.specs.Steps.{Config, step_of, steps_of}
+use Rattle.x64_machine.proofs.MachineRunning.{none_made}
 use Rattle.jasminc_top.proofs.AddRun as add
 
 -- the bytes of the addition

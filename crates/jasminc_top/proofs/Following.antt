@@ -4,12 +4,12 @@ use Rattle.std.specs.Prelude.{Result, Ok, Err}
 use Rattle.std.proofs.lemmas.List.{append-nil}
 use Rattle.x64_insn.specs.Rows.{After}
 use Rattle.x64_insn.specs.declared.types.FaultKind.{FaultKind}
-use Rattle.jasminc_top.specs.declared.jz_leak.event.Event.{Event}
-use Rattle.jasminc_top.specs.declared.x64_decode.Decoded.{Decoded}
-use Rattle.jasminc_top.specs.declared.x64_decode.Decoded.TheVariants as decoded
-use Rattle.jasminc_top.specs.declared.x64_machine.step.Step.TheVariants.{Running, Ended}
-use Rattle.jasminc_top.specs.Steps.{Config, Moved, insn_at, moved, by_insn, step_of, steps_of, events_of}
-use Rattle.jasminc_top.proofs.MachineRunning.{last_made, none_made}
+use Rattle.jz_leak.specs.declared.event.Event.{Event}
+use Rattle.x64_decode.specs.declared.Decoded.{Decoded}
+use Rattle.x64_decode.specs.declared.Decoded.TheVariants as decoded
+use Rattle.x64_machine.specs.declared.step.Step.TheVariants.{Running, Ended}
+use Rattle.x64_machine.specs.Steps.{Config, Moved, insn_at, moved, by_insn, step_of, steps_of, events_of}
+use Rattle.x64_machine.proofs.MachineRunning.{last_made, none_made}
 
 moved_goes : (c : Config) (ends : Bool) (r : Result After FaultKind) → (moved c ends r).answer ≡ Running → (moved c ends r).after.ended ≡ false
 moved_goes c true (Ok a) h = cc

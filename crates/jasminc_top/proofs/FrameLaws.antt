@@ -5,16 +5,16 @@ use Rattle.std.proofs.lemmas.Bool.Decides.{nat_tests}
 use Rattle.jz_words.specs.Memory.{Memory}
 use Rattle.jz_words.specs.declared.size.Size.TheVariants.{S8, S16, S64}
 use Rattle.x64_insn.specs.declared.types.Reg.TheVariants as reg
-use Rattle.jasminc_top.specs.declared.jz_tree.Storage.{Storage}
-use Rattle.jasminc_top.specs.declared.jz_tree.Storage.TheVariants as storage
-use Rattle.jasminc_top.specs.declared.jz_tree.Decl.{Decl}
-use Rattle.jasminc_top.specs.declared.jz_tree.Var.{Var}
-use Rattle.jasminc_top.specs.declared.jz_tree.Fun.{Fun}
-use Rattle.jasminc_top.specs.declared.listing.compiled.Compiled.{Compiled}
+use Rattle.jz_tree.specs.declared.Storage.{Storage}
+use Rattle.jz_tree.specs.declared.Storage.TheVariants as storage
+use Rattle.jz_tree.specs.declared.Decl.{Decl}
+use Rattle.jz_tree.specs.declared.Var.{Var}
+use Rattle.jz_tree.specs.declared.Fun.{Fun}
+use Rattle.jz_listing.specs.declared.compiled.Compiled.{Compiled}
 use Rattle.jasminc_top.specs.Compiling.{add_code, compiled_of}
 use Rattle.jasminc_top.specs.Frames.{StackVariable, Place, places_from, saved_slots, stacked_by, stacked_if, stacked_among, end_from, saved_of, frame_end, frame_size, frame_of, preserved_registers}
 use Rattle.jasminc_top.specs.Starts.{IsStart}
-use Rattle.jasminc_top.specs.Steps.{Config}
+use Rattle.x64_machine.specs.Steps.{Config}
 
 -- ---- the least size
 opened : (end : ℕ) → 0 < end → frame_size end ≡ 16 * ((end + 7) / 16) + 8

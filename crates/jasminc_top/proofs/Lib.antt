@@ -1,25 +1,4 @@
-pub mod FormSteps
-pub mod Differing
-pub mod FormRuns
-pub mod FormKinds
-pub mod FormLaws
-pub mod Spaces
-pub mod ByteReaders
-pub mod ByteCounts
-pub mod PartsRead
-pub mod FieldParts
-pub mod DecodeExact
-pub mod DecodeSizes
-mod DecodeExamples
 pub mod Numerals
-pub mod LexingNumbers
-pub mod LexingWords
-pub mod LexingFront
-pub mod Lexing
-pub mod LexingUnique
-pub mod MemorySegments
-pub mod MemorySpans
-pub mod MachineRunning
 pub mod AddCode
 pub mod Following
 pub mod ArgumentRegisters
@@ -33,8 +12,6 @@ pub mod StartLaws
 pub mod FrameLaws
 mod RegionExamples
 pub mod Rows
-pub mod RunSteady
-pub mod SourceLaws
 pub mod AddSource
 pub mod AddCarries
 pub mod AddCorrect

@@ -3,9 +3,9 @@ use Rattle.std.proofs.Common.{◌≡◌, List, [], ◌∷◌, refl, lit≤, arit
 use Rattle.std.specs.Prelude.{codes, Some, None}
 use Rattle.jz_words.specs.declared.size.Size.TheVariants.{S64}
 use Rattle.x64_insn.specs.declared.types.Reg.TheVariants as reg
-use Rattle.jasminc_top.specs.declared.listing.compiled.Arg.{Arg}
-use Rattle.jasminc_top.specs.declared.listing.compiled.Pre.{Pre}
-use Rattle.jasminc_top.specs.declared.listing.compiled.Pre.TheVariants as pre
+use Rattle.jz_listing.specs.declared.compiled.Arg.{Arg}
+use Rattle.jz_listing.specs.declared.compiled.Pre.{Pre}
+use Rattle.jz_listing.specs.declared.compiled.Pre.TheVariants as pre
 use Rattle.jasminc_top.specs.Starts.{AreMet, regions_of}
 
 abbrev pointer_and_length : List Arg

@@ -1,7 +1,7 @@
 -- Starts of the addition: that of `exec` is one, and from each the run ends as it should.
 use Rattle.std.proofs.Common.{◌≡◌, ℕ, zero, suc, ◌+◌, ◌-◌, ◌*◌, ◌%◌, ◌^◌, ◌<◌, ◌≤◌, Bool, true, false, List, [], ◌∷◌, length, refl, sym, ap, ◌∙◌, arith, subst, lit<, ◌⊎◌, ⊎_elim}
 use Rattle.std.proofs.lemmas.Bool.{le-ltb}
-use Rattle.jasminc_top.specs.MemoryMap.{byte_from, or_else}
+use Rattle.jz_leak.specs.MemoryMap.{byte_from, or_else}
 use Rattle.std.specs.Prelude.{Option, Some, None, IsSome, is_some, slice_index_or, slice_get, nat_lt, if◌then◌else◌, map, Contains, replicate}
 use Rattle.std.specs.List.{concat}
 use Rattle.std.specs.FinMap as map_of
@@ -11,17 +11,17 @@ use Rattle.x64_insn.specs.Chosen.{chosen_bytes}
 use Rattle.x64_insn.specs.declared.types.Reg.{Reg}
 use Rattle.x64_insn.specs.declared.types.Reg.TheVariants as reg
 use Rattle.x64_insn.specs.Rows.{reg_value, number_of}
-use Rattle.jasminc_top.specs.declared.jz_tree.Fun.{Fun}
-use Rattle.jasminc_top.specs.declared.jz_leak.event.Event.TheVariants as event
-use Rattle.jasminc_top.specs.declared.x64_machine.step.Step.TheVariants.{Ended, Fault}
+use Rattle.jz_tree.specs.declared.Fun.{Fun}
+use Rattle.jz_leak.specs.declared.event.Event.TheVariants as event
+use Rattle.x64_machine.specs.declared.step.Step.TheVariants.{Ended, Fault}
 use Rattle.jasminc_top.specs.Compiling.{compiled_of, variable_of, args_of, argument_registers, result_registers, add_code}
 use Rattle.jasminc_top.specs.OneForm.{TakesTwo}
-use Rattle.jasminc_top.specs.Parsing.{Derives, tree_of}
-use Rattle.jasminc_top.specs.declared.jz_tree.Program.{Program}
-use Rattle.jasminc_top.specs.declared.jz_lex.token.Token.{Token}
-use Rattle.jasminc_top.proofs.MachineRunning.{none_made, end_stays, steps_both}
+use Rattle.jz_parse.specs.Parsing.{Derives, tree_of}
+use Rattle.jz_tree.specs.declared.Program.{Program}
+use Rattle.jz_lex.specs.declared.token.Token.{Token}
+use Rattle.x64_machine.proofs.MachineRunning.{none_made, end_stays, steps_both}
 use Rattle.jasminc_top.proofs.AddKept.{keeps}
-use Rattle.jasminc_top.specs.Steps.{Config, Ran, step_of, steps_of}
+use Rattle.x64_machine.specs.Steps.{Config, Ran, step_of, steps_of}
 use Rattle.jasminc_top.specs.Running.{EndsAfter, code_base, return_slot, IsStartMemory, exec_start, start_state}
 use Rattle.jasminc_top.specs.Starts.{IsIn, IsValid, AreOfSizes, MeetsPreconditions, IsStart, Stand, stack_at}
 use Rattle.jasminc_top.specs.Frames.{preserved_registers}

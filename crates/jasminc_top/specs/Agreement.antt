@@ -6,13 +6,13 @@ use Rattle.x64_insn.specs.declared.types.Reg.{Reg}
 use Rattle.x64_insn.specs.declared.types.Reg.TheVariants as reg
 use Rattle.x64_insn.specs.declared.types.FaultKind.{FaultKind}
 use Rattle.x64_insn.specs.Rows.{reg_value}
-use Rattle.jasminc_top.specs.declared.jz_leak.event.Event.{Event}
-use Rattle.jasminc_top.specs.declared.listing.compiled.Compiled.{Compiled}
-use Rattle.jasminc_top.specs.declared.x64_machine.step.Step.TheVariants.{Fault}
+use Rattle.jz_leak.specs.declared.event.Event.{Event}
+use Rattle.jz_listing.specs.declared.compiled.Compiled.{Compiled}
+use Rattle.x64_machine.specs.declared.step.Step.TheVariants.{Fault}
 use Rattle.jasminc_top.specs.Frames.{preserved_registers}
 use Rattle.jasminc_top.specs.Starts.{IsIn, IsInOne, Stand, frame_at, regions_for}
 use Rattle.jasminc_top.specs.Running.{EndsAfter}
-use Rattle.jasminc_top.specs.Steps.{Config, step_of, steps_of}
+use Rattle.x64_machine.specs.Steps.{Config, step_of, steps_of}
 
 -- The configuration agrees with results and a memory, as seen from the start on these words.
 pub record Agrees (c : Compiled) (words : List ℕ) (rsp0 : ℕ) (start : Config) (results : List ℕ) (memory : Memory) (now : Config) : Type 0 where

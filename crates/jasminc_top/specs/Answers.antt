@@ -4,14 +4,14 @@ use Rattle.std.specs.Str.{bytes_eq}
 use Rattle.jz_io.specs.Causes.{Rose}
 use Rattle.jz_io.specs.Telling.{Telling, text_of, IsWhole}
 use Rattle.jasminc_top.specs.Words.{Wanted, compile, exec, file_of}
-use Rattle.jasminc_top.specs.Reading.{Reads, LexFails, ParseFails}
+use Rattle.jz_parse.specs.Reading.{Reads, LexFails, ParseFails}
 use Rattle.jasminc_top.specs.Compiling.{made_of}
-use Rattle.jasminc_top.specs.Listing.{listing_text}
+use Rattle.jz_listing.specs.Listing.{listing_text}
 use Rattle.jasminc_top.specs.Running.{RunsTo}
 use Rattle.jasminc_top.specs.Refusals.{status_of, line_of, stage_of, all_stages}
-use Rattle.jasminc_top.specs.declared.jz_tree.Program.{Program}
-use Rattle.jasminc_top.specs.declared.jz_tree.Fun.{Fun}
-use Rattle.jasminc_top.specs.declared.listing.compiled.Compiled.{Compiled}
+use Rattle.jz_tree.specs.declared.Program.{Program}
+use Rattle.jz_tree.specs.declared.Fun.{Fun}
+use Rattle.jz_listing.specs.declared.compiled.Compiled.{Compiled}
 use Rattle.jasminc_top.specs.declared.refusal.Status.{Status}
 use Rattle.jasminc_top.specs.declared.refusal.Status.TheVariants as status
 use Rattle.jasminc_top.specs.declared.refusal.Refusal.{Refusal}

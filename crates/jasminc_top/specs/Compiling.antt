@@ -10,16 +10,16 @@ use Rattle.x64_insn.specs.declared.types.Operand.TheVariants as operand
 use Rattle.x64_insn.specs.declared.types.Insn.{Insn}
 use Rattle.x64_insn.specs.declared.types.Insn.TheVariants as insn
 use Rattle.x64_insn.specs.Chosen.{chosen_bytes}
-use Rattle.jasminc_top.specs.declared.jz_tree.Program.{Program}
-use Rattle.jasminc_top.specs.declared.jz_tree.Fun.{Fun}
-use Rattle.jasminc_top.specs.declared.jz_tree.Param.{Param}
-use Rattle.jasminc_top.specs.declared.jz_tree.Var.{Var}
-use Rattle.jasminc_top.specs.declared.jz_leak.transformer.Form.TheVariants.{Frame}
-use Rattle.jasminc_top.specs.declared.jz_leak.transformer.Out.TheVariants as out
-use Rattle.jasminc_top.specs.declared.jz_leak.transformer.Case.TheVariants.{Op}
-use Rattle.jasminc_top.specs.declared.jz_leak.transformer.Transformer.{Transformer}
-use Rattle.jasminc_top.specs.declared.listing.compiled.Arg.{Arg}
-use Rattle.jasminc_top.specs.declared.listing.compiled.Compiled.{Compiled}
+use Rattle.jz_tree.specs.declared.Program.{Program}
+use Rattle.jz_tree.specs.declared.Fun.{Fun}
+use Rattle.jz_tree.specs.declared.Param.{Param}
+use Rattle.jz_tree.specs.declared.Var.{Var}
+use Rattle.jz_leak.specs.declared.transformer.Form.TheVariants.{Frame}
+use Rattle.jz_leak.specs.declared.transformer.Out.TheVariants as out
+use Rattle.jz_leak.specs.declared.transformer.Case.TheVariants.{Op}
+use Rattle.jz_leak.specs.declared.transformer.Transformer.{Transformer}
+use Rattle.jz_listing.specs.declared.compiled.Arg.{Arg}
+use Rattle.jz_listing.specs.declared.compiled.Compiled.{Compiled}
 
 -- the registers of integer arguments and results, in their order (System V AMD64 ABI, 3.2.3)
 abbrev pub argument_registers : List Reg

@@ -5,40 +5,40 @@ use Rattle.jz_words.specs.Sizes.{bytes_of}
 use Rattle.x64_insn.specs.declared.types.Reg.{Reg}
 use Rattle.x64_insn.specs.declared.types.Insn.{Insn}
 use Rattle.x64_insn.specs.Encoding.{Spells}
-use Rattle.jasminc_top.specs.declared.jz_tree.Program.{Program}
-use Rattle.jasminc_top.specs.declared.jz_tree.Fun.{Fun}
-use Rattle.jasminc_top.specs.declared.jz_tree.Param.{Param}
-use Rattle.jasminc_top.specs.declared.jz_tree.Ret.{Ret}
-use Rattle.jasminc_top.specs.declared.jz_tree.Decl.{Decl}
-use Rattle.jasminc_top.specs.declared.jz_tree.Ty.TheVariants.{Word}
-use Rattle.jasminc_top.specs.declared.jz_tree.Var.{Var}
-use Rattle.jasminc_top.specs.declared.jz_tree.Expr.{Expr}
-use Rattle.jasminc_top.specs.declared.jz_tree.Expr.TheVariants as expr
-use Rattle.jasminc_top.specs.declared.jz_tree.Lval.{Lval}
-use Rattle.jasminc_top.specs.declared.jz_tree.Lval.TheVariants as lval
-use Rattle.jasminc_top.specs.declared.jz_tree.Rhs.{Rhs}
-use Rattle.jasminc_top.specs.declared.jz_tree.Rhs.TheVariants as rhs
-use Rattle.jasminc_top.specs.declared.jz_tree.Stmt.{Stmt}
-use Rattle.jasminc_top.specs.declared.jz_tree.StmtKind.{StmtKind}
-use Rattle.jasminc_top.specs.declared.jz_tree.StmtKind.TheVariants as kind
-use Rattle.jasminc_top.specs.declared.jz_leak.transformer.Form.{Form}
-use Rattle.jasminc_top.specs.declared.jz_leak.transformer.Form.TheVariants as form
-use Rattle.jasminc_top.specs.declared.jz_leak.transformer.Out.{Out}
-use Rattle.jasminc_top.specs.declared.jz_leak.transformer.Out.TheVariants as out
-use Rattle.jasminc_top.specs.declared.jz_leak.transformer.Case.{Case}
-use Rattle.jasminc_top.specs.declared.jz_leak.transformer.Case.TheVariants.{Op}
-use Rattle.jasminc_top.specs.declared.listing.compiled.Arg.{Arg}
-use Rattle.jasminc_top.specs.declared.listing.compiled.Pre.{Pre}
-use Rattle.jasminc_top.specs.declared.listing.compiled.Compiled.{Compiled}
+use Rattle.jz_tree.specs.declared.Program.{Program}
+use Rattle.jz_tree.specs.declared.Fun.{Fun}
+use Rattle.jz_tree.specs.declared.Param.{Param}
+use Rattle.jz_tree.specs.declared.Ret.{Ret}
+use Rattle.jz_tree.specs.declared.Decl.{Decl}
+use Rattle.jz_tree.specs.declared.Ty.TheVariants.{Word}
+use Rattle.jz_tree.specs.declared.Var.{Var}
+use Rattle.jz_tree.specs.declared.Expr.{Expr}
+use Rattle.jz_tree.specs.declared.Expr.TheVariants as expr
+use Rattle.jz_tree.specs.declared.Lval.{Lval}
+use Rattle.jz_tree.specs.declared.Lval.TheVariants as lval
+use Rattle.jz_tree.specs.declared.Rhs.{Rhs}
+use Rattle.jz_tree.specs.declared.Rhs.TheVariants as rhs
+use Rattle.jz_tree.specs.declared.Stmt.{Stmt}
+use Rattle.jz_tree.specs.declared.StmtKind.{StmtKind}
+use Rattle.jz_tree.specs.declared.StmtKind.TheVariants as kind
+use Rattle.jz_leak.specs.declared.transformer.Form.{Form}
+use Rattle.jz_leak.specs.declared.transformer.Form.TheVariants as form
+use Rattle.jz_leak.specs.declared.transformer.Out.{Out}
+use Rattle.jz_leak.specs.declared.transformer.Out.TheVariants as out
+use Rattle.jz_leak.specs.declared.transformer.Case.{Case}
+use Rattle.jz_leak.specs.declared.transformer.Case.TheVariants.{Op}
+use Rattle.jz_listing.specs.declared.compiled.Arg.{Arg}
+use Rattle.jz_listing.specs.declared.compiled.Pre.{Pre}
+use Rattle.jz_listing.specs.declared.compiled.Compiled.{Compiled}
 use Rattle.jasminc_top.specs.Compiling.{argument_registers, result_registers}
 use Rattle.jasminc_top.specs.Frames.{Place, layout_of, layout_end, saved_of, saved_slots, frame_of, from_entry}
-use Rattle.jasminc_top.specs.RunLeaks.{Leak}
-use Rattle.jasminc_top.specs.RunRules.{End, Cut, Stuck}
-use Rattle.jasminc_top.specs.SourceRuns.{Returned, FunOutcome, IsRun}
-use Rattle.jasminc_top.specs.Steps.{Config, steps_of}
+use Rattle.jz_leak.specs.RunLeaks.{Leak}
+use Rattle.jz_meaning.specs.RunRules.{End, Cut, Stuck}
+use Rattle.jz_meaning.specs.SourceRuns.{Returned, FunOutcome, IsRun}
+use Rattle.x64_machine.specs.Steps.{Config, steps_of}
 use Rattle.jasminc_top.specs.Starts.{MeetsPreconditions, IsStart}
 use Rattle.jasminc_top.specs.Agreement.{NeverFaults, EndsWith}
-use Rattle.jasminc_top.specs.Applying.{apply_of, Fits}
+use Rattle.jz_leak.specs.Applying.{apply_of, Fits}
 
 -- so many steps are enough for n turns
 abbrev pub bound : Compiled → ℕ → ℕ

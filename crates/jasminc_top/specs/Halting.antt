@@ -1,8 +1,8 @@
 -- How a failure of the lexer or the parser ends a command.
 use Rattle.jz_data.specs.declared.failure.Failure.{Failure}
 use Rattle.jz_data.specs.declared.failure.Failure.TheVariants as failure
-use Rattle.jasminc_top.specs.declared.jz_lex.token.LexFault.{LexFault}
-use Rattle.jasminc_top.specs.declared.jz_parse.fault.SyntaxFault.{SyntaxFault}
+use Rattle.jz_lex.specs.declared.token.LexFault.{LexFault}
+use Rattle.jz_parse.specs.declared.fault.SyntaxFault.{SyntaxFault}
 use Rattle.jasminc_top.specs.declared.refusal.Refusal.TheVariants.{Lex, Parse}
 use Rattle.jasminc_top.specs.declared.answer.Halt.{Halt}
 use Rattle.jasminc_top.specs.declared.answer.Halt.TheVariants.{Refused, Stopped}

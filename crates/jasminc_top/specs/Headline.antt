@@ -4,14 +4,14 @@ use Rattle.std.specs.Io.KnownBytes.{Appends}
 use Rattle.std.specs.FinMap as map_of
 use Rattle.jz_io.specs.Telling.{Telling}
 use Rattle.jz_words.specs.Memory.{Memory}
-use Rattle.jasminc_top.specs.declared.jz_tree.Program.{Program}
-use Rattle.jasminc_top.specs.declared.jz_tree.Fun.{Fun}
-use Rattle.jasminc_top.specs.declared.listing.compiled.Compiled.{Compiled}
+use Rattle.jz_tree.specs.declared.Program.{Program}
+use Rattle.jz_tree.specs.declared.Fun.{Fun}
+use Rattle.jz_listing.specs.declared.compiled.Compiled.{Compiled}
 use Rattle.jasminc_top.specs.Words.{Wanted, compile, exec}
-use Rattle.jasminc_top.specs.Reading.{Reads}
-use Rattle.jasminc_top.specs.Listing.{listing_text}
+use Rattle.jz_parse.specs.Reading.{Reads}
+use Rattle.jz_listing.specs.Listing.{listing_text}
 use Rattle.jasminc_top.specs.Answers.{HasFile, function_named, compiled_named}
-use Rattle.jasminc_top.specs.Steps.{steps_of}
+use Rattle.x64_machine.specs.Steps.{steps_of}
 use Rattle.jasminc_top.specs.Running.{EndsAfter, code_base, return_slot, exec_start, run_text}
 use Rattle.jasminc_top.specs.Starts.{MeetsPreconditions, IsStart}
 use Rattle.jasminc_top.specs.Correctness.{IsCorrect, AreCorrect}

@@ -1,8 +1,8 @@
 -- The shape of the functions that are read.
 use Rattle.std.specs.Prelude.{◌≡◌, [], ◌∷◌}
-use Rattle.jasminc_top.specs.declared.jz_tree.Var.{Var}
-use Rattle.jasminc_top.specs.declared.jz_tree.Param.{Param}
-use Rattle.jasminc_top.specs.declared.jz_tree.Fun.{Fun}
+use Rattle.jz_tree.specs.declared.Var.{Var}
+use Rattle.jz_tree.specs.declared.Param.{Param}
+use Rattle.jz_tree.specs.declared.Fun.{Fun}
 
 -- two parameters and one result
 pub record TakesTwo (f : Fun) : Type 0 where

@@ -1,15 +1,15 @@
 -- The table of refusals: status, line and stage.
 use Rattle.std.specs.Prelude.{ℕ, List, ◌++◌, codes, decimal}
-use Rattle.jasminc_top.specs.declared.jz_lex.token.LexKind.{LexKind}
-use Rattle.jasminc_top.specs.declared.jz_lex.token.LexKind.TheVariants.{BadByte, BadNumber}
-use Rattle.jasminc_top.specs.declared.jz_parse.fault.SyntaxKind.{SyntaxKind}
-use Rattle.jasminc_top.specs.declared.jz_parse.fault.SyntaxKind.TheVariants.{Unexpected}
-use Rattle.jasminc_top.specs.declared.jz_parse.fault.SyntaxFault.{SyntaxFault}
+use Rattle.jz_lex.specs.declared.token.LexKind.{LexKind}
+use Rattle.jz_lex.specs.declared.token.LexKind.TheVariants.{BadByte, BadNumber}
+use Rattle.jz_parse.specs.declared.fault.SyntaxKind.{SyntaxKind}
+use Rattle.jz_parse.specs.declared.fault.SyntaxKind.TheVariants.{Unexpected}
+use Rattle.jz_parse.specs.declared.fault.SyntaxFault.{SyntaxFault}
 use Rattle.jasminc_top.specs.declared.refusal.Status.{Status}
 use Rattle.jasminc_top.specs.declared.refusal.Status.TheVariants as status
 use Rattle.jasminc_top.specs.declared.refusal.Refusal.{Refusal}
 use Rattle.jasminc_top.specs.declared.refusal.Refusal.TheVariants.{Usage, Source, Lex, Parse, NoFunction, Items}
-use Rattle.jasminc_top.specs.Listing.{span_text}
+use Rattle.jz_listing.specs.Listing.{span_text}
 
 abbrev pub status_of : Refusal → Status
 status_of Usage = status.Usage

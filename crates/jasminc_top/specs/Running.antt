@@ -12,17 +12,17 @@ use Rattle.x64_insn.specs.declared.types.Reg.TheVariants as reg
 use Rattle.x64_insn.specs.declared.types.State.{State}
 use Rattle.x64_insn.specs.declared.types.FlagVal.TheVariants.{Undefined}
 use Rattle.x64_insn.specs.Rows.{number_of, reg_value}
-use Rattle.jasminc_top.specs.declared.jz_leak.event.Event.{Event}
-use Rattle.jasminc_top.specs.declared.jz_leak.event.Event.TheVariants as event
-use Rattle.jasminc_top.specs.declared.listing.compiled.Arg.{Arg}
-use Rattle.jasminc_top.specs.declared.listing.compiled.Compiled.{Compiled}
+use Rattle.jz_leak.specs.declared.event.Event.{Event}
+use Rattle.jz_leak.specs.declared.event.Event.TheVariants as event
+use Rattle.jz_listing.specs.declared.compiled.Arg.{Arg}
+use Rattle.jz_listing.specs.declared.compiled.Compiled.{Compiled}
 use Rattle.jasminc_top.specs.declared.exec.Finish.{Finish}
 use Rattle.jasminc_top.specs.declared.exec.Finish.TheVariants as finish
 use Rattle.jasminc_top.specs.Compiling.{argument_registers}
-use Rattle.jasminc_top.specs.MemoryMap.{AddsBytes}
-use Rattle.jasminc_top.specs.MachineRuns.{start_of}
-use Rattle.jasminc_top.specs.Steps.{Config, step_of, steps_of}
-use Rattle.jasminc_top.specs.declared.x64_machine.step.Step.TheVariants.{Fault}
+use Rattle.jz_leak.specs.MemoryMap.{AddsBytes}
+use Rattle.x64_machine.specs.MachineRuns.{start_of}
+use Rattle.x64_machine.specs.Steps.{Config, step_of, steps_of}
+use Rattle.x64_machine.specs.declared.step.Step.TheVariants.{Fault}
 
 -- ---- the start of `exec`
 

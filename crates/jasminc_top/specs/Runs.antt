@@ -7,7 +7,7 @@ use Rattle.jz_io.specs.Written.{WritesPrefix}
 use Rattle.jasminc_top.specs.Words.{Wanted, file_of}
 use Rattle.jasminc_top.specs.Refusals.{status_of, stage_of}
 use Rattle.jasminc_top.specs.Answers.{IsDue, Faulted, HasText, Gives, Cause}
-use Rattle.jasminc_top.specs.declared.listing.compiled.Compiled.{Compiled}
+use Rattle.jz_listing.specs.declared.compiled.Compiled.{Compiled}
 use Rattle.jasminc_top.specs.declared.refusal.Refusal.{Refusal}
 use Rattle.jasminc_top.specs.declared.refusal.Refusal.TheVariants as refusal
 use Rattle.jasminc_top.specs.declared.refusal.Status.{Status}

@@ -8,11 +8,11 @@ use Rattle.x64_insn.specs.declared.types.Reg.{Reg}
 use Rattle.x64_insn.specs.declared.types.Reg.TheVariants as reg
 use Rattle.x64_insn.specs.declared.types.State.{State}
 use Rattle.x64_insn.specs.Rows.{reg_value, reg_word}
-use Rattle.jasminc_top.specs.declared.listing.compiled.Arg.{Arg}
-use Rattle.jasminc_top.specs.declared.listing.compiled.Pre.{Pre}
-use Rattle.jasminc_top.specs.declared.listing.compiled.Pre.TheVariants as pre
-use Rattle.jasminc_top.specs.declared.listing.compiled.Compiled.{Compiled}
-use Rattle.jasminc_top.specs.Steps.{Config}
+use Rattle.jz_listing.specs.declared.compiled.Arg.{Arg}
+use Rattle.jz_listing.specs.declared.compiled.Pre.{Pre}
+use Rattle.jz_listing.specs.declared.compiled.Pre.TheVariants as pre
+use Rattle.jz_listing.specs.declared.compiled.Compiled.{Compiled}
+use Rattle.x64_machine.specs.Steps.{Config}
 
 -- ---- ranges of bytes
 

@@ -4,19 +4,19 @@ ghost use Rattle.std.specs.Option.{option_copied};
 ghost use Rattle.jz_io.specs.Causes.{Rose};
 ghost use Rattle.jz_io.specs.Telling.{IsWhole};
 ghost use Rattle.jasminc_top.specs.Words.{texts_of, wanted, wanted_of, compile, exec};
-ghost use Rattle.jasminc_top.specs.Reading.{Reads};
+ghost use Rattle.jz_parse.specs.Reading.{Reads};
 ghost use Rattle.jasminc_top.specs.Answers.{source_limit, function_named, compiled_named, TextCause, TextHalts, FileHalts, RunsProgram, HasFile, IsLongFile, IsNotMissed, IsDue, Faulted, After, Performs};
 
 use crate::compile::compile_program;
 use crate::exec::exec_text;
-use crate::jz_lex::{LexFault, lex};
-use crate::jz_parse::{SyntaxFault, parse};
-use crate::jz_tree::{Fun, Program};
-use crate::listing::{Compiled, listing};
 use crate::refusal::{Refusal, Status};
 use crate::words::{Request, request_of};
 use jz_data::{Failure, Seq, Text};
 use jz_io::{Bytes, ReadRefused, Source, read_all};
+use jz_lex::{LexFault, lex};
+use jz_listing::{Compiled, listing};
+use jz_parse::{SyntaxFault, parse};
+use jz_tree::{Fun, Program};
 use std::alloc::{AllocError, Global};
 
 const SOURCE_LIMIT: usize = 1_048_576;

@@ -4,14 +4,14 @@ ghost use Rattle.std.specs.List.{concat};
 ghost use Rattle.jasminc_top.specs.Compiling.{add_code, add_transformer, argument_registers, result_registers, args_of, compiled_of, made_of, variable_of};
 ghost use Rattle.x64_insn.specs.Chosen.{chosen_bytes};
 
-use crate::jz_leak::{Case, Form, Out, Tr, Transformer};
-use crate::jz_tree::{Fun, Param, Program, Var};
-use crate::listing::{Arg, Compiled};
-use crate::x64_encode::encode;
 use jz_data::Seq;
 use jz_io::{Bytes, Ct};
+use jz_leak::{Case, Form, Out, Tr, Transformer};
+use jz_listing::{Arg, Compiled};
+use jz_tree::{Fun, Param, Program, Var};
 use jz_words::Size;
 use std::alloc::{AllocError, Global};
+use x64_encode::encode;
 use x64_insn::{Alu, Insn, Operand, Reg};
 
 /// The registers of integer arguments, in their order (System V AMD64 ABI, 3.2.3).

@@ -1,9 +1,9 @@
 //! What the bytes of a compiled function owe to its source.
 
 ghost use Rattle.std.specs.Prelude.{ℕ, List, Contains};
-ghost use Rattle.jasminc_top.specs.declared.jz_tree.Fun.{Fun};
-ghost use Rattle.jasminc_top.specs.declared.jz_tree.Program.{Program};
-ghost use Rattle.jasminc_top.specs.Reading.{Reads};
+ghost use Rattle.jz_tree.specs.declared.Fun.{Fun};
+ghost use Rattle.jz_tree.specs.declared.Program.{Program};
+ghost use Rattle.jz_parse.specs.Reading.{Reads};
 ghost use Rattle.jasminc_top.specs.Compiling.{compiled_of, made_of};
 ghost use Rattle.jasminc_top.specs.Correctness.{CarriesOver, AreCorrect};
 

@@ -1,22 +1,22 @@
 // Runs of compiled code on the machine.
 ghost use Rattle.std.specs.Prelude.{◌≡◌, ◌++◌, ◌∷◌, [], ◌≤◌, List, ℕ, map, length, false, IfOk, OnOk, codes};
 ghost use Rattle.std.specs.List.{concat};
-ghost use Rattle.jasminc_top.specs.MachineRuns.{code_of, base_of, config_of, start_of, SameCode};
-ghost use Rattle.jasminc_top.specs.Steps.{events_of, steps_of};
+ghost use Rattle.x64_machine.specs.MachineRuns.{code_of, base_of, config_of, start_of, SameCode};
+ghost use Rattle.x64_machine.specs.Steps.{events_of, steps_of};
 ghost use Rattle.jasminc_top.specs.Running.{IsStartMemory, start_state, with_numbers, Finishes, number_text, word_text, event_line, result_line, run_text, RunsTo};
 ghost use Rattle.jasminc_top.specs.Compiling.{add_code, argument_registers};
 ghost use Rattle.jasminc_top.specs.Answers.{step_limit};
 ghost use Rattle.x64_insn.specs.Chosen.{chosen_bytes};
 
 use crate::compile::ARGUMENT_REGISTERS;
-use crate::jz_leak::{Event, Events, MemMap};
-use crate::listing::{Arg, Compiled, write_number};
-use crate::x64_machine::{Machine, Step};
 use jz_data::Seq;
 use jz_io::Bytes;
+use jz_leak::{Event, Events, MemMap};
+use jz_listing::{Arg, Compiled, write_number};
 use jz_words::Size;
 use std::alloc::{AllocError, Global};
 use x64_insn::{FaultKind, FlagVal, Reg, State, StepLeak};
+use x64_machine::{Machine, Step};
 
 const CODE_BASE: u64 = 0x40_0000;
 

@@ -5,22 +5,13 @@ mod answer;
 mod compile;
 pub mod correctness;
 mod exec;
-pub mod jz_leak;
-pub mod jz_lex;
-pub mod jz_parse;
-pub mod jz_tree;
-mod listing;
 mod refusal;
 mod run;
 mod starts;
 #[cfg(test)]
 mod tests;
 mod words;
-pub mod x64_decode;
-pub mod x64_encode;
-pub mod x64_machine;
 
-pub use listing::{Arg, Compiled, Pre};
 pub use refusal::{Refusal, Status};
 pub use run::{Done, jasminc_run};
 pub use starts::{

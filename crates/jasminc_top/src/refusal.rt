@@ -2,10 +2,10 @@
 ghost use Rattle.std.specs.Prelude.{◌≡◌, ◌++◌, IfOk, OnOk, codes, decimal};
 ghost use Rattle.jasminc_top.specs.Refusals.{status_of, line_of, lex_name, syntax_name, fault_text};
 
-use crate::jz_lex::{LexFault, LexKind};
-use crate::jz_parse::{SyntaxFault, SyntaxKind};
-use crate::listing::{write_number, write_span};
 use jz_data::Text;
+use jz_lex::{LexFault, LexKind};
+use jz_listing::{write_number, write_span};
+use jz_parse::{SyntaxFault, SyntaxKind};
 use std::alloc::{AllocError, Global};
 
 /// How a command ends, by the program's exit status.

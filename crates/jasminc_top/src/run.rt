@@ -7,10 +7,10 @@ ghost use Rattle.jasminc_top.specs.Headline.{Compiles, Executes};
 ghost use Rattle.jasminc_top.specs.Runs.{Runs, Writes, ComesOnly, Refuses, Completes, ReadsAll, IsFree};
 
 use crate::answer::{Reply, Stop, answer};
-use crate::listing::Compiled;
 use crate::refusal::Status;
 use jz_data::Seq;
 use jz_io::{Sink, Source, write_all};
+use jz_listing::Compiled;
 use std::alloc::Global;
 
 /// How a command ended, and what this call compiled: at Ok each export function in the text's order, else nothing.

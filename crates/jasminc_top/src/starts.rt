@@ -3,19 +3,19 @@
 ghost use Rattle.std.specs.Prelude.{◌≡◌, ◌<◌, ◌≤◌, ℕ, ◌+◌, ◌-◌, ◌%◌, ◌^◌, List, [], ◌∷◌};
 ghost use Rattle.std.specs.FinMap as map;
 ghost use Rattle.jz_words.specs.Memory.{Memory};
-ghost use Rattle.jasminc_top.specs.Steps.{Config};
+ghost use Rattle.x64_machine.specs.Steps.{Config};
 ghost use Rattle.jasminc_top.specs.Compiling.{add_code, compiled_of};
 ghost use Rattle.jasminc_top.specs.OneForm.{TakesTwo};
-ghost use Rattle.jasminc_top.specs.Parsing.{Derives};
+ghost use Rattle.jz_parse.specs.Parsing.{Derives};
 ghost use Rattle.jasminc_top.specs.Frames.{frame_of, frame_size, saved_of};
 ghost use Rattle.jasminc_top.specs.Running.{EndsAfter, code_base, return_slot, exec_start, IsStartMemory};
 ghost use Rattle.jasminc_top.specs.Starts.{IsStart, MeetsPreconditions};
 ghost use Rattle.jasminc_top.specs.Agreement.{EndsWith};
-ghost use Rattle.jasminc_top.specs.declared.jz_leak.event.Event.TheVariants as event;
-ghost use Rattle.jasminc_top.specs.declared.jz_lex.token.Token.{Token};
-ghost use Rattle.jasminc_top.specs.declared.jz_tree.Fun.{Fun};
-ghost use Rattle.jasminc_top.specs.declared.jz_tree.Program.{Program};
-ghost use Rattle.jasminc_top.specs.declared.listing.compiled.Compiled.{Compiled};
+ghost use Rattle.jz_leak.specs.declared.event.Event.TheVariants as event;
+ghost use Rattle.jz_lex.specs.declared.token.Token.{Token};
+ghost use Rattle.jz_tree.specs.declared.Fun.{Fun};
+ghost use Rattle.jz_tree.specs.declared.Program.{Program};
+ghost use Rattle.jz_listing.specs.declared.compiled.Compiled.{Compiled};
 
 /// A run ends once.
 pub fn one_end()

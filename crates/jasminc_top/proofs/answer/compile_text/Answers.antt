@@ -1,5 +1,5 @@
 use Rattle.std.proofs.Common.{◌∙◌, ap}
-use Rattle.jasminc_top.specs.Listing.{listing_text}
+use Rattle.jz_listing.specs.Listing.{listing_text}
 use Rattle.jasminc_top.proofs.Causes.{listing_done}
 use Rattle.jasminc_top.proofs.answer.compile_text.Goals as goal
 

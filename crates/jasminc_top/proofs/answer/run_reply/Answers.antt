@@ -1,6 +1,6 @@
 use Rattle.std.proofs.Common.{◌≡◌, ◌∙◌, ap, Some, None}
 use Rattle.std.specs.Option.{option_copied}
-use Rattle.jasminc_top.specs.declared.listing.compiled.Compiled.{Compiled}
+use Rattle.jz_listing.specs.declared.compiled.Compiled.{Compiled}
 use Rattle.jasminc_top.specs.Compiling.{compiled_of, made_of}
 use Rattle.jasminc_top.specs.Answers.{function_named, compiled_named}
 use Rattle.jasminc_top.proofs.Causes.{some_function, compiled_found}

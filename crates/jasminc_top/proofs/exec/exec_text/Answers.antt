@@ -1,7 +1,7 @@
 use Rattle.std.proofs.Common.{◌≡◌, ◌∙◌, ap, arith, subst, ⊎_elim}
 use Rattle.std.proofs.lemmas.Result.{IfOk-weaker}
 use Rattle.jasminc_top.specs.declared.exec.Finish.{Finish}
-use Rattle.jasminc_top.specs.MachineRuns.{code_of, base_of, config_of, start_of}
+use Rattle.x64_machine.specs.MachineRuns.{code_of, base_of, config_of, start_of}
 use Rattle.jasminc_top.specs.Running.{Finishes, RunsTo, run_text}
 use Rattle.jasminc_top.proofs.ExecStart.{RunsAdd, not_running, not_faulted, ended_run}
 use Rattle.jasminc_top.proofs.exec.exec_text.Goals as goal

@@ -1,6 +1,6 @@
 use Rattle.std.proofs.Common.{◌≡◌, ℕ, ◌+◌, ◌<◌, false}
-use Rattle.jasminc_top.specs.MachineRuns.{code_of, base_of, config_of}
-use Rattle.jasminc_top.specs.Steps.{steps_of}
+use Rattle.x64_machine.specs.MachineRuns.{code_of, base_of, config_of}
+use Rattle.x64_machine.specs.Steps.{steps_of}
 use Rattle.jasminc_top.proofs.exec.run_to_end.Given as goal
 
 -- the machine stands where so many steps lead, with their events, and has not ended up to there

@@ -1,4 +1,0 @@
-use Rattle.jasminc_top.proofs.jz_leak.mem_map.MemMap.+are_valid.Given as goal
-
-abbrev pub decreases-are_valid : goal.decreases-are_valid
-decreases-are_valid l = l.count

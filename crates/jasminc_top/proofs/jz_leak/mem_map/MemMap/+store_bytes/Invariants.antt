@@ -1,4 +1,0 @@
-use Rattle.jasminc_top.proofs.jz_leak.mem_map.MemMap.+store_bytes.Given as goal
-
-abbrev pub decreases-store_bytes : goal.decreases-store_bytes
-decreases-store_bytes l = l.count

@@ -1,6 +1,0 @@
-use Rattle.std.proofs.Common.{◌≡◌, drop}
-use Rattle.jasminc_top.specs.MemoryMapSegments.{index_of}
-use Rattle.jasminc_top.proofs.jz_leak.segment.index_of.Given as goal
-
-abbrev pub invariant-loop-index : goal.invariant-loop-index
-invariant-loop-index l = index_of (drop l.index l.segments) l.addr l.index ≡ index_of l.segments l.addr 0

@@ -1,5 +1,0 @@
-use Rattle.jasminc_top.proofs.SourceLaws.{block_more, fun_more}
-use Rattle.jasminc_top.proofs.jz_tree.laws.same_with_more_turns.Goals as goal
-
-pub returns : goal.returns
-returns c = record { statements = block_more; functions = fun_more }

@@ -1,7 +1,0 @@
-use Rattle.std.proofs.Common.{◌≡◌, ◌++◌, map, take}
-use Rattle.std.specs.List.{concat}
-use Rattle.jasminc_top.specs.Listing.{pre_line}
-use Rattle.jasminc_top.proofs.listing.lines.write_preconditions.Given as goal
-
-abbrev pub invariant-loop-one : goal.invariant-loop-one
-invariant-loop-one l = l.text.items ≡ l.initial.text.items ++ concat (map pre_line (take l.one-index l.pre))

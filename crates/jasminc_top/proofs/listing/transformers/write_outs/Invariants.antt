@@ -1,6 +1,0 @@
-use Rattle.std.proofs.Common.{◌≡◌, ◌++◌, map, take}
-use Rattle.jasminc_top.specs.Transformers.{out_text, spaced}
-use Rattle.jasminc_top.proofs.listing.transformers.write_outs.Given as goal
-
-abbrev pub invariant-loop-i : goal.invariant-loop-i
-invariant-loop-i l = l.text.items ≡ l.initial.text.items ++ spaced (map out_text (take l.i l.outs))

@@ -1,9 +1,0 @@
--- The fields that were read are short enough to be counted.
-use Rattle.jasminc_top.proofs.DecodeSizes.{sizes}
-use Rattle.jasminc_top.proofs.x64_decode.answer.Goals as goal
-
-pub length-requires-clause-displacement : goal.length-requires-clause-displacement
-length-requires-clause-displacement c = (sizes c.args.bytes.now c.in-Ok.field-0-1.now c.in-Ok.fields c.in-Ok.ensures.read).0
-
-pub length-requires-clause-immediate : goal.length-requires-clause-immediate
-length-requires-clause-immediate c = (sizes c.args.bytes.now c.in-Ok.field-0-1.now c.in-Ok.fields c.in-Ok.ensures.read).1

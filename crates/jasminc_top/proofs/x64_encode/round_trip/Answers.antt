@@ -1,7 +1,0 @@
-use Rattle.x64_insn.specs.Chosen.{chosen_bytes}
-use Rattle.x64_insn.proofs.ChosenSpelling.{chosen_spells, spelled_only}
-use Rattle.jasminc_top.proofs.DecodeExact.{read_again}
-use Rattle.jasminc_top.proofs.x64_encode.round_trip.Goals as goal
-
-pub returns : goal.returns
-returns c = λ i rest h. read_again (chosen_bytes i) rest i (chosen_spells i (spelled_only i h))

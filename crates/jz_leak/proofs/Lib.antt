@@ -1,0 +1,2 @@
+pub mod MemorySegments
+pub mod MemorySpans

@@ -1,0 +1,4 @@
+pub mod MemoryMap
+pub mod MemoryMapSegments
+pub mod RunLeaks
+pub mod Applying

@@ -1,0 +1,32 @@
+-- A memory that is kept in segments.
+use Rattle.std.specs.Prelude.{ℕ, ◌+◌, ◌-◌, if◌then◌else◌, Option, Some, None, is_some, List, [], ◌∷◌, ◌++◌, slice_set}
+use Rattle.jz_leak.specs.declared.segment.Segment.{Segment}
+use Rattle.jz_leak.specs.MemoryMap.{byte_from, or_else}
+
+-- bytes from an address on, each with its address
+abbrev pub entries_from : ℕ → List ℕ → List (ℕ × ℕ)
+entries_from a [] = []
+entries_from a (b ∷ bs) = (a, b) ∷ entries_from (a + 1) bs
+
+-- all bytes with their addresses
+abbrev pub all_entries : List Segment → List (ℕ × ℕ)
+all_entries [] = []
+all_entries (s ∷ ss) = entries_from s.start s.bytes ++ all_entries ss
+
+-- a segment's byte at an address
+abbrev pub byte_of : Segment → ℕ → Option ℕ
+byte_of s q = byte_from s.start s.bytes q
+
+-- the byte of the first segment that has the address
+abbrev pub read_at : List Segment → ℕ → Option ℕ
+read_at [] q = None
+read_at (s ∷ ss) q = or_else (byte_of s q) (read_at ss q)
+
+-- the place of the first segment that has the address, counted from n
+abbrev pub index_of : List Segment → ℕ → ℕ → Option ℕ
+index_of [] q n = None
+index_of (s ∷ ss) q n = if is_some (byte_of s q) then Some n else index_of ss q (n + 1)
+
+-- the segment with another byte at an address
+abbrev pub with_byte : Segment → ℕ → ℕ → Segment
+with_byte s q v = record s { bytes = slice_set s.bytes (q - s.start) v }

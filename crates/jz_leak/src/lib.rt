@@ -1,0 +1,13 @@
+//! Leakage: events of the machine, memory, and transformers from the leakage of the source to events.
+#![tactic(auto)]
+
+mod event;
+mod mem_map;
+mod segment;
+#[cfg(test)]
+mod tests;
+mod transformer;
+
+pub use event::{Event, Events};
+pub use mem_map::MemMap;
+pub use transformer::{Case, Form, Out, Tr, Transformer};

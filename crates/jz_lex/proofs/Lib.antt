@@ -1,0 +1,5 @@
+pub mod LexingNumbers
+pub mod LexingWords
+pub mod LexingFront
+pub mod Lexing
+pub mod LexingUnique

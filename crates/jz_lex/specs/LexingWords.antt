@@ -1,0 +1,98 @@
+-- Lexemes: the words, numerals and signs of the language, and which token each one is.
+use Rattle.std.specs.Prelude.{ℕ, List, [], ◌∷◌, Bool, true, false, ◌&&◌, ◌||◌, ◌==◌, nat_lt, if◌then◌else◌, drop, map, codes, pos}
+use Rattle.std.specs.List.{list_all, list_any, filter}
+use Rattle.std.specs.Char.{is_ascii_alphabetic, is_ascii_digit, is_ascii_hexdigit, digit_value}
+use Rattle.std.specs.Int.Digits.{number_from_digits}
+use Rattle.std.specs.Cmp.Lexicographic.{pointwise}
+use Rattle.jz_lex.specs.declared.token.TokenKind.{TokenKind}
+use Rattle.jz_lex.specs.declared.token.TokenKind.TheVariants.{Ident, Keyword, Num, Sign}
+
+-- the words that are no identifiers
+unfoldable pub keywords : List (List ℕ)
+keywords = codes "param" ∷ codes "int" ∷ codes "inline" ∷ codes "export" ∷ codes "fn" ∷ codes "reg" ∷ codes "stack" ∷ codes "bool" ∷ codes "u8" ∷ codes "u16" ∷ codes "u32" ∷ codes "u64" ∷ codes "return" ∷ codes "if" ∷ codes "else" ∷ codes "while" ∷ codes "for" ∷ codes "to" ∷ codes "downto" ∷ codes "true" ∷ codes "false" ∷ codes "_" ∷ []
+
+-- the signs, the longer ones first
+unfoldable pub signs : List (List ℕ)
+signs = codes "+=" ∷ codes "-=" ∷ codes "^=" ∷ codes "->" ∷ codes "(" ∷ codes ")" ∷ codes "{" ∷ codes "}" ∷ codes "," ∷ codes ";" ∷ codes "=" ∷ []
+
+-- w is one of these words
+abbrev pub is_among : List (List ℕ) → List ℕ → Bool
+is_among words w = list_any (λ v. pointwise ◌==◌ v w) words
+
+-- a letter or an underscore
+unfoldable pub begins_word : ℕ → Bool
+begins_word b = is_ascii_alphabetic b || (b == 95)
+
+-- a letter, a digit or an underscore
+unfoldable pub in_word : ℕ → Bool
+in_word b = is_ascii_alphabetic b || is_ascii_digit b || (b == 95)
+
+-- a decimal digit
+unfoldable pub is_digit : ℕ → Bool
+is_digit b = is_ascii_digit b
+
+-- a decimal digit or an underscore
+unfoldable pub in_decimal : ℕ → Bool
+in_decimal b = is_ascii_digit b || (b == 95)
+
+-- a hexadecimal digit of either case
+unfoldable pub is_hex_digit : ℕ → Bool
+is_hex_digit b = is_ascii_hexdigit b
+
+-- a hexadecimal digit or an underscore
+unfoldable pub in_hexadecimal : ℕ → Bool
+in_hexadecimal b = is_ascii_hexdigit b || (b == 95)
+
+-- an identifier or a keyword
+abbrev pub is_word : List ℕ → Bool
+is_word [] = false
+is_word (b ∷ bs) = begins_word b && list_all in_word bs
+
+-- decimal digits, with underscores after the first
+abbrev pub is_decimal : List ℕ → Bool
+is_decimal [] = false
+is_decimal (b ∷ bs) = is_digit b && list_all in_decimal bs
+
+-- hexadecimal digits, with underscores after the first
+abbrev pub are_hex_digits : List ℕ → Bool
+are_hex_digits [] = false
+are_hex_digits (b ∷ bs) = is_hex_digit b && list_all in_hexadecimal bs
+
+-- `0x` and hexadecimal digits
+abbrev pub is_hexadecimal : List ℕ → Bool
+is_hexadecimal (a ∷ b ∷ bs) = (a == 48) && (b == 120) && are_hex_digits bs
+is_hexadecimal bs = false
+
+-- a number's spelling
+abbrev pub is_numeral : List ℕ → Bool
+is_numeral w = is_decimal w || is_hexadecimal w
+
+-- the text begins with w
+abbrev pub begins : List ℕ → List ℕ → Bool
+begins [] text = true
+begins (a ∷ w) [] = false
+begins (a ∷ w) (b ∷ text) = (a == b) && begins w text
+
+-- the number that the digits among these bytes write in a base: underscores count for nothing
+abbrev pub number_of : ℕ → List ℕ → ℕ
+number_of base bs = number_from_digits base (map digit_value (filter (λ b. nat_lt (digit_value b) base) bs))
+
+-- the number that a numeral writes: hexadecimal behind `0x`, else decimal
+unfoldable pub value_of : List ℕ → ℕ
+value_of w = if begins (codes "0x") w then number_of 16 (drop 2 w) else number_of 10 w
+
+-- a sign's spelling
+abbrev pub is_sign : List ℕ → Bool
+is_sign w = is_among signs w
+
+-- a spelling of a token
+abbrev pub is_lexeme : List ℕ → Bool
+is_lexeme w = is_word w || is_numeral w || is_sign w
+
+-- the token of a word
+abbrev pub word_kind : List ℕ → TokenKind
+word_kind w = if is_among keywords w then Keyword w else Ident w
+
+-- the token that a lexeme spells
+abbrev pub kind_of : List ℕ → TokenKind
+kind_of w = if is_word w then word_kind w else if is_numeral w then Num (pos (value_of w)) else Sign w

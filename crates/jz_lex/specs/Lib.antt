@@ -1,0 +1,3 @@
+pub mod LexingWords
+pub mod Lexing
+pub mod LexingFront

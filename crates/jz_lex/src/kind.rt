@@ -1,0 +1,54 @@
+//! The token that a lexeme spells.
+
+ghost use Rattle.std.specs.Prelude.{◌≡◌, true, IfOk};
+ghost use Rattle.std.specs.Str.{IsAscii};
+ghost use Rattle.jz_lex.specs.LexingWords.{keywords, is_among, is_lexeme, kind_of};
+ghost use Rattle.jz_lex.specs.LexingFront.{shape_of};
+
+use super::front::Shape;
+use super::token::TokenKind;
+use jz_data::Text;
+use std::alloc::{AllocError, Global};
+
+#[tactic(auto, unfolding(crate::specs::LexingWords::keywords))]
+fn is_keyword(word: &str) -> bool
+    ensures { result ≡ is_among keywords word.now }
+{
+    match word {
+        "param" | "int" | "inline" | "export" | "fn" => true,
+        "reg" | "stack" | "bool" | "u8" | "u16" | "u32" | "u64" => true,
+        "return" | "if" | "else" | "while" | "for" | "to" | "downto" => true,
+        "true" | "false" | "_" => true,
+        _ => false,
+    }
+}
+
+fn text_of(alloc: Global, bytes: &[u8]) -> Result<Text, AllocError>
+    requires { IsAscii bytes.now }
+    ensures { IfOk result (λ text. text ≡ bytes.now) }
+{
+    match str::from_utf8(bytes) {
+        Ok(text) => Ok(Text::from_string(String::from_str(alloc, text)?)),
+        Err(_) => unreachable!(),
+    }
+}
+
+/// The token that a lexeme of this shape spells.
+pub(super) fn kind_of(alloc: Global, shape: Shape, lexeme: &[u8]) -> Result<TokenKind, AllocError>
+    requires lexeme { is_lexeme lexeme.now ≡ true }
+    requires shape { shape_of lexeme.now ≡ shape }
+    ensures { IfOk result (λ kind. kind ≡ kind_of lexeme.now) }
+{
+    match shape {
+        Shape::Number(value) => Ok(TokenKind::Num(value)),
+        Shape::Sign => Ok(TokenKind::Sign(text_of(alloc, lexeme)?)),
+        Shape::Word => {
+            let text = text_of(alloc, lexeme)?;
+            if is_keyword(text.as_str()) {
+                Ok(TokenKind::Keyword(text))
+            } else {
+                Ok(TokenKind::Ident(text))
+            }
+        }
+    }
+}

@@ -1,0 +1,31 @@
+//! What holds of every text and its tokens, apart from how they are found.
+
+ghost use Rattle.std.specs.Prelude.{◌≡◌, ℕ, List, [], ◌∷◌, ◌++◌};
+ghost use Rattle.std.specs.List.{All};
+ghost use Rattle.jz_io.specs.declared.span.Span.{Span};
+ghost use Rattle.jz_lex.specs.Lexing.{IsLexed, HasNoToken};
+ghost use Rattle.jz_lex.specs.declared.token.Token.{Token};
+ghost use Rattle.jz_lex.specs.declared.token.TokenKind.TheVariants as kind;
+ghost use Rattle.jz_lex.specs.declared.token.LexFault.{LexFault};
+
+/// A text has at most one list of tokens.
+pub fn one_lexing()
+    ensures { (text : List ℕ) (a b : List Token) → IsLexed text a → IsLexed text b → a ≡ b }
+{}
+
+/// A text with tokens has no fault.
+pub fn lexed_or_refused()
+    ensures { (text : List ℕ) (a : List Token) (f : LexFault) → IsLexed text a → HasNoToken text f → ⊥ }
+{}
+
+/// A text has at most one fault: its first.
+pub fn one_fault()
+    ensures { (text : List ℕ) (f g : LexFault) → HasNoToken text f → HasNoToken text g → f ≡ g }
+{}
+
+/// Among the tokens of a text its end is the last one, and no other.
+pub fn end_stands_last()
+    ensures { (text : List ℕ) (tokens : List Token) → IsLexed text tokens →
+        (before : List Token) × (e : Span) × (tokens ≡ before ++ record { kind = kind.End; span = e } ∷ [])
+        × All (λ t. t.kind ≡ kind.End → ⊥) before }
+{}

@@ -1,0 +1,16 @@
+//! The tokens of a text.
+#![tactic(auto)]
+
+mod bytes;
+mod front;
+mod kind;
+mod laws;
+mod number;
+#[cfg(test)]
+mod tests;
+mod text;
+mod token;
+
+pub use laws::{end_stands_last, lexed_or_refused, one_fault, one_lexing};
+pub use text::lex;
+pub use token::{LexFault, LexKind, Token, TokenKind, Tokens};

@@ -1,0 +1,2 @@
+pub mod Transformers
+pub mod Listing

@@ -1,0 +1,110 @@
+// The text of a transformer.
+ghost use Rattle.std.specs.Prelude.{◌≡◌, ◌++◌, ℕ, List, map, OnOk, codes};
+ghost use Rattle.jz_listing.specs.Transformers.{form_text, out_text, outs_text, case_text, tr_text, transformer_text, spaced, separator};
+
+use itoa::Buffer;
+use jz_data::Seq;
+use jz_leak::{Case, Form, Out, Tr, Transformer};
+use std::alloc::AllocError;
+
+fn write_form(text: &mut Vec<u8>, form: Form) -> Result<(), AllocError>
+    ensures { OnOk result (text.new.items ≡ text.old.items ++ form_text form) }
+{
+    let mut buffer = Buffer::new();
+    match form {
+        Form::Num(n) => text.extend_from_slice(buffer.format(n).as_bytes()),
+        Form::Leaked(i) => {
+            text.extend_from_slice(b"$")?;
+            text.extend_from_slice(buffer.format(i).as_bytes())
+        }
+        Form::Frame(offset) => {
+            text.extend_from_slice(b"@")?;
+            text.extend_from_slice(buffer.format(offset).as_bytes())
+        }
+        Form::Indexed(offset, factor, i) => {
+            text.extend_from_slice(b"@")?;
+            text.extend_from_slice(buffer.format(offset).as_bytes())?;
+            text.extend_from_slice(b"+")?;
+            text.extend_from_slice(buffer.format(factor).as_bytes())?;
+            text.extend_from_slice(b"*$")?;
+            text.extend_from_slice(buffer.format(i).as_bytes())
+        }
+    }
+}
+
+fn write_out(text: &mut Vec<u8>, out: Out) -> Result<(), AllocError>
+    ensures { OnOk result (text.new.items ≡ text.old.items ++ out_text out) }
+{
+    match out {
+        Out::Branch(true) => text.extend_from_slice(b"b1"),
+        Out::Branch(false) => text.extend_from_slice(b"b0"),
+        Out::Addr(address) => {
+            text.extend_from_slice(b"a:")?;
+            write_form(text, address)
+        }
+        Out::Div(high, low, divisor) => {
+            text.extend_from_slice(b"d:")?;
+            write_form(text, high)?;
+            text.extend_from_slice(b":")?;
+            write_form(text, low)?;
+            text.extend_from_slice(b":")?;
+            write_form(text, divisor)
+        }
+    }
+}
+
+// A space before each piece but the first.
+fn write_separator(text: &mut Vec<u8>, i: usize) -> Result<(), AllocError>
+    ensures { OnOk result (text.new.items ≡ text.old.items ++ separator i) }
+{
+    if i > 0 {
+        text.extend_from_slice(b" ")?;
+    }
+    Ok(())
+}
+
+#[tactic(auto, unfolding(crate::specs::Transformers::outs_text))]
+fn write_outs(text: &mut Vec<u8>, outs: &Seq<Out>) -> Result<(), AllocError>
+    ensures { OnOk result (text.new.items ≡ text.old.items ++ outs_text outs.now) }
+{
+    text.extend_from_slice(b"[")?;
+    for (i, out) in outs.as_slice().iter().enumerate() {
+        write_separator(text, i)?;
+        write_out(text, *out)?;
+    }
+    text.extend_from_slice(b"]")
+}
+
+fn write_case(text: &mut Vec<u8>, case: &Case) -> Result<(), AllocError>
+    ensures { OnOk result (text.new.items ≡ text.old.items ++ case_text case.now) }
+{
+    match case {
+        Case::Op(outs) => {
+            text.extend_from_slice(b"op")?;
+            write_outs(text, outs)
+        }
+    }
+}
+
+#[tactic(auto, unfolding(crate::specs::Transformers::tr_text))]
+fn write_tr(text: &mut Vec<u8>, tr: &Tr) -> Result<(), AllocError>
+    ensures { OnOk result (text.new.items ≡ text.old.items ++ tr_text tr.now) }
+{
+    text.extend_from_slice(b"{")?;
+    for (i, case) in tr.cases.as_slice().iter().enumerate() {
+        write_separator(text, i)?;
+        write_case(text, case)?;
+    }
+    text.extend_from_slice(b"}")
+}
+
+// The transformer of a function: its three parts.
+pub fn write_transformer(text: &mut Vec<u8>, tr: &Transformer) -> Result<(), AllocError>
+    ensures { OnOk result (text.new.items ≡ text.old.items ++ transformer_text tr.now) }
+{
+    write_outs(text, &tr.before)?;
+    text.extend_from_slice(b" ")?;
+    write_tr(text, &tr.body)?;
+    text.extend_from_slice(b" ")?;
+    write_outs(text, &tr.after)
+}

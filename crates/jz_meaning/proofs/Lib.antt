@@ -1,0 +1,2 @@
+pub mod RunSteady
+pub mod SourceLaws

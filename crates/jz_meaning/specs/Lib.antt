@@ -1,0 +1,6 @@
+pub mod RunTrees
+pub mod RunRules
+pub mod SourceStates
+pub mod SourceValues
+pub mod SourceRuns
+pub mod RunLaws

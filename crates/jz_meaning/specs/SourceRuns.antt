@@ -1,0 +1,168 @@
+-- The run of a source function: what its statements do, parameters in and results out. The statements are those of the text; no
+-- register, no address of a variable and no code is named. The rules are those of the Jasmin documentation, for the statements that are read.
+use Rattle.std.specs.Prelude.{◌≡◌, ◌<◌, ℕ, ◌+◌, ◌%◌, List, [], ◌∷◌, Option, Some, None, Contains}
+use Rattle.jz_io.specs.declared.span.Span.{Span}
+use Rattle.jz_words.specs.Memory.{Memory}
+use Rattle.jz_words.specs.Sizes.{modulus}
+use Rattle.jz_tree.specs.declared.Program.{Program}
+use Rattle.jz_tree.specs.declared.Fun.{Fun}
+use Rattle.jz_tree.specs.declared.Param.{Param}
+use Rattle.jz_tree.specs.declared.Decl.{Decl}
+use Rattle.jz_tree.specs.declared.Ty.{Ty}
+use Rattle.jz_tree.specs.declared.Ty.TheVariants.{Word}
+use Rattle.jz_tree.specs.declared.Var.{Var}
+use Rattle.jz_tree.specs.declared.BinOp.{BinOp}
+use Rattle.jz_tree.specs.declared.BinOp.TheVariants.{Add}
+use Rattle.jz_tree.specs.declared.Lval.{Lval}
+use Rattle.jz_tree.specs.declared.Lval.TheVariants as lval
+use Rattle.jz_tree.specs.declared.Rhs.{Rhs}
+use Rattle.jz_tree.specs.declared.Rhs.TheVariants as rhs
+use Rattle.jz_tree.specs.declared.Stmt.{Stmt}
+use Rattle.jz_tree.specs.declared.StmtKind.{StmtKind}
+use Rattle.jz_tree.specs.declared.StmtKind.TheVariants as kind
+use Rattle.jz_meaning.specs.RunTrees.{Tree, done, op}
+use Rattle.jz_leak.specs.RunLeaks.{Leak}
+use Rattle.jz_meaning.specs.RunRules.{stuck, went, Parts, Outcome, End, Cut, Stuck, Goes}
+use Rattle.jz_meaning.specs.SourceStates.{Value, word, key_of, Store, empty_store, put, State, Init, Why}
+use Rattle.jz_meaning.specs.SourceValues.{Got, stuck_at, and_then, variable_value, evaluated}
+
+-- ---- assignments
+
+-- the left sides, the operation of `op=`, the right side, where the statement stands
+pub record Assignment : Type 0 where
+  pub to : List Lval
+  pub op : Option BinOp
+  pub rhs : Rhs
+  pub at : Span
+
+-- the left side, written: a variable gets the value
+abbrev pub written : Lval → Value → State → Got State
+written (lval.Var x) v s = went [] (record s { store = put s.store (key_of x) (Some v) })
+
+-- the value that the left side has before
+abbrev pub left_value : Lval → State → Got Value
+left_value (lval.Var x) s = variable_value x s.store
+
+-- the value of a right side
+abbrev pub right_value : Rhs → State → Got Value
+right_value (rhs.Value e) s = evaluated e s
+
+-- the operands have one size: the sum modulo 2 to the bits of that size, for 64 bits modulo 2 ^ 64
+abbrev pub combined : BinOp → Value → Value → Value
+combined Add (word size a) (word other b) = word size ((a + b) % modulus size)
+
+-- the value that is assigned: `d op= e` is `d = d op e`
+abbrev pub assigned_value : Lval → Option BinOp → Rhs → State → Got Value
+assigned_value d None r s = right_value r s
+assigned_value d (Some o) r s = and_then (left_value d s) (λ a. and_then (right_value r s) (λ b. went [] (combined o a b)))
+
+-- the value, and then the left side; with another number of left sides than one it means nothing
+abbrev pub assigned : List Lval → Option BinOp → Rhs → Span → State → Got State
+assigned (d ∷ []) o r at s = and_then (assigned_value d o r s) (λ v. written d v s)
+assigned _ o r at s = stuck_at at Init
+
+-- ---- the statements of a body
+
+-- a body of assignments: no statement has a test, a counter or a call yet
+abbrev pub Block : Type 0
+Block = Tree Assignment ⊥ ⊥ ⊥
+
+-- what the parts of a body do; none of them is quiet yet
+abbrev pub source : Parts Assignment ⊥ ⊥ ⊥ State Why
+source = record {
+  does = λ a s. assigned a.to a.op a.rhs a.at s;
+  quiets = λ a s. s;
+  tests = λ c s. absurd c;
+  counts = λ c s. absurd c;
+  begins = λ c i s. absurd c;
+  restores = λ c s t. absurd c;
+  enters = λ c s. absurd c;
+  leaves = λ c s t. absurd c;
+}
+
+-- a statement, before what follows it
+abbrev pub statement : StmtKind → Span → Block → Block
+statement (kind.Assign to o r) at rest = op (record { to = to; op = o; rhs = r; at = at }) rest
+
+-- statements in their order, before what follows them
+abbrev pub block : List Stmt → Block → Block
+block [] rest = rest
+block (s ∷ ss) rest = statement s.kind s.span (block ss rest)
+
+-- ---- functions
+
+-- a word of this type
+abbrev pub value_of_type : Ty → ℕ → Value
+value_of_type (Word size) w = word size w
+
+-- what a parameter of this declaration is for an argument word; without one it has no value
+abbrev pub argument : Option Decl → ℕ → Option Value
+argument None w = None
+argument (Some d) w = Some (value_of_type d.ty w)
+
+-- the argument words are the parameters' values
+abbrev pub with_arguments : List Param → List ℕ → Store → Store
+with_arguments [] ws store = store
+with_arguments (p ∷ ps) [] store = store
+with_arguments (p ∷ ps) (w ∷ ws) store = with_arguments ps ws (put store (key_of p.var) (argument p.var.decl w))
+
+-- where a function begins: no other variable has a value
+abbrev pub begun : Fun → List ℕ → Memory → State
+begun f words memory = record { store = with_arguments f.params words empty_store; memory = memory }
+
+-- the bits of a word
+abbrev pub word_of : Value → ℕ
+word_of (word size w) = w
+
+-- the words of the variables that are returned, in their order
+abbrev pub result_words : List Var → Store → Got (List ℕ)
+result_words [] store = went [] []
+result_words (x ∷ xs) store = and_then (variable_value x store) (λ v. and_then (result_words xs store) (λ ws. went [] (word_of v ∷ ws)))
+
+-- what a function gives
+pub record Returned : Type 0 where
+  pub words : List ℕ
+  pub memory : Memory
+
+-- what a run of a function comes to
+abbrev pub FunOutcome : Type 0
+FunOutcome = Outcome Returned Why Leak
+
+-- an end with these words, or stuck where a returned variable has no value
+abbrev pub returned_words : Memory → ℕ → Leak → Got (List ℕ) → FunOutcome
+returned_words memory n l (stuck w) = Stuck w
+returned_words memory n l (went ns ws) = End (record { words = ws; memory = memory }) n l
+
+-- the outcome of a function, by that of its body
+abbrev pub returned : List Var → Outcome State Why Leak → FunOutcome
+returned xs (End s n l) = returned_words s.memory n l (result_words xs s.store)
+returned xs (Cut l) = Cut l
+returned xs (Stuck w) = Stuck w
+
+-- a word of the size of the type
+abbrev pub FitsType : Ty → ℕ → Type 0
+FitsType (Word size) w = w < modulus size
+
+-- a word of the declared type; what has no declaration has none
+abbrev pub FitsDecl : Option Decl → ℕ → Type 0
+FitsDecl None w = ⊥
+FitsDecl (Some d) w = FitsType d.ty w
+
+-- a word for each parameter, each of its size
+abbrev pub AreArguments : List Param → List ℕ → Type 0
+AreArguments [] [] = Unit {0}
+AreArguments [] (w ∷ ws) = ⊥
+AreArguments (p ∷ ps) [] = ⊥
+AreArguments (p ∷ ps) (w ∷ ws) = FitsDecl p.var.decl w × AreArguments ps ws
+
+-- an input of a function of the program; its memory is any one, since no region can be declared yet
+pub record IsInput (p : Program) (f : Fun) (words : List ℕ) : Type 0 where
+  pub of_program : Contains p.funs f
+  pub arguments : AreArguments f.params words
+
+-- the run of a program's function on argument words and a memory, with n true tests of `while` left
+pub record IsRun (p : Program) (f : Fun) (words : List ℕ) (memory : Memory) (n : ℕ) (o : FunOutcome) : Type 0 where
+  pub input : IsInput p f words
+  pub out : Outcome State Why Leak
+  pub goes : Goes source (block f.body done) n (begun f words memory) out
+  pub gives : returned f.result out ≡ o

@@ -1,0 +1,5 @@
+pub mod FormSteps
+pub mod Differing
+pub mod FormRuns
+pub mod FormKinds
+pub mod FormLaws

@@ -1,0 +1,13 @@
+//! The program that a list of tokens derives. The texts that are read have one form, an export function of two words
+//! that adds them.
+#![tactic(auto)]
+
+mod fault;
+mod form;
+mod read;
+#[cfg(test)]
+mod tests;
+mod tree;
+
+pub use fault::{SyntaxFault, SyntaxKind};
+pub use read::{a_fault_is_at_a_token, no_fault_of_a_program, one_fault, one_program, parse};

@@ -1,0 +1,31 @@
+-- How long the fields are.
+use Rattle.std.proofs.Common.{◌≡◌, ℕ, ◌≤◌, List, length, Bool, true, false, Option, Some, None, sym, subst, arith, if◌then◌else◌, Ok}
+use Rattle.x64_insn.specs.declared.table.Row.{Row}
+use Rattle.x64_insn.specs.Table.{row_of}
+use Rattle.x64_insn.specs.Encoding.{displacement_length}
+use Rattle.x64_decode.specs.declared.fields.FieldsRead.{FieldsRead}
+use Rattle.x64_decode.specs.Decoding.{parts, parts_read, row_immediate, immediate_bytes}
+use Rattle.x64_decode.proofs.PartsRead.{AreParts, parts_reads}
+
+either : (b : Bool) (x y k : ℕ) → x ≤ k → y ≤ k → (if b then x else y) ≤ k
+either true x y k h i = h
+either false x y k h i = i
+
+displacement_small : (m s : Option ℕ) → displacement_length m s ≤ 4
+unfolding displacement_length
+displacement_small None s = omega arith
+displacement_small (Some m) s =
+    let none : 0 ≤ 4 = omega arith in let one : 1 ≤ 4 = omega arith in let four : 4 ≤ 4 = omega arith in
+    either _ _ _ 4 (either _ _ _ 4 four none) (either _ _ _ 4 one (either _ _ _ 4 four none))
+
+immediate_small : (p r : Option ℕ) (w : Option Row) → row_immediate p r w ≤ 8
+immediate_small p r None = omega arith
+immediate_small p r (Some row) = omega arith
+
+pub sizes : (bs rest : List ℕ) (f : FieldsRead) → parts bs ≡ Ok (parts_read f, rest) → (length f.displacement.now ≤ 4) × (length f.immediate.now ≤ 8)
+unfolding AreParts immediate_bytes
+sizes bs rest f h =
+    let ok = (parts_reads.found bs rest (parts_read f) h).1 in
+    let d = ok.1.1.1.1.1.1.0.0 in
+    let i = ok.1.1.1.1.1.1.1.0 in
+    (subst (λ n. n ≤ 4) (sym d) (displacement_small f.modrm f.sib), subst (λ n. n ≤ 8) (sym i) (immediate_small f.operand_size f.rex (row_of f.escape f.opcode)))

@@ -1,0 +1,7 @@
+pub mod ByteReaders
+pub mod ByteCounts
+pub mod PartsRead
+pub mod FieldParts
+pub mod DecodeExact
+pub mod DecodeSizes
+mod DecodeExamples

@@ -1,0 +1,129 @@
+//! Bytes to instructions.
+#![tactic(auto)]
+
+ghost use Rattle.std.specs.Prelude.{◌≡◌, ◌↔◌, ℕ, ◌++◌, List, length};
+ghost use Rattle.x64_insn.specs.declared.types.Insn.{Insn};
+ghost use Rattle.x64_insn.specs.Encoding.{Decodes, IsBeginning, Spells};
+ghost use Rattle.x64_decode.specs.Decoding.{decoded_of};
+
+mod fields;
+
+use fields::{Stop, read_fields};
+use x64_insn::Insn;
+
+/// What bytes begin with: an instruction and how many bytes it has, no instruction whatever follows, or less than a whole one.
+#[derive(Clone, Copy, PartialEq, Eq, Debug)]
+pub enum Decoded {
+    Insn { insn: Insn, len: u8 },
+    Unknown,
+    Truncated,
+}
+
+#[tactic(auto, unfolding(crate::specs::Decoding::decoded_of, x64_insn::specs::Encoding::insn_of))]
+fn answer(bytes: &[u8]) -> Decoded
+    ensures { result ≡ decoded_of bytes.now }
+{
+    match read_fields(bytes) {
+        Ok((fields, _)) => Decoded::Insn {
+            insn: fields.insn(),
+            len: fields.length(),
+        },
+        Err(Stop::Short) => Decoded::Truncated,
+        Err(Stop::Bad) => Decoded::Unknown,
+    }
+}
+
+/// The instruction that bytes begin with (Intel SDM vol. 2, chapter 2). Bytes after it play no part.
+pub fn decode(bytes: &[u8]) -> Decoded
+    ensures insn { (i : Insn) (len : ℕ) → Decodes bytes.now i len ↔ (result ≡ Decoded.Insn i len) }
+    ensures truncated { IsBeginning bytes.now ↔ (result ≡ Decoded.Truncated) }
+    ensures unknown { ((¬ IsBeginning bytes.now) × ((i : Insn) (len : ℕ) → ¬ Decodes bytes.now i len)) ↔ (result ≡ Decoded.Unknown) }
+    // The same as a function, for the layers above.
+    ensures exact { result ≡ decoded_of bytes.now }
+{
+    answer(bytes)
+}
+
+/// A spelling is read, whatever follows it.
+pub fn read_again()
+    ensures { (bs rest : List ℕ) (i : Insn) → Spells bs i → decoded_of (bs ++ rest) ≡ Decoded.Insn i (length bs) }
+{}
+
+/// No spelling begins another, and none is of two instructions.
+pub fn one_form()
+    ensures { (a b x y : List ℕ) (i j : Insn) → Spells a i → Spells b j → a ++ x ≡ b ++ y → (a ≡ b) × (i ≡ j) }
+{}
+
+#[cfg(test)]
+mod tests {
+    use super::*;
+    use jz_words::Size;
+    use x64_insn::{Alu, Operand, Reg};
+
+    fn mov(to: Reg, from: Reg) -> Decoded {
+        let insn = Insn::Mov(Size::S64, Operand::Reg(to), Operand::Reg(from));
+        Decoded::Insn { insn, len: 3 }
+    }
+
+    fn add(to: Reg, from: Reg) -> Decoded {
+        let insn = Insn::Alu(Alu::Add, Size::S64, Operand::Reg(to), Operand::Reg(from));
+        Decoded::Insn { insn, len: 3 }
+    }
+
+    // The instructions as binutils 2.40 disassembles them.
+    #[test]
+    fn decodes_what_a_disassembler_shows(rt: HostRuntime) {
+        for (spelling, want) in [
+            ([0x48, 0x89, 0xF8], mov(Reg::Rax, Reg::Rdi)),
+            ([0x48, 0x01, 0xF0], add(Reg::Rax, Reg::Rsi)),
+            ([0x4C, 0x8B, 0xC8], mov(Reg::R9, Reg::Rax)),
+            ([0x49, 0x03, 0xC1], add(Reg::Rax, Reg::R9)),
+            ([0x4D, 0x01, 0xEF], add(Reg::R15, Reg::R13)),
+            // REX.X has no use
+            ([0x4A, 0x89, 0xF8], mov(Reg::Rax, Reg::Rdi)),
+            ([0x4F, 0x03, 0xC8], add(Reg::R9, Reg::R8)),
+        ] {
+            let [first, second, third] = spelling;
+            assert_eq!(rt; decode(&spelling), want, "at {spelling:?}");
+            assert_eq!(rt;
+                decode(&[first, second, third, 0x90]),
+                want,
+                "at {spelling:?}"
+            );
+            assert_eq!(rt;
+                decode(&[first, second]),
+                Decoded::Truncated,
+                "at {spelling:?}"
+            );
+            assert_eq!(rt; decode(&[first]), Decoded::Truncated, "at {spelling:?}");
+        }
+        let ret = Decoded::Insn {
+            insn: Insn::Ret,
+            len: 1,
+        };
+        assert_eq!(rt; decode(&[0xC3]), ret);
+        assert_eq!(rt; decode(&[]), Decoded::Truncated);
+    }
+
+    #[test]
+    fn knows_no_other_bytes(rt: HostRuntime) {
+        // prefix 66, SYSCALL, RET with REX, operands of 32 bits, memory operands, REX twice, NOP
+        for bytes in [
+            [0x66, 0x48, 0x89, 0xF8],
+            [0x0F, 0x05, 0x90, 0x90],
+            [0x48, 0xC3, 0x90, 0x90],
+            [0x40, 0xC3, 0x90, 0x90],
+            [0x89, 0xF8, 0x90, 0x90],
+            [0x40, 0x89, 0xF8, 0x90],
+            [0x48, 0x89, 0x07, 0x90],
+            [0x48, 0x8B, 0x47, 0x08],
+            [0x48, 0x48, 0x89, 0xF8],
+            [0x90, 0x90, 0x90, 0x90],
+        ] {
+            assert_eq!(rt; decode(&bytes), Decoded::Unknown, "at {bytes:?}");
+        }
+        assert_eq!(rt; decode(&[0x66]), Decoded::Unknown);
+        assert_eq!(rt; decode(&[0x0F]), Decoded::Unknown);
+        assert_eq!(rt; decode(&[0x40]), Decoded::Unknown);
+    }
+}
