@@ -60,12 +60,15 @@ pub struct Var {
 
 #[derive(Debug, Drop, PartialEq, Eq)]
 pub enum Expr {
+    Num(i128, Span),
     Var(Var),
 }
 
 #[derive(Clone, Copy, Debug, PartialEq, Eq)]
 pub enum BinOp {
+    Xor,
     Add,
+    Sub,
 }
 
 #[derive(Debug, Drop, PartialEq, Eq)]
