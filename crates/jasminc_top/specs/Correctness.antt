@@ -109,6 +109,7 @@ AreSpelled (i ∷ is) code = (bytes : List ℕ) × (rest : List ℕ) × (code �
 
 -- the variables that a statement names
 abbrev pub expression_names : Expr → List (List ℕ)
+expression_names (expr.Num i at) = []
 expression_names (expr.Var x) = x.name ∷ []
 
 abbrev pub left_name : Lval → List ℕ
