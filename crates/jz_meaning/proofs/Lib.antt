@@ -1,2 +1,3 @@
 pub mod RunSteady
 pub mod SourceLaws
+pub mod StraightLaws

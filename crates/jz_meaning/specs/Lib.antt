@@ -4,3 +4,4 @@ pub mod SourceStates
 pub mod SourceValues
 pub mod SourceRuns
 pub mod RunLaws
+pub mod StraightRuns

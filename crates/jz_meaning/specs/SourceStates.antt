@@ -5,6 +5,8 @@ use Rattle.jz_io.specs.declared.span.Span.{Span}
 use Rattle.jz_words.specs.declared.size.Size.{Size}
 use Rattle.jz_words.specs.Memory.{Memory}
 use Rattle.jz_tree.specs.declared.Var.{Var}
+pub use Rattle.jz_meaning.specs.declared.reason.Reason.{Reason}
+pub use Rattle.jz_meaning.specs.declared.reason.Reason.TheVariants.{Bounds, Address, Align, Init, Divide}
 
 -- what an expression may be: a word of a size, by its bits as an unsigned number; a whole number that is known when the text is compiled
 pub data Value : Type 0 where
@@ -39,15 +41,6 @@ put store k v q = if same_key q k then v else store q
 pub record State : Type 0 where
   pub store : Store
   pub memory : Memory
-
--- why a run is stuck: an index past its array, an invalid address, an unaligned address, a variable without a value, a quotient that
--- is none
-pub data Reason : Type 0 where
-  Bounds : Reason
-  Address : Reason
-  Align : Reason
-  Init : Reason
-  Divide : Reason
 
 -- where a run is stuck, and why
 pub record Why : Type 0 where

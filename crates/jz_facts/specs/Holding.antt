@@ -1,0 +1,41 @@
+-- What holds at entry and after a statement.
+use Rattle.std.specs.Prelude.{ℕ, List, [], ◌∷◌}
+use Rattle.jz_tree.specs.declared.Fun.{Fun}
+use Rattle.jz_tree.specs.declared.Param.{Param}
+use Rattle.jz_tree.specs.declared.Lval.{Lval}
+use Rattle.jz_tree.specs.declared.Lval.TheVariants as lval
+use Rattle.jz_tree.specs.declared.Stmt.{Stmt}
+use Rattle.jz_tree.specs.declared.StmtKind.{StmtKind}
+use Rattle.jz_tree.specs.declared.StmtKind.TheVariants as kind
+use Rattle.jz_facts.specs.declared.fact.Fact.TheVariants.{Set}
+use Rattle.jz_facts.specs.Facts.{Facts, no_facts, with_fact}
+
+-- each parameter has a value
+abbrev pub with_parameters : Facts → List Param → Facts
+with_parameters set [] = set
+with_parameters set (p ∷ ps) = with_parameters (with_fact set (Set p.var.name)) ps
+
+-- the facts at a function's entry
+abbrev pub entry_facts : Fun → Facts
+entry_facts f = with_parameters no_facts f.params
+
+-- the fact that the assignment to a left side adds: it has a value
+abbrev pub after_left_side : Facts → Lval → Facts
+after_left_side set (lval.Var x) = with_fact set (Set x.name)
+
+-- the left sides are taken in their order
+abbrev pub after_left_sides : Facts → List Lval → Facts
+after_left_sides set [] = set
+after_left_sides set (d ∷ ds) = after_left_sides (after_left_side set d) ds
+
+-- what holds after a statement, by what holds before it
+abbrev pub after_kind : Facts → StmtKind → Facts
+after_kind set (kind.Assign to o r) = after_left_sides set to
+
+abbrev pub facts_after : Facts → Stmt → Facts
+facts_after set s = after_kind set s.kind
+
+-- and after statements, one after another
+abbrev pub facts_at_end : Facts → List Stmt → Facts
+facts_at_end set [] = set
+facts_at_end set (s ∷ ss) = facts_at_end (facts_after set s) ss

@@ -1,0 +1,14 @@
+//! Facts that hold wherever a run of a function stands, and the conditions that its statements ask of them.
+#![tactic(auto)]
+
+mod condition;
+mod fact;
+mod holding;
+mod set;
+#[cfg(test)]
+mod tests;
+
+pub use condition::{Condition, conditions, result_conditions};
+pub use fact::{Fact, entails};
+pub use holding::{at_entry, holds_after};
+pub use set::{FactSet, gives};

@@ -1,0 +1,10 @@
+//! Functions after expansion.
+
+use jz_tree::Fun;
+
+/// A function after expansion, and how many statements it has.
+#[derive(Debug, Drop, PartialEq, Eq)]
+pub struct Expanded {
+    pub fun: Fun,
+    pub count: u64,
+}

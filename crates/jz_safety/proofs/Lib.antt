@@ -1,0 +1,3 @@
+pub mod Alarming
+pub mod Checking
+pub mod Telling

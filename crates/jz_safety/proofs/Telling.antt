@@ -1,0 +1,260 @@
+-- Facts tell exactly which variables have a value, so the alarms tell where a run is stuck.
+use Rattle.std.proofs.Common.{◌≡◌, ℕ, ◌==◌, nat_eq, Bool, true, false, not, List, [], ◌∷◌, ◌++◌, ℤ, Option, Some, None, IsSome, if◌then◌else◌, map, filter, refl, sym, ap, ◌∙◌, subst, zero, suc, append_assoc, arith}
+use Rattle.std.proofs.lemmas.Bool.Decides.{nat_tests}
+use Rattle.std.specs.Cmp.Lexicographic.{pointwise}
+use Rattle.jz_io.specs.declared.span.Span.{Span}
+use Rattle.jz_words.specs.Memory.{Memory}
+use Rattle.jz_words.specs.declared.size.Size.{Size}
+use Rattle.jz_tree.specs.declared.Program.{Program}
+use Rattle.jz_tree.specs.declared.Fun.{Fun}
+use Rattle.jz_tree.specs.declared.Param.{Param}
+use Rattle.jz_tree.specs.declared.Decl.{Decl}
+use Rattle.jz_tree.specs.declared.Ty.{Ty}
+use Rattle.jz_tree.specs.declared.Ty.TheVariants.{Word}
+use Rattle.jz_tree.specs.declared.Var.{Var}
+use Rattle.jz_tree.specs.declared.Expr.{Expr}
+use Rattle.jz_tree.specs.declared.Expr.TheVariants as expr
+use Rattle.jz_tree.specs.declared.BinOp.{BinOp}
+use Rattle.jz_tree.specs.declared.Lval.{Lval}
+use Rattle.jz_tree.specs.declared.Lval.TheVariants as lval
+use Rattle.jz_tree.specs.declared.Rhs.{Rhs}
+use Rattle.jz_tree.specs.declared.Rhs.TheVariants as rhs
+use Rattle.jz_tree.specs.declared.Stmt.{Stmt}
+use Rattle.jz_tree.specs.declared.StmtKind.{StmtKind}
+use Rattle.jz_tree.specs.declared.StmtKind.TheVariants as kind
+use Rattle.jz_leak.specs.RunLeaks.{Leak}
+use Rattle.jz_meaning.specs.RunRules.{stuck, went, End, Stuck}
+use Rattle.jz_meaning.specs.declared.reason.Reason.TheVariants.{Init}
+use Rattle.jz_meaning.specs.SourceStates.{Value, word, integer, Key, key_of, same_key, Store, empty_store, put, State, Why}
+use Rattle.jz_meaning.specs.SourceValues.{Got, numbers_first, and_then, defined, variable_value, evaluated}
+use Rattle.jz_meaning.specs.SourceRuns.{of_type, as_declared, held, written, left_value, right_value, combined, assigned_value, assigned, value_of_type, argument, with_arguments, begun, word_of, result_words, returned_words, FunOutcome, FitsDecl, AreArguments, IsInput, IsRun}
+use Rattle.jz_meaning.specs.StraightRuns.{run_statement, run_statements, words_returned, plain_leak, straight_outcome}
+use Rattle.jz_meaning.proofs.StraightLaws.{fun_straight}
+use Rattle.jz_facts.specs.declared.fact.Fact.{Fact}
+use Rattle.jz_facts.specs.declared.fact.Fact.TheVariants.{Set}
+use Rattle.jz_facts.specs.declared.condition.Condition.{Condition}
+use Rattle.jz_facts.specs.Facts.{same_name, entails, Facts, no_facts, with_fact}
+use Rattle.jz_facts.specs.Holding.{with_parameters, entry_facts, after_left_side, after_left_sides, after_kind, facts_after, facts_at_end}
+use Rattle.jz_facts.specs.Conditions.{read_of, right_conditions, left_conditions, kind_conditions, conditions_of, result_conditions}
+use Rattle.jz_safety.specs.declared.alarm.Alarm.{Alarm}
+use Rattle.jz_safety.specs.Alarms.{alarm_of, alarms_at, body_alarms, alarms_of, HasNoAlarm, IsFirstAlarm}
+use Rattle.jz_safety.specs.Resolved.{IsDeclared, IsOneDeclared, AssignsOne, AreResolved, IsResolved}
+
+-- ---- names
+
+number_sym : (a b : ℕ) → (a == b) ≡ (b == a)
+number_sym a b = grind (arith, nat_tests)
+
+pub name_sym : (a b : List ℕ) → same_name a b ≡ same_name b a
+name_sym [] [] = refl
+name_sym [] (y ∷ ys) = refl
+name_sym (x ∷ xs) [] = refl
+name_sym (x ∷ xs) (y ∷ ys) = rw (number_sym x y, name_sym xs ys)
+
+-- ---- what alarms show
+
+-- where and why a run is stuck at an alarm
+abbrev pub why_of : Alarm → Why
+why_of a = record { span = a.span; reason = a.kind }
+
+-- with no alarm there is a value, which the fact is about; else it is stuck at the first of them
+abbrev pub Shows : {A : Type 0} → List Alarm → (A → Type 0) → Got A → Type 0
+Shows [] P (stuck w) = ⊥
+Shows [] P (went ns x) = P x
+Shows (a ∷ these) P (stuck w) = w ≡ why_of a
+Shows (a ∷ these) P (went ns x) = ⊥
+
+shows_first : {A : Type 0} (these : List Alarm) (P : A → Type 0) (ns : List ℕ) (x : Got A) → Shows these P x → Shows these P (numbers_first ns x)
+shows_first [] P ns (stuck w) h = h
+shows_first [] P ns (went ms x) h = h
+shows_first (a ∷ these) P ns (stuck w) h = h
+shows_first (a ∷ these) P ns (went ms x) h = h
+
+-- one part, and then another, whose alarms stand behind
+shows_then : {A B : Type 0} (these those : List Alarm) (P : A → Type 0) (Q : B → Type 0) (x : Got A) (go : A → Got B) → Shows these P x → ((a : A) → P a → Shows those Q (go a)) → Shows (these ++ those) Q (and_then x go)
+shows_then [] those P Q (stuck w) go h k = absurd h
+shows_then [] those P Q (went ns x) go h k = shows_first those Q ns (go x) (k x h)
+shows_then (a ∷ these) those P Q (stuck w) go h k = h
+shows_then (a ∷ these) those P Q (went ns x) go h k = absurd h
+
+-- and where the other has none
+shows_on : {A B : Type 0} (these : List Alarm) (P : A → Type 0) (Q : B → Type 0) (x : Got A) (go : A → Got B) → Shows these P x → ((a : A) → P a → Shows [] Q (go a)) → Shows these Q (and_then x go)
+shows_on [] P Q (stuck w) go h k = absurd h
+shows_on [] P Q (went ns x) go h k = shows_first [] Q ns (go x) (k x h)
+shows_on (a ∷ these) P Q (stuck w) go h k = h
+shows_on (a ∷ these) P Q (went ns x) go h k = absurd h
+
+-- ---- facts and stores
+
+abbrev pub IsWord : Value → Type 0
+IsWord (word size a) = Unit {0}
+IsWord (integer i) = ⊥
+
+abbrev pub AnyValue : {A : Type 0} → A → Type 0
+AnyValue x = Unit {0}
+
+-- a variable that is Set holds a word, and another one has no value
+abbrev pub Fits : Bool → Option Value → Type 0
+Fits true None = ⊥
+Fits true (Some v) = IsWord v
+Fits false None = Unit {0}
+Fits false (Some v) = ⊥
+
+pub record Tells (set : Facts) (store : Store) : Type 0 where
+  pub each : (name : List ℕ) → Fits (set (Set name)) (store (record { name = name }))
+
+-- one more variable has a value
+fits_if : (b c z : Bool) (v w : Option Value) → b ≡ c → Fits true v → Fits z w → Fits (if b then true else z) (if c then v else w)
+fits_if true true z v w e h k = h
+fits_if true false z v w e h k = cc
+fits_if false true z v w e h k = cc
+fits_if false false z v w e h k = k
+
+pub tells_put : (set : Facts) (store : Store) (x : Var) (v : Option Value) → Fits true v → Tells set store → Tells (with_fact set (Set x.name)) (put store (key_of x) v)
+tells_put set store x v h t = record {
+  each = λ name. fits_if (same_name x.name name) (same_name name x.name) (set (Set name)) v (store (record { name = name })) (name_sym x.name name) h (t.each name);
+}
+
+-- ---- at entry
+
+argument_fits : (d : Option Decl) (w : ℕ) → FitsDecl d w → Fits true (argument d w)
+argument_fits None w h = absurd h
+argument_fits (Some d) w h = by_type d.ty
+  where
+    by_type : (t : Ty) → IsWord (value_of_type t w)
+    by_type (Word size) = tt
+
+tells_arguments : (ps : List Param) (ws : List ℕ) (set : Facts) (store : Store) → AreArguments ps ws → Tells set store → Tells (with_parameters set ps) (with_arguments ps ws store)
+tells_arguments [] ws set store h t = t
+tells_arguments (p ∷ ps) [] set store h t = absurd h
+tells_arguments (p ∷ ps) (w ∷ ws) set store h t =
+    tells_arguments ps ws (with_fact set (Set p.var.name)) (put store (key_of p.var) (argument p.var.decl w)) h.1
+    (tells_put set store p.var (argument p.var.decl w) (argument_fits p.var.decl w h.0) t)
+
+tells_none : Tells no_facts empty_store
+tells_none = record { each = λ name. tt }
+
+-- ---- alarms of lists of conditions
+
+alarms_more : (set : Facts) (c : Condition) (cs : List Condition) → alarms_at set (c ∷ cs) ≡ alarms_at set (c ∷ []) ++ alarms_at set cs
+alarms_more set c cs = by_test (set c.fact) refl
+  where
+    by_test : (b : Bool) → set c.fact ≡ b → alarms_at set (c ∷ cs) ≡ alarms_at set (c ∷ []) ++ alarms_at set cs
+    by_test true e = rw e
+    by_test false e = rw e
+
+-- ---- reads
+
+module _ (set : Facts) (store : Store) (t : Tells set store) where
+  read_by : (x : Var) (b : Bool) (v : Option Value) → Fits b v → Shows (map alarm_of (filter (λ c. not b) (read_of x ∷ []))) IsWord (defined x.span v)
+  read_by x true None h = absurd h
+  read_by x true (Some v) h = h
+  read_by x false None h = refl
+  read_by x false (Some v) h = absurd h
+
+  shows_read : (x : Var) → Shows (alarms_at set (read_of x ∷ [])) IsWord (variable_value x store)
+  shows_read x = read_by x (set (Set x.name)) (store (key_of x)) (t.each x.name)
+
+  shows_results : (xs : List Var) → Shows (alarms_at set (result_conditions xs)) AnyValue (result_words xs store)
+  shows_results [] = tt
+  shows_results (x ∷ xs) =
+      subst (λ these. Shows these AnyValue (result_words (x ∷ xs) store)) (sym (alarms_more set (read_of x) (result_conditions xs)))
+      (shows_then (alarms_at set (read_of x ∷ [])) (alarms_at set (result_conditions xs)) IsWord AnyValue (variable_value x store) _ (shows_read x) (rest (shows_results xs)))
+    where
+      rest : Shows (alarms_at set (result_conditions xs)) AnyValue (result_words xs store) → (v : Value) → IsWord v
+          → Shows (alarms_at set (result_conditions xs)) AnyValue (and_then (word_of x.span v) (λ w. and_then (result_words xs store) (λ ws. went [] (w ∷ ws))))
+      rest more (word size a) h = shows_first (alarms_at set (result_conditions xs)) AnyValue [] _ (shows_on (alarms_at set (result_conditions xs)) AnyValue AnyValue (result_words xs store) _ more (λ ws k. tt))
+      rest more (integer i) h = absurd h
+
+weaker : {A : Type 0} (these : List Alarm) (P : A → Type 0) (x : Got A) → Shows these P x → Shows these AnyValue x
+weaker [] P (stuck w) h = h
+weaker [] P (went ns x) h = tt
+weaker (a ∷ these) P (stuck w) h = h
+weaker (a ∷ these) P (went ns x) h = h
+
+-- ---- statements
+
+module _ (set : Facts) (s : State) (t : Tells set s.store) where
+  shows_right : (r : Rhs) → Shows (alarms_at set (right_conditions r)) AnyValue (right_value r s)
+  shows_right (rhs.Value (expr.Num i at)) = tt
+  shows_right (rhs.Value (expr.Var x)) = weaker (alarms_at set (read_of x ∷ [])) IsWord (variable_value x s.store) (shows_read set s.store t x)
+
+  shows_combined : (o : BinOp) (at : Span) (a b : Value) → IsWord a → Shows [] AnyValue (combined o at a b)
+  shows_combined o at (word size a) (word other b) h = tt
+  shows_combined o at (word size a) (integer i) h = tt
+  shows_combined o at (integer i) b h = absurd h
+
+  shows_value : (d : Lval) (o : Option BinOp) (r : Rhs) (at : Span) → Shows (alarms_at set (left_conditions o (d ∷ []) ++ right_conditions r)) AnyValue (assigned_value d o r at s)
+  shows_value d None r at = shows_right r
+  shows_value (lval.Var x) (Some o) r at =
+      subst (λ these. Shows these AnyValue (assigned_value (lval.Var x) (Some o) r at s)) (sym (alarms_more set (read_of x) (right_conditions r)))
+      (shows_then (alarms_at set (read_of x ∷ [])) (alarms_at set (right_conditions r)) IsWord AnyValue (variable_value x s.store) _ (shows_read set s.store t x)
+      (λ a h. shows_on (alarms_at set (right_conditions r)) AnyValue AnyValue (right_value r s) _ (shows_right r) (λ b k. shows_combined o at a b h)))
+
+word_of_type : (d : Ty) (i : ℤ) → IsWord (of_type d i)
+word_of_type (Word size) i = tt
+
+shows_declared : (d : Option Decl) (at : Span) (i : ℤ) → IsSome d → Shows [] IsWord (as_declared d at i)
+shows_declared None at i h = cc
+shows_declared (Some d) at i h = word_of_type d.ty i
+
+shows_held : (x : Var) (v : Value) → IsSome x.decl → Shows [] IsWord (held x v)
+shows_held x (word size a) h = tt
+shows_held x (integer i) h = shows_declared x.decl x.span i h
+
+shows_written : (set : Facts) (s : State) (d : Lval) (v : Value) → IsDeclared d → Tells set s.store → Shows [] (λ (u : State). Tells (after_left_side set d) u.store) (written d v s)
+shows_written set s (lval.Var x) v h t =
+    shows_on [] IsWord (λ (u : State). Tells (with_fact set (Set x.name)) u.store) (held x v) _ (shows_held x v h) (λ w k. tells_put set s.store x (Some w) k t)
+
+shows_assigned : (set : Facts) (s : State) (to : List Lval) (o : Option BinOp) (r : Rhs) (at : Span) → IsOneDeclared to → Tells set s.store
+    → Shows (alarms_at set (left_conditions o to ++ right_conditions r)) (λ (u : State). Tells (after_left_sides set to) u.store) (assigned to o r at s)
+shows_assigned set s [] o r at h t = absurd h
+shows_assigned set s (d ∷ []) o r at h t =
+    shows_on (alarms_at set (left_conditions o (d ∷ []) ++ right_conditions r)) AnyValue (λ (u : State). Tells (after_left_side set d) u.store)
+    (assigned_value d o r at s) (λ v. written d v s) (shows_value set s t d o r at) (λ v k. shows_written set s d v h t)
+shows_assigned set s (d ∷ e ∷ ds) o r at h t = absurd h
+
+shows_statement : (set : Facts) (s : State) (k : StmtKind) (at : Span) → AssignsOne k → Tells set s.store → Shows (alarms_at set (kind_conditions k)) (λ (u : State). Tells (after_kind set k) u.store) (run_statement k at s)
+shows_statement set s (kind.Assign to o r) at h t = shows_assigned set s to o r at h t
+
+shows_statements : (xs : List Stmt) (set : Facts) (s : State) → AreResolved xs → Tells set s.store → Shows (body_alarms set xs) (λ (u : State). Tells (facts_at_end set xs) u.store) (run_statements xs s)
+shows_statements [] set s h t = t
+shows_statements (x ∷ xs) set s h t =
+    shows_then (alarms_at set (conditions_of x)) (body_alarms (facts_after set x) xs) (λ (u : State). Tells (facts_after set x) u.store) (λ (u : State). Tells (facts_at_end (facts_after set x) xs) u.store)
+    (run_statement x.kind x.span s) (run_statements xs) (shows_statement set s x.kind x.span h.0 t) (λ u k. shows_statements xs (facts_after set x) u h.1 k)
+
+-- ---- functions
+
+shows_function : (f : Fun) (words : List ℕ) (memory : Memory) → AreArguments f.params words → IsResolved f → Shows (alarms_of f) AnyValue (words_returned f words memory)
+shows_function f words memory a h =
+    let entry = entry_facts f in
+    shows_then (body_alarms entry f.body) (alarms_at (facts_at_end entry f.body) (result_conditions f.result)) (λ (u : State). Tells (facts_at_end entry f.body) u.store) AnyValue
+    (run_statements f.body (begun f words memory)) (λ u. result_words f.result u.store)
+    (shows_statements f.body entry (begun f words memory) h (tells_arguments f.params words no_facts empty_store a tells_none))
+    (λ u k. shows_results (facts_at_end entry f.body) u.store k f.result)
+
+ends_without : (memory : Memory) (n : ℕ) (l : Leak) (these : List Alarm) (x : Got (List ℕ)) → Shows these AnyValue x → these ≡ [] → (ws : List ℕ) × (returned_words memory n l x ≡ End (record { words = ws; memory = memory }) n l)
+ends_without memory n l [] (stuck w) h e = absurd h
+ends_without memory n l [] (went ns ws) h e = (ws, refl)
+ends_without memory n l (a ∷ these) x h e = cc
+
+stuck_with : (memory : Memory) (n : ℕ) (l : Leak) (these later : List Alarm) (a : Alarm) (x : Got (List ℕ)) → Shows these AnyValue x → these ≡ a ∷ later → returned_words memory n l x ≡ Stuck (why_of a)
+stuck_with memory n l [] later a x h e = cc
+stuck_with memory n l (b ∷ these) later a (stuck w) h e = let q : b ≡ a = cc in ap (λ z. Stuck z) (h ∙ ap why_of q)
+stuck_with memory n l (b ∷ these) later a (went ns ws) h e = absurd h
+
+pub safe_ends : (p : Program) (f : Fun) (words : List ℕ) (memory : Memory) (n : ℕ) (o : FunOutcome) → IsResolved f → HasNoAlarm f → IsRun p f words memory n o → (returned : List ℕ) × (o ≡ End (record { words = returned; memory = memory }) n (plain_leak f.body))
+safe_ends p f words memory n o h q g =
+    let r = ends_without memory n (plain_leak f.body) (alarms_of f) (words_returned f words memory) (shows_function f words memory g.input.arguments h) q in
+    (r.0, fun_straight p f words memory n o g ∙ r.1)
+
+pub safe_not_stuck : (p : Program) (f : Fun) (words : List ℕ) (memory : Memory) (n : ℕ) (why : Why) → IsResolved f → HasNoAlarm f → IsRun p f words memory n (Stuck why) → ⊥
+safe_not_stuck p f words memory n why h q g = let r = safe_ends p f words memory n (Stuck why) h q g in ended_not r.0 r.1
+  where
+    ended_not : (ws : List ℕ) → ◌≡◌ {A = FunOutcome} (Stuck why) (End (record { words = ws; memory = memory }) n (plain_leak f.body)) → ⊥
+    ended_not ws e = cc
+
+pub alarm_stuck : (p : Program) (f : Fun) (words : List ℕ) (memory : Memory) (n : ℕ) (o : FunOutcome) (a : Alarm) → IsResolved f → IsFirstAlarm f a → IsRun p f words memory n o → o ≡ Stuck (why_of a)
+alarm_stuck p f words memory n o a h q g =
+    fun_straight p f words memory n o g
+    ∙ stuck_with memory n (plain_leak f.body) (alarms_of f) q.0 a (words_returned f words memory) (shows_function f words memory g.input.arguments h) q.1

@@ -1,0 +1,57 @@
+//! The search for the first alarm.
+
+ghost use Rattle.std.specs.Prelude.{◌≡◌, [], IfOk, OnOk, IfErr};
+ghost use Rattle.jz_data.specs.Failures.{IfRefused};
+ghost use Rattle.jz_facts.specs.Facts.{facts_of};
+ghost use Rattle.jz_facts.specs.Holding.{facts_at_end};
+ghost use Rattle.jz_safety.specs.Alarms.{alarms_at, body_alarms, IsFirst, HasNoAlarm, IsFirstAlarm};
+
+use crate::alarm::Alarm;
+use crate::certificate::Safe;
+use jz_data::{Failure, Seq};
+use jz_facts::{Condition, FactSet, at_entry, conditions, gives, holds_after, result_conditions};
+use jz_meaning::Expanded;
+use jz_tree::Stmt;
+use std::alloc::Global;
+
+fn check_conditions(set: &FactSet, asked: &Seq<Condition>) -> Result<(), Failure<Alarm>>
+    ensures met { OnOk result (alarms_at (facts_of set.now) asked.now ≡ []) }
+    ensures alarm { IfErr result (λ failure. IfRefused failure (IsFirst (alarms_at (facts_of set.now) asked.now))) }
+{
+    for condition in asked.as_slice() {
+        if !gives(set, &condition.fact) {
+            return Err(Failure::Refused(Alarm {
+                span: condition.span,
+                kind: condition.kind,
+                target: condition.target.clone()?,
+            }));
+        }
+    }
+    Ok(())
+}
+
+/// What holds after the statements, if they have no alarm.
+fn check_body(alloc: Global, start: FactSet, body: &Seq<Stmt>) -> Result<FactSet, Failure<Alarm>>
+    ensures facts { IfOk result (λ set. facts_of set ≡ facts_at_end (facts_of start) body.now) }
+    ensures met { OnOk result (body_alarms (facts_of start) body.now ≡ []) }
+    ensures alarm { IfErr result (λ failure. IfRefused failure (IsFirst (body_alarms (facts_of start) body.now))) }
+{
+    let mut set = start;
+    for statement in body.as_slice() {
+        check_conditions(&set, &conditions(alloc, statement)?)?;
+        set = holds_after(set, statement)?;
+    }
+    Ok(set)
+}
+
+/// The function, if it has no alarm; or its first alarm, in the order in which it is evaluated.
+pub fn safe(alloc: Global, expanded: Expanded) -> Result<Safe, Failure<Alarm>>
+    ensures value { IfOk result (λ safe. safe ≡ expanded) }
+    ensures no_alarm { OnOk result (HasNoAlarm expanded.fun) }
+    ensures alarm { IfErr result (λ failure. IfRefused failure (IsFirstAlarm expanded.fun)) }
+{
+    let entry = at_entry(alloc, &expanded)?;
+    let set = check_body(alloc, entry, &expanded.fun.body)?;
+    check_conditions(&set, &result_conditions(alloc, &expanded.fun.result)?)?;
+    Ok(Safe::new(expanded))
+}
