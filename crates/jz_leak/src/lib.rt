@@ -2,6 +2,7 @@
 #![tactic(auto)]
 
 mod event;
+mod leak;
 mod mem_map;
 mod segment;
 #[cfg(test)]
@@ -9,5 +10,6 @@ mod tests;
 mod transformer;
 
 pub use event::{Event, Events};
+pub use leak::{Item, Leak, Turn};
 pub use mem_map::MemMap;
 pub use transformer::{Case, Form, Out, Tr, Transformer};
