@@ -82,12 +82,12 @@ module _ (ts : List Token) (f a b c : List ℕ) (different : Different (f ∷ a 
   body_goes : (n : ℕ) → Goes source (block form_fun.body done) n (state_at first_store) (End (state_at last_store) n (ran [] (ran [] over)))
   body_goes n =
       did (ap (λ o. and_then (defined (span_at ts 22) o) (λ v. written (lval.Var (used_at ts 20 c)) v (state_at first_store))) first_of_a)
-      (did (ap (λ o. and_then (and_then (defined (span_at ts 24) o) (λ v. and_then (defined (span_at ts 26) (second_store (record { name = b }))) (λ w. went [] (combined Add v w)))) (λ v. written (lval.Var (used_at ts 24 c)) v (state_at second_store))) second_of_c
-      ∙ ap (λ o. and_then (and_then (defined (span_at ts 24) (Some (word S64 x))) (λ v. and_then (defined (span_at ts 26) o) (λ w. went [] (combined Add v w)))) (λ v. written (lval.Var (used_at ts 24 c)) v (state_at second_store))) second_of_b)
+      (did (ap (λ o. and_then (and_then (defined (span_at ts 24) o) (λ v. and_then (defined (span_at ts 26) (second_store (record { name = b }))) (λ w. combined Add (span_at ts 24) v w))) (λ v. written (lval.Var (used_at ts 24 c)) v (state_at second_store))) second_of_c
+      ∙ ap (λ o. and_then (and_then (defined (span_at ts 24) (Some (word S64 x))) (λ v. and_then (defined (span_at ts 26) o) (λ w. combined Add (span_at ts 24) v w))) (λ v. written (lval.Var (used_at ts 24 c)) v (state_at second_store))) second_of_b)
       finished)
 
   gives_sum : (n : ℕ) → returned form_fun.result (End (state_at last_store) n (ran [] (ran [] over))) ≡ added x y memory n
-  gives_sum n = ap (λ o. returned_words memory n (ran [] (ran [] over)) (and_then (defined (span_at ts 29) o) (λ v. went [] (word_of v ∷ [])))) last_of_c
+  gives_sum n = ap (λ o. returned_words memory n (ran [] (ran [] over)) (and_then (defined (span_at ts 29) o) (λ v. and_then (word_of (span_at ts 29) v) (λ w. went [] (w ∷ []))))) last_of_c
 
   form_runs : (n : ℕ) → x < 2 ^ 64 → y < 2 ^ 64 → IsRun (tree_of ts f a b c) form_fun (x ∷ y ∷ []) memory n (added x y memory n)
   form_runs n fits_x fits_y = record {

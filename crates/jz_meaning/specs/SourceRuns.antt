@@ -1,9 +1,11 @@
 -- The run of a source function: what its statements do, parameters in and results out. The statements are those of the text; no
 -- register, no address of a variable and no code is named. The rules are those of the Jasmin documentation, for the statements that are read.
-use Rattle.std.specs.Prelude.{◌≡◌, ◌<◌, ℕ, ◌+◌, ◌%◌, List, [], ◌∷◌, Option, Some, None, Contains}
+use Rattle.std.specs.Prelude.{◌≡◌, ◌<◌, ℕ, ◌+◌, ◌%◌, bit_xor, ℤ, pos, ◌-ℤ◌, List, [], ◌∷◌, Option, Some, None, Contains}
 use Rattle.jz_io.specs.declared.span.Span.{Span}
 use Rattle.jz_words.specs.Memory.{Memory}
+use Rattle.jz_words.specs.declared.size.Size.{Size}
 use Rattle.jz_words.specs.Sizes.{modulus}
+use Rattle.jz_words.specs.Words.{residue}
 use Rattle.jz_tree.specs.declared.Program.{Program}
 use Rattle.jz_tree.specs.declared.Fun.{Fun}
 use Rattle.jz_tree.specs.declared.Param.{Param}
@@ -12,7 +14,7 @@ use Rattle.jz_tree.specs.declared.Ty.{Ty}
 use Rattle.jz_tree.specs.declared.Ty.TheVariants.{Word}
 use Rattle.jz_tree.specs.declared.Var.{Var}
 use Rattle.jz_tree.specs.declared.BinOp.{BinOp}
-use Rattle.jz_tree.specs.declared.BinOp.TheVariants.{Add}
+use Rattle.jz_tree.specs.declared.BinOp.TheVariants.{Xor, Add, Sub}
 use Rattle.jz_tree.specs.declared.Lval.{Lval}
 use Rattle.jz_tree.specs.declared.Lval.TheVariants as lval
 use Rattle.jz_tree.specs.declared.Rhs.{Rhs}
@@ -23,10 +25,14 @@ use Rattle.jz_tree.specs.declared.StmtKind.TheVariants as kind
 use Rattle.jz_meaning.specs.RunTrees.{Tree, done, op}
 use Rattle.jz_leak.specs.RunLeaks.{Leak}
 use Rattle.jz_meaning.specs.RunRules.{stuck, went, Parts, Outcome, End, Cut, Stuck, Goes}
-use Rattle.jz_meaning.specs.SourceStates.{Value, word, key_of, Store, empty_store, put, State, Init, Why}
+use Rattle.jz_meaning.specs.SourceStates.{Value, word, integer, key_of, Store, empty_store, put, State, Init, Why}
 use Rattle.jz_meaning.specs.SourceValues.{Got, stuck_at, and_then, variable_value, evaluated}
 
 -- ---- assignments
+
+-- a whole number as a word of this type
+abbrev pub of_type : Ty → ℤ → Value
+of_type (Word size) i = word size (residue size i)
 
 -- the left sides, the operation of `op=`, the right side, where the statement stands
 pub record Assignment : Type 0 where
@@ -35,9 +41,19 @@ pub record Assignment : Type 0 where
   pub rhs : Rhs
   pub at : Span
 
+-- a whole number in the place of a word: modulo 2 to the bits of the declared size
+abbrev pub as_declared : Option Decl → Span → ℤ → Got Value
+as_declared None at i = stuck_at at Init
+as_declared (Some d) at i = went [] (of_type d.ty i)
+
+-- what a variable holds of a value that is assigned to it: a word
+abbrev pub held : Var → Value → Got Value
+held x (word size a) = went [] (word size a)
+held x (integer i) = as_declared x.decl x.span i
+
 -- the left side, written: a variable gets the value
 abbrev pub written : Lval → Value → State → Got State
-written (lval.Var x) v s = went [] (record s { store = put s.store (key_of x) (Some v) })
+written (lval.Var x) v s = and_then (held x v) (λ w. went [] (record s { store = put s.store (key_of x) (Some w) }))
 
 -- the value that the left side has before
 abbrev pub left_value : Lval → State → Got Value
@@ -47,18 +63,26 @@ left_value (lval.Var x) s = variable_value x s.store
 abbrev pub right_value : Rhs → State → Got Value
 right_value (rhs.Value e) s = evaluated e s
 
--- the operands have one size: the sum modulo 2 to the bits of that size, for 64 bits modulo 2 ^ 64
-abbrev pub combined : BinOp → Value → Value → Value
-combined Add (word size a) (word other b) = word size ((a + b) % modulus size)
+-- an operation on words of a size: modulo 2 to its bits, for 64 bits modulo 2 ^ 64
+abbrev pub operation : BinOp → Size → ℕ → ℕ → ℕ
+operation Xor size a b = bit_xor a b
+operation Add size a b = (a + b) % modulus size
+operation Sub size a b = residue size (pos a -ℤ pos b)
+
+-- the operands have one size, and a whole number takes that of the word on its left; with a whole number on the left it means nothing
+abbrev pub combined : BinOp → Span → Value → Value → Got Value
+combined o at (word size a) (word other b) = went [] (word size (operation o size a b))
+combined o at (word size a) (integer i) = went [] (word size (operation o size a (residue size i)))
+combined o at (integer i) b = stuck_at at Init
 
 -- the value that is assigned: `d op= e` is `d = d op e`
-abbrev pub assigned_value : Lval → Option BinOp → Rhs → State → Got Value
-assigned_value d None r s = right_value r s
-assigned_value d (Some o) r s = and_then (left_value d s) (λ a. and_then (right_value r s) (λ b. went [] (combined o a b)))
+abbrev pub assigned_value : Lval → Option BinOp → Rhs → Span → State → Got Value
+assigned_value d None r at s = right_value r s
+assigned_value d (Some o) r at s = and_then (left_value d s) (λ a. and_then (right_value r s) (λ b. combined o at a b))
 
 -- the value, and then the left side; with another number of left sides than one it means nothing
 abbrev pub assigned : List Lval → Option BinOp → Rhs → Span → State → Got State
-assigned (d ∷ []) o r at s = and_then (assigned_value d o r s) (λ v. written d v s)
+assigned (d ∷ []) o r at s = and_then (assigned_value d o r at s) (λ v. written d v s)
 assigned _ o r at s = stuck_at at Init
 
 -- ---- the statements of a body
@@ -110,14 +134,15 @@ with_arguments (p ∷ ps) (w ∷ ws) store = with_arguments ps ws (put store (ke
 abbrev pub begun : Fun → List ℕ → Memory → State
 begun f words memory = record { store = with_arguments f.params words empty_store; memory = memory }
 
--- the bits of a word
-abbrev pub word_of : Value → ℕ
-word_of (word size w) = w
+-- the bits of a word; a variable holds no other value
+abbrev pub word_of : Span → Value → Got ℕ
+word_of at (word size w) = went [] w
+word_of at (integer i) = stuck_at at Init
 
 -- the words of the variables that are returned, in their order
 abbrev pub result_words : List Var → Store → Got (List ℕ)
 result_words [] store = went [] []
-result_words (x ∷ xs) store = and_then (variable_value x store) (λ v. and_then (result_words xs store) (λ ws. went [] (word_of v ∷ ws)))
+result_words (x ∷ xs) store = and_then (variable_value x store) (λ v. and_then (word_of x.span v) (λ w. and_then (result_words xs store) (λ ws. went [] (w ∷ ws))))
 
 -- what a function gives
 pub record Returned : Type 0 where

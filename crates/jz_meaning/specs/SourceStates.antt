@@ -1,14 +1,15 @@
 -- Stores of a source run: what the variables are, and the valid bytes of the memory.
-use Rattle.std.specs.Prelude.{ℕ, ◌==◌, Bool, List, Option, None, if◌then◌else◌}
+use Rattle.std.specs.Prelude.{ℕ, ℤ, ◌==◌, Bool, List, Option, None, if◌then◌else◌}
 use Rattle.std.specs.Cmp.Lexicographic.{pointwise}
 use Rattle.jz_io.specs.declared.span.Span.{Span}
 use Rattle.jz_words.specs.declared.size.Size.{Size}
 use Rattle.jz_words.specs.Memory.{Memory}
 use Rattle.jz_tree.specs.declared.Var.{Var}
 
--- what a variable may be: a word of a size, by its bits as an unsigned number
+-- what an expression may be: a word of a size, by its bits as an unsigned number; a whole number that is known when the text is compiled
 pub data Value : Type 0 where
   word : Size → ℕ → Value
+  integer : ℤ → Value
 
 -- what has a value: a variable, by its name
 pub record Key : Type 0 where

@@ -5,7 +5,7 @@ use Rattle.jz_tree.specs.declared.Var.{Var}
 use Rattle.jz_tree.specs.declared.Expr.{Expr}
 use Rattle.jz_tree.specs.declared.Expr.TheVariants as expr
 use Rattle.jz_meaning.specs.RunRules.{Attempt, stuck, went}
-use Rattle.jz_meaning.specs.SourceStates.{Value, key_of, Store, State, Reason, Init, Why}
+use Rattle.jz_meaning.specs.SourceStates.{Value, integer, key_of, Store, State, Reason, Init, Why}
 
 -- a part of a statement gives a value, or is stuck at a place for a reason
 abbrev pub Got : Type 0 → Type 0
@@ -36,6 +36,7 @@ variable_value x store = defined x.span (store (key_of x))
 
 -- an expression's numbers, from left to right, and its value
 abbrev pub evaluated : Expr → State → Got Value
+evaluated (expr.Num i at) s = went [] (integer i)
 evaluated (expr.Var x) s = variable_value x s.store
 
 -- the value, or where and why there is none
