@@ -11,6 +11,7 @@ use Rattle.jz_leak.specs.declared.transformer.Out.{Out}
 use Rattle.jz_leak.specs.declared.transformer.Out.TheVariants as out
 use Rattle.jz_leak.specs.declared.transformer.Tr.{Tr}
 use Rattle.jz_leak.specs.declared.transformer.Case.{Case}
+use Rattle.jz_leak.specs.declared.transformer.Case.TheVariants.{Op}
 use Rattle.jz_leak.specs.declared.transformer.Case.TheOpen.{Case-F}
 use Rattle.jz_leak.specs.declared.transformer.Case.TheViews.{out-Case}
 use Rattle.jz_leak.specs.declared.transformer.Transformer.{Transformer}
@@ -76,8 +77,8 @@ pub record Loop : Type 0 where
   pub body : Tr
   pub leave_outs : List Out
 
-abbrev pub op_events : ℕ → List ℕ → Layer → List Event
-op_events rsp0 ns (Case-F.Op outs) = events_for ns rsp0 outs
+abbrev pub op_events : ℕ → List ℕ → Case → List Event
+op_events rsp0 ns (Op outs) = events_for ns rsp0 outs
 op_events rsp0 ns _ = []
 
 -- the events of the condition, then those of its answer and of the arm
@@ -112,7 +113,7 @@ head_events rsp0 ns prologue loop = prologue loop.prologue.cases ++ events_for n
 -- items and cases in step; at a cut everything stops
 abbrev mutual
   pub body_events : Leak → ℕ → List Case → List Event
-  body_events (ran ns l) rsp0 (c ∷ cs) = op_events rsp0 ns (out-Case c) ++ body_events l rsp0 cs
+  body_events (ran ns l) rsp0 (c ∷ cs) = op_events rsp0 ns c ++ body_events l rsp0 cs
   body_events (chose ns z a l) rsp0 (c ∷ cs) = if_events rsp0 ns z (body_events a rsp0) (out-Case c) ++ body_events l rsp0 cs
   body_events (chose_cut ns z a) rsp0 (c ∷ cs) = if_events rsp0 ns z (body_events a rsp0) (out-Case c)
   body_events (looped ts l) rsp0 (c ∷ cs) = while_events (turns_events ts rsp0) (out-Case c) ++ body_events l rsp0 cs
@@ -165,8 +166,8 @@ abbrev pub OutsFit : List ℕ → List Out → Type 0
 OutsFit ns [] = ⊤
 OutsFit ns (o ∷ outs) = OutFits ns o × OutsFit ns outs
 
-abbrev pub OpFits : List ℕ → Layer → Type 0
-OpFits ns (Case-F.Op outs) = OutsFit ns outs
+abbrev pub OpFits : List ℕ → Case → Type 0
+OpFits ns (Op outs) = OutsFit ns outs
 OpFits ns _ = ⊥
 
 -- the lists of both answers see the numbers of the condition
@@ -200,7 +201,7 @@ HeadFits ns PrologueFits loop = PrologueFits loop.prologue.cases × OutsFit ns l
 abbrev mutual
   pub CasesFit : Leak → List Case → Type 0
   CasesFit over [] = ⊤
-  CasesFit (ran ns l) (c ∷ cs) = OpFits ns (out-Case c) × CasesFit l cs
+  CasesFit (ran ns l) (c ∷ cs) = OpFits ns c × CasesFit l cs
   CasesFit (chose ns z a l) (c ∷ cs) = (is_cut a ≡ false) × IfFits ns z (CasesFit a) (out-Case c) × CasesFit l cs
   CasesFit (chose_cut ns z a) (c ∷ cs) = (is_cut a ≡ true) × IfFits ns z (CasesFit a) (out-Case c)
   CasesFit (looped ts l) (c ∷ cs) = (is_cut_in_turns ts ≡ false) × WhileFits (TurnsFit ts) (out-Case c) × CasesFit l cs
