@@ -2,7 +2,7 @@
 use Rattle.std.proofs.Common.{◌≡◌, ℕ, ◌≤◌, List, [], ◌∷◌, ◌++◌, length, false, Result, Ok, Err, refl, sym, ap, ◌∙◌, subst, arith}
 use Rattle.jz_lex.specs.declared.token.Token.{Token}
 use Rattle.jz_grammar.specs.Causes.{Cause, Unexpected, TooDeep}
-use Rattle.jz_grammar.specs.Kinds.{has}
+use Rattle.jz_grammar.specs.Kinds.{Kind, has}
 use Rattle.jz_grammar.specs.Reading.{Reader, final}
 use Rattle.jz_grammar.specs.Grammar.{Marked, Lang, plain, Within}
 use Rattle.jz_grammar.specs.Laws.{Shape, IsReader, Next, Derives, Begins, BeginsWithin, IsRefused}
@@ -10,7 +10,7 @@ use Rattle.jz_grammar.proofs.Basics.{plain_append}
 use Rattle.jz_grammar.proofs.Steady.{IsSteady, with_mark, within_marked, plain_marked}
 use Rattle.jz_grammar.proofs.Exact as x
 
-module _ {A : Type 0} (read : Reader A) (lang : ℕ → Lang A) (s : Shape) (R : IsReader read lang s) (closed : (ts : List Token) → has s.goes ts ≡ false) (steady : IsSteady lang) where
+module _ {A : Type 0} (read : Reader A) (lang : ℕ → Lang A) (s : Shape) (R : IsReader read lang s) (closed : (ts : List Token) → has s.goes ts ≡ false) (over : List Kind) (steady : IsSteady over lang) where
   -- a phrase that begins with these tokens, at any mark
   at_zero : (e : ℕ) (xs : List Marked) (ts : List Token) (a : A) → lang e xs a → plain xs ≡ ts → Derives lang 0 ts a
   at_zero e xs ts a h p = (with_mark 0 xs, (steady e 0 xs a h).1, plain_marked 0 (plain xs) ∙ p)

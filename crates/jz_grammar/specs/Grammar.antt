@@ -35,6 +35,10 @@ infixl 13 ◌⇒◌
 abbrev pub ◌⇒◌ : {A B : Type 0} → Lang A → (A → B) → Lang B
 (l ⇒ to) xs b = (a : _) × l xs a × (to a ≡ b)
 
+-- those of which a fact holds
+abbrev pub only : {A : Type 0} → (A → Type 0) → Lang A → Lang A
+only holds l xs a = l xs a × holds a
+
 -- nothing is in it
 abbrev pub never : {A : Type 0} → Lang A
 never xs a = ⊥

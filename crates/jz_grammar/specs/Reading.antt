@@ -1,5 +1,5 @@
 -- Reading tokens from the left: a value and the tokens after it, or why there is none and the tokens from there on.
-use Rattle.std.specs.Prelude.{length, ℕ, zero, suc, List, [], ◌∷◌, Bool, false, Option, Some, None, Result, Ok, Err, ◌&&◌, if◌then◌else◌}
+use Rattle.std.specs.Prelude.{length, ℕ, zero, suc, List, [], ◌∷◌, Bool, false, Option, Some, None, Result, Ok, Err, ◌&&◌, if◌then◌else◌, ◌++◌}
 use Rattle.jz_lex.specs.declared.token.Token.{Token}
 use Rattle.jz_io.specs.declared.span.Span.{Span}
 use Rattle.jz_grammar.specs.Causes.{Cause, Unexpected, TooDeep}
@@ -95,3 +95,17 @@ inside ks inner d ts = opening ks d ts >>= λ x. inner x.0.1 x.1 >>= λ y. Ok ((
 -- it, if such a token stands there
 abbrev pub optional : {A : Type 0} → List Kind → Reader A → Reader (Option A)
 optional ks f ts = if has ks ts then through (λ a. Some a) (f ts) else Ok (None, ts)
+
+-- what is left of a list, behind what is out already: any number, or at most n
+abbrev pub more_of : {A : Type 0} → List Kind → Reader A → List A → Reader (List A)
+more_of ks f out ts = through (λ as'. out ++ as') (many ks f ts)
+
+abbrev pub few_of : {A : Type 0} → ℕ → List Kind → Reader A → List A → Reader (List A)
+few_of n ks f out ts = through (λ as'. out ++ as') (many_at n ks f ts)
+
+-- one and any number more, or one and at most n more
+abbrev pub listed : {A : Type 0} → List Kind → Reader A → Reader A → Reader (List A)
+listed ks first f ts = first ts >>= λ x. more_of ks f (x.0 ∷ []) x.1
+
+abbrev pub listed_few : {A : Type 0} → ℕ → List Kind → Reader A → Reader A → Reader (List A)
+listed_few n ks first f ts = first ts >>= λ x. few_of n ks f (x.0 ∷ []) x.1

@@ -3,3 +3,4 @@ pub mod Differing
 pub mod FormRuns
 pub mod FormKinds
 pub mod FormLaws
+pub mod Counted

@@ -2,9 +2,13 @@
 //! that adds them.
 #![tactic(auto)]
 
+mod cursor;
 mod fault;
 mod form;
+mod function;
+mod kinds;
 mod read;
+mod statement;
 #[cfg(test)]
 mod tests;
 mod tree;
