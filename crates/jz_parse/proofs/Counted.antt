@@ -7,8 +7,8 @@ use Rattle.jz_grammar.specs.Kinds.{Kind, word, sign, identifier, number, end, sp
 use Rattle.jz_grammar.specs.Reading.{Answer, Reader, ◌>>=◌, through, follow, depend, pick, many, many_by, leaf, optional, listed_few, listed}
 use Rattle.jz_grammar.specs.Grammar.{Marked, Lang, token, empty, ◌▸◌, ◌⊕◌, ◌⇒◌, only, never, each, each_by, at_most, then_by, maybe}
 use Rattle.jz_grammar.specs.Laws.{Shape, IsReader, HasPhrase, one_shape, full, many_shape, both, either, empty_shape}
-use Rattle.jz_grammar.proofs.Basics.{disjoint_nil, all_in}
-use Rattle.jz_grammar.proofs.Combine.{follow_reads, map_reads, pick_reads, optional_reads, many_reads, leaf_reads, reads_as, same_reads, shaped}
+use Rattle.jz_grammar.proofs.Basics.{disjoint_nil, all_in, if_false}
+use Rattle.jz_grammar.proofs.Combine.{has_nil, follow_reads, map_reads, pick_reads, optional_reads, many_reads, leaf_reads, reads_as, same_reads, shaped}
 use Rattle.jz_grammar.proofs.Depend.{depend_reads}
 use Rattle.jz_grammar.proofs.Several.{IsItem, many_by_reads}
 use Rattle.jz_grammar.proofs.Steps.{listed_reads, listed_few_reads}
@@ -121,6 +121,9 @@ reg_law = map_reads (λ p. register_word) (follow_reads (key_law (codes "reg")) 
 some_reg : HasPhrase (λ d. g.reg_u64 d)
 some_reg = some_map (λ d. g.key d (codes "reg") ▸ g.key d (codes "u64")) (λ p. register_word) (some_then (λ d. g.key d (codes "reg")) (λ d. g.key d (codes "u64")) (some_key (codes "reg")) (some_key (codes "u64")))
 
+one_less : (n : ℕ) → n ≡ suc n - 1
+one_less n = omega arith
+
 -- ---- parameters
 some_group_params : (n : ℕ) → HasPhrase (λ d. group_params d n)
 some_group_params n = some_map (λ d. g.param d ▸ at_most n (g.param d)) (λ p. p.0 ∷ p.1) (some_then (λ d. g.param d) (λ d. at_most n (g.param d)) some_param (some_few n))
@@ -130,17 +133,18 @@ some_group_params n = some_map (λ d. g.param d ▸ at_most n (g.param d)) (λ p
     some_few (suc n) d h = ([], [], inr (refl, refl))
 
 pub group_law : (n : ℕ) → IsReader (r.group n) (λ e. group e n) (full regs r.ids)
-unfolding r.group
+unfolding r.group r.params_more
 group_law n = map_reads (λ p. p.1) (follow_reads reg_law (listed_few_reads n r.ids [] r.ids [] param_law param_law refl refl) (some_group_params n) refl)
 
 some_group : (n : ℕ) → HasPhrase (λ d. group d n)
 some_group n = some_map (λ d. g.reg_u64 d ▸ group_params d n) (λ p. p.1) (some_then (λ d. g.reg_u64 d) (λ d. group_params d n) some_reg (some_group_params n))
 
 pub next_group_law : (n : ℕ) → IsItem (r.group_starts n) r.ids (r.next_group n) (λ e. next_group e n)
+unfolding r.next_group
 next_group_law zero = inr (refl, λ e xs a h. h)
-next_group_law (suc n) = inl (comma_law regs r.ids (group_law n) (some_group n))
+next_group_law (suc n) = inl (subst (λ z. IsReader (r.comma (r.group z)) (λ e. next_group e (suc n)) (full r.commas r.ids)) (one_less n) (comma_law regs r.ids (group_law n) (some_group n)))
 
-starts_groups : (n : ℕ) → all_in (r.group_starts n) r.commas ≡ true
+pub starts_groups : (n : ℕ) → all_in (r.group_starts n) r.commas ≡ true
 starts_groups zero = refl
 starts_groups (suc n) = refl
 
@@ -195,7 +199,7 @@ abbrev pub results_shape : Shape
 results_shape = record { starts = arrow; goes = r.commas ++ arrow; empties = true }
 
 pub results_law : IsReader r.results (λ e. g.results e) results_shape
-unfolding r.results
+unfolding r.results r.rtypes_more
 results_law = shaped results_shape (map_reads or_empty (optional_reads arrow (r.commas ++ []) (map_reads (λ p. p.1) (follow_reads (the_law (codes "->")) (listed_reads regs [] r.commas [] rtype_law next_rtype_law refl refl) some_rtypes refl)))) refl refl refl
 
 -- ---- declarations
@@ -211,7 +215,7 @@ some_decl_vars n = some_map (λ d. g.declared d ▸ at_most n (g.next_declared d
     some_few (suc n) d h = ([], [], inr (refl, refl))
 
 pub decl_law : (n : ℕ) → IsReader (r.decl n) (λ e. decl e n) (full regs [])
-unfolding r.decl
+unfolding r.decl r.declared_more
 decl_law n = map_reads (λ p. p.1.0)
     (follow_reads reg_law (follow_reads (listed_few_reads n r.ids [] r.declared_starts [] declared_law next_declared_law refl refl) (the_law (codes ";")) (some_the (codes ";")) refl)
       (some_then (λ d. decl_vars d n) (λ d. g.the d (codes ";")) (some_decl_vars n) (some_the (codes ";"))) refl)
@@ -246,13 +250,14 @@ stmt_law = map_reads (λ p. assigned p.0 p.1.0 p.1.1.0)
 
 pub item_law : (n : ℕ) → IsItem (r.item_starts n) [] (r.item n) (λ e. item e n)
 unfolding r.item
-item_law zero = inl (map_reads Does stmt_law)
-item_law (suc n) = inl (pick_reads (map_reads Declares (decl_law n)) (map_reads Does stmt_law) refl refl)
+item_law zero = inl (reads_as (r.item zero) (map_reads Does stmt_law) (λ ts. sym (if_false (has [] ts) (through Declares (r.decl (0 - 1) ts)) (through Does (r.stmt ts)) (has_nil ts))))
+item_law (suc n) = inl (subst (λ z. IsReader (pick (word (codes "reg") ∷ []) (λ ts. through Declares (r.decl z ts)) (λ ts. through Does (r.stmt ts))) (λ e. item e (suc n)) (full (word (codes "reg") ∷ r.ids) [])) (one_less n)
+    (pick_reads (map_reads Declares (decl_law n)) (map_reads Does stmt_law) refl refl))
 
 abbrev pub all_starts : List Kind
 all_starts = word (codes "reg") ∷ r.ids
 
-starts_items : (n : ℕ) → all_in (r.item_starts n) all_starts ≡ true
+pub starts_items : (n : ℕ) → all_in (r.item_starts n) all_starts ≡ true
 starts_items zero = refl
 starts_items (suc n) = refl
 
@@ -268,7 +273,7 @@ some_variables : HasPhrase (λ d. g.variables d)
 some_variables = some_map (λ d. g.used d ▸ each (g.comma d (g.used d))) (λ p. p.0 ∷ p.1) (some_then (λ d. g.used d) (λ d. each (g.comma d (g.used d))) some_used (some_each (λ d. g.comma d (g.used d))))
 
 pub variables_law : IsReader r.variables (λ e. g.variables e) (full r.ids r.commas)
-unfolding r.variables
+unfolding r.variables r.used_more
 variables_law = shaped (full r.ids r.commas) (listed_reads r.ids [] r.commas [] used_law next_used_law refl refl) refl refl refl
 
 some_closed : HasPhrase (λ d. g.variables d ▸ g.the d (codes ")"))

@@ -4,3 +4,4 @@ pub mod FormRuns
 pub mod FormKinds
 pub mod FormLaws
 pub mod Counted
+pub mod Lists

@@ -1,9 +1,8 @@
 -- How phrases are read: each choice by the next token.
 use Rattle.std.specs.Prelude.{◌≡◌, ℕ, zero, suc, ◌-◌, List, [], ◌∷◌, ◌++◌, length, Option, Ok, Err, codes}
 use Rattle.jz_io.specs.declared.span.Span.{Span}
-use Rattle.jz_grammar.specs.Causes.{Unexpected}
 use Rattle.jz_grammar.specs.Kinds.{Kind, word, sign, identifier, number, end, span_of}
-use Rattle.jz_grammar.specs.Reading.{Answer, Reader, ◌>>=◌, through, follow, depend, pick, many, many_by, leaf, optional, more_of, few_of, listed, listed_few}
+use Rattle.jz_grammar.specs.Reading.{Answer, Reader, ◌>>=◌, through, follow, depend, pick, many, many_by, leaf, optional, more_of, few_of}
 use Rattle.jz_tree.specs.declared.Program.{Program}
 use Rattle.jz_tree.specs.declared.Fun.{Fun}
 use Rattle.jz_tree.specs.declared.Param.{Param}
@@ -47,22 +46,28 @@ commas = sign (codes ",") ∷ []
 abbrev pub comma : {A : Type 0} → Reader A → Reader A
 comma f ts = through (λ p. p.1) (follow (the (codes ",")) f ts)
 
+-- one, and what follows it, behind it
+abbrev pub one_and : {A : Type 0} → Reader A → (List A → Reader (List A)) → Reader (List A)
+one_and first more ts = first ts >>= λ x. more (x.0 ∷ []) x.1
+
 unfoldable pub reg_u64 : Reader Decl
 reg_u64 ts = through (λ p. register_word) (follow (key (codes "reg")) (key (codes "u64")) ts)
 
 -- ---- parameters
+unfoldable pub params_more : ℕ → List Param → Reader (List Param)
+params_more n out ts = few_of n ids param out ts
+
 -- a group of at most n names after its first
 unfoldable pub group : ℕ → Reader (List Param)
-group n ts = through (λ p. p.1) (follow reg_u64 (listed_few n ids param param) ts)
+group n ts = through (λ p. p.1) (follow reg_u64 (one_and param (params_more n)) ts)
 
 -- further groups, where so many names are left
 abbrev pub group_starts : ℕ → List Kind
 group_starts zero = []
 group_starts (suc n) = commas
 
-abbrev pub next_group : ℕ → Reader (List Param)
-next_group zero ts = Err (Unexpected, ts)
-next_group (suc n) ts = comma (group n) ts
+unfoldable pub next_group : ℕ → Reader (List Param)
+next_group n ts = comma (group (n - 1)) ts
 
 abbrev pub less : {A : Type 0} → ℕ → List A → ℕ
 less n xs = n - length xs
@@ -87,7 +92,7 @@ unfoldable pub rtypes_more : List Ret → Reader (List Ret)
 rtypes_more out ts = more_of commas next_rtype out ts
 
 unfoldable pub results : Reader (List Ret)
-results ts = through or_empty (optional (sign (codes "->") ∷ []) (λ us. through (λ p. p.1) (follow (the (codes "->")) (listed commas rtype next_rtype) us)) ts)
+results ts = through or_empty (optional (sign (codes "->") ∷ []) (λ us. through (λ p. p.1) (follow (the (codes "->")) (one_and rtype rtypes_more) us)) ts)
 
 -- ---- declarations and statements
 unfoldable pub next_declared : Reader Var
@@ -101,7 +106,7 @@ declared_more n out ts = few_of n declared_starts next_declared out ts
 
 -- a declaration of at most n names after its first
 unfoldable pub decl : ℕ → Reader (List Var)
-decl n ts = through (λ p. p.1.0) (follow reg_u64 (follow (listed_few n declared_starts declared next_declared) (the (codes ";"))) ts)
+decl n ts = through (λ p. p.1.0) (follow reg_u64 (follow (one_and declared (declared_more n)) (the (codes ";"))) ts)
 
 unfoldable pub operand : Reader Expr
 operand = pick ids (λ ts. through expr.Var (used ts)) (leaf (number ∷ []) number_of)
@@ -110,13 +115,15 @@ unfoldable pub stmt : Reader Stmt
 stmt ts = through (λ p. assigned p.0 p.1.0 p.1.1.0) (follow used (follow (leaf assignments operation_of) (follow operand (the (codes ";")))) ts)
 
 -- a declaration or statement, where so many names are left
+abbrev pub decl_starts : ℕ → List Kind
+decl_starts zero = []
+decl_starts (suc n) = word (codes "reg") ∷ []
+
 abbrev pub item_starts : ℕ → List Kind
-item_starts zero = ids
-item_starts (suc n) = word (codes "reg") ∷ ids
+item_starts n = decl_starts n ++ ids
 
 unfoldable pub item : ℕ → Reader Item
-item zero ts = through Does (stmt ts)
-item (suc n) ts = pick (word (codes "reg") ∷ []) (λ us. through Declares (decl n us)) (λ us. through Does (stmt us)) ts
+item n = pick (decl_starts n) (λ ts. through Declares (decl (n - 1) ts)) (λ ts. through Does (stmt ts))
 
 abbrev pub less_names : ℕ → Item → ℕ
 less_names n (Declares vs) = n - length vs
@@ -133,7 +140,7 @@ unfoldable pub used_more : List Var → Reader (List Var)
 used_more out ts = more_of commas next_used out ts
 
 unfoldable pub variables : Reader (List Var)
-variables ts = listed commas used next_used ts
+variables ts = one_and used used_more ts
 
 unfoldable pub names : Reader (List Var)
 names = pick ids variables (λ ts. through (λ p. p.1.0) (follow (the (codes "(")) (follow variables (the (codes ")"))) ts))

@@ -3,6 +3,7 @@
 #![tactic(auto)]
 
 mod cursor;
+mod declare;
 mod fault;
 mod form;
 mod function;
