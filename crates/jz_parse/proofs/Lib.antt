@@ -5,3 +5,5 @@ pub mod FormKinds
 pub mod FormLaws
 pub mod Counted
 pub mod Lists
+pub mod Same
+pub mod Program
