@@ -11,6 +11,7 @@ use Rattle.jz_parse.specs.Parsing.{Derives, tree_of}
 use Rattle.jz_parse.specs.Reading.{Reads}
 use Rattle.jasminc_top.specs.Compiling.{compiled_of, made_of, add_code}
 use Rattle.jasminc_top.specs.Correctness.{CarriesOver, AreCorrect, AreSpelled}
+use Rattle.jz_ct.proofs.SomeLabels.{constant_time}
 use Rattle.jasminc_top.proofs.AddCarries.{carries}
 
 -- the bytes of the three instructions, one after another
@@ -34,6 +35,7 @@ tree_correct ts f a b c all = (
     after = refl;
     places = (tt, (tt, tt));
     carries = all _ (0, omega arith, refl);
+    ct = (λ e. constant_time _, λ h. refl);
   },
   tt,
 )

@@ -12,7 +12,7 @@ use Rattle.x64_insn.specs.declared.types.Insn.TheVariants as insn
 use Rattle.x64_insn.specs.Table.{row_of, reg_of}
 use Rattle.x64_insn.specs.Encoding.{spelling_of, insn_of, displacement_length}
 use Rattle.x64_insn.specs.Answers.{sum_answer}
-use Rattle.x64_insn.specs.Rows.{After, reg_value, reg_word, with_reg, no_event, address_event, effect_of, mov_row, add_row, ret_row}
+use Rattle.x64_insn.specs.Rows.{After, reg_value, reg_word, with_reg, no_event, address_event, effect_of, mov_row, answer_row, ret_row}
 use Rattle.x64_decode.specs.declared.Decoded.TheVariants as decoded
 use Rattle.x64_decode.specs.ByteReading.{follow, prefix, byte_where, byte_if, some_bytes}
 use Rattle.x64_decode.specs.Decoding.{decoded_of, parts, may_be_opcode, may_be_modrm, immediate_bytes}
@@ -55,7 +55,7 @@ add_after c =
     }
 
 add_does : (c : Config) → effect_of (insn.Alu alu.Add S64 (operand.Reg reg.Rax) (operand.Reg reg.Rsi)) ((c.state.rip + 3) % 2 ^ 64) c.state c.memory ≡ Ok (add_after c)
-unfolding add_row
+unfolding answer_row
 add_does c = refl
 
 abbrev ret_after : Config → ℕ → After

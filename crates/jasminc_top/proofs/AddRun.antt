@@ -13,7 +13,7 @@ use Rattle.x64_insn.specs.declared.types.Insn.TheVariants as insn
 use Rattle.x64_insn.specs.Table.{row_of, reg_of}
 use Rattle.x64_insn.specs.Encoding.{spelling_of, insn_of, displacement_length}
 use Rattle.x64_insn.specs.Answers.{sum_answer}
-use Rattle.x64_insn.specs.Rows.{After, reg_value, reg_word, with_reg, no_event, address_event, effect_of, mov_row, add_row, ret_row}
+use Rattle.x64_insn.specs.Rows.{After, reg_value, reg_word, with_reg, no_event, address_event, effect_of, mov_row, answer_row, ret_row}
 use Rattle.jz_leak.specs.declared.event.Event.TheVariants as event
 use Rattle.x64_decode.specs.declared.Decoded.TheVariants as decoded
 use Rattle.x64_machine.specs.declared.step.Step.TheVariants.{Running, Ended}
@@ -87,7 +87,7 @@ add_after c =
     }
 
 add_does : (c : Config) → effect_of (insn.Alu alu.Add S64 (operand.Reg reg.Rax) (operand.Reg reg.Rsi)) ((c.state.rip + 3) % 2 ^ 64) c.state c.memory ≡ Ok (add_after c)
-unfolding add_row
+unfolding answer_row
 add_does c = refl
 
 abbrev ret_after : Config → ℕ → After

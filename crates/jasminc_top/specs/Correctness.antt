@@ -1,5 +1,5 @@
 -- What the bytes of a compiled function owe to the runs of its source.
-use Rattle.std.specs.Prelude.{◌≡◌, ◌≤◌, ℕ, ◌+◌, ◌*◌, ℤ, ◌≤ℤ◌, ◌<ℤ◌, pos, List, [], ◌∷◌, ◌++◌, map, length, Option, Some, None, Contains, false, ⊤}
+use Rattle.std.specs.Prelude.{◌≡◌, ◌↔◌, ◌≤◌, ℕ, ◌+◌, ◌*◌, ℤ, ◌≤ℤ◌, ◌<ℤ◌, pos, List, [], ◌∷◌, ◌++◌, map, length, Option, Some, None, Contains, false, ⊤}
 use Rattle.jz_words.specs.Memory.{Memory}
 use Rattle.jz_words.specs.Sizes.{bytes_of}
 use Rattle.x64_insn.specs.declared.types.Reg.{Reg}
@@ -27,6 +27,8 @@ use Rattle.jz_leak.specs.declared.transformer.Out.{Out}
 use Rattle.jz_leak.specs.declared.transformer.Out.TheVariants as out
 use Rattle.jz_leak.specs.declared.transformer.Case.{Case}
 use Rattle.jz_leak.specs.declared.transformer.Case.TheVariants.{Op}
+use Rattle.jz_io.specs.declared.verdict.Ct.TheVariants.{Yes}
+use Rattle.jz_ct.specs.Labels.{IsConstantTime}
 use Rattle.jz_listing.specs.declared.compiled.Arg.{Arg}
 use Rattle.jz_listing.specs.declared.compiled.Pre.{Pre}
 use Rattle.jz_listing.specs.declared.compiled.Compiled.{Compiled}
@@ -159,7 +161,7 @@ saving_accesses f c = map (slot_access c.frame) (saved_slots (layout_end f) c.sa
 
 -- ---- correct compilation
 
--- A compiled function is correct for a function of a program. The line `ct` is not spoken of.
+-- A compiled function is correct for a function of a program.
 pub record IsCorrect (p : Program) (f : Fun) (c : Compiled) : Type 0 where
   -- what a caller is told
   pub name : c.name ≡ f.name
@@ -179,6 +181,8 @@ pub record IsCorrect (p : Program) (f : Fun) (c : Compiled) : Type 0 where
   pub places : CasesStayIn f c.frame f.body c.tr.body.cases
   -- what runs do
   pub carries : CarriesOver p f c
+  -- the listing says `ct yes` exactly where the function is constant time
+  pub ct : c.ct ≡ Yes ↔ IsConstantTime f
 
 -- one for each function, in the order of the text
 abbrev pub AreCorrect : Program → List Fun → List Compiled → Type 0

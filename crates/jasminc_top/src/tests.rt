@@ -1,8 +1,9 @@
 //! Whole commands over texts in memory, with the answers that the rules give by hand.
 
-use crate::{Compiled, Done, Status, jasminc_run};
+use crate::{Done, Status, jasminc_run};
 use jz_data::Seq;
 use jz_io::{MemSink, MemSource};
+use jz_listing::Compiled;
 use std::alloc::{AllocError, Global};
 use std::test::Fail;
 

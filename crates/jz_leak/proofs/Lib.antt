@@ -1,2 +1,4 @@
+pub mod Applied
 pub mod MemorySegments
 pub mod MemorySpans
+pub mod Walking

@@ -2,3 +2,5 @@ pub mod MemoryMap
 pub mod MemoryMapSegments
 pub mod RunLeaks
 pub mod Applying
+pub mod Shown
+pub mod Walks

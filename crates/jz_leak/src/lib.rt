@@ -2,12 +2,16 @@
 #![tactic(auto)]
 
 mod event;
+mod leak;
 mod mem_map;
 mod segment;
 #[cfg(test)]
 mod tests;
 mod transformer;
+mod walk;
 
 pub use event::{Event, Events};
+pub use leak::{Item, Leak, Turn};
 pub use mem_map::MemMap;
 pub use transformer::{Case, Form, Out, Tr, Transformer};
+pub use walk::apply;

@@ -22,16 +22,42 @@ pub enum Out {
 }
 
 /// One case for each item of a leak.
+#[cycle(transformer)]
 #[derive(Debug, Drop, PartialEq, Eq)]
 pub struct Tr {
     pub cases: Seq<Case>,
 }
 
-/// What a statement's item of a leak becomes.
+/// What an item of a leak becomes. The lists of a condition and of a call see the numbers of that condition or call.
+#[cycle(transformer)]
 #[derive(Debug, Drop, PartialEq, Eq)]
 pub enum Case {
     /// The events of an operation.
     Op(Seq<Out>),
+    /// The events of the condition, then events and arm by its answer.
+    If {
+        test: Seq<Out>,
+        then_outs: Seq<Out>,
+        then_tr: Tr,
+        else_outs: Seq<Out>,
+        else_tr: Tr,
+    },
+    /// In each turn the prologue, the events of the condition, and then events and body where it is true, events where it is false.
+    While {
+        prologue: Tr,
+        test: Seq<Out>,
+        more_outs: Seq<Out>,
+        body: Tr,
+        leave_outs: Seq<Out>,
+    },
+    /// One for each round.
+    For(Seq<Tr>),
+    /// The events of the arguments, the callee, the events of the results.
+    Call {
+        arguments: Seq<Out>,
+        body: Tr,
+        results: Seq<Out>,
+    },
 }
 
 /// The transformer of a function: the events before its body, those of the body, and those after it.

@@ -8,8 +8,9 @@ use Rattle.jz_leak.specs.declared.transformer.Out.{Out}
 use Rattle.jz_leak.specs.declared.transformer.Out.TheVariants as out
 use Rattle.jz_leak.specs.declared.transformer.Tr.{Tr}
 use Rattle.jz_leak.specs.declared.transformer.Case.{Case}
+use Rattle.jz_leak.specs.declared.transformer.Case.TheOpen.{Case-F, Tr-F}
+use Rattle.jz_leak.specs.declared.transformer.Case.TheFolds.{fold-Case, fold-Tr}
 use Rattle.jz_leak.specs.declared.transformer.Transformer.{Transformer}
-use Rattle.jz_leak.specs.declared.transformer.Case.TheVariants as case
 
 -- pieces with a space between them
 abbrev pub spaced : List (List ℕ) → List ℕ
@@ -30,12 +31,33 @@ out_text (out.Div a b c) = codes "d:" ++ form_text a ++ codes ":" ++ form_text b
 unfoldable pub outs_text : List Out → List ℕ
 outs_text outs = codes "[" ++ spaced (map out_text outs) ++ codes "]"
 
-abbrev pub case_text : Case → List ℕ
-case_text (case.Op outs) = codes "op" ++ outs_text outs
+abbrev pub spaced_outs_text : List Out → List ℕ
+spaced_outs_text outs = codes " " ++ outs_text outs
+
+-- a list of events and the text of a tree, with a space before each
+abbrev pub arm_text : List Out → List ℕ → List ℕ
+arm_text outs tr = spaced_outs_text outs ++ codes " " ++ tr
+
+-- a case, by the texts of its trees
+abbrev pub case_layer_text : Case-F (List ℕ) (List ℕ) → List ℕ
+case_layer_text (Case-F.Op outs) = codes "op" ++ outs_text outs
+case_layer_text (Case-F.If test then_outs then_tr else_outs else_tr) =
+    codes "if(" ++ outs_text test ++ arm_text then_outs then_tr ++ arm_text else_outs else_tr ++ codes ")"
+case_layer_text (Case-F.While prologue test more_outs body leave_outs) =
+    codes "while(" ++ prologue ++ spaced_outs_text test ++ arm_text more_outs body ++ spaced_outs_text leave_outs ++ codes ")"
+case_layer_text (Case-F.For trs) = codes "for(" ++ spaced trs ++ codes ")"
+case_layer_text (Case-F.Call arguments body results) =
+    codes "call(" ++ outs_text arguments ++ codes " " ++ body ++ spaced_outs_text results ++ codes ")"
 
 -- a tree: its cases between braces
-unfoldable pub tr_text : Tr → List ℕ
-tr_text t = codes "{" ++ spaced (map case_text t.cases) ++ codes "}"
+abbrev pub tr_layer_text : Tr-F (List ℕ) (List ℕ) → List ℕ
+tr_layer_text t = codes "{" ++ spaced t.cases ++ codes "}"
+
+abbrev pub case_text : Case → List ℕ
+case_text = fold-Case (List ℕ) (List ℕ) case_layer_text tr_layer_text
+
+abbrev pub tr_text : Tr → List ℕ
+tr_text = fold-Tr (List ℕ) (List ℕ) case_layer_text tr_layer_text
 
 -- the transformer of a function: before, body, after
 abbrev pub transformer_text : Transformer → List ℕ

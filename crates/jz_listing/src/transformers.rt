@@ -1,6 +1,6 @@
 // The text of a transformer.
 ghost use Rattle.std.specs.Prelude.{◌≡◌, ◌++◌, ℕ, List, map, OnOk, codes};
-ghost use Rattle.jz_listing.specs.Transformers.{form_text, out_text, outs_text, case_text, tr_text, transformer_text, spaced, separator};
+ghost use Rattle.jz_listing.specs.Transformers.{form_text, out_text, outs_text, spaced_outs_text, arm_text, case_text, tr_text, transformer_text, spaced, separator};
 
 use itoa::Buffer;
 use jz_data::Seq;
@@ -75,18 +75,97 @@ fn write_outs(text: &mut Vec<u8>, outs: &Seq<Out>) -> Result<(), AllocError>
     text.extend_from_slice(b"]")
 }
 
+fn write_spaced_outs(text: &mut Vec<u8>, outs: &Seq<Out>) -> Result<(), AllocError>
+    ensures { OnOk result (text.new.items ≡ text.old.items ++ spaced_outs_text outs.now) }
+{
+    text.extend_from_slice(b" ")?;
+    write_outs(text, outs)
+}
+
+#[cycle(write)]
 fn write_case(text: &mut Vec<u8>, case: &Case) -> Result<(), AllocError>
     ensures { OnOk result (text.new.items ≡ text.old.items ++ case_text case.now) }
 {
     match case {
         Case::Op(outs) => {
             text.extend_from_slice(b"op")?;
-            write_outs(text, outs)
+            write_outs(text, outs)?;
+            Ok(())
+        }
+        Case::If {
+            test,
+            then_outs,
+            then_tr,
+            else_outs,
+            else_tr,
+        } => {
+            text.extend_from_slice(b"if(")?;
+            write_outs(text, test)?;
+            write_arm(text, then_outs, then_tr)?;
+            write_arm(text, else_outs, else_tr)?;
+            text.extend_from_slice(b")")?;
+            Ok(())
+        }
+        Case::While {
+            prologue,
+            test,
+            more_outs,
+            body,
+            leave_outs,
+        } => {
+            text.extend_from_slice(b"while(")?;
+            write_tr(text, prologue)?;
+            write_spaced_outs(text, test)?;
+            write_arm(text, more_outs, body)?;
+            write_spaced_outs(text, leave_outs)?;
+            text.extend_from_slice(b")")?;
+            Ok(())
+        }
+        Case::For(trs) => {
+            text.extend_from_slice(b"for(")?;
+            write_trs(text, trs)?;
+            text.extend_from_slice(b")")?;
+            Ok(())
+        }
+        Case::Call {
+            arguments,
+            body,
+            results,
+        } => {
+            text.extend_from_slice(b"call(")?;
+            write_outs(text, arguments)?;
+            text.extend_from_slice(b" ")?;
+            write_tr(text, body)?;
+            write_spaced_outs(text, results)?;
+            text.extend_from_slice(b")")?;
+            Ok(())
         }
     }
 }
 
-#[tactic(auto, unfolding(crate::specs::Transformers::tr_text))]
+// A list of events and a tree, with a space before each.
+#[cycle(write)]
+fn write_arm(text: &mut Vec<u8>, outs: &Seq<Out>, tr: &Tr) -> Result<(), AllocError>
+    ensures { OnOk result (text.new.items ≡ text.old.items ++ arm_text outs.now (tr_text tr.now)) }
+{
+    write_spaced_outs(text, outs)?;
+    text.extend_from_slice(b" ")?;
+    write_tr(text, tr)?;
+    Ok(())
+}
+
+#[cycle(write)]
+fn write_trs(text: &mut Vec<u8>, trs: &Seq<Tr>) -> Result<(), AllocError>
+    ensures { OnOk result (text.new.items ≡ text.old.items ++ spaced (map tr_text trs.now)) }
+{
+    for (i, tr) in trs.as_slice().iter().enumerate() {
+        write_separator(text, i)?;
+        write_tr(text, tr)?;
+    }
+    Ok(())
+}
+
+#[cycle(write)]
 fn write_tr(text: &mut Vec<u8>, tr: &Tr) -> Result<(), AllocError>
     ensures { OnOk result (text.new.items ≡ text.old.items ++ tr_text tr.now) }
 {

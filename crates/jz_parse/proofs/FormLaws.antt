@@ -12,8 +12,9 @@ use Rattle.jz_lex.specs.declared.token.TokenKind.TheVariants.{Ident, Keyword, Nu
 use Rattle.jz_tree.specs.declared.Program.{Program}
 use Rattle.jz_parse.specs.declared.fault.SyntaxFault.{SyntaxFault}
 use Rattle.jz_parse.specs.declared.form.TheConstants.{FORM}
-use Rattle.jz_parse.specs.Parsing.{form, tree_of, kind_of, span_at, span_or_start, Derives, Begins, IsNameAfter, IsRefused, IsUnexpected}
-use Rattle.jz_parse.specs.ParsingForm.{follow, name_in, IsFaultAt, is_end}
+use Rattle.jz_parse.specs.Places.{span_at, span_or_start, IsFaultAt}
+use Rattle.jz_parse.specs.Parsing.{form, tree_of, kind_of, Derives, Begins, IsNameAfter, IsRefused, IsUnexpected}
+use Rattle.jz_parse.specs.ParsingForm.{follow, name_in, is_end}
 use Rattle.jz_parse.proofs.Differing.{Different, In, all_of_each, each_weaker, pairs_of_different, different_of_pairs, contains_of_in}
 use Rattle.jz_parse.proofs.FormRuns.{Place, fixed, known, fresh, places, Run, Stuck, Stops, stops_of_follow, run_of_follow}
 use Rattle.jz_parse.proofs.FormKinds.{kinds, opens, Known, Rest, Before, After, Halves, finish, complete, glue, run_well, run_plain, run_different, run_names, run_unique, run_halves, places_well, places_plain}

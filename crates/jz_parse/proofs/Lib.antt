@@ -3,3 +3,7 @@ pub mod Differing
 pub mod FormRuns
 pub mod FormKinds
 pub mod FormLaws
+pub mod Counted
+pub mod Lists
+pub mod Same
+pub mod Program

@@ -18,6 +18,7 @@ use Rattle.jz_tree.specs.declared.Expr.TheVariants as expr
 use Rattle.jz_tree.specs.declared.Lval.TheVariants as lval
 use Rattle.jz_tree.specs.declared.Rhs.TheVariants.{Value}
 use Rattle.jz_tree.specs.declared.StmtKind.TheVariants.{Assign}
+pub use Rattle.jz_parse.specs.Places.{span_at}
 use Rattle.jz_parse.specs.declared.fault.SyntaxKind.TheVariants.{Unexpected}
 use Rattle.jz_parse.specs.declared.fault.SyntaxFault.{SyntaxFault}
 
@@ -32,15 +33,6 @@ form f a b c =
     ∷ Ident c ∷ Sign (codes "=") ∷ Ident a ∷ Sign (codes ";")
     ∷ Ident c ∷ Sign (codes "+=") ∷ Ident b ∷ Sign (codes ";")
     ∷ Keyword (codes "return") ∷ Ident c ∷ Sign (codes ";") ∷ Sign (codes "}") ∷ End ∷ []
-
--- the span of a token if there is one, else the text's first place
-abbrev pub span_or_start : Option Token → Span
-span_or_start (Some t) = t.span
-span_or_start None = record { line = 1; col = 1 }
-
--- the span of the token of that number
-abbrev pub span_at : List Token → ℕ → Span
-span_at ts n = span_or_start (slice_get ts n)
 
 -- a word of 64 bits in a register
 abbrev pub reg_u64 : Decl

@@ -4,7 +4,7 @@ use Rattle.std.specs.List.{list_any}
 use Rattle.std.specs.Cmp.Lexicographic.{pointwise}
 use Rattle.jz_parse.specs.declared.fault.SyntaxKind.TheVariants.{Unexpected}
 use Rattle.jz_parse.specs.declared.fault.SyntaxFault.{SyntaxFault}
-use Rattle.jz_parse.specs.Parsing.{span_at}
+use Rattle.jz_parse.specs.Places.{span_at}
 use Rattle.jz_data.specs.declared.failure.Failure.{Failure}
 use Rattle.jz_data.specs.declared.failure.Failure.TheVariants.{Refused, OutOfMemory}
 use Rattle.jz_lex.specs.declared.token.Token.{Token}
@@ -92,9 +92,3 @@ IsFollowed followed ts (Err OutOfMemory) = Unit {0}
 -- the name of that number
 abbrev pub name_in : List (List ℕ) → ℕ → List ℕ
 name_in names i = slice_index_or names i []
-
--- the fault has that number, and the span of that token, or of the last where there is no such token
-abbrev pub IsFaultAt : List Token → ℕ → SyntaxFault → Type 0
-IsFaultAt ts n fault =
-    (fault.kind ≡ Unexpected) × (fault.token ≡ n)
-    × (fault.span ≡ span_at ts (if nat_lt n (length ts) then n else length ts - 1))

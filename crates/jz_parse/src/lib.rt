@@ -2,9 +2,14 @@
 //! that adds them.
 #![tactic(auto)]
 
+mod cursor;
+mod declare;
 mod fault;
 mod form;
+mod function;
+mod kinds;
 mod read;
+mod statement;
 #[cfg(test)]
 mod tests;
 mod tree;

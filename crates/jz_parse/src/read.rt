@@ -5,11 +5,11 @@ ghost use Rattle.jz_data.specs.Failures.{IfRefused};
 ghost use Rattle.jz_lex.specs.declared.token.TokenKind.TheVariants.{End};
 ghost use Rattle.jz_lex.specs.declared.token.Token.{Token};
 ghost use Rattle.jz_parse.specs.Parsing.{Derives, IsUnexpected};
-ghost use Rattle.jz_parse.specs.ParsingForm.{follow, IsFollowed, IsFaultAt};
+ghost use Rattle.jz_parse.specs.ParsingForm.{follow, IsFollowed};
 
-use crate::fault::{SyntaxFault, SyntaxKind};
+use crate::fault::{SyntaxFault, fault_at};
 use crate::form::{FORM, Slot, take};
-use crate::tree::{program, span_at};
+use crate::tree::program;
 use jz_data::{Failure, Seq, Text};
 use jz_lex::Tokens;
 use jz_tree::Program;
@@ -32,23 +32,6 @@ fn follow(alloc: Global, slots: &[Slot], tokens: &Tokens) -> Result<Seq<Text>, F
         return Err(Failure::Refused(slots.len()));
     }
     Ok(names)
-}
-
-/// The fault at the token of that number, or after the last.
-fn fault_at(tokens: &Tokens, number: usize) -> SyntaxFault
-    ensures { IsFaultAt tokens.now number result }
-{
-    let count = tokens.len();
-    let place = if number < count {
-        number
-    } else {
-        count.saturating_sub(1)
-    };
-    SyntaxFault {
-        kind: SyntaxKind::Unexpected,
-        token: number as u64,
-        span: span_at(tokens, place),
-    }
 }
 
 /// The program that the tokens derive, or the first token at which they begin none.

@@ -4,8 +4,8 @@ ghost use Rattle.std.specs.Prelude.{◌≡◌, ◌<◌, [], ◌∷◌, IfOk, len
 ghost use Rattle.jz_parse.specs.Parsing.{span_at, assignment, tree_of, declared_at, used_at};
 ghost use Rattle.jz_parse.specs.ParsingForm.{name_in};
 
+use crate::fault::span_at;
 use jz_data::{Seq, Text};
-use jz_io::Span;
 use jz_lex::Tokens;
 use jz_tree::{
     BinOp, Decl, Expr, Fun, Lval, Param, Program, Ret, Rhs, Stmt, StmtKind, Storage, Ty, Var,
@@ -17,16 +17,6 @@ const REG_U64: Decl = Decl {
     storage: Storage::Reg,
     ty: Ty::Word(Size::S64),
 };
-
-/// The span of the token of that number, or the text's first place.
-pub fn span_at(tokens: &Tokens, number: usize) -> Span
-    ensures { result ≡ span_at tokens.now number }
-{
-    match tokens.get(number) {
-        Some(token) => token.span,
-        None => Span { line: 1, col: 1 },
-    }
-}
 
 fn one<T: Drop>(alloc: Global, item: T) -> Result<Seq<T>, AllocError>
     ensures { IfOk result (λ items. items ≡ item ∷ []) }

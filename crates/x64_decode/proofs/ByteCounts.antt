@@ -1,5 +1,6 @@
 -- Reading so many bytes where each is below 256.
-use Rattle.std.proofs.Common.{◌≡◌, ℕ, zero, suc, ◌<◌, ◌≤◌, List, [], ◌∷◌, length, get_or, take, drop, true, Result, Ok, Err, refl, arith}
+use Rattle.std.proofs.Common.{◌≡◌, ℕ, zero, suc, ◌^◌, ◌<◌, ◌≤◌, List, [], ◌∷◌, length, get_or, take, drop, true, Result, Ok, Err, refl, arith}
+use Rattle.std.proofs.Math.Nat.{pow-le-pow_right}
 use Rattle.std.proofs.lemmas.Bool.Decides.{nat_tests}
 use Rattle.x64_insn.specs.Encoding.{is_byte}
 use Rattle.x64_decode.specs.declared.fields.Stop.{Stop}
@@ -26,3 +27,7 @@ unfolding some_bytes follow byte_where
 bytes_few zero bs fits lt = absurd (omega arith)
 bytes_few (suc n) [] fits lt = refl
 bytes_few (suc n) (b ∷ bs) fits lt = more n b bs _ (fits 0) (bytes_few n bs (λ i. fits (suc i)) (omega arith))
+
+-- a number of n bytes, n up to 7
+pub seven : (x n : ℕ) → x < 256 ^ n → n ≤ 7 → x < 256 ^ 7
+seven x n h le = omega (arith, pow-le-pow_right {n = 256} (omega arith) le)

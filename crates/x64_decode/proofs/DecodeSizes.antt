@@ -1,7 +1,8 @@
 -- How long the fields are.
-use Rattle.std.proofs.Common.{◌≡◌, ℕ, ◌≤◌, List, length, Bool, true, false, Option, Some, None, sym, subst, arith, if◌then◌else◌, Ok}
+use Rattle.std.proofs.Common.{◌≡◌, ℕ, ◌≤◌, List, length, Bool, true, false, Option, Some, None, sym, ap, ◌∙◌, subst, arith, if◌then◌else◌, Ok}
 use Rattle.x64_insn.specs.declared.table.Row.{Row}
-use Rattle.x64_insn.specs.Table.{row_of}
+use Rattle.x64_insn.specs.declared.table.Row.TheVariants as row
+use Rattle.x64_insn.specs.Table.{row_of, size_of, immediate_length}
 use Rattle.x64_insn.specs.Encoding.{displacement_length}
 use Rattle.x64_decode.specs.declared.fields.FieldsRead.{FieldsRead}
 use Rattle.x64_decode.specs.Decoding.{parts, parts_read, row_immediate, immediate_bytes}
@@ -20,7 +21,11 @@ displacement_small (Some m) s =
 
 immediate_small : (p r : Option ℕ) (w : Option Row) → row_immediate p r w ≤ 8
 immediate_small p r None = omega arith
-immediate_small p r (Some row) = omega arith
+immediate_small p r (Some row.AluRmImm8) = omega arith
+immediate_small p r (Some row.AluRmImm32) = omega arith
+immediate_small p r (Some row.MovRmImm32) = omega arith
+immediate_small p r (Some row.MovRegImm64) = omega arith
+immediate_small p r (Some other) = omega arith
 
 pub sizes : (bs rest : List ℕ) (f : FieldsRead) → parts bs ≡ Ok (parts_read f, rest) → (length f.displacement.now ≤ 4) × (length f.immediate.now ≤ 8)
 unfolding AreParts immediate_bytes
@@ -29,3 +34,10 @@ sizes bs rest f h =
     let d = ok.1.1.1.1.1.1.0.0 in
     let i = ok.1.1.1.1.1.1.1.0 in
     (subst (λ n. n ≤ 4) (sym d) (displacement_small f.modrm f.sib), subst (λ n. n ≤ 8) (sym i) (immediate_small f.operand_size f.rex (row_of f.escape f.opcode)))
+
+-- an immediate has the bytes of its row
+pub immediate_is : (bs rest : List ℕ) (f : FieldsRead) → parts bs ≡ Ok (parts_read f, rest) → row_of f.escape f.opcode ≡ Some f.row → length f.immediate.now ≡ immediate_length f.row (size_of f.operand_size f.rex)
+unfolding AreParts immediate_bytes
+immediate_is bs rest f h e =
+    let ok = (parts_reads.found bs rest (parts_read f) h).1 in
+    ok.1.1.1.1.1.1.1.0 ∙ ap (row_immediate f.operand_size f.rex) e

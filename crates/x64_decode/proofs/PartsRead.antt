@@ -4,7 +4,8 @@ use Rattle.std.specs.Prelude.{◌||◌}
 use Rattle.std.specs.Option.{option_to_list}
 use Rattle.std.proofs.lemmas.Bool.Decides.{nat_tests}
 use Rattle.x64_insn.specs.declared.table.Row.{Row}
-use Rattle.x64_insn.specs.Table.{row_of, has_w}
+use Rattle.x64_insn.specs.declared.table.Row.TheVariants as row
+use Rattle.x64_insn.specs.Table.{row_of, has_w, operation_of}
 use Rattle.x64_insn.specs.Encoding.{spelling_of, is_byte, is_rex, has_sib, displacement_length, StandsIf, AreBytes}
 use Rattle.x64_decode.specs.ByteReading.{Reader, byte_where, byte_if, prefix, some_bytes, follow}
 use Rattle.x64_decode.specs.Decoding.{may_be_operand_size, may_be_rex, may_be_escape, may_be_opcode, allowed, row_has_modrm, row_takes, may_be_modrm, immediate_bytes, Parts, fields_of, parts}
@@ -15,8 +16,12 @@ never P h = cc
 
 -- ModRM C0 stands behind each opcode that has one
 modrm_row : (w : Option Row) → row_has_modrm w ≡ true → row_takes w 192 ≡ true
+unfolding operation_of
 modrm_row None h = cc
-modrm_row (Some row) h = refl
+modrm_row (Some row.AluRmImm8) h = refl
+modrm_row (Some row.AluRmImm32) h = refl
+modrm_row (Some row.MovRmImm32) h = refl
+modrm_row (Some other) h = refl
 
 modrm_example : (e : Option ℕ) (o : ℕ) → row_has_modrm (row_of e o) ≡ true → may_be_modrm e o 192 ≡ true
 unfolding may_be_modrm

@@ -2,13 +2,14 @@
 
 ghost use Rattle.std.specs.Prelude.{◌≡◌, ◌≤◌, length, IfOk, Some};
 ghost use Rattle.std.specs.Option.{option_to_list};
-ghost use Rattle.x64_insn.specs.Table.{row_of, b_of, r_of, reg_of, reg_field, rm_field};
-ghost use Rattle.x64_insn.specs.Encoding.{displacement_length, has_sib, is_byte, meaning, or_zero, reg_of_modrm, rm_of_modrm, spelling_of};
+ghost use Rattle.x64_insn.specs.Table.{row_of, b_of, r_of, reg_of, reg_field, rm_field, immediate_length, size_of};
+ghost use Rattle.x64_insn.specs.Encoding.{displacement_length, has_sib, immediate_of, is_byte, meaning, operation_of_modrm, or_zero, reg_of_modrm, reg_of_opcode, rm_of_modrm, spelling_of};
 ghost use Rattle.x64_decode.specs.ByteReading.{Gives, byte_if, byte_where, prefix, some_bytes};
 ghost use Rattle.x64_decode.specs.Decoding.{fields_of, may_be_escape, may_be_modrm, may_be_opcode, may_be_operand_size, may_be_rex, parts, parts_read, row_has_modrm};
 
-use x64_insn::table::{Row, reg_of, rex_bits, row_of, size_of};
-use x64_insn::{Insn, Operand, Reg};
+use crate::numbers::signed_of;
+use x64_insn::table::{Row, operation_of, reg_of, rex_bits, row_of, size_of};
+use x64_insn::{Alu, Insn, Operand, Reg};
 
 /// Why nothing was read.
 #[derive(Clone, Copy, PartialEq, Eq, Debug)]
@@ -211,16 +212,47 @@ impl FieldsRead<'_> {
         Operand::Reg(reg_of(8 * (rex_bits(self.rex) % 2) + self.modrm.unwrap_or(0) % 8))
     }
 
+    // The operation that the reg field names.
+    fn operation(&self) -> Alu
+        ensures { result ≡ operation_of_modrm (fields_of (parts_read self.now)) }
+    {
+        operation_of(self.modrm.unwrap_or(0) / 8 % 8).unwrap_or(Alu::Add)
+    }
+
+    // The register in the opcode.
+    fn opcode_reg(&self) -> Reg
+        ensures { result ≡ reg_of_opcode (fields_of (parts_read self.now)) }
+    {
+        reg_of(8 * (rex_bits(self.rex) % 2) + self.opcode % 8)
+    }
+
+    // The immediate, by the signed reading of its bytes.
+    fn immediate(&self) -> Operand
+        requires some { 1 ≤ length self.now.immediate.now }
+        requires room { length self.now.immediate.now ≤ 8 }
+        ensures { result ≡ immediate_of (fields_of (parts_read self.now)) }
+    {
+        Operand::Imm(signed_of(self.immediate))
+    }
+
     /// The instruction that the fields spell.
     pub fn insn(&self) -> Insn
+        requires { length self.now.immediate.now ≡ immediate_length self.now.row (size_of self.now.operand_size self.now.rex) }
         ensures { result ≡ meaning self.now.row (fields_of (parts_read self.now)) }
     {
         let size = size_of(self.operand_size, self.rex);
         match self.row {
             Row::AluRmReg(alu) => Insn::Alu(alu, size, self.rm(), Operand::Reg(self.reg())),
             Row::AluRegRm(alu) => Insn::Alu(alu, size, Operand::Reg(self.reg()), self.rm()),
+            Row::AluRmImm8 | Row::AluRmImm32 => {
+                Insn::Alu(self.operation(), size, self.rm(), self.immediate())
+            }
             Row::MovRmReg => Insn::Mov(size, self.rm(), Operand::Reg(self.reg())),
             Row::MovRegRm => Insn::Mov(size, Operand::Reg(self.reg()), self.rm()),
+            Row::MovRmImm32 => Insn::Mov(size, self.rm(), self.immediate()),
+            Row::MovRegImm64 => {
+                Insn::Mov(size, Operand::Reg(self.opcode_reg()), self.immediate())
+            }
             Row::Ret => Insn::Ret,
         }
     }

@@ -2,6 +2,7 @@
 
 ghost use Rattle.std.specs.Prelude.{◌≡◌, ℕ, ◌+◌, ◌<◌, ◌≤◌, List, [], ◌∷◌, ◌++◌, length, take};
 ghost use Rattle.std.specs.Option.{option_to_list};
+ghost use Rattle.x64_insn.specs.Chosen.{bytes_of_number};
 
 use std::marker::Model;
 
@@ -48,6 +49,18 @@ impl Code15 {
     {
         self.bytes[usize::from(self.len)] = byte;
         self.len += 1;
+    }
+
+    /// Puts the lowest bytes of a number at the end, so many as are counted.
+    pub(super) fn push_number(&mut self, number: u64, count: usize)
+        requires { length self.old + count ≤ 15 }
+        ensures { self.new ≡ self.old ++ bytes_of_number count number }
+    {
+        let mut rest = number;
+        for _ in 0..count {
+            self.push((rest % 256) as u8);
+            rest /= 256;
+        }
     }
 
     /// Puts a byte at the end, if there is one.

@@ -1,7 +1,10 @@
 -- What is chosen is a spelling, and an instruction has one exactly where the test says so.
-use Rattle.std.proofs.Common.{◌≡◌, ◌⊎◌, inl, inr, ⊎_elim, ℕ, ◌+◌, ◌*◌, ◌/◌, ◌%◌, ◌<◌, ◌≤◌, [], Bool, true, false, Option, Some, None, refl, sym, ap, ◌∙◌, subst, arith}
-use Rattle.std.specs.Prelude.{◌&&◌}
+use Rattle.std.proofs.Common.{◌≡◌, ◌⊎◌, inl, inr, ⊎_elim, ℕ, ◌+◌, ◌*◌, ◌/◌, ◌%◌, ◌^◌, ◌<◌, ◌≤◌, List, [], length, Bool, true, false, Option, Some, None, refl, sym, ap, ◌∙◌, subst, arith, ℤ, pos, negsuc, ◌-ℤ◌, ◌<ℤ◌, ◌≤ℤ◌}
+use Rattle.std.specs.Prelude.{◌&&◌, if◌then◌else◌}
+use Rattle.std.specs.List.{list_all}
+use Rattle.std.proofs.Math.Nat.{mod-lt}
 use Rattle.std.proofs.lemmas.Bool.Decides.{nat_tests}
+use Rattle.std.proofs.lemmas.Int.{ints}
 use Rattle.jz_words.specs.declared.size.Size.{Size}
 use Rattle.jz_words.specs.declared.size.Size.TheVariants.{S64}
 use Rattle.x64_insn.specs.declared.types.Alu.{Alu}
@@ -13,38 +16,45 @@ use Rattle.x64_insn.specs.declared.types.Insn.{Insn}
 use Rattle.x64_insn.specs.declared.types.Insn.TheVariants as insn
 use Rattle.x64_insn.specs.declared.table.Row.{Row}
 use Rattle.x64_insn.specs.declared.table.Row.TheVariants as row
-use Rattle.x64_insn.specs.Table.{number_of, reg_of, row_of, has_size, has_w, size_of, allows, r_of, b_of, mod_of, reg_field, rm_field, has_modrm, takes_modrm}
-use Rattle.x64_insn.specs.Encoding.{Fields, AreFields, insn_of, meaning, meaning_of, rm_of_modrm, reg_of_modrm, is_rex, is_byte, has_sib, displacement_length, StandsIf, AreBytes, Spells, HasSpelling}
-use Rattle.x64_insn.specs.Chosen.{two_registers, opcode_alone, chosen_bytes, is_add, is_64, are_registers, is_spelled}
+use Rattle.x64_insn.specs.Table.{number_of, operation_of, reg_of, row_of, has_size, has_w, size_of, allows, r_of, b_of, mod_of, reg_field, rm_field, has_modrm, takes_reg_field, takes_modrm, immediate_length}
+use Rattle.x64_insn.specs.Encoding.{Fields, AreFields, spelling_of, insn_of, meaning, meaning_of, rm_of_modrm, reg_of_modrm, reg_of_opcode, or_add, operation_of_modrm, unsigned_of, signed_from, signed_of, is_rex, is_byte, has_sib, displacement_length, StandsIf, AreBytes, Spells, HasSpelling}
+use Rattle.x64_insn.specs.Chosen.{alu_number, two_registers, register_immediate, register_in_opcode, bytes_of_number, modulo, signed_bytes, fits_bytes, alu_immediate, mov_immediate, opcode_alone, chosen_bytes, has_rows, is_64, are_operands, is_spelled}
 use Rattle.x64_insn.proofs.Registers.{reg_of_number, number_small}
+use Rattle.x64_insn.proofs.Immediates.{by_test, are_bytes, length_is, read_back, unsigned_small, signed_back, signed_low, signed_high, fits_within, within_fits}
 
 never : (P : Type 0) → ◌≡◌ {A = Bool} false true → P
 never P h = cc
 
--- ---- the bytes of two registers of numbers a and b
-rex_ok : (a b : ℕ) → a < 16 → b < 16 → is_rex None (0x48 + 4 * (a / 8) + b / 8) ≡ true
-rex_ok a b h k = let x : a / 8 ≤ 1 = omega arith in let y : b / 8 ≤ 1 = omega arith in grind (arith, nat_tests)
+both_of : (a b : Bool) → a ≡ true → b ≡ true → (a && b) ≡ true
+both_of a b h k = rw h k
 
-w_ok : (a b : ℕ) → a < 16 → b < 16 → has_w (Some (0x48 + 4 * (a / 8) + b / 8)) ≡ true
-w_ok a b h k = let x : 8 ≤ (0x48 + 4 * (a / 8) + b / 8) % 16 = omega arith in grind (arith, nat_tests)
+-- ---- bytes: REX with W, R of high and B of low; ModRM of mode 3 with a reg and an rm field
+rex_ok : (high low : ℕ) → high < 2 → low < 2 → is_rex None (0x48 + 4 * high + low) ≡ true
+rex_ok high low h k = grind (arith, nat_tests)
 
-r_is : (a b : ℕ) → a < 16 → b < 16 → r_of (Some (0x48 + 4 * (a / 8) + b / 8)) ≡ a / 8
-r_is a b h k = omega arith
+w_ok : (high low : ℕ) → high < 2 → low < 2 → has_w (Some (0x48 + 4 * high + low)) ≡ true
+w_ok high low h k = let x : 8 ≤ (0x48 + 4 * high + low) % 16 = omega arith in grind (arith, nat_tests)
 
-b_is : (a b : ℕ) → a < 16 → b < 16 → b_of (Some (0x48 + 4 * (a / 8) + b / 8)) ≡ b / 8
-b_is a b h k = omega arith
+r_is : (high low : ℕ) → high < 2 → low < 2 → r_of (Some (0x48 + 4 * high + low)) ≡ high
+r_is high low h k = omega arith
 
-mode_is : (a b : ℕ) → mod_of (0xC0 + 8 * (a % 8) + b % 8) ≡ 3
-mode_is a b = omega arith
+b_is : (high low : ℕ) → high < 2 → low < 2 → b_of (Some (0x48 + 4 * high + low)) ≡ low
+b_is high low h k = omega arith
 
-reg_is : (a b : ℕ) → reg_field (0xC0 + 8 * (a % 8) + b % 8) ≡ a % 8
-reg_is a b = omega arith
+mode_is : (n b : ℕ) → n < 8 → b < 8 → mod_of (0xC0 + 8 * n + b) ≡ 3
+mode_is n b h k = omega arith
 
-rm_is : (a b : ℕ) → rm_field (0xC0 + 8 * (a % 8) + b % 8) ≡ b % 8
-rm_is a b = omega arith
+reg_is : (n b : ℕ) → n < 8 → b < 8 → reg_field (0xC0 + 8 * n + b) ≡ n
+reg_is n b h k = omega arith
 
-takes : (w : Row) (a b : ℕ) → takes_modrm w (0xC0 + 8 * (a % 8) + b % 8) ≡ true
-takes w a b = let e : (0xC0 + 8 * (a % 8) + b % 8) < 256 = omega arith in let m = mode_is a b in grind (arith, nat_tests)
+rm_is : (n b : ℕ) → n < 8 → b < 8 → rm_field (0xC0 + 8 * n + b) ≡ b
+rm_is n b h k = omega arith
+
+takes : (w : Row) (n b : ℕ) → n < 8 → b < 8 → takes_reg_field w n ≡ true → takes_modrm w (0xC0 + 8 * n + b) ≡ true
+takes w n b h k t =
+    let small : (0xC0 + 8 * n + b) < 256 = omega arith in
+    let mode = mode_is n b h k in
+    both_of _ _ (grind (arith, nat_tests)) (both_of _ _ (grind (arith, nat_tests)) (ap (takes_reg_field w) (reg_is n b h k) ∙ t))
 
 no_sib : (m : ℕ) → mod_of m ≡ 3 → has_sib (Some m) ≡ false
 no_sib m h = rw h refl
@@ -56,71 +66,223 @@ no_displacement m h = rw h refl
 register_is : (high low : ℕ) (r : Reg) → high ≡ number_of r / 8 → low ≡ number_of r % 8 → reg_of (8 * high + low) ≡ r
 register_is high low r h l = let e : 8 * high + low ≡ number_of r = omega arith in ap reg_of e ∙ reg_of_number r
 
--- an opcode of a row with two registers
-abbrev HasOperands : Row → Type 0
-HasOperands (row.AluRmReg alu) = Unit {0}
-HasOperands (row.AluRegRm alu) = Unit {0}
-HasOperands row.MovRmReg = Unit {0}
-HasOperands row.MovRegRm = Unit {0}
-HasOperands row.Ret = ⊥
+stands : (b : Bool) (test : ℕ → Bool) (m : ℕ) → b ≡ true → test m ≡ true → StandsIf b test (Some m)
+stands true test m e h = h
+stands false test m e h = never _ e
 
-allows_w : (w : Row) (r : ℕ) → HasOperands w → has_w (Some r) ≡ true → allows w None (Some r) ≡ true
-allows_w (row.AluRmReg alu) r h k = rw k refl
-allows_w (row.AluRegRm alu) r h k = rw k refl
-allows_w row.MovRmReg r h k = rw k refl
-allows_w row.MovRegRm r h k = rw k refl
-allows_w row.Ret r h k = absurd h
+-- ---- fields with a REX and a ModRM
+abbrev with_modrm : ℕ → ℕ → ℕ → List ℕ → Fields
+with_modrm o r m i = record { operand_size = None; rex = Some r; escape = None; opcode = o; modrm = Some m; sib = None; displacement = []; immediate = i }
 
-modrm_stands : (w : Row) (m : ℕ) → HasOperands w → takes_modrm w m ≡ true → StandsIf (has_modrm w) (takes_modrm w) (Some m)
-modrm_stands (row.AluRmReg alu) m h k = k
-modrm_stands (row.AluRegRm alu) m h k = k
-modrm_stands row.MovRmReg m h k = k
-modrm_stands row.MovRegRm m h k = k
-modrm_stands row.Ret m h k = absurd h
+-- a row that takes REX with W and has a ModRM
+pub record Suits (w : Row) : Type 0 where
+  allowed : (r : ℕ) → has_w (Some r) ≡ true → allows w None (Some r) ≡ true
+  modrm : has_modrm w ≡ true
 
-are_fields : (o : ℕ) (w : Row) (to from : Reg) → row_of None o ≡ Some w → HasOperands w → AreFields (two_registers o to from)
-are_fields o w to from e h =
-    let a = number_of from in let b = number_of to in
-    let x = number_small from in let y = number_small to in
-    let m = 0xC0 + 8 * (a % 8) + b % 8 in
+are_fields : (w : Row) (o high low n b : ℕ) (i : List ℕ) → row_of None o ≡ Some w → Suits w → high < 2 → low < 2 → n < 8 → b < 8 → takes_reg_field w n ≡ true
+    → ((s : Size) → AreBytes (immediate_length w s) i) → AreFields (with_modrm o (0x48 + 4 * high + low) (0xC0 + 8 * n + b) i)
+are_fields w o high low n b i e suits hh hl hn hb t bytes =
+    let mode = mode_is n b hn hb in
     record {
       row = w;
       in_table = e;
       operand_size = tt;
-      rex = rex_ok a b x y;
+      rex = rex_ok high low hh hl;
       escape = tt;
-      prefixes = allows_w w _ h (w_ok a b x y);
-      modrm = modrm_stands w m h (takes w a b);
-      sib = subst (λ (v : Bool). StandsIf v is_byte None) (sym (no_sib m (mode_is a b))) tt;
-      displacement = subst (λ n. AreBytes n []) (sym (no_displacement m (mode_is a b))) (refl, refl);
-      immediate = (refl, refl);
+      prefixes = suits.allowed _ (w_ok high low hh hl);
+      modrm = stands _ _ _ suits.modrm (takes w n b hn hb t);
+      sib = subst (λ (v : Bool). StandsIf v is_byte None) (sym (no_sib _ mode)) tt;
+      displacement = subst (λ k. AreBytes k []) (sym (no_displacement _ mode)) (refl, refl);
+      immediate = bytes _;
     }
 
-size_is : (to from : Reg) → size_of None (Some (0x48 + 4 * (number_of from / 8) + number_of to / 8)) ≡ S64
-size_is to from = let k = w_ok (number_of from) (number_of to) (number_small from) (number_small to) in rw k refl
+high_small : (r : Reg) → number_of r / 8 < 2
+high_small r = omega (arith, number_small r)
 
-rm_operand : (o : ℕ) (to from : Reg) → rm_of_modrm (two_registers o to from) ≡ operand.Reg to
-rm_operand o to from = ap (λ r. operand.Reg r) (register_is _ _ to (b_is (number_of from) (number_of to) (number_small from) (number_small to)) (rm_is (number_of from) (number_of to)))
+low_small : (r : Reg) → number_of r % 8 < 8
+low_small r = omega arith
 
-reg_operand : (o : ℕ) (to from : Reg) → reg_of_modrm (two_registers o to from) ≡ from
-reg_operand o to from = register_is _ _ from (r_is (number_of from) (number_of to) (number_small from) (number_small to)) (reg_is (number_of from) (number_of to))
+-- REX of one register alone
+one_rex : (l : ℕ) → 0x48 + l ≡ 0x48 + 4 * 0 + l
+one_rex l = omega arith
 
-add_means : (to from : Reg) → insn_of (two_registers 1 to from) ≡ insn.Alu alu.Add S64 (operand.Reg to) (operand.Reg from)
-unfolding insn_of row_of
-add_means to from = rw (size_is to from, rm_operand 1 to from, reg_operand 1 to from) refl
+size_is : (high low : ℕ) → high < 2 → low < 2 → size_of None (Some (0x48 + 4 * high + low)) ≡ S64
+size_is high low h k = let e = w_ok high low h k in rw e refl
 
-mov_means : (to from : Reg) → insn_of (two_registers 0x89 to from) ≡ insn.Mov S64 (operand.Reg to) (operand.Reg from)
-unfolding insn_of row_of
-mov_means to from = rw (size_is to from, rm_operand 0x89 to from, reg_operand 0x89 to from) refl
+-- ---- two registers
+abbrev of_two : ℕ → Reg → Reg → Fields
+of_two o to from = with_modrm o (0x48 + 4 * (number_of from / 8) + number_of to / 8) (0xC0 + 8 * (number_of from % 8) + number_of to % 8) []
 
-add_row : row_of None 1 ≡ Some (row.AluRmReg alu.Add)
+two_fields : (w : Row) (o : ℕ) (to from : Reg) → row_of None o ≡ Some w → Suits w → ((n : ℕ) → takes_reg_field w n ≡ true) → ((s : Size) → AreBytes (immediate_length w s) []) → AreFields (two_registers o to from)
+two_fields w o to from e suits t bytes =
+    are_fields w o (number_of from / 8) (number_of to / 8) (number_of from % 8) (number_of to % 8) [] e suits (high_small from) (high_small to) (low_small from) (low_small to) (t _) bytes
+
+two_size : (to from : Reg) → size_of None (Some (0x48 + 4 * (number_of from / 8) + number_of to / 8)) ≡ S64
+two_size to from = size_is _ _ (high_small from) (high_small to)
+
+two_rm : (o : ℕ) (to from : Reg) → rm_of_modrm (two_registers o to from) ≡ operand.Reg to
+two_rm o to from = ap (λ r. operand.Reg r) (register_is _ _ to (b_is _ _ (high_small from) (high_small to)) (rm_is _ _ (low_small from) (low_small to)))
+
+two_reg : (o : ℕ) (to from : Reg) → reg_of_modrm (two_registers o to from) ≡ from
+two_reg o to from = register_is _ _ from (r_is _ _ (high_small from) (high_small to)) (reg_is _ _ (low_small from) (low_small to))
+
+alu_suits : (a : Alu) → Suits (row.AluRmReg a)
+alu_suits a = record { allowed = λ r k. rw k refl; modrm = refl }
+
+mov_suits : Suits row.MovRmReg
+mov_suits = record { allowed = λ r k. rw k refl; modrm = refl }
+
+alu_row : (a : Alu) → has_rows a ≡ true → row_of None (8 * alu_number a + 1) ≡ Some (row.AluRmReg a)
 unfolding row_of
-add_row = refl
+alu_row alu.Add h = refl
+alu_row alu.Sub h = refl
+alu_row alu.Xor h = refl
+alu_row other h = never _ h
 
 mov_row : row_of None 0x89 ≡ Some row.MovRmReg
 unfolding row_of
 mov_row = refl
 
+means : (w : Row) (f : Fields) → row_of f.escape f.opcode ≡ Some w → insn_of f ≡ meaning w f
+unfolding insn_of
+means w f e = ap (λ v. meaning_of v f) e
+
+alu_means : (a : Alu) (to from : Reg) → has_rows a ≡ true → insn_of (two_registers (8 * alu_number a + 1) to from) ≡ insn.Alu a S64 (operand.Reg to) (operand.Reg from)
+alu_means a to from h = means (row.AluRmReg a) (two_registers (8 * alu_number a + 1) to from) (alu_row a h) ∙ rw (two_size to from, two_rm 0 to from, two_reg 0 to from) refl
+
+mov_means : (to from : Reg) → insn_of (two_registers 0x89 to from) ≡ insn.Mov S64 (operand.Reg to) (operand.Reg from)
+mov_means to from = means row.MovRmReg (two_registers 0x89 to from) mov_row ∙ rw (two_size to from, two_rm 0 to from, two_reg 0 to from) refl
+
+-- ---- immediates
+modulo_small : (all : ℕ) (i : ℤ) → 0 < all → modulo all i < all
+modulo_small all (pos n) h = mod-lt n h
+modulo_small all (negsuc n) h = omega (arith, h)
+
+-- a signed number that bytes can hold is the one that its bytes hold
+read_signed : (k half : ℕ) (i : ℤ) → 256 ^ k ≡ 2 * half → 0 < half → (pos 0 -ℤ pos half) ≤ℤ i → i <ℤ pos half → signed_of (signed_bytes k i) ≡ i
+read_signed k half i e h low high =
+    let m = modulo_small (256 ^ k) i (omega (arith, e, h)) in
+    ap (λ n. signed_from n (256 ^ length (signed_bytes k i))) (read_back k (modulo (256 ^ k) i) m)
+    ∙ ap (λ l. signed_from (modulo (256 ^ k) i) (256 ^ l)) (length_is k (modulo (256 ^ k) i))
+    ∙ ap (λ all. signed_from (modulo all i) all) e
+    ∙ signed_back half i low high
+
+one_byte : (i : ℤ) → fits_bytes 1 i ≡ true → signed_of (signed_bytes 1 i) ≡ i
+one_byte i h = let w = fits_within 1 i h in read_signed 1 128 i refl (omega arith) w.0 w.1
+
+four_bytes : (i : ℤ) → fits_bytes 4 i ≡ true → signed_of (signed_bytes 4 i) ≡ i
+four_bytes i h = let w = fits_within 4 i h in read_signed 4 (2 ^ 31) i refl (omega arith) w.0 w.1
+
+eight_bytes : (i : ℤ) → fits_bytes 8 i ≡ true → signed_of (signed_bytes 8 i) ≡ i
+eight_bytes i h = let w = fits_within 8 i h in read_signed 8 (2 ^ 63) i refl (omega arith) w.0 w.1
+
+-- what bytes hold, more bytes can hold
+bytes_fit : (k more half : ℕ) (bs : List ℕ) → 256 ^ k ≡ 2 * half → half ≤ 256 ^ more / 2 → AreBytes k bs → fits_bytes more (signed_of bs) ≡ true
+bytes_fit k more half bs e le are =
+    let all : 256 ^ length bs ≡ 2 * half = ap (λ n. 256 ^ n) are.0 ∙ e in
+    let small : unsigned_of bs < 2 * half = subst (λ n. unsigned_of bs < n) all (unsigned_small bs are.1) in
+    subst (λ n. fits_bytes more (signed_from (unsigned_of bs) n) ≡ true) (sym all)
+    (within_fits more _ (omega (arith, ints, le, signed_low half (unsigned_of bs) small)) (omega (arith, ints, le, signed_high half (unsigned_of bs) small)))
+
+-- ---- a register in the rm field and an immediate
+abbrev of_register : ℕ → ℕ → Reg → List ℕ → Fields
+of_register o n to i = with_modrm o (0x48 + number_of to / 8) (0xC0 + 8 * n + number_of to % 8) i
+
+immediate_fields : (w : Row) (o n : ℕ) (to : Reg) (i : List ℕ) → row_of None o ≡ Some w → Suits w → n < 8 → takes_reg_field w n ≡ true → ((s : Size) → AreBytes (immediate_length w s) i) → AreFields (register_immediate o n to i)
+immediate_fields w o n to i e suits small t bytes =
+    subst (λ r. AreFields (with_modrm o r (0xC0 + 8 * n + number_of to % 8) i)) (sym (one_rex (number_of to / 8)))
+    (are_fields w o 0 (number_of to / 8) n (number_of to % 8) i e suits (omega arith) (high_small to) small (low_small to) t bytes)
+
+one_size : (to : Reg) → size_of None (Some (0x48 + number_of to / 8)) ≡ S64
+one_size to = ap (λ r. size_of None (Some r)) (one_rex (number_of to / 8)) ∙ size_is 0 (number_of to / 8) (omega arith) (high_small to)
+
+one_b : (to : Reg) → b_of (Some (0x48 + number_of to / 8)) ≡ number_of to / 8
+one_b to = ap (λ r. b_of (Some r)) (one_rex (number_of to / 8)) ∙ b_is 0 (number_of to / 8) (omega arith) (high_small to)
+
+one_rm : (o n : ℕ) (to : Reg) (i : List ℕ) → n < 8 → rm_of_modrm (register_immediate o n to i) ≡ operand.Reg to
+one_rm o n to i small = ap (λ r. operand.Reg r) (register_is _ _ to (one_b to) (rm_is n _ small (low_small to)))
+
+suits_8 : Suits row.AluRmImm8
+suits_8 = record { allowed = λ r k. rw k refl; modrm = refl }
+
+suits_32 : Suits row.AluRmImm32
+suits_32 = record { allowed = λ r k. rw k refl; modrm = refl }
+
+suits_mov : Suits row.MovRmImm32
+suits_mov = record { allowed = λ r k. rw k refl; modrm = refl }
+
+row_83 : row_of None 0x83 ≡ Some row.AluRmImm8
+unfolding row_of
+row_83 = refl
+
+row_81 : row_of None 0x81 ≡ Some row.AluRmImm32
+unfolding row_of
+row_81 = refl
+
+row_c7 : row_of None 0xC7 ≡ Some row.MovRmImm32
+unfolding row_of
+row_c7 = refl
+
+number_is : (a : Alu) → has_rows a ≡ true → (alu_number a < 8) × (operation_of (alu_number a) ≡ Some a)
+unfolding operation_of
+number_is alu.Add h = (omega arith, refl)
+number_is alu.Sub h = (omega arith, refl)
+number_is alu.Xor h = (omega arith, refl)
+number_is other h = never _ h
+
+operation_is : (o : ℕ) (a : Alu) (to : Reg) (i : List ℕ) → has_rows a ≡ true → operation_of_modrm (register_immediate o (alu_number a) to i) ≡ a
+operation_is o a to i h =
+    let n = number_is a h in
+    ap (λ k. or_add (operation_of k)) (reg_is (alu_number a) (number_of to % 8) n.0 (low_small to)) ∙ ap or_add n.1
+
+byte_means : (a : Alu) (to : Reg) (i : ℤ) → has_rows a ≡ true → fits_bytes 1 i ≡ true → insn_of (register_immediate 0x83 (alu_number a) to (signed_bytes 1 i)) ≡ insn.Alu a S64 (operand.Reg to) (operand.Imm i)
+byte_means a to i h k =
+    means row.AluRmImm8 (register_immediate 0x83 (alu_number a) to (signed_bytes 1 i)) row_83
+    ∙ rw (operation_is 0 a to [] h, one_size to, one_rm 0 (alu_number a) to [] (number_is a h).0, one_byte i k) refl
+
+word_means : (a : Alu) (to : Reg) (i : ℤ) → has_rows a ≡ true → fits_bytes 4 i ≡ true → insn_of (register_immediate 0x81 (alu_number a) to (signed_bytes 4 i)) ≡ insn.Alu a S64 (operand.Reg to) (operand.Imm i)
+word_means a to i h k =
+    means row.AluRmImm32 (register_immediate 0x81 (alu_number a) to (signed_bytes 4 i)) row_81
+    ∙ rw (operation_is 0 a to [] h, one_size to, one_rm 0 (alu_number a) to [] (number_is a h).0, four_bytes i k) refl
+
+mov_word_means : (to : Reg) (i : ℤ) → fits_bytes 4 i ≡ true → insn_of (register_immediate 0xC7 0 to (signed_bytes 4 i)) ≡ insn.Mov S64 (operand.Reg to) (operand.Imm i)
+mov_word_means to i k =
+    means row.MovRmImm32 (register_immediate 0xC7 0 to (signed_bytes 4 i)) row_c7
+    ∙ rw (one_size to, one_rm 0 0 to [] (omega arith), four_bytes i k) refl
+
+-- ---- MOV of an immediate of 64 bits
+wide_row : (l : ℕ) → l < 8 → row_of None (0xB8 + l) ≡ Some row.MovRegImm64
+unfolding row_of
+wide_row l h = grind (arith, nat_tests)
+
+wide_fields : (to : Reg) (i : List ℕ) → AreBytes 8 i → AreFields (register_in_opcode to i)
+unfolding displacement_length
+wide_fields to i bytes =
+    let small = high_small to in
+    let r = one_rex (number_of to / 8) in
+    let w = ap (λ b. has_w (Some b)) r ∙ w_ok 0 _ (omega arith) small in
+    record {
+      row = row.MovRegImm64;
+      in_table = wide_row (number_of to % 8) (low_small to);
+      operand_size = tt;
+      rex = ap (is_rex None) r ∙ rex_ok 0 _ (omega arith) small;
+      escape = tt;
+      prefixes = rw w refl;
+      modrm = tt;
+      sib = tt;
+      displacement = (refl, refl);
+      immediate = bytes;
+    }
+
+wide_reg : (to : Reg) (i : List ℕ) → reg_of_opcode (register_in_opcode to i) ≡ to
+wide_reg to i = register_is _ _ to (one_b to) (omega (arith, low_small to))
+
+wide_means : (to : Reg) (i : ℤ) → fits_bytes 8 i ≡ true → insn_of (register_in_opcode to (signed_bytes 8 i)) ≡ insn.Mov S64 (operand.Reg to) (operand.Imm i)
+wide_means to i k =
+    means row.MovRegImm64 (register_in_opcode to (signed_bytes 8 i)) (wide_row (number_of to % 8) (low_small to))
+    ∙ rw (one_size to, wide_reg to [], eight_bytes i k) refl
+
+-- ---- what is chosen
 ret_fields : AreFields (opcode_alone 0xC3)
 unfolding row_of displacement_length
 ret_fields = record { row = row.Ret; in_table = refl; operand_size = tt; rex = tt; escape = tt; prefixes = refl; modrm = tt; sib = tt; displacement = (refl, refl); immediate = (refl, refl) }
@@ -129,19 +291,42 @@ ret_means : insn_of (opcode_alone 0xC3) ≡ insn.Ret
 unfolding insn_of row_of
 ret_means = refl
 
-add_spells : (a : Alu) (size : Size) (to from : Operand) → (is_add a && (is_64 size && are_registers to from)) ≡ true → Spells (chosen_bytes (insn.Alu a size to from)) (insn.Alu a size to from)
-unfolding chosen_bytes
-add_spells alu.Add S64 (operand.Reg to) (operand.Reg from) h = (two_registers 1 to from, are_fields 1 (row.AluRmReg alu.Add) to from add_row tt, refl, add_means to from)
-add_spells a size to from h = never _ h
+both_parts : (a b : Bool) → (a && b) ≡ true → (a ≡ true) × (b ≡ true)
+both_parts true true h = (refl, refl)
+both_parts true false h = cc
+both_parts false b h = cc
 
-mov_spells : (size : Size) (to from : Operand) → (is_64 size && are_registers to from) ≡ true → Spells (chosen_bytes (insn.Mov size to from)) (insn.Mov size to from)
+alu_chosen : (a : Alu) (to : Reg) (i : ℤ) → has_rows a ≡ true → fits_bytes 4 i ≡ true → Spells (spelling_of (alu_immediate (alu_number a) to i)) (insn.Alu a S64 (operand.Reg to) (operand.Imm i))
+alu_chosen a to i h k =
+    let n = number_is a h in
+    let some : takes_reg_field row.AluRmImm8 (alu_number a) ≡ true = rw n.1 refl in
+    by_test (λ f. Spells (spelling_of f) (insn.Alu a S64 (operand.Reg to) (operand.Imm i))) (fits_bytes 1 i) _ _
+    (λ e. (register_immediate 0x83 (alu_number a) to (signed_bytes 1 i), immediate_fields row.AluRmImm8 0x83 (alu_number a) to _ row_83 suits_8 n.0 some (λ s. are_bytes 1 (modulo (256 ^ 1) i)), refl, byte_means a to i h e))
+    (λ e. (register_immediate 0x81 (alu_number a) to (signed_bytes 4 i), immediate_fields row.AluRmImm32 0x81 (alu_number a) to _ row_81 suits_32 n.0 some (λ s. are_bytes 4 (modulo (256 ^ 4) i)), refl, word_means a to i h k))
+
+mov_chosen : (to : Reg) (i : ℤ) → fits_bytes 8 i ≡ true → Spells (spelling_of (mov_immediate to i)) (insn.Mov S64 (operand.Reg to) (operand.Imm i))
+mov_chosen to i k =
+    by_test (λ f. Spells (spelling_of f) (insn.Mov S64 (operand.Reg to) (operand.Imm i))) (fits_bytes 4 i) _ _
+    (λ e. (register_immediate 0xC7 0 to (signed_bytes 4 i), immediate_fields row.MovRmImm32 0xC7 0 to _ row_c7 suits_mov (omega arith) refl (λ s. are_bytes 4 (modulo (256 ^ 4) i)), refl, mov_word_means to i e))
+    (λ e. (register_in_opcode to (signed_bytes 8 i), wide_fields to _ (are_bytes 8 (modulo (256 ^ 8) i)), refl, wide_means to i k))
+
+alu_spells : (a : Alu) (size : Size) (to from : Operand) → (has_rows a && (is_64 size && are_operands 4 to from)) ≡ true → Spells (chosen_bytes (insn.Alu a size to from)) (insn.Alu a size to from)
 unfolding chosen_bytes
-mov_spells S64 (operand.Reg to) (operand.Reg from) h = (two_registers 0x89 to from, are_fields 0x89 row.MovRmReg to from mov_row tt, refl, mov_means to from)
+alu_spells a S64 (operand.Reg to) (operand.Reg from) h =
+    let k = (both_parts _ _ h).0 in
+    (two_registers (8 * alu_number a + 1) to from, two_fields (row.AluRmReg a) _ to from (alu_row a k) (alu_suits a) (λ n. refl) (λ s. (refl, refl)), refl, alu_means a to from k)
+alu_spells a S64 (operand.Reg to) (operand.Imm i) h = let k = both_parts _ _ h in alu_chosen a to i k.0 k.1
+alu_spells a size to from h = never _ ((both_parts _ _ h).1)
+
+mov_spells : (size : Size) (to from : Operand) → (is_64 size && are_operands 8 to from) ≡ true → Spells (chosen_bytes (insn.Mov size to from)) (insn.Mov size to from)
+unfolding chosen_bytes
+mov_spells S64 (operand.Reg to) (operand.Reg from) h = (two_registers 0x89 to from, two_fields row.MovRmReg 0x89 to from mov_row mov_suits (λ n. refl) (λ s. (refl, refl)), refl, mov_means to from)
+mov_spells S64 (operand.Reg to) (operand.Imm i) h = mov_chosen to i h
 mov_spells size to from h = never _ h
 
 pub chosen_spells : (i : Insn) → is_spelled i ≡ true → Spells (chosen_bytes i) i
 unfolding chosen_bytes
-chosen_spells (insn.Alu a size to from) h = add_spells a size to from h
+chosen_spells (insn.Alu a size to from) h = alu_spells a size to from h
 chosen_spells (insn.Mov size to from) h = mov_spells size to from h
 chosen_spells insn.Ret h = (opcode_alone 0xC3, ret_fields, refl, ret_means)
 chosen_spells i h = never _ h
@@ -154,21 +339,34 @@ size_so : (s : Size) → has_size s ≡ true → is_64 s ≡ true
 size_so S64 h = refl
 size_so s h = never _ h
 
-add_alone : (e : Option ℕ) (o : ℕ) (a : Alu) → (row_of e o ≡ Some (row.AluRmReg a)) ⊎ (row_of e o ≡ Some (row.AluRegRm a)) → is_add a ≡ true
+rows_alone : (e : Option ℕ) (o : ℕ) (a : Alu) → (row_of e o ≡ Some (row.AluRmReg a)) ⊎ (row_of e o ≡ Some (row.AluRegRm a)) → has_rows a ≡ true
 unfolding row_of
-add_alone None o a h = grind (arith, nat_tests)
-add_alone (Some b) o a h = ⊎_elim (λ k. cc) (λ k. cc) h
+rows_alone None o a h = grind (arith, nat_tests)
+rows_alone (Some b) o a h = ⊎_elim (λ k. cc) (λ k. cc) h
 
-spelled_row : (w : Row) (f : Fields) → row_of f.escape f.opcode ≡ Some w → allows w f.operand_size f.rex ≡ true → is_spelled (meaning w f) ≡ true
-spelled_row (row.AluRmReg a) f e h = rw (add_alone f.escape f.opcode a (inl e), size_so _ h) refl
-spelled_row (row.AluRegRm a) f e h = rw (add_alone f.escape f.opcode a (inr e), size_so _ h) refl
-spelled_row row.MovRmReg f e h = rw (size_so _ h) refl
-spelled_row row.MovRegRm f e h = rw (size_so _ h) refl
-spelled_row row.Ret f e h = refl
+named_by : (a b c : Bool) → has_rows (or_add (if a then Some alu.Add else if b then Some alu.Sub else if c then Some alu.Xor else None)) ≡ true
+named_by true b c = refl
+named_by false true c = refl
+named_by false false true = refl
+named_by false false false = refl
+
+named_rows : (n : ℕ) → has_rows (or_add (operation_of n)) ≡ true
+unfolding operation_of
+named_rows n = named_by _ _ _
+
+spelled_row : (w : Row) (f : Fields) → row_of f.escape f.opcode ≡ Some w → allows w f.operand_size f.rex ≡ true → AreBytes (immediate_length w (size_of f.operand_size f.rex)) f.immediate → is_spelled (meaning w f) ≡ true
+spelled_row (row.AluRmReg a) f e h i = rw (rows_alone f.escape f.opcode a (inl e), size_so _ h) refl
+spelled_row (row.AluRegRm a) f e h i = rw (rows_alone f.escape f.opcode a (inr e), size_so _ h) refl
+spelled_row row.AluRmImm8 f e h i = both_of _ _ (named_rows _) (both_of _ _ (size_so _ h) (bytes_fit 1 4 128 f.immediate refl (omega arith) i))
+spelled_row row.AluRmImm32 f e h i = both_of _ _ (named_rows _) (both_of _ _ (size_so _ h) (bytes_fit 4 4 (2 ^ 31) f.immediate refl (omega arith) i))
+spelled_row row.MovRmReg f e h i = rw (size_so _ h) refl
+spelled_row row.MovRegRm f e h i = rw (size_so _ h) refl
+spelled_row row.MovRmImm32 f e h i = both_of _ _ (size_so _ h) (bytes_fit 4 8 (2 ^ 31) f.immediate refl (omega arith) i)
+spelled_row row.MovRegImm64 f e h i = both_of _ _ (size_so _ h) (bytes_fit 8 8 (2 ^ 63) f.immediate refl (omega arith) i)
+spelled_row row.Ret f e h i = refl
 
 pub spelled_only : (i : Insn) → HasSpelling i → is_spelled i ≡ true
-unfolding insn_of
 spelled_only i h =
     let f = h.1.0 in let ok = h.1.1 in
-    let means : meaning ok.row f ≡ i = sym (ap (λ w. meaning_of w f) ok.in_table) ∙ h.1.3 in
-    sym (ap is_spelled means) ∙ spelled_row ok.row f ok.in_table ok.prefixes
+    let is : meaning ok.row f ≡ i = sym (means ok.row f ok.in_table) ∙ h.1.3 in
+    sym (ap is_spelled is) ∙ spelled_row ok.row f ok.in_table ok.prefixes ok.immediate

@@ -1,4 +1,5 @@
 pub mod Registers
+pub mod Immediates
 pub mod ChosenSpelling
 mod Examples
 pub mod Slots

@@ -8,12 +8,13 @@ use Rattle.jz_words.specs.Memory.{Memory, loaded}
 use Rattle.x64_insn.specs.declared.types.Reg.{Reg}
 use Rattle.x64_insn.specs.declared.types.Reg.TheVariants as reg
 use Rattle.x64_insn.specs.declared.types.Operand.TheVariants as operand
+use Rattle.x64_insn.specs.declared.types.Alu.{Alu}
 use Rattle.x64_insn.specs.declared.types.Alu.TheVariants as alu
 use Rattle.x64_insn.specs.declared.types.Insn.{Insn}
 use Rattle.x64_insn.specs.declared.types.Insn.TheVariants as insn
 use Rattle.x64_insn.specs.declared.types.State.{State}
 use Rattle.x64_insn.specs.declared.types.FaultKind.TheVariants.{BadAddress}
-use Rattle.x64_insn.specs.Rows.{After, effect_of, reg_value, or_bad_address, add_row, mov_row, ret_row}
+use Rattle.x64_insn.specs.Rows.{After, effect_of, reg_value, or_bad_address, alu_row, answer_row, mov_row, ret_row}
 use Rattle.x64_insn.specs.Laws.{HasInvalidByte}
 
 -- the next place, counted from the address behind
@@ -70,17 +71,22 @@ ret_at_none : (st : State) (m : Memory) → loaded m (reg_value st reg.Rsp) 8 �
 unfolding ret_row
 ret_at_none st m e = rw e refl
 
-add_goes_on : (st : State) (m : Memory) (to from : Reg) (next : ℕ) {A : Type 0} → add_row S64 to from next st m ≡ Err BadAddress → A
-unfolding add_row
-add_goes_on st m to from next e = cc
+alu_goes_on : (operation : Alu) (st : State) (m : Memory) (to : Reg) (v next : ℕ) {A : Type 0} → alu_row operation to v next st m ≡ Err BadAddress → A
+unfolding answer_row
+alu_goes_on alu.Add st m to v next e = cc
+alu_goes_on alu.Sub st m to v next e = cc
+alu_goes_on alu.Xor st m to v next e = cc
+alu_goes_on other st m to v next e = cc
 
-mov_goes_on : (st : State) (m : Memory) (to from : Reg) (next : ℕ) {A : Type 0} → mov_row S64 to from next st m ≡ Err BadAddress → A
+mov_goes_on : (st : State) (m : Memory) (to : Reg) (v next : ℕ) {A : Type 0} → mov_row S64 to v next st m ≡ Err BadAddress → A
 unfolding mov_row
-mov_goes_on st m to from next e = cc
+mov_goes_on st m to v next e = cc
 
 only_ret : (i : Insn) (next : ℕ) (st : State) (m : Memory) → effect_of i next st m ≡ Err BadAddress → (i ≡ insn.Ret) × (loaded m (reg_value st reg.Rsp) 8 ≡ None)
-only_ret (insn.Alu alu.Add S64 (operand.Reg to) (operand.Reg from)) next st m e = add_goes_on st m to from next e
-only_ret (insn.Mov S64 (operand.Reg to) (operand.Reg from)) next st m e = mov_goes_on st m to from next e
+only_ret (insn.Alu alu S64 (operand.Reg to) (operand.Reg from)) next st m e = alu_goes_on alu st m to _ next e
+only_ret (insn.Alu alu S64 (operand.Reg to) (operand.Imm i)) next st m e = alu_goes_on alu st m to _ next e
+only_ret (insn.Mov S64 (operand.Reg to) (operand.Reg from)) next st m e = mov_goes_on st m to _ next e
+only_ret (insn.Mov S64 (operand.Reg to) (operand.Imm i)) next st m e = mov_goes_on st m to _ next e
 only_ret insn.Ret next st m e = (refl, ret_faults st m e)
 only_ret other next st m e = cc
 

@@ -17,7 +17,7 @@ use Rattle.x64_insn.specs.declared.types.FlagVal.{FlagVal}
 use Rattle.x64_insn.specs.declared.types.FlagVal.TheVariants.{True, Undefined}
 use Rattle.x64_insn.specs.declared.types.State.{State}
 use Rattle.x64_insn.specs.Answers.{flag, overflows, flags_of, sum_answer}
-use Rattle.x64_insn.specs.Rows.{After, effect_of, reg_word, add_row, flag_of}
+use Rattle.x64_insn.specs.Rows.{After, effect_of, reg_word, answer_row, flag_of}
 use Rattle.x64_insn.specs.Laws.{ShowsSum}
 
 -- a flag is set exactly where its test holds
@@ -90,5 +90,5 @@ sum_shows a b st e =
     }
 
 pub add_shows : (to from : Reg) (next : ℕ) (st : State) (m : Memory) → (after : After) × (effect_of (insn.Alu alu.Add S64 (operand.Reg to) (operand.Reg from)) next st m ≡ Ok after) × ShowsSum (reg_word st S64 to) (reg_word st S64 from) after.state
-unfolding add_row
+unfolding answer_row
 add_shows to from next st m = (_, refl, sum_shows (reg_word st S64 to) (reg_word st S64 from) _ refl)

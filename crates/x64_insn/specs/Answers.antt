@@ -1,8 +1,8 @@
 -- The result of an operation on words, and the status flags that it leaves (Intel SDM vol. 1, 3.4.3.1).
-use Rattle.std.specs.Prelude.{ℕ, Bool, not, ◌||◌, ◌==◌, nat_le, int_lt, if◌then◌else◌, List, [], ◌∷◌, ℤ, pos, ◌+ℤ◌, ◌-ℤ◌}
+use Rattle.std.specs.Prelude.{ℕ, bit_xor, Bool, false, not, ◌||◌, ◌==◌, nat_le, int_lt, if◌then◌else◌, List, [], ◌∷◌, ℤ, pos, ◌+ℤ◌, ◌-ℤ◌}
 use Rattle.jz_words.specs.declared.size.Size.{Size}
 use Rattle.jz_words.specs.Sizes.{half, signed}
-use Rattle.jz_words.specs.Words.{carried, sum_of, carry_of, has_even_ones}
+use Rattle.jz_words.specs.Words.{carried, sum_of, carry_of, difference_of, borrow_of, has_even_ones}
 use Rattle.x64_insn.specs.declared.answer.Answer.{Answer}
 use Rattle.x64_insn.specs.declared.types.FlagVal.{FlagVal}
 use Rattle.x64_insn.specs.declared.types.FlagVal.TheVariants.{True, False}
@@ -26,3 +26,15 @@ sum_answer s a b c =
       value = sum_of s a b c;
       flags = flags_of s (overflows s ((signed s a +ℤ signed s b) +ℤ pos (carried c))) (carry_of s a b c) (sum_of s a b c);
     }
+
+-- a - b - c
+unfoldable pub difference_answer : Size → ℕ → ℕ → Bool → Answer
+difference_answer s a b c =
+    record {
+      value = difference_of s a b c;
+      flags = flags_of s (overflows s ((signed s a -ℤ signed s b) -ℤ pos (carried c))) (borrow_of a b c) (difference_of s a b c);
+    }
+
+-- the bits in which a and b differ; neither overflow nor carry
+unfoldable pub xor_answer : Size → ℕ → ℕ → Answer
+xor_answer s a b = record { value = bit_xor a b; flags = flags_of s false false (bit_xor a b) }

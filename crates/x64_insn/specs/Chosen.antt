@@ -1,5 +1,5 @@
 -- The spelling that is chosen among those of an instruction.
-use Rattle.std.specs.Prelude.{ℕ, ◌+◌, ◌*◌, ◌/◌, ◌%◌, Bool, true, false, ◌&&◌, Option, Some, None, List, []}
+use Rattle.std.specs.Prelude.{ℕ, zero, suc, ◌+◌, ◌*◌, ◌/◌, ◌%◌, ◌-◌, ◌^◌, ℤ, pos, negsuc, ◌-ℤ◌, int_lt, Bool, true, false, not, ◌&&◌, if◌then◌else◌, Option, Some, None, List, [], ◌∷◌}
 use Rattle.jz_words.specs.declared.size.Size.{Size}
 use Rattle.jz_words.specs.declared.size.Size.TheVariants.{S64}
 use Rattle.x64_insn.specs.declared.types.Alu.{Alu}
@@ -40,10 +40,65 @@ two_registers opcode to from = record {
 abbrev pub opcode_alone : ℕ → Fields
 opcode_alone opcode = record { operand_size = None; rex = None; escape = None; opcode = opcode; modrm = None; sib = None; displacement = []; immediate = [] }
 
+-- ---- immediates
+-- so many bytes of a number, the lowest first
+abbrev pub bytes_of_number : ℕ → ℕ → List ℕ
+bytes_of_number zero n = []
+bytes_of_number (suc k) n = n % 256 ∷ bytes_of_number k (n / 256)
+
+-- a signed number modulo another
+abbrev pub modulo : ℕ → ℤ → ℕ
+modulo all (pos n) = n % all
+modulo all (negsuc n) = all - 1 - n % all
+
+-- so many bytes of a signed number
+abbrev pub signed_bytes : ℕ → ℤ → List ℕ
+signed_bytes k i = bytes_of_number k (modulo (256 ^ k) i)
+
+-- whether so many bytes can hold a signed number
+abbrev pub fits_bytes : ℕ → ℤ → Bool
+fits_bytes k i = not (int_lt i (pos 0 -ℤ pos (256 ^ k / 2))) && int_lt i (pos (256 ^ k / 2))
+
+-- an opcode on a register of 64 bits in the rm field and an immediate, with this reg field
+abbrev pub register_immediate : ℕ → ℕ → Reg → List ℕ → Fields
+register_immediate opcode reg to immediate = record {
+  operand_size = None;
+  rex = Some (0x48 + number_of to / 8);
+  escape = None;
+  opcode = opcode;
+  modrm = Some (0xC0 + 8 * reg + number_of to % 8);
+  sib = None;
+  displacement = [];
+  immediate = immediate;
+}
+
+-- MOV of an immediate of 64 bits, the register in the opcode
+abbrev pub register_in_opcode : Reg → List ℕ → Fields
+register_in_opcode to immediate = record {
+  operand_size = None;
+  rex = Some (0x48 + number_of to / 8);
+  escape = None;
+  opcode = 0xB8 + number_of to % 8;
+  modrm = None;
+  sib = None;
+  displacement = [];
+  immediate = immediate;
+}
+
+-- an operation with an immediate: 83 where one byte holds it, else 81
+abbrev pub alu_immediate : ℕ → Reg → ℤ → Fields
+alu_immediate number to i = if fits_bytes 1 i then register_immediate 0x83 number to (signed_bytes 1 i) else register_immediate 0x81 number to (signed_bytes 4 i)
+
+-- MOV of an immediate: C7 where four bytes hold it, else B8 and the register's number
+abbrev pub mov_immediate : Reg → ℤ → Fields
+mov_immediate to i = if fits_bytes 4 i then register_immediate 0xC7 0 to (signed_bytes 4 i) else register_in_opcode to (signed_bytes 8 i)
+
 -- the fields that are chosen: register to register the opcode 8n + 1 of an operation of number n, and 89 of MOV
 abbrev pub chosen_fields : Insn → Option Fields
 chosen_fields (insn.Alu alu size (operand.Reg to) (operand.Reg from)) = Some (two_registers (8 * alu_number alu + 1) to from)
+chosen_fields (insn.Alu alu size (operand.Reg to) (operand.Imm i)) = Some (alu_immediate (alu_number alu) to i)
 chosen_fields (insn.Mov size (operand.Reg to) (operand.Reg from)) = Some (two_registers 0x89 to from)
+chosen_fields (insn.Mov size (operand.Reg to) (operand.Imm i)) = Some (mov_immediate to i)
 chosen_fields insn.Ret = Some (opcode_alone 0xC3)
 chosen_fields other = None
 
@@ -57,24 +112,27 @@ unfoldable pub chosen_bytes : Insn → List ℕ
 chosen_bytes i = bytes_of_fields (chosen_fields i)
 
 -- ---- which instructions have a spelling
--- whether an operation is ADD
-abbrev pub is_add : Alu → Bool
-is_add alu.Add = true
-is_add other = false
+-- whether an operation has rows
+abbrev pub has_rows : Alu → Bool
+has_rows alu.Add = true
+has_rows alu.Sub = true
+has_rows alu.Xor = true
+has_rows other = false
 
 -- whether a size is 64 bits
 abbrev pub is_64 : Size → Bool
 is_64 S64 = true
 is_64 other = false
 
--- whether both operands are registers
-abbrev pub are_registers : Operand → Operand → Bool
-are_registers (operand.Reg to) (operand.Reg from) = true
-are_registers to from = false
+-- whether the operands are two registers, or a register and an immediate that so many bytes can hold
+abbrev pub are_operands : ℕ → Operand → Operand → Bool
+are_operands k (operand.Reg to) (operand.Reg from) = true
+are_operands k (operand.Reg to) (operand.Imm i) = fits_bytes k i
+are_operands k to from = false
 
--- ADD and MOV from register to register of 64 bits, and RET
+-- ADD, SUB, XOR and MOV of 64 bits to a register, from a register or an immediate, of 64 bits for MOV and else of 32; and RET
 abbrev pub is_spelled : Insn → Bool
-is_spelled (insn.Alu alu size to from) = is_add alu && (is_64 size && are_registers to from)
-is_spelled (insn.Mov size to from) = is_64 size && are_registers to from
+is_spelled (insn.Alu alu size to from) = has_rows alu && (is_64 size && are_operands 4 to from)
+is_spelled (insn.Mov size to from) = is_64 size && are_operands 8 to from
 is_spelled insn.Ret = true
 is_spelled other = false

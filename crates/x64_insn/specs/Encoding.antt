@@ -1,7 +1,9 @@
 -- The spellings of instructions in bytes (Intel SDM vol. 2, chapter 2). Each byte is a number below 256.
-use Rattle.std.specs.Prelude.{◌≡◌, ◌<◌, ◌≤◌, ℕ, ◌+◌, ◌*◌, ◌%◌, Bool, true, false, ◌&&◌, ◌==◌, nat_lt, nat_le, if◌then◌else◌, Option, Some, None, is_some, IfSome, IsTrue, List, [], ◌∷◌, ◌++◌, length, take}
+use Rattle.std.specs.Prelude.{◌≡◌, ◌<◌, ◌≤◌, ℕ, ◌+◌, ◌*◌, ◌%◌, ◌^◌, ℤ, pos, ◌-ℤ◌, Bool, true, false, ◌&&◌, ◌==◌, nat_lt, nat_le, if◌then◌else◌, Option, Some, None, is_some, IfSome, IsTrue, List, [], ◌∷◌, ◌++◌, length, take}
 use Rattle.std.specs.List.{list_all}
 use Rattle.std.specs.Option.{option_to_list}
+use Rattle.x64_insn.specs.declared.types.Alu.{Alu}
+use Rattle.x64_insn.specs.declared.types.Alu.TheVariants as alu
 use Rattle.x64_insn.specs.declared.types.Reg.{Reg}
 use Rattle.x64_insn.specs.declared.types.Operand.{Operand}
 use Rattle.x64_insn.specs.declared.types.Operand.TheVariants as operand
@@ -9,7 +11,7 @@ use Rattle.x64_insn.specs.declared.types.Insn.{Insn}
 use Rattle.x64_insn.specs.declared.types.Insn.TheVariants as insn
 use Rattle.x64_insn.specs.declared.table.Row.{Row}
 use Rattle.x64_insn.specs.declared.table.Row.TheVariants as row
-use Rattle.x64_insn.specs.Table.{reg_of, row_of, r_of, b_of, size_of, allows, mod_of, reg_field, rm_field, has_modrm, takes_modrm, immediate_length}
+use Rattle.x64_insn.specs.Table.{operation_of, reg_of, row_of, r_of, b_of, size_of, allows, mod_of, reg_field, rm_field, has_modrm, takes_modrm, immediate_length}
 
 -- The fields of a spelling, in the order of their bytes (2.1, figure 2-1; 2.2.1, figure 2-3).
 pub record Fields : Type 0 where
@@ -96,12 +98,45 @@ reg_of_modrm f = reg_of (8 * r_of f.rex + reg_field (or_zero f.modrm))
 abbrev pub rm_of_modrm : Fields → Operand
 rm_of_modrm f = operand.Reg (reg_of (8 * b_of f.rex + rm_field (or_zero f.modrm)))
 
--- the instruction of a row: of ADD and MOV the destination is the operand that the row names first
+-- the operation that ModRM's reg field names
+abbrev pub or_add : Option Alu → Alu
+or_add None = alu.Add
+or_add (Some a) = a
+
+abbrev pub operation_of_modrm : Fields → Alu
+operation_of_modrm f = or_add (operation_of (reg_field (or_zero f.modrm)))
+
+-- the register in the lowest three bits of an opcode, whose fourth bit is REX.B (2.2.1.2, figure 2-7)
+abbrev pub reg_of_opcode : Fields → Reg
+reg_of_opcode f = reg_of (8 * b_of f.rex + f.opcode % 8)
+
+-- the number of bytes, the lowest first
+abbrev pub unsigned_of : List ℕ → ℕ
+unsigned_of [] = 0
+unsigned_of (b ∷ bs) = b + 256 * unsigned_of bs
+
+-- a number below another as a signed one: the upper half stands for the negative numbers
+unfoldable pub signed_from : ℕ → ℕ → ℤ
+signed_from n all = if nat_lt (2 * n) all then pos n else pos n -ℤ pos all
+
+-- bytes as a signed number
+abbrev pub signed_of : List ℕ → ℤ
+signed_of bs = signed_from (unsigned_of bs) (256 ^ length bs)
+
+-- the immediate, which stands for the word of the operands' size with the same signed number (2.2.1.3)
+abbrev pub immediate_of : Fields → Operand
+immediate_of f = operand.Imm (signed_of f.immediate)
+
+-- the instruction of a row: of ADD, SUB, XOR and MOV the destination is the operand that the row names first
 abbrev pub meaning : Row → Fields → Insn
 meaning (row.AluRmReg alu) f = insn.Alu alu (size_of f.operand_size f.rex) (rm_of_modrm f) (operand.Reg (reg_of_modrm f))
 meaning (row.AluRegRm alu) f = insn.Alu alu (size_of f.operand_size f.rex) (operand.Reg (reg_of_modrm f)) (rm_of_modrm f)
 meaning row.MovRmReg f = insn.Mov (size_of f.operand_size f.rex) (rm_of_modrm f) (operand.Reg (reg_of_modrm f))
 meaning row.MovRegRm f = insn.Mov (size_of f.operand_size f.rex) (operand.Reg (reg_of_modrm f)) (rm_of_modrm f)
+meaning row.AluRmImm8 f = insn.Alu (operation_of_modrm f) (size_of f.operand_size f.rex) (rm_of_modrm f) (immediate_of f)
+meaning row.AluRmImm32 f = insn.Alu (operation_of_modrm f) (size_of f.operand_size f.rex) (rm_of_modrm f) (immediate_of f)
+meaning row.MovRmImm32 f = insn.Mov (size_of f.operand_size f.rex) (rm_of_modrm f) (immediate_of f)
+meaning row.MovRegImm64 f = insn.Mov (size_of f.operand_size f.rex) (operand.Reg (reg_of_opcode f)) (immediate_of f)
 meaning row.Ret f = insn.Ret
 
 -- the same of an opcode's row, where it has one

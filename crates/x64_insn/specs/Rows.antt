@@ -3,13 +3,16 @@ use Rattle.std.specs.Prelude.{◌≡◌, ℕ, ◌+◌, ◌*◌, ◌/◌, ◌%◌
 use Rattle.jz_words.specs.declared.size.Size.{Size}
 use Rattle.jz_words.specs.declared.size.Size.TheVariants.{S8, S16, S32, S64}
 use Rattle.jz_words.specs.Sizes.{modulus}
+use Rattle.jz_words.specs.Words.{residue}
 use Rattle.jz_words.specs.Memory.{Memory, loaded}
+use Rattle.x64_insn.specs.declared.answer.Answer.{Answer}
 use Rattle.x64_insn.specs.declared.types.Reg.{Reg}
 use Rattle.x64_insn.specs.declared.types.Reg.TheVariants as reg
 use Rattle.x64_insn.specs.declared.types.Flag.{Flag}
 use Rattle.x64_insn.specs.declared.types.Flag.TheVariants.{Of, Cf, Sf, Pf, Zf}
 use Rattle.x64_insn.specs.declared.types.FlagVal.{FlagVal}
 use Rattle.x64_insn.specs.declared.types.Operand.TheVariants as operand
+use Rattle.x64_insn.specs.declared.types.Alu.{Alu}
 use Rattle.x64_insn.specs.declared.types.Alu.TheVariants as alu
 use Rattle.x64_insn.specs.declared.types.Insn.{Insn}
 use Rattle.x64_insn.specs.declared.types.Insn.TheVariants as insn
@@ -17,7 +20,7 @@ use Rattle.x64_insn.specs.declared.types.State.{State}
 use Rattle.x64_insn.specs.declared.types.StepLeak.{StepLeak}
 use Rattle.x64_insn.specs.declared.types.FaultKind.{FaultKind}
 use Rattle.x64_insn.specs.declared.types.FaultKind.TheVariants.{NoInsn, BadAddress}
-use Rattle.x64_insn.specs.Answers.{sum_answer}
+use Rattle.x64_insn.specs.Answers.{sum_answer, difference_answer, xor_answer}
 
 -- what an instruction leaves, and what its step shows
 pub record After : Type 0 where
@@ -85,16 +88,22 @@ abbrev pub or_bad_address : Option ℕ → (ℕ → Result After FaultKind) → 
 or_bad_address None f = Err BadAddress
 or_bad_address (Some v) f = f v
 
--- MOV between registers: the flags stay
-unfoldable pub mov_row : Size → Reg → Reg → ℕ → State → Memory → Result After FaultKind
-mov_row s to from next st m =
-    Ok (record { state = record (with_reg st s to (reg_word st s from)) { rip = next }; memory = m; leak = no_event })
+-- MOV of a word to a register: the flags stay
+unfoldable pub mov_row : Size → Reg → ℕ → ℕ → State → Memory → Result After FaultKind
+mov_row s to v next st m =
+    Ok (record { state = record (with_reg st s to v) { rip = next }; memory = m; leak = no_event })
 
--- ADD between registers
-unfoldable pub add_row : Size → Reg → Reg → ℕ → State → Memory → Result After FaultKind
-add_row s to from next st m =
-    let r = sum_answer s (reg_word st s to) (reg_word st s from) false in
+-- what an operation leaves in a register and in the flags
+unfoldable pub answer_row : Size → Reg → Answer → ℕ → State → Memory → Result After FaultKind
+answer_row s to r next st m =
     Ok (record { state = record (with_reg st s to r.value) { rip = next; flags = r.flags }; memory = m; leak = no_event })
+
+-- ADD, SUB and XOR of a register of 64 bits and a word
+abbrev pub alu_row : Alu → Reg → ℕ → ℕ → State → Memory → Result After FaultKind
+alu_row alu.Add to v next st m = answer_row S64 to (sum_answer S64 (reg_word st S64 to) v false) next st m
+alu_row alu.Sub to v next st m = answer_row S64 to (difference_answer S64 (reg_word st S64 to) v false) next st m
+alu_row alu.Xor to v next st m = answer_row S64 to (xor_answer S64 (reg_word st S64 to) v) next st m
+alu_row other to v next st m = Err NoInsn
 
 -- RET: the address on the stack is taken off it, and the flags stay
 unfoldable pub ret_row : State → Memory → Result After FaultKind
@@ -105,8 +114,10 @@ ret_row st m =
 
 -- what an instruction does, next being the address of the one behind it
 abbrev pub effect_of : Insn → ℕ → State → Memory → Result After FaultKind
-effect_of (insn.Alu alu.Add S64 (operand.Reg to) (operand.Reg from)) next st m = add_row S64 to from next st m
-effect_of (insn.Mov S64 (operand.Reg to) (operand.Reg from)) next st m = mov_row S64 to from next st m
+effect_of (insn.Alu alu S64 (operand.Reg to) (operand.Reg from)) next st m = alu_row alu to (reg_word st S64 from) next st m
+effect_of (insn.Alu alu S64 (operand.Reg to) (operand.Imm i)) next st m = alu_row alu to (residue S64 i) next st m
+effect_of (insn.Mov S64 (operand.Reg to) (operand.Reg from)) next st m = mov_row S64 to (reg_word st S64 from) next st m
+effect_of (insn.Mov S64 (operand.Reg to) (operand.Imm i)) next st m = mov_row S64 to (residue S64 i) next st m
 effect_of insn.Ret next st m = ret_row st m
 effect_of other next st m = Err NoInsn
 

@@ -1,10 +1,12 @@
 //! What each instruction does.
 
 ghost use Rattle.std.specs.Prelude.{◌≡◌, ◌<◌};
+ghost use Rattle.jz_words.specs.declared.size.Size.TheVariants.{S64};
 ghost use Rattle.jz_words.specs.Sizes.{modulus};
-ghost use Rattle.x64_insn.specs.Rows.{Did, effect_of, mov_row, add_row, ret_row, merged, reg_value, reg_word, with_reg};
+ghost use Rattle.jz_words.specs.Words.{residue};
+ghost use Rattle.x64_insn.specs.Rows.{Did, effect_of, alu_row, mov_row, answer_row, ret_row, merged, reg_value, reg_word, with_reg};
 
-use crate::answer::sum_answer;
+use crate::answer::{Answer, difference_answer, sum_answer, xor_answer};
 use crate::bus::Bus;
 use crate::types::{Alu, FaultKind, Insn, Operand, Reg, State, StepLeak};
 use jz_words::{Size, Word};
@@ -43,6 +45,14 @@ fn set_reg(state: &mut State, size: Size, reg: Reg, value: u64)
     state.regs[reg as usize] = merged(size, old, value);
 }
 
+// An immediate as a word of 64 bits.
+fn immediate(value: i64) -> Word
+    ensures size { result.size ≡ S64 }
+    ensures bits { result.bits ≡ residue S64 value }
+{
+    Word::new(Size::S64, value.cast_unsigned())
+}
+
 // What a step shows: at most the address of a memory access.
 fn event(addr: Option<u64>) -> StepLeak
     ensures { result ≡ record { branch = None; addr = addr; div = None } }
@@ -58,40 +68,61 @@ fn event(addr: Option<u64>) -> StepLeak
 fn mov<B: Bus>(
     size: Size,
     to: Reg,
-    from: Reg,
+    value: u64,
     next: u64,
     state: &mut State,
     bus: &B,
 ) -> Result<StepLeak, FaultKind>
-    ensures { Did (mov_row size to from next state.old (B.bytes bus.now)) result state.old state.new (B.bytes bus.now) (B.bytes bus.now) }
+    requires { value < modulus size }
+    ensures { Did (mov_row size to value next state.old (B.bytes bus.now)) result state.old state.new (B.bytes bus.now) (B.bytes bus.now) }
 {
-    let word = reg_word(state, size, from);
-    set_reg(state, size, to, word.bits());
+    set_reg(state, size, to, value);
     state.rip = next;
     Ok(event(None))
 }
 
-#[tactic(auto, unfolding(crate::specs::Rows::add_row))]
-fn add<B: Bus>(
+// What an operation leaves.
+#[tactic(auto, unfolding(crate::specs::Rows::answer_row))]
+fn put<B: Bus>(
     size: Size,
     to: Reg,
-    from: Reg,
+    answer: Answer,
     next: u64,
     state: &mut State,
     bus: &B,
 ) -> Result<StepLeak, FaultKind>
-    ensures { Did (add_row size to from next state.old (B.bytes bus.now)) result state.old state.new (B.bytes bus.now) (B.bytes bus.now) }
+    requires { answer.value < modulus size }
+    ensures { Did (answer_row size to answer next state.old (B.bytes bus.now)) result state.old state.new (B.bytes bus.now) (B.bytes bus.now) }
 {
-    let sum = sum_answer(
-        reg_word(state, size, to),
-        reg_word(state, size, from),
-        false,
-    );
-    let flags = sum.flags;
-    set_reg(state, size, to, sum.value);
+    let flags = answer.flags;
+    set_reg(state, size, to, answer.value);
     state.rip = next;
     state.flags = flags;
     Ok(event(None))
+}
+
+// An operation on a register of 64 bits and a word.
+fn alu<B: Bus>(
+    alu: Alu,
+    to: Reg,
+    value: Word,
+    next: u64,
+    state: &mut State,
+    bus: &B,
+) -> Result<StepLeak, FaultKind>
+    requires { value.size ≡ S64 }
+    ensures { Did (alu_row alu to value.bits next state.old (B.bytes bus.now)) result state.old state.new (B.bytes bus.now) (B.bytes bus.now) }
+{
+    let old = reg_word(state, Size::S64, to);
+    let answer = match alu {
+        Alu::Add => sum_answer(old, value, false),
+        Alu::Sub => difference_answer(old, value, false),
+        Alu::Xor => xor_answer(old, value),
+        Alu::Or | Alu::Adc | Alu::Sbb | Alu::And | Alu::Cmp | Alu::Test => {
+            return Err(FaultKind::NoInsn);
+        }
+    };
+    put(Size::S64, to, answer, next, state, bus)
 }
 
 #[tactic(auto, unfolding(crate::specs::Rows::ret_row))]
@@ -118,11 +149,19 @@ pub fn effect<B: Bus>(
     ensures { Did (effect_of insn.now next state.old (B.bytes bus.old)) result state.old state.new (B.bytes bus.old) (B.bytes bus.new) }
 {
     match insn {
-        Insn::Alu(Alu::Add, Size::S64, Operand::Reg(to), Operand::Reg(from)) => {
-            add(Size::S64, *to, *from, next, state, bus)
+        Insn::Alu(operation, Size::S64, Operand::Reg(to), Operand::Reg(from)) => {
+            let word = reg_word(state, Size::S64, *from);
+            alu(*operation, *to, word, next, state, bus)
+        }
+        Insn::Alu(operation, Size::S64, Operand::Reg(to), Operand::Imm(value)) => {
+            alu(*operation, *to, immediate(*value), next, state, bus)
         }
         Insn::Mov(Size::S64, Operand::Reg(to), Operand::Reg(from)) => {
-            mov(Size::S64, *to, *from, next, state, bus)
+            let word = reg_word(state, Size::S64, *from);
+            mov(Size::S64, *to, word.bits(), next, state, bus)
+        }
+        Insn::Mov(Size::S64, Operand::Reg(to), Operand::Imm(value)) => {
+            mov(Size::S64, *to, immediate(*value).bits(), next, state, bus)
         }
         Insn::Ret => ret(state, bus),
         _ => Err(FaultKind::NoInsn),

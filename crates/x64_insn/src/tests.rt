@@ -58,6 +58,96 @@ fn add_is_the_processors(rt: HostRuntime) {
     }
 }
 
+// The state after an operation on RAX and RBX.
+fn after_alu(alloc: Global, alu: Alu, a: u64, b: u64) -> State {
+    let mut state = start(a, b, 0);
+    let mut memory = MemMap::new(alloc);
+    let insn = Insn::Alu(
+        alu,
+        Size::S64,
+        Operand::Reg(Reg::Rax),
+        Operand::Reg(Reg::Rbx),
+    );
+    let _leak = effect(&insn, 0x40_0003, &mut state, &mut memory);
+    state
+}
+
+fn flags(set: [u8; 5]) -> [FlagVal; 5] {
+    let [of, cf, sf, pf, zf] = set;
+    [flag(of), flag(cf), flag(sf), flag(pf), flag(zf)]
+}
+
+#[test]
+fn sub_is_the_processors(rt: HostRuntime) {
+    for (a, b, result, set) in [
+        (5, 3, 2, [0, 0, 0, 0, 0]),
+        (3, 5, 0xffff_ffff_ffff_fffe, [0, 1, 1, 0, 0]),
+        (0, 0, 0, [0, 0, 0, 1, 1]),
+        (1 << 63, 1, 0x7fff_ffff_ffff_ffff, [1, 0, 0, 1, 0]),
+        (0x7fff_ffff_ffff_ffff, u64::MAX, 1 << 63, [1, 1, 1, 1, 0]),
+        (0x100, 1, 0xff, [0, 0, 0, 1, 0]),
+        (0xff << 56, 7, 0xfeff_ffff_ffff_fff9, [0, 0, 1, 1, 0]),
+    ] {
+        let state = after_alu(rt.alloc(), Alu::Sub, a, b);
+        assert_eq!(rt; state.regs[0], result, "{a} and {b}");
+        assert_eq!(rt; state.regs[3], b);
+        assert_eq!(rt; state.rip, 0x40_0003);
+        assert!(rt; state.flags == flags(set), "flags of {a} and {b}");
+    }
+}
+
+#[test]
+fn xor_is_the_processors(rt: HostRuntime) {
+    for (a, b, result, set) in [
+        (5, 3, 6, [0, 0, 0, 1, 0]),
+        (0, 0, 0, [0, 0, 0, 1, 1]),
+        (1 << 63, 1, 0x8000_0000_0000_0001, [0, 0, 1, 0, 0]),
+        (0x7fff_ffff_ffff_ffff, u64::MAX, 1 << 63, [0, 0, 1, 1, 0]),
+        (u64::MAX, u64::MAX, 0, [0, 0, 0, 1, 1]),
+        (0x100, 1, 0x101, [0, 0, 0, 0, 0]),
+    ] {
+        let state = after_alu(rt.alloc(), Alu::Xor, a, b);
+        assert_eq!(rt; state.regs[0], result, "{a} and {b}");
+        assert_eq!(rt; state.regs[3], b);
+        assert_eq!(rt; state.rip, 0x40_0003);
+        assert!(rt; state.flags == flags(set), "flags of {a} and {b}");
+    }
+}
+
+#[test]
+fn immediates_are_extended_by_their_sign(rt: HostRuntime) {
+    let rax = Operand::Reg(Reg::Rax);
+    let minus_five = Operand::Imm(-5);
+    for (insn, before, after) in [
+        (
+            Insn::Alu(Alu::Sub, Size::S64, rax, minus_five),
+            0x100,
+            0x105,
+        ),
+        (
+            Insn::Alu(Alu::Add, Size::S64, rax, minus_five),
+            3,
+            0xffff_ffff_ffff_fffe,
+        ),
+        (
+            Insn::Alu(Alu::Xor, Size::S64, rax, Operand::Imm(-1)),
+            5,
+            0xffff_ffff_ffff_fffa,
+        ),
+        (
+            Insn::Mov(Size::S64, rax, Operand::Imm(-2)),
+            9,
+            0xffff_ffff_ffff_fffe,
+        ),
+    ] {
+        let mut state = start(before, 0, 0);
+        let mut memory = MemMap::new(rt.alloc());
+        let answer = effect(&insn, 0x40_0004, &mut state, &mut memory);
+        assert!(rt; answer.is_ok());
+        assert_eq!(rt; state.regs[0], after, "{insn:?}");
+    }
+}
+
 #[test]
 fn mov_keeps_the_flags(rt: HostRuntime) {
     let mut state = start(1, 2, 0);

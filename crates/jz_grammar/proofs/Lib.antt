@@ -1,0 +1,11 @@
+pub mod Basics
+pub mod Combine
+pub mod Both
+pub mod Exact
+pub mod Depend
+pub mod Several
+pub mod Samples
+pub mod Steady
+pub mod Steps
+pub mod Opening
+pub mod Plain

@@ -1,0 +1,101 @@
+-- A leak and a transformer that are walked in step. At a cut, or where a case is missing or of another kind, the walk stops.
+use Rattle.std.specs.Prelude.{◌≡◌, ℕ, Bool, if◌then◌else◌, List, [], ◌∷◌, ◌++◌}
+use Rattle.jz_leak.specs.declared.event.Event.{Event}
+use Rattle.jz_leak.specs.declared.transformer.Out.{Out}
+use Rattle.jz_leak.specs.declared.transformer.Tr.{Tr}
+use Rattle.jz_leak.specs.declared.transformer.Case.{Case}
+use Rattle.jz_leak.specs.declared.transformer.Case.TheOpen.{Case-F}
+use Rattle.jz_leak.specs.declared.transformer.Case.TheViews.{out-Case}
+use Rattle.jz_leak.specs.declared.leak.Leak.{Leak}
+use Rattle.jz_leak.specs.declared.leak.Item.{Item}
+use Rattle.jz_leak.specs.declared.leak.Turn.{Turn}
+use Rattle.jz_leak.specs.declared.leak.Item.TheOpen.{Item-F, Leak-F, Turn-F}
+use Rattle.jz_leak.specs.declared.leak.Item.TheFolds.{fold-Item, fold-Leak, fold-Turn}
+use Rattle.jz_leak.specs.declared.walk.Reach.{Reach}
+use Rattle.jz_leak.specs.declared.walk.Reach.TheVariants.{End, Stop}
+use Rattle.jz_leak.specs.Applying.{Layer, Loop, events_for}
+
+-- the events of a walk, and how far it came
+pub record Walk : Type 0 where
+  pub events : List Event
+  pub reach : Reach
+
+abbrev pub done : Walk
+done = record { events = []; reach = End }
+
+abbrev pub stopped : Walk
+stopped = record { events = []; reach = Stop }
+
+-- a list of events
+abbrev pub shown : List Event → Walk
+shown es = record { events = es; reach = End }
+
+-- what is left of a walk behind one that came so far
+abbrev pub behind : Reach → Walk → Walk
+behind End w = w
+behind Stop w = stopped
+
+infixr 5 ◌▹◌
+abbrev pub ◌▹◌ : Walk → Walk → Walk
+a ▹ b = record { events = a.events ++ (behind a.reach b).events; reach = (behind a.reach b).reach }
+
+-- one item after another, each with its case
+abbrev pub items_walk : List (Case → Walk) → List Case → Walk
+items_walk [] cs = done
+items_walk (f ∷ fs) [] = stopped
+items_walk (f ∷ fs) (c ∷ cs) = f c ▹ items_walk fs cs
+
+-- one round after another, each with its tree
+abbrev pub rounds_walk : List (Tr → Walk) → List Tr → Walk
+rounds_walk [] ts = done
+rounds_walk (f ∷ fs) [] = stopped
+rounds_walk (f ∷ fs) (t ∷ ts) = f t ▹ rounds_walk fs ts
+
+abbrev pub turns_walk : List (Loop → Walk) → Loop → Walk
+turns_walk [] loop = done
+turns_walk (f ∷ fs) loop = f loop ▹ turns_walk fs loop
+
+module _ (rsp0 : ℕ) where
+  -- one item with its case
+  abbrev pub layer_walk : Item-F (Case → Walk) (Tr → Walk) (Loop → Walk) → Layer → Walk
+  layer_walk (Item-F.Op ns) (Case-F.Op outs) = shown (events_for ns rsp0 outs)
+  layer_walk (Item-F.If ns more arm) (Case-F.If test then_outs then_tr else_outs else_tr) =
+      shown (events_for ns rsp0 test)
+      ▹ (if more then shown (events_for ns rsp0 then_outs) ▹ arm then_tr else (shown (events_for ns rsp0 else_outs) ▹ arm else_tr))
+  layer_walk (Item-F.While turns) (Case-F.While prologue test more_outs body leave_outs) =
+      turns_walk turns (record { prologue = prologue; test = test; more_outs = more_outs; body = body; leave_outs = leave_outs })
+  layer_walk (Item-F.For rounds) (Case-F.For trs) = rounds_walk rounds trs
+  layer_walk (Item-F.Call ns callee ms) (Case-F.Call arguments body results) =
+      (shown (events_for ns rsp0 arguments) ▹ callee body) ▹ shown (events_for ms rsp0 results)
+  layer_walk _ _ = stopped
+
+  abbrev pub item_step : Item-F (Case → Walk) (Tr → Walk) (Loop → Walk) → Case → Walk
+  item_step i c = layer_walk i (out-Case c)
+
+  abbrev pub leak_step : Leak-F (Case → Walk) (Tr → Walk) (Loop → Walk) → Tr → Walk
+  leak_step l t = items_walk l.items t.cases
+
+  abbrev pub turn_step : Turn-F (Case → Walk) (Tr → Walk) (Loop → Walk) → Loop → Walk
+  turn_step t loop =
+      t.prologue loop.prologue
+      ▹ (shown (events_for t.numbers rsp0 loop.test)
+      ▹ (if t.more then shown (events_for t.numbers rsp0 loop.more_outs) ▹ t.body loop.body else shown (events_for t.numbers rsp0 loop.leave_outs)))
+
+  abbrev pub item_walk : Item → Case → Walk
+  item_walk = fold-Item _ _ _ item_step leak_step turn_step
+
+  abbrev pub leak_walk : Leak → Tr → Walk
+  leak_walk = fold-Leak _ _ _ item_step leak_step turn_step
+
+  abbrev pub turn_walk : Turn → Loop → Walk
+  turn_walk = fold-Turn _ _ _ item_step leak_step turn_step
+
+-- the walk's events are put behind those of before, and it came so far
+pub record Adds (old new : List Event) (reach : Reach) (w : Walk) : Type 0 where
+  pub events : new ≡ old ++ w.events
+  pub reached : reach ≡ w.reach
+
+-- what a loop keeps: the events so far and those of the rest are those of before and all of them
+pub record Continues (old now : List Event) (rest all : Walk) : Type 0 where
+  pub events : now ++ rest.events ≡ old ++ all.events
+  pub reached : rest.reach ≡ all.reach

@@ -1,0 +1,276 @@
+//! A transformer applied to a leak.
+ghost use Rattle.std.specs.Prelude.{◌≡◌, ◌++◌, ℕ, [], pos, ◌+ℤ◌, map, IfOk, OnOk, slice_index};
+ghost use Rattle.jz_words.specs.declared.size.Size.TheVariants.{S64};
+ghost use Rattle.jz_words.specs.Words.{residue};
+ghost use Rattle.jz_leak.specs.RunLeaks as run;
+ghost use Rattle.jz_leak.specs.Applying.{number_of, event_of, events_for, apply_of, Loop, Fits};
+ghost use Rattle.jz_leak.specs.Shown.{shown_of, ShowsFitting};
+ghost use Rattle.jz_leak.specs.Walks.{Adds, leak_walk, item_walk, turn_walk, rounds_walk, turns_walk, shown, ◌▹◌};
+
+use crate::event::{Event, Events};
+use crate::leak::{Item, Leak, Turn};
+use crate::transformer::{Case, Form, Out, Tr, Transformer};
+use jz_data::Seq;
+use std::alloc::{AllocError, Global};
+
+/// How far a walk came.
+#[derive(Clone, Copy, Debug, PartialEq, Eq)]
+pub enum Reach {
+    /// To the end of its items.
+    End,
+    /// To the cut.
+    Stop,
+}
+
+// The leaked number at a place; 0 where there is none.
+fn leaked(numbers: &[u64], place: u64) -> u64
+    ensures { result ≡ slice_index numbers.now place }
+{
+    numbers.get(place as usize).copied().unwrap_or(0)
+}
+
+fn moved(address: u64, offset: i64) -> u64
+    ensures { result ≡ residue S64 (pos address +ℤ offset) }
+{
+    address.wrapping_add_signed(offset)
+}
+
+fn number(numbers: &[u64], rsp: u64, form: Form) -> u64
+    ensures { result ≡ number_of numbers.now rsp form }
+{
+    match form {
+        Form::Num(n) => n,
+        Form::Leaked(place) => leaked(numbers, place),
+        Form::Frame(offset) => moved(rsp, offset),
+        Form::Indexed(offset, factor, place) => {
+            let scaled = factor.wrapping_mul(leaked(numbers, place));
+            moved(rsp.wrapping_add(scaled), offset)
+        }
+    }
+}
+
+fn event(numbers: &[u64], rsp: u64, out: Out) -> Event
+    ensures { result ≡ event_of numbers.now rsp out }
+{
+    match out {
+        Out::Branch(taken) => Event::Branch(taken),
+        Out::Addr(address) => Event::Addr(number(numbers, rsp, address)),
+        Out::Div(high, low, divisor) => Event::Div(
+            number(numbers, rsp, high),
+            number(numbers, rsp, low),
+            number(numbers, rsp, divisor),
+        ),
+    }
+}
+
+fn emit(
+    events: &mut Vec<Event>,
+    rsp: u64,
+    numbers: &Seq<u64>,
+    outs: &Seq<Out>,
+) -> Result<(), AllocError>
+    ensures { OnOk result (events.new.items ≡ events.old.items ++ events_for numbers.now rsp outs.now) }
+{
+    for out in outs.as_slice() {
+        events.push(event(numbers.as_slice(), rsp, *out))?;
+    }
+    Ok(())
+}
+
+#[cycle(walk)]
+fn walk_leak(events: &mut Vec<Event>, rsp: u64, leak: &Leak, tr: &Tr) -> Result<Reach, AllocError>
+    ensures { IfOk result (λ reach. Adds events.old.items events.new.items reach (leak_walk rsp leak.now tr.now)) }
+{
+    for (i, item) in leak.items.as_slice().iter().enumerate() {
+        match tr.cases.as_slice().get(i) {
+            None => return Ok(Reach::Stop),
+            Some(case) => {
+                let reach = walk_item(events, rsp, item, case)?;
+                if reach != Reach::End {
+                    return Ok(reach);
+                }
+            }
+        }
+    }
+    Ok(Reach::End)
+}
+
+#[cycle(walk)]
+fn walk_item(
+    events: &mut Vec<Event>,
+    rsp: u64,
+    item: &Item,
+    case: &Case,
+) -> Result<Reach, AllocError>
+    ensures { IfOk result (λ reach. Adds events.old.items events.new.items reach (item_walk rsp item.now case.now)) }
+{
+    match item {
+        Item::Cut => Ok(Reach::Stop),
+        Item::Op(numbers) => match case {
+            Case::Op(outs) => {
+                emit(events, rsp, numbers, outs)?;
+                Ok(Reach::End)
+            }
+            _ => Ok(Reach::Stop),
+        },
+        Item::If(numbers, more, arm) => match case {
+            Case::If {
+                test,
+                then_outs,
+                then_tr,
+                else_outs,
+                else_tr,
+            } => {
+                emit(events, rsp, numbers, test)?;
+                if *more {
+                    let reach = walk_arm(events, rsp, numbers, then_outs, arm, then_tr)?;
+                    Ok(reach)
+                } else {
+                    let reach = walk_arm(events, rsp, numbers, else_outs, arm, else_tr)?;
+                    Ok(reach)
+                }
+            }
+            _ => Ok(Reach::Stop),
+        },
+        Item::While(turns) => match case {
+            Case::While {
+                prologue,
+                test,
+                more_outs,
+                body,
+                leave_outs,
+            } => walk_turns(
+                events, rsp, turns, prologue, test, more_outs, body, leave_outs,
+            ),
+            _ => Ok(Reach::Stop),
+        },
+        Item::For(rounds) => match case {
+            Case::For(trs) => walk_rounds(events, rsp, rounds, trs),
+            _ => Ok(Reach::Stop),
+        },
+        Item::Call(numbers, callee, results_numbers) => match case {
+            Case::Call {
+                arguments,
+                body,
+                results,
+            } => {
+                let reach = walk_arm(events, rsp, numbers, arguments, callee, body)?;
+                if reach == Reach::End {
+                    emit(events, rsp, results_numbers, results)?;
+                }
+                Ok(reach)
+            }
+            _ => Ok(Reach::Stop),
+        },
+    }
+}
+
+// A list of events, and the leak behind it.
+#[cycle(walk)]
+fn walk_arm(
+    events: &mut Vec<Event>,
+    rsp: u64,
+    numbers: &Seq<u64>,
+    outs: &Seq<Out>,
+    leak: &Leak,
+    tr: &Tr,
+) -> Result<Reach, AllocError>
+    ensures { IfOk result (λ reach. Adds events.old.items events.new.items reach
+        (shown (events_for numbers.now rsp outs.now) ▹ leak_walk rsp leak.now tr.now)) }
+{
+    emit(events, rsp, numbers, outs)?;
+    let reach = walk_leak(events, rsp, leak, tr)?;
+    Ok(reach)
+}
+
+#[cycle(walk)]
+fn walk_rounds(
+    events: &mut Vec<Event>,
+    rsp: u64,
+    rounds: &Seq<Leak>,
+    trs: &Seq<Tr>,
+) -> Result<Reach, AllocError>
+    ensures { IfOk result (λ reach. Adds events.old.items events.new.items reach (rounds_walk (map (leak_walk rsp) rounds.now) trs.now)) }
+{
+    for (i, round) in rounds.as_slice().iter().enumerate() {
+        match trs.as_slice().get(i) {
+            None => return Ok(Reach::Stop),
+            Some(tr) => {
+                let reach = walk_leak(events, rsp, round, tr)?;
+                if reach != Reach::End {
+                    return Ok(reach);
+                }
+            }
+        }
+    }
+    Ok(Reach::End)
+}
+
+#[cycle(walk)]
+fn walk_turns(
+    events: &mut Vec<Event>,
+    rsp: u64,
+    turns: &Seq<Turn>,
+    prologue: &Tr,
+    test: &Seq<Out>,
+    more_outs: &Seq<Out>,
+    body: &Tr,
+    leave_outs: &Seq<Out>,
+) -> Result<Reach, AllocError>
+    ensures { IfOk result (λ reach. Adds events.old.items events.new.items reach (turns_walk (map (turn_walk rsp) turns.now)
+        (record { prologue = prologue.now; test = test.now; more_outs = more_outs.now; body = body.now; leave_outs = leave_outs.now }))) }
+{
+    for turn in turns.as_slice() {
+        let reach = walk_turn(
+            events, rsp, turn, prologue, test, more_outs, body, leave_outs,
+        )?;
+        if reach != Reach::End {
+            return Ok(reach);
+        }
+    }
+    Ok(Reach::End)
+}
+
+#[cycle(walk)]
+fn walk_turn(
+    events: &mut Vec<Event>,
+    rsp: u64,
+    turn: &Turn,
+    prologue: &Tr,
+    test: &Seq<Out>,
+    more_outs: &Seq<Out>,
+    body: &Tr,
+    leave_outs: &Seq<Out>,
+) -> Result<Reach, AllocError>
+    ensures { IfOk result (λ reach. Adds events.old.items events.new.items reach (turn_walk rsp turn.now
+        (record { prologue = prologue.now; test = test.now; more_outs = more_outs.now; body = body.now; leave_outs = leave_outs.now }))) }
+{
+    let reach = walk_leak(events, rsp, &turn.prologue, prologue)?;
+    if reach != Reach::End {
+        return Ok(reach);
+    }
+    emit(events, rsp, &turn.numbers, test)?;
+    if turn.more {
+        let reach = walk_arm(events, rsp, &turn.numbers, more_outs, &turn.body, body)?;
+        Ok(reach)
+    } else {
+        emit(events, rsp, &turn.numbers, leave_outs)?;
+        Ok(Reach::End)
+    }
+}
+
+/// The events that a transformer gives of a leak that fits it, with a stack pointer at entry. The depth of the recursion is that of the
+/// leak, which is bounded by the nesting of the text.
+pub fn apply(alloc: Global, tr: &Transformer, leak: &Leak, rsp: u64) -> Result<Events, AllocError>
+    requires { ShowsFitting tr.now leak.now }
+    ensures { IfOk result (λ events. (l : run.Leak) → shown_of l ≡ leak.now → Fits tr.now l → events ≡ apply_of tr.now l rsp) }
+{
+    let mut events = Vec::new(alloc);
+    let none = Seq::new(alloc);
+    emit(&mut events, rsp, &none, &tr.before)?;
+    let reach = walk_leak(&mut events, rsp, leak, &tr.body)?;
+    if reach == Reach::End {
+        emit(&mut events, rsp, &none, &tr.after)?;
+    }
+    Ok(Seq::from_vec(events))
+}

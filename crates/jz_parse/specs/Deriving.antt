@@ -1,0 +1,33 @@
+-- The program that a list of tokens derives, and the first token at which none can be derived any more.
+use Rattle.std.specs.Prelude.{◌≡◌, ◌-◌, ℕ, List, [], ◌∷◌, ◌++◌, length}
+use Rattle.jz_io.specs.declared.span.Span.{Span}
+use Rattle.jz_lex.specs.declared.token.Token.{Token}
+use Rattle.jz_grammar.specs.Laws.{Derives}
+use Rattle.jz_tree.specs.declared.Program.{Program}
+use Rattle.jz_parse.specs.declared.fault.SyntaxKind.TheVariants.{Unexpected}
+use Rattle.jz_parse.specs.declared.fault.SyntaxFault.{SyntaxFault}
+use Rattle.jz_parse.specs.Places.{span_at}
+use Rattle.jz_parse.specs.Grammar.{program}
+
+-- the grammar derives the program from the tokens
+abbrev pub DerivesFirst : List Token → Program → Type 0
+DerivesFirst ts p = Derives program 0 ts p
+
+-- the tokens begin the list of some program
+abbrev pub BeginsFirst : List Token → Type 0
+BeginsFirst front = (more : List Token) × (p : Program) × DerivesFirst (front ++ more) p
+
+-- no program goes on with what comes after: another token, or no more of them
+abbrev pub IsRefusedFirst : List Token → List Token → Span → Type 0
+IsRefusedFirst front [] span = ((p : Program) → DerivesFirst front p → ⊥) × (span ≡ span_at front (length front - 1))
+IsRefusedFirst front (t ∷ rest) span = (BeginsFirst (front ++ t ∷ []) → ⊥) × (span ≡ t.span)
+
+-- the fault is at the first token with which the tokens begin no program, and has its number and its span
+abbrev pub IsUnexpectedFirst : List Token → SyntaxFault → Type 0
+IsUnexpectedFirst ts fault =
+    (front : List Token) × (rest : List Token) × (ts ≡ front ++ rest) × (length front ≡ fault.token)
+    × BeginsFirst front × IsRefusedFirst front rest fault.span × (fault.kind ≡ Unexpected)
+
+-- what was read of the tokens: a program, or the fault at the first that is left
+abbrev pub IsFirstLeft : List Token → List Token → SyntaxFault → Type 0
+IsFirstLeft ts rest fault = (front : List Token) × (ts ≡ front ++ rest) × (length front ≡ fault.token)

@@ -1,0 +1,8 @@
+pub mod Earliest
+pub mod NameLemmas
+pub mod ScopeLemmas
+pub mod Gathered
+pub mod UnknownLemmas
+pub mod FirstLemmas
+pub mod ResolvedLemmas
+pub mod TypedLemmas

@@ -1,0 +1,99 @@
+-- The first variable without a declaration above, as a walk finds it.
+use Rattle.std.proofs.Common.{◌≡◌, ℕ, Bool, true, false, not, ◌&&◌, List, [], ◌∷◌, ◌++◌, Option, Some, None, refl, sym, ap, ◌∙◌, map, filter}
+use Rattle.std.specs.Prelude.{if◌then◌else◌}
+use Rattle.std.specs.Option.{option_map}
+use Rattle.std.specs.List.{flat_map}
+use Rattle.std.specs.Str.{bytes_eq}
+use Rattle.indexmap.specs.IndexMap.{get}
+use Rattle.std.proofs.lemmas.List.{map-append}
+use Rattle.std.proofs.lemmas.List.Elements.{filter-append, filter_agree}
+use Rattle.jz_io.specs.declared.span.Span.{Span}
+use Rattle.jz_tree.specs.declared.Decl.{Decl}
+use Rattle.jz_tree.specs.declared.Program.{Program}
+use Rattle.jz_tree.specs.declared.Fun.{Fun}
+use Rattle.jz_tree.specs.declared.Var.{Var}
+use Rattle.jz_types.specs.declared.fault.TypeRule.TheVariants.{Unknown}
+use Rattle.jz_types.specs.declared.fault.TypeFault.{TypeFault}
+use Rattle.jz_types.specs.declared.scope.Scope.{Scope}
+use Rattle.jz_types.specs.Faults.{earlier, first_of}
+use Rattle.jz_types.specs.Joining.{first_in}
+use Rattle.jz_types.specs.Resolving.{declaration_in}
+use Rattle.jz_types.specs.Rules.{fault_at, is_known, unknown_in, repeated, repeated_in, name_of_fun, miscounted, misshapen, faults_of}
+use Rattle.jz_types.specs.Scopes.{IsScope, declared_of, stands_above, decl_of, decls_of, has_above, missing}
+use Rattle.jz_types.specs.Uses.{one, in_fun_by, uses_of}
+use Rattle.jz_types.specs.Variables.{variables_of, variable_named, is_declared_above, declaration_of}
+use Rattle.jz_types.proofs.Earliest.{first_of-append, earlier-assoc}
+use Rattle.jz_types.proofs.Gathered.{fun_fused}
+
+-- the first of several lists is that of all of them
+pub first_over : {A : Type 0} (faults : A → List TypeFault) (as' : List A) → first_in faults as' ≡ first_of (flat_map faults as')
+first_over faults [] = refl
+first_over faults (a ∷ as') = ap (earlier (first_of (faults a))) (first_over faults as') ∙ sym (first_of-append (faults a) (flat_map faults as'))
+
+above_mapped : (o : Option Var) (at : Span) → stands_above (option_map declared_of o) at ≡ is_declared_above o at
+above_mapped None at = refl
+above_mapped (Some v) at = refl
+
+decl_mapped : (o : Option Var) → decl_of (option_map declared_of o) ≡ declaration_of o
+decl_mapped None = refl
+decl_mapped (Some v) = refl
+
+known_is : (s : Scope) (vs : List Var) → IsScope s vs → (u : Var) → has_above s u ≡ is_known vs u
+known_is s vs h u = ap (λ o. stands_above o u.span) (h.first u.name) ∙ above_mapped (variable_named u.name vs) u.span
+
+pub decls_is : (s : Scope) (vs : List Var) → IsScope s vs → (n : List ℕ) → decls_of s n ≡ declaration_in vs n
+decls_is s vs h n = ap decl_of (h.first n) ∙ decl_mapped (variable_named n vs)
+
+faults_by : (Var → Bool) → List Var → List TypeFault
+faults_by test us = map (λ u. fault_at Unknown u.span) (filter (λ u. not (test u)) us)
+
+first_by : (Var → Bool) → List Var → Option TypeFault
+first_by test us = first_of (faults_by test us)
+
+by-append : (test : Var → Bool) (xs ys : List Var) → first_by test (xs ++ ys) ≡ earlier (first_by test xs) (first_by test ys)
+unfolding first_by faults_by
+by-append test xs ys =
+    let at : Var → TypeFault = λ u. fault_at Unknown u.span
+    in let bad : Var → Bool = λ u. not (test u)
+    in ap (λ us. first_of (map at us)) (filter-append bad xs ys)
+    ∙ (ap first_of (map-append at (filter bad xs) (filter bad ys)) ∙ first_of-append (map at (filter bad xs)) (map at (filter bad ys)))
+
+by-one : (test : Var → Bool) (u : Var) → first_by test (one u) ≡ missing test u
+unfolding first_by faults_by
+by-one test u =
+    elim (test u) as (λ b. first_of (map (λ u. fault_at Unknown u.span) (if not b then u ∷ [] else [])) ≡ (if b then None else Some (fault_at Unknown u.span)))
+    [ true ↦ refl | false ↦ refl ]
+
+by-nil : (test : Var → Bool) → first_by test [] ≡ None
+unfolding first_by faults_by
+by-nil test = refl
+
+same_tests : (p q : Var → Bool) → ((u : Var) → p u ≡ q u) → (us : List Var) → first_by p us ≡ first_by q us
+unfolding first_by faults_by
+same_tests p q h us = ap (λ vs. first_of (map (λ u. fault_at Unknown u.span) vs)) (filter_agree (λ u. not (p u)) (λ u. not (q u)) (λ u. ap not (h u)) us)
+
+pub unknown_is : (s : Scope) (f : Fun) → IsScope s (variables_of f) → in_fun_by None earlier (missing (has_above s)) f ≡ first_of (unknown_in f)
+unfolding first_by faults_by
+unknown_is s f h =
+    let test = has_above s
+    in sym (fun_fused {X = List Var} {Y = Option TypeFault} [] ◌++◌ one None earlier (missing test) (first_by test) (by-nil test) (by-append test) (by-one test) f)
+    ∙ same_tests test (is_known (variables_of f)) (known_is s (variables_of f) h) (uses_of f)
+
+-- the faults of the five walks are those of the program
+pub all_faults : (p : Program) (u f v m s : Option TypeFault)
+    → u ≡ first_in unknown_in p.funs → f ≡ first_of (repeated (map name_of_fun p.funs)) → v ≡ first_in repeated_in p.funs
+    → m ≡ first_in miscounted p.funs → s ≡ first_in misshapen p.funs
+    → earlier u (earlier f (earlier v (earlier m s))) ≡ first_of (faults_of p)
+all_faults p u f v m s eu ef ev em es =
+    let us = flat_map unknown_in p.funs
+    in let fs = repeated (map name_of_fun p.funs)
+    in let vs = flat_map repeated_in p.funs
+    in let ms = flat_map miscounted p.funs
+    in let ss = flat_map misshapen p.funs
+    in let e1 : u ≡ first_of us = eu ∙ first_over unknown_in p.funs
+    in let e3 : v ≡ first_of vs = ev ∙ first_over repeated_in p.funs
+    in let e4 : m ≡ first_of ms = em ∙ first_over miscounted p.funs
+    in let e5 : s ≡ first_of ss = es ∙ first_over misshapen p.funs
+    in let joined : first_of (us ++ fs ++ vs ++ ms ++ ss) ≡ earlier (first_of us) (earlier (first_of fs) (earlier (first_of vs) (earlier (first_of ms) (first_of ss)))) =
+    simp (first_of-append, earlier-assoc)
+    in simp (e1, ef, e3, e4, e5) (sym joined)

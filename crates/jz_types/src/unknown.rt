@@ -1,0 +1,119 @@
+//! Variables that are used and have no declaration above.
+#![tactic(auto, using(crate::proofs::Earliest::earlier_laws))]
+
+ghost use Rattle.std.specs.Prelude.{◌≡◌, None, IfOk};
+ghost use Rattle.jz_types.specs.Faults.{earlier, first_of};
+ghost use Rattle.jz_types.specs.Joining.{first_in};
+ghost use Rattle.jz_types.specs.Rules.{unknown_in};
+ghost use Rattle.jz_types.specs.Scopes.{missing, has_above};
+ghost use Rattle.jz_types.specs.Uses.{joined, in_expr_by, in_lval_by, in_rhs_by, in_kind_by, in_stmts_by, in_vars_by, in_fun_by};
+ghost use Rattle.std.specs.Prelude.{map};
+
+use crate::fault::{TypeFault, TypeRule, earlier_of};
+use crate::scope::Scope;
+use jz_data::Seq;
+use jz_tree::{Expr, Fun, Lval, Program, Rhs, Stmt, StmtKind, Var};
+use std::alloc::{AllocError, Global};
+
+fn in_var(scope: &Scope, var: &Var) -> Option<TypeFault>
+    ensures { result ≡ missing (has_above scope.now) var.now }
+{
+    if scope.has_above(var) {
+        None
+    } else {
+        Some(TypeFault {
+            rule: TypeRule::Unknown,
+            span: var.span,
+        })
+    }
+}
+
+fn in_vars(scope: &Scope, vars: &Seq<Var>) -> Option<TypeFault>
+    ensures { result ≡ in_vars_by None earlier (missing (has_above scope.now)) vars.now }
+{
+    let mut first = None;
+    for var in vars.as_slice() {
+        first = earlier_of(first, in_var(scope, var));
+    }
+    first
+}
+
+fn in_expr(scope: &Scope, expr: &Expr) -> Option<TypeFault>
+    ensures { result ≡ in_expr_by None earlier (missing (has_above scope.now)) expr.now }
+{
+    match expr {
+        Expr::Num(_, _) => None,
+        Expr::Var(var) => in_var(scope, var),
+    }
+}
+
+fn in_rhs(scope: &Scope, rhs: &Rhs) -> Option<TypeFault>
+    ensures { result ≡ in_rhs_by None earlier (missing (has_above scope.now)) rhs.now }
+{
+    match rhs {
+        Rhs::Value(expr) => in_expr(scope, expr),
+    }
+}
+
+fn in_lval(scope: &Scope, to: &Lval) -> Option<TypeFault>
+    ensures { result ≡ in_lval_by None earlier (missing (has_above scope.now)) to.now }
+{
+    match to {
+        Lval::Var(var) => in_var(scope, var),
+    }
+}
+
+fn in_lvals(scope: &Scope, tos: &Seq<Lval>) -> Option<TypeFault>
+    ensures { result ≡ joined None earlier (map (in_lval_by None earlier (missing (has_above scope.now))) tos.now) }
+{
+    let mut first = None;
+    for to in tos.as_slice() {
+        first = earlier_of(first, in_lval(scope, to));
+    }
+    first
+}
+
+fn in_kind(scope: &Scope, kind: &StmtKind) -> Option<TypeFault>
+    ensures { result ≡ in_kind_by None earlier (missing (has_above scope.now)) kind.now }
+{
+    match kind {
+        StmtKind::Assign { to, op: _, rhs } => earlier_of(in_lvals(scope, to), in_rhs(scope, rhs)),
+    }
+}
+
+fn in_stmts(scope: &Scope, stmts: &Seq<Stmt>) -> Option<TypeFault>
+    ensures { result ≡ in_stmts_by None earlier (missing (has_above scope.now)) stmts.now }
+{
+    let mut first = None;
+    for stmt in stmts.as_slice() {
+        first = earlier_of(first, in_kind(scope, &stmt.kind));
+    }
+    first
+}
+
+fn in_fun(scope: &Scope, fun: &Fun) -> Option<TypeFault>
+    ensures { result ≡ in_fun_by None earlier (missing (has_above scope.now)) fun.now }
+{
+    earlier_of(in_stmts(scope, &fun.body), in_vars(scope, &fun.result))
+}
+
+fn unknown_variable(alloc: Global, fun: &Fun) -> Result<Option<TypeFault>, AllocError>
+    ensures { IfOk result (λ f. f ≡ first_of (unknown_in fun.now)) }
+{
+    let scope = Scope::of(alloc, fun)?;
+    Ok(in_fun(&scope, fun))
+}
+
+/// The first variable that is used and has no declaration above.
+pub(crate) fn unknown_variables(
+    alloc: Global,
+    program: &Program,
+) -> Result<Option<TypeFault>, AllocError>
+    ensures { IfOk result (λ f. f ≡ first_in unknown_in program.now.funs) }
+{
+    let mut first = None;
+    for fun in program.funs.as_slice() {
+        first = earlier_of(first, unknown_variable(alloc, fun)?);
+    }
+    Ok(first)
+}
