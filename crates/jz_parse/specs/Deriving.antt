@@ -27,7 +27,3 @@ abbrev pub IsUnexpectedFirst : List Token → SyntaxFault → Type 0
 IsUnexpectedFirst ts fault =
     (front : List Token) × (rest : List Token) × (ts ≡ front ++ rest) × (length front ≡ fault.token)
     × BeginsFirst front × IsRefusedFirst front rest fault.span × (fault.kind ≡ Unexpected)
-
--- what was read of the tokens: a program, or the fault at the first that is left
-abbrev pub IsFirstLeft : List Token → List Token → SyntaxFault → Type 0
-IsFirstLeft ts rest fault = (front : List Token) × (ts ≡ front ++ rest) × (length front ≡ fault.token)
