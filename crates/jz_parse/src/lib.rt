@@ -6,6 +6,8 @@ mod cursor;
 mod declare;
 mod fault;
 mod first;
+#[cfg(test)]
+mod first_tests;
 mod form;
 mod function;
 mod kinds;
