@@ -1,5 +1,5 @@
 -- Programs and faults of lists of tokens.
-use Rattle.std.proofs.Common.{◌≡◌, ◌⊎◌, ⊎_elim, ℕ, zero, suc, ◌+◌, ◌-◌, ◌<◌, ◌≤◌, nat_lt, if◌then◌else◌, List, [], ◌∷◌, ◌++◌, length, slice_get, Bool, true, false, Some, Result, Ok, Err, refl, sym, ap, subst, ◌∙◌, arith, append-nil, append_assoc, length-append}
+use Rattle.std.proofs.Common.{◌≡◌, ⊎_elim, ℕ, ◌-◌, ◌<◌, nat_lt, if◌then◌else◌, List, [], ◌∷◌, ◌++◌, length, slice_get, true, false, Some, Result, Ok, Err, refl, sym, ap, subst, ◌∙◌, arith, append-nil, append_assoc, length-append}
 use Rattle.jz_io.specs.declared.span.Span.{Span}
 use Rattle.jz_lex.specs.declared.token.Token.{Token}
 use Rattle.jz_lex.specs.declared.token.TokenKind.TheVariants.{End}
@@ -83,10 +83,10 @@ unexpected_law ts at f h is = cases (final (r.program ts)) refl h
         let l : length q.0 < length (q.0 ++ t ∷ rest) = omega (arith, length-append q.0 (t ∷ rest)) in
         let b = x.begins_to r.program g.program program_shape program_law has_nil all_kinds steady_program q.0 (q.3.0, q.3.1, q.3.2, q.3.3, q.3.4, q.3.5) in
         let sp : f.span ≡ t.span =
-          subst (λ z. f.span ≡ span_at (q.0 ++ t ∷ rest) (if nat_lt z (length (q.0 ++ t ∷ rest)) then z else length (q.0 ++ t ∷ rest) - 1)) m
-            (subst (λ z. f.span ≡ span_at z (if nat_lt at (length z) then at else length z - 1)) q.1 is.2)
-          ∙ ap (span_at (q.0 ++ t ∷ rest)) (inside (length q.0) (length (q.0 ++ t ∷ rest)) l)
-          ∙ ap span_or_start (there q.0 t rest) in
+        subst (λ z. f.span ≡ span_at (q.0 ++ t ∷ rest) (if nat_lt z (length (q.0 ++ t ∷ rest)) then z else length (q.0 ++ t ∷ rest) - 1)) m
+        (subst (λ z. f.span ≡ span_at z (if nat_lt at (length z) then at else length z - 1)) q.1 is.2)
+        ∙ ap (span_at (q.0 ++ t ∷ rest)) (inside (length q.0) (length (q.0 ++ t ∷ rest)) l)
+        ∙ ap span_or_start (there q.0 t rest) in
         (q.0, t ∷ rest, q.1, sym m ∙ sym is.1, b, (λ z. q.4 (begins (q.0 ++ t ∷ []) z), sp), is.0)
 
 -- ---- one fault
@@ -112,7 +112,7 @@ one_of_two : (ts : List Token) (f h : SyntaxFault) (u : IsUnexpectedFirst ts f) 
 one_of_two ts f h u v [] a b =
     let fronts : v.0 ≡ u.0 = a ∙ append-nil u.0 in
     fault_same f h (u.6 ∙ sym v.6) (sym u.3 ∙ ap length (sym fronts) ∙ v.3)
-      (same_span v.0 v.1 f.span h.span (subst (λ z. IsRefusedFirst z v.1 f.span) (sym fronts) (subst (λ z. IsRefusedFirst u.0 z f.span) b u.5)) v.5)
+    (same_span v.0 v.1 f.span h.span (subst (λ z. IsRefusedFirst z v.1 f.span) (sym fronts) (subst (λ z. IsRefusedFirst u.0 z f.span) b u.5)) v.5)
 one_of_two ts f h u v (t ∷ m) a b =
     let w = subst (λ z. IsRefusedFirst u.0 z f.span) b u.5 in
     absurd (w.0 (more_begins (u.0 ++ t ∷ []) m (subst (λ z. BeginsFirst z) (a ∙ sym (append_assoc u.0 (t ∷ []) m)) v.4)))
@@ -139,7 +139,7 @@ no_further front more last u p h d =
     let l = d.1.1 in
     let all = (steady_each kinds steady_function 0 0 l.0 d.1.0.0 l.2).2 in
     let is : plain l.0 ++ l.3.0 ∷ [] ≡ front ++ last ∷ u ∷ more =
-      sym (plain_append l.0 l.1 ∙ ap (λ z. plain l.0 ++ plain z) l.3.1.0) ∙ sym (ap plain l.4) ∙ d.2 in
+    sym (plain_append l.0 l.1 ∙ ap (λ z. plain l.0 ++ plain z) l.3.1.0) ∙ sym (ap plain l.4) ∙ d.2 in
     true_false (is_in kinds last) ⊥ (among l.0 front more l.3.0 last u all is) (end_is_none last h)
 
 pub at_a_token_law : (front : List Token) (last : Token) (f : SyntaxFault) → last.kind ≡ End → IsUnexpectedFirst (front ++ last ∷ []) f → f.token < length (front ++ last ∷ [])

@@ -1,5 +1,5 @@
 -- The program that a list of tokens derives, and the first token at which none can be derived any more.
-use Rattle.std.specs.Prelude.{◌≡◌, ◌-◌, ℕ, List, [], ◌∷◌, ◌++◌, length}
+use Rattle.std.specs.Prelude.{◌≡◌, ◌-◌, List, [], ◌∷◌, ◌++◌, length}
 use Rattle.jz_io.specs.declared.span.Span.{Span}
 use Rattle.jz_lex.specs.declared.token.Token.{Token}
 use Rattle.jz_grammar.specs.Laws.{Derives}

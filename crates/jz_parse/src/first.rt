@@ -32,8 +32,9 @@ fn read_whole(alloc: Global, tokens: &Tokens) -> Result<Program, Failure<usize>>
                 Err(Failure::Refused(tokens.len().saturating_sub(left)))
             }
         }
-        Err(Failure::Refused(SyntaxKind::Unexpected)) =>
-            Err(Failure::Refused(tokens.len().saturating_sub(c.left()))),
+        Err(Failure::Refused(SyntaxKind::Unexpected)) => Err(Failure::Refused(
+            tokens.len().saturating_sub(c.left()),
+        )),
         Err(Failure::OutOfMemory) => Err(Failure::OutOfMemory),
     }
 }

@@ -115,9 +115,11 @@ fn answer_text(
 
 fn tokens_of(rt: &impl Abort, alloc: Global, text: &str) -> Result<Tokens, Fail> {
     assert!(rt; text.len() < 1000);
-    Ok(lex(alloc, text.as_bytes())
-        .ok()
-        .ok_or("the text has no tokens")?)
+    Ok(
+        lex(alloc, text.as_bytes())
+            .ok()
+            .ok_or("the text has no tokens")?,
+    )
 }
 
 fn outcome(rt: &impl Abort, alloc: Global, text: &str) -> Result<String, Fail> {
@@ -142,10 +144,7 @@ fn reads_programs(rt: HostRuntime) -> Result<(), Fail> {
             "export fn f(reg u64 a b, reg u64 c) -> reg u64, reg u64 { reg u64 d, e g; d = a; reg u64 h; return (d, h); }",
             "f@1:11 ( !a@1:21 !b@1:23 !c@1:34 ) -> 2 [ !d@1:67 !e@1:70 !g@1:72 !h@1:90 ] 1:75 d@1:75=a@1:79; return d@1:101 h@1:104 \n",
         ),
-        (
-            "export fn f() { return; }",
-            "f@1:11 ( ) -> 0 [ ] return \n",
-        ),
+        ("export fn f() { return; }", "f@1:11 ( ) -> 0 [ ] return \n"),
         (
             "export fn f() { return a, b; }",
             "f@1:11 ( ) -> 0 [ ] return a@1:24 b@1:27 \n",
