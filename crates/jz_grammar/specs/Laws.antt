@@ -12,10 +12,12 @@ pub record Shape : Type 0 where
   pub goes : List Kind
   pub empties : Bool
 
+-- the first token, if there is one
 abbrev pub head_of : List Token → Option Token
 head_of [] = None
 head_of (t ∷ ts) = Some t
 
+-- how a list begins that has this shape
 abbrev pub First : Shape → List Marked → Type 0
 First s [] = s.empties ≡ true
 First s (x ∷ xs) = is_in s.starts x.0 ≡ true
@@ -36,6 +38,7 @@ Next TooDeep e (y ∷ ys) (t ∷ ts) = (y.0 ≡ t) × (y.1 < e)
 abbrev pub Begun : {A : Type 0} → Lang A → ℕ → List Token → Cause → List Token → Type 0
 Begun {A} lang e pre k rest = (xs : List Marked) × (ys : List Marked) × (a : A) × lang (xs ++ ys) a × Within e xs × (plain xs ≡ pre) × Next k e ys rest
 
+-- a phrase of these tokens, all within the limit
 abbrev pub Whole : {A : Type 0} → Lang A → ℕ → List Token → A → Type 0
 Whole lang e pre a = (xs : List Marked) × lang xs a × Within e xs × (plain xs ≡ pre)
 
@@ -64,15 +67,19 @@ abbrev pub plus : ℕ → ℕ → ℕ
 plus zero e = e
 plus (suc d) e = suc (plus d e)
 
+-- the shape of one token of these kinds
 abbrev pub one_shape : List Kind → Shape
 one_shape ks = record { starts = ks; goes = []; empties = false }
 
+-- the shape of no token
 abbrev pub empty_shape : Shape
 empty_shape = record { starts = []; goes = []; empties = true }
 
+-- the shape of one after the other
 abbrev pub both : Shape → Shape → Shape
 both s r = record { starts = (if s.empties then s.starts ++ r.starts else s.starts); goes = (if r.empties then s.goes ++ r.goes else r.goes); empties = (s.empties && r.empties) }
 
+-- the shape of one or the other
 abbrev pub either : Shape → Shape → Shape
 either s r = record { starts = s.starts ++ r.starts; goes = s.goes ++ (r.goes ++ (if r.empties then s.starts else [])); empties = r.empties }
 
@@ -80,6 +87,7 @@ either s r = record { starts = s.starts ++ r.starts; goes = s.goes ++ (r.goes ++
 abbrev pub full : List Kind → List Kind → Shape
 full starts goes = record { starts = starts; goes = goes; empties = false }
 
+-- the shape of any number
 abbrev pub many_shape : List Kind → List Kind → Shape
 many_shape starts goes = record { starts = starts; goes = starts ++ goes; empties = true }
 
