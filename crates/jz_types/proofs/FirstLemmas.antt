@@ -1,14 +1,12 @@
 -- The first fault of a list.
-use Rattle.std.proofs.Common.{◌≡◌, ℕ, ◌<◌, ◌≤◌, ◌⊎◌, inl, inr, Bool, true, false, List, [], ◌∷◌, ◌++◌, Option, Some, None, refl, sym, ap, ◌∙◌, subst, arith}
+use Rattle.std.proofs.Common.{◌≡◌, ℕ, ◌<◌, ◌≤◌, ◌⊎◌, inl, inr, Bool, true, false, List, [], ◌∷◌, Option, Some, None, refl, sym, ap, ◌∙◌, subst, arith}
 use Rattle.std.specs.Prelude.{if◌then◌else◌, Contains, MatchOption}
 use Rattle.std.proofs.lemmas.Bool.Decides.{nat_tests}
 use Rattle.std.proofs.lemmas.List.Elements.{Contains-append_left, Contains-append_right, Contains-append_cases, Contains-push, Contains-push_cases}
 use Rattle.jz_io.specs.declared.span.Span.{Span}
 use Rattle.jz_types.specs.declared.fault.TypeFault.{TypeFault}
 use Rattle.jz_types.specs.Faults.{number_of, Before, IsToldBefore, IsFirst, precedes, earlier, first_of}
-use Rattle.jz_types.specs.Rules.{IsFirstTypeFault, IsTyped, faults_of}
-use Rattle.jz_tree.specs.declared.Program.{Program}
-use Rattle.jz_types.proofs.Earliest.{precedes_self, precedes_not, precedes_trans}
+use Rattle.jz_types.proofs.Earliest.{precedes_self, precedes_not}
 use Rattle.jz_types.proofs.NameLemmas.{same_fault}
 
 pub contains_none : {X : Type 0} (y : X) → Contains [] y → ⊥

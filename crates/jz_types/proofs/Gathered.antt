@@ -1,5 +1,5 @@
 -- What is gathered by one operation, seen through a function, is gathered by another.
-use Rattle.std.proofs.Common.{◌≡◌, List, [], ◌∷◌, refl, ap, ◌∙◌, map}
+use Rattle.std.proofs.Common.{◌≡◌, List, [], ◌∷◌, ap, ◌∙◌, map}
 use Rattle.jz_tree.specs.declared.Fun.{Fun}
 use Rattle.jz_tree.specs.declared.Var.{Var}
 use Rattle.jz_tree.specs.declared.Expr.{Expr}

@@ -1,6 +1,6 @@
 -- One name more.
-use Rattle.std.proofs.Common.{◌≡◌, ℕ, zero, suc, Bool, true, false, ◌||◌, not, List, [], ◌∷◌, ◌++◌, Option, Some, None, refl, sym, ap, ◌∙◌, subst, map, filter, arith}
-use Rattle.std.specs.Prelude.{if◌then◌else◌, nat_lt, nat_eq}
+use Rattle.std.proofs.Common.{◌≡◌, ℕ, Bool, true, false, ◌||◌, not, List, [], ◌∷◌, ◌++◌, Option, Some, None, refl, sym, ap, ◌∙◌, map, filter, arith}
+use Rattle.std.specs.Prelude.{if◌then◌else◌, nat_eq}
 use Rattle.std.specs.List.{list_any}
 use Rattle.std.specs.Str.{bytes_eq}
 use Rattle.std.proofs.lemmas.Bool.Decides.{nat_tests}
@@ -12,7 +12,7 @@ use Rattle.jz_types.specs.declared.fault.TypeRule.TheVariants.{Unknown, Duplicat
 use Rattle.jz_types.specs.declared.fault.TypeFault.{TypeFault}
 use Rattle.jz_types.specs.Faults.{number_of, precedes, earlier, first_of}
 use Rattle.jz_types.specs.Rules.{Name, fault_at, second_places, repeated}
-use Rattle.jz_types.proofs.Earliest.{earlier-assoc, earlier-none, first_of-append, precedes_self}
+use Rattle.jz_types.proofs.Earliest.{earlier-assoc, earlier-none, first_of-append}
 use Rattle.jz_types.proofs.ScopeLemmas.{bytes_eq-sym, bytes_eq-true}
 
 -- the rule of a number

@@ -1,5 +1,5 @@
 -- Declarations change no fault, and come once.
-use Rattle.std.proofs.Common.{◌≡◌, ℕ, Bool, true, false, not, List, [], ◌∷◌, ◌++◌, Option, refl, sym, ap, ◌∙◌, map, filter, length}
+use Rattle.std.proofs.Common.{◌≡◌, ℕ, true, false, not, List, [], ◌∷◌, ◌++◌, Option, refl, sym, ap, ◌∙◌, map, filter}
 use Rattle.std.specs.Prelude.{if◌then◌else◌}
 use Rattle.std.specs.List.{flat_map}
 use Rattle.std.proofs.lemmas.List.{length-map, map-append}
@@ -19,8 +19,8 @@ use Rattle.jz_tree.specs.declared.StmtKind.TheVariants.{Assign}
 use Rattle.jz_types.specs.declared.fault.TypeRule.TheVariants.{Unknown}
 use Rattle.jz_types.specs.declared.fault.TypeFault.{TypeFault}
 use Rattle.jz_types.specs.Resolving.{resolved_var, resolved_expr, resolved_lval, resolved_rhs, resolved_kind, resolved_stmt, declaration_in, resolved_fun, resolved}
-use Rattle.jz_types.specs.Rules.{fault_at, is_known, unknown_in, repeated_in, repeated, name_of_fun, miscounted, misshapen, faults_of}
-use Rattle.jz_types.specs.Uses.{joined, in_expr_by, in_lval_by, in_rhs_by, in_kind_by, in_stmts_by, in_vars_by, in_fun_by, one, uses_of}
+use Rattle.jz_types.specs.Rules.{fault_at, is_known, unknown_in, repeated_in, name_of_fun, miscounted, misshapen, faults_of}
+use Rattle.jz_types.specs.Uses.{joined, in_expr_by, in_lval_by, in_rhs_by, in_kind_by, in_stmts_by, in_vars_by, one, uses_of}
 use Rattle.jz_types.specs.Variables.{variables_of}
 use Rattle.jz_types.proofs.Gathered.{fun_fused}
 

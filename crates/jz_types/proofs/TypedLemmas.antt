@@ -1,9 +1,8 @@
 -- What follows where there is no fault.
 use Rattle.std.proofs.Common.{◌≡◌, ◌≢◌, ℕ, ◌≤◌, Bool, true, false, not, ◌&&◌, List, [], ◌∷◌, ◌++◌, Option, Some, None, refl, sym, ap, ◌∙◌, subst, map, filter, length, arith, cond}
-use Rattle.std.specs.Prelude.{if◌then◌else◌, All, AllPairs, Contains, IsSome, is_some, find, nat_eq, nat_le, nat_lt}
+use Rattle.std.specs.Prelude.{if◌then◌else◌, All, AllPairs, Contains, IsSome, is_some, nat_eq, nat_le}
 use Rattle.std.specs.List.{flat_map}
 use Rattle.std.specs.Str.{bytes_eq}
-use Rattle.std.specs.Bool.{Decides}
 use Rattle.std.proofs.lemmas.Bool.Decides.{nat_tests}
 use Rattle.std.proofs.lemmas.Slice.Eq.{bytes_eq-Decides}
 use Rattle.std.proofs.lemmas.List.Elements.{All-nil, All-cons, All-head, All-tail, All-map, All-weaker}
@@ -12,17 +11,16 @@ use Rattle.jz_io.specs.declared.span.Span.{Span}
 use Rattle.jz_tree.specs.declared.Program.{Program}
 use Rattle.jz_tree.specs.declared.Fun.{Fun}
 use Rattle.jz_tree.specs.declared.Var.{Var}
-use Rattle.jz_tree.specs.declared.Decl.{Decl}
 use Rattle.jz_types.specs.declared.fault.TypeRule.TheVariants.{Unknown, Duplicate, Mismatch, ExportShape}
 use Rattle.jz_types.specs.declared.fault.TypeFault.{TypeFault}
 use Rattle.jz_types.specs.Faults.{Before, is_before}
 use Rattle.jz_types.specs.Resolving.{resolved_var, declaration_in, resolved_fun, resolved}
-use Rattle.jz_types.specs.Rules.{Name, name_of, name_of_fun, fault_at, is_known, unknown_in, second_places, repeated, repeated_in, miscounted, misshapen, faults_of, IsTyped}
+use Rattle.jz_types.specs.Rules.{Name, name_of, name_of_fun, fault_at, is_known, unknown_in, second_places, repeated, repeated_in, miscounted, misshapen, IsTyped}
 use Rattle.jz_types.specs.TypedPrograms.{HaveDifferentNames, HasDeclaration, HaveDeclarations, HasCounts, HaveCounts}
 use Rattle.jz_types.specs.Uses.{uses_of}
 use Rattle.jz_types.specs.Variables.{variables_of, variable_named, is_declared_above, declaration_of}
 use Rattle.jz_types.proofs.FirstLemmas.{contains_head, contains_tail}
-use Rattle.jz_types.proofs.ResolvedLemmas.{uses_resolved, faults_same, program_twice}
+use Rattle.jz_types.proofs.ResolvedLemmas.{uses_resolved}
 use Rattle.jz_types.proofs.ScopeLemmas.{bytes_eq-true}
 
 left_nil : {A : Type 0} (xs ys : List A) → xs ++ ys ≡ [] → xs ≡ []

@@ -1,14 +1,11 @@
 -- The first variable without a declaration above, as a walk finds it.
-use Rattle.std.proofs.Common.{◌≡◌, ℕ, Bool, true, false, not, ◌&&◌, List, [], ◌∷◌, ◌++◌, Option, Some, None, refl, sym, ap, ◌∙◌, map, filter}
+use Rattle.std.proofs.Common.{◌≡◌, ℕ, Bool, true, false, not, List, [], ◌∷◌, ◌++◌, Option, Some, None, refl, sym, ap, ◌∙◌, map, filter}
 use Rattle.std.specs.Prelude.{if◌then◌else◌}
 use Rattle.std.specs.Option.{option_map}
 use Rattle.std.specs.List.{flat_map}
-use Rattle.std.specs.Str.{bytes_eq}
-use Rattle.indexmap.specs.IndexMap.{get}
 use Rattle.std.proofs.lemmas.List.{map-append}
 use Rattle.std.proofs.lemmas.List.Elements.{filter-append, filter_agree}
 use Rattle.jz_io.specs.declared.span.Span.{Span}
-use Rattle.jz_tree.specs.declared.Decl.{Decl}
 use Rattle.jz_tree.specs.declared.Program.{Program}
 use Rattle.jz_tree.specs.declared.Fun.{Fun}
 use Rattle.jz_tree.specs.declared.Var.{Var}

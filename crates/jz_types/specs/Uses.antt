@@ -1,5 +1,5 @@
 -- The variables that a function uses, gathered by an operation that joins what two parts give.
-use Rattle.std.specs.Prelude.{List, [], ◌∷◌, ◌++◌, Option, map}
+use Rattle.std.specs.Prelude.{List, [], ◌∷◌, ◌++◌, map}
 use Rattle.jz_tree.specs.declared.Fun.{Fun}
 use Rattle.jz_tree.specs.declared.Var.{Var}
 use Rattle.jz_tree.specs.declared.Expr.{Expr}

@@ -126,10 +126,14 @@ fn declarations_are_filled_in(rt: HostRuntime) -> Result<(), Fail> {
     let mut funs = Vec::new(alloc);
     funs.push(f)?;
     let typed = checked(alloc, funs).ok().ok_or("the program is not typed")?;
-    let f = &typed.program().funs.as_slice()[0];
+    let funs = typed.program().funs.as_slice();
+    assert_eq!(rt; funs.len(), 1);
+    let f = &funs[0];
+    assert_eq!(rt; f.result.len(), 1);
     assert_eq!(rt; f.result.as_slice()[0].decl, Some(REG_U64));
     assert_eq!(rt; f.body.len(), 2);
     let StmtKind::Assign { to, op: _, rhs } = &f.body.as_slice()[0].kind;
+    assert_eq!(rt; to.len(), 1);
     let Lval::Var(target) = &to.as_slice()[0];
     assert_eq!(rt; target.decl, Some(REG_U64));
     let Rhs::Value(value) = rhs;

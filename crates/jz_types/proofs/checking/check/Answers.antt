@@ -1,4 +1,4 @@
-use Rattle.std.proofs.Common.{rules, ◌≡◌, None, Some, [], sym, ◌∙◌}
+use Rattle.std.proofs.Common.{rules, None, Some}
 use Rattle.jz_types.specs.Rules.{faults_of}
 use Rattle.jz_types.proofs.FirstLemmas.{none_or_first}
 use Rattle.jz_types.proofs.ResolvedLemmas.{typed_resolved, resolved_stays}

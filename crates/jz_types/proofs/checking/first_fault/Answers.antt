@@ -1,4 +1,4 @@
-use Rattle.std.proofs.Common.{◌≡◌, ◌∙◌, ap}
+use Rattle.std.proofs.Common.{◌∙◌, ap}
 use Rattle.jz_types.specs.Faults.{earlier}
 use Rattle.jz_types.proofs.UnknownLemmas.{all_faults}
 use Rattle.jz_types.proofs.checking.first_fault.Goals as goal

@@ -1,5 +1,4 @@
-use Rattle.std.proofs.Common.{◌≡◌, false, sym, ◌∙◌}
-use Rattle.jz_types.specs.Faults.{precedes}
+use Rattle.std.proofs.Common.{sym, ◌∙◌}
 use Rattle.jz_types.proofs.Earliest.{earlier_kept}
 use Rattle.jz_types.proofs.fault.earlier_of.Goals as goal
 

@@ -1,6 +1,4 @@
-use Rattle.std.proofs.Common.{rules, ◌≡◌, true, false, sym, ◌∙◌}
-use Rattle.std.specs.List.{list_any}
-use Rattle.std.specs.Str.{bytes_eq}
+use Rattle.std.proofs.Common.{rules, ◌∙◌}
 use Rattle.jz_types.proofs.NameLemmas.{known_more, first_more, first_same}
 use Rattle.jz_types.proofs.names.Names.add.Goals as goal
 

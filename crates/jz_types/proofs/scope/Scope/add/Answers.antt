@@ -1,5 +1,4 @@
-use Rattle.std.proofs.Common.{rules, ◌≡◌, true, None}
-use Rattle.std.specs.Prelude.{is_some}
+use Rattle.std.proofs.Common.{rules}
 use Rattle.std.specs.Str.{bytes_eq}
 use Rattle.indexmap.specs.IndexMap.{get}
 use Rattle.jz_types.proofs.ScopeLemmas.{scope_more, scope_kept}

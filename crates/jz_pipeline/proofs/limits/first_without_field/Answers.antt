@@ -1,0 +1,24 @@
+use Rattle.std.proofs.Common.{List, ◌∙◌, subst}
+use Rattle.std.specs.Prelude.{All}
+use Rattle.std.specs.List.{filter_map}
+use Rattle.std.proofs.lemmas.List.{take_all}
+use Rattle.jz_tree.specs.declared.Stmt.{Stmt}
+use Rattle.jz_pass.specs.Limits.{Constant, HasField, immediate_of, IsFirstWithout}
+use Rattle.jz_pipeline.proofs.LimitWalks.{first_here, next_here}
+use Rattle.jz_pipeline.proofs.limits.first_without_field.Goals as goal
+
+pub returns-in-Some : goal.returns-in-Some
+returns-in-Some c =
+    let told = c.in-Some.ensures
+    in subst (λ (ss : List Stmt). IsFirstWithout (filter_map (λ s. immediate_of s.kind) ss) c.in-Some.span) c.as_slice-stmt-items.ensures
+    (first_here c.as_slice-stmt-items.result.now c.loop-stmt.stmt-index c.stmt-item.result told.0 c.in-Some.span c.loop-stmt-test.true c.stmt-item.is told.1 c.loop-stmt.invariant told.2)
+
+pub loop-stmt-preserved : goal.loop-stmt-preserved
+loop-stmt-preserved c =
+    next_here c.as_slice-stmt-items.result.now c.loop-stmt.stmt-index c.stmt-item.result c.loop-stmt-test.true c.stmt-item.is c.loop-stmt.invariant c.in_default.ensures
+
+pub returns : goal.returns
+returns c =
+    subst (λ (ss : List Stmt). All (λ (k : Constant). HasField k.0) (filter_map (λ s. immediate_of s.kind) ss))
+    (take_all c.loop-stmt.stmt-index c.as_slice-stmt-items.result.now c.loop-stmt-test.false ∙ c.as_slice-stmt-items.ensures)
+    c.loop-stmt.invariant
