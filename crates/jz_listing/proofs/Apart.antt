@@ -1,5 +1,5 @@
 -- Texts that are told apart: what two of them, with something behind each, have in common.
-use Rattle.std.proofs.Common.{◌≡◌, ℕ, suc, ◌<◌, ◌^◌, Bool, true, false, List, [], ◌∷◌, ◌++◌, refl, sym, ap, ◌∙◌, append_assoc, arith, length}
+use Rattle.std.proofs.Common.{◌≡◌, ℕ, suc, ◌<◌, ◌^◌, Bool, true, false, List, [], ◌∷◌, ◌++◌, refl, sym, ap, ◌∙◌, append_assoc, arith, length, subst}
 use Rattle.std.specs.Prelude.{map, decimal, nat_lt, ◌&&◌, ℤ, pos, negsuc}
 use Rattle.std.specs.Fmt.{signed_decimal}
 use Rattle.std.specs.List.{concat}
@@ -105,21 +105,28 @@ spaced_apart f t fits Ends end sp en ne one begins (p ∷ (q ∷ ps)) (b ∷ [])
     absurd (ne (sym (ap first r.1)))
 spaced_apart f t fits Ends end sp en ne one begins (p ∷ (q ∷ ps)) (b ∷ (d ∷ bs)) x y h k e =
     let r = one p b (32 ∷ (spaced (map t (map f (q ∷ ps))) ++ (end ∷ x))) (32 ∷ (spaced (map t (d ∷ bs)) ++ (end ∷ y))) (both _ _ h).0 (both _ _ k).0 sp sp
-        (sym (append_assoc (t (f p)) (32 ∷ spaced (map t (map f (q ∷ ps)))) (end ∷ x)) ∙ e ∙ append_assoc (t b) (32 ∷ spaced (map t (d ∷ bs))) (end ∷ y)) in
+    (sym (append_assoc (t (f p)) (32 ∷ spaced (map t (map f (q ∷ ps)))) (end ∷ x)) ∙ e ∙ append_assoc (t b) (32 ∷ spaced (map t (d ∷ bs))) (end ∷ y)) in
     let more = spaced_apart f t fits Ends end sp en ne one begins (q ∷ ps) (d ∷ bs) x y (both _ _ h).1 (both _ _ k).1 (ap rest r.1) in
     (ap (λ a. a ∷ map f (q ∷ ps)) r.0 ∙ ap (λ zs. b ∷ zs) more.0, more.1)
 
 -- lines that begin with a byte, up to something that begins otherwise
-pub lines_apart : {A : Type 0} (Good : A → Type 0) (t : A → List ℕ) (tag : ℕ) → ((a : A) (x : List ℕ) → first (t a ++ x) ≡ tag)
-    → ((a b : A) (x y : List ℕ) → Good a → Good b → t a ++ x ≡ t b ++ y → (a ≡ b) × (x ≡ y))
-    → (us vs : List A) (x y : List ℕ) → Each Good us → Each Good vs → (first x ≡ tag → ⊥) → (first y ≡ tag → ⊥)
+lines_first : {A : Type 0} (t : A → List ℕ) (tag : ℕ) (Ends : ℕ → Type 0) → ((a : A) (x : List ℕ) → first (t a ++ x) ≡ tag) → Ends tag
+    → (us : List A) (x : List ℕ) → Ends (first x) → Ends (first (concat (map t us) ++ x))
+lines_first t tag Ends begins h [] x k = k
+lines_first t tag Ends begins h (u ∷ us) x k =
+    subst Ends (sym (ap first (append_assoc (t u) (concat (map t us)) x) ∙ begins u (concat (map t us) ++ x))) h
+
+pub lines_apart : {A : Type 0} (Good : A → Type 0) (t : A → List ℕ) (tag : ℕ) (Ends : ℕ → Type 0) → ((a : A) (x : List ℕ) → first (t a ++ x) ≡ tag) → Ends tag
+    → ((a b : A) (x y : List ℕ) → Good a → Good b → Ends (first x) → Ends (first y) → t a ++ x ≡ t b ++ y → (a ≡ b) × (x ≡ y))
+    → (us vs : List A) (x y : List ℕ) → Each Good us → Each Good vs → Ends (first x) → Ends (first y) → (first x ≡ tag → ⊥) → (first y ≡ tag → ⊥)
     → concat (map t us) ++ x ≡ concat (map t vs) ++ y → (us ≡ vs) × (x ≡ y)
-lines_apart Good t tag begins one [] [] x y h k p q e = (refl, e)
-lines_apart Good t tag begins one [] (v ∷ vs) x y h k p q e =
+lines_apart Good t tag Ends begins m one [] [] x y h k f g p q e = (refl, e)
+lines_apart Good t tag Ends begins m one [] (v ∷ vs) x y h k f g p q e =
     absurd (p (ap first (e ∙ append_assoc (t v) (concat (map t vs)) y) ∙ begins v (concat (map t vs) ++ y)))
-lines_apart Good t tag begins one (u ∷ us) [] x y h k p q e =
+lines_apart Good t tag Ends begins m one (u ∷ us) [] x y h k f g p q e =
     absurd (q (sym (ap first (sym (append_assoc (t u) (concat (map t us)) x) ∙ e)) ∙ begins u (concat (map t us) ++ x)))
-lines_apart Good t tag begins one (u ∷ us) (v ∷ vs) x y h k p q e =
-    let r = one u v (concat (map t us) ++ x) (concat (map t vs) ++ y) h.0 k.0 (sym (append_assoc (t u) (concat (map t us)) x) ∙ e ∙ append_assoc (t v) (concat (map t vs)) y) in
-    let more = lines_apart Good t tag begins one us vs x y h.1 k.1 p q r.1 in
+lines_apart Good t tag Ends begins m one (u ∷ us) (v ∷ vs) x y h k f g p q e =
+    let r = one u v (concat (map t us) ++ x) (concat (map t vs) ++ y) h.0 k.0 (lines_first t tag Ends begins m us x f) (lines_first t tag Ends begins m vs y g)
+    (sym (append_assoc (t u) (concat (map t us)) x) ∙ e ∙ append_assoc (t v) (concat (map t vs)) y) in
+    let more = lines_apart Good t tag Ends begins m one us vs x y h.1 k.1 f g p q r.1 in
     (ap (λ a. a ∷ us) r.0 ∙ ap (λ zs. v ∷ zs) more.0, more.1)

@@ -1,4 +1,5 @@
 pub mod Apart
 pub mod Cases
+pub mod LinesApart
 pub mod Spaces
 pub mod TransformersApart

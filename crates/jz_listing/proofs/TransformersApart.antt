@@ -131,7 +131,7 @@ unfolding outs_text
 outs_apart os us x y h k e =
     let inner = sym (bracketed (spaced (map out_text os)) x) ∙ e ∙ bracketed (spaced (map out_text us)) y in
     let r = spaced_apart (λ o. o) out_text out_fits Stops 93 refl refl (λ z. omega (arith, z)) (λ o u v w. out_apart o u v w) (λ o v f. no_bracket o v) os us x y
-        (ap (λ l. all_true (map out_fits l)) (map_same os) ∙ h) k (ap (λ l. spaced (map out_text l) ++ (93 ∷ x)) (map_same os) ∙ ap rest inner) in
+    (ap (λ l. all_true (map out_fits l)) (map_same os) ∙ h) k (ap (λ l. spaced (map out_text l) ++ (93 ∷ x)) (map_same os) ∙ ap rest inner) in
     (sym (map_same os) ∙ r.0, r.1)
 
 -- ---- cases and trees
@@ -289,7 +289,7 @@ case_law v d x y h k e =
     let d_is : roll-Case (out-Case d) ≡ d = roll-out-Case d in
     let w = out-Case d in
     let r = layer_apart v w x y (sym (fits_is (layer_of v)) ∙ h) (sym (fits_is w) ∙ ap case_fits d_is ∙ k)
-        (ap (λ t. t ++ x) (sym (text_is (layer_of v))) ∙ e ∙ ap (λ c. case_text c ++ y) (sym d_is) ∙ ap (λ t. t ++ y) (text_is w)) in
+    (ap (λ t. t ++ x) (sym (text_is (layer_of v))) ∙ e ∙ ap (λ c. case_text c ++ y) (sym d_is) ∙ ap (λ t. t ++ y) (text_is w)) in
     (ap roll-Case r.0 ∙ d_is, r.1)
 
 tr_text_is : (t : Tr) → tr_text t ≡ (123 ∷ []) ++ spaced (map case_text t.cases) ++ (125 ∷ [])
@@ -313,8 +313,24 @@ cases_law cs s x y h k e =
     let t : Tr = record { cases = map (λ (p : (c : Case) × CaseLaw c). p.0) cs } in
     let m = sym (braced (spaced (map case_text (map (λ p. p.0) cs))) x) ∙ ap (λ u. u ++ x) (sym (tr_text_is t)) ∙ e ∙ ap (λ u. u ++ y) (tr_text_is s) ∙ braced (spaced (map case_text s.cases)) y in
     let r = spaced_apart (λ (p : (c : Case) × CaseLaw c). p.0) case_text case_fits (λ c. Unit {0}) 125 tt tt (λ z. omega (arith, z)) (λ p b v w f g i j q. p.1 b v w f g q)
-        (λ c v f z. no_brace c v z) cs s.cases x y (sym (tr_fits_is t) ∙ h) (sym (tr_fits_is s) ∙ k) (ap rest m) in
+    (λ c v f z. no_brace c v z) cs s.cases x y (sym (tr_fits_is t) ∙ h) (sym (tr_fits_is s) ∙ k) (ap rest m) in
     (ap (λ (zs : List Case). record { cases = zs }) r.0, r.1)
 
 pub tr_apart : (t : Tr) → TrLaw t
 tr_apart = ind-Tr CaseLaw TrLaw (λ x v is. subst (λ z. CaseLaw (roll-Case z)) is (case_law v)) (λ x v is. subst (λ z. TrLaw (roll-Tr z)) is (cases_law v.cases))
+
+-- ---- transformers
+joined : (a s b k c x : List ℕ) → (a ++ s ++ b ++ k ++ c) ++ x ≡ a ++ (s ++ (b ++ (k ++ (c ++ x))))
+joined a s b k c x = simp append_assoc refl
+
+pub transformer_apart : (t u : Transformer) (x y : List ℕ) → transformer_fits t ≡ true → transformer_fits u ≡ true → transformer_text t ++ x ≡ transformer_text u ++ y → (t ≡ u) × (x ≡ y)
+transformer_apart t u x y h k e =
+    let h1 = both _ _ h in
+    let k1 = both _ _ k in
+    let h2 = both _ _ h1.1 in
+    let k2 = both _ _ k1.1 in
+    let s = sym (joined (outs_text t.before) (32 ∷ []) (tr_text t.body) (32 ∷ []) (outs_text t.after) x) ∙ e ∙ joined (outs_text u.before) (32 ∷ []) (tr_text u.body) (32 ∷ []) (outs_text u.after) y in
+    let r1 = outs_apart t.before u.before _ _ h1.0 k1.0 s in
+    let r2 = tr_apart t.body u.body _ _ h2.0 k2.0 (ap rest r1.1) in
+    let r3 = outs_apart t.after u.after x y h2.1 k2.1 (ap rest r2.1) in
+    (λ i. record { before = r1.0 i; body = r2.0 i; after = r3.0 i }, r3.1)

@@ -2,8 +2,10 @@
 #![tactic(auto)]
 
 mod compiled;
+mod laws;
 mod lines;
 mod transformers;
 
 pub use compiled::{Arg, Compiled, Pre};
+pub use laws::listings_tell_functions_apart;
 pub use lines::{listing, reg_name, write_number, write_span};
