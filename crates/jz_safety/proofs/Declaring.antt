@@ -1,5 +1,5 @@
 -- Declarations of what is used, as safety needs them.
-use Rattle.std.proofs.Common.{List, [], ◌∷◌, ◌++◌}
+use Rattle.std.proofs.Common.{ℕ, List, [], ◌∷◌, ◌++◌, Option, map}
 use Rattle.std.specs.Prelude.{All, Contains}
 use Rattle.std.proofs.lemmas.List.Elements.{All-nil, All-cons, All-head, All-tail, All-contains}
 use Rattle.jz_tree.specs.declared.Program.{Program}
@@ -10,7 +10,9 @@ use Rattle.jz_tree.specs.declared.Stmt.{Stmt}
 use Rattle.jz_tree.specs.declared.StmtKind.{StmtKind}
 use Rattle.jz_tree.specs.declared.StmtKind.TheVariants as kind
 use Rattle.jz_types.specs.Uses.{one, uses_of, in_rhs_by, in_kind_by, in_stmts_by, in_vars_by}
+use Rattle.jz_tree.specs.declared.Decl.{Decl}
 use Rattle.jz_types.specs.Variables.{variables_of}
+use Rattle.jz_types.specs.Resolving.{resolved_kind, resolved_stmt, declaration_in, resolved_fun}
 use Rattle.jz_types.specs.TypedPrograms.{HasDeclaration, HaveDeclarations}
 use Rattle.jz_safety.specs.Resolved.{HasOneLeftSide, HaveOneLeftSide, AssignsOne, AreResolved, IsResolved}
 
@@ -41,3 +43,17 @@ pub typed_resolved : (p : Program) (f : Fun) → HaveDeclarations p → Contains
 typed_resolved p f d c h =
     let a : All (HasDeclaration (variables_of f)) (uses_of f) = All-contains (λ (g : Fun). All (HasDeclaration (variables_of g)) (uses_of g)) p.funs f d c in
     body_resolved (variables_of f) f.body h (all_left (HasDeclaration (variables_of f)) (in_stmts_by [] ◌++◌ one f.body) (in_vars_by [] ◌++◌ one f.result) a)
+
+-- ---- typing keeps the left sides
+
+kind_keeps_one : (ds : List ℕ → Option Decl) (k : StmtKind) → HasOneLeftSide k → HasOneLeftSide (resolved_kind ds k)
+kind_keeps_one ds (kind.Assign [] o r) h = absurd h
+kind_keeps_one ds (kind.Assign (d ∷ []) o r) h = tt
+kind_keeps_one ds (kind.Assign (d ∷ e ∷ more) o r) h = absurd h
+
+body_keeps_one : (ds : List ℕ → Option Decl) (ss : List Stmt) → HaveOneLeftSide ss → HaveOneLeftSide (map (resolved_stmt ds) ss)
+body_keeps_one ds [] h = tt
+body_keeps_one ds (s ∷ ss) h = (kind_keeps_one ds s.kind h.0, body_keeps_one ds ss h.1)
+
+pub keeps_one : (f : Fun) → HaveOneLeftSide f.body → HaveOneLeftSide (resolved_fun f).body
+keeps_one f h = body_keeps_one (declaration_in (variables_of f)) f.body h
