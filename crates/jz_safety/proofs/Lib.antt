@@ -1,3 +1,4 @@
 pub mod Alarming
 pub mod Checking
+pub mod Declaring
 pub mod Telling

@@ -27,3 +27,16 @@ AreResolved (s ∷ ss) = AssignsOne s.kind × AreResolved ss
 
 abbrev pub IsResolved : Fun → Type 0
 IsResolved f = AreResolved f.body
+
+-- each statement has one left side
+abbrev pub IsOne : List Lval → Type 0
+IsOne [] = ⊥
+IsOne (d ∷ []) = Unit {0}
+IsOne (d ∷ e ∷ ds) = ⊥
+
+abbrev pub HasOneLeftSide : StmtKind → Type 0
+HasOneLeftSide (kind.Assign to o r) = IsOne to
+
+abbrev pub HaveOneLeftSide : List Stmt → Type 0
+HaveOneLeftSide [] = Unit {0}
+HaveOneLeftSide (s ∷ ss) = HasOneLeftSide s.kind × HaveOneLeftSide ss

@@ -1,6 +1,6 @@
 //! What alarms say of source runs.
 
-ghost use Rattle.std.specs.Prelude.{◌≡◌, ℕ, List, ◌⊎◌};
+ghost use Rattle.std.specs.Prelude.{◌≡◌, ℕ, List, ◌⊎◌, Contains};
 ghost use Rattle.jz_words.specs.Memory.{Memory};
 ghost use Rattle.jz_tree.specs.declared.Program.{Program};
 ghost use Rattle.jz_tree.specs.declared.Fun.{Fun};
@@ -10,7 +10,9 @@ ghost use Rattle.jz_meaning.specs.SourceRuns.{FunOutcome, IsRun};
 ghost use Rattle.jz_meaning.specs.StraightRuns.{plain_leak};
 ghost use Rattle.jz_safety.specs.declared.alarm.Alarm.{Alarm};
 ghost use Rattle.jz_safety.specs.Alarms.{HasNoAlarm, IsFirstAlarm};
-ghost use Rattle.jz_safety.specs.Resolved.{IsResolved};
+ghost use Rattle.jz_types.specs.Resolving.{resolved_fun};
+ghost use Rattle.jz_types.specs.TypedPrograms.{HaveDeclarations};
+ghost use Rattle.jz_safety.specs.Resolved.{HaveOneLeftSide, IsResolved};
 
 /// A function has one first alarm, or no alarm, and never both.
 pub fn alarm_or_none()
@@ -28,4 +30,11 @@ pub fn safe_runs_end()
 /// Where a function has an alarm each run is stuck, at the first alarm and for its reason.
 pub fn alarms_are_stuck()
     ensures { (p : Program) (f : Fun) (words : List ℕ) (memory : Memory) (n : ℕ) (o : FunOutcome) (a : Alarm) → IsResolved f → IsFirstAlarm f a → IsRun p f words memory n o → o ≡ Stuck (record { span = a.span; reason = a.kind }) }
+{}
+
+/// The functions of a typed program are resolved, where each of their statements has one left side; and this they keep where
+/// typing gives the variables their declarations.
+pub fn typed_functions_are_resolved()
+    ensures declared { (p : Program) (f : Fun) → HaveDeclarations p → Contains p.funs f → HaveOneLeftSide f.body → IsResolved f }
+    ensures resolved { (f : Fun) → HaveOneLeftSide f.body → HaveOneLeftSide (resolved_fun f).body }
 {}

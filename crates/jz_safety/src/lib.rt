@@ -11,4 +11,4 @@ mod tests;
 pub use alarm::Alarm;
 pub use certificate::Safe;
 pub use check::safe;
-pub use laws::{alarm_or_none, alarms_are_stuck, safe_runs_end};
+pub use laws::{alarm_or_none, alarms_are_stuck, safe_runs_end, typed_functions_are_resolved};
