@@ -1,0 +1,4 @@
+pub mod StepRuns
+mod RegionExamples
+pub mod PlainCode
+pub mod PlainEnds

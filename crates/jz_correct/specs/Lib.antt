@@ -1,0 +1,6 @@
+pub mod Registers
+pub mod Frames
+pub mod Starts
+pub mod Ends
+pub mod Agreement
+pub mod Correctness
