@@ -26,6 +26,7 @@ use Rattle.x64_decode.specs.Decoding.{decoded_of}
 use Rattle.x64_decode.proofs.DecodeExact.{read_again}
 use Rattle.x64_machine.specs.declared.step.Step.TheVariants.{Running}
 use Rattle.x64_machine.specs.Steps.{Config, Ran, Moved, at_entry, is_ret, step_of, steps_of}
+use Rattle.jz_correct.specs.Assembled.{assembled}
 use Rattle.jz_correct.proofs.StepRuns.{at_place, made, step_made, run_on, no_step}
 
 -- ---- what an operation leaves in the registers
@@ -113,15 +114,6 @@ some_byte f = fourth (option_to_list f.operand_size) (option_to_list f.rex) (opt
 
 pub spelled_some : (bs : List ℕ) (i : Insn) → Spells bs i → 0 < length bs
 spelled_some bs i h = subst (λ xs. 0 < length xs) h.2 (some_byte h.0)
-
--- the bytes of instructions, one after another
-abbrev pub bytes_of : List Insn → List ℕ
-bytes_of [] = []
-bytes_of (i ∷ is) = chosen_bytes i ++ bytes_of is
-
--- the code has these bytes behind so many others
-pub record Behind (code front rest : List ℕ) : Type 0 where
-  pub splits : code ≡ front ++ rest
 
 pub decodes_there : (code front rest : List ℕ) (i : Insn) → is_spelled i ≡ true → code ≡ front ++ (chosen_bytes i ++ rest) → decoded_of (drop (length front) code) ≡ decoded.Insn i (length (chosen_bytes i))
 decodes_there code front rest i h e =
@@ -217,14 +209,14 @@ next_place code front rest i base rip e fits more at =
     omega (arith, fits, more, at, ap length e, length-append front (chosen_bytes i ++ rest), length-append (chosen_bytes i) rest, length-append front (chosen_bytes i))
 
 -- operations one after another, with more bytes behind them
-pub walk : (code : List ℕ) (base : ℕ) (is : List Insn) (front rest : List ℕ) (c : Config) → AllPlain is → code ≡ front ++ (bytes_of is ++ rest) → base + length code ≤ 2 ^ 64 → 0 < length rest
-    → c.state.rip ≡ base + length front → c.ended ≡ false → Walked code base c is (length front + length (bytes_of is))
+pub walk : (code : List ℕ) (base : ℕ) (is : List Insn) (front rest : List ℕ) (c : Config) → AllPlain is → code ≡ front ++ (assembled is ++ rest) → base + length code ≤ 2 ^ 64 → 0 < length rest
+    → c.state.rip ≡ base + length front → c.ended ≡ false → Walked code base c is (length front + length (assembled is))
 walk code base [] front rest c h e fits more at open' = stands code base c (length front + 0) (omega (arith, at)) open'
 walk code base (i ∷ is) front rest c h e fits more at open' =
-    let split : code ≡ front ++ (chosen_bytes i ++ (bytes_of is ++ rest)) = e ∙ ap (λ xs. front ++ xs) (append_assoc (chosen_bytes i) (bytes_of is) rest) in
-    let s = plain_step code base c front (bytes_of is ++ rest) i h.0 split at open' in
-    let behind : code ≡ (front ++ chosen_bytes i) ++ (bytes_of is ++ rest) = split ∙ sym (append_assoc front (chosen_bytes i) (bytes_of is ++ rest)) in
-    let next = next_place code front (bytes_of is ++ rest) i base c.state.rip split fits (omega (arith, more, length-append (bytes_of is) rest)) at in
+    let split : code ≡ front ++ (chosen_bytes i ++ (assembled is ++ rest)) = e ∙ ap (λ xs. front ++ xs) (append_assoc (chosen_bytes i) (assembled is) rest) in
+    let s = plain_step code base c front (assembled is ++ rest) i h.0 split at open' in
+    let behind : code ≡ (front ++ chosen_bytes i) ++ (assembled is ++ rest) = split ∙ sym (append_assoc front (chosen_bytes i) (assembled is ++ rest)) in
+    let next = next_place code front (assembled is ++ rest) i base c.state.rip split fits (omega (arith, more, length-append (assembled is) rest)) at in
     let w = walk code base is (front ++ chosen_bytes i) rest (led c (regs_of i c.state.regs) ((c.state.rip + length (chosen_bytes i)) % 2 ^ 64) s.flags) h.1 behind fits more next refl in
-    let place : length (front ++ chosen_bytes i) + length (bytes_of is) ≡ length front + length (chosen_bytes i ++ bytes_of is) = omega (arith, length-append front (chosen_bytes i), length-append (chosen_bytes i) (bytes_of is)) in
-    step_on code base c i is (length front + length (bytes_of (i ∷ is))) s open' (subst (λ n. Walked code base (led c (regs_of i c.state.regs) ((c.state.rip + length (chosen_bytes i)) % 2 ^ 64) s.flags) is n) place w)
+    let place : length (front ++ chosen_bytes i) + length (assembled is) ≡ length front + length (chosen_bytes i ++ assembled is) = omega (arith, length-append front (chosen_bytes i), length-append (chosen_bytes i) (assembled is)) in
+    step_on code base c i is (length front + length (assembled (i ∷ is))) s open' (subst (λ n. Walked code base (led c (regs_of i c.state.regs) ((c.state.rip + length (chosen_bytes i)) % 2 ^ 64) s.flags) is n) place w)

@@ -20,13 +20,18 @@ use Rattle.x64_machine.specs.Steps.{Config, Moved, Ran, at_entry, same_number, s
 use Rattle.x64_machine.proofs.MachineRunning.{end_stays, steps_both}
 use Rattle.x64_machine.specs.MachineRuns.{followed}
 use Rattle.jz_correct.specs.Ends.{EndsAfter}
+use Rattle.jz_correct.specs.Assembled.{assembled}
 use Rattle.jz_correct.specs.Agreement.{NeverFaults}
 use Rattle.jz_correct.proofs.StepRuns.{at_place, made, step_made, run_on, no_step}
-use Rattle.jz_correct.proofs.PlainCode.{spelled_some, regs_after, AllPlain, bytes_of, decodes_there, place_below, Walked, walk}
+use Rattle.jz_correct.proofs.PlainCode.{spelled_some, regs_after, AllPlain, decodes_there, place_below, Walked, walk}
 
 -- the code of operations and a return
 abbrev pub code_of : List Insn → List ℕ
-code_of is = bytes_of is ++ chosen_bytes insn.Ret
+code_of is = assembled is ++ chosen_bytes insn.Ret
+
+pub code_is : (is : List Insn) → assembled (is ++ insn.Ret ∷ []) ≡ code_of is
+code_is [] = append-nil (chosen_bytes insn.Ret)
+code_is (i ∷ is) = ap (λ bs. chosen_bytes i ++ bs) (code_is is) ∙ sym (append_assoc (chosen_bytes i) (assembled is) (chosen_bytes insn.Ret))
 
 -- a configuration at the code's first byte, the return address where the stack pointer points
 pub record AtFirst (code : List ℕ) (base : ℕ) (c : Config) (target : ℕ) : Type 0 where
@@ -108,13 +113,13 @@ pub plain_ends : (base : ℕ) (c : Config) (is : List Insn) (target : ℕ) → A
 plain_ends base c is target plain at keeps =
     let code = code_of is in
     let some : 0 < length (chosen_bytes insn.Ret) = spelled_some (chosen_bytes insn.Ret) insn.Ret (chosen_spells insn.Ret refl) in
-    let w : Walked code base c is (0 + length (bytes_of is)) = walk code base is [] (chosen_bytes insn.Ret) c plain refl at.fits some (omega (arith, at.start)) at.running in
+    let w : Walked code base c is (0 + length (assembled is)) = walk code base is [] (chosen_bytes insn.Ret) c plain refl at.fits some (omega (arith, at.start)) at.running in
     let k = length is in
     let there = w.there in
     let rsp : reg_value there.state reg.Rsp ≡ reg_value c.state reg.Rsp = ap (λ rs. slice_index rs 4) w.regs ∙ keeps in
-    let place : there.state.rip ≡ base + length (bytes_of is) = omega (arith, w.rip) in
+    let place : there.state.rip ≡ base + length (assembled is) = omega (arith, w.rip) in
     let slot : loaded there.memory (reg_value there.state reg.Rsp) 8 ≡ Some target = ap (λ m. loaded m (reg_value there.state reg.Rsp) 8) w.memory ∙ ap (λ a. loaded c.memory a 8) rsp ∙ at.slot in
-    let ret = ret_step code base there (bytes_of is) target refl place w.going (rsp ∙ sym at.stack ∙ sym w.entry_rsp) slot (w.entry_return ∙ at.return) in
+    let ret = ret_step code base there (assembled is) target refl place w.going (rsp ∙ sym at.stack ∙ sym w.entry_rsp) slot (w.entry_return ∙ at.return) in
     let last = made there true (ret_after there target) in
     let one : steps_of code base there 1 ≡ record { after = last.after; events = event.Addr (reg_value there.state reg.Rsp) ∷ [] } =
     run_on code base there last 0 ret ∙ ap (λ (r : Ran). record { after = r.after; events = event.Addr (reg_value there.state reg.Rsp) ∷ r.events }) (no_step code base last.after) in

@@ -1,0 +1,2 @@
+//! Functions, compiled.
+#![tactic(auto)]
