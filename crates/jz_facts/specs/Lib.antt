@@ -1,3 +1,4 @@
 pub mod Facts
 pub mod Holding
+pub mod Names
 pub mod Conditions

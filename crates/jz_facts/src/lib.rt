@@ -4,6 +4,7 @@
 mod condition;
 mod fact;
 mod holding;
+mod laws;
 mod set;
 #[cfg(test)]
 mod tests;
@@ -11,4 +12,5 @@ mod tests;
 pub use condition::{Condition, conditions, result_conditions};
 pub use fact::{Fact, entails};
 pub use holding::{at_entry, holds_after};
+pub use laws::set_names;
 pub use set::{FactSet, gives};

@@ -26,7 +26,7 @@ plain_split (x ∷ xs) (a ∷ as') bs h =
     let u : x.0 ≡ a = cc in
     (x ∷ i.0, i.1, ap (λ z. x ∷ z) i.2, ap₂ (λ y ys. y ∷ ys) u i.3)
 
-compare : (as' bs cs ds : List Token) → as' ++ bs ≡ cs ++ ds → ((m : List Token) × (cs ≡ as' ++ m) × (bs ≡ m ++ ds)) ⊎ ((m : List Token) × (as' ≡ cs ++ m) × (ds ≡ m ++ bs))
+pub compare : (as' bs cs ds : List Token) → as' ++ bs ≡ cs ++ ds → ((m : List Token) × (cs ≡ as' ++ m) × (bs ≡ m ++ ds)) ⊎ ((m : List Token) × (as' ≡ cs ++ m) × (ds ≡ m ++ bs))
 compare [] bs cs ds h = inl (cs, refl, h)
 compare (a ∷ as') bs [] ds h = inr (a ∷ as', refl, sym h)
 compare (a ∷ as') bs (c ∷ cs) ds h =

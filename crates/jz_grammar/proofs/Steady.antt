@@ -1,5 +1,5 @@
 -- Grammars in which nothing is nested: one mark stands at each token, and it may be any.
-use Rattle.std.proofs.Common.{◌≡◌, ◌⊎◌, inl, inr, ⊎_elim, ℕ, zero, suc, ◌≤◌, List, [], ◌∷◌, ◌++◌, map, Bool, true, Option, Some, None, refl, sym, ap, ap₂, ◌∙◌, subst, arith}
+use Rattle.std.proofs.Common.{◌≡◌, inl, inr, ⊎_elim, ℕ, List, [], ◌∷◌, ◌++◌, map, true, Some, None, refl, sym, ap, ap₂, ◌∙◌, subst, arith}
 use Rattle.jz_lex.specs.declared.token.Token.{Token}
 use Rattle.jz_grammar.specs.Kinds.{Kind, is_in}
 use Rattle.jz_grammar.specs.Grammar.{Marked, Lang, plain, Within, token, empty, ◌▸◌, ◌⊕◌, ◌⇒◌, only, each, maybe}
@@ -55,10 +55,11 @@ both_marked d xs ys zs s y z = s ∙ ap₂ (λ u v. u ++ v) y z ∙ sym (with_ma
 pub steady_then : {A B : Type 0} (over : List Kind) {l : ℕ → Lang A} {m : ℕ → Lang B} → IsSteady over l → IsSteady over m → IsSteady over (λ d. l d ▸ m d)
 steady_then over L M d e xs p h =
     let x = L d e h.0 p.0 h.2 in
-    let y = M d e h.1 p.1 h.3 in
-    (both_marked d xs h.0 h.1 h.4 x.0 y.0,
-     (with_mark e h.0, with_mark e h.1, x.1, y.1, ap (with_mark e) h.4 ∙ with_mark_append e h.0 h.1),
-     subst (AreOf over) (sym h.4) (are_of_append over h.0 h.1 x.2 y.2))
+    let y = M d e h.1 p.1 h.3 in (
+      both_marked d xs h.0 h.1 h.4 x.0 y.0,
+      (with_mark e h.0, with_mark e h.1, x.1, y.1, ap (with_mark e) h.4 ∙ with_mark_append e h.0 h.1),
+      subst (AreOf over) (sym h.4) (are_of_append over h.0 h.1 x.2 y.2),
+    )
 
 pub steady_or : {A : Type 0} (over : List Kind) {l m : ℕ → Lang A} → IsSteady over l → IsSteady over m → IsSteady over (λ d. l d ⊕ m d)
 steady_or over L M d e xs a h = ⊎_elim (λ i. let x = L d e xs a i in (x.0, inl x.1, x.2)) (λ i. let x = M d e xs a i in (x.0, inr x.1, x.2)) h
@@ -73,10 +74,11 @@ pub steady_each : {A : Type 0} (over : List Kind) {l : ℕ → Lang A} → IsSte
 steady_each over {l = l} L d e xs [] h = (h ∙ sym (ap (with_mark d) h), ap (with_mark e) h, subst (AreOf over) (sym h) tt)
 steady_each over {l = l} L d e xs (a ∷ as') h =
     let x = L d e h.0 a h.2 in
-    let y = steady_each over {l = l} L d e h.1 as' h.3 in
-    (both_marked d xs h.0 h.1 h.4 x.0 y.0,
-     (with_mark e h.0, with_mark e h.1, x.1, y.1, ap (with_mark e) h.4 ∙ with_mark_append e h.0 h.1),
-     subst (AreOf over) (sym h.4) (are_of_append over h.0 h.1 x.2 y.2))
+    let y = steady_each over {l = l} L d e h.1 as' h.3 in (
+      both_marked d xs h.0 h.1 h.4 x.0 y.0,
+      (with_mark e h.0, with_mark e h.1, x.1, y.1, ap (with_mark e) h.4 ∙ with_mark_append e h.0 h.1),
+      subst (AreOf over) (sym h.4) (are_of_append over h.0 h.1 x.2 y.2),
+    )
 
 pub steady_maybe : {A : Type 0} (over : List Kind) {l : ℕ → Lang A} → IsSteady over l → IsSteady over (λ d. maybe (l d))
 steady_maybe over L = steady_or over (steady_map over (λ a. Some a) L) (steady_empty over None)

@@ -1,11 +1,11 @@
 -- Lists that are read item by item: what is left of one, behind what is out already.
-use Rattle.std.proofs.Common.{◌≡◌, ℕ, zero, suc, ◌+◌, ◌-◌, ◌<◌, ◌≤◌, List, [], ◌∷◌, ◌++◌, length, Bool, true, false, Ok, Err, refl, sym, ap, ◌∙◌, arith, append-nil, append_assoc}
+use Rattle.std.proofs.Common.{◌≡◌, ℕ, zero, suc, ◌-◌, List, [], ◌∷◌, ◌++◌, true, false, Ok, Err, refl, sym, ap, ◌∙◌, arith, append-nil, append_assoc}
 use Rattle.jz_lex.specs.declared.token.Token.{Token}
 use Rattle.jz_grammar.specs.Causes.{Cause}
 use Rattle.jz_grammar.specs.Kinds.{Kind, disjoint, has}
 use Rattle.jz_grammar.specs.Reading.{Answer, Reader, ◌>>=◌, through, follow, many, many_at, more_of, few_of, listed, listed_few}
 use Rattle.jz_grammar.specs.Grammar.{Lang, ◌▸◌, ◌⇒◌, each, at_most}
-use Rattle.jz_grammar.specs.Laws.{IsReader, HasPhrase, full, both, many_shape}
+use Rattle.jz_grammar.specs.Laws.{IsReader, full, both, many_shape}
 use Rattle.jz_grammar.proofs.Combine.{many_next, many_done, many_reads, at_most_reads, some_at_most, follow_reads, map_reads, reads_as}
 
 module _ {A : Type 0} {f : Reader A} {l : ℕ → Lang A} (ks go : List Kind) (F : IsReader f l (full ks go)) where
@@ -41,8 +41,8 @@ module _ {A : Type 0} (f : Reader A) (ks : List Kind) where
   few_next zero out a ts us n h e = absurd (n refl)
   few_next (suc n) out a ts us m h e = rw h
       (ap (λ z. through {A = List A} (λ ps. out ++ ps) (through {A = A × List A} (λ w. w.0 ∷ w.1) (z >>= λ x. many_at n ks f x.1 >>= λ y. Ok ((x.0, y.0), y.1)))) e
-       ∙ last (many_at n ks f us)
-       ∙ ap (λ z. through (λ ps. (out ++ a ∷ []) ++ ps) (many_at z ks f us)) less)
+      ∙ last (many_at n ks f us)
+      ∙ ap (λ z. through (λ ps. (out ++ a ∷ []) ++ ps) (many_at z ks f us)) less)
     where
       less : n ≡ suc n - 1
       less = omega arith

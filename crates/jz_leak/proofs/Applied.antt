@@ -1,8 +1,7 @@
 -- The walk over what is shown of a leak that fits a transformer is what the transformer makes of the leak.
-use Rattle.std.proofs.Common.{◌≡◌, ℕ, Bool, true, false, if◌then◌else◌, List, [], ◌∷◌, ◌++◌, refl, sym, ap, ◌∙◌, append_assoc, append-nil, subst}
+use Rattle.std.proofs.Common.{◌≡◌, ℕ, Bool, true, false, if◌then◌else◌, List, [], ◌∷◌, ◌++◌, refl, sym, ap, ◌∙◌, append_assoc, append-nil}
 use Rattle.std.specs.Prelude.{map}
 use Rattle.jz_leak.specs.declared.event.Event.{Event}
-use Rattle.jz_leak.specs.declared.transformer.Out.{Out}
 use Rattle.jz_leak.specs.declared.transformer.Tr.{Tr}
 use Rattle.jz_leak.specs.declared.transformer.Transformer.{Transformer}
 use Rattle.jz_leak.specs.declared.transformer.Case.{Case}
@@ -14,13 +13,12 @@ use Rattle.jz_leak.specs.declared.leak.Item.{Item}
 use Rattle.jz_leak.specs.declared.leak.Item.TheVariants as item
 use Rattle.jz_leak.specs.declared.leak.Item.TheOpen.{Item-F}
 use Rattle.jz_leak.specs.declared.leak.Item.TheFolds.{fold-roll-Item}
-use Rattle.jz_leak.specs.declared.leak.Turn.{Turn}
 use Rattle.jz_leak.specs.declared.walk.Reach.{Reach}
 use Rattle.jz_leak.specs.declared.walk.Reach.TheVariants.{End, Stop}
 use Rattle.jz_leak.specs.RunLeaks.{Leak, over, ran, chose, chose_cut, looped, looped_cut, each, each_cut, called, called_cut, Turns, left, turn, prologue_cut, wanted, body_cut, Rounds, no_round, round, round_cut}
-use Rattle.jz_leak.specs.Applying.{Layer, Loop, events_for, is_cut, is_cut_in_turns, is_cut_in_rounds, op_events, if_events, while_events, for_events, call_events, begun_call_events, body_events, turns_events, rounds_events, last_events, apply_of, OutsFit, OpFits, IfFits, WhileFits, ForFits, CallFits, BegunCallFits, CasesFit, TurnsFit, RoundsFit, Fits}
+use Rattle.jz_leak.specs.Applying.{Layer, Loop, events_for, is_cut, is_cut_in_turns, is_cut_in_rounds, op_events, if_events, while_events, for_events, call_events, begun_call_events, body_events, turns_events, rounds_events, apply_of, OpFits, IfFits, WhileFits, ForFits, CallFits, BegunCallFits, CasesFit, TurnsFit, RoundsFit, Fits}
 use Rattle.jz_leak.specs.Shown.{items_of, turns_of, rounds_of, shown_of}
-use Rattle.jz_leak.specs.Walks.{Walk, done, stopped, shown, behind, ◌▹◌, Adds, layer_walk, item_step, leak_step, turn_step, item_walk, leak_walk, turn_walk, items_walk, rounds_walk, turns_walk}
+use Rattle.jz_leak.specs.Walks.{Walk, done, stopped, shown, ◌▹◌, Adds, layer_walk, item_step, leak_step, turn_step, item_walk, leak_walk, turn_walk, items_walk, rounds_walk, turns_walk}
 use Rattle.jz_leak.proofs.Walking.{op_walk, if_walk, while_walk, for_walk, call_walk, leak_walk_is, turn_walk_is}
 
 -- how far a walk comes

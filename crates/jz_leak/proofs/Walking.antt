@@ -1,5 +1,5 @@
 -- Walks one after another, and the walk of each kind of item.
-use Rattle.std.proofs.Common.{◌≡◌, ℕ, Bool, true, false, if◌then◌else◌, List, [], ◌∷◌, ◌++◌, sym, ap, ◌∙◌, append_assoc, subst}
+use Rattle.std.proofs.Common.{◌≡◌, ℕ, Bool, List, ◌++◌, sym, ap, ◌∙◌, append_assoc, subst}
 use Rattle.std.specs.Prelude.{map}
 use Rattle.jz_leak.specs.declared.event.Event.{Event}
 use Rattle.jz_leak.specs.declared.transformer.Out.{Out}
@@ -12,12 +12,12 @@ use Rattle.jz_leak.specs.declared.leak.Leak.{Leak}
 use Rattle.jz_leak.specs.declared.leak.Item.{Item}
 use Rattle.jz_leak.specs.declared.leak.Turn.{Turn}
 use Rattle.jz_leak.specs.declared.leak.Item.TheVariants as item
-use Rattle.jz_leak.specs.declared.leak.Item.TheOpen.{Item-F, Leak-F, Turn-F}
+use Rattle.jz_leak.specs.declared.leak.Item.TheOpen.{Item-F}
 use Rattle.jz_leak.specs.declared.leak.Item.TheFolds.{fold-roll-Item, fold-roll-Leak, fold-roll-Turn}
 use Rattle.jz_leak.specs.declared.walk.Reach.{Reach}
-use Rattle.jz_leak.specs.declared.walk.Reach.TheVariants.{End, Stop}
-use Rattle.jz_leak.specs.Applying.{Layer, Loop, events_for}
-use Rattle.jz_leak.specs.Walks.{Walk, behind, ◌▹◌, shown, Adds, layer_walk, item_step, leak_step, turn_step, item_walk, leak_walk, turn_walk, items_walk, rounds_walk, turns_walk}
+use Rattle.jz_leak.specs.declared.walk.Reach.TheVariants.{End}
+use Rattle.jz_leak.specs.Applying.{Loop, events_for}
+use Rattle.jz_leak.specs.Walks.{Walk, behind, ◌▹◌, shown, Adds, layer_walk, item_step, leak_step, turn_step, item_walk, leak_walk, turn_walk, items_walk}
 
 -- ---- one after another
 pub followed : (old mid new : List Event) (reach : Reach) (a b : Walk) → Adds old mid End a → Adds mid new reach b → Adds old new reach (a ▹ b)

@@ -1,7 +1,6 @@
 -- A leak and a transformer that are walked in step. At a cut, or where a case is missing or of another kind, the walk stops.
-use Rattle.std.specs.Prelude.{◌≡◌, ℕ, Bool, if◌then◌else◌, List, [], ◌∷◌, ◌++◌}
+use Rattle.std.specs.Prelude.{◌≡◌, ℕ, if◌then◌else◌, List, [], ◌∷◌, ◌++◌}
 use Rattle.jz_leak.specs.declared.event.Event.{Event}
-use Rattle.jz_leak.specs.declared.transformer.Out.{Out}
 use Rattle.jz_leak.specs.declared.transformer.Tr.{Tr}
 use Rattle.jz_leak.specs.declared.transformer.Case.{Case}
 use Rattle.jz_leak.specs.declared.transformer.Case.TheOpen.{Case-F}

@@ -259,10 +259,13 @@ fn walk_turn(
     }
 }
 
-/// The events that a transformer gives of a leak that fits it, with a stack pointer at entry. The depth of the recursion is that of the
-/// leak, which is bounded by the nesting of the text.
-pub fn apply(alloc: Global, tr: &Transformer, leak: &Leak, rsp: u64) -> Result<Events, AllocError>
-    requires { ShowsFitting tr.now leak.now }
+// Where the leak doesn't fit, the events up to there.
+pub(crate) fn walk_transformer(
+    alloc: Global,
+    tr: &Transformer,
+    leak: &Leak,
+    rsp: u64,
+) -> Result<Events, AllocError>
     ensures { IfOk result (λ events. (l : run.Leak) → shown_of l ≡ leak.now → Fits tr.now l → events ≡ apply_of tr.now l rsp) }
 {
     let mut events = Vec::new(alloc);
@@ -273,4 +276,13 @@ pub fn apply(alloc: Global, tr: &Transformer, leak: &Leak, rsp: u64) -> Result<E
         emit(&mut events, rsp, &none, &tr.after)?;
     }
     Ok(Seq::from_vec(events))
+}
+
+/// The events that a transformer gives of a leak that fits it, with a stack pointer at entry. The depth of the recursion is that of the
+/// leak, which is bounded by the nesting of the text.
+pub fn apply(alloc: Global, tr: &Transformer, leak: &Leak, rsp: u64) -> Result<Events, AllocError>
+    requires { ShowsFitting tr.now leak.now }
+    ensures { IfOk result (λ events. (l : run.Leak) → shown_of l ≡ leak.now → Fits tr.now l → events ≡ apply_of tr.now l rsp) }
+{
+    walk_transformer(alloc, tr, leak, rsp)
 }

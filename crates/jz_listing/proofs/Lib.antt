@@ -1,2 +1,4 @@
-pub mod Spaces
+pub mod Apart
 pub mod Cases
+pub mod Spaces
+pub mod TransformersApart

@@ -1,2 +1,3 @@
 pub mod Transformers
 pub mod Listing
+pub mod Listable

@@ -1,31 +1,27 @@
 -- The grammar with the names counted that are left, and that its readers read it.
-use Rattle.std.proofs.Common.{◌≡◌, ◌⊎◌, inl, inr, ⊎_elim, ℕ, zero, suc, ◌-◌, ◌<◌, ◌≤◌, List, [], ◌∷◌, ◌++◌, length, Bool, true, false, Option, None, Ok, Err, refl, sym, ap, subst, ◌∙◌, arith, codes}
+use Rattle.std.proofs.Common.{◌≡◌, inl, inr, ℕ, zero, suc, ◌-◌, List, [], ◌∷◌, ◌++◌, length, true, None, Ok, Err, refl, sym, subst, arith, codes}
 use Rattle.jz_io.specs.declared.span.Span.{Span}
 use Rattle.jz_lex.specs.declared.token.Token.{Token}
-use Rattle.jz_lex.specs.declared.token.TokenKind.TheVariants as kind
-use Rattle.jz_grammar.specs.Kinds.{Kind, word, sign, identifier, number, end, span_of, is_in, disjoint, has}
-use Rattle.jz_grammar.specs.Reading.{Answer, Reader, ◌>>=◌, through, follow, depend, pick, many, many_by, leaf, optional, listed_few, listed}
-use Rattle.jz_grammar.specs.Grammar.{Marked, Lang, token, empty, ◌▸◌, ◌⊕◌, ◌⇒◌, only, never, each, each_by, at_most, then_by, maybe}
-use Rattle.jz_grammar.specs.Laws.{Shape, IsReader, HasPhrase, one_shape, full, many_shape, both, either, empty_shape}
+use Rattle.jz_grammar.specs.Kinds.{Kind, word, sign, identifier, number, span_of, is_in, has}
+use Rattle.jz_grammar.specs.Reading.{Answer, Reader, ◌>>=◌, through, follow, depend, pick, many_by}
+use Rattle.jz_grammar.specs.Grammar.{Lang, token, ◌▸◌, ◌⊕◌, ◌⇒◌, never, each, each_by, at_most, then_by, maybe}
+use Rattle.jz_grammar.specs.Laws.{Shape, IsReader, HasPhrase, one_shape, full, many_shape}
 use Rattle.jz_grammar.proofs.Basics.{disjoint_nil, all_in, if_false}
-use Rattle.jz_grammar.proofs.Combine.{has_nil, follow_reads, map_reads, pick_reads, optional_reads, many_reads, leaf_reads, reads_as, same_reads, shaped}
+use Rattle.jz_grammar.proofs.Combine.{has_nil, follow_reads, map_reads, pick_reads, optional_reads, leaf_reads, reads_as, shaped}
 use Rattle.jz_grammar.proofs.Depend.{depend_reads}
 use Rattle.jz_grammar.proofs.Several.{IsItem, many_by_reads}
 use Rattle.jz_grammar.proofs.Steps.{listed_reads, listed_few_reads}
-use Rattle.jz_grammar.proofs.Samples.{sign_token, word_token, identifier_token, sign_in, word_in, identifier_in, sign_reads, word_reads, identifier_reads, number_reads, end_reads, some_leaf, some_sign, some_word, some_identifier, some_then, some_map, some_left, some_right, some_each, some_maybe}
+use Rattle.jz_grammar.proofs.Samples.{sign_token, sign_in, sign_reads, word_reads, identifier_reads, number_reads, some_leaf, some_sign, some_word, some_identifier, some_then, some_map, some_left, some_each, some_maybe}
 use Rattle.jz_tree.specs.declared.Fun.{Fun}
 use Rattle.jz_tree.specs.declared.Param.{Param}
 use Rattle.jz_tree.specs.declared.Ret.{Ret}
-use Rattle.jz_tree.specs.declared.Decl.{Decl}
 use Rattle.jz_tree.specs.declared.Var.{Var}
 use Rattle.jz_tree.specs.declared.Stmt.{Stmt}
-use Rattle.jz_tree.specs.declared.Expr.{Expr}
 use Rattle.jz_tree.specs.declared.Expr.TheVariants as expr
-use Rattle.jz_tree.specs.declared.Program.{Program}
 use Rattle.jz_parse.specs.declared.function.Body.{Body}
 use Rattle.jz_parse.specs.declared.statement.Item.{Item}
 use Rattle.jz_parse.specs.declared.statement.Item.TheVariants.{Declares, Does}
-use Rattle.jz_parse.specs.Trees.{name_of, number_of, assignments, operation_of, register_word, declared_of, param_of, used_of, assigned, vars_in, stmts_in, body_of, joined, or_empty, fun_of, program_of}
+use Rattle.jz_parse.specs.Trees.{name_of, number_of, assignments, operation_of, register_word, declared_of, param_of, used_of, assigned, vars_in, stmts_in, body_of, joined, or_empty, fun_of}
 use Rattle.jz_parse.specs.Grammar as g
 use Rattle.jz_parse.specs.Grammar.{most_names}
 use Rattle.jz_parse.specs.Readers as r
@@ -175,7 +171,7 @@ pub params_law : IsReader r.params (λ e. params e) (full opened [])
 unfolding r.params
 params_law = map_reads (λ p. or_empty p.1.0)
     (follow_reads (the_law (codes "(")) (follow_reads (optional_reads regs (r.ids ++ (r.commas ++ r.ids)) groups_law) (the_law (codes ")")) (some_the (codes ")")) refl)
-      (some_then (λ d. maybe (groups d)) (λ d. g.the d (codes ")")) (some_maybe (λ d. groups d)) (some_the (codes ")"))) refl)
+    (some_then (λ d. maybe (groups d)) (λ d. g.the d (codes ")")) (some_maybe (λ d. groups d)) (some_the (codes ")"))) refl)
 
 -- ---- results
 pub rtype_law : IsReader r.rtype (λ e. g.rtype e) (full regs [])
@@ -218,7 +214,7 @@ pub decl_law : (n : ℕ) → IsReader (r.decl n) (λ e. decl e n) (full regs [])
 unfolding r.decl r.declared_more
 decl_law n = map_reads (λ p. p.1.0)
     (follow_reads reg_law (follow_reads (listed_few_reads n r.ids [] r.declared_starts [] declared_law next_declared_law refl refl) (the_law (codes ";")) (some_the (codes ";")) refl)
-      (some_then (λ d. decl_vars d n) (λ d. g.the d (codes ";")) (some_decl_vars n) (some_the (codes ";"))) refl)
+    (some_then (λ d. decl_vars d n) (λ d. g.the d (codes ";")) (some_decl_vars n) (some_the (codes ";"))) refl)
 
 -- ---- statements
 abbrev operands : List Kind
@@ -244,9 +240,9 @@ pub stmt_law : IsReader r.stmt (λ e. g.stmt e) (full r.ids [])
 unfolding r.stmt
 stmt_law = map_reads (λ p. assigned p.0 p.1.0 p.1.1.0)
     (follow_reads used_law
-      (follow_reads (leaf_reads assignments operation_of 0 (sign_token (codes "=")) operation_in)
-        (follow_reads operand_law (the_law (codes ";")) (some_the (codes ";")) refl) some_end_of_stmt refl)
-      (some_then (λ d. token assignments d ⇒ operation_of) (λ d. g.operand d ▸ g.the d (codes ";")) some_operation some_end_of_stmt) refl)
+    (follow_reads (leaf_reads assignments operation_of 0 (sign_token (codes "=")) operation_in)
+    (follow_reads operand_law (the_law (codes ";")) (some_the (codes ";")) refl) some_end_of_stmt refl)
+    (some_then (λ d. token assignments d ⇒ operation_of) (λ d. g.operand d ▸ g.the d (codes ";")) some_operation some_end_of_stmt) refl)
 
 pub item_law : (n : ℕ) → IsItem (r.item_starts n) [] (r.item n) (λ e. item e n)
 unfolding r.item
@@ -291,7 +287,7 @@ pub returned_law : IsReader r.returned (λ e. (g.key e (codes "return") ▸ mayb
 unfolding r.returned
 returned_law = map_reads (λ p. or_empty p.1.0)
     (follow_reads (key_law (codes "return")) (follow_reads (optional_reads r.name_starts r.commas names_law) (the_law (codes ";")) (some_the (codes ";")) refl)
-      (some_then (λ d. maybe (g.names d)) (λ d. g.the d (codes ";")) (some_maybe (λ d. g.names d)) (some_the (codes ";"))) refl)
+    (some_then (λ d. maybe (g.names d)) (λ d. g.the d (codes ";")) (some_maybe (λ d. g.names d)) (some_the (codes ";"))) refl)
 
 abbrev ending_shape : Shape
 ending_shape = record { starts = returns; goes = returns; empties = true }
@@ -332,15 +328,15 @@ braces = sign (codes "{") ∷ []
 pub body_law : (n : ℕ) → IsReader (r.body n) (λ e. body e n) (full braces [])
 body_law n = reads_as (r.body n)
     (map_reads (λ p. body_of p.1.0 p.1.1.0)
-      (follow_reads (the_law (codes "{"))
-        (follow_reads (items_law n) (follow_reads ending_law (the_law (codes "}")) (some_the (codes "}")) refl) some_last refl)
-        (some_then (λ d. each_by (item d) r.less_names n) (λ d. g.ending d ▸ g.the d (codes "}")) (some_items n) some_last) refl))
+    (follow_reads (the_law (codes "{"))
+    (follow_reads (items_law n) (follow_reads ending_law (the_law (codes "}")) (some_the (codes "}")) refl) some_last refl)
+    (some_then (λ d. each_by (item d) r.less_names n) (λ d. g.ending d ▸ g.the d (codes "}")) (some_items n) some_last) refl))
     (body_is n)
 
 some_body : (n : ℕ) → HasPhrase (λ d. body d n)
 some_body n = some_map (λ d. g.the d (codes "{") ▸ each_by (item d) r.less_names n ▸ g.ending d ▸ g.the d (codes "}")) (λ p. body_of p.1.0 p.1.1.0)
     (some_then (λ d. g.the d (codes "{")) (λ d. each_by (item d) r.less_names n ▸ g.ending d ▸ g.the d (codes "}")) (some_the (codes "{"))
-      (some_then (λ d. each_by (item d) r.less_names n) (λ d. g.ending d ▸ g.the d (codes "}")) (some_items n) some_last))
+    (some_then (λ d. each_by (item d) r.less_names n) (λ d. g.ending d ▸ g.the d (codes "}")) (some_items n) some_last))
 
 some_results : HasPhrase (λ d. g.results d)
 some_results e h = ([], [], (None, inr (refl, refl), refl))
@@ -357,7 +353,7 @@ after_law ps = shaped (full (arrow ++ braces) []) (follow_reads results_law (bod
 some_params : HasPhrase (λ d. params d)
 some_params = some_map (λ d. g.the d (codes "(") ▸ maybe (groups d) ▸ g.the d (codes ")")) (λ p. or_empty p.1.0)
     (some_then (λ d. g.the d (codes "(")) (λ d. maybe (groups d) ▸ g.the d (codes ")")) (some_the (codes "("))
-      (some_then (λ d. maybe (groups d)) (λ d. g.the d (codes ")")) (some_maybe (λ d. groups d)) (some_the (codes ")"))))
+    (some_then (λ d. maybe (groups d)) (λ d. g.the d (codes ")")) (some_maybe (λ d. groups d)) (some_the (codes ")"))))
 
 abbrev with_params : ℕ → Lang (List Param × (List Ret × Body))
 with_params d = then_by (params d) (λ ps. after ps d)
@@ -375,6 +371,6 @@ pub counted_law : IsReader r.function (λ e. function e) (full exports [])
 unfolding r.function
 counted_law = map_reads (λ p. fun_of p.1.1.0 p.1.1.1.0 p.1.1.1.1.0 p.1.1.1.1.1)
     (follow_reads (key_law (codes "export"))
-      (follow_reads (key_law (codes "fn"))
-        (follow_reads name_law (depend_reads params_law after_law some_after refl) some_with_params refl) some_named refl)
-      (some_then (λ d. g.key d (codes "fn")) (λ d. g.name d ▸ with_params d) (some_key (codes "fn")) some_named) refl)
+    (follow_reads (key_law (codes "fn"))
+    (follow_reads name_law (depend_reads params_law after_law some_after refl) some_with_params refl) some_named refl)
+    (some_then (λ d. g.key d (codes "fn")) (λ d. g.name d ▸ with_params d) (some_key (codes "fn")) some_named) refl)

@@ -7,3 +7,4 @@ pub mod Counted
 pub mod Lists
 pub mod Same
 pub mod Program
+pub mod Faults

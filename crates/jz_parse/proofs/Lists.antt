@@ -1,10 +1,9 @@
 -- Lists, item by item.
-use Rattle.std.proofs.Common.{◌≡◌, ℕ, zero, suc, ◌+◌, ◌-◌, ◌<◌, ◌≤◌, List, [], ◌∷◌, ◌++◌, length, Bool, true, false, ◌||◌, ◌&&◌, Ok, Err, refl, sym, ap, subst, ◌∙◌, arith, append-nil, append_assoc, length-append, codes}
-use Rattle.jz_io.specs.declared.span.Span.{Span}
+use Rattle.std.proofs.Common.{◌≡◌, ℕ, zero, suc, ◌-◌, ◌<◌, List, [], ◌∷◌, ◌++◌, length, true, false, ◌||◌, Ok, Err, refl, sym, ap, ◌∙◌, arith, append-nil, append_assoc, codes}
 use Rattle.jz_lex.specs.declared.token.Token.{Token}
 use Rattle.jz_grammar.specs.Causes.{Cause}
 use Rattle.jz_grammar.specs.Kinds.{Kind, kind_of, word, sign, is_in, has}
-use Rattle.jz_grammar.specs.Reading.{Answer, ◌>>=◌, through, follow, many_by}
+use Rattle.jz_grammar.specs.Reading.{Answer, through, many_by}
 use Rattle.jz_grammar.proofs.Basics.{member_append}
 use Rattle.jz_grammar.proofs.Combine.{shorter, has_nil}
 use Rattle.jz_grammar.proofs.Several.{many_by_next, many_by_wrong, many_by_done, item_shorter}
@@ -18,7 +17,7 @@ use Rattle.jz_parse.specs.declared.statement.Item.{Item}
 use Rattle.jz_parse.specs.declared.statement.Item.TheVariants.{Declares, Does}
 use Rattle.jz_parse.specs.Trees.{vars_in, stmts_in, joined}
 use Rattle.jz_parse.specs.Readers as r
-use Rattle.jz_parse.proofs.Counted.{next_group_law, next_rtype_law, next_declared_law, item_law, next_used_law, counted_law, starts_groups, starts_items, all_starts, exports}
+use Rattle.jz_parse.proofs.Counted.{next_group_law, next_rtype_law, item_law, next_used_law, counted_law, starts_groups, starts_items, all_starts, exports}
 
 -- ---- choices of tokens
 has_either : (ks ls : List Kind) (ts : List Token) → has (ks ++ ls) ts ≡ (has ks ts || has ls ts)

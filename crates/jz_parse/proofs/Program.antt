@@ -1,26 +1,13 @@
 -- The whole program: what is read of it, and what its tokens are.
-use Rattle.std.proofs.Common.{◌≡◌, ◌⊎◌, ⊎_elim, ℕ, ◌+◌, ◌-◌, ◌<◌, ◌≤◌, List, [], ◌∷◌, ◌++◌, length, Bool, true, false, Result, Ok, Err, refl, sym, ap, subst, ◌∙◌, arith, append-nil, length-append, codes}
-use Rattle.jz_io.specs.declared.span.Span.{Span}
-use Rattle.jz_lex.specs.declared.token.Token.{Token}
-use Rattle.jz_grammar.specs.Causes.{Cause, Unexpected}
-use Rattle.jz_grammar.specs.Kinds.{Kind, word, sign, identifier, number, end, span_of, has}
-use Rattle.jz_grammar.specs.Reading.{Answer, Reader, through, follow, many, leaf}
+use Rattle.std.proofs.Common.{◌≡◌, ℕ, ◌+◌, ◌≤◌, List, [], ◌∷◌, ◌++◌, length, Ok, Err, refl, codes}
+use Rattle.jz_grammar.specs.Kinds.{Kind, word, sign, identifier, number, end, span_of}
+use Rattle.jz_grammar.specs.Reading.{Answer, through, many}
 use Rattle.jz_grammar.specs.Grammar.{Lang, each}
-use Rattle.jz_grammar.specs.Laws.{Shape, IsReader, HasPhrase, full, many_shape}
+use Rattle.jz_grammar.specs.Laws.{Shape, IsReader, full, many_shape}
 use Rattle.jz_grammar.proofs.Combine.{follow_reads, map_reads, many_reads, reads_as}
 use Rattle.jz_grammar.proofs.Samples.{end_reads, end_token, end_in, some_leaf}
 use Rattle.jz_grammar.proofs.Steady.{IsSteady, steady_leaf, steady_then, steady_or, steady_map, steady_only, steady_each, steady_maybe, steady_more}
-use Rattle.jz_tree.specs.declared.Fun.{Fun}
-use Rattle.jz_tree.specs.declared.Param.{Param}
-use Rattle.jz_tree.specs.declared.Ret.{Ret}
-use Rattle.jz_tree.specs.declared.Decl.{Decl}
-use Rattle.jz_tree.specs.declared.Var.{Var}
-use Rattle.jz_tree.specs.declared.Stmt.{Stmt}
-use Rattle.jz_tree.specs.declared.Expr.{Expr}
 use Rattle.jz_tree.specs.declared.Expr.TheVariants as expr
-use Rattle.jz_tree.specs.declared.Program.{Program}
-use Rattle.jz_parse.specs.declared.function.Body.{Body}
-use Rattle.jz_parse.specs.declared.statement.Item.{Item}
 use Rattle.jz_parse.specs.declared.statement.Item.TheVariants.{Declares, Does}
 use Rattle.jz_parse.specs.Trees.{name_of, number_of, assignments, operation_of, register_word, declared_of, param_of, used_of, assigned, body_of, joined, or_empty, fun_of, program_of}
 use Rattle.jz_parse.specs.Grammar as g
@@ -79,8 +66,8 @@ steady_group = steady_map kinds (λ p. p.1) (steady_then kinds steady_reg (stead
 steady_params : S (λ d. g.params d)
 steady_params = steady_map kinds (λ p. or_empty p.1.0)
     (steady_then kinds (steady_leaf kinds (sign (codes "(") ∷ []) span_of refl)
-      (steady_then kinds (steady_maybe kinds (steady_map kinds (λ p. p.0 ++ joined p.1) (steady_then kinds steady_group (steady_each kinds (steady_comma steady_group)))))
-        (steady_leaf kinds (sign (codes ")") ∷ []) span_of refl)))
+    (steady_then kinds (steady_maybe kinds (steady_map kinds (λ p. p.0 ++ joined p.1) (steady_then kinds steady_group (steady_each kinds (steady_comma steady_group)))))
+    (steady_leaf kinds (sign (codes ")") ∷ []) span_of refl)))
 
 steady_rtype : S (λ d. g.rtype d)
 steady_rtype = steady_map kinds (λ t. record { decl = t }) steady_reg
@@ -123,14 +110,14 @@ steady_ending = steady_map kinds or_empty (steady_maybe kinds (steady_map kinds 
 steady_body : S (λ d. g.body d)
 steady_body = steady_map kinds (λ p. body_of p.1.0 p.1.1.0)
     (steady_then kinds (steady_leaf kinds (sign (codes "{") ∷ []) span_of refl)
-      (steady_then kinds (steady_each kinds steady_item) (steady_then kinds steady_ending (steady_leaf kinds (sign (codes "}") ∷ []) span_of refl))))
+    (steady_then kinds (steady_each kinds steady_item) (steady_then kinds steady_ending (steady_leaf kinds (sign (codes "}") ∷ []) span_of refl))))
 
 pub steady_function : S (λ d. g.small_function d)
 steady_function = steady_only kinds (λ f. length f.params + length f.vars ≤ most_names)
     (steady_map kinds (λ p. fun_of p.1.1.0 p.1.1.1.0 p.1.1.1.1.0 p.1.1.1.1.1)
-      (steady_then kinds (steady_leaf kinds (word (codes "export") ∷ []) span_of refl)
-        (steady_then kinds (steady_leaf kinds (word (codes "fn") ∷ []) span_of refl)
-          (steady_then kinds steady_name (steady_then kinds steady_params (steady_then kinds steady_results steady_body))))))
+    (steady_then kinds (steady_leaf kinds (word (codes "export") ∷ []) span_of refl)
+    (steady_then kinds (steady_leaf kinds (word (codes "fn") ∷ []) span_of refl)
+    (steady_then kinds steady_name (steady_then kinds steady_params (steady_then kinds steady_results steady_body))))))
 
 abbrev pub all_kinds : List Kind
 all_kinds = end ∷ kinds

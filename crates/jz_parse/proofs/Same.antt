@@ -1,6 +1,6 @@
 -- Counting the names that are left is the same as asking for at most nine.
-use Rattle.std.proofs.Common.{◌≡◌, ◌⊎◌, inl, inr, ⊎_elim, ℕ, zero, suc, ◌+◌, ◌-◌, ◌<◌, ◌≤◌, List, [], ◌∷◌, ◌++◌, length, Option, Some, None, refl, sym, ap, subst, ◌∙◌, arith, length-append, codes}
-use Rattle.jz_grammar.specs.Grammar.{Marked, Lang, ◌▸◌, ◌⇒◌, each, each_by, at_most, maybe}
+use Rattle.std.proofs.Common.{inl, inr, ⊎_elim, ℕ, zero, suc, ◌+◌, ◌-◌, ◌<◌, ◌≤◌, List, [], ◌∷◌, length, Option, sym, ap, subst, arith, length-append}
+use Rattle.jz_grammar.specs.Grammar.{Marked, Lang, each, each_by, at_most, maybe}
 use Rattle.jz_grammar.specs.Laws.{IsReader, full}
 use Rattle.jz_grammar.proofs.Combine.{at_most_each, each_at_most, same_reads}
 use Rattle.jz_tree.specs.declared.Fun.{Fun}
@@ -9,7 +9,7 @@ use Rattle.jz_tree.specs.declared.Var.{Var}
 use Rattle.jz_parse.specs.declared.function.Body.{Body}
 use Rattle.jz_parse.specs.declared.statement.Item.{Item}
 use Rattle.jz_parse.specs.declared.statement.Item.TheVariants.{Declares, Does}
-use Rattle.jz_parse.specs.Trees.{vars_in, joined, or_empty, fun_of}
+use Rattle.jz_parse.specs.Trees.{vars_in, joined, or_empty}
 use Rattle.jz_parse.specs.Grammar as g
 use Rattle.jz_parse.specs.Grammar.{most_names}
 use Rattle.jz_parse.specs.Readers as r
@@ -78,9 +78,17 @@ groups_to d xs ps h =
     ((h.0, (h.1.0, h.1.1, k.0, i.0, h.1.4), h.2), omega (arith, k.1, i.1, length-append h.0.0 (joined h.0.1), ap length h.2))
 
 groups_from : (d : ℕ) (xs : List Marked) (ps : List Param) → g.groups d xs ps → length ps ≤ most_names → c.groups d xs ps
-groups_from d xs ps h k =
-    (h.0, (h.1.0, h.1.1, group_from d 8 h.1.0 h.0.0 h.1.2 (omega (arith, k, length-append h.0.0 (joined h.0.1), ap length h.2)),
-      more_from d (most_names - length h.0.0) h.1.1 h.0.1 h.1.3 (omega (arith, k, length-append h.0.0 (joined h.0.1), ap length h.2)), h.1.4), h.2)
+groups_from d xs ps h k = (
+  h.0,
+  (
+    h.1.0,
+    h.1.1,
+    group_from d 8 h.1.0 h.0.0 h.1.2 (omega (arith, k, length-append h.0.0 (joined h.0.1), ap length h.2)),
+    more_from d (most_names - length h.0.0) h.1.1 h.0.1 h.1.3 (omega (arith, k, length-append h.0.0 (joined h.0.1), ap length h.2)),
+    h.1.4,
+  ),
+  h.2,
+)
 
 maybe_to : (d : ℕ) (xs : List Marked) (o : Option (List Param)) → maybe (c.groups d) xs o → maybe (g.groups d) xs o × (length (or_empty o) ≤ most_names)
 maybe_to d xs o h = ⊎_elim
@@ -188,9 +196,10 @@ function_to d xs f h =
     let p = b.3 in
     let q = p.3 in
     let k = all_to d p.0 h.0.1.1.1.0 p.2 in
-    let i = body_to d (most_names - length h.0.1.1.1.0) q.1 h.0.1.1.1.1.1 q.3 in
-    ((h.0, (h.1.0, h.1.1, h.1.2, (a.0, a.1, a.2, (b.0, b.1, b.2, (p.0, p.1, k.0, (q.0, q.1, q.2, i.0, q.4), p.4), b.4), a.4), h.1.4), h.2),
-     subst (λ (z : Fun). length z.params + length z.vars ≤ most_names) h.2 (omega (arith, k.1, i.1)))
+    let i = body_to d (most_names - length h.0.1.1.1.0) q.1 h.0.1.1.1.1.1 q.3 in (
+      (h.0, (h.1.0, h.1.1, h.1.2, (a.0, a.1, a.2, (b.0, b.1, b.2, (p.0, p.1, k.0, (q.0, q.1, q.2, i.0, q.4), p.4), b.4), a.4), h.1.4), h.2),
+      subst (λ (z : Fun). length z.params + length z.vars ≤ most_names) h.2 (omega (arith, k.1, i.1)),
+    )
 
 function_from : (d : ℕ) (xs : List Marked) (f : Fun) → g.small_function d xs f → c.function d xs f
 function_from d xs f w =
@@ -199,10 +208,35 @@ function_from d xs f w =
     let b = a.3 in
     let p = b.3 in
     let q = p.3 in
-    let s = subst (λ (z : Fun). length z.params + length z.vars ≤ most_names) (sym h.2) w.1 in
-    (h.0, (h.1.0, h.1.1, h.1.2, (a.0, a.1, a.2, (b.0, b.1, b.2,
-      (p.0, p.1, all_from d p.0 h.0.1.1.1.0 p.2 (omega (arith, s)),
-        (q.0, q.1, q.2, body_from d (most_names - length h.0.1.1.1.0) q.1 h.0.1.1.1.1.1 q.3 (omega (arith, s)), q.4), p.4), b.4), a.4), h.1.4), h.2)
+    let s = subst (λ (z : Fun). length z.params + length z.vars ≤ most_names) (sym h.2) w.1 in (
+      h.0,
+      (
+        h.1.0,
+        h.1.1,
+        h.1.2,
+        (
+          a.0,
+          a.1,
+          a.2,
+          (
+            b.0,
+            b.1,
+            b.2,
+            (
+              p.0,
+              p.1,
+              all_from d p.0 h.0.1.1.1.0 p.2 (omega (arith, s)),
+              (q.0, q.1, q.2, body_from d (most_names - length h.0.1.1.1.0) q.1 h.0.1.1.1.1.1 q.3 (omega (arith, s)), q.4),
+              p.4,
+            ),
+            b.4,
+          ),
+          a.4,
+        ),
+        h.1.4,
+      ),
+      h.2,
+    )
 
 pub function_law : IsReader r.function (λ e. g.small_function e) (full exports [])
 function_law = same_reads (λ e. g.small_function e) counted_law (λ e xs a h. function_to e xs a h) (λ e xs a h. function_from e xs a h)

@@ -1,5 +1,5 @@
 -- The program that a list of tokens derives, and the first token at which none can be derived any more.
-use Rattle.std.specs.Prelude.{◌≡◌, ◌-◌, ℕ, List, [], ◌∷◌, ◌++◌, length}
+use Rattle.std.specs.Prelude.{◌≡◌, ◌-◌, List, [], ◌∷◌, ◌++◌, length}
 use Rattle.jz_io.specs.declared.span.Span.{Span}
 use Rattle.jz_lex.specs.declared.token.Token.{Token}
 use Rattle.jz_grammar.specs.Laws.{Derives}
@@ -27,7 +27,3 @@ abbrev pub IsUnexpectedFirst : List Token → SyntaxFault → Type 0
 IsUnexpectedFirst ts fault =
     (front : List Token) × (rest : List Token) × (ts ≡ front ++ rest) × (length front ≡ fault.token)
     × BeginsFirst front × IsRefusedFirst front rest fault.span × (fault.kind ≡ Unexpected)
-
--- what was read of the tokens: a program, or the fault at the first that is left
-abbrev pub IsFirstLeft : List Token → List Token → SyntaxFault → Type 0
-IsFirstLeft ts rest fault = (front : List Token) × (ts ≡ front ++ rest) × (length front ≡ fault.token)

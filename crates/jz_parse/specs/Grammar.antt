@@ -1,7 +1,7 @@
 -- The grammar of the language, line by line. Each token has the mark d, since nothing is nested.
-use Rattle.std.specs.Prelude.{◌≡◌, ◌≤◌, ◌+◌, ℕ, List, [], ◌∷◌, ◌++◌, length, Option, codes}
+use Rattle.std.specs.Prelude.{◌≤◌, ◌+◌, ℕ, List, [], ◌∷◌, ◌++◌, length, codes}
 use Rattle.jz_io.specs.declared.span.Span.{Span}
-use Rattle.jz_grammar.specs.Kinds.{Kind, word, sign, identifier, number, end, span_of}
+use Rattle.jz_grammar.specs.Kinds.{word, sign, identifier, number, end, span_of}
 use Rattle.jz_grammar.specs.Grammar.{Lang, token, ◌▸◌, ◌⊕◌, ◌⇒◌, only, each, maybe}
 use Rattle.jz_tree.specs.declared.Program.{Program}
 use Rattle.jz_tree.specs.declared.Fun.{Fun}

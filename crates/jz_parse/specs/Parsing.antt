@@ -1,5 +1,5 @@
 -- The program that a list of tokens derives, and the first token at which none can be derived any more.
-use Rattle.std.specs.Prelude.{◌≡◌, ◌≢◌, ℕ, List, [], ◌∷◌, ◌++◌, length, ◌-◌, map, codes, slice_get, Option, Some, None, All, AllPairs, Contains, ◌⊎◌}
+use Rattle.std.specs.Prelude.{◌≡◌, ◌≢◌, ℕ, List, [], ◌∷◌, ◌++◌, length, ◌-◌, map, codes, Option, Some, None, All, AllPairs, Contains, ◌⊎◌}
 use Rattle.jz_io.specs.declared.span.Span.{Span}
 use Rattle.jz_words.specs.declared.size.Size.TheVariants.{S64}
 use Rattle.jz_lex.specs.declared.token.Token.{Token}

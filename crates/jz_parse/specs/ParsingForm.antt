@@ -1,10 +1,7 @@
 -- How tokens follow the table of what stands at each place.
-use Rattle.std.specs.Prelude.{not, ◌≡◌, ℕ, Bool, true, false, if◌then◌else◌, ◌==◌, nat_lt, List, [], ◌∷◌, ◌++◌, length, codes, slice_index_or, Result, Ok, Err, ◌≤◌, ◌-◌, drop}
+use Rattle.std.specs.Prelude.{not, ◌≡◌, ℕ, Bool, true, false, if◌then◌else◌, ◌==◌, nat_lt, List, [], ◌∷◌, ◌++◌, length, codes, slice_index_or, Result, Ok, Err, ◌≤◌, drop}
 use Rattle.std.specs.List.{list_any}
 use Rattle.std.specs.Cmp.Lexicographic.{pointwise}
-use Rattle.jz_parse.specs.declared.fault.SyntaxKind.TheVariants.{Unexpected}
-use Rattle.jz_parse.specs.declared.fault.SyntaxFault.{SyntaxFault}
-use Rattle.jz_parse.specs.Places.{span_at}
 use Rattle.jz_data.specs.declared.failure.Failure.{Failure}
 use Rattle.jz_data.specs.declared.failure.Failure.TheVariants.{Refused, OutOfMemory}
 use Rattle.jz_lex.specs.declared.token.Token.{Token}

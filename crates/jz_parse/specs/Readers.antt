@@ -1,8 +1,8 @@
 -- How phrases are read: each choice by the next token.
-use Rattle.std.specs.Prelude.{◌≡◌, ℕ, zero, suc, ◌-◌, List, [], ◌∷◌, ◌++◌, length, Option, Ok, Err, codes}
+use Rattle.std.specs.Prelude.{ℕ, zero, suc, ◌-◌, List, [], ◌∷◌, ◌++◌, length, codes}
 use Rattle.jz_io.specs.declared.span.Span.{Span}
 use Rattle.jz_grammar.specs.Kinds.{Kind, word, sign, identifier, number, end, span_of}
-use Rattle.jz_grammar.specs.Reading.{Answer, Reader, ◌>>=◌, through, follow, depend, pick, many, many_by, leaf, optional, more_of, few_of}
+use Rattle.jz_grammar.specs.Reading.{Reader, ◌>>=◌, through, follow, depend, pick, many_by, leaf, optional, more_of, few_of}
 use Rattle.jz_tree.specs.declared.Program.{Program}
 use Rattle.jz_tree.specs.declared.Fun.{Fun}
 use Rattle.jz_tree.specs.declared.Param.{Param}

@@ -1,5 +1,5 @@
 -- The tree of a phrase, from what its tokens tell.
-use Rattle.std.specs.Prelude.{ℕ, ℤ, pos, List, [], ◌∷◌, ◌++◌, map, Option, Some, None, codes, if◌then◌else◌}
+use Rattle.std.specs.Prelude.{ℕ, ℤ, pos, List, [], ◌∷◌, ◌++◌, Option, Some, None, codes, if◌then◌else◌}
 use Rattle.jz_io.specs.declared.span.Span.{Span}
 use Rattle.jz_words.specs.declared.size.Size.TheVariants.{S64}
 use Rattle.jz_lex.specs.declared.token.Token.{Token}
@@ -108,7 +108,8 @@ fun_of name params rets body = record {
   rets = rets;
   vars = body.vars;
   body = body.stmts;
-  result = body.result }
+  result = body.result;
+}
 
 abbrev pub program_of : List Fun → Program
 program_of fs = record { funs = fs }

@@ -5,6 +5,9 @@
 mod cursor;
 mod declare;
 mod fault;
+mod first;
+#[cfg(test)]
+mod first_tests;
 mod form;
 mod function;
 mod kinds;
@@ -15,4 +18,8 @@ mod tests;
 mod tree;
 
 pub use fault::{SyntaxFault, SyntaxKind};
+pub use first::{
+    a_first_fault_is_at_a_token, no_first_fault_of_a_program, one_first_fault, one_first_program,
+    parse_first,
+};
 pub use read::{a_fault_is_at_a_token, no_fault_of_a_program, one_fault, one_program, parse};

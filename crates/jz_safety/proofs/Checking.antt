@@ -1,5 +1,5 @@
 -- Steps of the search for the first alarm.
-use Rattle.std.proofs.Common.{◌≡◌, ℕ, ◌+◌, ◌<◌, Bool, true, false, not, List, [], ◌∷◌, ◌++◌, drop, get_or, length, map, filter, refl, sym, ap, subst, ◌∙◌}
+use Rattle.std.proofs.Common.{◌≡◌, ℕ, ◌+◌, ◌<◌, false, List, [], ◌∷◌, ◌++◌, drop, get_or, length, sym, ap, subst, ◌∙◌}
 use Rattle.std.specs.Prelude.{Result, Ok, Err, IfErr, IsErrAnd}
 use Rattle.std.proofs.lemmas.List.{at_drop_more}
 use Rattle.jz_data.specs.declared.failure.Failure.{Failure}
@@ -12,7 +12,7 @@ use Rattle.jz_facts.specs.Facts.{Facts}
 use Rattle.jz_facts.specs.Holding.{entry_facts, facts_after, facts_at_end}
 use Rattle.jz_facts.specs.Conditions.{conditions_of, result_conditions}
 use Rattle.jz_safety.specs.declared.alarm.Alarm.{Alarm}
-use Rattle.jz_safety.specs.Alarms.{alarm_of, alarms_at, body_alarms, alarms_of, IsFirst, IsFirstAlarm}
+use Rattle.jz_safety.specs.Alarms.{alarm_of, alarms_at, body_alarms, IsFirst, IsFirstAlarm}
 
 -- a condition that isn't met is the first of the rest
 pub first_unmet : (set : Facts) (xs : List Condition) (i : ℕ) (x : Condition) (all : List Alarm) → i < length xs → x ≡ get_or xs i x → set x.fact ≡ false → alarms_at set (drop i xs) ≡ all → IsFirst all (alarm_of x)

@@ -1,10 +1,8 @@
 -- Facts tell exactly which variables have a value, so the alarms tell where a run is stuck.
-use Rattle.std.proofs.Common.{◌≡◌, ℕ, ◌==◌, nat_eq, Bool, true, false, not, List, [], ◌∷◌, ◌++◌, ℤ, Option, Some, None, IsSome, if◌then◌else◌, map, filter, refl, sym, ap, ◌∙◌, subst, zero, suc, append_assoc, arith}
+use Rattle.std.proofs.Common.{◌≡◌, ℕ, ◌==◌, Bool, true, false, not, List, [], ◌∷◌, ◌++◌, ℤ, Option, Some, None, IsSome, if◌then◌else◌, map, filter, refl, sym, ap, ◌∙◌, subst, arith}
 use Rattle.std.proofs.lemmas.Bool.Decides.{nat_tests}
-use Rattle.std.specs.Cmp.Lexicographic.{pointwise}
 use Rattle.jz_io.specs.declared.span.Span.{Span}
 use Rattle.jz_words.specs.Memory.{Memory}
-use Rattle.jz_words.specs.declared.size.Size.{Size}
 use Rattle.jz_tree.specs.declared.Program.{Program}
 use Rattle.jz_tree.specs.declared.Fun.{Fun}
 use Rattle.jz_tree.specs.declared.Param.{Param}
@@ -12,7 +10,6 @@ use Rattle.jz_tree.specs.declared.Decl.{Decl}
 use Rattle.jz_tree.specs.declared.Ty.{Ty}
 use Rattle.jz_tree.specs.declared.Ty.TheVariants.{Word}
 use Rattle.jz_tree.specs.declared.Var.{Var}
-use Rattle.jz_tree.specs.declared.Expr.{Expr}
 use Rattle.jz_tree.specs.declared.Expr.TheVariants as expr
 use Rattle.jz_tree.specs.declared.BinOp.{BinOp}
 use Rattle.jz_tree.specs.declared.Lval.{Lval}
@@ -24,16 +21,14 @@ use Rattle.jz_tree.specs.declared.StmtKind.{StmtKind}
 use Rattle.jz_tree.specs.declared.StmtKind.TheVariants as kind
 use Rattle.jz_leak.specs.RunLeaks.{Leak}
 use Rattle.jz_meaning.specs.RunRules.{stuck, went, End, Stuck}
-use Rattle.jz_meaning.specs.declared.reason.Reason.TheVariants.{Init}
-use Rattle.jz_meaning.specs.SourceStates.{Value, word, integer, Key, key_of, same_key, Store, empty_store, put, State, Why}
-use Rattle.jz_meaning.specs.SourceValues.{Got, numbers_first, and_then, defined, variable_value, evaluated}
-use Rattle.jz_meaning.specs.SourceRuns.{of_type, as_declared, held, written, left_value, right_value, combined, assigned_value, assigned, value_of_type, argument, with_arguments, begun, word_of, result_words, returned_words, FunOutcome, FitsDecl, AreArguments, IsInput, IsRun}
-use Rattle.jz_meaning.specs.StraightRuns.{run_statement, run_statements, words_returned, plain_leak, straight_outcome}
+use Rattle.jz_meaning.specs.SourceStates.{Value, word, integer, key_of, Store, empty_store, put, State, Why}
+use Rattle.jz_meaning.specs.SourceValues.{Got, numbers_first, and_then, defined, variable_value}
+use Rattle.jz_meaning.specs.SourceRuns.{of_type, as_declared, held, written, right_value, combined, assigned_value, assigned, value_of_type, argument, with_arguments, begun, word_of, result_words, returned_words, FunOutcome, FitsDecl, AreArguments, IsRun}
+use Rattle.jz_meaning.specs.StraightRuns.{run_statement, run_statements, words_returned, plain_leak}
 use Rattle.jz_meaning.proofs.StraightLaws.{fun_straight}
-use Rattle.jz_facts.specs.declared.fact.Fact.{Fact}
 use Rattle.jz_facts.specs.declared.fact.Fact.TheVariants.{Set}
 use Rattle.jz_facts.specs.declared.condition.Condition.{Condition}
-use Rattle.jz_facts.specs.Facts.{same_name, entails, Facts, no_facts, with_fact}
+use Rattle.jz_facts.specs.Facts.{same_name, Facts, no_facts, with_fact}
 use Rattle.jz_facts.specs.Holding.{with_parameters, entry_facts, after_left_side, after_left_sides, after_kind, facts_after, facts_at_end}
 use Rattle.jz_facts.specs.Conditions.{read_of, right_conditions, left_conditions, kind_conditions, conditions_of, result_conditions}
 use Rattle.jz_safety.specs.declared.alarm.Alarm.{Alarm}

@@ -1,5 +1,5 @@
 -- The alarms of a function, in the order in which it is evaluated.
-use Rattle.std.specs.Prelude.{◌≡◌, Bool, not, List, [], ◌∷◌, ◌++◌, map, filter}
+use Rattle.std.specs.Prelude.{◌≡◌, not, List, [], ◌∷◌, ◌++◌, map, filter}
 use Rattle.jz_tree.specs.declared.Fun.{Fun}
 use Rattle.jz_tree.specs.declared.Stmt.{Stmt}
 use Rattle.jz_facts.specs.declared.condition.Condition.{Condition}

@@ -1,5 +1,5 @@
 -- What statements need beside facts, so that they mean something.
-use Rattle.std.specs.Prelude.{List, [], ◌∷◌, IsSome, All}
+use Rattle.std.specs.Prelude.{List, [], ◌∷◌, IsSome}
 use Rattle.jz_tree.specs.declared.Fun.{Fun}
 use Rattle.jz_tree.specs.declared.Lval.{Lval}
 use Rattle.jz_tree.specs.declared.Lval.TheVariants as lval

@@ -38,7 +38,8 @@ fn check_body(alloc: Global, start: FactSet, body: &Seq<Stmt>) -> Result<FactSet
 {
     let mut set = start;
     for statement in body.as_slice() {
-        check_conditions(&set, &conditions(alloc, statement)?)?;
+        let asked = conditions(alloc, statement)?;
+        check_conditions(&set, &asked)?;
         set = holds_after(set, statement)?;
     }
     Ok(set)
@@ -52,6 +53,7 @@ pub fn safe(alloc: Global, expanded: Expanded) -> Result<Safe, Failure<Alarm>>
 {
     let entry = at_entry(alloc, &expanded)?;
     let set = check_body(alloc, entry, &expanded.fun.body)?;
-    check_conditions(&set, &result_conditions(alloc, &expanded.fun.result)?)?;
+    let asked = result_conditions(alloc, &expanded.fun.result)?;
+    check_conditions(&set, &asked)?;
     Ok(Safe::new(expanded))
 }

@@ -1,5 +1,4 @@
 use Rattle.std.proofs.Common.{ℕ, refl, ap, sym, ◌∙◌, List}
-use Rattle.jz_tree.specs.declared.Param.{Param}
 use Rattle.jz_facts.specs.declared.fact.Fact.TheVariants.{Set}
 use Rattle.jz_facts.specs.Facts.{Facts, no_facts, with_fact, facts_of}
 use Rattle.jz_facts.specs.Holding.{with_parameters, entry_facts}

@@ -1,4 +1,4 @@
-use Rattle.std.proofs.Common.{◌≡◌, ℕ, [], length}
+use Rattle.std.proofs.Common.{◌≡◌, [], length}
 use Rattle.jz_parse.specs.Readers.{functions_more}
 use Rattle.jz_parse.proofs.function.functions.Given as goal
 

@@ -15,7 +15,7 @@ loop-statement-preserved c =
           items c.loop-statement.statement-index c.statement-item.result c.loop-statement-test.true c.statement-item.is c.in_ok-set.ensures c.loop-statement.invariant.facts;
       alarms = alarms_on set (facts_of c.in_ok-set.set) (body_alarms (facts_of c.args.start) c.args.body.now)
           items c.loop-statement.statement-index c.statement-item.result c.loop-statement-test.true c.statement-item.is c.in_ok-set.ensures
-          (ap (alarms_at set) (sym c.in_ok-conditions.ensures) ∙ c.in_ok-check_conditions.ensures.met)
+          (ap (alarms_at set) (sym c.in_ok-asked.ensures) ∙ c.in_ok-check_conditions.ensures.met)
           c.loop-statement.invariant.alarms;
     }
 

@@ -11,8 +11,8 @@ returns-in_err-check_conditions-clause-alarm c =
     let f = c.args.expanded.fun in
     let failure = c.in_err-check_conditions.field-0.0 in
     passed_on c.from_residual-in_err-check_conditions.result failure (λ w. IfRefused w (IsFirstAlarm f)) c.from_residual-in_err-check_conditions.ensures.1
-    (failure_of_return f (facts_of c.in_ok-set.set) c.in_ok-result_conditions.field-0 failure
+    (failure_of_return f (facts_of c.in_ok-set.set) c.in_ok-asked.asked failure
     (c.in_ok-set.ensures.facts ∙ ap (λ (s : Facts). facts_at_end s f.body) c.in_ok-entry.ensures)
     (ap (λ (s : Facts). body_alarms s f.body) (sym c.in_ok-entry.ensures) ∙ c.in_ok-set.ensures.met)
-    c.in_ok-result_conditions.ensures
+    c.in_ok-asked.ensures
     c.in_err-check_conditions.ensures.alarm)

@@ -1,8 +1,8 @@
-use Rattle.std.proofs.Common.{◌≡◌, [], ◌∙◌, sym, ap, rules}
+use Rattle.std.proofs.Common.{◌≡◌, ◌∙◌, ap, rules}
 use Rattle.jz_leak.specs.declared.walk.Reach.TheVariants.{End}
 use Rattle.jz_leak.proofs.Applied.{all_applied, cut_applied}
-use Rattle.jz_leak.proofs.walk.apply.Goals.{then-eq+in_ok-emit-2, else-eq}
-use Rattle.jz_leak.proofs.walk.apply.Goals as goal
+use Rattle.jz_leak.proofs.walk.walk_transformer.Goals.{then-eq+in_ok-emit-2, else-eq}
+use Rattle.jz_leak.proofs.walk.walk_transformer.Goals as goal
 
 pub returns : goal.returns
 returns c = λ l e f.
