@@ -2,3 +2,4 @@ pub mod StepRuns
 mod RegionExamples
 pub mod PlainCode
 pub mod PlainEnds
+pub mod SlotLoads

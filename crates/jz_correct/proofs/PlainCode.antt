@@ -69,7 +69,7 @@ abbrev pub AllPlain : List Insn → Type 0
 AllPlain [] = Unit {0}
 AllPlain (i ∷ is) = Plain i × AllPlain is
 
-plain_spelled : (i : Insn) → Plain i → is_spelled i ≡ true
+pub plain_spelled : (i : Insn) → Plain i → is_spelled i ≡ true
 plain_spelled i (alu_reg h) = rw h refl
 plain_spelled i (alu_imm n h k) = rw (h, k) refl
 plain_spelled i mov_reg = refl

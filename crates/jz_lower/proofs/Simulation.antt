@@ -31,6 +31,7 @@ use Rattle.jz_meaning.specs.StraightRuns.{run_statement, run_statements}
 use Rattle.jz_correct.proofs.PlainCode.{word_in, operand_in, result_of, regs_of, regs_after}
 use Rattle.jz_lower.specs.Lowering.{alu_of, operand_of, assignment_insn, kind_insns, insns_of}
 use Rattle.jz_lower.specs.Living.{IsNamed, ReadsIn, ReadsRight, IsLeft, ReadsAssigned, LivesThrough, LivesBefore, KeepsApart, KeepApart}
+use Rattle.jz_lower.specs.Straight.{IsWord, SetsWord, SetWords}
 use Rattle.jz_lower.proofs.WordLaws.{residue_small, signed_residue, same_operation, operation_small}
 use Rattle.jz_lower.proofs.Stores.{named, put_at, word_same, word_other, word_small}
 
@@ -55,12 +56,6 @@ defined_back at (Some u) ms v e = ap (λ x. Some x) (went_same [] ms u v e)
 pub data StandsFor : Value → ℕ → Type 0 where
   a_word : (a : ℕ) → StandsFor (word S64 a) a
   a_number : (i : ℤ) → StandsFor (integer i) (residue S64 i)
-
--- a variable is declared a word of 64 bits
-pub record IsWord (x : Var) : Type 0 where
-  pub declared : Decl
-  pub decl : x.decl ≡ Some declared
-  pub ty : declared.ty ≡ Word S64
 
 held_is : (x : Var) (v : Value) (w : ℕ) → IsWord x → StandsFor v w → held x v ≡ went [] (word S64 w)
 held_is x v w is (a_word a) = refl
@@ -168,15 +163,6 @@ module _ (register : List ℕ → Reg) where
       let is : s.store (named n) ≡ Some v = sym (put_at s.store x.name n (Some (word S64 w)) false e) ∙ there in
       h n v (lives n other b) is ∙ ap (word S64) (sym (word_other regs (register n) (register x.name) w (apart n other b)))
 
-  -- each statement sets one variable, a word of 64 bits
-  abbrev pub SetsWord : StmtKind → Type 0
-  SetsWord (kind.Assign (lval.Var x ∷ []) o r) = IsWord x
-  SetsWord (kind.Assign ds o r) = ⊥
-
-  abbrev pub SetWords : List Stmt → Type 0
-  SetWords [] = Unit {0}
-  SetWords (s ∷ ss) = SetsWord s.kind × SetWords ss
-
   pub record Stepped (behind : List ℕ → Type 0) (t : State) (regs now : List ℕ) : Type 0 where
     pub holds : Holds behind t.store now
     pub size : length now ≡ 16
@@ -197,7 +183,7 @@ module _ (register : List ℕ → Reg) where
   statement_step (kind.Assign (lval.Var x ∷ e ∷ ds) o r) at behind s t regs is apart size h ms run = absurd is
 
   -- ---- statements, one after another
-  after_both : (is js : List _) (regs : List ℕ) → regs_after (is ++ js) regs ≡ regs_after js (regs_after is regs)
+  pub after_both : (is js : List _) (regs : List ℕ) → regs_after (is ++ js) regs ≡ regs_after js (regs_after is regs)
   after_both [] js regs = refl
   after_both (i ∷ is) js regs = after_both is js (regs_of i regs)
 

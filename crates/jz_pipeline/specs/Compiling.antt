@@ -22,6 +22,7 @@ use Rattle.jz_listing.specs.declared.compiled.Compiled.{Compiled}
 use Rattle.jz_correct.specs.Registers.{argument_registers, result_registers}
 use Rattle.jz_correct.specs.Assembled.{assembled}
 use Rattle.jz_lower.specs.Lowering.{insns_of}
+use Rattle.jz_lower.specs.Placing.{variable_of}
 
 -- variables in these registers, one after the other; each is a word of 64 bits
 abbrev pub lines_of : List Reg → List Var → List Arg
@@ -29,8 +30,8 @@ lines_of rs [] = []
 lines_of [] (x ∷ xs) = []
 lines_of (r ∷ rs) (x ∷ xs) = record { name = x.name; size = S64; reg = r } ∷ lines_of rs xs
 
-abbrev pub variable_of : Param → Var
-variable_of p = p.var
+
+
 
 -- the instructions of a body, and the return
 abbrev pub code_insns : (List ℕ → Reg) → Fun → List Insn
