@@ -13,10 +13,10 @@ use Rattle.jasminc_top.specs.OneForm.{TakesTwo}
 use Rattle.jz_leak.specs.RunLeaks.{over, ran}
 use Rattle.jz_meaning.specs.SourceRuns.{FunOutcome, IsRun}
 use Rattle.x64_machine.specs.Steps.{Config}
-use Rattle.jasminc_top.specs.Starts.{IsStart}
-use Rattle.jasminc_top.specs.Agreement.{EndsWith}
+use Rattle.jz_correct.specs.Starts.{IsStart}
+use Rattle.jz_correct.specs.Agreement.{EndsWith}
 use Rattle.jz_leak.specs.Applying.{apply_of, Fits}
-use Rattle.jasminc_top.specs.Correctness.{Matches, CarriesOver}
+use Rattle.jz_correct.specs.Correctness.{Matches, CarriesOver}
 use Rattle.jasminc_top.proofs.AddSource.{added, add_outcome}
 use Rattle.jasminc_top.proofs.StartLaws.{derived, ends_from_each_start}
 

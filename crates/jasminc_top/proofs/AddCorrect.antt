@@ -10,7 +10,7 @@ use Rattle.jz_lex.specs.declared.token.Token.{Token}
 use Rattle.jz_parse.specs.Parsing.{Derives, tree_of}
 use Rattle.jz_parse.specs.Reading.{Reads}
 use Rattle.jasminc_top.specs.Compiling.{compiled_of, made_of, add_code}
-use Rattle.jasminc_top.specs.Correctness.{CarriesOver, AreCorrect, AreSpelled}
+use Rattle.jz_correct.specs.Correctness.{CarriesOver, AreCorrect, AreSpelled}
 use Rattle.jz_ct.proofs.SomeLabels.{constant_time}
 use Rattle.jasminc_top.proofs.AddCarries.{carries}
 

@@ -17,7 +17,7 @@ use Rattle.x64_decode.specs.declared.Decoded.TheVariants as decoded
 use Rattle.x64_decode.specs.ByteReading.{follow, prefix, byte_where, byte_if, some_bytes}
 use Rattle.x64_decode.specs.Decoding.{decoded_of, parts, may_be_opcode, may_be_modrm, immediate_bytes}
 use Rattle.x64_machine.specs.Steps.{Config, Ran, same_number, at_entry, steps_of}
-use Rattle.jasminc_top.proofs.StepRuns.{at_place, made, step_made, run_on, no_step}
+use Rattle.jz_correct.proofs.StepRuns.{at_place, made, step_made, run_on, no_step}
 use Rattle.jasminc_top.proofs.AddRun.{add_code, AtAdd}
 
 -- ---- the three instructions

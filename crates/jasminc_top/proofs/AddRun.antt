@@ -20,7 +20,7 @@ use Rattle.x64_machine.specs.declared.step.Step.TheVariants.{Running, Ended}
 use Rattle.x64_decode.specs.ByteReading.{follow, prefix, byte_where, byte_if, some_bytes}
 use Rattle.x64_decode.specs.Decoding.{decoded_of, parts, may_be_opcode, may_be_modrm, immediate_bytes}
 use Rattle.x64_machine.specs.Steps.{Config, Moved, Ran, same_number, at_entry, step_of, steps_of}
-use Rattle.jasminc_top.proofs.StepRuns.{at_place, made, step_made, run_on, no_step}
+use Rattle.jz_correct.proofs.StepRuns.{at_place, made, step_made, run_on, no_step}
 
 -- MOV RAX, RDI; ADD RAX, RSI; RET
 abbrev pub add_code : List ℕ

@@ -1,7 +1,7 @@
 -- Past the argument registers nothing is placed.
 use Rattle.std.proofs.Common.{◌≡◌, ℕ, zero, suc, ◌≤◌, List, [], ◌∷◌, length, drop, refl, ap, ◌∙◌, arith}
 use Rattle.x64_insn.specs.declared.types.Reg.{Reg}
-use Rattle.jasminc_top.specs.Compiling.{argument_registers}
+use Rattle.jz_correct.specs.Registers.{argument_registers}
 use Rattle.jasminc_top.specs.Running.{with_numbers}
 
 past : (rs : List Reg) (i : ℕ) → length rs ≤ i → drop i rs ≡ []

@@ -19,9 +19,9 @@ use Rattle.jasminc_top.specs.Compiling.{compiled_of}
 use Rattle.jasminc_top.specs.Answers.{HasFile, IsDue, IsDone, Gives, GivesRun, RunsProgram, ExecCause, Clear, function_named, compiled_named, step_limit}
 use Rattle.jasminc_top.specs.Refusals.{all_stages}
 use Rattle.jasminc_top.specs.Running.{RunsTo, IsStartMemory, code_base, return_slot, exec_start}
-use Rattle.jasminc_top.specs.Starts.{MeetsPreconditions, IsStart}
+use Rattle.jz_correct.specs.Starts.{MeetsPreconditions, IsStart}
 use Rattle.jasminc_top.specs.Runs.{Due, Runs}
-use Rattle.jasminc_top.specs.Correctness.{IsCorrect, AreCorrect}
+use Rattle.jz_correct.specs.Correctness.{IsCorrect, AreCorrect}
 use Rattle.jasminc_top.specs.Headline.{PrintsRun, Executes}
 use Rattle.jasminc_top.proofs.AddCorrect.{correct}
 use Rattle.jasminc_top.proofs.Causes.{compiled_found}

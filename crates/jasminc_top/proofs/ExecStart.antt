@@ -11,8 +11,10 @@ use Rattle.x64_insn.specs.declared.types.Reg.TheVariants as reg
 use Rattle.x64_insn.specs.Encoding.{spelling_of}
 use Rattle.x64_insn.specs.Chosen.{chosen_bytes}
 use Rattle.x64_insn.specs.Rows.{number_of, reg_value}
-use Rattle.jasminc_top.specs.Compiling.{add_code, argument_registers}
-use Rattle.jasminc_top.specs.Running.{code_base, return_slot, with_numbers, bare_registers, start_state, IsStartMemory, exec_start, Finishes, EndsAfter, RunsTo, run_text}
+use Rattle.jasminc_top.specs.Compiling.{add_code}
+use Rattle.jz_correct.specs.Registers.{argument_registers}
+use Rattle.jasminc_top.specs.Running.{code_base, return_slot, with_numbers, bare_registers, start_state, IsStartMemory, exec_start, Finishes, RunsTo, run_text}
+use Rattle.jz_correct.specs.Ends.{EndsAfter}
 use Rattle.jz_leak.specs.declared.event.Event.{Event}
 use Rattle.jz_listing.specs.declared.compiled.Compiled.{Compiled}
 use Rattle.x64_insn.specs.declared.types.FaultKind.{FaultKind}

@@ -12,8 +12,8 @@ use Rattle.jz_tree.specs.declared.Var.{Var}
 use Rattle.jz_tree.specs.declared.Fun.{Fun}
 use Rattle.jz_listing.specs.declared.compiled.Compiled.{Compiled}
 use Rattle.jasminc_top.specs.Compiling.{add_code, compiled_of}
-use Rattle.jasminc_top.specs.Frames.{StackVariable, Place, places_from, saved_slots, stacked_by, stacked_if, stacked_among, end_from, saved_of, frame_end, frame_size, frame_of, preserved_registers}
-use Rattle.jasminc_top.specs.Starts.{IsStart}
+use Rattle.jz_correct.specs.Frames.{StackVariable, Place, places_from, saved_slots, stacked_by, stacked_if, stacked_among, end_from, saved_of, frame_end, frame_size, frame_of, preserved_registers}
+use Rattle.jz_correct.specs.Starts.{IsStart}
 use Rattle.x64_machine.specs.Steps.{Config}
 
 -- ---- the least size

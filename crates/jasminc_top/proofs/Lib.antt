@@ -4,13 +4,11 @@ pub mod Following
 pub mod ArgumentRegisters
 pub mod Begun
 pub mod Causes
-pub mod StepRuns
 pub mod AddRun
 pub mod ExecStart
 pub mod AddKept
 pub mod StartLaws
 pub mod FrameLaws
-mod RegionExamples
 pub mod Rows
 pub mod AddSource
 pub mod AddCarries

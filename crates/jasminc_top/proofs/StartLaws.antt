@@ -14,7 +14,8 @@ use Rattle.x64_insn.specs.Rows.{reg_value, number_of}
 use Rattle.jz_tree.specs.declared.Fun.{Fun}
 use Rattle.jz_leak.specs.declared.event.Event.TheVariants as event
 use Rattle.x64_machine.specs.declared.step.Step.TheVariants.{Ended, Fault}
-use Rattle.jasminc_top.specs.Compiling.{compiled_of, variable_of, args_of, argument_registers, result_registers, add_code}
+use Rattle.jasminc_top.specs.Compiling.{compiled_of, variable_of, args_of, add_code}
+use Rattle.jz_correct.specs.Registers.{argument_registers, result_registers}
 use Rattle.jasminc_top.specs.OneForm.{TakesTwo}
 use Rattle.jz_parse.specs.Parsing.{Derives, tree_of}
 use Rattle.jz_tree.specs.declared.Program.{Program}
@@ -22,10 +23,11 @@ use Rattle.jz_lex.specs.declared.token.Token.{Token}
 use Rattle.x64_machine.proofs.MachineRunning.{none_made, end_stays, steps_both}
 use Rattle.jasminc_top.proofs.AddKept.{keeps}
 use Rattle.x64_machine.specs.Steps.{Config, Ran, step_of, steps_of}
-use Rattle.jasminc_top.specs.Running.{EndsAfter, code_base, return_slot, IsStartMemory, exec_start, start_state}
-use Rattle.jasminc_top.specs.Starts.{IsIn, IsValid, AreOfSizes, MeetsPreconditions, IsStart, Stand, stack_at}
-use Rattle.jasminc_top.specs.Frames.{preserved_registers}
-use Rattle.jasminc_top.specs.Agreement.{Agrees, NeverFaults, EndsWith}
+use Rattle.jasminc_top.specs.Running.{code_base, return_slot, IsStartMemory, exec_start, start_state}
+use Rattle.jz_correct.specs.Ends.{EndsAfter}
+use Rattle.jz_correct.specs.Starts.{IsIn, IsValid, AreOfSizes, MeetsPreconditions, IsStart, Stand, stack_at}
+use Rattle.jz_correct.specs.Frames.{preserved_registers}
+use Rattle.jz_correct.specs.Agreement.{Agrees, NeverFaults, EndsWith}
 use Rattle.jasminc_top.proofs.AddRun as add
 use Rattle.jasminc_top.proofs.ExecStart.{add_bytes, AreWords, at_add}
 

@@ -18,15 +18,9 @@ use Rattle.jz_leak.specs.declared.transformer.Form.TheVariants.{Frame}
 use Rattle.jz_leak.specs.declared.transformer.Out.TheVariants as out
 use Rattle.jz_leak.specs.declared.transformer.Case.TheVariants.{Op}
 use Rattle.jz_leak.specs.declared.transformer.Transformer.{Transformer}
+use Rattle.jz_correct.specs.Registers.{argument_registers, result_registers}
 use Rattle.jz_listing.specs.declared.compiled.Arg.{Arg}
 use Rattle.jz_listing.specs.declared.compiled.Compiled.{Compiled}
-
--- the registers of integer arguments and results, in their order (System V AMD64 ABI, 3.2.3)
-abbrev pub argument_registers : List Reg
-argument_registers = reg.Rdi ∷ reg.Rsi ∷ reg.Rdx ∷ reg.Rcx ∷ reg.R8 ∷ reg.R9 ∷ []
-
-abbrev pub result_registers : List Reg
-result_registers = reg.Rax ∷ reg.Rdx ∷ []
 
 -- variables in these registers, one after the other; each is a word of 64 bits
 abbrev pub args_of : List Var → List Reg → List Arg

@@ -12,9 +12,10 @@ use Rattle.jz_parse.specs.Reading.{Reads}
 use Rattle.jz_listing.specs.Listing.{listing_text}
 use Rattle.jasminc_top.specs.Answers.{HasFile, function_named, compiled_named}
 use Rattle.x64_machine.specs.Steps.{steps_of}
-use Rattle.jasminc_top.specs.Running.{EndsAfter, code_base, return_slot, exec_start, run_text}
-use Rattle.jasminc_top.specs.Starts.{MeetsPreconditions, IsStart}
-use Rattle.jasminc_top.specs.Correctness.{IsCorrect, AreCorrect}
+use Rattle.jasminc_top.specs.Running.{code_base, return_slot, exec_start, run_text}
+use Rattle.jz_correct.specs.Ends.{EndsAfter}
+use Rattle.jz_correct.specs.Starts.{MeetsPreconditions, IsStart}
+use Rattle.jz_correct.specs.Correctness.{IsCorrect, AreCorrect}
 
 -- The file's text reads as a program, what is made has a correct function for each of its functions, in the order of the text, and
 -- their listing was written and nothing else.

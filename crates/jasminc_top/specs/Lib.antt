@@ -3,11 +3,7 @@ pub mod Compiling
 pub mod Refusals
 pub mod Running
 pub mod Answers
-pub mod Frames
-pub mod Starts
-pub mod Agreement
 pub mod OneForm
 pub mod Halting
 pub mod Runs
-pub mod Correctness
 pub mod Headline

@@ -18,7 +18,8 @@ use Rattle.jz_listing.specs.declared.compiled.Arg.{Arg}
 use Rattle.jz_listing.specs.declared.compiled.Compiled.{Compiled}
 use Rattle.jasminc_top.specs.declared.exec.Finish.{Finish}
 use Rattle.jasminc_top.specs.declared.exec.Finish.TheVariants as finish
-use Rattle.jasminc_top.specs.Compiling.{argument_registers}
+use Rattle.jz_correct.specs.Registers.{argument_registers}
+use Rattle.jz_correct.specs.Ends.{EndsAfter}
 use Rattle.jz_leak.specs.MemoryMap.{AddsBytes}
 use Rattle.x64_machine.specs.MachineRuns.{start_of}
 use Rattle.x64_machine.specs.Steps.{Config, step_of, steps_of}
@@ -57,11 +58,6 @@ abbrev pub IsStartMemory : Memory → Type 0
 IsStartMemory m = AddsBytes map_of.empty m return_slot (replicate 8 0)
 
 -- ---- runs
-
--- the run ends with its k-th step, and not before
-pub record EndsAfter (code : List ℕ) (base : ℕ) (c : Config) (k : ℕ) : Type 0 where
-  pub ended : (steps_of code base c k).after.ended ≡ true
-  pub before : (j : ℕ) → j < k → (steps_of code base c j).after.ended ≡ false
 
 -- how a run of at most so many steps ended, and where it stands then
 abbrev pub Finishes : List ℕ → ℕ → Config → ℕ → Config → Finish → Type 0

@@ -1,7 +1,8 @@
 // From a program to its functions' code.
 ghost use Rattle.std.specs.Prelude.{◌≡◌, ◌++◌, [], ◌∷◌, List, ℕ, map, slice_get, length, IfOk};
 ghost use Rattle.std.specs.List.{concat};
-ghost use Rattle.jasminc_top.specs.Compiling.{add_code, add_transformer, argument_registers, result_registers, args_of, compiled_of, made_of, variable_of};
+ghost use Rattle.jasminc_top.specs.Compiling.{add_code, add_transformer, args_of, compiled_of, made_of, variable_of};
+ghost use Rattle.jz_correct.specs.Registers.{argument_registers, result_registers};
 ghost use Rattle.x64_insn.specs.Chosen.{chosen_bytes};
 
 use jz_data::Seq;

@@ -5,7 +5,7 @@ ghost use Rattle.jz_tree.specs.declared.Fun.{Fun};
 ghost use Rattle.jz_tree.specs.declared.Program.{Program};
 ghost use Rattle.jz_parse.specs.Reading.{Reads};
 ghost use Rattle.jasminc_top.specs.Compiling.{compiled_of, made_of};
-ghost use Rattle.jasminc_top.specs.Correctness.{CarriesOver, AreCorrect};
+ghost use Rattle.jz_correct.specs.Correctness.{CarriesOver, AreCorrect};
 
 /// For each function of a text that is read: where the source ends within n turns, the bytes end without a fault, with
 /// its results and memory, and show the printed transformer applied to what the source leaks; where it wants one turn

@@ -4,7 +4,8 @@ ghost use Rattle.std.specs.List.{concat};
 ghost use Rattle.x64_machine.specs.MachineRuns.{code_of, base_of, config_of, start_of, SameCode};
 ghost use Rattle.x64_machine.specs.Steps.{events_of, steps_of};
 ghost use Rattle.jasminc_top.specs.Running.{IsStartMemory, start_state, with_numbers, Finishes, number_text, word_text, event_line, result_line, run_text, RunsTo};
-ghost use Rattle.jasminc_top.specs.Compiling.{add_code, argument_registers};
+ghost use Rattle.jasminc_top.specs.Compiling.{add_code};
+ghost use Rattle.jz_correct.specs.Registers.{argument_registers};
 ghost use Rattle.jasminc_top.specs.Answers.{step_limit};
 ghost use Rattle.x64_insn.specs.Chosen.{chosen_bytes};
 

@@ -1,1 +1,4 @@
 pub mod LimitWalks
+pub mod Lines
+pub mod Carrying
+pub mod Correct

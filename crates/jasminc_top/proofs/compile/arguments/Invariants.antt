@@ -1,5 +1,6 @@
 use Rattle.std.proofs.Common.{◌≡◌, ◌++◌, drop, map}
-use Rattle.jasminc_top.specs.Compiling.{args_of, argument_registers, variable_of}
+use Rattle.jasminc_top.specs.Compiling.{args_of, variable_of}
+use Rattle.jz_correct.specs.Registers.{argument_registers}
 use Rattle.jasminc_top.proofs.compile.arguments.Given as goal
 
 abbrev pub invariant-loop-i : goal.invariant-loop-i

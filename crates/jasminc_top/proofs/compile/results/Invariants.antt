@@ -1,5 +1,6 @@
 use Rattle.std.proofs.Common.{◌≡◌, ◌++◌, drop}
-use Rattle.jasminc_top.specs.Compiling.{args_of, result_registers}
+use Rattle.jasminc_top.specs.Compiling.{args_of}
+use Rattle.jz_correct.specs.Registers.{result_registers}
 use Rattle.jasminc_top.proofs.compile.results.Given as goal
 
 abbrev pub invariant-loop-i : goal.invariant-loop-i

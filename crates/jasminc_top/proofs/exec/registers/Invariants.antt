@@ -1,5 +1,5 @@
 use Rattle.std.proofs.Common.{◌≡◌, drop}
-use Rattle.jasminc_top.specs.Compiling.{argument_registers}
+use Rattle.jz_correct.specs.Registers.{argument_registers}
 use Rattle.jasminc_top.specs.Running.{with_numbers, bare_registers}
 use Rattle.jasminc_top.proofs.exec.registers.Given as goal
 

@@ -6,7 +6,7 @@ use Rattle.x64_insn.specs.declared.types.Reg.TheVariants as reg
 use Rattle.jz_listing.specs.declared.compiled.Arg.{Arg}
 use Rattle.jz_listing.specs.declared.compiled.Pre.{Pre}
 use Rattle.jz_listing.specs.declared.compiled.Pre.TheVariants as pre
-use Rattle.jasminc_top.specs.Starts.{AreMet, regions_of}
+use Rattle.jz_correct.specs.Starts.{AreMet, regions_of}
 
 abbrev pointer_and_length : List Arg
 pointer_and_length = record { name = codes "p"; size = S64; reg = reg.Rdi } ∷ record { name = codes "len"; size = S64; reg = reg.Rsi } ∷ []

@@ -32,14 +32,14 @@ use Rattle.jz_ct.specs.Labels.{IsConstantTime}
 use Rattle.jz_listing.specs.declared.compiled.Arg.{Arg}
 use Rattle.jz_listing.specs.declared.compiled.Pre.{Pre}
 use Rattle.jz_listing.specs.declared.compiled.Compiled.{Compiled}
-use Rattle.jasminc_top.specs.Compiling.{argument_registers, result_registers}
-use Rattle.jasminc_top.specs.Frames.{Place, layout_of, layout_end, saved_of, saved_slots, frame_of, from_entry}
+use Rattle.jz_correct.specs.Registers.{argument_registers, result_registers}
+use Rattle.jz_correct.specs.Frames.{Place, layout_of, layout_end, saved_of, saved_slots, frame_of, from_entry}
 use Rattle.jz_leak.specs.RunLeaks.{Leak}
 use Rattle.jz_meaning.specs.RunRules.{End, Cut, Stuck}
 use Rattle.jz_meaning.specs.SourceRuns.{Returned, FunOutcome, IsRun}
 use Rattle.x64_machine.specs.Steps.{Config, steps_of}
-use Rattle.jasminc_top.specs.Starts.{MeetsPreconditions, IsStart}
-use Rattle.jasminc_top.specs.Agreement.{NeverFaults, EndsWith}
+use Rattle.jz_correct.specs.Starts.{MeetsPreconditions, IsStart}
+use Rattle.jz_correct.specs.Agreement.{NeverFaults, EndsWith}
 use Rattle.jz_leak.specs.Applying.{apply_of, Fits}
 
 -- so many steps are enough for n turns

@@ -9,9 +9,9 @@ use Rattle.x64_insn.specs.Rows.{reg_value}
 use Rattle.jz_leak.specs.declared.event.Event.{Event}
 use Rattle.jz_listing.specs.declared.compiled.Compiled.{Compiled}
 use Rattle.x64_machine.specs.declared.step.Step.TheVariants.{Fault}
-use Rattle.jasminc_top.specs.Frames.{preserved_registers}
-use Rattle.jasminc_top.specs.Starts.{IsIn, IsInOne, Stand, frame_at, regions_for}
-use Rattle.jasminc_top.specs.Running.{EndsAfter}
+use Rattle.jz_correct.specs.Frames.{preserved_registers}
+use Rattle.jz_correct.specs.Starts.{IsIn, IsInOne, Stand, frame_at, regions_for}
+use Rattle.jz_correct.specs.Ends.{EndsAfter}
 use Rattle.x64_machine.specs.Steps.{Config, step_of, steps_of}
 
 -- The configuration agrees with results and a memory, as seen from the start on these words.

@@ -1,0 +1,5 @@
+pub mod StepRuns
+mod RegionExamples
+pub mod PlainCode
+pub mod PlainEnds
+pub mod SlotLoads

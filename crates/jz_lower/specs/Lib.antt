@@ -1,0 +1,4 @@
+pub mod Lowering
+pub mod Living
+pub mod Straight
+pub mod Placing

@@ -1,0 +1,2 @@
+//! Instructions of statements.
+#![tactic(auto)]
