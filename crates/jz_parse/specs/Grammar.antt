@@ -112,7 +112,8 @@ module _ (d : ℕ) where
   abbrev pub body : Lang Body
   body = (the (codes "{") ▸ each item ▸ ending ▸ the (codes "}")) ⇒ (λ p. body_of p.1.0 p.1.1.0)
 
-  -- fun = "export" "fn" ID "(" [ group { "," group } ] ")" [ "->" rtype { "," rtype } ] "{" { decl | stmt } [ "return" [ names ] ";" ] "}"
+  -- fun = "export" "fn" ID "(" [ group { "," group } ] ")" [ "->" rtype { "," rtype } ]
+  --       "{" { decl | stmt } [ "return" [ names ] ";" ] "}"
   abbrev pub function : Lang Fun
   function = (key (codes "export") ▸ key (codes "fn") ▸ name ▸ params ▸ results ▸ body) ⇒ (λ p. fun_of p.1.1.0 p.1.1.1.0 p.1.1.1.1.0 p.1.1.1.1.1)
 
