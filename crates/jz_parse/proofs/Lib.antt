@@ -8,3 +8,4 @@ pub mod Lists
 pub mod Same
 pub mod Program
 pub mod Faults
+pub mod Assigning

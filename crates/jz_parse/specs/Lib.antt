@@ -7,3 +7,4 @@ pub mod Grammar
 pub mod Gave
 pub mod Readers
 pub mod Deriving
+pub mod Derived

@@ -4,6 +4,7 @@
 
 mod cursor;
 mod declare;
+mod derived;
 mod fault;
 mod first;
 #[cfg(test)]
@@ -17,6 +18,7 @@ mod statement;
 mod tests;
 mod tree;
 
+pub use derived::statements_assign_to_one;
 pub use fault::{SyntaxFault, SyntaxKind};
 pub use first::{
     a_first_fault_is_at_a_token, no_first_fault_of_a_program, one_first_fault, one_first_program,
