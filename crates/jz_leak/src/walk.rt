@@ -5,7 +5,9 @@ ghost use Rattle.jz_words.specs.Words.{residue};
 ghost use Rattle.jz_leak.specs.RunLeaks as run;
 ghost use Rattle.jz_leak.specs.Applying.{number_of, event_of, events_for, apply_of, Loop, Fits};
 ghost use Rattle.jz_leak.specs.Shown.{shown_of, ShowsFitting};
-ghost use Rattle.jz_leak.specs.Walks.{Adds, leak_walk, item_walk, turn_walk, rounds_walk, turns_walk, shown, ◌▹◌};
+ghost use Rattle.jz_leak.specs.declared.leak.Item.TheOpen.{Item-F};
+ghost use Rattle.jz_leak.specs.declared.transformer.Case.TheViews.{out-Case};
+ghost use Rattle.jz_leak.specs.Walks.{layer_walk, Adds, leak_walk, item_walk, turn_walk, rounds_walk, turns_walk, shown, ◌▹◌};
 
 use crate::event::{Event, Events};
 use crate::leak::{Item, Leak, Turn};
@@ -113,25 +115,10 @@ fn walk_item(
             }
             _ => Ok(Reach::Stop),
         },
-        Item::If(numbers, more, arm) => match case {
-            Case::If {
-                test,
-                then_outs,
-                then_tr,
-                else_outs,
-                else_tr,
-            } => {
-                emit(events, rsp, numbers, test)?;
-                if *more {
-                    let reach = walk_arm(events, rsp, numbers, then_outs, arm, then_tr)?;
-                    Ok(reach)
-                } else {
-                    let reach = walk_arm(events, rsp, numbers, else_outs, arm, else_tr)?;
-                    Ok(reach)
-                }
-            }
-            _ => Ok(Reach::Stop),
-        },
+        Item::If(numbers, more, arm) => {
+            let reach = walk_choice(events, rsp, numbers, *more, arm, case)?;
+            Ok(reach)
+        }
         Item::While(turns) => match case {
             Case::While {
                 prologue,
@@ -148,20 +135,71 @@ fn walk_item(
             Case::For(trs) => walk_rounds(events, rsp, rounds, trs),
             _ => Ok(Reach::Stop),
         },
-        Item::Call(numbers, callee, results_numbers) => match case {
-            Case::Call {
-                arguments,
-                body,
-                results,
-            } => {
-                let reach = walk_arm(events, rsp, numbers, arguments, callee, body)?;
-                if reach == Reach::End {
-                    emit(events, rsp, results_numbers, results)?;
-                }
+        Item::Call(numbers, callee, results_numbers) => {
+            let reach = walk_call(events, rsp, numbers, callee, results_numbers, case)?;
+            Ok(reach)
+        }
+    }
+}
+
+#[cycle(walk)]
+fn walk_choice(
+    events: &mut Vec<Event>,
+    rsp: u64,
+    numbers: &Seq<u64>,
+    more: bool,
+    arm: &Leak,
+    case: &Case,
+) -> Result<Reach, AllocError>
+    ensures { IfOk result (λ reach. Adds events.old.items events.new.items reach
+        (layer_walk rsp (Item-F.If numbers.now more (leak_walk rsp arm.now)) (out-Case case.now))) }
+{
+    match case {
+        Case::If {
+            test,
+            then_outs,
+            then_tr,
+            else_outs,
+            else_tr,
+        } => {
+            emit(events, rsp, numbers, test)?;
+            if more {
+                let reach = walk_arm(events, rsp, numbers, then_outs, arm, then_tr)?;
+                Ok(reach)
+            } else {
+                let reach = walk_arm(events, rsp, numbers, else_outs, arm, else_tr)?;
                 Ok(reach)
             }
-            _ => Ok(Reach::Stop),
-        },
+        }
+        _ => Ok(Reach::Stop),
+    }
+}
+
+#[cycle(walk)]
+fn walk_call(
+    events: &mut Vec<Event>,
+    rsp: u64,
+    numbers: &Seq<u64>,
+    callee: &Leak,
+    results_numbers: &Seq<u64>,
+    case: &Case,
+) -> Result<Reach, AllocError>
+    ensures { IfOk result (λ reach. Adds events.old.items events.new.items reach
+        (layer_walk rsp (Item-F.Call numbers.now (leak_walk rsp callee.now) results_numbers.now) (out-Case case.now))) }
+{
+    match case {
+        Case::Call {
+            arguments,
+            body,
+            results,
+        } => {
+            let reach = walk_arm(events, rsp, numbers, arguments, callee, body)?;
+            if reach == Reach::End {
+                emit(events, rsp, results_numbers, results)?;
+            }
+            Ok(reach)
+        }
+        _ => Ok(Reach::Stop),
     }
 }
 

@@ -4,6 +4,8 @@
 mod compiled;
 mod laws;
 mod lines;
+#[cfg(test)]
+mod tests;
 mod transformers;
 
 pub use compiled::{Arg, Compiled, Pre};
