@@ -3,8 +3,10 @@
 
 mod copying;
 mod expanding;
+mod laws;
 mod limits;
 #[cfg(test)]
 mod tests;
 
 pub use expanding::expand;
+pub use laws::placed_is_correct;
