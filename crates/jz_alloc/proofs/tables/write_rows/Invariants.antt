@@ -1,0 +1,13 @@
+use Rattle.std.proofs.Common.{◌≡◌, ℕ, ◌+◌, ◌*◌, ◌/◌, ◌<◌, ◌≤◌, ◌||◌, ◌&&◌, not, length, take, slice_index_or, [], nat_lt, nat_le, Bool, false}
+use Rattle.std.specs.List.{All, list_all, list_any}
+use Rattle.jz_bits.specs.Has.{has}
+use Rattle.jz_ir.specs.Paths.{among}
+use Rattle.jz_ir.specs.Places.{op_at, kind_has, need_fits, op_fits, meets}
+use Rattle.jz_alloc.specs.Tables.{any_below, taken, reaches, AllWide, row_has}
+use Rattle.jz_alloc.proofs.tables.write_rows.Given as goal
+
+abbrev pub invariant-loop-v : goal.invariant-loop-v
+invariant-loop-v l = (length l.rows.items ≡ l.v) × AllWide l.vars l.rows.items × ((u v : ℕ) → u < l.v → row_has l.rows.items u v ≡ false)
+
+abbrev pub invariant-loop-i : goal.invariant-loop-i
+invariant-loop-i l = (length l.rows.items ≡ l.vars) × AllWide l.vars l.rows.items × ((u v : ℕ) → u < l.vars → row_has l.rows.items u v ≡ any_below l.i (λ i. reaches l.ops l.after i u v))
