@@ -1,11 +1,11 @@
 -- First fit over tables.
-use Rattle.std.proofs.Common.{◌≡◌, ◌≢◌, ℕ, zero, suc, ◌+◌, ◌-◌, ◌*◌, ◌/◌, ◌<◌, ◌≤◌, ◌⊎◌, inl, inr, ◌↔◌, List, [], ◌∷◌, ◌++◌, Bool, true, false, not, ◌&&◌, ◌||◌, IsTrue, IsFalse, length, get_or, set, drop, take, replicate, Option, Some, None, refl, sym, ap, ◌∙◌, subst, arith, nat_eq, get_or-set_same, get_or-set_other, drop-cons, add-one, length-set}
+use Rattle.std.proofs.Common.{◌≡◌, ◌≢◌, ℕ, suc, ◌+◌, ◌/◌, ◌<◌, ◌≤◌, ◌⊎◌, inl, inr, ◌↔◌, List, [], ◌∷◌, Bool, true, false, ◌||◌, IsTrue, length, get_or, set, drop, replicate, Option, Some, None, refl, sym, ap, ◌∙◌, subst, arith, nat_eq, get_or-set_same, get_or-set_other, drop-cons, add-one, length-set}
 use Rattle.std.proofs.lemmas.Bool.{false_from_ne_true, cases_eq, cases_lt, eqb-true}
 use Rattle.std.proofs.lemmas.Bool.Decides.{nat_tests}
 use Rattle.std.proofs.lemmas.List.{get_or-replicate, get_or_past, get_or_default, drop_all, length-replicate}
 use Rattle.std.proofs.lemmas.List.Elements.{All-set}
-use Rattle.jz_bits.specs.Has.{has, Shares}
-use Rattle.jz_ir.specs.Places.{Out, placed, refused, First, all_placed, one_placed, one_left, Takes, Free, IsLeft}
+use Rattle.jz_bits.specs.Has.{has}
+use Rattle.jz_ir.specs.Places.{Out, placed, refused, First, all_placed, one_placed, one_left, Free}
 use Rattle.jz_alloc.specs.Tables.{row_has, AllWide}
 use Rattle.jz_alloc.specs.Fit.{IsOpen, MeetsIn, ConflictsIn, TakenIn}
 

@@ -1,10 +1,10 @@
 -- First fit over tables is first fit by paths.
-use Rattle.std.proofs.Common.{◌≡◌, ◌≢◌, ℕ, zero, suc, ◌+◌, ◌-◌, ◌<◌, ◌≤◌, ◌⊎◌, inl, inr, ◌↔◌, Bool, true, false, not, ◌&&◌, ◌||◌, List, [], ◌∷◌, ◌++◌, IsTrue, IsFalse, Option, Some, None, length, get_or, refl, sym, ap, ◌∙◌, subst, arith, replicate, map, length-set, zero-add}
+use Rattle.std.proofs.Common.{◌≡◌, ℕ, zero, suc, ◌+◌, ◌<◌, ◌⊎◌, inl, inr, ◌↔◌, Bool, true, false, not, ◌&&◌, ◌||◌, List, [], ◌∷◌, ◌++◌, IsTrue, IsFalse, Option, Some, None, length, get_or, refl, sym, ap, ◌∙◌, subst, arith, replicate, map, length-set, zero-add}
 use Rattle.std.specs.List.{All}
 use Rattle.std.proofs.lemmas.List.{get_or_past}
 use Rattle.std.proofs.lemmas.Bool.{cases_lt, cases_eq, eqb-true, lt-ltb}
 use Rattle.std.proofs.lemmas.List.Elements.{All-get_or, All-from_get_or, All-weaker, All-push}
-use Rattle.std.specs.Prelude.{nat_lt, nat_le, nat_eq, if◌then◌else◌}
+use Rattle.std.specs.Prelude.{nat_lt, nat_le, nat_eq}
 use borrow.Author.Tests.{ltb-true}
 use Rattle.jz_bits.specs.Has.{has}
 use Rattle.jz_bits.proofs.One.{past}
@@ -27,7 +27,7 @@ use Rattle.jz_ir.specs.declared.code.Kind.TheVariants.{Word, Flag}
 use Rattle.x64_insn.specs.declared.types.Place.{Place}
 use Rattle.jz_ir.specs.Order.{number_of, has_place}
 use Rattle.jz_ir.specs.Paths.{among}
-use Rattle.jz_ir.specs.Places.{op_at, no_op, ConflictAt, TakenAt, Out, placed, refused, First, all_placed, one_placed, one_left, Takes, Free, IsLeft, HeldByVar, HeldBy, FirstHolder, kind_has, is_of_kind, meets, order_of}
+use Rattle.jz_ir.specs.Places.{op_at, no_op, ConflictAt, TakenAt, Out, refused, First, all_placed, one_placed, one_left, Free, IsLeft, HeldBy, FirstHolder, kind_has, is_of_kind, meets, order_of}
 
 -- the last variable of a refusal is left
 pub left_of : {M : ℕ → ℕ → Type 0} {C : ℕ → ℕ → Type 0} {T : ℕ → ℕ → Type 0} {vs : List ℕ} {done : List (Option ℕ)} {v : ℕ} {p : List (Option ℕ)} → First M C T vs done (refused v p) → IsLeft M C T p v
@@ -71,7 +71,7 @@ module _ (ops : List Op) (L L' : ℕ → ℕ → Type 0) (same : (i : ℕ) → i
   taken_from i v q (f, w, l) = (f, w, (same i (fixed i q f) v).1 l)
 
   held_to : (places : List (Option ℕ)) (v q i : ℕ) (who : Option ℕ) → HeldBy ops L places v q i who → HeldBy ops L' places v q i who
-  held_to places v q i (Some u) (e, c) = (e, conflict_to i u v c)
+  held_to places v q i (Some u) (h, first) = ((h.0, conflict_to i u v h.1), λ w l x. first w l (x.0, conflict_from i w v x.1))
   held_to places v q i None (t, no_var) = (taken_to i v q t, λ u h. no_var u (h.0, conflict_from i u v h.1))
 
   pub holder_to : {places : List (Option ℕ)} {v q : ℕ} {at : _} {who : Option ℕ} → FirstHolder ops L places v q at who → FirstHolder ops L' places v q at who

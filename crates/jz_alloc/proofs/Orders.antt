@@ -1,5 +1,5 @@
 -- The order of placing.
-use Rattle.std.proofs.Common.{◌≡◌, ◌≢◌, ℕ, zero, suc, ◌+◌, ◌-◌, ◌<◌, ◌≤◌, ◌⊎◌, inl, inr, Bool, true, false, not, List, [], ◌∷◌, ◌++◌, IsTrue, IsFalse, length, get_or, cond, refl, sym, ap, ◌∙◌, subst, arith, add-zero, zero-add, add-one, append_assoc, append-nil}
+use Rattle.std.proofs.Common.{◌≡◌, ◌≢◌, ℕ, zero, suc, ◌+◌, ◌<◌, ◌≤◌, Bool, true, false, not, List, [], ◌∷◌, ◌++◌, IsTrue, IsFalse, length, get_or, cond, refl, sym, ap, ◌∙◌, subst, arith, add-zero, zero-add, add-one, append_assoc, append-nil}
 use Rattle.std.specs.List.{All, filter, range_with_len}
 use Rattle.std.proofs.lemmas.List.Elements.{All-append, All-filter, All-from_get_or, All-weaker, All-nil, All-cons}
 use Rattle.std.proofs.lemmas.List.FromFn.{length-range_with_len, get_or-range_with_len}

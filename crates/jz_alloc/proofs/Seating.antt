@@ -1,5 +1,5 @@
 -- What first fit gives: each variable a place, apart from what conflicts with it.
-use Rattle.std.proofs.Common.{◌≡◌, ◌≢◌, ℕ, zero, suc, ◌+◌, ◌<◌, ◌≤◌, ◌⊎◌, inl, inr, Bool, true, false, not, ◌||◌, List, [], ◌∷◌, ◌++◌, IsTrue, IsFalse, Option, Some, None, length, get_or, set, cond, drop, map, replicate, refl, sym, ap, ◌∙◌, subst, arith, nat_eq, get_or-set_same, get_or-set_other, length-set}
+use Rattle.std.proofs.Common.{◌≡◌, ◌≢◌, ℕ, zero, suc, ◌+◌, ◌<◌, ◌≤◌, ◌⊎◌, inl, inr, Bool, true, false, not, ◌||◌, List, [], ◌∷◌, ◌++◌, IsTrue, Option, Some, None, length, get_or, set, cond, drop, map, refl, sym, ap, ◌∙◌, subst, arith, nat_eq, get_or-set_same, get_or-set_other, length-set}
 use Rattle.std.specs.List.{All, filter, range_with_len}
 use Rattle.std.proofs.lemmas.Bool.{cases_eq, cases_lt, eqb-true}
 use Rattle.std.proofs.lemmas.Bool.Decides.{nat_tests}
@@ -14,7 +14,7 @@ use Rattle.jz_ir.specs.declared.code.Op.{Op}
 use Rattle.jz_ir.specs.Order.{number_of, has_place}
 use Rattle.jz_ir.specs.Paths.{among, IsLive, read_here, read_later}
 use Rattle.jz_ir.specs.Straight.{Next, next, LiveIn}
-use Rattle.jz_ir.specs.Places.{Below, IsWithin, op_at, no_op, kind_has, meets, has_need, order_of, ConflictAt, TakenAt, Out, placed, refused, First, all_placed, one_placed, one_left, Takes, Free, Meets, Conflict, Taken, FirstFit, all_of, place_at, AllocatedApart, KeptFromFixed, IsPlacing}
+use Rattle.jz_ir.specs.Places.{Below, IsWithin, op_at, no_op, kind_has, has_need, order_of, ConflictAt, Out, placed, First, all_placed, one_placed, one_left, Takes, Meets, Conflict, Taken, FirstFit, all_of, place_at, IsPlacing}
 use Rattle.jz_alloc.specs.Fit.{IsSeat}
 use Rattle.jz_alloc.proofs.Fitting.{none_placed}
 use Rattle.jz_alloc.proofs.Meaning.{and_both, or_cases, kind_below, among_below}

@@ -1,5 +1,5 @@
 -- What allocation answers, over any liveness.
-use Rattle.std.specs.Prelude.{◌≡◌, ◌↔◌, ℕ, Bool, List, Option, map, length}
+use Rattle.std.specs.Prelude.{◌≡◌, ◌↔◌, ℕ, Bool, List, Option, map}
 use Rattle.std.specs.List.{All, filter, range_with_len}
 use Rattle.x64_insn.specs.declared.types.Place.{Place}
 use Rattle.jz_ir.specs.declared.code.Code.{Code}

@@ -1,6 +1,6 @@
 -- First fit over tables.
-use Rattle.std.specs.Prelude.{◌≡◌, ℕ, ◌<◌, ◌⊎◌, List, [], IsTrue, IsFalse, slice_index_or, Option, Some, None}
-use Rattle.jz_bits.specs.Has.{has, Shares}
+use Rattle.std.specs.Prelude.{◌≡◌, ℕ, ◌<◌, ◌⊎◌, List, [], IsTrue, IsFalse, slice_index_or, Option, Some}
+use Rattle.jz_bits.specs.Has.{Shares}
 use Rattle.jz_ir.specs.Places.{Out, placed, refused}
 use Rattle.jz_alloc.specs.Tables.{row_has}
 use Rattle.jz_alloc.specs.declared.fit.Fit.{Fit}

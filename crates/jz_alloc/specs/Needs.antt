@@ -1,5 +1,5 @@
 -- The needs of a variable, in the order of the text.
-use Rattle.std.specs.Prelude.{◌≡◌, ℕ, ◌<◌, Bool, true, false, ◌&&◌, ◌||◌, List, [], ◌∷◌, nat_eq, nat_lt, if◌then◌else◌, IsTrue}
+use Rattle.std.specs.Prelude.{◌≡◌, ℕ, Bool, List, [], ◌∷◌, nat_eq, nat_lt, if◌then◌else◌, IsTrue}
 use Rattle.std.specs.List.{All}
 use Rattle.jz_ir.specs.declared.code.Op.{Op}
 use Rattle.jz_ir.specs.declared.code.Need.{Need}

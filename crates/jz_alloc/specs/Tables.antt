@@ -1,5 +1,5 @@
 -- What the tables say.
-use Rattle.std.specs.Prelude.{◌≡◌, ℕ, zero, suc, ◌+◌, ◌/◌, Bool, true, false, not, ◌&&◌, ◌||◌, List, [], ◌∷◌, slice_index_or, length}
+use Rattle.std.specs.Prelude.{◌≡◌, ℕ, zero, suc, ◌+◌, ◌/◌, Bool, false, not, ◌&&◌, ◌||◌, List, [], slice_index_or, length}
 use Rattle.std.specs.List.{All}
 use Rattle.jz_bits.specs.Has.{has}
 use Rattle.jz_ir.specs.declared.code.Op.{Op}

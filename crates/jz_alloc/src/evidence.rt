@@ -6,7 +6,7 @@ ghost use Rattle.jz_ir.specs.Order.{number_of, has_place};
 ghost use Rattle.jz_ir.specs.Paths.{among};
 ghost use Rattle.jz_ir.specs.Places.{op_at, HeldByVar, HeldBy, FirstHolder, TakenAt, ConflictAt};
 ghost use Rattle.jz_alloc.specs.Tables.{AllWide, row_has};
-ghost use Rattle.jz_alloc.specs.Holding.{LiveIn, IsHeld, WhoAt};
+ghost use Rattle.jz_alloc.specs.Holding.{LiveIn, IsHeld, WhoAt, VarAt, FirstVarAt};
 
 use crate::tables::holds;
 use jz_bits::Bits;
@@ -53,7 +53,8 @@ fn has_var(vars: &Seq<u32>, v: u32) -> bool
 
 /// The first variable in both rows.
 fn first_common(a: &Bits, b: &Bits, vars: u32) -> Option<u32>
-    ensures { MatchOption result ((u : ℕ) → u < vars → IsTrue (has a.now u) → IsTrue (has b.now u) → ⊥) (λ u. (u < vars) × IsTrue (has a.now u) × IsTrue (has b.now u)) }
+    ensures { MatchOption result ((u : ℕ) → u < vars → IsTrue (has a.now u) → IsTrue (has b.now u) → ⊥)
+        (λ u. (u < vars) × IsTrue (has a.now u) × IsTrue (has b.now u)) }
 {
     for u in 0..vars {
         if a.contains(u as usize) && b.contains(u as usize) {
@@ -65,7 +66,8 @@ fn first_common(a: &Bits, b: &Bits, vars: u32) -> Option<u32>
 
 /// The first of the variables that is in the row.
 fn first_in(vars: &Seq<u32>, row: &Bits) -> Option<u32>
-    ensures { MatchOption result ((u : ℕ) → IsTrue (among vars.now u) → IsTrue (has row.now u) → ⊥) (λ u. IsTrue (among vars.now u) × IsTrue (has row.now u)) }
+    ensures { MatchOption result ((u : ℕ) → IsTrue (among vars.now u) → IsTrue (has row.now u) → ⊥)
+        (λ u. IsTrue (among vars.now u) × IsTrue (has row.now u)) }
 {
     for u in vars.as_slice() {
         if row.contains(*u as usize) {
@@ -75,6 +77,23 @@ fn first_in(vars: &Seq<u32>, row: &Bits) -> Option<u32>
     None
 }
 
+/// The first variable of the row that conflicts with `v` at an operation, where `found` is one.
+fn first_conflicting(op: &Op, after: &Bits, held: &Bits, v: u32, found: u32) -> u32
+    requires { VarAt op.now after.now held.now v found }
+    ensures { FirstVarAt op.now after.now held.now v result }
+{
+    let is_written = has_var(&op.writes, v);
+    let is_live = after.contains(v as usize);
+    for u in 0..found {
+        let conflicts = is_live && has_var(&op.writes, u)
+            || is_written && after.contains(u as usize);
+        if conflicts && held.contains(u as usize) {
+            return u;
+        }
+    }
+    found
+}
+
 /// What keeps `v` from the place at one operation.
 fn who_at(op: &Op, after: &Bits, held: &Bits, vars: u32, v: u32, place: u8) -> Option<Option<u32>>
     requires { (u : ℕ) → IsTrue (has held.now u) → u < vars }
@@ -82,12 +101,12 @@ fn who_at(op: &Op, after: &Bits, held: &Bits, vars: u32, v: u32, place: u8) -> O
 {
     if has_var(&op.writes, v) {
         if let Some(u) = first_common(after, held, vars) {
-            return Some(Some(u));
+            return Some(Some(first_conflicting(op, after, held, v, u)));
         }
     }
     if after.contains(v as usize) {
         if let Some(u) = first_in(&op.writes, held) {
-            return Some(Some(u));
+            return Some(Some(first_conflicting(op, after, held, v, u)));
         }
         if holds(op.fixed.as_slice(), place) && !has_var(&op.writes, v) {
             return Some(None);
@@ -108,7 +127,9 @@ pub fn holder_of(
     requires rows { length after.now ≡ length ops.now }
     requires vars { length places.now < 2 ^ 32 }
     requires place { place < 20 }
-    ensures { IfOk result (λ r. MatchOption r (IsHeld ops.now after.now places.now v place → ⊥) (λ h. (number_of h.place ≡ place) × FirstHolder ops.now (LiveIn after.now) places.now v place h.span h.variable)) }
+    ensures { IfOk result (λ r. MatchOption r (IsHeld ops.now after.now places.now v place → ⊥)
+        (λ h. (number_of h.place ≡ place)
+        × FirstHolder ops.now (LiveIn after.now) places.now v place h.span h.variable)) }
 {
     let held = held_row(alloc, places, place)?;
     for i in 0..ops.len() {

@@ -28,7 +28,9 @@ fn first_open(
     requires busy { length busy.now ≡ 20 }
     requires holders { length holders.now ≡ 20 }
     requires wide { All (λ r. length r ≡ length row.now) holders.now }
-    ensures { MatchOption result ((q : ℕ) → q < 20 → IsOpen meets.now busy.now holders.now row.now v q → ⊥) (λ q. (q < 20) × IsOpen meets.now busy.now holders.now row.now v q × ((p : ℕ) → p < q → IsOpen meets.now busy.now holders.now row.now v p → ⊥)) }
+    ensures { MatchOption result ((q : ℕ) → q < 20 → IsOpen meets.now busy.now holders.now row.now v q → ⊥)
+        (λ q. (q < 20) × IsOpen meets.now busy.now holders.now row.now v q × ((p : ℕ) → p < q
+        → IsOpen meets.now busy.now holders.now row.now v p → ⊥)) }
 {
     for q in 0..20 {
         if meets[q].contains(v) && !busy[q].contains(v) && !row.meets(&holders[q]) {
@@ -47,7 +49,8 @@ pub fn place_all(
     rows: &[Bits],
 ) -> Result<Fit, AllocError>
     requires order { All (λ v. v < length rows.now) order.now }
-    requires distinct { (i j : ℕ) → i < j → j < length order.now → slice_index_or order.now i 0 ≢ slice_index_or order.now j 0 }
+    requires distinct { (i j : ℕ) → i < j → j < length order.now
+        → slice_index_or order.now i 0 ≢ slice_index_or order.now j 0 }
     requires meets { length meets.now ≡ 20 }
     requires taken { length taken.items ≡ 20 }
     requires taken_wide { AllWide (length rows.now) taken.items }

@@ -51,8 +51,10 @@ fn holders_of(
     requires rows { length after.now ≡ length ops.now }
     requires meets { length meets.now ≡ 20 }
     requires vars { length places.now < 2 ^ 32 }
-    requires held { (q : ℕ) → q < 20 → IsTrue (row_has meets.now q v) → (IsHeld ops.now after.now places.now v q → ⊥) → ⊥ }
-    ensures { IfOk result (λ hs. HoldsEach ops.now (LiveInRows after.now) places.now v (λ q. row_has meets.now q v) 20 hs) }
+    requires held { (q : ℕ) → q < 20 → IsTrue (row_has meets.now q v) → (IsHeld ops.now after.now places.now v q
+        → ⊥) → ⊥ }
+    ensures { IfOk result (λ hs. HoldsEach ops.now (LiveInRows after.now) places.now v
+        (λ q. row_has meets.now q v) 20 hs) }
 {
     let mut holders = Vec::new(alloc);
     for place in 0..20u8 {
@@ -132,9 +134,11 @@ fn allocate_straight(
 pub fn allocate(alloc: Global, code: &Code) -> Result<Places, Failure<NoPlace>>
     requires within { IsWithin code.now }
     requires count { length code.now.kinds < 2 ^ 32 }
-    ensures first { IfOk result (λ places. FirstFit code.now.ops code.now.kinds code.now.in_use (LiveIn code.now.ops) (all_of places)) }
+    ensures first { IfOk result
+        (λ places. FirstFit code.now.ops code.now.kinds code.now.in_use (LiveIn code.now.ops) (all_of places)) }
     ensures rule { IfOk result (λ places. IsPlacing code.now (LiveIn code.now.ops) places) }
-    ensures evidence { IfErr result (λ failure. IfRefused failure (λ refusal. IsEvidence code.now (LiveIn code.now.ops) refusal)) }
+    ensures evidence { IfErr result (λ failure. IfRefused failure
+        (λ refusal. IsEvidence code.now (LiveIn code.now.ops) refusal)) }
 {
     let ops = code.ops.as_slice();
     match allocate_straight(alloc, ops, code.kinds.as_slice(), code.in_use.as_slice())? {

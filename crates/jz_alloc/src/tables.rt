@@ -51,7 +51,8 @@ fn taken_row(
     requires rows { length after.now ≡ length ops.now }
     requires wide { AllWide vars after.now }
     ensures wide { IfOk result (λ b. length b ≡ vars / 64 + 1) }
-    ensures set { IfOk result (λ b. (v : ℕ) → has b v ≡ any_below (length ops.now) (λ i. taken ops.now after.now i v place)) }
+    ensures set { IfOk result (λ b. (v : ℕ) → has b v ≡ any_below (length ops.now)
+        (λ i. taken ops.now after.now i v place)) }
 {
     let mut row = Bits::new(alloc, vars)?;
     for i in 0..ops.len() {
@@ -78,7 +79,8 @@ fn leave_fit(row: &mut Bits, needs: &Seq<Need>, place: u8)
 /// The variables of the place's kind, where the place is in use.
 fn kind_row(alloc: Global, kinds: &[Kind], in_use: &[Place], place: u8) -> Result<Bits, AllocError>
     ensures wide { IfOk result (λ b. length b ≡ length kinds.now / 64 + 1) }
-    ensures set { IfOk result (λ b. (v : ℕ) → has b v ≡ (nat_lt v (length kinds.now) && kind_has kinds.now in_use.now v place)) }
+    ensures set { IfOk result (λ b. (v : ℕ) → has b v ≡ (nat_lt v (length kinds.now)
+        && kind_has kinds.now in_use.now v place)) }
 {
     let mut row = Bits::new(alloc, kinds.len())?;
     let is_in_use = holds(in_use, place);
@@ -104,7 +106,8 @@ fn meets_row(
 ) -> Result<Bits, AllocError>
     requires { All (Below (length kinds.now)) ops.now }
     ensures wide { IfOk result (λ b. length b ≡ length kinds.now / 64 + 1) }
-    ensures set { IfOk result (λ b. (v : ℕ) → has b v ≡ (nat_lt v (length kinds.now) && meets kinds.now in_use.now ops.now v place)) }
+    ensures set { IfOk result (λ b. (v : ℕ) → has b v ≡ (nat_lt v (length kinds.now)
+        && meets kinds.now in_use.now ops.now v place)) }
 {
     let mut row = kind_row(alloc, kinds, in_use, place)?;
     for op in ops {
@@ -119,7 +122,8 @@ fn add_rows(rows: &mut Vec<Bits>, writes: &Seq<u32>, row: &Bits)
     requires wide { All (λ r. length r ≡ length row.now) rows.old.items }
     ensures rows { length rows.new.items ≡ length rows.old.items }
     ensures wide { All (λ r. length r ≡ length row.now) rows.new.items }
-    ensures set { (u v : ℕ) → u < length rows.old.items → has (slice_index_or rows.new.items u []) v ≡ (has (slice_index_or rows.old.items u []) v || (among writes.now u && has row.now v)) }
+    ensures set { (u v : ℕ) → u < length rows.old.items → has (slice_index_or rows.new.items u []) v
+        ≡ (has (slice_index_or rows.old.items u []) v || (among writes.now u && has row.now v)) }
 {
     for w in writes.as_slice() {
         rows[*w as usize].union(row);
@@ -138,7 +142,8 @@ pub fn write_rows(
     requires wide { AllWide vars after.now }
     ensures rows { IfOk result (λ r. length r.items ≡ vars) }
     ensures wide { IfOk result (λ r. AllWide vars r.items) }
-    ensures set { IfOk result (λ r. (u v : ℕ) → u < vars → has (slice_index_or r.items u []) v ≡ any_below (length ops.now) (λ i. reaches ops.now after.now i u v)) }
+    ensures set { IfOk result (λ r. (u v : ℕ) → u < vars → has (slice_index_or r.items u []) v
+        ≡ any_below (length ops.now) (λ i. reaches ops.now after.now i u v)) }
 {
     let mut rows = Vec::new(alloc);
     for v in 0..vars {
@@ -161,7 +166,8 @@ pub fn meets_rows(
     requires { All (Below (length kinds.now)) ops.now }
     ensures rows { IfOk result (λ r. length r.items ≡ 20) }
     ensures wide { IfOk result (λ r. AllWide (length kinds.now) r.items) }
-    ensures set { IfOk result (λ r. (q v : ℕ) → q < 20 → has (slice_index_or r.items q []) v ≡ (nat_lt v (length kinds.now) && meets kinds.now in_use.now ops.now v q)) }
+    ensures set { IfOk result (λ r. (q v : ℕ) → q < 20 → has (slice_index_or r.items q []) v
+        ≡ (nat_lt v (length kinds.now) && meets kinds.now in_use.now ops.now v q)) }
 {
     let mut rows = Vec::new(alloc);
     for place in 0..20u8 {
@@ -182,7 +188,8 @@ pub fn taken_rows(
     requires wide { AllWide vars after.now }
     ensures rows { IfOk result (λ r. length r.items ≡ 20) }
     ensures wide { IfOk result (λ r. AllWide vars r.items) }
-    ensures set { IfOk result (λ r. (q v : ℕ) → q < 20 → has (slice_index_or r.items q []) v ≡ any_below (length ops.now) (λ i. taken ops.now after.now i v q)) }
+    ensures set { IfOk result (λ r. (q v : ℕ) → q < 20 → has (slice_index_or r.items q []) v
+        ≡ any_below (length ops.now) (λ i. taken ops.now after.now i v q)) }
 {
     let mut rows = Vec::new(alloc);
     for place in 0..20u8 {

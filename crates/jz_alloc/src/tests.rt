@@ -324,3 +324,23 @@ fn registers_that_are_not_in_use_are_not_given(rt: HostRuntime) -> Result<(), Fa
     );
     Ok(())
 }
+
+// ---- two variables in one place, written at once and never read
+#[test]
+fn of_two_holders_the_first_declared_is_told(rt: HostRuntime) -> Result<(), Fail> {
+    let a = rt.alloc();
+    let mut ops = Vec::new(a);
+    ops.push(op(a, (1, 1), &[], &[2], &[], &[(2, RAX, 1, 1)])?)?;
+    ops.push(op(
+        a,
+        (2, 1),
+        &[],
+        &[1, 0],
+        &[],
+        &[(0, RAX, 2, 1), (1, RAX, 2, 4)],
+    )?)?;
+    ops.push(op(a, (3, 1), &[2], &[], &[], &[])?)?;
+    let text = shown(a, &code(a, ops, 3, 0)?)?;
+    assert_eq!(rt; text.as_str(), "no 2 needs rax@1:1 held rax=0@2:1");
+    Ok(())
+}

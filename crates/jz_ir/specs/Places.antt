@@ -114,9 +114,9 @@ module _ (ops : List Op) (Live : ℕ → ℕ → Type 0) (places : List (Option 
   abbrev pub HeldByVar : ℕ → ℕ → Type 0
   HeldByVar i u = (slice_index_or places u None ≡ Some q) × ConflictAt ops Live i u v
 
-  -- a variable before a fixed write
+  -- a variable before a fixed write, and the first in the order of declaration
   abbrev pub HeldBy : ℕ → Option ℕ → Type 0
-  HeldBy i (Some u) = HeldByVar i u
+  HeldBy i (Some u) = HeldByVar i u × ((w : ℕ) → w < u → HeldByVar i w → ⊥)
   HeldBy i None = TakenAt ops Live i v q × ((u : ℕ) → HeldByVar i u → ⊥)
 
   -- and no earlier operation does

@@ -1,4 +1,4 @@
-use Rattle.std.proofs.Common.{◌≡◌, ℕ, ◌<◌, IsTrue}
+use Rattle.std.proofs.Common.{ℕ, ◌<◌, IsTrue}
 use Rattle.jz_bits.specs.Has.{has}
 use Rattle.jz_alloc.proofs.evidence.first_common.Given as goal
 

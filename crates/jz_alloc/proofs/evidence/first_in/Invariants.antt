@@ -1,4 +1,4 @@
-use Rattle.std.proofs.Common.{◌≡◌, ℕ, ◌<◌, IsTrue, take}
+use Rattle.std.proofs.Common.{ℕ, IsTrue, take}
 use Rattle.jz_bits.specs.Has.{has}
 use Rattle.jz_ir.specs.Paths.{among}
 use Rattle.jz_alloc.proofs.evidence.first_in.Given as goal

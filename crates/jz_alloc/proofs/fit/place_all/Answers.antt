@@ -1,12 +1,9 @@
-use Rattle.std.proofs.Common.{◌≡◌, ◌≢◌, ◌∙◌, refl, sym, ap, subst, rules, arith, ◌≤◌, ◌+◌, ◌*◌, ◌/◌, ℕ, ◌-◌, ◌<◌, ◌||◌, length, List, get_or, [], nat_eq}
-use Rattle.std.specs.List.{All}
+use Rattle.std.proofs.Common.{◌∙◌, ap, arith, ◌<◌, ◌||◌, length, get_or, [], nat_eq}
 use Rattle.jz_bits.specs.Has.{has}
 use Rattle.jz_alloc.specs.Tables.{row_has}
-use Rattle.jz_alloc.specs.Fit.{IsOpen}
-use Rattle.jz_alloc.proofs.Fitting.{Placing, put, left_over, ended, to_call, from_call}
+use Rattle.jz_alloc.proofs.Fitting.{put, left_over, ended, to_call, from_call}
 use Rattle.jz_alloc.proofs.Bounds.{wide_at}
 use Rattle.std.proofs.lemmas.List.{get_or_default}
-use Rattle.std.proofs.lemmas.List.Elements.{All-get_or}
 use Rattle.jz_alloc.proofs.fit.place_all.Goals as goal
 
 pub returns-in-None : goal.returns-in-None

@@ -1,4 +1,4 @@
-use Rattle.std.proofs.Common.{◌≡◌, ◌<◌, ℕ, length, false, get_or, replicate, None}
+use Rattle.std.proofs.Common.{◌≡◌, ◌<◌, ℕ, length, false}
 use Rattle.jz_alloc.specs.Tables.{AllWide, row_has}
 use Rattle.jz_alloc.proofs.Fitting.{Placing}
 use Rattle.jz_alloc.proofs.fit.place_all.Given as goal

@@ -1,5 +1,4 @@
-use Rattle.std.proofs.Common.{◌≡◌, ℕ, ◌<◌, length, get_or, ap, subst, arith}
-use Rattle.std.specs.List.{All}
+use Rattle.std.proofs.Common.{◌<◌, length, ap, arith}
 use Rattle.jz_alloc.proofs.Bounds.{below_at, need_below}
 use Rattle.jz_alloc.proofs.order.needy.Goals as goal
 

@@ -1,4 +1,4 @@
-use Rattle.std.proofs.Common.{◌≡◌, ◌∙◌, sym, ap, refl, not, true, false, ◌++◌, [], ℕ, Bool}
+use Rattle.std.proofs.Common.{◌∙◌, sym, ap, not, []}
 use Rattle.std.specs.List.{filter, range_with_len}
 use Rattle.jz_ir.specs.Places.{has_need}
 use Rattle.jz_alloc.proofs.Orders.{with_one, without_it}

@@ -1,4 +1,4 @@
-use Rattle.std.proofs.Common.{◌≡◌, ℕ, ◌++◌, not}
+use Rattle.std.proofs.Common.{◌≡◌, ◌++◌, not}
 use Rattle.std.specs.List.{filter, range_with_len}
 use Rattle.jz_ir.specs.Places.{has_need}
 use Rattle.jz_alloc.proofs.order.place_order.Given as goal

@@ -1,4 +1,4 @@
-use Rattle.std.proofs.Common.{◌≡◌, ◌∙◌, sym, subst, length}
+use Rattle.std.proofs.Common.{◌∙◌, sym, subst, length}
 use Rattle.std.specs.List.{All}
 use Rattle.jz_ir.specs.Straight.{LiveIn}
 use Rattle.jz_alloc.specs.Fit.{IsSeat}

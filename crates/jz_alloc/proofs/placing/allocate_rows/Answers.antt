@@ -1,15 +1,14 @@
-use Rattle.std.proofs.Common.{◌≡◌, ◌≢◌, ◌∙◌, sym, ap, subst, refl, ℕ, arith, IsTrue, ◌↔◌, ◌<◌, length, get_or, List, None, replicate, Option}
+use Rattle.std.proofs.Common.{◌≢◌, ◌∙◌, sym, ap, subst, ℕ, arith, IsTrue, ◌↔◌, ◌<◌, length, get_or, None, replicate, Option}
 use Rattle.std.specs.List.{All}
 use Rattle.std.proofs.lemmas.List.{length-replicate}
-use Rattle.jz_ir.specs.Places.{First, Out, order_of, refused, FirstHolder}
+use Rattle.jz_ir.specs.Places.{First, order_of, refused}
 use Rattle.jz_alloc.specs.Tables.{row_has}
 use Rattle.jz_alloc.specs.Fit.{MeetsIn, ConflictsIn, TakenIn, out_of}
 use Rattle.jz_alloc.specs.Holding.{IsHeld, LiveIn}
-use Rattle.jz_alloc.specs.declared.evidence.Holder.{Holder}
 use Rattle.jz_alloc.specs.Needs.{Ascending, In, Wants}
 use Rattle.jz_alloc.proofs.NeedLaw.{each_need, needs_ascend}
 use Rattle.jz_alloc.proofs.Orders.{order_below, order_distinct}
-use Rattle.jz_alloc.proofs.Meaning.{first_by_paths, something_holds, moved, left_length, left_below, same_tests, to_out, holders_moved}
+use Rattle.jz_alloc.proofs.Meaning.{first_by_paths, something_holds, moved, left_length, left_below, to_out, holders_moved}
 use Rattle.jz_alloc.proofs.placing.allocate_rows.Goals as goal
 use Rattle.jz_alloc.proofs.placing.allocate_rows.Goals.{In_ok-places, In-Refused}
 

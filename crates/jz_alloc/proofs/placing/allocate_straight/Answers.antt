@@ -1,4 +1,4 @@
-use Rattle.std.proofs.Common.{◌≡◌, ◌∙◌, sym, ap, subst, refl, ℕ, arith, ◌<◌, length, get_or, ◌↔◌, List}
+use Rattle.std.proofs.Common.{sym, subst, ℕ, ◌<◌, length, ◌↔◌}
 use Rattle.jz_alloc.specs.Holding.{LiveIn as LiveInRows}
 use Rattle.jz_ir.specs.Straight.{LiveIn}
 use Rattle.jz_alloc.proofs.Meaning.{allocated_to}

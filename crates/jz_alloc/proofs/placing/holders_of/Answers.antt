@@ -1,4 +1,4 @@
-use Rattle.std.proofs.Common.{◌≡◌, ◌∙◌, sym, ap, refl, not, true, false, ◌++◌, ◌∷◌, [], ℕ, Bool, arith, subst, get_or, ◌<◌, length, List}
+use Rattle.std.proofs.Common.{◌∙◌, sym, ap, [], arith}
 use Rattle.jz_bits.specs.Has.{has}
 use Rattle.std.proofs.lemmas.List.{get_or_default}
 use Rattle.jz_alloc.specs.Tables.{row_has}

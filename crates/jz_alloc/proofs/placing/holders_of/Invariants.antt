@@ -1,4 +1,3 @@
-use Rattle.std.proofs.Common.{◌≡◌}
 use Rattle.jz_alloc.specs.Tables.{row_has}
 use Rattle.jz_alloc.specs.Holding.{LiveIn}
 use Rattle.jz_alloc.specs.Answers.{HoldsEach}

@@ -1,4 +1,4 @@
-use Rattle.std.proofs.Common.{◌≡◌, ◌∙◌, sym, Some, None}
+use Rattle.std.proofs.Common.{◌∙◌, sym, None}
 use Rattle.jz_alloc.proofs.Seating.{seat_below}
 use Rattle.jz_alloc.proofs.seats.seats.Goals as goal
 

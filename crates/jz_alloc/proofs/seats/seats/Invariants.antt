@@ -1,4 +1,4 @@
-use Rattle.std.proofs.Common.{◌≡◌, ℕ, Some, map, take}
+use Rattle.std.proofs.Common.{◌≡◌, Some, map, take}
 use Rattle.jz_ir.specs.Order.{number_of}
 use Rattle.jz_alloc.proofs.seats.seats.Given as goal
 

@@ -1,6 +1,5 @@
-use Rattle.std.proofs.Common.{◌≡◌, ◌∙◌, sym, ap, subst, rules, arith, ◌≤◌, ◌+◌, ◌*◌, ◌/◌, ℕ, suc, ◌-◌, ◌<◌, length, List, get_or, [], ◌∷◌, ◌++◌}
-use Rattle.jz_ir.specs.Places.{Below}
-use Rattle.jz_alloc.proofs.Bounds.{below_at, wide_at}
+use Rattle.std.proofs.Common.{arith, length}
+use Rattle.jz_alloc.proofs.Bounds.{below_at}
 use Rattle.jz_alloc.proofs.tables.meets_row.Goals as goal
 
 pub leave_fit-requires : goal.leave_fit-requires

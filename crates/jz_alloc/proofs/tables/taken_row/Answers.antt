@@ -1,5 +1,4 @@
-use Rattle.std.proofs.Common.{◌≡◌, ◌∙◌, sym, ap, subst, rules, arith, ◌≤◌, ◌+◌, ◌*◌, ◌/◌, ℕ, suc, ◌-◌, ◌<◌, length, List, get_or, [], ◌∷◌, ◌++◌}
-use Rattle.jz_ir.specs.Places.{Below}
+use Rattle.std.proofs.Common.{arith, ◌+◌, ◌/◌}
 use Rattle.jz_alloc.proofs.Bounds.{below_at, wide_at}
 use Rattle.jz_alloc.proofs.tables.taken_row.Goals as goal
 

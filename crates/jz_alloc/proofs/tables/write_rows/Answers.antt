@@ -1,5 +1,4 @@
-use Rattle.std.proofs.Common.{◌≡◌, sym, subst, rules, arith, ◌<◌, length, ℕ}
-use Rattle.std.specs.List.{All}
+use Rattle.std.proofs.Common.{arith}
 use Rattle.std.proofs.lemmas.List.Elements.{All-get_or}
 use Rattle.jz_ir.specs.Places.{Below}
 use Rattle.jz_alloc.proofs.tables.write_rows.Goals as goal

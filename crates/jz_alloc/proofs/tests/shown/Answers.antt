@@ -1,4 +1,4 @@
-use Rattle.std.proofs.Common.{◌≡◌, length, subst}
+use Rattle.std.proofs.Common.{length, subst}
 use Rattle.std.specs.List.{All}
 use Rattle.jz_ir.specs.Places.{Below}
 use Rattle.jz_alloc.proofs.tests.shown.Goals as goal
