@@ -33,6 +33,13 @@ pub enum Flag {
     Zf,
 }
 
+/// Where a value can stand: a register or a flag.
+#[derive(Clone, Copy, PartialEq, Eq, Debug)]
+pub enum Place {
+    Reg(Reg),
+    Flag(Flag),
+}
+
 /// What is known of a flag: an instruction may leave one undefined.
 #[derive(Clone, Copy, PartialEq, Eq, Debug)]
 pub enum FlagVal {

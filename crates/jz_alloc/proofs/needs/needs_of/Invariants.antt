@@ -1,0 +1,6 @@
+use Rattle.std.proofs.Common.{◌≡◌, drop, []}
+use Rattle.jz_alloc.specs.Needs.{need_list}
+use Rattle.jz_alloc.proofs.needs.needs_of.Given as goal
+
+abbrev pub invariant-loop-op : goal.invariant-loop-op
+invariant-loop-op l = need_list l.v (drop l.op-index l.ops) l.needs.items ≡ need_list l.v l.ops []

@@ -1,0 +1,7 @@
+use Rattle.jz_alloc.specs.Tables.{row_has}
+use Rattle.jz_alloc.specs.Holding.{LiveIn}
+use Rattle.jz_alloc.specs.Answers.{HoldsEach}
+use Rattle.jz_alloc.proofs.placing.holders_of.Given as goal
+
+abbrev pub invariant-loop-place : goal.invariant-loop-place
+invariant-loop-place l = HoldsEach l.ops (LiveIn l.after) l.places l.v (λ q. row_has l.meets q l.v) l.place l.holders.items

@@ -1,0 +1,8 @@
+use Rattle.std.proofs.Common.{◌≡◌, ℕ, ◌&&◌, length, take}
+use Rattle.std.specs.List.{list_all}
+use Rattle.jz_bits.specs.Has.{has}
+use Rattle.jz_ir.specs.Places.{need_fits}
+use Rattle.jz_alloc.proofs.tables.leave_fit.Given as goal
+
+abbrev pub invariant-loop-n : goal.invariant-loop-n
+invariant-loop-n l = (length l.row ≡ length l.fn.row) × ((v : ℕ) → has l.row v ≡ (list_all (need_fits v l.place) (take l.n-index l.n-items) && has l.fn.row v))

@@ -1,0 +1,5 @@
+pub mod Tables
+pub mod Fit
+pub mod Holding
+pub mod Needs
+pub mod Answers

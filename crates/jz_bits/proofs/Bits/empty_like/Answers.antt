@@ -1,0 +1,5 @@
+use Rattle.jz_bits.proofs.One.{none}
+use Rattle.jz_bits.proofs.Bits.empty_like.Goals as goal
+
+pub returns-clause-empty : goal.returns-clause-empty
+returns-clause-empty c = let a = c.in_ok-vec.ensures.items_if_clones_equal in λ w. rw (a (λ y e. e)) (none _ w)

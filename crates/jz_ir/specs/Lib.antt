@@ -1,0 +1,5 @@
+pub mod Order
+pub mod Paths
+pub mod Straight
+pub mod Places
+pub mod Tree

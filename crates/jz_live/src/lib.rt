@@ -1,0 +1,10 @@
+//! Which variables are live after each operation.
+#![tactic(auto)]
+
+mod straight;
+#[cfg(test)]
+mod tests;
+mod tree;
+
+pub use straight::live_after;
+pub use tree::live;
