@@ -103,10 +103,12 @@ leaves i (mov_imm n k) next st m = record { flags = st.flags; does = refl }
 
 -- ---- its bytes in the code
 fourth : (a b c : List ℕ) (x : ℕ) (rest : List ℕ) → 0 < length (a ++ (b ++ (c ++ ((x ∷ []) ++ rest))))
-fourth a b c x rest = omega (arith,
+fourth a b c x rest = omega (
+  arith,
   length-append a (b ++ (c ++ ((x ∷ []) ++ rest))),
   length-append b (c ++ ((x ∷ []) ++ rest)),
-  length-append c ((x ∷ []) ++ rest))
+  length-append c ((x ∷ []) ++ rest),
+)
 
 some_byte : (f : Fields) → 0 < length (spelling_of f)
 unfolding spelling_of

@@ -30,9 +30,6 @@ lines_of rs [] = []
 lines_of [] (x ∷ xs) = []
 lines_of (r ∷ rs) (x ∷ xs) = record { name = x.name; size = S64; reg = r } ∷ lines_of rs xs
 
-
-
-
 -- the instructions of a body, and the return
 abbrev pub code_insns : (List ℕ → Reg) → Fun → List Insn
 code_insns register f = insns_of register f.body ++ insn.Ret ∷ []
