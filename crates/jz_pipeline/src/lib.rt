@@ -7,6 +7,8 @@ mod laws;
 mod limits;
 #[cfg(test)]
 mod tests;
+#[cfg(test)]
+mod text_tests;
 
 pub use expanding::expand;
 pub use laws::placed_is_correct;
