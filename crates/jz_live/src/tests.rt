@@ -1,6 +1,6 @@
 //! Code written by hand, and what is live after each of its operations.
 
-use crate::live_after;
+use crate::{live, live_after};
 use jz_data::Seq;
 use jz_io::Span;
 use jz_ir::{Op, are_below};
@@ -30,5 +30,14 @@ fn until_the_last_use(rt: HostRuntime) -> Result<(), Fail> {
     assert!(rt; rows[0].contains(0) && !rows[0].contains(1));
     assert!(rt; !rows[1].contains(0) && rows[1].contains(1));
     assert!(rt; !rows[2].contains(0) && !rows[2].contains(1));
+    Ok(())
+}
+
+#[test]
+fn code_without_operations(rt: HostRuntime) -> Result<(), Fail> {
+    let a = rt.alloc();
+    let nodes = Seq::new(a);
+    let rows = live(a, &nodes, 2)?;
+    assert_eq!(rt; rows.len(), 0);
     Ok(())
 }
