@@ -2,3 +2,4 @@ pub mod Lowering
 pub mod Living
 pub mod Straight
 pub mod Placing
+pub mod Operations

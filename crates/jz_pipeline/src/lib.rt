@@ -1,14 +1,20 @@
 //! The stages behind typing, from a typed program on.
 #![tactic(auto)]
 
+mod compiling;
 mod copying;
 mod expanding;
 mod laws;
 mod limits;
+mod stages;
 #[cfg(test)]
 mod tests;
 #[cfg(test)]
 mod text_tests;
+mod unplaced;
 
+pub use compiling::compile_fun;
 pub use expanding::expand;
 pub use laws::placed_is_correct;
+pub use stages::{compile_all, expand_all, safe_all};
+pub use unplaced::{Holder, NoPlace};

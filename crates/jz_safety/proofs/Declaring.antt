@@ -11,7 +11,7 @@ use Rattle.jz_tree.specs.declared.StmtKind.{StmtKind}
 use Rattle.jz_tree.specs.declared.StmtKind.TheVariants as kind
 use Rattle.jz_types.specs.Uses.{one, uses_of, in_rhs_by, in_kind_by, in_stmts_by, in_vars_by}
 use Rattle.jz_tree.specs.declared.Decl.{Decl}
-use Rattle.jz_types.specs.Variables.{variables_of}
+use Rattle.jz_tree.specs.Variables.{variables_of}
 use Rattle.jz_types.specs.Resolving.{resolved_kind, resolved_stmt, declaration_in, resolved_fun}
 use Rattle.jz_types.specs.TypedPrograms.{HasDeclaration, HaveDeclarations}
 use Rattle.jz_safety.specs.Resolved.{HasOneLeftSide, HaveOneLeftSide, AssignsOne, AreResolved, IsResolved}

@@ -21,7 +21,7 @@ use Rattle.jz_types.specs.declared.fault.TypeFault.{TypeFault}
 use Rattle.jz_types.specs.Resolving.{resolved_var, resolved_expr, resolved_lval, resolved_rhs, resolved_kind, resolved_stmt, declaration_in, resolved_fun, resolved}
 use Rattle.jz_types.specs.Rules.{fault_at, is_known, unknown_in, repeated_in, name_of_fun, miscounted, misshapen, faults_of}
 use Rattle.jz_types.specs.Uses.{joined, in_expr_by, in_lval_by, in_rhs_by, in_kind_by, in_stmts_by, in_vars_by, one, uses_of}
-use Rattle.jz_types.specs.Variables.{variables_of}
+use Rattle.jz_tree.specs.Variables.{variables_of}
 use Rattle.jz_types.proofs.Gathered.{fun_fused}
 
 twice : {A : Type 0} (r : A → A) → ((a : A) → r (r a) ≡ r a) → (as' : List A) → map r (map r as') ≡ map r as'

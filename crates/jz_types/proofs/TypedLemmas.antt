@@ -18,7 +18,8 @@ use Rattle.jz_types.specs.Resolving.{resolved_var, declaration_in, resolved_fun,
 use Rattle.jz_types.specs.Rules.{Name, name_of, name_of_fun, fault_at, is_known, unknown_in, second_places, repeated, repeated_in, miscounted, misshapen, IsTyped}
 use Rattle.jz_types.specs.TypedPrograms.{HaveDifferentNames, HasDeclaration, HaveDeclarations, HasCounts, HaveCounts}
 use Rattle.jz_types.specs.Uses.{uses_of}
-use Rattle.jz_types.specs.Variables.{variables_of, variable_named, is_declared_above, declaration_of}
+use Rattle.jz_tree.specs.Variables.{variables_of}
+use Rattle.jz_types.specs.Variables.{variable_named, is_declared_above, declaration_of}
 use Rattle.jz_types.proofs.FirstLemmas.{contains_head, contains_tail}
 use Rattle.jz_types.proofs.ResolvedLemmas.{uses_resolved}
 use Rattle.jz_types.proofs.ScopeLemmas.{bytes_eq-true}

@@ -18,7 +18,8 @@ use Rattle.jz_types.specs.Resolving.{declaration_in}
 use Rattle.jz_types.specs.Rules.{fault_at, is_known, unknown_in, repeated, repeated_in, name_of_fun, miscounted, misshapen, faults_of}
 use Rattle.jz_types.specs.Scopes.{IsScope, declared_of, stands_above, decl_of, decls_of, has_above, missing}
 use Rattle.jz_types.specs.Uses.{one, in_fun_by, uses_of}
-use Rattle.jz_types.specs.Variables.{variables_of, variable_named, is_declared_above, declaration_of}
+use Rattle.jz_tree.specs.Variables.{variables_of}
+use Rattle.jz_types.specs.Variables.{variable_named, is_declared_above, declaration_of}
 use Rattle.jz_types.proofs.Earliest.{first_of-append, earlier-assoc}
 use Rattle.jz_types.proofs.Gathered.{fun_fused}
 

@@ -13,7 +13,8 @@ use Rattle.jz_tree.specs.declared.Rhs.TheVariants.{Value}
 use Rattle.jz_tree.specs.declared.Stmt.{Stmt}
 use Rattle.jz_tree.specs.declared.StmtKind.{StmtKind}
 use Rattle.jz_tree.specs.declared.StmtKind.TheVariants.{Assign}
-use Rattle.jz_types.specs.Variables.{variables_of, variable_named, declaration_of}
+use Rattle.jz_tree.specs.Variables.{variables_of}
+use Rattle.jz_types.specs.Variables.{variable_named, declaration_of}
 
 module _ (declarations : List ℕ → Option Decl) where
   abbrev pub resolved_var : Var → Var

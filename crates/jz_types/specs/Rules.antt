@@ -10,7 +10,8 @@ use Rattle.jz_types.specs.declared.fault.TypeRule.{TypeRule}
 use Rattle.jz_types.specs.declared.fault.TypeRule.TheVariants.{Unknown, Duplicate, Mismatch, ExportShape}
 use Rattle.jz_types.specs.declared.fault.TypeFault.{TypeFault}
 use Rattle.jz_types.specs.Faults.{IsFirst}
-use Rattle.jz_types.specs.Variables.{variables_of, variable_named, is_declared_above}
+use Rattle.jz_tree.specs.Variables.{variables_of}
+use Rattle.jz_types.specs.Variables.{variable_named, is_declared_above}
 use Rattle.jz_types.specs.Uses.{uses_of}
 
 abbrev pub fault_at : TypeRule → Span → TypeFault

@@ -5,7 +5,7 @@ use Rattle.jz_tree.specs.declared.Fun.{Fun}
 use Rattle.jz_tree.specs.declared.Var.{Var}
 use Rattle.jz_types.specs.Faults.{Before}
 use Rattle.jz_types.specs.Uses.{uses_of}
-use Rattle.jz_types.specs.Variables.{variables_of}
+use Rattle.jz_tree.specs.Variables.{variables_of}
 
 -- the functions differ in their names, and so do the variables of each
 pub record HaveDifferentNames (p : Program) : Type 0 where

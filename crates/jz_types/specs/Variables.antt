@@ -1,15 +1,10 @@
 -- The variables of a function, where they are declared.
-use Rattle.std.specs.Prelude.{ℕ, Bool, false, ◌&&◌, is_some, List, ◌++◌, Option, Some, None, map, find}
+use Rattle.std.specs.Prelude.{ℕ, Bool, false, ◌&&◌, is_some, List, Option, Some, None, find}
 use Rattle.std.specs.Str.{bytes_eq}
 use Rattle.jz_io.specs.declared.span.Span.{Span}
-use Rattle.jz_tree.specs.declared.Fun.{Fun}
 use Rattle.jz_tree.specs.declared.Var.{Var}
 use Rattle.jz_tree.specs.declared.Decl.{Decl}
 use Rattle.jz_types.specs.Faults.{is_before}
-
--- the parameters, then the variables of the body
-abbrev pub variables_of : Fun → List Var
-variables_of f = map (λ p. p.var) f.params ++ f.vars
 
 -- the first variable of that name
 abbrev pub variable_named : List ℕ → List Var → Option Var

@@ -2,7 +2,7 @@
 
 ghost use Rattle.std.specs.Prelude.{◌≡◌, [], ◌∷◌, ◌++◌, List, IfOk, OnOk};
 ghost use Rattle.jz_tree.specs.declared.Var.{Var};
-ghost use Rattle.jz_types.specs.Variables.{variables_of};
+ghost use Rattle.jz_tree.specs.Variables.{variables_of};
 ghost use Rattle.jz_types.specs.Scopes.{IsScope, has_above, decls_of};
 
 use crate::fault::is_before;

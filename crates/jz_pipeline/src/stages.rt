@@ -1,0 +1,44 @@
+//! Stages that are done for each function of a text, one after another.
+
+ghost use Rattle.std.specs.Prelude.{◌≡◌, All, IfOk, IfErr, map};
+ghost use Rattle.jz_data.specs.Failures.{IfRefused};
+ghost use Rattle.jz_pass.specs.Limits.{IsWithinLimits, IsFirstLimit};
+ghost use Rattle.jz_safety.specs.Alarms.{HasNoAlarm, IsFirstAlarm};
+ghost use Rattle.jz_pipeline.specs.Placed.{AreCompiled, IsPlaceable, IsUnplaced};
+ghost use Rattle.jz_pipeline.specs.Stages.{HasNone, IsFirstRefusal};
+
+use crate::unplaced::NoPlace;
+use jz_data::{Failure, Seq};
+use jz_listing::Compiled;
+use jz_meaning::Expanded;
+use jz_pass::Limit;
+use jz_safety::{Alarm, Safe};
+use jz_types::Typed;
+use std::alloc::Global;
+
+/// Each function of a program after expansion, or the first limit that one passes.
+pub fn expand_all(alloc: Global, typed: &Typed) -> Result<Seq<Expanded>, Failure<Limit>>
+    ensures functions { IfOk result (λ es. map (λ e. e.fun) es ≡ typed.now.program.funs) }
+    ensures within { IfOk result (λ es. All IsWithinLimits typed.now.program.funs) }
+    ensures limit { IfErr result (λ failure. IfRefused failure (IsFirstRefusal IsFirstLimit typed.now.program.funs)) }
+{
+    Err(Failure::OutOfMemory)
+}
+
+/// The functions, if none has an alarm; or the first alarm of the first that has one.
+pub fn safe_all(alloc: Global, expanded: Seq<Expanded>) -> Result<Seq<Safe>, Failure<Alarm>>
+    ensures value { IfOk result (λ safes. safes ≡ expanded) }
+    ensures no_alarm { IfOk result (λ safes. All (λ e. HasNoAlarm e.fun) expanded) }
+    ensures alarm { IfErr result (λ failure. IfRefused failure (IsFirstRefusal IsFirstAlarm (map (λ e. e.fun) expanded))) }
+{
+    Err(Failure::OutOfMemory)
+}
+
+/// The code of each function, or the first that has a variable without a place, and why.
+pub fn compile_all(alloc: Global, safes: &Seq<Safe>) -> Result<Seq<Compiled>, Failure<NoPlace>>
+    requires { All (λ e. IsPlaceable e.fun) safes.now }
+    ensures compiled { IfOk result (AreCompiled (map (λ e. e.fun) safes.now)) }
+    ensures refused { IfErr result (λ failure. IfRefused failure (IsFirstRefusal IsUnplaced (map (λ e. e.fun) safes.now))) }
+{
+    Err(Failure::OutOfMemory)
+}
