@@ -1,8 +1,8 @@
 //! Instructions of statements, and the operations that the placing of variables sees.
 #![tactic(auto)]
 
-mod instructions;
-mod operations;
+mod code;
+mod lowering;
 
-pub use instructions::instructions;
-pub use operations::operations;
+pub use code::operations;
+pub use lowering::instructions;
