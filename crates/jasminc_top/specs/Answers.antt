@@ -1,25 +1,31 @@
 -- What a command may answer: the table of causes, and the table of commands.
-use Rattle.std.specs.Prelude.{◌≡◌, ◌<◌, ◌⊎◌, ℕ, List, [], length, find, Option, Some, None, IsSome, ⊤, Result, Ok, Err}
+use Rattle.std.specs.Prelude.{◌≡◌, ◌<◌, ◌⊎◌, ℕ, List, [], length, find, All, Option, Some, None, IsSome, ⊤, Result, Ok, Err}
 use Rattle.std.specs.Str.{bytes_eq}
 use Rattle.jz_io.specs.Causes.{Rose}
 use Rattle.jz_io.specs.Telling.{Telling, text_of, IsWhole}
 use Rattle.jasminc_top.specs.Words.{Wanted, compile, exec, file_of}
 use Rattle.jz_parse.specs.Reading.{Reads, LexFails, ParseFails}
-use Rattle.jasminc_top.specs.Compiling.{made_of}
+use Rattle.jz_types.specs.Rules.{IsFirstTypeFault}
+use Rattle.jz_pass.specs.Limits.{IsWithinLimits, IsFirstLimit}
+use Rattle.jz_safety.specs.Alarms.{HasNoAlarm, IsFirstAlarm}
+use Rattle.jz_pipeline.specs.Placed.{IsUnplaced}
+use Rattle.jz_pipeline.specs.Stages.{IsFirstRefusal}
+use Rattle.jasminc_top.specs.Making.{TypesAs, Makes}
 use Rattle.jz_listing.specs.Listing.{listing_text}
 use Rattle.jasminc_top.specs.Running.{RunsTo}
 use Rattle.jasminc_top.specs.Refusals.{status_of, line_of, stage_of, all_stages}
 use Rattle.jz_tree.specs.declared.Program.{Program}
 use Rattle.jz_tree.specs.declared.Fun.{Fun}
+use Rattle.jz_types.specs.declared.fault.TypeFault.{TypeFault}
 use Rattle.jz_listing.specs.declared.compiled.Compiled.{Compiled}
 use Rattle.jasminc_top.specs.declared.refusal.Status.{Status}
 use Rattle.jasminc_top.specs.declared.refusal.Status.TheVariants as status
 use Rattle.jasminc_top.specs.declared.refusal.Refusal.{Refusal}
-use Rattle.jasminc_top.specs.declared.refusal.Refusal.TheVariants.{Usage, Source, Lex, Parse, NoFunction, Items}
-use Rattle.jasminc_top.specs.declared.answer.Halt.{Halt}
-use Rattle.jasminc_top.specs.declared.answer.Halt.TheVariants.{Refused, Stopped}
+use Rattle.jasminc_top.specs.declared.refusal.Refusal.TheVariants.{Usage, Source, Lex, Parse, Typing, NoFunction, Limit, Alarm, NoPlace, Items}
+use Rattle.jasminc_top.specs.declared.halt.Halt.{Halt}
+use Rattle.jasminc_top.specs.declared.halt.Halt.TheVariants.{Refused, Stopped}
 use Rattle.jasminc_top.specs.declared.answer.Reply.{Reply}
-use Rattle.jasminc_top.specs.declared.answer.Stop.TheVariants as stop
+use Rattle.jasminc_top.specs.declared.halt.Stop.TheVariants as stop
 
 -- the longest text that is read
 abbrev pub source_limit : ℕ
@@ -38,24 +44,40 @@ compiled_named name made = find (λ c. bytes_eq c.name name) made
 
 -- ---- the table of causes
 
+-- the text reads as a program that has this fault of typing first
+pub record FailsTyping (text : List ℕ) (fault : TypeFault) : Type 0 where
+  pub program : Program
+  pub reads : Reads text program
+  pub first : IsFirstTypeFault program fault
+
+-- the text's program is typed, and the first of its functions with a refusal of this kind has this one
+pub record HasFirst {A : Type 0} (OfKind : Fun → A → Type 0) (text : List ℕ) (a : A) : Type 0 where
+  pub program : Program
+  pub types : TypesAs text program
+  pub first : IsFirstRefusal OfKind program.funs a
+
 -- why a text is refused
 abbrev pub TextCause : List ℕ → Refusal → Type 0
 TextCause text Source = source_limit < length text
 TextCause text (Lex fault) = LexFails text fault
 TextCause text (Parse fault) = ParseFails text fault
+TextCause text (Typing fault) = FailsTyping text fault
+TextCause text (Limit limit) = HasFirst IsFirstLimit text limit
+TextCause text (Alarm alarm) = HasFirst IsFirstAlarm text alarm
+TextCause text (NoPlace refusal) = HasFirst IsUnplaced text refusal
 TextCause text _ = ⊥
 
 -- no function of the text's program has the name
 pub record HasNoFunction (text fun name : List ℕ) : Type 0 where
   pub program : Program
-  pub reads : Reads text program
+  pub types : TypesAs text program
   pub none : function_named fun program.funs ≡ None
   pub named : name ≡ fun
 
 -- the function has another number of parameters than there are items
 pub record HasOtherItems (text fun items : List ℕ) : Type 0 where
   pub program : Program
-  pub reads : Reads text program
+  pub types : TypesAs text program
   pub function : Fun
   pub found : function_named fun program.funs ≡ Some function
   pub differ : length items ≡ length function.params → ⊥
@@ -68,6 +90,10 @@ ExecCause fun items text Usage = ⊥
 ExecCause fun items text Source = TextCause text Source
 ExecCause fun items text (Lex fault) = TextCause text (Lex fault)
 ExecCause fun items text (Parse fault) = TextCause text (Parse fault)
+ExecCause fun items text (Typing fault) = TextCause text (Typing fault)
+ExecCause fun items text (Limit limit) = TextCause text (Limit limit)
+ExecCause fun items text (Alarm alarm) = TextCause text (Alarm alarm)
+ExecCause fun items text (NoPlace refusal) = TextCause text (NoPlace refusal)
 
 abbrev pub IsUsage : Refusal → Type 0
 IsUsage Usage = ⊤
@@ -92,24 +118,22 @@ pub record IsFirstCause (causes : Refusal → Type 0) (r : Refusal) : Type 0 whe
 -- the functions of the text's program, and their listing
 pub record GivesListing (text : List ℕ) (s : Status) (output : List ℕ) (made : List Compiled) : Type 0 where
   pub program : Program
-  pub reads : Reads text program
-  pub made_is : made ≡ made_of program
+  pub makes : Makes text program made
   pub output_is : output ≡ listing_text made
   pub ok : s ≡ status.Ok
 
--- the functions of a program, and the run of one of them on the items
-pub record RunsProgram (program : Program) (fun items : List ℕ) (s : Status) (output : List ℕ) (made : List Compiled) : Type 0 where
-  pub made_is : made ≡ made_of program
+-- one of the functions that were made, and its run on the items
+pub record RunsOne (fun items : List ℕ) (s : Status) (output : List ℕ) (made : List Compiled) : Type 0 where
   pub compiled : Compiled
   pub found : compiled_named fun made ≡ Some compiled
   pub runs : RunsTo compiled items step_limit output
   pub ok : s ≡ status.Ok
 
--- the same of the text's program
+-- the functions of the text's program, and the run of one of them on the items
 pub record GivesRun (text fun items : List ℕ) (s : Status) (output : List ℕ) (made : List Compiled) : Type 0 where
   pub program : Program
-  pub reads : Reads text program
-  pub run : RunsProgram program fun items s output made
+  pub makes : Makes text program made
+  pub run : RunsOne fun items s output made
 
 abbrev pub Gives : Wanted → List ℕ → Status → List ℕ → List Compiled → Type 0
 Gives (compile file) text s output made = GivesListing text s output made
@@ -190,6 +214,24 @@ FileHalts file old new before now (Refused Source) = IsLongFile file old × (now
 FileHalts file old new before now (Refused r) = ⊥
 FileHalts file old new before now (Stopped stop.Fault) = Rose before now × IsNotMissed file old new
 FileHalts file old new before now (Stopped stop.Memory) = ⊤
+
+-- how a text that has no typed program ends a command
+abbrev pub ReadingHalts : List ℕ → Halt → Type 0
+ReadingHalts text (Refused (Lex fault)) = LexFails text fault
+ReadingHalts text (Refused (Parse fault)) = ParseFails text fault
+ReadingHalts text (Refused (Typing fault)) = FailsTyping text fault
+ReadingHalts text (Refused r) = ⊥
+ReadingHalts text (Stopped stop.Fault) = ⊥
+ReadingHalts text (Stopped stop.Memory) = ⊤
+
+-- how functions that are not all compiled end a command
+abbrev pub MakingHalts : List Fun → Halt → Type 0
+MakingHalts funs (Refused (Limit limit)) = IsFirstRefusal IsFirstLimit funs limit
+MakingHalts funs (Refused (Alarm alarm)) = All IsWithinLimits funs × IsFirstRefusal IsFirstAlarm funs alarm
+MakingHalts funs (Refused (NoPlace refusal)) = All IsWithinLimits funs × All HasNoAlarm funs × IsFirstRefusal IsUnplaced funs refusal
+MakingHalts funs (Refused r) = ⊥
+MakingHalts funs (Stopped stop.Fault) = ⊥
+MakingHalts funs (Stopped stop.Memory) = ⊤
 
 -- how the stages of a text end a command
 abbrev pub TextHalts : (Refusal → Type 0) → Halt → Type 0

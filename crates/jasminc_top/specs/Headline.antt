@@ -8,7 +8,7 @@ use Rattle.jz_tree.specs.declared.Program.{Program}
 use Rattle.jz_tree.specs.declared.Fun.{Fun}
 use Rattle.jz_listing.specs.declared.compiled.Compiled.{Compiled}
 use Rattle.jasminc_top.specs.Words.{Wanted, compile, exec}
-use Rattle.jz_parse.specs.Reading.{Reads}
+use Rattle.jasminc_top.specs.Making.{TypesAs}
 use Rattle.jz_listing.specs.Listing.{listing_text}
 use Rattle.jasminc_top.specs.Answers.{HasFile, function_named, compiled_named}
 use Rattle.x64_machine.specs.Steps.{steps_of}
@@ -17,13 +17,13 @@ use Rattle.jz_correct.specs.Ends.{EndsAfter}
 use Rattle.jz_correct.specs.Starts.{MeetsPreconditions, IsStart}
 use Rattle.jz_correct.specs.Correctness.{IsCorrect, AreCorrect}
 
--- The file's text reads as a program, what is made has a correct function for each of its functions, in the order of the text, and
--- their listing was written and nothing else.
+-- The file's text reads as a program that is typed, what is made has a correct function for each of its functions, in the order of
+-- the text, and their listing was written and nothing else.
 pub record PrintsCorrect (file : List ℕ) (told : Option Telling) (written written_after : Option (List ℕ)) (made : List Compiled) : Type 0 where
   pub text : List ℕ
   pub has : HasFile file told text
   pub program : Program
-  pub reads : Reads text program
+  pub types : TypesAs text program
   pub correct : AreCorrect program program.funs made
   pub wrote : Appends written written_after (listing_text made)
 
@@ -39,7 +39,7 @@ pub record PrintsRun (file fun items : List ℕ) (told : Option Telling) (writte
   pub text : List ℕ
   pub has : HasFile file told text
   pub program : Program
-  pub reads : Reads text program
+  pub types : TypesAs text program
   pub function : Fun
   pub found : function_named fun program.funs ≡ Some function
   pub compiled : Compiled

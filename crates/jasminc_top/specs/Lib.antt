@@ -1,9 +1,9 @@
 pub mod Words
-pub mod Compiling
+pub mod Lines
 pub mod Refusals
+pub mod Making
 pub mod Running
 pub mod Answers
-pub mod OneForm
 pub mod Halting
 pub mod Runs
 pub mod Headline

@@ -19,6 +19,7 @@ use Rattle.jz_listing.specs.declared.compiled.Compiled.{Compiled}
 use Rattle.jasminc_top.specs.declared.exec.Finish.{Finish}
 use Rattle.jasminc_top.specs.declared.exec.Finish.TheVariants as finish
 use Rattle.jz_correct.specs.Registers.{argument_registers}
+use Rattle.jz_correct.specs.Agreement.{NeverFaults}
 use Rattle.jz_correct.specs.Ends.{EndsAfter}
 use Rattle.jz_leak.specs.MemoryMap.{AddsBytes}
 use Rattle.x64_machine.specs.MachineRuns.{start_of}
@@ -96,6 +97,11 @@ run_text c st events k =
 -- where `exec` starts a function
 abbrev pub exec_start : List ℕ → Memory → Config
 exec_start items m = start_of (start_state items) m
+
+-- started on these items the code ends within so many steps, and no step faults
+abbrev pub EndsWithin : Compiled → List ℕ → ℕ → Type 0
+EndsWithin c items limit = (m : Memory) → IsStartMemory m
+    → ((k : ℕ) × (k ≤ limit) × EndsAfter c.code code_base (exec_start items m) k) × NeverFaults c.code code_base (exec_start items m)
 
 -- the text of the run of a function on items, to the end of its code
 pub record RunsTo (c : Compiled) (items : List ℕ) (limit : ℕ) (output : List ℕ) : Type 0 where

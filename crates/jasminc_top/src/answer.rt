@@ -1,22 +1,26 @@
 // From the words and the source to what is due: a reply, or a stop that has no memory to say more.
-ghost use Rattle.std.specs.Prelude.{◌≡◌, ◌≤◌, ℕ, List, Some, IfOk, IfErr, OnOk, IsErrOf, IsSome, length, find};
+ghost use Rattle.std.specs.Prelude.{◌≡◌, ◌≤◌, ◌×◌, ℕ, List, All, Some, IfOk, IfErr, OnOk, IsErrOf, length, find};
 ghost use Rattle.std.specs.Option.{option_copied};
 ghost use Rattle.jz_io.specs.Causes.{Rose};
 ghost use Rattle.jz_io.specs.Telling.{IsWhole};
+ghost use Rattle.jz_listing.specs.declared.compiled.Compiled.{Compiled};
 ghost use Rattle.jasminc_top.specs.Words.{texts_of, wanted, wanted_of, compile, exec};
-ghost use Rattle.jz_parse.specs.Reading.{Reads};
-ghost use Rattle.jasminc_top.specs.Answers.{source_limit, function_named, compiled_named, TextCause, TextHalts, FileHalts, RunsProgram, HasFile, IsLongFile, IsNotMissed, IsDue, Faulted, After, Performs};
+ghost use Rattle.jasminc_top.specs.Making.{TypesAs, IsWritten, AreMade};
+ghost use Rattle.jasminc_top.specs.Running.{EndsWithin};
+ghost use Rattle.jasminc_top.specs.Answers.{source_limit, step_limit, function_named, compiled_named, ReadingHalts, MakingHalts, FileHalts, RunsOne, HasFile, IsLongFile, IsNotMissed, IsDue, Faulted, After, Performs};
 
-use crate::compile::compile_program;
 use crate::exec::exec_text;
+use crate::halt::{Halt, Stop};
 use crate::refusal::{Refusal, Status};
 use crate::words::{Request, request_of};
-use jz_data::{Failure, Seq, Text};
+use jz_data::{Seq, Text};
 use jz_io::{Bytes, ReadRefused, Source, read_all};
-use jz_lex::{LexFault, lex};
+use jz_lex::lex;
 use jz_listing::{Compiled, listing};
-use jz_parse::{SyntaxFault, parse};
-use jz_tree::{Fun, Program};
+use jz_parse::parse;
+use jz_pipeline::{compile_all, expand_all, safe_all};
+use jz_tree::Fun;
+use jz_types::{Typed, check};
 use std::alloc::{AllocError, Global};
 
 const SOURCE_LIMIT: usize = 1_048_576;
@@ -27,60 +31,6 @@ pub struct Reply {
     pub status: Status,
     pub text: Bytes,
     pub made: Seq<Compiled>,
-}
-
-/// What stops a command without a reply of its own.
-#[derive(Clone, Copy, Debug, PartialEq, Eq)]
-pub enum Stop {
-    Fault,
-    Memory,
-}
-
-/// A stage refuses, or stops.
-#[derive(Drop)]
-pub enum Halt {
-    Refused(Refusal),
-    Stopped(Stop),
-}
-
-impl From<AllocError> for Halt {
-    ghost use Rattle.std.specs.Prelude.{◌≡◌};
-    ghost use Rattle.jasminc_top.specs.declared.answer.Halt.TheVariants.{Stopped};
-    ghost use Rattle.jasminc_top.specs.declared.answer.Stop.TheVariants.{Memory};
-
-    ghost from_gives = { λ _ e. e ≡ Stopped Memory };
-
-    fn from(_: AllocError) -> Self {
-        Halt::Stopped(Stop::Memory)
-    }
-}
-
-impl From<Failure<LexFault>> for Halt {
-    ghost use Rattle.std.specs.Prelude.{◌≡◌};
-    ghost use Rattle.jasminc_top.specs.Halting.{lexer_halt};
-
-    ghost from_gives = { λ failure halt. halt ≡ lexer_halt failure };
-
-    fn from(failure: Failure<LexFault>) -> Self {
-        match failure {
-            Failure::Refused(fault) => Halt::Refused(Refusal::Lex(fault)),
-            Failure::OutOfMemory => Halt::Stopped(Stop::Memory),
-        }
-    }
-}
-
-impl From<Failure<SyntaxFault>> for Halt {
-    ghost use Rattle.std.specs.Prelude.{◌≡◌};
-    ghost use Rattle.jasminc_top.specs.Halting.{parser_halt};
-
-    ghost from_gives = { λ failure halt. halt ≡ parser_halt failure };
-
-    fn from(failure: Failure<SyntaxFault>) -> Self {
-        match failure {
-            Failure::Refused(fault) => Halt::Refused(Refusal::Parse(fault)),
-            Failure::OutOfMemory => Halt::Stopped(Stop::Memory),
-        }
-    }
 }
 
 // The text of a file, up to the limit.
@@ -110,14 +60,28 @@ fn file_text<S: Source>(alloc: Global, src: &mut S, file: &str) -> Result<Bytes,
     }
 }
 
-// The program that a text reads as.
-fn read_program(alloc: Global, text: &[u8]) -> Result<Program, Halt>
-    requires { length text.now ≤ source_limit }
-    ensures program { IfOk result (λ program. Reads text.now program) }
-    ensures halt { IfErr result (TextHalts (TextCause text.now)) }
+// The typed program of a text.
+fn typed_program(alloc: Global, text: &[u8]) -> Result<Typed, Halt>
+    ensures program { IfOk result (λ typed. TypesAs text.now typed.program) }
+    ensures halt { IfErr result (ReadingHalts text.now) }
 {
     let tokens = lex(alloc, text)?;
-    Ok(parse(alloc, &tokens)?)
+    let program = parse(alloc, &tokens)?;
+    Ok(check(alloc, program)?)
+}
+
+// The functions of a typed program, compiled.
+fn compile_typed(alloc: Global, typed: &Typed) -> Result<Seq<Compiled>, Halt>
+    requires { All IsWritten typed.now.program.funs }
+    ensures made { IfOk result (AreMade typed.now.program.funs) }
+    ensures halt { IfErr result (MakingHalts typed.now.program.funs) }
+{
+    typed.has_different_names();
+    typed.has_declarations();
+    typed.has_counts();
+    let expanded = expand_all(alloc, typed)?;
+    let safes = safe_all(alloc, expanded)?;
+    Ok(compile_all(alloc, &safes)?)
 }
 
 // The listing of a text's functions.
@@ -125,8 +89,8 @@ fn compile_text(alloc: Global, file: &str, text: &[u8]) -> Result<Reply, Halt>
     requires { length text.now ≤ source_limit }
     ensures { After (Some (compile file.now)) text.now result }
 {
-    let program = read_program(alloc, text)?;
-    let made = compile_program(alloc, &program)?;
+    let typed = typed_program(alloc, text)?;
+    let made = compile_typed(alloc, &typed)?;
     let listing = listing(alloc, made.as_slice())?;
     Ok(Reply {
         status: Status::Ok,
@@ -148,17 +112,16 @@ fn compiled_named<'a>(made: &'a [Compiled], name: &str) -> Option<&'a Compiled>
     made.iter().find(|compiled| compiled.name.as_str() == name)
 }
 
-// The run of a program's function on items.
+// The run of one of the functions that were made on items.
 fn run_reply(
     alloc: Global,
-    program: &Program,
+    made: Seq<Compiled>,
     fun: &str,
     items: &[u64],
 ) -> Result<Reply, AllocError>
-    requires { IsSome (function_named fun.now program.now.funs) }
-    ensures { IfOk result (λ reply. RunsProgram program.now fun.now items.now reply.status reply.text reply.made) }
+    requires { (c : Compiled) × (compiled_named fun.now made ≡ Some c) × EndsWithin c items.now step_limit }
+    ensures { IfOk result (λ reply. RunsOne fun.now items.now reply.status reply.text reply.made × (reply.made ≡ made)) }
 {
-    let made = compile_program(alloc, program)?;
     let Some(compiled) = compiled_named(made.as_slice(), fun) else {
         unreachable!()
     };
@@ -181,15 +144,16 @@ fn exec_reply(
     requires { length text.now ≤ source_limit }
     ensures { After (Some (exec file.now fun.now items.now)) text.now result }
 {
-    let program = read_program(alloc, text)?;
-    let Some(function) = function_named(program.funs.as_slice(), fun) else {
+    let typed = typed_program(alloc, text)?;
+    let Some(function) = function_named(typed.program().funs.as_slice(), fun) else {
         let name = Text::from_string(String::from_str(alloc, fun)?);
         return Err(Halt::Refused(Refusal::NoFunction(name)));
     };
+    let made = compile_typed(alloc, &typed)?;
     if items.len() != function.params.len() {
         return Err(Halt::Refused(Refusal::Items));
     }
-    Ok(run_reply(alloc, &program, fun, items)?)
+    Ok(run_reply(alloc, made, fun, items)?)
 }
 
 // A request, from the reading on.

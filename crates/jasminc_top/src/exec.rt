@@ -3,13 +3,10 @@ ghost use Rattle.std.specs.Prelude.{◌≡◌, ◌++◌, ◌∷◌, [], ◌≤�
 ghost use Rattle.std.specs.List.{concat};
 ghost use Rattle.x64_machine.specs.MachineRuns.{code_of, base_of, config_of, start_of, SameCode};
 ghost use Rattle.x64_machine.specs.Steps.{events_of, steps_of};
-ghost use Rattle.jasminc_top.specs.Running.{IsStartMemory, start_state, with_numbers, Finishes, number_text, word_text, event_line, result_line, run_text, RunsTo};
-ghost use Rattle.jasminc_top.specs.Compiling.{add_code};
+ghost use Rattle.jasminc_top.specs.Running.{EndsWithin, IsStartMemory, start_state, with_numbers, Finishes, number_text, word_text, event_line, result_line, run_text, RunsTo};
 ghost use Rattle.jz_correct.specs.Registers.{argument_registers};
 ghost use Rattle.jasminc_top.specs.Answers.{step_limit};
-ghost use Rattle.x64_insn.specs.Chosen.{chosen_bytes};
 
-use crate::compile::ARGUMENT_REGISTERS;
 use jz_data::Seq;
 use jz_io::Bytes;
 use jz_leak::{Event, Events, MemMap};
@@ -24,6 +21,9 @@ const CODE_BASE: u64 = 0x40_0000;
 const RETURN_SLOT: u64 = 0x7fff_ffff_0008;
 
 const STEP_LIMIT: u64 = 1_000_000;
+
+/// The registers of integer arguments, in their order (System V AMD64 ABI, 3.2.3).
+const ARGUMENT_REGISTERS: [Reg; 6] = [Reg::Rdi, Reg::Rsi, Reg::Rdx, Reg::Rcx, Reg::R8, Reg::R9];
 
 /// How a run ended.
 #[derive(Debug, Drop)]
@@ -210,10 +210,9 @@ fn run_text(
     Ok(Bytes::from_vec(text))
 }
 
-/// The text of the run of a function on items. The function is of the one form that is read, whose code ends within
-/// the limit.
+/// The text of the run of a function on items.
 pub fn exec_text(alloc: Global, compiled: &Compiled, items: &[u64]) -> Result<Bytes, AllocError>
-    requires { compiled.now.code ≡ concat (map chosen_bytes add_code) }
+    requires { EndsWithin compiled.now items.now step_limit }
     ensures { IfOk result (λ text. RunsTo compiled.now items.now step_limit text) }
 {
     let memory = start_memory(alloc)?;

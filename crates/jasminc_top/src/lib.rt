@@ -2,9 +2,10 @@
 #![tactic(auto)]
 
 mod answer;
-mod compile;
 pub mod correctness;
 mod exec;
+mod halt;
+mod lines;
 mod refusal;
 mod run;
 mod starts;

@@ -1,11 +1,17 @@
 // The statuses of the program, and the answers other than Ok with their lines.
 ghost use Rattle.std.specs.Prelude.{◌≡◌, ◌++◌, IfOk, OnOk, codes, decimal};
-ghost use Rattle.jasminc_top.specs.Refusals.{status_of, line_of, lex_name, syntax_name, fault_text};
+ghost use Rattle.jasminc_top.specs.Refusals.{status_of, cause_text, line_of};
 
+use crate::lines::{
+    write_alarm, write_lex_fault, write_limit, write_no_place, write_syntax_fault, write_type_fault,
+};
 use jz_data::Text;
-use jz_lex::{LexFault, LexKind};
-use jz_listing::{write_number, write_span};
-use jz_parse::{SyntaxFault, SyntaxKind};
+use jz_lex::LexFault;
+use jz_parse::SyntaxFault;
+use jz_pass::Limit;
+use jz_pipeline::NoPlace;
+use jz_safety::Alarm;
+use jz_types::TypeFault;
 use std::alloc::{AllocError, Global};
 
 /// How a command ends, by the program's exit status.
@@ -40,38 +46,18 @@ pub enum Refusal {
     Lex(LexFault),
     /// The tokens derive no program.
     Parse(SyntaxFault),
+    /// A rule of typing fails.
+    Typing(TypeFault),
     /// No function has this name.
     NoFunction(Text),
+    /// A function passes a limit.
+    Limit(Limit),
+    /// A condition of safety is not given.
+    Alarm(Alarm),
+    /// A variable has no place.
+    NoPlace(NoPlace),
     /// There is another number of items than of parameters.
     Items,
-}
-
-fn lex_name(kind: LexKind) -> &'static str
-    ensures { result.now ≡ lex_name kind }
-{
-    match kind {
-        LexKind::BadByte => "BadByte",
-        LexKind::BadNumber => "BadNumber",
-    }
-}
-
-#[tactic(auto, unfolding(crate::specs::Refusals::syntax_name))]
-fn syntax_name(kind: SyntaxKind) -> &'static str
-    ensures { result.now ≡ syntax_name kind }
-{
-    match kind {
-        SyntaxKind::Unexpected => "Unexpected",
-    }
-}
-
-fn write_syntax_fault(line: &mut Vec<u8>, fault: SyntaxFault) -> Result<(), AllocError>
-    ensures { OnOk result (line.new.items ≡ line.old.items ++ fault_text fault) }
-{
-    line.extend_from_slice(syntax_name(fault.kind).as_bytes())?;
-    line.extend_from_slice(b" ")?;
-    write_span(line, fault.span)?;
-    line.extend_from_slice(b" token ")?;
-    write_number(line, fault.token)
 }
 
 impl Refusal {
@@ -80,10 +66,33 @@ impl Refusal {
     {
         match self {
             Refusal::Usage => Status::Usage,
-            Refusal::Source => Status::Limit,
+            Refusal::Source | Refusal::Limit(_) => Status::Limit,
             Refusal::Lex(_) | Refusal::Parse(_) => Status::Syntax,
+            Refusal::Typing(_) => Status::Typing,
             Refusal::NoFunction(_) => Status::NoFunction,
+            Refusal::Alarm(_) => Status::Alarm,
+            Refusal::NoPlace(_) => Status::NoPlace,
             Refusal::Items => Status::Precondition,
+        }
+    }
+
+    fn write(&self, line: &mut Vec<u8>) -> Result<(), AllocError>
+        ensures { OnOk result (line.new.items ≡ line.old.items ++ cause_text self.now) }
+    {
+        match self {
+            Refusal::Usage => line.extend_from_slice(b"usage: jasminc COMMAND ARGS"),
+            Refusal::Source => line.extend_from_slice(b"limit Source"),
+            Refusal::Lex(fault) => write_lex_fault(line, *fault),
+            Refusal::Parse(fault) => write_syntax_fault(line, *fault),
+            Refusal::Typing(fault) => write_type_fault(line, *fault),
+            Refusal::NoFunction(name) => {
+                line.extend_from_slice(b"unknown function ")?;
+                line.extend_from_slice(name.as_str().as_bytes())
+            }
+            Refusal::Limit(limit) => write_limit(line, limit),
+            Refusal::Alarm(alarm) => write_alarm(line, alarm),
+            Refusal::NoPlace(refusal) => write_no_place(line, refusal),
+            Refusal::Items => line.extend_from_slice(b"precondition items"),
         }
     }
 
@@ -92,25 +101,7 @@ impl Refusal {
         ensures { IfOk result (λ line. line.items ≡ line_of self.now) }
     {
         let mut line = Vec::new(alloc);
-        match self {
-            Refusal::Usage => line.extend_from_slice(b"usage: jasminc COMMAND ARGS")?,
-            Refusal::Source => line.extend_from_slice(b"limit Source")?,
-            Refusal::Lex(fault) => {
-                line.extend_from_slice(b"syntax ")?;
-                line.extend_from_slice(lex_name(fault.kind).as_bytes())?;
-                line.extend_from_slice(b" ")?;
-                write_span(&mut line, fault.span)?;
-            }
-            Refusal::Parse(fault) => {
-                line.extend_from_slice(b"syntax ")?;
-                write_syntax_fault(&mut line, *fault)?;
-            }
-            Refusal::NoFunction(name) => {
-                line.extend_from_slice(b"unknown function ")?;
-                line.extend_from_slice(name.as_str().as_bytes())?;
-            }
-            Refusal::Items => line.extend_from_slice(b"precondition items")?,
-        }
+        self.write(&mut line)?;
         line.extend_from_slice(b"\n")?;
         Ok(line)
     }

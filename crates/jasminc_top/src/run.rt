@@ -6,7 +6,8 @@ ghost use Rattle.jasminc_top.specs.Answers.{Faulted};
 ghost use Rattle.jasminc_top.specs.Headline.{Compiles, Executes};
 ghost use Rattle.jasminc_top.specs.Runs.{Runs, Writes, ComesOnly, Refuses, Completes, ReadsAll, IsFree};
 
-use crate::answer::{Reply, Stop, answer};
+use crate::answer::{Reply, answer};
+use crate::halt::Stop;
 use crate::refusal::Status;
 use jz_data::Seq;
 use jz_io::{Sink, Source, write_all};
@@ -77,7 +78,10 @@ pub fn jasminc_run<S: Source, K: Sink>(
     // Each answer comes only with its cause.
     ensures usage { result.status ≡ Status.Usage → wanted (texts_of words.now) ≡ None }
     ensures syntax { result.status ≡ Status.Syntax → ComesOnly (wanted (texts_of words.now)) (S.told src.old) Status.Syntax }
+    ensures typing { result.status ≡ Status.Typing → ComesOnly (wanted (texts_of words.now)) (S.told src.old) Status.Typing }
     ensures limit { result.status ≡ Status.Limit → ComesOnly (wanted (texts_of words.now)) (S.told src.old) Status.Limit }
+    ensures alarm { result.status ≡ Status.Alarm → ComesOnly (wanted (texts_of words.now)) (S.told src.old) Status.Alarm }
+    ensures no_place { result.status ≡ Status.NoPlace → ComesOnly (wanted (texts_of words.now)) (S.told src.old) Status.NoPlace }
     ensures precondition { result.status ≡ Status.Precondition → ComesOnly (wanted (texts_of words.now)) (S.told src.old) Status.Precondition }
     ensures no_function { result.status ≡ Status.NoFunction → ComesOnly (wanted (texts_of words.now)) (S.told src.old) Status.NoFunction }
     ensures read_fault { result.status ≡ Status.ReadFault → Faulted (wanted (texts_of words.now)) (S.told src.old) (S.told src.new) (S.faults src.old) (S.faults src.new) }
