@@ -1,11 +1,11 @@
 -- What a function becomes where first fit puts its variables, or why a variable has no place.
-use Rattle.std.specs.Prelude.{◌≡◌, ◌≢◌, ◌<◌, ◌^◌, ℕ, List, [], length, map, slice_index_or, Option, Some, None, All, AllPairs}
+use Rattle.std.specs.Prelude.{◌≡◌, ◌≢◌, ◌<◌, ◌^◌, ℕ, List, [], ◌∷◌, length, map, slice_index_or, Option, Some, None, All, AllPairs}
 use Rattle.x64_insn.specs.declared.types.Place.{Place}
 use Rattle.jz_ir.specs.Places.{Out, FirstFit, all_of}
 use Rattle.jz_ir.specs.Straight.{LiveIn}
 use Rattle.jz_alloc.specs.Answers.{IsEvidence}
-use Rattle.jz_alloc.specs.declared.evidence.Holder.{Holder}
-use Rattle.jz_alloc.specs.declared.placing.NoPlace.{NoPlace}
+use Rattle.jz_alloc.specs.declared.evidence.Holder as numbered_holder
+use Rattle.jz_alloc.specs.declared.placing.NoPlace as numbered
 use Rattle.jz_tree.specs.declared.Fun.{Fun}
 use Rattle.jz_tree.specs.declared.Var.{Var}
 use Rattle.jz_tree.specs.Variables.{variables_of}
@@ -15,8 +15,8 @@ use Rattle.jz_listing.specs.declared.compiled.Compiled.{Compiled}
 use Rattle.jz_lower.specs.Straight.{IsStraight}
 use Rattle.jz_lower.specs.Operations.{code_of, operations_of, register_of}
 use Rattle.jz_pipeline.specs.Compiling.{compiled_of}
-use Rattle.jz_pipeline.specs.declared.unplaced.NoPlace as named
-use Rattle.jz_pipeline.specs.declared.unplaced.Holder as named
+use Rattle.jz_pipeline.specs.declared.unplaced.NoPlace.{NoPlace}
+use Rattle.jz_pipeline.specs.declared.unplaced.Holder.{Holder}
 
 -- first fit of the function's variables comes to this
 abbrev pub ComesTo : Fun → Out → Type 0
@@ -43,15 +43,15 @@ abbrev pub holder_name : List Var → Option ℕ → Option (List ℕ)
 holder_name vs None = None
 holder_name vs (Some u) = Some (name_at vs u)
 
-abbrev pub holder_of : List Var → Holder → named.Holder
+abbrev pub holder_of : List Var → numbered_holder.Holder → Holder
 holder_of vs h = record { place = h.place; variable = holder_name vs h.variable; span = h.span }
 
-abbrev pub refusal_of : List Var → NoPlace → named.NoPlace
+abbrev pub refusal_of : List Var → numbered.NoPlace → NoPlace
 refusal_of vs n = record { variable = name_at vs n.variable; needs = n.needs; holders = map (holder_of vs) n.holders }
 
 -- first fit leaves the variable without a place: all its needs, and for each place that meets them what keeps it from there
-pub record IsUnplaced (f : Fun) (n : named.NoPlace) : Type 0 where
-  pub evidence : NoPlace
+pub record IsUnplaced (f : Fun) (n : NoPlace) : Type 0 where
+  pub evidence : numbered.NoPlace
   pub is_evidence : IsEvidence (code_of f) (LiveIn (operations_of f)) evidence
   pub is : n ≡ refusal_of (variables_of f) evidence
 
