@@ -1,113 +1,48 @@
--- Starts of the addition: that of `exec` is one, and from each the run ends as it should.
-use Rattle.std.proofs.Common.{◌≡◌, ℕ, zero, suc, ◌+◌, ◌-◌, ◌*◌, ◌%◌, ◌^◌, ◌<◌, ◌≤◌, Bool, true, false, List, [], ◌∷◌, length, refl, sym, ap, ◌∙◌, arith, subst, lit<, ◌⊎◌, ⊎_elim}
+-- The start of `exec` is a start, and the run from it ends.
+use Rattle.std.proofs.Common.{◌≡◌, ℕ, zero, suc, ◌+◌, ◌-◌, ◌*◌, ◌%◌, ◌^◌, ◌<◌, ◌≤◌, Bool, true, false, List, [], ◌∷◌, ◌++◌, length, refl, sym, ap, ◌∙◌, arith, subst, lit<, lit≤, ◌⊎◌, ⊎_elim, length-append}
 use Rattle.std.proofs.lemmas.Bool.{le-ltb}
-use Rattle.jz_leak.specs.MemoryMap.{byte_from, or_else}
-use Rattle.std.specs.Prelude.{Option, Some, None, IsSome, is_some, slice_index_or, slice_get, nat_lt, if◌then◌else◌, map, Contains, replicate}
-use Rattle.std.specs.List.{concat}
+use Rattle.std.proofs.lemmas.List.{get_or-set_same, length-set}
+use Rattle.std.specs.Prelude.{Option, Some, None, IsSome, is_some, slice_index, slice_set, slice_get, nat_lt, if◌then◌else◌, map, Contains, replicate, ⊤}
 use Rattle.std.specs.FinMap as map_of
 use Rattle.std.specs.Ordering.{nat_cmp}
-use Rattle.jz_words.specs.Memory.{Memory, loaded}
-use Rattle.x64_insn.specs.Chosen.{chosen_bytes}
+use Rattle.jz_leak.specs.MemoryMap.{byte_from, or_else}
+use Rattle.jz_words.specs.declared.size.Size.TheVariants.{S64}
+use Rattle.jz_words.specs.Memory.{Memory}
 use Rattle.x64_insn.specs.declared.types.Reg.{Reg}
 use Rattle.x64_insn.specs.declared.types.Reg.TheVariants as reg
+use Rattle.x64_insn.specs.declared.types.FlagVal.TheVariants.{Undefined}
+use Rattle.x64_insn.specs.declared.types.State.{State}
+use Rattle.x64_insn.specs.declared.types.Insn.{Insn}
+use Rattle.x64_insn.specs.declared.types.Insn.TheVariants as insn
 use Rattle.x64_insn.specs.Rows.{reg_value, number_of}
-use Rattle.jz_tree.specs.declared.Fun.{Fun}
-use Rattle.jz_leak.specs.declared.event.Event.TheVariants as event
-use Rattle.x64_machine.specs.declared.step.Step.TheVariants.{Ended, Fault}
-use Rattle.jasminc_top.specs.Compiling.{compiled_of, variable_of, args_of, add_code}
-use Rattle.jz_correct.specs.Registers.{argument_registers, result_registers}
-use Rattle.jasminc_top.specs.OneForm.{TakesTwo}
-use Rattle.jz_parse.specs.Parsing.{Derives, tree_of}
 use Rattle.jz_tree.specs.declared.Program.{Program}
-use Rattle.jz_lex.specs.declared.token.Token.{Token}
-use Rattle.x64_machine.proofs.MachineRunning.{none_made, end_stays, steps_both}
-use Rattle.jasminc_top.proofs.AddKept.{keeps}
-use Rattle.x64_machine.specs.Steps.{Config, Ran, step_of, steps_of}
-use Rattle.jasminc_top.specs.Running.{code_base, return_slot, IsStartMemory, exec_start, start_state}
+use Rattle.jz_tree.specs.declared.Fun.{Fun}
+use Rattle.jz_tree.specs.declared.Var.{Var}
+use Rattle.jz_tree.specs.declared.Stmt.{Stmt}
+use Rattle.jz_tree.specs.declared.StmtKind.{StmtKind}
+use Rattle.jz_tree.specs.declared.StmtKind.TheVariants as kind
+use Rattle.jz_meaning.specs.RunRules.{End}
+use Rattle.jz_meaning.specs.SourceRuns.{FunOutcome, IsInput, IsRun}
+use Rattle.jz_meaning.proofs.SourceLaws.{fun_some}
+use Rattle.jz_safety.specs.Alarms.{HasNoAlarm}
+use Rattle.jz_safety.specs.Resolved.{IsResolved}
+use Rattle.jz_safety.proofs.Telling.{safe_ends}
+use Rattle.x64_machine.specs.Steps.{Config, steps_of}
+use Rattle.jz_correct.specs.Registers.{argument_registers, result_registers}
+use Rattle.jz_correct.specs.Assembled.{assembled}
 use Rattle.jz_correct.specs.Ends.{EndsAfter}
 use Rattle.jz_correct.specs.Starts.{IsIn, IsValid, AreOfSizes, MeetsPreconditions, IsStart, Stand, stack_at}
-use Rattle.jz_correct.specs.Frames.{preserved_registers}
-use Rattle.jz_correct.specs.Agreement.{Agrees, NeverFaults, EndsWith}
-use Rattle.jasminc_top.proofs.AddRun as add
-use Rattle.jasminc_top.proofs.ExecStart.{add_bytes, AreWords, at_add}
+use Rattle.jz_correct.specs.Correctness.{EndsSo, IsCorrect}
+use Rattle.jz_lower.specs.Lowering.{kind_insns, insns_of}
+use Rattle.jz_lower.specs.Placing.{variable_of}
+use Rattle.jz_lower.proofs.Stores.{word_same, number_below}
+use Rattle.jz_pipeline.specs.Compiling.{lines_of, code_insns, compiled_of}
+use Rattle.jasminc_top.specs.Running.{code_base, return_slot, with_numbers, bare_registers, start_state, IsStartMemory, exec_start, EndsWithin}
+use Rattle.jasminc_top.proofs.ExecStart.{AreWords, is_far, placed-other, placed-length, placed-words, bare_words, slot_holds}
+use Rattle.jasminc_top.proofs.ItemsFit.{ItemsFit}
+use Rattle.jasminc_top.proofs.CodeLengths.{code_short}
 
--- ---- functions of the one form that is read
--- each program of the form has one function, and it is of this form
-pub derived : (ts : List Token) (p : Program) → Derives ts p → (f : Fun) × (p.funs ≡ f ∷ []) × TakesTwo f
-derived ts p h = by_tree h.0 h.1 h.2 h.3 h.6
-  where
-    by_tree : (g a b c : List ℕ) → p ≡ tree_of ts g a b c → (f : Fun) × (p.funs ≡ f ∷ []) × TakesTwo f
-    by_tree g a b c e = (_, ap (λ (q : Program). q.funs) e, record { left = _; right = _; sum = _; params_are = refl; result_is = refl })
-
--- ---- a valid slot holds a number
-loads_by : (m : Memory) (a n : ℕ) (o : Option ℕ) → map_of.get m a ≡ o → IsSome o → ((t : ℕ) × (loaded m ((a + 1) % 2 ^ 64) n ≡ Some t))
-    → (t : ℕ) × (loaded m a (suc n) ≡ Some t)
-unfolding loaded
-loads_by m a n None e v high = cc
-loads_by m a n (Some b) e v high = (b + 256 * high.0, rw (e, high.1) refl)
-
-pub loads : (m : Memory) (a n : ℕ) → a + n ≤ 2 ^ 64 → ((q : ℕ) → a ≤ q → q < a + n → IsValid m q) → (t : ℕ) × (loaded m a n ≡ Some t)
-unfolding loaded
-loads m a zero h valid = (0, refl)
-loads m a (suc zero) h valid = loads_by m a 0 (map_of.get m a) refl (valid a (omega arith) (omega arith)) (0, refl)
-loads m a (suc (suc n)) h valid =
-    let next : (a + 1) % 2 ^ 64 ≡ a + 1 = omega (arith, h) in
-    let rest = loads m (a + 1) (suc n) (omega (arith, h)) (λ q l r. valid q (omega (arith, l)) (omega (arith, r))) in
-    loads_by m a (suc n) (map_of.get m a) refl (valid a (omega arith) (omega arith)) (rest.0, ap (λ x. loaded m x (suc n)) next ∙ rest.1)
-
--- ---- the registers of arguments and results
-add_length : length (concat (map chosen_bytes add_code)) ≡ 7
-add_length = ap length add_bytes
-
-arguments_are : (f : Fun) (h : TakesTwo f) → (compiled_of f).args ≡ args_of (map variable_of (h.left ∷ h.right ∷ [])) argument_registers
-arguments_are f h = ap (λ ps. args_of (map variable_of ps) argument_registers) h.params_are
-
-results_are : (f : Fun) (h : TakesTwo f) → (compiled_of f).rets ≡ args_of (h.sum ∷ []) result_registers
-results_are f h = ap (λ vs. args_of vs result_registers) h.result_is
-
--- the numbers of the preserved registers are neither that of RAX nor that of RSP
-preserved_number : (r : Reg) → Contains preserved_registers r → (number_of r ≡ 0 → ⊥) × (number_of r ≡ 4 → ⊥)
-preserved_number r h = by_place h.0 h.1 h.2
-  where
-    Apart : Reg → Type 0
-    Apart q = (number_of q ≡ 0 → ⊥) × (number_of q ≡ 4 → ⊥)
-
-    by_place : (k : ℕ) → k < 6 → slice_index_or preserved_registers k r ≡ r → Apart r
-    by_place zero lt e = subst Apart e (λ n. absurd (omega (arith, n)), λ n. absurd (omega (arith, n)))
-    by_place (suc zero) lt e = subst Apart e (λ n. absurd (omega (arith, n)), λ n. absurd (omega (arith, n)))
-    by_place (suc (suc zero)) lt e = subst Apart e (λ n. absurd (omega (arith, n)), λ n. absurd (omega (arith, n)))
-    by_place (suc (suc (suc zero))) lt e = subst Apart e (λ n. absurd (omega (arith, n)), λ n. absurd (omega (arith, n)))
-    by_place (suc (suc (suc (suc zero)))) lt e = subst Apart e (λ n. absurd (omega (arith, n)), λ n. absurd (omega (arith, n)))
-    by_place (suc (suc (suc (suc (suc zero))))) lt e = subst Apart e (λ n. absurd (omega (arith, n)), λ n. absurd (omega (arith, n)))
-    by_place (suc (suc (suc (suc (suc (suc k)))))) lt e = absurd (omega (arith, lt))
-
--- ---- the run from a start
--- the steps before the third
-open_before : (base : ℕ) (s : Config) (t : ℕ) → add.AddRuns base s t → (j : ℕ) → j < 3 → (steps_of add.add_code base s j).after.ended ≡ false
-open_before base s t r zero lt = r.running_at_0
-open_before base s t r (suc zero) lt = r.running_at_1
-open_before base s t r (suc (suc zero)) lt = r.running_at_2
-open_before base s t r (suc (suc (suc j))) lt = absurd (omega (arith, lt))
-
-answers_ended : (code : List ℕ) (base : ℕ) (c : Config) → c.ended ≡ true → (step_of code base c).answer ≡ Ended
-unfolding step_of
-answers_ended code base c e = rw e refl
-
--- past the third nothing moves
-ended_past : (base : ℕ) (s : Config) → (steps_of add.add_code base s 3).after.ended ≡ true → (j : ℕ) → (steps_of add.add_code base s (3 + j)).after.ended ≡ true
-ended_past base s e j =
-    ap (λ (r : Ran). r.after.ended) (steps_both add.add_code base 3 j s)
-    ∙ ap (λ (r : Ran). r.after.ended) (end_stays add.add_code base j (steps_of add.add_code base s 3).after e) ∙ e
-
-never_faults : (base : ℕ) (s : Config) (t : ℕ) → add.AddRuns base s t → NeverFaults add.add_code base s
-never_faults base s t r zero f e = let a = r.first in let n = ap (λ (d : Config). (step_of add.add_code base d).answer) (none_made add.add_code base s) in cc
-never_faults base s t r (suc zero) f e = let a = r.second in cc
-never_faults base s t r (suc (suc zero)) f e = let a = r.third in cc
-never_faults base s t r (suc (suc (suc j))) f e =
-    let n : 3 + j ≡ suc (suc (suc j)) = omega arith in
-    let past : (steps_of add.add_code base s (suc (suc (suc j)))).after.ended ≡ true = subst (λ k. (steps_of add.add_code base s k).after.ended ≡ true) n (ended_past base s r.ended_at_3 j) in
-    let a : Ended ≡ Fault f = sym (answers_ended add.add_code base (steps_of add.add_code base s (suc (suc (suc j)))).after past) ∙ e in cc
-
+-- ---- runs
 -- a run ends once
 pub one_end : (code : List ℕ) (base j k : ℕ) (c : Config) → EndsAfter code base c j → EndsAfter code base c k → j ≡ k
 one_end code base j k c h g = by_order (order j k)
@@ -122,54 +57,6 @@ one_end code base j k c h g = by_order (order j k)
     by_order o =
         ⊎_elim (λ lt. let a = h.ended in let b = g.before j lt in absurd (clash _ a b))
         (⊎_elim (λ lt. let a = g.ended in let b = h.before k lt in absurd (clash _ a b)) (λ e. e)) o
-
--- a start of the addition is one at its first byte, with a return address
-begins : (f : Fun) (words : List ℕ) (memory : Memory) (rsp0 base : ℕ) (s : Config) → IsStart (compiled_of f) words memory rsp0 base s → (t : ℕ) × add.AtAdd base s t
-begins f words memory rsp0 base s h =
-    let slot = loads s.memory rsp0 8 h.room_above (λ q l r. h.stack_valid q (omega (arith, l), omega (arith, r))) in
-    let at : add.AtAdd base s slot.0 = record {
-      fits = let n = h.code_fits in omega (arith, n, add_length);
-      start = h.entry;
-      running = h.running;
-      registers = h.machine.registers;
-      words = h.machine.words;
-      stack = h.entry_stack ∙ sym h.stack;
-      slot = ap (λ a. loaded s.memory a 8) h.stack ∙ slot.1;
-      return = h.entry_return ∙ slot.1;
-    } in
-    (slot.0, at)
-
--- the sum in the low bits of RAX
-sum_stands : (rax rdi rsi x y : ℕ) → rdi < 2 ^ 64 → rsi < 2 ^ 64 → rdi % 2 ^ 64 ≡ x → rsi % 2 ^ 64 ≡ y → rax ≡ (rdi + rsi) % 2 ^ 64 → rax % 2 ^ 64 ≡ (x + y) % 2 ^ 64
-sum_stands rax rdi rsi x y a b e g h = omega (arith, a, b, e, g, h)
-
--- From each start of a function of the one form its code ends with the third step, with the sum, the memory as it was, one event and no fault.
-pub ends_from_each_start : (f : Fun) → TakesTwo f → (x y : ℕ) (memory : Memory) (rsp0 base : ℕ) (s : Config)
-    → IsStart (compiled_of f) (x ∷ y ∷ []) memory rsp0 base s
-    → EndsWith (compiled_of f) (x ∷ y ∷ []) rsp0 base s 3 ((x + y) % 2 ^ 64 ∷ []) memory (event.Addr rsp0 ∷ [])
-ends_from_each_start f form x y memory rsp0 base s h =
-    let b = begins f (x ∷ y ∷ []) memory rsp0 base s h in
-    let r = add.adds base s b.0 b.1 in
-    let given = subst (λ args. Stand args (x ∷ y ∷ []) s.state) (arguments_are f form) h.arguments in
-    let last : Config = (steps_of add.add_code base s 3).after in
-    let sum : reg_value last.state reg.Rax % 2 ^ 64 ≡ (x + y) % 2 ^ 64 =
-    sum_stands _ (reg_value s.state reg.Rdi) (reg_value s.state reg.Rsi) x y (h.machine.words reg.Rdi) (h.machine.words reg.Rsi) given.0 given.1.0 r.sum in
-    let agrees : Agrees (compiled_of f) (x ∷ y ∷ []) rsp0 s ((x + y) % 2 ^ 64 ∷ []) memory last = record {
-      given = subst (λ rets. Stand rets ((x + y) % 2 ^ 64 ∷ []) last.state) (sym (results_are f form)) (sum, tt);
-      regions = λ q none. absurd none;
-      others = λ q apart outside. ap (λ m. map_of.get m q) r.memory;
-      preserved = λ k among. let n = preserved_number k among in keeps base s b.0 b.1 (number_of k) n.0 n.1;
-      stack = r.stack ∙ ap (λ a. (a + 8) % 2 ^ 64) h.stack;
-    } in
-    record {
-      ends = record {
-        ended = subst (λ bs. (steps_of bs base s 3).after.ended ≡ true) (sym add_bytes) r.ended_at_3;
-        before = subst (λ bs. (j : ℕ) → j < 3 → (steps_of bs base s j).after.ended ≡ false) (sym add_bytes) (open_before base s b.0 r);
-      };
-      agrees = subst (λ bs. Agrees (compiled_of f) (x ∷ y ∷ []) rsp0 s ((x + y) % 2 ^ 64 ∷ []) memory (steps_of bs base s 3).after) (sym add_bytes) agrees;
-      shown = subst (λ bs. (steps_of bs base s 3).events ≡ event.Addr rsp0 ∷ []) (sym add_bytes) (r.events ∙ ap (λ a. event.Addr a ∷ []) h.stack);
-      no_fault = subst (λ bs. NeverFaults bs base s) (sym add_bytes) (never_faults base s b.0 r);
-    }
 
 -- ---- the start of `exec`
 zero_at : (n i : ℕ) → i < n → slice_get {X = ℕ} (replicate n 0) i ≡ Some 0
@@ -214,44 +101,123 @@ start_valid m h q within =
     ∙ ap (λ o. or_else o None) (zero_at 8 (q - return_slot) below)
     in ap is_some byte
 
--- Where `exec` starts a function of the one form is a start of it, on the words that are its items.
-pub exec_starts : (f : Fun) → TakesTwo f → (x y : ℕ) (memory m : Memory) → x < 2 ^ 64 → y < 2 ^ 64 → IsStartMemory m
-    → IsStart (compiled_of f) (x ∷ y ∷ []) memory return_slot code_base (exec_start (x ∷ y ∷ []) m)
-exec_starts f form x y memory m left right h =
-    let words : AreWords (x ∷ y ∷ []) = item_words x y left right in
-    let at = at_add (x ∷ y ∷ []) m words h in
-    let st = start_state (x ∷ y ∷ []) in
-    let given : Stand (args_of (map variable_of (form.left ∷ form.right ∷ [])) argument_registers) (x ∷ y ∷ []) st =
-    (omega (arith, left), (omega (arith, right), tt)) in
-    record {
-      machine = record { registers = at.registers; words = at.words; flags = refl; bytes = start_bytes m h };
-      entry = refl;
-      code_fits = omega (arith, add_length);
-      running = refl;
-      entry_stack = refl;
-      entry_return = refl;
-      stack = refl;
-      aligned = refl;
-      room_below = omega arith;
-      room_above = omega arith;
-      stack_valid = start_valid m h;
-      stack_apart = λ q within none. absurd none;
-      arguments = subst (λ args. Stand args (x ∷ y ∷ []) st) (sym (arguments_are f form)) given;
-      region_valid = λ q none. absurd none;
-      region_holds = λ q none. absurd none;
-    }
-  where
-    item_words : (x y : ℕ) → x < 2 ^ 64 → y < 2 ^ 64 → AreWords (x ∷ y ∷ [])
-    item_words x y l r zero = l
-    item_words x y l r (suc zero) = r
-    item_words x y l r (suc (suc k)) = lit< tt
+-- ---- items in registers
+-- the registers have numbers of their own
+abbrev AreFar : List Reg → Type 0
+AreFar [] = ⊤
+AreFar (r ∷ rs) = (is_far (number_of r) rs ≡ true) × AreFar rs
 
--- Two words meet the preconditions of a function of the one form, which has no regions.
-pub words_meet : (f : Fun) → TakesTwo f → (x y : ℕ) → x < 2 ^ 64 → y < 2 ^ 64 → MeetsPreconditions (compiled_of f) (x ∷ y ∷ []) map_of.empty
-words_meet f form x y left right = record {
-  sizes = subst (λ args. AreOfSizes args (x ∷ y ∷ [])) (sym (arguments_are f form)) (left, (right, tt));
-  met = tt;
-  below_end = tt;
-  covered = λ q. (λ none. absurd (let e : false ≡ true = sym (ap is_some (map_of.get-empty nat_cmp q)) ∙ none in cc), λ none. absurd none);
-  bytes = λ q b none. absurd (let e : None ≡ Some b = sym (map_of.get-empty nat_cmp q) ∙ none in cc);
-}
+abbrev at_regs : List ℕ → State
+at_regs regs = record { regs = regs; rip = code_base; flags = replicate 5 Undefined }
+
+-- each item stands in the register of its argument
+stand : (ns : List ℕ) (rs : List Reg) (xs : List Var) (regs : List ℕ) → AreFar rs → ItemsFit ns → length ns ≡ length xs → length ns ≤ length rs → length regs ≡ 16
+    → Stand (lines_of rs xs) ns (at_regs (with_numbers ns rs regs))
+stand [] rs [] regs far fit same few size = tt
+stand [] rs (x ∷ xs) regs far fit same few size = absurd (omega (arith, same))
+stand (n ∷ ns) rs [] regs far fit same few size = absurd (omega (arith, same))
+stand (n ∷ ns) [] (x ∷ xs) regs far fit same few size = absurd (omega (arith, few))
+stand (n ∷ ns) (r ∷ rs) (x ∷ xs) regs far fit same few size =
+    let now = slice_set regs (number_of r) n in
+    let here : slice_index (with_numbers ns rs now) (number_of r) % 2 ^ 64 ≡ n =
+    ap (λ w. w % 2 ^ 64) (placed-other (number_of r) ns rs now far.0) ∙ word_same regs r n size fit.0 in
+    (here, stand ns rs xs now far.1 fit.1 (omega (arith, same)) (omega (arith, few)) (length-set regs (number_of r) n ∙ size))
+
+arguments_far : AreFar argument_registers
+arguments_far = (refl, (refl, (refl, (refl, (refl, (refl, tt))))))
+
+sizes : (ns : List ℕ) (rs : List Reg) (xs : List Var) → ItemsFit ns → length ns ≡ length xs → length ns ≤ length rs → AreOfSizes (lines_of rs xs) ns
+sizes [] rs [] fit same few = tt
+sizes [] rs (x ∷ xs) fit same few = absurd (omega (arith, same))
+sizes (n ∷ ns) rs [] fit same few = absurd (omega (arith, same))
+sizes (n ∷ ns) [] (x ∷ xs) fit same few = absurd (omega (arith, few))
+sizes (n ∷ ns) (r ∷ rs) (x ∷ xs) fit same few = (fit.0, sizes ns rs xs fit.1 (omega (arith, same)) (omega (arith, few)))
+
+are_words : (ns : List ℕ) → ItemsFit ns → AreWords ns
+are_words [] h i = lit< tt
+are_words (n ∷ ns) h zero = h.0
+are_words (n ∷ ns) h (suc i) = are_words ns h.1 i
+
+map_length : {A B : Type 0} (g : A → B) (xs : List A) → length (map g xs) ≡ length xs
+map_length g [] = refl
+map_length g (x ∷ xs) = ap suc (map_length g xs)
+
+-- ---- the start
+module _ (register : List ℕ → Reg) (f : Fun) (items : List ℕ) (fit : ItemsFit items) (count : length items ≡ length f.params) (few : length f.params ≤ 6) (small : length f.body ≤ 65536) where
+  as_many : length items ≡ length (map variable_of f.params)
+  as_many = count ∙ sym (map_length variable_of f.params)
+
+  few_items : length items ≤ 6
+  few_items = omega (arith, count, few)
+
+  code_fits : code_base + length (compiled_of register f).code ≤ 2 ^ 64
+  code_fits = let short = code_short register f in omega (arith, short, small)
+
+  -- where `exec` starts the function is a start of it, on the words that are its items
+  pub exec_starts : (m : Memory) → IsStartMemory m → IsStart (compiled_of register f) items map_of.empty return_slot code_base (exec_start items m)
+  exec_starts m h =
+      let words = are_words items fit in
+      let rsp : reg_value (start_state items) reg.Rsp ≡ return_slot = placed-other 4 items argument_registers bare_registers refl in
+      record {
+        machine = record {
+          registers = placed-length items argument_registers bare_registers;
+          words = λ r. placed-words items argument_registers bare_registers words bare_words (number_of r);
+          flags = refl;
+          bytes = start_bytes m h;
+        };
+        entry = refl;
+        code_fits = code_fits;
+        running = refl;
+        entry_stack = refl;
+        entry_return = refl;
+        stack = rsp;
+        aligned = refl;
+        room_below = omega arith;
+        room_above = omega arith;
+        stack_valid = start_valid m h;
+        stack_apart = λ q within none. absurd none;
+        arguments = stand items argument_registers (map variable_of f.params) bare_registers arguments_far fit as_many few_items refl;
+        region_valid = λ q none. absurd none;
+        region_holds = λ q none. absurd none;
+      }
+
+  -- the items meet the preconditions of the function, which has no regions
+  pub words_meet : MeetsPreconditions (compiled_of register f) items map_of.empty
+  words_meet = record {
+    sizes = sizes items argument_registers (map variable_of f.params) fit as_many few_items;
+    met = tt;
+    below_end = tt;
+    covered = λ q. (λ none. absurd (let e : false ≡ true = sym (ap is_some (map_of.get-empty nat_cmp q)) ∙ none in cc), λ none. absurd none);
+    bytes = λ q b none. absurd (let e : None ≡ Some b = sym (map_of.get-empty nat_cmp q) ∙ none in cc);
+  }
+
+-- ---- the end
+insns_few : (register : List ℕ → Reg) (ss : List Stmt) → length (insns_of register ss) ≤ length ss
+insns_few register [] = omega arith
+insns_few register (s ∷ ss) =
+    let e = length-append (kind_insns register s.kind) (insns_of register ss) in
+    let here = kind_few s.kind in
+    let rest = insns_few register ss in omega (arith, e, here, rest)
+  where
+    kind_few : (k : StmtKind) → length (kind_insns register k) ≤ 1
+    kind_few (kind.Assign [] o r) = omega arith
+    kind_few (kind.Assign (d ∷ []) o r) = omega arith
+    kind_few (kind.Assign (d ∷ e ∷ ds) o r) = omega arith
+
+within : (k s n : ℕ) → k ≤ s * (0 + 1) → s ≡ n → n ≤ 65537 → k ≤ 1000000
+within k s n a e b = omega (arith, a, e, b)
+
+-- started on items the code of a correct function without an alarm ends within the limit, and no step faults
+pub ends_within : (register : List ℕ → Reg) (p : Program) (f : Fun) (items : List ℕ) → IsInput p f items → ItemsFit items → length items ≡ length f.params → length f.params ≤ 6 → length f.body ≤ 65536
+    → IsResolved f → HasNoAlarm f → IsCorrect p f (compiled_of register f) → EndsWithin (compiled_of register f) items 1000000
+ends_within register p f items input fit count few small resolved safe correct m h =
+    let run = fun_some p f items map_of.empty 0 input in
+    let ends = safe_ends p f items map_of.empty 0 run.0 resolved safe run.1 in
+    let there = subst (λ (o : FunOutcome). IsRun p f items map_of.empty 0 o) ends.1 run.1 in
+    let so : EndsSo (compiled_of register f) items return_slot code_base (exec_start items m) 0 _ _ =
+    correct.carries.matches items map_of.empty 0 _ there (words_meet register f items fit count few small) return_slot code_base (exec_start items m)
+    (exec_starts register f items fit count few small m h) in
+    let insns : length (code_insns register f) ≡ length (insns_of register f.body) + 1 = length-append (insns_of register f.body) (insn.Ret ∷ []) in
+    let fewer = insns_few register f.body in
+    let bound = so.within in
+    ((so.steps, omega (arith, bound, insns, fewer, small), so.ends.ends), so.ends.no_fault)
