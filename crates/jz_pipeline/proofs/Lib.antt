@@ -2,3 +2,5 @@ pub mod LimitWalks
 pub mod Lines
 pub mod Carrying
 pub mod Correct
+pub mod Linked
+pub mod Placeable

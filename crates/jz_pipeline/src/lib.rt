@@ -1,6 +1,7 @@
 //! The stages behind typing, from a typed program on.
 #![tactic(auto)]
 
+mod compiled_laws;
 mod compiling;
 mod copying;
 mod expanding;
@@ -13,6 +14,9 @@ mod tests;
 mod text_tests;
 mod unplaced;
 
+pub use compiled_laws::{
+    compiled_is_correct, never_both, one_compilation, typed_functions_are_placeable,
+};
 pub use compiling::compile_fun;
 pub use expanding::expand;
 pub use laws::placed_is_correct;
