@@ -7,45 +7,44 @@ use Rattle.jz_io.specs.Telling.{Telling}
 use Rattle.jasminc_top.specs.Words.{Wanted, compile, exec, wanted}
 use Rattle.jz_tree.specs.declared.Program.{Program}
 use Rattle.jz_tree.specs.declared.Fun.{Fun}
-use Rattle.jz_lex.specs.declared.token.Token.{Token}
 use Rattle.jz_listing.specs.declared.compiled.Compiled.{Compiled}
 use Rattle.jasminc_top.specs.declared.refusal.Status.{Status}
 use Rattle.jasminc_top.specs.declared.refusal.Status.TheVariants as status
 use Rattle.jasminc_top.specs.declared.refusal.Refusal.TheVariants.{NoFunction, Items}
-use Rattle.jz_parse.specs.Parsing.{Derives}
-use Rattle.jz_parse.specs.Reading.{Reads}
-use Rattle.jasminc_top.specs.OneForm.{TakesTwo}
-use Rattle.jasminc_top.specs.Compiling.{compiled_of}
-use Rattle.jasminc_top.specs.Answers.{HasFile, IsDue, IsDone, Gives, GivesRun, RunsProgram, ExecCause, Clear, function_named, compiled_named, step_limit}
+use Rattle.jz_tree.specs.declared.Param.{Param}
+use Rattle.jz_tree.specs.declared.Decl.{Decl}
+use Rattle.jz_tree.specs.declared.Ty.{Ty}
+use Rattle.jz_tree.specs.declared.Ty.TheVariants.{Word}
+use Rattle.jz_words.specs.declared.size.Size.TheVariants.{S64}
+use Rattle.jz_meaning.specs.SourceRuns.{AreArguments, FitsDecl, FitsType, IsInput}
+use Rattle.jz_lower.specs.Straight.{AreWords}
+use Rattle.jz_lower.specs.Operations.{register_of}
+use Rattle.jz_pipeline.specs.Compiling.{compiled_of}
+use Rattle.jz_pipeline.proofs.Linked.{compiled_correct}
+use Rattle.jasminc_top.specs.Making.{TypesAs, Makes}
+use Rattle.jasminc_top.specs.Answers.{HasFile, IsDue, IsDone, Gives, GivesRun, RunsOne, ExecCause, Clear, function_named, compiled_named, step_limit}
 use Rattle.jasminc_top.specs.Refusals.{all_stages}
-use Rattle.jasminc_top.specs.Running.{RunsTo, IsStartMemory, code_base, return_slot, exec_start}
+use Rattle.jasminc_top.specs.Running.{EndsWithin, RunsTo, IsStartMemory, code_base, return_slot, exec_start}
 use Rattle.jz_correct.specs.Starts.{MeetsPreconditions, IsStart}
 use Rattle.jasminc_top.specs.Runs.{Due, Runs}
 use Rattle.jz_correct.specs.Correctness.{IsCorrect, AreCorrect}
 use Rattle.jasminc_top.specs.Headline.{PrintsRun, Executes}
-use Rattle.jasminc_top.proofs.AddCorrect.{correct}
-use Rattle.jasminc_top.proofs.Causes.{compiled_found}
 use Rattle.jasminc_top.proofs.Headline.{never_ok, same_command}
-use Rattle.jasminc_top.proofs.ItemsFit.{ItemsFit, items_fit}
-use Rattle.jasminc_top.proofs.StartLaws.{derived, exec_starts, words_meet}
+use Rattle.jasminc_top.specs.Running.{ItemsFit}
+use Rattle.jasminc_top.proofs.ItemsFit.{items_fit}
+use Rattle.jasminc_top.proofs.StartLaws.{exec_starts, words_meet, ends_within}
+use Rattle.jasminc_top.proofs.TypedTexts.{text_typed, fun_placeable, fun_resolved, FoundWith, found_with}
 
--- ---- the function of a name
-one_named : (h f : Fun) (z : Bool) → (if z then Some h else None) ≡ Some f → h ≡ f
-one_named h f true e = cc
-one_named h f false e = cc
-
-derived_named : (ts : List Token) (p : Program) → Derives ts p → (name : List ℕ) (f : Fun) → function_named name p.funs ≡ Some f
-    → AreCorrect p p.funs (map compiled_of p.funs) → IsCorrect p f (compiled_of f) × TakesTwo f
-derived_named ts p d name f found all =
-    let one = derived ts p d in
-    let same = one_named one.0 f (bytes_eq one.0.name name) (subst (λ fs. function_named name fs ≡ Some f) one.1 found) in
-    let first = subst (λ fs. AreCorrect p fs (map compiled_of fs)) one.1 all in
-    (subst (λ g. IsCorrect p g (compiled_of g)) same first.0, subst TakesTwo same one.2)
-
-reading_named : (text : List ℕ) (p : Program) → Reads text p → (name : List ℕ) (f : Fun) → function_named name p.funs ≡ Some f
-    → AreCorrect p p.funs (map compiled_of p.funs) → IsCorrect p f (compiled_of f) × TakesTwo f
-unfolding Reads
-reading_named text p (ts, lexed, derives) name f found all = derived_named ts p derives name f found all
+-- ---- items are arguments
+item_arguments : (ps : List Param) (items : List ℕ) → AreWords ps → ItemsFit items → length items ≡ length ps → AreArguments ps items
+item_arguments [] [] w fit e = tt
+item_arguments [] (n ∷ ns) w fit e = absurd (omega (arith, e))
+item_arguments (p ∷ ps) [] w fit e = absurd (omega (arith, e))
+item_arguments (p ∷ ps) (n ∷ ns) w fit e =
+    (item_fits n p.var.decl w.0.declared w.0.decl w.0.ty fit.0, item_arguments ps ns w.1 fit.1 (omega (arith, e)))
+  where
+    item_fits : (n : ℕ) (o : Option Decl) (d : Decl) → o ≡ Some d → d.ty ≡ Word S64 → n < 2 ^ 64 → FitsDecl o n
+    item_fits n o d e t lt = subst (λ (q : Option Decl). FitsDecl q n) (sym e) (subst (λ (u : Ty). FitsType u n) (sym t) lt)
 
 -- ---- no cause stands
 found_by : (name : List ℕ) (funs : List Fun) (o : Option Fun) → function_named name funs ≡ o → (function_named name funs ≡ None → ⊥)
@@ -53,71 +52,66 @@ found_by : (name : List ℕ) (funs : List Fun) (o : Option Fun) → function_nam
 found_by name funs None e h = absurd (h e)
 found_by name funs (Some f) e h = (f, e)
 
-function_there : (text fun items : List ℕ) (p : Program) → Reads text p → Clear (ExecCause fun items text) all_stages
+function_there : (text fun items : List ℕ) (p : Program) → TypesAs text p → Clear (ExecCause fun items text) all_stages
     → (f : Fun) × (function_named fun p.funs ≡ Some f)
-function_there text fun items p reads clear =
-    found_by fun p.funs (function_named fun p.funs) refl (λ none. clear (NoFunction fun) (omega arith) (record { program = p; reads = reads; none = none; named = refl }))
+function_there text fun items p types clear =
+    found_by fun p.funs (function_named fun p.funs) refl (λ none. clear (NoFunction fun) (omega arith) (record { program = p; types = types; none = none; named = refl }))
 
 equal_unless : (a b : ℕ) → ((a ≡ b → ⊥) → ⊥) → a ≡ b
 equal_unless a b h = grind arith
 
-as_many_items : (text fun items : List ℕ) (p : Program) (f : Fun) → Reads text p → function_named fun p.funs ≡ Some f
+as_many_items : (text fun items : List ℕ) (p : Program) (f : Fun) → TypesAs text p → function_named fun p.funs ≡ Some f
     → Clear (ExecCause fun items text) all_stages → length items ≡ length f.params
-as_many_items text fun items p f reads found clear =
+as_many_items text fun items p f types found clear =
     equal_unless (length items) (length f.params)
-    (λ differ. clear Items (omega arith) (record { program = p; reads = reads; function = f; found = found; differ = differ }))
-
--- ---- the items
-pub record TwoItems (items : List ℕ) : Type 0 where
-  pub x : ℕ
-  pub y : ℕ
-  pub are : items ≡ x ∷ y ∷ []
-  pub x_fits : x < 2 ^ 64
-  pub y_fits : y < 2 ^ 64
-
-two_items : (items : List ℕ) → length items ≡ 2 → ItemsFit items → TwoItems items
-two_items [] e h = absurd (omega (arith, e))
-two_items (x ∷ []) e h = absurd (omega (arith, e))
-two_items (x ∷ y ∷ []) e h = record { x = x; y = y; are = refl; x_fits = h.0; y_fits = h.1.0 }
-two_items (x ∷ y ∷ z ∷ more) e h = absurd (omega (arith, e))
-
-started : (f : Fun) → TakesTwo f → (items : List ℕ) → TwoItems items → (m : _) → IsStartMemory m
-    → MeetsPreconditions (compiled_of f) items map_of.empty × IsStart (compiled_of f) items map_of.empty return_slot code_base (exec_start items m)
-started f two items i m h =
-    subst (λ (ns : List ℕ). MeetsPreconditions (compiled_of f) ns map_of.empty × IsStart (compiled_of f) ns map_of.empty return_slot code_base (exec_start ns m)) (sym i.are)
-    (words_meet f two i.x i.y i.x_fits i.y_fits, exec_starts f two i.x i.y map_of.empty m i.x_fits i.y_fits h)
+    (λ differ. clear Items (omega arith) (record { program = p; types = types; function = f; found = found; differ = differ }))
 
 -- ---- what was written
 same_compiled : (c d : Compiled) (o : Option Compiled) → o ≡ Some c → o ≡ Some d → c ≡ d
 same_compiled c d o p q = cc
 
 run_printed : (file fun items text output : List ℕ) (told : Option Telling) (written written_after : Option (List ℕ)) (made : List Compiled) (p : Program) (f : Fun)
-    → HasFile file told text → Reads text p → function_named fun p.funs ≡ Some f → length items ≡ length f.params → ItemsFit items
-    → RunsProgram p fun items status.Ok output made → Appends written written_after output → PrintsRun file fun items told written written_after made
-run_printed file fun items text output told written written_after made p f has reads found many fit r wrote =
-    let there : compiled_named fun made ≡ Some (compiled_of f) =
-    subst (λ (m : List Compiled). compiled_named fun m ≡ Some (compiled_of f)) (sym r.made_is) (compiled_found fun p.funs f found) in
-    let same : r.compiled ≡ compiled_of f = same_compiled r.compiled (compiled_of f) (compiled_named fun made) r.found there in
-    let runs : RunsTo (compiled_of f) items step_limit output = subst (λ (c : Compiled). RunsTo c items step_limit output) same r.runs in
-    let both = reading_named text p reads fun f found (correct text p reads) in
-    let begun = started f both.1 items (two_items items (many ∙ ap length both.1.params_are) fit) runs.memory runs.is_start in
+    → HasFile file told text → Makes text p made → function_named fun p.funs ≡ Some f → length items ≡ length f.params → ItemsFit items
+    → RunsOne fun items status.Ok output made → Appends written written_after output → PrintsRun file fun items told written written_after made
+run_printed file fun items text output told written written_after made p f has makes found many fit r wrote =
+    let l = found_with fun p.funs made f makes.are_made found in
+    let register = register_of f l.is_compiled.places in
+    let same : r.compiled ≡ compiled_of register f = same_compiled r.compiled l.compiled (compiled_named fun made) r.found l.found ∙ l.is_compiled.is in
+    let runs : RunsTo (compiled_of register f) items step_limit output = subst (λ (c : Compiled). RunsTo c items step_limit output) same r.runs in
+    let typed = text_typed text p makes.types in
+    let able = fun_placeable p f typed l.among l.within in
+    let few = able.counts.few_params in
+    let right = subst (λ (c : Compiled). IsCorrect p f c) l.is_compiled.is (compiled_correct p f l.compiled able (fun_resolved p f typed l.among) l.safe l.is_compiled) in
     record {
       text = text;
       has = has;
       program = p;
-      reads = reads;
+      types = makes.types;
       function = f;
       found = found;
-      compiled = compiled_of f;
-      compiled_is = there;
-      correct = both.0;
-      meets = begun.0;
+      compiled = compiled_of register f;
+      compiled_is = l.found ∙ ap Some l.is_compiled.is;
+      correct = right;
+      meets = words_meet register f items fit many few l.within.0;
       memory = runs.memory;
-      start = begun.1;
+      start = exec_starts register f items fit many few l.within.0 runs.memory runs.is_start;
       steps = runs.steps;
       ends = runs.ends;
       wrote = subst (λ (o : List ℕ). Appends written written_after o) runs.text wrote;
     }
+
+-- what was made ends within the limit
+pub run_ends : (text fun items : List ℕ) (made : List Compiled) (p : Program) (f : Fun) → Makes text p made → function_named fun p.funs ≡ Some f → length items ≡ length f.params → ItemsFit items
+    → (c : Compiled) × (compiled_named fun made ≡ Some c) × EndsWithin c items 1000000
+run_ends text fun items made p f makes found many fit =
+    let l = found_with fun p.funs made f makes.are_made found in
+    let register = register_of f l.is_compiled.places in
+    let typed = text_typed text p makes.types in
+    let able = fun_placeable p f typed l.among l.within in
+    let resolved = fun_resolved p f typed l.among in
+    let right = subst (λ (c : Compiled). IsCorrect p f c) l.is_compiled.is (compiled_correct p f l.compiled able resolved l.safe l.is_compiled) in
+    let input : IsInput p f items = record { of_program = l.among; arguments = item_arguments f.params items able.straight.params fit many } in
+    (compiled_of register f, l.found ∙ ap Some l.is_compiled.is, ends_within register p f items input fit many able.counts.few_params l.within.0 resolved l.safe right)
 
 given_run : (file fun items text output : List ℕ) (made : List Compiled) → IsDone (Some (exec file fun items)) text status.Ok output made → GivesRun text fun items status.Ok output made
 given_run file fun items text output made x = subst (λ (w : Wanted). Gives w text status.Ok output made) (sym (same_command _ _ x.is)) x.gives
@@ -127,9 +121,9 @@ done_printed : (file fun items text output : List ℕ) (told : Option Telling) (
     → PrintsRun file fun items told written written_after made
 done_printed file fun items text output told written written_after made has fit x wrote =
     let g = given_run file fun items text output made x in
-    let f = function_there text fun items g.program g.reads x.clear in
-    run_printed file fun items text output told written written_after made g.program f.0 has g.reads f.1
-    (as_many_items text fun items g.program f.0 g.reads f.1 x.clear) fit g.run wrote
+    let f = function_there text fun items g.program g.makes.types x.clear in
+    run_printed file fun items text output told written written_after made g.program f.0 has g.makes f.1
+    (as_many_items text fun items g.program f.0 g.makes.types f.1 x.clear) fit g.run wrote
 
 due_printed : (file fun items output : List ℕ) (old new : Option Telling) (made : List Compiled) (written written_after : Option (List ℕ))
     → ItemsFit items → IsDue (Some (exec file fun items)) old new status.Ok output made → Appends written written_after output

@@ -16,7 +16,7 @@ use Rattle.jz_pipeline.specs.Placed.{IsUnplaced, IsCompiled, AreCompiled}
 use Rattle.jz_pipeline.specs.Stages.{HasNone, IsFirstRefusal}
 use Rattle.jz_pass.proofs.LimitLemmas.{none_within}
 use Rattle.jz_safety.proofs.Alarming as alarming
-use Rattle.jz_pipeline.proofs.LinkedLaws as placed
+use Rattle.jz_pipeline.proofs.Linked.{not_both}
 use Rattle.jasminc_top.specs.declared.refusal.Refusal.{Refusal}
 use Rattle.jasminc_top.specs.declared.refusal.Refusal.TheVariants.{Usage, Source, Lex, Parse, Typing, NoFunction, Limit, Alarm, NoPlace, Items}
 use Rattle.jasminc_top.specs.declared.refusal.Status.{Status}
@@ -47,7 +47,7 @@ all_placed : (funs : List Fun) (made : List Compiled) → AreCompiled funs made 
 all_placed [] [] h = All-nil (HasNone IsUnplaced)
 all_placed [] (c ∷ cs) h = absurd h
 all_placed (f ∷ fs) [] h = absurd h
-all_placed (f ∷ fs) (c ∷ cs) h = All-cons (HasNone IsUnplaced) f fs (λ n. placed.never_both f c n h.0) (all_placed fs cs h.1)
+all_placed (f ∷ fs) (c ∷ cs) h = All-cons (HasNone IsUnplaced) f fs (λ n. not_both f c n h.0) (all_placed fs cs h.1)
 
 has_none_first : {A : Type 0} (OfKind : Fun → A → Type 0) (text : List ℕ) (p : Program) (a : A) → TypesAs text p → All (HasNone OfKind) p.funs → HasFirst OfKind text a → ⊥
 has_none_first OfKind text p a t none h =

@@ -1,4 +1,4 @@
--- The size of a frame, and that of a function of the one form.
+-- The size of a frame.
 use Rattle.std.proofs.Common.{◌≡◌, ℕ, ◌+◌, ◌-◌, ◌*◌, ◌/◌, ◌%◌, ◌<◌, ◌≤◌, false, List, [], ◌∷◌, refl, sym, ap, ◌∙◌, arith, if◌then◌else◌, ◌==◌, Option, Some, None}
 use Rattle.std.specs.Prelude.{◌++◌, map}
 use Rattle.std.proofs.lemmas.Bool.Decides.{nat_tests}
@@ -11,7 +11,6 @@ use Rattle.jz_tree.specs.declared.Decl.{Decl}
 use Rattle.jz_tree.specs.declared.Var.{Var}
 use Rattle.jz_tree.specs.declared.Fun.{Fun}
 use Rattle.jz_listing.specs.declared.compiled.Compiled.{Compiled}
-use Rattle.jasminc_top.specs.Compiling.{add_code, compiled_of}
 use Rattle.jz_correct.specs.Frames.{StackVariable, Place, places_from, saved_slots, stacked_by, stacked_if, stacked_among, end_from, saved_of, frame_end, frame_size, frame_of, preserved_registers}
 use Rattle.jz_correct.specs.Starts.{IsStart}
 use Rattle.x64_machine.specs.Steps.{Config}
@@ -36,24 +35,6 @@ pub aligned_below : (c : Compiled) (words : List ℕ) (memory : Memory) (rsp0 ba
     → 0 < end → c.frame ≡ frame_size end → (rsp0 - c.frame) % 16 ≡ 0
 aligned_below c words memory rsp0 base s end h lt e =
     let k = shape end lt in let a = h.aligned in let b = h.room_below in omega (arith, k, a, b, e)
-
--- ---- a function of the one form
-none_by : (s : Storage) (v : Var) → stacked_by s v ≡ []
-none_by storage.Reg v = refl
-
-none_if : (d : Option Decl) (v : Var) → stacked_if d v ≡ []
-none_if None v = refl
-none_if (Some d) v = none_by d.storage v
-
-none_among : (vs : List Var) → stacked_among vs ≡ []
-none_among [] = refl
-none_among (v ∷ vs) = ap (λ s. s ++ stacked_among vs) (none_if v.decl v) ∙ none_among vs
-
-pub frame_is : (f : Fun) → (compiled_of f).frame ≡ frame_of f add_code
-frame_is f = sym (ap (λ ss. frame_size (frame_end (end_from 0 ss) (saved_of add_code))) (none_among f.vars))
-
-pub saved_is : (f : Fun) → (compiled_of f).saved ≡ saved_of add_code
-saved_is f = refl
 
 -- ---- sizes of frames: one cell of 64 bits, eight of them, two preserved registers alone, six preserved registers, and one byte with a preserved register
 one_cell : frame_size (frame_end 8 []) ≡ 8

@@ -7,13 +7,13 @@ use Rattle.jz_listing.specs.declared.compiled.Compiled.{Compiled}
 use Rattle.jasminc_top.specs.declared.refusal.Status.{Status}
 use Rattle.jasminc_top.specs.declared.refusal.Status.TheVariants as status
 use Rattle.jasminc_top.specs.declared.refusal.Refusal.{Refusal}
-use Rattle.jasminc_top.specs.declared.refusal.Refusal.TheVariants.{Usage, Source, Lex, Parse, NoFunction, Items}
+use Rattle.jasminc_top.specs.declared.refusal.Refusal.TheVariants.{Usage, Source, Lex, Parse, Typing, NoFunction, Limit, Alarm, NoPlace, Items}
 use Rattle.jasminc_top.specs.Refusals.{status_of}
 use Rattle.jasminc_top.specs.Answers.{IsDue, IsDone, Gives, GivesListing}
 use Rattle.jasminc_top.specs.Runs.{Due, Runs}
 use Rattle.jz_correct.specs.Correctness.{AreCorrect}
 use Rattle.jasminc_top.specs.Headline.{PrintsCorrect, Compiles}
-use Rattle.jasminc_top.proofs.AddCorrect.{correct}
+use Rattle.jasminc_top.proofs.TypedTexts.{text_correct}
 
 -- no refusal has the status of success
 pub never_ok : (r : Refusal) → status.Ok ≡ status_of r → ⊥
@@ -21,7 +21,11 @@ never_ok Usage e = cc
 never_ok Source e = cc
 never_ok (Lex fault) e = cc
 never_ok (Parse fault) e = cc
+never_ok (Typing fault) e = cc
 never_ok (NoFunction name) e = cc
+never_ok (Limit limit) e = cc
+never_ok (Alarm alarm) e = cc
+never_ok (NoPlace refusal) e = cc
 never_ok Items e = cc
 
 pub same_command : (a b : Wanted) → Some a ≡ Some b → a ≡ b
@@ -40,8 +44,8 @@ printed file old new output made written written_after d wrote = elim d.answers 
         text = d.text;
         has = d.has;
         program = g.program;
-        reads = g.reads;
-        correct = subst (λ (m : List Compiled). AreCorrect g.program g.program.funs m) (sym g.made_is) (correct d.text g.program g.reads);
+        types = g.makes.types;
+        correct = text_correct d.text g.program made g.makes;
         wrote = subst (λ (o : List ℕ). Appends written written_after o) g.output_is wrote;
       }
 ]

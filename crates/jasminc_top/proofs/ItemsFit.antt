@@ -1,15 +1,11 @@
 -- The items of a command are words of 64 bits.
 use Rattle.std.proofs.Common.{◌≡◌, ℕ, ◌<◌, ◌^◌, Bool, true, false, ◌&&◌, nat_lt, if◌then◌else◌, List, [], ◌∷◌, drop, codes, Option, Some, None, refl, arith, subst}
-use Rattle.std.specs.Prelude.{◌==◌, option_and_then, ⊤}
+use Rattle.std.specs.Prelude.{◌==◌, option_and_then}
 use Rattle.std.specs.List.{list_any, starts_with}
 use Rattle.std.specs.Option.{option_map}
 use Rattle.std.specs.Str.{bytes_eq}
+use Rattle.jasminc_top.specs.Running.{ItemsFit}
 use Rattle.jasminc_top.specs.Words.{Wanted, compile, exec, is_option, is_numeral, numeral, has_leading_zero, number_of, numbers_of, run_of, command_of, wanted}
-
--- each is below 2 ^ 64
-abbrev pub ItemsFit : List ℕ → Type 0
-ItemsFit [] = ⊤
-ItemsFit (n ∷ ns) = (n < 2 ^ 64) × ItemsFit ns
 
 below : (z : Bool) (v n : ℕ) → z ≡ nat_lt v (2 ^ 64) → (if z then Some v else None) ≡ Some n → n < 2 ^ 64
 below true v n q e = let same : v ≡ n = cc in let lt : v < 2 ^ 64 = grind (arith, q) in subst (λ k. k < 2 ^ 64) same lt

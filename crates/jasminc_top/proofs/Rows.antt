@@ -11,7 +11,7 @@ use Rattle.jasminc_top.specs.Refusals.{stage_of}
 use Rattle.jasminc_top.specs.Answers.{Cause, HasText, IsDue}
 use Rattle.jasminc_top.specs.Runs.{Due, Runs, Refuses, Completes, IsFree, IsGiven, IsEarlier, Tells}
 
-bounded : (r : Refusal) → stage_of r < 6
+bounded : (r : Refusal) → stage_of r < 10
 bounded Usage = omega arith
 bounded _ = omega arith
 

@@ -39,7 +39,7 @@ use Rattle.jz_lower.proofs.Stores.{word_same, number_below}
 use Rattle.jz_pipeline.specs.Compiling.{lines_of, code_insns, compiled_of}
 use Rattle.jasminc_top.specs.Running.{code_base, return_slot, with_numbers, bare_registers, start_state, IsStartMemory, exec_start, EndsWithin}
 use Rattle.jasminc_top.proofs.ExecStart.{AreWords, is_far, placed-other, placed-length, placed-words, bare_words, slot_holds}
-use Rattle.jasminc_top.proofs.ItemsFit.{ItemsFit}
+use Rattle.jasminc_top.specs.Running.{ItemsFit}
 use Rattle.jasminc_top.proofs.CodeLengths.{code_short}
 
 -- ---- runs

@@ -1,5 +1,5 @@
 -- A run of compiled code to its end: where it starts, where it ends, and its text.
-use Rattle.std.specs.Prelude.{◌≡◌, ◌<◌, ◌≤◌, ℕ, ◌-◌, true, false, List, [], ◌∷◌, ◌++◌, map, drop, codes, decimal, replicate, slice_set, if◌then◌else◌}
+use Rattle.std.specs.Prelude.{◌≡◌, ◌<◌, ◌≤◌, ℕ, ◌-◌, ◌^◌, ⊤, true, false, List, [], ◌∷◌, ◌++◌, map, drop, codes, decimal, replicate, slice_set, if◌then◌else◌}
 use Rattle.std.specs.List.{concat}
 use Rattle.std.specs.FinMap as map_of
 use Rattle.std.specs.Int.{w64, to_be_bytes}
@@ -57,6 +57,11 @@ start_state items = record {
 -- the return slot alone is valid, and holds 0
 abbrev pub IsStartMemory : Memory → Type 0
 IsStartMemory m = AddsBytes map_of.empty m return_slot (replicate 8 0)
+
+-- each item is a word of 64 bits
+abbrev pub ItemsFit : List ℕ → Type 0
+ItemsFit [] = ⊤
+ItemsFit (n ∷ ns) = (n < 2 ^ 64) × ItemsFit ns
 
 -- ---- runs
 

@@ -1,20 +1,27 @@
-//! What the bytes of a compiled function owe to its source.
+//! What the bytes that are made of a text owe to it.
 
-ghost use Rattle.std.specs.Prelude.{ℕ, List, Contains};
-ghost use Rattle.jz_tree.specs.declared.Fun.{Fun};
+ghost use Rattle.std.specs.Prelude.{◌≡◌, ℕ, List, Some};
 ghost use Rattle.jz_tree.specs.declared.Program.{Program};
-ghost use Rattle.jz_parse.specs.Reading.{Reads};
-ghost use Rattle.jasminc_top.specs.Compiling.{compiled_of, made_of};
-ghost use Rattle.jz_correct.specs.Correctness.{CarriesOver, AreCorrect};
+ghost use Rattle.jz_tree.specs.declared.Fun.{Fun};
+ghost use Rattle.jz_listing.specs.declared.compiled.Compiled.{Compiled};
+ghost use Rattle.jz_correct.specs.Correctness.{AreCorrect, CarriesOver};
+ghost use Rattle.jasminc_top.specs.Answers.{compiled_named, function_named};
+ghost use Rattle.jasminc_top.specs.Making.{Makes};
 
-/// For each function of a text that is read: where the source ends within n turns, the bytes end without a fault, with
-/// its results and memory, and show the printed transformer applied to what the source leaks; where it wants one turn
-/// more, they still run. It is never stuck, and no step faults.
-pub fn runs_carry_over()
-    ensures { (text : List ℕ) (p : Program) → Reads text p → (f : Fun) → Contains p.funs f → CarriesOver p f (compiled_of f) }
+/// What is made of a text has a correct function for each of its functions, in the order of the text.
+pub fn made_is_correct()
+    ensures { (text : List ℕ) (p : Program) (made : List Compiled) → Makes text p made → AreCorrect p p.funs made }
 {}
 
-/// What is made of a program that is read has a correct function for each function of the text, in its order.
-pub fn made_is_correct()
-    ensures { (text : List ℕ) (p : Program) → Reads text p → AreCorrect p p.funs (made_of p) }
+/// For each function of the text: where the source ends within n turns, its bytes end without a fault, with the
+/// source's results and memory, and show the printed transformer applied to what the source leaks; where it wants one
+/// turn more, they still run. It is never stuck, and no step faults.
+pub fn runs_carry_over()
+    ensures { (text : List ℕ) (p : Program) (made : List Compiled) → Makes text p made → (name : List ℕ) (f : Fun) → function_named name p.funs ≡ Some f
+        → (c : Compiled) × (compiled_named name made ≡ Some c) × CarriesOver p f c }
+{}
+
+/// A text makes one list of functions alone.
+pub fn one_making()
+    ensures { (text : List ℕ) (p q : Program) (made other : List Compiled) → Makes text p made → Makes text q other → made ≡ other }
 {}

@@ -15,7 +15,4 @@ mod words;
 
 pub use refusal::{Refusal, Status};
 pub use run::{Done, jasminc_run};
-pub use starts::{
-    each_start_ends, exec_is_a_start, form_takes_two, frame_is_least, frame_of_the_form, one_end,
-    words_are_an_input,
-};
+pub use starts::{exec_is_a_start, frame_is_least, one_end};
