@@ -1,8 +1,3 @@
-pub mod FormSteps
-pub mod Differing
-pub mod FormRuns
-pub mod FormKinds
-pub mod FormLaws
 pub mod Counted
 pub mod Lists
 pub mod Same

@@ -1,5 +1,5 @@
 -- What the statements of a program that is derived are.
-use Rattle.std.specs.Prelude.{◌≡◌, List, [], ◌∷◌, Option}
+use Rattle.std.specs.Prelude.{◌≡◌, [], ◌∷◌, Option}
 use Rattle.jz_tree.specs.declared.Var.{Var}
 use Rattle.jz_tree.specs.declared.BinOp.{BinOp}
 use Rattle.jz_tree.specs.declared.Lval.TheVariants as lval
