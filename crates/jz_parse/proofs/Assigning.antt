@@ -1,5 +1,5 @@
 -- The statements of what is derived.
-use Rattle.std.proofs.Common.{◌≡◌, List, [], ◌∷◌, ◌⊎◌, inl, inr, refl, subst}
+use Rattle.std.proofs.Common.{List, [], ◌∷◌, inl, inr, refl, subst}
 use Rattle.std.specs.Prelude.{All}
 use Rattle.std.proofs.lemmas.List.Elements.{All-nil, All-cons, All-head, All-tail}
 use Rattle.jz_lex.specs.declared.token.Token.{Token}
