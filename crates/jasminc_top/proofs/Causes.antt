@@ -42,19 +42,19 @@ reads_one text p q a b =
     let same = one_lexing text a.0 b.0 a.1 b.1 in
     one_program_law b.0 p q (subst (λ ts. DerivesProgram ts p) same a.2) b.2
 
-lexed_clear : (text : List ℕ) (tokens : List Token) (f : LexFault) → IsLexed text tokens → LexFails text f → ⊥
+pub lexed_clear : (text : List ℕ) (tokens : List Token) (f : LexFault) → IsLexed text tokens → LexFails text f → ⊥
 unfolding LexFails
 lexed_clear text tokens f l h = lexed_or_refused text tokens f l h
 
-reads_no_lex : (text : List ℕ) (p : Program) (f : LexFault) → Reads text p → LexFails text f → ⊥
+pub reads_no_lex : (text : List ℕ) (p : Program) (f : LexFault) → Reads text p → LexFails text f → ⊥
 unfolding Reads
 reads_no_lex text p f a h = lexed_clear text a.0 f a.1 h
 
-fails_no_lex : (text : List ℕ) (g : SyntaxFault) (f : LexFault) → ParseFails text g → LexFails text f → ⊥
+pub fails_no_lex : (text : List ℕ) (g : SyntaxFault) (f : LexFault) → ParseFails text g → LexFails text f → ⊥
 unfolding ParseFails
 fails_no_lex text g f a h = lexed_clear text a.0 f a.1 h
 
-reads_no_parse : (text : List ℕ) (p : Program) (f : SyntaxFault) → Reads text p → ParseFails text f → ⊥
+pub reads_no_parse : (text : List ℕ) (p : Program) (f : SyntaxFault) → Reads text p → ParseFails text f → ⊥
 unfolding Reads ParseFails
 reads_no_parse text p f a b =
     let same = one_lexing text a.0 b.0 a.1 b.1 in
@@ -64,7 +64,7 @@ reads_no_parse text p f a b =
 pub types_one : (text : List ℕ) (p q : Program) → TypesAs text p → TypesAs text q → p ≡ q
 types_one text p q a b = a.is ∙ ap resolved (reads_one text a.written b.written a.reads b.reads) ∙ sym b.is
 
-types_no_fault : (text : List ℕ) (p : Program) (f : TypeFault) → TypesAs text p → FailsTyping text f → ⊥
+pub types_no_fault : (text : List ℕ) (p : Program) (f : TypeFault) → TypesAs text p → FailsTyping text f → ⊥
 types_no_fault text p f a b =
     let same = reads_one text a.written b.program a.reads b.reads in
     no_first (faults_of b.program) f (subst IsTyped same a.typed) b.first
@@ -79,7 +79,7 @@ pub record Excludes (text : List ℕ) (n : ℕ) : Type 0 where
   pub safety : (a : _) → 7 < n → HasFirst IsFirstAlarm text a → ⊥
   pub places : (r : _) → 8 < n → HasFirst IsUnplaced text r → ⊥
 
-clear_text : (text : List ℕ) (n : ℕ) → Excludes text n → Clear (TextCause text) n
+pub clear_text : (text : List ℕ) (n : ℕ) → Excludes text n → Clear (TextCause text) n
 clear_text text n e Usage lt c = c
 clear_text text n e Source lt c = let short = e.short in absurd (omega (arith, short, c))
 clear_text text n e (Lex f) lt c = e.lexer f lt c
@@ -97,7 +97,7 @@ pub record ExcludesRun (text fun items : List ℕ) (n : ℕ) : Type 0 where
   pub named : (name : List ℕ) → 5 < n → HasNoFunction text fun name → ⊥
   pub counted : 9 < n → HasOtherItems text fun items → ⊥
 
-clear_run : (text fun items : List ℕ) (n : ℕ) → ExcludesRun text fun items n → Clear (ExecCause fun items text) n
+pub clear_run : (text fun items : List ℕ) (n : ℕ) → ExcludesRun text fun items n → Clear (ExecCause fun items text) n
 clear_run text fun items n e Usage lt c = c
 clear_run text fun items n e Source lt c = clear_text text n e.texts Source lt c
 clear_run text fun items n e (Lex f) lt c = e.texts.lexer f lt c

@@ -58,7 +58,7 @@ one_short : (bytes : List ℕ) → length bytes ≤ 10 → length (bytes ++ []) 
 one_short bytes h = let e = ap length (append-nil bytes) in omega (arith, e, h)
 
 both_long : (is js : List Insn) → length (assembled (is ++ js)) ≡ length (assembled is) + length (assembled js)
-both_long [] js = refl
+both_long [] js = omega arith
 both_long (i ∷ is) js =
     let a = length-append (chosen_bytes i) (assembled (is ++ js)) in
     let b = length-append (chosen_bytes i) (assembled is) in

@@ -12,7 +12,7 @@ use Rattle.jz_parse.specs.Deriving.{DerivesProgram}
 use Rattle.jz_parse.specs.Reading.{Reads}
 use Rattle.jz_parse.specs.Derived.{AssignsToOne, DeclaresWords}
 use Rattle.jz_parse.proofs.Assigning.{statements_one}
-use Rattle.jz_parse.proofs.Declaring.{functions_words}
+use Rattle.jz_parse.proofs.Declaring.{words_declared}
 use Rattle.jz_types.specs.Rules.{IsTyped}
 use Rattle.jz_types.specs.Resolving.{resolved, resolved_fun}
 use Rattle.jz_types.specs.TypedPrograms.{HaveDifferentNames, HaveDeclarations, HaveCounts, HasCounts}
@@ -50,7 +50,7 @@ written_resolved (f ∷ fs) w a =
     (written_resolved fs (All-tail DeclaresWords f fs w) (All-tail (λ (g : Fun). All AssignsToOne g.body) f fs a))
 
 derived_written : (tokens : List Token) (p : Program) → DerivesProgram tokens p → All IsWritten (resolved p).funs
-derived_written tokens p d = written_resolved p.funs (functions_words tokens p d) (statements_one tokens p d)
+derived_written tokens p d = written_resolved p.funs (words_declared tokens p d) (statements_one tokens p d)
 
 reads_written : (text : List ℕ) (p : Program) → Reads text p → All IsWritten (resolved p).funs
 unfolding Reads

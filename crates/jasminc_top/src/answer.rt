@@ -1,5 +1,5 @@
 // From the words and the source to what is due: a reply, or a stop that has no memory to say more.
-ghost use Rattle.std.specs.Prelude.{◌≡◌, ◌≤◌, ◌×◌, ℕ, List, All, Some, IfOk, IfErr, OnOk, IsErrOf, length, find};
+ghost use Rattle.std.specs.Prelude.{◌≡◌, ◌≤◌, ℕ, List, All, Some, IfOk, IfErr, OnOk, IsErrOf, length, find};
 ghost use Rattle.std.specs.Option.{option_copied};
 ghost use Rattle.jz_io.specs.Causes.{Rose};
 ghost use Rattle.jz_io.specs.Telling.{IsWhole};
