@@ -2,7 +2,7 @@
 use Rattle.std.proofs.Common.{◌≡◌, inl, inr, ℕ, suc, ◌+◌, ◌<◌, ◌≤◌, true, not, ◌&&◌, List, [], ◌∷◌, ◌++◌, length, get_or, drop, refl, sym, ap, ◌∙◌, subst, arith, nat_eq, IsTrue, replicate, append_assoc}
 use Rattle.std.specs.Prelude.{Option, Some, None, map}
 use Rattle.std.specs.List.{All, list_all}
-use Rattle.std.proofs.lemmas.Bool.{cases_lt, eqb-true}
+use Rattle.std.proofs.lemmas.Bool.{cases_lt, eq-eqb, eqb-true, or_cases, or_right, and_parts, not_from_true, both_ways}
 use Rattle.std.proofs.lemmas.List.{get_or_default, get_or_past, get_or-replicate, length-map, length-replicate}
 use Rattle.std.proofs.lemmas.List.Elements.{All-nil, All-cons, All-head, All-tail, All-append, Contains-append_left, Contains-get_or}
 use Rattle.std.proofs.lemmas.List.Folds.{list_all-append}
@@ -38,8 +38,7 @@ use Rattle.jz_lower.specs.Living.{IsNamed, ReadsIn, ReadsAssigned, LivesThrough,
 use Rattle.jz_lower.specs.Straight.{SetsWord, SetWords}
 use Rattle.jz_lower.specs.Placing.{is_given, variable_of, StandIn, IsPlacing}
 use Rattle.jz_lower.specs.Operations.{number_in, given_places, read_by, read_right, left_of, read_assigned, kind_op, statement_op, need_of, entry_ops, return_ops, operations_of, code_of, reg_of, register_in, register_of}
-use Rattle.jz_lower.proofs.LinkedNames.{IsKnown, KnownRight, KnownLefts, KnownKind, KnownBody, same_name, known_by_name}
-use Rattle.jz_lower.proofs.LinkedNames.{equal, or_right, or_cases, and_both, among_self, not_among}
+use Rattle.jz_lower.proofs.LinkedNames.{IsKnown, KnownRight, KnownLefts, KnownKind, KnownBody, same_name, known_by_name, among_self, not_among}
 
 -- ---- what lives is live by paths
 module _ (vs : List Var) where
@@ -211,7 +210,7 @@ module _ (vs : List Var) (places : List Place) (one_each : length places ≡ len
   -- a variable with a need stands there
   need_met : (v q : ℕ) (k : Need) → k.variable ≡ v → IsTrue (need_fits v q k) → number_of k.place ≡ q
   need_met v q k e h = elim (or_cases (not (nat_eq k.variable v)) (nat_eq (number_of k.place) q) h) [
-    | inl n ↦ absurd (let t : nat_eq k.variable v ≡ true = subst (λ w. nat_eq k.variable w ≡ true) e (equal k.variable) in let clash : not true ≡ true = sym (ap not t) ∙ n in cc)
+    | inl n ↦ absurd (both_ways (not (nat_eq k.variable v)) (not_from_true (nat_eq k.variable v) (eq-eqb k.variable v e)) n)
     | inr t ↦ eqb-true (number_of k.place) q t
   ]
 
@@ -220,22 +219,22 @@ module _ (vs : List Var) (places : List Place) (one_each : length places ≡ len
   stands r x known h =
       let q : ℕ = number_of (place_at places (number_in vs x.name)) in
       let k : Need = record { variable = number_in vs x.name; place = place.Reg r; span = x.span } in
-      let met : number_of (place.Reg r) ≡ q = need_met (number_in vs x.name) q k refl (and_both (need_fits (number_in vs x.name) q k) true h).0 in
+      let met : number_of (place.Reg r) ≡ q = need_met (number_in vs x.name) q k refl (and_parts (need_fits (number_in vs x.name) q k) true h).0 in
       ap reg_of (sym (one_place (place.Reg r) (place_at places (number_in vs x.name)) met ∙ register_at x.name known))
 
   abbrev AllFit : List Op → Type 0
   AllFit ops = (v : ℕ) → v < length vs → IsTrue (list_all (op_fits v (number_of (place_at places v))) ops)
 
   fit_tail : (o : Op) (os : List Op) → AllFit (o ∷ os) → AllFit os
-  fit_tail o os h v l = (and_both (op_fits v (number_of (place_at places v)) o) (list_all (op_fits v (number_of (place_at places v))) os) (h v l)).1
+  fit_tail o os h v l = (and_parts (op_fits v (number_of (place_at places v)) o) (list_all (op_fits v (number_of (place_at places v))) os) (h v l)).1
 
   fit_head : (o : Op) (os : List Op) (v : ℕ) → v < length vs → AllFit (o ∷ os) → IsTrue (op_fits v (number_of (place_at places v)) o)
-  fit_head o os v l h = (and_both (op_fits v (number_of (place_at places v)) o) (list_all (op_fits v (number_of (place_at places v))) os) (h v l)).0
+  fit_head o os v l h = (and_parts (op_fits v (number_of (place_at places v)) o) (list_all (op_fits v (number_of (place_at places v))) os) (h v l)).0
 
   fit_both : (es os : List Op) → AllFit (es ++ os) → AllFit es × AllFit os
   fit_both es os h = (
-    λ v l. (and_both (list_all (op_fits v (number_of (place_at places v))) es) (list_all (op_fits v (number_of (place_at places v))) os) (sym (list_all-append (op_fits v (number_of (place_at places v))) es os) ∙ h v l)).0,
-    λ v l. (and_both (list_all (op_fits v (number_of (place_at places v))) es) (list_all (op_fits v (number_of (place_at places v))) os) (sym (list_all-append (op_fits v (number_of (place_at places v))) es os) ∙ h v l)).1,
+    λ v l. (and_parts (list_all (op_fits v (number_of (place_at places v))) es) (list_all (op_fits v (number_of (place_at places v))) os) (sym (list_all-append (op_fits v (number_of (place_at places v))) es os) ∙ h v l)).0,
+    λ v l. (and_parts (list_all (op_fits v (number_of (place_at places v))) es) (list_all (op_fits v (number_of (place_at places v))) os) (sym (list_all-append (op_fits v (number_of (place_at places v))) es os) ∙ h v l)).1,
   )
 
   abbrev entry_op : Reg → Var → Op
@@ -283,8 +282,8 @@ module _ (f : Fun) (places : List Place) (placing : HasPlaces (code_of f) (LiveI
       let n : ℕ = length (variables_of f) in
       let q : ℕ = number_of (place_at places v) in
       let whole = placing.meets_needs v (omega (arith, l, length-replicate n Word)) in
-      let both = and_both (kind_has (replicate n Word) given_places v q) (list_all (op_fits v q) (operations_of f)) whole in
-      let two = and_both (is_of_kind (get_or (replicate n Word) v Word) q) (has_place given_places q) both.0 in
+      let both = and_parts (kind_has (replicate n Word) given_places v q) (list_all (op_fits v q) (operations_of f)) whole in
+      let two = and_parts (is_of_kind (get_or (replicate n Word) v Word) q) (has_place given_places q) both.0 in
       (subst (λ k. IsTrue (is_of_kind k q)) (get_or-replicate n v Word Word l) two.0, two.1, both.1)
 
   pub places_place : SetWords f.body → KnownBody (variables_of f) f.body → All (IsKnown (variables_of f)) f.result → length f.params ≤ 6 → length f.result ≤ 2 → IsPlacing (register_of f places) f

@@ -1,10 +1,9 @@
--- Names of variables and their numbers, and tests on numbers.
+-- Names of variables and their numbers.
 use Rattle.std.proofs.Common.{◌≡◌, ◌≢◌, ◌⊎◌, inl, inr, ℕ, ◌<◌, Bool, true, false, ◌&&◌, ◌||◌, List, [], ◌∷◌, length, get_or, refl, sym, ap, ◌∙◌, arith, nat_eq, IsTrue, IsFalse}
 use Rattle.std.specs.List.{Contains, position_or_len}
 use Rattle.std.specs.Str.{bytes_eq}
 use Rattle.std.specs.Cmp.Lexicographic.{same_text}
-use Rattle.std.proofs.lemmas.Bool.{cases_lt}
-use Rattle.std.proofs.lemmas.Bool.Decides.{nat_tests}
+use Rattle.std.proofs.lemmas.Bool.{cases_lt, eq-eqb, ne_eqb, or_left, or_from, both_ways}
 use Rattle.std.proofs.lemmas.List.Recursion.{is_position_or_len}
 use Rattle.std.proofs.lemmas.List.Sums.{passes_at_first, fails_before_first}
 use Rattle.std.proofs.lemmas.Slice.Eq.{bytes_eq-Decides}
@@ -21,36 +20,12 @@ use Rattle.jz_tree.specs.declared.StmtKind.{StmtKind}
 use Rattle.jz_tree.specs.declared.StmtKind.TheVariants as kind
 use Rattle.jz_lower.specs.Operations.{number_in}
 
--- ---- tests
-pub equal : (x : ℕ) → IsTrue (nat_eq x x)
-equal x = grind (arith, nat_tests)
-
-different : (x y : ℕ) → x ≢ y → IsFalse (nat_eq x y)
-different x y ne = grind (arith, nat_tests)
-
-pub or_left : (a b : Bool) → IsTrue a → IsTrue (a || b)
-or_left a b h = rw h refl
-
-pub or_right : (a b : Bool) → IsTrue b → IsTrue (a || b)
-or_right true b h = refl
-or_right false b h = h
-
-pub or_cases : (a b : Bool) → IsTrue (a || b) → IsTrue a ⊎ IsTrue b
-or_cases true b h = inl refl
-or_cases false b h = inr h
-
-pub and_both : (a b : Bool) → IsTrue (a && b) → IsTrue a × IsTrue b
-and_both true b h = (refl, h)
-and_both false b h = cc
-
+-- ---- the head of a list of numbers
 pub among_self : (v : ℕ) (vs : List ℕ) → IsTrue (among (v ∷ vs) v)
-among_self v vs = or_left (nat_eq v v) (among vs v) (equal v)
-
-or_none : (a : Bool) → IsFalse a → IsFalse (a || false)
-or_none a h = rw h refl
+among_self v vs = or_left (nat_eq v v) (among vs v) (eq-eqb v v refl)
 
 pub not_among : (u v : ℕ) → u ≢ v → IsFalse (among (u ∷ []) v)
-not_among u v ne = or_none (nat_eq u v) (different u v ne)
+not_among u v ne = or_from (nat_eq u v) false (ne_eqb u v ne) refl
 
 -- ---- variables whose name is declared
 abbrev pub IsKnown : List Var → Var → Type 0

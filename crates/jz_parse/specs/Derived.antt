@@ -1,5 +1,5 @@
 -- What the statements of a program that is derived are.
-use Rattle.std.specs.Prelude.{◌≡◌, ◌≤◌, ◌+◌, ℕ, List, [], ◌∷◌, length, Option, Some, All}
+use Rattle.std.specs.Prelude.{◌≡◌, ◌≤◌, ◌+◌, [], ◌∷◌, length, Option, Some, All}
 use Rattle.jz_tree.specs.declared.Fun.{Fun}
 use Rattle.jz_tree.specs.declared.Var.{Var}
 use Rattle.jz_tree.specs.declared.BinOp.{BinOp}

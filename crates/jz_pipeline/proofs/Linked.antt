@@ -1,8 +1,8 @@
 -- What first fit comes to: a placing, one compilation, and never a refusal besides.
-use Rattle.std.proofs.Common.{◌≡◌, ℕ, ◌<◌, ◌≤◌, List, [], ◌∷◌, ◌++◌, length, get_or, refl, sym, ap, ◌∙◌, subst, arith}
+use Rattle.std.proofs.Common.{◌≡◌, ℕ, List, [], ◌∷◌, ◌++◌, length, refl, sym, ap, ◌∙◌, subst, arith}
 use Rattle.std.specs.Prelude.{Option, Some, map}
 use Rattle.std.specs.List.{All}
-use Rattle.std.proofs.lemmas.List.{length-append, get_or_append_left, get_or-append-add}
+use Rattle.std.proofs.lemmas.List.{length-append, get_or_append_left}
 use Rattle.std.proofs.lemmas.List.Elements.{All-nil, All-cons, All-head, All-tail, All-weaker}
 use Rattle.x64_insn.specs.declared.types.Place.{Place}
 use Rattle.jz_ir.specs.Order.{number_of}
@@ -29,7 +29,7 @@ use Rattle.jz_safety.specs.Resolved.{IsResolved}
 use Rattle.jz_listing.specs.declared.compiled.Compiled.{Compiled}
 use Rattle.jz_correct.specs.Correctness.{IsCorrect}
 use Rattle.jz_lower.specs.Placing.{IsPlacing}
-use Rattle.jz_lower.specs.Operations.{code_of, operations_of, register_of}
+use Rattle.jz_lower.specs.Operations.{code_of, register_of}
 use Rattle.jz_lower.proofs.LinkedNames.{IsKnown, KnownRight, KnownLefts, KnownKind, KnownBody, known_by_name}
 use Rattle.jz_lower.proofs.Linked.{within, places_place}
 use Rattle.jz_pipeline.specs.Compiling.{compiled_of}
@@ -46,9 +46,6 @@ all_back P [] ys h = h
 all_back P (x ∷ xs) ys h = all_back P xs ys (All-tail P x (xs ++ ys) h)
 
 -- ---- the variables that a function uses are known
-pub stmts_uses : List Stmt → List Var
-stmts_uses ss = in_stmts_by [] ◌++◌ one ss
-
 module _ (vs : List Var) where
   lefts_known : (ds : List Lval) → All (IsKnown vs) (joined [] ◌++◌ (map (in_lval_by [] ◌++◌ one) ds)) → KnownLefts vs ds
   lefts_known [] a = tt

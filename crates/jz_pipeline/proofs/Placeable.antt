@@ -1,19 +1,17 @@
 -- Typed functions over words are what can be placed.
-use Rattle.std.proofs.Common.{◌≡◌, ◌≢◌, ℕ, ◌+◌, ◌-◌, ◌*◌, ◌/◌, ◌^◌, ◌<◌, ◌≤◌, Bool, true, false, List, [], ◌∷◌, ◌++◌, length, refl, sym, ap, ◌∙◌, subst, arith, ℤ, pos, negsuc}
-use Rattle.std.specs.Prelude.{Option, Some, None, map, FitsSigned}
+use Rattle.std.proofs.Common.{◌≡◌, ◌≢◌, true, List, [], ◌∷◌, ◌++◌, refl, ap, ◌∙◌, arith, ℤ, pos, negsuc}
+use Rattle.std.specs.Prelude.{Some, None, map, FitsSigned}
 use Rattle.std.specs.Int.{w32}
 use Rattle.std.specs.List.{All, AllPairs, Contains, filter_map, cons_option}
 use Rattle.std.proofs.lemmas.Int.{ints}
 use Rattle.std.proofs.lemmas.List.{length-append, length-map}
 use Rattle.std.proofs.lemmas.List.Elements.{All-head, All-tail, All-append, All-map, All-weaker, All-contains}
-use Rattle.jz_words.specs.declared.size.Size.TheVariants.{S64}
 use Rattle.x64_insn.specs.Chosen.{fits_bytes}
 use Rattle.x64_insn.proofs.Immediates.{within_fits}
 use Rattle.jz_tree.specs.declared.Program.{Program}
 use Rattle.jz_tree.specs.declared.Fun.{Fun}
 use Rattle.jz_tree.specs.declared.Param.{Param}
 use Rattle.jz_tree.specs.declared.Ret.{Ret}
-use Rattle.jz_tree.specs.declared.Ty.TheVariants.{Word}
 use Rattle.jz_tree.specs.declared.Var.{Var}
 use Rattle.jz_tree.specs.declared.Expr.TheVariants as expr
 use Rattle.jz_tree.specs.declared.Lval.TheVariants as lval
@@ -26,7 +24,7 @@ use Rattle.jz_parse.specs.Trees.{register_word}
 use Rattle.jz_parse.specs.Derived.{DeclaresWords}
 use Rattle.jz_types.specs.TypedPrograms.{HaveDifferentNames, HasDeclaration, HaveDeclarations, HasCounts, HaveCounts}
 use Rattle.jz_types.specs.Uses.{in_rhs_by, in_kind_by, in_stmts_by, in_vars_by, one, uses_of}
-use Rattle.jz_pass.specs.Limits.{Constant, HasField, reading, immediate_of, immediates_of, IsWithinLimits}
+use Rattle.jz_pass.specs.Limits.{Constant, HasField, reading, immediate_of, IsWithinLimits}
 use Rattle.jz_safety.specs.Resolved.{HasOneLeftSide, HaveOneLeftSide}
 use Rattle.jz_lower.specs.Straight.{IsWord, AreWords, GiveWords, SetsWord, SetWords, KindFits, FitImmediates, IsStraight}
 use Rattle.jz_pipeline.specs.Placed.{IsPlaceable}
