@@ -4,3 +4,5 @@ pub mod Same
 pub mod Program
 pub mod Faults
 pub mod Assigning
+pub mod Phrases
+pub mod Declaring

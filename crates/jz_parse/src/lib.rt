@@ -12,6 +12,6 @@ mod statement;
 #[cfg(test)]
 mod tests;
 
-pub use derived::statements_assign_to_one;
+pub use derived::{functions_declare_words, names_are_identifiers, statements_assign_to_one};
 pub use fault::{SyntaxFault, SyntaxKind};
 pub use read::{a_fault_is_at_a_token, no_fault_of_a_program, one_fault, one_program, parse};
