@@ -1,5 +1,5 @@
 -- A run that is printed is that of a correct function, from a start.
-use Rattle.std.proofs.Common.{◌≡◌, ◌∙◌, ℕ, ◌<◌, ◌^◌, Bool, true, false, if◌then◌else◌, List, [], ◌∷◌, length, map, Option, Some, None, refl, sym, ap, subst, inl, inr, arith}
+use Rattle.std.proofs.Common.{◌≡◌, ◌∙◌, ℕ, suc, ◌<◌, get_or, ◌^◌, Bool, true, false, if◌then◌else◌, List, [], ◌∷◌, length, map, Option, Some, None, refl, sym, ap, subst, inl, inr, arith}
 use Rattle.std.specs.FinMap as map_of
 use Rattle.std.specs.Str.{bytes_eq}
 use Rattle.std.specs.Io.KnownBytes.{Appends}
@@ -36,6 +36,10 @@ use Rattle.jasminc_top.proofs.StartLaws.{exec_starts, words_meet, ends_within}
 use Rattle.jasminc_top.proofs.TypedTexts.{text_typed, fun_placeable, fun_resolved, FoundWith, found_with}
 
 -- ---- items are arguments
+pub slice_fits : (items : List ℕ) → ((i : ℕ) → get_or items i 0 < 2 ^ 64) → ItemsFit items
+slice_fits [] h = tt
+slice_fits (n ∷ ns) h = (h 0, slice_fits ns (λ i. h (suc i)))
+
 item_arguments : (ps : List Param) (items : List ℕ) → AreWords ps → ItemsFit items → length items ≡ length ps → AreArguments ps items
 item_arguments [] [] w fit e = tt
 item_arguments [] (n ∷ ns) w fit e = absurd (omega (arith, e))

@@ -4,6 +4,8 @@ pub mod ArgumentRegisters
 pub mod Begun
 pub mod Causes
 pub mod FirstCauses
+pub mod Stopping
+pub mod Dashes
 pub mod TypedTexts
 pub mod ItemsFit
 pub mod ExecStart

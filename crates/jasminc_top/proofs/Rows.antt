@@ -1,15 +1,15 @@
 -- The rows of the table of causes, from the whole meaning of a run.
-use Rattle.std.proofs.Common.{◌≡◌, ℕ, ◌<◌, ◌≤◌, inl, inr, List, sym, ◌∙◌, subst, arith, Option, Some, None}
-use Rattle.jz_io.specs.Telling.{Telling, text_of}
+use Rattle.std.proofs.Common.{◌≡◌, ◌⊎◌, ℕ, ◌<◌, ◌≤◌, inl, inr, List, sym, ◌∙◌, subst, arith, Option, Some, None}
+use Rattle.jz_io.specs.Telling.{Telling, text_of, IsWhole}
 use Rattle.jasminc_top.specs.Words.{Wanted, file_of}
 use Rattle.jz_listing.specs.declared.compiled.Compiled.{Compiled}
 use Rattle.jasminc_top.specs.declared.refusal.Status.{Status}
 use Rattle.jasminc_top.specs.declared.refusal.Status.TheVariants as status
 use Rattle.jasminc_top.specs.declared.refusal.Refusal.{Refusal}
-use Rattle.jasminc_top.specs.declared.refusal.Refusal.TheVariants.{Usage}
-use Rattle.jasminc_top.specs.Refusals.{stage_of}
-use Rattle.jasminc_top.specs.Answers.{Cause, HasText, IsDue}
-use Rattle.jasminc_top.specs.Runs.{Due, Runs, Refuses, Completes, IsFree, IsGiven, IsEarlier, Tells}
+use Rattle.jasminc_top.specs.declared.refusal.Refusal.TheVariants.{Usage, Source, Lex, Parse, Typing, NoFunction, Limit, Alarm, NoPlace, Items}
+use Rattle.jasminc_top.specs.Refusals.{status_of, stage_of}
+use Rattle.jasminc_top.specs.Answers.{Cause, HasText, IsDue, IsUsage, IsNoCommand}
+use Rattle.jasminc_top.specs.Runs.{Due, Runs, ReadsAll, Refuses, Completes, IsFree, IsGiven, IsEarlier, Tells}
 
 bounded : (r : Refusal) → stage_of r < 10
 bounded Usage = omega arith
@@ -81,4 +81,49 @@ pub run_completes : (wish : Option Wanted) (old new : Option Telling) (before no
 run_completes wish old new before now out out2 w w2 s m h = elim h.wrote [
   | inl x ↦ subst (λ (y : Status). Completes wish old y) (sym x.0) (given wish old new before now h.due h.text h.made h.is_due)
   | inr x ↦ λ text t none. inl (subst IsFree (sym x.0) tt)
+]
+
+-- ---- what was read
+-- words that are no command are refused as such
+usage_alone : (text : List ℕ) (r : Refusal) (s : Status) → IsUsage r → s ≡ status_of r → s ≡ status.Usage
+usage_alone text Usage s c e = e
+usage_alone text Source s c e = absurd c
+usage_alone text (Lex f) s c e = absurd c
+usage_alone text (Parse f) s c e = absurd c
+usage_alone text (Typing f) s c e = absurd c
+usage_alone text (NoFunction name) s c e = absurd c
+usage_alone text (Limit l) s c e = absurd c
+usage_alone text (Alarm a) s c e = absurd c
+usage_alone text (NoPlace n) s c e = absurd c
+usage_alone text Items s c e = absurd c
+
+no_command : (wish : Option Wanted) (old new : Option Telling) (s : Status) (output : List ℕ) (made : List Compiled) → IsDue wish old new s output made → IsNoCommand wish → s ≡ status.Usage
+no_command None old new s output made d none = elim d.answers [
+  | inl x ↦ usage_alone d.text x.refusal s x.cause x.status
+  | inr x ↦ let e : None ≡ Some x.command = x.is in cc
+]
+no_command (Some wish) old new s output made d none = absurd none
+
+abbrev IsReadOr : Option Wanted → Option Telling → Option Telling → Type 0
+IsReadOr wish old new = IsWhole new ⊎ ((text : List ℕ) × HasText wish old text × Cause wish text Source)
+
+due_read : (wish : Option Wanted) (old new : Option Telling) (s : Status) (output : List ℕ) (made : List Compiled) → IsDue wish old new s output made → (s ≡ status.Usage → ⊥) → IsReadOr wish old new
+due_read wish old new s output made d other = elim d.read [
+  | inl whole ↦ inl whole
+  | inr (inl none) ↦ absurd (other (no_command wish old new s output made d none))
+  | inr (inr long) ↦ inr (d.text, d.has, long)
+]
+
+read : (wish : Option Wanted) (old new : Option Telling) (before now : ℕ) (s : Status) (text : List ℕ) (made : List Compiled) → Due wish old new before now s text made → ReadsAll wish old new s
+read wish old new before now status.Usage text made d = tt
+read wish old new before now status.ReadFault text made d = tt
+read wish old new before now status.WriteFault text made d = tt
+read wish old new before now status.Memory text made d = tt
+read wish old new before now s text made d = due_read wish old new s text made d.0 (λ e. cc)
+
+pub run_reads : (wish : Option Wanted) (old new : Option Telling) (before now : ℕ) (out out2 : Option (List ℕ))
+    (w w2 : ℕ) (s : Status) (m : List Compiled) → Runs wish old new before now out out2 w w2 s m → ReadsAll wish old new s
+run_reads wish old new before now out out2 w w2 s m h = elim h.wrote [
+  | inl x ↦ subst (λ (y : Status). ReadsAll wish old new y) (sym x.0) (read wish old new before now h.due h.text h.made h.is_due)
+  | inr x ↦ subst (λ (y : Status). ReadsAll wish old new y) (sym x.0) tt
 ]

@@ -7,7 +7,7 @@ use Rattle.std.specs.FinMap as map_of
 use Rattle.std.specs.Ordering.{nat_cmp}
 use Rattle.jz_leak.specs.MemoryMap.{byte_from, or_else}
 use Rattle.jz_words.specs.declared.size.Size.TheVariants.{S64}
-use Rattle.jz_words.specs.Memory.{Memory}
+use Rattle.jz_words.specs.Memory.{Memory, loaded}
 use Rattle.x64_insn.specs.declared.types.Reg.{Reg}
 use Rattle.x64_insn.specs.declared.types.Reg.TheVariants as reg
 use Rattle.x64_insn.specs.declared.types.FlagVal.TheVariants.{Undefined}
@@ -168,8 +168,8 @@ module _ (register : List ℕ → Reg) (f : Fun) (items : List ℕ) (fit : Items
         entry = refl;
         code_fits = code_fits;
         running = refl;
-        entry_stack = refl;
-        entry_return = refl;
+        entry_stack = rsp;
+        entry_return = ap (λ a. loaded m a 8) rsp;
         stack = rsp;
         aligned = refl;
         room_below = omega arith;

@@ -31,6 +31,10 @@ use Rattle.jasminc_top.specs.Making.{TypesAs, IsWritten, AreMade, Makes}
 use Rattle.jasminc_top.specs.Answers.{function_named, compiled_named}
 use Rattle.jasminc_top.proofs.Causes.{types_one}
 
+pub all_of_map : {A B : Type 0} (g : A → B) (P : B → Type 0) (xs : List A) → All P (map g xs) → All (λ x. P (g x)) xs
+all_of_map g P [] h = All-nil (λ x. P (g x))
+all_of_map g P (x ∷ xs) h = All-cons (λ y. P (g y)) x xs (All-head P (g x) (map g xs) h) (all_of_map g P xs (All-tail P (g x) (map g xs) h))
+
 -- ---- what the grammar gives
 lefts : (ss : List Stmt) → All AssignsToOne ss → HaveOneLeftSide ss
 lefts [] h = tt

@@ -49,13 +49,17 @@ rule_name rule.ExportShape = codes "ExportShape"
 abbrev pub type_line : TypeFault → List ℕ
 type_line f = codes "type " ++ decimal (number_of f.rule) ++ codes " " ++ rule_name f.rule ++ codes " " ++ span_text f.span
 
--- a function's number of statements is told by the function's name, a constant by its place
-abbrev pub limit_text : LimitKind → List ℕ → Span → List ℕ
-limit_text Expand fun at = codes "limit Expand " ++ fun
-limit_text ImmRange fun at = codes "limit ImmRange " ++ span_text at
+unfoldable pub limit_name : LimitKind → List ℕ
+limit_name Expand = codes "Expand"
+limit_name ImmRange = codes "ImmRange"
+
+-- the number of statements is told by the function's name, a constant by its place
+abbrev pub limit_of : LimitKind → List ℕ → Span → List ℕ
+limit_of Expand fun at = fun
+limit_of ImmRange fun at = span_text at
 
 abbrev pub limit_line : Limit → List ℕ
-limit_line l = limit_text l.kind l.fun l.span
+limit_line l = codes "limit " ++ limit_name l.kind ++ codes " " ++ limit_of l.kind l.fun l.span
 
 unfoldable pub reason_name : Reason → List ℕ
 reason_name reason.Bounds = codes "Bounds"

@@ -62,6 +62,7 @@ fn file_text<S: Source>(alloc: Global, src: &mut S, file: &str) -> Result<Bytes,
 
 // The typed program of a text.
 fn typed_program(alloc: Global, text: &[u8]) -> Result<Typed, Halt>
+    requires { length text.now ≤ source_limit }
     ensures program { IfOk result (λ typed. TypesAs text.now typed.program) }
     ensures halt { IfErr result (ReadingHalts text.now) }
 {

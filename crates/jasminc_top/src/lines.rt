@@ -1,9 +1,11 @@
 // The lines that tell refusals, without their line feeds.
 ghost use Rattle.std.specs.Prelude.{◌≡◌, ◌++◌, OnOk, map};
-ghost use Rattle.jasminc_top.specs.Lines.{lex_name, lexer_line, syntax_name, parser_line, rule_name, type_line, limit_line, reason_name, alarm_line, place_text, need_text, holder_text, texts_or_dash, no_place_line};
+ghost use Rattle.std.specs.List.{concat};
+ghost use Rattle.jasminc_top.specs.Lines.{lex_name, lexer_line, syntax_name, parser_line, rule_name, type_line, limit_name, limit_of, limit_line, reason_name, alarm_line, place_text, need_text, holder_text, texts_or_dash, no_place_line};
 
 use jz_alloc::Needed;
-use jz_data::Seq;
+use jz_data::{Seq, Text};
+use jz_io::Span;
 use jz_lex::{LexFault, LexKind};
 use jz_listing::{reg_name, write_number, write_span};
 use jz_meaning::Reason;
@@ -103,19 +105,37 @@ pub fn write_type_fault(line: &mut Vec<u8>, fault: TypeFault) -> Result<(), Allo
     write_span(line, fault.span)
 }
 
+#[tactic(auto, unfolding(crate::specs::Lines::limit_name))]
+fn limit_name(kind: LimitKind) -> &'static str
+    ensures { result.now ≡ limit_name kind }
+{
+    match kind {
+        LimitKind::Expand => "Expand",
+        LimitKind::ImmRange => "ImmRange",
+    }
+}
+
+fn write_limited(
+    line: &mut Vec<u8>,
+    kind: LimitKind,
+    fun: &Text,
+    span: Span,
+) -> Result<(), AllocError>
+    ensures { OnOk result (line.new.items ≡ line.old.items ++ limit_of kind fun.now span) }
+{
+    match kind {
+        LimitKind::Expand => line.extend_from_slice(fun.as_str().as_bytes()),
+        LimitKind::ImmRange => write_span(line, span),
+    }
+}
+
 pub fn write_limit(line: &mut Vec<u8>, limit: &Limit) -> Result<(), AllocError>
     ensures { OnOk result (line.new.items ≡ line.old.items ++ limit_line limit.now) }
 {
-    match limit.kind {
-        LimitKind::Expand => {
-            line.extend_from_slice(b"limit Expand ")?;
-            line.extend_from_slice(limit.fun.as_str().as_bytes())
-        }
-        LimitKind::ImmRange => {
-            line.extend_from_slice(b"limit ImmRange ")?;
-            write_span(line, limit.span)
-        }
-    }
+    line.extend_from_slice(b"limit ")?;
+    line.extend_from_slice(limit_name(limit.kind).as_bytes())?;
+    line.extend_from_slice(b" ")?;
+    write_limited(line, limit.kind, &limit.fun, limit.span)
 }
 
 pub fn write_alarm(line: &mut Vec<u8>, alarm: &Alarm) -> Result<(), AllocError>
@@ -154,14 +174,30 @@ fn write_holder(line: &mut Vec<u8>, holder: &Holder) -> Result<(), AllocError>
     write_span(line, holder.span)
 }
 
+fn write_each_need(line: &mut Vec<u8>, needs: &Seq<Needed>) -> Result<(), AllocError>
+    ensures { OnOk result (line.new.items ≡ line.old.items ++ concat (map need_text needs.now)) }
+{
+    for need in needs.as_slice() {
+        write_need(line, *need)?;
+    }
+    Ok(())
+}
+
 fn write_needs(line: &mut Vec<u8>, needs: &Seq<Needed>) -> Result<(), AllocError>
     ensures { OnOk result (line.new.items ≡ line.old.items ++ texts_or_dash (map need_text needs.now)) }
 {
     if needs.is_empty() {
-        return line.extend_from_slice(b" -");
+        line.extend_from_slice(b" -")
+    } else {
+        write_each_need(line, needs)
     }
-    for need in needs.as_slice() {
-        write_need(line, *need)?;
+}
+
+fn write_each_holder(line: &mut Vec<u8>, holders: &Seq<Holder>) -> Result<(), AllocError>
+    ensures { OnOk result (line.new.items ≡ line.old.items ++ concat (map holder_text holders.now)) }
+{
+    for holder in holders.as_slice() {
+        write_holder(line, holder)?;
     }
     Ok(())
 }
@@ -170,12 +206,10 @@ fn write_holders(line: &mut Vec<u8>, holders: &Seq<Holder>) -> Result<(), AllocE
     ensures { OnOk result (line.new.items ≡ line.old.items ++ texts_or_dash (map holder_text holders.now)) }
 {
     if holders.is_empty() {
-        return line.extend_from_slice(b" -");
+        line.extend_from_slice(b" -")
+    } else {
+        write_each_holder(line, holders)
     }
-    for holder in holders.as_slice() {
-        write_holder(line, holder)?;
-    }
-    Ok(())
 }
 
 pub fn write_no_place(line: &mut Vec<u8>, refusal: &NoPlace) -> Result<(), AllocError>

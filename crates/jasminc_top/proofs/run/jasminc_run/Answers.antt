@@ -1,5 +1,5 @@
 use Rattle.jasminc_top.specs.Words.{texts_of}
-use Rattle.jasminc_top.proofs.Rows.{run_completes, run_refused}
+use Rattle.jasminc_top.proofs.Rows.{run_completes, run_refused, run_reads}
 use Rattle.jasminc_top.proofs.Headline.{compiles}
 use Rattle.jasminc_top.proofs.ExecHeadline.{executes}
 use Rattle.jasminc_top.proofs.run.jasminc_run.Goals as goal
@@ -15,3 +15,6 @@ returns-clause-compiles g c = compiles _ _ _ _ _ _ _ _ _ _ _ c.run.ensures.runs
 
 pub returns-clause-executes : goal.returns-clause-executes
 returns-clause-executes g c = executes (texts_of c.args.words.now) _ _ _ _ _ _ _ _ _ _ c.run.ensures.runs
+
+pub returns-clause-read : goal.returns-clause-read
+returns-clause-read g c = run_reads _ _ _ _ _ _ _ _ _ _ _ c.run.ensures.runs
