@@ -1,11 +1,14 @@
 //! The stages behind typing, from a typed program on.
 #![tactic(auto)]
 
+mod assembling;
 mod compiling;
 mod copying;
 mod expanding;
 mod laws;
 mod limits;
+mod refusing;
+mod signature;
 mod stages;
 #[cfg(test)]
 mod tests;
