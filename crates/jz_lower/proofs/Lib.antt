@@ -1,3 +1,5 @@
 pub mod WordLaws
 pub mod Stores
 pub mod Simulation
+pub mod LinkedNames
+pub mod Linked

@@ -10,8 +10,6 @@ use Rattle.jz_data.specs.declared.failure.Failure.TheVariants.{Refused, OutOfMem
 use Rattle.jz_data.specs.Failures.{IfRefused}
 use Rattle.jz_meaning.specs.declared.expanded.Expanded.{Expanded}
 use Rattle.jz_tree.specs.declared.Fun.{Fun}
-use Rattle.jz_ir.specs.Places.{placed, refused, all_of}
-use Rattle.jz_alloc.proofs.Seating.{one_out}
 use Rattle.jz_pass.specs.declared.limit.Limit.{Limit}
 use Rattle.jz_pass.specs.Limits.{IsWithinLimits, IsFirstLimit}
 use Rattle.jz_pass.proofs.LimitLemmas.{none_within}
@@ -22,6 +20,7 @@ use Rattle.jz_listing.specs.declared.compiled.Compiled.{Compiled}
 use Rattle.jz_pipeline.specs.declared.unplaced.NoPlace.{NoPlace}
 use Rattle.jz_pipeline.specs.Placed.{IsCompiled, AreCompiled, IsUnplaced}
 use Rattle.jz_pipeline.specs.Stages.{HasNone, IsFirstRefusal}
+use Rattle.jz_pipeline.proofs.Linked.{not_both}
 
 pub at_place : {A : Type 0} (Refuses : Fun → A → Type 0) (funs : List Fun) (i : ℕ) (f : Fun) (a : A)
     → i < length funs → slice_get funs i ≡ Some f → All (HasNone Refuses) (take i funs) → Refuses f a → IsFirstRefusal Refuses funs a
@@ -40,17 +39,11 @@ within_pass_none fs h = All-weaker IsWithinLimits (HasNone IsFirstLimit) (λ f w
 pub safe_have_none : (fs : List Fun) → All HasNoAlarm fs → All (HasNone IsFirstAlarm) fs
 safe_have_none fs h = All-weaker HasNoAlarm (HasNone IsFirstAlarm) (λ f w a p. never_both f a w p) fs h
 
--- a function that is compiled has a place for each variable
-compiled_or_unplaced : (f : Fun) (c : Compiled) (n : NoPlace) → IsCompiled f c → IsUnplaced f n → ⊥
-compiled_or_unplaced f c n k u =
-    let same : all_of k.places ≡ refused _ u.is_evidence.places = one_out _ _ _ k.first_fit u.is_evidence.is_first in
-    cc
-
 pub compiled_have_places : (fs : List Fun) (cs : List Compiled) → AreCompiled fs cs → All (HasNone IsUnplaced) fs
 compiled_have_places [] [] h = All-nil (HasNone IsUnplaced)
 compiled_have_places [] (c ∷ cs) h = absurd h
 compiled_have_places (f ∷ fs) [] h = absurd h
-compiled_have_places (f ∷ fs) (c ∷ cs) h = All-cons (HasNone IsUnplaced) f fs (λ n u. compiled_or_unplaced f c n h.0 u) (compiled_have_places fs cs h.1)
+compiled_have_places (f ∷ fs) (c ∷ cs) h = All-cons (HasNone IsUnplaced) f fs (λ n u. not_both f c n h.0 u) (compiled_have_places fs cs h.1)
 
 pub one_more_compiled : (fs : List Fun) (cs : List Compiled) (f : Fun) (c : Compiled) → AreCompiled fs cs → IsCompiled f c → AreCompiled (fs ++ f ∷ []) (cs ++ c ∷ [])
 one_more_compiled [] [] f c h k = (k, tt)

@@ -10,7 +10,7 @@ use Rattle.jz_tree.specs.declared.Fun.{Fun}
 use Rattle.jz_tree.specs.declared.Var.{Var}
 use Rattle.jz_tree.specs.Variables.{variables_of}
 use Rattle.jz_types.specs.Uses.{uses_of}
-use Rattle.jz_types.specs.TypedPrograms.{HasDeclaration}
+use Rattle.jz_types.specs.TypedPrograms.{HasDeclaration, HasCounts}
 use Rattle.jz_listing.specs.declared.compiled.Compiled.{Compiled}
 use Rattle.jz_lower.specs.Straight.{IsStraight}
 use Rattle.jz_lower.specs.Operations.{code_of, operations_of, register_of}
@@ -55,9 +55,11 @@ pub record IsUnplaced (f : Fun) (n : NoPlace) : Type 0 where
   pub is_evidence : IsEvidence (code_of f) (LiveIn (operations_of f)) evidence
   pub is : n ≡ refusal_of (variables_of f) evidence
 
--- ---- what is placed: a function of assignments to words, each of whose variables is declared, and under one name
+-- ---- what is placed: a function of assignments to words with few enough parameters and results, each of whose variables is
+-- declared, and under one name
 pub record IsPlaceable (f : Fun) : Type 0 where
   pub straight : IsStraight f
+  pub counts : HasCounts f
   pub different : AllPairs (λ v w. v.name ≢ w.name) (variables_of f)
   pub declared : All (HasDeclaration (variables_of f)) (uses_of f)
   pub few : length (variables_of f) < 2 ^ 32

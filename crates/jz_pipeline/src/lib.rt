@@ -2,6 +2,7 @@
 #![tactic(auto)]
 
 mod assembling;
+mod compiled_laws;
 mod compiling;
 mod copying;
 mod expanding;
@@ -16,6 +17,9 @@ mod tests;
 mod text_tests;
 mod unplaced;
 
+pub use compiled_laws::{
+    compiled_is_correct, never_both, one_compilation, typed_functions_are_placeable,
+};
 pub use compiling::compile_fun;
 pub use expanding::expand;
 pub use laws::placed_is_correct;

@@ -1,0 +1,127 @@
+-- What first fit comes to: a placing, one compilation, and never a refusal besides.
+use Rattle.std.proofs.Common.{◌≡◌, ℕ, List, [], ◌∷◌, ◌++◌, length, refl, sym, ap, ◌∙◌, subst, arith}
+use Rattle.std.specs.Prelude.{Option, Some, map}
+use Rattle.std.specs.List.{All}
+use Rattle.std.proofs.lemmas.List.{length-append, get_or_append_left}
+use Rattle.std.proofs.lemmas.List.Elements.{All-nil, All-cons, All-head, All-tail, All-weaker}
+use Rattle.x64_insn.specs.declared.types.Place.{Place}
+use Rattle.jz_ir.specs.Order.{number_of}
+use Rattle.jz_ir.specs.Places.{IsWithin, placed, refused}
+use Rattle.jz_ir.specs.Straight.{LiveIn}
+use Rattle.jz_ir.proofs.Numbers.{one_place}
+use Rattle.jz_alloc.proofs.Seating.{one_out, placing, live_below}
+use Rattle.jz_tree.specs.declared.Program.{Program}
+use Rattle.jz_tree.specs.declared.Fun.{Fun}
+use Rattle.jz_tree.specs.declared.Var.{Var}
+use Rattle.jz_tree.specs.declared.Expr.TheVariants as expr
+use Rattle.jz_tree.specs.declared.Lval.{Lval}
+use Rattle.jz_tree.specs.declared.Lval.TheVariants as lval
+use Rattle.jz_tree.specs.declared.Rhs.{Rhs}
+use Rattle.jz_tree.specs.declared.Rhs.TheVariants as rhs
+use Rattle.jz_tree.specs.declared.Stmt.{Stmt}
+use Rattle.jz_tree.specs.declared.StmtKind.{StmtKind}
+use Rattle.jz_tree.specs.declared.StmtKind.TheVariants as kind
+use Rattle.jz_tree.specs.Variables.{variables_of}
+use Rattle.jz_types.specs.TypedPrograms.{HasDeclaration}
+use Rattle.jz_types.specs.Uses.{joined, in_lval_by, in_rhs_by, in_kind_by, in_stmts_by, in_vars_by, one, uses_of}
+use Rattle.jz_safety.specs.Alarms.{HasNoAlarm}
+use Rattle.jz_safety.specs.Resolved.{IsResolved}
+use Rattle.jz_listing.specs.declared.compiled.Compiled.{Compiled}
+use Rattle.jz_correct.specs.Correctness.{IsCorrect}
+use Rattle.jz_lower.specs.Placing.{IsPlacing}
+use Rattle.jz_lower.specs.Operations.{code_of, register_of}
+use Rattle.jz_lower.proofs.LinkedNames.{IsKnown, KnownRight, KnownLefts, KnownKind, KnownBody, known_by_name}
+use Rattle.jz_lower.proofs.Linked.{within, places_place}
+use Rattle.jz_pipeline.specs.Compiling.{compiled_of}
+use Rattle.jz_pipeline.specs.Placed.{IsCompiled, IsUnplaced, IsPlaceable}
+use Rattle.jz_pipeline.specs.declared.unplaced.NoPlace.{NoPlace}
+use Rattle.jz_pipeline.proofs.Correct.{correct}
+
+-- ---- parts of lists
+pub all_front : {X : Type 0} (P : X → Type 0) (xs ys : List X) → All P (xs ++ ys) → All P xs
+all_front P xs ys h k d l = subst P (get_or_append_left xs ys d k l) (h k d (omega (arith, l, length-append xs ys)))
+
+pub all_back : {X : Type 0} (P : X → Type 0) (xs ys : List X) → All P (xs ++ ys) → All P ys
+all_back P [] ys h = h
+all_back P (x ∷ xs) ys h = all_back P xs ys (All-tail P x (xs ++ ys) h)
+
+-- ---- the variables that a function uses are known
+module _ (vs : List Var) where
+  lefts_known : (ds : List Lval) → All (IsKnown vs) (joined [] ◌++◌ (map (in_lval_by [] ◌++◌ one) ds)) → KnownLefts vs ds
+  lefts_known [] a = tt
+  lefts_known (lval.Var x ∷ ds) a = (All-head (IsKnown vs) x _ a, lefts_known ds (All-tail (IsKnown vs) x _ a))
+
+  right_known : (r : Rhs) → All (IsKnown vs) (in_rhs_by [] ◌++◌ one r) → KnownRight vs r
+  right_known (rhs.Value (expr.Num i at)) a = tt
+  right_known (rhs.Value (expr.Var x)) a = All-head (IsKnown vs) x [] a
+
+  kind_known : (k : StmtKind) → All (IsKnown vs) (in_kind_by [] ◌++◌ one k) → KnownKind vs k
+  kind_known (kind.Assign ds o r) a =
+      let lefts : List Var = joined [] ◌++◌ (map (in_lval_by [] ◌++◌ one) ds) in
+      let right : List Var = in_rhs_by [] ◌++◌ one r in
+      (lefts_known ds (all_front (IsKnown vs) lefts right a), right_known r (all_back (IsKnown vs) lefts right a))
+
+  body_known : (ss : List Stmt) → All (IsKnown vs) (in_stmts_by [] ◌++◌ one ss) → KnownBody vs ss
+  body_known [] a = tt
+  body_known (s ∷ ss) a =
+      let here : List Var = in_kind_by [] ◌++◌ one s.kind in
+      let later : List Var = in_stmts_by [] ◌++◌ one ss in
+      (kind_known s.kind (all_front (IsKnown vs) here later a), body_known ss (all_back (IsKnown vs) here later a))
+
+  vars_known : (xs : List Var) → All (IsKnown vs) (in_vars_by [] ◌++◌ one xs) → All (IsKnown vs) xs
+  vars_known [] a = All-nil (IsKnown vs)
+  vars_known (x ∷ xs) a = All-cons (IsKnown vs) x xs (All-head (IsKnown vs) x _ a) (vars_known xs (All-tail (IsKnown vs) x _ a))
+
+module _ (f : Fun) (declared : All (HasDeclaration (variables_of f)) (uses_of f)) where
+  used_known : All (IsKnown (variables_of f)) (uses_of f)
+  used_known = All-weaker (HasDeclaration (variables_of f)) (IsKnown (variables_of f)) (λ u d. known_by_name (variables_of f) d.variable u.name d.among d.name) (uses_of f) declared
+
+  body_is_known : KnownBody (variables_of f) f.body
+  body_is_known = body_known (variables_of f) f.body (all_front (IsKnown (variables_of f)) (in_stmts_by [] ◌++◌ one f.body) (in_vars_by [] ◌++◌ one f.result) used_known)
+
+  result_is_known : All (IsKnown (variables_of f)) f.result
+  result_is_known = vars_known (variables_of f) f.result (all_back (IsKnown (variables_of f)) (in_stmts_by [] ◌++◌ one f.body) (in_vars_by [] ◌++◌ one f.result) used_known)
+
+  -- each variable of its operations has a kind
+  pub placeable_within : IsWithin (code_of f)
+  placeable_within = within f body_is_known result_is_known
+
+-- ---- what first fit places is correct
+pub compiled_correct : (p : Program) (f : Fun) (c : Compiled) → IsPlaceable f → IsResolved f → HasNoAlarm f → IsCompiled f c → IsCorrect p f c
+compiled_correct p f c able resolved safe is =
+    let code = code_of f in
+    let inside = placeable_within f able.declared in
+    let places = placing code (LiveIn code.ops) is.places inside (λ i v l. live_below code.ops (length code.kinds) i v inside l) is.first_fit in
+    let counts = able.counts in
+    let stands : IsPlacing (register_of f is.places) f =
+    places_place f is.places places able.straight.body (body_is_known f able.declared) (result_is_known f able.declared) counts.few_params (omega (arith, counts.results, counts.few_rets)) in
+    subst (λ (k : Compiled). IsCorrect p f k) (sym is.is) (correct p f (register_of f is.places) able.straight stands resolved safe)
+
+-- ---- one outcome
+some_same : {a b : ℕ} → ◌≡◌ {A = Option ℕ} (Some a) (Some b) → a ≡ b
+some_same e = cc
+
+same_places : (ps qs : List Place) → map (λ p. Some (number_of p)) ps ≡ map (λ p. Some (number_of p)) qs → ps ≡ qs
+same_places [] [] e = refl
+same_places [] (q ∷ qs) e = cc
+same_places (p ∷ ps) [] e = cc
+same_places (p ∷ ps) (q ∷ qs) e =
+    let head : ◌≡◌ {A = Option ℕ} (Some (number_of p)) (Some (number_of q)) = cc in
+    let tail : map (λ p. Some (number_of p)) ps ≡ map (λ p. Some (number_of p)) qs = cc in
+    let first = one_place p q (some_same head) in
+    let rest = same_places ps qs tail in
+    cc
+
+both_placed : (ps qs : List (Option ℕ)) → placed ps ≡ placed qs → ps ≡ qs
+both_placed ps qs e = cc
+
+placed_or_refused : (ps qs : List (Option ℕ)) (v : ℕ) → placed ps ≡ refused v qs → ⊥
+placed_or_refused ps qs v e = cc
+
+pub one_compiled : (f : Fun) (c other : Compiled) → IsCompiled f c → IsCompiled f other → c ≡ other
+one_compiled f c other is too =
+    let same : is.places ≡ too.places = same_places is.places too.places (both_placed _ _ (one_out _ _ _ is.first_fit too.first_fit)) in
+    is.is ∙ ap (λ ps. compiled_of (register_of f ps) f) same ∙ sym too.is
+
+pub not_both : (f : Fun) (c : Compiled) (n : NoPlace) → IsCompiled f c → IsUnplaced f n → ⊥
+not_both f c n is un = placed_or_refused _ _ _ (one_out _ _ _ is.first_fit un.is_evidence.is_first)

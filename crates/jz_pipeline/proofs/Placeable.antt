@@ -1,0 +1,105 @@
+-- Typed functions over words are what can be placed.
+use Rattle.std.proofs.Common.{◌≡◌, ◌≢◌, true, List, [], ◌∷◌, ◌++◌, refl, ap, ◌∙◌, arith, ℤ, pos, negsuc}
+use Rattle.std.specs.Prelude.{Some, None, map, FitsSigned}
+use Rattle.std.specs.Int.{w32}
+use Rattle.std.specs.List.{All, AllPairs, Contains, filter_map, cons_option}
+use Rattle.std.proofs.lemmas.Int.{ints}
+use Rattle.std.proofs.lemmas.List.{length-append, length-map}
+use Rattle.std.proofs.lemmas.List.Elements.{All-head, All-tail, All-append, All-map, All-weaker, All-contains}
+use Rattle.x64_insn.specs.Chosen.{fits_bytes}
+use Rattle.x64_insn.proofs.Immediates.{within_fits}
+use Rattle.jz_tree.specs.declared.Program.{Program}
+use Rattle.jz_tree.specs.declared.Fun.{Fun}
+use Rattle.jz_tree.specs.declared.Param.{Param}
+use Rattle.jz_tree.specs.declared.Ret.{Ret}
+use Rattle.jz_tree.specs.declared.Var.{Var}
+use Rattle.jz_tree.specs.declared.Expr.TheVariants as expr
+use Rattle.jz_tree.specs.declared.Lval.TheVariants as lval
+use Rattle.jz_tree.specs.declared.Rhs.TheVariants as rhs
+use Rattle.jz_tree.specs.declared.Stmt.{Stmt}
+use Rattle.jz_tree.specs.declared.StmtKind.{StmtKind}
+use Rattle.jz_tree.specs.declared.StmtKind.TheVariants as kind
+use Rattle.jz_tree.specs.Variables.{variables_of}
+use Rattle.jz_parse.specs.Trees.{register_word}
+use Rattle.jz_parse.specs.Derived.{DeclaresWords}
+use Rattle.jz_types.specs.TypedPrograms.{HaveDifferentNames, HasDeclaration, HaveDeclarations, HasCounts, HaveCounts}
+use Rattle.jz_types.specs.Uses.{in_rhs_by, in_kind_by, in_stmts_by, in_vars_by, one, uses_of}
+use Rattle.jz_pass.specs.Limits.{Constant, HasField, reading, immediate_of, IsWithinLimits}
+use Rattle.jz_safety.specs.Resolved.{HasOneLeftSide, HaveOneLeftSide}
+use Rattle.jz_lower.specs.Straight.{IsWord, AreWords, GiveWords, SetsWord, SetWords, KindFits, FitImmediates, IsStraight}
+use Rattle.jz_pipeline.specs.Placed.{IsPlaceable}
+use Rattle.jz_pipeline.proofs.Linked.{all_front, all_back}
+
+-- ---- words
+abbrev IsDeclaredWord : Var → Type 0
+IsDeclaredWord x = x.decl ≡ Some register_word
+
+word : (x : Var) → IsDeclaredWord x → IsWord x
+word x e = record { declared = register_word; decl = e; ty = refl }
+
+are_words : (ps : List Param) → All (λ p. p.var.decl ≡ Some register_word) ps → AreWords ps
+are_words [] a = tt
+are_words (p ∷ ps) a = (word p.var (All-head (λ (q : Param). q.var.decl ≡ Some register_word) p ps a), are_words ps (All-tail (λ (q : Param). q.var.decl ≡ Some register_word) p ps a))
+
+give_words : (ts : List Ret) → All (λ t. t.decl ≡ register_word) ts → GiveWords ts
+give_words [] a = tt
+give_words (t ∷ ts) a = (ap (λ d. d.ty) (All-head (λ (u : Ret). u.decl ≡ register_word) t ts a), give_words ts (All-tail (λ (u : Ret). u.decl ≡ register_word) t ts a))
+
+-- what is used is declared as one of the variables
+used_word : (vs : List Var) → All IsDeclaredWord vs → (u : Var) → HasDeclaration vs u → IsDeclaredWord u
+used_word vs words u d = d.same ∙ All-contains IsDeclaredWord vs d.variable words d.among
+
+sets_word : (k : StmtKind) → HasOneLeftSide k → All IsDeclaredWord (in_kind_by [] ◌++◌ one k) → SetsWord k
+sets_word (kind.Assign [] o r) left a = absurd left
+sets_word (kind.Assign (lval.Var x ∷ []) o r) left a = word x (All-head IsDeclaredWord x (in_rhs_by [] ◌++◌ one r) a)
+sets_word (kind.Assign (d ∷ e ∷ ds) o r) left a = absurd left
+
+set_words : (ss : List Stmt) → HaveOneLeftSide ss → All IsDeclaredWord (in_stmts_by [] ◌++◌ one ss) → SetWords ss
+set_words [] left a = tt
+set_words (s ∷ ss) left a =
+    let here : List Var = in_kind_by [] ◌++◌ one s.kind in
+    let later : List Var = in_stmts_by [] ◌++◌ one ss in
+    (sets_word s.kind left.0 (all_front IsDeclaredWord here later a), set_words ss left.1 (all_back IsDeclaredWord here later a))
+
+-- ---- immediates
+-- a signed number of 32 bits is held by four bytes
+field_fits : (i : ℤ) → FitsSigned w32 i → fits_bytes 4 i ≡ true
+field_fits (pos n) h = within_fits 4 (pos n) (omega (arith, ints, h.sfits)) (omega (arith, ints, h.sfits))
+field_fits (negsuc n) h = within_fits 4 (negsuc n) (omega (arith, ints, h.sfits)) (omega (arith, ints, h.sfits))
+
+abbrev HasOwn : Constant → Type 0
+HasOwn c = HasField c.0
+
+kind_fits : (k : StmtKind) (rest : List Constant) → All HasOwn (cons_option (immediate_of k) rest) → KindFits k × All HasOwn rest
+kind_fits (kind.Assign to None r) rest a = (tt, a)
+kind_fits (kind.Assign to (Some o) (rhs.Value (expr.Num n at))) rest a = (field_fits (reading n) (All-head HasOwn (n, at) rest a), All-tail HasOwn (n, at) rest a)
+kind_fits (kind.Assign to (Some o) (rhs.Value (expr.Var x))) rest a = (tt, a)
+
+fit_immediates : (ss : List Stmt) → All HasOwn (filter_map (λ s. immediate_of s.kind) ss) → FitImmediates ss
+fit_immediates [] a = tt
+fit_immediates (s ∷ ss) a = let z = kind_fits s.kind (filter_map (λ (t : Stmt). immediate_of t.kind) ss) a in (z.0, fit_immediates ss z.1)
+
+-- ---- functions
+variables_words : (f : Fun) → DeclaresWords f → All IsDeclaredWord (variables_of f)
+variables_words f words = All-append IsDeclaredWord (map (λ p. p.var) f.params) f.vars (All-map IsDeclaredWord (λ p. p.var) f.params words.params) words.vars
+
+pub placeable : (p : Program) (f : Fun) → HaveDifferentNames p → HaveDeclarations p → HaveCounts p → Contains p.funs f → DeclaresWords f → IsWithinLimits f → HaveOneLeftSide f.body → IsPlaceable f
+placeable p f names declarations counts among words limits left =
+    let vs : List Var = variables_of f in
+    let declared : All (HasDeclaration vs) (uses_of f) = All-contains (λ g. All (HasDeclaration (variables_of g)) (uses_of g)) p.funs f declarations among in
+    let counted : HasCounts f = All-contains HasCounts p.funs f counts among in
+    let used = All-weaker (HasDeclaration vs) IsDeclaredWord (used_word vs (variables_words f words)) (uses_of f) declared in
+    let straight : IsStraight f = record {
+      params = are_words f.params words.params;
+      rets = give_words f.rets words.rets;
+      counts = counted.results;
+      body = set_words f.body left (all_front IsDeclaredWord (in_stmts_by [] ◌++◌ one f.body) (in_vars_by [] ◌++◌ one f.result) used);
+      immediates = fit_immediates f.body limits.1;
+    } in
+    record {
+      straight = straight;
+      different = All-contains (λ g. AllPairs (λ v w. v.name ≢ w.name) (variables_of g)) p.funs f names.variables among;
+      declared = declared;
+      few = omega (arith, words.few, length-append (map (λ p. p.var) f.params) f.vars, length-map f.params (λ p. p.var));
+      counts = counted;
+    }
