@@ -1,3 +1,4 @@
 pub mod WordLaws
 pub mod Stores
 pub mod Simulation
+pub mod NumberLemmas
