@@ -133,12 +133,7 @@ fn need_of(numbers: &Numbers, register: Reg, var: &Var) -> Need
 }
 
 // The entry writes the parameter.
-fn entry_op(
-    alloc: Global,
-    numbers: &Numbers,
-    register: Reg,
-    var: &Var,
-) -> Result<Op, AllocError>
+fn entry_op(alloc: Global, numbers: &Numbers, register: Reg, var: &Var) -> Result<Op, AllocError>
     ensures { (vs : List Var) → IsNumbers numbers.now vs → IfOk result (λ op. op ∷ [] ≡ entry_ops vs (register ∷ []) (var.now ∷ [])) }
 {
     Ok(Op {
@@ -151,12 +146,7 @@ fn entry_op(
 }
 
 // The return reads the variable.
-fn return_op(
-    alloc: Global,
-    numbers: &Numbers,
-    register: Reg,
-    var: &Var,
-) -> Result<Op, AllocError>
+fn return_op(alloc: Global, numbers: &Numbers, register: Reg, var: &Var) -> Result<Op, AllocError>
     ensures { (vs : List Var) → IsNumbers numbers.now vs → IfOk result (λ op. op ∷ [] ≡ return_ops vs (register ∷ []) (var.now ∷ [])) }
 {
     Ok(Op {
