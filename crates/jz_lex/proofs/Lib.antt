@@ -3,3 +3,4 @@ pub mod LexingWords
 pub mod LexingFront
 pub mod Lexing
 pub mod LexingUnique
+pub mod Identifiers

@@ -1,3 +1,4 @@
 pub mod LexingWords
 pub mod Lexing
 pub mod LexingFront
+pub mod Identifiers

@@ -1,9 +1,11 @@
 //! What holds of every text and its tokens, apart from how they are found.
 
-ghost use Rattle.std.specs.Prelude.{◌≡◌, ℕ, List, [], ◌∷◌, ◌++◌};
+ghost use Rattle.std.specs.Prelude.{◌≡◌, ℕ, List, [], ◌∷◌, ◌++◌, true};
 ghost use Rattle.std.specs.List.{All};
 ghost use Rattle.jz_io.specs.declared.span.Span.{Span};
 ghost use Rattle.jz_lex.specs.Lexing.{IsLexed, HasNoToken};
+ghost use Rattle.jz_lex.specs.LexingWords.{in_word};
+ghost use Rattle.jz_lex.specs.Identifiers.{IsIdentifier, IsSpelled};
 ghost use Rattle.jz_lex.specs.declared.token.Token.{Token};
 ghost use Rattle.jz_lex.specs.declared.token.TokenKind.TheVariants as kind;
 ghost use Rattle.jz_lex.specs.declared.token.LexFault.{LexFault};
@@ -28,4 +30,14 @@ pub fn end_stands_last()
     ensures { (text : List ℕ) (tokens : List Token) → IsLexed text tokens →
         (before : List Token) × (e : Span) × (tokens ≡ before ++ record { kind = kind.End; span = e } ∷ [])
         × All (λ t. t.kind ≡ kind.End → ⊥) before }
+{}
+
+/// Each identifier among the tokens of a text is spelled as one.
+pub fn identifiers_are_spelled()
+    ensures { (text : List ℕ) (tokens : List Token) → IsLexed text tokens → All IsSpelled tokens }
+{}
+
+/// Each byte of an identifier is a letter, a digit or an underscore.
+pub fn identifiers_have_word_bytes()
+    ensures { (word : List ℕ) → IsIdentifier word → All (λ byte. in_word byte ≡ true) word }
 {}

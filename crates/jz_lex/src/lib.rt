@@ -11,6 +11,9 @@ mod tests;
 mod text;
 mod token;
 
-pub use laws::{end_stands_last, lexed_or_refused, one_fault, one_lexing};
+pub use laws::{
+    end_stands_last, identifiers_are_spelled, identifiers_have_word_bytes, lexed_or_refused,
+    one_fault, one_lexing,
+};
 pub use text::lex;
 pub use token::{LexFault, LexKind, Token, TokenKind, Tokens};

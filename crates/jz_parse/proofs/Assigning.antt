@@ -1,5 +1,5 @@
 -- The statements of what is derived.
-use Rattle.std.proofs.Common.{◌≡◌, List, [], ◌∷◌, ◌⊎◌, inl, inr, refl, subst}
+use Rattle.std.proofs.Common.{List, [], ◌∷◌, inl, inr, refl, subst}
 use Rattle.std.specs.Prelude.{All}
 use Rattle.std.proofs.lemmas.List.Elements.{All-nil, All-cons, All-head, All-tail}
 use Rattle.jz_lex.specs.declared.token.Token.{Token}
@@ -12,7 +12,7 @@ use Rattle.jz_parse.specs.declared.statement.Item.{Item}
 use Rattle.jz_parse.specs.declared.statement.Item.TheVariants.{Declares, Does}
 use Rattle.jz_parse.specs.Trees.{stmts_in}
 use Rattle.jz_parse.specs.Grammar.{item, body, small_function}
-use Rattle.jz_parse.specs.Deriving.{DerivesFirst}
+use Rattle.jz_parse.specs.Deriving.{DerivesProgram}
 use Rattle.jz_parse.specs.Derived.{AssignsToOne}
 
 -- what holds of each phrase holds of each of several
@@ -39,7 +39,7 @@ body_one xs b h = subst (λ (c : Body). All AssignsToOne c.stmts) h.2 (stmts_one
 fun_one : (xs : List Marked) (f : Fun) → small_function 0 xs f → All AssignsToOne f.body
 fun_one xs f h = let d = h.0 in subst (λ (g : Fun). All AssignsToOne g.body) d.2 (body_one _ d.0.1.1.1.1.1 d.1.3.3.3.3.3)
 
-pub statements_one : (tokens : List Token) (program : Program) → DerivesFirst tokens program → All (λ f. All AssignsToOne f.body) program.funs
+pub statements_one : (tokens : List Token) (program : Program) → DerivesProgram tokens program → All (λ f. All AssignsToOne f.body) program.funs
 statements_one tokens program h =
     let d = h.1 in
     subst (λ (p : Program). All (λ (f : Fun). All AssignsToOne f.body) p.funs) d.2 (all_of (small_function 0) (λ f. All AssignsToOne f.body) fun_one _ d.0.0 d.1.2)

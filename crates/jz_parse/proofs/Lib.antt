@@ -1,11 +1,8 @@
-pub mod FormSteps
-pub mod Differing
-pub mod FormRuns
-pub mod FormKinds
-pub mod FormLaws
 pub mod Counted
 pub mod Lists
 pub mod Same
 pub mod Program
 pub mod Faults
 pub mod Assigning
+pub mod Phrases
+pub mod Declaring

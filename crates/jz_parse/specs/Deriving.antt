@@ -10,20 +10,20 @@ use Rattle.jz_parse.specs.Places.{span_at}
 use Rattle.jz_parse.specs.Grammar.{program}
 
 -- the grammar derives the program from the tokens
-abbrev pub DerivesFirst : List Token → Program → Type 0
-DerivesFirst ts p = Derives program 0 ts p
+abbrev pub DerivesProgram : List Token → Program → Type 0
+DerivesProgram ts p = Derives program 0 ts p
 
 -- the tokens begin the list of some program
-abbrev pub BeginsFirst : List Token → Type 0
-BeginsFirst front = (more : List Token) × (p : Program) × DerivesFirst (front ++ more) p
+abbrev pub BeginsProgram : List Token → Type 0
+BeginsProgram front = (more : List Token) × (p : Program) × DerivesProgram (front ++ more) p
 
 -- no program goes on with what comes after: another token, or no more of them
-abbrev pub IsRefusedFirst : List Token → List Token → Span → Type 0
-IsRefusedFirst front [] span = ((p : Program) → DerivesFirst front p → ⊥) × (span ≡ span_at front (length front - 1))
-IsRefusedFirst front (t ∷ rest) span = (BeginsFirst (front ++ t ∷ []) → ⊥) × (span ≡ t.span)
+abbrev pub IsRefused : List Token → List Token → Span → Type 0
+IsRefused front [] span = ((p : Program) → DerivesProgram front p → ⊥) × (span ≡ span_at front (length front - 1))
+IsRefused front (t ∷ rest) span = (BeginsProgram (front ++ t ∷ []) → ⊥) × (span ≡ t.span)
 
 -- the fault is at the first token with which the tokens begin no program, and has its number and its span
-abbrev pub IsUnexpectedFirst : List Token → SyntaxFault → Type 0
-IsUnexpectedFirst ts fault =
+abbrev pub IsUnexpected : List Token → SyntaxFault → Type 0
+IsUnexpected ts fault =
     (front : List Token) × (rest : List Token) × (ts ≡ front ++ rest) × (length front ≡ fault.token)
-    × BeginsFirst front × IsRefusedFirst front rest fault.span × (fault.kind ≡ Unexpected)
+    × BeginsProgram front × IsRefused front rest fault.span × (fault.kind ≡ Unexpected)

@@ -1,10 +1,8 @@
 pub mod Places
-pub mod Parsing
-pub mod ParsingForm
-pub mod Reading
 pub mod Trees
 pub mod Grammar
 pub mod Gave
 pub mod Readers
 pub mod Deriving
+pub mod Reading
 pub mod Derived

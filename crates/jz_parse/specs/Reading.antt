@@ -5,11 +5,11 @@ use Rattle.jz_lex.specs.declared.token.LexFault.{LexFault}
 use Rattle.jz_parse.specs.declared.fault.SyntaxFault.{SyntaxFault}
 use Rattle.jz_tree.specs.declared.Program.{Program}
 use Rattle.jz_lex.specs.Lexing.{IsLexed, HasNoToken}
-use Rattle.jz_parse.specs.Parsing.{Derives, IsUnexpected}
+use Rattle.jz_parse.specs.Deriving.{DerivesProgram, IsUnexpected}
 
 -- the text has tokens, and the grammar derives the program from them
 unfoldable pub Reads : List ℕ → Program → Type 0
-Reads text p = (tokens : List Token) × IsLexed text tokens × Derives tokens p
+Reads text p = (tokens : List Token) × IsLexed text tokens × DerivesProgram tokens p
 
 -- at this place the text has no token, and before it has
 unfoldable pub LexFails : List ℕ → LexFault → Type 0

@@ -1,46 +1,52 @@
-//! Following the form token by token.
+//! The program that a list of tokens derives, or the first token at which none is derived any more.
 
-ghost use Rattle.std.specs.Prelude.{◌≡◌, ◌<◌, [], ◌∷◌, ◌++◌, List, IfOk, IfErr, length};
+ghost use Rattle.std.specs.Prelude.{◌≡◌, ◌<◌, ◌-◌, [], ◌∷◌, ◌++◌, List, IfOk, IfErr, length};
 ghost use Rattle.jz_data.specs.Failures.{IfRefused};
 ghost use Rattle.jz_lex.specs.declared.token.TokenKind.TheVariants.{End};
 ghost use Rattle.jz_lex.specs.declared.token.Token.{Token};
-ghost use Rattle.jz_parse.specs.Parsing.{Derives, IsUnexpected};
-ghost use Rattle.jz_parse.specs.ParsingForm.{follow, IsFollowed};
+ghost use Rattle.jz_grammar.specs.Reading.{final};
+ghost use Rattle.jz_parse.specs.Gave.{numbered, IsNumbered};
+ghost use Rattle.jz_parse.specs.Readers.{program};
+ghost use Rattle.jz_parse.specs.Deriving.{DerivesProgram, IsUnexpected};
 
-use crate::fault::{SyntaxFault, fault_at};
-use crate::form::{FORM, Slot, take};
-use crate::tree::program;
-use jz_data::{Failure, Seq, Text};
+use crate::cursor::Cursor;
+use crate::fault::{SyntaxFault, SyntaxKind, fault_at};
+use crate::function::program;
+use jz_data::Failure;
 use jz_lex::Tokens;
 use jz_tree::Program;
 use std::alloc::Global;
 
-/// The names of tokens that follow the places, or the number of the first that doesn't.
-fn follow(alloc: Global, slots: &[Slot], tokens: &Tokens) -> Result<Seq<Text>, Failure<usize>>
-    ensures { IsFollowed (follow slots.now [] tokens.now) tokens.now result }
+/// The program of all the tokens, or the number of the first that is left.
+#[tactic(auto, using(crate::proofs::Faults::read_done, crate::proofs::Faults::read_over, crate::proofs::Faults::read_wrong))]
+fn read_whole(alloc: Global, tokens: &Tokens) -> Result<Program, Failure<usize>>
+    ensures { IsNumbered (numbered (length tokens.now) (final (program tokens.now))) result }
 {
-    let mut names = Seq::new(alloc);
-    for (at, slot) in slots.iter().enumerate() {
-        let Some(token) = tokens.get(at) else {
-            return Err(Failure::Refused(at));
-        };
-        if !take(*slot, &token.kind, &mut names)? {
-            return Err(Failure::Refused(at));
+    let mut c = Cursor::new(tokens.as_slice());
+    match program(alloc, &mut c) {
+        Ok(program) => {
+            let left = c.left();
+            if left == 0 {
+                Ok(program)
+            } else {
+                Err(Failure::Refused(tokens.len().saturating_sub(left)))
+            }
         }
+        Err(Failure::Refused(SyntaxKind::Unexpected)) => Err(Failure::Refused(
+            tokens.len().saturating_sub(c.left()),
+        )),
+        Err(Failure::OutOfMemory) => Err(Failure::OutOfMemory),
     }
-    if tokens.len() > slots.len() {
-        return Err(Failure::Refused(slots.len()));
-    }
-    Ok(names)
 }
 
 /// The program that the tokens derive, or the first token at which they begin none.
+#[tactic(auto, using(crate::proofs::Faults::derived))]
 pub fn parse(alloc: Global, tokens: &Tokens) -> Result<Program, Failure<SyntaxFault>>
-    ensures program { IfOk result (λ program. Derives tokens.now program) }
+    ensures program { IfOk result (λ program. DerivesProgram tokens.now program) }
     ensures fault { IfErr result (λ failure. IfRefused failure (λ fault. IsUnexpected tokens.now fault)) }
 {
-    match follow(alloc, &FORM, tokens) {
-        Ok(names) => Ok(program(alloc, tokens, &names)?),
+    match read_whole(alloc, tokens) {
+        Ok(program) => Ok(program),
         Err(Failure::Refused(number)) => Err(Failure::Refused(fault_at(tokens, number))),
         Err(Failure::OutOfMemory) => Err(Failure::OutOfMemory),
     }
@@ -48,12 +54,12 @@ pub fn parse(alloc: Global, tokens: &Tokens) -> Result<Program, Failure<SyntaxFa
 
 /// The tokens derive one program at most.
 pub fn one_program()
-    ensures { (tokens : List Token) (program other : Program) → Derives tokens program → Derives tokens other → program ≡ other }
+    ensures { (tokens : List Token) (program other : Program) → DerivesProgram tokens program → DerivesProgram tokens other → program ≡ other }
 {}
 
 /// Tokens that derive a program have no fault.
 pub fn no_fault_of_a_program()
-    ensures { (tokens : List Token) (program : Program) (fault : SyntaxFault) → Derives tokens program → IsUnexpected tokens fault → ⊥ }
+    ensures { (tokens : List Token) (program : Program) (fault : SyntaxFault) → DerivesProgram tokens program → IsUnexpected tokens fault → ⊥ }
 {}
 
 /// The tokens have one fault at most.

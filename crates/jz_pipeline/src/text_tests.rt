@@ -7,7 +7,7 @@ use jz_data::Failure;
 use jz_io::Span;
 use jz_lex::lex;
 use jz_meaning::Expanded;
-use jz_parse::parse_first;
+use jz_parse::parse;
 use jz_pass::LimitKind;
 use jz_safety::safe;
 use jz_types::{TypeRule, Typed, check};
@@ -30,7 +30,7 @@ fn typed(alloc: Global, text: &[u8]) -> Result<Typed, Verdict>
     let Ok(tokens) = lex(alloc, text) else {
         return Err(Verdict::Lexer);
     };
-    let program = match parse_first(alloc, &tokens) {
+    let program = match parse(alloc, &tokens) {
         Ok(program) => program,
         Err(Failure::Refused(fault)) => return Err(Verdict::Syntax(fault.token, fault.span)),
         Err(Failure::OutOfMemory) => return Err(Verdict::Memory),
