@@ -6,3 +6,4 @@ pub mod Linked
 pub mod Placeable
 pub mod Spelled
 pub mod Refusals
+pub mod Texts
