@@ -149,7 +149,10 @@ fn place_that_another_variable_holds(rt: HostRuntime) -> Result<(), Fail> {
         "export fn h(reg u64 a, reg u64 b, reg u64 c) -> reg u64, reg u64 { reg u64 r s; r = a; s = b; s += c; return r, s; }",
     )?;
     assert_eq!(rt; no_place.variable.as_str(), "s");
-    assert_eq!(rt; no_place.needs.as_slice(), [needed(Reg::Rdx, 113)].as_slice());
+    assert_eq!(rt;
+        no_place.needs.as_slice(),
+        [needed(Reg::Rdx, 113)].as_slice()
+    );
     let mut holders = Seq::new(alloc);
     holders.push(Holder {
         place: Place::Reg(Reg::Rdx),
