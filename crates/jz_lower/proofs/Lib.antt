@@ -3,3 +3,5 @@ pub mod Stores
 pub mod Simulation
 pub mod LinkedNames
 pub mod Linked
+pub mod NumberLemmas
+pub mod Items

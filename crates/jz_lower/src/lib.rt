@@ -3,6 +3,10 @@
 
 mod code;
 mod lowering;
+mod numbers;
 
 pub use code::operations;
 pub use lowering::instructions;
+
+#[cfg(test)]
+mod tests;

@@ -1,19 +1,107 @@
 //! The instructions of statements.
 
-ghost use Rattle.std.specs.Prelude.{◌≡◌, ◌<◌, ◌^◌, IfOk, length};
+ghost use Rattle.std.specs.Prelude.{◌≡◌, ◌<◌, ◌^◌, [], ◌∷◌, List, IfOk, MatchOption, length};
+ghost use Rattle.jz_words.specs.declared.size.Size.TheVariants.{S64};
+ghost use Rattle.jz_words.specs.Sizes.{signed};
+ghost use Rattle.jz_words.specs.Words.{residue};
+ghost use Rattle.jz_tree.specs.declared.Var.{Var};
 ghost use Rattle.jz_tree.specs.Variables.{variables_of};
-ghost use Rattle.jz_lower.specs.Lowering.{insns_of};
-ghost use Rattle.jz_lower.specs.Operations.{register_of};
+ghost use Rattle.jz_lower.specs.Lowering.{alu_of, assignment_insn, insns_of, kind_insns, operand_of};
+ghost use Rattle.jz_lower.specs.Numbers.{IsNumbers};
+ghost use Rattle.jz_lower.specs.Operations.{register_in, register_of};
 
-use jz_data::Seq;
-use jz_tree::Fun;
+use crate::numbers::Numbers;
+use jz_data::{Seq, Text};
+use jz_tree::{BinOp, Expr, Fun, Lval, Rhs, StmtKind};
+use jz_words::Size;
 use std::alloc::{AllocError, Global};
-use x64_insn::{Insn, Place};
+use x64_insn::{Alu, Insn, Operand, Place, Reg};
+
+/// Where the variables of a function stand.
+#[derive(Drop)]
+struct Registers<'a> {
+    numbers: Numbers,
+    places: &'a [Place],
+}
+
+fn alu_of(op: BinOp) -> Alu
+    ensures { result ≡ alu_of op }
+{
+    match op {
+        BinOp::Xor => Alu::Xor,
+        BinOp::Add => Alu::Add,
+        BinOp::Sub => Alu::Sub,
+    }
+}
+
+// The signed reading of the number's 64 bits.
+#[tactic(auto, unfolding(jz_words::specs::Sizes::signed))]
+fn signed(number: i128) -> i64
+    ensures { result ≡ signed S64 (residue S64 number) }
+{
+    let low = number.rem_euclid(1 << 64);
+    (low as u64).cast_signed()
+}
+
+impl Registers<'_> {
+    // The register of the variable of that name. RAX stands for a name that no variable has.
+    fn register(&self, name: &Text) -> Reg
+        ensures { (vs : List Var) → IsNumbers self.now.numbers vs → result ≡ register_in vs self.now.places.now name.now }
+    {
+        match self.places.get(self.numbers.number(name) as usize) {
+            Some(Place::Reg(register)) => *register,
+            Some(Place::Flag(_)) | None => Reg::Rax,
+        }
+    }
+
+    fn operand(&self, expr: &Expr) -> Operand
+        ensures { (vs : List Var) → IsNumbers self.now.numbers vs → result ≡ operand_of (register_in vs self.now.places.now) expr.now }
+    {
+        match expr {
+            Expr::Num(number, _) => Operand::Imm(signed(*number)),
+            Expr::Var(var) => Operand::Reg(self.register(&var.name)),
+        }
+    }
+
+    fn assignment(&self, left: &Lval, op: Option<BinOp>, rhs: &Rhs) -> Insn
+        ensures { (vs : List Var) → IsNumbers self.now.numbers vs → result ≡ assignment_insn (register_in vs self.now.places.now) left.now op rhs.now }
+    {
+        let Lval::Var(var) = left;
+        let Rhs::Value(expr) = rhs;
+        let to = Operand::Reg(self.register(&var.name));
+        let from = self.operand(expr);
+        match op {
+            None => Insn::Mov(Size::S64, to, from),
+            Some(op) => Insn::Alu(alu_of(op), Size::S64, to, from),
+        }
+    }
+
+    // An assignment with another number of left sides than one has none.
+    fn instruction(&self, kind: &StmtKind) -> Option<Insn>
+        ensures { (vs : List Var) → IsNumbers self.now.numbers vs → MatchOption result (kind_insns (register_in vs self.now.places.now) kind.now ≡ [])
+            (λ insn. kind_insns (register_in vs self.now.places.now) kind.now ≡ insn ∷ []) }
+    {
+        match kind {
+            StmtKind::Assign { to, op, rhs } => match to.as_slice() {
+                [left] => Some(self.assignment(left, *op, rhs)),
+                _ => None,
+            },
+        }
+    }
+}
 
 /// The instructions of a function's statements, where its variables have these places.
 pub fn instructions(alloc: Global, fun: &Fun, places: &[Place]) -> Result<Seq<Insn>, AllocError>
     requires { length (variables_of fun.now) < 2 ^ 32 }
     ensures { IfOk result (λ insns. insns ≡ insns_of (register_of fun.now places.now) fun.now.body) }
 {
-    Err(AllocError)
+    let numbers = Numbers::of(alloc, fun)?;
+    let registers = Registers { numbers, places };
+    let mut insns = Seq::new(alloc);
+    for stmt in fun.body.as_slice() {
+        if let Some(insn) = registers.instruction(&stmt.kind) {
+            insns.push(insn)?;
+        }
+    }
+    Ok(insns)
 }

@@ -4,3 +4,6 @@ pub mod Carrying
 pub mod Correct
 pub mod Linked
 pub mod Placeable
+pub mod Spelled
+pub mod Refusals
+pub mod Texts

@@ -1,18 +1,30 @@
-//! What holds of each function that is compiled.
+//! What holds of each function that is compiled, and which functions may be.
 
-ghost use Rattle.std.specs.Prelude.{List, ℕ};
+ghost use Rattle.std.specs.Prelude.{◌≡◌, All, List, ℕ};
 ghost use Rattle.x64_insn.specs.declared.types.Reg.{Reg};
+ghost use Rattle.jz_lex.specs.declared.token.Token.{Token};
 ghost use Rattle.jz_tree.specs.declared.Program.{Program};
 ghost use Rattle.jz_tree.specs.declared.Fun.{Fun};
+ghost use Rattle.jz_parse.specs.Deriving.{DerivesProgram};
+ghost use Rattle.jz_types.specs.Resolving.{resolved};
+ghost use Rattle.jz_types.specs.TypedPrograms.{HaveDifferentNames, HaveDeclarations, HaveCounts};
+ghost use Rattle.jz_pass.specs.Limits.{IsWithinLimits};
 ghost use Rattle.jz_safety.specs.Alarms.{HasNoAlarm};
 ghost use Rattle.jz_safety.specs.Resolved.{IsResolved};
 ghost use Rattle.jz_correct.specs.Correctness.{IsCorrect};
 ghost use Rattle.jz_lower.specs.Straight.{IsStraight};
 ghost use Rattle.jz_lower.specs.Placing.{IsPlacing};
 ghost use Rattle.jz_pipeline.specs.Compiling.{compiled_of};
+ghost use Rattle.jz_pipeline.specs.Placed.{IsPlaceable};
 
 /// A function of assignments without an alarm, whose variables stand in registers that keep them apart: what it becomes
 /// in these registers is correct for it.
 pub fn placed_is_correct()
     ensures { (p : Program) (f : Fun) (register : List ℕ → Reg) → IsStraight f → IsPlacing register f → IsResolved f → HasNoAlarm f → IsCorrect p f (compiled_of register f) }
+{}
+
+/// The functions of a program that tokens derive can be placed, once they are typed and within their limits.
+pub fn read_functions_are_placeable()
+    ensures { (tokens : List Token) (read typed : Program) → DerivesProgram tokens read → typed ≡ resolved read
+        → HaveDifferentNames typed → HaveDeclarations typed → HaveCounts typed → All IsWithinLimits typed.funs → All IsPlaceable typed.funs }
 {}

@@ -1,12 +1,17 @@
 //! The stages behind typing, from a typed program on.
 #![tactic(auto)]
 
+mod assembling;
+#[cfg(test)]
+mod compile_tests;
 mod compiled_laws;
 mod compiling;
 mod copying;
 mod expanding;
 mod laws;
 mod limits;
+mod refusing;
+mod signature;
 mod stages;
 #[cfg(test)]
 mod tests;
@@ -19,6 +24,6 @@ pub use compiled_laws::{
 };
 pub use compiling::compile_fun;
 pub use expanding::expand;
-pub use laws::placed_is_correct;
+pub use laws::{placed_is_correct, read_functions_are_placeable};
 pub use stages::{compile_all, expand_all, safe_all};
 pub use unplaced::{Holder, NoPlace};

@@ -7,12 +7,14 @@ ghost use Rattle.jz_safety.specs.Alarms.{HasNoAlarm, IsFirstAlarm};
 ghost use Rattle.jz_pipeline.specs.Placed.{AreCompiled, IsPlaceable, IsUnplaced};
 ghost use Rattle.jz_pipeline.specs.Stages.{HasNone, IsFirstRefusal};
 
+use crate::compiling::compile_fun;
+use crate::expanding::expand;
 use crate::unplaced::NoPlace;
 use jz_data::{Failure, Seq};
 use jz_listing::Compiled;
 use jz_meaning::Expanded;
 use jz_pass::Limit;
-use jz_safety::{Alarm, Safe};
+use jz_safety::{Alarm, Safe, safe};
 use jz_types::Typed;
 use std::alloc::Global;
 
@@ -22,7 +24,11 @@ pub fn expand_all(alloc: Global, typed: &Typed) -> Result<Seq<Expanded>, Failure
     ensures within { IfOk result (λ es. All IsWithinLimits typed.now.program.funs) }
     ensures limit { IfErr result (λ failure. IfRefused failure (IsFirstRefusal IsFirstLimit typed.now.program.funs)) }
 {
-    Err(Failure::OutOfMemory)
+    let mut all = Seq::new(alloc);
+    for fun in 0..typed.program().funs.len() {
+        all.push(expand(alloc, typed, fun)?)?;
+    }
+    Ok(all)
 }
 
 /// The functions, if none has an alarm; or the first alarm of the first that has one.
@@ -31,7 +37,11 @@ pub fn safe_all(alloc: Global, expanded: Seq<Expanded>) -> Result<Seq<Safe>, Fai
     ensures no_alarm { IfOk result (λ safes. All (λ e. HasNoAlarm e.fun) expanded) }
     ensures alarm { IfErr result (λ failure. IfRefused failure (IsFirstRefusal IsFirstAlarm (map (λ e. e.fun) expanded))) }
 {
-    Err(Failure::OutOfMemory)
+    let mut safes = Seq::new(alloc);
+    for function in expanded.into_vec() {
+        safes.push(safe(alloc, function)?)?;
+    }
+    Ok(safes)
 }
 
 /// The code of each function, or the first that has a variable without a place, and why.
@@ -40,5 +50,9 @@ pub fn compile_all(alloc: Global, safes: &Seq<Safe>) -> Result<Seq<Compiled>, Fa
     ensures compiled { IfOk result (AreCompiled (map (λ e. e.fun) safes.now)) }
     ensures refused { IfErr result (λ failure. IfRefused failure (IsFirstRefusal IsUnplaced (map (λ e. e.fun) safes.now))) }
 {
-    Err(Failure::OutOfMemory)
+    let mut all = Seq::new(alloc);
+    for safe in safes.as_slice() {
+        all.push(compile_fun(alloc, safe)?)?;
+    }
+    Ok(all)
 }

@@ -1,0 +1,25 @@
+use Rattle.std.proofs.Common.{List, map, ap, ◌∙◌}
+use Rattle.jz_data.specs.Failures.{IfRefused}
+use Rattle.jz_meaning.specs.declared.expanded.Expanded.{Expanded}
+use Rattle.jz_pass.specs.Limits.{IsFirstLimit}
+use Rattle.jz_safety.proofs.Checking.{passed_on}
+use Rattle.jz_pipeline.specs.Stages.{IsFirstRefusal}
+use Rattle.jz_pipeline.proofs.Refusals.{limit_here, one_more_expanded, one_more_within}
+use Rattle.jz_pipeline.proofs.stages.expand_all.Goals as goal
+
+pub returns-in_err-expand-clause-limit : goal.returns-in_err-expand-clause-limit
+returns-in_err-expand-clause-limit c =
+    let funs = c.args.typed.now.program.funs in
+    let failure = c.in_err-expand.field-0.0 in
+    passed_on c.from_residual.result failure (λ e. IfRefused e (IsFirstRefusal IsFirstLimit funs)) c.from_residual.ensures.1
+    (limit_here funs c.loop-fun.fun failure c.loop-fun.invariant.within c.in_err-expand.ensures.limit)
+
+pub loop-fun-preserved : goal.loop-fun-preserved
+loop-fun-preserved c =
+    let funs = c.args.typed.now.program.funs in
+    let expanded = c.in_ok-expand.field-0 in
+    record {
+      functions = ap (λ (all : List Expanded). map (λ e. e.fun) all) c.in_ok-push.ensures.ok
+          ∙ one_more_expanded funs c.loop-fun.fun c.loop-fun.all expanded c.in_ok-expand.ensures.function c.loop-fun.invariant.functions;
+      within = one_more_within funs c.loop-fun.fun expanded.fun c.in_ok-expand.ensures.function c.loop-fun.invariant.within c.in_ok-expand.ensures.within;
+    }
