@@ -7,7 +7,7 @@ use crate::{instructions, operations};
 use jz_data::{Seq, Text};
 use jz_io::Span;
 use jz_ir::{Code, Kind, Need, Op};
-use jz_tree::{BinOp, Decl, Expr, Fun, Lval, Param, Ret, Rhs, Stmt, StmtKind, Storage, Ty, Var};
+use jz_tree::{BinOp, Decl, Expr, Fun, Lval, Param, Rhs, Stmt, StmtKind, Storage, Ty, Var};
 use jz_words::Size;
 use std::alloc::{AllocError, Global};
 use std::test::Fail;
@@ -40,6 +40,13 @@ const GIVEN: [Place; 9] = [
     Place::Reg(Reg::R11),
 ];
 
+// x, y and r
+const PLACES: [Place; 3] = [
+    Place::Reg(Reg::Rdi),
+    Place::Reg(Reg::Rsi),
+    Place::Reg(Reg::Rax),
+];
+
 const RAX: Operand = Operand::Reg(Reg::Rax);
 
 const RSI: Operand = Operand::Reg(Reg::Rsi);
@@ -58,44 +65,76 @@ fn var(alloc: Global, name: At, decl: Option<Decl>) -> Result<Var, AllocError> {
     })
 }
 
-fn value(alloc: Global, name: At) -> Result<Expr, AllocError> {
-    Ok(Expr::Var(var(alloc, name, None)?))
+/// The right side of a statement.
+#[derive(Clone, Copy)]
+enum Source {
+    Name(&'static str),
+    Number(i128),
 }
 
-fn assign(alloc: Global, to: At, op: Option<BinOp>, value: Expr) -> Result<Stmt, AllocError> {
-    let mut left = Seq::new(alloc);
-    left.push(Lval::Var(var(alloc, to, None)?))?;
+/// A statement that sets `r`.
+#[derive(Clone, Copy)]
+struct Line {
+    col: u32,
+    op: Option<BinOp>,
+    source: Source,
+}
+
+fn sets(col: u32, op: Option<BinOp>, source: Source) -> Line {
+    Line { col, op, source }
+}
+
+fn value(alloc: Global, source: Source) -> Result<Expr, AllocError> {
+    match source {
+        Source::Name(name) => Ok(Expr::Var(var(alloc, (name, 1), None)?)),
+        Source::Number(number) => Ok(Expr::Num(number, at(1))),
+    }
+}
+
+fn stmt(alloc: Global, line: Line) -> Result<Stmt, AllocError> {
+    let mut to = Seq::new(alloc);
+    to.push(Lval::Var(var(alloc, ("r", line.col), None)?))?;
+    let rhs = Rhs::Value(value(alloc, line.source)?);
+    let op = line.op;
     Ok(Stmt {
-        span: at(to.1),
-        kind: StmtKind::Assign {
-            to: left,
-            op,
-            rhs: Rhs::Value(value),
-        },
+        span: at(line.col),
+        kind: StmtKind::Assign { to, op, rhs },
     })
 }
 
-// export fn f(reg u64 x y) -> reg u64 { reg u64 r; BODY return r; }
-fn fun(alloc: Global, body: Seq<Stmt>) -> Result<Fun, AllocError> {
+fn stmts(alloc: Global, lines: &[Line]) -> Result<Seq<Stmt>, AllocError> {
+    let mut body = Seq::new(alloc);
+    for line in lines {
+        body.push(stmt(alloc, *line)?)?;
+    }
+    Ok(body)
+}
+
+fn vars(alloc: Global, name: At) -> Result<Seq<Var>, AllocError> {
+    let mut vars = Seq::new(alloc);
+    vars.push(var(alloc, name, Some(REG_U64))?)?;
+    Ok(vars)
+}
+
+fn params(alloc: Global, names: &[At]) -> Result<Seq<Param>, AllocError> {
     let mut params = Seq::new(alloc);
-    for name in [("x", 21), ("y", 23)] {
-        let var = var(alloc, name, Some(REG_U64))?;
+    for name in names {
+        let var = var(alloc, *name, Some(REG_U64))?;
         params.push(Param { var })?;
     }
-    let mut rets = Seq::new(alloc);
-    rets.push(Ret { decl: REG_U64 })?;
-    let mut vars = Seq::new(alloc);
-    vars.push(var(alloc, ("r", 47), Some(REG_U64))?)?;
-    let mut result = Seq::new(alloc);
-    result.push(var(alloc, ("r", 97), None)?)?;
+    Ok(params)
+}
+
+// export fn f(reg u64 x y) -> reg u64 { reg u64 r; BODY return r; }, but for its result's type
+fn fun(alloc: Global, body: Seq<Stmt>) -> Result<Fun, AllocError> {
     Ok(Fun {
         name: Text::from_string(String::from_str(alloc, "f")?),
         span: at(11),
-        params,
-        rets,
-        vars,
+        params: params(alloc, &[("x", 21), ("y", 23)])?,
+        rets: Seq::new(alloc),
+        vars: vars(alloc, ("r", 47))?,
         body,
-        result,
+        result: vars(alloc, ("r", 97))?,
     })
 }
 
@@ -106,22 +145,13 @@ fn is_small(fun: &Fun) -> bool
     fun.params.len() < 100 && fun.vars.len() < 100
 }
 
-/// An operation in line 1.
-fn op(
-    alloc: Global,
-    col: u32,
-    reads: &[u32],
-    writes: &[u32],
-    fixed: &[Place],
-    needs: &[Need],
-) -> Result<Op, AllocError> {
-    Ok(Op {
-        span: at(col),
-        reads: Seq::from_slice(alloc, reads)?,
-        writes: Seq::from_slice(alloc, writes)?,
-        fixed: Seq::from_slice(alloc, fixed)?,
-        needs: Seq::from_slice(alloc, needs)?,
-    })
+/// The code of the function with these statements.
+fn code_of(alloc: Global, lines: &[Line]) -> Result<Code, Fail> {
+    let fun = fun(alloc, stmts(alloc, lines)?)?;
+    if !is_small(&fun) {
+        return Err(Fail::from("the function has many variables"));
+    }
+    Ok(operations(alloc, &fun)?)
 }
 
 fn need(variable: u32, register: Reg, col: u32) -> Need {
@@ -132,60 +162,70 @@ fn need(variable: u32, register: Reg, col: u32) -> Need {
     }
 }
 
-// r = x; r += y; r -= 3; r = z;
+/// Whether the operation stands in that column and reads, writes and needs these.
+fn is_op(op: &Op, col: u32, reads: &[u32], writes: &[u32], fixed: &[Place], need: &[Need]) -> bool {
+    op.span == at(col)
+        && op.reads.as_slice() == reads
+        && op.writes.as_slice() == writes
+        && op.fixed.as_slice() == fixed
+        && op.needs.as_slice() == need
+}
+
 #[test]
-fn entry_statements_and_return(rt: HostRuntime) -> Result<(), Fail> {
-    let alloc = rt.alloc();
-    let mut body = Seq::new(alloc);
-    body.push(assign(alloc, ("r", 50), None, value(alloc, ("x", 54))?)?)?;
-    let add = Some(BinOp::Add);
-    body.push(assign(alloc, ("r", 60), add, value(alloc, ("y", 65))?)?)?;
-    let sub = Some(BinOp::Sub);
-    body.push(assign(alloc, ("r", 70), sub, Expr::Num(3, at(75)))?)?;
-    body.push(assign(alloc, ("r", 80), None, value(alloc, ("z", 84))?)?)?;
-    let fun = fun(alloc, body)?;
-    assert!(rt; is_small(&fun));
-    let code = operations(alloc, &fun)?;
-    let mut ops = Seq::new(alloc);
-    ops.push(op(alloc, 21, &[], &[0], &[], &[need(0, Reg::Rdi, 21)])?)?;
-    ops.push(op(alloc, 23, &[], &[1], &[], &[need(1, Reg::Rsi, 23)])?)?;
-    ops.push(op(alloc, 50, &[0], &[2], &[], &[])?)?;
-    ops.push(op(alloc, 60, &[2, 1], &[2], &FLAGS, &[])?)?;
-    ops.push(op(alloc, 70, &[2], &[2], &FLAGS, &[])?)?;
-    ops.push(op(alloc, 80, &[3], &[2], &[], &[])?)?;
-    ops.push(op(alloc, 97, &[2], &[], &[], &[need(2, Reg::Rax, 97)])?)?;
-    let kinds = Seq::from_slice(alloc, &[Kind::Word, Kind::Word, Kind::Word])?;
-    let in_use = Seq::from_slice(alloc, &GIVEN)?;
-    assert!(rt; code == Code { ops, kinds, in_use });
+fn entry_and_return(rt: HostRuntime) -> Result<(), Fail> {
+    let code = code_of(rt.alloc(), &[])?;
+    let [x, y, r] = code.ops.as_slice() else {
+        return Err(Fail::from("a function without statements has three operations"));
+    };
+    assert!(rt; is_op(x, 21, &[], &[0], &[], &[need(0, Reg::Rdi, 21)]));
+    assert!(rt; is_op(y, 23, &[], &[1], &[], &[need(1, Reg::Rsi, 23)]));
+    assert!(rt; is_op(r, 97, &[2], &[], &[], &[need(2, Reg::Rax, 97)]));
+    assert!(rt; code.kinds.as_slice() == [Kind::Word, Kind::Word, Kind::Word].as_slice());
+    assert!(rt; code.in_use.as_slice() == GIVEN.as_slice());
     Ok(())
 }
 
-// r = x; r += 5; r -= y; r ^= x; r = 18446744073709551615; r, r = x;
+// r = x; r += y; r -= 3; r = z;
+#[test]
+fn statements(rt: HostRuntime) -> Result<(), Fail> {
+    let lines = [
+        sets(50, None, Source::Name("x")),
+        sets(60, Some(BinOp::Add), Source::Name("y")),
+        sets(70, Some(BinOp::Sub), Source::Number(3)),
+        sets(80, None, Source::Name("z")),
+    ];
+    let code = code_of(rt.alloc(), &lines)?;
+    let [_, _, set, add, sub, unknown, _] = code.ops.as_slice() else {
+        return Err(Fail::from("four statements have seven operations"));
+    };
+    assert!(rt; is_op(set, 50, &[0], &[2], &[], &[]));
+    assert!(rt; is_op(add, 60, &[2, 1], &[2], &FLAGS, &[]));
+    assert!(rt; is_op(sub, 70, &[2], &[2], &FLAGS, &[]));
+    assert!(rt; is_op(unknown, 80, &[3], &[2], &[], &[]));
+    Ok(())
+}
+
+/// The instructions of these statements, with x in RDI, y in RSI and r in RAX.
+fn insns_of(alloc: Global, body: Seq<Stmt>) -> Result<Seq<Insn>, Fail> {
+    let fun = fun(alloc, body)?;
+    if !is_small(&fun) {
+        return Err(Fail::from("the function has many variables"));
+    }
+    Ok(instructions(alloc, &fun, &PLACES)?)
+}
+
+// r = x; r += 5; r -= y; r ^= x; r = 18446744073709551615;
 #[test]
 fn moves_and_operations(rt: HostRuntime) -> Result<(), Fail> {
     let alloc = rt.alloc();
-    let mut body = Seq::new(alloc);
-    body.push(assign(alloc, ("r", 50), None, value(alloc, ("x", 54))?)?)?;
-    let add = Some(BinOp::Add);
-    body.push(assign(alloc, ("r", 57), add, Expr::Num(5, at(62)))?)?;
-    let sub = Some(BinOp::Sub);
-    body.push(assign(alloc, ("r", 65), sub, value(alloc, ("y", 70))?)?)?;
-    let xor = Some(BinOp::Xor);
-    body.push(assign(alloc, ("r", 73), xor, value(alloc, ("x", 78))?)?)?;
-    let most = Expr::Num(18_446_744_073_709_551_615, at(85));
-    body.push(assign(alloc, ("r", 81), None, most)?)?;
-    let mut two = assign(alloc, ("r", 90), None, value(alloc, ("x", 94))?)?;
-    let StmtKind::Assign { to, .. } = &mut two.kind;
-    to.push(Lval::Var(var(alloc, ("r", 92), None)?))?;
-    body.push(two)?;
-    let fun = fun(alloc, body)?;
-    assert!(rt; is_small(&fun));
-    let places = [
-        Place::Reg(Reg::Rdi),
-        Place::Reg(Reg::Rsi),
-        Place::Reg(Reg::Rax),
+    let lines = [
+        sets(50, None, Source::Name("x")),
+        sets(57, Some(BinOp::Add), Source::Number(5)),
+        sets(65, Some(BinOp::Sub), Source::Name("y")),
+        sets(73, Some(BinOp::Xor), Source::Name("x")),
+        sets(81, None, Source::Number(18_446_744_073_709_551_615)),
     ];
-    let insns = instructions(alloc, &fun, &places)?;
+    let insns = insns_of(alloc, stmts(alloc, &lines)?)?;
     let wanted = [
         Insn::Mov(Size::S64, RAX, RDI),
         Insn::Alu(Alu::Add, Size::S64, RAX, Operand::Imm(5)),
@@ -193,6 +233,22 @@ fn moves_and_operations(rt: HostRuntime) -> Result<(), Fail> {
         Insn::Alu(Alu::Xor, Size::S64, RAX, RDI),
         Insn::Mov(Size::S64, RAX, Operand::Imm(-1)),
     ];
-    assert!(rt; insns.as_slice() == &wanted);
+    assert!(rt; insns.as_slice() == wanted.as_slice());
+    Ok(())
+}
+
+// r, r = x;
+#[test]
+fn two_left_sides(rt: HostRuntime) -> Result<(), Fail> {
+    let alloc = rt.alloc();
+    let mut to = Seq::new(alloc);
+    to.push(Lval::Var(var(alloc, ("r", 50), None)?))?;
+    to.push(Lval::Var(var(alloc, ("r", 53), None)?))?;
+    let rhs = Rhs::Value(value(alloc, Source::Name("x"))?);
+    let kind = StmtKind::Assign { to, op: None, rhs };
+    let span = at(50);
+    let mut body = Seq::new(alloc);
+    body.push(Stmt { span, kind })?;
+    assert!(rt; insns_of(alloc, body)?.is_empty());
     Ok(())
 }

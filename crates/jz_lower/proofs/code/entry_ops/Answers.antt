@@ -1,4 +1,4 @@
-use Rattle.std.proofs.Common.{rules, arith, ◌≡◌, ℕ, suc, ◌+◌, ◌<◌, List, [], ◌∷◌, ◌++◌, refl, sym, ap, ◌∙◌, map, drop, length, get_or, drop-cons, append_assoc, add-one}
+use Rattle.std.proofs.Common.{rules, arith, ◌≡◌, ℕ, ◌+◌, ◌<◌, List, [], ◌∷◌, ◌++◌, sym, ap, ◌∙◌, map, drop, length, get_or, append_assoc}
 use Rattle.x64_insn.specs.declared.types.Reg.{Reg}
 use Rattle.jz_ir.specs.declared.code.Op.{Op}
 use Rattle.jz_tree.specs.declared.Param.{Param}

@@ -1,4 +1,4 @@
-use Rattle.std.proofs.Common.{rules, ap, ◌∙◌}
+use Rattle.std.proofs.Common.{◌∙◌}
 use Rattle.jz_lower.proofs.NumberLemmas.{number_none, number_some}
 use Rattle.jz_lower.proofs.numbers.Numbers.number.Goals as goal
 
