@@ -5,6 +5,8 @@ mod answer;
 pub mod correctness;
 mod exec;
 mod halt;
+#[cfg(test)]
+mod language_tests;
 mod lines;
 mod refusal;
 mod run;

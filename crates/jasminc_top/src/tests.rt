@@ -15,25 +15,25 @@ const LISTING: &str =
 
 /// A whole command, and what its sink and its source tell afterwards.
 #[derive(Drop)]
-struct Ran {
-    status: Status,
-    made: Seq<Compiled>,
-    written: Vec<u8>,
-    source_faults: u64,
-    sink_faults: u64,
+pub(crate) struct Ran {
+    pub status: Status,
+    pub made: Seq<Compiled>,
+    pub written: Vec<u8>,
+    pub source_faults: u64,
+    pub sink_faults: u64,
 }
 
 /// The calls of the source and of the sink that fail, and how many bytes the sink takes.
-struct Faults {
+pub(crate) struct Faults {
     source: &'static [u64],
     sink: &'static [u64],
     room: usize,
 }
 
-const NO_FAULTS: Faults = Faults {
+pub(crate) const NO_FAULTS: Faults = Faults {
     source: &[],
     sink: &[],
-    room: 300,
+    room: 1000,
 };
 
 fn written(alloc: Global, sink: &MemSink) -> Result<Vec<u8>, AllocError> {
@@ -41,7 +41,7 @@ fn written(alloc: Global, sink: &MemSink) -> Result<Vec<u8>, AllocError> {
 }
 
 /// A command over one file in memory, add.jazz.
-fn run(alloc: Global, words: &[&str], text: &[u8], faults: &Faults) -> Result<Ran, AllocError> {
+pub(crate) fn run(alloc: Global, words: &[&str], text: &[u8], faults: &Faults) -> Result<Ran, AllocError> {
     let mut list = Vec::new(alloc);
     for word in words {
         list.push(String::from_str(alloc, word)?)?;
@@ -69,7 +69,7 @@ struct Row {
     written: &'static str,
 }
 
-static ROWS: [Row; 24] = [
+static ROWS: [Row; 22] = [
     Row {
         words: &["jasminc", "compile", "add.jazz"],
         text: SUM,
@@ -203,18 +203,6 @@ static ROWS: [Row; 24] = [
         text: b"export fn f(",
         status: Status::Syntax,
         written: "syntax Unexpected 1:13 token 4\n",
-    },
-    Row {
-        words: &["jasminc", "compile", "add.jazz"],
-        text: b"",
-        status: Status::Syntax,
-        written: "syntax Unexpected 1:1 token 0\n",
-    },
-    Row {
-        words: &["jasminc", "compile", "add.jazz"],
-        text: b"export fn add(reg u64 x, reg u64 x) -> reg u64 { reg u64 r; r = x; r += x; return r; }",
-        status: Status::Syntax,
-        written: "syntax Unexpected 1:34 token 10\n",
     },
     Row {
         words: &["jasminc", "compile", "add.jazz"],
