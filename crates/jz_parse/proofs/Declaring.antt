@@ -1,4 +1,4 @@
--- What the functions of a program that is derived declare, and the names in them.
+-- What the functions of a program that is derived declare and do, and the names in them.
 use Rattle.std.proofs.Common.{◌≡◌, ◌≤◌, ◌+◌, ℕ, List, [], ◌∷◌, ◌++◌, length, Some, refl, sym, subst}
 use Rattle.std.specs.Prelude.{All}
 use Rattle.std.proofs.lemmas.List.Elements.{All-nil, All-cons, All-head, All-tail, All-append, All-weaker}
@@ -11,14 +11,15 @@ use Rattle.jz_tree.specs.declared.Fun.{Fun}
 use Rattle.jz_tree.specs.declared.Param.{Param}
 use Rattle.jz_tree.specs.declared.Ret.{Ret}
 use Rattle.jz_tree.specs.declared.Var.{Var}
+use Rattle.jz_tree.specs.declared.Rhs.TheVariants.{Value}
 use Rattle.jz_grammar.specs.Grammar.{Lang}
 use Rattle.jz_parse.specs.declared.function.Body.{Body}
 use Rattle.jz_parse.specs.declared.statement.Item.{Item}
 use Rattle.jz_parse.specs.declared.statement.Item.TheVariants.{Declares, Does}
-use Rattle.jz_parse.specs.Trees.{register_word, declared_of, param_of, used_of, vars_in, body_of, joined, or_empty, fun_of, program_of}
+use Rattle.jz_parse.specs.Trees.{register_word, declared_of, param_of, used_of, assigned, vars_in, stmts_in, body_of, joined, or_empty, fun_of, program_of}
 use Rattle.jz_parse.specs.Grammar as g
 use Rattle.jz_parse.specs.Deriving.{DerivesProgram}
-use Rattle.jz_parse.specs.Derived.{DeclaresWords, HasNames}
+use Rattle.jz_parse.specs.Derived.{AssignsToOne, DeclaresWords, HasNames}
 use Rattle.jz_parse.proofs.Phrases.{Named, Gives, all_named, gives_then, gives_any, gives_seen, gives_or, gives_each, gives_maybe, gives_name}
 
 joined_all : {A : Type 0} (P : A → Type 0) (xss : List (List A)) → All (All P) xss → All P (joined xss)
@@ -27,16 +28,16 @@ joined_all P (xs ∷ xss) h = All-append P xs (joined xss) (All-head (All P) xs 
 
 module _ (N : List ℕ → Type 0) where
   -- a variable that is declared as a word in a register, and whose name has the property
-  abbrev IsWord : Var → Type 0
+  abbrev pub IsWord : Var → Type 0
   IsWord v = (v.decl ≡ Some register_word) × N v.name
 
-  abbrev IsWordParam : Param → Type 0
+  abbrev pub IsWordParam : Param → Type 0
   IsWordParam p = IsWord p.var
 
-  abbrev IsCalled : Var → Type 0
+  abbrev pub IsCalled : Var → Type 0
   IsCalled v = N v.name
 
-  abbrev IsReturned : Ret → Type 0
+  abbrev pub IsReturned : Ret → Type 0
   IsReturned t = t.decl ≡ register_word
 
   -- ---- declarations
@@ -89,15 +90,23 @@ module _ (N : List ℕ → Type 0) where
   -- ---- bodies
   abbrev DeclaresItem : Item → Type 0
   DeclaresItem (Declares vs) = All IsWord vs
-  DeclaresItem (Does s) = Unit {0}
+  DeclaresItem (Does s) = AssignsToOne s
+
+  stmt : Gives N (g.stmt 0) AssignsToOne
+  stmt = gives_seen N AssignsToOne (λ p. assigned p.0 p.1.0 p.1.1.0) (λ p h. (p.0, p.1.0, Value p.1.1.0, refl)) (gives_any N _)
 
   item : Gives N (g.item 0) DeclaresItem
-  item = gives_or N (gives_seen N DeclaresItem Declares (λ vs h. h) decl) (gives_seen N DeclaresItem Does (λ s h. tt) (gives_any N _))
+  item = gives_or N (gives_seen N DeclaresItem Declares (λ vs h. h) decl) (gives_seen N DeclaresItem Does (λ s h. h) stmt)
 
   items_declare : (is : List Item) → All DeclaresItem is → All IsWord (vars_in is)
   items_declare [] h = All-nil IsWord
   items_declare (Declares vs ∷ is) h = All-append IsWord vs (vars_in is) (All-head DeclaresItem (Declares vs) is h) (items_declare is (All-tail DeclaresItem (Declares vs) is h))
   items_declare (Does s ∷ is) h = items_declare is (All-tail DeclaresItem (Does s) is h)
+
+  items_assign : (is : List Item) → All DeclaresItem is → All AssignsToOne (stmts_in is)
+  items_assign [] h = All-nil AssignsToOne
+  items_assign (Declares vs ∷ is) h = items_assign is (All-tail DeclaresItem (Declares vs) is h)
+  items_assign (Does s ∷ is) h = All-cons AssignsToOne s (stmts_in is) (All-head DeclaresItem (Does s) is h) (items_assign is (All-tail DeclaresItem (Does s) is h))
 
   variables : Gives N (g.variables 0) (All IsCalled)
   variables = gives_seen N (All IsCalled) (λ p. p.0 ∷ p.1) (λ p h. All-cons IsCalled p.0 p.1 h.0 h.1) (gives_then N used (gives_each N IsCalled (comma IsCalled used)))
@@ -111,26 +120,28 @@ module _ (N : List ℕ → Type 0) where
 
   record DeclaresBody (b : Body) : Type 0 where
     vars : All IsWord b.vars
+    stmts : All AssignsToOne b.stmts
     result : All IsCalled b.result
 
   body : Gives N (g.body 0) DeclaresBody
-  body = gives_seen N DeclaresBody (λ p. body_of p.1.0 p.1.1.0) (λ p h. record { vars = items_declare p.1.0 h.1.0; result = h.1.1.0 })
+  body = gives_seen N DeclaresBody (λ p. body_of p.1.0 p.1.1.0) (λ p h. record { vars = items_declare p.1.0 h.1.0; stmts = items_assign p.1.0 h.1.0; result = h.1.1.0 })
       (gives_then N (gives_any N _) (gives_then N (gives_each N DeclaresItem item) (gives_then N ending (gives_any N _))))
 
   -- ---- functions
-  record DeclaresFun (f : Fun) : Type 0 where
-    name : N f.name
-    params : All IsWordParam f.params
-    vars : All IsWord f.vars
-    rets : All IsReturned f.rets
-    result : All IsCalled f.result
+  pub record DeclaresFun (f : Fun) : Type 0 where
+    pub name : N f.name
+    pub params : All IsWordParam f.params
+    pub vars : All IsWord f.vars
+    pub rets : All IsReturned f.rets
+    pub body : All AssignsToOne f.body
+    pub result : All IsCalled f.result
 
   function : Gives N (g.function 0) DeclaresFun
   function = gives_seen N DeclaresFun (λ p. fun_of p.1.1.0 p.1.1.1.0 p.1.1.1.1.0 p.1.1.1.1.1)
-      (λ p h. record { name = h.1.1.0; params = h.1.1.1.0; rets = h.1.1.1.1.0; vars = h.1.1.1.1.1.vars; result = h.1.1.1.1.1.result })
+      (λ p h. record { name = h.1.1.0; params = h.1.1.1.0; rets = h.1.1.1.1.0; vars = h.1.1.1.1.1.vars; body = h.1.1.1.1.1.stmts; result = h.1.1.1.1.1.result })
       (gives_then N (gives_any N _) (gives_then N (gives_any N _) (gives_then N (gives_name N) (gives_then N params (gives_then N results body)))))
 
-  abbrev DeclaresFew : Fun → Type 0
+  abbrev pub DeclaresFew : Fun → Type 0
   DeclaresFew f = DeclaresFun f × (length f.params + length f.vars ≤ 9)
 
   small_function : Gives N (g.small_function 0) DeclaresFew
@@ -145,15 +156,19 @@ module _ (N : List ℕ → Type 0) where
   of_tokens : (tokens : List Token) (p : Program) → DerivesProgram tokens p → All (Named N) tokens → DeclaresAll p
   of_tokens tokens p h n = program h.0 p (all_named N h.0 (subst (All (Named N)) (sym h.2) n)) h.1
 
--- ---- the two laws
-abbrev Any : List ℕ → Type 0
+-- ---- the laws
+abbrev pub Any : List ℕ → Type 0
 Any s = Unit {0}
 
-abbrev IsFew : Fun → Type 0
+abbrev pub IsFew : Fun → Type 0
 IsFew = DeclaresFew Any
 
+-- each function of a program that is derived
+pub few : (tokens : List Token) (program : Program) → DerivesProgram tokens program → All IsFew program.funs
+few tokens p h = of_tokens Any tokens p h (λ k d lt s e. tt)
+
 pub words_declared : (tokens : List Token) (program : Program) → DerivesProgram tokens program → All DeclaresWords program.funs
-words_declared tokens p h = All-weaker IsFew DeclaresWords one p.funs (of_tokens Any tokens p h (λ k d lt s e. tt))
+words_declared tokens p h = All-weaker IsFew DeclaresWords one p.funs (few tokens p h)
   where
     one : (f : Fun) → IsFew f → DeclaresWords f
     one f d = record {
