@@ -27,6 +27,7 @@ use Rattle.jz_correct.specs.Correctness.{CarriesOver, IsCorrect, AreCorrect}
 use Rattle.jz_pipeline.specs.Placed.{IsPlaceable, IsCompiled, AreCompiled}
 use Rattle.jz_pipeline.proofs.Linked.{compiled_correct, one_compiled}
 use Rattle.jz_pipeline.proofs.Placeable.{placeable}
+use Rattle.jz_pipeline.proofs.Texts.{one_left_side, resolved_words}
 use Rattle.jasminc_top.specs.Making.{TypesAs, IsWritten, AreMade, Makes}
 use Rattle.jasminc_top.specs.Answers.{function_named, compiled_named}
 use Rattle.jasminc_top.proofs.Causes.{types_one}
@@ -36,21 +37,12 @@ all_of_map g P [] h = All-nil (λ x. P (g x))
 all_of_map g P (x ∷ xs) h = All-cons (λ y. P (g y)) x xs (All-head P (g x) (map g xs) h) (all_of_map g P xs (All-tail P (g x) (map g xs) h))
 
 -- ---- what the grammar gives
-lefts : (ss : List Stmt) → All AssignsToOne ss → HaveOneLeftSide ss
-lefts [] h = tt
-lefts (s ∷ ss) h =
-    let one = All-head AssignsToOne s ss h in
-    (subst HasOneLeftSide (sym one.3) tt, lefts ss (All-tail AssignsToOne s ss h))
-
-words_kept : (f : Fun) → DeclaresWords f → DeclaresWords (resolved_fun f)
-words_kept f h = record { params = h.params; vars = h.vars; rets = h.rets; few = h.few }
-
 written_resolved : (fs : List Fun) → All DeclaresWords fs → All (λ f. All AssignsToOne f.body) fs → All IsWritten (map resolved_fun fs)
 written_resolved [] w a = All-nil IsWritten
 written_resolved (f ∷ fs) w a =
     let words = All-head DeclaresWords f fs w in
     let one = All-head (λ (g : Fun). All AssignsToOne g.body) f fs a in
-    All-cons IsWritten (resolved_fun f) (map resolved_fun fs) (words_kept f words, declaring.keeps_one f (lefts f.body one))
+    All-cons IsWritten (resolved_fun f) (map resolved_fun fs) (resolved_words f words, declaring.keeps_one f (one_left_side f.body one))
     (written_resolved fs (All-tail DeclaresWords f fs w) (All-tail (λ (g : Fun). All AssignsToOne g.body) f fs a))
 
 derived_written : (tokens : List Token) (p : Program) → DerivesProgram tokens p → All IsWritten (resolved p).funs

@@ -21,14 +21,14 @@ use Rattle.jz_safety.proofs.Declaring.{keeps_one}
 use Rattle.jz_pipeline.specs.Placed.{IsPlaceable}
 use Rattle.jz_pipeline.proofs.Placeable.{placeable}
 
-one_left_side : (ss : List Stmt) → All AssignsToOne ss → HaveOneLeftSide ss
+pub one_left_side : (ss : List Stmt) → All AssignsToOne ss → HaveOneLeftSide ss
 one_left_side [] h = tt
 one_left_side (s ∷ ss) h =
     let here = All-head AssignsToOne s ss h in
     (subst HasOneLeftSide (sym here.3) tt, one_left_side ss (All-tail AssignsToOne s ss h))
 
 -- what a function has it keeps where its variables get their declarations
-resolved_words : (f : Fun) → DeclaresWords f → DeclaresWords (resolved_fun f)
+pub resolved_words : (f : Fun) → DeclaresWords f → DeclaresWords (resolved_fun f)
 resolved_words f h = record { params = h.params; vars = h.vars; rets = h.rets; few = h.few }
 
 pub read_placeable : (tokens : List Token) (read typed : Program) → DerivesProgram tokens read → typed ≡ resolved read
