@@ -50,9 +50,9 @@ pub fn compile_all(alloc: Global, safes: &Seq<Safe>) -> Result<Seq<Compiled>, Fa
     ensures compiled { IfOk result (AreCompiled (map (λ e. e.fun) safes.now)) }
     ensures refused { IfErr result (λ failure. IfRefused failure (IsFirstRefusal IsUnplaced (map (λ e. e.fun) safes.now))) }
 {
-    let mut all = Seq::new(alloc);
+    let mut compiled = Seq::new(alloc);
     for safe in safes.as_slice() {
-        all.push(compile_fun(alloc, safe)?)?;
+        compiled.push(compile_fun(alloc, safe)?)?;
     }
-    Ok(all)
+    Ok(compiled)
 }

@@ -13,7 +13,7 @@ returns-in_err-compile_fun-clause-refused c =
     let failure = c.in_err-compile_fun.field-0.0 in
     passed_on c.from_residual.result failure (λ e. IfRefused e (IsFirstRefusal IsUnplaced (map (λ x. x.fun) c.args.safes.now))) c.from_residual.ensures.1
     (subst (λ (all : List Expanded). IfRefused failure (IsFirstRefusal IsUnplaced (map (λ x. x.fun) all))) c.as_slice-safe-items.ensures
-    (unplaced_here c.as_slice-safe-items.result.now c.loop-safe.safe-index c.safe-item.result c.loop-safe.all failure c.loop-safe-test.true c.safe-item.is
+    (unplaced_here c.as_slice-safe-items.result.now c.loop-safe.safe-index c.safe-item.result c.loop-safe.compiled failure c.loop-safe-test.true c.safe-item.is
     c.loop-safe.invariant c.in_err-compile_fun.ensures.refused))
 
 pub loop-safe-preserved : goal.loop-safe-preserved
@@ -21,4 +21,4 @@ loop-safe-preserved c =
     let safes = c.as_slice-safe-items.result.now in
     let i = c.loop-safe.safe-index in
     subst (λ (all : List Compiled). AreCompiled (map (λ x. x.fun) (take (i + 1) safes)) all) (sym c.in_ok-push.ensures.ok)
-    (one_more_placed safes i c.safe-item.result c.loop-safe.all c.in_ok-compile_fun.field-0 c.loop-safe-test.true c.safe-item.is c.loop-safe.invariant c.in_ok-compile_fun.ensures.compiled)
+    (one_more_placed safes i c.safe-item.result c.loop-safe.compiled c.in_ok-compile_fun.field-0 c.loop-safe-test.true c.safe-item.is c.loop-safe.invariant c.in_ok-compile_fun.ensures.compiled)
