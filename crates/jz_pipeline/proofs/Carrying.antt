@@ -1,39 +1,27 @@
 -- The runs of a function carry over to its bytes.
-use Rattle.std.proofs.Common.{◌≡◌, ◌≢◌, ◌⊎◌, inl, inr, ⊎_elim, ℕ, zero, suc, ◌+◌, ◌*◌, ◌%◌, ◌^◌, ◌<◌, ◌≤◌, Bool, true, false, List, [], ◌∷◌, ◌++◌, length, refl, sym, ap, ◌∙◌, subst, arith, nat_eq, length-append}
-use Rattle.std.specs.Prelude.{Option, Some, None, map, if◌then◌else◌, slice_set, slice_index, IsSome, Contains, pos}
-use Rattle.std.specs.Cmp.Lexicographic.{pointwise, same_text, other_text}
-use Rattle.std.specs.FinMap as map_of
-use Rattle.std.proofs.lemmas.List.{get_or-set_other, get_or-set_same, length-set}
+use Rattle.std.proofs.Common.{◌≡◌, inl, inr, ℕ, ◌+◌, ◌%◌, ◌^◌, ◌<◌, Bool, true, false, List, [], ◌∷◌, ◌++◌, refl, sym, ap, ◌∙◌, subst, arith, nat_eq}
+use Rattle.std.specs.Prelude.{Option, Some, map, if◌then◌else◌}
+use Rattle.std.specs.Cmp.Lexicographic.{pointwise, same_text}
 use Rattle.jz_words.specs.declared.size.Size.TheVariants.{S64}
-use Rattle.jz_words.specs.Memory.{Memory, loaded}
 use Rattle.x64_insn.specs.declared.types.Reg.{Reg}
-use Rattle.x64_insn.specs.declared.types.Reg.TheVariants as reg
 use Rattle.x64_insn.specs.declared.types.State.{State}
-use Rattle.x64_insn.specs.declared.types.Insn.{Insn}
-use Rattle.x64_insn.specs.Rows.{number_of, reg_value, reg_word}
-use Rattle.jz_tree.specs.declared.Program.{Program}
-use Rattle.jz_tree.specs.declared.Fun.{Fun}
+use Rattle.x64_insn.specs.Rows.{reg_word}
 use Rattle.jz_tree.specs.declared.Param.{Param}
-use Rattle.jz_tree.specs.declared.Decl.{Decl}
 use Rattle.jz_tree.specs.declared.Var.{Var}
 use Rattle.jz_tree.specs.declared.Stmt.{Stmt}
-use Rattle.jz_leak.specs.declared.event.Event.{Event}
 use Rattle.jz_leak.specs.declared.event.Event.TheVariants as event
 use Rattle.jz_leak.specs.Applying.{apply_of, body_events, is_cut, Fits, CasesFit}
-use Rattle.jz_meaning.specs.RunRules.{stuck, went}
-use Rattle.jz_meaning.specs.SourceStates as source
-use Rattle.jz_meaning.specs.SourceStates.{Value, word, integer, key_of, Store, empty_store, put}
+use Rattle.jz_meaning.specs.RunRules.{went}
+use Rattle.jz_meaning.specs.SourceStates.{Value, word, key_of, Store, put}
 use Rattle.jz_meaning.specs.SourceValues.{Got, and_then, variable_value}
-use Rattle.jz_meaning.specs.SourceRuns.{argument, value_of_type, with_arguments, begun, word_of, result_words, FunOutcome, IsRun}
-use Rattle.jz_meaning.specs.StraightRuns.{run_statements, plain_leak, words_returned, straight_outcome}
-use Rattle.jz_listing.specs.declared.compiled.Arg.{Arg}
-use Rattle.x64_machine.specs.Steps.{Config, steps_of}
-use Rattle.jz_correct.specs.Starts.{IsIn, IsValid, Stand, IsStart, MeetsPreconditions}
-use Rattle.jz_correct.proofs.PlainCode.{word_in, regs_after}
+use Rattle.jz_meaning.specs.SourceRuns.{argument, value_of_type, with_arguments, word_of, result_words}
+use Rattle.jz_meaning.specs.StraightRuns.{plain_leak}
+use Rattle.jz_correct.specs.Starts.{Stand}
+use Rattle.jz_correct.proofs.PlainCode.{word_in}
 use Rattle.jz_lower.specs.Living.{IsNamed}
 use Rattle.jz_lower.specs.Straight.{IsWord, AreWords}
-use Rattle.jz_lower.specs.Placing.{is_given, variable_of, StandIn}
-use Rattle.jz_lower.proofs.Stores.{named, put_at, word_other}
+use Rattle.jz_lower.specs.Placing.{variable_of, StandIn}
+use Rattle.jz_lower.proofs.Stores.{named, put_at}
 use Rattle.jz_lower.proofs.Simulation.{then_went, defined_back, Holds}
 use Rattle.jz_pipeline.specs.Compiling.{lines_of, silent_case, straight_transformer}
 

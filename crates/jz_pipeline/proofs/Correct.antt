@@ -1,6 +1,6 @@
 -- What a function becomes is correct for it.
-use Rattle.std.proofs.Common.{◌≡◌, ◌≢◌, ℕ, zero, suc, ◌+◌, ◌*◌, ◌%◌, ◌^◌, ◌<◌, ◌≤◌, Bool, true, false, List, [], ◌∷◌, ◌++◌, length, refl, sym, ap, ◌∙◌, subst, arith, length-append}
-use Rattle.std.specs.Prelude.{Option, Some, None, map, slice_set, slice_index, slice_index_or, Contains}
+use Rattle.std.proofs.Common.{◌≡◌, ◌≢◌, ℕ, zero, suc, ◌+◌, ◌*◌, ◌%◌, ◌^◌, ◌<◌, ◌≤◌, true, false, List, [], ◌∷◌, ◌++◌, length, refl, sym, ap, ◌∙◌, subst, arith, length-append}
+use Rattle.std.specs.Prelude.{Option, Some, None, map, slice_index, slice_index_or, Contains}
 use Rattle.std.specs.FinMap as map_of
 use Rattle.std.proofs.lemmas.List.{get_or-set_other, get_or-set_same}
 use Rattle.jz_words.specs.declared.size.Size.TheVariants.{S64}
@@ -14,34 +14,32 @@ use Rattle.jz_tree.specs.declared.Program.{Program}
 use Rattle.jz_tree.specs.declared.Fun.{Fun}
 use Rattle.jz_tree.specs.declared.Stmt.{Stmt}
 use Rattle.jz_leak.specs.declared.event.Event.TheVariants as event
-use Rattle.jz_leak.specs.declared.transformer.Case.{Case}
 use Rattle.jz_leak.specs.Applying.{apply_of}
 use Rattle.jz_ct.proofs.SomeLabels.{constant_time}
-use Rattle.jz_meaning.specs.RunRules.{stuck, went, End, Stuck}
+use Rattle.jz_meaning.specs.RunRules.{stuck, went}
 use Rattle.jz_meaning.specs.SourceStates.{State, Value, empty_store}
 use Rattle.jz_meaning.specs.SourceValues.{Got}
 use Rattle.jz_meaning.specs.SourceRuns.{begun, result_words, returned_words, FunOutcome, IsRun}
-use Rattle.jz_meaning.specs.StraightRuns.{run_statements, plain_leak, words_returned, straight_outcome}
+use Rattle.jz_meaning.specs.StraightRuns.{run_statements, plain_leak, words_returned}
 use Rattle.jz_meaning.proofs.StraightLaws.{fun_straight}
 use Rattle.jz_safety.specs.Alarms.{HasNoAlarm}
 use Rattle.jz_safety.specs.Resolved.{IsResolved}
 use Rattle.jz_safety.proofs.Telling.{safe_not_stuck}
-use Rattle.x64_machine.specs.Steps.{Config, Ran, steps_of}
-use Rattle.jz_correct.specs.Assembled.{assembled}
+use Rattle.x64_machine.specs.Steps.{Config, steps_of}
 use Rattle.jz_correct.specs.Ends.{EndsAfter}
-use Rattle.jz_correct.specs.Frames.{preserved_registers, layout_end, saved_slots}
-use Rattle.jz_correct.specs.Starts.{IsIn, IsValid, IsStart, Stand, MeetsPreconditions}
-use Rattle.jz_correct.specs.Agreement.{Agrees, NeverFaults, EndsWith}
+use Rattle.jz_correct.specs.Frames.{preserved_registers}
+use Rattle.jz_correct.specs.Starts.{IsStart}
+use Rattle.jz_correct.specs.Agreement.{Agrees, NeverFaults}
 use Rattle.jz_correct.specs.Correctness.{EndsSo, Matches, CarriesOver, CasesStayIn, IsCorrect}
 use Rattle.jz_correct.specs.Registers.{argument_registers, result_registers}
 use Rattle.jz_correct.proofs.PlainCode.{word_in, regs_after}
 use Rattle.jz_correct.proofs.PlainEnds.{code_of, code_is, AtFirst, PlainEnds, plain_ends}
 use Rattle.jz_correct.proofs.SlotLoads.{loads}
 use Rattle.jz_lower.specs.Lowering.{insns_of}
-use Rattle.jz_lower.specs.Living.{IsNamed, LivesBefore}
+use Rattle.jz_lower.specs.Living.{IsNamed}
 use Rattle.jz_lower.specs.Straight.{IsStraight}
 use Rattle.jz_lower.specs.Placing.{is_given, IsPlacing}
-use Rattle.jz_lower.proofs.Stores.{same_register, word_other}
+use Rattle.jz_lower.proofs.Stores.{word_other}
 use Rattle.jz_lower.proofs.Simulation.{then_went, Stepped, statements_step}
 use Rattle.jz_pipeline.specs.Compiling.{compiled_of, silent_case}
 use Rattle.jz_pipeline.proofs.Lines.{argument_lines, result_lines, all_plain, spelled, none_saved, no_frame, statements_keep}

@@ -1,7 +1,7 @@
 -- The lines, the frame and the code of a compiled function.
-use Rattle.std.proofs.Common.{◌≡◌, ◌≢◌, ◌⊎◌, ℕ, zero, suc, ◌+◌, ◌-◌, ◌*◌, ◌/◌, ◌^◌, ◌<◌, ◌≤◌, Bool, true, false, List, [], ◌∷◌, ◌++◌, length, refl, sym, ap, ◌∙◌, subst, arith, append_assoc, ℤ, pos, negsuc, ◌-ℤ◌, ◌<ℤ◌, ◌≤ℤ◌}
-use Rattle.std.specs.Prelude.{Option, Some, None, map, nat_lt, if◌then◌else◌, ◌||◌, ◌==◌, slice_set, slice_index}
-use Rattle.std.specs.List.{filter, list_any}
+use Rattle.std.proofs.Common.{◌≡◌, ◌≢◌, ℕ, ◌^◌, ◌<◌, ◌≤◌, Bool, true, false, List, [], ◌∷◌, ◌++◌, length, refl, sym, ap, ◌∙◌, subst, arith, append_assoc, pos, ◌-ℤ◌, ◌<ℤ◌, ◌≤ℤ◌}
+use Rattle.std.specs.Prelude.{Option, Some, None, map, nat_lt, if◌then◌else◌, slice_index}
+use Rattle.std.specs.List.{list_any}
 use Rattle.std.proofs.lemmas.Bool.Decides.{nat_tests}
 use Rattle.std.proofs.lemmas.Int.{ints}
 use Rattle.std.proofs.lemmas.List.{get_or-set_other}
@@ -10,8 +10,6 @@ use Rattle.jz_words.specs.Sizes.{signed}
 use Rattle.jz_words.specs.Words.{residue}
 use Rattle.x64_insn.specs.declared.types.Reg.{Reg}
 use Rattle.x64_insn.specs.declared.types.Reg.TheVariants as reg
-use Rattle.x64_insn.specs.declared.types.Operand.{Operand}
-use Rattle.x64_insn.specs.declared.types.Operand.TheVariants as operand
 use Rattle.x64_insn.specs.declared.types.Insn.{Insn}
 use Rattle.x64_insn.specs.declared.types.Insn.TheVariants as insn
 use Rattle.x64_insn.specs.Rows.{number_of}
@@ -29,7 +27,6 @@ use Rattle.jz_tree.specs.declared.Expr.{Expr}
 use Rattle.jz_tree.specs.declared.Expr.TheVariants as expr
 use Rattle.jz_tree.specs.declared.BinOp.{BinOp}
 use Rattle.jz_tree.specs.declared.BinOp.TheVariants as op
-use Rattle.jz_tree.specs.declared.Lval.{Lval}
 use Rattle.jz_tree.specs.declared.Lval.TheVariants as lval
 use Rattle.jz_tree.specs.declared.Rhs.{Rhs}
 use Rattle.jz_tree.specs.declared.Rhs.TheVariants as rhs
@@ -37,11 +34,11 @@ use Rattle.jz_tree.specs.declared.Stmt.{Stmt}
 use Rattle.jz_tree.specs.declared.StmtKind.{StmtKind}
 use Rattle.jz_tree.specs.declared.StmtKind.TheVariants as kind
 use Rattle.jz_correct.specs.Assembled.{assembled}
-use Rattle.jz_correct.specs.Frames.{stacked_by, stacked_if, stacked_among, preserved_registers, is_reg, operand_names, names, saved_of, frame_of, frame_size, frame_end, end_from}
+use Rattle.jz_correct.specs.Frames.{stacked_by, stacked_if, stacked_among, is_reg, operand_names, names, saved_of, frame_of, frame_size, frame_end, end_from}
 use Rattle.jz_correct.specs.Correctness.{IsLineOf, AreArgumentLines, AreResultLines, AreSpelled}
 use Rattle.jz_correct.proofs.PlainCode.{Plain, alu_reg, alu_imm, mov_reg, mov_imm, AllPlain, plain_spelled, regs_of, regs_after}
 use Rattle.jz_lower.specs.Lowering.{alu_of, operand_of, assignment_insn, kind_insns, insns_of}
-use Rattle.jz_lower.specs.Straight.{IsWord, AreWords, GiveWords, SetsWord, SetWords, FitsImmediate, KindFits, FitImmediates}
+use Rattle.jz_lower.specs.Straight.{IsWord, AreWords, GiveWords, FitsImmediate, KindFits, FitImmediates}
 use Rattle.jz_lower.specs.Placing.{is_given, variable_of, StandIn}
 use Rattle.jz_lower.proofs.WordLaws.{residue_small}
 use Rattle.jz_lower.proofs.Stores.{same_register}

@@ -1,13 +1,12 @@
 -- The functions of a text that is read, typed and within its limits are placeable.
-use Rattle.std.proofs.Common.{◌≡◌, List, [], ◌∷◌, length, refl, sym, ap, subst}
+use Rattle.std.proofs.Common.{◌≡◌, List, [], ◌∷◌, refl, sym, ap, subst}
 use Rattle.std.specs.Prelude.{map, slice_index_or}
-use Rattle.std.specs.List.{All, Contains}
+use Rattle.std.specs.List.{All}
 use Rattle.std.proofs.lemmas.List.Elements.{All-nil, All-cons, All-head, All-tail, All-map, All-weaker, All-contains_itself}
 use Rattle.jz_lex.specs.declared.token.Token.{Token}
 use Rattle.jz_tree.specs.declared.Program.{Program}
 use Rattle.jz_tree.specs.declared.Fun.{Fun}
 use Rattle.jz_tree.specs.declared.Stmt.{Stmt}
-use Rattle.jz_tree.specs.declared.StmtKind.{StmtKind}
 use Rattle.jz_parse.specs.Deriving.{DerivesProgram}
 use Rattle.jz_parse.specs.Derived.{AssignsToOne, DeclaresWords}
 use Rattle.jz_parse.proofs.Assigning.{statements_one}

@@ -1,15 +1,11 @@
 -- What a function becomes, by the registers of its variables.
-use Rattle.std.specs.Prelude.{◌≡◌, ℕ, ◌+◌, Bool, true, false, List, [], ◌∷◌, ◌++◌, length, map, pos, Option, Some}
+use Rattle.std.specs.Prelude.{ℕ, List, [], ◌∷◌, ◌++◌, length, map, pos}
 use Rattle.jz_words.specs.declared.size.Size.TheVariants.{S64}
-use Rattle.jz_words.specs.Sizes.{signed}
-use Rattle.jz_words.specs.Words.{residue}
 use Rattle.jz_io.specs.declared.verdict.Ct.TheVariants.{Yes}
 use Rattle.x64_insn.specs.declared.types.Reg.{Reg}
-use Rattle.x64_insn.specs.declared.types.Reg.TheVariants as reg
 use Rattle.x64_insn.specs.declared.types.Insn.{Insn}
 use Rattle.x64_insn.specs.declared.types.Insn.TheVariants as insn
 use Rattle.jz_tree.specs.declared.Fun.{Fun}
-use Rattle.jz_tree.specs.declared.Param.{Param}
 use Rattle.jz_tree.specs.declared.Var.{Var}
 use Rattle.jz_tree.specs.declared.Stmt.{Stmt}
 use Rattle.jz_leak.specs.declared.transformer.Form.TheVariants.{Frame}
