@@ -10,7 +10,9 @@ pub mod TypedTexts
 pub mod ItemsFit
 pub mod ExecStart
 pub mod CodeLengths
+pub mod ByteCodes
 pub mod StartLaws
+pub mod ListableTexts
 pub mod FrameLaws
 pub mod Rows
 pub mod Headline

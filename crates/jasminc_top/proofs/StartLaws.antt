@@ -192,7 +192,7 @@ module _ (register : List ℕ → Reg) (f : Fun) (items : List ℕ) (fit : Items
   }
 
 -- ---- the end
-insns_few : (register : List ℕ → Reg) (ss : List Stmt) → length (insns_of register ss) ≤ length ss
+pub insns_few : (register : List ℕ → Reg) (ss : List Stmt) → length (insns_of register ss) ≤ length ss
 insns_few register [] = omega arith
 insns_few register (s ∷ ss) =
     let e = length-append (kind_insns register s.kind) (insns_of register ss) in

@@ -4,6 +4,8 @@ ghost use Rattle.std.specs.Prelude.{◌≡◌, ℕ, List, Some};
 ghost use Rattle.jz_tree.specs.declared.Program.{Program};
 ghost use Rattle.jz_tree.specs.declared.Fun.{Fun};
 ghost use Rattle.jz_listing.specs.declared.compiled.Compiled.{Compiled};
+ghost use Rattle.jz_listing.specs.Listable.{AreListable};
+ghost use Rattle.jz_listing.specs.Listing.{listing_text};
 ghost use Rattle.jz_correct.specs.Correctness.{AreCorrect, CarriesOver};
 ghost use Rattle.jasminc_top.specs.Answers.{compiled_named, function_named};
 ghost use Rattle.jasminc_top.specs.Making.{Makes};
@@ -24,4 +26,10 @@ pub fn runs_carry_over()
 /// A text makes one list of functions alone.
 pub fn one_making()
     ensures { (text : List ℕ) (p q : Program) (made other : List Compiled) → Makes text p made → Makes text q other → made ≡ other }
+{}
+
+/// What is made of a text can be listed, and texts with one listing make the same.
+pub fn listings_tell_what_is_made()
+    ensures listable { (text : List ℕ) (p : Program) (made : List Compiled) → Makes text p made → AreListable made }
+    ensures apart { (text other : List ℕ) (p q : Program) (made more : List Compiled) → Makes text p made → Makes other q more → listing_text made ≡ listing_text more → made ≡ more }
 {}

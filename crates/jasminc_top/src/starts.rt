@@ -31,5 +31,5 @@ pub fn frame_is_least()
 pub fn exec_is_a_start()
     ensures { (register : List ℕ → Reg) (f : Fun) (items : List ℕ) → ItemsFit items → length items ≡ length f.params → length f.params ≤ 6 → length f.body ≤ 65536
         → ((m : Memory) → IsStartMemory m → IsStart (compiled_of register f) items map.empty return_slot code_base (exec_start items m))
-            × MeetsPreconditions (compiled_of register f) items map.empty }
+        × MeetsPreconditions (compiled_of register f) items map.empty }
 {}

@@ -1,0 +1,120 @@
+-- What is made of a text can be listed, and its listing tells it.
+use Rattle.std.proofs.Common.{◌≡◌, ℕ, ◌+◌, ◌<◌, ◌≤◌, ◌^◌, Bool, true, List, [], ◌∷◌, ◌++◌, length, refl, sym, ap, ◌∙◌, subst, arith, lit<, length-append}
+use Rattle.std.specs.Prelude.{All, map, ◌&&◌}
+use Rattle.std.proofs.lemmas.List.Elements.{All-nil, All-cons, All-head, All-tail, All-map, All-weaker}
+use Rattle.x64_insn.specs.declared.types.Reg.{Reg}
+use Rattle.x64_insn.specs.declared.types.Insn.TheVariants as insn
+use Rattle.jz_lex.specs.declared.token.Token.{Token}
+use Rattle.jz_lex.specs.LexingWords.{in_word}
+use Rattle.jz_lex.specs.Identifiers.{IsIdentifier}
+use Rattle.jz_lex.proofs.Identifiers.{identifier_bytes, byte_code}
+use Rattle.jz_tree.specs.declared.Program.{Program}
+use Rattle.jz_tree.specs.declared.Fun.{Fun}
+use Rattle.jz_tree.specs.declared.Param.{Param}
+use Rattle.jz_tree.specs.declared.Var.{Var}
+use Rattle.jz_tree.specs.declared.Stmt.{Stmt}
+use Rattle.jz_tree.specs.Variables.{variables_of}
+use Rattle.jz_parse.specs.Reading.{Reads}
+use Rattle.jz_parse.specs.Derived.{HasNames}
+use Rattle.jz_parse.proofs.Declaring.{names_identified}
+use Rattle.jz_types.specs.Resolving.{resolved, resolved_fun, resolved_var, declaration_in}
+use Rattle.jz_pass.specs.Limits.{IsWithinLimits}
+use Rattle.jz_safety.specs.Alarms.{HasNoAlarm}
+use Rattle.jz_leak.specs.declared.transformer.Case.TheVariants as case
+use Rattle.jz_leak.specs.declared.transformer.Case.TheOpen.{Case-F, Tr-F}
+use Rattle.jz_leak.specs.declared.transformer.Case.TheFolds.{fold-roll-Case, fold-roll-Tr}
+use Rattle.jz_leak.specs.declared.transformer.Tr.{Tr}
+use Rattle.jz_listing.specs.declared.compiled.Compiled.{Compiled}
+use Rattle.jz_listing.specs.declared.compiled.Arg.{Arg}
+use Rattle.jz_listing.specs.Listing.{listing_text}
+use Rattle.jz_listing.specs.Listable.{IsName, Each, IsListableArg, IsListable, AreListable, case_fits, tr_fits, case_layer_fits, tr_layer_fits, all_true, transformer_fits, outs_fit}
+use Rattle.jz_listing.proofs.LinesApart.{listings_apart}
+use Rattle.jz_correct.specs.Registers.{argument_registers, result_registers}
+use Rattle.jz_lower.specs.Lowering.{insns_of}
+use Rattle.jz_lower.specs.Placing.{variable_of}
+use Rattle.jz_lower.specs.Operations.{register_of}
+use Rattle.jz_pipeline.specs.Compiling.{lines_of, silent_case, straight_transformer, code_insns, compiled_of}
+use Rattle.jasminc_top.specs.Making.{TypesAs, AreMade, Makes}
+use Rattle.jasminc_top.proofs.ByteCodes.{code_bytes}
+use Rattle.jasminc_top.proofs.StartLaws.{insns_few}
+
+-- ---- names
+name_of : (w : List ℕ) → All (λ b. in_word b ≡ true) w → IsName w
+name_of [] h = tt
+name_of (b ∷ w) h = (byte_code b (All-head (λ c. in_word c ≡ true) b w h), name_of w (All-tail (λ c. in_word c ≡ true) b w h))
+
+is_name : (w : List ℕ) → IsIdentifier w → IsName w
+is_name w h = name_of w (identifier_bytes w h)
+
+line_names : (rs : List Reg) (xs : List Var) → All (λ v. IsIdentifier v.name) xs → Each IsListableArg (lines_of rs xs)
+line_names rs [] h = tt
+line_names [] (x ∷ xs) h = tt
+line_names (r ∷ rs) (x ∷ xs) h = (is_name x.name (All-head (λ (v : Var). IsIdentifier v.name) x xs h), line_names rs xs (All-tail (λ (v : Var). IsIdentifier v.name) x xs h))
+
+names_resolved : (f : Fun) → HasNames f → HasNames (resolved_fun f)
+names_resolved f h =
+    let d = declaration_in (variables_of f) in
+    record {
+      name = h.name;
+      params = h.params;
+      vars = h.vars;
+      result = All-map (λ (v : Var). IsIdentifier v.name) (resolved_var d) f.result h.result;
+    }
+
+reads_names : (text : List ℕ) (p : Program) → Reads text p → All HasNames (resolved p).funs
+unfolding Reads
+reads_names text p (tokens, lexed, derives) =
+    All-map HasNames resolved_fun p.funs (All-weaker HasNames (λ f. HasNames (resolved_fun f)) names_resolved p.funs (names_identified text tokens p derives lexed))
+
+text_names : (text : List ℕ) (p : Program) → TypesAs text p → All HasNames p.funs
+text_names text p t = subst (λ (q : Program). All HasNames q.funs) (sym t.is) (reads_names text t.written t.reads)
+
+-- ---- the transformer
+silent_fits : case_fits (case.Op []) ≡ true
+silent_fits = ap case_fits (sym (case.rolls-Op [])) ∙ fold-roll-Case _ _ case_layer_fits tr_layer_fits (Case-F.Op [])
+
+cases_fit : (ss : List Stmt) → all_true (map case_fits (map silent_case ss)) ≡ true
+cases_fit [] = refl
+cases_fit (s ∷ ss) = ap (λ (z : Bool). z && all_true (map case_fits (map silent_case ss))) silent_fits ∙ cases_fit ss
+
+body_fits : (ss : List Stmt) → tr_fits (record { cases = map silent_case ss }) ≡ true
+body_fits ss = fold-roll-Tr _ _ case_layer_fits tr_layer_fits (record { cases = map silent_case ss }) ∙ cases_fit ss
+
+straight_fits : (ss : List Stmt) → transformer_fits (straight_transformer ss) ≡ true
+straight_fits ss = ap (λ (z : Bool). z && outs_fit (straight_transformer ss).after) (body_fits ss)
+
+-- ---- functions
+insns_below : (k n : ℕ) → k ≡ n + 1 → n ≤ 65536 → k < 2 ^ 64
+insns_below k n e le = omega (arith, e, le)
+
+listable : (register : List ℕ → Reg) (f : Fun) → HasNames f → length f.body ≤ 65536 → IsListable (compiled_of register f)
+listable register f names small =
+    let count = length-append (insns_of register f.body) (insn.Ret ∷ []) in
+    let fewer = insns_few register f.body in
+    record {
+      name = is_name f.name names.name;
+      args = line_names argument_registers (map variable_of f.params) (All-map (λ (v : Var). IsIdentifier v.name) variable_of f.params names.params);
+      rets = line_names result_registers f.result names.result;
+      pre = tt;
+      frame = lit< tt;
+      insns = insns_below (length (code_insns register f)) (length (insns_of register f.body)) count (omega (arith, fewer, small));
+      code = code_bytes register f;
+      tr = straight_fits f.body;
+      ct = tt;
+    }
+
+made_each : (fs : List Fun) (made : List Compiled) → AreMade fs made → All HasNames fs → AreListable made
+made_each [] [] m names = tt
+made_each [] (c ∷ cs) m names = absurd m.compiled
+made_each (f ∷ fs) [] m names = absurd m.compiled
+made_each (f ∷ fs) (c ∷ cs) m names =
+    let rest : AreMade fs cs = record { within = All-tail IsWithinLimits f fs m.within; safe = All-tail HasNoAlarm f fs m.safe; compiled = m.compiled.1 } in
+    let small = All-head IsWithinLimits f fs m.within in
+    let one = listable (register_of f m.compiled.0.places) f (All-head HasNames f fs names) small.0 in
+    (subst IsListable (sym m.compiled.0.is) one, made_each fs cs rest (All-tail HasNames f fs names))
+
+pub made_listable : (text : List ℕ) (p : Program) (made : List Compiled) → Makes text p made → AreListable made
+made_listable text p made m = made_each p.funs made m.are_made (text_names text p m.types)
+
+pub made_apart : (text other : List ℕ) (p q : Program) (made more : List Compiled) → Makes text p made → Makes other q more → listing_text made ≡ listing_text more → made ≡ more
+made_apart text other p q made more m n same = listings_apart made more (made_listable text p made m) (made_listable other q more n) same
