@@ -18,7 +18,7 @@ use Rattle.jz_leak.specs.declared.walk.Reach.TheVariants.{End, Stop}
 use Rattle.jz_leak.specs.RunLeaks.{Leak, over, ran, chose, chose_cut, looped, looped_cut, each, each_cut, called, called_cut, Turns, left, turn, prologue_cut, wanted, body_cut, Rounds, no_round, round, round_cut}
 use Rattle.jz_leak.specs.Applying.{Layer, Loop, events_for, is_cut, is_cut_in_turns, is_cut_in_rounds, op_events, if_events, while_events, for_events, call_events, begun_call_events, body_events, turns_events, rounds_events, apply_of, OpFits, IfFits, WhileFits, ForFits, CallFits, BegunCallFits, CasesFit, TurnsFit, RoundsFit, Fits}
 use Rattle.jz_leak.specs.Shown.{items_of, turns_of, rounds_of, shown_of}
-use Rattle.jz_leak.specs.Walks.{Walk, done, stopped, shown, ◌▹◌, Adds, layer_walk, item_step, leak_step, turn_step, item_walk, leak_walk, turn_walk, items_walk, rounds_walk, turns_walk}
+use Rattle.jz_leak.specs.Walks.{Walk, done, stopped, shown, ◌▹◌, Adds, layer_walk, item_step, leak_step, turn_step, item_walk, leak_walk, turn_walk, walk_in_step, turns_walk}
 use Rattle.jz_leak.proofs.Walking.{op_walk, if_walk, while_walk, for_walk, call_walk, leak_walk_is, turn_walk_is}
 
 -- how far a walk comes
@@ -64,7 +64,7 @@ while_made rsp0 turns AllFit events cut (Case-F.While prologue test more_outs bo
 while_made rsp0 turns AllFit events cut _ known h = absurd h
 
 for_made : (rsp0 : ℕ) (rounds : List (Tr → Walk)) (AllFit : List Tr → Type 0) (events : List Tr → List Event) (cut : Bool) (c : Layer)
-    → ((trs : List Tr) → AllFit trs → rounds_walk rounds trs ≡ made (events trs) cut) → ForFits AllFit c
+    → ((trs : List Tr) → AllFit trs → walk_in_step rounds trs ≡ made (events trs) cut) → ForFits AllFit c
     → layer_walk rsp0 (Item-F.For rounds) c ≡ made (for_events events c) cut
 for_made rsp0 rounds AllFit events cut (Case-F.For trs) known h = known trs h
 for_made rsp0 rounds AllFit events cut _ known h = absurd h
@@ -95,7 +95,7 @@ turn_parts rsp0 p b ns z loop v w e f =
     ∙ ap (λ x. x ▹ (shown (events_for ns rsp0 loop.test) ▹ (if z then shown (events_for ns rsp0 loop.more_outs) ▹ leak_walk rsp0 (record { items = b }) loop.body else shown (events_for ns rsp0 loop.leave_outs)))) e
     ∙ ap (λ y. v ▹ (shown (events_for ns rsp0 loop.test) ▹ (if z then shown (events_for ns rsp0 loop.more_outs) ▹ y else shown (events_for ns rsp0 loop.leave_outs)))) f
 
-cut_at_once : (rsp0 : ℕ) (cs : List Case) → items_walk (map (item_walk rsp0) (item.Cut ∷ [])) cs ≡ stopped
+cut_at_once : (rsp0 : ℕ) (cs : List Case) → walk_in_step (map (item_walk rsp0) (item.Cut ∷ [])) cs ≡ stopped
 cut_at_once rsp0 [] = refl
 cut_at_once rsp0 (c ∷ cs) =
     ap (λ w. w ▹ done)
@@ -107,12 +107,12 @@ nest a t m b = sym (append_assoc a t (m ++ b)) ∙ sym (append_assoc (a ++ t) m 
 
 -- ---- the law
 -- a tree, by its cases
-tree_made : (l : Leak) (rsp0 : ℕ) (t : Tr) (z : Bool) → is_cut l ≡ z → items_walk (map (item_walk rsp0) (items_of l)) t.cases ≡ made (body_events l rsp0 t.cases) (is_cut l)
+tree_made : (l : Leak) (rsp0 : ℕ) (t : Tr) (z : Bool) → is_cut l ≡ z → walk_in_step (map (item_walk rsp0) (items_of l)) t.cases ≡ made (body_events l rsp0 t.cases) (is_cut l)
     → leak_walk rsp0 (record { items = items_of l }) t ≡ made (body_events l rsp0 t.cases) z
 tree_made l rsp0 t z e known = leak_walk_is rsp0 (items_of l) t ∙ known ∙ ap (made (body_events l rsp0 t.cases)) e
 
 mutual
-  pub items_applied : (l : Leak) (rsp0 : ℕ) (cs : List Case) → CasesFit l cs → items_walk (map (item_walk rsp0) (items_of l)) cs ≡ made (body_events l rsp0 cs) (is_cut l)
+  pub items_applied : (l : Leak) (rsp0 : ℕ) (cs : List Case) → CasesFit l cs → walk_in_step (map (item_walk rsp0) (items_of l)) cs ≡ made (body_events l rsp0 cs) (is_cut l)
   items_applied over rsp0 [] h = refl
   items_applied over rsp0 (c ∷ cs) h = absurd h
   items_applied (ran ns l) rsp0 [] h = absurd h
@@ -186,7 +186,7 @@ mutual
       (turn_parts rsp0 (items_of p) (items_of b) ns true loop _ _ (tree_made p rsp0 loop.prologue false h.0 (items_applied p rsp0 loop.prologue.cases h.1.0)) (tree_made b rsp0 loop.body true h.2 (items_applied b rsp0 loop.body.cases h.3)))
       ∙ same_events _ _ Stop (append-nil _ ∙ nest (body_events p rsp0 loop.prologue.cases) (events_for ns rsp0 loop.test) (events_for ns rsp0 loop.more_outs) (body_events b rsp0 loop.body.cases))
 
-  rounds_applied : (rs : Rounds) (rsp0 : ℕ) (ts : List Tr) → RoundsFit rs ts → rounds_walk (map (leak_walk rsp0) (rounds_of rs)) ts ≡ made (rounds_events rs rsp0 ts) (is_cut_in_rounds rs)
+  rounds_applied : (rs : Rounds) (rsp0 : ℕ) (ts : List Tr) → RoundsFit rs ts → walk_in_step (map (leak_walk rsp0) (rounds_of rs)) ts ≡ made (rounds_events rs rsp0 ts) (is_cut_in_rounds rs)
   rounds_applied no_round rsp0 [] h = refl
   rounds_applied no_round rsp0 (t ∷ ts) h = absurd h
   rounds_applied (round a rs) rsp0 [] h = absurd h

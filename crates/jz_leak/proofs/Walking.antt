@@ -1,6 +1,7 @@
--- The walk of each kind of item.
-use Rattle.std.proofs.Common.{◌≡◌, ℕ, Bool, List, sym, ap, ◌∙◌}
+-- The walk of each kind of item, and what the loops of a walk keep.
+use Rattle.std.proofs.Common.{◌≡◌, ℕ, Bool, List, ◌++◌, sym, ap, ◌∙◌}
 use Rattle.std.specs.Prelude.{map}
+use Rattle.jz_leak.specs.declared.event.Event.{Event}
 use Rattle.jz_leak.specs.declared.transformer.Tr.{Tr}
 use Rattle.jz_leak.specs.declared.transformer.Case.{Case}
 use Rattle.jz_leak.specs.declared.transformer.Case.TheViews.{out-Case}
@@ -11,7 +12,12 @@ use Rattle.jz_leak.specs.declared.leak.Item.TheVariants as item
 use Rattle.jz_leak.specs.declared.leak.Item.TheOpen.{Item-F}
 use Rattle.jz_leak.specs.declared.leak.Item.TheFolds.{fold-roll-Item, fold-roll-Leak, fold-roll-Turn}
 use Rattle.jz_leak.specs.Applying.{Loop}
-use Rattle.jz_leak.specs.Walks.{layer_walk, item_step, leak_step, turn_step, item_walk, leak_walk, turn_walk, items_walk}
+use Rattle.jz_leak.specs.Walks.{Walk, layer_walk, item_step, leak_step, turn_step, item_walk, leak_walk, turn_walk, walk_in_step}
+
+-- the events so far and those of the rest are those of before and all of them
+pub record Continues (old now : List Event) (rest all : Walk) : Type 0 where
+  pub events : now ++ rest.events ≡ old ++ all.events
+  pub reached : rest.reach ≡ all.reach
 
 -- ---- each kind of item
 pub op_walk : (rsp0 : ℕ) (ns : List ℕ) (c : Case) → item_walk rsp0 (item.Op ns) c ≡ layer_walk rsp0 (Item-F.Op ns) (out-Case c)
@@ -29,7 +35,7 @@ for_walk rsp0 rounds c = ap (λ i. item_walk rsp0 i c) (sym (item.rolls-For roun
 pub call_walk : (rsp0 : ℕ) (ns : List ℕ) (callee : Leak) (ms : List ℕ) (c : Case) → item_walk rsp0 (item.Call ns callee ms) c ≡ layer_walk rsp0 (Item-F.Call ns (leak_walk rsp0 callee) ms) (out-Case c)
 call_walk rsp0 ns callee ms c = ap (λ i. item_walk rsp0 i c) (sym (item.rolls-Call ns callee ms)) ∙ ap (λ f. f c) (fold-roll-Item _ _ _ (item_step rsp0) (leak_step rsp0) (turn_step rsp0) (Item-F.Call ns callee ms))
 
-pub leak_walk_is : (rsp0 : ℕ) (is : List Item) (t : Tr) → leak_walk rsp0 (record { items = is }) t ≡ items_walk (map (item_walk rsp0) is) t.cases
+pub leak_walk_is : (rsp0 : ℕ) (is : List Item) (t : Tr) → leak_walk rsp0 (record { items = is }) t ≡ walk_in_step (map (item_walk rsp0) is) t.cases
 leak_walk_is rsp0 is t = ap (λ f. f t) (fold-roll-Leak _ _ _ (item_step rsp0) (leak_step rsp0) (turn_step rsp0) (record { items = is }))
 
 pub turn_walk_is : (rsp0 : ℕ) (t : Turn) (loop : Loop)

@@ -38,18 +38,13 @@ infixr 5 ◌▹◌
 abbrev pub ◌▹◌ : Walk → Walk → Walk
 a ▹ b = record { events = a.events ++ (behind a.reach b).events; reach = (behind a.reach b).reach }
 
--- one item after another, each with its case
-abbrev pub items_walk : List (Case → Walk) → List Case → Walk
-items_walk [] cs = done
-items_walk (f ∷ fs) [] = stopped
-items_walk (f ∷ fs) (c ∷ cs) = f c ▹ items_walk fs cs
+-- items and their cases, or rounds and their trees, one after another
+abbrev pub walk_in_step : {A : Type 0} → List (A → Walk) → List A → Walk
+walk_in_step [] xs = done
+walk_in_step (f ∷ fs) [] = stopped
+walk_in_step (f ∷ fs) (x ∷ xs) = f x ▹ walk_in_step fs xs
 
--- one round after another, each with its tree
-abbrev pub rounds_walk : List (Tr → Walk) → List Tr → Walk
-rounds_walk [] ts = done
-rounds_walk (f ∷ fs) [] = stopped
-rounds_walk (f ∷ fs) (t ∷ ts) = f t ▹ rounds_walk fs ts
-
+-- one turn after another, each with the same parts
 abbrev pub turns_walk : List (Loop → Walk) → Loop → Walk
 turns_walk [] loop = done
 turns_walk (f ∷ fs) loop = f loop ▹ turns_walk fs loop
@@ -58,12 +53,12 @@ module _ (rsp0 : ℕ) where
   -- one item with its case
   abbrev pub layer_walk : Item-F (Case → Walk) (Tr → Walk) (Loop → Walk) → Layer → Walk
   layer_walk (Item-F.Op ns) (Case-F.Op outs) = shown (events_for ns rsp0 outs)
-  layer_walk (Item-F.If ns more arm) (Case-F.If test then_outs then_tr else_outs else_tr) =
+  layer_walk (Item-F.If ns answer arm) (Case-F.If test then_outs then_tr else_outs else_tr) =
       shown (events_for ns rsp0 test)
-      ▹ (if more then shown (events_for ns rsp0 then_outs) ▹ arm then_tr else (shown (events_for ns rsp0 else_outs) ▹ arm else_tr))
+      ▹ (if answer then shown (events_for ns rsp0 then_outs) ▹ arm then_tr else (shown (events_for ns rsp0 else_outs) ▹ arm else_tr))
   layer_walk (Item-F.While turns) (Case-F.While prologue test more_outs body leave_outs) =
       turns_walk turns (record { prologue = prologue; test = test; more_outs = more_outs; body = body; leave_outs = leave_outs })
-  layer_walk (Item-F.For rounds) (Case-F.For trs) = rounds_walk rounds trs
+  layer_walk (Item-F.For rounds) (Case-F.For trs) = walk_in_step rounds trs
   layer_walk (Item-F.Call ns callee ms) (Case-F.Call arguments body results) =
       (shown (events_for ns rsp0 arguments) ▹ callee body) ▹ shown (events_for ms rsp0 results)
   layer_walk _ _ = stopped
@@ -72,7 +67,7 @@ module _ (rsp0 : ℕ) where
   item_step i c = layer_walk i (out-Case c)
 
   abbrev pub leak_step : Leak-F (Case → Walk) (Tr → Walk) (Loop → Walk) → Tr → Walk
-  leak_step l t = items_walk l.items t.cases
+  leak_step l t = walk_in_step l.items t.cases
 
   abbrev pub turn_step : Turn-F (Case → Walk) (Tr → Walk) (Loop → Walk) → Loop → Walk
   turn_step t loop =
@@ -89,12 +84,7 @@ module _ (rsp0 : ℕ) where
   abbrev pub turn_walk : Turn → Loop → Walk
   turn_walk = fold-Turn _ _ _ item_step leak_step turn_step
 
--- the walk's events are put behind those of before, and it came so far
+-- the walk's events were put behind those that were there, and it came so far
 pub record Adds (old new : List Event) (reach : Reach) (w : Walk) : Type 0 where
   pub events : new ≡ old ++ w.events
   pub reached : reach ≡ w.reach
-
--- what a loop keeps: the events so far and those of the rest are those of before and all of them
-pub record Continues (old now : List Event) (rest all : Walk) : Type 0 where
-  pub events : now ++ rest.events ≡ old ++ all.events
-  pub reached : rest.reach ≡ all.reach

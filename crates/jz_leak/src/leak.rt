@@ -16,6 +16,7 @@ pub enum Item {
     Op(Seq<u64>),
     /// The numbers of a condition, its answer, and the leak of the arm.
     If(Seq<u64>, bool, Leak),
+    /// The turns, the last of them that of the false condition.
     While(Seq<Turn>),
     /// The leak of the body, once for each value of the counter.
     For(Seq<Leak>),
@@ -30,7 +31,9 @@ pub enum Item {
 #[derive(Debug, Drop, PartialEq, Eq)]
 pub struct Turn {
     pub prologue: Leak,
+    /// The numbers of the condition.
     pub numbers: Seq<u64>,
+    /// The answer of the condition.
     pub more: bool,
     pub body: Leak,
 }

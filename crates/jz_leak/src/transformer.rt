@@ -13,11 +13,14 @@ pub enum Form {
     Indexed(i64, u64, u64),
 }
 
-/// An event of the machine, its numbers as forms.
+/// An event of the machine, with a form for each of its numbers.
 #[derive(Clone, Copy, Debug, PartialEq, Eq)]
 pub enum Out {
+    /// Whether the jump is taken is fixed here.
     Branch(bool),
+    /// The address of an access.
     Addr(Form),
+    /// High word, low word and divisor.
     Div(Form, Form, Form),
 }
 

@@ -7,7 +7,7 @@ ghost use Rattle.jz_leak.specs.Applying.{number_of, event_of, events_for, apply_
 ghost use Rattle.jz_leak.specs.Shown.{shown_of, ShowsFitting};
 ghost use Rattle.jz_leak.specs.declared.leak.Item.TheOpen.{Item-F};
 ghost use Rattle.jz_leak.specs.declared.transformer.Case.TheViews.{out-Case};
-ghost use Rattle.jz_leak.specs.Walks.{layer_walk, Adds, leak_walk, item_walk, turn_walk, rounds_walk, turns_walk, shown, ◌▹◌};
+ghost use Rattle.jz_leak.specs.Walks.{layer_walk, Adds, leak_walk, item_walk, turn_walk, walk_in_step, turns_walk, shown, ◌▹◌};
 
 use crate::event::{Event, Events};
 use crate::leak::{Item, Leak, Turn};
@@ -20,23 +20,25 @@ use std::alloc::{AllocError, Global};
 pub enum Reach {
     /// To the end of its items.
     End,
-    /// To the cut.
+    /// To a cut, or to an item that has no case of its kind.
     Stop,
 }
 
-// The leaked number at a place; 0 where there is none.
+// The leaked number at a place, from 0. A leak that fits has it; of another the answer is 0 where there is none.
 fn leaked(numbers: &[u64], place: u64) -> u64
     ensures { result ≡ slice_index numbers.now place }
 {
     numbers.get(place as usize).copied().unwrap_or(0)
 }
 
+// An offset from an address, modulo 2^64.
 fn moved(address: u64, offset: i64) -> u64
     ensures { result ≡ residue S64 (pos address +ℤ offset) }
 {
     address.wrapping_add_signed(offset)
 }
 
+// The number that a form stands for.
 fn number(numbers: &[u64], rsp: u64, form: Form) -> u64
     ensures { result ≡ number_of numbers.now rsp form }
 {
@@ -51,6 +53,7 @@ fn number(numbers: &[u64], rsp: u64, form: Form) -> u64
     }
 }
 
+// The event that is shown, its forms by these numbers.
 fn event(numbers: &[u64], rsp: u64, out: Out) -> Event
     ensures { result ≡ event_of numbers.now rsp out }
 {
@@ -65,6 +68,7 @@ fn event(numbers: &[u64], rsp: u64, out: Out) -> Event
     }
 }
 
+// Adds the events of a list.
 fn emit(
     events: &mut Vec<Event>,
     rsp: u64,
@@ -79,6 +83,7 @@ fn emit(
     Ok(())
 }
 
+// Adds the events of the items, each by its case, up to where the walk stops.
 #[cycle(walk)]
 fn walk_leak(events: &mut Vec<Event>, rsp: u64, leak: &Leak, tr: &Tr) -> Result<Reach, AllocError>
     ensures { IfOk result (λ reach. Adds events.old.items events.new.items reach (leak_walk rsp leak.now tr.now)) }
@@ -97,6 +102,7 @@ fn walk_leak(events: &mut Vec<Event>, rsp: u64, leak: &Leak, tr: &Tr) -> Result<
     Ok(Reach::End)
 }
 
+// Adds the events of an item by its case.
 #[cycle(walk)]
 fn walk_item(
     events: &mut Vec<Event>,
@@ -115,8 +121,8 @@ fn walk_item(
             }
             _ => Ok(Reach::Stop),
         },
-        Item::If(numbers, more, arm) => {
-            let reach = walk_choice(events, rsp, numbers, *more, arm, case)?;
+        Item::If(numbers, answer, arm) => {
+            let reach = walk_choice(events, rsp, numbers, *answer, arm, case)?;
             Ok(reach)
         }
         Item::While(turns) => match case {
@@ -142,17 +148,18 @@ fn walk_item(
     }
 }
 
+// The events of an `if`: its condition's, and then the list and the arm of the answer.
 #[cycle(walk)]
 fn walk_choice(
     events: &mut Vec<Event>,
     rsp: u64,
     numbers: &Seq<u64>,
-    more: bool,
+    answer: bool,
     arm: &Leak,
     case: &Case,
 ) -> Result<Reach, AllocError>
     ensures { IfOk result (λ reach. Adds events.old.items events.new.items reach
-        (layer_walk rsp (Item-F.If numbers.now more (leak_walk rsp arm.now)) (out-Case case.now))) }
+        (layer_walk rsp (Item-F.If numbers.now answer (leak_walk rsp arm.now)) (out-Case case.now))) }
 {
     match case {
         Case::If {
@@ -163,7 +170,7 @@ fn walk_choice(
             else_tr,
         } => {
             emit(events, rsp, numbers, test)?;
-            if more {
+            if answer {
                 let reach = walk_arm(events, rsp, numbers, then_outs, arm, then_tr)?;
                 Ok(reach)
             } else {
@@ -175,6 +182,7 @@ fn walk_choice(
     }
 }
 
+// The events of a call: its arguments', the callee's, and its results' where the callee ends.
 #[cycle(walk)]
 fn walk_call(
     events: &mut Vec<Event>,
@@ -203,7 +211,7 @@ fn walk_call(
     }
 }
 
-// A list of events, and the leak behind it.
+// The events of a list, and then those of a leak.
 #[cycle(walk)]
 fn walk_arm(
     events: &mut Vec<Event>,
@@ -221,6 +229,7 @@ fn walk_arm(
     Ok(reach)
 }
 
+// The events of a `for`: each round by its own tree.
 #[cycle(walk)]
 fn walk_rounds(
     events: &mut Vec<Event>,
@@ -228,7 +237,7 @@ fn walk_rounds(
     rounds: &Seq<Leak>,
     trs: &Seq<Tr>,
 ) -> Result<Reach, AllocError>
-    ensures { IfOk result (λ reach. Adds events.old.items events.new.items reach (rounds_walk (map (leak_walk rsp) rounds.now) trs.now)) }
+    ensures { IfOk result (λ reach. Adds events.old.items events.new.items reach (walk_in_step (map (leak_walk rsp) rounds.now) trs.now)) }
 {
     for (i, round) in rounds.as_slice().iter().enumerate() {
         match trs.as_slice().get(i) {
@@ -244,6 +253,7 @@ fn walk_rounds(
     Ok(Reach::End)
 }
 
+// The events of a `while`: each turn by the same parts.
 #[cycle(walk)]
 fn walk_turns(
     events: &mut Vec<Event>,
@@ -269,6 +279,7 @@ fn walk_turns(
     Ok(Reach::End)
 }
 
+// The events of a turn: the prologue's, the condition's, and then the list and the body of a turn that is taken, or the list of leaving.
 #[cycle(walk)]
 fn walk_turn(
     events: &mut Vec<Event>,
@@ -297,7 +308,7 @@ fn walk_turn(
     }
 }
 
-// Where the leak doesn't fit, the events up to there.
+// The events of the whole function; those behind the body are shown where the walk came to its end.
 pub(crate) fn walk_transformer(
     alloc: Global,
     tr: &Transformer,
