@@ -2,6 +2,7 @@
 use Rattle.std.proofs.Common.{◌≡◌, ℕ, zero, suc, ◌+◌, ◌-◌, ◌*◌, ◌%◌, ◌^◌, ◌<◌, ◌≤◌, Bool, true, false, List, [], ◌∷◌, ◌++◌, length, refl, sym, ap, ◌∙◌, arith, subst, lit<, lit≤, ◌⊎◌, ⊎_elim, length-append}
 use Rattle.std.proofs.lemmas.Bool.{le-ltb}
 use Rattle.std.proofs.lemmas.List.{get_or-set_same, length-set}
+use Rattle.std.proofs.lemmas.List.Elements.{All-nil}
 use Rattle.std.specs.Prelude.{Option, Some, None, IsSome, is_some, slice_index, slice_set, slice_get, nat_lt, if◌then◌else◌, map, Contains, replicate, ⊤}
 use Rattle.std.specs.FinMap as map_of
 use Rattle.std.specs.Ordering.{nat_cmp}
@@ -31,7 +32,7 @@ use Rattle.x64_machine.specs.Steps.{Config, steps_of}
 use Rattle.jz_correct.specs.Registers.{argument_registers, result_registers}
 use Rattle.jz_correct.specs.Assembled.{assembled}
 use Rattle.jz_correct.specs.Ends.{EndsAfter}
-use Rattle.jz_correct.specs.Starts.{IsIn, IsValid, AreOfSizes, MeetsPreconditions, IsStart, Stand, stack_at}
+use Rattle.jz_correct.specs.Starts.{IsIn, IsValid, IsMet, IsBelowEnd, AreOfSizes, MeetsPreconditions, IsStart, Stand, stack_at}
 use Rattle.jz_correct.specs.Correctness.{EndsSo, IsCorrect}
 use Rattle.jz_lower.specs.Lowering.{kind_insns, insns_of}
 use Rattle.jz_lower.specs.Placing.{variable_of}
@@ -175,19 +176,19 @@ module _ (register : List ℕ → Reg) (f : Fun) (items : List ℕ) (fit : Items
         room_below = omega arith;
         room_above = omega arith;
         stack_valid = start_valid m h;
-        stack_apart = λ q within none. absurd none;
+        stack_apart = λ q within none. absurd (omega (arith, none.2));
         arguments = stand items argument_registers (map variable_of f.params) bare_registers arguments_far fit as_many few_items refl;
-        region_valid = λ q none. absurd none;
-        region_holds = λ q none. absurd none;
+        region_valid = λ q none. absurd (omega (arith, none.2));
+        region_holds = λ q none. absurd (omega (arith, none.2));
       }
 
   -- the items meet the preconditions of the function, which has no regions
   pub words_meet : MeetsPreconditions (compiled_of register f) items map_of.empty
   words_meet = record {
     sizes = sizes items argument_registers (map variable_of f.params) fit as_many few_items;
-    met = tt;
-    below_end = tt;
-    covered = λ q. (λ none. absurd (let e : false ≡ true = sym (ap is_some (map_of.get-empty nat_cmp q)) ∙ none in cc), λ none. absurd none);
+    met = All-nil (IsMet (compiled_of register f).args items);
+    below_end = All-nil IsBelowEnd;
+    covered = λ q. (λ none. absurd (let e : false ≡ true = sym (ap is_some (map_of.get-empty nat_cmp q)) ∙ none in cc), λ none. absurd (omega (arith, none.2)));
     bytes = λ q b none. absurd (let e : None ≡ Some b = sym (map_of.get-empty nat_cmp q) ∙ none in cc);
   }
 

@@ -1,5 +1,6 @@
 -- What the bytes of a compiled function owe to the runs of its source.
-use Rattle.std.specs.Prelude.{◌≡◌, ◌↔◌, ◌≤◌, ℕ, ◌+◌, ◌*◌, ℤ, ◌≤ℤ◌, ◌<ℤ◌, pos, List, [], ◌∷◌, ◌++◌, map, length, Option, Some, None, Contains, false, ⊤}
+use Rattle.std.specs.Prelude.{◌≡◌, ◌↔◌, ◌≤◌, ℕ, ◌+◌, ◌*◌, ℤ, ◌≤ℤ◌, ◌<ℤ◌, pos, List, [], ◌∷◌, ◌++◌, map, length, Option, Some, None, Contains, All, false, ⊤}
+use Rattle.std.specs.List.{AllZip}
 use Rattle.jz_words.specs.Memory.{Memory}
 use Rattle.jz_words.specs.Sizes.{bytes_of}
 use Rattle.x64_insn.specs.declared.types.Reg.{Reg}
@@ -142,8 +143,7 @@ OutStaysIn f frame names (out.Div high low divisor) =
     FormStaysIn f frame names high × FormStaysIn f frame names low × FormStaysIn f frame names divisor
 
 abbrev pub OutsStayIn : Fun → ℕ → List (List ℕ) → List Out → Type 0
-OutsStayIn f frame names [] = ⊤
-OutsStayIn f frame names (o ∷ outs) = OutStaysIn f frame names o × OutsStayIn f frame names outs
+OutsStayIn f frame names outs = All (OutStaysIn f frame names) outs
 
 -- the offset of each form of the frame lies in the place of a stack variable that its statement names
 abbrev pub CasesStayIn : Fun → ℕ → List Stmt → List Case → Type 0
@@ -186,6 +186,4 @@ pub record IsCorrect (p : Program) (f : Fun) (c : Compiled) : Type 0 where
 
 -- one for each function, in the order of the text
 abbrev pub AreCorrect : Program → List Fun → List Compiled → Type 0
-AreCorrect p [] [] = ⊤
-AreCorrect p (f ∷ fs) (c ∷ cs) = IsCorrect p f c × AreCorrect p fs cs
-AreCorrect p _ _ = ⊥
+AreCorrect p fs cs = AllZip (IsCorrect p) fs cs

@@ -1,5 +1,6 @@
 -- Where a compiled function may be started: what its preconditions ask of an input, and what a caller has to set up (System V AMD64 ABI, 3.2).
-use Rattle.std.specs.Prelude.{◌≡◌, ◌⊎◌, ◌<◌, ◌≤◌, ◌↔◌, ℕ, ◌+◌, ◌-◌, ◌*◌, ◌%◌, ◌^◌, false, if◌then◌else◌, Option, Some, None, IsSome, List, [], ◌∷◌, ◌++◌, length, ⊤}
+use Rattle.std.specs.Prelude.{◌≡◌, ◌<◌, ◌≤◌, ◌↔◌, ℕ, ◌+◌, ◌-◌, ◌*◌, ◌%◌, ◌^◌, false, if◌then◌else◌, Option, Some, None, IsSome, List, [], ◌∷◌, length, All, Any, flat_map, ⊤}
+use Rattle.std.specs.List.{AllZip}
 use Rattle.std.specs.Str.{bytes_eq}
 use Rattle.std.specs.FinMap.{get}
 use Rattle.jz_words.specs.Sizes.{modulus}
@@ -24,9 +25,9 @@ pub record ByteRange : Type 0 where
 abbrev pub IsIn : ByteRange → ℕ → Type 0
 IsIn r q = (r.from ≤ q) × (q < r.from + r.count)
 
+-- in one of them
 abbrev pub IsInOne : List ByteRange → ℕ → Type 0
-IsInOne [] q = ⊥
-IsInOne (r ∷ rs) q = IsIn r q ⊎ IsInOne rs q
+IsInOne rs q = Any (λ r. IsIn r q) rs
 
 -- the byte at an address is valid
 abbrev pub IsValid : Memory → ℕ → Type 0
@@ -55,13 +56,16 @@ abbrev pub region_at : Option ℕ → ℕ → List ByteRange
 region_at None count = []
 region_at (Some from) count = record { from = from; count = count } ∷ []
 
--- the regions that preconditions declare, for these words
+-- the region that a precondition declares, for these words
+abbrev pub region_of : List Arg → List ℕ → Pre → List ByteRange
+region_of args words (pre.Region pointer factor variable constant) =
+    region_at (word_named args words pointer) (extent factor (word_if_named args words variable) constant)
+region_of args words (pre.Range name low high) = []
+region_of args words (pre.Align pointer multiple) = []
+
+-- the regions that preconditions declare, in their order
 abbrev pub regions_of : List Arg → List Pre → List ℕ → List ByteRange
-regions_of args [] words = []
-regions_of args (pre.Region pointer factor variable constant ∷ ps) words =
-    region_at (word_named args words pointer) (extent factor (word_if_named args words variable) constant) ++ regions_of args ps words
-regions_of args (pre.Range name low high ∷ ps) words = regions_of args ps words
-regions_of args (pre.Align pointer multiple ∷ ps) words = regions_of args ps words
+regions_of args ps words = flat_map (region_of args words) ps
 
 -- what a precondition asks of a word
 abbrev pub IsBetween : Option ℕ → ℕ → ℕ → Type 0
@@ -77,25 +81,19 @@ abbrev pub IsNamed : List Arg → List ℕ → Option (List ℕ) → Type 0
 IsNamed args words None = ⊤
 IsNamed args words (Some name) = IsSome (word_named args words name)
 
--- each declared range and alignment holds of its parameter, and each region begins at one
-abbrev pub AreMet : List Arg → List Pre → List ℕ → Type 0
-AreMet args [] words = ⊤
-AreMet args (pre.Region pointer factor variable constant ∷ ps) words =
-    IsSome (word_named args words pointer) × IsNamed args words variable × AreMet args ps words
-AreMet args (pre.Range name low high ∷ ps) words = IsBetween (word_named args words name) low high × AreMet args ps words
-AreMet args (pre.Align pointer multiple ∷ ps) words = IsMultiple (word_named args words pointer) multiple × AreMet args ps words
+-- a range and an alignment hold of their parameter, and a region begins at one
+abbrev pub IsMet : List Arg → List ℕ → Pre → Type 0
+IsMet args words (pre.Region pointer factor variable constant) = IsSome (word_named args words pointer) × IsNamed args words variable
+IsMet args words (pre.Range name low high) = IsBetween (word_named args words name) low high
+IsMet args words (pre.Align pointer multiple) = IsMultiple (word_named args words pointer) multiple
 
--- each region ends at 2 ^ 64 or before
-abbrev pub AreBelowEnd : List ByteRange → Type 0
-AreBelowEnd [] = ⊤
-AreBelowEnd (r ∷ rs) = (r.from + r.count ≤ 2 ^ 64) × AreBelowEnd rs
+-- a range ends at 2 ^ 64 or before
+abbrev pub IsBelowEnd : ByteRange → Type 0
+IsBelowEnd r = r.from + r.count ≤ 2 ^ 64
 
 -- one word for each argument, of its size
 abbrev pub AreOfSizes : List Arg → List ℕ → Type 0
-AreOfSizes [] [] = ⊤
-AreOfSizes [] (w ∷ words) = ⊥
-AreOfSizes (a ∷ args) [] = ⊥
-AreOfSizes (a ∷ args) (w ∷ words) = (w < modulus a.size) × AreOfSizes args words
+AreOfSizes args words = AllZip (λ a w. w < modulus a.size) args words
 
 -- the regions of a compiled function
 abbrev pub regions_for : Compiled → List ℕ → List ByteRange
@@ -104,8 +102,8 @@ regions_for c words = regions_of c.args c.pre words
 -- an input that meets the preconditions: argument words, and a memory of exactly the regions' bytes
 pub record MeetsPreconditions (c : Compiled) (words : List ℕ) (memory : Memory) : Type 0 where
   pub sizes : AreOfSizes c.args words
-  pub met : AreMet c.args c.pre words
-  pub below_end : AreBelowEnd (regions_for c words)
+  pub met : All (IsMet c.args words) c.pre
+  pub below_end : All IsBelowEnd (regions_for c words)
   pub covered : (q : ℕ) → IsValid memory q ↔ IsInOne (regions_for c words) q
   pub bytes : (q b : ℕ) → get memory q ≡ Some b → b < 256
 
@@ -113,10 +111,7 @@ pub record MeetsPreconditions (c : Compiled) (words : List ℕ) (memory : Memory
 
 -- words stand in the low bits of the registers of arguments or results, one word for each
 abbrev pub Stand : List Arg → List ℕ → State → Type 0
-Stand [] [] st = ⊤
-Stand [] (w ∷ words) st = ⊥
-Stand (a ∷ args) [] st = ⊥
-Stand (a ∷ args) (w ∷ words) st = (reg_word st a.size a.reg ≡ w) × Stand args words st
+Stand args words st = AllZip (λ a w. reg_word st a.size a.reg ≡ w) args words
 
 -- what each state of the machine is: sixteen registers of 64 bits, five flags, and bytes
 pub record IsMachine (s : Config) : Type 0 where

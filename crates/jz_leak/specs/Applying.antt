@@ -1,6 +1,6 @@
 -- What a transformer makes of a leak: the leaks that fit it, and the machine's events that it gives. A form sees the numbers of its
 -- item, constants and the stack pointer at entry.
-use Rattle.std.specs.Prelude.{ℕ, ◌+◌, ◌*◌, ◌<◌, ◌≡◌, Bool, true, false, if◌then◌else◌, pos, ◌+ℤ◌, List, [], ◌∷◌, ◌++◌, map, length, slice_index, ⊤}
+use Rattle.std.specs.Prelude.{ℕ, ◌+◌, ◌*◌, ◌<◌, ◌≡◌, Bool, true, false, if◌then◌else◌, pos, ◌+ℤ◌, List, [], ◌∷◌, ◌++◌, map, length, slice_index, All, ⊤}
 use Rattle.jz_words.specs.declared.size.Size.TheVariants.{S64}
 use Rattle.jz_words.specs.Words.{residue}
 use Rattle.jz_leak.specs.declared.event.Event.{Event}
@@ -163,8 +163,7 @@ OutFits ns (out.Addr address) = HasNumbers ns address
 OutFits ns (out.Div high low divisor) = HasNumbers ns high × HasNumbers ns low × HasNumbers ns divisor
 
 abbrev pub OutsFit : List ℕ → List Out → Type 0
-OutsFit ns [] = ⊤
-OutsFit ns (o ∷ outs) = OutFits ns o × OutsFit ns outs
+OutsFit ns outs = All (OutFits ns) outs
 
 abbrev pub OpFits : List ℕ → Case → Type 0
 OpFits ns (Op outs) = OutsFit ns outs

@@ -1,6 +1,7 @@
 -- The run of a source function: what its statements do, parameters in and results out. The statements are those of the text; no
 -- register, no address of a variable and no code is named. The rules are those of the Jasmin documentation, for the statements that are read.
 use Rattle.std.specs.Prelude.{◌≡◌, ◌<◌, ℕ, ◌+◌, ◌%◌, bit_xor, ℤ, pos, ◌-ℤ◌, List, [], ◌∷◌, Option, Some, None, Contains}
+use Rattle.std.specs.List.{AllZip}
 use Rattle.jz_io.specs.declared.span.Span.{Span}
 use Rattle.jz_words.specs.Memory.{Memory}
 use Rattle.jz_words.specs.declared.size.Size.{Size}
@@ -175,12 +176,9 @@ FitsDecl (Some d) w = FitsType d.ty w
 
 -- a word for each parameter, each of its size
 abbrev pub AreArguments : List Param → List ℕ → Type 0
-AreArguments [] [] = Unit {0}
-AreArguments [] (w ∷ ws) = ⊥
-AreArguments (p ∷ ps) [] = ⊥
-AreArguments (p ∷ ps) (w ∷ ws) = FitsDecl p.var.decl w × AreArguments ps ws
+AreArguments ps ws = AllZip (λ p w. FitsDecl p.var.decl w) ps ws
 
--- an input of a function of the program; its memory is any one, since no region can be declared yet
+-- an input of a function of the program; what its memory has to hold is asked by the preconditions
 pub record IsInput (p : Program) (f : Fun) (words : List ℕ) : Type 0 where
   pub of_program : Contains p.funs f
   pub arguments : AreArguments f.params words

@@ -1,6 +1,7 @@
 -- The runs of a function carry over to its bytes.
 use Rattle.std.proofs.Common.{◌≡◌, inl, inr, ℕ, ◌+◌, ◌%◌, ◌^◌, ◌<◌, Bool, true, false, List, [], ◌∷◌, ◌++◌, refl, sym, ap, ◌∙◌, subst, arith, nat_eq}
-use Rattle.std.specs.Prelude.{Option, Some, map, if◌then◌else◌}
+use Rattle.std.specs.Prelude.{Option, Some, map, if◌then◌else◌, pos}
+use Rattle.std.proofs.lemmas.List.Elements.{All-nil, All-cons}
 use Rattle.std.specs.Cmp.Lexicographic.{pointwise, same_text}
 use Rattle.jz_words.specs.declared.size.Size.TheVariants.{S64}
 use Rattle.x64_insn.specs.declared.types.Reg.{Reg}
@@ -10,7 +11,9 @@ use Rattle.jz_tree.specs.declared.Param.{Param}
 use Rattle.jz_tree.specs.declared.Var.{Var}
 use Rattle.jz_tree.specs.declared.Stmt.{Stmt}
 use Rattle.jz_leak.specs.declared.event.Event.TheVariants as event
-use Rattle.jz_leak.specs.Applying.{apply_of, body_events, is_cut, Fits, CasesFit}
+use Rattle.jz_leak.specs.declared.transformer.Form.TheVariants as form
+use Rattle.jz_leak.specs.declared.transformer.Out.TheVariants as out
+use Rattle.jz_leak.specs.Applying.{apply_of, body_events, is_cut, Fits, OutFits, CasesFit}
 use Rattle.jz_meaning.specs.RunRules.{went}
 use Rattle.jz_meaning.specs.SourceStates.{Value, word, key_of, Store, put}
 use Rattle.jz_meaning.specs.SourceValues.{Got, and_then, variable_value}
@@ -79,7 +82,7 @@ module _ (register : List ℕ → Reg) where
 -- ---- the transformer on the leak of statements
 pub cases_fit : (ss : List Stmt) → CasesFit (plain_leak ss) (map silent_case ss)
 cases_fit [] = tt
-cases_fit (s ∷ ss) = (tt, cases_fit ss)
+cases_fit (s ∷ ss) = (All-nil (OutFits []), cases_fit ss)
 
 never_cut : (ss : List Stmt) → is_cut (plain_leak ss) ≡ false
 never_cut [] = refl
@@ -90,7 +93,7 @@ no_events [] rsp0 = refl
 no_events (s ∷ ss) rsp0 = no_events ss rsp0
 
 pub fits : (ss : List Stmt) → Fits (straight_transformer ss) (plain_leak ss)
-fits ss = record { before = tt; body = cases_fit ss; after = (tt, tt) }
+fits ss = record { before = All-nil (OutFits []); body = cases_fit ss; after = All-cons (OutFits []) (out.Addr (form.Frame (pos 0))) [] tt (All-nil (OutFits [])) }
 
 pub applied : (ss : List Stmt) (rsp0 : ℕ) → rsp0 < 2 ^ 64 → event.Addr rsp0 ∷ [] ≡ apply_of (straight_transformer ss) (plain_leak ss) rsp0
 applied ss rsp0 small =

@@ -3,6 +3,7 @@ use Rattle.std.proofs.Common.{◌≡◌, ◌≢◌, ℕ, zero, suc, ◌+◌, ◌
 use Rattle.std.specs.Prelude.{Option, Some, None, map, slice_index, slice_index_or, Contains}
 use Rattle.std.specs.FinMap as map_of
 use Rattle.std.proofs.lemmas.List.{get_or-set_other, get_or-set_same}
+use Rattle.std.proofs.lemmas.List.Elements.{All-nil}
 use Rattle.jz_words.specs.declared.size.Size.TheVariants.{S64}
 use Rattle.jz_words.specs.Memory.{Memory, loaded}
 use Rattle.x64_insn.specs.declared.types.Reg.{Reg}
@@ -30,7 +31,7 @@ use Rattle.jz_correct.specs.Ends.{EndsAfter}
 use Rattle.jz_correct.specs.Frames.{preserved_registers}
 use Rattle.jz_correct.specs.Starts.{IsStart}
 use Rattle.jz_correct.specs.Agreement.{Agrees, NeverFaults}
-use Rattle.jz_correct.specs.Correctness.{EndsSo, Matches, CarriesOver, CasesStayIn, IsCorrect}
+use Rattle.jz_correct.specs.Correctness.{EndsSo, Matches, CarriesOver, OutStaysIn, kind_names, CasesStayIn, IsCorrect}
 use Rattle.jz_correct.specs.Registers.{argument_registers, result_registers}
 use Rattle.jz_correct.proofs.PlainCode.{word_in, regs_after}
 use Rattle.jz_correct.proofs.PlainEnds.{code_of, code_is, AtFirst, PlainEnds, plain_ends}
@@ -112,7 +113,7 @@ module _ (p : Program) (f : Fun) (register : List ℕ → Reg) (straight : IsStr
         λ m. ap (λ rs. word_in rs (register m)) run.regs ∙ word_other (regs_after body_code s.state.regs) (register m) reg.Rsp _ (given_not_rsp (register m) (placing.given m)) in
         let agrees : Agrees (compiled_of register f) words rsp0 s ws memory last = record {
           given = given_back register result_registers f.result a.1.store (regs_after body_code s.state.regs) last.state placing.results step.holds same a.2 ws a.4;
-          regions = λ q none. absurd none;
+          regions = λ q none. absurd (omega (arith, none.2));
           others = λ q far outside. ap (λ m. map_of.get m q) run.memory;
           preserved = λ r among.
               ap (λ rs. slice_index rs (number_of r)) run.regs
@@ -146,7 +147,7 @@ module _ (p : Program) (f : Fun) (register : List ℕ → Reg) (straight : IsStr
 
   cases_stay : (ss : List Stmt) → CasesStayIn f 0 ss (map silent_case ss)
   cases_stay [] = tt
-  cases_stay (x ∷ ss) = (tt, cases_stay ss)
+  cases_stay (x ∷ ss) = (All-nil (OutStaysIn f 0 (kind_names x.kind)), cases_stay ss)
 
   pub correct : IsCorrect p f (compiled_of register f)
   correct = record {
