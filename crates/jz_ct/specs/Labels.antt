@@ -1,6 +1,6 @@
 -- What may depend on secrets: labels of variables, and the rules that they meet. A function is constant time where some labels meet
 -- them all. What a statement shows has to be public; an assignment between registers shows nothing.
-use Rattle.std.specs.Prelude.{◌≡◌, List, [], ◌∷◌, Option, Some, None, if◌then◌else◌}
+use Rattle.std.specs.Prelude.{◌≡◌, List, [], ◌∷◌, Option, Some, None}
 use Rattle.jz_tree.specs.declared.Fun.{Fun}
 use Rattle.jz_tree.specs.declared.Param.{Param}
 use Rattle.jz_tree.specs.declared.Expr.{Expr}
@@ -13,7 +13,7 @@ use Rattle.jz_tree.specs.declared.Rhs.TheVariants as rhs
 use Rattle.jz_tree.specs.declared.Stmt.{Stmt}
 use Rattle.jz_tree.specs.declared.StmtKind.{StmtKind}
 use Rattle.jz_tree.specs.declared.StmtKind.TheVariants as kind
-use Rattle.jz_meaning.specs.SourceStates.{Key, key_of, same_key}
+use Rattle.jz_meaning.specs.SourceStates.{Key, key_of, put}
 
 -- whether a value may depend on a secret
 pub data Label : Type 0 where
@@ -28,10 +28,6 @@ either secret b = secret
 -- a label for each variable, at a point of a run
 abbrev pub Labels : Type 0
 Labels = Key → Label
-
--- the labels with this one for this variable
-abbrev pub relabelled : Labels → Key → Label → Labels
-relabelled labels k l q = if same_key q k then l else labels q
 
 -- a number is public, a variable has its label
 abbrev pub expression_label : Expr → Labels → Label
@@ -52,7 +48,7 @@ assigned_label d (Some o) r labels = either (left_label d labels) (right_label r
 
 -- the left side has the label of what is assigned to it
 abbrev pub left_labelled : Lval → Label → Labels → Labels
-left_labelled (lval.Var x) l labels = relabelled labels (key_of x) l
+left_labelled (lval.Var x) l labels = put labels (key_of x) l
 
 -- the labels behind a statement; an assignment with another number of left sides than one means nothing, and changes none
 abbrev pub labels_after : StmtKind → Labels → Labels
@@ -65,8 +61,8 @@ parameter_label p = secret
 
 -- at entry the parameters have their labels, and no other variable is secret
 abbrev pub labels_at_entry : List Param → Labels
-labels_at_entry [] k = public
-labels_at_entry (p ∷ ps) k = if same_key k (key_of p.var) then parameter_label p else labels_at_entry ps k
+labels_at_entry [] = λ k. public
+labels_at_entry (p ∷ ps) = put (labels_at_entry ps) (key_of p.var) (parameter_label p)
 
 -- statements in their order lead from labels to labels, and what each of them shows is public: assignments show nothing
 abbrev pub Labelled : List Stmt → Labels → Labels → Type 0

@@ -1,9 +1,9 @@
 -- One outcome for each n, what is the same at other n, and that there is one.
-use Rattle.std.proofs.Common.{◌≡◌, ℕ, zero, suc, ◌+◌, ◌<◌, ◌≤◌, Bool, true, false, List, [], ◌∷◌, ℤ, refl, sym, ap, ◌∙◌, subst, arith}
+use Rattle.std.proofs.Common.{◌≡◌, ℕ, zero, suc, ◌+◌, ◌<◌, ◌≤◌, Bool, true, false, List, [], ◌∷◌, ℤ, refl, sym, ap, ◌∙◌, subst, arith, if◌then◌else◌}
 use Rattle.jz_meaning.specs.RunTrees.{Tree, done, op, quiet, choose, loop, each, call}
 use Rattle.jz_leak.specs.RunLeaks as leak
 use Rattle.jz_leak.specs.RunLeaks.{Leak, Turns, Rounds}
-use Rattle.jz_meaning.specs.RunRules.{Attempt, stuck, went, Parts, Outcome, End, Cut, Stuck, after, pick, Goes, finished, did, did_not, quieted, chosen, chosen_cut, chosen_stuck, chose_not, loop_left, loop_cut, loop_stuck, counted, counted_cut, counted_stuck, counted_not, call_ended, call_cut, call_stuck, entered_not, left_not, Loops, in_prologue, prologue_stuck, tested_not, leaves_loop, no_turn, in_body, body_stuck, more_turns, Counts, no_count, more_counts, count_cut, count_stuck}
+use Rattle.jz_meaning.specs.RunRules.{Attempt, stuck, went, Parts, Outcome, End, Cut, Stuck, after, Goes, finished, did, did_not, quieted, chosen, chosen_cut, chosen_stuck, chose_not, loop_left, loop_cut, loop_stuck, counted, counted_cut, counted_stuck, counted_not, call_ended, call_cut, call_stuck, entered_not, left_not, Loops, in_prologue, prologue_stuck, tested_not, leaves_loop, no_turn, in_body, body_stuck, more_turns, Counts, no_count, more_counts, count_cut, count_stuck}
 
 -- an end needs some number of turns, and comes with as many or more; being stuck is the same with more
 abbrev pub Exact : {S W L : Type 0} → (ℕ → Outcome S W L → Type 0) → ℕ → Outcome S W L → Type 0
@@ -94,9 +94,9 @@ module _ {O T F C S W : Type 0} (M : Parts O T F C S W) where
   turns_of (suc k) p c b n s =
       bind (p n s) leak.prologue_cut
       (λ m s1 lp. on (M.tests c s1)
-      (λ ns z. pick z
-      (take_turn lp ns m (λ m1. bind (b m1 s1) (leak.body_cut lp ns) (λ m2 s2 lb. after (leak.turn lp ns lb) (turns_of k p c b m2 s2))))
-      (End s1 m (leak.left lp ns))))
+      (λ ns z. if z
+      then (take_turn lp ns m (λ m1. bind (b m1 s1) (leak.body_cut lp ns) (λ m2 s2 lb. after (leak.turn lp ns lb) (turns_of k p c b m2 s2))))
+      else End s1 m (leak.left lp ns)))
 
   abbrev counts_of : F → (ℕ → S → Outcome S W Leak) → List ℤ → ℕ → S → Outcome S W Rounds
   counts_of f b [] n s = End s n leak.no_round
@@ -106,12 +106,12 @@ module _ {O T F C S W : Type 0} (M : Parts O T F C S W) where
   run done n s = End s n leak.over
   run (op o r) n s = on (M.does o s) (λ ns s1. after (leak.ran ns) (run r n s1))
   run (quiet o r) n s = run r n (M.quiets o s)
-  run (choose c a b r) n s = on (M.tests c s) (λ ns z. bind (pick z (run a n s) (run b n s)) (leak.chose_cut ns z) (λ m s1 l. after (leak.chose ns z l) (run r m s1)))
+  run (choose c a b r) n s = on (M.tests c s) (λ ns z. bind (if z then run a n s else run b n s) (leak.chose_cut ns z) (λ m s1 l. after (leak.chose ns z l) (run r m s1)))
   run (loop q p c b r) n s = bind (turns_of (suc n) (run p) c (run b) n s) leak.looped_cut (λ m s1 ts. after (leak.looped ts) (run r m s1))
   run (each f b r) n s = on (M.counts f s) (λ ns is. bind (counts_of f (run b) is n s) leak.each_cut (λ m s1 ls. after (leak.each ls) (run r m (M.restores f s s1))))
   run (call c b r) n s = on (M.enters c s) (λ ns s1. bind (run b n s1) (leak.called_cut ns) (λ m s2 l. on (M.leaves c s s2) (λ ms s3. after (leak.called ns l ms) (run r m s3))))
 
-  picked : (z : Bool) (a b : Tree O T F C) (n : ℕ) (s : S) → run (pick z a b) n s ≡ pick z (run a n s) (run b n s)
+  picked : (z : Bool) (a b : Tree O T F C) (n : ℕ) (s : S) → run (if z then a else b) n s ≡ (if z then run a n s else run b n s)
   picked true a b n s = refl
   picked false a b n s = refl
 
@@ -171,7 +171,7 @@ module _ {O T F C S W : Type 0} (M : Parts O T F C S W) where
   has_op (stuck w) q hr = (_, did_not q)
   has_op {n} (went ns s1) q hr = (_, did q (hr n s1).1)
 
-  has_arm : {c : T} {a b r : Tree O T F C} {n : ℕ} {s : S} {ns : List ℕ} {z : Bool} → M.tests c s ≡ went ns z → (o : Outcome S W Leak) → Goes M (pick z a b) n s o → Everywhere r → Has (Goes M (choose c a b r) n s)
+  has_arm : {c : T} {a b r : Tree O T F C} {n : ℕ} {s : S} {ns : List ℕ} {z : Bool} → M.tests c s ≡ went ns z → (o : Outcome S W Leak) → Goes M (if z then a else b) n s o → Everywhere r → Has (Goes M (choose c a b r) n s)
   has_arm q (End s1 m l) g hr = (_, chosen q g (hr m s1).1)
   has_arm q (Cut l) g hr = (_, chosen_cut q g)
   has_arm q (Stuck w) g hr = (_, chosen_stuck q g)

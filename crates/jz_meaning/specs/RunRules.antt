@@ -1,5 +1,5 @@
 -- What a body does with n true tests of `while` left in the whole run, whatever its parts are: one rule or a few for each statement form.
-use Rattle.std.specs.Prelude.{ℕ, zero, suc, ℤ, ◌≡◌, Bool, true, false, List, [], ◌∷◌}
+use Rattle.std.specs.Prelude.{ℕ, zero, suc, ℤ, ◌≡◌, Bool, true, false, if◌then◌else◌, List, [], ◌∷◌}
 use Rattle.jz_meaning.specs.RunTrees.{Tree, done, op, quiet, choose, loop, each, call}
 use Rattle.jz_leak.specs.RunLeaks.{Leak, over, ran, chose, chose_cut, looped, looped_cut, each, each_cut, called, called_cut, Turns, left, turn, prologue_cut, wanted, body_cut, Rounds, no_round, round, round_cut}
 
@@ -34,11 +34,6 @@ after f (End s n l) = End s n (f l)
 after f (Cut l) = Cut (f l)
 after f (Stuck w) = Stuck w
 
--- the first where the answer is true
-abbrev pub pick : {A : Type 0} → Bool → A → A → A
-pick true a b = a
-pick false a b = b
-
 -- the rules for bodies, for the turns of a `while`, and for the rounds of a `for`
 mutual
   pub data Goes {O T F C S W : Type 0} (M : Parts O T F C S W) : Tree O T F C → ℕ → S → Outcome S W Leak → Type 0 where
@@ -50,9 +45,9 @@ mutual
     -- an operation without a leak
     quieted : {o : O} {r : Tree O T F C} {n : ℕ} {s : S} {w : Outcome S W Leak} → Goes M r n (M.quiets o s) w → Goes M (quiet o r) n s w
     -- `if`: the arm of the test's answer, and then what follows, where the arm ends
-    chosen : {c : T} {a b r : Tree O T F C} {n m : ℕ} {s s1 : S} {ns : List ℕ} {z : Bool} {l : Leak} {w : Outcome S W Leak} → M.tests c s ≡ went ns z → Goes M (pick z a b) n s (End s1 m l) → Goes M r m s1 w → Goes M (choose c a b r) n s (after (chose ns z l) w)
-    chosen_cut : {c : T} {a b r : Tree O T F C} {n : ℕ} {s : S} {ns : List ℕ} {z : Bool} {l : Leak} → M.tests c s ≡ went ns z → Goes M (pick z a b) n s (Cut l) → Goes M (choose c a b r) n s (Cut (chose_cut ns z l))
-    chosen_stuck : {c : T} {a b r : Tree O T F C} {n : ℕ} {s : S} {ns : List ℕ} {z : Bool} {w : W} → M.tests c s ≡ went ns z → Goes M (pick z a b) n s (Stuck w) → Goes M (choose c a b r) n s (Stuck w)
+    chosen : {c : T} {a b r : Tree O T F C} {n m : ℕ} {s s1 : S} {ns : List ℕ} {z : Bool} {l : Leak} {w : Outcome S W Leak} → M.tests c s ≡ went ns z → Goes M (if z then a else b) n s (End s1 m l) → Goes M r m s1 w → Goes M (choose c a b r) n s (after (chose ns z l) w)
+    chosen_cut : {c : T} {a b r : Tree O T F C} {n : ℕ} {s : S} {ns : List ℕ} {z : Bool} {l : Leak} → M.tests c s ≡ went ns z → Goes M (if z then a else b) n s (Cut l) → Goes M (choose c a b r) n s (Cut (chose_cut ns z l))
+    chosen_stuck : {c : T} {a b r : Tree O T F C} {n : ℕ} {s : S} {ns : List ℕ} {z : Bool} {w : W} → M.tests c s ≡ went ns z → Goes M (if z then a else b) n s (Stuck w) → Goes M (choose c a b r) n s (Stuck w)
     chose_not : {c : T} {a b r : Tree O T F C} {n : ℕ} {s : S} {w : W} → M.tests c s ≡ stuck w → Goes M (choose c a b r) n s (Stuck w)
     -- `while`: its turns, and then what follows, where they end
     loop_left : {q : Bool} {p : Tree O T F C} {c : T} {b r : Tree O T F C} {n m : ℕ} {s s1 : S} {ts : Turns} {w : Outcome S W Leak} → Loops M p c b n s (End s1 m ts) → Goes M r m s1 w → Goes M (loop q p c b r) n s (after (looped ts) w)

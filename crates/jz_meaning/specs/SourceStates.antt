@@ -1,6 +1,6 @@
 -- Stores of a source run: what the variables are, and the valid bytes of the memory.
-use Rattle.std.specs.Prelude.{ℕ, ℤ, ◌==◌, Bool, List, Option, None, if◌then◌else◌}
-use Rattle.std.specs.Cmp.Lexicographic.{pointwise}
+use Rattle.std.specs.Prelude.{ℕ, ℤ, Bool, List, Option, None, if◌then◌else◌}
+use Rattle.std.specs.Str.{bytes_eq}
 use Rattle.jz_io.specs.declared.span.Span.{Span}
 use Rattle.jz_words.specs.declared.size.Size.{Size}
 use Rattle.jz_words.specs.Memory.{Memory}
@@ -23,7 +23,7 @@ key_of x = record { name = x.name }
 
 -- two keys are one
 abbrev pub same_key : Key → Key → Bool
-same_key a b = pointwise ◌==◌ a.name b.name
+same_key a b = bytes_eq a.name b.name
 
 -- the variables that have a value, each with it
 abbrev pub Store : Type 0
@@ -33,9 +33,9 @@ Store = Key → Option Value
 abbrev pub empty_store : Store
 empty_store k = None
 
--- the store in which this key has this value, or none
-abbrev pub put : Store → Key → Option Value → Store
-put store k v q = if same_key q k then v else store q
+-- what is given by keys, with this for one of them
+abbrev pub put : {A : Type 0} → (Key → A) → Key → A → Key → A
+put given k v q = if same_key q k then v else given q
 
 -- where a run stands
 pub record State : Type 0 where
