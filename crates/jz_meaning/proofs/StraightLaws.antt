@@ -21,7 +21,7 @@ use Rattle.jz_meaning.specs.RunTrees.{done}
 use Rattle.jz_meaning.specs.RunRules.{stuck, went, Outcome, End, Stuck, after}
 use Rattle.jz_meaning.specs.SourceStates.{Value, word, integer, key_of, State, Why}
 use Rattle.jz_meaning.specs.SourceValues.{Got, numbers_first, and_then, defined, evaluated, value_of, numbers_in, numbers_of}
-use Rattle.jz_meaning.specs.SourceRuns.{as_declared, held, written, left_value, right_value, combined, assigned_value, assigned, Block, source, statement, block, begun, result_words, returned_words, returned, FunOutcome, IsRun}
+use Rattle.jz_meaning.specs.SourceRuns.{as_declared, held, written, left_value, right_value, combined, assigned_value, assigned, Block, source, statement, block, begun, result_words, outcome_of_words, returned, FunOutcome, IsRun}
 use Rattle.jz_meaning.specs.StraightRuns.{run_statement, run_statements, plain_leak, straight_outcome}
 use Rattle.jz_meaning.proofs.RunSteady.{run, ran_so}
 
@@ -151,13 +151,13 @@ body_so (x ∷ xs) n s =
 
 -- ---- a function's outcome
 
-words_after : (m : Memory) (n : ℕ) (l : Leak) (ns : List ℕ) (x : Got (List ℕ)) → returned_words m n l x ≡ returned_words m n l (numbers_first ns x)
+words_after : (m : Memory) (n : ℕ) (l : Leak) (ns : List ℕ) (x : Got (List ℕ)) → outcome_of_words m n l x ≡ outcome_of_words m n l (numbers_first ns x)
 words_after m n l ns (stuck w) = refl
 words_after m n l ns (went ms ws) = refl
 
-returned_so : (xs : List Var) (m : Memory) (n : ℕ) (l : Leak) (z : Got State) → HasMemory m z → returned xs (ended n l z) ≡ returned_words m n l (and_then z (λ s. result_words xs s.store))
+returned_so : (xs : List Var) (m : Memory) (n : ℕ) (l : Leak) (z : Got State) → HasMemory m z → returned xs (ended n l z) ≡ outcome_of_words m n l (and_then z (λ s. result_words xs s.store))
 returned_so xs m n l (stuck w) h = refl
-returned_so xs m n l (went ns s) h = ap (λ k. returned_words k n l (result_words xs s.store)) h ∙ words_after m n l ns (result_words xs s.store)
+returned_so xs m n l (went ns s) h = ap (λ k. outcome_of_words k n l (result_words xs s.store)) h ∙ words_after m n l ns (result_words xs s.store)
 
 pub fun_straight : (p : Program) (f : Fun) (words : List ℕ) (memory : Memory) (n : ℕ) (o : FunOutcome) → IsRun p f words memory n o → o ≡ straight_outcome f words memory n
 fun_straight p f words memory n o g =

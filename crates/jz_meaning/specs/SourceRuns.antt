@@ -155,13 +155,13 @@ abbrev pub FunOutcome : Type 0
 FunOutcome = Outcome Returned Why Leak
 
 -- an end with these words, or stuck where a returned variable has no value
-abbrev pub returned_words : Memory → ℕ → Leak → Got (List ℕ) → FunOutcome
-returned_words memory n l (stuck w) = Stuck w
-returned_words memory n l (went ns ws) = End (record { words = ws; memory = memory }) n l
+abbrev pub outcome_of_words : Memory → ℕ → Leak → Got (List ℕ) → FunOutcome
+outcome_of_words memory n l (stuck w) = Stuck w
+outcome_of_words memory n l (went ns ws) = End (record { words = ws; memory = memory }) n l
 
 -- the outcome of a function, by that of its body
 abbrev pub returned : List Var → Outcome State Why Leak → FunOutcome
-returned xs (End s n l) = returned_words s.memory n l (result_words xs s.store)
+returned xs (End s n l) = outcome_of_words s.memory n l (result_words xs s.store)
 returned xs (Cut l) = Cut l
 returned xs (Stuck w) = Stuck w
 

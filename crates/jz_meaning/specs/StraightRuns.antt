@@ -10,7 +10,7 @@ use Rattle.jz_leak.specs.RunLeaks.{Leak, over, ran}
 use Rattle.jz_meaning.specs.RunRules.{went}
 use Rattle.jz_meaning.specs.SourceStates.{State}
 use Rattle.jz_meaning.specs.SourceValues.{Got, and_then}
-use Rattle.jz_meaning.specs.SourceRuns.{assigned, begun, result_words, returned_words, FunOutcome}
+use Rattle.jz_meaning.specs.SourceRuns.{assigned, begun, result_words, outcome_of_words, FunOutcome}
 
 -- the state after a statement
 abbrev pub run_statement : StmtKind → Span → State → Got State
@@ -32,4 +32,4 @@ plain_leak (x ∷ xs) = ran [] (plain_leak xs)
 
 -- what a run comes to: the words, the memory as it was, and each of the n turns left
 abbrev pub straight_outcome : Fun → List ℕ → Memory → ℕ → FunOutcome
-straight_outcome f words memory n = returned_words memory n (plain_leak f.body) (words_returned f words memory)
+straight_outcome f words memory n = outcome_of_words memory n (plain_leak f.body) (words_returned f words memory)

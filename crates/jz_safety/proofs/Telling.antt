@@ -23,7 +23,7 @@ use Rattle.jz_leak.specs.RunLeaks.{Leak}
 use Rattle.jz_meaning.specs.RunRules.{stuck, went, End, Stuck}
 use Rattle.jz_meaning.specs.SourceStates.{Value, word, integer, key_of, Store, empty_store, put, State, Why}
 use Rattle.jz_meaning.specs.SourceValues.{Got, numbers_first, and_then, defined, variable_value}
-use Rattle.jz_meaning.specs.SourceRuns.{of_type, as_declared, held, written, right_value, combined, assigned_value, assigned, value_of_type, argument, with_arguments, begun, word_of, result_words, returned_words, FunOutcome, FitsDecl, AreArguments, IsRun}
+use Rattle.jz_meaning.specs.SourceRuns.{of_type, as_declared, held, written, right_value, combined, assigned_value, assigned, value_of_type, argument, with_arguments, begun, word_of, result_words, outcome_of_words, FunOutcome, FitsDecl, AreArguments, IsRun}
 use Rattle.jz_meaning.specs.StraightRuns.{run_statement, run_statements, words_returned, plain_leak}
 use Rattle.jz_meaning.proofs.StraightLaws.{fun_straight}
 use Rattle.jz_facts.specs.declared.fact.Fact.TheVariants.{Set}
@@ -228,12 +228,12 @@ shows_function f words memory a h =
     (shows_statements f.body entry (begun f words memory) h (tells_arguments f.params words no_facts empty_store a tells_none))
     (λ u k. shows_results (facts_at_end entry f.body) u.store k f.result)
 
-ends_without : (memory : Memory) (n : ℕ) (l : Leak) (these : List Alarm) (x : Got (List ℕ)) → Shows these AnyValue x → these ≡ [] → (ws : List ℕ) × (returned_words memory n l x ≡ End (record { words = ws; memory = memory }) n l)
+ends_without : (memory : Memory) (n : ℕ) (l : Leak) (these : List Alarm) (x : Got (List ℕ)) → Shows these AnyValue x → these ≡ [] → (ws : List ℕ) × (outcome_of_words memory n l x ≡ End (record { words = ws; memory = memory }) n l)
 ends_without memory n l [] (stuck w) h e = absurd h
 ends_without memory n l [] (went ns ws) h e = (ws, refl)
 ends_without memory n l (a ∷ these) x h e = cc
 
-stuck_with : (memory : Memory) (n : ℕ) (l : Leak) (these later : List Alarm) (a : Alarm) (x : Got (List ℕ)) → Shows these AnyValue x → these ≡ a ∷ later → returned_words memory n l x ≡ Stuck (why_of a)
+stuck_with : (memory : Memory) (n : ℕ) (l : Leak) (these later : List Alarm) (a : Alarm) (x : Got (List ℕ)) → Shows these AnyValue x → these ≡ a ∷ later → outcome_of_words memory n l x ≡ Stuck (why_of a)
 stuck_with memory n l [] later a x h e = cc
 stuck_with memory n l (b ∷ these) later a (stuck w) h e = let q : b ≡ a = cc in ap (λ z. Stuck z) (h ∙ ap why_of q)
 stuck_with memory n l (b ∷ these) later a (went ns ws) h e = absurd h
