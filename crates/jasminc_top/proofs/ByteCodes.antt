@@ -1,6 +1,8 @@
 -- Code is bytes.
 use Rattle.std.proofs.Common.{◌≡◌, ℕ, zero, suc, ◌+◌, ◌*◌, ◌/◌, ◌%◌, ◌^◌, ◌<◌, ◌≤◌, Bool, true, false, List, [], ◌∷◌, ◌++◌, refl, arith, lit<}
-use Rattle.std.specs.Prelude.{ℤ, Option, Some, None, if◌then◌else◌, slice_index, ⊤}
+use Rattle.std.specs.Prelude.{ℤ, Option, Some, None, if◌then◌else◌, All}
+use Rattle.std.specs.List.{AllByRecursion}
+use Rattle.std.proofs.lemmas.List.Elements.{All-from_recursion}
 use Rattle.jz_words.specs.declared.size.Size.TheVariants.{S64}
 use Rattle.x64_insn.specs.declared.types.Reg.{Reg}
 use Rattle.x64_insn.specs.declared.types.Alu.{Alu}
@@ -24,17 +26,11 @@ use Rattle.jz_lower.specs.Lowering.{insns_of, kind_insns}
 use Rattle.jz_pipeline.specs.Compiling.{code_insns, compiled_of}
 
 abbrev AllSmall : List ℕ → Type 0
-AllSmall [] = ⊤
-AllSmall (b ∷ bs) = (b < 256) × AllSmall bs
+AllSmall bs = AllByRecursion (λ b. b < 256) bs
 
 small_both : (xs ys : List ℕ) → AllSmall xs → AllSmall ys → AllSmall (xs ++ ys)
 small_both [] ys h k = k
 small_both (x ∷ xs) ys h k = (h.0, small_both xs ys h.1 k)
-
-small_at : (xs : List ℕ) → AllSmall xs → (i : ℕ) → slice_index xs i < 256
-small_at [] h i = lit< tt
-small_at (x ∷ xs) h zero = h.0
-small_at (x ∷ xs) h (suc i) = small_at xs h.1 i
 
 number_bytes : (k n : ℕ) → AllSmall (bytes_of_number k n)
 number_bytes zero n = tt
@@ -123,5 +119,5 @@ module _ (register : List ℕ → Reg) where
   body_bytes [] = tt
   body_bytes (s ∷ ss) = code_both (kind_insns register s.kind) (insns_of register ss) (kind_bytes s.kind) (body_bytes ss)
 
-  pub code_bytes : (f : Fun) (i : ℕ) → slice_index (compiled_of register f).code i < 256
-  code_bytes f = small_at (assembled (code_insns register f)) (code_both (insns_of register f.body) (insn.Ret ∷ []) (body_bytes f.body) (one_code _ ret_bytes))
+  pub code_bytes : (f : Fun) → All (λ b. b < 256) (compiled_of register f).code
+  code_bytes f = All-from_recursion (λ b. b < 256) (assembled (code_insns register f)) (code_both (insns_of register f.body) (insn.Ret ∷ []) (body_bytes f.body) (one_code _ ret_bytes))

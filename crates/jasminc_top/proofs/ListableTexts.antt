@@ -2,6 +2,7 @@
 use Rattle.std.proofs.Common.{◌≡◌, ℕ, ◌+◌, ◌<◌, ◌≤◌, ◌^◌, Bool, true, List, [], ◌∷◌, ◌++◌, length, refl, sym, ap, ◌∙◌, subst, arith, lit<, length-append}
 use Rattle.std.specs.Prelude.{All, map, ◌&&◌}
 use Rattle.std.proofs.lemmas.List.Elements.{All-nil, All-cons, All-head, All-tail, All-map, All-weaker}
+use Rattle.jz_words.specs.declared.size.Size.TheVariants.{S64}
 use Rattle.x64_insn.specs.declared.types.Reg.{Reg}
 use Rattle.x64_insn.specs.declared.types.Insn.TheVariants as insn
 use Rattle.jz_lex.specs.declared.token.Token.{Token}
@@ -27,7 +28,7 @@ use Rattle.jz_leak.specs.declared.transformer.Tr.{Tr}
 use Rattle.jz_listing.specs.declared.compiled.Compiled.{Compiled}
 use Rattle.jz_listing.specs.declared.compiled.Arg.{Arg}
 use Rattle.jz_listing.specs.Listing.{listing_text}
-use Rattle.jz_listing.specs.Listable.{IsName, Each, IsListableArg, IsListable, AreListable, case_fits, tr_fits, case_layer_fits, tr_layer_fits, all_true, transformer_fits, outs_fit}
+use Rattle.jz_listing.specs.Listable.{is_name_byte, IsName, IsListableArg, IsListablePre, IsListable, AreListable, case_fits, tr_fits, case_layer_fits, tr_layer_fits, parts_fit, transformer_fits, outs_fit}
 use Rattle.jz_listing.proofs.LinesApart.{listings_apart}
 use Rattle.jz_correct.specs.Registers.{argument_registers, result_registers}
 use Rattle.jz_lower.specs.Lowering.{insns_of}
@@ -39,17 +40,15 @@ use Rattle.jasminc_top.proofs.ByteCodes.{code_bytes}
 use Rattle.jasminc_top.proofs.StartLaws.{insns_few}
 
 -- ---- names
-name_of : (w : List ℕ) → All (λ b. in_word b ≡ true) w → IsName w
-name_of [] h = tt
-name_of (b ∷ w) h = (byte_code b (All-head (λ c. in_word c ≡ true) b w h), name_of w (All-tail (λ c. in_word c ≡ true) b w h))
-
 is_name : (w : List ℕ) → IsIdentifier w → IsName w
-is_name w h = name_of w (identifier_bytes w h)
+is_name w h = All-weaker (λ c. in_word c ≡ true) (λ c. is_name_byte c ≡ true) byte_code w (identifier_bytes w h)
 
-line_names : (rs : List Reg) (xs : List Var) → All (λ v. IsIdentifier v.name) xs → Each IsListableArg (lines_of rs xs)
-line_names rs [] h = tt
-line_names [] (x ∷ xs) h = tt
-line_names (r ∷ rs) (x ∷ xs) h = (is_name x.name (All-head (λ (v : Var). IsIdentifier v.name) x xs h), line_names rs xs (All-tail (λ (v : Var). IsIdentifier v.name) x xs h))
+line_names : (rs : List Reg) (xs : List Var) → All (λ v. IsIdentifier v.name) xs → All IsListableArg (lines_of rs xs)
+line_names rs [] h = All-nil IsListableArg
+line_names [] (x ∷ xs) h = All-nil IsListableArg
+line_names (r ∷ rs) (x ∷ xs) h =
+    All-cons IsListableArg (record { name = x.name; size = S64; reg = r }) (lines_of rs xs) (is_name x.name (All-head (λ (v : Var). IsIdentifier v.name) x xs h))
+    (line_names rs xs (All-tail (λ (v : Var). IsIdentifier v.name) x xs h))
 
 names_resolved : (f : Fun) → HasNames f → HasNames (resolved_fun f)
 names_resolved f h =
@@ -73,9 +72,9 @@ text_names text p t = subst (λ (q : Program). All HasNames q.funs) (sym t.is) (
 silent_fits : case_fits (case.Op []) ≡ true
 silent_fits = ap case_fits (sym (case.rolls-Op [])) ∙ fold-roll-Case _ _ case_layer_fits tr_layer_fits (Case-F.Op [])
 
-cases_fit : (ss : List Stmt) → all_true (map case_fits (map silent_case ss)) ≡ true
+cases_fit : (ss : List Stmt) → parts_fit (map case_fits (map silent_case ss)) ≡ true
 cases_fit [] = refl
-cases_fit (s ∷ ss) = ap (λ (z : Bool). z && all_true (map case_fits (map silent_case ss))) silent_fits ∙ cases_fit ss
+cases_fit (s ∷ ss) = ap (λ (z : Bool). z && parts_fit (map case_fits (map silent_case ss))) silent_fits ∙ cases_fit ss
 
 body_fits : (ss : List Stmt) → tr_fits (record { cases = map silent_case ss }) ≡ true
 body_fits ss = fold-roll-Tr _ _ case_layer_fits tr_layer_fits (record { cases = map silent_case ss }) ∙ cases_fit ss
@@ -95,7 +94,7 @@ listable register f names small =
       name = is_name f.name names.name;
       args = line_names argument_registers (map variable_of f.params) (All-map (λ (v : Var). IsIdentifier v.name) variable_of f.params names.params);
       rets = line_names result_registers f.result names.result;
-      pre = tt;
+      pre = All-nil IsListablePre;
       frame = lit< tt;
       insns = insns_below (length (code_insns register f)) (length (insns_of register f.body)) count (omega (arith, fewer, small));
       code = code_bytes register f;
@@ -104,14 +103,14 @@ listable register f names small =
     }
 
 made_each : (fs : List Fun) (made : List Compiled) → AreMade fs made → All HasNames fs → AreListable made
-made_each [] [] m names = tt
+made_each [] [] m names = All-nil IsListable
 made_each [] (c ∷ cs) m names = absurd m.compiled
 made_each (f ∷ fs) [] m names = absurd m.compiled
 made_each (f ∷ fs) (c ∷ cs) m names =
     let rest : AreMade fs cs = record { within = All-tail IsWithinLimits f fs m.within; safe = All-tail HasNoAlarm f fs m.safe; compiled = m.compiled.1 } in
     let small = All-head IsWithinLimits f fs m.within in
     let one = listable (register_of f m.compiled.0.places) f (All-head HasNames f fs names) small.0 in
-    (subst IsListable (sym m.compiled.0.is) one, made_each fs cs rest (All-tail HasNames f fs names))
+    All-cons IsListable c cs (subst IsListable (sym m.compiled.0.is) one) (made_each fs cs rest (All-tail HasNames f fs names))
 
 pub made_listable : (text : List ℕ) (p : Program) (made : List Compiled) → Makes text p made → AreListable made
 made_listable text p made m = made_each p.funs made m.are_made (text_names text p m.types)

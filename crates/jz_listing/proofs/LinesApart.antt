@@ -1,7 +1,10 @@
 -- Listings are told apart.
-use Rattle.std.proofs.Common.{◌≡◌, ℕ, zero, suc, ◌+◌, ◌*◌, ◌<◌, ◌^◌, Bool, true, false, List, [], ◌∷◌, ◌++◌, refl, sym, ap, ◌∙◌, append_assoc, append-nil, arith, subst, Option, Some, None, Ok}
-use Rattle.std.specs.Prelude.{map, codes, decimal, ◌==◌, if◌then◌else◌, not, slice_index}
-use Rattle.std.specs.List.{concat}
+use Rattle.std.proofs.Common.{◌≡◌, ℕ, zero, suc, ◌+◌, ◌*◌, ◌<◌, ◌^◌, Bool, true, false, List, [], ◌∷◌, ◌++◌, refl, sym, ap, ◌∙◌, append_assoc, append-nil, arith, subst, lit<, Option, Some, None, Ok}
+use Rattle.std.specs.Prelude.{map, codes, decimal, ◌==◌, if◌then◌else◌, not, slice_index, All}
+use Rattle.std.specs.List.{concat, list_all}
+use Rattle.std.proofs.lemmas.Bool.{and_parts, and_from}
+use Rattle.std.proofs.lemmas.List.Elements.{All-head, All-tail}
+use Rattle.std.proofs.lemmas.List.Sums.{list_all-from_AllPass}
 use Rattle.hex.specs.Hex.{encode_lower, encode_with, lower_digits, decode_of}
 use Rattle.hex.proofs.HexLemmas.{decode_of-encode_lower}
 use Rattle.jz_words.specs.declared.size.Size.{Size}
@@ -19,7 +22,7 @@ use Rattle.jz_listing.specs.declared.compiled.Pre.TheVariants as pre
 use Rattle.jz_listing.specs.declared.compiled.Compiled.{Compiled}
 use Rattle.jz_listing.specs.Transformers.{transformer_text}
 use Rattle.jz_listing.specs.Listing.{reg_text, size_text, arg_text, arg_line, ret_line, extent_text, pre_text, pre_line, saved_reg_text, saved_text, span_text, kind_text, ct_text, interface_text, frame_text, code_text, leakage_text, compiled_text, listing_text}
-use Rattle.jz_listing.specs.Listable.{AllOf, is_name_byte, is_variable_byte, IsName, IsVariable, Each, IsListableArg, IsListablePre, IsListableCt, IsListable, AreListable, transformer_fits}
+use Rattle.jz_listing.specs.Listable.{is_name_byte, is_variable_byte, IsName, IsListableArg, IsListablePre, IsListableCt, IsListable, AreListable, transformer_fits}
 use Rattle.jz_listing.proofs.Apart.{first, rest, without_front, spans, decimal_apart, lines_apart}
 use Rattle.jz_listing.proofs.TransformersApart.{transformer_apart}
 
@@ -53,10 +56,9 @@ reg_read reg.R13 = refl
 reg_read reg.R14 = refl
 reg_read reg.R15 = refl
 
-reg_named : (r : Reg) → IsName (reg_text r)
-reg_named reg.R8 = (refl, (refl, tt))
-reg_named reg.R9 = (refl, (refl, tt))
-reg_named _ = (refl, (refl, (refl, tt)))
+reg_named : (r : Reg) → list_all is_name_byte (reg_text r) ≡ true
+reg_named reg.Rax = refl
+reg_named _ = refl
 
 reg_first : (r : Reg) (x : List ℕ) → first (reg_text r ++ x) ≡ 114
 reg_first reg.Rax x = refl
@@ -75,9 +77,9 @@ size_read S16 = refl
 size_read S32 = refl
 size_read S64 = refl
 
-size_named : (s : Size) → IsName (size_text s)
-size_named S8 = (refl, (refl, tt))
-size_named _ = (refl, (refl, (refl, tt)))
+size_named : (s : Size) → list_all is_name_byte (size_text s) ≡ true
+size_named S8 = refl
+size_named _ = refl
 
 size_apart : (r s : Size) (x y : List ℕ) → is_name_byte (first x) ≡ false → is_name_byte (first y) ≡ false → size_text r ++ x ≡ size_text s ++ y → (r ≡ s) × (x ≡ y)
 size_apart r s x y p q e =
@@ -91,17 +93,16 @@ kind_read kind.Branch = refl
 kind_read kind.Address = refl
 kind_read kind.Divide = refl
 
-kind_named : (s : CtKind) → IsName (kind_text s)
-kind_named kind.Branch = (refl, (refl, (refl, (refl, (refl, (refl, tt))))))
-kind_named kind.Address = (refl, (refl, (refl, (refl, (refl, (refl, (refl, tt)))))))
-kind_named kind.Divide = (refl, (refl, (refl, (refl, (refl, (refl, tt))))))
+kind_named : (s : CtKind) → list_all is_name_byte (kind_text s) ≡ true
+kind_named kind.Branch = refl
+kind_named _ = refl
 
 kind_apart : (r s : CtKind) (x y : List ℕ) → is_name_byte (first x) ≡ false → is_name_byte (first y) ≡ false → kind_text r ++ x ≡ kind_text s ++ y → (r ≡ s) × (x ≡ y)
 kind_apart r s x y p q e =
     let b = spans is_name_byte (kind_text r) (kind_text s) x y (kind_named r) (kind_named s) p q e in (sym (kind_read r) ∙ ap kind_of b.0 ∙ kind_read s, b.1)
 
 name_apart : (m n x y : List ℕ) → IsName m → IsName n → is_name_byte (first x) ≡ false → is_name_byte (first y) ≡ false → m ++ x ≡ n ++ y → (m ≡ n) × (x ≡ y)
-name_apart = spans is_name_byte
+name_apart m n x y h k p q e = spans is_name_byte m n x y (list_all-from_AllPass is_name_byte m h) (list_all-from_AllPass is_name_byte n k) p q e
 
 -- ---- lines of parameters and results
 joined_arg : (n k s l r m x : List ℕ) → (n ++ k ++ s ++ l ++ r ++ m) ++ x ≡ n ++ (k ++ (s ++ (l ++ (r ++ (m ++ x)))))
@@ -207,10 +208,6 @@ Stops c = is_name_byte c ≡ false
 saved_one : (r s : Reg) (x y : List ℕ) → Unit {0} → Unit {0} → Stops (first x) → Stops (first y) → saved_reg_text r ++ x ≡ saved_reg_text s ++ y → (r ≡ s) × (x ≡ y)
 saved_one r s x y h k p q e = reg_apart r s x y p q (ap rest e)
 
-all_regs : (rs : List Reg) → Each (λ (r : Reg). Unit {0}) rs
-all_regs [] = tt
-all_regs (r ∷ rs) = (tt, all_regs rs)
-
 -- a dash is no register
 dash : (r : Reg) (x y : List ℕ) → 45 ∷ y ≡ reg_text r ++ x → ⊥
 dash r x y e = (let z : 45 ≡ 114 = ap first e ∙ reg_first r x in absurd (omega (arith, z)))
@@ -222,7 +219,7 @@ saved_apart [] (s ∷ ss) x y e =
 saved_apart (r ∷ rs) [] x y e =
     absurd (dash r (concat (map saved_reg_text rs) ++ (10 ∷ x)) (10 ∷ y) (ap rest (sym e ∙ append_assoc (saved_reg_text r) (concat (map saved_reg_text rs)) (10 ∷ x))))
 saved_apart (r ∷ rs) (s ∷ ss) x y e =
-    let b = lines_apart (λ (t : Reg). Unit {0}) saved_reg_text 32 Stops (λ t v. refl) refl saved_one (r ∷ rs) (s ∷ ss) (10 ∷ x) (10 ∷ y) (all_regs (r ∷ rs)) (all_regs (s ∷ ss)) refl refl
+    let b = lines_apart (λ (t : Reg). Unit {0}) saved_reg_text 32 Stops (λ t v. refl) refl saved_one (r ∷ rs) (s ∷ ss) (10 ∷ x) (10 ∷ y) (λ i d lt. tt) (λ i d lt. tt) refl refl
     (λ z. omega (arith, z)) (λ z. omega (arith, z)) e in
     (b.0, ap rest b.1)
 
@@ -251,31 +248,35 @@ ct_apart (ct.No s a v) (ct.No t b w) x y h k e =
     ∙ joined_no (110 ∷ 111 ∷ 32 ∷ []) (span_text t) (32 ∷ []) (kind_text b) (32 ∷ []) w (10 ∷ y) in
     let r1 = span_apart s t _ _ h.0 h.1 k.0 k.1 (ap rest (ap rest (ap rest m))) in
     let r2 = kind_apart a b _ _ refl refl r1.1 in
-    let r3 = spans is_variable_byte v w _ _ h.2 k.2 refl refl (ap rest r2.1) in
+    let r3 = spans is_variable_byte v w _ _ (list_all-from_AllPass is_variable_byte v h.2) (list_all-from_AllPass is_variable_byte w k.2) refl refl (ap rest r2.1) in
     (λ i. ct.No (r1.0 i) (r2.0 i) (r3.0 i), ap rest r3.1)
 
 -- ---- the bytes of the code
 abbrev no_line_end : ℕ → Bool
 no_line_end c = not (c == 10)
 
-one_of : (P : ℕ → Bool) (xs : List ℕ) (k : ℕ) → AllOf P xs → P 0 ≡ true → P (slice_index xs k) ≡ true
+one_of : (P : ℕ → Bool) (xs : List ℕ) (k : ℕ) → list_all P xs ≡ true → P 0 ≡ true → P (slice_index xs k) ≡ true
 one_of P [] k h z = z
-one_of P (x ∷ xs) zero h z = h.0
-one_of P (x ∷ xs) (suc k) h z = one_of P xs k h.1 z
+one_of P (x ∷ xs) zero h z = (and_parts _ _ h).0
+one_of P (x ∷ xs) (suc k) h z = one_of P xs k (and_parts _ _ h).1 z
 
 a_digit : (k : ℕ) → no_line_end (slice_index lower_digits k) ≡ true
-a_digit k = one_of no_line_end lower_digits k
-    (refl, (refl, (refl, (refl, (refl, (refl, (refl, (refl, (refl, (refl, (refl, (refl, (refl, (refl, (refl, (refl, tt)))))))))))))))) refl
+a_digit k = one_of no_line_end lower_digits k refl refl
 
-hex_digits : (bytes : List ℕ) → AllOf no_line_end (encode_lower bytes)
+hex_digits : (bytes : List ℕ) → list_all no_line_end (encode_lower bytes) ≡ true
 unfolding encode_with
-hex_digits [] = tt
-hex_digits (b ∷ bytes) = (a_digit _, (a_digit _, hex_digits bytes))
+hex_digits [] = refl
+hex_digits (b ∷ bytes) = and_from _ _ (a_digit _) (and_from _ _ (a_digit _) (hex_digits bytes))
 
-hex_same : (u v : List ℕ) → ((i : ℕ) → slice_index u i < 256) → ((i : ℕ) → slice_index v i < 256) → encode_lower u ≡ encode_lower v → u ≡ v
-hex_same u v h k e = let o = sym (decode_of-encode_lower u h) ∙ ap decode_of e ∙ decode_of-encode_lower v k in cc
+byte_at : (bytes : List ℕ) → All (λ b. b < 256) bytes → (i : ℕ) → slice_index bytes i < 256
+byte_at [] h i = lit< tt
+byte_at (b ∷ bytes) h zero = All-head (λ c. c < 256) b bytes h
+byte_at (b ∷ bytes) h (suc i) = byte_at bytes (All-tail (λ c. c < 256) b bytes h) i
 
-hex_apart : (u v : List ℕ) (x y : List ℕ) → ((i : ℕ) → slice_index u i < 256) → ((i : ℕ) → slice_index v i < 256)
+hex_same : (u v : List ℕ) → All (λ b. b < 256) u → All (λ b. b < 256) v → encode_lower u ≡ encode_lower v → u ≡ v
+hex_same u v h k e = let o = sym (decode_of-encode_lower u (byte_at u h)) ∙ ap decode_of e ∙ decode_of-encode_lower v (byte_at v k) in cc
+
+hex_apart : (u v : List ℕ) (x y : List ℕ) → All (λ b. b < 256) u → All (λ b. b < 256) v
     → encode_lower u ++ (10 ∷ x) ≡ encode_lower v ++ (10 ∷ y) → (u ≡ v) × (x ≡ y)
 hex_apart u v x y h k e =
     let b = spans no_line_end (encode_lower u) (encode_lower v) (10 ∷ x) (10 ∷ y) (hex_digits u) (hex_digits v) refl refl e in (hex_same u v h k b.0, ap rest b.1)

@@ -2,6 +2,9 @@
 use Rattle.std.proofs.Common.{◌≡◌, ℕ, ◌<◌, ◌^◌, Bool, true, false, List, [], ◌∷◌, ◌++◌, refl, sym, ap, ◌∙◌, append_assoc, arith, subst}
 use Rattle.std.specs.Prelude.{map, decimal, ◌&&◌, ◌||◌, ◌==◌, if◌then◌else◌}
 use Rattle.std.specs.Fmt.{signed_decimal}
+use Rattle.std.specs.List.{list_all}
+use Rattle.std.proofs.lemmas.Bool.{and_parts, or_parts, ltb-true}
+use Rattle.std.proofs.lemmas.List.Folds.{list_all-map}
 use Rattle.jz_leak.specs.declared.transformer.Form.{Form}
 use Rattle.jz_leak.specs.declared.transformer.Form.TheVariants.{Num, Leaked, Frame, Indexed}
 use Rattle.jz_leak.specs.declared.transformer.Out.{Out}
@@ -13,8 +16,8 @@ use Rattle.jz_leak.specs.declared.transformer.Case.TheViews.{roll-Case, out-Case
 use Rattle.jz_leak.specs.declared.transformer.Case.TheFolds.{fold-roll-Case, fold-roll-Tr, ind-Tr, map-Case, map-Tr}
 use Rattle.jz_leak.specs.declared.transformer.Transformer.{Transformer}
 use Rattle.jz_listing.specs.Transformers.{spaced, form_text, out_text, outs_text, spaced_outs_text, arm_text, case_layer_text, tr_layer_text, case_text, tr_text, transformer_text}
-use Rattle.jz_listing.specs.Listable.{number_fits, offset_fits, form_fits, out_fits, all_true, outs_fit, case_layer_fits, tr_layer_fits, case_fits, tr_fits, transformer_fits}
-use Rattle.jz_listing.proofs.Apart.{first, rest, is_digit, decimal_apart, signed_apart, spaced_apart, below, both, digit_first}
+use Rattle.jz_listing.specs.Listable.{number_fits, offset_fits, form_fits, out_fits, parts_fit, outs_fit, case_layer_fits, tr_layer_fits, case_fits, tr_fits, transformer_fits}
+use Rattle.jz_listing.proofs.Apart.{first, rest, is_digit, decimal_apart, signed_apart, spaced_apart, digit_first}
 
 -- ---- forms
 -- what a form's text may go on with
@@ -23,10 +26,6 @@ goes_on c = is_digit c || (c == 43)
 
 abbrev Stops : ℕ → Type 0
 Stops c = goes_on c ≡ false
-
-no_digit : (a b : Bool) → (a || b) ≡ false → (a ≡ false) × (b ≡ false)
-no_digit true b h = cc
-no_digit false b h = (refl, h)
 
 -- which form a text begins
 abbrev form_kind : Form → ℕ
@@ -39,7 +38,7 @@ abbrev kind_of_byte : ℕ → ℕ
 kind_of_byte c = if is_digit c then 0 else c
 
 form_begins : (f : Form) (x : List ℕ) → form_fits f ≡ true → kind_of_byte (first (form_text f ++ x)) ≡ form_kind f
-form_begins (Num n) x h = rw (digit_first n x (below n (2 ^ 64) h)) refl
+form_begins (Num n) x h = rw (digit_first n x (ltb-true n (2 ^ 64) h)) refl
 form_begins (Leaked i) x h = refl
 form_begins (Frame o) x h = refl
 form_begins (Indexed o s i) x h = refl
@@ -55,25 +54,25 @@ indexed_shape o s i x = simp append_assoc refl
 
 form_apart : (f g : Form) (x y : List ℕ) → form_fits f ≡ true → form_fits g ≡ true → Stops (first x) → Stops (first y) → form_text f ++ x ≡ form_text g ++ y → (f ≡ g) × (x ≡ y)
 form_apart (Num m) (Num n) x y h k p q e =
-    let b = decimal_apart m n x y (below m (2 ^ 64) h) (below n (2 ^ 64) k) (no_digit _ _ p).0 (no_digit _ _ q).0 e in (ap Num b.0, b.1)
+    let b = decimal_apart m n x y (ltb-true m (2 ^ 64) h) (ltb-true n (2 ^ 64) k) (or_parts _ _ p).0 (or_parts _ _ q).0 e in (ap Num b.0, b.1)
 form_apart (Leaked m) (Leaked n) x y h k p q e =
-    let b = decimal_apart m n x y (below m (2 ^ 64) h) (below n (2 ^ 64) k) (no_digit _ _ p).0 (no_digit _ _ q).0 (ap rest e) in (ap Leaked b.0, b.1)
+    let b = decimal_apart m n x y (ltb-true m (2 ^ 64) h) (ltb-true n (2 ^ 64) k) (or_parts _ _ p).0 (or_parts _ _ q).0 (ap rest e) in (ap Leaked b.0, b.1)
 form_apart (Frame o) (Frame u) x y h k p q e =
-    let b = signed_apart o u x y h k (no_digit _ _ p).0 (no_digit _ _ q).0 (ap rest e) in (ap Frame b.0, b.1)
+    let b = signed_apart o u x y h k (or_parts _ _ p).0 (or_parts _ _ q).0 (ap rest e) in (ap Frame b.0, b.1)
 form_apart (Frame o) (Indexed u s i) x y h k p q e =
-    let b = signed_apart o u x _ h (both _ _ k).0 (no_digit _ _ p).0 refl (ap rest (e ∙ indexed_shape (signed_decimal u) (decimal s) (decimal i) y)) in
+    let b = signed_apart o u x _ h (and_parts _ _ k).0 (or_parts _ _ p).0 refl (ap rest (e ∙ indexed_shape (signed_decimal u) (decimal s) (decimal i) y)) in
     let plus : first x ≡ 43 = ap first b.1 in absurd (plus_goes_on _ plus p)
 form_apart (Indexed u s i) (Frame o) x y h k p q e =
-    let b = signed_apart u o _ y (both _ _ h).0 k refl (no_digit _ _ q).0 (ap rest (sym (indexed_shape (signed_decimal u) (decimal s) (decimal i) x) ∙ e)) in
+    let b = signed_apart u o _ y (and_parts _ _ h).0 k refl (or_parts _ _ q).0 (ap rest (sym (indexed_shape (signed_decimal u) (decimal s) (decimal i) x) ∙ e)) in
     let plus : first y ≡ 43 = sym (ap first b.1) in absurd (plus_goes_on _ plus q)
 form_apart (Indexed o s i) (Indexed u r j) x y h k p q e =
-    let a = both _ _ h in
-    let b = both _ _ k in
-    let c = both _ _ a.1 in
-    let d = both _ _ b.1 in
+    let a = and_parts _ _ h in
+    let b = and_parts _ _ k in
+    let c = and_parts _ _ a.1 in
+    let d = and_parts _ _ b.1 in
     let r1 = signed_apart o u _ _ a.0 b.0 refl refl (ap rest (sym (indexed_shape (signed_decimal o) (decimal s) (decimal i) x) ∙ e ∙ indexed_shape (signed_decimal u) (decimal r) (decimal j) y)) in
-    let r2 = decimal_apart s r _ _ (below s (2 ^ 64) c.0) (below r (2 ^ 64) d.0) refl refl (ap rest r1.1) in
-    let r3 = decimal_apart i j x y (below i (2 ^ 64) c.1) (below j (2 ^ 64) d.1) (no_digit _ _ p).0 (no_digit _ _ q).0 (ap rest (ap rest r2.1)) in
+    let r2 = decimal_apart s r _ _ (ltb-true s (2 ^ 64) c.0) (ltb-true r (2 ^ 64) d.0) refl refl (ap rest r1.1) in
+    let r3 = decimal_apart i j x y (ltb-true i (2 ^ 64) c.1) (ltb-true j (2 ^ 64) d.1) (or_parts _ _ p).0 (or_parts _ _ q).0 (ap rest (ap rest r2.1)) in
     (λ z. Indexed (r1.0 z) (r2.0 z) (r3.0 z), r3.1)
 form_apart f g x y h k p q e = absurd (omega (arith, same_kind f g x y h k e))
 
@@ -103,10 +102,10 @@ out_apart (out.Branch false) (out.Branch true) x y h k p q e = (let z : 48 ≡ 4
 out_apart (out.Addr a) (out.Addr b) x y h k p q e =
     let r = form_apart a b x y h k p q (ap rest (ap rest e)) in (ap out.Addr r.0, r.1)
 out_apart (out.Div a b c) (out.Div d f g) x y h k p q e =
-    let h1 = both _ _ h in
-    let k1 = both _ _ k in
-    let h2 = both _ _ h1.1 in
-    let k2 = both _ _ k1.1 in
+    let h1 = and_parts _ _ h in
+    let k1 = and_parts _ _ k in
+    let h2 = and_parts _ _ h1.1 in
+    let k2 = and_parts _ _ k1.1 in
     let r1 = form_apart a d _ _ h1.0 k1.0 refl refl (ap rest (ap rest (sym (div_shape (form_text a) (form_text b) (form_text c) x) ∙ e ∙ div_shape (form_text d) (form_text f) (form_text g) y))) in
     let r2 = form_apart b f _ _ h2.0 k2.0 refl refl (ap rest r1.1) in
     let r3 = form_apart c g x y h2.1 k2.1 p q (ap rest r2.1) in
@@ -131,7 +130,7 @@ unfolding outs_text
 outs_apart os us x y h k e =
     let inner = sym (bracketed (spaced (map out_text os)) x) ∙ e ∙ bracketed (spaced (map out_text us)) y in
     let r = spaced_apart (λ o. o) out_text out_fits Stops 93 refl refl (λ z. omega (arith, z)) (λ o u v w. out_apart o u v w) (λ o v f. no_bracket o v) os us x y
-    (ap (λ l. all_true (map out_fits l)) (map_same os) ∙ h) k (ap (λ l. spaced (map out_text l) ++ (93 ∷ x)) (map_same os) ∙ ap rest inner) in
+    (ap (λ l. list_all out_fits l) (map_same os) ∙ h) k (ap (λ l. spaced (map out_text l) ++ (93 ∷ x)) (map_same os) ∙ ap rest inner) in
     (sym (map_same os) ∙ r.0, r.1)
 
 -- ---- cases and trees
@@ -223,28 +222,31 @@ same_case_kind v w x y e =
     sym (known_kept v) ∙ sym (kind_kept (layer_of v)) ∙ sym (case_begins (map-Case _ _ _ _ case_text tr_text (layer_of v)) x) ∙ ap first e
     ∙ case_begins (map-Case _ _ _ _ case_text tr_text w) y ∙ kind_kept w
 
+each_fits : {A : Type 0} (fits : A → Bool) (xs : List A) → parts_fit (map fits xs) ≡ true → list_all fits xs ≡ true
+each_fits fits xs h = sym (list_all-map (λ z. z) fits xs) ∙ h
+
 -- no tree begins with a bracket that closes
 tr_begins : (t : Tr) (x : List ℕ) → first (tr_text t ++ x) ≡ 123
 tr_begins t x = ap (λ u. first (u ++ x)) (fold-roll-Tr _ _ case_layer_text tr_layer_text (record { cases = t.cases }))
 
-trs_apart : (ts : List ((t : Tr) × TrLaw t)) (us : List Tr) (x y : List ℕ) → all_true (map tr_fits (map (λ e. e.0) ts)) ≡ true → all_true (map tr_fits us) ≡ true
+trs_apart : (ts : List ((t : Tr) × TrLaw t)) (us : List Tr) (x y : List ℕ) → parts_fit (map tr_fits (map (λ e. e.0) ts)) ≡ true → parts_fit (map tr_fits us) ≡ true
     → spaced (map tr_text (map (λ e. e.0) ts)) ++ (41 ∷ x) ≡ spaced (map tr_text us) ++ (41 ∷ y) → (map (λ e. e.0) ts ≡ us) × (x ≡ y)
 trs_apart ts us x y h k e =
     spaced_apart (λ (p : (t : Tr) × TrLaw t). p.0) tr_text tr_fits (λ c. Unit {0}) 41 tt tt (λ z. omega (arith, z)) (λ p b v w f g m n q. p.1 b v w f g q)
-    (λ t v f z. (let s : 123 ≡ 41 = sym (tr_begins t v) ∙ z in omega (arith, s))) ts us x y h k e
+    (λ t v f z. (let s : 123 ≡ 41 = sym (tr_begins t v) ∙ z in omega (arith, s))) ts us x y (each_fits tr_fits (map (λ p. p.0) ts) h) (each_fits tr_fits us k) e
 
 layer_apart : (v : Known) (w : Case-F Case Tr) (x y : List ℕ) → fits_of (layer_of v) ≡ true → fits_of w ≡ true → text_of (layer_of v) ++ x ≡ text_of w ++ y → (layer_of v ≡ w) × (x ≡ y)
 layer_apart (Case-F.Op outs) (Case-F.Op outs2) x y h k e =
     let r = outs_apart outs outs2 x y h k (ap rest (ap rest e)) in (ap Case-F.Op r.0, r.1)
 layer_apart (Case-F.If t a b c d) (Case-F.If t2 a2 b2 c2 d2) x y h k e =
-    let h1 = both _ _ h in
-    let k1 = both _ _ k in
-    let h2 = both _ _ h1.1 in
-    let k2 = both _ _ k1.1 in
-    let h3 = both _ _ h2.1 in
-    let k3 = both _ _ k2.1 in
-    let h4 = both _ _ h3.1 in
-    let k4 = both _ _ k3.1 in
+    let h1 = and_parts _ _ h in
+    let k1 = and_parts _ _ k in
+    let h2 = and_parts _ _ h1.1 in
+    let k2 = and_parts _ _ k1.1 in
+    let h3 = and_parts _ _ h2.1 in
+    let k3 = and_parts _ _ k2.1 in
+    let h4 = and_parts _ _ h3.1 in
+    let k4 = and_parts _ _ k3.1 in
     let s = sym (if_shape (outs_text t) (outs_text a) (tr_text b.0) (outs_text c) (tr_text d.0) x) ∙ e ∙ if_shape (outs_text t2) (outs_text a2) (tr_text b2) (outs_text c2) (tr_text d2) y in
     let r1 = outs_apart t t2 _ _ h1.0 k1.0 (ap rest (ap rest (ap rest s))) in
     let r2 = outs_apart a a2 _ _ h2.0 k2.0 (ap rest r1.1) in
@@ -253,14 +255,14 @@ layer_apart (Case-F.If t a b c d) (Case-F.If t2 a2 b2 c2 d2) x y h k e =
     let r5 = d.1 d2 _ _ h4.1 k4.1 (ap rest r4.1) in
     (λ i. Case-F.If (r1.0 i) (r2.0 i) (r3.0 i) (r4.0 i) (r5.0 i), ap rest r5.1)
 layer_apart (Case-F.While p t a b c) (Case-F.While p2 t2 a2 b2 c2) x y h k e =
-    let h1 = both _ _ h in
-    let k1 = both _ _ k in
-    let h2 = both _ _ h1.1 in
-    let k2 = both _ _ k1.1 in
-    let h3 = both _ _ h2.1 in
-    let k3 = both _ _ k2.1 in
-    let h4 = both _ _ h3.1 in
-    let k4 = both _ _ k3.1 in
+    let h1 = and_parts _ _ h in
+    let k1 = and_parts _ _ k in
+    let h2 = and_parts _ _ h1.1 in
+    let k2 = and_parts _ _ k1.1 in
+    let h3 = and_parts _ _ h2.1 in
+    let k3 = and_parts _ _ k2.1 in
+    let h4 = and_parts _ _ h3.1 in
+    let k4 = and_parts _ _ k3.1 in
     let s = sym (while_shape (tr_text p.0) (outs_text t) (outs_text a) (tr_text b.0) (outs_text c) x) ∙ e ∙ while_shape (tr_text p2) (outs_text t2) (outs_text a2) (tr_text b2) (outs_text c2) y in
     let r1 = p.1 p2 _ _ h1.0 k1.0 (ap rest (ap rest (ap rest (ap rest (ap rest (ap rest s)))))) in
     let r2 = outs_apart t t2 _ _ h2.0 k2.0 (ap rest r1.1) in
@@ -273,10 +275,10 @@ layer_apart (Case-F.For ts) (Case-F.For us) x y h k e =
     let r = trs_apart ts us x y h k (ap rest (ap rest (ap rest (ap rest s)))) in
     (ap Case-F.For r.0, r.1)
 layer_apart (Case-F.Call a b c) (Case-F.Call a2 b2 c2) x y h k e =
-    let h1 = both _ _ h in
-    let k1 = both _ _ k in
-    let h2 = both _ _ h1.1 in
-    let k2 = both _ _ k1.1 in
+    let h1 = and_parts _ _ h in
+    let k1 = and_parts _ _ k in
+    let h2 = and_parts _ _ h1.1 in
+    let k2 = and_parts _ _ k1.1 in
     let s = sym (call_shape (outs_text a) (tr_text b.0) (outs_text c) x) ∙ e ∙ call_shape (outs_text a2) (tr_text b2) (outs_text c2) y in
     let r1 = outs_apart a a2 _ _ h1.0 k1.0 (ap rest (ap rest (ap rest (ap rest (ap rest s))))) in
     let r2 = b.1 b2 _ _ h2.0 k2.0 (ap rest r1.1) in
@@ -295,7 +297,7 @@ case_law v d x y h k e =
 tr_text_is : (t : Tr) → tr_text t ≡ (123 ∷ []) ++ spaced (map case_text t.cases) ++ (125 ∷ [])
 tr_text_is t = fold-roll-Tr _ _ case_layer_text tr_layer_text (record { cases = t.cases })
 
-tr_fits_is : (t : Tr) → tr_fits t ≡ all_true (map case_fits t.cases)
+tr_fits_is : (t : Tr) → tr_fits t ≡ parts_fit (map case_fits t.cases)
 tr_fits_is t = fold-roll-Tr _ _ case_layer_fits tr_layer_fits (record { cases = t.cases })
 
 no_brace_layer : (v : Case-F Case Tr) (x : List ℕ) → first (text_of v ++ x) ≡ 125 → ⊥
@@ -313,7 +315,7 @@ cases_law cs s x y h k e =
     let t : Tr = record { cases = map (λ (p : (c : Case) × CaseLaw c). p.0) cs } in
     let m = sym (braced (spaced (map case_text (map (λ p. p.0) cs))) x) ∙ ap (λ u. u ++ x) (sym (tr_text_is t)) ∙ e ∙ ap (λ u. u ++ y) (tr_text_is s) ∙ braced (spaced (map case_text s.cases)) y in
     let r = spaced_apart (λ (p : (c : Case) × CaseLaw c). p.0) case_text case_fits (λ c. Unit {0}) 125 tt tt (λ z. omega (arith, z)) (λ p b v w f g i j q. p.1 b v w f g q)
-    (λ c v f z. no_brace c v z) cs s.cases x y (sym (tr_fits_is t) ∙ h) (sym (tr_fits_is s) ∙ k) (ap rest m) in
+    (λ c v f z. no_brace c v z) cs s.cases x y (each_fits case_fits t.cases (sym (tr_fits_is t) ∙ h)) (each_fits case_fits s.cases (sym (tr_fits_is s) ∙ k)) (ap rest m) in
     (ap (λ (zs : List Case). record { cases = zs }) r.0, r.1)
 
 pub tr_apart : (t : Tr) → TrLaw t
@@ -325,10 +327,10 @@ joined a s b k c x = simp append_assoc refl
 
 pub transformer_apart : (t u : Transformer) (x y : List ℕ) → transformer_fits t ≡ true → transformer_fits u ≡ true → transformer_text t ++ x ≡ transformer_text u ++ y → (t ≡ u) × (x ≡ y)
 transformer_apart t u x y h k e =
-    let h1 = both _ _ h in
-    let k1 = both _ _ k in
-    let h2 = both _ _ h1.1 in
-    let k2 = both _ _ k1.1 in
+    let h1 = and_parts _ _ h in
+    let k1 = and_parts _ _ k in
+    let h2 = and_parts _ _ h1.1 in
+    let k2 = and_parts _ _ k1.1 in
     let s = sym (joined (outs_text t.before) (32 ∷ []) (tr_text t.body) (32 ∷ []) (outs_text t.after) x) ∙ e ∙ joined (outs_text u.before) (32 ∷ []) (tr_text u.body) (32 ∷ []) (outs_text u.after) y in
     let r1 = outs_apart t.before u.before _ _ h1.0 k1.0 s in
     let r2 = tr_apart t.body u.body _ _ h2.0 k2.0 (ap rest r1.1) in

@@ -1,6 +1,7 @@
 -- The lists of functions whose listings tell them apart. What is asked is that names have the bytes of names and that a region without
 -- a variable has no factor; that numbers have the sizes of their types is said because it isn't seen in a list.
-use Rattle.std.specs.Prelude.{◌≡◌, ◌<◌, ◌^◌, ℕ, Bool, true, false, ◌&&◌, ◌||◌, ◌==◌, nat_lt, nat_le, ℤ, pos, negsuc, List, [], ◌∷◌, map, slice_index, Option, Some, None, ⊤}
+use Rattle.std.specs.Prelude.{◌≡◌, ◌<◌, ◌^◌, ℕ, Bool, true, false, ◌&&◌, ◌||◌, ◌==◌, nat_lt, nat_le, ℤ, pos, negsuc, List, Option, Some, None, All, ⊤}
+use Rattle.std.specs.List.{AllPass, list_all}
 use Rattle.jz_io.specs.declared.verdict.Ct.{Ct}
 use Rattle.jz_io.specs.declared.verdict.Ct.TheVariants as ct
 use Rattle.jz_leak.specs.declared.transformer.Form.{Form}
@@ -27,16 +28,11 @@ is_name_byte c = (nat_le 48 c && nat_le c 57) || ((nat_le 65 c && nat_le c 90) |
 abbrev pub is_variable_byte : ℕ → Bool
 is_variable_byte c = is_name_byte c || ((c == 91) || (c == 93))
 
--- each byte of a text is of an alphabet
-abbrev pub AllOf : (ℕ → Bool) → List ℕ → Type 0
-AllOf P [] = ⊤
-AllOf P (c ∷ cs) = (P c ≡ true) × AllOf P cs
-
 abbrev pub IsName : List ℕ → Type 0
-IsName name = AllOf is_name_byte name
+IsName name = AllPass is_name_byte name
 
 abbrev pub IsVariable : List ℕ → Type 0
-IsVariable name = AllOf is_variable_byte name
+IsVariable name = AllPass is_variable_byte name
 
 -- ---- transformers, whose numbers have 64 bits
 
@@ -58,22 +54,22 @@ out_fits (out.Branch taken) = true
 out_fits (out.Addr a) = form_fits a
 out_fits (out.Div a b c) = form_fits a && (form_fits b && form_fits c)
 
-abbrev pub all_true : List Bool → Bool
-all_true [] = true
-all_true (z ∷ zs) = z && all_true zs
-
 abbrev pub outs_fit : List Out → Bool
-outs_fit outs = all_true (map out_fits outs)
+outs_fit outs = list_all out_fits outs
+
+-- each of a list of parts fits
+abbrev pub parts_fit : List Bool → Bool
+parts_fit = list_all (λ fits. fits)
 
 abbrev pub case_layer_fits : Case-F Bool Bool → Bool
 case_layer_fits (Case-F.Op outs) = outs_fit outs
 case_layer_fits (Case-F.If test then_outs then_tr else_outs else_tr) = outs_fit test && (outs_fit then_outs && (then_tr && (outs_fit else_outs && else_tr)))
 case_layer_fits (Case-F.While prologue test more_outs body leave_outs) = prologue && (outs_fit test && (outs_fit more_outs && (body && outs_fit leave_outs)))
-case_layer_fits (Case-F.For trs) = all_true trs
+case_layer_fits (Case-F.For trs) = parts_fit trs
 case_layer_fits (Case-F.Call arguments body results) = outs_fit arguments && (body && outs_fit results)
 
 abbrev pub tr_layer_fits : Tr-F Bool Bool → Bool
-tr_layer_fits t = all_true t.cases
+tr_layer_fits t = parts_fit t.cases
 
 abbrev pub case_fits : Case → Bool
 case_fits = fold-Case Bool Bool case_layer_fits tr_layer_fits
@@ -85,10 +81,6 @@ abbrev pub transformer_fits : Transformer → Bool
 transformer_fits t = outs_fit t.before && (tr_fits t.body && outs_fit t.after)
 
 -- ---- lines
-
-abbrev pub Each : {A : Type 0} → (A → Type 0) → List A → Type 0
-Each P [] = ⊤
-Each P (a ∷ xs) = P a × Each P xs
 
 abbrev pub IsListableArg : Arg → Type 0
 IsListableArg a = IsName a.name
@@ -105,14 +97,14 @@ IsListableCt (ct.No span kind var) = (span.line < 2 ^ 32) × (span.col < 2 ^ 32)
 
 pub record IsListable (c : Compiled) : Type 0 where
   pub name : IsName c.name
-  pub args : Each IsListableArg c.args
-  pub rets : Each IsListableArg c.rets
-  pub pre : Each IsListablePre c.pre
+  pub args : All IsListableArg c.args
+  pub rets : All IsListableArg c.rets
+  pub pre : All IsListablePre c.pre
   pub frame : c.frame < 2 ^ 64
   pub insns : c.insns < 2 ^ 64
-  pub code : (i : ℕ) → slice_index c.code i < 256
+  pub code : All (λ b. b < 256) c.code
   pub tr : transformer_fits c.tr ≡ true
   pub ct : IsListableCt c.ct
 
 abbrev pub AreListable : List Compiled → Type 0
-AreListable cs = Each IsListable cs
+AreListable cs = All IsListable cs
