@@ -1,5 +1,4 @@
 pub mod Apart
-pub mod Cases
 pub mod LinesApart
 pub mod Spaces
 pub mod TransformersApart

@@ -1,6 +1,7 @@
 // The text of a transformer.
 ghost use Rattle.std.specs.Prelude.{◌≡◌, ◌++◌, ℕ, List, map, OnOk, codes};
-ghost use Rattle.jz_listing.specs.Transformers.{form_text, out_text, outs_text, spaced_outs_text, arm_text, case_text, tr_text, transformer_text, spaced, separator};
+ghost use Rattle.jz_leak.specs.declared.transformer.Case.TheOpen.{Case-F};
+ghost use Rattle.jz_listing.specs.Transformers.{form_text, out_text, outs_text, spaced_outs_text, arm_text, case_layer_text, case_text, tr_text, transformer_text, spaced, separator};
 
 use itoa::Buffer;
 use jz_data::Seq;
@@ -89,8 +90,7 @@ fn write_case(text: &mut Vec<u8>, case: &Case) -> Result<(), AllocError>
     match case {
         Case::Op(outs) => {
             text.extend_from_slice(b"op")?;
-            write_outs(text, outs)?;
-            Ok(())
+            write_outs(text, outs)
         }
         Case::If {
             test,
@@ -98,49 +98,82 @@ fn write_case(text: &mut Vec<u8>, case: &Case) -> Result<(), AllocError>
             then_tr,
             else_outs,
             else_tr,
-        } => {
-            text.extend_from_slice(b"if(")?;
-            write_outs(text, test)?;
-            write_arm(text, then_outs, then_tr)?;
-            write_arm(text, else_outs, else_tr)?;
-            text.extend_from_slice(b")")?;
-            Ok(())
-        }
+        } => write_if(text, test, then_outs, then_tr, else_outs, else_tr),
         Case::While {
             prologue,
             test,
             more_outs,
             body,
             leave_outs,
-        } => {
-            text.extend_from_slice(b"while(")?;
-            write_tr(text, prologue)?;
-            write_spaced_outs(text, test)?;
-            write_arm(text, more_outs, body)?;
-            write_spaced_outs(text, leave_outs)?;
-            text.extend_from_slice(b")")?;
-            Ok(())
-        }
+        } => write_while(text, prologue, test, more_outs, body, leave_outs),
         Case::For(trs) => {
             text.extend_from_slice(b"for(")?;
             write_trs(text, trs)?;
-            text.extend_from_slice(b")")?;
-            Ok(())
+            text.extend_from_slice(b")")
         }
         Case::Call {
             arguments,
             body,
             results,
-        } => {
-            text.extend_from_slice(b"call(")?;
-            write_outs(text, arguments)?;
-            text.extend_from_slice(b" ")?;
-            write_tr(text, body)?;
-            write_spaced_outs(text, results)?;
-            text.extend_from_slice(b")")?;
-            Ok(())
-        }
+        } => write_call(text, arguments, body, results),
     }
+}
+
+#[cycle(write)]
+fn write_if(
+    text: &mut Vec<u8>,
+    test: &Seq<Out>,
+    then_outs: &Seq<Out>,
+    then_tr: &Tr,
+    else_outs: &Seq<Out>,
+    else_tr: &Tr,
+) -> Result<(), AllocError>
+    ensures { OnOk result (text.new.items ≡ text.old.items
+        ++ case_layer_text (Case-F.If test.now then_outs.now (tr_text then_tr.now) else_outs.now (tr_text else_tr.now))) }
+{
+    text.extend_from_slice(b"if(")?;
+    write_outs(text, test)?;
+    write_arm(text, then_outs, then_tr)?;
+    write_arm(text, else_outs, else_tr)?;
+    text.extend_from_slice(b")")
+}
+
+#[cycle(write)]
+fn write_while(
+    text: &mut Vec<u8>,
+    prologue: &Tr,
+    test: &Seq<Out>,
+    more_outs: &Seq<Out>,
+    body: &Tr,
+    leave_outs: &Seq<Out>,
+) -> Result<(), AllocError>
+    ensures { OnOk result (text.new.items ≡ text.old.items
+        ++ case_layer_text (Case-F.While (tr_text prologue.now) test.now more_outs.now (tr_text body.now) leave_outs.now)) }
+{
+    text.extend_from_slice(b"while(")?;
+    write_tr(text, prologue)?;
+    write_spaced_outs(text, test)?;
+    write_arm(text, more_outs, body)?;
+    write_spaced_outs(text, leave_outs)?;
+    text.extend_from_slice(b")")
+}
+
+#[cycle(write)]
+fn write_call(
+    text: &mut Vec<u8>,
+    arguments: &Seq<Out>,
+    body: &Tr,
+    results: &Seq<Out>,
+) -> Result<(), AllocError>
+    ensures { OnOk result (text.new.items ≡ text.old.items
+        ++ case_layer_text (Case-F.Call arguments.now (tr_text body.now) results.now)) }
+{
+    text.extend_from_slice(b"call(")?;
+    write_outs(text, arguments)?;
+    text.extend_from_slice(b" ")?;
+    write_tr(text, body)?;
+    write_spaced_outs(text, results)?;
+    text.extend_from_slice(b")")
 }
 
 // A list of events and a tree, with a space before each.
