@@ -33,7 +33,7 @@ use Rattle.jz_correct.specs.Registers.{argument_registers, result_registers}
 use Rattle.jz_correct.specs.Assembled.{assembled}
 use Rattle.jz_correct.specs.Ends.{EndsAfter}
 use Rattle.jz_correct.specs.Starts.{IsIn, IsValid, IsMet, IsBelowEnd, AreOfSizes, MeetsPreconditions, IsStart, Stand, stack_at}
-use Rattle.jz_correct.specs.Correctness.{EndsSo, IsCorrect}
+use Rattle.jz_correct.specs.Correctness.{MatchesEnd, IsCorrect}
 use Rattle.jz_lower.specs.Lowering.{kind_insns, insns_of}
 use Rattle.jz_lower.specs.Placing.{variable_of}
 use Rattle.jz_lower.proofs.Stores.{word_same, number_below}
@@ -215,7 +215,7 @@ ends_within register p f items input fit count few small resolved safe correct m
     let run = fun_some p f items map_of.empty 0 input in
     let ends = safe_ends p f items map_of.empty 0 run.0 resolved safe run.1 in
     let there = subst (λ (o : FunOutcome). IsRun p f items map_of.empty 0 o) ends.1 run.1 in
-    let so : EndsSo (compiled_of register f) items return_slot code_base (exec_start items m) 0 _ _ =
+    let so : MatchesEnd (compiled_of register f) items return_slot code_base (exec_start items m) 0 _ _ =
     correct.carries.matches items map_of.empty 0 _ there (words_meet register f items fit count few small) return_slot code_base (exec_start items m)
     (exec_starts register f items fit count few small m h) in
     let insns : length (code_insns register f) ≡ length (insns_of register f.body) + 1 = length-append (insns_of register f.body) (insn.Ret ∷ []) in

@@ -49,7 +49,7 @@ bound c n = c.insns * (n + 1)
 
 -- The source ends within n turns: the bytes end within the bound, with its results and memory, and show the transformer applied to
 -- what it leaked.
-pub record EndsSo (c : Compiled) (words : List ℕ) (rsp0 base : ℕ) (s : Config) (n : ℕ) (r : Returned) (l : Leak) : Type 0 where
+pub record MatchesEnd (c : Compiled) (words : List ℕ) (rsp0 base : ℕ) (s : Config) (n : ℕ) (r : Returned) (l : Leak) : Type 0 where
   pub fits : Fits c.tr l
   pub steps : ℕ
   pub within : steps ≤ bound c n
@@ -69,7 +69,7 @@ pub record RunsSo (c : Compiled) (rsp0 base : ℕ) (s : Config) (n : ℕ) (l : L
 
 -- what an outcome of the source at n asks of the bytes; the source is never stuck
 abbrev pub Matches : Compiled → List ℕ → ℕ → ℕ → Config → ℕ → FunOutcome → Type 0
-Matches c words rsp0 base s n (End r m l) = EndsSo c words rsp0 base s n r l
+Matches c words rsp0 base s n (End r m l) = MatchesEnd c words rsp0 base s n r l
 Matches c words rsp0 base s n (Cut l) = RunsSo c rsp0 base s n l
 Matches c words rsp0 base s n (Stuck w) = ⊥
 

@@ -31,7 +31,7 @@ use Rattle.jz_correct.specs.Ends.{EndsAfter}
 use Rattle.jz_correct.specs.Frames.{preserved_registers}
 use Rattle.jz_correct.specs.Starts.{IsStart}
 use Rattle.jz_correct.specs.Agreement.{Agrees, NeverFaults}
-use Rattle.jz_correct.specs.Correctness.{EndsSo, Matches, CarriesOver, OutStaysIn, kind_names, CasesStayIn, IsCorrect}
+use Rattle.jz_correct.specs.Correctness.{MatchesEnd, Matches, CarriesOver, OutStaysIn, kind_names, CasesStayIn, IsCorrect}
 use Rattle.jz_correct.specs.Registers.{argument_registers, result_registers}
 use Rattle.jz_correct.proofs.PlainCode.{word_in, regs_after}
 use Rattle.jz_correct.proofs.PlainEnds.{code_of, code_is, AtFirst, PlainEnds, plain_ends}
@@ -98,7 +98,7 @@ module _ (p : Program) (f : Fun) (register : List ℕ → Reg) (straight : IsStr
         } in
         (slot.0, plain_ends base s body_code slot.0 (all_plain register f.body straight.immediates) at (statements_keep register placing.given reg.Rsp refl f.body s.state.regs))
 
-    ends_so : (ws ns : List ℕ) → words_returned f words memory ≡ went ns ws → EndsSo (compiled_of register f) words rsp0 base s n (record { words = ws; memory = memory }) (plain_leak f.body)
+    ends_so : (ws ns : List ℕ) → words_returned f words memory ≡ went ns ws → MatchesEnd (compiled_of register f) words rsp0 base s n (record { words = ws; memory = memory }) (plain_leak f.body)
     ends_so ws ns e =
         let a = then_went (run_statements f.body (begun f words memory)) (λ (t : State). result_words f.result t.store) ns ws e in
         let entry = entered register argument_registers f.params words empty_store s.state straight.params placing.params start.arguments (λ m v u none. none_there v none) in
