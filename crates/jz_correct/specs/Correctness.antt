@@ -57,7 +57,7 @@ pub record MatchesEnd (c : Compiled) (words : List ℕ) (rsp0 base : ℕ) (s : C
 
 -- The source wants one turn more: the bytes are running after n steps, never fault, and what they show after some number of steps,
 -- at most as many short of n as the code has instructions, is the transformer applied to what the source leaked up to there.
-pub record RunsSo (c : Compiled) (rsp0 base : ℕ) (s : Config) (n : ℕ) (l : Leak) : Type 0 where
+pub record MatchesCut (c : Compiled) (rsp0 base : ℕ) (s : Config) (n : ℕ) (l : Leak) : Type 0 where
   pub fits : Fits c.tr l
   pub running : (steps_of c.code base s n).after.ended ≡ false
   pub steps : ℕ
@@ -70,7 +70,7 @@ pub record RunsSo (c : Compiled) (rsp0 base : ℕ) (s : Config) (n : ℕ) (l : L
 -- what an outcome of the source at n asks of the bytes; the source is never stuck
 abbrev pub Matches : Compiled → List ℕ → ℕ → ℕ → Config → ℕ → FunOutcome → Type 0
 Matches c words rsp0 base s n (End r m l) = MatchesEnd c words rsp0 base s n r l
-Matches c words rsp0 base s n (Cut l) = RunsSo c rsp0 base s n l
+Matches c words rsp0 base s n (Cut l) = MatchesCut c rsp0 base s n l
 Matches c words rsp0 base s n (Stuck w) = ⊥
 
 -- every run of the source on an input that meets the preconditions, from every start of the bytes on this input
