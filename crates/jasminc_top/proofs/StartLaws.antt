@@ -32,7 +32,7 @@ use Rattle.x64_machine.specs.Steps.{Config, steps_of}
 use Rattle.jz_correct.specs.Registers.{argument_registers, result_registers}
 use Rattle.jz_correct.specs.Assembled.{assembled}
 use Rattle.jz_correct.specs.Ends.{EndsAfter}
-use Rattle.jz_correct.specs.Starts.{IsIn, IsValid, IsMet, IsBelowEnd, AreOfSizes, MeetsPreconditions, IsStart, Stand, stack_at}
+use Rattle.jz_correct.specs.Starts.{IsIn, IsValid, IsMet, IsBelowEnd, AreOfSizes, MeetsPreconditions, IsStart, AreInRegisters, stack_at}
 use Rattle.jz_correct.specs.Correctness.{MatchesEnd, IsCorrect}
 use Rattle.jz_lower.specs.Lowering.{kind_insns, insns_of}
 use Rattle.jz_lower.specs.Placing.{variable_of}
@@ -113,7 +113,7 @@ at_regs regs = record { regs = regs; rip = code_base; flags = replicate 5 Undefi
 
 -- each item stands in the register of its argument
 stand : (ns : List ℕ) (rs : List Reg) (xs : List Var) (regs : List ℕ) → AreFar rs → ItemsFit ns → length ns ≡ length xs → length ns ≤ length rs → length regs ≡ 16
-    → Stand (lines_of rs xs) ns (at_regs (with_numbers ns rs regs))
+    → AreInRegisters (lines_of rs xs) ns (at_regs (with_numbers ns rs regs))
 stand [] rs [] regs far fit same few size = tt
 stand [] rs (x ∷ xs) regs far fit same few size = absurd (omega (arith, same))
 stand (n ∷ ns) rs [] regs far fit same few size = absurd (omega (arith, same))

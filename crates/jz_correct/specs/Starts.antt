@@ -110,8 +110,8 @@ pub record MeetsPreconditions (c : Compiled) (words : List ℕ) (memory : Memory
 -- ---- starts
 
 -- words stand in the low bits of the registers of arguments or results, one word for each
-abbrev pub Stand : List Arg → List ℕ → State → Type 0
-Stand args words st = AllZip (λ a w. reg_word st a.size a.reg ≡ w) args words
+abbrev pub AreInRegisters : List Arg → List ℕ → State → Type 0
+AreInRegisters args words st = AllZip (λ a w. reg_word st a.size a.reg ≡ w) args words
 
 -- what each state of the machine is: sixteen registers of 64 bits, five flags, and bytes
 pub record IsMachine (s : Config) : Type 0 where
@@ -148,7 +148,7 @@ pub record IsStart (c : Compiled) (words : List ℕ) (memory : Memory) (rsp0 bas
   pub stack_valid : (q : ℕ) → IsIn (stack_at rsp0 c.frame) q → IsValid s.memory q
   pub stack_apart : (q : ℕ) → IsIn (stack_at rsp0 c.frame) q → IsInOne (regions_for c words) q → ⊥
   -- the arguments are the low bits of their registers (3.2.3)
-  pub arguments : Stand c.args words s.state
+  pub arguments : AreInRegisters c.args words s.state
   -- each byte of the regions is valid and is the input's
   pub region_valid : (q : ℕ) → IsInOne (regions_for c words) q → IsValid s.memory q
   pub region_holds : (q : ℕ) → IsInOne (regions_for c words) q → get s.memory q ≡ get memory q

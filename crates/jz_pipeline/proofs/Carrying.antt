@@ -19,7 +19,7 @@ use Rattle.jz_meaning.specs.SourceStates.{Value, word, key_of, Store, put}
 use Rattle.jz_meaning.specs.SourceValues.{Got, and_then, variable_value}
 use Rattle.jz_meaning.specs.SourceRuns.{argument, value_of_type, with_arguments, word_of, result_words}
 use Rattle.jz_meaning.specs.StraightRuns.{plain_leak}
-use Rattle.jz_correct.specs.Starts.{Stand}
+use Rattle.jz_correct.specs.Starts.{AreInRegisters}
 use Rattle.jz_correct.proofs.PlainCode.{word_in}
 use Rattle.jz_lower.specs.Living.{IsNamed}
 use Rattle.jz_lower.specs.Straight.{IsWord, AreWords}
@@ -46,7 +46,7 @@ module _ (register : List ℕ → Reg) where
   one_more x store regs w e h n v false s there = h n v tt (sym (put_at store x.name n (Some (word S64 w)) false s) ∙ there)
 
   pub entered : (rs : List Reg) (ps : List Param) (words : List ℕ) (store : Store) (st : State) → AreWords ps → StandIn register rs (map variable_of ps)
-      → Stand (lines_of rs (map variable_of ps)) words st → Holds register Any store st.regs → Holds register Any (with_arguments ps words store) st.regs
+      → AreInRegisters (lines_of rs (map variable_of ps)) words st → Holds register Any store st.regs → Holds register Any (with_arguments ps words store) st.regs
   entered rs [] words store st w s t h = h
   entered [] (p ∷ ps) words store st w s t h = absurd s
   entered (r ∷ rs) (p ∷ ps) [] store st w s t h = h
@@ -62,8 +62,8 @@ module _ (register : List ℕ → Reg) where
   word_back x v ms w a e r = let k : ◌≡◌ {A = Got ℕ} (went [] a) (went ms w) = sym (ap (word_of x.span) e) ∙ r in cc
 
   pub given_back : (rs : List Reg) (xs : List Var) (store : Store) (regs : List ℕ) (st : State) → StandIn register rs xs → Holds register (IsNamed xs) store regs
-      → ((n : List ℕ) → reg_word st S64 (register n) ≡ word_in regs (register n)) → (ms words : List ℕ) → result_words xs store ≡ went ms words → Stand (lines_of rs xs) words st
-  given_back rs [] store regs st s h same ms words e = let k : [] ≡ words = cc in subst (λ ws. Stand [] ws st) k tt
+      → ((n : List ℕ) → reg_word st S64 (register n) ≡ word_in regs (register n)) → (ms words : List ℕ) → result_words xs store ≡ went ms words → AreInRegisters (lines_of rs xs) words st
+  given_back rs [] store regs st s h same ms words e = let k : [] ≡ words = cc in subst (λ ws. AreInRegisters [] ws st) k tt
   given_back [] (x ∷ xs) store regs st s h same ms words e = absurd s
   given_back (r ∷ rs) (x ∷ xs) store regs st s h same ms words e =
       let a = then_went (variable_value x store) (λ v. and_then (word_of x.span v) (λ w. and_then (result_words xs store) (λ ws. went [] (w ∷ ws)))) ms words e in
@@ -74,7 +74,7 @@ module _ (register : List ℕ → Reg) where
       let w : word_in regs (register x.name) ≡ b.1 = word_back x a.1 b.0 b.1 (word_in regs (register x.name)) value b.3 in
       let here : reg_word st S64 r ≡ b.1 = ap (reg_word st S64) (sym s.0) ∙ same x.name ∙ w in
       let all : b.1 ∷ c.1 ≡ words = went_list c.2 (b.1 ∷ c.1) words c.4 in
-      subst (λ ws. Stand (lines_of (r ∷ rs) (x ∷ xs)) ws st) all (here, rest)
+      subst (λ ws. AreInRegisters (lines_of (r ∷ rs) (x ∷ xs)) ws st) all (here, rest)
     where
       went_list : (ks us vs : List ℕ) → ◌≡◌ {A = Got (List ℕ)} (went [] us) (went ks vs) → us ≡ vs
       went_list ks us vs k = cc
