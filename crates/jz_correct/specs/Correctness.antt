@@ -44,15 +44,15 @@ use Rattle.jz_correct.specs.Agreement.{NeverFaults, EndsWith}
 use Rattle.jz_leak.specs.Applying.{apply_of, Fits}
 
 -- so many steps are enough for n turns
-abbrev pub bound : Compiled → ℕ → ℕ
-bound c n = c.insns * (n + 1)
+abbrev pub step_bound : Compiled → ℕ → ℕ
+step_bound c n = c.insns * (n + 1)
 
 -- The source ends within n turns: the bytes end within the bound, with its results and memory, and show the transformer applied to
 -- what it leaked.
 pub record MatchesEnd (c : Compiled) (words : List ℕ) (rsp0 base : ℕ) (s : Config) (n : ℕ) (r : Returned) (l : Leak) : Type 0 where
   pub fits : Fits c.tr l
   pub steps : ℕ
-  pub within : steps ≤ bound c n
+  pub within : steps ≤ step_bound c n
   pub ends : EndsWith c words rsp0 base s steps r.words r.memory (apply_of c.tr l rsp0)
 
 -- The source wants one turn more: the bytes are running after n steps, never fault, and what they show after some number of steps,
@@ -62,7 +62,7 @@ pub record MatchesCut (c : Compiled) (rsp0 base : ℕ) (s : Config) (n : ℕ) (l
   pub running : (steps_of c.code base s n).after.ended ≡ false
   pub steps : ℕ
   pub enough : n ≤ steps + c.insns
-  pub within : steps ≤ bound c n
+  pub within : steps ≤ step_bound c n
   pub running_there : (steps_of c.code base s steps).after.ended ≡ false
   pub shown : (steps_of c.code base s steps).events ≡ apply_of c.tr l rsp0
   pub no_fault : NeverFaults c.code base s
