@@ -1,12 +1,13 @@
 -- The start of `exec` is a start, and the run from it ends.
 use Rattle.std.proofs.Common.{◌≡◌, ℕ, zero, suc, ◌+◌, ◌-◌, ◌*◌, ◌%◌, ◌^◌, ◌<◌, ◌≤◌, Bool, true, false, List, [], ◌∷◌, ◌++◌, length, refl, sym, ap, ◌∙◌, arith, subst, lit<, lit≤, ◌⊎◌, ⊎_elim, length-append}
-use Rattle.std.proofs.lemmas.Bool.{le-ltb}
-use Rattle.std.proofs.lemmas.List.{get_or-set_same, length-set}
+use Rattle.std.proofs.lemmas.Bool.{le-ltb, both_ways, cases_order}
+use Rattle.std.proofs.lemmas.List.{get_or-set_same, length-set, length-map}
 use Rattle.std.proofs.lemmas.List.Elements.{All-nil}
 use Rattle.std.specs.Prelude.{Option, Some, None, IsSome, is_some, slice_index, slice_set, slice_get, nat_lt, if◌then◌else◌, map, Contains, replicate, ⊤}
 use Rattle.std.specs.FinMap as map_of
 use Rattle.std.specs.Ordering.{nat_cmp}
-use Rattle.jz_leak.specs.MemoryMap.{byte_from, or_else}
+use Rattle.std.specs.Option.{option_or}
+use Rattle.jz_leak.specs.MemoryMap.{byte_from}
 use Rattle.jz_words.specs.declared.size.Size.TheVariants.{S64}
 use Rattle.jz_words.specs.Memory.{Memory, loaded}
 use Rattle.x64_insn.specs.declared.types.Reg.{Reg}
@@ -46,18 +47,8 @@ use Rattle.jasminc_top.proofs.CodeLengths.{code_short}
 -- ---- runs
 -- a run ends once
 pub one_end : (code : List ℕ) (base j k : ℕ) (c : Config) → EndsAfter code base c j → EndsAfter code base c k → j ≡ k
-one_end code base j k c h g = by_order (order j k)
-  where
-    order : (j k : ℕ) → (j < k) ⊎ ((k < j) ⊎ (j ≡ k))
-    order j k = grind arith
-
-    clash : (b : Bool) → b ≡ true → b ≡ false → ⊥
-    clash b e f = cc
-
-    by_order : (j < k) ⊎ ((k < j) ⊎ (j ≡ k)) → j ≡ k
-    by_order o =
-        ⊎_elim (λ lt. let a = h.ended in let b = g.before j lt in absurd (clash _ a b))
-        (⊎_elim (λ lt. let a = g.ended in let b = h.before k lt in absurd (clash _ a b)) (λ e. e)) o
+one_end code base j k c h g =
+    ⊎_elim (λ e. e) (⊎_elim (λ lt. absurd (both_ways _ (g.before j lt) h.ended)) (λ lt. absurd (both_ways _ (h.before k lt) g.ended))) (cases_order j k)
 
 -- ---- the start of `exec`
 zero_at : (n i : ℕ) → i < n → slice_get {X = ℕ} (replicate n 0) i ≡ Some 0
@@ -71,14 +62,14 @@ all_zero (suc n) zero b e = cc
 all_zero (suc n) (suc i) b e = all_zero n i b e
 
 -- what is added to an empty memory is all that is there
-start_byte : (m : Memory) → IsStartMemory m → (q : ℕ) → q < 2 ^ 64 → map_of.get m q ≡ or_else (byte_from return_slot (replicate 8 0) q) None
-start_byte m h q lt = h.below q lt ∙ ap (or_else (byte_from return_slot (replicate 8 0) q)) (map_of.get-empty nat_cmp q)
+start_byte : (m : Memory) → IsStartMemory m → (q : ℕ) → q < 2 ^ 64 → map_of.get m q ≡ option_or (byte_from return_slot (replicate 8 0) q) None
+start_byte m h q lt = h.below q lt ∙ ap (option_or (byte_from return_slot (replicate 8 0) q)) (map_of.get-empty nat_cmp q)
 
-added_zero : (below : Bool) (i b : ℕ) → or_else (if below then None else slice_get (replicate 8 0) i) None ≡ Some b → b < 256
+added_zero : (below : Bool) (i b : ℕ) → option_or (if below then None else slice_get (replicate 8 0) i) None ≡ Some b → b < 256
 added_zero true i b e = cc
 added_zero false i b e = by_byte (slice_get (replicate 8 0) i) refl e
   where
-    by_byte : (o : Option ℕ) → slice_get (replicate 8 0) i ≡ o → or_else o None ≡ Some b → b < 256
+    by_byte : (o : Option ℕ) → slice_get (replicate 8 0) i ≡ o → option_or o None ≡ Some b → b < 256
     by_byte None k e = cc
     by_byte (Some c) k e = let z = all_zero 8 i c k in let same : c ≡ b = cc in omega (arith, z, same)
 
@@ -98,8 +89,8 @@ start_valid m h q within =
     let below : q - return_slot < 8 = omega (arith, within.1, from) in
     let first : nat_lt q return_slot ≡ false = le-ltb q return_slot from in
     let byte : map_of.get m q ≡ Some 0 =
-    start_byte m h q (omega (arith, within.1)) ∙ ap (λ b. or_else (if b then None else slice_get (replicate 8 0) (q - return_slot)) None) first
-    ∙ ap (λ o. or_else o None) (zero_at 8 (q - return_slot) below)
+    start_byte m h q (omega (arith, within.1)) ∙ ap (λ b. option_or (if b then None else slice_get (replicate 8 0) (q - return_slot)) None) first
+    ∙ ap (λ o. option_or o None) (zero_at 8 (q - return_slot) below)
     in ap is_some byte
 
 -- ---- items in registers
@@ -139,14 +130,10 @@ are_words [] h i = lit< tt
 are_words (n ∷ ns) h zero = h.0
 are_words (n ∷ ns) h (suc i) = are_words ns h.1 i
 
-map_length : {A B : Type 0} (g : A → B) (xs : List A) → length (map g xs) ≡ length xs
-map_length g [] = refl
-map_length g (x ∷ xs) = ap suc (map_length g xs)
-
 -- ---- the start
 module _ (register : List ℕ → Reg) (f : Fun) (items : List ℕ) (fit : ItemsFit items) (count : length items ≡ length f.params) (few : length f.params ≤ 6) (small : length f.body ≤ 65536) where
   as_many : length items ≡ length (map variable_of f.params)
-  as_many = count ∙ sym (map_length variable_of f.params)
+  as_many = count ∙ sym (length-map f.params variable_of)
 
   few_items : length items ≤ 6
   few_items = omega (arith, count, few)

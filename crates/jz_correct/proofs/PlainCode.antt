@@ -1,7 +1,7 @@
 -- Operations between registers and immediates of 64 bits, one after another: what they leave in the registers, and how they run.
 use Rattle.std.proofs.Common.{◌≡◌, ◌≢◌, ℕ, zero, suc, ◌+◌, ◌-◌, ◌%◌, ◌^◌, ◌<◌, ◌≤◌, Bool, true, false, List, [], ◌∷◌, ◌++◌, length, drop, refl, sym, ap, ◌∙◌, subst, arith, append_assoc, append-nil, length-append}
 use Rattle.std.specs.Prelude.{Option, Some, Ok, map, slice_index, slice_set, ◌&&◌}
-use Rattle.std.specs.List.{concat}
+use Rattle.std.specs.List.{concat, AllByRecursion}
 use Rattle.std.specs.Option.{option_to_list}
 use Rattle.std.proofs.Math.Seq.{drop-append_seam}
 use Rattle.jz_words.specs.declared.size.Size.TheVariants.{S64}
@@ -66,8 +66,7 @@ pub data Plain : Insn → Type 0 where
   mov_imm : {to : Reg} (i : _) → fits_bytes 8 i ≡ true → Plain (insn.Mov S64 (operand.Reg to) (operand.Imm i))
 
 abbrev pub AllPlain : List Insn → Type 0
-AllPlain [] = Unit {0}
-AllPlain (i ∷ is) = Plain i × AllPlain is
+AllPlain is = AllByRecursion Plain is
 
 pub plain_spelled : (i : Insn) → Plain i → is_spelled i ≡ true
 plain_spelled i (alu_reg h) = rw h refl

@@ -9,14 +9,15 @@ use Rattle.std.specs.Ordering.{nat_cmp, is_eq, eq_by_cmp, MatchOrdering}
 use Rattle.std.specs.Cmp.{nat_cmp_total, ranks}
 use Rattle.std.specs.FinMap.{get, find, from_entries, get-from_entries, get-insert, insert, same_map, nat_cmp-IsAntisymmetric}
 use Rattle.jz_leak.specs.declared.segment.Segment.{Segment}
-use Rattle.jz_leak.specs.MemoryMap.{byte_from, or_else}
+use Rattle.std.specs.Option.{option_or}
+use Rattle.jz_leak.specs.MemoryMap.{byte_from}
 use Rattle.jz_leak.specs.MemoryMapSegments.{entries_from, all_entries, byte_of, read_at, index_of, with_byte}
 
-test_else : (b : Bool) (v : ℕ) (x y z : Option ℕ) → x ≡ or_else y z → cond b (Some v) x ≡ or_else (cond b (Some v) y) z
+test_else : (b : Bool) (v : ℕ) (x y z : Option ℕ) → x ≡ option_or y z → cond b (Some v) x ≡ option_or (cond b (Some v) y) z
 test_else true v x y z h = refl
 test_else false v x y z h = h
 
-find_both : (q : ℕ) (es fs : List (ℕ × ℕ)) → find nat_cmp q (es ++ fs) ≡ or_else (find nat_cmp q es) (find nat_cmp q fs)
+find_both : (q : ℕ) (es fs : List (ℕ × ℕ)) → find nat_cmp q (es ++ fs) ≡ option_or (find nat_cmp q es) (find nat_cmp q fs)
 find_both q [] fs = refl
 find_both q (e ∷ es) fs = test_else (eq_by_cmp nat_cmp q e.0) e.1 _ _ _ (find_both q es fs)
 
@@ -49,21 +50,21 @@ find_from q a (b ∷ bs) = at_test q a (nat_cmp q a) (ranks q a) b bs _ (find_fr
 
 find_read : (q : ℕ) (ss : List Segment) → find nat_cmp q (all_entries ss) ≡ read_at ss q
 find_read q [] = refl
-find_read q (s ∷ ss) = find_both q (entries_from s.start s.bytes) (all_entries ss) ∙ ap (λ o. or_else o (find nat_cmp q (all_entries ss))) (find_from q s.start s.bytes) ∙ ap (or_else (byte_of s q)) (find_read q ss)
+find_read q (s ∷ ss) = find_both q (entries_from s.start s.bytes) (all_entries ss) ∙ ap (λ o. option_or o (find nat_cmp q (all_entries ss))) (find_from q s.start s.bytes) ∙ ap (option_or (byte_of s q)) (find_read q ss)
 
 pub get_read : (ss : List Segment) (q : ℕ) → get (from_entries {R = nat_cmp} (all_entries ss)) q ≡ read_at ss q
 get_read ss q = get-from_entries nat_cmp_total (all_entries ss) q ∙ find_read q ss
 
 -- ---- one more segment
-read_more : (q : ℕ) (ss : List Segment) (s : Segment) → read_at (ss ++ s ∷ []) q ≡ or_else (read_at ss q) (byte_of s q)
+read_more : (q : ℕ) (ss : List Segment) (s : Segment) → read_at (ss ++ s ∷ []) q ≡ option_or (read_at ss q) (byte_of s q)
 read_more q [] s = last (byte_of s q)
   where
-    last : (o : Option ℕ) → or_else o None ≡ o
+    last : (o : Option ℕ) → option_or o None ≡ o
     last None = refl
     last (Some b) = refl
-read_more q (t ∷ ss) s = ap (or_else (byte_of t q)) (read_more q ss s) ∙ regroup (byte_of t q) (read_at ss q) (byte_of s q)
+read_more q (t ∷ ss) s = ap (option_or (byte_of t q)) (read_more q ss s) ∙ regroup (byte_of t q) (read_at ss q) (byte_of s q)
   where
-    regroup : (x y z : Option ℕ) → or_else x (or_else y z) ≡ or_else (or_else x y) z
+    regroup : (x y z : Option ℕ) → option_or x (option_or y z) ≡ option_or (option_or x y) z
     regroup None y z = refl
     regroup (Some b) y z = refl
 
@@ -82,7 +83,7 @@ from_taken a n q bs h = by_side (nat_lt q a) refl
     by_side true e = refl
     by_side false e = let le : a ≤ q = grind (arith, nat_tests) in get_taken n bs (q - a) (⊎_elim (λ i. inl (omega arith)) (λ i. inr i) h)
 
-either_first : (x y : Option ℕ) → ((b : ℕ) → y ≡ Some b → x ≡ None) → or_else x y ≡ or_else y x
+either_first : (x y : Option ℕ) → ((b : ℕ) → y ≡ Some b → x ≡ None) → option_or x y ≡ option_or y x
 either_first None None h = refl
 either_first None (Some b) h = refl
 either_first (Some a) None h = refl
@@ -98,10 +99,10 @@ byte_within a q b bs h = by_side (nat_lt q a) refl h
 -- what a segment behind the others adds, where they have none of its bytes
 pub added : (ss : List Segment) (s : Segment) (a n q : ℕ) (bs : List ℕ) → s.start ≡ a → s.bytes ≡ take n bs
     → (a ≤ q → q < a + n → q < a + length bs → read_at ss q ≡ None)
-    → read_at (ss ++ s ∷ []) q ≡ or_else (byte_from a (take n bs) q) (read_at ss q)
+    → read_at (ss ++ s ∷ []) q ≡ option_or (byte_from a (take n bs) q) (read_at ss q)
 added ss s a n q bs h k apart =
     let same : byte_of s q ≡ byte_from a (take n bs) q = ap (λ x. byte_from x s.bytes q) h ∙ ap (λ xs. byte_from a xs q) k
-    in read_more q ss s ∙ ap (or_else (read_at ss q)) same
+    in read_more q ss s ∙ ap (option_or (read_at ss q)) same
     ∙ either_first (read_at ss q) (byte_from a (take n bs) q)
     (λ b e. let w = byte_within a q b (take n bs) e
     in apart w.0 (omega (arith, w.1, length-take n bs)) (omega (arith, w.1, length-take n bs)))
@@ -148,7 +149,7 @@ none_by (Some x) b e h = cc
 
 held_none : (s : Segment) (ss : List Segment) (q n : ℕ) (b : Bool) → b ≡ is_some (byte_of s q)
     → (index_of ss q (n + 1) ≡ None → read_at ss q ≡ None) → (if b then Some n else index_of ss q (n + 1)) ≡ None
-    → or_else (byte_of s q) (read_at ss q) ≡ None
+    → option_or (byte_of s q) (read_at ss q) ≡ None
 held_none s ss q n true e more h = cc
 held_none s ss q n false e more h = rw (none_by (byte_of s q) false e refl) (more h)
 
@@ -157,11 +158,11 @@ pub none_held : (ss : List Segment) (q n : ℕ) → index_of ss q n ≡ None →
 none_held [] q n h = refl
 none_held (s ∷ ss) q n h = held_none s ss q n (is_some (byte_of s q)) refl (none_held ss q (n + 1)) h
 
-some_first : (x y : Option ℕ) → is_some x ≡ true → is_some (or_else x y) ≡ true
+some_first : (x y : Option ℕ) → is_some x ≡ true → is_some (option_or x y) ≡ true
 some_first None y h = cc
 some_first (Some a) y h = refl
 
-some_second : (x y : Option ℕ) → is_some y ≡ true → is_some (or_else x y) ≡ true
+some_second : (x y : Option ℕ) → is_some y ≡ true → is_some (option_or x y) ≡ true
 some_second None y h = h
 some_second (Some a) y h = refl
 
@@ -228,7 +229,7 @@ written_here : (ss : List Segment) (q k v : ℕ) (s : Segment) → Holds ss q k 
     → read_at (slice_set ss k (with_byte s q v)) q ≡ Some v
 written_here [] q k v s h e = absurd h
 written_here (t ∷ ss) q zero v s h e =
-    ap (λ o. or_else o (read_at ss q)) (byte_here s q v (held_byte (t ∷ ss) q 0 s h e))
+    ap (λ o. option_or o (read_at ss q)) (byte_here s q v (held_byte (t ∷ ss) q 0 s h e))
 written_here (t ∷ ss) q (suc k) v s h e =
     rw (none_by (byte_of t q) false (sym h.0) refl) (written_here ss q k v s h.1 e)
 
@@ -236,9 +237,9 @@ written_other : (ss : List Segment) (q k v p : ℕ) (s : Segment) → Holds ss q
     → read_at (slice_set ss k (with_byte s q v)) p ≡ read_at ss p
 written_other [] q k v p s h e ne = absurd h
 written_other (t ∷ ss) q zero v p s h e ne =
-    ap (λ o. or_else o (read_at ss p))
+    ap (λ o. option_or o (read_at ss p))
     (byte_other s q v p (held_byte (t ∷ ss) q 0 s h e) ne ∙ ap (λ x. byte_of x p) (sym (segment_same t s e)))
-written_other (t ∷ ss) q (suc k) v p s h e ne = ap (or_else (byte_of t p)) (written_other ss q k v p s h.1 e ne)
+written_other (t ∷ ss) q (suc k) v p s h e ne = ap (option_or (byte_of t p)) (written_other ss q k v p s h.1 e ne)
 
 by_order : (ss : List Segment) (q k v p : ℕ) (s : Segment) → Holds ss q k → slice_get ss k ≡ Some s
     → (o : Ordering) → MatchOrdering o (p < q) (p ≡ q) (q < p)

@@ -1,5 +1,6 @@
 -- What adding bytes to a memory does.
-use Rattle.std.specs.Prelude.{◌≡◌, ◌<◌, ◌≤◌, ℕ, ◌-◌, ◌^◌, nat_lt, if◌then◌else◌, Option, Some, None, List, slice_get}
+use Rattle.std.specs.Prelude.{◌≡◌, ◌<◌, ◌≤◌, ℕ, ◌-◌, ◌^◌, nat_lt, if◌then◌else◌, Option, None, List, slice_get}
+use Rattle.std.specs.Option.{option_or}
 use Rattle.std.specs.FinMap.{get}
 use Rattle.jz_words.specs.Memory.{Memory}
 
@@ -7,12 +8,7 @@ use Rattle.jz_words.specs.Memory.{Memory}
 abbrev pub byte_from : ℕ → List ℕ → ℕ → Option ℕ
 byte_from a bytes q = if nat_lt q a then None else slice_get bytes (q - a)
 
--- the first of two bytes that is there
-abbrev pub or_else : Option ℕ → Option ℕ → Option ℕ
-or_else None b = b
-or_else (Some a) b = Some a
-
 -- below 2 ^ 64 the bytes stand from the address on, and nothing else changes
 pub record AddsBytes (old new : Memory) (a : ℕ) (bytes : List ℕ) : Type 0 where
-  pub below : (q : ℕ) → q < 2 ^ 64 → get new q ≡ or_else (byte_from a bytes q) (get old q)
+  pub below : (q : ℕ) → q < 2 ^ 64 → get new q ≡ option_or (byte_from a bytes q) (get old q)
   pub past : (q : ℕ) → 2 ^ 64 ≤ q → get new q ≡ get old q

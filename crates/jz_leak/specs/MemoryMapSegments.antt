@@ -1,7 +1,8 @@
 -- A memory that is kept in segments.
 use Rattle.std.specs.Prelude.{ℕ, ◌+◌, ◌-◌, if◌then◌else◌, Option, Some, None, is_some, List, [], ◌∷◌, ◌++◌, slice_set}
 use Rattle.jz_leak.specs.declared.segment.Segment.{Segment}
-use Rattle.jz_leak.specs.MemoryMap.{byte_from, or_else}
+use Rattle.std.specs.Option.{option_or}
+use Rattle.jz_leak.specs.MemoryMap.{byte_from}
 
 -- bytes from an address on, each with its address
 abbrev pub entries_from : ℕ → List ℕ → List (ℕ × ℕ)
@@ -20,7 +21,7 @@ byte_of s q = byte_from s.start s.bytes q
 -- the byte of the first segment that has the address
 abbrev pub read_at : List Segment → ℕ → Option ℕ
 read_at [] q = None
-read_at (s ∷ ss) q = or_else (byte_of s q) (read_at ss q)
+read_at (s ∷ ss) q = option_or (byte_of s q) (read_at ss q)
 
 -- the place of the first segment that has the address, counted from n
 abbrev pub index_of : List Segment → ℕ → ℕ → Option ℕ

@@ -3,7 +3,8 @@ use Rattle.std.proofs.lemmas.Bool.{cases_lt}
 use Rattle.std.specs.FinMap as map
 use Rattle.std.specs.Ordering.{nat_cmp}
 use Rattle.jz_leak.specs.declared.segment.Segment.{Segment}
-use Rattle.jz_leak.specs.MemoryMap.{byte_from, or_else}
+use Rattle.std.specs.Option.{option_or}
+use Rattle.jz_leak.specs.MemoryMap.{byte_from}
 use Rattle.jz_leak.specs.MemoryMapSegments.{all_entries, read_at}
 use Rattle.jz_leak.proofs.MemorySegments.{get_read, added, from_taken, none_past}
 use Rattle.jz_leak.proofs.mem_map.MemMap.add.Goals as goal
@@ -23,8 +24,8 @@ returns-clause-ok c =
     in record {
       below = λ q lt.
           let cut : (q < a + n) ⊎ (length bs ≤ n) = ⊎_elim (λ h. inl (omega (arith, c.count_below_end-count.ensures.cut h))) (λ h. inr h) (cases_lt n (length bs))
-          in new q ∙ ap (λ o. or_else o (read_at ss q)) (from_taken a n q bs cut) ∙ ap (or_else (byte_from a bs q)) (old q);
+          in new q ∙ ap (λ o. option_or o (read_at ss q)) (from_taken a n q bs cut) ∙ ap (option_or (byte_from a bs q)) (old q);
       past = λ q le.
           let over : a + n ≤ q = let below : a + n ≤ 2 ^ 64 = c.count_below_end-count.ensures.below in omega arith
-          in new q ∙ ap (λ o. or_else o (read_at ss q)) (none_past a n q bs over) ∙ old q;
+          in new q ∙ ap (λ o. option_or o (read_at ss q)) (none_past a n q bs over) ∙ old q;
     }
