@@ -1,5 +1,6 @@
 -- A memory that is kept in segments.
-use Rattle.std.specs.Prelude.{ℕ, ◌+◌, ◌-◌, if◌then◌else◌, Option, Some, None, is_some, List, [], ◌∷◌, ◌++◌, slice_set}
+use Rattle.std.specs.Prelude.{ℕ, ◌+◌, ◌-◌, Option, None, is_some, List, [], ◌∷◌, flat_map, slice_set}
+use Rattle.std.specs.List.{position_from}
 use Rattle.jz_leak.specs.declared.segment.Segment.{Segment}
 use Rattle.std.specs.Option.{option_or}
 use Rattle.jz_leak.specs.MemoryMap.{byte_from}
@@ -11,8 +12,7 @@ entries_from a (b ∷ bs) = (a, b) ∷ entries_from (a + 1) bs
 
 -- all bytes with their addresses
 abbrev pub all_entries : List Segment → List (ℕ × ℕ)
-all_entries [] = []
-all_entries (s ∷ ss) = entries_from s.start s.bytes ++ all_entries ss
+all_entries ss = flat_map (λ s. entries_from s.start s.bytes) ss
 
 -- a segment's byte at an address
 abbrev pub byte_of : Segment → ℕ → Option ℕ
@@ -25,8 +25,7 @@ read_at (s ∷ ss) q = option_or (byte_of s q) (read_at ss q)
 
 -- the place of the first segment that has the address, counted from n
 abbrev pub index_of : List Segment → ℕ → ℕ → Option ℕ
-index_of [] q n = None
-index_of (s ∷ ss) q n = if is_some (byte_of s q) then Some n else index_of ss q (n + 1)
+index_of ss q n = position_from (λ s. is_some (byte_of s q)) n ss
 
 -- the segment with another byte at an address
 abbrev pub with_byte : Segment → ℕ → ℕ → Segment
