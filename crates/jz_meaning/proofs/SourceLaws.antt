@@ -10,7 +10,7 @@ use Rattle.jz_meaning.specs.RunRules.{stuck, went, Outcome, End, Cut, Stuck, Goe
 use Rattle.jz_meaning.specs.RunLaws.{IsOver, with_more}
 use Rattle.jz_meaning.specs.SourceStates.{State, Why}
 use Rattle.jz_meaning.specs.SourceValues.{Got}
-use Rattle.jz_meaning.specs.SourceRuns.{Block, source, block, begun, returned, outcome_of_words, result_words, FunOutcome, IsInput, IsRun}
+use Rattle.jz_meaning.specs.SourceRuns.{Block, source, block, entry_state, returned, outcome_of_words, result_words, FunOutcome, IsInput, IsRun}
 use Rattle.jz_meaning.proofs.RunSteady.{Exact, exact, one_outcome, has_outcome}
 
 more_by : (b : Block) (n u : ℕ) (s : State) (o : Outcome State Why Leak) → Exact (λ k w. Goes source b k s w) n o → IsOver o → Goes source b (n + u) s (with_more u o)
@@ -32,7 +32,7 @@ fun_one p f words memory n o other g h = sym g.gives ∙ ap (returned f.result) 
 
 pub fun_some : (p : Program) (f : Fun) (words : List ℕ) (memory : Memory) (n : ℕ) → IsInput p f words → (o : FunOutcome) × IsRun p f words memory n o
 fun_some p f words memory n i =
-    let g = has_outcome source (block f.body done) n (begun f words memory) in
+    let g = has_outcome source (block f.body done) n (entry_state f words memory) in
     (returned f.result g.0, record { input = i; out = g.0; goes = g.1; gives = refl })
 
 -- a function's outcome is over where that of its body is
@@ -56,6 +56,6 @@ fun_more p f words memory n u o g h =
     record {
       input = g.input;
       out = with_more u g.out;
-      goes = block_more (block f.body done) n u (begun f words memory) g.out g.goes over;
+      goes = block_more (block f.body done) n u (entry_state f words memory) g.out g.goes over;
       gives = returned_more f.result u g.out ∙ ap (with_more u) g.gives;
     }

@@ -21,7 +21,7 @@ use Rattle.jz_meaning.specs.RunTrees.{done}
 use Rattle.jz_meaning.specs.RunRules.{stuck, went, Outcome, End, Stuck, after}
 use Rattle.jz_meaning.specs.SourceStates.{Value, word, integer, key_of, State, Why}
 use Rattle.jz_meaning.specs.SourceValues.{Got, numbers_first, and_then, defined, evaluated, value_of, numbers_in, numbers_of}
-use Rattle.jz_meaning.specs.SourceRuns.{as_declared, held, written, left_value, right_value, combined, assigned_value, assigned, Block, source, statement, block, begun, result_words, outcome_of_words, returned, FunOutcome, IsRun}
+use Rattle.jz_meaning.specs.SourceRuns.{as_declared, held, written, left_value, right_value, combined, assigned_value, assigned, Block, source, statement, block, entry_state, result_words, outcome_of_words, returned, FunOutcome, IsRun}
 use Rattle.jz_meaning.specs.StraightRuns.{run_statement, run_statements, plain_leak, straight_outcome}
 use Rattle.jz_meaning.proofs.RunSteady.{run, ran_so}
 
@@ -161,7 +161,7 @@ returned_so xs m n l (went ns s) h = ap (λ k. outcome_of_words k n l (result_wo
 
 pub fun_straight : (p : Program) (f : Fun) (words : List ℕ) (memory : Memory) (n : ℕ) (o : FunOutcome) → IsRun p f words memory n o → o ≡ straight_outcome f words memory n
 fun_straight p f words memory n o g =
-    let start = begun f words memory in
+    let start = entry_state f words memory in
     sym g.gives
     ∙ ap (returned f.result) (sym (ran_so source g.goes) ∙ body_so f.body n start)
     ∙ returned_so f.result memory n (plain_leak f.body) (run_statements f.body start) (memory_statements f.body start)

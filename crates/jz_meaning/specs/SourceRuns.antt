@@ -132,8 +132,8 @@ with_arguments (p ∷ ps) [] store = store
 with_arguments (p ∷ ps) (w ∷ ws) store = with_arguments ps ws (put store (key_of p.var) (argument p.var.decl w))
 
 -- where a function begins: no other variable has a value
-abbrev pub begun : Fun → List ℕ → Memory → State
-begun f words memory = record { store = with_arguments f.params words empty_store; memory = memory }
+abbrev pub entry_state : Fun → List ℕ → Memory → State
+entry_state f words memory = record { store = with_arguments f.params words empty_store; memory = memory }
 
 -- the bits of a word; a variable holds no other value
 abbrev pub word_of : Span → Value → Got ℕ
@@ -187,5 +187,5 @@ pub record IsInput (p : Program) (f : Fun) (words : List ℕ) : Type 0 where
 pub record IsRun (p : Program) (f : Fun) (words : List ℕ) (memory : Memory) (n : ℕ) (o : FunOutcome) : Type 0 where
   pub input : IsInput p f words
   pub out : Outcome State Why Leak
-  pub goes : Goes source (block f.body done) n (begun f words memory) out
+  pub goes : Goes source (block f.body done) n (entry_state f words memory) out
   pub gives : returned f.result out ≡ o

@@ -10,7 +10,7 @@ use Rattle.jz_leak.specs.RunLeaks.{Leak, over, ran}
 use Rattle.jz_meaning.specs.RunRules.{went}
 use Rattle.jz_meaning.specs.SourceStates.{State}
 use Rattle.jz_meaning.specs.SourceValues.{Got, and_then}
-use Rattle.jz_meaning.specs.SourceRuns.{assigned, begun, result_words, outcome_of_words, FunOutcome}
+use Rattle.jz_meaning.specs.SourceRuns.{assigned, entry_state, result_words, outcome_of_words, FunOutcome}
 
 -- the state after a statement
 abbrev pub run_statement : StmtKind → Span → State → Got State
@@ -23,7 +23,7 @@ run_statements (x ∷ xs) s = and_then (run_statement x.kind x.span s) (run_stat
 
 -- the words that a function returns
 abbrev pub words_returned : Fun → List ℕ → Memory → Got (List ℕ)
-words_returned f words memory = and_then (run_statements f.body (begun f words memory)) (λ s. result_words f.result s.store)
+words_returned f words memory = and_then (run_statements f.body (entry_state f words memory)) (λ s. result_words f.result s.store)
 
 -- an item without numbers for each statement
 abbrev pub plain_leak : List Stmt → Leak

@@ -20,7 +20,7 @@ use Rattle.jz_ct.proofs.SomeLabels.{constant_time}
 use Rattle.jz_meaning.specs.RunRules.{stuck, went}
 use Rattle.jz_meaning.specs.SourceStates.{State, Value, empty_store}
 use Rattle.jz_meaning.specs.SourceValues.{Got}
-use Rattle.jz_meaning.specs.SourceRuns.{begun, result_words, outcome_of_words, FunOutcome, IsRun}
+use Rattle.jz_meaning.specs.SourceRuns.{entry_state, result_words, outcome_of_words, FunOutcome, IsRun}
 use Rattle.jz_meaning.specs.StraightRuns.{run_statements, plain_leak, words_returned}
 use Rattle.jz_meaning.proofs.StraightLaws.{fun_straight}
 use Rattle.jz_safety.specs.Alarms.{HasNoAlarm}
@@ -100,10 +100,10 @@ module _ (p : Program) (f : Fun) (register : List ℕ → Reg) (straight : IsStr
 
     ends_so : (ws ns : List ℕ) → words_returned f words memory ≡ went ns ws → MatchesEnd (compiled_of register f) words rsp0 base s n (record { words = ws; memory = memory }) (plain_leak f.body)
     ends_so ws ns e =
-        let a = then_went (run_statements f.body (begun f words memory)) (λ (t : State). result_words f.result t.store) ns ws e in
+        let a = then_went (run_statements f.body (entry_state f words memory)) (λ (t : State). result_words f.result t.store) ns ws e in
         let entry = entered register argument_registers f.params words empty_store s.state straight.params placing.params start.arguments (λ m v u none. none_there v none) in
         let step : Stepped register (IsNamed f.result) a.1 s.state.regs (regs_after body_code s.state.regs) =
-        statements_step register f.body f.result (begun f words memory) a.1 s.state.regs straight.body placing.apart start.machine.registers (λ m v lives t. entry m v tt t) a.0 a.3 in
+        statements_step register f.body f.result (entry_state f words memory) a.1 s.state.regs straight.body placing.apart start.machine.registers (λ m v lives t. entry m v tt t) a.0 a.3 in
         let run = plain_run.1 in
         let k = suc (length body_code) in
         let last : Config = (steps_of (code_of body_code) base s k).after in

@@ -23,7 +23,7 @@ use Rattle.jz_leak.specs.RunLeaks.{Leak}
 use Rattle.jz_meaning.specs.RunRules.{stuck, went, End, Stuck}
 use Rattle.jz_meaning.specs.SourceStates.{Value, word, integer, key_of, Store, empty_store, put, State, Why}
 use Rattle.jz_meaning.specs.SourceValues.{Got, numbers_first, and_then, defined, variable_value}
-use Rattle.jz_meaning.specs.SourceRuns.{of_type, as_declared, held, written, right_value, combined, assigned_value, assigned, value_of_type, argument, with_arguments, begun, word_of, result_words, outcome_of_words, FunOutcome, FitsDecl, AreArguments, IsRun}
+use Rattle.jz_meaning.specs.SourceRuns.{of_type, as_declared, held, written, right_value, combined, assigned_value, assigned, value_of_type, argument, with_arguments, entry_state, word_of, result_words, outcome_of_words, FunOutcome, FitsDecl, AreArguments, IsRun}
 use Rattle.jz_meaning.specs.StraightRuns.{run_statement, run_statements, words_returned, plain_leak}
 use Rattle.jz_meaning.proofs.StraightLaws.{fun_straight}
 use Rattle.jz_facts.specs.declared.fact.Fact.TheVariants.{Set}
@@ -224,8 +224,8 @@ shows_function : (f : Fun) (words : List ℕ) (memory : Memory) → AreArguments
 shows_function f words memory a h =
     let entry = entry_facts f in
     shows_then (body_alarms entry f.body) (alarms_at (facts_at_end entry f.body) (result_conditions f.result)) (λ (u : State). Tells (facts_at_end entry f.body) u.store) AnyValue
-    (run_statements f.body (begun f words memory)) (λ u. result_words f.result u.store)
-    (shows_statements f.body entry (begun f words memory) h (tells_arguments f.params words no_facts empty_store a tells_none))
+    (run_statements f.body (entry_state f words memory)) (λ u. result_words f.result u.store)
+    (shows_statements f.body entry (entry_state f words memory) h (tells_arguments f.params words no_facts empty_store a tells_none))
     (λ u k. shows_results (facts_at_end entry f.body) u.store k f.result)
 
 ends_without : (memory : Memory) (n : ℕ) (l : Leak) (these : List Alarm) (x : Got (List ℕ)) → Shows these AnyValue x → these ≡ [] → (ws : List ℕ) × (outcome_of_words memory n l x ≡ End (record { words = ws; memory = memory }) n l)
