@@ -10,7 +10,7 @@ use Rattle.jz_meaning.specs.RunRules.{stuck, went, Outcome, End, Cut, Stuck, Goe
 use Rattle.jz_meaning.specs.RunLaws.{IsOver, with_more}
 use Rattle.jz_meaning.specs.SourceStates.{State, Why}
 use Rattle.jz_meaning.specs.SourceValues.{Got}
-use Rattle.jz_meaning.specs.SourceRuns.{Block, source, block, entry_state, returned, outcome_of_words, result_words, FunOutcome, IsInput, IsRun}
+use Rattle.jz_meaning.specs.SourceRuns.{Block, source, block, entry_state, outcome_of_body, outcome_of_words, result_words, FunOutcome, IsInput, IsRun}
 use Rattle.jz_meaning.proofs.RunSteady.{Exact, exact, one_outcome, has_outcome}
 
 more_by : (b : Block) (n u : ℕ) (s : State) (o : Outcome State Why Leak) → Exact (λ k w. Goes source b k s w) n o → IsOver o → Goes source b (n + u) s (with_more u o)
@@ -28,24 +28,24 @@ pub block_some : (b : Block) (n : ℕ) (s : State) → (o : Outcome State Why Le
 block_some b n s = has_outcome source b n s
 
 pub fun_one : (p : Program) (f : Fun) (words : List ℕ) (memory : Memory) (n : ℕ) (o other : FunOutcome) → IsRun p f words memory n o → IsRun p f words memory n other → o ≡ other
-fun_one p f words memory n o other g h = sym g.gives ∙ ap (returned f.result) (one_outcome source g.goes h.goes) ∙ h.gives
+fun_one p f words memory n o other g h = sym g.gives ∙ ap (outcome_of_body f.result) (one_outcome source g.goes h.goes) ∙ h.gives
 
 pub fun_some : (p : Program) (f : Fun) (words : List ℕ) (memory : Memory) (n : ℕ) → IsInput p f words → (o : FunOutcome) × IsRun p f words memory n o
 fun_some p f words memory n i =
     let g = has_outcome source (block f.body done) n (entry_state f words memory) in
-    (returned f.result g.0, record { input = i; out = g.0; goes = g.1; gives = refl })
+    (outcome_of_body f.result g.0, record { input = i; out = g.0; goes = g.1; gives = refl })
 
 -- a function's outcome is over where that of its body is
 words_over : (memory : Memory) (n u : ℕ) (l : Leak) (ws : Got (List ℕ)) → outcome_of_words memory (n + u) l ws ≡ with_more u (outcome_of_words memory n l ws)
 words_over memory n u l (stuck w) = refl
 words_over memory n u l (went ns ws) = refl
 
-body_over : (xs : List Var) (o : Outcome State Why Leak) → IsOver (returned xs o) → IsOver o
+body_over : (xs : List Var) (o : Outcome State Why Leak) → IsOver (outcome_of_body xs o) → IsOver o
 body_over xs (End s n l) h = tt
 body_over xs (Cut l) h = h
 body_over xs (Stuck w) h = tt
 
-returned_more : (xs : List Var) (u : ℕ) (o : Outcome State Why Leak) → returned xs (with_more u o) ≡ with_more u (returned xs o)
+returned_more : (xs : List Var) (u : ℕ) (o : Outcome State Why Leak) → outcome_of_body xs (with_more u o) ≡ with_more u (outcome_of_body xs o)
 returned_more xs u (End s n l) = words_over s.memory n u l (result_words xs s.store)
 returned_more xs u (Cut l) = refl
 returned_more xs u (Stuck w) = refl

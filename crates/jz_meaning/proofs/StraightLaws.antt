@@ -21,7 +21,7 @@ use Rattle.jz_meaning.specs.RunTrees.{done}
 use Rattle.jz_meaning.specs.RunRules.{stuck, went, Outcome, End, Stuck, after}
 use Rattle.jz_meaning.specs.SourceStates.{Value, word, integer, key_of, State, Why}
 use Rattle.jz_meaning.specs.SourceValues.{Got, numbers_first, and_then, defined, evaluated, value_of, numbers_in, numbers_of}
-use Rattle.jz_meaning.specs.SourceRuns.{as_declared, held, written, left_value, right_value, combined, assigned_value, assigned, Block, source, statement, block, entry_state, result_words, outcome_of_words, returned, FunOutcome, IsRun}
+use Rattle.jz_meaning.specs.SourceRuns.{as_declared, held, written, left_value, right_value, combined, assigned_value, assigned, Block, source, statement, block, entry_state, result_words, outcome_of_words, outcome_of_body, FunOutcome, IsRun}
 use Rattle.jz_meaning.specs.StraightRuns.{run_statement, run_statements, plain_leak, straight_outcome}
 use Rattle.jz_meaning.proofs.RunSteady.{run, ran_so}
 
@@ -155,7 +155,7 @@ words_after : (m : Memory) (n : ℕ) (l : Leak) (ns : List ℕ) (x : Got (List �
 words_after m n l ns (stuck w) = refl
 words_after m n l ns (went ms ws) = refl
 
-returned_so : (xs : List Var) (m : Memory) (n : ℕ) (l : Leak) (z : Got State) → HasMemory m z → returned xs (ended n l z) ≡ outcome_of_words m n l (and_then z (λ s. result_words xs s.store))
+returned_so : (xs : List Var) (m : Memory) (n : ℕ) (l : Leak) (z : Got State) → HasMemory m z → outcome_of_body xs (ended n l z) ≡ outcome_of_words m n l (and_then z (λ s. result_words xs s.store))
 returned_so xs m n l (stuck w) h = refl
 returned_so xs m n l (went ns s) h = ap (λ k. outcome_of_words k n l (result_words xs s.store)) h ∙ words_after m n l ns (result_words xs s.store)
 
@@ -163,7 +163,7 @@ pub fun_straight : (p : Program) (f : Fun) (words : List ℕ) (memory : Memory) 
 fun_straight p f words memory n o g =
     let start = entry_state f words memory in
     sym g.gives
-    ∙ ap (returned f.result) (sym (ran_so source g.goes) ∙ body_so f.body n start)
+    ∙ ap (outcome_of_body f.result) (sym (ran_so source g.goes) ∙ body_so f.body n start)
     ∙ returned_so f.result memory n (plain_leak f.body) (run_statements f.body start) (memory_statements f.body start)
 
 -- ---- numbers

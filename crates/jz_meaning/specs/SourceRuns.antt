@@ -160,10 +160,10 @@ outcome_of_words memory n l (stuck w) = Stuck w
 outcome_of_words memory n l (went ns ws) = End (record { words = ws; memory = memory }) n l
 
 -- the outcome of a function, by that of its body
-abbrev pub returned : List Var → Outcome State Why Leak → FunOutcome
-returned xs (End s n l) = outcome_of_words s.memory n l (result_words xs s.store)
-returned xs (Cut l) = Cut l
-returned xs (Stuck w) = Stuck w
+abbrev pub outcome_of_body : List Var → Outcome State Why Leak → FunOutcome
+outcome_of_body xs (End s n l) = outcome_of_words s.memory n l (result_words xs s.store)
+outcome_of_body xs (Cut l) = Cut l
+outcome_of_body xs (Stuck w) = Stuck w
 
 -- a word of the size of the type
 abbrev pub FitsType : Ty → ℕ → Type 0
@@ -188,4 +188,4 @@ pub record IsRun (p : Program) (f : Fun) (words : List ℕ) (memory : Memory) (n
   pub input : IsInput p f words
   pub out : Outcome State Why Leak
   pub goes : Goes source (block f.body done) n (entry_state f words memory) out
-  pub gives : returned f.result out ≡ o
+  pub gives : outcome_of_body f.result out ≡ o
