@@ -25,7 +25,7 @@ use Rattle.jz_tree.specs.declared.StmtKind.{StmtKind}
 use Rattle.jz_tree.specs.declared.StmtKind.TheVariants as kind
 use Rattle.jz_meaning.specs.RunRules.{Attempt, stuck, went}
 use Rattle.jz_meaning.specs.SourceStates.{Value, word, integer, key_of, Store, put, State}
-use Rattle.jz_meaning.specs.SourceValues.{Got, numbers_first, and_then, defined, variable_value, evaluated}
+use Rattle.jz_meaning.specs.SourceValues.{Evaluation, numbers_first, and_then, defined, variable_value, evaluated}
 use Rattle.jz_meaning.specs.SourceRuns.{of_type, as_declared, held, written, left_value, right_value, operation, combined, assigned_value, assigned}
 use Rattle.jz_meaning.specs.StraightRuns.{run_statement, run_statements}
 use Rattle.jz_correct.proofs.PlainCode.{word_in, operand_in, result_of, regs_of, regs_after}
@@ -36,15 +36,15 @@ use Rattle.jz_lower.proofs.WordLaws.{residue_small, signed_residue, same_operati
 use Rattle.jz_lower.proofs.Stores.{named, put_at, word_same, word_other, word_small}
 
 -- ---- parts that are not stuck
-first_went : {A : Type 0} (ns : List ℕ) (x : Got A) (ms : List ℕ) (a : A) → numbers_first ns x ≡ went ms a → (ks : List ℕ) × (x ≡ went ks a)
+first_went : {A : Type 0} (ns : List ℕ) (x : Evaluation A) (ms : List ℕ) (a : A) → numbers_first ns x ≡ went ms a → (ks : List ℕ) × (x ≡ went ks a)
 first_went ns (stuck w) ms a e = absurd cc
 first_went ns (went ks b) ms a e = let same : b ≡ a = cc in (ks, ap (λ c. went ks c) same)
 
-pub then_went : {A B : Type 0} (x : Got A) (go : A → Got B) (ms : List ℕ) (b : B) → and_then x go ≡ went ms b → (ns : List ℕ) × (a : A) × (ks : List ℕ) × (x ≡ went ns a) × (go a ≡ went ks b)
+pub then_went : {A B : Type 0} (x : Evaluation A) (go : A → Evaluation B) (ms : List ℕ) (b : B) → and_then x go ≡ went ms b → (ns : List ℕ) × (a : A) × (ks : List ℕ) × (x ≡ went ns a) × (go a ≡ went ks b)
 then_went (stuck w) go ms b e = absurd cc
 then_went (went ns a) go ms b e = let r = first_went ns (go a) ms b e in (ns, a, r.0, refl, r.1)
 
-went_same : {A : Type 0} (ns ms : List ℕ) (a b : A) → ◌≡◌ {A = Got A} (went ns a) (went ms b) → a ≡ b
+went_same : {A : Type 0} (ns ms : List ℕ) (a b : A) → ◌≡◌ {A = Evaluation A} (went ns a) (went ms b) → a ≡ b
 went_same ns ms a b e = cc
 
 pub defined_back : (at : Span) (o : Option Value) (ms : List ℕ) (v : Value) → defined at o ≡ went ms v → o ≡ Some v

@@ -9,7 +9,7 @@ use Rattle.jz_leak.specs.RunLeaks.{Leak}
 use Rattle.jz_meaning.specs.RunRules.{stuck, went, Outcome, End, Cut, Stuck, Goes}
 use Rattle.jz_meaning.specs.RunLaws.{IsOver, with_more}
 use Rattle.jz_meaning.specs.SourceStates.{State, Why}
-use Rattle.jz_meaning.specs.SourceValues.{Got}
+use Rattle.jz_meaning.specs.SourceValues.{Evaluation}
 use Rattle.jz_meaning.specs.SourceRuns.{Block, source, block, entry_state, outcome_of_body, outcome_of_words, result_words, FunOutcome, IsInput, IsRun}
 use Rattle.jz_meaning.proofs.RunSteady.{Exact, exact, one_outcome, has_outcome}
 
@@ -36,7 +36,7 @@ fun_some p f words memory n i =
     (outcome_of_body f.result g.0, record { input = i; out = g.0; goes = g.1; gives = refl })
 
 -- a function's outcome is over where that of its body is
-words_over : (memory : Memory) (n u : ℕ) (l : Leak) (ws : Got (List ℕ)) → outcome_of_words memory (n + u) l ws ≡ with_more u (outcome_of_words memory n l ws)
+words_over : (memory : Memory) (n u : ℕ) (l : Leak) (ws : Evaluation (List ℕ)) → outcome_of_words memory (n + u) l ws ≡ with_more u (outcome_of_words memory n l ws)
 words_over memory n u l (stuck w) = refl
 words_over memory n u l (went ns ws) = refl
 

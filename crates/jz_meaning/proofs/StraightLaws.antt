@@ -20,7 +20,7 @@ use Rattle.jz_leak.specs.RunLeaks.{Leak, ran}
 use Rattle.jz_meaning.specs.RunTrees.{done}
 use Rattle.jz_meaning.specs.RunRules.{stuck, went, Outcome, End, Stuck, after}
 use Rattle.jz_meaning.specs.SourceStates.{Value, word, integer, key_of, State, Why}
-use Rattle.jz_meaning.specs.SourceValues.{Got, numbers_first, and_then, defined, evaluated, value_of, numbers_in, numbers_of}
+use Rattle.jz_meaning.specs.SourceValues.{Evaluation, numbers_first, and_then, defined, evaluated, value_of, numbers_in, numbers_of}
 use Rattle.jz_meaning.specs.SourceRuns.{as_declared, held, written, left_value, right_value, combined, assigned_value, assigned, Block, source, statement, block, entry_state, result_words, outcome_of_words, outcome_of_body, FunOutcome, IsRun}
 use Rattle.jz_meaning.specs.StraightRuns.{run_statement, run_statements, plain_leak, straight_outcome}
 use Rattle.jz_meaning.proofs.RunSteady.{run, ran_so}
@@ -28,15 +28,15 @@ use Rattle.jz_meaning.proofs.RunSteady.{run, ran_so}
 -- ---- what leaks nothing
 
 -- a part that leaks nothing, or is stuck
-abbrev pub Silent : {A : Type 0} → Got A → Type 0
+abbrev pub Silent : {A : Type 0} → Evaluation A → Type 0
 Silent (stuck w) = Unit {0}
 Silent (went ns x) = ns ≡ []
 
-silent_first : {A : Type 0} (ns : List ℕ) (x : Got A) → ns ≡ [] → Silent x → Silent (numbers_first ns x)
+silent_first : {A : Type 0} (ns : List ℕ) (x : Evaluation A) → ns ≡ [] → Silent x → Silent (numbers_first ns x)
 silent_first ns (stuck w) e h = tt
 silent_first ns (went ms x) e h = rw (e, h)
 
-pub silent_then : {A B : Type 0} (x : Got A) (go : A → Got B) → Silent x → ((a : A) → Silent (go a)) → Silent (and_then x go)
+pub silent_then : {A B : Type 0} (x : Evaluation A) (go : A → Evaluation B) → Silent x → ((a : A) → Silent (go a)) → Silent (and_then x go)
 silent_then (stuck w) go h k = tt
 silent_then (went ns x) go h k = silent_first ns (go x) h (k x)
 
@@ -85,15 +85,15 @@ silent_statement (kind.Assign to o r) at s = silent_assigned to o r at s
 -- ---- what keeps the memory
 
 -- a state with this memory, or stuck
-abbrev pub HasMemory : Memory → Got State → Type 0
+abbrev pub HasMemory : Memory → Evaluation State → Type 0
 HasMemory m (stuck w) = Unit {0}
 HasMemory m (went ns s) = s.memory ≡ m
 
-memory_first : (m : Memory) (ns : List ℕ) (x : Got State) → HasMemory m x → HasMemory m (numbers_first ns x)
+memory_first : (m : Memory) (ns : List ℕ) (x : Evaluation State) → HasMemory m x → HasMemory m (numbers_first ns x)
 memory_first m ns (stuck w) h = tt
 memory_first m ns (went ms s) h = h
 
-memory_then : {A : Type 0} (m : Memory) (x : Got A) (go : A → Got State) → ((a : A) → HasMemory m (go a)) → HasMemory m (and_then x go)
+memory_then : {A : Type 0} (m : Memory) (x : Evaluation A) (go : A → Evaluation State) → ((a : A) → HasMemory m (go a)) → HasMemory m (and_then x go)
 memory_then m (stuck w) go h = tt
 memory_then m (went ns x) go h = memory_first m ns (go x) (h x)
 
@@ -108,7 +108,7 @@ memory_assigned (d ∷ e ∷ ds) o r at s = tt
 pub memory_statement : (k : StmtKind) (at : Span) (s : State) → HasMemory s.memory (run_statement k at s)
 memory_statement (kind.Assign to o r) at s = memory_assigned to o r at s
 
-memory_on : (m : Memory) (x : Got State) (go : State → Got State) → HasMemory m x → ((t : State) → HasMemory t.memory (go t)) → HasMemory m (and_then x go)
+memory_on : (m : Memory) (x : Evaluation State) (go : State → Evaluation State) → HasMemory m x → ((t : State) → HasMemory t.memory (go t)) → HasMemory m (and_then x go)
 memory_on m (stuck w) go h k = tt
 memory_on m (went ns t) go h k = memory_first m ns (go t) (subst (λ z. HasMemory z (go t)) h (k t))
 
@@ -119,27 +119,27 @@ memory_statements (x ∷ xs) s = memory_on s.memory (run_statement x.kind x.span
 -- ---- a body's outcome
 
 -- an end in the state that is reached, with each of the n turns left, or stuck
-abbrev pub ended : ℕ → Leak → Got State → Outcome State Why Leak
+abbrev pub ended : ℕ → Leak → Evaluation State → Outcome State Why Leak
 ended n l (stuck w) = Stuck w
 ended n l (went ns s) = End s n l
 
 -- what follows a statement
-abbrev then_run : ℕ → Block → Got State → Outcome State Why Leak
+abbrev then_run : ℕ → Block → Evaluation State → Outcome State Why Leak
 then_run n b (stuck w) = Stuck w
 then_run n b (went ns s) = after (ran ns) (run source b n s)
 
 one_first : (x : StmtKind) (at : Span) (b : Block) (n : ℕ) (s : State) → run source (statement x at b) n s ≡ then_run n b (run_statement x at s)
 one_first (kind.Assign to o r) at b n s = by_case (assigned to o r at s) refl
   where
-    by_case : (x : Got State) → assigned to o r at s ≡ x → run source (statement (kind.Assign to o r) at b) n s ≡ then_run n b (assigned to o r at s)
+    by_case : (x : Evaluation State) → assigned to o r at s ≡ x → run source (statement (kind.Assign to o r) at b) n s ≡ then_run n b (assigned to o r at s)
     by_case (stuck w) q = rw q
     by_case (went ns s1) q = rw q
 
-one_more : (n : ℕ) (l : Leak) (z : Got State) → after (ran []) (ended n l z) ≡ ended n (ran [] l) (numbers_first [] z)
+one_more : (n : ℕ) (l : Leak) (z : Evaluation State) → after (ran []) (ended n l z) ≡ ended n (ran [] l) (numbers_first [] z)
 one_more n l (stuck w) = refl
 one_more n l (went ns s) = refl
 
-rest_so : (n : ℕ) (b : Block) (l : Leak) (go : State → Got State) → ((s : State) → run source b n s ≡ ended n l (go s)) → (x : Got State) → Silent x → then_run n b x ≡ ended n (ran [] l) (and_then x go)
+rest_so : (n : ℕ) (b : Block) (l : Leak) (go : State → Evaluation State) → ((s : State) → run source b n s ≡ ended n l (go s)) → (x : Evaluation State) → Silent x → then_run n b x ≡ ended n (ran [] l) (and_then x go)
 rest_so n b l go h (stuck w) q = refl
 rest_so n b l go h (went ns s) q = rw (h s, q) (one_more n l (go s))
 
@@ -151,11 +151,11 @@ body_so (x ∷ xs) n s =
 
 -- ---- a function's outcome
 
-words_after : (m : Memory) (n : ℕ) (l : Leak) (ns : List ℕ) (x : Got (List ℕ)) → outcome_of_words m n l x ≡ outcome_of_words m n l (numbers_first ns x)
+words_after : (m : Memory) (n : ℕ) (l : Leak) (ns : List ℕ) (x : Evaluation (List ℕ)) → outcome_of_words m n l x ≡ outcome_of_words m n l (numbers_first ns x)
 words_after m n l ns (stuck w) = refl
 words_after m n l ns (went ms ws) = refl
 
-returned_so : (xs : List Var) (m : Memory) (n : ℕ) (l : Leak) (z : Got State) → HasMemory m z → outcome_of_body xs (ended n l z) ≡ outcome_of_words m n l (and_then z (λ s. result_words xs s.store))
+returned_so : (xs : List Var) (m : Memory) (n : ℕ) (l : Leak) (z : Evaluation State) → HasMemory m z → outcome_of_body xs (ended n l z) ≡ outcome_of_words m n l (and_then z (λ s. result_words xs s.store))
 returned_so xs m n l (stuck w) h = refl
 returned_so xs m n l (went ns s) h = ap (λ k. outcome_of_words k n l (result_words xs s.store)) h ∙ words_after m n l ns (result_words xs s.store)
 
@@ -168,7 +168,7 @@ fun_straight p f words memory n o g =
 
 -- ---- numbers
 
-no_numbers : (x : Got Value) → Silent x → numbers_in x ≡ []
+no_numbers : (x : Evaluation Value) → Silent x → numbers_in x ≡ []
 no_numbers (stuck w) h = refl
 no_numbers (went ns v) h = h
 

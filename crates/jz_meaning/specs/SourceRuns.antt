@@ -27,7 +27,7 @@ use Rattle.jz_meaning.specs.RunTrees.{Tree, done, op}
 use Rattle.jz_leak.specs.RunLeaks.{Leak}
 use Rattle.jz_meaning.specs.RunRules.{stuck, went, Parts, Outcome, End, Cut, Stuck, Goes}
 use Rattle.jz_meaning.specs.SourceStates.{Value, word, integer, key_of, Store, empty_store, put, State, Init, Why}
-use Rattle.jz_meaning.specs.SourceValues.{Got, stuck_at, and_then, variable_value, evaluated}
+use Rattle.jz_meaning.specs.SourceValues.{Evaluation, stuck_at, and_then, variable_value, evaluated}
 
 -- ---- assignments
 
@@ -43,25 +43,25 @@ pub record Assignment : Type 0 where
   pub at : Span
 
 -- a whole number in the place of a word: modulo 2 to the bits of the declared size
-abbrev pub as_declared : Option Decl → Span → ℤ → Got Value
+abbrev pub as_declared : Option Decl → Span → ℤ → Evaluation Value
 as_declared None at i = stuck_at at Init
 as_declared (Some d) at i = went [] (of_type d.ty i)
 
 -- what a variable holds of a value that is assigned to it: a word
-abbrev pub held : Var → Value → Got Value
+abbrev pub held : Var → Value → Evaluation Value
 held x (word size a) = went [] (word size a)
 held x (integer i) = as_declared x.decl x.span i
 
 -- the left side, written: a variable gets the value
-abbrev pub written : Lval → Value → State → Got State
+abbrev pub written : Lval → Value → State → Evaluation State
 written (lval.Var x) v s = and_then (held x v) (λ w. went [] (record s { store = put s.store (key_of x) (Some w) }))
 
 -- the value that the left side has before
-abbrev pub left_value : Lval → State → Got Value
+abbrev pub left_value : Lval → State → Evaluation Value
 left_value (lval.Var x) s = variable_value x s.store
 
 -- the value of a right side
-abbrev pub right_value : Rhs → State → Got Value
+abbrev pub right_value : Rhs → State → Evaluation Value
 right_value (rhs.Value e) s = evaluated e s
 
 -- an operation on words of a size: modulo 2 to its bits, for 64 bits modulo 2 ^ 64
@@ -71,18 +71,18 @@ operation Add size a b = (a + b) % modulus size
 operation Sub size a b = residue size (pos a -ℤ pos b)
 
 -- the operands have one size, and a whole number takes that of the word on its left; with a whole number on the left it means nothing
-abbrev pub combined : BinOp → Span → Value → Value → Got Value
+abbrev pub combined : BinOp → Span → Value → Value → Evaluation Value
 combined o at (word size a) (word other b) = went [] (word size (operation o size a b))
 combined o at (word size a) (integer i) = went [] (word size (operation o size a (residue size i)))
 combined o at (integer i) b = stuck_at at Init
 
 -- the value that is assigned: `d op= e` is `d = d op e`
-abbrev pub assigned_value : Lval → Option BinOp → Rhs → Span → State → Got Value
+abbrev pub assigned_value : Lval → Option BinOp → Rhs → Span → State → Evaluation Value
 assigned_value d None r at s = right_value r s
 assigned_value d (Some o) r at s = and_then (left_value d s) (λ a. and_then (right_value r s) (λ b. combined o at a b))
 
 -- the value, and then the left side; with another number of left sides than one it means nothing
-abbrev pub assigned : List Lval → Option BinOp → Rhs → Span → State → Got State
+abbrev pub assigned : List Lval → Option BinOp → Rhs → Span → State → Evaluation State
 assigned (d ∷ []) o r at s = and_then (assigned_value d o r at s) (λ v. written d v s)
 assigned _ o r at s = stuck_at at Init
 
@@ -136,12 +136,12 @@ abbrev pub entry_state : Fun → List ℕ → Memory → State
 entry_state f words memory = record { store = with_arguments f.params words empty_store; memory = memory }
 
 -- the bits of a word; a variable holds no other value
-abbrev pub word_of : Span → Value → Got ℕ
+abbrev pub word_of : Span → Value → Evaluation ℕ
 word_of at (word size w) = went [] w
 word_of at (integer i) = stuck_at at Init
 
 -- the words of the variables that are returned, in their order
-abbrev pub result_words : List Var → Store → Got (List ℕ)
+abbrev pub result_words : List Var → Store → Evaluation (List ℕ)
 result_words [] store = went [] []
 result_words (x ∷ xs) store = and_then (variable_value x store) (λ v. and_then (word_of x.span v) (λ w. and_then (result_words xs store) (λ ws. went [] (w ∷ ws))))
 
@@ -155,7 +155,7 @@ abbrev pub FunOutcome : Type 0
 FunOutcome = Outcome Returned Why Leak
 
 -- an end with these words, or stuck where a returned variable has no value
-abbrev pub outcome_of_words : Memory → ℕ → Leak → Got (List ℕ) → FunOutcome
+abbrev pub outcome_of_words : Memory → ℕ → Leak → Evaluation (List ℕ) → FunOutcome
 outcome_of_words memory n l (stuck w) = Stuck w
 outcome_of_words memory n l (went ns ws) = End (record { words = ws; memory = memory }) n l
 

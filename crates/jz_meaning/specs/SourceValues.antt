@@ -8,44 +8,44 @@ use Rattle.jz_meaning.specs.RunRules.{Attempt, stuck, went}
 use Rattle.jz_meaning.specs.SourceStates.{Value, integer, key_of, Store, State, Reason, Init, Why}
 
 -- a part of a statement gives a value, or is stuck at a place for a reason
-abbrev pub Got : Type 0 → Type 0
-Got A = Attempt Why A
+abbrev pub Evaluation : Type 0 → Type 0
+Evaluation A = Attempt Why A
 
 -- stuck at this place for this reason
-abbrev pub stuck_at : {A : Type 0} → Span → Reason → Got A
+abbrev pub stuck_at : {A : Type 0} → Span → Reason → Evaluation A
 stuck_at span reason = stuck (record { span = span; reason = reason })
 
 -- these numbers first
-abbrev pub numbers_first : {A : Type 0} → List ℕ → Got A → Got A
+abbrev pub numbers_first : {A : Type 0} → List ℕ → Evaluation A → Evaluation A
 numbers_first ns (stuck w) = stuck w
 numbers_first ns (went ms x) = went (ns ++ ms) x
 
 -- one part, and then another with its value
-abbrev pub and_then : {A B : Type 0} → Got A → (A → Got B) → Got B
+abbrev pub and_then : {A B : Type 0} → Evaluation A → (A → Evaluation B) → Evaluation B
 and_then (stuck w) go = stuck w
 and_then (went ns x) go = numbers_first ns (go x)
 
 -- the value that is there
-abbrev pub defined : Span → Option Value → Got Value
+abbrev pub defined : Span → Option Value → Evaluation Value
 defined at None = stuck_at at Init
 defined at (Some v) = went [] v
 
 -- the value of a variable: reading one leaks nothing, and it is stuck where the variable has none
-abbrev pub variable_value : Var → Store → Got Value
+abbrev pub variable_value : Var → Store → Evaluation Value
 variable_value x store = defined x.span (store (key_of x))
 
 -- an expression's numbers, from left to right, and its value
-abbrev pub evaluated : Expr → State → Got Value
+abbrev pub evaluated : Expr → State → Evaluation Value
 evaluated (expr.Num i at) s = went [] (integer i)
 evaluated (expr.Var x) s = variable_value x s.store
 
 -- the value, or where and why there is none
-abbrev pub value_in : Got Value → Result Value Why
+abbrev pub value_in : Evaluation Value → Result Value Why
 value_in (stuck w) = Err w
 value_in (went ns v) = Ok v
 
 -- the numbers, of what is not stuck
-abbrev pub numbers_in : Got Value → List ℕ
+abbrev pub numbers_in : Evaluation Value → List ℕ
 numbers_in (stuck w) = []
 numbers_in (went ns v) = ns
 

@@ -9,20 +9,20 @@ use Rattle.jz_io.specs.declared.span.Span.{Span}
 use Rattle.jz_leak.specs.RunLeaks.{Leak, over, ran}
 use Rattle.jz_meaning.specs.RunRules.{went}
 use Rattle.jz_meaning.specs.SourceStates.{State}
-use Rattle.jz_meaning.specs.SourceValues.{Got, and_then}
+use Rattle.jz_meaning.specs.SourceValues.{Evaluation, and_then}
 use Rattle.jz_meaning.specs.SourceRuns.{assigned, entry_state, result_words, outcome_of_words, FunOutcome}
 
 -- the state after a statement
-abbrev pub run_statement : StmtKind → Span → State → Got State
+abbrev pub run_statement : StmtKind → Span → State → Evaluation State
 run_statement (kind.Assign to o r) at s = assigned to o r at s
 
 -- the state after statements
-abbrev pub run_statements : List Stmt → State → Got State
+abbrev pub run_statements : List Stmt → State → Evaluation State
 run_statements [] s = went [] s
 run_statements (x ∷ xs) s = and_then (run_statement x.kind x.span s) (run_statements xs)
 
 -- the words that a function returns
-abbrev pub words_returned : Fun → List ℕ → Memory → Got (List ℕ)
+abbrev pub words_returned : Fun → List ℕ → Memory → Evaluation (List ℕ)
 words_returned f words memory = and_then (run_statements f.body (entry_state f words memory)) (λ s. result_words f.result s.store)
 
 -- an item without numbers for each statement

@@ -16,7 +16,7 @@ use Rattle.jz_leak.specs.declared.transformer.Out.TheVariants as out
 use Rattle.jz_leak.specs.Applying.{apply_of, body_events, is_cut, Fits, OutFits, CasesFit}
 use Rattle.jz_meaning.specs.RunRules.{went}
 use Rattle.jz_meaning.specs.SourceStates.{Value, word, key_of, Store, put}
-use Rattle.jz_meaning.specs.SourceValues.{Got, and_then, variable_value}
+use Rattle.jz_meaning.specs.SourceValues.{Evaluation, and_then, variable_value}
 use Rattle.jz_meaning.specs.SourceRuns.{argument, value_of_type, with_arguments, word_of, result_words}
 use Rattle.jz_meaning.specs.StraightRuns.{plain_leak}
 use Rattle.jz_correct.specs.Starts.{AreInRegisters}
@@ -59,7 +59,7 @@ module _ (register : List ℕ → Reg) where
 
   -- ---- at the end each result's word is in its register
   word_back : (x : Var) (v : Value) (ms : List ℕ) (w a : ℕ) → v ≡ word S64 a → word_of x.span v ≡ went ms w → a ≡ w
-  word_back x v ms w a e r = let k : ◌≡◌ {A = Got ℕ} (went [] a) (went ms w) = sym (ap (word_of x.span) e) ∙ r in cc
+  word_back x v ms w a e r = let k : ◌≡◌ {A = Evaluation ℕ} (went [] a) (went ms w) = sym (ap (word_of x.span) e) ∙ r in cc
 
   pub given_back : (rs : List Reg) (xs : List Var) (store : Store) (regs : List ℕ) (st : State) → StandIn register rs xs → Holds register (IsNamed xs) store regs
       → ((n : List ℕ) → reg_word st S64 (register n) ≡ word_in regs (register n)) → (ms words : List ℕ) → result_words xs store ≡ went ms words → AreInRegisters (lines_of rs xs) words st
@@ -76,7 +76,7 @@ module _ (register : List ℕ → Reg) where
       let all : b.1 ∷ c.1 ≡ words = went_list c.2 (b.1 ∷ c.1) words c.4 in
       subst (λ ws. AreInRegisters (lines_of (r ∷ rs) (x ∷ xs)) ws st) all (here, rest)
     where
-      went_list : (ks us vs : List ℕ) → ◌≡◌ {A = Got (List ℕ)} (went [] us) (went ks vs) → us ≡ vs
+      went_list : (ks us vs : List ℕ) → ◌≡◌ {A = Evaluation (List ℕ)} (went [] us) (went ks vs) → us ≡ vs
       went_list ks us vs k = cc
 
 -- ---- the transformer on the leak of statements

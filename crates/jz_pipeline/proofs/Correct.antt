@@ -19,7 +19,7 @@ use Rattle.jz_leak.specs.Applying.{apply_of}
 use Rattle.jz_ct.proofs.SomeLabels.{constant_time}
 use Rattle.jz_meaning.specs.RunRules.{stuck, went}
 use Rattle.jz_meaning.specs.SourceStates.{State, Value, empty_store}
-use Rattle.jz_meaning.specs.SourceValues.{Got}
+use Rattle.jz_meaning.specs.SourceValues.{Evaluation}
 use Rattle.jz_meaning.specs.SourceRuns.{entry_state, result_words, outcome_of_words, FunOutcome, IsRun}
 use Rattle.jz_meaning.specs.StraightRuns.{run_statements, plain_leak, words_returned}
 use Rattle.jz_meaning.proofs.StraightLaws.{fun_straight}
@@ -135,7 +135,7 @@ module _ (p : Program) (f : Fun) (register : List ℕ → Reg) (straight : IsStr
           };
         }
 
-    by_words : (o : FunOutcome) → IsRun p f words memory n o → (g : Got (List ℕ)) → words_returned f words memory ≡ g → o ≡ outcome_of_words memory n (plain_leak f.body) g → Matches (compiled_of register f) words rsp0 base s n o
+    by_words : (o : FunOutcome) → IsRun p f words memory n o → (g : Evaluation (List ℕ)) → words_returned f words memory ≡ g → o ≡ outcome_of_words memory n (plain_leak f.body) g → Matches (compiled_of register f) words rsp0 base s n o
     by_words o run (stuck w) e is = absurd (safe_not_stuck p f words memory n w resolved safe (subst (λ (u : FunOutcome). IsRun p f words memory n u) is run))
     by_words o run (went ns ws) e is = subst (λ (u : FunOutcome). Matches (compiled_of register f) words rsp0 base s n u) (sym is) (ends_so ws ns e)
 

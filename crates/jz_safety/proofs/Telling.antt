@@ -22,7 +22,7 @@ use Rattle.jz_tree.specs.declared.StmtKind.TheVariants as kind
 use Rattle.jz_leak.specs.RunLeaks.{Leak}
 use Rattle.jz_meaning.specs.RunRules.{stuck, went, End, Stuck}
 use Rattle.jz_meaning.specs.SourceStates.{Value, word, integer, key_of, Store, empty_store, put, State, Why}
-use Rattle.jz_meaning.specs.SourceValues.{Got, numbers_first, and_then, defined, variable_value}
+use Rattle.jz_meaning.specs.SourceValues.{Evaluation, numbers_first, and_then, defined, variable_value}
 use Rattle.jz_meaning.specs.SourceRuns.{of_type, as_declared, held, written, right_value, combined, assigned_value, assigned, value_of_type, argument, with_arguments, entry_state, word_of, result_words, outcome_of_words, FunOutcome, FitsDecl, AreArguments, IsRun}
 use Rattle.jz_meaning.specs.StraightRuns.{run_statement, run_statements, words_returned, plain_leak}
 use Rattle.jz_meaning.proofs.StraightLaws.{fun_straight}
@@ -53,27 +53,27 @@ abbrev pub why_of : Alarm → Why
 why_of a = record { span = a.span; reason = a.kind }
 
 -- with no alarm there is a value, which the fact is about; else it is stuck at the first of them
-abbrev pub Shows : {A : Type 0} → List Alarm → (A → Type 0) → Got A → Type 0
+abbrev pub Shows : {A : Type 0} → List Alarm → (A → Type 0) → Evaluation A → Type 0
 Shows [] P (stuck w) = ⊥
 Shows [] P (went ns x) = P x
 Shows (a ∷ these) P (stuck w) = w ≡ why_of a
 Shows (a ∷ these) P (went ns x) = ⊥
 
-shows_first : {A : Type 0} (these : List Alarm) (P : A → Type 0) (ns : List ℕ) (x : Got A) → Shows these P x → Shows these P (numbers_first ns x)
+shows_first : {A : Type 0} (these : List Alarm) (P : A → Type 0) (ns : List ℕ) (x : Evaluation A) → Shows these P x → Shows these P (numbers_first ns x)
 shows_first [] P ns (stuck w) h = h
 shows_first [] P ns (went ms x) h = h
 shows_first (a ∷ these) P ns (stuck w) h = h
 shows_first (a ∷ these) P ns (went ms x) h = h
 
 -- one part, and then another, whose alarms stand behind
-shows_then : {A B : Type 0} (these those : List Alarm) (P : A → Type 0) (Q : B → Type 0) (x : Got A) (go : A → Got B) → Shows these P x → ((a : A) → P a → Shows those Q (go a)) → Shows (these ++ those) Q (and_then x go)
+shows_then : {A B : Type 0} (these those : List Alarm) (P : A → Type 0) (Q : B → Type 0) (x : Evaluation A) (go : A → Evaluation B) → Shows these P x → ((a : A) → P a → Shows those Q (go a)) → Shows (these ++ those) Q (and_then x go)
 shows_then [] those P Q (stuck w) go h k = absurd h
 shows_then [] those P Q (went ns x) go h k = shows_first those Q ns (go x) (k x h)
 shows_then (a ∷ these) those P Q (stuck w) go h k = h
 shows_then (a ∷ these) those P Q (went ns x) go h k = absurd h
 
 -- and where the other has none
-shows_on : {A B : Type 0} (these : List Alarm) (P : A → Type 0) (Q : B → Type 0) (x : Got A) (go : A → Got B) → Shows these P x → ((a : A) → P a → Shows [] Q (go a)) → Shows these Q (and_then x go)
+shows_on : {A B : Type 0} (these : List Alarm) (P : A → Type 0) (Q : B → Type 0) (x : Evaluation A) (go : A → Evaluation B) → Shows these P x → ((a : A) → P a → Shows [] Q (go a)) → Shows these Q (and_then x go)
 shows_on [] P Q (stuck w) go h k = absurd h
 shows_on [] P Q (went ns x) go h k = shows_first [] Q ns (go x) (k x h)
 shows_on (a ∷ these) P Q (stuck w) go h k = h
@@ -161,7 +161,7 @@ module _ (set : Facts) (store : Store) (t : Tells set store) where
       rest more (word size a) h = shows_first (alarms_at set (result_conditions xs)) AnyValue [] _ (shows_on (alarms_at set (result_conditions xs)) AnyValue AnyValue (result_words xs store) _ more (λ ws k. tt))
       rest more (integer i) h = absurd h
 
-weaker : {A : Type 0} (these : List Alarm) (P : A → Type 0) (x : Got A) → Shows these P x → Shows these AnyValue x
+weaker : {A : Type 0} (these : List Alarm) (P : A → Type 0) (x : Evaluation A) → Shows these P x → Shows these AnyValue x
 weaker [] P (stuck w) h = h
 weaker [] P (went ns x) h = tt
 weaker (a ∷ these) P (stuck w) h = h
@@ -228,12 +228,12 @@ shows_function f words memory a h =
     (shows_statements f.body entry (entry_state f words memory) h (tells_arguments f.params words no_facts empty_store a tells_none))
     (λ u k. shows_results (facts_at_end entry f.body) u.store k f.result)
 
-ends_without : (memory : Memory) (n : ℕ) (l : Leak) (these : List Alarm) (x : Got (List ℕ)) → Shows these AnyValue x → these ≡ [] → (ws : List ℕ) × (outcome_of_words memory n l x ≡ End (record { words = ws; memory = memory }) n l)
+ends_without : (memory : Memory) (n : ℕ) (l : Leak) (these : List Alarm) (x : Evaluation (List ℕ)) → Shows these AnyValue x → these ≡ [] → (ws : List ℕ) × (outcome_of_words memory n l x ≡ End (record { words = ws; memory = memory }) n l)
 ends_without memory n l [] (stuck w) h e = absurd h
 ends_without memory n l [] (went ns ws) h e = (ws, refl)
 ends_without memory n l (a ∷ these) x h e = cc
 
-stuck_with : (memory : Memory) (n : ℕ) (l : Leak) (these later : List Alarm) (a : Alarm) (x : Got (List ℕ)) → Shows these AnyValue x → these ≡ a ∷ later → outcome_of_words memory n l x ≡ Stuck (why_of a)
+stuck_with : (memory : Memory) (n : ℕ) (l : Leak) (these later : List Alarm) (a : Alarm) (x : Evaluation (List ℕ)) → Shows these AnyValue x → these ≡ a ∷ later → outcome_of_words memory n l x ≡ Stuck (why_of a)
 stuck_with memory n l [] later a x h e = cc
 stuck_with memory n l (b ∷ these) later a (stuck w) h e = let q : b ≡ a = cc in ap (λ z. Stuck z) (h ∙ ap why_of q)
 stuck_with memory n l (b ∷ these) later a (went ns ws) h e = absurd h
