@@ -13,7 +13,6 @@ pub mod CodeLengths
 pub mod ByteCodes
 pub mod StartLaws
 pub mod ListableTexts
-pub mod FrameLaws
 pub mod Rows
 pub mod Headline
 pub mod ExecHeadline

@@ -1,6 +1,6 @@
 -- The start of `exec` is a start, and the run from it ends.
 use Rattle.std.proofs.Common.{◌≡◌, ℕ, zero, suc, ◌+◌, ◌-◌, ◌*◌, ◌%◌, ◌^◌, ◌<◌, ◌≤◌, Bool, true, false, List, [], ◌∷◌, ◌++◌, length, refl, sym, ap, ◌∙◌, arith, subst, lit<, lit≤, ◌⊎◌, ⊎_elim, length-append}
-use Rattle.std.proofs.lemmas.Bool.{le-ltb, both_ways, cases_order}
+use Rattle.std.proofs.lemmas.Bool.{le-ltb}
 use Rattle.std.proofs.lemmas.List.{get_or-set_same, length-set, length-map}
 use Rattle.std.proofs.lemmas.List.Elements.{All-nil}
 use Rattle.std.specs.Prelude.{Option, Some, None, IsSome, is_some, slice_index, slice_set, slice_get, nat_lt, if◌then◌else◌, map, Contains, replicate, ⊤}
@@ -32,7 +32,6 @@ use Rattle.jz_safety.proofs.Telling.{safe_ends}
 use Rattle.x64_machine.specs.Steps.{Config, steps_of}
 use Rattle.jz_correct.specs.Registers.{argument_registers, result_registers}
 use Rattle.jz_correct.specs.Assembled.{assembled}
-use Rattle.jz_correct.specs.Ends.{EndsAfter}
 use Rattle.jz_correct.specs.Starts.{IsIn, IsValid, IsMet, IsBelowEnd, AreOfSizes, MeetsPreconditions, IsStart, AreInRegisters, stack_at}
 use Rattle.jz_correct.specs.Correctness.{MatchesEnd, IsCorrect}
 use Rattle.jz_lower.specs.Lowering.{kind_insns, insns_of}
@@ -43,12 +42,6 @@ use Rattle.jasminc_top.specs.Running.{code_base, return_slot, with_numbers, bare
 use Rattle.jasminc_top.proofs.ExecStart.{AreWords, is_far, placed-other, placed-length, placed-words, bare_words, slot_holds}
 use Rattle.jasminc_top.specs.Running.{ItemsFit}
 use Rattle.jasminc_top.proofs.CodeLengths.{code_short}
-
--- ---- runs
--- a run ends once
-pub one_end : (code : List ℕ) (base j k : ℕ) (c : Config) → EndsAfter code base c j → EndsAfter code base c k → j ≡ k
-one_end code base j k c h g =
-    ⊎_elim (λ e. e) (⊎_elim (λ lt. absurd (both_ways _ (g.before j lt) h.ended)) (λ lt. absurd (both_ways _ (h.before k lt) g.ended))) (cases_order j k)
 
 -- ---- the start of `exec`
 zero_at : (n i : ℕ) → i < n → slice_get {X = ℕ} (replicate n 0) i ≡ Some 0

@@ -17,4 +17,4 @@ mod words;
 
 pub use refusal::{Refusal, Status};
 pub use run::{Done, jasminc_run};
-pub use starts::{exec_is_a_start, frame_is_least, one_end};
+pub use starts::exec_is_a_start;
