@@ -121,10 +121,7 @@ fn walk_item(
             }
             _ => Ok(Reach::Stop),
         },
-        Item::If(numbers, answer, arm) => {
-            let reach = walk_choice(events, rsp, numbers, *answer, arm, case)?;
-            Ok(reach)
-        }
+        Item::If(numbers, answer, arm) => walk_choice(events, rsp, numbers, *answer, arm, case),
         Item::While(turns) => match case {
             Case::While {
                 prologue,
@@ -142,8 +139,7 @@ fn walk_item(
             _ => Ok(Reach::Stop),
         },
         Item::Call(numbers, callee, results_numbers) => {
-            let reach = walk_call(events, rsp, numbers, callee, results_numbers, case)?;
-            Ok(reach)
+            walk_call(events, rsp, numbers, callee, results_numbers, case)
         }
     }
 }
@@ -171,11 +167,9 @@ fn walk_choice(
         } => {
             emit(events, rsp, numbers, test)?;
             if answer {
-                let reach = walk_arm(events, rsp, numbers, then_outs, arm, then_tr)?;
-                Ok(reach)
+                walk_arm(events, rsp, numbers, then_outs, arm, then_tr)
             } else {
-                let reach = walk_arm(events, rsp, numbers, else_outs, arm, else_tr)?;
-                Ok(reach)
+                walk_arm(events, rsp, numbers, else_outs, arm, else_tr)
             }
         }
         _ => Ok(Reach::Stop),
@@ -225,8 +219,7 @@ fn walk_arm(
         (shown (events_for numbers.now rsp outs.now) ▹ leak_walk rsp leak.now tr.now)) }
 {
     emit(events, rsp, numbers, outs)?;
-    let reach = walk_leak(events, rsp, leak, tr)?;
-    Ok(reach)
+    walk_leak(events, rsp, leak, tr)
 }
 
 // The events of a `for`: each round by its own tree.
@@ -300,8 +293,7 @@ fn walk_turn(
     }
     emit(events, rsp, &turn.numbers, test)?;
     if turn.more {
-        let reach = walk_arm(events, rsp, &turn.numbers, more_outs, &turn.body, body)?;
-        Ok(reach)
+        walk_arm(events, rsp, &turn.numbers, more_outs, &turn.body, body)
     } else {
         emit(events, rsp, &turn.numbers, leave_outs)?;
         Ok(Reach::End)

@@ -183,8 +183,7 @@ fn write_arm(text: &mut Vec<u8>, outs: &Seq<Out>, tr: &Tr) -> Result<(), AllocEr
 {
     write_spaced_outs(text, outs)?;
     text.extend_from_slice(b" ")?;
-    write_tr(text, tr)?;
-    Ok(())
+    write_tr(text, tr)
 }
 
 #[cycle(write)]
