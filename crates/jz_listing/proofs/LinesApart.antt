@@ -1,5 +1,5 @@
 -- Listings are told apart.
-use Rattle.std.proofs.Common.{◌≡◌, ℕ, zero, suc, ◌+◌, ◌*◌, ◌<◌, ◌^◌, Bool, true, false, List, [], ◌∷◌, ◌++◌, refl, sym, ap, ◌∙◌, append_assoc, append-nil, arith, subst, lit<, Option, Some, None, Ok}
+use Rattle.std.proofs.Common.{◌≡◌, ℕ, zero, suc, ◌+◌, ◌*◌, ◌/◌, ◌%◌, ◌<◌, ◌^◌, Bool, true, false, List, [], ◌∷◌, ◌++◌, refl, sym, ap, ◌∙◌, append_assoc, append-nil, arith, subst, lit<, Option, Some, None, Ok}
 use Rattle.std.specs.Prelude.{map, codes, decimal, ◌==◌, if◌then◌else◌, not, slice_index, All}
 use Rattle.std.specs.List.{concat, list_all}
 use Rattle.std.proofs.lemmas.Bool.{and_parts, and_from}
@@ -266,7 +266,7 @@ a_digit k = one_of no_line_end lower_digits k refl refl
 hex_digits : (bytes : List ℕ) → list_all no_line_end (encode_lower bytes) ≡ true
 unfolding encode_with
 hex_digits [] = refl
-hex_digits (b ∷ bytes) = and_from _ _ (a_digit _) (and_from _ _ (a_digit _) (hex_digits bytes))
+hex_digits (b ∷ bytes) = and_from _ _ (a_digit (b / 16)) (and_from _ _ (a_digit (b % 16)) (hex_digits bytes))
 
 byte_at : (bytes : List ℕ) → All (λ b. b < 256) bytes → (i : ℕ) → slice_index bytes i < 256
 byte_at [] h i = lit< tt

@@ -88,29 +88,32 @@ fn write_case(text: &mut Vec<u8>, case: &Case) -> Result<(), AllocError>
     ensures { OnOk result (text.new.items ≡ text.old.items ++ case_text case.now) }
 {
     match case {
-        Case::Op(outs) => {
-            text.extend_from_slice(b"op")?;
-            write_outs(text, outs)
-        }
+        Case::Op(outs) => write_op(text, outs),
         Case::If {
             test,
             then_outs,
             then_tr,
             else_outs,
             else_tr,
-        } => write_if(text, test, then_outs, then_tr, else_outs, else_tr),
+        } => {
+            write_if_head(text, test)?;
+            write_arm(text, then_outs, then_tr)?;
+            write_arm(text, else_outs, else_tr)?;
+            text.extend_from_slice(b")")
+        }
         Case::While {
             prologue,
             test,
             more_outs,
             body,
             leave_outs,
-        } => write_while(text, prologue, test, more_outs, body, leave_outs),
-        Case::For(trs) => {
-            text.extend_from_slice(b"for(")?;
-            write_trs(text, trs)?;
+        } => {
+            write_while_head(text, prologue, test)?;
+            write_arm(text, more_outs, body)?;
+            write_spaced_outs(text, leave_outs)?;
             text.extend_from_slice(b")")
         }
+        Case::For(trs) => write_for(text, trs),
         Case::Call {
             arguments,
             body,
@@ -119,42 +122,40 @@ fn write_case(text: &mut Vec<u8>, case: &Case) -> Result<(), AllocError>
     }
 }
 
-#[cycle(write)]
-fn write_if(
-    text: &mut Vec<u8>,
-    test: &Seq<Out>,
-    then_outs: &Seq<Out>,
-    then_tr: &Tr,
-    else_outs: &Seq<Out>,
-    else_tr: &Tr,
-) -> Result<(), AllocError>
-    ensures { OnOk result (text.new.items ≡ text.old.items
-        ++ case_layer_text (Case-F.If test.now then_outs.now (tr_text then_tr.now) else_outs.now (tr_text else_tr.now))) }
+fn write_op(text: &mut Vec<u8>, outs: &Seq<Out>) -> Result<(), AllocError>
+    ensures { OnOk result (text.new.items ≡ text.old.items ++ case_layer_text (Case-F.Op outs.now)) }
 {
-    text.extend_from_slice(b"if(")?;
-    write_outs(text, test)?;
-    write_arm(text, then_outs, then_tr)?;
-    write_arm(text, else_outs, else_tr)?;
-    text.extend_from_slice(b")")
+    text.extend_from_slice(b"op")?;
+    write_outs(text, outs)
 }
 
+// An `if` up to its arms.
+fn write_if_head(text: &mut Vec<u8>, test: &Seq<Out>) -> Result<(), AllocError>
+    ensures { OnOk result (text.new.items ≡ text.old.items ++ codes "if(" ++ outs_text test.now) }
+{
+    text.extend_from_slice(b"if(")?;
+    write_outs(text, test)
+}
+
+// A `while` up to what its answers show.
 #[cycle(write)]
-fn write_while(
-    text: &mut Vec<u8>,
-    prologue: &Tr,
-    test: &Seq<Out>,
-    more_outs: &Seq<Out>,
-    body: &Tr,
-    leave_outs: &Seq<Out>,
-) -> Result<(), AllocError>
-    ensures { OnOk result (text.new.items ≡ text.old.items
-        ++ case_layer_text (Case-F.While (tr_text prologue.now) test.now more_outs.now (tr_text body.now) leave_outs.now)) }
+fn write_while_head(text: &mut Vec<u8>, prologue: &Tr, test: &Seq<Out>) -> Result<(), AllocError>
+    ensures { OnOk result (text.new.items ≡ text.old.items ++ codes "while(" ++ tr_text prologue.now ++ spaced_outs_text test.now) }
 {
     text.extend_from_slice(b"while(")?;
     write_tr(text, prologue)?;
-    write_spaced_outs(text, test)?;
-    write_arm(text, more_outs, body)?;
-    write_spaced_outs(text, leave_outs)?;
+    write_spaced_outs(text, test)
+}
+
+#[cycle(write)]
+fn write_for(text: &mut Vec<u8>, trs: &Seq<Tr>) -> Result<(), AllocError>
+    ensures { OnOk result (text.new.items ≡ text.old.items ++ case_layer_text (Case-F.For (map tr_text trs.now))) }
+{
+    text.extend_from_slice(b"for(")?;
+    for (i, tr) in trs.as_slice().iter().enumerate() {
+        write_separator(text, i)?;
+        write_tr(text, tr)?;
+    }
     text.extend_from_slice(b")")
 }
 
@@ -184,17 +185,6 @@ fn write_arm(text: &mut Vec<u8>, outs: &Seq<Out>, tr: &Tr) -> Result<(), AllocEr
     write_spaced_outs(text, outs)?;
     text.extend_from_slice(b" ")?;
     write_tr(text, tr)
-}
-
-#[cycle(write)]
-fn write_trs(text: &mut Vec<u8>, trs: &Seq<Tr>) -> Result<(), AllocError>
-    ensures { OnOk result (text.new.items ≡ text.old.items ++ spaced (map tr_text trs.now)) }
-{
-    for (i, tr) in trs.as_slice().iter().enumerate() {
-        write_separator(text, i)?;
-        write_tr(text, tr)?;
-    }
-    Ok(())
 }
 
 #[cycle(write)]

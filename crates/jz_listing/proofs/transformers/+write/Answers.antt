@@ -11,10 +11,10 @@ write_tr-loop-i-preserved n c =
     c.loop-i.text.items between c.write_case.new.text.items same (omega (arith, ap length same))
     c.loop-i.invariant c.in_ok-write_separator.ensures (c.in_ok-write_case.ensures ∙ ap (λ x. between ++ case_text x) c.case-item.is)
 
-pub write_trs-loop-i-preserved : goal.write_trs-loop-i-preserved
-write_trs-loop-i-preserved n c =
+pub write_for-loop-i-preserved : goal.write_for-loop-i-preserved
+write_for-loop-i-preserved n c =
     let same = c.as_slice-tr-items.ensures in
     let between = c.write_separator.new.text.items in
-    next_piece tr_text c.args.trs.now c.as_slice-tr-items.result.now c.loop-i.i c.tr-item.result c.args.text.now.items
+    next_piece tr_text c.args.trs.now c.as_slice-tr-items.result.now c.loop-i.i c.tr-item.result c.extend_from_slice.new.self.items
     c.loop-i.text.items between c.write_tr.new.text.items same (omega (arith, ap length same))
     c.loop-i.invariant c.in_ok-write_separator.ensures (c.in_ok-write_tr.ensures ∙ ap (λ x. between ++ tr_text x) c.tr-item.is)

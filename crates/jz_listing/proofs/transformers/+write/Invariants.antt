@@ -5,5 +5,5 @@ use Rattle.jz_listing.proofs.transformers.+write.Given as goal
 abbrev pub invariant-write_tr-loop-i : goal.invariant-write_tr-loop-i
 invariant-write_tr-loop-i l = l.text.items ≡ l.initial.text.items ++ spaced (map case_text (take l.i l.tr.cases))
 
-abbrev pub invariant-write_trs-loop-i : goal.invariant-write_trs-loop-i
-invariant-write_trs-loop-i l = l.text.items ≡ l.initial.text.items ++ spaced (map tr_text (take l.i l.trs))
+abbrev pub invariant-write_for-loop-i : goal.invariant-write_for-loop-i
+invariant-write_for-loop-i l = l.text.items ≡ l.initial.text.items ++ spaced (map tr_text (take l.i l.trs))
