@@ -8,7 +8,7 @@ use Rattle.jz_words.specs.declared.size.Size.TheVariants.{S64}
 use Rattle.jz_words.specs.Sizes.{signed}
 use Rattle.jz_words.specs.Words.{residue}
 use Rattle.x64_insn.specs.declared.types.Reg.{Reg}
-use Rattle.x64_insn.specs.Rows.{number_of}
+use Rattle.x64_insn.specs.Table.{number_of}
 use Rattle.jz_tree.specs.declared.Decl.{Decl}
 use Rattle.jz_tree.specs.declared.Ty.{Ty}
 use Rattle.jz_tree.specs.declared.Ty.TheVariants.{Word}

@@ -1,1 +1,2 @@
+pub mod MemorySpans
 pub mod Rotations

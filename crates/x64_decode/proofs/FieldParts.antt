@@ -1,13 +1,14 @@
 -- The fields by their names are the fields as nested pairs.
 use Rattle.std.proofs.Common.{◌≡◌, ℕ, Bool, true, false, Option, Some, None, refl, sym, ap, ◌∙◌, subst, arith}
 use Rattle.std.specs.Prelude.{IfSome, IsTrue, ◌||◌}
+use Rattle.std.proofs.lemmas.Bool.{and_parts, and_from}
 use Rattle.std.proofs.lemmas.Bool.Decides.{nat_tests}
 use Rattle.x64_insn.specs.declared.table.Row.{Row}
 use Rattle.x64_insn.specs.declared.table.Row.TheVariants as row
 use Rattle.x64_insn.specs.Table.{row_of, has_w, has_size, size_of, allows}
 use Rattle.x64_insn.specs.Encoding.{Fields, AreFields, is_rex, StandsIf, AreBytes}
 use Rattle.x64_decode.specs.Decoding.{may_be_operand_size, may_be_rex, may_be_escape, may_be_opcode, allowed, row_has_modrm, row_takes, may_be_modrm, row_immediate, immediate_bytes, Parts, fields_of}
-use Rattle.x64_decode.proofs.ByteReaders.{PrefixPasses, both_true, true_both}
+use Rattle.x64_decode.proofs.ByteReaders.{PrefixPasses}
 use Rattle.x64_decode.proofs.PartsRead.{never, AreParts}
 
 abbrev pub parts_of : Fields → Parts
@@ -20,7 +21,7 @@ no_w x b h = grind (arith, nat_tests)
 -- operands of 64 bits need a REX with W, and no prefix 66
 sized : (p r : Option ℕ) → IfSome r (λ b. IsTrue (is_rex p b)) → has_size (size_of p r) ≡ true → (p ≡ None) × PrefixPasses (may_be_rex None) r
 sized None None h k = (refl, tt)
-sized None (Some b) h k = (refl, true_both _ _ h (by_w (has_w (Some b)) refl))
+sized None (Some b) h k = (refl, and_from _ _ h (by_w (has_w (Some b)) refl))
   where
     by_w : (w : Bool) → has_w (Some b) ≡ w → (has_w (Some b) || false) ≡ true
     by_w true e = rw e refl
@@ -84,7 +85,7 @@ operand_size_so (Some b) h = never _ h
 
 rex_so : (p r : Option ℕ) → PrefixPasses (may_be_rex p) r → IfSome r (λ b. IsTrue (is_rex p b))
 rex_so p None h = tt
-rex_so p (Some b) h = (both_true _ _ h).0
+rex_so p (Some b) h = (and_parts _ _ h).0
 
 escape_so : (e : Option ℕ) → PrefixPasses may_be_escape e → IfSome e (λ b. b ≡ 0x0F)
 escape_so None h = tt

@@ -1,8 +1,8 @@
 -- What is chosen is a spelling, and an instruction has one exactly where the test says so.
 use Rattle.std.proofs.Common.{◌≡◌, ◌⊎◌, inl, inr, ⊎_elim, ℕ, ◌+◌, ◌*◌, ◌/◌, ◌%◌, ◌^◌, ◌<◌, ◌≤◌, List, [], length, Bool, true, false, Option, Some, None, refl, sym, ap, ◌∙◌, subst, arith, ℤ, pos, negsuc, ◌-ℤ◌, ◌<ℤ◌, ◌≤ℤ◌}
 use Rattle.std.specs.Prelude.{◌&&◌, if◌then◌else◌}
-use Rattle.std.specs.List.{list_all}
 use Rattle.std.proofs.Math.Nat.{mod-lt}
+use Rattle.std.proofs.lemmas.Bool.{and_parts, and_from, cond_both}
 use Rattle.std.proofs.lemmas.Bool.Decides.{nat_tests}
 use Rattle.std.proofs.lemmas.Int.{ints}
 use Rattle.jz_words.specs.declared.size.Size.{Size}
@@ -18,15 +18,12 @@ use Rattle.x64_insn.specs.declared.table.Row.{Row}
 use Rattle.x64_insn.specs.declared.table.Row.TheVariants as row
 use Rattle.x64_insn.specs.Table.{number_of, operation_of, reg_of, row_of, has_size, has_w, size_of, allows, r_of, b_of, mod_of, reg_field, rm_field, has_modrm, takes_reg_field, takes_modrm, immediate_length}
 use Rattle.x64_insn.specs.Encoding.{Fields, AreFields, spelling_of, insn_of, meaning, meaning_of, rm_of_modrm, reg_of_modrm, reg_of_opcode, or_add, operation_of_modrm, unsigned_of, signed_from, signed_of, is_rex, is_byte, has_sib, displacement_length, StandsIf, AreBytes, Spells, HasSpelling}
-use Rattle.x64_insn.specs.Chosen.{alu_number, two_registers, register_immediate, register_in_opcode, bytes_of_number, modulo, signed_bytes, fits_bytes, alu_immediate, mov_immediate, opcode_alone, chosen_bytes, has_rows, is_64, are_operands, is_spelled}
+use Rattle.x64_insn.specs.Chosen.{alu_number, two_registers, register_immediate, register_in_opcode, modulo, signed_bytes, fits_bytes, alu_immediate, mov_immediate, opcode_alone, chosen_bytes, has_rows, is_64, are_operands, is_spelled}
 use Rattle.x64_insn.proofs.Registers.{reg_of_number, number_small}
-use Rattle.x64_insn.proofs.Immediates.{by_test, are_bytes, length_is, read_back, unsigned_small, signed_back, signed_low, signed_high, fits_within, within_fits}
+use Rattle.x64_insn.proofs.Immediates.{are_bytes, length_is, read_back, unsigned_small, signed_back, signed_low, signed_high, fits_within, within_fits}
 
 never : (P : Type 0) → ◌≡◌ {A = Bool} false true → P
 never P h = cc
-
-both_of : (a b : Bool) → a ≡ true → b ≡ true → (a && b) ≡ true
-both_of a b h k = rw h k
 
 -- ---- bytes: REX with W, R of high and B of low; ModRM of mode 3 with a reg and an rm field
 rex_ok : (high low : ℕ) → high < 2 → low < 2 → is_rex None (0x48 + 4 * high + low) ≡ true
@@ -54,7 +51,7 @@ takes : (w : Row) (n b : ℕ) → n < 8 → b < 8 → takes_reg_field w n ≡ tr
 takes w n b h k t =
     let small : (0xC0 + 8 * n + b) < 256 = omega arith in
     let mode = mode_is n b h k in
-    both_of _ _ (grind (arith, nat_tests)) (both_of _ _ (grind (arith, nat_tests)) (ap (takes_reg_field w) (reg_is n b h k) ∙ t))
+    and_from _ _ (grind (arith, nat_tests)) (and_from _ _ (grind (arith, nat_tests)) (ap (takes_reg_field w) (reg_is n b h k) ∙ t))
 
 no_sib : (m : ℕ) → mod_of m ≡ 3 → has_sib (Some m) ≡ false
 no_sib m h = rw h refl
@@ -291,32 +288,27 @@ ret_means : insn_of (opcode_alone 0xC3) ≡ insn.Ret
 unfolding insn_of row_of
 ret_means = refl
 
-both_parts : (a b : Bool) → (a && b) ≡ true → (a ≡ true) × (b ≡ true)
-both_parts true true h = (refl, refl)
-both_parts true false h = cc
-both_parts false b h = cc
-
 alu_chosen : (a : Alu) (to : Reg) (i : ℤ) → has_rows a ≡ true → fits_bytes 4 i ≡ true → Spells (spelling_of (alu_immediate (alu_number a) to i)) (insn.Alu a S64 (operand.Reg to) (operand.Imm i))
 alu_chosen a to i h k =
     let n = number_is a h in
     let some : takes_reg_field row.AluRmImm8 (alu_number a) ≡ true = rw n.1 refl in
-    by_test (λ f. Spells (spelling_of f) (insn.Alu a S64 (operand.Reg to) (operand.Imm i))) (fits_bytes 1 i) _ _
+    cond_both (fits_bytes 1 i) _ _ (λ f. Spells (spelling_of f) (insn.Alu a S64 (operand.Reg to) (operand.Imm i)))
     (λ e. (register_immediate 0x83 (alu_number a) to (signed_bytes 1 i), immediate_fields row.AluRmImm8 0x83 (alu_number a) to _ row_83 suits_8 n.0 some (λ s. are_bytes 1 (modulo (256 ^ 1) i)), refl, byte_means a to i h e))
     (λ e. (register_immediate 0x81 (alu_number a) to (signed_bytes 4 i), immediate_fields row.AluRmImm32 0x81 (alu_number a) to _ row_81 suits_32 n.0 some (λ s. are_bytes 4 (modulo (256 ^ 4) i)), refl, word_means a to i h k))
 
 mov_chosen : (to : Reg) (i : ℤ) → fits_bytes 8 i ≡ true → Spells (spelling_of (mov_immediate to i)) (insn.Mov S64 (operand.Reg to) (operand.Imm i))
 mov_chosen to i k =
-    by_test (λ f. Spells (spelling_of f) (insn.Mov S64 (operand.Reg to) (operand.Imm i))) (fits_bytes 4 i) _ _
+    cond_both (fits_bytes 4 i) _ _ (λ f. Spells (spelling_of f) (insn.Mov S64 (operand.Reg to) (operand.Imm i)))
     (λ e. (register_immediate 0xC7 0 to (signed_bytes 4 i), immediate_fields row.MovRmImm32 0xC7 0 to _ row_c7 suits_mov (omega arith) refl (λ s. are_bytes 4 (modulo (256 ^ 4) i)), refl, mov_word_means to i e))
     (λ e. (register_in_opcode to (signed_bytes 8 i), wide_fields to _ (are_bytes 8 (modulo (256 ^ 8) i)), refl, wide_means to i k))
 
 alu_spells : (a : Alu) (size : Size) (to from : Operand) → (has_rows a && (is_64 size && are_operands 4 to from)) ≡ true → Spells (chosen_bytes (insn.Alu a size to from)) (insn.Alu a size to from)
 unfolding chosen_bytes
 alu_spells a S64 (operand.Reg to) (operand.Reg from) h =
-    let k = (both_parts _ _ h).0 in
+    let k = (and_parts _ _ h).0 in
     (two_registers (8 * alu_number a + 1) to from, two_fields (row.AluRmReg a) _ to from (alu_row a k) (alu_suits a) (λ n. refl) (λ s. (refl, refl)), refl, alu_means a to from k)
-alu_spells a S64 (operand.Reg to) (operand.Imm i) h = let k = both_parts _ _ h in alu_chosen a to i k.0 k.1
-alu_spells a size to from h = never _ ((both_parts _ _ h).1)
+alu_spells a S64 (operand.Reg to) (operand.Imm i) h = let k = and_parts _ _ h in alu_chosen a to i k.0 k.1
+alu_spells a size to from h = never _ ((and_parts _ _ h).1)
 
 mov_spells : (size : Size) (to from : Operand) → (is_64 size && are_operands 8 to from) ≡ true → Spells (chosen_bytes (insn.Mov size to from)) (insn.Mov size to from)
 unfolding chosen_bytes
@@ -357,12 +349,12 @@ named_rows n = named_by _ _ _
 spelled_row : (w : Row) (f : Fields) → row_of f.escape f.opcode ≡ Some w → allows w f.operand_size f.rex ≡ true → AreBytes (immediate_length w (size_of f.operand_size f.rex)) f.immediate → is_spelled (meaning w f) ≡ true
 spelled_row (row.AluRmReg a) f e h i = rw (rows_alone f.escape f.opcode a (inl e), size_so _ h) refl
 spelled_row (row.AluRegRm a) f e h i = rw (rows_alone f.escape f.opcode a (inr e), size_so _ h) refl
-spelled_row row.AluRmImm8 f e h i = both_of _ _ (named_rows _) (both_of _ _ (size_so _ h) (bytes_fit 1 4 128 f.immediate refl (omega arith) i))
-spelled_row row.AluRmImm32 f e h i = both_of _ _ (named_rows _) (both_of _ _ (size_so _ h) (bytes_fit 4 4 (2 ^ 31) f.immediate refl (omega arith) i))
+spelled_row row.AluRmImm8 f e h i = and_from _ _ (named_rows _) (and_from _ _ (size_so _ h) (bytes_fit 1 4 128 f.immediate refl (omega arith) i))
+spelled_row row.AluRmImm32 f e h i = and_from _ _ (named_rows _) (and_from _ _ (size_so _ h) (bytes_fit 4 4 (2 ^ 31) f.immediate refl (omega arith) i))
 spelled_row row.MovRmReg f e h i = rw (size_so _ h) refl
 spelled_row row.MovRegRm f e h i = rw (size_so _ h) refl
-spelled_row row.MovRmImm32 f e h i = both_of _ _ (size_so _ h) (bytes_fit 4 8 (2 ^ 31) f.immediate refl (omega arith) i)
-spelled_row row.MovRegImm64 f e h i = both_of _ _ (size_so _ h) (bytes_fit 8 8 (2 ^ 63) f.immediate refl (omega arith) i)
+spelled_row row.MovRmImm32 f e h i = and_from _ _ (size_so _ h) (bytes_fit 4 8 (2 ^ 31) f.immediate refl (omega arith) i)
+spelled_row row.MovRegImm64 f e h i = and_from _ _ (size_so _ h) (bytes_fit 8 8 (2 ^ 63) f.immediate refl (omega arith) i)
 spelled_row row.Ret f e h i = refl
 
 pub spelled_only : (i : Insn) → HasSpelling i → is_spelled i ≡ true

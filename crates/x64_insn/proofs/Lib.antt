@@ -5,4 +5,3 @@ mod Examples
 pub mod Slots
 pub mod Sums
 pub mod MemoryEntries
-pub mod MemorySpans

@@ -1,5 +1,5 @@
 -- Registers and their numbers.
-use Rattle.std.proofs.Common.{◌≡◌, ◌<◌, refl, arith}
+use Rattle.std.proofs.Common.{◌≡◌, ◌<◌, refl, sym, ap, ◌∙◌, arith}
 use Rattle.x64_insn.specs.declared.types.Reg.{Reg}
 use Rattle.x64_insn.specs.declared.types.Reg.TheVariants as reg
 use Rattle.x64_insn.specs.Table.{number_of, reg_of}
@@ -40,3 +40,7 @@ number_small reg.R12 = omega arith
 number_small reg.R13 = omega arith
 number_small reg.R14 = omega arith
 number_small reg.R15 = omega arith
+
+-- a register is known by its number
+pub same_register : (q r : Reg) → number_of q ≡ number_of r → q ≡ r
+same_register q r e = sym (reg_of_number q) ∙ ap reg_of e ∙ reg_of_number r

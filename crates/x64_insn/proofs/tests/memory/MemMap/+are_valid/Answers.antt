@@ -1,6 +1,6 @@
 use Rattle.std.proofs.Common.{◌≡◌, ◌<◌, arith, sym, ap, ◌∙◌}
 use Rattle.std.specs.Prelude.{is_some}
-use Rattle.x64_insn.proofs.MemorySpans.{none_valid, not_valid, more_valid}
+use Rattle.jz_words.proofs.MemorySpans.{none_valid, not_valid, more_valid}
 use Rattle.x64_insn.proofs.tests.memory.MemMap.+are_valid.Goals as goal
 
 pub returns-then-n-eq0 : goal.returns-then-n-eq0
