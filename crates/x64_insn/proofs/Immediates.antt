@@ -5,8 +5,9 @@ use Rattle.std.specs.List.{list_all}
 use Rattle.std.proofs.Math.Nat.{pow-succ', mod-eq_of_lt}
 use Rattle.std.proofs.lemmas.Bool.{and_parts, cond_both, lt-ltb, ltb-true, ltb-false}
 use Rattle.std.proofs.lemmas.Int.{ints}
+use Rattle.jz_words.specs.Words.{modulo}
 use Rattle.x64_insn.specs.Encoding.{is_byte, AreBytes, unsigned_of, signed_from}
-use Rattle.x64_insn.specs.Chosen.{bytes_of_number, modulo, fits_bytes}
+use Rattle.x64_insn.specs.Chosen.{bytes_of_number, fits_bytes}
 
 -- ---- bytes of a number
 pub length_is : (k n : ℕ) → length (bytes_of_number k n) ≡ k
@@ -42,7 +43,7 @@ unsigned_small (b ∷ bs) h =
 
 -- ---- signed numbers
 -- a signed number within its half is read back
-pub signed_back : (half : ℕ) (i : ℤ) → (pos 0 -ℤ pos half) ≤ℤ i → i <ℤ pos half → signed_from (modulo (2 * half) i) (2 * half) ≡ i
+pub signed_back : (half : ℕ) (i : ℤ) → (pos 0 -ℤ pos half) ≤ℤ i → i <ℤ pos half → signed_from (modulo i (2 * half)) (2 * half) ≡ i
 unfolding signed_from
 signed_back half (pos n) low high =
     let h : n < half = omega (arith, ints, high) in

@@ -10,7 +10,6 @@ ghost use Rattle.x64_insn.specs.declared.types.Alu.TheVariants as alu;
 ghost use Rattle.x64_insn.specs.declared.types.Insn.{Insn};
 ghost use Rattle.x64_insn.specs.declared.types.Insn.TheVariants as insn;
 ghost use Rattle.x64_insn.specs.declared.types.State.{State};
-ghost use Rattle.x64_insn.specs.declared.types.StepLeak.{StepLeak};
 ghost use Rattle.x64_insn.specs.declared.types.FaultKind.{FaultKind};
 ghost use Rattle.x64_insn.specs.declared.types.FaultKind.TheVariants.{BadAddress};
 ghost use Rattle.x64_insn.specs.Rows.{After, Did, effect_of, reg_value, reg_word};
