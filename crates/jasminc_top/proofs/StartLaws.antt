@@ -36,7 +36,7 @@ use Rattle.jz_correct.specs.Starts.{IsIn, IsValid, AreOfSizes, MeetsPrecondition
 use Rattle.jz_correct.specs.Correctness.{EndsSo, IsCorrect}
 use Rattle.jz_lower.specs.Lowering.{kind_insns, insns_of}
 use Rattle.jz_lower.specs.Placing.{variable_of}
-use Rattle.jz_lower.proofs.Stores.{word_same}
+use Rattle.x64_insn.proofs.Registers.{word_same}
 use Rattle.jz_pipeline.specs.Compiling.{lines_of, code_insns, compiled_of}
 use Rattle.jasminc_top.specs.Running.{code_base, return_slot, with_numbers, bare_registers, start_state, IsStartMemory, exec_start, EndsWithin}
 use Rattle.jasminc_top.proofs.ExecStart.{AreWords, is_far, placed-other, placed-length, placed-words, bare_words, slot_holds}

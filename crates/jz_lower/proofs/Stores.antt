@@ -1,11 +1,11 @@
 -- Stores and registers after a variable was set.
-use Rattle.std.proofs.Common.{◌≡◌, ◌≢◌, ℕ, ◌%◌, ◌^◌, ◌<◌, Bool, List, length, ap, arith, nat_eq}
-use Rattle.std.specs.Prelude.{Option, if◌then◌else◌, slice_set, slice_index}
+use Rattle.std.proofs.Common.{◌≡◌, ◌≢◌, ℕ, ◌%◌, ◌^◌, ◌<◌, Bool, List, ap, arith, nat_eq}
+use Rattle.std.specs.Prelude.{Option, if◌then◌else◌, slice_set}
 use Rattle.std.specs.Cmp.Lexicographic.{pointwise}
-use Rattle.std.proofs.lemmas.List.{get_or-set_other, get_or-set_same}
+use Rattle.std.proofs.lemmas.List.{get_or-set_other}
 use Rattle.x64_insn.specs.declared.types.Reg.{Reg}
 use Rattle.x64_insn.specs.Table.{number_of}
-use Rattle.x64_insn.proofs.Registers.{number_small, same_register}
+use Rattle.x64_insn.proofs.Registers.{same_register}
 use Rattle.jz_meaning.specs.SourceStates.{Value, Key, Store, put}
 use Rattle.jz_correct.proofs.PlainCode.{word_in}
 
@@ -22,12 +22,6 @@ pub other_number : (q r : Reg) → q ≢ r → number_of q ≢ number_of r
 other_number q r ne e = ne (same_register q r e)
 
 -- ---- the words of registers after one was set
-pub word_same : (regs : List ℕ) (r : Reg) (w : ℕ) → length regs ≡ 16 → w < 2 ^ 64 → word_in (slice_set regs (number_of r) w) r ≡ w
-word_same regs r w size small =
-    let within : number_of r < length regs = omega (arith, number_small r, size) in
-    let e : slice_index (slice_set regs (number_of r) w) (number_of r) ≡ w = get_or-set_same regs (number_of r) w 0 within in
-    omega (arith, e, small)
-
 pub word_other : (regs : List ℕ) (q r : Reg) (w : ℕ) → q ≢ r → word_in (slice_set regs (number_of r) w) q ≡ word_in regs q
 word_other regs q r w ne = ap (λ n. n % 2 ^ 64) (get_or-set_other regs (number_of r) (number_of q) w 0 (other_number q r ne))
 

@@ -42,7 +42,7 @@ use Rattle.jz_correct.proofs.PlainCode.{Plain, alu_reg, alu_imm, mov_reg, mov_im
 use Rattle.jz_lower.specs.Lowering.{alu_of, operand_of, assignment_insn, kind_insns, insns_of}
 use Rattle.jz_lower.specs.Straight.{IsWord, AreWords, GiveWords, FitsImmediate, KindFits, FitImmediates}
 use Rattle.jz_lower.specs.Placing.{is_given, variable_of, StandIn}
-use Rattle.jz_lower.proofs.WordLaws.{residue_small}
+use Rattle.jz_words.proofs.Residues.{residue_small}
 use Rattle.jz_lower.proofs.Simulation.{after_both}
 use Rattle.jz_pipeline.specs.Compiling.{lines_of}
 

@@ -1,2 +1,3 @@
 pub mod MemorySpans
+pub mod Residues
 pub mod Rotations

@@ -3,5 +3,5 @@ pub mod Immediates
 pub mod ChosenSpelling
 mod Examples
 pub mod Slots
-pub mod Sums
+pub mod ResultFlags
 pub mod MemoryEntries
