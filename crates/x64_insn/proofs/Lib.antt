@@ -4,4 +4,3 @@ pub mod ChosenSpelling
 mod Examples
 pub mod Slots
 pub mod ResultFlags
-pub mod MemoryEntries
