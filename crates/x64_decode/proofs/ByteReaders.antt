@@ -2,7 +2,7 @@
 use Rattle.std.proofs.Common.{◌≡◌, ◌⊎◌, inl, inr, ⊎_elim, if◌then◌else◌, ℕ, zero, suc, ◌<◌, List, [], ◌∷◌, ◌++◌, length, Bool, true, false, Result, Ok, Err, Option, Some, None, refl, sym, ap, ◌∙◌, subst, arith, append_assoc, length-append}
 use Rattle.std.specs.List.{list_all}
 use Rattle.std.specs.Option.{option_to_list}
-use Rattle.std.proofs.lemmas.Bool.{and_parts, and_from}
+use Rattle.std.proofs.lemmas.Bool.{and_parts, and_from, cond-true, cond-false}
 use Rattle.x64_insn.specs.Encoding.{is_byte, StandsIf, AreBytes}
 use Rattle.x64_decode.specs.declared.fields.Stop.{Stop}
 use Rattle.x64_decode.specs.declared.fields.Stop.TheVariants.{Short, Bad}
@@ -64,18 +64,12 @@ choice : {A : Type 0} (b : Bool) (x y z : A) → (if b then x else y) ≡ z → 
 choice true x y z h = inl (refl, h)
 choice false x y z h = inr (refl, h)
 
-chosen : {A : Type 0} (b : Bool) (x y : A) → b ≡ true → (if b then x else y) ≡ x
-chosen b x y h = rw h refl
-
-other : {A : Type 0} (b : Bool) (x y : A) → b ≡ false → (if b then x else y) ≡ y
-other b x y h = rw h refl
-
 pub byte_where_reads : (test : ℕ → Bool) (example : ℕ) → test example ≡ true → ReadsBack (byte_where test) spell_byte (Passes test)
 unfolding byte_where
 byte_where_reads test example passes = record { some = (example, passes); again = again; found = found; short = short; bad = bad }
   where
     again : (a : ℕ) (rest : List ℕ) → Passes test a → byte_where test (spell_byte a ++ rest) ≡ Ok (a, rest)
-    again a rest ok = chosen (test a) _ _ ok
+    again a rest ok = cond-true (test a) _ _ ok
 
     found : (bs rest : List ℕ) (a : ℕ) → byte_where test bs ≡ Ok (a, rest) → (bs ≡ spell_byte a ++ rest) × Passes test a
     found [] rest a h = apart' (a, rest) Short _ h
@@ -91,7 +85,7 @@ byte_where_reads test example passes = record { some = (example, passes); again 
 
     bad : (bs more : List ℕ) → byte_where test bs ≡ Err Bad → byte_where test (bs ++ more) ≡ Err Bad
     bad [] more h = short_bad {A = ℕ × List ℕ} _ h
-    bad (b ∷ bs) more h = ⊎_elim (λ c. apart (b, bs) Bad _ c.1) (λ c. other (test b) _ _ c.0) (choice (test b) (Ok (b, bs)) (Err Bad) (Err Bad) h)
+    bad (b ∷ bs) more h = ⊎_elim (λ c. apart (b, bs) Bad _ c.1) (λ c. cond-false (test b) _ _ c.0) (choice (test b) (Ok (b, bs)) (Err Bad) (Err Bad) h)
 
 -- ---- one after the other
 abbrev pub spell_both : {A B : Type 0} → (A → List ℕ) → (A → B → List ℕ) → A × B → List ℕ
@@ -251,9 +245,6 @@ pub record Begins {B : Type 0} (test : ℕ → Bool) (spell : B → List ℕ) (V
 
 true_false : (b : Bool) (P : Type 0) → b ≡ true → b ≡ false → P
 true_false b P h k = cc
-
-cons_same : {A : Type 0} (a b : A) (xs ys : List A) → a ∷ xs ≡ b ∷ ys → (a ≡ b) × (xs ≡ ys)
-cons_same a b xs ys h = (cc, cc)
 
 pub ahead_reads : {B : Type 0} (test : ℕ → Bool) (g : Option ℕ → Reader B) (sg : Option ℕ → B → List ℕ) (vg : Option ℕ → B → Type 0) → ReadsBack (g None) (sg None) (vg None) → ((b : ℕ) → test b ≡ true → ReadsBack (g (Some b)) (sg (Some b)) (vg (Some b))) → Begins test (sg None) (vg None) → ReadsBack (follow (prefix test) g) (spell_both option_to_list sg) (BothValid (PrefixPasses test) vg)
 unfolding follow prefix

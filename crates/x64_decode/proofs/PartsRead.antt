@@ -2,7 +2,7 @@
 use Rattle.std.proofs.Common.{◌≡◌, ℕ, ◌<◌, ◌≤◌, List, ◌∷◌, Bool, true, false, Option, Some, None, refl, ap, arith}
 use Rattle.std.specs.Prelude.{◌||◌}
 use Rattle.std.specs.Option.{option_to_list}
-use Rattle.std.proofs.lemmas.Bool.{and_parts, both_ways, false_from_ne_true}
+use Rattle.std.proofs.lemmas.Bool.{false≢true, and_parts, both_ways, false_from_ne_true}
 use Rattle.std.proofs.lemmas.Bool.Decides.{nat_tests}
 use Rattle.x64_insn.specs.declared.table.Row.{Row}
 use Rattle.x64_insn.specs.declared.table.Row.TheVariants as row
@@ -11,9 +11,6 @@ use Rattle.x64_insn.specs.Encoding.{spelling_of, is_byte, is_rex, has_sib, displ
 use Rattle.x64_decode.specs.ByteReading.{Reader, byte_where, byte_if, prefix, some_bytes, follow}
 use Rattle.x64_decode.specs.Decoding.{may_be_operand_size, may_be_rex, may_be_escape, may_be_opcode, allowed, row_has_modrm, row_takes, may_be_modrm, immediate_bytes, Parts, fields_of, parts}
 use Rattle.x64_decode.proofs.ByteReaders.{ReadsBack, PrefixPasses, spell_byte, Passes, byte_where_reads, spell_both, BothValid, follow_reads, some_bytes_reads, byte_if_reads, Begins, ahead_reads}
-
-pub never : (P : Type 0) → ◌≡◌ {A = Bool} false true → P
-never P h = cc
 
 -- ModRM C0 stands behind each opcode that has one
 modrm_row : (w : Option Row) → row_has_modrm w ≡ true → row_takes w 192 ≡ true
@@ -137,7 +134,7 @@ module _ (p r : Option ℕ) where
   opcode_begins = record { by = λ y ok. (y.0, modrm_spell p r None y.1, refl, refl) }
 
   escape_reads : (o : ℕ) → may_be_opcode p r None o ≡ true → ReadsBack escape_reader escape_spell escape_valid
-  escape_reads o may = ahead_reads may_be_escape (λ e. opcode_reader p r e) (λ e. opcode_spell p r e) (opcode_valid p r) (opcode_reads p r None o may) (λ b h. never _ h) opcode_begins
+  escape_reads o may = ahead_reads may_be_escape (λ e. opcode_reader p r e) (λ e. opcode_spell p r e) (opcode_valid p r) (opcode_reads p r None o may) (λ b h. absurd (false≢true h)) opcode_begins
 
 module _ (p : Option ℕ) where
   abbrev rex_reader : Reader Rex
@@ -151,7 +148,7 @@ module _ (p : Option ℕ) where
 
 escape_first : (y : Escape) → escape_valid None None y → (c : ℕ) × (rest : List ℕ) × (escape_spell None None y ≡ c ∷ rest) × (may_be_rex None c ≡ false)
 escape_first (None, y) ok = (y.0, modrm_spell None None None y.1, refl, rex_opcode None y.0 ok.1.0)
-escape_first (Some b, y) ok = never _ ok.0
+escape_first (Some b, y) ok = absurd (false≢true ok.0)
 
 escape_begins : Begins (may_be_rex None) (escape_spell None None) (escape_valid None None)
 escape_begins = record { by = escape_first }
@@ -161,7 +158,7 @@ rex_reads = ahead_reads (may_be_rex None) (λ r. escape_reader None r) (λ r. es
 
 rex_first : (y : Rex) → rex_valid None y → (c : ℕ) × (rest : List ℕ) × (rex_spell None y ≡ c ∷ rest) × (may_be_operand_size c ≡ false)
 rex_first (None, (None, y)) ok = (y.0, modrm_spell None None None y.1, refl, refl)
-rex_first (None, (Some b, y)) ok = never _ ok.1.0
+rex_first (None, (Some b, y)) ok = absurd (false≢true ok.1.0)
 rex_first (Some b, y) ok = (b, escape_spell None (Some b) y, refl, refl)
 
 rex_begins : Begins may_be_operand_size (rex_spell None) (rex_valid None)
@@ -179,4 +176,4 @@ AreParts a =
 -- The fields of an instruction are read back, and a beginning of them is told.
 pub parts_reads : ReadsBack parts spelled AreParts
 unfolding parts spelled AreParts spelling_of
-parts_reads = ahead_reads may_be_operand_size rex_reader rex_spell rex_valid rex_reads (λ b h. never _ h) rex_begins
+parts_reads = ahead_reads may_be_operand_size rex_reader rex_spell rex_valid rex_reads (λ b h. absurd (false≢true h)) rex_begins

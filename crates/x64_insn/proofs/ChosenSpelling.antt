@@ -2,7 +2,7 @@
 use Rattle.std.proofs.Common.{◌≡◌, ◌⊎◌, inl, inr, ⊎_elim, ℕ, ◌+◌, ◌*◌, ◌/◌, ◌%◌, ◌^◌, ◌<◌, ◌≤◌, List, [], length, Bool, true, false, Option, Some, None, refl, sym, ap, ◌∙◌, subst, arith, ℤ, pos, negsuc, ◌-ℤ◌, ◌<ℤ◌, ◌≤ℤ◌}
 use Rattle.std.specs.Prelude.{◌&&◌, if◌then◌else◌, unwrap_or}
 use Rattle.std.proofs.Math.Nat.{mod-lt}
-use Rattle.std.proofs.lemmas.Bool.{and_parts, and_from, cond_both}
+use Rattle.std.proofs.lemmas.Bool.{false≢true, and_parts, and_from, cond_both}
 use Rattle.std.proofs.lemmas.Bool.Decides.{nat_tests}
 use Rattle.std.proofs.lemmas.Int.{ints}
 use Rattle.jz_words.specs.declared.size.Size.{Size}
@@ -22,9 +22,6 @@ use Rattle.x64_insn.specs.Encoding.{Fields, AreFields, spelling_of, insn_of, mea
 use Rattle.x64_insn.specs.Chosen.{alu_number, two_registers, register_immediate, register_in_opcode, signed_bytes, fits_bytes, alu_immediate, mov_immediate, opcode_alone, chosen_bytes, has_rows, are_operands, is_spelled}
 use Rattle.x64_insn.proofs.Registers.{reg_of_number, number_small}
 use Rattle.x64_insn.proofs.Immediates.{are_bytes, length_is, read_back, unsigned_small, signed_back, signed_low, signed_high, fits_within, within_fits}
-
-never : (P : Type 0) → ◌≡◌ {A = Bool} false true → P
-never P h = cc
 
 -- ---- bytes: REX with W, R of high and B of low; ModRM of mode 3 with a reg and an rm field
 rex_ok : (high low : ℕ) → high < 2 → low < 2 → is_rex None (0x48 + 4 * high + low) ≡ true
@@ -66,7 +63,7 @@ register_is high low r h l = let e : 8 * high + low ≡ number_of r = omega arit
 
 stands : (b : Bool) (test : ℕ → Bool) (m : ℕ) → b ≡ true → test m ≡ true → StandsIf b test (Some m)
 stands true test m e h = h
-stands false test m e h = never _ e
+stands false test m e h = absurd (false≢true e)
 
 -- ---- fields with a REX and a ModRM
 abbrev with_modrm : ℕ → ℕ → ℕ → List ℕ → Fields
@@ -108,9 +105,6 @@ size_is : (high low : ℕ) → high < 2 → low < 2 → size_of None (Some (0x48
 size_is high low h k = let e = w_ok high low h k in rw e refl
 
 -- ---- two registers
-abbrev of_two : ℕ → Reg → Reg → Fields
-of_two o to from = with_modrm o (0x48 + 4 * (number_of from / 8) + number_of to / 8) (0xC0 + 8 * (number_of from % 8) + number_of to % 8) []
-
 two_fields : (w : Row) (o : ℕ) (to from : Reg) → row_of None o ≡ Some w → Suits w → ((n : ℕ) → takes_reg_field w n ≡ true) → ((s : Size) → AreBytes (immediate_length w s) []) → AreFields (two_registers o to from)
 two_fields w o to from e suits t bytes =
     are_fields w o (number_of from / 8) (number_of to / 8) (number_of from % 8) (number_of to % 8) [] e suits (high_small from) (high_small to) (low_small from) (low_small to) (t _) bytes
@@ -135,7 +129,7 @@ unfolding row_of
 alu_row alu.Add h = refl
 alu_row alu.Sub h = refl
 alu_row alu.Xor h = refl
-alu_row other h = never _ h
+alu_row other h = absurd (false≢true h)
 
 mov_row : row_of None 0x89 ≡ Some row.MovRmReg
 unfolding row_of
@@ -183,9 +177,6 @@ bytes_fit k more half bs e le are =
     (within_fits more _ (omega (arith, ints, le, signed_low half (unsigned_of bs) small)) (omega (arith, ints, le, signed_high half (unsigned_of bs) small)))
 
 -- ---- a register in the rm field and an immediate
-abbrev of_register : ℕ → ℕ → Reg → List ℕ → Fields
-of_register o n to i = with_modrm o (0x48 + number_of to / 8) (0xC0 + 8 * n + number_of to % 8) i
-
 immediate_fields : (w : Row) (o n : ℕ) (to : Reg) (i : List ℕ) → row_of None o ≡ Some w → Suits w → n < 8 → takes_reg_field w n ≡ true → ((s : Size) → AreBytes (immediate_length w s) i) → AreFields (register_immediate o n to i)
 immediate_fields w o n to i e suits small t bytes =
     subst (λ r. AreFields (with_modrm o r (0xC0 + 8 * n + number_of to % 8) i)) (sym (one_rex (number_of to / 8)))
@@ -226,7 +217,7 @@ unfolding operation_of
 number_is alu.Add h = (omega arith, refl)
 number_is alu.Sub h = (omega arith, refl)
 number_is alu.Xor h = (omega arith, refl)
-number_is other h = never _ h
+number_is other h = absurd (false≢true h)
 
 operation_is : (o : ℕ) (a : Alu) (to : Reg) (i : List ℕ) → has_rows a ≡ true → operation_of_modrm (register_immediate o (alu_number a) to i) ≡ a
 operation_is o a to i h =
@@ -309,20 +300,20 @@ alu_spells a S64 (operand.Reg to) (operand.Reg from) h =
     let k = (and_parts _ _ h).0 in
     (two_registers (8 * alu_number a + 1) to from, two_fields (row.AluRmReg a) _ to from (alu_row a k) (alu_suits a) (λ n. refl) (λ s. (refl, refl)), refl, alu_means a to from k)
 alu_spells a S64 (operand.Reg to) (operand.Imm i) h = let k = and_parts _ _ h in alu_chosen a to i k.0 k.1
-alu_spells a size to from h = never _ ((and_parts _ _ h).1)
+alu_spells a size to from h = absurd (false≢true ((and_parts _ _ h).1))
 
 mov_spells : (size : Size) (to from : Operand) → (has_size size && are_operands 8 to from) ≡ true → Spells (chosen_bytes (insn.Mov size to from)) (insn.Mov size to from)
 unfolding chosen_bytes
 mov_spells S64 (operand.Reg to) (operand.Reg from) h = (two_registers 0x89 to from, two_fields row.MovRmReg 0x89 to from mov_row mov_suits (λ n. refl) (λ s. (refl, refl)), refl, mov_means to from)
 mov_spells S64 (operand.Reg to) (operand.Imm i) h = mov_chosen to i h
-mov_spells size to from h = never _ h
+mov_spells size to from h = absurd (false≢true h)
 
 pub chosen_spells : (i : Insn) → is_spelled i ≡ true → Spells (chosen_bytes i) i
 unfolding chosen_bytes
 chosen_spells (insn.Alu a size to from) h = alu_spells a size to from h
 chosen_spells (insn.Mov size to from) h = mov_spells size to from h
 chosen_spells insn.Ret h = (opcode_alone 0xC3, ret_fields, refl, ret_means)
-chosen_spells i h = never _ h
+chosen_spells i h = absurd (false≢true h)
 
 pub spelling_exists : (i : Insn) → is_spelled i ≡ true → HasSpelling i
 spelling_exists i h = (chosen_bytes i, chosen_spells i h)
