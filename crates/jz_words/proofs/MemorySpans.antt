@@ -7,6 +7,9 @@ use Rattle.std.specs.Cmp.{nat_cmp_total}
 use Rattle.std.specs.FinMap.{get, insert, get-insert, nat_cmp-IsAntisymmetric}
 use Rattle.std.proofs.Math.Nat.{pow-le-pow_right}
 use Rattle.std.proofs.lemmas.Bool.{and_parts}
+use Rattle.jz_words.specs.declared.size.Size.{Size}
+use Rattle.jz_words.specs.declared.size.Size.TheVariants.{S8, S16, S32, S64}
+use Rattle.jz_words.specs.Sizes.{bytes_of}
 use Rattle.jz_words.specs.Memory.{Memory, loaded, all_valid, stored}
 
 less_one : (n : ℕ) → suc n - 1 ≡ n
@@ -76,3 +79,10 @@ pub all_valid_after : (m : Memory) (a v q n : ℕ) → is_some (get m a) ≡ tru
 unfolding all_valid
 all_valid_after m a v q zero h = refl
 all_valid_after m a v q (suc n) h = rw (valid_after m a v q h) (rw (all_valid_after m a v ((q + 1) % 2 ^ 64) n h) refl)
+
+-- a word has a byte
+pub has_a_byte : (s : Size) → 0 < bytes_of s
+has_a_byte S8 = omega arith
+has_a_byte S16 = omega arith
+has_a_byte S32 = omega arith
+has_a_byte S64 = omega arith

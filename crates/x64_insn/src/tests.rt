@@ -63,25 +63,61 @@ fn flags(set: [u8; 5]) -> [FlagVal; 5] {
 #[test]
 fn operations_are_the_processors(rt: HostRuntime) {
     for (alu, a, b, result, set) in [
-        (Alu::Add, 0xffff_ffff_ffff_fffe, 1, u64::MAX, [0, 0, 1, 1, 0]),
+        (
+            Alu::Add,
+            0xffff_ffff_ffff_fffe,
+            1,
+            u64::MAX,
+            [0, 0, 1, 1, 0],
+        ),
         (Alu::Add, 1 << 63, 1 << 63, 0, [1, 1, 0, 1, 1]),
         (Alu::Add, 0x7fff_ffff_ffff_ffff, 1, 1 << 63, [1, 0, 1, 1, 0]),
         (Alu::Add, 5, 250, 0xff, [0, 0, 0, 1, 0]),
-        (Alu::Add, 1 << 63, u64::MAX, 0x7fff_ffff_ffff_ffff, [1, 1, 0, 1, 0]),
+        (
+            Alu::Add,
+            1 << 63,
+            u64::MAX,
+            0x7fff_ffff_ffff_ffff,
+            [1, 1, 0, 1, 0],
+        ),
         (Alu::Add, u64::MAX, 1, 0, [0, 1, 0, 1, 1]),
         (Alu::Add, 0x100, 0x200, 0x300, [0, 0, 0, 1, 0]),
-        (Alu::Add, 0xff << 56, 7, 0xff00_0000_0000_0007, [0, 0, 1, 0, 0]),
+        (
+            Alu::Add,
+            0xff << 56,
+            7,
+            0xff00_0000_0000_0007,
+            [0, 0, 1, 0, 0],
+        ),
         (Alu::Sub, 5, 3, 2, [0, 0, 0, 0, 0]),
         (Alu::Sub, 3, 5, 0xffff_ffff_ffff_fffe, [0, 1, 1, 0, 0]),
         (Alu::Sub, 0, 0, 0, [0, 0, 0, 1, 1]),
         (Alu::Sub, 1 << 63, 1, 0x7fff_ffff_ffff_ffff, [1, 0, 0, 1, 0]),
-        (Alu::Sub, 0x7fff_ffff_ffff_ffff, u64::MAX, 1 << 63, [1, 1, 1, 1, 0]),
+        (
+            Alu::Sub,
+            0x7fff_ffff_ffff_ffff,
+            u64::MAX,
+            1 << 63,
+            [1, 1, 1, 1, 0],
+        ),
         (Alu::Sub, 0x100, 1, 0xff, [0, 0, 0, 1, 0]),
-        (Alu::Sub, 0xff << 56, 7, 0xfeff_ffff_ffff_fff9, [0, 0, 1, 1, 0]),
+        (
+            Alu::Sub,
+            0xff << 56,
+            7,
+            0xfeff_ffff_ffff_fff9,
+            [0, 0, 1, 1, 0],
+        ),
         (Alu::Xor, 5, 3, 6, [0, 0, 0, 1, 0]),
         (Alu::Xor, 0, 0, 0, [0, 0, 0, 1, 1]),
         (Alu::Xor, 1 << 63, 1, 0x8000_0000_0000_0001, [0, 0, 1, 0, 0]),
-        (Alu::Xor, 0x7fff_ffff_ffff_ffff, u64::MAX, 1 << 63, [0, 0, 1, 1, 0]),
+        (
+            Alu::Xor,
+            0x7fff_ffff_ffff_ffff,
+            u64::MAX,
+            1 << 63,
+            [0, 0, 1, 1, 0],
+        ),
         (Alu::Xor, u64::MAX, u64::MAX, 0, [0, 0, 0, 1, 1]),
         (Alu::Xor, 0x100, 1, 0x101, [0, 0, 0, 0, 0]),
     ] {
@@ -89,7 +125,10 @@ fn operations_are_the_processors(rt: HostRuntime) {
         assert_eq!(rt; state.regs[0], result, "{alu:?} of {a} and {b}");
         assert_eq!(rt; state.regs[3], b);
         assert_eq!(rt; state.rip, 0x40_0003);
-        assert!(rt; state.flags == flags(set), "flags of {alu:?} of {a} and {b}");
+        assert!(rt;
+            state.flags == flags(set),
+            "flags of {alu:?} of {a} and {b}"
+        );
     }
 }
 
