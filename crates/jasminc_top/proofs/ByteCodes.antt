@@ -11,7 +11,8 @@ use Rattle.x64_insn.specs.declared.types.Insn.{Insn}
 use Rattle.x64_insn.specs.declared.types.Insn.TheVariants as insn
 use Rattle.x64_insn.specs.declared.types.Operand.TheVariants as operand
 use Rattle.x64_insn.specs.Encoding.{spelling_of}
-use Rattle.x64_insn.specs.Chosen.{bytes_of_number, modulo, signed_bytes, fits_bytes, alu_number, register_immediate, register_in_opcode, chosen_bytes}
+use Rattle.jz_words.specs.Words.{modulo}
+use Rattle.x64_insn.specs.Chosen.{bytes_of_number, signed_bytes, fits_bytes, alu_number, register_immediate, register_in_opcode, chosen_bytes}
 use Rattle.x64_insn.specs.Table.{number_of}
 use Rattle.x64_insn.proofs.Registers.{number_small}
 use Rattle.jz_tree.specs.declared.Fun.{Fun}
@@ -79,16 +80,16 @@ opcode_bytes to k v =
     (omega (arith, t), (omega (arith, t), number_bytes k v))
 
 alu_by : (n : ℕ) (to : Reg) (i : ℤ) (b : Bool) → n < 8 → AllSmall (spelling_of (if b then register_immediate 0x83 n to (signed_bytes 1 i) else register_immediate 0x81 n to (signed_bytes 4 i)))
-alu_by n to i true lt = immediate_bytes 0x83 n to 1 (modulo (256 ^ 1) i) (lit< tt) lt
-alu_by n to i false lt = immediate_bytes 0x81 n to 4 (modulo (256 ^ 4) i) (lit< tt) lt
+alu_by n to i true lt = immediate_bytes 0x83 n to 1 (modulo i (256 ^ 1)) (lit< tt) lt
+alu_by n to i false lt = immediate_bytes 0x81 n to 4 (modulo i (256 ^ 4)) (lit< tt) lt
 
 alu_imm_bytes : (a : Alu) (to : Reg) (i : ℤ) → AllSmall (chosen_bytes (insn.Alu a S64 (operand.Reg to) (operand.Imm i)))
 unfolding chosen_bytes
 alu_imm_bytes a to i = alu_by (alu_number a) to i (fits_bytes 1 i) (alu_small a)
 
 mov_by : (to : Reg) (i : ℤ) (b : Bool) → AllSmall (spelling_of (if b then register_immediate 0xC7 0 to (signed_bytes 4 i) else register_in_opcode to (signed_bytes 8 i)))
-mov_by to i true = immediate_bytes 0xC7 0 to 4 (modulo (256 ^ 4) i) (lit< tt) (lit< tt)
-mov_by to i false = opcode_bytes to 8 (modulo (256 ^ 8) i)
+mov_by to i true = immediate_bytes 0xC7 0 to 4 (modulo i (256 ^ 4)) (lit< tt) (lit< tt)
+mov_by to i false = opcode_bytes to 8 (modulo i (256 ^ 8))
 
 mov_imm_bytes : (to : Reg) (i : ℤ) → AllSmall (chosen_bytes (insn.Mov S64 (operand.Reg to) (operand.Imm i)))
 unfolding chosen_bytes

@@ -3,12 +3,14 @@ use Rattle.std.proofs.Common.{◌≡◌, ℕ, zero, suc, ◌^◌, ◌<◌, ◌�
 use Rattle.std.specs.Prelude.{◌&&◌, not, ◌==◌, map, slice_index, slice_set, replicate}
 use Rattle.std.specs.List.{concat, list_all}
 use Rattle.std.specs.FinMap as map_of
+use Rattle.std.proofs.lemmas.Bool.{and_parts}
 use Rattle.std.proofs.lemmas.Bool.Decides.{nat_tests}
 use Rattle.std.proofs.lemmas.List.{get_or-set_other, length-set}
 use Rattle.jz_words.specs.Memory.{Memory, loaded}
 use Rattle.x64_insn.specs.declared.types.Reg.{Reg}
 use Rattle.x64_insn.specs.declared.types.Reg.TheVariants as reg
-use Rattle.x64_insn.specs.Rows.{number_of, reg_value}
+use Rattle.x64_insn.specs.Table.{number_of}
+use Rattle.x64_insn.specs.Rows.{reg_value}
 use Rattle.jz_correct.specs.Registers.{argument_registers}
 use Rattle.jasminc_top.specs.Running.{code_base, return_slot, with_numbers, bare_registers, start_state, IsStartMemory, exec_start, Finishes, EndsWithin, RunsTo, run_text}
 use Rattle.jz_correct.specs.Agreement.{NeverFaults}
@@ -27,10 +29,6 @@ placed-length [] rs regs = refl
 placed-length (n ∷ ns) [] regs = refl
 placed-length (n ∷ ns) (r ∷ rs) regs = placed-length ns rs (slice_set regs (number_of r) n) ∙ length-set regs (number_of r) n
 
-both_true : (a b : Bool) → (a && b) ≡ true → (a ≡ true) × (b ≡ true)
-both_true true b h = (refl, h)
-both_true false b h = cc
-
 apart : (n q : ℕ) → not (n == q) ≡ true → q ≡ n → ⊥
 apart n q h e = let k : (n == q) ≡ true = grind (arith, nat_tests, e) in cc (k, h)
 
@@ -43,7 +41,7 @@ pub placed-other : (q : ℕ) (ns : List ℕ) (rs : List Reg) (regs : List ℕ) �
 placed-other q [] rs regs h = refl
 placed-other q (n ∷ ns) [] regs h = refl
 placed-other q (n ∷ ns) (r ∷ rs) regs h =
-    let p = both_true _ _ h in
+    let p = and_parts _ _ h in
     placed-other q ns rs (slice_set regs (number_of r) n) p.1 ∙ get_or-set_other regs (number_of r) q n 0 (apart (number_of r) q p.0)
 
 -- words stay words

@@ -1,6 +1,7 @@
 -- Numbers among the words.
 use Rattle.std.proofs.Common.{◌≡◌, ℕ, suc, ◌^◌, ◌<◌, ◌≤◌, Bool, true, false, List, [], ◌∷◌, ◌++◌, length, refl, ap, arith, Option, Some, None, Result, Ok, Err, if◌then◌else◌}
 use Rattle.std.specs.Prelude.{slice_index, ◌==◌, ◌&&◌, nat_lt, not}
+use Rattle.std.proofs.lemmas.Bool.{and_parts, ltb-true}
 use Rattle.std.proofs.lemmas.Bool.Decides.{nat_tests}
 use Rattle.std.specs.List.{list_all}
 use Rattle.std.specs.Result.{result_ok}
@@ -16,17 +17,10 @@ digits_test base (c ∷ cs) h =
     let d : nat_lt (digit_value c) base ≡ true = (let k : digit_value c < base = h.0 in grind (arith, nat_tests)) in
     rw (d, digits_test base cs h.1) refl
 
-both_true : (a b : Bool) → (a && b) ≡ true → (a ≡ true) × (b ≡ true)
-both_true true b h = (refl, h)
-both_true false b h = cc
-
-below : (a b : ℕ) → nat_lt a b ≡ true → a < b
-below a b h = grind (arith, nat_tests)
-
 pub digits_fact : (base : ℕ) (ds : List ℕ) → list_all (λ c. nat_lt (digit_value c) base) ds ≡ true → AllDigits base ds
 digits_fact base [] h = tt
 digits_fact base (c ∷ cs) h =
-    let p = both_true _ _ h in (below (digit_value c) base p.0, digits_fact base cs p.1)
+    let p = and_parts _ _ h in (ltb-true (digit_value c) base p.0, digits_fact base cs p.1)
 
 numeral_test : (base : ℕ) (ds : List ℕ) → IsNumeral base ds → is_numeral base ds ≡ true
 numeral_test base [] h = absurd (omega (arith, h.0))
@@ -36,11 +30,11 @@ numeral_test base (c ∷ cs) h =
 numeral_fact : (base : ℕ) (ds : List ℕ) → is_numeral base ds ≡ true → IsNumeral base ds
 numeral_fact base [] h = cc
 numeral_fact base (c ∷ cs) h =
-    let p = both_true _ _ h in (omega arith, digits_fact base (c ∷ cs) p.1)
+    let p = and_parts _ _ h in (omega arith, digits_fact base (c ∷ cs) p.1)
 
 no_case : (base : ℕ) (ds : List ℕ) (b c : Bool) → is_numeral base ds ≡ b → nat_lt (digits_value base ds) (2 ^ 64) ≡ c
     → ((IsNumeral base ds × (digits_value base ds < 2 ^ 64)) → ⊥) → ◌≡◌ {A = Option ℕ} None (numeral base ds)
-no_case base ds true true p q never = absurd (never (numeral_fact base ds p, below _ _ q))
+no_case base ds true true p q never = absurd (never (numeral_fact base ds p, ltb-true _ _ q))
 no_case base ds true false p q never = rw (p, q) refl
 no_case base ds false c p q never = rw p refl
 

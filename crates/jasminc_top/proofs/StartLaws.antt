@@ -16,7 +16,8 @@ use Rattle.x64_insn.specs.declared.types.FlagVal.TheVariants.{Undefined}
 use Rattle.x64_insn.specs.declared.types.State.{State}
 use Rattle.x64_insn.specs.declared.types.Insn.{Insn}
 use Rattle.x64_insn.specs.declared.types.Insn.TheVariants as insn
-use Rattle.x64_insn.specs.Rows.{reg_value, number_of}
+use Rattle.x64_insn.specs.Table.{number_of}
+use Rattle.x64_insn.specs.Rows.{reg_value}
 use Rattle.jz_tree.specs.declared.Program.{Program}
 use Rattle.jz_tree.specs.declared.Fun.{Fun}
 use Rattle.jz_tree.specs.declared.Var.{Var}
@@ -36,7 +37,7 @@ use Rattle.jz_correct.specs.Starts.{IsIn, IsValid, IsMet, IsBelowEnd, AreOfSizes
 use Rattle.jz_correct.specs.Correctness.{MatchesEnd, IsCorrect}
 use Rattle.jz_lower.specs.Lowering.{kind_insns, insns_of}
 use Rattle.jz_lower.specs.Placing.{variable_of}
-use Rattle.jz_lower.proofs.Stores.{word_same, number_below}
+use Rattle.x64_insn.proofs.Registers.{word_same}
 use Rattle.jz_pipeline.specs.Compiling.{lines_of, code_insns, compiled_of}
 use Rattle.jasminc_top.specs.Running.{code_base, return_slot, with_numbers, bare_registers, start_state, IsStartMemory, exec_start, EndsWithin}
 use Rattle.jasminc_top.proofs.ExecStart.{AreWords, is_far, placed-other, placed-length, placed-words, bare_words, slot_holds}

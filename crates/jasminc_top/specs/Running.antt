@@ -11,7 +11,8 @@ use Rattle.x64_insn.specs.declared.types.Reg.{Reg}
 use Rattle.x64_insn.specs.declared.types.Reg.TheVariants as reg
 use Rattle.x64_insn.specs.declared.types.State.{State}
 use Rattle.x64_insn.specs.declared.types.FlagVal.TheVariants.{Undefined}
-use Rattle.x64_insn.specs.Rows.{number_of, reg_value}
+use Rattle.x64_insn.specs.Table.{number_of}
+use Rattle.x64_insn.specs.Rows.{reg_value}
 use Rattle.jz_leak.specs.declared.event.Event.{Event}
 use Rattle.jz_leak.specs.declared.event.Event.TheVariants as event
 use Rattle.jz_listing.specs.declared.compiled.Arg.{Arg}

@@ -17,7 +17,8 @@ use Rattle.x64_insn.specs.declared.types.Insn.TheVariants as insn
 use Rattle.x64_insn.specs.declared.types.State.{State}
 use Rattle.x64_insn.specs.declared.types.FlagVal.{FlagVal}
 use Rattle.x64_insn.specs.Answers.{sum_answer, difference_answer, xor_answer}
-use Rattle.x64_insn.specs.Rows.{After, number_of, no_event, effect_of, alu_row, answer_row, mov_row}
+use Rattle.x64_insn.specs.Table.{number_of}
+use Rattle.x64_insn.specs.Rows.{After, no_event, effect_of, alu_row, answer_row, mov_row}
 use Rattle.x64_insn.specs.Encoding.{Fields, spelling_of, Spells}
 use Rattle.x64_insn.specs.Chosen.{chosen_bytes, fits_bytes, has_rows, is_spelled}
 use Rattle.x64_insn.proofs.ChosenSpelling.{chosen_spells}

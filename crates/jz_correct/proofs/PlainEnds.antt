@@ -10,7 +10,8 @@ use Rattle.x64_insn.specs.declared.types.Insn.{Insn}
 use Rattle.x64_insn.specs.declared.types.Insn.TheVariants as insn
 use Rattle.x64_insn.specs.declared.types.State.{State}
 use Rattle.x64_insn.specs.declared.types.FaultKind.{FaultKind}
-use Rattle.x64_insn.specs.Rows.{After, number_of, reg_value, with_reg, address_event, effect_of, ret_row}
+use Rattle.x64_insn.specs.Table.{number_of}
+use Rattle.x64_insn.specs.Rows.{After, reg_value, with_reg, address_event, effect_of, ret_row}
 use Rattle.x64_insn.specs.Chosen.{chosen_bytes}
 use Rattle.x64_insn.proofs.ChosenSpelling.{chosen_spells}
 use Rattle.jz_leak.specs.declared.event.Event.{Event}

@@ -71,7 +71,8 @@ impl<T> Seq<T> {
     pub fn append(&mut self, more: Seq<T>) -> Result<(), AllocError>
     where
         T: Drop,
-        ensures { OnOk result (self.new ≡ self.old ++ more) }
+        ensures ok { OnOk result (self.new ≡ self.old ++ more) }
+        ensures err { OnErr result (self.new ≡ self.old) }
     {
         let Seq { mut items } = more;
         self.items.append(&mut items)

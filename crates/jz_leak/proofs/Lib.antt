@@ -1,4 +1,3 @@
 pub mod Applied
 pub mod MemorySegments
-pub mod MemorySpans
 pub mod Walking

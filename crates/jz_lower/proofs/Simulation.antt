@@ -8,7 +8,8 @@ use Rattle.jz_words.specs.declared.size.Size.TheVariants.{S64}
 use Rattle.jz_words.specs.Sizes.{signed}
 use Rattle.jz_words.specs.Words.{residue}
 use Rattle.x64_insn.specs.declared.types.Reg.{Reg}
-use Rattle.x64_insn.specs.Rows.{number_of}
+use Rattle.x64_insn.specs.Table.{number_of}
+use Rattle.x64_insn.proofs.Registers.{word_same}
 use Rattle.jz_tree.specs.declared.Decl.{Decl}
 use Rattle.jz_tree.specs.declared.Ty.{Ty}
 use Rattle.jz_tree.specs.declared.Ty.TheVariants.{Word}
@@ -32,8 +33,9 @@ use Rattle.jz_correct.proofs.PlainCode.{word_in, operand_in, result_of, regs_of,
 use Rattle.jz_lower.specs.Lowering.{alu_of, operand_of, assignment_insn, kind_insns, insns_of}
 use Rattle.jz_lower.specs.Living.{IsNamed, ReadsIn, ReadsRight, IsLeft, ReadsAssigned, LivesThrough, LivesBefore, KeepsApart, KeepApart}
 use Rattle.jz_lower.specs.Straight.{IsWord, SetsWord, SetWords}
-use Rattle.jz_lower.proofs.WordLaws.{residue_small, signed_residue, same_operation, operation_small}
-use Rattle.jz_lower.proofs.Stores.{named, put_at, word_same, word_other, word_small}
+use Rattle.jz_words.proofs.Residues.{residue_small, signed_residue}
+use Rattle.jz_lower.proofs.WordLaws.{same_operation, operation_small}
+use Rattle.jz_lower.proofs.Stores.{named, put_at, word_other, word_small}
 
 -- ---- parts that are not stuck
 first_went : {A : Type 0} (ns : List ℕ) (x : Evaluation A) (ms : List ℕ) (a : A) → numbers_first ns x ≡ went ms a → (ks : List ℕ) × (x ≡ went ks a)

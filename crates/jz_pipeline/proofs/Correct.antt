@@ -10,7 +10,8 @@ use Rattle.x64_insn.specs.declared.types.Reg.{Reg}
 use Rattle.x64_insn.specs.declared.types.Reg.TheVariants as reg
 use Rattle.x64_insn.specs.declared.types.Insn.{Insn}
 use Rattle.x64_insn.specs.declared.types.Insn.TheVariants as insn
-use Rattle.x64_insn.specs.Rows.{number_of, reg_value, reg_word}
+use Rattle.x64_insn.specs.Table.{number_of}
+use Rattle.x64_insn.specs.Rows.{reg_value, reg_word}
 use Rattle.jz_tree.specs.declared.Program.{Program}
 use Rattle.jz_tree.specs.declared.Fun.{Fun}
 use Rattle.jz_tree.specs.declared.Stmt.{Stmt}

@@ -2,6 +2,7 @@
 use Rattle.std.proofs.Common.{◌≡◌, ◌≢◌, ℕ, ◌^◌, ◌<◌, ◌≤◌, Bool, true, false, List, [], ◌∷◌, ◌++◌, length, refl, sym, ap, ◌∙◌, subst, arith, append_assoc, pos, ◌-ℤ◌, ◌<ℤ◌, ◌≤ℤ◌}
 use Rattle.std.specs.Prelude.{Option, Some, None, map, nat_lt, if◌then◌else◌, slice_index}
 use Rattle.std.specs.List.{list_any}
+use Rattle.std.proofs.lemmas.Bool.{cond_both, ltb-true, ltb-false}
 use Rattle.std.proofs.lemmas.Bool.Decides.{nat_tests}
 use Rattle.std.proofs.lemmas.Int.{ints}
 use Rattle.std.proofs.lemmas.List.{get_or-set_other}
@@ -12,10 +13,11 @@ use Rattle.x64_insn.specs.declared.types.Reg.{Reg}
 use Rattle.x64_insn.specs.declared.types.Reg.TheVariants as reg
 use Rattle.x64_insn.specs.declared.types.Insn.{Insn}
 use Rattle.x64_insn.specs.declared.types.Insn.TheVariants as insn
-use Rattle.x64_insn.specs.Rows.{number_of}
+use Rattle.x64_insn.specs.Table.{number_of}
 use Rattle.x64_insn.specs.Chosen.{chosen_bytes, fits_bytes, has_rows}
 use Rattle.x64_insn.proofs.ChosenSpelling.{chosen_spells}
 use Rattle.x64_insn.proofs.Immediates.{within_fits}
+use Rattle.x64_insn.proofs.Registers.{same_register}
 use Rattle.jz_tree.specs.declared.Fun.{Fun}
 use Rattle.jz_tree.specs.declared.Param.{Param}
 use Rattle.jz_tree.specs.declared.Ret.{Ret}
@@ -40,8 +42,7 @@ use Rattle.jz_correct.proofs.PlainCode.{Plain, alu_reg, alu_imm, mov_reg, mov_im
 use Rattle.jz_lower.specs.Lowering.{alu_of, operand_of, assignment_insn, kind_insns, insns_of}
 use Rattle.jz_lower.specs.Straight.{IsWord, AreWords, GiveWords, FitsImmediate, KindFits, FitImmediates}
 use Rattle.jz_lower.specs.Placing.{is_given, variable_of, StandIn}
-use Rattle.jz_lower.proofs.WordLaws.{residue_small}
-use Rattle.jz_lower.proofs.Stores.{same_register}
+use Rattle.jz_words.proofs.Residues.{residue_small}
 use Rattle.jz_lower.proofs.Simulation.{after_both}
 use Rattle.jz_pipeline.specs.Compiling.{lines_of}
 
@@ -67,24 +68,14 @@ with_rows op.Xor = refl
 with_rows op.Add = refl
 with_rows op.Sub = refl
 
-by_test : {A : Type 0} (P : A → Type 0) (b : Bool) (x y : A) → (b ≡ true → P x) → (b ≡ false → P y) → P (if b then x else y)
-by_test P true x y f g = f refl
-by_test P false x y f g = g refl
-
-test_true : (a b : ℕ) → nat_lt a b ≡ true → a < b
-test_true a b e = grind (arith, nat_tests)
-
-test_false : (a b : ℕ) → nat_lt a b ≡ false → b ≤ a
-test_false a b e = grind (arith, nat_tests)
-
 -- a word's signed reading fits eight bytes
 signed_low : (a : ℕ) → a < 2 ^ 64 → (pos 0 -ℤ pos (2 ^ 63)) ≤ℤ signed S64 a
 unfolding signed
-signed_low a h = by_test (λ z. (pos 0 -ℤ pos (2 ^ 63)) ≤ℤ z) (nat_lt a (2 ^ 63)) (pos a) (pos a -ℤ pos (2 ^ 64)) (λ e. omega (arith, ints)) (λ e. omega (arith, ints, test_false _ _ e))
+signed_low a h = cond_both (nat_lt a (2 ^ 63)) (pos a) (pos a -ℤ pos (2 ^ 64)) (λ z. (pos 0 -ℤ pos (2 ^ 63)) ≤ℤ z) (λ e. omega (arith, ints)) (λ e. omega (arith, ints, ltb-false _ _ e))
 
 signed_high : (a : ℕ) → a < 2 ^ 64 → signed S64 a <ℤ pos (2 ^ 63)
 unfolding signed
-signed_high a h = by_test (λ z. z <ℤ pos (2 ^ 63)) (nat_lt a (2 ^ 63)) (pos a) (pos a -ℤ pos (2 ^ 64)) (λ e. omega (arith, ints, test_true _ _ e)) (λ e. omega (arith, ints, h))
+signed_high a h = cond_both (nat_lt a (2 ^ 63)) (pos a) (pos a -ℤ pos (2 ^ 64)) (λ z. z <ℤ pos (2 ^ 63)) (λ e. omega (arith, ints, ltb-true _ _ e)) (λ e. omega (arith, ints, h))
 
 eight_bytes : (a : ℕ) → a < 2 ^ 64 → fits_bytes 8 (signed S64 a) ≡ true
 eight_bytes a h = within_fits 8 (signed S64 a) (signed_low a h) (signed_high a h)

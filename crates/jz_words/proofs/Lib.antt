@@ -1,1 +1,3 @@
+pub mod MemorySpans
+pub mod Residues
 pub mod Rotations

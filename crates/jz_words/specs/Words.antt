@@ -27,10 +27,14 @@ borrow_of a b c = nat_lt a (b + carried c)
 abbrev pub has_even_ones : ℕ → Bool
 has_even_ones a = count_ones (a % 256) % 2 == 0
 
+-- a signed number modulo another number
+abbrev pub modulo : ℤ → ℕ → ℕ
+modulo (pos n) m = n % m
+modulo (negsuc n) m = m - 1 - n % m
+
 -- the word that a signed number stands for
 abbrev pub residue : Size → ℤ → ℕ
-residue s (pos n) = n % modulus s
-residue s (negsuc n) = modulus s - 1 - n % modulus s
+residue s z = modulo z (modulus s)
 
 abbrev pub shl_of : Size → ℕ → ℕ → ℕ
 shl_of s a n = a * 2 ^ n % modulus s

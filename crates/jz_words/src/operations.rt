@@ -2,7 +2,7 @@
 
 ghost use Rattle.std.specs.Prelude.{◌≡◌, ◌<◌, ◌+◌, ◌*◌, ◌%◌, ℕ};
 ghost use Rattle.std.specs.Int.{bit_at};
-ghost use Rattle.jz_words.specs.Sizes.{bits_of, signed};
+ghost use Rattle.jz_words.specs.Sizes.{bits_of};
 ghost use Rattle.jz_words.specs.Words.{sum_of, carry_of, difference_of, borrow_of, has_even_ones, shl_of, shr_of, sar_of, rol_of, ror_of, residue};
 
 use crate::size::Size;
@@ -65,20 +65,6 @@ pub fn shr(a: Word, count: u32) -> Word
     Word::new(a.size(), a.bits() >> count)
 }
 
-// The word as a signed number.
-#[tactic(auto, unfolding(crate::specs::Sizes::signed))]
-fn signed(a: Word) -> i128
-    ensures { result ≡ signed a.size a.bits }
-{
-    let modulus = a.size().modulus();
-    let bits = a.bits() as u128;
-    if bits < modulus / 2 {
-        bits as i128
-    } else {
-        bits as i128 - modulus as i128
-    }
-}
-
 // The word of a signed number's lowest bits.
 fn residue(size: Size, value: i128) -> Word
     ensures size { result.size ≡ size }
@@ -93,7 +79,7 @@ pub fn sar(a: Word, count: u32) -> Word
     ensures size { result.size ≡ a.size }
     ensures bits { result.bits ≡ sar_of a.size a.bits count }
 {
-    residue(a.size(), signed(a).div_euclid(1i128 << count))
+    residue(a.size(), a.signed().div_euclid(1i128 << count))
 }
 
 /// The word rotated to the left. The count is taken modulo the size.

@@ -1,7 +1,7 @@
 //! The sizes of words.
 
 ghost use Rattle.std.specs.Prelude.{◌≡◌};
-ghost use Rattle.jz_words.specs.Sizes.{bits_of, bytes_of, modulus};
+ghost use Rattle.jz_words.specs.Sizes.{bits_of, bytes_of, half, modulus};
 
 /// How many bits a word has.
 #[derive(Clone, Copy, PartialEq, Eq, Debug)]
@@ -34,6 +34,18 @@ impl Size {
             Size::S16 => 2,
             Size::S32 => 4,
             Size::S64 => 8,
+        }
+    }
+
+    /// The least word whose sign is minus.
+    pub fn half(self) -> u64
+        ensures { result ≡ half self }
+    {
+        match self {
+            Size::S8 => 1 << 7,
+            Size::S16 => 1 << 15,
+            Size::S32 => 1 << 31,
+            Size::S64 => 1 << 63,
         }
     }
 

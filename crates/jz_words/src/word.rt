@@ -1,7 +1,7 @@
 //! A word: as many bits as its size says.
 
-ghost use Rattle.std.specs.Prelude.{◌≡◌, ◌<◌, ◌%◌};
-ghost use Rattle.jz_words.specs.Sizes.{modulus};
+ghost use Rattle.std.specs.Prelude.{◌≡◌, ◌<◌, ◌-◌, ◌%◌, ◌^◌, ◌≤ℤ◌, ◌<ℤ◌, pos, negsuc};
+ghost use Rattle.jz_words.specs.Sizes.{modulus, signed};
 
 use crate::size::Size;
 
@@ -45,6 +45,22 @@ impl Word {
         ensures { result ≡ self.size }
     {
         self.size
+    }
+
+    /// The word as a signed number: its highest bit stands for minus 2 to the size less one.
+    #[tactic(auto, unfolding(crate::specs::Sizes::signed))]
+    pub fn signed(self) -> i128
+        ensures value { result ≡ signed self.size self.bits }
+        ensures low { negsuc (2 ^ 63 - 1) ≤ℤ result }
+        ensures high { result <ℤ pos (2 ^ 63) }
+    {
+        let half = self.size.half();
+        let bits = self.bits as i128;
+        if self.bits < half {
+            bits
+        } else {
+            bits - 2 * half as i128
+        }
     }
 
     /// The bits as an unsigned number.

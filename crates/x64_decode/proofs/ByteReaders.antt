@@ -1,8 +1,8 @@
 -- Readers, and what they read back.
 use Rattle.std.proofs.Common.{◌≡◌, ◌⊎◌, inl, inr, ⊎_elim, if◌then◌else◌, ℕ, zero, suc, ◌<◌, List, [], ◌∷◌, ◌++◌, length, Bool, true, false, Result, Ok, Err, Option, Some, None, refl, sym, ap, ◌∙◌, subst, arith, append_assoc, length-append}
-use Rattle.std.specs.Prelude.{◌&&◌}
 use Rattle.std.specs.List.{list_all}
 use Rattle.std.specs.Option.{option_to_list}
+use Rattle.std.proofs.lemmas.Bool.{and_parts, and_from, cond-true, cond-false}
 use Rattle.x64_insn.specs.Encoding.{is_byte, StandsIf, AreBytes}
 use Rattle.x64_decode.specs.declared.fields.Stop.{Stop}
 use Rattle.x64_decode.specs.declared.fields.Stop.TheVariants.{Short, Bad}
@@ -20,14 +20,6 @@ pub record ReadsBack {A : Type 0} (read : Reader A) (spell : A → List ℕ) (Va
 abbrev pub PrefixPasses : (ℕ → Bool) → Option ℕ → Type 0
 PrefixPasses test None = Unit {0}
 PrefixPasses test (Some b) = test b ≡ true
-
-pub both_true : (a b : Bool) → (a && b) ≡ true → (a ≡ true) × (b ≡ true)
-both_true true true h = (refl, refl)
-both_true true false h = cc
-both_true false b h = cc
-
-pub true_both : (a b : Bool) → a ≡ true → b ≡ true → (a && b) ≡ true
-true_both a b h k = rw h k
 
 bind_ok : {A B : Type 0} (r : Result A Stop) (f : A → Result B Stop) (y : B) → (r >>= f) ≡ Ok y → (x : A) × (r ≡ Ok x) × (f x ≡ Ok y)
 bind_ok (Ok x) f y h = (x, refl, h)
@@ -72,18 +64,12 @@ choice : {A : Type 0} (b : Bool) (x y z : A) → (if b then x else y) ≡ z → 
 choice true x y z h = inl (refl, h)
 choice false x y z h = inr (refl, h)
 
-chosen : {A : Type 0} (b : Bool) (x y : A) → b ≡ true → (if b then x else y) ≡ x
-chosen b x y h = rw h refl
-
-other : {A : Type 0} (b : Bool) (x y : A) → b ≡ false → (if b then x else y) ≡ y
-other b x y h = rw h refl
-
 pub byte_where_reads : (test : ℕ → Bool) (example : ℕ) → test example ≡ true → ReadsBack (byte_where test) spell_byte (Passes test)
 unfolding byte_where
 byte_where_reads test example passes = record { some = (example, passes); again = again; found = found; short = short; bad = bad }
   where
     again : (a : ℕ) (rest : List ℕ) → Passes test a → byte_where test (spell_byte a ++ rest) ≡ Ok (a, rest)
-    again a rest ok = chosen (test a) _ _ ok
+    again a rest ok = cond-true (test a) _ _ ok
 
     found : (bs rest : List ℕ) (a : ℕ) → byte_where test bs ≡ Ok (a, rest) → (bs ≡ spell_byte a ++ rest) × Passes test a
     found [] rest a h = apart' (a, rest) Short _ h
@@ -99,7 +85,7 @@ byte_where_reads test example passes = record { some = (example, passes); again 
 
     bad : (bs more : List ℕ) → byte_where test bs ≡ Err Bad → byte_where test (bs ++ more) ≡ Err Bad
     bad [] more h = short_bad {A = ℕ × List ℕ} _ h
-    bad (b ∷ bs) more h = ⊎_elim (λ c. apart (b, bs) Bad _ c.1) (λ c. other (test b) _ _ c.0) (choice (test b) (Ok (b, bs)) (Err Bad) (Err Bad) h)
+    bad (b ∷ bs) more h = ⊎_elim (λ c. apart (b, bs) Bad _ c.1) (λ c. cond-false (test b) _ _ c.0) (choice (test b) (Ok (b, bs)) (Err Bad) (Err Bad) h)
 
 -- ---- one after the other
 abbrev pub spell_both : {A B : Type 0} → (A → List ℕ) → (A → B → List ℕ) → A × B → List ℕ
@@ -208,7 +194,7 @@ nothing_reads {A} a = record { some = (a, refl); again = λ b rest e. ap (λ c. 
 -- ---- so many bytes
 uncons : (n : ℕ) (bs : List ℕ) → AreBytes (suc n) bs → (p : ℕ × List ℕ) × BothValid (Passes is_byte) (λ _. AreBytes n) p × (p.0 ∷ p.1 ≡ bs)
 uncons n [] h = absurd (omega (arith, h.0))
-uncons n (b ∷ bs) h = let both = both_true (is_byte b) (list_all is_byte bs) h.1 in ((b, bs), (both.0, (omega (arith, h.0), both.1)), refl)
+uncons n (b ∷ bs) h = let both = and_parts (is_byte b) (list_all is_byte bs) h.1 in ((b, bs), (both.0, (omega (arith, h.0), both.1)), refl)
 
 pub some_bytes_reads : (n : ℕ) → ReadsBack (some_bytes n) (λ bs. bs) (AreBytes n)
 unfolding some_bytes
@@ -227,7 +213,7 @@ some_bytes_reads (suc n) =
     map_reads (follow (byte_where is_byte) (λ _. some_bytes n)) (spell_both spell_byte (λ _ bs. bs)) (BothValid (Passes is_byte) (λ _. AreBytes n)) (λ p. p.0 ∷ p.1) (λ bs. bs) (AreBytes (suc n))
     (follow_reads (byte_where is_byte) (λ _. some_bytes n) spell_byte (λ _ bs. bs) (Passes is_byte) (λ _. AreBytes n) (byte_where_reads is_byte 0 refl) (λ _ _. some_bytes_reads n))
     (λ p. refl)
-    (λ p h. (omega (arith, h.1.0), true_both (is_byte p.0) (list_all is_byte p.1) h.0 h.1.1))
+    (λ p h. (omega (arith, h.1.0), and_from (is_byte p.0) (list_all is_byte p.1) h.0 h.1.1))
     (uncons n)
 
 -- ---- a byte or none
@@ -259,9 +245,6 @@ pub record Begins {B : Type 0} (test : ℕ → Bool) (spell : B → List ℕ) (V
 
 true_false : (b : Bool) (P : Type 0) → b ≡ true → b ≡ false → P
 true_false b P h k = cc
-
-cons_same : {A : Type 0} (a b : A) (xs ys : List A) → a ∷ xs ≡ b ∷ ys → (a ≡ b) × (xs ≡ ys)
-cons_same a b xs ys h = (cc, cc)
 
 pub ahead_reads : {B : Type 0} (test : ℕ → Bool) (g : Option ℕ → Reader B) (sg : Option ℕ → B → List ℕ) (vg : Option ℕ → B → Type 0) → ReadsBack (g None) (sg None) (vg None) → ((b : ℕ) → test b ≡ true → ReadsBack (g (Some b)) (sg (Some b)) (vg (Some b))) → Begins test (sg None) (vg None) → ReadsBack (follow (prefix test) g) (spell_both option_to_list sg) (BothValid (PrefixPasses test) vg)
 unfolding follow prefix

@@ -1,14 +1,15 @@
 -- The fields by their names are the fields as nested pairs.
 use Rattle.std.proofs.Common.{◌≡◌, ℕ, Bool, true, false, Option, Some, None, refl, sym, ap, ◌∙◌, subst, arith}
 use Rattle.std.specs.Prelude.{IfSome, IsTrue, ◌||◌}
+use Rattle.std.proofs.lemmas.Bool.{false≢true, and_parts, and_from}
 use Rattle.std.proofs.lemmas.Bool.Decides.{nat_tests}
 use Rattle.x64_insn.specs.declared.table.Row.{Row}
 use Rattle.x64_insn.specs.declared.table.Row.TheVariants as row
 use Rattle.x64_insn.specs.Table.{row_of, has_w, has_size, size_of, allows}
 use Rattle.x64_insn.specs.Encoding.{Fields, AreFields, is_rex, StandsIf, AreBytes}
 use Rattle.x64_decode.specs.Decoding.{may_be_operand_size, may_be_rex, may_be_escape, may_be_opcode, allowed, row_has_modrm, row_takes, may_be_modrm, row_immediate, immediate_bytes, Parts, fields_of}
-use Rattle.x64_decode.proofs.ByteReaders.{PrefixPasses, both_true, true_both}
-use Rattle.x64_decode.proofs.PartsRead.{never, AreParts}
+use Rattle.x64_decode.proofs.ByteReaders.{PrefixPasses}
+use Rattle.x64_decode.proofs.PartsRead.{AreParts}
 
 abbrev pub parts_of : Fields → Parts
 parts_of f = (f.operand_size, (f.rex, (f.escape, (f.opcode, (f.modrm, (f.sib, (f.displacement, f.immediate)))))))
@@ -20,13 +21,13 @@ no_w x b h = grind (arith, nat_tests)
 -- operands of 64 bits need a REX with W, and no prefix 66
 sized : (p r : Option ℕ) → IfSome r (λ b. IsTrue (is_rex p b)) → has_size (size_of p r) ≡ true → (p ≡ None) × PrefixPasses (may_be_rex None) r
 sized None None h k = (refl, tt)
-sized None (Some b) h k = (refl, true_both _ _ h (by_w (has_w (Some b)) refl))
+sized None (Some b) h k = (refl, and_from _ _ h (by_w (has_w (Some b)) refl))
   where
     by_w : (w : Bool) → has_w (Some b) ≡ w → (has_w (Some b) || false) ≡ true
     by_w true e = rw e refl
-    by_w false e = never _ (rw e at k)
-sized (Some x) None h k = never _ k
-sized (Some x) (Some b) h k = let e : has_w (Some b) ≡ false = no_w x b h in never _ (rw e at k)
+    by_w false e = absurd (false≢true (rw e at k))
+sized (Some x) None h k = absurd (false≢true k)
+sized (Some x) (Some b) h k = let e : has_w (Some b) ≡ false = no_w x b h in absurd (false≢true (rw e at k))
 
 prefixed : (w : Row) (p r : Option ℕ) → IfSome r (λ b. IsTrue (is_rex p b)) → allows w p r ≡ true → (p ≡ None) × PrefixPasses (may_be_rex None) r
 prefixed (row.AluRmReg alu) p r h k = sized p r h k
@@ -38,8 +39,8 @@ prefixed row.AluRmImm32 p r h k = sized p r h k
 prefixed row.MovRmImm32 p r h k = sized p r h k
 prefixed row.MovRegImm64 p r h k = sized p r h k
 prefixed row.Ret None None h k = (refl, tt)
-prefixed row.Ret None (Some b) h k = never _ k
-prefixed row.Ret (Some x) r h k = never _ k
+prefixed row.Ret None (Some b) h k = absurd (false≢true k)
+prefixed row.Ret (Some x) r h k = absurd (false≢true k)
 
 no_escape : (e : Option ℕ) (o : ℕ) (w : Row) → row_of e o ≡ Some w → e ≡ None
 unfolding row_of
@@ -75,20 +76,20 @@ to_parts f h =
 
 -- ---- from the pairs to the names
 some_row : (w : Option Row) (p r : Option ℕ) → allowed p r w ≡ true → (x : Row) × (w ≡ Some x) × (allows x p r ≡ true)
-some_row None p r h = never _ h
+some_row None p r h = absurd (false≢true h)
 some_row (Some x) p r h = (x, refl, h)
 
 operand_size_so : (p : Option ℕ) → PrefixPasses may_be_operand_size p → IfSome p (λ b. b ≡ 0x66)
 operand_size_so None h = tt
-operand_size_so (Some b) h = never _ h
+operand_size_so (Some b) h = absurd (false≢true h)
 
 rex_so : (p r : Option ℕ) → PrefixPasses (may_be_rex p) r → IfSome r (λ b. IsTrue (is_rex p b))
 rex_so p None h = tt
-rex_so p (Some b) h = (both_true _ _ h).0
+rex_so p (Some b) h = (and_parts _ _ h).0
 
 escape_so : (e : Option ℕ) → PrefixPasses may_be_escape e → IfSome e (λ b. b ≡ 0x0F)
 escape_so None h = tt
-escape_so (Some b) h = never _ h
+escape_so (Some b) h = absurd (false≢true h)
 
 pub to_fields : (a : Parts) → AreParts a → AreFields (fields_of a)
 unfolding AreParts may_be_opcode may_be_modrm immediate_bytes

@@ -2,6 +2,7 @@
 use Rattle.std.proofs.Common.{◌≡◌, ℕ, ◌<◌, ◌≤◌, List, ◌∷◌, Bool, true, false, Option, Some, None, refl, ap, arith}
 use Rattle.std.specs.Prelude.{◌||◌}
 use Rattle.std.specs.Option.{option_to_list}
+use Rattle.std.proofs.lemmas.Bool.{false≢true, and_parts, both_ways, false_from_ne_true}
 use Rattle.std.proofs.lemmas.Bool.Decides.{nat_tests}
 use Rattle.x64_insn.specs.declared.table.Row.{Row}
 use Rattle.x64_insn.specs.declared.table.Row.TheVariants as row
@@ -9,10 +10,7 @@ use Rattle.x64_insn.specs.Table.{row_of, has_w, operation_of}
 use Rattle.x64_insn.specs.Encoding.{spelling_of, is_byte, is_rex, has_sib, displacement_length, StandsIf, AreBytes}
 use Rattle.x64_decode.specs.ByteReading.{Reader, byte_where, byte_if, prefix, some_bytes, follow}
 use Rattle.x64_decode.specs.Decoding.{may_be_operand_size, may_be_rex, may_be_escape, may_be_opcode, allowed, row_has_modrm, row_takes, may_be_modrm, immediate_bytes, Parts, fields_of, parts}
-use Rattle.x64_decode.proofs.ByteReaders.{ReadsBack, PrefixPasses, both_true, spell_byte, Passes, byte_where_reads, spell_both, BothValid, follow_reads, some_bytes_reads, byte_if_reads, Begins, ahead_reads}
-
-pub never : (P : Type 0) → ◌≡◌ {A = Bool} false true → P
-never P h = cc
+use Rattle.x64_decode.proofs.ByteReaders.{ReadsBack, PrefixPasses, spell_byte, Passes, byte_where_reads, spell_both, BothValid, follow_reads, some_bytes_reads, byte_if_reads, Begins, ahead_reads}
 
 -- ModRM C0 stands behind each opcode that has one
 modrm_row : (w : Option Row) → row_has_modrm w ≡ true → row_takes w 192 ≡ true
@@ -96,13 +94,6 @@ module _ (p r e : Option ℕ) where
   opcode_reads o may = follow_reads (byte_where (may_be_opcode p r e)) modrm_reader spell_byte (λ o. modrm_spell) (Passes (may_be_opcode p r e)) modrm_valid (byte_where_reads (may_be_opcode p r e) o may) (λ o _. modrm_reads o)
 
 -- ---- what may not begin an opcode
-not_both : (b : Bool) (P : Type 0) → b ≡ true → b ≡ false → P
-not_both b P h k = cc
-
-false_unless : (b : Bool) → (b ≡ true → ⊥) → b ≡ false
-false_unless true h = absurd (h refl)
-false_unless false h = refl
-
 no_rex_opcode : (o : ℕ) → 64 ≤ o → o < 80 → row_of None o ≡ None
 unfolding row_of
 no_rex_opcode o a b = grind (arith, nat_tests)
@@ -112,9 +103,9 @@ rex_bounds b h = grind (arith, nat_tests)
 
 rex_opcode : (r : Option ℕ) (o : ℕ) → may_be_opcode None r None o ≡ true → may_be_rex None o ≡ false
 unfolding may_be_opcode
-rex_opcode r o ok = false_unless (may_be_rex None o) (λ e.
-    let b = rex_bounds o (both_true _ _ e).0 in
-    not_both (may_be_opcode None r None o) ⊥ ok (ap (allowed None r) (no_rex_opcode o b.0 b.1)))
+rex_opcode r o ok = false_from_ne_true (may_be_rex None o) (λ e.
+    let b = rex_bounds o (and_parts _ _ e).0 in
+    both_ways (may_be_opcode None r None o) (ap (allowed None r) (no_rex_opcode o b.0 b.1)) ok)
 
 -- ---- an opcode that may stand behind a prefix
 alone : may_be_opcode None None None 0xC3 ≡ true
@@ -127,7 +118,7 @@ or_false false h = cc
 
 behind_rex : (b : ℕ) → may_be_rex None b ≡ true → may_be_opcode None (Some b) None 1 ≡ true
 unfolding may_be_opcode row_of
-behind_rex b h = let w : has_w (Some b) ≡ true = or_false (has_w (Some b)) (both_true _ _ h).1 in rw w refl
+behind_rex b h = let w : has_w (Some b) ≡ true = or_false (has_w (Some b)) (and_parts _ _ h).1 in rw w refl
 
 module _ (p r : Option ℕ) where
   abbrev escape_reader : Reader Escape
@@ -143,7 +134,7 @@ module _ (p r : Option ℕ) where
   opcode_begins = record { by = λ y ok. (y.0, modrm_spell p r None y.1, refl, refl) }
 
   escape_reads : (o : ℕ) → may_be_opcode p r None o ≡ true → ReadsBack escape_reader escape_spell escape_valid
-  escape_reads o may = ahead_reads may_be_escape (λ e. opcode_reader p r e) (λ e. opcode_spell p r e) (opcode_valid p r) (opcode_reads p r None o may) (λ b h. never _ h) opcode_begins
+  escape_reads o may = ahead_reads may_be_escape (λ e. opcode_reader p r e) (λ e. opcode_spell p r e) (opcode_valid p r) (opcode_reads p r None o may) (λ b h. absurd (false≢true h)) opcode_begins
 
 module _ (p : Option ℕ) where
   abbrev rex_reader : Reader Rex
@@ -157,7 +148,7 @@ module _ (p : Option ℕ) where
 
 escape_first : (y : Escape) → escape_valid None None y → (c : ℕ) × (rest : List ℕ) × (escape_spell None None y ≡ c ∷ rest) × (may_be_rex None c ≡ false)
 escape_first (None, y) ok = (y.0, modrm_spell None None None y.1, refl, rex_opcode None y.0 ok.1.0)
-escape_first (Some b, y) ok = never _ ok.0
+escape_first (Some b, y) ok = absurd (false≢true ok.0)
 
 escape_begins : Begins (may_be_rex None) (escape_spell None None) (escape_valid None None)
 escape_begins = record { by = escape_first }
@@ -167,7 +158,7 @@ rex_reads = ahead_reads (may_be_rex None) (λ r. escape_reader None r) (λ r. es
 
 rex_first : (y : Rex) → rex_valid None y → (c : ℕ) × (rest : List ℕ) × (rex_spell None y ≡ c ∷ rest) × (may_be_operand_size c ≡ false)
 rex_first (None, (None, y)) ok = (y.0, modrm_spell None None None y.1, refl, refl)
-rex_first (None, (Some b, y)) ok = never _ ok.1.0
+rex_first (None, (Some b, y)) ok = absurd (false≢true ok.1.0)
 rex_first (Some b, y) ok = (b, escape_spell None (Some b) y, refl, refl)
 
 rex_begins : Begins may_be_operand_size (rex_spell None) (rex_valid None)
@@ -185,4 +176,4 @@ AreParts a =
 -- The fields of an instruction are read back, and a beginning of them is told.
 pub parts_reads : ReadsBack parts spelled AreParts
 unfolding parts spelled AreParts spelling_of
-parts_reads = ahead_reads may_be_operand_size rex_reader rex_spell rex_valid rex_reads (λ b h. never _ h) rex_begins
+parts_reads = ahead_reads may_be_operand_size rex_reader rex_spell rex_valid rex_reads (λ b h. absurd (false≢true h)) rex_begins

@@ -2,8 +2,8 @@
 
 ghost use Rattle.std.specs.Prelude.{◌≡◌, ◌≤◌, length, IfOk, Some};
 ghost use Rattle.std.specs.Option.{option_to_list};
-ghost use Rattle.x64_insn.specs.Table.{row_of, b_of, r_of, reg_of, reg_field, rm_field, immediate_length, size_of};
-ghost use Rattle.x64_insn.specs.Encoding.{displacement_length, has_sib, immediate_of, is_byte, meaning, operation_of_modrm, or_zero, reg_of_modrm, reg_of_opcode, rm_of_modrm, spelling_of};
+ghost use Rattle.x64_insn.specs.Table.{row_of, reg_of, immediate_length, size_of};
+ghost use Rattle.x64_insn.specs.Encoding.{displacement_length, has_sib, immediate_of, is_byte, meaning, operation_of_modrm, reg_of_modrm, reg_of_opcode, rm_of_modrm, spelling_of};
 ghost use Rattle.x64_decode.specs.ByteReading.{Gives, byte_if, byte_where, prefix, some_bytes};
 ghost use Rattle.x64_decode.specs.Decoding.{fields_of, may_be_escape, may_be_modrm, may_be_opcode, may_be_operand_size, may_be_rex, parts, parts_read, row_has_modrm};
 

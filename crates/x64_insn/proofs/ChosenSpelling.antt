@@ -1,12 +1,13 @@
 -- What is chosen is a spelling, and an instruction has one exactly where the test says so.
 use Rattle.std.proofs.Common.{◌≡◌, ◌⊎◌, inl, inr, ⊎_elim, ℕ, ◌+◌, ◌*◌, ◌/◌, ◌%◌, ◌^◌, ◌<◌, ◌≤◌, List, [], length, Bool, true, false, Option, Some, None, refl, sym, ap, ◌∙◌, subst, arith, ℤ, pos, negsuc, ◌-ℤ◌, ◌<ℤ◌, ◌≤ℤ◌}
-use Rattle.std.specs.Prelude.{◌&&◌, if◌then◌else◌}
-use Rattle.std.specs.List.{list_all}
+use Rattle.std.specs.Prelude.{◌&&◌, if◌then◌else◌, unwrap_or}
 use Rattle.std.proofs.Math.Nat.{mod-lt}
+use Rattle.std.proofs.lemmas.Bool.{false≢true, and_parts, and_from, cond_both}
 use Rattle.std.proofs.lemmas.Bool.Decides.{nat_tests}
 use Rattle.std.proofs.lemmas.Int.{ints}
 use Rattle.jz_words.specs.declared.size.Size.{Size}
 use Rattle.jz_words.specs.declared.size.Size.TheVariants.{S64}
+use Rattle.jz_words.specs.Words.{modulo}
 use Rattle.x64_insn.specs.declared.types.Alu.{Alu}
 use Rattle.x64_insn.specs.declared.types.Alu.TheVariants as alu
 use Rattle.x64_insn.specs.declared.types.Reg.{Reg}
@@ -17,16 +18,10 @@ use Rattle.x64_insn.specs.declared.types.Insn.TheVariants as insn
 use Rattle.x64_insn.specs.declared.table.Row.{Row}
 use Rattle.x64_insn.specs.declared.table.Row.TheVariants as row
 use Rattle.x64_insn.specs.Table.{number_of, operation_of, reg_of, row_of, has_size, has_w, size_of, allows, r_of, b_of, mod_of, reg_field, rm_field, has_modrm, takes_reg_field, takes_modrm, immediate_length}
-use Rattle.x64_insn.specs.Encoding.{Fields, AreFields, spelling_of, insn_of, meaning, meaning_of, rm_of_modrm, reg_of_modrm, reg_of_opcode, or_add, operation_of_modrm, unsigned_of, signed_from, signed_of, is_rex, is_byte, has_sib, displacement_length, StandsIf, AreBytes, Spells, HasSpelling}
-use Rattle.x64_insn.specs.Chosen.{alu_number, two_registers, register_immediate, register_in_opcode, bytes_of_number, modulo, signed_bytes, fits_bytes, alu_immediate, mov_immediate, opcode_alone, chosen_bytes, has_rows, is_64, are_operands, is_spelled}
+use Rattle.x64_insn.specs.Encoding.{Fields, AreFields, spelling_of, insn_of, meaning, meaning_of, rm_of_modrm, reg_of_modrm, reg_of_opcode, operation_of_modrm, unsigned_of, signed_from, signed_of, is_rex, is_byte, has_sib, displacement_length, StandsIf, AreBytes, Spells, HasSpelling}
+use Rattle.x64_insn.specs.Chosen.{alu_number, two_registers, register_immediate, register_in_opcode, signed_bytes, fits_bytes, alu_immediate, mov_immediate, opcode_alone, chosen_bytes, has_rows, are_operands, is_spelled}
 use Rattle.x64_insn.proofs.Registers.{reg_of_number, number_small}
-use Rattle.x64_insn.proofs.Immediates.{by_test, are_bytes, length_is, read_back, unsigned_small, signed_back, signed_low, signed_high, fits_within, within_fits}
-
-never : (P : Type 0) → ◌≡◌ {A = Bool} false true → P
-never P h = cc
-
-both_of : (a b : Bool) → a ≡ true → b ≡ true → (a && b) ≡ true
-both_of a b h k = rw h k
+use Rattle.x64_insn.proofs.Immediates.{are_bytes, length_is, read_back, unsigned_small, signed_back, signed_low, signed_high, fits_within, within_fits}
 
 -- ---- bytes: REX with W, R of high and B of low; ModRM of mode 3 with a reg and an rm field
 rex_ok : (high low : ℕ) → high < 2 → low < 2 → is_rex None (0x48 + 4 * high + low) ≡ true
@@ -54,7 +49,7 @@ takes : (w : Row) (n b : ℕ) → n < 8 → b < 8 → takes_reg_field w n ≡ tr
 takes w n b h k t =
     let small : (0xC0 + 8 * n + b) < 256 = omega arith in
     let mode = mode_is n b h k in
-    both_of _ _ (grind (arith, nat_tests)) (both_of _ _ (grind (arith, nat_tests)) (ap (takes_reg_field w) (reg_is n b h k) ∙ t))
+    and_from _ _ (grind (arith, nat_tests)) (and_from _ _ (grind (arith, nat_tests)) (ap (takes_reg_field w) (reg_is n b h k) ∙ t))
 
 no_sib : (m : ℕ) → mod_of m ≡ 3 → has_sib (Some m) ≡ false
 no_sib m h = rw h refl
@@ -68,7 +63,7 @@ register_is high low r h l = let e : 8 * high + low ≡ number_of r = omega arit
 
 stands : (b : Bool) (test : ℕ → Bool) (m : ℕ) → b ≡ true → test m ≡ true → StandsIf b test (Some m)
 stands true test m e h = h
-stands false test m e h = never _ e
+stands false test m e h = absurd (false≢true e)
 
 -- ---- fields with a REX and a ModRM
 abbrev with_modrm : ℕ → ℕ → ℕ → List ℕ → Fields
@@ -110,9 +105,6 @@ size_is : (high low : ℕ) → high < 2 → low < 2 → size_of None (Some (0x48
 size_is high low h k = let e = w_ok high low h k in rw e refl
 
 -- ---- two registers
-abbrev of_two : ℕ → Reg → Reg → Fields
-of_two o to from = with_modrm o (0x48 + 4 * (number_of from / 8) + number_of to / 8) (0xC0 + 8 * (number_of from % 8) + number_of to % 8) []
-
 two_fields : (w : Row) (o : ℕ) (to from : Reg) → row_of None o ≡ Some w → Suits w → ((n : ℕ) → takes_reg_field w n ≡ true) → ((s : Size) → AreBytes (immediate_length w s) []) → AreFields (two_registers o to from)
 two_fields w o to from e suits t bytes =
     are_fields w o (number_of from / 8) (number_of to / 8) (number_of from % 8) (number_of to % 8) [] e suits (high_small from) (high_small to) (low_small from) (low_small to) (t _) bytes
@@ -137,7 +129,7 @@ unfolding row_of
 alu_row alu.Add h = refl
 alu_row alu.Sub h = refl
 alu_row alu.Xor h = refl
-alu_row other h = never _ h
+alu_row other h = absurd (false≢true h)
 
 mov_row : row_of None 0x89 ≡ Some row.MovRmReg
 unfolding row_of
@@ -154,7 +146,7 @@ mov_means : (to from : Reg) → insn_of (two_registers 0x89 to from) ≡ insn.Mo
 mov_means to from = means row.MovRmReg (two_registers 0x89 to from) mov_row ∙ rw (two_size to from, two_rm 0 to from, two_reg 0 to from) refl
 
 -- ---- immediates
-modulo_small : (all : ℕ) (i : ℤ) → 0 < all → modulo all i < all
+modulo_small : (all : ℕ) (i : ℤ) → 0 < all → modulo i all < all
 modulo_small all (pos n) h = mod-lt n h
 modulo_small all (negsuc n) h = omega (arith, h)
 
@@ -162,9 +154,9 @@ modulo_small all (negsuc n) h = omega (arith, h)
 read_signed : (k half : ℕ) (i : ℤ) → 256 ^ k ≡ 2 * half → 0 < half → (pos 0 -ℤ pos half) ≤ℤ i → i <ℤ pos half → signed_of (signed_bytes k i) ≡ i
 read_signed k half i e h low high =
     let m = modulo_small (256 ^ k) i (omega (arith, e, h)) in
-    ap (λ n. signed_from n (256 ^ length (signed_bytes k i))) (read_back k (modulo (256 ^ k) i) m)
-    ∙ ap (λ l. signed_from (modulo (256 ^ k) i) (256 ^ l)) (length_is k (modulo (256 ^ k) i))
-    ∙ ap (λ all. signed_from (modulo all i) all) e
+    ap (λ n. signed_from n (256 ^ length (signed_bytes k i))) (read_back k (modulo i (256 ^ k)) m)
+    ∙ ap (λ l. signed_from (modulo i (256 ^ k)) (256 ^ l)) (length_is k (modulo i (256 ^ k)))
+    ∙ ap (λ all. signed_from (modulo i all) all) e
     ∙ signed_back half i low high
 
 one_byte : (i : ℤ) → fits_bytes 1 i ≡ true → signed_of (signed_bytes 1 i) ≡ i
@@ -185,9 +177,6 @@ bytes_fit k more half bs e le are =
     (within_fits more _ (omega (arith, ints, le, signed_low half (unsigned_of bs) small)) (omega (arith, ints, le, signed_high half (unsigned_of bs) small)))
 
 -- ---- a register in the rm field and an immediate
-abbrev of_register : ℕ → ℕ → Reg → List ℕ → Fields
-of_register o n to i = with_modrm o (0x48 + number_of to / 8) (0xC0 + 8 * n + number_of to % 8) i
-
 immediate_fields : (w : Row) (o n : ℕ) (to : Reg) (i : List ℕ) → row_of None o ≡ Some w → Suits w → n < 8 → takes_reg_field w n ≡ true → ((s : Size) → AreBytes (immediate_length w s) i) → AreFields (register_immediate o n to i)
 immediate_fields w o n to i e suits small t bytes =
     subst (λ r. AreFields (with_modrm o r (0xC0 + 8 * n + number_of to % 8) i)) (sym (one_rex (number_of to / 8)))
@@ -228,12 +217,12 @@ unfolding operation_of
 number_is alu.Add h = (omega arith, refl)
 number_is alu.Sub h = (omega arith, refl)
 number_is alu.Xor h = (omega arith, refl)
-number_is other h = never _ h
+number_is other h = absurd (false≢true h)
 
 operation_is : (o : ℕ) (a : Alu) (to : Reg) (i : List ℕ) → has_rows a ≡ true → operation_of_modrm (register_immediate o (alu_number a) to i) ≡ a
 operation_is o a to i h =
     let n = number_is a h in
-    ap (λ k. or_add (operation_of k)) (reg_is (alu_number a) (number_of to % 8) n.0 (low_small to)) ∙ ap or_add n.1
+    ap (λ k. unwrap_or (operation_of k) alu.Add) (reg_is (alu_number a) (number_of to % 8) n.0 (low_small to)) ∙ ap (λ o. unwrap_or o alu.Add) n.1
 
 byte_means : (a : Alu) (to : Reg) (i : ℤ) → has_rows a ≡ true → fits_bytes 1 i ≡ true → insn_of (register_immediate 0x83 (alu_number a) to (signed_bytes 1 i)) ≡ insn.Alu a S64 (operand.Reg to) (operand.Imm i)
 byte_means a to i h k =
@@ -291,78 +280,69 @@ ret_means : insn_of (opcode_alone 0xC3) ≡ insn.Ret
 unfolding insn_of row_of
 ret_means = refl
 
-both_parts : (a b : Bool) → (a && b) ≡ true → (a ≡ true) × (b ≡ true)
-both_parts true true h = (refl, refl)
-both_parts true false h = cc
-both_parts false b h = cc
-
 alu_chosen : (a : Alu) (to : Reg) (i : ℤ) → has_rows a ≡ true → fits_bytes 4 i ≡ true → Spells (spelling_of (alu_immediate (alu_number a) to i)) (insn.Alu a S64 (operand.Reg to) (operand.Imm i))
 alu_chosen a to i h k =
     let n = number_is a h in
     let some : takes_reg_field row.AluRmImm8 (alu_number a) ≡ true = rw n.1 refl in
-    by_test (λ f. Spells (spelling_of f) (insn.Alu a S64 (operand.Reg to) (operand.Imm i))) (fits_bytes 1 i) _ _
-    (λ e. (register_immediate 0x83 (alu_number a) to (signed_bytes 1 i), immediate_fields row.AluRmImm8 0x83 (alu_number a) to _ row_83 suits_8 n.0 some (λ s. are_bytes 1 (modulo (256 ^ 1) i)), refl, byte_means a to i h e))
-    (λ e. (register_immediate 0x81 (alu_number a) to (signed_bytes 4 i), immediate_fields row.AluRmImm32 0x81 (alu_number a) to _ row_81 suits_32 n.0 some (λ s. are_bytes 4 (modulo (256 ^ 4) i)), refl, word_means a to i h k))
+    cond_both (fits_bytes 1 i) _ _ (λ f. Spells (spelling_of f) (insn.Alu a S64 (operand.Reg to) (operand.Imm i)))
+    (λ e. (register_immediate 0x83 (alu_number a) to (signed_bytes 1 i), immediate_fields row.AluRmImm8 0x83 (alu_number a) to _ row_83 suits_8 n.0 some (λ s. are_bytes 1 (modulo i (256 ^ 1))), refl, byte_means a to i h e))
+    (λ e. (register_immediate 0x81 (alu_number a) to (signed_bytes 4 i), immediate_fields row.AluRmImm32 0x81 (alu_number a) to _ row_81 suits_32 n.0 some (λ s. are_bytes 4 (modulo i (256 ^ 4))), refl, word_means a to i h k))
 
 mov_chosen : (to : Reg) (i : ℤ) → fits_bytes 8 i ≡ true → Spells (spelling_of (mov_immediate to i)) (insn.Mov S64 (operand.Reg to) (operand.Imm i))
 mov_chosen to i k =
-    by_test (λ f. Spells (spelling_of f) (insn.Mov S64 (operand.Reg to) (operand.Imm i))) (fits_bytes 4 i) _ _
-    (λ e. (register_immediate 0xC7 0 to (signed_bytes 4 i), immediate_fields row.MovRmImm32 0xC7 0 to _ row_c7 suits_mov (omega arith) refl (λ s. are_bytes 4 (modulo (256 ^ 4) i)), refl, mov_word_means to i e))
-    (λ e. (register_in_opcode to (signed_bytes 8 i), wide_fields to _ (are_bytes 8 (modulo (256 ^ 8) i)), refl, wide_means to i k))
+    cond_both (fits_bytes 4 i) _ _ (λ f. Spells (spelling_of f) (insn.Mov S64 (operand.Reg to) (operand.Imm i)))
+    (λ e. (register_immediate 0xC7 0 to (signed_bytes 4 i), immediate_fields row.MovRmImm32 0xC7 0 to _ row_c7 suits_mov (omega arith) refl (λ s. are_bytes 4 (modulo i (256 ^ 4))), refl, mov_word_means to i e))
+    (λ e. (register_in_opcode to (signed_bytes 8 i), wide_fields to _ (are_bytes 8 (modulo i (256 ^ 8))), refl, wide_means to i k))
 
-alu_spells : (a : Alu) (size : Size) (to from : Operand) → (has_rows a && (is_64 size && are_operands 4 to from)) ≡ true → Spells (chosen_bytes (insn.Alu a size to from)) (insn.Alu a size to from)
+alu_spells : (a : Alu) (size : Size) (to from : Operand) → (has_rows a && (has_size size && are_operands 4 to from)) ≡ true → Spells (chosen_bytes (insn.Alu a size to from)) (insn.Alu a size to from)
 unfolding chosen_bytes
 alu_spells a S64 (operand.Reg to) (operand.Reg from) h =
-    let k = (both_parts _ _ h).0 in
+    let k = (and_parts _ _ h).0 in
     (two_registers (8 * alu_number a + 1) to from, two_fields (row.AluRmReg a) _ to from (alu_row a k) (alu_suits a) (λ n. refl) (λ s. (refl, refl)), refl, alu_means a to from k)
-alu_spells a S64 (operand.Reg to) (operand.Imm i) h = let k = both_parts _ _ h in alu_chosen a to i k.0 k.1
-alu_spells a size to from h = never _ ((both_parts _ _ h).1)
+alu_spells a S64 (operand.Reg to) (operand.Imm i) h = let k = and_parts _ _ h in alu_chosen a to i k.0 k.1
+alu_spells a size to from h = absurd (false≢true ((and_parts _ _ h).1))
 
-mov_spells : (size : Size) (to from : Operand) → (is_64 size && are_operands 8 to from) ≡ true → Spells (chosen_bytes (insn.Mov size to from)) (insn.Mov size to from)
+mov_spells : (size : Size) (to from : Operand) → (has_size size && are_operands 8 to from) ≡ true → Spells (chosen_bytes (insn.Mov size to from)) (insn.Mov size to from)
 unfolding chosen_bytes
 mov_spells S64 (operand.Reg to) (operand.Reg from) h = (two_registers 0x89 to from, two_fields row.MovRmReg 0x89 to from mov_row mov_suits (λ n. refl) (λ s. (refl, refl)), refl, mov_means to from)
 mov_spells S64 (operand.Reg to) (operand.Imm i) h = mov_chosen to i h
-mov_spells size to from h = never _ h
+mov_spells size to from h = absurd (false≢true h)
 
 pub chosen_spells : (i : Insn) → is_spelled i ≡ true → Spells (chosen_bytes i) i
 unfolding chosen_bytes
 chosen_spells (insn.Alu a size to from) h = alu_spells a size to from h
 chosen_spells (insn.Mov size to from) h = mov_spells size to from h
 chosen_spells insn.Ret h = (opcode_alone 0xC3, ret_fields, refl, ret_means)
-chosen_spells i h = never _ h
+chosen_spells i h = absurd (false≢true h)
 
 pub spelling_exists : (i : Insn) → is_spelled i ≡ true → HasSpelling i
 spelling_exists i h = (chosen_bytes i, chosen_spells i h)
 
 -- ---- and only these have a spelling
-size_so : (s : Size) → has_size s ≡ true → is_64 s ≡ true
-size_so S64 h = refl
-size_so s h = never _ h
-
 rows_alone : (e : Option ℕ) (o : ℕ) (a : Alu) → (row_of e o ≡ Some (row.AluRmReg a)) ⊎ (row_of e o ≡ Some (row.AluRegRm a)) → has_rows a ≡ true
 unfolding row_of
 rows_alone None o a h = grind (arith, nat_tests)
 rows_alone (Some b) o a h = ⊎_elim (λ k. cc) (λ k. cc) h
 
-named_by : (a b c : Bool) → has_rows (or_add (if a then Some alu.Add else if b then Some alu.Sub else if c then Some alu.Xor else None)) ≡ true
+named_by : (a b c : Bool) → has_rows (unwrap_or (if a then Some alu.Add else if b then Some alu.Sub else if c then Some alu.Xor else None) alu.Add) ≡ true
 named_by true b c = refl
 named_by false true c = refl
 named_by false false true = refl
 named_by false false false = refl
 
-named_rows : (n : ℕ) → has_rows (or_add (operation_of n)) ≡ true
+named_rows : (n : ℕ) → has_rows (unwrap_or (operation_of n) alu.Add) ≡ true
 unfolding operation_of
 named_rows n = named_by _ _ _
 
 spelled_row : (w : Row) (f : Fields) → row_of f.escape f.opcode ≡ Some w → allows w f.operand_size f.rex ≡ true → AreBytes (immediate_length w (size_of f.operand_size f.rex)) f.immediate → is_spelled (meaning w f) ≡ true
-spelled_row (row.AluRmReg a) f e h i = rw (rows_alone f.escape f.opcode a (inl e), size_so _ h) refl
-spelled_row (row.AluRegRm a) f e h i = rw (rows_alone f.escape f.opcode a (inr e), size_so _ h) refl
-spelled_row row.AluRmImm8 f e h i = both_of _ _ (named_rows _) (both_of _ _ (size_so _ h) (bytes_fit 1 4 128 f.immediate refl (omega arith) i))
-spelled_row row.AluRmImm32 f e h i = both_of _ _ (named_rows _) (both_of _ _ (size_so _ h) (bytes_fit 4 4 (2 ^ 31) f.immediate refl (omega arith) i))
-spelled_row row.MovRmReg f e h i = rw (size_so _ h) refl
-spelled_row row.MovRegRm f e h i = rw (size_so _ h) refl
-spelled_row row.MovRmImm32 f e h i = both_of _ _ (size_so _ h) (bytes_fit 4 8 (2 ^ 31) f.immediate refl (omega arith) i)
-spelled_row row.MovRegImm64 f e h i = both_of _ _ (size_so _ h) (bytes_fit 8 8 (2 ^ 63) f.immediate refl (omega arith) i)
+spelled_row (row.AluRmReg a) f e h i = rw (rows_alone f.escape f.opcode a (inl e), h) refl
+spelled_row (row.AluRegRm a) f e h i = rw (rows_alone f.escape f.opcode a (inr e), h) refl
+spelled_row row.AluRmImm8 f e h i = and_from _ _ (named_rows _) (and_from _ _ h (bytes_fit 1 4 128 f.immediate refl (omega arith) i))
+spelled_row row.AluRmImm32 f e h i = and_from _ _ (named_rows _) (and_from _ _ h (bytes_fit 4 4 (2 ^ 31) f.immediate refl (omega arith) i))
+spelled_row row.MovRmReg f e h i = rw h refl
+spelled_row row.MovRegRm f e h i = rw h refl
+spelled_row row.MovRmImm32 f e h i = and_from _ _ h (bytes_fit 4 8 (2 ^ 31) f.immediate refl (omega arith) i)
+spelled_row row.MovRegImm64 f e h i = and_from _ _ h (bytes_fit 8 8 (2 ^ 63) f.immediate refl (omega arith) i)
 spelled_row row.Ret f e h i = refl
 
 pub spelled_only : (i : Insn) → HasSpelling i → is_spelled i ≡ true

@@ -3,6 +3,4 @@ pub mod Immediates
 pub mod ChosenSpelling
 mod Examples
 pub mod Slots
-pub mod Sums
-pub mod MemoryEntries
-pub mod MemorySpans
+pub mod ResultFlags

@@ -1,5 +1,7 @@
 -- Registers and their numbers.
-use Rattle.std.proofs.Common.{◌≡◌, ◌<◌, refl, arith}
+use Rattle.std.proofs.Common.{◌≡◌, ℕ, ◌%◌, ◌^◌, ◌<◌, List, length, refl, sym, ap, ◌∙◌, arith}
+use Rattle.std.specs.Prelude.{slice_index, slice_set}
+use Rattle.std.proofs.lemmas.List.{get_or-set_same}
 use Rattle.x64_insn.specs.declared.types.Reg.{Reg}
 use Rattle.x64_insn.specs.declared.types.Reg.TheVariants as reg
 use Rattle.x64_insn.specs.Table.{number_of, reg_of}
@@ -40,3 +42,14 @@ number_small reg.R12 = omega arith
 number_small reg.R13 = omega arith
 number_small reg.R14 = omega arith
 number_small reg.R15 = omega arith
+
+-- a register is known by its number
+pub same_register : (q r : Reg) → number_of q ≡ number_of r → q ≡ r
+same_register q r e = sym (reg_of_number q) ∙ ap reg_of e ∙ reg_of_number r
+
+-- a register that was set holds the word
+pub word_same : (regs : List ℕ) (r : Reg) (w : ℕ) → length regs ≡ 16 → w < 2 ^ 64 → slice_index (slice_set regs (number_of r) w) (number_of r) % 2 ^ 64 ≡ w
+word_same regs r w size small =
+    let within : number_of r < length regs = omega (arith, number_small r, size) in
+    let e : slice_index (slice_set regs (number_of r) w) (number_of r) ≡ w = get_or-set_same regs (number_of r) w 0 within in
+    omega (arith, e, small)

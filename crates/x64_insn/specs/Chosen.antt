@@ -1,7 +1,6 @@
 -- The spelling that is chosen among those of an instruction.
-use Rattle.std.specs.Prelude.{ℕ, zero, suc, ◌+◌, ◌*◌, ◌/◌, ◌%◌, ◌-◌, ◌^◌, ℤ, pos, negsuc, ◌-ℤ◌, int_lt, Bool, true, false, not, ◌&&◌, if◌then◌else◌, Option, Some, None, List, [], ◌∷◌}
-use Rattle.jz_words.specs.declared.size.Size.{Size}
-use Rattle.jz_words.specs.declared.size.Size.TheVariants.{S64}
+use Rattle.std.specs.Prelude.{ℕ, zero, suc, ◌+◌, ◌*◌, ◌/◌, ◌%◌, ◌-◌, ◌^◌, ℤ, pos, ◌-ℤ◌, int_lt, Bool, true, false, not, ◌&&◌, if◌then◌else◌, Option, Some, None, List, [], ◌∷◌}
+use Rattle.jz_words.specs.Words.{modulo}
 use Rattle.x64_insn.specs.declared.types.Alu.{Alu}
 use Rattle.x64_insn.specs.declared.types.Alu.TheVariants as alu
 use Rattle.x64_insn.specs.declared.types.Reg.{Reg}
@@ -9,7 +8,7 @@ use Rattle.x64_insn.specs.declared.types.Operand.{Operand}
 use Rattle.x64_insn.specs.declared.types.Operand.TheVariants as operand
 use Rattle.x64_insn.specs.declared.types.Insn.{Insn}
 use Rattle.x64_insn.specs.declared.types.Insn.TheVariants as insn
-use Rattle.x64_insn.specs.Table.{number_of}
+use Rattle.x64_insn.specs.Table.{has_size, number_of}
 use Rattle.x64_insn.specs.Encoding.{Fields, spelling_of}
 
 -- the number of an operation in the opcodes of its rows
@@ -46,14 +45,9 @@ abbrev pub bytes_of_number : ℕ → ℕ → List ℕ
 bytes_of_number zero n = []
 bytes_of_number (suc k) n = n % 256 ∷ bytes_of_number k (n / 256)
 
--- a signed number modulo another
-abbrev pub modulo : ℕ → ℤ → ℕ
-modulo all (pos n) = n % all
-modulo all (negsuc n) = all - 1 - n % all
-
 -- so many bytes of a signed number
 abbrev pub signed_bytes : ℕ → ℤ → List ℕ
-signed_bytes k i = bytes_of_number k (modulo (256 ^ k) i)
+signed_bytes k i = bytes_of_number k (modulo i (256 ^ k))
 
 -- whether so many bytes can hold a signed number
 abbrev pub fits_bytes : ℕ → ℤ → Bool
@@ -119,11 +113,6 @@ has_rows alu.Sub = true
 has_rows alu.Xor = true
 has_rows other = false
 
--- whether a size is 64 bits
-abbrev pub is_64 : Size → Bool
-is_64 S64 = true
-is_64 other = false
-
 -- whether the operands are two registers, or a register and an immediate that so many bytes can hold
 abbrev pub are_operands : ℕ → Operand → Operand → Bool
 are_operands k (operand.Reg to) (operand.Reg from) = true
@@ -132,7 +121,7 @@ are_operands k to from = false
 
 -- ADD, SUB, XOR and MOV of 64 bits to a register, from a register or an immediate, of 64 bits for MOV and else of 32; and RET
 abbrev pub is_spelled : Insn → Bool
-is_spelled (insn.Alu alu size to from) = has_rows alu && (is_64 size && are_operands 4 to from)
-is_spelled (insn.Mov size to from) = is_64 size && are_operands 8 to from
+is_spelled (insn.Alu alu size to from) = has_rows alu && (has_size size && are_operands 4 to from)
+is_spelled (insn.Mov size to from) = has_size size && are_operands 8 to from
 is_spelled insn.Ret = true
 is_spelled other = false

@@ -1,5 +1,5 @@
 -- The spellings of instructions in bytes (Intel SDM vol. 2, chapter 2). Each byte is a number below 256.
-use Rattle.std.specs.Prelude.{◌≡◌, ◌<◌, ◌≤◌, ℕ, ◌+◌, ◌*◌, ◌%◌, ◌^◌, ℤ, pos, ◌-ℤ◌, Bool, true, false, ◌&&◌, ◌==◌, nat_lt, nat_le, if◌then◌else◌, Option, Some, None, is_some, IfSome, IsTrue, List, [], ◌∷◌, ◌++◌, length, take}
+use Rattle.std.specs.Prelude.{◌≡◌, ◌<◌, ◌≤◌, ℕ, ◌+◌, ◌*◌, ◌%◌, ◌^◌, ℤ, pos, ◌-ℤ◌, Bool, true, false, ◌&&◌, ◌==◌, nat_lt, nat_le, if◌then◌else◌, Option, Some, None, is_some, unwrap_or, IfSome, IsTrue, List, [], ◌∷◌, ◌++◌, length, take}
 use Rattle.std.specs.List.{list_all}
 use Rattle.std.specs.Option.{option_to_list}
 use Rattle.x64_insn.specs.declared.types.Alu.{Alu}
@@ -85,26 +85,21 @@ pub record AreFields (f : Fields) : Type 0 where
   pub immediate : AreBytes (immediate_length row (size_of f.operand_size f.rex)) f.immediate
 
 -- ---- what fields mean
--- a byte, or 0 where none stands
-abbrev pub or_zero : Option ℕ → ℕ
-or_zero None = 0
-or_zero (Some b) = b
+-- a byte of ModRM, 0 where none stands
+abbrev pub modrm_byte : Fields → ℕ
+modrm_byte f = unwrap_or f.modrm 0
 
 -- the register of ModRM's reg field, whose fourth bit is REX.R (2.2.1.2, figure 2-5)
 abbrev pub reg_of_modrm : Fields → Reg
-reg_of_modrm f = reg_of (8 * r_of f.rex + reg_field (or_zero f.modrm))
+reg_of_modrm f = reg_of (8 * r_of f.rex + reg_field (modrm_byte f))
 
 -- the operand of ModRM's rm field: a register, whose fourth bit is REX.B (2.2.1.2, figure 2-5)
 abbrev pub rm_of_modrm : Fields → Operand
-rm_of_modrm f = operand.Reg (reg_of (8 * b_of f.rex + rm_field (or_zero f.modrm)))
+rm_of_modrm f = operand.Reg (reg_of (8 * b_of f.rex + rm_field (modrm_byte f)))
 
--- the operation that ModRM's reg field names
-abbrev pub or_add : Option Alu → Alu
-or_add None = alu.Add
-or_add (Some a) = a
-
+-- the operation that ModRM's reg field names; a row that has one takes no other field
 abbrev pub operation_of_modrm : Fields → Alu
-operation_of_modrm f = or_add (operation_of (reg_field (or_zero f.modrm)))
+operation_of_modrm f = unwrap_or (operation_of (reg_field (modrm_byte f))) alu.Add
 
 -- the register in the lowest three bits of an opcode, whose fourth bit is REX.B (2.2.1.2, figure 2-7)
 abbrev pub reg_of_opcode : Fields → Reg

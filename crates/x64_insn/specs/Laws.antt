@@ -1,25 +1,61 @@
 -- The instruction table in the words of the manual.
-use Rattle.std.specs.Prelude.{◌≡◌, ◌≢◌, ◌↔◌, ◌<◌, ◌≤◌, ℕ, ◌+◌, ◌%◌, ◌^◌, true, ◌⊎◌, Some, None, pos, ◌+ℤ◌, ◌-ℤ◌, ◌<ℤ◌, ◌≤ℤ◌}
+use Rattle.std.specs.Prelude.{◌≡◌, ◌≢◌, ◌↔◌, ◌<◌, ◌≤◌, ℕ, ◌+◌, ◌%◌, ◌^◌, bit_xor, true, ◌⊎◌, Some, None, Ok, length, ℤ, pos, ◌+ℤ◌, ◌-ℤ◌, ◌<ℤ◌, ◌≤ℤ◌}
 use Rattle.std.specs.FinMap.{get}
 use Rattle.jz_words.specs.declared.size.Size.TheVariants.{S64}
 use Rattle.jz_words.specs.Sizes.{signed}
-use Rattle.jz_words.specs.Words.{has_even_ones}
+use Rattle.jz_words.specs.Words.{has_even_ones, residue}
 use Rattle.jz_words.specs.Memory.{Memory}
+use Rattle.x64_insn.specs.declared.types.Reg.{Reg}
+use Rattle.x64_insn.specs.declared.types.Operand.{Operand}
+use Rattle.x64_insn.specs.declared.types.Operand.TheVariants as operand
+use Rattle.x64_insn.specs.declared.types.Alu.{Alu}
+use Rattle.x64_insn.specs.declared.types.Insn.TheVariants as insn
 use Rattle.x64_insn.specs.declared.types.Flag.{Flag}
 use Rattle.x64_insn.specs.declared.types.Flag.TheVariants.{Of, Cf, Sf, Pf, Zf}
 use Rattle.x64_insn.specs.declared.types.FlagVal.TheVariants.{True, Undefined}
 use Rattle.x64_insn.specs.declared.types.State.{State}
-use Rattle.x64_insn.specs.Rows.{flag_of}
+use Rattle.x64_insn.specs.Rows.{After, effect_of, flag_of, reg_word}
 
 -- some byte of the n from an address on is not valid
 abbrev pub HasInvalidByte : Memory → ℕ → ℕ → Type 0
 HasInvalidByte m a n = (k : ℕ) × (k < n) × (get m ((a + k) % 2 ^ 64) ≡ None)
 
--- the flags say what they should of the sum of two words of 64 bits
-pub record ShowsSum (a b : ℕ) (st : State) : Type 0 where
-  pub overflow : (flag_of st Of ≡ Some True) ↔ (((signed S64 a +ℤ signed S64 b) <ℤ (pos 0 -ℤ pos (2 ^ 63))) ⊎ (pos (2 ^ 63) ≤ℤ (signed S64 a +ℤ signed S64 b)))
-  pub carry : (flag_of st Cf ≡ Some True) ↔ (2 ^ 64 ≤ a + b)
-  pub sign : (flag_of st Sf ≡ Some True) ↔ (2 ^ 63 ≤ (a + b) % 2 ^ 64)
-  pub parity : (flag_of st Pf ≡ Some True) ↔ (has_even_ones ((a + b) % 2 ^ 64) ≡ true)
-  pub zero : (flag_of st Zf ≡ Some True) ↔ ((a + b) % 2 ^ 64 ≡ 0)
+-- the word of 64 bits that an operand names, which is a register or an immediate
+abbrev pub IsWordOf : State → Operand → ℕ → Type 0
+IsWordOf st (operand.Reg r) b = reg_word st S64 r ≡ b
+IsWordOf st (operand.Imm i) b = residue S64 i ≡ b
+IsWordOf st (operand.Mem m) b = ⊥
+
+-- a signed number that no word of 64 bits stands for
+abbrev pub IsOutOfRange : ℤ → Type 0
+IsOutOfRange z = (z <ℤ (pos 0 -ℤ pos (2 ^ 63))) ⊎ (pos (2 ^ 63) ≤ℤ z)
+
+-- A register holds the word r, and the status flags say of it what they should (SDM vol. 1, 3.4.3.1): OF that it overflows, CF that it carries or
+-- borrows, SF its highest bit, PF that its lowest byte has an even number of ones, ZF that it is 0. None is undefined.
+pub record ShowsResult (to : Reg) (r : ℕ) (Overflows Carries IsZero : Type 0) (st : State) : Type 0 where
+  pub value : reg_word st S64 to ≡ r
+  pub overflow : (flag_of st Of ≡ Some True) ↔ Overflows
+  pub carry : (flag_of st Cf ≡ Some True) ↔ Carries
+  pub sign : (flag_of st Sf ≡ Some True) ↔ (2 ^ 63 ≤ r)
+  pub parity : (flag_of st Pf ≡ Some True) ↔ (has_even_ones r ≡ true)
+  pub zero : (flag_of st Zf ≡ Some True) ↔ IsZero
   pub defined : (f : Flag) → flag_of st f ≢ Some Undefined
+
+-- the sum of two words of 64 bits
+abbrev pub ShowsSum : Reg → ℕ → ℕ → State → Type 0
+ShowsSum to a b =
+    ShowsResult to ((a + b) % 2 ^ 64) (IsOutOfRange (signed S64 a +ℤ signed S64 b)) (2 ^ 64 ≤ a + b) ((a + b) % 2 ^ 64 ≡ 0)
+
+-- their difference, which borrows exactly where it is below 0
+abbrev pub ShowsDifference : Reg → ℕ → ℕ → State → Type 0
+ShowsDifference to a b =
+    ShowsResult to (residue S64 (pos a -ℤ pos b)) (IsOutOfRange (signed S64 a -ℤ signed S64 b)) (a < b) (a ≡ b)
+
+-- the bits in which they differ, which never overflow nor carry
+abbrev pub ShowsDifferentBits : Reg → ℕ → ℕ → State → Type 0
+ShowsDifferentBits to a b = ShowsResult to (bit_xor a b) ⊥ ⊥ (a ≡ b)
+
+-- an operation on a register and an operand that is no memory makes a step, after which this holds of the register, the two words and the state
+abbrev pub Leaves : Alu → (Reg → ℕ → ℕ → State → Type 0) → Type 0
+Leaves operation Shows = (to : Reg) (from : Operand) (b next : ℕ) (st : State) (m : Memory) → length st.regs ≡ 16 → IsWordOf st from b
+    → (after : After) × (effect_of (insn.Alu operation S64 (operand.Reg to) from) next st m ≡ Ok after) × Shows to (reg_word st S64 to) b after.state

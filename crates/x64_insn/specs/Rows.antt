@@ -20,6 +20,7 @@ use Rattle.x64_insn.specs.declared.types.State.{State}
 use Rattle.x64_insn.specs.declared.types.StepLeak.{StepLeak}
 use Rattle.x64_insn.specs.declared.types.FaultKind.{FaultKind}
 use Rattle.x64_insn.specs.declared.types.FaultKind.TheVariants.{NoInsn, BadAddress}
+use Rattle.x64_insn.specs.Table.{number_of}
 use Rattle.x64_insn.specs.Answers.{sum_answer, difference_answer, xor_answer}
 
 -- what an instruction leaves, and what its step shows
@@ -27,25 +28,6 @@ pub record After : Type 0 where
   pub state : State
   pub memory : Memory
   pub leak : StepLeak
-
--- the place of a register in a state
-abbrev pub number_of : Reg → ℕ
-number_of reg.Rax = 0
-number_of reg.Rcx = 1
-number_of reg.Rdx = 2
-number_of reg.Rbx = 3
-number_of reg.Rsp = 4
-number_of reg.Rbp = 5
-number_of reg.Rsi = 6
-number_of reg.Rdi = 7
-number_of reg.R8 = 8
-number_of reg.R9 = 9
-number_of reg.R10 = 10
-number_of reg.R11 = 11
-number_of reg.R12 = 12
-number_of reg.R13 = 13
-number_of reg.R14 = 14
-number_of reg.R15 = 15
 
 -- the place of a flag in a state
 abbrev pub place_of : Flag → ℕ
@@ -58,7 +40,7 @@ place_of Zf = 4
 abbrev pub flag_of : State → Flag → Option FlagVal
 flag_of st f = slice_get st.flags (place_of f)
 
--- a register's 64 bits
+-- a register's 64 bits: a state has the registers in the order of their numbers
 abbrev pub reg_value : State → Reg → ℕ
 reg_value st r = slice_index st.regs (number_of r)
 

@@ -81,10 +81,6 @@ has_w rex = nat_le 8 (rex_bits rex)
 abbrev pub r_of : Option ℕ → ℕ
 r_of rex = rex_bits rex / 4 % 2
 
--- the bit X
-abbrev pub x_of : Option ℕ → ℕ
-x_of rex = rex_bits rex / 2 % 2
-
 -- the bit B
 abbrev pub b_of : Option ℕ → ℕ
 b_of rex = rex_bits rex % 2

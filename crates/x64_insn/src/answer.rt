@@ -1,8 +1,8 @@
 //! The result of an operation on words, and the status flags that it leaves.
 
-ghost use Rattle.std.specs.Prelude.{◌≡◌, ◌<◌, ◌≤ℤ◌, ◌+ℤ◌, ◌-ℤ◌, pos, negsuc, ◌^◌};
+ghost use Rattle.std.specs.Prelude.{◌≡◌, ◌<◌, ◌≤ℤ◌, ◌+ℤ◌, ◌-ℤ◌, pos};
 ghost use Rattle.jz_words.specs.declared.size.Size.TheVariants.{S64};
-ghost use Rattle.jz_words.specs.Sizes.{half, modulus, signed};
+ghost use Rattle.jz_words.specs.Sizes.{modulus, signed};
 ghost use Rattle.jz_words.specs.Words.{carried};
 ghost use Rattle.x64_insn.specs.Answers.{flag, overflows, flags_of, sum_answer, difference_answer, xor_answer};
 
@@ -22,40 +22,12 @@ fn flag(set: bool) -> FlagVal
     if set { FlagVal::True } else { FlagVal::False }
 }
 
-// The least word whose sign is minus.
-fn half(size: Size) -> u64
-    ensures { result ≡ half size }
-{
-    match size {
-        Size::S8 => 1 << 7,
-        Size::S16 => 1 << 15,
-        Size::S32 => 1 << 31,
-        Size::S64 => 1 << 63,
-    }
-}
-
-// A word as a signed number.
-#[tactic(auto, unfolding(jz_words::specs::Sizes::signed))]
-fn signed(word: Word) -> i128
-    ensures value { result ≡ signed word.size word.bits }
-    ensures low { negsuc (2 ^ 63) ≤ℤ result }
-    ensures high { result ≤ℤ pos (2 ^ 63) }
-{
-    let half = half(word.size());
-    let bits = word.bits() as i128;
-    if word.bits() < half {
-        bits
-    } else {
-        bits - 2 * half as i128
-    }
-}
-
 // Whether no signed word of the size is this number.
 #[tactic(auto, unfolding(crate::specs::Answers::overflows))]
 fn overflows(size: Size, value: i128) -> bool
     ensures { result ≡ overflows size value }
 {
-    let half = half(size) as i128;
+    let half = size.half() as i128;
     value < -half || half <= value
 }
 
@@ -66,7 +38,7 @@ fn flags_of(overflow: bool, carry: bool, word: Word) -> [FlagVal; 5]
     [
         flag(overflow),
         flag(carry),
-        flag(half(word.size()) <= word.bits()),
+        flag(word.size().half() <= word.bits()),
         flag(parity(word)),
         flag(word.bits() == 0),
     ]
@@ -85,7 +57,7 @@ fn carried(c: bool) -> i128
 fn signed_sum(a: Word, b: Word, c: bool) -> i128
     ensures { result ≡ (signed a.size a.bits +ℤ signed b.size b.bits) +ℤ pos (carried c) }
 {
-    signed(a) + signed(b) + carried(c)
+    a.signed() + b.signed() + carried(c)
 }
 
 /// The sum of two words of one size and a carry.
@@ -107,7 +79,7 @@ pub(crate) fn sum_answer(a: Word, b: Word, c: bool) -> Answer
 fn signed_difference(a: Word, b: Word, c: bool) -> i128
     ensures { result ≡ (signed a.size a.bits -ℤ signed b.size b.bits) -ℤ pos (carried c) }
 {
-    signed(a) - signed(b) - carried(c)
+    a.signed() - b.signed() - carried(c)
 }
 
 /// The difference of two words of one size and a borrow.

@@ -4,25 +4,19 @@ ghost use Rattle.std.specs.Prelude.{◌≡◌, ◌<◌};
 ghost use Rattle.jz_words.specs.declared.size.Size.TheVariants.{S64};
 ghost use Rattle.jz_words.specs.Sizes.{modulus};
 ghost use Rattle.jz_words.specs.Words.{residue};
-ghost use Rattle.x64_insn.specs.Rows.{Did, effect_of, alu_row, mov_row, answer_row, ret_row, merged, reg_value, reg_word, with_reg};
+ghost use Rattle.x64_insn.specs.Rows.{Did, effect_of, alu_row, mov_row, answer_row, ret_row, merged, reg_word, with_reg};
 
 use crate::answer::{Answer, difference_answer, sum_answer, xor_answer};
 use crate::bus::Bus;
 use crate::types::{Alu, FaultKind, Insn, Operand, Reg, State, StepLeak};
 use jz_words::{Size, Word};
 
-fn reg_value(state: &State, reg: Reg) -> u64
-    ensures { result ≡ reg_value state.now reg }
-{
-    state.regs[reg as usize]
-}
-
 // The lowest bits of a register.
 fn reg_word(state: &State, size: Size, reg: Reg) -> Word
     ensures size { result.size ≡ size }
     ensures bits { result.bits ≡ reg_word state.now size reg }
 {
-    Word::truncate(size, reg_value(state, reg))
+    Word::truncate(size, state.reg(reg))
 }
 
 // A register after a write of a size.
@@ -41,7 +35,7 @@ fn set_reg(state: &mut State, size: Size, reg: Reg, value: u64)
     requires { value < modulus size }
     ensures { state.new ≡ with_reg state.old size reg value }
 {
-    let old = state.regs[reg as usize];
+    let old = state.reg(reg);
     state.regs[reg as usize] = merged(size, old, value);
 }
 
@@ -129,7 +123,7 @@ fn alu<B: Bus>(
 fn ret<B: Bus>(state: &mut State, bus: &B) -> Result<StepLeak, FaultKind>
     ensures { Did (ret_row state.old (B.bytes bus.now)) result state.old state.new (B.bytes bus.now) (B.bytes bus.now) }
 {
-    let rsp = reg_value(state, Reg::Rsp);
+    let rsp = state.reg(Reg::Rsp);
     let Some(target) = bus.load(rsp, Size::S64) else {
         return Err(FaultKind::BadAddress);
     };

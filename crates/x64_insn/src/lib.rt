@@ -12,7 +12,10 @@ mod types;
 
 pub use bus::Bus;
 pub use effects::effect;
-pub use laws::{add_shows_its_sum, bad_address_is_an_invalid_slot, faults_change_nothing};
+pub use laws::{
+    add_shows_its_sum, bad_address_is_an_invalid_slot, faults_change_nothing,
+    sub_shows_its_difference, xor_shows_different_bits,
+};
 pub use types::{
     Alu, Base, Cond, Count, FaultKind, Flag, FlagVal, Insn, Mem, One, Operand, Place, Reg, Shift,
     State, StepLeak, Wide, Width,

@@ -186,6 +186,18 @@ pub struct State {
     pub flags: [FlagVal; 5],
 }
 
+impl State {
+    ghost use Rattle.std.specs.Prelude.{◌≡◌};
+    ghost use Rattle.x64_insn.specs.Rows.{reg_value};
+
+    /// The 64 bits of a register.
+    pub fn reg(&self, reg: Reg) -> u64
+        ensures { result ≡ reg_value self.now reg }
+    {
+        self.regs[reg as usize]
+    }
+}
+
 /// What a step shows: whether a branch was taken, the address of a memory access, and high word, low word and divisor of a division.
 #[derive(Clone, Copy, PartialEq, Eq, Debug)]
 pub struct StepLeak {

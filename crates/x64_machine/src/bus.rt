@@ -1,7 +1,5 @@
 //! The memory of a machine behind a bus.
 
-ghost use Rattle.std.specs.Prelude.{◌≡◌};
-
 use jz_leak::MemMap;
 use jz_words::Size;
 use x64_insn::Bus;

@@ -44,7 +44,7 @@ impl Machine {
     ) -> Result<Machine, AllocError>
         ensures { IfOk result (λ machine. Starts machine code.now base state mem) }
     {
-        let entry_rsp = state.regs[Reg::Rsp as usize];
+        let entry_rsp = state.reg(Reg::Rsp);
         let entry_return = mem.load(entry_rsp, Size::S64);
         Ok(Machine {
             code: Seq::from_slice(alloc, code)?,
@@ -78,7 +78,7 @@ impl Machine {
     fn is_at_entry(&self) -> bool
         ensures { result ≡ at_entry (config_of self.now) }
     {
-        if self.state.regs[Reg::Rsp as usize] != self.entry_rsp {
+        if self.state.reg(Reg::Rsp) != self.entry_rsp {
             return false;
         }
         match self.mem.load(self.entry_rsp, Size::S64) {

@@ -1,10 +1,10 @@
-//! A run to the return, and a fault outside the code.
+//! A run to the return, a fault outside the code, and RET as a processor does it.
 
-use crate::{Machine, Step};
+use crate::{Machine, MemBus, Step};
 use jz_leak::MemMap;
 use std::alloc::{AllocError, Global};
 use std::test::Fail;
-use x64_insn::{FaultKind, FlagVal, State};
+use x64_insn::{FaultKind, FlagVal, Insn, State, effect};
 
 /// `mov rax, rdi`, `add rax, rsi` and `ret`.
 const SUM: [u8; 7] = [0x48, 0x89, 0xf8, 0x48, 0x01, 0xf0, 0xc3];
@@ -41,5 +41,51 @@ fn faults_outside_the_code(rt: HostRuntime) -> Result<(), Fail> {
     let mut machine = machine(rt.alloc(), BASE + 7)?;
     assert_eq!(rt; machine.run(3), Step::Fault(FaultKind::NoInsn));
     assert_eq!(rt; machine.state.rip, BASE + 7);
+    Ok(())
+}
+
+// The bytes 88 77 66 55 44 33 22 11 from an address on, also over the last address.
+fn slot(alloc: Global, at: u64) -> Result<MemMap, AllocError> {
+    let mut map = MemMap::new(alloc);
+    map.add(at, &[0x88, 0x77, 0x66, 0x55])?;
+    map.add(at.wrapping_add(4), &[0x44, 0x33, 0x22, 0x11])?;
+    Ok(map)
+}
+
+fn at_stack_pointer(rsp: u64) -> State {
+    State {
+        regs: [0, 0, 0, 0, rsp, 0, 0, 0, 0, 0, 0, 0, 0, 0, 0, 0],
+        rip: BASE,
+        flags: [FlagVal::Undefined; 5],
+    }
+}
+
+#[test]
+fn ret_takes_the_address_off_the_stack(rt: HostRuntime) -> Result<(), Fail> {
+    for (rsp, after) in [(0x7fff_0000, 0x7fff_0008), (0xffff_ffff_ffff_fffc, 4)] {
+        let mut state = at_stack_pointer(rsp);
+        let mut memory = MemBus {
+            map: slot(rt.alloc(), rsp)?,
+        };
+        match effect(&Insn::Ret, BASE + 1, &mut state, &mut memory) {
+            Ok(leak) => assert_eq!(rt; leak.addr, Some(rsp)),
+            Err(_) => assert!(rt; false),
+        }
+        assert_eq!(rt; state.rip, 0x1122_3344_5566_7788);
+        assert_eq!(rt; state.regs[4], after);
+    }
+    Ok(())
+}
+
+#[test]
+fn ret_faults_at_a_slot_that_is_not_whole(rt: HostRuntime) -> Result<(), Fail> {
+    let mut state = at_stack_pointer(0x7fff_0001);
+    let before = state;
+    let mut memory = MemBus {
+        map: slot(rt.alloc(), 0x7fff_0000)?,
+    };
+    let answer = effect(&Insn::Ret, BASE + 1, &mut state, &mut memory);
+    assert!(rt; answer == Err(FaultKind::BadAddress));
+    assert!(rt; state == before);
     Ok(())
 }

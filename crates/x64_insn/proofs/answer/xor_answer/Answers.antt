@@ -1,5 +1,5 @@
 -- Words of 64 bits differ in 64 bits at most.
-use Rattle.std.proofs.Common.{ℕ, ◌<◌, subst}
+use Rattle.std.proofs.Common.{◌<◌, subst}
 use Rattle.std.proofs.lemmas.Nat.{xor_lt}
 use Rattle.jz_words.specs.Sizes.{modulus}
 use Rattle.x64_insn.proofs.answer.xor_answer.Goals as goal

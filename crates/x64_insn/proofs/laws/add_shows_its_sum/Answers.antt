@@ -1,4 +1,4 @@
-use Rattle.x64_insn.proofs.Sums.{add_shows}
+use Rattle.x64_insn.proofs.ResultFlags.{add_shows}
 use Rattle.x64_insn.proofs.laws.add_shows_its_sum.Goals as goal
 
 pub returns : goal.returns

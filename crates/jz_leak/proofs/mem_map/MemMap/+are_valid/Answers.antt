@@ -1,6 +1,6 @@
 use Rattle.std.proofs.Common.{◌≡◌, ◌<◌, arith, sym, ap, ◌∙◌}
 use Rattle.std.specs.Prelude.{is_some}
-use Rattle.jz_leak.proofs.MemorySpans.{none_valid, not_valid, more_valid}
+use Rattle.jz_words.proofs.MemorySpans.{none_valid, not_valid, more_valid}
 use Rattle.jz_leak.proofs.mem_map.MemMap.+are_valid.Goals as goal
 
 pub returns-then-count-eq0 : goal.returns-then-count-eq0

@@ -1,7 +1,7 @@
 use Rattle.std.proofs.Common.{◌≡◌, ◌<◌, ◌+◌, ◌-◌, ◌%◌, ◌^◌, ◌/◌, arith, refl, sym, ap, ◌∙◌, if◌then◌else◌}
 use Rattle.std.specs.FinMap.{insert}
 use Rattle.jz_words.specs.Memory.{Memory, stored, all_valid}
-use Rattle.jz_leak.proofs.MemorySpans.{stored_more, all_valid_after, valid_parts}
+use Rattle.jz_words.proofs.MemorySpans.{stored_more, all_valid_after, valid_parts}
 use Rattle.jz_leak.proofs.mem_map.MemMap.+store_bytes.Goals as goal
 
 pub returns-then-count-eq0 : goal.returns-then-count-eq0

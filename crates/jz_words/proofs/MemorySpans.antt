@@ -1,11 +1,15 @@
--- Bytes one after the other.
+-- Loads, writes and tests of bytes that stand one after the other.
 use Rattle.std.proofs.Common.{◌≡◌, ℕ, zero, suc, ◌+◌, ◌-◌, ◌*◌, ◌/◌, ◌%◌, ◌^◌, ◌<◌, ◌≤◌, Ordering, Bool, true, false, cond, refl, sym, ap, ◌∙◌, arith}
-use Rattle.std.specs.Prelude.{Some, None, is_some, ◌&&◌}
+use Rattle.std.specs.Prelude.{Some, None, is_some}
 use Rattle.std.specs.declared.cmp.Ordering.TheVariants.{Less, Equal, Greater}
 use Rattle.std.specs.Ordering.{nat_cmp, is_eq, eq_by_cmp}
 use Rattle.std.specs.Cmp.{nat_cmp_total}
 use Rattle.std.specs.FinMap.{get, insert, get-insert, nat_cmp-IsAntisymmetric}
 use Rattle.std.proofs.Math.Nat.{pow-le-pow_right}
+use Rattle.std.proofs.lemmas.Bool.{and_parts}
+use Rattle.jz_words.specs.declared.size.Size.{Size}
+use Rattle.jz_words.specs.declared.size.Size.TheVariants.{S8, S16, S32, S64}
+use Rattle.jz_words.specs.Sizes.{bytes_of}
 use Rattle.jz_words.specs.Memory.{Memory, loaded, all_valid, stored}
 
 less_one : (n : ℕ) → suc n - 1 ≡ n
@@ -26,12 +30,13 @@ unfolding loaded
 loaded_some m a zero b high lt e h = absurd (omega arith)
 loaded_some m a (suc n) b high lt e h = let k = rw (less_one n) at h in rw e (rw k refl)
 
-pub seven : (x n : ℕ) → x < 256 ^ n → n ≤ 7 → x < 256 ^ 7
-seven x n h le = omega (arith, pow-le-pow_right {n = 256} (omega arith) le)
+-- a number of at most seven bytes
+pub fits_seven_bytes : (x n : ℕ) → x < 256 ^ n → n ≤ 7 → x < 256 ^ 7
+fits_seven_bytes x n h le = omega (arith, pow-le-pow_right {n = 256} (omega arith) le)
 
-pub one_more : (b high n : ℕ) → 0 < n → b < 256 → high < 256 ^ (n - 1) → b + 256 * high < 256 ^ n
-one_more b high zero lt h k = absurd (omega arith)
-one_more b high (suc n) lt h k = let j = rw (less_one n) at k in let e : 256 ^ suc n ≡ 256 * 256 ^ n = grind arith in omega (arith, j, e)
+pub fits_one_more : (b high n : ℕ) → 0 < n → b < 256 → high < 256 ^ (n - 1) → b + 256 * high < 256 ^ n
+fits_one_more b high zero lt h k = absurd (omega arith)
+fits_one_more b high (suc n) lt h k = let j = rw (less_one n) at k in let e : 256 ^ suc n ≡ 256 * 256 ^ n = grind arith in omega (arith, j, e)
 
 pub none_valid : (m : Memory) (a : ℕ) → all_valid m a 0 ≡ true
 unfolding all_valid
@@ -47,14 +52,10 @@ unfolding all_valid
 more_valid m a zero lt e = absurd (omega arith)
 more_valid m a (suc n) lt e = rw (less_one n) (rw e refl)
 
-both_true : (b c : Bool) → (b && c) ≡ true → (b ≡ true) × (c ≡ true)
-both_true true c h = (refl, h)
-both_true false c h = (h, cc)
-
 pub valid_parts : (m : Memory) (a n : ℕ) → 0 < n → all_valid m a n ≡ true → (is_some (get m a) ≡ true) × (all_valid m ((a + 1) % 2 ^ 64) (n - 1) ≡ true)
 unfolding all_valid
 valid_parts m a zero lt h = absurd (omega arith)
-valid_parts m a (suc n) lt h = rw (less_one n) (both_true _ _ h)
+valid_parts m a (suc n) lt h = rw (less_one n) (and_parts _ _ h)
 
 pub stored_more : (m : Memory) (a n v : ℕ) → 0 < n → stored m a n v ≡ stored (insert m a (v % 256)) ((a + 1) % 2 ^ 64) (n - 1) (v / 256)
 unfolding stored
@@ -78,3 +79,10 @@ pub all_valid_after : (m : Memory) (a v q n : ℕ) → is_some (get m a) ≡ tru
 unfolding all_valid
 all_valid_after m a v q zero h = refl
 all_valid_after m a v q (suc n) h = rw (valid_after m a v q h) (rw (all_valid_after m a v ((q + 1) % 2 ^ 64) n h) refl)
+
+-- a word has a byte
+pub has_a_byte : (s : Size) → 0 < bytes_of s
+has_a_byte S8 = omega arith
+has_a_byte S16 = omega arith
+has_a_byte S32 = omega arith
+has_a_byte S64 = omega arith
