@@ -26,20 +26,20 @@ impl Model for Bits {
 }
 
 impl Bits {
-    /// The empty set, for numbers below `n`.
-    pub fn new(alloc: Global, n: usize) -> Result<Bits, AllocError>
-        ensures wide { IfOk result (λ b. length b ≡ n / 64 + 1) }
-        ensures empty { IfOk result (λ b. (w : ℕ) → has b w ≡ false) }
+    /// The empty set, with a bit for each number up to `bound`.
+    pub fn new(alloc: Global, bound: usize) -> Result<Bits, AllocError>
+        ensures wide { IfOk result (λ bits. length bits ≡ bound / 64 + 1) }
+        ensures empty { IfOk result (λ bits. (number : ℕ) → has bits number ≡ false) }
     {
         Ok(Bits {
-            words: vec![in alloc; 0; n / 64 + 1]?,
+            words: vec![in alloc; 0; bound / 64 + 1]?,
         })
     }
 
     /// An empty set as wide as this one.
     pub fn empty_like(&self, alloc: Global) -> Result<Bits, AllocError>
-        ensures wide { IfOk result (λ b. length b ≡ length self.now) }
-        ensures empty { IfOk result (λ b. (w : ℕ) → has b w ≡ false) }
+        ensures wide { IfOk result (λ bits. length bits ≡ length self.now) }
+        ensures empty { IfOk result (λ bits. (number : ℕ) → has bits number ≡ false) }
     {
         Ok(Bits {
             words: vec![in alloc; 0; self.words.len()]?,
@@ -47,38 +47,38 @@ impl Bits {
     }
 
     /// Whether the number is in the set; one that the row has no bit for is not.
-    pub fn contains(&self, v: usize) -> bool
-        ensures { result ≡ has self.now v }
+    pub fn contains(&self, number: usize) -> bool
+        ensures { result ≡ has self.now number }
     {
-        match self.words.get(v / 64) {
-            Some(word) => (word >> (v % 64)) & 1 == 1,
+        match self.words.get(number / 64) {
+            Some(word) => (word >> (number % 64)) & 1 == 1,
             None => false,
         }
     }
 
     /// Adds a number that the row has a bit for.
-    pub fn insert(&mut self, v: usize)
-        requires { v / 64 < length self.old }
+    pub fn insert(&mut self, number: usize)
+        requires { number / 64 < length self.old }
         ensures wide { length self.new ≡ length self.old }
-        ensures set { (w : ℕ) → has self.new w ≡ (nat_eq w v || has self.old w) }
+        ensures set { (other : ℕ) → has self.new other ≡ (nat_eq other number || has self.old other) }
     {
-        self.words[v / 64] |= 1 << (v % 64);
+        self.words[number / 64] |= 1 << (number % 64);
     }
 
     /// Takes a number out.
-    pub fn remove(&mut self, v: usize)
-        requires { v / 64 < length self.old }
+    pub fn remove(&mut self, number: usize)
+        requires { number / 64 < length self.old }
         ensures wide { length self.new ≡ length self.old }
-        ensures set { (w : ℕ) → has self.new w ≡ (not (nat_eq w v) && has self.old w) }
+        ensures set { (other : ℕ) → has self.new other ≡ (not (nat_eq other number) && has self.old other) }
     {
-        self.words[v / 64] &= !(1 << (v % 64));
+        self.words[number / 64] &= !(1 << (number % 64));
     }
 
     /// Adds the numbers of another set.
     pub fn union(&mut self, other: &Bits)
         requires { length other.now ≡ length self.old }
         ensures wide { length self.new ≡ length self.old }
-        ensures set { (w : ℕ) → has self.new w ≡ (has self.old w || has other.now w) }
+        ensures set { (number : ℕ) → has self.new number ≡ (has self.old number || has other.now number) }
     {
         for i in 0..self.words.len() {
             self.words[i] |= other.words[i];
@@ -100,7 +100,7 @@ impl Bits {
 
     /// Another set of the same numbers.
     pub fn copy(&self, alloc: Global) -> Result<Bits, AllocError>
-        ensures { IfOk result (λ b. b ≡ self.now) }
+        ensures { IfOk result (λ bits. bits ≡ self.now) }
     {
         Ok(Bits {
             words: self.words.as_slice().to_vec(alloc)?,
