@@ -1,6 +1,6 @@
 -- Code is bytes.
-use Rattle.std.proofs.Common.{◌≡◌, ℕ, zero, suc, ◌+◌, ◌*◌, ◌/◌, ◌%◌, ◌^◌, ◌<◌, ◌≤◌, Bool, true, false, List, [], ◌∷◌, ◌++◌, refl, arith, lit<}
-use Rattle.std.specs.Prelude.{ℤ, Option, Some, None, if◌then◌else◌, slice_index, ⊤}
+use Rattle.std.proofs.Common.{ℕ, zero, suc, ◌/◌, ◌^◌, ◌<◌, Bool, true, false, List, [], ◌∷◌, ◌++◌, arith, lit<}
+use Rattle.std.specs.Prelude.{ℤ, Some, None, if◌then◌else◌, slice_index, ⊤}
 use Rattle.jz_words.specs.declared.size.Size.TheVariants.{S64}
 use Rattle.x64_insn.specs.declared.types.Reg.{Reg}
 use Rattle.x64_insn.specs.declared.types.Alu.{Alu}
@@ -10,7 +10,6 @@ use Rattle.x64_insn.specs.declared.types.Insn.TheVariants as insn
 use Rattle.x64_insn.specs.declared.types.Operand.TheVariants as operand
 use Rattle.x64_insn.specs.Encoding.{spelling_of}
 use Rattle.x64_insn.specs.Chosen.{bytes_of_number, modulo, signed_bytes, fits_bytes, alu_number, register_immediate, register_in_opcode, chosen_bytes}
-use Rattle.x64_insn.specs.Table.{number_of}
 use Rattle.x64_insn.proofs.Registers.{number_small}
 use Rattle.jz_tree.specs.declared.Fun.{Fun}
 use Rattle.jz_tree.specs.declared.Expr.TheVariants as expr

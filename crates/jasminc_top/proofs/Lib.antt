@@ -1,5 +1,4 @@
 pub mod Numerals
-pub mod Following
 pub mod ArgumentRegisters
 pub mod Begun
 pub mod Causes
@@ -13,7 +12,6 @@ pub mod CodeLengths
 pub mod ByteCodes
 pub mod StartLaws
 pub mod ListableTexts
-pub mod FrameLaws
 pub mod Rows
 pub mod Headline
 pub mod ExecHeadline

@@ -1,18 +1,16 @@
 -- The start of `exec` is a start, and the run from it ends.
-use Rattle.std.proofs.Common.{◌≡◌, ℕ, zero, suc, ◌+◌, ◌-◌, ◌*◌, ◌%◌, ◌^◌, ◌<◌, ◌≤◌, Bool, true, false, List, [], ◌∷◌, ◌++◌, length, refl, sym, ap, ◌∙◌, arith, subst, lit<, lit≤, ◌⊎◌, ⊎_elim, length-append}
+use Rattle.std.proofs.Common.{◌≡◌, ℕ, zero, suc, ◌+◌, ◌-◌, ◌*◌, ◌%◌, ◌^◌, ◌<◌, ◌≤◌, Bool, true, false, List, [], ◌∷◌, length, refl, sym, ap, ◌∙◌, arith, subst, lit<, ◌⊎◌, ⊎_elim, length-append}
 use Rattle.std.proofs.lemmas.Bool.{le-ltb}
-use Rattle.std.proofs.lemmas.List.{get_or-set_same, length-set}
-use Rattle.std.specs.Prelude.{Option, Some, None, IsSome, is_some, slice_index, slice_set, slice_get, nat_lt, if◌then◌else◌, map, Contains, replicate, ⊤}
+use Rattle.std.proofs.lemmas.List.{length-set}
+use Rattle.std.specs.Prelude.{Option, Some, None, is_some, slice_index, slice_set, slice_get, nat_lt, if◌then◌else◌, map, replicate, ⊤}
 use Rattle.std.specs.FinMap as map_of
 use Rattle.std.specs.Ordering.{nat_cmp}
 use Rattle.jz_leak.specs.MemoryMap.{byte_from, or_else}
-use Rattle.jz_words.specs.declared.size.Size.TheVariants.{S64}
 use Rattle.jz_words.specs.Memory.{Memory, loaded}
 use Rattle.x64_insn.specs.declared.types.Reg.{Reg}
 use Rattle.x64_insn.specs.declared.types.Reg.TheVariants as reg
 use Rattle.x64_insn.specs.declared.types.FlagVal.TheVariants.{Undefined}
 use Rattle.x64_insn.specs.declared.types.State.{State}
-use Rattle.x64_insn.specs.declared.types.Insn.{Insn}
 use Rattle.x64_insn.specs.declared.types.Insn.TheVariants as insn
 use Rattle.x64_insn.specs.Rows.{reg_value, number_of}
 use Rattle.jz_tree.specs.declared.Program.{Program}
@@ -21,42 +19,22 @@ use Rattle.jz_tree.specs.declared.Var.{Var}
 use Rattle.jz_tree.specs.declared.Stmt.{Stmt}
 use Rattle.jz_tree.specs.declared.StmtKind.{StmtKind}
 use Rattle.jz_tree.specs.declared.StmtKind.TheVariants as kind
-use Rattle.jz_meaning.specs.RunRules.{End}
 use Rattle.jz_meaning.specs.SourceRuns.{FunOutcome, IsInput, IsRun}
 use Rattle.jz_meaning.proofs.SourceLaws.{fun_some}
 use Rattle.jz_safety.specs.Alarms.{HasNoAlarm}
 use Rattle.jz_safety.specs.Resolved.{IsResolved}
 use Rattle.jz_safety.proofs.Telling.{safe_ends}
-use Rattle.x64_machine.specs.Steps.{Config, steps_of}
-use Rattle.jz_correct.specs.Registers.{argument_registers, result_registers}
-use Rattle.jz_correct.specs.Assembled.{assembled}
-use Rattle.jz_correct.specs.Ends.{EndsAfter}
+use Rattle.jz_correct.specs.Registers.{argument_registers}
 use Rattle.jz_correct.specs.Starts.{IsIn, IsValid, AreOfSizes, MeetsPreconditions, IsStart, Stand, stack_at}
 use Rattle.jz_correct.specs.Correctness.{EndsSo, IsCorrect}
 use Rattle.jz_lower.specs.Lowering.{kind_insns, insns_of}
 use Rattle.jz_lower.specs.Placing.{variable_of}
-use Rattle.jz_lower.proofs.Stores.{word_same, number_below}
+use Rattle.jz_lower.proofs.Stores.{word_same}
 use Rattle.jz_pipeline.specs.Compiling.{lines_of, code_insns, compiled_of}
 use Rattle.jasminc_top.specs.Running.{code_base, return_slot, with_numbers, bare_registers, start_state, IsStartMemory, exec_start, EndsWithin}
-use Rattle.jasminc_top.proofs.ExecStart.{AreWords, is_far, placed-other, placed-length, placed-words, bare_words, slot_holds}
+use Rattle.jasminc_top.proofs.ExecStart.{AreWords, is_far, placed-other, placed-length, placed-words, bare_words}
 use Rattle.jasminc_top.specs.Running.{ItemsFit}
 use Rattle.jasminc_top.proofs.CodeLengths.{code_short}
-
--- ---- runs
--- a run ends once
-pub one_end : (code : List ℕ) (base j k : ℕ) (c : Config) → EndsAfter code base c j → EndsAfter code base c k → j ≡ k
-one_end code base j k c h g = by_order (order j k)
-  where
-    order : (j k : ℕ) → (j < k) ⊎ ((k < j) ⊎ (j ≡ k))
-    order j k = grind arith
-
-    clash : (b : Bool) → b ≡ true → b ≡ false → ⊥
-    clash b e f = cc
-
-    by_order : (j < k) ⊎ ((k < j) ⊎ (j ≡ k)) → j ≡ k
-    by_order o =
-        ⊎_elim (λ lt. let a = h.ended in let b = g.before j lt in absurd (clash _ a b))
-        (⊎_elim (λ lt. let a = g.ended in let b = h.before k lt in absurd (clash _ a b)) (λ e. e)) o
 
 -- ---- the start of `exec`
 zero_at : (n i : ℕ) → i < n → slice_get {X = ℕ} (replicate n 0) i ≡ Some 0

@@ -9,6 +9,8 @@ mod halt;
 mod language_tests;
 mod lines;
 mod refusal;
+#[cfg(test)]
+mod refusal_tests;
 mod run;
 mod starts;
 #[cfg(test)]
@@ -17,4 +19,4 @@ mod words;
 
 pub use refusal::{Refusal, Status};
 pub use run::{Done, jasminc_run};
-pub use starts::{exec_is_a_start, frame_is_least, one_end};
+pub use starts::exec_is_a_start;
