@@ -217,5 +217,5 @@ static ROWS: [Row; 27] = [
 
 #[test]
 fn answers_each_text(rt: HostRuntime) -> Result<(), Fail> {
-    answer_rows(rt, &ROWS)
+    answer_rows(&rt, rt.alloc(), &ROWS)
 }

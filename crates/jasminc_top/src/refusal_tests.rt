@@ -213,7 +213,7 @@ static ROWS: [Row; 29] = [
 
 #[test]
 fn each_row_is_answered(rt: HostRuntime) -> Result<(), Fail> {
-    answer_rows(rt, &ROWS)
+    answer_rows(&rt, rt.alloc(), &ROWS)
 }
 
 /// A function of so many statements.

@@ -5,6 +5,7 @@ use jz_data::Seq;
 use jz_io::{MemSink, MemSource};
 use jz_listing::Compiled;
 use std::alloc::{AllocError, Global};
+use std::process::Abort;
 use std::test::Fail;
 
 pub(crate) const SUM: &[u8] =
@@ -78,9 +79,9 @@ pub(crate) struct Row {
 pub(crate) const COMPILE: &[&str] = &["jasminc", "compile", "add.jazz"];
 
 /// Each row's answer. A name that is missed is the one fault of a source that lists none.
-pub(crate) fn answer_rows(rt: HostRuntime, rows: &[Row]) -> Result<(), Fail> {
+pub(crate) fn answer_rows(rt: &impl Abort, alloc: Global, rows: &[Row]) -> Result<(), Fail> {
     for (i, row) in rows.iter().enumerate() {
-        let ran = run(rt.alloc(), row.words, row.text, &NO_FAULTS)?;
+        let ran = run(alloc, row.words, row.text, &NO_FAULTS)?;
         let missed = if row.status == Status::ReadFault {
             1
         } else {
@@ -268,7 +269,7 @@ static ROWS: [Row; 22] = [
 
 #[test]
 fn answers_each_command(rt: HostRuntime) -> Result<(), Fail> {
-    answer_rows(rt, &ROWS)
+    answer_rows(&rt, rt.alloc(), &ROWS)
 }
 
 #[test]
