@@ -1,24 +1,21 @@
 -- Causes, and what excludes them.
-use Rattle.std.proofs.Common.{◌≡◌, ℕ, ◌<◌, ◌≤◌, List, [], ◌∷◌, length, ◌∙◌, arith, Option, Some, None, subst, ap, sym, refl}
+use Rattle.std.proofs.Common.{◌≡◌, ℕ, ◌<◌, ◌≤◌, List, length, ◌∙◌, arith, subst, ap, sym}
 use Rattle.jz_lex.specs.declared.token.Token.{Token}
 use Rattle.jz_lex.specs.declared.token.LexFault.{LexFault}
 use Rattle.jz_parse.specs.declared.fault.SyntaxFault.{SyntaxFault}
 use Rattle.jz_types.specs.declared.fault.TypeFault.{TypeFault}
 use Rattle.jz_tree.specs.declared.Program.{Program}
-use Rattle.jz_tree.specs.declared.Fun.{Fun}
-use Rattle.jasminc_top.specs.declared.refusal.Refusal.{Refusal}
 use Rattle.jasminc_top.specs.declared.refusal.Refusal.TheVariants.{Usage, Source, Lex, Parse, Typing, NoFunction, Limit, Alarm, NoPlace, Items}
 use Rattle.jz_lex.specs.Lexing.{IsLexed, HasNoToken}
 use Rattle.jz_parse.specs.Deriving.{DerivesProgram, IsUnexpected}
 use Rattle.jz_parse.specs.Reading.{Reads, LexFails, ParseFails}
-use Rattle.jz_types.specs.Rules.{IsTyped, IsFirstTypeFault, faults_of}
+use Rattle.jz_types.specs.Rules.{IsTyped, faults_of}
 use Rattle.jz_types.specs.Resolving.{resolved}
 use Rattle.jz_pass.specs.Limits.{IsFirstLimit}
 use Rattle.jz_safety.specs.Alarms.{IsFirstAlarm}
 use Rattle.jz_pipeline.specs.Placed.{IsUnplaced}
-use Rattle.jz_pipeline.specs.Stages.{IsFirstRefusal}
-use Rattle.jasminc_top.specs.Making.{TypesAs, AreMade, Makes}
-use Rattle.jasminc_top.specs.Answers.{source_limit, function_named, TextCause, ExecCause, FailsTyping, HasFirst, HasNoFunction, HasOtherItems, Clear, IsFirstCause}
+use Rattle.jasminc_top.specs.Making.{TypesAs}
+use Rattle.jasminc_top.specs.Answers.{source_limit, TextCause, ExecCause, FailsTyping, HasFirst, HasNoFunction, HasOtherItems, Clear}
 use Rattle.jz_lex.proofs.LexingUnique.{one_lexing, lexed_or_refused}
 use Rattle.jz_parse.proofs.Faults.{one_program_law, no_fault_law}
 use Rattle.jz_types.proofs.FirstLemmas.{no_first}
@@ -98,13 +95,6 @@ pub record ExcludesRun (text fun items : List ℕ) (n : ℕ) : Type 0 where
   pub counted : 9 < n → HasOtherItems text fun items → ⊥
 
 pub clear_run : (text fun items : List ℕ) (n : ℕ) → ExcludesRun text fun items n → Clear (ExecCause fun items text) n
-clear_run text fun items n e Usage lt c = c
-clear_run text fun items n e Source lt c = clear_text text n e.texts Source lt c
-clear_run text fun items n e (Lex f) lt c = e.texts.lexer f lt c
-clear_run text fun items n e (Parse f) lt c = e.texts.parser f lt c
-clear_run text fun items n e (Typing f) lt c = e.texts.typing f lt c
 clear_run text fun items n e (NoFunction name) lt c = e.named name lt c
-clear_run text fun items n e (Limit l) lt c = e.texts.limits l lt c
-clear_run text fun items n e (Alarm a) lt c = e.texts.safety a lt c
-clear_run text fun items n e (NoPlace r) lt c = e.texts.places r lt c
 clear_run text fun items n e Items lt c = e.counted lt c
+clear_run text fun items n e r lt c = clear_text text n e.texts r lt c

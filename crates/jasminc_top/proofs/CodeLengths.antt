@@ -1,6 +1,6 @@
 -- How long code is.
-use Rattle.std.proofs.Common.{◌≡◌, ℕ, ◌+◌, ◌*◌, ◌≤◌, Bool, true, false, List, [], ◌∷◌, ◌++◌, length, refl, ap, ◌∙◌, arith, lit≤, length-append}
-use Rattle.std.specs.Prelude.{ℤ, Option, Some, None, if◌then◌else◌}
+use Rattle.std.proofs.Common.{◌≡◌, ℕ, ◌+◌, ◌*◌, ◌≤◌, Bool, true, false, List, [], ◌∷◌, ◌++◌, length, ap, arith, lit≤, length-append}
+use Rattle.std.specs.Prelude.{ℤ, Some, None, if◌then◌else◌}
 use Rattle.std.proofs.lemmas.List.{append-nil}
 use Rattle.jz_words.specs.declared.size.Size.TheVariants.{S64}
 use Rattle.x64_insn.specs.declared.types.Reg.{Reg}
@@ -11,7 +11,6 @@ use Rattle.x64_insn.specs.declared.types.Operand.TheVariants as operand
 use Rattle.x64_insn.specs.Encoding.{spelling_of}
 use Rattle.x64_insn.specs.Chosen.{signed_bytes, fits_bytes, alu_number, register_immediate, register_in_opcode, chosen_bytes}
 use Rattle.jz_tree.specs.declared.Fun.{Fun}
-use Rattle.jz_tree.specs.declared.BinOp.{BinOp}
 use Rattle.jz_tree.specs.declared.Expr.TheVariants as expr
 use Rattle.jz_tree.specs.declared.Lval.TheVariants as lval
 use Rattle.jz_tree.specs.declared.Rhs.TheVariants as rhs
@@ -20,7 +19,7 @@ use Rattle.jz_tree.specs.declared.StmtKind.{StmtKind}
 use Rattle.jz_tree.specs.declared.StmtKind.TheVariants as kind
 use Rattle.jz_correct.specs.Assembled.{assembled}
 use Rattle.jz_lower.specs.Lowering.{insns_of, kind_insns}
-use Rattle.jz_pipeline.specs.Compiling.{code_insns, compiled_of}
+use Rattle.jz_pipeline.specs.Compiling.{compiled_of}
 
 -- ---- an instruction has at most ten bytes
 alu_reg_short : (a : Alu) (to from : Reg) → length (chosen_bytes (insn.Alu a S64 (operand.Reg to) (operand.Reg from))) ≤ 10

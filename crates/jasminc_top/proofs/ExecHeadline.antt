@@ -1,7 +1,5 @@
 -- A run that is printed is that of a correct function, from a start.
-use Rattle.std.proofs.Common.{◌≡◌, ◌∙◌, ℕ, suc, ◌<◌, get_or, ◌^◌, Bool, true, false, if◌then◌else◌, List, [], ◌∷◌, length, map, Option, Some, None, refl, sym, ap, subst, inl, inr, arith}
-use Rattle.std.specs.FinMap as map_of
-use Rattle.std.specs.Str.{bytes_eq}
+use Rattle.std.proofs.Common.{◌≡◌, ◌∙◌, ℕ, suc, ◌<◌, get_or, ◌^◌, List, [], ◌∷◌, length, Option, Some, None, refl, sym, ap, subst, inl, inr, arith}
 use Rattle.std.specs.Io.KnownBytes.{Appends}
 use Rattle.jz_io.specs.Telling.{Telling}
 use Rattle.jasminc_top.specs.Words.{Wanted, compile, exec, wanted}
@@ -24,16 +22,15 @@ use Rattle.jz_pipeline.proofs.Linked.{compiled_correct}
 use Rattle.jasminc_top.specs.Making.{TypesAs, Makes}
 use Rattle.jasminc_top.specs.Answers.{HasFile, IsDue, IsDone, Gives, GivesRun, RunsOne, ExecCause, Clear, function_named, compiled_named, step_limit}
 use Rattle.jasminc_top.specs.Refusals.{all_stages}
-use Rattle.jasminc_top.specs.Running.{EndsWithin, RunsTo, IsStartMemory, code_base, return_slot, exec_start}
-use Rattle.jz_correct.specs.Starts.{MeetsPreconditions, IsStart}
+use Rattle.jasminc_top.specs.Running.{EndsWithin, RunsTo}
 use Rattle.jasminc_top.specs.Runs.{Due, Runs}
-use Rattle.jz_correct.specs.Correctness.{IsCorrect, AreCorrect}
+use Rattle.jz_correct.specs.Correctness.{IsCorrect}
 use Rattle.jasminc_top.specs.Headline.{PrintsRun, Executes}
 use Rattle.jasminc_top.proofs.Headline.{never_ok, same_command}
 use Rattle.jasminc_top.specs.Running.{ItemsFit}
 use Rattle.jasminc_top.proofs.ItemsFit.{items_fit}
 use Rattle.jasminc_top.proofs.StartLaws.{exec_starts, words_meet, ends_within}
-use Rattle.jasminc_top.proofs.TypedTexts.{text_typed, fun_placeable, fun_resolved, FoundWith, found_with}
+use Rattle.jasminc_top.proofs.TypedTexts.{text_typed, fun_placeable, fun_resolved, found_with}
 
 -- ---- items are arguments
 pub slice_fits : (items : List ℕ) → ((i : ℕ) → get_or items i 0 < 2 ^ 64) → ItemsFit items

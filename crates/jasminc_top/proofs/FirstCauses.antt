@@ -1,24 +1,23 @@
 -- Which cause is the first, and when none stands.
-use Rattle.std.proofs.Common.{◌≡◌, ℕ, ◌<◌, ◌≤◌, List, [], ◌∷◌, ◌++◌, length, ◌∙◌, arith, Option, Some, None, subst, ap, sym, refl}
-use Rattle.std.specs.Prelude.{All, Contains}
+use Rattle.std.proofs.Common.{◌≡◌, ℕ, ◌<◌, ◌≤◌, List, [], ◌∷◌, ◌++◌, length, ◌∙◌, arith, Some, None, subst, ap, refl}
+use Rattle.std.specs.Prelude.{All}
 use Rattle.std.proofs.lemmas.List.Elements.{All-nil, All-cons, All-weaker, All-contains, Contains-append_right, Contains-append_left}
 use Rattle.jz_tree.specs.declared.Program.{Program}
 use Rattle.jz_tree.specs.declared.Fun.{Fun}
-use Rattle.jz_lex.specs.declared.token.LexFault.{LexFault}
 use Rattle.jz_parse.specs.declared.fault.SyntaxFault.{SyntaxFault}
 use Rattle.jz_types.specs.declared.fault.TypeFault.{TypeFault}
 use Rattle.jz_listing.specs.declared.compiled.Compiled.{Compiled}
 use Rattle.jz_listing.specs.Listing.{listing_text}
-use Rattle.jz_parse.specs.Reading.{LexFails, ParseFails}
+use Rattle.jz_parse.specs.Reading.{ParseFails}
 use Rattle.jz_pass.specs.Limits.{IsWithinLimits, IsFirstLimit}
 use Rattle.jz_safety.specs.Alarms.{HasNoAlarm, IsFirstAlarm}
-use Rattle.jz_pipeline.specs.Placed.{IsUnplaced, IsCompiled, AreCompiled}
+use Rattle.jz_pipeline.specs.Placed.{IsUnplaced, AreCompiled}
 use Rattle.jz_pipeline.specs.Stages.{HasNone, IsFirstRefusal}
 use Rattle.jz_pass.proofs.LimitLemmas.{none_within}
 use Rattle.jz_safety.proofs.Alarming as alarming
 use Rattle.jz_pipeline.proofs.Linked.{not_both}
 use Rattle.jasminc_top.specs.declared.refusal.Refusal.{Refusal}
-use Rattle.jasminc_top.specs.declared.refusal.Refusal.TheVariants.{Usage, Source, Lex, Parse, Typing, NoFunction, Limit, Alarm, NoPlace, Items}
+use Rattle.jasminc_top.specs.declared.refusal.Refusal.TheVariants.{Lex, Parse, Typing, NoFunction, Limit, Alarm, NoPlace, Items}
 use Rattle.jasminc_top.specs.declared.refusal.Status.{Status}
 use Rattle.jasminc_top.specs.declared.refusal.Status.TheVariants as status
 use Rattle.jasminc_top.specs.declared.halt.Halt.{Halt}
@@ -26,9 +25,9 @@ use Rattle.jasminc_top.specs.declared.halt.Halt.TheVariants.{Refused, Stopped}
 use Rattle.jasminc_top.specs.declared.halt.Stop.TheVariants as stop
 use Rattle.jasminc_top.specs.Words.{compile, exec}
 use Rattle.jasminc_top.specs.Refusals.{stage_of, all_stages}
-use Rattle.jasminc_top.specs.Making.{TypesAs, AreMade, Makes}
+use Rattle.jasminc_top.specs.Making.{TypesAs, AreMade}
 use Rattle.jasminc_top.specs.Answers.{source_limit, function_named, TextCause, ExecCause, FailsTyping, HasFirst, HasNoFunction, HasOtherItems, Clear, IsFirstCause, ReadingHalts, MakingHalts, TextHalts, RunsOne, IsDone}
-use Rattle.jasminc_top.proofs.Causes.{reads_no_lex, reads_no_parse, fails_no_lex, types_one, types_no_fault, Excludes, ExcludesRun, clear_text, clear_run}
+use Rattle.jasminc_top.proofs.Causes.{reads_no_lex, reads_no_parse, fails_no_lex, types_one, types_no_fault, Excludes, clear_text, clear_run}
 
 -- ---- functions without a refusal of a kind
 none_first : {A : Type 0} (OfKind : Fun → A → Type 0) (funs : List Fun) (a : A) → All (HasNone OfKind) funs → IsFirstRefusal OfKind funs a → ⊥
@@ -108,27 +107,15 @@ first_of_text : (text : List ℕ) (r : Refusal) → Excludes text (stage_of r) �
 first_of_text text r e c = record { cause = c; first = clear_text text (stage_of r) e }
 
 pub reading_halts : (text : List ℕ) (h : Halt) → length text ≤ source_limit → ReadingHalts text h → TextHalts (TextCause text) h
-reading_halts text (Refused Usage) short c = absurd c
-reading_halts text (Refused Source) short c = absurd c
 reading_halts text (Refused (Lex f)) short c = first_of_text text (Lex f) (before_lexer text short) c
 reading_halts text (Refused (Parse f)) short c = first_of_text text (Parse f) (before_parser text f short c) c
 reading_halts text (Refused (Typing f)) short c = first_of_text text (Typing f) (before_typing text f short c) c
-reading_halts text (Refused (NoFunction name)) short c = absurd c
-reading_halts text (Refused (Limit l)) short c = absurd c
-reading_halts text (Refused (Alarm a)) short c = absurd c
-reading_halts text (Refused (NoPlace r)) short c = absurd c
-reading_halts text (Refused Items) short c = absurd c
+reading_halts text (Refused r) short c = absurd c
 reading_halts text (Stopped stop.Fault) short c = absurd c
 reading_halts text (Stopped stop.Memory) short c = tt
 
 -- ---- a typed text whose functions are not all compiled
 pub making_halts : (text : List ℕ) (p : Program) (h : Halt) → length text ≤ source_limit → TypesAs text p → MakingHalts p.funs h → TextHalts (TextCause text) h
-making_halts text p (Refused Usage) short t c = absurd c
-making_halts text p (Refused Source) short t c = absurd c
-making_halts text p (Refused (Lex f)) short t c = absurd c
-making_halts text p (Refused (Parse f)) short t c = absurd c
-making_halts text p (Refused (Typing f)) short t c = absurd c
-making_halts text p (Refused (NoFunction name)) short t c = absurd c
 making_halts text p (Refused (Limit l)) short t c =
     first_of_text text (Limit l) (excludes text p 6 short t (λ lt. absurd (omega (arith, lt))) (λ lt. absurd (omega (arith, lt))) (λ lt. absurd (omega (arith, lt))))
     (record { program = p; types = t; first = c })
@@ -138,7 +125,7 @@ making_halts text p (Refused (Alarm a)) short t c =
 making_halts text p (Refused (NoPlace r)) short t c =
     first_of_text text (NoPlace r) (excludes text p 8 short t (λ lt. c.0) (λ lt. c.1) (λ lt. absurd (omega (arith, lt))))
     (record { program = p; types = t; first = c.2 })
-making_halts text p (Refused Items) short t c = absurd c
+making_halts text p (Refused r) short t c = absurd c
 making_halts text p (Stopped stop.Fault) short t c = absurd c
 making_halts text p (Stopped stop.Memory) short t c = tt
 
@@ -149,31 +136,18 @@ first_of_run : (text fun items : List ℕ) (r : Refusal) → ExecCause fun items
 first_of_run text fun items r c clear named counted = record { cause = c; first = earlier (stage_of r) clear named counted }
   where
     earlier : (n : ℕ) → Clear (TextCause text) n → (5 < n → (name : List ℕ) → HasNoFunction text fun name → ⊥) → (9 < n → HasOtherItems text fun items → ⊥) → Clear (ExecCause fun items text) n
-    earlier n clear named counted Usage lt k = k
-    earlier n clear named counted Source lt k = clear Source lt k
-    earlier n clear named counted (Lex f) lt k = clear (Lex f) lt k
-    earlier n clear named counted (Parse f) lt k = clear (Parse f) lt k
-    earlier n clear named counted (Typing f) lt k = clear (Typing f) lt k
     earlier n clear named counted (NoFunction name) lt k = named lt name k
-    earlier n clear named counted (Limit l) lt k = clear (Limit l) lt k
-    earlier n clear named counted (Alarm a) lt k = clear (Alarm a) lt k
-    earlier n clear named counted (NoPlace m) lt k = clear (NoPlace m) lt k
     earlier n clear named counted Items lt k = counted lt k
+    earlier n clear named counted r lt k = clear r lt k
 
 pub exec_reading_halts : (text fun items : List ℕ) (h : Halt) → length text ≤ source_limit → ReadingHalts text h → TextHalts (ExecCause fun items text) h
-exec_reading_halts text fun items (Refused Usage) short c = absurd c
-exec_reading_halts text fun items (Refused Source) short c = absurd c
 exec_reading_halts text fun items (Refused (Lex f)) short c =
     first_of_run text fun items (Lex f) c (clear_text text 2 (before_lexer text short)) (λ lt. absurd (omega (arith, lt))) (λ lt. absurd (omega (arith, lt)))
 exec_reading_halts text fun items (Refused (Parse f)) short c =
     first_of_run text fun items (Parse f) c (clear_text text 3 (before_parser text f short c)) (λ lt. absurd (omega (arith, lt))) (λ lt. absurd (omega (arith, lt)))
 exec_reading_halts text fun items (Refused (Typing f)) short c =
     first_of_run text fun items (Typing f) c (clear_text text 4 (before_typing text f short c)) (λ lt. absurd (omega (arith, lt))) (λ lt. absurd (omega (arith, lt)))
-exec_reading_halts text fun items (Refused (NoFunction name)) short c = absurd c
-exec_reading_halts text fun items (Refused (Limit l)) short c = absurd c
-exec_reading_halts text fun items (Refused (Alarm a)) short c = absurd c
-exec_reading_halts text fun items (Refused (NoPlace r)) short c = absurd c
-exec_reading_halts text fun items (Refused Items) short c = absurd c
+exec_reading_halts text fun items (Refused r) short c = absurd c
 exec_reading_halts text fun items (Stopped stop.Fault) short c = absurd c
 exec_reading_halts text fun items (Stopped stop.Memory) short c = tt
 
@@ -191,12 +165,6 @@ function_first text fun items p short t none =
 
 pub exec_making_halts : (text fun items : List ℕ) (p : Program) (f : Fun) (h : Halt) → length text ≤ source_limit → TypesAs text p → function_named fun p.funs ≡ Some f → MakingHalts p.funs h
     → TextHalts (ExecCause fun items text) h
-exec_making_halts text fun items p f (Refused Usage) short t found c = absurd c
-exec_making_halts text fun items p f (Refused Source) short t found c = absurd c
-exec_making_halts text fun items p f (Refused (Lex g)) short t found c = absurd c
-exec_making_halts text fun items p f (Refused (Parse g)) short t found c = absurd c
-exec_making_halts text fun items p f (Refused (Typing g)) short t found c = absurd c
-exec_making_halts text fun items p f (Refused (NoFunction name)) short t found c = absurd c
 exec_making_halts text fun items p f (Refused (Limit l)) short t found c =
     let h = making_halts text p (Refused (Limit l)) short t c in
     first_of_run text fun items (Limit l) h.cause h.first (λ lt name. has_function text fun name p f t found) (λ lt. absurd (omega (arith, lt)))
@@ -206,7 +174,7 @@ exec_making_halts text fun items p f (Refused (Alarm a)) short t found c =
 exec_making_halts text fun items p f (Refused (NoPlace r)) short t found c =
     let h = making_halts text p (Refused (NoPlace r)) short t c in
     first_of_run text fun items (NoPlace r) h.cause h.first (λ lt name. has_function text fun name p f t found) (λ lt. absurd (omega (arith, lt)))
-exec_making_halts text fun items p f (Refused Items) short t found c = absurd c
+exec_making_halts text fun items p f (Refused r) short t found c = absurd c
 exec_making_halts text fun items p f (Stopped stop.Fault) short t found c = absurd c
 exec_making_halts text fun items p f (Stopped stop.Memory) short t found c = tt
 

@@ -11,7 +11,6 @@ use Rattle.jasminc_top.specs.declared.refusal.Refusal.TheVariants.{Usage, Source
 use Rattle.jasminc_top.specs.Refusals.{status_of}
 use Rattle.jasminc_top.specs.Answers.{IsDue, IsDone, Gives, GivesListing}
 use Rattle.jasminc_top.specs.Runs.{Due, Runs}
-use Rattle.jz_correct.specs.Correctness.{AreCorrect}
 use Rattle.jasminc_top.specs.Headline.{PrintsCorrect, Compiles}
 use Rattle.jasminc_top.proofs.TypedTexts.{text_correct}
 

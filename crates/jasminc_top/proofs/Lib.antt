@@ -1,5 +1,4 @@
 pub mod Numerals
-pub mod Following
 pub mod ArgumentRegisters
 pub mod Begun
 pub mod Causes

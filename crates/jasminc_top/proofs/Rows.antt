@@ -1,12 +1,12 @@
 -- The rows of the table of causes, from the whole meaning of a run.
-use Rattle.std.proofs.Common.{◌≡◌, ◌⊎◌, ℕ, ◌<◌, ◌≤◌, inl, inr, List, sym, ◌∙◌, subst, arith, Option, Some, None}
+use Rattle.std.proofs.Common.{◌≡◌, ◌⊎◌, ℕ, ◌<◌, ◌≤◌, inl, inr, List, sym, ap, ◌∙◌, subst, arith, Option, Some, None}
 use Rattle.jz_io.specs.Telling.{Telling, text_of, IsWhole}
 use Rattle.jasminc_top.specs.Words.{Wanted, file_of}
 use Rattle.jz_listing.specs.declared.compiled.Compiled.{Compiled}
 use Rattle.jasminc_top.specs.declared.refusal.Status.{Status}
 use Rattle.jasminc_top.specs.declared.refusal.Status.TheVariants as status
 use Rattle.jasminc_top.specs.declared.refusal.Refusal.{Refusal}
-use Rattle.jasminc_top.specs.declared.refusal.Refusal.TheVariants.{Usage, Source, Lex, Parse, Typing, NoFunction, Limit, Alarm, NoPlace, Items}
+use Rattle.jasminc_top.specs.declared.refusal.Refusal.TheVariants.{Usage, Source}
 use Rattle.jasminc_top.specs.Refusals.{status_of, stage_of}
 use Rattle.jasminc_top.specs.Answers.{Cause, HasText, IsDue, IsUsage, IsNoCommand}
 use Rattle.jasminc_top.specs.Runs.{Due, Runs, ReadsAll, Refuses, Completes, IsFree, IsGiven, IsEarlier, Tells}
@@ -85,21 +85,12 @@ run_completes wish old new before now out out2 w w2 s m h = elim h.wrote [
 
 -- ---- what was read
 -- words that are no command are refused as such
-usage_alone : (text : List ℕ) (r : Refusal) (s : Status) → IsUsage r → s ≡ status_of r → s ≡ status.Usage
-usage_alone text Usage s c e = e
-usage_alone text Source s c e = absurd c
-usage_alone text (Lex f) s c e = absurd c
-usage_alone text (Parse f) s c e = absurd c
-usage_alone text (Typing f) s c e = absurd c
-usage_alone text (NoFunction name) s c e = absurd c
-usage_alone text (Limit l) s c e = absurd c
-usage_alone text (Alarm a) s c e = absurd c
-usage_alone text (NoPlace n) s c e = absurd c
-usage_alone text Items s c e = absurd c
+usage_alone : (r : Refusal) (s : Status) → IsUsage r → s ≡ status_of r → s ≡ status.Usage
+usage_alone r s c e = e ∙ ap status_of c
 
 no_command : (wish : Option Wanted) (old new : Option Telling) (s : Status) (output : List ℕ) (made : List Compiled) → IsDue wish old new s output made → IsNoCommand wish → s ≡ status.Usage
 no_command None old new s output made d none = elim d.answers [
-  | inl x ↦ usage_alone d.text x.refusal s x.cause x.status
+  | inl x ↦ usage_alone x.refusal s x.cause x.status
   | inr x ↦ let e : None ≡ Some x.command = x.is in cc
 ]
 no_command (Some wish) old new s output made d none = absurd none

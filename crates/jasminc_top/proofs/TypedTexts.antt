@@ -1,29 +1,26 @@
 -- What holds of the functions of a typed text, and of what is made of them.
-use Rattle.std.proofs.Common.{◌≡◌, ℕ, ◌<◌, ◌≤◌, List, [], ◌∷◌, ◌++◌, length, Bool, true, false, if◌then◌else◌, Option, Some, None, refl, sym, ap, ◌∙◌, subst, arith}
+use Rattle.std.proofs.Common.{◌≡◌, ℕ, List, [], ◌∷◌, Bool, true, false, if◌then◌else◌, Option, Some, refl, sym, ap, ◌∙◌, subst, arith}
 use Rattle.std.specs.Prelude.{All, Contains, map}
 use Rattle.std.specs.Str.{bytes_eq}
-use Rattle.std.proofs.lemmas.List.Elements.{All-nil, All-cons, All-head, All-tail, All-map, All-weaker, All-contains, Contains-append_left, Contains-append_right}
+use Rattle.std.proofs.lemmas.List.Elements.{All-nil, All-cons, All-head, All-tail, All-contains, Contains-append_left, Contains-append_right}
 use Rattle.jz_lex.specs.declared.token.Token.{Token}
 use Rattle.jz_tree.specs.declared.Program.{Program}
 use Rattle.jz_tree.specs.declared.Fun.{Fun}
-use Rattle.jz_tree.specs.declared.Stmt.{Stmt}
-use Rattle.jz_tree.specs.declared.StmtKind.{StmtKind}
 use Rattle.jz_parse.specs.Deriving.{DerivesProgram}
 use Rattle.jz_parse.specs.Reading.{Reads}
 use Rattle.jz_parse.specs.Derived.{AssignsToOne, DeclaresWords}
 use Rattle.jz_parse.proofs.Assigning.{statements_one}
 use Rattle.jz_parse.proofs.Declaring.{words_declared}
-use Rattle.jz_types.specs.Rules.{IsTyped}
 use Rattle.jz_types.specs.Resolving.{resolved, resolved_fun}
-use Rattle.jz_types.specs.TypedPrograms.{HaveDifferentNames, HaveDeclarations, HaveCounts, HasCounts}
+use Rattle.jz_types.specs.TypedPrograms.{HaveDifferentNames, HaveDeclarations, HaveCounts}
 use Rattle.jz_types.proofs.TypedLemmas as typed
 use Rattle.jz_types.proofs.ResolvedLemmas.{typed_resolved, resolved_stays}
 use Rattle.jz_pass.specs.Limits.{IsWithinLimits}
 use Rattle.jz_safety.specs.Alarms.{HasNoAlarm}
-use Rattle.jz_safety.specs.Resolved.{HasOneLeftSide, HaveOneLeftSide, IsResolved}
+use Rattle.jz_safety.specs.Resolved.{IsResolved}
 use Rattle.jz_safety.proofs.Declaring as declaring
 use Rattle.jz_listing.specs.declared.compiled.Compiled.{Compiled}
-use Rattle.jz_correct.specs.Correctness.{CarriesOver, IsCorrect, AreCorrect}
+use Rattle.jz_correct.specs.Correctness.{CarriesOver, AreCorrect}
 use Rattle.jz_pipeline.specs.Placed.{IsPlaceable, IsCompiled, AreCompiled}
 use Rattle.jz_pipeline.proofs.Linked.{compiled_correct, one_compiled}
 use Rattle.jz_pipeline.proofs.Placeable.{placeable}

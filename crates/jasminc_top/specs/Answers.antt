@@ -39,6 +39,7 @@ step_limit = 1000000
 abbrev pub function_named : List ℕ → List Fun → Option Fun
 function_named name funs = find (λ f. bytes_eq f.name name) funs
 
+-- the first of what was made with this name
 abbrev pub compiled_named : List ℕ → List Compiled → Option Compiled
 compiled_named name made = find (λ c. bytes_eq c.name name) made
 
@@ -86,18 +87,11 @@ pub record HasOtherItems (text fun items : List ℕ) : Type 0 where
 abbrev pub ExecCause : List ℕ → List ℕ → List ℕ → Refusal → Type 0
 ExecCause fun items text (NoFunction name) = HasNoFunction text fun name
 ExecCause fun items text Items = HasOtherItems text fun items
-ExecCause fun items text Usage = ⊥
-ExecCause fun items text Source = TextCause text Source
-ExecCause fun items text (Lex fault) = TextCause text (Lex fault)
-ExecCause fun items text (Parse fault) = TextCause text (Parse fault)
-ExecCause fun items text (Typing fault) = TextCause text (Typing fault)
-ExecCause fun items text (Limit limit) = TextCause text (Limit limit)
-ExecCause fun items text (Alarm alarm) = TextCause text (Alarm alarm)
-ExecCause fun items text (NoPlace refusal) = TextCause text (NoPlace refusal)
+ExecCause fun items text r = TextCause text r
 
+-- words that are no command have one cause, whatever the text
 abbrev pub IsUsage : Refusal → Type 0
-IsUsage Usage = ⊤
-IsUsage _ = ⊥
+IsUsage r = r ≡ Usage
 
 abbrev pub Cause : Option Wanted → List ℕ → Refusal → Type 0
 Cause None text = IsUsage

@@ -53,13 +53,13 @@ unfoldable pub limit_name : LimitKind → List ℕ
 limit_name Expand = codes "Expand"
 limit_name ImmRange = codes "ImmRange"
 
--- the number of statements is told by the function's name, a constant by its place
-abbrev pub limit_of : LimitKind → List ℕ → Span → List ℕ
-limit_of Expand fun at = fun
-limit_of ImmRange fun at = span_text at
+-- what passes the limit: a function is told by its name, a constant by its place
+abbrev pub limit_subject : LimitKind → List ℕ → Span → List ℕ
+limit_subject Expand fun at = fun
+limit_subject ImmRange fun at = span_text at
 
 abbrev pub limit_line : Limit → List ℕ
-limit_line l = codes "limit " ++ limit_name l.kind ++ codes " " ++ limit_of l.kind l.fun l.span
+limit_line l = codes "limit " ++ limit_name l.kind ++ codes " " ++ limit_subject l.kind l.fun l.span
 
 unfoldable pub reason_name : Reason → List ℕ
 reason_name reason.Bounds = codes "Bounds"

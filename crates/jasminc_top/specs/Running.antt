@@ -1,5 +1,5 @@
 -- A run of compiled code to its end: where it starts, where it ends, and its text.
-use Rattle.std.specs.Prelude.{◌≡◌, ◌<◌, ◌≤◌, ℕ, ◌-◌, ◌^◌, ⊤, true, false, List, [], ◌∷◌, ◌++◌, map, drop, codes, decimal, replicate, slice_set, if◌then◌else◌}
+use Rattle.std.specs.Prelude.{◌≡◌, ◌<◌, ◌≤◌, ℕ, ◌-◌, ◌^◌, ⊤, false, List, [], ◌∷◌, ◌++◌, map, drop, codes, decimal, replicate, slice_set, if◌then◌else◌}
 use Rattle.std.specs.List.{concat}
 use Rattle.std.specs.FinMap as map_of
 use Rattle.std.specs.Int.{w64, to_be_bytes}
@@ -77,19 +77,23 @@ Finishes code base c limit now (finish.Faulted f) =
 
 -- ---- the text of a run
 
--- a number of 64 bits in hexadecimal digits
-abbrev pub number_text : ℕ → List ℕ
-number_text n = codes "0x" ++ encode_lower (to_be_bytes w64 n)
+-- bytes in hexadecimal digits
+abbrev pub hexadecimal : List ℕ → List ℕ
+hexadecimal bytes = codes "0x" ++ encode_lower bytes
+
+-- a number of 64 bits
+abbrev pub quadword_text : ℕ → List ℕ
+quadword_text n = hexadecimal (to_be_bytes w64 n)
 
 -- the low bits of a number, as many as the size has
 abbrev pub word_text : Size → ℕ → List ℕ
-word_text s n = codes "0x" ++ encode_lower (drop (8 - bytes_of s) (to_be_bytes w64 n))
+word_text s n = hexadecimal (drop (8 - bytes_of s) (to_be_bytes w64 n))
 
 abbrev pub event_line : Event → List ℕ
 event_line (event.Branch taken) = codes "branch " ++ (if taken then codes "1" else codes "0") ++ codes "\n"
-event_line (event.Addr a) = codes "addr " ++ number_text a ++ codes "\n"
+event_line (event.Addr a) = codes "addr " ++ quadword_text a ++ codes "\n"
 event_line (event.Div high low divisor) =
-    codes "div " ++ number_text high ++ codes " " ++ number_text low ++ codes " " ++ number_text divisor ++ codes "\n"
+    codes "div " ++ quadword_text high ++ codes " " ++ quadword_text low ++ codes " " ++ quadword_text divisor ++ codes "\n"
 
 -- a result, by its register at the end
 abbrev pub result_line : State → Arg → List ℕ

@@ -3,7 +3,7 @@ ghost use Rattle.std.specs.Prelude.{◌≡◌, ◌++◌, ◌∷◌, [], ◌≤�
 ghost use Rattle.std.specs.List.{concat};
 ghost use Rattle.x64_machine.specs.MachineRuns.{code_of, base_of, config_of, start_of, SameCode};
 ghost use Rattle.x64_machine.specs.Steps.{events_of, steps_of};
-ghost use Rattle.jasminc_top.specs.Running.{EndsWithin, IsStartMemory, start_state, with_numbers, Finishes, number_text, word_text, event_line, result_line, run_text, RunsTo};
+ghost use Rattle.jasminc_top.specs.Running.{EndsWithin, IsStartMemory, start_state, with_numbers, Finishes, hexadecimal, quadword_text, word_text, event_line, result_line, run_text, RunsTo};
 ghost use Rattle.jz_correct.specs.Registers.{argument_registers};
 ghost use Rattle.jasminc_top.specs.Answers.{step_limit};
 
@@ -109,13 +109,19 @@ fn run_to_end(alloc: Global, machine: &mut Machine, limit: u64) -> Result<Finish
     Ok(Finish::OutOfFuel)
 }
 
-// A number of 64 bits in hexadecimal digits.
-fn write_hexadecimal(alloc: Global, text: &mut Vec<u8>, number: u64) -> Result<(), AllocError>
-    ensures { OnOk result (text.new.items ≡ text.old.items ++ number_text number) }
+// Bytes in hexadecimal digits, the highest of a number first.
+fn write_hexadecimal(alloc: Global, text: &mut Vec<u8>, bytes: &[u8]) -> Result<(), AllocError>
+    ensures { OnOk result (text.new.items ≡ text.old.items ++ hexadecimal bytes.now) }
 {
-    let digits = hex::encode(alloc, number.to_be_bytes())?;
+    let digits = hex::encode(alloc, bytes)?;
     text.extend_from_slice(b"0x")?;
     text.extend_from_slice(digits.as_str().as_bytes())
+}
+
+fn write_quadword(alloc: Global, text: &mut Vec<u8>, number: u64) -> Result<(), AllocError>
+    ensures { OnOk result (text.new.items ≡ text.old.items ++ quadword_text number) }
+{
+    write_hexadecimal(alloc, text, &number.to_be_bytes())
 }
 
 // The low bits of a number, as many as the size has.
@@ -123,9 +129,7 @@ fn write_word(alloc: Global, text: &mut Vec<u8>, size: Size, number: u64) -> Res
     ensures { OnOk result (text.new.items ≡ text.old.items ++ word_text size number) }
 {
     let bytes = number.to_be_bytes();
-    let digits = hex::encode(alloc, &bytes[8 - size.bytes() as usize..])?;
-    text.extend_from_slice(b"0x")?;
-    text.extend_from_slice(digits.as_str().as_bytes())
+    write_hexadecimal(alloc, text, &bytes[8 - size.bytes() as usize..])
 }
 
 fn write_event(alloc: Global, text: &mut Vec<u8>, event: Event) -> Result<(), AllocError>
@@ -138,15 +142,15 @@ fn write_event(alloc: Global, text: &mut Vec<u8>, event: Event) -> Result<(), Al
         }
         Event::Addr(address) => {
             text.extend_from_slice(b"addr ")?;
-            write_hexadecimal(alloc, text, address)?;
+            write_quadword(alloc, text, address)?;
         }
         Event::Div(high, low, divisor) => {
             text.extend_from_slice(b"div ")?;
-            write_hexadecimal(alloc, text, high)?;
+            write_quadword(alloc, text, high)?;
             text.extend_from_slice(b" ")?;
-            write_hexadecimal(alloc, text, low)?;
+            write_quadword(alloc, text, low)?;
             text.extend_from_slice(b" ")?;
-            write_hexadecimal(alloc, text, divisor)?;
+            write_quadword(alloc, text, divisor)?;
         }
     }
     text.extend_from_slice(b"\n")

@@ -9,6 +9,8 @@ mod halt;
 mod language_tests;
 mod lines;
 mod refusal;
+#[cfg(test)]
+mod refusal_tests;
 mod run;
 mod starts;
 #[cfg(test)]

@@ -1,7 +1,7 @@
 // The lines that tell refusals, without their line feeds.
 ghost use Rattle.std.specs.Prelude.{◌≡◌, ◌++◌, OnOk, map};
 ghost use Rattle.std.specs.List.{concat};
-ghost use Rattle.jasminc_top.specs.Lines.{lex_name, lexer_line, syntax_name, parser_line, rule_name, type_line, limit_name, limit_of, limit_line, reason_name, alarm_line, place_text, need_text, holder_text, texts_or_dash, no_place_line};
+ghost use Rattle.jasminc_top.specs.Lines.{lex_name, lexer_line, syntax_name, parser_line, rule_name, type_line, limit_name, limit_subject, limit_line, reason_name, alarm_line, place_text, need_text, holder_text, texts_or_dash, no_place_line};
 
 use jz_alloc::Needed;
 use jz_data::{Seq, Text};
@@ -121,7 +121,7 @@ fn write_limited(
     fun: &Text,
     span: Span,
 ) -> Result<(), AllocError>
-    ensures { OnOk result (line.new.items ≡ line.old.items ++ limit_of kind fun.now span) }
+    ensures { OnOk result (line.new.items ≡ line.old.items ++ limit_subject kind fun.now span) }
 {
     match kind {
         LimitKind::Expand => line.extend_from_slice(fun.as_str().as_bytes()),

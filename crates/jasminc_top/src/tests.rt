@@ -5,9 +5,10 @@ use jz_data::Seq;
 use jz_io::{MemSink, MemSource};
 use jz_listing::Compiled;
 use std::alloc::{AllocError, Global};
+use std::process::Abort;
 use std::test::Fail;
 
-const SUM: &[u8] =
+pub(crate) const SUM: &[u8] =
     b"export fn add(reg u64 x, reg u64 y) -> reg u64 { reg u64 r; r = x; r += y; return r; }\n";
 
 const LISTING: &str =
@@ -66,32 +67,56 @@ pub(crate) fn run(
     })
 }
 
-/// A command without faults of the sink, and its answer.
-struct Row {
-    words: &'static [&'static str],
-    text: &'static [u8],
-    status: Status,
-    written: &'static str,
+/// A command over one text without faults of the sink, its answer, and how many functions it made.
+pub(crate) struct Row {
+    pub words: &'static [&'static str],
+    pub text: &'static [u8],
+    pub status: Status,
+    pub written: &'static str,
+    pub made: usize,
+}
+
+pub(crate) const COMPILE: &[&str] = &["jasminc", "compile", "add.jazz"];
+
+/// Each row's answer. A name that is missed is the one fault of a source that lists none.
+pub(crate) fn answer_rows(rt: &impl Abort, alloc: Global, rows: &[Row]) -> Result<(), Fail> {
+    for (i, row) in rows.iter().enumerate() {
+        let ran = run(alloc, row.words, row.text, &NO_FAULTS)?;
+        let missed = if row.status == Status::ReadFault {
+            1
+        } else {
+            0
+        };
+        assert_eq!(rt; ran.status, row.status, "row {i}");
+        assert_eq!(rt; ran.written.as_slice(), row.written.as_bytes(), "row {i}");
+        assert_eq!(rt; ran.made.len(), row.made, "row {i}");
+        assert_eq!(rt; ran.source_faults, missed, "row {i}");
+        assert_eq!(rt; ran.sink_faults, 0, "row {i}");
+    }
+    Ok(())
 }
 
 static ROWS: [Row; 22] = [
     Row {
-        words: &["jasminc", "compile", "add.jazz"],
+        words: COMPILE,
         text: SUM,
         status: Status::Ok,
         written: LISTING,
+        made: 1,
     },
     Row {
-        words: &["jasminc", "compile", "add.jazz"],
+        words: COMPILE,
         text: b"export\tfn add (\r\n\treg u64 x,\r\n\treg u64 y\r\n) -> reg u64\r\n{\r\n\treg u64 r;\r\n\tr=x;\r\n\tr+=y;\r\n\treturn r;\r\n}",
         status: Status::Ok,
         written: LISTING,
+        made: 1,
     },
     Row {
         words: &["jasminc", "exec", "add.jazz", "add", "2", "3"],
         text: SUM,
         status: Status::Ok,
         written: "addr 0x00007fffffff0008\nend 3\nresult r 0x0000000000000005\n",
+        made: 1,
     },
     Row {
         words: &[
@@ -105,54 +130,63 @@ static ROWS: [Row; 22] = [
         text: SUM,
         status: Status::Ok,
         written: "addr 0x00007fffffff0008\nend 3\nresult r 0x0000000000000001\n",
+        made: 1,
     },
     Row {
         words: &["jasminc", "exec", "add.jazz", "add", "0xFF", "0"],
         text: SUM,
         status: Status::Ok,
         written: "addr 0x00007fffffff0008\nend 3\nresult r 0x00000000000000ff\n",
+        made: 1,
     },
     Row {
         words: &["jasminc", "exec", "add.jazz"],
         text: SUM,
         status: Status::Usage,
         written: "usage: jasminc COMMAND ARGS\n",
+        made: 0,
     },
     Row {
         words: &["jasminc", "compile"],
         text: SUM,
         status: Status::Usage,
         written: "usage: jasminc COMMAND ARGS\n",
+        made: 0,
     },
     Row {
         words: &["jasminc"],
         text: SUM,
         status: Status::Usage,
         written: "usage: jasminc COMMAND ARGS\n",
+        made: 0,
     },
     Row {
         words: &[],
         text: SUM,
         status: Status::Usage,
         written: "usage: jasminc COMMAND ARGS\n",
+        made: 0,
     },
     Row {
         words: &["jasminc", "compile", "add.jazz", "x"],
         text: SUM,
         status: Status::Usage,
         written: "usage: jasminc COMMAND ARGS\n",
+        made: 0,
     },
     Row {
         words: &["jasminc", "-v", "compile", "add.jazz"],
         text: SUM,
         status: Status::Usage,
         written: "usage: jasminc COMMAND ARGS\n",
+        made: 0,
     },
     Row {
         words: &["jasminc", "exec", "add.jazz", "add", "02", "3"],
         text: SUM,
         status: Status::Usage,
         written: "usage: jasminc COMMAND ARGS\n",
+        made: 0,
     },
     Row {
         words: &[
@@ -166,90 +200,81 @@ static ROWS: [Row; 22] = [
         text: SUM,
         status: Status::Usage,
         written: "usage: jasminc COMMAND ARGS\n",
+        made: 0,
     },
     Row {
         words: &["jasminc", "exec", "add.jazz", "add", "0x", "3"],
         text: SUM,
         status: Status::Usage,
         written: "usage: jasminc COMMAND ARGS\n",
+        made: 0,
     },
     Row {
         words: &["jasminc", "exec", "add.jazz", "add", "+2", "3"],
         text: SUM,
         status: Status::Usage,
         written: "usage: jasminc COMMAND ARGS\n",
+        made: 0,
     },
     Row {
         words: &["jasminc", "interp", "add.jazz", "add", "2", "3"],
         text: SUM,
         status: Status::Usage,
         written: "usage: jasminc COMMAND ARGS\n",
+        made: 0,
     },
     Row {
         words: &["jasminc", "exec", "add.jazz", "add", "2"],
         text: SUM,
         status: Status::Precondition,
         written: "precondition items\n",
+        made: 0,
     },
     Row {
         words: &["jasminc", "exec", "add.jazz", "foo", "2", "3"],
         text: SUM,
         status: Status::NoFunction,
         written: "unknown function foo\n",
+        made: 0,
     },
     Row {
         words: &["jasminc", "compile", "none.jazz"],
         text: SUM,
         status: Status::ReadFault,
         written: "read fault\n",
+        made: 0,
     },
     Row {
-        words: &["jasminc", "compile", "add.jazz"],
+        words: COMPILE,
         text: b"export fn f(",
         status: Status::Syntax,
         written: "syntax Unexpected 1:13 token 4\n",
+        made: 0,
     },
     Row {
-        words: &["jasminc", "compile", "add.jazz"],
+        words: COMPILE,
         text: b"export fn 12ab",
         status: Status::Syntax,
         written: "syntax BadNumber 1:11\n",
+        made: 0,
     },
     Row {
-        words: &["jasminc", "compile", "add.jazz"],
+        words: COMPILE,
         text: b"\n+",
         status: Status::Syntax,
         written: "syntax BadByte 2:1\n",
+        made: 0,
     },
 ];
 
 #[test]
 fn answers_each_command(rt: HostRuntime) -> Result<(), Fail> {
-    for (i, row) in ROWS.iter().enumerate() {
-        let ran = run(rt.alloc(), row.words, row.text, &NO_FAULTS)?;
-        let made = if row.status == Status::Ok { 1 } else { 0 };
-        let missed = if row.status == Status::ReadFault {
-            1
-        } else {
-            0
-        };
-        assert_eq!(rt; ran.status, row.status, "row {i}");
-        assert_eq!(rt; ran.written.as_slice(), row.written.as_bytes(), "row {i}");
-        assert_eq!(rt; ran.made.len(), made, "row {i}");
-        assert_eq!(rt; ran.source_faults, missed, "row {i}");
-        assert_eq!(rt; ran.sink_faults, 0, "row {i}");
-    }
-    Ok(())
+    answer_rows(&rt, rt.alloc(), &ROWS)
 }
 
 #[test]
 fn tells_what_it_made(rt: HostRuntime) -> Result<(), Fail> {
-    let ran = run(
-        rt.alloc(),
-        &["jasminc", "compile", "add.jazz"],
-        SUM,
-        &NO_FAULTS,
-    )?;
+    let ran = run(rt.alloc(), COMPILE, SUM, &NO_FAULTS)?;
     let made = ran.made.get(0).ok_or("nothing is made")?;
     assert_eq!(rt; made.name.as_str(), "add");
     assert_eq!(rt; made.insns, 3);
@@ -276,12 +301,7 @@ fn reads_a_text_up_to_the_limit(rt: HostRuntime) -> Result<(), Fail> {
     ] {
         let text = padded(alloc, length)?;
         assert_eq!(rt; text.len(), length);
-        let ran = run(
-            alloc,
-            &["jasminc", "compile", "add.jazz"],
-            text.as_slice(),
-            &NO_FAULTS,
-        )?;
+        let ran = run(alloc, COMPILE, text.as_slice(), &NO_FAULTS)?;
         assert_eq!(rt; ran.status, status);
         assert_eq!(rt; ran.written.as_slice(), wanted.as_bytes());
     }
@@ -347,12 +367,7 @@ static FAULTS: [Faulty; 4] = [
 #[test]
 fn tells_faults(rt: HostRuntime) -> Result<(), Fail> {
     for (i, row) in FAULTS.iter().enumerate() {
-        let ran = run(
-            rt.alloc(),
-            &["jasminc", "compile", "add.jazz"],
-            SUM,
-            &row.faults,
-        )?;
+        let ran = run(rt.alloc(), COMPILE, SUM, &row.faults)?;
         assert_eq!(rt; ran.status, row.status, "row {i}");
         assert_eq!(rt; ran.written.as_slice(), row.written.as_bytes(), "row {i}");
         assert!(rt; ran.made.is_empty(), "row {i}");

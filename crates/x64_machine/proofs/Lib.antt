@@ -1,1 +1,2 @@
 pub mod MachineRunning
+pub mod Following

@@ -1,4 +1,4 @@
-use Rattle.std.proofs.Common.{arith, ap, length, refl, get_or}
+use Rattle.std.proofs.Common.{arith, ap, length}
 use Rattle.jasminc_top.specs.Lines.{holder_text}
 use Rattle.jz_listing.proofs.Spaces.{next_line}
 use Rattle.jasminc_top.proofs.lines.write_each_holder.Goals as goal
