@@ -1,6 +1,6 @@
 //! What holds of each function that is compiled where first fit puts its variables.
 
-ghost use Rattle.std.specs.Prelude.{◌≡◌, Contains};
+ghost use Rattle.std.specs.Prelude.{◌≡◌, Contains, All};
 ghost use Rattle.jz_tree.specs.declared.Program.{Program};
 ghost use Rattle.jz_tree.specs.declared.Fun.{Fun};
 ghost use Rattle.jz_types.specs.TypedPrograms.{HaveDifferentNames, HaveDeclarations, HaveCounts};
