@@ -6,9 +6,10 @@ use Rattle.std.proofs.lemmas.List.Elements.{All-nil, All-cons, All-head, All-tai
 use Rattle.jz_lex.specs.declared.token.Token.{Token}
 use Rattle.jz_tree.specs.declared.Program.{Program}
 use Rattle.jz_tree.specs.declared.Fun.{Fun}
+use Rattle.jz_tree.specs.Assignments.{AssignsToOne}
 use Rattle.jz_parse.specs.Deriving.{DerivesProgram}
 use Rattle.jz_parse.specs.Reading.{Reads}
-use Rattle.jz_parse.specs.Derived.{AssignsToOne, DeclaresWords}
+use Rattle.jz_parse.specs.Derived.{DeclaresWords}
 use Rattle.jz_parse.proofs.Assigning.{statements_one}
 use Rattle.jz_parse.proofs.Declaring.{words_declared}
 use Rattle.jz_types.specs.Resolving.{resolved, resolved_fun}
@@ -24,7 +25,7 @@ use Rattle.jz_correct.specs.Correctness.{CarriesOver, AreCorrect}
 use Rattle.jz_pipeline.specs.Placed.{IsPlaceable, IsCompiled, AreCompiled}
 use Rattle.jz_pipeline.proofs.Linked.{compiled_correct, one_compiled}
 use Rattle.jz_pipeline.proofs.Placeable.{placeable}
-use Rattle.jz_pipeline.proofs.Texts.{one_left_side, resolved_words}
+use Rattle.jz_pipeline.proofs.Texts.{resolved_words}
 use Rattle.jasminc_top.specs.Making.{TypesAs, IsWritten, AreMade, Makes}
 use Rattle.jasminc_top.specs.Answers.{function_named, compiled_named}
 use Rattle.jasminc_top.proofs.Causes.{types_one}
@@ -39,7 +40,7 @@ written_resolved [] w a = All-nil IsWritten
 written_resolved (f ∷ fs) w a =
     let words = All-head DeclaresWords f fs w in
     let one = All-head (λ (g : Fun). All AssignsToOne g.body) f fs a in
-    All-cons IsWritten (resolved_fun f) (map resolved_fun fs) (resolved_words f words, declaring.keeps_one f (one_left_side f.body one))
+    All-cons IsWritten (resolved_fun f) (map resolved_fun fs) (resolved_words f words, declaring.keeps_one f one)
     (written_resolved fs (All-tail DeclaresWords f fs w) (All-tail (λ (g : Fun). All AssignsToOne g.body) f fs a))
 
 derived_written : (tokens : List Token) (p : Program) → DerivesProgram tokens p → All IsWritten (resolved p).funs

@@ -2,13 +2,13 @@
 use Rattle.std.specs.Prelude.{◌≡◌, ℕ, List, All}
 use Rattle.jz_tree.specs.declared.Program.{Program}
 use Rattle.jz_tree.specs.declared.Fun.{Fun}
+use Rattle.jz_tree.specs.Assignments.{AssignsToOne}
 use Rattle.jz_parse.specs.Reading.{Reads}
 use Rattle.jz_parse.specs.Derived.{DeclaresWords}
 use Rattle.jz_types.specs.Rules.{IsTyped}
 use Rattle.jz_types.specs.Resolving.{resolved}
 use Rattle.jz_pass.specs.Limits.{IsWithinLimits}
 use Rattle.jz_safety.specs.Alarms.{HasNoAlarm}
-use Rattle.jz_safety.specs.Resolved.{HaveOneLeftSide}
 use Rattle.jz_pipeline.specs.Placed.{AreCompiled}
 use Rattle.jz_listing.specs.declared.compiled.Compiled.{Compiled}
 
@@ -19,9 +19,9 @@ pub record TypesAs (text : List ℕ) (program : Program) : Type 0 where
   pub typed : IsTyped written
   pub is : program ≡ resolved written
 
--- what the grammar gives a function: its variables are declared words, and each of its statements has one left side
+-- what the grammar gives a function: its variables are declared words, and each of its statements assigns to one
 abbrev pub IsWritten : Fun → Type 0
-IsWritten f = DeclaresWords f × HaveOneLeftSide f.body
+IsWritten f = DeclaresWords f × All AssignsToOne f.body
 
 -- Each function is within the limits, has no alarm, and is compiled, its variables where first fit puts them.
 pub record AreMade (funs : List Fun) (made : List Compiled) : Type 0 where

@@ -1,9 +1,11 @@
 -- The facts after statements are those on the names that they assign to.
-use Rattle.std.proofs.Common.{◌≡◌, ℕ, Bool, true, false, true≢false, List, [], ◌∷◌, ◌++◌, ◌⊎◌, inl, inr, if◌then◌else◌, map, refl, sym, ap, ◌∙◌, subst, append_assoc, append-nil, eq-eqb, arith}
+use Rattle.std.proofs.Common.{◌≡◌, ℕ, Bool, true, false, true≢false, List, [], ◌∷◌, ◌++◌, ◌⊎◌, inl, inr, if◌then◌else◌, map, refl, sym, ap, ◌∙◌, subst, append_assoc, append-nil, arith}
 use Rattle.std.specs.Prelude.{IsTrue, Contains, ◌↔◌}
 use Rattle.std.specs.List.{flat_map}
 use Rattle.std.specs.Cmp.Lexicographic.{same_text}
 use Rattle.std.proofs.lemmas.List.Elements.{Contains-append_left, Contains-push, Contains-push_cases}
+use Rattle.std.specs.Str.{bytes_eq}
+use Rattle.std.proofs.lemmas.Slice.Eq.{bytes_eq-Decides}
 use Rattle.jz_tree.specs.declared.Fun.{Fun}
 use Rattle.jz_tree.specs.declared.Param.{Param}
 use Rattle.jz_tree.specs.declared.Lval.{Lval}
@@ -12,13 +14,9 @@ use Rattle.jz_tree.specs.declared.Stmt.{Stmt}
 use Rattle.jz_tree.specs.declared.StmtKind.{StmtKind}
 use Rattle.jz_tree.specs.declared.StmtKind.TheVariants as kind
 use Rattle.jz_facts.specs.declared.fact.Fact.TheVariants.{Set}
-use Rattle.jz_facts.specs.Facts.{same_name, Facts, no_facts, with_fact}
+use Rattle.jz_facts.specs.Facts.{Facts, no_facts, with_fact}
 use Rattle.jz_facts.specs.Holding.{with_parameters, entry_facts, after_left_sides, after_kind, facts_after, facts_at_end}
 use Rattle.jz_facts.specs.Names.{left_name, kind_names, assigned_names, names_with_value}
-
-name_itself : (x : List ℕ) → same_name x x ≡ true
-name_itself [] = refl
-name_itself (n ∷ x) = rw (eq-eqb n n refl, name_itself x)
 
 -- the set says Set of these names alone
 record Names (set : Facts) (xs : List (List ℕ)) : Type 0 where
@@ -32,19 +30,19 @@ no_names = record {
 }
 
 -- one more
-more_told : (b s : Bool) (xs : List (List ℕ)) (x q : List ℕ) → same_name x q ≡ b → (s ≡ true → Contains xs q) → (if b then true else s) ≡ true → Contains (xs ++ x ∷ []) q
+more_told : (b s : Bool) (xs : List (List ℕ)) (x q : List ℕ) → bytes_eq x q ≡ b → (s ≡ true → Contains xs q) → (if b then true else s) ≡ true → Contains (xs ++ x ∷ []) q
 more_told true s xs x q e h k = subst (Contains (xs ++ x ∷ [])) (same_text x q (sym e)) (Contains-push xs x)
 more_told false s xs x q e h k = Contains-append_left xs (x ∷ []) q (h k)
 
-more_said : (b s : Bool) (x q : List ℕ) → same_name x q ≡ b → (s ≡ true) ⊎ (x ≡ q) → (if b then true else s) ≡ true
+more_said : (b s : Bool) (x q : List ℕ) → bytes_eq x q ≡ b → (s ≡ true) ⊎ (x ≡ q) → (if b then true else s) ≡ true
 more_said true s x q e h = refl
 more_said false s x q e (inl h) = h
-more_said false s x q e (inr h) = absurd (true≢false (sym (name_itself x) ∙ ap (same_name x) h ∙ e))
+more_said false s x q e (inr h) = absurd (true≢false (sym ((bytes_eq-Decides x x).1 refl) ∙ ap (bytes_eq x) h ∙ e))
 
 one_more : (set : Facts) (xs : List (List ℕ)) (x : List ℕ) → Names set xs → Names (with_fact set (Set x)) (xs ++ x ∷ [])
 one_more set xs x h = record {
-  told = λ q k. more_told (same_name x q) (set (Set q)) xs x q refl (h.told q) k;
-  said = λ q k. more_said (same_name x q) (set (Set q)) x q refl (elim (Contains-push_cases xs x q k) [ inl i ↦ inl (h.said q i) | inr e ↦ inr e ]);
+  told = λ q k. more_told (bytes_eq x q) (set (Set q)) xs x q refl (h.told q) k;
+  said = λ q k. more_said (bytes_eq x q) (set (Set q)) x q refl (elim (Contains-push_cases xs x q k) [ inl i ↦ inl (h.said q i) | inr e ↦ inr e ]);
 }
 
 -- several, one after another

@@ -1,18 +1,13 @@
 -- Sets of facts, by what they give.
-use Rattle.std.specs.Prelude.{ℕ, ◌==◌, Bool, true, false, List, if◌then◌else◌}
-use Rattle.std.specs.Cmp.Lexicographic.{pointwise}
+use Rattle.std.specs.Prelude.{Bool, true, false, bytes_eq, if◌then◌else◌}
 use Rattle.indexmap.specs.IndexSet.{contains}
 use Rattle.jz_facts.specs.declared.fact.Fact.{Fact}
 use Rattle.jz_facts.specs.declared.fact.Fact.TheVariants.{Set}
 use Rattle.jz_facts.specs.declared.set.FactSet.{FactSet}
 
--- two names are one
-abbrev pub same_name : List ℕ → List ℕ → Bool
-same_name a b = pointwise ◌==◌ a b
-
 -- whether the first fact says the second
 abbrev pub entails : Fact → Fact → Bool
-entails (Set x) (Set y) = same_name x y
+entails (Set x) (Set y) = bytes_eq x y
 
 -- a set of facts: of each fact, whether one of the set entails it
 abbrev pub Facts : Type 0
@@ -28,4 +23,4 @@ with_fact set g f = if entails g f then true else set f
 
 -- the facts that a set of the code gives
 abbrev pub facts_of : FactSet → Facts
-facts_of set (Set x) = contains same_name set.names x
+facts_of set (Set x) = contains bytes_eq set.names x

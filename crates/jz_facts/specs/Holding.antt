@@ -1,5 +1,5 @@
 -- What holds at entry and after a statement.
-use Rattle.std.specs.Prelude.{List, [], ◌∷◌}
+use Rattle.std.specs.Prelude.{List, fold}
 use Rattle.jz_tree.specs.declared.Fun.{Fun}
 use Rattle.jz_tree.specs.declared.Param.{Param}
 use Rattle.jz_tree.specs.declared.Lval.{Lval}
@@ -12,8 +12,7 @@ use Rattle.jz_facts.specs.Facts.{Facts, no_facts, with_fact}
 
 -- each parameter has a value
 abbrev pub with_parameters : Facts → List Param → Facts
-with_parameters set [] = set
-with_parameters set (p ∷ ps) = with_parameters (with_fact set (Set p.var.name)) ps
+with_parameters set ps = fold (λ known p. with_fact known (Set p.var.name)) set ps
 
 -- the facts at a function's entry
 abbrev pub entry_facts : Fun → Facts
@@ -25,8 +24,7 @@ after_left_side set (lval.Var x) = with_fact set (Set x.name)
 
 -- the left sides are taken in their order
 abbrev pub after_left_sides : Facts → List Lval → Facts
-after_left_sides set [] = set
-after_left_sides set (d ∷ ds) = after_left_sides (after_left_side set d) ds
+after_left_sides set ds = fold after_left_side set ds
 
 -- what holds after a statement, by what holds before it
 abbrev pub after_kind : Facts → StmtKind → Facts
@@ -37,5 +35,4 @@ facts_after set s = after_kind set s.kind
 
 -- and after statements, one after another
 abbrev pub facts_at_end : Facts → List Stmt → Facts
-facts_at_end set [] = set
-facts_at_end set (s ∷ ss) = facts_at_end (facts_after set s) ss
+facts_at_end set ss = fold facts_after set ss

@@ -1,8 +1,9 @@
 -- Lists of tokens and kinds.
 use Rattle.std.proofs.Common.{◌≡◌, ◌⊎◌, inl, inr, if◌then◌else◌, ℕ, zero, suc, ◌≤◌, List, [], ◌∷◌, ◌++◌, length, Bool, true, false, ◌&&◌, ◌||◌, ◌==◌, Ok, Err, Option, Some, refl, sym, ap, ap₂, ◌∙◌, arith, append_assoc, length-append, nat_lt}
+use Rattle.std.proofs.lemmas.Slice.Eq.{bytes_eq-Decides}
 use Rattle.jz_lex.specs.declared.token.Token.{Token}
 use Rattle.jz_grammar.specs.Causes.{Cause, Unexpected, TooDeep}
-use Rattle.jz_grammar.specs.Kinds.{Kind, kind_of, same, member, disjoint, is_in, has}
+use Rattle.jz_grammar.specs.Kinds.{Kind, identifier, word, number, sign, end, kind_of, same, member, disjoint, is_in, has}
 use Rattle.jz_grammar.specs.Reading.{Answer, ◌>>=◌, through}
 use Rattle.jz_grammar.specs.Grammar.{Marked, plain, Within}
 use Rattle.jz_grammar.specs.Laws.{head_of, outcome, Next, plus}
@@ -21,12 +22,31 @@ pub if_false : {A : Type 0} (b : Bool) (x y : A) → b ≡ false → (if b then 
 if_false b x y h = rw h refl
 
 pub same_is : (a b : Kind) → same a b ≡ true → a ≡ b
-same_is [] [] h = refl
-same_is [] (b ∷ bs) h = cc
-same_is (a ∷ xs) [] h = cc
-same_is (a ∷ xs) (b ∷ bs) h = by_cases _ (a == b)
-    (λ e. let i : same xs bs ≡ true = sym (rw e refl) ∙ h in let t = same_is xs bs i in grind arith)
-    (λ e. let i : false ≡ true = sym (rw e refl) ∙ h in cc)
+same_is identifier identifier h = refl
+same_is identifier (word t) h = cc
+same_is identifier number h = cc
+same_is identifier (sign t) h = cc
+same_is identifier end h = cc
+same_is (word s) identifier h = cc
+same_is (word s) (word t) h = ap (λ u. word u) ((bytes_eq-Decides s t).0 h)
+same_is (word s) number h = cc
+same_is (word s) (sign t) h = cc
+same_is (word s) end h = cc
+same_is number identifier h = cc
+same_is number (word t) h = cc
+same_is number number h = refl
+same_is number (sign t) h = cc
+same_is number end h = cc
+same_is (sign s) identifier h = cc
+same_is (sign s) (word t) h = cc
+same_is (sign s) number h = cc
+same_is (sign s) (sign t) h = ap (λ u. sign u) ((bytes_eq-Decides s t).0 h)
+same_is (sign s) end h = cc
+same_is end identifier h = cc
+same_is end (word t) h = cc
+same_is end number h = cc
+same_is end (sign t) h = cc
+same_is end end h = refl
 
 pub apart : (ks ls : List Kind) (k : Kind) → disjoint ks ls ≡ true → member k ks ≡ true → member k ls ≡ false
 apart [] ls k d m = cc
@@ -180,5 +200,8 @@ has_fewer ks ls [] a h = refl
 has_fewer ks ls (t ∷ ts) a h = by_cases _ (is_in ks t) (λ c. true_false (is_in ls t) _ (in_more ks ls t a c) h) (λ c. c)
 
 pub same_self : (s : Kind) → same s s ≡ true
-same_self [] = refl
-same_self (a ∷ s) = let e : (a == a) ≡ true = grind arith in rw e (same_self s)
+same_self identifier = refl
+same_self (word s) = (bytes_eq-Decides s s).1 refl
+same_self number = refl
+same_self (sign s) = (bytes_eq-Decides s s).1 refl
+same_self end = refl

@@ -30,11 +30,11 @@ end_token = record { kind = kind.End; span = at_start }
 
 pub sign_in : (s : List ℕ) (ks : List Kind) → is_in (sign s ∷ ks) (sign_token s) ≡ true
 unfolding is_in sign_token
-sign_in s ks = rw (same_self s) refl
+sign_in s ks = rw (same_self (sign s)) refl
 
 pub word_in : (s : List ℕ) (ks : List Kind) → is_in (word s ∷ ks) (word_token s) ≡ true
 unfolding is_in word_token
-word_in s ks = rw (same_self s) refl
+word_in s ks = rw (same_self (word s)) refl
 
 pub number_in : is_in (number ∷ []) number_token ≡ true
 unfolding is_in number_token

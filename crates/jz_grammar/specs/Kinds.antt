@@ -1,52 +1,43 @@
 -- Which tokens the grammar tells apart.
-use Rattle.std.specs.Prelude.{ℕ, List, [], ◌∷◌, Bool, true, false, not, ◌&&◌, ◌||◌, ◌==◌}
-use Rattle.std.specs.Cmp.Lexicographic.{pointwise}
+use Rattle.std.specs.Prelude.{ℕ, List, [], ◌∷◌, Bool, true, false, not, bytes_eq}
+use Rattle.std.specs.List.{list_all, list_any}
 use Rattle.jz_io.specs.declared.span.Span.{Span}
 use Rattle.jz_lex.specs.declared.token.TokenKind.{TokenKind}
 use Rattle.jz_lex.specs.declared.token.TokenKind.TheVariants as kind
 use Rattle.jz_lex.specs.declared.token.Token.{Token}
 
--- a kind of tokens, as a list of numbers
-abbrev pub Kind : Type 0
-Kind = List ℕ
+-- a kind of tokens: identifiers, a keyword, numbers, a sign, the end
+pub data Kind : Type 0 where
+  identifier : Kind
+  word : List ℕ → Kind
+  number : Kind
+  sign : List ℕ → Kind
+  end : Kind
 
--- what a grammar sees of a token: that it is an identifier or a number, which word or sign it is, or the end
+-- what a grammar sees of a token
 abbrev pub kind_of : TokenKind → Kind
-kind_of (kind.Ident s) = 0 ∷ []
-kind_of (kind.Keyword s) = 1 ∷ s
-kind_of (kind.Num n) = 2 ∷ []
-kind_of (kind.Sign s) = 3 ∷ s
-kind_of kind.End = 4 ∷ []
-
--- the kind of identifiers, of a keyword, of numbers, of a sign, and of the end
-abbrev pub identifier : Kind
-identifier = 0 ∷ []
-
-abbrev pub word : List ℕ → Kind
-word s = 1 ∷ s
-
-abbrev pub number : Kind
-number = 2 ∷ []
-
-abbrev pub sign : List ℕ → Kind
-sign s = 3 ∷ s
-
-abbrev pub end : Kind
-end = 4 ∷ []
+kind_of (kind.Ident s) = identifier
+kind_of (kind.Keyword s) = word s
+kind_of (kind.Num n) = number
+kind_of (kind.Sign s) = sign s
+kind_of kind.End = end
 
 -- they are one kind
 abbrev pub same : Kind → Kind → Bool
-same a b = pointwise ◌==◌ a b
+same identifier identifier = true
+same (word s) (word t) = bytes_eq s t
+same number number = true
+same (sign s) (sign t) = bytes_eq s t
+same end end = true
+same k l = false
 
 -- the kind is in the list
 abbrev pub member : Kind → List Kind → Bool
-member k [] = false
-member k (l ∷ ls) = same k l || member k ls
+member k ls = list_any (same k) ls
 
 -- no kind is in both
 abbrev pub disjoint : List Kind → List Kind → Bool
-disjoint [] ls = true
-disjoint (k ∷ ks) ls = not (member k ls) && disjoint ks ls
+disjoint ks ls = list_all (λ k. not (member k ls)) ks
 
 -- the token is of one of these kinds
 unfoldable pub is_in : List Kind → Token → Bool

@@ -3,7 +3,8 @@ use Rattle.std.proofs.Common.{◌≡◌, ◌⊎◌, inl, inr, ⊎_elim, if◌the
 use Rattle.std.specs.List.{list_all, take_while, starts_with}
 use Rattle.std.proofs.lemmas.List.Sums.{take_while-cons}
 use Rattle.std.specs.Str.{IsAscii}
-use Rattle.std.specs.Cmp.Lexicographic.{pointwise}
+use Rattle.std.specs.Str.{bytes_eq}
+use Rattle.std.proofs.lemmas.Slice.Eq.{bytes_eq-Decides}
 use Rattle.jz_lex.specs.LexingWords.{signs, is_among, begins, begins_word, in_word, is_digit, in_decimal, is_hex_digit, in_hexadecimal, is_word, is_decimal, is_hexadecimal, is_numeral, is_sign, is_lexeme}
 use Rattle.jz_lex.specs.Lexing.{heads, is_blank, Longest}
 use Rattle.jz_lex.specs.LexingFront.{first_of, numeral_length}
@@ -47,20 +48,11 @@ le_is : (a b : ℕ) → nat_le a b ≡ true → a ≤ b
 le_is a b h = grind arith
 
 -- ---- words at the front
-pub same_is : (a b : List ℕ) → pointwise ◌==◌ a b ≡ true → a ≡ b
-same_is [] [] h = refl
-same_is [] (b ∷ bs) h = cc
-same_is (a ∷ xs) [] h = cc
-same_is (a ∷ xs) (b ∷ bs) h = let p = and_true (a == b) (pointwise ◌==◌ xs bs) h in ap₂ (λ x ys. x ∷ ys) (eq_is a b p.0) (same_is xs bs p.1)
+pub same_is : (a b : List ℕ) → bytes_eq a b ≡ true → a ≡ b
+same_is a b = (bytes_eq-Decides a b).0
 
-same_self : (s : List ℕ) → pointwise ◌==◌ s s ≡ true
-same_self [] = refl
-same_self (a ∷ s) = rw (eq_self a) (same_self s)
-
-pub begins_starts : (w text : List ℕ) → starts_with ◌==◌ text w ≡ begins w text
-begins_starts [] text = refl
-begins_starts (a ∷ w) [] = refl
-begins_starts (a ∷ w) (b ∷ text) = ap (λ z. (a == b) && z) (begins_starts w text)
+same_self : (s : List ℕ) → bytes_eq s s ≡ true
+same_self s = (bytes_eq-Decides s s).1 refl
 
 begins_split : (w text : List ℕ) → begins w text ≡ true → text ≡ w ++ drop (length w) text
 begins_split [] text h = refl
@@ -83,18 +75,14 @@ cut (a ∷ w) (b ∷ v) more rest h e =
     (ap₂ (λ y ys. y ∷ ys) x i.0, i.1)
 
 -- ---- tables of words
-abbrev every : (List ℕ → Bool) → List (List ℕ) → Bool
-every test [] = true
-every test (w ∷ ws) = test w && every test ws
-
-entry_in : (test : List ℕ → Bool) (ws : List (List ℕ)) (v : List ℕ) → every test ws ≡ true → is_among ws v ≡ true → test v ≡ true
+entry_in : (test : List ℕ → Bool) (ws : List (List ℕ)) (v : List ℕ) → list_all test ws ≡ true → is_among ws v ≡ true → test v ≡ true
 entry_in test [] v a h = cc
 entry_in test (w ∷ ws) v a h =
-    let p = and_true (test w) (every test ws) a in
+    let p = and_true (test w) (list_all test ws) a in
     ⊎_elim
     (λ j. subst (λ z. test z ≡ true) (same_is w v j) p.0)
     (λ j. entry_in test ws v p.1 j)
-    (or_true (pointwise ◌==◌ w v) (is_among ws v) h)
+    (or_true (bytes_eq w v) (is_among ws v) h)
 
 -- w is none of these words
 abbrev pub IsNone : List (List ℕ) → List ℕ → Type 0
@@ -103,13 +91,13 @@ IsNone (v ∷ vs) w = (w ≡ v → ⊥) × IsNone vs w
 
 pub none_among : (ws : List (List ℕ)) (w : List ℕ) → IsNone ws w → is_among ws w ≡ false
 none_among [] w h = refl
-none_among (v ∷ vs) w h = by_cases _ (pointwise ◌==◌ v w)
+none_among (v ∷ vs) w h = by_cases _ (bytes_eq v w)
     (λ e. absurd (h.0 (sym (same_is v w e))))
     (λ e. rw e (none_among vs w h.1))
 
 abbrev falling : List (List ℕ) → Bool
 falling [] = true
-falling (w ∷ ws) = every (λ v. nat_le (length v) (length w)) ws && falling ws
+falling (w ∷ ws) = list_all (λ v. nat_le (length v) (length w)) ws && falling ws
 
 -- the first word found stands there
 first_stands : (ws : List (List ℕ)) (text w : List ℕ) → first_of ws text ≡ Some w → (rest : List ℕ) × (text ≡ w ++ rest) × (is_among ws w ≡ true)
@@ -120,13 +108,13 @@ first_stands (s ∷ ss) text w h = by_cases _ (begins s text)
     let here : (text ≡ s ++ drop (length s) text) × (is_among (s ∷ ss) s ≡ true) = (begins_split s text e, or_left _ _ (same_self s)) in
     (drop (length s) text, subst (λ z. text ≡ z ++ drop (length s) text) g here.0, subst (λ z. is_among (s ∷ ss) z ≡ true) g here.1))
     (λ e. let q = first_stands ss text w (sym (if_false (begins s text) (Some s) (first_of ss text) e) ∙ h) in
-    (q.0, q.1, or_right (pointwise ◌==◌ s w) (is_among ss w) q.2))
+    (q.0, q.1, or_right (bytes_eq s w) (is_among ss w) q.2))
 
 -- and none that stands there is longer
 first_longest : (ws : List (List ℕ)) (text v more : List ℕ) → falling ws ≡ true → v ++ more ≡ text → is_among ws v ≡ true → (w : List ℕ) × (first_of ws text ≡ Some w) × (length v ≤ length w)
 first_longest [] text v more f e h = cc
 first_longest (s ∷ ss) text v more f e h =
-    let p = and_true (every (λ u. nat_le (length u) (length s)) ss) (falling ss) f in
+    let p = and_true (list_all (λ u. nat_le (length u) (length s)) ss) (falling ss) f in
     ⊎_elim
     (λ j.
     let same : s ≡ v = same_is s v j in
@@ -136,7 +124,7 @@ first_longest (s ∷ ss) text v more f e h =
     (λ j. by_cases _ (begins s text)
     (λ c. (s, if_true (begins s text) _ _ c, le_is (length v) (length s) (entry_in (λ u. nat_le (length u) (length s)) ss v p.0 j)))
     (λ c. let i = first_longest ss text v more p.1 e j in (i.0, if_false (begins s text) _ _ c ∙ i.1, i.2)))
-    (or_true (pointwise ◌==◌ s v) (is_among ss v) h)
+    (or_true (bytes_eq s v) (is_among ss v) h)
 
 -- ---- runs of bytes
 -- what stands behind the bytes from the front that pass
@@ -179,7 +167,7 @@ other b = not (begins_word b) && not (is_digit b) && not (is_blank b)
 abbrev sign_begins : List ℕ → Bool
 sign_begins w = heads other w
 
-signs_begin : every sign_begins signs ≡ true
+signs_begin : list_all sign_begins signs ≡ true
 unfolding begins_word is_digit is_blank signs
 signs_begin = refl
 
@@ -405,7 +393,7 @@ is_low b = nat_le b 127
 is_low_below : (b : ℕ) → is_low b ≡ true → b < 128
 is_low_below b h = grind arith
 
-signs_low : every (λ w. list_all is_low w) signs ≡ true
+signs_low : list_all (λ w. list_all is_low w) signs ≡ true
 unfolding signs
 signs_low = refl
 

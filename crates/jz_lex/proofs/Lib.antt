@@ -4,3 +4,4 @@ pub mod LexingFront
 pub mod Lexing
 pub mod LexingUnique
 pub mod Identifiers
+pub mod Places

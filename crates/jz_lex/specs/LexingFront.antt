@@ -1,5 +1,5 @@
 -- What stands at the front of a text, and how it is found.
-use Rattle.std.specs.Prelude.{◌≡◌, ℕ, ℤ, pos, ◌+◌, ◌^◌, List, [], ◌∷◌, ◌++◌, true, false, nat_lt, if◌then◌else◌, Option, Some, None, length, take, drop}
+use Rattle.std.specs.Prelude.{◌≡◌, ℕ, ℤ, pos, ◌+◌, ◌^◌, List, [], ◌∷◌, ◌++◌, true, false, nat_lt, if◌then◌else◌, Option, Some, None, length, take, drop, find}
 use Rattle.std.specs.List.{take_while}
 use Rattle.jz_lex.specs.LexingWords.{begins, is_word, is_numeral, is_hexadecimal, in_decimal, in_hexadecimal, value_of}
 use Rattle.jz_lex.specs.Lexing.{is_blank, Longest, is_no_number, HasNone}
@@ -18,8 +18,7 @@ wide_number n = if nat_lt n (2 ^ 128) then Some n else None
 
 -- the first of these words that stands at the front of the text
 abbrev pub first_of : List (List ℕ) → List ℕ → Option (List ℕ)
-first_of [] text = None
-first_of (w ∷ ws) text = if begins w text then Some w else first_of ws text
+first_of ws text = find (λ w. begins w text) ws
 
 -- how long the numeral is at the front of a text that begins with a digit
 unfoldable pub numeral_length : List ℕ → ℕ

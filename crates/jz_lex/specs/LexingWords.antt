@@ -1,9 +1,8 @@
 -- Lexemes: the words, numerals and signs of the language, and which token each one is.
-use Rattle.std.specs.Prelude.{ℕ, List, [], ◌∷◌, Bool, true, false, ◌&&◌, ◌||◌, ◌==◌, nat_lt, if◌then◌else◌, drop, map, codes, pos}
-use Rattle.std.specs.List.{list_all, list_any, filter}
+use Rattle.std.specs.Prelude.{ℕ, List, [], ◌∷◌, Bool, true, false, ◌&&◌, ◌||◌, ◌==◌, nat_lt, if◌then◌else◌, drop, map, codes, pos, bytes_eq}
+use Rattle.std.specs.List.{list_all, list_any, filter, starts_with}
 use Rattle.std.specs.Char.{is_ascii_alphabetic, is_ascii_digit, is_ascii_hexdigit, digit_value}
 use Rattle.std.specs.Int.Digits.{number_from_digits}
-use Rattle.std.specs.Cmp.Lexicographic.{pointwise}
 use Rattle.jz_lex.specs.declared.token.TokenKind.{TokenKind}
 use Rattle.jz_lex.specs.declared.token.TokenKind.TheVariants.{Ident, Keyword, Num, Sign}
 
@@ -17,7 +16,7 @@ signs = codes "+=" ∷ codes "-=" ∷ codes "^=" ∷ codes "->" ∷ codes "(" �
 
 -- w is one of these words
 abbrev pub is_among : List (List ℕ) → List ℕ → Bool
-is_among words w = list_any (λ v. pointwise ◌==◌ v w) words
+is_among words w = list_any (λ v. bytes_eq v w) words
 
 -- a letter or an underscore
 unfoldable pub begins_word : ℕ → Bool
@@ -69,9 +68,7 @@ is_numeral w = is_decimal w || is_hexadecimal w
 
 -- the text begins with w
 abbrev pub begins : List ℕ → List ℕ → Bool
-begins [] text = true
-begins (a ∷ w) [] = false
-begins (a ∷ w) (b ∷ text) = (a == b) && begins w text
+begins w text = starts_with ◌==◌ text w
 
 -- the number that the digits among these bytes write in a base: underscores count for nothing
 abbrev pub number_of : ℕ → List ℕ → ℕ

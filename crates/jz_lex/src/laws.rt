@@ -1,9 +1,9 @@
 //! What holds of every text and its tokens, apart from how they are found.
 
-ghost use Rattle.std.specs.Prelude.{◌≡◌, ℕ, List, [], ◌∷◌, ◌++◌, true};
-ghost use Rattle.std.specs.List.{All};
+ghost use Rattle.std.specs.Prelude.{◌≡◌, ◌==◌, ◌+◌, ℕ, List, [], ◌∷◌, ◌++◌, not, true, count_by};
+ghost use Rattle.std.specs.List.{All, suffix_len};
 ghost use Rattle.jz_io.specs.declared.span.Span.{Span};
-ghost use Rattle.jz_lex.specs.Lexing.{IsLexed, HasNoToken};
+ghost use Rattle.jz_lex.specs.Lexing.{first_place, after, IsLexed, HasNoToken};
 ghost use Rattle.jz_lex.specs.LexingWords.{in_word};
 ghost use Rattle.jz_lex.specs.Identifiers.{IsIdentifier, IsSpelled};
 ghost use Rattle.jz_lex.specs.declared.token.Token.{Token};
@@ -40,4 +40,11 @@ pub fn identifiers_are_spelled()
 /// Each byte of an identifier is a letter, a digit or an underscore.
 pub fn identifiers_have_word_bytes()
     ensures { (word : List ℕ) → IsIdentifier word → All (λ byte. in_word byte ≡ true) word }
+{}
+
+/// The place behind bytes of a text: its line is one more than their line feeds, and its column one more than the bytes behind
+/// the last of these.
+pub fn places_count_line_feeds()
+    ensures line { (bytes : List ℕ) → (after first_place bytes).line ≡ 1 + count_by (λ b. b == 10) bytes }
+    ensures column { (bytes : List ℕ) → (after first_place bytes).col ≡ 1 + suffix_len (λ b. not (b == 10)) bytes }
 {}

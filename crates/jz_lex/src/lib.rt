@@ -13,7 +13,7 @@ mod token;
 
 pub use laws::{
     end_stands_last, identifiers_are_spelled, identifiers_have_word_bytes, lexed_or_refused,
-    one_fault, one_lexing,
+    one_fault, one_lexing, places_count_line_feeds,
 };
 pub use text::lex;
 pub use token::{LexFault, LexKind, Token, TokenKind, Tokens};

@@ -5,7 +5,7 @@ use Rattle.std.proofs.lemmas.List.Elements.{All-weaker}
 use Rattle.jz_lex.specs.declared.token.Token.{Token}
 use Rattle.jz_tree.specs.declared.Program.{Program}
 use Rattle.jz_parse.specs.Deriving.{DerivesProgram}
-use Rattle.jz_parse.specs.Derived.{AssignsToOne}
+use Rattle.jz_tree.specs.Assignments.{AssignsToOne}
 use Rattle.jz_parse.proofs.Declaring.{IsFew, few}
 
 pub statements_one : (tokens : List Token) (program : Program) → DerivesProgram tokens program → All (λ f. All AssignsToOne f.body) program.funs

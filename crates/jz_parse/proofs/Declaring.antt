@@ -19,7 +19,8 @@ use Rattle.jz_parse.specs.declared.statement.Item.TheVariants.{Declares, Does}
 use Rattle.jz_parse.specs.Trees.{register_word, declared_of, param_of, used_of, assigned, vars_in, stmts_in, body_of, joined, or_empty, fun_of, program_of}
 use Rattle.jz_parse.specs.Grammar as g
 use Rattle.jz_parse.specs.Deriving.{DerivesProgram}
-use Rattle.jz_parse.specs.Derived.{AssignsToOne, DeclaresWords, HasNames}
+use Rattle.jz_parse.specs.Derived.{DeclaresWords, HasNames}
+use Rattle.jz_tree.specs.Assignments.{AssignsToOne}
 use Rattle.jz_parse.proofs.Phrases.{Named, Gives, all_named, gives_then, gives_any, gives_seen, gives_or, gives_each, gives_maybe, gives_name}
 
 joined_all : {A : Type 0} (P : A → Type 0) (xss : List (List A)) → All (All P) xss → All P (joined xss)

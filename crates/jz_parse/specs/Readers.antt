@@ -76,7 +76,7 @@ unfoldable pub groups_more : ℕ → List Param → Reader (List Param)
 groups_more n out ts = through (λ gs. out ++ joined gs) (many_by group_starts next_group less n ts)
 
 unfoldable pub groups : Reader (List Param)
-groups ts = group 8 ts >>= λ x. groups_more (most_names - length x.0) x.0 x.1
+groups ts = group (most_names - 1) ts >>= λ x. groups_more (most_names - length x.0) x.0 x.1
 
 unfoldable pub params : Reader (List Param)
 params ts = through (λ p. or_empty p.1.0) (follow (the (codes "(")) (follow (optional (word (codes "reg") ∷ []) groups) (the (codes ")"))) ts)

@@ -1,11 +1,11 @@
 -- The tree of a phrase, from what its tokens tell.
-use Rattle.std.specs.Prelude.{ℕ, ℤ, pos, List, [], ◌∷◌, ◌++◌, Option, Some, None, codes, if◌then◌else◌}
+use Rattle.std.specs.Prelude.{ℕ, ℤ, pos, List, [], ◌∷◌, ◌++◌, Option, Some, None, codes, bytes_eq, flat_map, filter_map, if◌then◌else◌}
 use Rattle.jz_io.specs.declared.span.Span.{Span}
 use Rattle.jz_words.specs.declared.size.Size.TheVariants.{S64}
 use Rattle.jz_lex.specs.declared.token.Token.{Token}
 use Rattle.jz_lex.specs.declared.token.TokenKind.{TokenKind}
 use Rattle.jz_lex.specs.declared.token.TokenKind.TheVariants as kind
-use Rattle.jz_grammar.specs.Kinds.{Kind, same, sign}
+use Rattle.jz_grammar.specs.Kinds.{Kind, sign}
 use Rattle.jz_tree.specs.declared.Program.{Program}
 use Rattle.jz_tree.specs.declared.Fun.{Fun}
 use Rattle.jz_tree.specs.declared.Param.{Param}
@@ -55,7 +55,7 @@ assignments = sign (codes "=") ∷ sign (codes "+=") ∷ sign (codes "-=") ∷ s
 
 -- the operation of an assignment
 unfoldable pub operation_of : Token → Option BinOp
-operation_of t = if same (text_in t.kind) (codes "+=") then Some Add else if same (text_in t.kind) (codes "-=") then Some Sub else if same (text_in t.kind) (codes "^=") then Some Xor else None
+operation_of t = if bytes_eq (text_in t.kind) (codes "+=") then Some Add else if bytes_eq (text_in t.kind) (codes "-=") then Some Sub else if bytes_eq (text_in t.kind) (codes "^=") then Some Xor else None
 
 -- ---- variables
 -- a word of 64 bits in a register
@@ -78,23 +78,26 @@ abbrev pub assigned : Var → Option BinOp → Expr → Stmt
 assigned to op from = record { span = to.span; kind = Assign (lval.Var to ∷ []) op (Value from) }
 
 -- the variables that are declared, and the statements, each in the order of the text
+abbrev pub declared_by : Item → List Var
+declared_by (Declares vs) = vs
+declared_by (Does s) = []
+
+abbrev pub done_by : Item → Option Stmt
+done_by (Declares vs) = None
+done_by (Does s) = Some s
+
 abbrev pub vars_in : List Item → List Var
-vars_in [] = []
-vars_in (Declares vs ∷ is) = vs ++ vars_in is
-vars_in (Does s ∷ is) = vars_in is
+vars_in is = flat_map declared_by is
 
 abbrev pub stmts_in : List Item → List Stmt
-stmts_in [] = []
-stmts_in (Declares vs ∷ is) = stmts_in is
-stmts_in (Does s ∷ is) = s ∷ stmts_in is
+stmts_in is = filter_map done_by is
 
 abbrev pub body_of : List Item → List Var → Body
 body_of is result = record { vars = vars_in is; stmts = stmts_in is; result = result }
 
 -- the items of all lists
 abbrev pub joined : {A : Type 0} → List (List A) → List A
-joined [] = []
-joined (xs ∷ xss) = xs ++ joined xss
+joined xss = flat_map (λ xs. xs) xss
 
 abbrev pub or_empty : {A : Type 0} → Option (List A) → List A
 or_empty None = []

@@ -4,7 +4,8 @@ ghost use Rattle.std.specs.Prelude.{ℕ, List, All};
 ghost use Rattle.jz_lex.specs.Lexing.{IsLexed};
 ghost use Rattle.jz_lex.specs.declared.token.Token.{Token};
 ghost use Rattle.jz_tree.specs.declared.Program.{Program};
-ghost use Rattle.jz_parse.specs.Derived.{AssignsToOne, DeclaresWords, HasNames};
+ghost use Rattle.jz_tree.specs.Assignments.{AssignsToOne};
+ghost use Rattle.jz_parse.specs.Derived.{DeclaresWords, HasNames};
 ghost use Rattle.jz_parse.specs.Deriving.{DerivesProgram};
 
 /// Each statement of a program that tokens derive is an assignment to one variable.

@@ -1,7 +1,7 @@
 //! What a token is, and what it tells.
 
-ghost use Rattle.std.specs.Prelude.{◌≡◌, [], ◌∷◌, IfOk};
-ghost use Rattle.jz_grammar.specs.Kinds.{identifier, word, number, sign, end, same, is_in};
+ghost use Rattle.std.specs.Prelude.{◌≡◌, [], ◌∷◌, IfOk, bytes_eq};
+ghost use Rattle.jz_grammar.specs.Kinds.{identifier, word, number, sign, end, is_in};
 ghost use Rattle.jz_parse.specs.Trees.{name_of, number_of, text_in, assignments, operation_of};
 
 use jz_data::Text;
@@ -93,7 +93,7 @@ pub fn number_of(token: &Token) -> Expr
 
 /// Whether it is a keyword or a sign of this text.
 fn has_text(token: &Token, text: &str) -> bool
-    ensures { result ≡ same (text_in token.now.kind) text.now }
+    ensures { result ≡ bytes_eq (text_in token.now.kind) text.now }
 {
     match &token.kind {
         TokenKind::Keyword(own) | TokenKind::Sign(own) => own.as_str() == text,

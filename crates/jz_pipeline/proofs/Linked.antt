@@ -1,9 +1,8 @@
 -- What first fit comes to: a placing, one compilation, and never a refusal besides.
 use Rattle.std.proofs.Common.{◌≡◌, ℕ, List, [], ◌∷◌, ◌++◌, length, refl, sym, ap, ◌∙◌, subst, arith}
 use Rattle.std.specs.Prelude.{Option, Some, map}
-use Rattle.std.specs.List.{All}
-use Rattle.std.proofs.lemmas.List.{length-append, get_or_append_left}
-use Rattle.std.proofs.lemmas.List.Elements.{All-nil, All-cons, All-head, All-tail, All-weaker}
+use Rattle.std.specs.List.{All, flat_map}
+use Rattle.std.proofs.lemmas.List.Elements.{All-head, All-tail, All-weaker}
 use Rattle.x64_insn.specs.declared.types.Place.{Place}
 use Rattle.jz_ir.specs.Order.{number_of}
 use Rattle.jz_ir.specs.Places.{IsWithin, placed, refused}
@@ -22,8 +21,9 @@ use Rattle.jz_tree.specs.declared.Stmt.{Stmt}
 use Rattle.jz_tree.specs.declared.StmtKind.{StmtKind}
 use Rattle.jz_tree.specs.declared.StmtKind.TheVariants as kind
 use Rattle.jz_tree.specs.Variables.{variables_of}
+use Rattle.jz_tree.proofs.Parts.{all_front, all_back}
 use Rattle.jz_types.specs.TypedPrograms.{HasDeclaration}
-use Rattle.jz_types.specs.Uses.{joined, in_lval_by, in_rhs_by, in_kind_by, in_stmts_by, in_vars_by, one, uses_of}
+use Rattle.jz_types.specs.Uses.{left_side_uses, right_side_uses, kind_uses, body_uses, uses_of}
 use Rattle.jz_safety.specs.Alarms.{HasNoAlarm}
 use Rattle.jz_safety.specs.Resolved.{IsResolved}
 use Rattle.jz_listing.specs.declared.compiled.Compiled.{Compiled}
@@ -37,50 +37,38 @@ use Rattle.jz_pipeline.specs.Placed.{IsCompiled, IsUnplaced, IsPlaceable}
 use Rattle.jz_pipeline.specs.declared.unplaced.NoPlace.{NoPlace}
 use Rattle.jz_pipeline.proofs.Correct.{correct}
 
--- ---- parts of lists
-pub all_front : {X : Type 0} (P : X → Type 0) (xs ys : List X) → All P (xs ++ ys) → All P xs
-all_front P xs ys h k d l = subst P (get_or_append_left xs ys d k l) (h k d (omega (arith, l, length-append xs ys)))
-
-pub all_back : {X : Type 0} (P : X → Type 0) (xs ys : List X) → All P (xs ++ ys) → All P ys
-all_back P [] ys h = h
-all_back P (x ∷ xs) ys h = all_back P xs ys (All-tail P x (xs ++ ys) h)
-
 -- ---- the variables that a function uses are known
 module _ (vs : List Var) where
-  lefts_known : (ds : List Lval) → All (IsKnown vs) (joined [] ◌++◌ (map (in_lval_by [] ◌++◌ one) ds)) → KnownLefts vs ds
+  lefts_known : (ds : List Lval) → All (IsKnown vs) (flat_map left_side_uses ds) → KnownLefts vs ds
   lefts_known [] a = tt
   lefts_known (lval.Var x ∷ ds) a = (All-head (IsKnown vs) x _ a, lefts_known ds (All-tail (IsKnown vs) x _ a))
 
-  right_known : (r : Rhs) → All (IsKnown vs) (in_rhs_by [] ◌++◌ one r) → KnownRight vs r
+  right_known : (r : Rhs) → All (IsKnown vs) (right_side_uses r) → KnownRight vs r
   right_known (rhs.Value (expr.Num i at)) a = tt
   right_known (rhs.Value (expr.Var x)) a = All-head (IsKnown vs) x [] a
 
-  kind_known : (k : StmtKind) → All (IsKnown vs) (in_kind_by [] ◌++◌ one k) → KnownKind vs k
+  kind_known : (k : StmtKind) → All (IsKnown vs) (kind_uses k) → KnownKind vs k
   kind_known (kind.Assign ds o r) a =
-      let lefts : List Var = joined [] ◌++◌ (map (in_lval_by [] ◌++◌ one) ds) in
-      let right : List Var = in_rhs_by [] ◌++◌ one r in
+      let lefts : List Var = flat_map left_side_uses ds in
+      let right : List Var = right_side_uses r in
       (lefts_known ds (all_front (IsKnown vs) lefts right a), right_known r (all_back (IsKnown vs) lefts right a))
 
-  body_known : (ss : List Stmt) → All (IsKnown vs) (in_stmts_by [] ◌++◌ one ss) → KnownBody vs ss
+  body_known : (ss : List Stmt) → All (IsKnown vs) (body_uses ss) → KnownBody vs ss
   body_known [] a = tt
   body_known (s ∷ ss) a =
-      let here : List Var = in_kind_by [] ◌++◌ one s.kind in
-      let later : List Var = in_stmts_by [] ◌++◌ one ss in
+      let here : List Var = kind_uses s.kind in
+      let later : List Var = body_uses ss in
       (kind_known s.kind (all_front (IsKnown vs) here later a), body_known ss (all_back (IsKnown vs) here later a))
-
-  vars_known : (xs : List Var) → All (IsKnown vs) (in_vars_by [] ◌++◌ one xs) → All (IsKnown vs) xs
-  vars_known [] a = All-nil (IsKnown vs)
-  vars_known (x ∷ xs) a = All-cons (IsKnown vs) x xs (All-head (IsKnown vs) x _ a) (vars_known xs (All-tail (IsKnown vs) x _ a))
 
 module _ (f : Fun) (declared : All (HasDeclaration (variables_of f)) (uses_of f)) where
   used_known : All (IsKnown (variables_of f)) (uses_of f)
   used_known = All-weaker (HasDeclaration (variables_of f)) (IsKnown (variables_of f)) (λ u d. known_by_name (variables_of f) d.variable u.name d.among d.name) (uses_of f) declared
 
   body_is_known : KnownBody (variables_of f) f.body
-  body_is_known = body_known (variables_of f) f.body (all_front (IsKnown (variables_of f)) (in_stmts_by [] ◌++◌ one f.body) (in_vars_by [] ◌++◌ one f.result) used_known)
+  body_is_known = body_known (variables_of f) f.body (all_front (IsKnown (variables_of f)) (body_uses f.body) f.result used_known)
 
   result_is_known : All (IsKnown (variables_of f)) f.result
-  result_is_known = vars_known (variables_of f) f.result (all_back (IsKnown (variables_of f)) (in_stmts_by [] ◌++◌ one f.body) (in_vars_by [] ◌++◌ one f.result) used_known)
+  result_is_known = all_back (IsKnown (variables_of f)) (body_uses f.body) f.result used_known
 
   -- each variable of its operations has a kind
   pub placeable_within : IsWithin (code_of f)

@@ -1,5 +1,5 @@
 -- Typed functions over words are what can be placed.
-use Rattle.std.proofs.Common.{◌≡◌, ◌≢◌, true, List, [], ◌∷◌, ◌++◌, refl, ap, ◌∙◌, arith, ℤ, pos, negsuc}
+use Rattle.std.proofs.Common.{◌≡◌, ◌≢◌, true, List, [], ◌∷◌, ◌++◌, refl, sym, ap, ◌∙◌, subst, arith, ℤ, pos, negsuc}
 use Rattle.std.specs.Prelude.{Some, None, map, FitsSigned}
 use Rattle.std.specs.Int.{w32}
 use Rattle.std.specs.List.{All, AllPairs, Contains, filter_map, cons_option}
@@ -20,15 +20,15 @@ use Rattle.jz_tree.specs.declared.Stmt.{Stmt}
 use Rattle.jz_tree.specs.declared.StmtKind.{StmtKind}
 use Rattle.jz_tree.specs.declared.StmtKind.TheVariants as kind
 use Rattle.jz_tree.specs.Variables.{variables_of}
+use Rattle.jz_tree.specs.Assignments.{AssignsToOne}
+use Rattle.jz_tree.proofs.Parts.{all_front, all_back}
 use Rattle.jz_parse.specs.Trees.{register_word}
 use Rattle.jz_parse.specs.Derived.{DeclaresWords}
 use Rattle.jz_types.specs.TypedPrograms.{HaveDifferentNames, HasDeclaration, HaveDeclarations, HasCounts, HaveCounts}
-use Rattle.jz_types.specs.Uses.{in_rhs_by, in_kind_by, in_stmts_by, in_vars_by, one, uses_of}
+use Rattle.jz_types.specs.Uses.{right_side_uses, kind_uses, body_uses, uses_of}
 use Rattle.jz_pass.specs.Limits.{Constant, HasField, reading, immediate_of, IsWithinLimits}
-use Rattle.jz_safety.specs.Resolved.{HasOneLeftSide, HaveOneLeftSide}
 use Rattle.jz_lower.specs.Straight.{IsWord, AreWords, GiveWords, SetsWord, SetWords, KindFits, FitImmediates, IsStraight}
 use Rattle.jz_pipeline.specs.Placed.{IsPlaceable}
-use Rattle.jz_pipeline.proofs.Linked.{all_front, all_back}
 
 -- ---- words
 abbrev IsDeclaredWord : Var → Type 0
@@ -49,17 +49,17 @@ give_words (t ∷ ts) a = (ap (λ d. d.ty) (All-head (λ (u : Ret). u.decl ≡ r
 used_word : (vs : List Var) → All IsDeclaredWord vs → (u : Var) → HasDeclaration vs u → IsDeclaredWord u
 used_word vs words u d = d.same ∙ All-contains IsDeclaredWord vs d.variable words d.among
 
-sets_word : (k : StmtKind) → HasOneLeftSide k → All IsDeclaredWord (in_kind_by [] ◌++◌ one k) → SetsWord k
-sets_word (kind.Assign [] o r) left a = absurd left
-sets_word (kind.Assign (lval.Var x ∷ []) o r) left a = word x (All-head IsDeclaredWord x (in_rhs_by [] ◌++◌ one r) a)
-sets_word (kind.Assign (d ∷ e ∷ ds) o r) left a = absurd left
+sets_word : (s : Stmt) → AssignsToOne s → All IsDeclaredWord (kind_uses s.kind) → SetsWord s.kind
+sets_word s (x, o, r, e) a =
+    let here = subst (λ (k : StmtKind). All IsDeclaredWord (kind_uses k)) e a in
+    subst SetsWord (sym e) (word x (All-head IsDeclaredWord x (right_side_uses r) here))
 
-set_words : (ss : List Stmt) → HaveOneLeftSide ss → All IsDeclaredWord (in_stmts_by [] ◌++◌ one ss) → SetWords ss
-set_words [] left a = tt
-set_words (s ∷ ss) left a =
-    let here : List Var = in_kind_by [] ◌++◌ one s.kind in
-    let later : List Var = in_stmts_by [] ◌++◌ one ss in
-    (sets_word s.kind left.0 (all_front IsDeclaredWord here later a), set_words ss left.1 (all_back IsDeclaredWord here later a))
+set_words : (ss : List Stmt) → All AssignsToOne ss → All IsDeclaredWord (body_uses ss) → SetWords ss
+set_words [] one a = tt
+set_words (s ∷ ss) one a = (
+  sets_word s (All-head AssignsToOne s ss one) (all_front IsDeclaredWord (kind_uses s.kind) (body_uses ss) a),
+  set_words ss (All-tail AssignsToOne s ss one) (all_back IsDeclaredWord (kind_uses s.kind) (body_uses ss) a),
+)
 
 -- ---- immediates
 -- a signed number of 32 bits is held by four bytes
@@ -83,7 +83,7 @@ fit_immediates (s ∷ ss) a = let z = kind_fits s.kind (filter_map (λ (t : Stmt
 variables_words : (f : Fun) → DeclaresWords f → All IsDeclaredWord (variables_of f)
 variables_words f words = All-append IsDeclaredWord (map (λ p. p.var) f.params) f.vars (All-map IsDeclaredWord (λ p. p.var) f.params words.params) words.vars
 
-pub placeable : (p : Program) (f : Fun) → HaveDifferentNames p → HaveDeclarations p → HaveCounts p → Contains p.funs f → DeclaresWords f → IsWithinLimits f → HaveOneLeftSide f.body → IsPlaceable f
+pub placeable : (p : Program) (f : Fun) → HaveDifferentNames p → HaveDeclarations p → HaveCounts p → Contains p.funs f → DeclaresWords f → IsWithinLimits f → All AssignsToOne f.body → IsPlaceable f
 placeable p f names declarations counts among words limits left =
     let vs : List Var = variables_of f in
     let declared : All (HasDeclaration vs) (uses_of f) = All-contains (λ g. All (HasDeclaration (variables_of g)) (uses_of g)) p.funs f declarations among in
@@ -93,7 +93,7 @@ placeable p f names declarations counts among words limits left =
       params = are_words f.params words.params;
       rets = give_words f.rets words.rets;
       counts = counted.results;
-      body = set_words f.body left (all_front IsDeclaredWord (in_stmts_by [] ◌++◌ one f.body) (in_vars_by [] ◌++◌ one f.result) used);
+      body = set_words f.body left (all_front IsDeclaredWord (body_uses f.body) f.result used);
       immediates = fit_immediates f.body limits.1;
     } in
     record {

@@ -6,25 +6,18 @@ use Rattle.std.proofs.lemmas.List.Elements.{All-nil, All-cons, All-head, All-tai
 use Rattle.jz_lex.specs.declared.token.Token.{Token}
 use Rattle.jz_tree.specs.declared.Program.{Program}
 use Rattle.jz_tree.specs.declared.Fun.{Fun}
-use Rattle.jz_tree.specs.declared.Stmt.{Stmt}
+use Rattle.jz_tree.specs.Assignments.{AssignsToOne}
 use Rattle.jz_parse.specs.Deriving.{DerivesProgram}
-use Rattle.jz_parse.specs.Derived.{AssignsToOne, DeclaresWords}
+use Rattle.jz_parse.specs.Derived.{DeclaresWords}
 use Rattle.jz_parse.proofs.Assigning.{statements_one}
 use Rattle.jz_parse.proofs.Declaring.{words_declared}
 use Rattle.jz_types.specs.Resolving.{resolved_fun, resolved}
 use Rattle.jz_types.specs.TypedPrograms.{HaveDifferentNames, HaveDeclarations, HaveCounts}
 use Rattle.jz_meaning.specs.declared.expanded.Expanded.{Expanded}
 use Rattle.jz_pass.specs.Limits.{IsWithinLimits}
-use Rattle.jz_safety.specs.Resolved.{HasOneLeftSide, HaveOneLeftSide}
 use Rattle.jz_safety.proofs.Declaring.{keeps_one}
 use Rattle.jz_pipeline.specs.Placed.{IsPlaceable}
 use Rattle.jz_pipeline.proofs.Placeable.{placeable}
-
-pub one_left_side : (ss : List Stmt) → All AssignsToOne ss → HaveOneLeftSide ss
-one_left_side [] h = tt
-one_left_side (s ∷ ss) h =
-    let here = All-head AssignsToOne s ss h in
-    (subst HasOneLeftSide (sym here.3) tt, one_left_side ss (All-tail AssignsToOne s ss h))
 
 -- what a function has it keeps where its variables get their declarations
 pub resolved_words : (f : Fun) → DeclaresWords f → DeclaresWords (resolved_fun f)
@@ -36,9 +29,9 @@ read_placeable tokens read typed derived is names declarations counts limits =
     let funs : typed.funs ≡ map resolved_fun read.funs = ap (λ (p : Program). p.funs) is in
     let words = subst (λ (fs : List Fun). All DeclaresWords fs) (sym funs)
     (All-map DeclaresWords resolved_fun read.funs (All-weaker DeclaresWords (λ f. DeclaresWords (resolved_fun f)) resolved_words read.funs (words_declared tokens read derived))) in
-    let lefts = subst (λ (fs : List Fun). All (λ f. HaveOneLeftSide f.body) fs) (sym funs)
-    (All-map (λ f. HaveOneLeftSide f.body) resolved_fun read.funs
-    (All-weaker (λ f. All AssignsToOne f.body) (λ f. HaveOneLeftSide (resolved_fun f).body) (λ f h. keeps_one f (one_left_side f.body h)) read.funs (statements_one tokens read derived))) in
+    let lefts = subst (λ (fs : List Fun). All (λ f. All AssignsToOne f.body) fs) (sym funs)
+    (All-map (λ f. All AssignsToOne f.body) resolved_fun read.funs
+    (All-weaker (λ f. All AssignsToOne f.body) (λ f. All AssignsToOne (resolved_fun f).body) keeps_one read.funs (statements_one tokens read derived))) in
     λ k d lt. placeable typed (slice_index_or typed.funs k d) names declarations counts (All-contains_itself typed.funs k d lt) (words k d lt) (limits k d lt) (lefts k d lt)
 
 -- said of what expansion and the search for alarms hand on

@@ -1,13 +1,14 @@
 //! What holds of each function that is compiled where first fit puts its variables.
 
-ghost use Rattle.std.specs.Prelude.{◌≡◌, Contains};
+ghost use Rattle.std.specs.Prelude.{◌≡◌, Contains, All};
 ghost use Rattle.jz_tree.specs.declared.Program.{Program};
 ghost use Rattle.jz_tree.specs.declared.Fun.{Fun};
 ghost use Rattle.jz_types.specs.TypedPrograms.{HaveDifferentNames, HaveDeclarations, HaveCounts};
 ghost use Rattle.jz_parse.specs.Derived.{DeclaresWords};
 ghost use Rattle.jz_pass.specs.Limits.{IsWithinLimits};
 ghost use Rattle.jz_safety.specs.Alarms.{HasNoAlarm};
-ghost use Rattle.jz_safety.specs.Resolved.{IsResolved, HaveOneLeftSide};
+ghost use Rattle.jz_safety.specs.Resolved.{IsResolved};
+ghost use Rattle.jz_tree.specs.Assignments.{AssignsToOne};
 ghost use Rattle.jz_listing.specs.declared.compiled.Compiled.{Compiled};
 ghost use Rattle.jz_correct.specs.Correctness.{IsCorrect};
 ghost use Rattle.jz_pipeline.specs.Placed.{IsCompiled, IsPlaceable, IsUnplaced};
@@ -31,5 +32,5 @@ pub fn never_both()
 /// A function of a typed program, over words of 64 bits and within the limits, can be placed.
 pub fn typed_functions_are_placeable()
     ensures { (p : Program) (f : Fun) → HaveDifferentNames p → HaveDeclarations p → HaveCounts p → Contains p.funs f
-        → DeclaresWords f → IsWithinLimits f → HaveOneLeftSide f.body → IsPlaceable f }
+        → DeclaresWords f → IsWithinLimits f → All AssignsToOne f.body → IsPlaceable f }
 {}

@@ -1,59 +1,40 @@
 -- Declarations of what is used, as safety needs them.
-use Rattle.std.proofs.Common.{ℕ, List, [], ◌∷◌, ◌++◌, Option, map}
+use Rattle.std.proofs.Common.{List, [], ◌∷◌, ap, subst}
 use Rattle.std.specs.Prelude.{All, Contains}
-use Rattle.std.proofs.lemmas.List.Elements.{All-nil, All-cons, All-head, All-tail, All-contains}
+use Rattle.std.proofs.lemmas.List.Elements.{All-nil, All-cons, All-head, All-tail, All-map, All-weaker, All-contains}
 use Rattle.jz_tree.specs.declared.Program.{Program}
 use Rattle.jz_tree.specs.declared.Fun.{Fun}
 use Rattle.jz_tree.specs.declared.Var.{Var}
-use Rattle.jz_tree.specs.declared.Lval.TheVariants as lval
 use Rattle.jz_tree.specs.declared.Stmt.{Stmt}
 use Rattle.jz_tree.specs.declared.StmtKind.{StmtKind}
-use Rattle.jz_tree.specs.declared.StmtKind.TheVariants as kind
-use Rattle.jz_types.specs.Uses.{one, uses_of, in_rhs_by, in_kind_by, in_stmts_by, in_vars_by}
-use Rattle.jz_tree.specs.declared.Decl.{Decl}
 use Rattle.jz_tree.specs.Variables.{variables_of}
-use Rattle.jz_types.specs.Resolving.{resolved_kind, resolved_stmt, declaration_in, resolved_fun}
+use Rattle.jz_tree.specs.Assignments.{AssignsToOne}
+use Rattle.jz_tree.proofs.Parts.{all_front, all_back}
+use Rattle.jz_types.specs.Uses.{right_side_uses, kind_uses, body_uses, uses_of}
+use Rattle.jz_types.specs.Resolving.{resolved_var, resolved_rhs, resolved_kind, resolved_stmt, declaration_in, resolved_fun}
 use Rattle.jz_types.specs.TypedPrograms.{HasDeclaration, HaveDeclarations}
-use Rattle.jz_safety.specs.Resolved.{HasOneLeftSide, HaveOneLeftSide, AssignsOne, AreResolved, IsResolved}
+use Rattle.jz_safety.specs.Resolved.{AssignsToDeclared, IsResolved}
 
-module _ {A : Type 0} (P : A → Type 0) where
-  all_left : (xs ys : List A) → All P (xs ++ ys) → All P xs
-  all_left [] ys h = All-nil P
-  all_left (x ∷ xs) ys h = All-cons P x xs (All-head P x (xs ++ ys) h) (all_left xs ys (All-tail P x (xs ++ ys) h))
+stmt_resolved : (vs : List Var) (s : Stmt) → AssignsToOne s → All (HasDeclaration vs) (kind_uses s.kind) → AssignsToDeclared s
+stmt_resolved vs s (x, o, r, e) a =
+    let d : HasDeclaration vs x = All-head (HasDeclaration vs) x (right_side_uses r) (subst (λ (k : StmtKind). All (HasDeclaration vs) (kind_uses k)) e a) in
+    (x, o, r, e, d.some)
 
-  all_right : (xs ys : List A) → All P (xs ++ ys) → All P ys
-  all_right [] ys h = h
-  all_right (x ∷ xs) ys h = all_right xs ys (All-tail P x (xs ++ ys) h)
-
-kind_resolved : (vs : List Var) (k : StmtKind) → HasOneLeftSide k → All (HasDeclaration vs) (in_kind_by [] ◌++◌ one k) → AssignsOne k
-kind_resolved vs (kind.Assign [] o r) h a = absurd h
-kind_resolved vs (kind.Assign (lval.Var x ∷ []) o r) h a = let d : HasDeclaration vs x = All-head (HasDeclaration vs) x (in_rhs_by [] ◌++◌ one r) a in d.some
-kind_resolved vs (kind.Assign (d ∷ e ∷ ds) o r) h a = absurd h
-
-body_resolved : (vs : List Var) (ss : List Stmt) → HaveOneLeftSide ss → All (HasDeclaration vs) (in_stmts_by [] ◌++◌ one ss) → AreResolved ss
-body_resolved vs [] h a = tt
+body_resolved : (vs : List Var) (ss : List Stmt) → All AssignsToOne ss → All (HasDeclaration vs) (body_uses ss) → All AssignsToDeclared ss
+body_resolved vs [] h a = All-nil AssignsToDeclared
 body_resolved vs (s ∷ ss) h a =
-    let here = in_kind_by [] ◌++◌ one s.kind in
-    let rest = in_stmts_by [] ◌++◌ one ss in (
-      kind_resolved vs s.kind h.0 (all_left (HasDeclaration vs) here rest a),
-      body_resolved vs ss h.1 (all_right (HasDeclaration vs) here rest a),
-    )
+    All-cons AssignsToDeclared s ss
+    (stmt_resolved vs s (All-head AssignsToOne s ss h) (all_front (HasDeclaration vs) (kind_uses s.kind) (body_uses ss) a))
+    (body_resolved vs ss (All-tail AssignsToOne s ss h) (all_back (HasDeclaration vs) (kind_uses s.kind) (body_uses ss) a))
 
-pub typed_resolved : (p : Program) (f : Fun) → HaveDeclarations p → Contains p.funs f → HaveOneLeftSide f.body → IsResolved f
+pub typed_resolved : (p : Program) (f : Fun) → HaveDeclarations p → Contains p.funs f → All AssignsToOne f.body → IsResolved f
 typed_resolved p f d c h =
     let a : All (HasDeclaration (variables_of f)) (uses_of f) = All-contains (λ (g : Fun). All (HasDeclaration (variables_of g)) (uses_of g)) p.funs f d c in
-    body_resolved (variables_of f) f.body h (all_left (HasDeclaration (variables_of f)) (in_stmts_by [] ◌++◌ one f.body) (in_vars_by [] ◌++◌ one f.result) a)
+    body_resolved (variables_of f) f.body h (all_front (HasDeclaration (variables_of f)) (body_uses f.body) f.result a)
 
--- ---- typing keeps the left sides
-
-kind_keeps_one : (ds : List ℕ → Option Decl) (k : StmtKind) → HasOneLeftSide k → HasOneLeftSide (resolved_kind ds k)
-kind_keeps_one ds (kind.Assign [] o r) h = absurd h
-kind_keeps_one ds (kind.Assign (d ∷ []) o r) h = tt
-kind_keeps_one ds (kind.Assign (d ∷ e ∷ more) o r) h = absurd h
-
-body_keeps_one : (ds : List ℕ → Option Decl) (ss : List Stmt) → HaveOneLeftSide ss → HaveOneLeftSide (map (resolved_stmt ds) ss)
-body_keeps_one ds [] h = tt
-body_keeps_one ds (s ∷ ss) h = (kind_keeps_one ds s.kind h.0, body_keeps_one ds ss h.1)
-
-pub keeps_one : (f : Fun) → HaveOneLeftSide f.body → HaveOneLeftSide (resolved_fun f).body
-keeps_one f h = body_keeps_one (declaration_in (variables_of f)) f.body h
+-- typing keeps the left sides
+pub keeps_one : (f : Fun) → All AssignsToOne f.body → All AssignsToOne (resolved_fun f).body
+keeps_one f h =
+    let d = declaration_in (variables_of f) in
+    All-map AssignsToOne (resolved_stmt d) f.body
+    (All-weaker AssignsToOne (λ s. AssignsToOne (resolved_stmt d s)) (λ s one. (resolved_var d one.0, one.1, resolved_rhs d one.2, ap (resolved_kind d) one.3)) f.body h)

@@ -1,6 +1,8 @@
 -- Facts tell exactly which variables have a value, so the alarms tell where a run is stuck.
-use Rattle.std.proofs.Common.{◌≡◌, ℕ, ◌==◌, Bool, true, false, not, List, [], ◌∷◌, ◌++◌, ℤ, Option, Some, None, IsSome, if◌then◌else◌, map, filter, refl, sym, ap, ◌∙◌, subst, arith}
-use Rattle.std.proofs.lemmas.Bool.Decides.{nat_tests}
+use Rattle.std.proofs.Common.{◌≡◌, ℕ, Bool, true, false, not, List, [], ◌∷◌, ◌++◌, ℤ, Option, Some, None, IsSome, if◌then◌else◌, map, filter, refl, sym, ap, ◌∙◌, subst}
+use Rattle.std.specs.Prelude.{All}
+use Rattle.std.proofs.lemmas.List.Elements.{All-head, All-tail}
+use Rattle.std.specs.Str.{bytes_eq}
 use Rattle.jz_io.specs.declared.span.Span.{Span}
 use Rattle.jz_words.specs.Memory.{Memory}
 use Rattle.jz_tree.specs.declared.Program.{Program}
@@ -28,23 +30,13 @@ use Rattle.jz_meaning.specs.StraightRuns.{run_statement, run_statements, words_r
 use Rattle.jz_meaning.proofs.StraightLaws.{fun_straight}
 use Rattle.jz_facts.specs.declared.fact.Fact.TheVariants.{Set}
 use Rattle.jz_facts.specs.declared.condition.Condition.{Condition}
-use Rattle.jz_facts.specs.Facts.{same_name, Facts, no_facts, with_fact}
-use Rattle.jz_facts.specs.Holding.{with_parameters, entry_facts, after_left_side, after_left_sides, after_kind, facts_after, facts_at_end}
+use Rattle.jz_facts.specs.Facts.{Facts, no_facts, with_fact}
+use Rattle.jz_facts.specs.Holding.{with_parameters, entry_facts, after_kind, facts_after, facts_at_end}
 use Rattle.jz_facts.specs.Conditions.{read_of, right_conditions, left_conditions, kind_conditions, conditions_of, result_conditions}
+use Rattle.jz_types.proofs.ScopeLemmas.{bytes_eq-sym}
 use Rattle.jz_safety.specs.declared.alarm.Alarm.{Alarm}
 use Rattle.jz_safety.specs.Alarms.{alarm_of, alarms_at, body_alarms, alarms_of, HasNoAlarm, IsFirstAlarm}
-use Rattle.jz_safety.specs.Resolved.{IsDeclared, IsOneDeclared, AssignsOne, AreResolved, IsResolved}
-
--- ---- names
-
-number_sym : (a b : ℕ) → (a == b) ≡ (b == a)
-number_sym a b = grind (arith, nat_tests)
-
-pub name_sym : (a b : List ℕ) → same_name a b ≡ same_name b a
-name_sym [] [] = refl
-name_sym [] (y ∷ ys) = refl
-name_sym (x ∷ xs) [] = refl
-name_sym (x ∷ xs) (y ∷ ys) = rw (number_sym x y, name_sym xs ys)
+use Rattle.jz_safety.specs.Resolved.{AssignsToDeclared, IsResolved}
 
 -- ---- what alarms show
 
@@ -107,7 +99,7 @@ fits_if false false z v w e h k = k
 
 pub tells_put : (set : Facts) (store : Store) (x : Var) (v : Option Value) → Fits true v → Tells set store → Tells (with_fact set (Set x.name)) (put store (key_of x) v)
 tells_put set store x v h t = record {
-  each = λ name. fits_if (same_name x.name name) (same_name name x.name) (set (Set name)) v (store (record { name = name })) (name_sym x.name name) h (t.each name);
+  each = λ name. fits_if (bytes_eq x.name name) (bytes_eq name x.name) (set (Set name)) v (store (record { name = name })) (bytes_eq-sym x.name name) h (t.each name);
 }
 
 -- ---- at entry
@@ -197,26 +189,26 @@ shows_held : (x : Var) (v : Value) → IsSome x.decl → Shows [] IsWord (held x
 shows_held x (word size a) h = tt
 shows_held x (integer i) h = shows_declared x.decl x.span i h
 
-shows_written : (set : Facts) (s : State) (d : Lval) (v : Value) → IsDeclared d → Tells set s.store → Shows [] (λ (u : State). Tells (after_left_side set d) u.store) (written d v s)
-shows_written set s (lval.Var x) v h t =
+shows_written : (set : Facts) (s : State) (x : Var) (v : Value) → IsSome x.decl → Tells set s.store → Shows [] (λ (u : State). Tells (with_fact set (Set x.name)) u.store) (written (lval.Var x) v s)
+shows_written set s x v h t =
     shows_on [] IsWord (λ (u : State). Tells (with_fact set (Set x.name)) u.store) (held x v) _ (shows_held x v h) (λ w k. tells_put set s.store x (Some w) k t)
 
-shows_assigned : (set : Facts) (s : State) (to : List Lval) (o : Option BinOp) (r : Rhs) (at : Span) → IsOneDeclared to → Tells set s.store
-    → Shows (alarms_at set (left_conditions o to ++ right_conditions r)) (λ (u : State). Tells (after_left_sides set to) u.store) (assigned to o r at s)
-shows_assigned set s [] o r at h t = absurd h
-shows_assigned set s (d ∷ []) o r at h t =
-    shows_on (alarms_at set (left_conditions o (d ∷ []) ++ right_conditions r)) AnyValue (λ (u : State). Tells (after_left_side set d) u.store)
-    (assigned_value d o r at s) (λ v. written d v s) (shows_value set s t d o r at) (λ v k. shows_written set s d v h t)
-shows_assigned set s (d ∷ e ∷ ds) o r at h t = absurd h
+shows_assigned : (set : Facts) (s : State) (x : Var) (o : Option BinOp) (r : Rhs) (at : Span) → IsSome x.decl → Tells set s.store
+    → Shows (alarms_at set (left_conditions o (lval.Var x ∷ []) ++ right_conditions r)) (λ (u : State). Tells (with_fact set (Set x.name)) u.store) (assigned (lval.Var x ∷ []) o r at s)
+shows_assigned set s x o r at h t =
+    shows_on (alarms_at set (left_conditions o (lval.Var x ∷ []) ++ right_conditions r)) AnyValue (λ (u : State). Tells (with_fact set (Set x.name)) u.store)
+    (assigned_value (lval.Var x) o r at s) (λ v. written (lval.Var x) v s) (shows_value set s t (lval.Var x) o r at) (λ v k. shows_written set s x v h t)
 
-shows_statement : (set : Facts) (s : State) (k : StmtKind) (at : Span) → AssignsOne k → Tells set s.store → Shows (alarms_at set (kind_conditions k)) (λ (u : State). Tells (after_kind set k) u.store) (run_statement k at s)
-shows_statement set s (kind.Assign to o r) at h t = shows_assigned set s to o r at h t
+shows_statement : (set : Facts) (s : State) (x : Stmt) → AssignsToDeclared x → Tells set s.store → Shows (alarms_at set (conditions_of x)) (λ (u : State). Tells (facts_after set x) u.store) (run_statement x.kind x.span s)
+shows_statement set s x (v, o, r, e, d) t =
+    subst (λ (k : StmtKind). Shows (alarms_at set (kind_conditions k)) (λ (u : State). Tells (after_kind set k) u.store) (run_statement k x.span s)) (sym e) (shows_assigned set s v o r x.span d t)
 
-shows_statements : (xs : List Stmt) (set : Facts) (s : State) → AreResolved xs → Tells set s.store → Shows (body_alarms set xs) (λ (u : State). Tells (facts_at_end set xs) u.store) (run_statements xs s)
+shows_statements : (xs : List Stmt) (set : Facts) (s : State) → All AssignsToDeclared xs → Tells set s.store → Shows (body_alarms set xs) (λ (u : State). Tells (facts_at_end set xs) u.store) (run_statements xs s)
 shows_statements [] set s h t = t
 shows_statements (x ∷ xs) set s h t =
     shows_then (alarms_at set (conditions_of x)) (body_alarms (facts_after set x) xs) (λ (u : State). Tells (facts_after set x) u.store) (λ (u : State). Tells (facts_at_end (facts_after set x) xs) u.store)
-    (run_statement x.kind x.span s) (run_statements xs) (shows_statement set s x.kind x.span h.0 t) (λ u k. shows_statements xs (facts_after set x) u h.1 k)
+    (run_statement x.kind x.span s) (run_statements xs) (shows_statement set s x (All-head AssignsToDeclared x xs h) t)
+    (λ u k. shows_statements xs (facts_after set x) u (All-tail AssignsToDeclared x xs h) k)
 
 -- ---- functions
 

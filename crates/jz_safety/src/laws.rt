@@ -1,9 +1,10 @@
 //! What alarms say of source runs.
 
-ghost use Rattle.std.specs.Prelude.{◌≡◌, ℕ, List, ◌⊎◌, Contains};
+ghost use Rattle.std.specs.Prelude.{◌≡◌, ℕ, List, ◌⊎◌, All, Contains};
 ghost use Rattle.jz_words.specs.Memory.{Memory};
 ghost use Rattle.jz_tree.specs.declared.Program.{Program};
 ghost use Rattle.jz_tree.specs.declared.Fun.{Fun};
+ghost use Rattle.jz_tree.specs.Assignments.{AssignsToOne};
 ghost use Rattle.jz_meaning.specs.RunRules.{End, Stuck};
 ghost use Rattle.jz_meaning.specs.SourceStates.{Why};
 ghost use Rattle.jz_meaning.specs.SourceRuns.{FunOutcome, IsRun};
@@ -12,7 +13,7 @@ ghost use Rattle.jz_safety.specs.declared.alarm.Alarm.{Alarm};
 ghost use Rattle.jz_safety.specs.Alarms.{HasNoAlarm, IsFirstAlarm};
 ghost use Rattle.jz_types.specs.Resolving.{resolved_fun};
 ghost use Rattle.jz_types.specs.TypedPrograms.{HaveDeclarations};
-ghost use Rattle.jz_safety.specs.Resolved.{HaveOneLeftSide, IsResolved};
+ghost use Rattle.jz_safety.specs.Resolved.{IsResolved};
 
 /// A function has one first alarm, or no alarm, and never both.
 pub fn alarm_or_none()
@@ -32,9 +33,9 @@ pub fn alarms_are_stuck()
     ensures { (p : Program) (f : Fun) (words : List ℕ) (memory : Memory) (n : ℕ) (o : FunOutcome) (a : Alarm) → IsResolved f → IsFirstAlarm f a → IsRun p f words memory n o → o ≡ Stuck (record { span = a.span; reason = a.kind }) }
 {}
 
-/// The functions of a typed program are resolved, where each of their statements has one left side; and this they keep where
-/// typing gives the variables their declarations.
+/// The functions of a typed program are resolved, where each of their statements assigns to one variable; and this they keep
+/// where typing gives the variables their declarations.
 pub fn typed_functions_are_resolved()
-    ensures declared { (p : Program) (f : Fun) → HaveDeclarations p → Contains p.funs f → HaveOneLeftSide f.body → IsResolved f }
-    ensures resolved { (f : Fun) → HaveOneLeftSide f.body → HaveOneLeftSide (resolved_fun f).body }
+    ensures declared { (p : Program) (f : Fun) → HaveDeclarations p → Contains p.funs f → All AssignsToOne f.body → IsResolved f }
+    ensures resolved { (f : Fun) → All AssignsToOne f.body → All AssignsToOne (resolved_fun f).body }
 {}

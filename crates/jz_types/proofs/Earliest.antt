@@ -15,11 +15,19 @@ lower_trans a b c x y z u v w p q = grind (arith, nat_tests)
 lower_not : (a b c x y z u v w : ℕ) → lower a b c x y z ≡ false → lower x y z u v w ≡ false → lower a b c u v w ≡ false
 lower_not a b c x y z u v w p q = grind (arith, nat_tests)
 
+in_turn : (a b c : Bool) (d e : Bool) → ((a || (d && b)) || (d && e && c)) ≡ (a || (d && (b || (e && c))))
+in_turn true b c d e = refl
+in_turn false b c true e = refl
+in_turn false b c false e = refl
+
+lower_is : (f g : TypeFault) → precedes f g ≡ lower f.span.line f.span.col (number_of f.rule) g.span.line g.span.col (number_of g.rule)
+lower_is f g = in_turn (nat_lt f.span.line g.span.line) (nat_lt f.span.col g.span.col) (nat_lt (number_of f.rule) (number_of g.rule)) (nat_eq f.span.line g.span.line) (nat_eq f.span.col g.span.col)
+
 pub precedes_trans : (f g h : TypeFault) → precedes f g ≡ true → precedes g h ≡ true → precedes f h ≡ true
-precedes_trans f g h p q = lower_trans _ _ _ g.span.line g.span.col (number_of g.rule) _ _ _ p q
+precedes_trans f g h p q = lower_is f h ∙ lower_trans _ _ _ g.span.line g.span.col (number_of g.rule) _ _ _ (sym (lower_is f g) ∙ p) (sym (lower_is g h) ∙ q)
 
 pub precedes_not : (f g h : TypeFault) → precedes f g ≡ false → precedes g h ≡ false → precedes f h ≡ false
-precedes_not f g h p q = lower_not _ _ _ g.span.line g.span.col (number_of g.rule) _ _ _ p q
+precedes_not f g h p q = lower_is f h ∙ lower_not _ _ _ g.span.line g.span.col (number_of g.rule) _ _ _ (sym (lower_is f g) ∙ p) (sym (lower_is g h) ∙ q)
 
 pub precedes_self : (f : TypeFault) → precedes f f ≡ false
 precedes_self f = grind (arith, nat_tests)

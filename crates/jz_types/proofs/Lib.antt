@@ -1,7 +1,6 @@
 pub mod Earliest
 pub mod NameLemmas
 pub mod ScopeLemmas
-pub mod Gathered
 pub mod UnknownLemmas
 pub mod FirstLemmas
 pub mod ResolvedLemmas

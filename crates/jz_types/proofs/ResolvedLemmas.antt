@@ -19,10 +19,9 @@ use Rattle.jz_tree.specs.declared.StmtKind.TheVariants.{Assign}
 use Rattle.jz_types.specs.declared.fault.TypeRule.TheVariants.{Unknown}
 use Rattle.jz_types.specs.declared.fault.TypeFault.{TypeFault}
 use Rattle.jz_types.specs.Resolving.{resolved_var, resolved_expr, resolved_lval, resolved_rhs, resolved_kind, resolved_stmt, declaration_in, resolved_fun, resolved}
-use Rattle.jz_types.specs.Rules.{fault_at, is_known, unknown_in, repeated_in, name_of_fun, miscounted, misshapen, faults_of}
-use Rattle.jz_types.specs.Uses.{joined, in_expr_by, in_lval_by, in_rhs_by, in_kind_by, in_stmts_by, in_vars_by, one, uses_of}
+use Rattle.jz_types.specs.Rules.{fault_at, is_known, unknown_among, unknown_in, repeated_in, name_of_fun, miscounted, misshapen, faults_of}
+use Rattle.jz_types.specs.Uses.{expression_uses, left_side_uses, right_side_uses, kind_uses, body_uses, uses_of}
 use Rattle.jz_tree.specs.Variables.{variables_of}
-use Rattle.jz_types.proofs.Gathered.{fun_fused}
 
 twice : {A : Type 0} (r : A → A) → ((a : A) → r (r a) ≡ r a) → (as' : List A) → map r (map r as') ≡ map r as'
 twice r h [] = refl
@@ -57,47 +56,39 @@ fun_twice f =
 pub program_twice : (p : Program) → resolved (resolved p) ≡ resolved p
 program_twice p = ap (λ (fs : List Fun). let q : Program = record { funs = fs } in q) (twice resolved_fun fun_twice p.funs)
 
--- what is gathered where the declarations are
-module _ {X : Type 0} (n : X) (b : X → X → X) (o : Var → X) (d : List ℕ → Option Decl) where
-  abbrev own : Var → X
-  own v = o (resolved_var d v)
-
-  joined_mapped : {A : Type 0} (g g' : A → X) (r : A → A) → ((a : A) → g (r a) ≡ g' a) → (as' : List A) → joined n b (map g (map r as')) ≡ joined n b (map g' as')
-  joined_mapped g g' r h [] = refl
-  joined_mapped g g' r h (a ∷ as') = ap (λ x. b x (joined n b (map g (map r as')))) (h a) ∙ ap (b (g' a)) (joined_mapped g g' r h as')
-
-  expr_in : (e : Expr) → in_expr_by n b o (resolved_expr d e) ≡ in_expr_by n b own e
-  expr_in (expr.Num k at) = refl
-  expr_in (expr.Var v) = refl
-
-  lval_in : (l : Lval) → in_lval_by n b o (resolved_lval d l) ≡ in_lval_by n b own l
-  lval_in (lval.Var v) = refl
-
-  rhs_in : (r : Rhs) → in_rhs_by n b o (resolved_rhs d r) ≡ in_rhs_by n b own r
-  rhs_in (Value e) = expr_in e
-
-  kind_in : (k : StmtKind) → in_kind_by n b o (resolved_kind d k) ≡ in_kind_by n b own k
-  kind_in (Assign to op rhs) =
-      ap (λ x. b x (in_rhs_by n b o (resolved_rhs d rhs))) (joined_mapped (in_lval_by n b o) (in_lval_by n b own) (resolved_lval d) lval_in to)
-      ∙ ap (b (joined n b (map (in_lval_by n b own) to))) (rhs_in rhs)
-
-  pub stmts_in : (ss : List Stmt) → in_stmts_by n b o (map (resolved_stmt d) ss) ≡ in_stmts_by n b own ss
-  stmts_in ss = joined_mapped (λ (s : Stmt). in_kind_by n b o s.kind) (λ (s : Stmt). in_kind_by n b own s.kind) (resolved_stmt d) (λ s. kind_in s.kind) ss
-
-  pub vars_in : (vs : List Var) → in_vars_by n b o (map (resolved_var d) vs) ≡ in_vars_by n b own vs
-  vars_in vs = joined_mapped o own (resolved_var d) (λ v. refl) vs
-
 -- the uses are those of before, with their declarations
+module _ (d : List ℕ → Option Decl) where
+  expression_in : (e : Expr) → expression_uses (resolved_expr d e) ≡ map (resolved_var d) (expression_uses e)
+  expression_in (expr.Num k at) = refl
+  expression_in (expr.Var v) = refl
+
+  right_side_in : (r : Rhs) → right_side_uses (resolved_rhs d r) ≡ map (resolved_var d) (right_side_uses r)
+  right_side_in (Value e) = expression_in e
+
+  left_sides_in : (ls : List Lval) → flat_map left_side_uses (map (resolved_lval d) ls) ≡ map (resolved_var d) (flat_map left_side_uses ls)
+  left_sides_in [] = refl
+  left_sides_in (lval.Var v ∷ ls) = ap (λ us. resolved_var d v ∷ us) (left_sides_in ls)
+
+  kind_in : (k : StmtKind) → kind_uses (resolved_kind d k) ≡ map (resolved_var d) (kind_uses k)
+  kind_in (Assign to op rhs) =
+      ap (λ us. us ++ right_side_uses (resolved_rhs d rhs)) (left_sides_in to)
+      ∙ (ap (λ us. map (resolved_var d) (flat_map left_side_uses to) ++ us) (right_side_in rhs)
+      ∙ sym (map-append (resolved_var d) (flat_map left_side_uses to) (right_side_uses rhs)))
+
+  body_in : (ss : List Stmt) → body_uses (map (resolved_stmt d) ss) ≡ map (resolved_var d) (body_uses ss)
+  body_in [] = refl
+  body_in (s ∷ ss) =
+      ap (λ us. us ++ body_uses (map (resolved_stmt d) ss)) (kind_in s.kind)
+      ∙ (ap (λ us. map (resolved_var d) (kind_uses s.kind) ++ us) (body_in ss)
+      ∙ sym (map-append (resolved_var d) (kind_uses s.kind) (body_uses ss)))
+
 pub uses_resolved : (f : Fun) → uses_of (resolved_fun f) ≡ map (resolved_var (declaration_in (variables_of f))) (uses_of f)
 uses_resolved f =
     let d = declaration_in (variables_of f)
-    in let r : Var → List Var = λ v. one (resolved_var d v)
-    in ap (λ us. us ++ in_vars_by [] ◌++◌ one (map (resolved_var d) f.result)) (stmts_in [] ◌++◌ one d f.body)
-    ∙ (ap (λ us. in_stmts_by [] ◌++◌ r f.body ++ us) (vars_in [] ◌++◌ one d f.result)
-    ∙ sym (fun_fused {X = List Var} {Y = List Var} [] ◌++◌ one [] ◌++◌ r (map (resolved_var d)) refl (map-append (resolved_var d)) (λ u. refl) f))
+    in ap (λ us. us ++ map (resolved_var d) f.result) (body_in d f.body) ∙ sym (map-append (resolved_var d) (body_uses f.body) f.result)
 
 unknown_mapped : (vs : List Var) (d : List ℕ → Option Decl) (us : List Var)
-    → map (λ u. fault_at Unknown u.span) (filter (λ u. not (is_known vs u)) (map (resolved_var d) us)) ≡ map (λ u. fault_at Unknown u.span) (filter (λ u. not (is_known vs u)) us)
+    → unknown_among (is_known vs) (map (resolved_var d) us) ≡ unknown_among (is_known vs) us
 unknown_mapped vs d [] = refl
 unknown_mapped vs d (u ∷ us) =
     let ih = unknown_mapped vs d us
@@ -109,7 +100,7 @@ unknown_mapped vs d (u ∷ us) =
 unknown_same : (f : Fun) → unknown_in (resolved_fun f) ≡ unknown_in f
 unknown_same f =
     let vs = variables_of f
-    in ap (λ us. map (λ u. fault_at Unknown u.span) (filter (λ u. not (is_known vs u)) us)) (uses_resolved f)
+    in ap (unknown_among (is_known vs)) (uses_resolved f)
     ∙ unknown_mapped vs (declaration_in vs) (uses_of f)
 
 miscounted_same : (f : Fun) → miscounted (resolved_fun f) ≡ miscounted f

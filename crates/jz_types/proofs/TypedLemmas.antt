@@ -16,7 +16,7 @@ use Rattle.jz_types.specs.declared.fault.TypeRule.TheVariants.{Unknown, Duplicat
 use Rattle.jz_types.specs.declared.fault.TypeFault.{TypeFault}
 use Rattle.jz_types.specs.Faults.{Before, is_before}
 use Rattle.jz_types.specs.Resolving.{resolved_var, declaration_in, resolved_fun, resolved}
-use Rattle.jz_types.specs.Rules.{Name, name_of, name_of_fun, fault_at, is_known, unknown_in, second_places, repeated, repeated_in, miscounted, misshapen, IsTyped}
+use Rattle.jz_types.specs.Rules.{Name, name_of, name_of_fun, fault_at, is_known, unknown_among, unknown_in, second_places, repeated, repeated_in, miscounted, misshapen, IsTyped}
 use Rattle.jz_types.specs.TypedPrograms.{HaveDifferentNames, HasDeclaration, HaveDeclarations, HasCounts, HaveCounts}
 use Rattle.jz_types.specs.Uses.{uses_of}
 use Rattle.jz_tree.specs.Variables.{variables_of}
@@ -117,7 +117,7 @@ has_declaration vs u (Some v) e h =
       same = same;
     }
 
-declared_uses : (vs : List Var) (us : List Var) → map (λ u. fault_at Unknown u.span) (filter (λ u. not (is_known vs u)) us) ≡ []
+declared_uses : (vs : List Var) (us : List Var) → unknown_among (is_known vs) us ≡ []
     → All (HasDeclaration vs) (map (resolved_var (declaration_in vs)) us)
 declared_uses vs [] h = All-nil (HasDeclaration vs)
 declared_uses vs (u ∷ us) h =

@@ -9,6 +9,9 @@ use Rattle.jz_io.specs.declared.span.Span.{Span}
 use Rattle.jz_tree.specs.declared.Program.{Program}
 use Rattle.jz_tree.specs.declared.Fun.{Fun}
 use Rattle.jz_tree.specs.declared.Var.{Var}
+use Rattle.jz_tree.specs.declared.Lval.{Lval}
+use Rattle.jz_tree.specs.declared.Rhs.{Rhs}
+use Rattle.jz_tree.specs.declared.Stmt.{Stmt}
 use Rattle.jz_types.specs.declared.fault.TypeRule.TheVariants.{Unknown}
 use Rattle.jz_types.specs.declared.fault.TypeFault.{TypeFault}
 use Rattle.jz_types.specs.declared.scope.Scope.{Scope}
@@ -16,12 +19,11 @@ use Rattle.jz_types.specs.Faults.{earlier, first_of}
 use Rattle.jz_types.specs.Joining.{first_in}
 use Rattle.jz_types.specs.Resolving.{declaration_in}
 use Rattle.jz_types.specs.Rules.{fault_at, is_known, unknown_in, repeated, repeated_in, name_of_fun, miscounted, misshapen, faults_of}
-use Rattle.jz_types.specs.Scopes.{IsScope, declared_of, stands_above, decl_of, decls_of, has_above, missing}
-use Rattle.jz_types.specs.Uses.{one, in_fun_by, uses_of}
+use Rattle.jz_types.specs.Scopes.{IsScope, declared_of, stands_above, decl_of, decls_of, has_above, unknown_by}
+use Rattle.jz_types.specs.Uses.{left_side_uses, right_side_uses, kind_uses, body_uses, uses_of}
 use Rattle.jz_tree.specs.Variables.{variables_of}
 use Rattle.jz_types.specs.Variables.{variable_named, is_declared_above, declaration_of}
 use Rattle.jz_types.proofs.Earliest.{first_of-append, earlier-assoc}
-use Rattle.jz_types.proofs.Gathered.{fun_fused}
 
 -- the first of several lists is that of all of them
 pub first_over : {A : Type 0} (faults : A → List TypeFault) (as' : List A) → first_in faults as' ≡ first_of (flat_map faults as')
@@ -42,40 +44,46 @@ known_is s vs h u = ap (λ o. stands_above o u.span) (h.first u.name) ∙ above_
 pub decls_is : (s : Scope) (vs : List Var) → IsScope s vs → (n : List ℕ) → decls_of s n ≡ declaration_in vs n
 decls_is s vs h n = ap decl_of (h.first n) ∙ decl_mapped (variable_named n vs)
 
-faults_by : (Var → Bool) → List Var → List TypeFault
-faults_by test us = map (λ u. fault_at Unknown u.span) (filter (λ u. not (test u)) us)
-
-first_by : (Var → Bool) → List Var → Option TypeFault
-first_by test us = first_of (faults_by test us)
-
-by-append : (test : Var → Bool) (xs ys : List Var) → first_by test (xs ++ ys) ≡ earlier (first_by test xs) (first_by test ys)
-unfolding first_by faults_by
-by-append test xs ys =
+by-append : (s : Scope) (xs ys : List Var) → first_of (unknown_by s (xs ++ ys)) ≡ earlier (first_of (unknown_by s xs)) (first_of (unknown_by s ys))
+unfolding unknown_by
+by-append s xs ys =
     let at : Var → TypeFault = λ u. fault_at Unknown u.span
-    in let bad : Var → Bool = λ u. not (test u)
+    in let bad : Var → Bool = λ u. not (has_above s u)
     in ap (λ us. first_of (map at us)) (filter-append bad xs ys)
     ∙ (ap first_of (map-append at (filter bad xs) (filter bad ys)) ∙ first_of-append (map at (filter bad xs)) (map at (filter bad ys)))
 
-by-one : (test : Var → Bool) (u : Var) → first_by test (one u) ≡ missing test u
-unfolding first_by faults_by
-by-one test u =
-    elim (test u) as (λ b. first_of (map (λ u. fault_at Unknown u.span) (if not b then u ∷ [] else [])) ≡ (if b then None else Some (fault_at Unknown u.span)))
-    [ true ↦ refl | false ↦ refl ]
+by-none : (s : Scope) → first_of (unknown_by s []) ≡ None
+unfolding unknown_by
+by-none s = refl
 
-by-nil : (test : Var → Bool) → first_by test [] ≡ None
-unfolding first_by faults_by
-by-nil test = refl
+-- the first fault of what items use, by the items
+by_items : {A : Type 0} (s : Scope) (uses : A → List Var) (as' : List A) → first_of (unknown_by s (flat_map uses as')) ≡ first_in (λ a. unknown_by s (uses a)) as'
+by_items s uses [] = by-none s
+by_items s uses (a ∷ as') = by-append s (uses a) (flat_map uses as') ∙ ap (earlier (first_of (unknown_by s (uses a)))) (by_items s uses as')
 
-same_tests : (p q : Var → Bool) → ((u : Var) → p u ≡ q u) → (us : List Var) → first_by p us ≡ first_by q us
-unfolding first_by faults_by
-same_tests p q h us = ap (λ vs. first_of (map (λ u. fault_at Unknown u.span) vs)) (filter_agree (λ u. not (p u)) (λ u. not (q u)) (λ u. ap not (h u)) us)
+by_uses : (s : Scope) (us : List Var) → first_of (unknown_by s us) ≡ first_in (λ u. unknown_by s (u ∷ [])) us
+by_uses s [] = by-none s
+by_uses s (u ∷ us) = by-append s (u ∷ []) us ∙ ap (earlier (first_of (unknown_by s (u ∷ [])))) (by_uses s us)
 
-pub unknown_is : (s : Scope) (f : Fun) → IsScope s (variables_of f) → in_fun_by None earlier (missing (has_above s)) f ≡ first_of (unknown_in f)
-unfolding first_by faults_by
+pub assignment_unknown : (s : Scope) (to : List Lval) (rhs : Rhs)
+    → earlier (first_in (λ d. unknown_by s (left_side_uses d)) to) (first_of (unknown_by s (right_side_uses rhs))) ≡ first_of (unknown_by s (flat_map left_side_uses to ++ right_side_uses rhs))
+assignment_unknown s to rhs =
+    let right = first_of (unknown_by s (right_side_uses rhs))
+    in ap (λ o. earlier o right) (sym (by_items s left_side_uses to)) ∙ sym (by-append s (flat_map left_side_uses to) (right_side_uses rhs))
+
+pub fun_unknown : (s : Scope) (f : Fun)
+    → earlier (first_in (λ x. unknown_by s (kind_uses x.kind)) f.body) (first_in (λ u. unknown_by s (u ∷ [])) f.result) ≡ first_of (unknown_by s (uses_of f))
+fun_unknown s f =
+    let uses : Stmt → List Var = λ x. kind_uses x.kind
+    in ap (λ o. earlier o (first_in (λ u. unknown_by s (u ∷ [])) f.result)) (sym (by_items s uses f.body))
+    ∙ (ap (earlier (first_of (unknown_by s (body_uses f.body)))) (sym (by_uses s f.result)) ∙ sym (by-append s (body_uses f.body) f.result))
+
+pub unknown_is : (s : Scope) (f : Fun) → IsScope s (variables_of f) → first_of (unknown_by s (uses_of f)) ≡ first_of (unknown_in f)
+unfolding unknown_by
 unknown_is s f h =
-    let test = has_above s
-    in sym (fun_fused {X = List Var} {Y = Option TypeFault} [] ◌++◌ one None earlier (missing test) (first_by test) (by-nil test) (by-append test) (by-one test) f)
-    ∙ same_tests test (is_known (variables_of f)) (known_is s (variables_of f) h) (uses_of f)
+    let vs = variables_of f
+    in ap (λ us. first_of (map (λ u. fault_at Unknown u.span) us))
+    (filter_agree (λ u. not (has_above s u)) (λ u. not (is_known vs u)) (λ u. ap not (known_is s vs h u)) (uses_of f))
 
 -- the faults of the five walks are those of the program
 pub all_faults : (p : Program) (u f v m s : Option TypeFault)

@@ -31,9 +31,8 @@ IsFirst fs f = Contains fs f × ((g : TypeFault) → Contains fs g → IsToldBef
 -- f has to be told before g
 abbrev pub precedes : TypeFault → TypeFault → Bool
 precedes f g =
-    nat_lt f.span.line g.span.line
-    || (nat_eq f.span.line g.span.line
-    && (nat_lt f.span.col g.span.col || (nat_eq f.span.col g.span.col && nat_lt (number_of f.rule) (number_of g.rule))))
+    is_before f.span g.span
+    || (nat_eq f.span.line g.span.line && nat_eq f.span.col g.span.col && nat_lt (number_of f.rule) (number_of g.rule))
 
 -- the one of two that is told, if there is one
 abbrev pub earlier : Option TypeFault → Option TypeFault → Option TypeFault

@@ -17,12 +17,16 @@ use Rattle.jz_types.specs.Uses.{uses_of}
 abbrev pub fault_at : TypeRule → Span → TypeFault
 fault_at rule span = record { rule = rule; span = span }
 
+-- a fault for each of these uses that is not known
+abbrev pub unknown_among : (Var → Bool) → List Var → List TypeFault
+unknown_among known us = map (λ u. fault_at Unknown u.span) (filter (λ u. not (known u)) us)
+
 -- Unknown: a variable is used whose name has no declaration above
 abbrev pub is_known : List Var → Var → Bool
 is_known vs u = is_declared_above (variable_named u.name vs) u.span
 
 abbrev pub unknown_in : Fun → List TypeFault
-unknown_in f = map (λ u. fault_at Unknown u.span) (filter (λ u. not (is_known (variables_of f) u)) (uses_of f))
+unknown_in f = unknown_among (is_known (variables_of f)) (uses_of f)
 
 -- a name where it stands
 abbrev pub Name : Type 0

@@ -1,5 +1,5 @@
 -- What the tables of names hold.
-use Rattle.std.specs.Prelude.{◌≡◌, ℕ, Bool, false, ◌&&◌, is_some, List, Option, Some, None, if◌then◌else◌}
+use Rattle.std.specs.Prelude.{◌≡◌, ℕ, Bool, false, ◌&&◌, is_some, List, Option, Some, None}
 use Rattle.std.specs.Option.{option_map}
 use Rattle.std.specs.List.{list_any}
 use Rattle.std.specs.Str.{bytes_eq}
@@ -7,14 +7,13 @@ use Rattle.indexmap.specs.IndexMap.{get}
 use Rattle.jz_io.specs.declared.span.Span.{Span}
 use Rattle.jz_tree.specs.declared.Decl.{Decl}
 use Rattle.jz_tree.specs.declared.Var.{Var}
-use Rattle.jz_types.specs.declared.fault.TypeRule.TheVariants.{Unknown}
 use Rattle.jz_types.specs.declared.fault.TypeFault.{TypeFault}
 use Rattle.jz_types.specs.declared.scope.Declared.{Declared}
 use Rattle.jz_types.specs.declared.scope.Scope.{Scope}
 use Rattle.jz_types.specs.declared.names.Names.{Names}
 use Rattle.jz_types.specs.Faults.{is_before, first_of}
 use Rattle.jz_types.specs.Variables.{variable_named}
-use Rattle.jz_types.specs.Rules.{Name, fault_at, repeated}
+use Rattle.jz_types.specs.Rules.{Name, unknown_among, repeated}
 
 -- what a table keeps of a variable
 abbrev pub declared_of : Var → Declared
@@ -40,9 +39,9 @@ decls_of s n = decl_of (get bytes_eq s.variables n)
 abbrev pub has_above : Scope → Var → Bool
 has_above s u = stands_above (get bytes_eq s.variables u.name) u.span
 
--- a fault where the test fails
-abbrev pub missing : (Var → Bool) → Var → Option TypeFault
-missing test u = if test u then None else Some (fault_at Unknown u.span)
+-- a fault for each of these uses for which the table has no declaration above
+unfoldable pub unknown_by : Scope → List Var → List TypeFault
+unknown_by s us = unknown_among (has_above s) us
 
 -- the names of the list are known, and the first fault of those that repeat
 pub record IsNames (s : Names) (ns : List Name) : Type 0 where

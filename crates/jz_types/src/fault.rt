@@ -47,13 +47,11 @@ pub(crate) fn is_before(a: Span, b: Span) -> bool
     a.line < b.line || a.line == b.line && a.col < b.col
 }
 
+/// Whether f has to be told before g.
 fn precedes(f: TypeFault, g: TypeFault) -> bool
     ensures { result ≡ precedes f g }
 {
-    let (a, b) = (f.span, g.span);
-    a.line < b.line
-        || a.line == b.line
-            && (a.col < b.col || a.col == b.col && f.rule.number() < g.rule.number())
+    is_before(f.span, g.span) || f.span == g.span && f.rule.number() < g.rule.number()
 }
 
 /// The one of two that is told, if there is one.

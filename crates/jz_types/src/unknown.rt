@@ -1,13 +1,13 @@
 //! Variables that are used and have no declaration above.
 #![tactic(auto, using(crate::proofs::Earliest::earlier_laws))]
 
-ghost use Rattle.std.specs.Prelude.{◌≡◌, None, IfOk};
-ghost use Rattle.jz_types.specs.Faults.{earlier, first_of};
+ghost use Rattle.std.specs.Prelude.{◌≡◌, [], ◌∷◌, ◌++◌, IfOk};
+ghost use Rattle.std.specs.List.{flat_map};
+ghost use Rattle.jz_types.specs.Faults.{first_of};
 ghost use Rattle.jz_types.specs.Joining.{first_in};
 ghost use Rattle.jz_types.specs.Rules.{unknown_in};
-ghost use Rattle.jz_types.specs.Scopes.{missing, has_above};
-ghost use Rattle.jz_types.specs.Uses.{joined, in_expr_by, in_lval_by, in_rhs_by, in_kind_by, in_stmts_by, in_vars_by, in_fun_by};
-ghost use Rattle.std.specs.Prelude.{map};
+ghost use Rattle.jz_types.specs.Scopes.{unknown_by};
+ghost use Rattle.jz_types.specs.Uses.{expression_uses, left_side_uses, right_side_uses, kind_uses, uses_of};
 
 use crate::fault::{TypeFault, TypeRule, earlier_of};
 use crate::scope::Scope;
@@ -15,8 +15,9 @@ use jz_data::Seq;
 use jz_tree::{Expr, Fun, Lval, Program, Rhs, Stmt, StmtKind, Var};
 use std::alloc::{AllocError, Global};
 
+#[tactic(auto, unfolding(crate::specs::Scopes::unknown_by))]
 fn in_var(scope: &Scope, var: &Var) -> Option<TypeFault>
-    ensures { result ≡ missing (has_above scope.now) var.now }
+    ensures { result ≡ first_of (unknown_by scope.now (var.now ∷ [])) }
 {
     if scope.has_above(var) {
         None
@@ -29,7 +30,7 @@ fn in_var(scope: &Scope, var: &Var) -> Option<TypeFault>
 }
 
 fn in_vars(scope: &Scope, vars: &Seq<Var>) -> Option<TypeFault>
-    ensures { result ≡ in_vars_by None earlier (missing (has_above scope.now)) vars.now }
+    ensures { result ≡ first_in (λ u. unknown_by scope.now (u ∷ [])) vars.now }
 {
     let mut first = None;
     for var in vars.as_slice() {
@@ -38,8 +39,9 @@ fn in_vars(scope: &Scope, vars: &Seq<Var>) -> Option<TypeFault>
     first
 }
 
+#[tactic(auto, unfolding(crate::specs::Scopes::unknown_by))]
 fn in_expr(scope: &Scope, expr: &Expr) -> Option<TypeFault>
-    ensures { result ≡ in_expr_by None earlier (missing (has_above scope.now)) expr.now }
+    ensures { result ≡ first_of (unknown_by scope.now (expression_uses expr.now)) }
 {
     match expr {
         Expr::Num(_, _) => None,
@@ -48,7 +50,7 @@ fn in_expr(scope: &Scope, expr: &Expr) -> Option<TypeFault>
 }
 
 fn in_rhs(scope: &Scope, rhs: &Rhs) -> Option<TypeFault>
-    ensures { result ≡ in_rhs_by None earlier (missing (has_above scope.now)) rhs.now }
+    ensures { result ≡ first_of (unknown_by scope.now (right_side_uses rhs.now)) }
 {
     match rhs {
         Rhs::Value(expr) => in_expr(scope, expr),
@@ -56,7 +58,7 @@ fn in_rhs(scope: &Scope, rhs: &Rhs) -> Option<TypeFault>
 }
 
 fn in_lval(scope: &Scope, to: &Lval) -> Option<TypeFault>
-    ensures { result ≡ in_lval_by None earlier (missing (has_above scope.now)) to.now }
+    ensures { result ≡ first_of (unknown_by scope.now (left_side_uses to.now)) }
 {
     match to {
         Lval::Var(var) => in_var(scope, var),
@@ -64,7 +66,7 @@ fn in_lval(scope: &Scope, to: &Lval) -> Option<TypeFault>
 }
 
 fn in_lvals(scope: &Scope, tos: &Seq<Lval>) -> Option<TypeFault>
-    ensures { result ≡ joined None earlier (map (in_lval_by None earlier (missing (has_above scope.now))) tos.now) }
+    ensures { result ≡ first_in (λ to. unknown_by scope.now (left_side_uses to)) tos.now }
 {
     let mut first = None;
     for to in tos.as_slice() {
@@ -73,16 +75,22 @@ fn in_lvals(scope: &Scope, tos: &Seq<Lval>) -> Option<TypeFault>
     first
 }
 
+fn in_assignment(scope: &Scope, to: &Seq<Lval>, rhs: &Rhs) -> Option<TypeFault>
+    ensures { result ≡ first_of (unknown_by scope.now (flat_map left_side_uses to.now ++ right_side_uses rhs.now)) }
+{
+    earlier_of(in_lvals(scope, to), in_rhs(scope, rhs))
+}
+
 fn in_kind(scope: &Scope, kind: &StmtKind) -> Option<TypeFault>
-    ensures { result ≡ in_kind_by None earlier (missing (has_above scope.now)) kind.now }
+    ensures { result ≡ first_of (unknown_by scope.now (kind_uses kind.now)) }
 {
     match kind {
-        StmtKind::Assign { to, op: _, rhs } => earlier_of(in_lvals(scope, to), in_rhs(scope, rhs)),
+        StmtKind::Assign { to, op: _, rhs } => in_assignment(scope, to, rhs),
     }
 }
 
 fn in_stmts(scope: &Scope, stmts: &Seq<Stmt>) -> Option<TypeFault>
-    ensures { result ≡ in_stmts_by None earlier (missing (has_above scope.now)) stmts.now }
+    ensures { result ≡ first_in (λ s. unknown_by scope.now (kind_uses s.kind)) stmts.now }
 {
     let mut first = None;
     for stmt in stmts.as_slice() {
@@ -92,7 +100,7 @@ fn in_stmts(scope: &Scope, stmts: &Seq<Stmt>) -> Option<TypeFault>
 }
 
 fn in_fun(scope: &Scope, fun: &Fun) -> Option<TypeFault>
-    ensures { result ≡ in_fun_by None earlier (missing (has_above scope.now)) fun.now }
+    ensures { result ≡ first_of (unknown_by scope.now (uses_of fun.now)) }
 {
     earlier_of(in_stmts(scope, &fun.body), in_vars(scope, &fun.result))
 }

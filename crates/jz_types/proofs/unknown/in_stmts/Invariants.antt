@@ -1,10 +1,9 @@
-use Rattle.std.proofs.Common.{◌≡◌, None, drop}
+use Rattle.std.proofs.Common.{◌≡◌, drop}
 use Rattle.jz_types.specs.Faults.{earlier}
-use Rattle.jz_types.specs.Scopes.{missing, has_above}
-use Rattle.jz_types.specs.Uses.{in_stmts_by}
+use Rattle.jz_types.specs.Joining.{first_in}
+use Rattle.jz_types.specs.Scopes.{unknown_by}
+use Rattle.jz_types.specs.Uses.{kind_uses}
 use Rattle.jz_types.proofs.unknown.in_stmts.Given as goal
 
 abbrev pub invariant-loop-stmt : goal.invariant-loop-stmt
-invariant-loop-stmt l =
-    earlier l.first (in_stmts_by None earlier (missing (has_above l.scope)) (drop l.stmt-index l.stmt-items))
-    ≡ in_stmts_by None earlier (missing (has_above l.scope)) l.stmts
+invariant-loop-stmt l = earlier l.first (first_in (λ s. unknown_by l.scope (kind_uses s.kind)) (drop l.stmt-index l.stmt-items)) ≡ first_in (λ s. unknown_by l.scope (kind_uses s.kind)) l.stmts
