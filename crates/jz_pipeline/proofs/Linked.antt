@@ -4,6 +4,7 @@ use Rattle.std.specs.Prelude.{Option, Some, map}
 use Rattle.std.specs.List.{All}
 use Rattle.std.proofs.lemmas.List.{length-append, get_or_append_left}
 use Rattle.std.proofs.lemmas.List.Elements.{All-nil, All-cons, All-head, All-tail, All-weaker}
+use Rattle.jz_data.proofs.Lists.{All-front, All-back}
 use Rattle.x64_insn.specs.declared.types.Place.{Place}
 use Rattle.jz_ir.specs.Order.{number_of}
 use Rattle.jz_ir.specs.Places.{IsWithin, placed, refused}
@@ -37,14 +38,6 @@ use Rattle.jz_pipeline.specs.Placed.{IsCompiled, IsUnplaced, IsPlaceable}
 use Rattle.jz_pipeline.specs.declared.unplaced.NoPlace.{NoPlace}
 use Rattle.jz_pipeline.proofs.Correct.{correct}
 
--- ---- parts of lists
-pub all_front : {X : Type 0} (P : X → Type 0) (xs ys : List X) → All P (xs ++ ys) → All P xs
-all_front P xs ys h k d l = subst P (get_or_append_left xs ys d k l) (h k d (omega (arith, l, length-append xs ys)))
-
-pub all_back : {X : Type 0} (P : X → Type 0) (xs ys : List X) → All P (xs ++ ys) → All P ys
-all_back P [] ys h = h
-all_back P (x ∷ xs) ys h = all_back P xs ys (All-tail P x (xs ++ ys) h)
-
 -- ---- the variables that a function uses are known
 module _ (vs : List Var) where
   lefts_known : (ds : List Lval) → All (IsKnown vs) (joined [] ◌++◌ (map (in_lval_by [] ◌++◌ one) ds)) → KnownLefts vs ds
@@ -59,14 +52,14 @@ module _ (vs : List Var) where
   kind_known (kind.Assign ds o r) a =
       let lefts : List Var = joined [] ◌++◌ (map (in_lval_by [] ◌++◌ one) ds) in
       let right : List Var = in_rhs_by [] ◌++◌ one r in
-      (lefts_known ds (all_front (IsKnown vs) lefts right a), right_known r (all_back (IsKnown vs) lefts right a))
+      (lefts_known ds (All-front (IsKnown vs) lefts right a), right_known r (All-back (IsKnown vs) lefts right a))
 
   body_known : (ss : List Stmt) → All (IsKnown vs) (in_stmts_by [] ◌++◌ one ss) → KnownBody vs ss
   body_known [] a = tt
   body_known (s ∷ ss) a =
       let here : List Var = in_kind_by [] ◌++◌ one s.kind in
       let later : List Var = in_stmts_by [] ◌++◌ one ss in
-      (kind_known s.kind (all_front (IsKnown vs) here later a), body_known ss (all_back (IsKnown vs) here later a))
+      (kind_known s.kind (All-front (IsKnown vs) here later a), body_known ss (All-back (IsKnown vs) here later a))
 
   vars_known : (xs : List Var) → All (IsKnown vs) (in_vars_by [] ◌++◌ one xs) → All (IsKnown vs) xs
   vars_known [] a = All-nil (IsKnown vs)
@@ -77,10 +70,10 @@ module _ (f : Fun) (declared : All (HasDeclaration (variables_of f)) (uses_of f)
   used_known = All-weaker (HasDeclaration (variables_of f)) (IsKnown (variables_of f)) (λ u d. known_by_name (variables_of f) d.variable u.name d.among d.name) (uses_of f) declared
 
   body_is_known : KnownBody (variables_of f) f.body
-  body_is_known = body_known (variables_of f) f.body (all_front (IsKnown (variables_of f)) (in_stmts_by [] ◌++◌ one f.body) (in_vars_by [] ◌++◌ one f.result) used_known)
+  body_is_known = body_known (variables_of f) f.body (All-front (IsKnown (variables_of f)) (in_stmts_by [] ◌++◌ one f.body) (in_vars_by [] ◌++◌ one f.result) used_known)
 
   result_is_known : All (IsKnown (variables_of f)) f.result
-  result_is_known = vars_known (variables_of f) f.result (all_back (IsKnown (variables_of f)) (in_stmts_by [] ◌++◌ one f.body) (in_vars_by [] ◌++◌ one f.result) used_known)
+  result_is_known = vars_known (variables_of f) f.result (All-back (IsKnown (variables_of f)) (in_stmts_by [] ◌++◌ one f.body) (in_vars_by [] ◌++◌ one f.result) used_known)
 
   -- each variable of its operations has a kind
   pub placeable_within : IsWithin (code_of f)

@@ -6,6 +6,7 @@ use Rattle.std.specs.List.{All, AllPairs, Contains, filter_map, cons_option}
 use Rattle.std.proofs.lemmas.Int.{ints}
 use Rattle.std.proofs.lemmas.List.{length-append, length-map}
 use Rattle.std.proofs.lemmas.List.Elements.{All-head, All-tail, All-append, All-map, All-weaker, All-contains}
+use Rattle.jz_data.proofs.Lists.{All-front, All-back}
 use Rattle.x64_insn.specs.Chosen.{fits_bytes}
 use Rattle.x64_insn.proofs.Immediates.{within_fits}
 use Rattle.jz_tree.specs.declared.Program.{Program}
@@ -28,7 +29,6 @@ use Rattle.jz_pass.specs.Limits.{Constant, HasField, reading, immediate_of, IsWi
 use Rattle.jz_safety.specs.Resolved.{HasOneLeftSide, HaveOneLeftSide}
 use Rattle.jz_lower.specs.Straight.{IsWord, AreWords, GiveWords, SetsWord, SetWords, KindFits, FitImmediates, IsStraight}
 use Rattle.jz_pipeline.specs.Placed.{IsPlaceable}
-use Rattle.jz_pipeline.proofs.Linked.{all_front, all_back}
 
 -- ---- words
 abbrev IsDeclaredWord : Var → Type 0
@@ -59,7 +59,7 @@ set_words [] left a = tt
 set_words (s ∷ ss) left a =
     let here : List Var = in_kind_by [] ◌++◌ one s.kind in
     let later : List Var = in_stmts_by [] ◌++◌ one ss in
-    (sets_word s.kind left.0 (all_front IsDeclaredWord here later a), set_words ss left.1 (all_back IsDeclaredWord here later a))
+    (sets_word s.kind left.0 (All-front IsDeclaredWord here later a), set_words ss left.1 (All-back IsDeclaredWord here later a))
 
 -- ---- immediates
 -- a signed number of 32 bits is held by four bytes
@@ -93,7 +93,7 @@ placeable p f names declarations counts among words limits left =
       params = are_words f.params words.params;
       rets = give_words f.rets words.rets;
       counts = counted.results;
-      body = set_words f.body left (all_front IsDeclaredWord (in_stmts_by [] ◌++◌ one f.body) (in_vars_by [] ◌++◌ one f.result) used);
+      body = set_words f.body left (All-front IsDeclaredWord (in_stmts_by [] ◌++◌ one f.body) (in_vars_by [] ◌++◌ one f.result) used);
       immediates = fit_immediates f.body limits.1;
     } in
     record {

@@ -1,7 +1,8 @@
 -- Declarations of what is used, as safety needs them.
 use Rattle.std.proofs.Common.{ℕ, List, [], ◌∷◌, ◌++◌, Option, map}
 use Rattle.std.specs.Prelude.{All, Contains}
-use Rattle.std.proofs.lemmas.List.Elements.{All-nil, All-cons, All-head, All-tail, All-contains}
+use Rattle.std.proofs.lemmas.List.Elements.{All-head, All-contains}
+use Rattle.jz_data.proofs.Lists.{All-front, All-back}
 use Rattle.jz_tree.specs.declared.Program.{Program}
 use Rattle.jz_tree.specs.declared.Fun.{Fun}
 use Rattle.jz_tree.specs.declared.Var.{Var}
@@ -16,15 +17,6 @@ use Rattle.jz_types.specs.Resolving.{resolved_kind, resolved_stmt, declaration_i
 use Rattle.jz_types.specs.TypedPrograms.{HasDeclaration, HaveDeclarations}
 use Rattle.jz_safety.specs.Resolved.{HasOneLeftSide, HaveOneLeftSide, AssignsOne, AreResolved, IsResolved}
 
-module _ {A : Type 0} (P : A → Type 0) where
-  all_left : (xs ys : List A) → All P (xs ++ ys) → All P xs
-  all_left [] ys h = All-nil P
-  all_left (x ∷ xs) ys h = All-cons P x xs (All-head P x (xs ++ ys) h) (all_left xs ys (All-tail P x (xs ++ ys) h))
-
-  all_right : (xs ys : List A) → All P (xs ++ ys) → All P ys
-  all_right [] ys h = h
-  all_right (x ∷ xs) ys h = all_right xs ys (All-tail P x (xs ++ ys) h)
-
 kind_resolved : (vs : List Var) (k : StmtKind) → HasOneLeftSide k → All (HasDeclaration vs) (in_kind_by [] ◌++◌ one k) → AssignsOne k
 kind_resolved vs (kind.Assign [] o r) h a = absurd h
 kind_resolved vs (kind.Assign (lval.Var x ∷ []) o r) h a = let d : HasDeclaration vs x = All-head (HasDeclaration vs) x (in_rhs_by [] ◌++◌ one r) a in d.some
@@ -35,14 +27,14 @@ body_resolved vs [] h a = tt
 body_resolved vs (s ∷ ss) h a =
     let here = in_kind_by [] ◌++◌ one s.kind in
     let rest = in_stmts_by [] ◌++◌ one ss in (
-      kind_resolved vs s.kind h.0 (all_left (HasDeclaration vs) here rest a),
-      body_resolved vs ss h.1 (all_right (HasDeclaration vs) here rest a),
+      kind_resolved vs s.kind h.0 (All-front (HasDeclaration vs) here rest a),
+      body_resolved vs ss h.1 (All-back (HasDeclaration vs) here rest a),
     )
 
 pub typed_resolved : (p : Program) (f : Fun) → HaveDeclarations p → Contains p.funs f → HaveOneLeftSide f.body → IsResolved f
 typed_resolved p f d c h =
     let a : All (HasDeclaration (variables_of f)) (uses_of f) = All-contains (λ (g : Fun). All (HasDeclaration (variables_of g)) (uses_of g)) p.funs f d c in
-    body_resolved (variables_of f) f.body h (all_left (HasDeclaration (variables_of f)) (in_stmts_by [] ◌++◌ one f.body) (in_vars_by [] ◌++◌ one f.result) a)
+    body_resolved (variables_of f) f.body h (All-front (HasDeclaration (variables_of f)) (in_stmts_by [] ◌++◌ one f.body) (in_vars_by [] ◌++◌ one f.result) a)
 
 -- ---- typing keeps the left sides
 
