@@ -11,6 +11,7 @@ use jz_data::Seq;
 use jz_io::Bytes;
 use jz_leak::{Event, Events, MemMap};
 use jz_listing::{Arg, Compiled, write_number};
+use jz_lower::ARGUMENT_REGISTERS;
 use jz_words::Size;
 use std::alloc::{AllocError, Global};
 use x64_insn::{FaultKind, FlagVal, Reg, State, StepLeak};
@@ -21,9 +22,6 @@ const CODE_BASE: u64 = 0x40_0000;
 const RETURN_SLOT: u64 = 0x7fff_ffff_0008;
 
 const STEP_LIMIT: u64 = 1_000_000;
-
-/// The registers of integer arguments, in their order (System V AMD64 ABI, 3.2.3).
-const ARGUMENT_REGISTERS: [Reg; 6] = [Reg::Rdi, Reg::Rsi, Reg::Rdx, Reg::Rcx, Reg::R8, Reg::R9];
 
 /// How a run ended.
 #[derive(Debug, Drop)]

@@ -1,7 +1,6 @@
 -- First fit over tables.
-use Rattle.std.proofs.Common.{◌≡◌, ◌≢◌, ℕ, suc, ◌+◌, ◌/◌, ◌<◌, ◌≤◌, ◌⊎◌, inl, inr, ◌↔◌, List, [], ◌∷◌, Bool, true, false, ◌||◌, IsTrue, length, get_or, set, drop, replicate, Option, Some, None, refl, sym, ap, ◌∙◌, subst, arith, nat_eq, get_or-set_same, get_or-set_other, drop-cons, add-one, length-set}
-use Rattle.std.proofs.lemmas.Bool.{false_from_ne_true, cases_eq, cases_lt, eqb-true}
-use Rattle.std.proofs.lemmas.Bool.Decides.{nat_tests}
+use Rattle.std.proofs.Common.{◌≡◌, ◌≢◌, ℕ, suc, ◌+◌, ◌/◌, ◌<◌, ◌≤◌, ◌⊎◌, inl, inr, ◌↔◌, List, [], ◌∷◌, false, ◌||◌, IsTrue, length, get_or, set, drop, replicate, Option, Some, None, refl, sym, ap, ◌∙◌, subst, arith, nat_eq, get_or-set_same, get_or-set_other, drop-cons, add-one, length-set}
+use Rattle.std.proofs.lemmas.Bool.{false_from_ne_true, cases_eq, cases_lt, eq-eqb, eqb-true, or_cases, or_left, or_right}
 use Rattle.std.proofs.lemmas.List.{get_or-replicate, get_or_past, get_or_default, drop_all, length-replicate}
 use Rattle.std.proofs.lemmas.List.Elements.{All-set}
 use Rattle.jz_bits.specs.Has.{has}
@@ -32,20 +31,6 @@ module _ (meets taken rows : List (List ℕ)) (places : List (Option ℕ)) (busy
     not_busy = false_from_ne_true _ (λ b. elim (k.busy_if q v lt b) [ inl t ↦ f.untaken t | inr (u, e, c) ↦ f.apart u e (inl c) ]);
     not_held = λ (u, c, h). f.apart u ((k.held q u lt).0 h) (inr c);
   }
-
-or_cases : (a b : Bool) → IsTrue (a || b) → IsTrue a ⊎ IsTrue b
-or_cases true b h = inl refl
-or_cases false b h = inr h
-
-or_left : (a b : Bool) → IsTrue a → IsTrue (a || b)
-or_left a b h = rw h refl
-
-or_right : (a b : Bool) → IsTrue b → IsTrue (a || b)
-or_right true b h = refl
-or_right false b h = h
-
-eqb_refl_true : (n : ℕ) → IsTrue (nat_eq n n)
-eqb_refl_true n = grind (arith, nat_tests)
 
 same_row : (rows : List (List ℕ)) (q : ℕ) (r : List ℕ) → q < length rows → (w : ℕ) → row_has (set rows q r) q w ≡ has r w
 same_row rows q r lt w = ap (λ x. has x w) (get_or-set_same rows q r [] lt)
@@ -95,7 +80,7 @@ module _ (taken rows : List (List ℕ)) (places : List (Option ℕ)) (busy holde
           | inr o ↦ kept u q ((k.held q u ql).0 o)
         ],
         λ f. e ∙ elim (old_or_new u q f) [
-          | inl z ↦ or_left (nat_eq u v) (row_has holders q u) (subst (λ x. IsTrue (nat_eq x v)) (sym z.0) (eqb_refl_true v))
+          | inl z ↦ or_left (nat_eq u v) (row_has holders q u) (subst (λ x. IsTrue (nat_eq x v)) (sym z.0) (eq-eqb v v refl))
           | inr z ↦ or_right (nat_eq u v) (row_has holders q u) ((k.held q u ql).1 z.1)
         ],
       )

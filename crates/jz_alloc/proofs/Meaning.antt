@@ -1,11 +1,10 @@
 -- First fit over tables is first fit by paths.
-use Rattle.std.proofs.Common.{◌≡◌, ℕ, zero, suc, ◌+◌, ◌<◌, ◌⊎◌, inl, inr, ◌↔◌, Bool, true, false, not, ◌&&◌, ◌||◌, List, [], ◌∷◌, ◌++◌, IsTrue, IsFalse, Option, Some, None, length, get_or, refl, sym, ap, ◌∙◌, subst, arith, replicate, map, length-set, zero-add}
+use Rattle.std.proofs.Common.{◌≡◌, ℕ, zero, suc, ◌+◌, ◌<◌, inl, inr, ◌↔◌, Bool, true, false, not, ◌&&◌, List, [], ◌∷◌, ◌++◌, IsTrue, IsFalse, Option, Some, None, length, get_or, refl, sym, ap, ◌∙◌, subst, arith, replicate, map, length-set, zero-add}
 use Rattle.std.specs.List.{All}
 use Rattle.std.proofs.lemmas.List.{get_or_past}
-use Rattle.std.proofs.lemmas.Bool.{cases_lt, cases_eq, eqb-true, lt-ltb}
+use Rattle.std.proofs.lemmas.Bool.{and_from, and_parts, cases_eq, cases_lt, eqb-true, lt-ltb, ltb-true, or_cases, or_left, or_right}
 use Rattle.std.proofs.lemmas.List.Elements.{All-get_or, All-from_get_or, All-weaker, All-push}
 use Rattle.std.specs.Prelude.{nat_lt, nat_le, nat_eq}
-use borrow.Author.Tests.{ltb-true}
 use Rattle.jz_bits.specs.Has.{has}
 use Rattle.jz_bits.proofs.One.{past}
 use Rattle.jz_ir.specs.Places.{Below}
@@ -88,34 +87,16 @@ pub left_below : {M : ℕ → ℕ → Type 0} {C : ℕ → ℕ → Type 0} {T : 
 left_below n a (one_placed {vs} t f) = left_below n (λ i d k. a (suc i) d (omega arith)) f
 left_below n a (one_left l) = a 0 0 (omega arith)
 
-pub and_both : (a b : Bool) → IsTrue (a && b) → IsTrue a × IsTrue b
-and_both true b h = (refl, h)
-and_both false b h = cc
-
-both_and : (a b : Bool) → IsTrue a → IsTrue b → IsTrue (a && b)
-both_and a b h k = rw (h, k) refl
-
 not_false : (b : Bool) → IsTrue (not b) → IsFalse b
 not_false true h = cc
 not_false false h = refl
 
-pub or_cases : (a b : Bool) → IsTrue (a || b) → IsTrue a ⊎ IsTrue b
-or_cases true b h = inl refl
-or_cases false b h = inr h
-
 any_here : (n : ℕ) (f : ℕ → Bool) (k : ℕ) → k < n → IsTrue (f k) → IsTrue (any_below n f)
 any_here zero f k l h = absurd (omega arith)
 any_here (suc n) f k l h = elim (cases_eq k n) [
-  | inl e ↦ or_r (any_below n f) (f n) (subst (λ x. IsTrue (f x)) e h)
-  | inr ne ↦ or_l (any_below n f) (f n) (any_here n f k (omega arith) h)
+  | inl e ↦ or_right (any_below n f) (f n) (subst (λ x. IsTrue (f x)) e h)
+  | inr ne ↦ or_left (any_below n f) (f n) (any_here n f k (omega arith) h)
 ]
-  where
-    or_l : (a b : Bool) → IsTrue a → IsTrue (a || b)
-    or_l a b t = rw t refl
-
-    or_r : (a b : Bool) → IsTrue b → IsTrue (a || b)
-    or_r true b t = refl
-    or_r false b t = t
 
 any_found : (n : ℕ) (f : ℕ → Bool) → IsTrue (any_below n f) → (k : ℕ) × (k < n) × IsTrue (f k)
 any_found zero f h = cc
@@ -125,10 +106,10 @@ any_found (suc n) f h = elim (or_cases (any_below n f) (f n) h) [
 ]
 
 pub kind_below : (kinds : List Kind) (in_use : List Place) (v q : ℕ) → IsTrue (kind_has kinds in_use v q) → q < 20
-kind_below kinds in_use v q h = go (get_or kinds v Word) (and_both (is_of_kind (get_or kinds v Word) q) (has_place in_use q) h).0
+kind_below kinds in_use v q h = go (get_or kinds v Word) (and_parts (is_of_kind (get_or kinds v Word) q) (has_place in_use q) h).0
   where
     go : (k : Kind) → IsTrue (is_of_kind k q) → q < 20
-    go Flag t = ltb-true q 20 (and_both (nat_le 15 q) (nat_lt q 20) t).1
+    go Flag t = ltb-true q 20 (and_parts (nat_le 15 q) (nat_lt q 20) t).1
     go Word t = omega (arith, ltb-true q 15 t)
 
 pub among_below : (xs : List ℕ) (u n : ℕ) → All (λ x. x < n) xs → IsTrue (among xs u) → u < n
@@ -140,18 +121,18 @@ among_below (x ∷ xs) u n a h = elim (or_cases (nat_eq x u) (among xs u) h) [
 
 module _ (ops : List Op) (kinds : List Kind) (in_use : List Place) (after ms ts rows : List (List ℕ)) (below : All (Below (length kinds)) ops) (rl : length rows ≡ length kinds) (msr : (q v : ℕ) → q < 20 → row_has ms q v ≡ (nat_lt v (length kinds) && meets kinds in_use ops v q)) (tsr : (q v : ℕ) → q < 20 → row_has ts q v ≡ any_below (length ops) (λ i. taken ops after i v q)) (wsr : (u v : ℕ) → u < length kinds → row_has rows u v ≡ any_below (length ops) (λ i. reaches ops after i u v)) where
   meets_to : (v q : ℕ) → v < length kinds → MeetsIn ms v q → Meets ops kinds in_use (LiveIn after) v q
-  meets_to v q l (ql, t) = (and_both (nat_lt v (length kinds)) (meets kinds in_use ops v q) (sym (msr q v ql) ∙ t)).1
+  meets_to v q l (ql, t) = (and_parts (nat_lt v (length kinds)) (meets kinds in_use ops v q) (sym (msr q v ql) ∙ t)).1
 
   meets_from : (v q : ℕ) → v < length kinds → Meets ops kinds in_use (LiveIn after) v q → MeetsIn ms v q
   meets_from v q l t =
-      let ql = kind_below kinds in_use v q (and_both (kind_has kinds in_use v q) _ t).0 in
-      (ql, msr q v ql ∙ both_and (nat_lt v (length kinds)) (meets kinds in_use ops v q) (lt-ltb v (length kinds) l) t)
+      let ql = kind_below kinds in_use v q (and_parts (kind_has kinds in_use v q) _ t).0 in
+      (ql, msr q v ql ∙ and_from (nat_lt v (length kinds)) (meets kinds in_use ops v q) (lt-ltb v (length kinds) l) t)
 
   one_way : (u v : ℕ) → u < length kinds → IsTrue (row_has rows u v) → (i : ℕ) × IsTrue (among (op_at ops i).writes u) × LiveIn after i v
-  one_way u v l t = let z = any_found (length ops) (λ i. reaches ops after i u v) (sym (wsr u v l) ∙ t) in (z.0, (and_both (among (op_at ops z.0).writes u) (row_has after z.0 v) z.2).0, (and_both (among (op_at ops z.0).writes u) (row_has after z.0 v) z.2).1)
+  one_way u v l t = let z = any_found (length ops) (λ i. reaches ops after i u v) (sym (wsr u v l) ∙ t) in (z.0, (and_parts (among (op_at ops z.0).writes u) (row_has after z.0 v) z.2).0, (and_parts (among (op_at ops z.0).writes u) (row_has after z.0 v) z.2).1)
 
   other_way : (i u v : ℕ) → u < length kinds → IsTrue (among (op_at ops i).writes u) → LiveIn after i v → IsTrue (row_has rows u v)
-  other_way i u v l w a = wsr u v l ∙ any_here (length ops) (λ i. reaches ops after i u v) i (written ops (LiveIn after) (LiveIn after) (λ j k x. (λ y. y, λ y. y)) i u w) (both_and (among (op_at ops i).writes u) (row_has after i v) w a)
+  other_way i u v l w a = wsr u v l ∙ any_here (length ops) (λ i. reaches ops after i u v) i (written ops (LiveIn after) (LiveIn after) (λ j k x. (λ y. y, λ y. y)) i u w) (and_from (among (op_at ops i).writes u) (row_has after i v) w a)
 
   inside : (u v : ℕ) → IsTrue (row_has rows u v) → u < length kinds
   inside u v t = elim (cases_lt u (length rows)) [ inl l ↦ (let k : u < length kinds = omega (arith, rl) in k) | inr g ↦ absurd (let e : row_has rows u v ≡ false = ap (λ r. has r v) (get_or_past rows u [] g) ∙ sym (past [] v (omega arith)) in cc) ]
@@ -170,12 +151,12 @@ module _ (ops : List Op) (kinds : List Kind) (in_use : List Place) (after ms ts 
   takens_to : (v q : ℕ) → v < length kinds → MeetsIn ms v q → TakenIn ts v q → Taken ops kinds in_use (LiveIn after) v q
   takens_to v q l m t =
       let z = any_found (length ops) (λ i. taken ops after i v q) (sym (tsr q v m.0) ∙ t) in
-      let a = and_both (has_place (op_at ops z.0).fixed q) (not (among (op_at ops z.0).writes v) && row_has after z.0 v) z.2 in
-      let b = and_both (not (among (op_at ops z.0).writes v)) (row_has after z.0 v) a.1 in
+      let a = and_parts (has_place (op_at ops z.0).fixed q) (not (among (op_at ops z.0).writes v) && row_has after z.0 v) z.2 in
+      let b = and_parts (not (among (op_at ops z.0).writes v)) (row_has after z.0 v) a.1 in
       (z.0, (a.0, not_false (among (op_at ops z.0).writes v) b.0, b.1))
 
   takens_from : (v q : ℕ) → v < length kinds → MeetsIn ms v q → Taken ops kinds in_use (LiveIn after) v q → TakenIn ts v q
-  takens_from v q l m (i, (f, w, a)) = tsr q v m.0 ∙ any_here (length ops) (λ i. taken ops after i v q) i (fixed ops (LiveIn after) (LiveIn after) (λ j k x. (λ y. y, λ y. y)) i q f) (both_and (has_place (op_at ops i).fixed q) (not (among (op_at ops i).writes v) && row_has after i v) f (both_and (not (among (op_at ops i).writes v)) (row_has after i v) (rw w refl) a))
+  takens_from v q l m (i, (f, w, a)) = tsr q v m.0 ∙ any_here (length ops) (λ i. taken ops after i v q) i (fixed ops (LiveIn after) (LiveIn after) (λ j k x. (λ y. y, λ y. y)) i q f) (and_from (has_place (op_at ops i).fixed q) (not (among (op_at ops i).writes v) && row_has after i v) f (and_from (not (among (op_at ops i).writes v)) (row_has after i v) (rw w refl) a))
 
   pub first_by_paths : {vs : List ℕ} {done : List (Option ℕ)} {o : Out} → All (λ v. v < length kinds) vs → First (MeetsIn ms) (ConflictsIn rows) (TakenIn ts) vs done o → First (Meets ops kinds in_use (LiveIn after)) (Conflict ops kinds in_use (LiveIn after)) (Taken ops kinds in_use (LiveIn after)) vs done o
   first_by_paths a f = first_to (length kinds) _ _ _ _ _ _ meets_to meets_from conflicts_to conflicts_from takens_to takens_from a f

@@ -1,18 +1,79 @@
 -- The list of needs has each need.
-use Rattle.std.proofs.Common.{◌≡◌, ◌≢◌, ℕ, ◌<◌, suc, IsTrue, ◌⊎◌, inl, inr, ◌↔◌, Bool, true, false, List, [], ◌∷◌, nat_eq, refl, sym, ap, ◌∙◌, subst, arith}
+use Rattle.std.proofs.Common.{◌≡◌, ◌≢◌, ℕ, ◌<◌, zero, suc, IsTrue, ◌⊎◌, inl, inr, ◌↔◌, Bool, true, false, List, [], ◌∷◌, nat_eq, refl, sym, ap, ◌∙◌, subst, arith}
 use Rattle.std.specs.Prelude.{nat_lt, if◌then◌else◌}
-use Rattle.std.proofs.lemmas.Bool.{ltb-false, eqb-true}
+use Rattle.std.proofs.lemmas.Bool.{lt-ltb, ltb-false, ltb-true, eqb-true}
 use Rattle.std.proofs.lemmas.Bool.Decides.{eqb_tells}
 use Rattle.jz_ir.specs.declared.code.Op.{Op}
 use Rattle.jz_ir.specs.declared.code.Need.{Need}
 use Rattle.jz_alloc.specs.declared.needs.Needed.{Needed}
-use Rattle.std.specs.List.{All}
+use Rattle.std.specs.List.{All, AllPairs, Any, Contains}
+use Rattle.std.proofs.lemmas.List.Kept.{AllPairs-cons}
 use Rattle.std.proofs.lemmas.List.Elements.{All-nil, All-cons, All-weaker}
-use Rattle.std.proofs.lemmas.Bool.{lt-ltb}
-use borrow.Author.Tests.{ltb-true}
 use Rattle.jz_ir.specs.Order.{number_of}
 use Rattle.jz_ir.proofs.Numbers.{one_place}
-use Rattle.jz_alloc.specs.Needs.{need_before, Ascending, no_need, need_more, insert_need, add_needs, need_list, In, here, there, Asks, ask_here, ask_there, Wants, want_here, want_there}
+use Rattle.jz_alloc.specs.Needs.{need_before, insert_need, add_needs, need_list, Wants}
+
+-- ---- the words of the specification, element by element
+data Ascending : List Needed → Type 0 where
+  no_need : Ascending []
+  need_more : {k : Needed} {ks : List Needed} → All (λ m. IsTrue (need_before k m)) ks → Ascending ks → Ascending (k ∷ ks)
+
+data In (n : Needed) : List Needed → Type 0 where
+  here : {x : Needed} {xs : List Needed} → x ≡ n → In n (x ∷ xs)
+  there : {x : Needed} {xs : List Needed} → In n xs → In n (x ∷ xs)
+
+data Asks (v : ℕ) (n : Needed) : List Need → Type 0 where
+  ask_here : {k : Need} {ks : List Need} → k.variable ≡ v → record { place = k.place; span = k.span } ≡ n → Asks v n (k ∷ ks)
+  ask_there : {k : Need} {ks : List Need} → Asks v n ks → Asks v n (k ∷ ks)
+
+data Demands (v : ℕ) (n : Needed) : List Op → Type 0 where
+  want_here : {o : Op} {os : List Op} → Asks v n o.needs → Demands v n (o ∷ os)
+  want_there : {o : Op} {os : List Op} → Demands v n os → Demands v n (o ∷ os)
+
+abbrev Before : Needed → Needed → Type 0
+Before a b = IsTrue (need_before a b)
+
+pairs : (ks : List Needed) → Ascending ks → AllPairs Before ks
+pairs [] no_need = λ i j d l k. absurd (omega arith)
+pairs (k ∷ ks) (need_more a r) = AllPairs-cons Before k ks a (pairs ks r)
+
+contains_in : (n : Needed) (xs : List Needed) → In n xs → Contains xs n
+contains_in n [] i = elim i [ ]
+contains_in n (x ∷ xs) (here e) = (0, omega arith, e)
+contains_in n (x ∷ xs) (there i) = let c = contains_in n xs i in (suc c.0, omega (arith, c.1), c.2)
+
+in_contains : (n : Needed) (xs : List Needed) → Contains xs n → In n xs
+in_contains n [] (k, l, e) = absurd (omega (arith, l))
+in_contains n (x ∷ xs) (zero, l, e) = here e
+in_contains n (x ∷ xs) (suc k, l, e) = there (in_contains n xs (k, omega (arith, l), e))
+
+abbrev IsAsked : ℕ → Needed → Need → Type 0
+IsAsked v n k = (k.variable ≡ v) × (record { place = k.place; span = k.span } ≡ n)
+
+abbrev HasAsked : ℕ → Needed → Op → Type 0
+HasAsked v n o = Any (IsAsked v n) o.needs
+
+any_asks : (v : ℕ) (n : Needed) (ks : List Need) → Asks v n ks → Any (IsAsked v n) ks
+any_asks v n [] a = elim a [ ]
+any_asks v n (k ∷ ks) (ask_here e f) = (0, k, omega arith, refl, (e, f))
+any_asks v n (k ∷ ks) (ask_there a) = let z = any_asks v n ks a in (suc z.0, z.1, omega (arith, z.2), z.3, z.4)
+
+asks_any : (v : ℕ) (n : Needed) (ks : List Need) → Any (IsAsked v n) ks → Asks v n ks
+asks_any v n [] (i, k, l, e, p) = absurd (omega (arith, l))
+asks_any v n (x ∷ ks) (zero, k, l, e, p) = let q = subst (IsAsked v n) (sym e) p in ask_here q.0 q.1
+asks_any v n (x ∷ ks) (suc i, k, l, e, p) = ask_there (asks_any v n ks (i, k, omega (arith, l), e, p))
+
+wants_demands : (v : ℕ) (n : Needed) (os : List Op) → Demands v n os → Wants v n os
+wants_demands v n [] w = elim w [ ]
+wants_demands v n (o ∷ os) (want_here a) = (0, o, omega arith, refl, any_asks v n o.needs a)
+wants_demands v n (o ∷ os) (want_there w) = let z = wants_demands v n os w in (suc z.0, z.1, omega (arith, z.2), z.3, z.4)
+
+demands_wants : (v : ℕ) (n : Needed) (os : List Op) → Wants v n os → Demands v n os
+demands_wants v n [] (i, o, l, e, p) = absurd (omega (arith, l))
+demands_wants v n (x ∷ os) (zero, o, l, e, p) = want_here (asks_any v n x.needs (subst (HasAsked v n) (sym e) p))
+demands_wants v n (x ∷ os) (suc i, o, l, e, p) = want_there (demands_wants v n os (i, o, omega (arith, l), e, p))
+
+-- ---- the list that is built
 
 apart : (x y : ℕ) → nat_lt x y ≡ false → nat_lt y x ≡ false → x ≡ y
 apart x y e f = omega (arith, ltb-false x y e, ltb-false y x f)
@@ -91,7 +152,7 @@ needs_have v n (k ∷ ks) ns (ask_here e x) = needs_keep v n ks _ (go (nat_eq k.
     go true f = subst (λ m. In m (insert_need (record { place = k.place; span = k.span }) ns)) x (insert_has (record { place = k.place; span = k.span }) ns)
     go false f = elim (tells k.variable v) [ inl p ↦ absurd (let g = p.1 in cc) | inr p ↦ absurd (p.0 e) ]
 
-list_sound : (v : ℕ) (n : Needed) (os : List Op) (ns : List Needed) → In n (need_list v os ns) → Wants v n os ⊎ In n ns
+list_sound : (v : ℕ) (n : Needed) (os : List Op) (ns : List Needed) → In n (need_list v os ns) → Demands v n os ⊎ In n ns
 list_sound v n [] ns h = inr h
 list_sound v n (o ∷ os) ns h = elim (list_sound v n os _ h) [ inl w ↦ inl (want_there w) | inr i ↦ elim (needs_sound v n o.needs ns i) [ inl a ↦ inl (want_here a) | inr j ↦ inr j ] ]
 
@@ -99,14 +160,17 @@ list_keep : (v : ℕ) (n : Needed) (os : List Op) (ns : List Needed) → In n ns
 list_keep v n [] ns i = i
 list_keep v n (o ∷ os) ns i = list_keep v n os _ (needs_keep v n o.needs ns i)
 
-list_have : (v : ℕ) (n : Needed) (os : List Op) (ns : List Needed) → Wants v n os → In n (need_list v os ns)
+list_have : (v : ℕ) (n : Needed) (os : List Op) (ns : List Needed) → Demands v n os → In n (need_list v os ns)
 list_have v n [] ns w = elim w [ ]
 list_have v n (o ∷ os) ns (want_here a) = list_keep v n os _ (needs_have v n o.needs ns a)
 list_have v n (o ∷ os) ns (want_there w) = list_have v n os _ w
 
 -- it has each need of v, and nothing else
-pub each_need : (v : ℕ) (os : List Op) (n : Needed) → In n (need_list v os []) ↔ Wants v n os
-each_need v os n = (λ i. elim (list_sound v n os [] i) [ inl w ↦ w | inr e ↦ elim e [ ] ], list_have v n os [])
+pub each_need : (v : ℕ) (os : List Op) (n : Needed) → Contains (need_list v os []) n ↔ Wants v n os
+each_need v os n = (
+  λ c. elim (list_sound v n os [] (in_contains n (need_list v os []) c)) [ inl w ↦ wants_demands v n os w | inr e ↦ elim e [ ] ],
+  λ w. contains_in n (need_list v os []) (list_have v n os [] (demands_wants v n os w)),
+)
 
 -- ---- the list ascends
 abbrev Lexical : (l c p l' c' p' : ℕ) → Type 0
@@ -177,5 +241,5 @@ list_ascends : (v : ℕ) (os : List Op) (ns : List Needed) → Ascending ns → 
 list_ascends v [] ns a = a
 list_ascends v (o ∷ os) ns a = list_ascends v os _ (add_ascends v o.needs ns a)
 
-pub needs_ascend : (v : ℕ) (os : List Op) → Ascending (need_list v os [])
-needs_ascend v os = list_ascends v os [] no_need
+pub needs_ascend : (v : ℕ) (os : List Op) → AllPairs (λ a b. IsTrue (need_before a b)) (need_list v os [])
+needs_ascend v os = pairs (need_list v os []) (list_ascends v os [] no_need)

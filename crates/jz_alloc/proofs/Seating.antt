@@ -1,8 +1,7 @@
 -- What first fit gives: each variable a place, apart from what conflicts with it.
-use Rattle.std.proofs.Common.{◌≡◌, ◌≢◌, ℕ, zero, suc, ◌+◌, ◌<◌, ◌≤◌, ◌⊎◌, inl, inr, Bool, true, false, not, ◌||◌, List, [], ◌∷◌, ◌++◌, IsTrue, Option, Some, None, length, get_or, set, cond, drop, map, refl, sym, ap, ◌∙◌, subst, arith, nat_eq, get_or-set_same, get_or-set_other, length-set}
+use Rattle.std.proofs.Common.{◌≡◌, ◌≢◌, ℕ, zero, suc, ◌+◌, ◌<◌, ◌≤◌, ◌⊎◌, inl, inr, Bool, true, false, not, List, [], ◌∷◌, ◌++◌, IsTrue, Option, Some, None, length, get_or, set, cond, drop, map, refl, sym, ap, ◌∙◌, subst, arith, nat_eq, get_or-set_same, get_or-set_other, length-set}
 use Rattle.std.specs.List.{All, filter, range_with_len}
-use Rattle.std.proofs.lemmas.Bool.{cases_eq, cases_lt, eqb-true}
-use Rattle.std.proofs.lemmas.Bool.Decides.{nat_tests}
+use Rattle.std.proofs.lemmas.Bool.{and_parts, cases_eq, cases_lt, eq-eqb, eqb-true, or_cases, or_left, or_right}
 use Rattle.std.proofs.lemmas.List.{get_or-map, length-map, get_or_past, length-replicate}
 use Rattle.std.proofs.lemmas.List.Elements.{All-get_or, All-from_get_or}
 use Rattle.x64_insn.specs.declared.types.Place.{Place}
@@ -17,7 +16,7 @@ use Rattle.jz_ir.specs.Straight.{Next, next, LiveIn}
 use Rattle.jz_ir.specs.Places.{Below, IsWithin, op_at, no_op, kind_has, has_need, order_of, ConflictAt, Out, placed, First, all_placed, one_placed, one_left, Takes, Meets, Conflict, Taken, FirstFit, all_of, place_at, IsPlacing}
 use Rattle.jz_alloc.specs.Fit.{IsSeat}
 use Rattle.jz_alloc.proofs.Fitting.{none_placed}
-use Rattle.jz_alloc.proofs.Meaning.{and_both, or_cases, kind_below, among_below}
+use Rattle.jz_alloc.proofs.Meaning.{kind_below, among_below}
 
 some_same : {a b : ℕ} → Some a ≡ Some b → a ≡ b
 some_same e = cc
@@ -115,16 +114,6 @@ module _ (M : ℕ → ℕ → Type 0) (C : ℕ → ℕ → Type 0) (T : ℕ → 
   ]
 
 -- ---- each variable is in the order
-or_left : (a b : Bool) → IsTrue a → IsTrue (a || b)
-or_left a b h = rw h refl
-
-or_right : (a b : Bool) → IsTrue b → IsTrue (a || b)
-or_right true b h = refl
-or_right false b h = h
-
-equal : (x : ℕ) → IsTrue (nat_eq x x)
-equal x = grind (arith, nat_tests)
-
 among_front : (xs ys : List ℕ) (v : ℕ) → IsTrue (among xs v) → IsTrue (among (xs ++ ys) v)
 among_front [] ys v h = cc
 among_front (x ∷ xs) ys v h = elim (or_cases (nat_eq x v) (among xs v) h) [
@@ -149,7 +138,7 @@ among_filter f (x ∷ xs) v t h = go (f x) refl (or_cases (nat_eq x v) (among xs
 among_range : (a n v : ℕ) → a ≤ v → v < a + n → IsTrue (among (range_with_len a n) v)
 among_range a zero v l h = absurd (omega arith)
 among_range a (suc n) v l h = elim (cases_eq a v) [
-  | inl e ↦ or_left (nat_eq a v) (among (range_with_len (a + 1) n) v) (subst (λ x. IsTrue (nat_eq a x)) e (equal a))
+  | inl e ↦ or_left (nat_eq a v) (among (range_with_len (a + 1) n) v) (subst (λ x. IsTrue (nat_eq a x)) e (eq-eqb a a refl))
   | inr ne ↦ or_right (nat_eq a v) (among (range_with_len (a + 1) n) v) (among_range (a + 1) n v (omega arith) (omega arith))
 ]
 
@@ -187,7 +176,7 @@ module _ (ops : List Op) (kinds : List Kind) (in_use : List Place) (L : ℕ → 
   pub fit_seats : All IsSeat p
   fit_seats = All-from_get_or IsSeat p None (λ v l.
       let z = fit_has v (omega (arith, fit_length)) in
-      (z.0, z.1, kind_below kinds in_use v z.0 (and_both (kind_has kinds in_use v z.0) _ (fit_kept.meets_needs v z.0 z.1)).0))
+      (z.0, z.1, kind_below kinds in_use v z.0 (and_parts (kind_has kinds in_use v z.0) _ (fit_kept.meets_needs v z.0 z.1)).0))
 
 -- ---- what that is for the places themselves
 seat_at : (places : List Place) (v : ℕ) → v < length places → get_or (map (λ p. Some (number_of p)) places) v None ≡ Some (number_of (place_at places v))

@@ -8,24 +8,31 @@ use Rattle.jz_ir.specs.Places.{HeldByVar, TakenAt}
 use Rattle.jz_alloc.specs.Tables.{row_has}
 
 abbrev pub LiveIn : List (List ℕ) → ℕ → ℕ → Type 0
-LiveIn after i v = IsTrue (row_has after i v)
+LiveIn after i variable = IsTrue (row_has after i variable)
 
--- something keeps v from q
+-- something keeps the variable from the place
 abbrev pub IsHeld : List Op → List (List ℕ) → List (Option ℕ) → ℕ → ℕ → Type 0
-IsHeld ops after places v q = (i : ℕ) × (i < length ops) × (((u : ℕ) × HeldByVar ops (LiveIn after) places v q i u) ⊎ TakenAt ops (LiveIn after) i v q)
+IsHeld ops after places variable place =
+    (i : ℕ) × (i < length ops)
+    × (((other : ℕ) × HeldByVar ops (LiveIn after) places variable place i other) ⊎ TakenAt ops (LiveIn after) i variable place)
 
--- at one operation: a variable of the row conflicts with v
+-- at one operation: a variable of the row conflicts with the variable
 abbrev pub VarAt : Op → List ℕ → List ℕ → ℕ → ℕ → Type 0
-VarAt o after held v u = IsTrue (has held u) × ((IsTrue (among o.writes u) × IsTrue (has after v)) ⊎ (IsTrue (among o.writes v) × IsTrue (has after u)))
+VarAt op after held variable other =
+    IsTrue (has held other)
+    × ((IsTrue (among op.writes other) × IsTrue (has after variable)) ⊎ (IsTrue (among op.writes variable) × IsTrue (has after other)))
 
 -- and none that was declared before it
 abbrev pub FirstVarAt : Op → List ℕ → List ℕ → ℕ → ℕ → Type 0
-FirstVarAt o after held v u = VarAt o after held v u × ((w : ℕ) → w < u → VarAt o after held v w → ⊥)
+FirstVarAt op after held variable other =
+    VarAt op after held variable other × ((earlier : ℕ) → earlier < other → VarAt op after held variable earlier → ⊥)
 
+-- it writes the place besides, and the variable is live across it
 abbrev pub FixedAt : Op → List ℕ → ℕ → ℕ → Type 0
-FixedAt o after v q = IsTrue (has_place o.fixed q) × IsFalse (among o.writes v) × IsTrue (has after v)
+FixedAt op after variable place = IsTrue (has_place op.fixed place) × IsFalse (among op.writes variable) × IsTrue (has after variable)
 
+-- what keeps the variable from the place there: nothing, the fixed write, or the first declared of the variables that do
 abbrev pub WhoAt : Op → List ℕ → List ℕ → ℕ → ℕ → Option (Option ℕ) → Type 0
-WhoAt o after held v q None = ((u : ℕ) → VarAt o after held v u → ⊥) × (FixedAt o after v q → ⊥)
-WhoAt o after held v q (Some None) = ((u : ℕ) → VarAt o after held v u → ⊥) × FixedAt o after v q
-WhoAt o after held v q (Some (Some u)) = FirstVarAt o after held v u
+WhoAt op after held variable place None = ((other : ℕ) → VarAt op after held variable other → ⊥) × (FixedAt op after variable place → ⊥)
+WhoAt op after held variable place (Some None) = ((other : ℕ) → VarAt op after held variable other → ⊥) × FixedAt op after variable place
+WhoAt op after held variable place (Some (Some other)) = FirstVarAt op after held variable other

@@ -7,20 +7,22 @@ use Rattle.jz_ir.specs.Order.{has_place}
 use Rattle.jz_ir.specs.Paths.{among}
 use Rattle.jz_ir.specs.Places.{op_at}
 
+-- some number below the bound passes
 abbrev pub any_below : ℕ → (ℕ → Bool) → Bool
-any_below zero f = false
-any_below (suc k) f = any_below k f || f k
+any_below zero passes = false
+any_below (suc bound) passes = any_below bound passes || passes bound
 
+-- each row has a bit for each of so many variables
 abbrev pub AllWide : ℕ → List (List ℕ) → Type 0
-AllWide vars rows = All (λ r. length r ≡ vars / 64 + 1) rows
+AllWide count rows = All (λ row. length row ≡ count / 64 + 1) rows
 
 abbrev pub row_has : List (List ℕ) → ℕ → ℕ → Bool
-row_has rows i v = has (slice_index_or rows i []) v
+row_has rows i number = has (slice_index_or rows i []) number
 
--- the operation i writes the place besides, and v is live across it
+-- the operation i writes the place besides, and the variable is live across it
 abbrev pub taken : List Op → List (List ℕ) → ℕ → ℕ → ℕ → Bool
-taken ops after i v q = has_place (op_at ops i).fixed q && (not (among (op_at ops i).writes v) && row_has after i v)
+taken ops after i variable place = has_place (op_at ops i).fixed place && (not (among (op_at ops i).writes variable) && row_has after i variable)
 
--- the operation i writes u, and v is live after it
+-- the operation i writes the one, and the other is live after it
 abbrev pub reaches : List Op → List (List ℕ) → ℕ → ℕ → ℕ → Bool
-reaches ops after i u v = among (op_at ops i).writes u && row_has after i v
+reaches ops after i written variable = among (op_at ops i).writes written && row_has after i variable

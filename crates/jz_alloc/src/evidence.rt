@@ -26,25 +26,25 @@ pub struct Holder {
 
 /// The variables in the place.
 fn held_row(alloc: Global, places: &[Option<u8>], place: u8) -> Result<Bits, AllocError>
-    ensures wide { IfOk result (λ b. length b ≡ length places.now / 64 + 1) }
-    ensures set { IfOk result (λ b. (u : ℕ) → IsTrue (has b u) ↔ (slice_index_or places.now u None ≡ Some place)) }
+    ensures wide { IfOk result (λ row. length row ≡ length places.now / 64 + 1) }
+    ensures set { IfOk result (λ row. (variable : ℕ) → IsTrue (has row variable) ↔ (slice_index_or places.now variable None ≡ Some place)) }
 {
     let mut row = Bits::new(alloc, places.len())?;
-    for (u, p) in places.iter().enumerate() {
-        if let Some(q) = *p {
-            if q == place {
-                row.insert(u);
+    for (variable, seat) in places.iter().enumerate() {
+        if let Some(number) = *seat {
+            if number == place {
+                row.insert(variable);
             }
         }
     }
     Ok(row)
 }
 
-fn has_var(vars: &Seq<u32>, v: u32) -> bool
-    ensures { result ≡ among vars.now v }
+fn is_among(variables: &Seq<u32>, variable: u32) -> bool
+    ensures { result ≡ among variables.now variable }
 {
-    for w in vars.as_slice() {
-        if *w == v {
+    for other in variables.as_slice() {
+        if *other == variable {
             return true;
         }
     }
@@ -52,63 +52,70 @@ fn has_var(vars: &Seq<u32>, v: u32) -> bool
 }
 
 /// The first variable in both rows.
-fn first_common(a: &Bits, b: &Bits, vars: u32) -> Option<u32>
-    ensures { MatchOption result ((u : ℕ) → u < vars → IsTrue (has a.now u) → IsTrue (has b.now u) → ⊥)
-        (λ u. (u < vars) × IsTrue (has a.now u) × IsTrue (has b.now u)) }
+fn first_common(first: &Bits, second: &Bits, count: u32) -> Option<u32>
+    ensures { MatchOption result ((variable : ℕ) → variable < count → IsTrue (has first.now variable) → IsTrue (has second.now variable) → ⊥)
+        (λ variable. (variable < count) × IsTrue (has first.now variable) × IsTrue (has second.now variable)) }
 {
-    for u in 0..vars {
-        if a.contains(u as usize) && b.contains(u as usize) {
-            return Some(u);
+    for variable in 0..count {
+        if first.contains(variable as usize) && second.contains(variable as usize) {
+            return Some(variable);
         }
     }
     None
 }
 
 /// The first of the variables that is in the row.
-fn first_in(vars: &Seq<u32>, row: &Bits) -> Option<u32>
-    ensures { MatchOption result ((u : ℕ) → IsTrue (among vars.now u) → IsTrue (has row.now u) → ⊥)
-        (λ u. IsTrue (among vars.now u) × IsTrue (has row.now u)) }
+fn first_in(variables: &Seq<u32>, row: &Bits) -> Option<u32>
+    ensures { MatchOption result ((variable : ℕ) → IsTrue (among variables.now variable) → IsTrue (has row.now variable) → ⊥)
+        (λ variable. IsTrue (among variables.now variable) × IsTrue (has row.now variable)) }
 {
-    for u in vars.as_slice() {
-        if row.contains(*u as usize) {
-            return Some(*u);
+    for variable in variables.as_slice() {
+        if row.contains(*variable as usize) {
+            return Some(*variable);
         }
     }
     None
 }
 
 /// The first variable of the row that conflicts with `v` at an operation, where `found` is one.
-fn first_conflicting(op: &Op, after: &Bits, held: &Bits, v: u32, found: u32) -> u32
-    requires { VarAt op.now after.now held.now v found }
-    ensures { FirstVarAt op.now after.now held.now v result }
+fn first_conflicting(op: &Op, after: &Bits, held: &Bits, variable: u32, found: u32) -> u32
+    requires { VarAt op.now after.now held.now variable found }
+    ensures { FirstVarAt op.now after.now held.now variable result }
 {
-    let is_written = has_var(&op.writes, v);
-    let is_live = after.contains(v as usize);
-    for u in 0..found {
-        let conflicts = is_live && has_var(&op.writes, u)
-            || is_written && after.contains(u as usize);
-        if conflicts && held.contains(u as usize) {
-            return u;
+    let is_written = is_among(&op.writes, variable);
+    let is_live = after.contains(variable as usize);
+    for other in 0..found {
+        let conflicts = is_live && is_among(&op.writes, other)
+            || is_written && after.contains(other as usize);
+        if conflicts && held.contains(other as usize) {
+            return other;
         }
     }
     found
 }
 
 /// What keeps `v` from the place at one operation.
-fn who_at(op: &Op, after: &Bits, held: &Bits, vars: u32, v: u32, place: u8) -> Option<Option<u32>>
-    requires { (u : ℕ) → IsTrue (has held.now u) → u < vars }
-    ensures { WhoAt op.now after.now held.now v place result }
+fn who_at(
+    op: &Op,
+    after: &Bits,
+    held: &Bits,
+    count: u32,
+    variable: u32,
+    place: u8,
+) -> Option<Option<u32>>
+    requires { (other : ℕ) → IsTrue (has held.now other) → other < count }
+    ensures { WhoAt op.now after.now held.now variable place result }
 {
-    if has_var(&op.writes, v) {
-        if let Some(u) = first_common(after, held, vars) {
-            return Some(Some(first_conflicting(op, after, held, v, u)));
+    if is_among(&op.writes, variable) {
+        if let Some(other) = first_common(after, held, count) {
+            return Some(Some(first_conflicting(op, after, held, variable, other)));
         }
     }
-    if after.contains(v as usize) {
-        if let Some(u) = first_in(&op.writes, held) {
-            return Some(Some(first_conflicting(op, after, held, v, u)));
+    if after.contains(variable as usize) {
+        if let Some(other) = first_in(&op.writes, held) {
+            return Some(Some(first_conflicting(op, after, held, variable, other)));
         }
-        if holds(op.fixed.as_slice(), place) && !has_var(&op.writes, v) {
+        if holds(op.fixed.as_slice(), place) && !is_among(&op.writes, variable) {
             return Some(None);
         }
     }
@@ -121,22 +128,29 @@ pub fn holder_of(
     ops: &[Op],
     after: &[Bits],
     places: &[Option<u8>],
-    v: u32,
+    variable: u32,
     place: u8,
 ) -> Result<Option<Holder>, AllocError>
     requires rows { length after.now ≡ length ops.now }
     requires vars { length places.now < 2 ^ 32 }
     requires place { place < 20 }
-    ensures { IfOk result (λ r. MatchOption r (IsHeld ops.now after.now places.now v place → ⊥)
-        (λ h. (number_of h.place ≡ place)
-        × FirstHolder ops.now (LiveIn after.now) places.now v place h.span h.variable)) }
+    ensures { IfOk result (λ found. MatchOption found (IsHeld ops.now after.now places.now variable place → ⊥)
+        (λ holder. (number_of holder.place ≡ place)
+        × FirstHolder ops.now (LiveIn after.now) places.now variable place holder.span holder.variable)) }
 {
     let held = held_row(alloc, places, place)?;
     for i in 0..ops.len() {
-        if let Some(variable) = who_at(&ops[i], &after[i], &held, places.len() as u32, v, place) {
+        if let Some(holder) = who_at(
+            &ops[i],
+            &after[i],
+            &held,
+            places.len() as u32,
+            variable,
+            place,
+        ) {
             return Ok(Some(Holder {
                 place: place_of(place),
-                variable,
+                variable: holder,
                 span: ops[i].span,
             }));
         }

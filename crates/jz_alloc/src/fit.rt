@@ -6,6 +6,7 @@ ghost use Rattle.jz_ir.specs.Places.{First};
 ghost use Rattle.jz_alloc.specs.Tables.{AllWide, row_has};
 ghost use Rattle.jz_alloc.specs.Fit.{IsOpen, out_of, MeetsIn, ConflictsIn, TakenIn};
 
+use crate::tables::empty_rows;
 use jz_bits::Bits;
 use std::alloc::{AllocError, Global};
 
@@ -22,19 +23,22 @@ fn first_open(
     busy: &[Bits],
     holders: &[Bits],
     row: &Bits,
-    v: usize,
+    variable: usize,
 ) -> Option<usize>
     requires meets { length meets.now ≡ 20 }
     requires busy { length busy.now ≡ 20 }
     requires holders { length holders.now ≡ 20 }
-    requires wide { All (λ r. length r ≡ length row.now) holders.now }
-    ensures { MatchOption result ((q : ℕ) → q < 20 → IsOpen meets.now busy.now holders.now row.now v q → ⊥)
-        (λ q. (q < 20) × IsOpen meets.now busy.now holders.now row.now v q × ((p : ℕ) → p < q
-        → IsOpen meets.now busy.now holders.now row.now v p → ⊥)) }
+    requires wide { All (λ held. length held ≡ length row.now) holders.now }
+    ensures { MatchOption result ((place : ℕ) → place < 20 → IsOpen meets.now busy.now holders.now row.now variable place → ⊥)
+        (λ place. (place < 20) × IsOpen meets.now busy.now holders.now row.now variable place × ((earlier : ℕ) → earlier < place
+        → IsOpen meets.now busy.now holders.now row.now variable earlier → ⊥)) }
 {
-    for q in 0..20 {
-        if meets[q].contains(v) && !busy[q].contains(v) && !row.meets(&holders[q]) {
-            return Some(q);
+    for place in 0..20 {
+        if meets[place].contains(variable)
+            && !busy[place].contains(variable)
+            && !row.meets(&holders[place])
+        {
+            return Some(place);
         }
     }
     None
@@ -48,30 +52,32 @@ pub fn place_all(
     taken: Vec<Bits>,
     rows: &[Bits],
 ) -> Result<Fit, AllocError>
-    requires order { All (λ v. v < length rows.now) order.now }
+    requires order { All (λ variable. variable < length rows.now) order.now }
     requires distinct { (i j : ℕ) → i < j → j < length order.now
         → slice_index_or order.now i 0 ≢ slice_index_or order.now j 0 }
     requires meets { length meets.now ≡ 20 }
     requires taken { length taken.items ≡ 20 }
     requires taken_wide { AllWide (length rows.now) taken.items }
     requires wide { AllWide (length rows.now) rows.now }
-    ensures { IfOk result (λ f. First (MeetsIn meets.now) (ConflictsIn rows.now) (TakenIn taken.items) order.now (replicate (length rows.now) None) (out_of f)) }
+    ensures { IfOk result (λ fit. First (MeetsIn meets.now) (ConflictsIn rows.now) (TakenIn taken.items) order.now (replicate (length rows.now) None) (out_of fit)) }
 {
     let mut places = vec![in alloc; None; rows.len()]?;
     let mut busy = taken;
-    let mut holders = Vec::new(alloc);
-    for q in 0..20usize {
-        let _ = q;
-        holders.push(Bits::new(alloc, rows.len())?)?;
-    }
-    for v in order {
-        let at = *v as usize;
-        match first_open(meets, busy.as_slice(), holders.as_slice(), &rows[at], at) {
-            None => return Ok(Fit::Refused(*v, places)),
-            Some(q) => {
-                places[at] = Some(q as u8);
-                busy[q].union(&rows[at]);
-                holders[q].insert(at);
+    let mut holders = empty_rows(alloc, 20, rows.len())?;
+    for variable in order {
+        let index = *variable as usize;
+        match first_open(
+            meets,
+            busy.as_slice(),
+            holders.as_slice(),
+            &rows[index],
+            index,
+        ) {
+            None => return Ok(Fit::Refused(*variable, places)),
+            Some(place) => {
+                places[index] = Some(place as u8);
+                busy[place].union(&rows[index]);
+                holders[place].insert(index);
             }
         }
     }

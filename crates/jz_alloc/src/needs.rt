@@ -15,42 +15,42 @@ pub struct Needed {
     pub span: Span,
 }
 
-fn is_before(a: Needed, b: Needed) -> bool
-    ensures { result ≡ need_before a b }
+fn is_before(first: Needed, second: Needed) -> bool
+    ensures { result ≡ need_before first second }
 {
-    if a.span.line != b.span.line {
-        return a.span.line < b.span.line;
+    if first.span.line != second.span.line {
+        return first.span.line < second.span.line;
     }
-    if a.span.col != b.span.col {
-        return a.span.col < b.span.col;
+    if first.span.col != second.span.col {
+        return first.span.col < second.span.col;
     }
-    place_number(a.place) < place_number(b.place)
+    place_number(first.place) < place_number(second.place)
 }
 
-fn add_need(needs: &mut Vec<Needed>, n: Needed) -> Result<(), AllocError>
-    ensures { OnOk result (needs.new.items ≡ insert_need n needs.old.items) }
+fn add_need(needs: &mut Vec<Needed>, need: Needed) -> Result<(), AllocError>
+    ensures { OnOk result (needs.new.items ≡ insert_need need needs.old.items) }
 {
     let mut at = 0;
-    while at < needs.len() && is_before(needs[at], n) {
+    while at < needs.len() && is_before(needs[at], need) {
         at += 1;
     }
-    if at < needs.len() && !is_before(n, needs[at]) {
+    if at < needs.len() && !is_before(need, needs[at]) {
         return Ok(());
     }
-    needs.insert(at, n)?;
+    needs.insert(at, need)?;
     Ok(())
 }
 
-fn add_all(needs: &mut Vec<Needed>, all: &Seq<Need>, v: u32) -> Result<(), AllocError>
-    ensures { OnOk result (needs.new.items ≡ add_needs v all.now needs.old.items) }
+fn add_all(needs: &mut Vec<Needed>, all: &Seq<Need>, variable: u32) -> Result<(), AllocError>
+    ensures { OnOk result (needs.new.items ≡ add_needs variable all.now needs.old.items) }
 {
-    for n in all.as_slice() {
-        if n.variable == v {
+    for need in all.as_slice() {
+        if need.variable == variable {
             add_need(
                 needs,
                 Needed {
-                    place: n.place,
-                    span: n.span,
+                    place: need.place,
+                    span: need.span,
                 },
             )?;
         }
@@ -59,12 +59,12 @@ fn add_all(needs: &mut Vec<Needed>, all: &Seq<Need>, v: u32) -> Result<(), Alloc
 }
 
 /// Each need of a variable once, in the order of the text.
-pub fn needs_of(alloc: Global, ops: &[Op], v: u32) -> Result<Seq<Needed>, AllocError>
-    ensures { IfOk result (λ needs. needs ≡ need_list v ops.now []) }
+pub fn needs_of(alloc: Global, ops: &[Op], variable: u32) -> Result<Seq<Needed>, AllocError>
+    ensures { IfOk result (λ needs. needs ≡ need_list variable ops.now []) }
 {
     let mut needs = Vec::new(alloc);
     for op in ops {
-        add_all(&mut needs, &op.needs, v)?;
+        add_all(&mut needs, &op.needs, variable)?;
     }
     Ok(Seq::from_vec(needs))
 }

@@ -10,34 +10,34 @@ use jz_ir::Op;
 use std::alloc::{AllocError, Global};
 
 /// The variables that have needs.
-fn needy(alloc: Global, ops: &[Op], vars: usize) -> Result<Bits, AllocError>
-    requires { All (Below vars) ops.now }
-    ensures { IfOk result (λ b. (v : ℕ) → has b v ≡ has_need ops.now v) }
+fn needy(alloc: Global, ops: &[Op], count: usize) -> Result<Bits, AllocError>
+    requires { All (Below count) ops.now }
+    ensures { IfOk result (λ row. (variable : ℕ) → has row variable ≡ has_need ops.now variable) }
 {
-    let mut row = Bits::new(alloc, vars)?;
+    let mut row = Bits::new(alloc, count)?;
     for op in ops {
-        for n in op.needs.as_slice() {
-            row.insert(n.variable as usize);
+        for need in op.needs.as_slice() {
+            row.insert(need.variable as usize);
         }
     }
     Ok(row)
 }
 
 /// Those with needs first, each in order of declaration.
-pub fn place_order(alloc: Global, ops: &[Op], vars: u32) -> Result<Vec<u32>, AllocError>
-    requires { All (Below vars) ops.now }
-    ensures { IfOk result (λ r. r.items ≡ order_of ops.now vars) }
+pub fn place_order(alloc: Global, ops: &[Op], count: u32) -> Result<Vec<u32>, AllocError>
+    requires { All (Below count) ops.now }
+    ensures { IfOk result (λ order. order.items ≡ order_of ops.now count) }
 {
-    let needy = needy(alloc, ops, vars as usize)?;
+    let needy = needy(alloc, ops, count as usize)?;
     let mut order = Vec::new(alloc);
-    for v in 0..vars {
-        if needy.contains(v as usize) {
-            order.push(v)?;
+    for variable in 0..count {
+        if needy.contains(variable as usize) {
+            order.push(variable)?;
         }
     }
-    for v in 0..vars {
-        if !needy.contains(v as usize) {
-            order.push(v)?;
+    for variable in 0..count {
+        if !needy.contains(variable as usize) {
+            order.push(variable)?;
         }
     }
     Ok(order)

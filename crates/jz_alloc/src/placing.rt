@@ -46,20 +46,20 @@ fn holders_of(
     after: &[Bits],
     meets: &[Bits],
     places: &[Option<u8>],
-    v: u32,
+    variable: u32,
 ) -> Result<Seq<Holder>, AllocError>
     requires rows { length after.now ≡ length ops.now }
     requires meets { length meets.now ≡ 20 }
     requires vars { length places.now < 2 ^ 32 }
-    requires held { (q : ℕ) → q < 20 → IsTrue (row_has meets.now q v) → (IsHeld ops.now after.now places.now v q
+    requires held { (place : ℕ) → place < 20 → IsTrue (row_has meets.now place variable) → (IsHeld ops.now after.now places.now variable place
         → ⊥) → ⊥ }
-    ensures { IfOk result (λ hs. HoldsEach ops.now (LiveInRows after.now) places.now v
-        (λ q. row_has meets.now q v) 20 hs) }
+    ensures { IfOk result (λ holders. HoldsEach ops.now (LiveInRows after.now) places.now variable
+        (λ place. row_has meets.now place variable) 20 holders) }
 {
     let mut holders = Vec::new(alloc);
     for place in 0..20u8 {
-        if meets[place as usize].contains(v as usize) {
-            match holder_of(alloc, ops, after, places, v, place)? {
+        if meets[place as usize].contains(variable as usize) {
+            match holder_of(alloc, ops, after, places, variable, place)? {
                 Some(holder) => holders.push(holder)?,
                 None => unreachable!(),
             }
@@ -80,7 +80,7 @@ fn allocate_rows(
     requires rows { length after.now ≡ length ops.now }
     requires wide { AllWide (length kinds.now) after.now }
     requires vars { length kinds.now < 2 ^ 32 }
-    ensures { IfOk result (λ a. Allocated ops.now kinds.now in_use.now (LiveInRows after.now) a) }
+    ensures { IfOk result (λ allocation. Allocated ops.now kinds.now in_use.now (LiveInRows after.now) allocation) }
 {
     let meets = meets_rows(alloc, ops, kinds, in_use)?;
     let taken = taken_rows(alloc, ops, after, kinds.len())?;
@@ -122,7 +122,7 @@ fn allocate_straight(
 ) -> Result<Allocation, AllocError>
     requires below { All (Below (length kinds.now)) ops.now }
     requires vars { length kinds.now < 2 ^ 32 }
-    ensures { IfOk result (λ a. Allocated ops.now kinds.now in_use.now (LiveIn ops.now) a) }
+    ensures { IfOk result (λ allocation. Allocated ops.now kinds.now in_use.now (LiveIn ops.now) allocation) }
 {
     let after = live_after(alloc, ops, kinds.len())?;
     let allocation = allocate_rows(alloc, ops, after.as_slice(), kinds, in_use)?;

@@ -1,5 +1,5 @@
 //! What the code says of each variable and place, as rows of bits.
-ghost use Rattle.std.specs.Prelude.{◌≡◌, ℕ, ◌+◌, ◌*◌, ◌/◌, ◌<◌, ◌≤◌, ◌||◌, ◌&&◌, not, length, IfOk, IsTrue, ◌↔◌, slice_index_or, [], nat_lt, nat_le, Bool};
+ghost use Rattle.std.specs.Prelude.{◌≡◌, ℕ, ◌+◌, ◌*◌, ◌/◌, ◌<◌, ◌≤◌, ◌||◌, ◌&&◌, not, length, IfOk, IsTrue, ◌↔◌, slice_index_or, [], nat_lt, nat_le, Bool, false};
 ghost use Rattle.std.specs.List.{All, list_all};
 ghost use Rattle.jz_bits.specs.Has.{has};
 ghost use Rattle.jz_ir.specs.Order.{number_of, has_place};
@@ -11,6 +11,7 @@ ghost use Rattle.jz_alloc.specs.Tables.{any_below, taken, reaches, AllWide};
 use jz_bits::Bits;
 use jz_data::Seq;
 use jz_ir::{Kind, Need, Op, place_number};
+use jz_live::remove_all;
 use std::alloc::{AllocError, Global};
 use x64_insn::Place;
 
@@ -18,8 +19,8 @@ use x64_insn::Place;
 pub fn holds(places: &[Place], place: u8) -> bool
     ensures { result ≡ has_place places.now place }
 {
-    for p in places {
-        if place_number(*p) == place {
+    for one in places {
+        if place_number(*one) == place {
             return true;
         }
     }
@@ -29,13 +30,11 @@ pub fn holds(places: &[Place], place: u8) -> bool
 /// The variables live across an operation.
 fn across(alloc: Global, op: &Op, after: &Bits) -> Result<Bits, AllocError>
     requires { Below (64 * length after.now) op.now }
-    ensures wide { IfOk result (λ b. length b ≡ length after.now) }
-    ensures set { IfOk result (λ b. (w : ℕ) → has b w ≡ (not (among op.now.writes w) && has after.now w)) }
+    ensures wide { IfOk result (λ row. length row ≡ length after.now) }
+    ensures set { IfOk result (λ row. (variable : ℕ) → has row variable ≡ (not (among op.now.writes variable) && has after.now variable)) }
 {
     let mut live = after.copy(alloc)?;
-    for v in op.writes.as_slice() {
-        live.remove(*v as usize);
-    }
+    remove_all(&mut live, &op.writes);
     Ok(live)
 }
 
@@ -44,17 +43,17 @@ fn taken_row(
     alloc: Global,
     ops: &[Op],
     after: &[Bits],
-    vars: usize,
+    count: usize,
     place: u8,
 ) -> Result<Bits, AllocError>
-    requires below { All (Below vars) ops.now }
+    requires below { All (Below count) ops.now }
     requires rows { length after.now ≡ length ops.now }
-    requires wide { AllWide vars after.now }
-    ensures wide { IfOk result (λ b. length b ≡ vars / 64 + 1) }
-    ensures set { IfOk result (λ b. (v : ℕ) → has b v ≡ any_below (length ops.now)
-        (λ i. taken ops.now after.now i v place)) }
+    requires wide { AllWide count after.now }
+    ensures wide { IfOk result (λ row. length row ≡ count / 64 + 1) }
+    ensures set { IfOk result (λ row. (variable : ℕ) → has row variable ≡ any_below (length ops.now)
+        (λ i. taken ops.now after.now i variable place)) }
 {
-    let mut row = Bits::new(alloc, vars)?;
+    let mut row = Bits::new(alloc, count)?;
     for i in 0..ops.len() {
         if holds(ops[i].fixed.as_slice(), place) {
             row.union(&across(alloc, &ops[i], &after[i])?);
@@ -65,32 +64,32 @@ fn taken_row(
 
 /// Takes out the variables that some need keeps from the place.
 fn leave_fit(row: &mut Bits, needs: &Seq<Need>, place: u8)
-    requires { All (λ n. n.variable < 64 * length row.old) needs.now }
+    requires { All (λ need. need.variable < 64 * length row.old) needs.now }
     ensures wide { length row.new ≡ length row.old }
-    ensures set { (v : ℕ) → has row.new v ≡ (list_all (need_fits v place) needs.now && has row.old v) }
+    ensures set { (variable : ℕ) → has row.new variable ≡ (list_all (need_fits variable place) needs.now && has row.old variable) }
 {
-    for n in needs.as_slice() {
-        if place_number(n.place) != place {
-            row.remove(n.variable as usize);
+    for need in needs.as_slice() {
+        if place_number(need.place) != place {
+            row.remove(need.variable as usize);
         }
     }
 }
 
 /// The variables of the place's kind, where the place is in use.
 fn kind_row(alloc: Global, kinds: &[Kind], in_use: &[Place], place: u8) -> Result<Bits, AllocError>
-    ensures wide { IfOk result (λ b. length b ≡ length kinds.now / 64 + 1) }
-    ensures set { IfOk result (λ b. (v : ℕ) → has b v ≡ (nat_lt v (length kinds.now)
-        && kind_has kinds.now in_use.now v place)) }
+    ensures wide { IfOk result (λ row. length row ≡ length kinds.now / 64 + 1) }
+    ensures set { IfOk result (λ row. (variable : ℕ) → has row variable ≡ (nat_lt variable (length kinds.now)
+        && kind_has kinds.now in_use.now variable place)) }
 {
     let mut row = Bits::new(alloc, kinds.len())?;
     let is_in_use = holds(in_use, place);
-    for (v, kind) in kinds.iter().enumerate() {
+    for (variable, kind) in kinds.iter().enumerate() {
         let fits = match kind {
             Kind::Word => place < 15,
             Kind::Flag => 15 <= place && place < 20,
         };
         if fits && is_in_use {
-            row.insert(v);
+            row.insert(variable);
         }
     }
     Ok(row)
@@ -105,9 +104,9 @@ fn meets_row(
     place: u8,
 ) -> Result<Bits, AllocError>
     requires { All (Below (length kinds.now)) ops.now }
-    ensures wide { IfOk result (λ b. length b ≡ length kinds.now / 64 + 1) }
-    ensures set { IfOk result (λ b. (v : ℕ) → has b v ≡ (nat_lt v (length kinds.now)
-        && meets kinds.now in_use.now ops.now v place)) }
+    ensures wide { IfOk result (λ row. length row ≡ length kinds.now / 64 + 1) }
+    ensures set { IfOk result (λ row. (variable : ℕ) → has row variable ≡ (nat_lt variable (length kinds.now)
+        && meets kinds.now in_use.now ops.now variable place)) }
 {
     let mut row = kind_row(alloc, kinds, in_use, place)?;
     for op in ops {
@@ -118,16 +117,30 @@ fn meets_row(
 
 /// Adds a row to those of some variables.
 fn add_rows(rows: &mut Vec<Bits>, writes: &Seq<u32>, row: &Bits)
-    requires below { All (λ w. w < length rows.old.items) writes.now }
-    requires wide { All (λ r. length r ≡ length row.now) rows.old.items }
+    requires below { All (λ written. written < length rows.old.items) writes.now }
+    requires wide { All (λ other. length other ≡ length row.now) rows.old.items }
     ensures rows { length rows.new.items ≡ length rows.old.items }
-    ensures wide { All (λ r. length r ≡ length row.now) rows.new.items }
-    ensures set { (u v : ℕ) → u < length rows.old.items → has (slice_index_or rows.new.items u []) v
-        ≡ (has (slice_index_or rows.old.items u []) v || (among writes.now u && has row.now v)) }
+    ensures wide { All (λ other. length other ≡ length row.now) rows.new.items }
+    ensures set { (written variable : ℕ) → written < length rows.old.items → has (slice_index_or rows.new.items written []) variable
+        ≡ (has (slice_index_or rows.old.items written []) variable || (among writes.now written && has row.now variable)) }
 {
-    for w in writes.as_slice() {
-        rows[*w as usize].union(row);
+    for written in writes.as_slice() {
+        rows[*written as usize].union(row);
     }
+}
+
+/// Empty sets, each for this many variables.
+pub fn empty_rows(alloc: Global, rows: usize, count: usize) -> Result<Vec<Bits>, AllocError>
+    ensures rows { IfOk result (λ made. length made.items ≡ rows) }
+    ensures wide { IfOk result (λ made. AllWide count made.items) }
+    ensures empty { IfOk result (λ made. (i variable : ℕ) → i < rows → has (slice_index_or made.items i []) variable ≡ false) }
+{
+    let mut made = Vec::new(alloc);
+    for row in 0..rows {
+        let _ = row;
+        made.push(Bits::new(alloc, count)?)?;
+    }
+    Ok(made)
 }
 
 /// For each variable those that are live after it is written.
@@ -135,21 +148,17 @@ pub fn write_rows(
     alloc: Global,
     ops: &[Op],
     after: &[Bits],
-    vars: usize,
+    count: usize,
 ) -> Result<Vec<Bits>, AllocError>
-    requires below { All (Below vars) ops.now }
+    requires below { All (Below count) ops.now }
     requires rows { length after.now ≡ length ops.now }
-    requires wide { AllWide vars after.now }
-    ensures rows { IfOk result (λ r. length r.items ≡ vars) }
-    ensures wide { IfOk result (λ r. AllWide vars r.items) }
-    ensures set { IfOk result (λ r. (u v : ℕ) → u < vars → has (slice_index_or r.items u []) v
-        ≡ any_below (length ops.now) (λ i. reaches ops.now after.now i u v)) }
+    requires wide { AllWide count after.now }
+    ensures rows { IfOk result (λ rows. length rows.items ≡ count) }
+    ensures wide { IfOk result (λ rows. AllWide count rows.items) }
+    ensures set { IfOk result (λ rows. (written variable : ℕ) → written < count → has (slice_index_or rows.items written []) variable
+        ≡ any_below (length ops.now) (λ i. reaches ops.now after.now i written variable)) }
 {
-    let mut rows = Vec::new(alloc);
-    for v in 0..vars {
-        let _ = v;
-        rows.push(Bits::new(alloc, vars)?)?;
-    }
+    let mut rows = empty_rows(alloc, count, count)?;
     for i in 0..ops.len() {
         add_rows(&mut rows, &ops[i].writes, &after[i]);
     }
@@ -164,10 +173,10 @@ pub fn meets_rows(
     in_use: &[Place],
 ) -> Result<Vec<Bits>, AllocError>
     requires { All (Below (length kinds.now)) ops.now }
-    ensures rows { IfOk result (λ r. length r.items ≡ 20) }
-    ensures wide { IfOk result (λ r. AllWide (length kinds.now) r.items) }
-    ensures set { IfOk result (λ r. (q v : ℕ) → q < 20 → has (slice_index_or r.items q []) v
-        ≡ (nat_lt v (length kinds.now) && meets kinds.now in_use.now ops.now v q)) }
+    ensures rows { IfOk result (λ rows. length rows.items ≡ 20) }
+    ensures wide { IfOk result (λ rows. AllWide (length kinds.now) rows.items) }
+    ensures set { IfOk result (λ rows. (place variable : ℕ) → place < 20 → has (slice_index_or rows.items place []) variable
+        ≡ (nat_lt variable (length kinds.now) && meets kinds.now in_use.now ops.now variable place)) }
 {
     let mut rows = Vec::new(alloc);
     for place in 0..20u8 {
@@ -181,19 +190,19 @@ pub fn taken_rows(
     alloc: Global,
     ops: &[Op],
     after: &[Bits],
-    vars: usize,
+    count: usize,
 ) -> Result<Vec<Bits>, AllocError>
-    requires below { All (Below vars) ops.now }
+    requires below { All (Below count) ops.now }
     requires rows { length after.now ≡ length ops.now }
-    requires wide { AllWide vars after.now }
-    ensures rows { IfOk result (λ r. length r.items ≡ 20) }
-    ensures wide { IfOk result (λ r. AllWide vars r.items) }
-    ensures set { IfOk result (λ r. (q v : ℕ) → q < 20 → has (slice_index_or r.items q []) v
-        ≡ any_below (length ops.now) (λ i. taken ops.now after.now i v q)) }
+    requires wide { AllWide count after.now }
+    ensures rows { IfOk result (λ rows. length rows.items ≡ 20) }
+    ensures wide { IfOk result (λ rows. AllWide count rows.items) }
+    ensures set { IfOk result (λ rows. (place variable : ℕ) → place < 20 → has (slice_index_or rows.items place []) variable
+        ≡ any_below (length ops.now) (λ i. taken ops.now after.now i variable place)) }
 {
     let mut rows = Vec::new(alloc);
     for place in 0..20u8 {
-        rows.push(taken_row(alloc, ops, after, vars, place)?)?;
+        rows.push(taken_row(alloc, ops, after, count, place)?)?;
     }
     Ok(rows)
 }

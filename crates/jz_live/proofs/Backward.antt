@@ -5,26 +5,26 @@ use Rattle.std.proofs.lemmas.Bool.{cases_lt}
 use Rattle.std.proofs.lemmas.List.Elements.{All-weaker}
 use Rattle.jz_bits.specs.Has.{has}
 use Rattle.jz_ir.specs.Places.{Below}
-use Rattle.jz_live.specs.Lives.{before}
+use Rattle.jz_live.specs.Lives.{transfer}
 use Rattle.jz_ir.specs.declared.code.Op.{Op}
 use Rattle.jz_ir.specs.Paths.{among, IsLive, read_here, read_later}
 use Rattle.jz_ir.specs.Straight.{Next, next, LiveIn}
 
-pub before_cases : (r w a : Bool) → IsTrue (before r w a) → IsTrue r ⊎ (IsFalse w × IsTrue a)
+pub before_cases : (r w a : Bool) → IsTrue (transfer r w a) → IsTrue r ⊎ (IsFalse w × IsTrue a)
 before_cases true w a h = inl refl
 before_cases false true a h = cc
 before_cases false false a h = inr (refl, h)
 
-pub before_read : (r w a : Bool) → IsTrue r → IsTrue (before r w a)
+pub before_read : (r w a : Bool) → IsTrue r → IsTrue (transfer r w a)
 before_read r w a h = rw h refl
 
-pub before_later : (r w a : Bool) → IsFalse w → IsTrue a → IsTrue (before r w a)
+pub before_later : (r w a : Bool) → IsFalse w → IsTrue a → IsTrue (transfer r w a)
 before_later true w a h k = refl
 before_later false w a h k = rw (h, k) refl
 
 abbrev pub lives : List Op → ℕ → Bool
 lives [] v = false
-lives (o ∷ os) v = before (among o.reads v) (among o.writes v) (lives os v)
+lives (o ∷ os) v = transfer (among o.reads v) (among o.writes v) (lives os v)
 
 -- by a path, where it is computed
 pub sound : (ops : List Op) (v : ℕ) → IsTrue (lives ops v) → IsLive Next v ops
@@ -61,10 +61,10 @@ last_at : (xs : List (List ℕ)) (x d : List ℕ) → get_or (xs ++ x ∷ []) (l
 last_at xs x d = subst (λ k. get_or (xs ++ x ∷ []) k d ≡ x) (add-zero (length xs)) (get_or-append-add xs (x ∷ []) 0 d)
 
 -- one operation further to the front
-pub one_back : (ops : List Op) (vars : ℕ) (rows : List (List ℕ)) (live new : List ℕ) (i j : ℕ) (o : Op) → Backwards ops vars rows live i → i ≡ suc j → i ≤ length ops → o ≡ get_or ops j o → length new ≡ length live → ((w : ℕ) → has new w ≡ before (among o.reads w) (among o.writes w) (has live w)) → Backwards ops vars (rows ++ live ∷ []) new j
+pub one_back : (ops : List Op) (vars : ℕ) (rows : List (List ℕ)) (live new : List ℕ) (i j : ℕ) (o : Op) → Backwards ops vars rows live i → i ≡ suc j → i ≤ length ops → o ≡ get_or ops j o → length new ≡ length live → ((w : ℕ) → has new w ≡ transfer (among o.reads w) (among o.writes w) (has live w)) → Backwards ops vars (rows ++ live ∷ []) new j
 one_back ops vars rows live new i j o h e le is wide set = record {
   wide = wide ∙ h.wide;
-  now = λ w. rw (drop-cons ops j o (omega arith), ← is) (set w ∙ ap (before (among o.reads w) (among o.writes w)) (h.now w ∙ ap (λ x. lives (drop x ops) w) e));
+  now = λ w. rw (drop-cons ops j o (omega arith), ← is) (set w ∙ ap (transfer (among o.reads w) (among o.writes w)) (h.now w ∙ ap (λ x. lives (drop x ops) w) e));
   count = rw length-append (omega (arith, h.count));
   rows_wide = λ k l. elim (cases_lt k (length rows)) [
     | inl lt ↦ rw (get_or_append_left rows (live ∷ []) [] k lt) (h.rows_wide k lt)

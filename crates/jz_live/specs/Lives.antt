@@ -6,59 +6,64 @@ use Rattle.jz_ir.specs.Paths.{among}
 use Rattle.jz_ir.specs.Tree.{Tree, done, op, choose, loop}
 use Rattle.jz_ir.specs.Places.{Below}
 
--- read, or not written and live afterwards
-abbrev pub before : Bool → Bool → Bool → Bool
-before r w a = r || (not w && a)
+-- live before an operation, by what is live after it: read, or not written and live after
+abbrev pub transfer : Bool → Bool → Bool → Bool
+transfer is_read is_written is_live_after = is_read || (not is_written && is_live_after)
 
-module _ (v : ℕ) where
+module _ (variable : ℕ) where
   abbrev pub reads : Op → Bool
-  reads o = among o.reads v
+  reads operation = among operation.reads variable
 
   abbrev pub writes : Op → Bool
-  writes o = among o.writes v
+  writes operation = among operation.writes variable
 
-  -- before a test: after a true answer, after a false one
+  -- live before and after the test of a loop, by what is live at the body and behind the loop
   abbrev pub test_before : Option Op → Bool → Bool → Bool
-  test_before None more leave = more
-  test_before (Some c) more leave = before (reads c) (writes c) (more || leave)
+  test_before None at_body behind = at_body
+  test_before (Some test) at_body behind = transfer (reads test) (writes test) (at_body || behind)
 
   abbrev pub test_after : Option Op → Bool → Bool → List Bool
-  test_after None more leave = []
-  test_after (Some c) more leave = (more || leave) ∷ []
+  test_after None at_body behind = []
+  test_after (Some test) at_body behind = (at_body || behind) ∷ []
 
-  -- live at a block, where k says whether it is live behind it
-  abbrev pub lives : Tree → Bool → Bool
-  lives done k = k
-  lives (op o t) k = before (reads o) (writes o) (lives t k)
-  lives (choose c a b r) k = before (reads c) (writes c) (lives a (lives r k) || lives b (lives r k))
-  lives (loop p c b r) k = lives p (test_before c (lives b false) (lives r k))
+  -- live at the front of a block, by whether it is live behind it
+  abbrev pub live_before : Tree → Bool → Bool
+  live_before done behind = behind
+  live_before (op operation rest) behind = transfer (reads operation) (writes operation) (live_before rest behind)
+  live_before (choose test then_part else_part rest) behind =
+      transfer (reads test) (writes test) (live_before then_part (live_before rest behind) || live_before else_part (live_before rest behind))
+  live_before (loop prologue test body rest) behind = live_before prologue (test_before test (live_before body false) (live_before rest behind))
 
   -- live after each operation, in the order of the code
-  abbrev pub afters : Tree → Bool → List Bool
-  afters done k = []
-  afters (op o t) k = lives t k ∷ afters t k
-  afters (choose c a b r) k = (lives a (lives r k) || lives b (lives r k)) ∷ (afters a (lives r k) ++ (afters b (lives r k) ++ afters r k))
-  afters (loop p c b r) k =
-      let h : Bool = lives (loop p c b r) k in
-      afters p (test_before c (lives b h) (lives r k)) ++ (test_after c (lives b h) (lives r k) ++ (afters b h ++ afters r k))
+  abbrev pub live_after_each : Tree → Bool → List Bool
+  live_after_each done behind = []
+  live_after_each (op operation rest) behind = live_before rest behind ∷ live_after_each rest behind
+  live_after_each (choose test then_part else_part rest) behind =
+      (live_before then_part (live_before rest behind) || live_before else_part (live_before rest behind))
+      ∷ (live_after_each then_part (live_before rest behind) ++ (live_after_each else_part (live_before rest behind) ++ live_after_each rest behind))
+  live_after_each (loop prologue test body rest) behind =
+      let at_head : Bool = live_before (loop prologue test body rest) behind in
+      live_after_each prologue (test_before test (live_before body at_head) (live_before rest behind))
+      ++ (test_after test (live_before body at_head) (live_before rest behind) ++ (live_after_each body at_head ++ live_after_each rest behind))
 
--- rows in the reverse order of the code
-abbrev pub shown : ℕ → List (List ℕ) → List Bool
-shown v rows = map (λ r. has r v) (reverse rows)
+-- whether each row has the variable, where the rows stand in the reverse order of the code
+abbrev pub column : ℕ → List (List ℕ) → List Bool
+column variable rows = map (λ row. has row variable) (reverse rows)
 
-abbrev pub FineTest : ℕ → Option Op → Type 0
-FineTest n None = Unit {0}
-FineTest n (Some c) = Below n c
+-- the variables of each operation have numbers below n
+abbrev pub TestBelow : ℕ → Option Op → Type 0
+TestBelow n None = Unit {0}
+TestBelow n (Some test) = Below n test
 
-abbrev pub Fine : ℕ → Tree → Type 0
-Fine n done = Unit {0}
-Fine n (op o t) = Below n o × Fine n t
-Fine n (choose c a b r) = Below n c × Fine n a × Fine n b × Fine n r
-Fine n (loop p c b r) = Fine n p × FineTest n c × Fine n b × Fine n r
+abbrev pub TreeBelow : ℕ → Tree → Type 0
+TreeBelow n done = Unit {0}
+TreeBelow n (op operation rest) = Below n operation × TreeBelow n rest
+TreeBelow n (choose test then_part else_part rest) = Below n test × TreeBelow n then_part × TreeBelow n else_part × TreeBelow n rest
+TreeBelow n (loop prologue test body rest) = TreeBelow n prologue × TestBelow n test × TreeBelow n body × TreeBelow n rest
 
 -- how many operations and loops there are
 abbrev pub size : Tree → ℕ
 size done = 0
-size (op o t) = 1 + size t
-size (choose c a b r) = 1 + size a + size b + size r
-size (loop p c b r) = 1 + size p + size b + size r
+size (op operation rest) = 1 + size rest
+size (choose test then_part else_part rest) = 1 + size then_part + size else_part + size rest
+size (loop prologue test body rest) = 1 + size prologue + size body + size rest

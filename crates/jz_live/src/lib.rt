@@ -6,5 +6,5 @@ mod straight;
 mod tests;
 mod tree;
 
-pub use straight::live_after;
+pub use straight::{live_after, remove_all};
 pub use tree::live;

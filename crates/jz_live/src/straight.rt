@@ -7,32 +7,50 @@ ghost use Rattle.jz_ir.specs.Straight.{LiveIn};
 ghost use Rattle.jz_ir.specs.Places.{Below};
 
 use jz_bits::Bits;
+use jz_data::Seq;
 use jz_ir::Op;
 use std::alloc::{AllocError, Global};
 
-/// From what is live after an operation to what is live before it.
-pub fn step_back(live: &mut Bits, op: &Op)
-    requires { Below (64 * length live.old) op.now }
+/// Takes out the variables.
+pub fn remove_all(live: &mut Bits, variables: &Seq<u32>)
+    requires { All (λ variable. variable < 64 * length live.old) variables.now }
     ensures wide { length live.new ≡ length live.old }
-    ensures set { (w : ℕ) → has live.new w ≡ (among op.now.reads w || (not (among op.now.writes w) && has live.old w)) }
+    ensures set { (variable : ℕ) → has live.new variable ≡ (not (among variables.now variable) && has live.old variable) }
 {
-    for v in op.writes.as_slice() {
-        live.remove(*v as usize);
-    }
-    for v in op.reads.as_slice() {
-        live.insert(*v as usize);
+    for variable in variables.as_slice() {
+        live.remove(*variable as usize);
     }
 }
 
+fn insert_all(live: &mut Bits, variables: &Seq<u32>)
+    requires { All (λ variable. variable < 64 * length live.old) variables.now }
+    ensures wide { length live.new ≡ length live.old }
+    ensures set { (variable : ℕ) → has live.new variable ≡ (among variables.now variable || has live.old variable) }
+{
+    for variable in variables.as_slice() {
+        live.insert(*variable as usize);
+    }
+}
+
+/// From what is live after an operation to what is live before it.
+pub(crate) fn step_back(live: &mut Bits, op: &Op)
+    requires { Below (64 * length live.old) op.now }
+    ensures wide { length live.new ≡ length live.old }
+    ensures set { (variable : ℕ) → has live.new variable ≡ (among op.now.reads variable || (not (among op.now.writes variable) && has live.old variable)) }
+{
+    remove_all(live, &op.writes);
+    insert_all(live, &op.reads);
+}
+
 /// For each operation the variables live after it.
-pub fn live_after(alloc: Global, ops: &[Op], vars: usize) -> Result<Vec<Bits>, AllocError>
-    requires { All (Below vars) ops.now }
+pub fn live_after(alloc: Global, ops: &[Op], count: usize) -> Result<Vec<Bits>, AllocError>
+    requires { All (Below count) ops.now }
     ensures rows { IfOk result (λ rows. length rows.items ≡ length ops.now) }
-    ensures wide { IfOk result (λ rows. (i : ℕ) → i < length ops.now → length (slice_index_or rows.items i []) ≡ vars / 64 + 1) }
-    ensures exact { IfOk result (λ rows. (i : ℕ) → i < length ops.now → (v : ℕ) → IsTrue (has (slice_index_or rows.items i []) v) ↔ LiveIn ops.now i v) }
+    ensures wide { IfOk result (λ rows. (i : ℕ) → i < length ops.now → length (slice_index_or rows.items i []) ≡ count / 64 + 1) }
+    ensures exact { IfOk result (λ rows. (i : ℕ) → i < length ops.now → (variable : ℕ) → IsTrue (has (slice_index_or rows.items i []) variable) ↔ LiveIn ops.now i variable) }
 {
     let mut rows = Vec::new(alloc);
-    let mut live = Bits::new(alloc, vars)?;
+    let mut live = Bits::new(alloc, count)?;
     for i in (0..ops.len()).rev() {
         rows.push(live.copy(alloc)?)?;
         step_back(&mut live, &ops[i]);

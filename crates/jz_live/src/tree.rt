@@ -1,8 +1,10 @@
 //! Liveness in code with branches and loops.
-ghost use Rattle.std.specs.Prelude.{◌≡◌, ℕ, ◌+◌, ◌*◌, ◌/◌, ◌<◌, ◌≤◌, ◌++◌, ◌∷◌, [], length, IfOk, IsTrue, ◌↔◌, slice_index_or, slice_index};
+
+ghost use Rattle.std.specs.Prelude.{◌≡◌, ℕ, ◌+◌, ◌*◌, ◌/◌, ◌<◌, ◌++◌, ◌∷◌, ◌↔◌, [], length, IfOk, IsTrue, OnOk, slice_index_or};
+ghost use Rattle.std.specs.List.{All};
 ghost use Rattle.jz_bits.specs.Has.{has};
 ghost use Rattle.jz_ir.specs.Tree.{then_tree, tree_of, done, LiveInTree, states};
-ghost use Rattle.jz_live.specs.Lives.{lives, afters, shown, Fine};
+ghost use Rattle.jz_live.specs.Lives.{column, live_after_each, live_before, test_after, test_before, TestBelow, TreeBelow};
 
 use crate::straight::step_back;
 use jz_bits::Bits;
@@ -13,9 +15,9 @@ use std::alloc::{AllocError, Global};
 /// What is live before a block.
 #[cycle(before)]
 fn before_block(alloc: Global, nodes: &Seq<Node>, behind: Bits) -> Result<Bits, AllocError>
-    requires { Fine (64 * length behind) (tree_of nodes.now) }
-    ensures wide { IfOk result (λ b. length b ≡ length behind) }
-    ensures set { IfOk result (λ b. (v : ℕ) → has b v ≡ lives v (tree_of nodes.now) (has behind v)) }
+    requires { TreeBelow (64 * length behind) (tree_of nodes.now) }
+    ensures wide { IfOk result (λ live. length live ≡ length behind) }
+    ensures set { IfOk result (λ live. (variable : ℕ) → has live variable ≡ live_before variable (tree_of nodes.now) (has behind variable)) }
 {
     let mut live = behind;
     for i in (0..nodes.len()).rev() {
@@ -26,9 +28,9 @@ fn before_block(alloc: Global, nodes: &Seq<Node>, behind: Bits) -> Result<Bits, 
 
 #[cycle(before)]
 fn before_node(alloc: Global, node: &Node, behind: Bits) -> Result<Bits, AllocError>
-    requires { Fine (64 * length behind) (then_tree node.now done) }
-    ensures wide { IfOk result (λ b. length b ≡ length behind) }
-    ensures set { IfOk result (λ b. (v : ℕ) → has b v ≡ lives v (then_tree node.now done) (has behind v)) }
+    requires { TreeBelow (64 * length behind) (then_tree node.now done) }
+    ensures wide { IfOk result (λ live. length live ≡ length behind) }
+    ensures set { IfOk result (λ live. (variable : ℕ) → has live variable ≡ live_before variable (then_tree node.now done) (has behind variable)) }
 {
     match node {
         Node::Op(op) => {
@@ -49,29 +51,23 @@ fn before_node(alloc: Global, node: &Node, behind: Bits) -> Result<Bits, AllocEr
     }
 }
 
-ghost use Rattle.jz_live.specs.Lives.{FineTest, test_before};
-
 /// What is live before the test of a loop.
-fn before_test(test: &Option<Op>, more: Bits, leave: &Bits) -> Bits
-    requires wide { length leave.now ≡ length more }
-    requires fine { FineTest (64 * length more) test.now }
-    ensures wide { length result ≡ length more }
-    ensures set { (v : ℕ) → has result v ≡ test_before v test.now (has more v) (has leave.now v) }
+fn before_test(test: &Option<Op>, at_body: Bits, behind: &Bits) -> Bits
+    requires wide { length behind.now ≡ length at_body }
+    requires below { TestBelow (64 * length at_body) test.now }
+    ensures wide { length result ≡ length at_body }
+    ensures set { (variable : ℕ) → has result variable ≡ test_before variable test.now (has at_body variable) (has behind.now variable) }
 {
     match test {
-        None => more,
+        None => at_body,
         Some(op) => {
-            let mut live = more;
-            live.union(leave);
+            let mut live = at_body;
+            live.union(behind);
             step_back(&mut live, op);
             live
         }
     }
 }
-
-ghost use Rattle.std.specs.Prelude.{map, reverse, OnOk, Bool, ◌||◌};
-ghost use Rattle.std.specs.List.{All};
-ghost use Rattle.jz_live.specs.Lives.{test_after};
 
 /// Adds what is live after each operation of a block, the last first, and gives what is live before it.
 #[cycle(rows)]
@@ -81,12 +77,12 @@ fn rows_block(
     nodes: &Seq<Node>,
     behind: Bits,
 ) -> Result<Bits, AllocError>
-    requires fine { Fine (64 * length behind) (tree_of nodes.now) }
-    requires rows_wide { All (λ r. length r ≡ length behind) rows.old.items }
-    ensures wide { IfOk result (λ b. length b ≡ length behind) }
-    ensures set { IfOk result (λ b. (v : ℕ) → has b v ≡ lives v (tree_of nodes.now) (has behind v)) }
-    ensures rows { IfOk result (λ b. (v : ℕ) → shown v rows.new.items ≡ afters v (tree_of nodes.now) (has behind v) ++ shown v rows.old.items) }
-    ensures rows_wide { IfOk result (λ b. All (λ r. length r ≡ length behind) rows.new.items) }
+    requires below { TreeBelow (64 * length behind) (tree_of nodes.now) }
+    requires rows_wide { All (λ row. length row ≡ length behind) rows.old.items }
+    ensures wide { IfOk result (λ live. length live ≡ length behind) }
+    ensures set { IfOk result (λ live. (variable : ℕ) → has live variable ≡ live_before variable (tree_of nodes.now) (has behind variable)) }
+    ensures rows { IfOk result (λ live. (variable : ℕ) → column variable rows.new.items ≡ live_after_each variable (tree_of nodes.now) (has behind variable) ++ column variable rows.old.items) }
+    ensures rows_wide { IfOk result (λ live. All (λ row. length row ≡ length behind) rows.new.items) }
 {
     let mut live = behind;
     for i in (0..nodes.len()).rev() {
@@ -102,16 +98,17 @@ fn rows_node(
     node: &Node,
     behind: Bits,
 ) -> Result<Bits, AllocError>
-    requires fine { Fine (64 * length behind) (then_tree node.now done) }
-    requires rows_wide { All (λ r. length r ≡ length behind) rows.old.items }
-    ensures wide { IfOk result (λ b. length b ≡ length behind) }
-    ensures set { IfOk result (λ b. (v : ℕ) → has b v ≡ lives v (then_tree node.now done) (has behind v)) }
-    ensures rows { IfOk result (λ b. (v : ℕ) → shown v rows.new.items ≡ afters v (then_tree node.now done) (has behind v) ++ shown v rows.old.items) }
-    ensures rows_wide { IfOk result (λ b. All (λ r. length r ≡ length behind) rows.new.items) }
+    requires below { TreeBelow (64 * length behind) (then_tree node.now done) }
+    requires rows_wide { All (λ row. length row ≡ length behind) rows.old.items }
+    ensures wide { IfOk result (λ live. length live ≡ length behind) }
+    ensures set { IfOk result (λ live. (variable : ℕ) → has live variable ≡ live_before variable (then_tree node.now done) (has behind variable)) }
+    ensures rows { IfOk result (λ live. (variable : ℕ) → column variable rows.new.items ≡ live_after_each variable (then_tree node.now done) (has behind variable) ++ column variable rows.old.items) }
+    ensures rows_wide { IfOk result (λ live. All (λ row. length row ≡ length behind) rows.new.items) }
 {
     match node {
         Node::Op(op) => {
-            let mut live = add_row(alloc, rows, behind)?;
+            add_row(alloc, rows, &behind)?;
+            let mut live = behind;
             step_back(&mut live, op);
             Ok(live)
         }
@@ -119,7 +116,7 @@ fn rows_node(
             let other = rows_block(alloc, rows, no, behind.copy(alloc)?)?;
             let mut live = rows_block(alloc, rows, yes, behind)?;
             live.union(&other);
-            let mut live = add_row(alloc, rows, live)?;
+            add_row(alloc, rows, &live)?;
             step_back(&mut live, test);
             Ok(live)
         }
@@ -135,14 +132,13 @@ fn rows_node(
 }
 
 /// Adds a row.
-fn add_row(alloc: Global, rows: &mut Vec<Bits>, live: Bits) -> Result<Bits, AllocError>
-    requires { All (λ r. length r ≡ length live) rows.old.items }
-    ensures same { IfOk result (λ b. b ≡ live) }
-    ensures rows { IfOk result (λ b. (v : ℕ) → shown v rows.new.items ≡ has live v ∷ shown v rows.old.items) }
-    ensures rows_wide { IfOk result (λ b. All (λ r. length r ≡ length live) rows.new.items) }
+fn add_row(alloc: Global, rows: &mut Vec<Bits>, live: &Bits) -> Result<(), AllocError>
+    requires { All (λ row. length row ≡ length live.now) rows.old.items }
+    ensures rows { OnOk result ((variable : ℕ) → column variable rows.new.items ≡ has live.now variable ∷ column variable rows.old.items) }
+    ensures rows_wide { OnOk result (All (λ row. length row ≡ length live.now) rows.new.items) }
 {
     rows.push(live.copy(alloc)?)?;
-    Ok(live)
+    Ok(())
 }
 
 /// Adds the row of a test, and gives what is live before it.
@@ -150,23 +146,23 @@ fn rows_test(
     alloc: Global,
     rows: &mut Vec<Bits>,
     test: &Option<Op>,
-    more: Bits,
-    leave: &Bits,
+    at_body: Bits,
+    behind: &Bits,
 ) -> Result<Bits, AllocError>
-    requires wide { length leave.now ≡ length more }
-    requires rows_wide { All (λ r. length r ≡ length more) rows.old.items }
-    requires fine { FineTest (64 * length more) test.now }
-    ensures wide { IfOk result (λ b. length b ≡ length more) }
-    ensures set { IfOk result (λ b. (v : ℕ) → has b v ≡ test_before v test.now (has more v) (has leave.now v)) }
-    ensures rows { IfOk result (λ b. (v : ℕ) → shown v rows.new.items ≡ test_after v test.now (has more v) (has leave.now v) ++ shown v rows.old.items) }
-    ensures rows_wide { IfOk result (λ b. All (λ r. length r ≡ length more) rows.new.items) }
+    requires wide { length behind.now ≡ length at_body }
+    requires rows_wide { All (λ row. length row ≡ length at_body) rows.old.items }
+    requires below { TestBelow (64 * length at_body) test.now }
+    ensures wide { IfOk result (λ live. length live ≡ length at_body) }
+    ensures set { IfOk result (λ live. (variable : ℕ) → has live variable ≡ test_before variable test.now (has at_body variable) (has behind.now variable)) }
+    ensures rows { IfOk result (λ live. (variable : ℕ) → column variable rows.new.items ≡ test_after variable test.now (has at_body variable) (has behind.now variable) ++ column variable rows.old.items) }
+    ensures rows_wide { IfOk result (λ live. All (λ row. length row ≡ length at_body) rows.new.items) }
 {
     match test {
-        None => Ok(more),
+        None => Ok(at_body),
         Some(op) => {
-            let mut live = more;
-            live.union(leave);
-            let mut live = add_row(alloc, rows, live)?;
+            let mut live = at_body;
+            live.union(behind);
+            add_row(alloc, rows, &live)?;
             step_back(&mut live, op);
             Ok(live)
         }
@@ -174,14 +170,14 @@ fn rows_test(
 }
 
 /// For each operation of the code the variables live after it.
-pub fn live(alloc: Global, code: &Seq<Node>, vars: usize) -> Result<Vec<Bits>, AllocError>
-    requires { Fine vars (tree_of code.now) }
+pub fn live(alloc: Global, code: &Seq<Node>, count: usize) -> Result<Vec<Bits>, AllocError>
+    requires { TreeBelow count (tree_of code.now) }
     ensures rows { IfOk result (λ rows. length rows.items ≡ length (states (tree_of code.now) [])) }
-    ensures wide { IfOk result (λ rows. All (λ r. length r ≡ vars / 64 + 1) rows.items) }
-    ensures exact { IfOk result (λ rows. (i : ℕ) → i < length rows.items → (v : ℕ) → IsTrue (has (slice_index_or rows.items i []) v) ↔ LiveInTree (tree_of code.now) i v) }
+    ensures wide { IfOk result (λ rows. All (λ row. length row ≡ count / 64 + 1) rows.items) }
+    ensures exact { IfOk result (λ rows. (i : ℕ) → i < length rows.items → (variable : ℕ) → IsTrue (has (slice_index_or rows.items i []) variable) ↔ LiveInTree (tree_of code.now) i variable) }
 {
     let mut rows = Vec::new(alloc);
-    let behind = Bits::new(alloc, vars)?;
+    let behind = Bits::new(alloc, count)?;
     rows_block(alloc, &mut rows, code, behind)?;
     rows.reverse();
     Ok(rows)

@@ -1,10 +1,9 @@
 -- Names of variables and their numbers.
 use Rattle.std.proofs.Common.{◌≡◌, ◌≢◌, ◌⊎◌, inl, inr, ℕ, ◌<◌, Bool, true, false, ◌&&◌, ◌||◌, List, [], ◌∷◌, length, get_or, refl, sym, ap, ◌∙◌, arith, nat_eq, IsTrue, IsFalse}
-use Rattle.std.specs.List.{Contains, position_or_len}
+use Rattle.std.specs.List.{Contains}
 use Rattle.std.specs.Str.{bytes_eq}
 use Rattle.std.specs.Cmp.Lexicographic.{same_text}
 use Rattle.std.proofs.lemmas.Bool.{cases_lt, eq-eqb, ne_eqb, or_left, or_from, both_ways}
-use Rattle.std.proofs.lemmas.List.Recursion.{is_position_or_len}
 use Rattle.std.proofs.lemmas.List.Sums.{passes_at_first, fails_before_first}
 use Rattle.std.proofs.lemmas.Slice.Eq.{bytes_eq-Decides}
 use Rattle.jz_ir.specs.Paths.{among}
@@ -53,14 +52,8 @@ module _ (vs : List Var) where
   KnownBody [] = Unit {0}
   KnownBody (s ∷ ss) = KnownKind s.kind × KnownBody ss
 
-  first_place : (n : List ℕ) → number_in vs n ≡ position_or_len (λ v. bytes_eq n v.name) vs
-  first_place n = is_position_or_len (λ xs. number_in xs n) (λ v. bytes_eq n v.name) refl (λ x xs. refl) vs
-
   named_there : (x : Var) (n : List ℕ) → number_in vs n < length vs → n ≡ (get_or vs (number_in vs n) x).name
-  named_there x n known =
-      let at = first_place n in
-      let found : bytes_eq n (get_or vs (position_or_len (λ v. bytes_eq n v.name) vs) x).name ≡ true = passes_at_first (λ v. bytes_eq n v.name) vs x (omega (arith, known, at)) in
-      same_text n (get_or vs (position_or_len (λ v. bytes_eq n v.name) vs) x).name (sym found) ∙ ap (λ k. (get_or vs k x).name) (sym at)
+  named_there x n known = same_text n (get_or vs (number_in vs n) x).name (sym (passes_at_first (λ v. bytes_eq n v.name) vs x known))
 
   -- a name with the number of a declared one is that name
   pub same_name : (x : Var) (n : List ℕ) → IsKnown vs x → number_in vs n ≡ number_in vs x.name → x.name ≡ n
@@ -71,9 +64,8 @@ module _ (vs : List Var) where
   known_by_name y n at e = elim (cases_lt (number_in vs n) (length vs)) [
     | inl l ↦ l
     | inr g ↦ absurd (
-        let place = first_place n in
         let before = at.1 in
-        let fails : bytes_eq n (get_or vs at.0 y).name ≡ false = fails_before_first (λ v. bytes_eq n v.name) vs at.0 y (omega (arith, g, before, place)) in
+        let fails : bytes_eq n (get_or vs at.0 y).name ≡ false = fails_before_first (λ v. bytes_eq n v.name) vs at.0 y (omega (arith, g, before)) in
         let holds : bytes_eq n (get_or vs at.0 y).name ≡ true = (bytes_eq-Decides n (get_or vs at.0 y).name).1 (sym e ∙ ap (λ v. v.name) (sym at.2)) in
         cc)
   ]

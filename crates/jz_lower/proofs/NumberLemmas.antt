@@ -7,7 +7,6 @@ use Rattle.std.proofs.lemmas.Bool.Decides.{nat_tests, same_from_decides, Decides
 use Rattle.std.proofs.lemmas.Slice.Eq.{bytes_eq-Decides}
 use Rattle.std.proofs.lemmas.List.Folds.{position_or_len_push}
 use Rattle.std.proofs.lemmas.List.Sums.{prefix_len-le-length}
-use Rattle.std.proofs.lemmas.List.Recursion.{is_position_or_len}
 use Rattle.jz_tree.specs.declared.Var.{Var}
 use Rattle.indexmap.specs.IndexMap.{get}
 use Rattle.jz_lower.specs.declared.numbers.Numbers.{Numbers}
@@ -91,14 +90,11 @@ module _ {X : Type 0} (name : X → List ℕ) where
         in held n ∙ split (bytes_eq (name y) n) refl
 
 -- ---- the number of a name, from what the table has for it
-number_is : (vs : List Var) (n : List ℕ) → number_in vs n ≡ position_or_len (λ v. bytes_eq n v.name) vs
-number_is vs n = is_position_or_len (λ us. number_in us n) (λ v. bytes_eq n v.name) refl (λ v us. refl) vs
-
 pub number_none : (vs : List Var) (n : List ℕ) (k : ℕ) → k ≡ length vs → None ≡ position (λ v. bytes_eq n v.name) vs → k ≡ number_in vs n
-number_none vs n k count e = count ∙ none_below _ (length vs) (prefix_len-le-length (λ v. not (bytes_eq n v.name)) vs) e ∙ sym (number_is vs n)
+number_none vs n k count e = count ∙ none_below (number_in vs n) (length vs) (prefix_len-le-length (λ v. not (bytes_eq n v.name)) vs) e
 
 pub number_some : (vs : List Var) (n : List ℕ) (k : ℕ) → Some k ≡ position (λ v. bytes_eq n v.name) vs → k ≡ number_in vs n
-number_some vs n k e = some_below _ (length vs) k e ∙ sym (number_is vs n)
+number_some vs n k e = some_below (number_in vs n) (length vs) k e
 
 -- ---- a table with one variable more
 pub held_more : (s t : Numbers) (vs : List Var) (v : Var) → s.count ≡ length vs → t ≡ s

@@ -1,5 +1,6 @@
 -- A function as the placing of its variables sees it: what each of its statements reads, writes and needs.
-use Rattle.std.specs.Prelude.{ℕ, ◌+◌, if◌then◌else◌, List, [], ◌∷◌, ◌++◌, length, map, replicate, slice_index_or, Option, Some, None}
+use Rattle.std.specs.Prelude.{ℕ, List, [], ◌∷◌, ◌++◌, length, map, replicate, slice_index_or, Option, Some, None}
+use Rattle.std.specs.List.{position_or_len}
 use Rattle.std.specs.Str.{bytes_eq}
 use Rattle.jz_io.specs.declared.span.Span.{Span}
 use Rattle.x64_insn.specs.declared.types.Reg.{Reg}
@@ -29,8 +30,7 @@ use Rattle.jz_lower.specs.Placing.{variable_of}
 
 -- the number of a name: its place in the order of declaration, or the number of variables where none has it
 abbrev pub number_in : List Var → List ℕ → ℕ
-number_in [] n = 0
-number_in (v ∷ vs) n = if bytes_eq n v.name then 0 else 1 + number_in vs n
+number_in vs n = position_or_len (λ v. bytes_eq n v.name) vs
 
 -- the registers that a function need not preserve, but for the stack pointer (System V AMD64 ABI, 3.2.1)
 abbrev pub given_places : List Place

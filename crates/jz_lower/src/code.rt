@@ -11,16 +11,12 @@ ghost use Rattle.jz_lower.specs.Operations.{code_of, entry_ops, flags_of, left_o
 ghost use Rattle.jz_lower.specs.Placing.{variable_of};
 
 use crate::numbers::Numbers;
+use crate::registers::{ARGUMENT_REGISTERS, RESULT_REGISTERS};
 use jz_data::Seq;
 use jz_ir::{Code, Kind, Need, Op};
 use jz_tree::{BinOp, Expr, Fun, Lval, Param, Rhs, Stmt, StmtKind, Var};
 use std::alloc::{AllocError, Global};
 use x64_insn::{Flag, Place, Reg};
-
-// The registers of integer arguments and results, in their order (System V AMD64 ABI, 3.2.3).
-const ARGUMENT_REGISTERS: [Reg; 6] = [Reg::Rdi, Reg::Rsi, Reg::Rdx, Reg::Rcx, Reg::R8, Reg::R9];
-
-const RESULT_REGISTERS: [Reg; 2] = [Reg::Rax, Reg::Rdx];
 
 // The registers that a function need not preserve, but for the stack pointer (System V AMD64 ABI, 3.2.1).
 const GIVEN_PLACES: [Place; 9] = [

@@ -4,9 +4,11 @@
 mod code;
 mod lowering;
 mod numbers;
+mod registers;
 
 pub use code::operations;
 pub use lowering::instructions;
+pub use registers::{ARGUMENT_REGISTERS, RESULT_REGISTERS};
 
 #[cfg(test)]
 mod tests;

@@ -21,7 +21,7 @@ use Rattle.jz_tree.specs.declared.Stmt.{Stmt}
 use Rattle.jz_tree.specs.declared.StmtKind.{StmtKind}
 use Rattle.jz_tree.specs.declared.StmtKind.TheVariants as kind
 use Rattle.jz_tree.specs.Variables.{variables_of}
-use Rattle.jz_tree.proofs.Parts.{all_front, all_back}
+use Rattle.jz_data.proofs.Lists.{All-front, All-back}
 use Rattle.jz_types.specs.TypedPrograms.{HasDeclaration}
 use Rattle.jz_types.specs.Uses.{left_side_uses, right_side_uses, kind_uses, body_uses, uses_of}
 use Rattle.jz_safety.specs.Alarms.{HasNoAlarm}
@@ -51,24 +51,24 @@ module _ (vs : List Var) where
   kind_known (kind.Assign ds o r) a =
       let lefts : List Var = flat_map left_side_uses ds in
       let right : List Var = right_side_uses r in
-      (lefts_known ds (all_front (IsKnown vs) lefts right a), right_known r (all_back (IsKnown vs) lefts right a))
+      (lefts_known ds (All-front (IsKnown vs) lefts right a), right_known r (All-back (IsKnown vs) lefts right a))
 
   body_known : (ss : List Stmt) → All (IsKnown vs) (body_uses ss) → KnownBody vs ss
   body_known [] a = tt
   body_known (s ∷ ss) a =
       let here : List Var = kind_uses s.kind in
       let later : List Var = body_uses ss in
-      (kind_known s.kind (all_front (IsKnown vs) here later a), body_known ss (all_back (IsKnown vs) here later a))
+      (kind_known s.kind (All-front (IsKnown vs) here later a), body_known ss (All-back (IsKnown vs) here later a))
 
 module _ (f : Fun) (declared : All (HasDeclaration (variables_of f)) (uses_of f)) where
   used_known : All (IsKnown (variables_of f)) (uses_of f)
   used_known = All-weaker (HasDeclaration (variables_of f)) (IsKnown (variables_of f)) (λ u d. known_by_name (variables_of f) d.variable u.name d.among d.name) (uses_of f) declared
 
   body_is_known : KnownBody (variables_of f) f.body
-  body_is_known = body_known (variables_of f) f.body (all_front (IsKnown (variables_of f)) (body_uses f.body) f.result used_known)
+  body_is_known = body_known (variables_of f) f.body (All-front (IsKnown (variables_of f)) (body_uses f.body) f.result used_known)
 
   result_is_known : All (IsKnown (variables_of f)) f.result
-  result_is_known = all_back (IsKnown (variables_of f)) (body_uses f.body) f.result used_known
+  result_is_known = All-back (IsKnown (variables_of f)) (body_uses f.body) f.result used_known
 
   -- each variable of its operations has a kind
   pub placeable_within : IsWithin (code_of f)

@@ -6,6 +6,7 @@ use Rattle.std.specs.List.{All, AllPairs, Contains, filter_map, cons_option}
 use Rattle.std.proofs.lemmas.Int.{ints}
 use Rattle.std.proofs.lemmas.List.{length-append, length-map}
 use Rattle.std.proofs.lemmas.List.Elements.{All-head, All-tail, All-append, All-map, All-weaker, All-contains}
+use Rattle.jz_data.proofs.Lists.{All-front, All-back}
 use Rattle.x64_insn.specs.Chosen.{fits_bytes}
 use Rattle.x64_insn.proofs.Immediates.{within_fits}
 use Rattle.jz_tree.specs.declared.Program.{Program}
@@ -21,7 +22,7 @@ use Rattle.jz_tree.specs.declared.StmtKind.{StmtKind}
 use Rattle.jz_tree.specs.declared.StmtKind.TheVariants as kind
 use Rattle.jz_tree.specs.Variables.{variables_of}
 use Rattle.jz_tree.specs.Assignments.{AssignsToOne}
-use Rattle.jz_tree.proofs.Parts.{all_front, all_back}
+use Rattle.jz_data.proofs.Lists.{All-front, All-back}
 use Rattle.jz_parse.specs.Trees.{register_word}
 use Rattle.jz_parse.specs.Derived.{DeclaresWords}
 use Rattle.jz_types.specs.TypedPrograms.{HaveDifferentNames, HasDeclaration, HaveDeclarations, HasCounts, HaveCounts}
@@ -57,8 +58,8 @@ sets_word s (x, o, r, e) a =
 set_words : (ss : List Stmt) → All AssignsToOne ss → All IsDeclaredWord (body_uses ss) → SetWords ss
 set_words [] one a = tt
 set_words (s ∷ ss) one a = (
-  sets_word s (All-head AssignsToOne s ss one) (all_front IsDeclaredWord (kind_uses s.kind) (body_uses ss) a),
-  set_words ss (All-tail AssignsToOne s ss one) (all_back IsDeclaredWord (kind_uses s.kind) (body_uses ss) a),
+  sets_word s (All-head AssignsToOne s ss one) (All-front IsDeclaredWord (kind_uses s.kind) (body_uses ss) a),
+  set_words ss (All-tail AssignsToOne s ss one) (All-back IsDeclaredWord (kind_uses s.kind) (body_uses ss) a),
 )
 
 -- ---- immediates
@@ -93,7 +94,7 @@ placeable p f names declarations counts among words limits left =
       params = are_words f.params words.params;
       rets = give_words f.rets words.rets;
       counts = counted.results;
-      body = set_words f.body left (all_front IsDeclaredWord (body_uses f.body) f.result used);
+      body = set_words f.body left (All-front IsDeclaredWord (body_uses f.body) f.result used);
       immediates = fit_immediates f.body limits.1;
     } in
     record {

@@ -1,5 +1,5 @@
 -- What a function becomes where first fit puts its variables, or why a variable has no place.
-use Rattle.std.specs.Prelude.{◌≡◌, ◌≢◌, ◌<◌, ◌^◌, ℕ, List, [], ◌∷◌, length, map, slice_index_or, Option, Some, None, All, AllPairs}
+use Rattle.std.specs.Prelude.{◌≡◌, ◌≢◌, ◌<◌, ◌^◌, ℕ, List, [], ◌∷◌, length, map, slice_index_or, option_map, All, AllPairs}
 use Rattle.x64_insn.specs.declared.types.Place.{Place}
 use Rattle.jz_ir.specs.Places.{Out, FirstFit, all_of}
 use Rattle.jz_ir.specs.Straight.{LiveIn}
@@ -39,12 +39,8 @@ AreCompiled fs cs = ⊥
 abbrev pub name_at : List Var → ℕ → List ℕ
 name_at vs v = slice_index_or (map (λ x. x.name) vs) v []
 
-abbrev pub holder_name : List Var → Option ℕ → Option (List ℕ)
-holder_name vs None = None
-holder_name vs (Some u) = Some (name_at vs u)
-
 abbrev pub holder_of : List Var → numbered_holder.Holder → Holder
-holder_of vs h = record { place = h.place; variable = holder_name vs h.variable; span = h.span }
+holder_of vs h = record { place = h.place; variable = option_map (name_at vs) h.variable; span = h.span }
 
 abbrev pub refusal_of : List Var → numbered.NoPlace → NoPlace
 refusal_of vs n = record { variable = name_at vs n.variable; needs = n.needs; holders = map (holder_of vs) n.holders }

@@ -2,7 +2,7 @@
 
 ghost use Rattle.std.specs.Prelude.{◌≡◌, IfOk, map, option_copied, slice_get};
 ghost use Rattle.jz_tree.specs.Variables.{variables_of};
-ghost use Rattle.jz_pipeline.specs.Placed.{name_at, holder_name, holder_of, refusal_of};
+ghost use Rattle.jz_pipeline.specs.Placed.{name_at, holder_of, refusal_of};
 
 use crate::unplaced::{Holder, NoPlace};
 use jz_data::{Seq, Text};

@@ -8,15 +8,11 @@ ghost use Rattle.jz_pipeline.specs.Compiling.{lines_of};
 
 use jz_data::Seq;
 use jz_listing::Arg;
+use jz_lower::{ARGUMENT_REGISTERS, RESULT_REGISTERS};
 use jz_tree::{Param, Var};
 use jz_words::Size;
 use std::alloc::{AllocError, Global};
 use x64_insn::Reg;
-
-/// The registers of integer arguments, in their order (System V AMD64 ABI, 3.2.3).
-const ARGUMENT_REGISTERS: [Reg; 6] = [Reg::Rdi, Reg::Rsi, Reg::Rdx, Reg::Rcx, Reg::R8, Reg::R9];
-
-const RESULT_REGISTERS: [Reg; 2] = [Reg::Rax, Reg::Rdx];
 
 fn line(var: &Var, reg: Reg) -> Result<Arg, AllocError>
     ensures { IfOk result (λ line. line ≡ record { name = var.now.name; size = S64; reg = reg }) }

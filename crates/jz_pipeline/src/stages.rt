@@ -2,7 +2,7 @@
 
 ghost use Rattle.std.specs.Prelude.{◌≡◌, All, IfOk, IfErr, map};
 ghost use Rattle.jz_data.specs.Failures.{IfRefused};
-ghost use Rattle.jz_pass.specs.Limits.{IsWithinLimits, IsFirstLimit};
+ghost use Rattle.jz_pass.specs.Limits.{count_of, IsWithinLimits, IsFirstLimit};
 ghost use Rattle.jz_safety.specs.Alarms.{HasNoAlarm, IsFirstAlarm};
 ghost use Rattle.jz_pipeline.specs.Placed.{AreCompiled, IsPlaceable, IsUnplaced};
 ghost use Rattle.jz_pipeline.specs.Stages.{HasNone, IsFirstRefusal};
@@ -21,6 +21,7 @@ use std::alloc::Global;
 /// Each function of a program after expansion, or the first limit that one passes.
 pub fn expand_all(alloc: Global, typed: &Typed) -> Result<Seq<Expanded>, Failure<Limit>>
     ensures functions { IfOk result (λ es. map (λ e. e.fun) es ≡ typed.now.program.funs) }
+    ensures counts { IfOk result (All (λ e. e.count ≡ count_of e.fun)) }
     ensures within { IfOk result (λ es. All IsWithinLimits typed.now.program.funs) }
     ensures limit { IfErr result (λ failure. IfRefused failure (IsFirstRefusal IsFirstLimit typed.now.program.funs)) }
 {

@@ -9,7 +9,7 @@ use Rattle.jz_tree.specs.declared.Stmt.{Stmt}
 use Rattle.jz_tree.specs.declared.StmtKind.{StmtKind}
 use Rattle.jz_tree.specs.Variables.{variables_of}
 use Rattle.jz_tree.specs.Assignments.{AssignsToOne}
-use Rattle.jz_tree.proofs.Parts.{all_front, all_back}
+use Rattle.jz_data.proofs.Lists.{All-front, All-back}
 use Rattle.jz_types.specs.Uses.{right_side_uses, kind_uses, body_uses, uses_of}
 use Rattle.jz_types.specs.Resolving.{resolved_var, resolved_rhs, resolved_kind, resolved_stmt, declaration_in, resolved_fun}
 use Rattle.jz_types.specs.TypedPrograms.{HasDeclaration, HaveDeclarations}
@@ -24,13 +24,13 @@ body_resolved : (vs : List Var) (ss : List Stmt) → All AssignsToOne ss → All
 body_resolved vs [] h a = All-nil AssignsToDeclared
 body_resolved vs (s ∷ ss) h a =
     All-cons AssignsToDeclared s ss
-    (stmt_resolved vs s (All-head AssignsToOne s ss h) (all_front (HasDeclaration vs) (kind_uses s.kind) (body_uses ss) a))
-    (body_resolved vs ss (All-tail AssignsToOne s ss h) (all_back (HasDeclaration vs) (kind_uses s.kind) (body_uses ss) a))
+    (stmt_resolved vs s (All-head AssignsToOne s ss h) (All-front (HasDeclaration vs) (kind_uses s.kind) (body_uses ss) a))
+    (body_resolved vs ss (All-tail AssignsToOne s ss h) (All-back (HasDeclaration vs) (kind_uses s.kind) (body_uses ss) a))
 
 pub typed_resolved : (p : Program) (f : Fun) → HaveDeclarations p → Contains p.funs f → All AssignsToOne f.body → IsResolved f
 typed_resolved p f d c h =
     let a : All (HasDeclaration (variables_of f)) (uses_of f) = All-contains (λ (g : Fun). All (HasDeclaration (variables_of g)) (uses_of g)) p.funs f d c in
-    body_resolved (variables_of f) f.body h (all_front (HasDeclaration (variables_of f)) (body_uses f.body) f.result a)
+    body_resolved (variables_of f) f.body h (All-front (HasDeclaration (variables_of f)) (body_uses f.body) f.result a)
 
 -- typing keeps the left sides
 pub keeps_one : (f : Fun) → All AssignsToOne f.body → All AssignsToOne (resolved_fun f).body

@@ -2,5 +2,5 @@ use Rattle.std.proofs.Common.{ℕ, ◌<◌}
 use Rattle.jz_alloc.specs.Holding.{VarAt}
 use Rattle.jz_alloc.proofs.evidence.first_conflicting.Given as goal
 
-abbrev pub invariant-loop-u : goal.invariant-loop-u
-invariant-loop-u l = (w : ℕ) → w < l.u → VarAt l.op l.after l.held l.v w → ⊥
+abbrev pub invariant-loop-other : goal.invariant-loop-other
+invariant-loop-other l = (w : ℕ) → w < l.other → VarAt l.op l.after l.held l.variable w → ⊥

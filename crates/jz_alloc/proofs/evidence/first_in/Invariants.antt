@@ -3,5 +3,5 @@ use Rattle.jz_bits.specs.Has.{has}
 use Rattle.jz_ir.specs.Paths.{among}
 use Rattle.jz_alloc.proofs.evidence.first_in.Given as goal
 
-abbrev pub invariant-loop-u : goal.invariant-loop-u
-invariant-loop-u l = (w : ℕ) → IsTrue (among (take l.u-index l.u-items) w) → IsTrue (has l.row w) → ⊥
+abbrev pub invariant-loop-variable : goal.invariant-loop-variable
+invariant-loop-variable l = (w : ℕ) → IsTrue (among (take l.variable-index l.variable-items) w) → IsTrue (has l.row w) → ⊥

@@ -4,4 +4,4 @@ use Rattle.jz_alloc.specs.Holding.{LiveIn}
 use Rattle.jz_alloc.proofs.evidence.holder_of.Given as goal
 
 abbrev pub invariant-loop-i : goal.invariant-loop-i
-invariant-loop-i l = ((j : ℕ) → j < l.i → (u : ℕ) → HeldByVar l.ops (LiveIn l.after) l.places l.v l.place j u → ⊥) × ((j : ℕ) → j < l.i → TakenAt l.ops (LiveIn l.after) j l.v l.place → ⊥)
+invariant-loop-i l = ((j : ℕ) → j < l.i → (u : ℕ) → HeldByVar l.ops (LiveIn l.after) l.places l.variable l.place j u → ⊥) × ((j : ℕ) → j < l.i → TakenAt l.ops (LiveIn l.after) j l.variable l.place → ⊥)

@@ -1,6 +1,6 @@
 use Rattle.std.proofs.Common.{◌≡◌, take, false}
 use Rattle.jz_ir.specs.Paths.{among}
-use Rattle.jz_alloc.proofs.evidence.has_var.Given as goal
+use Rattle.jz_alloc.proofs.evidence.is_among.Given as goal
 
-abbrev pub invariant-loop-w : goal.invariant-loop-w
-invariant-loop-w l = among (take l.w-index l.w-items) l.v ≡ false
+abbrev pub invariant-loop-other : goal.invariant-loop-other
+invariant-loop-other l = among (take l.other-index l.other-items) l.variable ≡ false

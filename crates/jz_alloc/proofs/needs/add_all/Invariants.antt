@@ -2,5 +2,5 @@ use Rattle.std.proofs.Common.{◌≡◌, drop}
 use Rattle.jz_alloc.specs.Needs.{add_needs}
 use Rattle.jz_alloc.proofs.needs.add_all.Given as goal
 
-abbrev pub invariant-loop-n : goal.invariant-loop-n
-invariant-loop-n l = add_needs l.v (drop l.n-index l.n-items) l.needs.items ≡ add_needs l.v l.n-items l.initial.needs.items
+abbrev pub invariant-loop-need : goal.invariant-loop-need
+invariant-loop-need l = add_needs l.variable (drop l.need-index l.need-items) l.needs.items ≡ add_needs l.variable l.need-items l.initial.needs.items

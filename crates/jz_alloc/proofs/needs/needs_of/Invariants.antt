@@ -3,4 +3,4 @@ use Rattle.jz_alloc.specs.Needs.{need_list}
 use Rattle.jz_alloc.proofs.needs.needs_of.Given as goal
 
 abbrev pub invariant-loop-op : goal.invariant-loop-op
-invariant-loop-op l = need_list l.v (drop l.op-index l.ops) l.needs.items ≡ need_list l.v l.ops []
+invariant-loop-op l = need_list l.variable (drop l.op-index l.ops) l.needs.items ≡ need_list l.variable l.ops []

@@ -1,11 +1,12 @@
-use Rattle.std.proofs.Common.{◌≢◌, ◌∙◌, sym, ap, subst, ℕ, arith, IsTrue, ◌↔◌, ◌<◌, length, get_or, None, replicate, Option}
-use Rattle.std.specs.List.{All}
+use Rattle.std.proofs.Common.{◌≢◌, ◌∙◌, sym, ap, subst, ℕ, arith, IsTrue, ◌↔◌, ◌<◌, length, get_or, None, replicate, Option, List}
+use Rattle.std.specs.List.{All, AllPairs, Contains}
 use Rattle.std.proofs.lemmas.List.{length-replicate}
 use Rattle.jz_ir.specs.Places.{First, order_of, refused}
 use Rattle.jz_alloc.specs.Tables.{row_has}
 use Rattle.jz_alloc.specs.Fit.{MeetsIn, ConflictsIn, TakenIn, out_of}
 use Rattle.jz_alloc.specs.Holding.{IsHeld, LiveIn}
-use Rattle.jz_alloc.specs.Needs.{Ascending, In, Wants}
+use Rattle.jz_alloc.specs.declared.needs.Needed.{Needed}
+use Rattle.jz_alloc.specs.Needs.{need_before, Wants}
 use Rattle.jz_alloc.proofs.NeedLaw.{each_need, needs_ascend}
 use Rattle.jz_alloc.proofs.Orders.{order_below, order_distinct}
 use Rattle.jz_alloc.proofs.Meaning.{first_by_paths, something_holds, moved, left_length, left_below, to_out, holders_moved}
@@ -57,7 +58,7 @@ returns c =
       places = c.in-Refused.places.items;
       is_first = first_by_paths c.args.ops.now c.args.kinds.now c.args.in_use.now c.args.after.now c.in_ok-meets.meets.items c.in_ok-taken.taken.items c.in_ok-rows.rows.items c.requires.below c.in_ok-rows.ensures.rows c.in_ok-meets.ensures.set c.in_ok-taken.ensures.set c.in_ok-rows.ensures.set
           (order_below c.args.ops.now (length c.args.kinds.now)) f;
-      text_order = subst Ascending (sym c.in_ok-needs-in-Refused.ensures) (needs_ascend c.in-Refused.variable c.args.ops.now);
-      each_need = λ k. subst (λ xs. In k xs ↔ Wants c.in-Refused.variable k c.args.ops.now) (sym c.in_ok-needs-in-Refused.ensures) (each_need c.in-Refused.variable c.args.ops.now k);
+      text_order = subst (AllPairs (λ a b. IsTrue (need_before a b))) (sym c.in_ok-needs-in-Refused.ensures) (needs_ascend c.in-Refused.variable c.args.ops.now);
+      each_need = λ k. subst (λ (xs : List Needed). Contains xs k ↔ Wants c.in-Refused.variable k c.args.ops.now) (sym c.in_ok-needs-in-Refused.ensures) (each_need c.in-Refused.variable c.args.ops.now k);
       holders = holders_moved c.args.ops.now c.args.kinds.now c.args.in_use.now (LiveIn c.args.after.now) c.in-Refused.places.items c.as_slice-in-Refused-2.result.now c.in-Refused.variable c.in_ok-meets.meets.items c.as_slice-in-Refused.result.now c.in_ok-holders-in-Refused.holders c.as_slice-in-Refused-2.ensures.value c.as_slice-in-Refused.ensures.value l c.in_ok-meets.ensures.set hs;
     }

@@ -5,5 +5,5 @@ use Rattle.jz_ir.specs.Paths.{among}
 use Rattle.jz_alloc.specs.Tables.{row_has}
 use Rattle.jz_alloc.proofs.tables.add_rows.Given as goal
 
-abbrev pub invariant-loop-w : goal.invariant-loop-w
-invariant-loop-w l = (length l.rows.items ≡ length l.fn.rows.items) × All (λ r. length r ≡ length l.row) l.rows.items × ((u v : ℕ) → u < length l.fn.rows.items → row_has l.rows.items u v ≡ (row_has l.fn.rows.items u v || (among (take l.w-index l.w-items) u && has l.row v)))
+abbrev pub invariant-loop-written : goal.invariant-loop-written
+invariant-loop-written l = (length l.rows.items ≡ length l.fn.rows.items) × All (λ r. length r ≡ length l.row) l.rows.items × ((u v : ℕ) → u < length l.fn.rows.items → row_has l.rows.items u v ≡ (row_has l.fn.rows.items u v || (among (take l.written-index l.written-items) u && has l.row v)))

@@ -4,5 +4,5 @@ use Rattle.jz_bits.specs.Has.{has}
 use Rattle.jz_ir.specs.Places.{need_fits}
 use Rattle.jz_alloc.proofs.tables.leave_fit.Given as goal
 
-abbrev pub invariant-loop-n : goal.invariant-loop-n
-invariant-loop-n l = (length l.row ≡ length l.fn.row) × ((v : ℕ) → has l.row v ≡ (list_all (need_fits v l.place) (take l.n-index l.n-items) && has l.fn.row v))
+abbrev pub invariant-loop-need : goal.invariant-loop-need
+invariant-loop-need l = (length l.row ≡ length l.fn.row) × ((v : ℕ) → has l.row v ≡ (list_all (need_fits v l.place) (take l.need-index l.need-items) && has l.fn.row v))

@@ -4,5 +4,5 @@ use Rattle.jz_alloc.proofs.tables.taken_row.Goals as goal
 
 pub across-requires : goal.across-requires
 across-requires c =
-    let w = wide_at c.args.after.now (c.args.vars / 64 + 1) c.loop-i.i c.index-after-i.result c.requires.wide (omega arith) c.index-after-i.is in
-    below_at c.args.ops.now c.args.vars _ c.loop-i.i c.index-ops-i-then-holds.result c.requires.below (omega arith) c.index-ops-i-then-holds.is (omega (arith, w))
+    let w = wide_at c.args.after.now (c.args.count / 64 + 1) c.loop-i.i c.index-after-i.result c.requires.wide (omega arith) c.index-after-i.is in
+    below_at c.args.ops.now c.args.count _ c.loop-i.i c.index-ops-i-then-holds.result c.requires.below (omega arith) c.index-ops-i-then-holds.is (omega (arith, w))

@@ -1,9 +1,6 @@
-use Rattle.std.proofs.Common.{◌≡◌, ℕ, ◌<◌, length, false}
+use Rattle.std.proofs.Common.{◌≡◌, ℕ, ◌<◌, length}
 use Rattle.jz_alloc.specs.Tables.{any_below, reaches, AllWide, row_has}
 use Rattle.jz_alloc.proofs.tables.write_rows.Given as goal
 
-abbrev pub invariant-loop-v : goal.invariant-loop-v
-invariant-loop-v l = (length l.rows.items ≡ l.v) × AllWide l.vars l.rows.items × ((u v : ℕ) → u < l.v → row_has l.rows.items u v ≡ false)
-
 abbrev pub invariant-loop-i : goal.invariant-loop-i
-invariant-loop-i l = (length l.rows.items ≡ l.vars) × AllWide l.vars l.rows.items × ((u v : ℕ) → u < l.vars → row_has l.rows.items u v ≡ any_below l.i (λ i. reaches l.ops l.after i u v))
+invariant-loop-i l = (length l.rows.items ≡ l.count) × AllWide l.count l.rows.items × ((u v : ℕ) → u < l.count → row_has l.rows.items u v ≡ any_below l.i (λ i. reaches l.ops l.after i u v))

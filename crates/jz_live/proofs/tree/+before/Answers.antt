@@ -1,7 +1,7 @@
 use Rattle.std.proofs.Common.{◌≡◌, ◌∙◌, sym, ap, subst, ◌+◌, ◌*◌, ◌-◌, ◌<◌, length, arith, get_or}
 use Rattle.jz_bits.specs.Has.{has}
 use Rattle.jz_ir.specs.Tree.{then_tree, tree_of, done}
-use Rattle.jz_live.specs.Lives.{Fine, size}
+use Rattle.jz_live.specs.Lives.{TreeBelow, size}
 use Rattle.jz_live.proofs.Nodes.{one_more, fine_at, size_at}
 use Rattle.jz_live.proofs.tree.+before.Goals as goal
 
@@ -11,7 +11,7 @@ before_block-before_node-requires t c =
     let e = c.index-as_slice-i.is ∙ ap (λ x. get_or x (c.loop-i.i - 1) c.index-as_slice-i.result) c.as_slice.ensures in
     let lt : c.loop-i.i - 1 < length c.args.nodes.now = omega (arith, ap length c.as_slice.ensures) in
     let h : 2 * size (then_tree c.index-as_slice-i.result done) < t = omega (arith, size_at c.args.nodes.now (c.loop-i.i - 1) c.index-as_slice-i.result lt e) in
-    (h, subst (λ n. Fine (64 * n) (then_tree c.index-as_slice-i.result done)) (sym c.loop-i.invariant.0) (fine_at _ c.args.nodes.now (c.loop-i.i - 1) c.index-as_slice-i.result c.requires (omega (arith, ap length c.as_slice.ensures)) e))
+    (h, subst (λ n. TreeBelow (64 * n) (then_tree c.index-as_slice-i.result done)) (sym c.loop-i.invariant.0) (fine_at _ c.args.nodes.now (c.loop-i.i - 1) c.index-as_slice-i.result c.requires (omega (arith, ap length c.as_slice.ensures)) e))
 
 pub before_block-loop-i-preserved : goal.before_block-loop-i-preserved
 before_block-loop-i-preserved t c =

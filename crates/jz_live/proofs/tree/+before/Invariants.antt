@@ -1,11 +1,11 @@
 use Rattle.std.proofs.Common.{◌≡◌, ℕ, length, drop, ◌+◌, ◌*◌}
 use Rattle.jz_bits.specs.Has.{has}
 use Rattle.jz_ir.specs.Tree.{tree_of, then_tree, done}
-use Rattle.jz_live.specs.Lives.{lives, size}
+use Rattle.jz_live.specs.Lives.{live_before, size}
 use Rattle.jz_live.proofs.tree.+before.Given as goal
 
 abbrev pub invariant-before_block-loop-i : goal.invariant-before_block-loop-i
-invariant-before_block-loop-i l = (length l.live ≡ length l.fn.behind) × ((v : ℕ) → has l.live v ≡ lives v (tree_of (drop l.i l.nodes)) (has l.fn.behind v))
+invariant-before_block-loop-i l = (length l.live ≡ length l.fn.behind) × ((v : ℕ) → has l.live v ≡ live_before v (tree_of (drop l.i l.nodes)) (has l.fn.behind v))
 
 abbrev pub decreases-before_block : goal.decreases-before_block
 decreases-before_block l = 2 * size (tree_of l.nodes.now) + 1

@@ -1,7 +1,9 @@
-use Rattle.std.proofs.Common.{List, map, ap, ◌∙◌}
+use Rattle.std.proofs.Common.{◌≡◌, List, map, ap, sym, subst, ◌∙◌}
+use Rattle.std.specs.Prelude.{All}
+use Rattle.std.proofs.lemmas.List.Elements.{All-push}
 use Rattle.jz_data.specs.Failures.{IfRefused}
 use Rattle.jz_meaning.specs.declared.expanded.Expanded.{Expanded}
-use Rattle.jz_pass.specs.Limits.{IsFirstLimit}
+use Rattle.jz_pass.specs.Limits.{count_of, IsFirstLimit}
 use Rattle.jz_safety.proofs.Checking.{passed_on}
 use Rattle.jz_pipeline.specs.Stages.{IsFirstRefusal}
 use Rattle.jz_pipeline.proofs.Refusals.{limit_here, one_more_expanded, one_more_within}
@@ -21,5 +23,7 @@ loop-fun-preserved c =
     record {
       functions = ap (λ (all : List Expanded). map (λ e. e.fun) all) c.in_ok-push.ensures.ok
           ∙ one_more_expanded funs c.loop-fun.fun c.loop-fun.all expanded c.in_ok-expand.ensures.function c.loop-fun.invariant.functions;
+      counts = subst (All (λ (e : Expanded). e.count ≡ count_of e.fun)) (sym c.in_ok-push.ensures.ok)
+          (All-push (λ (e : Expanded). e.count ≡ count_of e.fun) c.loop-fun.all expanded c.loop-fun.invariant.counts c.in_ok-expand.ensures.count);
       within = one_more_within funs c.loop-fun.fun expanded.fun c.in_ok-expand.ensures.function c.loop-fun.invariant.within c.in_ok-expand.ensures.within;
     }
