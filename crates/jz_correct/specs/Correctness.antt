@@ -115,12 +115,15 @@ abbrev pub expression_names : Expr → List (List ℕ)
 expression_names (expr.Num i at) = []
 expression_names (expr.Var x) = x.name ∷ []
 
+-- the variable of a left side
 abbrev pub left_name : Lval → List ℕ
 left_name (lval.Var x) = x.name
 
+-- those of a right side
 abbrev pub right_names : Rhs → List (List ℕ)
 right_names (rhs.Value e) = expression_names e
 
+-- those of a statement
 abbrev pub kind_names : StmtKind → List (List ℕ)
 kind_names (kind.Assign to op r) = map left_name to ++ right_names r
 
@@ -130,18 +133,21 @@ LiesInPlace f frame names offset =
     (q : Place) × Contains (layout_of f) q × Contains names q.of.name
     × (from_entry frame q.offset ≤ℤ offset) × (offset <ℤ from_entry frame (q.offset + q.of.count * bytes_of q.of.cell))
 
+-- a form that counts from the stack pointer does so from a place of such a variable
 abbrev pub FormStaysIn : Fun → ℕ → List (List ℕ) → Form → Type 0
 FormStaysIn f frame names (form.Num n) = ⊤
 FormStaysIn f frame names (form.Leaked i) = ⊤
 FormStaysIn f frame names (form.Frame offset) = LiesInPlace f frame names offset
 FormStaysIn f frame names (form.Indexed offset factor i) = LiesInPlace f frame names offset
 
+-- each form of an event does
 abbrev pub OutStaysIn : Fun → ℕ → List (List ℕ) → Out → Type 0
 OutStaysIn f frame names (out.Branch taken) = ⊤
 OutStaysIn f frame names (out.Addr address) = FormStaysIn f frame names address
 OutStaysIn f frame names (out.Div high low divisor) =
     FormStaysIn f frame names high × FormStaysIn f frame names low × FormStaysIn f frame names divisor
 
+-- and each event of a list
 abbrev pub OutsStayIn : Fun → ℕ → List (List ℕ) → List Out → Type 0
 OutsStayIn f frame names outs = All (OutStaysIn f frame names) outs
 

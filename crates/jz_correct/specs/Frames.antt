@@ -71,9 +71,11 @@ abbrev pub end_from : ℕ → List StackVariable → ℕ
 end_from end [] = end
 end_from end (s ∷ ss) = end_from (ends_at end s) ss
 
+-- the places of a function's stack variables, from the stack pointer on
 abbrev pub layout_of : Fun → List Place
 layout_of f = places_from 0 (stack_variables_of f)
 
+-- where they end
 abbrev pub layout_end : Fun → ℕ
 layout_end f = end_from 0 (stack_variables_of f)
 

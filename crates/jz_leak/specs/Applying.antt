@@ -26,11 +26,13 @@ number_of ns rsp0 (form.Leaked i) = slice_index ns i
 number_of ns rsp0 (form.Frame offset) = residue S64 (pos rsp0 +ℤ offset)
 number_of ns rsp0 (form.Indexed offset factor i) = residue S64 (pos (rsp0 + factor * slice_index ns i) +ℤ offset)
 
+-- the event of a form of event, by the same
 abbrev pub event_of : List ℕ → ℕ → Out → Event
 event_of ns rsp0 (out.Branch taken) = event.Branch taken
 event_of ns rsp0 (out.Addr address) = event.Addr (number_of ns rsp0 address)
 event_of ns rsp0 (out.Div high low divisor) = event.Div (number_of ns rsp0 high) (number_of ns rsp0 low) (number_of ns rsp0 divisor)
 
+-- and of a list of them, in order
 abbrev pub events_for : List ℕ → ℕ → List Out → List Event
 events_for ns rsp0 outs = map (event_of ns rsp0) outs
 
@@ -77,6 +79,7 @@ pub record Loop : Type 0 where
   pub body : Tr
   pub leave_outs : List Out
 
+-- the events of an operation
 abbrev pub op_events : ℕ → List ℕ → Case → List Event
 op_events rsp0 ns (Op outs) = events_for ns rsp0 outs
 op_events rsp0 ns _ = []
@@ -88,15 +91,18 @@ if_events rsp0 ns z arm (Case-F.If test then_outs then_tr else_outs else_tr) =
     ++ (if z then events_for ns rsp0 then_outs ++ arm then_tr.cases else (events_for ns rsp0 else_outs ++ arm else_tr.cases))
 if_events rsp0 ns z arm _ = []
 
+-- the events of the turns, with the parts of the case
 abbrev pub while_events : (Loop → List Event) → Layer → List Event
 while_events turns (Case-F.While prologue test more_outs body leave_outs) =
     turns (record { prologue = prologue; test = test; more_outs = more_outs; body = body; leave_outs = leave_outs })
 while_events turns _ = []
 
+-- the events of the rounds, with the trees of the case
 abbrev pub for_events : (List Tr → List Event) → Layer → List Event
 for_events rounds (Case-F.For trs) = rounds trs
 for_events rounds _ = []
 
+-- the events of the arguments, of the callee and of the results
 abbrev pub call_events : ℕ → List ℕ → List ℕ → (List Case → List Event) → Layer → List Event
 call_events rsp0 ns ms callee (Case-F.Call arguments body results) = events_for ns rsp0 arguments ++ callee body.cases ++ events_for ms rsp0 results
 call_events rsp0 ns ms callee _ = []
@@ -157,14 +163,17 @@ HasNumbers ns (form.Leaked i) = i < length ns
 HasNumbers ns (form.Frame offset) = ⊤
 HasNumbers ns (form.Indexed offset factor i) = i < length ns
 
+-- each leaked number that an event names is there
 abbrev pub OutFits : List ℕ → Out → Type 0
 OutFits ns (out.Branch taken) = ⊤
 OutFits ns (out.Addr address) = HasNumbers ns address
 OutFits ns (out.Div high low divisor) = HasNumbers ns high × HasNumbers ns low × HasNumbers ns divisor
 
+-- and each that a list names
 abbrev pub OutsFit : List ℕ → List Out → Type 0
 OutsFit ns outs = All (OutFits ns) outs
 
+-- the case of an operation, its list over the numbers of the operation
 abbrev pub OpFits : List ℕ → Case → Type 0
 OpFits ns (Op outs) = OutsFit ns outs
 OpFits ns _ = ⊥
@@ -175,19 +184,23 @@ IfFits ns z ArmFits (Case-F.If test then_outs then_tr else_outs else_tr) =
     OutsFit ns test × OutsFit ns then_outs × OutsFit ns else_outs × ArmFits (if z then then_tr.cases else else_tr.cases)
 IfFits ns z ArmFits _ = ⊥
 
+-- the case of a `while`, its parts such that the turns fit them
 abbrev pub WhileFits : (Loop → Type 0) → Layer → Type 0
 WhileFits TurnsFit (Case-F.While prologue test more_outs body leave_outs) =
     TurnsFit (record { prologue = prologue; test = test; more_outs = more_outs; body = body; leave_outs = leave_outs })
 WhileFits TurnsFit _ = ⊥
 
+-- the case of a `for`, its trees such that the rounds fit them
 abbrev pub ForFits : (List Tr → Type 0) → Layer → Type 0
 ForFits RoundsFit (Case-F.For trs) = RoundsFit trs
 ForFits RoundsFit _ = ⊥
 
+-- the case of a call: the lists see the numbers of the arguments, and those of the left sides
 abbrev pub CallFits : List ℕ → List ℕ → (List Case → Type 0) → Layer → Type 0
 CallFits ns ms CalleeFits (Case-F.Call arguments body results) = OutsFit ns arguments × CalleeFits body.cases × OutsFit ms results
 CallFits ns ms CalleeFits _ = ⊥
 
+-- of a call that is cut the list of the results is not reached
 abbrev pub BegunCallFits : List ℕ → (List Case → Type 0) → Layer → Type 0
 BegunCallFits ns CalleeFits (Case-F.Call arguments body results) = OutsFit ns arguments × CalleeFits body.cases
 BegunCallFits ns CalleeFits _ = ⊥

@@ -19,9 +19,11 @@ pub record Walk : Type 0 where
   pub events : List Event
   pub reach : Reach
 
+-- nothing is left to walk
 abbrev pub done : Walk
 done = record { events = []; reach = End }
 
+-- nothing was shown, and nothing follows
 abbrev pub stopped : Walk
 stopped = record { events = []; reach = Stop }
 
@@ -35,6 +37,7 @@ behind End w = w
 behind Stop w = stopped
 
 infixr 5 ◌▹◌
+-- one walk behind another
 abbrev pub ◌▹◌ : Walk → Walk → Walk
 a ▹ b = record { events = a.events ++ (behind a.reach b).events; reach = (behind a.reach b).reach }
 

@@ -28,9 +28,11 @@ is_name_byte c = (nat_le 48 c && nat_le c 57) || ((nat_le 65 c && nat_le c 90) |
 abbrev pub is_variable_byte : ℕ → Bool
 is_variable_byte c = is_name_byte c || ((c == 91) || (c == 93))
 
+-- a name of a function or a parameter
 abbrev pub IsName : List ℕ → Type 0
 IsName name = AllPass is_name_byte name
 
+-- the variable of a line `ct`
 abbrev pub IsVariable : List ℕ → Type 0
 IsVariable name = AllPass is_variable_byte name
 
@@ -85,16 +87,19 @@ transformer_fits t = outs_fit t.before && (tr_fits t.body && outs_fit t.after)
 abbrev pub IsListableArg : Arg → Type 0
 IsListableArg a = IsName a.name
 
+-- a precondition over names, its numbers of 64 bits; a region without a variable has the factor 0, as its line shows none
 abbrev pub IsListablePre : Pre → Type 0
 IsListablePre (pre.Region pointer factor None constant) = IsName pointer × (factor ≡ 0) × (constant < 2 ^ 64)
 IsListablePre (pre.Region pointer factor (Some variable) constant) = IsName pointer × (factor < 2 ^ 64) × IsName variable × (constant < 2 ^ 64)
 IsListablePre (pre.Range name low high) = IsName name × (low < 2 ^ 64) × (high < 2 ^ 64)
 IsListablePre (pre.Align pointer multiple) = IsName pointer × (multiple < 2 ^ 64)
 
+-- the place of a breach in numbers of 32 bits, and its variable
 abbrev pub IsListableCt : Ct → Type 0
 IsListableCt ct.Yes = ⊤
 IsListableCt (ct.No span kind var) = (span.line < 2 ^ 32) × (span.col < 2 ^ 32) × IsVariable var
 
+-- a function that can be listed
 pub record IsListable (c : Compiled) : Type 0 where
   pub name : IsName c.name
   pub args : All IsListableArg c.args
@@ -106,5 +111,6 @@ pub record IsListable (c : Compiled) : Type 0 where
   pub tr : transformer_fits c.tr ≡ true
   pub ct : IsListableCt c.ct
 
+-- functions that can be listed
 abbrev pub AreListable : List Compiled → Type 0
 AreListable cs = All IsListable cs

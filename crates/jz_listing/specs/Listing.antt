@@ -42,6 +42,7 @@ size_text S16 = codes "u16"
 size_text S32 = codes "u32"
 size_text S64 = codes "u64"
 
+-- a name, its size and its register
 abbrev pub arg_text : Arg → List ℕ
 arg_text a = a.name ++ codes " " ++ size_text a.size ++ codes " " ++ reg_text a.reg ++ codes "\n"
 
@@ -58,11 +59,13 @@ abbrev pub extent_text : ℕ → Option (List ℕ) → ℕ → List ℕ
 extent_text factor None constant = decimal constant
 extent_text factor (Some variable) constant = decimal factor ++ codes "*" ++ variable ++ codes "+" ++ decimal constant
 
+-- what a precondition asks
 abbrev pub pre_text : Pre → List ℕ
 pre_text (pre.Region pointer factor variable constant) = codes "region " ++ pointer ++ codes " " ++ extent_text factor variable constant
 pre_text (pre.Range name low high) = codes "range " ++ name ++ codes " " ++ decimal low ++ codes ".." ++ decimal high
 pre_text (pre.Align pointer multiple) = codes "align " ++ pointer ++ codes " " ++ decimal multiple
 
+-- its line
 abbrev pub pre_line : Pre → List ℕ
 pre_line p = codes "pre " ++ pre_text p ++ codes "\n"
 
@@ -107,6 +110,7 @@ code_text c = codes "insns " ++ decimal c.insns ++ codes "\ncode " ++ encode_low
 abbrev pub leakage_text : Compiled → List ℕ
 leakage_text c = codes "tr " ++ transformer_text c.tr ++ codes "\nct " ++ ct_text c.ct ++ codes "\nend\n"
 
+-- the part of the listing for one function
 abbrev pub compiled_text : Compiled → List ℕ
 compiled_text c = interface_text c ++ frame_text c ++ code_text c ++ leakage_text c
 
