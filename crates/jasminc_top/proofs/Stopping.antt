@@ -40,13 +40,6 @@ typing_stops text p (failure.Refused f) r h = record { program = p; reads = r; f
 typing_stops text p failure.OutOfMemory r h = tt
 
 -- ---- making
-pub limits_stop : (funs : List Fun) (e : Failure pass.Limit) → IfRefused e (IsFirstRefusal IsFirstLimit funs) → MakingHalts funs (halt_by Limit e)
-limits_stop funs (failure.Refused l) h = h
-limits_stop funs failure.OutOfMemory h = tt
-
-pub safety_stops : (funs : List Fun) (e : Failure safety.Alarm) → All IsWithinLimits funs → IfRefused e (IsFirstRefusal IsFirstAlarm funs) → MakingHalts funs (halt_by Alarm e)
-safety_stops funs (failure.Refused a) w h = (w, h)
-safety_stops funs failure.OutOfMemory w h = tt
 
 pub places_stop : (funs fs : List Fun) (e : Failure pipeline.NoPlace) → fs ≡ funs → All IsWithinLimits funs → All HasNoAlarm funs → IfRefused e (IsFirstRefusal IsUnplaced fs)
     → MakingHalts funs (halt_by NoPlace e)

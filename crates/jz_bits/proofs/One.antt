@@ -73,13 +73,6 @@ pub record Halfway (old more now : List ℕ) (i : ℕ) : Type 0 where
   pub below : (k : ℕ) → k < i → get_or now k 0 ≡ bit_or (get_or old k 0) (get_or more k 0)
   pub above : (k : ℕ) → i ≤ k → get_or now k 0 ≡ get_or old k 0
 
-pub more_words : (old more now : List ℕ) (i x y : ℕ) → Halfway old more now i → i < length now → i < length more → x ≡ get_or now i x → y ≡ get_or more i y → Halfway old more (set now i (bit_or x y)) (i + 1)
-more_words old more now i x y h lt lt2 e f = record {
-  wide = rw length-set h.wide;
-  below = below_more _ _ (λ k l. let ne : k ≢ i = omega arith in rw (get_or-set_other now i k (bit_or x y) 0 ne) (h.below k l)) (rw (get_or-set_same now i (bit_or x y) 0 lt) (let a : x ≡ get_or old i 0 = e ∙ get_or_default now i x 0 lt ∙ h.above i (omega arith) in let b : y ≡ get_or more i 0 = f ∙ get_or_default more i y 0 lt2 in cc));
-  above = λ k l. let ne : k ≢ i = omega arith in rw (get_or-set_other now i k (bit_or x y) 0 ne) (h.above k (omega arith));
-}
-
 pub all_words : (old more now : List ℕ) → Halfway old more now (length now) → length more ≡ length old → (w : ℕ) → has now w ≡ (has old w || has more w)
 unfolding has
 all_words old more now h e w = elim (cases_lt (w / 64) (length now)) [

@@ -148,14 +148,6 @@ shape_word w h = by_cases _ (is_word w) (λ e. e) (λ e. absurd (go (is_numeral 
     go true e = cc
     go false e = cc
 
-pub shape_number : (w : List ℕ) (z : ℤ) → shape_of w ≡ shape.Number z → (is_word w ≡ false) × (is_numeral w ≡ true) × (pos (value_of w) ≡ z)
-shape_number w z h = go (is_word w) (is_numeral w) h
-  where
-    go : (a b : Bool) → (if a then shape.Word else if b then shape.Number (pos (value_of w)) else shape.Sign) ≡ shape.Number z → (a ≡ false) × (b ≡ true) × (pos (value_of w) ≡ z)
-    go true b e = cc
-    go false true e = let f : pos (value_of w) ≡ z = cc in (refl, refl, f)
-    go false false e = cc
-
 pub shape_sign : (w : List ℕ) → is_lexeme w ≡ true → shape_of w ≡ shape.Sign → (is_word w ≡ false) × (is_numeral w ≡ false) × (is_sign w ≡ true)
 shape_sign w l h = go (is_word w) (is_numeral w) (is_sign w) l h
   where

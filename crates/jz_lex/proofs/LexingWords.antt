@@ -187,10 +187,6 @@ digit_blank : (b : ℕ) → is_digit b ≡ true → is_blank b ≡ false
 unfolding is_digit is_blank
 digit_blank b h = grind arith
 
-zero_digit : (b : ℕ) → (b == 48) ≡ true → is_digit b ≡ true
-unfolding is_digit
-zero_digit b h = grind arith
-
 not_true : (a : Bool) → not a ≡ true → a ≡ false
 not_true true h = cc
 not_true false h = refl

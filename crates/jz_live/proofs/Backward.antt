@@ -48,15 +48,6 @@ pub record Backwards (ops : List Op) (vars : ℕ) (rows : List (List ℕ)) (live
   pub rows_wide : (k : ℕ) → k < length rows → length (get_or rows k []) ≡ vars / 64 + 1
   pub rows_are : (k : ℕ) → k < length rows → (w : ℕ) → has (get_or rows k []) w ≡ lives (drop (length ops - k) ops) w
 
-pub at_end : (ops : List Op) (vars : ℕ) (live : List ℕ) → length live ≡ vars / 64 + 1 → ((w : ℕ) → has live w ≡ false) → Backwards ops vars [] live (length ops)
-at_end ops vars live h e = record {
-  wide = h;
-  now = λ w. rw (e w, drop_all (length ops) ops (omega arith)) refl;
-  count = omega arith;
-  rows_wide = λ k l. absurd (omega arith);
-  rows_are = λ k l. absurd (omega arith);
-}
-
 last_at : (xs : List (List ℕ)) (x d : List ℕ) → get_or (xs ++ x ∷ []) (length xs) d ≡ x
 last_at xs x d = subst (λ k. get_or (xs ++ x ∷ []) k d ≡ x) (add-zero (length xs)) (get_or-append-add xs (x ∷ []) 0 d)
 
@@ -93,6 +84,3 @@ module _ (ops : List Op) (vars : ℕ) (rows : List (List ℕ)) (live : List ℕ)
 
   pub exact_rows : (v : ℕ) → IsTrue (has (get_or (reverse rows) i []) v) ↔ LiveIn ops i v
   exact_rows v = (λ t. sound (drop (i + 1) ops) v (sym (row_is v) ∙ t), λ p. row_is v ∙ complete (drop (i + 1) ops) v p)
-
-  pub wide_rows : length (get_or (reverse rows) i []) ≡ vars / 64 + 1
-  wide_rows = let k : length rows - 1 - i < length rows = omega (arith, h.count) in rw same_row (h.rows_wide (length rows - 1 - i) k)

@@ -247,7 +247,3 @@ module _ {O T F C S W : Type 0} (M : Parts O T F C S W) where
   has_outcome (loop q p c b r) n s = let g = has_turns p c b (has_outcome p) (has_outcome b) (suc n) n s (omega arith) in has_loop g.0 g.1 (has_outcome r)
   has_outcome (each f b r) n s = has_each (M.counts f s) refl (has_outcome b) (has_outcome r)
   has_outcome (call c b r) n s = has_call (M.enters c s) refl (has_outcome b) (has_outcome r)
-
-  -- so the function's value is the outcome
-  pub goes_so : (t : Tree O T F C) (n : ℕ) (s : S) → Goes M t n s (run M t n s)
-  goes_so t n s = let g = has_outcome t n s in subst (Goes M t n s) (sym (ran_so M g.1)) g.1

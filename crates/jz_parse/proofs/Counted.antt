@@ -104,9 +104,6 @@ some_used = some_map (λ d. g.name d) used_of some_name
 comma_law : {A : Type 0} {f : Reader A} {l : ℕ → Lang A} (st go : List Kind) → IsReader f l (full st go) → HasPhrase l → IsReader (r.comma f) (λ e. g.comma e (l e)) (full r.commas go)
 comma_law st go F some = map_reads (λ p. p.1) (follow_reads (the_law (codes ",")) F some (disjoint_nil st))
 
-some_comma : {A : Type 0} (l : ℕ → Lang A) → HasPhrase l → HasPhrase (λ d. g.comma d (l d))
-some_comma l some = some_map (λ d. g.the d (codes ",") ▸ l d) (λ p. p.1) (some_then (λ d. g.the d (codes ",")) l (some_the (codes ",")) some)
-
 abbrev pub regs : List Kind
 regs = word (codes "reg") ∷ []
 

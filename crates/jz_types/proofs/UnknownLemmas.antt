@@ -41,9 +41,6 @@ decl_mapped (Some v) = refl
 known_is : (s : Scope) (vs : List Var) → IsScope s vs → (u : Var) → has_above s u ≡ is_known vs u
 known_is s vs h u = ap (λ o. stands_above o u.span) (h.first u.name) ∙ above_mapped (variable_named u.name vs) u.span
 
-pub decls_is : (s : Scope) (vs : List Var) → IsScope s vs → (n : List ℕ) → decls_of s n ≡ declaration_in vs n
-decls_is s vs h n = ap decl_of (h.first n) ∙ decl_mapped (variable_named n vs)
-
 by-append : (s : Scope) (xs ys : List Var) → first_of (unknown_by s (xs ++ ys)) ≡ earlier (first_of (unknown_by s xs)) (first_of (unknown_by s ys))
 unfolding unknown_by
 by-append s xs ys =
