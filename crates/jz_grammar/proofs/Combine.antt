@@ -1,5 +1,6 @@
 -- The laws of compound readers, from those of their parts.
 use Rattle.std.proofs.Common.{◌≡◌, inl, inr, ⊎_elim, if◌then◌else◌, ℕ, zero, suc, ◌+◌, ◌<◌, ◌≤◌, List, [], ◌∷◌, ◌++◌, length, true, false, Ok, Err, Some, None, refl, sym, ap, ap₂, ◌∙◌, subst, arith, append_assoc, append-nil, length-append, nat_lt}
+use Rattle.jz_lex.proofs.LexingWords.{by_cases, if_false, if_true, true_false}
 use Rattle.jz_lex.specs.declared.token.Token.{Token}
 use Rattle.jz_io.specs.declared.span.Span.{Span}
 use Rattle.jz_grammar.specs.Causes.{Cause, Unexpected, TooDeep}
@@ -7,7 +8,7 @@ use Rattle.jz_grammar.specs.Kinds.{Kind, same, disjoint, is_in, has}
 use Rattle.jz_grammar.specs.Reading.{Answer, Reader, ◌>>=◌, through, one, nothing, follow, pick, nest, many_at, many, leaf, opening, inside, optional}
 use Rattle.jz_grammar.specs.Grammar.{Marked, Lang, plain, token, empty, ◌▸◌, ◌⊕◌, ◌⇒◌, nested, each, at_most, opens, maybe}
 use Rattle.jz_grammar.specs.Laws.{Shape, head_of, First, outcome, Next, Begun, Found, Stopped, IsReader, plus, HasPhrase, one_shape, empty_shape, both, either, full, many_shape}
-use Rattle.jz_grammar.proofs.Basics.{all_in, in_more, has_fewer, by_cases, true_false, if_true, if_false, in_left, in_right, has_append, in_apart, has_same, head_append, plain_append, plain_rest, within_append, outcome_within, outcome_through, outcome_append, next_more, plus_le, has_join, disjoint_nil, cancel, plain_length, bind_ok, bind_err, ok_same, err_same, ok_err, err_ok}
+use Rattle.jz_grammar.proofs.Basics.{all_in, in_more, has_fewer, in_left, in_right, has_append, in_apart, has_same, head_append, plain_append, plain_rest, within_append, outcome_within, outcome_through, outcome_append, next_more, plus_le, has_join, disjoint_nil, cancel, plain_length, bind_ok, bind_err, ok_same, err_same, ok_err, err_ok}
 
 -- ---- one token
 one_ok : (ks : List Kind) (ts : List Token) (x : Token × List Token) → one ks ts ≡ Ok x → (ts ≡ x.0 ∷ x.1) × (is_in ks x.0 ≡ true)

@@ -6,13 +6,14 @@ use Rattle.std.proofs.lemmas.Int.{ints}
 use mir.Val.{to_z, of_z}
 use mir.Syntax.{w128}
 use Rattle.std.specs.Char.{is_ascii_alphabetic}
+use Rattle.std.proofs.lemmas.Bool.{or_left, or_right}
 use Rattle.jz_lex.specs.LexingWords.{signs, begins_word, in_word, is_digit, is_word, is_numeral, is_sign, is_lexeme, value_of}
 use Rattle.jz_lex.specs.Lexing.{heads, is_blank, Longest, is_no_number, HasNone}
 use Rattle.jz_lex.specs.LexingFront.{kept_number, first_of, numeral_length, shape_of, IsFront}
 use Rattle.jz_lex.specs.declared.token.LexKind.TheVariants.{BadByte, BadNumber}
 use Rattle.jz_lex.specs.declared.front.Shape.TheVariants as shape
 use Rattle.jz_lex.specs.declared.front.Front.TheVariants as front
-use Rattle.jz_lex.proofs.LexingWords.{by_cases, true_false, if_true, if_false, or_left, or_right, cut, behind, apart, word_head, numeral_head, sign_head, word_stands, number_stands, sign_stands, no_sign}
+use Rattle.jz_lex.proofs.LexingWords.{by_cases, true_false, if_true, if_false, cut, behind, apart, word_head, numeral_head, sign_head, word_stands, number_stands, sign_stands, no_sign}
 
 pub split_is : (n : ℕ) (text w more : List ℕ) → w ≡ take n text → more ≡ drop n text → text ≡ w ++ more
 split_is n text w more e f = sym (take-append-drop n text) ∙ ap₂ (λ x y. x ++ y) (sym e) (sym f)

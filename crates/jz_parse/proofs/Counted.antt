@@ -1,12 +1,13 @@
 -- The grammar with the names counted that are left, and that its readers read it.
 use Rattle.std.proofs.Common.{◌≡◌, inl, inr, ℕ, zero, suc, ◌-◌, List, [], ◌∷◌, ◌++◌, length, true, None, Ok, Err, refl, sym, subst, arith, codes}
+use Rattle.jz_lex.proofs.LexingWords.{if_false}
 use Rattle.jz_io.specs.declared.span.Span.{Span}
 use Rattle.jz_lex.specs.declared.token.Token.{Token}
 use Rattle.jz_grammar.specs.Kinds.{Kind, word, sign, identifier, number, span_of, is_in, has}
 use Rattle.jz_grammar.specs.Reading.{Answer, Reader, ◌>>=◌, through, follow, depend, pick, many_by}
 use Rattle.jz_grammar.specs.Grammar.{Lang, token, ◌▸◌, ◌⊕◌, ◌⇒◌, never, each, each_by, at_most, then_by, maybe}
 use Rattle.jz_grammar.specs.Laws.{Shape, IsReader, HasPhrase, one_shape, full, many_shape}
-use Rattle.jz_grammar.proofs.Basics.{disjoint_nil, all_in, if_false}
+use Rattle.jz_grammar.proofs.Basics.{disjoint_nil, all_in}
 use Rattle.jz_grammar.proofs.Combine.{has_nil, follow_reads, map_reads, pick_reads, optional_reads, leaf_reads, reads_as, shaped}
 use Rattle.jz_grammar.proofs.Depend.{depend_reads}
 use Rattle.jz_grammar.proofs.Several.{IsItem, many_by_reads}

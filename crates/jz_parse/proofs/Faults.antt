@@ -1,5 +1,6 @@
 -- Programs and faults of lists of tokens.
 use Rattle.std.proofs.Common.{◌≡◌, ⊎_elim, ℕ, ◌-◌, ◌<◌, nat_lt, if◌then◌else◌, List, [], ◌∷◌, ◌++◌, length, slice_get, true, false, Some, Result, Ok, Err, refl, sym, ap, subst, ◌∙◌, arith, append-nil, append_assoc, length-append}
+use Rattle.jz_lex.proofs.LexingWords.{if_false, if_true, true_false}
 use Rattle.jz_io.specs.declared.span.Span.{Span}
 use Rattle.jz_lex.specs.declared.token.Token.{Token}
 use Rattle.jz_lex.specs.declared.token.TokenKind.TheVariants.{End}
@@ -8,7 +9,7 @@ use Rattle.jz_grammar.specs.Kinds.{kind_of, member, is_in}
 use Rattle.jz_grammar.specs.Reading.{final}
 use Rattle.jz_grammar.specs.Grammar.{Marked, plain}
 use Rattle.jz_grammar.specs.Laws.{Begins}
-use Rattle.jz_grammar.proofs.Basics.{if_true, if_false, plain_append, true_false}
+use Rattle.jz_grammar.proofs.Basics.{plain_append}
 use Rattle.jz_grammar.proofs.Combine.{has_nil}
 use Rattle.jz_grammar.proofs.Exact.{compare}
 use Rattle.jz_grammar.proofs.Plain as x

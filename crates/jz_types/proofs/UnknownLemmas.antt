@@ -34,10 +34,6 @@ above_mapped : (o : Option Var) (at : Span) → stands_above (option_map declare
 above_mapped None at = refl
 above_mapped (Some v) at = refl
 
-decl_mapped : (o : Option Var) → decl_of (option_map declared_of o) ≡ declaration_of o
-decl_mapped None = refl
-decl_mapped (Some v) = refl
-
 known_is : (s : Scope) (vs : List Var) → IsScope s vs → (u : Var) → has_above s u ≡ is_known vs u
 known_is s vs h u = ap (λ o. stands_above o u.span) (h.first u.name) ∙ above_mapped (variable_named u.name vs) u.span
 
