@@ -16,6 +16,7 @@ use Rattle.jz_pipeline.specs.Stages.{HasNone, IsFirstRefusal}
 use Rattle.jz_pass.proofs.LimitLemmas.{none_within}
 use Rattle.jz_safety.proofs.Alarming as alarming
 use Rattle.jz_pipeline.proofs.Linked.{not_both}
+use Rattle.jz_pipeline.proofs.Refusals.{within_pass_none, safe_have_none, compiled_have_places}
 use Rattle.jasminc_top.specs.declared.refusal.Refusal.{Refusal}
 use Rattle.jasminc_top.specs.declared.refusal.Refusal.TheVariants.{Lex, Parse, Typing, NoFunction, Limit, Alarm, NoPlace, Items}
 use Rattle.jasminc_top.specs.declared.refusal.Status.{Status}
@@ -36,18 +37,6 @@ none_first OfKind funs a none h =
     All-contains (HasNone OfKind) (h.front ++ h.fun ∷ h.rest) h.fun all
     (Contains-append_right h.front (h.fun ∷ h.rest) h.fun (Contains-append_left (h.fun ∷ []) h.rest h.fun (0, omega arith, refl))) a h.here
 
-no_limits : (funs : List Fun) → All IsWithinLimits funs → All (HasNone IsFirstLimit) funs
-no_limits funs h = All-weaker IsWithinLimits (HasNone IsFirstLimit) (λ f w l. none_within f l w) funs h
-
-no_alarms : (funs : List Fun) → All HasNoAlarm funs → All (HasNone IsFirstAlarm) funs
-no_alarms funs h = All-weaker HasNoAlarm (HasNone IsFirstAlarm) (λ f s a. alarming.never_both f a s) funs h
-
-all_placed : (funs : List Fun) (made : List Compiled) → AreCompiled funs made → All (HasNone IsUnplaced) funs
-all_placed [] [] h = All-nil (HasNone IsUnplaced)
-all_placed [] (c ∷ cs) h = absurd h
-all_placed (f ∷ fs) [] h = absurd h
-all_placed (f ∷ fs) (c ∷ cs) h = All-cons (HasNone IsUnplaced) f fs (λ n. not_both f c n h.0) (all_placed fs cs h.1)
-
 has_none_first : {A : Type 0} (OfKind : Fun → A → Type 0) (text : List ℕ) (p : Program) (a : A) → TypesAs text p → All (HasNone OfKind) p.funs → HasFirst OfKind text a → ⊥
 has_none_first OfKind text p a t none h =
     let same = types_one text h.program p h.types t in
@@ -61,13 +50,13 @@ excludes text p n short t within safe places = record {
   lexer = λ f lt c. reads_no_lex text t.written f t.reads c;
   parser = λ f lt c. reads_no_parse text t.written f t.reads c;
   typing = λ f lt c. types_no_fault text p f t c;
-  limits = λ l lt c. has_none_first IsFirstLimit text p l t (no_limits p.funs (within lt)) c;
-  safety = λ a lt c. has_none_first IsFirstAlarm text p a t (no_alarms p.funs (safe lt)) c;
+  limits = λ l lt c. has_none_first IsFirstLimit text p l t (within_pass_none p.funs (within lt)) c;
+  safety = λ a lt c. has_none_first IsFirstAlarm text p a t (safe_have_none p.funs (safe lt)) c;
   places = λ r lt c. has_none_first IsUnplaced text p r t (places lt) c;
 }
 
 excludes_all : (text : List ℕ) (p : Program) (n : ℕ) (made : List Compiled) → length text ≤ source_limit → TypesAs text p → AreMade p.funs made → Excludes text n
-excludes_all text p n made short t m = excludes text p n short t (λ lt. m.within) (λ lt. m.safe) (λ lt. all_placed p.funs made m.compiled)
+excludes_all text p n made short t m = excludes text p n short t (λ lt. m.within) (λ lt. m.safe) (λ lt. compiled_have_places p.funs made m.compiled)
 
 -- ---- a text without a typed program
 before_lexer : (text : List ℕ) → length text ≤ source_limit → Excludes text 2

@@ -27,6 +27,7 @@ use Rattle.x64_insn.specs.declared.types.Place.{Place}
 use Rattle.jz_ir.specs.Order.{number_of, has_place}
 use Rattle.jz_ir.specs.Paths.{among}
 use Rattle.jz_ir.specs.Places.{op_at, no_op, ConflictAt, TakenAt, Out, refused, First, all_placed, one_placed, one_left, Free, IsLeft, HeldBy, FirstHolder, kind_has, is_of_kind, meets, order_of}
+use Rattle.jz_ir.proofs.Below.{among_below}
 
 -- the last variable of a refusal is left
 pub left_of : {M : ℕ → ℕ → Type 0} {C : ℕ → ℕ → Type 0} {T : ℕ → ℕ → Type 0} {vs : List ℕ} {done : List (Option ℕ)} {v : ℕ} {p : List (Option ℕ)} → First M C T vs done (refused v p) → IsLeft M C T p v
@@ -111,13 +112,6 @@ kind_below kinds in_use v q h = go (get_or kinds v Word) (and_parts (is_of_kind 
     go : (k : Kind) → IsTrue (is_of_kind k q) → q < 20
     go Flag t = ltb-true q 20 (and_parts (nat_le 15 q) (nat_lt q 20) t).1
     go Word t = omega (arith, ltb-true q 15 t)
-
-pub among_below : (xs : List ℕ) (u n : ℕ) → All (λ x. x < n) xs → IsTrue (among xs u) → u < n
-among_below [] u n a h = cc
-among_below (x ∷ xs) u n a h = elim (or_cases (nat_eq x u) (among xs u) h) [
-  | inl e ↦ subst (λ y. y < n) (eqb-true x u e) (a 0 0 (omega arith))
-  | inr t ↦ among_below xs u n (λ i d k. a (suc i) d (omega arith)) t
-]
 
 module _ (ops : List Op) (kinds : List Kind) (in_use : List Place) (after ms ts rows : List (List ℕ)) (below : All (Below (length kinds)) ops) (rl : length rows ≡ length kinds) (msr : (q v : ℕ) → q < 20 → row_has ms q v ≡ (nat_lt v (length kinds) && meets kinds in_use ops v q)) (tsr : (q v : ℕ) → q < 20 → row_has ts q v ≡ any_below (length ops) (λ i. taken ops after i v q)) (wsr : (u v : ℕ) → u < length kinds → row_has rows u v ≡ any_below (length ops) (λ i. reaches ops after i u v)) where
   meets_to : (v q : ℕ) → v < length kinds → MeetsIn ms v q → Meets ops kinds in_use (LiveIn after) v q

@@ -14,9 +14,11 @@ use Rattle.jz_ir.specs.Order.{number_of, has_place}
 use Rattle.jz_ir.specs.Paths.{among, IsLive, read_here, read_later}
 use Rattle.jz_ir.specs.Straight.{Next, next, LiveIn}
 use Rattle.jz_ir.specs.Places.{Below, IsWithin, op_at, no_op, kind_has, has_need, order_of, ConflictAt, Out, placed, First, all_placed, one_placed, one_left, Takes, Meets, Conflict, Taken, FirstFit, all_of, place_at, IsPlacing}
+use Rattle.jz_ir.proofs.Below.{among_below}
+use Rattle.jz_ir.proofs.Below as below
 use Rattle.jz_alloc.specs.Fit.{IsSeat}
 use Rattle.jz_alloc.proofs.Fitting.{none_placed}
-use Rattle.jz_alloc.proofs.Meaning.{kind_below, among_below}
+use Rattle.jz_alloc.proofs.Meaning.{kind_below}
 
 some_same : {a b : ℕ} → Some a ≡ Some b → a ≡ b
 some_same e = cc
@@ -215,9 +217,6 @@ module _ (code : Code) (L : ℕ → ℕ → Type 0) (places : List Place) (withi
   }
 
 -- ---- who is live in code without branches
-read_below : (n v : ℕ) (ops : List Op) → All (Below n) ops → IsLive Next v ops → v < n
-read_below n v ops b (read_here next h) = among_below _ v n (b 0 no_op (omega arith)).reads h
-read_below n v ops b (read_later (next {o} {rest}) w l) = read_below n v rest (λ i d k. b (suc i) d (omega arith)) l
 
 later_below : (ops : List Op) (n i : ℕ) → All (Below n) ops → All (Below n) (drop i ops)
 later_below ops n zero b = b
@@ -225,7 +224,7 @@ later_below [] n (suc i) b = b
 later_below (o ∷ ops) n (suc i) b = later_below ops n i (λ j d k. b (suc j) d (omega arith))
 
 pub live_below : (ops : List Op) (n i v : ℕ) → All (Below n) ops → LiveIn ops i v → v < n
-live_below ops n i v b l = read_below n v (drop (i + 1) ops) (later_below ops n (i + 1) b) l
+live_below ops n i v b l = below.live_below n v (drop (i + 1) ops) (later_below ops n (i + 1) b) l
 
 -- ---- the same, as calls saw it
 pub within_moved : {ops ops' : List Op} {kinds kinds' : List Kind} → ops' ≡ ops → kinds' ≡ kinds → All (Below (length kinds)) ops → All (Below (length kinds')) ops'

@@ -1,6 +1,7 @@
 -- Lists of tokens and kinds.
 use Rattle.std.proofs.Common.{◌≡◌, ◌⊎◌, inl, inr, if◌then◌else◌, ℕ, zero, suc, ◌≤◌, List, [], ◌∷◌, ◌++◌, length, Bool, true, false, ◌&&◌, ◌||◌, ◌==◌, Ok, Err, Option, Some, refl, sym, ap, ap₂, ◌∙◌, arith, append_assoc, length-append, nat_lt}
 use Rattle.std.proofs.lemmas.Slice.Eq.{bytes_eq-Decides}
+use Rattle.std.proofs.lemmas.Bool.{le-ltb}
 use Rattle.jz_lex.proofs.LexingWords.{by_cases, if_false, true_false}
 use Rattle.jz_lex.specs.declared.token.Token.{Token}
 use Rattle.jz_grammar.specs.Causes.{Cause, Unexpected, TooDeep}
@@ -95,12 +96,9 @@ pub within_append : (e : ℕ) (xs ys : List Marked) → Within e xs → Within e
 within_append e [] ys h k = k
 within_append e (x ∷ xs) ys h k = (h.0, within_append e xs ys h.1 k)
 
-not_lt : (a b : ℕ) → b ≤ a → nat_lt a b ≡ false
-not_lt a b h = grind arith
-
 pub outcome_within : {A : Type 0} (e : ℕ) (xs : List Marked) (a : A) (rest : List Token) → Within e xs → outcome e xs a rest ≡ Ok (a, rest)
 outcome_within e [] a rest w = refl
-outcome_within e (x ∷ xs) a rest w = if_false (nat_lt x.1 e) _ _ (not_lt x.1 e w.0) ∙ outcome_within e xs a rest w.1
+outcome_within e (x ∷ xs) a rest w = if_false (nat_lt x.1 e) _ _ (le-ltb x.1 e w.0) ∙ outcome_within e xs a rest w.1
 
 pub outcome_through : {A B : Type 0} (to : A → B) (e : ℕ) (xs : List Marked) (a : A) (rest : List Token) → outcome e xs (to a) rest ≡ through to (outcome e xs a rest)
 outcome_through to e [] a rest = refl
@@ -193,3 +191,7 @@ same_self (word s) = (bytes_eq-Decides s s).1 refl
 same_self number = refl
 same_self (sign s) = (bytes_eq-Decides s s).1 refl
 same_self end = refl
+
+pub through_err : {A B : Type 0} (to : A → B) (r : Answer A) (e : Cause × List Token) → through to r ≡ Err e → r ≡ Err e
+through_err to (Ok x) e h = ok_err (to x.0, x.1) e _ h
+through_err {A} {B} to (Err d) e h = ap (λ z. Err z) (err_same {A = B} d e h)

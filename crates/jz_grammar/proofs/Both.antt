@@ -8,7 +8,7 @@ use Rattle.jz_grammar.specs.Kinds.{Kind, disjoint, is_in, has}
 use Rattle.jz_grammar.specs.Reading.{Answer, Reader, ◌>>=◌, through, one, follow, has_both, pick_both}
 use Rattle.jz_grammar.specs.Grammar.{Marked, Lang, plain, token, ◌▸◌, ◌⊕◌, ◌⇒◌}
 use Rattle.jz_grammar.specs.Laws.{Shape, head_of, First, outcome, Found, Stopped, IsReader, plus, HasPhrase, full, Second}
-use Rattle.jz_grammar.proofs.Basics.{in_left, in_right, has_append, in_apart, has_same, head_append, outcome_within, disjoint_nil, cancel, plain_length, bind_err, ok_same, err_same, ok_err, err_ok}
+use Rattle.jz_grammar.proofs.Basics.{in_left, in_right, has_append, in_apart, has_same, head_append, outcome_within, disjoint_nil, cancel, plain_length, bind_err, ok_same, err_same, ok_err, err_ok, through_err}
 use Rattle.jz_grammar.proofs.Combine.{one_is, one_reads, follow_reads, map_reads, not_empty, shorter}
 
 -- a word of two tokens and more is read as far as the word of its first, if the next does not go on with that
@@ -68,10 +68,6 @@ follow_second {A} {B} {f = f} {g = g} {l = l} {m = m} ks ls st go st' go' F G ap
         (λ y. ok_err _ (k, t ∷ ts) _ y.2)
         (bind_err (g x.0.1) (λ y. Ok ((x.0.0, y.0), y.1)) (k, t ∷ ts) x.2))
         (bind_err (f (t ∷ ts)) (λ x. g x.1 >>= λ y. Ok ((x.0, y.0), y.1)) (k, t ∷ ts) c)
-
-through_err : {A B : Type 0} (to : A → B) (r : Answer A) (e : Cause × List Token) → through to r ≡ Err e → r ≡ Err e
-through_err to (Ok x) e h = ok_err (to x.0, x.1) e _ h
-through_err {A} {B} to (Err d) e h = ap (λ z. Err z) (err_same {A = B} d e h)
 
 pub map_second : {A B : Type 0} {f : Reader A} {l : ℕ → Lang A} (ks ls : List Kind) (to : A → B) → Second ks ls f l → Second ks ls (λ ts. through to (f ts)) (λ e. l e ⇒ to)
 map_second {f = f} ks ls to second = record { next = λ e x y xs b h i. second.next e x y xs h.0 h.1 i; takes = λ t ts k h c. second.takes t ts k h (through_err to (f (t ∷ ts)) (k, t ∷ ts) c) }

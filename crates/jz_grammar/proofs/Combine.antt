@@ -8,7 +8,7 @@ use Rattle.jz_grammar.specs.Kinds.{Kind, same, disjoint, is_in, has}
 use Rattle.jz_grammar.specs.Reading.{Answer, Reader, ◌>>=◌, through, one, nothing, follow, pick, nest, many_at, many, leaf, opening, inside, optional}
 use Rattle.jz_grammar.specs.Grammar.{Marked, Lang, plain, token, empty, ◌▸◌, ◌⊕◌, ◌⇒◌, nested, each, at_most, opens, maybe}
 use Rattle.jz_grammar.specs.Laws.{Shape, head_of, First, outcome, Next, Begun, Found, Stopped, IsReader, plus, HasPhrase, one_shape, empty_shape, both, either, full, many_shape}
-use Rattle.jz_grammar.proofs.Basics.{all_in, in_more, has_fewer, in_left, in_right, has_append, in_apart, has_same, head_append, plain_append, plain_rest, within_append, outcome_within, outcome_through, outcome_append, next_more, plus_le, has_join, disjoint_nil, cancel, plain_length, bind_ok, bind_err, ok_same, err_same, ok_err, err_ok}
+use Rattle.jz_grammar.proofs.Basics.{all_in, in_more, has_fewer, in_left, in_right, has_append, in_apart, has_same, head_append, plain_append, plain_rest, within_append, outcome_within, outcome_through, outcome_append, next_more, plus_le, has_join, disjoint_nil, cancel, plain_length, bind_ok, bind_err, ok_same, err_same, ok_err, err_ok, through_err}
 
 -- ---- one token
 one_ok : (ks : List Kind) (ts : List Token) (x : Token × List Token) → one ks ts ≡ Ok x → (ts ≡ x.0 ∷ x.1) × (is_in ks x.0 ≡ true)
@@ -163,10 +163,6 @@ follow_reads {A} {B} {f = f} {g = g} {l = l} {m = m} {s = s} {r = r} F G some ap
 through_ok : {A B : Type 0} (to : A → B) (r : Answer A) (y : B × List Token) → through to r ≡ Ok y → (x : A × List Token) × (r ≡ Ok x) × (◌≡◌ {A = B × List Token} (to x.0, x.1) y)
 through_ok to (Ok x) y h = (x, refl, ok_same _ _ h)
 through_ok to (Err e) y h = err_ok y e _ h
-
-through_err : {A B : Type 0} (to : A → B) (r : Answer A) (e : Cause × List Token) → through to r ≡ Err e → r ≡ Err e
-through_err to (Ok x) e h = ok_err (to x.0, x.1) e _ h
-through_err {A} {B} to (Err d) e h = ap (λ z. Err z) (err_same {A = B} d e h)
 
 pub map_reads : {A B : Type 0} {f : Reader A} {l : ℕ → Lang A} {s : Shape} (to : A → B) → IsReader f l s → IsReader (λ ts. through to (f ts)) (λ e. l e ⇒ to) s
 map_reads {A} {B} {f = f} {l = l} {s = s} to F = record { first = λ e xs b h. F.first e xs h.0 h.1; again = again; found = found; stop = stop }

@@ -1,5 +1,6 @@
 -- Each answer of a reader, exactly.
 use Rattle.std.proofs.Common.{◌≡◌, ◌⊎◌, inl, inr, ⊎_elim, ℕ, zero, suc, ◌+◌, ◌≤◌, List, [], ◌∷◌, ◌++◌, length, false, Result, Ok, Err, refl, sym, ap, ap₂, ◌∙◌, subst, arith, append_assoc, append-nil, length-append, nat_lt}
+use Rattle.std.proofs.lemmas.Bool.{le-ltb}
 use Rattle.jz_lex.proofs.LexingWords.{by_cases, if_false, if_true}
 use Rattle.jz_lex.specs.declared.token.Token.{Token}
 use Rattle.jz_grammar.specs.Causes.{Cause, Unexpected, TooDeep}
@@ -52,10 +53,7 @@ outcome_short {A} e (x ∷ xs) a rest us k h = by_cases _ (nat_lt x.1 e)
 
 outcome_skip : {A : Type 0} (e : ℕ) (xs ys : List Marked) (a : A) (rest : List Token) → Within e xs → outcome e (xs ++ ys) a rest ≡ outcome e ys a rest
 outcome_skip e [] ys a rest w = refl
-outcome_skip e (x ∷ xs) ys a rest w = if_false (nat_lt x.1 e) _ _ (less x.1 e w.0) ∙ outcome_skip e xs ys a rest w.1
-  where
-    less : (a b : ℕ) → b ≤ a → nat_lt a b ≡ false
-    less a b h = grind arith
+outcome_skip e (x ∷ xs) ys a rest w = if_false (nat_lt x.1 e) _ _ (le-ltb x.1 e w.0) ∙ outcome_skip e xs ys a rest w.1
 
 module _ {A : Type 0} (read : Reader A) (lang : ℕ → Lang A) (limit : ℕ) (s : Shape) (R : IsReader read (λ e. lang (plus limit e)) s) (closed : (ts : List Token) → has s.goes ts ≡ false) where
   pub parsed_to : (ts : List Token) (a : A) → Derives lang limit ts a → read ts ≡ Ok (a, [])

@@ -5,6 +5,7 @@ use Rattle.std.specs.Char.{digit_value}
 use Rattle.std.specs.Int.Digits.{number_from_digits_after}
 use Rattle.std.proofs.lemmas.Int.Digits.{number_after_ge}
 use Rattle.std.proofs.Math.Seq.{drop-length}
+use Rattle.std.proofs.lemmas.Bool.{lt-ltb, le-ltb}
 use Rattle.jz_lex.specs.LexingWords.{number_of}
 use Rattle.jz_lex.specs.LexingFront.{wide_number}
 
@@ -24,17 +25,11 @@ digit_none : (base n b : ℕ) (bs : List ℕ) → nat_lt (digit_value b) base �
 unfolding rest_value
 digit_none base n b bs h = rw h refl
 
-lt_true : (a b : ℕ) → a < b → nat_lt a b ≡ true
-lt_true a b h = grind arith
-
-lt_false : (a b : ℕ) → b ≤ a → nat_lt a b ≡ false
-lt_false a b h = grind arith
-
 pub rest_next : (base n : ℕ) (bs : List ℕ) (i : ℕ) → i < length bs → digit_value (get_or bs i 0) < base → rest_value base n (drop i bs) ≡ rest_value base (n * base + digit_value (get_or bs i 0)) (drop (i + 1) bs)
-rest_next base n bs i h d = rw (add-one, drop-cons bs i 0) (digit_more base n (get_or bs i 0) (drop (suc i) bs) (lt_true _ _ d))
+rest_next base n bs i h d = rw (add-one, drop-cons bs i 0) (digit_more base n (get_or bs i 0) (drop (suc i) bs) (lt-ltb _ _ d))
 
 pub rest_skip : (base n : ℕ) (bs : List ℕ) (i : ℕ) → i < length bs → base ≤ digit_value (get_or bs i 0) → rest_value base n (drop i bs) ≡ rest_value base n (drop (i + 1) bs)
-rest_skip base n bs i h d = rw (add-one, drop-cons bs i 0) (digit_none base n (get_or bs i 0) (drop (suc i) bs) (lt_false _ _ d))
+rest_skip base n bs i h d = rw (add-one, drop-cons bs i 0) (digit_none base n (get_or bs i 0) (drop (suc i) bs) (le-ltb _ _ d))
 
 pub rest_least : (base n : ℕ) (bs : List ℕ) → 0 < base → n ≤ rest_value base n bs
 unfolding rest_value
@@ -45,7 +40,7 @@ unfolding rest_value
 rest_none base n = refl
 
 pub too_wide : (n : ℕ) → 2 ^ 128 ≤ n → wide_number n ≡ None
-too_wide n h = rw (lt_false n (2 ^ 128) h) refl
+too_wide n h = rw (le-ltb n (2 ^ 128) h) refl
 
 -- the whole is too wide where the digits so far are
 pub over : (base n d : ℕ) (bs : List ℕ) (i : ℕ) → i < length bs → 0 < base → d ≡ digit_value (get_or bs i 0) → d < base → 2 ^ 128 ≤ n * base + d → rest_value base n (drop i bs) ≡ number_of base bs → wide_number (number_of base bs) ≡ None
@@ -67,4 +62,4 @@ pub rest_last : (base n : ℕ) (bs : List ℕ) (i : ℕ) → i ≡ length bs →
 rest_last base n bs i h l r =
     let e : rest_value base n (drop i bs) ≡ n = ap (λ x. rest_value base n (drop x bs)) h ∙ ap (rest_value base n) (drop-length bs) ∙ rest_none base n in
     let f : number_of base bs ≡ n = sym r ∙ e in
-    rw f (rw (lt_true n (2 ^ 128) l) refl)
+    rw f (rw (lt-ltb n (2 ^ 128) l) refl)

@@ -105,11 +105,11 @@ name_apart : (m n x y : List ℕ) → IsName m → IsName n → is_name_byte (fi
 name_apart m n x y h k p q e = spans is_name_byte m n x y (list_all-from_AllPass is_name_byte m h) (list_all-from_AllPass is_name_byte n k) p q e
 
 -- ---- lines of parameters and results
-joined_arg : (n k s l r m x : List ℕ) → (n ++ k ++ s ++ l ++ r ++ m) ++ x ≡ n ++ (k ++ (s ++ (l ++ (r ++ (m ++ x)))))
-joined_arg n k s l r m x = simp append_assoc refl
+joined_six : (n k s l r m x : List ℕ) → (n ++ k ++ s ++ l ++ r ++ m) ++ x ≡ n ++ (k ++ (s ++ (l ++ (r ++ (m ++ x)))))
+joined_six n k s l r m x = simp append_assoc refl
 
 arg_shape : (a : Arg) (x : List ℕ) → arg_text a ++ x ≡ a.name ++ (32 ∷ (size_text a.size ++ (32 ∷ (reg_text a.reg ++ (10 ∷ x)))))
-arg_shape a x = joined_arg a.name (32 ∷ []) (size_text a.size) (32 ∷ []) (reg_text a.reg) (10 ∷ []) x
+arg_shape a x = joined_six a.name (32 ∷ []) (size_text a.size) (32 ∷ []) (reg_text a.reg) (10 ∷ []) x
 
 arg_apart : (a b : Arg) (x y : List ℕ) → IsListableArg a → IsListableArg b → arg_text a ++ x ≡ arg_text b ++ y → (a ≡ b) × (x ≡ y)
 arg_apart a b x y h k e =
@@ -120,19 +120,16 @@ arg_apart a b x y h k e =
     (λ i. record { name = r1.0 i; size = r2.0 i; reg = r3.0 i }, ap rest r3.1)
 
 -- ---- preconditions
-joined_extent : (k s v l c x : List ℕ) → (k ++ s ++ v ++ l ++ c) ++ x ≡ k ++ (s ++ (v ++ (l ++ (c ++ x))))
-joined_extent k s v l c x = simp append_assoc refl
-
-joined_line : (o p s b m x : List ℕ) → (o ++ p ++ s ++ b ++ m) ++ x ≡ o ++ (p ++ (s ++ (b ++ (m ++ x))))
-joined_line o p s b m x = simp append_assoc refl
+joined_five : (k s v l c x : List ℕ) → (k ++ s ++ v ++ l ++ c) ++ x ≡ k ++ (s ++ (v ++ (l ++ (c ++ x))))
+joined_five k s v l c x = simp append_assoc refl
 
 region_shape : (p b x : List ℕ) → ((112 ∷ 114 ∷ 101 ∷ 32 ∷ []) ++ (codes "region " ++ p ++ (32 ∷ []) ++ b) ++ (10 ∷ [])) ++ x
     ≡ (112 ∷ 114 ∷ 101 ∷ 32 ∷ codes "region ") ++ (p ++ (32 ∷ (b ++ (10 ∷ x))))
-region_shape p b x = joined_line (112 ∷ 114 ∷ 101 ∷ 32 ∷ codes "region ") p (32 ∷ []) b (10 ∷ []) x
+region_shape p b x = joined_five (112 ∷ 114 ∷ 101 ∷ 32 ∷ codes "region ") p (32 ∷ []) b (10 ∷ []) x
 
 align_shape : (p b x : List ℕ) → ((112 ∷ 114 ∷ 101 ∷ 32 ∷ []) ++ (codes "align " ++ p ++ (32 ∷ []) ++ b) ++ (10 ∷ [])) ++ x
     ≡ (112 ∷ 114 ∷ 101 ∷ 32 ∷ codes "align ") ++ (p ++ (32 ∷ (b ++ (10 ∷ x))))
-align_shape p b x = joined_line (112 ∷ 114 ∷ 101 ∷ 32 ∷ codes "align ") p (32 ∷ []) b (10 ∷ []) x
+align_shape p b x = joined_five (112 ∷ 114 ∷ 101 ∷ 32 ∷ codes "align ") p (32 ∷ []) b (10 ∷ []) x
 
 joined_range : (o p s b d c m x : List ℕ) → (o ++ p ++ s ++ b ++ d ++ c ++ m) ++ x ≡ o ++ (p ++ (s ++ (b ++ (d ++ (c ++ (m ++ x))))))
 joined_range o p s b d c m x = simp append_assoc refl
@@ -173,17 +170,17 @@ pre_apart (pre.Region p f None c) (pre.Region q g None d) x y h k e =
 pre_apart (pre.Region p f None c) (pre.Region q g (Some w) d) x y h k e =
     let s = sym (region_shape p (decimal c) x) ∙ e ∙ region_shape q (extent_text g (Some w) d) y in
     let r1 = name_apart p q _ _ h.0 k.0 refl refl (ap past_region s) in
-    let r2 = decimal_apart c g (10 ∷ x) _ h.2 k.1 refl refl (ap rest r1.1 ∙ joined_extent (decimal g) (42 ∷ []) w (43 ∷ []) (decimal d) (10 ∷ y)) in
+    let r2 = decimal_apart c g (10 ∷ x) _ h.2 k.1 refl refl (ap rest r1.1 ∙ joined_five (decimal g) (42 ∷ []) w (43 ∷ []) (decimal d) (10 ∷ y)) in
     (let z : 10 ≡ 42 = ap first r2.1 in absurd (omega (arith, z)))
 pre_apart (pre.Region p f (Some v) c) (pre.Region q g None d) x y h k e =
     let s = sym (region_shape p (extent_text f (Some v) c) x) ∙ e ∙ region_shape q (decimal d) y in
     let r1 = name_apart p q _ _ h.0 k.0 refl refl (ap past_region s) in
-    let r2 = decimal_apart f d _ (10 ∷ y) h.1 k.2 refl refl (sym (joined_extent (decimal f) (42 ∷ []) v (43 ∷ []) (decimal c) (10 ∷ x)) ∙ ap rest r1.1) in
+    let r2 = decimal_apart f d _ (10 ∷ y) h.1 k.2 refl refl (sym (joined_five (decimal f) (42 ∷ []) v (43 ∷ []) (decimal c) (10 ∷ x)) ∙ ap rest r1.1) in
     (let z : 42 ≡ 10 = ap first r2.1 in absurd (omega (arith, z)))
 pre_apart (pre.Region p f (Some v) c) (pre.Region q g (Some w) d) x y h k e =
     let s = sym (region_shape p (extent_text f (Some v) c) x) ∙ e ∙ region_shape q (extent_text g (Some w) d) y in
     let r1 = name_apart p q _ _ h.0 k.0 refl refl (ap past_region s) in
-    let r2 = decimal_apart f g _ _ h.1 k.1 refl refl (sym (joined_extent (decimal f) (42 ∷ []) v (43 ∷ []) (decimal c) (10 ∷ x)) ∙ ap rest r1.1 ∙ joined_extent (decimal g) (42 ∷ []) w (43 ∷ []) (decimal d) (10 ∷ y)) in
+    let r2 = decimal_apart f g _ _ h.1 k.1 refl refl (sym (joined_five (decimal f) (42 ∷ []) v (43 ∷ []) (decimal c) (10 ∷ x)) ∙ ap rest r1.1 ∙ joined_five (decimal g) (42 ∷ []) w (43 ∷ []) (decimal d) (10 ∷ y)) in
     let r3 = name_apart v w _ _ h.2 k.2 refl refl (ap rest r2.1) in
     let r4 = decimal_apart c d _ _ h.3 k.3 refl refl (ap rest r3.1) in
     (λ i. pre.Region (r1.0 i) (r2.0 i) (Some (r3.0 i)) (r4.0 i), ap rest r4.1)
@@ -236,16 +233,13 @@ span_apart s t x y a b c d e =
     let r2 = decimal_apart s.col t.col _ _ (omega (arith, b)) (omega (arith, d)) refl refl (ap rest r1.1) in
     (λ i. record { line = r1.0 i; col = r2.0 i }, ap rest r2.1)
 
-joined_no : (o s k a l v x : List ℕ) → (o ++ s ++ k ++ a ++ l ++ v) ++ x ≡ o ++ (s ++ (k ++ (a ++ (l ++ (v ++ x)))))
-joined_no o s k a l v x = simp append_assoc refl
-
 ct_apart : (c d : Ct) (x y : List ℕ) → IsListableCt c → IsListableCt d → ct_text c ++ (10 ∷ x) ≡ ct_text d ++ (10 ∷ y) → (c ≡ d) × (x ≡ y)
 ct_apart ct.Yes ct.Yes x y h k e = (refl, ap rest (ap rest (ap rest (ap rest e))))
 ct_apart ct.Yes (ct.No span kind var) x y h k e = (let z : 121 ≡ 110 = ap first e in absurd (omega (arith, z)))
 ct_apart (ct.No span kind var) ct.Yes x y h k e = (let z : 110 ≡ 121 = ap first e in absurd (omega (arith, z)))
 ct_apart (ct.No s a v) (ct.No t b w) x y h k e =
-    let m = sym (joined_no (110 ∷ 111 ∷ 32 ∷ []) (span_text s) (32 ∷ []) (kind_text a) (32 ∷ []) v (10 ∷ x)) ∙ e
-    ∙ joined_no (110 ∷ 111 ∷ 32 ∷ []) (span_text t) (32 ∷ []) (kind_text b) (32 ∷ []) w (10 ∷ y) in
+    let m = sym (joined_six (110 ∷ 111 ∷ 32 ∷ []) (span_text s) (32 ∷ []) (kind_text a) (32 ∷ []) v (10 ∷ x)) ∙ e
+    ∙ joined_six (110 ∷ 111 ∷ 32 ∷ []) (span_text t) (32 ∷ []) (kind_text b) (32 ∷ []) w (10 ∷ y) in
     let r1 = span_apart s t _ _ h.0 h.1 k.0 k.1 (ap rest (ap rest (ap rest m))) in
     let r2 = kind_apart a b _ _ refl refl r1.1 in
     let r3 = spans is_variable_byte v w _ _ (list_all-from_AllPass is_variable_byte v h.2) (list_all-from_AllPass is_variable_byte w k.2) refl refl (ap rest r2.1) in
@@ -282,8 +276,6 @@ hex_apart u v x y h k e =
     let b = spans no_line_end (encode_lower u) (encode_lower v) (10 ∷ x) (10 ∷ y) (hex_digits u) (hex_digits v) refl refl e in (hex_same u v h k b.0, ap rest b.1)
 
 -- ---- the parts of a function
-joined_interface : (o n m a r p x : List ℕ) → (o ++ n ++ m ++ a ++ r ++ p) ++ x ≡ o ++ (n ++ (m ++ (a ++ (r ++ (p ++ x)))))
-joined_interface o n m a r p x = simp append_assoc refl
 
 arg_line_apart : (a b : Arg) (x y : List ℕ) → IsListableArg a → IsListableArg b → Unit {0} → Unit {0} → arg_line a ++ x ≡ arg_line b ++ y → (a ≡ b) × (x ≡ y)
 arg_line_apart a b x y h k p q e = arg_apart a b x y h k (ap rest (ap rest (ap rest (ap rest e))))
@@ -308,8 +300,8 @@ not_tag x tag h k e = k (sym h ∙ e)
 interface_apart : (c d : Compiled) (x y : List ℕ) → IsListable c → IsListable d → first x ≡ 102 → first y ≡ 102 → interface_text c ++ x ≡ interface_text d ++ y
     → (c.name ≡ d.name) × (c.args ≡ d.args) × (c.rets ≡ d.rets) × (c.pre ≡ d.pre) × (x ≡ y)
 interface_apart c d x y h k p q e =
-    let m = sym (joined_interface (102 ∷ 110 ∷ 32 ∷ []) c.name (10 ∷ []) (concat (map arg_line c.args)) (concat (map ret_line c.rets)) (concat (map pre_line c.pre)) x) ∙ e
-    ∙ joined_interface (102 ∷ 110 ∷ 32 ∷ []) d.name (10 ∷ []) (concat (map arg_line d.args)) (concat (map ret_line d.rets)) (concat (map pre_line d.pre)) y in
+    let m = sym (joined_six (102 ∷ 110 ∷ 32 ∷ []) c.name (10 ∷ []) (concat (map arg_line c.args)) (concat (map ret_line c.rets)) (concat (map pre_line c.pre)) x) ∙ e
+    ∙ joined_six (102 ∷ 110 ∷ 32 ∷ []) d.name (10 ∷ []) (concat (map arg_line d.args)) (concat (map ret_line d.rets)) (concat (map pre_line d.pre)) y in
     let r1 = name_apart c.name d.name _ _ h.name k.name refl refl (ap rest (ap rest (ap rest m))) in
     let r2 = lines_apart IsListableArg arg_line 97 (λ n. Unit {0}) (λ a v. refl) tt arg_line_apart c.args d.args _ _ h.args k.args tt tt
     (behind_lines ret_line 114 97 (λ a v. refl) c.rets _ (λ z. omega (arith, z)) (behind_lines pre_line 112 97 (λ a v. refl) c.pre x (λ z. omega (arith, z)) (not_tag x 97 p (λ z. omega (arith, z)))))
@@ -322,29 +314,26 @@ interface_apart c d x y h k p q e =
     (not_tag x 112 p (λ z. omega (arith, z))) (not_tag y 112 q (λ z. omega (arith, z))) r3.1 in
     (r1.0, r2.0, r3.0, r4.0, r4.1)
 
-joined_frame : (o f k s m x : List ℕ) → (o ++ f ++ k ++ s ++ m) ++ x ≡ o ++ (f ++ (k ++ (s ++ (m ++ x))))
-joined_frame o f k s m x = simp append_assoc refl
-
 frame_apart : (c d : Compiled) (x y : List ℕ) → IsListable c → IsListable d → frame_text c ++ x ≡ frame_text d ++ y → (c.frame ≡ d.frame) × (c.saved ≡ d.saved) × (x ≡ y)
 frame_apart c d x y h k e =
-    let m = sym (joined_frame (codes "frame ") (decimal c.frame) (codes "\nsaved") (saved_text c.saved) (10 ∷ []) x) ∙ e
-    ∙ joined_frame (codes "frame ") (decimal d.frame) (codes "\nsaved") (saved_text d.saved) (10 ∷ []) y in
+    let m = sym (joined_five (codes "frame ") (decimal c.frame) (codes "\nsaved") (saved_text c.saved) (10 ∷ []) x) ∙ e
+    ∙ joined_five (codes "frame ") (decimal d.frame) (codes "\nsaved") (saved_text d.saved) (10 ∷ []) y in
     let r1 = decimal_apart c.frame d.frame _ _ h.frame k.frame refl refl (ap rest (ap rest (ap rest (ap rest (ap rest (ap rest m)))))) in
     let r2 = saved_apart c.saved d.saved x y (ap rest (ap rest (ap rest (ap rest (ap rest (ap rest r1.1)))))) in
     (r1.0, r2.0, r2.1)
 
 code_apart : (c d : Compiled) (x y : List ℕ) → IsListable c → IsListable d → code_text c ++ x ≡ code_text d ++ y → (c.insns ≡ d.insns) × (c.code ≡ d.code) × (x ≡ y)
 code_apart c d x y h k e =
-    let m = sym (joined_frame (codes "insns ") (decimal c.insns) (codes "\ncode ") (encode_lower c.code) (10 ∷ []) x) ∙ e
-    ∙ joined_frame (codes "insns ") (decimal d.insns) (codes "\ncode ") (encode_lower d.code) (10 ∷ []) y in
+    let m = sym (joined_five (codes "insns ") (decimal c.insns) (codes "\ncode ") (encode_lower c.code) (10 ∷ []) x) ∙ e
+    ∙ joined_five (codes "insns ") (decimal d.insns) (codes "\ncode ") (encode_lower d.code) (10 ∷ []) y in
     let r1 = decimal_apart c.insns d.insns _ _ h.insns k.insns refl refl (ap rest (ap rest (ap rest (ap rest (ap rest (ap rest m)))))) in
     let r2 = hex_apart c.code d.code x y h.code k.code (ap rest (ap rest (ap rest (ap rest (ap rest (ap rest r1.1)))))) in
     (r1.0, r2.0, r2.1)
 
 leakage_apart : (c d : Compiled) (x y : List ℕ) → IsListable c → IsListable d → leakage_text c ++ x ≡ leakage_text d ++ y → (c.tr ≡ d.tr) × (c.ct ≡ d.ct) × (x ≡ y)
 leakage_apart c d x y h k e =
-    let m = sym (joined_frame (codes "tr ") (transformer_text c.tr) (codes "\nct ") (ct_text c.ct) (codes "\nend\n") x) ∙ e
-    ∙ joined_frame (codes "tr ") (transformer_text d.tr) (codes "\nct ") (ct_text d.ct) (codes "\nend\n") y in
+    let m = sym (joined_five (codes "tr ") (transformer_text c.tr) (codes "\nct ") (ct_text c.ct) (codes "\nend\n") x) ∙ e
+    ∙ joined_five (codes "tr ") (transformer_text d.tr) (codes "\nct ") (ct_text d.ct) (codes "\nend\n") y in
     let r1 = transformer_apart c.tr d.tr _ _ h.tr k.tr (ap rest (ap rest (ap rest m))) in
     let r2 = ct_apart c.ct d.ct _ _ h.ct k.ct (ap rest (ap rest (ap rest (ap rest r1.1)))) in
     (r1.0, r2.0, ap rest (ap rest (ap rest (ap rest r2.1))))

@@ -20,6 +20,7 @@ use Rattle.jz_ir.specs.Paths.{among, IsLive, read_here, read_later}
 use Rattle.jz_ir.specs.Straight.{Next, next, LiveIn}
 use Rattle.jz_ir.specs.Places.{Below, IsWithin, is_of_kind, kind_has, need_fits, op_fits, place_at, AllocatedApart, IsPlacing as HasPlaces}
 use Rattle.jz_ir.proofs.Numbers.{one_place}
+use Rattle.jz_ir.proofs.Below.{live_below}
 use Rattle.jz_tree.specs.declared.Fun.{Fun}
 use Rattle.jz_tree.specs.declared.Var.{Var}
 use Rattle.jz_tree.specs.declared.Expr.{Expr}
@@ -114,18 +115,6 @@ module _ (vs : List Var) where
 
   pub rest_below : (rs : List Reg) (ss : List Stmt) (xs : List Var) → KnownBody vs ss → All (IsKnown vs) xs → All (Below (length vs)) (map (statement_op vs) ss ++ return_ops vs rs xs)
   rest_below rs ss xs body named = All-append (Below (length vs)) (map (statement_op vs) ss) (return_ops vs rs xs) (body_below ss body) (return_below rs xs named)
-
--- who is live where the operations are within has a number below
-live_below : (n v : ℕ) (ops : List Op) → All (Below n) ops → IsLive Next v ops → v < n
-live_below n v ops b (read_here (next {o} {rest}) h) = among_below o.reads v n (b 0 o (omega arith)).reads h
-  where
-    among_below : (xs : List ℕ) (u m : ℕ) → All (λ x. x < m) xs → IsTrue (among xs u) → u < m
-    among_below [] u m a t = cc
-    among_below (x ∷ xs) u m a t = elim (or_cases (nat_eq x u) (among xs u) t) [
-      | inl e ↦ subst (λ y. y < m) (eqb-true x u e) (a 0 0 (omega arith))
-      | inr r ↦ among_below xs u m (λ i d k. a (suc i) d (omega arith)) r
-    ]
-live_below n v ops b (read_later (next {o} {rest}) w l) = live_below n v rest (λ i d k. b (suc i) d (omega arith)) l
 
 pub params_known : (f : Fun) → All (IsKnown (variables_of f)) (map variable_of f.params)
 params_known f k d l =

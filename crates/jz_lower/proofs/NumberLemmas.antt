@@ -7,6 +7,7 @@ use Rattle.std.proofs.lemmas.Bool.Decides.{nat_tests, same_from_decides, Decides
 use Rattle.std.proofs.lemmas.Slice.Eq.{bytes_eq-Decides}
 use Rattle.std.proofs.lemmas.List.Folds.{position_or_len_push}
 use Rattle.std.proofs.lemmas.List.Sums.{prefix_len-le-length}
+use Rattle.jz_data.proofs.Texts.{bytes_eq-sym, bytes_eq-true}
 use Rattle.jz_tree.specs.declared.Var.{Var}
 use Rattle.indexmap.specs.IndexMap.{get}
 use Rattle.jz_lower.specs.declared.numbers.Numbers.{Numbers}
@@ -35,12 +36,6 @@ none_below a l le e = grind (arith, nat_tests)
 
 some_below : (a l k : ℕ) → Some k ≡ below a l → k ≡ a
 some_below a l k e = grind (arith, nat_tests)
-
-bytes_eq-sym : (a b : List ℕ) → bytes_eq a b ≡ bytes_eq b a
-bytes_eq-sym a b = same_from_decides _ _ (bytes_eq-Decides a b) (Decides-like _ (λ e. sym e) (λ e. sym e) (bytes_eq-Decides b a))
-
-bytes_eq-true : (a b : List ℕ) → bytes_eq a b ≡ true → a ≡ b
-bytes_eq-true a b h = (bytes_eq-Decides a b).0 h
 
 some_stays : (o : Option ℕ) (b : Bool) (l : ℕ) → is_some o ≡ true → or_here o b l ≡ o
 some_stays None b l h = cc

@@ -1,5 +1,6 @@
 -- Programs and faults of lists of tokens.
 use Rattle.std.proofs.Common.{◌≡◌, ⊎_elim, ℕ, ◌-◌, ◌<◌, nat_lt, if◌then◌else◌, List, [], ◌∷◌, ◌++◌, length, slice_get, true, false, Some, Result, Ok, Err, refl, sym, ap, subst, ◌∙◌, arith, append-nil, append_assoc, length-append}
+use Rattle.std.proofs.lemmas.Bool.{lt-ltb}
 use Rattle.jz_lex.proofs.LexingWords.{if_false, if_true, true_false}
 use Rattle.jz_io.specs.declared.span.Span.{Span}
 use Rattle.jz_lex.specs.declared.token.Token.{Token}
@@ -51,10 +52,7 @@ there [] t rest = refl
 there (u ∷ front) t rest = there front t rest
 
 inside : (a b : ℕ) → a < b → (if nat_lt a b then a else b - 1) ≡ a
-inside a b h = if_true (nat_lt a b) a (b - 1) (is_less a b h)
-  where
-    is_less : (a b : ℕ) → a < b → nat_lt a b ≡ true
-    is_less a b h = grind arith
+inside a b h = if_true (nat_lt a b) a (b - 1) (lt-ltb a b h)
 
 outside : (a b : ℕ) → a ≡ b → (if nat_lt a b then a else b - 1) ≡ b - 1
 outside a b h = if_false (nat_lt a b) a (b - 1) (not_less a b h)

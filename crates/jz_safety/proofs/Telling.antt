@@ -3,6 +3,7 @@ use Rattle.std.proofs.Common.{◌≡◌, ℕ, Bool, true, false, not, List, [], 
 use Rattle.std.specs.Prelude.{All}
 use Rattle.std.proofs.lemmas.List.Elements.{All-head, All-tail}
 use Rattle.std.specs.Str.{bytes_eq}
+use Rattle.jz_data.proofs.Texts.{bytes_eq-sym}
 use Rattle.jz_io.specs.declared.span.Span.{Span}
 use Rattle.jz_words.specs.Memory.{Memory}
 use Rattle.jz_tree.specs.declared.Program.{Program}
@@ -33,7 +34,6 @@ use Rattle.jz_facts.specs.declared.condition.Condition.{Condition}
 use Rattle.jz_facts.specs.Facts.{Facts, no_facts, with_fact}
 use Rattle.jz_facts.specs.Holding.{with_parameters, entry_facts, after_kind, facts_after, facts_at_end}
 use Rattle.jz_facts.specs.Conditions.{read_of, right_conditions, left_conditions, kind_conditions, conditions_of, result_conditions}
-use Rattle.jz_types.proofs.ScopeLemmas.{bytes_eq-sym}
 use Rattle.jz_safety.specs.declared.alarm.Alarm.{Alarm}
 use Rattle.jz_safety.specs.Alarms.{alarm_of, alarms_at, body_alarms, alarms_of, HasNoAlarm, IsFirstAlarm}
 use Rattle.jz_safety.specs.Resolved.{AssignsToDeclared, IsResolved}

@@ -5,6 +5,7 @@ use Rattle.std.specs.List.{list_any}
 use Rattle.std.specs.Str.{bytes_eq}
 use Rattle.std.proofs.lemmas.Bool.Decides.{nat_tests}
 use Rattle.std.proofs.lemmas.List.{map-append}
+use Rattle.jz_data.proofs.Texts.{bytes_eq-sym, bytes_eq-true}
 use Rattle.indexmap.specs.IndexSet.{insert_key}
 use Rattle.jz_io.specs.declared.span.Span.{Span}
 use Rattle.jz_types.specs.declared.fault.TypeRule.{TypeRule}
@@ -13,7 +14,6 @@ use Rattle.jz_types.specs.declared.fault.TypeFault.{TypeFault}
 use Rattle.jz_types.specs.Faults.{number_of, precedes, earlier, first_of}
 use Rattle.jz_types.specs.Rules.{Name, fault_at, second_places, repeated}
 use Rattle.jz_types.proofs.Earliest.{earlier-assoc, earlier-none, first_of-append}
-use Rattle.jz_types.proofs.ScopeLemmas.{bytes_eq-sym, bytes_eq-true}
 
 -- the rule of a number
 rule_of : ℕ → TypeRule

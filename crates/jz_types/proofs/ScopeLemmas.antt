@@ -5,16 +5,11 @@ use Rattle.std.specs.Option.{option_map}
 use Rattle.std.specs.Str.{bytes_eq}
 use Rattle.std.proofs.lemmas.Bool.Decides.{same_from_decides, Decides-like}
 use Rattle.std.proofs.lemmas.Slice.Eq.{bytes_eq-Decides}
+use Rattle.jz_data.proofs.Texts.{bytes_eq-sym, bytes_eq-true}
 use Rattle.jz_tree.specs.declared.Var.{Var}
 use Rattle.jz_types.specs.declared.scope.Declared.{Declared}
 use Rattle.jz_types.specs.Variables.{variable_named}
 use Rattle.jz_types.specs.Scopes.{declared_of}
-
-pub bytes_eq-sym : (a b : List ℕ) → bytes_eq a b ≡ bytes_eq b a
-bytes_eq-sym a b = same_from_decides _ _ (bytes_eq-Decides a b) (Decides-like _ (λ e. sym e) (λ e. sym e) (bytes_eq-Decides b a))
-
-pub bytes_eq-true : (a b : List ℕ) → bytes_eq a b ≡ true → a ≡ b
-bytes_eq-true a b h = (bytes_eq-Decides a b).0 h
 
 or_own : Option Var → Bool → Var → Option Var
 or_own None b v = if b then Some v else None

@@ -8,6 +8,7 @@ use Rattle.std.proofs.lemmas.Bool.Decides.{nat_tests}
 use Rattle.std.proofs.lemmas.Slice.Eq.{bytes_eq-Decides}
 use Rattle.std.proofs.lemmas.List.Elements.{All-nil, All-cons, All-head, All-tail, All-map, All-weaker}
 use Rattle.std.proofs.lemmas.List.Kept.{AllPairs-cons}
+use Rattle.jz_data.proofs.Texts.{bytes_eq-true}
 use Rattle.jz_io.specs.declared.span.Span.{Span}
 use Rattle.jz_tree.specs.declared.Program.{Program}
 use Rattle.jz_tree.specs.declared.Fun.{Fun}
@@ -23,7 +24,6 @@ use Rattle.jz_tree.specs.Variables.{variables_of}
 use Rattle.jz_types.specs.Variables.{variable_named, is_declared_above, declaration_of}
 use Rattle.jz_types.proofs.FirstLemmas.{contains_head, contains_tail}
 use Rattle.jz_types.proofs.ResolvedLemmas.{uses_resolved}
-use Rattle.jz_types.proofs.ScopeLemmas.{bytes_eq-true}
 
 left_nil : {A : Type 0} (xs ys : List A) → xs ++ ys ≡ [] → xs ≡ []
 left_nil [] ys h = refl
