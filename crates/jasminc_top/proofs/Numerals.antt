@@ -30,7 +30,7 @@ numeral_test base (c ∷ cs) h =
 numeral_fact : (base : ℕ) (ds : List ℕ) → is_numeral base ds ≡ true → IsNumeral base ds
 numeral_fact base [] h = cc
 numeral_fact base (c ∷ cs) h =
-    let p = and_parts _ _ h in (omega arith, digits_fact base (c ∷ cs) p.1)
+    (omega arith, digits_fact base (c ∷ cs) (and_parts _ _ h).1)
 
 no_case : (base : ℕ) (ds : List ℕ) (b c : Bool) → is_numeral base ds ≡ b → nat_lt (digits_value base ds) (2 ^ 64) ≡ c
     → ((IsNumeral base ds × (digits_value base ds < 2 ^ 64)) → ⊥) → ◌≡◌ {A = Option ℕ} None (numeral base ds)

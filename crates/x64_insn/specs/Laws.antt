@@ -55,7 +55,8 @@ ShowsDifference to a b =
 abbrev pub ShowsDifferentBits : Reg → ℕ → ℕ → State → Type 0
 ShowsDifferentBits to a b = ShowsResult to (bit_xor a b) ⊥ ⊥ (a ≡ b)
 
--- an operation on a register and an operand that is no memory makes a step, after which this holds of the register, the two words and the state
+-- an operation on a register and an operand that is no memory makes a step from a state of 16 registers, after which this holds of the register, the
+-- two words and the state
 abbrev pub Leaves : Alu → (Reg → ℕ → ℕ → State → Type 0) → Type 0
 Leaves operation Shows = (to : Reg) (from : Operand) (b next : ℕ) (st : State) (m : Memory) → length st.regs ≡ 16 → IsWordOf st from b
     → (after : After) × (effect_of (insn.Alu operation S64 (operand.Reg to) from) next st m ≡ Ok after) × Shows to (reg_word st S64 to) b after.state
