@@ -1,5 +1,6 @@
 -- Two forms that begin with one kind of token, told apart by the token after it.
 use Rattle.std.proofs.Common.{◌≡◌, inl, inr, ⊎_elim, ℕ, List, [], ◌∷◌, ◌++◌, length, Bool, true, false, ◌&&◌, Ok, Err, Option, Some, refl, sym, ap, ◌∙◌, subst, arith, length-append, nat_lt}
+use Rattle.std.proofs.lemmas.Bool.{and_parts}
 use Rattle.jz_lex.specs.declared.token.Token.{Token}
 use Rattle.jz_grammar.specs.Causes.{Cause, TooDeep}
 use Rattle.jz_grammar.specs.Kinds.{Kind, disjoint, is_in, has}
@@ -73,10 +74,6 @@ through_err {A} {B} to (Err d) e h = ap (λ z. Err z) (err_same {A = B} d e h)
 
 pub map_second : {A B : Type 0} {f : Reader A} {l : ℕ → Lang A} (ks ls : List Kind) (to : A → B) → Second ks ls f l → Second ks ls (λ ts. through to (f ts)) (λ e. l e ⇒ to)
 map_second {f = f} ks ls to second = record { next = λ e x y xs b h i. second.next e x y xs h.0 h.1 i; takes = λ t ts k h c. second.takes t ts k h (through_err to (f (t ∷ ts)) (k, t ∷ ts) c) }
-
-and_true : (a b : Bool) → (a && b) ≡ true → (a ≡ true) × (b ≡ true)
-and_true true b h = (refl, h)
-and_true false b h = cc
 
 -- a token of ks and a phrase that begins with one of ls, or a phrase that does not begin so
 pub pick_both_reads : {A B : Type 0} {f : Reader A} {g : Reader B} {l : ℕ → Lang A} {m : ℕ → Lang B} (ks ls go st' go' end : List Kind) (d : ℕ) (example : Token) → is_in ks example ≡ true → (to : Token × A → B) → IsReader f l (full ls go) → HasPhrase l → IsReader g m (full st' go') → Second ks ls g m → ((e : ℕ) (x : Marked) (a : B) (rest : List Token) → m e (x ∷ []) a → is_in ks x.0 ≡ true → has end rest ≡ false → has ls rest ≡ false) → IsReader (pick_both ks ls (λ ts. through to (follow (one ks) f ts)) g) (λ e. ((token ks (plus d e) ▸ l e) ⇒ to) ⊕ m e) (full (ks ++ st') (go ++ (go' ++ end)))
@@ -155,7 +152,7 @@ pick_both_reads {A} {B} {f = f} {g = g} {l = l} {m = m} ks ls go st' go' end d e
     found : (ts rest : List Token) (a : B) → pick_both ks ls (λ ts. through to (follow (one ks) f ts)) g ts ≡ Ok (a, rest) → Found (pick_both ks ls (λ ts. through to (follow (one ks) f ts)) g) (λ e. ((token ks (plus d e) ▸ l e) ⇒ to) ⊕ m e) ts a rest
     found [] rest a h = let q = G.found [] rest a h in found_right [] rest a q refl q.pre refl q.splits
     found (t ∷ ts) rest a h = by_cases _ (has_both ks ls (t ∷ ts))
-        (λ c. let q = H.found (t ∷ ts) rest a (sym (left _ c) ∙ h) in found_left t ts rest a (and_true _ _ c).0 q c q.pre refl q.splits)
+        (λ c. let q = H.found (t ∷ ts) rest a (sym (left _ c) ∙ h) in found_left t ts rest a (and_parts _ _ c).0 q c q.pre refl q.splits)
         (λ c. let q = G.found (t ∷ ts) rest a (sym (right _ c) ∙ h) in found_right (t ∷ ts) rest a q c q.pre refl q.splits)
 
     -- the first takes its first token
@@ -204,7 +201,7 @@ pick_both_reads {A} {B} {f = f} {g = g} {l = l} {m = m} ks ls go st' go' end d e
     stop : (ts rest : List Token) (k : Cause) → pick_both ks ls (λ ts. through to (follow (one ks) f ts)) g ts ≡ Err (k, rest) → Stopped (pick_both ks ls (λ ts. through to (follow (one ks) f ts)) g) (λ e. ((token ks (plus d e) ▸ l e) ⇒ to) ⊕ m e) ts k rest
     stop [] rest k h = let q = G.stop [] rest k h in stop_right [] rest k h q refl q.pre refl q.splits
     stop (t ∷ ts) rest k h = by_cases _ (has_both ks ls (t ∷ ts))
-        (λ c. let j = sym (left _ c) ∙ h in let q = H.stop (t ∷ ts) rest k j in stop_left t ts rest k (and_true _ _ c).0 j q c q.pre refl q.splits)
+        (λ c. let j = sym (left _ c) ∙ h in let q = H.stop (t ∷ ts) rest k j in stop_left t ts rest k (and_parts _ _ c).0 j q c q.pre refl q.splits)
         (λ c. let j = sym (right _ c) ∙ h in let q = G.stop (t ∷ ts) rest k j in stop_right (t ∷ ts) rest k j q c q.pre refl q.splits)
 
 -- where a phrase has two parts it is no single token

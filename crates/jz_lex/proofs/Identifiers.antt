@@ -3,13 +3,14 @@ use Rattle.std.proofs.Common.{◌≡◌, ⊎_elim, ℕ, List, [], ◌∷◌, Boo
 use Rattle.std.specs.List.{All, list_all}
 use Rattle.std.specs.Char.{is_ascii_alphabetic, is_ascii_digit}
 use Rattle.std.proofs.lemmas.List.Elements.{All-nil, All-cons, All-append}
+use Rattle.std.proofs.lemmas.Bool.{and_parts}
 use Rattle.jz_lex.specs.LexingWords.{keywords, is_among, begins_word, in_word, is_word, is_numeral, value_of, kind_of}
 use Rattle.jz_lex.specs.Lexing.{Part, Blank, Lexeme, first_place, after, UpTo, IsLexed}
 use Rattle.jz_lex.specs.Identifiers.{IsIdentifier, IsSpelled}
 use Rattle.jz_io.specs.declared.span.Span.{Span}
 use Rattle.jz_lex.specs.declared.token.Token.{Token}
 use Rattle.jz_lex.specs.declared.token.TokenKind.TheVariants as kind
-use Rattle.jz_lex.proofs.LexingWords.{and_true, or_true, or_left, or_right}
+use Rattle.jz_lex.proofs.LexingWords.{or_true, or_left, or_right}
 
 -- ---- tokens
 word_is : (w s : List ℕ) → kind_of w ≡ kind.Ident s → IsIdentifier s
@@ -45,12 +46,12 @@ begins_in b h = ⊎_elim
 
 all_bytes : (w : List ℕ) → list_all in_word w ≡ true → All (λ b. in_word b ≡ true) w
 all_bytes [] h = All-nil (λ b. in_word b ≡ true)
-all_bytes (b ∷ w) h = let p = and_true (in_word b) (list_all in_word w) h in All-cons (λ c. in_word c ≡ true) b w p.0 (all_bytes w p.1)
+all_bytes (b ∷ w) h = let p = and_parts (in_word b) (list_all in_word w) h in All-cons (λ c. in_word c ≡ true) b w p.0 (all_bytes w p.1)
 
 pub identifier_bytes : (w : List ℕ) → IsIdentifier w → All (λ b. in_word b ≡ true) w
 identifier_bytes [] h = All-nil (λ b. in_word b ≡ true)
 identifier_bytes (b ∷ w) h =
-    let p = and_true (begins_word b) (list_all in_word w) h.0 in
+    let p = and_parts (begins_word b) (list_all in_word w) h.0 in
     All-cons (λ c. in_word c ≡ true) b w (begins_in b p.0) (all_bytes w p.1)
 
 reordered : (u l d e : Bool) → (((u || l) || d) || e) ≡ true → (d || (u || (e || l))) ≡ true

@@ -1,6 +1,7 @@
 -- The lexeme found at the front of a text is the longest.
 use Rattle.std.proofs.Common.{◌≡◌, ◌⊎◌, inl, inr, ⊎_elim, if◌then◌else◌, ℕ, zero, suc, ◌+◌, ◌<◌, ◌≤◌, List, [], ◌∷◌, ◌++◌, length, take, drop, Bool, true, false, not, ◌&&◌, ◌||◌, ◌==◌, nat_le, Option, Some, None, refl, sym, ap, ap₂, ◌∙◌, subst, arith}
 use Rattle.std.specs.List.{list_all, take_while, starts_with}
+use Rattle.std.proofs.lemmas.Bool.{and_parts}
 use Rattle.std.proofs.lemmas.List.Sums.{take_while-cons}
 use Rattle.std.specs.Str.{IsAscii}
 use Rattle.std.specs.Str.{bytes_eq}
@@ -22,10 +23,6 @@ if_true b x y h = rw h refl
 
 pub if_false : {A : Type 0} (b : Bool) (x y : A) → b ≡ false → (if b then x else y) ≡ y
 if_false b x y h = rw h refl
-
-pub and_true : (a b : Bool) → (a && b) ≡ true → (a ≡ true) × (b ≡ true)
-and_true true b h = (refl, h)
-and_true false b h = cc
 
 pub or_true : (a b : Bool) → (a || b) ≡ true → (a ≡ true) ⊎ (b ≡ true)
 or_true true b h = inl refl
@@ -57,7 +54,7 @@ same_self s = (bytes_eq-Decides s s).1 refl
 begins_split : (w text : List ℕ) → begins w text ≡ true → text ≡ w ++ drop (length w) text
 begins_split [] text h = refl
 begins_split (a ∷ w) [] h = cc
-begins_split (a ∷ w) (b ∷ bs) h = let p = and_true (a == b) (begins w bs) h in ap₂ (λ x ys. x ∷ ys) (sym (eq_is a b p.0)) (begins_split w bs p.1)
+begins_split (a ∷ w) (b ∷ bs) h = let p = and_parts (a == b) (begins w bs) h in ap₂ (λ x ys. x ∷ ys) (sym (eq_is a b p.0)) (begins_split w bs p.1)
 
 begins_self : (w rest : List ℕ) → begins w (w ++ rest) ≡ true
 begins_self [] rest = refl
@@ -78,7 +75,7 @@ cut (a ∷ w) (b ∷ v) more rest h e =
 entry_in : (test : List ℕ → Bool) (ws : List (List ℕ)) (v : List ℕ) → list_all test ws ≡ true → is_among ws v ≡ true → test v ≡ true
 entry_in test [] v a h = cc
 entry_in test (w ∷ ws) v a h =
-    let p = and_true (test w) (list_all test ws) a in
+    let p = and_parts (test w) (list_all test ws) a in
     ⊎_elim
     (λ j. subst (λ z. test z ≡ true) (same_is w v j) p.0)
     (λ j. entry_in test ws v p.1 j)
@@ -114,7 +111,7 @@ first_stands (s ∷ ss) text w h = by_cases _ (begins s text)
 first_longest : (ws : List (List ℕ)) (text v more : List ℕ) → falling ws ≡ true → v ++ more ≡ text → is_among ws v ≡ true → (w : List ℕ) × (first_of ws text ≡ Some w) × (length v ≤ length w)
 first_longest [] text v more f e h = cc
 first_longest (s ∷ ss) text v more f e h =
-    let p = and_true (list_all (λ u. nat_le (length u) (length s)) ss) (falling ss) f in
+    let p = and_parts (list_all (λ u. nat_le (length u) (length s)) ss) (falling ss) f in
     ⊎_elim
     (λ j.
     let same : s ≡ v = same_is s v j in
@@ -153,7 +150,7 @@ pub run_longest : (test : ℕ → Bool) (vs more bs : List ℕ) → vs ++ more �
 run_longest test [] more bs e h = omega arith
 run_longest test (v ∷ vs) more [] e h = cc
 run_longest test (v ∷ vs) more (b ∷ bs) e h =
-    let p = and_true (test v) (list_all test vs) h in
+    let p = and_parts (test v) (list_all test vs) h in
     let x : v ≡ b = cc in
     let y : vs ++ more ≡ bs = cc in
     let i = run_longest test vs more bs y p.1 in
@@ -196,29 +193,29 @@ not_true true h = cc
 not_true false h = refl
 
 pub word_head : (b : ℕ) (bs : List ℕ) → is_word (b ∷ bs) ≡ true → (begins_word b ≡ true) × (list_all in_word bs ≡ true)
-word_head b bs h = and_true (begins_word b) (list_all in_word bs) h
+word_head b bs h = and_parts (begins_word b) (list_all in_word bs) h
 
 pub hexadecimal_parts : (b : ℕ) (bs : List ℕ) → is_hexadecimal (b ∷ bs) ≡ true → (d : ℕ) × (ds : List ℕ) × (bs ≡ 120 ∷ d ∷ ds) × (b ≡ 48) × (is_hex_digit d ≡ true) × (list_all in_hexadecimal ds ≡ true)
 hexadecimal_parts b [] h = cc
-hexadecimal_parts b (x ∷ []) h = let p = and_true ((b == 48) && (x == 120)) false h in cc
+hexadecimal_parts b (x ∷ []) h = let p = and_parts ((b == 48) && (x == 120)) false h in cc
 hexadecimal_parts b (x ∷ d ∷ ds) h =
-    let p = and_true ((b == 48) && (x == 120)) (is_hex_digit d && list_all in_hexadecimal ds) h in
-    let q = and_true (b == 48) (x == 120) p.0 in
-    let r = and_true (is_hex_digit d) (list_all in_hexadecimal ds) p.1 in
+    let p = and_parts ((b == 48) && (x == 120)) (is_hex_digit d && list_all in_hexadecimal ds) h in
+    let q = and_parts (b == 48) (x == 120) p.0 in
+    let r = and_parts (is_hex_digit d) (list_all in_hexadecimal ds) p.1 in
     (d, ds, ap (λ z. z ∷ d ∷ ds) (eq_is x 120 q.1), eq_is b 48 q.0, r.0, r.1)
 
 pub numeral_head : (b : ℕ) (bs : List ℕ) → is_numeral (b ∷ bs) ≡ true → is_digit b ≡ true
 unfolding is_digit
 numeral_head b bs h = ⊎_elim
-    (λ j. (and_true (is_digit b) (list_all in_decimal bs) j).0)
+    (λ j. (and_parts (is_digit b) (list_all in_decimal bs) j).0)
     (λ j. let q = hexadecimal_parts b bs j in subst (λ z. is_digit z ≡ true) (sym q.3) refl)
     (or_true (is_decimal (b ∷ bs)) (is_hexadecimal (b ∷ bs)) h)
 
 pub sign_head : (b : ℕ) (bs : List ℕ) → is_sign (b ∷ bs) ≡ true → (begins_word b ≡ false) × (is_digit b ≡ false) × (is_blank b ≡ false)
 sign_head b bs h =
     let p = entry_in sign_begins signs (b ∷ bs) signs_begin h in
-    let q = and_true (not (begins_word b) && not (is_digit b)) (not (is_blank b)) p in
-    let r = and_true (not (begins_word b)) (not (is_digit b)) q.0 in
+    let q = and_parts (not (begins_word b) && not (is_digit b)) (not (is_blank b)) p in
+    let r = and_parts (not (begins_word b)) (not (is_digit b)) q.0 in
     (not_true _ r.0, not_true _ r.1, not_true _ q.1)
 
 pub no_empty : is_lexeme [] ≡ false
@@ -274,7 +271,7 @@ hexadecimal_stands d bs h =
     at_x [] rest e i = omega arith
     at_x (c ∷ v) rest e i =
         let x : c ≡ 120 = cc in
-        true_false (in_decimal c) _ (and_true (in_decimal c) (list_all in_decimal v) i).0 (ap in_decimal x ∙ decimal_x)
+        true_false (in_decimal c) _ (and_parts (in_decimal c) (list_all in_decimal v) i).0 (ap in_decimal x ∙ decimal_x)
 
     most : (v rest : List ℕ) → v ++ rest ≡ (48 ∷ 120 ∷ d ∷ take_while in_hexadecimal bs) ++ behind in_hexadecimal bs → is_lexeme v ≡ true → length v ≤ length (48 ∷ 120 ∷ d ∷ take_while in_hexadecimal bs)
     most [] rest e i = omega arith
@@ -284,7 +281,7 @@ hexadecimal_stands d bs h =
         lexeme_cases _ (c ∷ v) i
         (λ j. apart c _ (word_head c v j).0 (ap is_digit x ∙ zero_is))
         (λ j. ⊎_elim
-        (λ k. let m = at_x v rest t (and_true (is_digit c) (list_all in_decimal v) k).1 in omega (arith, m))
+        (λ k. let m = at_x v rest t (and_parts (is_digit c) (list_all in_decimal v) k).1 in omega (arith, m))
         (λ k. let q = hexadecimal_parts c v k in
         let u : (120 ∷ q.0 ∷ q.1) ++ rest ≡ 120 ∷ d ∷ (take_while in_hexadecimal bs ++ behind in_hexadecimal bs) = subst (λ z. z ++ rest ≡ 120 ∷ d ∷ (take_while in_hexadecimal bs ++ behind in_hexadecimal bs)) q.2 t in
         let y : q.1 ++ rest ≡ take_while in_hexadecimal bs ++ behind in_hexadecimal bs = cc in
@@ -312,7 +309,7 @@ decimal_stands b bs h g =
         lexeme_cases _ (c ∷ v) i
         (λ j. apart c _ (word_head c v j).0 (ap is_digit x ∙ h))
         (λ j. ⊎_elim
-        (λ k. let m = run_longest in_decimal v rest bs t (and_true (is_digit c) (list_all in_decimal v) k).1 in omega (arith, m))
+        (λ k. let m = run_longest in_decimal v rest bs t (and_parts (is_digit c) (list_all in_decimal v) k).1 in omega (arith, m))
         (λ k. let q = hexadecimal_parts c v k in
         let y : b ∷ bs ≡ 48 ∷ 120 ∷ q.0 ∷ (q.1 ++ rest) = ap₂ (λ z zs. z ∷ zs) (sym x ∙ q.3) (sym t ∙ ap (λ z. z ++ rest) q.2) in
         true_false (is_hexadecimal (take 3 (b ∷ bs))) _ (ap (λ z. is_hexadecimal (take 3 z)) y ∙ front q.0 (q.1 ++ rest) q.4) g)
@@ -376,8 +373,8 @@ no_sign b bs l d e v more f h = sign_cases b bs v more _ l d f h
 -- ---- bytes below 128
 below : (test : ℕ → Bool) → ((b : ℕ) → test b ≡ true → b < 128) → (bs : List ℕ) → list_all test bs ≡ true → IsAscii bs
 below test f [] h i = omega arith
-below test f (b ∷ bs) h zero = f b (and_true (test b) (list_all test bs) h).0
-below test f (b ∷ bs) h (suc i) = below test f bs (and_true (test b) (list_all test bs) h).1 i
+below test f (b ∷ bs) h zero = f b (and_parts (test b) (list_all test bs) h).0
+below test f (b ∷ bs) h (suc i) = below test f bs (and_parts (test b) (list_all test bs) h).1 i
 
 in_word_below : (b : ℕ) → in_word b ≡ true → b < 128
 unfolding in_word

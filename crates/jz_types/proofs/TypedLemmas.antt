@@ -3,6 +3,7 @@ use Rattle.std.proofs.Common.{◌≡◌, ◌≢◌, ℕ, ◌≤◌, Bool, true, 
 use Rattle.std.specs.Prelude.{if◌then◌else◌, All, AllPairs, Contains, IsSome, is_some, nat_eq, nat_le}
 use Rattle.std.specs.List.{flat_map}
 use Rattle.std.specs.Str.{bytes_eq}
+use Rattle.std.proofs.lemmas.Bool.{and_parts}
 use Rattle.std.proofs.lemmas.Bool.Decides.{nat_tests}
 use Rattle.std.proofs.lemmas.Slice.Eq.{bytes_eq-Decides}
 use Rattle.std.proofs.lemmas.List.Elements.{All-nil, All-cons, All-head, All-tail, All-map, All-weaker}
@@ -101,16 +102,11 @@ found n (w ∷ vs) v h =
     ]
     in at (bytes_eq n w.name) refl h
 
-both_true : (a b : Bool) → (a && b) ≡ true → (a ≡ true) × (b ≡ true)
-both_true true true h = (refl, refl)
-both_true true false h = cc
-both_true false b h = cc
-
 has_declaration : (vs : List Var) (u : Var) (o : Option Var) → variable_named u.name vs ≡ o → is_declared_above o u.span ≡ true → HasDeclaration vs (resolved_var (declaration_in vs) u)
 has_declaration vs u None e h = cc
 has_declaration vs u (Some v) e h =
     let at = found u.name vs v e
-    in let tests = both_true (is_some v.decl) (is_before v.span u.span) h
+    in let tests = and_parts (is_some v.decl) (is_before v.span u.span) h
     in let same : declaration_of (variable_named u.name vs) ≡ v.decl = ap declaration_of e
     in record {
       variable = v;
