@@ -2,24 +2,12 @@
 use Rattle.std.proofs.Common.{◌≡◌, ◌⊎◌, inl, inr, if◌then◌else◌, ℕ, zero, suc, ◌≤◌, List, [], ◌∷◌, ◌++◌, length, Bool, true, false, ◌&&◌, ◌||◌, ◌==◌, Ok, Err, Option, Some, refl, sym, ap, ap₂, ◌∙◌, arith, append_assoc, length-append, nat_lt}
 use Rattle.std.proofs.lemmas.Slice.Eq.{bytes_eq-Decides}
 use Rattle.jz_lex.specs.declared.token.Token.{Token}
+pub use Rattle.jz_lex.proofs.LexingWords.{by_cases, true_false, if_true, if_false}
 use Rattle.jz_grammar.specs.Causes.{Cause, Unexpected, TooDeep}
 use Rattle.jz_grammar.specs.Kinds.{Kind, identifier, word, number, sign, end, kind_of, same, member, disjoint, is_in, has}
 use Rattle.jz_grammar.specs.Reading.{Answer, ◌>>=◌, through}
 use Rattle.jz_grammar.specs.Grammar.{Marked, plain, Within}
 use Rattle.jz_grammar.specs.Laws.{head_of, outcome, Next, plus}
-
-pub by_cases : (P : Type 0) (b : Bool) → (b ≡ true → P) → (b ≡ false → P) → P
-by_cases P true f g = f refl
-by_cases P false f g = g refl
-
-pub true_false : (b : Bool) (P : Type 0) → b ≡ true → b ≡ false → P
-true_false b P h k = cc
-
-pub if_true : {A : Type 0} (b : Bool) (x y : A) → b ≡ true → (if b then x else y) ≡ x
-if_true b x y h = rw h refl
-
-pub if_false : {A : Type 0} (b : Bool) (x y : A) → b ≡ false → (if b then x else y) ≡ y
-if_false b x y h = rw h refl
 
 pub same_is : (a b : Kind) → same a b ≡ true → a ≡ b
 same_is identifier identifier h = refl
