@@ -4,6 +4,7 @@ use Rattle.std.proofs.lemmas.Slice.Eq.{bytes_eq-Decides}
 use Rattle.std.proofs.lemmas.Bool.{le-ltb}
 use Rattle.jz_lex.proofs.LexingWords.{by_cases, if_false, true_false}
 use Rattle.jz_lex.specs.declared.token.Token.{Token}
+pub use Rattle.jz_lex.proofs.LexingWords.{by_cases, true_false, if_true, if_false}
 use Rattle.jz_grammar.specs.Causes.{Cause, Unexpected, TooDeep}
 use Rattle.jz_grammar.specs.Kinds.{Kind, identifier, word, number, sign, end, kind_of, same, member, disjoint, is_in, has}
 use Rattle.jz_grammar.specs.Reading.{Answer, ◌>>=◌, through}

@@ -19,7 +19,7 @@ use Rattle.jz_tree.specs.declared.Program.{Program}
 use Rattle.jz_parse.specs.declared.fault.SyntaxFault.{SyntaxFault}
 use Rattle.jz_parse.specs.Places.{span_at, span_or_start, IsFaultAt}
 use Rattle.jz_parse.specs.Gave.{numbered}
-use Rattle.jz_parse.specs.Deriving.{DerivesProgram, BeginsProgram, IsRefused, IsUnexpected}
+use Rattle.jz_parse.specs.Deriving.{DerivesProgram, BeginsProgram, IsStoppedAt, IsUnexpected}
 use Rattle.jz_parse.specs.Grammar as g
 use Rattle.jz_parse.specs.Readers as r
 use Rattle.jz_parse.proofs.Program.{program_shape, program_law, kinds, all_kinds, steady_function, steady_program}
@@ -95,11 +95,11 @@ more_begins front more b = (more ++ b.0, b.1, subst (λ z. DerivesProgram z b.1)
 pub no_fault_law : (ts : List Token) (p : Program) (f : SyntaxFault) → DerivesProgram ts p → IsUnexpected ts f → ⊥
 no_fault_law ts p f d u = none u.0 u.1 u.2 u.5
   where
-    none : (front rest : List Token) → ts ≡ front ++ rest → IsRefused front rest f.span → ⊥
+    none : (front rest : List Token) → ts ≡ front ++ rest → IsStoppedAt front rest f.span → ⊥
     none front [] s w = w.0 p (subst (λ z. DerivesProgram z p) (s ∙ append-nil front) d)
     none front (t ∷ rest) s w = w.0 (rest, p, subst (λ z. DerivesProgram z p) (s ∙ sym (append_assoc front (t ∷ []) rest)) d)
 
-same_span : (front rest : List Token) (a b : Span) → IsRefused front rest a → IsRefused front rest b → a ≡ b
+same_span : (front rest : List Token) (a b : Span) → IsStoppedAt front rest a → IsStoppedAt front rest b → a ≡ b
 same_span front [] a b u v = u.1 ∙ sym v.1
 same_span front (t ∷ rest) a b u v = u.1 ∙ sym v.1
 
@@ -111,9 +111,9 @@ one_of_two : (ts : List Token) (f h : SyntaxFault) (u : IsUnexpected ts f) (v : 
 one_of_two ts f h u v [] a b =
     let fronts : v.0 ≡ u.0 = a ∙ append-nil u.0 in
     fault_same f h (u.6 ∙ sym v.6) (sym u.3 ∙ ap length (sym fronts) ∙ v.3)
-    (same_span v.0 v.1 f.span h.span (subst (λ z. IsRefused z v.1 f.span) (sym fronts) (subst (λ z. IsRefused u.0 z f.span) b u.5)) v.5)
+    (same_span v.0 v.1 f.span h.span (subst (λ z. IsStoppedAt z v.1 f.span) (sym fronts) (subst (λ z. IsStoppedAt u.0 z f.span) b u.5)) v.5)
 one_of_two ts f h u v (t ∷ m) a b =
-    let w = subst (λ z. IsRefused u.0 z f.span) b u.5 in
+    let w = subst (λ z. IsStoppedAt u.0 z f.span) b u.5 in
     absurd (w.0 (more_begins (u.0 ++ t ∷ []) m (subst (λ z. BeginsProgram z) (a ∙ sym (append_assoc u.0 (t ∷ []) m)) v.4)))
 
 pub one_fault_law : (ts : List Token) (f h : SyntaxFault) → IsUnexpected ts f → IsUnexpected ts h → f ≡ h
@@ -148,7 +148,7 @@ at_a_token_law front last f h u = at u.0 u.1 u.2 u.3 u.4 u.5
     begun [] p d n = n (subst (λ z. DerivesProgram z p) (append-nil (front ++ last ∷ [])) d)
     begun (t ∷ more) p d n = no_further front more last t p h (subst (λ z. DerivesProgram z p) (append_assoc front (last ∷ []) (t ∷ more)) d)
 
-    at : (pre rest : List Token) → front ++ last ∷ [] ≡ pre ++ rest → length pre ≡ f.token → BeginsProgram pre → IsRefused pre rest f.span → f.token < length (front ++ last ∷ [])
+    at : (pre rest : List Token) → front ++ last ∷ [] ≡ pre ++ rest → length pre ≡ f.token → BeginsProgram pre → IsStoppedAt pre rest f.span → f.token < length (front ++ last ∷ [])
     at pre [] s n b w =
         let same : pre ≡ front ++ last ∷ [] = sym (append-nil pre) ∙ sym s in
         absurd (begun b.0 b.1 (subst (λ z. DerivesProgram (z ++ b.0) b.1) same b.2) (λ d. w.0 b.1 (subst (λ z. DerivesProgram z b.1) (sym same) d)))

@@ -18,12 +18,12 @@ abbrev pub BeginsProgram : List Token → Type 0
 BeginsProgram front = (more : List Token) × (p : Program) × DerivesProgram (front ++ more) p
 
 -- no program goes on with what comes after: another token, or no more of them
-abbrev pub IsRefused : List Token → List Token → Span → Type 0
-IsRefused front [] span = ((p : Program) → DerivesProgram front p → ⊥) × (span ≡ span_at front (length front - 1))
-IsRefused front (t ∷ rest) span = (BeginsProgram (front ++ t ∷ []) → ⊥) × (span ≡ t.span)
+abbrev pub IsStoppedAt : List Token → List Token → Span → Type 0
+IsStoppedAt front [] span = ((p : Program) → DerivesProgram front p → ⊥) × (span ≡ span_at front (length front - 1))
+IsStoppedAt front (t ∷ rest) span = (BeginsProgram (front ++ t ∷ []) → ⊥) × (span ≡ t.span)
 
 -- the fault is at the first token with which the tokens begin no program, and has its number and its span
 abbrev pub IsUnexpected : List Token → SyntaxFault → Type 0
 IsUnexpected ts fault =
     (front : List Token) × (rest : List Token) × (ts ≡ front ++ rest) × (length front ≡ fault.token)
-    × BeginsProgram front × IsRefused front rest fault.span × (fault.kind ≡ Unexpected)
+    × BeginsProgram front × IsStoppedAt front rest fault.span × (fault.kind ≡ Unexpected)

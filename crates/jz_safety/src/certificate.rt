@@ -31,6 +31,7 @@ impl Safe {
         Safe { expanded }
     }
 
+    /// The function.
     pub fn expanded(&self) -> &Expanded
         ensures value { result.now ≡ self.now }
         ensures no_alarm { HasNoAlarm self.now.fun }
@@ -38,6 +39,7 @@ impl Safe {
         &self.expanded
     }
 
+    /// The function, given back.
     pub fn into_expanded(self) -> Expanded
         ensures value { result ≡ self }
         ensures no_alarm { HasNoAlarm self.fun }

@@ -5,6 +5,7 @@ use jz_data::{Seq, Text};
 use jz_io::Span;
 use jz_words::Size;
 
+/// What a text says: its functions, in their order.
 #[derive(Debug, Drop, PartialEq, Eq)]
 pub struct Program {
     pub funs: Seq<Fun>,
@@ -24,26 +25,33 @@ pub struct Fun {
     pub result: Seq<Var>,
 }
 
+/// A parameter of a function, with its declaration.
 #[derive(Debug, Drop, PartialEq, Eq)]
 pub struct Param {
     pub var: Var,
 }
 
+/// A result that a function declares.
 #[derive(Debug, Drop, PartialEq, Eq)]
 pub struct Ret {
     pub decl: Decl,
 }
 
+/// Where a value is kept.
 #[derive(Clone, Copy, Debug, PartialEq, Eq)]
 pub enum Storage {
+    /// In a register.
     Reg,
 }
 
+/// What a value is.
 #[derive(Clone, Copy, Debug, PartialEq, Eq)]
 pub enum Ty {
+    /// A word of that size.
     Word(Size),
 }
 
+/// What is declared of a variable or a result.
 #[derive(Clone, Copy, Debug, PartialEq, Eq)]
 pub struct Decl {
     pub storage: Storage,
@@ -58,12 +66,15 @@ pub struct Var {
     pub span: Span,
 }
 
+/// An expression. The span of a number is that of its token.
 #[derive(Debug, Drop, PartialEq, Eq)]
 pub enum Expr {
+    /// The number that is written, before it is taken modulo 2 to the bits of a size.
     Num(i128, Span),
     Var(Var),
 }
 
+/// An operation on two words, modulo 2 to the bits of their size.
 #[derive(Clone, Copy, Debug, PartialEq, Eq)]
 pub enum BinOp {
     Xor,
@@ -71,11 +82,13 @@ pub enum BinOp {
     Sub,
 }
 
+/// What an assignment sets.
 #[derive(Debug, Drop, PartialEq, Eq)]
 pub enum Lval {
     Var(Var),
 }
 
+/// What an assignment sets it to.
 #[derive(Debug, Drop, PartialEq, Eq)]
 pub enum Rhs {
     Value(Expr),
