@@ -1,17 +1,12 @@
 -- The size of a frame.
-use Rattle.std.proofs.Common.{◌≡◌, ℕ, ◌+◌, ◌-◌, ◌*◌, ◌/◌, ◌%◌, ◌<◌, ◌≤◌, false, List, [], ◌∷◌, refl, sym, ap, ◌∙◌, arith, if◌then◌else◌, ◌==◌, Option, Some, None}
-use Rattle.std.specs.Prelude.{◌++◌, map}
+use Rattle.std.proofs.Common.{◌≡◌, ℕ, ◌+◌, ◌-◌, ◌*◌, ◌/◌, ◌%◌, ◌<◌, ◌≤◌, false, List, [], ◌∷◌, refl, ap, arith, if◌then◌else◌, ◌==◌}
+use Rattle.std.specs.Prelude.{map}
 use Rattle.std.proofs.lemmas.Bool.Decides.{nat_tests}
 use Rattle.jz_words.specs.Memory.{Memory}
 use Rattle.jz_words.specs.declared.size.Size.TheVariants.{S8, S16, S64}
 use Rattle.x64_insn.specs.declared.types.Reg.TheVariants as reg
-use Rattle.jz_tree.specs.declared.Storage.{Storage}
-use Rattle.jz_tree.specs.declared.Storage.TheVariants as storage
-use Rattle.jz_tree.specs.declared.Decl.{Decl}
-use Rattle.jz_tree.specs.declared.Var.{Var}
-use Rattle.jz_tree.specs.declared.Fun.{Fun}
 use Rattle.jz_listing.specs.declared.compiled.Compiled.{Compiled}
-use Rattle.jz_correct.specs.Frames.{StackVariable, Place, places_from, saved_slots, stacked_by, stacked_if, stacked_among, end_from, saved_of, frame_end, frame_size, frame_of, preserved_registers}
+use Rattle.jz_correct.specs.Frames.{StackVariable, Place, places_from, saved_slots, end_from, frame_end, frame_size, preserved_registers}
 use Rattle.jz_correct.specs.Starts.{IsStart}
 use Rattle.x64_machine.specs.Steps.{Config}
 

@@ -1,7 +1,7 @@
 -- Operations between registers and immediates of 64 bits, one after another: what they leave in the registers, and how they run.
-use Rattle.std.proofs.Common.{◌≡◌, ◌≢◌, ℕ, zero, suc, ◌+◌, ◌-◌, ◌%◌, ◌^◌, ◌<◌, ◌≤◌, Bool, true, false, List, [], ◌∷◌, ◌++◌, length, drop, refl, sym, ap, ◌∙◌, subst, arith, append_assoc, append-nil, length-append}
-use Rattle.std.specs.Prelude.{Option, Some, Ok, map, slice_index, slice_set, ◌&&◌}
-use Rattle.std.specs.List.{concat, AllByRecursion}
+use Rattle.std.proofs.Common.{◌≡◌, ℕ, zero, suc, ◌+◌, ◌%◌, ◌^◌, ◌<◌, ◌≤◌, true, false, List, [], ◌∷◌, ◌++◌, length, drop, refl, sym, ap, ◌∙◌, subst, arith, append_assoc, length-append}
+use Rattle.std.specs.Prelude.{Ok, slice_index, slice_set, ◌&&◌}
+use Rattle.std.specs.List.{AllByRecursion}
 use Rattle.std.specs.Option.{option_to_list}
 use Rattle.std.proofs.Math.Seq.{drop-append_seam}
 use Rattle.jz_words.specs.declared.size.Size.TheVariants.{S64}
@@ -18,7 +18,7 @@ use Rattle.x64_insn.specs.declared.types.State.{State}
 use Rattle.x64_insn.specs.declared.types.FlagVal.{FlagVal}
 use Rattle.x64_insn.specs.Answers.{sum_answer, difference_answer, xor_answer}
 use Rattle.x64_insn.specs.Table.{number_of}
-use Rattle.x64_insn.specs.Rows.{After, no_event, effect_of, alu_row, answer_row, mov_row}
+use Rattle.x64_insn.specs.Rows.{no_event, effect_of, alu_row, answer_row, mov_row}
 use Rattle.x64_insn.specs.Encoding.{Fields, spelling_of, Spells}
 use Rattle.x64_insn.specs.Chosen.{chosen_bytes, fits_bytes, has_rows, is_spelled}
 use Rattle.x64_insn.proofs.ChosenSpelling.{chosen_spells}

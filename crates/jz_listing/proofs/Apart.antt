@@ -1,6 +1,6 @@
 -- Texts that are told apart: what two of them, with something behind each, have in common.
 use Rattle.std.proofs.Common.{◌≡◌, ℕ, suc, ◌<◌, ◌^◌, Bool, true, false, List, [], ◌∷◌, ◌++◌, refl, sym, ap, ◌∙◌, append_assoc, arith, length, subst}
-use Rattle.std.specs.Prelude.{map, decimal, nat_lt, ◌&&◌, ℤ, pos, negsuc, All}
+use Rattle.std.specs.Prelude.{map, decimal, nat_lt, ℤ, pos, negsuc, All}
 use Rattle.std.specs.Fmt.{signed_decimal}
 use Rattle.std.specs.List.{concat, list_all}
 use Rattle.std.specs.Char.{digit_value}

@@ -1,5 +1,5 @@
 -- Listings are told apart.
-use Rattle.std.proofs.Common.{◌≡◌, ℕ, zero, suc, ◌+◌, ◌*◌, ◌/◌, ◌%◌, ◌<◌, ◌^◌, Bool, true, false, List, [], ◌∷◌, ◌++◌, refl, sym, ap, ◌∙◌, append_assoc, append-nil, arith, subst, lit<, Option, Some, None, Ok}
+use Rattle.std.proofs.Common.{◌≡◌, ℕ, zero, suc, ◌+◌, ◌*◌, ◌/◌, ◌%◌, ◌<◌, ◌^◌, Bool, true, false, List, [], ◌∷◌, ◌++◌, refl, sym, ap, ◌∙◌, append_assoc, append-nil, arith, lit<, Some, None}
 use Rattle.std.specs.Prelude.{map, codes, decimal, ◌==◌, if◌then◌else◌, not, slice_index, All}
 use Rattle.std.specs.List.{concat, list_all}
 use Rattle.std.proofs.lemmas.Bool.{and_parts, and_from}
@@ -21,8 +21,8 @@ use Rattle.jz_listing.specs.declared.compiled.Pre.{Pre}
 use Rattle.jz_listing.specs.declared.compiled.Pre.TheVariants as pre
 use Rattle.jz_listing.specs.declared.compiled.Compiled.{Compiled}
 use Rattle.jz_listing.specs.Transformers.{transformer_text}
-use Rattle.jz_listing.specs.Listing.{reg_text, size_text, arg_text, arg_line, ret_line, extent_text, pre_text, pre_line, saved_reg_text, saved_text, span_text, kind_text, ct_text, interface_text, frame_text, code_text, leakage_text, compiled_text, listing_text}
-use Rattle.jz_listing.specs.Listable.{is_name_byte, is_variable_byte, IsName, IsListableArg, IsListablePre, IsListableCt, IsListable, AreListable, transformer_fits}
+use Rattle.jz_listing.specs.Listing.{reg_text, size_text, arg_text, arg_line, ret_line, extent_text, pre_line, saved_reg_text, saved_text, span_text, kind_text, ct_text, interface_text, frame_text, code_text, leakage_text, compiled_text, listing_text}
+use Rattle.jz_listing.specs.Listable.{is_name_byte, is_variable_byte, IsName, IsListableArg, IsListablePre, IsListableCt, IsListable, AreListable}
 use Rattle.jz_listing.proofs.Apart.{first, rest, without_front, spans, decimal_apart, lines_apart}
 use Rattle.jz_listing.proofs.TransformersApart.{transformer_apart}
 

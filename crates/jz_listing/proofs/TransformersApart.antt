@@ -1,6 +1,6 @@
 -- Texts of transformers are told apart.
-use Rattle.std.proofs.Common.{◌≡◌, ℕ, ◌<◌, ◌^◌, Bool, true, false, List, [], ◌∷◌, ◌++◌, refl, sym, ap, ◌∙◌, append_assoc, arith, subst}
-use Rattle.std.specs.Prelude.{map, decimal, ◌&&◌, ◌||◌, ◌==◌, if◌then◌else◌}
+use Rattle.std.proofs.Common.{◌≡◌, ℕ, ◌^◌, Bool, true, false, List, [], ◌∷◌, ◌++◌, refl, sym, ap, ◌∙◌, append_assoc, arith, subst}
+use Rattle.std.specs.Prelude.{map, decimal, ◌||◌, ◌==◌, if◌then◌else◌}
 use Rattle.std.specs.Fmt.{signed_decimal}
 use Rattle.std.specs.List.{list_all}
 use Rattle.std.proofs.lemmas.Bool.{and_parts, or_parts, ltb-true}
@@ -11,12 +11,12 @@ use Rattle.jz_leak.specs.declared.transformer.Out.{Out}
 use Rattle.jz_leak.specs.declared.transformer.Out.TheVariants as out
 use Rattle.jz_leak.specs.declared.transformer.Tr.{Tr}
 use Rattle.jz_leak.specs.declared.transformer.Case.{Case}
-use Rattle.jz_leak.specs.declared.transformer.Case.TheOpen.{Case-F, Tr-F}
+use Rattle.jz_leak.specs.declared.transformer.Case.TheOpen.{Case-F}
 use Rattle.jz_leak.specs.declared.transformer.Case.TheViews.{roll-Case, out-Case, roll-out-Case, roll-Tr}
-use Rattle.jz_leak.specs.declared.transformer.Case.TheFolds.{fold-roll-Case, fold-roll-Tr, ind-Tr, map-Case, map-Tr}
+use Rattle.jz_leak.specs.declared.transformer.Case.TheFolds.{fold-roll-Case, fold-roll-Tr, ind-Tr, map-Case}
 use Rattle.jz_leak.specs.declared.transformer.Transformer.{Transformer}
-use Rattle.jz_listing.specs.Transformers.{spaced, form_text, out_text, outs_text, spaced_outs_text, arm_text, case_layer_text, tr_layer_text, case_text, tr_text, transformer_text}
-use Rattle.jz_listing.specs.Listable.{number_fits, offset_fits, form_fits, out_fits, parts_fit, outs_fit, case_layer_fits, tr_layer_fits, case_fits, tr_fits, transformer_fits}
+use Rattle.jz_listing.specs.Transformers.{spaced, form_text, out_text, outs_text, case_layer_text, tr_layer_text, case_text, tr_text, transformer_text}
+use Rattle.jz_listing.specs.Listable.{form_fits, out_fits, parts_fit, outs_fit, case_layer_fits, tr_layer_fits, case_fits, tr_fits, transformer_fits}
 use Rattle.jz_listing.proofs.Apart.{first, rest, is_digit, decimal_apart, signed_apart, spaced_apart, digit_first}
 
 -- ---- forms

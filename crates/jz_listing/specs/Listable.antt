@@ -1,6 +1,6 @@
 -- The lists of functions whose listings tell them apart. What is asked is that names have the bytes of names and that a region without
 -- a variable has no factor; that numbers have the sizes of their types is said because it isn't seen in a list.
-use Rattle.std.specs.Prelude.{◌≡◌, ◌<◌, ◌^◌, ℕ, Bool, true, false, ◌&&◌, ◌||◌, ◌==◌, nat_lt, nat_le, ℤ, pos, negsuc, List, Option, Some, None, All, ⊤}
+use Rattle.std.specs.Prelude.{◌≡◌, ◌<◌, ◌^◌, ℕ, Bool, true, ◌&&◌, ◌||◌, ◌==◌, nat_lt, nat_le, ℤ, pos, negsuc, List, Some, None, All, ⊤}
 use Rattle.std.specs.List.{AllPass, list_all}
 use Rattle.jz_io.specs.declared.verdict.Ct.{Ct}
 use Rattle.jz_io.specs.declared.verdict.Ct.TheVariants as ct

@@ -1,4 +1,4 @@
-use Rattle.std.proofs.Common.{arith, ap, length, ◌∙◌, ◌++◌, sym}
+use Rattle.std.proofs.Common.{arith, ap, length, ◌∙◌, ◌++◌}
 use Rattle.jz_listing.specs.Transformers.{case_text, tr_text}
 use Rattle.jz_listing.proofs.Spaces.{next_piece}
 use Rattle.jz_listing.proofs.transformers.+write.Goals as goal
