@@ -165,7 +165,7 @@ fn write_result(
     text.extend_from_slice(b"result ")?;
     text.extend_from_slice(result_in.name.as_str().as_bytes())?;
     text.extend_from_slice(b" ")?;
-    let value = state.regs[result_in.reg as usize];
+    let value = state.reg(result_in.reg);
     write_word(alloc, text, result_in.size, value)?;
     text.extend_from_slice(b"\n")
 }
