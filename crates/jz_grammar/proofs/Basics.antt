@@ -1,5 +1,5 @@
 -- Lists of tokens and kinds.
-use Rattle.std.proofs.Common.{◌≡◌, ◌⊎◌, inl, inr, if◌then◌else◌, ℕ, zero, suc, ◌≤◌, List, [], ◌∷◌, ◌++◌, length, Bool, true, false, ◌&&◌, ◌||◌, ◌==◌, Ok, Err, Option, Some, refl, sym, ap, ap₂, ◌∙◌, arith, append_assoc, length-append, nat_lt}
+use Rattle.std.proofs.Common.{◌≡◌, ◌⊎◌, inl, inr, ℕ, zero, suc, ◌≤◌, List, [], ◌∷◌, ◌++◌, length, Bool, true, false, ◌&&◌, ◌||◌, Ok, Err, Option, Some, refl, sym, ap, ap₂, ◌∙◌, arith, append_assoc, length-append, nat_lt}
 use Rattle.std.proofs.lemmas.Slice.Eq.{bytes_eq-Decides}
 use Rattle.std.proofs.lemmas.Bool.{le-ltb}
 use Rattle.jz_lex.proofs.LexingWords.{by_cases, if_false, true_false}

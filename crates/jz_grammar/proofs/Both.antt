@@ -1,5 +1,5 @@
 -- Two forms that begin with one kind of token, told apart by the token after it.
-use Rattle.std.proofs.Common.{◌≡◌, inl, inr, ⊎_elim, ℕ, List, [], ◌∷◌, ◌++◌, length, Bool, true, false, ◌&&◌, Ok, Err, Option, Some, refl, sym, ap, ◌∙◌, subst, arith, length-append, nat_lt}
+use Rattle.std.proofs.Common.{◌≡◌, inl, inr, ⊎_elim, ℕ, List, [], ◌∷◌, ◌++◌, length, true, false, ◌&&◌, Ok, Err, Option, Some, refl, sym, ap, ◌∙◌, subst, arith, length-append, nat_lt}
 use Rattle.std.proofs.lemmas.Bool.{and_parts}
 use Rattle.jz_lex.proofs.LexingWords.{by_cases, if_false, if_true, true_false}
 use Rattle.jz_lex.specs.declared.token.Token.{Token}
@@ -8,7 +8,7 @@ use Rattle.jz_grammar.specs.Kinds.{Kind, disjoint, is_in, has}
 use Rattle.jz_grammar.specs.Reading.{Answer, Reader, ◌>>=◌, through, one, follow, has_both, pick_both}
 use Rattle.jz_grammar.specs.Grammar.{Marked, Lang, plain, token, ◌▸◌, ◌⊕◌, ◌⇒◌}
 use Rattle.jz_grammar.specs.Laws.{Shape, head_of, First, outcome, Found, Stopped, IsReader, plus, HasPhrase, full, Second}
-use Rattle.jz_grammar.proofs.Basics.{in_left, in_right, has_append, in_apart, has_same, head_append, outcome_within, disjoint_nil, cancel, plain_length, bind_err, ok_same, err_same, ok_err, err_ok, through_err}
+use Rattle.jz_grammar.proofs.Basics.{in_left, in_right, has_append, in_apart, has_same, head_append, outcome_within, disjoint_nil, cancel, plain_length, bind_err, ok_same, ok_err, err_ok, through_err}
 use Rattle.jz_grammar.proofs.Combine.{one_is, one_reads, follow_reads, map_reads, not_empty, shorter}
 
 -- a word of two tokens and more is read as far as the word of its first, if the next does not go on with that

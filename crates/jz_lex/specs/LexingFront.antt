@@ -1,5 +1,5 @@
 -- What stands at the front of a text, and how it is found.
-use Rattle.std.specs.Prelude.{◌≡◌, ℕ, ℤ, pos, ◌+◌, ◌^◌, List, [], ◌∷◌, ◌++◌, true, false, nat_lt, if◌then◌else◌, Option, Some, None, length, take, drop, find}
+use Rattle.std.specs.Prelude.{◌≡◌, ℕ, ℤ, pos, ◌+◌, ◌^◌, List, ◌∷◌, ◌++◌, true, false, nat_lt, if◌then◌else◌, Option, Some, None, length, take, drop, find}
 use Rattle.std.specs.List.{take_while}
 use Rattle.jz_lex.specs.LexingWords.{begins, is_word, is_numeral, is_hexadecimal, in_decimal, in_hexadecimal, value_of}
 use Rattle.jz_lex.specs.Lexing.{is_blank, Longest, is_no_number, HasNone}

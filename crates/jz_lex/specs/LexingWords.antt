@@ -1,5 +1,5 @@
 -- Lexemes: the words, numerals and signs of the language, and which token each one is.
-use Rattle.std.specs.Prelude.{ℕ, List, [], ◌∷◌, Bool, true, false, ◌&&◌, ◌||◌, ◌==◌, nat_lt, if◌then◌else◌, drop, map, codes, pos, bytes_eq}
+use Rattle.std.specs.Prelude.{ℕ, List, [], ◌∷◌, Bool, false, ◌&&◌, ◌||◌, ◌==◌, nat_lt, if◌then◌else◌, drop, map, codes, pos, bytes_eq}
 use Rattle.std.specs.List.{list_all, list_any, filter, starts_with}
 use Rattle.std.specs.Char.{is_ascii_alphabetic, is_ascii_digit, is_ascii_hexdigit, digit_value}
 use Rattle.std.specs.Int.Digits.{number_from_digits}

@@ -1,6 +1,5 @@
 -- The first variable without a declaration above, as a walk finds it.
-use Rattle.std.proofs.Common.{◌≡◌, ℕ, Bool, true, false, not, List, [], ◌∷◌, ◌++◌, Option, Some, None, refl, sym, ap, ◌∙◌, map, filter}
-use Rattle.std.specs.Prelude.{if◌then◌else◌}
+use Rattle.std.proofs.Common.{◌≡◌, Bool, not, List, [], ◌∷◌, ◌++◌, Option, Some, None, refl, sym, ap, ◌∙◌, map, filter}
 use Rattle.std.specs.Option.{option_map}
 use Rattle.std.specs.List.{flat_map}
 use Rattle.std.proofs.lemmas.List.{map-append}
@@ -17,12 +16,11 @@ use Rattle.jz_types.specs.declared.fault.TypeFault.{TypeFault}
 use Rattle.jz_types.specs.declared.scope.Scope.{Scope}
 use Rattle.jz_types.specs.Faults.{earlier, first_of}
 use Rattle.jz_types.specs.Joining.{first_in}
-use Rattle.jz_types.specs.Resolving.{declaration_in}
 use Rattle.jz_types.specs.Rules.{fault_at, is_known, unknown_in, repeated, repeated_in, name_of_fun, miscounted, misshapen, faults_of}
-use Rattle.jz_types.specs.Scopes.{IsScope, declared_of, stands_above, decl_of, decls_of, has_above, unknown_by}
+use Rattle.jz_types.specs.Scopes.{IsScope, declared_of, stands_above, has_above, unknown_by}
 use Rattle.jz_types.specs.Uses.{left_side_uses, right_side_uses, kind_uses, body_uses, uses_of}
 use Rattle.jz_tree.specs.Variables.{variables_of}
-use Rattle.jz_types.specs.Variables.{variable_named, is_declared_above, declaration_of}
+use Rattle.jz_types.specs.Variables.{variable_named, is_declared_above}
 use Rattle.jz_types.proofs.Earliest.{first_of-append, earlier-assoc}
 
 -- the first of several lists is that of all of them
