@@ -1,6 +1,6 @@
 -- Code is bytes.
-use Rattle.std.proofs.Common.{◌≡◌, ℕ, zero, suc, ◌+◌, ◌*◌, ◌/◌, ◌%◌, ◌^◌, ◌<◌, ◌≤◌, Bool, true, false, List, [], ◌∷◌, ◌++◌, refl, arith, lit<}
-use Rattle.std.specs.Prelude.{ℤ, Option, Some, None, if◌then◌else◌, All}
+use Rattle.std.proofs.Common.{ℕ, zero, suc, ◌/◌, ◌^◌, ◌<◌, Bool, true, false, List, [], ◌∷◌, ◌++◌, arith, lit<}
+use Rattle.std.specs.Prelude.{ℤ, Some, None, if◌then◌else◌, All}
 use Rattle.std.specs.List.{AllByRecursion}
 use Rattle.std.proofs.lemmas.List.Elements.{All-from_recursion}
 use Rattle.jz_words.specs.declared.size.Size.TheVariants.{S64}
@@ -13,7 +13,6 @@ use Rattle.x64_insn.specs.declared.types.Operand.TheVariants as operand
 use Rattle.x64_insn.specs.Encoding.{spelling_of}
 use Rattle.jz_words.specs.Words.{modulo}
 use Rattle.x64_insn.specs.Chosen.{bytes_of_number, signed_bytes, fits_bytes, alu_number, register_immediate, register_in_opcode, chosen_bytes}
-use Rattle.x64_insn.specs.Table.{number_of}
 use Rattle.x64_insn.proofs.Registers.{number_small}
 use Rattle.jz_tree.specs.declared.Fun.{Fun}
 use Rattle.jz_tree.specs.declared.Expr.TheVariants as expr

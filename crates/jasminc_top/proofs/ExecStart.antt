@@ -1,27 +1,22 @@
 -- The start of a run on items, and its end.
-use Rattle.std.proofs.Common.{◌≡◌, ℕ, zero, suc, ◌^◌, ◌<◌, ◌≤◌, Bool, true, false, List, [], ◌∷◌, length, get_or, refl, sym, ap, ◌∙◌, arith, subst, lit<, Some}
-use Rattle.std.specs.Prelude.{◌&&◌, not, ◌==◌, map, slice_index, slice_set, replicate}
-use Rattle.std.specs.List.{concat, list_all}
+use Rattle.std.proofs.Common.{◌≡◌, ℕ, zero, suc, ◌^◌, ◌<◌, ◌≤◌, Bool, true, List, [], ◌∷◌, length, get_or, refl, sym, ap, ◌∙◌, arith, subst, lit<, Some}
+use Rattle.std.specs.Prelude.{not, ◌==◌, slice_index, slice_set, replicate}
+use Rattle.std.specs.List.{list_all}
 use Rattle.std.specs.FinMap as map_of
 use Rattle.std.proofs.lemmas.Bool.{and_parts}
 use Rattle.std.proofs.lemmas.Bool.Decides.{nat_tests}
 use Rattle.std.proofs.lemmas.List.{get_or-set_other, length-set}
 use Rattle.jz_words.specs.Memory.{Memory, loaded}
 use Rattle.x64_insn.specs.declared.types.Reg.{Reg}
-use Rattle.x64_insn.specs.declared.types.Reg.TheVariants as reg
 use Rattle.x64_insn.specs.Table.{number_of}
-use Rattle.x64_insn.specs.Rows.{reg_value}
-use Rattle.jz_correct.specs.Registers.{argument_registers}
-use Rattle.jasminc_top.specs.Running.{code_base, return_slot, with_numbers, bare_registers, start_state, IsStartMemory, exec_start, Finishes, EndsWithin, RunsTo, run_text}
+use Rattle.jasminc_top.specs.Running.{code_base, return_slot, with_numbers, bare_registers, IsStartMemory, exec_start, Finishes, EndsWithin, RunsTo, run_text}
 use Rattle.jz_correct.specs.Agreement.{NeverFaults}
 use Rattle.jz_correct.specs.Ends.{EndsAfter}
 use Rattle.jz_leak.specs.declared.event.Event.{Event}
 use Rattle.jz_listing.specs.declared.compiled.Compiled.{Compiled}
 use Rattle.x64_insn.specs.declared.types.FaultKind.{FaultKind}
 use Rattle.jasminc_top.specs.declared.exec.Finish.TheVariants as finish
-use Rattle.x64_machine.specs.declared.step.Step.TheVariants.{Fault}
-use Rattle.x64_machine.specs.Steps.{Config, step_of, steps_of}
-use Rattle.x64_machine.proofs.MachineRunning.{none_made}
+use Rattle.x64_machine.specs.Steps.{Config, steps_of}
 
 -- ---- the registers at the start
 pub placed-length : (ns : List ℕ) (rs : List Reg) (regs : List ℕ) → length (with_numbers ns rs regs) ≡ length regs

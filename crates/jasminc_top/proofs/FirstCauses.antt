@@ -1,7 +1,7 @@
 -- Which cause is the first, and when none stands.
 use Rattle.std.proofs.Common.{◌≡◌, ℕ, ◌<◌, ◌≤◌, List, [], ◌∷◌, ◌++◌, length, ◌∙◌, arith, Some, None, subst, ap, refl}
 use Rattle.std.specs.Prelude.{All}
-use Rattle.std.proofs.lemmas.List.Elements.{All-nil, All-cons, All-weaker, All-contains, Contains-append_right, Contains-append_left}
+use Rattle.std.proofs.lemmas.List.Elements.{All-contains, Contains-append_right, Contains-append_left}
 use Rattle.jz_tree.specs.declared.Program.{Program}
 use Rattle.jz_tree.specs.declared.Fun.{Fun}
 use Rattle.jz_parse.specs.declared.fault.SyntaxFault.{SyntaxFault}
@@ -11,11 +11,8 @@ use Rattle.jz_listing.specs.Listing.{listing_text}
 use Rattle.jz_parse.specs.Reading.{ParseFails}
 use Rattle.jz_pass.specs.Limits.{IsWithinLimits, IsFirstLimit}
 use Rattle.jz_safety.specs.Alarms.{HasNoAlarm, IsFirstAlarm}
-use Rattle.jz_pipeline.specs.Placed.{IsUnplaced, AreCompiled}
+use Rattle.jz_pipeline.specs.Placed.{IsUnplaced}
 use Rattle.jz_pipeline.specs.Stages.{HasNone, IsFirstRefusal}
-use Rattle.jz_pass.proofs.LimitLemmas.{none_within}
-use Rattle.jz_safety.proofs.Alarming as alarming
-use Rattle.jz_pipeline.proofs.Linked.{not_both}
 use Rattle.jz_pipeline.proofs.Refusals.{within_pass_none, safe_have_none, compiled_have_places}
 use Rattle.jasminc_top.specs.declared.refusal.Refusal.{Refusal}
 use Rattle.jasminc_top.specs.declared.refusal.Refusal.TheVariants.{Lex, Parse, Typing, NoFunction, Limit, Alarm, NoPlace, Items}

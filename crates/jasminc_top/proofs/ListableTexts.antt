@@ -1,17 +1,15 @@
 -- What is made of a text can be listed, and its listing tells it.
-use Rattle.std.proofs.Common.{◌≡◌, ℕ, ◌+◌, ◌<◌, ◌≤◌, ◌^◌, Bool, true, List, [], ◌∷◌, ◌++◌, length, refl, sym, ap, ◌∙◌, subst, arith, lit<, length-append}
+use Rattle.std.proofs.Common.{◌≡◌, ℕ, ◌+◌, ◌<◌, ◌≤◌, ◌^◌, Bool, true, List, [], ◌∷◌, length, refl, sym, ap, ◌∙◌, subst, arith, lit<, length-append}
 use Rattle.std.specs.Prelude.{All, map, ◌&&◌}
 use Rattle.std.proofs.lemmas.List.Elements.{All-nil, All-cons, All-head, All-tail, All-map, All-weaker}
 use Rattle.jz_words.specs.declared.size.Size.TheVariants.{S64}
 use Rattle.x64_insn.specs.declared.types.Reg.{Reg}
 use Rattle.x64_insn.specs.declared.types.Insn.TheVariants as insn
-use Rattle.jz_lex.specs.declared.token.Token.{Token}
 use Rattle.jz_lex.specs.LexingWords.{in_word}
 use Rattle.jz_lex.specs.Identifiers.{IsIdentifier}
 use Rattle.jz_lex.proofs.Identifiers.{identifier_bytes, byte_code}
 use Rattle.jz_tree.specs.declared.Program.{Program}
 use Rattle.jz_tree.specs.declared.Fun.{Fun}
-use Rattle.jz_tree.specs.declared.Param.{Param}
 use Rattle.jz_tree.specs.declared.Var.{Var}
 use Rattle.jz_tree.specs.declared.Stmt.{Stmt}
 use Rattle.jz_tree.specs.Variables.{variables_of}
@@ -22,11 +20,9 @@ use Rattle.jz_types.specs.Resolving.{resolved, resolved_fun, resolved_var, decla
 use Rattle.jz_pass.specs.Limits.{IsWithinLimits}
 use Rattle.jz_safety.specs.Alarms.{HasNoAlarm}
 use Rattle.jz_leak.specs.declared.transformer.Case.TheVariants as case
-use Rattle.jz_leak.specs.declared.transformer.Case.TheOpen.{Case-F, Tr-F}
+use Rattle.jz_leak.specs.declared.transformer.Case.TheOpen.{Case-F}
 use Rattle.jz_leak.specs.declared.transformer.Case.TheFolds.{fold-roll-Case, fold-roll-Tr}
-use Rattle.jz_leak.specs.declared.transformer.Tr.{Tr}
 use Rattle.jz_listing.specs.declared.compiled.Compiled.{Compiled}
-use Rattle.jz_listing.specs.declared.compiled.Arg.{Arg}
 use Rattle.jz_listing.specs.Listing.{listing_text}
 use Rattle.jz_listing.specs.Listable.{is_name_byte, IsName, IsListableArg, IsListablePre, IsListable, AreListable, case_fits, tr_fits, case_layer_fits, tr_layer_fits, parts_fit, transformer_fits, outs_fit}
 use Rattle.jz_listing.proofs.LinesApart.{listings_apart}

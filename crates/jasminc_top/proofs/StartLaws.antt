@@ -1,20 +1,18 @@
 -- The start of `exec` is a start, and the run from it ends.
-use Rattle.std.proofs.Common.{◌≡◌, ℕ, zero, suc, ◌+◌, ◌-◌, ◌*◌, ◌%◌, ◌^◌, ◌<◌, ◌≤◌, Bool, true, false, List, [], ◌∷◌, ◌++◌, length, refl, sym, ap, ◌∙◌, arith, subst, lit<, lit≤, ◌⊎◌, ⊎_elim, length-append}
+use Rattle.std.proofs.Common.{◌≡◌, ℕ, zero, suc, ◌+◌, ◌-◌, ◌*◌, ◌%◌, ◌^◌, ◌<◌, ◌≤◌, Bool, true, false, List, [], ◌∷◌, length, refl, sym, ap, ◌∙◌, arith, subst, lit<, ◌⊎◌, ⊎_elim, length-append}
 use Rattle.std.proofs.lemmas.Bool.{le-ltb}
-use Rattle.std.proofs.lemmas.List.{get_or-set_same, length-set, length-map}
+use Rattle.std.proofs.lemmas.List.{length-set, length-map}
 use Rattle.std.proofs.lemmas.List.Elements.{All-nil}
-use Rattle.std.specs.Prelude.{Option, Some, None, IsSome, is_some, slice_index, slice_set, slice_get, nat_lt, if◌then◌else◌, map, Contains, replicate, ⊤}
+use Rattle.std.specs.Prelude.{Option, Some, None, is_some, slice_index, slice_set, slice_get, nat_lt, if◌then◌else◌, map, replicate, ⊤}
 use Rattle.std.specs.FinMap as map_of
 use Rattle.std.specs.Ordering.{nat_cmp}
 use Rattle.std.specs.Option.{option_or}
 use Rattle.jz_leak.specs.MemoryMap.{byte_from}
-use Rattle.jz_words.specs.declared.size.Size.TheVariants.{S64}
 use Rattle.jz_words.specs.Memory.{Memory, loaded}
 use Rattle.x64_insn.specs.declared.types.Reg.{Reg}
 use Rattle.x64_insn.specs.declared.types.Reg.TheVariants as reg
 use Rattle.x64_insn.specs.declared.types.FlagVal.TheVariants.{Undefined}
 use Rattle.x64_insn.specs.declared.types.State.{State}
-use Rattle.x64_insn.specs.declared.types.Insn.{Insn}
 use Rattle.x64_insn.specs.declared.types.Insn.TheVariants as insn
 use Rattle.x64_insn.specs.Table.{number_of}
 use Rattle.x64_insn.specs.Rows.{reg_value}
@@ -24,15 +22,12 @@ use Rattle.jz_tree.specs.declared.Var.{Var}
 use Rattle.jz_tree.specs.declared.Stmt.{Stmt}
 use Rattle.jz_tree.specs.declared.StmtKind.{StmtKind}
 use Rattle.jz_tree.specs.declared.StmtKind.TheVariants as kind
-use Rattle.jz_meaning.specs.RunRules.{End}
 use Rattle.jz_meaning.specs.SourceRuns.{FunOutcome, IsInput, IsRun}
 use Rattle.jz_meaning.proofs.SourceLaws.{fun_some}
 use Rattle.jz_safety.specs.Alarms.{HasNoAlarm}
 use Rattle.jz_safety.specs.Resolved.{IsResolved}
 use Rattle.jz_safety.proofs.Telling.{safe_ends}
-use Rattle.x64_machine.specs.Steps.{Config, steps_of}
-use Rattle.jz_correct.specs.Registers.{argument_registers, result_registers}
-use Rattle.jz_correct.specs.Assembled.{assembled}
+use Rattle.jz_correct.specs.Registers.{argument_registers}
 use Rattle.jz_correct.specs.Starts.{IsIn, IsValid, IsMet, IsBelowEnd, AreOfSizes, MeetsPreconditions, IsStart, AreInRegisters, stack_at}
 use Rattle.jz_correct.specs.Correctness.{MatchesEnd, IsCorrect}
 use Rattle.jz_lower.specs.Lowering.{kind_insns, insns_of}
@@ -40,7 +35,7 @@ use Rattle.jz_lower.specs.Placing.{variable_of}
 use Rattle.x64_insn.proofs.Registers.{word_same}
 use Rattle.jz_pipeline.specs.Compiling.{lines_of, code_insns, compiled_of}
 use Rattle.jasminc_top.specs.Running.{code_base, return_slot, with_numbers, bare_registers, start_state, IsStartMemory, exec_start, EndsWithin}
-use Rattle.jasminc_top.proofs.ExecStart.{AreWords, is_far, placed-other, placed-length, placed-words, bare_words, slot_holds}
+use Rattle.jasminc_top.proofs.ExecStart.{AreWords, is_far, placed-other, placed-length, placed-words, bare_words}
 use Rattle.jasminc_top.specs.Running.{ItemsFit}
 use Rattle.jasminc_top.proofs.CodeLengths.{code_short}
 

@@ -14,14 +14,12 @@ use Rattle.jz_tree.specs.declared.Program.{Program}
 use Rattle.jz_tree.specs.declared.Fun.{Fun}
 use Rattle.jz_types.specs.declared.fault.TypeFault.{TypeFault}
 use Rattle.jz_types.specs.Rules.{IsFirstTypeFault}
-use Rattle.jz_pass.specs.declared.limit.Limit as pass
-use Rattle.jz_pass.specs.Limits.{IsWithinLimits, IsFirstLimit}
-use Rattle.jz_safety.specs.declared.alarm.Alarm as safety
-use Rattle.jz_safety.specs.Alarms.{HasNoAlarm, IsFirstAlarm}
+use Rattle.jz_pass.specs.Limits.{IsWithinLimits}
+use Rattle.jz_safety.specs.Alarms.{HasNoAlarm}
 use Rattle.jz_pipeline.specs.declared.unplaced.NoPlace as pipeline
 use Rattle.jz_pipeline.specs.Placed.{IsUnplaced}
 use Rattle.jz_pipeline.specs.Stages.{IsFirstRefusal}
-use Rattle.jasminc_top.specs.declared.refusal.Refusal.TheVariants.{Lex, Parse, Typing, Limit, Alarm, NoPlace}
+use Rattle.jasminc_top.specs.declared.refusal.Refusal.TheVariants.{Lex, Parse, Typing, NoPlace}
 use Rattle.jasminc_top.specs.Halting.{halt_by}
 use Rattle.jasminc_top.specs.Answers.{ReadingHalts, MakingHalts}
 use Rattle.jasminc_top.proofs.Causes.{has_no_token, fails_from}

@@ -11,8 +11,8 @@ use Rattle.jz_ir.specs.declared.code.Code.{Code}
 use Rattle.jz_ir.specs.declared.code.Kind.{Kind}
 use Rattle.jz_ir.specs.declared.code.Op.{Op}
 use Rattle.jz_ir.specs.Order.{number_of, has_place}
-use Rattle.jz_ir.specs.Paths.{among, IsLive, read_here, read_later}
-use Rattle.jz_ir.specs.Straight.{Next, next, LiveIn}
+use Rattle.jz_ir.specs.Paths.{among}
+use Rattle.jz_ir.specs.Straight.{LiveIn}
 use Rattle.jz_ir.specs.Places.{Below, IsWithin, op_at, no_op, kind_has, has_need, order_of, ConflictAt, Out, placed, First, all_placed, one_placed, one_left, Takes, Meets, Conflict, Taken, FirstFit, all_of, place_at, IsPlacing}
 use Rattle.jz_ir.proofs.Below.{among_below}
 use Rattle.jz_ir.proofs.Below as below

@@ -1,20 +1,15 @@
 -- Plain operations and a return: from its entry the run ends with the return and not before.
-use Rattle.std.proofs.Common.{◌≡◌, ◌≢◌, ℕ, zero, suc, ◌+◌, ◌-◌, ◌%◌, ◌^◌, ◌<◌, ◌≤◌, ◌⊎◌, ⊎_elim, Bool, true, false, List, [], ◌∷◌, ◌++◌, length, drop, refl, sym, ap, ◌∙◌, subst, arith, append_assoc, append-nil, length-append}
-use Rattle.std.specs.Prelude.{Option, Some, Ok, slice_index, slice_set, ◌&&◌, ◌==◌}
+use Rattle.std.proofs.Common.{◌≡◌, ℕ, suc, ◌+◌, ◌-◌, ◌%◌, ◌^◌, ◌<◌, ◌≤◌, ◌⊎◌, ⊎_elim, true, false, List, [], ◌∷◌, ◌++◌, length, refl, sym, ap, ◌∙◌, subst, arith, append_assoc, append-nil}
+use Rattle.std.specs.Prelude.{Some, Ok, slice_index, slice_set, ◌&&◌}
 use Rattle.std.proofs.lemmas.Bool.{eq-eqb}
-use Rattle.std.proofs.Math.Seq.{drop-append_seam}
 use Rattle.jz_words.specs.declared.size.Size.TheVariants.{S64}
-use Rattle.jz_words.specs.Memory.{Memory, loaded}
+use Rattle.jz_words.specs.Memory.{loaded}
 use Rattle.x64_insn.specs.declared.types.Reg.TheVariants as reg
 use Rattle.x64_insn.specs.declared.types.Insn.{Insn}
 use Rattle.x64_insn.specs.declared.types.Insn.TheVariants as insn
-use Rattle.x64_insn.specs.declared.types.State.{State}
-use Rattle.x64_insn.specs.declared.types.FaultKind.{FaultKind}
-use Rattle.x64_insn.specs.Table.{number_of}
 use Rattle.x64_insn.specs.Rows.{After, reg_value, with_reg, address_event, effect_of, ret_row}
 use Rattle.x64_insn.specs.Chosen.{chosen_bytes}
 use Rattle.x64_insn.proofs.ChosenSpelling.{chosen_spells}
-use Rattle.jz_leak.specs.declared.event.Event.{Event}
 use Rattle.jz_leak.specs.declared.event.Event.TheVariants as event
 use Rattle.x64_machine.specs.declared.step.Step.TheVariants.{Running, Ended, Fault}
 use Rattle.x64_machine.specs.Steps.{Config, Moved, Ran, at_entry, same_number, step_of, steps_of}

@@ -1,5 +1,5 @@
 -- Operations of the source and of instructions on words of 64 bits.
-use Rattle.std.proofs.Common.{◌≡◌, ℕ, ◌+◌, ◌-◌, ◌%◌, ◌^◌, ◌<◌, refl, ap, arith, pos, ◌-ℤ◌}
+use Rattle.std.proofs.Common.{◌≡◌, ℕ, ◌+◌, ◌%◌, ◌^◌, ◌<◌, refl, ap, arith, pos, ◌-ℤ◌}
 use Rattle.std.proofs.lemmas.Nat.{xor_lt}
 use Rattle.jz_words.specs.declared.size.Size.TheVariants.{S64}
 use Rattle.jz_words.proofs.Residues.{residue_small, difference_residue}

@@ -21,7 +21,6 @@ use Rattle.jz_tree.specs.declared.Rhs.{Rhs}
 use Rattle.jz_tree.specs.declared.Rhs.TheVariants as rhs
 use Rattle.jz_tree.specs.declared.Stmt.{Stmt}
 use Rattle.jz_tree.specs.declared.StmtKind.{StmtKind}
-use Rattle.jz_tree.specs.declared.StmtKind.TheVariants as kind
 use Rattle.jz_leak.specs.RunLeaks.{Leak}
 use Rattle.jz_meaning.specs.RunRules.{stuck, went, End, Stuck}
 use Rattle.jz_meaning.specs.SourceStates.{Value, word, integer, key_of, Store, empty_store, put, State, Why}
