@@ -1,36 +1,31 @@
 -- Statements and their instructions, side by side: where the registers have the words of the variables that live, they have them behind a statement.
-use Rattle.std.proofs.Common.{◌≡◌, ◌≢◌, ◌⊎◌, inl, inr, ⊎_elim, ℕ, ◌+◌, ◌%◌, ◌^◌, ◌<◌, Bool, true, false, List, [], ◌∷◌, ◌++◌, length, refl, sym, ap, ◌∙◌, subst, arith, nat_eq, ℤ}
-use Rattle.std.specs.Prelude.{Option, Some, None, if◌then◌else◌, slice_set}
+use Rattle.std.proofs.Common.{◌≡◌, ◌≢◌, inl, inr, ℕ, ◌^◌, ◌<◌, Bool, true, false, List, [], ◌∷◌, ◌++◌, length, refl, sym, ap, ◌∙◌, subst, nat_eq, ℤ}
+use Rattle.std.specs.Prelude.{Option, Some, None, slice_set}
 use Rattle.std.specs.Cmp.Lexicographic.{pointwise, same_text, other_text}
 use Rattle.std.proofs.lemmas.List.{length-set}
 use Rattle.jz_io.specs.declared.span.Span.{Span}
 use Rattle.jz_words.specs.declared.size.Size.TheVariants.{S64}
-use Rattle.jz_words.specs.Sizes.{signed}
 use Rattle.jz_words.specs.Words.{residue}
 use Rattle.x64_insn.specs.declared.types.Reg.{Reg}
 use Rattle.x64_insn.specs.Rows.{number_of}
-use Rattle.jz_tree.specs.declared.Decl.{Decl}
-use Rattle.jz_tree.specs.declared.Ty.{Ty}
-use Rattle.jz_tree.specs.declared.Ty.TheVariants.{Word}
 use Rattle.jz_tree.specs.declared.Var.{Var}
 use Rattle.jz_tree.specs.declared.Expr.{Expr}
 use Rattle.jz_tree.specs.declared.Expr.TheVariants as expr
 use Rattle.jz_tree.specs.declared.BinOp.{BinOp}
-use Rattle.jz_tree.specs.declared.Lval.{Lval}
 use Rattle.jz_tree.specs.declared.Lval.TheVariants as lval
 use Rattle.jz_tree.specs.declared.Rhs.{Rhs}
 use Rattle.jz_tree.specs.declared.Rhs.TheVariants as rhs
 use Rattle.jz_tree.specs.declared.Stmt.{Stmt}
 use Rattle.jz_tree.specs.declared.StmtKind.{StmtKind}
 use Rattle.jz_tree.specs.declared.StmtKind.TheVariants as kind
-use Rattle.jz_meaning.specs.RunRules.{Attempt, stuck, went}
+use Rattle.jz_meaning.specs.RunRules.{stuck, went}
 use Rattle.jz_meaning.specs.SourceStates.{Value, word, integer, key_of, Store, put, State}
 use Rattle.jz_meaning.specs.SourceValues.{Got, numbers_first, and_then, defined, variable_value, evaluated}
-use Rattle.jz_meaning.specs.SourceRuns.{of_type, as_declared, held, written, left_value, right_value, operation, combined, assigned_value, assigned}
+use Rattle.jz_meaning.specs.SourceRuns.{of_type, as_declared, held, written, operation, combined, assigned_value, assigned}
 use Rattle.jz_meaning.specs.StraightRuns.{run_statement, run_statements}
 use Rattle.jz_correct.proofs.PlainCode.{word_in, operand_in, result_of, regs_of, regs_after}
 use Rattle.jz_lower.specs.Lowering.{alu_of, operand_of, assignment_insn, kind_insns, insns_of}
-use Rattle.jz_lower.specs.Living.{IsNamed, ReadsIn, ReadsRight, IsLeft, ReadsAssigned, LivesThrough, LivesBefore, KeepsApart, KeepApart}
+use Rattle.jz_lower.specs.Living.{IsNamed, ReadsIn, ReadsAssigned, LivesThrough, LivesBefore, KeepsApart, KeepApart}
 use Rattle.jz_lower.specs.Straight.{IsWord, SetsWord, SetWords}
 use Rattle.jz_lower.proofs.WordLaws.{residue_small, signed_residue, same_operation, operation_small}
 use Rattle.jz_lower.proofs.Stores.{named, put_at, word_same, word_other, word_small}

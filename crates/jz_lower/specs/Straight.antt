@@ -1,5 +1,5 @@
 -- Functions over words of 64 bits whose statements each set one variable.
-use Rattle.std.specs.Prelude.{◌≡◌, ℕ, Bool, true, List, [], ◌∷◌, length, Option, Some, None}
+use Rattle.std.specs.Prelude.{◌≡◌, true, List, [], ◌∷◌, length, Option, Some, None}
 use Rattle.jz_words.specs.declared.size.Size.TheVariants.{S64}
 use Rattle.jz_words.specs.Sizes.{signed}
 use Rattle.jz_words.specs.Words.{residue}
@@ -10,7 +10,6 @@ use Rattle.jz_tree.specs.declared.Ret.{Ret}
 use Rattle.jz_tree.specs.declared.Decl.{Decl}
 use Rattle.jz_tree.specs.declared.Ty.TheVariants.{Word}
 use Rattle.jz_tree.specs.declared.Var.{Var}
-use Rattle.jz_tree.specs.declared.Expr.{Expr}
 use Rattle.jz_tree.specs.declared.Expr.TheVariants as expr
 use Rattle.jz_tree.specs.declared.BinOp.{BinOp}
 use Rattle.jz_tree.specs.declared.Lval.TheVariants as lval
