@@ -64,18 +64,6 @@ pub bare_words : AreWords bare_registers
 bare_words = set-words (replicate 16 0) 4 return_slot (λ i. let e = zeros 16 i in omega (arith, e)) (lit< tt)
 
 -- ---- the return slot
-pub slot_holds : (m : Memory) → IsStartMemory m → loaded m return_slot 8 ≡ Some 0
-unfolding loaded
-slot_holds m h =
-    let at_0 : map_of.get m 0x7fffffff0008 ≡ Some 0 = h.below 0x7fffffff0008 (lit< tt) in
-    let at_1 : map_of.get m 0x7fffffff0009 ≡ Some 0 = h.below 0x7fffffff0009 (lit< tt) in
-    let at_2 : map_of.get m 0x7fffffff000a ≡ Some 0 = h.below 0x7fffffff000a (lit< tt) in
-    let at_3 : map_of.get m 0x7fffffff000b ≡ Some 0 = h.below 0x7fffffff000b (lit< tt) in
-    let at_4 : map_of.get m 0x7fffffff000c ≡ Some 0 = h.below 0x7fffffff000c (lit< tt) in
-    let at_5 : map_of.get m 0x7fffffff000d ≡ Some 0 = h.below 0x7fffffff000d (lit< tt) in
-    let at_6 : map_of.get m 0x7fffffff000e ≡ Some 0 = h.below 0x7fffffff000e (lit< tt) in
-    let at_7 : map_of.get m 0x7fffffff000f ≡ Some 0 = h.below 0x7fffffff000f (lit< tt) in
-    rw (at_0, at_1, at_2, at_3, at_4, at_5, at_6, at_7) refl
 
 -- ---- how a run ends that ends within the limit
 module _ (c : Compiled) (items : List ℕ) (m : Memory) where
