@@ -77,7 +77,7 @@ fn first_in(variables: &Seq<u32>, row: &Bits) -> Option<u32>
     None
 }
 
-/// The first variable of the row that conflicts with `v` at an operation, where `found` is one.
+/// The first variable of the row that conflicts with the variable at an operation, where `found` is one.
 fn first_conflicting(op: &Op, after: &Bits, held: &Bits, variable: u32, found: u32) -> u32
     requires { VarAt op.now after.now held.now variable found }
     ensures { FirstVarAt op.now after.now held.now variable result }
@@ -94,7 +94,7 @@ fn first_conflicting(op: &Op, after: &Bits, held: &Bits, variable: u32, found: u
     found
 }
 
-/// What keeps `v` from the place at one operation.
+/// What keeps the variable from the place at one operation.
 fn who_at(
     op: &Op,
     after: &Bits,
@@ -122,7 +122,7 @@ fn who_at(
     None
 }
 
-/// What first keeps `v` from the place; none where the place is free.
+/// What first keeps the variable from the place; none where the place is free.
 pub fn holder_of(
     alloc: Global,
     ops: &[Op],

@@ -39,7 +39,7 @@ pub enum Allocation {
     NoPlace(NoPlace),
 }
 
-/// One holder for each place that meets the needs of `v`.
+/// One holder for each place that meets the needs of the variable.
 fn holders_of(
     alloc: Global,
     ops: &[Op],
