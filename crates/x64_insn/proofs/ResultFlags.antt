@@ -1,9 +1,10 @@
 -- What the flags of a sum, a difference and an XOR show.
 use Rattle.std.proofs.Common.{◌≡◌, ◌≢◌, ℕ, ◌+◌, ◌-◌, ◌%◌, ◌^◌, ◌<◌, ◌≤◌, ◌↔◌, ◌⊎◌, inl, inr, Bool, true, false, not, ◌||◌, sym, ap, ◌∙◌, refl, subst, arith, ℤ, pos, ◌+ℤ◌, ◌-ℤ◌, ◌<ℤ◌, ◌≤ℤ◌}
-use Rattle.std.specs.Prelude.{Option, Some, nat_le, nat_lt, int_lt, bit_xor, ◌==◌, slice_get}
+use Rattle.std.specs.Prelude.{length, Option, Some, nat_le, nat_lt, int_lt, bit_xor, ◌==◌, slice_get}
 use Rattle.std.specs.Int.{bit_at}
 use Rattle.std.proofs.lemmas.Bool.{le-leb, leb-true, lt-ltb, ltb-true}
 use Rattle.std.proofs.lemmas.Int.{ints}
+use Rattle.std.proofs.lemmas.List.{length-set}
 use Rattle.std.proofs.lemmas.Nat.{xor_lt}
 use Rattle.std.proofs.lemmas.Nat.Bits.{same_from_bits, bit_at_xor, bit_at-lt, bit_at-zero}
 use Rattle.jz_words.specs.declared.size.Size.TheVariants.{S64}
@@ -22,6 +23,7 @@ use Rattle.x64_insn.specs.declared.types.Flag.TheVariants.{Of, Cf, Sf, Pf, Zf}
 use Rattle.x64_insn.specs.declared.types.FlagVal.{FlagVal}
 use Rattle.x64_insn.specs.declared.types.FlagVal.TheVariants.{True, Undefined}
 use Rattle.x64_insn.specs.declared.types.State.{State}
+use Rattle.x64_insn.specs.Table.{number_of}
 use Rattle.x64_insn.specs.Answers.{flag, overflows, flags_of, sum_answer, difference_answer, xor_answer}
 use Rattle.x64_insn.specs.Rows.{After, effect_of, reg_word, with_reg, no_event, alu_row, answer_row, flag_of}
 use Rattle.x64_insn.specs.Laws.{IsWordOf, IsOutOfRange, ShowsResult, ShowsSum, ShowsDifference, ShowsDifferentBits, Leaves}
@@ -81,7 +83,7 @@ never_set : (false ≡ true) ↔ ⊥
 never_set = (λ e. cc, λ h. absurd h)
 
 -- a register that was set to a word, with the flags of this word
-shown : (to : Reg) (st : State) (overflow carry : Bool) (r : ℕ) {Overflows Carries IsZero : Type 0} → reg_word st S64 to ≡ r → st.flags ≡ flags_of S64 overflow carry r
+shown : (to : Reg) (st : State) (overflow carry : Bool) (r : ℕ) {Overflows Carries IsZero : Type 0} → (length st.regs ≡ 16 → reg_word st S64 to ≡ r) → st.flags ≡ flags_of S64 overflow carry r
     → (overflow ≡ true) ↔ Overflows → (carry ≡ true) ↔ Carries → (r ≡ 0) ↔ IsZero → ShowsResult to r Overflows Carries IsZero st
 unfolding flags_of
 shown to st overflow carry r value e f g z = record {
@@ -103,14 +105,14 @@ word_fits st (operand.Mem m) b h = absurd h
 -- an operation whose answer this is
 leaves : (operation : Alu) (Shows : Reg → ℕ → ℕ → State → Type 0) (answer : ℕ → ℕ → Answer)
     → ((to : Reg) (v next : ℕ) (st : State) (m : Memory) → alu_row operation to v next st m ≡ answer_row S64 to (answer (reg_word st S64 to) v) next st m)
-    → ((to : Reg) (a b : ℕ) (st : State) → a < 2 ^ 64 → b < 2 ^ 64 → ((answer a b).value < 2 ^ 64 → reg_word st S64 to ≡ (answer a b).value) → st.flags ≡ (answer a b).flags → Shows to a b st)
+    → ((to : Reg) (a b : ℕ) (st : State) → a < 2 ^ 64 → b < 2 ^ 64 → ((answer a b).value < 2 ^ 64 → length st.regs ≡ 16 → reg_word st S64 to ≡ (answer a b).value) → st.flags ≡ (answer a b).flags → Shows to a b st)
     → Leaves operation Shows
 unfolding answer_row
-leaves operation Shows answer row show to from b next st m size is =
+leaves operation Shows answer row show to from b next st m is =
     let a = reg_word st S64 to in
     let after : After = record { state = record (with_reg st S64 to (answer a b).value) { rip = next; flags = (answer a b).flags }; memory = m; leak = no_event } in
     let step = by_operand from is in
-    (after, step ∙ row to b next st m, show to a b after.state (omega arith) (word_fits st from b is) (λ small. word_same st.regs to (answer a b).value size small) refl)
+    (after, step ∙ row to b next st m, show to a b after.state (omega arith) (word_fits st from b is) (λ small size. word_same st.regs to (answer a b).value (sym (length-set st.regs (number_of to) (answer a b).value) ∙ size) small) refl)
   where
     by_operand : (o : Operand) → IsWordOf st o b → effect_of (insn.Alu operation S64 (operand.Reg to) o) next st m ≡ alu_row operation to b next st m
     by_operand (operand.Reg r) h = ap (λ v. alu_row operation to v next st m) h
@@ -121,7 +123,7 @@ leaves operation Shows answer row show to from b next st m size is =
 carry_is : (a b : ℕ) → (nat_le (2 ^ 64) (a + b + 0) ≡ true) ↔ (2 ^ 64 ≤ a + b)
 carry_is a b = (λ e. omega (arith, leb-true (2 ^ 64) (a + b + 0) e), λ h. le-leb (2 ^ 64) (a + b + 0) (omega arith))
 
-sum_shows : (to : Reg) (a b : ℕ) (st : State) → a < 2 ^ 64 → b < 2 ^ 64 → ((sum_answer S64 a b false).value < 2 ^ 64 → reg_word st S64 to ≡ (sum_answer S64 a b false).value)
+sum_shows : (to : Reg) (a b : ℕ) (st : State) → a < 2 ^ 64 → b < 2 ^ 64 → ((sum_answer S64 a b false).value < 2 ^ 64 → length st.regs ≡ 16 → reg_word st S64 to ≡ (sum_answer S64 a b false).value)
     → st.flags ≡ (sum_answer S64 a b false).flags → ShowsSum to a b st
 unfolding sum_answer
 sum_shows to a b st h k value e =
@@ -142,7 +144,7 @@ no_difference : (a b : ℕ) → a < 2 ^ 64 → b < 2 ^ 64 → ((a + 2 ^ 64 - (b 
 no_difference a b h k = (λ e. omega (arith, h, k, e), λ e. omega (arith, h, k, e))
 
 difference_shows : (to : Reg) (a b : ℕ) (st : State) → a < 2 ^ 64 → b < 2 ^ 64
-    → ((difference_answer S64 a b false).value < 2 ^ 64 → reg_word st S64 to ≡ (difference_answer S64 a b false).value)
+    → ((difference_answer S64 a b false).value < 2 ^ 64 → length st.regs ≡ 16 → reg_word st S64 to ≡ (difference_answer S64 a b false).value)
     → st.flags ≡ (difference_answer S64 a b false).flags → ShowsDifference to a b st
 unfolding difference_answer
 difference_shows to a b st h k value e =
@@ -167,7 +169,7 @@ no_bit a b = (
   (λ e. subst (λ c. bit_xor a c ≡ 0) e (same_from_bits (bit_xor a a) 0 (λ i. bit_at_xor a a i ∙ twice_even (bit_at a i) ∙ sym (bit_at-zero i)))),
 )
 
-xor_shows_bits : (to : Reg) (a b : ℕ) (st : State) → a < 2 ^ 64 → b < 2 ^ 64 → ((xor_answer S64 a b).value < 2 ^ 64 → reg_word st S64 to ≡ (xor_answer S64 a b).value)
+xor_shows_bits : (to : Reg) (a b : ℕ) (st : State) → a < 2 ^ 64 → b < 2 ^ 64 → ((xor_answer S64 a b).value < 2 ^ 64 → length st.regs ≡ 16 → reg_word st S64 to ≡ (xor_answer S64 a b).value)
     → st.flags ≡ (xor_answer S64 a b).flags → ShowsDifferentBits to a b st
 unfolding xor_answer
 xor_shows_bits to a b st h k value e = shown to st false false (bit_xor a b) (value (xor_lt 64 a b h k)) e never_set never_set (no_bit a b)

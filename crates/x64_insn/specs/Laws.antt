@@ -33,7 +33,8 @@ IsOutOfRange z = (z <ℤ (pos 0 -ℤ pos (2 ^ 63))) ⊎ (pos (2 ^ 63) ≤ℤ z)
 -- A register holds the word r, and the status flags say of it what they should (SDM vol. 1, 3.4.3.1): OF that it overflows, CF that it carries or
 -- borrows, SF its highest bit, PF that its lowest byte has an even number of ones, ZF that it is 0. None is undefined.
 pub record ShowsResult (to : Reg) (r : ℕ) (Overflows Carries IsZero : Type 0) (st : State) : Type 0 where
-  pub value : reg_word st S64 to ≡ r
+  -- of the sixteen registers that a machine has
+  pub value : length st.regs ≡ 16 → reg_word st S64 to ≡ r
   pub overflow : (flag_of st Of ≡ Some True) ↔ Overflows
   pub carry : (flag_of st Cf ≡ Some True) ↔ Carries
   pub sign : (flag_of st Sf ≡ Some True) ↔ (2 ^ 63 ≤ r)
@@ -55,8 +56,7 @@ ShowsDifference to a b =
 abbrev pub ShowsDifferentBits : Reg → ℕ → ℕ → State → Type 0
 ShowsDifferentBits to a b = ShowsResult to (bit_xor a b) ⊥ ⊥ (a ≡ b)
 
--- an operation on a register and an operand that is no memory makes a step from a state of 16 registers, after which this holds of the register, the
--- two words and the state
+-- an operation on a register and an operand that is no memory makes a step, after which this holds of the register, the two words and the state
 abbrev pub Leaves : Alu → (Reg → ℕ → ℕ → State → Type 0) → Type 0
-Leaves operation Shows = (to : Reg) (from : Operand) (b next : ℕ) (st : State) (m : Memory) → length st.regs ≡ 16 → IsWordOf st from b
+Leaves operation Shows = (to : Reg) (from : Operand) (b next : ℕ) (st : State) (m : Memory) → IsWordOf st from b
     → (after : After) × (effect_of (insn.Alu operation S64 (operand.Reg to) from) next st m ≡ Ok after) × Shows to (reg_word st S64 to) b after.state
