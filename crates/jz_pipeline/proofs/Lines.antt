@@ -14,7 +14,7 @@ use Rattle.x64_insn.specs.declared.types.Reg.TheVariants as reg
 use Rattle.x64_insn.specs.declared.types.Insn.{Insn}
 use Rattle.x64_insn.specs.declared.types.Insn.TheVariants as insn
 use Rattle.x64_insn.specs.Table.{number_of}
-use Rattle.x64_insn.specs.Chosen.{chosen_bytes, fits_bytes, has_rows}
+use Rattle.x64_insn.specs.Chosen.{chosen_bytes, fits_bytes}
 use Rattle.x64_insn.proofs.ChosenSpelling.{chosen_spells}
 use Rattle.x64_insn.proofs.Immediates.{within_fits}
 use Rattle.x64_insn.proofs.Registers.{same_register}
@@ -38,7 +38,7 @@ use Rattle.jz_tree.specs.declared.StmtKind.TheVariants as kind
 use Rattle.jz_correct.specs.Assembled.{assembled}
 use Rattle.jz_correct.specs.Frames.{stacked_by, stacked_if, stacked_among, is_reg, operand_names, names, saved_of, frame_of, frame_size, frame_end, end_from}
 use Rattle.jz_correct.specs.Correctness.{IsLineOf, AreArgumentLines, AreResultLines, AreSpelled}
-use Rattle.jz_correct.proofs.PlainCode.{Plain, alu_reg, alu_imm, mov_reg, mov_imm, AllPlain, plain_spelled, regs_of, regs_after}
+use Rattle.jz_correct.proofs.PlainCode.{Plain, alu_reg, alu_imm, mov_reg, mov_imm, AllPlain, is_operation, plain_spelled, ret_spelled, regs_of, regs_after}
 use Rattle.jz_lower.specs.Lowering.{alu_of, operand_of, assignment_insn, kind_insns, insns_of}
 use Rattle.jz_lower.specs.Straight.{IsWord, AreWords, GiveWords, FitsImmediate, KindFits, FitImmediates}
 use Rattle.jz_lower.specs.Placing.{is_given, variable_of, StandIn}
@@ -63,7 +63,7 @@ result_lines register (r ∷ rs) (x ∷ xs) [] w e s = absurd (omega (arith, e))
 result_lines register (r ∷ rs) (x ∷ xs) (t ∷ ts) w e s = ((refl, sym w.0, refl), result_lines register rs xs ts w.1 (omega (arith, e)) s.1)
 
 -- ---- the instructions
-with_rows : (o : BinOp) → has_rows (alu_of o) ≡ true
+with_rows : (o : BinOp) → is_operation (alu_of o) ≡ true
 with_rows op.Xor = refl
 with_rows op.Add = refl
 with_rows op.Sub = refl
@@ -101,7 +101,7 @@ module _ (register : List ℕ → Reg) where
   all_plain (s ∷ ss) h = plain_both (kind_insns register s.kind) (insns_of register ss) (plain_kind s.kind h.0) (all_plain ss h.1)
 
 pub spelled : (is : List Insn) → AllPlain is → AreSpelled (is ++ insn.Ret ∷ []) (assembled (is ++ insn.Ret ∷ []))
-spelled [] h = (chosen_bytes insn.Ret, [], refl, chosen_spells insn.Ret refl, refl)
+spelled [] h = (chosen_bytes insn.Ret, [], refl, chosen_spells insn.Ret ret_spelled, refl)
 spelled (i ∷ is) h = (chosen_bytes i, assembled (is ++ insn.Ret ∷ []), refl, chosen_spells i (plain_spelled i h.0), spelled is h.1)
 
 -- ---- the frame

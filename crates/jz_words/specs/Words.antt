@@ -1,7 +1,8 @@
 -- Operations on words of a size, as whole numbers.
-use Rattle.std.specs.Prelude.{ℕ, ◌+◌, ◌-◌, ◌*◌, ◌/◌, ◌%◌, ◌^◌, Bool, true, false, ◌==◌, nat_lt, nat_le, count_ones, ℤ, pos, negsuc}
-use Rattle.std.specs.Int.{int_div_euclid}
+use Rattle.std.specs.Prelude.{ℕ, ◌+◌, ◌-◌, ◌*◌, ◌/◌, ◌%◌, ◌^◌, Bool, true, false, ◌==◌, nat_lt, nat_le, count_ones, ℤ, pos, negsuc, ◌*ℤ◌}
+use Rattle.std.specs.Int.{w16, w32, w64, bit_at, swap_bytes, int_div_euclid}
 use Rattle.jz_words.specs.declared.size.Size.{Size}
+use Rattle.jz_words.specs.declared.size.Size.TheVariants.{S8, S16, S32, S64}
 use Rattle.jz_words.specs.Sizes.{bits_of, modulus, signed}
 
 -- a carry or a borrow as a number
@@ -35,6 +36,21 @@ modulo (negsuc n) m = m - 1 - n % m
 -- the word that a signed number stands for
 abbrev pub residue : Size → ℤ → ℕ
 residue s z = modulo z (modulus s)
+
+-- bit k, counted from the lowest
+abbrev pub has_bit : ℕ → ℕ → Bool
+has_bit a k = bit_at a k == 1
+
+-- the bytes in the other order
+abbrev pub swapped_of : Size → ℕ → ℕ
+swapped_of S8 a = a
+swapped_of S16 a = swap_bytes w16 a
+swapped_of S32 a = swap_bytes w32 a
+swapped_of S64 a = swap_bytes w64 a
+
+-- the product of two words as signed numbers
+abbrev pub signed_product : Size → ℕ → ℕ → ℤ
+signed_product s a b = signed s a *ℤ signed s b
 
 abbrev pub shl_of : Size → ℕ → ℕ → ℕ
 shl_of s a n = a * 2 ^ n % modulus s

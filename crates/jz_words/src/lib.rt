@@ -7,6 +7,9 @@ mod size;
 mod tests;
 mod word;
 
-pub use operations::{add_carry, mul_wide, parity, rol, ror, sar, shl, shr, sub_borrow};
+pub use operations::{
+    add_carry, and, has_bit, mul_signed, mul_wide, or, parity, residue, rol, ror, sar, shl, shr,
+    sub_borrow, swap_bytes, xor,
+};
 pub use size::Size;
 pub use word::Word;

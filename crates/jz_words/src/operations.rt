@@ -1,9 +1,9 @@
 //! Operations on words: sums, differences, products, shifts and rotations.
 
-ghost use Rattle.std.specs.Prelude.{◌≡◌, ◌<◌, ◌+◌, ◌*◌, ◌%◌, ℕ};
+ghost use Rattle.std.specs.Prelude.{◌≡◌, ◌<◌, ◌+◌, ◌*◌, ◌%◌, ℕ, bit_and, bit_or, bit_xor};
 ghost use Rattle.std.specs.Int.{bit_at};
 ghost use Rattle.jz_words.specs.Sizes.{bits_of};
-ghost use Rattle.jz_words.specs.Words.{sum_of, carry_of, difference_of, borrow_of, has_even_ones, shl_of, shr_of, sar_of, rol_of, ror_of, residue};
+ghost use Rattle.jz_words.specs.Words.{sum_of, carry_of, difference_of, borrow_of, has_even_ones, shl_of, shr_of, sar_of, rol_of, ror_of, residue, has_bit, signed_product, swapped_of};
 
 use crate::size::Size;
 use crate::word::Word;
@@ -40,6 +40,66 @@ pub fn mul_wide(a: Word, b: Word) -> u128
     a.bits() as u128 * b.bits() as u128
 }
 
+/// The whole product of two words of one size as signed numbers.
+pub fn mul_signed(a: Word, b: Word) -> i128
+    requires { a.size ≡ b.size }
+    ensures { result ≡ signed_product a.size a.bits b.bits }
+{
+    a.signed() * b.signed()
+}
+
+/// The bits that both words have.
+#[tactic(auto, using(std::proofs::lemmas::Nat::and_le_l))]
+pub fn and(a: Word, b: Word) -> Word
+    requires { a.size ≡ b.size }
+    ensures size { result.size ≡ a.size }
+    ensures bits { result.bits ≡ bit_and a.bits b.bits }
+{
+    Word::new(a.size(), a.bits() & b.bits())
+}
+
+/// The bits that one of the words has.
+#[tactic(auto, using(std::proofs::lemmas::Nat::or_lt))]
+pub fn or(a: Word, b: Word) -> Word
+    requires { a.size ≡ b.size }
+    ensures size { result.size ≡ a.size }
+    ensures bits { result.bits ≡ bit_or a.bits b.bits }
+{
+    Word::new(a.size(), a.bits() | b.bits())
+}
+
+/// The bits in which the words differ.
+#[tactic(auto, using(std::proofs::lemmas::Nat::xor_lt))]
+pub fn xor(a: Word, b: Word) -> Word
+    requires { a.size ≡ b.size }
+    ensures size { result.size ≡ a.size }
+    ensures bits { result.bits ≡ bit_xor a.bits b.bits }
+{
+    Word::new(a.size(), a.bits() ^ b.bits())
+}
+
+/// Whether a bit is set. Bit 0 is the lowest.
+pub fn has_bit(a: Word, bit: u32) -> bool
+    requires { bit < 64 }
+    ensures { result ≡ has_bit a.bits bit }
+{
+    a.bits() >> bit & 1 == 1
+}
+
+/// The bytes in the other order.
+pub fn swap_bytes(a: Word) -> Word
+    ensures size { result.size ≡ a.size }
+    ensures bits { result.bits ≡ swapped_of a.size a.bits }
+{
+    let bits = match a.size() {
+        Size::S8 => a.bits(),
+        Size::S16 => u64::from((a.bits() as u16).swap_bytes()),
+        Size::S32 => u64::from((a.bits() as u32).swap_bytes()),
+        Size::S64 => a.bits().swap_bytes(),
+    };
+    Word::new(a.size(), bits)
+}
+
 /// Whether the lowest byte has an even number of ones.
 pub fn parity(a: Word) -> bool
     ensures { result ≡ has_even_ones a.bits }
@@ -65,8 +125,8 @@ pub fn shr(a: Word, count: u32) -> Word
     Word::new(a.size(), a.bits() >> count)
 }
 
-// The word of a signed number's lowest bits.
-fn residue(size: Size, value: i128) -> Word
+/// The word that a signed number stands for, modulo 2 to the size.
+pub fn residue(size: Size, value: i128) -> Word
     ensures size { result.size ≡ size }
     ensures bits { result.bits ≡ residue size value }
 {

@@ -49,8 +49,8 @@ impl Size {
         }
     }
 
-    // How many words of the size there are.
-    pub(crate) fn modulus(self) -> u128
+    /// How many words of the size there are.
+    pub fn modulus(self) -> u128
         ensures { result ≡ modulus self }
     {
         match self {

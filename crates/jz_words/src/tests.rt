@@ -1,6 +1,9 @@
-//! The operations on values that a processor answered.
+//! The operations on values that a processor answered, or that plain arithmetic gives.
 
-use crate::{Size, Word, add_carry, mul_wide, parity, rol, ror, sar, shl, shr, sub_borrow};
+use crate::{
+    Size, Word, add_carry, and, has_bit, mul_signed, mul_wide, or, parity, residue, rol, ror, sar,
+    shl, shr, sub_borrow, swap_bytes, xor,
+};
 
 #[test]
 fn add_carry_is_adc(rt: HostRuntime) {
@@ -66,6 +69,119 @@ fn mul_wide_is_mul(rt: HostRuntime) {
     ] {
         let found = mul_wide(Word::truncate(Size::S64, a), Word::truncate(Size::S64, b));
         assert!(rt; found == product, "{a} * {b}");
+    }
+}
+
+#[test]
+fn mul_signed_is_imul(rt: HostRuntime) {
+    for (size, a, b, product) in [
+        (Size::S8, 0x80, 0xff, 128),
+        (Size::S8, 0x80, 0x80, 0x4000),
+        (Size::S8, 0x7f, 0x80, -16256),
+        (Size::S16, 0xfffe, 3, -6),
+        (
+            Size::S32,
+            0x8000_0000,
+            0x7fff_ffff,
+            -4_611_686_016_279_904_256,
+        ),
+        (
+            Size::S64,
+            0x8000_0000_0000_0000,
+            0x8000_0000_0000_0000,
+            0x4000_0000_0000_0000_0000_0000_0000_0000,
+        ),
+        (
+            Size::S64,
+            0x8000_0000_0000_0000,
+            0x7fff_ffff_ffff_ffff,
+            -85_070_591_730_234_615_856_620_279_821_087_277_056,
+        ),
+    ] {
+        let found = mul_signed(Word::truncate(size, a), Word::truncate(size, b));
+        assert!(rt; found == product, "{a} * {b}");
+    }
+}
+
+#[test]
+fn residues_are_words(rt: HostRuntime) {
+    for (size, value, bits) in [
+        (Size::S8, -1, 0xff),
+        (Size::S8, -129, 0x7f),
+        (Size::S8, 300, 0x2c),
+        (Size::S8, -256, 0),
+        (Size::S16, -2, 0xfffe),
+        (Size::S32, 0x1_0000_0005, 5),
+        (Size::S64, -0x1_0000_0000_0000_0001, 0xffff_ffff_ffff_ffff),
+        (Size::S64, i128::MIN, 0),
+        (Size::S64, i128::MAX, 0xffff_ffff_ffff_ffff),
+    ] {
+        let word = residue(size, value);
+        assert!(rt; word.size() == size, "size of {bits}");
+        assert_eq!(rt; word.bits(), bits);
+    }
+}
+
+#[test]
+fn bits_of_two_words_meet(rt: HostRuntime) {
+    for (size, a, b, both, one, differ) in [
+        (Size::S8, 0x96, 0x3c, 0x14, 0xbe, 0xaa),
+        (Size::S16, 0xffff, 0x0000, 0x0000, 0xffff, 0xffff),
+        (
+            Size::S32,
+            0x8000_0001,
+            0x8000_0001,
+            0x8000_0001,
+            0x8000_0001,
+            0,
+        ),
+        (
+            Size::S64,
+            0xfedc_ba98_7654_3210,
+            0x0ff0_ffff_0000_aaaa,
+            0x0ed0_ba98_0000_2200,
+            0xfffc_ffff_7654_baba,
+            0xf12c_4567_7654_98ba,
+        ),
+    ] {
+        let a = Word::truncate(size, a);
+        let b = Word::truncate(size, b);
+        assert_eq!(rt; and(a, b).bits(), both);
+        assert_eq!(rt; or(a, b).bits(), one);
+        assert_eq!(rt; xor(a, b).bits(), differ);
+    }
+}
+
+#[test]
+fn bits_are_counted_from_the_lowest(rt: HostRuntime) {
+    for (size, bits, bit, set) in [
+        (Size::S8, 0x01, 0, true),
+        (Size::S8, 0x01, 1, false),
+        (Size::S8, 0x80, 7, true),
+        (Size::S8, 0x80, 8, false),
+        (Size::S64, 0x8000_0000_0000_0000, 63, true),
+        (Size::S64, 0x7fff_ffff_ffff_ffff, 63, false),
+        (Size::S64, 0x0000_0001_0000_0000, 32, true),
+    ] {
+        assert_eq!(rt;
+            has_bit(Word::truncate(size, bits), bit),
+            set,
+            "bit {bit} of {bits}"
+        );
+    }
+}
+
+#[test]
+fn bytes_come_in_the_other_order(rt: HostRuntime) {
+    for (size, bits, swapped) in [
+        (Size::S8, 0x12, 0x12),
+        (Size::S16, 0x1234, 0x3412),
+        (Size::S32, 0x1234_5678, 0x7856_3412),
+        (Size::S32, 0x0000_0001, 0x0100_0000),
+        (Size::S64, 0x0123_4567_89ab_cdef, 0xefcd_ab89_6745_2301),
+    ] {
+        let word = swap_bytes(Word::truncate(size, bits));
+        assert_eq!(rt; word.bits(), swapped, "{bits}");
     }
 }
 
@@ -167,5 +283,6 @@ fn sizes_count_bits_and_bytes(rt: HostRuntime) {
     let word = Word::new(Size::S16, 0x1234);
     assert_eq!(rt; word.size().bits(), 16);
     assert_eq!(rt; word.size().bytes(), 2);
+    assert!(rt; word.size().modulus() == 0x1_0000);
     assert!(rt; word == Word::truncate(Size::S16, 0xff_1234));
 }

@@ -1,8 +1,8 @@
 -- Reading so many bytes where each is below 256.
 use Rattle.std.proofs.Common.{◌≡◌, ℕ, zero, suc, ◌<◌, ◌≤◌, List, [], ◌∷◌, length, get_or, take, drop, Result, Ok, Err, refl, arith}
 use Rattle.std.proofs.lemmas.Bool.{lt-ltb}
-use Rattle.x64_decode.specs.declared.fields.Stop.{Stop}
-use Rattle.x64_decode.specs.declared.fields.Stop.TheVariants.{Short}
+use Rattle.x64_decode.specs.declared.reading.Stop.{Stop}
+use Rattle.x64_decode.specs.declared.reading.Stop.TheVariants.{Short}
 use Rattle.x64_decode.specs.ByteReading.{through, byte_where, some_bytes, follow}
 
 -- one byte, and then n

@@ -4,8 +4,8 @@ use Rattle.std.specs.List.{list_all}
 use Rattle.std.specs.Option.{option_to_list}
 use Rattle.std.proofs.lemmas.Bool.{and_parts, and_from, cond-true, cond-false}
 use Rattle.x64_insn.specs.Encoding.{is_byte, StandsIf, AreBytes}
-use Rattle.x64_decode.specs.declared.fields.Stop.{Stop}
-use Rattle.x64_decode.specs.declared.fields.Stop.TheVariants.{Short, Bad}
+use Rattle.x64_decode.specs.declared.reading.Stop.{Stop}
+use Rattle.x64_decode.specs.declared.reading.Stop.TheVariants.{Short, Bad}
 use Rattle.x64_decode.specs.ByteReading.{Reader, ◌>>=◌, byte_where, byte_if, prefix, some_bytes, follow, through}
 
 -- What reads back what is spelled, and nothing else; and tells a beginning of what is spelled from what isn't one.

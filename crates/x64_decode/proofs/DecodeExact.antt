@@ -6,8 +6,8 @@ use Rattle.x64_insn.specs.declared.types.Insn.{Insn}
 use Rattle.x64_insn.specs.Encoding.{Fields, AreFields, spelling_of, insn_of, Spells, Decodes, IsBeginning}
 use Rattle.x64_decode.specs.declared.Decoded.{Decoded}
 use Rattle.x64_decode.specs.declared.Decoded.TheVariants as decoded
-use Rattle.x64_decode.specs.declared.fields.Stop.{Stop}
-use Rattle.x64_decode.specs.declared.fields.Stop.TheVariants.{Short, Bad}
+use Rattle.x64_decode.specs.declared.reading.Stop.{Stop}
+use Rattle.x64_decode.specs.declared.reading.Stop.TheVariants.{Short, Bad}
 use Rattle.x64_decode.specs.Decoding.{Parts, parts, fields_of, answer_of, decoded_of}
 use Rattle.x64_decode.proofs.ByteReaders.{ok_more, ok_same, apart'}
 use Rattle.x64_decode.proofs.PartsRead.{spelled, parts_reads}

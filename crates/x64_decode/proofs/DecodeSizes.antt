@@ -1,11 +1,16 @@
 -- How long the fields are.
-use Rattle.std.proofs.Common.{◌≡◌, ℕ, ◌≤◌, List, length, Bool, true, false, Option, Some, None, sym, ap, ◌∙◌, subst, arith, if◌then◌else◌, Ok}
+use Rattle.std.proofs.Common.{◌≡◌, ℕ, ◌≤◌, List, Bool, true, false, Option, Some, None, sym, ap, ◌∙◌, subst, arith, if◌then◌else◌, ◌==◌, Ok}
+use Rattle.std.specs.Prelude.{unwrap_or}
+use Rattle.jz_words.specs.declared.size.Size.{Size}
+use Rattle.jz_words.specs.declared.size.Size.TheVariants.{S8, S16, S32, S64}
+use Rattle.x64_insn.specs.declared.types.Width.{Width}
+use Rattle.x64_insn.specs.declared.types.Width.TheVariants.{Rel8, Rel32}
 use Rattle.x64_insn.specs.declared.table.Row.{Row}
 use Rattle.x64_insn.specs.declared.table.Row.TheVariants as row
-use Rattle.x64_insn.specs.Table.{row_of, size_of, immediate_length}
+use Rattle.x64_insn.specs.Table.{row_of, size_by, size_of, reg_field, immediate_by, width_length, immediate_length}
 use Rattle.x64_insn.specs.Encoding.{displacement_length}
-use Rattle.x64_decode.specs.declared.fields.FieldsRead.{FieldsRead}
-use Rattle.x64_decode.specs.Decoding.{parts, parts_read, row_immediate, immediate_bytes}
+use Rattle.x64_decode.specs.declared.reading.FieldsRead.{FieldsRead}
+use Rattle.x64_decode.specs.Decoding.{parts, parts_read, row_immediate, immediate_bytes, immediate_limit, AreShort}
 use Rattle.x64_decode.proofs.PartsRead.{AreParts, parts_reads}
 
 either : (b : Bool) (x y k : ℕ) → x ≤ k → y ≤ k → (if b then x else y) ≤ k
@@ -19,25 +24,54 @@ displacement_small (Some m) s =
     let none : 0 ≤ 4 = omega arith in let one : 1 ≤ 4 = omega arith in let four : 4 ≤ 4 = omega arith in
     either _ _ _ 4 (either _ _ _ 4 four none) (either _ _ _ 4 one (either _ _ _ 4 four none))
 
-immediate_small : (p r : Option ℕ) (w : Option Row) → row_immediate p r w ≤ 8
-immediate_small p r None = omega arith
-immediate_small p r (Some row.AluRmImm8) = omega arith
-immediate_small p r (Some row.AluRmImm32) = omega arith
-immediate_small p r (Some row.MovRmImm32) = omega arith
-immediate_small p r (Some row.MovRegImm64) = omega arith
-immediate_small p r (Some other) = omega arith
+sized_small : (z : Size) → immediate_by z ≤ 4
+sized_small S8 = omega arith
+sized_small S16 = omega arith
+sized_small S32 = omega arith
+sized_small S64 = omega arith
 
-pub sizes : (bs rest : List ℕ) (f : FieldsRead) → parts bs ≡ Ok (parts_read f, rest) → (length f.displacement.now ≤ 4) × (length f.immediate.now ≤ 8)
-unfolding AreParts immediate_bytes
-sizes bs rest f h =
-    let ok = (parts_reads.found bs rest (parts_read f) h).1 in
-    let d = ok.1.1.1.1.1.1.0.0 in
-    let i = ok.1.1.1.1.1.1.1.0 in
-    (subst (λ n. n ≤ 4) (sym d) (displacement_small f.modrm f.sib), subst (λ n. n ≤ 8) (sym i) (immediate_small f.operand_size f.rex (row_of f.escape f.opcode)))
+jump_small : (w : Width) → width_length w ≤ 4
+jump_small Rel8 = omega arith
+jump_small Rel32 = omega arith
+
+to_eight : (n : ℕ) → n ≤ 4 → n ≤ 8
+to_eight n h = omega (arith, h)
+
+immediate_small : (p r : Option ℕ) (n : ℕ) (w : Row) → immediate_length w p r n ≤ immediate_limit w
+immediate_small p r n (row.AluRmImm operands) = to_eight _ (sized_small (size_by operands p r))
+immediate_small p r n row.AluRmImm8 = omega arith
+immediate_small p r n (row.MovRmImm operands) = to_eight _ (sized_small (size_by operands p r))
+immediate_small p r n row.MovRegImm64 = omega arith
+immediate_small p r n row.ImulRmImm = sized_small (size_of p r)
+immediate_small p r n row.ImulRmImm8 = omega arith
+immediate_small p r n (row.ShiftImm operands) = omega arith
+immediate_small p r n (row.Group3 operands) =
+    let none : 0 ≤ 8 = omega arith in
+    either (n == 0) _ 0 8 (to_eight _ (sized_small (size_by operands p r))) none
+immediate_small p r n (row.Jcc condition width) = jump_small width
+immediate_small p r n (row.Jmp width) = jump_small width
+immediate_small p r n row.Call = omega arith
+immediate_small p r n other = omega arith
+
+limit_small : (w : Row) → immediate_limit w ≤ 8
+limit_small row.ImulRmImm = omega arith
+limit_small row.ImulRmImm8 = omega arith
+limit_small (row.ShiftImm operands) = omega arith
+limit_small (row.Jcc condition width) = omega arith
+limit_small (row.Jmp width) = omega arith
+limit_small row.Call = omega arith
+limit_small other = omega arith
 
 -- an immediate has the bytes of its row
-pub immediate_is : (bs rest : List ℕ) (f : FieldsRead) → parts bs ≡ Ok (parts_read f, rest) → row_of f.escape f.opcode ≡ Some f.row → length f.immediate.now ≡ immediate_length f.row (size_of f.operand_size f.rex)
+pub short : (bs rest : List ℕ) (f : FieldsRead) → parts bs ≡ Ok (parts_read f, rest) → row_of f.escape f.opcode ≡ Some f.row → AreShort f
 unfolding AreParts immediate_bytes
-immediate_is bs rest f h e =
+short bs rest f h e =
     let ok = (parts_reads.found bs rest (parts_read f) h).1 in
-    ok.1.1.1.1.1.1.1.0 ∙ ap (row_immediate f.operand_size f.rex) e
+    let d = ok.1.1.1.1.1.1.0.0 in
+    let i = ok.1.1.1.1.1.1.1.0 ∙ ap (row_immediate f.operand_size f.rex (reg_field (unwrap_or f.modrm 0))) e in
+    let by_row = subst (λ n. n ≤ immediate_limit f.row) (sym i) (immediate_small f.operand_size f.rex (reg_field (unwrap_or f.modrm 0)) f.row) in
+    record {
+      displacement = subst (λ n. n ≤ 4) (sym d) (displacement_small f.modrm f.sib);
+      immediate = omega (arith, by_row, limit_small f.row);
+      by_row = by_row;
+    }

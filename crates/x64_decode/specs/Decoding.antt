@@ -1,28 +1,25 @@
 -- The instruction that bytes begin with, as a function that computes it.
-use Rattle.std.specs.Prelude.{ℕ, Bool, false, ◌&&◌, ◌||◌, ◌==◌, List, length, Option, Some, None, Result, Ok, Err}
-use Rattle.jz_words.specs.declared.size.Size.TheVariants.{S16, S32}
+use Rattle.std.specs.Prelude.{ℕ, ◌≤◌, Bool, false, ◌==◌, List, length, Option, Some, None, unwrap_or, Result, Ok, Err}
 use Rattle.x64_insn.specs.declared.table.Row.{Row}
-use Rattle.x64_insn.specs.Table.{row_of, has_size, has_escaped_rows, has_w, size_of, allows, has_modrm, takes_modrm, immediate_length}
+use Rattle.x64_insn.specs.declared.table.Row.TheVariants as row
+use Rattle.x64_insn.specs.Table.{row_of, allows, reg_field, has_modrm, takes_modrm, immediate_length}
 use Rattle.x64_insn.specs.Encoding.{Fields, spelling_of, insn_of, is_byte, is_rex, has_sib, displacement_length}
 use Rattle.x64_decode.specs.declared.Decoded.{Decoded}
 use Rattle.x64_decode.specs.declared.Decoded.TheVariants as decoded
-use Rattle.x64_decode.specs.declared.fields.Stop.{Stop}
-use Rattle.x64_decode.specs.declared.fields.Stop.TheVariants.{Short, Bad}
-use Rattle.x64_decode.specs.declared.fields.FieldsRead.{FieldsRead}
+use Rattle.x64_decode.specs.declared.reading.Stop.{Stop}
+use Rattle.x64_decode.specs.declared.reading.Stop.TheVariants.{Short, Bad}
+use Rattle.x64_decode.specs.declared.reading.FieldsRead.{FieldsRead}
 use Rattle.x64_decode.specs.ByteReading.{Reader, prefix, byte_where, byte_if, some_bytes, follow}
 
 -- ---- which byte may come next: one behind which the table has a spelling
--- 66, where rows have operands of 16 bits
 abbrev pub may_be_operand_size : ℕ → Bool
-may_be_operand_size b = has_size S16 && (b == 0x66)
+may_be_operand_size b = b == 0x66
 
--- REX, where rows have operands of the size that it gives
 abbrev pub may_be_rex : Option ℕ → ℕ → Bool
-may_be_rex operand_size b = is_rex operand_size b && (has_w (Some b) || has_size S32)
+may_be_rex operand_size b = is_rex operand_size b
 
--- 0F, where rows stand behind it
 abbrev pub may_be_escape : ℕ → Bool
-may_be_escape b = has_escaped_rows && (b == 0x0F)
+may_be_escape b = b == 0x0F
 
 -- whether there is a row and it allows these prefixes
 abbrev pub allowed : Option ℕ → Option ℕ → Option Row → Bool
@@ -39,22 +36,22 @@ row_has_modrm None = false
 row_has_modrm (Some row) = has_modrm row
 
 -- whether there is a row and a byte may be its ModRM
-abbrev pub row_takes : Option Row → ℕ → Bool
-row_takes None b = false
-row_takes (Some row) b = takes_modrm row b
+abbrev pub row_takes : Option Row → Option ℕ → ℕ → Bool
+row_takes None rex b = false
+row_takes (Some row) rex b = takes_modrm row rex b
 
 -- the ModRM of an opcode's row
-unfoldable pub may_be_modrm : Option ℕ → ℕ → ℕ → Bool
-may_be_modrm escape opcode b = row_takes (row_of escape opcode) b
+unfoldable pub may_be_modrm : Option ℕ → Option ℕ → ℕ → ℕ → Bool
+may_be_modrm rex escape opcode b = row_takes (row_of escape opcode) rex b
 
--- how many bytes a row's immediate has, if there is a row
-abbrev pub row_immediate : Option ℕ → Option ℕ → Option Row → ℕ
-row_immediate operand_size rex None = 0
-row_immediate operand_size rex (Some row) = immediate_length row (size_of operand_size rex)
+-- how many bytes a row's immediate has, if there is a row, by ModRM's reg field
+abbrev pub row_immediate : Option ℕ → Option ℕ → ℕ → Option Row → ℕ
+row_immediate operand_size rex field None = 0
+row_immediate operand_size rex field (Some row) = immediate_length row operand_size rex field
 
 -- how many bytes the immediate of an opcode's row has
-unfoldable pub immediate_bytes : Option ℕ → Option ℕ → Option ℕ → ℕ → ℕ
-immediate_bytes operand_size rex escape opcode = row_immediate operand_size rex (row_of escape opcode)
+unfoldable pub immediate_bytes : Option ℕ → Option ℕ → Option ℕ → ℕ → Option ℕ → ℕ
+immediate_bytes operand_size rex escape opcode modrm = row_immediate operand_size rex (reg_field (unwrap_or modrm 0)) (row_of escape opcode)
 
 -- ---- the fields one after the other, as nested pairs
 abbrev pub Parts : Type 0
@@ -80,14 +77,30 @@ parts =
     follow (prefix (may_be_rex p)) (λ r.
     follow (prefix may_be_escape) (λ e.
     follow (byte_where (may_be_opcode p r e)) (λ o.
-    follow (byte_if (row_has_modrm (row_of e o)) (may_be_modrm e o)) (λ m.
+    follow (byte_if (row_has_modrm (row_of e o)) (may_be_modrm r e o)) (λ m.
     follow (byte_if (has_sib m) is_byte) (λ s.
     follow (some_bytes (displacement_length m s)) (λ d.
-    some_bytes (immediate_bytes p r e o))))))))
+    some_bytes (immediate_bytes p r e o m))))))))
 
 -- what the code has read, as nested pairs
 abbrev pub parts_read : FieldsRead → Parts
 parts_read f = (f.operand_size, (f.rex, (f.escape, (f.opcode, (f.modrm, (f.sib, (f.displacement.now, f.immediate.now)))))))
+
+-- how many bytes an immediate has at most: one for the count of a shift, four for a signed number of 32 bits
+abbrev pub immediate_limit : Row → ℕ
+immediate_limit row.ImulRmImm = 4
+immediate_limit row.ImulRmImm8 = 4
+immediate_limit (row.ShiftImm operands) = 1
+immediate_limit (row.Jcc condition width) = 4
+immediate_limit (row.Jmp width) = 4
+immediate_limit row.Call = 4
+immediate_limit other = 8
+
+-- What was read is no longer than it can be.
+pub record AreShort (f : FieldsRead) : Type 0 where
+  pub displacement : length f.displacement.now ≤ 4
+  pub immediate : length f.immediate.now ≤ 8
+  pub by_row : length f.immediate.now ≤ immediate_limit f.row
 
 -- the answer for what was read
 abbrev pub answer_of : Result (Parts × List ℕ) Stop → Decoded

@@ -6,12 +6,17 @@ ghost use Rattle.x64_insn.specs.declared.types.Insn.{Insn};
 ghost use Rattle.x64_insn.specs.Encoding.{Decodes, IsBeginning, Spells};
 ghost use Rattle.x64_decode.specs.Decoding.{decoded_of};
 
-mod fields;
+#[cfg(test)]
+mod address_tests;
+mod meaning;
 mod numbers;
+mod reading;
+#[cfg(test)]
+mod refusal_tests;
 #[cfg(test)]
 mod tests;
 
-use fields::{Stop, read_fields};
+use reading::{Stop, read_fields};
 use x64_insn::Insn;
 
 /// What bytes begin with: an instruction and how many bytes it has, no instruction whatever follows, or less than a whole one.

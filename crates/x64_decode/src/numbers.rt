@@ -1,6 +1,6 @@
 //! Bytes as numbers.
 
-ghost use Rattle.std.specs.Prelude.{◌≡◌, ◌<◌, ◌≤◌, ◌-◌, ◌*◌, ◌^◌, ◌≤ℤ◌, ◌<ℤ◌, pos, negsuc, length};
+ghost use Rattle.std.specs.Prelude.{◌≡◌, ◌<◌, ◌≤◌, ◌^◌, length};
 ghost use Rattle.x64_insn.specs.Encoding.{signed_from, signed_of, unsigned_of};
 
 // The number of bytes, the lowest first.
@@ -15,48 +15,77 @@ fn unsigned_of(bytes: &[u8]) -> u64
     }
 }
 
-// Half of the numbers that so many bytes have.
-fn half_of(count: usize) -> u64
-    requires low { 1 ≤ count }
-    requires high { count ≤ 8 }
-    ensures value { 2 * result ≡ 256 ^ count }
-    ensures fits { result ≤ 2 ^ 63 }
+// How many numbers so many bytes have.
+fn numbers_of(count: usize) -> u128
+    requires { count ≤ 8 }
+    ensures value { result ≡ 256 ^ count }
+    ensures fits { result ≤ 2 ^ 64 }
+    ensures small { count ≤ 4 → result ≤ 2 ^ 32 }
 {
     match count {
-        1 => 1 << 7,
-        2 => 1 << 15,
-        3 => 1 << 23,
-        4 => 1 << 31,
-        5 => 1 << 39,
-        6 => 1 << 47,
-        7 => 1 << 55,
-        _ => 1 << 63,
+        0 => 1,
+        1 => 1 << 8,
+        2 => 1 << 16,
+        3 => 1 << 24,
+        4 => 1 << 32,
+        5 => 1 << 40,
+        6 => 1 << 48,
+        7 => 1 << 56,
+        _ => 1 << 64,
     }
 }
 
-// A number as a signed one.
+// A number as a signed one: the upper half stands for the negative numbers.
 #[tactic(auto, unfolding(x64_insn::specs::Encoding::signed_from))]
-fn signed_from(number: u64, half: u64) -> i128
-    requires number { number < 2 * half }
-    requires half { half ≤ 2 ^ 63 }
-    ensures value { result ≡ signed_from number (2 * half) }
-    ensures low { negsuc (2 ^ 63 - 1) ≤ℤ result }
-    ensures high { result <ℤ pos (2 ^ 63) }
+fn signed_from(number: u64, all: u128) -> i64
+    requires below { number < all }
+    requires fits { all ≤ 2 ^ 64 }
+    ensures { result ≡ signed_from number all }
 {
-    let number = i128::from(number);
-    let half = i128::from(half);
-    if 2 * number < 2 * half {
-        number
+    if 2 * u128::from(number) < all {
+        number as i64
     } else {
-        number - 2 * half
+        (i128::from(number) - all as i128) as i64
     }
 }
 
-/// The signed number of one to eight bytes, the lowest first: the upper half stands for the negative numbers.
+// The same for numbers of up to 32 bits.
+#[tactic(auto, unfolding(x64_insn::specs::Encoding::signed_from))]
+fn small_signed_from(number: u64, all: u128) -> i32
+    requires below { number < all }
+    requires fits { all ≤ 2 ^ 32 }
+    ensures { result ≡ signed_from number all }
+{
+    if 2 * u128::from(number) < all {
+        number as i32
+    } else {
+        (i128::from(number) - all as i128) as i32
+    }
+}
+
+/// The signed number of up to eight bytes, the lowest first. No bytes are 0.
 pub fn signed_of(bytes: &[u8]) -> i64
-    requires some { 1 ≤ length bytes.now }
-    requires room { length bytes.now ≤ 8 }
+    requires { length bytes.now ≤ 8 }
     ensures { result ≡ signed_of bytes.now }
 {
-    signed_from(unsigned_of(bytes), half_of(bytes.len())) as i64
+    signed_from(unsigned_of(bytes), numbers_of(bytes.len()))
+}
+
+/// The signed number of up to four bytes.
+pub fn small_signed_of(bytes: &[u8]) -> i32
+    requires { length bytes.now ≤ 4 }
+    ensures { result ≡ signed_of bytes.now }
+{
+    small_signed_from(unsigned_of(bytes), numbers_of(bytes.len()))
+}
+
+/// The number of at most one byte.
+pub fn byte_of(bytes: &[u8]) -> u8
+    requires { length bytes.now ≤ 1 }
+    ensures { result ≡ unsigned_of bytes.now }
+{
+    match bytes {
+        [] => 0,
+        [byte, ..] => *byte,
+    }
 }

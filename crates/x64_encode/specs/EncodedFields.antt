@@ -1,18 +1,48 @@
 -- The fields that the encoder writes, by the names of the relation.
-use Rattle.std.specs.Prelude.{None, []}
+use Rattle.std.specs.Prelude.{ℕ, ◌+◌, ◌<◌, ◌≤◌, Option, Some, None, List}
 use Rattle.x64_insn.specs.Encoding.{Fields}
-use Rattle.x64_insn.specs.Chosen.{bytes_of_number}
-use Rattle.x64_encode.specs.declared.ChosenFields.{ChosenFields}
+use Rattle.x64_insn.specs.Chosen.{RmParts, signed_bytes}
+use Rattle.x64_encode.specs.declared.fields.SignedBytes.{SignedBytes}
+use Rattle.x64_encode.specs.declared.fields.RmFields.{RmFields}
+use Rattle.x64_encode.specs.declared.fields.ChosenFields.{ChosenFields}
 
--- a prefix 66, the byte 0F, a SIB or a displacement stands in no chosen spelling
+abbrev pub named_bytes : SignedBytes → List ℕ
+named_bytes b = signed_bytes b.count b.value
+
+abbrev pub named_parts : RmFields → RmParts
+named_parts p = record {
+  mode = p.mode;
+  field = p.field;
+  x = p.x;
+  b = p.b;
+  sib = p.sib;
+  displacement = named_bytes p.displacement;
+}
+
+-- the parts fit their bits, and the displacement has at most four bytes
+pub record Small (p : RmFields) : Type 0 where
+  pub mode : p.mode < 4
+  pub field : p.field < 8
+  pub x : p.x < 2
+  pub b : p.b < 2
+  pub count : p.displacement.count ≤ 4
+
 abbrev pub named_fields : ChosenFields → Fields
 named_fields f = record {
-  operand_size = None;
+  operand_size = f.operand_size;
   rex = f.rex;
-  escape = None;
+  escape = f.escape;
   opcode = f.opcode;
   modrm = f.modrm;
-  sib = None;
-  displacement = [];
-  immediate = bytes_of_number f.immediate_length f.immediate;
+  sib = f.sib;
+  displacement = named_bytes f.displacement;
+  immediate = named_bytes f.immediate;
 }
+
+-- displacement and immediate have at most eight bytes
+abbrev pub IsShort : ChosenFields → Type 0
+IsShort f = f.displacement.count + f.immediate.count ≤ 8
+
+abbrev pub named_choice : Option ChosenFields → Option Fields
+named_choice None = None
+named_choice (Some f) = Some (named_fields f)

@@ -2,7 +2,7 @@
 
 ghost use Rattle.std.specs.Prelude.{◌≡◌, ℕ, ◌+◌, ◌<◌, ◌≤◌, List, [], ◌∷◌, ◌++◌, length, take};
 ghost use Rattle.std.specs.Option.{option_to_list};
-ghost use Rattle.x64_insn.specs.Chosen.{bytes_of_number};
+ghost use Rattle.x64_insn.specs.Chosen.{bytes_of_number, signed_bytes};
 
 use std::marker::Model;
 
@@ -61,6 +61,15 @@ impl Code15 {
             self.push((rest % 256) as u8);
             rest /= 256;
         }
+    }
+
+    /// Puts the lowest bytes of a signed number at the end, so many as are counted.
+    pub(super) fn push_signed(&mut self, number: i64, count: usize)
+        requires room { length self.old + count ≤ 15 }
+        requires count { count ≤ 8 }
+        ensures { self.new ≡ self.old ++ signed_bytes count number }
+    {
+        self.push_number(number.cast_unsigned(), count);
     }
 
     /// Puts a byte at the end, if there is one.

@@ -1,13 +1,16 @@
 -- The bytes of immediates, and the signed numbers that they hold.
-use Rattle.std.proofs.Common.{◌≡◌, ℕ, zero, suc, ◌-◌, ◌*◌, ◌/◌, ◌%◌, ◌^◌, ◌<◌, ◌≤◌, List, [], ◌∷◌, length, true, not, refl, ap, arith, ℤ, pos, negsuc, ◌-ℤ◌, ◌<ℤ◌, ◌≤ℤ◌}
+use Rattle.std.proofs.Common.{◌≡◌, ℕ, zero, suc, ◌-◌, ◌*◌, ◌/◌, ◌%◌, ◌^◌, ◌<◌, ◌≤◌, List, [], ◌∷◌, length, true, not, refl, sym, ap, ◌∙◌, subst, arith, ℤ, pos, negsuc, ◌-ℤ◌, ◌<ℤ◌, ◌≤ℤ◌}
 use Rattle.std.specs.Prelude.{◌&&◌, nat_lt, int_lt}
 use Rattle.std.specs.List.{list_all}
-use Rattle.std.proofs.Math.Nat.{pow-succ', mod-eq_of_lt}
+use Rattle.std.proofs.Math.Nat.{mod-lt, pow-succ', mod-eq_of_lt}
 use Rattle.std.proofs.lemmas.Bool.{and_parts, cond_both, lt-ltb, ltb-true, ltb-false}
 use Rattle.std.proofs.lemmas.Int.{ints}
 use Rattle.jz_words.specs.Words.{modulo}
-use Rattle.x64_insn.specs.Encoding.{is_byte, AreBytes, unsigned_of, signed_from}
-use Rattle.x64_insn.specs.Chosen.{bytes_of_number, fits_bytes}
+use Rattle.jz_words.specs.declared.size.Size.{Size}
+use Rattle.jz_words.specs.declared.size.Size.TheVariants.{S8, S16, S32, S64}
+use Rattle.x64_insn.specs.Table.{immediate_by}
+use Rattle.x64_insn.specs.Encoding.{is_byte, AreBytes, unsigned_of, signed_from, signed_of}
+use Rattle.x64_insn.specs.Chosen.{bytes_of_number, signed_bytes, fits_bytes}
 
 -- ---- bytes of a number
 pub length_is : (k n : ℕ) → length (bytes_of_number k n) ≡ k
@@ -64,7 +67,7 @@ unfolding signed_from
 signed_high half n h = cond_both (nat_lt (2 * n) (2 * half)) _ _ (λ z. z <ℤ pos half) (λ e. omega (arith, ints, ltb-true _ _ e)) (λ e. omega (arith, ints, h))
 
 -- ---- the test
-within : (low high i : ℤ) → (not (int_lt i low) && int_lt i high) ≡ true → (low ≤ℤ i) × (i <ℤ high)
+pub within : (low high i : ℤ) → (not (int_lt i low) && int_lt i high) ≡ true → (low ≤ℤ i) × (i <ℤ high)
 within low high i h = let t = and_parts (not (int_lt i low)) (int_lt i high) h in (grind (arith, ints), grind (arith, ints))
 
 passes : (low high i : ℤ) → low ≤ℤ i → i <ℤ high → (not (int_lt i low) && int_lt i high) ≡ true
@@ -75,3 +78,45 @@ fits_within k i h = within _ _ i h
 
 pub within_fits : (k : ℕ) (i : ℤ) → (pos 0 -ℤ pos (256 ^ k / 2)) ≤ℤ i → i <ℤ pos (256 ^ k / 2) → fits_bytes k i ≡ true
 within_fits k i a b = passes _ _ i a b
+
+-- ---- bytes of a signed number that they can hold
+modulo_small : (all : ℕ) (i : ℤ) → 0 < all → modulo i all < all
+modulo_small all (pos n) h = mod-lt n h
+modulo_small all (negsuc n) h = omega (arith, h)
+
+read_signed : (k half : ℕ) (i : ℤ) → 256 ^ k ≡ 2 * half → 0 < half → (pos 0 -ℤ pos half) ≤ℤ i → i <ℤ pos half → signed_of (signed_bytes k i) ≡ i
+read_signed k half i e h low high =
+    let m = modulo_small (256 ^ k) i (omega (arith, e, h)) in
+    ap (λ n. signed_from n (256 ^ length (signed_bytes k i))) (read_back k (modulo i (256 ^ k)) m)
+    ∙ ap (λ l. signed_from (modulo i (256 ^ k)) (256 ^ l)) (length_is k (modulo i (256 ^ k)))
+    ∙ ap (λ all. signed_from (modulo i all) all) e
+    ∙ signed_back half i low high
+
+pub one_byte : (i : ℤ) → fits_bytes 1 i ≡ true → signed_of (signed_bytes 1 i) ≡ i
+one_byte i h = let w = fits_within 1 i h in read_signed 1 128 i refl (omega arith) w.0 w.1
+
+pub two_bytes : (i : ℤ) → fits_bytes 2 i ≡ true → signed_of (signed_bytes 2 i) ≡ i
+two_bytes i h = let w = fits_within 2 i h in read_signed 2 (2 ^ 15) i refl (omega arith) w.0 w.1
+
+pub four_bytes : (i : ℤ) → fits_bytes 4 i ≡ true → signed_of (signed_bytes 4 i) ≡ i
+four_bytes i h = let w = fits_within 4 i h in read_signed 4 (2 ^ 31) i refl (omega arith) w.0 w.1
+
+pub eight_bytes : (i : ℤ) → fits_bytes 8 i ≡ true → signed_of (signed_bytes 8 i) ≡ i
+eight_bytes i h = let w = fits_within 8 i h in read_signed 8 (2 ^ 63) i refl (omega arith) w.0 w.1
+
+pub sized_bytes : (size : Size) (i : ℤ) → fits_bytes (immediate_by size) i ≡ true → signed_of (signed_bytes (immediate_by size) i) ≡ i
+sized_bytes S8 i h = one_byte i h
+sized_bytes S16 i h = two_bytes i h
+sized_bytes S32 i h = four_bytes i h
+sized_bytes S64 i h = four_bytes i h
+
+pub signed_are_bytes : (k : ℕ) (i : ℤ) → AreBytes k (signed_bytes k i)
+signed_are_bytes k i = are_bytes k (modulo i (256 ^ k))
+
+-- what bytes hold, more bytes can hold
+pub bytes_fit : (k more half : ℕ) (bs : List ℕ) → 256 ^ k ≡ 2 * half → half ≤ 256 ^ more / 2 → AreBytes k bs → fits_bytes more (signed_of bs) ≡ true
+bytes_fit k more half bs e le are =
+    let all : 256 ^ length bs ≡ 2 * half = ap (λ n. 256 ^ n) are.0 ∙ e in
+    let small : unsigned_of bs < 2 * half = subst (λ n. unsigned_of bs < n) all (unsigned_small bs are.1) in
+    subst (λ n. fits_bytes more (signed_from (unsigned_of bs) n) ≡ true) (sym all)
+    (within_fits more _ (omega (arith, ints, le, signed_low half (unsigned_of bs) small)) (omega (arith, ints, le, signed_high half (unsigned_of bs) small)))

@@ -1,6 +1,22 @@
 pub mod Registers
 pub mod Immediates
-pub mod ChosenSpelling
-mod Examples
-pub mod Slots
+pub mod PlainRows
 pub mod ResultFlags
+pub mod Quotients
+pub mod WholeProducts
+pub mod Accesses
+pub mod RexBits
+pub mod ModrmFields
+pub mod AddressFields
+pub mod ModrmSpellings
+pub mod OpcodeRows
+pub mod PairSpellings
+pub mod NumberSpellings
+pub mod SizedSpellings
+pub mod OpcodeSpellings
+pub mod SpelledAddresses
+pub mod SpelledOnly
+pub mod ChosenSpelling
+pub mod RegisterBytes
+mod Examples
+mod ResultExamples

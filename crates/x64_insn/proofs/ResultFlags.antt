@@ -9,24 +9,22 @@ use Rattle.std.proofs.lemmas.Nat.{xor_lt}
 use Rattle.std.proofs.lemmas.Nat.Bits.{same_from_bits, bit_at_xor, bit_at-lt, bit_at-zero}
 use Rattle.jz_words.specs.declared.size.Size.TheVariants.{S64}
 use Rattle.jz_words.specs.Sizes.{signed}
-use Rattle.jz_words.specs.Memory.{Memory}
 use Rattle.jz_words.proofs.Residues.{residue_small, difference_residue}
-use Rattle.x64_insn.specs.declared.answer.Answer.{Answer}
 use Rattle.x64_insn.specs.declared.types.Reg.{Reg}
 use Rattle.x64_insn.specs.declared.types.Operand.{Operand}
 use Rattle.x64_insn.specs.declared.types.Operand.TheVariants as operand
 use Rattle.x64_insn.specs.declared.types.Alu.{Alu}
 use Rattle.x64_insn.specs.declared.types.Alu.TheVariants as alu
-use Rattle.x64_insn.specs.declared.types.Insn.TheVariants as insn
 use Rattle.x64_insn.specs.declared.types.Flag.{Flag}
 use Rattle.x64_insn.specs.declared.types.Flag.TheVariants.{Of, Cf, Sf, Pf, Zf}
 use Rattle.x64_insn.specs.declared.types.FlagVal.{FlagVal}
 use Rattle.x64_insn.specs.declared.types.FlagVal.TheVariants.{True, Undefined}
 use Rattle.x64_insn.specs.declared.types.State.{State}
 use Rattle.x64_insn.specs.Table.{number_of}
-use Rattle.x64_insn.specs.Answers.{flag, overflows, flags_of, sum_answer, difference_answer, xor_answer}
-use Rattle.x64_insn.specs.Rows.{After, effect_of, reg_word, with_reg, no_event, alu_row, answer_row, flag_of}
+use Rattle.x64_insn.specs.Answers.{flag, overflows, flags_of, sum_answer, difference_answer, xor_answer, alu_answer}
+use Rattle.x64_insn.specs.Rows.{reg_word, carry_read, writes_operand, flag_of}
 use Rattle.x64_insn.specs.Laws.{IsWordOf, IsOutOfRange, ShowsResult, ShowsSum, ShowsDifference, ShowsDifferentBits, Leaves}
+use Rattle.x64_insn.proofs.PlainRows.{answered, operation_step}
 use Rattle.x64_insn.proofs.Registers.{word_same}
 
 -- a flag is set exactly where its test holds
@@ -102,22 +100,18 @@ word_fits st (operand.Reg r) b h = omega (arith, h)
 word_fits st (operand.Imm i) b h = subst (λ n. n < 2 ^ 64) h (residue_small i)
 word_fits st (operand.Mem m) b h = absurd h
 
--- an operation whose answer this is
-leaves : (operation : Alu) (Shows : Reg → ℕ → ℕ → State → Type 0) (answer : ℕ → ℕ → Answer)
-    → ((to : Reg) (v next : ℕ) (st : State) (m : Memory) → alu_row operation to v next st m ≡ answer_row S64 to (answer (reg_word st S64 to) v) next st m)
-    → ((to : Reg) (a b : ℕ) (st : State) → a < 2 ^ 64 → b < 2 ^ 64 → ((answer a b).value < 2 ^ 64 → length st.regs ≡ 16 → reg_word st S64 to ≡ (answer a b).value) → st.flags ≡ (answer a b).flags → Shows to a b st)
+-- an operation with this answer
+leaves : (operation : Alu) (Shows : Reg → ℕ → ℕ → State → Type 0) → ((st : State) → carry_read operation st ≡ Some false) → writes_operand operation ≡ true
+    → ((to : Reg) (a b : ℕ) (st : State) → a < 2 ^ 64 → b < 2 ^ 64 → ((alu_answer operation S64 a b false).value < 2 ^ 64 → length st.regs ≡ 16 → reg_word st S64 to ≡ (alu_answer operation S64 a b false).value)
+    → st.flags ≡ (alu_answer operation S64 a b false).flags → Shows to a b st)
     → Leaves operation Shows
-unfolding answer_row
-leaves operation Shows answer row show to from b next st m is =
-    let a = reg_word st S64 to in
-    let after : After = record { state = record (with_reg st S64 to (answer a b).value) { rip = next; flags = (answer a b).flags }; memory = m; leak = no_event } in
-    let step = by_operand from is in
-    (after, step ∙ row to b next st m, show to a b after.state (omega arith) (word_fits st from b is) (λ small size. word_same st.regs to (answer a b).value (sym (length-set st.regs (number_of to) (answer a b).value) ∙ size) small) refl)
-  where
-    by_operand : (o : Operand) → IsWordOf st o b → effect_of (insn.Alu operation S64 (operand.Reg to) o) next st m ≡ alu_row operation to b next st m
-    by_operand (operand.Reg r) h = ap (λ v. alu_row operation to v next st m) h
-    by_operand (operand.Imm i) h = ap (λ v. alu_row operation to v next st m) h
-    by_operand (operand.Mem x) h = absurd h
+leaves operation Shows carry writes show to from b next st m is =
+    let r = alu_answer operation S64 (reg_word st S64 to) b false in (
+      answered to r next st m,
+      operation_step operation to from b next st m (carry st) writes is,
+      show to (reg_word st S64 to) b (answered to r next st m).state (omega arith) (word_fits st from b is)
+          (λ small size. word_same st.regs to r.value (sym (length-set st.regs (number_of to) r.value) ∙ size) small) refl,
+    )
 
 -- ---- ADD
 carry_is : (a b : ℕ) → (nat_le (2 ^ 64) (a + b + 0) ≡ true) ↔ (2 ^ 64 ≤ a + b)
@@ -133,7 +127,7 @@ sum_shows to a b st h k value e =
     (shown to st _ _ ((a + b + 0) % 2 ^ 64) (value (omega arith)) e (overflow_is _ _ same) (carry_is a b) (λ z. sym plain ∙ z, λ z. plain ∙ z))
 
 pub add_shows : Leaves alu.Add ShowsSum
-add_shows = leaves alu.Add ShowsSum (λ a b. sum_answer S64 a b false) (λ to v next st m. refl) sum_shows
+add_shows = leaves alu.Add ShowsSum (λ st. refl) refl sum_shows
 
 -- ---- SUB
 borrow_is : (a b : ℕ) → (nat_lt a (b + 0) ≡ true) ↔ (a < b)
@@ -153,7 +147,7 @@ difference_shows to a b st h k value e =
     (shown to st _ _ ((a + 2 ^ 64 - (b + 0)) % 2 ^ 64) (value (omega arith)) e (overflow_is _ _ same) (borrow_is a b) (no_difference a b h k))
 
 pub sub_shows : Leaves alu.Sub ShowsDifference
-sub_shows = leaves alu.Sub ShowsDifference (λ a b. difference_answer S64 a b false) (λ to v next st m. refl) difference_shows
+sub_shows = leaves alu.Sub ShowsDifference (λ st. refl) refl difference_shows
 
 -- ---- XOR
 even_same : (x y : ℕ) → x < 2 → y < 2 → (x + y) % 2 ≡ 0 → x ≡ y
@@ -175,4 +169,4 @@ unfolding xor_answer
 xor_shows_bits to a b st h k value e = shown to st false false (bit_xor a b) (value (xor_lt 64 a b h k)) e never_set never_set (no_bit a b)
 
 pub xor_shows : Leaves alu.Xor ShowsDifferentBits
-xor_shows = leaves alu.Xor ShowsDifferentBits (xor_answer S64) (λ to v next st m. refl) xor_shows_bits
+xor_shows = leaves alu.Xor ShowsDifferentBits (λ st. refl) refl xor_shows_bits

@@ -5,12 +5,11 @@ ghost use Rattle.jz_words.specs.Memory.{Memory};
 ghost use Rattle.x64_insn.specs.declared.types.Reg.TheVariants as reg;
 ghost use Rattle.x64_insn.specs.declared.types.Alu.TheVariants as alu;
 ghost use Rattle.x64_insn.specs.declared.types.Insn.{Insn};
-ghost use Rattle.x64_insn.specs.declared.types.Insn.TheVariants as insn;
 ghost use Rattle.x64_insn.specs.declared.types.State.{State};
 ghost use Rattle.x64_insn.specs.declared.types.FaultKind.{FaultKind};
 ghost use Rattle.x64_insn.specs.declared.types.FaultKind.TheVariants.{BadAddress};
 ghost use Rattle.x64_insn.specs.Rows.{After, Did, effect_of, reg_value};
-ghost use Rattle.x64_insn.specs.Laws.{HasInvalidByte, Leaves, ShowsSum, ShowsDifference, ShowsDifferentBits};
+ghost use Rattle.x64_insn.specs.Laws.{HasInvalidAccess, accessed_bytes, Leaves, ShowsSum, ShowsDifference, ShowsDifferentBits};
 
 /// A fault changes neither state nor memory.
 pub fn faults_change_nothing()
@@ -18,10 +17,10 @@ pub fn faults_change_nothing()
         → Did is (Err fault) old new before now → (new ≡ old) × (now ≡ before) }
 {}
 
-/// A bad address comes exactly where the instruction is RET and a byte of its slot is not valid.
-pub fn bad_address_is_an_invalid_slot()
+/// A bad address comes exactly where a byte that the instruction accesses is not valid.
+pub fn bad_address_is_an_invalid_byte()
     ensures { (i : Insn) (next : ℕ) (st : State) (m : Memory) → reg_value st reg.Rsp < 2 ^ 64
-        → ((effect_of i next st m ≡ Err BadAddress) ↔ ((i ≡ insn.Ret) × HasInvalidByte m (reg_value st reg.Rsp) 8)) }
+        → ((effect_of i next st m ≡ Err BadAddress) ↔ HasInvalidAccess m (accessed_bytes i next st)) }
 {}
 
 /// ADD of 64 bits never faults; the register holds the sum, and the flags say of it what they should in plain arithmetic

@@ -2,9 +2,17 @@
 #![tactic(auto)]
 
 mod answer;
+mod arithmetic;
 mod bus;
+mod conditions;
 mod effects;
+mod jumps;
 mod laws;
+mod moves;
+mod operands;
+mod products;
+mod results;
+mod shifts;
 pub mod table;
 #[cfg(test)]
 mod tests;
@@ -13,8 +21,13 @@ mod types;
 pub use bus::Bus;
 pub use effects::effect;
 pub use laws::{
-    add_shows_its_sum, bad_address_is_an_invalid_slot, faults_change_nothing,
+    add_shows_its_sum, bad_address_is_an_invalid_byte, faults_change_nothing,
     sub_shows_its_difference, xor_shows_different_bits,
+};
+pub use results::{
+    low_product_is_low, product_is_whole, product_marks_overflow, quotient_divides,
+    quotient_is_missed, signed_product_is_whole, signed_product_marks_overflow,
+    signed_quotient_divides, signed_quotient_is_missed,
 };
 pub use types::{
     Alu, Base, Cond, Count, FaultKind, Flag, FlagVal, Insn, Mem, One, Operand, Place, Reg, Shift,

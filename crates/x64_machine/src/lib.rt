@@ -6,6 +6,10 @@ mod laws;
 mod machine;
 mod step;
 #[cfg(test)]
+mod table_rows;
+#[cfg(test)]
+mod table_tests;
+#[cfg(test)]
 mod tests;
 
 pub use bus::MemBus;

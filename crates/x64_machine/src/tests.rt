@@ -2,6 +2,7 @@
 
 use crate::{Machine, MemBus, Step};
 use jz_leak::MemMap;
+use jz_words::Size;
 use std::alloc::{AllocError, Global};
 use std::test::Fail;
 use x64_insn::{FaultKind, FlagVal, Insn, State, effect};
@@ -87,5 +88,73 @@ fn ret_faults_at_a_slot_that_is_not_whole(rt: HostRuntime) -> Result<(), Fail> {
     let answer = effect(&Insn::Ret, BASE + 1, &mut state, &mut memory);
     assert!(rt; answer == Err(FaultKind::BadAddress));
     assert!(rt; state == before);
+    Ok(())
+}
+
+// A machine over some code with 16 valid bytes below the stack pointer and 8 at it.
+fn with_stack(alloc: Global, code: &[u8], regs: [u64; 16]) -> Result<Machine, AllocError> {
+    let mut mem = MemMap::new(alloc);
+    mem.add(STACK - 16, &[0; 24])?;
+    let flags = [FlagVal::False; 5];
+    Machine::new(
+        alloc,
+        code,
+        BASE,
+        State {
+            regs,
+            rip: BASE,
+            flags,
+        },
+        mem,
+    )
+}
+
+#[test]
+fn call_puts_the_next_address_on_the_stack(rt: HostRuntime) -> Result<(), Fail> {
+    // call $+16, and ret behind ten other bytes
+    let code = [
+        0xe8, 0x0b, 0, 0, 0, 0xc3, 0, 0, 0, 0, 0, 0, 0, 0, 0, 0, 0xc3,
+    ];
+    let regs = [0, 0, 0, 0, STACK, 0, 0, 0, 0, 0, 0, 0, 0, 0, 0, 0];
+    let mut machine = with_stack(rt.alloc(), &code, regs)?;
+    let (answer, leak) = machine.step();
+    assert_eq!(rt; answer, Step::Running);
+    assert_eq!(rt; leak.addr, Some(STACK - 8));
+    assert_eq!(rt; machine.state.regs[4], STACK - 8);
+    assert_eq!(rt; machine.state.rip, BASE + 16);
+    assert_eq!(rt; machine.mem.map.load(STACK - 8, Size::S64), Some(BASE + 5));
+    // the return from there is not the entry's
+    assert_eq!(rt; machine.run(1), Step::Running);
+    assert_eq!(rt; machine.state.rip, BASE + 5);
+    assert_eq!(rt; machine.run(1), Step::Ended);
+    Ok(())
+}
+
+#[test]
+fn call_faults_where_no_slot_is(rt: HostRuntime) -> Result<(), Fail> {
+    let regs = [0, 0, 0, 0, STACK - 9, 0, 0, 0, 0, 0, 0, 0, 0, 0, 0, 0];
+    let mut machine = with_stack(rt.alloc(), &[0xe8, 0, 0, 0, 0], regs)?;
+    let before = machine.state;
+    assert_eq!(rt; machine.run(1), Step::Fault(FaultKind::BadAddress));
+    assert!(rt; machine.state == before);
+    Ok(())
+}
+
+// MUL leaves ZF undefined, and JE reads it.
+#[test]
+fn a_jump_on_a_flag_that_mul_leaves_undefined_faults(rt: HostRuntime) -> Result<(), Fail> {
+    // mul rcx; je $+2
+    let code = [0x48, 0xf7, 0xe1, 0x74, 0x00];
+    let regs = [1 << 63, 2, 0, 0, STACK, 0, 0, 0, 0, 0, 0, 0, 0, 0, 0, 0];
+    let mut machine = with_stack(rt.alloc(), &code, regs)?;
+    assert_eq!(rt; machine.run(1), Step::Running);
+    assert_eq!(rt; machine.state.regs[0], 0);
+    assert_eq!(rt; machine.state.regs[2], 1);
+    let [of, cf, sf, pf, zf] = machine.state.flags;
+    assert_eq!(rt; (of, cf), (FlagVal::True, FlagVal::True));
+    assert_eq!(rt; (sf, pf), (FlagVal::Undefined, FlagVal::Undefined));
+    assert_eq!(rt; zf, FlagVal::Undefined);
+    assert_eq!(rt; machine.run(1), Step::Fault(FaultKind::UndefinedFlag));
+    assert_eq!(rt; machine.state.rip, BASE + 3);
     Ok(())
 }

@@ -1,5 +1,0 @@
-use Rattle.x64_insn.proofs.Slots.{bad_address}
-use Rattle.x64_insn.proofs.laws.bad_address_is_an_invalid_slot.Goals as goal
-
-pub returns : goal.returns
-returns c = bad_address
