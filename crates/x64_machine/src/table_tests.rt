@@ -117,36 +117,56 @@ fn is_decoded(rt: &impl Abort, alloc: Global, code: &[u8], name: &str) -> Result
     Ok(())
 }
 
+// The registers and flags are those of a column.
+fn stands(rt: &impl Abort, state: State, want: Standing, line: &str) {
+    let [rax, rcx, rdx, rbx, _] = want.words;
+    let [found_rax, found_rcx, found_rdx, found_rbx, ..] = state.regs;
+    assert!(rt;
+        [found_rax, found_rcx, found_rdx, found_rbx] == [rax, rcx, rdx, rbx],
+        "{line}"
+    );
+    assert!(rt; state.flags == want.flags, "{line}");
+}
+
+// RIP moved so far.
+fn moved_by(rt: &impl Abort, rip: u64, distance: &str, line: &str) {
+    let Ok(distance) = distance.parse::<i64>() else {
+        panic!(rt; "no distance: {line}")
+    };
+    assert_eq!(rt; rip, BASE.wrapping_add(distance.cast_unsigned()), "{line}");
+}
+
+// What a step answers and shows, the state and the slot behind it.
+fn stepped(
+    alloc: Global,
+    mut machine: Machine,
+) -> Result<(String, StepLeak, State, Option<u64>), AllocError> {
+    let (answer, leak) = machine.step();
+    let answer = format!(in alloc; "{answer:?}")?;
+    Ok((
+        answer,
+        leak,
+        machine.state,
+        machine.mem.load(SLOT, Size::S64),
+    ))
+}
+
 fn row_is(rt: &impl Abort, alloc: Global, line: &str) -> Result<(), AllocError> {
     let columns: Vec<&str> = line.split(" | ").collect(alloc)?;
-    let [bytes, insn, before, after, moved, events, answer] = columns.as_slice() else {
+    let [bytes, insn, before, after, distance, events, answer] = columns.as_slice() else {
         panic!(rt; "no row: {line}")
     };
     let code = code_of(rt, alloc, bytes)?;
     is_decoded(rt, alloc, code.as_slice(), insn)?;
-    let mut machine = machine(alloc, code.as_slice(), values(rt, alloc, before)?)?;
-    let (found, leak) = machine.step();
-    let found = format!(in alloc; "{found:?}")?;
+    let machine = machine(alloc, code.as_slice(), values(rt, alloc, before)?)?;
+    let want = values(rt, alloc, after)?;
+    let (found, leak, state, slot) = stepped(alloc, machine)?;
     assert_eq!(rt; found.as_str(), *answer, "{line}");
     assert!(rt; leak == shown(rt, alloc, events)?, "{line}");
-    let after = values(rt, alloc, after)?;
-    let [rax, rcx, rdx, rbx, slot] = after.words;
-    let state = machine.state;
-    let [found_rax, found_rcx, found_rdx, found_rbx, ..] = state.regs;
-    assert_eq!(rt; found_rax, rax, "{line}");
-    assert_eq!(rt; found_rcx, rcx, "{line}");
-    assert_eq!(rt; found_rdx, rdx, "{line}");
-    assert_eq!(rt; found_rbx, rbx, "{line}");
-    assert_eq!(rt; machine.mem.load(SLOT, Size::S64), Some(slot), "{line}");
-    assert!(rt; state.flags == after.flags, "{line}");
-    let Ok(moved) = moved.parse::<i64>() else {
-        panic!(rt; "no distance: {line}")
-    };
-    assert_eq!(rt;
-        state.rip,
-        BASE.wrapping_add(moved.cast_unsigned()),
-        "{line}"
-    );
+    let [_, _, _, _, want_slot] = want.words;
+    assert_eq!(rt; slot, Some(want_slot), "{line}");
+    stands(rt, state, want, line);
+    moved_by(rt, state.rip, distance, line);
     Ok(())
 }
 
