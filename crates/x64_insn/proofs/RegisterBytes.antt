@@ -1,5 +1,5 @@
 -- The bytes of operations on registers of 64 bits.
-use Rattle.std.proofs.Common.{◌≡◌, ℕ, zero, suc, ◌+◌, ◌*◌, ◌/◌, ◌%◌, ◌^◌, ◌<◌, ◌≤◌, Bool, true, false, List, ◌∷◌, length, refl, ap, subst, sym, arith, lit≤}
+use Rattle.std.proofs.Common.{◌≡◌, ℕ, zero, suc, ◌+◌, ◌*◌, ◌/◌, ◌%◌, ◌^◌, ◌<◌, ◌≤◌, Bool, true, false, List, ◌∷◌, length, refl, subst, sym, arith, lit≤}
 use Rattle.std.specs.Prelude.{ℤ, Some, None, if◌then◌else◌}
 use Rattle.std.specs.List.{AllByRecursion}
 use Rattle.std.proofs.lemmas.Bool.Decides.{nat_tests}
@@ -14,6 +14,7 @@ use Rattle.x64_insn.specs.Table.{number_of}
 use Rattle.x64_insn.specs.Encoding.{spelling_of}
 use Rattle.x64_insn.specs.Chosen.{bytes_of_number, signed_bytes, fits_bytes, rex_with, rm_parts, modrm_fields, with_register, with_number, with_opcode_register, chosen_fields, chosen_bytes}
 use Rattle.x64_insn.proofs.Registers.{number_small}
+use Rattle.x64_insn.proofs.Immediates.{length_is}
 
 -- ---- what stands in a spelling
 wide_rex : (r b : ℕ) (needed : Bool) → rex_with 1 r 0 b needed ≡ Some (0x48 + 4 * r + b)
@@ -37,37 +38,33 @@ number_small_bytes : (k n : ℕ) → AllByRecursion (λ b. b < 256) (bytes_of_nu
 number_small_bytes zero n = tt
 number_small_bytes (suc k) n = (omega arith, number_small_bytes k (n / 256))
 
-number_length : (k n : ℕ) → length (bytes_of_number k n) ≡ k
-number_length zero n = refl
-number_length (suc k) n = ap (λ m. suc m) (number_length k (n / 256))
-
 register_few : (o n : ℕ) (to : Reg) (k v : ℕ) → o < 256 → n < 16 → k ≤ 4 → AreFew 10 (spelling_of (modrm_fields S64 false None o n (operand.Reg to) (bytes_of_number k v)))
 register_few o n to k v ho hn hk =
     let t = number_small to in
     subst (λ bs. AreFew 10 bs) (sym (register_spelling o n to (bytes_of_number k v)))
-    (record { small = (omega (arith, t, hn), (ho, (omega (arith, t, hn), number_small_bytes k v))); few = let e = number_length k v in omega (arith, e, hk) })
+    (record { small = (omega (arith, t, hn), (ho, (omega (arith, t, hn), number_small_bytes k v))); few = let e = length_is k v in omega (arith, e, hk) })
 
 opcode_few : (o : ℕ) (r : Reg) (k v : ℕ) → o < 248 → k ≤ 8 → AreFew 10 (spelling_of (with_opcode_register S64 None o r (bytes_of_number k v)))
 opcode_few o r k v ho hk =
     let t = number_small r in
     subst (λ bs. AreFew 10 bs) (sym (opcode_spelling o r (bytes_of_number k v)))
-    (record { small = (omega (arith, t), (omega (arith, t, ho), number_small_bytes k v)); few = let e = number_length k v in omega (arith, e, hk) })
+    (record { small = (omega (arith, t), (omega (arith, t, ho), number_small_bytes k v)); few = let e = length_is k v in omega (arith, e, hk) })
 
 -- ---- instructions
-alu_reg_by : (a : Alu) (o : ℕ) (to from : Reg) → o < 256 → AreFew 10 (spelling_of (with_register S64 o from (operand.Reg to)))
-alu_reg_by a o to from ho = register_few o (number_of from) to 0 0 ho (number_small from) (lit≤ tt)
+alu_reg_by : (o : ℕ) (to from : Reg) → o < 256 → AreFew 10 (spelling_of (with_register S64 o from (operand.Reg to)))
+alu_reg_by o to from ho = register_few o (number_of from) to 0 0 ho (number_small from) (lit≤ tt)
 
 pub alu_reg_few : (a : Alu) (to from : Reg) → AreFew 10 (chosen_bytes (insn.Alu a S64 (operand.Reg to) (operand.Reg from)))
 unfolding chosen_bytes chosen_fields
-alu_reg_few alu.Add to from = alu_reg_by alu.Add 1 to from (omega arith)
-alu_reg_few alu.Or to from = alu_reg_by alu.Or 9 to from (omega arith)
-alu_reg_few alu.Adc to from = alu_reg_by alu.Adc 17 to from (omega arith)
-alu_reg_few alu.Sbb to from = alu_reg_by alu.Sbb 25 to from (omega arith)
-alu_reg_few alu.And to from = alu_reg_by alu.And 33 to from (omega arith)
-alu_reg_few alu.Sub to from = alu_reg_by alu.Sub 41 to from (omega arith)
-alu_reg_few alu.Xor to from = alu_reg_by alu.Xor 49 to from (omega arith)
-alu_reg_few alu.Cmp to from = alu_reg_by alu.Cmp 57 to from (omega arith)
-alu_reg_few alu.Test to from = alu_reg_by alu.Test 0x85 to from (omega arith)
+alu_reg_few alu.Add to from = alu_reg_by 1 to from (omega arith)
+alu_reg_few alu.Or to from = alu_reg_by 9 to from (omega arith)
+alu_reg_few alu.Adc to from = alu_reg_by 17 to from (omega arith)
+alu_reg_few alu.Sbb to from = alu_reg_by 25 to from (omega arith)
+alu_reg_few alu.And to from = alu_reg_by 33 to from (omega arith)
+alu_reg_few alu.Sub to from = alu_reg_by 41 to from (omega arith)
+alu_reg_few alu.Xor to from = alu_reg_by 49 to from (omega arith)
+alu_reg_few alu.Cmp to from = alu_reg_by 57 to from (omega arith)
+alu_reg_few alu.Test to from = alu_reg_by 0x85 to from (omega arith)
 
 pub mov_reg_few : (to from : Reg) → AreFew 10 (chosen_bytes (insn.Mov S64 (operand.Reg to) (operand.Reg from)))
 unfolding chosen_bytes chosen_fields

@@ -1,6 +1,6 @@
 -- What the flags of a sum, a difference and an XOR show.
-use Rattle.std.proofs.Common.{◌≡◌, ◌≢◌, ℕ, ◌+◌, ◌-◌, ◌%◌, ◌^◌, ◌<◌, ◌≤◌, ◌↔◌, ◌⊎◌, inl, inr, Bool, true, false, not, ◌||◌, sym, ap, ◌∙◌, refl, subst, arith, ℤ, pos, ◌+ℤ◌, ◌-ℤ◌, ◌<ℤ◌, ◌≤ℤ◌}
-use Rattle.std.specs.Prelude.{length, Option, Some, nat_le, nat_lt, int_lt, bit_xor, ◌==◌, slice_get}
+use Rattle.std.proofs.Common.{◌≡◌, ◌≢◌, ℕ, ◌+◌, ◌-◌, ◌%◌, ◌^◌, ◌<◌, ◌≤◌, ◌↔◌, Bool, true, false, sym, ap, ◌∙◌, refl, subst, arith, ℤ, pos, ◌+ℤ◌, ◌-ℤ◌}
+use Rattle.std.specs.Prelude.{length, Option, Some, nat_le, nat_lt, bit_xor, ◌==◌, slice_get}
 use Rattle.std.specs.Int.{bit_at}
 use Rattle.std.proofs.lemmas.Bool.{le-leb, leb-true, lt-ltb, ltb-true}
 use Rattle.std.proofs.lemmas.Int.{ints}
@@ -23,8 +23,10 @@ use Rattle.x64_insn.specs.declared.types.State.{State}
 use Rattle.x64_insn.specs.Table.{number_of}
 use Rattle.x64_insn.specs.Answers.{flag, overflows, flags_of, sum_answer, difference_answer, xor_answer, alu_answer}
 use Rattle.x64_insn.specs.Rows.{reg_word, carry_read, writes_operand, flag_of}
-use Rattle.x64_insn.specs.Laws.{IsWordOf, IsOutOfRange, ShowsResult, ShowsSum, ShowsDifference, ShowsDifferentBits, Leaves}
+use Rattle.x64_insn.specs.Laws.{IsWordOf, ShowsResult, ShowsSum, ShowsDifference, ShowsDifferentBits, Leaves}
+use Rattle.x64_insn.specs.Products.{IsNoWord}
 use Rattle.x64_insn.proofs.PlainRows.{answered, operation_step}
+use Rattle.x64_insn.proofs.Quotients.{no_word}
 use Rattle.x64_insn.proofs.Registers.{word_same}
 
 -- a flag is set exactly where its test holds
@@ -45,25 +47,9 @@ at_least a b = (leb-true a b, le-leb a b)
 is_zero : (a : ℕ) → ((a == 0) ≡ true) ↔ (a ≡ 0)
 is_zero a = (λ e. grind arith, λ e. grind arith)
 
--- the order of signed numbers by its test
-below : (a b : ℤ) → int_lt a b ≡ true → a <ℤ b
-below a b e = grind (arith, ints)
-
-not_below : (a b : ℤ) → int_lt a b ≡ false → b ≤ℤ a
-not_below a b e = grind (arith, ints)
-
-range_by : (z low high : ℤ) (p q : Bool) → int_lt z low ≡ p → int_lt z high ≡ q → ((p || not q) ≡ true) ↔ ((z <ℤ low) ⊎ (high ≤ℤ z))
-range_by z low high true q e f = (λ h. inl (below z low e), λ h. refl)
-range_by z low high false false e f = (λ h. inr (not_below z high f), λ h. refl)
-range_by z low high false true e f =
-    let above = not_below z low e in
-    let under = below z high f in
-    (λ h. cc, λ h. elim h [ inl l ↦ absurd (omega (arith, ints)) | inr g ↦ absurd (omega (arith, ints)) ])
-
--- a signed number overflows exactly where it is out of range
-overflow_is : (z y : ℤ) → y ≡ z → (overflows S64 y ≡ true) ↔ IsOutOfRange z
-unfolding overflows
-overflow_is z y same = rw same (range_by z (pos 0 -ℤ pos (2 ^ 63)) (pos (2 ^ 63)) _ _ refl refl)
+-- a signed number overflows exactly where no word stands for it
+overflow_is : (z y : ℤ) → y ≡ z → (overflows S64 y ≡ true) ↔ IsNoWord S64 z
+overflow_is z y same = subst (λ x. (overflows S64 y ≡ true) ↔ IsNoWord S64 x) same (no_word S64 y)
 
 -- a flag of a state shows its test
 shows : (x : Option FlagVal) (b : Bool) {A : Type 0} → x ≡ Some (flag b) → (b ≡ true) ↔ A → (x ≡ Some True) ↔ A
@@ -123,7 +109,7 @@ unfolding sum_answer
 sum_shows to a b st h k value e =
     let plain : (a + b + 0) % 2 ^ 64 ≡ (a + b) % 2 ^ 64 = ap (λ x. x % 2 ^ 64) (omega arith) in
     let same : (signed S64 a +ℤ signed S64 b) +ℤ pos 0 ≡ signed S64 a +ℤ signed S64 b = omega (arith, ints) in
-    subst (λ r. ShowsResult to r (IsOutOfRange (signed S64 a +ℤ signed S64 b)) (2 ^ 64 ≤ a + b) ((a + b) % 2 ^ 64 ≡ 0) st) plain
+    subst (λ r. ShowsResult to r (IsNoWord S64 (signed S64 a +ℤ signed S64 b)) (2 ^ 64 ≤ a + b) ((a + b) % 2 ^ 64 ≡ 0) st) plain
     (shown to st _ _ ((a + b + 0) % 2 ^ 64) (value (omega arith)) e (overflow_is _ _ same) (carry_is a b) (λ z. sym plain ∙ z, λ z. plain ∙ z))
 
 pub add_shows : Leaves alu.Add ShowsSum
@@ -143,7 +129,7 @@ difference_shows : (to : Reg) (a b : ℕ) (st : State) → a < 2 ^ 64 → b < 2 
 unfolding difference_answer
 difference_shows to a b st h k value e =
     let same : (signed S64 a -ℤ signed S64 b) -ℤ pos 0 ≡ signed S64 a -ℤ signed S64 b = omega (arith, ints) in
-    subst (λ r. ShowsResult to r (IsOutOfRange (signed S64 a -ℤ signed S64 b)) (a < b) (a ≡ b) st) (sym (difference_residue a b h k))
+    subst (λ r. ShowsResult to r (IsNoWord S64 (signed S64 a -ℤ signed S64 b)) (a < b) (a ≡ b) st) (sym (difference_residue a b h k))
     (shown to st _ _ ((a + 2 ^ 64 - (b + 0)) % 2 ^ 64) (value (omega arith)) e (overflow_is _ _ same) (borrow_is a b) (no_difference a b h k))
 
 pub sub_shows : Leaves alu.Sub ShowsDifference

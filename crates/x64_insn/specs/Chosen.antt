@@ -1,4 +1,4 @@
--- The spelling that is chosen among those of an instruction: the shortest one, with nothing set that has no use.
+-- The spelling that is chosen among those of an instruction: with the shortest immediate and displacement, and nothing set that has no use.
 use Rattle.std.specs.Prelude.{ℕ, zero, suc, ◌+◌, ◌*◌, ◌/◌, ◌%◌, ◌^◌, ℤ, pos, ◌-ℤ◌, int_lt, Bool, true, false, not, ◌&&◌, ◌||◌, ◌==◌, nat_lt, nat_le, if◌then◌else◌, Option, Some, None, is_none, List, [], ◌∷◌}
 use Rattle.jz_words.specs.declared.size.Size.{Size}
 use Rattle.jz_words.specs.declared.size.Size.TheVariants.{S8, S16, S32, S64}

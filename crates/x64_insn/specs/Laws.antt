@@ -1,5 +1,5 @@
 -- The instruction table in the words of the manual.
-use Rattle.std.specs.Prelude.{◌≡◌, ◌≢◌, ◌↔◌, ◌<◌, ◌≤◌, ℕ, ◌+◌, ◌%◌, ◌^◌, bit_xor, true, ◌⊎◌, Some, None, Ok, length, List, [], ◌∷◌, ◌++◌, ℤ, pos, ◌+ℤ◌, ◌-ℤ◌, ◌<ℤ◌, ◌≤ℤ◌}
+use Rattle.std.specs.Prelude.{◌≡◌, ◌≢◌, ◌↔◌, ◌<◌, ◌≤◌, ℕ, ◌+◌, ◌%◌, ◌^◌, bit_xor, true, ◌⊎◌, Some, None, Ok, length, List, [], ◌∷◌, ◌++◌, pos, ◌+ℤ◌, ◌-ℤ◌}
 use Rattle.std.specs.FinMap.{get}
 use Rattle.jz_words.specs.declared.size.Size.{Size}
 use Rattle.jz_words.specs.declared.size.Size.TheVariants.{S8, S64}
@@ -17,6 +17,7 @@ use Rattle.x64_insn.specs.declared.types.Flag.{Flag}
 use Rattle.x64_insn.specs.declared.types.Flag.TheVariants.{Of, Cf, Sf, Pf, Zf}
 use Rattle.x64_insn.specs.declared.types.FlagVal.TheVariants.{True, Undefined}
 use Rattle.x64_insn.specs.declared.types.State.{State}
+use Rattle.x64_insn.specs.Products.{IsNoWord}
 use Rattle.x64_insn.specs.Rows.{After, address_of, effect_of, flag_of, reg_value, reg_word}
 
 -- some byte of the n from an address on is not valid
@@ -61,10 +62,6 @@ IsWordOf st (operand.Reg r) b = reg_word st S64 r ≡ b
 IsWordOf st (operand.Imm i) b = residue S64 i ≡ b
 IsWordOf st (operand.Mem m) b = ⊥
 
--- a signed number that no word of 64 bits stands for
-abbrev pub IsOutOfRange : ℤ → Type 0
-IsOutOfRange z = (z <ℤ (pos 0 -ℤ pos (2 ^ 63))) ⊎ (pos (2 ^ 63) ≤ℤ z)
-
 -- A register holds the word r, and the status flags say of it what they should (SDM vol. 1, 3.4.3.1): OF that it overflows, CF that it carries or
 -- borrows, SF its highest bit, PF that its lowest byte has an even number of ones, ZF that it is 0. None is undefined.
 pub record ShowsResult (to : Reg) (r : ℕ) (Overflows Carries IsZero : Type 0) (st : State) : Type 0 where
@@ -80,12 +77,12 @@ pub record ShowsResult (to : Reg) (r : ℕ) (Overflows Carries IsZero : Type 0) 
 -- the sum of two words of 64 bits
 abbrev pub ShowsSum : Reg → ℕ → ℕ → State → Type 0
 ShowsSum to a b =
-    ShowsResult to ((a + b) % 2 ^ 64) (IsOutOfRange (signed S64 a +ℤ signed S64 b)) (2 ^ 64 ≤ a + b) ((a + b) % 2 ^ 64 ≡ 0)
+    ShowsResult to ((a + b) % 2 ^ 64) (IsNoWord S64 (signed S64 a +ℤ signed S64 b)) (2 ^ 64 ≤ a + b) ((a + b) % 2 ^ 64 ≡ 0)
 
 -- their difference, which borrows exactly where it is below 0
 abbrev pub ShowsDifference : Reg → ℕ → ℕ → State → Type 0
 ShowsDifference to a b =
-    ShowsResult to (residue S64 (pos a -ℤ pos b)) (IsOutOfRange (signed S64 a -ℤ signed S64 b)) (a < b) (a ≡ b)
+    ShowsResult to (residue S64 (pos a -ℤ pos b)) (IsNoWord S64 (signed S64 a -ℤ signed S64 b)) (a < b) (a ≡ b)
 
 -- the bits in which they differ, which never overflow nor carry
 abbrev pub ShowsDifferentBits : Reg → ℕ → ℕ → State → Type 0

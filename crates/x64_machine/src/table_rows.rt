@@ -1,7 +1,7 @@
 //! Rows of the table test, as tools/instructions prints them: bytes that binutils 2.40 makes of an instruction, the
 //! instruction, RAX, RCX, RDX, RBX and the eight bytes at RSI in hexadecimal with OF, CF, SF, PF and ZF before the step, the
-//! same after it as a processor leaves them, how far RIP moved, what the step shows, and its answer. U is a flag that the
-//! manual leaves undefined.
+//! same after it, how far RIP moved, what the step shows, and its answer. Registers, memory and flags are what a processor
+//! left, but for jumps and faults, which stand as the manual has them. U is a flag that the manual leaves undefined.
 
 pub(crate) const ROWS: &str = "\
 00 c8 | Alu(Add, S8, Reg(Rax), Reg(Rcx)) | 1122334455667788 99aabbccddeeff80 f1e2d3c4b5a6978 8000000000000001 fedcba9876543280 TTTTT | 1122334455667708 99aabbccddeeff80 f1e2d3c4b5a6978 8000000000000001 fedcba9876543280 TTFFF | 2 | - | Running
