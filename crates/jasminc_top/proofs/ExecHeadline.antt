@@ -3,16 +3,16 @@ use Rattle.std.proofs.Common.{◌≡◌, ◌∙◌, ℕ, suc, ◌<◌, get_or, �
 use Rattle.std.specs.Io.KnownBytes.{Appends}
 use Rattle.jz_io.specs.Telling.{Telling}
 use Rattle.jasminc_top.specs.Words.{Wanted, compile, exec, wanted}
-use Rattle.jz_tree.specs.declared.Program.{Program}
-use Rattle.jz_tree.specs.declared.Fun.{Fun}
+use Rattle.jz_first_tree.specs.declared.Program.{Program}
+use Rattle.jz_first_tree.specs.declared.Fun.{Fun}
 use Rattle.jz_listing.specs.declared.compiled.Compiled.{Compiled}
 use Rattle.jasminc_top.specs.declared.refusal.Status.{Status}
 use Rattle.jasminc_top.specs.declared.refusal.Status.TheVariants as status
 use Rattle.jasminc_top.specs.declared.refusal.Refusal.TheVariants.{NoFunction, Items}
-use Rattle.jz_tree.specs.declared.Param.{Param}
-use Rattle.jz_tree.specs.declared.Decl.{Decl}
-use Rattle.jz_tree.specs.declared.Ty.{Ty}
-use Rattle.jz_tree.specs.declared.Ty.TheVariants.{Word}
+use Rattle.jz_first_tree.specs.declared.Param.{Param}
+use Rattle.jz_first_tree.specs.declared.Decl.{Decl}
+use Rattle.jz_first_tree.specs.declared.Ty.{Ty}
+use Rattle.jz_first_tree.specs.declared.Ty.TheVariants.{Word}
 use Rattle.jz_words.specs.declared.size.Size.TheVariants.{S64}
 use Rattle.jz_meaning.specs.SourceRuns.{AreArguments, FitsDecl, FitsType, IsInput}
 use Rattle.jz_lower.specs.Straight.{AreWords}

@@ -2,13 +2,13 @@
 use Rattle.std.proofs.Common.{◌≡◌, ℕ, ◌<◌, ◌≤◌, List, [], ◌∷◌, ◌++◌, length, ◌∙◌, arith, Some, None, subst, ap, refl}
 use Rattle.std.specs.Prelude.{All}
 use Rattle.std.proofs.lemmas.List.Elements.{All-contains, Contains-append_right, Contains-append_left}
-use Rattle.jz_tree.specs.declared.Program.{Program}
-use Rattle.jz_tree.specs.declared.Fun.{Fun}
-use Rattle.jz_parse.specs.declared.fault.SyntaxFault.{SyntaxFault}
+use Rattle.jz_first_tree.specs.declared.Program.{Program}
+use Rattle.jz_first_tree.specs.declared.Fun.{Fun}
+use Rattle.jz_first_parse.specs.declared.fault.SyntaxFault.{SyntaxFault}
 use Rattle.jz_types.specs.declared.fault.TypeFault.{TypeFault}
 use Rattle.jz_listing.specs.declared.compiled.Compiled.{Compiled}
 use Rattle.jz_listing.specs.Listing.{listing_text}
-use Rattle.jz_parse.specs.Reading.{ParseFails}
+use Rattle.jz_first_parse.specs.Reading.{ParseFails}
 use Rattle.jz_pass.specs.Limits.{IsWithinLimits, IsFirstLimit}
 use Rattle.jz_safety.specs.Alarms.{HasNoAlarm, IsFirstAlarm}
 use Rattle.jz_pipeline.specs.Placed.{IsUnplaced}

@@ -8,14 +8,14 @@ use Rattle.x64_insn.specs.declared.types.Insn.TheVariants as insn
 use Rattle.jz_lex.specs.LexingWords.{in_word}
 use Rattle.jz_lex.specs.Identifiers.{IsIdentifier}
 use Rattle.jz_lex.proofs.Identifiers.{identifier_bytes, byte_code}
-use Rattle.jz_tree.specs.declared.Program.{Program}
-use Rattle.jz_tree.specs.declared.Fun.{Fun}
-use Rattle.jz_tree.specs.declared.Var.{Var}
-use Rattle.jz_tree.specs.declared.Stmt.{Stmt}
-use Rattle.jz_tree.specs.Variables.{variables_of}
-use Rattle.jz_parse.specs.Reading.{Reads}
-use Rattle.jz_parse.specs.Derived.{HasNames}
-use Rattle.jz_parse.proofs.Declaring.{names_identified}
+use Rattle.jz_first_tree.specs.declared.Program.{Program}
+use Rattle.jz_first_tree.specs.declared.Fun.{Fun}
+use Rattle.jz_first_tree.specs.declared.Var.{Var}
+use Rattle.jz_first_tree.specs.declared.Stmt.{Stmt}
+use Rattle.jz_first_tree.specs.Variables.{variables_of}
+use Rattle.jz_first_parse.specs.Reading.{Reads}
+use Rattle.jz_first_parse.specs.Derived.{HasNames}
+use Rattle.jz_first_parse.proofs.Declaring.{names_identified}
 use Rattle.jz_types.specs.Resolving.{resolved, resolved_fun, resolved_var, declaration_in}
 use Rattle.jz_pass.specs.Limits.{IsWithinLimits}
 use Rattle.jz_safety.specs.Alarms.{HasNoAlarm}

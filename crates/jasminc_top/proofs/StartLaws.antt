@@ -16,12 +16,12 @@ use Rattle.x64_insn.specs.declared.types.State.{State}
 use Rattle.x64_insn.specs.declared.types.Insn.TheVariants as insn
 use Rattle.x64_insn.specs.Table.{number_of}
 use Rattle.x64_insn.specs.Rows.{reg_value}
-use Rattle.jz_tree.specs.declared.Program.{Program}
-use Rattle.jz_tree.specs.declared.Fun.{Fun}
-use Rattle.jz_tree.specs.declared.Var.{Var}
-use Rattle.jz_tree.specs.declared.Stmt.{Stmt}
-use Rattle.jz_tree.specs.declared.StmtKind.{StmtKind}
-use Rattle.jz_tree.specs.declared.StmtKind.TheVariants as kind
+use Rattle.jz_first_tree.specs.declared.Program.{Program}
+use Rattle.jz_first_tree.specs.declared.Fun.{Fun}
+use Rattle.jz_first_tree.specs.declared.Var.{Var}
+use Rattle.jz_first_tree.specs.declared.Stmt.{Stmt}
+use Rattle.jz_first_tree.specs.declared.StmtKind.{StmtKind}
+use Rattle.jz_first_tree.specs.declared.StmtKind.TheVariants as kind
 use Rattle.jz_meaning.specs.SourceRuns.{FunOutcome, IsInput, IsRun}
 use Rattle.jz_meaning.proofs.SourceLaws.{fun_some}
 use Rattle.jz_safety.specs.Alarms.{HasNoAlarm}

@@ -7,11 +7,11 @@ use Rattle.jz_data.specs.Failures.{IfRefused}
 use Rattle.jz_lex.specs.declared.token.Token.{Token}
 use Rattle.jz_lex.specs.declared.token.LexFault.{LexFault}
 use Rattle.jz_lex.specs.Lexing.{IsLexed, HasNoToken}
-use Rattle.jz_parse.specs.declared.fault.SyntaxFault.{SyntaxFault}
-use Rattle.jz_parse.specs.Deriving.{IsUnexpected}
-use Rattle.jz_parse.specs.Reading.{Reads}
-use Rattle.jz_tree.specs.declared.Program.{Program}
-use Rattle.jz_tree.specs.declared.Fun.{Fun}
+use Rattle.jz_first_parse.specs.declared.fault.SyntaxFault.{SyntaxFault}
+use Rattle.jz_first_parse.specs.Deriving.{IsUnexpected}
+use Rattle.jz_first_parse.specs.Reading.{Reads}
+use Rattle.jz_first_tree.specs.declared.Program.{Program}
+use Rattle.jz_first_tree.specs.declared.Fun.{Fun}
 use Rattle.jz_types.specs.declared.fault.TypeFault.{TypeFault}
 use Rattle.jz_types.specs.Rules.{IsFirstTypeFault}
 use Rattle.jz_pass.specs.Limits.{IsWithinLimits}

@@ -4,7 +4,7 @@ use Rattle.std.specs.Str.{bytes_eq}
 use Rattle.jz_io.specs.Causes.{Rose}
 use Rattle.jz_io.specs.Telling.{Telling, text_of, IsWhole}
 use Rattle.jasminc_top.specs.Words.{Wanted, compile, exec, file_of}
-use Rattle.jz_parse.specs.Reading.{Reads, LexFails, ParseFails}
+use Rattle.jz_first_parse.specs.Reading.{Reads, LexFails, ParseFails}
 use Rattle.jz_types.specs.Rules.{IsFirstTypeFault}
 use Rattle.jz_pass.specs.Limits.{IsWithinLimits, IsFirstLimit}
 use Rattle.jz_safety.specs.Alarms.{HasNoAlarm, IsFirstAlarm}
@@ -14,8 +14,8 @@ use Rattle.jasminc_top.specs.Making.{TypesAs, Makes}
 use Rattle.jz_listing.specs.Listing.{listing_text}
 use Rattle.jasminc_top.specs.Running.{RunsTo}
 use Rattle.jasminc_top.specs.Refusals.{status_of, line_of, stage_of, all_stages}
-use Rattle.jz_tree.specs.declared.Program.{Program}
-use Rattle.jz_tree.specs.declared.Fun.{Fun}
+use Rattle.jz_first_tree.specs.declared.Program.{Program}
+use Rattle.jz_first_tree.specs.declared.Fun.{Fun}
 use Rattle.jz_types.specs.declared.fault.TypeFault.{TypeFault}
 use Rattle.jz_listing.specs.declared.compiled.Compiled.{Compiled}
 use Rattle.jasminc_top.specs.declared.refusal.Status.{Status}

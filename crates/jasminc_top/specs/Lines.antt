@@ -9,9 +9,9 @@ use Rattle.x64_insn.specs.declared.types.Place.TheVariants as place
 use Rattle.jz_lex.specs.declared.token.LexKind.{LexKind}
 use Rattle.jz_lex.specs.declared.token.LexKind.TheVariants.{BadByte, BadNumber}
 use Rattle.jz_lex.specs.declared.token.LexFault.{LexFault}
-use Rattle.jz_parse.specs.declared.fault.SyntaxKind.{SyntaxKind}
-use Rattle.jz_parse.specs.declared.fault.SyntaxKind.TheVariants.{Unexpected}
-use Rattle.jz_parse.specs.declared.fault.SyntaxFault.{SyntaxFault}
+use Rattle.jz_first_parse.specs.declared.fault.SyntaxKind.{SyntaxKind}
+use Rattle.jz_first_parse.specs.declared.fault.SyntaxKind.TheVariants.{Unexpected}
+use Rattle.jz_first_parse.specs.declared.fault.SyntaxFault.{SyntaxFault}
 use Rattle.jz_types.specs.declared.fault.TypeRule.{TypeRule}
 use Rattle.jz_types.specs.declared.fault.TypeRule.TheVariants as rule
 use Rattle.jz_types.specs.declared.fault.TypeFault.{TypeFault}

@@ -1,10 +1,10 @@
 -- The program of a text, and what is made of it.
 use Rattle.std.specs.Prelude.{◌≡◌, ℕ, List, All}
-use Rattle.jz_tree.specs.declared.Program.{Program}
-use Rattle.jz_tree.specs.declared.Fun.{Fun}
-use Rattle.jz_tree.specs.Assignments.{AssignsToOne}
-use Rattle.jz_parse.specs.Reading.{Reads}
-use Rattle.jz_parse.specs.Derived.{DeclaresWords}
+use Rattle.jz_first_tree.specs.declared.Program.{Program}
+use Rattle.jz_first_tree.specs.declared.Fun.{Fun}
+use Rattle.jz_first_tree.specs.Assignments.{AssignsToOne}
+use Rattle.jz_first_parse.specs.Reading.{Reads}
+use Rattle.jz_first_parse.specs.Derived.{DeclaresWords}
 use Rattle.jz_types.specs.Rules.{IsTyped}
 use Rattle.jz_types.specs.Resolving.{resolved}
 use Rattle.jz_pass.specs.Limits.{IsWithinLimits}

@@ -17,9 +17,9 @@ use jz_data::{Seq, Text};
 use jz_io::{Bytes, ReadRefused, Source, read_all};
 use jz_lex::lex;
 use jz_listing::{Compiled, listing};
-use jz_parse::parse;
+use jz_first_parse::parse;
 use jz_pipeline::{compile_all, expand_all, safe_all};
-use jz_tree::Fun;
+use jz_first_tree::Fun;
 use jz_types::{Typed, check};
 use std::alloc::{AllocError, Global};
 

@@ -3,7 +3,7 @@
 use crate::refusal::Refusal;
 use jz_data::Failure;
 use jz_lex::LexFault;
-use jz_parse::SyntaxFault;
+use jz_first_parse::SyntaxFault;
 use jz_pass::Limit;
 use jz_pipeline::NoPlace;
 use jz_safety::Alarm;

@@ -9,7 +9,7 @@ use jz_io::Span;
 use jz_lex::{LexFault, LexKind};
 use jz_listing::{reg_name, write_number, write_span};
 use jz_meaning::Reason;
-use jz_parse::{SyntaxFault, SyntaxKind};
+use jz_first_parse::{SyntaxFault, SyntaxKind};
 use jz_pass::{Limit, LimitKind};
 use jz_pipeline::{Holder, NoPlace};
 use jz_safety::Alarm;

@@ -7,7 +7,7 @@ use crate::lines::{
 };
 use jz_data::Text;
 use jz_lex::LexFault;
-use jz_parse::SyntaxFault;
+use jz_first_parse::SyntaxFault;
 use jz_pass::Limit;
 use jz_pipeline::NoPlace;
 use jz_safety::Alarm;

@@ -1,7 +1,7 @@
 -- The labels behind the statements of a function.
 use Rattle.std.proofs.Common.{List, [], ◌∷◌, refl}
-use Rattle.jz_tree.specs.declared.Fun.{Fun}
-use Rattle.jz_tree.specs.declared.Stmt.{Stmt}
+use Rattle.jz_first_tree.specs.declared.Fun.{Fun}
+use Rattle.jz_first_tree.specs.declared.Stmt.{Stmt}
 use Rattle.jz_ct.specs.Labels.{Labels, labels_after, labels_at_entry, Labelled, IsConstantTime}
 
 some_labels : (ss : List Stmt) (labels : Labels) → (last : Labels) × Labelled ss labels last

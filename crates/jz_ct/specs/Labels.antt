@@ -1,18 +1,18 @@
 -- What may depend on secrets: labels of variables, and the rules that they meet. A function is constant time where some labels meet
 -- them all. What a statement shows has to be public; an assignment between registers shows nothing.
 use Rattle.std.specs.Prelude.{◌≡◌, List, [], ◌∷◌, Option, Some, None}
-use Rattle.jz_tree.specs.declared.Fun.{Fun}
-use Rattle.jz_tree.specs.declared.Param.{Param}
-use Rattle.jz_tree.specs.declared.Expr.{Expr}
-use Rattle.jz_tree.specs.declared.Expr.TheVariants as expr
-use Rattle.jz_tree.specs.declared.BinOp.{BinOp}
-use Rattle.jz_tree.specs.declared.Lval.{Lval}
-use Rattle.jz_tree.specs.declared.Lval.TheVariants as lval
-use Rattle.jz_tree.specs.declared.Rhs.{Rhs}
-use Rattle.jz_tree.specs.declared.Rhs.TheVariants as rhs
-use Rattle.jz_tree.specs.declared.Stmt.{Stmt}
-use Rattle.jz_tree.specs.declared.StmtKind.{StmtKind}
-use Rattle.jz_tree.specs.declared.StmtKind.TheVariants as kind
+use Rattle.jz_first_tree.specs.declared.Fun.{Fun}
+use Rattle.jz_first_tree.specs.declared.Param.{Param}
+use Rattle.jz_first_tree.specs.declared.Expr.{Expr}
+use Rattle.jz_first_tree.specs.declared.Expr.TheVariants as expr
+use Rattle.jz_first_tree.specs.declared.BinOp.{BinOp}
+use Rattle.jz_first_tree.specs.declared.Lval.{Lval}
+use Rattle.jz_first_tree.specs.declared.Lval.TheVariants as lval
+use Rattle.jz_first_tree.specs.declared.Rhs.{Rhs}
+use Rattle.jz_first_tree.specs.declared.Rhs.TheVariants as rhs
+use Rattle.jz_first_tree.specs.declared.Stmt.{Stmt}
+use Rattle.jz_first_tree.specs.declared.StmtKind.{StmtKind}
+use Rattle.jz_first_tree.specs.declared.StmtKind.TheVariants as kind
 use Rattle.jz_meaning.specs.SourceStates.{Key, key_of, put}
 
 -- whether a value may depend on a secret

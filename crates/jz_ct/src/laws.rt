@@ -1,6 +1,6 @@
 //! What holds of the labels of every function.
 
-ghost use Rattle.jz_tree.specs.declared.Fun.{Fun};
+ghost use Rattle.jz_first_tree.specs.declared.Fun.{Fun};
 ghost use Rattle.jz_ct.specs.Labels.{IsConstantTime};
 
 /// A function of assignments between registers is constant time, since nothing that it shows has to be public.

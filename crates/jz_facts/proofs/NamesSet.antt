@@ -6,13 +6,13 @@ use Rattle.std.specs.Cmp.Lexicographic.{same_text}
 use Rattle.std.proofs.lemmas.List.Elements.{Contains-append_left, Contains-push, Contains-push_cases}
 use Rattle.std.specs.Str.{bytes_eq}
 use Rattle.std.proofs.lemmas.Slice.Eq.{bytes_eq-Decides}
-use Rattle.jz_tree.specs.declared.Fun.{Fun}
-use Rattle.jz_tree.specs.declared.Param.{Param}
-use Rattle.jz_tree.specs.declared.Lval.{Lval}
-use Rattle.jz_tree.specs.declared.Lval.TheVariants as lval
-use Rattle.jz_tree.specs.declared.Stmt.{Stmt}
-use Rattle.jz_tree.specs.declared.StmtKind.{StmtKind}
-use Rattle.jz_tree.specs.declared.StmtKind.TheVariants as kind
+use Rattle.jz_first_tree.specs.declared.Fun.{Fun}
+use Rattle.jz_first_tree.specs.declared.Param.{Param}
+use Rattle.jz_first_tree.specs.declared.Lval.{Lval}
+use Rattle.jz_first_tree.specs.declared.Lval.TheVariants as lval
+use Rattle.jz_first_tree.specs.declared.Stmt.{Stmt}
+use Rattle.jz_first_tree.specs.declared.StmtKind.{StmtKind}
+use Rattle.jz_first_tree.specs.declared.StmtKind.TheVariants as kind
 use Rattle.jz_facts.specs.declared.fact.Fact.TheVariants.{Set}
 use Rattle.jz_facts.specs.Facts.{Facts, no_facts, with_fact}
 use Rattle.jz_facts.specs.Holding.{with_parameters, entry_facts, after_left_sides, after_kind, facts_after, facts_at_end}

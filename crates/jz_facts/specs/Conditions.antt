@@ -1,16 +1,16 @@
 -- The conditions that a statement asks of the facts before it, in the order in which it is evaluated.
 use Rattle.std.specs.Prelude.{List, [], ◌∷◌, ◌++◌, Option, Some, None, map}
-use Rattle.jz_tree.specs.declared.Var.{Var}
-use Rattle.jz_tree.specs.declared.Expr.{Expr}
-use Rattle.jz_tree.specs.declared.Expr.TheVariants as expr
-use Rattle.jz_tree.specs.declared.BinOp.{BinOp}
-use Rattle.jz_tree.specs.declared.Lval.{Lval}
-use Rattle.jz_tree.specs.declared.Lval.TheVariants as lval
-use Rattle.jz_tree.specs.declared.Rhs.{Rhs}
-use Rattle.jz_tree.specs.declared.Rhs.TheVariants as rhs
-use Rattle.jz_tree.specs.declared.Stmt.{Stmt}
-use Rattle.jz_tree.specs.declared.StmtKind.{StmtKind}
-use Rattle.jz_tree.specs.declared.StmtKind.TheVariants as kind
+use Rattle.jz_first_tree.specs.declared.Var.{Var}
+use Rattle.jz_first_tree.specs.declared.Expr.{Expr}
+use Rattle.jz_first_tree.specs.declared.Expr.TheVariants as expr
+use Rattle.jz_first_tree.specs.declared.BinOp.{BinOp}
+use Rattle.jz_first_tree.specs.declared.Lval.{Lval}
+use Rattle.jz_first_tree.specs.declared.Lval.TheVariants as lval
+use Rattle.jz_first_tree.specs.declared.Rhs.{Rhs}
+use Rattle.jz_first_tree.specs.declared.Rhs.TheVariants as rhs
+use Rattle.jz_first_tree.specs.declared.Stmt.{Stmt}
+use Rattle.jz_first_tree.specs.declared.StmtKind.{StmtKind}
+use Rattle.jz_first_tree.specs.declared.StmtKind.TheVariants as kind
 use Rattle.jz_meaning.specs.declared.reason.Reason.TheVariants.{Init}
 use Rattle.jz_facts.specs.declared.fact.Fact.TheVariants.{Set}
 use Rattle.jz_facts.specs.declared.condition.Condition.{Condition}

@@ -1,12 +1,12 @@
 -- What holds at entry and after a statement.
 use Rattle.std.specs.Prelude.{List, fold}
-use Rattle.jz_tree.specs.declared.Fun.{Fun}
-use Rattle.jz_tree.specs.declared.Param.{Param}
-use Rattle.jz_tree.specs.declared.Lval.{Lval}
-use Rattle.jz_tree.specs.declared.Lval.TheVariants as lval
-use Rattle.jz_tree.specs.declared.Stmt.{Stmt}
-use Rattle.jz_tree.specs.declared.StmtKind.{StmtKind}
-use Rattle.jz_tree.specs.declared.StmtKind.TheVariants as kind
+use Rattle.jz_first_tree.specs.declared.Fun.{Fun}
+use Rattle.jz_first_tree.specs.declared.Param.{Param}
+use Rattle.jz_first_tree.specs.declared.Lval.{Lval}
+use Rattle.jz_first_tree.specs.declared.Lval.TheVariants as lval
+use Rattle.jz_first_tree.specs.declared.Stmt.{Stmt}
+use Rattle.jz_first_tree.specs.declared.StmtKind.{StmtKind}
+use Rattle.jz_first_tree.specs.declared.StmtKind.TheVariants as kind
 use Rattle.jz_facts.specs.declared.fact.Fact.TheVariants.{Set}
 use Rattle.jz_facts.specs.Facts.{Facts, no_facts, with_fact}
 

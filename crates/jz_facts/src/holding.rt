@@ -7,7 +7,7 @@ ghost use Rattle.jz_facts.specs.Holding.{entry_facts, after_left_side, facts_aft
 use crate::fact::Fact;
 use crate::set::FactSet;
 use jz_meaning::Expanded;
-use jz_tree::{Lval, Stmt, StmtKind};
+use jz_first_tree::{Lval, Stmt, StmtKind};
 use std::alloc::{AllocError, Global};
 
 /// What holds where a function begins: each parameter has a value.

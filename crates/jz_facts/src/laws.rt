@@ -1,8 +1,8 @@
 //! What the facts say, in the words of the text.
 
 ghost use Rattle.std.specs.Prelude.{ℕ, List, IsTrue, Contains, ◌↔◌};
-ghost use Rattle.jz_tree.specs.declared.Fun.{Fun};
-ghost use Rattle.jz_tree.specs.declared.Stmt.{Stmt};
+ghost use Rattle.jz_first_tree.specs.declared.Fun.{Fun};
+ghost use Rattle.jz_first_tree.specs.declared.Stmt.{Stmt};
 ghost use Rattle.jz_facts.specs.declared.fact.Fact.TheVariants.{Set};
 ghost use Rattle.jz_facts.specs.Holding.{entry_facts, facts_at_end};
 ghost use Rattle.jz_facts.specs.Names.{names_with_value};

@@ -3,8 +3,8 @@
 ghost use Rattle.std.specs.Prelude.{◌≡◌, ◌<◌, ◌^◌, [], ◌∷◌, List, IfOk, length, map, replicate};
 ghost use Rattle.x64_insn.specs.declared.types.Place.TheVariants as place;
 ghost use Rattle.jz_ir.specs.declared.code.Kind.TheVariants as kind;
-ghost use Rattle.jz_tree.specs.declared.Var.{Var};
-ghost use Rattle.jz_tree.specs.Variables.{variables_of};
+ghost use Rattle.jz_first_tree.specs.declared.Var.{Var};
+ghost use Rattle.jz_first_tree.specs.Variables.{variables_of};
 ghost use Rattle.jz_correct.specs.Registers.{argument_registers, result_registers};
 ghost use Rattle.jz_lower.specs.Numbers.{IsNumbers};
 ghost use Rattle.jz_lower.specs.Operations.{code_of, entry_ops, flags_of, left_of, need_of, operations_of, read_assigned, read_by, read_right, return_ops, statement_op};
@@ -14,7 +14,7 @@ use crate::numbers::Numbers;
 use crate::registers::{ARGUMENT_REGISTERS, RESULT_REGISTERS};
 use jz_data::Seq;
 use jz_ir::{Code, Kind, Need, Op};
-use jz_tree::{BinOp, Expr, Fun, Lval, Param, Rhs, Stmt, StmtKind, Var};
+use jz_first_tree::{BinOp, Expr, Fun, Lval, Param, Rhs, Stmt, StmtKind, Var};
 use std::alloc::{AllocError, Global};
 use x64_insn::{Flag, Place, Reg};
 

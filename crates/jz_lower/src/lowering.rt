@@ -4,15 +4,15 @@ ghost use Rattle.std.specs.Prelude.{◌≡◌, ◌<◌, ◌^◌, [], ◌∷◌, 
 ghost use Rattle.jz_words.specs.declared.size.Size.TheVariants.{S64};
 ghost use Rattle.jz_words.specs.Sizes.{signed};
 ghost use Rattle.jz_words.specs.Words.{residue};
-ghost use Rattle.jz_tree.specs.declared.Var.{Var};
-ghost use Rattle.jz_tree.specs.Variables.{variables_of};
+ghost use Rattle.jz_first_tree.specs.declared.Var.{Var};
+ghost use Rattle.jz_first_tree.specs.Variables.{variables_of};
 ghost use Rattle.jz_lower.specs.Lowering.{alu_of, assignment_insn, insns_of, kind_insns, operand_of};
 ghost use Rattle.jz_lower.specs.Numbers.{IsNumbers};
 ghost use Rattle.jz_lower.specs.Operations.{register_in, register_of};
 
 use crate::numbers::Numbers;
 use jz_data::{Seq, Text};
-use jz_tree::{BinOp, Expr, Fun, Lval, Rhs, StmtKind};
+use jz_first_tree::{BinOp, Expr, Fun, Lval, Rhs, StmtKind};
 use jz_words::Size;
 use std::alloc::{AllocError, Global};
 use x64_insn::{Alu, Insn, Operand, Place, Reg};

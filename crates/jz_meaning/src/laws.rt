@@ -2,8 +2,8 @@
 
 ghost use Rattle.std.specs.Prelude.{◌≡◌, ℕ, ◌+◌, List};
 ghost use Rattle.jz_words.specs.Memory.{Memory};
-ghost use Rattle.jz_tree.specs.declared.Program.{Program};
-ghost use Rattle.jz_tree.specs.declared.Fun.{Fun};
+ghost use Rattle.jz_first_tree.specs.declared.Program.{Program};
+ghost use Rattle.jz_first_tree.specs.declared.Fun.{Fun};
 ghost use Rattle.jz_leak.specs.RunLeaks.{Leak};
 ghost use Rattle.jz_meaning.specs.RunRules.{Outcome, Goes};
 ghost use Rattle.jz_meaning.specs.RunLaws.{IsOver, with_more};

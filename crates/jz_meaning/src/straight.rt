@@ -2,9 +2,9 @@
 
 ghost use Rattle.std.specs.Prelude.{◌≡◌, ℕ, List, length, Ok};
 ghost use Rattle.jz_words.specs.Memory.{Memory};
-ghost use Rattle.jz_tree.specs.declared.Program.{Program};
-ghost use Rattle.jz_tree.specs.declared.Fun.{Fun};
-ghost use Rattle.jz_tree.specs.declared.Expr.{Expr};
+ghost use Rattle.jz_first_tree.specs.declared.Program.{Program};
+ghost use Rattle.jz_first_tree.specs.declared.Fun.{Fun};
+ghost use Rattle.jz_first_tree.specs.declared.Expr.{Expr};
 ghost use Rattle.jz_meaning.specs.SourceStates.{State, Value};
 ghost use Rattle.jz_meaning.specs.SourceValues.{value_of, numbers_of};
 ghost use Rattle.jz_meaning.specs.SourceRuns.{FunOutcome, IsRun};

@@ -5,7 +5,7 @@ use Rattle.std.specs.Int.{w32}
 use Rattle.std.proofs.lemmas.List.Elements.{All-nil, All-cons, All-head, All-tail, All-contains, Contains-append_left, Contains-append_right, Contains-push}
 use lib.Signed.{mag}
 use Rattle.jz_io.specs.declared.span.Span.{Span}
-use Rattle.jz_tree.specs.declared.Fun.{Fun}
+use Rattle.jz_first_tree.specs.declared.Fun.{Fun}
 use Rattle.jz_pass.specs.declared.limit.Limit.{Limit}
 use Rattle.jz_pass.specs.declared.limit.LimitKind.{LimitKind}
 use Rattle.jz_pass.specs.declared.limit.LimitKind.TheVariants.{Expand, ImmRange}

@@ -6,12 +6,12 @@ use Rattle.jz_io.specs.declared.span.Span.{Span}
 use Rattle.jz_words.specs.declared.size.Size.TheVariants.{S64}
 use Rattle.jz_words.specs.Sizes.{signed}
 use Rattle.jz_words.specs.Words.{residue}
-use Rattle.jz_tree.specs.declared.Fun.{Fun}
-use Rattle.jz_tree.specs.declared.Expr.TheVariants as expr
-use Rattle.jz_tree.specs.declared.Rhs.{Rhs}
-use Rattle.jz_tree.specs.declared.Rhs.TheVariants.{Value}
-use Rattle.jz_tree.specs.declared.StmtKind.{StmtKind}
-use Rattle.jz_tree.specs.declared.StmtKind.TheVariants.{Assign}
+use Rattle.jz_first_tree.specs.declared.Fun.{Fun}
+use Rattle.jz_first_tree.specs.declared.Expr.TheVariants as expr
+use Rattle.jz_first_tree.specs.declared.Rhs.{Rhs}
+use Rattle.jz_first_tree.specs.declared.Rhs.TheVariants.{Value}
+use Rattle.jz_first_tree.specs.declared.StmtKind.{StmtKind}
+use Rattle.jz_first_tree.specs.declared.StmtKind.TheVariants.{Assign}
 use Rattle.jz_pass.specs.declared.limit.Limit.{Limit}
 use Rattle.jz_pass.specs.declared.limit.LimitKind.{LimitKind}
 use Rattle.jz_pass.specs.declared.limit.LimitKind.TheVariants.{Expand, ImmRange}

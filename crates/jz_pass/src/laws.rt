@@ -1,7 +1,7 @@
 //! Laws of the definitions.
 
 ghost use Rattle.std.specs.Prelude.{◌≡◌, ◌⊎◌};
-ghost use Rattle.jz_tree.specs.declared.Fun.{Fun};
+ghost use Rattle.jz_first_tree.specs.declared.Fun.{Fun};
 ghost use Rattle.jz_pass.specs.declared.limit.Limit.{Limit};
 ghost use Rattle.jz_pass.specs.Limits.{IsWithinLimits, IsFirstLimit};
 

@@ -9,21 +9,21 @@ use Rattle.std.proofs.lemmas.List.Elements.{All-head, All-tail, All-append, All-
 use Rattle.jz_data.proofs.Lists.{All-front, All-back}
 use Rattle.x64_insn.specs.Chosen.{fits_bytes}
 use Rattle.x64_insn.proofs.Immediates.{within_fits}
-use Rattle.jz_tree.specs.declared.Program.{Program}
-use Rattle.jz_tree.specs.declared.Fun.{Fun}
-use Rattle.jz_tree.specs.declared.Param.{Param}
-use Rattle.jz_tree.specs.declared.Ret.{Ret}
-use Rattle.jz_tree.specs.declared.Var.{Var}
-use Rattle.jz_tree.specs.declared.Expr.TheVariants as expr
-use Rattle.jz_tree.specs.declared.Rhs.TheVariants as rhs
-use Rattle.jz_tree.specs.declared.Stmt.{Stmt}
-use Rattle.jz_tree.specs.declared.StmtKind.{StmtKind}
-use Rattle.jz_tree.specs.declared.StmtKind.TheVariants as kind
-use Rattle.jz_tree.specs.Variables.{variables_of}
-use Rattle.jz_tree.specs.Assignments.{AssignsToOne}
+use Rattle.jz_first_tree.specs.declared.Program.{Program}
+use Rattle.jz_first_tree.specs.declared.Fun.{Fun}
+use Rattle.jz_first_tree.specs.declared.Param.{Param}
+use Rattle.jz_first_tree.specs.declared.Ret.{Ret}
+use Rattle.jz_first_tree.specs.declared.Var.{Var}
+use Rattle.jz_first_tree.specs.declared.Expr.TheVariants as expr
+use Rattle.jz_first_tree.specs.declared.Rhs.TheVariants as rhs
+use Rattle.jz_first_tree.specs.declared.Stmt.{Stmt}
+use Rattle.jz_first_tree.specs.declared.StmtKind.{StmtKind}
+use Rattle.jz_first_tree.specs.declared.StmtKind.TheVariants as kind
+use Rattle.jz_first_tree.specs.Variables.{variables_of}
+use Rattle.jz_first_tree.specs.Assignments.{AssignsToOne}
 use Rattle.jz_data.proofs.Lists.{All-front, All-back}
-use Rattle.jz_parse.specs.Trees.{register_word}
-use Rattle.jz_parse.specs.Derived.{DeclaresWords}
+use Rattle.jz_first_parse.specs.Trees.{register_word}
+use Rattle.jz_first_parse.specs.Derived.{DeclaresWords}
 use Rattle.jz_types.specs.TypedPrograms.{HaveDifferentNames, HasDeclaration, HaveDeclarations, HasCounts, HaveCounts}
 use Rattle.jz_types.specs.Uses.{right_side_uses, kind_uses, body_uses, uses_of}
 use Rattle.jz_pass.specs.Limits.{Constant, HasField, reading, immediate_of, IsWithinLimits}

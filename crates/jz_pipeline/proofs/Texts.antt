@@ -4,13 +4,13 @@ use Rattle.std.specs.Prelude.{map, slice_index_or}
 use Rattle.std.specs.List.{All}
 use Rattle.std.proofs.lemmas.List.Elements.{All-nil, All-cons, All-head, All-tail, All-map, All-weaker, All-contains_itself}
 use Rattle.jz_lex.specs.declared.token.Token.{Token}
-use Rattle.jz_tree.specs.declared.Program.{Program}
-use Rattle.jz_tree.specs.declared.Fun.{Fun}
-use Rattle.jz_tree.specs.Assignments.{AssignsToOne}
-use Rattle.jz_parse.specs.Deriving.{DerivesProgram}
-use Rattle.jz_parse.specs.Derived.{DeclaresWords}
-use Rattle.jz_parse.proofs.Assigning.{statements_one}
-use Rattle.jz_parse.proofs.Declaring.{words_declared}
+use Rattle.jz_first_tree.specs.declared.Program.{Program}
+use Rattle.jz_first_tree.specs.declared.Fun.{Fun}
+use Rattle.jz_first_tree.specs.Assignments.{AssignsToOne}
+use Rattle.jz_first_parse.specs.Deriving.{DerivesProgram}
+use Rattle.jz_first_parse.specs.Derived.{DeclaresWords}
+use Rattle.jz_first_parse.proofs.Assigning.{statements_one}
+use Rattle.jz_first_parse.proofs.Declaring.{words_declared}
 use Rattle.jz_types.specs.Resolving.{resolved_fun, resolved}
 use Rattle.jz_types.specs.TypedPrograms.{HaveDifferentNames, HaveDeclarations, HaveCounts}
 use Rattle.jz_meaning.specs.declared.expanded.Expanded.{Expanded}

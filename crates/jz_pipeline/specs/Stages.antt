@@ -1,6 +1,6 @@
 -- Stages that are done for each function of a text, one after another.
 use Rattle.std.specs.Prelude.{◌≡◌, List, ◌∷◌, ◌++◌, All}
-use Rattle.jz_tree.specs.declared.Fun.{Fun}
+use Rattle.jz_first_tree.specs.declared.Fun.{Fun}
 
 -- the function has nothing of the kind
 abbrev pub HasNone : {A : Type 0} → (Fun → A → Type 0) → Fun → Type 0

@@ -10,7 +10,7 @@ use jz_io::{Ct, Span};
 use jz_leak::{Case, Form, Out, Tr, Transformer};
 use jz_lex::lex;
 use jz_listing::{Arg, Compiled};
-use jz_parse::parse;
+use jz_first_parse::parse;
 use jz_types::check;
 use jz_words::Size;
 use std::alloc::{AllocError, Global};

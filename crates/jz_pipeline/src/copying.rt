@@ -3,7 +3,7 @@
 ghost use Rattle.std.specs.Prelude.{◌≡◌, IfOk};
 
 use jz_data::Seq;
-use jz_tree::{Expr, Fun, Lval, Param, Ret, Rhs, Stmt, StmtKind, Var};
+use jz_first_tree::{Expr, Fun, Lval, Param, Ret, Rhs, Stmt, StmtKind, Var};
 use std::alloc::{AllocError, Global};
 
 fn copy_var(var: &Var) -> Result<Var, AllocError>

@@ -3,9 +3,9 @@
 ghost use Rattle.std.specs.Prelude.{◌≡◌, All, List, ℕ};
 ghost use Rattle.x64_insn.specs.declared.types.Reg.{Reg};
 ghost use Rattle.jz_lex.specs.declared.token.Token.{Token};
-ghost use Rattle.jz_tree.specs.declared.Program.{Program};
-ghost use Rattle.jz_tree.specs.declared.Fun.{Fun};
-ghost use Rattle.jz_parse.specs.Deriving.{DerivesProgram};
+ghost use Rattle.jz_first_tree.specs.declared.Program.{Program};
+ghost use Rattle.jz_first_tree.specs.declared.Fun.{Fun};
+ghost use Rattle.jz_first_parse.specs.Deriving.{DerivesProgram};
 ghost use Rattle.jz_types.specs.Resolving.{resolved};
 ghost use Rattle.jz_types.specs.TypedPrograms.{HaveDifferentNames, HaveDeclarations, HaveCounts};
 ghost use Rattle.jz_pass.specs.Limits.{IsWithinLimits};

@@ -5,7 +5,7 @@ use jz_data::{Failure, Seq, Text};
 use jz_io::Span;
 use jz_meaning::Expanded;
 use jz_pass::{Limit, LimitKind};
-use jz_tree::{
+use jz_first_tree::{
     BinOp, Decl, Expr, Fun, Lval, Param, Program, Ret, Rhs, Stmt, StmtKind, Storage, Ty, Var,
 };
 use jz_types::{Typed, check};

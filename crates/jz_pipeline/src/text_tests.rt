@@ -7,7 +7,7 @@ use jz_data::Failure;
 use jz_io::Span;
 use jz_lex::lex;
 use jz_meaning::Expanded;
-use jz_parse::parse;
+use jz_first_parse::parse;
 use jz_pass::LimitKind;
 use jz_safety::safe;
 use jz_types::{TypeRule, Typed, check};

@@ -2,13 +2,13 @@
 use Rattle.std.proofs.Common.{List, [], ◌∷◌, ap, subst}
 use Rattle.std.specs.Prelude.{All, Contains}
 use Rattle.std.proofs.lemmas.List.Elements.{All-nil, All-cons, All-head, All-tail, All-map, All-weaker, All-contains}
-use Rattle.jz_tree.specs.declared.Program.{Program}
-use Rattle.jz_tree.specs.declared.Fun.{Fun}
-use Rattle.jz_tree.specs.declared.Var.{Var}
-use Rattle.jz_tree.specs.declared.Stmt.{Stmt}
-use Rattle.jz_tree.specs.declared.StmtKind.{StmtKind}
-use Rattle.jz_tree.specs.Variables.{variables_of}
-use Rattle.jz_tree.specs.Assignments.{AssignsToOne}
+use Rattle.jz_first_tree.specs.declared.Program.{Program}
+use Rattle.jz_first_tree.specs.declared.Fun.{Fun}
+use Rattle.jz_first_tree.specs.declared.Var.{Var}
+use Rattle.jz_first_tree.specs.declared.Stmt.{Stmt}
+use Rattle.jz_first_tree.specs.declared.StmtKind.{StmtKind}
+use Rattle.jz_first_tree.specs.Variables.{variables_of}
+use Rattle.jz_first_tree.specs.Assignments.{AssignsToOne}
 use Rattle.jz_data.proofs.Lists.{All-front, All-back}
 use Rattle.jz_types.specs.Uses.{right_side_uses, kind_uses, body_uses, uses_of}
 use Rattle.jz_types.specs.Resolving.{resolved_var, resolved_rhs, resolved_kind, resolved_stmt, declaration_in, resolved_fun}

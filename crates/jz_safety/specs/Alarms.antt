@@ -1,7 +1,7 @@
 -- The alarms of a function, in the order in which it is evaluated.
 use Rattle.std.specs.Prelude.{◌≡◌, not, List, [], ◌∷◌, ◌++◌, map, filter}
-use Rattle.jz_tree.specs.declared.Fun.{Fun}
-use Rattle.jz_tree.specs.declared.Stmt.{Stmt}
+use Rattle.jz_first_tree.specs.declared.Fun.{Fun}
+use Rattle.jz_first_tree.specs.declared.Stmt.{Stmt}
 use Rattle.jz_facts.specs.declared.condition.Condition.{Condition}
 use Rattle.jz_facts.specs.Facts.{Facts}
 use Rattle.jz_facts.specs.Holding.{entry_facts, facts_after, facts_at_end}

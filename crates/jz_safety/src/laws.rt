@@ -2,9 +2,9 @@
 
 ghost use Rattle.std.specs.Prelude.{◌≡◌, ℕ, List, ◌⊎◌, All, Contains};
 ghost use Rattle.jz_words.specs.Memory.{Memory};
-ghost use Rattle.jz_tree.specs.declared.Program.{Program};
-ghost use Rattle.jz_tree.specs.declared.Fun.{Fun};
-ghost use Rattle.jz_tree.specs.Assignments.{AssignsToOne};
+ghost use Rattle.jz_first_tree.specs.declared.Program.{Program};
+ghost use Rattle.jz_first_tree.specs.declared.Fun.{Fun};
+ghost use Rattle.jz_first_tree.specs.Assignments.{AssignsToOne};
 ghost use Rattle.jz_meaning.specs.RunRules.{End, Stuck};
 ghost use Rattle.jz_meaning.specs.SourceStates.{Why};
 ghost use Rattle.jz_meaning.specs.SourceRuns.{FunOutcome, IsRun};

@@ -4,7 +4,7 @@ use Rattle.std.specs.Prelude.{if◌then◌else◌, is_some}
 use Rattle.std.specs.Option.{option_map}
 use Rattle.std.specs.Str.{bytes_eq}
 use Rattle.jz_data.proofs.Texts.{bytes_eq-sym, bytes_eq-true}
-use Rattle.jz_tree.specs.declared.Var.{Var}
+use Rattle.jz_first_tree.specs.declared.Var.{Var}
 use Rattle.jz_types.specs.declared.scope.Declared.{Declared}
 use Rattle.jz_types.specs.Variables.{variable_named}
 use Rattle.jz_types.specs.Scopes.{declared_of}

@@ -10,9 +10,9 @@ use Rattle.std.proofs.lemmas.List.Elements.{All-nil, All-cons, All-head, All-tai
 use Rattle.std.proofs.lemmas.List.Kept.{AllPairs-cons}
 use Rattle.jz_data.proofs.Texts.{bytes_eq-true}
 use Rattle.jz_io.specs.declared.span.Span.{Span}
-use Rattle.jz_tree.specs.declared.Program.{Program}
-use Rattle.jz_tree.specs.declared.Fun.{Fun}
-use Rattle.jz_tree.specs.declared.Var.{Var}
+use Rattle.jz_first_tree.specs.declared.Program.{Program}
+use Rattle.jz_first_tree.specs.declared.Fun.{Fun}
+use Rattle.jz_first_tree.specs.declared.Var.{Var}
 use Rattle.jz_types.specs.declared.fault.TypeRule.TheVariants.{Unknown, Duplicate, Mismatch, ExportShape}
 use Rattle.jz_types.specs.declared.fault.TypeFault.{TypeFault}
 use Rattle.jz_types.specs.Faults.{Before, is_before}
@@ -20,7 +20,7 @@ use Rattle.jz_types.specs.Resolving.{resolved_var, declaration_in, resolved_fun,
 use Rattle.jz_types.specs.Rules.{Name, name_of, name_of_fun, fault_at, is_known, unknown_among, unknown_in, second_places, repeated, repeated_in, miscounted, misshapen, IsTyped}
 use Rattle.jz_types.specs.TypedPrograms.{HaveDifferentNames, HasDeclaration, HaveDeclarations, HasCounts, HaveCounts}
 use Rattle.jz_types.specs.Uses.{uses_of}
-use Rattle.jz_tree.specs.Variables.{variables_of}
+use Rattle.jz_first_tree.specs.Variables.{variables_of}
 use Rattle.jz_types.specs.Variables.{variable_named, is_declared_above, declaration_of}
 use Rattle.jz_types.proofs.FirstLemmas.{contains_head, contains_tail}
 use Rattle.jz_types.proofs.ResolvedLemmas.{uses_resolved}

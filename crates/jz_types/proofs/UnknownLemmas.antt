@@ -5,12 +5,12 @@ use Rattle.std.specs.List.{flat_map}
 use Rattle.std.proofs.lemmas.List.{map-append}
 use Rattle.std.proofs.lemmas.List.Elements.{filter-append, filter_agree}
 use Rattle.jz_io.specs.declared.span.Span.{Span}
-use Rattle.jz_tree.specs.declared.Program.{Program}
-use Rattle.jz_tree.specs.declared.Fun.{Fun}
-use Rattle.jz_tree.specs.declared.Var.{Var}
-use Rattle.jz_tree.specs.declared.Lval.{Lval}
-use Rattle.jz_tree.specs.declared.Rhs.{Rhs}
-use Rattle.jz_tree.specs.declared.Stmt.{Stmt}
+use Rattle.jz_first_tree.specs.declared.Program.{Program}
+use Rattle.jz_first_tree.specs.declared.Fun.{Fun}
+use Rattle.jz_first_tree.specs.declared.Var.{Var}
+use Rattle.jz_first_tree.specs.declared.Lval.{Lval}
+use Rattle.jz_first_tree.specs.declared.Rhs.{Rhs}
+use Rattle.jz_first_tree.specs.declared.Stmt.{Stmt}
 use Rattle.jz_types.specs.declared.fault.TypeRule.TheVariants.{Unknown}
 use Rattle.jz_types.specs.declared.fault.TypeFault.{TypeFault}
 use Rattle.jz_types.specs.declared.scope.Scope.{Scope}
@@ -19,7 +19,7 @@ use Rattle.jz_types.specs.Joining.{first_in}
 use Rattle.jz_types.specs.Rules.{fault_at, is_known, unknown_in, repeated, repeated_in, name_of_fun, miscounted, misshapen, faults_of}
 use Rattle.jz_types.specs.Scopes.{IsScope, declared_of, stands_above, has_above, unknown_by}
 use Rattle.jz_types.specs.Uses.{left_side_uses, right_side_uses, kind_uses, body_uses, uses_of}
-use Rattle.jz_tree.specs.Variables.{variables_of}
+use Rattle.jz_first_tree.specs.Variables.{variables_of}
 use Rattle.jz_types.specs.Variables.{variable_named, is_declared_above}
 use Rattle.jz_types.proofs.Earliest.{first_of-append, earlier-assoc}
 

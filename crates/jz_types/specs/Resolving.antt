@@ -1,19 +1,19 @@
 -- A program whose variables have their declarations where they are used.
 use Rattle.std.specs.Prelude.{ℕ, List, Option, map}
-use Rattle.jz_tree.specs.declared.Program.{Program}
-use Rattle.jz_tree.specs.declared.Fun.{Fun}
-use Rattle.jz_tree.specs.declared.Var.{Var}
-use Rattle.jz_tree.specs.declared.Decl.{Decl}
-use Rattle.jz_tree.specs.declared.Expr.{Expr}
-use Rattle.jz_tree.specs.declared.Expr.TheVariants as expr
-use Rattle.jz_tree.specs.declared.Lval.{Lval}
-use Rattle.jz_tree.specs.declared.Lval.TheVariants as lval
-use Rattle.jz_tree.specs.declared.Rhs.{Rhs}
-use Rattle.jz_tree.specs.declared.Rhs.TheVariants.{Value}
-use Rattle.jz_tree.specs.declared.Stmt.{Stmt}
-use Rattle.jz_tree.specs.declared.StmtKind.{StmtKind}
-use Rattle.jz_tree.specs.declared.StmtKind.TheVariants.{Assign}
-use Rattle.jz_tree.specs.Variables.{variables_of}
+use Rattle.jz_first_tree.specs.declared.Program.{Program}
+use Rattle.jz_first_tree.specs.declared.Fun.{Fun}
+use Rattle.jz_first_tree.specs.declared.Var.{Var}
+use Rattle.jz_first_tree.specs.declared.Decl.{Decl}
+use Rattle.jz_first_tree.specs.declared.Expr.{Expr}
+use Rattle.jz_first_tree.specs.declared.Expr.TheVariants as expr
+use Rattle.jz_first_tree.specs.declared.Lval.{Lval}
+use Rattle.jz_first_tree.specs.declared.Lval.TheVariants as lval
+use Rattle.jz_first_tree.specs.declared.Rhs.{Rhs}
+use Rattle.jz_first_tree.specs.declared.Rhs.TheVariants.{Value}
+use Rattle.jz_first_tree.specs.declared.Stmt.{Stmt}
+use Rattle.jz_first_tree.specs.declared.StmtKind.{StmtKind}
+use Rattle.jz_first_tree.specs.declared.StmtKind.TheVariants.{Assign}
+use Rattle.jz_first_tree.specs.Variables.{variables_of}
 use Rattle.jz_types.specs.Variables.{variable_named, declaration_of}
 
 module _ (declarations : List ℕ → Option Decl) where

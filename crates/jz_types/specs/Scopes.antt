@@ -5,8 +5,8 @@ use Rattle.std.specs.List.{list_any}
 use Rattle.std.specs.Str.{bytes_eq}
 use Rattle.indexmap.specs.IndexMap.{get}
 use Rattle.jz_io.specs.declared.span.Span.{Span}
-use Rattle.jz_tree.specs.declared.Decl.{Decl}
-use Rattle.jz_tree.specs.declared.Var.{Var}
+use Rattle.jz_first_tree.specs.declared.Decl.{Decl}
+use Rattle.jz_first_tree.specs.declared.Var.{Var}
 use Rattle.jz_types.specs.declared.fault.TypeFault.{TypeFault}
 use Rattle.jz_types.specs.declared.scope.Declared.{Declared}
 use Rattle.jz_types.specs.declared.scope.Scope.{Scope}

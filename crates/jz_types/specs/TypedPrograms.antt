@@ -1,11 +1,11 @@
 -- What a typed program has.
 use Rattle.std.specs.Prelude.{◌≡◌, ◌≢◌, ◌≤◌, IsSome, List, length, All, AllPairs, Contains}
-use Rattle.jz_tree.specs.declared.Program.{Program}
-use Rattle.jz_tree.specs.declared.Fun.{Fun}
-use Rattle.jz_tree.specs.declared.Var.{Var}
+use Rattle.jz_first_tree.specs.declared.Program.{Program}
+use Rattle.jz_first_tree.specs.declared.Fun.{Fun}
+use Rattle.jz_first_tree.specs.declared.Var.{Var}
 use Rattle.jz_types.specs.Faults.{Before}
 use Rattle.jz_types.specs.Uses.{uses_of}
-use Rattle.jz_tree.specs.Variables.{variables_of}
+use Rattle.jz_first_tree.specs.Variables.{variables_of}
 
 -- the functions differ in their names, and so do the variables of each
 pub record HaveDifferentNames (p : Program) : Type 0 where

@@ -13,7 +13,7 @@ use crate::resolve::resolve;
 use crate::typed::Typed;
 use crate::unknown::unknown_variables;
 use jz_data::Failure;
-use jz_tree::Program;
+use jz_first_tree::Program;
 use std::alloc::{AllocError, Global};
 
 fn first_fault(alloc: Global, program: &Program) -> Result<Option<TypeFault>, AllocError>

@@ -6,7 +6,7 @@ ghost use Rattle.jz_types.specs.Joining.{first_in};
 ghost use Rattle.jz_types.specs.Rules.{miscounted, misshapen};
 
 use crate::fault::{TypeFault, TypeRule, earlier_of};
-use jz_tree::{Fun, Program};
+use jz_first_tree::{Fun, Program};
 
 fn miscounted_fun(fun: &Fun) -> Option<TypeFault>
     ensures { result ≡ first_of (miscounted fun.now) }

@@ -1,7 +1,7 @@
 //! Laws of the definitions.
 
 ghost use Rattle.std.specs.Prelude.{◌≡◌, ◌⊎◌, ◌↔◌};
-ghost use Rattle.jz_tree.specs.declared.Program.{Program};
+ghost use Rattle.jz_first_tree.specs.declared.Program.{Program};
 ghost use Rattle.jz_types.specs.declared.fault.TypeFault.{TypeFault};
 ghost use Rattle.jz_types.specs.Resolving.{resolved};
 ghost use Rattle.jz_types.specs.Rules.{IsTyped, IsFirstTypeFault};

@@ -10,7 +10,7 @@ use crate::fault::{TypeFault, TypeRule, earlier_of};
 use indexmap::IndexSet;
 use jz_data::{Seq, Text};
 use jz_io::Span;
-use jz_tree::{Fun, Program, Var};
+use jz_first_tree::{Fun, Program, Var};
 use std::alloc::{AllocError, Global};
 
 /// Names that differ, and the first fault among further ones.

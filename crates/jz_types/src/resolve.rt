@@ -6,7 +6,7 @@ ghost use Rattle.jz_types.specs.Scopes.{decls_of};
 
 use crate::scope::Scope;
 use jz_data::Seq;
-use jz_tree::{Expr, Fun, Lval, Program, Rhs, Stmt, StmtKind, Var};
+use jz_first_tree::{Expr, Fun, Lval, Program, Rhs, Stmt, StmtKind, Var};
 use std::alloc::{AllocError, Global};
 
 fn in_var(scope: &Scope, var: Var) -> Var

@@ -1,15 +1,15 @@
 //! The variables of a function by their names.
 
 ghost use Rattle.std.specs.Prelude.{◌≡◌, [], ◌∷◌, ◌++◌, List, IfOk, OnOk};
-ghost use Rattle.jz_tree.specs.declared.Var.{Var};
-ghost use Rattle.jz_tree.specs.Variables.{variables_of};
+ghost use Rattle.jz_first_tree.specs.declared.Var.{Var};
+ghost use Rattle.jz_first_tree.specs.Variables.{variables_of};
 ghost use Rattle.jz_types.specs.Scopes.{IsScope, has_above, decls_of};
 
 use crate::fault::is_before;
 use indexmap::IndexMap;
 use jz_data::{Seq, Text};
 use jz_io::Span;
-use jz_tree::{Decl, Fun, Param, Var};
+use jz_first_tree::{Decl, Fun, Param, Var};
 use std::alloc::{AllocError, Global};
 
 /// A variable where it is declared.

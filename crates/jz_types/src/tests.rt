@@ -3,7 +3,7 @@
 use crate::{TypeFault, TypeRule, Typed, check};
 use jz_data::{Failure, Seq, Text};
 use jz_io::Span;
-use jz_tree::{
+use jz_first_tree::{
     BinOp, Decl, Expr, Fun, Lval, Param, Program, Ret, Rhs, Stmt, StmtKind, Storage, Ty, Var,
 };
 use jz_words::Size;

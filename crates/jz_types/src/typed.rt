@@ -5,7 +5,7 @@ ghost use Rattle.jz_types.specs.Resolving.{resolved};
 ghost use Rattle.jz_types.specs.Rules.{IsTyped};
 ghost use Rattle.jz_types.specs.TypedPrograms.{HaveDifferentNames, HaveDeclarations, HaveCounts};
 
-use jz_tree::Program;
+use jz_first_tree::Program;
 
 /// A program in which no rule fails, and in which each variable has its declaration where it is used.
 #[derive(Debug, Drop)]

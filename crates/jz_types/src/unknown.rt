@@ -12,7 +12,7 @@ ghost use Rattle.jz_types.specs.Uses.{expression_uses, left_side_uses, right_sid
 use crate::fault::{TypeFault, TypeRule, earlier_of};
 use crate::scope::Scope;
 use jz_data::Seq;
-use jz_tree::{Expr, Fun, Lval, Program, Rhs, Stmt, StmtKind, Var};
+use jz_first_tree::{Expr, Fun, Lval, Program, Rhs, Stmt, StmtKind, Var};
 use std::alloc::{AllocError, Global};
 
 #[tactic(auto, unfolding(crate::specs::Scopes::unknown_by))]

@@ -1,5 +1,5 @@
 use Rattle.std.proofs.Common.{◌≡◌, ◌++◌, drop, map}
-use Rattle.jz_tree.specs.Variables.{variables_of}
+use Rattle.jz_first_tree.specs.Variables.{variables_of}
 use Rattle.jz_pipeline.specs.Placed.{holder_of}
 use Rattle.jz_pipeline.proofs.refusing.holders.Given as goal
 

@@ -1,5 +1,5 @@
 use Rattle.std.proofs.Common.{List, take, ◌++◌}
-use Rattle.jz_tree.specs.declared.Var.{Var}
+use Rattle.jz_first_tree.specs.declared.Var.{Var}
 use Rattle.jz_types.specs.Scopes.{IsScope}
 use Rattle.jz_types.proofs.scope.Scope.add_all.Given as goal
 

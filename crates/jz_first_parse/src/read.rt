@@ -1,0 +1,73 @@
+//! The program that a list of tokens derives, or the first token at which none is derived any more.
+
+ghost use Rattle.std.specs.Prelude.{◌≡◌, ◌<◌, ◌-◌, [], ◌∷◌, ◌++◌, List, IfOk, IfErr, length};
+ghost use Rattle.jz_data.specs.Failures.{IfRefused};
+ghost use Rattle.jz_lex.specs.declared.token.TokenKind.TheVariants.{End};
+ghost use Rattle.jz_lex.specs.declared.token.Token.{Token};
+ghost use Rattle.jz_grammar.specs.Reading.{final};
+ghost use Rattle.jz_first_parse.specs.Gave.{numbered, IsNumbered};
+ghost use Rattle.jz_first_parse.specs.Readers.{program};
+ghost use Rattle.jz_first_parse.specs.Deriving.{DerivesProgram, IsUnexpected};
+
+use crate::cursor::Cursor;
+use crate::fault::{SyntaxFault, SyntaxKind, fault_at};
+use crate::function::program;
+use jz_data::Failure;
+use jz_lex::Tokens;
+use jz_first_tree::Program;
+use std::alloc::Global;
+
+/// The program of all the tokens, or the number of the first that is left.
+#[tactic(auto, using(crate::proofs::Faults::read_done, crate::proofs::Faults::read_over, crate::proofs::Faults::read_wrong))]
+fn read_whole(alloc: Global, tokens: &Tokens) -> Result<Program, Failure<usize>>
+    ensures { IsNumbered (numbered (length tokens.now) (final (program tokens.now))) result }
+{
+    let mut c = Cursor::new(tokens.as_slice());
+    match program(alloc, &mut c) {
+        Ok(program) => {
+            let left = c.left();
+            if left == 0 {
+                Ok(program)
+            } else {
+                Err(Failure::Refused(tokens.len().saturating_sub(left)))
+            }
+        }
+        Err(Failure::Refused(SyntaxKind::Unexpected)) => Err(Failure::Refused(
+            tokens.len().saturating_sub(c.left()),
+        )),
+        Err(Failure::OutOfMemory) => Err(Failure::OutOfMemory),
+    }
+}
+
+/// The program that the tokens derive, or the first token at which they begin none.
+#[tactic(auto, using(crate::proofs::Faults::derived))]
+pub fn parse(alloc: Global, tokens: &Tokens) -> Result<Program, Failure<SyntaxFault>>
+    ensures program { IfOk result (λ program. DerivesProgram tokens.now program) }
+    ensures fault { IfErr result (λ failure. IfRefused failure (λ fault. IsUnexpected tokens.now fault)) }
+{
+    match read_whole(alloc, tokens) {
+        Ok(program) => Ok(program),
+        Err(Failure::Refused(number)) => Err(Failure::Refused(fault_at(tokens, number))),
+        Err(Failure::OutOfMemory) => Err(Failure::OutOfMemory),
+    }
+}
+
+/// The tokens derive one program at most.
+pub fn one_program()
+    ensures { (tokens : List Token) (program other : Program) → DerivesProgram tokens program → DerivesProgram tokens other → program ≡ other }
+{}
+
+/// Tokens that derive a program have no fault.
+pub fn no_fault_of_a_program()
+    ensures { (tokens : List Token) (program : Program) (fault : SyntaxFault) → DerivesProgram tokens program → IsUnexpected tokens fault → ⊥ }
+{}
+
+/// The tokens have one fault at most.
+pub fn one_fault()
+    ensures { (tokens : List Token) (fault other : SyntaxFault) → IsUnexpected tokens fault → IsUnexpected tokens other → fault ≡ other }
+{}
+
+/// Where an end token stands last, a fault is at one of the tokens.
+pub fn a_fault_is_at_a_token()
+    ensures { (front : List Token) (last : Token) (fault : SyntaxFault) → last.kind ≡ End → IsUnexpected (front ++ last ∷ []) fault → fault.token < length (front ++ last ∷ []) }
+{}
