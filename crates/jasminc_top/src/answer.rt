@@ -14,12 +14,12 @@ use crate::halt::{Halt, Stop};
 use crate::refusal::{Refusal, Status};
 use crate::words::{Request, request_of};
 use jz_data::{Seq, Text};
+use jz_first_parse::parse;
+use jz_first_tree::Fun;
 use jz_io::{Bytes, ReadRefused, Source, read_all};
 use jz_lex::lex;
 use jz_listing::{Compiled, listing};
-use jz_first_parse::parse;
 use jz_pipeline::{compile_all, expand_all, safe_all};
-use jz_first_tree::Fun;
 use jz_types::{Typed, check};
 use std::alloc::{AllocError, Global};
 

@@ -2,8 +2,8 @@
 
 use crate::refusal::Refusal;
 use jz_data::Failure;
-use jz_lex::LexFault;
 use jz_first_parse::SyntaxFault;
+use jz_lex::LexFault;
 use jz_pass::Limit;
 use jz_pipeline::NoPlace;
 use jz_safety::Alarm;

@@ -5,11 +5,11 @@ ghost use Rattle.jasminc_top.specs.Lines.{lex_name, lexer_line, syntax_name, par
 
 use jz_alloc::Needed;
 use jz_data::{Seq, Text};
+use jz_first_parse::{SyntaxFault, SyntaxKind};
 use jz_io::Span;
 use jz_lex::{LexFault, LexKind};
 use jz_listing::{reg_name, write_number, write_span};
 use jz_meaning::Reason;
-use jz_first_parse::{SyntaxFault, SyntaxKind};
 use jz_pass::{Limit, LimitKind};
 use jz_pipeline::{Holder, NoPlace};
 use jz_safety::Alarm;

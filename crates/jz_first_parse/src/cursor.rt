@@ -9,9 +9,9 @@ ghost use Rattle.jz_first_parse.specs.Trees.{name_of, number_of, assignments, op
 use crate::fault::SyntaxKind;
 use crate::kinds;
 use jz_data::{Failure, Text};
+use jz_first_tree::{BinOp, Expr};
 use jz_io::Span;
 use jz_lex::Token;
-use jz_first_tree::{BinOp, Expr};
 use std::alloc::Global;
 use std::marker::Model;
 

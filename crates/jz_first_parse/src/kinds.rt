@@ -5,9 +5,9 @@ ghost use Rattle.jz_grammar.specs.Kinds.{identifier, word, number, sign, end, is
 ghost use Rattle.jz_first_parse.specs.Trees.{name_of, number_of, text_in, assignments, operation_of};
 
 use jz_data::Text;
+use jz_first_tree::{BinOp, Expr};
 use jz_io::Span;
 use jz_lex::{Token, TokenKind};
-use jz_first_tree::{BinOp, Expr};
 use std::alloc::{AllocError, Global};
 
 #[tactic(auto, unfolding(jz_grammar::specs::Kinds::is_in))]

@@ -13,8 +13,8 @@ use crate::cursor::Cursor;
 use crate::fault::{SyntaxFault, SyntaxKind, fault_at};
 use crate::function::program;
 use jz_data::Failure;
-use jz_lex::Tokens;
 use jz_first_tree::Program;
+use jz_lex::Tokens;
 use std::alloc::Global;
 
 /// The program of all the tokens, or the number of the first that is left.

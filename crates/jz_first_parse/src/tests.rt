@@ -2,9 +2,9 @@
 
 use crate::{SyntaxFault, SyntaxKind, parse};
 use jz_data::{Failure, Seq};
+use jz_first_tree::{BinOp, Decl, Expr, Fun, Lval, Program, Rhs, Stmt, StmtKind, Storage, Ty, Var};
 use jz_io::Span;
 use jz_lex::{Tokens, lex};
-use jz_first_tree::{BinOp, Decl, Expr, Fun, Lval, Program, Rhs, Stmt, StmtKind, Storage, Ty, Var};
 use jz_words::Size;
 use std::alloc::{AllocError, Global};
 use std::process::Abort;

@@ -5,9 +5,9 @@ ghost use Rattle.jz_first_tree.specs.Variables.{variables_of};
 
 use crate::{instructions, operations};
 use jz_data::{Seq, Text};
+use jz_first_tree::{BinOp, Decl, Expr, Fun, Lval, Param, Rhs, Stmt, StmtKind, Storage, Ty, Var};
 use jz_io::Span;
 use jz_ir::{Code, Kind, Need, Op};
-use jz_first_tree::{BinOp, Decl, Expr, Fun, Lval, Param, Rhs, Stmt, StmtKind, Storage, Ty, Var};
 use jz_words::Size;
 use std::alloc::{AllocError, Global};
 use std::test::Fail;

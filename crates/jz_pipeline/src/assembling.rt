@@ -6,9 +6,9 @@ ghost use Rattle.jz_correct.specs.Assembled.{assembled};
 ghost use Rattle.jz_pipeline.specs.Compiling.{straight_transformer};
 
 use jz_data::Seq;
+use jz_first_tree::Stmt;
 use jz_io::Bytes;
 use jz_leak::{Case, Form, Out, Tr, Transformer};
-use jz_first_tree::Stmt;
 use std::alloc::{AllocError, Global};
 use x64_encode::encode;
 use x64_insn::Insn;

@@ -14,11 +14,11 @@ use crate::signature::{arguments, results};
 use crate::unplaced::NoPlace;
 use jz_alloc::allocate;
 use jz_data::{Failure, Seq};
+use jz_first_tree::Fun;
 use jz_io::Ct;
 use jz_listing::Compiled;
 use jz_lower::{instructions, operations};
 use jz_safety::Safe;
-use jz_first_tree::Fun;
 use std::alloc::{AllocError, Global};
 use x64_insn::{Insn, Place};
 

@@ -3,9 +3,9 @@
 ghost use Rattle.std.specs.Prelude.{◌≡◌, ℤ, Some, All, IfOk, IfSome, MatchOption};
 ghost use Rattle.jz_pass.specs.Limits.{HasField, constant_in, immediate_of, immediates_of, IsFirstWithout, IsWithinLimits, IsFirstLimit};
 
+use jz_first_tree::{Expr, Fun, Rhs, StmtKind};
 use jz_io::Span;
 use jz_pass::{Limit, LimitKind, MOST_STATEMENTS, has_field};
-use jz_first_tree::{Expr, Fun, Rhs, StmtKind};
 use std::alloc::AllocError;
 
 fn constant_in(rhs: &Rhs) -> Option<(i128, Span)>

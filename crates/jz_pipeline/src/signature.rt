@@ -7,9 +7,9 @@ ghost use Rattle.jz_lower.specs.Placing.{variable_of};
 ghost use Rattle.jz_pipeline.specs.Compiling.{lines_of};
 
 use jz_data::Seq;
+use jz_first_tree::{Param, Var};
 use jz_listing::Arg;
 use jz_lower::{ARGUMENT_REGISTERS, RESULT_REGISTERS};
-use jz_first_tree::{Param, Var};
 use jz_words::Size;
 use std::alloc::{AllocError, Global};
 use x64_insn::Reg;

@@ -4,10 +4,10 @@ ghost use Rattle.std.specs.Prelude.{◌<◌, ◌+◌, ◌^◌, length};
 
 use crate::expand;
 use jz_data::Failure;
+use jz_first_parse::parse;
 use jz_io::Span;
 use jz_lex::lex;
 use jz_meaning::Expanded;
-use jz_first_parse::parse;
 use jz_pass::LimitKind;
 use jz_safety::safe;
 use jz_types::{TypeRule, Typed, check};

@@ -9,8 +9,8 @@ ghost use Rattle.jz_types.specs.Scopes.{IsNames};
 use crate::fault::{TypeFault, TypeRule, earlier_of};
 use indexmap::IndexSet;
 use jz_data::{Seq, Text};
-use jz_io::Span;
 use jz_first_tree::{Fun, Program, Var};
+use jz_io::Span;
 use std::alloc::{AllocError, Global};
 
 /// Names that differ, and the first fault among further ones.

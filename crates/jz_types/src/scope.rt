@@ -8,8 +8,8 @@ ghost use Rattle.jz_types.specs.Scopes.{IsScope, has_above, decls_of};
 use crate::fault::is_before;
 use indexmap::IndexMap;
 use jz_data::{Seq, Text};
-use jz_io::Span;
 use jz_first_tree::{Decl, Fun, Param, Var};
+use jz_io::Span;
 use std::alloc::{AllocError, Global};
 
 /// A variable where it is declared.

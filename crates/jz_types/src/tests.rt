@@ -2,10 +2,10 @@
 
 use crate::{TypeFault, TypeRule, Typed, check};
 use jz_data::{Failure, Seq, Text};
-use jz_io::Span;
 use jz_first_tree::{
     BinOp, Decl, Expr, Fun, Lval, Param, Program, Ret, Rhs, Stmt, StmtKind, Storage, Ty, Var,
 };
+use jz_io::Span;
 use jz_words::Size;
 use std::alloc::{AllocError, Global};
 use std::test::Fail;
