@@ -6,7 +6,7 @@ use Rattle.jz_lex.proofs.LexingWords.{by_cases, if_false, true_false}
 use Rattle.jz_lex.specs.declared.token.Token.{Token}
 pub use Rattle.jz_lex.proofs.LexingWords.{by_cases, true_false, if_true, if_false}
 use Rattle.jz_grammar.specs.Causes.{Cause, Unexpected, TooDeep}
-use Rattle.jz_grammar.specs.Kinds.{Kind, identifier, word, number, sign, end, kind_of, same, member, disjoint, is_in, has}
+use Rattle.jz_grammar.specs.Kinds.{Kind, identifier, word, number, cast, string, sign, end, kind_of, same, member, disjoint, is_in, has}
 use Rattle.jz_grammar.specs.Reading.{Answer, ◌>>=◌, through}
 use Rattle.jz_grammar.specs.Grammar.{Marked, plain, Within}
 use Rattle.jz_grammar.specs.Laws.{head_of, outcome, Next, plus}
@@ -15,26 +15,50 @@ pub same_is : (a b : Kind) → same a b ≡ true → a ≡ b
 same_is identifier identifier h = refl
 same_is identifier (word t) h = cc
 same_is identifier number h = cc
+same_is identifier cast h = cc
+same_is identifier string h = cc
 same_is identifier (sign t) h = cc
 same_is identifier end h = cc
 same_is (word s) identifier h = cc
 same_is (word s) (word t) h = ap (λ u. word u) ((bytes_eq-Decides s t).0 h)
 same_is (word s) number h = cc
+same_is (word s) cast h = cc
+same_is (word s) string h = cc
 same_is (word s) (sign t) h = cc
 same_is (word s) end h = cc
 same_is number identifier h = cc
 same_is number (word t) h = cc
 same_is number number h = refl
+same_is number cast h = cc
+same_is number string h = cc
 same_is number (sign t) h = cc
 same_is number end h = cc
+same_is cast identifier h = cc
+same_is cast (word t) h = cc
+same_is cast number h = cc
+same_is cast cast h = refl
+same_is cast string h = cc
+same_is cast (sign t) h = cc
+same_is cast end h = cc
+same_is string identifier h = cc
+same_is string (word t) h = cc
+same_is string number h = cc
+same_is string cast h = cc
+same_is string string h = refl
+same_is string (sign t) h = cc
+same_is string end h = cc
 same_is (sign s) identifier h = cc
 same_is (sign s) (word t) h = cc
 same_is (sign s) number h = cc
+same_is (sign s) cast h = cc
+same_is (sign s) string h = cc
 same_is (sign s) (sign t) h = ap (λ u. sign u) ((bytes_eq-Decides s t).0 h)
 same_is (sign s) end h = cc
 same_is end identifier h = cc
 same_is end (word t) h = cc
 same_is end number h = cc
+same_is end cast h = cc
+same_is end string h = cc
 same_is end (sign t) h = cc
 same_is end end h = refl
 

@@ -1,9 +1,10 @@
 -- A token of each kind, and that there are phrases.
-use Rattle.std.proofs.Common.{◌≡◌, inl, inr, ℕ, zero, suc, ◌<◌, List, [], ◌∷◌, ◌++◌, true, None, pos, refl, arith}
+use Rattle.std.proofs.Common.{◌≡◌, inl, inr, ℕ, zero, suc, ◌<◌, List, [], ◌∷◌, ◌++◌, true, false, None, pos, refl, arith}
 use Rattle.jz_io.specs.declared.span.Span.{Span}
 use Rattle.jz_lex.specs.declared.token.Token.{Token}
 use Rattle.jz_lex.specs.declared.token.TokenKind.TheVariants as kind
-use Rattle.jz_grammar.specs.Kinds.{Kind, identifier, word, number, sign, end, is_in}
+use Rattle.jz_words.specs.declared.size.Size.TheVariants.{S64}
+use Rattle.jz_grammar.specs.Kinds.{Kind, identifier, word, number, cast, string, sign, end, is_in}
 use Rattle.jz_grammar.specs.Reading.{leaf}
 use Rattle.jz_grammar.specs.Grammar.{Lang, token, ◌▸◌, ◌⊕◌, ◌⇒◌, each, maybe, then_by, each_by}
 use Rattle.jz_grammar.specs.Laws.{IsReader, HasPhrase, plus, one_shape}
@@ -22,6 +23,12 @@ word_token s = record { kind = kind.Keyword s; span = at_start }
 pub number_token : Token
 number_token = record { kind = kind.Num (pos 0); span = at_start }
 
+pub cast_token : Token
+cast_token = record { kind = kind.Cast S64 false; span = at_start }
+
+pub string_token : Token
+string_token = record { kind = kind.Str []; span = at_start }
+
 pub identifier_token : Token
 identifier_token = record { kind = kind.Ident []; span = at_start }
 
@@ -39,6 +46,14 @@ word_in s ks = rw (same_self (word s)) refl
 pub number_in : is_in (number ∷ []) number_token ≡ true
 unfolding is_in number_token
 number_in = refl
+
+pub cast_in : is_in (cast ∷ []) cast_token ≡ true
+unfolding is_in cast_token
+cast_in = refl
+
+pub string_in : is_in (string ∷ []) string_token ≡ true
+unfolding is_in string_token
+string_in = refl
 
 pub identifier_in : is_in (identifier ∷ []) identifier_token ≡ true
 unfolding is_in identifier_token
@@ -60,6 +75,12 @@ identifier_reads to d = leaf_reads (identifier ∷ []) to d identifier_token ide
 
 pub number_reads : {A : Type 0} (to : Token → A) (d : ℕ) → IsReader (leaf (number ∷ []) to) (λ e. token (number ∷ []) (plus d e) ⇒ to) (one_shape (number ∷ []))
 number_reads to d = leaf_reads (number ∷ []) to d number_token number_in
+
+pub cast_reads : {A : Type 0} (to : Token → A) (d : ℕ) → IsReader (leaf (cast ∷ []) to) (λ e. token (cast ∷ []) (plus d e) ⇒ to) (one_shape (cast ∷ []))
+cast_reads to d = leaf_reads (cast ∷ []) to d cast_token cast_in
+
+pub string_reads : {A : Type 0} (to : Token → A) (d : ℕ) → IsReader (leaf (string ∷ []) to) (λ e. token (string ∷ []) (plus d e) ⇒ to) (one_shape (string ∷ []))
+string_reads to d = leaf_reads (string ∷ []) to d string_token string_in
 
 pub end_reads : {A : Type 0} (to : Token → A) (d : ℕ) → IsReader (leaf (end ∷ []) to) (λ e. token (end ∷ []) (plus d e) ⇒ to) (one_shape (end ∷ []))
 end_reads to d = leaf_reads (end ∷ []) to d end_token end_in

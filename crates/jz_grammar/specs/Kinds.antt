@@ -6,11 +6,13 @@ use Rattle.jz_lex.specs.declared.token.TokenKind.{TokenKind}
 use Rattle.jz_lex.specs.declared.token.TokenKind.TheVariants as kind
 use Rattle.jz_lex.specs.declared.token.Token.{Token}
 
--- a kind of tokens: identifiers, a keyword, numbers, a sign, the end
+-- a kind of tokens: identifiers, a keyword, numbers, casts, strings, a sign, the end
 pub data Kind : Type 0 where
   identifier : Kind
   word : List ℕ → Kind
   number : Kind
+  cast : Kind
+  string : Kind
   sign : List ℕ → Kind
   end : Kind
 
@@ -19,6 +21,8 @@ abbrev pub kind_of : TokenKind → Kind
 kind_of (kind.Ident s) = identifier
 kind_of (kind.Keyword s) = word s
 kind_of (kind.Num n) = number
+kind_of (kind.Cast size signed) = cast
+kind_of (kind.Str s) = string
 kind_of (kind.Sign s) = sign s
 kind_of kind.End = end
 
@@ -27,6 +31,8 @@ abbrev pub same : Kind → Kind → Bool
 same identifier identifier = true
 same (word s) (word t) = bytes_eq s t
 same number number = true
+same cast cast = true
+same string string = true
 same (sign s) (sign t) = bytes_eq s t
 same end end = true
 same k l = false

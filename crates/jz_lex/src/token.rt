@@ -2,6 +2,7 @@
 
 use jz_data::{Seq, Text};
 use jz_io::Span;
+use jz_words::Size;
 
 /// A token, and the place of its first byte. The end of the text is one, just past the last byte.
 #[derive(Debug, Drop, PartialEq, Eq)]
@@ -15,6 +16,10 @@ pub enum TokenKind {
     Ident(Text),
     Keyword(Text),
     Num(i128),
+    /// The size of the words that a cast gives, and whether it extends the sign.
+    Cast(Size, bool),
+    /// What is written between the quotes.
+    Str(Text),
     Sign(Text),
     End,
 }

@@ -1,0 +1,10 @@
+//! The syntax tree of a text: plain data.
+#![tactic(auto)]
+
+mod expr;
+mod program;
+mod stmt;
+
+pub use expr::{Access, BinOp, Decl, Expr, Storage, Ty, Var};
+pub use program::{Const, Fun, FunKind, Note, NoteValue, Param, Program, Ret};
+pub use stmt::{Lval, Rhs, Stmt, StmtKind};
