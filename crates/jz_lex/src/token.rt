@@ -18,8 +18,8 @@ pub enum TokenKind {
     Num(i128),
     /// The size of the words that a cast gives, and whether it extends the sign.
     Cast(Size, bool),
-    /// What is written between the quotes.
-    Str(Text),
+    /// The bytes between the quotes.
+    Str(Seq<u8>),
     Sign(Text),
     End,
 }

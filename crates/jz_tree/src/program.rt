@@ -71,5 +71,6 @@ pub enum NoteValue {
     None,
     Name(Text),
     Num(i128),
-    Str(Text),
+    /// The bytes between the quotes.
+    Str(Seq<u8>),
 }
