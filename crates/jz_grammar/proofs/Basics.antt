@@ -214,6 +214,8 @@ pub same_self : (s : Kind) → same s s ≡ true
 same_self identifier = refl
 same_self (word s) = (bytes_eq-Decides s s).1 refl
 same_self number = refl
+same_self cast = refl
+same_self string = refl
 same_self (sign s) = (bytes_eq-Decides s s).1 refl
 same_self end = refl
 

@@ -1,0 +1,10 @@
+//! The tokens that are still to be read, what each one tells, and the faults of a list of tokens.
+#![tactic(auto)]
+
+mod cursor;
+mod fault;
+mod kinds;
+
+pub use cursor::{Cursor, Stop, UNEXPECTED};
+pub use fault::{SyntaxFault, SyntaxKind, fault_at};
+pub use kinds::{has_text, is_sign, is_word};
