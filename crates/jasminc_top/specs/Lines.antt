@@ -7,7 +7,7 @@ use Rattle.x64_insn.specs.declared.types.Flag.TheVariants as flag
 use Rattle.x64_insn.specs.declared.types.Place.{Place}
 use Rattle.x64_insn.specs.declared.types.Place.TheVariants as place
 use Rattle.jz_lex.specs.declared.token.LexKind.{LexKind}
-use Rattle.jz_lex.specs.declared.token.LexKind.TheVariants.{BadByte, BadNumber}
+use Rattle.jz_lex.specs.declared.token.LexKind.TheVariants.{BadByte, BadNumber, OpenComment}
 use Rattle.jz_lex.specs.declared.token.LexFault.{LexFault}
 use Rattle.jz_cursor.specs.declared.fault.SyntaxKind.{SyntaxKind}
 use Rattle.jz_cursor.specs.declared.fault.SyntaxKind.TheVariants.{Unexpected, TooDeep}
@@ -30,6 +30,7 @@ use Rattle.jz_listing.specs.Listing.{reg_text, span_text}
 abbrev pub lex_name : LexKind → List ℕ
 lex_name BadByte = codes "BadByte"
 lex_name BadNumber = codes "BadNumber"
+lex_name OpenComment = codes "OpenComment"
 
 abbrev pub lexer_line : LexFault → List ℕ
 lexer_line f = codes "syntax " ++ lex_name f.kind ++ codes " " ++ span_text f.span

@@ -23,6 +23,7 @@ fn lex_name(kind: LexKind) -> &'static str
     match kind {
         LexKind::BadByte => "BadByte",
         LexKind::BadNumber => "BadNumber",
+        LexKind::OpenComment => "OpenComment",
     }
 }
 
