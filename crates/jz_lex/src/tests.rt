@@ -13,6 +13,14 @@ fn token_line(alloc: Global, token: &Token) -> Result<String, AllocError> {
         TokenKind::Ident(name) => format!(in alloc; "I{}@{line}:{col}", name.as_str()),
         TokenKind::Keyword(word) => format!(in alloc; "K{}@{line}:{col}", word.as_str()),
         TokenKind::Num(value) => format!(in alloc; "N{value}@{line}:{col}"),
+        TokenKind::Cast(size, signed) => {
+            let bits = size.bits();
+            format!(in alloc; "C{bits}{}@{line}:{col}", if *signed { "s" } else { "u" })
+        }
+        TokenKind::Str(bytes) => {
+            let bytes = bytes.as_slice();
+            format!(in alloc; "T{bytes:?}@{line}:{col}")
+        }
         TokenKind::Sign(sign) => format!(in alloc; "S{}@{line}:{col}", sign.as_str()),
         TokenKind::End => format!(in alloc; "E@{line}:{col}"),
     }
@@ -36,6 +44,7 @@ fn outcome(rt: &impl Abort, alloc: Global, text: &[u8]) -> Result<String, AllocE
             let Span { line, col } = fault.span;
             match fault.kind {
                 LexKind::BadByte => format!(in alloc; "bad byte at {line}:{col}"),
+                LexKind::OpenComment => format!(in alloc; "open comment at {line}:{col}"),
                 LexKind::BadNumber => format!(in alloc; "bad number at {line}:{col}"),
             }
         }
