@@ -1,0 +1,2 @@
+//! The expressions of the language: their grammar, and how they are read.
+#![tactic(auto)]
