@@ -1,3 +1,4 @@
 pub mod Levels
 pub mod Parentheses
 pub mod Laws
+pub mod OperatorLemmas

@@ -1,2 +1,4 @@
 //! The expressions of the language: their grammar, and how they are read.
 #![tactic(auto)]
+
+mod operator;
