@@ -89,12 +89,9 @@ signed_of d =
     ⊕ (g.plain_access g.unary d ⇒ load_expr)
     ⊕ three d
 
-abbrev signed_starts : List Kind
-signed_starts = sign (codes "-") ∷ sign (codes "!") ∷ sign (codes "[") ∷ sign (codes "(") ∷ []
-
-signed_reads : (d : ℕ) → Below d → IsReader (r.signed_of r.unary d) (λ e. signed_of (plus d e)) (full signed_starts unary_goes)
+signed_reads : (d : ℕ) → Below d → IsReader (r.signed_of r.unary d) (λ e. signed_of (plus d e)) (full r.signed_starts unary_goes)
 unfolding r.signed_of
-signed_reads d below = shaped (full signed_starts unary_goes)
+signed_reads d below = shaped (full r.signed_starts unary_goes)
     (pick_reads (neg_reads d below) (pick_reads (not_reads d below) (pick_reads (load_reads d below) (group_form_reads d below) refl refl) refl refl) refl refl)
     refl refl refl
 
