@@ -4,7 +4,7 @@ use Rattle.jz_io.specs.declared.span.Span.{Span}
 use Rattle.jz_lex.specs.declared.token.Token.{Token}
 use Rattle.jz_grammar.specs.Causes.{Cause}
 use Rattle.jz_grammar.specs.Kinds.{Kind, number, identifier, word, kind_of, is_in, has}
-use Rattle.jz_grammar.specs.Reading.{Answer, Reader, ◌>>=◌, through, follow, many, leaf}
+use Rattle.jz_grammar.specs.Reading.{Answer, Reader, ◌>>=◌, through, many, leaf}
 use Rattle.jz_grammar.proofs.Basics.{member_append}
 use Rattle.jz_grammar.proofs.Combine.{many_next, many_done, shorter}
 use Rattle.jz_tree.specs.declared.expr.Expr.{Expr}

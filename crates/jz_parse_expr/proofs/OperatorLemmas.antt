@@ -1,5 +1,5 @@
 -- The levels of operators.
-use Rattle.std.proofs.Common.{◌≡◌, ℕ, zero, suc, List, [], ◌∷◌, refl, codes}
+use Rattle.std.proofs.Common.{◌≡◌, ℕ, zero, suc, [], ◌∷◌, refl, codes}
 use Rattle.jz_lex.specs.declared.token.Token.{Token}
 use Rattle.jz_grammar.specs.Kinds.{sign, is_in}
 use Rattle.jz_parse_expr.specs.Operators.{ops_of}
