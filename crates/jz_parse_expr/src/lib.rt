@@ -3,5 +3,7 @@
 
 mod expression;
 mod operator;
+#[cfg(test)]
+mod tests;
 
 pub use expression::{access, begins_expr, expr, index};
