@@ -10,3 +10,6 @@ mod stmt;
 pub use expr::{Access, BinOp, Decl, Expr, Storage, Ty, Var};
 pub use program::{Const, Fun, FunKind, Note, NoteValue, Param, Program, Ret};
 pub use stmt::{Lval, Rhs, Stmt, StmtKind};
+
+#[cfg(test)]
+mod tests;
