@@ -1,5 +1,5 @@
 -- The tree of a statement, from its parts.
-use Rattle.std.specs.Prelude.{ℕ, List, [], ◌∷◌, Bool, Option, Some, None, codes, bytes_eq, if◌then◌else◌}
+use Rattle.std.specs.Prelude.{ℕ, List, [], ◌∷◌, ◌++◌, Bool, Option, Some, None, codes, bytes_eq, if◌then◌else◌}
 use Rattle.jz_io.specs.declared.span.Span.{Span}
 use Rattle.jz_lex.specs.declared.token.Token.{Token}
 use Rattle.jz_grammar.specs.Kinds.{Kind, sign}
@@ -19,10 +19,21 @@ use Rattle.jz_tree.specs.declared.stmt.StmtKind.TheVariants.{Assign, If, While, 
 use Rattle.jz_parse_expr.specs.Trees.{used_of}
 
 -- ---- the signs of assignments
+-- "=", alone or with an operation before it
+abbrev pub sum_assignments : List Kind
+sum_assignments = sign (codes "=") ∷ sign (codes "+=") ∷ sign (codes "-=") ∷ sign (codes "*=") ∷ []
+
+abbrev pub quotient_assignments : List Kind
+quotient_assignments = sign (codes "/=") ∷ sign (codes "%=") ∷ sign (codes "/s=") ∷ sign (codes "%s=") ∷ []
+
+abbrev pub bit_assignments : List Kind
+bit_assignments = sign (codes "&=") ∷ sign (codes "|=") ∷ sign (codes "^=") ∷ []
+
+abbrev pub shift_assignments : List Kind
+shift_assignments = sign (codes "<<=") ∷ sign (codes ">>=") ∷ sign (codes ">>s=") ∷ sign (codes "<<r=") ∷ sign (codes ">>r=") ∷ []
+
 abbrev pub assignments : List Kind
-assignments =
-    sign (codes "=") ∷ sign (codes "+=") ∷ sign (codes "-=") ∷ sign (codes "*=") ∷ sign (codes "/=") ∷ sign (codes "%=") ∷ sign (codes "/s=") ∷ sign (codes "%s=")
-    ∷ sign (codes "&=") ∷ sign (codes "|=") ∷ sign (codes "^=") ∷ sign (codes "<<=") ∷ sign (codes ">>=") ∷ sign (codes ">>s=") ∷ sign (codes "<<r=") ∷ sign (codes ">>r=") ∷ []
+assignments = sum_assignments ++ (quotient_assignments ++ (bit_assignments ++ shift_assignments))
 
 -- the operation before the "=", if it is one on numbers, one on bits, or any
 unfoldable pub number_operation : Token → Option BinOp
