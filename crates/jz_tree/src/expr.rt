@@ -99,7 +99,7 @@ pub enum BinOp {
 
 /// An expression. Its span is that of its first token, but for parentheses round the whole of it, which the tree does not keep.
 #[cycle(expression)]
-#[derive(Debug, Drop, PartialEq, Eq)]
+#[derive(Debug, PartialEq, Eq)]
 pub enum Expr {
     /// The number that is written.
     Num(i128, Span),
@@ -119,4 +119,41 @@ pub enum Expr {
         span: Span,
     },
     Bin(BinOp, Boxed<Expr>, Boxed<Expr>, Span),
+}
+
+// By a loop down the left side, which may be as long as a text.
+impl Drop for Expr {
+    #[cycle(drop)]
+    fn drop(mut self) {
+        loop {
+            match self {
+                Expr::Num(_, _) => return,
+                Expr::Bool(_, _) => return,
+                Expr::Var(var) => {
+                    drop(var);
+                    return;
+                }
+                Expr::Cell(var, at) => {
+                    drop(var);
+                    self = at.into_inner();
+                }
+                Expr::Load(access) => {
+                    drop(access);
+                    return;
+                }
+                Expr::Neg(e, _) => self = e.into_inner(),
+                Expr::Not(e, _) => self = e.into_inner(),
+                Expr::Cast {
+                    size: _,
+                    signed: _,
+                    e,
+                    span: _,
+                } => self = e.into_inner(),
+                Expr::Bin(_, left, right, _) => {
+                    drop(right);
+                    self = left.into_inner();
+                }
+            }
+        }
+    }
 }

@@ -1,6 +1,8 @@
 //! The syntax tree of a text: plain data.
 #![tactic(auto)]
 
+mod comparing;
+mod copying;
 mod expr;
 mod program;
 mod stmt;
