@@ -101,15 +101,14 @@ fn answer_text(
             }
             Ok(text)
         }
-        Err(
-            Failure::Refused(
-                SyntaxFault {
-                    kind: SyntaxKind::Unexpected,
-                    token,
-                    span,
-                },
-            ),
-        ) => format!(in alloc; "token {token} at {}:{}", span.line, span.col),
+        Err(Failure::Refused(fault)) => {
+            let SyntaxFault { kind, token, span } = fault;
+            let name = match kind {
+                SyntaxKind::Unexpected => "token",
+                SyntaxKind::TooDeep => "too deep: token",
+            };
+            format!(in alloc; "{name} {token} at {}:{}", span.line, span.col)
+        }
         Err(Failure::OutOfMemory) => Err(AllocError),
     }
 }
