@@ -1,12 +1,12 @@
 -- What is read of an expression is the grammar's.
-use Rattle.std.proofs.Common.{◌≡◌, inl, inr, ℕ, zero, suc, List, [], ◌∷◌, ◌++◌, true, false, Option, None, Ok, Err, refl, sym, ap, ◌∙◌, subst, codes}
+use Rattle.std.proofs.Common.{◌≡◌, inr, ℕ, zero, suc, List, [], ◌∷◌, ◌++◌, true, false, Option, None, refl, ap, ◌∙◌, subst, codes}
 use Rattle.jz_io.specs.declared.span.Span.{Span}
 use Rattle.jz_words.specs.declared.size.Size.{Size}
 use Rattle.jz_lex.specs.declared.token.Token.{Token}
 use Rattle.jz_grammar.specs.Kinds.{Kind, word, sign, identifier, number}
-use Rattle.jz_grammar.specs.Reading.{Reader, through, follow, pick, inside, optional}
+use Rattle.jz_grammar.specs.Reading.{Reader, through, follow, pick, optional}
 use Rattle.jz_grammar.specs.Grammar.{Marked, Lang, token, ◌▸◌, ◌⊕◌, ◌⇒◌, opens, maybe}
-use Rattle.jz_grammar.specs.Laws.{Shape, IsReader, HasPhrase, plus, full}
+use Rattle.jz_grammar.specs.Laws.{IsReader, HasPhrase, plus, full}
 use Rattle.jz_grammar.proofs.Combine.{follow_reads, map_reads, pick_reads, inside_reads, optional_reads, reads_as, same_reads, shaped}
 use Rattle.jz_grammar.proofs.Opening.{inside_same, HasPhraseAnyway, some_opens}
 use Rattle.jz_grammar.proofs.Samples.{sign_token, sign_in, identifier_reads, number_reads, some_then, some_map, some_maybe, some_right, up}
@@ -89,12 +89,9 @@ signed_of d =
     ⊕ (g.plain_access g.unary d ⇒ load_expr)
     ⊕ three d
 
-abbrev signed_starts : List Kind
-signed_starts = sign (codes "-") ∷ sign (codes "!") ∷ sign (codes "[") ∷ sign (codes "(") ∷ []
-
-signed_reads : (d : ℕ) → Below d → IsReader (r.signed_of r.unary d) (λ e. signed_of (plus d e)) (full signed_starts unary_goes)
+signed_reads : (d : ℕ) → Below d → IsReader (r.signed_of r.unary d) (λ e. signed_of (plus d e)) (full r.signed_starts unary_goes)
 unfolding r.signed_of
-signed_reads d below = shaped (full signed_starts unary_goes)
+signed_reads d below = shaped (full r.signed_starts unary_goes)
     (pick_reads (neg_reads d below) (pick_reads (not_reads d below) (pick_reads (load_reads d below) (group_form_reads d below) refl refl) refl refl) refl refl)
     refl refl refl
 

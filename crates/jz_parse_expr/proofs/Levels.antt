@@ -1,19 +1,14 @@
 -- What is read of a level of operators is the grammar's.
-use Rattle.std.proofs.Common.{◌≡◌, inl, inr, ℕ, zero, suc, ◌≤◌, List, [], ◌∷◌, ◌++◌, true, false, refl, sym, subst, arith, codes}
-use Rattle.jz_io.specs.declared.span.Span.{Span}
-use Rattle.jz_words.specs.declared.size.Size.{Size}
+use Rattle.std.proofs.Common.{◌≡◌, inl, ℕ, zero, suc, ◌≤◌, List, [], ◌∷◌, ◌++◌, true, false, refl, sym, subst, arith, codes}
 use Rattle.jz_lex.specs.declared.token.Token.{Token}
 use Rattle.jz_grammar.specs.Kinds.{Kind, word, sign, span_of, disjoint, is_in, has}
-use Rattle.jz_grammar.specs.Reading.{Reader}
-use Rattle.jz_grammar.specs.Grammar.{Marked, Lang, token, ◌▸◌, ◌⇒◌}
+use Rattle.jz_grammar.specs.Grammar.{Marked, token, ◌▸◌, ◌⇒◌}
 use Rattle.jz_grammar.specs.Laws.{Shape, First, IsReader, HasPhrase, plus, full, one_shape, many_shape, both}
 use Rattle.jz_grammar.proofs.Basics.{disjoint_nil, has_append, has_join}
 use Rattle.jz_grammar.proofs.Combine.{leaf_reads, follow_reads, map_reads, many_reads, reshape, shaped}
 use Rattle.jz_grammar.proofs.Opening.{HasPhraseAnyway}
 use Rattle.jz_grammar.proofs.Samples.{sign_token, sign_in, sign_reads, word_token, word_in, word_reads, number_token, number_in, some_leaf, some_sign, some_then, up}
 use Rattle.jz_cursor.specs.Tokens.{number_of, word_types, size_of}
-use Rattle.jz_tree.specs.declared.expr.Expr.{Expr}
-use Rattle.jz_tree.specs.declared.expr.BinOp.{BinOp}
 use Rattle.jz_parse_expr.specs.Operators.{ops_of, op_of}
 use Rattle.jz_parse_expr.specs.Trees.{number_expr, chain}
 use Rattle.jz_parse_expr.specs.Table as g

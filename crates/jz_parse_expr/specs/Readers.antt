@@ -12,9 +12,12 @@ use Rattle.jz_tree.specs.declared.expr.BinOp.{BinOp}
 use Rattle.jz_parse_expr.specs.Operators.{ops_of, op_of, operators, level_count}
 use Rattle.jz_parse_expr.specs.Trees.{number_expr, bool_expr, name_expr, neg_expr, not_expr, access_of, load_expr, chain, Group, At, As, Plain, group_expr}
 
--- the tokens that begin an expression, those that go on with one, and those that begin an access
+-- the signs that begin an expression, the tokens that do, those that go on with one, and those that begin an access
+abbrev pub signed_starts : List Kind
+signed_starts = sign (codes "-") ∷ sign (codes "!") ∷ sign (codes "[") ∷ sign (codes "(") ∷ []
+
 abbrev pub expr_starts : List Kind
-expr_starts = number ∷ identifier ∷ word (codes "true") ∷ word (codes "false") ∷ sign (codes "-") ∷ sign (codes "!") ∷ sign (codes "[") ∷ sign (codes "(") ∷ []
+expr_starts = number ∷ identifier ∷ word (codes "true") ∷ word (codes "false") ∷ signed_starts
 
 abbrev pub expr_goes : List Kind
 expr_goes = sign (codes "[") ∷ operators
