@@ -27,6 +27,13 @@ any_assignment t =
     ∙ ap (λ z. is_in sum_assignments t || z) (either quotient_assignments (bit_assignments ++ shift_assignments) t
     ∙ ap (λ z. is_in quotient_assignments t || z) (either bit_assignments shift_assignments t))
 
+has_either : (ks ls : List Kind) (ts : List Token) → has (ks ++ ls) ts ≡ (has ks ts || has ls ts)
+has_either ks ls [] = refl
+has_either ks ls (t ∷ ts) = either ks ls t
+
+pub any_start : (ts : List Token) → has r.stmt_starts ts ≡ (has r.marks ts || (has r.simple_starts ts || has r.form_starts ts))
+any_start ts = has_either r.marks (r.simple_starts ++ r.form_starts) ts ∙ ap (λ z. has r.marks ts || z) (has_either r.simple_starts r.form_starts ts)
+
 -- ---- arguments
 pub args_done : (d : ℕ) (out : List Expr) (ts : List Token) → has r.commas ts ≡ false → r.args_more d out ts ≡ Ok (out, ts)
 unfolding r.args_more

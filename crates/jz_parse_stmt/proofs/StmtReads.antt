@@ -146,8 +146,8 @@ prologued low d = (maybe (g.block low d) ⇒ or_empty) ▸ tested low d
 some_prologued : (low : ℕ → g.Low) → HasPhrase (prologued low)
 some_prologued low = some_then (λ d. maybe (g.block low d) ⇒ or_empty) (tested low) (some_map (λ d. maybe (g.block low d)) or_empty (some_maybe (g.block low))) (some_tested low)
 
-while_law : (low : ℕ → r.Low) (d : ℕ) → Below low d → IsReader (r.while low d) (λ e. g.while g.nested_in (plus d e)) (full (word (codes "while") ∷ []) body_goes)
-unfolding r.while
+while_law : (low : ℕ → r.Low) (d : ℕ) → Below low d → IsReader (r.while_form low d) (λ e. g.while g.nested_in (plus d e)) (full (word (codes "while") ∷ []) body_goes)
+unfolding r.while_form
 while_law low d below = map_reads (λ p. looped p.0 p.1.0 p.1.1.0 p.1.1.1)
     (follow_reads (key_reads (codes "while") d)
     (follow_reads (prologue_law low d below)
@@ -193,8 +193,8 @@ counter low d = t.name d ▸ set_from low d
 some_counter : (low : ℕ → g.Low) → HasPhrase (counter low)
 some_counter low = some_then (λ d. t.name d) (set_from low) some_name (some_set_from low)
 
-for_law : (low : ℕ → r.Low) (d : ℕ) → Below low d → IsReader (r.for low d) (λ e. g.for g.nested_in (plus d e)) (full (word (codes "for") ∷ []) [])
-unfolding r.for
+for_law : (low : ℕ → r.Low) (d : ℕ) → Below low d → IsReader (r.for_form low d) (λ e. g.for g.nested_in (plus d e)) (full (word (codes "for") ∷ []) [])
+unfolding r.for_form
 for_law low d below = map_reads (λ p. counted p.0 p.1.0 p.1.1.1.0 p.1.1.1.1.0 p.1.1.1.1.1.0 p.1.1.1.1.1.1)
     (follow_reads (key_reads (codes "for") d)
     (follow_reads (name_reads d)
@@ -300,14 +300,14 @@ if_same : (f h : ℕ → r.Low) (d : ℕ) → SameBelow f h d → r.if_form f d 
 unfolding r.if_form
 if_same f h d same = λ i. λ ts. through {A = Span × (Expr × (List Stmt × List Stmt))} (λ p. chosen p.0 p.1) (follow (q.key (codes "if")) (if_rest_same f h d same i) ts)
 
-while_same : (f h : ℕ → r.Low) (d : ℕ) → SameBelow f h d → r.while f d ≡ r.while h d
-unfolding r.while r.prologue r.body
+while_same : (f h : ℕ → r.Low) (d : ℕ) → SameBelow f h d → r.while_form f d ≡ r.while_form h d
+unfolding r.while_form r.prologue r.body
 while_same f h d same = λ i. λ ts. through {A = Span × (List Stmt × (Expr × Option (List Stmt)))} (λ p. looped p.0 p.1.0 p.1.1.0 p.1.1.1)
     (follow (q.key (codes "while")) (follow (λ us. through or_empty (optional r.braces (block_same f h d same i) us))
     (follow (r.test d) (pick r.braces (λ us. through (λ b. Some b) (block_same f h d same i us)) (λ us. through (λ p. None) (optional (sign (codes ";") ∷ []) (q.the (codes ";")) us))))) ts)
 
-for_same : (f h : ℕ → r.Low) (d : ℕ) → SameBelow f h d → r.for f d ≡ r.for h d
-unfolding r.for
+for_same : (f h : ℕ → r.Low) (d : ℕ) → SameBelow f h d → r.for_form f d ≡ r.for_form h d
+unfolding r.for_form
 for_same f h d same = ap (λ x ts. through (λ p. counted p.0 p.1.0 p.1.1.1.0 p.1.1.1.1.0 p.1.1.1.1.1.0 p.1.1.1.1.1.1)
     (follow (q.key (codes "for")) (follow q.name (follow (q.the (codes "=")) (follow (q.expr d) (follow r.direction (follow (q.expr d) x))))) ts)) (block_same f h d same)
 

@@ -36,6 +36,12 @@ marks = sign (codes "#") ∷ []
 abbrev pub stmt_starts : List Kind
 stmt_starts = sign (codes "#") ∷ identifier ∷ word (codes "_") ∷ sign (codes "(") ∷ sign (codes "[") ∷ word (codes "if") ∷ word (codes "while") ∷ word (codes "for") ∷ []
 
+abbrev pub simple_starts : List Kind
+simple_starts = identifier ∷ word (codes "_") ∷ sign (codes "(") ∷ sign (codes "[") ∷ []
+
+abbrev pub form_starts : List Kind
+form_starts = word (codes "if") ∷ word (codes "while") ∷ word (codes "for") ∷ []
+
 abbrev pub stmt_goes : List Kind
 stmt_goes = word (codes "else") ∷ sign (codes "{") ∷ sign (codes ";") ∷ []
 
@@ -127,18 +133,18 @@ prologue low d ts = through or_empty (optional braces (block low d) ts)
 unfoldable pub body : (ℕ → Low) → ℕ → Reader (Option (List Stmt))
 body low d = pick braces (λ ts. through (λ b. Some b) (block low d ts)) (λ ts. through (λ p. None) (optional (sign (codes ";") ∷ []) (the (codes ";")) ts))
 
-unfoldable pub while : (ℕ → Low) → ℕ → Reader (Span × StmtKind)
-while low d ts = through (λ p. looped p.0 p.1.0 p.1.1.0 p.1.1.1) (follow (key (codes "while")) (follow (prologue low d) (follow (test d) (body low d))) ts)
+unfoldable pub while_form : (ℕ → Low) → ℕ → Reader (Span × StmtKind)
+while_form low d ts = through (λ p. looped p.0 p.1.0 p.1.1.0 p.1.1.1) (follow (key (codes "while")) (follow (prologue low d) (follow (test d) (body low d))) ts)
 
 unfoldable pub direction : Reader Bool
 direction = pick (word (codes "to") ∷ []) (λ ts. through (λ p. false) (key (codes "to") ts)) (λ ts. through (λ p. true) (key (codes "downto") ts))
 
-unfoldable pub for : (ℕ → Low) → ℕ → Reader (Span × StmtKind)
-for low d ts = through (λ p. counted p.0 p.1.0 p.1.1.1.0 p.1.1.1.1.0 p.1.1.1.1.1.0 p.1.1.1.1.1.1)
+unfoldable pub for_form : (ℕ → Low) → ℕ → Reader (Span × StmtKind)
+for_form low d ts = through (λ p. counted p.0 p.1.0 p.1.1.1.0 p.1.1.1.1.0 p.1.1.1.1.1.0 p.1.1.1.1.1.1)
     (follow (key (codes "for")) (follow name (follow (the (codes "=")) (follow (expr d) (follow direction (follow (expr d) (block low d)))))) ts)
 
 unfoldable pub form : (ℕ → Low) → ℕ → Reader (Span × StmtKind)
-form low d = pick (word (codes "if") ∷ []) (if_form low d) (pick (word (codes "while") ∷ []) (while low d) (pick (word (codes "for") ∷ []) (for low d) (simple d)))
+form low d = pick (word (codes "if") ∷ []) (if_form low d) (pick (word (codes "while") ∷ []) (while_form low d) (pick (word (codes "for") ∷ []) (for_form low d) (simple d)))
 
 unfoldable pub stmt_in : (ℕ → Low) → ℕ → Reader Stmt
 stmt_in low d ts = through (λ p. stmt_of p.0 p.1) (follow (notes d) (form low d) ts)

@@ -322,7 +322,7 @@ fn call(alloc: Global, c: &mut Cursor, depth: u32) -> Result<(Span, StmtKind), S
 {
     let (name, span) = c.name(alloc)?;
     let out = call_args(alloc, c, depth)?;
-    let _end = c.sign(";")?;
+    let _semicolon = c.sign(";")?;
     let rhs = Rhs::Call(name, out, span);
     let kind = StmtKind::Assign {
         to: Seq::new(alloc),

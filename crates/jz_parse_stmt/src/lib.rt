@@ -3,6 +3,7 @@
 
 mod annotations;
 mod assigning;
+mod statement;
 
 pub use annotations::notes;
-pub use assigning::simple;
+pub use statement::{begins_stmt, stmt};
