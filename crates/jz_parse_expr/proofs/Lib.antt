@@ -1,0 +1,5 @@
+pub mod Levels
+pub mod Parentheses
+pub mod Laws
+pub mod OperatorLemmas
+pub mod Chain

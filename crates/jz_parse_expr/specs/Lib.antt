@@ -1,0 +1,4 @@
+pub mod Operators
+pub mod Trees
+pub mod Table
+pub mod Readers
