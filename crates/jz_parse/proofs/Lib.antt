@@ -1,0 +1,4 @@
+pub mod DeclareLaws
+pub mod FunctionLaws
+pub mod Lists
+pub mod Faults

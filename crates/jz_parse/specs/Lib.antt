@@ -1,0 +1,5 @@
+pub mod Trees
+pub mod Grammar
+pub mod Readers
+pub mod Deriving
+pub mod Reading

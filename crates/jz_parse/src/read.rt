@@ -1,0 +1,75 @@
+//! The program that a list of tokens derives, or the first token that is wrong.
+
+ghost use Rattle.std.specs.Prelude.{◌≡◌, List, IfOk, IfErr, length};
+ghost use Rattle.jz_data.specs.Failures.{IfRefused};
+ghost use Rattle.jz_lex.specs.declared.token.Token.{Token};
+ghost use Rattle.jz_grammar.specs.Reading.{final};
+ghost use Rattle.jz_cursor.specs.Gave.{numbered, IsNumbered};
+ghost use Rattle.jz_parse.specs.Readers.{program};
+ghost use Rattle.jz_parse.specs.Deriving.{DerivesProgram, IsSyntaxFault};
+
+use crate::program::program;
+use jz_cursor::{Cursor, SyntaxFault, SyntaxKind, fault_at};
+use jz_data::Failure;
+use jz_lex::Tokens;
+use jz_tree::Program;
+use std::alloc::Global;
+
+/// At most so much may be nested.
+const MOST_NESTED: u32 = 200;
+
+/// The program of all the tokens, or the cause and the number of the first that is left.
+#[tactic(auto, using(crate::proofs::Faults::read_done, crate::proofs::Faults::read_over, crate::proofs::Faults::read_wrong))]
+fn read_whole(
+    alloc: Global,
+    tokens: &Tokens,
+    depth: u32,
+) -> Result<Program, Failure<(SyntaxKind, usize)>>
+    ensures { IsNumbered (numbered (length tokens.now) (final (program depth tokens.now))) result }
+{
+    let mut c = Cursor::new(tokens.as_slice());
+    match program(alloc, &mut c, depth) {
+        Ok(program) => {
+            let left = c.left();
+            if left == 0 {
+                Ok(program)
+            } else {
+                Err(Failure::Refused((SyntaxKind::Unexpected, tokens.len().saturating_sub(left))))
+            }
+        }
+        Err(Failure::Refused(kind)) => Err(Failure::Refused((
+            kind,
+            tokens.len().saturating_sub(c.left()),
+        ))),
+        Err(Failure::OutOfMemory) => Err(Failure::OutOfMemory),
+    }
+}
+
+/// The program that the tokens derive, or the first token that is wrong.
+pub fn parse(alloc: Global, tokens: &Tokens) -> Result<Program, Failure<SyntaxFault>>
+    ensures program { IfOk result (λ program. DerivesProgram tokens.now program) }
+    ensures fault { IfErr result (λ failure. IfRefused failure (λ fault. IsSyntaxFault tokens.now fault)) }
+{
+    match read_whole(alloc, tokens, MOST_NESTED) {
+        Ok(program) => Ok(program),
+        Err(Failure::Refused((kind, number))) => {
+            Err(Failure::Refused(fault_at(kind, tokens, number)))
+        }
+        Err(Failure::OutOfMemory) => Err(Failure::OutOfMemory),
+    }
+}
+
+/// The tokens derive one program at most.
+pub fn one_program()
+    ensures { (tokens : List Token) (program other : Program) → DerivesProgram tokens program → DerivesProgram tokens other → program ≡ other }
+{}
+
+/// Tokens that derive a program have no fault.
+pub fn no_fault_of_a_program()
+    ensures { (tokens : List Token) (program : Program) (fault : SyntaxFault) → DerivesProgram tokens program → IsSyntaxFault tokens fault → ⊥ }
+{}
+
+/// The tokens have one fault at most.
+pub fn one_fault()
+    ensures { (tokens : List Token) (fault other : SyntaxFault) → IsSyntaxFault tokens fault → IsSyntaxFault tokens other → fault ≡ other }
+{}
