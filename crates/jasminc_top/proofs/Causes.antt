@@ -2,7 +2,7 @@
 use Rattle.std.proofs.Common.{◌≡◌, ℕ, ◌<◌, ◌≤◌, List, length, ◌∙◌, arith, subst, ap, sym}
 use Rattle.jz_lex.specs.declared.token.Token.{Token}
 use Rattle.jz_lex.specs.declared.token.LexFault.{LexFault}
-use Rattle.jz_first_parse.specs.declared.fault.SyntaxFault.{SyntaxFault}
+use Rattle.jz_cursor.specs.declared.fault.SyntaxFault.{SyntaxFault}
 use Rattle.jz_types.specs.declared.fault.TypeFault.{TypeFault}
 use Rattle.jz_first_tree.specs.declared.Program.{Program}
 use Rattle.jasminc_top.specs.declared.refusal.Refusal.TheVariants.{Usage, Source, Lex, Parse, Typing, NoFunction, Limit, Alarm, NoPlace, Items}

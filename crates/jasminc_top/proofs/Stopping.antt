@@ -7,7 +7,7 @@ use Rattle.jz_data.specs.Failures.{IfRefused}
 use Rattle.jz_lex.specs.declared.token.Token.{Token}
 use Rattle.jz_lex.specs.declared.token.LexFault.{LexFault}
 use Rattle.jz_lex.specs.Lexing.{IsLexed, HasNoToken}
-use Rattle.jz_first_parse.specs.declared.fault.SyntaxFault.{SyntaxFault}
+use Rattle.jz_cursor.specs.declared.fault.SyntaxFault.{SyntaxFault}
 use Rattle.jz_first_parse.specs.Deriving.{IsUnexpected}
 use Rattle.jz_first_parse.specs.Reading.{Reads}
 use Rattle.jz_first_tree.specs.declared.Program.{Program}

@@ -7,11 +7,11 @@ use Rattle.x64_insn.specs.declared.types.Flag.TheVariants as flag
 use Rattle.x64_insn.specs.declared.types.Place.{Place}
 use Rattle.x64_insn.specs.declared.types.Place.TheVariants as place
 use Rattle.jz_lex.specs.declared.token.LexKind.{LexKind}
-use Rattle.jz_lex.specs.declared.token.LexKind.TheVariants.{BadByte, BadNumber}
+use Rattle.jz_lex.specs.declared.token.LexKind.TheVariants.{BadByte, BadNumber, OpenComment}
 use Rattle.jz_lex.specs.declared.token.LexFault.{LexFault}
-use Rattle.jz_first_parse.specs.declared.fault.SyntaxKind.{SyntaxKind}
-use Rattle.jz_first_parse.specs.declared.fault.SyntaxKind.TheVariants.{Unexpected}
-use Rattle.jz_first_parse.specs.declared.fault.SyntaxFault.{SyntaxFault}
+use Rattle.jz_cursor.specs.declared.fault.SyntaxKind.{SyntaxKind}
+use Rattle.jz_cursor.specs.declared.fault.SyntaxKind.TheVariants.{Unexpected, TooDeep}
+use Rattle.jz_cursor.specs.declared.fault.SyntaxFault.{SyntaxFault}
 use Rattle.jz_types.specs.declared.fault.TypeRule.{TypeRule}
 use Rattle.jz_types.specs.declared.fault.TypeRule.TheVariants as rule
 use Rattle.jz_types.specs.declared.fault.TypeFault.{TypeFault}
@@ -30,12 +30,14 @@ use Rattle.jz_listing.specs.Listing.{reg_text, span_text}
 abbrev pub lex_name : LexKind → List ℕ
 lex_name BadByte = codes "BadByte"
 lex_name BadNumber = codes "BadNumber"
+lex_name OpenComment = codes "OpenComment"
 
 abbrev pub lexer_line : LexFault → List ℕ
 lexer_line f = codes "syntax " ++ lex_name f.kind ++ codes " " ++ span_text f.span
 
 unfoldable pub syntax_name : SyntaxKind → List ℕ
 syntax_name Unexpected = codes "Unexpected"
+syntax_name TooDeep = codes "TooDeep"
 
 abbrev pub parser_line : SyntaxFault → List ℕ
 parser_line f = codes "syntax " ++ syntax_name f.kind ++ codes " " ++ span_text f.span ++ codes " token " ++ decimal f.token

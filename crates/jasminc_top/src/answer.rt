@@ -14,7 +14,7 @@ use crate::halt::{Halt, Stop};
 use crate::refusal::{Refusal, Status};
 use crate::words::{Request, request_of};
 use jz_data::{Seq, Text};
-use jz_first_parse::parse;
+use jz_first_parse::parse_first;
 use jz_first_tree::Fun;
 use jz_io::{Bytes, ReadRefused, Source, read_all};
 use jz_lex::lex;
@@ -67,7 +67,7 @@ fn typed_program(alloc: Global, text: &[u8]) -> Result<Typed, Halt>
     ensures halt { IfErr result (ReadingHalts text.now) }
 {
     let tokens = lex(alloc, text)?;
-    let program = parse(alloc, &tokens)?;
+    let program = parse_first(alloc, &tokens)?;
     Ok(check(alloc, program)?)
 }
 

@@ -1,8 +1,8 @@
 // What ends a command without a reply: a refusal of a stage, a fault of reading, or want of memory.
 
 use crate::refusal::Refusal;
+use jz_cursor::SyntaxFault;
 use jz_data::Failure;
-use jz_first_parse::SyntaxFault;
 use jz_lex::LexFault;
 use jz_pass::Limit;
 use jz_pipeline::NoPlace;

@@ -4,8 +4,8 @@ ghost use Rattle.std.specs.List.{concat};
 ghost use Rattle.jasminc_top.specs.Lines.{lex_name, lexer_line, syntax_name, parser_line, rule_name, type_line, limit_name, limit_subject, limit_line, reason_name, alarm_line, place_text, need_text, holder_text, texts_or_dash, no_place_line};
 
 use jz_alloc::Needed;
+use jz_cursor::{SyntaxFault, SyntaxKind};
 use jz_data::{Seq, Text};
-use jz_first_parse::{SyntaxFault, SyntaxKind};
 use jz_io::Span;
 use jz_lex::{LexFault, LexKind};
 use jz_listing::{reg_name, write_number, write_span};
@@ -23,6 +23,7 @@ fn lex_name(kind: LexKind) -> &'static str
     match kind {
         LexKind::BadByte => "BadByte",
         LexKind::BadNumber => "BadNumber",
+        LexKind::OpenComment => "OpenComment",
     }
 }
 
@@ -32,6 +33,7 @@ fn syntax_name(kind: SyntaxKind) -> &'static str
 {
     match kind {
         SyntaxKind::Unexpected => "Unexpected",
+        SyntaxKind::TooDeep => "TooDeep",
     }
 }
 

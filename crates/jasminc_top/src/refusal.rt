@@ -5,8 +5,8 @@ ghost use Rattle.jasminc_top.specs.Refusals.{status_of, cause_text, line_of};
 use crate::lines::{
     write_alarm, write_lex_fault, write_limit, write_no_place, write_syntax_fault, write_type_fault,
 };
+use jz_cursor::SyntaxFault;
 use jz_data::Text;
-use jz_first_parse::SyntaxFault;
 use jz_lex::LexFault;
 use jz_pass::Limit;
 use jz_pipeline::NoPlace;

@@ -71,16 +71,23 @@ static ROWS: [Row; 29] = [
     },
     Row {
         words: COMPILE,
-        text: b"x + y",
+        text: b"export ?",
         status: Status::Syntax,
-        written: "syntax BadByte 1:3\n",
+        written: "syntax BadByte 1:8\n",
+        made: 0,
+    },
+    Row {
+        words: COMPILE,
+        text: b"export /* fn",
+        status: Status::Syntax,
+        written: "syntax OpenComment 1:8\n",
         made: 0,
     },
     Row {
         words: COMPILE,
         text: b"export fn f() -> reg u64 { reg u64 r; r = 1 + 2; return r; }",
         status: Status::Syntax,
-        written: "syntax BadByte 1:45\n",
+        written: "syntax Unexpected 1:45 token 16\n",
         made: 0,
     },
     Row {

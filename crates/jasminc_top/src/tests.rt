@@ -260,7 +260,7 @@ static ROWS: [Row; 22] = [
     },
     Row {
         words: COMPILE,
-        text: b"\n+",
+        text: b"\n?",
         status: Status::Syntax,
         written: "syntax BadByte 2:1\n",
         made: 0,

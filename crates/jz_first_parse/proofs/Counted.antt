@@ -22,7 +22,8 @@ use Rattle.jz_first_tree.specs.declared.Expr.TheVariants as expr
 use Rattle.jz_first_parse.specs.declared.function.Body.{Body}
 use Rattle.jz_first_parse.specs.declared.statement.Item.{Item}
 use Rattle.jz_first_parse.specs.declared.statement.Item.TheVariants.{Declares, Does}
-use Rattle.jz_first_parse.specs.Trees.{name_of, number_of, assignments, operation_of, register_word, declared_of, param_of, used_of, assigned, vars_in, stmts_in, body_of, joined, or_empty, fun_of}
+use Rattle.jz_cursor.specs.Tokens.{name_of, number_of}
+use Rattle.jz_first_parse.specs.Trees.{number_expr, assignments, operation_of, register_word, declared_of, param_of, used_of, assigned, vars_in, stmts_in, body_of, joined, or_empty, fun_of}
 use Rattle.jz_first_parse.specs.Grammar as g
 use Rattle.jz_first_parse.specs.Grammar.{most_names}
 use Rattle.jz_first_parse.specs.Readers as r
@@ -220,10 +221,10 @@ operands = identifier ∷ number ∷ []
 
 pub operand_law : IsReader r.operand (λ e. g.operand e) (full operands [])
 unfolding r.operand
-operand_law = pick_reads (map_reads expr.Var used_law) (number_reads number_of 0) refl refl
+operand_law = pick_reads (map_reads expr.Var used_law) (map_reads number_expr (number_reads number_of 0)) refl refl
 
 some_operand : HasPhrase (λ d. g.operand d)
-some_operand = some_left (λ d. g.used d ⇒ expr.Var) (λ d. token (number ∷ []) d ⇒ number_of) (some_map (λ d. g.used d) expr.Var some_used)
+some_operand = some_left (λ d. g.used d ⇒ expr.Var) (λ d. token (number ∷ []) d ⇒ number_of ⇒ number_expr) (some_map (λ d. g.used d) expr.Var some_used)
 
 operation_in : is_in assignments (sign_token (codes "=")) ≡ true
 operation_in = sign_in (codes "=") (sign (codes "+=") ∷ sign (codes "-=") ∷ sign (codes "^=") ∷ [])

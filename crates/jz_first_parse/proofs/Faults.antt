@@ -5,7 +5,7 @@ use Rattle.jz_lex.proofs.LexingWords.{if_false, if_true, true_false}
 use Rattle.jz_io.specs.declared.span.Span.{Span}
 use Rattle.jz_lex.specs.declared.token.Token.{Token}
 use Rattle.jz_lex.specs.declared.token.TokenKind.TheVariants.{End}
-use Rattle.jz_grammar.specs.Causes.{Cause}
+use Rattle.jz_grammar.specs.Causes.{Cause, Unexpected}
 use Rattle.jz_grammar.specs.Kinds.{kind_of, member, is_in}
 use Rattle.jz_grammar.specs.Reading.{final}
 use Rattle.jz_grammar.specs.Grammar.{Marked, plain}
@@ -16,9 +16,10 @@ use Rattle.jz_grammar.proofs.Exact.{compare}
 use Rattle.jz_grammar.proofs.Plain as x
 use Rattle.jz_grammar.proofs.Steady.{AreOf, steady_each}
 use Rattle.jz_first_tree.specs.declared.Program.{Program}
-use Rattle.jz_first_parse.specs.declared.fault.SyntaxFault.{SyntaxFault}
-use Rattle.jz_first_parse.specs.Places.{span_at, span_or_start, IsFaultAt}
-use Rattle.jz_first_parse.specs.Gave.{numbered}
+use Rattle.jz_cursor.specs.declared.fault.SyntaxFault.{SyntaxFault}
+use Rattle.jz_cursor.specs.declared.fault.SyntaxKind.TheVariants as kind
+use Rattle.jz_cursor.specs.Places.{span_at, span_or_start, IsFaultAt}
+use Rattle.jz_cursor.specs.Gave.{numbered}
 use Rattle.jz_first_parse.specs.Deriving.{DerivesProgram, BeginsProgram, IsStoppedAt, IsUnexpected}
 use Rattle.jz_first_parse.specs.Grammar as g
 use Rattle.jz_first_parse.specs.Readers as r
@@ -29,11 +30,11 @@ pub read_done : (n : ℕ) (ts now : List Token) (p : Program) → r.program ts �
 read_done n ts [] p h e = ap (λ z. numbered n (final z)) h
 read_done n ts (t ∷ now) p h e = absurd (omega (arith, e))
 
-pub read_over : (n : ℕ) (ts now : List Token) (p : Program) → r.program ts ≡ Ok (p, now) → (length now ≡ 0 → ⊥) → numbered n (final (r.program ts)) ≡ Err (n - length now)
+pub read_over : (n : ℕ) (ts now : List Token) (p : Program) → r.program ts ≡ Ok (p, now) → (length now ≡ 0 → ⊥) → numbered n (final (r.program ts)) ≡ Err (Unexpected, n - length now)
 read_over n ts [] p h e = absurd (e refl)
 read_over n ts (t ∷ now) p h e = ap (λ z. numbered n (final z)) h
 
-pub read_wrong : (n : ℕ) (ts now : List Token) (k : Cause) → r.program ts ≡ Err (k, now) → numbered n (final (r.program ts)) ≡ Err (n - length now)
+pub read_wrong : (n : ℕ) (ts now : List Token) (k : Cause) → r.program ts ≡ Err (k, now) → numbered n (final (r.program ts)) ≡ Err (k, n - length now)
 read_wrong n ts now k h = ap (λ z. numbered n (final z)) h
 
 -- ---- the reader in words of tokens
@@ -64,19 +65,24 @@ outside a b h = if_false (nat_lt a b) a (b - 1) (not_less a b h)
 begins : (ts : List Token) → BeginsProgram ts → Begins g.program 0 ts
 begins ts b = let w = x.begins_from r.program g.program program_shape program_law has_nil all_kinds steady_program ts b.0 b.1 b.2 in (w.0, w.1, w.2, w.3, w.4, w.5)
 
-pub unexpected_law : (ts : List Token) (at : ℕ) (f : SyntaxFault) → numbered (length ts) (final (r.program ts)) ≡ Err at → IsFaultAt ts at f → IsUnexpected ts f
-unexpected_law ts at f h is = cases (final (r.program ts)) refl h
+-- the number of the first token that is left
+abbrev number : Result Program (Cause × ℕ) → ℕ
+number (Ok p) = 0
+number (Err e) = e.1
+
+pub unexpected_law : (ts : List Token) (c : Cause) (at : ℕ) (f : SyntaxFault) → numbered (length ts) (final (r.program ts)) ≡ Err (c, at) → IsFaultAt kind.Unexpected ts at f → IsUnexpected ts f
+unexpected_law ts c at f h is = cases (final (r.program ts)) refl h
   where
-    cases : (w : Result Program (Cause × List Token)) → final (r.program ts) ≡ w → numbered (length ts) w ≡ Err at → IsUnexpected ts f
+    cases : (w : Result Program (Cause × List Token)) → final (r.program ts) ≡ w → numbered (length ts) w ≡ Err (c, at) → IsUnexpected ts f
     cases (Ok a) e i = cc
     cases (Err (k, [])) e i =
-        let n : length ts - 0 ≡ at = cc in
+        let n : length ts - 0 ≡ at = ap number i in
         let m : at ≡ length ts = omega (arith, n) in
         let s = x.short r.program g.program program_shape program_law has_nil all_kinds steady_program ts k e in
         let b = x.begins_to r.program g.program program_shape program_law has_nil all_kinds steady_program ts (s.0.0, s.0.1, s.0.2, s.0.3, s.0.4, s.0.5) in
         (ts, [], sym (append-nil ts), sym m ∙ sym is.1, b, (s.1, is.2 ∙ ap (span_at ts) (outside at (length ts) m)), is.0)
     cases (Err (k, t ∷ rest)) e i =
-        let n : length ts - length (t ∷ rest) ≡ at = cc in
+        let n : length ts - length (t ∷ rest) ≡ at = ap number i in
         let q = x.unexpected r.program g.program program_shape program_law has_nil all_kinds steady_program ts rest t k e in
         let m : at ≡ length q.0 = omega (arith, n, ap length q.1, length-append q.0 (t ∷ rest)) in
         let l : length q.0 < length (q.0 ++ t ∷ rest) = omega (arith, length-append q.0 (t ∷ rest)) in

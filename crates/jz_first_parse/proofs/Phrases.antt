@@ -7,7 +7,8 @@ use Rattle.jz_lex.specs.declared.token.TokenKind.{TokenKind}
 use Rattle.jz_lex.specs.declared.token.TokenKind.TheVariants as kind
 use Rattle.jz_grammar.specs.Kinds.{identifier, kind_of, member, is_in}
 use Rattle.jz_grammar.specs.Grammar.{Marked, Lang, plain, ◌▸◌, ◌⊕◌, ◌⇒◌, each, maybe}
-use Rattle.jz_first_parse.specs.Trees.{name_in, name_of, or_empty}
+use Rattle.jz_cursor.specs.Tokens.{name_in, name_of}
+use Rattle.jz_first_parse.specs.Trees.{or_empty}
 use Rattle.jz_first_parse.specs.Grammar as g
 
 module _ (N : List ℕ → Type 0) where
@@ -65,6 +66,8 @@ module _ (N : List ℕ → Type 0) where
   named_in (kind.Ident s) h n = n s refl
   named_in (kind.Keyword s) h n = absurd (let no : ⊥ = cc in no)
   named_in (kind.Num i) h n = absurd (let no : ⊥ = cc in no)
+  named_in (kind.Cast size signed) h n = absurd (let no : ⊥ = cc in no)
+  named_in (kind.Str s) h n = absurd (let no : ⊥ = cc in no)
   named_in (kind.Sign s) h n = absurd (let no : ⊥ = cc in no)
   named_in kind.End h n = absurd (let no : ⊥ = cc in no)
 

@@ -9,7 +9,8 @@ use Rattle.jz_grammar.proofs.Samples.{end_reads, end_token, end_in, some_leaf}
 use Rattle.jz_grammar.proofs.Steady.{IsSteady, steady_leaf, steady_then, steady_or, steady_map, steady_only, steady_each, steady_maybe, steady_more}
 use Rattle.jz_first_tree.specs.declared.Expr.TheVariants as expr
 use Rattle.jz_first_parse.specs.declared.statement.Item.TheVariants.{Declares, Does}
-use Rattle.jz_first_parse.specs.Trees.{name_of, number_of, assignments, operation_of, register_word, declared_of, param_of, used_of, assigned, body_of, joined, or_empty, fun_of, program_of}
+use Rattle.jz_cursor.specs.Tokens.{name_of, number_of}
+use Rattle.jz_first_parse.specs.Trees.{number_expr, assignments, operation_of, register_word, declared_of, param_of, used_of, assigned, body_of, joined, or_empty, fun_of, program_of}
 use Rattle.jz_first_parse.specs.Grammar as g
 use Rattle.jz_first_parse.specs.Grammar.{most_names}
 use Rattle.jz_first_parse.specs.Readers as r
@@ -87,7 +88,7 @@ steady_decl = steady_map kinds (λ p. p.1.0)
     (steady_then kinds steady_reg (steady_then kinds (steady_map kinds (λ p. p.0 ∷ p.1) (steady_then kinds steady_declared (steady_each kinds steady_next_declared))) steady_semicolon))
 
 steady_operand : S (λ d. g.operand d)
-steady_operand = steady_or kinds (steady_map kinds expr.Var steady_used) (steady_leaf kinds (number ∷ []) number_of refl)
+steady_operand = steady_or kinds (steady_map kinds expr.Var steady_used) (steady_map kinds number_expr (steady_leaf kinds (number ∷ []) number_of refl))
 
 steady_stmt : S (λ d. g.stmt d)
 steady_stmt = steady_map kinds (λ p. assigned p.0 p.1.0 p.1.1.0)

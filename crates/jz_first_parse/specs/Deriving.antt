@@ -4,9 +4,9 @@ use Rattle.jz_io.specs.declared.span.Span.{Span}
 use Rattle.jz_lex.specs.declared.token.Token.{Token}
 use Rattle.jz_grammar.specs.Laws.{Derives}
 use Rattle.jz_first_tree.specs.declared.Program.{Program}
-use Rattle.jz_first_parse.specs.declared.fault.SyntaxKind.TheVariants.{Unexpected}
-use Rattle.jz_first_parse.specs.declared.fault.SyntaxFault.{SyntaxFault}
-use Rattle.jz_first_parse.specs.Places.{span_at}
+use Rattle.jz_cursor.specs.declared.fault.SyntaxKind.TheVariants.{Unexpected}
+use Rattle.jz_cursor.specs.declared.fault.SyntaxFault.{SyntaxFault}
+use Rattle.jz_cursor.specs.Places.{span_at}
 use Rattle.jz_first_parse.specs.Grammar.{program}
 
 -- the grammar derives the program from the tokens

@@ -15,7 +15,8 @@ use Rattle.jz_first_tree.specs.declared.Expr.TheVariants as expr
 use Rattle.jz_first_parse.specs.declared.function.Body.{Body}
 use Rattle.jz_first_parse.specs.declared.statement.Item.{Item}
 use Rattle.jz_first_parse.specs.declared.statement.Item.TheVariants.{Declares, Does}
-use Rattle.jz_first_parse.specs.Trees.{name_of, number_of, assignments, operation_of, register_word, declared_of, param_of, used_of, assigned, body_of, joined, or_empty, fun_of, program_of}
+use Rattle.jz_cursor.specs.Tokens.{name_of, number_of}
+use Rattle.jz_first_parse.specs.Trees.{number_expr, assignments, operation_of, register_word, declared_of, param_of, used_of, assigned, body_of, joined, or_empty, fun_of, program_of}
 
 -- at most so many names are declared in a function
 abbrev pub most_names : ℕ
@@ -87,7 +88,7 @@ module _ (d : ℕ) where
 
   -- o = ID | NUM
   abbrev pub operand : Lang Expr
-  operand = (used ⇒ expr.Var) ⊕ (token (number ∷ []) d ⇒ number_of)
+  operand = (used ⇒ expr.Var) ⊕ (token (number ∷ []) d ⇒ number_of ⇒ number_expr)
 
   -- stmt = ID aop o ";"      aop one of = += -= ^=
   abbrev pub stmt : Lang Stmt

@@ -15,7 +15,8 @@ use Rattle.jz_first_tree.specs.declared.Expr.TheVariants as expr
 use Rattle.jz_first_parse.specs.declared.function.Body.{Body}
 use Rattle.jz_first_parse.specs.declared.statement.Item.{Item}
 use Rattle.jz_first_parse.specs.declared.statement.Item.TheVariants.{Declares, Does}
-use Rattle.jz_first_parse.specs.Trees.{name_of, number_of, assignments, operation_of, register_word, declared_of, param_of, used_of, assigned, vars_in, stmts_in, joined, or_empty, fun_of, program_of}
+use Rattle.jz_cursor.specs.Tokens.{name_of, number_of}
+use Rattle.jz_first_parse.specs.Trees.{number_expr, assignments, operation_of, register_word, declared_of, param_of, used_of, assigned, vars_in, stmts_in, joined, or_empty, fun_of, program_of}
 use Rattle.jz_first_parse.specs.Grammar.{most_names}
 
 abbrev pub key : List ℕ → Reader Span
@@ -109,7 +110,7 @@ unfoldable pub decl : ℕ → Reader (List Var)
 decl n ts = through (λ p. p.1.0) (follow reg_u64 (follow (one_and declared (declared_more n)) (the (codes ";"))) ts)
 
 unfoldable pub operand : Reader Expr
-operand = pick ids (λ ts. through expr.Var (used ts)) (leaf (number ∷ []) number_of)
+operand = pick ids (λ ts. through expr.Var (used ts)) (λ ts. through number_expr (leaf (number ∷ []) number_of ts))
 
 unfoldable pub stmt : Reader Stmt
 stmt ts = through (λ p. assigned p.0 p.1.0 p.1.1.0) (follow used (follow (leaf assignments operation_of) (follow operand (the (codes ";")))) ts)

@@ -2,7 +2,7 @@
 use Rattle.std.specs.Prelude.{ℕ, List}
 use Rattle.jz_lex.specs.declared.token.Token.{Token}
 use Rattle.jz_lex.specs.declared.token.LexFault.{LexFault}
-use Rattle.jz_first_parse.specs.declared.fault.SyntaxFault.{SyntaxFault}
+use Rattle.jz_cursor.specs.declared.fault.SyntaxFault.{SyntaxFault}
 use Rattle.jz_first_tree.specs.declared.Program.{Program}
 use Rattle.jz_lex.specs.Lexing.{IsLexed, HasNoToken}
 use Rattle.jz_first_parse.specs.Deriving.{DerivesProgram, IsUnexpected}

@@ -1,11 +1,10 @@
 -- The tree of a phrase, from what its tokens tell.
-use Rattle.std.specs.Prelude.{ℕ, ℤ, pos, List, [], ◌∷◌, Option, Some, None, codes, bytes_eq, flat_map, filter_map, if◌then◌else◌}
+use Rattle.std.specs.Prelude.{ℕ, ℤ, List, [], ◌∷◌, Option, Some, None, codes, bytes_eq, flat_map, filter_map, if◌then◌else◌}
 use Rattle.jz_io.specs.declared.span.Span.{Span}
 use Rattle.jz_words.specs.declared.size.Size.TheVariants.{S64}
 use Rattle.jz_lex.specs.declared.token.Token.{Token}
-use Rattle.jz_lex.specs.declared.token.TokenKind.{TokenKind}
-use Rattle.jz_lex.specs.declared.token.TokenKind.TheVariants as kind
 use Rattle.jz_grammar.specs.Kinds.{Kind, sign}
+use Rattle.jz_cursor.specs.Tokens.{text_in}
 use Rattle.jz_first_tree.specs.declared.Program.{Program}
 use Rattle.jz_first_tree.specs.declared.Fun.{Fun}
 use Rattle.jz_first_tree.specs.declared.Param.{Param}
@@ -26,29 +25,7 @@ use Rattle.jz_first_parse.specs.declared.function.Body.{Body}
 use Rattle.jz_first_parse.specs.declared.statement.Item.{Item}
 use Rattle.jz_first_parse.specs.declared.statement.Item.TheVariants.{Declares, Does}
 
--- ---- what a token tells
-abbrev pub name_in : TokenKind → List ℕ
-name_in (kind.Ident s) = s
-name_in other = []
-
--- the text of an identifier, and where it stands
-unfoldable pub name_of : Token → List ℕ × Span
-name_of t = (name_in t.kind, t.span)
-
-abbrev pub number_in : TokenKind → ℤ
-number_in (kind.Num n) = n
-number_in other = pos 0
-
--- a number, and where it stands
-unfoldable pub number_of : Token → Expr
-number_of t = expr.Num (number_in t.kind) t.span
-
--- the text of a keyword or a sign
-abbrev pub text_in : TokenKind → List ℕ
-text_in (kind.Keyword s) = s
-text_in (kind.Sign s) = s
-text_in other = []
-
+-- ---- assignments
 -- the signs of assignments
 abbrev pub assignments : List Kind
 assignments = sign (codes "=") ∷ sign (codes "+=") ∷ sign (codes "-=") ∷ sign (codes "^=") ∷ []
@@ -57,7 +34,10 @@ assignments = sign (codes "=") ∷ sign (codes "+=") ∷ sign (codes "-=") ∷ s
 unfoldable pub operation_of : Token → Option BinOp
 operation_of t = if bytes_eq (text_in t.kind) (codes "+=") then Some Add else if bytes_eq (text_in t.kind) (codes "-=") then Some Sub else if bytes_eq (text_in t.kind) (codes "^=") then Some Xor else None
 
--- ---- variables
+-- ---- operands and variables
+abbrev pub number_expr : ℤ × Span → Expr
+number_expr n = expr.Num n.0 n.1
+
 -- a word of 64 bits in a register
 abbrev pub register_word : Decl
 register_word = record { storage = Reg; ty = Word S64 }

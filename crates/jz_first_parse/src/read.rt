@@ -5,21 +5,20 @@ ghost use Rattle.jz_data.specs.Failures.{IfRefused};
 ghost use Rattle.jz_lex.specs.declared.token.TokenKind.TheVariants.{End};
 ghost use Rattle.jz_lex.specs.declared.token.Token.{Token};
 ghost use Rattle.jz_grammar.specs.Reading.{final};
-ghost use Rattle.jz_first_parse.specs.Gave.{numbered, IsNumbered};
+ghost use Rattle.jz_cursor.specs.Gave.{numbered, IsNumbered};
 ghost use Rattle.jz_first_parse.specs.Readers.{program};
 ghost use Rattle.jz_first_parse.specs.Deriving.{DerivesProgram, IsUnexpected};
 
-use crate::cursor::Cursor;
-use crate::fault::{SyntaxFault, SyntaxKind, fault_at};
 use crate::function::program;
+use jz_cursor::{Cursor, SyntaxFault, SyntaxKind, fault_at};
 use jz_data::Failure;
 use jz_first_tree::Program;
 use jz_lex::Tokens;
 use std::alloc::Global;
 
-/// The program of all the tokens, or the number of the first that is left.
+/// The program of all the tokens, or why there is none and the number of the first that is left.
 #[tactic(auto, using(crate::proofs::Faults::read_done, crate::proofs::Faults::read_over, crate::proofs::Faults::read_wrong))]
-fn read_whole(alloc: Global, tokens: &Tokens) -> Result<Program, Failure<usize>>
+fn read_whole(alloc: Global, tokens: &Tokens) -> Result<Program, Failure<(SyntaxKind, usize)>>
     ensures { IsNumbered (numbered (length tokens.now) (final (program tokens.now))) result }
 {
     let mut c = Cursor::new(tokens.as_slice());
@@ -29,25 +28,30 @@ fn read_whole(alloc: Global, tokens: &Tokens) -> Result<Program, Failure<usize>>
             if left == 0 {
                 Ok(program)
             } else {
-                Err(Failure::Refused(tokens.len().saturating_sub(left)))
+                Err(Failure::Refused((SyntaxKind::Unexpected, tokens.len().saturating_sub(left))))
             }
         }
-        Err(Failure::Refused(SyntaxKind::Unexpected)) => Err(Failure::Refused(
+        Err(Failure::Refused(kind)) => Err(Failure::Refused((
+            kind,
             tokens.len().saturating_sub(c.left()),
-        )),
+        ))),
         Err(Failure::OutOfMemory) => Err(Failure::OutOfMemory),
     }
 }
 
 /// The program that the tokens derive, or the first token at which they begin none.
 #[tactic(auto, using(crate::proofs::Faults::derived))]
-pub fn parse(alloc: Global, tokens: &Tokens) -> Result<Program, Failure<SyntaxFault>>
+pub fn parse_first(alloc: Global, tokens: &Tokens) -> Result<Program, Failure<SyntaxFault>>
     ensures program { IfOk result (λ program. DerivesProgram tokens.now program) }
     ensures fault { IfErr result (λ failure. IfRefused failure (λ fault. IsUnexpected tokens.now fault)) }
 {
     match read_whole(alloc, tokens) {
         Ok(program) => Ok(program),
-        Err(Failure::Refused(number)) => Err(Failure::Refused(fault_at(tokens, number))),
+        Err(Failure::Refused(at)) => Err(Failure::Refused(fault_at(
+            SyntaxKind::Unexpected,
+            tokens,
+            at.1,
+        ))),
         Err(Failure::OutOfMemory) => Err(Failure::OutOfMemory),
     }
 }

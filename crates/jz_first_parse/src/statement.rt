@@ -2,12 +2,13 @@
 
 ghost use Rattle.std.specs.Prelude.{◌≡◌, ◌-◌, ◌++◌, [], ◌∷◌, length, IfOk};
 ghost use Rattle.jz_grammar.specs.Kinds.{has};
-ghost use Rattle.jz_first_parse.specs.Gave.{Gave};
+ghost use Rattle.jz_cursor.specs.Gave.{Gave};
 ghost use Rattle.jz_first_parse.specs.Trees.{used_of, assigned};
 ghost use Rattle.jz_first_parse.specs.Readers.{used, operand, stmt, decl_starts, item, item_starts, items_more};
 
-use crate::cursor::{Cursor, Stop};
 use crate::declare::decl;
+use crate::operation::operation;
+use jz_cursor::{Cursor, Stop};
 use jz_data::Seq;
 use jz_first_tree::{BinOp, Expr, Lval, Rhs, Stmt, StmtKind, Var};
 use std::alloc::{AllocError, Global};
@@ -39,7 +40,8 @@ fn operand(alloc: Global, c: &mut Cursor) -> Result<Expr, Stop>
         let var = used(alloc, c)?;
         return Ok(Expr::Var(var));
     }
-    c.number()
+    let (value, span) = c.number()?;
+    Ok(Expr::Num(value, span))
 }
 
 fn assigned(alloc: Global, to: Var, op: Option<BinOp>, from: Expr) -> Result<Stmt, AllocError>
@@ -61,7 +63,7 @@ fn stmt(alloc: Global, c: &mut Cursor) -> Result<Stmt, Stop>
     ensures { Gave result c.new (stmt c.old) }
 {
     let to = used(alloc, c)?;
-    let op = c.operation()?;
+    let op = operation(c)?;
     let from = operand(alloc, c)?;
     let _end = c.sign(";")?;
     Ok(assigned(alloc, to, op, from)?)

@@ -1,6 +1,7 @@
 //! Texts with the programs and faults that the language's rules give by hand.
 
-use crate::{SyntaxFault, SyntaxKind, parse};
+use crate::parse_first;
+use jz_cursor::{SyntaxFault, SyntaxKind};
 use jz_data::{Failure, Seq};
 use jz_first_tree::{BinOp, Decl, Expr, Fun, Lval, Program, Rhs, Stmt, StmtKind, Storage, Ty, Var};
 use jz_io::Span;
@@ -100,15 +101,14 @@ fn answer_text(
             }
             Ok(text)
         }
-        Err(
-            Failure::Refused(
-                SyntaxFault {
-                    kind: SyntaxKind::Unexpected,
-                    token,
-                    span,
-                },
-            ),
-        ) => format!(in alloc; "token {token} at {}:{}", span.line, span.col),
+        Err(Failure::Refused(fault)) => {
+            let SyntaxFault { kind, token, span } = fault;
+            let name = match kind {
+                SyntaxKind::Unexpected => "token",
+                SyntaxKind::TooDeep => "too deep: token",
+            };
+            format!(in alloc; "{name} {token} at {}:{}", span.line, span.col)
+        }
         Err(Failure::OutOfMemory) => Err(AllocError),
     }
 }
@@ -124,7 +124,7 @@ fn tokens_of(rt: &impl Abort, alloc: Global, text: &str) -> Result<Tokens, Fail>
 
 fn outcome(rt: &impl Abort, alloc: Global, text: &str) -> Result<String, Fail> {
     let tokens = tokens_of(rt, alloc, text)?;
-    Ok(answer_text(alloc, parse(alloc, &tokens))?)
+    Ok(answer_text(alloc, parse_first(alloc, &tokens))?)
 }
 
 #[test]
@@ -219,10 +219,10 @@ fn tokens_may_run_out(rt: HostRuntime) -> Result<(), Fail> {
     let alloc = rt.alloc();
     let mut tokens = tokens_of(&rt, alloc, "export fn f(")?;
     let _end = tokens.pop();
-    let fault = answer_text(alloc, parse(alloc, &tokens))?;
+    let fault = answer_text(alloc, parse_first(alloc, &tokens))?;
     assert_eq!(rt; fault.as_str(), "token 4 at 1:12");
     let nothing = Seq::new(alloc);
-    let first = answer_text(alloc, parse(alloc, &nothing))?;
+    let first = answer_text(alloc, parse_first(alloc, &nothing))?;
     assert_eq!(rt; first.as_str(), "token 0 at 1:1");
     Ok(())
 }

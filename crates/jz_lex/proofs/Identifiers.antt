@@ -1,33 +1,35 @@
 -- The identifiers among the tokens of a text, and their bytes.
-use Rattle.std.proofs.Common.{◌≡◌, ⊎_elim, ℕ, List, [], ◌∷◌, Bool, true, false, ◌&&◌, ◌||◌, ◌==◌, nat_le, pos, if◌then◌else◌, refl, sym, subst}
+use Rattle.std.proofs.Common.{◌≡◌, ⊎_elim, ℕ, List, [], ◌∷◌, Bool, true, false, ◌&&◌, ◌||◌, ◌==◌, nat_le, refl, sym, subst}
 use Rattle.std.specs.List.{All, list_all}
 use Rattle.std.specs.Char.{is_ascii_alphabetic, is_ascii_digit}
 use Rattle.std.proofs.lemmas.List.Elements.{All-nil, All-cons, All-append}
 use Rattle.std.proofs.lemmas.Bool.{and_parts, or_left, or_right}
-use Rattle.jz_lex.specs.LexingWords.{keywords, is_among, begins_word, in_word, is_word, is_numeral, value_of, kind_of}
-use Rattle.jz_lex.specs.Lexing.{Part, Blank, Lexeme, first_place, after, UpTo, IsLexed}
+use Rattle.jz_lex.specs.LexingWords.{begins_word, in_word, kind_of}
+use Rattle.jz_lex.specs.Lexing.{Part, Skipped, Lexeme, first_place, after, UpTo, IsLexed}
 use Rattle.jz_lex.specs.Identifiers.{IsIdentifier, IsSpelled}
 use Rattle.jz_io.specs.declared.span.Span.{Span}
 use Rattle.jz_lex.specs.declared.token.Token.{Token}
 use Rattle.jz_lex.specs.declared.token.TokenKind.TheVariants as kind
 use Rattle.jz_lex.proofs.LexingWords.{or_true}
+use Rattle.jz_lex.proofs.LexingFront.{kind_cases}
 
 -- ---- tokens
 word_is : (w s : List ℕ) → kind_of w ≡ kind.Ident s → IsIdentifier s
-word_is w s e = go (is_word w) (is_among keywords w) (is_numeral w) refl refl e
-  where
-    go : (a b c : Bool) → is_word w ≡ a → is_among keywords w ≡ b → (if a then (if b then kind.Keyword w else kind.Ident w) else if c then kind.Num (pos (value_of w)) else kind.Sign w) ≡ kind.Ident s → IsIdentifier s
-    go true true c f g h = absurd (let no : ⊥ = cc in no)
-    go true false c f g h = let same : w ≡ s = cc in subst IsIdentifier same (f, g)
-    go false b true f g h = absurd (let no : ⊥ = cc in no)
-    go false b false f g h = absurd (let no : ⊥ = cc in no)
+word_is w s e = kind_cases (λ k. k ≡ kind.Ident s → IsIdentifier s) w
+    (λ f h. absurd (let no : ⊥ = cc in no))
+    (λ f g h. let same : w ≡ s = cc in subst IsIdentifier same (f, g))
+    (λ n h. absurd (let no : ⊥ = cc in no))
+    (λ z g h. absurd (let no : ⊥ = cc in no))
+    (λ bs h. absurd (let no : ⊥ = cc in no))
+    (λ h. absurd (let no : ⊥ = cc in no))
+    e
 
 all_spelled : (s : Span) (text : List ℕ) (ps : List Part) (ts : List Token) (e : Span) (rest : List ℕ) → UpTo s text ps ts e rest → All IsSpelled ts
 all_spelled s text [] ts e rest u = subst (All IsSpelled) (sym u.2) (All-nil IsSpelled)
-all_spelled s text (Blank c ∷ ps) ts e rest u = all_spelled (after s (c ∷ [])) u.0 ps ts e rest u.3
+all_spelled s text (Skipped w ∷ ps) ts e rest u = all_spelled (after s w) u.0 ps ts e rest u.3
 all_spelled s text (Lexeme w ∷ ps) ts e rest u =
-    subst (All IsSpelled) (sym u.5)
-    (All-cons IsSpelled (record { kind = kind_of w; span = s }) u.1 (word_is w) (all_spelled (after s w) u.0 ps u.1 e rest u.6))
+    subst (All IsSpelled) (sym u.6)
+    (All-cons IsSpelled (record { kind = kind_of w; span = s }) u.1 (word_is w) (all_spelled (after s w) u.0 ps u.1 e rest u.7))
 
 pub tokens_spelled : (text : List ℕ) (tokens : List Token) → IsLexed text tokens → All IsSpelled tokens
 tokens_spelled text tokens x =

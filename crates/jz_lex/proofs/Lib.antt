@@ -5,3 +5,4 @@ pub mod Lexing
 pub mod LexingUnique
 pub mod Identifiers
 pub mod Places
+pub mod Comments

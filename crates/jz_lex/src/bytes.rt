@@ -34,7 +34,7 @@ pub(super) fn is_hex_digit(byte: u8) -> bool
 }
 
 #[tactic(auto, unfolding(crate::specs::LexingWords::in_word))]
-fn in_word(byte: u8) -> bool
+pub(super) fn in_word(byte: u8) -> bool
     ensures { result ≡ in_word byte }
 {
     byte.is_ascii_alphabetic() || byte.is_ascii_digit() || byte == b'_'

@@ -1,15 +1,19 @@
 //! What stands at the front of a text.
 
-ghost use Rattle.std.specs.Prelude.{◌≡◌, ◌<◌, ◌≤◌, ◌+◌, true, length, option_map};
+ghost use Rattle.std.specs.Prelude.{◌≡◌, ◌<◌, ◌≤◌, ◌+◌, true, false, length, codes, option_map, None};
 ghost use Rattle.std.specs.Char.{is_ascii_alphabetic};
-ghost use Rattle.jz_lex.specs.Lexing.{heads, is_blank};
-ghost use Rattle.jz_lex.specs.LexingWords.{begins, begins_word, is_digit, signs};
+ghost use Rattle.jz_lex.specs.Lexing.{is_blank, begins_comment};
+ghost use Rattle.jz_lex.specs.LexingWords.{begins, heads, begins_word, is_digit, casts};
 ghost use Rattle.jz_lex.specs.LexingFront.{first_of, numeral_length, IsFront};
 
 use super::bytes::{
     begins_word, decimal_length, hexadecimal_length, is_blank, is_digit, is_hex_digit, word_length,
 };
+use super::comment::{before_end, line_length};
 use super::number::numeral_value;
+use super::sign::{cast_length, sign_length};
+use super::string::string_length;
+use super::table::begins;
 use super::token::LexKind;
 
 /// What sort of lexeme stands somewhere.
@@ -17,37 +21,17 @@ use super::token::LexKind;
 pub(super) enum Shape {
     Word,
     Number(i128),
+    Cast,
+    Str,
     Sign,
 }
 
-/// What stands at the front of a text: a blank byte, a lexeme and its length, or no token.
+/// What stands at the front of a text: a blank byte or a comment and its length, a lexeme and its length, or no token.
 #[derive(Clone, Copy, Debug, PartialEq, Eq)]
 pub(super) enum Front {
-    Blank,
+    Skipped(usize),
     Lexeme(Shape, usize),
     NoToken(LexKind),
-}
-
-fn begins(word: &str, text: &[u8]) -> bool
-    ensures { result ≡ begins word.now text.now }
-{
-    text.starts_with(word.as_bytes())
-}
-
-#[tactic(auto, unfolding(crate::specs::LexingWords::signs))]
-fn sign_length(text: &[u8]) -> Option<usize>
-    ensures { result ≡ option_map (λ w. length w) (first_of signs text.now) }
-{
-    if begins("+=", text) || begins("-=", text) || begins("^=", text) || begins("->", text) {
-        return Some(2);
-    }
-    if begins("(", text) || begins(")", text) || begins("{", text) || begins("}", text) {
-        return Some(1);
-    }
-    if begins(",", text) || begins(";", text) || begins("=", text) {
-        return Some(1);
-    }
-    None
 }
 
 #[tactic(auto, unfolding(crate::specs::LexingFront::numeral_length))]
@@ -72,7 +56,8 @@ fn begins_with_letter(text: &[u8]) -> bool
 }
 
 fn number_at(text: &[u8]) -> Front
-    requires { heads is_digit text.now ≡ true }
+    requires digit { heads is_digit text.now ≡ true }
+    requires no_cast { option_map (λ w. length w) (first_of false casts text.now) ≡ None }
     ensures { IsFront text.now result }
 {
     let length = numeral_length(text);
@@ -86,22 +71,49 @@ fn number_at(text: &[u8]) -> Front
     }
 }
 
-/// What stands at the front of a text that is not empty.
-pub(super) fn front_of(text: &[u8]) -> Front
-    requires { 0 < length text.now }
+// A cast is longer than the numeral that it begins with.
+fn cast_or_number_at(text: &[u8]) -> Front
+    requires { heads is_digit text.now ≡ true }
+    ensures { IsFront text.now result }
+{
+    match cast_length(text) {
+        Some(length) => Front::Lexeme(Shape::Cast, length),
+        None => number_at(text),
+    }
+}
+
+fn block_comment_at(text: &[u8]) -> Front
+    requires { begins (codes "/*") text.now ≡ true }
+    ensures { IsFront text.now result }
+{
+    match before_end(&text[2..]) {
+        Some(length) => Front::Skipped(2 + length + 2),
+        None => Front::NoToken(LexKind::OpenComment),
+    }
+}
+
+fn no_comment_at(text: &[u8]) -> Front
+    requires some { 0 < length text.now }
+    requires no_comment { begins_comment text.now ≡ false }
     ensures { IsFront text.now result }
 {
     match text {
         [] => unreachable!(),
         [first, rest @ ..] => {
             if is_blank(*first) {
-                return Front::Blank;
+                return Front::Skipped(1);
             }
             if begins_word(*first) {
                 return Front::Lexeme(Shape::Word, 1 + word_length(rest));
             }
             if is_digit(*first) {
-                return number_at(text);
+                return cast_or_number_at(text);
+            }
+            if *first == b'"' {
+                return match string_length(rest) {
+                    Some(length) => Front::Lexeme(Shape::Str, 1 + length),
+                    None => Front::NoToken(LexKind::BadByte),
+                };
             }
             match sign_length(text) {
                 Some(length) => Front::Lexeme(Shape::Sign, length),
@@ -109,4 +121,18 @@ pub(super) fn front_of(text: &[u8]) -> Front
             }
         }
     }
+}
+
+/// What stands at the front of a text that is not empty.
+pub(super) fn front_of(text: &[u8]) -> Front
+    requires { 0 < length text.now }
+    ensures { IsFront text.now result }
+{
+    if begins("//", text) {
+        return Front::Skipped(line_length(text));
+    }
+    if begins("/*", text) {
+        return block_comment_at(text);
+    }
+    no_comment_at(text)
 }

@@ -2,10 +2,14 @@
 #![tactic(auto)]
 
 mod bytes;
+mod comment;
 mod front;
 mod kind;
 mod laws;
 mod number;
+mod sign;
+mod string;
+mod table;
 #[cfg(test)]
 mod tests;
 mod text;

@@ -30,10 +30,12 @@ pub type Tokens = Seq<Token>;
 /// Why a text has no token at a place.
 #[derive(Clone, Copy, Debug, PartialEq, Eq)]
 pub enum LexKind {
-    /// A byte that begins no token.
+    /// A byte that begins no token, as the quote of a string that its line does not close.
     BadByte,
     /// A number that is too large, `0x` without a digit, or a number with a letter behind it.
     BadNumber,
+    /// A comment that begins with `/*` and has no `*/` behind it.
+    OpenComment,
 }
 
 #[derive(Clone, Copy, Debug, PartialEq, Eq)]

@@ -6,7 +6,7 @@ use crate::unplaced::{Holder, NoPlace};
 use crate::{compile_all, expand_all, safe_all};
 use jz_alloc::Needed;
 use jz_data::{Failure, Seq, Text};
-use jz_first_parse::parse;
+use jz_first_parse::parse_first;
 use jz_io::{Ct, Span};
 use jz_leak::{Case, Form, Out, Tr, Transformer};
 use jz_lex::lex;
@@ -24,7 +24,7 @@ fn answer(alloc: Global, text: &str) -> Result<Result<Seq<Compiled>, Failure<NoP
     let Ok(tokens) = lex(alloc, text.as_bytes()) else {
         return Err(Fail::from("no tokens"));
     };
-    let Ok(program) = parse(alloc, &tokens) else {
+    let Ok(program) = parse_first(alloc, &tokens) else {
         return Err(Fail::from("no program"));
     };
     let Ok(typed) = check(alloc, program) else {

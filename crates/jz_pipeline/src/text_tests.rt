@@ -4,7 +4,7 @@ ghost use Rattle.std.specs.Prelude.{◌<◌, ◌+◌, ◌^◌, length};
 
 use crate::expand;
 use jz_data::Failure;
-use jz_first_parse::parse;
+use jz_first_parse::parse_first;
 use jz_io::Span;
 use jz_lex::lex;
 use jz_meaning::Expanded;
@@ -30,7 +30,7 @@ fn typed(alloc: Global, text: &[u8]) -> Result<Typed, Verdict>
     let Ok(tokens) = lex(alloc, text) else {
         return Err(Verdict::Lexer);
     };
-    let program = match parse(alloc, &tokens) {
+    let program = match parse_first(alloc, &tokens) {
         Ok(program) => program,
         Err(Failure::Refused(fault)) => return Err(Verdict::Syntax(fault.token, fault.span)),
         Err(Failure::OutOfMemory) => return Err(Verdict::Memory),

@@ -3,10 +3,15 @@
 
 mod comparing;
 mod copying;
+mod copying_statements;
 mod expr;
 mod program;
 mod stmt;
 
+pub use copying_statements::{copy_block, copy_exprs, copy_lvals, copy_notes, copy_vars};
 pub use expr::{Access, BinOp, Decl, Expr, Storage, Ty, Var};
 pub use program::{Const, Fun, FunKind, Note, NoteValue, Param, Program, Ret};
 pub use stmt::{Lval, Rhs, Stmt, StmtKind};
+
+#[cfg(test)]
+mod tests;

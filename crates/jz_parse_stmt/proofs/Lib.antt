@@ -1,0 +1,4 @@
+pub mod NoteLemmas
+pub mod Parts
+pub mod StmtReads
+pub mod Lists

@@ -1,0 +1,5 @@
+pub mod NotesTable
+pub mod NotesReaders
+pub mod Trees
+pub mod Table
+pub mod Readers
