@@ -2,22 +2,22 @@
 use Rattle.std.proofs.Common.{◌≡◌, ℕ, List, [], ◌∷◌, ◌++◌, Option, None, true, Ok, Err, inr, refl, codes}
 use Rattle.jz_io.specs.declared.span.Span.{Span}
 use Rattle.jz_lex.specs.declared.token.Token.{Token}
-use Rattle.jz_grammar.specs.Kinds.{Kind, identifier, word, sign, span_of, is_in}
+use Rattle.jz_grammar.specs.Kinds.{Kind, word, sign, span_of, is_in}
 use Rattle.jz_grammar.specs.Reading.{Answer, Reader, ◌>>=◌, through, follow, many}
-use Rattle.jz_grammar.specs.Grammar.{Lang, token, ◌▸◌, ◌⊕◌, ◌⇒◌, each, opens, maybe}
-use Rattle.jz_grammar.specs.Laws.{IsReader, HasPhrase, Shape, full, one_shape, plus}
+use Rattle.jz_grammar.specs.Grammar.{Lang, ◌▸◌, ◌⊕◌, ◌⇒◌, each, opens, maybe}
+use Rattle.jz_grammar.specs.Laws.{IsReader, HasPhrase, Shape, full, plus}
 use Rattle.jz_grammar.proofs.Basics.{disjoint_nil}
 use Rattle.jz_grammar.proofs.Combine.{follow_reads, map_reads, pick_reads, inside_reads, optional_reads, many_reads, leaf_reads, reads_as, shaped}
 use Rattle.jz_grammar.proofs.Opening.{HasPhraseAnyway, some_opens}
-use Rattle.jz_grammar.proofs.Samples.{sign_token, sign_in, word_token, word_in, sign_reads, word_reads, identifier_reads, some_leaf, some_sign, some_word, some_identifier, some_then, some_map, some_left, some_each, some_maybe, up}
+use Rattle.jz_grammar.proofs.Samples.{sign_token, sign_in, word_token, word_in, sign_reads, word_reads, identifier_reads, some_sign, some_word, some_identifier, some_then, some_map, some_left, some_each, some_maybe, up}
 use Rattle.jz_grammar.proofs.Steps.{listed_reads}
 use Rattle.jz_cursor.specs.Tokens.{name_of, word_types, size_of}
 use Rattle.jz_tree.specs.declared.expr.Decl.{Decl}
 use Rattle.jz_tree.specs.declared.expr.Storage.TheVariants as place
 use Rattle.jz_tree.specs.declared.expr.Ty.TheVariants as ty
 use Rattle.jz_tree.specs.declared.program.Param.{Param}
-use Rattle.jz_parse_expr.specs.Table.{the, key, name, word_type, index}
-use Rattle.jz_parse_expr.proofs.ExprReads.{index_reads, some_index}
+use Rattle.jz_parse_expr.specs.Table.{the, key, name, index}
+use Rattle.jz_parse_expr.proofs.Laws.{index_reads}
 use Rattle.jz_parse_stmt.specs.NotesTable.{notes}
 use Rattle.jz_parse_stmt.proofs.NoteLemmas.{notes_reads, some_notes}
 use Rattle.jz_parse.specs.Trees.{type_of, decl_of, params_all, declared_all, ret_of, joined, or_empty}

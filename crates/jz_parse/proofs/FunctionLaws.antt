@@ -1,8 +1,8 @@
 -- The readers of functions and programs read their grammar.
-use Rattle.std.proofs.Common.{◌≡◌, ℕ, List, [], ◌∷◌, ◌++◌, Option, None, true, inr, refl, codes}
+use Rattle.std.proofs.Common.{ℕ, List, [], ◌∷◌, ◌++◌, Option, None, true, inr, refl, codes}
 use Rattle.jz_io.specs.declared.span.Span.{Span}
-use Rattle.jz_grammar.specs.Kinds.{Kind, identifier, word, sign, end, span_of}
-use Rattle.jz_grammar.specs.Grammar.{Lang, token, ◌▸◌, ◌⊕◌, ◌⇒◌, each, opens, maybe}
+use Rattle.jz_grammar.specs.Kinds.{Kind, word, sign, end, span_of}
+use Rattle.jz_grammar.specs.Grammar.{Lang, token, ◌▸◌, ◌⇒◌, each, opens, maybe}
 use Rattle.jz_grammar.specs.Laws.{IsReader, HasPhrase, Shape, full, plus}
 use Rattle.jz_grammar.proofs.Combine.{follow_reads, map_reads, pick_reads, inside_reads, optional_reads, many_reads, shaped}
 use Rattle.jz_grammar.proofs.Opening.{HasPhraseAnyway, some_opens}
@@ -19,12 +19,9 @@ use Rattle.jz_tree.specs.declared.stmt.Stmt.{Stmt}
 use Rattle.jz_parse.specs.declared.function.Body.{Body}
 use Rattle.jz_parse_expr.specs.Table.{the, key, name, expr}
 use Rattle.jz_parse_expr.specs.Trees.{used_of}
-use Rattle.jz_parse_expr.specs.Readers.{expr_starts, expr_goes}
-use Rattle.jz_parse_expr.proofs.ExprReads.{expr_reads, some_expr}
-use Rattle.jz_parse_stmt.specs.NotesTable.{notes}
-use Rattle.jz_parse_stmt.specs.Table.{stmt}
-use Rattle.jz_parse_stmt.specs.Readers.{stmt_starts, stmt_goes}
-use Rattle.jz_parse_stmt.proofs.NoteLemmas.{notes_reads, some_notes}
+use Rattle.jz_parse_expr.proofs.Laws.{expr_reads, some_expr}
+use Rattle.jz_parse_stmt.specs.Readers.{stmt_goes}
+use Rattle.jz_parse_stmt.proofs.NoteLemmas.{notes_reads}
 use Rattle.jz_parse_stmt.proofs.StmtReads.{stmt_reads}
 use Rattle.jz_parse.specs.declared.function.Item.TheVariants.{Declares, Does}
 use Rattle.jz_parse.specs.declared.program.Part.TheVariants.{Constant, Function}

@@ -1,5 +1,5 @@
 -- The tree of a phrase, from its parts.
-use Rattle.std.specs.Prelude.{ℕ, List, [], ◌∷◌, Option, Some, None, flat_map, filter_map, map}
+use Rattle.std.specs.Prelude.{ℕ, List, [], Option, Some, None, flat_map, filter_map, map}
 use Rattle.jz_io.specs.declared.span.Span.{Span}
 use Rattle.jz_words.specs.declared.size.Size.{Size}
 use Rattle.jz_tree.specs.declared.expr.Decl.{Decl}

@@ -1,4 +1,4 @@
-use Rattle.std.proofs.Common.{◌≡◌, [], length}
+use Rattle.std.proofs.Common.{◌≡◌, length}
 use Rattle.jz_parse.specs.Readers.{groups_more}
 use Rattle.jz_parse.proofs.declare.groups_more.Given as goal
 

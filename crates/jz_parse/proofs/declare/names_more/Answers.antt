@@ -1,4 +1,4 @@
-use Rattle.std.proofs.Common.{◌≡◌, ◌++◌, ◌∷◌, [], sym, ap, ◌∙◌}
+use Rattle.std.proofs.Common.{sym, ap, ◌∙◌}
 use Rattle.jz_parse.specs.Readers.{names_more}
 use Rattle.jz_parse.proofs.Lists.{names_next}
 use Rattle.jz_parse.proofs.declare.names_more.Goals as goal

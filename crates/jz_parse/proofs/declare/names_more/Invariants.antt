@@ -1,4 +1,4 @@
-use Rattle.std.proofs.Common.{◌≡◌, [], length}
+use Rattle.std.proofs.Common.{◌≡◌, length}
 use Rattle.jz_parse.specs.Readers.{names_more}
 use Rattle.jz_parse.proofs.declare.names_more.Given as goal
 

@@ -1,4 +1,4 @@
-use Rattle.std.proofs.Common.{◌≡◌, [], length}
+use Rattle.std.proofs.Common.{◌≡◌, length}
 use Rattle.jz_parse.specs.Readers.{rtypes_more}
 use Rattle.jz_parse.proofs.declare.rtypes_more.Given as goal
 

@@ -1,4 +1,4 @@
-use Rattle.std.proofs.Common.{◌≡◌, [], length}
+use Rattle.std.proofs.Common.{◌≡◌, length}
 use Rattle.jz_parse.specs.Readers.{used_more}
 use Rattle.jz_parse.proofs.function.used_more.Given as goal
 
