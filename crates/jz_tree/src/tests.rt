@@ -1,6 +1,9 @@
 // Copies and comparisons, also of a left side as long as a text lets it be.
-use crate::{Access, BinOp, Decl, Expr, Storage, Ty, Var};
-use jz_data::{Boxed, Text};
+use crate::{
+    Access, BinOp, Decl, Expr, Lval, Note, NoteValue, Rhs, Stmt, StmtKind, Storage, Ty, Var,
+    copy_block,
+};
+use jz_data::{Boxed, Seq, Text};
 use jz_io::Span;
 use jz_words::Size;
 use std::alloc::{AllocError, Global};
@@ -26,12 +29,10 @@ fn a_long_chain(rt: HostRuntime) -> Result<(), Fail> {
     let alloc = rt.alloc();
     let long = chain(alloc, LENGTH, 1, 1)?;
     let copy = long.copy(alloc)?;
-    assert!(rt; copy.same(&long));
-    assert!(rt; !chain(alloc, LENGTH, 2, 1)?.same(&long));
-    assert!(rt; !chain(alloc, LENGTH, 1, 2)?.same(&long));
-    assert!(rt; !chain(alloc, LENGTH - 1, 1, 1)?.same(&long));
-    drop(long);
-    assert!(rt; copy.same(&copy));
+    assert!(rt; copy == long);
+    assert!(rt; chain(alloc, LENGTH, 2, 1)? != long);
+    assert!(rt; chain(alloc, LENGTH, 1, 2)? != long);
+    assert!(rt; chain(alloc, LENGTH - 1, 1, 1)? != long);
     Ok(())
 }
 
@@ -79,7 +80,53 @@ fn product(alloc: Global, length: i128) -> Result<Expr, AllocError> {
 fn every_part_counts(rt: HostRuntime) -> Result<(), Fail> {
     let alloc = rt.alloc();
     let whole = product(alloc, 9)?;
-    assert!(rt; whole.copy(alloc)?.same(&whole));
-    assert!(rt; !product(alloc, 8)?.same(&whole));
+    assert!(rt; whole.copy(alloc)? == whole);
+    assert!(rt; product(alloc, 8)? != whole);
+    Ok(())
+}
+
+// `#align while { table = f(i) if .. } (i)`
+fn repetition(alloc: Global, callee: &str) -> Result<Stmt, AllocError> {
+    let mut notes = Seq::new(alloc);
+    notes.push(Note {
+        name: Text::from_string(String::from_str(alloc, "align")?),
+        value: NoteValue::Str(Seq::from_slice(alloc, &[1, 2])?),
+        span: HERE,
+    })?;
+    let mut to = Seq::new(alloc);
+    to.push(Lval::Var(table(alloc, 1)?))?;
+    let mut args = Seq::new(alloc);
+    args.push(product(alloc, 2)?)?;
+    let callee = Text::from_string(String::from_str(alloc, callee)?);
+    let mut prologue = Seq::new(alloc);
+    prologue.push(Stmt {
+        notes: Seq::new(alloc),
+        span: HERE,
+        kind: StmtKind::Assign {
+            to,
+            op: None,
+            rhs: Rhs::Call(callee, args, HERE),
+            cond: Some(Expr::Bool(true, HERE)),
+        },
+    })?;
+    Ok(Stmt {
+        notes,
+        span: HERE,
+        kind: StmtKind::While {
+            prologue,
+            cond: product(alloc, 3)?,
+            body: None,
+        },
+    })
+}
+
+#[test]
+fn statements_are_copied(rt: HostRuntime) -> Result<(), Fail> {
+    let alloc = rt.alloc();
+    let mut block = Seq::new(alloc);
+    block.push(repetition(alloc, "f")?)?;
+    assert!(rt; copy_block(alloc, &block)? == block);
+    assert!(rt; repetition(alloc, "f")?.copy(alloc)? == repetition(alloc, "f")?);
+    assert!(rt; repetition(alloc, "g")? != repetition(alloc, "f")?);
     Ok(())
 }
