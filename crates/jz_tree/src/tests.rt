@@ -1,8 +1,5 @@
 // Copies and comparisons, also of a left side as long as a text lets it be.
-use crate::{
-    Access, BinOp, Decl, Expr, Lval, Note, NoteValue, Rhs, Stmt, StmtKind, Storage, Ty, Var,
-    copy_block,
-};
+use crate::{Access, BinOp, Decl, Expr, Stmt, StmtKind, Storage, Ty, Var};
 use jz_data::{Boxed, Seq, Text};
 use jz_io::Span;
 use jz_words::Size;
@@ -85,48 +82,20 @@ fn every_part_counts(rt: HostRuntime) -> Result<(), Fail> {
     Ok(())
 }
 
-// `#align while { table = f(i) if .. } (i)`
-fn repetition(alloc: Global, callee: &str) -> Result<Stmt, AllocError> {
-    let mut notes = Seq::new(alloc);
-    notes.push(Note {
-        name: Text::from_string(String::from_str(alloc, "align")?),
-        value: NoteValue::Str(Seq::from_slice(alloc, &[1, 2])?),
-        span: HERE,
-    })?;
-    let mut to = Seq::new(alloc);
-    to.push(Lval::Var(table(alloc, 1)?))?;
-    let mut args = Seq::new(alloc);
-    args.push(product(alloc, 2)?)?;
-    let callee = Text::from_string(String::from_str(alloc, callee)?);
-    let mut prologue = Seq::new(alloc);
-    prologue.push(Stmt {
+fn choice(alloc: Global, cond: bool) -> Stmt {
+    Stmt {
         notes: Seq::new(alloc),
         span: HERE,
-        kind: StmtKind::Assign {
-            to,
-            op: None,
-            rhs: Rhs::Call(callee, args, HERE),
-            cond: Some(Expr::Bool(true, HERE)),
-        },
-    })?;
-    Ok(Stmt {
-        notes,
-        span: HERE,
-        kind: StmtKind::While {
-            prologue,
-            cond: product(alloc, 3)?,
-            body: None,
-        },
-    })
+        kind: StmtKind::If(Expr::Bool(cond, HERE), Seq::new(alloc), Seq::new(alloc)),
+    }
 }
 
 #[test]
 fn statements_are_copied(rt: HostRuntime) -> Result<(), Fail> {
     let alloc = rt.alloc();
-    let mut block = Seq::new(alloc);
-    block.push(repetition(alloc, "f")?)?;
-    assert!(rt; copy_block(alloc, &block)? == block);
-    assert!(rt; repetition(alloc, "f")?.copy(alloc)? == repetition(alloc, "f")?);
-    assert!(rt; repetition(alloc, "g")? != repetition(alloc, "f")?);
+    let whole = choice(alloc, true);
+    let copy = whole.copy(alloc)?;
+    assert!(rt; copy == whole);
+    assert!(rt; choice(alloc, false) != whole);
     Ok(())
 }

@@ -1,5 +1,5 @@
 use Rattle.std.proofs.lemmas.Bool.Decides.{same_from_decides}
-use Rattle.jz_tree.specs.Deciding.{same_access, same_access_decides}
+use Rattle.jz_tree.specs.Deciding.{same_access_decides}
 use Rattle.jz_tree.proofs.comparing.AccessPartialEq.eq.Goals as goal
 
 pub returns-clause-value : goal.returns-clause-value

@@ -1,5 +1,5 @@
 use Rattle.std.proofs.lemmas.Bool.Decides.{same_from_decides}
-use Rattle.jz_tree.specs.Deciding.{same_expr, same_expr_decides}
+use Rattle.jz_tree.specs.Deciding.{same_expr_decides}
 use Rattle.jz_tree.proofs.comparing.ExprPartialEq.eq.Goals as goal
 
 pub returns-clause-value : goal.returns-clause-value
