@@ -5,6 +5,8 @@ mod declare;
 mod function;
 mod program;
 mod read;
+#[cfg(test)]
+mod tests;
 
 pub use jz_cursor::{SyntaxFault, SyntaxKind};
 pub use read::{no_fault_of_a_program, one_fault, one_program, parse};

@@ -1,0 +1,506 @@
+//! Texts with the programs and faults that the language's rules give by hand.
+
+use crate::{SyntaxFault, SyntaxKind, parse};
+use jz_data::{Failure, Seq, Text};
+use jz_lex::{Tokens, lex};
+use jz_tree::{
+    Access, Decl, Expr, Fun, FunKind, Lval, Note, NoteValue, Program, Rhs, Stmt, StmtKind, Storage,
+    Ty, Var,
+};
+use jz_words::Size;
+use std::alloc::{AllocError, Global};
+use std::process::Abort;
+use std::test::Fail;
+
+fn size_text(size: Size) -> &'static str {
+    match size {
+        Size::S8 => "u8",
+        Size::S16 => "u16",
+        Size::S32 => "u32",
+        Size::S64 => "u64",
+    }
+}
+
+fn var_text(alloc: Global, var: &Var) -> Result<String, AllocError> {
+    format!(in alloc; "{}@{}", var.name.as_str(), var.span.col)
+}
+
+/// An access: its size if one is written, its place and its address.
+#[cycle(shown)]
+fn access_text(alloc: Global, access: &Access) -> Result<String, AllocError> {
+    let at = expr_text(alloc, access.at.get())?;
+    let size = match access.size {
+        Some(size) => size_text(size),
+        None => "",
+    };
+    format!(in alloc; "[{size}:{} @{}]", at.as_str(), access.span.col)
+}
+
+/// An expression with parentheses round each operation, and the column of each name.
+#[cycle(shown)]
+fn expr_text(alloc: Global, expr: &Expr) -> Result<String, AllocError> {
+    match expr {
+        Expr::Num(value, _) => format!(in alloc; "{value}"),
+        Expr::Bool(value, _) => format!(in alloc; "{value}"),
+        Expr::Var(var) => var_text(alloc, var),
+        Expr::Cell(var, at) => {
+            let inner = expr_text(alloc, at.get())?;
+            let name = var_text(alloc, var)?;
+            format!(in alloc; "{}[{}]", name.as_str(), inner.as_str())
+        }
+        Expr::Load(access) => access_text(alloc, access),
+        Expr::Neg(e, _) => {
+            let inner = expr_text(alloc, e.get())?;
+            format!(in alloc; "-{}", inner.as_str())
+        }
+        Expr::Not(e, _) => {
+            let inner = expr_text(alloc, e.get())?;
+            format!(in alloc; "!{}", inner.as_str())
+        }
+        Expr::Cast {
+            size,
+            signed,
+            e,
+            span: _,
+        } => {
+            let inner = expr_text(alloc, e.get())?;
+            let sign = if *signed { "s" } else { "u" };
+            format!(in alloc; "({}{sign}){}", size_text(*size), inner.as_str())
+        }
+        Expr::Bin(op, left, right, _) => {
+            let first = expr_text(alloc, left.get())?;
+            let second = expr_text(alloc, right.get())?;
+            format!(in alloc; "({} {:?} {})", first.as_str(), op, second.as_str())
+        }
+    }
+}
+
+fn exprs_text(alloc: Global, exprs: &Seq<Expr>) -> Result<String, AllocError> {
+    let mut text = String::new(alloc);
+    for expr in exprs.as_slice() {
+        let next = expr_text(alloc, expr)?;
+        text.push_str(next.as_str())?;
+        text.push_str(" ")?;
+    }
+    Ok(text)
+}
+
+fn note_text(alloc: Global, note: &Note) -> Result<String, AllocError> {
+    let value = match &note.value {
+        NoteValue::None => String::new(alloc),
+        NoteValue::Name(name) => format!(in alloc; "={}", name.as_str())?,
+        NoteValue::Num(value) => format!(in alloc; "={value}")?,
+        NoteValue::Str(bytes) => format!(in alloc; "=\"{}\"", bytes.len())?,
+    };
+    format!(in alloc;
+        "#{}{}@{} ",
+        note.name.as_str(),
+        value.as_str(),
+        note.span.col
+    )
+}
+
+fn notes_text(alloc: Global, notes: &Seq<Note>) -> Result<String, AllocError> {
+    let mut text = String::new(alloc);
+    for note in notes.as_slice() {
+        let next = note_text(alloc, note)?;
+        text.push_str(next.as_str())?;
+    }
+    Ok(text)
+}
+
+fn decl_text(alloc: Global, decl: &Decl) -> Result<String, AllocError> {
+    let storage = match decl.storage {
+        Storage::Reg => "reg",
+        Storage::Stack => "stack",
+        Storage::Inline => "inline",
+    };
+    match &decl.ty {
+        Ty::Int => format!(in alloc; "{storage} int"),
+        Ty::Bool => format!(in alloc; "{storage} bool"),
+        Ty::Word(size) => format!(in alloc; "{storage} {}", size_text(*size)),
+        Ty::Array(size, count) => {
+            let count = expr_text(alloc, count.get())?;
+            format!(in alloc; "{storage} {}[{}]", size_text(*size), count.as_str())
+        }
+    }
+}
+
+/// A variable behind what is declared of it.
+fn declared_text(alloc: Global, var: &Var) -> Result<String, AllocError> {
+    let name = var_text(alloc, var)?;
+    match &var.decl {
+        Some(decl) => {
+            let decl = decl_text(alloc, decl)?;
+            format!(in alloc; "{} {}", decl.as_str(), name.as_str())
+        }
+        None => Ok(name),
+    }
+}
+
+fn vars_text(alloc: Global, vars: &Seq<Var>) -> Result<String, AllocError> {
+    let mut text = String::new(alloc);
+    for var in vars.as_slice() {
+        let next = declared_text(alloc, var)?;
+        text.push_str(next.as_str())?;
+        text.push_str("; ")?;
+    }
+    Ok(text)
+}
+
+fn lval_text(alloc: Global, to: &Lval) -> Result<String, AllocError> {
+    match to {
+        Lval::Skip(_) => String::from_str(alloc, "_"),
+        Lval::Var(var) => var_text(alloc, var),
+        Lval::Cell(var, at) => {
+            let at = expr_text(alloc, at.get())?;
+            format!(in alloc; "{}[{}]", var.name.as_str(), at.as_str())
+        }
+        Lval::Store(access) => access_text(alloc, access),
+    }
+}
+
+fn lvals_text(alloc: Global, to: &Seq<Lval>) -> Result<String, AllocError> {
+    let mut text = String::new(alloc);
+    for lval in to.as_slice() {
+        let next = lval_text(alloc, lval)?;
+        text.push_str(next.as_str())?;
+        text.push_str(" ")?;
+    }
+    Ok(text)
+}
+
+fn call_text(alloc: Global, name: &Text, args: &Seq<Expr>) -> Result<String, AllocError> {
+    let args = exprs_text(alloc, args)?;
+    format!(in alloc; "{}({})", name.as_str(), args.as_str())
+}
+
+fn rhs_text(alloc: Global, rhs: &Rhs) -> Result<String, AllocError> {
+    match rhs {
+        Rhs::Value(value) => expr_text(alloc, value),
+        Rhs::Call(name, args, _) => call_text(alloc, name, args),
+        Rhs::Intrinsic(name, args, _) => {
+            let call = call_text(alloc, name, args)?;
+            format!(in alloc; "#{}", call.as_str())
+        }
+    }
+}
+
+/// What a statement does; of a block the number of its statements.
+fn kind_text(alloc: Global, kind: &StmtKind) -> Result<String, AllocError> {
+    match kind {
+        StmtKind::Assign { to, op, rhs, cond } => {
+            let to = lvals_text(alloc, to)?;
+            let rhs = rhs_text(alloc, rhs)?;
+            let cond = match cond {
+                Some(cond) => expr_text(alloc, cond)?,
+                None => String::from_str(alloc, "always")?,
+            };
+            format!(in alloc;
+                "{}{:?} {} if {}",
+                to.as_str(),
+                op,
+                rhs.as_str(),
+                cond.as_str()
+            )
+        }
+        StmtKind::If(cond, then, other) => {
+            let cond = expr_text(alloc, cond)?;
+            format!(in alloc; "if {} {} else {}", cond.as_str(), then.len(), other.len())
+        }
+        StmtKind::While {
+            prologue,
+            cond,
+            body,
+        } => {
+            let cond = expr_text(alloc, cond)?;
+            let body = match body {
+                Some(body) => body.len(),
+                None => 99,
+            };
+            format!(in alloc; "while {} {} {}", prologue.len(), cond.as_str(), body)
+        }
+        StmtKind::For {
+            counter,
+            from,
+            down,
+            to,
+            body,
+        } => {
+            let counter = var_text(alloc, counter)?;
+            let from = expr_text(alloc, from)?;
+            let to = expr_text(alloc, to)?;
+            format!(in alloc;
+                "for {} {} {down} {} {}",
+                counter.as_str(),
+                from.as_str(),
+                to.as_str(),
+                body.len()
+            )
+        }
+        StmtKind::Mark(_) => String::from_str(alloc, "mark"),
+    }
+}
+
+fn stmts_text(alloc: Global, stmts: &Seq<Stmt>) -> Result<String, AllocError> {
+    let mut text = String::new(alloc);
+    for stmt in stmts.as_slice() {
+        let notes = notes_text(alloc, &stmt.notes)?;
+        let kind = kind_text(alloc, &stmt.kind)?;
+        text.push_str(notes.as_str())?;
+        text.push_str(kind.as_str())?;
+        text.push_str("; ")?;
+    }
+    Ok(text)
+}
+
+/// A function's head, without its body.
+fn head_text(alloc: Global, fun: &Fun) -> Result<String, AllocError> {
+    let mut text = notes_text(alloc, &fun.notes)?;
+    text.push_str(match fun.kind {
+        FunKind::Inline => "inline ",
+        FunKind::Export => "export ",
+    })?;
+    text.push_str(fun.name.as_str())?;
+    text.push_str("( ")?;
+    for param in fun.params.as_slice() {
+        let notes = notes_text(alloc, &param.notes)?;
+        let var = declared_text(alloc, &param.var)?;
+        text.push_str(notes.as_str())?;
+        text.push_str(var.as_str())?;
+        text.push_str("; ")?;
+    }
+    text.push_str(") ")?;
+    for ret in fun.rets.as_slice() {
+        let notes = notes_text(alloc, &ret.notes)?;
+        let decl = decl_text(alloc, &ret.decl)?;
+        text.push_str(notes.as_str())?;
+        text.push_str(decl.as_str())?;
+        text.push_str("; ")?;
+    }
+    Ok(text)
+}
+
+fn fun_text(alloc: Global, fun: &Fun) -> Result<String, AllocError> {
+    let mut text = head_text(alloc, fun)?;
+    let vars = vars_text(alloc, &fun.vars)?;
+    let stmts = stmts_text(alloc, &fun.body)?;
+    let result = vars_text(alloc, &fun.result)?;
+    text.push_str("{ ")?;
+    text.push_str(vars.as_str())?;
+    text.push_str(stmts.as_str())?;
+    text.push_str("return ")?;
+    text.push_str(result.as_str())?;
+    text.push_str("}")?;
+    Ok(text)
+}
+
+/// The constants, then the functions.
+fn program_text(alloc: Global, program: &Program) -> Result<String, AllocError> {
+    let mut text = String::new(alloc);
+    for constant in program.consts.as_slice() {
+        let value = expr_text(alloc, &constant.value)?;
+        let next = format!(in alloc; "{} = {}; ", constant.name.as_str(), value.as_str())?;
+        text.push_str(next.as_str())?;
+    }
+    for fun in program.funs.as_slice() {
+        let next = fun_text(alloc, fun)?;
+        text.push_str(next.as_str())?;
+    }
+    Ok(text)
+}
+
+fn fault_text(alloc: Global, fault: SyntaxFault) -> Result<String, AllocError> {
+    let SyntaxFault { kind, token, span } = fault;
+    let kind = match kind {
+        SyntaxKind::Unexpected => "Unexpected",
+        SyntaxKind::TooDeep => "TooDeep",
+    };
+    format!(in alloc; "{kind} {}:{} token {token}", span.line, span.col)
+}
+
+fn answer_text(
+    alloc: Global,
+    answer: Result<Program, Failure<SyntaxFault>>,
+) -> Result<String, AllocError> {
+    match answer {
+        Ok(program) => program_text(alloc, &program),
+        Err(Failure::Refused(fault)) => fault_text(alloc, fault),
+        Err(Failure::OutOfMemory) => Err(AllocError),
+    }
+}
+
+fn tokens_of(rt: &impl Abort, alloc: Global, text: &str) -> Result<Tokens, Fail> {
+    assert!(rt; text.len() < 2_000_000);
+    Ok(
+        lex(alloc, text.as_bytes())
+            .ok()
+            .ok_or("the text has no tokens")?,
+    )
+}
+
+fn outcome(rt: &impl Abort, alloc: Global, text: &str) -> Result<String, Fail> {
+    let tokens = tokens_of(rt, alloc, text)?;
+    Ok(answer_text(alloc, parse(alloc, &tokens))?)
+}
+
+#[test]
+fn reads_heads(rt: HostRuntime) -> Result<(), Fail> {
+    let alloc = rt.alloc();
+    for (text, want) in [
+        ("", ""),
+        ("param int n = 3 + 4 * 2;", "n = (3 Add (4 Mul 2)); "),
+        (
+            "#[a, b=c] #d=3 #e=\"xy\" inline fn f(#public reg u64 x y, stack u8[4] z) {}",
+            "#a@1 #b=c@1 #d=3@11 #e=\"2\"@16 inline f( #public@36 reg u64 x@52; #public@36 reg u64 y@54; stack u8[4] z@69; ) { return }",
+        ),
+        (
+            "export fn g() -> #secret reg u32, reg bool { inline int i; reg u16 a b, c; return (a, b); } param int m = -1;",
+            "m = -1; export g( ) #secret@18 reg u32; reg bool; { inline int i@57; reg u16 a@68; reg u16 b@70; reg u16 c@73; return a@84; b@87; }",
+        ),
+    ] {
+        assert_eq!(rt; outcome(&rt, alloc, text)?.as_str(), want);
+    }
+    Ok(())
+}
+
+/// What is read of these statements, the only ones of a function.
+fn body_outcome(rt: &impl Abort, alloc: Global, body: &str) -> Result<String, Fail> {
+    assert!(rt; body.len() < 1000);
+    let text = format!(in alloc; "export fn f() {{{body}}}")?;
+    outcome(rt, alloc, text.as_str())
+}
+
+#[test]
+fn reads_statements(rt: HostRuntime) -> Result<(), Fail> {
+    let alloc = rt.alloc();
+    for (body, want) in [
+        ("a = b;", "a@16 None b@20 if always; "),
+        (
+            "a[i + 1] >>s= 3 if b <s 2;",
+            "a[(i@18 Add 1)] Some(Sar) 3 if (b@35 LtS 2); ",
+        ),
+        ("cf, x += c;", "cf@16 x@20 Some(Add) c@25 if always; "),
+        (
+            "#loud _, x = #add(x, (u64)[p + e]);",
+            "#loud@16 _ x@25 None #add(x@34 [u64:(p@43 Add e@47) @37] ) if always; ",
+        ),
+        (
+            "[:u64 p + e] = (64u)y;",
+            "[u64:(p@22 Add e@26) @16] None (u64u)y@36 if always; ",
+        ),
+        (
+            "x = [p + e];",
+            "x@16 None [:(p@21 Add e@25) @20] if always; ",
+        ),
+        ("x = #pause();", "x@16 None #pause() if always; "),
+        (
+            "g(x, 1); y = h();",
+            "None g(x@18 1 ) if always; y@25 None h() if always; ",
+        ),
+        (
+            "if a == b { c = 1; d = 2; } else if true { e = 3; } else { }",
+            "if (a@19 Eq b@24) 2 else 1; ",
+        ),
+        (
+            "while { p = 1; } (c) while (d) { q = 1; r = 2; } while { } (e) { s = 3; }",
+            "while 1 c@34 99; while 0 d@44 2; while 0 e@76 1; ",
+        ),
+        (
+            "for i = n downto 0 { } for j = 0 to 4 { a = 1; }",
+            "for i@20 n@24 true 0 0; for j@43 0 false 4 1; ",
+        ),
+    ] {
+        let text = body_outcome(&rt, alloc, body)?;
+        let want = format!(in alloc; "export f( ) {{ {want}return }}")?;
+        assert_eq!(rt; text.as_str(), want.as_str());
+    }
+    Ok(())
+}
+
+/// `x = `, and so many parentheses that are left open.
+fn nested(alloc: Global, count: usize) -> Result<String, AllocError> {
+    let mut text = String::from_str(alloc, "export fn f() { reg u64 x; x = ")?;
+    for _ in 0..count {
+        text.push_str("(")?;
+    }
+    Ok(text)
+}
+
+#[test]
+fn tells_the_first_wrong_token(rt: HostRuntime) -> Result<(), Fail> {
+    let alloc = rt.alloc();
+    for (text, want) in [
+        ("export fn f(", "Unexpected 1:13 token 4"),
+        ("export fn f() {} fn", "Unexpected 1:18 token 7"),
+        ("param int n = ;", "Unexpected 1:15 token 4"),
+        ("export fn f(reg u64) {}", "Unexpected 1:20 token 6"),
+        (
+            "export fn f() { reg u64 z z = x; }",
+            "Unexpected 1:29 token 10",
+        ),
+        (
+            "export fn f() { return a; a = b; }",
+            "Unexpected 1:27 token 9",
+        ),
+        ("export fn f() { #a reg u64 x; }", "Unexpected 1:20 token 8"),
+    ] {
+        assert_eq!(rt; outcome(&rt, alloc, text)?.as_str(), want);
+    }
+    Ok(())
+}
+
+#[test]
+fn tells_what_is_nested_too_deep(rt: HostRuntime) -> Result<(), Fail> {
+    let alloc = rt.alloc();
+    for (count, want) in [
+        (300, "TooDeep 1:231 token 211"),
+        (200, "TooDeep 1:231 token 211"),
+        (199, "Unexpected 1:231 token 211"),
+        (1_048_576, "TooDeep 1:231 token 211"),
+    ] {
+        let text = nested(alloc, count)?;
+        assert_eq!(rt; outcome(&rt, alloc, text.as_str())?.as_str(), want);
+    }
+    Ok(())
+}
+
+/// How many operations stand on the left side of one another.
+fn chain_length(expr: &Expr) -> u32 {
+    let mut count = 0u32;
+    let mut rest = expr;
+    while let Expr::Bin(_, left, _, _) = rest {
+        count = count.saturating_add(1);
+        rest = left.get();
+    }
+    count
+}
+
+/// The length of the chain that a statement assigns.
+fn assigned_length(stmt: &Stmt) -> Option<u32> {
+    match &stmt.kind {
+        StmtKind::Assign {
+            to: _,
+            op: _,
+            rhs: Rhs::Value(value),
+            cond: _,
+        } => Some(chain_length(value)),
+        _ => None,
+    }
+}
+
+#[test]
+fn reads_long_sums(rt: HostRuntime) -> Result<(), Fail> {
+    let alloc = rt.alloc();
+    let mut text = String::from_str(alloc, "export fn f() { x = ")?;
+    for _ in 0..262_144 {
+        text.push_str("1 + ")?;
+    }
+    text.push_str("1; }")?;
+    let tokens = tokens_of(&rt, alloc, text.as_str())?;
+    let program = parse(alloc, &tokens).ok().ok_or("the text is no program")?;
+    let fun = program.funs.get(0).ok_or("there is no function")?;
+    let stmt = fun.body.get(0).ok_or("there is no statement")?;
+    assert_eq!(rt; assigned_length(stmt), Some(262_144));
+    Ok(())
+}
