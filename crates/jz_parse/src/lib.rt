@@ -9,4 +9,4 @@ mod read;
 mod tests;
 
 pub use jz_cursor::{SyntaxFault, SyntaxKind};
-pub use read::{no_fault_of_a_program, one_fault, one_program, parse};
+pub use read::{a_fault_is_at_a_token, no_fault_of_a_program, one_fault, one_program, parse};
