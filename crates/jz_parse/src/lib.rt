@@ -7,6 +7,8 @@ mod program;
 mod read;
 #[cfg(test)]
 mod tests;
+#[cfg(test)]
+mod worked_tests;
 
 pub use jz_cursor::{SyntaxFault, SyntaxKind};
 pub use read::{a_fault_is_at_a_token, no_fault_of_a_program, one_fault, one_program, parse};

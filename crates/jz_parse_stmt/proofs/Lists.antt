@@ -1,8 +1,8 @@
 -- Lists, item by item.
-use Rattle.std.proofs.Common.{◌≡◌, ℕ, ◌<◌, List, [], ◌∷◌, ◌++◌, length, true, false, ◌||◌, Ok, Err, refl, ap, ◌∙◌, codes}
+use Rattle.std.proofs.Common.{◌≡◌, ℕ, ◌<◌, List, [], ◌∷◌, ◌++◌, length, true, false, ◌||◌, Ok, Err, refl, ap, ◌∙◌}
 use Rattle.jz_lex.specs.declared.token.Token.{Token}
 use Rattle.jz_grammar.specs.Causes.{Cause}
-use Rattle.jz_grammar.specs.Kinds.{Kind, kind_of, sign, word, is_in, has}
+use Rattle.jz_grammar.specs.Kinds.{Kind, kind_of, is_in, has}
 use Rattle.jz_grammar.specs.Reading.{Answer, through, many}
 use Rattle.jz_grammar.proofs.Combine.{shorter}
 use Rattle.jz_grammar.proofs.Basics.{member_append}

@@ -1,16 +1,16 @@
 -- The readers of right sides, calls and assignments read their grammar.
-use Rattle.std.proofs.Common.{◌≡◌, ◌⊎◌, inl, inr, ⊎_elim, ℕ, zero, suc, ◌<◌, List, [], ◌∷◌, ◌++◌, true, false, Option, Some, None, Ok, Err, refl, sym, ap, ◌∙◌, arith, codes}
+use Rattle.std.proofs.Common.{◌≡◌, inl, inr, ⊎_elim, ℕ, zero, suc, List, [], ◌∷◌, ◌++◌, true, false, Option, None, Ok, Err, refl, ap, ◌∙◌, codes}
 use Rattle.jz_io.specs.declared.span.Span.{Span}
 use Rattle.jz_lex.specs.declared.token.Token.{Token}
 use Rattle.jz_grammar.specs.Kinds.{Kind, sign, word, identifier, span_of, is_in, has}
-use Rattle.jz_grammar.specs.Reading.{Answer, Reader, ◌>>=◌, through, follow, pick_both, many, one, leaf, optional}
+use Rattle.jz_grammar.specs.Reading.{Answer, Reader, ◌>>=◌, through, follow, pick_both, many, one, optional}
 use Rattle.jz_grammar.specs.Grammar.{Marked, Lang, token, ◌▸◌, ◌⊕◌, ◌⇒◌, each, opens, maybe}
 use Rattle.jz_grammar.specs.Laws.{Shape, IsReader, HasPhrase, Second, plus, one_shape, full}
 use Rattle.jz_grammar.proofs.Basics.{disjoint_nil}
 use Rattle.jz_grammar.proofs.Combine.{follow_reads, map_reads, pick_reads, inside_reads, optional_reads, many_reads, leaf_reads, reads_as, same_reads, shaped}
 use Rattle.jz_grammar.proofs.Both.{Alone, alone_second, follow_second, map_second, pick_both_reads, follow_single}
 use Rattle.jz_grammar.proofs.Opening.{leaf_first, pick_both_same, HasPhraseAnyway, some_opens}
-use Rattle.jz_grammar.proofs.Samples.{sign_token, sign_in, identifier_token, identifier_in, sign_reads, word_reads, identifier_reads, some_leaf, some_sign, some_word, some_identifier, some_then, some_map, some_left, some_each, some_maybe, up}
+use Rattle.jz_grammar.proofs.Samples.{sign_token, sign_in, identifier_token, identifier_in, identifier_reads, some_leaf, some_word, some_identifier, some_then, some_map, some_left, some_each, some_maybe, up}
 use Rattle.jz_grammar.proofs.Steps.{listed_reads}
 use Rattle.jz_cursor.specs.Tokens.{name_of}
 use Rattle.jz_tree.specs.declared.expr.Expr.{Expr}
@@ -24,7 +24,7 @@ use Rattle.jz_parse_expr.specs.Table as t
 use Rattle.jz_parse_expr.specs.Readers as q
 use Rattle.jz_parse_expr.specs.Operators.{level_count}
 use Rattle.jz_parse_expr.proofs.Levels.{the_reads, key_reads, some_the}
-use Rattle.jz_parse_expr.proofs.Laws.{expr_reads, index_reads, access_reads, some_expr, some_index}
+use Rattle.jz_parse_expr.proofs.Laws.{expr_reads, index_reads, access_reads, some_expr}
 use Rattle.jz_parse_stmt.specs.Trees.{assignments, operation_of, or_empty, call_of, intrinsic_of, name_lval, span_of_lval, assigned, called}
 use Rattle.jz_parse_stmt.specs.Table as g
 use Rattle.jz_parse_stmt.specs.Readers as r

@@ -1,10 +1,10 @@
 -- The readers of statements read their grammar.
-use Rattle.std.proofs.Common.{◌≡◌, ◌⊎◌, inl, inr, ⊎_elim, ℕ, zero, suc, ◌<◌, List, [], ◌∷◌, ◌++◌, true, false, Bool, Option, Some, None, Err, refl, ap, ◌∙◌, subst, arith, codes}
+use Rattle.std.proofs.Common.{◌≡◌, inl, inr, ⊎_elim, ℕ, zero, suc, List, [], ◌∷◌, ◌++◌, true, false, Bool, Option, Some, None, Err, refl, ap, subst, arith, codes}
 use Rattle.jz_io.specs.declared.span.Span.{Span}
 use Rattle.jz_lex.specs.declared.token.Token.{Token}
 use Rattle.jz_grammar.specs.Causes.{Unexpected}
 use Rattle.jz_grammar.specs.Kinds.{Kind, sign, word, identifier}
-use Rattle.jz_grammar.specs.Reading.{Reader, through, follow, pick, many, inside, optional}
+use Rattle.jz_grammar.specs.Reading.{through, follow, pick, many, inside, optional}
 use Rattle.jz_grammar.specs.Grammar.{Marked, Lang, ◌▸◌, ◌⊕◌, ◌⇒◌, each, opens, maybe}
 use Rattle.jz_grammar.specs.Laws.{Shape, IsReader, HasPhrase, plus, full}
 use Rattle.jz_grammar.proofs.Combine.{follow_reads, map_reads, pick_reads, inside_reads, optional_reads, many_reads, same_reads, shaped}

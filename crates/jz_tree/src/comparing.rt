@@ -51,7 +51,7 @@ fn same_names(a: &Text, b: &Text) -> bool
 impl Expr {
     /// Whether both are equal, with their spans.
     #[cycle(same)]
-    pub fn same(&self, other: &Expr) -> bool
+    fn same(&self, other: &Expr) -> bool
         ensures { IsTrue result ↔ (self.now ≡ other.now) }
     {
         let mut a = self;
@@ -151,7 +151,7 @@ impl Expr {
 impl Var {
     /// Whether both are equal, with their spans and declarations.
     #[cycle(same)]
-    pub fn same(&self, other: &Var) -> bool
+    fn same(&self, other: &Var) -> bool
         ensures { IsTrue result ↔ (self.now ≡ other.now) }
     {
         let decls = match &self.decl {
@@ -172,7 +172,7 @@ impl Var {
 impl Decl {
     /// Whether both are equal.
     #[cycle(same)]
-    pub fn same(&self, other: &Decl) -> bool
+    fn same(&self, other: &Decl) -> bool
         ensures { IsTrue result ↔ (self.now ≡ other.now) }
     {
         same_storages(self.storage, other.storage) && self.ty.same(&other.ty)
@@ -182,7 +182,7 @@ impl Decl {
 impl Ty {
     /// Whether both are equal, also the expressions of their lengths.
     #[cycle(same)]
-    pub fn same(&self, other: &Ty) -> bool
+    fn same(&self, other: &Ty) -> bool
         ensures { IsTrue result ↔ (self.now ≡ other.now) }
     {
         match self {
@@ -211,7 +211,7 @@ impl Ty {
 impl Access {
     /// Whether both are equal, with their spans.
     #[cycle(same)]
-    pub fn same(&self, other: &Access) -> bool
+    fn same(&self, other: &Access) -> bool
         ensures { IsTrue result ↔ (self.now ≡ other.now) }
     {
         same_written_sizes(self.size, other.size)
@@ -219,4 +219,114 @@ impl Access {
             && same_spans(self.span, other.span)
             && self.at.get().same(other.at.get())
     }
+}
+
+impl PartialEq for Expr {
+    ghost use Rattle.std.specs.Cmp.{partial_equiv_from_equiv};
+    ghost use Rattle.jz_tree.specs.Deciding.{same_expr, same_expr_laws};
+
+    ghost eq = { same_expr };
+
+    ghost laws = { partial_equiv_from_equiv same_expr_laws };
+
+    fn eq(&self, other: &Expr) -> bool
+        ensures value { result ≡ same_expr self.now other.now }
+        ensures equal { IsTrue result ↔ (self.now ≡ other.now) }
+    {
+        self.same(other)
+    }
+}
+
+impl Eq for Expr {
+    ghost use Rattle.jz_tree.specs.Deciding.{same_expr_laws};
+
+    ghost laws = { same_expr_laws };
+}
+
+impl PartialEq for Var {
+    ghost use Rattle.std.specs.Cmp.{partial_equiv_from_equiv};
+    ghost use Rattle.jz_tree.specs.Deciding.{same_var, same_var_laws};
+
+    ghost eq = { same_var };
+
+    ghost laws = { partial_equiv_from_equiv same_var_laws };
+
+    fn eq(&self, other: &Var) -> bool
+        ensures value { result ≡ same_var self.now other.now }
+        ensures equal { IsTrue result ↔ (self.now ≡ other.now) }
+    {
+        self.same(other)
+    }
+}
+
+impl Eq for Var {
+    ghost use Rattle.jz_tree.specs.Deciding.{same_var_laws};
+
+    ghost laws = { same_var_laws };
+}
+
+impl PartialEq for Decl {
+    ghost use Rattle.std.specs.Cmp.{partial_equiv_from_equiv};
+    ghost use Rattle.jz_tree.specs.Deciding.{same_decl, same_decl_laws};
+
+    ghost eq = { same_decl };
+
+    ghost laws = { partial_equiv_from_equiv same_decl_laws };
+
+    fn eq(&self, other: &Decl) -> bool
+        ensures value { result ≡ same_decl self.now other.now }
+        ensures equal { IsTrue result ↔ (self.now ≡ other.now) }
+    {
+        self.same(other)
+    }
+}
+
+impl Eq for Decl {
+    ghost use Rattle.jz_tree.specs.Deciding.{same_decl_laws};
+
+    ghost laws = { same_decl_laws };
+}
+
+impl PartialEq for Ty {
+    ghost use Rattle.std.specs.Cmp.{partial_equiv_from_equiv};
+    ghost use Rattle.jz_tree.specs.Deciding.{same_ty, same_ty_laws};
+
+    ghost eq = { same_ty };
+
+    ghost laws = { partial_equiv_from_equiv same_ty_laws };
+
+    fn eq(&self, other: &Ty) -> bool
+        ensures value { result ≡ same_ty self.now other.now }
+        ensures equal { IsTrue result ↔ (self.now ≡ other.now) }
+    {
+        self.same(other)
+    }
+}
+
+impl Eq for Ty {
+    ghost use Rattle.jz_tree.specs.Deciding.{same_ty_laws};
+
+    ghost laws = { same_ty_laws };
+}
+
+impl PartialEq for Access {
+    ghost use Rattle.std.specs.Cmp.{partial_equiv_from_equiv};
+    ghost use Rattle.jz_tree.specs.Deciding.{same_access, same_access_laws};
+
+    ghost eq = { same_access };
+
+    ghost laws = { partial_equiv_from_equiv same_access_laws };
+
+    fn eq(&self, other: &Access) -> bool
+        ensures value { result ≡ same_access self.now other.now }
+        ensures equal { IsTrue result ↔ (self.now ≡ other.now) }
+    {
+        self.same(other)
+    }
+}
+
+impl Eq for Access {
+    ghost use Rattle.jz_tree.specs.Deciding.{same_access_laws};
+
+    ghost laws = { same_access_laws };
 }

@@ -1,6 +1,6 @@
 // Copies and comparisons, also of a left side as long as a text lets it be.
-use crate::{Access, BinOp, Decl, Expr, Storage, Ty, Var};
-use jz_data::{Boxed, Text};
+use crate::{Access, BinOp, Decl, Expr, Stmt, StmtKind, Storage, Ty, Var};
+use jz_data::{Boxed, Seq, Text};
 use jz_io::Span;
 use jz_words::Size;
 use std::alloc::{AllocError, Global};
@@ -26,12 +26,10 @@ fn a_long_chain(rt: HostRuntime) -> Result<(), Fail> {
     let alloc = rt.alloc();
     let long = chain(alloc, LENGTH, 1, 1)?;
     let copy = long.copy(alloc)?;
-    assert!(rt; copy.same(&long));
-    assert!(rt; !chain(alloc, LENGTH, 2, 1)?.same(&long));
-    assert!(rt; !chain(alloc, LENGTH, 1, 2)?.same(&long));
-    assert!(rt; !chain(alloc, LENGTH - 1, 1, 1)?.same(&long));
-    drop(long);
-    assert!(rt; copy.same(&copy));
+    assert!(rt; copy == long);
+    assert!(rt; chain(alloc, LENGTH, 2, 1)? != long);
+    assert!(rt; chain(alloc, LENGTH, 1, 2)? != long);
+    assert!(rt; chain(alloc, LENGTH - 1, 1, 1)? != long);
     Ok(())
 }
 
@@ -79,7 +77,25 @@ fn product(alloc: Global, length: i128) -> Result<Expr, AllocError> {
 fn every_part_counts(rt: HostRuntime) -> Result<(), Fail> {
     let alloc = rt.alloc();
     let whole = product(alloc, 9)?;
-    assert!(rt; whole.copy(alloc)?.same(&whole));
-    assert!(rt; !product(alloc, 8)?.same(&whole));
+    assert!(rt; whole.copy(alloc)? == whole);
+    assert!(rt; product(alloc, 8)? != whole);
+    Ok(())
+}
+
+fn choice(alloc: Global, cond: bool) -> Stmt {
+    Stmt {
+        notes: Seq::new(alloc),
+        span: HERE,
+        kind: StmtKind::If(Expr::Bool(cond, HERE), Seq::new(alloc), Seq::new(alloc)),
+    }
+}
+
+#[test]
+fn statements_are_copied(rt: HostRuntime) -> Result<(), Fail> {
+    let alloc = rt.alloc();
+    let whole = choice(alloc, true);
+    let copy = whole.copy(alloc)?;
+    assert!(rt; copy == whole);
+    assert!(rt; choice(alloc, false) != whole);
     Ok(())
 }

@@ -1,4 +1,4 @@
-use Rattle.std.proofs.Common.{◌≡◌, subst}
+use Rattle.std.proofs.Common.{subst}
 use Rattle.jz_cursor.specs.Gave.{Gave}
 use Rattle.jz_parse_stmt.proofs.StmtReads.{stmts_is, ifs_is}
 use Rattle.jz_parse_stmt.proofs.statement.+statements.Goals as goal

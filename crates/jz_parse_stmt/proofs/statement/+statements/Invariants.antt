@@ -1,4 +1,4 @@
-use Rattle.std.proofs.Common.{◌≡◌, ℕ, ◌+◌, ◌*◌, [], length}
+use Rattle.std.proofs.Common.{◌≡◌, ◌+◌, ◌*◌, [], length}
 use Rattle.jz_parse_stmt.specs.Readers.{stmts_more}
 use Rattle.jz_parse_stmt.proofs.statement.+statements.Given as goal
 
