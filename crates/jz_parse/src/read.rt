@@ -1,8 +1,9 @@
 //! The program that a list of tokens derives, or the first token that is wrong.
 
-ghost use Rattle.std.specs.Prelude.{◌≡◌, ℕ, List, IfOk, IfErr, length};
+ghost use Rattle.std.specs.Prelude.{◌≡◌, ◌<◌, ℕ, [], ◌∷◌, ◌++◌, List, IfOk, IfErr, length};
 ghost use Rattle.jz_data.specs.Failures.{IfRefused};
 ghost use Rattle.jz_lex.specs.declared.token.Token.{Token};
+ghost use Rattle.jz_lex.specs.declared.token.TokenKind.TheVariants.{End};
 ghost use Rattle.jz_grammar.specs.Reading.{final};
 ghost use Rattle.jz_cursor.specs.Gave.{numbered, IsNumbered};
 ghost use Rattle.jz_parse.specs.Readers.{program};
@@ -78,4 +79,9 @@ pub fn no_fault_of_a_program()
 /// The tokens have one fault at most.
 pub fn one_fault()
     ensures { (tokens : List Token) (fault other : SyntaxFault) → IsSyntaxFault tokens fault → IsSyntaxFault tokens other → fault ≡ other }
+{}
+
+/// Where an end token stands last, a fault is at one of the tokens.
+pub fn a_fault_is_at_a_token()
+    ensures { (front : List Token) (last : Token) (fault : SyntaxFault) → last.kind ≡ End → IsSyntaxFault (front ++ last ∷ []) fault → fault.token < length (front ++ last ∷ []) }
 {}
