@@ -5,7 +5,7 @@ use crate::tests::{COMPILE, NO_FAULTS, Row, SUM, answer_rows, run};
 use std::alloc::{AllocError, Global};
 use std::test::Fail;
 
-static ROWS: [Row; 29] = [
+static ROWS: [Row; 30] = [
     Row {
         words: &["jasminc"],
         text: SUM,
