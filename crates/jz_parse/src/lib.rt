@@ -11,4 +11,6 @@ mod tests;
 mod worked_tests;
 
 pub use jz_cursor::{SyntaxFault, SyntaxKind};
-pub use read::{a_fault_is_at_a_token, no_fault_of_a_program, one_fault, one_program, parse};
+pub use read::{
+    a_fault_is_at_a_token, no_fault_of_a_program, one_fault, one_program, one_reading, parse,
+};

@@ -1,6 +1,6 @@
 //! The program that a list of tokens derives, or the first token that is wrong.
 
-ghost use Rattle.std.specs.Prelude.{◌≡◌, ◌<◌, [], ◌∷◌, ◌++◌, List, IfOk, IfErr, length};
+ghost use Rattle.std.specs.Prelude.{◌≡◌, ◌<◌, ℕ, [], ◌∷◌, ◌++◌, List, IfOk, IfErr, length};
 ghost use Rattle.jz_data.specs.Failures.{IfRefused};
 ghost use Rattle.jz_lex.specs.declared.token.Token.{Token};
 ghost use Rattle.jz_lex.specs.declared.token.TokenKind.TheVariants.{End};
@@ -8,6 +8,7 @@ ghost use Rattle.jz_grammar.specs.Reading.{final};
 ghost use Rattle.jz_cursor.specs.Gave.{numbered, IsNumbered};
 ghost use Rattle.jz_parse.specs.Readers.{program};
 ghost use Rattle.jz_parse.specs.Deriving.{DerivesProgram, IsSyntaxFault};
+ghost use Rattle.jz_parse.specs.Reading.{Reads};
 
 use crate::program::program;
 use jz_cursor::{Cursor, SyntaxFault, SyntaxKind, fault_at};
@@ -59,6 +60,11 @@ pub fn parse(alloc: Global, tokens: &Tokens) -> Result<Program, Failure<SyntaxFa
         Err(Failure::OutOfMemory) => Err(Failure::OutOfMemory),
     }
 }
+
+/// A text reads as one program at most.
+pub fn one_reading()
+    ensures { (text : List ℕ) (program other : Program) → Reads text program → Reads text other → program ≡ other }
+{}
 
 /// The tokens derive one program at most.
 pub fn one_program()
