@@ -186,23 +186,43 @@ fn rhs_text(alloc: Global, rhs: &Rhs) -> Result<String, AllocError> {
     }
 }
 
+/// A loop: the lengths of its blocks, 99 where there is no body.
+fn while_text(
+    alloc: Global,
+    prologue: &Seq<Stmt>,
+    cond: &Expr,
+    body: &Option<Seq<Stmt>>,
+) -> Result<String, AllocError> {
+    let cond = expr_text(alloc, cond)?;
+    let body = match body {
+        Some(body) => body.len(),
+        None => 99,
+    };
+    format!(in alloc; "while {} {} {}", prologue.len(), cond.as_str(), body)
+}
+
+fn assign_text(
+    alloc: Global,
+    to: &Seq<Lval>,
+    rhs: &Rhs,
+    cond: &Option<Expr>,
+    op: &str,
+) -> Result<String, AllocError> {
+    let to = lvals_text(alloc, to)?;
+    let rhs = rhs_text(alloc, rhs)?;
+    let cond = match cond {
+        Some(cond) => expr_text(alloc, cond)?,
+        None => String::from_str(alloc, "always")?,
+    };
+    format!(in alloc; "{}{op} {} if {}", to.as_str(), rhs.as_str(), cond.as_str())
+}
+
 /// What a statement does; of a block the number of its statements.
 fn kind_text(alloc: Global, kind: &StmtKind) -> Result<String, AllocError> {
     match kind {
         StmtKind::Assign { to, op, rhs, cond } => {
-            let to = lvals_text(alloc, to)?;
-            let rhs = rhs_text(alloc, rhs)?;
-            let cond = match cond {
-                Some(cond) => expr_text(alloc, cond)?,
-                None => String::from_str(alloc, "always")?,
-            };
-            format!(in alloc;
-                "{}{:?} {} if {}",
-                to.as_str(),
-                op,
-                rhs.as_str(),
-                cond.as_str()
-            )
+            let op = format!(in alloc; "{:?}", op)?;
+            assign_text(alloc, to, rhs, cond, op.as_str())
         }
         StmtKind::If(cond, then, other) => {
             let cond = expr_text(alloc, cond)?;
@@ -212,14 +232,7 @@ fn kind_text(alloc: Global, kind: &StmtKind) -> Result<String, AllocError> {
             prologue,
             cond,
             body,
-        } => {
-            let cond = expr_text(alloc, cond)?;
-            let body = match body {
-                Some(body) => body.len(),
-                None => 99,
-            };
-            format!(in alloc; "while {} {} {}", prologue.len(), cond.as_str(), body)
-        }
+        } => while_text(alloc, prologue, cond, body),
         StmtKind::For {
             counter,
             from,
@@ -227,15 +240,15 @@ fn kind_text(alloc: Global, kind: &StmtKind) -> Result<String, AllocError> {
             to,
             body,
         } => {
-            let counter = var_text(alloc, counter)?;
+            let name = var_text(alloc, counter)?;
             let from = expr_text(alloc, from)?;
             let to = expr_text(alloc, to)?;
+            let count = body.len();
             format!(in alloc;
-                "for {} {} {down} {} {}",
-                counter.as_str(),
+                "for {} {} {down} {} {count}",
+                name.as_str(),
                 from.as_str(),
-                to.as_str(),
-                body.len()
+                to.as_str()
             )
         }
         StmtKind::Mark(_) => String::from_str(alloc, "mark"),
