@@ -11,7 +11,7 @@ use jz_data::{Boxed, Seq, Text};
 use jz_io::Span;
 use jz_parse_expr::index;
 use jz_parse_stmt::notes;
-use jz_tree::{Decl, Note, NoteValue, Param, Ret, Storage, Ty, Var};
+use jz_tree::{Decl, Note, Param, Ret, Storage, Ty, Var, copy_notes};
 use std::alloc::{AllocError, Global};
 
 /// A name and its place.
@@ -101,32 +101,6 @@ fn name_list(alloc: Global, c: &mut Cursor) -> Result<Seq<Name>, Stop>
     names_more(alloc, c, out)
 }
 
-fn note_copy(alloc: Global, note: &Note) -> Result<Note, AllocError>
-    ensures { IfOk result (λ copy. copy ≡ note.now) }
-{
-    let value = match &note.value {
-        NoteValue::None => NoteValue::None,
-        NoteValue::Name(name) => NoteValue::Name(name.clone()?),
-        NoteValue::Num(value) => NoteValue::Num(*value),
-        NoteValue::Str(bytes) => NoteValue::Str(Seq::from_slice(alloc, bytes.as_slice())?),
-    };
-    Ok(Note {
-        name: note.name.clone()?,
-        value,
-        span: note.span,
-    })
-}
-
-fn notes_copy(alloc: Global, notes: &Seq<Note>) -> Result<Seq<Note>, AllocError>
-    ensures { IfOk result (λ copy. copy ≡ notes.now) }
-{
-    let mut out = Seq::new(alloc);
-    for note in notes.as_slice() {
-        out.push(note_copy(alloc, note)?)?;
-    }
-    Ok(out)
-}
-
 /// A variable of this declaration.
 fn declared(alloc: Global, decl: &Decl, name: Name) -> Result<Var, AllocError>
     ensures { IfOk result (λ var. var ≡ declared_of decl.now name) }
@@ -152,7 +126,7 @@ fn params_of(
 {
     let mut out = Seq::new(alloc);
     for name in names.into_vec() {
-        let notes = notes_copy(alloc, notes)?;
+        let notes = copy_notes(alloc, notes)?;
         let var = declared(alloc, decl, name)?;
         out.push(Param { notes, var })?;
     }

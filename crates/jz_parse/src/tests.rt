@@ -517,26 +517,3 @@ fn reads_long_sums(rt: HostRuntime) -> Result<(), Fail> {
     assert_eq!(rt; assigned_length(stmt), Some(262_144));
     Ok(())
 }
-
-#[test]
-fn reads_whole_programs(rt: HostRuntime) -> Result<(), Fail> {
-    let alloc = rt.alloc();
-    for text in [
-        "export fn add(reg u64 x, reg u64 y) -> reg u64 { reg u64 r; r = x; r += y; return r; }\n",
-        "export fn add2x(reg u64 a b c d) -> reg u64, reg u64 {\n  reg u64 x y;\n  reg bool cf;\n  x = a;\n  cf, x += c;\n  x ^= a;\n  y = b;\n  cf, y += d + cf;\n  return x, y;\n}\n",
-        "export fn s15() -> reg u64 { reg u64[15] a; reg u64 r; inline int i; for i = 0 to 15 { a[i] = i + 1; } for i = 1 to 15 { a[0] += a[i]; } r = a[0]; return r; }\n",
-        "export fn sum8(reg u64 x i) -> reg u64 {\n  stack u64[8] s;\n  reg u64 r;\n  inline int k;\n  for k = 0 to 8 { s[k] = x; }\n  r = 0; i = 0;\n  while (i < 8) {\n    r += s[i];\n    i += 1;\n  }\n  return r;\n}\n",
-        "#[region=\"p: 8*len\"]\n#[range=\"len: 0..1024\"]\n#[align=\"p: 8\"]\nexport fn tot(#public reg u64 p, #public reg u64 len, reg u64 i) -> reg u64 {\n  reg u64 r;\n  r = 0; i = 0;\n  while (i < len) {\n    r += [p + 8*i];\n    i += 1;\n  }\n  return r;\n}\n",
-        "#[range=\"y: 1..9\"]\nexport fn quo(#public reg u64 x y) -> reg u64 {\n  reg u64 q;\n  q = x / y;\n  return q;\n}\n",
-        "export fn z(#secret reg u64 s) -> reg u64 {\n  reg u64 r t;\n  r = 1; t = 0;\n  r = t if s == 0;\n  return r;\n}\n",
-        "export fn spin() { while (true) { } }\n",
-        "export fn down() -> reg u64 {\n  reg u64[4] a;\n  reg u64 r;\n  inline int i;\n  for i = 4 downto 0 { a[i] = i; }\n  r = 0;\n  for i = 4 downto 0 { r += a[i]; }\n  return r;\n}\n",
-        "export fn sh(reg u64 x y z w) -> reg u64 {\n  reg u64 r;\n  reg u8 c;\n  r = x;\n  c = (8u)y;\n  r <<= c & 63;\n  r += w;\n  return r;\n}\n",
-        "export fn lowb(reg u8 b) -> reg u64 { reg u64 r; r = (64u)b; return r; }\n",
-    ] {
-        let tokens = tokens_of(&rt, alloc, text)?;
-        let program = parse(alloc, &tokens).ok().ok_or("the text is no program")?;
-        assert_eq!(rt; program.funs.len(), 1);
-    }
-    Ok(())
-}
