@@ -1,0 +1,16 @@
+//! Which row of the pattern table, or which intrinsic, a typed statement matches.
+#![tactic(auto)]
+
+mod class;
+mod look;
+mod operand;
+mod pattern;
+mod places;
+mod rows;
+mod selecting;
+mod shape;
+mod shaping;
+mod spelling;
+
+pub use pattern::{Intrinsic, Pattern};
+pub use selecting::select;
