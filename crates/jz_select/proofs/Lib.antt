@@ -1,3 +1,3 @@
 pub mod Joins
-pub mod Tests
+pub mod Conditions
 pub mod FirstRow

@@ -14,3 +14,6 @@ mod spelling;
 
 pub use pattern::{Intrinsic, Pattern};
 pub use selecting::select;
+
+#[cfg(test)]
+mod tests;

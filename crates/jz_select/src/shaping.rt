@@ -130,7 +130,7 @@ fn compares(op: BinOp, a: Class, o: Class) -> bool
 }
 
 // A test by its outermost operation.
-#[tactic(auto, using(crate::proofs::Tests::test_out))]
+#[tactic(auto, using(crate::proofs::Conditions::test_out))]
 fn test_law(e: &Expr)
     ensures { (b : Bool) → is_test b e.now ≡ test_layer b (out-Expr e.now) }
 {}
