@@ -1,7 +1,7 @@
 -- The first row of a list, and the first of all rows.
-use Rattle.std.proofs.Common.{ℕ, Bool, true, false, List, [], ◌∷◌, ◌++◌, ◌≡◌, refl, sym, ap, subst, ◌∙◌, Option, Some, None, if◌then◌else◌}
-use Rattle.std.specs.Prelude.{All, map}
-use Rattle.std.proofs.lemmas.List.Elements.{All-nil, All-cons}
+use Rattle.std.proofs.Common.{Bool, true, false, List, [], ◌∷◌, ◌++◌, ◌≡◌, refl, sym, ap, subst, ◌∙◌, Option, Some, None, if◌then◌else◌}
+use Rattle.std.specs.Prelude.{map}
+use Rattle.std.proofs.lemmas.List.Elements.{All-nil, All-cons, All-head, All-tail}
 use Rattle.jz_select.specs.declared.pattern.Pattern.{Pattern}
 use Rattle.jz_select.specs.declared.pattern.Pattern.TheVariants as pattern
 use Rattle.jz_select.specs.declared.pattern.Intrinsic.{Intrinsic}
@@ -10,7 +10,7 @@ use Rattle.jz_select.specs.declared.shape.Shape.{Shape}
 use Rattle.jz_select.specs.Rows.{intrinsic_of}
 use Rattle.jz_tree.specs.declared.stmt.StmtKind.{StmtKind}
 use Rattle.jz_select.specs.Shapes.{shape_of}
-use Rattle.jz_select.specs.Selected.{Row, table, rows, intrinsics, intrinsic_row, is_named, NoneMatches, FirstMatches, Tells, IsSelected, first_of, named, or_pattern, chosen}
+use Rattle.jz_select.specs.Selected.{Row, table, rows, intrinsics, intrinsic_row, is_named, NoneMatches, Tells, IsSelected, first_of, named, or_pattern, chosen}
 
 all_nil : (s : Shape) → NoneMatches [] s
 all_nil s = All-nil (λ q. q.1 s ≡ false)
@@ -83,3 +83,23 @@ chosen_is s = first_append table (map intrinsic_row intrinsics) s
 pub is_selected : (k : StmtKind) (answer : Option Pattern) → answer ≡ chosen (shape_of k) → IsSelected k answer
 unfolding IsSelected
 is_selected k answer e = subst (λ x. Tells rows (shape_of k) x) (chosen_is (shape_of k) ∙ sym e) (first_tells rows (shape_of k))
+
+none_first : (rs : List Row) (s : Shape) → NoneMatches rs s → first_of rs s ≡ None
+none_first [] s none = refl
+none_first (r ∷ rs) s none = ap (λ b. if b then Some r.0 else first_of rs s) (All-head (λ q. q.1 s ≡ false) r rs none)
+    ∙ none_first rs s (All-tail (λ q. q.1 s ≡ false) r rs none)
+
+first_behind : (before : List Row) (r : Row) (after : List Row) (s : Shape) → NoneMatches before s → r.1 s ≡ true → first_of (before ++ r ∷ after) s ≡ Some r.0
+first_behind [] r after s none e = ap (λ b. if b then Some r.0 else first_of after s) e
+first_behind (q ∷ qs) r after s none e = ap (λ b. if b then Some q.0 else first_of (qs ++ r ∷ after) s) (All-head (λ x. x.1 s ≡ false) q qs none)
+    ∙ first_behind qs r after s (All-tail (λ x. x.1 s ≡ false) q qs none) e
+
+told : (rs : List Row) (s : Shape) (answer : Option Pattern) → Tells rs s answer → answer ≡ first_of rs s
+told rs s None t = sym (none_first rs s t)
+told rs s (Some p) (r, is, (before, after, parts, holds, none)) =
+    sym (ap (λ xs. first_of xs s) parts ∙ (first_behind before r after s none holds ∙ ap Some is))
+
+-- one answer at most is selected
+pub one_selected : (k : StmtKind) (a b : Option Pattern) → IsSelected k a → IsSelected k b → a ≡ b
+unfolding IsSelected
+one_selected k a b t u = told rows (shape_of k) a t ∙ sym (told rows (shape_of k) b u)

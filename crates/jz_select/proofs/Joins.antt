@@ -1,5 +1,5 @@
 -- Sums are joined in any grouping.
-use Rattle.std.proofs.Common.{◌≡◌, ℕ, ◌+◌, ◌<◌, Bool, true, false, ◌&&◌, refl, sym, ap, ◌∙◌, arith}
+use Rattle.std.proofs.Common.{◌≡◌, ℕ, Bool, true, false, ◌&&◌, refl, ap, ◌∙◌, arith}
 use Rattle.std.proofs.lemmas.Bool.Decides.{nat_tests}
 use Rattle.jz_select.specs.declared.class.Sum.{Sum}
 use Rattle.jz_select.specs.Sums.{joined, capped, sum_of}

@@ -1,6 +1,5 @@
 -- What an expression is: inline, a register of 64 bits, such a register times a scale; and the terms of its sum.
-use Rattle.std.specs.Prelude.{ℕ, ℤ, Bool, true, false, ◌&&◌, ◌||◌, List, Option, Some, None, if◌then◌else◌}
-use Rattle.jz_words.specs.declared.size.Size.{Size}
+use Rattle.std.specs.Prelude.{Bool, true, false, ◌&&◌, ◌||◌, Option, Some}
 use Rattle.jz_words.specs.declared.size.Size.TheVariants as sizes
 use Rattle.jz_tree.specs.declared.expr.Storage.{Storage}
 use Rattle.jz_tree.specs.declared.expr.Storage.TheVariants as storage
@@ -9,7 +8,7 @@ use Rattle.jz_tree.specs.declared.expr.BinOp.TheVariants as op
 use Rattle.jz_tree.specs.declared.expr.Expr.{Expr}
 use Rattle.jz_tree.specs.declared.expr.Var.{Var}
 use Rattle.jz_tree.specs.declared.expr.Ty.{Ty}
-use Rattle.jz_tree.specs.declared.expr.Expr.TheOpen.{Expr-F, Ty-F, Var-F, Decl-F}
+use Rattle.jz_tree.specs.declared.expr.Expr.TheOpen.{Expr-F, Ty-F}
 use Rattle.jz_tree.specs.declared.expr.Expr.TheFolds.{fold-Expr, fold-Var, fold-Ty}
 use Rattle.jz_select.specs.declared.class.Sum.{Sum}
 use Rattle.jz_select.specs.declared.look.Kind.{Kind}

@@ -1,9 +1,8 @@
 -- The class of an operand and of a result.
-use Rattle.std.specs.Prelude.{ℤ, pos, Bool, true, false, ◌&&◌, Option, Some, None, if◌then◌else◌}
+use Rattle.std.specs.Prelude.{pos, Bool, true, false, ◌&&◌, Option, Some, if◌then◌else◌}
 use Rattle.std.specs.Ordering.{int_eq}
 use Rattle.jz_words.specs.declared.size.Size.{Size}
 use Rattle.jz_words.specs.declared.size.Size.TheVariants as sizes
-use Rattle.jz_tree.specs.declared.expr.Storage.{Storage}
 use Rattle.jz_tree.specs.declared.expr.Storage.TheVariants as storage
 use Rattle.jz_tree.specs.declared.expr.BinOp.{BinOp}
 use Rattle.jz_tree.specs.declared.expr.BinOp.TheVariants as op
@@ -17,7 +16,6 @@ use Rattle.jz_select.specs.declared.class.Mask.TheVariants as mask
 use Rattle.jz_select.specs.declared.class.Class.{Class}
 use Rattle.jz_select.specs.declared.class.Class.TheVariants as class
 use Rattle.jz_select.specs.declared.class.Operand.{Operand}
-use Rattle.jz_select.specs.declared.look.Kind.{Kind}
 use Rattle.jz_select.specs.declared.look.Kind.TheVariants as kind
 use Rattle.jz_select.specs.Sums.{is_address, is_index}
 use Rattle.jz_select.specs.Look.{Decided, decl_of, look_of, terms_of}

@@ -1,6 +1,6 @@
 -- The rows of the pattern table and the intrinsics, by the classes of their operands. R is a register, M memory, I an
 -- inline expression; d is R or M.
-use Rattle.std.specs.Prelude.{ℕ, Bool, true, false, ◌&&◌, ◌||◌, not, nat_lt, Option, Some, None, if◌then◌else◌}
+use Rattle.std.specs.Prelude.{Bool, true, false, ◌&&◌, ◌||◌, not, nat_lt, Option, Some, None, if◌then◌else◌}
 use Rattle.jz_words.specs.declared.size.Size.{Size}
 use Rattle.jz_words.specs.declared.size.Size.TheVariants as sizes
 use Rattle.jz_words.specs.Sizes.{bits_of}
@@ -15,7 +15,6 @@ use Rattle.jz_select.specs.declared.class.Meeting.TheVariants as meeting
 use Rattle.jz_select.specs.declared.class.Operand.{Operand}
 use Rattle.jz_select.specs.declared.pattern.Intrinsic.{Intrinsic}
 use Rattle.jz_select.specs.declared.pattern.Intrinsic.TheVariants as name
-use Rattle.jz_select.specs.declared.shape.Value.{Value}
 use Rattle.jz_select.specs.declared.shape.Value.TheVariants as values
 use Rattle.jz_select.specs.declared.shape.Shape.{Shape}
 use Rattle.jz_select.specs.declared.shape.Shape.TheVariants as shapes

@@ -1,6 +1,5 @@
 -- A statement in the words of the table.
-use Rattle.std.specs.Prelude.{ℕ, Bool, true, false, ◌&&◌, ◌||◌, not, List, [], ◌∷◌, Option, Some, None, if◌then◌else◌}
-use Rattle.jz_words.specs.declared.size.Size.{Size}
+use Rattle.std.specs.Prelude.{Bool, true, false, ◌&&◌, ◌||◌, not, List, [], ◌∷◌, Option, Some, None, if◌then◌else◌}
 use Rattle.jz_tree.specs.declared.expr.BinOp.{BinOp}
 use Rattle.jz_tree.specs.declared.expr.BinOp.TheVariants as op
 use Rattle.jz_tree.specs.declared.expr.Expr.{Expr}
@@ -33,7 +32,7 @@ use Rattle.jz_select.specs.declared.shaping.Flags.{Flags}
 use Rattle.jz_select.specs.declared.shaping.Flags.TheVariants as flags
 use Rattle.jz_select.specs.Look.{decl_of, look_of, is_inline_var, terms_of}
 use Rattle.jz_select.specs.Sums.{is_sum}
-use Rattle.jz_select.specs.Places.{Layer, meeting_of}
+use Rattle.jz_select.specs.Places.{Layer}
 use Rattle.jz_select.specs.Operands.{class_of, dest_of, operand_of, var_class}
 use Rattle.jz_select.specs.Spellings.{spelled}
 use Rattle.jz_select.specs.Rows.{is_m, is_rm, is_rmi, is_flag, is_flag_result, is_apart}

@@ -1,4 +1,6 @@
 // The row of a statement.
+ghost use Rattle.std.specs.Prelude.{◌≡◌, Option};
+ghost use Rattle.jz_select.specs.declared.pattern.Pattern.{Pattern};
 ghost use Rattle.jz_select.specs.Selected.{IsSelected};
 
 use crate::pattern::Pattern;
@@ -15,3 +17,9 @@ pub fn select(statement: &Stmt) -> Option<Pattern>
 {
     choose(shape(&statement.kind))
 }
+
+/// A statement has one answer: its row is the only one that is selected.
+#[tactic(auto, using(crate::proofs::FirstRow::one_selected))]
+pub fn one_row(statement: &Stmt)
+    ensures { (a b : Option Pattern) → IsSelected statement.now.kind a → IsSelected statement.now.kind b → a ≡ b }
+{}

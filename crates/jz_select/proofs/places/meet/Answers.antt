@@ -1,4 +1,4 @@
-use Rattle.std.proofs.Common.{◌≡◌, ap, sym, ◌∙◌}
+use Rattle.std.proofs.Common.{ap, sym, ◌∙◌}
 use Rattle.jz_tree.specs.declared.expr.Expr.TheViews.{out-Expr}
 use Rattle.jz_select.specs.Places.{named, meeting_of, cell_layer_meets, elsewhere, touches, literal}
 use Rattle.jz_select.proofs.places.meet.Goals as goal
