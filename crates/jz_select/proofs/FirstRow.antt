@@ -9,8 +9,10 @@ use Rattle.jz_select.specs.declared.pattern.Intrinsic.TheVariants as name
 use Rattle.jz_select.specs.declared.shape.Shape.{Shape}
 use Rattle.jz_select.specs.Rows.{intrinsic_of}
 use Rattle.jz_tree.specs.declared.stmt.StmtKind.{StmtKind}
-use Rattle.jz_select.specs.Shapes.{shape_of}
-use Rattle.jz_select.specs.Selected.{Row, table, rows, intrinsics, intrinsic_row, is_named, NoneMatches, Tells, IsSelected, first_of, named, or_pattern, chosen}
+use Rattle.jz_tree.specs.declared.expr.Expr.{Expr}
+use Rattle.jz_tree.specs.declared.stmt.Lval.{Lval}
+use Rattle.jz_select.specs.Shapes.{assign_of, shape_of}
+use Rattle.jz_select.specs.Selected.{Row, table, rows, intrinsics, intrinsic_row, is_named, NoneMatches, Tells, IsCopied, IsSelected, first_of, named, or_pattern, chosen}
 
 all_nil : (s : Shape) → NoneMatches [] s
 all_nil s = All-nil (λ q. q.1 s ≡ false)
@@ -80,9 +82,16 @@ unfolding chosen
 chosen_is s = first_append table (map intrinsic_row intrinsics) s
     ∙ ap (or_pattern (first_of table s)) (rows_by_name intrinsics s ∙ all_named (intrinsic_of s))
 
+chosen_tells : (s : Shape) (answer : Option Pattern) → answer ≡ chosen s → Tells rows s answer
+chosen_tells s answer e = subst (λ x. Tells rows s x) (chosen_is s ∙ sym e) (first_tells rows s)
+
 pub is_selected : (k : StmtKind) (answer : Option Pattern) → answer ≡ chosen (shape_of k) → IsSelected k answer
 unfolding IsSelected
-is_selected k answer e = subst (λ x. Tells rows (shape_of k) x) (chosen_is (shape_of k) ∙ sym e) (first_tells rows (shape_of k))
+is_selected k answer e = chosen_tells (shape_of k) answer e
+
+pub is_copied : (to : Lval) (x : Expr) (answer : Option Pattern) → answer ≡ chosen (assign_of None to None x) → IsCopied to x answer
+unfolding IsCopied
+is_copied to x answer e = chosen_tells (assign_of None to None x) answer e
 
 none_first : (rs : List Row) (s : Shape) → NoneMatches rs s → first_of rs s ≡ None
 none_first [] s none = refl

@@ -7,7 +7,9 @@ use Rattle.jz_select.specs.declared.pattern.Intrinsic.{Intrinsic}
 use Rattle.jz_select.specs.declared.pattern.Intrinsic.TheVariants as name
 use Rattle.jz_select.specs.declared.shape.Shape.{Shape}
 use Rattle.jz_select.specs.Rows.{p1, p2, p3, p4, p5, p6, p7, p8, p9, p10, p11, p12, p13, p14, condition, intrinsic_of}
-use Rattle.jz_select.specs.Shapes.{shape_of}
+use Rattle.jz_tree.specs.declared.expr.Expr.{Expr}
+use Rattle.jz_tree.specs.declared.stmt.Lval.{Lval}
+use Rattle.jz_select.specs.Shapes.{assign_of, shape_of}
 
 -- a pattern, and which statements match it
 abbrev pub Row : Type 0
@@ -79,6 +81,10 @@ Tells rs s (Some p) = (r : Row) × (r.0 ≡ p) × FirstMatches rs s r
 -- the statement matches the row of that pattern, and no row before it; or it matches none
 unfoldable pub IsSelected : StmtKind → Option Pattern → Type 0
 IsSelected k answer = Tells rows (shape_of k) answer
+
+-- the same of `to = e`, as a copy of an argument or result of a call is
+unfoldable pub IsCopied : Lval → Expr → Option Pattern → Type 0
+IsCopied to e answer = Tells rows (assign_of None to None e) answer
 
 -- ---- the same by a function
 abbrev pub first_of : List Row → Shape → Option Pattern

@@ -13,7 +13,7 @@ mod shaping;
 mod spelling;
 
 pub use pattern::{Intrinsic, Pattern};
-pub use selecting::{one_row, select};
+pub use selecting::{one_row, select, select_copy};
 
 #[cfg(test)]
 mod tests;

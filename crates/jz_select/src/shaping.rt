@@ -98,7 +98,7 @@ fn update(d: &Lval, op: BinOp, e: &Expr) -> Value
     }
 }
 
-fn assign(lead: Option<Class>, d: &Lval, op: Option<BinOp>, e: &Expr) -> Shape
+pub fn assign(lead: Option<Class>, d: &Lval, op: Option<BinOp>, e: &Expr) -> Shape
     ensures { result ≡ assign_of lead d.now op e.now }
 {
     match op {

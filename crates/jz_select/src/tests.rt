@@ -409,3 +409,37 @@ fn intrinsics(rt: HostRuntime) -> Result<(), Fail> {
     }
     Ok(())
 }
+
+const LENGTH: u32 = 500_000;
+
+// `[r1 + 1 + 1 ..]`
+fn long_access(rt: &impl Abort, alloc: Global) -> Result<Access, AllocError> {
+    let mut at = pop(rt, &mut exprs(rt, alloc, "r1")?);
+    for _ in 0..LENGTH {
+        let one = Boxed::new(alloc, Expr::Num(1, HERE))?;
+        at = Expr::Bin(BinOp::Add, Boxed::new(alloc, at)?, one, HERE);
+    }
+    Ok(Access {
+        size: Some(Size::S64),
+        at: Boxed::new(alloc, at)?,
+        unaligned: false,
+        span: HERE,
+    })
+}
+
+#[test]
+fn a_long_address(rt: HostRuntime) -> Result<(), Fail> {
+    let alloc = rt.alloc();
+    let mut to = Seq::new(alloc);
+    to.push(Lval::Store(long_access(&rt, alloc)?))?;
+    let left = Boxed::new(alloc, Expr::Load(long_access(&rt, alloc)?))?;
+    let right = Boxed::new(alloc, pop(&rt, &mut exprs(&rt, alloc, "r2")?))?;
+    let kind = StmtKind::Assign {
+        to,
+        op: None,
+        rhs: Rhs::Value(Expr::Bin(BinOp::Add, left, right, HERE)),
+        cond: None,
+    };
+    assert_eq!(rt; selected(alloc, kind), Some(Pattern::P(2)));
+    Ok(())
+}
