@@ -1,0 +1,82 @@
+-- What an expression is: inline, a register of 64 bits, such a register times a scale; and the terms of its sum.
+use Rattle.std.specs.Prelude.{Bool, true, false, ◌&&◌, ◌||◌, Option, Some}
+use Rattle.jz_words.specs.declared.size.Size.TheVariants as sizes
+use Rattle.jz_tree.specs.declared.expr.Storage.{Storage}
+use Rattle.jz_tree.specs.declared.expr.Storage.TheVariants as storage
+use Rattle.jz_tree.specs.declared.expr.BinOp.{BinOp}
+use Rattle.jz_tree.specs.declared.expr.BinOp.TheVariants as op
+use Rattle.jz_tree.specs.declared.expr.Expr.{Expr}
+use Rattle.jz_tree.specs.declared.expr.Var.{Var}
+use Rattle.jz_tree.specs.declared.expr.Ty.{Ty}
+use Rattle.jz_tree.specs.declared.expr.Expr.TheOpen.{Expr-F, Ty-F}
+use Rattle.jz_tree.specs.declared.expr.Expr.TheFolds.{fold-Expr, fold-Var, fold-Ty}
+use Rattle.jz_select.specs.declared.class.Sum.{Sum}
+use Rattle.jz_select.specs.declared.look.Kind.{Kind}
+use Rattle.jz_select.specs.declared.look.Kind.TheVariants as kind
+use Rattle.jz_select.specs.Sums.{joined, term, taken, sum_of}
+
+pub record Look : Type 0 where
+  pub inline : Bool
+  pub reg : Bool
+  pub scaled : Bool
+  pub sum : Sum
+
+-- a declaration without the length of its array
+abbrev pub Decided : Type 0
+Decided = Option (Storage × Kind)
+
+abbrev pub kind_step : {A B C D E : Type 0} → Ty-F A B C D E → Kind
+kind_step Ty-F.Int = kind.Int
+kind_step (Ty-F.Ty::Bool) = kind.Bool
+kind_step (Ty-F.Word z) = kind.Word z
+kind_step (Ty-F.Array z n) = kind.Array z
+
+abbrev pub is_inline_var : Decided → Bool
+is_inline_var (Some (storage.Inline, kind.Int)) = true
+is_inline_var _ = false
+
+abbrev pub is_reg64 : Decided → Bool
+is_reg64 (Some (storage.Reg, kind.Word sizes.S64)) = true
+is_reg64 _ = false
+
+abbrev pub is_regs64 : Decided → Bool
+is_regs64 (Some (storage.Reg, kind.Array sizes.S64)) = true
+is_regs64 _ = false
+
+abbrev pub looks : Bool → Bool → Bool → Look
+looks i r s = record { inline = i; reg = r; scaled = s; sum = term i r s }
+
+-- a register times an inline expression, in either order; what value a scale may have the expansion asks
+abbrev pub bin_scaled : BinOp → Look → Look → Bool
+bin_scaled op.Mul a b = (a.reg && b.inline) || (a.inline && b.reg)
+bin_scaled _ a b = false
+
+-- sums are added term by term; only an inline expression is taken away
+abbrev pub bin_sum : BinOp → Look → Look → Sum
+bin_sum op.Add a b = joined b.sum a.sum
+bin_sum op.Sub a b = joined (taken b.inline) a.sum
+bin_sum o a b = term (b.inline && a.inline) false (bin_scaled o a b)
+
+abbrev pub look_step : Expr-F Look Kind Look (Storage × Kind) Decided → Look
+look_step (Expr-F.Num n at) = looks true false false
+look_step (Expr-F.Expr::Bool b at) = looks true false false
+look_step (Expr-F.Var v) = looks (is_inline_var v) (is_reg64 v) false
+look_step (Expr-F.Cell v at) = looks false (is_regs64 v && at.inline) false
+look_step (Expr-F.Load a) = looks false false false
+look_step (Expr-F.Neg a at) = looks a.inline false false
+look_step (Expr-F.Not a at) = looks a.inline false false
+look_step (Expr-F.Cast size signed a at) = looks false false false
+look_step (Expr-F.Bin o a b at) = record { inline = b.inline && a.inline; reg = false; scaled = bin_scaled o a b; sum = bin_sum o a b }
+
+abbrev pub look_of : Expr → Look
+look_of = fold-Expr _ _ _ _ _ look_step kind_step (λ a. a.at) (λ d. (d.storage, d.ty)) (λ v. v.decl)
+
+abbrev pub decl_of : Var → Decided
+decl_of = fold-Var _ _ _ _ _ look_step kind_step (λ a. a.at) (λ d. (d.storage, d.ty)) (λ v. v.decl)
+
+abbrev pub kind_of_ty : Ty → Kind
+kind_of_ty = fold-Ty _ _ _ _ _ look_step kind_step (λ a. a.at) (λ d. (d.storage, d.ty)) (λ v. v.decl)
+
+-- the terms of a sum
+abbrev pub terms_of : Expr → Sum
+terms_of e = joined (sum_of 0 0 true) (look_of e).sum

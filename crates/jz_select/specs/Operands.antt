@@ -1,0 +1,86 @@
+-- The class of an operand and of a result.
+use Rattle.std.specs.Prelude.{pos, Bool, true, false, ◌&&◌, Option, Some, if◌then◌else◌}
+use Rattle.std.specs.Ordering.{int_eq}
+use Rattle.jz_words.specs.declared.size.Size.{Size}
+use Rattle.jz_words.specs.declared.size.Size.TheVariants as sizes
+use Rattle.jz_tree.specs.declared.expr.Storage.TheVariants as storage
+use Rattle.jz_tree.specs.declared.expr.BinOp.{BinOp}
+use Rattle.jz_tree.specs.declared.expr.BinOp.TheVariants as op
+use Rattle.jz_tree.specs.declared.expr.Expr.{Expr}
+use Rattle.jz_tree.specs.declared.expr.Var.{Var}
+use Rattle.jz_tree.specs.declared.expr.Expr.TheOpen.{Expr-F}
+use Rattle.jz_tree.specs.declared.expr.Expr.TheViews.{out-Expr, out-Access}
+use Rattle.jz_tree.specs.declared.stmt.Lval.{Lval}
+use Rattle.jz_tree.specs.declared.stmt.Lval.TheVariants as lval
+use Rattle.jz_select.specs.declared.class.Mask.TheVariants as mask
+use Rattle.jz_select.specs.declared.class.Class.{Class}
+use Rattle.jz_select.specs.declared.class.Class.TheVariants as class
+use Rattle.jz_select.specs.declared.class.Operand.{Operand}
+use Rattle.jz_select.specs.declared.look.Kind.TheVariants as kind
+use Rattle.jz_select.specs.Sums.{is_address, is_index}
+use Rattle.jz_select.specs.Look.{Decided, decl_of, look_of, terms_of}
+use Rattle.jz_select.specs.Places.{Layer, meeting_of}
+
+abbrev pub var_class : Decided → Class
+var_class (Some (storage.Reg, kind.Word z)) = class.Reg z
+var_class (Some (storage.Stack, kind.Word z)) = class.Mem (Some z)
+var_class (Some (storage.Reg, kind.Bool)) = class.Flag
+var_class (Some (storage.Inline, kind.Int)) = class.Inline
+var_class _ = class.Other
+
+-- the index of a register array is inline
+abbrev pub cell_class : Decided → Bool → Bool → Class
+cell_class (Some (storage.Reg, kind.Array z)) inline index = if inline then class.Reg z else class.Other
+cell_class (Some (storage.Stack, kind.Array z)) inline index = if index then class.Mem (Some z) else class.Other
+cell_class _ inline index = class.Other
+
+abbrev pub cell_of : Var → Expr → Class
+cell_of v at = cell_class (decl_of v) (look_of at).inline (is_index (terms_of at))
+
+abbrev pub mem_of : Option Size → Expr → Class
+mem_of z at = if is_address (terms_of at) then class.Mem z else class.Other
+
+abbrev pub inline_or : Bool → Class → Class
+inline_or b c = if b then class.Inline else c
+
+-- a mask that is a number as it is written has to be 31 or 63; the value of another constant expression the expansion asks
+abbrev pub mask_layer : Expr → Layer → Class
+mask_layer e (Expr-F.Num k at) = if int_eq k (pos 31) then class.Masked mask.Five else if int_eq k (pos 63) then class.Masked mask.Six else class.Other
+mask_layer e _ = if (look_of e).inline then class.Masked mask.Undecided else class.Other
+
+abbrev pub is_byte : Class → Bool
+is_byte (class.Reg sizes.S8) = true
+is_byte _ = false
+
+abbrev pub register_layer : Layer → Class
+register_layer (Expr-F.Var v) = var_class (decl_of v)
+register_layer (Expr-F.Cell v at) = cell_of v at
+register_layer _ = class.Other
+
+-- `v & k`, v a byte in a register
+abbrev pub masked : BinOp → Expr → Expr → Class
+masked op.And a b = if is_byte (register_layer (out-Expr a)) then mask_layer b (out-Expr b) else class.Other
+masked _ a b = class.Other
+
+abbrev pub class_layer : Layer → Class
+class_layer (Expr-F.Num n at) = class.Inline
+class_layer (Expr-F.Expr::Bool b at) = class.Inline
+class_layer (Expr-F.Var v) = var_class (decl_of v)
+class_layer (Expr-F.Cell v at) = cell_of v at
+class_layer (Expr-F.Load a) = mem_of (out-Access a).size (out-Access a).at
+class_layer (Expr-F.Neg a at) = inline_or (look_of a).inline class.Other
+class_layer (Expr-F.Not a at) = inline_or (look_of a).inline class.Other
+class_layer (Expr-F.Cast size signed a at) = class.Other
+class_layer (Expr-F.Bin o a b at) = inline_or ((look_of b).inline && (look_of a).inline) (masked o a b)
+
+abbrev pub class_of : Expr → Class
+class_of e = class_layer (out-Expr e)
+
+abbrev pub dest_of : Lval → Class
+dest_of (lval.Skip at) = class.Skip
+dest_of (lval.Var v) = var_class (decl_of v)
+dest_of (lval.Cell v at) = cell_of v at
+dest_of (lval.Store a) = mem_of (out-Access a).size (out-Access a).at
+
+abbrev pub operand_of : Lval → Expr → Operand
+operand_of d e = record { class = class_of e; meeting = meeting_of d e }

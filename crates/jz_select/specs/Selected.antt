@@ -1,0 +1,106 @@
+-- The first row that matches.
+use Rattle.std.specs.Prelude.{ℕ, Bool, true, false, nat_eq, List, [], ◌∷◌, ◌++◌, ◌≡◌, map, All, Option, Some, None, if◌then◌else◌}
+use Rattle.jz_tree.specs.declared.stmt.StmtKind.{StmtKind}
+use Rattle.jz_select.specs.declared.pattern.Pattern.{Pattern}
+use Rattle.jz_select.specs.declared.pattern.Pattern.TheVariants as pattern
+use Rattle.jz_select.specs.declared.pattern.Intrinsic.{Intrinsic}
+use Rattle.jz_select.specs.declared.pattern.Intrinsic.TheVariants as name
+use Rattle.jz_select.specs.declared.shape.Shape.{Shape}
+use Rattle.jz_select.specs.Rows.{p1, p2, p3, p4, p5, p6, p7, p8, p9, p10, p11, p12, p13, p14, condition, intrinsic_of}
+use Rattle.jz_tree.specs.declared.expr.Expr.{Expr}
+use Rattle.jz_tree.specs.declared.stmt.Lval.{Lval}
+use Rattle.jz_select.specs.Shapes.{assign_of, shape_of}
+
+-- a pattern, and which statements match it
+abbrev pub Row : Type 0
+Row = Pattern × (Shape → Bool)
+
+-- the rows of the pattern table in their order, then the conditions of `if` and `while`
+abbrev pub operations : List Row
+operations = (pattern.P 2, p2) ∷ (pattern.P 3, p3) ∷ (pattern.P 4, p4) ∷ (pattern.P 5, p5) ∷ (pattern.P 6, p6) ∷ (pattern.P 7, p7)
+    ∷ (pattern.P 8, p8) ∷ (pattern.P 9, p9) ∷ (pattern.P 10, p10) ∷ (pattern.P 11, p11) ∷ (pattern.P 12, p12) ∷ (pattern.P 13, p13)
+    ∷ (pattern.P 14, p14) ∷ (pattern.Condition, condition) ∷ []
+
+abbrev pub table : List Row
+table = (pattern.P 1, p1) ∷ operations
+
+abbrev pub number_of : Intrinsic → ℕ
+number_of name.Add = 0
+number_of name.Sub = 1
+number_of name.And = 2
+number_of name.Or = 3
+number_of name.Xor = 4
+number_of name.Adc = 5
+number_of name.Sbb = 6
+number_of name.Neg = 7
+number_of name.Inc = 8
+number_of name.Dec = 9
+number_of name.Not = 10
+number_of name.Bswap = 11
+number_of name.Lea = 12
+number_of name.Cmp = 13
+number_of name.Test = 14
+number_of name.Shl = 15
+number_of name.Shr = 16
+number_of name.Sar = 17
+number_of name.Rol = 18
+number_of name.Ror = 19
+number_of name.Imul = 20
+number_of name.Mul = 21
+number_of name.Div = 22
+number_of name.Setcc = 23
+
+abbrev pub is_named : Intrinsic → Option Intrinsic → Bool
+is_named n None = false
+is_named n (Some m) = nat_eq (number_of n) (number_of m)
+
+abbrev pub intrinsics : List Intrinsic
+intrinsics = name.Add ∷ name.Sub ∷ name.And ∷ name.Or ∷ name.Xor ∷ name.Adc ∷ name.Sbb ∷ name.Neg ∷ name.Inc ∷ name.Dec ∷ name.Not
+    ∷ name.Bswap ∷ name.Lea ∷ name.Cmp ∷ name.Test ∷ name.Shl ∷ name.Shr ∷ name.Sar ∷ name.Rol ∷ name.Ror ∷ name.Imul ∷ name.Mul
+    ∷ name.Div ∷ name.Setcc ∷ []
+
+-- an intrinsic as a row
+abbrev pub intrinsic_row : Intrinsic → Row
+intrinsic_row n = (pattern.Intrinsic n, λ s. is_named n (intrinsic_of s))
+
+abbrev pub rows : List Row
+rows = table ++ map intrinsic_row intrinsics
+
+-- none of these rows matches
+abbrev pub NoneMatches : List Row → Shape → Type 0
+NoneMatches rs s = All (λ q. q.1 s ≡ false) rs
+
+-- the row r of that list matches, and no row before it does
+abbrev pub FirstMatches : List Row → Shape → Row → Type 0
+FirstMatches rs s r = (before : List Row) × (after : List Row) × (rs ≡ before ++ r ∷ after) × (r.1 s ≡ true) × NoneMatches before s
+
+abbrev pub Tells : List Row → Shape → Option Pattern → Type 0
+Tells rs s None = NoneMatches rs s
+Tells rs s (Some p) = (r : Row) × (r.0 ≡ p) × FirstMatches rs s r
+
+-- the statement matches the row of that pattern, and no row before it; or it matches none
+unfoldable pub IsSelected : StmtKind → Option Pattern → Type 0
+IsSelected k answer = Tells rows (shape_of k) answer
+
+-- the same of `to = e`, as a copy of an argument or result of a call is
+unfoldable pub IsCopied : Lval → Expr → Option Pattern → Type 0
+IsCopied to e answer = Tells rows (assign_of None to None e) answer
+
+-- ---- the same by a function
+abbrev pub first_of : List Row → Shape → Option Pattern
+first_of [] s = None
+first_of (r ∷ rs) s = if r.1 s then Some r.0 else first_of rs s
+
+abbrev pub row_if : ℕ → Bool → Option Pattern
+row_if n fits = if fits then Some (pattern.P n) else None
+
+abbrev pub named : Option Intrinsic → Option Pattern
+named None = None
+named (Some n) = Some (pattern.Intrinsic n)
+
+abbrev pub or_pattern : Option Pattern → Option Pattern → Option Pattern
+or_pattern None b = b
+or_pattern (Some p) b = Some p
+
+unfoldable pub chosen : Shape → Option Pattern
+chosen s = or_pattern (first_of table s) (named (intrinsic_of s))

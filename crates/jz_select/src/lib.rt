@@ -1,0 +1,19 @@
+//! Which row of the pattern table, or which intrinsic, a typed statement matches.
+#![tactic(auto)]
+
+mod class;
+mod look;
+mod operand;
+mod pattern;
+mod places;
+mod rows;
+mod selecting;
+mod shape;
+mod shaping;
+mod spelling;
+
+pub use pattern::{Intrinsic, Pattern};
+pub use selecting::{one_row, select, select_copy};
+
+#[cfg(test)]
+mod tests;

@@ -1,0 +1,151 @@
+// What an expression is.
+ghost use Rattle.std.specs.Prelude.{◌≡◌};
+ghost use Rattle.jz_select.specs.Look.{look_of, decl_of, kind_of_ty, is_inline_var, is_reg64, is_regs64, terms_of};
+ghost use Rattle.jz_select.specs.Sums.{joined, term};
+
+use crate::class::Sum;
+use jz_tree::{BinOp, Expr, Storage, Ty, Var};
+use jz_words::Size;
+
+/// A type without the length of its array.
+#[derive(Clone, Copy)]
+pub enum Kind {
+    Int,
+    Bool,
+    Word(Size),
+    Array(Size),
+}
+
+fn kind_of(ty: &Ty) -> Kind
+    ensures { result ≡ kind_of_ty ty.now }
+{
+    match ty {
+        Ty::Int => Kind::Int,
+        Ty::Bool => Kind::Bool,
+        Ty::Word(z) => Kind::Word(*z),
+        Ty::Array(z, _) => Kind::Array(*z),
+    }
+}
+
+pub fn decl(v: &Var) -> Option<(Storage, Kind)>
+    ensures { result ≡ decl_of v.now }
+{
+    match &v.decl {
+        None => None,
+        Some(d) => Some((d.storage, kind_of(&d.ty))),
+    }
+}
+
+pub fn is_inline(v: &Var) -> bool
+    ensures { result ≡ is_inline_var (decl_of v.now) }
+{
+    matches!(decl(v), Some((Storage::Inline, Kind::Int)))
+}
+
+fn is_word(v: &Var) -> bool
+    ensures { result ≡ is_reg64 (decl_of v.now) }
+{
+    matches!(decl(v), Some((Storage::Reg, Kind::Word(Size::S64))))
+}
+
+fn is_words(v: &Var) -> bool
+    ensures { result ≡ is_regs64 (decl_of v.now) }
+{
+    matches!(decl(v), Some((Storage::Reg, Kind::Array(Size::S64))))
+}
+
+pub fn inline(e: &Expr) -> bool
+    ensures { result ≡ (look_of e.now).inline }
+{
+    let mut cur = e;
+    loop {
+        match cur {
+            Expr::Num(_, _) => return true,
+            Expr::Bool(_, _) => return true,
+            Expr::Var(v) => return is_inline(v),
+            Expr::Cell(_, _) => return false,
+            Expr::Load(_) => return false,
+            Expr::Neg(a, _) => cur = a.get(),
+            Expr::Not(a, _) => cur = a.get(),
+            Expr::Cast { .. } => return false,
+            Expr::Bin(_, a, b, _) => {
+                if !inline(b.get()) {
+                    return false;
+                }
+                cur = a.get();
+            }
+        }
+    }
+}
+
+/// A register of 64 bits.
+fn reg(e: &Expr) -> bool
+    ensures { result ≡ (look_of e.now).reg }
+{
+    match e {
+        Expr::Var(v) => is_word(v),
+        Expr::Cell(v, at) => is_words(v) && inline(at.get()),
+        _ => false,
+    }
+}
+
+/// Such a register times a scale.
+fn scaled(e: &Expr) -> bool
+    ensures { result ≡ (look_of e.now).scaled }
+{
+    match e {
+        Expr::Bin(BinOp::Mul, a, b, _) => {
+            reg(a.get()) && inline(b.get()) || inline(a.get()) && reg(b.get())
+        }
+        _ => false,
+    }
+}
+
+fn term_of(e: &Expr) -> Sum
+    ensures { let k = look_of e.now in result ≡ term k.inline k.reg k.scaled }
+{
+    let (plain, scaled, good) = if inline(e) {
+        (0, 0, true)
+    } else if reg(e) {
+        (1, 0, true)
+    } else if scaled(e) {
+        (0, 1, true)
+    } else {
+        (0, 0, false)
+    };
+    Sum {
+        plain,
+        scaled,
+        good,
+    }
+}
+
+/// The terms of a sum, also of sums that are added on the right.
+#[tactic(auto, using(crate::proofs::Joins::joins))]
+pub fn sum(e: &Expr) -> Sum
+    ensures { result ≡ terms_of e.now }
+{
+    let mut all = Sum {
+        plain: 0,
+        scaled: 0,
+        good: true,
+    };
+    let mut cur = e;
+    loop {
+        match cur {
+            Expr::Bin(BinOp::Add, a, b, _) => {
+                all = all.join(sum(b.get()));
+                cur = a.get();
+            }
+            Expr::Bin(BinOp::Sub, a, b, _) => {
+                all = all.join(Sum {
+                    plain: 0,
+                    scaled: 0,
+                    good: inline(b.get()),
+                });
+                cur = a.get();
+            }
+            _ => return all.join(term_of(cur)),
+        }
+    }
+}

@@ -1,0 +1,156 @@
+// The class of an operand and of a result.
+ghost use Rattle.std.specs.Prelude.{◌≡◌};
+ghost use Rattle.jz_tree.specs.declared.expr.Expr.TheViews.{out-Expr};
+ghost use Rattle.jz_select.specs.Look.{decl_of};
+ghost use Rattle.jz_select.specs.Operands.{var_class, cell_of, mem_of, mask_layer, masked, is_byte, register_layer, class_of, dest_of, operand_of};
+
+use crate::class::{Class, Mask, Operand};
+use crate::look::{Kind, decl, inline, sum};
+use crate::places::meet;
+use jz_tree::{BinOp, Expr, Lval, Storage, Var};
+use jz_words::Size;
+
+pub fn class_of_var(v: &Var) -> Class
+    ensures { result ≡ var_class (decl_of v.now) }
+{
+    match decl(v) {
+        Some((Storage::Reg, Kind::Word(z))) => Class::Reg(z),
+        Some((Storage::Stack, Kind::Word(z))) => Class::Mem(Some(z)),
+        Some((Storage::Reg, Kind::Bool)) => Class::Flag,
+        Some((Storage::Inline, Kind::Int)) => Class::Inline,
+        _ => Class::Other,
+    }
+}
+
+fn class_of_cell(v: &Var, at: &Expr) -> Class
+    ensures { result ≡ cell_of v.now at.now }
+{
+    match decl(v) {
+        Some((Storage::Reg, Kind::Array(z))) => if inline(at) {
+            Class::Reg(z)
+        } else {
+            Class::Other
+        },
+        Some((Storage::Stack, Kind::Array(z))) => {
+            if sum(at).is_index() {
+                Class::Mem(Some(z))
+            } else {
+                Class::Other
+            }
+        }
+        _ => Class::Other,
+    }
+}
+
+fn class_of_access(size: Option<Size>, at: &Expr) -> Class
+    ensures { result ≡ mem_of size at.now }
+{
+    if sum(at).is_address() {
+        Class::Mem(size)
+    } else {
+        Class::Other
+    }
+}
+
+fn mask(k: &Expr) -> Class
+    ensures { result ≡ mask_layer k.now (out-Expr k.now) }
+{
+    match k {
+        Expr::Num(n, _) => {
+            if *n == 31 {
+                Class::Masked(Mask::Five)
+            } else if *n == 63 {
+                Class::Masked(Mask::Six)
+            } else {
+                Class::Other
+            }
+        }
+        _ => {
+            if inline(k) {
+                Class::Masked(Mask::Undecided)
+            } else {
+                Class::Other
+            }
+        }
+    }
+}
+
+fn byte(c: Class) -> bool
+    ensures { result ≡ is_byte c }
+{
+    matches!(c, Class::Reg(Size::S8))
+}
+
+fn register(e: &Expr) -> Class
+    ensures { result ≡ register_layer (out-Expr e.now) }
+{
+    match e {
+        Expr::Var(v) => class_of_var(v),
+        Expr::Cell(v, at) => class_of_cell(v, at.get()),
+        _ => Class::Other,
+    }
+}
+
+fn class_of_and(op: BinOp, a: &Expr, b: &Expr) -> Class
+    ensures { result ≡ masked op a.now b.now }
+{
+    match op {
+        BinOp::And => if byte(register(a)) {
+            mask(b)
+        } else {
+            Class::Other
+        },
+        _ => Class::Other,
+    }
+}
+
+pub fn class(e: &Expr) -> Class
+    ensures { result ≡ class_of e.now }
+{
+    match e {
+        Expr::Num(_, _) => Class::Inline,
+        Expr::Bool(_, _) => Class::Inline,
+        Expr::Var(v) => class_of_var(v),
+        Expr::Cell(v, at) => class_of_cell(v, at.get()),
+        Expr::Load(a) => class_of_access(a.size, a.at.get()),
+        Expr::Neg(a, _) => if inline(a.get()) {
+            Class::Inline
+        } else {
+            Class::Other
+        },
+        Expr::Not(a, _) => if inline(a.get()) {
+            Class::Inline
+        } else {
+            Class::Other
+        },
+        Expr::Cast { .. } => Class::Other,
+        Expr::Bin(op, a, b, _) => {
+            if inline(b.get()) && inline(a.get()) {
+                Class::Inline
+            } else {
+                class_of_and(*op, a.get(), b.get())
+            }
+        }
+    }
+}
+
+pub fn dest(to: &Lval) -> Class
+    ensures { result ≡ dest_of to.now }
+{
+    match to {
+        Lval::Skip(_) => Class::Skip,
+        Lval::Var(v) => class_of_var(v),
+        Lval::Cell(v, at) => class_of_cell(v, at.get()),
+        Lval::Store(a) => class_of_access(a.size, a.at.get()),
+    }
+}
+
+/// The operand beside that destination.
+pub fn operand(to: &Lval, e: &Expr) -> Operand
+    ensures { result ≡ operand_of to.now e.now }
+{
+    Operand {
+        class: class(e),
+        meeting: meet(to, e),
+    }
+}

@@ -1,0 +1,434 @@
+// From a statement to its shape.
+ghost use Rattle.std.specs.Prelude.{◌≡◌, ◌&&◌, ◌||◌, Bool};
+ghost use Rattle.std.specs.Option.{option_copied};
+ghost use Rattle.jz_tree.specs.declared.expr.Expr.TheViews.{out-Expr};
+ghost use Rattle.jz_select.specs.Look.{decl_of, is_inline_var};
+ghost use Rattle.jz_select.specs.Operands.{var_class, class_of, dest_of};
+ghost use Rattle.jz_select.specs.Rows.{is_flag as flag_is};
+ghost use Rattle.jz_select.specs.Shapes.{carries as carries_is, carry_layer, value_layer, itself as itself_of, update_layer, assign_of, value_shape as value_shape_of, compares as compares_is, is_test, test_layer, conditional as conditional_of, leads as leads_is, value_behind as value_behind_of, one_shape as one_shape_of, two_shape as two_shape_of, three_shape as three_shape_of, address_shape as address_shape_of, set_shape as set_shape_of, compare_shape as compare_shape_of, product_shape as product_shape_of, division_shape as division_shape_of, stand_apart as stand_apart_is, intrinsic_shape as intrinsic_shape_of, named_shape as named_shape_of, rhs_shape as rhs_shape_of, shape_of};
+
+use crate::class::{Class, Meeting, Operand};
+use crate::look::{inline, is_inline, sum};
+use crate::operand::{class, class_of_var, dest, operand};
+use crate::pattern::Intrinsic;
+use crate::rows::{apart, flag, flag_result, m, rm, rmi};
+use crate::shape::{Shape, Value};
+use crate::spelling::{Instance, spelled};
+use jz_data::Seq;
+use jz_tree::{BinOp, Expr, Lval, Rhs, StmtKind, Var};
+
+/// How many flags an intrinsic gives before its values.
+#[derive(Clone, Copy)]
+pub enum Flags {
+    Zero,
+    Two,
+    Four,
+    Five,
+}
+
+fn carries(outer: BinOp, inner: BinOp) -> bool
+    ensures { result ≡ carries_is outer inner }
+{
+    match outer {
+        BinOp::Add => matches!(inner, BinOp::Add),
+        BinOp::Sub => matches!(inner, BinOp::Sub),
+        _ => false,
+    }
+}
+
+fn carry(d: &Lval, outer: BinOp, e: &Expr) -> Value
+    ensures { result ≡ carry_layer d.now outer (out-Expr e.now) }
+{
+    match e {
+        Expr::Bin(op, a, b, _) => {
+            if carries(outer, *op) {
+                Value::Carry(outer, operand(d, a.get()), operand(d, b.get()))
+            } else {
+                Value::Alone
+            }
+        }
+        _ => Value::Alone,
+    }
+}
+
+fn value(d: &Lval, e: &Expr) -> Value
+    ensures { result ≡ value_layer d.now (out-Expr e.now) }
+{
+    match e {
+        Expr::Bin(op, a, b, _) => {
+            if flag(class(b.get())) {
+                carry(d, *op, a.get())
+            } else {
+                Value::Two(*op, operand(d, a.get()), operand(d, b.get()))
+            }
+        }
+        Expr::Neg(a, _) => Value::One(operand(d, a.get())),
+        Expr::Not(a, _) => Value::One(operand(d, a.get())),
+        Expr::Cast {
+            size,
+            signed,
+            e,
+            span: _,
+        } => Value::Cast(*size, *signed, class(e.get())),
+        _ => Value::Alone,
+    }
+}
+
+fn itself(d: &Lval) -> Operand
+    ensures { result ≡ itself_of d.now }
+{
+    Operand {
+        class: dest(d),
+        meeting: Meeting::Same,
+    }
+}
+
+fn update(d: &Lval, op: BinOp, e: &Expr) -> Value
+    ensures { result ≡ update_layer d.now op e.now (out-Expr e.now) }
+{
+    match e {
+        Expr::Bin(inner, a, b, _) => {
+            if carries(op, *inner) && flag(class(b.get())) {
+                Value::Carry(op, itself(d), operand(d, a.get()))
+            } else {
+                Value::Two(op, itself(d), operand(d, e))
+            }
+        }
+        _ => Value::Two(op, itself(d), operand(d, e)),
+    }
+}
+
+pub fn assign(lead: Option<Class>, d: &Lval, op: Option<BinOp>, e: &Expr) -> Shape
+    ensures { result ≡ assign_of lead d.now op e.now }
+{
+    match op {
+        None => Shape::Assign(lead, dest(d), class(e), value(d, e)),
+        Some(op) => Shape::Assign(lead, dest(d), Class::Other, update(d, op, e)),
+    }
+}
+
+fn value_shape(to: &[Lval], op: Option<BinOp>, e: &Expr) -> Shape
+    ensures { result ≡ value_shape_of to.now op e.now }
+{
+    match to {
+        [d] => assign(None, d, op, e),
+        [x, d] => assign(Some(dest(x)), d, op, e),
+        _ => Shape::Free,
+    }
+}
+
+fn compares(op: BinOp, a: Class, o: Class) -> bool
+    ensures { result ≡ compares_is op a o }
+{
+    match op {
+        BinOp::Eq | BinOp::Ne | BinOp::Lt | BinOp::Le | BinOp::Gt | BinOp::Ge => {
+            rm(a) && rmi(o) && !(m(a) && m(o))
+        }
+        BinOp::LtS | BinOp::LeS | BinOp::GtS | BinOp::GeS => rm(a) && rmi(o) && !(m(a) && m(o)),
+        _ => false,
+    }
+}
+
+// A test by its outermost operation.
+#[tactic(auto, using(crate::proofs::Conditions::test_out))]
+fn test_law(e: &Expr)
+    ensures { (b : Bool) → is_test b e.now ≡ test_layer b (out-Expr e.now) }
+{}
+
+fn truth_of_var(inline: bool, v: &Var) -> bool
+    ensures { result ≡ (flag_is (var_class (decl_of v.now)) || (inline && is_inline_var (decl_of v.now))) }
+{
+    flag(class_of_var(v)) || inline && is_inline(v)
+}
+
+/// Whether the condition has an instruction, or is inline where it may be.
+fn test(may: bool, c: &Expr) -> bool
+    ensures { result ≡ is_test may c.now }
+{
+    let mut cur = c;
+    loop {
+        test_law(cur);
+        match cur {
+            Expr::Num(_, _) => return may,
+            Expr::Bool(_, _) => return may,
+            Expr::Var(v) => return truth_of_var(may, v),
+            Expr::Cell(_, _) => return false,
+            Expr::Load(_) => return false,
+            Expr::Neg(a, _) => return may && inline(a.get()),
+            Expr::Not(a, _) => cur = a.get(),
+            Expr::Cast { .. } => return false,
+            Expr::Bin(op, a, b, _) => {
+                return compares(*op, class(a.get()), class(b.get()))
+                    || may && inline(b.get()) && inline(a.get())
+            }
+        }
+    }
+}
+
+fn conditional(to: &[Lval], op: Option<BinOp>, rhs: &Rhs, c: &Expr) -> Shape
+    ensures { result ≡ conditional_of to.now op rhs.now c.now }
+{
+    match to {
+        [d] => match op {
+            None => match rhs {
+                Rhs::Value(e) => Shape::Conditional(dest(d), class(e), test(false, c)),
+                Rhs::Call(_, _, _) => Shape::Free,
+                Rhs::Intrinsic(_, _, _) => Shape::Free,
+            },
+            Some(_) => Shape::Free,
+        },
+        _ => Shape::Free,
+    }
+}
+
+/// Whether it takes a flag.
+fn leads(to: &Lval) -> bool
+    ensures { result ≡ leads_is to.now }
+{
+    flag_result(dest(to))
+}
+
+fn lead_four(of: &Lval, sf: &Lval, pf: &Lval, zf: &Lval) -> bool
+    ensures { result ≡ (leads_is of.now && (leads_is sf.now && (leads_is pf.now && leads_is zf.now))) }
+{
+    leads(of) && leads(sf) && leads(pf) && leads(zf)
+}
+
+fn lead_five(of: &Lval, cf: &Lval, sf: &Lval, pf: &Lval, zf: &Lval) -> bool
+    ensures { result ≡ (leads_is of.now && (leads_is cf.now && (leads_is sf.now && (leads_is pf.now && leads_is zf.now)))) }
+{
+    leads(of) && leads(cf) && leads(sf) && leads(pf) && leads(zf)
+}
+
+fn value_behind(flags: Flags, to: &[Lval]) -> Option<&Lval>
+    ensures { option_copied result ≡ value_behind_of flags to.now }
+{
+    match flags {
+        Flags::Zero => match to {
+            [d] => Some(d),
+            _ => None,
+        },
+        Flags::Two => match to {
+            [of, cf, d] => if leads(of) && leads(cf) {
+                Some(d)
+            } else {
+                None
+            },
+            _ => None,
+        },
+        Flags::Four => match to {
+            [of, sf, pf, zf, d] => if lead_four(of, sf, pf, zf) {
+                Some(d)
+            } else {
+                None
+            },
+            _ => None,
+        },
+        Flags::Five => match to {
+            [of, cf, sf, pf, zf, d] => if lead_five(of, cf, sf, pf, zf) {
+                Some(d)
+            } else {
+                None
+            },
+            _ => None,
+        },
+    }
+}
+
+fn one_shape(i: Instance, to: Option<&Lval>, args: &[Expr]) -> Shape
+    ensures { result ≡ one_shape_of i (option_copied to.entry) args.now }
+{
+    match to {
+        None => Shape::Free,
+        Some(d) => match args {
+            [a] => Shape::One(i.name, i.size, dest(d), operand(d, a)),
+            _ => Shape::Free,
+        },
+    }
+}
+
+fn two_shape(i: Instance, to: Option<&Lval>, args: &[Expr]) -> Shape
+    ensures { result ≡ two_shape_of i (option_copied to.entry) args.now }
+{
+    match to {
+        None => Shape::Free,
+        Some(d) => match args {
+            [a, o] => Shape::Two(i.name, i.size, dest(d), operand(d, a), operand(d, o)),
+            _ => Shape::Free,
+        },
+    }
+}
+
+fn three_shape(i: Instance, to: Option<&Lval>, args: &[Expr]) -> Shape
+    ensures { result ≡ three_shape_of i (option_copied to.entry) args.now }
+{
+    match to {
+        None => Shape::Free,
+        Some(d) => match args {
+            [a, o, c] => Shape::Three(i.name, dest(d), operand(d, a), operand(d, o), class(c)),
+            _ => Shape::Free,
+        },
+    }
+}
+
+fn address_shape(i: Instance, to: Option<&Lval>, args: &[Expr]) -> Shape
+    ensures { result ≡ address_shape_of i (option_copied to.entry) args.now }
+{
+    match to {
+        None => Shape::Free,
+        Some(d) => match args {
+            [a] => Shape::Address(i.size, dest(d), sum(a).is_sum()),
+            _ => Shape::Free,
+        },
+    }
+}
+
+fn set_shape(i: Instance, to: Option<&Lval>, args: &[Expr]) -> Shape
+    ensures { result ≡ set_shape_of i (option_copied to.entry) args.now }
+{
+    match to {
+        None => Shape::Free,
+        Some(d) => match args {
+            [c] => Shape::Set(i.size, dest(d), test(false, c)),
+            _ => Shape::Free,
+        },
+    }
+}
+
+fn compare_shape(i: Instance, to: &[Lval], args: &[Expr]) -> Shape
+    ensures { result ≡ compare_shape_of i to.now args.now }
+{
+    match to {
+        [of, cf, sf, pf, zf] => match args {
+            [a, o] => {
+                if lead_five(of, cf, sf, pf, zf) {
+                    Shape::Compare(i.name, class(a), class(o))
+                } else {
+                    Shape::Free
+                }
+            }
+            _ => Shape::Free,
+        },
+        _ => Shape::Free,
+    }
+}
+
+fn product_shape(i: Instance, to: &[Lval], args: &[Expr]) -> Shape
+    ensures { result ≡ product_shape_of i to.now args.now }
+{
+    match to {
+        [of, cf, sf, pf, zf, h, l] => match args {
+            [a, b] => {
+                if lead_five(of, cf, sf, pf, zf) {
+                    Shape::Product(i.size, dest(h), dest(l), operand(l, a), operand(l, b))
+                } else {
+                    Shape::Free
+                }
+            }
+            _ => Shape::Free,
+        },
+        _ => Shape::Free,
+    }
+}
+
+fn stand_apart(q: &Lval, r: &Lval, hi: &Expr, b: &Expr) -> bool
+    ensures { result ≡ stand_apart_is q.now r.now hi.now b.now }
+{
+    apart(operand(q, hi)) && apart(operand(q, b)) && apart(operand(r, b))
+}
+
+fn division(i: Instance, q: &Lval, r: &Lval, hi: &Expr, lo: &Expr, b: &Expr) -> Shape
+    ensures { result ≡ Shape.Division i.size (dest_of q.now) (dest_of r.now) (class_of hi.now) (class_of lo.now) (class_of b.now) (stand_apart_is q.now r.now hi.now b.now) }
+{
+    let apart = stand_apart(q, r, hi, b);
+    Shape::Division(
+        i.size,
+        dest(q),
+        dest(r),
+        class(hi),
+        class(lo),
+        class(b),
+        apart,
+    )
+}
+
+fn division_shape(i: Instance, to: &[Lval], args: &[Expr]) -> Shape
+    ensures { result ≡ division_shape_of i to.now args.now }
+{
+    match to {
+        [of, cf, sf, pf, zf, q, r] => match args {
+            [hi, lo, b] => {
+                if lead_five(of, cf, sf, pf, zf) {
+                    division(i, q, r, hi, lo, b)
+                } else {
+                    Shape::Free
+                }
+            }
+            _ => Shape::Free,
+        },
+        _ => Shape::Free,
+    }
+}
+
+fn intrinsic_shape(i: Instance, to: &[Lval], args: &[Expr]) -> Shape
+    ensures { result ≡ intrinsic_shape_of i.name i to.now args.now }
+{
+    match i.name {
+        Intrinsic::Neg => one_shape(i, value_behind(Flags::Five, to), args),
+        Intrinsic::Inc | Intrinsic::Dec => one_shape(i, value_behind(Flags::Four, to), args),
+        Intrinsic::Not | Intrinsic::Bswap => one_shape(i, value_behind(Flags::Zero, to), args),
+        Intrinsic::Lea => address_shape(i, value_behind(Flags::Zero, to), args),
+        Intrinsic::Setcc => set_shape(i, value_behind(Flags::Zero, to), args),
+        Intrinsic::Adc | Intrinsic::Sbb => three_shape(i, value_behind(Flags::Five, to), args),
+        Intrinsic::Cmp | Intrinsic::Test => compare_shape(i, to, args),
+        Intrinsic::Mul => product_shape(i, to, args),
+        Intrinsic::Div => division_shape(i, to, args),
+        Intrinsic::Rol | Intrinsic::Ror => two_shape(i, value_behind(Flags::Two, to), args),
+        _ => two_shape(i, value_behind(Flags::Five, to), args),
+    }
+}
+
+fn named_shape(i: Option<Instance>, to: &[Lval], args: &[Expr]) -> Shape
+    ensures { result ≡ named_shape_of i to.now args.now }
+{
+    match i {
+        None => Shape::Free,
+        Some(i) => intrinsic_shape(i, to, args),
+    }
+}
+
+fn rhs_shape(to: &Seq<Lval>, op: Option<BinOp>, rhs: &Rhs) -> Shape
+    ensures { result ≡ rhs_shape_of to.now op rhs.now }
+{
+    match rhs {
+        Rhs::Value(e) => value_shape(to.as_slice(), op, e),
+        Rhs::Intrinsic(name, args, _) => match op {
+            None => named_shape(spelled(name.as_str()), to.as_slice(), args.as_slice()),
+            Some(_) => Shape::Free,
+        },
+        Rhs::Call(_, _, _) => Shape::Free,
+    }
+}
+
+pub fn shape(kind: &StmtKind) -> Shape
+    ensures { result ≡ shape_of kind.now }
+{
+    match kind {
+        StmtKind::Assign {
+            to,
+            op,
+            rhs,
+            cond: None,
+        } => rhs_shape(to, *op, rhs),
+        StmtKind::Assign {
+            to,
+            op,
+            rhs,
+            cond: Some(c),
+        } => conditional(to.as_slice(), *op, rhs, c),
+        StmtKind::If(c, _, _) => Shape::Test(test(true, c)),
+        StmtKind::While { cond, .. } => Shape::Test(test(true, cond)),
+        StmtKind::For { .. } => Shape::Free,
+        StmtKind::Mark(_) => Shape::Free,
+    }
+}
