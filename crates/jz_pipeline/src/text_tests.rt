@@ -138,7 +138,7 @@ fn stages_come_before_functions(rt: HostRuntime) {
     assert_eq!(rt;
         judged(
             alloc,
-            "export fn u() { reg u64 r t; r = t; } export fn g(reg u64 x) { x += 1; } +"
+            "export fn u() { reg u64 r t; r = t; } export fn g(reg u64 x) { x += 1; } ?"
         ),
         Verdict::Lexer
     );
