@@ -14,7 +14,7 @@ use Rattle.jz_first_tree.specs.declared.Decl.{Decl}
 use Rattle.jz_first_tree.specs.declared.Ty.{Ty}
 use Rattle.jz_first_tree.specs.declared.Ty.TheVariants.{Word}
 use Rattle.jz_words.specs.declared.size.Size.TheVariants.{S64}
-use Rattle.jz_meaning.specs.SourceRuns.{AreArguments, FitsDecl, FitsType, IsInput}
+use Rattle.jz_first_meaning.specs.SourceRuns.{AreArguments, FitsDecl, FitsType, IsInput}
 use Rattle.jz_lower.specs.Straight.{AreWords}
 use Rattle.jz_lower.specs.Operations.{register_of}
 use Rattle.jz_pipeline.specs.Compiling.{compiled_of}

@@ -5,7 +5,7 @@ use Rattle.std.proofs.lemmas.List.Elements.{All-contains, Contains-append_right,
 use Rattle.jz_first_tree.specs.declared.Program.{Program}
 use Rattle.jz_first_tree.specs.declared.Fun.{Fun}
 use Rattle.jz_cursor.specs.declared.fault.SyntaxFault.{SyntaxFault}
-use Rattle.jz_types.specs.declared.fault.TypeFault.{TypeFault}
+use Rattle.jz_first_types.specs.declared.fault.TypeFault.{TypeFault}
 use Rattle.jz_listing.specs.declared.compiled.Compiled.{Compiled}
 use Rattle.jz_listing.specs.Listing.{listing_text}
 use Rattle.jz_first_parse.specs.Reading.{ParseFails}

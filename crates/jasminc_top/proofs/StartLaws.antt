@@ -22,8 +22,8 @@ use Rattle.jz_first_tree.specs.declared.Var.{Var}
 use Rattle.jz_first_tree.specs.declared.Stmt.{Stmt}
 use Rattle.jz_first_tree.specs.declared.StmtKind.{StmtKind}
 use Rattle.jz_first_tree.specs.declared.StmtKind.TheVariants as kind
-use Rattle.jz_meaning.specs.SourceRuns.{FunOutcome, IsInput, IsRun}
-use Rattle.jz_meaning.proofs.SourceLaws.{fun_some}
+use Rattle.jz_first_meaning.specs.SourceRuns.{FunOutcome, IsInput, IsRun}
+use Rattle.jz_first_meaning.proofs.SourceLaws.{fun_some}
 use Rattle.jz_safety.specs.Alarms.{HasNoAlarm}
 use Rattle.jz_safety.specs.Resolved.{IsResolved}
 use Rattle.jz_safety.proofs.Telling.{safe_ends}

@@ -12,8 +12,8 @@ use Rattle.jz_first_parse.specs.Deriving.{IsUnexpected}
 use Rattle.jz_first_parse.specs.Reading.{Reads}
 use Rattle.jz_first_tree.specs.declared.Program.{Program}
 use Rattle.jz_first_tree.specs.declared.Fun.{Fun}
-use Rattle.jz_types.specs.declared.fault.TypeFault.{TypeFault}
-use Rattle.jz_types.specs.Rules.{IsFirstTypeFault}
+use Rattle.jz_first_types.specs.declared.fault.TypeFault.{TypeFault}
+use Rattle.jz_first_types.specs.Rules.{IsFirstTypeFault}
 use Rattle.jz_pass.specs.Limits.{IsWithinLimits}
 use Rattle.jz_safety.specs.Alarms.{HasNoAlarm}
 use Rattle.jz_pipeline.specs.declared.unplaced.NoPlace as pipeline

@@ -12,10 +12,10 @@ use Rattle.jz_first_parse.specs.Reading.{Reads}
 use Rattle.jz_first_parse.specs.Derived.{DeclaresWords}
 use Rattle.jz_first_parse.proofs.Assigning.{statements_one}
 use Rattle.jz_first_parse.proofs.Declaring.{words_declared}
-use Rattle.jz_types.specs.Resolving.{resolved, resolved_fun}
-use Rattle.jz_types.specs.TypedPrograms.{HaveDifferentNames, HaveDeclarations, HaveCounts}
-use Rattle.jz_types.proofs.TypedLemmas as typed
-use Rattle.jz_types.proofs.ResolvedLemmas.{typed_resolved, resolved_stays}
+use Rattle.jz_first_types.specs.Resolving.{resolved, resolved_fun}
+use Rattle.jz_first_types.specs.TypedPrograms.{HaveDifferentNames, HaveDeclarations, HaveCounts}
+use Rattle.jz_first_types.proofs.TypedLemmas as typed
+use Rattle.jz_first_types.proofs.ResolvedLemmas.{typed_resolved, resolved_stays}
 use Rattle.jz_pass.specs.Limits.{IsWithinLimits}
 use Rattle.jz_safety.specs.Alarms.{HasNoAlarm}
 use Rattle.jz_safety.specs.Resolved.{IsResolved}

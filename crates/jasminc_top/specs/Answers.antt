@@ -5,7 +5,7 @@ use Rattle.jz_io.specs.Causes.{Rose}
 use Rattle.jz_io.specs.Telling.{Telling, text_of, IsWhole}
 use Rattle.jasminc_top.specs.Words.{Wanted, compile, exec, file_of}
 use Rattle.jz_first_parse.specs.Reading.{Reads, LexFails, ParseFails}
-use Rattle.jz_types.specs.Rules.{IsFirstTypeFault}
+use Rattle.jz_first_types.specs.Rules.{IsFirstTypeFault}
 use Rattle.jz_pass.specs.Limits.{IsWithinLimits, IsFirstLimit}
 use Rattle.jz_safety.specs.Alarms.{HasNoAlarm, IsFirstAlarm}
 use Rattle.jz_pipeline.specs.Placed.{IsUnplaced}
@@ -16,7 +16,7 @@ use Rattle.jasminc_top.specs.Running.{RunsTo}
 use Rattle.jasminc_top.specs.Refusals.{status_of, line_of, stage_of, all_stages}
 use Rattle.jz_first_tree.specs.declared.Program.{Program}
 use Rattle.jz_first_tree.specs.declared.Fun.{Fun}
-use Rattle.jz_types.specs.declared.fault.TypeFault.{TypeFault}
+use Rattle.jz_first_types.specs.declared.fault.TypeFault.{TypeFault}
 use Rattle.jz_listing.specs.declared.compiled.Compiled.{Compiled}
 use Rattle.jasminc_top.specs.declared.refusal.Status.{Status}
 use Rattle.jasminc_top.specs.declared.refusal.Status.TheVariants as status

@@ -12,15 +12,15 @@ use Rattle.jz_lex.specs.declared.token.LexFault.{LexFault}
 use Rattle.jz_cursor.specs.declared.fault.SyntaxKind.{SyntaxKind}
 use Rattle.jz_cursor.specs.declared.fault.SyntaxKind.TheVariants.{Unexpected, TooDeep}
 use Rattle.jz_cursor.specs.declared.fault.SyntaxFault.{SyntaxFault}
-use Rattle.jz_types.specs.declared.fault.TypeRule.{TypeRule}
-use Rattle.jz_types.specs.declared.fault.TypeRule.TheVariants as rule
-use Rattle.jz_types.specs.declared.fault.TypeFault.{TypeFault}
-use Rattle.jz_types.specs.Faults.{number_of}
+use Rattle.jz_first_types.specs.declared.fault.TypeRule.{TypeRule}
+use Rattle.jz_first_types.specs.declared.fault.TypeRule.TheVariants as rule
+use Rattle.jz_first_types.specs.declared.fault.TypeFault.{TypeFault}
+use Rattle.jz_first_types.specs.Faults.{number_of}
 use Rattle.jz_pass.specs.declared.limit.LimitKind.{LimitKind}
 use Rattle.jz_pass.specs.declared.limit.LimitKind.TheVariants.{Expand, ImmRange}
 use Rattle.jz_pass.specs.declared.limit.Limit.{Limit}
-use Rattle.jz_meaning.specs.declared.reason.Reason.{Reason}
-use Rattle.jz_meaning.specs.declared.reason.Reason.TheVariants as reason
+use Rattle.jz_first_meaning.specs.declared.reason.Reason.{Reason}
+use Rattle.jz_first_meaning.specs.declared.reason.Reason.TheVariants as reason
 use Rattle.jz_safety.specs.declared.alarm.Alarm.{Alarm}
 use Rattle.jz_alloc.specs.declared.needs.Needed.{Needed}
 use Rattle.jz_pipeline.specs.declared.unplaced.NoPlace.{NoPlace}

@@ -5,8 +5,8 @@ use Rattle.jz_first_tree.specs.declared.Fun.{Fun}
 use Rattle.jz_first_tree.specs.Assignments.{AssignsToOne}
 use Rattle.jz_first_parse.specs.Reading.{Reads}
 use Rattle.jz_first_parse.specs.Derived.{DeclaresWords}
-use Rattle.jz_types.specs.Rules.{IsTyped}
-use Rattle.jz_types.specs.Resolving.{resolved}
+use Rattle.jz_first_types.specs.Rules.{IsTyped}
+use Rattle.jz_first_types.specs.Resolving.{resolved}
 use Rattle.jz_pass.specs.Limits.{IsWithinLimits}
 use Rattle.jz_safety.specs.Alarms.{HasNoAlarm}
 use Rattle.jz_pipeline.specs.Placed.{AreCompiled}

@@ -16,11 +16,11 @@ use crate::words::{Request, request_of};
 use jz_data::{Seq, Text};
 use jz_first_parse::parse_first;
 use jz_first_tree::Fun;
+use jz_first_types::{Typed, check};
 use jz_io::{Bytes, ReadRefused, Source, read_all};
 use jz_lex::lex;
 use jz_listing::{Compiled, listing};
 use jz_pipeline::{compile_all, expand_all, safe_all};
-use jz_types::{Typed, check};
 use std::alloc::{AllocError, Global};
 
 const SOURCE_LIMIT: usize = 1_048_576;

@@ -3,11 +3,11 @@
 use crate::refusal::Refusal;
 use jz_cursor::SyntaxFault;
 use jz_data::Failure;
+use jz_first_types::TypeFault;
 use jz_lex::LexFault;
 use jz_pass::Limit;
 use jz_pipeline::NoPlace;
 use jz_safety::Alarm;
-use jz_types::TypeFault;
 use std::alloc::AllocError;
 
 /// What stops a command without a reply of its own.

@@ -6,14 +6,14 @@ ghost use Rattle.jasminc_top.specs.Lines.{lex_name, lexer_line, syntax_name, par
 use jz_alloc::Needed;
 use jz_cursor::{SyntaxFault, SyntaxKind};
 use jz_data::{Seq, Text};
+use jz_first_meaning::Reason;
+use jz_first_types::{TypeFault, TypeRule};
 use jz_io::Span;
 use jz_lex::{LexFault, LexKind};
 use jz_listing::{reg_name, write_number, write_span};
-use jz_meaning::Reason;
 use jz_pass::{Limit, LimitKind};
 use jz_pipeline::{Holder, NoPlace};
 use jz_safety::Alarm;
-use jz_types::{TypeFault, TypeRule};
 use std::alloc::AllocError;
 use x64_insn::{Flag, Place};
 

@@ -7,11 +7,11 @@ use crate::lines::{
 };
 use jz_cursor::SyntaxFault;
 use jz_data::Text;
+use jz_first_types::TypeFault;
 use jz_lex::LexFault;
 use jz_pass::Limit;
 use jz_pipeline::NoPlace;
 use jz_safety::Alarm;
-use jz_types::TypeFault;
 use std::alloc::{AllocError, Global};
 
 /// How a command ends, by the program's exit status.

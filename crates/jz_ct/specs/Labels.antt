@@ -13,7 +13,7 @@ use Rattle.jz_first_tree.specs.declared.Rhs.TheVariants as rhs
 use Rattle.jz_first_tree.specs.declared.Stmt.{Stmt}
 use Rattle.jz_first_tree.specs.declared.StmtKind.{StmtKind}
 use Rattle.jz_first_tree.specs.declared.StmtKind.TheVariants as kind
-use Rattle.jz_meaning.specs.SourceStates.{Key, key_of, put}
+use Rattle.jz_first_meaning.specs.SourceStates.{Key, key_of, put}
 
 -- whether a value may depend on a secret
 pub data Label : Type 0 where

@@ -11,7 +11,7 @@ use Rattle.jz_first_tree.specs.declared.Rhs.TheVariants as rhs
 use Rattle.jz_first_tree.specs.declared.Stmt.{Stmt}
 use Rattle.jz_first_tree.specs.declared.StmtKind.{StmtKind}
 use Rattle.jz_first_tree.specs.declared.StmtKind.TheVariants as kind
-use Rattle.jz_meaning.specs.declared.reason.Reason.TheVariants.{Init}
+use Rattle.jz_first_meaning.specs.declared.reason.Reason.TheVariants.{Init}
 use Rattle.jz_facts.specs.declared.fact.Fact.TheVariants.{Set}
 use Rattle.jz_facts.specs.declared.condition.Condition.{Condition}
 

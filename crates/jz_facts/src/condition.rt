@@ -5,9 +5,9 @@ ghost use Rattle.jz_facts.specs.Conditions.{read_of, left_condition, left_condit
 
 use crate::fact::Fact;
 use jz_data::{Seq, Text};
+use jz_first_meaning::Reason;
 use jz_first_tree::{BinOp, Expr, Lval, Rhs, Stmt, StmtKind, Var};
 use jz_io::Span;
-use jz_meaning::Reason;
 use std::alloc::{AllocError, Global};
 
 /// A fact that has to be given where the text stands at the span. Where it isn't, there is an alarm of this kind about the

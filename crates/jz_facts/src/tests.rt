@@ -2,9 +2,9 @@
 
 use crate::{Fact, at_entry, conditions, entails, gives, holds_after, result_conditions};
 use jz_data::{Seq, Text};
+use jz_first_meaning::{Expanded, Reason};
 use jz_first_tree::{BinOp, Decl, Expr, Fun, Lval, Param, Rhs, Stmt, StmtKind, Storage, Ty, Var};
 use jz_io::Span;
-use jz_meaning::{Expanded, Reason};
 use jz_words::Size;
 use std::alloc::{AllocError, Global};
 use std::test::Fail;

@@ -19,11 +19,11 @@ use Rattle.jz_first_tree.specs.declared.Rhs.TheVariants as rhs
 use Rattle.jz_first_tree.specs.declared.Stmt.{Stmt}
 use Rattle.jz_first_tree.specs.declared.StmtKind.{StmtKind}
 use Rattle.jz_first_tree.specs.declared.StmtKind.TheVariants as kind
-use Rattle.jz_meaning.specs.RunRules.{stuck, went}
-use Rattle.jz_meaning.specs.SourceStates.{Value, word, integer, key_of, Store, put, State}
-use Rattle.jz_meaning.specs.SourceValues.{Evaluation, numbers_first, and_then, defined, variable_value, evaluated}
-use Rattle.jz_meaning.specs.SourceRuns.{of_type, as_declared, held, written, operation, combined, assigned_value, assigned}
-use Rattle.jz_meaning.specs.StraightRuns.{run_statement, run_statements}
+use Rattle.jz_first_meaning.specs.RunRules.{stuck, went}
+use Rattle.jz_first_meaning.specs.SourceStates.{Value, word, integer, key_of, Store, put, State}
+use Rattle.jz_first_meaning.specs.SourceValues.{Evaluation, numbers_first, and_then, defined, variable_value, evaluated}
+use Rattle.jz_first_meaning.specs.SourceRuns.{of_type, as_declared, held, written, operation, combined, assigned_value, assigned}
+use Rattle.jz_first_meaning.specs.StraightRuns.{run_statement, run_statements}
 use Rattle.jz_correct.proofs.PlainCode.{word_in, operand_in, result_of, regs_of, regs_after}
 use Rattle.jz_lower.specs.Lowering.{alu_of, operand_of, assignment_insn, kind_insns, insns_of}
 use Rattle.jz_lower.specs.Living.{IsNamed, ReadsIn, ReadsAssigned, LivesThrough, LivesBefore, KeepsApart, KeepApart}

@@ -6,7 +6,7 @@ use Rattle.std.proofs.lemmas.List.{get_or-set_other}
 use Rattle.x64_insn.specs.declared.types.Reg.{Reg}
 use Rattle.x64_insn.specs.Table.{number_of}
 use Rattle.x64_insn.proofs.Registers.{same_register}
-use Rattle.jz_meaning.specs.SourceStates.{Value, Key, Store, put}
+use Rattle.jz_first_meaning.specs.SourceStates.{Value, Key, Store, put}
 use Rattle.jz_correct.proofs.PlainCode.{word_in}
 
 -- the key of a name

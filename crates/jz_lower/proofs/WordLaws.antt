@@ -6,7 +6,7 @@ use Rattle.jz_words.proofs.Residues.{residue_small, difference_residue}
 use Rattle.x64_insn.specs.Answers.{sum_answer, difference_answer, xor_answer}
 use Rattle.jz_first_tree.specs.declared.BinOp.{BinOp}
 use Rattle.jz_first_tree.specs.declared.BinOp.TheVariants as op
-use Rattle.jz_meaning.specs.SourceRuns.{operation}
+use Rattle.jz_first_meaning.specs.SourceRuns.{operation}
 use Rattle.jz_correct.proofs.PlainCode.{result_of}
 use Rattle.jz_lower.specs.Lowering.{alu_of}
 

@@ -22,8 +22,8 @@ use Rattle.jz_first_tree.specs.declared.StmtKind.{StmtKind}
 use Rattle.jz_first_tree.specs.declared.StmtKind.TheVariants as kind
 use Rattle.jz_first_tree.specs.Variables.{variables_of}
 use Rattle.jz_data.proofs.Lists.{All-front, All-back}
-use Rattle.jz_types.specs.TypedPrograms.{HasDeclaration}
-use Rattle.jz_types.specs.Uses.{left_side_uses, right_side_uses, kind_uses, body_uses, uses_of}
+use Rattle.jz_first_types.specs.TypedPrograms.{HasDeclaration}
+use Rattle.jz_first_types.specs.Uses.{left_side_uses, right_side_uses, kind_uses, body_uses, uses_of}
 use Rattle.jz_safety.specs.Alarms.{HasNoAlarm}
 use Rattle.jz_safety.specs.Resolved.{IsResolved}
 use Rattle.jz_listing.specs.declared.compiled.Compiled.{Compiled}

@@ -24,8 +24,8 @@ use Rattle.jz_first_tree.specs.Assignments.{AssignsToOne}
 use Rattle.jz_data.proofs.Lists.{All-front, All-back}
 use Rattle.jz_first_parse.specs.Trees.{register_word}
 use Rattle.jz_first_parse.specs.Derived.{DeclaresWords}
-use Rattle.jz_types.specs.TypedPrograms.{HaveDifferentNames, HasDeclaration, HaveDeclarations, HasCounts, HaveCounts}
-use Rattle.jz_types.specs.Uses.{right_side_uses, kind_uses, body_uses, uses_of}
+use Rattle.jz_first_types.specs.TypedPrograms.{HaveDifferentNames, HasDeclaration, HaveDeclarations, HasCounts, HaveCounts}
+use Rattle.jz_first_types.specs.Uses.{right_side_uses, kind_uses, body_uses, uses_of}
 use Rattle.jz_pass.specs.Limits.{Constant, HasField, reading, immediate_of, IsWithinLimits}
 use Rattle.jz_lower.specs.Straight.{IsWord, AreWords, GiveWords, SetsWord, SetWords, KindFits, FitImmediates, IsStraight}
 use Rattle.jz_pipeline.specs.Placed.{IsPlaceable}

@@ -8,7 +8,7 @@ use Rattle.std.proofs.lemmas.List.{map-append, take_more}
 use Rattle.jz_data.specs.declared.failure.Failure.{Failure}
 use Rattle.jz_data.specs.declared.failure.Failure.TheVariants.{Refused, OutOfMemory}
 use Rattle.jz_data.specs.Failures.{IfRefused}
-use Rattle.jz_meaning.specs.declared.expanded.Expanded.{Expanded}
+use Rattle.jz_first_meaning.specs.declared.expanded.Expanded.{Expanded}
 use Rattle.jz_first_tree.specs.declared.Fun.{Fun}
 use Rattle.jz_pass.specs.declared.limit.Limit.{Limit}
 use Rattle.jz_pass.specs.Limits.{IsWithinLimits, IsFirstLimit}

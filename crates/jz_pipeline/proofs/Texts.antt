@@ -11,9 +11,9 @@ use Rattle.jz_first_parse.specs.Deriving.{DerivesProgram}
 use Rattle.jz_first_parse.specs.Derived.{DeclaresWords}
 use Rattle.jz_first_parse.proofs.Assigning.{statements_one}
 use Rattle.jz_first_parse.proofs.Declaring.{words_declared}
-use Rattle.jz_types.specs.Resolving.{resolved_fun, resolved}
-use Rattle.jz_types.specs.TypedPrograms.{HaveDifferentNames, HaveDeclarations, HaveCounts}
-use Rattle.jz_meaning.specs.declared.expanded.Expanded.{Expanded}
+use Rattle.jz_first_types.specs.Resolving.{resolved_fun, resolved}
+use Rattle.jz_first_types.specs.TypedPrograms.{HaveDifferentNames, HaveDeclarations, HaveCounts}
+use Rattle.jz_first_meaning.specs.declared.expanded.Expanded.{Expanded}
 use Rattle.jz_pass.specs.Limits.{IsWithinLimits}
 use Rattle.jz_safety.proofs.Declaring.{keeps_one}
 use Rattle.jz_pipeline.specs.Placed.{IsPlaceable}

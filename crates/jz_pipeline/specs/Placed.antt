@@ -9,8 +9,8 @@ use Rattle.jz_alloc.specs.declared.placing.NoPlace as numbered
 use Rattle.jz_first_tree.specs.declared.Fun.{Fun}
 use Rattle.jz_first_tree.specs.declared.Var.{Var}
 use Rattle.jz_first_tree.specs.Variables.{variables_of}
-use Rattle.jz_types.specs.Uses.{uses_of}
-use Rattle.jz_types.specs.TypedPrograms.{HasDeclaration, HasCounts}
+use Rattle.jz_first_types.specs.Uses.{uses_of}
+use Rattle.jz_first_types.specs.TypedPrograms.{HasDeclaration, HasCounts}
 use Rattle.jz_listing.specs.declared.compiled.Compiled.{Compiled}
 use Rattle.jz_lower.specs.Straight.{IsStraight}
 use Rattle.jz_lower.specs.Operations.{code_of, operations_of, register_of}

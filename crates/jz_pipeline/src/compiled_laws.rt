@@ -3,7 +3,7 @@
 ghost use Rattle.std.specs.Prelude.{◌≡◌, Contains, All};
 ghost use Rattle.jz_first_tree.specs.declared.Program.{Program};
 ghost use Rattle.jz_first_tree.specs.declared.Fun.{Fun};
-ghost use Rattle.jz_types.specs.TypedPrograms.{HaveDifferentNames, HaveDeclarations, HaveCounts};
+ghost use Rattle.jz_first_types.specs.TypedPrograms.{HaveDifferentNames, HaveDeclarations, HaveCounts};
 ghost use Rattle.jz_first_parse.specs.Derived.{DeclaresWords};
 ghost use Rattle.jz_pass.specs.Limits.{IsWithinLimits};
 ghost use Rattle.jz_safety.specs.Alarms.{HasNoAlarm};

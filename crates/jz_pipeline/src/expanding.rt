@@ -7,9 +7,9 @@ ghost use Rattle.jz_pass.specs.Limits.{count_of, IsWithinLimits, IsFirstLimit};
 use crate::copying::copy_fun;
 use crate::limits::first_limit;
 use jz_data::Failure;
-use jz_meaning::Expanded;
+use jz_first_meaning::Expanded;
+use jz_first_types::Typed;
 use jz_pass::Limit;
-use jz_types::Typed;
 use std::alloc::Global;
 
 /// The function of that number after expansion, or the first limit that it passes. A function without calls and

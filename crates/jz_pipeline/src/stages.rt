@@ -11,11 +11,11 @@ use crate::compiling::compile_fun;
 use crate::expanding::expand;
 use crate::unplaced::NoPlace;
 use jz_data::{Failure, Seq};
+use jz_first_meaning::Expanded;
+use jz_first_types::Typed;
 use jz_listing::Compiled;
-use jz_meaning::Expanded;
 use jz_pass::Limit;
 use jz_safety::{Alarm, Safe, safe};
-use jz_types::Typed;
 use std::alloc::Global;
 
 /// Each function of a program after expansion, or the first limit that one passes.

@@ -2,13 +2,13 @@
 
 use crate::expand;
 use jz_data::{Failure, Seq, Text};
+use jz_first_meaning::Expanded;
 use jz_first_tree::{
     BinOp, Decl, Expr, Fun, Lval, Param, Program, Ret, Rhs, Stmt, StmtKind, Storage, Ty, Var,
 };
+use jz_first_types::{Typed, check};
 use jz_io::Span;
-use jz_meaning::Expanded;
 use jz_pass::{Limit, LimitKind};
-use jz_types::{Typed, check};
 use jz_words::Size;
 use std::alloc::{AllocError, Global};
 use std::test::Fail;

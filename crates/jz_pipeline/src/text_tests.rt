@@ -4,13 +4,13 @@ ghost use Rattle.std.specs.Prelude.{◌<◌, ◌+◌, ◌^◌, length};
 
 use crate::expand;
 use jz_data::Failure;
+use jz_first_meaning::Expanded;
 use jz_first_parse::parse_first;
+use jz_first_types::{TypeRule, Typed, check};
 use jz_io::Span;
 use jz_lex::lex;
-use jz_meaning::Expanded;
 use jz_pass::LimitKind;
 use jz_safety::safe;
-use jz_types::{TypeRule, Typed, check};
 use std::alloc::Global;
 
 #[derive(Debug, PartialEq, Eq, Clone, Copy)]

@@ -10,9 +10,9 @@ use Rattle.jz_first_tree.specs.declared.StmtKind.{StmtKind}
 use Rattle.jz_first_tree.specs.Variables.{variables_of}
 use Rattle.jz_first_tree.specs.Assignments.{AssignsToOne}
 use Rattle.jz_data.proofs.Lists.{All-front, All-back}
-use Rattle.jz_types.specs.Uses.{right_side_uses, kind_uses, body_uses, uses_of}
-use Rattle.jz_types.specs.Resolving.{resolved_var, resolved_rhs, resolved_kind, resolved_stmt, declaration_in, resolved_fun}
-use Rattle.jz_types.specs.TypedPrograms.{HasDeclaration, HaveDeclarations}
+use Rattle.jz_first_types.specs.Uses.{right_side_uses, kind_uses, body_uses, uses_of}
+use Rattle.jz_first_types.specs.Resolving.{resolved_var, resolved_rhs, resolved_kind, resolved_stmt, declaration_in, resolved_fun}
+use Rattle.jz_first_types.specs.TypedPrograms.{HasDeclaration, HaveDeclarations}
 use Rattle.jz_safety.specs.Resolved.{AssignsToDeclared, IsResolved}
 
 stmt_resolved : (vs : List Var) (s : Stmt) → AssignsToOne s → All (HasDeclaration vs) (kind_uses s.kind) → AssignsToDeclared s

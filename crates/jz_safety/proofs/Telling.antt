@@ -22,12 +22,12 @@ use Rattle.jz_first_tree.specs.declared.Rhs.TheVariants as rhs
 use Rattle.jz_first_tree.specs.declared.Stmt.{Stmt}
 use Rattle.jz_first_tree.specs.declared.StmtKind.{StmtKind}
 use Rattle.jz_leak.specs.RunLeaks.{Leak}
-use Rattle.jz_meaning.specs.RunRules.{stuck, went, End, Stuck}
-use Rattle.jz_meaning.specs.SourceStates.{Value, word, integer, key_of, Store, empty_store, put, State, Why}
-use Rattle.jz_meaning.specs.SourceValues.{Evaluation, numbers_first, and_then, defined, variable_value}
-use Rattle.jz_meaning.specs.SourceRuns.{of_type, as_declared, held, written, right_value, combined, assigned_value, assigned, value_of_type, argument, with_arguments, entry_state, word_of, result_words, outcome_of_words, FunOutcome, FitsDecl, AreArguments, IsRun}
-use Rattle.jz_meaning.specs.StraightRuns.{run_statement, run_statements, words_returned, plain_leak}
-use Rattle.jz_meaning.proofs.StraightLaws.{fun_straight}
+use Rattle.jz_first_meaning.specs.RunRules.{stuck, went, End, Stuck}
+use Rattle.jz_first_meaning.specs.SourceStates.{Value, word, integer, key_of, Store, empty_store, put, State, Why}
+use Rattle.jz_first_meaning.specs.SourceValues.{Evaluation, numbers_first, and_then, defined, variable_value}
+use Rattle.jz_first_meaning.specs.SourceRuns.{of_type, as_declared, held, written, right_value, combined, assigned_value, assigned, value_of_type, argument, with_arguments, entry_state, word_of, result_words, outcome_of_words, FunOutcome, FitsDecl, AreArguments, IsRun}
+use Rattle.jz_first_meaning.specs.StraightRuns.{run_statement, run_statements, words_returned, plain_leak}
+use Rattle.jz_first_meaning.proofs.StraightLaws.{fun_straight}
 use Rattle.jz_facts.specs.declared.fact.Fact.TheVariants.{Set}
 use Rattle.jz_facts.specs.declared.condition.Condition.{Condition}
 use Rattle.jz_facts.specs.Facts.{Facts, no_facts, with_fact}

@@ -1,8 +1,8 @@
 //! Alarms.
 
 use jz_data::Text;
+use jz_first_meaning::Reason;
 use jz_io::Span;
-use jz_meaning::Reason;
 
 /// A condition that the facts don't give: where it is asked, what would be wrong, and of which variable.
 #[derive(Debug, Drop, PartialEq, Eq)]

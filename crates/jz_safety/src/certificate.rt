@@ -3,7 +3,7 @@
 ghost use Rattle.std.specs.Prelude.{◌≡◌};
 ghost use Rattle.jz_safety.specs.Alarms.{HasNoAlarm};
 
-use jz_meaning::Expanded;
+use jz_first_meaning::Expanded;
 use std::marker::Model;
 
 /// A function without an alarm, as `safe` found. Contracts see the function itself.
@@ -13,7 +13,7 @@ pub struct Safe {
 }
 
 impl Model for Safe {
-    ghost use Rattle.jz_meaning.specs.declared.expanded.Expanded.{Expanded};
+    ghost use Rattle.jz_first_meaning.specs.declared.expanded.Expanded.{Expanded};
     ghost use Rattle.jz_safety.specs.Alarms.{HasNoAlarm};
 
     ghost Value = { Expanded };

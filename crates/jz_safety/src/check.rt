@@ -10,8 +10,8 @@ use crate::alarm::Alarm;
 use crate::certificate::Safe;
 use jz_data::{Failure, Seq};
 use jz_facts::{Condition, FactSet, at_entry, conditions, gives, holds_after, result_conditions};
+use jz_first_meaning::Expanded;
 use jz_first_tree::Stmt;
-use jz_meaning::Expanded;
 use std::alloc::Global;
 
 fn check_conditions(set: &FactSet, asked: &Seq<Condition>) -> Result<(), Failure<Alarm>>

@@ -5,14 +5,14 @@ ghost use Rattle.jz_words.specs.Memory.{Memory};
 ghost use Rattle.jz_first_tree.specs.declared.Program.{Program};
 ghost use Rattle.jz_first_tree.specs.declared.Fun.{Fun};
 ghost use Rattle.jz_first_tree.specs.Assignments.{AssignsToOne};
-ghost use Rattle.jz_meaning.specs.RunRules.{End, Stuck};
-ghost use Rattle.jz_meaning.specs.SourceStates.{Why};
-ghost use Rattle.jz_meaning.specs.SourceRuns.{FunOutcome, IsRun};
-ghost use Rattle.jz_meaning.specs.StraightRuns.{plain_leak};
+ghost use Rattle.jz_first_meaning.specs.RunRules.{End, Stuck};
+ghost use Rattle.jz_first_meaning.specs.SourceStates.{Why};
+ghost use Rattle.jz_first_meaning.specs.SourceRuns.{FunOutcome, IsRun};
+ghost use Rattle.jz_first_meaning.specs.StraightRuns.{plain_leak};
 ghost use Rattle.jz_safety.specs.declared.alarm.Alarm.{Alarm};
 ghost use Rattle.jz_safety.specs.Alarms.{HasNoAlarm, IsFirstAlarm};
-ghost use Rattle.jz_types.specs.Resolving.{resolved_fun};
-ghost use Rattle.jz_types.specs.TypedPrograms.{HaveDeclarations};
+ghost use Rattle.jz_first_types.specs.Resolving.{resolved_fun};
+ghost use Rattle.jz_first_types.specs.TypedPrograms.{HaveDeclarations};
 ghost use Rattle.jz_safety.specs.Resolved.{IsResolved};
 
 /// A function has one first alarm, or no alarm, and never both.

@@ -2,11 +2,11 @@
 
 use crate::{Alarm, safe};
 use jz_data::{Failure, Seq, Text};
+use jz_first_meaning::{Expanded, Reason};
 use jz_first_tree::{
     BinOp, Decl, Expr, Fun, Lval, Param, Ret, Rhs, Stmt, StmtKind, Storage, Ty, Var,
 };
 use jz_io::Span;
-use jz_meaning::{Expanded, Reason};
 use jz_words::Size;
 use std::alloc::{AllocError, Global};
 use std::test::Fail;

@@ -1,5 +1,5 @@
 use Rattle.std.proofs.Common.{List, map, ap, ◌∙◌}
-use Rattle.jz_meaning.specs.declared.expanded.Expanded.{Expanded}
+use Rattle.jz_first_meaning.specs.declared.expanded.Expanded.{Expanded}
 use Rattle.jz_pipeline.proofs.Texts.{read_placeable, placeable_handed_on}
 use Rattle.jz_pipeline.proofs.compile_tests.answer.Goals as goal
 

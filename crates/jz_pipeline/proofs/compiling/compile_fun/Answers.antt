@@ -1,7 +1,7 @@
 use Rattle.std.proofs.Common.{sym, ap, subst, ◌∙◌}
 use Rattle.jz_ir.specs.declared.code.Code.{Code}
 use Rattle.jz_ir.specs.Places.{IsWithin}
-use Rattle.jz_meaning.specs.declared.expanded.Expanded.{Expanded}
+use Rattle.jz_first_meaning.specs.declared.expanded.Expanded.{Expanded}
 use Rattle.jz_lower.specs.Operations.{code_of}
 use Rattle.jz_pipeline.proofs.Linked.{placeable_within}
 use Rattle.jz_pipeline.proofs.compiling.compile_fun.Goals as goal

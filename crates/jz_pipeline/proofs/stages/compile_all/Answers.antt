@@ -1,6 +1,6 @@
 use Rattle.std.proofs.Common.{List, take, map, sym, subst, ◌+◌}
 use Rattle.jz_data.specs.Failures.{IfRefused}
-use Rattle.jz_meaning.specs.declared.expanded.Expanded.{Expanded}
+use Rattle.jz_first_meaning.specs.declared.expanded.Expanded.{Expanded}
 use Rattle.jz_listing.specs.declared.compiled.Compiled.{Compiled}
 use Rattle.jz_safety.proofs.Checking.{passed_on}
 use Rattle.jz_pipeline.specs.Placed.{AreCompiled, IsUnplaced}

@@ -1,7 +1,7 @@
 use Rattle.std.proofs.Common.{List, ◌++◌, ap, sym, subst, ◌∙◌}
 use Rattle.std.specs.Prelude.{All}
 use Rattle.jz_data.specs.Failures.{IfRefused}
-use Rattle.jz_meaning.specs.declared.expanded.Expanded.{Expanded}
+use Rattle.jz_first_meaning.specs.declared.expanded.Expanded.{Expanded}
 use Rattle.jz_safety.specs.Alarms.{HasNoAlarm, IsFirstAlarm}
 use Rattle.jz_safety.proofs.Checking.{passed_on}
 use Rattle.jz_pipeline.specs.Stages.{IsFirstRefusal}

@@ -1,0 +1,35 @@
+-- What a function without branches, loops and calls gives: its statements are done one after another.
+use Rattle.std.specs.Prelude.{ℕ, List, [], ◌∷◌}
+use Rattle.jz_words.specs.Memory.{Memory}
+use Rattle.jz_first_tree.specs.declared.Fun.{Fun}
+use Rattle.jz_first_tree.specs.declared.Stmt.{Stmt}
+use Rattle.jz_first_tree.specs.declared.StmtKind.{StmtKind}
+use Rattle.jz_first_tree.specs.declared.StmtKind.TheVariants as kind
+use Rattle.jz_io.specs.declared.span.Span.{Span}
+use Rattle.jz_leak.specs.RunLeaks.{Leak, over, ran}
+use Rattle.jz_first_meaning.specs.RunRules.{went}
+use Rattle.jz_first_meaning.specs.SourceStates.{State}
+use Rattle.jz_first_meaning.specs.SourceValues.{Evaluation, and_then}
+use Rattle.jz_first_meaning.specs.SourceRuns.{assigned, entry_state, result_words, outcome_of_words, FunOutcome}
+
+-- the state after a statement
+abbrev pub run_statement : StmtKind → Span → State → Evaluation State
+run_statement (kind.Assign to o r) at s = assigned to o r at s
+
+-- the state after statements
+abbrev pub run_statements : List Stmt → State → Evaluation State
+run_statements [] s = went [] s
+run_statements (x ∷ xs) s = and_then (run_statement x.kind x.span s) (run_statements xs)
+
+-- the words that a function returns
+abbrev pub words_returned : Fun → List ℕ → Memory → Evaluation (List ℕ)
+words_returned f words memory = and_then (run_statements f.body (entry_state f words memory)) (λ s. result_words f.result s.store)
+
+-- an item without numbers for each statement
+abbrev pub plain_leak : List Stmt → Leak
+plain_leak [] = over
+plain_leak (x ∷ xs) = ran [] (plain_leak xs)
+
+-- what a run comes to: the words, the memory as it was, and each of the n turns left
+abbrev pub straight_outcome : Fun → List ℕ → Memory → ℕ → FunOutcome
+straight_outcome f words memory n = outcome_of_words memory n (plain_leak f.body) (words_returned f words memory)

@@ -1,0 +1,55 @@
+//! Functions with other numbers of parameters and results than they may have.
+
+ghost use Rattle.std.specs.Prelude.{◌≡◌};
+ghost use Rattle.jz_first_types.specs.Faults.{first_of};
+ghost use Rattle.jz_first_types.specs.Joining.{first_in};
+ghost use Rattle.jz_first_types.specs.Rules.{miscounted, misshapen};
+
+use crate::fault::{TypeFault, TypeRule, earlier_of};
+use jz_first_tree::{Fun, Program};
+
+fn miscounted_fun(fun: &Fun) -> Option<TypeFault>
+    ensures { result ≡ first_of (miscounted fun.now) }
+{
+    if fun.result.len() == fun.rets.len() {
+        return None;
+    }
+    Some(TypeFault {
+        rule: TypeRule::Mismatch,
+        span: fun.span,
+    })
+}
+
+/// The first function that gives back another number of results than it declares.
+pub(crate) fn miscounted_funs(program: &Program) -> Option<TypeFault>
+    ensures { result ≡ first_in miscounted program.now.funs }
+{
+    let mut first = None;
+    for fun in program.funs.as_slice() {
+        first = earlier_of(first, miscounted_fun(fun));
+    }
+    first
+}
+
+fn misshapen_fun(fun: &Fun) -> Option<TypeFault>
+    ensures { result ≡ first_of (misshapen fun.now) }
+{
+    if fun.params.len() <= 6 && fun.rets.len() <= 2 {
+        return None;
+    }
+    Some(TypeFault {
+        rule: TypeRule::ExportShape,
+        span: fun.span,
+    })
+}
+
+/// The first function with too many parameters or results.
+pub(crate) fn misshapen_funs(program: &Program) -> Option<TypeFault>
+    ensures { result ≡ first_in misshapen program.now.funs }
+{
+    let mut first = None;
+    for fun in program.funs.as_slice() {
+        first = earlier_of(first, misshapen_fun(fun));
+    }
+    first
+}

@@ -1,5 +1,0 @@
-use Rattle.jz_meaning.proofs.StraightLaws.{fun_straight}
-use Rattle.jz_meaning.proofs.straight.runs_of_assignments.Goals as goal
-
-pub returns : goal.returns
-returns c = fun_straight
