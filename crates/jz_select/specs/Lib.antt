@@ -2,7 +2,6 @@ pub mod Sums
 pub mod Look
 pub mod Places
 pub mod Operands
-pub mod Spellings
 pub mod Rows
 pub mod Shapes
 pub mod Selected

@@ -13,8 +13,8 @@ use Rattle.jz_select.specs.declared.class.Class.TheVariants as class
 use Rattle.jz_select.specs.declared.class.Meeting.{Meeting}
 use Rattle.jz_select.specs.declared.class.Meeting.TheVariants as meeting
 use Rattle.jz_select.specs.declared.class.Operand.{Operand}
-use Rattle.jz_select.specs.declared.pattern.Intrinsic.{Intrinsic}
-use Rattle.jz_select.specs.declared.pattern.Intrinsic.TheVariants as name
+use Rattle.jz_tree.specs.declared.intrinsic.Intrinsic.{Intrinsic}
+use Rattle.jz_tree.specs.declared.intrinsic.Intrinsic.TheVariants as name
 use Rattle.jz_select.specs.declared.shape.Value.TheVariants as values
 use Rattle.jz_select.specs.declared.shape.Shape.{Shape}
 use Rattle.jz_select.specs.declared.shape.Shape.TheVariants as shapes

@@ -3,8 +3,8 @@ use Rattle.std.specs.Prelude.{ℕ, Bool, true, false, nat_eq, List, [], ◌∷�
 use Rattle.jz_tree.specs.declared.stmt.StmtKind.{StmtKind}
 use Rattle.jz_select.specs.declared.pattern.Pattern.{Pattern}
 use Rattle.jz_select.specs.declared.pattern.Pattern.TheVariants as pattern
-use Rattle.jz_select.specs.declared.pattern.Intrinsic.{Intrinsic}
-use Rattle.jz_select.specs.declared.pattern.Intrinsic.TheVariants as name
+use Rattle.jz_tree.specs.declared.intrinsic.Intrinsic.{Intrinsic}
+use Rattle.jz_tree.specs.declared.intrinsic.Intrinsic.TheVariants as name
 use Rattle.jz_select.specs.declared.shape.Shape.{Shape}
 use Rattle.jz_select.specs.Rows.{p1, p2, p3, p4, p5, p6, p7, p8, p9, p10, p11, p12, p13, p14, condition, intrinsic_of}
 use Rattle.jz_tree.specs.declared.expr.Expr.{Expr}

@@ -21,20 +21,20 @@ use Rattle.jz_select.specs.declared.class.Class.{Class}
 use Rattle.jz_select.specs.declared.class.Class.TheVariants as class
 use Rattle.jz_select.specs.declared.class.Meeting.TheVariants as meeting
 use Rattle.jz_select.specs.declared.class.Operand.{Operand}
-use Rattle.jz_select.specs.declared.pattern.Intrinsic.{Intrinsic}
-use Rattle.jz_select.specs.declared.pattern.Intrinsic.TheVariants as name
+use Rattle.jz_tree.specs.declared.intrinsic.Intrinsic.{Intrinsic}
+use Rattle.jz_tree.specs.declared.intrinsic.Intrinsic.TheVariants as name
 use Rattle.jz_select.specs.declared.shape.Value.{Value}
 use Rattle.jz_select.specs.declared.shape.Value.TheVariants as values
 use Rattle.jz_select.specs.declared.shape.Shape.{Shape}
 use Rattle.jz_select.specs.declared.shape.Shape.TheVariants as shapes
-use Rattle.jz_select.specs.declared.spelling.Instance.{Instance}
+use Rattle.jz_tree.specs.declared.intrinsic.Instance.{Instance}
 use Rattle.jz_select.specs.declared.shaping.Flags.{Flags}
 use Rattle.jz_select.specs.declared.shaping.Flags.TheVariants as flags
 use Rattle.jz_select.specs.Look.{decl_of, look_of, is_inline_var, terms_of}
 use Rattle.jz_select.specs.Sums.{is_sum}
 use Rattle.jz_select.specs.Places.{Layer}
 use Rattle.jz_select.specs.Operands.{class_of, dest_of, operand_of, var_class}
-use Rattle.jz_select.specs.Spellings.{spelled}
+use Rattle.jz_tree.specs.Spellings.{spelled}
 use Rattle.jz_select.specs.Rows.{is_m, is_rm, is_rmi, is_flag, is_flag_result, is_apart}
 
 -- ---- right sides

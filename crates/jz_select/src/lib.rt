@@ -10,9 +10,8 @@ mod rows;
 mod selecting;
 mod shape;
 mod shaping;
-mod spelling;
 
-pub use pattern::{Intrinsic, Pattern};
+pub use pattern::Pattern;
 pub use selecting::{one_row, select, select_copy};
 
 #[cfg(test)]

@@ -1,7 +1,6 @@
 // A statement in the words of the table.
 use crate::class::{Class, Operand};
-use crate::pattern::Intrinsic;
-use jz_tree::BinOp;
+use jz_tree::{BinOp, Intrinsic};
 use jz_words::Size;
 
 /// The right side of an assignment, by its outermost operation.

@@ -10,12 +10,10 @@ ghost use Rattle.jz_select.specs.Shapes.{carries as carries_is, carry_layer, val
 use crate::class::{Class, Meeting, Operand};
 use crate::look::{inline, is_inline, sum};
 use crate::operand::{class, class_of_var, dest, operand};
-use crate::pattern::Intrinsic;
 use crate::rows::{apart, flag, flag_result, m, rm, rmi};
 use crate::shape::{Shape, Value};
-use crate::spelling::{Instance, spelled};
 use jz_data::Seq;
-use jz_tree::{BinOp, Expr, Lval, Rhs, StmtKind, Var};
+use jz_tree::{BinOp, Expr, Instance, Intrinsic, Lval, Rhs, StmtKind, Var, spelled};
 
 /// How many flags an intrinsic gives before its values.
 #[derive(Clone, Copy)]

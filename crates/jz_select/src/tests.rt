@@ -1,9 +1,9 @@
 // Statements and the rows that they match. A table has the results, a sign, and the operands, each before its operator:
 // `r1 r2 8 * + []` is `[r1 + r2 * 8]`, `t r1 @` is `t[r1]`.
-use crate::{Intrinsic, Pattern, select};
+use crate::{Pattern, select};
 use jz_data::{Boxed, Seq, Text};
 use jz_io::Span;
-use jz_tree::{Access, BinOp, Decl, Expr, Lval, Rhs, Stmt, StmtKind, Storage, Ty, Var};
+use jz_tree::{Access, BinOp, Decl, Expr, Intrinsic, Lval, Rhs, Stmt, StmtKind, Storage, Ty, Var};
 use jz_words::Size;
 use std::alloc::{AllocError, Global};
 use std::process::Abort;

@@ -5,11 +5,13 @@ mod comparing;
 mod copying;
 mod copying_statements;
 mod expr;
+mod intrinsic;
 mod program;
 mod stmt;
 
 pub use copying_statements::{copy_block, copy_exprs, copy_lvals, copy_notes, copy_vars};
 pub use expr::{Access, BinOp, Decl, Expr, Storage, Ty, Var};
+pub use intrinsic::{Instance, Intrinsic, spelled};
 pub use program::{Const, Fun, FunKind, Note, NoteValue, Param, Program, Ret};
 pub use stmt::{Lval, Rhs, Stmt, StmtKind};
 

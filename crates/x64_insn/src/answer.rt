@@ -10,9 +10,9 @@ use jz_words::{Size, Word, add_carry, and, or, parity, sub_borrow, xor};
 
 /// A word of the result, and the flags in the order of `Flag`.
 #[derive(Clone, Copy)]
-pub(crate) struct Answer {
-    pub(crate) value: u64,
-    pub(crate) flags: [FlagVal; 5],
+pub struct Answer {
+    pub value: u64,
+    pub flags: [FlagVal; 5],
 }
 
 pub(crate) fn flag(set: bool) -> FlagVal
@@ -139,7 +139,7 @@ pub(crate) fn xor_answer(a: Word, b: Word) -> Answer
 }
 
 /// An operation on two words of one size, with the carry that ADC and SBB read.
-pub(crate) fn alu_answer(op: Alu, a: Word, b: Word, c: bool) -> Answer
+pub fn alu_answer(op: Alu, a: Word, b: Word, c: bool) -> Answer
     requires { a.size ≡ b.size }
     ensures value { result ≡ alu_answer op a.size a.bits b.bits c }
     ensures fits { result.value < modulus a.size }
@@ -179,7 +179,7 @@ fn with_carry_of(old: [FlagVal; 5], answer: Answer) -> Answer
 
 /// An operation on one word, with the flags of before.
 #[tactic(auto, unfolding(crate::specs::Answers::one_answer))]
-pub(crate) fn one_answer(op: One, a: Word, old: [FlagVal; 5]) -> Answer
+pub fn one_answer(op: One, a: Word, old: [FlagVal; 5]) -> Answer
     ensures value { result ≡ one_answer op a.size a.bits old }
     ensures fits { result.value < modulus a.size }
 {

@@ -13,10 +13,10 @@ use jz_words::{Word, mul_signed, mul_wide, residue};
 /// Two words of the result, the high and the low one of a product, or remainder and quotient; and the flags in the order
 /// of `Flag`.
 #[derive(Clone, Copy)]
-pub(crate) struct DoubleAnswer {
-    pub(crate) high: u64,
-    pub(crate) low: u64,
-    pub(crate) flags: [FlagVal; 5],
+pub struct DoubleAnswer {
+    pub high: u64,
+    pub low: u64,
+    pub flags: [FlagVal; 5],
 }
 
 // The flags of a product, by whether it needs more than the low word.
@@ -29,7 +29,7 @@ fn product_flags(more: bool) -> [FlagVal; 5]
 
 /// Both words of the unsigned product of two words of one size.
 #[tactic(auto, unfolding(crate::specs::Products::product_answer))]
-pub(crate) fn product_answer(a: Word, b: Word) -> DoubleAnswer
+pub fn product_answer(a: Word, b: Word) -> DoubleAnswer
     requires { a.size ≡ b.size }
     ensures value { result ≡ product_answer a.size a.bits b.bits }
     ensures high { result.high < modulus a.size }
@@ -47,7 +47,7 @@ pub(crate) fn product_answer(a: Word, b: Word) -> DoubleAnswer
 
 /// Both words of the signed product of two words of one size.
 #[tactic(auto, unfolding(crate::specs::Products::signed_product_answer))]
-pub(crate) fn signed_product_answer(a: Word, b: Word) -> DoubleAnswer
+pub fn signed_product_answer(a: Word, b: Word) -> DoubleAnswer
     requires { a.size ≡ b.size }
     ensures value { result ≡ signed_product_answer a.size a.bits b.bits }
     ensures high { result.high < modulus a.size }
@@ -64,7 +64,7 @@ pub(crate) fn signed_product_answer(a: Word, b: Word) -> DoubleAnswer
 
 /// The low word of the signed product of two words of one size.
 #[tactic(auto, unfolding(crate::specs::Products::low_product_answer))]
-pub(crate) fn low_product_answer(a: Word, b: Word) -> Answer
+pub fn low_product_answer(a: Word, b: Word) -> Answer
     requires { a.size ≡ b.size }
     ensures value { result ≡ low_product_answer a.size a.bits b.bits }
     ensures fits { result.value < modulus a.size }
@@ -86,7 +86,7 @@ fn double_word(high: Word, low: Word) -> u128
 
 /// Remainder and quotient of two words by a third, all of one size; none where that is 0 or no word holds the quotient.
 #[tactic(auto, unfolding(crate::specs::Products::quotient_answer))]
-pub(crate) fn quotient_answer(high: Word, low: Word, divisor: Word) -> Option<DoubleAnswer>
+pub fn quotient_answer(high: Word, low: Word, divisor: Word) -> Option<DoubleAnswer>
     requires low { high.size ≡ low.size }
     requires divisor { high.size ≡ divisor.size }
     ensures value { result ≡ quotient_answer high.size high.bits low.bits divisor.bits }
@@ -131,7 +131,7 @@ fn rounded_quotient(dividend: i128, divisor: i128) -> Option<(i128, i128)>
 
 /// The same of signed words: the quotient is rounded towards 0.
 #[tactic(auto, unfolding(crate::specs::Products::signed_quotient_answer))]
-pub(crate) fn signed_quotient_answer(high: Word, low: Word, divisor: Word) -> Option<DoubleAnswer>
+pub fn signed_quotient_answer(high: Word, low: Word, divisor: Word) -> Option<DoubleAnswer>
     requires low { high.size ≡ low.size }
     requires divisor { high.size ≡ divisor.size }
     ensures value { result ≡ signed_quotient_answer high.size high.bits low.bits divisor.bits }

@@ -156,7 +156,7 @@ fn shift_flags(kind: Shift, a: Word, count: u32, old: [FlagVal; 5]) -> [FlagVal;
 
 /// What a shift by a masked count leaves: the count 0 changes nothing.
 #[tactic(auto, unfolding(crate::specs::Shifts::shift_answer))]
-pub(crate) fn shift_answer(kind: Shift, a: Word, count: u32, old: [FlagVal; 5]) -> Answer
+pub fn shift_answer(kind: Shift, a: Word, count: u32, old: [FlagVal; 5]) -> Answer
     requires { count < 64 }
     ensures value { result ≡ shift_answer kind a.size a.bits count old }
     ensures fits { result.value < modulus a.size }

@@ -1,9 +1,38 @@
-// The names of the intrinsics.
-ghost use Rattle.std.specs.Prelude.{◌≡◌};
-ghost use Rattle.jz_select.specs.Spellings.{sized as sized_is, entry as entry_of, or_else, sums_named, ones_named, shifts_named, rest_named, spelled as spelled_as};
+//! The intrinsics, and how a text names them.
 
-use crate::pattern::Intrinsic;
+ghost use Rattle.std.specs.Prelude.{◌≡◌};
+ghost use Rattle.jz_tree.specs.Spellings.{sized as sized_is, entry as entry_of, or_else, sums_named, ones_named, shifts_named, rest_named, spelled as spelled_as};
+
 use jz_words::Size;
+
+/// An instruction that a statement names.
+#[derive(Clone, Copy, Debug, PartialEq, Eq)]
+pub enum Intrinsic {
+    Add,
+    Sub,
+    And,
+    Or,
+    Xor,
+    Adc,
+    Sbb,
+    Neg,
+    Inc,
+    Dec,
+    Not,
+    Bswap,
+    Lea,
+    Cmp,
+    Test,
+    Shl,
+    Shr,
+    Sar,
+    Rol,
+    Ror,
+    Imul,
+    Mul,
+    Div,
+    Setcc,
+}
 
 /// An intrinsic, and the size that its name says.
 #[derive(Clone, Copy)]

@@ -3,9 +3,9 @@ use Rattle.std.specs.Prelude.{ℕ, List, Option, Some, None, codes, if◌then◌
 use Rattle.std.specs.Str.{bytes_eq}
 use Rattle.jz_words.specs.declared.size.Size.{Size}
 use Rattle.jz_words.specs.declared.size.Size.TheVariants as sizes
-use Rattle.jz_select.specs.declared.pattern.Intrinsic.{Intrinsic}
-use Rattle.jz_select.specs.declared.pattern.Intrinsic.TheVariants as name
-use Rattle.jz_select.specs.declared.spelling.Instance.{Instance}
+use Rattle.jz_tree.specs.declared.intrinsic.Intrinsic.{Intrinsic}
+use Rattle.jz_tree.specs.declared.intrinsic.Intrinsic.TheVariants as name
+use Rattle.jz_tree.specs.declared.intrinsic.Instance.{Instance}
 
 -- the size that a name says, where it is the name of that intrinsic
 unfoldable pub sized : List ℕ → List ℕ → List ℕ → List ℕ → List ℕ → List ℕ → Option (Option Size)
