@@ -1,0 +1,44 @@
+-- The earlier of places, and the earliest of two lists, one after the other.
+use Rattle.std.proofs.Common.{◌≡◌, ℕ, Bool, true, false, ◌&&◌, ◌||◌, List, [], ◌∷◌, ◌++◌, Option, Some, None, refl, sym, ap, ◌∙◌, arith}
+use Rattle.std.specs.Prelude.{if◌then◌else◌, nat_lt, nat_eq}
+use Rattle.std.proofs.lemmas.Bool.Decides.{nat_tests}
+use Rattle.jz_io.specs.declared.span.Span.{Span}
+use Rattle.jz_scopes.specs.Order.{is_before, earlier, earliest}
+
+pub before_trans : (a b c : Span) → is_before a b ≡ true → is_before b c ≡ true → is_before a c ≡ true
+before_trans a b c p q = grind (arith, nat_tests)
+
+pub before_not : (a b c : Span) → is_before a b ≡ false → is_before b c ≡ false → is_before a c ≡ false
+before_not a b c p q = grind (arith, nat_tests)
+
+pub before_self : (a : Span) → is_before a a ≡ false
+before_self a = grind (arith, nat_tests)
+
+pick : Bool → Span → Span → Option Span
+pick b g f = if b then Some g else Some f
+
+three : (x y z : Span) (yx zy zx : Bool) → is_before y x ≡ yx → is_before z y ≡ zy → is_before z x ≡ zx
+    → earlier (if yx then Some y else Some x) (Some z) ≡ earlier (Some x) (if zy then Some z else Some y)
+three x y z true true zx p q r = simp (q, before_trans z y x q p)
+three x y z true false zx p q r = simp (q, p)
+three x y z false true zx p q r = refl
+three x y z false false zx p q r = simp (p, before_not z y x q p)
+
+pub earlier-assoc : (a b c : Option Span) → earlier (earlier a b) c ≡ earlier a (earlier b c)
+earlier-assoc None b c = refl
+earlier-assoc (Some x) None c = refl
+earlier-assoc (Some x) (Some y) None = elim (is_before y x) as (λ b. earlier (if b then Some y else Some x) None ≡ (if b then Some y else Some x)) [ true ↦ refl | false ↦ refl ]
+earlier-assoc (Some x) (Some y) (Some z) = three x y z _ _ _ refl refl refl
+
+pub none-earlier : (a : Option Span) → earlier None a ≡ a
+none-earlier a = refl
+
+pub earlier-none : (a : Option Span) → earlier a None ≡ a
+earlier-none None = refl
+earlier-none (Some x) = refl
+
+pub earliest-append : (xs ys : List Span) → earliest (xs ++ ys) ≡ earlier (earliest xs) (earliest ys)
+earliest-append [] ys = sym (none-earlier (earliest ys))
+earliest-append (x ∷ xs) ys = ap (earlier (Some x)) (earliest-append xs ys) ∙ sym (earlier-assoc (Some x) (earliest xs) (earliest ys))
+
+pub ruleset earlier_laws = (earlier-assoc, none-earlier, earlier-none)

@@ -1,0 +1,47 @@
+-- The names that a program declares.
+use Rattle.std.specs.Prelude.{ℕ, List, ◌++◌, map, find, Option, Some, None, option_map}
+use Rattle.std.specs.Str.{bytes_eq}
+use Rattle.jz_io.specs.declared.span.Span.{Span}
+use Rattle.jz_tree.specs.declared.expr.Var.{Var}
+use Rattle.jz_tree.specs.declared.expr.Expr.TheViews.{out-Var}
+use Rattle.jz_tree.specs.declared.program.Const.{Const}
+use Rattle.jz_tree.specs.declared.program.Fun.{Fun}
+
+-- a name where it stands
+abbrev pub Name : Type 0
+Name = List ℕ × Span
+
+abbrev pub name_of : Var → Name
+name_of v = ((out-Var v).name, (out-Var v).span)
+
+abbrev pub places_of : List Name → List Span
+places_of ns = map (λ n. n.1) ns
+
+-- the parameters and variables of a function, in the order of the text
+abbrev pub variables_of : Fun → List Var
+variables_of f = map (λ p. p.var) f.params ++ f.vars
+
+-- the first of that name
+abbrev pub variable_named : List ℕ → List Var → Option Var
+variable_named n vs = find (λ v. bytes_eq n (out-Var v).name) vs
+
+abbrev pub constant_named : List ℕ → List Const → Option Const
+constant_named n cs = find (λ c. bytes_eq n c.name) cs
+
+abbrev pub function_named : List ℕ → List Fun → Option Fun
+function_named n fs = find (λ f. bytes_eq n f.name) fs
+
+abbrev pub or_else : {A : Type 0} → Option A → Option A → Option A
+or_else None b = b
+or_else (Some a) b = Some a
+
+-- where the variable of that name is declared
+abbrev pub variable_place : Fun → List ℕ → Option Span
+variable_place f n = option_map (λ v. (out-Var v).span) (variable_named n (variables_of f))
+
+abbrev pub constant_place : List Const → List ℕ → Option Span
+constant_place cs n = option_map (λ c. c.span) (constant_named n cs)
+
+-- where a value of that name is declared: the variable, or where there is none the constant
+abbrev pub value_place : List Const → Fun → List ℕ → Option Span
+value_place cs f n = or_else (variable_place f n) (constant_place cs n)

@@ -1,0 +1,8 @@
+//! The places of a text, the names that a program declares and uses, and the parts of its statements.
+#![tactic(auto)]
+
+mod kinds;
+mod order;
+
+pub use kinds::{Declared, Kind, declaration, known};
+pub use order::{earlier_of, is_before, unless};
