@@ -4,6 +4,8 @@
 mod answer;
 pub mod correctness;
 mod exec;
+#[cfg(test)]
+mod front_tests;
 mod halt;
 #[cfg(test)]
 mod language_tests;

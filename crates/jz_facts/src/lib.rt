@@ -6,8 +6,6 @@ mod fact;
 mod holding;
 mod laws;
 mod set;
-#[cfg(test)]
-mod tests;
 
 pub use condition::{Condition, conditions, result_conditions};
 pub use fact::{Fact, entails};

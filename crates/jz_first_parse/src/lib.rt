@@ -7,8 +7,6 @@ mod function;
 mod operation;
 mod read;
 mod statement;
-#[cfg(test)]
-mod tests;
 
 pub use derived::{functions_declare_words, names_are_identifiers, statements_assign_to_one};
 pub use read::{a_fault_is_at_a_token, no_fault_of_a_program, one_fault, one_program, parse_first};

@@ -8,8 +8,6 @@ mod laws;
 mod names;
 mod resolve;
 mod scope;
-#[cfg(test)]
-mod tests;
 mod typed;
 mod unknown;
 

@@ -5,8 +5,6 @@ mod alarm;
 mod certificate;
 mod check;
 mod laws;
-#[cfg(test)]
-mod tests;
 
 pub use alarm::Alarm;
 pub use certificate::Safe;
