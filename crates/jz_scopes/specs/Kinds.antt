@@ -1,5 +1,5 @@
 -- What is declared of the variables in an expression, and what is known when the text is compiled.
-use Rattle.std.specs.Prelude.{ℤ, Bool, true, false, ◌&&◌, nat_eq, Option, Some, None, option_map}
+use Rattle.std.specs.Prelude.{ℤ, Bool, true, false, not, ◌&&◌, nat_eq, if◌then◌else◌, Option, Some, None, option_map}
 use Rattle.jz_words.specs.declared.size.Size.{Size}
 use Rattle.jz_words.specs.Sizes.{bits_of}
 use Rattle.jz_tree.specs.declared.expr.Storage.{Storage}
@@ -68,29 +68,39 @@ same_kind (kind.Array y) (kind.Array z) = same_size y z
 same_kind _ _ = false
 
 -- ---- kinds of variables
+abbrev pub inline_int : Storage → Kind → Bool
+inline_int storage.Inline kind.Int = true
+inline_int _ _ = false
+
 -- an inline integer; an unknown name counts as one
 abbrev pub is_inline_int : Known → Bool
 is_inline_int None = true
-is_inline_int (Some (record { storage = storage.Inline; kind = kind.Int })) = true
-is_inline_int _ = false
+is_inline_int (Some d) = inline_int d.storage d.kind
+
+abbrev pub is_array_kind : Kind → Bool
+is_array_kind (kind.Array z) = true
+is_array_kind _ = false
+
+abbrev pub is_word_kind : Kind → Bool
+is_word_kind (kind.Word z) = true
+is_word_kind _ = false
 
 abbrev pub is_array : Known → Bool
-is_array (Some (record { storage = s; kind = kind.Array z })) = true
-is_array _ = false
+is_array None = false
+is_array (Some d) = is_array_kind d.kind
 
 abbrev pub is_register_array : Known → Bool
-is_register_array (Some (record { storage = storage.Reg; kind = kind.Array z })) = true
-is_register_array _ = false
+is_register_array None = false
+is_register_array (Some d) = same_storage d.storage storage.Reg && is_array_kind d.kind
 
 abbrev pub is_register_word : Known → Bool
-is_register_word (Some (record { storage = storage.Reg; kind = kind.Word z })) = true
-is_register_word _ = false
+is_register_word None = false
+is_register_word (Some d) = same_storage d.storage storage.Reg && is_word_kind d.kind
 
 -- a word in a register or in the frame
 abbrev pub is_word : Known → Bool
-is_word (Some (record { storage = storage.Reg; kind = kind.Word z })) = true
-is_word (Some (record { storage = storage.Stack; kind = kind.Word z })) = true
-is_word _ = false
+is_word None = false
+is_word (Some d) = not (same_storage d.storage storage.Inline) && is_word_kind d.kind
 
 -- ---- expressions
 abbrev pub inline_step : Expr-F Bool Kind Bool Declared Known → Bool
