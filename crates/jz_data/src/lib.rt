@@ -12,5 +12,3 @@ pub use failure::Failure;
 pub use seq::Seq;
 pub use text::Text;
 
-#[cfg(test)]
-mod tests;

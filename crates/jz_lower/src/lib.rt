@@ -10,5 +10,3 @@ pub use code::operations;
 pub use lowering::instructions;
 pub use registers::{ARGUMENT_REGISTERS, RESULT_REGISTERS};
 
-#[cfg(test)]
-mod tests;
