@@ -1,2 +1,0 @@
-//! A program whose variables have their declarations where they are used, and whose constants are numbers.
-#![tactic(auto)]
