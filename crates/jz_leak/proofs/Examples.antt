@@ -29,7 +29,7 @@ loop = record { prologue = op_tr; test = at_leaked; more_outs = at 10; body = op
 
 pub forms : events_for (5 ∷ 7 ∷ []) 1000
     (out.Addr (form.Num 9) ∷ out.Addr (form.Leaked 1) ∷ out.Addr (form.Frame (negsuc 7)) ∷ out.Addr (form.Frame (negsuc 1000))
-        ∷ out.Addr (form.Indexed (pos 16) 4 0) ∷ out.Branch false ∷ out.Div (form.Leaked 0) (form.Leaked 1) (form.Num 3) ∷ [])
+    ∷ out.Addr (form.Indexed (pos 16) 4 0) ∷ out.Branch false ∷ out.Div (form.Leaked 0) (form.Leaked 1) (form.Num 3) ∷ [])
     ≡ seen 9 ∷ seen 7 ∷ seen 992 ∷ seen 18446744073709551615 ∷ seen 1036 ∷ event.Branch false ∷ event.Div 5 7 3 ∷ []
 forms = refl
 
