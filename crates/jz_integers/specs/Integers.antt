@@ -1,11 +1,11 @@
 -- What the operators give on whole numbers and on truths, and the value of an inline expression.
-use Rattle.std.specs.Prelude.{ℕ, ◌-◌, ◌^◌, nat_lt, Bool, true, false, not, ◌&&◌, ◌||◌, List, Option, Some, None, option_map, if◌then◌else◌, ℤ, pos, negsuc, neg_ℤ, ◌+ℤ◌, ◌-ℤ◌, ◌*ℤ◌, int_lt, int_le, int_div, int_rem}
+use Rattle.std.specs.Prelude.{ℕ, ◌^◌, nat_lt, Bool, true, false, not, ◌||◌, List, Option, Some, None, option_map, if◌then◌else◌, ℤ, pos, negsuc, neg_ℤ, ◌+ℤ◌, ◌-ℤ◌, ◌*ℤ◌, int_lt, int_le, int_div, int_rem}
 use Rattle.std.specs.Ordering.{int_eq}
 use Rattle.std.specs.Int.{w128, int_bit_and, int_bit_or, int_bit_xor, int_bit_not, int_shr}
 use Rattle.jz_tree.specs.declared.expr.BinOp.{BinOp}
 use Rattle.jz_tree.specs.declared.expr.BinOp.TheVariants as o
 use Rattle.jz_tree.specs.declared.expr.Expr.{Expr}
-use Rattle.jz_tree.specs.declared.expr.Expr.TheOpen.{Expr-F, Var-F}
+use Rattle.jz_tree.specs.declared.expr.Expr.TheOpen.{Expr-F}
 use Rattle.jz_tree.specs.declared.expr.Expr.TheFolds.{fold-Expr}
 use Rattle.jz_integers.specs.declared.constant.Constant.{Constant}
 use Rattle.jz_integers.specs.declared.constant.Constant.TheVariants as constant

@@ -3,10 +3,10 @@ ghost use Rattle.std.specs.Prelude.{◌≡◌, IfOk};
 ghost use Rattle.jz_integers.specs.Integers as values;
 ghost use Rattle.jz_integers.specs.LeftSides.{IsSingle};
 
+use crate::Constant;
 use crate::arithmetic::{inverted, negated, on_integers};
 use crate::lookup::{NoNumbers, Numbers};
 use crate::sides::{LeftSide, Waiting, left_side};
-use crate::Constant;
 use jz_tree::{BinOp, Expr};
 use std::alloc::{AllocError, Global};
 

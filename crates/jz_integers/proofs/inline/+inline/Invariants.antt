@@ -1,7 +1,6 @@
-use Rattle.std.proofs.Common.{◌≡◌, ◌+◌, ◌*◌, length}
+use Rattle.std.proofs.Common.{◌+◌, ◌*◌, length}
 use Rattle.jz_tree.specs.declared.expr.Expr.{size-Expr}
-use Rattle.jz_integers.specs.Integers.{inline_value}
-use Rattle.jz_integers.proofs.LeftSideLemmas.{AllSmaller, value_on}
+use Rattle.jz_integers.proofs.LeftSideLemmas.{IsOnTheWay}
 use Rattle.jz_integers.proofs.inline.+inline.Given as goal
 
 abbrev pub decreases-inline_value : goal.decreases-inline_value
@@ -14,8 +13,7 @@ abbrev pub decreases-joined_value : goal.decreases-joined_value
 decreases-joined_value g l = 3 * size-Expr l.right.now + 2
 
 abbrev pub invariant-inline_value-loop-op : goal.invariant-inline_value-loop-op
-invariant-inline_value-loop-op g l =
-    (value_on (g.N.Numbers.numbers l.numbers) l.waiting.items l.value ≡ inline_value (g.N.Numbers.numbers l.numbers) l.e) × AllSmaller (size-Expr l.e) l.waiting.items
+invariant-inline_value-loop-op g l = IsOnTheWay (g.N.Numbers.numbers l.numbers) l.e l.waiting.items l.value
 
 abbrev pub decreases-inline_value-loop-op : goal.decreases-inline_value-loop-op
 decreases-inline_value-loop-op g l = length l.waiting.items

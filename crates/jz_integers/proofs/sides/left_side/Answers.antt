@@ -9,6 +9,6 @@ loop-first-preserved c =
     let whole : Bin c.in-Bin.op c.get-first.result.now c.get.result.now c.in-Bin.span ≡ c.loop-first.first.now =
     rw (c.get-first.ensures, c.get.ensures) (sym c.in-Bin.is) in
     ap (λ ws. on_left ws c.get-first.result.now) c.in_ok-push.ensures.items
-        ∙ last_waiting _ _ _
-        ∙ ap (on_left c.loop-first.waiting.items) whole
-        ∙ c.loop-first.invariant
+    ∙ last_waiting _ _ _
+    ∙ ap (on_left c.loop-first.waiting.items) whole
+    ∙ c.loop-first.invariant
