@@ -5,3 +5,4 @@ mod CellLaws
 mod NestedLaws
 mod Lists
 mod TableLaws
+mod UnknownLaws

@@ -7,6 +7,7 @@ mod kinds;
 mod layers;
 mod order;
 mod tables;
+mod unknown;
 
 pub use bodies::statements;
 pub use exprs::{cells, length_of, names, span_of};
@@ -18,4 +19,5 @@ pub use kinds::{
 pub use layers::{called_by, cells_set, exprs_of, read_by, set_by, whole_var, wholly_set_by};
 pub use order::{earlier_of, is_before, sooner, unless};
 pub use tables::{Functions, Places};
+pub use unknown::unknown_of;
 
