@@ -3,6 +3,7 @@ use Rattle.std.specs.Prelude.{ℕ, Bool, false, not, ◌&&◌, ◌||◌, is_some
 use Rattle.std.specs.Str.{bytes_eq}
 use Rattle.jz_io.specs.declared.span.Span.{Span}
 use Rattle.jz_tree.specs.declared.expr.Decl.{Decl}
+use Rattle.jz_tree.specs.declared.expr.Var.{Var}
 use Rattle.jz_tree.specs.declared.expr.Expr.TheViews.{out-Var}
 use Rattle.jz_tree.specs.declared.program.Program.{Program}
 use Rattle.jz_tree.specs.declared.program.Fun.{Fun}
@@ -39,9 +40,16 @@ unknown_by p f k = unknown_where (value_place p.consts f) (variable_place f) (λ
 abbrev pub decls_of : Fun → List Decl
 decls_of f = flat_map (λ p. option_to_list (out-Var p.var).decl) f.params ++ map (λ r. r.decl) f.rets ++ flat_map (λ v. option_to_list (out-Var v).decl) f.vars
 
+-- the names in the length of what a declaration or a variable declares
+abbrev pub decl_names : Decl → List Name
+decl_names d = flat_map names_in (lengths_in d)
+
+abbrev pub declared_names : Var → List Name
+declared_names v = flat_map decl_names (option_to_list (out-Var v).decl)
+
 -- the names in the lengths of what a function declares
 abbrev pub length_names : Fun → List Name
-length_names f = flat_map (λ d. flat_map names_in (lengths_in d)) (decls_of f)
+length_names f = flat_map (λ p. declared_names p.var) f.params ++ flat_map (λ r. decl_names r.decl) f.rets ++ flat_map declared_names f.vars
 
 -- Unknown, of what stands outside statements: the lengths of arrays, and what is returned
 abbrev pub outside_where : (List ℕ → Option Span) → (List ℕ → Option Span) → Fun → List Span

@@ -8,7 +8,7 @@ use Rattle.jz_tree.specs.declared.program.Fun.{Fun}
 use Rattle.jz_scopes.specs.declared.tables.Places.{Places}
 use Rattle.jz_scopes.specs.declared.tables.Functions.{Functions}
 use Rattle.jz_scopes.specs.Order.{earliest}
-use Rattle.jz_scopes.specs.Scopes.{Name, places_of, function_named, or_else}
+use Rattle.jz_scopes.specs.Scopes.{Name, places_of, function_named, or_values}
 
 -- the place that a table has for a name
 abbrev pub place_in : Places → List ℕ → Option Span
@@ -40,4 +40,4 @@ pub record IsFunctions (t : Functions) (fs : List Fun) : Type 0 where
 
 -- where a value of that name is declared, as two tables say
 abbrev pub value_in : Places → Places → List ℕ → Option Span
-value_in constants variables n = or_else (place_in variables n) (place_in constants n)
+value_in constants variables = or_values (place_in constants) (place_in variables)

@@ -5,9 +5,10 @@ mod bodies;
 mod exprs;
 mod kinds;
 mod layers;
+mod lengths;
 mod order;
 mod tables;
-mod unknown;
+mod unknowns;
 
 pub use bodies::statements;
 pub use exprs::{cells, length_of, names, span_of};
@@ -17,7 +18,8 @@ pub use kinds::{
     written_length,
 };
 pub use layers::{called_by, cells_set, exprs_of, read_by, set_by, whole_var, wholly_set_by};
+pub use lengths::length_names;
 pub use order::{earlier_of, is_before, sooner, unless};
 pub use tables::{Functions, Places};
-pub use unknown::unknown_of;
+pub use unknowns::{unknown, unknown_of};
 

@@ -4,7 +4,7 @@ use Rattle.jz_scopes.specs.Scopes.{name_of}
 use Rattle.jz_scopes.specs.Lent.{these}
 use Rattle.jz_scopes.specs.Tables.{place_in}
 use Rattle.jz_scopes.specs.Names.{one_unknown}
-use Rattle.jz_scopes.proofs.unknown.unknown_variables.Given as goal
+use Rattle.jz_scopes.proofs.unknowns.unknown_variables.Given as goal
 
 abbrev pub invariant-loop-var : goal.invariant-loop-var
 invariant-loop-var l =

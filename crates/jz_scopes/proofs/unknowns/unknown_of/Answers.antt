@@ -6,7 +6,7 @@ use Rattle.jz_scopes.specs.Lent.{these}
 use Rattle.jz_scopes.specs.Tables.{place_in, value_in, function_in}
 use Rattle.jz_scopes.specs.Names.{one_unknown}
 use Rattle.jz_scopes.proofs.UnknownLaws.{where_is}
-use Rattle.jz_scopes.proofs.unknown.unknown_of.Goals as goal
+use Rattle.jz_scopes.proofs.unknowns.unknown_of.Goals as goal
 
 pub returns : goal.returns
 returns c =
