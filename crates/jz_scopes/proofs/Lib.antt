@@ -6,3 +6,4 @@ mod NestedLaws
 mod Lists
 mod TableLaws
 mod UnknownLaws
+mod RepeatedLaws

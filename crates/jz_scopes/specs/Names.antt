@@ -85,8 +85,14 @@ repeated ns = flat_map (one_repeated ns) ns
 abbrev pub repeated_by : Layer → List Span
 repeated_by k = repeated (map name_of (wholly_set_by k))
 
+-- Duplicate, of a function: names differ among its variables
+abbrev pub repeated_in_fun : Fun → List Span
+repeated_in_fun f = repeated (map name_of (variables_of f)) ++ flat_map (λ s. repeated_by (layer_of s)) (statements_of f.body)
+
+-- the names of constants and functions
+abbrev pub top_names : Program → List Name
+top_names p = map (λ c. (c.name, c.span)) p.consts ++ map (λ f. (f.name, f.span)) p.funs
+
 -- Duplicate: names differ among functions and constants, and among the variables of one function
 abbrev pub repeated_in : Program → List Span
-repeated_in p =
-    repeated (map (λ c. (c.name, c.span)) p.consts ++ map (λ f. (f.name, f.span)) p.funs)
-    ++ flat_map (λ f. repeated (map name_of (variables_of f)) ++ flat_map (λ s. repeated_by (layer_of s)) (statements_of f.body)) p.funs
+repeated_in p = repeated (top_names p) ++ flat_map repeated_in_fun p.funs

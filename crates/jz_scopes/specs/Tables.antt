@@ -1,5 +1,5 @@
 -- What the tables of names hold.
-use Rattle.std.specs.Prelude.{◌≡◌, ℕ, List, map, filter, find, Option, option_map}
+use Rattle.std.specs.Prelude.{◌≡◌, ℕ, not, List, map, filter, find, Option, option_map}
 use Rattle.std.specs.Borrow.{Bor}
 use Rattle.std.specs.Str.{bytes_eq}
 use Rattle.indexmap.specs.IndexMap.{get}
@@ -7,7 +7,8 @@ use Rattle.jz_io.specs.declared.span.Span.{Span}
 use Rattle.jz_tree.specs.declared.program.Fun.{Fun}
 use Rattle.jz_scopes.specs.declared.tables.Places.{Places}
 use Rattle.jz_scopes.specs.declared.tables.Functions.{Functions}
-use Rattle.jz_scopes.specs.Order.{earliest}
+use Rattle.jz_scopes.specs.Order.{earliest, unless}
+use Rattle.jz_scopes.specs.Names.{stands_above}
 use Rattle.jz_scopes.specs.Scopes.{Name, places_of, function_named, or_values}
 
 -- the place that a table has for a name
@@ -41,3 +42,7 @@ pub record IsFunctions (t : Functions) (fs : List Fun) : Type 0 where
 -- where a value of that name is declared, as two tables say
 abbrev pub value_in : Places → Places → List ℕ → Option Span
 value_in constants variables = or_values (place_in constants) (place_in variables)
+
+-- where a name stands, unless its place in the table stands before it
+unfoldable pub one_repeated_in : Places → Name → List Span
+one_repeated_in t n = unless (not (stands_above (place_in t n.0) n.1)) n.1

@@ -7,6 +7,7 @@ mod kinds;
 mod layers;
 mod lengths;
 mod order;
+mod repeats;
 mod tables;
 mod unknowns;
 
@@ -20,6 +21,7 @@ pub use kinds::{
 pub use layers::{called_by, cells_set, exprs_of, read_by, set_by, whole_var, wholly_set_by};
 pub use lengths::length_names;
 pub use order::{earlier_of, is_before, sooner, unless};
+pub use repeats::{repeated, repeated_of};
 pub use tables::{Functions, Places};
 pub use unknowns::{unknown, unknown_of};
 
