@@ -54,8 +54,8 @@ next_place places best found new whole as' i a lt e f n h =
     let one : i + 1 ≡ suc i = omega arith
     in let left = earliest (flat_map places (drop (suc i) as'))
     in let step : earliest (flat_map places (drop i as')) ≡ earlier (earliest (places a)) left =
-        ap (λ l. earliest (flat_map places l)) (drop-cons as' i a lt)
-        ∙ (ap (λ b. earliest (places b ++ flat_map places (drop (suc i) as'))) (sym e) ∙ earliest-append (places a) (flat_map places (drop (suc i) as')))
+    ap (λ l. earliest (flat_map places l)) (drop-cons as' i a lt)
+    ∙ (ap (λ b. earliest (places b ++ flat_map places (drop (suc i) as'))) (sym e) ∙ earliest-append (places a) (flat_map places (drop (suc i) as')))
     in ap (λ j. earlier new (earliest (flat_map places (drop j as')))) one
     ∙ (ap (λ b. earlier b left) n ∙ (earlier-assoc best found left ∙ (ap (λ b. earlier best (earlier b left)) f ∙ (ap (earlier best) (sym step) ∙ h))))
 

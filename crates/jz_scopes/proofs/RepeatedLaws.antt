@@ -25,9 +25,10 @@ before_is : (ds : List Name) (n : List ℕ) (s : Span) → named_before ds (n, s
 before_is [] n s = refl
 before_is (d ∷ ds) n s =
     let ih = before_is ds n s in
-    elim (bytes_eq n d.0) as (λ b. ((b && is_before d.1 s) || named_before ds (n, s)) ≡ stands_above (earliest (places_of (if b then (d ∷ filter (λ e. bytes_eq n e.0) ds) else filter (λ e. bytes_eq n e.0) ds))) s)
-    [ true ↦ ap (λ b. is_before d.1 s || b) ih ∙ sym (earlier_above (Some d.1) (earliest (places_named n ds)) s)
-    | false ↦ ih ]
+    elim (bytes_eq n d.0) as (λ b. ((b && is_before d.1 s) || named_before ds (n, s)) ≡ stands_above (earliest (places_of (if b then (d ∷ filter (λ e. bytes_eq n e.0) ds) else filter (λ e. bytes_eq n e.0) ds))) s) [
+      | true ↦ ap (λ b. is_before d.1 s || b) ih ∙ sym (earlier_above (Some d.1) (earliest (places_named n ds)) s)
+      | false ↦ ih
+    ]
 
 one_is : (t : Places) (ns : List Name) → IsEarliestPlaces t ns → (n : Name) → one_repeated_in t n ≡ one_repeated ns n
 unfolding one_repeated_in one_repeated

@@ -101,8 +101,8 @@ pub earliest_more : (old new : List ℕ → Option Span) (ds : List Name) (k : L
 earliest_more old new ds k s first h e u n =
     let goal : Bool → Type 0 = λ b. cond b (Some first) (old n) ≡ earlier (old n) (earliest (if b then s ∷ [] else [])) in
     let split : (b : Bool) → bytes_eq k n ≡ b → goal b =
-        λ b. elim b as (λ b. bytes_eq k n ≡ b → goal b) [ true ↦ λ d. subst (λ m. Some first ≡ earlier (old m) (Some s)) (bytes_eq-true k n d) e | false ↦ λ d. sym (earlier-none (old n)) ] in
+    λ b. elim b as (λ b. bytes_eq k n ≡ b → goal b) [ true ↦ λ d. subst (λ m. Some first ≡ earlier (old m) (Some s)) (bytes_eq-true k n d) e | false ↦ λ d. sym (earlier-none (old n)) ] in
     let one : cond (bytes_eq k n) (Some first) (old n) ≡ earlier (old n) (earliest (if bytes_eq k n then s ∷ [] else [])) = split (bytes_eq k n) refl in
     u n ∙ (one ∙ (ap (λ b. earlier (old n) (earliest (if b then s ∷ [] else []))) (bytes_eq-sym k n)
-      ∙ (ap (λ o. earlier o (earliest (if bytes_eq n k then s ∷ [] else []))) (h n)
-      ∙ (sym (earliest-append (places_named n ds) (if bytes_eq n k then s ∷ [] else [])) ∙ ap earliest (sym (places_more n k s ds))))))
+    ∙ (ap (λ o. earlier o (earliest (if bytes_eq n k then s ∷ [] else []))) (h n)
+    ∙ (sym (earliest-append (places_named n ds) (if bytes_eq n k then s ∷ [] else [])) ∙ ap earliest (sym (places_more n k s ds))))))

@@ -67,7 +67,7 @@ module _ {X : Type 0} (name : X → Name) where
   first_map n [] = refl
   first_map n (x ∷ xs) =
       elim (bytes_eq n (name x).0) as (λ b. option_map (λ m. m.1) (cond b (Some (name x)) (find (λ m. bytes_eq n m.0) (map name xs)))
-        ≡ option_map (λ x. (name x).1) (cond b (Some x) (find (λ x. bytes_eq n (name x).0) xs)))
+      ≡ option_map (λ x. (name x).1) (cond b (Some x) (find (λ x. bytes_eq n (name x).0) xs)))
       [ true ↦ refl | false ↦ first_map n xs ]
 
 pub variables_are : (t : Places) (f : Fun) → IsPlaces t (map name_of (variables_of f)) → place_in t ≡ variable_place f

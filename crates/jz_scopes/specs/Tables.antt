@@ -6,10 +6,12 @@ use Rattle.indexmap.specs.IndexMap.{get}
 use Rattle.jz_io.specs.declared.span.Span.{Span}
 use Rattle.jz_tree.specs.declared.program.Fun.{Fun}
 use Rattle.jz_scopes.specs.declared.tables.Places.{Places}
+use Rattle.jz_tree.specs.declared.expr.Var.{Var}
 use Rattle.jz_scopes.specs.declared.tables.Functions.{Functions}
+use Rattle.jz_scopes.specs.declared.tables.Variables.{Variables}
 use Rattle.jz_scopes.specs.Order.{earliest, unless}
 use Rattle.jz_scopes.specs.Names.{stands_above}
-use Rattle.jz_scopes.specs.Scopes.{Name, places_of, function_named, or_values}
+use Rattle.jz_scopes.specs.Scopes.{Name, places_of, function_named, variable_named, or_values}
 
 -- the place that a table has for a name
 abbrev pub place_in : Places → List ℕ → Option Span
@@ -46,3 +48,11 @@ value_in constants variables = or_values (place_in constants) (place_in variable
 -- where a name stands, unless its place in the table stands before it
 unfoldable pub one_repeated_in : Places → Name → List Span
 one_repeated_in t n = unless (not (stands_above (place_in t n.0) n.1)) n.1
+
+-- the variable that a table has for a name
+abbrev pub variable_in : Variables → List ℕ → Option Var
+variable_in t n = option_map (λ v. v.now) (get bytes_eq t.variables n)
+
+-- the table has the first variable of each name
+pub record IsVariables (t : Variables) (vs : List Var) : Type 0 where
+  pub named : (n : List ℕ) → variable_in t n ≡ variable_named n vs

@@ -183,7 +183,11 @@ pub fn array_of(expr: &Expr) -> Option<&Var>
     ensures { option_copied result ≡ array_of expr.now }
 {
     match expr {
-        Expr::Var(var) => if is_array(known(var)) { Some(var) } else { None },
+        Expr::Var(var) => if is_array(known(var)) {
+            Some(var)
+        } else {
+            None
+        },
         _ => None,
     }
 }
@@ -193,7 +197,11 @@ pub fn whole_array(to: &Lval) -> Option<&Var>
     ensures { option_copied result ≡ whole_array to.now }
 {
     match to {
-        Lval::Var(var) => if is_array(known(var)) { Some(var) } else { None },
+        Lval::Var(var) => if is_array(known(var)) {
+            Some(var)
+        } else {
+            None
+        },
         _ => None,
     }
 }

@@ -266,10 +266,7 @@ pub fn cells_set(alloc: Global, stmt: &Stmt) -> Result<Vec<(&Var, &Expr)>, Alloc
     }
 }
 
-fn add_left_cell<'a>(
-    list: &mut Vec<(&'a Var, &'a Expr)>,
-    to: &'a Lval,
-) -> Result<(), AllocError>
+fn add_left_cell<'a>(list: &mut Vec<(&'a Var, &'a Expr)>, to: &'a Lval) -> Result<(), AllocError>
     ensures { OnOk result (paired list.new.items ≡ paired list.old.items ++ left_cells to.now) }
 {
     match to {

@@ -22,6 +22,5 @@ pub use layers::{called_by, cells_set, exprs_of, read_by, set_by, whole_var, who
 pub use lengths::length_names;
 pub use order::{earlier_of, is_before, sooner, unless};
 pub use repeats::{repeated, repeated_of};
-pub use tables::{Functions, Places};
+pub use tables::{Functions, Places, Variables};
 pub use unknowns::{unknown, unknown_of};
-

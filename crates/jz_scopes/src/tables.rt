@@ -2,9 +2,10 @@
 
 ghost use Rattle.std.specs.Prelude.{◌≡◌, [], ◌∷◌, ◌++◌, List, IfOk, OnOk, map};
 ghost use Rattle.std.specs.Option.{option_copied};
+ghost use Rattle.jz_tree.specs.declared.expr.Var.{Var};
 ghost use Rattle.jz_tree.specs.declared.program.Fun.{Fun};
 ghost use Rattle.jz_scopes.specs.Scopes.{Name, name_of, variables_of};
-ghost use Rattle.jz_scopes.specs.Tables.{IsPlaces, IsEarliestPlaces, IsFunctions, place_in, function_in};
+ghost use Rattle.jz_scopes.specs.Tables.{IsPlaces, IsEarliestPlaces, IsFunctions, IsVariables, place_in, function_in, variable_in};
 
 use crate::order::sooner;
 use indexmap::IndexMap;
@@ -127,5 +128,60 @@ impl<'a> Functions<'a> {
             functions.add(fun)?;
         }
         Ok(functions)
+    }
+}
+
+/// The parameters and variables of a function by their names.
+#[derive(Drop)]
+pub struct Variables<'a> {
+    variables: IndexMap<Text, &'a Var>,
+}
+
+impl<'a> Variables<'a> {
+    /// The variable of that name, as it is declared.
+    pub fn named(&self, name: &Text) -> Option<&'a Var>
+        ensures { option_copied result ≡ variable_in self.now name.now }
+    {
+        match self.variables.get(name) {
+            None => None,
+            Some(var) => Some(*var),
+        }
+    }
+
+    fn add(&mut self, var: &'a Var) -> Result<(), AllocError>
+        ensures { (vs : List Var) → IsVariables self.old vs → OnOk result (IsVariables self.new (vs ++ var.now ∷ [])) }
+    {
+        if !self.variables.contains_key(&var.name) {
+            self.variables.insert(var.name.clone()?, var)?;
+        }
+        Ok(())
+    }
+
+    fn add_all(&mut self, vars: &'a Seq<Var>) -> Result<(), AllocError>
+        ensures { (vs : List Var) → IsVariables self.old vs → OnOk result (IsVariables self.new (vs ++ vars.now)) }
+    {
+        for var in vars.as_slice() {
+            self.add(var)?;
+        }
+        Ok(())
+    }
+
+    fn empty(alloc: Global) -> Variables<'a>
+        ensures { IsVariables result [] }
+    {
+        Variables {
+            variables: IndexMap::new(alloc),
+        }
+    }
+
+    pub fn of(alloc: Global, fun: &'a Fun) -> Result<Variables<'a>, AllocError>
+        ensures { IfOk result (λ variables. IsVariables variables (variables_of fun.now)) }
+    {
+        let mut variables = Variables::empty(alloc);
+        for param in fun.params.as_slice() {
+            variables.add(&param.var)?;
+        }
+        variables.add_all(&fun.vars)?;
+        Ok(variables)
     }
 }

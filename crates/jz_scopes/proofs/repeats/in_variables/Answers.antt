@@ -12,7 +12,7 @@ returns c =
     in let vars = c.args.fun.now.vars
     in c.in_ok-first.ensures
     ∙ ap (λ ns. earliest (repeated ns))
-      (ap these_names c.as_slice.ensures.value
-      ∙ (c.in_ok-add_vars.ensures
-      ∙ (ap (λ l. l ++ map name_of vars) (c.in_ok-add_params.ensures ∙ ap (λ l. these_names l ++ map name_of params) c.new-list.ensures.items)
-      ∙ sym (map-append name_of params vars))))
+    (ap these_names c.as_slice.ensures.value
+    ∙ (c.in_ok-add_vars.ensures
+    ∙ (ap (λ l. l ++ map name_of vars) (c.in_ok-add_params.ensures ∙ ap (λ l. these_names l ++ map name_of params) c.new-list.ensures.items)
+    ∙ sym (map-append name_of params vars))))

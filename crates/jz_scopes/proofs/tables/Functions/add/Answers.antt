@@ -13,9 +13,9 @@ returns-in_ok-insert c =
     in let put : (q : List ℕ) → new q ≡ cond (bytes_eq c.args.fun.now.name q) (Some c.args.fun) (old q) = search rules
     in λ fs held. record {
       named = λ n.
-        table_more (λ f. f.name) (λ f. f) fs c.args.fun.now (λ n. option_map (λ f. f.now) (old n)) (λ n. held.named n ∙ sym (option_whole _)) (λ n. option_map (λ f. f.now) (new n))
+          table_more (λ f. f.name) (λ f. f) fs c.args.fun.now (λ n. option_map (λ f. f.now) (old n)) (λ n. held.named n ∙ sym (option_whole _)) (λ n. option_map (λ f. f.now) (new n))
           (ap (option_map (λ f. f.now)) free) (λ q. ap (option_map (λ f. f.now)) (put q) ∙ some_seen (λ f. f.now) _ _ _) n
-        ∙ option_whole _;
+          ∙ option_whole _;
     }
 
 pub returns-else-not-contains_key : goal.returns-else-not-contains_key
@@ -24,6 +24,6 @@ returns-else-not-contains_key c =
     in let there : is_some (old c.args.fun.now.name) ≡ true = search rules
     in λ fs held. record {
       named = λ n.
-        table_kept (λ f. f.name) (λ f. f) fs c.args.fun.now (λ n. option_map (λ f. f.now) (old n)) (λ n. held.named n ∙ sym (option_whole _)) (some_still (λ f. f.now) _ ∙ there) n
-        ∙ option_whole _;
+          table_kept (λ f. f.name) (λ f. f) fs c.args.fun.now (λ n. option_map (λ f. f.now) (old n)) (λ n. held.named n ∙ sym (option_whole _)) (some_still (λ f. f.now) _ ∙ there) n
+          ∙ option_whole _;
     }
