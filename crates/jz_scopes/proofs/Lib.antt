@@ -3,7 +3,7 @@ pub mod Firsts
 mod Stacks
 mod CellLaws
 mod NestedLaws
-mod Lists
-mod TableLaws
-mod UnknownLaws
-mod RepeatedLaws
+pub mod Lists
+pub mod TableLaws
+pub mod UnknownLaws
+pub mod RepeatedLaws

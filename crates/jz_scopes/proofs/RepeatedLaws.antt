@@ -1,5 +1,5 @@
 -- The earliest place of a name decides what stands before it.
-use Rattle.std.proofs.Common.{◌≡◌, ℕ, Bool, true, false, not, ◌&&◌, ◌||◌, List, [], ◌∷◌, ◌++◌, Option, Some, None, map, filter, flat_map, refl, sym, ap, ap₂, ◌∙◌, arith}
+use Rattle.std.proofs.Common.{◌≡◌, ℕ, true, false, not, ◌&&◌, ◌||◌, List, [], ◌∷◌, Option, Some, None, map, filter, flat_map, refl, sym, ap, ap₂, ◌∙◌, arith}
 use Rattle.std.specs.Prelude.{if◌then◌else◌}
 use Rattle.std.specs.Str.{bytes_eq}
 use Rattle.std.proofs.lemmas.Bool.Decides.{nat_tests}
@@ -13,7 +13,7 @@ use Rattle.jz_scopes.specs.Order.{is_before, unless, earlier, earliest, first_in
 use Rattle.jz_scopes.specs.Scopes.{Name, name_of, places_of, variables_of}
 use Rattle.jz_scopes.specs.Parts.{layer_of, statements_of}
 use Rattle.jz_scopes.specs.Names.{stands_above, named_before, one_repeated, repeated, repeated_by, repeated_in_fun, repeated_in, top_names}
-use Rattle.jz_scopes.specs.Tables.{IsEarliestPlaces, place_in, places_named, one_repeated_in}
+use Rattle.jz_scopes.specs.Tables.{IsEarliestPlaces, places_named, one_repeated_in}
 use Rattle.jz_scopes.proofs.Earliest.{earliest-append, first_over}
 
 earlier_above : (a b : Option Span) (s : Span) → stands_above (earlier a b) s ≡ (stands_above a s || stands_above b s)

@@ -1,5 +1,5 @@
 -- What is left of an expression on a stack.
-use Rattle.std.proofs.Common.{◌≡◌, ◌<◌, ◌+◌, ℕ, List, [], ◌∷◌, ◌++◌, Option, Some, None, flat_map, refl, sym, ap, ◌∙◌, arith, append_assoc, append-nil}
+use Rattle.std.proofs.Common.{◌≡◌, ◌<◌, ◌+◌, List, [], ◌∷◌, ◌++◌, Option, Some, None, flat_map, refl, sym, ap, ◌∙◌, arith, append_assoc, append-nil}
 use Rattle.std.specs.Borrow.{Bor}
 use Rattle.jz_tree.specs.declared.expr.Expr.{Expr}
 use Rattle.jz_scopes.specs.Lent.{this, count_in, count_of, stacked}

@@ -1,5 +1,5 @@
 -- One item more in a table by names.
-use Rattle.std.proofs.Common.{◌≡◌, ℕ, Bool, true, false, List, [], ◌∷◌, ◌++◌, Option, Some, None, refl, sym, ap, ◌∙◌, cond, subst, map, filter}
+use Rattle.std.proofs.Common.{◌≡◌, ℕ, Bool, true, false, List, [], ◌∷◌, ◌++◌, Option, Some, None, refl, sym, ap, ◌∙◌, cond, subst, filter}
 use Rattle.std.specs.Prelude.{if◌then◌else◌, is_some, option_map, find}
 use Rattle.std.specs.Str.{bytes_eq}
 use Rattle.jz_data.proofs.Texts.{bytes_eq-sym, bytes_eq-true}

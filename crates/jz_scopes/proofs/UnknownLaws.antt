@@ -1,12 +1,10 @@
 -- The first unknown name, part by part.
-use Rattle.std.proofs.Common.{◌≡◌, ℕ, List, [], ◌∷◌, ◌++◌, Option, Some, None, map, flat_map, refl, sym, ap, ap₂, ◌∙◌}
+use Rattle.std.proofs.Common.{◌≡◌, ℕ, List, [], ◌∷◌, ◌++◌, Option, Some, map, flat_map, refl, sym, ap, ap₂, ◌∙◌}
 use Rattle.jz_io.specs.declared.span.Span.{Span}
 use Rattle.std.specs.Prelude.{option_map, find}
 use Rattle.std.specs.Str.{bytes_eq}
 use Rattle.std.proofs.Common.{cond, true, false}
 use Rattle.std.proofs.Math.Path.{fun_ext}
-use Rattle.jz_tree.specs.declared.expr.Var.{Var}
-use Rattle.jz_tree.specs.declared.expr.Expr.TheViews.{out-Var}
 use Rattle.jz_tree.specs.declared.stmt.Stmt.{Stmt}
 use Rattle.jz_tree.specs.declared.program.Const.{Const}
 use Rattle.jz_tree.specs.declared.program.Fun.{Fun}
@@ -16,8 +14,8 @@ use Rattle.jz_scopes.specs.declared.tables.Functions.{Functions}
 use Rattle.jz_scopes.specs.Order.{earlier, earliest, first_in}
 use Rattle.jz_scopes.specs.Scopes.{Name, name_of, or_values, variables_of, variable_place, constant_place, function_named}
 use Rattle.jz_scopes.specs.Parts.{Layer, read_by, set_by, called_by, layer_of, statements_of, names_in}
-use Rattle.jz_scopes.specs.Names.{one_unknown, no_function, unknown_among, unknown_where, length_names, outside_where, fun_where, unknown_in}
-use Rattle.jz_scopes.specs.Tables.{IsPlaces, IsFunctions, place_in, function_in, first_place}
+use Rattle.jz_scopes.specs.Names.{one_unknown, no_function, unknown_among, unknown_where, length_names, outside_where, fun_where, unknown_in, unknown_by}
+use Rattle.jz_scopes.specs.Tables.{IsPlaces, IsFunctions, place_in, function_in, value_in, first_place}
 use Rattle.jz_scopes.proofs.Earliest.{earliest-append, earlier-assoc, first_over}
 
 pub where_is : (values variables : List ℕ → Option Span) (functions : List ℕ → Option Fun) (k : Layer) (r s c : Option Span)
@@ -78,3 +76,12 @@ constants_are t cs h = fun_ext (λ n. h.first n ∙ first_map (λ c. (c.name, c.
 
 pub functions_are : (t : Functions) (fs : List Fun) → IsFunctions t fs → function_in t ≡ (λ n. function_named n fs)
 functions_are t fs h = fun_ext (λ n. h.named n)
+
+-- what tables say of a statement is what the program says
+pub unknown_by_is : (p : Program) (f : Fun) (c v : Places) (t : Functions) (k : Layer)
+    → IsPlaces c (map (λ c. (c.name, c.span)) p.consts) → IsPlaces v (map name_of (variables_of f)) → IsFunctions t p.funs
+    → unknown_where (value_in c v) (place_in v) (function_in t) k ≡ unknown_by p f k
+unknown_by_is p f c v t k a b d =
+    ap (λ cs. unknown_where (or_values cs (place_in v)) (place_in v) (function_in t) k) (constants_are c p.consts a)
+    ∙ (ap (λ vs. unknown_where (or_values (constant_place p.consts) vs) vs (function_in t) k) (variables_are v f b)
+    ∙ ap (λ fs. unknown_where (or_values (constant_place p.consts) (variable_place f)) (variable_place f) fs k) (functions_are t p.funs d))

@@ -1,6 +1,5 @@
 -- What the tables of names hold.
-use Rattle.std.specs.Prelude.{◌≡◌, ℕ, not, List, map, filter, find, Option, option_map}
-use Rattle.std.specs.Borrow.{Bor}
+use Rattle.std.specs.Prelude.{◌≡◌, ℕ, not, List, filter, find, Option, option_map}
 use Rattle.std.specs.Str.{bytes_eq}
 use Rattle.indexmap.specs.IndexMap.{get}
 use Rattle.jz_io.specs.declared.span.Span.{Span}

@@ -1,8 +1,8 @@
-use Rattle.std.proofs.Common.{rules, ◌≡◌, ◌++◌, [], ◌∷◌, map, ap, sym, ◌∙◌}
+use Rattle.std.proofs.Common.{◌≡◌, ◌++◌, [], ◌∷◌, map, ap, sym, ◌∙◌}
 use Rattle.std.proofs.lemmas.List.{map-append}
 use Rattle.jz_scopes.specs.Scopes.{name_of}
 use Rattle.jz_scopes.specs.Parts.{names_in}
-use Rattle.jz_scopes.specs.Lent.{these, this, stacked, count_of}
+use Rattle.jz_scopes.specs.Lent.{these, this}
 use Rattle.jz_scopes.proofs.Stacks.{one_turn, less_left}
 use Rattle.jz_scopes.proofs.exprs.names.Goals as goal
 

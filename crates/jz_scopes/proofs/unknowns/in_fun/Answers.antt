@@ -1,4 +1,4 @@
-use Rattle.std.proofs.Common.{ap, ◌∙◌}
+use Rattle.std.proofs.Common.{◌∙◌}
 use Rattle.jz_scopes.specs.Tables.{place_in, function_in}
 use Rattle.jz_scopes.proofs.UnknownLaws.{fun_is, variables_are}
 use Rattle.jz_scopes.proofs.unknowns.in_fun.Goals as goal
