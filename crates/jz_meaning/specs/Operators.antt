@@ -1,5 +1,6 @@
 -- What the operators give on words, on whole numbers and on flags. What typing excludes has no value.
-use Rattle.std.specs.Prelude.{ℕ, ◌-◌, ◌*◌, ◌/◌, ◌%◌, ◌==◌, nat_lt, nat_le, bit_and, bit_or, bit_xor, Bool, true, false, not, ◌&&◌, [], ◌∷◌, Option, Some, None, option_map, if◌then◌else◌, ℤ, pos, negsuc, int_lt, int_le, int_div, int_rem}
+use Rattle.std.specs.Prelude.{ℕ, ◌-◌, ◌*◌, ◌/◌, ◌%◌, ◌==◌, nat_lt, nat_le, bit_and, bit_or, bit_xor, Bool, true, false, not, ◌&&◌, ◌||◌, [], ◌∷◌, Option, Some, None, option_map, if◌then◌else◌, ℤ, pos, negsuc, int_lt, int_le, int_div, int_rem}
+use Rattle.std.specs.Option.{option_and_then}
 use Rattle.jz_io.specs.declared.span.Span.{Span}
 use Rattle.jz_words.specs.declared.size.Size.{Size}
 use Rattle.jz_words.specs.Sizes.{bits_of, modulus, half, signed}
@@ -39,9 +40,12 @@ sign_word s a = if nat_lt a (half s) then 0 else modulus s - 1
 abbrev pub divided : Span → Size → ℕ → ℕ → ℕ → ℕ → Evaluation Value
 divided at s high a b r = if b == 0 then stuck_at at Divide else went (high ∷ a ∷ b ∷ []) (word s r)
 
+abbrev pub is_least_by_minus_one : Size → ℕ → ℕ → Bool
+is_least_by_minus_one s a b = (a == half s) && (b == modulus s - 1)
+
 -- of the signed readings, whose quotient is rounded towards 0; the least word by -1 has none
 abbrev pub signed_divided : Span → Size → ℕ → ℕ → ℤ → Evaluation Value
-signed_divided at s a b r = if (a == half s) && (b == modulus s - 1) then stuck_at at Divide else divided at s (sign_word s a) a b (residue s r)
+signed_divided at s a b r = if b == 0 || is_least_by_minus_one s a b then stuck_at at Divide else went (sign_word s a ∷ a ∷ b ∷ []) (word s (residue s r))
 
 -- two words of a size compared; the names with S are of the signed readings
 abbrev pub compared : BinOp → Size → ℕ → ℕ → Option Bool
@@ -57,19 +61,22 @@ compared o.GtS s a b = Some (int_lt (signed s b) (signed s a))
 compared o.GeS s a b = Some (int_le (signed s b) (signed s a))
 compared _ s a b = None
 
--- on two words of a size
+-- on two words of a size, where nothing is leaked
+abbrev pub plain : BinOp → Size → ℕ → ℕ → Option Value
+plain o.Or s a b = Some (word s (bit_or a b))
+plain o.Xor s a b = Some (word s (bit_xor a b))
+plain o.And s a b = Some (word s (bit_and a b))
+plain o.Add s a b = Some (word s (sum_of s a b false))
+plain o.Sub s a b = Some (word s (difference_of s a b false))
+plain o.Mul s a b = Some (word s (a * b % modulus s))
+plain op s a b = option_map boolean (compared op s a b)
+
 abbrev pub on_words : BinOp → Span → Size → ℕ → ℕ → Evaluation Value
-on_words o.Or at s a b = went [] (word s (bit_or a b))
-on_words o.Xor at s a b = went [] (word s (bit_xor a b))
-on_words o.And at s a b = went [] (word s (bit_and a b))
-on_words o.Add at s a b = went [] (word s (sum_of s a b false))
-on_words o.Sub at s a b = went [] (word s (difference_of s a b false))
-on_words o.Mul at s a b = went [] (word s (a * b % modulus s))
 on_words o.Div at s a b = divided at s 0 a b (a / b)
 on_words o.Rem at s a b = divided at s 0 a b (a % b)
 on_words o.DivS at s a b = signed_divided at s a b (int_div (signed s a) (signed s b))
 on_words o.RemS at s a b = signed_divided at s a b (int_rem (signed s a) (signed s b))
-on_words op at s a b = defined at (option_map boolean (compared op s a b))
+on_words op at s a b = defined at (plain op s a b)
 
 -- a word shifted or rotated by the value of a count
 abbrev pub by_count : BinOp → Size → ℕ → ℕ → Option ℕ
@@ -120,11 +127,16 @@ combined op at (integer i) (integer j) = defined at (option_map of_constant (on_
 combined op at (boolean a) (boolean c) = if joins op then went [] (boolean c) else stuck_at at Init
 combined op at _ _ = stuck_at at Init
 
+-- how far a word is shifted
+abbrev pub count_of : Value → Option ℕ
+count_of (word z n) = Some n
+count_of (integer (pos n)) = Some n
+count_of _ = None
+
 -- what is shifted has the size that is wanted, whatever the size of the count; both may be whole numbers
 unfoldable pub shifted : BinOp → Option Size → Value → Value → Option Value
+shifted op w (word s a) y = option_and_then (shifted_word op s a) (count_of y)
 shifted op w (integer i) (integer j) = option_map of_constant (on_integers op i j)
-shifted op w (word s a) (integer (pos n)) = shifted_word op s a n
-shifted op w (word s a) (word z n) = shifted_word op s a n
 shifted op (Some s) (integer i) (word z n) = shifted_word op s (residue s i) n
 shifted op w _ _ = None
 
