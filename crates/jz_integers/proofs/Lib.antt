@@ -1,0 +1,2 @@
+pub mod LeftSideLemmas
+pub mod Powers

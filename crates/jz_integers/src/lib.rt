@@ -1,0 +1,14 @@
+//! The arithmetic of inline expressions, whose values are known when the text is compiled.
+#![tactic(auto)]
+
+mod arithmetic;
+mod constant;
+mod inline;
+mod lookup;
+mod sides;
+
+pub use arithmetic::{inverted, negated, on_integers};
+pub use constant::Constant;
+pub use inline::{inline_value, written_number};
+pub use lookup::{NoNumbers, Numbers};
+
