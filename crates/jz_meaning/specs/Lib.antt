@@ -1,4 +1,4 @@
 pub mod Attempts
-pub mod Integers
 pub mod Operators
 pub mod States
+pub mod Stores

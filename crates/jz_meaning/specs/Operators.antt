@@ -7,16 +7,18 @@ use Rattle.jz_words.specs.Sizes.{bits_of, modulus, half, signed}
 use Rattle.jz_words.specs.Words.{sum_of, difference_of, residue, shl_of, shr_of, sar_of, rol_of, ror_of}
 use Rattle.jz_tree.specs.declared.expr.BinOp.{BinOp}
 use Rattle.jz_tree.specs.declared.expr.BinOp.TheVariants as o
+use Rattle.jz_integers.specs.declared.constant.Constant.{Constant}
+use Rattle.jz_integers.specs.declared.constant.Constant.TheVariants as constant
+use Rattle.jz_integers.specs.Integers as numbers
+use Rattle.jz_integers.specs.Integers.{on_integers}
 use Rattle.jz_meaning.specs.declared.value.Why.TheVariants.{Init, Divide}
 use Rattle.jz_meaning.specs.Attempts.{Evaluation, went, stuck_at, defined}
 use Rattle.jz_meaning.specs.States.{Value, word, boolean, integer}
-use Rattle.jz_meaning.specs.Integers as numbers
-use Rattle.jz_meaning.specs.Integers.{Constant, on_integers}
 
 -- a whole number, or the answer of a comparison
 abbrev pub of_constant : Constant → Value
-of_constant (numbers.Int n) = integer n
-of_constant (numbers.Truth c) = boolean c
+of_constant (constant.Int n) = integer n
+of_constant (constant.Bool c) = boolean c
 
 -- ---- words
 
@@ -112,6 +114,9 @@ joins o.AndThen = true
 joins o.OrElse = true
 joins _ = false
 
+abbrev pub joined : BinOp → Bool → Option Value
+joined op right = if joins op then Some (boolean right) else None
+
 abbrev pub is_settled : BinOp → Value → Bool
 is_settled o.AndThen (boolean c) = not c
 is_settled o.OrElse (boolean c) = c
@@ -124,7 +129,7 @@ combined op at (word s a) (integer j) = on_words op at s a (residue s j)
 combined op at (word s a) (boolean c) = defined at (by_flag op s a c)
 combined op at (integer i) (word s b) = on_words op at s (residue s i) b
 combined op at (integer i) (integer j) = defined at (option_map of_constant (on_integers op i j))
-combined op at (boolean a) (boolean c) = if joins op then went [] (boolean c) else stuck_at at Init
+combined op at (boolean a) (boolean c) = defined at (joined op c)
 combined op at _ _ = stuck_at at Init
 
 -- how far a word is shifted

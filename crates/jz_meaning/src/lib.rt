@@ -2,7 +2,9 @@
 #![tactic(auto)]
 
 mod operators;
+mod store;
 mod value;
 
-pub use operators::{is_settled, is_shift, word_of};
+pub use operators::{binary, cast, inverted_value, is_settled, is_shift, negated_value, word_of};
+pub use store::Store;
 pub use value::{Stuck, Value, Why, defined};

@@ -7,6 +7,7 @@ ghost use Rattle.jz_meaning.specs.Operators as operators;
 ghost use Rattle.jz_meaning.specs.States.{as_value};
 
 use jz_data::Seq;
+use jz_integers::{Constant, inverted, negated, on_integers};
 use jz_io::Span;
 use jz_tree::BinOp;
 use jz_words::{
@@ -360,5 +361,194 @@ pub fn is_settled(op: BinOp, left: Value) -> bool
         BinOp::AndThen => matches!(left, Value::Bool(false)),
         BinOp::OrElse => matches!(left, Value::Bool(true)),
         _ => false,
+    }
+}
+
+// The value of an inline expression.
+fn of_constant(constant: Option<Constant>) -> Option<Value>
+    ensures { option_map as_value result ≡ option_map operators.of_constant constant }
+{
+    match constant {
+        None => None,
+        Some(Constant::Int(number)) => Some(Value::Int(number)),
+        Some(Constant::Bool(answer)) => Some(Value::Bool(answer)),
+    }
+}
+
+#[tactic(auto, unfolding(crate::specs::Operators::combined))]
+fn combined(
+    op: BinOp,
+    span: Span,
+    x: Value,
+    y: Value,
+    out: &mut Seq<u64>,
+) -> Result<Result<Value, Stuck>, AllocError>
+    ensures { IfOk result (λ r. seen out.new r ≡ numbers_first out.old (operators.combined op span (as_value x) (as_value y))) }
+{
+    match x {
+        Value::Word(a) => beside_word(op, span, a, y, out),
+        Value::Int(a) => match y {
+            Value::Word(b) => on_words(op, span, residue(b.size(), a), b, out),
+            Value::Int(b) => Ok(defined(span, of_constant(on_integers(op, a, b)))),
+            Value::Bool(_) => Ok(defined(span, None)),
+        },
+        Value::Bool(_) => match y {
+            Value::Word(_) => Ok(defined(span, None)),
+            Value::Int(_) => Ok(defined(span, None)),
+            Value::Bool(b) => Ok(defined(span, joined(op, b))),
+        },
+    }
+}
+
+// Two flags.
+fn joined(op: BinOp, right: bool) -> Option<Value>
+    ensures { option_map as_value result ≡ operators.joined op right }
+{
+    if joins(op) {
+        Some(Value::Bool(right))
+    } else {
+        None
+    }
+}
+
+#[tactic(auto, unfolding(crate::specs::Operators::combined))]
+fn beside_word(
+    op: BinOp,
+    span: Span,
+    a: Word,
+    y: Value,
+    out: &mut Seq<u64>,
+) -> Result<Result<Value, Stuck>, AllocError>
+    ensures { IfOk result (λ r. seen out.new r ≡ numbers_first out.old (operators.combined op span (states.word a.size a.bits) (as_value y))) }
+{
+    match y {
+        Value::Word(b) => {
+            if same_size(a.size(), b.size()) {
+                on_words(op, span, a, b, out)
+            } else {
+                Ok(defined(span, None))
+            }
+        }
+        Value::Int(b) => on_words(op, span, a, residue(a.size(), b), out),
+        Value::Bool(flag) => Ok(defined(span, by_flag(op, a, flag))),
+    }
+}
+
+ghost use Rattle.jz_meaning.specs.States as states;
+
+fn shifted_by(op: BinOp, a: Word, count: Option<u128>) -> Option<Value>
+    ensures { option_map as_value result ≡ option_and_then (operators.shifted_word op a.size a.bits) count }
+{
+    match count {
+        None => None,
+        Some(count) => shifted_word(op, a, count),
+    }
+}
+
+ghost use Rattle.std.specs.Option.{option_and_then};
+
+#[tactic(auto, unfolding(crate::specs::Operators::shifted))]
+fn shifted_integer(op: BinOp, wanted: Option<Size>, a: i128, y: Value) -> Option<Value>
+    ensures { option_map as_value result ≡ operators.shifted op wanted (states.integer a) (as_value y) }
+{
+    match y {
+        Value::Word(count) => match wanted {
+            None => None,
+            Some(size) => shifted_word(op, residue(size, a), count.bits() as u128),
+        },
+        Value::Int(count) => of_constant(on_integers(op, a, count)),
+        Value::Bool(_) => None,
+    }
+}
+
+#[tactic(auto, unfolding(crate::specs::Operators::shifted))]
+fn shifted(op: BinOp, wanted: Option<Size>, x: Value, y: Value) -> Option<Value>
+    ensures { option_map as_value result ≡ operators.shifted op wanted (as_value x) (as_value y) }
+{
+    match x {
+        Value::Word(a) => shifted_by(op, a, count_of(y)),
+        Value::Int(a) => shifted_integer(op, wanted, a, y),
+        Value::Bool(_) => None,
+    }
+}
+
+/// The operation on two values where a word of a size is wanted. The three words of a division are appended to `out`: the high
+/// word, the low word and the divisor. Stuck for Divide where a divisor is 0 or a quotient has no room in the word, and for Init
+/// where typing excludes the operation or whole numbers have no value.
+#[tactic(auto, unfolding(crate::specs::Operators::binary))]
+pub fn binary(
+    op: BinOp,
+    span: Span,
+    wanted: Option<Size>,
+    x: Value,
+    y: Value,
+    out: &mut Seq<u64>,
+) -> Result<Result<Value, Stuck>, AllocError>
+    ensures { IfOk result (λ r. seen out.new r ≡ numbers_first out.old (operators.binary op span wanted (as_value x) (as_value y))) }
+{
+    if is_shift(op) {
+        Ok(defined(span, shifted(op, wanted, x, y)))
+    } else {
+        combined(op, span, x, y, out)
+    }
+}
+
+fn negated_number(number: i128) -> Option<Value>
+    ensures { option_map as_value result ≡ option_map states.integer (integers.negated number) }
+{
+    match negated(number) {
+        None => None,
+        Some(number) => Some(Value::Int(number)),
+    }
+}
+
+ghost use Rattle.jz_integers.specs.Integers as integers;
+
+/// 0 less the value. None of a flag, and of the least whole number.
+#[tactic(auto, unfolding(crate::specs::Operators::negated))]
+pub fn negated_value(value: Value) -> Option<Value>
+    ensures { option_map as_value result ≡ operators.negated (as_value value) }
+{
+    match value {
+        Value::Word(word) => {
+            let zero = Word::new(word.size(), 0);
+            Some(Value::Word(sub_borrow(zero, word, false).0))
+        }
+        Value::Int(number) => negated_number(number),
+        Value::Bool(_) => None,
+    }
+}
+
+/// Each bit of a value turned over, of a flag its answer.
+#[tactic(auto, unfolding(crate::specs::Operators::inverted))]
+pub fn inverted_value(value: Value) -> Value
+    ensures { as_value result ≡ operators.inverted (as_value value) }
+{
+    match value {
+        Value::Word(word) => {
+            let ones = (word.size().modulus() - 1) as u64;
+            Value::Word(Word::new(word.size(), ones - word.bits()))
+        }
+        Value::Int(number) => Value::Int(inverted(number)),
+        Value::Bool(answer) => Value::Bool(!answer),
+    }
+}
+
+/// The word of that size that a word becomes: cut off, or with zeros in front, or copies of its sign where `signed`. None of what
+/// is no word.
+#[tactic(auto, unfolding(crate::specs::Operators::cast))]
+pub fn cast(size: Size, signed: bool, value: Value) -> Option<Value>
+    ensures { option_map as_value result ≡ operators.cast size signed (as_value value) }
+{
+    match value {
+        Value::Word(word) => {
+            if signed {
+                Some(Value::Word(residue(size, word.signed())))
+            } else {
+                Some(Value::Word(Word::truncate(size, word.bits())))
+            }
+        }
+        Value::Int(_) => None,
+        Value::Bool(_) => None,
     }
 }
