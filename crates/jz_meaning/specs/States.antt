@@ -46,7 +46,7 @@ empty_store k = None
 
 -- with this at one key: a value, or none
 abbrev pub put : Store → Key → Option Value → Store
-put store k v q = if same_key q k then v else store q
+put store k v q = if same_key k q then v else store q
 
 pub record State : Type 0 where
   pub store : Store

@@ -1,5 +1,5 @@
 -- What the code's store holds.
-use Rattle.std.specs.Prelude.{ℕ, Bool, ◌==◌, ◌&&◌, Option, Some, None, option_map}
+use Rattle.std.specs.Prelude.{ℕ, Bool, ◌==◌, ◌&&◌, List, Option, Some, None, option_map}
 use Rattle.std.specs.Str.{bytes_eq}
 use Rattle.indexmap.specs.IndexMap.{IndexMap, get}
 use Rattle.jz_meaning.specs.declared.store.Store as code
@@ -23,3 +23,6 @@ value_at p (Some m) = option_map as_value (flat (get same_place m p))
 -- the value of each key
 abbrev pub store_of : code.Store → states.Store
 store_of s k = value_at (record { copy = k.copy; cell = k.cell }) (get bytes_eq s.names k.name)
+
+abbrev pub key_of : List ℕ → Place → states.Key
+key_of n p = record { name = n; copy = p.copy; cell = p.cell }

@@ -6,6 +6,7 @@ ghost use Rattle.jz_meaning.specs.Attempts.{seen, numbers_first};
 ghost use Rattle.jz_meaning.specs.Operators as operators;
 ghost use Rattle.jz_meaning.specs.States.{as_value};
 
+use crate::value::{Stuck, Value, Why, defined};
 use jz_data::Seq;
 use jz_integers::{Constant, inverted, negated, on_integers};
 use jz_io::Span;
@@ -14,8 +15,6 @@ use jz_words::{
     Size, Word, add_carry, and, mul_wide, or, residue, rol, ror, sar, shl, shr, sub_borrow, xor,
 };
 use std::alloc::{AllocError, Global};
-
-use crate::value::{Stuck, Value, Why, defined};
 
 /// Whether two words of these sizes can stand side by side.
 #[tactic(auto, using(crate::proofs::Widths::equal_sizes))]
