@@ -2,6 +2,7 @@
 use Rattle.std.specs.Prelude.{ℕ, Bool, ◌==◌, ◌&&◌, List, Option, Some, None, option_map}
 use Rattle.std.specs.Str.{bytes_eq}
 use Rattle.indexmap.specs.IndexMap.{IndexMap, get}
+use Rattle.jz_words.specs.Memory.{Memory}
 use Rattle.jz_meaning.specs.declared.store.Store as code
 use Rattle.jz_meaning.specs.declared.value.Value as value
 use Rattle.jz_meaning.specs.declared.store.Place.{Place}
@@ -26,3 +27,7 @@ store_of s k = value_at (record { copy = k.copy; cell = k.cell }) (get bytes_eq 
 
 abbrev pub key_of : List ℕ → Place → states.Key
 key_of n p = record { name = n; copy = p.copy; cell = p.cell }
+
+-- where a run of the code stands
+abbrev pub state : code.Store → Memory → states.State
+state s m = record { store = store_of s; memory = m }

@@ -3,6 +3,8 @@
 
 mod operators;
 mod store;
+#[cfg(test)]
+mod tests;
 mod value;
 
 pub use operators::{binary, cast, inverted_value, is_settled, is_shift, negated_value, word_of};

@@ -1,10 +1,16 @@
 //! What the operators give.
 
-ghost use Rattle.std.specs.Prelude.{◌≡◌, ◌++◌, ◌∷◌, [], true, IfOk, OnOk, IfSome, option_map};
+ghost use Rattle.std.specs.Prelude.{◌≡◌, ◌++◌, ◌∷◌, [], true, IfOk, OnOk, IfSome, option_map, ◌≢◌, int_div, int_rem, ◌*◌, ◌%◌, ◌-◌, ◌<◌};
+ghost use Rattle.std.specs.Option.{option_and_then};
+ghost use Rattle.jz_words.specs.Sizes.{signed, modulus, bits_of};
+ghost use Rattle.jz_words.specs.Words.{shl_of, shr_of, sar_of, rol_of, ror_of};
 ghost use Rattle.jz_tree.specs.declared.expr.BinOp.TheVariants as op;
+ghost use Rattle.jz_integers.specs.Integers as integers;
 ghost use Rattle.jz_meaning.specs.Attempts.{seen, numbers_first};
 ghost use Rattle.jz_meaning.specs.Operators as operators;
 ghost use Rattle.jz_meaning.specs.States.{as_value};
+ghost use Rattle.jz_meaning.specs.declared.value.Why.TheVariants as why;
+ghost use Rattle.jz_meaning.specs.States as states;
 
 use crate::value::{Stuck, Value, Why, defined};
 use jz_data::Seq;
@@ -14,7 +20,7 @@ use jz_tree::BinOp;
 use jz_words::{
     Size, Word, add_carry, and, mul_wide, or, residue, rol, ror, sar, shl, shr, sub_borrow, xor,
 };
-use std::alloc::{AllocError, Global};
+use std::alloc::AllocError;
 
 /// Whether two words of these sizes can stand side by side.
 #[tactic(auto, using(crate::proofs::Widths::equal_sizes))]
@@ -51,8 +57,6 @@ fn no_quotient(span: Span) -> Stuck
         why: Why::Divide,
     }
 }
-
-ghost use Rattle.jz_meaning.specs.declared.value.Why.TheVariants as why;
 
 // The numbers that a division shows.
 fn show(high: u64, a: Word, b: Word, out: &mut Seq<u64>) -> Result<(), AllocError>
@@ -127,9 +131,6 @@ fn divided(a: Word, b: Word) -> (i128, i128)
     (dividend / divisor, dividend % divisor)
 }
 
-ghost use Rattle.std.specs.Prelude.{◌≢◌, int_div, int_rem};
-ghost use Rattle.jz_words.specs.Sizes.{signed};
-
 fn signed_quotient(
     span: Span,
     a: Word,
@@ -189,9 +190,6 @@ fn product(a: Word, b: Word) -> Word
     let product = mul_wide(a, b) % a.size().modulus();
     Word::new(a.size(), product as u64)
 }
-
-ghost use Rattle.std.specs.Prelude.{◌*◌, ◌%◌, ◌-◌};
-ghost use Rattle.jz_words.specs.Sizes.{modulus};
 
 // On two words, where nothing is leaked.
 fn plain(op: BinOp, a: Word, b: Word) -> Option<Value>
@@ -290,10 +288,6 @@ fn rotated_right(a: Word, count: u128) -> Word
 {
     ror(a, turns(a.size(), count))
 }
-
-ghost use Rattle.std.specs.Prelude.{◌<◌};
-ghost use Rattle.jz_words.specs.Sizes.{bits_of};
-ghost use Rattle.jz_words.specs.Words.{shl_of, shr_of, sar_of, rol_of, ror_of};
 
 fn shifted_word(op: BinOp, a: Word, count: u128) -> Option<Value>
     ensures { option_map as_value result ≡ operators.shifted_word op a.size a.bits count }
@@ -433,8 +427,6 @@ fn beside_word(
     }
 }
 
-ghost use Rattle.jz_meaning.specs.States as states;
-
 fn shifted_by(op: BinOp, a: Word, count: Option<u128>) -> Option<Value>
     ensures { option_map as_value result ≡ option_and_then (operators.shifted_word op a.size a.bits) count }
 {
@@ -443,8 +435,6 @@ fn shifted_by(op: BinOp, a: Word, count: Option<u128>) -> Option<Value>
         Some(count) => shifted_word(op, a, count),
     }
 }
-
-ghost use Rattle.std.specs.Option.{option_and_then};
 
 #[tactic(auto, unfolding(crate::specs::Operators::shifted))]
 fn shifted_integer(op: BinOp, wanted: Option<Size>, a: i128, y: Value) -> Option<Value>
@@ -500,8 +490,6 @@ fn negated_number(number: i128) -> Option<Value>
         Some(number) => Some(Value::Int(number)),
     }
 }
-
-ghost use Rattle.jz_integers.specs.Integers as integers;
 
 /// 0 less the value. None of a flag, and of the least whole number.
 #[tactic(auto, unfolding(crate::specs::Operators::negated))]
