@@ -1,14 +1,13 @@
 -- One key of a store is written.
-use Rattle.std.proofs.Common.{◌≡◌, ℕ, List, Bool, true, false, Option, Some, None, refl, ap, sym, ◌∙◌}
+use Rattle.std.proofs.Common.{◌≡◌, ℕ, List, Bool, true, false, Option, Some, refl, ap, sym, ◌∙◌}
 use Rattle.std.specs.Prelude.{if◌then◌else◌, ◌&&◌, option_map}
 use Rattle.std.specs.Str.{bytes_eq}
 use Rattle.indexmap.specs.IndexMap.{IndexMap, get}
 use Rattle.jz_data.proofs.Texts.{bytes_eq-true}
 use Rattle.jz_meaning.specs.declared.store.Place.{Place}
-use Rattle.jz_meaning.specs.declared.store.Store as code
 use Rattle.jz_meaning.specs.declared.value.Value as value
 use Rattle.jz_meaning.specs.States.{Key, Value, as_value, put}
-use Rattle.jz_meaning.specs.Stores.{same_place, flat, value_at, store_of, key_of}
+use Rattle.jz_meaning.specs.Stores.{same_place, flat, value_at, key_of}
 
 abbrev pub Table : Type 0 → Type 0
 Table S = IndexMap Place (Option value.Value) S

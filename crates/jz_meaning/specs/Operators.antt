@@ -1,5 +1,5 @@
 -- What the operators give on words, on whole numbers and on flags. What typing excludes has no value.
-use Rattle.std.specs.Prelude.{ℕ, ◌-◌, ◌*◌, ◌/◌, ◌%◌, ◌==◌, nat_lt, nat_le, bit_and, bit_or, bit_xor, Bool, true, false, not, ◌&&◌, ◌||◌, [], ◌∷◌, Option, Some, None, option_map, if◌then◌else◌, ℤ, pos, negsuc, int_lt, int_le, int_div, int_rem}
+use Rattle.std.specs.Prelude.{ℕ, ◌-◌, ◌*◌, ◌/◌, ◌%◌, ◌==◌, nat_lt, nat_le, bit_and, bit_or, bit_xor, Bool, true, false, not, ◌&&◌, ◌||◌, [], ◌∷◌, Option, Some, None, option_map, if◌then◌else◌, ℤ, pos, int_lt, int_le, int_div, int_rem}
 use Rattle.std.specs.Option.{option_and_then}
 use Rattle.jz_io.specs.declared.span.Span.{Span}
 use Rattle.jz_words.specs.declared.size.Size.{Size}

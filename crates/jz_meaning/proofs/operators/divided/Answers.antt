@@ -1,6 +1,5 @@
-use Rattle.std.proofs.Common.{◌∙◌, sym, ap, rules, FitsSigned}
+use Rattle.std.proofs.Common.{◌∙◌, sym, rules, FitsSigned}
 use Rattle.std.specs.Int.{w128}
-use Rattle.jz_words.specs.Sizes.{signed}
 use Rattle.jz_meaning.proofs.Quotients.{signed_zero, divides}
 use Rattle.jz_meaning.proofs.operators.divided.Goals as goal
 
