@@ -4,12 +4,11 @@ ghost use Rattle.jz_resolve.specs.Programs.{counted, counted_ty, counted_decl, c
 ghost use Rattle.jz_resolve.specs.Numbering.{value_with};
 ghost use Rattle.jz_resolve.specs.Tables.{values_in, places_in, IsScope};
 
-use crate::expressions::resolve_expr;
+use crate::expressions::{resolve_expr, span_of};
 use crate::scope::Scope;
 use crate::statements::{resolve_block, resolve_vars};
 use crate::table::{ConstantTable, constants};
 use jz_data::{Boxed, Seq};
-use crate::expressions::span_of;
 use jz_tree::{Const, Decl, Expr, Fun, Param, Program, Ret, Ty, Var};
 use std::alloc::{AllocError, Global};
 

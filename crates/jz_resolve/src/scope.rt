@@ -7,8 +7,8 @@ ghost use Rattle.jz_tree.specs.declared.expr.Expr.TheViews.{out-Var};
 ghost use Rattle.jz_resolve.specs.Numbering.{or_named};
 ghost use Rattle.jz_resolve.specs.Tables.{declared_by, is_constant_by, number_by, first_of, IsScope};
 
-use crate::table::ConstantTable;
 use crate::lookup::Lookup;
+use crate::table::ConstantTable;
 use indexmap::IndexMap;
 use jz_data::{Seq, Text};
 use jz_integers::Numbers;
@@ -107,6 +107,7 @@ impl Scope<'_> {
 
 impl Lookup for Scope<'_> {
     ghost declaration = { λ scope. declared_by scope };
+
     ghost number = { λ scope. number_by scope };
 
     fn declared(&self, alloc: Global, name: &Text) -> Result<Option<Decl>, AllocError>

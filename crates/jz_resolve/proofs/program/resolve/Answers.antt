@@ -1,4 +1,4 @@
-use Rattle.std.proofs.Common.{◌≡◌, List, ap₂, ◌∙◌}
+use Rattle.std.proofs.Common.{List, ap₂, ◌∙◌}
 use Rattle.jz_tree.specs.declared.program.Program.{Program}
 use Rattle.jz_tree.specs.declared.program.Const.{Const}
 use Rattle.jz_tree.specs.declared.program.Fun.{Fun}

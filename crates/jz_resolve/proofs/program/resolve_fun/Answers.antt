@@ -1,4 +1,4 @@
-use Rattle.std.proofs.Common.{◌≡◌, List, map, ap₂, ◌∙◌}
+use Rattle.std.proofs.Common.{List, map, ap₂, ◌∙◌}
 use Rattle.jz_tree.specs.declared.expr.Var.{Var}
 use Rattle.jz_tree.specs.declared.stmt.Stmt.{Stmt}
 use Rattle.jz_tree.specs.declared.program.Fun.{Fun}
@@ -11,5 +11,5 @@ returns c =
     let s = c.in_ok-scope.ensures in
     let made : List Stmt → List Var → Fun = λ b r. record f { body = b; result = r } in
     ap₂ made
-      (c.in_ok-body.ensures ∙ ap₂ (λ d n. map (resolved_stmt d n) f.body) s.declaration s.number)
-      (c.in_ok-result.ensures ∙ ap₂ (λ d n. map (resolved_var d n) f.result) s.declaration s.number)
+    (c.in_ok-body.ensures ∙ ap₂ (λ d n. map (resolved_stmt d n) f.body) s.declaration s.number)
+    (c.in_ok-result.ensures ∙ ap₂ (λ d n. map (resolved_var d n) f.result) s.declaration s.number)

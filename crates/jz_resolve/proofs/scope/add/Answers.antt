@@ -1,8 +1,8 @@
-use Rattle.std.proofs.Common.{rules, ◌∙◌}
+use Rattle.std.proofs.Common.{rules}
 use Rattle.std.specs.Str.{bytes_eq}
 use Rattle.indexmap.specs.IndexMap.{get}
 use Rattle.jz_tree.specs.declared.expr.Expr.TheViews.{out-Var}
-use Rattle.jz_resolve.proofs.Naming.{named_anew, named_before}
+use Rattle.jz_resolve.proofs.Naming.{named_anew}
 use Rattle.jz_resolve.proofs.scope.add.Goals as goal
 
 pub returns-in_ok-insert : goal.returns-in_ok-insert
