@@ -1,0 +1,2 @@
+pub mod OrSizes
+pub mod SameForms

@@ -1,0 +1,5 @@
+pub mod Wants
+pub mod Operators
+pub mod Typings
+pub mod Found
+pub mod Signatures
