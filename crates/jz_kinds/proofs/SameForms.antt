@@ -116,23 +116,23 @@ BinSame o at a b f g = IsSame (typing_step (Expr-F.Bin o a b at)) (found_step (E
 
 bin_operands : (o : BinOp) (a b : Typing) (p q : Bool → Want → Option Span) (w : Want) → Finds a a.form p → Finds b b.form q
     → earlier
-        (q b.form.inline (right_of (group_of o) (takes_carry o (left_inline (b.form.inline && a.form.inline) a.form.inline b.form.inline) w && b.form.truth) (compared (group_of o) a.form.size b.form.size) w))
-        (p (left_inline (b.form.inline && a.form.inline) a.form.inline b.form.inline) (left_of (group_of o) o (b.form.inline && a.form.inline) (compared (group_of o) a.form.size b.form.size) w))
-      ≡ earliest (b.wrong (right_want o a.form b.form w) ++ a.wrong (left_want o a.form b.form w))
+    (q b.form.inline (right_of (group_of o) (takes_carry o (left_inline (b.form.inline && a.form.inline) a.form.inline b.form.inline) w && b.form.truth) (compared (group_of o) a.form.size b.form.size) w))
+    (p (left_inline (b.form.inline && a.form.inline) a.form.inline b.form.inline) (left_of (group_of o) o (b.form.inline && a.form.inline) (compared (group_of o) a.form.size b.form.size) w))
+    ≡ earliest (b.wrong (right_want o a.form b.form w) ++ a.wrong (left_want o a.form b.form w))
 bin_operands o a b p q w ha hb =
     subst
-      (λ i. earlier
-          (q b.form.inline (right_of (group_of o) (takes_carry o i w && b.form.truth) (compared (group_of o) a.form.size b.form.size) w))
-          (p i (left_of (group_of o) o (b.form.inline && a.form.inline) (compared (group_of o) a.form.size b.form.size) w))
-        ≡ earliest (b.wrong (right_want o a.form b.form w) ++ a.wrong (left_want o a.form b.form w)))
-      (sym (left_is a.form.inline b.form.inline))
-      (two (b.wrong (right_want o a.form b.form w)) (a.wrong (left_want o a.form b.form w)) _ _ (hb (right_want o a.form b.form w)) (ha (left_want o a.form b.form w)))
+    (λ i. earlier
+    (q b.form.inline (right_of (group_of o) (takes_carry o i w && b.form.truth) (compared (group_of o) a.form.size b.form.size) w))
+    (p i (left_of (group_of o) o (b.form.inline && a.form.inline) (compared (group_of o) a.form.size b.form.size) w))
+    ≡ earliest (b.wrong (right_want o a.form b.form w) ++ a.wrong (left_want o a.form b.form w)))
+    (sym (left_is a.form.inline b.form.inline))
+    (two (b.wrong (right_want o a.form b.form w)) (a.wrong (left_want o a.form b.form w)) _ _ (hb (right_want o a.form b.form w)) (ha (left_want o a.form b.form w)))
 
 bin_at : (o : BinOp) (at : Span) (a b : Typing) (p q : Bool → Want → Option Span) → Finds a a.form p → Finds b b.form q → BinSame o at a b (with_form a.form p) (with_form b.form q)
 bin_at o at a b p q ha hb = record {
   form = refl;
   first = λ w.
-    two (unless (gives (group_of o) w) at) (if stops (group_of o) w then [] else b.wrong (right_want o a.form b.form w) ++ a.wrong (left_want o a.form b.form w)) _ _ refl
+      two (unless (gives (group_of o) w) at) (if stops (group_of o) w then [] else b.wrong (right_want o a.form b.form w) ++ a.wrong (left_want o a.form b.form w)) _ _ refl
       (stopped (stops (group_of o) w) _ (b.wrong (right_want o a.form b.form w) ++ a.wrong (left_want o a.form b.form w)) (bin_operands o a b p q w ha hb));
 }
 
@@ -164,42 +164,42 @@ layer_same (Expr-F.Bin o a b at) = bin_same o at _ _ _ _ a.1 b.1
 expr_case : (y : Proved) → ExprLaw (roll-Expr (bare y))
 expr_case y =
     subst (λ t. IsSame t (found (roll-Expr (bare y)))) (sym (fold-roll-Expr Typing Kind Typing Declared (Known × Span) typing_step kind_step access_typing declared_step (λ v. (v.decl, v.span)) (bare y)))
-      (subst (λ f. IsSame (typed_layer (bare y)) f) (sym (fold-roll-Expr Found Kind Found Declared (Known × Span) found_step kind_step access_found declared_step (λ v. (v.decl, v.span)) (bare y))) (layer_same y))
+    (subst (λ f. IsSame (typed_layer (bare y)) f) (sym (fold-roll-Expr Found Kind Found Declared (Known × Span) found_step kind_step access_found declared_step (λ v. (v.decl, v.span)) (bare y))) (layer_same y))
 
 access_case : (y : Access-F ((e : Expr) × ExprLaw e) ((t : Ty) × TyLaw t) ((a : Access) × AccessLaw a) ((d : Decl) × DeclLaw d) ((v : Var) × VarLaw v))
     → AccessLaw (roll-Access (map-Access _ _ _ _ _ _ _ _ _ _ (λ e. e.0) (λ e. e.0) (λ e. e.0) (λ e. e.0) (λ e. e.0) y))
 access_case y =
     let x = map-Access _ _ _ _ _ Expr Ty Access Decl Var (λ e. e.0) (λ e. e.0) (λ e. e.0) (λ e. e.0) (λ e. e.0) y in
     subst (λ t. IsSame t (found_in_access (roll-Access x))) (sym (fold-roll-Access Typing Kind Typing Declared (Known × Span) typing_step kind_step access_typing declared_step (λ v. (v.decl, v.span)) x))
-      (subst (λ f. IsSame (access_typing (record { size = x.size; at = typing x.at; unaligned = x.unaligned; span = x.span })) f) (sym (fold-roll-Access Found Kind Found Declared (Known × Span) found_step kind_step access_found declared_step (λ v. (v.decl, v.span)) x))
-        (access_same x.size x.unaligned x.span _ _ y.at.1))
+    (subst (λ f. IsSame (access_typing (record { size = x.size; at = typing x.at; unaligned = x.unaligned; span = x.span })) f) (sym (fold-roll-Access Found Kind Found Declared (Known × Span) found_step kind_step access_found declared_step (λ v. (v.decl, v.span)) x))
+    (access_same x.size x.unaligned x.span _ _ y.at.1))
 
 ty_case : (y : Ty-F ((e : Expr) × ExprLaw e) ((t : Ty) × TyLaw t) ((a : Access) × AccessLaw a) ((d : Decl) × DeclLaw d) ((v : Var) × VarLaw v))
     → TyLaw (roll-Ty (map-Ty _ _ _ _ _ _ _ _ _ _ (λ e. e.0) (λ e. e.0) (λ e. e.0) (λ e. e.0) (λ e. e.0) y))
 ty_case y =
     let x = map-Ty _ _ _ _ _ Expr Ty Access Decl Var (λ e. e.0) (λ e. e.0) (λ e. e.0) (λ e. e.0) (λ e. e.0) y in
     fold-roll-Ty Typing Kind Typing Declared (Known × Span) typing_step kind_step access_typing declared_step (λ v. (v.decl, v.span)) x
-      ∙ kinds x
-      ∙ sym (fold-roll-Ty Found Kind Found Declared (Known × Span) found_step kind_step access_found declared_step (λ v. (v.decl, v.span)) x)
+    ∙ kinds x
+    ∙ sym (fold-roll-Ty Found Kind Found Declared (Known × Span) found_step kind_step access_found declared_step (λ v. (v.decl, v.span)) x)
   where
-  kinds : (x : Ty-F Expr Ty Access Decl Var)
-      → kind_step (map-Ty _ _ _ _ _ Typing Kind Typing Declared (Known × Span) typing ty_typed typing_of_access decl_typed var_typed x)
+    kinds : (x : Ty-F Expr Ty Access Decl Var)
+        → kind_step (map-Ty _ _ _ _ _ Typing Kind Typing Declared (Known × Span) typing ty_typed typing_of_access decl_typed var_typed x)
         ≡ kind_step (map-Ty _ _ _ _ _ Found Kind Found Declared (Known × Span) found ty_found found_in_access decl_found var_found x)
-  kinds Ty-F.Int = refl
-  kinds Ty-F.Ty::Bool = refl
-  kinds (Ty-F.Word z) = refl
-  kinds (Ty-F.Array z n) = refl
+    kinds Ty-F.Int = refl
+    kinds Ty-F.Ty::Bool = refl
+    kinds (Ty-F.Word z) = refl
+    kinds (Ty-F.Array z n) = refl
 
 decl_case : (y : Decl-F ((e : Expr) × ExprLaw e) ((t : Ty) × TyLaw t) ((a : Access) × AccessLaw a) ((d : Decl) × DeclLaw d) ((v : Var) × VarLaw v))
     → DeclLaw (roll-Decl (map-Decl _ _ _ _ _ _ _ _ _ _ (λ e. e.0) (λ e. e.0) (λ e. e.0) (λ e. e.0) (λ e. e.0) y))
 decl_case y =
     let x = map-Decl _ _ _ _ _ Expr Ty Access Decl Var (λ e. e.0) (λ e. e.0) (λ e. e.0) (λ e. e.0) (λ e. e.0) y in
     fold-roll-Decl Typing Kind Typing Declared (Known × Span) typing_step kind_step access_typing declared_step (λ v. (v.decl, v.span)) x
-      ∙ ap (declaring y.storage) y.ty.1
-      ∙ sym (fold-roll-Decl Found Kind Found Declared (Known × Span) found_step kind_step access_found declared_step (λ v. (v.decl, v.span)) x)
+    ∙ ap (declaring y.storage) y.ty.1
+    ∙ sym (fold-roll-Decl Found Kind Found Declared (Known × Span) found_step kind_step access_found declared_step (λ v. (v.decl, v.span)) x)
   where
-  declaring : Storage → Kind → Declared
-  declaring s k = record { storage = s; kind = k }
+    declaring : Storage → Kind → Declared
+    declaring s k = record { storage = s; kind = k }
 
 abbrev VarProved : Type 0
 VarProved = Var-F ((e : Expr) × ExprLaw e) ((t : Ty) × TyLaw t) ((a : Access) × AccessLaw a) ((d : Decl) × DeclLaw d) ((v : Var) × VarLaw v)
@@ -222,17 +222,17 @@ named_same y = elim y.decl as (λ d. typed_named (bare_var (record y { decl = d 
 var_case : (y : VarProved) → VarLaw (roll-Var (bare_var y))
 var_case y =
     fold-roll-Var Typing Kind Typing Declared (Known × Span) typing_step kind_step access_typing declared_step (λ v. (v.decl, v.span)) (bare_var y)
-      ∙ named_same y
-      ∙ sym (fold-roll-Var Found Kind Found Declared (Known × Span) found_step kind_step access_found declared_step (λ v. (v.decl, v.span)) (bare_var y))
+    ∙ named_same y
+    ∙ sym (fold-roll-Var Found Kind Found Declared (Known × Span) found_step kind_step access_found declared_step (λ v. (v.decl, v.span)) (bare_var y))
 
 pub same : (e : Expr) → IsSame (typing e) (found e)
 same =
     ind-Expr ExprLaw TyLaw AccessLaw DeclLaw VarLaw
-      (λ x y is. subst (λ z. ExprLaw (roll-Expr z)) is (expr_case y))
-      (λ x y is. subst (λ z. TyLaw (roll-Ty z)) is (ty_case y))
-      (λ x y is. subst (λ z. AccessLaw (roll-Access z)) is (access_case y))
-      (λ x y is. subst (λ z. DeclLaw (roll-Decl z)) is (decl_case y))
-      (λ x y is. subst (λ z. VarLaw (roll-Var z)) is (var_case y))
+    (λ x y is. subst (λ z. ExprLaw (roll-Expr z)) is (expr_case y))
+    (λ x y is. subst (λ z. TyLaw (roll-Ty z)) is (ty_case y))
+    (λ x y is. subst (λ z. AccessLaw (roll-Access z)) is (access_case y))
+    (λ x y is. subst (λ z. DeclLaw (roll-Decl z)) is (decl_case y))
+    (λ x y is. subst (λ z. VarLaw (roll-Var z)) is (var_case y))
 
 pub same_form : (e : Expr) → (found e).form ≡ (typing e).form
 same_form e = (same e).form

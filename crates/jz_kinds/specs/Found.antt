@@ -30,8 +30,8 @@ abbrev pub bin_first : BinOp → Found → Found → Span → Bool → Want → 
 bin_first o a b at k w =
     earlier (earliest (unless (gives (group_of o) w) at))
     (if stops (group_of o) w then None else
-        earlier (b.first b.form.inline (right_of (group_of o) (takes_carry o (left_inline k a.form.inline b.form.inline) w && b.form.truth) (compared (group_of o) a.form.size b.form.size) w))
-        (a.first (left_inline k a.form.inline b.form.inline) (left_of (group_of o) o k (compared (group_of o) a.form.size b.form.size) w)))
+    earlier (b.first b.form.inline (right_of (group_of o) (takes_carry o (left_inline k a.form.inline b.form.inline) w && b.form.truth) (compared (group_of o) a.form.size b.form.size) w))
+    (a.first (left_inline k a.form.inline b.form.inline) (left_of (group_of o) o k (compared (group_of o) a.form.size b.form.size) w)))
 
 abbrev pub cell_first : Known → Span → Found → Want → Option Span
 cell_first v at i w = earlier (earliest (unless (fits_cell (cell_size v) w) at)) (i.first i.form.inline want.Index)

@@ -12,7 +12,7 @@ use jz_scopes::{Declared, Kind, known};
 use jz_tree::{Expr, Storage};
 use jz_words::Size;
 
-fn is_inline_int(known: Option<Declared>) -> bool
+pub(crate) fn is_inline_int(known: Option<Declared>) -> bool
     ensures { result ≡ is_inline_int known }
 {
     match known {

@@ -87,13 +87,7 @@ fn count_want(want: Want) -> Want
 }
 
 /// What the left operand is to be; the size is that of a comparison.
-pub(crate) fn left_of(
-    group: Group,
-    op: BinOp,
-    inline: bool,
-    size: Option<Size>,
-    want: Want,
-) -> Want
+pub(crate) fn left_of(group: Group, op: BinOp, inline: bool, size: Option<Size>, want: Want) -> Want
     ensures { result ≡ left_of group op inline size want }
 {
     let words = is_of_words(op) && inline;

@@ -20,11 +20,17 @@ pub enum Role {
 }
 
 const ONE: [Role; 1] = [Role::Value];
+
 const TWO: [Role; 2] = [Role::Value, Role::Value];
+
 const THREE: [Role; 3] = [Role::Value, Role::Value, Role::Value];
+
 const WITH_CONDITION: [Role; 3] = [Role::Value, Role::Value, Role::Condition];
+
 const WITH_COUNT: [Role; 2] = [Role::Value, Role::Count];
+
 const OF_ADDRESS: [Role; 1] = [Role::Address];
+
 const OF_CONDITION: [Role; 1] = [Role::Condition];
 
 pub(crate) fn operands_of(name: Intrinsic) -> &'static [Role]
@@ -44,9 +50,13 @@ pub(crate) fn operands_of(name: Intrinsic) -> &'static [Role]
 }
 
 const BYTE: [Role; 1] = [Role::Byte];
+
 const FIVE: [Role; 5] = [Role::Flag, Role::Flag, Role::Flag, Role::Flag, Role::Flag];
+
 const FOUR_AND_ONE: [Role; 5] = [Role::Flag, Role::Flag, Role::Flag, Role::Flag, Role::Value];
+
 const TWO_AND_ONE: [Role; 3] = [Role::Flag, Role::Flag, Role::Value];
+
 const FIVE_AND_ONE: [Role; 6] = [
     Role::Flag,
     Role::Flag,
@@ -55,6 +65,7 @@ const FIVE_AND_ONE: [Role; 6] = [
     Role::Flag,
     Role::Value,
 ];
+
 const FIVE_AND_TWO: [Role; 7] = [
     Role::Flag,
     Role::Flag,

@@ -3,11 +3,14 @@
 ghost use Rattle.std.specs.Prelude.{◌≡◌};
 ghost use Rattle.jz_kinds.specs.Found.{found, left_inline as left_inline_of};
 ghost use Rattle.jz_kinds.specs.Operators.{compared};
+ghost use Rattle.jz_kinds.specs.Typings.{typing};
+ghost use Rattle.jz_scopes.specs.Order.{earliest};
 
 use crate::forms::{inline, or, size, truth};
 use crate::operators::{Group, gives, group_of, left_of, right_of, stops, takes_carry};
 use crate::wants::{
-    Want, cell_size, fits_access, fits_cell, fits_int, fits_known, fits_truth, fits_word, sized_want,
+    Form, Want, cell_size, fits_access, fits_cell, fits_int, fits_known, fits_truth, fits_word,
+    sized_want,
 };
 use jz_io::Span;
 use jz_scopes::{earlier_of, known, unless};
@@ -97,4 +100,24 @@ pub(crate) fn first(e: &Expr, e_inline: bool, want: Want) -> Option<Span>
             }
         }
     }
+}
+
+/// What an expression is by itself.
+#[tactic(auto, using(crate::proofs::SameForms::same_form))]
+pub(crate) fn form(e: &Expr) -> Form
+    ensures { result ≡ (typing e.now).form }
+{
+    Form {
+        size: size(e),
+        truth: truth(e),
+        inline: inline(e),
+    }
+}
+
+/// The first place of an expression whose type is not what is wanted there.
+#[tactic(auto, using(crate::proofs::SameForms::same_first))]
+pub(crate) fn fault(e: &Expr, want: Want) -> Option<Span>
+    ensures { result ≡ earliest ((typing e.now).wrong want) }
+{
+    first(e, inline(e), want)
 }
