@@ -1,3 +1,5 @@
 pub mod OrSizes
 pub mod Joins
 pub mod SameForms
+pub mod Declared
+mod Examples

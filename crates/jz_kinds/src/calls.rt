@@ -11,12 +11,12 @@ ghost use Rattle.jz_kinds.specs.Intrinsics.{none_more};
 ghost use Rattle.jz_kinds.specs.Calls.{same_length, same_decl, is_declared, is_that_array, passed_as, passed_wrong, takes_kind, takes_result, given_wrong, is_callee, fits_call, call_wrong, returned_one, none_beyond, returned_wrong};
 
 use crate::sides::{is_array, is_skip, takes, within_any};
-use crate::values::{span_of, within_all};
+use crate::values::within_all;
 use crate::walk::fault;
 use crate::wants::{Want, same_size};
 use jz_data::Seq;
 use jz_io::Span;
-use jz_scopes::{Kind, declaration, earlier_of, known, unless};
+use jz_scopes::{Kind, declaration, earlier_of, known, span_of, unless};
 use jz_tree::{Decl, Expr, Fun, FunKind, Lval, Param, Ret, Storage, Ty, Var};
 
 fn same_storage(a: Storage, b: Storage) -> bool
