@@ -5,6 +5,7 @@ use Rattle.jz_tree.specs.declared.expr.Expr.{Expr}
 use Rattle.jz_tree.specs.declared.expr.Decl.{Decl}
 use Rattle.jz_tree.specs.declared.program.Const.{Const}
 use Rattle.jz_tree.specs.declared.program.Fun.{Fun}
+use Rattle.jz_tree.specs.declared.program.Program.{Program}
 use Rattle.jz_scopes.specs.Order.{unless, earliest}
 use Rattle.jz_scopes.specs.Scopes.{Name, constant_place, variable_place}
 use Rattle.jz_scopes.specs.Parts.{span_of, names_in, lengths_in}
@@ -44,3 +45,7 @@ module _ (constant : List ℕ → Bool) where
     -- the lengths of the arrays that a function declares
     abbrev pub lengths_wrong : Fun → List Span
     lengths_wrong f = flat_map decl_wrong (decls_of f)
+
+-- of a program
+abbrev pub mismatched_lengths : (Expr → Option ℤ) → Program → List Span
+mismatched_lengths length_of p = flat_map (λ f. lengths_wrong (is_constant p.consts f) length_of f) p.funs

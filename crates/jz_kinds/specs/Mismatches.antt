@@ -1,5 +1,5 @@
 -- The rule that types, sizes and counts agree.
-use Rattle.std.specs.Prelude.{ℕ, List, [], ◌++◌, flat_map, Option, Some, None}
+use Rattle.std.specs.Prelude.{◌≡◌, ℕ, List, [], ◌++◌, flat_map, Option, Some, None}
 use Rattle.jz_io.specs.declared.span.Span.{Span}
 use Rattle.jz_tree.specs.declared.expr.BinOp.{BinOp}
 use Rattle.jz_tree.specs.declared.expr.Expr.{Expr}
@@ -85,3 +85,11 @@ among fs n = function_named n fs
 -- of a statement of a program that has these functions
 abbrev pub mismatched_by : List Fun → Layer → List Span
 mismatched_by fs k = mismatched_with (callee_where (among fs) k) k
+
+-- the functions are found by their names
+pub record IsNaming (named : Named) (fs : List Fun) : Type 0 where
+  pub same : (n : List ℕ) → named n ≡ function_named n fs
+
+-- of a program whose variables have their declarations, but for its constants and the lengths of its arrays
+abbrev pub mismatched_bodies : Program → List Span
+mismatched_bodies p = mismatched_in_bodies (among p.funs) p

@@ -17,7 +17,7 @@ mod wants;
 pub use calls::returned_fault;
 pub use lengths::{Lengths, lengths_fault};
 pub use operators::Group;
-pub use programs::{Callees, bodies_fault, constants_fault};
+pub use programs::{Callees, bodies_fault, constants_fault, mismatches};
 pub use signatures::Role;
 pub use statements::{constant_fault, mismatch};
 pub use wants::{Form, Want};

@@ -6,7 +6,7 @@ ghost use Rattle.jz_scopes.specs.Order.{earliest};
 ghost use Rattle.jz_scopes.specs.Parts.{layer_of, statements_of};
 ghost use Rattle.jz_scopes.specs.Lent.{these};
 ghost use Rattle.jz_kinds.specs.Firsts.{first_in};
-ghost use Rattle.jz_kinds.specs.Mismatches.{callee_where, callee_from, stmt_wrong, body_wrong, constant_wrong, mismatched_in_bodies, mismatched_in_constants};
+ghost use Rattle.jz_kinds.specs.Mismatches.{callee_where, callee_from, stmt_wrong, body_wrong, constant_wrong, mismatched_in_bodies, mismatched_in_constants, mismatched_bodies, IsNaming};
 
 use crate::calls::returned_fault;
 use crate::statements::{constant_fault, mismatch};
@@ -118,6 +118,20 @@ pub fn bodies_fault<C: Callees>(
     ensures { IfOk result (λ r. r ≡ earliest (mismatched_in_bodies (C.named callees.now) program.now)) }
 {
     let found = all_bodies_fault(alloc, callees, program.funs.as_slice())?;
+    Ok(found)
+}
+
+/// The same for the functions that the program itself has.
+#[tactic(auto, using(crate::proofs::Naming::same_bodies))]
+pub fn mismatches<C: Callees>(
+    alloc: Global,
+    callees: &C,
+    program: &Program,
+) -> Result<Option<Span>, AllocError>
+    requires { IsNaming (C.named callees.now) program.now.funs }
+    ensures { IfOk result (λ r. r ≡ earliest (mismatched_bodies program.now)) }
+{
+    let found = bodies_fault(alloc, callees, program)?;
     Ok(found)
 }
 
