@@ -136,7 +136,7 @@ pub fn exprs_of(alloc: Global, stmt: &Stmt) -> Result<Vec<&Expr>, AllocError>
     }
 }
 
-fn add_names<'a>(
+pub(crate) fn add_names<'a>(
     alloc: Global,
     list: &mut Vec<&'a Var>,
     expr: &'a Expr,
@@ -291,4 +291,15 @@ fn add_cells_set<'a>(
         add_left_cell(list, lval)?;
     }
     Ok(())
+}
+
+/// The variables of a list, by reference.
+pub(crate) fn refs(alloc: Global, vars: &Seq<Var>) -> Result<Vec<&Var>, AllocError>
+    ensures { IfOk result (λ vs. these vs.items ≡ vars.now) }
+{
+    let mut list = Vec::new(alloc);
+    for var in vars.as_slice() {
+        list.push(var)?;
+    }
+    Ok(list)
 }
