@@ -8,10 +8,11 @@ use Rattle.jz_tree.specs.declared.expr.Expr.TheViews.{out-Var}
 use Rattle.jz_tree.specs.declared.program.Fun.{Fun}
 use Rattle.jz_tree.specs.declared.program.Ret.{Ret}
 use Rattle.jz_scopes.specs.Order.{earlier, earliest}
+use Rattle.jz_scopes.specs.Scopes.{variable_place}
 use Rattle.jz_scopes.specs.Names.{decls_of}
 use Rattle.jz_scopes.proofs.Earliest.{earliest-append}
-use Rattle.jz_kinds.specs.Firsts.{first_in}
-use Rattle.jz_kinds.specs.Lengths.{decl_wrong, lengths_wrong}
+use Rattle.jz_scopes.specs.Order.{first_in}
+use Rattle.jz_kinds.specs.Lengths.{decl_wrong, lengths_wrong, is_apart, fun_lengths}
 use Rattle.jz_kinds.specs.Declaring.{param_wrong, ret_wrong, var_wrong, declared_by}
 use Rattle.jz_kinds.proofs.Joins.{earliest_in}
 
@@ -51,3 +52,10 @@ module _ (constant : List ℕ → Bool) (length_of : Expr → Option ℤ) where
 
   pub lengths_is : (f : Fun) → declared_by constant length_of f ≡ earliest (lengths_wrong constant length_of f)
   lengths_is f = sym (three _ _ _ _ _ _ (in_params f) (in_rets f) (in_vars f))
+
+-- variables are declared where a table says
+pub lengths_with : (constants variables : List ℕ → Option Span) (length_of : Expr → Option ℤ) (f : Fun) → variables ≡ variable_place f
+    → declared_by (is_apart constants variables) length_of f ≡ earliest (fun_lengths constants length_of f)
+unfolding fun_lengths
+lengths_with constants variables length_of f e =
+    lengths_is (is_apart constants variables) length_of f ∙ ap (λ v. earliest (lengths_wrong (is_apart constants v) length_of f)) e

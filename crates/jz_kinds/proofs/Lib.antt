@@ -2,5 +2,6 @@ pub mod OrSizes
 pub mod Joins
 pub mod SameForms
 pub mod Declared
-pub mod Naming
+pub mod TablesSay
+pub mod Whole
 mod Examples

@@ -7,8 +7,7 @@ use Rattle.jz_tree.specs.declared.expr.Var.{Var}
 use Rattle.jz_tree.specs.declared.program.Fun.{Fun}
 use Rattle.jz_tree.specs.declared.program.Param.{Param}
 use Rattle.jz_tree.specs.declared.program.Ret.{Ret}
-use Rattle.jz_scopes.specs.Order.{earlier}
-use Rattle.jz_kinds.specs.Firsts.{first_in}
+use Rattle.jz_scopes.specs.Order.{earlier, first_in}
 use Rattle.jz_kinds.specs.Lengths.{decl_wrong}
 
 module _ (constant : List ℕ → Bool) (length_of : Expr → Option ℤ) where

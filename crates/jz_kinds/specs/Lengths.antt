@@ -3,19 +3,17 @@ use Rattle.std.specs.Prelude.{ℕ, ℤ, pos, Bool, true, false, not, ◌&&◌, �
 use Rattle.jz_io.specs.declared.span.Span.{Span}
 use Rattle.jz_tree.specs.declared.expr.Expr.{Expr}
 use Rattle.jz_tree.specs.declared.expr.Decl.{Decl}
-use Rattle.jz_tree.specs.declared.program.Const.{Const}
 use Rattle.jz_tree.specs.declared.program.Fun.{Fun}
-use Rattle.jz_tree.specs.declared.program.Program.{Program}
 use Rattle.jz_scopes.specs.Order.{unless, earliest}
-use Rattle.jz_scopes.specs.Scopes.{Name, constant_place, variable_place}
+use Rattle.jz_scopes.specs.Scopes.{Name, variable_place}
 use Rattle.jz_scopes.specs.Parts.{span_of, names_in, lengths_in}
 use Rattle.jz_scopes.specs.Names.{decls_of}
 use Rattle.jz_kinds.specs.declared.wants.Want.TheVariants as want
 use Rattle.jz_kinds.specs.Typings.{typing}
 
--- a name in a function is that of a constant
-abbrev pub is_constant : List Const → Fun → List ℕ → Bool
-is_constant cs f n = is_none (variable_place f n) && is_some (constant_place cs n)
+-- a name is that of a constant, if constants and variables are declared where these functions say
+abbrev pub is_apart : (List ℕ → Option Span) → (List ℕ → Option Span) → List ℕ → Bool
+is_apart constants variables n = is_none (variables n) && is_some (constants n)
 
 abbrev pub within_limits : ℤ → Bool
 within_limits (pos n) = nat_le 1 n && nat_le n 65536
@@ -46,6 +44,6 @@ module _ (constant : List ℕ → Bool) where
     abbrev pub lengths_wrong : Fun → List Span
     lengths_wrong f = flat_map decl_wrong (decls_of f)
 
--- of a program
-abbrev pub mismatched_lengths : (Expr → Option ℤ) → Program → List Span
-mismatched_lengths length_of p = flat_map (λ f. lengths_wrong (is_constant p.consts f) length_of f) p.funs
+-- of a function of a program whose constants are declared there
+unfoldable pub fun_lengths : (List ℕ → Option Span) → (Expr → Option ℤ) → Fun → List Span
+fun_lengths constants length_of f = lengths_wrong (is_apart constants (variable_place f)) length_of f

@@ -1,5 +1,5 @@
 -- The rule that types, sizes and counts agree.
-use Rattle.std.specs.Prelude.{◌≡◌, ℕ, List, [], ◌++◌, flat_map, Option, Some, None}
+use Rattle.std.specs.Prelude.{ℕ, ℤ, List, [], ◌++◌, flat_map, Option, Some, None}
 use Rattle.jz_io.specs.declared.span.Span.{Span}
 use Rattle.jz_tree.specs.declared.expr.BinOp.{BinOp}
 use Rattle.jz_tree.specs.declared.expr.Expr.{Expr}
@@ -13,7 +13,7 @@ use Rattle.jz_tree.specs.declared.program.Const.{Const}
 use Rattle.jz_tree.specs.declared.program.Fun.{Fun}
 use Rattle.jz_tree.specs.declared.program.Program.{Program}
 use Rattle.jz_scopes.specs.Order.{unless}
-use Rattle.jz_scopes.specs.Scopes.{name_of, function_named}
+use Rattle.jz_scopes.specs.Scopes.{name_of, function_named, constant_place}
 use Rattle.jz_scopes.specs.Parts.{Layer, layer_of, statements_of}
 use Rattle.jz_scopes.specs.Kinds.{known_of, is_inline_int}
 use Rattle.jz_kinds.specs.declared.wants.Want.TheVariants as want
@@ -22,6 +22,7 @@ use Rattle.jz_kinds.specs.Values.{value_wrong}
 use Rattle.jz_kinds.specs.Signatures.{signature}
 use Rattle.jz_kinds.specs.Intrinsics.{intrinsic_wrong}
 use Rattle.jz_kinds.specs.Calls.{call_wrong, returned_wrong}
+use Rattle.jz_kinds.specs.Lengths.{fun_lengths}
 
 abbrev pub right_wrong : Option Fun → List Lval → Option BinOp → Rhs → List Span
 right_wrong g to o (rhs.Value e) = value_wrong to o e
@@ -71,13 +72,6 @@ stmt_wrong named s = mismatched_with (callee_where named (layer_of s)) (layer_of
 abbrev pub body_wrong : Named → Fun → List Span
 body_wrong named f = returned_wrong f ++ flat_map (stmt_wrong named) (statements_of f.body)
 
--- ---- of a program, but for the lengths of arrays
-abbrev pub mismatched_in_bodies : Named → Program → List Span
-mismatched_in_bodies named p = flat_map (body_wrong named) p.funs
-
-abbrev pub mismatched_in_constants : Program → List Span
-mismatched_in_constants p = flat_map constant_wrong p.consts
-
 -- the function of that name in a program
 abbrev pub among : List Fun → Named
 among fs n = function_named n fs
@@ -86,10 +80,8 @@ among fs n = function_named n fs
 abbrev pub mismatched_by : List Fun → Layer → List Span
 mismatched_by fs k = mismatched_with (callee_where (among fs) k) k
 
--- the functions are found by their names
-pub record IsNaming (named : Named) (fs : List Fun) : Type 0 where
-  pub same : (n : List ℕ) → named n ≡ function_named n fs
-
--- of a program whose variables have their declarations, but for its constants and the lengths of its arrays
-abbrev pub mismatched_bodies : Program → List Span
-mismatched_bodies p = mismatched_in_bodies (among p.funs) p
+-- ---- of a program: of the program as it was read its constants and the lengths of its arrays, and of the program whose
+-- variables have their declarations its functions
+abbrev pub mismatched_in : (Expr → Option ℤ) → Program → Program → List Span
+mismatched_in length_of p q =
+    flat_map constant_wrong p.consts ++ flat_map (fun_lengths (constant_place p.consts) length_of) p.funs ++ flat_map (body_wrong (among q.funs)) q.funs

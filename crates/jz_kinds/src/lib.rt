@@ -15,9 +15,9 @@ mod walk;
 mod wants;
 
 pub use calls::returned_fault;
-pub use lengths::{Lengths, lengths_fault};
+pub use lengths::Lengths;
 pub use operators::Group;
-pub use programs::{Callees, bodies_fault, constants_fault, mismatches};
+pub use programs::{mismatches, statement_fault};
 pub use signatures::Role;
 pub use statements::{constant_fault, mismatch};
 pub use wants::{Form, Want};

@@ -3,7 +3,7 @@
 ghost use Rattle.std.specs.Prelude.{◌≡◌, Some};
 ghost use Rattle.jz_scopes.specs.Order.{earliest};
 ghost use Rattle.jz_scopes.specs.Parts.{span_of};
-ghost use Rattle.jz_kinds.specs.Firsts.{first_in};
+ghost use Rattle.jz_scopes.specs.Order.{first_in};
 ghost use Rattle.jz_kinds.specs.Operators.{bin_form, compared, group_size};
 ghost use Rattle.jz_kinds.specs.Typings.{left_want, right_want};
 ghost use Rattle.jz_kinds.specs.Sides.{within, any_size};

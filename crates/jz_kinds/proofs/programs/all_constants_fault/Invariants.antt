@@ -1,6 +1,5 @@
 use Rattle.std.proofs.Common.{◌≡◌, drop}
-use Rattle.jz_scopes.specs.Order.{earlier}
-use Rattle.jz_kinds.specs.Firsts.{first_in}
+use Rattle.jz_scopes.specs.Order.{earlier, first_in}
 use Rattle.jz_kinds.specs.Mismatches.{constant_wrong}
 use Rattle.jz_kinds.proofs.programs.all_constants_fault.Given as goal
 
