@@ -1,0 +1,23 @@
+//! Types, sizes and counts: where a program has another than is wanted.
+#![tactic(auto)]
+
+mod calls;
+mod forms;
+mod intrinsics;
+mod lengths;
+mod operators;
+mod programs;
+mod sides;
+mod signatures;
+mod statements;
+mod values;
+mod walk;
+mod wants;
+
+pub use calls::returned_fault;
+pub use lengths::Lengths;
+pub use operators::Group;
+pub use programs::{mismatches, statement_fault};
+pub use signatures::Role;
+pub use statements::{constant_fault, mismatch};
+pub use wants::{Form, Want};
