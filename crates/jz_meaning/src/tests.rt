@@ -2,11 +2,14 @@
 
 use crate::{Store, Stuck, Value, Why, binary, cast, inverted_value, negated_value};
 use Edge::{Last, Least, Most, Number, Width};
+use Part::{Byte, Truth, Whole};
 use Wanted::{Divide, Flag, Is};
 use jz_data::{Seq, Text};
 use jz_io::Span;
 use jz_tree::BinOp;
 use jz_words::{Size, Word, residue};
+use std::alloc::{AllocError, Global};
+use std::process::Abort;
 use std::test::Fail;
 
 /// A word by what it is at each size.
@@ -32,7 +35,10 @@ enum Wanted {
 
 const AT: Span = Span { line: 1, col: 1 };
 
-const ROWS: [(BinOp, Edge, Edge, Wanted); 83] = [
+/// An operator, its operands, and what it gives.
+type Row = (BinOp, Edge, Edge, Wanted);
+
+static ROWS: [Row; 83] = [
     (BinOp::Or, Number(5), Number(10), Is(Number(15))),
     (BinOp::Or, Least, Most, Is(Number(-1))),
     (BinOp::Xor, Number(-1), Number(5), Is(Number(-6))),
@@ -139,56 +145,95 @@ fn answer(size: Size, wanted: Wanted) -> Result<Value, Stuck> {
     }
 }
 
-#[test]
-fn words_at_their_edges(rt: HostRuntime) -> Result<(), Fail> {
-    for (op, a, b, wanted) in ROWS {
-        for size in [Size::S8, Size::S16, Size::S32, Size::S64] {
-            let x = Value::Word(word(size, a));
-            let y = Value::Word(word(size, b));
-            let mut out = Seq::new(rt.alloc());
-            let got = binary(op, AT, None, x, y, &mut out)?;
-            assert!(rt;
-                got == answer(size, wanted),
-                "{op:?} {a:?} {b:?} at {size:?}"
-            );
-        }
+fn answer_row(rt: &impl Abort, alloc: Global, size: Size, row: Row) -> Result<(), Fail> {
+    let (op, a, b, wanted) = row;
+    let mut out = Seq::new(alloc);
+    let x = Value::Word(word(size, a));
+    let y = Value::Word(word(size, b));
+    let got = binary(op, AT, None, x, y, &mut out)?;
+    assert!(rt;
+        got == answer(size, wanted),
+        "{op:?} {a:?} {b:?} at {size:?}"
+    );
+    Ok(())
+}
+
+fn answer_rows(rt: &impl Abort, alloc: Global, size: Size, rows: &[Row]) -> Result<(), Fail> {
+    for row in rows {
+        answer_row(rt, alloc, size, *row)?;
     }
     Ok(())
 }
+
+#[test]
+fn words_at_their_edges(rt: HostRuntime) -> Result<(), Fail> {
+    answer_rows(&rt, rt.alloc(), Size::S8, &ROWS)?;
+    answer_rows(&rt, rt.alloc(), Size::S16, &ROWS)?;
+    answer_rows(&rt, rt.alloc(), Size::S32, &ROWS)?;
+    answer_rows(&rt, rt.alloc(), Size::S64, &ROWS)
+}
+
+/// A value, a word of it being a byte.
+#[derive(Clone, Copy, Debug)]
+enum Part {
+    Byte(u64),
+    Whole(i128),
+    Truth(bool),
+}
+
+/// An operator, its operands, and what it gives where a byte is wanted.
+type Mixed = (BinOp, Part, Part, Option<Part>);
+
+static MIXED: [Mixed; 10] = [
+    (BinOp::Add, Byte(250), Whole(-2), Some(Byte(248))),
+    (BinOp::Sub, Whole(257), Byte(2), Some(Byte(255))),
+    (BinOp::Sub, Byte(0), Truth(true), Some(Byte(255))),
+    (BinOp::Add, Byte(255), Truth(true), Some(Byte(0))),
+    (BinOp::Mul, Byte(2), Truth(true), None),
+    (BinOp::Shl, Whole(3), Byte(7), Some(Byte(128))),
+    (BinOp::Shl, Byte(1), Whole(1 << 100), Some(Byte(0))),
+    (BinOp::Shl, Byte(1), Whole(-1), None),
+    (BinOp::Mul, Whole(-3), Whole(256), Some(Whole(-768))),
+    (BinOp::AndThen, Truth(true), Truth(true), Some(Truth(true))),
+];
 
 fn byte(bits: u64) -> Value {
     Value::Word(Word::truncate(Size::S8, bits))
 }
 
+fn value(part: Part) -> Value {
+    match part {
+        Byte(bits) => byte(bits),
+        Whole(number) => Value::Int(number),
+        Truth(answer) => Value::Bool(answer),
+    }
+}
+
+fn answer_mixed(rt: &impl Abort, alloc: Global, row: Mixed) -> Result<(), Fail> {
+    let (op, x, y, wanted) = row;
+    let mut out = Seq::new(alloc);
+    let got = binary(op, AT, Some(Size::S8), value(x), value(y), &mut out)?;
+    assert!(rt; got.ok() == wanted.map(value), "{op:?} {x:?} {y:?}");
+    Ok(())
+}
+
+fn answer_all_mixed(rt: &impl Abort, alloc: Global, rows: &[Mixed]) -> Result<(), Fail> {
+    for row in rows {
+        answer_mixed(rt, alloc, *row)?;
+    }
+    Ok(())
+}
+
 #[test]
 fn values_side_by_side(rt: HostRuntime) -> Result<(), Fail> {
+    answer_all_mixed(&rt, rt.alloc(), &MIXED)
+}
+
+#[test]
+fn numbers_and_values_alone(rt: HostRuntime) -> Result<(), Fail> {
     let mut out = Seq::new(rt.alloc());
-    for (op, x, y, wanted) in [
-        (BinOp::Add, byte(250), Value::Int(-2), Some(byte(248))),
-        (BinOp::Sub, Value::Int(257), byte(2), Some(byte(255))),
-        (BinOp::Sub, byte(0), Value::Bool(true), Some(byte(255))),
-        (BinOp::Add, byte(255), Value::Bool(true), Some(byte(0))),
-        (BinOp::Mul, byte(2), Value::Bool(true), None),
-        (BinOp::Shl, Value::Int(3), byte(7), Some(byte(128))),
-        (BinOp::Shl, byte(1), Value::Int(1 << 100), Some(byte(0))),
-        (BinOp::Shl, byte(1), Value::Int(-1), None),
-        (
-            BinOp::Shl,
-            Value::Int(1),
-            Value::Int(100),
-            Some(Value::Int(1 << 100)),
-        ),
-        (BinOp::DivS, byte(249), byte(2), Some(byte(253))),
-        (
-            BinOp::AndThen,
-            Value::Bool(true),
-            Value::Bool(false),
-            Some(Value::Bool(false)),
-        ),
-    ] {
-        let got = binary(op, AT, Some(Size::S8), x, y, &mut out)?;
-        assert!(rt; got.ok() == wanted, "{op:?} {x:?} {y:?}");
-    }
+    let got = binary(BinOp::DivS, AT, None, byte(249), byte(2), &mut out)?;
+    assert!(rt; got.ok() == Some(byte(253)));
     assert!(rt; out.as_slice() == [255, 249, 2].as_slice());
     assert_eq!(rt; negated_value(byte(1)), Some(byte(255)));
     assert_eq!(rt; negated_value(Value::Int(i128::MIN)), None);
