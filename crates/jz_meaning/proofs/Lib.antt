@@ -2,6 +2,7 @@ pub mod AttemptLemmas
 pub mod Counts
 pub mod InlineLemmas
 pub mod LeftSideLemmas
+pub mod MemoryLemmas
 pub mod Quotients
 pub mod ShapeLemmas
 pub mod StoreLemmas

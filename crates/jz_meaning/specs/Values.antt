@@ -6,7 +6,7 @@ use Rattle.jz_io.specs.declared.span.Span.{Span}
 use Rattle.jz_words.specs.declared.size.Size.{Size}
 use Rattle.jz_words.specs.declared.size.Size.TheVariants.{S8, S64}
 use Rattle.jz_words.specs.Sizes.{bytes_of}
-use Rattle.jz_words.specs.Memory.{Memory, loaded}
+use Rattle.jz_words.specs.Memory.{Memory, loaded, all_valid, stored}
 use Rattle.jz_tree.specs.declared.expr.BinOp.{BinOp}
 use Rattle.jz_tree.specs.declared.expr.BinOp.TheVariants as o
 use Rattle.jz_tree.specs.declared.expr.Expr.{Expr}
@@ -91,6 +91,23 @@ address_at p v = word_at p.span S64 v
 
 abbrev pub load_at : MemoryAccess → Option Size → Value → Memory → Evaluation Value
 load_at p wanted v m = and_then (address_at p v) (λ a. load_word p.span p.unaligned (option_or p.size wanted) a m)
+
+-- the memory after a store, where each byte of the access is valid
+abbrev pub after_store : Memory → ℕ → Size → ℕ → Option Memory
+after_store m a s b = if all_valid m a (bytes_of s) then Some (stored m a (bytes_of s) b) else None
+
+-- what is stored is a word of the size, which is asked before the memory is
+abbrev pub store_word : Span → Bool → Option Size → ℕ → Option Value → Memory → Evaluation Memory
+store_word at unaligned (Some s) a (Some v) m = and_then (word_at at s v) (λ b. accessed at unaligned s a (after_store m a s b))
+store_word at unaligned _ a _ m = stuck_at at Init
+
+abbrev pub store_at : MemoryAccess → Option Size → Value → Option Value → Memory → Evaluation Memory
+store_at p wanted at v m = and_then (address_at p at) (λ a. store_word p.span p.unaligned (option_or p.size wanted) a v m)
+
+-- what the code did to the memory: the numbers that it has, and the memory as it is then
+abbrev pub changed : {A : Type 0} → List ℕ → Memory → Result A Stuck → Evaluation Memory
+changed ns m (Ok u) = went ns m
+changed ns m (Err k) = stuck k
 
 -- ---- expressions
 

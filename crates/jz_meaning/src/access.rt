@@ -264,3 +264,100 @@ pub fn load(
         }
     }
 }
+
+// Whether each byte of an access is valid.
+#[tactic(auto, using(crate::proofs::MemoryLemmas::loaded_where_valid))]
+fn is_valid(mem: &MemMap, address: u64, size: Size) -> bool
+    ensures { result ≡ all_valid mem.now address (bytes_of size) }
+{
+    mem.load(address, size).is_some()
+}
+
+ghost use Rattle.jz_words.specs.Memory.{all_valid};
+
+fn store_bits(
+    access: &Access,
+    size: Size,
+    address: u64,
+    bits: u64,
+    mem: &mut MemMap,
+    out: &mut Seq<u64>,
+) -> Result<Result<(), Stuck>, AllocError>
+    ensures { IfOk result (λ r. changed out.new mem.new r ≡ numbers_first out.old (values.accessed (access_of access.now).span (access_of access.now).unaligned size address (after_store mem.old address size bits))) }
+{
+    if !is_valid(mem, address, size) {
+        return Ok(Err(stuck(access.span, Why::Address)));
+    }
+    if !access.unaligned && !is_aligned(size, address) {
+        return Ok(Err(stuck(access.span, Why::Align)));
+    }
+    out.push(address)?;
+    let _stored = mem.store(address, size, bits);
+    Ok(Ok(()))
+}
+
+ghost use Rattle.std.specs.Prelude.{option_map};
+ghost use Rattle.jz_meaning.specs.Values.{changed, after_store};
+
+fn store_word(
+    access: &Access,
+    size: Size,
+    address: u64,
+    value: Value,
+    mem: &mut MemMap,
+    out: &mut Seq<u64>,
+) -> Result<Result<(), Stuck>, AllocError>
+    ensures { IfOk result (λ r. changed out.new mem.new r ≡ numbers_first out.old (values.store_word (access_of access.now).span (access_of access.now).unaligned (Some size) address (Some (as_value value)) mem.old)) }
+{
+    match bits_at(access_span(access), size, value) {
+        Err(stuck) => Ok(Err(stuck)),
+        Ok(bits) => {
+            let answer = store_bits(access, size, address, bits, mem, out)?;
+            Ok(answer)
+        }
+    }
+}
+
+fn store_value(
+    access: &Access,
+    size: Option<Size>,
+    address: u64,
+    value: Option<Value>,
+    mem: &mut MemMap,
+    out: &mut Seq<u64>,
+) -> Result<Result<(), Stuck>, AllocError>
+    ensures { IfOk result (λ r. changed out.new mem.new r ≡ numbers_first out.old (values.store_word (access_of access.now).span (access_of access.now).unaligned size address (option_map as_value value) mem.old)) }
+{
+    match size {
+        None => Ok(Err(stuck(access.span, Why::Init))),
+        Some(size) => match value {
+            None => Ok(Err(stuck(access.span, Why::Init))),
+            Some(value) => {
+                let answer = store_word(access, size, address, value, mem, out)?;
+                Ok(answer)
+            }
+        },
+    }
+}
+
+/// Writes a value where an access has this address, which is appended to `out`; `wanted` is the size of the other side. Stuck for
+/// Init where there is no size or no word to write, then for Address where a byte is not valid, then for Align.
+pub fn write(
+    access: &Access,
+    wanted: Option<Size>,
+    address: Value,
+    value: Option<Value>,
+    mem: &mut MemMap,
+    out: &mut Seq<u64>,
+) -> Result<Result<(), Stuck>, AllocError>
+    ensures { IfOk result (λ r. changed out.new mem.new r ≡ numbers_first out.old (values.store_at (access_of access.now) wanted (as_value address) (option_map as_value value) mem.old)) }
+{
+    match bits_at(access_span(access), Size::S64, address) {
+        Err(stuck) => Ok(Err(stuck)),
+        Ok(address) => {
+            let size = access_size(access, wanted);
+            let answer = store_value(access, size, address, value, mem, out)?;
+            Ok(answer)
+        }
+    }
+}

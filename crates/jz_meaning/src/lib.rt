@@ -11,7 +11,7 @@ mod store;
 mod tests;
 mod value;
 
-pub use access::{Kind, cell, index, kind_of, load, size_of, variable};
+pub use access::{Kind, index, kind_of, size_of, write};
 pub use evaluating::{evaluate, value_of};
 pub use laws::{inline_expressions, numbers_of_an_expression};
 pub use operators::{binary, cast, inverted_value, is_settled, is_shift, negated_value, word_of};
