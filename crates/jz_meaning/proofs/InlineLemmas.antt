@@ -1,7 +1,6 @@
 -- Inline expressions, whose values are known when the text is compiled, leak nothing.
-use Rattle.std.proofs.Common.{◌≡◌, ℕ, List, [], ◌∷◌, length, Option, Some, None, Bool, true, false, refl, ap, sym, ◌∙◌, subst, arith}
+use Rattle.std.proofs.Common.{◌≡◌, ℕ, List, [], ◌∷◌, length, Option, Some, None, Bool, true, false, refl, ap, sym, ◌∙◌, subst}
 use Rattle.std.specs.Prelude.{ℤ, pos, not, option_map, if◌then◌else◌}
-use Rattle.std.specs.Option.{option_or}
 use Rattle.jz_io.specs.declared.span.Span.{Span}
 use Rattle.jz_words.specs.declared.size.Size.{Size}
 use Rattle.jz_tree.specs.declared.expr.BinOp.{BinOp}
@@ -13,15 +12,14 @@ use Rattle.jz_tree.specs.declared.expr.Decl.{Decl}
 use Rattle.jz_tree.specs.declared.expr.Var.{Var}
 use Rattle.jz_tree.specs.declared.expr.Expr.TheOpen.{Expr-F, Var-F}
 use Rattle.jz_tree.specs.declared.expr.Expr.TheViews.{roll-Expr, roll-Var}
-use Rattle.jz_tree.specs.declared.expr.Expr.TheFolds.{fold-Expr, fold-Ty, fold-Decl, fold-Var, fold-roll-Expr, fold-roll-Var, ind-Expr, map-Expr}
+use Rattle.jz_tree.specs.declared.expr.Expr.TheFolds.{fold-Ty, fold-Decl, fold-Var, fold-roll-Expr, fold-roll-Var, ind-Expr, map-Expr}
 use Rattle.jz_integers.specs.declared.constant.Constant.{Constant}
 use Rattle.jz_integers.specs.declared.constant.Constant.TheVariants as constant
 use Rattle.jz_integers.specs.Integers as numbers
 use Rattle.jz_integers.specs.Integers.{on_integers, value_step, inline_value}
 use Rattle.jz_meaning.specs.declared.access.Kind.{Kind}
-use Rattle.jz_meaning.specs.Attempts.{Evaluation, stuck, went, numbers_first, and_then, defined}
-use Rattle.jz_meaning.specs.States.{Value, word, boolean, integer, Key, State}
-use Rattle.jz_meaning.specs.Operators as operators
+use Rattle.jz_meaning.specs.Attempts.{Evaluation, went, and_then, defined}
+use Rattle.jz_meaning.specs.States.{Value, boolean, integer, Key, State}
 use Rattle.jz_meaning.specs.Operators.{of_constant, is_shift, joined, is_settled, combined, shifted, binary, negated, inverted}
 use Rattle.jz_meaning.specs.Values.{Ref, key_of, MemoryAccess, Meaning, right_wanted, left_wanted, with_right, expr_step, ty_step, access_step, decl_step, var_step, meaning_of, ref_of, access_of, evaluated}
 use Rattle.jz_meaning.specs.Shapes.{HoldsIntegers}

@@ -1,5 +1,5 @@
 -- Left sides, and what waits on their values.
-use Rattle.std.proofs.Common.{◌≡◌, ℕ, ◌<◌, ◌≤◌, ◌+◌, List, [], ◌∷◌, ◌++◌, Option, Some, None, Bool, true, false, refl, ap, sym, ◌∙◌, subst, arith}
+use Rattle.std.proofs.Common.{◌≡◌, ℕ, ◌<◌, ◌≤◌, List, [], ◌∷◌, ◌++◌, Option, Some, None, Bool, true, false, refl, ap, sym, ◌∙◌, subst, arith}
 use Rattle.std.specs.Prelude.{if◌then◌else◌}
 use Rattle.std.specs.Option.{option_or}
 use Rattle.jz_io.specs.declared.span.Span.{Span}
@@ -18,7 +18,7 @@ use Rattle.jz_meaning.specs.declared.value.Stuck.{Stuck}
 use Rattle.jz_meaning.specs.Attempts.{Evaluation, stuck, went, numbers_first, and_then}
 use Rattle.jz_meaning.specs.States.{Value, State}
 use Rattle.jz_meaning.specs.Operators.{is_shift}
-use Rattle.jz_meaning.specs.Values.{gives_word, size_of_operation, left_wanted, right_wanted, run_binary, own_size, evaluated, meaning_of, ref_of, access_of, cell_value, load_at, expr_step, ty_step, access_step, decl_step, var_step}
+use Rattle.jz_meaning.specs.Values.{gives_word, size_of_operation, left_wanted, right_wanted, run_binary, own_size, evaluated, ref_of, access_of, cell_value, load_at, expr_step, ty_step, access_step, decl_step, var_step}
 use Rattle.jz_meaning.proofs.AttemptLemmas.{first_then, gone_then}
 use Rattle.jz_meaning.specs.Evaluating.{IsDetermined, go_on, gone_on, on_left, AllDetermined, IsLeftSide}
 

@@ -1,6 +1,6 @@
 -- How many numbers an expression leaks, layer by layer.
-use Rattle.std.proofs.Common.{◌≡◌, ℕ, zero, suc, ◌+◌, ◌==◌, List, [], ◌∷◌, ◌++◌, length, Option, Some, None, Bool, true, false, refl, ap, sym, ◌∙◌, subst, arith, length-append}
-use Rattle.std.specs.Prelude.{ℤ, pos, negsuc, not, ◌&&◌, ◌||◌, option_map, nat_lt, if◌then◌else◌}
+use Rattle.std.proofs.Common.{◌≡◌, ℕ, ◌+◌, ◌==◌, List, [], ◌∷◌, length, Option, Some, None, Bool, true, false, refl, ap, sym, ◌∙◌, subst, arith, length-append}
+use Rattle.std.specs.Prelude.{ℤ, pos, negsuc, not, ◌||◌, option_map, nat_lt, if◌then◌else◌}
 use Rattle.std.specs.Option.{option_or}
 use Rattle.std.proofs.lemmas.Bool.{and_parts}
 use Rattle.std.proofs.lemmas.Bool.Decides.{nat_tests}
@@ -17,20 +17,18 @@ use Rattle.jz_tree.specs.declared.expr.Ty.{Ty}
 use Rattle.jz_tree.specs.declared.expr.Access.{Access}
 use Rattle.jz_tree.specs.declared.expr.Decl.{Decl}
 use Rattle.jz_tree.specs.declared.expr.Var.{Var}
-use Rattle.jz_tree.specs.declared.expr.Expr.TheOpen.{Expr-F, Ty-F, Access-F, Decl-F, Var-F}
+use Rattle.jz_tree.specs.declared.expr.Expr.TheOpen.{Expr-F, Access-F, Var-F}
 use Rattle.jz_tree.specs.declared.expr.Expr.TheViews.{roll-Expr, roll-Access, roll-Var}
-use Rattle.jz_tree.specs.declared.expr.Expr.TheFolds.{fold-Expr, fold-Ty, fold-Access, fold-Decl, fold-Var, fold-roll-Expr, fold-roll-Access, fold-roll-Var, ind-Expr, map-Expr, map-Access, map-Var}
+use Rattle.jz_tree.specs.declared.expr.Expr.TheFolds.{fold-Ty, fold-Access, fold-Decl, fold-Var, fold-roll-Expr, fold-roll-Access, fold-roll-Var, ind-Expr, map-Expr, map-Access}
 use Rattle.jz_integers.specs.Integers as numbers
 use Rattle.jz_integers.specs.Integers.{on_integers}
 use Rattle.jz_meaning.specs.declared.access.Kind.{Kind}
 use Rattle.jz_meaning.specs.declared.access.Kind.TheVariants as kind
-use Rattle.jz_meaning.specs.declared.value.Why.{Why}
 use Rattle.jz_meaning.specs.declared.value.Why.TheVariants.{Bounds, Align, Divide, Init}
 use Rattle.jz_meaning.specs.Attempts.{Evaluation, stuck, went, stuck_at, numbers_first, and_then, defined}
-use Rattle.jz_meaning.specs.States.{Value, word, boolean, integer, Key, Store, State}
-use Rattle.jz_meaning.specs.Operators as operators
+use Rattle.jz_meaning.specs.States.{Value, word, boolean, integer, Store, State}
 use Rattle.jz_meaning.specs.Operators.{of_constant, same_size, plain, on_words, by_count, by_flag, joins, joined, is_settled, combined, shifted, binary, negated, inverted, cast, word_of}
-use Rattle.jz_meaning.specs.Values.{Ref, key_of, cell_key, in_cells, index_at, cell_value, MemoryAccess, is_aligned, accessed, load_word, load_at, Meaning, right_wanted, left_wanted, with_right, run_binary, expr_step, ty_step, access_step, decl_step, var_step, meaning_of, ref_of, access_of, evaluated}
+use Rattle.jz_meaning.specs.Values.{Ref, key_of, cell_key, in_cells, index_at, cell_value, MemoryAccess, is_aligned, accessed, load_word, load_at, Meaning, right_wanted, left_wanted, with_right, expr_step, ty_step, access_step, decl_step, var_step, meaning_of, ref_of, access_of, evaluated}
 use Rattle.jz_meaning.specs.Shapes.{Sort, words, flags, integers, sort_of, Sorts, HoldsSorts, both, sort_of_operation, own_count, Shape, operation_shape, shape_step, shape_of}
 
 -- ---- what an attempt gives where it is not stuck

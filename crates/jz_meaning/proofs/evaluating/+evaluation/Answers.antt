@@ -1,6 +1,6 @@
 use Rattle.std.proofs.Common.{◌≡◌, ◌+◌, ◌*◌, ◌<◌, ◌≤◌, ap, sym, ◌∙◌, subst, arith}
 use Rattle.jz_tree.specs.declared.expr.Expr.{size-Expr}
-use Rattle.jz_tree.specs.declared.expr.Expr.TheVariants.{Cell, Load}
+use Rattle.jz_tree.specs.declared.expr.Expr.TheVariants.{Cell}
 use Rattle.jz_meaning.specs.Attempts.{seen}
 use Rattle.jz_meaning.specs.States.{as_value}
 use Rattle.jz_meaning.specs.Stores.{state}
