@@ -1,4 +1,9 @@
+pub mod AttemptLemmas
 pub mod Counts
+pub mod InlineLemmas
+pub mod LeftSideLemmas
+pub mod MemoryLemmas
 pub mod Quotients
+pub mod ShapeLemmas
 pub mod StoreLemmas
 pub mod Widths
