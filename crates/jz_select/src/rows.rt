@@ -205,6 +205,7 @@ fn keeps(mask: Mask, longest: bool) -> bool
     match mask {
         Mask::Five => !longest,
         Mask::Six => longest,
+        Mask::Undecided => true,
     }
 }
 
