@@ -1,0 +1,3 @@
+pub mod LeftSideLemmas
+pub mod Powers
+pub mod Shifting

@@ -1,0 +1,20 @@
+-- An expression by its left side: the operations on the way down, and the operand where it ends.
+use Rattle.std.specs.Prelude.{List, [], ◌∷◌}
+use Rattle.jz_tree.specs.declared.expr.Expr.{Expr}
+use Rattle.jz_tree.specs.declared.expr.Expr.TheVariants.{Bin}
+use Rattle.jz_tree.specs.declared.expr.Expr.TheViews.{out-Expr}
+use Rattle.jz_tree.specs.declared.expr.Expr.TheOpen.{Expr-F}
+use Rattle.jz_integers.specs.declared.sides.Waiting.{Waiting}
+
+-- the expression that the operations make of what stands first, the outermost of them at the head
+abbrev pub on_left : List Waiting → Expr → Expr
+on_left [] e = e
+on_left (w ∷ ws) e = Bin w.op (on_left ws e) w.right.now w.span
+
+abbrev pub IsSingleLayer : {A B C D E : Type 0} → Expr-F A B C D E → Type 0
+IsSingleLayer (Expr-F.Bin op a b at) = ⊥
+IsSingleLayer _ = Unit {0}
+
+-- it is no operation on two operands
+abbrev pub IsSingle : Expr → Type 0
+IsSingle e = IsSingleLayer (out-Expr e)

@@ -1,0 +1,28 @@
+//! Where the numbers of inline variables and constants come from.
+ghost use Rattle.std.specs.Prelude.{◌≡◌, ℕ, ℤ, List, Option, None};
+
+use jz_data::Text;
+
+/// What knows the numbers of inline variables and constants.
+pub trait Numbers {
+    /// The number of each name and copy, where it is known.
+    ghost numbers: { Self → List ℕ → ℕ → Option ℤ };
+
+    /// The number of what has that name, in that copy of its function's variables.
+    fn number(&self, name: &Text, copy: u32) -> Option<i128>
+        ensures { result ≡ numbers self.now name.now copy };
+}
+
+/// Knows none.
+#[derive(Clone, Copy, Debug, Drop)]
+pub struct NoNumbers;
+
+impl Numbers for NoNumbers {
+    ghost numbers = { λ none name copy. None };
+
+    fn number(&self, _name: &Text, _copy: u32) -> Option<i128>
+        ensures { result ≡ None }
+    {
+        None
+    }
+}
