@@ -1,0 +1,3 @@
+pub mod OrSizes
+pub mod Joins
+pub mod SameForms

@@ -1,0 +1,8 @@
+use Rattle.std.proofs.Common.{◌≡◌, ◌≤◌}
+use Rattle.jz_tree.specs.declared.expr.Expr.{size-Expr}
+use Rattle.jz_kinds.specs.Wants.{or_size}
+use Rattle.jz_kinds.specs.Found.{found}
+use Rattle.jz_kinds.proofs.forms.+size.Given as goal
+
+abbrev pub invariant-loop-cur : goal.invariant-loop-cur
+invariant-loop-cur l = (or_size (found l.cur).form.size l.rest ≡ (found l.e).form.size) × (size-Expr l.cur ≤ size-Expr l.e)

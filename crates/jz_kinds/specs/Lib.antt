@@ -1,0 +1,11 @@
+pub mod Wants
+pub mod Operators
+pub mod Typings
+pub mod Found
+pub mod Firsts
+pub mod Sides
+pub mod Values
+pub mod Signatures
+pub mod Intrinsics
+pub mod Calls
+pub mod Mismatches

@@ -1,0 +1,120 @@
+//! What expressions are by themselves.
+
+ghost use Rattle.std.specs.Prelude.{◌≡◌, Option};
+ghost use Rattle.jz_words.specs.declared.size.Size.{Size};
+ghost use Rattle.jz_scopes.specs.Kinds.{is_inline_int};
+ghost use Rattle.jz_kinds.specs.Wants.{or_size};
+ghost use Rattle.jz_kinds.specs.Found.{found};
+
+use crate::operators::{Group, group_of};
+use crate::wants::{cell_size, known_size, known_truth};
+use jz_scopes::{Declared, Kind, known};
+use jz_tree::{Expr, Storage};
+use jz_words::Size;
+
+pub(crate) fn is_inline_int(known: Option<Declared>) -> bool
+    ensures { result ≡ is_inline_int known }
+{
+    match known {
+        None => true,
+        Some(declared) => match (declared.storage, declared.kind) {
+            (Storage::Inline, Kind::Int) => true,
+            _ => false,
+        },
+    }
+}
+
+/// The size, or where there is none the other's.
+#[tactic(auto, using(crate::proofs::OrSizes::or_sizes))]
+pub(crate) fn or(a: Option<Size>, b: Option<Size>) -> Option<Size>
+    ensures is { result ≡ or_size a b }
+    ensures after { (s : Option Size) → or_size s result ≡ or_size (or_size s a) b }
+{
+    match a {
+        None => b,
+        Some(_) => a,
+    }
+}
+
+/// The size that an expression says, by a loop down its left side: what stands further to the right serves where the left has none.
+#[tactic(auto, using(crate::proofs::OrSizes::or_sizes))]
+pub(crate) fn size(e: &Expr) -> Option<Size>
+    ensures { result ≡ (found e.now).form.size }
+{
+    let mut rest = None;
+    let mut cur = e;
+    loop {
+        match cur {
+            Expr::Num(_, _) => return rest,
+            Expr::Bool(_, _) => return rest,
+            Expr::Var(var) => return or(known_size(known(var)), rest),
+            Expr::Cell(var, _) => return or(cell_size(known(var)), rest),
+            Expr::Load(access) => return or(access.size, rest),
+            Expr::Neg(a, _) => cur = a.get(),
+            Expr::Not(a, _) => cur = a.get(),
+            Expr::Cast {
+                size,
+                signed: _,
+                e: _,
+                span: _,
+            } => return Some(*size),
+            Expr::Bin(op, a, b, _) => match group_of(*op) {
+                Group::Logic => return rest,
+                Group::Compare => return rest,
+                Group::Shift => cur = a.get(),
+                Group::Arith => {
+                    rest = or(size(b.get()), rest);
+                    cur = a.get();
+                }
+            },
+        }
+    }
+}
+
+/// Whether an expression is a bool.
+pub(crate) fn truth(e: &Expr) -> bool
+    ensures { result ≡ (found e.now).form.truth }
+{
+    let mut cur = e;
+    loop {
+        match cur {
+            Expr::Num(_, _) => return false,
+            Expr::Bool(_, _) => return true,
+            Expr::Var(var) => return known_truth(known(var)),
+            Expr::Cell(_, _) => return false,
+            Expr::Load(_) => return false,
+            Expr::Neg(_, _) => return false,
+            Expr::Not(a, _) => cur = a.get(),
+            Expr::Cast { .. } => return false,
+            Expr::Bin(op, _, _, _) => match group_of(*op) {
+                Group::Logic | Group::Compare => return true,
+                Group::Shift | Group::Arith => return false,
+            },
+        }
+    }
+}
+
+/// Whether the value of an expression is known when the text is compiled.
+pub(crate) fn inline(e: &Expr) -> bool
+    ensures { result ≡ (found e.now).form.inline }
+{
+    let mut cur = e;
+    loop {
+        match cur {
+            Expr::Num(_, _) => return true,
+            Expr::Bool(_, _) => return true,
+            Expr::Var(var) => return is_inline_int(known(var)),
+            Expr::Cell(_, _) => return false,
+            Expr::Load(_) => return false,
+            Expr::Neg(a, _) => cur = a.get(),
+            Expr::Not(a, _) => cur = a.get(),
+            Expr::Cast { .. } => return false,
+            Expr::Bin(_, a, b, _) => {
+                if !inline(b.get()) {
+                    return false;
+                }
+                cur = a.get();
+            }
+        }
+    }
+}

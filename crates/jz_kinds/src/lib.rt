@@ -1,0 +1,19 @@
+//! Types, sizes and counts: where a program has another than is wanted.
+#![tactic(auto)]
+
+mod calls;
+mod forms;
+mod intrinsics;
+mod operators;
+mod sides;
+mod signatures;
+mod statements;
+mod values;
+mod walk;
+mod wants;
+
+pub use calls::returned_fault;
+pub use operators::Group;
+pub use signatures::Role;
+pub use statements::{constant_fault, mismatch};
+pub use wants::{Form, Want};
