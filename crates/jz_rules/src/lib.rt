@@ -2,5 +2,7 @@
 #![tactic(auto)]
 
 mod exports;
+mod programs;
 
 pub use exports::{annotated, misshapen};
+pub use programs::{annotated_in, misshapen_in};
