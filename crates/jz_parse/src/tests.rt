@@ -2,6 +2,7 @@
 
 use crate::{SyntaxFault, SyntaxKind, parse};
 use jz_data::{Failure, Seq, Text};
+use jz_io::Span;
 use jz_lex::{Tokens, lex};
 use jz_tree::{
     Access, Decl, Expr, Fun, FunKind, Lval, Note, NoteValue, Program, Rhs, Stmt, StmtKind, Storage,
@@ -40,8 +41,8 @@ fn access_text(alloc: Global, access: &Access) -> Result<String, AllocError> {
 #[cycle(shown)]
 fn expr_text(alloc: Global, expr: &Expr) -> Result<String, AllocError> {
     match expr {
-        Expr::Num(value, _) => format!(in alloc; "{value}"),
-        Expr::Bool(value, _) => format!(in alloc; "{value}"),
+        Expr::Num(value, span) => format!(in alloc; "{value}@{}", span.col),
+        Expr::Bool(value, span) => format!(in alloc; "{value}@{}", span.col),
         Expr::Var(var) => var_text(alloc, var),
         Expr::Cell(var, at) => {
             let inner = expr_text(alloc, at.get())?;
@@ -49,28 +50,39 @@ fn expr_text(alloc: Global, expr: &Expr) -> Result<String, AllocError> {
             format!(in alloc; "{}[{}]", name.as_str(), inner.as_str())
         }
         Expr::Load(access) => access_text(alloc, access),
-        Expr::Neg(e, _) => {
+        Expr::Neg(e, span) => {
             let inner = expr_text(alloc, e.get())?;
-            format!(in alloc; "-{}", inner.as_str())
+            format!(in alloc; "-@{} {}", span.col, inner.as_str())
         }
-        Expr::Not(e, _) => {
+        Expr::Not(e, span) => {
             let inner = expr_text(alloc, e.get())?;
-            format!(in alloc; "!{}", inner.as_str())
+            format!(in alloc; "!@{} {}", span.col, inner.as_str())
         }
         Expr::Cast {
             size,
             signed,
             e,
-            span: _,
+            span,
         } => {
             let inner = expr_text(alloc, e.get())?;
             let sign = if *signed { "s" } else { "u" };
-            format!(in alloc; "({}{sign}){}", size_text(*size), inner.as_str())
+            format!(in alloc;
+                "({}{sign}@{}){}",
+                size_text(*size),
+                span.col,
+                inner.as_str()
+            )
         }
-        Expr::Bin(op, left, right, _) => {
+        Expr::Bin(op, left, right, span) => {
             let first = expr_text(alloc, left.get())?;
             let second = expr_text(alloc, right.get())?;
-            format!(in alloc; "({} {:?} {})", first.as_str(), op, second.as_str())
+            format!(in alloc;
+                "({} {:?}@{} {})",
+                first.as_str(),
+                op,
+                span.col,
+                second.as_str()
+            )
         }
     }
 }
@@ -170,17 +182,22 @@ fn lvals_text(alloc: Global, to: &Seq<Lval>) -> Result<String, AllocError> {
     Ok(text)
 }
 
-fn call_text(alloc: Global, name: &Text, args: &Seq<Expr>) -> Result<String, AllocError> {
+fn call_text(
+    alloc: Global,
+    name: &Text,
+    args: &Seq<Expr>,
+    span: Span,
+) -> Result<String, AllocError> {
     let args = exprs_text(alloc, args)?;
-    format!(in alloc; "{}({})", name.as_str(), args.as_str())
+    format!(in alloc; "{}@{}({})", name.as_str(), span.col, args.as_str())
 }
 
 fn rhs_text(alloc: Global, rhs: &Rhs) -> Result<String, AllocError> {
     match rhs {
         Rhs::Value(value) => expr_text(alloc, value),
-        Rhs::Call(name, args, _) => call_text(alloc, name, args),
-        Rhs::Intrinsic(name, args, _) => {
-            let call = call_text(alloc, name, args)?;
+        Rhs::Call(name, args, span) => call_text(alloc, name, args, *span),
+        Rhs::Intrinsic(name, args, span) => {
+            let call = call_text(alloc, name, args, *span)?;
             format!(in alloc; "#{}", call.as_str())
         }
     }
@@ -261,8 +278,8 @@ fn stmts_text(alloc: Global, stmts: &Seq<Stmt>) -> Result<String, AllocError> {
         let notes = notes_text(alloc, &stmt.notes)?;
         let kind = kind_text(alloc, &stmt.kind)?;
         text.push_str(notes.as_str())?;
+        let kind = format!(in alloc; "{}: {}; ", stmt.span.col, kind.as_str())?;
         text.push_str(kind.as_str())?;
-        text.push_str("; ")?;
     }
     Ok(text)
 }
@@ -357,122 +374,239 @@ fn outcome(rt: &impl Abort, alloc: Global, text: &str) -> Result<String, Fail> {
     Ok(answer_text(alloc, parse(alloc, &tokens))?)
 }
 
+/// Each text with its tree, or with its first wrong token.
+static ROWS: [(&str, &str); 59] = [
+    (
+        "export fn f() {x = 1; }",
+        "export f( ) { 16: x@16 None 1@20 if always; return }",
+    ),
+    (
+        "export fn f() {x = true; }",
+        "export f( ) { 16: x@16 None true@20 if always; return }",
+    ),
+    (
+        "export fn f() {x = a - b - c; }",
+        "export f( ) { 16: x@16 None ((a@20 Sub@20 b@24) Sub@20 c@28) if always; return }",
+    ),
+    (
+        "export fn f() {x = a + b * c; }",
+        "export f( ) { 16: x@16 None (a@20 Add@20 (b@24 Mul@24 c@28)) if always; return }",
+    ),
+    (
+        "export fn f() {x = ( a + b ) * c; }",
+        "export f( ) { 16: x@16 None ((a@22 Add@22 b@26) Mul@20 c@32) if always; return }",
+    ),
+    (
+        "export fn f() {x = - a * ! b; }",
+        "export f( ) { 16: x@16 None (-@20 a@22 Mul@20 !@26 b@28) if always; return }",
+    ),
+    (
+        "export fn f() {x = a [ b + 1 ]; }",
+        "export f( ) { 16: x@16 None a@20[(b@24 Add@24 1@28)] if always; return }",
+    ),
+    (
+        "export fn f() {x = [ a ]; }",
+        "export f( ) { 16: x@16 None [:a@22 @20] if always; return }",
+    ),
+    (
+        "export fn f() {x = [ : u32 a + 8 ]; }",
+        "export f( ) { 16: x@16 None [u32:(a@28 Add@28 8@32) @20] if always; return }",
+    ),
+    (
+        "export fn f() {x = ( u16 ) [ a ] + 1; }",
+        "export f( ) { 16: x@16 None ([u16:a@30 @20] Add@20 1@36) if always; return }",
+    ),
+    (
+        "export fn f() {x = ( 64s ) a [ 0 ]; }",
+        "export f( ) { 16: x@16 None (u64s@20)a@28[0@32] if always; return }",
+    ),
+    (
+        "export fn f() {x = ( 8u ) - 1; }",
+        "export f( ) { 16: x@16 None (u8u@20)-@27 1@29 if always; return }",
+    ),
+    (
+        "export fn f() {x = a || b && c; }",
+        "export f( ) { 16: x@16 None (a@20 OrElse@20 (b@25 AndThen@25 c@30)) if always; return }",
+    ),
+    (
+        "export fn f() {x = a && b | c; }",
+        "export f( ) { 16: x@16 None (a@20 AndThen@20 (b@25 Or@25 c@29)) if always; return }",
+    ),
+    (
+        "export fn f() {x = a | b ^ c; }",
+        "export f( ) { 16: x@16 None (a@20 Or@20 (b@24 Xor@24 c@28)) if always; return }",
+    ),
+    (
+        "export fn f() {x = a ^ b & c; }",
+        "export f( ) { 16: x@16 None (a@20 Xor@20 (b@24 And@24 c@28)) if always; return }",
+    ),
+    (
+        "export fn f() {x = a & b != c; }",
+        "export f( ) { 16: x@16 None (a@20 And@20 (b@24 Ne@24 c@29)) if always; return }",
+    ),
+    (
+        "export fn f() {x = a == b <=s c; }",
+        "export f( ) { 16: x@16 None (a@20 Eq@20 (b@25 LeS@25 c@31)) if always; return }",
+    ),
+    (
+        "export fn f() {x = a < b >>r c; }",
+        "export f( ) { 16: x@16 None (a@20 Lt@20 (b@24 Ror@24 c@30)) if always; return }",
+    ),
+    (
+        "export fn f() {x = a << b + c; }",
+        "export f( ) { 16: x@16 None (a@20 Shl@20 (b@25 Add@25 c@29)) if always; return }",
+    ),
+    (
+        "export fn f() {x = a - b %s c; }",
+        "export f( ) { 16: x@16 None (a@20 Sub@20 (b@24 RemS@24 c@29)) if always; return }",
+    ),
+    (
+        "export fn f() {x = ( ( 1 ) ); }",
+        "export f( ) { 16: x@16 None 1@24 if always; return }",
+    ),
+    (
+        "export fn f() {x = ( u8 ) [ - 1 ]; }",
+        "export f( ) { 16: x@16 None [u8:-@29 1@31 @20] if always; return }",
+    ),
+    (
+        "export fn f() {x = ( u8 ) [ a ]; }",
+        "export f( ) { 16: x@16 None [u8:a@29 @20] if always; return }",
+    ),
+    ("", ""),
+    (
+        "param int n = 3 + 4 * 2;",
+        "n = (3@15 Add@15 (4@19 Mul@19 2@23)); ",
+    ),
+    (
+        "#[a, b=c] #d=3 #e=\"xy\" inline fn f(#public reg u64 x y, stack u8[4] z) {}",
+        "#a@1 #b=c@1 #d=3@11 #e=\"2\"@16 inline f( #public@36 reg u64 x@52; #public@36 reg u64 y@54; stack u8[4@66] z@69; ) { return }",
+    ),
+    (
+        "export fn g() -> #secret reg u32, reg bool { inline int i; reg u16 a b, c; return (a, b); } param int m = -1;",
+        "m = -@107 1@108; export g( ) #secret@18 reg u32; reg bool; { inline int i@57; reg u16 a@68; reg u16 b@70; reg u16 c@73; return a@84; b@87; }",
+    ),
+    (
+        "export fn f() {a = b;}",
+        "export f( ) { 16: a@16 None b@20 if always; return }",
+    ),
+    (
+        "export fn f() {a[i + 1] >>s= 3 if b <s 2;}",
+        "export f( ) { 16: a[(i@18 Add@18 1@22)] Some(Sar) 3@30 if (b@35 LtS@35 2@40); return }",
+    ),
+    (
+        "export fn f() {cf, x += c;}",
+        "export f( ) { 16: cf@16 x@20 Some(Add) c@25 if always; return }",
+    ),
+    (
+        "export fn f() {#loud _, x = #add(x, (u64)[p + e]);}",
+        "export f( ) { #loud@16 22: _ x@25 None #add@29(x@34 [u64:(p@43 Add@43 e@47) @37] ) if always; return }",
+    ),
+    (
+        "export fn f() {[:u64 p + e] = (64u)y;}",
+        "export f( ) { 16: [u64:(p@22 Add@22 e@26) @16] None (u64u@31)y@36 if always; return }",
+    ),
+    (
+        "export fn f() {x = #pause();}",
+        "export f( ) { 16: x@16 None #pause@20() if always; return }",
+    ),
+    (
+        "export fn f() {g(x, 1); y = h();}",
+        "export f( ) { 16: None g@16(x@18 1@21 ) if always; 25: y@25 None h@29() if always; return }",
+    ),
+    (
+        "export fn f() {if a == b { c = 1; d = 2; } else if true { e = 3; } else { }}",
+        "export f( ) { 16: if (a@19 Eq@19 b@24) 2 else 1; return }",
+    ),
+    (
+        "export fn f() {while { p = 1; } (c) while (d) { q = 1; r = 2; } while { } (e) { s = 3; }}",
+        "export f( ) { 16: while 1 c@34 99; 37: while 0 d@44 2; 65: while 0 e@76 1; return }",
+    ),
+    (
+        "export fn f() {for i = n downto 0 { } for j = 0 to 4 { a = 1; }}",
+        "export f( ) { 16: for i@20 n@24 true 0@33 0; 39: for j@43 0@47 false 4@52 1; return }",
+    ),
+    (
+        "export fn f() {_ , a [ 1 ] , [ b ] <<r= # f ( a , 2 ) if c ;}",
+        "export f( ) { 16: _ a[1@24] [:b@32 @30] Some(Rol) #f@41(a@47 2@51 ) if c@58; return }",
+    ),
+    (
+        "export fn f() {# a # [ b = 1 , c ] a /s= f ( b ) ;}",
+        "export f( ) { #a@16 #b=1@20 #c@20 36: a@36 Some(DivS) f@42(b@46 ) if always; return }",
+    ),
+    (
+        "export fn f() {if a { } else { f ( ) ; f ( ) ; }}",
+        "export f( ) { 16: if a@19 0 else 2; return }",
+    ),
+    (
+        "export fn f() {# b while ( a ) ;}",
+        "export f( ) { #b@16 20: while 0 a@28 99; return }",
+    ),
+    ("export fn f(", "Unexpected 1:13 token 4"),
+    ("export fn f() {} fn", "Unexpected 1:18 token 7"),
+    ("param int n = ;", "Unexpected 1:15 token 4"),
+    ("export fn f(reg u64) {}", "Unexpected 1:20 token 6"),
+    (
+        "export fn f() { reg u64 z z = x; }",
+        "Unexpected 1:29 token 10",
+    ),
+    (
+        "export fn f() { return a; a = b; }",
+        "Unexpected 1:27 token 9",
+    ),
+    ("export fn f() { #a reg u64 x; }", "Unexpected 1:20 token 8"),
+    ("export fn f() {( a ) ; }", "Unexpected 1:18 token 7"),
+    ("export fn f() {a = b }", "Unexpected 1:22 token 9"),
+    ("export fn f() {a = b if ; }", "Unexpected 1:25 token 10"),
+    ("export fn f() {f ( ) = a ; }", "Unexpected 1:22 token 9"),
+    ("export fn f() {while a { } }", "Unexpected 1:22 token 7"),
+    (
+        "export fn f() {for a = 0 b { } }",
+        "Unexpected 1:26 token 10",
+    ),
+    (
+        "export fn f() {if a { } else b }",
+        "Unexpected 1:30 token 11",
+    ),
+    ("export fn f() {x = a + }", "Unexpected 1:24 token 10"),
+    ("export fn f() {x = ( u8 ) a }", "Unexpected 1:27 token 11"),
+    ("export fn f() {x = [ : a ] }", "Unexpected 1:24 token 10"),
+];
+
 #[test]
-fn reads_heads(rt: HostRuntime) -> Result<(), Fail> {
+fn reads_each_text(rt: HostRuntime) -> Result<(), Fail> {
     let alloc = rt.alloc();
-    for (text, want) in [
-        ("", ""),
-        ("param int n = 3 + 4 * 2;", "n = (3 Add (4 Mul 2)); "),
-        (
-            "#[a, b=c] #d=3 #e=\"xy\" inline fn f(#public reg u64 x y, stack u8[4] z) {}",
-            "#a@1 #b=c@1 #d=3@11 #e=\"2\"@16 inline f( #public@36 reg u64 x@52; #public@36 reg u64 y@54; stack u8[4] z@69; ) { return }",
-        ),
-        (
-            "export fn g() -> #secret reg u32, reg bool { inline int i; reg u16 a b, c; return (a, b); } param int m = -1;",
-            "m = -1; export g( ) #secret@18 reg u32; reg bool; { inline int i@57; reg u16 a@68; reg u16 b@70; reg u16 c@73; return a@84; b@87; }",
-        ),
-    ] {
+    for (text, want) in ROWS {
         assert_eq!(rt; outcome(&rt, alloc, text)?.as_str(), want);
     }
     Ok(())
 }
 
-/// What is read of these statements, the only ones of a function.
-fn body_outcome(rt: &impl Abort, alloc: Global, body: &str) -> Result<String, Fail> {
-    assert!(rt; body.len() < 1000);
-    let text = format!(in alloc; "export fn f() {{{body}}}")?;
-    outcome(rt, alloc, text.as_str())
-}
-
-#[test]
-fn reads_statements(rt: HostRuntime) -> Result<(), Fail> {
-    let alloc = rt.alloc();
-    for (body, want) in [
-        ("a = b;", "a@16 None b@20 if always; "),
-        (
-            "a[i + 1] >>s= 3 if b <s 2;",
-            "a[(i@18 Add 1)] Some(Sar) 3 if (b@35 LtS 2); ",
-        ),
-        ("cf, x += c;", "cf@16 x@20 Some(Add) c@25 if always; "),
-        (
-            "#loud _, x = #add(x, (u64)[p + e]);",
-            "#loud@16 _ x@25 None #add(x@34 [u64:(p@43 Add e@47) @37] ) if always; ",
-        ),
-        (
-            "[:u64 p + e] = (64u)y;",
-            "[u64:(p@22 Add e@26) @16] None (u64u)y@36 if always; ",
-        ),
-        (
-            "x = [p + e];",
-            "x@16 None [:(p@21 Add e@25) @20] if always; ",
-        ),
-        ("x = #pause();", "x@16 None #pause() if always; "),
-        (
-            "g(x, 1); y = h();",
-            "None g(x@18 1 ) if always; y@25 None h() if always; ",
-        ),
-        (
-            "if a == b { c = 1; d = 2; } else if true { e = 3; } else { }",
-            "if (a@19 Eq b@24) 2 else 1; ",
-        ),
-        (
-            "while { p = 1; } (c) while (d) { q = 1; r = 2; } while { } (e) { s = 3; }",
-            "while 1 c@34 99; while 0 d@44 2; while 0 e@76 1; ",
-        ),
-        (
-            "for i = n downto 0 { } for j = 0 to 4 { a = 1; }",
-            "for i@20 n@24 true 0 0; for j@43 0 false 4 1; ",
-        ),
-    ] {
-        let text = body_outcome(&rt, alloc, body)?;
-        let want = format!(in alloc; "export f( ) {{ {want}return }}")?;
-        assert_eq!(rt; text.as_str(), want.as_str());
-    }
-    Ok(())
-}
-
-/// `x = `, and so many parentheses that are left open.
-fn nested(alloc: Global, count: usize) -> Result<String, AllocError> {
-    let mut text = String::from_str(alloc, "export fn f() { reg u64 x; x = ")?;
+/// A text's head, and a piece so many times that leaves it open.
+fn nested(alloc: Global, head: &str, piece: &str, count: usize) -> Result<String, AllocError> {
+    let mut text = String::from_str(alloc, head)?;
     for _ in 0..count {
-        text.push_str("(")?;
+        text.push_str(piece)?;
     }
     Ok(text)
 }
 
-#[test]
-fn tells_the_first_wrong_token(rt: HostRuntime) -> Result<(), Fail> {
-    let alloc = rt.alloc();
-    for (text, want) in [
-        ("export fn f(", "Unexpected 1:13 token 4"),
-        ("export fn f() {} fn", "Unexpected 1:18 token 7"),
-        ("param int n = ;", "Unexpected 1:15 token 4"),
-        ("export fn f(reg u64) {}", "Unexpected 1:20 token 6"),
-        (
-            "export fn f() { reg u64 z z = x; }",
-            "Unexpected 1:29 token 10",
-        ),
-        (
-            "export fn f() { return a; a = b; }",
-            "Unexpected 1:27 token 9",
-        ),
-        ("export fn f() { #a reg u64 x; }", "Unexpected 1:20 token 8"),
-    ] {
-        assert_eq!(rt; outcome(&rt, alloc, text)?.as_str(), want);
-    }
-    Ok(())
-}
+const VALUE: &str = "export fn f() { reg u64 x; x = ";
+
+const BODY: &str = "export fn f() {";
 
 #[test]
 fn tells_what_is_nested_too_deep(rt: HostRuntime) -> Result<(), Fail> {
     let alloc = rt.alloc();
-    for (count, want) in [
-        (300, "TooDeep 1:231 token 211"),
-        (200, "TooDeep 1:231 token 211"),
-        (199, "Unexpected 1:231 token 211"),
-        (1_048_576, "TooDeep 1:231 token 211"),
+    for (head, piece, count, want) in [
+        (VALUE, "(", 300, "TooDeep 1:231 token 211"),
+        (VALUE, "(", 200, "TooDeep 1:231 token 211"),
+        (VALUE, "(", 199, "Unexpected 1:231 token 211"),
+        (VALUE, "(", 1_048_576, "TooDeep 1:231 token 211"),
+        (VALUE, "- ", 201, "TooDeep 1:430 token 211"),
+        (BODY, "if a{", 201, "TooDeep 1:1015 token 605"),
+        (BODY, "if a{}else ", 201, "TooDeep 1:2209 token 1003"),
     ] {
-        let text = nested(alloc, count)?;
+        let text = nested(alloc, head, piece, count)?;
         assert_eq!(rt; outcome(&rt, alloc, text.as_str())?.as_str(), want);
     }
     Ok(())

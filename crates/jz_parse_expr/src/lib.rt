@@ -3,7 +3,5 @@
 
 mod expression;
 mod operator;
-#[cfg(test)]
-mod tests;
 
 pub use expression::{access, begins_expr, expr, index};

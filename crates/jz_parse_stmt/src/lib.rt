@@ -4,8 +4,6 @@
 mod annotations;
 mod assigning;
 mod statement;
-#[cfg(test)]
-mod tests;
 
 pub use annotations::notes;
 pub use statement::{begins_stmt, stmt};

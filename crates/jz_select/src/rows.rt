@@ -4,9 +4,9 @@ ghost use Rattle.jz_select.specs.Rows.{is_r, is_m, is_i, is_rm, is_rmi, is_flag,
 ghost use Rattle.jz_select.specs.Selected.{table, operations, first_of, row_if, chosen};
 
 use crate::class::{Class, Mask, Meeting, Operand};
-use crate::pattern::{Intrinsic, Pattern};
+use crate::pattern::Pattern;
 use crate::shape::{Shape, Value};
-use jz_tree::BinOp;
+use jz_tree::{BinOp, Intrinsic};
 use jz_words::Size;
 
 fn r(c: Class) -> bool

@@ -6,11 +6,11 @@ ghost use Rattle.jz_ir.specs.Places.{Below};
 ghost use Rattle.jz_ir.specs.Tree.{done, then_tree, tree_of};
 ghost use Rattle.jz_live.specs.Lives.{TreeBelow};
 
-use crate::{live, live_after};
 use jz_bits::Bits;
 use jz_data::Seq;
 use jz_io::Span;
-use jz_ir::{Node, Op, are_below};
+use jz_ir::{Node, Op};
+use jz_live::live;
 use std::alloc::{AllocError, Global};
 use std::test::Fail;
 
@@ -82,41 +82,6 @@ fn shown(alloc: Global, rows: &[Bits]) -> Result<String, AllocError> {
         text.push_str(";")?;
     }
     Ok(text)
-}
-
-#[test]
-fn until_the_last_use(rt: HostRuntime) -> Result<(), Fail> {
-    let a = rt.alloc();
-    let mut ops = Vec::new(a);
-    ops.push(op(a, &[], &[0])?)?;
-    ops.push(op(a, &[0], &[1])?)?;
-    ops.push(op(a, &[1], &[0])?)?;
-    let ops = ops.as_slice();
-    assert!(rt; are_below(ops, 3));
-    let rows = live_after(a, ops, 3)?;
-    assert_eq!(rt; shown(a, rows.as_slice())?.as_str(), "0;1;;");
-    Ok(())
-}
-
-#[test]
-fn code_without_operations(rt: HostRuntime) -> Result<(), Fail> {
-    let a = rt.alloc();
-    let nodes = Seq::new(a);
-    let rows = live(a, &nodes, 3)?;
-    assert_eq!(rt; shown(a, rows.as_slice())?.as_str(), "");
-    Ok(())
-}
-
-#[test]
-fn one_after_another(rt: HostRuntime) -> Result<(), Fail> {
-    let a = rt.alloc();
-    let mut nodes = Seq::new(a);
-    append(&mut nodes, operation(op(a, &[], &[0])?))?;
-    append(&mut nodes, operation(op(a, &[0], &[1])?))?;
-    append(&mut nodes, operation(op(a, &[1], &[0])?))?;
-    let rows = live(a, &nodes, 3)?;
-    assert_eq!(rt; shown(a, rows.as_slice())?.as_str(), "0;1;;");
-    Ok(())
 }
 
 // 0 = ..; 1 = ..; if 0 { 2 = 1; } else { 2 = ..; } .. = 2;

@@ -7,7 +7,7 @@ use Rattle.jz_leak.specs.declared.transformer.Form.TheVariants as form
 use Rattle.jz_leak.specs.declared.transformer.Out.TheVariants as out
 use Rattle.jz_leak.specs.RunLeaks.{over}
 use Rattle.jz_leak.specs.Applying.{OutFits, OutsFit, CasesFit}
-use Rattle.jz_leak.proofs.apply_tests.a_leak_that_fits.Goals as goal
+use Rattle.jasminc_top.proofs.call_tests.a_leak_that_fits.Goals as goal
 
 pub apply-requires : goal.apply-requires
 apply-requires g c = (

@@ -3,7 +3,7 @@ use Rattle.jz_ir.specs.declared.code.Node.{Node}
 use Rattle.jz_ir.specs.Tree.{tree_of}
 use Rattle.jz_live.specs.Lives.{TreeBelow}
 use Rattle.jz_live.proofs.Nodes.{fine_push}
-use Rattle.jz_live.proofs.tests.append.Goals as goal
+use Rattle.jasminc_top.proofs.live_tests.append.Goals as goal
 
 pub returns : goal.returns
 returns c =

@@ -1,7 +1,7 @@
 use Rattle.std.proofs.Common.{length, subst}
 use Rattle.std.specs.List.{All}
 use Rattle.jz_ir.specs.Places.{Below}
-use Rattle.jz_alloc.proofs.tests.shown.Goals as goal
+use Rattle.jasminc_top.proofs.placing_tests.placed.Goals as goal
 
 pub allocate-requires-clause-within : goal.allocate-requires-clause-within
 allocate-requires-clause-within c =
