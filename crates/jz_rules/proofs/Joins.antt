@@ -10,4 +10,4 @@ pub first_in-is : {A : Type 0} (rule : A → List Span) (xs : List A) → earlie
 first_in-is rule [] = refl
 first_in-is rule (x ∷ xs) = earliest-append (rule x) (flat_map rule xs) ∙ ap (earlier (earliest (rule x))) (first_in-is rule xs)
 
-pub ruleset joining = (first_in-is)
+pub ruleset joining = (first_in-is, earliest-append)

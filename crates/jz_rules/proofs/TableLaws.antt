@@ -1,6 +1,7 @@
 -- One name more in a table.
 use Rattle.std.proofs.Common.{◌≡◌, ℕ, ◌+◌, Bool, true, false, ◌||◌, List, [], ◌∷◌, ◌++◌, length, Option, Some, None, refl, sym, ap, ◌∙◌, cond, arith}
-use Rattle.std.specs.Prelude.{if◌then◌else◌, is_some}
+use Rattle.std.specs.Prelude.{if◌then◌else◌, is_some, nat_eq}
+use Rattle.std.proofs.lemmas.Bool.Decides.{nat_tests}
 use Rattle.std.specs.Option.{option_map}
 use Rattle.std.specs.List.{list_any}
 use Rattle.std.specs.Str.{bytes_eq}
@@ -34,6 +35,9 @@ set_more eq same keys ns m more e k held =
       | false ↦ λ p q. any-push (eq k) keys m ∙ (ap (λ a. a || eq k m) held ∙ ap (λ d. list_any (eq k) ns || d) q)
     ]
     in ap (list_any (eq k)) e ∙ (split _ _ refl refl ∙ sym (any-push (eq k) ns m))
+
+pub nat_eq-true : (a b : ℕ) → nat_eq a b ≡ true → a ≡ b
+nat_eq-true a b h = grind (arith, nat_tests)
 
 -- ---- first places
 or_own : Option ℕ → Bool → ℕ → Option ℕ

@@ -6,6 +6,7 @@ use Rattle.jz_tree.specs.declared.expr.Var.{Var}
 use Rattle.jz_tree.specs.declared.expr.Expr.TheViews.{out-Var}
 use Rattle.jz_tree.specs.declared.program.Fun.{Fun}
 use Rattle.jz_tree.specs.declared.program.Param.{Param}
+use Rattle.jz_tree.specs.declared.stmt.Stmt.{Stmt}
 use Rattle.jz_tree.specs.declared.stmt.Rhs.TheVariants as rhs
 use Rattle.jz_tree.specs.declared.stmt.StmtKind.TheOpen.{StmtKind-F}
 use Rattle.jz_scopes.specs.Scopes.{function_named}
@@ -28,9 +29,12 @@ name_of_param p = text_of p.var
 abbrev pub param_of : Fun → Var → Option ℕ
 param_of g v = place_of (bytes_eq (text_of v)) (map name_of_param g.params)
 
--- the names of the variables that its statements set, as a whole or a cell
+-- the variables that statements set, as a whole or a cell, those that stand in them among them
+abbrev pub set_in : List Stmt → List Var
+set_in ss = flat_map (λ s. set_by (layer_of s)) (statements_of ss)
+
 abbrev pub names_set : Fun → List (List ℕ)
-names_set g = flat_map (λ s. map text_of (set_by (layer_of s))) (statements_of g.body)
+names_set g = map text_of (set_in g.body)
 
 -- the parameter is an array that the function writes
 abbrev pub is_written : List (List ℕ) → Param → Bool

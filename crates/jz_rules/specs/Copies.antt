@@ -65,12 +65,9 @@ abbrev pub gets_back : List Expr → Given → Option ℕ
 gets_back args r = if list_any (is_one (passed_as args r.0)) (whole_left r.1) then r.0 else None
 
 -- ---- calls: arguments
-abbrev pub is_number : ℕ → Option ℕ → Bool
-is_number i None = false
-is_number i (Some j) = nat_eq i j
-
-abbrev pub is_back : List Expr → List Given → ℕ → Bool
-is_back args rs i = list_any (λ r. is_number i (gets_back args r)) rs
+-- the numbers of the parameters that are given back to the arrays that were passed
+abbrev pub numbers_back : List Expr → List Given → List ℕ
+numbers_back args rs = flat_map (λ r. option_to_list (gets_back args r)) rs
 
 abbrev pub or_false : Option Bool → Bool
 or_false None = false
@@ -92,8 +89,8 @@ passed_from i [] = []
 passed_from i (e ∷ es) = passed_at i (array_of e) ++ passed_from (i + 1) es
 
 -- what the callee writes it gives back to the same variable
-abbrev pub not_back : List Bool → (ℕ → Bool) → Passed → List Span
-not_back written back a = unless (not (is_written_at written a.0) || back a.0) (span_of_var a.1)
+abbrev pub not_back : List Bool → List ℕ → Passed → List Span
+not_back written back a = unless (not (is_written_at written a.0) || list_any (nat_eq a.0) back) (span_of_var a.1)
 
 -- no array is passed twice where one of the two is written: the later one is wrong
 abbrev pub is_twice : List Bool → Passed → Passed → Bool
@@ -110,7 +107,7 @@ given g to = zip g.returned to
 
 abbrev pub passed_wrongly : Callee → List Lval → List Expr → List Span
 passed_wrongly g to args =
-    flat_map (not_back g.written (is_back args (given g to))) (passed_from 0 args) ++ passed_twice g.written [] (passed_from 0 args)
+    flat_map (not_back g.written (numbers_back args (given g to))) (passed_from 0 args) ++ passed_twice g.written [] (passed_from 0 args)
 
 -- an array is passed to an inline function only; of an unknown function nothing is asked
 abbrev pub copied_by_call : Option Callee → List Lval → List Expr → List Span

@@ -10,6 +10,9 @@ use Rattle.jz_scopes.specs.Kinds.{known_of, is_register_array, is_inline}
 abbrev pub indexed_at : Var × Expr → List Span
 indexed_at c = unless (not (is_register_array (known_of c.0)) || is_inline c.1) (span_of c.1)
 
--- of the cells that the statement sets, and of those that it reads
+abbrev pub indexed_in : Expr → List Span
+indexed_in e = flat_map indexed_at (cells_in e)
+
+-- of the cells that the statement sets, and of those in its expressions
 abbrev pub indexed_by : Layer → List Span
-indexed_by k = flat_map indexed_at (cells_set k ++ flat_map cells_in (exprs_of k))
+indexed_by k = flat_map indexed_at (cells_set k) ++ flat_map indexed_in (exprs_of k)

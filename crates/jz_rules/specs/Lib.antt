@@ -4,5 +4,6 @@ pub mod Pairs
 pub mod Exports
 pub mod Callees
 pub mod Copies
+pub mod Passing
 pub mod Indexes
 pub mod Tables

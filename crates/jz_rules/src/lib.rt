@@ -3,11 +3,14 @@
 
 mod arrays;
 mod callee;
+mod copies;
 mod exports;
 mod pairs;
 mod programs;
 mod tables;
+mod twice;
 
 pub use callee::Callee;
+pub use copies::copied;
 pub use exports::{annotated, misshapen};
 pub use programs::{annotated_in, misshapen_in};

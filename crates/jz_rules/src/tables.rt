@@ -1,10 +1,10 @@
 //! Tables of names.
 
-ghost use Rattle.std.specs.Prelude.{◌≡◌, ℕ, [], ◌∷◌, ◌++◌, List, length, IfOk, OnOk};
+ghost use Rattle.std.specs.Prelude.{◌≡◌, ℕ, nat_eq, [], ◌∷◌, ◌++◌, List, length, IfOk, OnOk};
 ghost use Rattle.std.specs.List.{list_any};
 ghost use Rattle.std.specs.Str.{bytes_eq};
 ghost use Rattle.jz_rules.specs.Callees.{place_of};
-ghost use Rattle.jz_rules.specs.Tables.{HasNames, HasPlaces};
+ghost use Rattle.jz_rules.specs.Tables.{HasNames, HasNumbers, HasPlaces};
 
 use indexmap::{IndexMap, IndexSet};
 use jz_data::Text;
@@ -36,6 +36,45 @@ impl Names {
     {
         self.texts.insert(name.clone()?)?;
         Ok(())
+    }
+}
+
+/// A set of numbers.
+#[derive(Debug, Drop)]
+pub(crate) struct Numbers {
+    numbers: IndexSet<usize>,
+}
+
+impl Numbers {
+    fn new(alloc: Global) -> Numbers
+        ensures { HasNumbers result [] }
+    {
+        Numbers {
+            numbers: IndexSet::new(alloc),
+        }
+    }
+
+    pub(crate) fn has(&self, number: usize) -> bool
+        ensures { (ns : List ℕ) → HasNumbers self.now ns → result ≡ list_any (nat_eq number) ns }
+    {
+        self.numbers.contains(&number)
+    }
+
+    fn add(&mut self, number: usize) -> Result<(), AllocError>
+        ensures { (ns : List ℕ) → HasNumbers self.old ns → OnOk result (HasNumbers self.new (ns ++ number ∷ [])) }
+    {
+        self.numbers.insert(number)?;
+        Ok(())
+    }
+
+    pub(crate) fn of(alloc: Global, list: &[usize]) -> Result<Numbers, AllocError>
+        ensures { IfOk result (λ s. HasNumbers s list.now) }
+    {
+        let mut numbers = Numbers::new(alloc);
+        for number in list {
+            numbers.add(*number)?;
+        }
+        Ok(numbers)
     }
 }
 
