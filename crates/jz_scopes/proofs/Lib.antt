@@ -1,1 +1,5 @@
 pub mod Earliest
+mod Stacks
+mod CellLaws
+mod NestedLaws
+mod Lists
