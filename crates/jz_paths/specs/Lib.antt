@@ -1,0 +1,4 @@
+pub mod Declarations
+pub mod Settings
+pub mod Paths
+pub mod Surely
