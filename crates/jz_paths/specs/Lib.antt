@@ -2,3 +2,4 @@ pub mod Declarations
 pub mod Settings
 pub mod Paths
 pub mod Surely
+pub mod FirstSet

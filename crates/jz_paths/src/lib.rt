@@ -2,5 +2,8 @@
 #![tactic(auto)]
 
 mod declarations;
+mod inline;
+mod settings;
 
 pub use declarations::wrongly_kept;
+pub use settings::wrongly_set;
