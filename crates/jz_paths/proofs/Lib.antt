@@ -1,0 +1,4 @@
+pub mod Joins
+pub mod Firsts
+pub mod Agree
+pub mod SetFused

@@ -1,0 +1,5 @@
+pub mod Declarations
+pub mod Settings
+pub mod Paths
+pub mod Surely
+pub mod FirstSet
