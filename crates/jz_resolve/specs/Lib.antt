@@ -1,0 +1,4 @@
+pub mod Resolving
+pub mod Sides
+pub mod Constants
+pub mod Programs

@@ -1,0 +1,162 @@
+//! Expressions whose variables have their declarations, and whose constants are numbers.
+ghost use Rattle.std.specs.Prelude.{◌≡◌, IfOk};
+ghost use Rattle.jz_scopes.specs.Scopes.{name_of};
+ghost use Rattle.jz_resolve.specs.Resolving.{resolved_expr, resolved_var, resolved_access, number_or};
+ghost use Rattle.jz_resolve.specs.Sides.{on_left};
+
+use crate::lookup::Lookup;
+use jz_data::Boxed;
+use jz_io::Span;
+use jz_tree::{Access, BinOp, Expr, Var};
+use std::alloc::{AllocError, Global};
+
+/// An operation on the left side of an expression, without its first operand.
+#[derive(Debug, Drop)]
+struct Step {
+    op: BinOp,
+    right: Expr,
+    span: Span,
+}
+
+/// The left side of an expression: its operations from the outermost, and the operand where it ends.
+#[derive(Debug, Drop)]
+struct Side {
+    steps: Vec<Step>,
+    first: Expr,
+}
+
+impl Side {
+    #[tactic(auto, using(crate::proofs::Sides::last_step))]
+    fn into_expr(self, alloc: Global) -> Result<Expr, AllocError>
+        ensures { IfOk result (λ e. e ≡ on_left self.steps.items self.first) }
+    {
+        let Side {
+            mut steps,
+            mut first,
+        } = self;
+        while let Some(Step { op, right, span }) = steps.pop() {
+            first = Expr::Bin(
+                op,
+                Boxed::new(alloc, first)?,
+                Boxed::new(alloc, right)?,
+                span,
+            );
+        }
+        Ok(first)
+    }
+}
+
+/// The variable with what is declared of its name.
+pub fn resolve_var<L: Lookup>(alloc: Global, names: &L, var: &Var) -> Result<Var, AllocError>
+    ensures { IfOk result (λ r. r ≡ resolved_var (L.declaration names.now) (L.number names.now) var.now) }
+{
+    let decl = names.declared(alloc, &var.name)?;
+    Ok(Var {
+        name: var.name.clone()?,
+        copy: var.copy,
+        cell: var.cell,
+        decl,
+        span: var.span,
+    })
+}
+
+fn resolve_name<L: Lookup>(alloc: Global, names: &L, var: &Var) -> Result<Expr, AllocError>
+    ensures { IfOk result (λ r. r ≡ number_or (L.number names.now (name_of var.now)) (resolved_var (L.declaration names.now) (L.number names.now) var.now)) }
+{
+    match names.constant(&var.name, var.span) {
+        Some(number) => Ok(Expr::Num(number, var.span)),
+        None => {
+            let var = resolve_var(alloc, names, var)?;
+            Ok(Expr::Var(var))
+        }
+    }
+}
+
+/// The expression with the declarations of its variables, also one whose left side is as long as memory lets it be.
+#[cycle(resolve)]
+pub fn resolve_expr<L: Lookup>(alloc: Global, names: &L, e: &Expr) -> Result<Expr, AllocError>
+    ensures { IfOk result (λ r. r ≡ resolved_expr (L.declaration names.now) (L.number names.now) e.now) }
+{
+    let side = resolve_side(alloc, names, e)?;
+    let resolved = side.into_expr(alloc)?;
+    Ok(resolved)
+}
+
+#[cycle(resolve)]
+fn resolve_side<L: Lookup>(alloc: Global, names: &L, e: &Expr) -> Result<Side, AllocError>
+    ensures { IfOk result (λ side. on_left side.steps.items side.first ≡ resolved_expr (L.declaration names.now) (L.number names.now) e.now) }
+{
+    let mut steps = Vec::new(alloc);
+    let mut rest = e;
+    while let Expr::Bin(op, left, right, span) = rest {
+        steps.push(Step {
+            op: *op,
+            right: resolve_expr(alloc, names, right.get())?,
+            span: *span,
+        })?;
+        rest = left.get();
+    }
+    let first = resolve_single(alloc, names, rest)?;
+    Ok(Side { steps, first })
+}
+
+#[cycle(resolve)]
+fn resolve_single<L: Lookup>(alloc: Global, names: &L, e: &Expr) -> Result<Expr, AllocError>
+    ensures { IfOk result (λ r. r ≡ resolved_expr (L.declaration names.now) (L.number names.now) e.now) }
+{
+    match e {
+        Expr::Num(number, span) => Ok(Expr::Num(*number, *span)),
+        Expr::Bool(truth, span) => Ok(Expr::Bool(*truth, *span)),
+        Expr::Var(var) => {
+            let name = resolve_name(alloc, names, var)?;
+            Ok(name)
+        }
+        Expr::Cell(var, at) => Ok(Expr::Cell(
+            resolve_var(alloc, names, var)?,
+            Boxed::new(alloc, resolve_expr(alloc, names, at.get())?)?,
+        )),
+        Expr::Load(access) => Ok(Expr::Load(resolve_access(alloc, names, access)?)),
+        Expr::Neg(e, span) => Ok(Expr::Neg(
+            Boxed::new(alloc, resolve_expr(alloc, names, e.get())?)?,
+            *span,
+        )),
+        Expr::Not(e, span) => Ok(Expr::Not(
+            Boxed::new(alloc, resolve_expr(alloc, names, e.get())?)?,
+            *span,
+        )),
+        Expr::Cast {
+            size,
+            signed,
+            e,
+            span,
+        } => Ok(Expr::Cast {
+            size: *size,
+            signed: *signed,
+            e: Boxed::new(alloc, resolve_expr(alloc, names, e.get())?)?,
+            span: *span,
+        }),
+        Expr::Bin(op, left, right, span) => Ok(Expr::Bin(
+            *op,
+            Boxed::new(alloc, resolve_expr(alloc, names, left.get())?)?,
+            Boxed::new(alloc, resolve_expr(alloc, names, right.get())?)?,
+            *span,
+        )),
+    }
+}
+
+/// The access with the declarations of the variables in its address.
+#[cycle(resolve)]
+pub fn resolve_access<L: Lookup>(
+    alloc: Global,
+    names: &L,
+    access: &Access,
+) -> Result<Access, AllocError>
+    ensures { IfOk result (λ r. r ≡ resolved_access (L.declaration names.now) (L.number names.now) access.now) }
+{
+    Ok(Access {
+        size: access.size,
+        at: Boxed::new(alloc, resolve_expr(alloc, names, access.at.get())?)?,
+        unaligned: access.unaligned,
+        span: access.span,
+    })
+}
