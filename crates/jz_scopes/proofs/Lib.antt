@@ -1,5 +1,7 @@
 pub mod Earliest
+pub mod Firsts
 mod Stacks
 mod CellLaws
 mod NestedLaws
 mod Lists
+mod TableLaws
