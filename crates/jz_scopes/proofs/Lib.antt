@@ -1,7 +1,5 @@
 pub mod Earliest
-pub mod Firsts
 mod Stacks
 mod CellLaws
 mod NestedLaws
 mod Lists
-mod TableLaws

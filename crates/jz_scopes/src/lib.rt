@@ -6,16 +6,10 @@ mod exprs;
 mod kinds;
 mod layers;
 mod order;
-mod tables;
 
 pub use bodies::statements;
 pub use exprs::{cells, length_of, names, span_of};
-pub use kinds::{
-    Declared, Kind, array_of, declaration, is_array, is_inline, is_inline_int, is_register_array,
-    is_register_word, is_word, known, same_kind, same_size, same_storage, whole_array,
-    written_length,
-};
+pub use kinds::{Declared, Kind, declaration, known};
 pub use layers::{called_by, cells_set, exprs_of, read_by, set_by, whole_var, wholly_set_by};
-pub use order::{earlier_of, is_before, sooner, unless};
-pub use tables::{Functions, Places};
+pub use order::{earlier_of, is_before, unless};
 

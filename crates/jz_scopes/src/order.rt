@@ -1,6 +1,6 @@
 //! Places in a text, and the earlier of two.
 
-ghost use Rattle.std.specs.Prelude.{◌≡◌, Option, Some};
+ghost use Rattle.std.specs.Prelude.{◌≡◌, Option};
 ghost use Rattle.jz_io.specs.declared.span.Span.{Span};
 ghost use Rattle.jz_scopes.specs.Order.{is_before, unless, earlier, earliest};
 
@@ -33,11 +33,4 @@ pub fn earlier_of(a: Option<Span>, b: Option<Span>) -> Option<Span>
             Some(g) => if is_before(g, f) { Some(g) } else { Some(f) },
         },
     }
-}
-
-/// The earlier of two places.
-pub fn sooner(a: Span, b: Span) -> Span
-    ensures { Some result ≡ earlier (Some a) (Some b) }
-{
-    if is_before(b, a) { b } else { a }
 }

@@ -7,10 +7,11 @@ use Rattle.jz_scopes.specs.Order.{Before, is_before, IsEarliest, nowhere, here}
 use Rattle.jz_types.specs.declared.fault.TypeRule.{TypeRule}
 use Rattle.jz_types.specs.declared.fault.TypeRule.TheVariants.{Unknown, Duplicate, Mismatch, Storage, Recursion, NoInstruction, ArrayCopy, BadAnnotation, ExportShape, RegIndex}
 use Rattle.jz_types.specs.declared.fault.TypeFault.{TypeFault}
-use Rattle.jz_types.specs.Faults.{number_of, IsToldBefore, IsTold, told_of}
+use Rattle.jz_types.specs.declared.fault.Places.{Places}
+use Rattle.jz_types.specs.Faults.{number_of, IsToldBefore, IsTold, told_of, first_told, AreFirst}
 
 -- ---- rules differ in their numbers
-rule_of : ℕ → TypeRule
+abbrev rule_of : ℕ → TypeRule
 rule_of n =
     if nat_eq n 1 then Unknown
     else if nat_eq n 2 then Duplicate
@@ -99,10 +100,14 @@ lt_or_eq a k b e h = grind (arith, nat_tests)
 -- ---- rules one after another
 module _ (Fails : TypeRule → Span → Type 0) where
   -- none of the rules below that number fails, or of their failures this one is told
+  pub record IsLeast (k : ℕ) (f : TypeFault) : Type 0 where
+    pub below : number_of f.rule < k
+    pub fails : Fails f.rule f.span
+    pub first : (rule : TypeRule) (at : Span) → number_of rule < k → Fails rule at → IsToldBefore f rule at
+
   abbrev pub Below : ℕ → Option TypeFault → Type 0
   Below k None = (rule : TypeRule) (at : Span) → number_of rule < k → Fails rule at → ⊥
-  Below k (Some f) =
-      (number_of f.rule < k) × (Fails f.rule f.span × ((rule : TypeRule) (at : Span) → number_of rule < k → Fails rule at → IsToldBefore f rule at))
+  Below k (Some f) = IsLeast k f
 
   pub below_none : Below 1 None
   below_none rule at h w = above_zero rule h
@@ -116,32 +121,32 @@ module _ (Fails : TypeRule → Span → Type 0) where
   -- a rule that fails nowhere
   quiet : (k : ℕ) (rule : TypeRule) → number_of rule ≡ k → ((at : Span) → Fails rule at → ⊥) → (best : Option TypeFault) → Below k best → Below (suc k) best
   quiet k rule e n None b = λ other at h w. elim (parted k rule other e h) [ inl p ↦ b other at p w | inr p ↦ n at (subst (λ r. Fails r at) p w) ]
-  quiet k rule e n (Some f) b = (
-    omega (arith, b.0),
-    b.1.0,
-    λ other at h w. elim (parted k rule other e h) [ inl p ↦ b.1.1 other at p w | inr p ↦ absurd (n at (subst (λ r. Fails r at) p w)) ],
-  )
+  quiet k rule e n (Some f) b = record {
+    below = omega (arith, b.below);
+    fails = b.fails;
+    first = λ other at h w. elim (parted k rule other e h) [ inl p ↦ b.first other at p w | inr p ↦ absurd (n at (subst (λ r. Fails r at) p w)) ];
+  }
 
   pub told_more : (k : ℕ) (rule : TypeRule) → number_of rule ≡ k → (r : Option Span) → IsEarliest (Fails rule) r → (best : Option TypeFault) → Below k best
       → Below (suc k) (told_of best rule r)
   told_more k rule e None (nowhere n) best b = quiet k rule e n best b
-  told_more k rule e (Some at) (here w first) None b = (
-    omega (arith, e),
-    w,
-    λ other there h v. elim (parted k rule other e h) [
+  told_more k rule e (Some at) (here w first) None b = record {
+    below = omega (arith, e);
+    fails = w;
+    first = λ other there h v. elim (parted k rule other e h) [
       | inl p ↦ absurd (b other there p v)
       | inr p ↦ elim (first there (subst (λ r. Fails r there) p v)) [ inl q ↦ inl q | inr q ↦ inr (q, subst (λ r. number_of rule ≤ number_of r) (sym p) (omega arith)) ]
-    ],
-  )
+    ];
+  }
   told_more k rule e (Some at) (here w first) (Some f) b =
       let new : TypeFault = record { rule = rule; span = at }
       in let go : (t : Bool) → is_before at f.span ≡ t → Below (suc k) (if t then Some new else Some f) =
       λ t. elim t as (λ t. is_before at f.span ≡ t → Below (suc k) (if t then Some new else Some f)) [
-        | true ↦ λ i. (
-          omega (arith, e),
-          w,
-          λ other there h v. elim (parted k rule other e h) [
-            | inl p ↦ elim (b.1.1 other there p v) [
+        | true ↦ λ i. record {
+          below = omega (arith, e);
+          fails = w;
+          first = λ other there h v. elim (parted k rule other e h) [
+            | inl p ↦ elim (b.first other there p v) [
               | inl q ↦ inl (before_trans at f.span there (before_is at f.span i) q)
               | inr q ↦ inl (subst (Before at) q.0 (before_is at f.span i))
             ]
@@ -149,29 +154,44 @@ module _ (Fails : TypeRule → Span → Type 0) where
               | inl q ↦ inl q
               | inr q ↦ inr (q, subst (λ r. number_of rule ≤ number_of r) (sym p) (omega arith))
             ]
-          ],
-        )
-        | false ↦ λ i. (
-          omega (arith, b.0),
-          b.1.0,
-          λ other there h v. elim (parted k rule other e h) [
-            | inl p ↦ b.1.1 other there p v
+          ];
+        }
+        | false ↦ λ i. record {
+          below = omega (arith, b.below);
+          fails = b.fails;
+          first = λ other there h v. elim (parted k rule other e h) [
+            | inl p ↦ b.first other there p v
             | inr p ↦ elim (first there (subst (λ r. Fails r there) p v)) [
               | inl q ↦ elim (not_before at f.span i) [ inl z ↦ inl (before_trans f.span at there z q) | inr z ↦ inl (subst (λ s. Before s there) (sym z) q) ]
               | inr q ↦ elim (not_before at f.span i) [
                 | inl z ↦ inl (subst (Before f.span) q z)
-                | inr z ↦ inr (z ∙ q, subst (λ r. number_of f.rule ≤ number_of r) (sym p) (omega (arith, b.0, e)))
+                | inr z ↦ inr (z ∙ q, subst (λ r. number_of f.rule ≤ number_of r) (sym p) (omega (arith, b.below, e)))
               ]
             ]
-          ],
-        )
+          ];
+        }
       ]
       in go (is_before at f.span) refl
 
   -- none of the ten fails, or of the failures this one is told
   pub told_all : (best : Option TypeFault) → Below 11 best → MatchOption best ((rule : TypeRule) (at : Span) → Fails rule at → ⊥) (IsTold Fails)
   told_all None b = λ rule at w. b rule at (below_eleven rule) w
-  told_all (Some f) b = record { fails = b.1.0; first = λ rule at w. b.1.1 rule at (below_eleven rule) w }
+  told_all (Some f) b = record { fails = b.fails; first = λ rule at w. b.first rule at (below_eleven rule) w }
+
+  -- of what each rule finds first
+  pub told_first : (p : Places) → AreFirst Fails p → MatchOption (first_told p) ((rule : TypeRule) (at : Span) → Fails rule at → ⊥) (IsTold Fails)
+  told_first p f =
+      told_all
+      (first_told p)
+      (told_more 10 RegIndex refl p.indexed f.indexed _
+      (told_more 9 ExportShape refl p.misshapen f.misshapen _
+      (told_more 8 BadAnnotation refl p.annotated f.annotated _
+      (told_more 7 ArrayCopy refl p.copied f.copied _
+      (told_more 6 NoInstruction refl p.unmatched f.unmatched _
+      (told_more 5 Recursion refl p.recursive f.recursive _
+      (told_more 4 Storage refl p.misplaced f.misplaced _
+      (told_more 3 Mismatch refl p.mismatched f.mismatched _
+      (told_more 2 Duplicate refl p.repeated f.repeated _ (told_more 1 Unknown refl p.unknown f.unknown None below_none))))))))))
 
   -- one fault is told at most
   pub one_told : (f g : TypeFault) → IsTold Fails f → IsTold Fails g → f ≡ g

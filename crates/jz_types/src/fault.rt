@@ -1,7 +1,7 @@
 //! Why a program is refused, and which of several faults is told.
 
 ghost use Rattle.std.specs.Prelude.{◌≡◌};
-ghost use Rattle.jz_types.specs.Faults.{number_of, told_of};
+ghost use Rattle.jz_types.specs.Faults.{number_of, told_of, first_told};
 
 use jz_io::Span;
 use jz_scopes::is_before;
@@ -58,8 +58,23 @@ pub struct TypeFault {
     pub span: Span,
 }
 
-/// The fault of the earlier of two places; at one place the first.
-pub(crate) fn told(best: Option<TypeFault>, rule: TypeRule, at: Option<Span>) -> Option<TypeFault>
+/// Where each rule fails first, if it fails.
+#[derive(Clone, Copy)]
+pub(crate) struct Places {
+    pub(crate) unknown: Option<Span>,
+    pub(crate) repeated: Option<Span>,
+    pub(crate) mismatched: Option<Span>,
+    pub(crate) misplaced: Option<Span>,
+    pub(crate) recursive: Option<Span>,
+    pub(crate) unmatched: Option<Span>,
+    pub(crate) copied: Option<Span>,
+    pub(crate) annotated: Option<Span>,
+    pub(crate) misshapen: Option<Span>,
+    pub(crate) indexed: Option<Span>,
+}
+
+// The fault of the earlier of two places; at one place the first.
+fn told(best: Option<TypeFault>, rule: TypeRule, at: Option<Span>) -> Option<TypeFault>
     ensures { result ≡ told_of best rule at }
 {
     match at {
@@ -75,4 +90,20 @@ pub(crate) fn told(best: Option<TypeFault>, rule: TypeRule, at: Option<Span>) ->
             }
         },
     }
+}
+
+/// The fault that is told, if there is one.
+pub(crate) fn first_told(places: Places) -> Option<TypeFault>
+    ensures { result ≡ first_told places }
+{
+    let unknown = told(None, TypeRule::Unknown, places.unknown);
+    let repeated = told(unknown, TypeRule::Duplicate, places.repeated);
+    let mismatched = told(repeated, TypeRule::Mismatch, places.mismatched);
+    let misplaced = told(mismatched, TypeRule::Storage, places.misplaced);
+    let recursive = told(misplaced, TypeRule::Recursion, places.recursive);
+    let unmatched = told(recursive, TypeRule::NoInstruction, places.unmatched);
+    let copied = told(unmatched, TypeRule::ArrayCopy, places.copied);
+    let annotated = told(copied, TypeRule::BadAnnotation, places.annotated);
+    let misshapen = told(annotated, TypeRule::ExportShape, places.misshapen);
+    told(misshapen, TypeRule::RegIndex, places.indexed)
 }
