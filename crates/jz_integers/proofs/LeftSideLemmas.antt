@@ -17,7 +17,7 @@ pub last_waiting : (ws : List Waiting) (w : Waiting) (e : Expr) → on_left (ws 
 last_waiting [] w e = refl
 last_waiting (v ∷ ws) w e = ap (λ x. expr.Bin v.op x v.right.now v.span) (last_waiting ws w e)
 
-left_smaller : (op : BinOp) (l r : Expr) (s : Span) → size-Expr l < size-Expr (expr.Bin op l r s)
+pub left_smaller : (op : BinOp) (l r : Expr) (s : Span) → size-Expr l < size-Expr (expr.Bin op l r s)
 left_smaller op l r s = rw (sized-Bin op l r s) (search arith)
 
 right_smaller : (op : BinOp) (l r : Expr) (s : Span) → size-Expr r < size-Expr (expr.Bin op l r s)

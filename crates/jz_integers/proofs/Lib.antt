@@ -1,3 +1,4 @@
 pub mod LeftSideLemmas
 pub mod Powers
 pub mod Shifting
+pub mod StepLemmas

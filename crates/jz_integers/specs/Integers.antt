@@ -136,6 +136,10 @@ abbrev pub the_number : Option Constant → Option ℤ
 the_number (Some (constant.Int i)) = Some i
 the_number _ = None
 
+-- the value of an expression in which no variable has a number
+abbrev pub plain_value : Expr → Option Constant
+plain_value e = inline_value (λ name copy. None) e
+
 -- the number that an expression without variables is
 abbrev pub written_number : Expr → Option ℤ
-written_number e = the_number (inline_value (λ name copy. None) e)
+written_number e = the_number (plain_value e)

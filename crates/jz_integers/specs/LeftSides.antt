@@ -1,5 +1,5 @@
 -- An expression by its left side: the operations on the way down, and the operand where it ends.
-use Rattle.std.specs.Prelude.{List, [], ◌∷◌}
+use Rattle.std.specs.Prelude.{ℕ, zero, suc, List, [], ◌∷◌}
 use Rattle.jz_tree.specs.declared.expr.Expr.{Expr}
 use Rattle.jz_tree.specs.declared.expr.Expr.TheVariants.{Bin}
 use Rattle.jz_tree.specs.declared.expr.Expr.TheViews.{out-Expr}
@@ -18,3 +18,16 @@ IsSingleLayer _ = Unit {0}
 -- it is no operation on two operands
 abbrev pub IsSingle : Expr → Type 0
 IsSingle e = IsSingleLayer (out-Expr e)
+
+abbrev pub left_layer : {B C D E : Type 0} → Expr → Expr-F Expr B C D E → Expr
+left_layer e (Expr-F.Bin op a b at) = a
+left_layer e _ = e
+
+-- the left operand, or the expression itself where it has none
+abbrev pub left_of : Expr → Expr
+left_of e = left_layer e (out-Expr e)
+
+-- that many steps down the left side, which may end before
+abbrev pub left_at : ℕ → Expr → Expr
+left_at zero e = e
+left_at (suc k) e = left_at k (left_of e)

@@ -5,12 +5,12 @@ ghost use Rattle.jz_integers.specs.LeftSides.{IsSingle};
 
 use crate::Constant;
 use crate::arithmetic::{inverted, negated, on_integers};
-use crate::lookup::{NoNumbers, Numbers};
+use crate::lookup::Numbers;
 use crate::sides::{LeftSide, Waiting, left_side};
 use jz_tree::{BinOp, Expr};
 use std::alloc::{AllocError, Global};
 
-fn minus(value: Option<Constant>) -> Option<Constant>
+pub(super) fn minus(value: Option<Constant>) -> Option<Constant>
     ensures { result ≡ values.minus value }
 {
     match value {
@@ -23,7 +23,7 @@ fn minus(value: Option<Constant>) -> Option<Constant>
     }
 }
 
-fn opposite(value: Option<Constant>) -> Option<Constant>
+pub(super) fn opposite(value: Option<Constant>) -> Option<Constant>
     ensures { result ≡ values.opposite value }
 {
     match value {
@@ -33,7 +33,7 @@ fn opposite(value: Option<Constant>) -> Option<Constant>
     }
 }
 
-fn is_settled(op: BinOp, left: Constant) -> bool
+pub(super) fn is_settled(op: BinOp, left: Constant) -> bool
     ensures { result ≡ values.is_settled op left }
 {
     match (op, left) {
@@ -49,7 +49,7 @@ fn joins(op: BinOp) -> bool
     matches!(op, BinOp::AndThen | BinOp::OrElse)
 }
 
-fn on_both(op: BinOp, left: Constant, right: Constant) -> Option<Constant>
+pub(super) fn on_both(op: BinOp, left: Constant, right: Constant) -> Option<Constant>
     ensures { result ≡ values.on_both op left right }
 {
     match (left, right) {
@@ -133,16 +133,5 @@ fn joined_value<N: Numbers>(
     match inline_value(alloc, numbers, right)? {
         None => Ok(None),
         Some(right) => Ok(on_both(op, left, right)),
-    }
-}
-
-/// The number that an expression without variables is.
-pub fn written_number(alloc: Global, e: &Expr) -> Result<Option<i128>, AllocError>
-    ensures { IfOk result (λ number. number ≡ values.written_number e.now) }
-{
-    match inline_value(alloc, &NoNumbers, e)? {
-        Some(Constant::Int(n)) => Ok(Some(n)),
-        Some(Constant::Bool(_)) => Ok(None),
-        None => Ok(None),
     }
 }

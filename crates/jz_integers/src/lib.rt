@@ -7,12 +7,14 @@ mod inline;
 mod laws;
 mod lookup;
 mod sides;
+mod written;
 
 pub use arithmetic::{inverted, negated, on_integers};
 pub use constant::Constant;
-pub use inline::{inline_value, written_number};
+pub use inline::inline_value;
 pub use laws::{a_quotient_and_its_remainder, exact, settled_by_the_left};
 pub use lookup::{NoNumbers, Numbers};
+pub use written::written_number;
 
 #[cfg(test)]
 mod tests;

@@ -1,6 +1,6 @@
 //! Operations on whole numbers, most at the ends of 128 bits, as Rust's checked operations answer them.
 use crate::Constant::{self, Bool, Int};
-use crate::{NoNumbers, inline_value, on_integers};
+use crate::{NoNumbers, inline_value, on_integers, written_number};
 use jz_data::Boxed;
 use jz_io::Span;
 use jz_tree::{BinOp, Expr};
@@ -82,6 +82,13 @@ fn operand(alloc: Global, number: i128) -> Result<Boxed<Expr>, AllocError> {
     Boxed::new(alloc, Expr::Num(number, HERE))
 }
 
+fn number_of(value: Option<Constant>) -> Option<i128> {
+    match value {
+        Some(Int(number)) => Some(number),
+        _ => None,
+    }
+}
+
 #[test]
 fn at_the_ends(rt: HostRuntime) -> Result<(), Fail> {
     let alloc = rt.alloc();
@@ -89,6 +96,7 @@ fn at_the_ends(rt: HostRuntime) -> Result<(), Fail> {
         let e = Expr::Bin(op, operand(alloc, a)?, operand(alloc, b)?, HERE);
         assert_eq!(rt; on_integers(op, a, b), wanted, "{a} {op:?} {b}");
         assert_eq!(rt; inline_value(alloc, &NoNumbers, &e)?, wanted);
+        assert_eq!(rt; written_number(&e), number_of(wanted));
     }
     Ok(())
 }

@@ -113,8 +113,8 @@ some_test : HasPhrase (λ d. g.test d)
 some_test = some_map (opens r.parens (λ b. t.expr b ▸ t.the (codes ")") b)) (λ p. p.1.0)
     (some_opens (sign (codes "(")) (sign_token (codes "(")) (sign_in (codes "(") []) (λ b. t.expr b ▸ t.the (codes ")") b) (any_then (λ b. t.expr b) (λ b. t.the (codes ")") b) any_expr (any_the (codes ")"))))
 
-test_law : (d : ℕ) → IsReader (r.test d) (λ e. g.test (plus d e)) (full r.parens [])
-unfolding r.test
+test_law : (d : ℕ) → IsReader (r.loop_condition d) (λ e. g.test (plus d e)) (full r.parens [])
+unfolding r.loop_condition
 test_law d = map_reads (λ p. p.1.0)
     (inside_reads r.parens (sign_token (codes "(")) (sign_in (codes "(") []) (λ b. follow (q.expr b) (q.the (codes ")"))) (λ b. t.expr b ▸ t.the (codes ")") b) (some_then (λ b. t.expr b) (λ b. t.the (codes ")") b) some_expr (some_the (codes ")"))) (full q.expr_starts []) d
     (λ b h. follow_reads (expr_reads b) (the_reads (codes ")") b) (up (λ b. t.the (codes ")") b) b (some_the (codes ")"))) refl))
@@ -304,7 +304,7 @@ while_same : (f h : ℕ → r.Low) (d : ℕ) → SameBelow f h d → r.while_for
 unfolding r.while_form r.prologue r.body
 while_same f h d same = λ i. λ ts. through {A = Span × (List Stmt × (Expr × Option (List Stmt)))} (λ p. looped p.0 p.1.0 p.1.1.0 p.1.1.1)
     (follow (q.key (codes "while")) (follow (λ us. through or_empty (optional r.braces (block_same f h d same i) us))
-    (follow (r.test d) (pick r.braces (λ us. through (λ b. Some b) (block_same f h d same i us)) (λ us. through (λ p. None) (optional (sign (codes ";") ∷ []) (q.the (codes ";")) us))))) ts)
+    (follow (r.loop_condition d) (pick r.braces (λ us. through (λ b. Some b) (block_same f h d same i us)) (λ us. through (λ p. None) (optional (sign (codes ";") ∷ []) (q.the (codes ";")) us))))) ts)
 
 for_same : (f h : ℕ → r.Low) (d : ℕ) → SameBelow f h d → r.for_form f d ≡ r.for_form h d
 unfolding r.for_form

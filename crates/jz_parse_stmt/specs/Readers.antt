@@ -124,8 +124,8 @@ if_rest low d ts = through (λ p. (p.0, (p.1.0, or_empty p.1.1))) (follow (expr 
 unfoldable pub if_form : (ℕ → Low) → ℕ → Reader (Span × StmtKind)
 if_form low d ts = through (λ p. chosen p.0 p.1) (follow (key (codes "if")) (if_rest low d) ts)
 
-unfoldable pub test : ℕ → Reader Expr
-test d ts = through (λ p. p.1.0) (inside parens (λ b. follow (expr b) (the (codes ")"))) d ts)
+unfoldable pub loop_condition : ℕ → Reader Expr
+loop_condition d ts = through (λ p. p.1.0) (inside parens (λ b. follow (expr b) (the (codes ")"))) d ts)
 
 unfoldable pub prologue : (ℕ → Low) → ℕ → Reader (List Stmt)
 prologue low d ts = through or_empty (optional braces (block low d) ts)
@@ -134,7 +134,7 @@ unfoldable pub body : (ℕ → Low) → ℕ → Reader (Option (List Stmt))
 body low d = pick braces (λ ts. through (λ b. Some b) (block low d ts)) (λ ts. through (λ p. None) (optional (sign (codes ";") ∷ []) (the (codes ";")) ts))
 
 unfoldable pub while_form : (ℕ → Low) → ℕ → Reader (Span × StmtKind)
-while_form low d ts = through (λ p. looped p.0 p.1.0 p.1.1.0 p.1.1.1) (follow (key (codes "while")) (follow (prologue low d) (follow (test d) (body low d))) ts)
+while_form low d ts = through (λ p. looped p.0 p.1.0 p.1.1.0 p.1.1.1) (follow (key (codes "while")) (follow (prologue low d) (follow (loop_condition d) (body low d))) ts)
 
 unfoldable pub direction : Reader Bool
 direction = pick (word (codes "to") ∷ []) (λ ts. through (λ p. false) (key (codes "to") ts)) (λ ts. through (λ p. true) (key (codes "downto") ts))

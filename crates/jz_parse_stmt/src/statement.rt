@@ -3,7 +3,7 @@
 ghost use Rattle.std.specs.Prelude.{◌≡◌, []};
 ghost use Rattle.jz_grammar.specs.Kinds.{has};
 ghost use Rattle.jz_cursor.specs.Gave.{Gave};
-ghost use Rattle.jz_parse_stmt.specs.Readers.{simple_starts, form_starts, stmt_starts, test, direction, block, else_body, else_arm, if_rest, if_form, prologue, body, while_form, for_form, form, stmt_in, stmt, stmts_more, nested_in};
+ghost use Rattle.jz_parse_stmt.specs.Readers.{simple_starts, form_starts, stmt_starts, loop_condition, direction, block, else_body, else_arm, if_rest, if_form, prologue, body, while_form, for_form, form, stmt_in, stmt, stmts_more, nested_in};
 
 use crate::annotations::notes;
 use crate::assigning::simple;
@@ -40,9 +40,9 @@ pub fn begins_stmt(c: &Cursor) -> bool
 }
 
 /// A condition and the parentheses round it.
-#[tactic(auto, unfolding(crate::specs::Readers::test))]
-fn test(alloc: Global, c: &mut Cursor, depth: u32) -> Result<Expr, Stop>
-    ensures { Gave result c.new (test depth c.old) }
+#[tactic(auto, unfolding(crate::specs::Readers::loop_condition))]
+fn loop_condition(alloc: Global, c: &mut Cursor, depth: u32) -> Result<Expr, Stop>
+    ensures { Gave result c.new (loop_condition depth c.old) }
 {
     let (_open, inner) = c.open("(", depth)?;
     let cond = expr(alloc, c, inner)?;
@@ -193,7 +193,7 @@ fn while_form(alloc: Global, c: &mut Cursor, depth: u32) -> Result<(Span, StmtKi
 {
     let span = c.word("while")?;
     let prologue = prologue(alloc, c, depth)?;
-    let cond = test(alloc, c, depth)?;
+    let cond = loop_condition(alloc, c, depth)?;
     let body = body(alloc, c, depth)?;
     let kind = StmtKind::While {
         prologue,

@@ -1,2 +1,5 @@
 pub mod Sides
 pub mod Layers
+pub mod Naming
+pub mod Growing
+pub mod Spans

@@ -1,4 +1,5 @@
 pub mod Resolving
 pub mod Sides
-pub mod Constants
+pub mod Numbering
 pub mod Programs
+pub mod Tables

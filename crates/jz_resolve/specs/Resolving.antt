@@ -6,7 +6,7 @@ use Rattle.jz_tree.specs.declared.expr.Ty.{Ty}
 use Rattle.jz_tree.specs.declared.expr.Access.{Access}
 use Rattle.jz_tree.specs.declared.expr.Decl.{Decl}
 use Rattle.jz_tree.specs.declared.expr.Var.{Var}
-use Rattle.jz_tree.specs.declared.expr.Expr.TheOpen.{Expr-F, Ty-F, Var-F}
+use Rattle.jz_tree.specs.declared.expr.Expr.TheOpen.{Expr-F, Var-F}
 use Rattle.jz_tree.specs.declared.expr.Expr.TheViews.{out-Var, roll-Expr, roll-Ty, roll-Access, roll-Decl, roll-Var}
 use Rattle.jz_tree.specs.declared.expr.Expr.TheFolds.{fold-Expr, fold-Access, fold-Var}
 use Rattle.jz_tree.specs.declared.stmt.Lval.{Lval}

@@ -1,5 +1,9 @@
 pub mod Earliest
+pub mod Firsts
 mod Stacks
 mod CellLaws
 mod NestedLaws
-mod Lists
+pub mod Lists
+pub mod TableLaws
+pub mod UnknownLaws
+pub mod RepeatedLaws

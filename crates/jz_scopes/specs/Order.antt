@@ -1,5 +1,5 @@
 -- Places in a text, and the earliest of several.
-use Rattle.std.specs.Prelude.{ℕ, ◌<◌, ◌≤◌, ◌≡◌, ◌⊎◌, Bool, ◌&&◌, ◌||◌, nat_lt, nat_eq, if◌then◌else◌, List, [], ◌∷◌, Option, Some, None, Contains}
+use Rattle.std.specs.Prelude.{◌<◌, ◌≡◌, ◌⊎◌, Bool, ◌&&◌, ◌||◌, nat_lt, nat_eq, if◌then◌else◌, List, [], ◌∷◌, Option, Some, None}
 use Rattle.jz_io.specs.declared.span.Span.{Span}
 
 -- a stands before b in the text
@@ -24,6 +24,11 @@ earlier (Some x) (Some y) = if is_before y x then Some y else Some x
 abbrev pub earliest : List Span → Option Span
 earliest [] = None
 earliest (a ∷ as') = earlier (Some a) (earliest as')
+
+-- the earliest of the places of several items, item by item
+abbrev pub first_in : {A : Type 0} → (A → List Span) → List A → Option Span
+first_in places [] = None
+first_in places (a ∷ as') = earlier (earliest (places a)) (first_in places as')
 
 -- the place at which something stands, and before which nothing of the kind stands; none, where nothing of the kind stands anywhere
 pub data IsEarliest (Wrong : Span → Type 0) : Option Span → Type 0 where

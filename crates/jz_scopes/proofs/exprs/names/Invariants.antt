@@ -1,4 +1,4 @@
-use Rattle.std.proofs.Common.{◌≡◌, ◌++◌, map, ℕ}
+use Rattle.std.proofs.Common.{◌≡◌, ◌++◌, map}
 use Rattle.jz_scopes.specs.Scopes.{name_of}
 use Rattle.jz_scopes.specs.Parts.{names_in}
 use Rattle.jz_scopes.specs.Lent.{these, count_of, stacked}

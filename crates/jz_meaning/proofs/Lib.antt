@@ -1,0 +1,4 @@
+pub mod Counts
+pub mod Quotients
+pub mod StoreLemmas
+pub mod Widths

@@ -1,0 +1,44 @@
+-- The parts of a statement, one after another: each leaks numbers and gives something, or is stuck at a place for a reason.
+use Rattle.std.specs.Prelude.{ℕ, List, [], ◌++◌, Option, Some, None, Result, Ok, Err}
+use Rattle.jz_io.specs.declared.span.Span.{Span}
+use Rattle.jz_meaning.specs.declared.value.Value as code
+use Rattle.jz_meaning.specs.declared.value.Why.{Why}
+use Rattle.jz_meaning.specs.declared.value.Why.TheVariants.{Init}
+use Rattle.jz_meaning.specs.declared.value.Stuck.{Stuck}
+use Rattle.jz_meaning.specs.States.{Value, as_value}
+
+-- stuck for a reason W, or the numbers that were leaked and what came out
+pub data Attempt (W A : Type 0) : Type 0 where
+  stuck : W → Attempt W A
+  went : List ℕ → A → Attempt W A
+
+abbrev pub Evaluation : Type 0 → Type 0
+Evaluation A = Attempt Stuck A
+
+abbrev pub stuck_at : {A : Type 0} → Span → Why → Evaluation A
+stuck_at span why = stuck (record { span = span; why = why })
+
+-- these numbers first
+abbrev pub numbers_first : {A : Type 0} → List ℕ → Evaluation A → Evaluation A
+numbers_first ns (stuck w) = stuck w
+numbers_first ns (went ms x) = went (ns ++ ms) x
+
+-- one part, and then another with what came out
+abbrev pub and_then : {A B : Type 0} → Evaluation A → (A → Evaluation B) → Evaluation B
+and_then (stuck w) go = stuck w
+and_then (went ns x) go = numbers_first ns (go x)
+
+-- what is there, without numbers
+abbrev pub defined : {A : Type 0} → Span → Option A → Evaluation A
+defined at None = stuck_at at Init
+defined at (Some x) = went [] x
+
+-- what the code did: the numbers that it has, and its answer
+abbrev pub did : {A : Type 0} → List ℕ → Result A Stuck → Evaluation A
+did ns (Ok x) = went ns x
+did ns (Err k) = stuck k
+
+-- the same of a value
+abbrev pub seen : List ℕ → Result code.Value Stuck → Evaluation Value
+seen ns (Ok x) = went ns (as_value x)
+seen ns (Err k) = stuck k

@@ -1,0 +1,4 @@
+pub mod Attempts
+pub mod Operators
+pub mod States
+pub mod Stores

@@ -1,0 +1,57 @@
+-- The numbers of constants, and what is declared of a name in a function.
+use Rattle.std.specs.Prelude.{ℕ, ℤ, List, [], ◌∷◌, Option, None, is_none, option_map, option_and_then, if◌then◌else◌, ◌&&◌}
+use Rattle.std.specs.Str.{bytes_eq}
+use Rattle.jz_io.specs.declared.span.Span.{Span}
+use Rattle.jz_tree.specs.declared.expr.Storage.TheVariants as storage
+use Rattle.jz_tree.specs.declared.expr.Expr.{Expr}
+use Rattle.jz_tree.specs.declared.expr.Ty.TheVariants as ty
+use Rattle.jz_tree.specs.declared.expr.Decl.{Decl}
+use Rattle.jz_tree.specs.declared.expr.Var.{Var}
+use Rattle.jz_tree.specs.declared.expr.Expr.TheViews.{out-Var, roll-Decl}
+use Rattle.jz_tree.specs.declared.program.Const.{Const}
+use Rattle.jz_integers.specs.Integers.{inline_value, the_number}
+use Rattle.jz_scopes.specs.Scopes.{Name, variable_named, or_else}
+use Rattle.jz_scopes.specs.Names.{stands_above}
+
+-- ---- the values of constants, each by those before it
+abbrev pub Values : Type 0
+Values = List ℕ → Option ℤ
+
+-- the number of an expression of numbers and constants with these values
+abbrev pub value_with : Values → Expr → Option ℤ
+value_with known e = the_number (inline_value (λ n copy. known n) e)
+
+-- what is known, and else this of the name
+abbrev pub or_named : {A : Type 0} → (List ℕ → Option A) → List ℕ → Option A → List ℕ → Option A
+or_named known name a n = or_else (known n) (if bytes_eq n name then a else None)
+
+abbrev pub values_after : Values → List Const → Values
+values_after known [] = known
+values_after known (c ∷ cs) = values_after (or_named known c.name (value_with known c.value)) cs
+
+abbrev pub no_values : Values
+no_values n = None
+
+-- the first value that a constant of that name has
+abbrev pub values_of : List Const → Values
+values_of cs = values_after no_values cs
+
+-- the value of a length, which is built of numbers and constants
+abbrev pub length_of : List Const → Expr → Option ℤ
+length_of cs e = value_with (values_of cs) e
+
+-- ---- what is declared of a name among these variables and the constants, which are declared at these places
+abbrev pub Places : Type 0
+Places = List ℕ → Option Span
+
+-- a constant is an `inline int`
+abbrev pub constant_decl : Decl
+constant_decl = roll-Decl (record { storage = storage.Inline; ty = ty.Int })
+
+-- the declaration of the first variable of that name, else that of a constant
+abbrev pub declaration_in : Places → List Var → List ℕ → Option Decl
+declaration_in places vs n = or_else (option_and_then (λ v. (out-Var v).decl) (variable_named n vs)) (option_map (λ at. constant_decl) (places n))
+
+-- a name is a constant's below the constant, where no variable has that name
+abbrev pub number_in : Places → Values → List Var → Name → Option ℤ
+number_in places values vs n = if is_none (variable_named n.0 vs) && stands_above (places n.0) n.1 then values n.0 else None
