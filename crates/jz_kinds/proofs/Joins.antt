@@ -2,9 +2,9 @@
 use Rattle.std.proofs.Common.{◌≡◌, List, [], ◌∷◌, ◌++◌, Option, Some, None, refl, sym, ap, ◌∙◌}
 use Rattle.std.specs.Prelude.{flat_map}
 use Rattle.jz_io.specs.declared.span.Span.{Span}
-use Rattle.jz_scopes.specs.Order.{earlier, earliest}
+use Rattle.jz_scopes.specs.Order.{earlier, earliest, first_in}
 use Rattle.jz_scopes.proofs.Earliest.{earliest-append, earlier-assoc, none-earlier, earlier-none}
-use Rattle.jz_kinds.specs.Firsts.{wrong_beside, first_in, first_beside}
+use Rattle.jz_kinds.specs.Firsts.{wrong_beside, first_beside}
 
 pub earliest_in : {A : Type 0} (f : A → List Span) (xs : List A) → earliest (flat_map f xs) ≡ first_in f xs
 earliest_in f [] = refl

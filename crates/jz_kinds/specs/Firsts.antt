@@ -10,10 +10,6 @@ wrong_beside f more [] (b ∷ bs) = more b ++ wrong_beside f more [] bs
 wrong_beside f more (a ∷ as') (b ∷ bs) = f a b ++ wrong_beside f more as' bs
 
 -- ---- the earliest
-abbrev pub first_in : {A : Type 0} → (A → List Span) → List A → Option Span
-first_in f [] = None
-first_in f (a ∷ as') = earlier (earliest (f a)) (first_in f as')
-
 abbrev pub first_beside : {A B : Type 0} → (A → B → List Span) → (B → List Span) → List A → List B → Option Span
 first_beside f more as' [] = None
 first_beside f more [] (b ∷ bs) = earlier (earliest (more b)) (first_beside f more [] bs)

@@ -8,4 +8,6 @@ pub mod Values
 pub mod Signatures
 pub mod Intrinsics
 pub mod Calls
+pub mod Lengths
+pub mod Declaring
 pub mod Mismatches

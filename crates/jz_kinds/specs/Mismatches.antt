@@ -1,5 +1,5 @@
 -- The rule that types, sizes and counts agree.
-use Rattle.std.specs.Prelude.{ℕ, Bool, List, [], ◌++◌, Option, Some, None}
+use Rattle.std.specs.Prelude.{ℕ, ℤ, List, [], ◌++◌, flat_map, Option, Some, None}
 use Rattle.jz_io.specs.declared.span.Span.{Span}
 use Rattle.jz_tree.specs.declared.expr.BinOp.{BinOp}
 use Rattle.jz_tree.specs.declared.expr.Expr.{Expr}
@@ -7,25 +7,22 @@ use Rattle.jz_tree.specs.declared.expr.Var.{Var}
 use Rattle.jz_tree.specs.declared.stmt.Lval.{Lval}
 use Rattle.jz_tree.specs.declared.stmt.Rhs.{Rhs}
 use Rattle.jz_tree.specs.declared.stmt.Rhs.TheVariants as rhs
+use Rattle.jz_tree.specs.declared.stmt.Stmt.{Stmt}
 use Rattle.jz_tree.specs.declared.stmt.StmtKind.TheOpen.{StmtKind-F}
 use Rattle.jz_tree.specs.declared.program.Const.{Const}
 use Rattle.jz_tree.specs.declared.program.Fun.{Fun}
+use Rattle.jz_tree.specs.declared.program.Program.{Program}
 use Rattle.jz_scopes.specs.Order.{unless}
-use Rattle.jz_scopes.specs.Scopes.{name_of, function_named}
-use Rattle.jz_scopes.specs.Parts.{Layer}
+use Rattle.jz_scopes.specs.Scopes.{name_of, function_named, constant_place}
+use Rattle.jz_scopes.specs.Parts.{Layer, layer_of, statements_of}
 use Rattle.jz_scopes.specs.Kinds.{known_of, is_inline_int}
 use Rattle.jz_kinds.specs.declared.wants.Want.TheVariants as want
 use Rattle.jz_kinds.specs.Typings.{typing}
 use Rattle.jz_kinds.specs.Values.{value_wrong}
 use Rattle.jz_kinds.specs.Signatures.{signature}
 use Rattle.jz_kinds.specs.Intrinsics.{intrinsic_wrong}
-use Rattle.jz_kinds.specs.Calls.{call_wrong}
-
--- the function that a right side calls
-abbrev pub callee_of : List Fun → Rhs → Option Fun
-callee_of fs (rhs.Value e) = None
-callee_of fs (rhs.Call n args at) = function_named n fs
-callee_of fs (rhs.Intrinsic n args at) = None
+use Rattle.jz_kinds.specs.Calls.{call_wrong, returned_wrong}
+use Rattle.jz_kinds.specs.Lengths.{fun_lengths}
 
 abbrev pub right_wrong : Option Fun → List Lval → Option BinOp → Rhs → List Span
 right_wrong g to o (rhs.Value e) = value_wrong to o e
@@ -48,17 +45,43 @@ mismatched_with g (StmtKind-F.While p c b) = (typing c).wrong want.Truth
 mismatched_with g (StmtKind-F.For i from down to b) = head_wrong i from to
 mismatched_with g (StmtKind-F.Mark vs) = []
 
-abbrev pub callee_by : List Fun → Layer → Option Fun
-callee_by fs (StmtKind-F.Assign to o from cond) = callee_of fs from
-callee_by fs (StmtKind-F.If c a b) = None
-callee_by fs (StmtKind-F.While p c b) = None
-callee_by fs (StmtKind-F.For i from down to b) = None
-callee_by fs (StmtKind-F.Mark vs) = None
-
--- of a statement of a program that has these functions
-abbrev pub mismatched_by : List Fun → Layer → List Span
-mismatched_by fs k = mismatched_with (callee_by fs k) k
-
 -- of a constant, which is an integer
 abbrev pub constant_wrong : Const → List Span
 constant_wrong c = (typing c.value).wrong want.Int
+
+-- ---- with the functions by their names
+abbrev pub Named : Type 0
+Named = List ℕ → Option Fun
+
+abbrev pub callee_from : Named → Rhs → Option Fun
+callee_from named (rhs.Value e) = None
+callee_from named (rhs.Call n args at) = named n
+callee_from named (rhs.Intrinsic n args at) = None
+
+abbrev pub callee_where : Named → Layer → Option Fun
+callee_where named (StmtKind-F.Assign to o from cond) = callee_from named from
+callee_where named (StmtKind-F.If c a b) = None
+callee_where named (StmtKind-F.While p c b) = None
+callee_where named (StmtKind-F.For i from down to b) = None
+callee_where named (StmtKind-F.Mark vs) = None
+
+abbrev pub stmt_wrong : Named → Stmt → List Span
+stmt_wrong named s = mismatched_with (callee_where named (layer_of s)) (layer_of s)
+
+-- of a function: what it returns, and its statements
+abbrev pub body_wrong : Named → Fun → List Span
+body_wrong named f = returned_wrong f ++ flat_map (stmt_wrong named) (statements_of f.body)
+
+-- the function of that name in a program
+abbrev pub among : List Fun → Named
+among fs n = function_named n fs
+
+-- of a statement of a program that has these functions
+abbrev pub mismatched_by : List Fun → Layer → List Span
+mismatched_by fs k = mismatched_with (callee_where (among fs) k) k
+
+-- ---- of a program: of the program as it was read its constants and the lengths of its arrays, and of the program whose
+-- variables have their declarations its functions
+abbrev pub mismatched_in : (Expr → Option ℤ) → Program → Program → List Span
+mismatched_in length_of p q =
+    flat_map constant_wrong p.consts ++ flat_map (fun_lengths (constant_place p.consts) length_of) p.funs ++ flat_map (body_wrong (among q.funs)) q.funs

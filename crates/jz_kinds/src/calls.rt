@@ -2,68 +2,24 @@
 
 ghost use Rattle.std.specs.Prelude.{◌≡◌, None, Some, is_some};
 ghost use Rattle.jz_scopes.specs.Order.{earliest};
-ghost use Rattle.jz_scopes.specs.Kinds.{kind_of, written_length, same_storage, same_kind, array_of, whole_array, number_layer};
-ghost use Rattle.jz_tree.specs.declared.expr.Expr.TheViews.{out-Expr};
+ghost use Rattle.jz_scopes.specs.Kinds.{array_of, whole_array};
 ghost use Rattle.std.specs.Option.{option_copied};
 ghost use Rattle.jz_kinds.specs.Firsts.{first_beside};
 ghost use Rattle.jz_kinds.specs.Sides.{within, any_size};
 ghost use Rattle.jz_kinds.specs.Intrinsics.{none_more};
 ghost use Rattle.jz_kinds.specs.Calls.{same_length, same_decl, is_declared, is_that_array, passed_as, passed_wrong, takes_kind, takes_result, given_wrong, is_callee, fits_call, call_wrong, returned_one, none_beyond, returned_wrong};
 
-use crate::sides::{is_array, is_skip, takes, within_any};
-use crate::values::{span_of, within_all};
+use crate::sides::{is_skip, takes, within_any};
+use crate::values::within_all;
 use crate::walk::fault;
-use crate::wants::{Want, same_size};
+use crate::wants::Want;
 use jz_data::Seq;
 use jz_io::Span;
-use jz_scopes::{Kind, declaration, earlier_of, known, unless};
-use jz_tree::{Decl, Expr, Fun, FunKind, Lval, Param, Ret, Storage, Ty, Var};
-
-fn same_storage(a: Storage, b: Storage) -> bool
-    ensures { result ≡ same_storage a b }
-{
-    match a {
-        Storage::Reg => matches!(b, Storage::Reg),
-        Storage::Stack => matches!(b, Storage::Stack),
-        Storage::Inline => matches!(b, Storage::Inline),
-    }
-}
-
-fn same_kind(a: Kind, b: Kind) -> bool
-    ensures { result ≡ same_kind a b }
-{
-    match a {
-        Kind::Int => matches!(b, Kind::Int),
-        Kind::Truth => matches!(b, Kind::Truth),
-        Kind::Word(size) => match b {
-            Kind::Word(other) => same_size(size, other),
-            Kind::Int | Kind::Truth | Kind::Array(_) => false,
-        },
-        Kind::Array(size) => match b {
-            Kind::Array(other) => same_size(size, other),
-            Kind::Int | Kind::Truth | Kind::Word(_) => false,
-        },
-    }
-}
-
-fn number(e: &Expr) -> Option<i128>
-    ensures { result ≡ number_layer (out-Expr e.now) }
-{
-    match e {
-        Expr::Num(n, _) => Some(*n),
-        _ => None,
-    }
-}
-
-/// The length of an array, where it is written as a number.
-fn written_length(decl: &Decl) -> Option<i128>
-    ensures { result ≡ written_length decl.now }
-{
-    match &decl.ty {
-        Ty::Array(_, length) => number(length.get()),
-        _ => None,
-    }
-}
+use jz_scopes::{
+    Kind, declaration, earlier_of, is_array, known, same_kind, same_storage, span_of, unless,
+    written_length,
+};
+use jz_tree::{Decl, Expr, Fun, FunKind, Lval, Param, Ret, Var};
 
 fn same_length(a: Option<i128>, b: Option<i128>) -> bool
     ensures { result ≡ same_length a b }

@@ -2,27 +2,14 @@
 
 ghost use Rattle.std.specs.Prelude.{◌≡◌, Option};
 ghost use Rattle.jz_words.specs.declared.size.Size.{Size};
-ghost use Rattle.jz_scopes.specs.Kinds.{is_inline_int};
 ghost use Rattle.jz_kinds.specs.Wants.{or_size};
 ghost use Rattle.jz_kinds.specs.Found.{found};
 
 use crate::operators::{Group, group_of};
 use crate::wants::{cell_size, known_size, known_truth};
-use jz_scopes::{Declared, Kind, known};
-use jz_tree::{Expr, Storage};
+use jz_scopes::{is_inline_int, known};
+use jz_tree::Expr;
 use jz_words::Size;
-
-pub(crate) fn is_inline_int(known: Option<Declared>) -> bool
-    ensures { result ≡ is_inline_int known }
-{
-    match known {
-        None => true,
-        Some(declared) => match (declared.storage, declared.kind) {
-            (Storage::Inline, Kind::Int) => true,
-            _ => false,
-        },
-    }
-}
 
 /// The size, or where there is none the other's.
 #[tactic(auto, using(crate::proofs::OrSizes::or_sizes))]

@@ -8,14 +8,14 @@ ghost use Rattle.jz_kinds.specs.Signatures.{signature, signature_of};
 ghost use Rattle.jz_kinds.specs.Intrinsics.{role_want, valued, result_size, argument_size, size_of, argument_wrong, role_size, result_wrong, none_more, are_counted, instance_wrong, intrinsic_wrong};
 
 use crate::forms::or;
-use crate::sides::{is_array, left_form, takes, within, within_any};
+use crate::sides::{left_form, takes, within, within_any};
 use crate::signatures::{Role, operands_of, results_of};
 use crate::values::within_all;
 use crate::walk::{fault, form};
 use crate::wants::{Want, sized_want};
 use jz_data::Seq;
 use jz_io::Span;
-use jz_scopes::{earlier_of, known, unless};
+use jz_scopes::{earlier_of, is_array, known, unless};
 use jz_tree::{Expr, Instance, Lval, spelled};
 use jz_words::Size;
 

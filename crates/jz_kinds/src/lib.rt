@@ -4,7 +4,9 @@
 mod calls;
 mod forms;
 mod intrinsics;
+mod lengths;
 mod operators;
+mod programs;
 mod sides;
 mod signatures;
 mod statements;
@@ -13,7 +15,9 @@ mod walk;
 mod wants;
 
 pub use calls::returned_fault;
+pub use lengths::Lengths;
 pub use operators::Group;
+pub use programs::{mismatches, statement_fault};
 pub use signatures::Role;
 pub use statements::{constant_fault, mismatch};
 pub use wants::{Form, Want};

@@ -2,29 +2,17 @@
 
 ghost use Rattle.std.specs.Prelude.{◌≡◌};
 ghost use Rattle.jz_scopes.specs.Order.{earliest};
-ghost use Rattle.jz_scopes.specs.Kinds.{is_array};
 ghost use Rattle.jz_kinds.specs.Wants.{own_want, sized};
 ghost use Rattle.jz_kinds.specs.Sides.{left_form, left_wrong, left_span, set_want, within, any_size, is_skip, has_size, takes_form, takes, takes_word};
 
-use crate::forms::is_inline_int;
 use crate::walk::fault;
 use crate::wants::{
-    Form, Want, cell_size, fits_access, fits_cell, fits_known, known_size, known_truth, same_size,
-    sized_want,
+    Form, Want, cell_size, fits_access, fits_cell, fits_known, known_size, known_truth, sized_want,
 };
 use jz_io::Span;
-use jz_scopes::{Declared, Kind, earlier_of, known, unless};
+use jz_scopes::{earlier_of, is_array, is_inline_int, known, same_size, unless};
 use jz_tree::Lval;
 use jz_words::Size;
-
-pub(crate) fn is_array(known: Option<Declared>) -> bool
-    ensures { result ≡ is_array known }
-{
-    match known {
-        None => false,
-        Some(declared) => matches!(declared.kind, Kind::Array(_)),
-    }
-}
 
 fn of_size(size: Option<Size>) -> Form
     ensures { result ≡ sized size }

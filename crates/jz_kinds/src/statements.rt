@@ -7,14 +7,13 @@ ghost use Rattle.jz_scopes.specs.Parts.{layer_of};
 ghost use Rattle.jz_kinds.specs.Mismatches.{right_wrong, condition_wrong, head_wrong, mismatched_with, constant_wrong};
 
 use crate::calls::call_fault;
-use crate::forms::is_inline_int;
 use crate::intrinsics::intrinsic_fault;
 use crate::values::assigned_fault;
 use crate::walk::fault;
 use crate::wants::Want;
 use jz_data::Seq;
 use jz_io::Span;
-use jz_scopes::{earlier_of, known, unless};
+use jz_scopes::{earlier_of, is_inline_int, known, unless};
 use jz_tree::{BinOp, Const, Expr, Fun, Lval, Rhs, Stmt, StmtKind, Var};
 
 fn right_fault(callee: Option<&Fun>, to: &Seq<Lval>, op: Option<BinOp>, right: &Rhs) -> Option<Span>

@@ -3,7 +3,7 @@
 ghost use Rattle.std.specs.Prelude.{◌≡◌, Some};
 ghost use Rattle.jz_scopes.specs.Order.{earliest};
 ghost use Rattle.jz_scopes.specs.Parts.{span_of};
-ghost use Rattle.jz_kinds.specs.Firsts.{first_in};
+ghost use Rattle.jz_scopes.specs.Order.{first_in};
 ghost use Rattle.jz_kinds.specs.Operators.{bin_form, compared, group_size};
 ghost use Rattle.jz_kinds.specs.Typings.{left_want, right_want};
 ghost use Rattle.jz_kinds.specs.Sides.{within, any_size};
@@ -16,7 +16,7 @@ use crate::walk::{fault, form};
 use crate::wants::{Form, Want, sized_want};
 use jz_data::Seq;
 use jz_io::Span;
-use jz_scopes::{earlier_of, unless};
+use jz_scopes::{earlier_of, span_of, unless};
 use jz_tree::{BinOp, Expr, Lval};
 use jz_words::Size;
 
@@ -127,28 +127,6 @@ fn is_product(op: Option<BinOp>, e: &Expr) -> bool
     match op {
         None => matches!(e, Expr::Bin(BinOp::Mul, _, _, _)),
         Some(op) => is_mul(op),
-    }
-}
-
-/// The first token of an expression.
-pub(crate) fn span_of(e: &Expr) -> Span
-    ensures { result ≡ span_of e.now }
-{
-    match e {
-        Expr::Num(_, at) => *at,
-        Expr::Bool(_, at) => *at,
-        Expr::Var(var) => var.span,
-        Expr::Cell(var, _) => var.span,
-        Expr::Load(access) => access.span,
-        Expr::Neg(_, at) => *at,
-        Expr::Not(_, at) => *at,
-        Expr::Cast {
-            size: _,
-            signed: _,
-            e: _,
-            span: at,
-        } => *at,
-        Expr::Bin(_, _, _, at) => *at,
     }
 }
 

@@ -1,10 +1,9 @@
 //! What a place wants, and what fits it.
 
 ghost use Rattle.std.specs.Prelude.{◌≡◌};
-ghost use Rattle.jz_scopes.specs.Kinds.{same_size};
 ghost use Rattle.jz_kinds.specs.Wants.{fits_int, fits_truth, fits_word, fits_access, fits_known, fits_cell, known_size, cell_size, known_truth, sized_want};
 
-use jz_scopes::{Declared, Kind};
+use jz_scopes::{Declared, Kind, same_size};
 use jz_words::Size;
 
 /// What a place wants.
@@ -31,12 +30,6 @@ pub struct Form {
     pub truth: bool,
     /// Whether its value is known when the text is compiled.
     pub inline: bool,
-}
-
-pub(crate) fn same_size(a: Size, b: Size) -> bool
-    ensures { result ≡ same_size a b }
-{
-    a.bits() == b.bits()
 }
 
 pub(crate) fn fits_int(want: Want) -> bool

@@ -1,6 +1,5 @@
 use Rattle.std.proofs.Common.{◌≡◌, drop}
-use Rattle.jz_scopes.specs.Order.{earlier}
-use Rattle.jz_kinds.specs.Firsts.{first_in}
+use Rattle.jz_scopes.specs.Order.{earlier, first_in}
 use Rattle.jz_kinds.specs.Sides.{within, any_size}
 use Rattle.jz_kinds.proofs.values.within_all.Given as goal
 

@@ -1,0 +1,207 @@
+//! The lengths of arrays.
+
+ghost use Rattle.std.specs.Prelude.{◌≡◌, IfOk, map, Option, Some};
+ghost use Rattle.jz_scopes.specs.Order.{earliest};
+ghost use Rattle.jz_scopes.specs.Scopes.{name_of};
+ghost use Rattle.jz_scopes.specs.Parts.{names_in};
+ghost use Rattle.jz_scopes.specs.Lent.{these};
+ghost use Rattle.jz_scopes.specs.Order.{first_in};
+ghost use Rattle.jz_kinds.specs.Lengths.{is_length, no_constant, unbuilt, length_wrong, decl_wrong, is_apart, fun_lengths};
+ghost use Rattle.jz_scopes.specs.Tables.{place_in};
+ghost use Rattle.jz_kinds.specs.Declaring.{declared_by, param_wrong, ret_wrong, var_wrong};
+
+use crate::walk::fault;
+use crate::wants::Want;
+use jz_io::Span;
+use jz_scopes::{Places, earlier_of, length_of, names, span_of, unless};
+use jz_tree::{Decl, Expr, Fun, Param, Ret, Var};
+use std::alloc::{AllocError, Global};
+
+/// What lengths are, as far as they have values.
+pub trait Lengths {
+    ghost use Rattle.std.specs.Prelude.{◌≡◌, ℤ, Option, IfOk};
+    ghost use Rattle.jz_tree.specs.declared.expr.Expr.{Expr};
+
+    ghost length_of: { Self → Expr → Option ℤ };
+
+    /// The number that a length is, if it has a value.
+    fn length(&self, alloc: Global, e: &Expr) -> Result<Option<i128>, AllocError>
+        ensures { IfOk result (λ n. n ≡ length_of self.now e.now) };
+}
+
+fn is_length(length: Option<i128>) -> bool
+    ensures { result ≡ is_length length }
+{
+    match length {
+        None => false,
+        Some(n) => 1 <= n && n <= 65536,
+    }
+}
+
+fn no_constant(constants: &Places, variables: &Places, var: &Var) -> Option<Span>
+    ensures { result ≡ earliest (no_constant (is_apart (place_in constants.now) (place_in variables.now)) (name_of var.now)) }
+{
+    let constant = variables.place(&var.name).is_none() && constants.place(&var.name).is_some();
+    unless(constant, var.span)
+}
+
+fn no_constants(constants: &Places, variables: &Places, vars: &[&Var]) -> Option<Span>
+    ensures { result ≡ first_in (no_constant (is_apart (place_in constants.now) (place_in variables.now))) (map name_of (these vars.now)) }
+{
+    let mut first = None;
+    for var in vars {
+        first = earlier_of(first, no_constant(constants, variables, var));
+    }
+    first
+}
+
+#[tactic(auto, using(crate::proofs::Joins::joins))]
+fn unbuilt(
+    alloc: Global,
+    constants: &Places,
+    variables: &Places,
+    e: &Expr,
+) -> Result<Option<Span>, AllocError>
+    ensures { IfOk result (λ r. r ≡ earliest (unbuilt (is_apart (place_in constants.now) (place_in variables.now)) e.now)) }
+{
+    let vars = names(alloc, e)?;
+    let other = no_constants(constants, variables, vars.as_slice());
+    Ok(earlier_of(fault(e, Want::Int), other))
+}
+
+#[tactic(auto, using(crate::proofs::Joins::joins))]
+fn length_fault<L: Lengths>(
+    alloc: Global,
+    lengths: &L,
+    constants: &Places,
+    variables: &Places,
+    e: &Expr,
+) -> Result<Option<Span>, AllocError>
+    ensures { IfOk result (λ r. r ≡ earliest (length_wrong (is_apart (place_in constants.now) (place_in variables.now)) (L.length_of lengths.now) e.now)) }
+{
+    let other = unbuilt(alloc, constants, variables, e)?;
+    let length = lengths.length(alloc, e)?;
+    let own = unless(other.is_some() || is_length(length), span_of(e));
+    Ok(earlier_of(other, own))
+}
+
+#[tactic(auto, using(crate::proofs::Joins::joins))]
+fn decl_fault<L: Lengths>(
+    alloc: Global,
+    lengths: &L,
+    constants: &Places,
+    variables: &Places,
+    decl: &Decl,
+) -> Result<Option<Span>, AllocError>
+    ensures { IfOk result (λ r. r ≡ earliest (decl_wrong (is_apart (place_in constants.now) (place_in variables.now)) (L.length_of lengths.now) decl.now)) }
+{
+    match length_of(decl) {
+        None => Ok(None),
+        Some(e) => {
+            let found = length_fault(alloc, lengths, constants, variables, e)?;
+            Ok(found)
+        }
+    }
+}
+
+#[tactic(auto, using(crate::proofs::Joins::joins))]
+fn var_fault<L: Lengths>(
+    alloc: Global,
+    lengths: &L,
+    constants: &Places,
+    variables: &Places,
+    var: &Var,
+) -> Result<Option<Span>, AllocError>
+    ensures { IfOk result (λ r. r ≡ earliest (var_wrong (is_apart (place_in constants.now) (place_in variables.now)) (L.length_of lengths.now) var.now)) }
+{
+    match &var.decl {
+        None => Ok(None),
+        Some(decl) => {
+            let found = decl_fault(alloc, lengths, constants, variables, decl)?;
+            Ok(found)
+        }
+    }
+}
+
+fn params_fault<L: Lengths>(
+    alloc: Global,
+    lengths: &L,
+    constants: &Places,
+    variables: &Places,
+    params: &[Param],
+) -> Result<Option<Span>, AllocError>
+    ensures { IfOk result (λ r. r ≡ first_in (param_wrong (is_apart (place_in constants.now) (place_in variables.now)) (L.length_of lengths.now)) params.now) }
+{
+    let mut first = None;
+    for param in params {
+        first = earlier_of(
+            first,
+            var_fault(alloc, lengths, constants, variables, &param.var)?,
+        );
+    }
+    Ok(first)
+}
+
+fn rets_fault<L: Lengths>(
+    alloc: Global,
+    lengths: &L,
+    constants: &Places,
+    variables: &Places,
+    rets: &[Ret],
+) -> Result<Option<Span>, AllocError>
+    ensures { IfOk result (λ r. r ≡ first_in (ret_wrong (is_apart (place_in constants.now) (place_in variables.now)) (L.length_of lengths.now)) rets.now) }
+{
+    let mut first = None;
+    for ret in rets {
+        first = earlier_of(
+            first,
+            decl_fault(alloc, lengths, constants, variables, &ret.decl)?,
+        );
+    }
+    Ok(first)
+}
+
+fn vars_fault<L: Lengths>(
+    alloc: Global,
+    lengths: &L,
+    constants: &Places,
+    variables: &Places,
+    vars: &[Var],
+) -> Result<Option<Span>, AllocError>
+    ensures { IfOk result (λ r. r ≡ first_in (var_wrong (is_apart (place_in constants.now) (place_in variables.now)) (L.length_of lengths.now)) vars.now) }
+{
+    let mut first = None;
+    for var in vars {
+        first = earlier_of(first, var_fault(alloc, lengths, constants, variables, var)?);
+    }
+    Ok(first)
+}
+
+fn declared_fault<L: Lengths>(
+    alloc: Global,
+    lengths: &L,
+    constants: &Places,
+    variables: &Places,
+    fun: &Fun,
+) -> Result<Option<Span>, AllocError>
+    ensures { IfOk result (λ r. r ≡ declared_by (is_apart (place_in constants.now) (place_in variables.now)) (L.length_of lengths.now) fun.now) }
+{
+    let params = params_fault(alloc, lengths, constants, variables, fun.params.as_slice())?;
+    let rets = rets_fault(alloc, lengths, constants, variables, fun.rets.as_slice())?;
+    let vars = vars_fault(alloc, lengths, constants, variables, fun.vars.as_slice())?;
+    Ok(earlier_of(params, earlier_of(rets, vars)))
+}
+
+/// The first length of an array in a function that is no number from 1 to 65,536 built of numbers and constants.
+pub(crate) fn lengths_fault<L: Lengths>(
+    alloc: Global,
+    lengths: &L,
+    constants: &Places,
+    fun: &Fun,
+) -> Result<Option<Span>, AllocError>
+    ensures { IfOk result (λ r. r ≡ earliest (fun_lengths (place_in constants.now) (L.length_of lengths.now) fun.now)) }
+{
+    let variables = Places::of_variables(alloc, fun)?;
+    let found = declared_fault(alloc, lengths, constants, &variables, fun)?;
+    Ok(found)
+}
