@@ -9,7 +9,7 @@ pub next_item : {X A : Type 0} (f : X → List A) (out whole : List A) (xs : Lis
     → i < length xs → x ≡ get_or xs i x → out ++ flat_map f (drop i xs) ≡ whole → (out ++ f x) ++ flat_map f (drop (i + 1) xs) ≡ whole
 next_item f out whole xs i x lt e h =
     let step : flat_map f (drop i xs) ≡ f x ++ flat_map f (drop (suc i) xs) =
-        ap (flat_map f) (drop-cons xs i x lt) ∙ ap (λ y. f y ++ flat_map f (drop (suc i) xs)) (sym e)
+    ap (flat_map f) (drop-cons xs i x lt) ∙ ap (λ y. f y ++ flat_map f (drop (suc i) xs)) (sym e)
     in let one : i + 1 ≡ suc i = omega arith
     in ap (λ j. (out ++ f x) ++ flat_map f (drop j xs)) one ∙ (append_assoc out (f x) _ ∙ (ap (λ l. out ++ l) (sym step) ∙ h))
 

@@ -23,10 +23,10 @@ pub one_turn : {A : Type 0} (f : Expr → List A) (done more whole : List A) (xs
     → done ++ stacked f (xs ++ e ∷ []) ≡ whole → f e ≡ more ++ flat_map f (this a ++ this b) → (done ++ more) ++ stacked f ((xs ++ this b) ++ this a) ≡ whole
 one_turn f done more whole xs e a b h k =
     let left : stacked f ((xs ++ this b) ++ this a) ≡ flat_map f (this a ++ this b) ++ stacked f xs =
-        stacked-append f (xs ++ this b) (this a) ∙ (ap (λ l. stacked f (this a) ++ l) (stacked-append f xs (this b))
-        ∙ (sym (append_assoc (stacked f (this a)) (stacked f (this b)) (stacked f xs)) ∙ ap (λ l. l ++ stacked f xs) (stacked-this f a b)))
+    stacked-append f (xs ++ this b) (this a) ∙ (ap (λ l. stacked f (this a) ++ l) (stacked-append f xs (this b))
+    ∙ (sym (append_assoc (stacked f (this a)) (stacked f (this b)) (stacked f xs)) ∙ ap (λ l. l ++ stacked f xs) (stacked-this f a b)))
     in let both : more ++ (flat_map f (this a ++ this b) ++ stacked f xs) ≡ stacked f (xs ++ e ∷ []) =
-        sym (append_assoc more _ (stacked f xs)) ∙ (ap (λ l. l ++ stacked f xs) (sym k) ∙ sym (stacked-append f xs (e ∷ [])))
+    sym (append_assoc more _ (stacked f xs)) ∙ (ap (λ l. l ++ stacked f xs) (sym k) ∙ sym (stacked-append f xs (e ∷ [])))
     in ap (λ l. (done ++ more) ++ l) left ∙ (append_assoc done more _ ∙ (ap (λ l. done ++ l) both ∙ h))
 
 count-this : (a b : Option (Bor Expr)) → count_of (this a ++ this b) ≡ count_of (this a) + count_of (this b)

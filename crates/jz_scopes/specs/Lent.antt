@@ -21,6 +21,10 @@ this (Some x) = x.now ∷ []
 abbrev pub paired : {A B : Type 0} → List (Bor A × Bor B) → List (A × B)
 paired xs = map (λ x. (x.0.now, x.1.now)) xs
 
+-- names that references refer to, each with its place
+abbrev pub these_names : List (Bor (List ℕ) × Span) → List Name
+these_names ns = map (λ n. (n.0.now, n.1)) ns
+
 -- a name that a reference refers to, with its place, if there is one
 abbrev pub call_of : Option (Bor (List ℕ) × Span) → List Name
 call_of None = []

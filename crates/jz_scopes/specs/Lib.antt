@@ -3,5 +3,6 @@ pub mod Scopes
 pub mod Parts
 pub mod Lent
 pub mod Nested
+pub mod Tables
 pub mod Kinds
 pub mod Names

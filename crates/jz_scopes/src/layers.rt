@@ -136,7 +136,7 @@ pub fn exprs_of(alloc: Global, stmt: &Stmt) -> Result<Vec<&Expr>, AllocError>
     }
 }
 
-fn add_names<'a>(
+pub(crate) fn add_names<'a>(
     alloc: Global,
     list: &mut Vec<&'a Var>,
     expr: &'a Expr,
@@ -266,10 +266,7 @@ pub fn cells_set(alloc: Global, stmt: &Stmt) -> Result<Vec<(&Var, &Expr)>, Alloc
     }
 }
 
-fn add_left_cell<'a>(
-    list: &mut Vec<(&'a Var, &'a Expr)>,
-    to: &'a Lval,
-) -> Result<(), AllocError>
+fn add_left_cell<'a>(list: &mut Vec<(&'a Var, &'a Expr)>, to: &'a Lval) -> Result<(), AllocError>
     ensures { OnOk result (paired list.new.items ≡ paired list.old.items ++ left_cells to.now) }
 {
     match to {
@@ -291,4 +288,15 @@ fn add_cells_set<'a>(
         add_left_cell(list, lval)?;
     }
     Ok(())
+}
+
+/// The variables of a list, by reference.
+pub(crate) fn refs(alloc: Global, vars: &Seq<Var>) -> Result<Vec<&Var>, AllocError>
+    ensures { IfOk result (λ vs. these vs.items ≡ vars.now) }
+{
+    let mut list = Vec::new(alloc);
+    for var in vars.as_slice() {
+        list.push(var)?;
+    }
+    Ok(list)
 }

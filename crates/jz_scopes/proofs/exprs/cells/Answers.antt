@@ -19,4 +19,4 @@ loop-e-preserved c =
     let parts = c.take_apart-parts.result
     in rw (rested c, c.in_ok-add_cell.ensures)
     (one_turn cells_in (paired c.loop-e.cells.items) (own_cell parts.var parts.first) (cells_in c.args.expr.now) (these c.pop.new.self.items) c.in-Some.e.now parts.first parts.second
-      (rw (sym (popped c)) c.loop-e.invariant) c.take_apart-parts.ensures.cells)
+    (rw (sym (popped c)) c.loop-e.invariant) c.take_apart-parts.ensures.cells)

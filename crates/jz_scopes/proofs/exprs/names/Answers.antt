@@ -20,4 +20,4 @@ loop-e-preserved c =
     let parts = c.take_apart-parts.result
     in rw (rested c, c.in_ok-add.ensures, map-append name_of (these c.loop-e.names.items) (this parts.var))
     (one_turn names_in (map name_of (these c.loop-e.names.items)) (map name_of (this parts.var)) (names_in c.args.expr.now) (these c.pop.new.self.items) c.in-Some.e.now parts.first parts.second
-      (rw (sym (popped c)) c.loop-e.invariant) c.take_apart-parts.ensures.names)
+    (rw (sym (popped c)) c.loop-e.invariant) c.take_apart-parts.ensures.names)
