@@ -2,11 +2,15 @@
 use Rattle.std.specs.Prelude.{ℕ, ◌+◌, Bool, ◌&&◌, if◌then◌else◌, List, [], ◌∷◌, map, flat_map, Option, Some, None, option_map}
 use Rattle.std.specs.List.{list_any}
 use Rattle.std.specs.Str.{bytes_eq}
+use Rattle.jz_tree.specs.declared.expr.Expr.{Expr}
+use Rattle.jz_tree.specs.declared.expr.Expr.TheVariants as expr
 use Rattle.jz_tree.specs.declared.expr.Var.{Var}
-use Rattle.jz_tree.specs.declared.expr.Expr.TheViews.{out-Var}
+use Rattle.jz_tree.specs.declared.expr.Expr.TheViews.{out-Var, roll-Var}
 use Rattle.jz_tree.specs.declared.program.Fun.{Fun}
 use Rattle.jz_tree.specs.declared.program.Param.{Param}
 use Rattle.jz_tree.specs.declared.stmt.Stmt.{Stmt}
+use Rattle.jz_tree.specs.declared.stmt.Lval.{Lval}
+use Rattle.jz_tree.specs.declared.stmt.Lval.TheVariants as lval
 use Rattle.jz_tree.specs.declared.stmt.Rhs.TheVariants as rhs
 use Rattle.jz_tree.specs.declared.stmt.StmtKind.TheOpen.{StmtKind-F}
 use Rattle.jz_scopes.specs.Scopes.{function_named}
@@ -40,11 +44,23 @@ names_set g = map text_of (set_in g.body)
 abbrev pub is_written : List (List ℕ) → Param → Bool
 is_written names p = is_array (known_of p.var) && list_any (bytes_eq (name_of_param p)) names
 
+-- a variable of the callee, which is none of the caller's whatever its name
+abbrev pub of_callee : Var → Var
+of_callee v = roll-Var (record (out-Var v) { copy = 1 })
+
+abbrev pub entered_by : Param → Lval
+entered_by p = lval.Var (of_callee p.var)
+
+abbrev pub left_by : Var → Expr
+left_by v = expr.Var (of_callee v)
+
 abbrev pub callee_of : Fun → Callee
 callee_of g = record {
   kind = g.kind;
   written = map (is_written (names_set g)) g.params;
   returned = map (param_of g) g.result;
+  entered = map entered_by g.params;
+  left = map left_by g.result;
 }
 
 -- the function that a statement calls

@@ -109,11 +109,15 @@ abbrev pub passed_wrongly : Callee → List Lval → List Expr → List Span
 passed_wrongly g to args =
     flat_map (not_back g.written (numbers_back args (given g to))) (passed_from 0 args) ++ passed_twice g.written [] (passed_from 0 args)
 
--- an array is passed to an inline function only; of an unknown function nothing is asked
+-- an array is passed to an inline function only
+abbrev pub wrong_arguments : Callee → List Lval → List Expr → List Span
+wrong_arguments g to args = if is_exported g.kind then flat_map array_arg args else passed_wrongly g to args
+
+-- of an unknown function nothing is asked
 abbrev pub copied_by_call : Option Callee → List Lval → List Expr → List Span
 copied_by_call None to args = []
 copied_by_call (Some g) to args =
-    flat_map (not_passed args) (given g to) ++ (if is_exported g.kind then flat_map array_arg args else passed_wrongly g to args)
+    flat_map (not_passed args) (given g to) ++ wrong_arguments g to args
 
 -- no array is assigned, and none is given to an intrinsic
 abbrev pub copied : Option Callee → Layer → List Span

@@ -1,6 +1,6 @@
 //! Where a statement would have to copy an array.
 
-ghost use Rattle.std.specs.Prelude.{◌≡◌, ℕ, ◌++◌, List, map, option_to_list, IfOk, OnOk};
+ghost use Rattle.std.specs.Prelude.{◌≡◌, ℕ, ◌++◌, List, map, flat_map, option_to_list, Some, IfOk, OnOk};
 ghost use Rattle.std.specs.Option.{option_copied};
 ghost use Rattle.jz_scopes.specs.Order.{earliest};
 ghost use Rattle.jz_scopes.specs.Parts.{layer_of};
@@ -9,9 +9,9 @@ ghost use Rattle.jz_rules.specs.Joining.{first_in};
 ghost use Rattle.jz_rules.specs.Pairs.{pair_of};
 ghost use Rattle.jz_rules.specs.Passing.{passed_of};
 ghost use Rattle.jz_rules.specs.Tables.{HasNumbers};
-ghost use Rattle.jz_rules.specs.Copies.{passed_as, is_one, not_passed, gets_back, numbers_back, is_written_at, passed_at, passed_from, not_back, given, passed_wrongly, copied_by_call, copied};
+ghost use Rattle.jz_rules.specs.Copies.{passed_as, is_one, not_passed, gets_back, numbers_back, is_written_at, passed_at, passed_from, not_back, given, passed_wrongly, wrong_arguments, copied_by_call, copied, array_arg, array_left};
 
-use crate::arrays::{array_args, array_lefts, array_of, whole_array};
+use crate::arrays::{array_args, array_lefts};
 use crate::callee::Callee;
 use crate::exports::is_exported;
 use crate::pairs::{Pair, pairs};
@@ -19,7 +19,7 @@ use crate::tables::Numbers;
 use crate::twice::passed_twice;
 use jz_data::Seq;
 use jz_io::Span;
-use jz_scopes::{earlier_of, unless};
+use jz_scopes::{array_of, earlier_of, unless, whole_array};
 use jz_tree::{Expr, Lval, Rhs, Stmt, StmtKind, Var};
 use std::alloc::{AllocError, Global};
 
@@ -155,24 +155,50 @@ fn not_back_among(callee: &Callee, back: &Numbers, passed: &[Argument<'_>]) -> O
     first
 }
 
-#[tactic(auto, using(crate::proofs::Joins::joining))]
 fn passed_wrongly(
     alloc: Global,
     callee: &Callee,
-    given: &[Pair<'_, Option<usize>, Lval>],
+    results: &[Pair<'_, Option<usize>, Lval>],
     args: &Seq<Expr>,
 ) -> Result<Option<Span>, AllocError>
-    ensures { (to : List Lval) → map pair_of given.now ≡ given callee.now to → IfOk result (λ at. at ≡ earliest (passed_wrongly callee.now to args.now)) }
+    ensures { (to : List Lval) → map pair_of results.now ≡ given callee.now to → IfOk result (λ at. at ≡ earliest (passed_wrongly callee.now to args.now)) }
 {
     let passed = passed(alloc, args)?;
-    let numbers = numbers_back(alloc, args, given)?;
+    let numbers = numbers_back(alloc, args, results)?;
     let back = Numbers::of(alloc, &numbers)?;
     let not_back = not_back_among(callee, &back, &passed);
     let twice = passed_twice(alloc, callee, &passed)?;
     Ok(earlier_of(not_back, twice))
 }
 
-#[tactic(auto, using(crate::proofs::Joins::joining))]
+fn wrong_arguments(
+    alloc: Global,
+    callee: &Callee,
+    results: &[Pair<'_, Option<usize>, Lval>],
+    args: &Seq<Expr>,
+) -> Result<Option<Span>, AllocError>
+    ensures { (to : List Lval) → map pair_of results.now ≡ given callee.now to → IfOk result (λ at. at ≡ earliest (wrong_arguments callee.now to args.now)) }
+{
+    if is_exported(callee.kind) {
+        Ok(array_args(args))
+    } else {
+        passed_wrongly(alloc, callee, results, args)
+    }
+}
+
+fn copied_with(
+    alloc: Global,
+    callee: &Callee,
+    to: &Seq<Lval>,
+    args: &Seq<Expr>,
+) -> Result<Option<Span>, AllocError>
+    ensures { IfOk result (λ at. at ≡ earliest (copied_by_call (Some callee.now) to.now args.now)) }
+{
+    let results = pairs(alloc, callee.returned.as_slice(), to.as_slice())?;
+    let arguments = wrong_arguments(alloc, callee, &results, args)?;
+    Ok(earlier_of(not_passed_among(args, &results), arguments))
+}
+
 fn copied_by_call(
     alloc: Global,
     callee: Option<&Callee>,
@@ -181,24 +207,23 @@ fn copied_by_call(
 ) -> Result<Option<Span>, AllocError>
     ensures { IfOk result (λ at. at ≡ earliest (copied_by_call (option_copied callee.entry) to.now args.now)) }
 {
-    let Some(callee) = callee else {
-        return Ok(None);
-    };
-    let given = pairs(alloc, callee.returned.as_slice(), to.as_slice())?;
-    let results = not_passed_among(args, &given);
-    let arguments = if is_exported(callee.kind) {
-        array_args(args)
-    } else {
-        passed_wrongly(alloc, callee, &given, args)?
-    };
-    Ok(earlier_of(results, arguments))
+    match callee {
+        None => Ok(None),
+        Some(callee) => copied_with(alloc, callee, to, args),
+    }
+}
+
+#[tactic(auto, using(crate::proofs::Joins::joining))]
+fn given_to_intrinsic(to: &Seq<Lval>, args: &Seq<Expr>) -> Option<Span>
+    ensures { result ≡ earliest (flat_map array_left to.now ++ flat_map array_arg args.now) }
+{
+    earlier_of(array_lefts(to), array_args(args))
 }
 
 /// The first name at which a statement would have to copy an array: it assigns an array, or passes one to an intrinsic
 /// or to an export function; an array that the callee writes is not given back to the same variable, or is passed twice;
 /// what is given back is not the array that was passed. Of a call the function is given; where there is none nothing is
 /// asked.
-#[tactic(auto, using(crate::proofs::Joins::joining))]
 pub fn copied(
     alloc: Global,
     callee: Option<&Callee>,
@@ -217,6 +242,6 @@ pub fn copied(
     match rhs {
         Rhs::Value(_) => Ok(array_lefts(to)),
         Rhs::Call(_, args, _) => copied_by_call(alloc, callee, to, args),
-        Rhs::Intrinsic(_, args, _) => Ok(earlier_of(array_lefts(to), array_args(args))),
+        Rhs::Intrinsic(_, args, _) => Ok(given_to_intrinsic(to, args)),
     }
 }

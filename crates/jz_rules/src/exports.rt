@@ -3,15 +3,13 @@
 ghost use Rattle.std.specs.Prelude.{◌≡◌};
 ghost use Rattle.std.specs.List.{list_all};
 ghost use Rattle.jz_scopes.specs.Order.{earliest};
-ghost use Rattle.jz_scopes.specs.Kinds.{same_storage, is_word_kind, is_register_word};
-ghost use Rattle.jz_tree.specs.declared.expr.Storage.TheVariants as storage;
 ghost use Rattle.jz_rules.specs.Joining.{first_in};
 ghost use Rattle.jz_rules.specs.Exports.{is_exported, is_word_param, is_word_result, has_shape, misshapen, is_precondition, annotated_by, annotated};
 
 use jz_data::Seq;
 use jz_io::Span;
-use jz_scopes::{Declared, Kind, declaration, earlier_of, known, unless};
-use jz_tree::{Fun, FunKind, Note, Param, Ret, Storage};
+use jz_scopes::{declaration, earlier_of, is_register_word, known, unless};
+use jz_tree::{Fun, FunKind, Note, Param, Ret};
 
 pub(crate) fn is_exported(kind: FunKind) -> bool
     ensures { result ≡ is_exported kind }
@@ -19,36 +17,6 @@ pub(crate) fn is_exported(kind: FunKind) -> bool
     match kind {
         FunKind::Inline => false,
         FunKind::Export => true,
-    }
-}
-
-fn is_register(it: Storage) -> bool
-    ensures { result ≡ same_storage it storage.Reg }
-{
-    match it {
-        Storage::Reg => true,
-        Storage::Stack => false,
-        Storage::Inline => false,
-    }
-}
-
-fn is_word_kind(kind: Kind) -> bool
-    ensures { result ≡ is_word_kind kind }
-{
-    match kind {
-        Kind::Int => false,
-        Kind::Truth => false,
-        Kind::Word(_) => true,
-        Kind::Array(_) => false,
-    }
-}
-
-fn is_register_word(known: Option<Declared>) -> bool
-    ensures { result ≡ is_register_word known }
-{
-    match known {
-        None => false,
-        Some(declared) => is_register(declared.storage) && is_word_kind(declared.kind),
     }
 }
 

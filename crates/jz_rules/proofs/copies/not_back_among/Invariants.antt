@@ -9,4 +9,4 @@ use Rattle.jz_rules.proofs.copies.not_back_among.Given as goal
 abbrev pub invariant-loop-one : goal.invariant-loop-one
 invariant-loop-one l =
     (ns : List ℕ) → HasNumbers l.back ns
-    → earlier l.first (first_in (not_back l.callee.written ns) (map passed_of (drop l.one-index l.one-items))) ≡ first_in (not_back l.callee.written ns) (map passed_of l.fn.passed)
+    → earlier l.first (first_in (not_back l.callee.written ns) (map passed_of (drop l.one-index l.passed))) ≡ first_in (not_back l.callee.written ns) (map passed_of l.fn.passed)

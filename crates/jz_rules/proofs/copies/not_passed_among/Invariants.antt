@@ -6,4 +6,4 @@ use Rattle.jz_rules.specs.Copies.{not_passed}
 use Rattle.jz_rules.proofs.copies.not_passed_among.Given as goal
 
 abbrev pub invariant-loop-pair : goal.invariant-loop-pair
-invariant-loop-pair l = earlier l.first (first_in (not_passed l.args) (map pair_of (drop l.pair-index l.pair-items))) ≡ first_in (not_passed l.args) (map pair_of l.fn.given)
+invariant-loop-pair l = earlier l.first (first_in (not_passed l.args) (map pair_of (drop l.pair-index l.given))) ≡ first_in (not_passed l.args) (map pair_of l.fn.given)

@@ -7,6 +7,6 @@ use Rattle.jz_rules.proofs.twice.passed_twice.Given as goal
 
 abbrev pub invariant-loop-one : goal.invariant-loop-one
 invariant-loop-one l =
-    HasSeen l.seen l.callee.written (map passed_of (take l.one-index l.one-items))
-    × (earlier l.first (earliest (passed_twice l.callee.written (map passed_of (take l.one-index l.one-items)) (map passed_of (drop l.one-index l.one-items))))
+    HasSeen l.seen l.callee.written (map passed_of (take l.one-index l.passed))
+    × (earlier l.first (earliest (passed_twice l.callee.written (map passed_of (take l.one-index l.passed)) (map passed_of (drop l.one-index l.passed))))
     ≡ earliest (passed_twice l.callee.written [] (map passed_of l.fn.passed)))

@@ -3,4 +3,4 @@ use Rattle.jz_rules.specs.Tables.{HasNumbers}
 use Rattle.jz_rules.proofs.tables.Numbers.of.Given as goal
 
 abbrev pub invariant-loop-number : goal.invariant-loop-number
-invariant-loop-number l = HasNumbers l.numbers (take l.number-index l.number-items)
+invariant-loop-number l = HasNumbers l.numbers (take l.number-index l.list)
