@@ -2,6 +2,10 @@
 #![tactic(auto)]
 
 mod answer;
+#[cfg(test)]
+mod back_tests;
+#[cfg(test)]
+mod call_tests;
 pub mod correctness;
 mod exec;
 #[cfg(test)]
@@ -10,6 +14,10 @@ mod halt;
 #[cfg(test)]
 mod language_tests;
 mod lines;
+#[cfg(test)]
+mod live_tests;
+#[cfg(test)]
+mod placing_tests;
 mod refusal;
 #[cfg(test)]
 mod refusal_tests;

@@ -223,23 +223,28 @@ fn each_row_is_answered(rt: HostRuntime) -> Result<(), Fail> {
     answer_rows(&rt, rt.alloc(), &ROWS)
 }
 
-/// A function of so many statements.
+/// A function of so many statements, the last with a constant that no instruction holds.
 fn long_function(alloc: Global, statements: usize) -> Result<Vec<u8>, AllocError> {
     let mut text = Vec::from_slice(alloc, b"export fn big() { reg u64 x; ")?;
-    for _ in 0..statements {
+    for _ in 1..statements {
         text.extend_from_slice(b"x = 1; ")?;
     }
-    text.extend_from_slice(b"}")?;
+    text.extend_from_slice(b"x += 0x80000000; }")?;
     Ok(text)
 }
 
 #[test]
 fn statements_are_limited(rt: HostRuntime) -> Result<(), Fail> {
     let alloc = rt.alloc();
-    let text = long_function(alloc, 65_537)?;
-    let ran = run(alloc, COMPILE, text.as_slice(), &NO_FAULTS)?;
-    assert_eq!(rt; ran.status, Status::Limit);
-    assert_eq!(rt; ran.written.as_slice(), b"limit Expand big\n".as_slice());
+    for (statements, wanted) in [
+        (65_536, "limit ImmRange 1:458780\n"),
+        (65_537, "limit Expand big\n"),
+    ] {
+        let text = long_function(alloc, statements)?;
+        let ran = run(alloc, COMPILE, text.as_slice(), &NO_FAULTS)?;
+        assert_eq!(rt; ran.status, Status::Limit);
+        assert_eq!(rt; ran.written.as_slice(), wanted.as_bytes());
+    }
     Ok(())
 }
 

@@ -9,8 +9,6 @@ mod order;
 mod placing;
 mod seats;
 mod tables;
-#[cfg(test)]
-mod tests;
 
 pub use evidence::Holder;
 pub use laws::{first_fit_is_a_placing, one_outcome};

@@ -8,9 +8,6 @@ ghost use Rattle.std.specs.Bool.{MatchBool};
 use std::alloc::{AllocError, Global};
 use std::marker::Model;
 
-#[cfg(test)]
-mod tests;
-
 /// A set of small numbers, as a row of words with a bit for each.
 #[derive(Debug, Drop)]
 pub struct Bits {

@@ -11,6 +11,3 @@ pub use boxed::Boxed;
 pub use failure::Failure;
 pub use seq::Seq;
 pub use text::Text;
-
-#[cfg(test)]
-mod tests;

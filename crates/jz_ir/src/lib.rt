@@ -4,8 +4,6 @@
 mod code;
 mod laws;
 mod place;
-#[cfg(test)]
-mod tests;
 mod within;
 
 pub use code::{Code, Kind, Need, Node, Op};

@@ -1,3 +1,4 @@
 pub mod Applied
+pub mod Examples
 pub mod MemorySegments
 pub mod Walking

@@ -1,14 +1,10 @@
 //! Leakage: events of the machine, memory, and transformers from the leakage of the source to events.
 #![tactic(auto)]
 
-#[cfg(test)]
-mod apply_tests;
 mod event;
 mod leak;
 mod mem_map;
 mod segment;
-#[cfg(test)]
-mod tests;
 mod transformer;
 mod walk;
 

@@ -4,8 +4,6 @@
 mod compiled;
 mod laws;
 mod lines;
-#[cfg(test)]
-mod tests;
 mod transformers;
 
 pub use compiled::{Arg, Compiled, Pre};

@@ -2,8 +2,6 @@
 #![tactic(auto)]
 
 mod straight;
-#[cfg(test)]
-mod tests;
 mod tree;
 
 pub use straight::{live_after, remove_all};

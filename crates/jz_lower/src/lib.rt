@@ -9,6 +9,3 @@ mod registers;
 pub use code::operations;
 pub use lowering::instructions;
 pub use registers::{ARGUMENT_REGISTERS, RESULT_REGISTERS};
-
-#[cfg(test)]
-mod tests;

@@ -6,6 +6,3 @@ mod limit;
 
 pub use laws::{limit_or_none, no_limit_within, one_first_limit};
 pub use limit::{Limit, LimitKind, MOST_STATEMENTS, has_field};
-
-#[cfg(test)]
-mod tests;

@@ -2,8 +2,6 @@
 #![tactic(auto)]
 
 mod assembling;
-#[cfg(test)]
-mod compile_tests;
 mod compiled_laws;
 mod compiling;
 mod copying;
@@ -13,10 +11,6 @@ mod limits;
 mod refusing;
 mod signature;
 mod stages;
-#[cfg(test)]
-mod tests;
-#[cfg(test)]
-mod text_tests;
 mod unplaced;
 
 pub use compiled_laws::{

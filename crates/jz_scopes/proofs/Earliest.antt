@@ -1,9 +1,9 @@
 -- The earlier of places, and the earliest of two lists, one after the other.
-use Rattle.std.proofs.Common.{◌≡◌, ℕ, Bool, true, false, ◌&&◌, ◌||◌, List, [], ◌∷◌, ◌++◌, Option, Some, None, refl, sym, ap, ◌∙◌, arith}
+use Rattle.std.proofs.Common.{◌≡◌, ℕ, Bool, true, false, ◌&&◌, ◌||◌, List, [], ◌∷◌, ◌++◌, Option, Some, None, ◌<◌, ◌+◌, suc, length, get_or, drop, drop-cons, flat_map, refl, sym, ap, ◌∙◌, arith}
 use Rattle.std.specs.Prelude.{if◌then◌else◌, nat_lt, nat_eq}
 use Rattle.std.proofs.lemmas.Bool.Decides.{nat_tests}
 use Rattle.jz_io.specs.declared.span.Span.{Span}
-use Rattle.jz_scopes.specs.Order.{is_before, earlier, earliest}
+use Rattle.jz_scopes.specs.Order.{is_before, earlier, earliest, first_in}
 
 pub before_trans : (a b c : Span) → is_before a b ≡ true → is_before b c ≡ true → is_before a c ≡ true
 before_trans a b c p q = grind (arith, nat_tests)
@@ -40,5 +40,23 @@ earlier-none (Some x) = refl
 pub earliest-append : (xs ys : List Span) → earliest (xs ++ ys) ≡ earlier (earliest xs) (earliest ys)
 earliest-append [] ys = sym (none-earlier (earliest ys))
 earliest-append (x ∷ xs) ys = ap (earlier (Some x)) (earliest-append xs ys) ∙ sym (earlier-assoc (Some x) (earliest xs) (earliest ys))
+
+-- the earliest place of items, one after the other, is that of all of them
+pub first_over : {A : Type 0} (places : A → List Span) (as' : List A) → first_in places as' ≡ earliest (flat_map places as')
+first_over places [] = refl
+first_over places (a ∷ as') = ap (earlier (earliest (places a))) (first_over places as') ∙ sym (earliest-append (places a) (flat_map places as'))
+
+-- one item more of a loop that keeps the earliest place
+pub next_place : {A : Type 0} (places : A → List Span) (best found new whole : Option Span) (as' : List A) (i : ℕ) (a : A)
+    → i < length as' → a ≡ get_or as' i a → found ≡ earliest (places a) → new ≡ earlier best found
+    → earlier best (earliest (flat_map places (drop i as'))) ≡ whole → earlier new (earliest (flat_map places (drop (i + 1) as'))) ≡ whole
+next_place places best found new whole as' i a lt e f n h =
+    let one : i + 1 ≡ suc i = omega arith
+    in let left = earliest (flat_map places (drop (suc i) as'))
+    in let step : earliest (flat_map places (drop i as')) ≡ earlier (earliest (places a)) left =
+    ap (λ l. earliest (flat_map places l)) (drop-cons as' i a lt)
+    ∙ (ap (λ b. earliest (places b ++ flat_map places (drop (suc i) as'))) (sym e) ∙ earliest-append (places a) (flat_map places (drop (suc i) as')))
+    in ap (λ j. earlier new (earliest (flat_map places (drop j as')))) one
+    ∙ (ap (λ b. earlier b left) n ∙ (earlier-assoc best found left ∙ (ap (λ b. earlier best (earlier b left)) f ∙ (ap (earlier best) (sym step) ∙ h))))
 
 pub ruleset earlier_laws = (earlier-assoc, none-earlier, earlier-none)

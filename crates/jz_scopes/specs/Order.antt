@@ -25,6 +25,11 @@ abbrev pub earliest : List Span → Option Span
 earliest [] = None
 earliest (a ∷ as') = earlier (Some a) (earliest as')
 
+-- the earliest of the places of several items, item by item
+abbrev pub first_in : {A : Type 0} → (A → List Span) → List A → Option Span
+first_in places [] = None
+first_in places (a ∷ as') = earlier (earliest (places a)) (first_in places as')
+
 -- the place at which something stands, and before which nothing of the kind stands; none, where nothing of the kind stands anywhere
 pub data IsEarliest (Wrong : Span → Type 0) : Option Span → Type 0 where
   nowhere : ((at : Span) → Wrong at → ⊥) → IsEarliest Wrong None

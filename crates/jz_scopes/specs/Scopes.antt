@@ -42,6 +42,10 @@ variable_place f n = option_map (λ v. (out-Var v).span) (variable_named n (vari
 abbrev pub constant_place : List Const → List ℕ → Option Span
 constant_place cs n = option_map (λ c. c.span) (constant_named n cs)
 
+-- where a value of that name is declared, if constants and variables are declared where these functions say
+abbrev pub or_values : (List ℕ → Option Span) → (List ℕ → Option Span) → List ℕ → Option Span
+or_values constants variables n = or_else (variables n) (constants n)
+
 -- where a value of that name is declared: the variable, or where there is none the constant
 abbrev pub value_place : List Const → Fun → List ℕ → Option Span
-value_place cs f n = or_else (variable_place f n) (constant_place cs n)
+value_place cs f = or_values (constant_place cs) (variable_place f)

@@ -1,8 +1,26 @@
 //! The places of a text, the names that a program declares and uses, and the parts of its statements.
 #![tactic(auto)]
 
+mod bodies;
+mod exprs;
 mod kinds;
+mod layers;
+mod lengths;
 mod order;
+mod repeats;
+mod tables;
+mod unknowns;
 
-pub use kinds::{Declared, Kind, declaration, known};
-pub use order::{earlier_of, is_before, unless};
+pub use bodies::statements;
+pub use exprs::{cells, length_of, names, span_of};
+pub use kinds::{
+    Declared, Kind, array_of, declaration, is_array, is_inline, is_inline_int, is_register_array,
+    is_register_word, is_word, known, same_kind, same_size, same_storage, whole_array,
+    written_length,
+};
+pub use layers::{called_by, cells_set, exprs_of, read_by, set_by, whole_var, wholly_set_by};
+pub use lengths::length_names;
+pub use order::{earlier_of, is_before, sooner, unless};
+pub use repeats::{repeated, repeated_of};
+pub use tables::{Functions, Places, Variables};
+pub use unknowns::{unknown, unknown_of};

@@ -1,6 +1,6 @@
 //! Places in a text, and the earlier of two.
 
-ghost use Rattle.std.specs.Prelude.{◌≡◌, Option};
+ghost use Rattle.std.specs.Prelude.{◌≡◌, Option, Some};
 ghost use Rattle.jz_io.specs.declared.span.Span.{Span};
 ghost use Rattle.jz_scopes.specs.Order.{is_before, unless, earlier, earliest};
 
@@ -32,5 +32,15 @@ pub fn earlier_of(a: Option<Span>, b: Option<Span>) -> Option<Span>
             None => a,
             Some(g) => if is_before(g, f) { Some(g) } else { Some(f) },
         },
+    }
+}
+
+/// The place, or one that is earlier.
+pub fn sooner(first: Option<Span>, at: Span) -> Span
+    ensures { Some result ≡ earlier first (Some at) }
+{
+    match first {
+        None => at,
+        Some(there) => if is_before(at, there) { at } else { there },
     }
 }

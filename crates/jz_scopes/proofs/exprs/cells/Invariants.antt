@@ -1,0 +1,10 @@
+use Rattle.std.proofs.Common.{◌≡◌, ◌++◌}
+use Rattle.jz_scopes.specs.Parts.{cells_in}
+use Rattle.jz_scopes.specs.Lent.{these, paired, count_of, stacked}
+use Rattle.jz_scopes.proofs.exprs.cells.Given as goal
+
+abbrev pub invariant-loop-e : goal.invariant-loop-e
+invariant-loop-e l = paired l.cells.items ++ stacked cells_in (these l.rest.items) ≡ cells_in l.fn.expr
+
+abbrev pub decreases-loop-e : goal.decreases-loop-e
+decreases-loop-e l = count_of (these l.rest.items)

@@ -1,0 +1,11 @@
+use Rattle.std.proofs.Common.{◌≡◌, ◌++◌, map, ℕ}
+use Rattle.jz_scopes.specs.Scopes.{name_of}
+use Rattle.jz_scopes.specs.Parts.{names_in}
+use Rattle.jz_scopes.specs.Lent.{these, count_of, stacked}
+use Rattle.jz_scopes.proofs.exprs.names.Given as goal
+
+abbrev pub invariant-loop-e : goal.invariant-loop-e
+invariant-loop-e l = map name_of (these l.names.items) ++ stacked names_in (these l.rest.items) ≡ names_in l.fn.expr
+
+abbrev pub decreases-loop-e : goal.decreases-loop-e
+decreases-loop-e l = count_of (these l.rest.items)

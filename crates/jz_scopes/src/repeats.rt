@@ -1,0 +1,175 @@
+//! Names that stand twice.
+
+ghost use Rattle.std.specs.Prelude.{◌≡◌, ◌++◌, [], List, IfOk, OnOk, map};
+ghost use Rattle.jz_scopes.specs.Order.{earliest, first_in};
+ghost use Rattle.jz_scopes.specs.Scopes.{Name, name_of, variables_of};
+ghost use Rattle.jz_scopes.specs.Parts.{layer_of, statements_of};
+ghost use Rattle.jz_scopes.specs.Lent.{these, these_names};
+ghost use Rattle.jz_scopes.specs.Tables.{IsEarliestPlaces, one_repeated_in};
+ghost use Rattle.jz_scopes.specs.Names.{repeated, repeated_by, repeated_in_fun, repeated_in, top_names};
+
+use crate::bodies::statements;
+use crate::layers::wholly_set_by;
+use crate::order::{earlier_of, is_before, unless};
+use crate::tables::Places;
+use jz_data::{Seq, Text};
+use jz_io::Span;
+use jz_tree::{Const, Fun, Param, Program, Stmt, Var};
+use std::alloc::{AllocError, Global};
+
+fn add_places(places: &mut Places, names: &[(&Text, Span)]) -> Result<(), AllocError>
+    ensures { (ns : List Name) → IsEarliestPlaces places.old ns → OnOk result (IsEarliestPlaces places.new (ns ++ these_names names.now)) }
+{
+    for (name, span) in names {
+        places.add_earlier(name, *span)?;
+    }
+    Ok(())
+}
+
+#[tactic(auto, unfolding(crate::specs::Tables::one_repeated_in))]
+fn repeated_one(places: &Places, name: &Text, span: Span) -> Option<Span>
+    ensures { result ≡ earliest (one_repeated_in places.now (name.now, span)) }
+{
+    let fine = match places.place(name) {
+        None => true,
+        Some(first) => !is_before(first, span),
+    };
+    unless(fine, span)
+}
+
+fn repeated_among(places: &Places, names: &[(&Text, Span)]) -> Option<Span>
+    ensures { result ≡ first_in (one_repeated_in places.now) (these_names names.now) }
+{
+    let mut first = None;
+    for (name, span) in names {
+        first = earlier_of(first, repeated_one(places, name, *span));
+    }
+    first
+}
+
+/// The first name before which an equal one stands.
+fn repeated_names(alloc: Global, names: &[(&Text, Span)]) -> Result<Option<Span>, AllocError>
+    ensures { IfOk result (λ at. at ≡ earliest (repeated (these_names names.now))) }
+{
+    let mut places = Places::new(alloc);
+    add_places(&mut places, names)?;
+    Ok(repeated_among(&places, names))
+}
+
+fn add_consts<'a>(
+    list: &mut Vec<(&'a Text, Span)>,
+    consts: &'a Seq<Const>,
+) -> Result<(), AllocError>
+    ensures { OnOk result (these_names list.new.items ≡ these_names list.old.items ++ map (λ c. (c.name, c.span)) consts.now) }
+{
+    for constant in consts.as_slice() {
+        list.push((&constant.name, constant.span))?;
+    }
+    Ok(())
+}
+
+fn add_funs<'a>(list: &mut Vec<(&'a Text, Span)>, funs: &'a Seq<Fun>) -> Result<(), AllocError>
+    ensures { OnOk result (these_names list.new.items ≡ these_names list.old.items ++ map (λ f. (f.name, f.span)) funs.now) }
+{
+    for fun in funs.as_slice() {
+        list.push((&fun.name, fun.span))?;
+    }
+    Ok(())
+}
+
+fn add_params<'a>(
+    list: &mut Vec<(&'a Text, Span)>,
+    params: &'a Seq<Param>,
+) -> Result<(), AllocError>
+    ensures { OnOk result (these_names list.new.items ≡ these_names list.old.items ++ map name_of (map (λ p. p.var) params.now)) }
+{
+    for param in params.as_slice() {
+        list.push((&param.var.name, param.var.span))?;
+    }
+    Ok(())
+}
+
+fn add_vars<'a>(list: &mut Vec<(&'a Text, Span)>, vars: &'a Seq<Var>) -> Result<(), AllocError>
+    ensures { OnOk result (these_names list.new.items ≡ these_names list.old.items ++ map name_of vars.now) }
+{
+    for var in vars.as_slice() {
+        list.push((&var.name, var.span))?;
+    }
+    Ok(())
+}
+
+fn names_of<'a>(alloc: Global, vars: &[&'a Var]) -> Result<Vec<(&'a Text, Span)>, AllocError>
+    ensures { IfOk result (λ ns. these_names ns.items ≡ map name_of (these vars.now)) }
+{
+    let mut list = Vec::new(alloc);
+    for var in vars {
+        list.push((&var.name, var.span))?;
+    }
+    Ok(list)
+}
+
+/// The first of the whole variables that a statement sets before which an equal one stands.
+pub fn repeated_of(alloc: Global, stmt: &Stmt) -> Result<Option<Span>, AllocError>
+    ensures { IfOk result (λ at. at ≡ earliest (repeated_by (layer_of stmt.now))) }
+{
+    let vars = wholly_set_by(alloc, stmt)?;
+    let list = names_of(alloc, vars.as_slice())?;
+    repeated_names(alloc, list.as_slice())
+}
+
+fn in_variables(alloc: Global, fun: &Fun) -> Result<Option<Span>, AllocError>
+    ensures { IfOk result (λ at. at ≡ earliest (repeated (map name_of (variables_of fun.now)))) }
+{
+    let mut list = Vec::new(alloc);
+    add_params(&mut list, &fun.params)?;
+    add_vars(&mut list, &fun.vars)?;
+    let first = repeated_names(alloc, list.as_slice())?;
+    Ok(first)
+}
+
+fn in_body(alloc: Global, body: &Seq<Stmt>) -> Result<Option<Span>, AllocError>
+    ensures { IfOk result (λ at. at ≡ first_in (λ s. repeated_by (layer_of s)) (statements_of body.now)) }
+{
+    let mut first = None;
+    for stmt in statements(alloc, body)? {
+        first = earlier_of(first, repeated_of(alloc, stmt)?);
+    }
+    Ok(first)
+}
+
+fn in_fun(alloc: Global, fun: &Fun) -> Result<Option<Span>, AllocError>
+    ensures { IfOk result (λ at. at ≡ earliest (repeated_in_fun fun.now)) }
+{
+    let declared = in_variables(alloc, fun)?;
+    let set = in_body(alloc, &fun.body)?;
+    Ok(earlier_of(declared, set))
+}
+
+fn in_funs(alloc: Global, funs: &Seq<Fun>) -> Result<Option<Span>, AllocError>
+    ensures { IfOk result (λ at. at ≡ first_in repeated_in_fun funs.now) }
+{
+    let mut first = None;
+    for fun in funs.as_slice() {
+        first = earlier_of(first, in_fun(alloc, fun)?);
+    }
+    Ok(first)
+}
+
+fn in_top(alloc: Global, program: &Program) -> Result<Option<Span>, AllocError>
+    ensures { IfOk result (λ at. at ≡ earliest (repeated (top_names program.now))) }
+{
+    let mut list = Vec::new(alloc);
+    add_consts(&mut list, &program.consts)?;
+    add_funs(&mut list, &program.funs)?;
+    repeated_names(alloc, list.as_slice())
+}
+
+/// The first name before which an equal one stands, among functions and constants, the variables of one function, and the
+/// whole variables that one statement sets.
+pub fn repeated(alloc: Global, program: &Program) -> Result<Option<Span>, AllocError>
+    ensures { IfOk result (λ at. at ≡ earliest (repeated_in program.now)) }
+{
+    let top = in_top(alloc, program)?;
+    let within = in_funs(alloc, &program.funs)?;
+    Ok(earlier_of(top, within))
+}
