@@ -128,9 +128,9 @@ pub(crate) fn in_old(
     ensures { result ≡ first (members asked.now.keys) (reading_old op.now cond.now to.now) (members set.now.keys) }
 {
     match op {
-        Some(_) => in_lefts(asked, set, to),
+        Some(_operation) => in_lefts(asked, set, to),
         None => match cond {
-            Some(_) => in_lefts(asked, set, to),
+            Some(_condition) => in_lefts(asked, set, to),
             None => None,
         },
     }
