@@ -55,18 +55,34 @@ module _ (A B : Span → Type 0) where
   earlier_of_two x y (here a p) (nowhere m) = here (inl a) (λ there w. elim w [ inl v ↦ p there v | inr b ↦ absurd (m there b) ])
   earlier_of_two x y (here {at = s} a p) (here {at = t} b q) = two_here s t (is_before t s) refl a b p q
 
+clash : (s t : Span) → Before s t → Before t s → ⊥
+clash s t p q = grind arith
+
+only_place : (s t : Span) → AtLeast s t → AtLeast t s → s ≡ t
+only_place s t (inl p) (inl q) = absurd (clash s t p q)
+only_place s t (inl p) (inr e) = sym e
+only_place s t (inr e) q = e
+
 -- two answers are one
 pub one_earliest : (A : Span → Type 0) (x y : Option Span) → IsEarliest A x → IsEarliest A y → x ≡ y
 one_earliest A x y (nowhere n) (nowhere m) = refl
 one_earliest A x y (nowhere n) (here b q) = absurd (n _ b)
 one_earliest A x y (here a p) (nowhere m) = absurd (m _ a)
-one_earliest A x y (here {at = s} a p) (here {at = t} b q) = ap Some (only s t (p t b) (q s a))
-  where
-    clash : (s t : Span) → Before s t → Before t s → ⊥
-    clash s t p q = grind arith
-    self : (s : Span) → Before s s → ⊥
-    self s p = grind arith
-    only : (s t : Span) → AtLeast s t → AtLeast t s → s ≡ t
-    only s t (inl p) (inl q) = absurd (clash s t p q)
-    only s t (inl p) (inr e) = sym e
-    only s t (inr e) q = e
+one_earliest A x y (here {at = s} a p) (here {at = t} b q) = ap Some (only_place s t (p t b) (q s a))
+
+-- ---- the earlier of two places
+pub earlier-same : (x : Option Span) → earlier x x ≡ x
+earlier-same None = refl
+earlier-same (Some x) = elim (is_before x x) as (λ b. (if b then Some x else Some x) ≡ Some x) [ true ↦ refl | false ↦ refl ]
+
+swap_two : (x y : Span) (p q : Bool) → is_before y x ≡ p → is_before x y ≡ q → (if p then Some y else Some x) ≡ (if q then Some x else Some y)
+swap_two x y true true p q = absurd (clash x y (before_is x y q) (before_is y x p))
+swap_two x y true false p q = refl
+swap_two x y false true p q = refl
+swap_two x y false false p q = ap Some (only_place x y (at_least x y p) (at_least y x q))
+
+pub earlier-swap : (x y : Option Span) → earlier x y ≡ earlier y x
+earlier-swap None None = refl
+earlier-swap None (Some y) = refl
+earlier-swap (Some x) None = refl
+earlier-swap (Some x) (Some y) = swap_two x y _ _ refl refl

@@ -3,3 +3,4 @@ pub mod Settings
 pub mod Paths
 pub mod Surely
 pub mod FirstSet
+pub mod Walks
