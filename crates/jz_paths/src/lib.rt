@@ -1,4 +1,4 @@
-//! Where variables may be declared, set and read, and which functions reach themselves.
+//! Where variables may be declared, set and read.
 #![tactic(auto)]
 
 mod asked;
