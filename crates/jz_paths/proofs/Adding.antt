@@ -1,11 +1,11 @@
 -- Names that are added to a set, and those that two sets share.
 use mathlib.Core.Path.{fun_ext}
-use Rattle.std.proofs.Common.{◌≡◌, ℕ, Bool, true, false, ◌&&◌, ◌||◌, List, [], ◌∷◌, ◌++◌, length, take, drop, filter, refl, sym, ap, ◌∙◌, subst, cond, append-nil}
+use Rattle.std.proofs.Common.{◌≡◌, ℕ, Bool, true, false, ◌&&◌, ◌||◌, List, [], ◌∷◌, ◌++◌, length, drop, filter, refl, sym, ap, ◌∙◌, subst, cond, append-nil}
 use Rattle.std.specs.Prelude.{if◌then◌else◌}
 use Rattle.std.specs.List.{list_any}
 use Rattle.std.specs.Str.{bytes_eq}
 use Rattle.jz_data.proofs.Texts.{bytes_eq-true}
-use Rattle.jz_paths.specs.Surely.{Names, having, both, put}
+use Rattle.jz_paths.specs.Surely.{Names, having}
 use Rattle.jz_paths.specs.Walks.{members, Grows, Adds, Puts, AddsAll, Joins}
 use Rattle.jz_paths.proofs.Walking.{grows_self, grows_by, grows_on, behind, members-append, members-push, members-there}
 
@@ -39,7 +39,8 @@ pub adds_one : (ks ls : List (List ℕ)) (m : List ℕ) (ms new : List (List ℕ
 adds_one ks ls m ms new a b = record {
   has = b.has ∙ fun_ext (λ n. members-append n ls ms ∙ (ap (λ (s : Names). s n || members ms n) a.has
       ∙ (or-assoc' (members ks n) (bytes_eq n m) (members ms n) ∙ sym (members-append n ks (m ∷ ms) ∙ ap (λ b. members ks n || b) (front_member n m ms)))));
-  grows = grows_on ks ls new a.grows b.grows }
+  grows = grows_on ks ls new a.grows b.grows;
+}
 
 -- ---- what is shared
 filter_step : (p : Names) (n x : List ℕ) (xs : List (List ℕ)) (b e : Bool) → p x ≡ b → bytes_eq n x ≡ e → members (filter p xs) n ≡ (members xs n && p n)
@@ -86,4 +87,5 @@ joined start first second kept new e a = record {
       ∙ (ap (λ b. members start n || b) (ap (λ ks. members ks n) e ∙ filtered (members second) n first)
       ∙ (join_bits (members start n) (members first n) (members second n) (within start second n g)
       ∙ ap (λ b. b && members second n) (sym (members-append n start first)))));
-  grows = a.grows }
+  grows = a.grows;
+}

@@ -1,15 +1,14 @@
 -- Paths and sets agree.
-use Rattle.std.proofs.Common.{◌≡◌, ℕ, zero, suc, ◌<◌, ◌⊎◌, inl, inr, Bool, true, false, not, ◌&&◌, ◌||◌, List, [], ◌∷◌, ◌++◌, length, flat_map, Option, Some, None, refl, sym, ap, ◌∙◌, subst, arith}
+use Rattle.std.proofs.Common.{◌≡◌, ℕ, zero, suc, ◌⊎◌, inl, inr, Bool, true, false, not, ◌&&◌, ◌||◌, List, [], ◌∷◌, ◌++◌, Some, None, refl, sym, ap, ◌∙◌, subst, arith}
 use Rattle.std.specs.Prelude.{if◌then◌else◌, ◌↔◌, Contains}
-use Rattle.std.specs.List.{All}
 use Rattle.std.specs.Str.{bytes_eq}
 use Rattle.std.proofs.lemmas.List.Elements.{All-nil, Contains-append_left, Contains-append_right, Contains-append_cases}
 use Rattle.std.proofs.lemmas.Slice.Eq.{bytes_eq-Decides}
 use Rattle.jz_io.specs.declared.span.Span.{Span}
 use Rattle.jz_scopes.specs.Scopes.{Name}
-use Rattle.jz_scopes.specs.Order.{earlier, IsEarliest, nowhere, here}
+use Rattle.jz_scopes.specs.Order.{IsEarliest, nowhere, here}
 use Rattle.jz_paths.specs.Paths.{Event, Reads, Sets, Flow, Skip, Does, Then, Either, Repeat, Through, Into}
-use Rattle.jz_paths.specs.Surely.{Names, having, both, put, missing, after_event, first_event, after, first}
+use Rattle.jz_paths.specs.Surely.{Names, having, after, first}
 use Rattle.jz_paths.proofs.Firsts.{same_wrong, earlier_of_two}
 
 -- ---- tests
@@ -95,9 +94,10 @@ module _ (asked : Names) (n : List ℕ) (is_asked : asked n ≡ true) where
       let q = unset_path b (after asked a s) f in
       let p = unset_path a s q.0 in
       (p.0, p.1 ++ q.1, (p.1, q.1, refl, p.2, q.2), avoids_both n p.1 q.1 p.3 q.3)
-  unset_path (Either a b) s f = elim (either_false (after asked a s n) (after asked b s n) f)
-      [ inl e ↦ let p = unset_path a s e in (p.0, p.1, inl p.2, p.3)
-      | inr e ↦ let p = unset_path b s e in (p.0, p.1, inr p.2, p.3) ]
+  unset_path (Either a b) s f = elim (either_false (after asked a s n) (after asked b s n) f) [
+    | inl e ↦ let p = unset_path a s e in (p.0, p.1, inl p.2, p.3)
+    | inr e ↦ let p = unset_path b s e in (p.0, p.1, inr p.2, p.3)
+  ]
   unset_path (Repeat a) s f = (f, [], ([], refl, All-nil (Through a)), avoids_none n)
 
   -- and where there is one, it is not surely set
@@ -137,14 +137,20 @@ module _ (asked : Names) where
       let u = m.is_asked in cc)
   missed_read n s true false e f =
       here (record { variable = n.0; is_asked = e; before = f; path = []; leads = (refl, refl); unset = avoids_none n.0 })
-        (λ there m. inr (ap (λ (x : Name). x.1) (read_same n (m.variable, there) m.leads.1)))
+      (λ there m. inr (ap (λ (x : Name). x.1) (read_same n (m.variable, there) m.leads.1)))
 
   then_to : (a b : Flow) (s : Names) (at : Span) → Misses a s at ⊎ Misses b (after asked a s) at → Misses (Then a b) s at
   then_to a b s at (inl m) = record { variable = m.variable; is_asked = m.is_asked; before = m.before; path = m.path; leads = inl m.leads; unset = m.unset }
   then_to a b s at (inr m) =
       let p = unset_path asked m.variable m.is_asked a s m.before in
-      record { variable = m.variable; is_asked = m.is_asked; before = p.0; path = p.1 ++ m.path; leads = inr (p.1, m.path, refl, p.2, m.leads);
-        unset = avoids_both m.variable p.1 m.path p.3 m.unset }
+      record {
+        variable = m.variable;
+        is_asked = m.is_asked;
+        before = p.0;
+        path = p.1 ++ m.path;
+        leads = inr (p.1, m.path, refl, p.2, m.leads);
+        unset = avoids_both m.variable p.1 m.path p.3 m.unset;
+      }
 
   then_from_in : (a b : Flow) (s : Names) (at : Span) (m : Misses (Then a b) s at)
       → Into a m.path (Reads (m.variable, at)) ⊎ ((xs : List Event) × (ys : List Event) × (m.path ≡ xs ++ ys) × Through a xs × Into b ys (Reads (m.variable, at)))
@@ -152,9 +158,14 @@ module _ (asked : Names) where
   then_from_in a b s at m (inl l) = inl (record { variable = m.variable; is_asked = m.is_asked; before = m.before; path = m.path; leads = l; unset = m.unset })
   then_from_in a b s at m (inr (xs, ys, e, t, l)) =
       let u = subst (Avoids m.variable) e m.unset in
-      inr (record { variable = m.variable; is_asked = m.is_asked;
+      inr (record {
+        variable = m.variable;
+        is_asked = m.is_asked;
         before = path_unset asked m.variable m.is_asked a s xs t (avoids_left m.variable xs ys u) m.before;
-        path = ys; leads = l; unset = avoids_right m.variable xs ys u })
+        path = ys;
+        leads = l;
+        unset = avoids_right m.variable xs ys u;
+      })
 
   then_misses : (a b : Flow) (s : Names) (at : Span) → (Misses a s at ⊎ Misses b (after asked a s) at) ↔ Misses (Then a b) s at
   then_misses a b s at = (then_to a b s at, λ m. then_from_in a b s at m m.leads)
@@ -178,8 +189,14 @@ module _ (asked : Names) where
   repeat_from : (a : Flow) (s : Names) (at : Span) → Misses (Repeat a) s at → Misses a s at
   repeat_from a s at m =
       let ys = m.leads.1 in
-      record { variable = m.variable; is_asked = m.is_asked; before = m.before; path = ys; leads = m.leads.4;
-        unset = avoids_right m.variable m.leads.0 ys (subst (Avoids m.variable) m.leads.2 m.unset) }
+      record {
+        variable = m.variable;
+        is_asked = m.is_asked;
+        before = m.before;
+        path = ys;
+        leads = m.leads.4;
+        unset = avoids_right m.variable m.leads.0 ys (subst (Avoids m.variable) m.leads.2 m.unset);
+      }
 
   repeat_misses : (a : Flow) (s : Names) (at : Span) → Misses a s at ↔ Misses (Repeat a) s at
   repeat_misses a s at = (repeat_to a s at, repeat_from a s at)

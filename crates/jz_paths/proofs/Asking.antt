@@ -1,8 +1,7 @@
 -- The names that are asked, and the earliest read of one that is unset.
 use mathlib.Core.Path.{fun_ext}
-use Rattle.std.proofs.Common.{◌≡◌, ℕ, zero, suc, ◌+◌, ◌<◌, ◌≤◌, ◌⊎◌, inl, inr, Bool, true, false, not, ◌&&◌, ◌||◌, List, [], ◌∷◌, ◌++◌, length, map, filter, take, drop, get_or, Option, Some, None, refl, sym, ap, ◌∙◌, subst, arith, cond}
+use Rattle.std.proofs.Common.{◌≡◌, ℕ, zero, suc, ◌+◌, ◌<◌, ◌⊎◌, inl, inr, Bool, true, false, not, ◌&&◌, ◌||◌, List, [], ◌∷◌, ◌++◌, length, map, filter, take, get_or, Option, Some, None, refl, sym, ap, ◌∙◌, subst, arith, cond}
 use Rattle.std.specs.Prelude.{Contains, ◌↔◌, is_some, is_none, IsTrue}
-use Rattle.std.specs.List.{list_any}
 use Rattle.std.specs.Str.{bytes_eq}
 use Rattle.std.proofs.lemmas.List.{take_more}
 use Rattle.std.proofs.Math.Seq.{take-length}
@@ -53,7 +52,7 @@ asked_is f params own all p o a = fun_ext (λ n.
     ∙ (filtered (λ m. not (members params m)) n (map (λ v. (out-Var v).name) vs)
     ∙ (ap (λ b. b && not (members params n)) (named_member n vs)
     ∙ ap (λ b. is_some (variable_named n vs) && b)
-        (ap not (ap (λ (s : Names). s n) p ∙ (ap (λ ks. members ks n) (param_names f.params) ∙ named_member n ps)) ∙ not_some (variable_named n ps))))))
+    (ap not (ap (λ (s : Names). s n) p ∙ (ap (λ ks. members ks n) (param_names f.params) ∙ named_member n ps)) ∙ not_some (variable_named n ps))))))
 
 -- ---- one function
 true_is : (b : Bool) → IsTrue b → b ≡ true
@@ -73,9 +72,9 @@ pub unset_law : (f : Fun) (asked : Names) (old : List (List ℕ)) (r : Option Sp
 unset_law f asked old r a o e =
     let none : members old ≡ none_set = ap members o ∙ fun_ext none_member in
     let is : r ≡ first (has_to_be_set f) (flow_of_all f.body) none_set =
-      e ∙ (ap (λ s. first asked (flow_of_all f.body) s) none ∙ ap (λ (q : Names). first q (flow_of_all f.body) none_set) a) in
+    e ∙ (ap (λ s. first asked (flow_of_all f.body) s) none ∙ ap (λ (q : Names). first q (flow_of_all f.body) none_set) a) in
     subst (IsEarliest (IsReadUnset f)) (sym is)
-      (same_wrong _ _ (λ at. (to_unset f at, from_unset f at)) _ (agree (has_to_be_set f) (flow_of_all f.body) none_set))
+    (same_wrong _ _ (λ at. (to_unset f at, from_unset f at)) _ (agree (has_to_be_set f) (flow_of_all f.body) none_set))
 
 -- ---- several functions
 pub record UnsetAmong (fs : List Fun) (at : Span) : Type 0 where
@@ -95,17 +94,18 @@ one_more_to fs f at (inl u) = record { function = u.function; among = Contains-a
 one_more_to fs f at (inr r) = record { function = f; among = Contains-append_right fs (f ∷ []) f (0, omega arith, refl); read = r }
 
 one_more_from : (fs : List Fun) (f : Fun) (at : Span) → UnsetAmong (fs ++ f ∷ []) at → UnsetAmong fs at ⊎ IsReadUnset f at
-one_more_from fs f at u = elim (Contains-append_cases fs (f ∷ []) u.function u.among)
-    [ inl c ↦ inl (record { function = u.function; among = c; read = u.read })
-    | inr c ↦ inr (subst (λ g. IsReadUnset g at) (sym (one_is f u.function c)) u.read) ]
+one_more_from fs f at u = elim (Contains-append_cases fs (f ∷ []) u.function u.among) [
+  | inl c ↦ inl (record { function = u.function; among = c; read = u.read })
+  | inr c ↦ inr (subst (λ g. IsReadUnset g at) (sym (one_is f u.function c)) u.read)
+]
 
 pub unset_more : (fs : List Fun) (i : ℕ) (f : Fun) (best next r : Option Span) → i < length fs → f ≡ get_or fs i f
     → IsEarliest (UnsetAmong (take i fs)) best → IsEarliest (IsReadUnset f) r → next ≡ earlier best r → IsEarliest (UnsetAmong (take (i + 1) fs)) next
 unset_more fs i f best next r lt is held read e =
     let more : take (i + 1) fs ≡ take i fs ++ f ∷ [] = take_more fs i f lt ∙ ap (λ g. take i fs ++ g ∷ []) (sym is) in
     subst (λ gs. IsEarliest (UnsetAmong gs) next) (sym more)
-      (subst (IsEarliest (UnsetAmong (take i fs ++ f ∷ []))) (sym e)
-        (same_wrong _ _ (λ at. (one_more_to (take i fs) f at, one_more_from (take i fs) f at)) _ (earlier_of_two (UnsetAmong (take i fs)) (IsReadUnset f) best r held read)))
+    (subst (IsEarliest (UnsetAmong (take i fs ++ f ∷ []))) (sym e)
+    (same_wrong _ _ (λ at. (one_more_to (take i fs) f at, one_more_from (take i fs) f at)) _ (earlier_of_two (UnsetAmong (take i fs)) (IsReadUnset f) best r held read)))
 
 in_program : (p : Program) (at : Span) → UnsetAmong p.funs at ↔ IsReadUnsetIn p at
 in_program p at = (λ u. record { function = u.function; among = u.among; read = u.read }, λ u. record { function = u.function; among = u.among; read = u.read })

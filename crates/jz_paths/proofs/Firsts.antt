@@ -1,9 +1,9 @@
 -- The earliest place of two kinds of places.
-use Rattle.std.proofs.Common.{◌≡◌, ℕ, ◌<◌, ◌⊎◌, inl, inr, Bool, true, false, ◌&&◌, ◌||◌, List, [], ◌∷◌, Option, Some, None, refl, sym, ap, ◌∙◌, subst, arith}
-use Rattle.std.specs.Prelude.{if◌then◌else◌, nat_lt, nat_eq, ◌↔◌, Contains}
+use Rattle.std.proofs.Common.{◌≡◌, ℕ, ◌⊎◌, inl, inr, Bool, true, false, Option, Some, None, refl, sym, ap, ◌∙◌, subst, arith}
+use Rattle.std.specs.Prelude.{if◌then◌else◌, ◌↔◌}
 use Rattle.std.proofs.lemmas.Bool.Decides.{nat_tests}
 use Rattle.jz_io.specs.declared.span.Span.{Span}
-use Rattle.jz_scopes.specs.Order.{is_before, Before, earlier, earliest, IsEarliest, nowhere, here}
+use Rattle.jz_scopes.specs.Order.{is_before, Before, earlier, IsEarliest, nowhere, here}
 
 -- at or behind
 abbrev AtLeast : Span → Span → Type 0
@@ -42,12 +42,14 @@ module _ (A B : Span → Type 0) where
 
   two_here : (x y : Span) (b : Bool) → is_before y x ≡ b → A x → B y → ((there : Span) → A there → AtLeast x there) → ((there : Span) → B there → AtLeast y there)
       → IsEarliest One (if b then Some y else Some x)
-  two_here x y true e a b p q = here (inr b) (λ there w. elim w
-      [ inl v ↦ least_least y x there (inl (before_is y x e)) (p there v)
-      | inr v ↦ q there v ])
-  two_here x y false e a b p q = here (inl a) (λ there w. elim w
-      [ inl v ↦ p there v
-      | inr v ↦ least_least x y there (at_least x y e) (q there v) ])
+  two_here x y true e a b p q = here (inr b) (λ there w. elim w [
+    | inl v ↦ least_least y x there (inl (before_is y x e)) (p there v)
+    | inr v ↦ q there v
+  ])
+  two_here x y false e a b p q = here (inl a) (λ there w. elim w [
+    | inl v ↦ p there v
+    | inr v ↦ least_least x y there (at_least x y e) (q there v)
+  ])
 
   pub earlier_of_two : (x y : Option Span) → IsEarliest A x → IsEarliest B y → IsEarliest One (earlier x y)
   earlier_of_two x y (nowhere n) (nowhere m) = nowhere (λ at w. elim w [ inl a ↦ n at a | inr b ↦ m at b ])

@@ -12,8 +12,7 @@ use Rattle.jz_tree.specs.declared.stmt.StmtKind.TheVariants as kind
 use Rattle.jz_tree.specs.declared.stmt.StmtKind.TheOpen.{StmtKind-F}
 use Rattle.jz_tree.specs.declared.stmt.StmtKind.TheFolds.{fold-roll-StmtKind}
 use Rattle.jz_scopes.specs.Scopes.{name_of}
-use Rattle.jz_paths.specs.Paths.{Flow, Skip, Does, Sets, Then, Either, Repeat, in_turn, reading_expr, reading_right, reading_condition, reading_old, setting, flow_step, flow_of_kind, flow_of_all}
-
+use Rattle.jz_paths.specs.Paths.{Skip, Does, Sets, Then, Either, Repeat, in_turn, reading_expr, reading_right, reading_condition, reading_old, setting, flow_step, flow_of_kind, flow_of_all}
 
 pub assign_flow : (k : StmtKind) (to : List Lval) (op : Option BinOp) (from : Rhs) (cond : Option Expr) → k ≡ kind.Assign to op from cond
     → flow_of_kind k ≡ Then (reading_right from) (Then (reading_condition cond) (Then (reading_old op cond to) (in_turn (map setting to))))

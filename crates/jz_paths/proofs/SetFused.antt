@@ -1,5 +1,5 @@
 -- What is gathered as a list, by its earliest.
-use Rattle.std.proofs.Common.{◌≡◌, Bool, true, not, List, [], ◌∷◌, ◌++◌, map, flat_map, Option, Some, None, refl, sym, ap, ◌∙◌, subst}
+use Rattle.std.proofs.Common.{◌≡◌, true, not, List, [], ◌∷◌, ◌++◌, map, flat_map, Option, Some, None, refl, sym, ap, ◌∙◌, subst}
 use Rattle.jz_io.specs.declared.span.Span.{Span}
 use Rattle.jz_tree.specs.declared.expr.Expr.TheViews.{out-Var}
 use Rattle.jz_tree.specs.declared.stmt.Lval.{Lval}
@@ -79,8 +79,8 @@ stmt_case y w =
 set_fused : (s : Stmt) → StmtLaw s
 set_fused =
     ind-Stmt KindLaw StmtLaw
-      (λ x y is. subst (λ z. KindLaw (roll-StmtKind z)) is (kind_case y))
-      (λ x y is. subst (λ z. StmtLaw (roll-Stmt z)) is (stmt_case y))
+    (λ x y is. subst (λ z. KindLaw (roll-StmtKind z)) is (kind_case y))
+    (λ x y is. subst (λ z. StmtLaw (roll-Stmt z)) is (stmt_case y))
 
 pub all_fused : (w : Around) (ss : List Stmt) → first_set_all ss w ≡ earliest (all_set (map set ss) w)
 all_fused w [] = refl

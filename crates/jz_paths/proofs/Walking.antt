@@ -1,13 +1,12 @@
 -- Walks over the parts of a flow are a walk over the flow.
 use mathlib.Core.Path.{fun_ext}
-use Rattle.std.proofs.Common.{◌≡◌, ℕ, ◌+◌, ◌<◌, ◌≤◌, Bool, true, false, not, ◌&&◌, ◌||◌, List, [], ◌∷◌, ◌++◌, length, map, take, drop, filter, get_or, Option, Some, None, refl, sym, ap, ◌∙◌, subst, arith, cond, length-append}
-use Rattle.std.specs.Prelude.{if◌then◌else◌, min}
+use Rattle.std.proofs.Common.{◌≡◌, ℕ, ◌+◌, ◌<◌, ◌≤◌, Bool, true, false, ◌||◌, List, [], ◌∷◌, ◌++◌, length, map, take, drop, get_or, Option, Some, None, refl, sym, ap, ◌∙◌, subst, arith, cond, length-append}
 use Rattle.std.specs.List.{list_any}
 use Rattle.std.specs.Borrow.{Bor}
 use Rattle.std.specs.Str.{bytes_eq}
-use Rattle.std.proofs.lemmas.List.{drop_more, drop_all, take_more, length-take, length-take-le, take-append-drop}
+use Rattle.std.proofs.lemmas.List.{drop_more, drop_all, take-append-drop}
 use Rattle.std.proofs.Math.Seq.{take-append_seam, take-length}
-use Rattle.jz_data.proofs.Texts.{bytes_eq-sym, bytes_eq-true}
+use Rattle.jz_data.proofs.Texts.{bytes_eq-true}
 use Rattle.jz_io.specs.declared.span.Span.{Span}
 use Rattle.jz_tree.specs.declared.expr.Expr.{Expr}
 use Rattle.jz_tree.specs.declared.expr.Var.{Var}
@@ -16,12 +15,12 @@ use Rattle.jz_tree.specs.declared.stmt.Lval.{Lval}
 use Rattle.jz_tree.specs.declared.stmt.Lval.TheVariants as lval
 use Rattle.jz_tree.specs.declared.stmt.Rhs.{Rhs}
 use Rattle.jz_tree.specs.declared.stmt.Rhs.TheVariants as rhs
-use Rattle.jz_scopes.specs.Scopes.{Name, name_of}
+use Rattle.jz_scopes.specs.Scopes.{name_of}
 use Rattle.jz_scopes.specs.Lent.{these}
-use Rattle.jz_scopes.specs.Order.{is_before, earlier}
+use Rattle.jz_scopes.specs.Order.{earlier}
 use Rattle.jz_scopes.specs.Parts.{names_in}
 use Rattle.jz_scopes.proofs.Earliest.{earlier-assoc, earlier-none}
-use Rattle.jz_paths.specs.Paths.{Event, Reads, Sets, Flow, Skip, Does, Then, Either, Repeat, in_turn, reads, reading, reading_expr, reading_all, reading_left, reading_lefts, reading_right, reading_condition, reading_old}
+use Rattle.jz_paths.specs.Paths.{Sets, Flow, Skip, Does, Then, Either, Repeat, in_turn, reads, reading, reading_expr, reading_all, reading_left, reading_lefts, reading_right, reading_condition, reading_old}
 use Rattle.jz_paths.specs.Surely.{Names, having, both, put, after, first}
 use Rattle.jz_paths.specs.Walks.{members, Grows, Walks, Puts, Joins}
 use Rattle.jz_paths.proofs.Firsts.{earlier-same, earlier-swap}
@@ -158,7 +157,8 @@ module _ (asked : Names) where
   walks_then a b xs ys zs r t u v w e = record {
     first = e ∙ (ap (λ x. earlier x t) v.first ∙ ap (earlier (first asked a (members xs))) (w.first ∙ ap (first asked b) v.after));
     after = w.after ∙ ap (after asked b) v.after;
-    grows = grows_on xs ys zs v.grows w.grows }
+    grows = grows_on xs ys zs v.grows w.grows;
+  }
 
   -- of both ways what both set is set
   pub walks_either : (a b : Flow) (xs ys zs end : List (List ℕ)) (r t u : Option Span) → Walks asked a xs r ys → Walks asked b xs t zs → u ≡ earlier r t
@@ -166,7 +166,8 @@ module _ (asked : Names) where
   walks_either a b xs ys zs end r t u v w e m g = record {
     first = e ∙ (ap (λ x. earlier x t) v.first ∙ ap (earlier (first asked a (members xs))) w.first);
     after = m ∙ (ap (λ s. both s (members zs)) v.after ∙ ap (both (after asked a (members xs))) w.after);
-    grows = g }
+    grows = g;
+  }
 
   pub walks_repeat : (a : Flow) (xs ys : List (List ℕ)) (r : Option Span) → Walks asked a xs r ys → Walks asked (Repeat a) xs r xs
   walks_repeat a xs ys r v = record { first = v.first; after = refl; grows = grows_self xs }
@@ -175,9 +176,9 @@ module _ (asked : Names) where
       → all ≡ earlier r (earlier t u) → Walks asked (Then (Repeat (Then p (Then c b))) (Then p c)) xs all ys
   walks_while p c b xs ys zs r t u all v w x e =
       walks_then _ _ xs xs ys (earlier r (earlier t u)) (earlier r t) all
-        (walks_repeat _ xs zs _ (walks_then p (Then c b) xs ys zs r (earlier t u) _ v (walks_then c b ys ys zs t u _ w x refl) refl))
-        (walks_then p c xs ys ys r t _ v w refl)
-        (e ∙ sym (earlier-again r t u))
+      (walks_repeat _ xs zs _ (walks_then p (Then c b) xs ys zs r (earlier t u) _ v (walks_then c b ys ys zs t u _ w x refl) refl))
+      (walks_then p c xs ys ys r t _ v w refl)
+      (e ∙ sym (earlier-again r t u))
     where
       earlier-again : (x y z : Option Span) → earlier (earlier x (earlier y z)) (earlier x y) ≡ earlier x (earlier y z)
       earlier-again x y z =
@@ -212,7 +213,7 @@ module _ (asked : Names) where
       → left ≡ [] → Walking f all old best left now → Walks asked (in_turn (map f all)) old best now
   walking_ends f all left old now best e held =
       subst (λ z. Walks asked (in_turn (map f all)) old z now) (earlier-none best)
-        (held None now (subst (λ l. Walks asked (in_turn (map f l)) now None now) (sym e) (walks_skip now)))
+      (held None now (subst (λ l. Walks asked (in_turn (map f l)) now None now) (sym e) (walks_skip now)))
 
   -- ---- what the code does
   pub walks_aside : (g : Flow) (old mid names : List (List ℕ)) (r : Option Span) → Walks asked g old r mid → names ≡ drop (length old) mid → Walks asked g old r (old ++ names)
@@ -238,7 +239,7 @@ module _ (asked : Names) where
       → Joins (take start zs) names zs end → v ≡ earlier t u → w ≡ earlier r v → Walks asked (Then (reading_expr c) (Either a b)) old w end
   walks_if c a b old names now zs end start r t u v w e s x n y j f h =
       walks_then (reading_expr c) (Either a b) old old end r v w (walks_reads (reading_expr c) old r (idle_expr asked c) e)
-        (walks_ways a b old names now zs end start t u v s x n y j f) h
+      (walks_ways a b old names now zs end start t u v s x n y j f) h
 
   pub walks_test : (c : Expr) (g : Flow) (old end : List (List ℕ)) (r t u : Option Span)
       → r ≡ first asked (reading_expr c) (members old) → Walks asked g old t end → u ≡ earlier r t → Walks asked (Then (reading_expr c) g) old u end
@@ -254,7 +255,7 @@ module _ (asked : Names) where
       → Walks asked (Then (Repeat (Then p (Then (reading_expr c) b))) (Then p (reading_expr c))) old all end
   walks_body p c b old mid names end r t u all v e w k f =
       subst (Walks asked (Then (Repeat (Then p (Then (reading_expr c) b))) (Then p (reading_expr c))) old all) (sym k)
-        (walks_while p (reading_expr c) b old mid (mid ++ names) r t u all v (walks_reads (reading_expr c) mid t (idle_expr asked c) e) w f)
+      (walks_while p (reading_expr c) b old mid (mid ++ names) r t u all v (walks_reads (reading_expr c) mid t (idle_expr asked c) e) w f)
 
   pub walks_assign : (from : Rhs) (cond : Option Expr) (op : Option BinOp) (to : List Lval) (g : Flow) (old end : List (List ℕ)) (r t o l x y all : Option Span)
       → r ≡ first asked (reading_right from) (members old) → t ≡ first asked (reading_condition cond) (members old) → o ≡ first asked (reading_old op cond to) (members old)
@@ -262,5 +263,5 @@ module _ (asked : Names) where
       → Walks asked (Then (reading_right from) (Then (reading_condition cond) (Then (reading_old op cond to) g))) old all end
   walks_assign from cond op to g old end r t o l x y all e f h w p q s =
       walks_then (reading_right from) _ old old end r y all (walks_reads _ old r (idle_right asked from) e)
-        (walks_then (reading_condition cond) _ old old end t x y (walks_reads _ old t (idle_condition asked cond) f)
-          (walks_then (reading_old op cond to) g old old end o l x (walks_reads _ old o (idle_old asked op cond to) h) w p) q) s
+      (walks_then (reading_condition cond) _ old old end t x y (walks_reads _ old t (idle_condition asked cond) f)
+      (walks_then (reading_old op cond to) g old old end o l x (walks_reads _ old o (idle_old asked op cond to) h) w p) q) s

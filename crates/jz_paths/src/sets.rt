@@ -38,11 +38,7 @@ pub(crate) fn put(
 }
 
 /// The names that are in the set too.
-fn shared(
-    alloc: Global,
-    names: &[Text],
-    set: &IndexSet<Text>,
-) -> Result<Vec<Text>, AllocError>
+fn shared(alloc: Global, names: &[Text], set: &IndexSet<Text>) -> Result<Vec<Text>, AllocError>
     ensures { IfOk result (λ r. r.items ≡ filter (members set.now.keys) names.now) }
 {
     let mut kept = Vec::new(alloc);

@@ -113,7 +113,10 @@ fn set_in(
             to: _,
             body,
         } => {
-            let own = unless(!is_counter(counters.as_slice(), &counter.name), counter.span);
+            let own = unless(
+                !is_counter(counters.as_slice(), &counter.name),
+                counter.span,
+            );
             let depth = counters.len();
             counters.push(counter.name.clone()?)?;
             let rest = set_in_all(inside, counters, body)?;

@@ -146,12 +146,7 @@ fn walk(
     ensures { IfOk result (λ r. Walks (members asked.now.keys) (flow_of_kind kind.now) set.old.keys r set.new.keys) }
 {
     match kind {
-        StmtKind::Assign {
-            to,
-            op,
-            rhs,
-            cond,
-        } => {
+        StmtKind::Assign { to, op, rhs, cond } => {
             let it = Assigned {
                 to,
                 op,

@@ -8,7 +8,7 @@ loop-fun-init c = unset_none
 pub loop-fun-preserved : goal.loop-fun-preserved
 loop-fun-preserved c =
     unset_more c.as_slice-fun-items.result.now c.loop-fun.fun-index c.fun-item.result c.loop-fun.best c.earlier_of-best.result c.in_ok-read_unset.field-0
-      c.loop-fun-test.true c.fun-item.is c.loop-fun.invariant c.in_ok-read_unset.ensures c.earlier_of-best.ensures.is
+    c.loop-fun-test.true c.fun-item.is c.loop-fun.invariant c.in_ok-read_unset.ensures c.earlier_of-best.ensures.is
 
 pub returns : goal.returns
 returns c =

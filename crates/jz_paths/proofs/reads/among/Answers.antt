@@ -9,7 +9,7 @@ use Rattle.jz_paths.proofs.reads.among.Goals as goal
 pub loop-var-preserved : goal.loop-var-preserved
 loop-var-preserved c =
     turn_more (members c.args.asked.now.keys) (λ v. reads (name_of v.now)) (λ v s. refl) (members c.args.set.now.keys) c.args.vars.now c.loop-var.var-index c.var-item.result
-      c.loop-var.best c.earlier_of-best.result c.missing.result _ c.loop-var-test.true c.var-item.is c.missing.ensures c.earlier_of-best.ensures.is c.loop-var.invariant
+    c.loop-var.best c.earlier_of-best.result c.missing.result _ c.loop-var-test.true c.var-item.is c.missing.ensures c.earlier_of-best.ensures.is c.loop-var.invariant
 
 pub returns : goal.returns
 returns c =

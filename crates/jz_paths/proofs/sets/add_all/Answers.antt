@@ -1,4 +1,4 @@
-use Rattle.std.proofs.Common.{◌≡◌, ◌+◌, rules, arith, sym, ap, ◌∙◌, subst, [], ◌∷◌, List, ℕ, drop}
+use Rattle.std.proofs.Common.{◌≡◌, ◌+◌, rules, arith, sym, ap, ◌∙◌, subst, ◌∷◌, drop}
 use Rattle.std.proofs.lemmas.List.{drop_more, drop_all}
 use Rattle.jz_paths.specs.Walks.{Adds, AddsAll}
 use Rattle.jz_paths.proofs.Adding.{adds_none, adds_one}
@@ -12,10 +12,10 @@ loop-name-preserved c = λ new held.
     let same : c.in_ok-clone.field-0 ≡ m = search rules in
     let left : m ∷ drop (i + 1) xs ≡ drop i xs = sym (drop_more xs i m c.loop-name-test.true ∙ ap (λ y. y ∷ drop (i + 1) xs) (sym c.name-item.is)) in
     c.loop-name.invariant new
-      (subst (λ ms. AddsAll c.loop-name.set.keys ms new) left
-        (adds_one c.loop-name.set.keys c.add.new.set.keys m (drop (i + 1) xs) new (subst (λ n. Adds c.loop-name.set.keys n c.add.new.set.keys) same c.in_ok-add.ensures) held))
+    (subst (λ ms. AddsAll c.loop-name.set.keys ms new) left
+    (adds_one c.loop-name.set.keys c.add.new.set.keys m (drop (i + 1) xs) new (subst (λ n. Adds c.loop-name.set.keys n c.add.new.set.keys) same c.in_ok-add.ensures) held))
 
 pub returns : goal.returns
 returns c =
     c.loop-name.invariant c.loop-name.set.keys
-      (subst (λ ms. AddsAll c.loop-name.set.keys ms c.loop-name.set.keys) (sym (drop_all c.loop-name.name-index c.args.names.now (omega arith))) (adds_none c.loop-name.set.keys))
+    (subst (λ ms. AddsAll c.loop-name.set.keys ms c.loop-name.set.keys) (sym (drop_all c.loop-name.name-index c.args.names.now (omega arith))) (adds_none c.loop-name.set.keys))
