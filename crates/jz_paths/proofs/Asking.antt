@@ -1,0 +1,116 @@
+-- The names that are asked, and the earliest read of one that is unset.
+use mathlib.Core.Path.{fun_ext}
+use Rattle.std.proofs.Common.{◌≡◌, ℕ, zero, suc, ◌+◌, ◌<◌, ◌⊎◌, inl, inr, Bool, true, false, not, ◌&&◌, ◌||◌, List, [], ◌∷◌, ◌++◌, length, map, filter, take, get_or, Option, Some, None, refl, sym, ap, ◌∙◌, subst, arith, cond}
+use Rattle.std.specs.Prelude.{Contains, ◌↔◌, is_some, is_none, IsTrue}
+use Rattle.std.specs.Str.{bytes_eq}
+use Rattle.std.proofs.lemmas.List.{take_more}
+use Rattle.std.proofs.Math.Seq.{take-length}
+use Rattle.std.proofs.lemmas.List.Elements.{Contains-append_left, Contains-append_right, Contains-append_cases}
+use Rattle.jz_io.specs.declared.span.Span.{Span}
+use Rattle.jz_tree.specs.declared.expr.Var.{Var}
+use Rattle.jz_tree.specs.declared.expr.Expr.TheViews.{out-Var}
+use Rattle.jz_tree.specs.declared.program.Param.{Param}
+use Rattle.jz_tree.specs.declared.program.Fun.{Fun}
+use Rattle.jz_tree.specs.declared.program.Program.{Program}
+use Rattle.jz_scopes.specs.Scopes.{variable_named}
+use Rattle.jz_scopes.specs.Kinds.{known_of, is_inline_int}
+use Rattle.jz_scopes.specs.Order.{earlier, IsEarliest, nowhere}
+use Rattle.jz_paths.specs.Paths.{flow_of_all, has_to_be_set, IsReadUnset, IsReadUnsetIn}
+use Rattle.jz_paths.specs.Surely.{Names, none_set, first}
+use Rattle.jz_paths.specs.Walks.{members}
+use Rattle.jz_paths.proofs.Firsts.{same_wrong, earlier_of_two}
+use Rattle.jz_paths.proofs.Agree.{Misses, agree}
+use Rattle.jz_paths.proofs.Adding.{filtered, front_member, none_member}
+
+named_step : (b r s : Bool) (v : Var) (o : Option Var) → r ≡ is_some o → (b || r) ≡ is_some (cond b (Some v) o)
+named_step true r s v o e = refl
+named_step false r s v o e = e
+
+named_member : (n : List ℕ) (vs : List Var) → members (map (λ v. (out-Var v).name) vs) n ≡ is_some (variable_named n vs)
+named_member n [] = none_member n
+named_member n (v ∷ vs) =
+    front_member n (out-Var v).name (map (λ v. (out-Var v).name) vs)
+    ∙ named_step (bytes_eq n (out-Var v).name) (members (map (λ v. (out-Var v).name) vs) n) true v (variable_named n vs) (named_member n vs)
+
+param_names : (ps : List Param) → map (λ p. (out-Var p.var).name) ps ≡ map (λ v. (out-Var v).name) (map (λ p. p.var) ps)
+param_names [] = refl
+param_names (p ∷ ps) = ap (λ ns. (out-Var p.var).name ∷ ns) (param_names ps)
+
+not_some : (o : Option Var) → not (is_some o) ≡ is_none o
+not_some None = refl
+not_some (Some v) = refl
+
+-- the names of inline variables that are not among those of the parameters
+pub asked_is : (f : Fun) (params own all : List (List ℕ)) → members params ≡ members (map (λ p. (out-Var p.var).name) f.params)
+    → own ≡ filter (λ n. not (members params n)) (map (λ v. (out-Var v).name) (filter (λ v. is_inline_int (known_of v)) f.vars))
+    → members all ≡ members own → members all ≡ has_to_be_set f
+asked_is f params own all p o a = fun_ext (λ n.
+    let vs = filter (λ v. is_inline_int (known_of v)) f.vars in
+    let ps = map (λ q. q.var) f.params in
+    ap (λ (s : Names). s n) a
+    ∙ (ap (λ ks. members ks n) o
+    ∙ (filtered (λ m. not (members params m)) n (map (λ v. (out-Var v).name) vs)
+    ∙ (ap (λ b. b && not (members params n)) (named_member n vs)
+    ∙ ap (λ b. is_some (variable_named n vs) && b)
+    (ap not (ap (λ (s : Names). s n) p ∙ (ap (λ ks. members ks n) (param_names f.params) ∙ named_member n ps)) ∙ not_some (variable_named n ps))))))
+
+-- ---- one function
+true_is : (b : Bool) → IsTrue b → b ≡ true
+true_is b h = h
+
+is_true : (b : Bool) → b ≡ true → IsTrue b
+is_true b h = h
+
+to_unset : (f : Fun) (at : Span) → Misses (has_to_be_set f) (flow_of_all f.body) none_set at → IsReadUnset f at
+to_unset f at m = record { variable = m.variable; inline = is_true _ m.is_asked; path = m.path; leads = m.leads; unset = m.unset }
+
+from_unset : (f : Fun) (at : Span) → IsReadUnset f at → Misses (has_to_be_set f) (flow_of_all f.body) none_set at
+from_unset f at m = record { variable = m.variable; is_asked = true_is _ m.inline; before = refl; path = m.path; leads = m.leads; unset = m.unset }
+
+pub unset_law : (f : Fun) (asked : Names) (old : List (List ℕ)) (r : Option Span) → asked ≡ has_to_be_set f → old ≡ []
+    → r ≡ first asked (flow_of_all f.body) (members old) → IsEarliest (IsReadUnset f) r
+unset_law f asked old r a o e =
+    let none : members old ≡ none_set = ap members o ∙ fun_ext none_member in
+    let is : r ≡ first (has_to_be_set f) (flow_of_all f.body) none_set =
+    e ∙ (ap (λ s. first asked (flow_of_all f.body) s) none ∙ ap (λ (q : Names). first q (flow_of_all f.body) none_set) a) in
+    subst (IsEarliest (IsReadUnset f)) (sym is)
+    (same_wrong _ _ (λ at. (to_unset f at, from_unset f at)) _ (agree (has_to_be_set f) (flow_of_all f.body) none_set))
+
+-- ---- several functions
+pub record UnsetAmong (fs : List Fun) (at : Span) : Type 0 where
+  pub function : Fun
+  pub among : Contains fs function
+  pub read : IsReadUnset function at
+
+pub unset_none : IsEarliest (UnsetAmong []) None
+unset_none = nowhere (λ at u. omega (arith, u.among.1))
+
+one_is : (f g : Fun) → Contains (f ∷ []) g → f ≡ g
+one_is f g (zero, lt, e) = e
+one_is f g (suc k, lt, e) = absurd (omega (arith, lt))
+
+one_more_to : (fs : List Fun) (f : Fun) (at : Span) → UnsetAmong fs at ⊎ IsReadUnset f at → UnsetAmong (fs ++ f ∷ []) at
+one_more_to fs f at (inl u) = record { function = u.function; among = Contains-append_left fs (f ∷ []) u.function u.among; read = u.read }
+one_more_to fs f at (inr r) = record { function = f; among = Contains-append_right fs (f ∷ []) f (0, omega arith, refl); read = r }
+
+one_more_from : (fs : List Fun) (f : Fun) (at : Span) → UnsetAmong (fs ++ f ∷ []) at → UnsetAmong fs at ⊎ IsReadUnset f at
+one_more_from fs f at u = elim (Contains-append_cases fs (f ∷ []) u.function u.among) [
+  | inl c ↦ inl (record { function = u.function; among = c; read = u.read })
+  | inr c ↦ inr (subst (λ g. IsReadUnset g at) (sym (one_is f u.function c)) u.read)
+]
+
+pub unset_more : (fs : List Fun) (i : ℕ) (f : Fun) (best next r : Option Span) → i < length fs → f ≡ get_or fs i f
+    → IsEarliest (UnsetAmong (take i fs)) best → IsEarliest (IsReadUnset f) r → next ≡ earlier best r → IsEarliest (UnsetAmong (take (i + 1) fs)) next
+unset_more fs i f best next r lt is held read e =
+    let more : take (i + 1) fs ≡ take i fs ++ f ∷ [] = take_more fs i f lt ∙ ap (λ g. take i fs ++ g ∷ []) (sym is) in
+    subst (λ gs. IsEarliest (UnsetAmong gs) next) (sym more)
+    (subst (IsEarliest (UnsetAmong (take i fs ++ f ∷ []))) (sym e)
+    (same_wrong _ _ (λ at. (one_more_to (take i fs) f at, one_more_from (take i fs) f at)) _ (earlier_of_two (UnsetAmong (take i fs)) (IsReadUnset f) best r held read)))
+
+in_program : (p : Program) (at : Span) → UnsetAmong p.funs at ↔ IsReadUnsetIn p at
+in_program p at = (λ u. record { function = u.function; among = u.among; read = u.read }, λ u. record { function = u.function; among = u.among; read = u.read })
+
+pub unset_all : (p : Program) (fs : List Fun) (i : ℕ) (best : Option Span) → fs ≡ p.funs → i ≡ length fs → IsEarliest (UnsetAmong (take i fs)) best → IsEarliest (IsReadUnsetIn p) best
+unset_all p fs i best e n held =
+    let whole : take i fs ≡ p.funs = ap (λ k. take k fs) n ∙ (take-length fs ∙ e) in
+    same_wrong _ _ (in_program p) best (subst (λ gs. IsEarliest (UnsetAmong gs) best) whole held)

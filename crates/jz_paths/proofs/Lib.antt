@@ -1,0 +1,8 @@
+pub mod Joins
+pub mod Firsts
+pub mod Agree
+pub mod SetFused
+pub mod Walking
+pub mod Adding
+pub mod Asking
+pub mod Flows

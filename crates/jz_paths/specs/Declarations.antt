@@ -1,0 +1,58 @@
+-- What may be declared.
+use Rattle.std.specs.Prelude.{Bool, true, false, List, [], ◌++◌, flat_map, Some, None}
+use Rattle.jz_io.specs.declared.span.Span.{Span}
+use Rattle.jz_tree.specs.declared.expr.Storage.{Storage}
+use Rattle.jz_tree.specs.declared.expr.Storage.TheVariants as storage
+use Rattle.jz_tree.specs.declared.expr.Var.{Var}
+use Rattle.jz_tree.specs.declared.expr.Expr.TheViews.{out-Var}
+use Rattle.jz_tree.specs.declared.program.Program.{Program}
+use Rattle.jz_tree.specs.declared.program.Fun.{Fun}
+use Rattle.jz_scopes.specs.declared.kinds.Kind.{Kind}
+use Rattle.jz_scopes.specs.declared.kinds.Kind.TheVariants as kind
+use Rattle.jz_scopes.specs.declared.kinds.Declared.{Declared}
+use Rattle.jz_scopes.specs.Order.{unless}
+use Rattle.jz_scopes.specs.Kinds.{Known, declared_of, known_of}
+
+-- `int` and `inline` go together, and a bool is in a register
+abbrev pub kept : Storage → Kind → Bool
+kept storage.Inline kind.Int = true
+kept storage.Inline _ = false
+kept _ kind.Int = false
+kept storage.Stack kind.Truth = false
+kept _ _ = true
+
+-- a parameter is no bool
+abbrev pub passed : Storage → Kind → Bool
+passed _ kind.Truth = false
+passed s k = kept s k
+
+-- a result is no bool, and is not inline
+abbrev pub returned : Storage → Kind → Bool
+returned storage.Inline _ = false
+returned s k = passed s k
+
+abbrev pub is_kept : Declared → Bool
+is_kept d = kept d.storage d.kind
+
+abbrev pub is_passed : Declared → Bool
+is_passed d = passed d.storage d.kind
+
+abbrev pub is_returned : Declared → Bool
+is_returned d = returned d.storage d.kind
+
+-- the place of a variable, unless its declaration is fine; a variable without a declaration has no place here
+abbrev pub unkept_by : (Declared → Bool) → Known → Span → List Span
+unkept_by fine None at = []
+unkept_by fine (Some d) at = unless (fine d) at
+
+abbrev pub unkept : (Declared → Bool) → Var → List Span
+unkept fine v = unkept_by fine (known_of v) (out-Var v).span
+
+-- at the name that is declared; of a result at the function's name
+unfoldable pub unkept_in : Fun → List Span
+unkept_in f =
+    flat_map (λ p. unkept is_passed p.var) f.params
+    ++ (flat_map (unkept is_kept) f.vars ++ flat_map (λ r. unless (is_returned (declared_of r.decl)) f.span) f.rets)
+
+abbrev pub wrongly_kept : Program → List Span
+wrongly_kept p = flat_map unkept_in p.funs

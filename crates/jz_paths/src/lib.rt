@@ -1,0 +1,14 @@
+//! Where variables may be declared, set and read.
+#![tactic(auto)]
+
+mod asked;
+mod declarations;
+mod inline;
+mod reads;
+mod sets;
+mod settings;
+mod walk;
+
+pub use asked::{read_unset, read_unset_in};
+pub use declarations::wrongly_kept;
+pub use settings::wrongly_set;

@@ -1,0 +1,9 @@
+pub mod Joining
+pub mod Programs
+pub mod Pairs
+pub mod Exports
+pub mod Callees
+pub mod Copies
+pub mod Passing
+pub mod Indexes
+pub mod Tables

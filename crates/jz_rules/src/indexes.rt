@@ -1,0 +1,63 @@
+//! Indexes of register arrays.
+
+ghost use Rattle.std.specs.Prelude.{◌≡◌, IfOk};
+ghost use Rattle.jz_scopes.specs.Order.{earliest};
+ghost use Rattle.jz_scopes.specs.Lent.{these, paired};
+ghost use Rattle.jz_scopes.specs.Parts.{layer_of};
+ghost use Rattle.jz_rules.specs.Joining.{first_in};
+ghost use Rattle.jz_rules.specs.Indexes.{indexed_at, indexed_in, indexed_by};
+
+use jz_io::Span;
+use jz_scopes::{
+    cells, cells_set, earlier_of, exprs_of, is_inline, is_register_array, known, span_of, unless,
+};
+use jz_tree::{Expr, Stmt, Var};
+use std::alloc::{AllocError, Global};
+
+fn indexed_at(array: &Var, index: &Expr) -> Option<Span>
+    ensures { result ≡ earliest (indexed_at (array.now, index.now)) }
+{
+    unless(
+        !is_register_array(known(array)) || is_inline(index),
+        span_of(index),
+    )
+}
+
+fn indexed_among(cells: &[(&Var, &Expr)]) -> Option<Span>
+    ensures { result ≡ first_in indexed_at (paired cells.now) }
+{
+    let mut first = None;
+    for (array, index) in cells {
+        first = earlier_of(first, indexed_at(array, index));
+    }
+    first
+}
+
+#[tactic(auto, using(crate::proofs::Joins::joining))]
+fn indexed_in(alloc: Global, expr: &Expr) -> Result<Option<Span>, AllocError>
+    ensures { IfOk result (λ at. at ≡ earliest (indexed_in expr.now)) }
+{
+    let cells = cells(alloc, expr)?;
+    Ok(indexed_among(&cells))
+}
+
+fn indexed_in_all(alloc: Global, exprs: &[&Expr]) -> Result<Option<Span>, AllocError>
+    ensures { IfOk result (λ at. at ≡ first_in indexed_in (these exprs.now)) }
+{
+    let mut first = None;
+    for expr in exprs {
+        first = earlier_of(first, indexed_in(alloc, expr)?);
+    }
+    Ok(first)
+}
+
+/// The first index of a register array, in a statement without those that stand in it, that is not inline.
+#[tactic(auto, using(crate::proofs::Joins::joining))]
+pub fn indexed(alloc: Global, stmt: &Stmt) -> Result<Option<Span>, AllocError>
+    ensures { IfOk result (λ at. at ≡ earliest (indexed_by (layer_of stmt.now))) }
+{
+    let set = cells_set(alloc, stmt)?;
+    let exprs = exprs_of(alloc, stmt)?;
+    let read = indexed_in_all(alloc, &exprs)?;
+    Ok(earlier_of(indexed_among(&set), read))
+}

@@ -1,0 +1,114 @@
+//! Tables of names.
+
+ghost use Rattle.std.specs.Prelude.{◌≡◌, ℕ, nat_eq, [], ◌∷◌, ◌++◌, List, length, IfOk, OnOk};
+ghost use Rattle.std.specs.List.{list_any};
+ghost use Rattle.std.specs.Str.{bytes_eq};
+ghost use Rattle.jz_rules.specs.Callees.{place_of};
+ghost use Rattle.jz_rules.specs.Tables.{HasNames, HasNumbers, HasPlaces};
+
+use indexmap::{IndexMap, IndexSet};
+use jz_data::Text;
+use std::alloc::{AllocError, Global};
+
+/// A set of names.
+#[derive(Debug, Drop)]
+pub(crate) struct Names {
+    texts: IndexSet<Text>,
+}
+
+impl Names {
+    pub(crate) fn new(alloc: Global) -> Names
+        ensures { HasNames result [] }
+    {
+        Names {
+            texts: IndexSet::new(alloc),
+        }
+    }
+
+    pub(crate) fn has(&self, name: &Text) -> bool
+        ensures { (ns : List (List ℕ)) → HasNames self.now ns → result ≡ list_any (bytes_eq name.now) ns }
+    {
+        self.texts.contains(name)
+    }
+
+    pub(crate) fn add(&mut self, name: &Text) -> Result<(), AllocError>
+        ensures { (ns : List (List ℕ)) → HasNames self.old ns → OnOk result (HasNames self.new (ns ++ name.now ∷ [])) }
+    {
+        self.texts.insert(name.clone()?)?;
+        Ok(())
+    }
+}
+
+/// A set of numbers.
+#[derive(Debug, Drop)]
+pub(crate) struct Numbers {
+    numbers: IndexSet<usize>,
+}
+
+impl Numbers {
+    fn new(alloc: Global) -> Numbers
+        ensures { HasNumbers result [] }
+    {
+        Numbers {
+            numbers: IndexSet::new(alloc),
+        }
+    }
+
+    pub(crate) fn has(&self, number: usize) -> bool
+        ensures { (ns : List ℕ) → HasNumbers self.now ns → result ≡ list_any (nat_eq number) ns }
+    {
+        self.numbers.contains(&number)
+    }
+
+    fn add(&mut self, number: usize) -> Result<(), AllocError>
+        ensures { (ns : List ℕ) → HasNumbers self.old ns → OnOk result (HasNumbers self.new (ns ++ number ∷ [])) }
+    {
+        self.numbers.insert(number)?;
+        Ok(())
+    }
+
+    pub(crate) fn of(alloc: Global, list: &[usize]) -> Result<Numbers, AllocError>
+        ensures { IfOk result (λ s. HasNumbers s list.now) }
+    {
+        let mut numbers = Numbers::new(alloc);
+        for number in list {
+            numbers.add(*number)?;
+        }
+        Ok(numbers)
+    }
+}
+
+/// The first place of each name of a list.
+#[derive(Debug, Drop)]
+pub(crate) struct Places {
+    first: IndexMap<Text, usize>,
+}
+
+impl Places {
+    pub(crate) fn new(alloc: Global) -> Places
+        ensures { HasPlaces result [] }
+    {
+        Places {
+            first: IndexMap::new(alloc),
+        }
+    }
+
+    pub(crate) fn place(&self, name: &Text) -> Option<usize>
+        ensures { (ns : List (List ℕ)) → HasPlaces self.now ns → result ≡ place_of (bytes_eq name.now) ns }
+    {
+        match self.first.get(name) {
+            None => None,
+            Some(place) => Some(*place),
+        }
+    }
+
+    /// Adds the name that stands behind those of the list.
+    pub(crate) fn add(&mut self, name: &Text, place: usize) -> Result<(), AllocError>
+        ensures { (ns : List (List ℕ)) → place ≡ length ns → HasPlaces self.old ns → OnOk result (HasPlaces self.new (ns ++ name.now ∷ [])) }
+    {
+        if !self.first.contains_key(name) {
+            self.first.insert(name.clone()?, place)?;
+        }
+        Ok(())
+    }
+}
