@@ -1,15 +1,13 @@
 -- The lengths of a function's arrays, by where they are declared, are all of them.
-use Rattle.std.proofs.Common.{◌≡◌, ℕ, Bool, List, [], ◌∷◌, ◌++◌, map, flat_map, Option, Some, None, refl, sym, ap, ◌∙◌, append_assoc}
+use Rattle.std.proofs.Common.{◌≡◌, ℕ, Bool, List, [], ◌∷◌, ◌++◌, map, flat_map, Option, refl, sym, ap, ◌∙◌, append_assoc}
 use Rattle.std.specs.Prelude.{ℤ, option_to_list}
 use Rattle.jz_io.specs.declared.span.Span.{Span}
 use Rattle.jz_tree.specs.declared.expr.Decl.{Decl}
 use Rattle.jz_tree.specs.declared.expr.Expr.{Expr}
 use Rattle.jz_tree.specs.declared.expr.Expr.TheViews.{out-Var}
 use Rattle.jz_tree.specs.declared.program.Fun.{Fun}
-use Rattle.jz_tree.specs.declared.program.Ret.{Ret}
 use Rattle.jz_scopes.specs.Order.{earlier, earliest}
 use Rattle.jz_scopes.specs.Scopes.{variable_place}
-use Rattle.jz_scopes.specs.Names.{decls_of}
 use Rattle.jz_scopes.proofs.Earliest.{earliest-append}
 use Rattle.jz_scopes.specs.Order.{first_in}
 use Rattle.jz_kinds.specs.Lengths.{decl_wrong, lengths_wrong, is_apart, fun_lengths}

@@ -1,5 +1,5 @@
 -- The earliest of several lists.
-use Rattle.std.proofs.Common.{◌≡◌, List, [], ◌∷◌, ◌++◌, Option, Some, None, refl, sym, ap, ◌∙◌}
+use Rattle.std.proofs.Common.{◌≡◌, List, [], ◌∷◌, refl, ap, ◌∙◌}
 use Rattle.std.specs.Prelude.{flat_map}
 use Rattle.jz_io.specs.declared.span.Span.{Span}
 use Rattle.jz_scopes.specs.Order.{earlier, earliest, first_in}

@@ -1,5 +1,5 @@
 -- The earliest wrong place is that of the list of all.
-use Rattle.std.proofs.Common.{◌≡◌, Bool, true, false, not, ◌&&◌, List, [], ◌∷◌, ◌++◌, Option, Some, None, refl, sym, ap, ◌∙◌, subst}
+use Rattle.std.proofs.Common.{◌≡◌, Bool, true, false, not, ◌&&◌, List, [], ◌++◌, Option, Some, None, refl, sym, ap, ◌∙◌, subst}
 use Rattle.std.specs.Prelude.{if◌then◌else◌}
 use Rattle.jz_tree.specs.declared.expr.Storage.{Storage}
 use Rattle.jz_io.specs.declared.span.Span.{Span}
@@ -12,7 +12,7 @@ use Rattle.jz_tree.specs.declared.expr.Decl.{Decl}
 use Rattle.jz_tree.specs.declared.expr.Var.{Var}
 use Rattle.jz_tree.specs.declared.expr.Expr.TheOpen.{Expr-F, Ty-F, Access-F, Decl-F, Var-F}
 use Rattle.jz_tree.specs.declared.expr.Expr.TheViews.{roll-Expr, roll-Ty, roll-Access, roll-Decl, roll-Var}
-use Rattle.jz_tree.specs.declared.expr.Expr.TheFolds.{fold-Expr, fold-Ty, fold-Access, fold-Decl, fold-Var, fold-roll-Expr, fold-roll-Ty, fold-roll-Access, fold-roll-Decl, fold-roll-Var, ind-Expr, map-Expr, map-Ty, map-Access, map-Decl, map-Var}
+use Rattle.jz_tree.specs.declared.expr.Expr.TheFolds.{fold-Ty, fold-Decl, fold-Var, fold-roll-Expr, fold-roll-Ty, fold-roll-Access, fold-roll-Decl, fold-roll-Var, ind-Expr, map-Expr, map-Ty, map-Access, map-Decl, map-Var}
 use Rattle.jz_scopes.specs.Order.{unless, earlier, earliest}
 use Rattle.jz_scopes.proofs.Earliest.{earliest-append}
 use Rattle.jz_scopes.specs.declared.kinds.Kind.{Kind}
@@ -22,9 +22,9 @@ use Rattle.jz_kinds.specs.declared.wants.Want.{Want}
 use Rattle.jz_kinds.specs.declared.wants.Want.TheVariants as want
 use Rattle.jz_kinds.specs.declared.wants.Form.{Form}
 use Rattle.jz_kinds.specs.Wants.{fits_truth, fits_word, fits_access, fits_cell, cell_size, sized_want}
-use Rattle.jz_kinds.specs.Operators.{group_of, gives, stops, compared, bin_form, left_of, right_of, takes_carry}
-use Rattle.jz_kinds.specs.Typings.{Typing, typing, typing_of_access, typing_step, access_typing, neg_form, bin_wrong, left_want, right_want}
-use Rattle.jz_kinds.specs.Found.{Found, found, found_in_access, found_step, access_found, left_inline, bin_first}
+use Rattle.jz_kinds.specs.Operators.{group_of, gives, stops, compared, left_of, right_of, takes_carry}
+use Rattle.jz_kinds.specs.Typings.{Typing, typing, typing_of_access, typing_step, access_typing, neg_form, left_want, right_want}
+use Rattle.jz_kinds.specs.Found.{Found, found, found_in_access, found_step, access_found, left_inline}
 
 -- both say the same
 pub record IsSame (t : Typing) (f : Found) : Type 0 where

@@ -1,8 +1,7 @@
 -- Calls of functions, and what functions give back.
-use Rattle.std.specs.Prelude.{ℤ, Bool, true, false, ◌&&◌, ◌||◌, nat_eq, is_none, List, [], ◌++◌, length, flat_map, Option, Some, None}
+use Rattle.std.specs.Prelude.{pos, ℤ, Bool, true, false, ◌&&◌, ◌||◌, nat_eq, is_none, List, [], ◌++◌, length, flat_map, Option, Some, None}
 use Rattle.std.specs.Ordering.{int_eq}
 use Rattle.jz_io.specs.declared.span.Span.{Span}
-use Rattle.jz_words.specs.declared.size.Size.{Size}
 use Rattle.jz_tree.specs.declared.expr.Expr.{Expr}
 use Rattle.jz_tree.specs.declared.expr.Expr.TheViews.{out-Var}
 use Rattle.jz_tree.specs.declared.expr.Decl.{Decl}
@@ -26,9 +25,9 @@ use Rattle.jz_kinds.specs.Sides.{is_skip, within, any_size, takes}
 use Rattle.jz_kinds.specs.Intrinsics.{none_more}
 
 -- ---- equal declarations
--- a length without a number is told where it stands
+-- a length without a number, and one that became 0 since it has no value, is told where it stands
 abbrev pub same_length : Option ℤ → Option ℤ → Bool
-same_length (Some n) (Some m) = int_eq n m
+same_length (Some n) (Some m) = int_eq n (pos 0) || int_eq m (pos 0) || int_eq n m
 same_length _ _ = true
 
 abbrev pub same_decl : Decl → Decl → Bool

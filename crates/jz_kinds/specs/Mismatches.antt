@@ -82,6 +82,11 @@ mismatched_by fs k = mismatched_with (callee_where (among fs) k) k
 
 -- ---- of a program: of the program as it was read its constants and the lengths of its arrays, and of the program whose
 -- variables have their declarations its functions
+abbrev pub mismatched_as_read : (Expr → Option ℤ) → Program → List Span
+mismatched_as_read length_of p = flat_map constant_wrong p.consts ++ flat_map (fun_lengths (constant_place p.consts) length_of) p.funs
+
+abbrev pub mismatched_declared : Program → List Span
+mismatched_declared q = flat_map (body_wrong (among q.funs)) q.funs
+
 abbrev pub mismatched_in : (Expr → Option ℤ) → Program → Program → List Span
-mismatched_in length_of p q =
-    flat_map constant_wrong p.consts ++ flat_map (fun_lengths (constant_place p.consts) length_of) p.funs ++ flat_map (body_wrong (among q.funs)) q.funs
+mismatched_in length_of p q = mismatched_as_read length_of p ++ mismatched_declared q

@@ -1,7 +1,6 @@
 -- What expressions are, and where one has not the type that its place wants.
-use Rattle.std.specs.Prelude.{Bool, true, false, not, ◌&&◌, if◌then◌else◌, List, [], ◌∷◌, ◌++◌, Option, Some, None}
+use Rattle.std.specs.Prelude.{true, false, not, ◌&&◌, if◌then◌else◌, List, [], ◌++◌, Some, None}
 use Rattle.jz_io.specs.declared.span.Span.{Span}
-use Rattle.jz_words.specs.declared.size.Size.{Size}
 use Rattle.jz_tree.specs.declared.expr.BinOp.{BinOp}
 use Rattle.jz_tree.specs.declared.expr.Expr.{Expr}
 use Rattle.jz_tree.specs.declared.expr.Access.{Access}
@@ -11,7 +10,6 @@ use Rattle.jz_scopes.specs.Order.{unless}
 use Rattle.jz_scopes.specs.declared.kinds.Kind.{Kind}
 use Rattle.jz_scopes.specs.declared.kinds.Declared.{Declared}
 use Rattle.jz_scopes.specs.Kinds.{Known, kind_step, declared_step}
-use Rattle.jz_kinds.specs.declared.operators.Group.{Group}
 use Rattle.jz_kinds.specs.declared.wants.Want.{Want}
 use Rattle.jz_kinds.specs.declared.wants.Want.TheVariants as want
 use Rattle.jz_kinds.specs.declared.wants.Form.{Form}

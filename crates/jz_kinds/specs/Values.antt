@@ -10,9 +10,7 @@ use Rattle.jz_tree.specs.declared.expr.Expr.TheViews.{out-Expr}
 use Rattle.jz_tree.specs.declared.stmt.Lval.{Lval}
 use Rattle.jz_scopes.specs.Order.{unless}
 use Rattle.jz_scopes.specs.Parts.{span_of}
-use Rattle.jz_kinds.specs.declared.wants.Want.{Want}
 use Rattle.jz_kinds.specs.declared.wants.Want.TheVariants as want
-use Rattle.jz_kinds.specs.declared.wants.Form.{Form}
 use Rattle.jz_kinds.specs.Wants.{or_size, sized_want}
 use Rattle.jz_kinds.specs.Typings.{Typing, typing, bin_typing}
 use Rattle.jz_kinds.specs.Sides.{left_form, left_wrong, left_typing, left_span, set_want, within, any_size, takes}

@@ -28,7 +28,7 @@ fn same_length(a: Option<i128>, b: Option<i128>) -> bool
         None => true,
         Some(a) => match b {
             None => true,
-            Some(b) => a == b,
+            Some(b) => a == 0 || b == 0 || a == b,
         },
     }
 }

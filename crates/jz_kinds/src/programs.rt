@@ -6,7 +6,7 @@ ghost use Rattle.jz_scopes.specs.Order.{earliest};
 ghost use Rattle.jz_scopes.specs.Parts.{layer_of, statements_of};
 ghost use Rattle.jz_scopes.specs.Lent.{these};
 ghost use Rattle.jz_scopes.specs.Order.{first_in};
-ghost use Rattle.jz_kinds.specs.Mismatches.{callee_where, callee_from, stmt_wrong, body_wrong, constant_wrong, mismatched_in};
+ghost use Rattle.jz_kinds.specs.Mismatches.{callee_where, callee_from, stmt_wrong, body_wrong, constant_wrong, mismatched_as_read, mismatched_declared};
 ghost use Rattle.jz_kinds.specs.Lengths.{fun_lengths};
 ghost use Rattle.jz_scopes.specs.Tables.{place_in, function_in};
 
@@ -126,20 +126,27 @@ fn all_lengths_fault<L: Lengths>(
     Ok(first)
 }
 
-/// The first place in a program where a type, a size or a count is another than is wanted, if there is one. `declared` is the
-/// program whose variables have their declarations where they are used, and numbers as lengths.
-pub fn mismatches<L: Lengths>(
+/// The first constant of a program that is no integer, or length of an array that is not built of numbers and constants or
+/// is not from 1 to 65,536.
+pub fn mismatches_as_read<L: Lengths>(
     alloc: Global,
     lengths: &L,
     program: &Program,
-    declared: &Program,
 ) -> Result<Option<Span>, AllocError>
-    ensures { IfOk result (λ r. r ≡ earliest (mismatched_in (L.length_of lengths.now) program.now declared.now)) }
+    ensures { IfOk result (λ r. r ≡ earliest (mismatched_as_read (L.length_of lengths.now) program.now)) }
 {
     let constants = Places::of_constants(alloc, &program.consts)?;
-    let functions = Functions::of(alloc, &declared.funs)?;
     let numbers = all_constants_fault(program.consts.as_slice());
     let arrays = all_lengths_fault(alloc, lengths, &constants, program.funs.as_slice())?;
+    Ok(earlier_of(numbers, arrays))
+}
+
+/// The first place in the functions of a program where a type, a size or a count is another than is wanted. The program is
+/// one whose variables have their declarations where they are used, and numbers as lengths.
+pub fn mismatches_declared(alloc: Global, declared: &Program) -> Result<Option<Span>, AllocError>
+    ensures { IfOk result (λ r. r ≡ earliest (mismatched_declared declared.now)) }
+{
+    let functions = Functions::of(alloc, &declared.funs)?;
     let bodies = all_bodies_fault(alloc, &functions, declared.funs.as_slice())?;
-    Ok(earlier_of(numbers, earlier_of(arrays, bodies)))
+    Ok(bodies)
 }

@@ -1,4 +1,4 @@
-use Rattle.std.proofs.Common.{◌≡◌, sym, ap, ◌∙◌}
+use Rattle.std.proofs.Common.{◌∙◌}
 use Rattle.jz_scopes.specs.Tables.{place_in}
 use Rattle.jz_kinds.proofs.TablesSay.{variables_are}
 use Rattle.jz_kinds.proofs.Declared.{lengths_with}

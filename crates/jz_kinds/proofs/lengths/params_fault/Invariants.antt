@@ -1,4 +1,4 @@
-use Rattle.std.proofs.Common.{◌≡◌, drop, map}
+use Rattle.std.proofs.Common.{◌≡◌, drop}
 use Rattle.jz_scopes.specs.Order.{earlier, first_in}
 use Rattle.jz_scopes.specs.Tables.{place_in}
 use Rattle.jz_kinds.specs.Lengths.{is_apart}

@@ -1,4 +1,4 @@
-use Rattle.std.proofs.Common.{◌≡◌, drop, map}
+use Rattle.std.proofs.Common.{◌≡◌, drop}
 use Rattle.jz_scopes.specs.Order.{earlier, first_in}
 use Rattle.jz_scopes.specs.Tables.{function_in}
 use Rattle.jz_scopes.specs.Lent.{these}
