@@ -14,4 +14,4 @@ pub use laws::{expression_stays, functions_stay, statement_stays};
 pub use lookup::Lookup;
 pub use program::resolve;
 pub use statements::{resolve_block, resolve_vars};
-pub use table::{ConstantTable, constants, length};
+pub use table::{ConstantTable, constants};

@@ -5,7 +5,7 @@ ghost use Rattle.indexmap.specs.IndexMap.{get};
 ghost use Rattle.jz_tree.specs.declared.program.Const.{Const};
 ghost use Rattle.jz_scopes.specs.Scopes.{constant_place};
 ghost use Rattle.jz_scopes.specs.Names.{stands_above};
-ghost use Rattle.jz_resolve.specs.Numbering.{value_with, no_values, or_named, constant_decl, length_of};
+ghost use Rattle.jz_resolve.specs.Numbering.{value_with, no_values, or_named, constant_decl};
 ghost use Rattle.jz_resolve.specs.Tables.{values_in, places_in, IsTable};
 
 use indexmap::IndexMap;
@@ -60,8 +60,9 @@ impl ConstantTable {
         }
     }
 
-    /// The number of an expression, where it has one.
-    pub(crate) fn number_of(&self, alloc: Global, e: &Expr) -> Result<Option<i128>, AllocError>
+    /// The number of an expression that is built of numbers and constants, as the length of an array is; none, where it has no
+    /// value.
+    pub fn number_of(&self, alloc: Global, e: &Expr) -> Result<Option<i128>, AllocError>
         ensures { IfOk result (λ n. n ≡ value_with (values_in self.now) e.now) }
     {
         match inline_value(alloc, self, e)? {
@@ -125,15 +126,4 @@ pub fn constants(alloc: Global, consts: &Seq<Const>) -> Result<ConstantTable, Al
         table.add_value(alloc, c)?;
     }
     Ok(table)
-}
-
-/// The number of an array's length, which is built of numbers and constants; none, where it has no value.
-pub fn length(
-    alloc: Global,
-    constants: &ConstantTable,
-    length: &Expr,
-) -> Result<Option<i128>, AllocError>
-    ensures { (cs : List Const) → IsTable constants.now cs → IfOk result (λ n. n ≡ length_of cs length.now) }
-{
-    constants.number_of(alloc, length)
 }
