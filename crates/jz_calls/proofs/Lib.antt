@@ -1,0 +1,5 @@
+pub mod Spread
+pub mod Naming
+pub mod Joining
+pub mod Bridge
+pub mod Cyclic

@@ -1,0 +1,7 @@
+use Rattle.std.proofs.Common.{take}
+use Rattle.jz_calls.specs.Numbers.{VisitsAll}
+use Rattle.jz_calls.proofs.reaching.visit_all.Given as goal
+
+abbrev pub invariant-loop-at : goal.invariant-loop-at
+invariant-loop-at l =
+    VisitsAll l.initial.found.marks.items l.initial.found.order.items l.found.marks.items l.found.order.items (take l.at-index l.all)

@@ -1,0 +1,3 @@
+pub mod Recursion
+pub mod Numbers
+pub mod Tables

@@ -1,0 +1,69 @@
+//! Whether a function reaches itself.
+
+ghost use Rattle.std.specs.Prelude.{◌≡◌, ◌∷◌, [], ℕ, ◌<◌, ◌≤◌, length, OnOk, IfOk, IsTrue, ◌↔◌};
+ghost use Rattle.jz_calls.specs.Numbers.{Has, row_of, Leads, IsClosed, Consistent, VisitsAll};
+
+use jz_data::Seq;
+use std::alloc::{AllocError, Global};
+
+/// The functions found so far, in the order in which they were found.
+#[derive(Debug, Drop)]
+struct Found {
+    marks: Vec<bool>,
+    order: Vec<usize>,
+}
+
+fn visit(found: &mut Found, at: usize) -> Result<(), AllocError>
+    requires within { at < length found.old.marks.items }
+    requires consistent { Consistent found.old.marks.items found.old.order.items }
+    ensures { OnOk result (VisitsAll found.old.marks.items found.old.order.items found.new.marks.items found.new.order.items (at ∷ [])) }
+{
+    if found.marks[at] {
+        return Ok(());
+    }
+    found.order.push(at)?;
+    found.marks[at] = true;
+    Ok(())
+}
+
+fn visit_all(found: &mut Found, all: &[usize]) -> Result<(), AllocError>
+    requires within { (j : ℕ) → Has all.now j → j < length found.old.marks.items }
+    requires consistent { Consistent found.old.marks.items found.old.order.items }
+    ensures { OnOk result (VisitsAll found.old.marks.items found.old.order.items found.new.marks.items found.new.order.items all.now) }
+{
+    for at in all {
+        visit(found, *at)?;
+    }
+    Ok(())
+}
+
+fn calls_of(graph: &Seq<Seq<usize>>, at: usize) -> &[usize]
+    requires { at < length graph.now }
+    ensures { result.now ≡ row_of graph.now at }
+{
+    graph.as_slice()[at].as_slice()
+}
+
+/// Whether calls lead from a function back to it. Each call is looked at once.
+pub fn reaches_itself(
+    alloc: Global,
+    graph: &Seq<Seq<usize>>,
+    start: usize,
+) -> Result<bool, AllocError>
+    requires within { start < length graph.now }
+    requires closed { IsClosed graph.now }
+    ensures { IfOk result (λ b. IsTrue b ↔ Leads graph.now start start) }
+{
+    let mut found = Found {
+        marks: vec![in alloc; false; graph.len()]?,
+        order: Vec::new(alloc),
+    };
+    visit_all(&mut found, calls_of(graph, start))?;
+    let mut head = 0;
+    while head < found.order.len() {
+        let at = found.order[head];
+        visit_all(&mut found, calls_of(graph, at))?;
+        head += 1;
+    }
+    Ok(found.marks[start])
+}
