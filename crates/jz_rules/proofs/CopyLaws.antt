@@ -1,12 +1,11 @@
 -- The earliest of what is wrong with the arguments and results of a call.
-use Rattle.std.proofs.Common.{◌≡◌, ℕ, List, [], ◌++◌, map, flat_map, Option, Some, sym, ap, ◌∙◌}
+use Rattle.std.proofs.Common.{◌≡◌, ℕ, List, [], ◌++◌, flat_map, Option, Some, sym, ap, ◌∙◌}
 use Rattle.jz_io.specs.declared.span.Span.{Span}
 use Rattle.jz_tree.specs.declared.expr.Expr.{Expr}
 use Rattle.jz_tree.specs.declared.stmt.Lval.{Lval}
-use Rattle.jz_scopes.specs.Order.{earlier, earliest}
+use Rattle.jz_scopes.specs.Order.{earlier, earliest, first_in}
 use Rattle.jz_scopes.proofs.Earliest.{earliest-append}
 use Rattle.jz_rules.specs.declared.callee.Callee.{Callee}
-use Rattle.jz_rules.specs.Joining.{first_in}
 use Rattle.jz_rules.specs.Copies.{Given, Passed, given, numbers_back, passed_from, not_back, not_passed, passed_twice, passed_wrongly, wrong_arguments, copied_by_call}
 use Rattle.jz_rules.proofs.Joins.{first_in-is}
 

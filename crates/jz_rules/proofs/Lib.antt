@@ -4,3 +4,4 @@ pub mod TableLaws
 pub mod TwiceLaws
 pub mod CalleeLaws
 pub mod CopyLaws
+pub mod RowLaws

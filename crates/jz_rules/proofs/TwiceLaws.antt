@@ -1,6 +1,5 @@
 -- Arrays that are passed twice, by the names of those that were passed.
 use Rattle.std.proofs.Common.{◌≡◌, ℕ, ◌+◌, ◌<◌, suc, Bool, true, false, ◌&&◌, ◌||◌, not, List, [], ◌∷◌, ◌++◌, map, length, get_or, take, drop, Option, refl, sym, ap, ◌∙◌, cond, arith, drop-cons, append-nil, subst}
-use Rattle.std.specs.Prelude.{filter}
 use Rattle.std.specs.List.{list_any}
 use Rattle.std.specs.Str.{bytes_eq}
 use Rattle.std.proofs.lemmas.List.{map-append, map_more}
@@ -33,7 +32,6 @@ none_yet true = refl
 none_yet false = refl
 
 module _ (bs : List Bool) (b : Passed) where
-
   pub twice_is : (as' : List Passed)
       → (list_any (bytes_eq (text_of b.1)) (names_passed (written_among bs as')) || (is_written_at bs b.0 && list_any (bytes_eq (text_of b.1)) (names_passed as'))) ≡ list_any (is_twice bs b) as'
   twice_is [] = none_yet (is_written_at bs b.0)
@@ -41,8 +39,7 @@ module _ (bs : List Bool) (b : Passed) where
       elim (is_written_at bs a.0)
       as (λ w. (list_any (bytes_eq (text_of b.1)) (names_passed (cond w (a ∷ written_among bs as') (written_among bs as')))
       || (is_written_at bs b.0 && (bytes_eq (text_of b.1) (text_of a.1) || list_any (bytes_eq (text_of b.1)) (names_passed as'))))
-      ≡ ((bytes_eq (text_of b.1) (text_of a.1) && (is_written_at bs b.0 || w)) || list_any (is_twice bs b) as'))
-      [
+      ≡ ((bytes_eq (text_of b.1) (text_of a.1) && (is_written_at bs b.0 || w)) || list_any (is_twice bs b) as')) [
         | true ↦ with_written (bytes_eq (text_of b.1) (text_of a.1)) (is_written_at bs b.0) _ _ _ (twice_is as')
         | false ↦ without_written (bytes_eq (text_of b.1) (text_of a.1)) (is_written_at bs b.0) _ _ _ (twice_is as')
       ]
@@ -59,7 +56,7 @@ by_none w x a t r e f g k = g ∙ (f ∙ (sym (ap (λ q. q && a) f) ∙ (sym (ap
 
 -- ---- one more
 pub names_at : (s : Names) (ns ms : List (List ℕ)) → ns ≡ ms → HasNames s ns → HasNames s ms
-names_at s ns ms e h = record { has = λ n. h.has n ∙ ap (list_any (bytes_eq n)) e; }
+names_at s ns ms e h = record { has = λ n. h.has n ∙ ap (list_any (bytes_eq n)) e }
 
 passed_push : (as' : List Passed) (a : Passed) → names_passed as' ++ text_of a.1 ∷ [] ≡ names_passed (as' ++ a ∷ [])
 passed_push as' a = sym (map-append (λ a. text_of a.1) as' (a ∷ []))
@@ -104,6 +101,6 @@ turn_left bs ps i p first next all lt e held joined =
     in let items : drop i ps ≡ p ∷ drop (i + 1) ps = drop-cons ps i p lt ∙ (ap (λ q. q ∷ drop (suc i) ps) (sym e) ∙ ap (λ j. p ∷ drop j ps) (sym one))
     in joined (earliest (passed_twice bs (map passed_of (take (i + 1) ps)) (map passed_of (drop (i + 1) ps))))
     ∙ (ap (λ q. earlier first (earlier (earliest (unless (not (list_any (is_twice bs (passed_of p)) (map passed_of (take i ps)))) (span_of_var p.array.now))) (earliest (passed_twice bs q (map passed_of (drop (i + 1) ps))))))
-        (sym (turn_taken ps i p lt e))
+    (sym (turn_taken ps i p lt e))
     ∙ (ap (earlier first) (sym (earliest-append (unless (not (list_any (is_twice bs (passed_of p)) (map passed_of (take i ps)))) (span_of_var p.array.now)) _))
     ∙ (ap (λ q. earlier first (earliest (passed_twice bs (map passed_of (take i ps)) (map passed_of q)))) (sym items) ∙ held)))

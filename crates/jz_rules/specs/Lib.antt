@@ -1,4 +1,3 @@
-pub mod Joining
 pub mod Programs
 pub mod Pairs
 pub mod Exports
@@ -7,3 +6,4 @@ pub mod Copies
 pub mod Passing
 pub mod Indexes
 pub mod Tables
+pub mod Matching

@@ -1,5 +1,4 @@
 -- Two lists in step.
-use Rattle.std.specs.Prelude.{List, map}
 use Rattle.jz_rules.specs.declared.pairs.Pair.{Pair}
 
 abbrev pub pair_of : {A B : Type 0} → Pair A B → A × B

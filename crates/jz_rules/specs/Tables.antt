@@ -1,5 +1,5 @@
 -- What the tables of names hold.
-use Rattle.std.specs.Prelude.{◌≡◌, ℕ, Bool, nat_eq, List, map, filter, Option, option_map}
+use Rattle.std.specs.Prelude.{◌≡◌, ℕ, Bool, nat_eq, List, map, filter, option_map}
 use Rattle.std.specs.List.{list_any}
 use Rattle.std.specs.Str.{bytes_eq}
 use Rattle.indexmap.specs.IndexMap.{get}

@@ -2,8 +2,7 @@
 
 ghost use Rattle.std.specs.Prelude.{◌≡◌, flat_map};
 ghost use Rattle.std.specs.Option.{option_copied};
-ghost use Rattle.jz_scopes.specs.Order.{earliest};
-ghost use Rattle.jz_rules.specs.Joining.{first_in};
+ghost use Rattle.jz_scopes.specs.Order.{earliest, first_in};
 ghost use Rattle.jz_rules.specs.Copies.{place_of_array, array_arg, array_left};
 
 use jz_data::Seq;

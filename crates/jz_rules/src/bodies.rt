@@ -2,9 +2,8 @@
 
 ghost use Rattle.std.specs.Prelude.{◌≡◌, List, IfOk};
 ghost use Rattle.jz_tree.specs.declared.program.Fun.{Fun};
-ghost use Rattle.jz_scopes.specs.Order.{earliest};
+ghost use Rattle.jz_scopes.specs.Order.{earliest, first_in};
 ghost use Rattle.jz_scopes.specs.Parts.{statements_of};
-ghost use Rattle.jz_rules.specs.Joining.{first_in};
 ghost use Rattle.jz_rules.specs.Programs.{of_statement, in_body, in_statements};
 ghost use Rattle.jz_rules.specs.Indexes.{indexed_by};
 ghost use Rattle.jz_rules.specs.Copies.{copied_by};
@@ -56,11 +55,7 @@ pub fn indexed_in(alloc: Global, program: &Program) -> Result<Option<Span>, Allo
     Ok(first)
 }
 
-fn copied_in_stmt(
-    alloc: Global,
-    callees: &Callees,
-    stmt: &Stmt,
-) -> Result<Option<Span>, AllocError>
+fn copied_in_stmt(alloc: Global, callees: &Callees, stmt: &Stmt) -> Result<Option<Span>, AllocError>
     ensures { (fs : List Fun) → HasCallees callees.now fs → IfOk result (λ at. at ≡ earliest (of_statement (copied_by fs) stmt.now)) }
 {
     copied(alloc, callees.called(stmt), stmt)
@@ -81,11 +76,7 @@ fn copied_in_body(
 }
 
 #[tactic(auto, using(crate::proofs::Joins::joining))]
-fn copied_in_fun(
-    alloc: Global,
-    callees: &Callees,
-    fun: &Fun,
-) -> Result<Option<Span>, AllocError>
+fn copied_in_fun(alloc: Global, callees: &Callees, fun: &Fun) -> Result<Option<Span>, AllocError>
     ensures { (fs : List Fun) → HasCallees callees.now fs → IfOk result (λ at. at ≡ earliest (in_body (copied_by fs) fun.now)) }
 {
     let first = copied_in_body(alloc, callees, &fun.body)?;

@@ -30,11 +30,7 @@ pub struct Callee {
     pub(crate) left: Seq<Expr>,
 }
 
-fn add_set<'a>(
-    alloc: Global,
-    list: &mut Vec<&'a Var>,
-    stmt: &'a Stmt,
-) -> Result<(), AllocError>
+fn add_set<'a>(alloc: Global, list: &mut Vec<&'a Var>, stmt: &'a Stmt) -> Result<(), AllocError>
     ensures { OnOk result (these list.new.items ≡ these list.old.items ++ set_by (layer_of stmt.now)) }
 {
     for var in set_by(alloc, stmt)? {

@@ -2,10 +2,9 @@
 
 ghost use Rattle.std.specs.Prelude.{◌≡◌, ℕ, ◌++◌, List, map, flat_map, option_to_list, Some, IfOk, OnOk};
 ghost use Rattle.std.specs.Option.{option_copied};
-ghost use Rattle.jz_scopes.specs.Order.{earliest};
+ghost use Rattle.jz_scopes.specs.Order.{earliest, first_in};
 ghost use Rattle.jz_scopes.specs.Parts.{layer_of};
 ghost use Rattle.jz_scopes.specs.Kinds.{array_of};
-ghost use Rattle.jz_rules.specs.Joining.{first_in};
 ghost use Rattle.jz_rules.specs.Pairs.{pair_of};
 ghost use Rattle.jz_rules.specs.Passing.{passed_of};
 ghost use Rattle.jz_rules.specs.Tables.{HasNumbers};
@@ -236,7 +235,8 @@ pub fn copied(
         op: _,
         rhs,
         cond: _,
-    } = &stmt.kind else {
+    } = &stmt.kind
+    else {
         return Ok(None);
     };
     match rhs {

@@ -2,8 +2,7 @@
 
 ghost use Rattle.std.specs.Prelude.{◌≡◌};
 ghost use Rattle.std.specs.List.{list_all};
-ghost use Rattle.jz_scopes.specs.Order.{earliest};
-ghost use Rattle.jz_rules.specs.Joining.{first_in};
+ghost use Rattle.jz_scopes.specs.Order.{earliest, first_in};
 ghost use Rattle.jz_rules.specs.Exports.{is_exported, is_word_param, is_word_result, has_shape, misshapen, is_precondition, annotated_by, annotated};
 
 use jz_data::Seq;

@@ -1,10 +1,9 @@
 //! Indexes of register arrays.
 
 ghost use Rattle.std.specs.Prelude.{◌≡◌, IfOk};
-ghost use Rattle.jz_scopes.specs.Order.{earliest};
+ghost use Rattle.jz_scopes.specs.Order.{earliest, first_in};
 ghost use Rattle.jz_scopes.specs.Lent.{these, paired};
 ghost use Rattle.jz_scopes.specs.Parts.{layer_of};
-ghost use Rattle.jz_rules.specs.Joining.{first_in};
 ghost use Rattle.jz_rules.specs.Indexes.{indexed_at, indexed_in, indexed_by};
 
 use jz_io::Span;

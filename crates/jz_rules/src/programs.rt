@@ -1,9 +1,7 @@
 //! Rules of each function, over a whole program.
 
-
 ghost use Rattle.std.specs.Prelude.{◌≡◌};
-ghost use Rattle.jz_scopes.specs.Order.{earliest};
-ghost use Rattle.jz_rules.specs.Joining.{first_in};
+ghost use Rattle.jz_scopes.specs.Order.{earliest, first_in};
 ghost use Rattle.jz_rules.specs.Programs.{in_functions};
 ghost use Rattle.jz_rules.specs.Exports.{misshapen, annotated};
 

@@ -1,6 +1,5 @@
 use Rattle.std.proofs.Common.{◌≡◌, drop}
-use Rattle.jz_scopes.specs.Order.{earlier}
-use Rattle.jz_rules.specs.Joining.{first_in}
+use Rattle.jz_scopes.specs.Order.{earlier, first_in}
 use Rattle.jz_rules.specs.Copies.{array_left}
 use Rattle.jz_rules.proofs.arrays.first_left.Given as goal
 

@@ -1,7 +1,6 @@
 use Rattle.std.proofs.Common.{◌≡◌, List, drop}
 use Rattle.jz_tree.specs.declared.program.Fun.{Fun}
-use Rattle.jz_scopes.specs.Order.{earlier}
-use Rattle.jz_rules.specs.Joining.{first_in}
+use Rattle.jz_scopes.specs.Order.{earlier, first_in}
 use Rattle.jz_rules.specs.Programs.{in_body}
 use Rattle.jz_rules.specs.Copies.{copied_by}
 use Rattle.jz_rules.specs.Tables.{HasCallees}

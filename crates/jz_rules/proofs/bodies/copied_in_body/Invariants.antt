@@ -1,9 +1,8 @@
 use Rattle.std.proofs.Common.{◌≡◌, List}
 use Rattle.jz_tree.specs.declared.program.Fun.{Fun}
-use Rattle.jz_scopes.specs.Order.{earlier}
+use Rattle.jz_scopes.specs.Order.{earlier, first_in}
 use Rattle.jz_scopes.specs.Lent.{these}
 use Rattle.jz_scopes.specs.Parts.{statements_of}
-use Rattle.jz_rules.specs.Joining.{first_in}
 use Rattle.jz_rules.specs.Programs.{of_statement}
 use Rattle.jz_rules.specs.Copies.{copied_by}
 use Rattle.jz_rules.specs.Tables.{HasCallees}

@@ -1,6 +1,5 @@
 use Rattle.std.proofs.Common.{◌≡◌, drop}
-use Rattle.jz_scopes.specs.Order.{earlier}
-use Rattle.jz_rules.specs.Joining.{first_in}
+use Rattle.jz_scopes.specs.Order.{earlier, first_in}
 use Rattle.jz_rules.specs.Programs.{in_body}
 use Rattle.jz_rules.specs.Indexes.{indexed_by}
 use Rattle.jz_rules.proofs.bodies.indexed_among_funs.Given as goal

@@ -1,8 +1,7 @@
 use Rattle.std.proofs.Common.{◌≡◌}
-use Rattle.jz_scopes.specs.Order.{earlier}
+use Rattle.jz_scopes.specs.Order.{earlier, first_in}
 use Rattle.jz_scopes.specs.Lent.{these}
 use Rattle.jz_scopes.specs.Parts.{statements_of}
-use Rattle.jz_rules.specs.Joining.{first_in}
 use Rattle.jz_rules.specs.Programs.{of_statement}
 use Rattle.jz_rules.specs.Indexes.{indexed_by}
 use Rattle.jz_rules.proofs.bodies.indexed_in_body.Given as goal

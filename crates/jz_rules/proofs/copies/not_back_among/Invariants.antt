@@ -1,6 +1,5 @@
 use Rattle.std.proofs.Common.{◌≡◌, ℕ, List, map, drop}
-use Rattle.jz_scopes.specs.Order.{earlier}
-use Rattle.jz_rules.specs.Joining.{first_in}
+use Rattle.jz_scopes.specs.Order.{earlier, first_in}
 use Rattle.jz_rules.specs.Passing.{passed_of}
 use Rattle.jz_rules.specs.Tables.{HasNumbers}
 use Rattle.jz_rules.specs.Copies.{not_back}

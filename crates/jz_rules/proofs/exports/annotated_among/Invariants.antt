@@ -1,7 +1,6 @@
 use Rattle.std.proofs.Common.{◌≡◌, drop}
-use Rattle.jz_scopes.specs.Order.{earlier}
+use Rattle.jz_scopes.specs.Order.{earlier, first_in}
 use Rattle.jz_rules.specs.Exports.{annotated_by}
-use Rattle.jz_rules.specs.Joining.{first_in}
 use Rattle.jz_rules.proofs.exports.annotated_among.Given as goal
 
 abbrev pub invariant-loop-note : goal.invariant-loop-note

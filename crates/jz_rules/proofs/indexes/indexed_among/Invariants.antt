@@ -1,7 +1,6 @@
 use Rattle.std.proofs.Common.{◌≡◌, drop}
-use Rattle.jz_scopes.specs.Order.{earlier}
+use Rattle.jz_scopes.specs.Order.{earlier, first_in}
 use Rattle.jz_scopes.specs.Lent.{paired}
-use Rattle.jz_rules.specs.Joining.{first_in}
 use Rattle.jz_rules.specs.Indexes.{indexed_at}
 use Rattle.jz_rules.proofs.indexes.indexed_among.Given as goal
 

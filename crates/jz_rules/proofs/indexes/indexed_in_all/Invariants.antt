@@ -1,7 +1,6 @@
 use Rattle.std.proofs.Common.{◌≡◌, drop}
-use Rattle.jz_scopes.specs.Order.{earlier}
+use Rattle.jz_scopes.specs.Order.{earlier, first_in}
 use Rattle.jz_scopes.specs.Lent.{these}
-use Rattle.jz_rules.specs.Joining.{first_in}
 use Rattle.jz_rules.specs.Indexes.{indexed_in}
 use Rattle.jz_rules.proofs.indexes.indexed_in_all.Given as goal
 

@@ -1,7 +1,6 @@
 use Rattle.std.proofs.Common.{rules}
 use Rattle.std.specs.Str.{bytes_eq}
 use Rattle.indexmap.specs.IndexMap.{get}
-use Rattle.jz_rules.specs.Callees.{callee_of}
 use Rattle.jz_rules.proofs.CalleeLaws.{callees_more, callees_kept}
 use Rattle.jz_rules.proofs.callee.Callees.add.Goals as goal
 
@@ -13,4 +12,4 @@ returns-in_ok-insert c =
 
 pub returns-else-not-contains_key : goal.returns-else-not-contains_key
 returns-else-not-contains_key c =
-    λ fs held. record { first = callees_kept fs c.args.fun.now (get bytes_eq c.args.self.now.callees) held.first (search rules); }
+    λ fs held. record { first = callees_kept fs c.args.fun.now (get bytes_eq c.args.self.now.callees) held.first (search rules) }

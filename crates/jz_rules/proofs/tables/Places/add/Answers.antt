@@ -12,4 +12,4 @@ returns-in_ok-insert c =
 
 pub returns-else-not-contains_key : goal.returns-else-not-contains_key
 returns-else-not-contains_key c =
-    λ ns long held. record { first = places_kept ns c.args.name.now (get bytes_eq c.args.self.now.first) held.first (search rules); }
+    λ ns long held. record { first = places_kept ns c.args.name.now (get bytes_eq c.args.self.now.first) held.first (search rules) }

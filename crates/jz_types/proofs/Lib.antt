@@ -1,0 +1,4 @@
+pub mod Telling
+pub mod Joins
+pub mod Storing
+pub mod Judging

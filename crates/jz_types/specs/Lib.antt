@@ -1,0 +1,5 @@
+pub mod Rows
+pub mod Faults
+pub mod Rules
+pub mod Asking
+pub mod TypedPrograms

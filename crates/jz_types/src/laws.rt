@@ -1,0 +1,16 @@
+//! Laws of the definitions.
+
+ghost use Rattle.std.specs.Prelude.{◌≡◌};
+ghost use Rattle.jz_tree.specs.declared.program.Program.{Program};
+ghost use Rattle.jz_types.specs.declared.fault.TypeFault.{TypeFault};
+ghost use Rattle.jz_types.specs.Rules.{IsTyped, IsFirstTypeFault};
+
+/// A program has one first fault at most.
+pub fn one_fault()
+    ensures { (program : Program) (fault other : TypeFault) → IsFirstTypeFault program fault → IsFirstTypeFault program other → fault ≡ other }
+{}
+
+/// A typed program has no fault.
+pub fn no_fault_of_a_typed()
+    ensures { (program : Program) (fault : TypeFault) → IsTyped program → IsFirstTypeFault program fault → ⊥ }
+{}

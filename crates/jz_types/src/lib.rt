@@ -1,0 +1,14 @@
+//! Typing: a program in which no rule fails, or the first fault.
+#![tactic(auto)]
+
+mod checking;
+mod fault;
+mod laws;
+mod lengths;
+mod rows;
+mod typed;
+
+pub use checking::check;
+pub use fault::{TypeFault, TypeRule};
+pub use laws::{no_fault_of_a_typed, one_fault};
+pub use typed::Typed;
