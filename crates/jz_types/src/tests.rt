@@ -417,7 +417,8 @@ static ROWS: [Row; 106] = [
     ),
 ];
 
-fn answer(alloc: Global, text: &str) -> Result<String, Fail> {
+fn answer(rt: &impl Abort, alloc: Global, text: &str) -> Result<String, Fail> {
+    assert!(rt; text.len() < 1000);
     let tokens = lex(alloc, text.as_bytes())
         .ok()
         .ok_or("the text has no tokens")?;
@@ -437,7 +438,7 @@ fn answer(alloc: Global, text: &str) -> Result<String, Fail> {
 
 fn answer_rows(rt: &impl Abort, alloc: Global, rows: &[Row]) -> Result<(), Fail> {
     for row in rows {
-        let told = answer(alloc, row.0)?;
+        let told = answer(rt, alloc, row.0)?;
         assert_eq!(rt; told.as_str(), row.1, "{}", row.0);
     }
     Ok(())
