@@ -1,14 +1,15 @@
 -- Calls between functions and calls between their numbers. Two functions that are the same in all have the calls of either; a function that is called is the first of its name.
 use Rattle.std.proofs.Common.{◌≡◌, ℕ, zero, suc, ◌<◌, inl, inr, List, [], ◌∷◌, Option, Some, None, length, map, flat_map, get_or, refl, sym, ap, ◌∙◌, subst, arith}
-use Rattle.std.specs.Prelude.{Contains, option_to_list}
+use Rattle.std.specs.Prelude.{Contains, option_to_list, slice_get}
 use Rattle.std.proofs.lemmas.List.{get_or_default, length-map}
+use Rattle.std.proofs.lemmas.Option.{slice_get_within, get_or_from_slice_get, slice_get_read}
 use Rattle.std.proofs.lemmas.List.Elements.{Contains-append_left, Contains-append_right, Contains-append_cases}
 use Rattle.jz_tree.specs.declared.program.Fun.{Fun}
 use Rattle.jz_tree.specs.declared.program.Program.{Program}
 use Rattle.jz_tree.specs.declared.stmt.Stmt.{Stmt}
 use Rattle.jz_scopes.specs.Scopes.{Name}
 use Rattle.jz_scopes.specs.Parts.{called_by, statements_of, layer_of}
-use Rattle.jz_calls.specs.Recursion.{callees, Calls, Reaches, calls, further}
+use Rattle.jz_calls.specs.Recursion.{callees, Calls, Reaches, calls, further, CallsAt}
 use Rattle.jz_calls.specs.Numbers.{number_named, called_number, numbers_by, numbers_called, graph_of, Has, row_of, IsClosed, Leads}
 use Rattle.jz_calls.specs.Numbers as by_number
 use Rattle.jz_calls.proofs.Naming.{At, named_by_function, named_by_number}
@@ -144,6 +145,23 @@ edge_up p i f g c a =
       there = subst (At fs m.number) e m.there;
       first = ap (λ n. number_named n fs) (sym (m.same ∙ ap (λ h. h.name) e)) ∙ m.numbered;
     }
+
+-- ---- a call of a program and an edge of its graph
+stands : (fs : List Fun) (i : ℕ) (f : Fun) → slice_get fs i ≡ Some f → At fs i f
+stands fs i f h = record { within = slice_get_within fs i f h; is = get_or_from_slice_get fs i f f h }
+
+found : (fs : List Fun) (i : ℕ) (f : Fun) → At fs i f → slice_get fs i ≡ Some f
+found fs i f a = slice_get_read fs (length fs) i f refl a.within (sym a.is)
+
+pub called_at : (p : Program) (i j : ℕ) → CallsAt p i j → Has (row_of (graph_of p.funs) i) j
+called_at p i j c =
+    let a = stands p.funs i c.caller c.there
+    in subst (λ xs. Has xs j) (sym (row_is (numbers_called p.funs) p.funs i c.caller a.within a.is)) (up p.funs c.caller c.name j c.among c.numbered)
+
+pub calls_at : (p : Program) (i j : ℕ) (f : Fun) → At p.funs i f → Has (row_of (graph_of p.funs) i) j → CallsAt p i j
+calls_at p i j f a h =
+    let c = down p.funs f j (subst (λ xs. Has xs j) (row_is (numbers_called p.funs) p.funs i f a.within a.is) h)
+    in record { caller = f; there = found p.funs i f a; name = c.name; among = c.among; numbered = c.numbered }
 
 -- ---- calls, one after the other
 record AllDown (p : Program) (j : ℕ) (f : Fun) : Type 0 where

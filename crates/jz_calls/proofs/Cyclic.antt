@@ -8,7 +8,7 @@ use Rattle.jz_scopes.specs.Order.{earlier, earliest, unless, IsEarliest, nowhere
 use Rattle.jz_calls.specs.Recursion.{IsRecursive}
 use Rattle.jz_calls.specs.Numbers.{graph_of, Leads}
 use Rattle.jz_calls.proofs.Naming.{At}
-use Rattle.jz_calls.proofs.Joining.{same_wrong, earlier_of_two}
+use Rattle.jz_scopes.proofs.Firsts.{same_wrong, earlier_of_two}
 use Rattle.jz_calls.proofs.Bridge.{at_same, cycle_down, cycle_up}
 
 pub record Cyclic (g : List (List ℕ)) (fs : List Fun) (k : ℕ) (at : Span) : Type 0 where

@@ -1,5 +1,7 @@
 pub mod Spread
 pub mod Naming
-pub mod Joining
 pub mod Bridge
 pub mod Cyclic
+pub mod Falling
+pub mod Each
+pub mod Ranked

@@ -5,7 +5,7 @@ use Rattle.std.proofs.lemmas.List.Sums.{sum_by-set}
 use Rattle.std.proofs.Math.ListN.{get_or-append}
 use Rattle.std.proofs.Math.Seq.{get_or-append_seam}
 use Rattle.std.proofs.lemmas.Grind.{get_or_default_zero}
-use Rattle.jz_calls.specs.Numbers.{Has, row_of, Leads, directly, further, IsClosed, Consistent, VisitsAll}
+use Rattle.jz_calls.specs.Numbers.{Has, row_of, Leads, directly, further, IsClosed, Consistent, VisitsAll, IsFound}
 
 has_left : (xs : List ℕ) (y j : ℕ) → Has xs j → Has (xs ++ y ∷ []) j
 has_left xs y j h = (h.0, omega (arith, h.1, length-append xs (y ∷ [])), get_or-append xs (y ∷ []) 0 h.0 h.1 ∙ h.2)
@@ -58,16 +58,6 @@ found_new marks order at c lt f =
       has = λ j h. subst (Has (order ++ at ∷ [])) (has_one at j h) (has_last order at);
       only = λ j h. elim (has_either order at j h) [ inl p ↦ inl p | inr e ↦ inr (subst (Has (at ∷ [])) e (has_last [] at)) ];
     }
-
-pub visits_none : (marks : List Bool) (order : List ℕ) → Consistent marks order → VisitsAll marks order marks order []
-visits_none marks order c = record {
-  consistent = c;
-  same = refl;
-  longer = omega arith;
-  keeps = λ k h. refl;
-  has = λ j h. absurd (omega (arith, h.1));
-  only = λ j h. inl h;
-}
 
 pub visits_more : (m : List Bool) (o : List ℕ) (m1 : List Bool) (o1 : List ℕ) (m2 : List Bool) (o2 : List ℕ) (xs : List ℕ) (at : ℕ)
     → VisitsAll m o m1 o1 xs → VisitsAll m1 o1 m2 o2 (at ∷ []) → VisitsAll m o m2 o2 (xs ++ at ∷ [])
@@ -142,18 +132,11 @@ at_within g start m o head at s lt e = within_graph g start m o head at s (head,
 pub has_callee : (g : List (List ℕ)) (i j n : ℕ) (xs : List ℕ) → IsClosed g → xs ≡ row_of g i → n ≡ length g → Has xs j → j < n
 has_callee g i j n xs c e f h = subst (λ k. j < k) (sym f) (c i j (subst (λ ys. Has ys j) e h))
 
-pub order_below : (g : List (List ℕ)) (start : ℕ) (m : List Bool) (o : List ℕ) (head : ℕ) → Spread g start m o head → length o ≤ length g
-order_below g start m o head s = omega (arith, s.consistent.count, s.same)
-
 pub spread_first : (g : List (List ℕ)) (start : ℕ) (m : List Bool) (o xs : List ℕ) (m1 : List Bool) (o1 : List ℕ) → length m ≡ length g → o ≡ [] → xs ≡ row_of g start → VisitsAll m o m1 o1 xs → Spread g start m1 o1 0
 spread_first g start m o xs m1 o1 e f h v = spread_init g start m m1 o1 e (subst (VisitsAll m [] m1 o1) h (subst (λ z. VisitsAll m z m1 o1 xs) f v))
 
-mark_is : (m : List Bool) (i : ℕ) (b : Bool) → i < length m → b ≡ get_or m i b → get_or m i false ≡ b
+pub mark_is : (m : List Bool) (i : ℕ) (b : Bool) → i < length m → b ≡ get_or m i b → get_or m i false ≡ b
 mark_is m i b lt e = get_or_default m i false b lt ∙ sym e
 
-pub spread_answer : (g : List (List ℕ)) (start : ℕ) (m : List Bool) (o : List ℕ) (head : ℕ) (b : Bool) → Spread g start m o head → length o ≤ head → start < length g → b ≡ get_or m start b
-    → (b ≡ true → Leads g start start) × (Leads g start start → b ≡ true)
-spread_answer g start m o head b s le lt e =
-    let at = mark_is m start b (omega (arith, s.same)) e in
-    let d = spread_done g start m o head s le start in
-    (λ h. d.0 (at ∙ h), λ r. sym at ∙ d.1 r)
+pub spread_found : (g : List (List ℕ)) (start : ℕ) (m : List Bool) (o : List ℕ) (head : ℕ) → Spread g start m o head → length o ≤ head → IsFound g start m o
+spread_found g start m o head s le = record { consistent = s.consistent; same = s.same; reached = λ j. spread_done g start m o head s le j }

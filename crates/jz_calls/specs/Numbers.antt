@@ -1,5 +1,5 @@
 -- Calls between functions by their numbers: a function's number says how many stand above it.
-use Rattle.std.specs.Prelude.{ℕ, suc, ◌+◌, ◌<◌, ◌≤◌, ◌≡◌, ◌⊎◌, Bool, true, false, not, if◌then◌else◌, List, [], ◌∷◌, length, count_by, map, flat_map, option_map, option_to_list, Option, Some, None, slice_index_or}
+use Rattle.std.specs.Prelude.{ℕ, suc, ◌+◌, ◌<◌, ◌≤◌, ◌≡◌, ◌⊎◌, ◌↔◌, Bool, true, false, not, if◌then◌else◌, List, [], ◌∷◌, length, count_by, map, flat_map, option_map, option_to_list, Option, Some, None, slice_index_or}
 use Rattle.std.specs.Str.{bytes_eq}
 use Rattle.jz_tree.specs.declared.program.Fun.{Fun}
 use Rattle.jz_tree.specs.declared.stmt.Stmt.{Stmt}
@@ -58,3 +58,15 @@ pub record VisitsAll (marks : List Bool) (order : List ℕ) (marks' : List Bool)
   pub keeps : (k : ℕ) → k < length order → slice_index_or order' k 0 ≡ slice_index_or order k 0
   pub has : (j : ℕ) → Has xs j → Has order' j
   pub only : (j : ℕ) → Has order' j → Has order j ⊎ Has xs j
+
+-- the functions that start reaches, by marks and as a list
+pub record IsFound (g : List (List ℕ)) (start : ℕ) (marks : List Bool) (order : List ℕ) : Type 0 where
+  pub consistent : Consistent marks order
+  pub same : length marks ≡ length g
+  pub reached : (j : ℕ) → (slice_index_or marks j false ≡ true) ↔ Leads g start j
+
+-- a rank for each function, below the number of functions, and each call is of a function of lower rank
+pub record Falls (g : List (List ℕ)) (ranks : List ℕ) : Type 0 where
+  pub same : length ranks ≡ length g
+  pub below : (i : ℕ) → i < length ranks → slice_index_or ranks i 0 < length g
+  pub falls : (i j : ℕ) → Has (row_of g i) j → slice_index_or ranks j 0 < slice_index_or ranks i 0

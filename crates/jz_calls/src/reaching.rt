@@ -1,16 +1,16 @@
-//! Whether a function reaches itself.
+//! Which functions a function reaches.
 
-ghost use Rattle.std.specs.Prelude.{◌≡◌, ◌∷◌, [], ℕ, ◌<◌, ◌≤◌, length, OnOk, IfOk, IsTrue, ◌↔◌};
-ghost use Rattle.jz_calls.specs.Numbers.{Has, row_of, Leads, IsClosed, Consistent, VisitsAll};
+ghost use Rattle.std.specs.Prelude.{◌≡◌, ◌∷◌, [], ℕ, ◌<◌, length, OnOk, IfOk};
+ghost use Rattle.jz_calls.specs.Numbers.{Has, row_of, IsClosed, Consistent, VisitsAll, IsFound};
 
 use jz_data::Seq;
 use std::alloc::{AllocError, Global};
 
 /// The functions found so far, in the order in which they were found.
 #[derive(Debug, Drop)]
-struct Found {
-    marks: Vec<bool>,
-    order: Vec<usize>,
+pub struct Found {
+    pub marks: Vec<bool>,
+    pub order: Vec<usize>,
 }
 
 fn visit(found: &mut Found, at: usize) -> Result<(), AllocError>
@@ -44,15 +44,11 @@ fn calls_of(graph: &Seq<Seq<usize>>, at: usize) -> &[usize]
     graph.as_slice()[at].as_slice()
 }
 
-/// Whether calls lead from a function back to it. Each call is looked at once.
-pub fn reaches_itself(
-    alloc: Global,
-    graph: &Seq<Seq<usize>>,
-    start: usize,
-) -> Result<bool, AllocError>
+/// The functions to which calls lead from one. Each call is looked at once.
+pub fn reach(alloc: Global, graph: &Seq<Seq<usize>>, start: usize) -> Result<Found, AllocError>
     requires within { start < length graph.now }
     requires closed { IsClosed graph.now }
-    ensures { IfOk result (λ b. IsTrue b ↔ Leads graph.now start start) }
+    ensures { IfOk result (λ found. IsFound graph.now start found.marks.items found.order.items) }
 {
     let mut found = Found {
         marks: vec![in alloc; false; graph.len()]?,
@@ -65,5 +61,5 @@ pub fn reaches_itself(
         visit_all(&mut found, calls_of(graph, at))?;
         head += 1;
     }
-    Ok(found.marks[start])
+    Ok(found)
 }

@@ -36,7 +36,7 @@ use Rattle.jz_listing.specs.declared.compiled.Compiled.{Compiled}
 use Rattle.jz_correct.specs.Registers.{argument_registers, result_registers}
 use Rattle.jz_correct.specs.Frames.{Place, layout_of, layout_end, saved_of, saved_slots, frame_of, from_entry}
 use Rattle.jz_leak.specs.RunLeaks.{Leak}
-use Rattle.jz_first_meaning.specs.RunRules.{End, Cut, Stuck}
+use Rattle.jz_runs.specs.Rules.{End, Cut, Stuck}
 use Rattle.jz_first_meaning.specs.SourceRuns.{Returned, FunOutcome, IsRun}
 use Rattle.x64_machine.specs.Steps.{Config, steps_of}
 use Rattle.jz_correct.specs.Starts.{MeetsPreconditions, IsStart}

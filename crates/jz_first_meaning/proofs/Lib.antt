@@ -1,3 +1,2 @@
-pub mod RunSteady
 pub mod SourceLaws
 pub mod StraightLaws

@@ -4,14 +4,14 @@ use Rattle.jz_words.specs.Memory.{Memory}
 use Rattle.jz_first_tree.specs.declared.Program.{Program}
 use Rattle.jz_first_tree.specs.declared.Fun.{Fun}
 use Rattle.jz_first_tree.specs.declared.Var.{Var}
-use Rattle.jz_first_meaning.specs.RunTrees.{done}
+use Rattle.jz_runs.specs.Trees.{done}
 use Rattle.jz_leak.specs.RunLeaks.{Leak}
-use Rattle.jz_first_meaning.specs.RunRules.{stuck, went, Outcome, End, Cut, Stuck, Goes}
-use Rattle.jz_first_meaning.specs.RunLaws.{IsOver, with_more}
+use Rattle.jz_runs.specs.Rules.{stuck, went, Outcome, End, Cut, Stuck, Goes}
+use Rattle.jz_runs.specs.Laws.{IsOver, with_more}
 use Rattle.jz_first_meaning.specs.SourceStates.{State, Why}
 use Rattle.jz_first_meaning.specs.SourceValues.{Evaluation}
 use Rattle.jz_first_meaning.specs.SourceRuns.{Block, source, block, entry_state, outcome_of_body, outcome_of_words, result_words, FunOutcome, IsInput, IsRun}
-use Rattle.jz_first_meaning.proofs.RunSteady.{Exact, exact, one_outcome, has_outcome}
+use Rattle.jz_runs.proofs.Steady.{Exact, exact, one_outcome, has_outcome}
 
 more_by : (b : Block) (n u : ℕ) (s : State) (o : Outcome State Why Leak) → Exact (λ k w. Goes source b k s w) n o → IsOver o → Goes source b (n + u) s (with_more u o)
 more_by b n u s (End t m l) x h = let e : m + u + x.0 ≡ n + u = omega (arith, x.1) in subst (λ k. Goes source b k s (End t (m + u) l)) e (x.2 (m + u))

@@ -17,13 +17,13 @@ use Rattle.jz_first_tree.specs.declared.Stmt.{Stmt}
 use Rattle.jz_first_tree.specs.declared.StmtKind.{StmtKind}
 use Rattle.jz_first_tree.specs.declared.StmtKind.TheVariants as kind
 use Rattle.jz_leak.specs.RunLeaks.{Leak, ran}
-use Rattle.jz_first_meaning.specs.RunTrees.{done}
-use Rattle.jz_first_meaning.specs.RunRules.{stuck, went, Outcome, End, Stuck, after}
+use Rattle.jz_runs.specs.Trees.{done}
+use Rattle.jz_runs.specs.Rules.{stuck, went, Outcome, End, Stuck, after}
 use Rattle.jz_first_meaning.specs.SourceStates.{Value, word, integer, key_of, State, Why}
 use Rattle.jz_first_meaning.specs.SourceValues.{Evaluation, numbers_first, and_then, defined, evaluated, value_of, numbers_in, numbers_of}
 use Rattle.jz_first_meaning.specs.SourceRuns.{as_declared, held, written, left_value, right_value, combined, assigned_value, assigned, Block, source, statement, block, entry_state, result_words, outcome_of_words, outcome_of_body, FunOutcome, IsRun}
 use Rattle.jz_first_meaning.specs.StraightRuns.{run_statement, run_statements, plain_leak, straight_outcome}
-use Rattle.jz_first_meaning.proofs.RunSteady.{run, ran_so}
+use Rattle.jz_runs.proofs.Steady.{run, ran_so}
 
 -- ---- what leaks nothing
 

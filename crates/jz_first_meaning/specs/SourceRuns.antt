@@ -23,9 +23,9 @@ use Rattle.jz_first_tree.specs.declared.Rhs.TheVariants as rhs
 use Rattle.jz_first_tree.specs.declared.Stmt.{Stmt}
 use Rattle.jz_first_tree.specs.declared.StmtKind.{StmtKind}
 use Rattle.jz_first_tree.specs.declared.StmtKind.TheVariants as kind
-use Rattle.jz_first_meaning.specs.RunTrees.{Tree, done, op}
+use Rattle.jz_runs.specs.Trees.{Tree, done, op}
 use Rattle.jz_leak.specs.RunLeaks.{Leak}
-use Rattle.jz_first_meaning.specs.RunRules.{stuck, went, Parts, Outcome, End, Cut, Stuck, Goes}
+use Rattle.jz_runs.specs.Rules.{stuck, went, Parts, Outcome, End, Cut, Stuck, Goes}
 use Rattle.jz_first_meaning.specs.SourceStates.{Value, word, integer, key_of, Store, empty_store, put, State, Init, Why}
 use Rattle.jz_first_meaning.specs.SourceValues.{Evaluation, stuck_at, and_then, variable_value, evaluated}
 

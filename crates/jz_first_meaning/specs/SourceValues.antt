@@ -4,7 +4,7 @@ use Rattle.jz_io.specs.declared.span.Span.{Span}
 use Rattle.jz_first_tree.specs.declared.Var.{Var}
 use Rattle.jz_first_tree.specs.declared.Expr.{Expr}
 use Rattle.jz_first_tree.specs.declared.Expr.TheVariants as expr
-use Rattle.jz_first_meaning.specs.RunRules.{Attempt, stuck, went}
+use Rattle.jz_runs.specs.Rules.{Attempt, stuck, went}
 use Rattle.jz_first_meaning.specs.SourceStates.{Value, integer, key_of, Store, State, Reason, Init, Why}
 
 -- a part of a statement gives a value, or is stuck at a place for a reason

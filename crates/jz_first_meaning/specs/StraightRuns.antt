@@ -7,7 +7,7 @@ use Rattle.jz_first_tree.specs.declared.StmtKind.{StmtKind}
 use Rattle.jz_first_tree.specs.declared.StmtKind.TheVariants as kind
 use Rattle.jz_io.specs.declared.span.Span.{Span}
 use Rattle.jz_leak.specs.RunLeaks.{Leak, over, ran}
-use Rattle.jz_first_meaning.specs.RunRules.{went}
+use Rattle.jz_runs.specs.Rules.{went}
 use Rattle.jz_first_meaning.specs.SourceStates.{State}
 use Rattle.jz_first_meaning.specs.SourceValues.{Evaluation, and_then}
 use Rattle.jz_first_meaning.specs.SourceRuns.{assigned, entry_state, result_words, outcome_of_words, FunOutcome}

@@ -5,8 +5,8 @@ ghost use Rattle.jz_words.specs.Memory.{Memory};
 ghost use Rattle.jz_first_tree.specs.declared.Program.{Program};
 ghost use Rattle.jz_first_tree.specs.declared.Fun.{Fun};
 ghost use Rattle.jz_leak.specs.RunLeaks.{Leak};
-ghost use Rattle.jz_first_meaning.specs.RunRules.{Outcome, Goes};
-ghost use Rattle.jz_first_meaning.specs.RunLaws.{IsOver, with_more};
+ghost use Rattle.jz_runs.specs.Rules.{Outcome, Goes};
+ghost use Rattle.jz_runs.specs.Laws.{IsOver, with_more};
 ghost use Rattle.jz_first_meaning.specs.SourceStates.{State, Why};
 ghost use Rattle.jz_first_meaning.specs.SourceRuns.{Block, source, FunOutcome, IsInput, IsRun};
 

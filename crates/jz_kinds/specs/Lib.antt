@@ -9,5 +9,4 @@ pub mod Signatures
 pub mod Intrinsics
 pub mod Calls
 pub mod Lengths
-pub mod Declaring
 pub mod Mismatches

@@ -76,10 +76,6 @@ body_wrong named f = returned_wrong f ++ flat_map (stmt_wrong named) (statements
 abbrev pub among : List Fun → Named
 among fs n = function_named n fs
 
--- of a statement of a program that has these functions
-abbrev pub mismatched_by : List Fun → Layer → List Span
-mismatched_by fs k = mismatched_with (callee_where (among fs) k) k
-
 -- ---- of a program: of the program as it was read its constants and the lengths of its arrays, and of the program whose
 -- variables have their declarations its functions
 abbrev pub mismatched_as_read : (Expr → Option ℤ) → Program → List Span

@@ -216,7 +216,7 @@ fn all_returned(rets: &[Ret], vars: &[Var]) -> Option<Span>
 /// The first place at which a function gives back another number of results than it declares, told at its name, or a
 /// variable of another storage or type.
 #[tactic(auto, using(crate::proofs::Joins::joins))]
-pub fn returned_fault(fun: &Fun) -> Option<Span>
+pub(crate) fn returned_fault(fun: &Fun) -> Option<Span>
     ensures { result ≡ earliest (returned_wrong fun.now) }
 {
     let counted = unless(fun.result.len() == fun.rets.len(), fun.span);

@@ -8,13 +8,12 @@ ghost use Rattle.jz_scopes.specs.Lent.{these};
 ghost use Rattle.jz_scopes.specs.Order.{first_in};
 ghost use Rattle.jz_kinds.specs.Lengths.{is_length, no_constant, unbuilt, length_wrong, decl_wrong, is_apart, fun_lengths};
 ghost use Rattle.jz_scopes.specs.Tables.{place_in};
-ghost use Rattle.jz_kinds.specs.Declaring.{declared_by, param_wrong, ret_wrong, var_wrong};
 
 use crate::walk::fault;
 use crate::wants::Want;
 use jz_io::Span;
-use jz_scopes::{Places, earlier_of, length_of, names, span_of, unless};
-use jz_tree::{Decl, Expr, Fun, Param, Ret, Var};
+use jz_scopes::{Places, decls_of, earlier_of, length_of, names, span_of, unless};
+use jz_tree::{Decl, Expr, Fun, Var};
 use std::alloc::{AllocError, Global};
 
 /// What lengths are, as far as they have values.
@@ -104,92 +103,23 @@ fn decl_fault<L: Lengths>(
     }
 }
 
-#[tactic(auto, using(crate::proofs::Joins::joins))]
-fn var_fault<L: Lengths>(
+fn decls_fault<L: Lengths>(
     alloc: Global,
     lengths: &L,
     constants: &Places,
     variables: &Places,
-    var: &Var,
+    decls: &[&Decl],
 ) -> Result<Option<Span>, AllocError>
-    ensures { IfOk result (λ r. r ≡ earliest (var_wrong (is_apart (place_in constants.now) (place_in variables.now)) (L.length_of lengths.now) var.now)) }
-{
-    match &var.decl {
-        None => Ok(None),
-        Some(decl) => {
-            let found = decl_fault(alloc, lengths, constants, variables, decl)?;
-            Ok(found)
-        }
-    }
-}
-
-fn params_fault<L: Lengths>(
-    alloc: Global,
-    lengths: &L,
-    constants: &Places,
-    variables: &Places,
-    params: &[Param],
-) -> Result<Option<Span>, AllocError>
-    ensures { IfOk result (λ r. r ≡ first_in (param_wrong (is_apart (place_in constants.now) (place_in variables.now)) (L.length_of lengths.now)) params.now) }
+    ensures { IfOk result (λ r. r ≡ first_in (decl_wrong (is_apart (place_in constants.now) (place_in variables.now)) (L.length_of lengths.now)) (these decls.now)) }
 {
     let mut first = None;
-    for param in params {
+    for decl in decls {
         first = earlier_of(
             first,
-            var_fault(alloc, lengths, constants, variables, &param.var)?,
+            decl_fault(alloc, lengths, constants, variables, decl)?,
         );
     }
     Ok(first)
-}
-
-fn rets_fault<L: Lengths>(
-    alloc: Global,
-    lengths: &L,
-    constants: &Places,
-    variables: &Places,
-    rets: &[Ret],
-) -> Result<Option<Span>, AllocError>
-    ensures { IfOk result (λ r. r ≡ first_in (ret_wrong (is_apart (place_in constants.now) (place_in variables.now)) (L.length_of lengths.now)) rets.now) }
-{
-    let mut first = None;
-    for ret in rets {
-        first = earlier_of(
-            first,
-            decl_fault(alloc, lengths, constants, variables, &ret.decl)?,
-        );
-    }
-    Ok(first)
-}
-
-fn vars_fault<L: Lengths>(
-    alloc: Global,
-    lengths: &L,
-    constants: &Places,
-    variables: &Places,
-    vars: &[Var],
-) -> Result<Option<Span>, AllocError>
-    ensures { IfOk result (λ r. r ≡ first_in (var_wrong (is_apart (place_in constants.now) (place_in variables.now)) (L.length_of lengths.now)) vars.now) }
-{
-    let mut first = None;
-    for var in vars {
-        first = earlier_of(first, var_fault(alloc, lengths, constants, variables, var)?);
-    }
-    Ok(first)
-}
-
-fn declared_fault<L: Lengths>(
-    alloc: Global,
-    lengths: &L,
-    constants: &Places,
-    variables: &Places,
-    fun: &Fun,
-) -> Result<Option<Span>, AllocError>
-    ensures { IfOk result (λ r. r ≡ declared_by (is_apart (place_in constants.now) (place_in variables.now)) (L.length_of lengths.now) fun.now) }
-{
-    let params = params_fault(alloc, lengths, constants, variables, fun.params.as_slice())?;
-    let rets = rets_fault(alloc, lengths, constants, variables, fun.rets.as_slice())?;
-    let vars = vars_fault(alloc, lengths, constants, variables, fun.vars.as_slice())?;
-    Ok(earlier_of(params, earlier_of(rets, vars)))
 }
 
 /// The first length of an array in a function that is no number from 1 to 65,536 built of numbers and constants.
@@ -202,6 +132,7 @@ pub(crate) fn lengths_fault<L: Lengths>(
     ensures { IfOk result (λ r. r ≡ earliest (fun_lengths (place_in constants.now) (L.length_of lengths.now) fun.now)) }
 {
     let variables = Places::of_variables(alloc, fun)?;
-    let found = declared_fault(alloc, lengths, constants, &variables, fun)?;
+    let decls = decls_of(alloc, fun)?;
+    let found = decls_fault(alloc, lengths, constants, &variables, decls.as_slice())?;
     Ok(found)
 }

@@ -14,10 +14,5 @@ mod values;
 mod walk;
 mod wants;
 
-pub use calls::returned_fault;
 pub use lengths::Lengths;
-pub use operators::Group;
 pub use programs::{mismatches_as_read, mismatches_declared, statement_fault};
-pub use signatures::Role;
-pub use statements::{constant_fault, mismatch};
-pub use wants::{Form, Want};

@@ -9,7 +9,7 @@ use jz_words::Size;
 
 /// The operators by what they take and give.
 #[derive(Clone, Copy, Debug, PartialEq, Eq)]
-pub enum Group {
+pub(crate) enum Group {
     /// Of two bools.
     Logic,
     /// Of two values, with a bool as result.

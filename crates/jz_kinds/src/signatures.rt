@@ -7,7 +7,7 @@ use jz_tree::Intrinsic;
 
 /// What an argument or result of an intrinsic is.
 #[derive(Clone, Copy, Debug, PartialEq, Eq)]
-pub enum Role {
+pub(crate) enum Role {
     Flag,
     /// A value of the intrinsic's size.
     Value,

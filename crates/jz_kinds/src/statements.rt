@@ -60,7 +60,7 @@ fn head_fault(counter: &Var, from: &Expr, to: &Expr) -> Option<Span>
 /// The first place in a statement, those that stand in it aside, where a type, a size or a count is another than is wanted.
 /// The callee is the function that the statement calls, if it calls one that there is. What is asked is asked of variables
 /// with their declarations; one without counts as an inline integer.
-pub fn mismatch(callee: Option<&Fun>, stmt: &Stmt) -> Option<Span>
+pub(crate) fn mismatch(callee: Option<&Fun>, stmt: &Stmt) -> Option<Span>
     ensures { result ≡ earliest (mismatched_with (option_copied callee.entry) (layer_of stmt.now)) }
 {
     match &stmt.kind {
@@ -83,7 +83,7 @@ pub fn mismatch(callee: Option<&Fun>, stmt: &Stmt) -> Option<Span>
 }
 
 /// The first place in the value of a constant that is no integer.
-pub fn constant_fault(constant: &Const) -> Option<Span>
+pub(crate) fn constant_fault(constant: &Const) -> Option<Span>
     ensures { result ≡ earliest (constant_wrong constant.now) }
 {
     fault(&constant.value, Want::Int)

@@ -8,7 +8,7 @@ use jz_words::Size;
 
 /// What a place wants.
 #[derive(Clone, Copy, Debug, PartialEq, Eq)]
-pub enum Want {
+pub(crate) enum Want {
     /// A number that is known when the text is compiled.
     Int,
     /// A bool.
@@ -23,13 +23,13 @@ pub enum Want {
 
 /// What an expression is by itself.
 #[derive(Clone, Copy, Debug, PartialEq, Eq)]
-pub struct Form {
+pub(crate) struct Form {
     /// The size of the word that it is, where it says one.
-    pub size: Option<Size>,
+    pub(crate) size: Option<Size>,
     /// Whether it is a bool.
-    pub truth: bool,
+    pub(crate) truth: bool,
     /// Whether its value is known when the text is compiled.
-    pub inline: bool,
+    pub(crate) inline: bool,
 }
 
 pub(crate) fn fits_int(want: Want) -> bool

@@ -19,7 +19,7 @@ use Rattle.jz_first_tree.specs.declared.Rhs.TheVariants as rhs
 use Rattle.jz_first_tree.specs.declared.Stmt.{Stmt}
 use Rattle.jz_first_tree.specs.declared.StmtKind.{StmtKind}
 use Rattle.jz_first_tree.specs.declared.StmtKind.TheVariants as kind
-use Rattle.jz_first_meaning.specs.RunRules.{stuck, went}
+use Rattle.jz_runs.specs.Rules.{stuck, went}
 use Rattle.jz_first_meaning.specs.SourceStates.{Value, word, integer, key_of, Store, put, State}
 use Rattle.jz_first_meaning.specs.SourceValues.{Evaluation, numbers_first, and_then, defined, variable_value, evaluated}
 use Rattle.jz_first_meaning.specs.SourceRuns.{of_type, as_declared, held, written, operation, combined, assigned_value, assigned}

@@ -1,7 +1,8 @@
 -- Parts of a statement, one after another.
 use Rattle.std.proofs.Common.{◌≡◌, ℕ, List, ◌++◌, refl, ap, sym, ◌∙◌, append_assoc}
 use Rattle.jz_meaning.specs.declared.value.Stuck.{Stuck}
-use Rattle.jz_meaning.specs.Attempts.{Evaluation, stuck, went, numbers_first, and_then}
+use Rattle.jz_runs.specs.Rules.{stuck, went}
+use Rattle.jz_meaning.specs.Attempts.{Evaluation, numbers_first, and_then}
 
 pub first_twice : {A : Type 0} (ms ns : List ℕ) (g : Evaluation A) → numbers_first ms (numbers_first ns g) ≡ numbers_first (ms ++ ns) g
 first_twice ms ns (stuck w) = refl

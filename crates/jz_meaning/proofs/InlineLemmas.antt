@@ -18,7 +18,8 @@ use Rattle.jz_integers.specs.declared.constant.Constant.TheVariants as constant
 use Rattle.jz_integers.specs.Integers as numbers
 use Rattle.jz_integers.specs.Integers.{on_integers, value_step, inline_value}
 use Rattle.jz_meaning.specs.declared.access.Kind.{Kind}
-use Rattle.jz_meaning.specs.Attempts.{Evaluation, went, and_then, defined}
+use Rattle.jz_runs.specs.Rules.{went}
+use Rattle.jz_meaning.specs.Attempts.{Evaluation, and_then, defined}
 use Rattle.jz_meaning.specs.States.{Value, boolean, integer, Key, State}
 use Rattle.jz_meaning.specs.Operators.{of_constant, is_shift, joined, is_settled, combined, shifted, binary, negated, inverted}
 use Rattle.jz_meaning.specs.Values.{Ref, key_of, MemoryAccess, Meaning, right_wanted, left_wanted, with_right, expr_step, ty_step, access_step, decl_step, var_step, meaning_of, ref_of, access_of, evaluated}

@@ -7,3 +7,4 @@ pub mod Quotients
 pub mod ShapeLemmas
 pub mod StoreLemmas
 pub mod Widths
+pub mod RunLaws

@@ -25,7 +25,8 @@ use Rattle.jz_integers.specs.Integers.{on_integers}
 use Rattle.jz_meaning.specs.declared.access.Kind.{Kind}
 use Rattle.jz_meaning.specs.declared.access.Kind.TheVariants as kind
 use Rattle.jz_meaning.specs.declared.value.Why.TheVariants.{Bounds, Align, Divide, Init}
-use Rattle.jz_meaning.specs.Attempts.{Evaluation, stuck, went, stuck_at, numbers_first, and_then, defined}
+use Rattle.jz_runs.specs.Rules.{stuck, went}
+use Rattle.jz_meaning.specs.Attempts.{Evaluation, stuck_at, numbers_first, and_then, defined}
 use Rattle.jz_meaning.specs.States.{Value, word, boolean, integer, Store, State}
 use Rattle.jz_meaning.specs.Operators.{of_constant, same_size, plain, on_words, by_count, by_flag, joins, joined, is_settled, combined, shifted, binary, negated, inverted, cast, word_of}
 use Rattle.jz_meaning.specs.Values.{Ref, key_of, cell_key, in_cells, index_at, cell_value, MemoryAccess, is_aligned, accessed, load_word, load_at, Meaning, right_wanted, left_wanted, with_right, expr_step, ty_step, access_step, decl_step, var_step, meaning_of, ref_of, access_of, evaluated}

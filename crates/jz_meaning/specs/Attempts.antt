@@ -1,16 +1,12 @@
 -- The parts of a statement, one after another: each leaks numbers and gives something, or is stuck at a place for a reason.
 use Rattle.std.specs.Prelude.{ℕ, List, [], ◌++◌, Option, Some, None, Result, Ok, Err}
 use Rattle.jz_io.specs.declared.span.Span.{Span}
+use Rattle.jz_runs.specs.Rules.{Attempt, stuck, went}
 use Rattle.jz_meaning.specs.declared.value.Value as code
 use Rattle.jz_meaning.specs.declared.value.Why.{Why}
 use Rattle.jz_meaning.specs.declared.value.Why.TheVariants.{Init}
 use Rattle.jz_meaning.specs.declared.value.Stuck.{Stuck}
 use Rattle.jz_meaning.specs.States.{Value, as_value}
-
--- stuck for a reason W, or the numbers that were leaked and what came out
-pub data Attempt (W A : Type 0) : Type 0 where
-  stuck : W → Attempt W A
-  went : List ℕ → A → Attempt W A
 
 abbrev pub Evaluation : Type 0 → Type 0
 Evaluation A = Attempt Stuck A
@@ -42,3 +38,8 @@ did ns (Err k) = stuck k
 abbrev pub seen : List ℕ → Result code.Value Stuck → Evaluation Value
 seen ns (Ok x) = went ns (as_value x)
 seen ns (Err k) = stuck k
+
+-- what the code did to a thing, a memory or a whole state: the numbers that it has, and the thing as it is then
+abbrev pub changed : {A S : Type 0} → List ℕ → S → Result A Stuck → Evaluation S
+changed ns x (Ok u) = went ns x
+changed ns x (Err k) = stuck k

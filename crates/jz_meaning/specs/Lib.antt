@@ -1,7 +1,11 @@
+pub mod Assignments
 pub mod Attempts
 pub mod Evaluating
+pub mod Intrinsics
 pub mod Operators
+pub mod Runs
 pub mod Shapes
+pub mod Statements
 pub mod States
 pub mod Stores
 pub mod Values

@@ -12,7 +12,8 @@ use Rattle.jz_integers.specs.declared.constant.Constant.TheVariants as constant
 use Rattle.jz_integers.specs.Integers as numbers
 use Rattle.jz_integers.specs.Integers.{on_integers}
 use Rattle.jz_meaning.specs.declared.value.Why.TheVariants.{Init, Divide}
-use Rattle.jz_meaning.specs.Attempts.{Evaluation, went, stuck_at, defined}
+use Rattle.jz_runs.specs.Rules.{went}
+use Rattle.jz_meaning.specs.Attempts.{Evaluation, stuck_at, defined}
 use Rattle.jz_meaning.specs.States.{Value, word, boolean, integer}
 
 -- a whole number, or the answer of a comparison

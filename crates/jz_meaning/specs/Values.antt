@@ -19,7 +19,8 @@ use Rattle.jz_meaning.specs.declared.access.Kind.{Kind}
 use Rattle.jz_meaning.specs.declared.access.Kind.TheVariants as kind
 use Rattle.jz_meaning.specs.declared.value.Stuck.{Stuck}
 use Rattle.jz_meaning.specs.declared.value.Why.TheVariants.{Bounds, Address, Align, Init}
-use Rattle.jz_meaning.specs.Attempts.{Evaluation, stuck, went, stuck_at, and_then, defined}
+use Rattle.jz_runs.specs.Rules.{stuck, went}
+use Rattle.jz_meaning.specs.Attempts.{Evaluation, stuck_at, and_then, defined}
 use Rattle.jz_meaning.specs.States.{Value, word, boolean, integer, Key, Store, State}
 use Rattle.jz_meaning.specs.Operators.{word_at, is_shift, binary, is_settled, negated, inverted, cast}
 
@@ -103,11 +104,6 @@ store_word at unaligned _ a _ m = stuck_at at Init
 
 abbrev pub store_at : MemoryAccess → Option Size → Value → Option Value → Memory → Evaluation Memory
 store_at p wanted at v m = and_then (address_at p at) (λ a. store_word p.span p.unaligned (option_or p.size wanted) a v m)
-
--- what the code did to the memory: the numbers that it has, and the memory as it is then
-abbrev pub changed : {A : Type 0} → List ℕ → Memory → Result A Stuck → Evaluation Memory
-changed ns m (Ok u) = went ns m
-changed ns m (Err k) = stuck k
 
 -- ---- expressions
 

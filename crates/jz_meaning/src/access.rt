@@ -210,7 +210,7 @@ fn aligned(
 
 ghost use Rattle.std.specs.Prelude.{◌<◌, [], Some};
 ghost use Rattle.jz_words.specs.Sizes.{modulus};
-ghost use Rattle.jz_meaning.specs.Attempts.{went};
+ghost use Rattle.jz_runs.specs.Rules.{went};
 ghost use Rattle.jz_meaning.specs.States.{word};
 
 fn load_word(
@@ -297,7 +297,8 @@ fn store_bits(
 }
 
 ghost use Rattle.std.specs.Prelude.{option_map};
-ghost use Rattle.jz_meaning.specs.Values.{changed, after_store};
+ghost use Rattle.jz_meaning.specs.Attempts.{changed};
+ghost use Rattle.jz_meaning.specs.Values.{after_store};
 
 fn store_word(
     access: &Access,

@@ -19,8 +19,8 @@ use jz_tree::Expr;
 use jz_words::Size;
 use std::alloc::{AllocError, Global};
 
-// What is wanted of the right operand, beside what is of the left one: a count is a byte.
-fn right_wanted(op: BinOp, left: Option<Size>) -> Option<Size>
+/// What is wanted of the right operand, beside what is of the left one: a count is a byte.
+pub fn right_wanted(op: BinOp, left: Option<Size>) -> Option<Size>
     ensures { result ≡ values.right_wanted op left }
 {
     if is_shift(op) { Some(Size::S8) } else { left }

@@ -1,11 +1,19 @@
 //! What holds of every value of an expression, apart from any code.
 
-ghost use Rattle.std.specs.Prelude.{◌≡◌, ℕ, ℤ, true, List, [], length, Option, Some};
+ghost use Rattle.std.specs.Prelude.{◌≡◌, ℕ, ◌+◌, ℤ, true, List, [], length, Option, Some};
+ghost use Rattle.jz_words.specs.Memory.{Memory};
 ghost use Rattle.jz_words.specs.declared.size.Size.{Size};
 ghost use Rattle.jz_tree.specs.declared.expr.Expr.{Expr};
+ghost use Rattle.jz_tree.specs.declared.program.Program.{Program};
+ghost use Rattle.jz_tree.specs.declared.program.Fun.{Fun};
+ghost use Rattle.jz_leak.specs.RunLeaks.{Leak};
+ghost use Rattle.jz_runs.specs.Laws.{IsOver, with_more};
+ghost use Rattle.jz_meaning.specs.declared.value.Stuck as code;
+ghost use Rattle.jz_meaning.specs.Statements.{Block, source};
+ghost use Rattle.jz_meaning.specs.Runs.{Returned, FunOutcome, IsInput, IsRun};
 ghost use Rattle.jz_integers.specs.declared.constant.Constant.{Constant};
 ghost use Rattle.jz_integers.specs.Integers.{inline_value};
-ghost use Rattle.jz_meaning.specs.Attempts.{went};
+ghost use Rattle.jz_runs.specs.Rules.{went, Outcome, End, Goes};
 ghost use Rattle.jz_meaning.specs.States.{State, Value};
 ghost use Rattle.jz_meaning.specs.Operators.{of_constant};
 ghost use Rattle.jz_meaning.specs.Values.{evaluated};
@@ -21,4 +29,28 @@ pub fn numbers_of_an_expression()
 /// An inline expression leaks nothing, and its value is what it is known to be when the text is compiled.
 pub fn inline_expressions()
     ensures { (numbers : List ℕ → ℕ → Option ℤ) (e : Expr) (c : Constant) (w : Option Size) (s : State) (ns : List ℕ) (v : Value) → HoldsIntegers numbers s.store → inline_value numbers e ≡ Some c → evaluated e w s ≡ went ns v → (ns ≡ []) × (v ≡ of_constant c) }
+{}
+
+/// With the same number of turns left a run has one outcome.
+pub fn one_outcome()
+    ensures statements { (b : Block) (n : ℕ) (s : State) (o other : Outcome State code.Stuck Leak) → Goes source b n s o → Goes source b n s other → o ≡ other }
+    ensures functions { (p : Program) (f : Fun) (words : List Value) (memory : Memory) (n : ℕ) (o other : FunOutcome) → IsRun p f words memory n o → IsRun p f words memory n other → o ≡ other }
+{}
+
+/// For each number of turns left there is an outcome.
+pub fn some_outcome()
+    ensures statements { (b : Block) (n : ℕ) (s : State) → (o : Outcome State code.Stuck Leak) × Goes source b n s o }
+    ensures functions { (p : Program) (f : Fun) (words : List Value) (memory : Memory) (n : ℕ) → IsInput p f words → (o : FunOutcome) × IsRun p f words memory n o }
+{}
+
+/// What has ended or is stuck is the same with more turns, and at an end so many more are left.
+pub fn same_with_more_turns()
+    ensures statements { (b : Block) (n more : ℕ) (s : State) (o : Outcome State code.Stuck Leak) → Goes source b n s o → IsOver o → Goes source b (n + more) s (with_more more o) }
+    ensures functions { (p : Program) (f : Fun) (words : List Value) (memory : Memory) (n more : ℕ) (o : FunOutcome) → IsRun p f words memory n o → IsOver o → IsRun p f words memory (n + more) (with_more more o) }
+{}
+
+/// A run that ends has used some number of turns, and comes to the same end wherever there are as many: the others are left.
+pub fn same_with_as_many_used()
+    ensures statements { (b : Block) (n m : ℕ) (s t : State) (l : Leak) → Goes source b n s (End t m l) → (used : ℕ) × (n ≡ m + used) × ((k : ℕ) → Goes source b (k + used) s (End t k l)) }
+    ensures functions { (p : Program) (f : Fun) (words : List Value) (memory : Memory) (n m : ℕ) (r : Returned) (l : Leak) → IsRun p f words memory n (End r m l) → (used : ℕ) × (n ≡ m + used) × ((k : ℕ) → IsRun p f words memory (k + used) (End r k l)) }
 {}

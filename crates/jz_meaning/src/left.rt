@@ -32,7 +32,8 @@ pub struct LeftSide<'a> {
     pub wanted: Option<Size>,
 }
 
-fn gives_word(op: BinOp) -> bool
+/// Whether an operation gives a word: a comparison, `&&` and `||` give none.
+pub fn gives_word(op: BinOp) -> bool
     ensures { result ≡ values.gives_word op }
 {
     match op {

@@ -2,6 +2,8 @@
 #![tactic(auto)]
 
 mod access;
+#[cfg(test)]
+mod evaluate_tests;
 mod evaluating;
 mod laws;
 mod left;
@@ -11,9 +13,13 @@ mod store;
 mod tests;
 mod value;
 
-pub use access::{Kind, index, kind_of, size_of, write};
-pub use evaluating::{evaluate, value_of};
-pub use laws::{inline_expressions, numbers_of_an_expression};
+pub use access::{Kind, cell, index, kind_of, load, size_of, variable, write};
+pub use evaluating::{evaluate, right_wanted, value_of};
+pub use laws::{
+    inline_expressions, numbers_of_an_expression, one_outcome, same_with_as_many_used,
+    same_with_more_turns, some_outcome,
+};
+pub use left::{gives_word, own_size};
 pub use operators::{binary, cast, inverted_value, is_settled, is_shift, negated_value, word_of};
 pub use store::Store;
 pub use value::{Stuck, Value, Why, defined};

@@ -8,6 +8,8 @@ mod read;
 #[cfg(test)]
 mod tests;
 #[cfg(test)]
+mod tree_tests;
+#[cfg(test)]
 mod worked_tests;
 
 pub use jz_cursor::{SyntaxFault, SyntaxKind};

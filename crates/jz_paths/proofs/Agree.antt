@@ -9,7 +9,7 @@ use Rattle.jz_scopes.specs.Scopes.{Name}
 use Rattle.jz_scopes.specs.Order.{IsEarliest, nowhere, here}
 use Rattle.jz_paths.specs.Paths.{Event, Reads, Sets, Flow, Skip, Does, Then, Either, Repeat, Through, Into}
 use Rattle.jz_paths.specs.Surely.{Names, having, after, first}
-use Rattle.jz_paths.proofs.Firsts.{same_wrong, earlier_of_two}
+use Rattle.jz_scopes.proofs.Firsts.{same_wrong, earlier_of_two}
 
 -- ---- tests
 two_ways : (b : Bool) → (b ≡ true) ⊎ (b ≡ false)

@@ -18,7 +18,7 @@ use Rattle.jz_scopes.specs.Order.{earlier, IsEarliest, nowhere}
 use Rattle.jz_paths.specs.Paths.{flow_of_all, has_to_be_set, IsReadUnset, IsReadUnsetIn}
 use Rattle.jz_paths.specs.Surely.{Names, none_set, first}
 use Rattle.jz_paths.specs.Walks.{members}
-use Rattle.jz_paths.proofs.Firsts.{same_wrong, earlier_of_two}
+use Rattle.jz_scopes.proofs.Firsts.{same_wrong, earlier_of_two}
 use Rattle.jz_paths.proofs.Agree.{Misses, agree}
 use Rattle.jz_paths.proofs.Adding.{filtered, front_member, none_member}
 

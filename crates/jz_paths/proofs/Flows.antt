@@ -1,22 +1,14 @@
 -- The flow of each kind of statement.
 use Rattle.std.proofs.Common.{◌≡◌, Bool, List, Option, Some, None, sym, ap, ◌∙◌}
-use Rattle.std.specs.Prelude.{map}
 use Rattle.jz_tree.specs.declared.expr.Expr.{Expr}
-use Rattle.jz_tree.specs.declared.expr.BinOp.{BinOp}
 use Rattle.jz_tree.specs.declared.expr.Var.{Var}
-use Rattle.jz_tree.specs.declared.stmt.Lval.{Lval}
-use Rattle.jz_tree.specs.declared.stmt.Rhs.{Rhs}
 use Rattle.jz_tree.specs.declared.stmt.Stmt.{Stmt}
 use Rattle.jz_tree.specs.declared.stmt.StmtKind.{StmtKind}
 use Rattle.jz_tree.specs.declared.stmt.StmtKind.TheVariants as kind
 use Rattle.jz_tree.specs.declared.stmt.StmtKind.TheOpen.{StmtKind-F}
 use Rattle.jz_tree.specs.declared.stmt.StmtKind.TheFolds.{fold-roll-StmtKind}
 use Rattle.jz_scopes.specs.Scopes.{name_of}
-use Rattle.jz_paths.specs.Paths.{Skip, Does, Sets, Then, Either, Repeat, in_turn, reading_expr, reading_right, reading_condition, reading_old, setting, flow_step, flow_of_kind, flow_of_all}
-
-pub assign_flow : (k : StmtKind) (to : List Lval) (op : Option BinOp) (from : Rhs) (cond : Option Expr) → k ≡ kind.Assign to op from cond
-    → flow_of_kind k ≡ Then (reading_right from) (Then (reading_condition cond) (Then (reading_old op cond to) (in_turn (map setting to))))
-assign_flow k to op from cond e = ap flow_of_kind (e ∙ sym (kind.rolls-Assign to op from cond)) ∙ fold-roll-StmtKind _ _ flow_step (λ s. s.kind) (StmtKind-F.Assign to op from cond)
+use Rattle.jz_paths.specs.Paths.{Skip, Does, Sets, Then, Either, Repeat, reading_expr, flow_step, flow_of_kind, flow_of_all}
 
 pub if_flow : (k : StmtKind) (c : Expr) (a b : List Stmt) → k ≡ kind.If c a b → flow_of_kind k ≡ Then (reading_expr c) (Either (flow_of_all a) (flow_of_all b))
 if_flow k c a b e = ap flow_of_kind (e ∙ sym (kind.rolls-If c a b)) ∙ fold-roll-StmtKind _ _ flow_step (λ s. s.kind) (StmtKind-F.If c a b)

@@ -3,15 +3,14 @@ use Rattle.std.proofs.Common.{◌≡◌, ℕ, ◌+◌, ◌<◌, List, ◌∷◌,
 use Rattle.std.proofs.lemmas.List.{drop_more}
 use Rattle.jz_io.specs.declared.span.Span.{Span}
 use Rattle.jz_scopes.specs.Order.{earlier, earliest}
-use Rattle.jz_scopes.proofs.Earliest.{earlier-assoc, none-earlier, earlier-none, earliest-append}
+use Rattle.jz_scopes.proofs.Earliest.{earlier-assoc, none-earlier, earlier-none, earliest-append, both_earliest}
 
 pub ruleset earliest_laws = (earlier-assoc, none-earlier, earlier-none, earliest-append)
 
 pub three_joined : (a b c : List Span) (x y z s r : Option Span) → x ≡ earliest a → y ≡ earliest b → z ≡ earliest c → s ≡ earlier y z → r ≡ earlier x s
     → r ≡ earliest (a ++ (b ++ c))
 three_joined a b c x y z s r p q t u v =
-    v ∙ (ap (earlier x) u ∙ (ap (λ i. earlier i (earlier y z)) p ∙ (ap (λ i. earlier (earliest a) (earlier i z)) q ∙ (ap (λ i. earlier (earliest a) (earlier (earliest b) i)) t
-    ∙ (ap (earlier (earliest a)) (sym (earliest-append b c)) ∙ sym (earliest-append a (b ++ c)))))))
+    v ∙ (ap (earlier x) u ∙ both_earliest a (b ++ c) x (earlier y z) p (both_earliest b c y z q t))
 
 -- one item more in a loop that takes the earliest
 pub one_more : {A : Type 0} (g : A → List Span) (xs : List A) (i : ℕ) (x : A) (best next r all : Option Span)

@@ -1,5 +1,5 @@
 pub mod Joins
-pub mod Firsts
+pub mod Earlier
 pub mod Agree
 pub mod SetFused
 pub mod Walking

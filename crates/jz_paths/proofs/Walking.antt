@@ -20,10 +20,10 @@ use Rattle.jz_scopes.specs.Lent.{these}
 use Rattle.jz_scopes.specs.Order.{earlier}
 use Rattle.jz_scopes.specs.Parts.{names_in}
 use Rattle.jz_scopes.proofs.Earliest.{earlier-assoc, earlier-none}
-use Rattle.jz_paths.specs.Paths.{Sets, Flow, Skip, Does, Then, Either, Repeat, in_turn, reads, reading, reading_expr, reading_all, reading_left, reading_lefts, reading_right, reading_condition, reading_old}
-use Rattle.jz_paths.specs.Surely.{Names, having, both, put, after, first}
-use Rattle.jz_paths.specs.Walks.{members, Grows, Walks, Puts, Joins}
-use Rattle.jz_paths.proofs.Firsts.{earlier-same, earlier-swap}
+use Rattle.jz_paths.specs.Paths.{Flow, Skip, Then, Either, Repeat, in_turn, reads, reading, reading_expr, reading_all, reading_left, reading_lefts, reading_right, reading_condition, reading_old}
+use Rattle.jz_paths.specs.Surely.{Names, having, both, after, first}
+use Rattle.jz_paths.specs.Walks.{members, Grows, Walks, Joins}
+use Rattle.jz_paths.proofs.Earlier.{earlier-same, earlier-swap}
 
 -- ---- lists that grow
 pub grows_self : (xs : List (List ℕ)) → Grows xs xs
@@ -149,9 +149,6 @@ module _ (asked : Names) where
   pub walks_reads : (g : Flow) (xs : List (List ℕ)) (r : Option Span) → Idle asked g → r ≡ first asked g (members xs) → Walks asked g xs r xs
   walks_reads g xs r h f = record { first = f; after = sym (h (members xs)); grows = grows_self xs }
 
-  pub walks_sets : (m : List ℕ) (xs ys : List (List ℕ)) → members ys ≡ put asked m (members xs) → Grows xs ys → Walks asked (Does (Sets m)) xs None ys
-  walks_sets m xs ys e g = record { first = refl; after = e; grows = g }
-
   pub walks_then : (a b : Flow) (xs ys zs : List (List ℕ)) (r t u : Option Span) → Walks asked a xs r ys → Walks asked b ys t zs → u ≡ earlier r t
       → Walks asked (Then a b) xs u zs
   walks_then a b xs ys zs r t u v w e = record {
@@ -216,15 +213,6 @@ module _ (asked : Names) where
       (held None now (subst (λ l. Walks asked (in_turn (map f l)) now None now) (sym e) (walks_skip now)))
 
   -- ---- what the code does
-  pub walks_aside : (g : Flow) (old mid names : List (List ℕ)) (r : Option Span) → Walks asked g old r mid → names ≡ drop (length old) mid → Walks asked g old r (old ++ names)
-  walks_aside g old mid names r w e = subst (Walks asked g old r) (sym (ap (λ ns. old ++ ns) e ∙ behind old mid w.grows)) w
-
-  pub walks_turns : (m : List ℕ) (b : Flow) (old ys zs end : List (List ℕ)) (r : Option Span)
-      → Puts asked old m ys → Walks asked b ys r zs → end ≡ take (length old) zs → Walks asked (Repeat (Then (Does (Sets m)) b)) old r end
-  walks_turns m b old ys zs end r p w e =
-      let once = walks_then (Does (Sets m)) b old ys zs None r r (walks_sets m old ys p.has p.grows) w refl in
-      subst (Walks asked (Repeat (Then (Does (Sets m)) b)) old r) (sym (e ∙ once.grows.keeps)) (walks_repeat (Then (Does (Sets m)) b) old zs r once)
-
   pub walks_ways : (a b : Flow) (old names now zs end : List (List ℕ)) (start : ℕ) (r t u : Option Span)
       → start ≡ length old → Walks asked a old r (old ++ names) → now ≡ old → Walks asked b now t zs → Joins (take start zs) names zs end → u ≡ earlier r t
       → Walks asked (Either a b) old u end

@@ -7,13 +7,12 @@ ghost use Rattle.jz_scopes.specs.Order.{IsEarliest};
 ghost use Rattle.jz_paths.specs.Paths.{has_to_be_set, IsReadUnset, IsReadUnsetIn};
 ghost use Rattle.jz_paths.specs.Walks.{members};
 
-use crate::inline::is_inline_int;
 use crate::sets::{add_all, has};
 use crate::walk::walk_all;
 use indexmap::IndexSet;
 use jz_data::Text;
 use jz_io::Span;
-use jz_scopes::earlier_of;
+use jz_scopes::{earlier_of, is_inline_int, known};
 use jz_tree::{Fun, Param, Program, Var};
 use std::alloc::{AllocError, Global};
 
@@ -22,7 +21,7 @@ fn inline_names(alloc: Global, vars: &[Var]) -> Result<Vec<Text>, AllocError>
 {
     let mut names = Vec::new(alloc);
     for var in vars {
-        if is_inline_int(var) {
+        if is_inline_int(known(var)) {
             names.push(var.name.clone()?)?;
         }
     }

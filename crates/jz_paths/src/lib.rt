@@ -3,7 +3,6 @@
 
 mod asked;
 mod declarations;
-mod inline;
 mod reads;
 mod sets;
 mod settings;

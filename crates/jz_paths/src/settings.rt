@@ -8,10 +8,9 @@ ghost use Rattle.jz_scopes.specs.Order.{earliest};
 ghost use Rattle.jz_paths.specs.Settings.{Around, may_set, wrongly_set_in, wrongly_set};
 ghost use Rattle.jz_paths.specs.FirstSet.{first_left, first_lefts, first_set_all, first_set_kind};
 
-use crate::inline::{is_inline, is_inline_int};
 use jz_data::{Seq, Text};
 use jz_io::Span;
-use jz_scopes::{earlier_of, unless};
+use jz_scopes::{earlier_of, is_inline, is_inline_int, known, unless};
 use jz_tree::{Fun, Lval, Program, Stmt, StmtKind, Var};
 use std::alloc::{AllocError, Global};
 
@@ -25,7 +24,7 @@ fn is_counter(counters: &[Text], name: &Text) -> bool
 fn may_set(inside: bool, counters: &[Text], var: &Var) -> bool
     ensures { result ≡ may_set (record { inside = inside; counters = counters.now }) var.now }
 {
-    !is_counter(counters, &var.name) && !(inside && is_inline_int(var))
+    !is_counter(counters, &var.name) && !(inside && is_inline_int(known(var)))
 }
 
 fn left(inside: bool, counters: &[Text], to: &Lval) -> Option<Span>

@@ -14,7 +14,7 @@ use Rattle.jz_leak.specs.declared.event.Event.TheVariants as event
 use Rattle.jz_leak.specs.declared.transformer.Form.TheVariants as form
 use Rattle.jz_leak.specs.declared.transformer.Out.TheVariants as out
 use Rattle.jz_leak.specs.Applying.{apply_of, body_events, is_cut, Fits, OutFits, CasesFit}
-use Rattle.jz_first_meaning.specs.RunRules.{went}
+use Rattle.jz_runs.specs.Rules.{went}
 use Rattle.jz_first_meaning.specs.SourceStates.{Value, word, key_of, Store, put}
 use Rattle.jz_first_meaning.specs.SourceValues.{Evaluation, and_then, variable_value}
 use Rattle.jz_first_meaning.specs.SourceRuns.{argument, value_of_type, with_arguments, word_of, result_words}

@@ -18,7 +18,7 @@ use Rattle.jz_first_tree.specs.declared.Stmt.{Stmt}
 use Rattle.jz_leak.specs.declared.event.Event.TheVariants as event
 use Rattle.jz_leak.specs.Applying.{apply_of}
 use Rattle.jz_ct.proofs.SomeLabels.{constant_time}
-use Rattle.jz_first_meaning.specs.RunRules.{stuck, went}
+use Rattle.jz_runs.specs.Rules.{stuck, went}
 use Rattle.jz_first_meaning.specs.SourceStates.{State, Value, empty_store}
 use Rattle.jz_first_meaning.specs.SourceValues.{Evaluation}
 use Rattle.jz_first_meaning.specs.SourceRuns.{entry_state, result_words, outcome_of_words, FunOutcome, IsRun}

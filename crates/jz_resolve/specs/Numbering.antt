@@ -1,6 +1,5 @@
 -- The numbers of constants, and what is declared of a name in a function.
 use Rattle.std.specs.Prelude.{ℕ, ℤ, List, [], ◌∷◌, Option, None, is_none, option_map, option_and_then, if◌then◌else◌, ◌&&◌}
-use Rattle.std.specs.Str.{bytes_eq}
 use Rattle.jz_io.specs.declared.span.Span.{Span}
 use Rattle.jz_tree.specs.declared.expr.Storage.TheVariants as storage
 use Rattle.jz_tree.specs.declared.expr.Expr.{Expr}
@@ -10,7 +9,7 @@ use Rattle.jz_tree.specs.declared.expr.Var.{Var}
 use Rattle.jz_tree.specs.declared.expr.Expr.TheViews.{out-Var, roll-Decl}
 use Rattle.jz_tree.specs.declared.program.Const.{Const}
 use Rattle.jz_integers.specs.Integers.{inline_value, the_number}
-use Rattle.jz_scopes.specs.Scopes.{Name, variable_named, or_else}
+use Rattle.jz_scopes.specs.Scopes.{Name, variable_named, or_else, or_named}
 use Rattle.jz_scopes.specs.Names.{stands_above}
 
 -- ---- the values of constants, each by those before it
@@ -20,10 +19,6 @@ Values = List ℕ → Option ℤ
 -- the number of an expression of numbers and constants with these values
 abbrev pub value_with : Values → Expr → Option ℤ
 value_with known e = the_number (inline_value (λ n copy. known n) e)
-
--- what is known, and else this of the name
-abbrev pub or_named : {A : Type 0} → (List ℕ → Option A) → List ℕ → Option A → List ℕ → Option A
-or_named known name a n = or_else (known n) (if bytes_eq n name then a else None)
 
 abbrev pub values_after : Values → List Const → Values
 values_after known [] = known

@@ -1,37 +1,32 @@
 -- What the tables of names hold.
 use Rattle.std.specs.Prelude.{◌≡◌, ℕ, ℤ, Bool, List, Option, None, is_none, option_map, option_and_then, if◌then◌else◌, ◌&&◌}
-use Rattle.std.specs.Str.{bytes_eq}
-use Rattle.indexmap.specs.IndexMap.{get}
 use Rattle.jz_tree.specs.declared.expr.Decl.{Decl}
 use Rattle.jz_tree.specs.declared.expr.Var.{Var}
 use Rattle.jz_tree.specs.declared.expr.Expr.TheViews.{out-Var}
 use Rattle.jz_tree.specs.declared.program.Const.{Const}
-use Rattle.jz_scopes.specs.Scopes.{Name, variable_named, constant_place, or_else}
+use Rattle.jz_scopes.specs.Scopes.{Name, constant_place, or_else}
 use Rattle.jz_scopes.specs.Names.{stands_above}
+use Rattle.jz_scopes.specs.Tables.{item_in, place_in, variable_in}
 use Rattle.jz_resolve.specs.declared.table.ConstantTable.{ConstantTable}
 use Rattle.jz_resolve.specs.declared.scope.Scope.{Scope}
 use Rattle.jz_resolve.specs.Numbering.{Values, Places, values_of, constant_decl, declaration_in, number_in}
 
 abbrev pub values_in : ConstantTable → Values
-values_in t = get bytes_eq t.values
+values_in t = item_in t.values
 
 abbrev pub places_in : ConstantTable → Places
-places_in t = get bytes_eq t.places
+places_in t = place_in t.places
 
 -- it has the values of these constants, and the place of the first of each name
 pub record IsTable (t : ConstantTable) (cs : List Const) : Type 0 where
   pub values : values_in t ≡ values_of cs
   pub places : places_in t ≡ constant_place cs
 
--- what is declared of the first of each name
-abbrev pub first_of : List Var → List ℕ → Option (Option Decl)
-first_of vs n = option_map (λ v. (out-Var v).decl) (variable_named n vs)
-
 abbrev pub declared_by : Scope → List ℕ → Option Decl
-declared_by s n = or_else (option_and_then (λ d. d) (get bytes_eq s.variables n)) (option_map (λ at. constant_decl) (places_in s.constants.now n))
+declared_by s n = or_else (option_and_then (λ v. (out-Var v).decl) (variable_in s.variables n)) (option_map (λ at. constant_decl) (places_in s.constants.now n))
 
 abbrev pub is_constant_by : Scope → Name → Bool
-is_constant_by s n = is_none (get bytes_eq s.variables n.0) && stands_above (places_in s.constants.now n.0) n.1
+is_constant_by s n = is_none (variable_in s.variables n.0) && stands_above (places_in s.constants.now n.0) n.1
 
 abbrev pub number_by : Scope → Name → Option ℤ
 number_by s n = if is_constant_by s n then values_in s.constants.now n.0 else None

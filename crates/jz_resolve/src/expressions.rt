@@ -1,7 +1,6 @@
 //! Expressions whose variables have their declarations, and whose constants are numbers.
 ghost use Rattle.std.specs.Prelude.{◌≡◌, IfOk};
 ghost use Rattle.jz_scopes.specs.Scopes.{name_of};
-ghost use Rattle.jz_scopes.specs.Parts.{span_of};
 ghost use Rattle.jz_resolve.specs.Resolving.{resolved_expr, resolved_var, resolved_access, number_or};
 ghost use Rattle.jz_resolve.specs.Sides.{on_left};
 
@@ -160,26 +159,4 @@ pub fn resolve_access<L: Lookup>(
         unaligned: access.unaligned,
         span: access.span,
     })
-}
-
-/// The first token of an expression.
-pub(crate) fn span_of(expr: &Expr) -> Span
-    ensures { result ≡ span_of expr.now }
-{
-    match expr {
-        Expr::Num(_, span) => *span,
-        Expr::Bool(_, span) => *span,
-        Expr::Var(var) => var.span,
-        Expr::Cell(var, _) => var.span,
-        Expr::Load(access) => access.span,
-        Expr::Neg(_, span) => *span,
-        Expr::Not(_, span) => *span,
-        Expr::Cast {
-            size: _,
-            signed: _,
-            e: _,
-            span,
-        } => *span,
-        Expr::Bin(_, _, _, span) => *span,
-    }
 }

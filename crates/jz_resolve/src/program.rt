@@ -4,12 +4,13 @@ ghost use Rattle.jz_resolve.specs.Programs.{counted, counted_ty, counted_decl, c
 ghost use Rattle.jz_resolve.specs.Numbering.{value_with};
 ghost use Rattle.jz_resolve.specs.Tables.{values_in, places_in, IsScope};
 
-use crate::expressions::{resolve_expr, span_of};
+use crate::expressions::resolve_expr;
 use crate::scope::Scope;
 use crate::statements::{resolve_block, resolve_vars};
 use crate::table::{ConstantTable, constants};
 use jz_data::{Boxed, Seq};
-use jz_tree::{Const, Decl, Expr, Fun, Param, Program, Ret, Ty, Var};
+use jz_scopes::span_of;
+use jz_tree::{Const, Decl, Expr, Fun, Param, Program, Ret, Stmt, Ty, Var};
 use std::alloc::{AllocError, Global};
 
 fn count(alloc: Global, constants: &ConstantTable, length: &Expr) -> Result<Expr, AllocError>
@@ -164,9 +165,25 @@ fn count_fun(alloc: Global, constants: &ConstantTable, fun: Fun) -> Result<Fun, 
     })
 }
 
+/// The statements of a function, and the variables that it returns.
+fn resolve_parts(
+    alloc: Global,
+    constants: &ConstantTable,
+    fun: &Fun,
+) -> Result<(Seq<Stmt>, Seq<Var>), AllocError>
+    ensures body { IfOk result (λ r. r.0 ≡ (resolved_fun (places_in constants.now) (values_in constants.now) fun.now).body) }
+    ensures returned { IfOk result (λ r. r.1 ≡ (resolved_fun (places_in constants.now) (values_in constants.now) fun.now).result) }
+{
+    let scope = Scope::of(alloc, constants, fun)?;
+    let body = resolve_block(alloc, &scope, &fun.body)?;
+    let returned = resolve_vars(alloc, &scope, &fun.result)?;
+    Ok((body, returned))
+}
+
 fn resolve_fun(alloc: Global, constants: &ConstantTable, fun: Fun) -> Result<Fun, AllocError>
     ensures { IfOk result (λ r. r ≡ resolved_fun (places_in constants.now) (values_in constants.now) fun) }
 {
+    let (body, result) = resolve_parts(alloc, constants, &fun)?;
     let Fun {
         notes,
         kind,
@@ -175,12 +192,9 @@ fn resolve_fun(alloc: Global, constants: &ConstantTable, fun: Fun) -> Result<Fun
         params,
         rets,
         vars,
-        body,
-        result,
+        body: _,
+        result: _,
     } = fun;
-    let scope = Scope::of(alloc, constants, &params, &vars)?;
-    let body = resolve_block(alloc, &scope, &body)?;
-    let result = resolve_vars(alloc, &scope, &result)?;
     Ok(Fun {
         notes,
         kind,

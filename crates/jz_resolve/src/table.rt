@@ -1,33 +1,31 @@
 //! The numbers of constants.
-ghost use Rattle.std.specs.Prelude.{◌≡◌, List, Some, option_map, IfOk, OnOk};
-ghost use Rattle.std.specs.Str.{bytes_eq};
-ghost use Rattle.indexmap.specs.IndexMap.{get};
+ghost use Rattle.std.specs.Prelude.{◌≡◌, List, option_map, IfOk, OnOk};
 ghost use Rattle.jz_tree.specs.declared.program.Const.{Const};
-ghost use Rattle.jz_scopes.specs.Scopes.{constant_place};
+ghost use Rattle.jz_scopes.specs.Scopes.{constant_place, or_named};
 ghost use Rattle.jz_scopes.specs.Names.{stands_above};
-ghost use Rattle.jz_resolve.specs.Numbering.{value_with, no_values, or_named, constant_decl};
+ghost use Rattle.jz_scopes.specs.Tables.{item_in};
+ghost use Rattle.jz_resolve.specs.Numbering.{value_with, no_values, constant_decl};
 ghost use Rattle.jz_resolve.specs.Tables.{values_in, places_in, IsTable};
 
-use indexmap::IndexMap;
 use jz_data::{Seq, Text};
 use jz_integers::{Constant, Numbers, inline_value};
 use jz_io::Span;
-use jz_scopes::is_before;
+use jz_scopes::{ByName, Places, above};
 use jz_tree::{Const, Decl, Expr, Storage, Ty};
 use std::alloc::{AllocError, Global};
 
 /// The constants of a program by their names: where each stands, and its number where it has one.
 #[derive(Debug, Drop)]
 pub struct ConstantTable {
-    pub(crate) places: IndexMap<Text, Span>,
-    pub(crate) values: IndexMap<Text, i128>,
+    places: Places,
+    values: ByName<i128>,
 }
 
 impl Numbers for ConstantTable {
-    ghost numbers = { λ constants name copy. get bytes_eq constants.values name };
+    ghost numbers = { λ constants name copy. item_in constants.values name };
 
     fn number(&self, name: &Text, _copy: u32) -> Option<i128>
-        ensures { result ≡ get bytes_eq self.now.values name.now }
+        ensures { result ≡ item_in self.now.values name.now }
     {
         match self.values.get(name) {
             None => None,
@@ -41,17 +39,14 @@ impl ConstantTable {
     pub(crate) fn stands_above(&self, name: &Text, at: Span) -> bool
         ensures { result ≡ stands_above (places_in self.now name.now) at }
     {
-        match self.places.get(name) {
-            None => false,
-            Some(place) => is_before(*place, at),
-        }
+        above(self.places.place(name), at)
     }
 
     /// What is declared of a constant of that name.
     pub(crate) fn declared(&self, name: &Text) -> Option<Decl>
         ensures { result ≡ option_map (λ at. constant_decl) (places_in self.now name.now) }
     {
-        match self.places.get(name) {
+        match self.places.place(name) {
             None => None,
             Some(_) => Some(Decl {
                 storage: Storage::Inline,
@@ -72,33 +67,16 @@ impl ConstantTable {
         }
     }
 
-    fn add_place(&mut self, c: &Const) -> Result<(), AllocError>
-        ensures places { OnOk result (places_in self.new ≡ or_named (places_in self.old) c.now.name (Some c.now.span)) }
-        ensures values { OnOk result (self.new.values ≡ self.old.values) }
-    {
-        if !self.places.contains_key(&c.name) {
-            self.places.insert(c.name.clone()?, c.span)?;
-        }
-        Ok(())
-    }
-
-    fn put_value(&mut self, name: &Text, number: i128) -> Result<(), AllocError>
-        ensures values { OnOk result (values_in self.new ≡ or_named (values_in self.old) name.now (Some number)) }
-        ensures places { OnOk result (self.new.places ≡ self.old.places) }
-    {
-        if !self.values.contains_key(name) {
-            self.values.insert(name.clone()?, number)?;
-        }
-        Ok(())
-    }
-
     fn add_value(&mut self, alloc: Global, c: &Const) -> Result<(), AllocError>
         ensures values { OnOk result (values_in self.new ≡ or_named (values_in self.old) c.now.name (value_with (values_in self.old) c.now.value)) }
         ensures places { OnOk result (self.new.places ≡ self.old.places) }
     {
         match self.number_of(alloc, &c.value)? {
             None => Ok(()),
-            Some(number) => self.put_value(&c.name, number),
+            Some(number) => {
+                self.values.add(&c.name, number)?;
+                Ok(())
+            }
         }
     }
 
@@ -106,14 +84,11 @@ impl ConstantTable {
         ensures places { IfOk result (λ table. places_in table ≡ constant_place consts.now) }
         ensures values { IfOk result (λ table. values_in table ≡ no_values) }
     {
-        let mut table = ConstantTable {
-            places: IndexMap::new(alloc),
-            values: IndexMap::new(alloc),
-        };
-        for c in consts.as_slice() {
-            table.add_place(c)?;
-        }
-        Ok(table)
+        let places = Places::of_constants(alloc, consts)?;
+        Ok(ConstantTable {
+            places,
+            values: ByName::new(alloc),
+        })
     }
 }
 

@@ -1,32 +1,28 @@
 -- The earliest of what is wrong with the arguments and results of a call.
-use Rattle.std.proofs.Common.{◌≡◌, ℕ, List, [], ◌++◌, flat_map, Option, Some, sym, ap, ◌∙◌}
+use Rattle.std.proofs.Common.{◌≡◌, ℕ, List, [], flat_map, Option, Some, ap, ◌∙◌}
 use Rattle.jz_io.specs.declared.span.Span.{Span}
 use Rattle.jz_tree.specs.declared.expr.Expr.{Expr}
 use Rattle.jz_tree.specs.declared.stmt.Lval.{Lval}
 use Rattle.jz_scopes.specs.Order.{earlier, earliest, first_in}
-use Rattle.jz_scopes.proofs.Earliest.{earliest-append}
+use Rattle.jz_scopes.proofs.Earliest.{first_over, both_earliest}
 use Rattle.jz_rules.specs.declared.callee.Callee.{Callee}
 use Rattle.jz_rules.specs.Copies.{Given, Passed, given, numbers_back, passed_from, not_back, not_passed, passed_twice, passed_wrongly, wrong_arguments, copied_by_call}
-use Rattle.jz_rules.proofs.Joins.{first_in-is}
-
-pub both_of : (xs ys : List Span) (a b : Option Span) → a ≡ earliest xs → b ≡ earliest ys → earlier a b ≡ earliest (xs ++ ys)
-both_of xs ys a b p q = ap (λ z. earlier z b) p ∙ (ap (earlier (earliest xs)) q ∙ sym (earliest-append xs ys))
 
 pub wrongly_is : (g : Callee) (to : List Lval) (args : List Expr) (rs : List Given) (ns : List ℕ) (ps qs : List Passed) (a b : Option Span)
     → rs ≡ given g to → ns ≡ numbers_back args rs → ps ≡ passed_from 0 args → qs ≡ passed_from 0 args
     → a ≡ first_in (not_back g.written ns) ps → b ≡ earliest (passed_twice g.written [] qs)
     → earlier a b ≡ earliest (passed_wrongly g to args)
 wrongly_is g to args rs ns ps qs a b hr hn hp hq ha hb =
-    both_of (flat_map (not_back g.written (numbers_back args (given g to))) (passed_from 0 args)) (passed_twice g.written [] (passed_from 0 args)) a b
+    both_earliest (flat_map (not_back g.written (numbers_back args (given g to))) (passed_from 0 args)) (passed_twice g.written [] (passed_from 0 args)) a b
     (ha
     ∙ (ap (λ m. first_in (not_back g.written m) ps) (hn ∙ ap (numbers_back args) hr)
     ∙ (ap (first_in (not_back g.written (numbers_back args (given g to)))) hp
-    ∙ sym (first_in-is (not_back g.written (numbers_back args (given g to))) (passed_from 0 args)))))
+    ∙ first_over (not_back g.written (numbers_back args (given g to))) (passed_from 0 args))))
     (hb ∙ ap (λ q. earliest (passed_twice g.written [] q)) hq)
 
 pub by_call_is : (g : Callee) (to : List Lval) (args : List Expr) (rs : List Given) (a b : Option Span)
     → rs ≡ given g to → a ≡ first_in (not_passed args) rs → b ≡ earliest (wrong_arguments g to args)
     → earlier a b ≡ earliest (copied_by_call (Some g) to args)
 by_call_is g to args rs a b hr ha hb =
-    both_of (flat_map (not_passed args) (given g to)) (wrong_arguments g to args) a b
-    (ha ∙ (ap (first_in (not_passed args)) hr ∙ sym (first_in-is (not_passed args) (given g to)))) hb
+    both_earliest (flat_map (not_passed args) (given g to)) (wrong_arguments g to args) a b
+    (ha ∙ (ap (first_in (not_passed args)) hr ∙ first_over (not_passed args) (given g to))) hb

@@ -1,19 +1,17 @@
 -- Arrays that are passed twice, by the names of those that were passed.
-use Rattle.std.proofs.Common.{◌≡◌, ℕ, ◌+◌, ◌<◌, suc, Bool, true, false, ◌&&◌, ◌||◌, not, List, [], ◌∷◌, ◌++◌, map, length, get_or, take, drop, Option, refl, sym, ap, ◌∙◌, cond, arith, drop-cons, append-nil, subst}
+use Rattle.std.proofs.Common.{◌≡◌, ℕ, ◌+◌, ◌<◌, suc, Bool, true, false, ◌&&◌, ◌||◌, not, List, [], ◌∷◌, ◌++◌, map, length, get_or, take, drop, Option, refl, sym, ap, ◌∙◌, cond, arith, drop-cons, subst}
 use Rattle.std.specs.List.{list_any}
 use Rattle.std.specs.Str.{bytes_eq}
-use Rattle.std.proofs.lemmas.List.{map-append, map_more}
-use Rattle.std.proofs.lemmas.List.Elements.{filter-append}
+use Rattle.std.proofs.lemmas.List.{map_more}
 use Rattle.jz_io.specs.declared.span.Span.{Span}
 use Rattle.jz_scopes.specs.Order.{unless, earlier, earliest}
 use Rattle.jz_scopes.proofs.Earliest.{earliest-append}
 use Rattle.jz_rules.specs.declared.copies.Argument.{Argument}
-use Rattle.jz_rules.specs.declared.tables.Names.{Names}
 use Rattle.jz_rules.specs.declared.twice.Seen.{Seen}
 use Rattle.jz_rules.specs.Callees.{text_of}
 use Rattle.jz_rules.specs.Copies.{Passed, span_of_var, is_written_at, is_twice, passed_twice}
 use Rattle.jz_rules.specs.Passing.{passed_of}
-use Rattle.jz_rules.specs.Tables.{HasNames, HasSeen, names_passed, written_among}
+use Rattle.jz_rules.specs.Tables.{HasSeen, names_passed, written_among}
 
 -- ---- whether one was passed before
 with_written : (e w r1 r t : Bool) → (r1 || (w && r)) ≡ t → ((e || r1) || (w && (e || r))) ≡ ((e && (w || true)) || t)
@@ -55,36 +53,6 @@ pub by_none : (w x a t r : Bool) → w ≡ false → x ≡ false → r ≡ x →
 by_none w x a t r e f g k = g ∙ (f ∙ (sym (ap (λ q. q && a) f) ∙ (sym (ap (λ q. q || (x && a)) e) ∙ k)))
 
 -- ---- one more
-pub names_at : (s : Names) (ns ms : List (List ℕ)) → ns ≡ ms → HasNames s ns → HasNames s ms
-names_at s ns ms e h = record { has = λ n. h.has n ∙ ap (list_any (bytes_eq n)) e }
-
-passed_push : (as' : List Passed) (a : Passed) → names_passed as' ++ text_of a.1 ∷ [] ≡ names_passed (as' ++ a ∷ [])
-passed_push as' a = sym (map-append (λ a. text_of a.1) as' (a ∷ []))
-
-written_push : (bs : List Bool) (as' : List Passed) (a : Passed) → is_written_at bs a.0 ≡ true → names_passed (written_among bs as') ++ text_of a.1 ∷ [] ≡ names_passed (written_among bs (as' ++ a ∷ []))
-written_push bs as' a w =
-    passed_push (written_among bs as') a
-    ∙ (sym (ap (λ x. names_passed (written_among bs as' ++ cond x (a ∷ []) [])) w) ∙ sym (ap names_passed (filter-append (λ a. is_written_at bs a.0) as' (a ∷ []))))
-
-written_same : (bs : List Bool) (as' : List Passed) (a : Passed) → is_written_at bs a.0 ≡ false → names_passed (written_among bs as') ≡ names_passed (written_among bs (as' ++ a ∷ []))
-written_same bs as' a w =
-    ap names_passed (sym (append-nil (written_among bs as')))
-    ∙ (sym (ap (λ x. names_passed (written_among bs as' ++ cond x (a ∷ []) [])) w) ∙ sym (ap names_passed (filter-append (λ a. is_written_at bs a.0) as' (a ∷ []))))
-
-pub seen_written : (s : Seen) (bs : List Bool) (as' : List Passed) (a : Passed) → is_written_at bs a.0 ≡ true
-    → HasNames s.all (names_passed as' ++ text_of a.1 ∷ []) → HasNames s.written (names_passed (written_among bs as') ++ text_of a.1 ∷ []) → HasSeen s bs (as' ++ a ∷ [])
-seen_written s bs as' a w all set = record {
-  all = names_at s.all _ _ (passed_push as' a) all;
-  written = names_at s.written _ _ (written_push bs as' a w) set;
-}
-
-pub seen_read : (s : Seen) (bs : List Bool) (as' : List Passed) (a : Passed) → is_written_at bs a.0 ≡ false
-    → HasNames s.all (names_passed as' ++ text_of a.1 ∷ []) → HasNames s.written (names_passed (written_among bs as')) → HasSeen s bs (as' ++ a ∷ [])
-seen_read s bs as' a w all set = record {
-  all = names_at s.all _ _ (passed_push as' a) all;
-  written = names_at s.written _ _ (written_same bs as' a w) set;
-}
-
 pub seen_at : (s : Seen) (bs : List Bool) (ps qs : List Passed) → ps ≡ qs → HasSeen s bs ps → HasSeen s bs qs
 seen_at s bs ps qs e h = subst (λ x. HasSeen s bs x) e h
 

@@ -2,13 +2,13 @@
 use Rattle.std.specs.Prelude.{◌≡◌, ℕ, Bool, nat_eq, List, map, filter, option_map}
 use Rattle.std.specs.List.{list_any}
 use Rattle.std.specs.Str.{bytes_eq}
-use Rattle.indexmap.specs.IndexMap.{get}
 use Rattle.jz_tree.specs.declared.program.Fun.{Fun}
+use Rattle.jz_scopes.specs.declared.tables.ByName.{ByName}
 use Rattle.jz_scopes.specs.Scopes.{function_named}
+use Rattle.jz_scopes.specs.Tables.{item_in}
 use Rattle.jz_rules.specs.declared.callee.Callees.{Callees}
 use Rattle.jz_rules.specs.declared.tables.Names.{Names}
 use Rattle.jz_rules.specs.declared.tables.Numbers.{Numbers}
-use Rattle.jz_rules.specs.declared.tables.Places.{Places}
 use Rattle.jz_rules.specs.declared.twice.Seen.{Seen}
 use Rattle.jz_rules.specs.Callees.{place_of, text_of, callee_of}
 use Rattle.jz_rules.specs.Copies.{Passed, is_written_at}
@@ -18,8 +18,8 @@ pub record HasNames (s : Names) (ns : List (List ℕ)) : Type 0 where
   pub has : (n : List ℕ) → list_any (bytes_eq n) s.texts.keys ≡ list_any (bytes_eq n) ns
 
 -- the table has the first place of each name of the list
-pub record HasPlaces (t : Places) (ns : List (List ℕ)) : Type 0 where
-  pub first : (n : List ℕ) → get bytes_eq t.first n ≡ place_of (bytes_eq n) ns
+pub record HasPlaces (t : ByName ℕ) (ns : List (List ℕ)) : Type 0 where
+  pub first : (n : List ℕ) → item_in t n ≡ place_of (bytes_eq n) ns
 
 -- the set has these numbers
 pub record HasNumbers (s : Numbers) (ns : List ℕ) : Type 0 where
@@ -38,4 +38,4 @@ pub record HasSeen (s : Seen) (bs : List Bool) (as' : List Passed) : Type 0 wher
 
 -- the table has the first function of each name
 pub record HasCallees (t : Callees) (fs : List Fun) : Type 0 where
-  pub first : (n : List ℕ) → get bytes_eq t.callees n ≡ option_map callee_of (function_named n fs)
+  pub first : (n : List ℕ) → item_in t.callees n ≡ option_map callee_of (function_named n fs)

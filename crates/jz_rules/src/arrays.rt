@@ -52,7 +52,7 @@ fn first_left(tos: &Seq<Lval>) -> Option<Span>
 }
 
 /// The first array among arguments.
-#[tactic(auto, using(crate::proofs::Joins::joining))]
+#[tactic(auto, using(jz_scopes::proofs::Earliest::joining))]
 pub(crate) fn array_args(args: &Seq<Expr>) -> Option<Span>
     ensures { result ≡ earliest (flat_map array_arg args.now) }
 {
@@ -60,7 +60,7 @@ pub(crate) fn array_args(args: &Seq<Expr>) -> Option<Span>
 }
 
 /// The first array that is a left side as a whole.
-#[tactic(auto, using(crate::proofs::Joins::joining))]
+#[tactic(auto, using(jz_scopes::proofs::Earliest::joining))]
 pub(crate) fn array_lefts(tos: &Seq<Lval>) -> Option<Span>
     ensures { result ≡ earliest (flat_map array_left tos.now) }
 {

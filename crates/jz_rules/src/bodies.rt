@@ -28,7 +28,7 @@ fn indexed_in_body(alloc: Global, body: &Seq<Stmt>) -> Result<Option<Span>, Allo
     Ok(first)
 }
 
-#[tactic(auto, using(crate::proofs::Joins::joining))]
+#[tactic(auto, using(jz_scopes::proofs::Earliest::joining))]
 fn indexed_in_fun(alloc: Global, fun: &Fun) -> Result<Option<Span>, AllocError>
     ensures { IfOk result (λ at. at ≡ earliest (in_body indexed_by fun.now)) }
 {
@@ -47,7 +47,7 @@ fn indexed_among_funs(alloc: Global, funs: &Seq<Fun>) -> Result<Option<Span>, Al
 }
 
 /// The first index of a register array that is not inline.
-#[tactic(auto, using(crate::proofs::Joins::joining))]
+#[tactic(auto, using(jz_scopes::proofs::Earliest::joining))]
 pub fn indexed_in(alloc: Global, program: &Program) -> Result<Option<Span>, AllocError>
     ensures { IfOk result (λ at. at ≡ earliest (in_statements indexed_by program.now)) }
 {
@@ -75,7 +75,7 @@ fn copied_in_body(
     Ok(first)
 }
 
-#[tactic(auto, using(crate::proofs::Joins::joining))]
+#[tactic(auto, using(jz_scopes::proofs::Earliest::joining))]
 fn copied_in_fun(alloc: Global, callees: &Callees, fun: &Fun) -> Result<Option<Span>, AllocError>
     ensures { (fs : List Fun) → HasCallees callees.now fs → IfOk result (λ at. at ≡ earliest (in_body (copied_by fs) fun.now)) }
 {
@@ -98,7 +98,7 @@ fn copied_among_funs(
 }
 
 /// The first name at which an array would have to be copied.
-#[tactic(auto, using(crate::proofs::Joins::joining))]
+#[tactic(auto, using(jz_scopes::proofs::Earliest::joining))]
 pub fn copied_in(alloc: Global, program: &Program) -> Result<Option<Span>, AllocError>
     ensures { IfOk result (λ at. at ≡ earliest (in_statements (copied_by program.now.funs) program.now)) }
 {

@@ -9,10 +9,9 @@ ghost use Rattle.jz_scopes.specs.Parts.{layer_of, set_by};
 ghost use Rattle.jz_rules.specs.Callees.{place_of, text_of, name_of_param, param_of, set_in, names_set, is_written, of_callee, entered_by, left_by, callee_of, callee_by};
 ghost use Rattle.jz_rules.specs.Tables.{HasNames, HasPlaces, HasCallees};
 
-use crate::tables::{Names, Places};
-use indexmap::IndexMap;
-use jz_data::{Seq, Text};
-use jz_scopes::{is_array, known, set_by, statements};
+use crate::tables::{Names, add_place, place};
+use jz_data::Seq;
+use jz_scopes::{ByName, is_array, known, set_by, statements};
 use jz_tree::{Expr, Fun, FunKind, Lval, Param, Program, Rhs, Stmt, StmtKind, Var};
 use std::alloc::{AllocError, Global};
 
@@ -83,26 +82,26 @@ fn written(alloc: Global, names: &Names, params: &Seq<Param>) -> Result<Seq<bool
     Ok(list)
 }
 
-fn places_of(alloc: Global, params: &Seq<Param>) -> Result<Places, AllocError>
+fn places_of(alloc: Global, params: &Seq<Param>) -> Result<ByName<usize>, AllocError>
     ensures { IfOk result (λ t. HasPlaces t (map name_of_param params.now)) }
 {
-    let mut places = Places::new(alloc);
+    let mut places = ByName::new(alloc);
     for (number, param) in params.as_slice().iter().enumerate() {
-        places.add(&param.var.name, number)?;
+        add_place(&mut places, &param.var.name, number)?;
     }
     Ok(places)
 }
 
 fn returned(
     alloc: Global,
-    places: &Places,
+    places: &ByName<usize>,
     vars: &Seq<Var>,
 ) -> Result<Seq<Option<usize>>, AllocError>
     ensures { (ns : List (List ℕ)) → HasPlaces places.now ns → IfOk result (λ r. r ≡ map (λ v. place_of (bytes_eq (text_of v)) ns) vars.now) }
 {
     let mut list = Seq::new(alloc);
     for var in vars.as_slice() {
-        list.push(places.place(&var.name))?;
+        list.push(place(places, &var.name))?;
     }
     Ok(list)
 }
@@ -166,17 +165,15 @@ impl Callee {
 /// The functions of a program by their names, as their calls need them.
 #[derive(Drop)]
 pub struct Callees {
-    callees: IndexMap<Text, Callee>,
+    callees: ByName<Callee>,
 }
 
 impl Callees {
     fn add(&mut self, alloc: Global, fun: &Fun) -> Result<(), AllocError>
         ensures { (fs : List Fun) → HasCallees self.old fs → OnOk result (HasCallees self.new (fs ++ fun.now ∷ [])) }
     {
-        if !self.callees.contains_key(&fun.name) {
-            let callee = Callee::of(alloc, fun)?;
-            self.callees.insert(fun.name.clone()?, callee)?;
-        }
+        let callee = Callee::of(alloc, fun)?;
+        self.callees.add(&fun.name, callee)?;
         Ok(())
     }
 
@@ -185,7 +182,7 @@ impl Callees {
         ensures { IfOk result (λ callees. HasCallees callees program.now.funs) }
     {
         let mut callees = Callees {
-            callees: IndexMap::new(alloc),
+            callees: ByName::new(alloc),
         };
         for fun in program.funs.as_slice() {
             callees.add(alloc, fun)?;

@@ -212,7 +212,7 @@ fn copied_by_call(
     }
 }
 
-#[tactic(auto, using(crate::proofs::Joins::joining))]
+#[tactic(auto, using(jz_scopes::proofs::Earliest::joining))]
 fn given_to_intrinsic(to: &Seq<Lval>, args: &Seq<Expr>) -> Option<Span>
     ensures { result ≡ earliest (flat_map array_left to.now ++ flat_map array_arg args.now) }
 {

@@ -81,7 +81,7 @@ fn annotated_among(notes: &Seq<Note>) -> Option<Span>
 }
 
 /// The first entry before an export function that is a precondition; no entry is read as one yet.
-#[tactic(auto, using(crate::proofs::Joins::joining))]
+#[tactic(auto, using(jz_scopes::proofs::Earliest::joining))]
 pub fn annotated(fun: &Fun) -> Option<Span>
     ensures { result ≡ earliest (annotated fun.now) }
 {

@@ -32,7 +32,7 @@ fn indexed_among(cells: &[(&Var, &Expr)]) -> Option<Span>
     first
 }
 
-#[tactic(auto, using(crate::proofs::Joins::joining))]
+#[tactic(auto, using(jz_scopes::proofs::Earliest::joining))]
 fn indexed_in(alloc: Global, expr: &Expr) -> Result<Option<Span>, AllocError>
     ensures { IfOk result (λ at. at ≡ earliest (indexed_in expr.now)) }
 {
@@ -51,7 +51,7 @@ fn indexed_in_all(alloc: Global, exprs: &[&Expr]) -> Result<Option<Span>, AllocE
 }
 
 /// The first index of a register array, in a statement without those that stand in it, that is not inline.
-#[tactic(auto, using(crate::proofs::Joins::joining))]
+#[tactic(auto, using(jz_scopes::proofs::Earliest::joining))]
 pub fn indexed(alloc: Global, stmt: &Stmt) -> Result<Option<Span>, AllocError>
     ensures { IfOk result (λ at. at ≡ earliest (indexed_by (layer_of stmt.now))) }
 {

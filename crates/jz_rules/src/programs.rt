@@ -22,7 +22,7 @@ fn misshapen_among(funs: &Seq<Fun>) -> Option<Span>
 }
 
 /// The first export function that has more than six parameters or two results, or another than words in registers.
-#[tactic(auto, using(crate::proofs::Joins::joining))]
+#[tactic(auto, using(jz_scopes::proofs::Earliest::joining))]
 pub fn misshapen_in(program: &Program) -> Option<Span>
     ensures { result ≡ earliest (in_functions misshapen program.now) }
 {
@@ -40,7 +40,7 @@ fn annotated_among(funs: &Seq<Fun>) -> Option<Span>
 }
 
 /// The first precondition before an export function.
-#[tactic(auto, using(crate::proofs::Joins::joining))]
+#[tactic(auto, using(jz_scopes::proofs::Earliest::joining))]
 pub fn annotated_in(program: &Program) -> Option<Span>
     ensures { result ≡ earliest (in_functions annotated program.now) }
 {

@@ -6,8 +6,9 @@ ghost use Rattle.std.specs.Str.{bytes_eq};
 ghost use Rattle.jz_rules.specs.Callees.{place_of};
 ghost use Rattle.jz_rules.specs.Tables.{HasNames, HasNumbers, HasPlaces};
 
-use indexmap::{IndexMap, IndexSet};
+use indexmap::IndexSet;
 use jz_data::Text;
+use jz_scopes::ByName;
 use std::alloc::{AllocError, Global};
 
 /// A set of names.
@@ -78,37 +79,24 @@ impl Numbers {
     }
 }
 
-/// The first place of each name of a list.
-#[derive(Debug, Drop)]
-pub(crate) struct Places {
-    first: IndexMap<Text, usize>,
+/// The first place of a name in a list.
+pub(crate) fn place(places: &ByName<usize>, name: &Text) -> Option<usize>
+    ensures { (ns : List (List ℕ)) → HasPlaces places.now ns → result ≡ place_of (bytes_eq name.now) ns }
+{
+    match places.get(name) {
+        None => None,
+        Some(place) => Some(*place),
+    }
 }
 
-impl Places {
-    pub(crate) fn new(alloc: Global) -> Places
-        ensures { HasPlaces result [] }
-    {
-        Places {
-            first: IndexMap::new(alloc),
-        }
-    }
-
-    pub(crate) fn place(&self, name: &Text) -> Option<usize>
-        ensures { (ns : List (List ℕ)) → HasPlaces self.now ns → result ≡ place_of (bytes_eq name.now) ns }
-    {
-        match self.first.get(name) {
-            None => None,
-            Some(place) => Some(*place),
-        }
-    }
-
-    /// Adds the name that stands behind those of the list.
-    pub(crate) fn add(&mut self, name: &Text, place: usize) -> Result<(), AllocError>
-        ensures { (ns : List (List ℕ)) → place ≡ length ns → HasPlaces self.old ns → OnOk result (HasPlaces self.new (ns ++ name.now ∷ [])) }
-    {
-        if !self.first.contains_key(name) {
-            self.first.insert(name.clone()?, place)?;
-        }
-        Ok(())
-    }
+/// Adds the name that stands behind those of the list.
+pub(crate) fn add_place(
+    places: &mut ByName<usize>,
+    name: &Text,
+    place: usize,
+) -> Result<(), AllocError>
+    ensures { (ns : List (List ℕ)) → place ≡ length ns → HasPlaces places.old ns → OnOk result (HasPlaces places.new (ns ++ name.now ∷ [])) }
+{
+    places.add(name, place)?;
+    Ok(())
 }

@@ -22,7 +22,7 @@ use Rattle.jz_first_tree.specs.declared.Rhs.TheVariants as rhs
 use Rattle.jz_first_tree.specs.declared.Stmt.{Stmt}
 use Rattle.jz_first_tree.specs.declared.StmtKind.{StmtKind}
 use Rattle.jz_leak.specs.RunLeaks.{Leak}
-use Rattle.jz_first_meaning.specs.RunRules.{stuck, went, End, Stuck}
+use Rattle.jz_runs.specs.Rules.{stuck, went, End, Stuck}
 use Rattle.jz_first_meaning.specs.SourceStates.{Value, word, integer, key_of, Store, empty_store, put, State, Why}
 use Rattle.jz_first_meaning.specs.SourceValues.{Evaluation, numbers_first, and_then, defined, variable_value}
 use Rattle.jz_first_meaning.specs.SourceRuns.{of_type, as_declared, held, written, right_value, combined, assigned_value, assigned, value_of_type, argument, with_arguments, entry_state, word_of, result_words, outcome_of_words, FunOutcome, FitsDecl, AreArguments, IsRun}

@@ -5,7 +5,7 @@ ghost use Rattle.jz_words.specs.Memory.{Memory};
 ghost use Rattle.jz_first_tree.specs.declared.Program.{Program};
 ghost use Rattle.jz_first_tree.specs.declared.Fun.{Fun};
 ghost use Rattle.jz_first_tree.specs.Assignments.{AssignsToOne};
-ghost use Rattle.jz_first_meaning.specs.RunRules.{End, Stuck};
+ghost use Rattle.jz_runs.specs.Rules.{End, Stuck};
 ghost use Rattle.jz_first_meaning.specs.SourceStates.{Why};
 ghost use Rattle.jz_first_meaning.specs.SourceRuns.{FunOutcome, IsRun};
 ghost use Rattle.jz_first_meaning.specs.StraightRuns.{plain_leak};

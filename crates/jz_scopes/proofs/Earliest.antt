@@ -1,5 +1,5 @@
 -- The earlier of places, and the earliest of two lists, one after the other.
-use Rattle.std.proofs.Common.{◌≡◌, ℕ, Bool, true, false, List, [], ◌∷◌, ◌++◌, Option, Some, None, ◌<◌, ◌+◌, suc, length, get_or, drop, drop-cons, flat_map, refl, sym, ap, ◌∙◌, arith}
+use Rattle.std.proofs.Common.{◌≡◌, Bool, true, false, List, [], ◌∷◌, ◌++◌, Option, Some, None, flat_map, refl, sym, ap, ap₂, ◌∙◌, arith}
 use Rattle.std.specs.Prelude.{if◌then◌else◌}
 use Rattle.std.proofs.lemmas.Bool.Decides.{nat_tests}
 use Rattle.jz_io.specs.declared.span.Span.{Span}
@@ -10,12 +10,6 @@ before_trans a b c p q = grind (arith, nat_tests)
 
 pub before_not : (a b c : Span) → is_before a b ≡ false → is_before b c ≡ false → is_before a c ≡ false
 before_not a b c p q = grind (arith, nat_tests)
-
-pub before_self : (a : Span) → is_before a a ≡ false
-before_self a = grind (arith, nat_tests)
-
-pick : Bool → Span → Span → Option Span
-pick b g f = if b then Some g else Some f
 
 three : (x y z : Span) (yx zy zx : Bool) → is_before y x ≡ yx → is_before z y ≡ zy → is_before z x ≡ zx
     → earlier (if yx then Some y else Some x) (Some z) ≡ earlier (Some x) (if zy then Some z else Some y)
@@ -46,17 +40,14 @@ pub first_over : {A : Type 0} (places : A → List Span) (as' : List A) → firs
 first_over places [] = refl
 first_over places (a ∷ as') = ap (earlier (earliest (places a))) (first_over places as') ∙ sym (earliest-append (places a) (flat_map places as'))
 
--- one item more of a loop that keeps the earliest place
-pub next_place : {A : Type 0} (places : A → List Span) (best found new whole : Option Span) (as' : List A) (i : ℕ) (a : A)
-    → i < length as' → a ≡ get_or as' i a → found ≡ earliest (places a) → new ≡ earlier best found
-    → earlier best (earliest (flat_map places (drop i as'))) ≡ whole → earlier new (earliest (flat_map places (drop (i + 1) as'))) ≡ whole
-next_place places best found new whole as' i a lt e f n h =
-    let one : i + 1 ≡ suc i = omega arith
-    in let left = earliest (flat_map places (drop (suc i) as'))
-    in let step : earliest (flat_map places (drop i as')) ≡ earlier (earliest (places a)) left =
-    ap (λ l. earliest (flat_map places l)) (drop-cons as' i a lt)
-    ∙ (ap (λ b. earliest (places b ++ flat_map places (drop (suc i) as'))) (sym e) ∙ earliest-append (places a) (flat_map places (drop (suc i) as')))
-    in ap (λ j. earlier new (earliest (flat_map places (drop j as')))) one
-    ∙ (ap (λ b. earlier b left) n ∙ (earlier-assoc best found left ∙ (ap (λ b. earlier best (earlier b left)) f ∙ (ap (earlier best) (sym step) ∙ h))))
+pub first_in-is : {A : Type 0} (places : A → List Span) (as' : List A) → earliest (flat_map places as') ≡ first_in places as'
+first_in-is places as' = sym (first_over places as')
+
+-- of what is found in two lists the earlier is the earliest of both
+pub both_earliest : (xs ys : List Span) (a b : Option Span) → a ≡ earliest xs → b ≡ earliest ys → earlier a b ≡ earliest (xs ++ ys)
+both_earliest xs ys a b p q = ap₂ earlier p q ∙ sym (earliest-append xs ys)
 
 pub ruleset earlier_laws = (earlier-assoc, none-earlier, earlier-none)
+
+-- for loops over what a definition says by `flat_map`
+pub ruleset joining = (earliest-append, first_in-is)

@@ -1,82 +1,54 @@
--- The earliest place of a list is one of its places, before which none of them stands.
-use Rattle.std.proofs.Common.{◌≡◌, ℕ, ◌<◌, ◌⊎◌, inl, inr, Bool, true, false, List, [], ◌∷◌, Option, Some, None, refl, ap, ◌∙◌, subst, arith}
-use Rattle.std.specs.Prelude.{if◌then◌else◌, Contains, MatchOption}
-use Rattle.std.proofs.lemmas.Bool.Decides.{nat_tests}
+-- The earliest place of two kinds of places, and of a list.
+use Rattle.std.proofs.Common.{◌≡◌, ◌<◌, ◌⊎◌, inl, inr, Bool, true, false, List, [], ◌∷◌, Option, Some, refl, subst, arith}
+use Rattle.std.specs.Prelude.{if◌then◌else◌, ◌↔◌, Contains}
 use Rattle.std.proofs.lemmas.List.Elements.{Contains-append_left, Contains-append_right, Contains-append_cases, Contains-push, Contains-push_cases}
 use Rattle.jz_io.specs.declared.span.Span.{Span}
-use Rattle.jz_scopes.specs.Order.{is_before, Before, earlier, earliest, IsEarliest, nowhere, here}
-use Rattle.jz_scopes.proofs.Earliest.{before_self, before_not}
+use Rattle.jz_scopes.specs.Order.{is_before, earlier, earliest, IsEarliest, nowhere, here}
+use Rattle.jz_scopes.proofs.Standing.{AtLeast, before_is, at_least, least_least}
 
+pub same_wrong : (A B : Span → Type 0) → ((at : Span) → A at ↔ B at) → (o : Option Span) → IsEarliest A o → IsEarliest B o
+same_wrong A B e o (nowhere none) = nowhere (λ at b. none at ((e at).1 b))
+same_wrong A B e o (here {at = at} a least) = here ((e at).0 a) (λ there b. least there ((e there).1 b))
+
+module _ (A B : Span → Type 0) where
+  abbrev pub OneOf : Span → Type 0
+  OneOf at = A at ⊎ B at
+
+  two_here : (x y : Span) (b : Bool) → is_before y x ≡ b → A x → B y → ((there : Span) → A there → AtLeast x there) → ((there : Span) → B there → AtLeast y there)
+      → IsEarliest OneOf (if b then Some y else Some x)
+  two_here x y true e a b p q = here (inr b) (λ there w. elim w [
+    | inl v ↦ least_least y x there (inl (before_is y x e)) (p there v)
+    | inr v ↦ q there v
+  ])
+  two_here x y false e a b p q = here (inl a) (λ there w. elim w [
+    | inl v ↦ p there v
+    | inr v ↦ least_least x y there (at_least x y e) (q there v)
+  ])
+
+  pub earlier_of_two : (x y : Option Span) → IsEarliest A x → IsEarliest B y → IsEarliest OneOf (earlier x y)
+  earlier_of_two x y (nowhere n) (nowhere m) = nowhere (λ at w. elim w [ inl a ↦ n at a | inr b ↦ m at b ])
+  earlier_of_two x y (nowhere n) (here b q) = here (inr b) (λ there w. elim w [ inl a ↦ absurd (n there a) | inr v ↦ q there v ])
+  earlier_of_two x y (here a p) (nowhere m) = here (inl a) (λ there w. elim w [ inl v ↦ p there v | inr b ↦ absurd (m there b) ])
+  earlier_of_two x y (here {at = s} a p) (here {at = t} b q) = two_here s t (is_before t s) refl a b p q
+
+-- ---- of a list
 contains_none : {X : Type 0} (y : X) → Contains [] y → ⊥
 contains_none y h = let lt : h.0 < 0 = h.1 in omega arith
 
-contains_head : {X : Type 0} (x : X) (xs : List X) → Contains (x ∷ xs) x
-contains_head x xs = Contains-append_left (x ∷ []) xs x (Contains-push [] x)
+contains_from : {X : Type 0} (x : X) (xs : List X) (y : X) → (x ≡ y) ⊎ Contains xs y → Contains (x ∷ xs) y
+contains_from x xs y (inl e) = subst (λ z. Contains (x ∷ xs) z) e (Contains-append_left (x ∷ []) xs x (Contains-push [] x))
+contains_from x xs y (inr h) = Contains-append_right (x ∷ []) xs y h
 
-contains_tail : {X : Type 0} (x y : X) (xs : List X) → Contains xs y → Contains (x ∷ xs) y
-contains_tail x y xs h = Contains-append_right (x ∷ []) xs y h
-
-contains_cases : {X : Type 0} (x y : X) (xs : List X) → Contains (x ∷ xs) y → (x ≡ y) ⊎ Contains xs y
-contains_cases x y xs h =
+contains_cases : {X : Type 0} (x : X) (xs : List X) (y : X) → Contains (x ∷ xs) y → (x ≡ y) ⊎ Contains xs y
+contains_cases x xs y h =
     elim (Contains-append_cases (x ∷ []) xs y h)
     [ inl a ↦ elim (Contains-push_cases [] x y a) [ inl b ↦ absurd (contains_none y b) | inr e ↦ inl e ] | inr b ↦ inr b ]
 
-IsLeast : List Span → Span → Type 0
-IsLeast xs a = Contains xs a × ((b : Span) → Contains xs b → is_before b a ≡ false)
-
-not_back : (a b : Span) → is_before a b ≡ true → is_before b a ≡ false
-not_back a b h = grind (arith, nat_tests)
-
-least_more : (x : Span) (xs : List Span) (r : Option Span) → MatchOption r (xs ≡ []) (IsLeast xs)
-    → MatchOption (earlier (Some x) r) (x ∷ xs ≡ []) (IsLeast (x ∷ xs))
-unfolding IsLeast
-least_more x xs None h = (
-  contains_head x xs,
-  λ g m. elim (contains_cases x g xs m) [
-    | inl e ↦ subst (λ z. is_before z x ≡ false) e (before_self x)
-    | inr a ↦ absurd (contains_none g (subst (λ gs. Contains gs g) h a))
-  ],
-)
-least_more x xs (Some t) h =
-    let at : (b : Bool) → is_before t x ≡ b → MatchOption (if b then Some t else Some x) (x ∷ xs ≡ []) (IsLeast (x ∷ xs)) =
-    λ b. elim b as (λ b. is_before t x ≡ b → MatchOption (if b then Some t else Some x) (x ∷ xs ≡ []) (IsLeast (x ∷ xs))) [
-      | true ↦ λ e. (
-        contains_tail x t xs h.0,
-        λ g m. elim (contains_cases x g xs m) [
-          | inl i ↦ subst (λ z. is_before z t ≡ false) i (not_back t x e)
-          | inr a ↦ h.1 g a
-        ],
-      )
-      | false ↦ λ e. (
-        contains_head x xs,
-        λ g m. elim (contains_cases x g xs m) [
-          | inl i ↦ subst (λ z. is_before z x ≡ false) i (before_self x)
-          | inr a ↦ before_not g t x (h.1 g a) e
-        ],
-      )
-    ]
-    in at (is_before t x) refl
-
-least : (xs : List Span) → MatchOption (earliest xs) (xs ≡ []) (IsLeast xs)
-least [] = refl
-least (x ∷ xs) = least_more x xs (earliest xs) (least xs)
-
-same_span : (a b : Span) → a.line ≡ b.line → a.col ≡ b.col → a ≡ b
-same_span a b l c =
-    let made : ℕ → ℕ → Span = λ l c. record { line = l; col = c }
-    in let e : made a.line a.col ≡ made b.line b.col = ap (λ k. made k a.col) l ∙ ap (made b.line) c
-    in e
-
-stands : (a b : Span) → is_before b a ≡ false → Before a b ⊎ ((a.line ≡ b.line) × (a.col ≡ b.col))
-stands a b h = grind (arith, nat_tests)
-
-told : (a b : Span) → is_before b a ≡ false → Before a b ⊎ (a ≡ b)
-told a b h = elim (stands a b h) [ inl c ↦ inl c | inr e ↦ inr (same_span a b e.0 e.1) ]
-
-from_least : (xs : List Span) (r : Option Span) → MatchOption r (xs ≡ []) (IsLeast xs) → IsEarliest (λ at. Contains xs at) r
-unfolding IsLeast
-from_least xs None h = nowhere (λ at c. contains_none at (subst (λ ys. Contains ys at) h c))
-from_least xs (Some a) h = here h.0 (λ b c. told a b (h.1 b c))
+only_one : (x : Span) → IsEarliest (λ at. x ≡ at) (Some x)
+only_one x = here refl (λ there e. inr e)
 
 pub earliest_is : (xs : List Span) → IsEarliest (λ at. Contains xs at) (earliest xs)
-earliest_is xs = from_least xs (earliest xs) (least xs)
+earliest_is [] = nowhere (λ at c. contains_none at c)
+earliest_is (x ∷ xs) =
+    same_wrong (OneOf (λ at. x ≡ at) (λ at. Contains xs at)) (λ at. Contains (x ∷ xs) at) (λ at. (contains_from x xs at, contains_cases x xs at))
+    (earlier (Some x) (earliest xs)) (earlier_of_two (λ at. x ≡ at) (λ at. Contains xs at) (Some x) (earliest xs) (only_one x) (earliest_is xs))

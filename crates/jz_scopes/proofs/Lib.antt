@@ -1,4 +1,5 @@
 pub mod Earliest
+pub mod Standing
 pub mod Firsts
 mod Stacks
 mod CellLaws

@@ -1,5 +1,5 @@
 -- The earliest place of a name decides what stands before it.
-use Rattle.std.proofs.Common.{◌≡◌, ℕ, true, false, not, ◌&&◌, ◌||◌, List, [], ◌∷◌, Option, Some, None, map, filter, flat_map, refl, sym, ap, ap₂, ◌∙◌, arith}
+use Rattle.std.proofs.Common.{◌≡◌, ℕ, true, false, not, ◌&&◌, ◌||◌, List, [], ◌∷◌, Option, Some, None, map, filter, flat_map, refl, sym, ap, ◌∙◌, arith}
 use Rattle.std.specs.Prelude.{if◌then◌else◌}
 use Rattle.std.specs.Str.{bytes_eq}
 use Rattle.std.proofs.lemmas.Bool.Decides.{nat_tests}
@@ -14,7 +14,7 @@ use Rattle.jz_scopes.specs.Scopes.{Name, name_of, places_of, variables_of}
 use Rattle.jz_scopes.specs.Parts.{layer_of, statements_of}
 use Rattle.jz_scopes.specs.Names.{stands_above, named_before, one_repeated, repeated, repeated_by, repeated_in_fun, repeated_in, top_names}
 use Rattle.jz_scopes.specs.Tables.{IsEarliestPlaces, places_named, one_repeated_in}
-use Rattle.jz_scopes.proofs.Earliest.{earliest-append, first_over}
+use Rattle.jz_scopes.proofs.Earliest.{first_over, both_earliest}
 
 earlier_above : (a b : Option Span) (s : Span) → stands_above (earlier a b) s ≡ (stands_above a s || stands_above b s)
 earlier_above None b s = refl
@@ -41,10 +41,9 @@ pub in_fun_is : (f : Fun) (a b : Option Span) → a ≡ earliest (repeated (map 
     → b ≡ first_in (λ s. repeated_by (layer_of s)) (statements_of f.body) → earlier a b ≡ earliest (repeated_in_fun f)
 in_fun_is f a b h k =
     let each : Stmt → List Span = λ s. repeated_by (layer_of s)
-    in ap₂ earlier h (k ∙ first_over each (statements_of f.body))
-    ∙ sym (earliest-append (repeated (map name_of (variables_of f))) (flat_map each (statements_of f.body)))
+    in both_earliest (repeated (map name_of (variables_of f))) (flat_map each (statements_of f.body)) a b h (k ∙ first_over each (statements_of f.body))
 
 pub in_program_is : (p : Program) (a b : Option Span) → a ≡ earliest (repeated (top_names p)) → b ≡ first_in repeated_in_fun p.funs
     → earlier a b ≡ earliest (repeated_in p)
 in_program_is p a b h k =
-    ap₂ earlier h (k ∙ first_over repeated_in_fun p.funs) ∙ sym (earliest-append (repeated (top_names p)) (flat_map repeated_in_fun p.funs))
+    both_earliest (repeated (top_names p)) (flat_map repeated_in_fun p.funs) a b h (k ∙ first_over repeated_in_fun p.funs)

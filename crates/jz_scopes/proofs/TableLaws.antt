@@ -2,90 +2,78 @@
 use Rattle.std.proofs.Common.{◌≡◌, ℕ, Bool, true, false, List, [], ◌∷◌, ◌++◌, Option, Some, None, refl, sym, ap, ◌∙◌, cond, subst, filter}
 use Rattle.std.specs.Prelude.{if◌then◌else◌, is_some, option_map, find}
 use Rattle.std.specs.Str.{bytes_eq}
+use Rattle.std.proofs.Math.Path.{fun_ext}
 use Rattle.jz_data.proofs.Texts.{bytes_eq-sym, bytes_eq-true}
 use Rattle.jz_io.specs.declared.span.Span.{Span}
 use Rattle.jz_scopes.specs.Order.{earlier, earliest}
-use Rattle.jz_scopes.specs.Scopes.{Name, places_of}
+use Rattle.jz_scopes.specs.Scopes.{Name, places_of, or_else, or_named}
 use Rattle.jz_scopes.specs.Tables.{places_named}
 use Rattle.jz_scopes.proofs.Earliest.{earliest-append, earlier-none}
 
-or_own : {X : Type 0} → Option X → Bool → X → Option X
-or_own None b v = if b then Some v else None
-or_own (Some w) b v = Some w
+or_nothing : {A : Type 0} (a : Option A) → or_else a None ≡ a
+or_nothing None = refl
+or_nothing (Some a) = refl
 
-module _ {X W : Type 0} (name : X → List ℕ) (seen : X → W) where
-  abbrev named : List ℕ → List X → Option X
-  named n xs = find (λ x. bytes_eq n (name x)) xs
+module _ {A : Type 0} (old : List ℕ → Option A) (name : List ℕ) (a : A) where
+  pub named_anew : (new : List ℕ → Option A) → old name ≡ None → ((q : List ℕ) → new q ≡ cond (bytes_eq name q) (Some a) (old q)) → new ≡ or_named old name (Some a)
+  named_anew new free put =
+      let split : (q : List ℕ) (b : Bool) → bytes_eq q name ≡ b → cond b (Some a) (old q) ≡ or_else (old q) (if b then Some a else None) =
+      λ q b. elim b as (λ b. bytes_eq q name ≡ b → cond b (Some a) (old q) ≡ or_else (old q) (if b then Some a else None)) [
+        | true ↦ λ e. ap (λ o. or_else o (Some a)) (sym (ap old (bytes_eq-true q name e) ∙ free))
+        | false ↦ λ e. sym (or_nothing (old q))
+      ]
+      in fun_ext (λ q. put q ∙ ap (λ b. cond b (Some a) (old q)) (bytes_eq-sym name q) ∙ split q (bytes_eq q name) refl)
 
-  named-push : (n : List ℕ) (vs : List X) (v : X) → named n (vs ++ v ∷ []) ≡ or_own (named n vs) (bytes_eq n (name v)) v
-  unfolding or_own
-  named-push n [] v = elim (bytes_eq n (name v)) as (λ b. cond b (Some v) None ≡ (if b then Some v else None)) [ true ↦ refl | false ↦ refl ]
-  named-push n (w ∷ vs) v =
-      elim (bytes_eq n (name w)) as (λ b. cond b (Some w) (named n (vs ++ v ∷ [])) ≡ or_own (cond b (Some w) (named n vs)) (bytes_eq n (name v)) v)
-      [ true ↦ refl | false ↦ named-push n vs v ]
+  some_stays : (o w : Option A) → is_some o ≡ true → o ≡ or_else o w
+  some_stays None w h = cc
+  some_stays (Some b) w h = refl
 
-  named-other : (n : List ℕ) (vs : List X) (v : X) → bytes_eq n (name v) ≡ false → named n (vs ++ v ∷ []) ≡ named n vs
-  unfolding or_own
-  named-other n vs v h =
-      let at : (o : Option X) → or_own o false v ≡ o = λ o. elim o as (λ o. or_own o false v ≡ o) [ None ↦ refl | Some w ↦ refl ]
-      in named-push n vs v ∙ (ap (λ b. or_own (named n vs) b v) h ∙ at (named n vs))
+  pub named_before : is_some (old name) ≡ true → old ≡ or_named old name (Some a)
+  named_before there =
+      let split : (q : List ℕ) (b : Bool) → bytes_eq q name ≡ b → old q ≡ or_else (old q) (if b then Some a else None) =
+      λ q b. elim b as (λ b. bytes_eq q name ≡ b → old q ≡ or_else (old q) (if b then Some a else None)) [
+        | true ↦ λ e. some_stays (old q) (Some a) (ap (λ m. is_some (old m)) (bytes_eq-true q name e) ∙ there)
+        | false ↦ λ e. sym (or_nothing (old q))
+      ]
+      in fun_ext (λ q. split q (bytes_eq q name) refl)
 
-  named-there : (n : List ℕ) (vs : List X) (v w : X) → named n vs ≡ Some w → named n (vs ++ v ∷ []) ≡ named n vs
-  unfolding or_own
-  named-there n vs v w h = named-push n vs v ∙ (ap (λ o. or_own o (bytes_eq n (name v)) v) h ∙ sym h)
+-- ---- the first of a list
+module _ {X W : Type 0} (name : X → List ℕ) (value : X → W) where
+  abbrev named_in : List X → List ℕ → Option W
+  named_in xs n = option_map value (find (λ x. bytes_eq n (name x)) xs)
 
-  named-new : (n : List ℕ) (vs : List X) (v : X) → named n vs ≡ None → bytes_eq n (name v) ≡ true → named n (vs ++ v ∷ []) ≡ Some v
-  unfolding or_own
-  named-new n vs v h e = named-push n vs v ∙ (ap (λ o. or_own o (bytes_eq n (name v)) v) h ∙ ap (λ b. or_own None b v) e)
+  last_named : (xs : List X) (x : X) (n : List ℕ) → named_in (xs ++ x ∷ []) n ≡ or_named (named_in xs) (name x) (Some (value x)) n
+  last_named [] x n = elim (bytes_eq n (name x)) as (λ b. option_map value (cond b (Some x) None) ≡ (if b then Some (value x) else None)) [ true ↦ refl | false ↦ refl ]
+  last_named (y ∷ xs) x n =
+      elim (bytes_eq n (name y))
+      as (λ b. option_map value (cond b (Some y) (find (λ x. bytes_eq n (name x)) (xs ++ x ∷ [])))
+      ≡ or_else (option_map value (cond b (Some y) (find (λ x. bytes_eq n (name x)) xs))) (if bytes_eq n (name x) then Some (value x) else None))
+      [ true ↦ refl | false ↦ last_named xs x n ]
 
-  none_mapped : (o : Option X) → None ≡ option_map seen o → o ≡ None
-  none_mapped None h = refl
-  none_mapped (Some v) h = cc
+  pub table_more : (xs : List X) (x : X) (old new : List ℕ → Option W) → ((n : List ℕ) → old n ≡ named_in xs n) → new ≡ or_named old (name x) (Some (value x))
+      → (n : List ℕ) → new n ≡ named_in (xs ++ x ∷ []) n
+  table_more xs x old new held e n =
+      ap (λ t. t n) e ∙ (ap (λ o. or_else o (if bytes_eq n (name x) then Some (value x) else None)) (held n) ∙ sym (last_named xs x n))
 
-  some_mapped : (o : Option X) → is_some (option_map seen o) ≡ true → (w : X) × (o ≡ Some w)
-  some_mapped None h = cc
-  some_mapped (Some v) h = (v, refl)
+-- ---- items that a table shows by references to them
+shown : {A B : Type 0} (show : A → B) (o : Option A) (b : Bool) (a : A) → option_map show (or_else o (if b then Some a else None)) ≡ or_else (option_map show o) (if b then Some (show a) else None)
+shown show None true a = refl
+shown show None false a = refl
+shown show (Some w) b a = refl
 
-  module _ (vs : List X) (v : X) (old : List ℕ → Option W) (held : (n : List ℕ) → old n ≡ option_map seen (named n vs)) where
-    pub table_more : (new : List ℕ → Option W) → old (name v) ≡ None
-        → ((q : List ℕ) → new q ≡ cond (bytes_eq (name v) q) (Some (seen v)) (old q))
-        → (n : List ℕ) → new n ≡ option_map seen (named n (vs ++ v ∷ []))
-    table_more new free put n =
-        let split : (b : Bool) → bytes_eq (name v) n ≡ b → cond b (Some (seen v)) (old n) ≡ option_map seen (named n (vs ++ v ∷ [])) =
-        λ b. elim b as (λ b. bytes_eq (name v) n ≡ b → cond b (Some (seen v)) (old n) ≡ option_map seen (named n (vs ++ v ∷ []))) [
-          | true ↦ λ e.
-              let same : name v ≡ n = bytes_eq-true (name v) n e
-              in let none : named n vs ≡ None = none_mapped _ (sym free ∙ (ap old same ∙ held n))
-              in ap (option_map seen) (sym (named-new n vs v none (bytes_eq-sym n (name v) ∙ e)))
-          | false ↦ λ e. held n ∙ ap (option_map seen) (sym (named-other n vs v (bytes_eq-sym n (name v) ∙ e)))
-        ]
-        in put n ∙ split (bytes_eq (name v) n) refl
-
-    pub table_kept : is_some (old (name v)) ≡ true → (n : List ℕ) → old n ≡ option_map seen (named n (vs ++ v ∷ []))
-    table_kept there n =
-        let split : (b : Bool) → bytes_eq (name v) n ≡ b → option_map seen (named n vs) ≡ option_map seen (named n (vs ++ v ∷ [])) =
-        λ b. elim b as (λ b. bytes_eq (name v) n ≡ b → option_map seen (named n vs) ≡ option_map seen (named n (vs ++ v ∷ []))) [
-          | true ↦ λ e.
-              let same : name v ≡ n = bytes_eq-true (name v) n e
-              in let some = some_mapped (named n vs) (ap is_some (sym (held n)) ∙ (ap (λ q. is_some (old q)) (sym same) ∙ there))
-              in ap (option_map seen) (sym (named-there n vs v some.0 some.1))
-          | false ↦ λ e. ap (option_map seen) (sym (named-other n vs v (bytes_eq-sym n (name v) ∙ e)))
-        ]
-        in held n ∙ split (bytes_eq (name v) n) refl
-
--- a function is seen through the reference to it
-pub some_seen : {A B : Type 0} (h : A → B) (b : Bool) (a : A) (o : Option A) → option_map h (cond b (Some a) o) ≡ cond b (Some (h a)) (option_map h o)
-some_seen h true a o = refl
-some_seen h false a o = refl
-
-pub some_still : {A B : Type 0} (h : A → B) (o : Option A) → is_some (option_map h o) ≡ is_some o
-some_still h None = refl
-some_still h (Some a) = refl
-
-pub option_whole : {A : Type 0} (o : Option A) → option_map (λ a. a) o ≡ o
+option_whole : {A : Type 0} (o : Option A) → option_map (λ a. a) o ≡ o
 option_whole None = refl
 option_whole (Some a) = refl
 
+pub table_shown : {X W : Type 0} (name : X → List ℕ) (show : W → X) (xs : List X) (old new : List ℕ → Option W) (item : W)
+    → ((n : List ℕ) → option_map show (old n) ≡ find (λ x. bytes_eq n (name x)) xs) → new ≡ or_named old (name (show item)) (Some item)
+    → (n : List ℕ) → option_map show (new n) ≡ find (λ x. bytes_eq n (name x)) (xs ++ show item ∷ [])
+table_shown name show xs old new item held e n =
+    table_more name (λ x. x) xs (show item) (λ n. option_map show (old n)) (λ n. option_map show (new n)) (λ n. held n ∙ sym (option_whole _))
+    (fun_ext (λ n. ap (λ t. option_map show (t n)) e ∙ shown show (old n) (bytes_eq n (name (show item))) item)) n
+    ∙ option_whole _
+
+-- ---- the earliest of a list
 places_more : (n k : List ℕ) (s : Span) (ds : List Name) → places_named n (ds ++ (k, s) ∷ []) ≡ places_named n ds ++ (if bytes_eq n k then s ∷ [] else [])
 places_more n k s [] = elim (bytes_eq n k) as (λ b. places_of (if b then (k, s) ∷ [] else []) ≡ (if b then s ∷ [] else [])) [ true ↦ refl | false ↦ refl ]
 places_more n k s (d ∷ ds) =

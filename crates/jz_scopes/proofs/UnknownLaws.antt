@@ -14,9 +14,9 @@ use Rattle.jz_scopes.specs.declared.tables.Functions.{Functions}
 use Rattle.jz_scopes.specs.Order.{earlier, earliest, first_in}
 use Rattle.jz_scopes.specs.Scopes.{Name, name_of, or_values, variables_of, variable_place, constant_place, function_named}
 use Rattle.jz_scopes.specs.Parts.{Layer, read_by, set_by, called_by, layer_of, statements_of, names_in}
-use Rattle.jz_scopes.specs.Names.{one_unknown, no_function, unknown_among, unknown_where, length_names, outside_where, fun_where, unknown_in, unknown_by}
-use Rattle.jz_scopes.specs.Tables.{IsPlaces, IsFunctions, place_in, function_in, value_in, first_place}
-use Rattle.jz_scopes.proofs.Earliest.{earliest-append, earlier-assoc, first_over}
+use Rattle.jz_scopes.specs.Names.{one_unknown, no_function, unknown_among, unknown_where, length_names, outside_where, fun_where, unknown_in}
+use Rattle.jz_scopes.specs.Tables.{IsPlaces, IsFunctions, place_in, function_in, first_place}
+use Rattle.jz_scopes.proofs.Earliest.{earlier-assoc, first_over, both_earliest}
 
 pub where_is : (values variables : List ℕ → Option Span) (functions : List ℕ → Option Fun) (k : Layer) (r s c : Option Span)
     → r ≡ first_in (one_unknown values) (read_by k) → s ≡ first_in (one_unknown variables) (map name_of (set_by k))
@@ -26,16 +26,16 @@ where_is values variables functions k r s c a b d =
     let read = unknown_among values (read_by k)
     in let set = unknown_among variables (map name_of (set_by k))
     in let called = flat_map (no_function functions) (called_by k)
-    in ap₂ earlier (a ∙ first_over (one_unknown values) (read_by k)) (ap₂ earlier (b ∙ first_over (one_unknown variables) (map name_of (set_by k))) d)
-    ∙ (sym (earlier-assoc (earliest read) (earliest set) (earliest called))
-    ∙ (ap (λ x. earlier x (earliest called)) (sym (earliest-append read set)) ∙ sym (earliest-append (read ++ set) called)))
+    in sym (earlier-assoc r s c)
+    ∙ both_earliest (read ++ set) called (earlier r s) c
+    (both_earliest read set r s (a ∙ first_over (one_unknown values) (read_by k)) (b ∙ first_over (one_unknown variables) (map name_of (set_by k)))) d
 
 pub outside_is : (values variables : List ℕ → Option Span) (f : Fun) (r s : Option Span)
     → r ≡ first_in (one_unknown values) (length_names f) → s ≡ first_in (one_unknown variables) (map name_of f.result)
     → earlier r s ≡ earliest (outside_where values variables f)
 outside_is values variables f r s a b =
-    ap₂ earlier (a ∙ first_over (one_unknown values) (length_names f)) (b ∙ first_over (one_unknown variables) (map name_of f.result))
-    ∙ sym (earliest-append (unknown_among values (length_names f)) (unknown_among variables (map name_of f.result)))
+    both_earliest (unknown_among values (length_names f)) (unknown_among variables (map name_of f.result)) r s
+    (a ∙ first_over (one_unknown values) (length_names f)) (b ∙ first_over (one_unknown variables) (map name_of f.result))
 
 pub fun_is : (constants : List ℕ → Option Span) (functions : List ℕ → Option Fun) (variables : List ℕ → Option Span) (f : Fun) (o b : Option Span)
     → variables ≡ variable_place f
@@ -44,9 +44,8 @@ pub fun_is : (constants : List ℕ → Option Span) (functions : List ℕ → Op
     → earlier o b ≡ earliest (fun_where (or_values constants (variable_place f)) (variable_place f) functions f)
 fun_is constants functions variables f o b e h k =
     let each : Stmt → List Span = λ s. unknown_where (or_values constants variables) variables functions (layer_of s)
-    in ap₂ earlier h (k ∙ first_over each (statements_of f.body))
-    ∙ (sym (earliest-append (outside_where (or_values constants variables) variables f) (flat_map each (statements_of f.body)))
-    ∙ ap (λ v. earliest (fun_where (or_values constants v) v functions f)) e)
+    in both_earliest (outside_where (or_values constants variables) variables f) (flat_map each (statements_of f.body)) o b h (k ∙ first_over each (statements_of f.body))
+    ∙ ap (λ v. earliest (fun_where (or_values constants v) v functions f)) e
 
 pub program_is : (p : Program) (constants : List ℕ → Option Span) (functions : List ℕ → Option Fun) (a b : Option Span)
     → constants ≡ constant_place p.consts → functions ≡ (λ n. function_named n p.funs)
@@ -56,9 +55,8 @@ pub program_is : (p : Program) (constants : List ℕ → Option Span) (functions
 program_is p constants functions a b e g h k =
     let ahead : Const → List Span = λ c. unknown_among constants (names_in c.value)
     in let after : (List ℕ → Option Span) → (List ℕ → Option Fun) → Fun → List Span = λ cs fs f. fun_where (or_values cs (variable_place f)) (variable_place f) fs f
-    in ap₂ earlier (h ∙ first_over ahead p.consts) (k ∙ first_over (after constants functions) p.funs)
-    ∙ (sym (earliest-append (flat_map ahead p.consts) (flat_map (after constants functions) p.funs))
-    ∙ ap₂ (λ cs fs. earliest (flat_map (λ c. unknown_among cs (names_in c.value)) p.consts ++ flat_map (after cs fs) p.funs)) e g)
+    in both_earliest (flat_map ahead p.consts) (flat_map (after constants functions) p.funs) a b (h ∙ first_over ahead p.consts) (k ∙ first_over (after constants functions) p.funs)
+    ∙ ap₂ (λ cs fs. earliest (flat_map (λ c. unknown_among cs (names_in c.value)) p.consts ++ flat_map (after cs fs) p.funs)) e g
 
 module _ {X : Type 0} (name : X → Name) where
   first_map : (n : List ℕ) (xs : List X) → first_place n (map name xs) ≡ option_map (λ x. (name x).1) (find (λ x. bytes_eq n (name x).0) xs)
@@ -76,12 +74,3 @@ constants_are t cs h = fun_ext (λ n. h.first n ∙ first_map (λ c. (c.name, c.
 
 pub functions_are : (t : Functions) (fs : List Fun) → IsFunctions t fs → function_in t ≡ (λ n. function_named n fs)
 functions_are t fs h = fun_ext (λ n. h.named n)
-
--- what tables say of a statement is what the program says
-pub unknown_by_is : (p : Program) (f : Fun) (c v : Places) (t : Functions) (k : Layer)
-    → IsPlaces c (map (λ c. (c.name, c.span)) p.consts) → IsPlaces v (map name_of (variables_of f)) → IsFunctions t p.funs
-    → unknown_where (value_in c v) (place_in v) (function_in t) k ≡ unknown_by p f k
-unknown_by_is p f c v t k a b d =
-    ap (λ cs. unknown_where (or_values cs (place_in v)) (place_in v) (function_in t) k) (constants_are c p.consts a)
-    ∙ (ap (λ vs. unknown_where (or_values (constant_place p.consts) vs) vs (function_in t) k) (variables_are v f b)
-    ∙ ap (λ fs. unknown_where (or_values (constant_place p.consts) (variable_place f)) (variable_place f) fs k) (functions_are t p.funs d))

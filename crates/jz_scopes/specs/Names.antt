@@ -3,7 +3,6 @@ use Rattle.std.specs.Prelude.{ℕ, Bool, false, not, ◌&&◌, ◌||◌, is_some
 use Rattle.std.specs.Str.{bytes_eq}
 use Rattle.jz_io.specs.declared.span.Span.{Span}
 use Rattle.jz_tree.specs.declared.expr.Decl.{Decl}
-use Rattle.jz_tree.specs.declared.expr.Var.{Var}
 use Rattle.jz_tree.specs.declared.expr.Expr.TheViews.{out-Var}
 use Rattle.jz_tree.specs.declared.program.Program.{Program}
 use Rattle.jz_tree.specs.declared.program.Fun.{Fun}
@@ -33,30 +32,21 @@ abbrev pub unknown_where : (List ℕ → Option Span) → (List ℕ → Option S
 unknown_where values variables functions k =
     unknown_among values (read_by k) ++ unknown_among variables (map name_of (set_by k)) ++ flat_map (no_function functions) (called_by k)
 
-abbrev pub unknown_by : Program → Fun → Layer → List Span
-unknown_by p f k = unknown_where (value_place p.consts f) (variable_place f) (λ n. function_named n p.funs) k
-
 -- the declarations of a function: of its parameters, results and variables
 abbrev pub decls_of : Fun → List Decl
 decls_of f = flat_map (λ p. option_to_list (out-Var p.var).decl) f.params ++ map (λ r. r.decl) f.rets ++ flat_map (λ v. option_to_list (out-Var v).decl) f.vars
 
--- the names in the length of what a declaration or a variable declares
+-- the names in the length of what a declaration declares
 abbrev pub decl_names : Decl → List Name
 decl_names d = flat_map names_in (lengths_in d)
 
-abbrev pub declared_names : Var → List Name
-declared_names v = flat_map decl_names (option_to_list (out-Var v).decl)
-
 -- the names in the lengths of what a function declares
 abbrev pub length_names : Fun → List Name
-length_names f = flat_map (λ p. declared_names p.var) f.params ++ flat_map (λ r. decl_names r.decl) f.rets ++ flat_map declared_names f.vars
+length_names f = flat_map decl_names (decls_of f)
 
 -- Unknown, of what stands outside statements: the lengths of arrays, and what is returned
 abbrev pub outside_where : (List ℕ → Option Span) → (List ℕ → Option Span) → Fun → List Span
 outside_where values variables f = unknown_among values (length_names f) ++ unknown_among variables (map name_of f.result)
-
-abbrev pub unknown_outside : Program → Fun → List Span
-unknown_outside p f = outside_where (value_place p.consts f) (variable_place f) f
 
 -- Unknown, of a function
 abbrev pub fun_where : (List ℕ → Option Span) → (List ℕ → Option Span) → (List ℕ → Option Fun) → Fun → List Span

@@ -1,5 +1,5 @@
 -- The names that a program declares.
-use Rattle.std.specs.Prelude.{ℕ, List, ◌++◌, map, find, Option, Some, None, option_map}
+use Rattle.std.specs.Prelude.{ℕ, List, ◌++◌, map, find, Option, Some, None, option_map, if◌then◌else◌}
 use Rattle.std.specs.Str.{bytes_eq}
 use Rattle.jz_io.specs.declared.span.Span.{Span}
 use Rattle.jz_tree.specs.declared.expr.Var.{Var}
@@ -34,6 +34,10 @@ function_named n fs = find (λ f. bytes_eq n f.name) fs
 abbrev pub or_else : {A : Type 0} → Option A → Option A → Option A
 or_else None b = b
 or_else (Some a) b = Some a
+
+-- what is known, and else this of the name
+abbrev pub or_named : {A : Type 0} → (List ℕ → Option A) → List ℕ → Option A → List ℕ → Option A
+or_named known name a n = or_else (known n) (if bytes_eq n name then a else None)
 
 -- where the variable of that name is declared
 abbrev pub variable_place : Fun → List ℕ → Option Span

@@ -4,6 +4,7 @@ use Rattle.std.specs.Str.{bytes_eq}
 use Rattle.indexmap.specs.IndexMap.{get}
 use Rattle.jz_io.specs.declared.span.Span.{Span}
 use Rattle.jz_tree.specs.declared.program.Fun.{Fun}
+use Rattle.jz_scopes.specs.declared.tables.ByName.{ByName}
 use Rattle.jz_scopes.specs.declared.tables.Places.{Places}
 use Rattle.jz_tree.specs.declared.expr.Var.{Var}
 use Rattle.jz_scopes.specs.declared.tables.Functions.{Functions}
@@ -12,9 +13,13 @@ use Rattle.jz_scopes.specs.Order.{earliest, unless}
 use Rattle.jz_scopes.specs.Names.{stands_above}
 use Rattle.jz_scopes.specs.Scopes.{Name, places_of, function_named, variable_named, or_values}
 
+-- the item that a table has for a name
+abbrev pub item_in : {T : Type 0} → ByName T → List ℕ → Option T
+item_in t n = get bytes_eq t.items n
+
 -- the place that a table has for a name
 abbrev pub place_in : Places → List ℕ → Option Span
-place_in t n = get bytes_eq t.places n
+place_in t n = item_in t.places n
 
 -- where the first of that name stands
 abbrev pub first_place : List ℕ → List Name → Option Span
@@ -34,7 +39,7 @@ pub record IsEarliestPlaces (t : Places) (ns : List Name) : Type 0 where
 
 -- the function that a table has for a name
 abbrev pub function_in : Functions → List ℕ → Option Fun
-function_in t n = option_map (λ f. f.now) (get bytes_eq t.functions n)
+function_in t n = option_map (λ f. f.now) (item_in t.functions n)
 
 -- the table has the first function of each name
 pub record IsFunctions (t : Functions) (fs : List Fun) : Type 0 where
@@ -50,7 +55,7 @@ one_repeated_in t n = unless (not (stands_above (place_in t n.0) n.1)) n.1
 
 -- the variable that a table has for a name
 abbrev pub variable_in : Variables → List ℕ → Option Var
-variable_in t n = option_map (λ v. v.now) (get bytes_eq t.variables n)
+variable_in t n = option_map (λ v. v.now) (item_in t.variables n)
 
 -- the table has the first variable of each name
 pub record IsVariables (t : Variables) (vs : List Var) : Type 0 where

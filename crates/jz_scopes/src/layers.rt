@@ -290,13 +290,20 @@ fn add_cells_set<'a>(
     Ok(())
 }
 
-/// The variables of a list, by reference.
+/// Adds the variables of a list, by reference.
+pub(crate) fn add_refs<'a>(list: &mut Vec<&'a Var>, vars: &'a Seq<Var>) -> Result<(), AllocError>
+    ensures { OnOk result (these list.new.items ≡ these list.old.items ++ vars.now) }
+{
+    for var in vars.as_slice() {
+        list.push(var)?;
+    }
+    Ok(())
+}
+
 pub(crate) fn refs(alloc: Global, vars: &Seq<Var>) -> Result<Vec<&Var>, AllocError>
     ensures { IfOk result (λ vs. these vs.items ≡ vars.now) }
 {
     let mut list = Vec::new(alloc);
-    for var in vars.as_slice() {
-        list.push(var)?;
-    }
+    add_refs(&mut list, vars)?;
     Ok(list)
 }

@@ -2,16 +2,17 @@
 #![tactic(auto)]
 
 mod bodies;
+mod declarations;
 mod exprs;
 mod kinds;
 mod layers;
-mod lengths;
 mod order;
 mod repeats;
 mod tables;
 mod unknowns;
 
 pub use bodies::statements;
+pub use declarations::decls_of;
 pub use exprs::{cells, length_of, names, span_of};
 pub use kinds::{
     Declared, Kind, array_of, declaration, is_array, is_inline, is_inline_int, is_register_array,
@@ -19,8 +20,7 @@ pub use kinds::{
     written_length,
 };
 pub use layers::{called_by, cells_set, exprs_of, read_by, set_by, whole_var, wholly_set_by};
-pub use lengths::length_names;
 pub use order::{earlier_of, is_before, sooner, unless};
 pub use repeats::{repeated, repeated_of};
-pub use tables::{Functions, Places, Variables};
-pub use unknowns::{unknown, unknown_of};
+pub use tables::{ByName, Functions, Places, Variables};
+pub use unknowns::{above, unknown, unknown_of};

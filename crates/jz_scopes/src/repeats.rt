@@ -9,12 +9,13 @@ ghost use Rattle.jz_scopes.specs.Tables.{IsEarliestPlaces, one_repeated_in};
 ghost use Rattle.jz_scopes.specs.Names.{repeated, repeated_by, repeated_in_fun, repeated_in, top_names};
 
 use crate::bodies::statements;
+use crate::declarations::variables;
 use crate::layers::wholly_set_by;
 use crate::order::{earlier_of, is_before, unless};
 use crate::tables::Places;
 use jz_data::{Seq, Text};
 use jz_io::Span;
-use jz_tree::{Const, Fun, Param, Program, Stmt, Var};
+use jz_tree::{Const, Fun, Program, Stmt, Var};
 use std::alloc::{AllocError, Global};
 
 fn add_places(places: &mut Places, names: &[(&Text, Span)]) -> Result<(), AllocError>
@@ -77,27 +78,6 @@ fn add_funs<'a>(list: &mut Vec<(&'a Text, Span)>, funs: &'a Seq<Fun>) -> Result<
     Ok(())
 }
 
-fn add_params<'a>(
-    list: &mut Vec<(&'a Text, Span)>,
-    params: &'a Seq<Param>,
-) -> Result<(), AllocError>
-    ensures { OnOk result (these_names list.new.items ≡ these_names list.old.items ++ map name_of (map (λ p. p.var) params.now)) }
-{
-    for param in params.as_slice() {
-        list.push((&param.var.name, param.var.span))?;
-    }
-    Ok(())
-}
-
-fn add_vars<'a>(list: &mut Vec<(&'a Text, Span)>, vars: &'a Seq<Var>) -> Result<(), AllocError>
-    ensures { OnOk result (these_names list.new.items ≡ these_names list.old.items ++ map name_of vars.now) }
-{
-    for var in vars.as_slice() {
-        list.push((&var.name, var.span))?;
-    }
-    Ok(())
-}
-
 fn names_of<'a>(alloc: Global, vars: &[&'a Var]) -> Result<Vec<(&'a Text, Span)>, AllocError>
     ensures { IfOk result (λ ns. these_names ns.items ≡ map name_of (these vars.now)) }
 {
@@ -120,9 +100,8 @@ pub fn repeated_of(alloc: Global, stmt: &Stmt) -> Result<Option<Span>, AllocErro
 fn in_variables(alloc: Global, fun: &Fun) -> Result<Option<Span>, AllocError>
     ensures { IfOk result (λ at. at ≡ earliest (repeated (map name_of (variables_of fun.now)))) }
 {
-    let mut list = Vec::new(alloc);
-    add_params(&mut list, &fun.params)?;
-    add_vars(&mut list, &fun.vars)?;
+    let vars = variables(alloc, fun)?;
+    let list = names_of(alloc, vars.as_slice())?;
     let first = repeated_names(alloc, list.as_slice())?;
     Ok(first)
 }

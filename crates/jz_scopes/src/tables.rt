@@ -1,11 +1,12 @@
 //! Where names are declared, and functions by their names.
 
-ghost use Rattle.std.specs.Prelude.{◌≡◌, [], ◌∷◌, ◌++◌, List, IfOk, OnOk, map};
+ghost use Rattle.std.specs.Prelude.{◌≡◌, ℕ, [], ◌∷◌, ◌++◌, List, IfOk, OnOk, map, Some, None, if◌then◌else◌};
 ghost use Rattle.std.specs.Option.{option_copied};
+ghost use Rattle.std.specs.Str.{bytes_eq};
 ghost use Rattle.jz_tree.specs.declared.expr.Var.{Var};
 ghost use Rattle.jz_tree.specs.declared.program.Fun.{Fun};
-ghost use Rattle.jz_scopes.specs.Scopes.{Name, name_of, variables_of};
-ghost use Rattle.jz_scopes.specs.Tables.{IsPlaces, IsEarliestPlaces, IsFunctions, IsVariables, place_in, function_in, variable_in};
+ghost use Rattle.jz_scopes.specs.Scopes.{Name, name_of, or_named, variables_of};
+ghost use Rattle.jz_scopes.specs.Tables.{IsPlaces, IsEarliestPlaces, IsFunctions, IsVariables, item_in, place_in, function_in, variable_in};
 
 use crate::order::sooner;
 use indexmap::IndexMap;
@@ -14,10 +15,51 @@ use jz_io::Span;
 use jz_tree::{Const, Fun, Var};
 use std::alloc::{AllocError, Global};
 
+/// An item of each name.
+#[derive(Debug, Drop)]
+pub struct ByName<T> {
+    items: IndexMap<Text, T>,
+}
+
+impl<T: Drop> ByName<T> {
+    pub fn new(alloc: Global) -> ByName<T>
+        ensures { (n : List ℕ) → item_in result n ≡ None }
+    {
+        ByName {
+            items: IndexMap::new(alloc),
+        }
+    }
+
+    /// The item of a name.
+    pub fn get(&self, name: &Text) -> Option<&T>
+        ensures { option_copied result ≡ item_in self.now name.now }
+    {
+        self.items.get(name)
+    }
+
+    /// Adds an item, which counts where none of that name is there yet.
+    pub fn add(&mut self, name: &Text, item: T) -> Result<(), AllocError>
+        ensures { OnOk result (item_in self.new ≡ or_named (item_in self.old) name.now (Some item)) }
+    {
+        if !self.items.contains_key(name) {
+            self.items.insert(name.clone()?, item)?;
+        }
+        Ok(())
+    }
+
+    /// Puts an item in the place of what is there of that name.
+    pub(crate) fn put(&mut self, name: &Text, item: T) -> Result<(), AllocError>
+        ensures { OnOk result ((n : List ℕ) → item_in self.new n ≡ (if bytes_eq name.now n then Some item else item_in self.old n)) }
+    {
+        self.items.insert(name.clone()?, item)?;
+        Ok(())
+    }
+}
+
 /// A place of each name.
 #[derive(Debug, Drop)]
 pub struct Places {
-    places: IndexMap<Text, Span>,
+    places: ByName<Span>,
 }
 
 impl Places {
@@ -26,7 +68,7 @@ impl Places {
         ensures earliest { IsEarliestPlaces result [] }
     {
         Places {
-            places: IndexMap::new(alloc),
+            places: ByName::new(alloc),
         }
     }
 
@@ -44,9 +86,7 @@ impl Places {
     pub fn add(&mut self, name: &Text, span: Span) -> Result<(), AllocError>
         ensures { (ns : List Name) → IsPlaces self.old ns → OnOk result (IsPlaces self.new (ns ++ (name.now, span) ∷ [])) }
     {
-        if !self.places.contains_key(name) {
-            self.places.insert(name.clone()?, span)?;
-        }
+        self.places.add(name, span)?;
         Ok(())
     }
 
@@ -55,7 +95,7 @@ impl Places {
         ensures { (ns : List Name) → IsEarliestPlaces self.old ns → OnOk result (IsEarliestPlaces self.new (ns ++ (name.now, span) ∷ [])) }
     {
         let first = sooner(self.place(name), span);
-        self.places.insert(name.clone()?, first)?;
+        self.places.put(name, first)?;
         Ok(())
     }
 
@@ -95,7 +135,7 @@ impl Places {
 /// The functions of a program by their names.
 #[derive(Drop)]
 pub struct Functions<'a> {
-    functions: IndexMap<Text, &'a Fun>,
+    functions: ByName<&'a Fun>,
 }
 
 impl<'a> Functions<'a> {
@@ -112,9 +152,7 @@ impl<'a> Functions<'a> {
     fn add(&mut self, fun: &'a Fun) -> Result<(), AllocError>
         ensures { (fs : List Fun) → IsFunctions self.old fs → OnOk result (IsFunctions self.new (fs ++ fun.now ∷ [])) }
     {
-        if !self.functions.contains_key(&fun.name) {
-            self.functions.insert(fun.name.clone()?, fun)?;
-        }
+        self.functions.add(&fun.name, fun)?;
         Ok(())
     }
 
@@ -122,7 +160,7 @@ impl<'a> Functions<'a> {
         ensures { IfOk result (λ functions. IsFunctions functions funs.now) }
     {
         let mut functions = Functions {
-            functions: IndexMap::new(alloc),
+            functions: ByName::new(alloc),
         };
         for fun in funs.as_slice() {
             functions.add(fun)?;
@@ -134,7 +172,7 @@ impl<'a> Functions<'a> {
 /// The parameters and variables of a function by their names.
 #[derive(Drop)]
 pub struct Variables<'a> {
-    variables: IndexMap<Text, &'a Var>,
+    variables: ByName<&'a Var>,
 }
 
 impl<'a> Variables<'a> {
@@ -151,9 +189,7 @@ impl<'a> Variables<'a> {
     fn add(&mut self, var: &'a Var) -> Result<(), AllocError>
         ensures { (vs : List Var) → IsVariables self.old vs → OnOk result (IsVariables self.new (vs ++ var.now ∷ [])) }
     {
-        if !self.variables.contains_key(&var.name) {
-            self.variables.insert(var.name.clone()?, var)?;
-        }
+        self.variables.add(&var.name, var)?;
         Ok(())
     }
 
@@ -166,11 +202,12 @@ impl<'a> Variables<'a> {
         Ok(())
     }
 
-    fn empty(alloc: Global) -> Variables<'a>
+    /// No variables.
+    pub fn empty(alloc: Global) -> Variables<'a>
         ensures { IsVariables result [] }
     {
         Variables {
-            variables: IndexMap::new(alloc),
+            variables: ByName::new(alloc),
         }
     }
 

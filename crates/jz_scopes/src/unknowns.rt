@@ -9,9 +9,9 @@ ghost use Rattle.jz_scopes.specs.Tables.{place_in, value_in, function_in};
 ghost use Rattle.jz_scopes.specs.Names.{stands_above, one_unknown, no_function, unknown_among, unknown_where, outside_where, fun_where, unknown_in};
 
 use crate::bodies::statements;
+use crate::declarations::length_names;
 use crate::exprs::names;
 use crate::layers::{called_by, read_by, refs, set_by};
-use crate::lengths::length_names;
 use crate::order::{earlier_of, is_before, unless};
 use crate::tables::{Functions, Places};
 use jz_data::{Seq, Text};
@@ -19,7 +19,8 @@ use jz_io::Span;
 use jz_tree::{Const, Fun, Program, Stmt, Var};
 use std::alloc::{AllocError, Global};
 
-fn above(place: Option<Span>, at: Span) -> bool
+/// Whether what is declared there stands above, if it is declared.
+pub fn above(place: Option<Span>, at: Span) -> bool
     ensures { result ≡ stands_above place at }
 {
     match place {

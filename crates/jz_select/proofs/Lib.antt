@@ -1,3 +1,4 @@
 pub mod Joins
 pub mod Conditions
 pub mod FirstRow
+pub mod Readings

@@ -5,3 +5,4 @@ pub mod Operands
 pub mod Rows
 pub mod Shapes
 pub mod Selected
+pub mod Immediates

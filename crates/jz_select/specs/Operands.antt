@@ -1,5 +1,5 @@
 -- The class of an operand and of a result.
-use Rattle.std.specs.Prelude.{pos, Bool, true, false, ◌&&◌, Option, Some, if◌then◌else◌}
+use Rattle.std.specs.Prelude.{ℤ, pos, Bool, true, false, ◌&&◌, Option, None, Some, if◌then◌else◌}
 use Rattle.std.specs.Ordering.{int_eq}
 use Rattle.jz_words.specs.declared.size.Size.{Size}
 use Rattle.jz_words.specs.declared.size.Size.TheVariants as sizes
@@ -12,6 +12,7 @@ use Rattle.jz_tree.specs.declared.expr.Expr.TheOpen.{Expr-F}
 use Rattle.jz_tree.specs.declared.expr.Expr.TheViews.{out-Expr, out-Access}
 use Rattle.jz_tree.specs.declared.stmt.Lval.{Lval}
 use Rattle.jz_tree.specs.declared.stmt.Lval.TheVariants as lval
+use Rattle.jz_integers.specs.Integers.{written_number}
 use Rattle.jz_select.specs.declared.class.Mask.TheVariants as mask
 use Rattle.jz_select.specs.declared.class.Class.{Class}
 use Rattle.jz_select.specs.declared.class.Class.TheVariants as class
@@ -43,10 +44,10 @@ mem_of z at = if is_address (terms_of at) then class.Mem z else class.Other
 abbrev pub inline_or : Bool → Class → Class
 inline_or b c = if b then class.Inline else c
 
--- a mask that is a number as it is written has to be 31 or 63; the value of another constant expression the expansion asks
-abbrev pub mask_layer : Expr → Layer → Class
-mask_layer e (Expr-F.Num k at) = if int_eq k (pos 31) then class.Masked mask.Five else if int_eq k (pos 63) then class.Masked mask.Six else class.Other
-mask_layer e _ = if (look_of e).inline then class.Masked mask.Undecided else class.Other
+-- a mask is built of numbers alone, and its value is 31 or 63
+abbrev pub mask_of : Option ℤ → Class
+mask_of None = class.Other
+mask_of (Some k) = if int_eq k (pos 31) then class.Masked mask.Five else if int_eq k (pos 63) then class.Masked mask.Six else class.Other
 
 abbrev pub is_byte : Class → Bool
 is_byte (class.Reg sizes.S8) = true
@@ -59,7 +60,7 @@ register_layer _ = class.Other
 
 -- `v & k`, v a byte in a register
 abbrev pub masked : BinOp → Expr → Expr → Class
-masked op.And a b = if is_byte (register_layer (out-Expr a)) then mask_layer b (out-Expr b) else class.Other
+masked op.And a b = if is_byte (register_layer (out-Expr a)) then mask_of (written_number b) else class.Other
 masked _ a b = class.Other
 
 abbrev pub class_layer : Layer → Class

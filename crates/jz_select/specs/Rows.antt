@@ -208,7 +208,6 @@ shifts_inline d a o = is_i o.class && changes d a
 abbrev pub keeps : Mask → Bool → Bool
 keeps mask.Five longest = not longest
 keeps mask.Six longest = longest
-keeps mask.Undecided longest = true
 
 abbrev pub masks : Bool → Class → Bool
 masks longest (class.Masked m) = keeps m longest

@@ -4,12 +4,11 @@ ghost use Rattle.jz_select.specs.Sums.{joined, capped as capped_of, is_address a
 
 use jz_words::Size;
 
-/// A mask of a count: what keeps five bits, what keeps six, or a constant expression whose value the tree does not show.
+/// A mask of a count: what keeps five bits, or what keeps six.
 #[derive(Clone, Copy)]
 pub enum Mask {
     Five,
     Six,
-    Undecided,
 }
 
 /// What an operand or a result is.

@@ -1,7 +1,8 @@
-//! Which row of the pattern table, or which intrinsic, a typed statement matches.
+//! Which row of the pattern table, or which intrinsic, a typed statement matches, and the immediates of its operands.
 #![tactic(auto)]
 
 mod class;
+mod immediates;
 mod look;
 mod operand;
 mod pattern;
@@ -11,6 +12,7 @@ mod selecting;
 mod shape;
 mod shaping;
 
+pub use immediates::immediate;
 pub use pattern::Pattern;
 pub use selecting::{one_row, select, select_copy};
 

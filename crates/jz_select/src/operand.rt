@@ -1,12 +1,14 @@
 // The class of an operand and of a result.
 ghost use Rattle.std.specs.Prelude.{◌≡◌};
 ghost use Rattle.jz_tree.specs.declared.expr.Expr.TheViews.{out-Expr};
+ghost use Rattle.jz_integers.specs.Integers.{written_number as number_of};
 ghost use Rattle.jz_select.specs.Look.{decl_of};
-ghost use Rattle.jz_select.specs.Operands.{var_class, cell_of, mem_of, mask_layer, masked, is_byte, register_layer, class_of, dest_of, operand_of};
+ghost use Rattle.jz_select.specs.Operands.{var_class, cell_of, mem_of, mask_of, masked, is_byte, register_layer, class_of, dest_of, operand_of};
 
 use crate::class::{Class, Mask, Operand};
 use crate::look::{Kind, decl, inline, sum};
 use crate::places::meet;
+use jz_integers::written_number;
 use jz_tree::{BinOp, Expr, Lval, Storage, Var};
 use jz_words::Size;
 
@@ -53,25 +55,13 @@ fn class_of_access(size: Option<Size>, at: &Expr) -> Class
 }
 
 fn mask(k: &Expr) -> Class
-    ensures { result ≡ mask_layer k.now (out-Expr k.now) }
+    ensures { result ≡ mask_of (number_of k.now) }
 {
-    match k {
-        Expr::Num(n, _) => {
-            if *n == 31 {
-                Class::Masked(Mask::Five)
-            } else if *n == 63 {
-                Class::Masked(Mask::Six)
-            } else {
-                Class::Other
-            }
-        }
-        _ => {
-            if inline(k) {
-                Class::Masked(Mask::Undecided)
-            } else {
-                Class::Other
-            }
-        }
+    match written_number(k) {
+        None => Class::Other,
+        Some(31) => Class::Masked(Mask::Five),
+        Some(63) => Class::Masked(Mask::Six),
+        Some(_) => Class::Other,
     }
 }
 

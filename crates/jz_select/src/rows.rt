@@ -205,7 +205,6 @@ fn keeps(mask: Mask, longest: bool) -> bool
     match mask {
         Mask::Five => !longest,
         Mask::Six => longest,
-        Mask::Undecided => true,
     }
 }
 

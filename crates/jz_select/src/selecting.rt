@@ -9,8 +9,8 @@ use crate::shaping::{assign, shape};
 use jz_tree::{Expr, Lval, Stmt};
 
 /// The first row of the pattern table that the statement matches, or the intrinsic that it is; of an `if` or `while`
-/// whether its condition matches. The statement is one of a typed program. What the value of an inline expression may be
-/// is not asked here, but for a mask that is written as a number.
+/// whether its condition matches. The statement is one of a typed program, in which the names of constants are numbers.
+/// What the value of an inline expression may be is not asked here, but for that of a mask.
 #[tactic(auto, using(crate::proofs::FirstRow::is_selected))]
 pub fn select(statement: &Stmt) -> Option<Pattern>
     ensures { IsSelected statement.now.kind result }

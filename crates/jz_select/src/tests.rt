@@ -207,7 +207,7 @@ fn assignment(
 const NONE: u8 = 0;
 
 // Results, sign, right side, and the row, 0 for none.
-const ROWS: [(&str, &str, &str, u8); 87] = [
+const ROWS: [(&str, &str, &str, u8); 88] = [
     ("r0", "=", "r1", 1),
     ("s0", "=", "s0", NONE),
     ("s0", "=", "7 i0 *", 1),
@@ -281,7 +281,8 @@ const ROWS: [(&str, &str, &str, u8); 87] = [
     ("r0", "=", "r1 b0 31 & <<", NONE),
     ("w0", "=", "w1 b0 31 & >>r", 10),
     ("w0", "=", "w1 b0 63 & >>r", NONE),
-    ("w0", "=", "w1 b0 i0 & >>r", 10),
+    ("w0", "=", "w1 b0 i0 & >>r", NONE),
+    ("w0", "=", "w1 b0 32 1 - & >>r", 10),
     ("r0", "=", "r1 r2 63 & <<", NONE),
     ("b0", "=", "b1 b0 31 & <<", NONE),
     ("b0", "<<=", "b0 31 &", 10),

@@ -14,6 +14,3 @@ pub use expr::{Access, BinOp, Decl, Expr, Storage, Ty, Var};
 pub use intrinsic::{Instance, Intrinsic, spelled};
 pub use program::{Const, Fun, FunKind, Note, NoteValue, Param, Program, Ret};
 pub use stmt::{Lval, Rhs, Stmt, StmtKind};
-
-#[cfg(test)]
-mod tests;

@@ -1,20 +1,25 @@
 -- What the rules find first, told.
-use Rattle.std.proofs.Common.{◌≡◌, List, ◌++◌, Option, sym, ap₂, ◌∙◌, subst}
+use Rattle.std.proofs.Common.{◌≡◌, ℕ, List, ◌++◌, Option, Some, sym, subst}
 use Rattle.std.specs.Prelude.{Contains, MatchOption}
 use Rattle.jz_io.specs.declared.span.Span.{Span}
 use Rattle.jz_tree.specs.declared.program.Program.{Program}
-use Rattle.jz_scopes.specs.Order.{earlier, earliest, IsEarliest}
+use Rattle.jz_scopes.specs.Order.{earlier, earliest, IsEarliest, here}
 use Rattle.jz_scopes.specs.Names.{unknown_in, repeated_in}
-use Rattle.jz_scopes.proofs.Earliest.{earliest-append}
+use Rattle.jz_scopes.proofs.Earliest.{both_earliest}
 use Rattle.jz_scopes.proofs.Firsts.{earliest_is}
 use Rattle.jz_resolve.specs.Numbering.{length_of}
 use Rattle.jz_resolve.specs.Programs.{resolved}
 use Rattle.jz_kinds.specs.Mismatches.{mismatched_as_read, mismatched_declared}
+use Rattle.jz_calls.specs.declared.recursion.Ranking.{Ranking}
+use Rattle.jz_calls.specs.declared.recursion.Ranking.TheVariants.{Ranked, Recursive}
+use Rattle.jz_calls.specs.Recursion.{IsRanked, IsRecursive, Tells, recursive_of}
 use Rattle.jz_rules.specs.Exports.{misshapen, annotated}
 use Rattle.jz_rules.specs.Copies.{copied_by}
 use Rattle.jz_rules.specs.Indexes.{indexed_by}
 use Rattle.jz_rules.specs.Programs.{in_functions, in_statements}
 use Rattle.jz_types.specs.Rows.{unmatched_in}
+use Rattle.jz_types.specs.declared.fault.TypeRule.TheVariants.{Recursion}
+use Rattle.jz_types.specs.declared.fault.TypeFault.{TypeFault}
 use Rattle.jz_types.specs.declared.checking.OfText.{OfText}
 use Rattle.jz_types.specs.declared.checking.OfDeclared.{OfDeclared}
 use Rattle.jz_types.specs.Faults.{AreFirst, first_told}
@@ -26,7 +31,11 @@ found : (xs : List Span) (o : Option Span) → o ≡ earliest xs → IsEarliest 
 found xs o e = subst (IsEarliest (λ at. Contains xs at)) (sym e) (earliest_is xs)
 
 found_both : (xs ys : List Span) (a b : Option Span) → a ≡ earliest xs → b ≡ earliest ys → IsEarliest (λ at. Contains (xs ++ ys) at) (earlier a b)
-found_both xs ys a b e f = found (xs ++ ys) (earlier a b) (ap₂ earlier e f ∙ sym (earliest-append xs ys))
+found_both xs ys a b e f = found (xs ++ ys) (earlier a b) (both_earliest xs ys a b e f)
+
+first_recursive : (q : Program) (r : Ranking) → Tells q r → IsEarliest (IsRecursive q) (recursive_of r)
+first_recursive q (Ranked ranks) h = h.1
+first_recursive q (Recursive at) h = h
 
 all_asked : (p : Program) (t : OfText) (d : OfDeclared) → AreOfText p t → AreOfDeclared (resolved p) d → AreFirst (Breaks p) (places_of t d)
 all_asked p t d h k = record {
@@ -34,7 +43,7 @@ all_asked p t d h k = record {
   repeated = found (repeated_in p) t.repeated h.repeated;
   mismatched = found_both (mismatched_as_read (length_of p.consts) p) (mismatched_declared (resolved p)) t.mismatched d.mismatched h.mismatched k.mismatched;
   misplaced = k.misplaced p;
-  recursive = h.recursive;
+  recursive = first_recursive (resolved p) d.ranking k.ranking;
   unmatched = found (unmatched_in (resolved p)) d.unmatched k.unmatched;
   copied = found (in_statements (copied_by (resolved p).funs) (resolved p)) d.copied k.copied;
   annotated = found (in_functions annotated p) t.annotated h.annotated;
@@ -42,7 +51,20 @@ all_asked p t d h k = record {
   indexed = found (in_statements indexed_by (resolved p)) d.indexed k.indexed;
 }
 
--- no rule fails, or this fault is told
-pub judged : (p : Program) (t : OfText) (d : OfDeclared) → AreOfText p t → AreOfDeclared (resolved p) d
-    → MatchOption (first_told (places_of t d)) (IsTyped p) (IsFirstTypeFault p)
-judged p t d h k = told_first (Breaks p) (places_of t d) (all_asked p t d h k)
+-- no rule of p fails, or this fault is told; q has the declarations
+pub judged : (p q : Program) (t : OfText) (d : OfDeclared) (told : Option TypeFault) → q ≡ resolved p → AreOfText p t → AreOfDeclared q d → told ≡ first_told (places_of t d)
+    → MatchOption told (IsTyped p) (IsFirstTypeFault p)
+judged p q t d told e h k f =
+    subst (λ o. MatchOption o (IsTyped p) (IsFirstTypeFault p)) (sym f) (told_first (Breaks p) (places_of t d) (all_asked p t d h (subst (λ r. AreOfDeclared r d) e k)))
+
+-- ---- the ranks of a program in which no rule fails
+recursive_at : (q : Program) (at : Span) → IsEarliest (IsRecursive q) (Some at) → IsRecursive q at
+recursive_at q at (here w first) = w
+
+pub not_recursive : (p q : Program) (r : Ranking) (at : Span) → q ≡ resolved p → IsTyped p → Tells q r → r ≡ Recursive at → ⊥
+not_recursive p q r at e typed told is =
+    let h : Tells q (Recursive at) = subst (Tells q) is told
+    in typed Recursion at (subst (λ z. IsRecursive z at) e (recursive_at q at h))
+
+pub ranked : (q : Program) (r : Ranking) (ranks : List ℕ) → Tells q r → r ≡ Ranked ranks → IsRanked q ranks
+ranked q r ranks told e = let h : Tells q (Ranked ranks) = subst (Tells q) e told in h.0

@@ -5,11 +5,10 @@ use Rattle.jz_io.specs.declared.span.Span.{Span}
 use Rattle.jz_tree.specs.declared.program.Program.{Program}
 use Rattle.jz_scopes.specs.Order.{earlier, earliest, IsEarliest}
 use Rattle.jz_scopes.proofs.Earliest.{earliest-append}
-use Rattle.jz_scopes.proofs.Firsts.{earliest_is}
+use Rattle.jz_scopes.proofs.Firsts.{earliest_is, earlier_of_two}
 use Rattle.jz_paths.specs.Declarations.{wrongly_kept}
 use Rattle.jz_paths.specs.Settings.{wrongly_set}
 use Rattle.jz_paths.specs.Paths.{IsReadUnsetIn}
-use Rattle.jz_paths.proofs.Firsts.{earlier_of_two}
 use Rattle.jz_types.specs.declared.fault.TypeRule.TheVariants.{Storage}
 use Rattle.jz_types.specs.Rules.{BreaksIn}
 

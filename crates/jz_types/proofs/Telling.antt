@@ -4,6 +4,7 @@ use Rattle.std.specs.Prelude.{if◌then◌else◌, nat_eq, MatchOption}
 use Rattle.std.proofs.lemmas.Bool.Decides.{nat_tests}
 use Rattle.jz_io.specs.declared.span.Span.{Span}
 use Rattle.jz_scopes.specs.Order.{Before, is_before, IsEarliest, nowhere, here}
+use Rattle.jz_scopes.proofs.Standing.{before_is, before_before, clash, at_least}
 use Rattle.jz_types.specs.declared.fault.TypeRule.{TypeRule}
 use Rattle.jz_types.specs.declared.fault.TypeRule.TheVariants.{Unknown, Duplicate, Mismatch, Storage, Recursion, NoInstruction, ArrayCopy, BadAnnotation, ExportShape, RegIndex}
 use Rattle.jz_types.specs.declared.fault.TypeFault.{TypeFault}
@@ -64,29 +65,8 @@ above_zero ExportShape h = omega arith
 above_zero RegIndex h = omega arith
 
 -- ---- places
-before_is : (a b : Span) → is_before a b ≡ true → Before a b
-before_is a b h = grind (arith, nat_tests)
-
-before_trans : (a b c : Span) → Before a b → Before b c → Before a c
-before_trans a b c p q = grind (arith, nat_tests)
-
-apart : (a b : Span) → is_before a b ≡ false → Before b a ⊎ ((b.line ≡ a.line) × (b.col ≡ a.col))
-apart a b h = grind (arith, nat_tests)
-
-same_span : (a b : Span) → a.line ≡ b.line → a.col ≡ b.col → a ≡ b
-same_span a b l c =
-    let made : ℕ → ℕ → Span = λ l c. record { line = l; col = c }
-    in let e : made a.line a.col ≡ made b.line b.col = ap (λ k. made k a.col) l ∙ ap (made b.line) c
-    in e
-
-not_before : (a b : Span) → is_before a b ≡ false → Before b a ⊎ (b ≡ a)
-not_before a b h = elim (apart a b h) [ inl p ↦ inl p | inr e ↦ inr (same_span b a e.0 e.1) ]
-
-both_before : (a b : Span) → Before a b → Before b a → ⊥
-both_before a b p q = grind (arith, nat_tests)
-
 not_itself : (a b : Span) → Before a b → a ≡ b → ⊥
-not_itself a b p e = both_before a b p (subst (λ z. Before z a) e (subst (λ z. Before a z) (sym e) p))
+not_itself a b p e = clash a b p (subst (λ z. Before z a) e (subst (λ z. Before a z) (sym e) p))
 
 same_fault : (f g : TypeFault) → f.rule ≡ g.rule → f.span ≡ g.span → f ≡ g
 same_fault f g r s =
@@ -147,7 +127,7 @@ module _ (Fails : TypeRule → Span → Type 0) where
           fails = w;
           first = λ other there h v. elim (parted k rule other e h) [
             | inl p ↦ elim (b.first other there p v) [
-              | inl q ↦ inl (before_trans at f.span there (before_is at f.span i) q)
+              | inl q ↦ inl (before_before at f.span there (before_is at f.span i) q)
               | inr q ↦ inl (subst (Before at) q.0 (before_is at f.span i))
             ]
             | inr p ↦ elim (first there (subst (λ r. Fails r there) p v)) [
@@ -162,8 +142,8 @@ module _ (Fails : TypeRule → Span → Type 0) where
           first = λ other there h v. elim (parted k rule other e h) [
             | inl p ↦ b.first other there p v
             | inr p ↦ elim (first there (subst (λ r. Fails r there) p v)) [
-              | inl q ↦ elim (not_before at f.span i) [ inl z ↦ inl (before_trans f.span at there z q) | inr z ↦ inl (subst (λ s. Before s there) (sym z) q) ]
-              | inr q ↦ elim (not_before at f.span i) [
+              | inl q ↦ elim (at_least f.span at i) [ inl z ↦ inl (before_before f.span at there z q) | inr z ↦ inl (subst (λ s. Before s there) (sym z) q) ]
+              | inr q ↦ elim (at_least f.span at i) [
                 | inl z ↦ inl (subst (Before f.span) q z)
                 | inr z ↦ inr (z ∙ q, subst (λ r. number_of f.rule ≤ number_of r) (sym p) (omega (arith, b.below, e)))
               ]
@@ -197,7 +177,7 @@ module _ (Fails : TypeRule → Span → Type 0) where
   pub one_told : (f g : TypeFault) → IsTold Fails f → IsTold Fails g → f ≡ g
   one_told f g p q =
       elim (p.first g.rule g.span q.fails) [
-        | inl a ↦ elim (q.first f.rule f.span p.fails) [ inl b ↦ absurd (both_before f.span g.span a b) | inr b ↦ absurd (not_itself f.span g.span a (sym b.0)) ]
+        | inl a ↦ elim (q.first f.rule f.span p.fails) [ inl b ↦ absurd (clash f.span g.span a b) | inr b ↦ absurd (not_itself f.span g.span a (sym b.0)) ]
         | inr a ↦ elim (q.first f.rule f.span p.fails) [
           | inl b ↦ absurd (not_itself g.span f.span b (sym a.0))
           | inr b ↦ let n : number_of f.rule ≡ number_of g.rule = omega (arith, a.1, b.1) in same_fault f g (same_rule f.rule g.rule n) a.0

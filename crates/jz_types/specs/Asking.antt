@@ -5,7 +5,7 @@ use Rattle.jz_scopes.specs.Order.{earliest, earlier, IsEarliest}
 use Rattle.jz_scopes.specs.Names.{unknown_in, repeated_in}
 use Rattle.jz_resolve.specs.Numbering.{length_of}
 use Rattle.jz_kinds.specs.Mismatches.{mismatched_as_read, mismatched_declared}
-use Rattle.jz_calls.specs.Recursion.{IsRecursive}
+use Rattle.jz_calls.specs.Recursion.{Tells, recursive_of}
 use Rattle.jz_rules.specs.Exports.{misshapen, annotated}
 use Rattle.jz_rules.specs.Copies.{copied_by}
 use Rattle.jz_rules.specs.Indexes.{indexed_by}
@@ -21,13 +21,13 @@ pub record AreOfText (p : Program) (t : OfText) : Type 0 where
   pub unknown : t.unknown ≡ earliest (unknown_in p)
   pub repeated : t.repeated ≡ earliest (repeated_in p)
   pub mismatched : t.mismatched ≡ earliest (mismatched_as_read (length_of p.consts) p)
-  pub recursive : IsEarliest (IsRecursive p) t.recursive
   pub annotated : t.annotated ≡ earliest (in_functions annotated p)
   pub misshapen : t.misshapen ≡ earliest (in_functions misshapen p)
 
 pub record AreOfDeclared (q : Program) (d : OfDeclared) : Type 0 where
   pub mismatched : d.mismatched ≡ earliest (mismatched_declared q)
   pub misplaced : (p : Program) → IsEarliest (BreaksIn p q Storage) d.misplaced
+  pub ranking : Tells q d.ranking
   pub unmatched : d.unmatched ≡ earliest (unmatched_in q)
   pub copied : d.copied ≡ earliest (in_statements (copied_by q.funs) q)
   pub indexed : d.indexed ≡ earliest (in_statements indexed_by q)
@@ -38,7 +38,7 @@ places_of t d = record {
   repeated = t.repeated;
   mismatched = earlier t.mismatched d.mismatched;
   misplaced = d.misplaced;
-  recursive = t.recursive;
+  recursive = recursive_of d.ranking;
   unmatched = d.unmatched;
   copied = d.copied;
   annotated = t.annotated;

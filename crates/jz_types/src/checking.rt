@@ -13,7 +13,7 @@ use crate::fault::{Places, TypeFault, first_told};
 use crate::lengths::ConstantLengths;
 use crate::rows::unmatched_in;
 use crate::typed::Typed;
-use jz_calls::recursive;
+use jz_calls::{Ranking, find_recursion};
 use jz_data::Failure;
 use jz_io::Span;
 use jz_kinds::{mismatches_as_read, mismatches_declared};
@@ -30,16 +30,17 @@ pub(crate) struct OfText {
     pub(crate) unknown: Option<Span>,
     pub(crate) repeated: Option<Span>,
     pub(crate) mismatched: Option<Span>,
-    pub(crate) recursive: Option<Span>,
     pub(crate) annotated: Option<Span>,
     pub(crate) misshapen: Option<Span>,
 }
 
-// Where the rules that are asked of the program with declarations fail first.
-#[derive(Clone, Copy)]
+// Where the rules that are asked of the program with declarations fail first. The ranks are there where no function reaches
+// itself.
+#[derive(Drop)]
 pub(crate) struct OfDeclared {
     pub(crate) mismatched: Option<Span>,
     pub(crate) misplaced: Option<Span>,
+    pub(crate) ranking: Ranking,
     pub(crate) unmatched: Option<Span>,
     pub(crate) copied: Option<Span>,
     pub(crate) indexed: Option<Span>,
@@ -53,12 +54,10 @@ fn of_text(alloc: Global, program: &Program) -> Result<OfText, AllocError>
     let unknown = unknown(alloc, program)?;
     let repeated = repeated(alloc, program)?;
     let mismatched = mismatches_as_read(alloc, &lengths, program)?;
-    let recursive = recursive(alloc, program)?;
     Ok(OfText {
         unknown,
         repeated,
         mismatched,
-        recursive,
         annotated: annotated_in(program),
         misshapen: misshapen_in(program),
     })
@@ -78,27 +77,29 @@ fn of_declared(alloc: Global, declared: &Program) -> Result<OfDeclared, AllocErr
 {
     let mismatched = mismatches_declared(alloc, declared)?;
     let misplaced = misplaced(alloc, declared)?;
+    let ranking = find_recursion(alloc, declared)?;
     let unmatched = unmatched_in(alloc, declared)?;
     let copied = copied_in(alloc, declared)?;
     let indexed = indexed_in(alloc, declared)?;
     Ok(OfDeclared {
         mismatched,
         misplaced,
+        ranking,
         unmatched,
         copied,
         indexed,
     })
 }
 
-fn places(text: OfText, declared: OfDeclared) -> Places
-    ensures { result ≡ places_of text declared }
+fn places(text: OfText, declared: &OfDeclared) -> Places
+    ensures { result ≡ places_of text declared.now }
 {
     Places {
         unknown: text.unknown,
         repeated: text.repeated,
         mismatched: earlier_of(text.mismatched, declared.mismatched),
         misplaced: declared.misplaced,
-        recursive: text.recursive,
+        recursive: declared.ranking.recursive(),
         unmatched: declared.unmatched,
         copied: declared.copied,
         annotated: text.annotated,
@@ -116,8 +117,13 @@ pub fn check(alloc: Global, program: Program) -> Result<Typed, Failure<TypeFault
     let text = of_text(alloc, &program)?;
     let program = resolve(alloc, program)?;
     let declared = of_declared(alloc, &program)?;
-    match first_told(places(text, declared)) {
-        None => Ok(Typed { program }),
+    let told = first_told(places(text, &declared));
+    let ranking = declared.ranking;
+    match told {
+        None => match ranking {
+            Ranking::Ranked(ranks) => Ok(Typed { program, ranks }),
+            Ranking::Recursive(_) => unreachable!(),
+        },
         Some(fault) => Err(Failure::Refused(fault)),
     }
 }

@@ -3,7 +3,7 @@ use Rattle.jz_scopes.specs.Order.{first_in}
 use Rattle.jz_scopes.specs.Tables.{place_in}
 use Rattle.jz_kinds.specs.Lengths.{fun_lengths}
 use Rattle.jz_kinds.specs.Mismatches.{constant_wrong}
-use Rattle.jz_kinds.proofs.TablesSay.{constants_are}
+use Rattle.jz_scopes.proofs.UnknownLaws.{constants_are}
 use Rattle.jz_kinds.proofs.Whole.{as_read}
 use Rattle.jz_kinds.proofs.programs.mismatches_as_read.Goals as goal
 

@@ -2,7 +2,7 @@ use Rattle.std.proofs.Common.{ap, ◌∙◌}
 use Rattle.jz_scopes.specs.Order.{first_in}
 use Rattle.jz_scopes.specs.Tables.{function_in}
 use Rattle.jz_kinds.specs.Mismatches.{body_wrong}
-use Rattle.jz_kinds.proofs.TablesSay.{functions_are}
+use Rattle.jz_scopes.proofs.UnknownLaws.{functions_are}
 use Rattle.jz_kinds.proofs.Whole.{declared}
 use Rattle.jz_kinds.proofs.programs.mismatches_declared.Goals as goal
 

@@ -1,4 +1,4 @@
-use Rattle.std.proofs.Common.{◌≡◌, ap, sym, ◌∙◌}
+use Rattle.std.proofs.Common.{ap, sym, ◌∙◌}
 use Rattle.jz_meaning.specs.Attempts.{did, numbers_first}
 use Rattle.jz_meaning.specs.Operators.{word_at}
 use Rattle.jz_meaning.specs.States.{as_value}

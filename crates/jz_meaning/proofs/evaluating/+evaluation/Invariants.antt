@@ -1,6 +1,7 @@
 use Rattle.std.proofs.Common.{◌≡◌, ◌+◌, ◌*◌, length}
 use Rattle.jz_tree.specs.declared.expr.Expr.{size-Expr}
-use Rattle.jz_meaning.specs.Attempts.{went, numbers_first}
+use Rattle.jz_runs.specs.Rules.{went}
+use Rattle.jz_meaning.specs.Attempts.{numbers_first}
 use Rattle.jz_meaning.specs.States.{as_value}
 use Rattle.jz_meaning.specs.Values.{evaluated}
 use Rattle.jz_meaning.specs.Stores.{state}

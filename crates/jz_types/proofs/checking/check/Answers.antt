@@ -1,35 +1,35 @@
-use Rattle.std.proofs.Common.{◌≡◌, Some, None, sym, ap, ◌∙◌, subst}
-use Rattle.std.specs.Prelude.{MatchOption}
-use Rattle.jz_types.specs.Asking.{AreOfDeclared, places_of}
+use Rattle.std.proofs.Common.{ap, ◌∙◌}
+use Rattle.std.proofs.lemmas.Option.{MatchOption-at_none, MatchOption-at_some}
 use Rattle.jz_types.specs.Faults.{first_told}
 use Rattle.jz_types.specs.Rules.{IsTyped, IsFirstTypeFault}
-use Rattle.jz_types.proofs.Judging.{judged}
+use Rattle.jz_types.proofs.Judging.{judged, ranked, not_recursive}
 use Rattle.jz_types.proofs.checking.check.Goals as goal
 
-pub returns-in-None-clause-typed : goal.returns-in-None-clause-typed
-returns-in-None-clause-typed c =
-    let p = c.args.program
-    in let text = c.in_ok-text.text
-    in let declared = c.in_ok-declared.declared
-    in let told : c.first_told.result ≡ first_told (places_of text declared) = c.first_told.ensures ∙ ap first_told c.places.ensures
-    in subst (λ o. MatchOption o (IsTyped p) (IsFirstTypeFault p)) (sym told ∙ c.in-None.is)
-    (judged p text declared c.in_ok-text.ensures (subst (λ q. AreOfDeclared q declared) c.in_ok-program.ensures c.in_ok-declared.ensures))
+pub returns-in-Ranked-clause-typed : goal.returns-in-Ranked-clause-typed
+returns-in-Ranked-clause-typed c =
+    let p = c.args.program in
+    MatchOption-at_none (IsTyped p) (IsFirstTypeFault p) c.in-None.is
+    (judged c.args.program c.in_ok-program.program c.in_ok-text.text c.in_ok-declared.declared c.first_told-told.result c.in_ok-program.ensures c.in_ok-text.ensures c.in_ok-declared.ensures (c.first_told-told.ensures ∙ ap first_told c.places.ensures))
 
 pub returns-in-Some-clause-fault : goal.returns-in-Some-clause-fault
 returns-in-Some-clause-fault c =
-    let p = c.args.program
-    in let text = c.in_ok-text.text
-    in let declared = c.in_ok-declared.declared
-    in let told : c.first_told.result ≡ first_told (places_of text declared) = c.first_told.ensures ∙ ap first_told c.places.ensures
-    in subst (λ o. MatchOption o (IsTyped p) (IsFirstTypeFault p)) (sym told ∙ c.in-Some.is)
-    (judged p text declared c.in_ok-text.ensures (subst (λ q. AreOfDeclared q declared) c.in_ok-program.ensures c.in_ok-declared.ensures))
+    let p = c.args.program in
+    MatchOption-at_some (IsTyped p) (IsFirstTypeFault p) c.in-Some.fault c.in-Some.is
+    (judged c.args.program c.in_ok-program.program c.in_ok-text.text c.in_ok-declared.declared c.first_told-told.result c.in_ok-program.ensures c.in_ok-text.ensures c.in_ok-declared.ensures (c.first_told-told.ensures ∙ ap first_told c.places.ensures))
+
+pub prove-unreachable-requires : goal.prove-unreachable-requires
+prove-unreachable-requires c =
+    let p = c.args.program in
+    let typed : IsTyped p = MatchOption-at_none (IsTyped p) (IsFirstTypeFault p) c.in-None.is
+    (judged c.args.program c.in_ok-program.program c.in_ok-text.text c.in_ok-declared.declared c.first_told-told.result c.in_ok-program.ensures c.in_ok-text.ensures c.in_ok-declared.ensures (c.first_told-told.ensures ∙ ap first_told c.places.ensures)) in
+    not_recursive p c.in_ok-program.program c.in_ok-declared.declared.ranking c.in-Recursive.field-0 c.in_ok-program.ensures typed c.in_ok-declared.ensures.ranking c.in-Recursive.is
 
 pub invariant_of-result : goal.invariant_of-result
 invariant_of-result c =
-    let p = c.args.program
-    in let text = c.in_ok-text.text
-    in let declared = c.in_ok-declared.declared
-    in let told : c.first_told.result ≡ first_told (places_of text declared) = c.first_told.ensures ∙ ap first_told c.places.ensures
-    in let typed : IsTyped p = subst (λ o. MatchOption o (IsTyped p) (IsFirstTypeFault p)) (sym told ∙ c.in-None.is)
-    (judged p text declared c.in_ok-text.ensures (subst (λ q. AreOfDeclared q declared) c.in_ok-program.ensures c.in_ok-declared.ensures))
-    in record { typed = ∣ record { source = p; typed = typed; same = c.in_ok-program.ensures } ∣₁ }
+    let p = c.args.program in
+    let typed : IsTyped p = MatchOption-at_none (IsTyped p) (IsFirstTypeFault p) c.in-None.is
+    (judged c.args.program c.in_ok-program.program c.in_ok-text.text c.in_ok-declared.declared c.first_told-told.result c.in_ok-program.ensures c.in_ok-text.ensures c.in_ok-declared.ensures (c.first_told-told.ensures ∙ ap first_told c.places.ensures)) in
+    record {
+      typed = ∣ record { source = p; typed = typed; same = c.in_ok-program.ensures } ∣₁;
+      ranked = ranked c.in_ok-program.program c.in_ok-declared.declared.ranking c.in-Ranked.ranks c.in_ok-declared.ensures.ranking c.in-Ranked.is;
+    }

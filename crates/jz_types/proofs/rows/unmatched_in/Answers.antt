@@ -4,7 +4,7 @@ use Rattle.jz_scopes.specs.Order.{earliest}
 use Rattle.jz_scopes.specs.Tables.{place_in, function_in}
 use Rattle.jz_scopes.proofs.UnknownLaws.{constants_are, functions_are}
 use Rattle.jz_types.specs.Rows.{unmatched_in_fun}
-use Rattle.jz_types.proofs.Joins.{first_in-is}
+use Rattle.jz_scopes.proofs.Earliest.{first_in-is}
 use Rattle.jz_types.proofs.rows.unmatched_in.Goals as goal
 
 pub returns : goal.returns

@@ -1,15 +1,15 @@
-use Rattle.std.proofs.Common.{rules}
-use Rattle.std.specs.Str.{bytes_eq}
-use Rattle.indexmap.specs.IndexMap.{get}
-use Rattle.jz_rules.proofs.CalleeLaws.{callees_more, callees_kept}
+use Rattle.std.proofs.Common.{Some, ap, ◌∙◌}
+use Rattle.jz_scopes.specs.Scopes.{or_named}
+use Rattle.jz_scopes.specs.Tables.{item_in}
+use Rattle.jz_scopes.proofs.TableLaws.{table_more}
+use Rattle.jz_rules.specs.Callees.{callee_of}
 use Rattle.jz_rules.proofs.callee.Callees.add.Goals as goal
 
-pub returns-in_ok-insert : goal.returns-in_ok-insert
-returns-in_ok-insert c =
-    λ fs held. record {
-      first = callees_more fs c.args.fun.now (get bytes_eq c.args.self.now.callees) held.first (get bytes_eq c.insert.new.self) (search rules) (search rules);
+pub returns : goal.returns
+returns c =
+    let fun = c.args.fun.now
+    in let old = item_in c.args.self.now.callees
+    in λ fs held. record {
+      first = table_more (λ f. f.name) callee_of fs fun old (item_in c.add.new.self) held.first
+          (c.in_ok-add.ensures ∙ ap (λ callee. or_named old fun.name (Some callee)) c.in_ok-callee.ensures);
     }
-
-pub returns-else-not-contains_key : goal.returns-else-not-contains_key
-returns-else-not-contains_key c =
-    λ fs held. record { first = callees_kept fs c.args.fun.now (get bytes_eq c.args.self.now.callees) held.first (search rules) }

@@ -1,0 +1,5 @@
+use Rattle.jz_meaning.proofs.RunLaws.{block_more, fun_more}
+use Rattle.jz_meaning.proofs.laws.same_with_more_turns.Goals as goal
+
+pub returns : goal.returns
+returns c = record { statements = block_more; functions = fun_more }

@@ -1,7 +1,0 @@
-use Rattle.std.proofs.Common.{◌≡◌, ◌++◌, take, map}
-use Rattle.jz_scopes.specs.Scopes.{name_of}
-use Rattle.jz_scopes.specs.Lent.{these_names}
-use Rattle.jz_scopes.proofs.repeats.add_vars.Given as goal
-
-abbrev pub invariant-loop-var : goal.invariant-loop-var
-invariant-loop-var l = these_names l.list.items ≡ these_names l.initial.list.items ++ map name_of (take l.var-index l.var-items)
