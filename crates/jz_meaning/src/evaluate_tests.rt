@@ -116,7 +116,7 @@ fn operation(
     Ok(Expr::Bin(op, left, right, column(col)))
 }
 
-fn part(alloc: Global, part: Part) -> Result<Expr, AllocError> {
+fn right_part(alloc: Global, part: Part) -> Result<Expr, AllocError> {
     match part {
         Unset => unset(alloc),
         Cell(index) => cell(alloc, index, 12),
@@ -131,7 +131,7 @@ fn part(alloc: Global, part: Part) -> Result<Expr, AllocError> {
 
 fn sum(alloc: Global, row: Row) -> Result<Expr, AllocError> {
     let left = cell(alloc, row.0, 1)?;
-    operation(alloc, BinOp::Add, left, part(alloc, row.1)?, 1)
+    operation(alloc, BinOp::Add, left, right_part(alloc, row.1)?, 1)
 }
 
 fn word(bits: u64) -> Value {
