@@ -1,5 +1,5 @@
 //! The numbers of constants.
-ghost use Rattle.std.specs.Prelude.{◌≡◌, List, option_map, IfOk, OnOk};
+ghost use Rattle.std.specs.Prelude.{◌≡◌, List, option_map, IfOk, OnOk, Some};
 ghost use Rattle.jz_tree.specs.declared.program.Const.{Const};
 ghost use Rattle.jz_scopes.specs.Scopes.{constant_place, or_named};
 ghost use Rattle.jz_scopes.specs.Names.{stands_above};
@@ -67,16 +67,21 @@ impl ConstantTable {
         }
     }
 
+    fn put_value(&mut self, name: &Text, number: i128) -> Result<(), AllocError>
+        ensures values { OnOk result (values_in self.new ≡ or_named (values_in self.old) name.now (Some number)) }
+        ensures places { OnOk result (self.new.places ≡ self.old.places) }
+    {
+        self.values.add(name, number)?;
+        Ok(())
+    }
+
     fn add_value(&mut self, alloc: Global, c: &Const) -> Result<(), AllocError>
         ensures values { OnOk result (values_in self.new ≡ or_named (values_in self.old) c.now.name (value_with (values_in self.old) c.now.value)) }
         ensures places { OnOk result (self.new.places ≡ self.old.places) }
     {
         match self.number_of(alloc, &c.value)? {
             None => Ok(()),
-            Some(number) => {
-                self.values.add(&c.name, number)?;
-                Ok(())
-            }
+            Some(number) => self.put_value(&c.name, number),
         }
     }
 

@@ -1,6 +1,6 @@
-// Statements and the rows that they match. A table has the results, a sign, and the operands, each before its operator:
+// Statements and the rows that they match. A row has the results, a sign, and the operands, each before its operator:
 // `r1 r2 8 * + []` is `[r1 + r2 * 8]`, `t r1 @` is `t[r1]`.
-use crate::{Pattern, select};
+use crate::{Pattern, immediate, select};
 use jz_data::{Boxed, Seq, Text};
 use jz_io::Span;
 use jz_tree::{Access, BinOp, Decl, Expr, Intrinsic, Lval, Rhs, Stmt, StmtKind, Storage, Ty, Var};
@@ -204,211 +204,230 @@ fn assignment(
     Ok(selected(alloc, kind))
 }
 
-const NONE: u8 = 0;
+// What it is, as the tables write it: the row's number, an intrinsic, `condition`, or `-` for nothing.
+fn told(alloc: Global, found: Option<Pattern>) -> Result<String, AllocError> {
+    match found {
+        None => String::from_str(alloc, "-"),
+        Some(Pattern::P(row)) => format!(in alloc; "{row}"),
+        Some(Pattern::Condition) => String::from_str(alloc, "condition"),
+        Some(Pattern::Intrinsic(name)) => format!(in alloc; "{name:?}"),
+    }
+}
 
-// Results, sign, right side, and the row, 0 for none.
-const ROWS: [(&str, &str, &str, u8); 88] = [
-    ("r0", "=", "r1", 1),
-    ("s0", "=", "s0", NONE),
-    ("s0", "=", "7 i0 *", 1),
-    ("r0", "=", "r1 r2 8 * + i0 - []", 1),
-    ("r0", "=", "r1 r2 8 * + r3 + []", NONE),
-    ("r0", "=", "r2 8 * []", NONE),
-    ("r0", "=", "r1 8 i0 * 8 - + []", 1),
-    ("r0", "=", "t r1 2 + @", 1),
-    ("r0", "=", "t r1 2 * @", NONE),
-    ("r0", "=", "g r1 @", NONE),
-    ("c0", "=", "c1", NONE),
-    ("r0", "=", "r1 r2 +", 2),
-    ("s0", "+=", "r1", 2),
-    ("s0", "+=", "s1", NONE),
-    ("s0", "=", "s0 r1 +", 2),
-    ("s0", "=", "r1 s0 +", 2),
-    ("s0", "=", "r1 s0 -", NONE),
-    ("t r1 @", "=", "t r1 @ r2 +", 2),
-    ("t r1 @", "=", "t r2 @ r3 +", NONE),
-    ("r1 8 + []", "=", "r1 8 + [] r2 &", 2),
-    ("r1 8 + []", "=", "r1 9 + [] r2 &", NONE),
-    ("r0", "=", "s0 s1 +", 2),
-    ("r0", "=", "r1 r0 ^", 2),
-    ("r0", "=", "r1 r0 -", NONE),
-    ("r0", "=", "r1 r0 [] -", NONE),
-    ("r0", "=", "r0 [] r1 -", 2),
-    ("g 0 @", "=", "r1 g 1 @ -", 2),
-    ("g 0 @", "=", "r1 g i0 @ -", NONE),
-    ("g 0 @", "=", "r1 g i0 @ +", 2),
-    ("c0 r0", "=", "r1 r2 -", 2),
-    ("_ r0", "=", "r1 r2 +", 2),
-    ("c0 r0", "=", "r1 r2 ^", NONE),
-    ("r1 r0", "=", "r1 r2 +", NONE),
-    ("c0 r0", "=", "1 2 +", NONE),
-    ("_", "=", "r1 r2 +", NONE),
-    ("r0", "=", "r1 r2 + c0 +", 3),
-    ("r0", "=", "r1 r2 - c0 -", 3),
-    ("r0", "=", "r1 r2 + c0 -", NONE),
-    ("c0 r0", "+=", "r1 c1 +", 3),
-    ("r0", "=", "1 2 + c0 +", NONE),
-    ("s0", "=", "s1 r2 + c0 +", NONE),
-    ("r0", "=", "r1 neg", 4),
-    ("s0", "=", "s0 not", 4),
-    ("s0", "=", "s1 not", NONE),
-    ("r0", "=", "i0 neg", 1),
-    ("r0", "=", "r1 s0 *", 5),
-    ("b0", "=", "b1 b2 *", NONE),
-    ("s0", "=", "s0 r1 *", NONE),
-    ("r0", "=", "5 r1 *", 5),
-    ("r0", "=", "5 r0 *", NONE),
-    ("r0", "=", "r1 5 *", 6),
-    ("r0", "*=", "i0", 6),
-    ("b0", "=", "b1 5 *", NONE),
-    ("r0 r1", "=", "r2 s0 *", 7),
-    ("_ _", "=", "r2 r3 *", 7),
-    ("h0 h1", "=", "h2 h3 *", NONE),
-    ("r0 r1", "=", "r2 5 *", NONE),
-    ("r0 r1", "=", "r2 r1 *", 7),
-    ("r0 r1", "=", "5 r1 *", NONE),
-    ("r0 r1", "=", "r2 r1 [] *", NONE),
-    ("r0", "=", "r1 r2 /", 8),
-    ("w0", "=", "w1 w2 %s", 8),
-    ("h0", "/=", "h1", NONE),
-    ("r0", "=", "r1 r0 /", NONE),
-    ("r0", "=", "r1 5 /", NONE),
-    ("r0", "=", "r1 5 <<", 9),
-    ("s0", "<<=", "i0", 9),
-    ("s0", "=", "s1 5 <<", NONE),
-    ("r0", "=", "1 5 <<", 1),
-    ("r0", "=", "r1 b0 63 & <<", 10),
-    ("r0", "=", "r1 b0 31 & <<", NONE),
-    ("w0", "=", "w1 b0 31 & >>r", 10),
-    ("w0", "=", "w1 b0 63 & >>r", NONE),
-    ("w0", "=", "w1 b0 i0 & >>r", NONE),
-    ("w0", "=", "w1 b0 32 1 - & >>r", 10),
-    ("r0", "=", "r1 r2 63 & <<", NONE),
-    ("b0", "=", "b1 b0 31 & <<", NONE),
-    ("b0", "<<=", "b0 31 &", 10),
-    ("r0", "=", "r1 b0 <<", NONE),
-    ("r0", "=", "w1 (64u)", 11),
-    ("r0", "=", "r1 [8] (64u)", 11),
-    ("s0", "=", "w1 (64u)", NONE),
-    ("r0", "=", "w1 (64s)", 12),
-    ("r0", "=", "r1 (64s)", NONE),
-    ("w0", "=", "r1 (32u)", 13),
-    ("r0", "=", "r1 (64u)", 13),
-    ("w0", "=", "s1 (32u)", NONE),
-    ("i0", "=", "5", NONE),
-];
+// Results, a sign, the right side, and what the statement is.
+const ROWS: &str = "\
+r0 | = | r1 | 1
+s0 | = | s0 | -
+s0 | = | 7 i0 * | 1
+r0 | = | r1 r2 8 * + i0 - [] | 1
+r0 | = | r1 r2 8 * + r3 + [] | -
+r0 | = | r2 8 * [] | -
+r0 | = | r1 8 i0 * 8 - + [] | 1
+r0 | = | t r1 2 + @ | 1
+r0 | = | t r1 2 * @ | -
+r0 | = | g r1 @ | -
+c0 | = | c1 | -
+r0 | = | r1 r2 + | 2
+s0 | += | r1 | 2
+s0 | += | s1 | -
+s0 | = | s0 r1 + | 2
+s0 | = | r1 s0 + | 2
+s0 | = | r1 s0 - | -
+t r1 @ | = | t r1 @ r2 + | 2
+t r1 @ | = | t r2 @ r3 + | -
+r1 8 + [] | = | r1 8 + [] r2 & | 2
+r1 8 + [] | = | r1 9 + [] r2 & | -
+r0 | = | s0 s1 + | 2
+r0 | = | r1 r0 ^ | 2
+r0 | = | r1 r0 - | -
+r0 | = | r1 r0 [] - | -
+r0 | = | r0 [] r1 - | 2
+g 0 @ | = | r1 g 1 @ - | 2
+g 0 @ | = | r1 g i0 @ - | -
+g 0 @ | = | r1 g i0 @ + | 2
+c0 r0 | = | r1 r2 - | 2
+_ r0 | = | r1 r2 + | 2
+c0 r0 | = | r1 r2 ^ | -
+r1 r0 | = | r1 r2 + | -
+c0 r0 | = | 1 2 + | -
+_ | = | r1 r2 + | -
+r0 | = | r1 r2 + c0 + | 3
+r0 | = | r1 r2 - c0 - | 3
+r0 | = | r1 r2 + c0 - | -
+c0 r0 | += | r1 c1 + | 3
+r0 | = | 1 2 + c0 + | -
+s0 | = | s1 r2 + c0 + | -
+r0 | = | r1 neg | 4
+s0 | = | s0 not | 4
+s0 | = | s1 not | -
+r0 | = | i0 neg | 1
+r0 | = | r1 s0 * | 5
+b0 | = | b1 b2 * | -
+s0 | = | s0 r1 * | -
+r0 | = | 5 r1 * | 5
+r0 | = | 5 r0 * | -
+r0 | = | r1 5 * | 6
+r0 | *= | i0 | 6
+b0 | = | b1 5 * | -
+r0 r1 | = | r2 s0 * | 7
+_ _ | = | r2 r3 * | 7
+h0 h1 | = | h2 h3 * | -
+r0 r1 | = | r2 5 * | -
+r0 r1 | = | r2 r1 * | 7
+r0 r1 | = | 5 r1 * | -
+r0 r1 | = | r2 r1 [] * | -
+r0 | = | r1 r2 / | 8
+w0 | = | w1 w2 %s | 8
+h0 | /= | h1 | -
+r0 | = | r1 r0 / | -
+r0 | = | r1 5 / | -
+r0 | = | r1 5 << | 9
+s0 | <<= | i0 | 9
+s0 | = | s1 5 << | -
+r0 | = | 1 5 << | 1
+r0 | = | r1 b0 63 & << | 10
+r0 | = | r1 b0 31 & << | -
+w0 | = | w1 b0 31 & >>r | 10
+w0 | = | w1 b0 63 & >>r | -
+w0 | = | w1 b0 i0 & >>r | -
+w0 | = | w1 b0 32 1 - & >>r | 10
+r0 | = | r1 r2 63 & << | -
+b0 | = | b1 b0 31 & << | -
+b0 | <<= | b0 31 & | 10
+r0 | = | r1 b0 << | -
+r0 | = | w1 (64u) | 11
+r0 | = | r1 [8] (64u) | 11
+s0 | = | w1 (64u) | -
+r0 | = | w1 (64s) | 12
+r0 | = | r1 (64s) | -
+w0 | = | r1 (32u) | 13
+r0 | = | r1 (64u) | 13
+w0 | = | s1 (32u) | -
+i0 | = | 5 | -
+c0 _ c1 c2 c3 r0 | #ADD | r1 s0 | Add
+c0 _ c1 c2 c3 s0 | #ADD | s1 r1 | -
+c0 r0 | #ADD | r1 s0 | -
+c0 _ c1 c2 c3 r0 | #SUB_64 | r1 r0 | -
+c0 _ c1 c2 c3 r0 | #XOR | r1 r0 | Xor
+c0 _ c1 c2 c3 r0 | #ADC | r1 r2 c0 | Adc
+c0 _ c1 c2 c3 r0 | #SBB | r1 r2 r3 | -
+c0 _ c1 c2 c3 r0 | #NEG | r1 | Neg
+c0 _ _ _ b0 | #DEC_8 | b0 | Dec
+c0 _ c1 c2 c3 b0 | #INC | b0 | -
+s0 | #NOT | s0 | Not
+w0 | #BSWAP | w1 | Bswap
+h0 | #BSWAP | h1 | -
+s0 | #BSWAP | s0 | -
+r0 | #LEA | r1 8 * 4 + | Lea
+r0 | #LEA | r1 r2 + r3 + | -
+w0 | #LEA | r1 | -
+c0 _ c1 c2 c3 | #CMP | s0 5 | Cmp
+c0 _ c1 c2 c3 | #TEST_8 | b0 b1 | Test
+c0 _ c1 c2 c3 | #CMP | r0 s0 | -
+c0 _ c1 c2 c3 | #TEST_7 | b0 b1 | -
+c0 _ c1 c2 c3 r0 | #SHL | r1 3 | Shl
+c0 _ c1 c2 c3 r0 | #SAR | r1 b0 63 & | Sar
+c0 _ c1 c2 c3 r0 | #SHR | r1 b0 | -
+c0 _ r0 | #ROL | r1 3 | Rol
+c0 _ c1 c2 c3 r0 | #ROR | r1 3 | -
+c0 _ c1 c2 c3 r0 | #IMUL | r1 5 | Imul
+c0 _ c1 c2 c3 b0 | #IMUL | b1 b2 | -
+c0 _ c1 c2 c3 r0 _ | #MUL | r1 r2 | Mul
+c0 _ c1 c2 c3 b0 b1 | #MUL | b1 b2 | -
+c0 _ c1 c2 c3 r0 r1 | #DIV | r2 r3 s0 | Div
+c0 _ c1 c2 c3 r0 r1 | #DIV | r0 r3 s0 | -
+c0 _ c1 c2 c3 r0 r1 | #DIV | r2 r3 r1 | -
+b0 | #SETcc | r1 5 == | Setcc
+z0 | #SETcc | c0 not | Setcc
+r0 | #SETcc | c0 | -
+b0 | #SETcc | true | -
+";
+
+fn row_is(rt: &impl Abort, alloc: Global, line: &str) -> Result<(), AllocError> {
+    let columns: Vec<&str> = line.split(" | ").collect(alloc)?;
+    let [to, sign, from, wanted] = columns.as_slice() else {
+        panic!(rt; "no row: {line}")
+    };
+    let found = told(alloc, assignment(rt, alloc, (to, sign, from), None)?)?;
+    assert!(rt; found.as_str() == *wanted, "{line}");
+    Ok(())
+}
 
 #[test]
 fn rows(rt: HostRuntime) -> Result<(), Fail> {
-    let alloc = rt.alloc();
-    for (to, sign, from, row) in ROWS {
-        let wanted = if row == NONE {
-            None
-        } else {
-            Some(Pattern::P(row))
-        };
-        assert_eq!(rt; assignment(&rt, alloc, (to, sign, from), None)?, wanted);
+    for line in ROWS.lines() {
+        row_is(&rt, rt.alloc(), line)?;
     }
     Ok(())
 }
 
-// `r0 = FROM if COND`, and whether it has an instruction; and whether the condition is one of an `if`.
-const CONDITIONS: [(&str, &str, bool, bool); 12] = [
-    ("r1", "r2 r3 <", true, true),
-    ("s0", "s1 5 <s", true, true),
-    ("r1", "s0 s1 ==", false, false),
-    ("r1", "5 r2 <", false, false),
-    ("r1", "c0", true, true),
-    ("r1", "c0 not not", true, true),
-    ("r1", "i0 5 <", false, true),
-    ("r1", "true", false, true),
-    ("r1", "i0 i1 && not", false, true),
-    ("5", "c0", false, true),
-    ("r1 r2 +", "c0", false, true),
-    ("r1", "r2", false, false),
-];
+// FROM, COND, what `r0 = FROM if COND` is, and what the condition of an `if` is.
+const CONDITIONS: &str = "\
+r1 | r2 r3 < | 14 | condition
+s0 | s1 5 <s | 14 | condition
+r1 | s0 s1 == | - | -
+r1 | 5 r2 < | - | -
+r1 | c0 | 14 | condition
+r1 | c0 not not | 14 | condition
+r1 | i0 5 < | - | condition
+r1 | true | - | condition
+r1 | i0 i1 && not | - | condition
+5 | c0 | - | condition
+r1 r2 + | c0 | - | condition
+r1 | r2 | - | -
+";
+
+fn condition_is(rt: &impl Abort, alloc: Global, line: &str) -> Result<(), AllocError> {
+    let columns: Vec<&str> = line.split(" | ").collect(alloc)?;
+    let [from, cond, moves, tests] = columns.as_slice() else {
+        panic!(rt; "no row: {line}")
+    };
+    let c = pop(rt, &mut exprs(rt, alloc, cond)?);
+    let found = told(alloc, assignment(rt, alloc, ("r0", "=", from), Some(c))?)?;
+    assert!(rt; found.as_str() == *moves, "{line}");
+    let c = pop(rt, &mut exprs(rt, alloc, cond)?);
+    let kind = StmtKind::If(c, Seq::new(alloc), Seq::new(alloc));
+    let found = told(alloc, selected(alloc, kind))?;
+    assert!(rt; found.as_str() == *tests, "{line}");
+    Ok(())
+}
 
 #[test]
 fn conditions(rt: HostRuntime) -> Result<(), Fail> {
-    let alloc = rt.alloc();
-    for (from, cond, moves, tests) in CONDITIONS {
-        let wanted = if moves { Some(Pattern::P(14)) } else { None };
-        let c = pop(&rt, &mut exprs(&rt, alloc, cond)?);
-        assert_eq!(rt; assignment(&rt, alloc, ("r0", "=", from), Some(c))?, wanted);
-        let c = pop(&rt, &mut exprs(&rt, alloc, cond)?);
-        let wanted = if tests {
-            Some(Pattern::Condition)
-        } else {
-            None
-        };
-        let kind = StmtKind::If(c, Seq::new(alloc), Seq::new(alloc));
-        assert_eq!(rt; selected(alloc, kind), wanted);
+    for line in CONDITIONS.lines() {
+        condition_is(&rt, rt.alloc(), line)?;
     }
     Ok(())
 }
 
-// Results, an intrinsic and its operands, and which it is.
-const INTRINSICS: [(&str, &str, &str, Option<Intrinsic>); 37] = [
-    ("c0 _ c1 c2 c3 r0", "#ADD", "r1 s0", Some(Intrinsic::Add)),
-    ("c0 _ c1 c2 c3 s0", "#ADD", "s1 r1", None),
-    ("c0 r0", "#ADD", "r1 s0", None),
-    ("c0 _ c1 c2 c3 r0", "#SUB_64", "r1 r0", None),
-    ("c0 _ c1 c2 c3 r0", "#XOR", "r1 r0", Some(Intrinsic::Xor)),
-    ("c0 _ c1 c2 c3 r0", "#ADC", "r1 r2 c0", Some(Intrinsic::Adc)),
-    ("c0 _ c1 c2 c3 r0", "#SBB", "r1 r2 r3", None),
-    ("c0 _ c1 c2 c3 r0", "#NEG", "r1", Some(Intrinsic::Neg)),
-    ("c0 _ _ _ b0", "#DEC_8", "b0", Some(Intrinsic::Dec)),
-    ("c0 _ c1 c2 c3 b0", "#INC", "b0", None),
-    ("s0", "#NOT", "s0", Some(Intrinsic::Not)),
-    ("w0", "#BSWAP", "w1", Some(Intrinsic::Bswap)),
-    ("h0", "#BSWAP", "h1", None),
-    ("s0", "#BSWAP", "s0", None),
-    ("r0", "#LEA", "r1 8 * 4 +", Some(Intrinsic::Lea)),
-    ("r0", "#LEA", "r1 r2 + r3 +", None),
-    ("w0", "#LEA", "r1", None),
-    ("c0 _ c1 c2 c3", "#CMP", "s0 5", Some(Intrinsic::Cmp)),
-    ("c0 _ c1 c2 c3", "#TEST_8", "b0 b1", Some(Intrinsic::Test)),
-    ("c0 _ c1 c2 c3", "#CMP", "r0 s0", None),
-    ("c0 _ c1 c2 c3", "#TEST_7", "b0 b1", None),
-    ("c0 _ c1 c2 c3 r0", "#SHL", "r1 3", Some(Intrinsic::Shl)),
-    (
-        "c0 _ c1 c2 c3 r0",
-        "#SAR",
-        "r1 b0 63 &",
-        Some(Intrinsic::Sar),
-    ),
-    ("c0 _ c1 c2 c3 r0", "#SHR", "r1 b0", None),
-    ("c0 _ r0", "#ROL", "r1 3", Some(Intrinsic::Rol)),
-    ("c0 _ c1 c2 c3 r0", "#ROR", "r1 3", None),
-    ("c0 _ c1 c2 c3 r0", "#IMUL", "r1 5", Some(Intrinsic::Imul)),
-    ("c0 _ c1 c2 c3 b0", "#IMUL", "b1 b2", None),
-    ("c0 _ c1 c2 c3 r0 _", "#MUL", "r1 r2", Some(Intrinsic::Mul)),
-    ("c0 _ c1 c2 c3 b0 b1", "#MUL", "b1 b2", None),
-    (
-        "c0 _ c1 c2 c3 r0 r1",
-        "#DIV",
-        "r2 r3 s0",
-        Some(Intrinsic::Div),
-    ),
-    ("c0 _ c1 c2 c3 r0 r1", "#DIV", "r0 r3 s0", None),
-    ("c0 _ c1 c2 c3 r0 r1", "#DIV", "r2 r3 r1", None),
-    ("b0", "#SETcc", "r1 5 ==", Some(Intrinsic::Setcc)),
-    ("z0", "#SETcc", "c0 not", Some(Intrinsic::Setcc)),
-    ("r0", "#SETcc", "c0", None),
-    ("b0", "#SETcc", "true", None),
-];
-
+// Numbers, and the immediates that instructions of a size have for them.
 #[test]
-fn intrinsics(rt: HostRuntime) -> Result<(), Fail> {
-    let alloc = rt.alloc();
-    for (to, sign, from, name) in INTRINSICS {
-        let wanted = match name {
-            Some(name) => Some(Pattern::Intrinsic(name)),
-            None => None,
-        };
-        assert_eq!(rt; assignment(&rt, alloc, (to, sign, from), None)?, wanted);
+fn immediates(rt: HostRuntime) {
+    let rows = [
+        (Size::S64, (1 << 31) - 1, Some(i32::MAX)),
+        (Size::S64, 1 << 31, None),
+        (Size::S64, -(1 << 31), Some(i32::MIN)),
+        (Size::S64, -(1 << 31) - 1, None),
+        (Size::S64, (1 << 64) - 1, Some(-1)),
+        (Size::S64, (1 << 64) - (1 << 31), Some(i32::MIN)),
+        (Size::S64, (1 << 64) - (1 << 31) - 1, None),
+        (Size::S64, 1 << 64, Some(0)),
+        (Size::S32, (1 << 31) - 1, Some(i32::MAX)),
+        (Size::S32, 1 << 31, Some(i32::MIN)),
+        (Size::S32, -(1 << 31) - 1, Some(i32::MAX)),
+        (Size::S32, (1 << 32) - 1, Some(-1)),
+        (Size::S32, 1 << 32, Some(0)),
+        (Size::S16, (1 << 15) - 1, Some(32_767)),
+        (Size::S16, 1 << 15, Some(-32_768)),
+        (Size::S16, (1 << 64) - (1 << 31), Some(0)),
+        (Size::S8, 127, Some(127)),
+        (Size::S8, 128, Some(-128)),
+        (Size::S8, -129, Some(127)),
+        (Size::S8, (1 << 64) - 1, Some(-1)),
+    ];
+    for (size, number, wanted) in rows {
+        assert_eq!(rt; immediate(size, number), wanted, "{size:?} {number}");
     }
-    Ok(())
 }
 
 const LENGTH: u32 = 500_000;

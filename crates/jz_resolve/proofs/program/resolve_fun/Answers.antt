@@ -7,4 +7,4 @@ use Rattle.jz_resolve.proofs.program.resolve_fun.Goals as goal
 pub returns : goal.returns
 returns c =
     let made : List Stmt → List Var → Fun = λ b r. record c.args.fun { body = b; result = r }
-    in ap₂ made c.in_ok-resolve_parts.ensures.body c.in_ok-resolve_parts.ensures.returned
+    in ap₂ made c.in_ok-body.ensures.body c.in_ok-body.ensures.returned
