@@ -17,8 +17,8 @@ returns-in-Some-clause-fault c =
     MatchOption-at_some (IsTyped p) (IsFirstTypeFault p) c.in-Some.fault c.in-Some.is
     (judged c.args.program c.in_ok-program.program c.in_ok-text.text c.in_ok-declared.declared c.first_told-told.result c.in_ok-program.ensures c.in_ok-text.ensures c.in_ok-declared.ensures (c.first_told-told.ensures ∙ ap first_told c.places.ensures))
 
-pub prove-unreachable-requires : goal.prove-unreachable-requires
-prove-unreachable-requires c =
+pub unreachable-requires : goal.unreachable-requires
+unreachable-requires c =
     let p = c.args.program in
     let typed : IsTyped p = MatchOption-at_none (IsTyped p) (IsFirstTypeFault p) c.in-None.is
     (judged c.args.program c.in_ok-program.program c.in_ok-text.text c.in_ok-declared.declared c.first_told-told.result c.in_ok-program.ensures c.in_ok-text.ensures c.in_ok-declared.ensures (c.first_told-told.ensures ∙ ap first_told c.places.ensures)) in
