@@ -15,6 +15,3 @@ pub use inline::inline_value;
 pub use laws::{a_quotient_and_its_remainder, exact, settled_by_the_left};
 pub use lookup::{NoNumbers, Numbers};
 pub use written::written_number;
-
-#[cfg(test)]
-mod tests;

@@ -5,8 +5,6 @@ mod memory;
 mod sink;
 mod source;
 mod span;
-#[cfg(test)]
-mod tests;
 mod verdict;
 
 use jz_data::Seq;

@@ -1,12 +1,12 @@
 //! Memory as a finite map from addresses to bytes, kept in segments.
 
-ghost use Rattle.std.specs.Prelude.{◌≡◌, ℕ, ◌+◌, ◌<◌, ◌≤◌, ◌^◌, ◌*◌, length, true, IfSome, OnOk, OnErr, is_some, if◌then◌else◌, None};
+ghost use Rattle.std.specs.Prelude.{◌≡◌, ℕ, ◌+◌, ◌<◌, ◌≤◌, ◌^◌, ◌*◌, length, true, IfOk, IfSome, OnOk, OnErr, is_some, if◌then◌else◌, None};
 ghost use Rattle.std.specs.FinMap as map;
 ghost use Rattle.jz_words.specs.Sizes.{bytes_of, modulus};
 ghost use Rattle.jz_words.specs.Memory.{loaded, all_valid, stored};
 ghost use Rattle.jz_leak.specs.MemoryMap.{AddsBytes};
 
-use crate::segment::{Segment, index_of, read_at, set_byte};
+use crate::segment::{Segment, copied, index_of, read_at, set_byte};
 use jz_data::Seq;
 use jz_words::Size;
 use std::alloc::{AllocError, Global};
@@ -42,6 +42,14 @@ impl MemMap {
             alloc,
             segments: Vec::new(alloc),
         }
+    }
+
+    /// The same bytes at the same addresses.
+    pub fn copy(&self, alloc: Global) -> Result<MemMap, AllocError>
+        ensures { IfOk result (λ copy. copy ≡ self.now) }
+    {
+        let segments = copied(alloc, self.segments.as_slice())?;
+        Ok(MemMap { alloc, segments })
     }
 
     /// Adds bytes from an address on, all of them new; those at or past 2^64 are dropped.

@@ -1,16 +1,32 @@
 //! Bytes at consecutive addresses.
 
-ghost use Rattle.std.specs.Prelude.{◌≡◌, ◌+◌, ◌-◌, ◌<◌, ◌≤◌, ℕ, [], Some, IfSome, IfNone, is_some, length, slice_get, slice_set};
+ghost use Rattle.std.specs.Prelude.{◌≡◌, ◌+◌, ◌-◌, ◌<◌, ◌≤◌, ℕ, [], Some, IfOk, IfSome, IfNone, is_some, length, slice_get, slice_set};
 ghost use Rattle.jz_leak.specs.MemoryMap.{byte_from};
 ghost use Rattle.jz_leak.specs.MemoryMapSegments.{byte_of, read_at, index_of, with_byte};
 
 use jz_data::Seq;
+use std::alloc::{AllocError, Global};
 
 /// Bytes from an address on.
 #[derive(Drop)]
 pub struct Segment {
     pub start: u64,
     pub bytes: Seq<u8>,
+}
+
+/// The same segments.
+pub fn copied(alloc: Global, segments: &[Segment]) -> Result<Vec<Segment>, AllocError>
+    ensures { IfOk result (λ copies. copies.items ≡ segments.now) }
+{
+    let mut copies = Vec::new(alloc);
+    for segment in segments {
+        let bytes = Seq::from_slice(alloc, segment.bytes.as_slice())?;
+        copies.push(Segment {
+            start: segment.start,
+            bytes,
+        })?;
+    }
+    Ok(copies)
 }
 
 /// The byte at an address.

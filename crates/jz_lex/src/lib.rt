@@ -10,8 +10,6 @@ mod number;
 mod sign;
 mod string;
 mod table;
-#[cfg(test)]
-mod tests;
 mod text;
 mod token;
 

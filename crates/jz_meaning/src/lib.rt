@@ -2,15 +2,11 @@
 #![tactic(auto)]
 
 mod access;
-#[cfg(test)]
-mod evaluate_tests;
 mod evaluating;
 mod laws;
 mod left;
 mod operators;
 mod store;
-#[cfg(test)]
-mod tests;
 mod value;
 
 pub use access::{Kind, cell, index, kind_of, load, size_of, variable, write};

@@ -5,12 +5,6 @@ mod declare;
 mod function;
 mod program;
 mod read;
-#[cfg(test)]
-mod tests;
-#[cfg(test)]
-mod tree_tests;
-#[cfg(test)]
-mod worked_tests;
 
 pub use jz_cursor::{SyntaxFault, SyntaxKind};
 pub use read::{

@@ -15,6 +15,3 @@ mod shaping;
 pub use immediates::immediate;
 pub use pattern::Pattern;
 pub use selecting::{one_row, select, select_copy};
-
-#[cfg(test)]
-mod tests;

@@ -6,8 +6,6 @@ mod fault;
 mod laws;
 mod lengths;
 mod rows;
-#[cfg(test)]
-mod tests;
 mod typed;
 
 pub use checking::check;

@@ -3,8 +3,6 @@
 
 mod operations;
 mod size;
-#[cfg(test)]
-mod tests;
 mod word;
 
 pub use operations::{

@@ -6,15 +6,9 @@ ghost use Rattle.x64_insn.specs.declared.types.Insn.{Insn};
 ghost use Rattle.x64_insn.specs.Encoding.{Decodes, IsBeginning, Spells};
 ghost use Rattle.x64_decode.specs.Decoding.{decoded_of};
 
-#[cfg(test)]
-mod address_tests;
 mod meaning;
 mod numbers;
 mod reading;
-#[cfg(test)]
-mod refusal_tests;
-#[cfg(test)]
-mod tests;
 
 use reading::{Stop, read_fields};
 use x64_insn::Insn;

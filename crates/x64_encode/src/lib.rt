@@ -7,17 +7,11 @@ ghost use Rattle.x64_insn.specs.Encoding.{HasSpelling, Spells};
 ghost use Rattle.x64_insn.specs.Chosen.{chosen_bytes, is_spelled};
 ghost use Rattle.x64_decode.specs.Decoding.{decoded_of};
 
-#[cfg(test)]
-mod address_tests;
 mod choice;
 mod code;
 mod fields;
 mod numbers;
-#[cfg(test)]
-mod refusal_tests;
 mod spelled;
-#[cfg(test)]
-mod tests;
 
 pub use code::Code15;
 use x64_decode::Decoded;

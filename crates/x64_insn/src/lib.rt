@@ -14,8 +14,6 @@ mod products;
 mod results;
 mod shifts;
 pub mod table;
-#[cfg(test)]
-mod tests;
 mod types;
 
 pub use answer::{Answer, alu_answer, one_answer};

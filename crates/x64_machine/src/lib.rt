@@ -5,12 +5,6 @@ mod bus;
 mod laws;
 mod machine;
 mod step;
-#[cfg(test)]
-mod table_rows;
-#[cfg(test)]
-mod table_tests;
-#[cfg(test)]
-mod tests;
 
 pub use bus::MemBus;
 pub use laws::{a_fault_changes_nothing, an_end_stays, steps_after_steps, the_entry_stays};

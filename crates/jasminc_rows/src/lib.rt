@@ -1,0 +1,20 @@
+//! Tests of the call over all stages, and of the stages of the first language, by texts. They stand apart from what they test,
+//! since a crate with tests is proved twice.
+#![tactic(auto)]
+
+#[cfg(test)]
+mod back_tests;
+#[cfg(test)]
+mod call_tests;
+#[cfg(test)]
+mod front_tests;
+#[cfg(test)]
+mod language_tests;
+#[cfg(test)]
+mod live_tests;
+#[cfg(test)]
+mod placing_tests;
+#[cfg(test)]
+mod refusal_tests;
+#[cfg(test)]
+mod tests;

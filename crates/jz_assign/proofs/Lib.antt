@@ -1,0 +1,3 @@
+pub mod LastLeft
+pub mod RightValues
+pub mod Writing

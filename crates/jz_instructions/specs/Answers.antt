@@ -1,0 +1,15 @@
+-- What the code answers, without what it keeps of words.
+use Rattle.std.specs.Prelude.{ℕ, [], Result, Ok, Err}
+use Rattle.jz_words.specs.declared.word.Word.{Word}
+use Rattle.jz_runs.specs.Rules.{went}
+use Rattle.jz_meaning.specs.declared.value.Stuck.{Stuck}
+use Rattle.jz_meaning.specs.Attempts.{Evaluation, and_then}
+
+-- the bits of two words
+abbrev pub both_bits : Result (Word × Word) Stuck → Result (ℕ × ℕ) Stuck
+both_bits (Ok p) = Ok (p.0.bits, p.1.bits)
+both_bits (Err k) = Err k
+
+-- one operand, and then another
+abbrev pub both : Evaluation ℕ → Evaluation ℕ → Evaluation (ℕ × ℕ)
+both g h = and_then g (λ x. and_then h (λ y. went [] (x, y)))

@@ -1,0 +1,10 @@
+pub mod Arguments
+pub mod Counting
+pub mod Falls
+pub mod Lists
+pub mod Pieces
+pub mod Rules
+pub mod Starts
+pub mod Steps
+pub mod Taken
+pub mod Weights

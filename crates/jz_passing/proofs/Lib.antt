@@ -1,0 +1,4 @@
+pub mod GivenLemmas
+pub mod RestLemmas
+pub mod StepLemmas
+pub mod ValueLemmas
