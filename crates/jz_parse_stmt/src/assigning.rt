@@ -305,7 +305,7 @@ fn assign(alloc: Global, c: &mut Cursor, depth: u32) -> Result<(Span, StmtKind),
 {
     let first = lval(alloc, c, depth)?;
     let span = span_of_lval(&first);
-    let mut begun = Seq::new(alloc);
+    let mut begun = Seq::from_vec(Vec::with_capacity(alloc, 1)?);
     begun.push(first)?;
     let to = lvals_more(alloc, c, depth, begun)?;
     let op = operation(c)?;
