@@ -3,3 +3,4 @@ pub mod Layers
 pub mod Naming
 pub mod Growing
 pub mod Spans
+pub mod InPlace

@@ -1,5 +1,5 @@
 -- What the tables of a function and of the constants say is what is declared.
-use Rattle.std.proofs.Common.{◌≡◌, ℕ, List, Option, Some, None, ap}
+use Rattle.std.proofs.Common.{◌≡◌, ℕ, List, Option, None, ap}
 use Rattle.std.proofs.Math.Path.{fun_ext}
 use Rattle.std.specs.Prelude.{if◌then◌else◌, is_none, option_map, option_and_then, ◌&&◌}
 use Rattle.jz_tree.specs.declared.expr.Var.{Var}

@@ -1,5 +1,5 @@
 //! Expressions whose variables have their declarations, and whose constants are numbers.
-ghost use Rattle.std.specs.Prelude.{◌≡◌, IfOk};
+ghost use Rattle.std.specs.Prelude.{◌≡◌, IfOk, OnOk};
 ghost use Rattle.jz_scopes.specs.Scopes.{name_of};
 ghost use Rattle.jz_resolve.specs.Resolving.{resolved_expr, resolved_var, resolved_access, number_or};
 ghost use Rattle.jz_resolve.specs.Sides.{on_left};
@@ -46,8 +46,7 @@ impl Side {
     }
 }
 
-/// The variable with what is declared of its name.
-pub fn resolve_var<L: Lookup>(alloc: Global, names: &L, var: &Var) -> Result<Var, AllocError>
+fn resolve_var<L: Lookup>(alloc: Global, names: &L, var: &Var) -> Result<Var, AllocError>
     ensures { IfOk result (λ r. r ≡ resolved_var (L.declaration names.now) (L.number names.now) var.now) }
 {
     let decl = names.declared(alloc, &var.name)?;
@@ -58,6 +57,19 @@ pub fn resolve_var<L: Lookup>(alloc: Global, names: &L, var: &Var) -> Result<Var
         decl,
         span: var.span,
     })
+}
+
+/// Gives the variable what is declared of its name.
+pub(crate) fn declare_var<L: Lookup>(
+    alloc: Global,
+    names: &L,
+    var: &mut Var,
+) -> Result<(), AllocError>
+    ensures { OnOk result (var.new ≡ resolved_var (L.declaration names.now) (L.number names.now) var.old) }
+{
+    let decl = names.declared(alloc, &var.name)?;
+    var.decl = decl;
+    Ok(())
 }
 
 fn resolve_name<L: Lookup>(alloc: Global, names: &L, var: &Var) -> Result<Expr, AllocError>
@@ -74,7 +86,11 @@ fn resolve_name<L: Lookup>(alloc: Global, names: &L, var: &Var) -> Result<Expr, 
 
 /// The expression with the declarations of its variables, also one whose left side is as long as memory lets it be.
 #[cycle(resolve)]
-pub fn resolve_expr<L: Lookup>(alloc: Global, names: &L, e: &Expr) -> Result<Expr, AllocError>
+pub(crate) fn resolve_expr<L: Lookup>(
+    alloc: Global,
+    names: &L,
+    e: &Expr,
+) -> Result<Expr, AllocError>
     ensures { IfOk result (λ r. r ≡ resolved_expr (L.declaration names.now) (L.number names.now) e.now) }
 {
     let side = resolve_side(alloc, names, e)?;
@@ -146,7 +162,7 @@ fn resolve_single<L: Lookup>(alloc: Global, names: &L, e: &Expr) -> Result<Expr,
 
 /// The access with the declarations of the variables in its address.
 #[cycle(resolve)]
-pub fn resolve_access<L: Lookup>(
+pub(crate) fn resolve_access<L: Lookup>(
     alloc: Global,
     names: &L,
     access: &Access,
@@ -159,4 +175,30 @@ pub fn resolve_access<L: Lookup>(
         unaligned: access.unaligned,
         span: access.span,
     })
+}
+
+/// Resolves the expression where it stands. A number stays, a variable that is no constant gets its declaration, and anything
+/// else is made anew.
+pub(crate) fn replace_expr<L: Lookup>(
+    alloc: Global,
+    names: &L,
+    e: &mut Expr,
+) -> Result<(), AllocError>
+    ensures { OnOk result (e.new ≡ resolved_expr (L.declaration names.now) (L.number names.now) e.old) }
+{
+    if let Expr::Num(_, _) = e {
+        return Ok(());
+    }
+    if let Expr::Var(var) = e {
+        match names.constant(&var.name, var.span) {
+            None => {
+                declare_var(alloc, names, var)?;
+                return Ok(());
+            }
+            Some(_) => {}
+        }
+    }
+    let resolved = resolve_expr(alloc, names, e)?;
+    *e = resolved;
+    Ok(())
 }

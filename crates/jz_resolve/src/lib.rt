@@ -9,9 +9,6 @@ mod scope;
 mod statements;
 mod table;
 
-pub use expressions::{resolve_access, resolve_expr, resolve_var};
 pub use laws::{expression_stays, functions_stay, statement_stays};
-pub use lookup::Lookup;
 pub use program::resolve;
-pub use statements::{resolve_block, resolve_vars};
 pub use table::{ConstantTable, constants};

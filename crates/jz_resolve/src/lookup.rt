@@ -9,7 +9,7 @@ use jz_tree::Decl;
 use std::alloc::{AllocError, Global};
 
 /// What knows the names that stand in an expression.
-pub trait Lookup {
+pub(crate) trait Lookup {
     /// What is declared of each name.
     ghost declaration: { Self → List ℕ → Option Decl };
     /// The number of each name where it stands, if it is that of a constant.

@@ -1,7 +1,9 @@
 //! Programs whose variables have their declarations, whose lengths and constants are numbers.
-ghost use Rattle.std.specs.Prelude.{◌≡◌, IfOk, [], map, option_map};
+ghost use Rattle.std.specs.Prelude.{◌≡◌, IfOk, OnOk, [], map, option_map};
 ghost use Rattle.jz_resolve.specs.Programs.{counted, counted_ty, counted_decl, counted_var, counted_param, counted_ret, counted_fun, resolved_fun, resolved_whole, resolved_const, resolved};
-ghost use Rattle.jz_resolve.specs.Numbering.{value_with};
+ghost use Rattle.jz_resolve.specs.Numbering.{value_with, declaration_in, number_in};
+ghost use Rattle.jz_resolve.specs.Resolving.{resolved_stmt, resolved_var};
+ghost use Rattle.jz_scopes.specs.Scopes.{variables_of};
 ghost use Rattle.jz_resolve.specs.Tables.{values_in, places_in, IsScope};
 
 use crate::expressions::resolve_expr;
@@ -165,25 +167,26 @@ fn count_fun(alloc: Global, constants: &ConstantTable, fun: Fun) -> Result<Fun, 
     })
 }
 
-/// The statements of a function, and the variables that it returns.
+/// Resolves the statements and the results of the function that has this head.
 fn resolve_parts(
     alloc: Global,
     constants: &ConstantTable,
-    fun: &Fun,
-) -> Result<(Seq<Stmt>, Seq<Var>), AllocError>
-    ensures body { IfOk result (λ r. r.0 ≡ (resolved_fun (places_in constants.now) (values_in constants.now) fun.now).body) }
-    ensures returned { IfOk result (λ r. r.1 ≡ (resolved_fun (places_in constants.now) (values_in constants.now) fun.now).result) }
+    head: &Fun,
+    body: &mut Seq<Stmt>,
+    returned: &mut Seq<Var>,
+) -> Result<(), AllocError>
+    ensures body { OnOk result (body.new ≡ map (resolved_stmt (declaration_in (places_in constants.now) (variables_of head.now)) (number_in (places_in constants.now) (values_in constants.now) (variables_of head.now))) body.old) }
+    ensures returned { OnOk result (returned.new ≡ map (resolved_var (declaration_in (places_in constants.now) (variables_of head.now)) (number_in (places_in constants.now) (values_in constants.now) (variables_of head.now))) returned.old) }
 {
-    let scope = Scope::of(alloc, constants, fun)?;
-    let body = resolve_block(alloc, &scope, &fun.body)?;
-    let returned = resolve_vars(alloc, &scope, &fun.result)?;
-    Ok((body, returned))
+    let scope = Scope::of(alloc, constants, head)?;
+    resolve_block(alloc, &scope, body)?;
+    resolve_vars(alloc, &scope, returned)?;
+    Ok(())
 }
 
 fn resolve_fun(alloc: Global, constants: &ConstantTable, fun: Fun) -> Result<Fun, AllocError>
     ensures { IfOk result (λ r. r ≡ resolved_fun (places_in constants.now) (values_in constants.now) fun) }
 {
-    let (body, result) = resolve_parts(alloc, constants, &fun)?;
     let Fun {
         notes,
         kind,
@@ -192,10 +195,10 @@ fn resolve_fun(alloc: Global, constants: &ConstantTable, fun: Fun) -> Result<Fun
         params,
         rets,
         vars,
-        body: _,
-        result: _,
+        mut body,
+        mut result,
     } = fun;
-    Ok(Fun {
+    let mut head = Fun {
         notes,
         kind,
         name,
@@ -203,9 +206,13 @@ fn resolve_fun(alloc: Global, constants: &ConstantTable, fun: Fun) -> Result<Fun
         params,
         rets,
         vars,
-        body,
-        result,
-    })
+        body: Seq::new(alloc),
+        result: Seq::new(alloc),
+    };
+    resolve_parts(alloc, constants, &head, &mut body, &mut result)?;
+    head.body = body;
+    head.result = result;
+    Ok(head)
 }
 
 fn resolve_whole(alloc: Global, constants: &ConstantTable, fun: Fun) -> Result<Fun, AllocError>
