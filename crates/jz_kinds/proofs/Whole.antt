@@ -1,18 +1,24 @@
--- The earliest wrong place of a program, part by part.
-use Rattle.std.proofs.Common.{◌≡◌, ℕ, List, ◌++◌, Option, flat_map, ap, ap₂, ◌∙◌}
-use Rattle.std.specs.Prelude.{ℤ}
+-- The earliest wrong place of a function and of a program, part by part.
+use Rattle.std.proofs.Common.{◌≡◌, ℕ, List, [], ◌∷◌, ◌++◌, Bool, true, false, Option, None, map, flat_map, refl, sym, ap, ap₂, ◌∙◌}
+use Rattle.std.specs.Prelude.{ℤ, ◌||◌}
 use Rattle.jz_io.specs.declared.span.Span.{Span}
 use Rattle.jz_tree.specs.declared.expr.Expr.{Expr}
 use Rattle.jz_tree.specs.declared.expr.Decl.{Decl}
 use Rattle.jz_tree.specs.declared.program.Fun.{Fun}
 use Rattle.jz_tree.specs.declared.program.Program.{Program}
+use Rattle.jz_scopes.specs.declared.tables.Places.{Places}
+use Rattle.jz_scopes.specs.declared.tables.Functions.{Functions}
 use Rattle.jz_scopes.specs.Order.{earlier, earliest, first_in}
-use Rattle.jz_scopes.specs.Scopes.{constant_place, variable_place}
+use Rattle.jz_scopes.specs.Parts.{lengths_in}
+use Rattle.jz_scopes.specs.Scopes.{variable_place}
+use Rattle.jz_scopes.specs.Tables.{IsPlaces, IsFunctions, place_in, function_in}
 use Rattle.jz_scopes.specs.Names.{decls_of}
 use Rattle.jz_scopes.proofs.Earliest.{first_over, both_earliest}
-use Rattle.jz_kinds.specs.Lengths.{decl_wrong, is_apart, fun_lengths}
-use Rattle.jz_kinds.specs.Mismatches.{Named, among, body_wrong, constant_wrong, mismatched_as_read, mismatched_declared}
+use Rattle.jz_scopes.proofs.UnknownLaws.{constants_are, functions_are}
+use Rattle.jz_kinds.specs.Lengths.{length_wrong, decl_wrong, is_apart, fun_lengths, has_some, is_array, declares_array}
+use Rattle.jz_kinds.specs.Mismatches.{body_wrong, constant_wrong, mismatched_as_read, mismatched_declared}
 
+-- ---- the lengths of a function's arrays
 -- declarations and variables are as the code has found them
 pub lengths_are : (constants variables : List ℕ → Option Span) (length_of : Expr → Option ℤ) (f : Fun) (ds : List Decl) (r : Option Span)
     → ds ≡ decls_of f → variables ≡ variable_place f → r ≡ first_in (decl_wrong (is_apart constants variables) length_of) ds → r ≡ earliest (fun_lengths constants length_of f)
@@ -20,13 +26,37 @@ unfolding fun_lengths
 lengths_are constants variables length_of f ds r d e h =
     h ∙ (first_over (decl_wrong (is_apart constants variables) length_of) ds ∙ ap₂ (λ vs ds. earliest (flat_map (decl_wrong (is_apart constants vs) length_of) ds)) e d)
 
-pub as_read : (p : Program) (length_of : Expr → Option ℤ) (constants : List ℕ → Option Span) (a b : Option Span)
-    → constants ≡ constant_place p.consts → a ≡ first_in constant_wrong p.consts → b ≡ first_in (fun_lengths constants length_of) p.funs
-    → earlier a b ≡ earliest (mismatched_as_read length_of p)
-as_read p length_of constants a b e h k =
-    both_earliest (flat_map constant_wrong p.consts) (flat_map (fun_lengths constants length_of) p.funs) a b
-    (h ∙ first_over constant_wrong p.consts) (k ∙ first_over (fun_lengths constants length_of) p.funs)
-    ∙ ap (λ cs. earliest (flat_map constant_wrong p.consts ++ flat_map (fun_lengths cs length_of) p.funs)) e
+none_of : {A : Type 0} (f : Expr → List A) (es : List Expr) → has_some es ≡ false → flat_map f es ≡ []
+none_of f [] h = refl
+none_of f (e ∷ es) h = cc
 
-pub declared : (q : Program) (named : Named) (c : Option Span) → named ≡ among q.funs → c ≡ first_in (body_wrong named) q.funs → c ≡ earliest (mismatched_declared q)
-declared q named c f l = l ∙ (first_over (body_wrong named) q.funs ∙ ap (λ fs. earliest (flat_map (body_wrong fs) q.funs)) f)
+neither : (a b : Bool) → (a || b) ≡ false → (a ≡ false) × (b ≡ false)
+neither false b h = (refl, h)
+neither true b h = cc
+
+none_wrong : (constant : List ℕ → Bool) (length_of : Expr → Option ℤ) (ds : List Decl) → declares_array ds ≡ false → flat_map (decl_wrong constant length_of) ds ≡ []
+none_wrong constant length_of [] h = refl
+none_wrong constant length_of (d ∷ ds) h =
+    let both = neither (is_array d) (declares_array ds) h
+    in ap₂ (λ a b. a ++ b) (none_of (length_wrong constant length_of) (lengths_in d) both.0) (none_wrong constant length_of ds both.1)
+
+-- where no array is declared
+pub no_lengths : (constants : List ℕ → Option Span) (length_of : Expr → Option ℤ) (f : Fun) (ds : List Decl)
+    → ds ≡ decls_of f → declares_array ds ≡ false → None ≡ earliest (fun_lengths constants length_of f)
+unfolding fun_lengths
+no_lengths constants length_of f ds d h =
+    let wrong : List Decl → List Span = flat_map (decl_wrong (is_apart constants (variable_place f)) length_of)
+    in ap earliest (sym (none_wrong (is_apart constants (variable_place f)) length_of ds h)) ∙ ap (λ ds. earliest (wrong ds)) d
+
+-- ---- a program
+-- constant by constant and function by function, with a table of the constants
+pub as_read_whole : (p : Program) (length_of : Expr → Option ℤ) (constants : Places) → IsPlaces constants (map (λ c. (c.name, c.span)) p.consts)
+    → earlier (first_in constant_wrong p.consts) (first_in (fun_lengths (place_in constants) length_of) p.funs) ≡ earliest (mismatched_as_read length_of p)
+as_read_whole p length_of constants h =
+    both_earliest (flat_map constant_wrong p.consts) (flat_map (fun_lengths (place_in constants) length_of) p.funs) _ _
+    (first_over constant_wrong p.consts) (first_over (fun_lengths (place_in constants) length_of) p.funs)
+    ∙ ap (λ cs. earliest (flat_map constant_wrong p.consts ++ flat_map (fun_lengths cs length_of) p.funs)) (constants_are constants p.consts h)
+
+-- function by function, with a table of the functions
+pub declared_whole : (q : Program) (functions : Functions) → IsFunctions functions q.funs → first_in (body_wrong (function_in functions)) q.funs ≡ earliest (mismatched_declared q)
+declared_whole q functions h = first_over (body_wrong (function_in functions)) q.funs ∙ ap (λ named. earliest (flat_map (body_wrong named) q.funs)) (functions_are functions q.funs h)

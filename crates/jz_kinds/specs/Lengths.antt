@@ -1,5 +1,5 @@
 -- The lengths of arrays.
-use Rattle.std.specs.Prelude.{ℕ, ℤ, pos, Bool, false, ◌&&◌, ◌||◌, nat_le, is_some, is_none, List, ◌++◌, flat_map, Option, Some, None}
+use Rattle.std.specs.Prelude.{ℕ, ℤ, pos, Bool, true, false, ◌&&◌, ◌||◌, nat_le, is_some, is_none, List, [], ◌∷◌, ◌++◌, flat_map, Option, Some, None}
 use Rattle.jz_io.specs.declared.span.Span.{Span}
 use Rattle.jz_tree.specs.declared.expr.Expr.{Expr}
 use Rattle.jz_tree.specs.declared.expr.Decl.{Decl}
@@ -47,3 +47,15 @@ module _ (constant : List ℕ → Bool) where
 -- of a function of a program whose constants are declared there
 unfoldable pub fun_lengths : (List ℕ → Option Span) → (Expr → Option ℤ) → Fun → List Span
 fun_lengths constants length_of f = lengths_wrong (is_apart constants (variable_place f)) length_of f
+
+-- ---- whether there are arrays at all
+abbrev pub has_some : List Expr → Bool
+has_some [] = false
+has_some (e ∷ es) = true
+
+abbrev pub is_array : Decl → Bool
+is_array d = has_some (lengths_in d)
+
+abbrev pub declares_array : List Decl → Bool
+declares_array [] = false
+declares_array (d ∷ ds) = is_array d || declares_array ds

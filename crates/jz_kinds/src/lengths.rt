@@ -6,7 +6,7 @@ ghost use Rattle.jz_scopes.specs.Scopes.{name_of};
 ghost use Rattle.jz_scopes.specs.Parts.{names_in};
 ghost use Rattle.jz_scopes.specs.Lent.{these};
 ghost use Rattle.jz_scopes.specs.Order.{first_in};
-ghost use Rattle.jz_kinds.specs.Lengths.{is_length, no_constant, unbuilt, length_wrong, decl_wrong, is_apart, fun_lengths};
+ghost use Rattle.jz_kinds.specs.Lengths.{is_length, no_constant, unbuilt, length_wrong, decl_wrong, is_apart, is_array, declares_array, fun_lengths};
 ghost use Rattle.jz_scopes.specs.Tables.{place_in};
 
 use crate::walk::fault;
@@ -122,8 +122,29 @@ fn decls_fault<L: Lengths>(
     Ok(first)
 }
 
+fn is_array(decl: &Decl) -> bool
+    ensures { result ≡ is_array decl.now }
+{
+    match length_of(decl) {
+        None => false,
+        Some(_) => true,
+    }
+}
+
+/// Whether one of them is the declaration of an array.
+fn declares_array(decls: &[&Decl]) -> bool
+    ensures { result ≡ declares_array (these decls.now) }
+{
+    for decl in decls {
+        if is_array(decl) {
+            return true;
+        }
+    }
+    false
+}
+
 /// The first length of an array in a function that is no number from 1 to 65,536 built of numbers and constants.
-pub(crate) fn lengths_fault<L: Lengths>(
+pub fn lengths_fault<L: Lengths>(
     alloc: Global,
     lengths: &L,
     constants: &Places,
@@ -131,8 +152,11 @@ pub(crate) fn lengths_fault<L: Lengths>(
 ) -> Result<Option<Span>, AllocError>
     ensures { IfOk result (λ r. r ≡ earliest (fun_lengths (place_in constants.now) (L.length_of lengths.now) fun.now)) }
 {
-    let variables = Places::of_variables(alloc, fun)?;
     let decls = decls_of(alloc, fun)?;
+    if !declares_array(decls.as_slice()) {
+        return Ok(None);
+    }
+    let variables = Places::of_variables(alloc, fun)?;
     let found = decls_fault(alloc, lengths, constants, &variables, decls.as_slice())?;
     Ok(found)
 }

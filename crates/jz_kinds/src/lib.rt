@@ -3,10 +3,10 @@
 
 mod calls;
 mod forms;
+mod functions;
 mod intrinsics;
 mod lengths;
 mod operators;
-mod programs;
 mod sides;
 mod signatures;
 mod statements;
@@ -14,5 +14,5 @@ mod values;
 mod walk;
 mod wants;
 
-pub use lengths::Lengths;
-pub use programs::{mismatches_as_read, mismatches_declared, statement_fault};
+pub use functions::{body_fault, constants_fault, statement_fault};
+pub use lengths::{Lengths, lengths_fault};

@@ -1,24 +1,20 @@
 -- The names that are asked, and the earliest read of one that is unset.
 use mathlib.Core.Path.{fun_ext}
-use Rattle.std.proofs.Common.{◌≡◌, ℕ, zero, suc, ◌+◌, ◌<◌, ◌⊎◌, inl, inr, Bool, true, false, not, ◌&&◌, ◌||◌, List, [], ◌∷◌, ◌++◌, length, map, filter, take, get_or, Option, Some, None, refl, sym, ap, ◌∙◌, subst, arith, cond}
-use Rattle.std.specs.Prelude.{Contains, ◌↔◌, is_some, is_none, IsTrue}
+use Rattle.std.proofs.Common.{◌≡◌, ℕ, Bool, true, false, not, ◌&&◌, ◌||◌, List, [], ◌∷◌, map, filter, Option, Some, None, refl, sym, ap, ◌∙◌, subst, cond}
+use Rattle.std.specs.Prelude.{is_some, is_none, IsTrue}
 use Rattle.std.specs.Str.{bytes_eq}
-use Rattle.std.proofs.lemmas.List.{take_more}
-use Rattle.std.proofs.Math.Seq.{take-length}
-use Rattle.std.proofs.lemmas.List.Elements.{Contains-append_left, Contains-append_right, Contains-append_cases}
 use Rattle.jz_io.specs.declared.span.Span.{Span}
 use Rattle.jz_tree.specs.declared.expr.Var.{Var}
 use Rattle.jz_tree.specs.declared.expr.Expr.TheViews.{out-Var}
 use Rattle.jz_tree.specs.declared.program.Param.{Param}
 use Rattle.jz_tree.specs.declared.program.Fun.{Fun}
-use Rattle.jz_tree.specs.declared.program.Program.{Program}
 use Rattle.jz_scopes.specs.Scopes.{variable_named}
 use Rattle.jz_scopes.specs.Kinds.{known_of, is_inline_int}
-use Rattle.jz_scopes.specs.Order.{earlier, IsEarliest, nowhere}
-use Rattle.jz_paths.specs.Paths.{flow_of_all, has_to_be_set, IsReadUnset, IsReadUnsetIn}
+use Rattle.jz_scopes.specs.Order.{IsEarliest}
+use Rattle.jz_paths.specs.Paths.{flow_of_all, has_to_be_set, IsReadUnset}
 use Rattle.jz_paths.specs.Surely.{Names, none_set, first}
 use Rattle.jz_paths.specs.Walks.{members}
-use Rattle.jz_scopes.proofs.Firsts.{same_wrong, earlier_of_two}
+use Rattle.jz_scopes.proofs.Firsts.{same_wrong}
 use Rattle.jz_paths.proofs.Agree.{Misses, agree}
 use Rattle.jz_paths.proofs.Adding.{filtered, front_member, none_member}
 
@@ -75,42 +71,3 @@ unset_law f asked old r a o e =
     e ∙ (ap (λ s. first asked (flow_of_all f.body) s) none ∙ ap (λ (q : Names). first q (flow_of_all f.body) none_set) a) in
     subst (IsEarliest (IsReadUnset f)) (sym is)
     (same_wrong _ _ (λ at. (to_unset f at, from_unset f at)) _ (agree (has_to_be_set f) (flow_of_all f.body) none_set))
-
--- ---- several functions
-pub record UnsetAmong (fs : List Fun) (at : Span) : Type 0 where
-  pub function : Fun
-  pub among : Contains fs function
-  pub read : IsReadUnset function at
-
-pub unset_none : IsEarliest (UnsetAmong []) None
-unset_none = nowhere (λ at u. omega (arith, u.among.1))
-
-one_is : (f g : Fun) → Contains (f ∷ []) g → f ≡ g
-one_is f g (zero, lt, e) = e
-one_is f g (suc k, lt, e) = absurd (omega (arith, lt))
-
-one_more_to : (fs : List Fun) (f : Fun) (at : Span) → UnsetAmong fs at ⊎ IsReadUnset f at → UnsetAmong (fs ++ f ∷ []) at
-one_more_to fs f at (inl u) = record { function = u.function; among = Contains-append_left fs (f ∷ []) u.function u.among; read = u.read }
-one_more_to fs f at (inr r) = record { function = f; among = Contains-append_right fs (f ∷ []) f (0, omega arith, refl); read = r }
-
-one_more_from : (fs : List Fun) (f : Fun) (at : Span) → UnsetAmong (fs ++ f ∷ []) at → UnsetAmong fs at ⊎ IsReadUnset f at
-one_more_from fs f at u = elim (Contains-append_cases fs (f ∷ []) u.function u.among) [
-  | inl c ↦ inl (record { function = u.function; among = c; read = u.read })
-  | inr c ↦ inr (subst (λ g. IsReadUnset g at) (sym (one_is f u.function c)) u.read)
-]
-
-pub unset_more : (fs : List Fun) (i : ℕ) (f : Fun) (best next r : Option Span) → i < length fs → f ≡ get_or fs i f
-    → IsEarliest (UnsetAmong (take i fs)) best → IsEarliest (IsReadUnset f) r → next ≡ earlier best r → IsEarliest (UnsetAmong (take (i + 1) fs)) next
-unset_more fs i f best next r lt is held read e =
-    let more : take (i + 1) fs ≡ take i fs ++ f ∷ [] = take_more fs i f lt ∙ ap (λ g. take i fs ++ g ∷ []) (sym is) in
-    subst (λ gs. IsEarliest (UnsetAmong gs) next) (sym more)
-    (subst (IsEarliest (UnsetAmong (take i fs ++ f ∷ []))) (sym e)
-    (same_wrong _ _ (λ at. (one_more_to (take i fs) f at, one_more_from (take i fs) f at)) _ (earlier_of_two (UnsetAmong (take i fs)) (IsReadUnset f) best r held read)))
-
-in_program : (p : Program) (at : Span) → UnsetAmong p.funs at ↔ IsReadUnsetIn p at
-in_program p at = (λ u. record { function = u.function; among = u.among; read = u.read }, λ u. record { function = u.function; among = u.among; read = u.read })
-
-pub unset_all : (p : Program) (fs : List Fun) (i : ℕ) (best : Option Span) → fs ≡ p.funs → i ≡ length fs → IsEarliest (UnsetAmong (take i fs)) best → IsEarliest (IsReadUnsetIn p) best
-unset_all p fs i best e n held =
-    let whole : take i fs ≡ p.funs = ap (λ k. take k fs) n ∙ (take-length fs ∙ e) in
-    same_wrong _ _ (in_program p) best (subst (λ gs. IsEarliest (UnsetAmong gs) best) whole held)

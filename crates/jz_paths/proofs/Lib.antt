@@ -5,4 +5,5 @@ pub mod SetFused
 pub mod Walking
 pub mod Adding
 pub mod Asking
+pub mod FunctionLaws
 pub mod Flows

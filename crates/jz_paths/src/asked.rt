@@ -4,7 +4,7 @@ ghost use Rattle.std.specs.Prelude.{◌≡◌, IfOk, map, filter, not};
 ghost use Rattle.jz_tree.specs.declared.expr.Expr.TheViews.{out-Var};
 ghost use Rattle.jz_scopes.specs.Kinds.{is_inline_int, known_of};
 ghost use Rattle.jz_scopes.specs.Order.{IsEarliest};
-ghost use Rattle.jz_paths.specs.Paths.{has_to_be_set, IsReadUnset, IsReadUnsetIn};
+ghost use Rattle.jz_paths.specs.Paths.{has_to_be_set, IsReadUnset};
 ghost use Rattle.jz_paths.specs.Walks.{members};
 
 use crate::sets::{add_all, has};
@@ -12,8 +12,8 @@ use crate::walk::walk_all;
 use indexmap::IndexSet;
 use jz_data::Text;
 use jz_io::Span;
-use jz_scopes::{earlier_of, is_inline_int, known};
-use jz_tree::{Fun, Param, Program, Var};
+use jz_scopes::{is_inline_int, known};
+use jz_tree::{Fun, Param, Var};
 use std::alloc::{AllocError, Global};
 
 fn inline_names(alloc: Global, vars: &[Var]) -> Result<Vec<Text>, AllocError>
@@ -79,15 +79,4 @@ pub fn read_unset(alloc: Global, fun: &Fun) -> Result<Option<Span>, AllocError>
     let mut set = IndexSet::new(alloc);
     let first = walk_all(alloc, &asked, &mut set, &fun.body)?;
     Ok(first)
-}
-
-/// The same of all functions of a program.
-pub fn read_unset_in(alloc: Global, program: &Program) -> Result<Option<Span>, AllocError>
-    ensures { IfOk result (λ at. IsEarliest (IsReadUnsetIn program.now) at) }
-{
-    let mut best = None;
-    for fun in program.funs.as_slice() {
-        best = earlier_of(best, read_unset(alloc, fun)?);
-    }
-    Ok(best)
 }

@@ -3,11 +3,11 @@
 ghost use Rattle.std.specs.Prelude.{◌≡◌, flat_map};
 ghost use Rattle.jz_scopes.specs.Order.{earliest, unless};
 ghost use Rattle.jz_scopes.specs.Kinds.{declared_of};
-ghost use Rattle.jz_paths.specs.Declarations.{is_kept, is_passed, is_returned, unkept, unkept_in, wrongly_kept};
+ghost use Rattle.jz_paths.specs.Declarations.{is_kept, is_passed, is_returned, unkept, unkept_in};
 
 use jz_io::Span;
 use jz_scopes::{Declared, Kind, declaration, earlier_of, known, unless};
-use jz_tree::{Fun, Param, Program, Ret, Storage, Var};
+use jz_tree::{Fun, Param, Ret, Storage, Var};
 
 /// `int` and `inline` go together, and a bool is in a register.
 fn is_kept(declared: Declared) -> bool
@@ -96,23 +96,13 @@ fn rets_unkept(rets: &[Ret], at: Span) -> Option<Span>
     best
 }
 
+/// The earliest place of a function's declaration whose storage and type do not go together: at the name that is declared,
+/// and of a result at the function's name.
 #[tactic(auto, using(crate::proofs::Joins::earliest_laws), unfolding(crate::specs::Declarations::unkept_in))]
-fn unkept_in(fun: &Fun) -> Option<Span>
+pub fn wrongly_kept(fun: &Fun) -> Option<Span>
     ensures { result ≡ earliest (unkept_in fun.now) }
 {
     let vars = vars_unkept(fun.vars.as_slice());
     let rets = rets_unkept(fun.rets.as_slice(), fun.span);
     earlier_of(params_unkept(fun.params.as_slice()), earlier_of(vars, rets))
-}
-
-/// The earliest place of a declaration whose storage and type do not go together: at the name, of a result at the function's name.
-#[tactic(auto, using(crate::proofs::Joins::earliest_laws))]
-pub fn wrongly_kept(program: &Program) -> Option<Span>
-    ensures { result ≡ earliest (wrongly_kept program.now) }
-{
-    let mut best = None;
-    for fun in program.funs.as_slice() {
-        best = earlier_of(best, unkept_in(fun));
-    }
-    best
 }

@@ -8,6 +8,6 @@ mod sets;
 mod settings;
 mod walk;
 
-pub use asked::{read_unset, read_unset_in};
+pub use asked::read_unset;
 pub use declarations::wrongly_kept;
 pub use settings::wrongly_set;

@@ -5,13 +5,13 @@ ghost use Rattle.std.specs.Prelude.{◌≡◌, IfOk, OnOk};
 ghost use Rattle.std.specs.List.{list_any};
 ghost use Rattle.std.specs.Str.{bytes_eq};
 ghost use Rattle.jz_scopes.specs.Order.{earliest};
-ghost use Rattle.jz_paths.specs.Settings.{Around, may_set, wrongly_set_in, wrongly_set};
+ghost use Rattle.jz_paths.specs.Settings.{Around, may_set, wrongly_set_in};
 ghost use Rattle.jz_paths.specs.FirstSet.{first_left, first_lefts, first_set_all, first_set_kind};
 
 use jz_data::{Seq, Text};
 use jz_io::Span;
 use jz_scopes::{earlier_of, is_inline, is_inline_int, known, unless};
-use jz_tree::{Fun, Lval, Program, Stmt, StmtKind, Var};
+use jz_tree::{Fun, Lval, Stmt, StmtKind, Var};
 use std::alloc::{AllocError, Global};
 
 /// Whether a loop round here has the name as its counter; there are as many as loops are nested.
@@ -126,23 +126,13 @@ fn set_in(
     }
 }
 
+/// The earliest place in a function at which a counter is set inside its loop, or an inline variable inside a `while` or an
+/// `if` whose condition is not inline.
 #[tactic(auto, using(crate::proofs::SetFused::all_fused))]
-fn wrongly_set_in(alloc: Global, fun: &Fun) -> Result<Option<Span>, AllocError>
+pub fn wrongly_set(alloc: Global, fun: &Fun) -> Result<Option<Span>, AllocError>
     ensures { IfOk result (λ r. r ≡ earliest (wrongly_set_in fun.now.body)) }
 {
     let mut counters = Vec::new(alloc);
     let first = set_in_all(false, &mut counters, &fun.body)?;
     Ok(first)
-}
-
-/// The earliest place at which a counter is set inside its loop, or an inline variable inside a `while` or an `if` whose
-/// condition is not inline.
-pub fn wrongly_set(alloc: Global, program: &Program) -> Result<Option<Span>, AllocError>
-    ensures { IfOk result (λ r. r ≡ earliest (wrongly_set program.now)) }
-{
-    let mut best = None;
-    for fun in program.funs.as_slice() {
-        best = earlier_of(best, wrongly_set_in(alloc, fun)?);
-    }
-    Ok(best)
 }

@@ -1,10 +1,10 @@
-//! Rules of each statement, over a whole program.
+//! Rules of each statement, over the body of a function.
 
 ghost use Rattle.std.specs.Prelude.{◌≡◌, List, IfOk};
 ghost use Rattle.jz_tree.specs.declared.program.Fun.{Fun};
 ghost use Rattle.jz_scopes.specs.Order.{earliest, first_in};
 ghost use Rattle.jz_scopes.specs.Parts.{statements_of};
-ghost use Rattle.jz_rules.specs.Programs.{of_statement, in_body, in_statements};
+ghost use Rattle.jz_rules.specs.Programs.{of_statement, in_body};
 ghost use Rattle.jz_rules.specs.Indexes.{indexed_by};
 ghost use Rattle.jz_rules.specs.Copies.{copied_by};
 ghost use Rattle.jz_rules.specs.Tables.{HasCallees};
@@ -15,7 +15,7 @@ use crate::indexes::indexed;
 use jz_data::Seq;
 use jz_io::Span;
 use jz_scopes::{earlier_of, statements};
-use jz_tree::{Fun, Program, Stmt};
+use jz_tree::{Fun, Stmt};
 use std::alloc::{AllocError, Global};
 
 fn indexed_in_body(alloc: Global, body: &Seq<Stmt>) -> Result<Option<Span>, AllocError>
@@ -28,30 +28,12 @@ fn indexed_in_body(alloc: Global, body: &Seq<Stmt>) -> Result<Option<Span>, Allo
     Ok(first)
 }
 
+/// The first index of a register array, in a function, that is not inline.
 #[tactic(auto, using(jz_scopes::proofs::Earliest::joining))]
-fn indexed_in_fun(alloc: Global, fun: &Fun) -> Result<Option<Span>, AllocError>
+pub fn indexed_in(alloc: Global, fun: &Fun) -> Result<Option<Span>, AllocError>
     ensures { IfOk result (λ at. at ≡ earliest (in_body indexed_by fun.now)) }
 {
     let first = indexed_in_body(alloc, &fun.body)?;
-    Ok(first)
-}
-
-fn indexed_among_funs(alloc: Global, funs: &Seq<Fun>) -> Result<Option<Span>, AllocError>
-    ensures { IfOk result (λ at. at ≡ first_in (in_body indexed_by) funs.now) }
-{
-    let mut first = None;
-    for fun in funs.as_slice() {
-        first = earlier_of(first, indexed_in_fun(alloc, fun)?);
-    }
-    Ok(first)
-}
-
-/// The first index of a register array that is not inline.
-#[tactic(auto, using(jz_scopes::proofs::Earliest::joining))]
-pub fn indexed_in(alloc: Global, program: &Program) -> Result<Option<Span>, AllocError>
-    ensures { IfOk result (λ at. at ≡ earliest (in_statements indexed_by program.now)) }
-{
-    let first = indexed_among_funs(alloc, &program.funs)?;
     Ok(first)
 }
 
@@ -75,34 +57,11 @@ fn copied_in_body(
     Ok(first)
 }
 
+/// The first name, in a function, at which an array would have to be copied. `callees` are the functions of its program.
 #[tactic(auto, using(jz_scopes::proofs::Earliest::joining))]
-fn copied_in_fun(alloc: Global, callees: &Callees, fun: &Fun) -> Result<Option<Span>, AllocError>
+pub fn copied_in(alloc: Global, callees: &Callees, fun: &Fun) -> Result<Option<Span>, AllocError>
     ensures { (fs : List Fun) → HasCallees callees.now fs → IfOk result (λ at. at ≡ earliest (in_body (copied_by fs) fun.now)) }
 {
     let first = copied_in_body(alloc, callees, &fun.body)?;
-    Ok(first)
-}
-
-fn copied_among_funs(
-    alloc: Global,
-    callees: &Callees,
-    funs: &Seq<Fun>,
-) -> Result<Option<Span>, AllocError>
-    ensures { (fs : List Fun) → HasCallees callees.now fs → IfOk result (λ at. at ≡ first_in (in_body (copied_by fs)) funs.now) }
-{
-    let mut first = None;
-    for fun in funs.as_slice() {
-        first = earlier_of(first, copied_in_fun(alloc, callees, fun)?);
-    }
-    Ok(first)
-}
-
-/// The first name at which an array would have to be copied.
-#[tactic(auto, using(jz_scopes::proofs::Earliest::joining))]
-pub fn copied_in(alloc: Global, program: &Program) -> Result<Option<Span>, AllocError>
-    ensures { IfOk result (λ at. at ≡ earliest (in_statements (copied_by program.now.funs) program.now)) }
-{
-    let callees = Callees::of(alloc, program)?;
-    let first = copied_among_funs(alloc, &callees, &program.funs)?;
     Ok(first)
 }

@@ -72,10 +72,18 @@ fn is_written(names: &Names, param: &Param) -> bool
     is_array(known(&param.var)) && names.has(&param.var.name)
 }
 
+/// An empty list that has room for so many items.
+fn with_room<T>(alloc: Global, room: usize) -> Result<Seq<T>, AllocError>
+    ensures { IfOk result (λ list. list ≡ []) }
+{
+    let items = Vec::with_capacity(alloc, room)?;
+    Ok(Seq::from_vec(items))
+}
+
 fn written(alloc: Global, names: &Names, params: &Seq<Param>) -> Result<Seq<bool>, AllocError>
     ensures { (ns : List (List ℕ)) → HasNames names.now ns → IfOk result (λ w. w ≡ map (is_written ns) params.now) }
 {
-    let mut list = Seq::new(alloc);
+    let mut list = with_room(alloc, params.len())?;
     for param in params.as_slice() {
         list.push(is_written(names, param))?;
     }
@@ -99,7 +107,7 @@ fn returned(
 ) -> Result<Seq<Option<usize>>, AllocError>
     ensures { (ns : List (List ℕ)) → HasPlaces places.now ns → IfOk result (λ r. r ≡ map (λ v. place_of (bytes_eq (text_of v)) ns) vars.now) }
 {
-    let mut list = Seq::new(alloc);
+    let mut list = with_room(alloc, vars.len())?;
     for var in vars.as_slice() {
         list.push(place(places, &var.name))?;
     }
@@ -128,7 +136,7 @@ fn of_callee(alloc: Global, var: &Var) -> Result<Var, AllocError>
 fn entered(alloc: Global, params: &Seq<Param>) -> Result<Seq<Lval>, AllocError>
     ensures { IfOk result (λ to. to ≡ map entered_by params.now) }
 {
-    let mut list = Seq::new(alloc);
+    let mut list = with_room(alloc, params.len())?;
     for param in params.as_slice() {
         list.push(Lval::Var(of_callee(alloc, &param.var)?))?;
     }
@@ -138,7 +146,7 @@ fn entered(alloc: Global, params: &Seq<Param>) -> Result<Seq<Lval>, AllocError>
 fn left(alloc: Global, vars: &Seq<Var>) -> Result<Seq<Expr>, AllocError>
     ensures { IfOk result (λ es. es ≡ map left_by vars.now) }
 {
-    let mut list = Seq::new(alloc);
+    let mut list = with_room(alloc, vars.len())?;
     for var in vars.as_slice() {
         list.push(Expr::Var(of_callee(alloc, var)?))?;
     }

@@ -9,7 +9,6 @@ mod exports;
 mod indexes;
 mod matching;
 mod pairs;
-mod programs;
 mod tables;
 mod twice;
 
@@ -19,4 +18,3 @@ pub use copies::copied;
 pub use exports::{annotated, misshapen};
 pub use indexes::indexed;
 pub use matching::unmatched;
-pub use programs::{annotated_in, misshapen_in};

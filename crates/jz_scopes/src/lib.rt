@@ -21,6 +21,6 @@ pub use kinds::{
 };
 pub use layers::{called_by, cells_set, exprs_of, read_by, set_by, whole_var, wholly_set_by};
 pub use order::{earlier_of, is_before, sooner, unless};
-pub use repeats::{repeated, repeated_of};
+pub use repeats::{repeated_at_top, repeated_in_fun, repeated_of};
 pub use tables::{ByName, Functions, Places, Variables};
-pub use unknowns::{above, unknown, unknown_of};
+pub use unknowns::{above, unknown_in_constants, unknown_in_fun, unknown_of};

@@ -6,7 +6,7 @@ ghost use Rattle.jz_scopes.specs.Scopes.{Name, name_of, variables_of};
 ghost use Rattle.jz_scopes.specs.Parts.{layer_of, statements_of};
 ghost use Rattle.jz_scopes.specs.Lent.{these, these_names};
 ghost use Rattle.jz_scopes.specs.Tables.{IsEarliestPlaces, one_repeated_in};
-ghost use Rattle.jz_scopes.specs.Names.{repeated, repeated_by, repeated_in_fun, repeated_in, top_names};
+ghost use Rattle.jz_scopes.specs.Names.{repeated, repeated_by, repeated_in_fun, top_names};
 
 use crate::bodies::statements;
 use crate::declarations::variables;
@@ -116,7 +116,9 @@ fn in_body(alloc: Global, body: &Seq<Stmt>) -> Result<Option<Span>, AllocError>
     Ok(first)
 }
 
-fn in_fun(alloc: Global, fun: &Fun) -> Result<Option<Span>, AllocError>
+/// The first name in a function before which an equal one stands, among its variables, and among the whole variables that one
+/// statement sets.
+pub fn repeated_in_fun(alloc: Global, fun: &Fun) -> Result<Option<Span>, AllocError>
     ensures { IfOk result (λ at. at ≡ earliest (repeated_in_fun fun.now)) }
 {
     let declared = in_variables(alloc, fun)?;
@@ -124,31 +126,12 @@ fn in_fun(alloc: Global, fun: &Fun) -> Result<Option<Span>, AllocError>
     Ok(earlier_of(declared, set))
 }
 
-fn in_funs(alloc: Global, funs: &Seq<Fun>) -> Result<Option<Span>, AllocError>
-    ensures { IfOk result (λ at. at ≡ first_in repeated_in_fun funs.now) }
-{
-    let mut first = None;
-    for fun in funs.as_slice() {
-        first = earlier_of(first, in_fun(alloc, fun)?);
-    }
-    Ok(first)
-}
-
-fn in_top(alloc: Global, program: &Program) -> Result<Option<Span>, AllocError>
+/// The first name of a function or constant before which an equal one stands.
+pub fn repeated_at_top(alloc: Global, program: &Program) -> Result<Option<Span>, AllocError>
     ensures { IfOk result (λ at. at ≡ earliest (repeated (top_names program.now))) }
 {
     let mut list = Vec::new(alloc);
     add_consts(&mut list, &program.consts)?;
     add_funs(&mut list, &program.funs)?;
     repeated_names(alloc, list.as_slice())
-}
-
-/// The first name before which an equal one stands, among functions and constants, the variables of one function, and the
-/// whole variables that one statement sets.
-pub fn repeated(alloc: Global, program: &Program) -> Result<Option<Span>, AllocError>
-    ensures { IfOk result (λ at. at ≡ earliest (repeated_in program.now)) }
-{
-    let top = in_top(alloc, program)?;
-    let within = in_funs(alloc, &program.funs)?;
-    Ok(earlier_of(top, within))
 }

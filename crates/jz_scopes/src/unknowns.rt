@@ -6,7 +6,7 @@ ghost use Rattle.jz_scopes.specs.Scopes.{name_of, or_values, variable_place};
 ghost use Rattle.jz_scopes.specs.Parts.{layer_of, called_by, names_in, statements_of};
 ghost use Rattle.jz_scopes.specs.Lent.{these};
 ghost use Rattle.jz_scopes.specs.Tables.{place_in, value_in, function_in};
-ghost use Rattle.jz_scopes.specs.Names.{stands_above, one_unknown, no_function, unknown_among, unknown_where, outside_where, fun_where, unknown_in};
+ghost use Rattle.jz_scopes.specs.Names.{stands_above, one_unknown, no_function, unknown_among, unknown_where, outside_where, fun_where};
 
 use crate::bodies::statements;
 use crate::declarations::length_names;
@@ -16,7 +16,7 @@ use crate::order::{earlier_of, is_before, unless};
 use crate::tables::{Functions, Places};
 use jz_data::{Seq, Text};
 use jz_io::Span;
-use jz_tree::{Const, Fun, Program, Stmt, Var};
+use jz_tree::{Const, Fun, Stmt, Var};
 use std::alloc::{AllocError, Global};
 
 /// Whether what is declared there stands above, if it is declared.
@@ -140,7 +140,8 @@ fn in_body(
     Ok(first)
 }
 
-fn in_fun(
+/// The first name in a function that is not declared above where it is used, or of a function that stands nowhere.
+pub fn unknown_in_fun(
     alloc: Global,
     constants: &Places,
     functions: &Functions<'_>,
@@ -154,21 +155,6 @@ fn in_fun(
     Ok(earlier_of(around, within))
 }
 
-fn in_funs(
-    alloc: Global,
-    constants: &Places,
-    functions: &Functions<'_>,
-    funs: &Seq<Fun>,
-) -> Result<Option<Span>, AllocError>
-    ensures { IfOk result (λ at. at ≡ first_in (λ f. fun_where (or_values (place_in constants.now) (variable_place f)) (variable_place f) (function_in functions.now) f) funs.now) }
-{
-    let mut first = None;
-    for fun in funs.as_slice() {
-        first = earlier_of(first, in_fun(alloc, constants, functions, fun)?);
-    }
-    Ok(first)
-}
-
 fn in_constant(
     alloc: Global,
     constants: &Places,
@@ -180,7 +166,8 @@ fn in_constant(
     Ok(unknown_variables(constants, read.as_slice()))
 }
 
-fn in_constants(
+/// The first name in the values of constants that is no constant above.
+pub fn unknown_in_constants(
     alloc: Global,
     constants: &Places,
     consts: &Seq<Const>,
@@ -192,15 +179,4 @@ fn in_constants(
         first = earlier_of(first, in_constant(alloc, constants, constant)?);
     }
     Ok(first)
-}
-
-/// The first name that is not declared above where it is used, or of a function that stands nowhere.
-pub fn unknown(alloc: Global, program: &Program) -> Result<Option<Span>, AllocError>
-    ensures { IfOk result (λ at. at ≡ earliest (unknown_in program.now)) }
-{
-    let constants = Places::of_constants(alloc, &program.consts)?;
-    let functions = Functions::of(alloc, &program.funs)?;
-    let ahead = in_constants(alloc, &constants, &program.consts)?;
-    let after = in_funs(alloc, &constants, &functions, &program.funs)?;
-    Ok(earlier_of(ahead, after))
 }

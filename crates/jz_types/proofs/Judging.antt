@@ -20,12 +20,13 @@ use Rattle.jz_rules.specs.Programs.{in_functions, in_statements}
 use Rattle.jz_types.specs.Rows.{unmatched_in}
 use Rattle.jz_types.specs.declared.fault.TypeRule.TheVariants.{Recursion}
 use Rattle.jz_types.specs.declared.fault.TypeFault.{TypeFault}
-use Rattle.jz_types.specs.declared.checking.OfText.{OfText}
-use Rattle.jz_types.specs.declared.checking.OfDeclared.{OfDeclared}
+use Rattle.jz_types.specs.declared.functions.OfText.{OfText}
+use Rattle.jz_types.specs.declared.functions.OfDeclared.{OfDeclared}
 use Rattle.jz_types.specs.Faults.{AreFirst, first_told}
 use Rattle.jz_types.specs.Rules.{Breaks, IsTyped, IsFirstTypeFault}
-use Rattle.jz_types.specs.Asking.{AreOfText, AreOfDeclared, places_of}
+use Rattle.jz_types.specs.Asking.{AreOfText, AreOfDeclared, firsts_of}
 use Rattle.jz_types.proofs.Telling.{told_first}
+use Rattle.jz_types.proofs.Storing.{first_misplaced}
 
 found : (xs : List Span) (o : Option Span) → o ≡ earliest xs → IsEarliest (λ at. Contains xs at) o
 found xs o e = subst (IsEarliest (λ at. Contains xs at)) (sym e) (earliest_is xs)
@@ -37,13 +38,14 @@ first_recursive : (q : Program) (r : Ranking) → Tells q r → IsEarliest (IsRe
 first_recursive q (Ranked ranks) h = h.1
 first_recursive q (Recursive at) h = h
 
-all_asked : (p : Program) (t : OfText) (d : OfDeclared) → AreOfText p t → AreOfDeclared (resolved p) d → AreFirst (Breaks p) (places_of t d)
-all_asked p t d h k = record {
+all_asked : (p : Program) (t : OfText) (d : OfDeclared) (r : Ranking) → AreOfText p t → AreOfDeclared (resolved p) d → Tells (resolved p) r
+    → AreFirst (Breaks p) (firsts_of t d r)
+all_asked p t d r h k tells = record {
   unknown = found (unknown_in p) t.unknown h.unknown;
   repeated = found (repeated_in p) t.repeated h.repeated;
   mismatched = found_both (mismatched_as_read (length_of p.consts) p) (mismatched_declared (resolved p)) t.mismatched d.mismatched h.mismatched k.mismatched;
-  misplaced = k.misplaced p;
-  recursive = first_recursive (resolved p) d.ranking k.ranking;
+  misplaced = first_misplaced p (resolved p) d.kept d.set d.read k.kept k.set k.read;
+  recursive = first_recursive (resolved p) r tells;
   unmatched = found (unmatched_in (resolved p)) d.unmatched k.unmatched;
   copied = found (in_statements (copied_by (resolved p).funs) (resolved p)) d.copied k.copied;
   annotated = found (in_functions annotated p) t.annotated h.annotated;
@@ -52,10 +54,11 @@ all_asked p t d h k = record {
 }
 
 -- no rule of p fails, or this fault is told; q has the declarations
-pub judged : (p q : Program) (t : OfText) (d : OfDeclared) (told : Option TypeFault) → q ≡ resolved p → AreOfText p t → AreOfDeclared q d → told ≡ first_told (places_of t d)
-    → MatchOption told (IsTyped p) (IsFirstTypeFault p)
-judged p q t d told e h k f =
-    subst (λ o. MatchOption o (IsTyped p) (IsFirstTypeFault p)) (sym f) (told_first (Breaks p) (places_of t d) (all_asked p t d h (subst (λ r. AreOfDeclared r d) e k)))
+pub judged : (p q : Program) (t : OfText) (d : OfDeclared) (r : Ranking) (told : Option TypeFault) → q ≡ resolved p → AreOfText p t → AreOfDeclared q d → Tells q r
+    → told ≡ first_told (firsts_of t d r) → MatchOption told (IsTyped p) (IsFirstTypeFault p)
+judged p q t d r told e h k tells f =
+    subst (λ o. MatchOption o (IsTyped p) (IsFirstTypeFault p)) (sym f)
+    (told_first (Breaks p) (firsts_of t d r) (all_asked p t d r h (subst (λ z. AreOfDeclared z d) e k) (subst (λ z. Tells z r) e tells)))
 
 -- ---- the ranks of a program in which no rule fails
 recursive_at : (q : Program) (at : Span) → IsEarliest (IsRecursive q) (Some at) → IsRecursive q at

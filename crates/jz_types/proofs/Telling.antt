@@ -8,7 +8,7 @@ use Rattle.jz_scopes.proofs.Standing.{before_is, before_before, clash, at_least}
 use Rattle.jz_types.specs.declared.fault.TypeRule.{TypeRule}
 use Rattle.jz_types.specs.declared.fault.TypeRule.TheVariants.{Unknown, Duplicate, Mismatch, Storage, Recursion, NoInstruction, ArrayCopy, BadAnnotation, ExportShape, RegIndex}
 use Rattle.jz_types.specs.declared.fault.TypeFault.{TypeFault}
-use Rattle.jz_types.specs.declared.fault.Places.{Places}
+use Rattle.jz_types.specs.declared.fault.Firsts.{Firsts}
 use Rattle.jz_types.specs.Faults.{number_of, IsToldBefore, IsTold, told_of, first_told, AreFirst}
 
 -- ---- rules differ in their numbers
@@ -159,7 +159,7 @@ module _ (Fails : TypeRule → Span → Type 0) where
   told_all (Some f) b = record { fails = b.fails; first = λ rule at w. b.first rule at (below_eleven rule) w }
 
   -- of what each rule finds first
-  pub told_first : (p : Places) → AreFirst Fails p → MatchOption (first_told p) ((rule : TypeRule) (at : Span) → Fails rule at → ⊥) (IsTold Fails)
+  pub told_first : (p : Firsts) → AreFirst Fails p → MatchOption (first_told p) ((rule : TypeRule) (at : Span) → Fails rule at → ⊥) (IsTold Fails)
   told_first p f =
       told_all
       (first_told p)

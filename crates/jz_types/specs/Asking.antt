@@ -5,17 +5,19 @@ use Rattle.jz_scopes.specs.Order.{earliest, earlier, IsEarliest}
 use Rattle.jz_scopes.specs.Names.{unknown_in, repeated_in}
 use Rattle.jz_resolve.specs.Numbering.{length_of}
 use Rattle.jz_kinds.specs.Mismatches.{mismatched_as_read, mismatched_declared}
-use Rattle.jz_calls.specs.Recursion.{Tells, recursive_of}
+use Rattle.jz_paths.specs.Declarations.{wrongly_kept}
+use Rattle.jz_paths.specs.Settings.{wrongly_set}
+use Rattle.jz_paths.specs.Paths.{IsReadUnsetIn}
+use Rattle.jz_calls.specs.declared.recursion.Ranking.{Ranking}
+use Rattle.jz_calls.specs.Recursion.{recursive_of}
 use Rattle.jz_rules.specs.Exports.{misshapen, annotated}
 use Rattle.jz_rules.specs.Copies.{copied_by}
 use Rattle.jz_rules.specs.Indexes.{indexed_by}
 use Rattle.jz_rules.specs.Programs.{in_functions, in_statements}
 use Rattle.jz_types.specs.Rows.{unmatched_in}
-use Rattle.jz_types.specs.declared.fault.TypeRule.TheVariants.{Storage}
-use Rattle.jz_types.specs.declared.fault.Places.{Places}
-use Rattle.jz_types.specs.declared.checking.OfText.{OfText}
-use Rattle.jz_types.specs.declared.checking.OfDeclared.{OfDeclared}
-use Rattle.jz_types.specs.Rules.{BreaksIn}
+use Rattle.jz_types.specs.declared.fault.Firsts.{Firsts}
+use Rattle.jz_types.specs.declared.functions.OfText.{OfText}
+use Rattle.jz_types.specs.declared.functions.OfDeclared.{OfDeclared}
 
 pub record AreOfText (p : Program) (t : OfText) : Type 0 where
   pub unknown : t.unknown ≡ earliest (unknown_in p)
@@ -26,19 +28,20 @@ pub record AreOfText (p : Program) (t : OfText) : Type 0 where
 
 pub record AreOfDeclared (q : Program) (d : OfDeclared) : Type 0 where
   pub mismatched : d.mismatched ≡ earliest (mismatched_declared q)
-  pub misplaced : (p : Program) → IsEarliest (BreaksIn p q Storage) d.misplaced
-  pub ranking : Tells q d.ranking
+  pub kept : d.kept ≡ earliest (wrongly_kept q)
+  pub set : d.set ≡ earliest (wrongly_set q)
+  pub read : IsEarliest (IsReadUnsetIn q) d.read
   pub unmatched : d.unmatched ≡ earliest (unmatched_in q)
   pub copied : d.copied ≡ earliest (in_statements (copied_by q.funs) q)
   pub indexed : d.indexed ≡ earliest (in_statements indexed_by q)
 
-abbrev pub places_of : OfText → OfDeclared → Places
-places_of t d = record {
+abbrev pub firsts_of : OfText → OfDeclared → Ranking → Firsts
+firsts_of t d r = record {
   unknown = t.unknown;
   repeated = t.repeated;
   mismatched = earlier t.mismatched d.mismatched;
-  misplaced = d.misplaced;
-  recursive = recursive_of d.ranking;
+  misplaced = earlier (earlier d.kept d.set) d.read;
+  recursive = recursive_of r;
   unmatched = d.unmatched;
   copied = d.copied;
   annotated = t.annotated;

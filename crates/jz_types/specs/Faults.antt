@@ -1,11 +1,11 @@
 -- Faults of typing, and which of several is told.
-use Rattle.std.specs.Prelude.{ℕ, ◌≡◌, ◌<◌, ◌≤◌, ◌⊎◌, if◌then◌else◌, Option, Some, None}
+use Rattle.std.specs.Prelude.{ℕ, ◌≡◌, ◌≤◌, ◌⊎◌, if◌then◌else◌, Option, Some, None}
 use Rattle.jz_io.specs.declared.span.Span.{Span}
 use Rattle.jz_scopes.specs.Order.{Before, is_before, IsEarliest}
 use Rattle.jz_types.specs.declared.fault.TypeRule.{TypeRule}
 use Rattle.jz_types.specs.declared.fault.TypeRule.TheVariants.{Unknown, Duplicate, Mismatch, Storage, Recursion, NoInstruction, ArrayCopy, BadAnnotation, ExportShape, RegIndex}
 use Rattle.jz_types.specs.declared.fault.TypeFault.{TypeFault}
-use Rattle.jz_types.specs.declared.fault.Places.{Places}
+use Rattle.jz_types.specs.declared.fault.Firsts.{Firsts}
 
 -- the number of a rule
 abbrev pub number_of : TypeRule → ℕ
@@ -36,7 +36,7 @@ told_of None rule (Some at) = Some (record { rule = rule; span = at })
 told_of (Some f) rule (Some at) = if is_before at f.span then Some (record { rule = rule; span = at }) else Some f
 
 -- what each rule finds first, in the order of their numbers
-abbrev pub first_told : Places → Option TypeFault
+abbrev pub first_told : Firsts → Option TypeFault
 first_told p =
     told_of
     (told_of
@@ -59,7 +59,7 @@ first_told p =
     p.indexed
 
 -- at these places the rules fail first
-pub record AreFirst (Fails : TypeRule → Span → Type 0) (p : Places) : Type 0 where
+pub record AreFirst (Fails : TypeRule → Span → Type 0) (p : Firsts) : Type 0 where
   pub unknown : IsEarliest (Fails Unknown) p.unknown
   pub repeated : IsEarliest (Fails Duplicate) p.repeated
   pub mismatched : IsEarliest (Fails Mismatch) p.mismatched

@@ -1,7 +1,6 @@
 -- The rules of typing: which places break each of them.
-use Rattle.std.specs.Prelude.{ℤ, ◌⊎◌, List, ◌++◌, Option, Contains}
+use Rattle.std.specs.Prelude.{◌⊎◌, ◌++◌, Contains}
 use Rattle.jz_io.specs.declared.span.Span.{Span}
-use Rattle.jz_tree.specs.declared.expr.Expr.{Expr}
 use Rattle.jz_tree.specs.declared.program.Program.{Program}
 use Rattle.jz_scopes.specs.Names.{unknown_in, repeated_in}
 use Rattle.jz_resolve.specs.Numbering.{length_of}

@@ -60,7 +60,7 @@ pub struct TypeFault {
 
 /// Where each rule fails first, if it fails.
 #[derive(Clone, Copy)]
-pub(crate) struct Places {
+pub(crate) struct Firsts {
     pub(crate) unknown: Option<Span>,
     pub(crate) repeated: Option<Span>,
     pub(crate) mismatched: Option<Span>,
@@ -93,17 +93,17 @@ fn told(best: Option<TypeFault>, rule: TypeRule, at: Option<Span>) -> Option<Typ
 }
 
 /// The fault that is told, if there is one.
-pub(crate) fn first_told(places: Places) -> Option<TypeFault>
-    ensures { result ≡ first_told places }
+pub(crate) fn first_told(firsts: Firsts) -> Option<TypeFault>
+    ensures { result ≡ first_told firsts }
 {
-    let unknown = told(None, TypeRule::Unknown, places.unknown);
-    let repeated = told(unknown, TypeRule::Duplicate, places.repeated);
-    let mismatched = told(repeated, TypeRule::Mismatch, places.mismatched);
-    let misplaced = told(mismatched, TypeRule::Storage, places.misplaced);
-    let recursive = told(misplaced, TypeRule::Recursion, places.recursive);
-    let unmatched = told(recursive, TypeRule::NoInstruction, places.unmatched);
-    let copied = told(unmatched, TypeRule::ArrayCopy, places.copied);
-    let annotated = told(copied, TypeRule::BadAnnotation, places.annotated);
-    let misshapen = told(annotated, TypeRule::ExportShape, places.misshapen);
-    told(misshapen, TypeRule::RegIndex, places.indexed)
+    let unknown = told(None, TypeRule::Unknown, firsts.unknown);
+    let repeated = told(unknown, TypeRule::Duplicate, firsts.repeated);
+    let mismatched = told(repeated, TypeRule::Mismatch, firsts.mismatched);
+    let misplaced = told(mismatched, TypeRule::Storage, firsts.misplaced);
+    let recursive = told(misplaced, TypeRule::Recursion, firsts.recursive);
+    let unmatched = told(recursive, TypeRule::NoInstruction, firsts.unmatched);
+    let copied = told(unmatched, TypeRule::ArrayCopy, firsts.copied);
+    let annotated = told(copied, TypeRule::BadAnnotation, firsts.annotated);
+    let misshapen = told(annotated, TypeRule::ExportShape, firsts.misshapen);
+    told(misshapen, TypeRule::RegIndex, firsts.indexed)
 }

@@ -3,6 +3,7 @@
 
 mod checking;
 mod fault;
+mod functions;
 mod laws;
 mod lengths;
 mod rows;

@@ -7,14 +7,14 @@ ghost use Rattle.jz_scopes.specs.Order.{earliest, first_in};
 ghost use Rattle.jz_scopes.specs.Parts.{statements_of};
 ghost use Rattle.jz_scopes.specs.Tables.{place_in, function_in};
 ghost use Rattle.jz_rules.specs.Tables.{HasCallees};
-ghost use Rattle.jz_types.specs.Rows.{others, unmatched_with, unmatched_at, unmatched_in_fun, unmatched_in};
+ghost use Rattle.jz_types.specs.Rows.{others, unmatched_with, unmatched_at, unmatched_in_fun};
 
 use jz_data::Seq;
 use jz_io::Span;
 use jz_kinds::statement_fault;
 use jz_rules::{Callee, Callees, copied, indexed, unmatched};
 use jz_scopes::{Functions, Places, earlier_of, repeated_of, statements, unknown_of};
-use jz_tree::{Fun, Program, Stmt};
+use jz_tree::{Fun, Stmt};
 use std::alloc::{AllocError, Global};
 
 // Whether another fault is told of a statement.
@@ -75,7 +75,9 @@ fn unmatched_in_body(
     Ok(first)
 }
 
-fn unmatched_in_fun(
+/// The first statement of a function of which no other fault is told and that matches no row, or of whose call a copy matches
+/// none. Variables have their declarations where they are used.
+pub(crate) fn unmatched_in_fun(
     alloc: Global,
     constants: &Places,
     functions: &Functions<'_>,
@@ -86,34 +88,5 @@ fn unmatched_in_fun(
 {
     let variables = Places::of_variables(alloc, fun)?;
     let first = unmatched_in_body(alloc, constants, &variables, functions, callees, &fun.body)?;
-    Ok(first)
-}
-
-fn unmatched_among_funs(
-    alloc: Global,
-    constants: &Places,
-    functions: &Functions<'_>,
-    callees: &Callees,
-    funs: &Seq<Fun>,
-) -> Result<Option<Span>, AllocError>
-    ensures { (fs : List Fun) → HasCallees callees.now fs → IfOk result (λ at. at ≡ first_in (unmatched_in_fun (place_in constants.now) (function_in functions.now) fs) funs.now) }
-{
-    let mut first = None;
-    for fun in funs.as_slice() {
-        let own = unmatched_in_fun(alloc, constants, functions, callees, fun)?;
-        first = earlier_of(first, own);
-    }
-    Ok(first)
-}
-
-/// The first statement of which no other fault is told and that matches no row, or of whose call a copy matches none. The
-/// program is one whose variables have their declarations where they are used.
-pub(crate) fn unmatched_in(alloc: Global, declared: &Program) -> Result<Option<Span>, AllocError>
-    ensures { IfOk result (λ at. at ≡ earliest (unmatched_in declared.now)) }
-{
-    let constants = Places::of_constants(alloc, &declared.consts)?;
-    let functions = Functions::of(alloc, &declared.funs)?;
-    let callees = Callees::of(alloc, declared)?;
-    let first = unmatched_among_funs(alloc, &constants, &functions, &callees, &declared.funs)?;
     Ok(first)
 }

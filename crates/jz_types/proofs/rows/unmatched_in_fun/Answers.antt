@@ -1,6 +1,5 @@
-use Rattle.std.proofs.Common.{List, ap, sym, ◌∙◌}
+use Rattle.std.proofs.Common.{ap, sym, ◌∙◌}
 use Rattle.std.specs.Prelude.{flat_map}
-use Rattle.jz_tree.specs.declared.program.Fun.{Fun}
 use Rattle.jz_scopes.specs.Order.{earliest}
 use Rattle.jz_scopes.specs.Parts.{statements_of}
 use Rattle.jz_scopes.specs.Tables.{place_in, function_in}
