@@ -8,6 +8,7 @@ ghost use Rattle.jz_meaning.specs.Stores.{state};
 ghost use Rattle.jz_meaning.specs.Values as values;
 ghost use Rattle.jz_meaning.specs.Values.{ref_of, index_at};
 ghost use Rattle.jz_meaning.specs.Assignments as assignments;
+ghost use Rattle.jz_meaning.specs.declared.value.Why.TheVariants.{Init};
 
 use crate::variables::set;
 use jz_data::Seq;
@@ -18,8 +19,8 @@ use jz_tree::{Lval, Var};
 use jz_words::Size;
 use std::alloc::{AllocError, Global};
 
-/// Stuck for Init.
-pub(crate) fn missing(span: Span) -> Stuck
+/// Stuck at that place for Init: a variable, cell or operand has no value of the sort that is wanted.
+pub fn missing(span: Span) -> Stuck
     ensures { result ≡ record { span = span; why = Init } }
 {
     Stuck {
@@ -27,8 +28,6 @@ pub(crate) fn missing(span: Span) -> Stuck
         why: Why::Init,
     }
 }
-
-ghost use Rattle.jz_meaning.specs.declared.value.Why.TheVariants.{Init};
 
 /// The size of a left side, where it has one by itself.
 pub(crate) fn left_size(to: &Lval) -> Option<Size>

@@ -10,7 +10,7 @@ ghost use Rattle.jz_instructions.specs.Rows.{set_by, one_row, two_row, row_resul
 use crate::operands::{with_carry, with_condition, with_count, with_division, with_one, with_two};
 use crate::results::Results;
 use crate::rows::{OneWord, Row, Sets, TwoWords, row_of};
-use crate::words::no_word;
+use jz_assign::missing;
 use jz_data::Seq;
 use jz_io::Span;
 use jz_leak::MemMap;
@@ -34,7 +34,7 @@ fn of_one(
 {
     match operands {
         [a] => with_one(alloc, row, span, size, a, store, mem, out),
-        _ => Ok(Err(no_word(span))),
+        _ => Ok(Err(missing(span))),
     }
 }
 
@@ -52,7 +52,7 @@ fn of_two(
 {
     match operands {
         [a, b] => with_two(alloc, row, span, size, a, b, store, mem, out),
-        _ => Ok(Err(no_word(span))),
+        _ => Ok(Err(missing(span))),
     }
 }
 
@@ -70,7 +70,7 @@ fn of_carry(
 {
     match operands {
         [a, b, c] => with_carry(alloc, op, span, size, a, b, c, store, mem, out),
-        _ => Ok(Err(no_word(span))),
+        _ => Ok(Err(missing(span))),
     }
 }
 
@@ -89,7 +89,7 @@ fn of_count(
 {
     match operands {
         [a, count] => with_count(alloc, sets, kind, span, size, a, count, store, mem, out),
-        _ => Ok(Err(no_word(span))),
+        _ => Ok(Err(missing(span))),
     }
 }
 
@@ -108,7 +108,7 @@ fn of_division(
         [high, low, divisor] => {
             with_division(alloc, span, size, high, low, divisor, store, mem, out)
         }
-        _ => Ok(Err(no_word(span))),
+        _ => Ok(Err(missing(span))),
     }
 }
 
@@ -124,7 +124,7 @@ fn of_condition(
 {
     match operands {
         [c] => with_condition(alloc, span, c, store, mem, out),
-        _ => Ok(Err(no_word(span))),
+        _ => Ok(Err(missing(span))),
     }
 }
 
@@ -178,7 +178,7 @@ pub(crate) fn results_of(
     ensures { IfOk result (λ r. did out.new (results_in r) ≡ numbers_first out.old (intrinsics.sized_results name span size operands.now (state store.now mem.now))) }
 {
     match size {
-        None => Ok(Err(no_word(span))),
+        None => Ok(Err(missing(span))),
         Some(size) => of_row(alloc, row_of(name), span, size, operands, store, mem, out),
     }
 }

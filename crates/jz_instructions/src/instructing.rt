@@ -8,8 +8,7 @@ ghost use Rattle.jz_meaning.specs.Intrinsics as intrinsics;
 
 use crate::dispatching::results_of;
 use crate::sizes::intrinsic_size;
-use crate::words::no_word;
-use jz_assign::write_all;
+use jz_assign::{missing, write_all};
 use jz_data::{Seq, Text};
 use jz_io::Span;
 use jz_leak::MemMap;
@@ -55,7 +54,7 @@ pub fn instruct(
     ensures { IfOk result (λ r. changed out.new (state store.new mem.new) r ≡ numbers_first out.old (intrinsics.instruction_done (spelled_as name.now) to.now operands.now span (state store.old mem.old))) }
 {
     match spelled(name.as_str()) {
-        None => Ok(Err(no_word(span))),
+        None => Ok(Err(missing(span))),
         Some(instance) => instruct_by(alloc, to, instance, operands, span, store, mem, out),
     }
 }

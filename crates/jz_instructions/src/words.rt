@@ -15,6 +15,7 @@ ghost use Rattle.jz_instructions.specs.Rows.{set_by, one_row, two_row};
 
 use crate::results::{Results, alone, before_both, before_value, flags_set};
 use crate::rows::{OneWord, Sets, TwoWords};
+use jz_assign::missing;
 use jz_data::Seq;
 use jz_io::Span;
 use jz_meaning::{Stuck, Value, Why};
@@ -24,16 +25,6 @@ use x64_insn::{
     Alu, Answer, FlagVal, Shift, alu_answer, low_product_answer, one_answer, product_answer,
     quotient_answer, shift_answer,
 };
-
-/// Stuck for Init.
-pub(crate) fn no_word(span: Span) -> Stuck
-    ensures { result ≡ record { span = span; why = why.Init } }
-{
-    Stuck {
-        span,
-        why: Why::Init,
-    }
-}
 
 /// An instruction on one word.
 pub(crate) fn of_word(alloc: Global, row: OneWord, a: Word) -> Result<Results, AllocError>
@@ -179,10 +170,10 @@ pub(crate) fn of_shift(
 {
     match count {
         Value::Word(count) => Ok(Ok(by_byte(alloc, sets, kind, a, u128::from(count.bits()))?)),
-        Value::Bool(_) => Ok(Err(no_word(span))),
+        Value::Bool(_) => Ok(Err(missing(span))),
         Value::Int(count) => {
             if count < 0 {
-                return Ok(Err(no_word(span)));
+                return Ok(Err(missing(span)));
             }
             Ok(Ok(by_constant(alloc, sets, kind, a, count as u128)?))
         }

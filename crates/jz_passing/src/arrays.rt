@@ -8,7 +8,7 @@ ghost use Rattle.jz_meaning.specs.Stores.{store_of};
 ghost use Rattle.jz_meaning.specs.Statements as statements;
 ghost use Rattle.jz_meaning.specs.Values.{cell_key, ref_of};
 
-use crate::meaningless::no_meaning;
+use jz_assign::missing;
 use jz_io::Span;
 use jz_meaning::{Kind, Store, Stuck, kind_of};
 use jz_tree::{Expr, Var};
@@ -76,7 +76,7 @@ pub(crate) fn pass_array(
     ensures { IfOk result (λ r. (ns : List ℕ) → changed ns (store_of inner.new) r ≡ numbers_first ns (statements.array_passed span cells (ref_of param.now) (statements.array_of arg.now) (store_of outer.now) (store_of inner.old))) }
 {
     match variable_of(arg) {
-        None => Ok(Err(no_meaning(span))),
+        None => Ok(Err(missing(span))),
         Some(var) => {
             copy_cells(cells, param, var, outer, inner)?;
             Ok(Ok(()))

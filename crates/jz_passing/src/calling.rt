@@ -12,8 +12,7 @@ ghost use Rattle.jz_meaning.specs.Values.{ref_of};
 ghost use Rattle.jz_passing.specs.Answers.{entered};
 
 use crate::arrays::{give_array_back, pass_array};
-use crate::meaningless::no_meaning;
-use jz_assign::{held, set, write};
+use jz_assign::{held, missing, set, write};
 use jz_data::Seq;
 use jz_io::Span;
 use jz_leak::MemMap;
@@ -87,7 +86,7 @@ fn pass_all(
 {
     for (i, param) in params.as_slice().iter().enumerate() {
         match args.get(i) {
-            None => return Ok(Err(no_meaning(span))),
+            None => return Ok(Err(missing(span))),
             Some(arg) => match pass(alloc, span, &param.var, arg, store, mem, inner, out)? {
                 Err(stuck) => return Ok(Err(stuck)),
                 Ok(()) => {}
@@ -95,7 +94,7 @@ fn pass_all(
         }
     }
     if params.len() < args.len() {
-        return Ok(Err(no_meaning(span)));
+        return Ok(Err(missing(span)));
     }
     Ok(Ok(()))
 }
@@ -199,7 +198,7 @@ fn give_all(
 {
     for (i, left) in to.as_slice().iter().enumerate() {
         match results.get(i) {
-            None => return Ok(Err(no_meaning(span))),
+            None => return Ok(Err(missing(span))),
             Some(from) => match give(alloc, left, from, inner, store, mem, out)? {
                 Err(stuck) => return Ok(Err(stuck)),
                 Ok(()) => {}
@@ -207,7 +206,7 @@ fn give_all(
         }
     }
     if to.len() < results.len() {
-        return Ok(Err(no_meaning(span)));
+        return Ok(Err(missing(span)));
     }
     Ok(Ok(()))
 }

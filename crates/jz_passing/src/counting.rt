@@ -6,7 +6,7 @@ ghost use Rattle.jz_meaning.specs.States.{as_value};
 ghost use Rattle.jz_meaning.specs.Stores.{state};
 ghost use Rattle.jz_meaning.specs.Statements as statements;
 
-use crate::meaningless::no_meaning;
+use jz_assign::missing;
 use jz_data::Seq;
 use jz_io::Span;
 use jz_leak::MemMap;
@@ -20,8 +20,8 @@ fn number_at(span: Span, value: Value) -> Result<i128, Stuck>
 {
     match value {
         Value::Int(number) => Ok(number),
-        Value::Word(_) => Err(no_meaning(span)),
-        Value::Bool(_) => Err(no_meaning(span)),
+        Value::Word(_) => Err(missing(span)),
+        Value::Bool(_) => Err(missing(span)),
     }
 }
 

@@ -4,7 +4,6 @@
 mod arrays;
 mod calling;
 mod counting;
-mod meaningless;
 mod variables;
 
 pub use calling::{enter, leave};

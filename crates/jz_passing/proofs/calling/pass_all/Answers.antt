@@ -8,7 +8,7 @@ use Rattle.jz_passing.proofs.calling.pass_all.Goals as goal
 
 pub returns-in-None : goal.returns-in-None
 returns-in-None c =
-    too_few (passing c.args.span (state c.args.store.now c.args.mem.now)) (pass_one c.args.span (state c.args.store.now c.args.mem.now)) (λ x y xs ys t. refl) c.args.params.now c.args.args.now c.loop-i.i c.loop-i.out (store_of c.loop-i.inner) _ c.loop-i.invariant c.param-item.result c.no_meaning.result (record { span = c.args.span; why = Init }) c.no_meaning.ensures (λ x xs. refl) (search rules) (search rules)
+    too_few (passing c.args.span (state c.args.store.now c.args.mem.now)) (pass_one c.args.span (state c.args.store.now c.args.mem.now)) (λ x y xs ys t. refl) c.args.params.now c.args.args.now c.loop-i.i c.loop-i.out (store_of c.loop-i.inner) _ c.loop-i.invariant c.param-item.result c.missing.result (record { span = c.args.span; why = Init }) c.missing.ensures (λ x xs. refl) (search rules) (search rules)
     (sym c.get.ensures.value ∙ ap option_copied c.in-None.is)
 
 pub returns-in-Err : goal.returns-in-Err
@@ -23,4 +23,4 @@ loop-i-preserved c =
 
 pub returns-then-len : goal.returns-then-len
 returns-then-len c =
-    too_many (passing c.args.span (state c.args.store.now c.args.mem.now)) (pass_one c.args.span (state c.args.store.now c.args.mem.now)) (λ x y xs ys t. refl) c.args.params.now c.args.args.now c.loop-i.i c.loop-i.out (store_of c.loop-i.inner) _ c.loop-i.invariant c.no_meaning-then-len.result (record { span = c.args.span; why = Init }) c.no_meaning-then-len.ensures (λ y ys. refl) (search rules) (search rules)
+    too_many (passing c.args.span (state c.args.store.now c.args.mem.now)) (pass_one c.args.span (state c.args.store.now c.args.mem.now)) (λ x y xs ys t. refl) c.args.params.now c.args.args.now c.loop-i.i c.loop-i.out (store_of c.loop-i.inner) _ c.loop-i.invariant c.missing-then-len.result (record { span = c.args.span; why = Init }) c.missing-then-len.ensures (λ y ys. refl) (search rules) (search rules)
