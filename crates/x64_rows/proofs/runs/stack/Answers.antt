@@ -1,21 +1,24 @@
--- The second half of the slot has no byte yet.
+-- The second part of the stack has no byte yet.
 use Rattle.std.proofs.Common.{◌≡◌, ℕ, ◌+◌, ◌-◌, ◌%◌, ◌^◌, ◌<◌, ◌≤◌, List, length, refl, ap, ◌∙◌, arith}
-use Rattle.std.specs.Prelude.{Option, None, slice_get, nat_lt}
+use Rattle.std.specs.Prelude.{None, slice_get, nat_lt}
 use Rattle.std.specs.Ordering.{nat_cmp}
 use Rattle.std.specs.FinMap.{get, get-empty}
 use Rattle.std.proofs.lemmas.Bool.{cond_both, ltb-false}
 use Rattle.std.proofs.lemmas.Option.{slice_get_past}
 use Rattle.jz_words.specs.Memory.{Memory}
 use Rattle.jz_leak.specs.MemoryMap.{AddsBytes, byte_from}
-use Rattle.x64_rows.proofs.machine_tests.slot.Goals as goal
+use Rattle.x64_rows.proofs.runs.stack.Goals as goal
 
--- none of four bytes from an address on stands at the four addresses behind them
-apart : (at q : ℕ) (bytes : List ℕ) → at < 2 ^ 64 → length bytes ≡ 4 → (at + 4) % 2 ^ 64 ≤ q → q < (at + 4) % 2 ^ 64 + 4 → byte_from at bytes q ≡ None
+-- none of twenty bytes from an address on stands at the four addresses behind them
+apart : (at q : ℕ) (bytes : List ℕ) → at < 2 ^ 64 → length bytes ≡ 20 → (at + 20) % 2 ^ 64 ≤ q → q < (at + 20) % 2 ^ 64 + 4 → byte_from at bytes q ≡ None
 apart at q bytes fits size low high =
     cond_both (nat_lt q at) None (slice_get bytes (q - at)) (λ o. o ≡ None) (λ e. refl) (λ e. slice_get_past bytes (q - at) (omega (arith, ltb-false q at e, fits, size, low, high)))
 
-none_behind : (old new : Memory) (at q : ℕ) (bytes : List ℕ) → at < 2 ^ 64 → length bytes ≡ 4 → AddsBytes old new at bytes → get old q ≡ None
-    → (at + 4) % 2 ^ 64 ≤ q → q < (at + 4) % 2 ^ 64 + 4 → q < 2 ^ 64 → get new q ≡ None
+low_fits : (at : ℕ) → (at + 18446744073709551600) % 18446744073709551616 < 2 ^ 64
+low_fits at = omega (arith)
+
+none_behind : (old new : Memory) (at q : ℕ) (bytes : List ℕ) → at < 2 ^ 64 → length bytes ≡ 20 → AddsBytes old new at bytes → get old q ≡ None
+    → (at + 20) % 2 ^ 64 ≤ q → q < (at + 20) % 2 ^ 64 + 4 → q < 2 ^ 64 → get new q ≡ None
 none_behind old new at q bytes fits size added gone low high below =
     let none = apart at q bytes fits size low high in added.below q below ∙ rw none gone
 
@@ -24,4 +27,4 @@ add-requires c = λ q low high fits. ap (λ m. get m q) c.new-map.ensures ∙ ge
 
 pub add-requires-2 : goal.add-requires-2
 add-requires-2 c = λ q low high below.
-    none_behind _ _ c.args.at q _ c.ranges.at.fits refl c.in_ok-add.ensures.ok (ap (λ m. get m q) c.new-map.ensures ∙ get-empty nat_cmp q) low high below
+    none_behind _ _ _ q _ (low_fits c.args.at) refl c.in_ok-add.ensures.ok (ap (λ m. get m q) c.new-map.ensures ∙ get-empty nat_cmp q) low high below
