@@ -37,7 +37,8 @@ fn visit_all(found: &mut Found, all: &[usize]) -> Result<(), AllocError>
     Ok(())
 }
 
-fn calls_of(graph: &Seq<Seq<usize>>, at: usize) -> &[usize]
+/// The numbers of the functions that one calls.
+pub fn calls_of(graph: &Seq<Seq<usize>>, at: usize) -> &[usize]
     requires { at < length graph.now }
     ensures { result.now ≡ row_of graph.now at }
 {
