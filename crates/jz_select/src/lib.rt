@@ -14,4 +14,4 @@ mod shaping;
 
 pub use immediates::immediate;
 pub use pattern::Pattern;
-pub use selecting::{one_row, select, select_copy};
+pub use selecting::{equal_trees, one_row, select, select_copy};
