@@ -9,13 +9,6 @@ use Rattle.jz_listing.specs.declared.compiled.Compiled.{Compiled}
 use Rattle.jasminc_top.specs.declared.refusal.Status.{Status}
 use Rattle.jasminc_top.specs.declared.refusal.Status.TheVariants as status
 use Rattle.jasminc_top.specs.declared.refusal.Refusal.TheVariants.{NoFunction, Items}
-use Rattle.jz_first_tree.specs.declared.Param.{Param}
-use Rattle.jz_first_tree.specs.declared.Decl.{Decl}
-use Rattle.jz_first_tree.specs.declared.Ty.{Ty}
-use Rattle.jz_first_tree.specs.declared.Ty.TheVariants.{Word}
-use Rattle.jz_words.specs.declared.size.Size.TheVariants.{S64}
-use Rattle.jz_first_meaning.specs.SourceRuns.{AreArguments, FitsDecl, FitsType, IsInput}
-use Rattle.jz_lower.specs.Straight.{AreWords}
 use Rattle.jz_lower.specs.Operations.{register_of}
 use Rattle.jz_pipeline.specs.Compiling.{compiled_of}
 use Rattle.jz_pipeline.proofs.Linked.{compiled_correct}
@@ -32,20 +25,10 @@ use Rattle.jasminc_top.proofs.ItemsFit.{items_fit}
 use Rattle.jasminc_top.proofs.StartLaws.{exec_starts, words_meet, ends_within}
 use Rattle.jasminc_top.proofs.TypedTexts.{text_typed, fun_placeable, fun_resolved, found_with}
 
--- ---- items are arguments
+-- ---- items fit
 pub slice_fits : (items : List ℕ) → ((i : ℕ) → get_or items i 0 < 2 ^ 64) → ItemsFit items
 slice_fits [] h = tt
 slice_fits (n ∷ ns) h = (h 0, slice_fits ns (λ i. h (suc i)))
-
-item_arguments : (ps : List Param) (items : List ℕ) → AreWords ps → ItemsFit items → length items ≡ length ps → AreArguments ps items
-item_arguments [] [] w fit e = tt
-item_arguments [] (n ∷ ns) w fit e = absurd (omega (arith, e))
-item_arguments (p ∷ ps) [] w fit e = absurd (omega (arith, e))
-item_arguments (p ∷ ps) (n ∷ ns) w fit e =
-    (item_fits n p.var.decl w.0.declared w.0.decl w.0.ty fit.0, item_arguments ps ns w.1 fit.1 (omega (arith, e)))
-  where
-    item_fits : (n : ℕ) (o : Option Decl) (d : Decl) → o ≡ Some d → d.ty ≡ Word S64 → n < 2 ^ 64 → FitsDecl o n
-    item_fits n o d e t lt = subst (λ (q : Option Decl). FitsDecl q n) (sym e) (subst (λ (u : Ty). FitsType u n) (sym t) lt)
 
 -- ---- no cause stands
 found_by : (name : List ℕ) (funs : List Fun) (o : Option Fun) → function_named name funs ≡ o → (function_named name funs ≡ None → ⊥)
@@ -95,8 +78,10 @@ run_printed file fun items text output told written written_after made p f has m
       correct = right;
       meets = words_meet register f items fit many few l.within.0;
       memory = runs.memory;
+      is_start = runs.is_start;
       start = exec_starts register f items fit many few l.within.0 runs.memory runs.is_start;
       steps = runs.steps;
+      within = runs.within;
       ends = runs.ends;
       wrote = subst (λ (o : List ℕ). Appends written written_after o) runs.text wrote;
     }
@@ -111,8 +96,7 @@ run_ends text fun items made p f makes found many fit =
     let able = fun_placeable p f typed l.among l.within in
     let resolved = fun_resolved p f typed l.among in
     let right = subst (λ (c : Compiled). IsCorrect p f c) l.is_compiled.is (compiled_correct p f l.compiled able resolved l.safe l.is_compiled) in
-    let input : IsInput p f items = record { of_program = l.among; arguments = item_arguments f.params items able.straight.params fit many } in
-    (compiled_of register f, l.found ∙ ap Some l.is_compiled.is, ends_within register p f items input fit many able.counts.few_params l.within.0 resolved l.safe right)
+    (compiled_of register f, l.found ∙ ap Some l.is_compiled.is, ends_within register p f items l.among fit many able.counts.few_params l.within.0 resolved l.safe right)
 
 given_run : (file fun items text output : List ℕ) (made : List Compiled) → IsDone (Some (exec file fun items)) text status.Ok output made → GivesRun text fun items status.Ok output made
 given_run file fun items text output made x = subst (λ (w : Wanted). Gives w text status.Ok output made) (sym (same_command _ _ x.is)) x.gives

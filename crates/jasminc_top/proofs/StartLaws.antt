@@ -3,7 +3,7 @@ use Rattle.std.proofs.Common.{◌≡◌, ℕ, zero, suc, ◌+◌, ◌-◌, ◌*�
 use Rattle.std.proofs.lemmas.Bool.{le-ltb}
 use Rattle.std.proofs.lemmas.List.{length-set, length-map}
 use Rattle.std.proofs.lemmas.List.Elements.{All-nil}
-use Rattle.std.specs.Prelude.{Option, Some, None, is_some, slice_index, slice_set, slice_get, nat_lt, if◌then◌else◌, map, replicate, ⊤}
+use Rattle.std.specs.Prelude.{Option, Some, None, is_some, slice_index, slice_set, slice_get, nat_lt, if◌then◌else◌, map, replicate, Contains, ⊤}
 use Rattle.std.specs.FinMap as map_of
 use Rattle.std.specs.Ordering.{nat_cmp}
 use Rattle.std.specs.Option.{option_or}
@@ -22,8 +22,7 @@ use Rattle.jz_first_tree.specs.declared.Var.{Var}
 use Rattle.jz_first_tree.specs.declared.Stmt.{Stmt}
 use Rattle.jz_first_tree.specs.declared.StmtKind.{StmtKind}
 use Rattle.jz_first_tree.specs.declared.StmtKind.TheVariants as kind
-use Rattle.jz_first_meaning.specs.SourceRuns.{FunOutcome, IsInput, IsRun}
-use Rattle.jz_first_meaning.proofs.SourceLaws.{fun_some}
+use Rattle.jz_first_meaning.specs.SourceRuns.{FunOutcome, IsRun}
 use Rattle.jz_safety.specs.Alarms.{HasNoAlarm}
 use Rattle.jz_safety.specs.Resolved.{IsResolved}
 use Rattle.jz_safety.proofs.Telling.{safe_ends}
@@ -185,10 +184,10 @@ within : (k s n : ℕ) → k ≤ s * (0 + 1) → s ≡ n → n ≤ 65537 → k �
 within k s n a e b = omega (arith, a, e, b)
 
 -- started on items the code of a correct function without an alarm ends within the limit, and no step faults
-pub ends_within : (register : List ℕ → Reg) (p : Program) (f : Fun) (items : List ℕ) → IsInput p f items → ItemsFit items → length items ≡ length f.params → length f.params ≤ 6 → length f.body ≤ 65536
+pub ends_within : (register : List ℕ → Reg) (p : Program) (f : Fun) (items : List ℕ) → Contains p.funs f → ItemsFit items → length items ≡ length f.params → length f.params ≤ 6 → length f.body ≤ 65536
     → IsResolved f → HasNoAlarm f → IsCorrect p f (compiled_of register f) → EndsWithin (compiled_of register f) items 1000000
-ends_within register p f items input fit count few small resolved safe correct m h =
-    let run = fun_some p f items map_of.empty 0 input in
+ends_within register p f items among fit count few small resolved safe correct m h =
+    let run = correct.carries.has_run among items map_of.empty 0 (words_meet register f items fit count few small) in
     let ends = safe_ends p f items map_of.empty 0 run.0 resolved safe run.1 in
     let there = subst (λ (o : FunOutcome). IsRun p f items map_of.empty 0 o) ends.1 run.1 in
     let so : MatchesEnd (compiled_of register f) items return_slot code_base (exec_start items m) 0 _ _ =

@@ -1,5 +1,5 @@
 -- What the program promises of a listing and of a run that it prints.
-use Rattle.std.specs.Prelude.{◌≡◌, List, ℕ, Option, Some, None, ⊤}
+use Rattle.std.specs.Prelude.{◌≡◌, ◌≤◌, List, ℕ, Option, Some, None, ⊤}
 use Rattle.std.specs.Io.KnownBytes.{Appends}
 use Rattle.std.specs.FinMap as map_of
 use Rattle.jz_io.specs.Telling.{Telling}
@@ -10,9 +10,9 @@ use Rattle.jz_listing.specs.declared.compiled.Compiled.{Compiled}
 use Rattle.jasminc_top.specs.Words.{Wanted, compile, exec}
 use Rattle.jasminc_top.specs.Making.{TypesAs}
 use Rattle.jz_listing.specs.Listing.{listing_text}
-use Rattle.jasminc_top.specs.Answers.{HasFile, function_named, compiled_named}
+use Rattle.jasminc_top.specs.Answers.{HasFile, function_named, compiled_named, step_limit}
 use Rattle.x64_machine.specs.Steps.{steps_of}
-use Rattle.jasminc_top.specs.Running.{code_base, return_slot, exec_start, run_text}
+use Rattle.jasminc_top.specs.Running.{code_base, return_slot, IsStartMemory, exec_start, run_text}
 use Rattle.jz_correct.specs.Ends.{EndsAfter}
 use Rattle.jz_correct.specs.Starts.{MeetsPreconditions, IsStart}
 use Rattle.jz_correct.specs.Correctness.{IsCorrect, AreCorrect}
@@ -34,7 +34,8 @@ Compiles (Some (compile file)) told written written_after made = PrintsCorrect f
 Compiles (Some (exec file fun items)) told written written_after made = ⊤
 
 -- The function of that name is compiled correctly, the items meet its preconditions, and what was written is the text of its run on
--- the machine, from a start on these items to the step that ends it, and nothing else.
+-- the machine, from a start on these items and a memory of the return slot alone, to the step that ends it, which is within the limit
+-- of steps; and nothing else.
 pub record PrintsRun (file fun items : List ℕ) (told : Option Telling) (written written_after : Option (List ℕ)) (made : List Compiled) : Type 0 where
   pub text : List ℕ
   pub has : HasFile file told text
@@ -47,8 +48,10 @@ pub record PrintsRun (file fun items : List ℕ) (told : Option Telling) (writte
   pub correct : IsCorrect program function compiled
   pub meets : MeetsPreconditions compiled items map_of.empty
   pub memory : Memory
+  pub is_start : IsStartMemory memory
   pub start : IsStart compiled items map_of.empty return_slot code_base (exec_start items memory)
   pub steps : ℕ
+  pub within : steps ≤ step_limit
   pub ends : EndsAfter compiled.code code_base (exec_start items memory) steps
   pub wrote : let ran = steps_of compiled.code code_base (exec_start items memory) steps in
       Appends written written_after (run_text compiled ran.after.state ran.events steps)

@@ -73,10 +73,13 @@ Matches c words rsp0 base s n (End r m l) = MatchesEnd c words rsp0 base s n r l
 Matches c words rsp0 base s n (Cut l) = MatchesCut c rsp0 base s n l
 Matches c words rsp0 base s n (Stuck w) = ⊥
 
--- every run of the source on an input that meets the preconditions, from every start of the bytes on this input
+-- Every run of the source on an input that meets the preconditions, from every start of the bytes on this input; and for each n each
+-- such input of a function of the program has a run.
 pub record CarriesOver (p : Program) (f : Fun) (c : Compiled) : Type 0 where
   pub matches : (words : List ℕ) (memory : Memory) (n : ℕ) (o : FunOutcome) → IsRun p f words memory n o → MeetsPreconditions c words memory
       → (rsp0 base : ℕ) (s : Config) → IsStart c words memory rsp0 base s → Matches c words rsp0 base s n o
+  pub has_run : Contains p.funs f → (words : List ℕ) (memory : Memory) (n : ℕ) → MeetsPreconditions c words memory
+      → (o : FunOutcome) × IsRun p f words memory n o
 
 -- ---- the lines of the listing
 

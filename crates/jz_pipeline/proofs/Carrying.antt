@@ -4,10 +4,13 @@ use Rattle.std.specs.Prelude.{Option, Some, map, if◌then◌else◌, pos}
 use Rattle.std.proofs.lemmas.List.Elements.{All-nil, All-cons}
 use Rattle.std.specs.Cmp.Lexicographic.{pointwise, same_text}
 use Rattle.jz_words.specs.declared.size.Size.TheVariants.{S64}
+use Rattle.jz_words.specs.Sizes.{modulus}
 use Rattle.x64_insn.specs.declared.types.Reg.{Reg}
 use Rattle.x64_insn.specs.declared.types.State.{State}
 use Rattle.x64_insn.specs.Rows.{reg_word}
 use Rattle.jz_first_tree.specs.declared.Param.{Param}
+use Rattle.jz_first_tree.specs.declared.Decl.{Decl}
+use Rattle.jz_first_tree.specs.declared.Ty.{Ty}
 use Rattle.jz_first_tree.specs.declared.Var.{Var}
 use Rattle.jz_first_tree.specs.declared.Stmt.{Stmt}
 use Rattle.jz_leak.specs.declared.event.Event.TheVariants as event
@@ -17,9 +20,9 @@ use Rattle.jz_leak.specs.Applying.{apply_of, body_events, is_cut, Fits, OutFits,
 use Rattle.jz_runs.specs.Rules.{went}
 use Rattle.jz_first_meaning.specs.SourceStates.{Value, word, key_of, Store, put}
 use Rattle.jz_first_meaning.specs.SourceValues.{Evaluation, and_then, variable_value}
-use Rattle.jz_first_meaning.specs.SourceRuns.{argument, value_of_type, with_arguments, word_of, result_words}
+use Rattle.jz_first_meaning.specs.SourceRuns.{argument, value_of_type, with_arguments, word_of, result_words, FitsDecl, FitsType, AreArguments}
 use Rattle.jz_first_meaning.specs.StraightRuns.{plain_leak}
-use Rattle.jz_correct.specs.Starts.{AreInRegisters}
+use Rattle.jz_correct.specs.Starts.{AreInRegisters, AreOfSizes}
 use Rattle.jz_correct.proofs.PlainCode.{word_in}
 use Rattle.jz_lower.specs.Living.{IsNamed}
 use Rattle.jz_lower.specs.Straight.{IsWord, AreWords}
@@ -27,6 +30,18 @@ use Rattle.jz_lower.specs.Placing.{variable_of, StandIn}
 use Rattle.jz_lower.proofs.Stores.{named, put_at}
 use Rattle.jz_lower.proofs.Simulation.{then_went, defined_back, Holds}
 use Rattle.jz_pipeline.specs.Compiling.{lines_of, silent_case, straight_transformer}
+
+-- ---- words of the sizes of the lines are arguments
+fits_word : (x : Var) (w : ℕ) → IsWord x → w < modulus S64 → FitsDecl x.decl w
+fits_word x w is lt = subst (λ (o : Option Decl). FitsDecl o w) (sym is.decl) (subst (λ (t : Ty). FitsType t w) (sym is.ty) lt)
+
+pub word_arguments : (register : List ℕ → Reg) (rs : List Reg) (ps : List Param) (words : List ℕ) → AreWords ps
+    → StandIn register rs (map variable_of ps) → AreOfSizes (lines_of rs (map variable_of ps)) words → AreArguments ps words
+word_arguments register rs [] [] w s t = tt
+word_arguments register rs [] (x ∷ words) w s t = absurd t
+word_arguments register [] (p ∷ ps) words w s t = absurd s
+word_arguments register (r ∷ rs) (p ∷ ps) [] w s t = absurd t
+word_arguments register (r ∷ rs) (p ∷ ps) (x ∷ words) w s t = (fits_word p.var x w.0 t.0, word_arguments register rs ps words w.1 s.1 t.1)
 
 -- ---- at entry each parameter's word is in its register
 abbrev Any : List ℕ → Type 0
@@ -88,7 +103,7 @@ never_cut : (ss : List Stmt) → is_cut (plain_leak ss) ≡ false
 never_cut [] = refl
 never_cut (s ∷ ss) = never_cut ss
 
-no_events : (ss : List Stmt) (rsp0 : ℕ) → body_events (plain_leak ss) rsp0 (map silent_case ss) ≡ []
+pub no_events : (ss : List Stmt) (rsp0 : ℕ) → body_events (plain_leak ss) rsp0 (map silent_case ss) ≡ []
 no_events [] rsp0 = refl
 no_events (s ∷ ss) rsp0 = no_events ss rsp0
 

@@ -23,6 +23,7 @@ use Rattle.jz_first_meaning.specs.SourceStates.{State, Value, empty_store}
 use Rattle.jz_first_meaning.specs.SourceValues.{Evaluation}
 use Rattle.jz_first_meaning.specs.SourceRuns.{entry_state, result_words, outcome_of_words, FunOutcome, IsRun}
 use Rattle.jz_first_meaning.specs.StraightRuns.{run_statements, plain_leak, words_returned}
+use Rattle.jz_first_meaning.proofs.SourceLaws.{fun_some}
 use Rattle.jz_first_meaning.proofs.StraightLaws.{fun_straight}
 use Rattle.jz_safety.specs.Alarms.{HasNoAlarm}
 use Rattle.jz_safety.specs.Resolved.{IsResolved}
@@ -45,7 +46,7 @@ use Rattle.jz_lower.proofs.Stores.{word_other}
 use Rattle.jz_lower.proofs.Simulation.{then_went, Stepped, statements_step}
 use Rattle.jz_pipeline.specs.Compiling.{compiled_of, silent_case}
 use Rattle.jz_pipeline.proofs.Lines.{argument_lines, result_lines, all_plain, spelled, none_saved, no_frame, statements_keep}
-use Rattle.jz_pipeline.proofs.Carrying.{entered, given_back, fits, applied}
+use Rattle.jz_pipeline.proofs.Carrying.{word_arguments, entered, given_back, fits, applied}
 
 -- a preserved register is not given out
 preserved_kept : (r : Reg) → Contains preserved_registers r → is_given r ≡ false
@@ -144,6 +145,8 @@ module _ (p : Program) (f : Fun) (register : List ℕ → Reg) (straight : IsStr
   carries = record {
     matches = λ words memory n o run meets rsp0 base s start.
         by_words words memory n rsp0 base s start o run (words_returned f words memory) refl (fun_straight p f words memory n o run);
+    has_run = λ among words memory n meets.
+        fun_some p f words memory n (record { of_program = among; arguments = word_arguments register argument_registers f.params words straight.params placing.params meets.sizes });
   }
 
   cases_stay : (ss : List Stmt) → CasesStayIn f 0 ss (map silent_case ss)

@@ -2,6 +2,9 @@ pub mod LimitWalks
 pub mod Lines
 pub mod Carrying
 pub mod Correct
+pub mod SomeStart
+pub mod Settled
+pub mod AdditionLaws
 pub mod Linked
 pub mod Placeable
 pub mod Spelled

@@ -1,3 +1,4 @@
 pub mod Compiling
 pub mod Placed
 pub mod Stages
+pub mod Addition
