@@ -5,13 +5,13 @@ use jz_data::Seq;
 use std::alloc::{AllocError, Global};
 
 /// A function that the walk is in, and how many of its calls it has looked at.
-#[derive(Clone, Copy, Debug)]
+#[derive(Clone, Copy)]
 struct Visit {
     at: usize,
     seen: usize,
 }
 
-#[derive(Debug, Drop)]
+#[derive(Drop)]
 struct Walk {
     entered: Vec<bool>,
     inside: Vec<Visit>,
