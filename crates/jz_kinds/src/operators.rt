@@ -8,7 +8,7 @@ use jz_tree::BinOp;
 use jz_words::Size;
 
 /// The operators by what they take and give.
-#[derive(Clone, Copy, Debug, PartialEq, Eq)]
+#[derive(Clone, Copy, PartialEq, Eq)]
 pub(crate) enum Group {
     /// Of two bools.
     Logic,

@@ -7,7 +7,7 @@ use jz_scopes::{Declared, Kind, same_size};
 use jz_words::Size;
 
 /// What a place wants.
-#[derive(Clone, Copy, Debug, PartialEq, Eq)]
+#[derive(Clone, Copy, PartialEq, Eq)]
 pub(crate) enum Want {
     /// A number that is known when the text is compiled.
     Int,
@@ -24,7 +24,7 @@ pub(crate) enum Want {
 }
 
 /// What an expression is by itself.
-#[derive(Clone, Copy, Debug, PartialEq, Eq)]
+#[derive(Clone, Copy, PartialEq, Eq)]
 pub(crate) struct Form {
     /// The size of the word that it is, where it says one.
     pub(crate) size: Option<Size>,
