@@ -7,8 +7,8 @@ use jz_scopes::{Declared, Kind, same_size};
 use jz_words::Size;
 
 /// What a place wants.
-#[derive(Clone, Copy, PartialEq, Eq)]
-pub(crate) enum Want {
+#[derive(Clone, Copy)]
+pub enum Want {
     /// A number that is known when the text is compiled.
     Int,
     /// A bool.
@@ -24,14 +24,14 @@ pub(crate) enum Want {
 }
 
 /// What an expression is by itself.
-#[derive(Clone, Copy, PartialEq, Eq)]
-pub(crate) struct Form {
+#[derive(Clone, Copy)]
+pub struct Form {
     /// The size of the word that it is, where it says one.
-    pub(crate) size: Option<Size>,
+    pub size: Option<Size>,
     /// Whether it is a bool.
-    pub(crate) truth: bool,
+    pub truth: bool,
     /// Whether its value is known when the text is compiled.
-    pub(crate) inline: bool,
+    pub inline: bool,
 }
 
 pub(crate) fn fits_int(want: Want) -> bool
