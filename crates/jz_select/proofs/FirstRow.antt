@@ -11,8 +11,12 @@ use Rattle.jz_select.specs.Rows.{intrinsic_of}
 use Rattle.jz_tree.specs.declared.stmt.StmtKind.{StmtKind}
 use Rattle.jz_tree.specs.declared.expr.Expr.{Expr}
 use Rattle.jz_tree.specs.declared.stmt.Lval.{Lval}
-use Rattle.jz_select.specs.Shapes.{assign_of, shape_of}
-use Rattle.jz_select.specs.Selected.{Row, table, rows, intrinsics, intrinsic_row, is_named, NoneMatches, Tells, IsCopied, IsSelected, first_of, named, or_pattern, chosen}
+use Rattle.jz_select.specs.Places.{Answers}
+use Rattle.jz_select.specs.Shapes.{Asked, whichever, assign_of, shape_of}
+use Rattle.jz_select.specs.Hardest.{hardest}
+use Rattle.jz_select.proofs.Choices.{Keeps, assign_kept, statement_kept}
+use Rattle.jz_select.proofs.SomeAnswers.{assign_some, statement_some}
+use Rattle.jz_select.specs.Selected.{Row, table, rows, intrinsics, intrinsic_row, is_named, NoneMatches, Tells, TellsAll, IsCopied, IsSelected, first_of, named, or_pattern, chosen}
 
 all_nil : (s : Shape) → NoneMatches [] s
 all_nil s = All-nil (λ q. q.1 s ≡ false)
@@ -85,13 +89,19 @@ chosen_is s = first_append table (map intrinsic_row intrinsics) s
 chosen_tells : (s : Shape) (answer : Option Pattern) → answer ≡ chosen s → Tells rows s answer
 chosen_tells s answer e = subst (λ x. Tells rows s x) (chosen_is s ∙ sym e) (first_tells rows s)
 
-pub is_selected : (k : StmtKind) (answer : Option Pattern) → answer ≡ chosen (shape_of k) → IsSelected k answer
-unfolding IsSelected
-is_selected k answer e = chosen_tells (shape_of k) answer e
+-- what has a row with the hardest answers has it with all, and they are answers
+tells_all : (shape : Asked → Shape) → ((B : Answers) → Keeps (shape hardest) (shape (whichever B))) → (B : Answers) × (shape (whichever B) ≡ shape hardest)
+    → (answer : Option Pattern) → answer ≡ chosen (shape hardest) → TellsAll (λ B. shape (whichever B)) answer
+tells_all shape keeps (B, is) None e = (B, chosen_tells (shape (whichever B)) None (e ∙ ap chosen (sym is)))
+tells_all shape keeps some (Some p) e = λ B. chosen_tells (shape (whichever B)) (Some p) (sym (keeps B p (sym e)))
 
-pub is_copied : (to : Lval) (x : Expr) (answer : Option Pattern) → answer ≡ chosen (assign_of None to None x) → IsCopied to x answer
+pub is_selected : (k : StmtKind) (answer : Option Pattern) → answer ≡ chosen (shape_of hardest k) → IsSelected k answer
+unfolding IsSelected
+is_selected k answer e = tells_all (λ asked. shape_of asked k) (λ B. statement_kept B k) (statement_some k) answer e
+
+pub is_copied : (to : Lval) (x : Expr) (answer : Option Pattern) → answer ≡ chosen (assign_of hardest None to None x) → IsCopied to x answer
 unfolding IsCopied
-is_copied to x answer e = chosen_tells (assign_of None to None x) answer e
+is_copied to x answer e = tells_all (λ asked. assign_of asked None to None x) (λ B. assign_kept B None to None x) (assign_some None to None x) answer e
 
 none_first : (rs : List Row) (s : Shape) → NoneMatches rs s → first_of rs s ≡ None
 none_first [] s none = refl
@@ -109,6 +119,14 @@ told rs s (Some p) (r, is, (before, after, parts, holds, none)) =
     sym (ap (λ xs. first_of xs s) parts ∙ (first_behind before r after s none holds ∙ ap Some is))
 
 -- one answer at most is selected
+one_told : (shape : Answers → Shape) (a b : Option Pattern) → TellsAll shape a → TellsAll shape b → a ≡ b
+one_told shape None None t u = refl
+one_told shape None (Some q) (B, t) u = told rows (shape B) None t ∙ sym (told rows (shape B) (Some q) (u B))
+one_told shape (Some p) None t (B, u) = told rows (shape B) (Some p) (t B) ∙ sym (told rows (shape B) None u)
+one_told shape (Some p) (Some q) t u =
+    let B : Answers = λ x y. false in
+    told rows (shape B) (Some p) (t B) ∙ sym (told rows (shape B) (Some q) (u B))
+
 pub one_selected : (k : StmtKind) (a b : Option Pattern) → IsSelected k a → IsSelected k b → a ≡ b
 unfolding IsSelected
-one_selected k a b t u = told rows (shape_of k) a t ∙ sym (told rows (shape_of k) b u)
+one_selected k a b t u = one_told (λ B. shape_of (whichever B) k) a b t u

@@ -1,4 +1,12 @@
 pub mod Joins
+pub mod Indices
+pub mod Uses
+pub mod TreeLaws
+pub mod Answering
+pub mod Meetings
+pub mod Keeping
+pub mod Choices
+pub mod SomeAnswers
 pub mod Conditions
 pub mod FirstRow
 pub mod Readings

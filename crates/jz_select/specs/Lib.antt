@@ -1,8 +1,10 @@
 pub mod Sums
 pub mod Look
+pub mod Trees
 pub mod Places
 pub mod Operands
 pub mod Rows
 pub mod Shapes
+pub mod Hardest
 pub mod Selected
 pub mod Immediates

@@ -1,5 +1,6 @@
--- What an expression is: inline, a register of 64 bits, such a register times a scale; and the terms of its sum.
-use Rattle.std.specs.Prelude.{Bool, true, false, ◌&&◌, ◌||◌, Option, Some}
+-- What an expression is: an inline integer, an inline condition, a register of 64 bits, such a register times a scale;
+-- and the terms of its sum.
+use Rattle.std.specs.Prelude.{Bool, true, false, ◌&&◌, ◌||◌, not, Option, Some, if◌then◌else◌}
 use Rattle.jz_words.specs.declared.size.Size.TheVariants as sizes
 use Rattle.jz_tree.specs.declared.expr.Storage.{Storage}
 use Rattle.jz_tree.specs.declared.expr.Storage.TheVariants as storage
@@ -17,6 +18,7 @@ use Rattle.jz_select.specs.Sums.{joined, term, taken, sum_of}
 
 pub record Look : Type 0 where
   pub inline : Bool
+  pub condition : Bool
   pub reg : Bool
   pub scaled : Bool
   pub sum : Sum
@@ -43,8 +45,41 @@ abbrev pub is_regs64 : Decided → Bool
 is_regs64 (Some (storage.Reg, kind.Array sizes.S64)) = true
 is_regs64 _ = false
 
-abbrev pub looks : Bool → Bool → Bool → Look
-looks i r s = record { inline = i; reg = r; scaled = s; sum = term i r s }
+abbrev pub looks : Bool → Bool → Bool → Bool → Look
+looks i c r s = record { inline = i; condition = c; reg = r; scaled = s; sum = term i r s }
+
+-- of bools a bool
+abbrev pub joins : BinOp → Bool
+joins op.AndThen = true
+joins op.OrElse = true
+joins _ = false
+
+-- of numbers a bool
+abbrev pub compares_values : BinOp → Bool
+compares_values op.Eq = true
+compares_values op.Ne = true
+compares_values op.Lt = true
+compares_values op.Le = true
+compares_values op.Gt = true
+compares_values op.Ge = true
+compares_values op.LtS = true
+compares_values op.LeS = true
+compares_values op.GtS = true
+compares_values op.GeS = true
+compares_values _ = false
+
+-- of integers an integer
+abbrev pub gives_number : BinOp → Bool
+gives_number o = not (joins o) && not (compares_values o)
+
+-- an inline integer is built of numbers, inline variables and operations that give integers; a bool is none
+abbrev pub bin_inline : BinOp → Look → Look → Bool
+bin_inline o a b = gives_number o && (b.inline && a.inline)
+
+-- an inline condition is built of `true`, `false`, comparisons of inline integers, `&&`, `||` and `!`
+abbrev pub bin_condition : BinOp → Look → Look → Bool
+bin_condition o a b =
+    if joins o then b.condition && a.condition else compares_values o && (b.inline && a.inline)
 
 -- a register times an inline expression, in either order; what value a scale may have the expansion asks
 abbrev pub bin_scaled : BinOp → Look → Look → Bool
@@ -55,18 +90,24 @@ bin_scaled _ a b = false
 abbrev pub bin_sum : BinOp → Look → Look → Sum
 bin_sum op.Add a b = joined b.sum a.sum
 bin_sum op.Sub a b = joined (taken b.inline) a.sum
-bin_sum o a b = term (b.inline && a.inline) false (bin_scaled o a b)
+bin_sum o a b = term (bin_inline o a b) false (bin_scaled o a b)
 
 abbrev pub look_step : Expr-F Look Kind Look (Storage × Kind) Decided → Look
-look_step (Expr-F.Num n at) = looks true false false
-look_step (Expr-F.Expr::Bool b at) = looks true false false
-look_step (Expr-F.Var v) = looks (is_inline_var v) (is_reg64 v) false
-look_step (Expr-F.Cell v at) = looks false (is_regs64 v && at.inline) false
-look_step (Expr-F.Load a) = looks false false false
-look_step (Expr-F.Neg a at) = looks a.inline false false
-look_step (Expr-F.Not a at) = looks a.inline false false
-look_step (Expr-F.Cast size signed a at) = looks false false false
-look_step (Expr-F.Bin o a b at) = record { inline = b.inline && a.inline; reg = false; scaled = bin_scaled o a b; sum = bin_sum o a b }
+look_step (Expr-F.Num n at) = looks true false false false
+look_step (Expr-F.Expr::Bool b at) = looks false true false false
+look_step (Expr-F.Var v) = looks (is_inline_var v) false (is_reg64 v) false
+look_step (Expr-F.Cell v at) = looks false false (is_regs64 v && at.inline) false
+look_step (Expr-F.Load a) = looks false false false false
+look_step (Expr-F.Neg a at) = looks a.inline false false false
+look_step (Expr-F.Not a at) = looks a.inline a.condition false false
+look_step (Expr-F.Cast size signed a at) = looks false false false false
+look_step (Expr-F.Bin o a b at) = record {
+  inline = bin_inline o a b;
+  condition = bin_condition o a b;
+  reg = false;
+  scaled = bin_scaled o a b;
+  sum = bin_sum o a b;
+}
 
 abbrev pub look_of : Expr → Look
 look_of = fold-Expr _ _ _ _ _ look_step kind_step (λ a. a.at) (λ d. (d.storage, d.ty)) (λ v. v.decl)

@@ -1,5 +1,5 @@
 -- The class of an operand and of a result.
-use Rattle.std.specs.Prelude.{ℤ, pos, Bool, true, false, ◌&&◌, Option, None, Some, if◌then◌else◌}
+use Rattle.std.specs.Prelude.{ℤ, pos, Bool, true, false, Option, None, Some, if◌then◌else◌}
 use Rattle.std.specs.Ordering.{int_eq}
 use Rattle.jz_words.specs.declared.size.Size.{Size}
 use Rattle.jz_words.specs.declared.size.Size.TheVariants as sizes
@@ -19,8 +19,8 @@ use Rattle.jz_select.specs.declared.class.Class.TheVariants as class
 use Rattle.jz_select.specs.declared.class.Operand.{Operand}
 use Rattle.jz_select.specs.declared.look.Kind.TheVariants as kind
 use Rattle.jz_select.specs.Sums.{is_address, is_index}
-use Rattle.jz_select.specs.Look.{Decided, decl_of, look_of, terms_of}
-use Rattle.jz_select.specs.Places.{Layer, meeting_of}
+use Rattle.jz_select.specs.Look.{Decided, decl_of, look_of, terms_of, bin_inline}
+use Rattle.jz_select.specs.Places.{Layer, Answers, meeting_of}
 
 abbrev pub var_class : Decided → Class
 var_class (Some (storage.Reg, kind.Word z)) = class.Reg z
@@ -65,14 +65,14 @@ masked _ a b = class.Other
 
 abbrev pub class_layer : Layer → Class
 class_layer (Expr-F.Num n at) = class.Inline
-class_layer (Expr-F.Expr::Bool b at) = class.Inline
+class_layer (Expr-F.Expr::Bool b at) = class.Other
 class_layer (Expr-F.Var v) = var_class (decl_of v)
 class_layer (Expr-F.Cell v at) = cell_of v at
 class_layer (Expr-F.Load a) = mem_of (out-Access a).size (out-Access a).at
 class_layer (Expr-F.Neg a at) = inline_or (look_of a).inline class.Other
 class_layer (Expr-F.Not a at) = inline_or (look_of a).inline class.Other
 class_layer (Expr-F.Cast size signed a at) = class.Other
-class_layer (Expr-F.Bin o a b at) = inline_or ((look_of b).inline && (look_of a).inline) (masked o a b)
+class_layer (Expr-F.Bin o a b at) = inline_or (bin_inline o (look_of a) (look_of b)) (masked o a b)
 
 abbrev pub class_of : Expr → Class
 class_of e = class_layer (out-Expr e)
@@ -83,5 +83,5 @@ dest_of (lval.Var v) = var_class (decl_of v)
 dest_of (lval.Cell v at) = cell_of v at
 dest_of (lval.Store a) = mem_of (out-Access a).size (out-Access a).at
 
-abbrev pub operand_of : Lval → Expr → Operand
-operand_of d e = record { class = class_of e; meeting = meeting_of d e }
+abbrev pub operand_of : Answers → Lval → Expr → Operand
+operand_of answers d e = record { class = class_of e; meeting = meeting_of answers d e }

@@ -1,5 +1,5 @@
 -- The rows of the pattern table and the intrinsics, by the classes of their operands. R is a register, M memory, I an
--- inline expression; d is R or M.
+-- inline integer; d is R or M.
 use Rattle.std.specs.Prelude.{Bool, true, false, ◌&&◌, ◌||◌, not, nat_lt, Option, Some, None, if◌then◌else◌}
 use Rattle.jz_words.specs.declared.size.Size.{Size}
 use Rattle.jz_words.specs.declared.size.Size.TheVariants as sizes
@@ -62,19 +62,12 @@ abbrev pub is_apart_from : Meeting → Bool
 is_apart_from meeting.Apart = true
 is_apart_from _ = false
 
-abbrev pub is_perhaps_place : Meeting → Bool
-is_perhaps_place meeting.Perhaps = true
-is_perhaps_place _ = false
-
--- the operand is the destination; the destination does not stand in it; or it is undecided whether it is the destination
+-- the operand is the destination; the destination does not stand in it
 abbrev pub is_same : Operand → Bool
 is_same o = is_same_place o.meeting
 
 abbrev pub is_apart : Operand → Bool
 is_apart o = is_apart_from o.meeting
-
-abbrev pub is_perhaps : Operand → Bool
-is_perhaps o = is_perhaps_place o.meeting
 
 -- ---- sizes
 abbrev pub size_of : Class → Option Size
@@ -151,13 +144,13 @@ swaps p = adds p || joins_bits p
 
 -- ---- the destination as first operand
 -- an instruction `OP d, o` has its first operand where its result goes. Either the first operand a is d; or the operands
--- may be swapped and o is d; or d is a register that the rest does not have, and a is copied to it first (where d and o
--- are undecided cells of one array, both ways have to do). Then one instruction has at most one M.
+-- may be swapped and o is d; or d is a register that the rest does not have, and a is copied to it first. Then one
+-- instruction has at most one M.
 abbrev pub computes : Bool → Class → Operand → Operand → Bool
 computes swapped d a o = is_rm d && (is_rmi a.class &&
     ((is_same a && not (is_m d && is_m o.class))
     || ((swapped && (is_same o && not (is_m d && is_m a.class)))
-    || (is_r d && (is_apart o || (swapped && is_perhaps o))))))
+    || (is_r d && is_apart o))))
 
 -- the same without a second operand that is a place
 abbrev pub changes : Class → Operand → Bool

@@ -9,7 +9,9 @@ use Rattle.jz_select.specs.declared.shape.Shape.{Shape}
 use Rattle.jz_select.specs.Rows.{p1, p2, p3, p4, p5, p6, p7, p8, p9, p10, p11, p12, p13, p14, condition, intrinsic_of}
 use Rattle.jz_tree.specs.declared.expr.Expr.{Expr}
 use Rattle.jz_tree.specs.declared.stmt.Lval.{Lval}
-use Rattle.jz_select.specs.Shapes.{assign_of, shape_of}
+use Rattle.jz_select.specs.Places.{Answers}
+use Rattle.jz_select.specs.Shapes.{whichever, assign_of, shape_of}
+use Rattle.jz_select.specs.Hardest.{hardest}
 
 -- a pattern, and which statements match it
 abbrev pub Row : Type 0
@@ -78,13 +80,18 @@ abbrev pub Tells : List Row → Shape → Option Pattern → Type 0
 Tells rs s None = NoneMatches rs s
 Tells rs s (Some p) = (r : Row) × (r.0 ≡ p) × FirstMatches rs s r
 
--- the statement matches the row of that pattern, and no row before it; or it matches none
+-- whichever way the open comparisons go, the statement matches the row of that pattern, and no row before it; or there are
+-- answers with which it matches none
+abbrev pub TellsAll : (Answers → Shape) → Option Pattern → Type 0
+TellsAll shape None = (answers : Answers) × NoneMatches rows (shape answers)
+TellsAll shape (Some p) = (answers : Answers) → Tells rows (shape answers) (Some p)
+
 unfoldable pub IsSelected : StmtKind → Option Pattern → Type 0
-IsSelected k answer = Tells rows (shape_of k) answer
+IsSelected k answer = TellsAll (λ answers. shape_of (whichever answers) k) answer
 
 -- the same of `to = e`, as a copy of an argument or result of a call is
 unfoldable pub IsCopied : Lval → Expr → Option Pattern → Type 0
-IsCopied to e answer = Tells rows (assign_of None to None e) answer
+IsCopied to e answer = TellsAll (λ answers. assign_of (whichever answers) None to None e) answer
 
 -- ---- the same by a function
 abbrev pub first_of : List Row → Shape → Option Pattern
@@ -104,3 +111,10 @@ or_pattern (Some p) b = Some p
 
 unfoldable pub chosen : Shape → Option Pattern
 chosen s = or_pattern (first_of table s) (named (intrinsic_of s))
+
+-- the answers with which it is hardest tell which row is selected
+unfoldable pub selected : StmtKind → Option Pattern
+selected k = chosen (shape_of hardest k)
+
+unfoldable pub copied : Lval → Expr → Option Pattern
+copied to e = chosen (assign_of hardest None to None e)

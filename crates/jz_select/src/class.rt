@@ -33,9 +33,7 @@ pub enum Class {
 pub enum Meeting {
     /// They are one place.
     Same,
-    /// They are cells of one array, and only the values of their indexes tell whether they are one.
-    Perhaps,
-    /// The destination stands in the operand, or may stand there.
+    /// The destination stands in the operand.
     Within,
     /// The destination does not stand in the operand.
     Apart,

@@ -13,5 +13,6 @@ mod shape;
 mod shaping;
 
 pub use immediates::immediate;
+pub use look::gives_number;
 pub use pattern::Pattern;
-pub use selecting::{one_row, select, select_copy};
+pub use selecting::{equal_trees, one_row, select, select_copy};

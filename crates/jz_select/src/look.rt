@@ -1,6 +1,6 @@
 // What an expression is.
 ghost use Rattle.std.specs.Prelude.{◌≡◌};
-ghost use Rattle.jz_select.specs.Look.{look_of, decl_of, kind_of_ty, is_inline_var, is_reg64, is_regs64, terms_of};
+ghost use Rattle.jz_select.specs.Look.{look_of, decl_of, kind_of_ty, is_inline_var, is_reg64, is_regs64, terms_of, joins as joins_bools, compares_values as compares_values_is, gives_number as gives_number_is};
 ghost use Rattle.jz_select.specs.Sums.{joined, term};
 
 use crate::class::Sum;
@@ -54,6 +54,31 @@ fn is_words(v: &Var) -> bool
     matches!(decl(v), Some((Storage::Reg, Kind::Array(Size::S64))))
 }
 
+fn joins(op: BinOp) -> bool
+    ensures { result ≡ joins_bools op }
+{
+    matches!(op, BinOp::AndThen | BinOp::OrElse)
+}
+
+/// Whether it is a comparison.
+pub fn compares_values(op: BinOp) -> bool
+    ensures { result ≡ compares_values_is op }
+{
+    match op {
+        BinOp::Eq | BinOp::Ne | BinOp::Lt | BinOp::Le | BinOp::Gt | BinOp::Ge => true,
+        BinOp::LtS | BinOp::LeS | BinOp::GtS | BinOp::GeS => true,
+        _ => false,
+    }
+}
+
+/// Whether it gives an integer of integers.
+pub fn gives_number(op: BinOp) -> bool
+    ensures { result ≡ gives_number_is op }
+{
+    !joins(op) && !compares_values(op)
+}
+
+/// Whether it is an integer that is known when the text is compiled.
 pub fn inline(e: &Expr) -> bool
     ensures { result ≡ (look_of e.now).inline }
 {
@@ -61,15 +86,46 @@ pub fn inline(e: &Expr) -> bool
     loop {
         match cur {
             Expr::Num(_, _) => return true,
-            Expr::Bool(_, _) => return true,
+            Expr::Bool(_, _) => return false,
             Expr::Var(v) => return is_inline(v),
             Expr::Cell(_, _) => return false,
             Expr::Load(_) => return false,
             Expr::Neg(a, _) => cur = a.get(),
             Expr::Not(a, _) => cur = a.get(),
             Expr::Cast { .. } => return false,
-            Expr::Bin(_, a, b, _) => {
+            Expr::Bin(op, a, b, _) => {
+                if !gives_number(*op) {
+                    return false;
+                }
                 if !inline(b.get()) {
+                    return false;
+                }
+                cur = a.get();
+            }
+        }
+    }
+}
+
+/// Whether it is a bool that is known when the text is compiled.
+pub fn inline_condition(e: &Expr) -> bool
+    ensures { result ≡ (look_of e.now).condition }
+{
+    let mut cur = e;
+    loop {
+        match cur {
+            Expr::Num(_, _) => return false,
+            Expr::Bool(_, _) => return true,
+            Expr::Var(_) => return false,
+            Expr::Cell(_, _) => return false,
+            Expr::Load(_) => return false,
+            Expr::Neg(_, _) => return false,
+            Expr::Not(a, _) => cur = a.get(),
+            Expr::Cast { .. } => return false,
+            Expr::Bin(op, a, b, _) => {
+                if !joins(*op) {
+                    return compares_values(*op) && inline(b.get()) && inline(a.get());
+                }
+                if !inline_condition(b.get()) {
                     return false;
                 }
                 cur = a.get();

@@ -1,12 +1,14 @@
 // The class of an operand and of a result.
 ghost use Rattle.std.specs.Prelude.{◌≡◌};
+ghost use Rattle.std.specs.Option.{option_copied};
 ghost use Rattle.jz_tree.specs.declared.expr.Expr.TheViews.{out-Expr};
 ghost use Rattle.jz_integers.specs.Integers.{written_number as number_of};
 ghost use Rattle.jz_select.specs.Look.{decl_of};
 ghost use Rattle.jz_select.specs.Operands.{var_class, cell_of, mem_of, mask_of, masked, is_byte, register_layer, class_of, dest_of, operand_of};
+ghost use Rattle.jz_select.specs.Hardest.{hardest};
 
 use crate::class::{Class, Mask, Operand};
-use crate::look::{Kind, decl, inline, sum};
+use crate::look::{Kind, decl, gives_number, inline, sum};
 use crate::places::meet;
 use jz_integers::written_number;
 use jz_tree::{BinOp, Expr, Lval, Storage, Var};
@@ -99,7 +101,7 @@ pub fn class(e: &Expr) -> Class
 {
     match e {
         Expr::Num(_, _) => Class::Inline,
-        Expr::Bool(_, _) => Class::Inline,
+        Expr::Bool(_, _) => Class::Other,
         Expr::Var(v) => class_of_var(v),
         Expr::Cell(v, at) => class_of_cell(v, at.get()),
         Expr::Load(a) => class_of_access(a.size, a.at.get()),
@@ -115,7 +117,7 @@ pub fn class(e: &Expr) -> Class
         },
         Expr::Cast { .. } => Class::Other,
         Expr::Bin(op, a, b, _) => {
-            if inline(b.get()) && inline(a.get()) {
+            if gives_number(*op) && inline(b.get()) && inline(a.get()) {
                 Class::Inline
             } else {
                 class_of_and(*op, a.get(), b.get())
@@ -135,12 +137,13 @@ pub fn dest(to: &Lval) -> Class
     }
 }
 
-/// The operand beside that destination.
-pub fn operand(to: &Lval, e: &Expr) -> Operand
-    ensures { result ≡ operand_of to.now e.now }
+/// The operand beside that destination and the first operand, if there is one. Where cells are not told apart, it is the
+/// operand for which a row is hardest to match.
+pub fn operand(to: &Lval, first: Option<&Expr>, e: &Expr) -> Operand
+    ensures { result ≡ operand_of (hardest to.now (option_copied first.entry)) to.now e.now }
 {
     Operand {
         class: class(e),
-        meeting: meet(to, e),
+        meeting: meet(to, first, e),
     }
 }

@@ -1,10 +1,18 @@
 // When two operands are one place, and when a place stands in an operand.
-ghost use Rattle.std.specs.Prelude.{◌≡◌, ℤ, Option, nat_eq};
+ghost use Rattle.std.specs.Prelude.{◌≡◌, Option, nat_eq, is_some};
+ghost use Rattle.std.specs.Option.{option_copied};
 ghost use Rattle.jz_words.specs.Sizes.{bits_of};
-ghost use Rattle.jz_select.specs.Places.{Named, named, names_eq, cell_eq, number_of, bool_eq, alike as is_alike, literal as literal_of, differ as differ_is, use_of, touches as touches_is, meeting_of, elsewhere as elsewhere_is, cells_meet, var_layer_meets, cell_layer_meets};
+ghost use Rattle.jz_integers.specs.Integers.{written_number as written};
+ghost use Rattle.jz_tree.specs.declared.expr.Expr.{Expr};
 ghost use Rattle.jz_tree.specs.declared.expr.Expr.TheViews.{out-Expr};
+ghost use Rattle.jz_select.specs.Trees.{Named, Tree, named, names_eq, cell_eq, number_of, bool_eq, tree_of, tree_eq, index_of, indices_eq, index_if};
+ghost use Rattle.jz_select.specs.Places.{Answers, is_number, one_cell as one_cell_is, same_index as same_index_is, touches as touches_is, touches_layer, elsewhere as elsewhere_is, one_or_apart as one_or_apart_is, var_layer_meets, cell_layer_meets, store_layer_meets, meeting_of};
+ghost use Rattle.jz_select.specs.Hardest.{guess, cell_index as cell_index_of, first_index as first_index_of, in_memory as in_memory_is, hardest};
 
 use crate::class::Meeting;
+use crate::operand::dest;
+use crate::rows::m;
+use jz_integers::written_number;
 use jz_tree::{BinOp, Expr, Lval, Var};
 use jz_words::Size;
 
@@ -76,7 +84,7 @@ fn number(op: BinOp) -> u8
 /// Whether both are equal but for where they stand.
 #[cycle(alike)]
 pub fn alike(one: &Expr, other: &Expr) -> bool
-    ensures { result ≡ is_alike one.now other.now }
+    ensures { result ≡ tree_eq (tree_of one.now) (tree_of other.now) }
 {
     let mut a = one;
     let mut b = other;
@@ -102,7 +110,7 @@ pub fn alike(one: &Expr, other: &Expr) -> bool
 
 #[cycle(alike)]
 fn alike_single(one: &Expr, other: &Expr) -> bool
-    ensures { result ≡ is_alike one.now other.now }
+    ensures { result ≡ tree_eq (tree_of one.now) (tree_of other.now) }
 {
     match one {
         Expr::Num(n, _) => match other {
@@ -162,48 +170,85 @@ fn alike_single(one: &Expr, other: &Expr) -> bool
     }
 }
 
-/// The number that the expression is.
-fn literal(e: &Expr) -> Option<i128>
-    ensures is { result ≡ literal_of e.now }
-    ensures used { (d : Named) (k : Option ℤ) → (use_of d k e.now).number ≡ result }
-{
-    match e {
-        Expr::Num(n, _) => Some(*n),
-        Expr::Bool(_, _) => None,
-        Expr::Var(_) => None,
-        Expr::Cell(_, _) => None,
-        Expr::Load(_) => None,
-        Expr::Neg(_, _) => None,
-        Expr::Not(_, _) => None,
-        Expr::Cast { .. } => None,
-        Expr::Bin(_, _, _, _) => None,
-    }
-}
+// An index has a value where it is a number.
+#[tactic(auto, using(crate::proofs::Indices::number_is, crate::proofs::Indices::index_is))]
+fn index_law(e: &Expr)
+    ensures number { is_number (index_of e.now) ≡ is_some (written e.now) }
+    ensures same { (o : Expr) → tree_eq (index_of e.now) (index_of o) ≡ indices_eq (written e.now) (written o) (tree_eq (tree_of e.now) (tree_of o)) }
+{}
 
-fn differ(a: Option<i128>, b: Option<i128>) -> bool
-    ensures { result ≡ differ_is a b }
+/// Whether both are one index: by their values, or by their trees.
+fn same_index(one: &Expr, other: &Expr) -> bool
+    ensures { result ≡ tree_eq (index_of one.now) (index_of other.now) }
 {
-    match a {
-        None => false,
-        Some(j) => match b {
+    index_law(one);
+    match written_number(one) {
+        None => match written_number(other) {
+            None => alike(one, other),
+            Some(_) => false,
+        },
+        Some(j) => match written_number(other) {
             None => false,
-            Some(k) => j != k,
+            Some(k) => j == k,
         },
     }
 }
 
-/// Whether the variable, or its cell with that index, stands in the expression or may stand there.
-fn touches(d: &Var, index: Option<i128>, e: &Expr) -> bool
-    ensures { result ≡ touches_is (named d.now) index e.now }
+fn has_value(index: &Expr) -> bool
+    ensures { result ≡ is_number (index_of index.now) }
+{
+    index_law(index);
+    written_number(index).is_some()
+}
+
+/// The answer with which a row is hardest to match.
+fn guessed(memory: bool, first: Option<&Expr>, index: &Expr) -> bool
+    ensures { (x : Tree) → result ≡ guess memory (index_if (option_copied first.entry)) x (index_of index.now) }
+{
+    if memory {
+        return false;
+    }
+    match first {
+        None => true,
+        Some(first) => !same_index(first, index),
+    }
+}
+
+fn one_cell(memory: bool, first: Option<&Expr>, one: &Expr, other: &Expr) -> bool
+    ensures { result ≡ one_cell_is (guess memory (index_if (option_copied first.entry))) (index_of one.now) (index_of other.now) }
+{
+    same_index(one, other) || !(has_value(one) && has_value(other)) && guessed(memory, first, other)
+}
+
+/// The same, where the destination has an index.
+fn at_index(memory: bool, first: Option<&Expr>, index: Option<&Expr>, other: &Expr) -> bool
+    ensures { result ≡ same_index_is (guess memory (index_if (option_copied first.entry))) (index_if (option_copied index.entry)) (index_of other.now) }
+{
+    match index {
+        None => true,
+        Some(index) => one_cell(memory, first, index, other),
+    }
+}
+
+// Where a place stands in an expression, by its outermost operation.
+#[tactic(auto, using(crate::proofs::Uses::touches_out))]
+fn touches_law(e: &Expr)
+    ensures { (answers : Answers) (d : Named) (x : Option Tree) → touches_is answers d x e.now ≡ touches_layer answers d x (out-Expr e.now) }
+{}
+
+/// Whether the variable, or its cell with that index, stands in the expression.
+fn touches(d: &Var, index: Option<&Expr>, memory: bool, first: Option<&Expr>, e: &Expr) -> bool
+    ensures { result ≡ touches_is (guess memory (index_if (option_copied first.entry))) (named d.now) (index_if (option_copied index.entry)) e.now }
 {
     let mut cur = e;
     loop {
+        touches_law(cur);
         match cur {
             Expr::Num(_, _) => return false,
             Expr::Bool(_, _) => return false,
             Expr::Var(v) => return same_var(v, d),
             Expr::Cell(v, at) => {
-                if same_var(v, d) && !differ(index, literal(at.get())) {
+                if same_var(v, d) && at_index(memory, first, index, at.get()) {
                     return true;
                 }
                 cur = at.get();
@@ -218,20 +263,13 @@ fn touches(d: &Var, index: Option<i128>, e: &Expr) -> bool
                 span: _,
             } => cur = e.get(),
             Expr::Bin(_, a, b, _) => {
-                if touches(d, index, b.get()) {
+                if touches(d, index, memory, first, b.get()) {
                     return true;
                 }
                 cur = a.get();
             }
         }
     }
-}
-
-// The same for a destination's index.
-fn written(index: &Expr) -> Option<i128>
-    ensures { result ≡ literal_of index.now }
-{
-    literal(index)
 }
 
 fn elsewhere(touched: bool) -> Meeting
@@ -244,72 +282,86 @@ fn elsewhere(touched: bool) -> Meeting
     }
 }
 
-fn meet_var(d: &Var, e: &Expr) -> Meeting
-    ensures { result ≡ var_layer_meets (named d.now) e.now (out-Expr e.now) }
+fn one_or_apart(same: bool) -> Meeting
+    ensures { result ≡ one_or_apart_is same }
+{
+    if same { Meeting::Same } else { Meeting::Apart }
+}
+
+fn meet_var(d: &Var, memory: bool, first: Option<&Expr>, e: &Expr) -> Meeting
+    ensures { result ≡ var_layer_meets (guess memory (index_if (option_copied first.entry))) (named d.now) e.now (out-Expr e.now) }
 {
     match e {
-        Expr::Var(v) => if same_var(v, d) {
-            Meeting::Same
-        } else {
-            Meeting::Apart
-        },
-        _ => elsewhere(touches(d, None, e)),
+        Expr::Var(v) => one_or_apart(same_var(v, d)),
+        _ => elsewhere(touches(d, None, memory, first, e)),
     }
 }
 
-fn meet_cells(k: &Expr, at: &Expr) -> Meeting
-    ensures { result ≡ cells_meet (is_alike k.now at.now) (differ_is (literal_of k.now) (literal_of at.now)) }
-{
-    if alike(k, at) {
-        Meeting::Same
-    } else if differ(written(k), written(at)) {
-        Meeting::Apart
-    } else {
-        Meeting::Perhaps
-    }
-}
-
-fn meet_elsewhere(d: &Var, k: &Expr, e: &Expr) -> Meeting
-    ensures { result ≡ elsewhere_is (touches_is (named d.now) (literal_of k.now) e.now) }
-{
-    elsewhere(touches(d, written(k), e))
-}
-
-fn meet_cell(d: &Var, k: &Expr, other: Meeting, e: &Expr) -> Meeting
-    ensures { result ≡ cell_layer_meets (named d.now) k.now other (out-Expr e.now) }
+fn meet_cell(d: &Var, k: &Expr, memory: bool, first: Option<&Expr>, e: &Expr) -> Meeting
+    ensures { result ≡ cell_layer_meets (guess memory (index_if (option_copied first.entry))) (named d.now) (index_of k.now) e.now (out-Expr e.now) }
 {
     match e {
         Expr::Cell(v, at) => {
             if same_var(v, d) {
-                meet_cells(k, at.get())
+                one_or_apart(one_cell(memory, first, k, at.get()))
             } else {
-                other
+                elsewhere(touches(d, Some(k), memory, first, e))
             }
         }
-        _ => other,
+        _ => elsewhere(touches(d, Some(k), memory, first, e)),
     }
 }
 
-/// How the destination meets the operand.
-pub fn meet(to: &Lval, e: &Expr) -> Meeting
-    ensures { result ≡ meeting_of to.now e.now }
+fn meet_store(at: &Expr, e: &Expr) -> Meeting
+    ensures { result ≡ store_layer_meets (tree_of at.now) (out-Expr e.now) }
 {
+    match e {
+        Expr::Load(b) => one_or_apart(alike(at, b.at.get())),
+        _ => Meeting::Apart,
+    }
+}
+
+/// The index of the operand, where it is a cell of that array.
+fn cell_index<'a>(d: &Var, e: &'a Expr) -> Option<&'a Expr>
+    ensures { index_if (option_copied result) ≡ cell_index_of (named d.now) (out-Expr e.now) }
+{
+    match e {
+        Expr::Cell(v, at) => if same_var(v, d) { Some(at.get()) } else { None },
+        _ => None,
+    }
+}
+
+fn first_index<'a>(to: &Lval, first: Option<&'a Expr>) -> Option<&'a Expr>
+    ensures { index_if (option_copied result) ≡ first_index_of to.now (option_copied first.entry) }
+{
+    match first {
+        None => None,
+        Some(a) => match to {
+            Lval::Cell(v, _) => cell_index(v, a),
+            _ => None,
+        },
+    }
+}
+
+fn in_memory(to: &Lval, first: Option<&Expr>) -> bool
+    ensures { result ≡ in_memory_is to.now (option_copied first.entry) }
+{
+    match first {
+        None => false,
+        Some(_) => m(dest(to)),
+    }
+}
+
+/// How the destination meets the operand, beside the first operand, if there is one.
+pub fn meet(to: &Lval, first: Option<&Expr>, e: &Expr) -> Meeting
+    ensures { result ≡ meeting_of (hardest to.now (option_copied first.entry)) to.now e.now }
+{
+    let memory = in_memory(to, first);
+    let cell = first_index(to, first);
     match to {
         Lval::Skip(_) => Meeting::Apart,
-        Lval::Var(v) => meet_var(v, e),
-        Lval::Cell(v, k) => {
-            let index = k.get();
-            meet_cell(v, index, meet_elsewhere(v, index, e), e)
-        }
-        Lval::Store(a) => match e {
-            Expr::Load(b) => {
-                if alike(a.at.get(), b.at.get()) {
-                    Meeting::Same
-                } else {
-                    Meeting::Apart
-                }
-            }
-            _ => Meeting::Apart,
-        },
+        Lval::Var(v) => meet_var(v, memory, cell, e),
+        Lval::Cell(v, k) => meet_cell(v, k.get(), memory, cell, e),
+        Lval::Store(a) => meet_store(a.at.get(), e),
     }
 }

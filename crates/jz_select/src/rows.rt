@@ -1,6 +1,6 @@
 // The first row that matches, chosen by the operation.
 ghost use Rattle.std.specs.Prelude.{◌≡◌, Some, None};
-ghost use Rattle.jz_select.specs.Rows.{is_r, is_m, is_i, is_rm, is_rmi, is_flag, is_skip, is_flag_result, is_pinned, is_same, is_apart, is_perhaps, size_of, or_size, is_wide, is_long, is_longest, is_byte_size, is_below, swaps, computes as computes_is, changes as changes_is, are_inline, may_lead, times as times_is, times_inline as times_inline_is, product_size as product_size_of, is_product, shifts_inline as shifts_inline_is, keeps as keeps_is, masks as masks_is, shifts_masked as shifts_masked_is, one_fits as one_fits_is, two_fits as two_fits_is, three_fits as three_fits_is, divides_long as divides_long_is, sets as sets_is, sums, is_quotient, named_if, intrinsic_of};
+ghost use Rattle.jz_select.specs.Rows.{is_r, is_m, is_i, is_rm, is_rmi, is_flag, is_skip, is_flag_result, is_pinned, is_same, is_apart, size_of, or_size, is_wide, is_long, is_longest, is_byte_size, is_below, divides as divides_is, swaps, computes as computes_is, changes as changes_is, are_inline, may_lead, times as times_is, times_inline as times_inline_is, product_size as product_size_of, is_product, shifts_inline as shifts_inline_is, keeps as keeps_is, masks as masks_is, shifts_masked as shifts_masked_is, one_fits as one_fits_is, two_fits as two_fits_is, three_fits as three_fits_is, divides_long as divides_long_is, sets as sets_is, sums, is_quotient, named_if, intrinsic_of};
 ghost use Rattle.jz_select.specs.Selected.{table, operations, first_of, row_if, chosen};
 
 use crate::class::{Class, Mask, Meeting, Operand};
@@ -75,12 +75,6 @@ pub fn apart(o: Operand) -> bool
     matches!(o.meeting, Meeting::Apart)
 }
 
-fn perhaps(o: Operand) -> bool
-    ensures { result ≡ is_perhaps o }
-{
-    matches!(o.meeting, Meeting::Perhaps)
-}
-
 fn size(c: Class) -> Option<Size>
     ensures { result ≡ size_of c }
 {
@@ -140,6 +134,12 @@ fn below(y: Option<Size>, z: Size) -> bool
     }
 }
 
+pub fn divides(op: BinOp) -> bool
+    ensures { result ≡ divides_is op }
+{
+    matches!(op, BinOp::Div | BinOp::Rem | BinOp::DivS | BinOp::RemS)
+}
+
 fn swapped(op: BinOp) -> bool
     ensures { result ≡ swaps op }
 {
@@ -152,7 +152,7 @@ fn computes(swapped: bool, d: Class, a: Operand, o: Operand) -> bool
 {
     let itself = same(a) && !(m(d) && m(o.class));
     let other = swapped && same(o) && !(m(d) && m(a.class));
-    let copied = r(d) && (apart(o) || swapped && perhaps(o));
+    let copied = r(d) && apart(o);
     rm(d) && rmi(a.class) && (itself || other || copied)
 }
 

@@ -1,7 +1,8 @@
 // The row of a statement.
-ghost use Rattle.std.specs.Prelude.{◌≡◌, Option};
+ghost use Rattle.std.specs.Prelude.{◌≡◌, Option, true};
 ghost use Rattle.jz_select.specs.declared.pattern.Pattern.{Pattern};
-ghost use Rattle.jz_select.specs.Selected.{IsCopied, IsSelected};
+ghost use Rattle.jz_select.specs.Trees.{Tree, tree_eq};
+ghost use Rattle.jz_select.specs.Selected.{IsCopied, IsSelected, copied, selected};
 
 use crate::pattern::Pattern;
 use crate::rows::choose;
@@ -11,17 +12,20 @@ use jz_tree::{Expr, Lval, Stmt};
 /// The first row of the pattern table that the statement matches, or the intrinsic that it is; of an `if` or `while`
 /// whether its condition matches. The statement is one of a typed program, in which the names of constants are numbers.
 /// What the value of an inline expression may be is not asked here, but for that of a mask.
-#[tactic(auto, using(crate::proofs::FirstRow::is_selected))]
+/// Cells that are not told apart may be one or two: a row is selected that matches either way.
+#[tactic(auto, unfolding(crate::specs::Selected::selected), using(crate::proofs::FirstRow::is_selected))]
 pub fn select(statement: &Stmt) -> Option<Pattern>
-    ensures { IsSelected statement.now.kind result }
+    ensures meaning { IsSelected statement.now.kind result }
+    ensures is { result ≡ selected statement.now.kind }
 {
     choose(shape(&statement.kind))
 }
 
 /// The row of `to = e`, which the copy of a call's argument or result is.
-#[tactic(auto, using(crate::proofs::FirstRow::is_copied))]
+#[tactic(auto, unfolding(crate::specs::Selected::copied), using(crate::proofs::FirstRow::is_copied))]
 pub fn select_copy(to: &Lval, e: &Expr) -> Option<Pattern>
-    ensures { IsCopied to.now e.now result }
+    ensures meaning { IsCopied to.now e.now result }
+    ensures is { result ≡ copied to.now e.now }
 {
     choose(assign(None, to, None, e))
 }
@@ -30,4 +34,11 @@ pub fn select_copy(to: &Lval, e: &Expr) -> Option<Pattern>
 #[tactic(auto, using(crate::proofs::FirstRow::one_selected))]
 pub fn one_row(statement: &Stmt)
     ensures { (a b : Option Pattern) → IsSelected statement.now.kind a → IsSelected statement.now.kind b → a ≡ b }
+{}
+
+/// Trees are found equal just where they are equal.
+#[tactic(auto, using(crate::proofs::TreeLaws::tree_one, crate::proofs::TreeLaws::tree_self))]
+pub fn equal_trees()
+    ensures one { (s t : Tree) → tree_eq s t ≡ true → s ≡ t }
+    ensures itself { (t : Tree) → tree_eq t t ≡ true }
 {}

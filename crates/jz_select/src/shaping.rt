@@ -1,19 +1,18 @@
 // From a statement to its shape.
-ghost use Rattle.std.specs.Prelude.{◌≡◌, ◌&&◌, ◌||◌, Bool};
+ghost use Rattle.std.specs.Prelude.{◌≡◌, Bool};
 ghost use Rattle.std.specs.Option.{option_copied};
 ghost use Rattle.jz_tree.specs.declared.expr.Expr.TheViews.{out-Expr};
-ghost use Rattle.jz_select.specs.Look.{decl_of, is_inline_var};
-ghost use Rattle.jz_select.specs.Operands.{var_class, class_of, dest_of};
-ghost use Rattle.jz_select.specs.Rows.{is_flag as flag_is};
-ghost use Rattle.jz_select.specs.Shapes.{carries as carries_is, carry_layer, value_layer, itself as itself_of, update_layer, assign_of, value_shape as value_shape_of, compares as compares_is, is_test, test_layer, conditional as conditional_of, leads as leads_is, value_behind as value_behind_of, one_shape as one_shape_of, two_shape as two_shape_of, three_shape as three_shape_of, address_shape as address_shape_of, set_shape as set_shape_of, compare_shape as compare_shape_of, product_shape as product_shape_of, division_shape as division_shape_of, stand_apart as stand_apart_is, intrinsic_shape as intrinsic_shape_of, named_shape as named_shape_of, rhs_shape as rhs_shape_of, shape_of};
+ghost use Rattle.jz_select.specs.Operands.{class_of, dest_of};
+ghost use Rattle.jz_select.specs.Shapes.{first_of as first_of_is, carries as carries_is, carry_layer, value_layer, itself as itself_of, update_layer, beside, assign_of, value_shape as value_shape_of, compares as compares_is, has_flags, flags_layer, is_test, conditional as conditional_of, leads as leads_is, four_lead, five_lead, value_behind as value_behind_of, one_shape as one_shape_of, two_shape as two_shape_of, three_shape as three_shape_of, address_shape as address_shape_of, set_shape as set_shape_of, compare_shape as compare_shape_of, product_shape as product_shape_of, division_shape as division_shape_of, stand_apart as stand_apart_is, intrinsic_shape as intrinsic_shape_of, named_shape as named_shape_of, rhs_shape as rhs_shape_of, shape_of};
+ghost use Rattle.jz_select.specs.Hardest.{hardest};
 
 use crate::class::{Class, Meeting, Operand};
-use crate::look::{inline, is_inline, sum};
+use crate::look::{compares_values, inline_condition, sum};
 use crate::operand::{class, class_of_var, dest, operand};
-use crate::rows::{apart, flag, flag_result, m, rm, rmi};
+use crate::rows::{apart, divides, flag, flag_result, m, rm, rmi};
 use crate::shape::{Shape, Value};
 use jz_data::Seq;
-use jz_tree::{BinOp, Expr, Instance, Intrinsic, Lval, Rhs, StmtKind, Var, spelled};
+use jz_tree::{BinOp, Expr, Instance, Intrinsic, Lval, Rhs, StmtKind, spelled};
 
 /// How many flags an intrinsic gives before its values.
 #[derive(Clone, Copy)]
@@ -35,12 +34,17 @@ fn carries(outer: BinOp, inner: BinOp) -> bool
 }
 
 fn carry(d: &Lval, outer: BinOp, e: &Expr) -> Value
-    ensures { result ≡ carry_layer d.now outer (out-Expr e.now) }
+    ensures { result ≡ carry_layer hardest d.now outer (out-Expr e.now) }
 {
     match e {
         Expr::Bin(op, a, b, _) => {
             if carries(outer, *op) {
-                Value::Carry(outer, operand(d, a.get()), operand(d, b.get()))
+                let first = Some(a.get());
+                Value::Carry(
+                    outer,
+                    operand(d, first, a.get()),
+                    operand(d, first, b.get()),
+                )
             } else {
                 Value::Alone
             }
@@ -49,19 +53,33 @@ fn carry(d: &Lval, outer: BinOp, e: &Expr) -> Value
     }
 }
 
+/// What `operand` takes as the first operand: a division reads its operands after the result is written.
+fn first_of(op: BinOp, a: &Expr) -> Option<&Expr>
+    ensures { option_copied result ≡ first_of_is op a.now }
+{
+    if divides(op) { None } else { Some(a) }
+}
+
+fn two(d: &Lval, op: BinOp, a: &Expr, b: &Expr) -> Value
+    ensures { result ≡ Value.Two op (beside hardest d.now (first_of_is op a.now) a.now) (beside hardest d.now (first_of_is op a.now) b.now) }
+{
+    let first = first_of(op, a);
+    Value::Two(op, operand(d, first, a), operand(d, first, b))
+}
+
 fn value(d: &Lval, e: &Expr) -> Value
-    ensures { result ≡ value_layer d.now (out-Expr e.now) }
+    ensures { result ≡ value_layer hardest d.now (out-Expr e.now) }
 {
     match e {
         Expr::Bin(op, a, b, _) => {
             if flag(class(b.get())) {
                 carry(d, *op, a.get())
             } else {
-                Value::Two(*op, operand(d, a.get()), operand(d, b.get()))
+                two(d, *op, a.get(), b.get())
             }
         }
-        Expr::Neg(a, _) => Value::One(operand(d, a.get())),
-        Expr::Not(a, _) => Value::One(operand(d, a.get())),
+        Expr::Neg(a, _) => Value::One(operand(d, Some(a.get()), a.get())),
+        Expr::Not(a, _) => Value::One(operand(d, Some(a.get()), a.get())),
         Expr::Cast {
             size,
             signed,
@@ -82,22 +100,22 @@ fn itself(d: &Lval) -> Operand
 }
 
 fn update(d: &Lval, op: BinOp, e: &Expr) -> Value
-    ensures { result ≡ update_layer d.now op e.now (out-Expr e.now) }
+    ensures { result ≡ update_layer hardest d.now op e.now (out-Expr e.now) }
 {
     match e {
         Expr::Bin(inner, a, b, _) => {
             if carries(op, *inner) && flag(class(b.get())) {
-                Value::Carry(op, itself(d), operand(d, a.get()))
+                Value::Carry(op, itself(d), operand(d, None, a.get()))
             } else {
-                Value::Two(op, itself(d), operand(d, e))
+                Value::Two(op, itself(d), operand(d, None, e))
             }
         }
-        _ => Value::Two(op, itself(d), operand(d, e)),
+        _ => Value::Two(op, itself(d), operand(d, None, e)),
     }
 }
 
 pub fn assign(lead: Option<Class>, d: &Lval, op: Option<BinOp>, e: &Expr) -> Shape
-    ensures { result ≡ assign_of lead d.now op e.now }
+    ensures { result ≡ assign_of hardest lead d.now op e.now }
 {
     match op {
         None => Shape::Assign(lead, dest(d), class(e), value(d, e)),
@@ -106,7 +124,7 @@ pub fn assign(lead: Option<Class>, d: &Lval, op: Option<BinOp>, e: &Expr) -> Sha
 }
 
 fn value_shape(to: &[Lval], op: Option<BinOp>, e: &Expr) -> Shape
-    ensures { result ≡ value_shape_of to.now op e.now }
+    ensures { result ≡ value_shape_of hardest to.now op e.now }
 {
     match to {
         [d] => assign(None, d, op, e),
@@ -118,49 +136,41 @@ fn value_shape(to: &[Lval], op: Option<BinOp>, e: &Expr) -> Shape
 fn compares(op: BinOp, a: Class, o: Class) -> bool
     ensures { result ≡ compares_is op a o }
 {
-    match op {
-        BinOp::Eq | BinOp::Ne | BinOp::Lt | BinOp::Le | BinOp::Gt | BinOp::Ge => {
-            rm(a) && rmi(o) && !(m(a) && m(o))
-        }
-        BinOp::LtS | BinOp::LeS | BinOp::GtS | BinOp::GeS => rm(a) && rmi(o) && !(m(a) && m(o)),
-        _ => false,
-    }
+    compares_values(op) && rm(a) && rmi(o) && !(m(a) && m(o))
 }
 
-// A test by its outermost operation.
-#[tactic(auto, using(crate::proofs::Conditions::test_out))]
-fn test_law(e: &Expr)
-    ensures { (b : Bool) → is_test b e.now ≡ test_layer b (out-Expr e.now) }
+// A condition by its outermost operation.
+#[tactic(auto, using(crate::proofs::Conditions::flags_out))]
+fn flagged_law(e: &Expr)
+    ensures { has_flags e.now ≡ flags_layer (out-Expr e.now) }
 {}
 
-fn truth_of_var(inline: bool, v: &Var) -> bool
-    ensures { result ≡ (flag_is (var_class (decl_of v.now)) || (inline && is_inline_var (decl_of v.now))) }
-{
-    flag(class_of_var(v)) || inline && is_inline(v)
-}
-
-/// Whether the condition has an instruction, or is inline where it may be.
-fn test(may: bool, c: &Expr) -> bool
-    ensures { result ≡ is_test may c.now }
+/// Whether the condition has an instruction.
+fn flagged(c: &Expr) -> bool
+    ensures { result ≡ has_flags c.now }
 {
     let mut cur = c;
     loop {
-        test_law(cur);
+        flagged_law(cur);
         match cur {
-            Expr::Num(_, _) => return may,
-            Expr::Bool(_, _) => return may,
-            Expr::Var(v) => return truth_of_var(may, v),
+            Expr::Num(_, _) => return false,
+            Expr::Bool(_, _) => return false,
+            Expr::Var(v) => return flag(class_of_var(v)),
             Expr::Cell(_, _) => return false,
             Expr::Load(_) => return false,
-            Expr::Neg(a, _) => return may && inline(a.get()),
+            Expr::Neg(_, _) => return false,
             Expr::Not(a, _) => cur = a.get(),
             Expr::Cast { .. } => return false,
-            Expr::Bin(op, a, b, _) => {
-                return compares(*op, class(a.get()), class(b.get()))
-                    || may && inline(b.get()) && inline(a.get())
-            }
+            Expr::Bin(op, a, b, _) => return compares(*op, class(a.get()), class(b.get())),
         }
     }
+}
+
+/// The same of an `if` or `while`, where it may also be inline.
+fn test(c: &Expr) -> bool
+    ensures { result ≡ is_test c.now }
+{
+    flagged(c) || inline_condition(c)
 }
 
 fn conditional(to: &[Lval], op: Option<BinOp>, rhs: &Rhs, c: &Expr) -> Shape
@@ -169,7 +179,7 @@ fn conditional(to: &[Lval], op: Option<BinOp>, rhs: &Rhs, c: &Expr) -> Shape
     match to {
         [d] => match op {
             None => match rhs {
-                Rhs::Value(e) => Shape::Conditional(dest(d), class(e), test(false, c)),
+                Rhs::Value(e) => Shape::Conditional(dest(d), class(e), flagged(c)),
                 Rhs::Call(_, _, _) => Shape::Free,
                 Rhs::Intrinsic(_, _, _) => Shape::Free,
             },
@@ -187,13 +197,13 @@ fn leads(to: &Lval) -> bool
 }
 
 fn lead_four(of: &Lval, sf: &Lval, pf: &Lval, zf: &Lval) -> bool
-    ensures { result ≡ (leads_is of.now && (leads_is sf.now && (leads_is pf.now && leads_is zf.now))) }
+    ensures { result ≡ four_lead of.now sf.now pf.now zf.now }
 {
     leads(of) && leads(sf) && leads(pf) && leads(zf)
 }
 
 fn lead_five(of: &Lval, cf: &Lval, sf: &Lval, pf: &Lval, zf: &Lval) -> bool
-    ensures { result ≡ (leads_is of.now && (leads_is cf.now && (leads_is sf.now && (leads_is pf.now && leads_is zf.now)))) }
+    ensures { result ≡ five_lead of.now cf.now sf.now pf.now zf.now }
 {
     leads(of) && leads(cf) && leads(sf) && leads(pf) && leads(zf)
 }
@@ -234,36 +244,48 @@ fn value_behind(flags: Flags, to: &[Lval]) -> Option<&Lval>
 }
 
 fn one_shape(i: Instance, to: Option<&Lval>, args: &[Expr]) -> Shape
-    ensures { result ≡ one_shape_of i (option_copied to.entry) args.now }
+    ensures { result ≡ one_shape_of hardest i (option_copied to.entry) args.now }
 {
     match to {
         None => Shape::Free,
         Some(d) => match args {
-            [a] => Shape::One(i.name, i.size, dest(d), operand(d, a)),
+            [a] => Shape::One(i.name, i.size, dest(d), operand(d, Some(a), a)),
             _ => Shape::Free,
         },
     }
 }
 
 fn two_shape(i: Instance, to: Option<&Lval>, args: &[Expr]) -> Shape
-    ensures { result ≡ two_shape_of i (option_copied to.entry) args.now }
+    ensures { result ≡ two_shape_of hardest i (option_copied to.entry) args.now }
 {
     match to {
         None => Shape::Free,
         Some(d) => match args {
-            [a, o] => Shape::Two(i.name, i.size, dest(d), operand(d, a), operand(d, o)),
+            [a, o] => Shape::Two(
+                i.name,
+                i.size,
+                dest(d),
+                operand(d, Some(a), a),
+                operand(d, Some(a), o),
+            ),
             _ => Shape::Free,
         },
     }
 }
 
 fn three_shape(i: Instance, to: Option<&Lval>, args: &[Expr]) -> Shape
-    ensures { result ≡ three_shape_of i (option_copied to.entry) args.now }
+    ensures { result ≡ three_shape_of hardest i (option_copied to.entry) args.now }
 {
     match to {
         None => Shape::Free,
         Some(d) => match args {
-            [a, o, c] => Shape::Three(i.name, dest(d), operand(d, a), operand(d, o), class(c)),
+            [a, o, c] => Shape::Three(
+                i.name,
+                dest(d),
+                operand(d, Some(a), a),
+                operand(d, Some(a), o),
+                class(c),
+            ),
             _ => Shape::Free,
         },
     }
@@ -287,7 +309,7 @@ fn set_shape(i: Instance, to: Option<&Lval>, args: &[Expr]) -> Shape
     match to {
         None => Shape::Free,
         Some(d) => match args {
-            [c] => Shape::Set(i.size, dest(d), test(false, c)),
+            [c] => Shape::Set(i.size, dest(d), flagged(c)),
             _ => Shape::Free,
         },
     }
@@ -312,13 +334,19 @@ fn compare_shape(i: Instance, to: &[Lval], args: &[Expr]) -> Shape
 }
 
 fn product_shape(i: Instance, to: &[Lval], args: &[Expr]) -> Shape
-    ensures { result ≡ product_shape_of i to.now args.now }
+    ensures { result ≡ product_shape_of hardest i to.now args.now }
 {
     match to {
         [of, cf, sf, pf, zf, h, l] => match args {
             [a, b] => {
                 if lead_five(of, cf, sf, pf, zf) {
-                    Shape::Product(i.size, dest(h), dest(l), operand(l, a), operand(l, b))
+                    Shape::Product(
+                        i.size,
+                        dest(h),
+                        dest(l),
+                        operand(l, Some(a), a),
+                        operand(l, Some(a), b),
+                    )
                 } else {
                     Shape::Free
                 }
@@ -330,13 +358,13 @@ fn product_shape(i: Instance, to: &[Lval], args: &[Expr]) -> Shape
 }
 
 fn stand_apart(q: &Lval, r: &Lval, hi: &Expr, b: &Expr) -> bool
-    ensures { result ≡ stand_apart_is q.now r.now hi.now b.now }
+    ensures { result ≡ stand_apart_is hardest q.now r.now hi.now b.now }
 {
-    apart(operand(q, hi)) && apart(operand(q, b)) && apart(operand(r, b))
+    apart(operand(q, None, hi)) && apart(operand(q, None, b)) && apart(operand(r, None, b))
 }
 
 fn division(i: Instance, q: &Lval, r: &Lval, hi: &Expr, lo: &Expr, b: &Expr) -> Shape
-    ensures { result ≡ Shape.Division i.size (dest_of q.now) (dest_of r.now) (class_of hi.now) (class_of lo.now) (class_of b.now) (stand_apart_is q.now r.now hi.now b.now) }
+    ensures { result ≡ Shape.Division i.size (dest_of q.now) (dest_of r.now) (class_of hi.now) (class_of lo.now) (class_of b.now) (stand_apart_is hardest q.now r.now hi.now b.now) }
 {
     let apart = stand_apart(q, r, hi, b);
     Shape::Division(
@@ -351,7 +379,7 @@ fn division(i: Instance, q: &Lval, r: &Lval, hi: &Expr, lo: &Expr, b: &Expr) -> 
 }
 
 fn division_shape(i: Instance, to: &[Lval], args: &[Expr]) -> Shape
-    ensures { result ≡ division_shape_of i to.now args.now }
+    ensures { result ≡ division_shape_of hardest i to.now args.now }
 {
     match to {
         [of, cf, sf, pf, zf, q, r] => match args {
@@ -369,7 +397,7 @@ fn division_shape(i: Instance, to: &[Lval], args: &[Expr]) -> Shape
 }
 
 fn intrinsic_shape(i: Instance, to: &[Lval], args: &[Expr]) -> Shape
-    ensures { result ≡ intrinsic_shape_of i.name i to.now args.now }
+    ensures { result ≡ intrinsic_shape_of hardest i.name i to.now args.now }
 {
     match i.name {
         Intrinsic::Neg => one_shape(i, value_behind(Flags::Five, to), args),
@@ -387,7 +415,7 @@ fn intrinsic_shape(i: Instance, to: &[Lval], args: &[Expr]) -> Shape
 }
 
 fn named_shape(i: Option<Instance>, to: &[Lval], args: &[Expr]) -> Shape
-    ensures { result ≡ named_shape_of i to.now args.now }
+    ensures { result ≡ named_shape_of hardest i to.now args.now }
 {
     match i {
         None => Shape::Free,
@@ -396,7 +424,7 @@ fn named_shape(i: Option<Instance>, to: &[Lval], args: &[Expr]) -> Shape
 }
 
 fn rhs_shape(to: &Seq<Lval>, op: Option<BinOp>, rhs: &Rhs) -> Shape
-    ensures { result ≡ rhs_shape_of to.now op rhs.now }
+    ensures { result ≡ rhs_shape_of hardest to.now op rhs.now }
 {
     match rhs {
         Rhs::Value(e) => value_shape(to.as_slice(), op, e),
@@ -409,7 +437,7 @@ fn rhs_shape(to: &Seq<Lval>, op: Option<BinOp>, rhs: &Rhs) -> Shape
 }
 
 pub fn shape(kind: &StmtKind) -> Shape
-    ensures { result ≡ shape_of kind.now }
+    ensures { result ≡ shape_of hardest kind.now }
 {
     match kind {
         StmtKind::Assign {
@@ -424,8 +452,8 @@ pub fn shape(kind: &StmtKind) -> Shape
             rhs,
             cond: Some(c),
         } => conditional(to.as_slice(), *op, rhs, c),
-        StmtKind::If(c, _, _) => Shape::Test(test(true, c)),
-        StmtKind::While { cond, .. } => Shape::Test(test(true, cond)),
+        StmtKind::If(c, _, _) => Shape::Test(test(c)),
+        StmtKind::While { cond, .. } => Shape::Test(test(cond)),
         StmtKind::For { .. } => Shape::Free,
         StmtKind::Mark(_) => Shape::Free,
     }

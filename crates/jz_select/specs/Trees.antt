@@ -1,0 +1,118 @@
+-- Expressions apart from where they stand, and the index of a cell.
+use Rattle.std.specs.Prelude.{ℕ, ℤ, Bool, true, false, ◌&&◌, not, nat_eq, List, Option, Some, None}
+use Rattle.std.specs.Ordering.{int_eq}
+use Rattle.std.specs.Str.{bytes_eq}
+use Rattle.jz_words.specs.declared.size.Size.{Size}
+use Rattle.jz_words.specs.Sizes.{bits_of}
+use Rattle.jz_tree.specs.declared.expr.BinOp.{BinOp}
+use Rattle.jz_tree.specs.declared.expr.BinOp.TheVariants as op
+use Rattle.jz_tree.specs.declared.expr.Expr.{Expr}
+use Rattle.jz_tree.specs.declared.expr.Var.{Var}
+use Rattle.jz_tree.specs.declared.expr.Expr.TheOpen.{Expr-F}
+use Rattle.jz_tree.specs.declared.expr.Expr.TheViews.{out-Var}
+use Rattle.jz_tree.specs.declared.expr.Expr.TheFolds.{fold-Expr}
+use Rattle.jz_integers.specs.Integers.{written_number}
+
+-- ---- one variable: the same name, copy and cell, wherever it stands
+abbrev pub Named : Type 0
+Named = List ℕ × (ℕ × Option ℕ)
+
+abbrev pub named : Var → Named
+named v = ((out-Var v).name, ((out-Var v).copy, (out-Var v).cell))
+
+abbrev pub cell_eq : Option ℕ → Option ℕ → Bool
+cell_eq None None = true
+cell_eq (Some j) (Some k) = nat_eq j k
+cell_eq _ _ = false
+
+abbrev pub names_eq : Named → Named → Bool
+names_eq a b = bytes_eq a.0 b.0 && (nat_eq a.1.0 b.1.0 && cell_eq a.1.1 b.1.1)
+
+-- ---- an expression without spans, declarations and the sizes of accesses
+pub data Tree : Type 0 where
+  Number : ℤ → Tree
+  Truth : Bool → Tree
+  Name : Named → Tree
+  CellOf : Named → Tree → Tree
+  Loaded Minus Opposite : Tree → Tree
+  CastTo : Size → Bool → Tree → Tree
+  Both : BinOp → Tree → Tree → Tree
+
+abbrev pub tree_step : Expr-F Tree (Unit {0}) Tree (Unit {0}) Named → Tree
+tree_step (Expr-F.Num n at) = Number n
+tree_step (Expr-F.Expr::Bool b at) = Truth b
+tree_step (Expr-F.Var v) = Name v
+tree_step (Expr-F.Cell v k) = CellOf v k
+tree_step (Expr-F.Load a) = Loaded a
+tree_step (Expr-F.Neg a at) = Minus a
+tree_step (Expr-F.Not a at) = Opposite a
+tree_step (Expr-F.Cast z signed a at) = CastTo z signed a
+tree_step (Expr-F.Bin o a b at) = Both o a b
+
+abbrev pub tree_of : Expr → Tree
+tree_of = fold-Expr Tree (Unit {0}) Tree (Unit {0}) Named tree_step
+    (λ t. tt) (λ a. a.at) (λ d. tt) (λ v. (v.name, (v.copy, v.cell)))
+
+abbrev pub numbered : Option ℤ → Tree → Tree
+numbered None t = t
+numbered (Some n) t = Number n
+
+-- an index: its value, where it is built of numbers alone and has one, else its tree
+abbrev pub index_of : Expr → Tree
+index_of e = numbered (written_number e) (tree_of e)
+
+-- ---- whether two trees are equal
+abbrev pub bool_eq : Bool → Bool → Bool
+bool_eq true b = b
+bool_eq false b = not b
+
+abbrev pub number_of : BinOp → ℕ
+number_of op.OrElse = 0
+number_of op.AndThen = 1
+number_of op.Or = 2
+number_of op.Xor = 3
+number_of op.And = 4
+number_of op.Eq = 5
+number_of op.Ne = 6
+number_of op.Lt = 7
+number_of op.Le = 8
+number_of op.Gt = 9
+number_of op.Ge = 10
+number_of op.LtS = 11
+number_of op.LeS = 12
+number_of op.GtS = 13
+number_of op.GeS = 14
+number_of op.Shl = 15
+number_of op.Shr = 16
+number_of op.Sar = 17
+number_of op.Rol = 18
+number_of op.Ror = 19
+number_of op.Add = 20
+number_of op.Sub = 21
+number_of op.Mul = 22
+number_of op.Div = 23
+number_of op.Rem = 24
+number_of op.DivS = 25
+number_of op.RemS = 26
+
+abbrev pub tree_eq : Tree → Tree → Bool
+tree_eq (Number m) (Number n) = int_eq m n
+tree_eq (Truth b) (Truth c) = bool_eq b c
+tree_eq (Name v) (Name w) = names_eq v w
+tree_eq (CellOf v j) (CellOf w k) = names_eq v w && tree_eq j k
+tree_eq (Loaded a) (Loaded b) = tree_eq a b
+tree_eq (Minus a) (Minus b) = tree_eq a b
+tree_eq (Opposite a) (Opposite b) = tree_eq a b
+tree_eq (CastTo z s a) (CastTo y t b) = nat_eq (bits_of z) (bits_of y) && (bool_eq s t && tree_eq a b)
+tree_eq (Both o a b) (Both p c d) = nat_eq (number_of o) (number_of p) && (tree_eq b d && tree_eq a c)
+tree_eq _ _ = false
+
+-- the same of indices, by their values and their trees
+abbrev pub indices_eq : Option ℤ → Option ℤ → Bool → Bool
+indices_eq None None b = b
+indices_eq (Some m) (Some n) b = int_eq m n
+indices_eq _ _ b = false
+
+abbrev pub index_if : Option Expr → Option Tree
+index_if None = None
+index_if (Some e) = Some (index_of e)
