@@ -93,8 +93,35 @@ signed_shift_by_a_byte : (bin op.Sar (num 1) (x sizes.S8 2)).wrong (want.Word si
 signed_shift_by_a_byte = refl
 
 -- 3 + c and i + c as an index, x64 + c there
-number_and_bool_as_index : (bin op.Add (num 1) (flag 2)).wrong want.Index ≡ (at 2 ∷ [])
+number_and_bool_as_index : (bin op.Add (num 1) (flag 2)).wrong want.Index ≡ []
 number_and_bool_as_index = refl
 
 word_and_bool_as_index : (bin op.Add (x sizes.S64 1) (flag 2)).wrong want.Index ≡ []
 word_and_bool_as_index = refl
+
+-- 3 + c in the place of an integer, of a word, and where nothing gives a size; 3 * c there
+number_and_bool_as_integer : (bin op.Add (num 1) (flag 2)).wrong want.Int ≡ (at 2 ∷ [])
+number_and_bool_as_integer = refl
+
+number_and_bool_as_word : (bin op.Add (num 1) (flag 2)).wrong (want.Word sizes.S64) ≡ []
+number_and_bool_as_word = refl
+
+number_and_bool_without_size : (bin op.Add (num 1) (flag 2)).wrong want.Unsized ≡ []
+number_and_bool_without_size = refl
+
+number_times_bool_without_size : (bin op.Mul (num 1) (flag 2)).wrong want.Unsized ≡ (at 2 ∷ [])
+number_times_bool_without_size = refl
+
+-- 3 << c8, 3 << x64 and [p] where nothing gives a size
+shift_by_a_byte_without_size : (bin op.Shl (num 1) (x sizes.S8 2)).wrong want.Unsized ≡ []
+shift_by_a_byte_without_size = refl
+
+shift_by_a_wide_word_without_size : (bin op.Shl (num 1) (x sizes.S64 2)).wrong want.Unsized ≡ (at 2 ∷ [])
+shift_by_a_wide_word_without_size = refl
+
+access_without_size : (load None 1).wrong want.Unsized ≡ (at 1 ∷ [])
+access_without_size = refl
+
+-- (64u)(3 << c8): a number has no size, whatever the count is
+cast_of_a_shifted_number : (cast sizes.S64 (bin op.Shl (num 1) (x sizes.S8 2))).wrong (want.Word sizes.S64) ≡ (at 1 ∷ [])
+cast_of_a_shifted_number = refl

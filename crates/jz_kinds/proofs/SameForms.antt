@@ -103,7 +103,7 @@ neg_same : (at : Span) (i : Typing) (j : Found) → IsSame i j → IsSame (typin
 neg_same at i j h = record { form = ap neg_form h.form; first = λ w. two (unless (not (fits_truth w)) at) (if fits_truth w then [] else i.wrong w) _ _ refl (stopped (fits_truth w) _ (i.wrong w) (h.first w)) }
 
 cast_same : (z : Size) (s : Bool) (at : Span) (i : Typing) (j : Found) → IsSame i j → IsSame (typing_step (Expr-F.Cast z s i at)) (found_step (Expr-F.Cast z s j at))
-cast_same z s at i j h = record { form = refl; first = λ w. two (unless (fits_word z w) at) (i.wrong (sized_want i.form.inline i.form.size)) _ _ refl (h.first _ ∙ ap (λ g. earliest (i.wrong (sized_want g.inline g.size))) h.form) }
+cast_same z s at i j h = record { form = refl; first = λ w. two (unless (fits_word z w) at) (i.wrong (sized_want true i.form.size)) _ _ refl (h.first _ ∙ ap (λ g. earliest (i.wrong (sized_want true g.size))) h.form) }
 
 abbrev with_form : Form → (Bool → Want → Option Span) → Found
 with_form g p = record { form = g; first = p }
@@ -116,13 +116,13 @@ BinSame o at a b f g = IsSame (typing_step (Expr-F.Bin o a b at)) (found_step (E
 
 bin_operands : (o : BinOp) (a b : Typing) (p q : Bool → Want → Option Span) (w : Want) → Finds a a.form p → Finds b b.form q
     → earlier
-    (q b.form.inline (right_of (group_of o) (takes_carry o (left_inline (b.form.inline && a.form.inline) a.form.inline b.form.inline) w && b.form.truth) (compared (group_of o) a.form.size b.form.size) w))
+    (q b.form.inline (right_of (group_of o) (takes_carry o w && b.form.truth) (compared (group_of o) a.form.size b.form.size) w))
     (p (left_inline (b.form.inline && a.form.inline) a.form.inline b.form.inline) (left_of (group_of o) o (b.form.inline && a.form.inline) (compared (group_of o) a.form.size b.form.size) w))
     ≡ earliest (b.wrong (right_want o a.form b.form w) ++ a.wrong (left_want o a.form b.form w))
 bin_operands o a b p q w ha hb =
     subst
     (λ i. earlier
-    (q b.form.inline (right_of (group_of o) (takes_carry o i w && b.form.truth) (compared (group_of o) a.form.size b.form.size) w))
+    (q b.form.inline (right_of (group_of o) (takes_carry o w && b.form.truth) (compared (group_of o) a.form.size b.form.size) w))
     (p i (left_of (group_of o) o (b.form.inline && a.form.inline) (compared (group_of o) a.form.size b.form.size) w))
     ≡ earliest (b.wrong (right_want o a.form b.form w) ++ a.wrong (left_want o a.form b.form w)))
     (sym (left_is a.form.inline b.form.inline))

@@ -1,52 +1,63 @@
 -- The earliest wrong place of a function and of a program, part by part.
-use Rattle.std.proofs.Common.{◌≡◌, ℕ, List, [], ◌∷◌, ◌++◌, Bool, true, false, Option, None, map, flat_map, refl, sym, ap, ap₂, ◌∙◌}
+use Rattle.std.proofs.Common.{◌≡◌, ℕ, List, [], ◌∷◌, ◌++◌, Bool, true, false, Option, Some, None, map, flat_map, refl, sym, ap, ap₂, ◌∙◌}
 use Rattle.std.specs.Prelude.{ℤ, ◌||◌}
+use Rattle.std.specs.List.{list_any}
 use Rattle.jz_io.specs.declared.span.Span.{Span}
 use Rattle.jz_tree.specs.declared.expr.Expr.{Expr}
+use Rattle.jz_tree.specs.declared.expr.Ty.{Ty}
+use Rattle.jz_tree.specs.declared.expr.Access.{Access}
 use Rattle.jz_tree.specs.declared.expr.Decl.{Decl}
+use Rattle.jz_tree.specs.declared.expr.Var.{Var}
+use Rattle.jz_tree.specs.declared.expr.Expr.TheOpen.{Ty-F}
+use Rattle.jz_tree.specs.declared.expr.Expr.TheViews.{out-Ty}
 use Rattle.jz_tree.specs.declared.program.Fun.{Fun}
 use Rattle.jz_tree.specs.declared.program.Program.{Program}
 use Rattle.jz_scopes.specs.declared.tables.Places.{Places}
 use Rattle.jz_scopes.specs.declared.tables.Functions.{Functions}
 use Rattle.jz_scopes.specs.Order.{earlier, earliest, first_in}
-use Rattle.jz_scopes.specs.Parts.{lengths_in}
-use Rattle.jz_scopes.specs.Scopes.{variable_place}
+use Rattle.jz_scopes.specs.Kinds.{kind_step, declared_of, is_array_kind, is_array}
+use Rattle.jz_scopes.specs.Parts.{length_layer}
+use Rattle.jz_scopes.specs.Scopes.{Name, variable_place}
 use Rattle.jz_scopes.specs.Tables.{IsPlaces, IsFunctions, place_in, function_in}
-use Rattle.jz_scopes.specs.Names.{decls_of}
+use Rattle.jz_scopes.specs.Names.{is_constant, decls_of}
 use Rattle.jz_scopes.proofs.Earliest.{first_over, both_earliest}
 use Rattle.jz_scopes.proofs.UnknownLaws.{constants_are, functions_are}
-use Rattle.jz_kinds.specs.Lengths.{length_wrong, decl_wrong, is_apart, fun_lengths, has_some, is_array, declares_array}
+use Rattle.jz_kinds.specs.Lengths.{length_wrong, decl_wrong, fun_lengths}
 use Rattle.jz_kinds.specs.Mismatches.{body_wrong, constant_wrong, mismatched_as_read, mismatched_declared}
 
 -- ---- the lengths of a function's arrays
 -- declarations and variables are as the code has found them
 pub lengths_are : (constants variables : List ℕ → Option Span) (length_of : Expr → Option ℤ) (f : Fun) (ds : List Decl) (r : Option Span)
-    → ds ≡ decls_of f → variables ≡ variable_place f → r ≡ first_in (decl_wrong (is_apart constants variables) length_of) ds → r ≡ earliest (fun_lengths constants length_of f)
+    → ds ≡ decls_of f → variables ≡ variable_place f → r ≡ first_in (decl_wrong (is_constant constants variables) length_of) ds → r ≡ earliest (fun_lengths constants length_of f)
 unfolding fun_lengths
 lengths_are constants variables length_of f ds r d e h =
-    h ∙ (first_over (decl_wrong (is_apart constants variables) length_of) ds ∙ ap₂ (λ vs ds. earliest (flat_map (decl_wrong (is_apart constants vs) length_of) ds)) e d)
+    h ∙ (first_over (decl_wrong (is_constant constants variables) length_of) ds ∙ ap₂ (λ vs ds. earliest (flat_map (decl_wrong (is_constant constants vs) length_of) ds)) e d)
 
-none_of : {A : Type 0} (f : Expr → List A) (es : List Expr) → has_some es ≡ false → flat_map f es ≡ []
-none_of f [] h = refl
-none_of f (e ∷ es) h = cc
+-- what is no array has no length
+no_length : (t : Ty-F Expr Ty Access Decl Var) → is_array_kind (kind_step t) ≡ false → length_layer t ≡ []
+no_length Ty-F.Int h = refl
+no_length Ty-F.Ty::Bool h = refl
+no_length (Ty-F.Word z) h = refl
+no_length (Ty-F.Array z e) h = cc
 
 neither : (a b : Bool) → (a || b) ≡ false → (a ≡ false) × (b ≡ false)
 neither false b h = (refl, h)
 neither true b h = cc
 
-none_wrong : (constant : List ℕ → Bool) (length_of : Expr → Option ℤ) (ds : List Decl) → declares_array ds ≡ false → flat_map (decl_wrong constant length_of) ds ≡ []
+none_wrong : (constant : Name → Bool) (length_of : Expr → Option ℤ) (ds : List Decl) → list_any (λ d. is_array (Some (declared_of d))) ds ≡ false
+    → flat_map (decl_wrong constant length_of) ds ≡ []
 none_wrong constant length_of [] h = refl
 none_wrong constant length_of (d ∷ ds) h =
-    let both = neither (is_array d) (declares_array ds) h
-    in ap₂ (λ a b. a ++ b) (none_of (length_wrong constant length_of) (lengths_in d) both.0) (none_wrong constant length_of ds both.1)
+    let both = neither (is_array (Some (declared_of d))) (list_any (λ d. is_array (Some (declared_of d))) ds) h
+    in ap₂ (λ a b. a ++ b) (ap (flat_map (length_wrong constant length_of)) (no_length (out-Ty d.ty) both.0)) (none_wrong constant length_of ds both.1)
 
 -- where no array is declared
 pub no_lengths : (constants : List ℕ → Option Span) (length_of : Expr → Option ℤ) (f : Fun) (ds : List Decl)
-    → ds ≡ decls_of f → declares_array ds ≡ false → None ≡ earliest (fun_lengths constants length_of f)
+    → ds ≡ decls_of f → list_any (λ d. is_array (Some (declared_of d))) ds ≡ false → None ≡ earliest (fun_lengths constants length_of f)
 unfolding fun_lengths
 no_lengths constants length_of f ds d h =
-    let wrong : List Decl → List Span = flat_map (decl_wrong (is_apart constants (variable_place f)) length_of)
-    in ap earliest (sym (none_wrong (is_apart constants (variable_place f)) length_of ds h)) ∙ ap (λ ds. earliest (wrong ds)) d
+    let wrong : List Decl → List Span = flat_map (decl_wrong (is_constant constants (variable_place f)) length_of)
+    in ap earliest (sym (none_wrong (is_constant constants (variable_place f)) length_of ds h)) ∙ ap (λ ds. earliest (wrong ds)) d
 
 -- ---- a program
 -- constant by constant and function by function, with a table of the constants

@@ -30,7 +30,7 @@ abbrev pub bin_first : BinOp → Found → Found → Span → Bool → Want → 
 bin_first o a b at k w =
     earlier (earliest (unless (gives (group_of o) w) at))
     (if stops (group_of o) w then None else
-    earlier (b.first b.form.inline (right_of (group_of o) (takes_carry o (left_inline k a.form.inline b.form.inline) w && b.form.truth) (compared (group_of o) a.form.size b.form.size) w))
+    earlier (b.first b.form.inline (right_of (group_of o) (takes_carry o w && b.form.truth) (compared (group_of o) a.form.size b.form.size) w))
     (a.first (left_inline k a.form.inline b.form.inline) (left_of (group_of o) o k (compared (group_of o) a.form.size b.form.size) w)))
 
 abbrev pub cell_first : Known → Span → Found → Want → Option Span
@@ -47,7 +47,7 @@ found_step (Expr-F.Cell v i) = record { form = sized (cell_size v.0); first = λ
 found_step (Expr-F.Load a) = a
 found_step (Expr-F.Neg a at) = record { form = neg_form a.form; first = λ k w. earlier (earliest (unless (not (fits_truth w)) at)) (if fits_truth w then None else a.first k w) }
 found_step (Expr-F.Not a at) = a
-found_step (Expr-F.Cast z s a at) = record { form = sized (Some z); first = λ k w. earlier (earliest (unless (fits_word z w) at)) (a.first a.form.inline (sized_want a.form.inline a.form.size)) }
+found_step (Expr-F.Cast z s a at) = record { form = sized (Some z); first = λ k w. earlier (earliest (unless (fits_word z w) at)) (a.first a.form.inline (sized_want true a.form.size)) }
 found_step (Expr-F.Bin o a b at) = record { form = bin_form (group_of o) a.form b.form; first = bin_first o a b at }
 
 abbrev pub found : Expr → Found

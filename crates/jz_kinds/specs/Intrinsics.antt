@@ -1,5 +1,5 @@
 -- Statements that name an instruction.
-use Rattle.std.specs.Prelude.{Bool, false, ◌&&◌, nat_eq, is_some, if◌then◌else◌, List, [], ◌∷◌, ◌++◌, length, flat_map, Option, Some, None}
+use Rattle.std.specs.Prelude.{Bool, true, false, ◌&&◌, nat_eq, is_some, if◌then◌else◌, List, [], ◌∷◌, ◌++◌, length, flat_map, Option, Some, None}
 use Rattle.jz_io.specs.declared.span.Span.{Span}
 use Rattle.jz_words.specs.declared.size.Size.{Size}
 use Rattle.jz_words.specs.declared.size.Size.TheVariants as sizes
@@ -11,8 +11,9 @@ use Rattle.jz_kinds.specs.declared.signatures.Role.{Role}
 use Rattle.jz_kinds.specs.declared.signatures.Role.TheVariants as role
 use Rattle.jz_kinds.specs.declared.wants.Want.{Want}
 use Rattle.jz_kinds.specs.declared.wants.Want.TheVariants as want
-use Rattle.jz_kinds.specs.Wants.{or_size, sized_want}
+use Rattle.jz_kinds.specs.Wants.{or_size, own_size}
 use Rattle.jz_kinds.specs.Typings.{typing}
+use Rattle.jz_kinds.specs.Worded.{is_worded}
 use Rattle.jz_kinds.specs.Firsts.{wrong_beside}
 use Rattle.jz_kinds.specs.Sides.{left_form, within, any_size, takes}
 use Rattle.jz_kinds.specs.Signatures.{Signature}
@@ -20,7 +21,7 @@ use Rattle.jz_kinds.specs.Signatures.{Signature}
 -- z is the intrinsic's size
 abbrev pub role_want : Option Size → Role → Want
 role_want z role.Flag = want.Truth
-role_want z role.Value = sized_want false z
+role_want z role.Value = own_size z
 role_want z role.Count = want.Word sizes.S8
 role_want z role.Condition = want.Truth
 role_want z role.Address = want.Index
@@ -36,11 +37,16 @@ result_size rs [] = None
 result_size [] (d ∷ ds) = None
 result_size (r ∷ rs) (d ∷ ds) = or_size (valued r (left_form d).size) (result_size rs ds)
 
--- the size of the first argument that is a word
+abbrev pub is_value : Role → Bool
+is_value role.Value = true
+is_value _ = false
+
+-- the size of the first argument that is a word, if that has one
 abbrev pub argument_size : List Role → List Expr → Option Size
 argument_size rs [] = None
 argument_size [] (e ∷ es) = None
-argument_size (r ∷ rs) (e ∷ es) = or_size (valued r (typing e).form.size) (argument_size rs es)
+argument_size (r ∷ rs) (e ∷ es) =
+    if is_value r && is_worded e then (typing e).form.size else argument_size rs es
 
 -- the size of an intrinsic: that of its name, else of its value, else of the first argument that is a word
 abbrev pub size_of : Signature → List Lval → List Expr → Option Size

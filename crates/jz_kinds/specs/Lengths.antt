@@ -1,5 +1,5 @@
 -- The lengths of arrays.
-use Rattle.std.specs.Prelude.{ℕ, ℤ, pos, Bool, true, false, ◌&&◌, ◌||◌, nat_le, is_some, is_none, List, [], ◌∷◌, ◌++◌, flat_map, Option, Some, None}
+use Rattle.std.specs.Prelude.{ℕ, ℤ, pos, Bool, false, ◌&&◌, ◌||◌, nat_le, is_some, List, ◌++◌, flat_map, Option, Some, None}
 use Rattle.jz_io.specs.declared.span.Span.{Span}
 use Rattle.jz_tree.specs.declared.expr.Expr.{Expr}
 use Rattle.jz_tree.specs.declared.expr.Decl.{Decl}
@@ -7,13 +7,9 @@ use Rattle.jz_tree.specs.declared.program.Fun.{Fun}
 use Rattle.jz_scopes.specs.Order.{unless, earliest}
 use Rattle.jz_scopes.specs.Scopes.{Name, variable_place}
 use Rattle.jz_scopes.specs.Parts.{span_of, names_in, lengths_in}
-use Rattle.jz_scopes.specs.Names.{decls_of}
+use Rattle.jz_scopes.specs.Names.{is_constant, decls_of}
 use Rattle.jz_kinds.specs.declared.wants.Want.TheVariants as want
 use Rattle.jz_kinds.specs.Typings.{typing}
-
--- a name is that of a constant, if constants and variables are declared where these functions say
-abbrev pub is_apart : (List ℕ → Option Span) → (List ℕ → Option Span) → List ℕ → Bool
-is_apart constants variables n = is_none (variables n) && is_some (constants n)
 
 abbrev pub within_limits : ℤ → Bool
 within_limits (pos n) = nat_le 1 n && nat_le n 65536
@@ -23,10 +19,10 @@ abbrev pub is_length : Option ℤ → Bool
 is_length None = false
 is_length (Some n) = within_limits n
 
--- constant: the names of constants; length_of: the value of a length, if it has one
-module _ (constant : List ℕ → Bool) where
+-- constant: whether a name is a constant's where it stands; length_of: the value of a length, if it has one
+module _ (constant : Name → Bool) where
   abbrev pub no_constant : Name → List Span
-  no_constant n = unless (constant n.0) n.1
+  no_constant n = unless (constant n) n.1
 
   -- it is no integer, or is built of something else than numbers and constants
   abbrev pub unbuilt : Expr → List Span
@@ -46,16 +42,4 @@ module _ (constant : List ℕ → Bool) where
 
 -- of a function of a program whose constants are declared there
 unfoldable pub fun_lengths : (List ℕ → Option Span) → (Expr → Option ℤ) → Fun → List Span
-fun_lengths constants length_of f = lengths_wrong (is_apart constants (variable_place f)) length_of f
-
--- ---- whether there are arrays at all
-abbrev pub has_some : List Expr → Bool
-has_some [] = false
-has_some (e ∷ es) = true
-
-abbrev pub is_array : Decl → Bool
-is_array d = has_some (lengths_in d)
-
-abbrev pub declares_array : List Decl → Bool
-declares_array [] = false
-declares_array (d ∷ ds) = is_array d || declares_array ds
+fun_lengths constants length_of f = lengths_wrong (is_constant constants (variable_place f)) length_of f

@@ -6,6 +6,7 @@ pub mod Firsts
 pub mod Sides
 pub mod Values
 pub mod Signatures
+pub mod Worded
 pub mod Intrinsics
 pub mod Calls
 pub mod Lengths

@@ -89,17 +89,16 @@ left_of group.Compare o inline z w = sized_want (is_of_words o && inline) z
 left_of group.Shift o inline z w = word_or (is_of_words o && inline) w
 left_of group.Arith o inline z w = word_or (is_of_words o && inline) w
 
--- a bool may be added to a word and taken away from it; inline: the left operand is inline
-abbrev pub is_word_place : Bool → Want → Bool
-is_word_place inline want.Int = false
-is_word_place inline want.Truth = false
-is_word_place inline (want.Word z) = true
-is_word_place inline w = not inline
+-- a bool may be added and taken away where no integer is wanted
+abbrev pub is_word_place : Want → Bool
+is_word_place want.Int = false
+is_word_place want.Truth = false
+is_word_place w = true
 
-abbrev pub takes_carry : BinOp → Bool → Want → Bool
-takes_carry op.Add inline w = is_word_place inline w
-takes_carry op.Sub inline w = is_word_place inline w
-takes_carry _ inline w = false
+abbrev pub takes_carry : BinOp → Want → Bool
+takes_carry op.Add w = is_word_place w
+takes_carry op.Sub w = is_word_place w
+takes_carry _ w = false
 
 -- the count of a shift is a byte, in an integer an integer
 abbrev pub count_want : Want → Want

@@ -26,7 +26,7 @@ abbrev pub left_want : BinOp → Form → Form → Want → Want
 left_want o a b w = left_of (group_of o) o (b.inline && a.inline) (compared (group_of o) a.size b.size) w
 
 abbrev pub right_want : BinOp → Form → Form → Want → Want
-right_want o a b w = right_of (group_of o) (takes_carry o a.inline w && b.truth) (compared (group_of o) a.size b.size) w
+right_want o a b w = right_of (group_of o) (takes_carry o w && b.truth) (compared (group_of o) a.size b.size) w
 
 -- a and b are the operands, at is the first token
 abbrev pub bin_wrong : BinOp → Typing → Typing → Span → Want → List Span
@@ -61,7 +61,7 @@ typing_step (Expr-F.Cell v i) = cell_typing v.0 v.1 i
 typing_step (Expr-F.Load a) = a
 typing_step (Expr-F.Neg a at) = record { form = neg_form a.form; wrong = neg_wrong a at }
 typing_step (Expr-F.Not a at) = a
-typing_step (Expr-F.Cast z s a at) = record { form = sized (Some z); wrong = λ w. unless (fits_word z w) at ++ a.wrong (sized_want a.form.inline a.form.size) }
+typing_step (Expr-F.Cast z s a at) = record { form = sized (Some z); wrong = λ w. unless (fits_word z w) at ++ a.wrong (sized_want true a.form.size) }
 typing_step (Expr-F.Bin o a b at) = bin_typing o a b at
 
 abbrev pub typing : Expr → Typing

@@ -11,7 +11,7 @@ use Rattle.jz_tree.specs.declared.stmt.Lval.{Lval}
 use Rattle.jz_scopes.specs.Order.{unless}
 use Rattle.jz_scopes.specs.Parts.{span_of}
 use Rattle.jz_kinds.specs.declared.wants.Want.TheVariants as want
-use Rattle.jz_kinds.specs.Wants.{or_size, sized_want}
+use Rattle.jz_kinds.specs.Wants.{or_size, own_size}
 use Rattle.jz_kinds.specs.Typings.{Typing, typing, bin_typing}
 use Rattle.jz_kinds.specs.Sides.{left_form, left_wrong, left_typing, left_span, set_want, within, any_size, takes}
 
@@ -40,7 +40,7 @@ abbrev pub product_size : Lval → Lval → Typing → Option Size
 product_size h l t = or_size (left_form h).size (or_size (left_form l).size t.form.size)
 
 abbrev pub product_of : Option Size → Lval → Lval → Typing → Span → List Span
-product_of z h l t at = within z h ++ within z l ++ t.wrong (sized_want false z) ++ unless (takes (sized_want false z) h && takes (sized_want false z) l) at
+product_of z h l t at = within z h ++ within z l ++ t.wrong (own_size z) ++ unless (takes (own_size z) h && takes (own_size z) l) at
 
 -- a flag and a value
 abbrev pub with_flag : Lval → Lval → Typing → Span → List Span

@@ -82,6 +82,11 @@ abbrev pub sized_want : Bool → Option Size → Want
 sized_want words (Some z) = want.Word z
 sized_want words None = if words then want.AnyWord else want.Int
 
+-- what a place wants that leaves the size to the value: a word of that size, or what has none
+abbrev pub own_size : Option Size → Want
+own_size (Some z) = want.Word z
+own_size None = want.Unsized
+
 -- ---- what an expression is by itself
 abbrev pub no_form : Form
 no_form = record { size = None; truth = false; inline = false }
@@ -94,4 +99,4 @@ var_form k = record { size = known_size k; truth = known_truth k; inline = is_in
 
 -- what the type of an expression itself asks of its parts
 abbrev pub own_want : Form → Want
-own_want f = if f.truth then want.Truth else sized_want false f.size
+own_want f = if f.truth then want.Truth else own_size f.size

@@ -4,6 +4,7 @@ ghost use Rattle.std.specs.Prelude.{◌≡◌, Option};
 ghost use Rattle.jz_words.specs.declared.size.Size.{Size};
 ghost use Rattle.jz_kinds.specs.Wants.{or_size};
 ghost use Rattle.jz_kinds.specs.Found.{found};
+ghost use Rattle.jz_kinds.specs.Worded.{is_worded};
 
 use crate::operators::{Group, group_of};
 use crate::wants::{cell_size, known_size, known_truth};
@@ -51,6 +52,36 @@ pub(crate) fn size(e: &Expr) -> Option<Size>
                 Group::Shift => cur = a.get(),
                 Group::Arith => {
                     rest = or(size(b.get()), rest);
+                    cur = a.get();
+                }
+            },
+        }
+    }
+}
+
+/// Whether an expression is a word, with a size or, as an access, without one.
+pub(crate) fn worded(e: &Expr) -> bool
+    ensures { result ≡ is_worded e.now }
+{
+    let mut cur = e;
+    loop {
+        match cur {
+            Expr::Num(_, _) => return false,
+            Expr::Bool(_, _) => return false,
+            Expr::Var(var) => return known_size(known(var)).is_some(),
+            Expr::Cell(var, _) => return cell_size(known(var)).is_some(),
+            Expr::Load(_) => return true,
+            Expr::Neg(a, _) => cur = a.get(),
+            Expr::Not(a, _) => cur = a.get(),
+            Expr::Cast { .. } => return true,
+            Expr::Bin(op, a, b, _) => match group_of(*op) {
+                Group::Logic => return false,
+                Group::Compare => return false,
+                Group::Shift => cur = a.get(),
+                Group::Arith => {
+                    if worded(b.get()) {
+                        return true;
+                    }
                     cur = a.get();
                 }
             },

@@ -5,14 +5,14 @@ ghost use Rattle.jz_scopes.specs.Order.{earliest};
 ghost use Rattle.jz_kinds.specs.Firsts.{first_beside};
 ghost use Rattle.jz_kinds.specs.Sides.{within, any_size};
 ghost use Rattle.jz_kinds.specs.Signatures.{signature, signature_of};
-ghost use Rattle.jz_kinds.specs.Intrinsics.{role_want, valued, result_size, argument_size, size_of, argument_wrong, role_size, result_wrong, none_more, are_counted, instance_wrong, intrinsic_wrong};
+ghost use Rattle.jz_kinds.specs.Intrinsics.{role_want, valued, is_value, result_size, argument_size, size_of, argument_wrong, role_size, result_wrong, none_more, are_counted, instance_wrong, intrinsic_wrong};
 
-use crate::forms::or;
+use crate::forms::{or, worded};
 use crate::sides::{left_form, takes, within, within_any};
 use crate::signatures::{Role, operands_of, results_of};
 use crate::values::within_all;
 use crate::walk::{fault, form};
-use crate::wants::{Want, sized_want};
+use crate::wants::{Want, own_size};
 use jz_data::Seq;
 use jz_io::Span;
 use jz_scopes::{earlier_of, is_array, known, unless};
@@ -24,7 +24,7 @@ fn role_want(size: Option<Size>, role: Role) -> Want
 {
     match role {
         Role::Flag | Role::Condition => Want::Truth,
-        Role::Value => sized_want(false, size),
+        Role::Value => own_size(size),
         Role::Count | Role::Byte => Want::Word(Size::S8),
         Role::Address => Want::Index,
     }
@@ -57,22 +57,29 @@ fn result_size(roles: &[Role], to: &[Lval]) -> Option<Size>
     found
 }
 
-/// The size of the first argument that is a word.
+fn is_value(role: Role) -> bool
+    ensures { result ≡ is_value role }
+{
+    matches!(role, Role::Value)
+}
+
+/// The size of the first argument that is a word, if that has one.
 fn argument_size(roles: &[Role], args: &[Expr]) -> Option<Size>
     ensures { result ≡ argument_size roles.now args.now }
 {
-    let mut found = None;
     let mut rest = roles;
     for arg in args {
         match rest {
-            [] => return found,
+            [] => return None,
             [role, more @ ..] => {
-                found = or(found, valued(*role, form(arg).size));
+                if is_value(*role) && worded(arg) {
+                    return form(arg).size;
+                }
                 rest = more;
             }
         }
     }
-    found
+    None
 }
 
 fn size_of(instance: Instance, to: &Seq<Lval>, args: &Seq<Expr>) -> Option<Size>

@@ -6,13 +6,18 @@ ghost use Rattle.jz_scopes.specs.Scopes.{name_of};
 ghost use Rattle.jz_scopes.specs.Parts.{names_in};
 ghost use Rattle.jz_scopes.specs.Lent.{these};
 ghost use Rattle.jz_scopes.specs.Order.{first_in};
-ghost use Rattle.jz_kinds.specs.Lengths.{is_length, no_constant, unbuilt, length_wrong, decl_wrong, is_apart, is_array, declares_array, fun_lengths};
+ghost use Rattle.jz_kinds.specs.Lengths.{is_length, no_constant, unbuilt, length_wrong, decl_wrong, fun_lengths};
+ghost use Rattle.jz_scopes.specs.Names.{is_constant};
+ghost use Rattle.jz_scopes.specs.Kinds.{declared_of, is_array};
+ghost use Rattle.std.specs.List.{list_any};
 ghost use Rattle.jz_scopes.specs.Tables.{place_in};
 
 use crate::walk::fault;
 use crate::wants::Want;
 use jz_io::Span;
-use jz_scopes::{Places, decls_of, earlier_of, length_of, names, span_of, unless};
+use jz_scopes::{
+    Places, above, declaration, decls_of, earlier_of, is_array, length_of, names, span_of, unless,
+};
 use jz_tree::{Decl, Expr, Fun, Var};
 use std::alloc::{AllocError, Global};
 
@@ -38,14 +43,15 @@ fn is_length(length: Option<i128>) -> bool
 }
 
 fn no_constant(constants: &Places, variables: &Places, var: &Var) -> Option<Span>
-    ensures { result ≡ earliest (no_constant (is_apart (place_in constants.now) (place_in variables.now)) (name_of var.now)) }
+    ensures { result ≡ earliest (no_constant (is_constant (place_in constants.now) (place_in variables.now)) (name_of var.now)) }
 {
-    let constant = variables.place(&var.name).is_none() && constants.place(&var.name).is_some();
-    unless(constant, var.span)
+    let variable = above(variables.place(&var.name), var.span);
+    let constant = above(constants.place(&var.name), var.span);
+    unless(!variable && constant, var.span)
 }
 
 fn no_constants(constants: &Places, variables: &Places, vars: &[&Var]) -> Option<Span>
-    ensures { result ≡ first_in (no_constant (is_apart (place_in constants.now) (place_in variables.now))) (map name_of (these vars.now)) }
+    ensures { result ≡ first_in (no_constant (is_constant (place_in constants.now) (place_in variables.now))) (map name_of (these vars.now)) }
 {
     let mut first = None;
     for var in vars {
@@ -61,7 +67,7 @@ fn unbuilt(
     variables: &Places,
     e: &Expr,
 ) -> Result<Option<Span>, AllocError>
-    ensures { IfOk result (λ r. r ≡ earliest (unbuilt (is_apart (place_in constants.now) (place_in variables.now)) e.now)) }
+    ensures { IfOk result (λ r. r ≡ earliest (unbuilt (is_constant (place_in constants.now) (place_in variables.now)) e.now)) }
 {
     let vars = names(alloc, e)?;
     let other = no_constants(constants, variables, vars.as_slice());
@@ -76,7 +82,7 @@ fn length_fault<L: Lengths>(
     variables: &Places,
     e: &Expr,
 ) -> Result<Option<Span>, AllocError>
-    ensures { IfOk result (λ r. r ≡ earliest (length_wrong (is_apart (place_in constants.now) (place_in variables.now)) (L.length_of lengths.now) e.now)) }
+    ensures { IfOk result (λ r. r ≡ earliest (length_wrong (is_constant (place_in constants.now) (place_in variables.now)) (L.length_of lengths.now) e.now)) }
 {
     let other = unbuilt(alloc, constants, variables, e)?;
     let length = lengths.length(alloc, e)?;
@@ -92,7 +98,7 @@ fn decl_fault<L: Lengths>(
     variables: &Places,
     decl: &Decl,
 ) -> Result<Option<Span>, AllocError>
-    ensures { IfOk result (λ r. r ≡ earliest (decl_wrong (is_apart (place_in constants.now) (place_in variables.now)) (L.length_of lengths.now) decl.now)) }
+    ensures { IfOk result (λ r. r ≡ earliest (decl_wrong (is_constant (place_in constants.now) (place_in variables.now)) (L.length_of lengths.now) decl.now)) }
 {
     match length_of(decl) {
         None => Ok(None),
@@ -110,7 +116,7 @@ fn decls_fault<L: Lengths>(
     variables: &Places,
     decls: &[&Decl],
 ) -> Result<Option<Span>, AllocError>
-    ensures { IfOk result (λ r. r ≡ first_in (decl_wrong (is_apart (place_in constants.now) (place_in variables.now)) (L.length_of lengths.now)) (these decls.now)) }
+    ensures { IfOk result (λ r. r ≡ first_in (decl_wrong (is_constant (place_in constants.now) (place_in variables.now)) (L.length_of lengths.now)) (these decls.now)) }
 {
     let mut first = None;
     for decl in decls {
@@ -122,21 +128,12 @@ fn decls_fault<L: Lengths>(
     Ok(first)
 }
 
-fn is_array(decl: &Decl) -> bool
-    ensures { result ≡ is_array decl.now }
-{
-    match length_of(decl) {
-        None => false,
-        Some(_) => true,
-    }
-}
-
 /// Whether one of them is the declaration of an array.
 fn declares_array(decls: &[&Decl]) -> bool
-    ensures { result ≡ declares_array (these decls.now) }
+    ensures { result ≡ list_any (λ d. is_array (Some (declared_of d))) (these decls.now) }
 {
     for decl in decls {
-        if is_array(decl) {
+        if is_array(Some(declaration(decl))) {
             return true;
         }
     }

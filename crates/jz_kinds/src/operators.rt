@@ -8,8 +8,8 @@ use jz_tree::BinOp;
 use jz_words::Size;
 
 /// The operators by what they take and give.
-#[derive(Clone, Copy, Debug, PartialEq, Eq)]
-pub(crate) enum Group {
+#[derive(Clone, Copy)]
+pub enum Group {
     /// Of two bools.
     Logic,
     /// Of two values, with a bool as result.
@@ -63,16 +63,12 @@ pub(crate) fn stops(group: Group, want: Want) -> bool
     }
 }
 
-/// Whether a bool may stand on the right, as it may be added to a word and taken away from it.
-pub(crate) fn takes_carry(op: BinOp, left_inline: bool, want: Want) -> bool
-    ensures { result ≡ takes_carry op left_inline want }
+/// Whether a bool may stand on the right, as it may be added and taken away where no integer is wanted.
+pub(crate) fn takes_carry(op: BinOp, want: Want) -> bool
+    ensures { result ≡ takes_carry op want }
 {
     match op {
-        BinOp::Add | BinOp::Sub => match want {
-            Want::Int | Want::Truth => false,
-            Want::Word(_) => true,
-            Want::AnyWord | Want::Index => !left_inline,
-        },
+        BinOp::Add | BinOp::Sub => !matches!(want, Want::Int | Want::Truth),
         _ => false,
     }
 }

@@ -7,7 +7,7 @@ ghost use Rattle.jz_kinds.specs.Sides.{left_form, left_wrong, left_span, set_wan
 
 use crate::walk::fault;
 use crate::wants::{
-    Form, Want, cell_size, fits_access, fits_cell, fits_known, known_size, known_truth, sized_want,
+    Form, Want, cell_size, fits_access, fits_cell, fits_known, known_size, known_truth, own_size,
 };
 use jz_io::Span;
 use jz_scopes::{earlier_of, is_array, is_inline_int, known, same_size, unless};
@@ -70,7 +70,7 @@ fn own_want(form: Form) -> Want
     if form.truth {
         Want::Truth
     } else {
-        sized_want(false, form.size)
+        own_size(form.size)
     }
 }
 
@@ -128,7 +128,7 @@ fn takes_form(want: Want, to: Form) -> bool
     match want {
         Want::Truth => to.truth,
         Want::Word(size) => takes_word(Some(size), to),
-        Want::Int | Want::AnyWord | Want::Index => takes_word(None, to),
+        Want::Int | Want::AnyWord | Want::Index | Want::Unsized => takes_word(None, to),
     }
 }
 

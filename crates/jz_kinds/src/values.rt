@@ -13,7 +13,7 @@ use crate::forms::or;
 use crate::operators::{Group, gives, group_of, left_of, right_of, stops, takes_carry};
 use crate::sides::{left_fault, left_form, left_span, set_want, takes, within, within_any};
 use crate::walk::{fault, form};
-use crate::wants::{Form, Want, sized_want};
+use crate::wants::{Form, Want, own_size};
 use jz_data::Seq;
 use jz_io::Span;
 use jz_scopes::{earlier_of, span_of, unless};
@@ -46,7 +46,7 @@ fn right_want(op: BinOp, a: Form, b: Form, want: Want) -> Want
     ensures { result ≡ right_want op a b want }
 {
     let group = group_of(op);
-    let carry = takes_carry(op, a.inline, want) && b.truth;
+    let carry = takes_carry(op, want) && b.truth;
     right_of(group, carry, compared(group, a.size, b.size), want)
 }
 
@@ -142,7 +142,7 @@ fn product_fault(op: Option<BinOp>, high: &Lval, low: &Lval, e: &Expr) -> Option
     ensures { let t = value_typing op low.now e.now in result ≡ earliest (product_of (product_size high.now low.now t) high.now low.now t (span_of e.now)) }
 {
     let size = product_size(op, high, low, e);
-    let want = sized_want(false, size);
+    let want = own_size(size);
     let sides = earlier_of(within(size, high), within(size, low));
     let taken = unless(takes(want, high) && takes(want, low), span_of(e));
     earlier_of(sides, earlier_of(value_fault(op, low, e, want), taken))

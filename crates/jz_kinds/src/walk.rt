@@ -81,7 +81,7 @@ pub(crate) fn first(e: &Expr, e_inline: bool, want: Want) -> Option<Span>
                 best = earlier_of(best, unless(fits_word(*z, w), *at));
                 cur = a.get();
                 whole = inline(cur);
-                w = sized_want(whole, size(cur));
+                w = sized_want(true, size(cur));
             }
             Expr::Bin(op, a, b, at) => {
                 let group = group_of(*op);
@@ -91,7 +91,7 @@ pub(crate) fn first(e: &Expr, e_inline: bool, want: Want) -> Option<Span>
                 }
                 let z = compared(group, a.get(), b.get());
                 let left = left_inline(whole, a.get(), b.get());
-                let carry = takes_carry(*op, left, w) && truth(b.get());
+                let carry = takes_carry(*op, w) && truth(b.get());
                 let right = right_of(group, carry, z, w);
                 best = earlier_of(best, first(b.get(), inline(b.get()), right));
                 w = left_of(group, *op, whole, z, w);

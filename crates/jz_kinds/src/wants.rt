@@ -1,14 +1,14 @@
 //! What a place wants, and what fits it.
 
 ghost use Rattle.std.specs.Prelude.{◌≡◌};
-ghost use Rattle.jz_kinds.specs.Wants.{fits_int, fits_truth, fits_word, fits_access, fits_known, fits_cell, known_size, cell_size, known_truth, sized_want};
+ghost use Rattle.jz_kinds.specs.Wants.{fits_int, fits_truth, fits_word, fits_access, fits_known, fits_cell, known_size, cell_size, known_truth, own_size, sized_want};
 
 use jz_scopes::{Declared, Kind, same_size};
 use jz_words::Size;
 
 /// What a place wants.
-#[derive(Clone, Copy, Debug, PartialEq, Eq)]
-pub(crate) enum Want {
+#[derive(Clone, Copy)]
+pub enum Want {
     /// A number that is known when the text is compiled.
     Int,
     /// A bool.
@@ -17,19 +17,21 @@ pub(crate) enum Want {
     AnyWord,
     /// A number or a word of 64 bits, as an index or an address.
     Index,
+    /// A number to which nothing gives a size.
+    Unsized,
     /// A word of that size.
     Word(Size),
 }
 
 /// What an expression is by itself.
-#[derive(Clone, Copy, Debug, PartialEq, Eq)]
-pub(crate) struct Form {
+#[derive(Clone, Copy)]
+pub struct Form {
     /// The size of the word that it is, where it says one.
-    pub(crate) size: Option<Size>,
+    pub size: Option<Size>,
     /// Whether it is a bool.
-    pub(crate) truth: bool,
+    pub truth: bool,
     /// Whether its value is known when the text is compiled.
-    pub(crate) inline: bool,
+    pub inline: bool,
 }
 
 pub(crate) fn fits_int(want: Want) -> bool
@@ -37,7 +39,7 @@ pub(crate) fn fits_int(want: Want) -> bool
 {
     match want {
         Want::Truth | Want::AnyWord => false,
-        Want::Int | Want::Index | Want::Word(_) => true,
+        Want::Int | Want::Index | Want::Unsized | Want::Word(_) => true,
     }
 }
 
@@ -54,7 +56,7 @@ pub(crate) fn fits_word(size: Size, want: Want) -> bool
         Want::Word(wanted) => same_size(size, wanted),
         Want::AnyWord => true,
         Want::Index => same_size(size, Size::S64),
-        Want::Int | Want::Truth => false,
+        Want::Int | Want::Truth | Want::Unsized => false,
     }
 }
 
@@ -122,6 +124,16 @@ pub(crate) fn known_truth(known: Option<Declared>) -> bool
     match known {
         None => false,
         Some(declared) => matches!(declared.kind, Kind::Truth),
+    }
+}
+
+/// What a place wants that leaves the size to the value.
+pub(crate) fn own_size(size: Option<Size>) -> Want
+    ensures { result ≡ own_size size }
+{
+    match size {
+        Some(size) => Want::Word(size),
+        None => Want::Unsized,
     }
 }
 

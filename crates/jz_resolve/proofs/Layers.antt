@@ -11,7 +11,7 @@ use Rattle.jz_tree.specs.declared.expr.Expr.TheFolds.{fold-roll-Expr}
 use Rattle.jz_scopes.specs.Scopes.{Name}
 use Rattle.jz_resolve.specs.Resolving.{expr_step, var_step, resolved_expr}
 
-module _ (d : List ℕ → Option Decl) (n : Name → Option ℤ) where
+module _ (d : List ℕ → Option Decl) (n : Name → Option (Option ℤ)) where
   pub bin_resolved : (op : BinOp) (l r : Expr) (at : Span) → resolved_expr d n (expr.Bin op l r at) ≡ expr.Bin op (resolved_expr d n l) (resolved_expr d n r) at
   bin_resolved op l r at =
       ap (resolved_expr d n) (sym (expr.rolls-Bin op l r at))

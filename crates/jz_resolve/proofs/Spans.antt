@@ -1,7 +1,9 @@
 -- What is resolved stands where it stood.
 use Rattle.std.proofs.Common.{◌≡◌, ℕ, ℤ, List, [], ◌∷◌, ◌++◌, Option, Some, None, map, refl, sym, ap, ap₂, ◌∙◌, subst}
 use Rattle.std.proofs.lemmas.List.{map-append}
+use Rattle.std.specs.Prelude.{pos}
 use Rattle.jz_io.specs.declared.span.Span.{Span}
+use Rattle.jz_tree.specs.declared.expr.BinOp.TheVariants as op
 use Rattle.jz_tree.specs.declared.expr.Expr.{Expr}
 use Rattle.jz_tree.specs.declared.expr.Expr.TheVariants as expr
 use Rattle.jz_tree.specs.declared.expr.Ty.{Ty}
@@ -37,7 +39,7 @@ opened : (x : StmtKind-F StmtKind Stmt) → in_kind (roll-StmtKind x) ≡ nested
 unfolding in_kind pairs pair
 opened x = para-roll-StmtKind (List Stmt) (List Stmt) nested_step (λ s. roll-Stmt (record { notes = s.notes; span = s.span; kind = s.kind.0 }) ∷ s.kind.1) x
 
-module _ (d : List ℕ → Option Decl) (n : Name → Option ℤ) where
+module _ (d : List ℕ → Option Decl) (n : Name → Option (Option ℤ)) where
   abbrev R : Stmt → Stmt
   R = resolved_stmt d n
 
@@ -132,9 +134,14 @@ module _ (d : List ℕ → Option Decl) (n : Name → Option ℤ) where
   access_span a =
       ap (λ b. (out-Access b).span) (fold_out-Access _ _ _ _ _ (expr_step d n) roll-Ty roll-Access roll-Decl (var_step d n) a)
 
-  number_span : (o : Option ℤ) (v : Var) → span_of (number_or o v) ≡ (out-Var v).span
+  number_span : (o : Option (Option ℤ)) (v : Var) → span_of (number_or o v) ≡ (out-Var v).span
   number_span None v = ap span_of (sym (expr.rolls-Var v)) ∙ rolled_span (Expr-F.Var v)
-  number_span (Some k) v = ap span_of (sym (expr.rolls-Num k (out-Var v).span)) ∙ rolled_span (Expr-F.Num k (out-Var v).span)
+  number_span (Some (Some k)) v = ap span_of (sym (expr.rolls-Num k (out-Var v).span)) ∙ rolled_span (Expr-F.Num k (out-Var v).span)
+  number_span (Some None) v =
+      let at = (out-Var v).span in
+      let one = expr.Num (pos 1) at in
+      let none = expr.Num (pos 0) at in
+      ap span_of (sym (expr.rolls-Bin op.Div one none at)) ∙ rolled_span (Expr-F.Bin op.Div one none at)
 
   layer_span : (x : Expr-F Expr Ty Access Decl Var) → span_of (expr_step d n (expr_layer x)) ≡ span_layer x
   layer_span (Expr-F.Num k at) = rolled_span (expr_layer (Expr-F.Num k at))

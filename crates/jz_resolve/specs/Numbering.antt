@@ -1,5 +1,5 @@
 -- The numbers of constants, and what is declared of a name in a function.
-use Rattle.std.specs.Prelude.{ℕ, ℤ, List, [], ◌∷◌, Option, None, is_none, option_map, option_and_then, if◌then◌else◌, ◌&&◌}
+use Rattle.std.specs.Prelude.{ℕ, ℤ, List, [], ◌∷◌, Option, Some, None, option_map, option_and_then, if◌then◌else◌}
 use Rattle.jz_io.specs.declared.span.Span.{Span}
 use Rattle.jz_tree.specs.declared.expr.Storage.TheVariants as storage
 use Rattle.jz_tree.specs.declared.expr.Expr.{Expr}
@@ -9,8 +9,8 @@ use Rattle.jz_tree.specs.declared.expr.Var.{Var}
 use Rattle.jz_tree.specs.declared.expr.Expr.TheViews.{out-Var, roll-Decl}
 use Rattle.jz_tree.specs.declared.program.Const.{Const}
 use Rattle.jz_integers.specs.Integers.{inline_value, the_number}
-use Rattle.jz_scopes.specs.Scopes.{Name, variable_named, or_else, or_named}
-use Rattle.jz_scopes.specs.Names.{stands_above}
+use Rattle.jz_scopes.specs.Scopes.{Name, variable_named, place_among, or_else, or_named}
+use Rattle.jz_scopes.specs.Names.{is_constant}
 
 -- ---- the values of constants, each by those before it
 abbrev pub Values : Type 0
@@ -47,6 +47,6 @@ constant_decl = roll-Decl (record { storage = storage.Inline; ty = ty.Int })
 abbrev pub declaration_in : Places → List Var → List ℕ → Option Decl
 declaration_in places vs n = or_else (option_and_then (λ v. (out-Var v).decl) (variable_named n vs)) (option_map (λ at. constant_decl) (places n))
 
--- a name is a constant's below the constant, where no variable has that name
-abbrev pub number_in : Places → Values → List Var → Name → Option ℤ
-number_in places values vs n = if is_none (variable_named n.0 vs) && stands_above (places n.0) n.1 then values n.0 else None
+-- of a name that is a constant's where it stands among these variables, the number of the constant, if that has one
+abbrev pub number_in : Places → Values → List Var → Name → Option (Option ℤ)
+number_in places values vs n = if is_constant places (place_among vs) n then Some (values n.0) else None

@@ -1,5 +1,5 @@
 -- A program whose variables have their declarations where they are used, whose arrays have numbers as lengths, and in whose
--- expressions each constant that has a value stands as that number.
+-- expressions each constant stands as its number; one that has none as a division by zero.
 use Rattle.std.specs.Prelude.{ℤ, pos, [], map, Option, Some, None, option_map}
 use Rattle.jz_tree.specs.declared.expr.Expr.{Expr}
 use Rattle.jz_tree.specs.declared.expr.Expr.TheVariants as expr

@@ -1,5 +1,7 @@
--- Expressions and statements whose variables have declarations, and in which a name that has a number is that number.
-use Rattle.std.specs.Prelude.{ℕ, ℤ, List, map, Option, Some, None, option_map}
+-- Expressions and statements whose variables have declarations, and in which a constant is its number.
+use Rattle.std.specs.Prelude.{ℕ, ℤ, pos, List, map, Option, Some, None, option_map}
+use Rattle.jz_io.specs.declared.span.Span.{Span}
+use Rattle.jz_tree.specs.declared.expr.BinOp.TheVariants as op
 use Rattle.jz_tree.specs.declared.expr.Expr.{Expr}
 use Rattle.jz_tree.specs.declared.expr.Expr.TheVariants as expr
 use Rattle.jz_tree.specs.declared.expr.Ty.{Ty}
@@ -20,13 +22,18 @@ use Rattle.jz_tree.specs.declared.stmt.StmtKind.TheViews.{roll-Stmt, roll-StmtKi
 use Rattle.jz_tree.specs.declared.stmt.StmtKind.TheFolds.{fold-Stmt, fold-StmtKind}
 use Rattle.jz_scopes.specs.Scopes.{Name, name_of}
 
--- a constant is its number, any other name a variable
-abbrev pub number_or : Option ℤ → Var → Expr
-number_or None v = expr.Var v
-number_or (Some n) v = expr.Num n (out-Var v).span
+-- what stands for a constant: its number; for one that has none a division by zero, which has none either
+abbrev pub number_at : Span → Option ℤ → Expr
+number_at at (Some n) = expr.Num n at
+number_at at None = expr.Bin op.Div (expr.Num (pos 1) at) (expr.Num (pos 0) at) at
 
--- declaration: what is declared of a name; number: the value of a constant, by its name where it stands
-module _ (declaration : List ℕ → Option Decl) (number : Name → Option ℤ) where
+-- a constant becomes what stands for it, any other name a variable
+abbrev pub number_or : Option (Option ℤ) → Var → Expr
+number_or None v = expr.Var v
+number_or (Some n) v = number_at (out-Var v).span n
+
+-- declaration: what is declared of a name; number: of a name that is a constant's where it stands the number, if that has one
+module _ (declaration : List ℕ → Option Decl) (number : Name → Option (Option ℤ)) where
   abbrev pub var_step : Var-F Expr Ty Access Decl Var → Var
   var_step v = roll-Var (record v { decl = declaration v.name })
 

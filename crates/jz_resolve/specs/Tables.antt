@@ -1,11 +1,11 @@
 -- What the tables of names hold.
-use Rattle.std.specs.Prelude.{◌≡◌, ℕ, ℤ, Bool, List, Option, None, is_none, option_map, option_and_then, if◌then◌else◌, ◌&&◌}
+use Rattle.std.specs.Prelude.{◌≡◌, ℕ, ℤ, Bool, List, Option, Some, None, option_map, option_and_then, if◌then◌else◌}
 use Rattle.jz_tree.specs.declared.expr.Decl.{Decl}
 use Rattle.jz_tree.specs.declared.expr.Var.{Var}
 use Rattle.jz_tree.specs.declared.expr.Expr.TheViews.{out-Var}
 use Rattle.jz_tree.specs.declared.program.Const.{Const}
 use Rattle.jz_scopes.specs.Scopes.{Name, constant_place, or_else}
-use Rattle.jz_scopes.specs.Names.{stands_above}
+use Rattle.jz_scopes.specs.Names.{is_constant}
 use Rattle.jz_scopes.specs.Tables.{item_in, place_in, variable_in}
 use Rattle.jz_resolve.specs.declared.table.ConstantTable.{ConstantTable}
 use Rattle.jz_resolve.specs.declared.scope.Scope.{Scope}
@@ -25,11 +25,15 @@ pub record IsTable (t : ConstantTable) (cs : List Const) : Type 0 where
 abbrev pub declared_by : Scope → List ℕ → Option Decl
 declared_by s n = or_else (option_and_then (λ v. (out-Var v).decl) (variable_in s.variables n)) (option_map (λ at. constant_decl) (places_in s.constants.now n))
 
-abbrev pub is_constant_by : Scope → Name → Bool
-is_constant_by s n = is_none (variable_in s.variables n.0) && stands_above (places_in s.constants.now n.0) n.1
+-- where the variable of that name is declared
+abbrev pub place_by : Scope → Places
+place_by s n = option_map (λ v. (out-Var v).span) (variable_in s.variables n)
 
-abbrev pub number_by : Scope → Name → Option ℤ
-number_by s n = if is_constant_by s n then values_in s.constants.now n.0 else None
+abbrev pub is_constant_by : Scope → Name → Bool
+is_constant_by s n = is_constant (places_in s.constants.now) (place_by s) n
+
+abbrev pub number_by : Scope → Name → Option (Option ℤ)
+number_by s n = if is_constant_by s n then Some (values_in s.constants.now n.0) else None
 
 -- it knows these variables and the constants of this table
 pub record IsScope (s : Scope) (t : ConstantTable) (vs : List Var) : Type 0 where

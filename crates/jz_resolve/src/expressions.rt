@@ -1,7 +1,7 @@
 //! Expressions whose variables have their declarations, and whose constants are numbers.
 ghost use Rattle.std.specs.Prelude.{◌≡◌, IfOk, OnOk};
 ghost use Rattle.jz_scopes.specs.Scopes.{name_of};
-ghost use Rattle.jz_resolve.specs.Resolving.{resolved_expr, resolved_var, resolved_access, number_or};
+ghost use Rattle.jz_resolve.specs.Resolving.{resolved_expr, resolved_var, resolved_access, number_at, number_or};
 ghost use Rattle.jz_resolve.specs.Sides.{on_left};
 
 use crate::lookup::Lookup;
@@ -72,11 +72,29 @@ pub(crate) fn declare_var<L: Lookup>(
     Ok(())
 }
 
+/// What stands for a constant: its number, or where it has none a division by zero.
+fn number_at(alloc: Global, number: Option<i128>, at: Span) -> Result<Expr, AllocError>
+    ensures { IfOk result (λ r. r ≡ number_at at number) }
+{
+    match number {
+        Some(number) => Ok(Expr::Num(number, at)),
+        None => Ok(Expr::Bin(
+            BinOp::Div,
+            Boxed::new(alloc, Expr::Num(1, at))?,
+            Boxed::new(alloc, Expr::Num(0, at))?,
+            at,
+        )),
+    }
+}
+
 fn resolve_name<L: Lookup>(alloc: Global, names: &L, var: &Var) -> Result<Expr, AllocError>
     ensures { IfOk result (λ r. r ≡ number_or (L.number names.now (name_of var.now)) (resolved_var (L.declaration names.now) (L.number names.now) var.now)) }
 {
     match names.constant(&var.name, var.span) {
-        Some(number) => Ok(Expr::Num(number, var.span)),
+        Some(number) => {
+            let number = number_at(alloc, number, var.span)?;
+            Ok(number)
+        }
         None => {
             let var = resolve_var(alloc, names, var)?;
             Ok(Expr::Var(var))

@@ -10,13 +10,13 @@ use jz_tree::{Expr, Program, Stmt};
 
 /// An expression begins where it began.
 pub fn expression_stays(e: &Expr)
-    ensures { (d : List ℕ → Option Decl) (n : Name → Option ℤ) → span_of (resolved_expr d n e.now) ≡ span_of e.now }
+    ensures { (d : List ℕ → Option Decl) (n : Name → Option (Option ℤ)) → span_of (resolved_expr d n e.now) ≡ span_of e.now }
 {}
 
 /// A statement stands where it stood, and in it there stand the same statements, resolved.
 pub fn statement_stays(s: &Stmt)
-    ensures span { (d : List ℕ → Option Decl) (n : Name → Option ℤ) → (resolved_stmt d n s.now).span ≡ s.now.span }
-    ensures nested { (d : List ℕ → Option Decl) (n : Name → Option ℤ) → statements_in (resolved_stmt d n s.now) ≡ map (resolved_stmt d n) (statements_in s.now) }
+    ensures span { (d : List ℕ → Option Decl) (n : Name → Option (Option ℤ)) → (resolved_stmt d n s.now).span ≡ s.now.span }
+    ensures nested { (d : List ℕ → Option Decl) (n : Name → Option (Option ℤ)) → statements_in (resolved_stmt d n s.now) ≡ map (resolved_stmt d n) (statements_in s.now) }
 {}
 
 /// The functions keep their names and places, and their statements stand where they stood.

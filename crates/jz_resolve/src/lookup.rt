@@ -12,14 +12,14 @@ use std::alloc::{AllocError, Global};
 pub(crate) trait Lookup {
     /// What is declared of each name.
     ghost declaration: { Self → List ℕ → Option Decl };
-    /// The number of each name where it stands, if it is that of a constant.
-    ghost number: { Self → Name → Option ℤ };
+    /// Of each name that is a constant's where it stands, the number of the constant, if that has one.
+    ghost number: { Self → Name → Option (Option ℤ) };
 
     /// What is declared of that name.
     fn declared(&self, alloc: Global, name: &Text) -> Result<Option<Decl>, AllocError>
         ensures { IfOk result (λ decl. decl ≡ declaration self.now name.now) };
 
-    /// The number of the name that stands there, if it is that of a constant.
-    fn constant(&self, name: &Text, at: Span) -> Option<i128>
+    /// The number of the constant that the name is which stands there; none inside, where the constant has no number.
+    fn constant(&self, name: &Text, at: Span) -> Option<Option<i128>>
         ensures { result ≡ number self.now (name.now, at) };
 }

@@ -267,7 +267,7 @@ fn resolve_consts(
 }
 
 /// The program in which each variable has its declaration where it is used, each length of an array is its value, and each
-/// name of a constant that has a value is that number. A length that has none becomes 0.
+/// constant its number. A length that has none becomes 0, and a constant that has none a division by zero.
 pub fn resolve(alloc: Global, program: Program) -> Result<Program, AllocError>
     ensures { IfOk result (λ q. q ≡ resolved program) }
 {

@@ -1,14 +1,14 @@
 //! The variables of a function by their names.
 ghost use Rattle.std.specs.Prelude.{◌≡◌, IfOk, []};
 ghost use Rattle.jz_scopes.specs.Scopes.{variables_of};
-ghost use Rattle.jz_resolve.specs.Tables.{declared_by, is_constant_by, number_by, IsScope};
+ghost use Rattle.jz_resolve.specs.Tables.{declared_by, place_by, is_constant_by, number_by, IsScope};
 
 use crate::lookup::Lookup;
 use crate::table::ConstantTable;
 use jz_data::Text;
 use jz_integers::Numbers;
 use jz_io::Span;
-use jz_scopes::Variables;
+use jz_scopes::{Variables, above};
 use jz_tree::{Decl, Fun};
 use std::alloc::{AllocError, Global};
 
@@ -45,12 +45,21 @@ impl Scope<'_> {
         })
     }
 
-    /// Whether the name that stands there is that of a constant above, which no variable hides.
+    /// Where the variable of that name is declared.
+    fn place(&self, name: &Text) -> Option<Span>
+        ensures { result ≡ place_by self.now name.now }
+    {
+        match self.variables.named(name) {
+            None => None,
+            Some(var) => Some(var.span),
+        }
+    }
+
+    /// Whether the name that stands there is that of a constant above, and of no variable above.
     fn is_constant(&self, name: &Text, at: Span) -> bool
         ensures { result ≡ is_constant_by self.now (name.now, at) }
     {
-        let hidden = self.variables.named(name).is_some();
-        !hidden && self.constants.stands_above(name, at)
+        !above(self.place(name), at) && self.constants.stands_above(name, at)
     }
 }
 
@@ -71,11 +80,11 @@ impl Lookup for Scope<'_> {
         }
     }
 
-    fn constant(&self, name: &Text, at: Span) -> Option<i128>
+    fn constant(&self, name: &Text, at: Span) -> Option<Option<i128>>
         ensures { result ≡ number_by self.now (name.now, at) }
     {
         if self.is_constant(name, at) {
-            self.constants.number(name, 0)
+            Some(self.constants.number(name, 0))
         } else {
             None
         }

@@ -12,30 +12,30 @@ use Rattle.jz_tree.specs.declared.program.Program.{Program}
 use Rattle.jz_scopes.specs.declared.tables.Places.{Places}
 use Rattle.jz_scopes.specs.declared.tables.Functions.{Functions}
 use Rattle.jz_scopes.specs.Order.{earlier, earliest, first_in}
-use Rattle.jz_scopes.specs.Scopes.{Name, name_of, or_values, variables_of, variable_place, constant_place, function_named}
-use Rattle.jz_scopes.specs.Parts.{Layer, read_by, set_by, called_by, layer_of, statements_of, names_in}
-use Rattle.jz_scopes.specs.Names.{one_unknown, no_function, unknown_among, unknown_where, length_names, outside_where, fun_where, unknown_in}
+use Rattle.jz_scopes.specs.Scopes.{Name, name_of, places_of, or_values, variables_of, variable_place, constant_place, function_named}
+use Rattle.jz_scopes.specs.Parts.{Layer, read_by, called_by, layer_of, statements_of, names_in, arrays_in}
+use Rattle.jz_scopes.specs.Names.{one_unknown, no_function, unknown_among, unknown_where, variables_wanted, length_names, variables_outside, outside_where, fun_where, unknown_value, unknown_in_constant, unknown_in}
 use Rattle.jz_scopes.specs.Tables.{IsPlaces, IsFunctions, place_in, function_in, first_place}
 use Rattle.jz_scopes.proofs.Earliest.{earlier-assoc, first_over, both_earliest}
 
 pub where_is : (values variables : List ℕ → Option Span) (functions : List ℕ → Option Fun) (k : Layer) (r s c : Option Span)
-    → r ≡ first_in (one_unknown values) (read_by k) → s ≡ first_in (one_unknown variables) (map name_of (set_by k))
+    → r ≡ first_in (one_unknown values) (read_by k) → s ≡ first_in (one_unknown variables) (variables_wanted functions k)
     → c ≡ earliest (flat_map (no_function functions) (called_by k))
     → earlier r (earlier s c) ≡ earliest (unknown_where values variables functions k)
 where_is values variables functions k r s c a b d =
     let read = unknown_among values (read_by k)
-    in let set = unknown_among variables (map name_of (set_by k))
+    in let set = unknown_among variables (variables_wanted functions k)
     in let called = flat_map (no_function functions) (called_by k)
     in sym (earlier-assoc r s c)
     ∙ both_earliest (read ++ set) called (earlier r s) c
-    (both_earliest read set r s (a ∙ first_over (one_unknown values) (read_by k)) (b ∙ first_over (one_unknown variables) (map name_of (set_by k)))) d
+    (both_earliest read set r s (a ∙ first_over (one_unknown values) (read_by k)) (b ∙ first_over (one_unknown variables) (variables_wanted functions k))) d
 
 pub outside_is : (values variables : List ℕ → Option Span) (f : Fun) (r s : Option Span)
-    → r ≡ first_in (one_unknown values) (length_names f) → s ≡ first_in (one_unknown variables) (map name_of f.result)
+    → r ≡ first_in (one_unknown values) (length_names f) → s ≡ first_in (one_unknown variables) (variables_outside f)
     → earlier r s ≡ earliest (outside_where values variables f)
 outside_is values variables f r s a b =
-    both_earliest (unknown_among values (length_names f)) (unknown_among variables (map name_of f.result)) r s
-    (a ∙ first_over (one_unknown values) (length_names f)) (b ∙ first_over (one_unknown variables) (map name_of f.result))
+    both_earliest (unknown_among values (length_names f)) (unknown_among variables (variables_outside f)) r s
+    (a ∙ first_over (one_unknown values) (length_names f)) (b ∙ first_over (one_unknown variables) (variables_outside f))
 
 pub fun_is : (constants : List ℕ → Option Span) (functions : List ℕ → Option Fun) (variables : List ℕ → Option Span) (f : Fun) (o b : Option Span)
     → variables ≡ variable_place f
@@ -47,16 +47,24 @@ fun_is constants functions variables f o b e h k =
     in both_earliest (outside_where (or_values constants variables) variables f) (flat_map each (statements_of f.body)) o b h (k ∙ first_over each (statements_of f.body))
     ∙ ap (λ v. earliest (fun_where (or_values constants v) v functions f)) e
 
+pub constant_is : (constants : List ℕ → Option Span) (c : Const) (r i : Option Span)
+    → r ≡ first_in (unknown_value constants c.span) (names_in c.value) → i ≡ earliest (places_of (arrays_in c.value))
+    → earlier r i ≡ earliest (unknown_in_constant constants c)
+unfolding unknown_in_constant
+constant_is constants c r i a b =
+    both_earliest (flat_map (unknown_value constants c.span) (names_in c.value)) (places_of (arrays_in c.value)) r i
+    (a ∙ first_over (unknown_value constants c.span) (names_in c.value)) b
+
 pub program_is : (p : Program) (constants : List ℕ → Option Span) (functions : List ℕ → Option Fun) (a b : Option Span)
     → constants ≡ constant_place p.consts → functions ≡ (λ n. function_named n p.funs)
-    → a ≡ first_in (λ c. unknown_among constants (names_in c.value)) p.consts
+    → a ≡ first_in (unknown_in_constant constants) p.consts
     → b ≡ first_in (λ f. fun_where (or_values constants (variable_place f)) (variable_place f) functions f) p.funs
     → earlier a b ≡ earliest (unknown_in p)
 program_is p constants functions a b e g h k =
-    let ahead : Const → List Span = λ c. unknown_among constants (names_in c.value)
+    let ahead : Const → List Span = unknown_in_constant constants
     in let after : (List ℕ → Option Span) → (List ℕ → Option Fun) → Fun → List Span = λ cs fs f. fun_where (or_values cs (variable_place f)) (variable_place f) fs f
     in both_earliest (flat_map ahead p.consts) (flat_map (after constants functions) p.funs) a b (h ∙ first_over ahead p.consts) (k ∙ first_over (after constants functions) p.funs)
-    ∙ ap₂ (λ cs fs. earliest (flat_map (λ c. unknown_among cs (names_in c.value)) p.consts ++ flat_map (after cs fs) p.funs)) e g
+    ∙ ap₂ (λ cs fs. earliest (flat_map (unknown_in_constant cs) p.consts ++ flat_map (after cs fs) p.funs)) e g
 
 module _ {X : Type 0} (name : X → Name) where
   first_map : (n : List ℕ) (xs : List X) → first_place n (map name xs) ≡ option_map (λ x. (name x).1) (find (λ x. bytes_eq n (name x).0) xs)

@@ -1,14 +1,24 @@
 -- Unknown and Duplicate.
-use Rattle.std.specs.Prelude.{ℕ, Bool, false, not, ◌&&◌, ◌||◌, is_some, List, [], ◌∷◌, ◌++◌, map, flat_map, Option, Some, None, option_to_list}
+use Rattle.std.specs.Prelude.{ℕ, Bool, false, not, ◌&&◌, ◌||◌, is_some, if◌then◌else◌, List, [], ◌∷◌, ◌++◌, map, flat_map, Option, Some, None, option_to_list}
 use Rattle.std.specs.Str.{bytes_eq}
 use Rattle.jz_io.specs.declared.span.Span.{Span}
+use Rattle.jz_tree.specs.declared.expr.Expr.{Expr}
+use Rattle.jz_tree.specs.declared.expr.Ty.{Ty}
+use Rattle.jz_tree.specs.declared.expr.Access.{Access}
 use Rattle.jz_tree.specs.declared.expr.Decl.{Decl}
-use Rattle.jz_tree.specs.declared.expr.Expr.TheViews.{out-Var}
+use Rattle.jz_tree.specs.declared.expr.Var.{Var}
+use Rattle.jz_tree.specs.declared.expr.Expr.TheOpen.{Expr-F}
+use Rattle.jz_tree.specs.declared.expr.Expr.TheViews.{out-Expr, out-Var}
+use Rattle.jz_tree.specs.declared.stmt.Rhs.TheVariants as rhs
+use Rattle.jz_tree.specs.declared.stmt.StmtKind.TheOpen.{StmtKind-F}
 use Rattle.jz_tree.specs.declared.program.Program.{Program}
+use Rattle.jz_tree.specs.declared.program.Const.{Const}
 use Rattle.jz_tree.specs.declared.program.Fun.{Fun}
+use Rattle.jz_tree.specs.declared.program.Param.{Param}
 use Rattle.jz_scopes.specs.Order.{is_before, unless}
-use Rattle.jz_scopes.specs.Scopes.{Name, name_of, variables_of, function_named, constant_place, variable_place, value_place}
-use Rattle.jz_scopes.specs.Parts.{Layer, names_in, lengths_in, read_by, set_by, wholly_set_by, called_by, statements_of, layer_of}
+use Rattle.jz_scopes.specs.Scopes.{Name, name_of, places_of, variables_of, function_named, constant_place, variable_place, value_place}
+use Rattle.jz_scopes.specs.Kinds.{known_of, is_array}
+use Rattle.jz_scopes.specs.Parts.{Layer, names_in, arrays_in, lengths_in, read_by, set_by, arrays_read_by, wholly_set_by, called_by, statements_of, layer_of}
 
 abbrev pub stands_above : Option Span → Span → Bool
 stands_above None at = false
@@ -22,15 +32,50 @@ one_unknown declared n = unless (stands_above (declared n.0) n.1) n.1
 abbrev pub unknown_among : (List ℕ → Option Span) → List Name → List Span
 unknown_among declared ns = flat_map (one_unknown declared) ns
 
+-- what a name is where it stands: that of a constant, where one stands above and no variable of that name does
+abbrev pub is_constant : (List ℕ → Option Span) → (List ℕ → Option Span) → Name → Bool
+is_constant constants variables n = not (stands_above (variables n.0) n.1) && stands_above (constants n.0) n.1
+
 -- where a name stands, unless it is a function's
 unfoldable pub no_function : (List ℕ → Option Fun) → Name → List Span
 no_function functions n = unless (is_some (functions n.0)) n.1
 
--- Unknown, of a statement: what is read is declared above as a variable or constant, what is set as a variable, and what is
--- called is a function anywhere
+-- ---- arguments that have to be arrays
+abbrev pub name_layer : Expr-F Expr Ty Access Decl Var → List Name
+name_layer (Expr-F.Var v) = name_of v ∷ []
+name_layer _ = []
+
+-- the name that an argument is as a whole, where the parameter is an array
+abbrev pub array_passed : Param → Expr → List Name
+array_passed p e = if is_array (known_of p.var) then name_layer (out-Expr e) else []
+
+abbrev pub arrays_beside : List Param → List Expr → List Name
+arrays_beside ps [] = []
+arrays_beside [] (e ∷ es) = []
+arrays_beside (p ∷ ps) (e ∷ es) = array_passed p e ++ arrays_beside ps es
+
+abbrev pub arrays_to : Option Fun → List Expr → List Name
+arrays_to None args = []
+arrays_to (Some g) args = arrays_beside g.params args
+
+-- the names that a statement passes to a function in the places of arrays
+abbrev pub arrays_passed : (List ℕ → Option Fun) → Layer → List Name
+arrays_passed functions (StmtKind-F.Assign to op (rhs.Call n args at) cond) = arrays_to (functions n) args
+arrays_passed functions _ = []
+
+-- ---- Unknown
+-- the names of a statement that have to be variables: what it sets, what stands before an index, and
+-- what is passed as an array
+abbrev pub variables_wanted : (List ℕ → Option Fun) → Layer → List Name
+variables_wanted functions k = map name_of (set_by k) ++ (arrays_read_by k ++ arrays_passed functions k)
+
+-- Unknown, of a statement: what is read is declared above as a variable or constant, what has to be a
+-- variable as a variable, and what is called is a function anywhere
 abbrev pub unknown_where : (List ℕ → Option Span) → (List ℕ → Option Span) → (List ℕ → Option Fun) → Layer → List Span
 unknown_where values variables functions k =
-    unknown_among values (read_by k) ++ unknown_among variables (map name_of (set_by k)) ++ flat_map (no_function functions) (called_by k)
+    unknown_among values (read_by k)
+    ++ unknown_among variables (variables_wanted functions k)
+    ++ flat_map (no_function functions) (called_by k)
 
 -- the declarations of a function: of its parameters, results and variables
 abbrev pub decls_of : Fun → List Decl
@@ -44,9 +89,21 @@ decl_names d = flat_map names_in (lengths_in d)
 abbrev pub length_names : Fun → List Name
 length_names f = flat_map decl_names (decls_of f)
 
+-- those of them that stand before an index
+abbrev pub decl_arrays : Decl → List Name
+decl_arrays d = flat_map arrays_in (lengths_in d)
+
+abbrev pub length_arrays : Fun → List Name
+length_arrays f = flat_map decl_arrays (decls_of f)
+
+-- the names outside statements that have to be variables
+abbrev pub variables_outside : Fun → List Name
+variables_outside f = length_arrays f ++ map name_of f.result
+
 -- Unknown, of what stands outside statements: the lengths of arrays, and what is returned
 abbrev pub outside_where : (List ℕ → Option Span) → (List ℕ → Option Span) → Fun → List Span
-outside_where values variables f = unknown_among values (length_names f) ++ unknown_among variables (map name_of f.result)
+outside_where values variables f =
+    unknown_among values (length_names f) ++ unknown_among variables (variables_outside f)
 
 -- Unknown, of a function
 abbrev pub fun_where : (List ℕ → Option Span) → (List ℕ → Option Span) → (List ℕ → Option Fun) → Fun → List Span
@@ -56,8 +113,17 @@ fun_where values variables functions f =
 abbrev pub unknown_in_fun : Program → Fun → List Span
 unknown_in_fun p f = fun_where (value_place p.consts f) (variable_place f) (λ n. function_named n p.funs) f
 
+-- Unknown, of a constant: the declaration of a constant ends behind its value, so a name there is that
+-- of a constant which stands above this one; and none stands before an index, as there are no variables
+unfoldable pub unknown_value : (List ℕ → Option Span) → Span → Name → List Span
+unknown_value constants own n = unless (stands_above (constants n.0) own) n.1
+
+unfoldable pub unknown_in_constant : (List ℕ → Option Span) → Const → List Span
+unknown_in_constant constants c =
+    flat_map (unknown_value constants c.span) (names_in c.value) ++ places_of (arrays_in c.value)
+
 abbrev pub unknown_in : Program → List Span
-unknown_in p = flat_map (λ c. unknown_among (constant_place p.consts) (names_in c.value)) p.consts ++ flat_map (unknown_in_fun p) p.funs
+unknown_in p = flat_map (unknown_in_constant (constant_place p.consts)) p.consts ++ flat_map (unknown_in_fun p) p.funs
 
 -- one of the names equals this one and stands before it
 abbrev pub named_before : List Name → Name → Bool

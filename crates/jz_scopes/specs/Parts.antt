@@ -1,5 +1,5 @@
 -- The statements of a body, and what stands in one statement itself: its expressions, the names that it reads, sets and calls.
-use Rattle.std.specs.Prelude.{List, [], ◌∷◌, ◌++◌, flat_map, Some, None, option_to_list}
+use Rattle.std.specs.Prelude.{List, [], ◌∷◌, ◌++◌, flat_map, map, Some, None, option_to_list}
 use Rattle.jz_io.specs.declared.span.Span.{Span}
 use Rattle.jz_tree.specs.declared.expr.Expr.{Expr}
 use Rattle.jz_tree.specs.declared.expr.Ty.{Ty}
@@ -18,7 +18,7 @@ use Rattle.jz_tree.specs.declared.stmt.StmtKind.{StmtKind}
 use Rattle.jz_tree.specs.declared.stmt.StmtKind.TheOpen.{StmtKind-F}
 use Rattle.jz_tree.specs.declared.stmt.StmtKind.TheViews.{out-StmtKind, roll-Stmt}
 use Rattle.jz_tree.specs.declared.stmt.StmtKind.TheFolds.{para-Stmt}
-use Rattle.jz_scopes.specs.Scopes.{Name}
+use Rattle.jz_scopes.specs.Scopes.{Name, name_of}
 
 -- ---- expressions
 -- the first token of an expression
@@ -78,6 +78,14 @@ cells_step (Expr-F.Bin o a b at) = a.1 ++ b.1
 abbrev pub cells_in : Expr → Cells
 cells_in = para-Expr Cells (Unit {0}) Cells (Unit {0}) (Unit {0}) cells_step (λ t. tt) (λ a. a.at.1) (λ d. tt) (λ v. tt)
 
+-- the arrays of these cells, by their names
+abbrev pub arrays_of : Cells → List Name
+arrays_of cs = map (λ c. name_of c.0) cs
+
+-- the names in an expression that stand before an index
+abbrev pub arrays_in : Expr → List Name
+arrays_in e = arrays_of (cells_in e)
+
 -- ---- statements
 abbrev pub nested : List (Stmt × List Stmt) → List Stmt
 nested ss = flat_map (λ s. s.1) ss
@@ -123,6 +131,10 @@ exprs_of (StmtKind-F.Mark vs) = []
 
 abbrev pub read_by : Layer → List Name
 read_by k = flat_map names_in (exprs_of k)
+
+-- the names in its expressions that stand before an index
+abbrev pub arrays_read_by : Layer → List Name
+arrays_read_by k = flat_map arrays_in (exprs_of k)
 
 -- the whole variables among the left sides
 abbrev pub whole_left : Lval → List Var

@@ -6,6 +6,7 @@ use Rattle.jz_tree.specs.declared.expr.Var.{Var}
 use Rattle.jz_tree.specs.declared.expr.Expr.TheViews.{out-Var}
 use Rattle.jz_tree.specs.declared.program.Const.{Const}
 use Rattle.jz_tree.specs.declared.program.Fun.{Fun}
+use Rattle.jz_scopes.specs.Order.{earlier}
 
 -- a name where it stands
 abbrev pub Name : Type 0
@@ -39,17 +40,21 @@ or_else (Some a) b = Some a
 abbrev pub or_named : {A : Type 0} → (List ℕ → Option A) → List ℕ → Option A → List ℕ → Option A
 or_named known name a n = or_else (known n) (if bytes_eq n name then a else None)
 
+-- where the first of these variables stands that has the name
+abbrev pub place_among : List Var → List ℕ → Option Span
+place_among vs n = option_map (λ v. (out-Var v).span) (variable_named n vs)
+
 -- where the variable of that name is declared
 abbrev pub variable_place : Fun → List ℕ → Option Span
-variable_place f n = option_map (λ v. (out-Var v).span) (variable_named n (variables_of f))
+variable_place f = place_among (variables_of f)
 
 abbrev pub constant_place : List Const → List ℕ → Option Span
 constant_place cs n = option_map (λ c. c.span) (constant_named n cs)
 
--- where a value of that name is declared, if constants and variables are declared where these functions say
+-- where a value of that name is first declared, as a constant or a variable, if these are declared where the functions say
 abbrev pub or_values : (List ℕ → Option Span) → (List ℕ → Option Span) → List ℕ → Option Span
-or_values constants variables n = or_else (variables n) (constants n)
+or_values constants variables n = earlier (variables n) (constants n)
 
--- where a value of that name is declared: the variable, or where there is none the constant
+-- where a value of that name is first declared, as a constant or as a variable of the function
 abbrev pub value_place : List Const → Fun → List ℕ → Option Span
 value_place cs f = or_values (constant_place cs) (variable_place f)

@@ -299,11 +299,3 @@ pub(crate) fn add_refs<'a>(list: &mut Vec<&'a Var>, vars: &'a Seq<Var>) -> Resul
     }
     Ok(())
 }
-
-pub(crate) fn refs(alloc: Global, vars: &Seq<Var>) -> Result<Vec<&Var>, AllocError>
-    ensures { IfOk result (λ vs. these vs.items ≡ vars.now) }
-{
-    let mut list = Vec::new(alloc);
-    add_refs(&mut list, vars)?;
-    Ok(list)
-}

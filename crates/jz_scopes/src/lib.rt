@@ -10,6 +10,7 @@ mod order;
 mod repeats;
 mod tables;
 mod unknowns;
+mod wanted;
 
 pub use bodies::statements;
 pub use declarations::decls_of;

@@ -1,19 +1,20 @@
 //! Names that are not declared above.
 
-ghost use Rattle.std.specs.Prelude.{◌≡◌, IfOk, map, flat_map};
+ghost use Rattle.std.specs.Prelude.{◌≡◌, IfOk, map, flat_map, Some};
 ghost use Rattle.jz_scopes.specs.Order.{earliest, first_in};
-ghost use Rattle.jz_scopes.specs.Scopes.{name_of, or_values, variable_place};
-ghost use Rattle.jz_scopes.specs.Parts.{layer_of, called_by, names_in, statements_of};
+ghost use Rattle.jz_scopes.specs.Scopes.{name_of, places_of, or_values, variable_place};
+ghost use Rattle.jz_scopes.specs.Parts.{layer_of, called_by, statements_of};
 ghost use Rattle.jz_scopes.specs.Lent.{these};
 ghost use Rattle.jz_scopes.specs.Tables.{place_in, value_in, function_in};
-ghost use Rattle.jz_scopes.specs.Names.{stands_above, one_unknown, no_function, unknown_among, unknown_where, outside_where, fun_where};
+ghost use Rattle.jz_scopes.specs.Names.{stands_above, one_unknown, no_function, unknown_where, outside_where, fun_where, unknown_value, unknown_in_constant};
 
 use crate::bodies::statements;
 use crate::declarations::length_names;
 use crate::exprs::names;
-use crate::layers::{called_by, read_by, refs, set_by};
+use crate::layers::{called_by, read_by};
 use crate::order::{earlier_of, is_before, unless};
 use crate::tables::{Functions, Places};
+use crate::wanted::{arrays, variables_outside, variables_wanted};
 use jz_data::{Seq, Text};
 use jz_io::Span;
 use jz_tree::{Const, Fun, Stmt, Var};
@@ -32,10 +33,7 @@ pub fn above(place: Option<Span>, at: Span) -> bool
 fn value(constants: &Places, variables: &Places, name: &Text) -> Option<Span>
     ensures { result ≡ value_in constants.now variables.now name.now }
 {
-    match variables.place(name) {
-        None => constants.place(name),
-        Some(at) => Some(at),
-    }
+    earlier_of(variables.place(name), constants.place(name))
 }
 
 #[tactic(auto, unfolding(crate::specs::Names::one_unknown))]
@@ -99,9 +97,9 @@ pub fn unknown_of(
     ensures { IfOk result (λ at. at ≡ earliest (unknown_where (value_in constants.now variables.now) (place_in variables.now) (function_in functions.now) (layer_of stmt.now))) }
 {
     let read = read_by(alloc, stmt)?;
-    let set = set_by(alloc, stmt)?;
+    let wanted = variables_wanted(alloc, functions, stmt)?;
     let unread = unknown_values(constants, variables, read.as_slice());
-    let unset = unknown_variables(variables, set.as_slice());
+    let unset = unknown_variables(variables, wanted.as_slice());
     let uncalled = unknown_function(functions, stmt);
     Ok(earlier_of(unread, earlier_of(unset, uncalled)))
 }
@@ -115,9 +113,9 @@ fn outside(
     ensures { IfOk result (λ at. at ≡ earliest (outside_where (value_in constants.now variables.now) (place_in variables.now) fun.now)) }
 {
     let lengths = length_names(alloc, fun)?;
-    let returned = refs(alloc, &fun.result)?;
+    let wanted = variables_outside(alloc, fun)?;
     let unread = unknown_values(constants, variables, lengths.as_slice());
-    let unset = unknown_variables(variables, returned.as_slice());
+    let unset = unknown_variables(variables, wanted.as_slice());
     Ok(earlier_of(unread, unset))
 }
 
@@ -155,24 +153,53 @@ pub fn unknown_in_fun(
     Ok(earlier_of(around, within))
 }
 
+#[tactic(auto, unfolding(crate::specs::Names::unknown_value))]
+fn unknown_in_value(constants: &Places, own: Span, var: &Var) -> Option<Span>
+    ensures { result ≡ earliest (unknown_value (place_in constants.now) own (name_of var.now)) }
+{
+    unless(above(constants.place(&var.name), own), var.span)
+}
+
+fn unknown_in_values(constants: &Places, own: Span, vars: &[&Var]) -> Option<Span>
+    ensures { result ≡ first_in (unknown_value (place_in constants.now) own) (map name_of (these vars.now)) }
+{
+    let mut first = None;
+    for var in vars {
+        first = earlier_of(first, unknown_in_value(constants, own, var));
+    }
+    first
+}
+
+fn first_place(vars: &[&Var]) -> Option<Span>
+    ensures { result ≡ earliest (places_of (map name_of (these vars.now))) }
+{
+    let mut first = None;
+    for var in vars {
+        first = earlier_of(first, Some(var.span));
+    }
+    first
+}
+
 fn in_constant(
     alloc: Global,
     constants: &Places,
     constant: &Const,
 ) -> Result<Option<Span>, AllocError>
-    ensures { IfOk result (λ at. at ≡ earliest (unknown_among (place_in constants.now) (names_in constant.now.value))) }
+    ensures { IfOk result (λ at. at ≡ earliest (unknown_in_constant (place_in constants.now) constant.now)) }
 {
     let read = names(alloc, &constant.value)?;
-    Ok(unknown_variables(constants, read.as_slice()))
+    let indexed = arrays(alloc, &constant.value)?;
+    let unread = unknown_in_values(constants, constant.span, read.as_slice());
+    Ok(earlier_of(unread, first_place(indexed.as_slice())))
 }
 
-/// The first name in the values of constants that is no constant above.
+/// The first name in the values of constants that is not that of a constant above.
 pub fn unknown_in_constants(
     alloc: Global,
     constants: &Places,
     consts: &Seq<Const>,
 ) -> Result<Option<Span>, AllocError>
-    ensures { IfOk result (λ at. at ≡ first_in (λ c. unknown_among (place_in constants.now) (names_in c.value)) consts.now) }
+    ensures { IfOk result (λ at. at ≡ first_in (unknown_in_constant (place_in constants.now)) consts.now) }
 {
     let mut first = None;
     for constant in consts.as_slice() {

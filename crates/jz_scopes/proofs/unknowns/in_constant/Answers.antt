@@ -1,13 +1,15 @@
 use Rattle.std.proofs.Common.{ap, ◌∙◌, map}
-use Rattle.jz_scopes.specs.Order.{first_in}
-use Rattle.jz_scopes.specs.Scopes.{name_of}
+use Rattle.jz_scopes.specs.Order.{first_in, earliest}
+use Rattle.jz_scopes.specs.Scopes.{name_of, places_of}
 use Rattle.jz_scopes.specs.Lent.{these}
 use Rattle.jz_scopes.specs.Tables.{place_in}
-use Rattle.jz_scopes.specs.Names.{one_unknown}
-use Rattle.jz_scopes.proofs.Earliest.{first_over}
+use Rattle.jz_scopes.specs.Names.{unknown_value}
+use Rattle.jz_scopes.proofs.UnknownLaws.{constant_is}
 use Rattle.jz_scopes.proofs.unknowns.in_constant.Goals as goal
 
 pub returns : goal.returns
 returns c =
-    let at = one_unknown (place_in c.args.constants.now)
-    in c.unknown_variables.ensures ∙ (ap (first_in at) (ap (λ l. map name_of (these l)) c.as_slice.ensures.value ∙ c.in_ok-read.ensures) ∙ first_over at _)
+    let at = unknown_value (place_in c.args.constants.now) c.args.constant.now.span
+    in c.earlier_of.ensures.is ∙ constant_is (place_in c.args.constants.now) c.args.constant.now _ _
+    (c.unknown_in_values-unread.ensures ∙ ap (first_in at) (ap (λ l. map name_of (these l)) c.as_slice.ensures.value ∙ c.in_ok-read.ensures))
+    (c.first_place.ensures ∙ ap (λ ns. earliest (places_of ns)) (ap (λ l. map name_of (these l)) c.as_slice-2.ensures.value ∙ c.in_ok-indexed.ensures))

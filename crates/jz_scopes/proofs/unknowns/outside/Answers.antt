@@ -13,4 +13,4 @@ returns c =
     in let variables = place_in c.args.variables.now
     in c.earlier_of.ensures.is ∙ outside_is values variables c.args.fun.now _ _
     (c.unknown_values-unread.ensures ∙ ap (first_in (one_unknown values)) (ap (λ l. map name_of (these l)) c.as_slice.ensures.value ∙ c.in_ok-lengths.ensures))
-    (c.unknown_variables-unset.ensures ∙ ap (λ vs. first_in (one_unknown variables) (map name_of vs)) (ap these c.as_slice-2.ensures.value ∙ c.in_ok-returned.ensures))
+    (c.unknown_variables-unset.ensures ∙ ap (first_in (one_unknown variables)) (ap (λ l. map name_of (these l)) c.as_slice-2.ensures.value ∙ c.in_ok-wanted.ensures))

@@ -15,5 +15,5 @@ returns c =
     in c.earlier_of-2.ensures.is ∙ (ap (earlier c.unknown_values-unread.result) c.earlier_of.ensures.is
     ∙ where_is values variables (function_in c.args.functions.now) (layer_of c.args.stmt.now) _ _ _
     (c.unknown_values-unread.ensures ∙ ap (first_in (one_unknown values)) (ap (λ l. map name_of (these l)) c.as_slice.ensures.value ∙ c.in_ok-read.ensures))
-    (c.unknown_variables-unset.ensures ∙ ap (λ vs. first_in (one_unknown variables) (map name_of vs)) (ap these c.as_slice-2.ensures.value ∙ c.in_ok-set.ensures))
+    (c.unknown_variables-unset.ensures ∙ ap (first_in (one_unknown variables)) (ap (λ l. map name_of (these l)) c.as_slice-2.ensures.value ∙ c.in_ok-wanted.ensures))
     c.unknown_function-uncalled.ensures)
