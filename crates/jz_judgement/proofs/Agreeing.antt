@@ -20,6 +20,7 @@ pub record Agrees (t : Typing) (H : Place → Type 0) (S : Size → Type 0) (kno
   pub inline : t.form.inline ≡ known
   -- where a word of a size is wanted it says no other size, and where no word is wanted none
   pub one : (y z : Size) → t.wrong (want.Word z) ≡ [] → t.form.size ≡ Some y → y ≡ z
+  pub stated : (y z : Size) → t.wrong (want.Sized z) ≡ [] → t.form.size ≡ Some y → y ≡ z
   pub whole : t.wrong want.Int ≡ [] → t.form.size ≡ None
   pub free : t.wrong want.Unsized ≡ [] → t.form.size ≡ None
   -- what is known is no word

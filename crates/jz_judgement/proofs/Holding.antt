@@ -13,7 +13,7 @@ use Rattle.jz_scopes.specs.Kinds.{known_of, is_inline_int}
 use Rattle.jz_kinds.specs.declared.wants.Form.{Form}
 use Rattle.jz_kinds.specs.declared.wants.Want.{Want}
 use Rattle.jz_kinds.specs.declared.wants.Want.TheVariants as want
-use Rattle.jz_kinds.specs.Wants.{fits_access, fits_cell, known_size, known_truth, cell_size, own_size, sized}
+use Rattle.jz_kinds.specs.Wants.{index_want, fits_access, fits_cell, known_size, known_truth, cell_size, own_size, sized}
 use Rattle.jz_kinds.specs.Typings.{typing}
 use Rattle.jz_kinds.specs.Sides.{left_form, left_wrong, set_want, within, any_size, takes, has_size}
 use Rattle.jz_judgement.specs.Places.{Place, integer, truth, word, index, unsized}
@@ -147,11 +147,11 @@ sound z (lval.Skip at) h = lefts.nothing
 sound z (lval.Var v) h = lefts.variable
 sound z (lval.Cell v i) h = at_size (cell_size (known_of v)) refl h
   where
-    at_size : (s : Option Size) → cell_size (known_of v) ≡ s → unless (fits_cell s (set_want (sized s) (sized (Some z)))) (out-Var v).span ++ (typing i).wrong want.Index ≡ [] → IsSound (lval.Cell v i)
-    at_size None e h = absurd (one_not (out-Var v).span ((typing i).wrong want.Index) h)
-    at_size (Some y) e h = lefts.cell y (sized_array y (known_of v) e) ((judged_of i).agrees.holds index (both (unless (fits_cell (Some y) (want.Word y)) (out-Var v).span) ((typing i).wrong want.Index) h).1)
+    at_size : (s : Option Size) → cell_size (known_of v) ≡ s → unless (fits_cell s (set_want (sized s) (sized (Some z)))) (out-Var v).span ++ (typing i).wrong index_want ≡ [] → IsSound (lval.Cell v i)
+    at_size None e h = absurd (one_not (out-Var v).span ((typing i).wrong index_want) h)
+    at_size (Some y) e h = lefts.cell y (sized_array y (known_of v) e) ((judged_of i).agrees.holds index (both (unless (fits_cell (Some y) (want.Word y)) (out-Var v).span) ((typing i).wrong index_want) h).1)
 sound z (lval.Store a) h =
-    lefts.access ((judged_of (out-Access a).at).agrees.holds index (both (unless (fits_access a.size (set_want (sized a.size) (sized (Some z)))) a.span) ((typing (out-Access a).at).wrong want.Index) h).1)
+    lefts.access ((judged_of (out-Access a).at).agrees.holds index (both (unless (fits_access a.size (set_want (sized a.size) (sized (Some z)))) a.span) ((typing (out-Access a).at).wrong index_want) h).1)
 
 sound_variable : (z : Size) (v : Var) → sorts.Sort (known_of v) → within (Some z) (lval.Var v) ≡ []
 sound_variable z v (sorts.an_inline i) = within_wants (lval.Var v) integer (Some z) (lefts.number i)
@@ -182,7 +182,7 @@ flag_so d lefts.nothing = (refl, refl)
 flag_so d (lefts.variable {v = v} b) = (within_wants (lval.Var v) truth any_size (lefts.bool b), (sorts.truthful (known_of v) b).bool)
 
 -- ---- a word of some size
-pub holds_some : (d : Lval) → within any_size d ≡ [] → takes want.Index d ≡ true → (y : Size) × Holds (word y) d
+pub holds_some : (d : Lval) → within any_size d ≡ [] → takes index_want d ≡ true → (y : Size) × Holds (word y) d
 holds_some d h t = at_choice (chosen d (sized any_size) h)
   where
     at_word : (p : Place) → Worded d p → (y : Size) × Holds (word y) d
@@ -191,20 +191,20 @@ holds_some d h t = at_choice (chosen d (sized any_size) h)
     at_choice : Chosen d (sized any_size) → (y : Size) × Holds (word y) d
     at_choice (it_wants p w e) = at_word p (wants_word d p w (index_wordy d t))
       where
-        index_wordy : (d : Lval) → takes want.Index d ≡ true → is_wordy (left_form d) ≡ true
+        index_wordy : (d : Lval) → takes index_want d ≡ true → is_wordy (left_form d) ≡ true
         index_wordy (lval.Skip at) h = refl
         index_wordy (lval.Var v) h = (and_parts (is_wordy (left_form (lval.Var v))) true h).0
         index_wordy (lval.Cell v i) h = refl
         index_wordy (lval.Store a) h = refl
     at_choice (it_leaves e l) = (sizes.S8, inr (l (word sizes.S8) refl))
 
-takes_index : (d : Lval) → is_wordy (left_form d) ≡ true → takes want.Index d ≡ true
+takes_index : (d : Lval) → is_wordy (left_form d) ≡ true → takes index_want d ≡ true
 takes_index (lval.Skip at) b = refl
 takes_index (lval.Var v) b = and_from (is_wordy (left_form (lval.Var v))) true b refl
 takes_index (lval.Cell v i) b = refl
 takes_index (lval.Store a) b = refl
 
-pub some_holds : (d : Lval) (y : Size) → Holds (word y) d → (within any_size d ≡ []) × (takes want.Index d ≡ true)
+pub some_holds : (d : Lval) (y : Size) → Holds (word y) d → (within any_size d ≡ []) × (takes index_want d ≡ true)
 some_holds d y h = (sound_so sizes.S8 d (sound y d (word_holds y d h).0), takes_index d (wordy_of h))
   where
     wordy_of : Holds (word y) d → is_wordy (left_form d) ≡ true

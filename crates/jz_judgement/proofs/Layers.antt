@@ -14,14 +14,14 @@ use Rattle.jz_scopes.specs.Order.{unless}
 use Rattle.jz_scopes.specs.Kinds.{Known, known_of, is_inline_int}
 use Rattle.jz_kinds.specs.declared.wants.Want.{Want}
 use Rattle.jz_kinds.specs.declared.wants.Want.TheVariants as want
-use Rattle.jz_kinds.specs.Wants.{fits_int, fits_truth, fits_word, fits_access, fits_known, fits_cell, known_size, cell_size, sized_want}
+use Rattle.jz_kinds.specs.Wants.{fits_int, fits_truth, fits_word, fits_access, fits_known, fits_cell, known_size, cell_size, cast_want, index_want}
 use Rattle.jz_kinds.specs.Typings.{Typing, typing_step, access_typing, var_typing, cell_typing}
-use Rattle.jz_judgement.specs.Places.{Place, integer, truth, word, index, unsized, IsTruth, TakesWord, Goes, IsArrayOf}
+use Rattle.jz_judgement.specs.Places.{Place, integer, truth, word, stated, index, unsized, IsTruth, TakesWord, Goes, IsArrayOf}
 use Rattle.jz_judgement.specs.HasType as judged
 use Rattle.jz_judgement.specs.HasType.{Layer, AccessLayer, Term, value, left, result, Says, LayerSays, OperandSays, is_known, HasType, Types, Accesses, Operates}
 use Rattle.jz_judgement.specs.Agreement.{want_of}
 use Rattle.jz_judgement.proofs.Nothing.{one_not, some_not, none_not, same_some, both, joined, passed, passes, number_goes, number_fits, number_no_truth, word_goes, word_fits, truth_goes, is_truth, size_same, no_bool, no_bool_so}
-use Rattle.jz_judgement.proofs.Variables.{known_goes, known_fits, cell_goes, array_sized, sized_array, word_sized, sized_word, known_one, cell_one, known_whole, known_free, known_any, inline_size, known_bool, bool_size, known_number}
+use Rattle.jz_judgement.proofs.Variables.{known_goes, known_fits, cell_goes, array_sized, sized_array, word_sized, sized_word, known_one, cell_one, known_stated, cell_stated, known_whole, known_free, known_any, inline_size, known_bool, bool_size, known_number}
 use Rattle.jz_judgement.proofs.Agreeing.{IsRight, Agrees, IsApart, SaysItself}
 use Rattle.jz_judgement.proofs.Operations.{operation_agrees, operation_apart, operation_says}
 
@@ -40,6 +40,7 @@ mapped to from says said h = record {
   said = λ z r. h.said z (said z r);
   inline = h.inline;
   one = h.one;
+  stated = h.stated;
   whole = h.whole;
   free = h.free;
   no_word = h.no_word;
@@ -65,6 +66,7 @@ number_judged n at = record {
     said = λ z s. absurd (number_says n at z s);
     inline = refl;
     one = λ y z h e. absurd (none_not y e);
+    stated = λ y z h e. absurd (none_not y e);
     whole = λ h. refl;
     free = λ h. refl;
     no_word = λ i h. one_not at [] h;
@@ -92,6 +94,7 @@ bool_judged b at = record {
     said = λ z s. absurd (bool_says b at z s);
     inline = refl;
     one = λ y z h e. absurd (none_not y e);
+    stated = λ y z h e. absurd (none_not y e);
     whole = λ h. refl;
     free = λ h. refl;
     no_word = λ i h. one_not at [] h;
@@ -113,6 +116,7 @@ var_agrees k at = record {
   said = λ z e. ap is_some e;
   inline = refl;
   one = λ y z h e. known_one y z k (passed (fits_known k (want.Word z)) at h) e;
+  stated = λ y z h e. known_stated y z k (passed (fits_known k (want.Sized z)) at h) e;
   whole = λ h. known_whole k (passed (fits_known k want.Int) at h);
   free = λ h. known_free k (passed (fits_known k want.Unsized) at h);
   no_word = λ i h. known_no_word k i (passed (fits_known k want.AnyWord) at h);
@@ -154,16 +158,16 @@ cell_fits k z p g h = subst (λ s. fits_cell s (want_of p) ≡ true) (sym (array
 module _ (k : Known) (at : Span) (i : Typing) (e : Expr) (h : Agrees i (HasType (value e)) (Says (value e)) (is_known (value e))) where
   cell_holds : (p : Place) → IsRight (cell_typing k at i) p → Cell k (HasType (value e) index) p
   cell_holds p r =
-      let parts = both (unless (fits_cell (cell_size k) (want_of p)) at) (i.wrong want.Index) r in
+      let parts = both (unless (fits_cell (cell_size k) (want_of p)) at) (i.wrong index_want) r in
       let goes = cell_goes k p (passed (fits_cell (cell_size k) (want_of p)) at parts.0) in
       at_cell goes.0 goes.1 goes.2 (h.holds index parts.1)
 
   cell_right : (p : Place) → Cell k (HasType (value e) index) p → IsRight (cell_typing k at i) p
   cell_right p (at_cell z g w j) =
-      joined (unless (fits_cell (cell_size k) (want_of p)) at) (i.wrong want.Index) (passes (fits_cell (cell_size k) (want_of p)) at (cell_fits k z p g w)) (h.right index j)
+      joined (unless (fits_cell (cell_size k) (want_of p)) at) (i.wrong index_want) (passes (fits_cell (cell_size k) (want_of p)) at (cell_fits k z p g w)) (h.right index j)
 
   fits_at : (w : Want) → (cell_typing k at i).wrong w ≡ [] → fits_cell (cell_size k) w ≡ true
-  fits_at w r = passed (fits_cell (cell_size k) w) at (both (unless (fits_cell (cell_size k) w) at) (i.wrong want.Index) r).0
+  fits_at w r = passed (fits_cell (cell_size k) w) at (both (unless (fits_cell (cell_size k) w) at) (i.wrong index_want) r).0
 
   cell_none : (s : Option Size) (w : Want) → s ≡ None → fits_cell s w ≡ true → ⊥
   cell_none None w e f = false≢true f
@@ -189,6 +193,7 @@ module _ (k : Known) (at : Span) (i : Typing) (e : Expr) (h : Agrees i (HasType 
     said = λ z e. ap is_some e;
     inline = refl;
     one = λ y z r e. cell_one y z (cell_size k) (fits_at (want.Word z) r) e;
+    stated = λ y z r e. cell_stated y z (cell_size k) (fits_at (want.Sized z) r) e;
     whole = λ r. absurd (no_cell (cell_size k) (fits_at want.Int r));
     free = λ r. absurd (free_cell (cell_size k) (fits_at want.Unsized r));
     no_word = λ b r. false≢true b;
@@ -223,7 +228,7 @@ access_goes (Some z) p e a s h = judged.sized z s (word_goes z p e) h
 access_goes None (word z) e a s h = judged.bare s h
 access_goes None integer e a s h = absurd (false≢true e)
 access_goes None truth e a s h = absurd (false≢true e)
-access_goes None index e a s h = absurd (false≢true e)
+access_goes None (stated y) e a s h = absurd (false≢true e)
 access_goes None unsized e a s h = absurd (false≢true e)
 
 access_fits : (a : AccessLayer) (p : Place) → Accesses a p → (fits_access a.size (want_of p) ≡ true) × HasType (value a.at) index
@@ -233,6 +238,10 @@ access_fits a p (judged.bare {z = z} e h) = (ap (λ s. fits_access s (want.Word 
 access_one : (y z : Size) (s : Option Size) → fits_access s (want.Word z) ≡ true → s ≡ Some y → y ≡ z
 access_one y z None h e = absurd (none_not y e)
 access_one y z (Some x) h e = sym (same_some x y e) ∙ size_same x z h
+
+access_stated : (y z : Size) (s : Option Size) → fits_access s (want.Sized z) ≡ true → s ≡ Some y → y ≡ z
+access_stated y z None h e = absurd (none_not y e)
+access_stated y z (Some x) h e = sym (same_some x y e) ∙ size_same x z h
 
 access_whole : (s : Option Size) → fits_access s want.Int ≡ true → ⊥
 access_whole None h = false≢true h
@@ -254,8 +263,8 @@ module _ (a : AccessLayer) (i : Typing) (h : Agrees i (HasType (value a.at)) (Sa
   abbrev access_typed : Typing
   access_typed = access_typing (record { size = a.size; at = i; unaligned = a.unaligned; span = a.span })
 
-  access_at : (w : Want) → access_typed.wrong w ≡ [] → (fits_access a.size w ≡ true) × (i.wrong want.Index ≡ [])
-  access_at w r = let parts = both (unless (fits_access a.size w) a.span) (i.wrong want.Index) r in (passed (fits_access a.size w) a.span parts.0, parts.1)
+  access_at : (w : Want) → access_typed.wrong w ≡ [] → (fits_access a.size w ≡ true) × (i.wrong index_want ≡ [])
+  access_at w r = let parts = both (unless (fits_access a.size w) a.span) (i.wrong index_want) r in (passed (fits_access a.size w) a.span parts.0, parts.1)
 
   access_holds : (p : Place) → IsRight access_typed p → Accesses a p
   access_holds p r = let parts = access_at (want_of p) r in access_goes a.size p parts.0 a refl (h.holds index parts.1)
@@ -263,7 +272,7 @@ module _ (a : AccessLayer) (i : Typing) (h : Agrees i (HasType (value a.at)) (Sa
   access_right : (p : Place) → Accesses a p → IsRight access_typed p
   access_right p g =
       let f = access_fits a p g in
-      joined (unless (fits_access a.size (want_of p)) a.span) (i.wrong want.Index) (passes (fits_access a.size (want_of p)) a.span f.0) (h.right index f.1)
+      joined (unless (fits_access a.size (want_of p)) a.span) (i.wrong index_want) (passes (fits_access a.size (want_of p)) a.span f.0) (h.right index f.1)
 
   pub access_judged : Judged access_typed (Accesses a) (λ z. a.size ≡ Some z) false
   access_judged = record {
@@ -274,6 +283,7 @@ module _ (a : AccessLayer) (i : Typing) (h : Agrees i (HasType (value a.at)) (Sa
       said = λ z e. ap is_some e;
       inline = refl;
       one = λ y z r e. access_one y z a.size (access_at (want.Word z) r).0 e;
+      stated = λ y z r e. access_stated y z a.size (access_at (want.Sized z) r).0 e;
       whole = λ r. absurd (access_whole a.size (access_at want.Int r).0);
       free = λ r. absurd (access_free a.size (access_at want.Unsized r).0);
       no_word = λ b r. false≢true b;
@@ -325,6 +335,7 @@ module _ (e : Expr) (at : Span) (t : Typing) (k : Bool) (h : Typed t e k) where
       said = negated_said;
       inline = h.agrees.inline;
       one = h.agrees.one;
+      stated = h.agrees.stated;
       whole = h.agrees.whole;
       free = h.agrees.free;
       no_word = h.agrees.no_word;
@@ -338,27 +349,27 @@ module _ (z : Size) (s : Bool) (e : Expr) (at : Span) (t : Typing) (k : Bool) (h
   abbrev cast_typed : Typing
   cast_typed = typing_step (Expr-F.Cast z s t at)
 
-  cast_at : (w : Want) → cast_typed.wrong w ≡ [] → (fits_word z w ≡ true) × (t.wrong (sized_want true t.form.size) ≡ [])
-  cast_at w r = let parts = both (unless (fits_word z w) at) (t.wrong (sized_want true t.form.size)) r in (passed (fits_word z w) at parts.0, parts.1)
+  cast_at : (w : Want) → cast_typed.wrong w ≡ [] → (fits_word z w ≡ true) × (t.wrong (cast_want t.form.size) ≡ [])
+  cast_at w r = let parts = both (unless (fits_word z w) at) (t.wrong (cast_want t.form.size)) r in (passed (fits_word z w) at parts.0, parts.1)
 
   cast_holds : (p : Place) → IsRight cast_typed p → Types (Expr-F.Cast z s e at) p
   cast_holds p r = at_size t.form.size refl parts.1
     where
-      parts : (fits_word z (want_of p) ≡ true) × (t.wrong (sized_want true t.form.size) ≡ [])
+      parts : (fits_word z (want_of p) ≡ true) × (t.wrong (cast_want t.form.size) ≡ [])
       parts = cast_at (want_of p) r
 
-      at_size : (c : Option Size) → t.form.size ≡ c → t.wrong (sized_want true c) ≡ [] → Types (Expr-F.Cast z s e at) p
+      at_size : (c : Option Size) → t.form.size ≡ c → t.wrong (cast_want c) ≡ [] → Types (Expr-F.Cast z s e at) p
       at_size None q w = absurd (h.itself q w)
-      at_size (Some y) q w = judged.cast y (word_goes z p parts.0) (h.agrees.says y q) (h.agrees.holds (word y) w)
+      at_size (Some y) q w = judged.cast y (word_goes z p parts.0) (h.agrees.says y q) (h.agrees.holds (stated y) w)
 
-  own : (y : Size) → t.wrong (want.Word y) ≡ [] → (c : Option Size) → t.form.size ≡ c → is_some c ≡ true → t.wrong (sized_want true c) ≡ []
+  own : (y : Size) → t.wrong (want.Sized y) ≡ [] → (c : Option Size) → t.form.size ≡ c → is_some c ≡ true → t.wrong (cast_want c) ≡ []
   own y w None q b = absurd (false≢true b)
-  own y w (Some x) q b = ap (λ u. t.wrong (want.Word u)) (h.agrees.one x y w q) ∙ w
+  own y w (Some x) q b = ap (λ u. t.wrong (want.Sized u)) (h.agrees.stated x y w q) ∙ w
 
   cast_right : (p : Place) → Types (Expr-F.Cast z s e at) p → IsRight cast_typed p
   cast_right p (judged.cast y w says g) =
-      joined (unless (fits_word z (want_of p)) at) (t.wrong (sized_want true t.form.size)) (passes (fits_word z (want_of p)) at (word_fits z p w))
-      (own y (h.agrees.right (word y) g) t.form.size refl (h.agrees.said y says))
+      joined (unless (fits_word z (want_of p)) at) (t.wrong (cast_want t.form.size)) (passes (fits_word z (want_of p)) at (word_fits z p w))
+      (own y (h.agrees.right (stated y) g) t.form.size refl (h.agrees.said y says))
 
   cast_says : (y : Size) → Some z ≡ Some y → LayerSays (Expr-F.Cast z s e at) y
   cast_says y q = subst (λ v. LayerSays (Expr-F.Cast z s e at) v) (same_some z y q) judged.cast
@@ -372,6 +383,7 @@ module _ (z : Size) (s : Bool) (e : Expr) (at : Span) (t : Typing) (k : Bool) (h
       said = λ y g. refl;
       inline = refl;
       one = λ x y r q. sym (same_some z x q) ∙ size_same z y (cast_at (want.Word y) r).0;
+      stated = λ x y r q. sym (same_some z x q) ∙ size_same z y (cast_at (want.Sized y) r).0;
       whole = λ r. absurd (false≢true (cast_at want.Int r).0);
       free = λ r. absurd (false≢true (cast_at want.Unsized r).0);
       no_word = λ b r. false≢true b;

@@ -16,11 +16,11 @@ use Rattle.jz_scopes.specs.Kinds.{Known, known_of, is_inline_int, is_array}
 use Rattle.jz_kinds.specs.declared.wants.Form.{Form}
 use Rattle.jz_kinds.specs.declared.wants.Want.{Want}
 use Rattle.jz_kinds.specs.declared.wants.Want.TheVariants as want
-use Rattle.jz_kinds.specs.Wants.{fits_int, fits_access, fits_known, fits_cell, known_size, known_truth, cell_size, sized_want, own_want, own_size, sized, var_form}
+use Rattle.jz_kinds.specs.Wants.{index_want, fits_int, fits_access, fits_known, fits_cell, known_size, known_truth, cell_size, sized_want, own_want, own_size, sized, var_form}
 use Rattle.jz_kinds.specs.Typings.{Typing, typing}
 use Rattle.jz_kinds.specs.Sides.{left_form, left_wrong, left_typing, left_span, set_want}
 use Rattle.jz_kinds.specs.Values.{value_typing, single}
-use Rattle.jz_judgement.specs.Places.{Place, integer, truth, word, index, unsized, Goes, IsWordOf}
+use Rattle.jz_judgement.specs.Places.{Place, integer, truth, word, stated, index, unsized, Goes, IsWordOf}
 use Rattle.jz_judgement.specs.HasType as judged
 use Rattle.jz_judgement.specs.HasType.{Term, value, left, result, Says, OperandSays, left_known, is_known, HasType, Accesses, Operates}
 use Rattle.jz_judgement.specs.Lefts as lefts
@@ -47,6 +47,7 @@ skip_agrees at = record {
   said = λ z s. absurd (skip_says at z s);
   inline = refl;
   one = λ y z h e. absurd (none_not y e);
+  stated = λ y z h e. absurd (none_not y e);
   whole = λ h. refl;
   free = λ h. refl;
   no_word = λ i h. false≢true i;
@@ -75,6 +76,7 @@ module _ (v : Var) where
     said = λ z s. ap is_some (said_variable z s);
     inline = refl;
     one = λ y z h n. absurd (none_not y (sym (sorts.whole k e).size ∙ n));
+    stated = λ y z h n. absurd (none_not y (sym (sorts.whole k e).size ∙ n));
     whole = λ h. (sorts.whole k e).size;
     free = λ h. (sorts.whole k e).size;
     no_word = λ i h. true≢false (sym i ∙ (sorts.whole k e).known);
@@ -170,11 +172,11 @@ wanted d p f (lefts.variable {v = v} {z = z} w) = (pick_word (known_of v) f z w,
 wanted d p f (lefts.cell {v = v} {i = i} {z = z} a h) =
     let size = array_sized z (known_of v) a in (
       pick_cell (cell_size (known_of v)) z f size,
-      joined (unless (fits_cell (cell_size (known_of v)) (want.Word z)) (out-Var v).span) ((typing i).wrong want.Index) (passes (fits_cell (cell_size (known_of v)) (want.Word z)) (out-Var v).span (cell_passes (cell_size (known_of v)) z size)) ((judged_of i).agrees.right index h),
+      joined (unless (fits_cell (cell_size (known_of v)) (want.Word z)) (out-Var v).span) ((typing i).wrong index_want) (passes (fits_cell (cell_size (known_of v)) (want.Word z)) (out-Var v).span (cell_passes (cell_size (known_of v)) z size)) ((judged_of i).agrees.right index h),
     )
 wanted d p f (lefts.access {a = a} {z = z} e h) = (
   pick_cell a.size z f e,
-  joined (unless (fits_access a.size (want.Word z)) a.span) ((typing (out-Access a).at).wrong want.Index) (passes (fits_access a.size (want.Word z)) a.span (access_passes a.size z e)) ((judged_of (out-Access a).at).agrees.right index h),
+  joined (unless (fits_access a.size (want.Word z)) a.span) ((typing (out-Access a).at).wrong index_want) (passes (fits_access a.size (want.Word z)) a.span (access_passes a.size z e)) ((judged_of (out-Access a).at).agrees.right index h),
 )
 
 -- where it leaves the type to the value
@@ -184,7 +186,7 @@ leaving d p f (lefts.array {v = v} a) = (pick_array (known_of v) f a, set_array 
 leaving d p f (lefts.number {v = v} n i g) = (pick_number (known_of v) f n i, set_fits v (want_of p) (sorts.other (known_of v) n).array ((sorts.other (known_of v) n).fits (want_of p) ∙ number_fits p g))
 leaving d p f (lefts.access {a = a} {z = z} e h) = (
   ap (λ c. set_want (sized c) f) e,
-  joined (unless (fits_access a.size (want.Word z)) a.span) ((typing (out-Access a).at).wrong want.Index) (passes (fits_access a.size (want.Word z)) a.span (ap (λ c. fits_access c (want.Word z)) e)) ((judged_of (out-Access a).at).agrees.right index h),
+  joined (unless (fits_access a.size (want.Word z)) a.span) ((typing (out-Access a).at).wrong index_want) (passes (fits_access a.size (want.Word z)) a.span (ap (λ c. fits_access c (want.Word z)) e)) ((judged_of (out-Access a).at).agrees.right index h),
 )
 
 -- one or the other, where nothing is wrong within it
@@ -202,25 +204,25 @@ chosen_variable v f (sorts.a_number n i) h =
     let same = pick_number (known_of v) f n i in
     it_leaves same (λ p e. lefts.number n i (number_goes p (ap fits_int (sym e) ∙ ap fits_int (sym same) ∙ sym ((sorts.other (known_of v) n).fits (set_want (var_form (known_of v)) f)) ∙ fits)))
 
-chosen_cell : (v : Var) (i : Expr) (f : Form) (s : Option Size) → cell_size (known_of v) ≡ s → unless (fits_cell s (set_want (sized s) f)) (out-Var v).span ++ (typing i).wrong want.Index ≡ [] → Chosen (lval.Cell v i) f
-chosen_cell v i f None e h = absurd (one_not (out-Var v).span ((typing i).wrong want.Index) h)
+chosen_cell : (v : Var) (i : Expr) (f : Form) (s : Option Size) → cell_size (known_of v) ≡ s → unless (fits_cell s (set_want (sized s) f)) (out-Var v).span ++ (typing i).wrong index_want ≡ [] → Chosen (lval.Cell v i) f
+chosen_cell v i f None e h = absurd (one_not (out-Var v).span ((typing i).wrong index_want) h)
 chosen_cell v i f (Some z) e h =
-    it_wants (word z) (lefts.cell (sized_array z (known_of v) e) ((judged_of i).agrees.holds index (both (unless (fits_cell (Some z) (want.Word z)) (out-Var v).span) ((typing i).wrong want.Index) h).1))
+    it_wants (word z) (lefts.cell (sized_array z (known_of v) e) ((judged_of i).agrees.holds index (both (unless (fits_cell (Some z) (want.Word z)) (out-Var v).span) ((typing i).wrong index_want) h).1))
     (pick_cell (cell_size (known_of v)) z f e)
 
 only_word : (p : Place) → fits_access None (want_of p) ≡ true → (z : Size) × (p ≡ word z)
 only_word integer e = absurd (false≢true e)
 only_word truth e = absurd (false≢true e)
 only_word (word z) e = (z, refl)
-only_word index e = absurd (false≢true e)
+only_word (stated x) e = absurd (false≢true e)
 only_word unsized e = absurd (false≢true e)
 
-chosen_access : (a : Access) (f : Form) (s : Option Size) → a.size ≡ s → unless (fits_access s (set_want (sized s) f)) a.span ++ (typing (out-Access a).at).wrong want.Index ≡ [] → Chosen (lval.Store a) f
+chosen_access : (a : Access) (f : Form) (s : Option Size) → a.size ≡ s → unless (fits_access s (set_want (sized s) f)) a.span ++ (typing (out-Access a).at).wrong index_want ≡ [] → Chosen (lval.Store a) f
 chosen_access a f (Some z) e h =
-    it_wants (word z) (lefts.access e ((judged_of (out-Access a).at).agrees.holds index (both (unless (fits_access (Some z) (want.Word z)) a.span) ((typing (out-Access a).at).wrong want.Index) h).1))
+    it_wants (word z) (lefts.access e ((judged_of (out-Access a).at).agrees.holds index (both (unless (fits_access (Some z) (want.Word z)) a.span) ((typing (out-Access a).at).wrong index_want) h).1))
     (pick_cell a.size z f e)
 chosen_access a f None e h =
-    let parts = both (unless (fits_access None (own_want f)) a.span) ((typing (out-Access a).at).wrong want.Index) h in
+    let parts = both (unless (fits_access None (own_want f)) a.span) ((typing (out-Access a).at).wrong index_want) h in
     it_leaves (ap (λ c. set_want (sized c) f) e)
     (λ p q. let only = only_word p (ap (λ w. fits_access None w) (sym q) ∙ passed (fits_access None (own_want f)) a.span parts.0) in
     subst (λ r. Leaves (lval.Store a) r) (sym only.1) (lefts.access e ((judged_of (out-Access a).at).agrees.holds index parts.1)))

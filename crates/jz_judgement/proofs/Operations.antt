@@ -15,7 +15,7 @@ use Rattle.jz_kinds.specs.declared.wants.Want.TheVariants as want
 use Rattle.jz_kinds.specs.Wants.{or_size, sized_want}
 use Rattle.jz_kinds.specs.Operators.{group_of, is_of_words, gives, stops, compared, group_size, is_test, word_or, left_of, right_of, is_word_place, takes_carry, count_want}
 use Rattle.jz_kinds.specs.Typings.{Typing, bin_typing}
-use Rattle.jz_judgement.specs.Places.{Place, integer, truth, word, index, unsized, TakesNumber, TakesCarry, count_place, IsSum}
+use Rattle.jz_judgement.specs.Places.{Place, integer, truth, word, stated, unsized, TakesNumber, TakesCarry, count_place, IsSum}
 use Rattle.jz_judgement.specs.HasType.{Term, Says, OperandSays, first, second, shifted, is_known, Admits, HasType, Operates, arithmetic, carry, shift, integers, words, logic}
 use Rattle.jz_judgement.specs.Agreement.{want_of}
 use Rattle.jz_judgement.proofs.Nothing.{one_not, none_not, both, joined, neither_size, no_sizes, is_truth, no_bool, no_bool_so, a_bool}
@@ -39,21 +39,21 @@ carry_place : (p : Place) → is_word_place (want_of p) ≡ true → TakesCarry 
 carry_place integer e = absurd (false≢true e)
 carry_place truth e = absurd (false≢true e)
 carry_place (word z) e = tt
-carry_place index e = tt
+carry_place (stated s) e = tt
 carry_place unsized e = tt
 
 place_carries : (p : Place) → TakesCarry p → is_word_place (want_of p) ≡ true
 place_carries integer h = absurd h
 place_carries truth h = absurd h
 place_carries (word z) h = refl
-place_carries index h = refl
+place_carries (stated s) h = refl
 place_carries unsized h = refl
 
 carry_number : (p : Place) → TakesCarry p → TakesNumber p
 carry_number integer h = absurd h
 carry_number truth h = absurd h
 carry_number (word z) h = tt
-carry_number index h = tt
+carry_number (stated s) h = tt
 carry_number unsized h = tt
 
 takes_sum : (o : BinOp) (p : Place) → takes_carry o (want_of p) ≡ true → IsSum o × TakesCarry p
@@ -80,7 +80,7 @@ count_is : (p : Place) → TakesNumber p → count_want (want_of p) ≡ want_of 
 count_is integer h = refl
 count_is truth h = absurd h
 count_is (word z) h = refl
-count_is index h = refl
+count_is (stated s) h = refl
 count_is unsized h = refl
 
 -- ---- an operation on a and b
@@ -278,6 +278,25 @@ module _ (o : BinOp) (at : Span) (a b : Typing) (x y : Term) (ha : Agrees a (Has
       at_left None m n = at_test (takes_carry o (want.Word z) && b.form.truth) refl operands.0 n
       at_left (Some u) m n = ha.one v z (left_plain (want.Word z) operands.1).1 (m ∙ n)
 
+  stated_in : (g : Group) (v z : Size) → wrong_in g (want.Sized z) ≡ [] → group_size g a.form.size b.form.size ≡ Some v → v ≡ z
+  stated_in group.Logic v z h k = absurd (none_not v k)
+  stated_in group.Compare v z h k = absurd (none_not v k)
+  stated_in group.Shift v z h k =
+      let operands = both (b.wrong (want.Word sizes.S8)) (a.wrong (word_or (is_of_words o && both_inline) (want.Sized z))) h in
+      ha.stated v z (left_plain (want.Sized z) operands.1).1 k
+  stated_in group.Arith v z h k = at_left a.form.size refl k
+    where
+      operands : (b.wrong (right_of group.Arith (takes_carry o (want.Sized z) && b.form.truth) None (want.Sized z)) ≡ []) × (a.wrong (left_of group.Arith o both_inline None (want.Sized z)) ≡ [])
+      operands = both (b.wrong (right_of group.Arith (takes_carry o (want.Sized z) && b.form.truth) None (want.Sized z))) (a.wrong (left_of group.Arith o both_inline None (want.Sized z))) h
+
+      at_test : (c : Bool) → (takes_carry o (want.Sized z) && b.form.truth) ≡ c → b.wrong (if c then want.Truth else want.Sized z) ≡ [] → b.form.size ≡ Some v → v ≡ z
+      at_test true c m n = absurd (none_not v (sym (vb.size (and_parts _ _ c).1) ∙ n))
+      at_test false c m n = hb.stated v z m n
+
+      at_left : (s : Option Size) → a.form.size ≡ s → or_size s b.form.size ≡ Some v → v ≡ z
+      at_left None m n = at_test (takes_carry o (want.Sized z) && b.form.truth) refl operands.0 n
+      at_left (Some u) m n = ha.stated v z (left_plain (want.Sized z) operands.1).1 (m ∙ n)
+
   whole_in : (g : Group) → wrong_in g want.Int ≡ [] → group_size g a.form.size b.form.size ≡ None
   whole_in group.Logic h = refl
   whole_in group.Compare h = refl
@@ -361,6 +380,7 @@ module _ (o : BinOp) (at : Span) (a b : Typing) (x y : Term) (ha : Agrees a (Has
     said = said_in;
     inline = same_known;
     one = λ v z h k. one_in (group_of o) v z h k;
+    stated = λ v z h k. stated_in (group_of o) v z h k;
     whole = λ h. whole_in (group_of o) h;
     free = λ h. free_in (group_of o) h;
     no_word = λ i h. no_word_in (group_of o) i h;

@@ -99,6 +99,20 @@ pub cell_one : (y z : Size) (s : Option Size) → fits_cell s (want.Word z) ≡ 
 cell_one y z None h e = absurd (none_not y e)
 cell_one y z (Some x) h e = sym (same_some x y e) ∙ size_same x z h
 
+pub known_stated : (y z : Size) (k : Known) → fits_known k (want.Sized z) ≡ true → known_size k ≡ Some y → y ≡ z
+known_stated y z None h e = absurd (none_not y e)
+known_stated y z (Some d) h e = kind_stated y z d.kind h e
+  where
+    kind_stated : (y z : Size) (k : Kind) → fits_kind k (want.Sized z) ≡ true → word_size k ≡ Some y → y ≡ z
+    kind_stated y z kind.Int h e = absurd (none_not y e)
+    kind_stated y z kind.Truth h e = absurd (none_not y e)
+    kind_stated y z (kind.Word x) h e = sym (same_some x y e) ∙ size_same x z h
+    kind_stated y z (kind.Array x) h e = absurd (none_not y e)
+
+pub cell_stated : (y z : Size) (s : Option Size) → fits_cell s (want.Sized z) ≡ true → s ≡ Some y → y ≡ z
+cell_stated y z None h e = absurd (none_not y e)
+cell_stated y z (Some x) h e = sym (same_some x y e) ∙ size_same x z h
+
 pub known_whole : (k : Known) → fits_known k want.Int ≡ true → known_size k ≡ None
 known_whole None h = refl
 known_whole (Some d) h = kind_whole d.kind h

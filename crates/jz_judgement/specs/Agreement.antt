@@ -16,7 +16,7 @@ use Rattle.jz_kinds.specs.Calls.{call_wrong}
 use Rattle.jz_kinds.specs.Signatures.{Signature}
 use Rattle.jz_kinds.specs.Intrinsics.{intrinsic_wrong}
 use Rattle.jz_kinds.specs.Mismatches.{Named, stmt_wrong, mismatched_declared}
-use Rattle.jz_judgement.specs.Places.{Place, integer, truth, word, index, unsized}
+use Rattle.jz_judgement.specs.Places.{Place, integer, truth, word, stated, unsized}
 use Rattle.jz_judgement.specs.HasType.{HasType, value}
 use Rattle.jz_judgement.specs.Lefts.{Values}
 use Rattle.jz_judgement.specs.WellTyped.{Calls, Instructs, WellTyped, IsWellTyped}
@@ -25,7 +25,7 @@ abbrev pub want_of : Place → Want
 want_of integer = want.Int
 want_of truth = want.Truth
 want_of (word z) = want.Word z
-want_of index = want.Index
+want_of (stated z) = want.Sized z
 want_of unsized = want.Unsized
 
 -- nothing is wrong with an expression exactly where it has the type of its place

@@ -15,7 +15,7 @@ use Rattle.jz_tree.specs.declared.stmt.Lval.TheVariants as lval
 use Rattle.jz_scopes.specs.Kinds.{known_of, is_inline_int, is_array, is_inline}
 use Rattle.jz_kinds.specs.declared.operators.Group.TheVariants as group
 use Rattle.jz_kinds.specs.Operators.{group_of, is_of_words}
-use Rattle.jz_judgement.specs.Places.{Place, truth, integer, word, index, TakesNumber, TakesWord, TakesCarry, count_place, Goes, IsWordOf, IsArrayOf, IsSum}
+use Rattle.jz_judgement.specs.Places.{Place, truth, integer, word, stated, index, TakesNumber, TakesWord, TakesCarry, count_place, Goes, IsWordOf, IsArrayOf, IsSum}
 
 abbrev pub Layer : Type 0
 Layer = Expr-F Expr Ty Access Decl Var
@@ -102,9 +102,9 @@ mutual
     negated : {a : Expr} {at : Span} {p : Place} → TakesNumber p → HasType (value a) p
         → Types (Expr-F.Neg a at) p
     inverted : {a : Expr} {at : Span} {p : Place} → HasType (value a) p → Types (Expr-F.Not a at) p
-    -- what is cast is a word that says its size
+    -- what is cast is a word that says its size, and so does each access in it
     cast : {z : Size} {s : Bool} {a : Expr} {at : Span} {p : Place} (y : Size) → TakesWord z p
-        → Says (value a) y → HasType (value a) (word y) → Types (Expr-F.Cast z s a at) p
+        → Says (value a) y → HasType (value a) (stated y) → Types (Expr-F.Cast z s a at) p
     operation : {o : BinOp} {a b : Expr} {at : Span} {p : Place}
         → Operates o (value a) (value b) p → Types (Expr-F.Bin o a b at) p
 

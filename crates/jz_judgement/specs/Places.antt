@@ -16,10 +16,14 @@ pub data Place : Type 0 where
   truth : Place
   -- a word of that size
   word : Size → Place
-  -- a whole number or a word of 64 bits, as an index or an address
-  index : Place
+  -- a whole number, or a word of that size in which nothing leaves its size to the place
+  stated : Size → Place
   -- a whole number to which nothing gives a size
   unsized : Place
+
+-- an index or an address
+abbrev pub index : Place
+index = stated sizes.S64
 
 abbrev pub IsTruth : Place → Type 0
 IsTruth truth = Unit {0}
@@ -32,7 +36,7 @@ TakesNumber _ = Unit {0}
 
 abbrev pub TakesWord : Size → Place → Type 0
 TakesWord z (word y) = z ≡ y
-TakesWord z index = z ≡ sizes.S64
+TakesWord z (stated y) = z ≡ y
 TakesWord z _ = ⊥
 
 -- a bool may be added and taken away, but for integers
