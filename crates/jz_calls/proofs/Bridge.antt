@@ -147,10 +147,10 @@ edge_up p i f g c a =
     }
 
 -- ---- a call of a program and an edge of its graph
-stands : (fs : List Fun) (i : ℕ) (f : Fun) → slice_get fs i ≡ Some f → At fs i f
+pub stands : (fs : List Fun) (i : ℕ) (f : Fun) → slice_get fs i ≡ Some f → At fs i f
 stands fs i f h = record { within = slice_get_within fs i f h; is = get_or_from_slice_get fs i f f h }
 
-found : (fs : List Fun) (i : ℕ) (f : Fun) → At fs i f → slice_get fs i ≡ Some f
+pub found : (fs : List Fun) (i : ℕ) (f : Fun) → At fs i f → slice_get fs i ≡ Some f
 found fs i f a = slice_get_read fs (length fs) i f refl a.within (sym a.is)
 
 pub called_at : (p : Program) (i j : ℕ) → CallsAt p i j → Has (row_of (graph_of p.funs) i) j

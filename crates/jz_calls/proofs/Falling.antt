@@ -3,7 +3,7 @@ use Rattle.std.proofs.Common.{◌≡◌, ℕ, zero, suc, ◌+◌, ◌<◌, ◌�
 use Rattle.std.specs.Prelude.{count_by}
 use Rattle.std.proofs.lemmas.List.Sums.{sum_by-cons}
 use Rattle.std.proofs.Math.ListN.{get_or-eq_default}
-use Rattle.jz_calls.specs.Numbers.{Has, row_of, Leads, directly, further, IsFound, Falls}
+use Rattle.jz_calls.specs.Numbers.{Has, row_of, Leads, directly, further, IsFound, Falls, Descends}
 
 within_or_not : (j k : ℕ) → (j < k) ⊎ (k ≤ j)
 within_or_not j k = grind arith
@@ -24,12 +24,12 @@ pub no_cycle : (g : List (List ℕ)) (ranks : List ℕ) → Falls g ranks → (i
 no_cycle g ranks f i r = omega (arith, ranks_fall g ranks f i i r)
 
 -- the ranks of the first n functions were compared with those of the functions that they call
-pub falls_from : (g : List (List ℕ)) (ranks : List ℕ) (n : ℕ) → length ranks ≡ length g → ((i : ℕ) → i < length ranks → get_or ranks i 0 < length g) → length g ≤ n
-    → ((i k : ℕ) → i < n → k < length (row_of g i) → get_or ranks (get_or (row_of g i) k 0) 0 < get_or ranks i 0) → Falls g ranks
-falls_from g ranks n same below le held = record {
+pub descends_from : (g : List (List ℕ)) (ranks : List ℕ) (n : ℕ) → length ranks ≡ length g → ((i : ℕ) → i < length ranks → get_or ranks i 0 < length g) → length g ≤ n
+    → ((i k : ℕ) → i < n → k < length (row_of g i) → get_or ranks (get_or (row_of g i) k 0) 0 ≤ get_or ranks i 0) → Descends g ranks
+descends_from g ranks n same below le held = record {
   same = same;
   below = below;
-  falls = λ i j h. subst (λ x. get_or ranks x 0 < get_or ranks i 0) h.2 (held i h.0 (omega (arith, caller_within g i j h, le)) h.1);
+  stays = λ i j h. subst (λ x. get_or ranks x 0 ≤ get_or ranks i 0) h.2 (held i h.0 (omega (arith, caller_within g i j h, le)) h.1);
 }
 
 -- ---- the number of functions reached

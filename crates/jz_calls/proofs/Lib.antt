@@ -4,4 +4,5 @@ pub mod Bridge
 pub mod Cyclic
 pub mod Falling
 pub mod Each
+pub mod Steep
 pub mod Ranked

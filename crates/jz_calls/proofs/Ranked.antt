@@ -1,5 +1,5 @@
 -- Ranks of the functions of a program and of the numbers in its graph.
-use Rattle.std.proofs.Common.{◌≡◌, ℕ, ◌<◌, inl, inr, List, length, get_or, Option, Some, None, refl, sym, ◌∙◌, subst, arith}
+use Rattle.std.proofs.Common.{◌≡◌, ℕ, ◌<◌, inl, inr, List, length, get_or, Option, Some, None, refl, sym, ap, ◌∙◌, subst, arith}
 use Rattle.std.proofs.lemmas.List.{length-map}
 use Rattle.std.proofs.lemmas.Option.{slice_get_cases}
 use Rattle.jz_io.specs.declared.span.Span.{Span}
@@ -7,12 +7,15 @@ use Rattle.jz_tree.specs.declared.program.Fun.{Fun}
 use Rattle.jz_tree.specs.declared.program.Program.{Program}
 use Rattle.jz_scopes.specs.Order.{IsEarliest, nowhere}
 use Rattle.jz_calls.specs.Recursion.{IsRanked, IsRecursive, Tells}
+use Rattle.jz_calls.specs.declared.fall.Candidate.{Candidate}
 use Rattle.jz_calls.specs.declared.recursion.Ranking.TheVariants.{Ranked, Recursive}
-use Rattle.jz_calls.specs.Numbers.{graph_of, numbers_called, Falls}
+use Rattle.jz_calls.specs.Numbers.{graph_of, numbers_called, Falls, Descends}
+use Rattle.jz_calls.specs.Candidates.{IsCandidate}
 use Rattle.jz_calls.proofs.Naming.{At}
 use Rattle.jz_calls.proofs.Bridge.{closed, called_at, calls_at, cycle_up}
 use Rattle.jz_calls.proofs.Falling.{caller_within, no_cycle}
 use Rattle.jz_calls.proofs.Cyclic.{cyclic_all}
+use Rattle.jz_calls.proofs.Steep.{all_fall}
 use Rattle.jz_calls.proofs.Each.{Each, each_falls}
 
 pub same_length : (p : Program) → length (graph_of p.funs) ≡ length p.funs
@@ -51,6 +54,13 @@ pub ranked_tells : (p : Program) (ranks : List ℕ) → Falls (graph_of p.funs) 
 ranked_tells p ranks f =
     let r = ranked_of p ranks f in
     (r, nowhere (λ at c. not_recursive p ranks at r c))
+
+-- where no call is of a function of higher rank, and no function has a call of one of equal rank, the ranks are told
+pub level_tells : (p : Program) (g : List (List ℕ)) (ranks : List ℕ) (first : Option Candidate) → g ≡ graph_of p.funs → first ≡ None
+    → Descends g ranks → IsCandidate g p.funs ranks (length p.funs) first → Tells p (Ranked ranks)
+level_tells p g ranks first graph none d held =
+    let same : length g ≡ length p.funs = ap length graph ∙ same_length p in
+    ranked_tells p ranks (subst (λ h. Falls h ranks) graph (all_fall g p.funs ranks first d same none held))
 
 module _ (p : Program) (g : List (List ℕ)) (fs : List Fun) (i : ℕ) (first : Option Span) (ranks : List ℕ)
     (graph : g ≡ graph_of p.funs) (all : fs ≡ p.funs) (whole : i ≡ length fs) (each : Each g fs i first ranks) where

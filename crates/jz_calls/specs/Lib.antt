@@ -1,3 +1,4 @@
 pub mod Recursion
 pub mod Numbers
+pub mod Candidates
 pub mod Tables

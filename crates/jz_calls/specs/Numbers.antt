@@ -70,3 +70,9 @@ pub record Falls (g : List (List ℕ)) (ranks : List ℕ) : Type 0 where
   pub same : length ranks ≡ length g
   pub below : (i : ℕ) → i < length ranks → slice_index_or ranks i 0 < length g
   pub falls : (i j : ℕ) → Has (row_of g i) j → slice_index_or ranks j 0 < slice_index_or ranks i 0
+
+-- a rank for each function, below the number of functions, and no call is of a function of higher rank
+pub record Descends (g : List (List ℕ)) (ranks : List ℕ) : Type 0 where
+  pub same : length ranks ≡ length g
+  pub below : (i : ℕ) → i < length ranks → slice_index_or ranks i 0 < length g
+  pub stays : (i j : ℕ) → Has (row_of g i) j → slice_index_or ranks j 0 ≤ slice_index_or ranks i 0

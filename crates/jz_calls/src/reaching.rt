@@ -7,7 +7,7 @@ use jz_data::Seq;
 use std::alloc::{AllocError, Global};
 
 /// The functions found so far, in the order in which they were found.
-#[derive(Debug, Drop)]
+#[derive(Drop)]
 pub struct Found {
     pub marks: Vec<bool>,
     pub order: Vec<usize>,
@@ -37,7 +37,8 @@ fn visit_all(found: &mut Found, all: &[usize]) -> Result<(), AllocError>
     Ok(())
 }
 
-fn calls_of(graph: &Seq<Seq<usize>>, at: usize) -> &[usize]
+/// The numbers of the functions that one calls.
+pub fn calls_of(graph: &Seq<Seq<usize>>, at: usize) -> &[usize]
     requires { at < length graph.now }
     ensures { result.now ≡ row_of graph.now at }
 {

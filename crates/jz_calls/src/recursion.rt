@@ -1,10 +1,12 @@
 //! Ranks of the functions of a program, or the first function that reaches itself.
 
-ghost use Rattle.std.specs.Prelude.{◌≡◌, IfOk};
+ghost use Rattle.std.specs.Prelude.{◌≡◌, Some, IfOk};
+ghost use Rattle.jz_io.specs.declared.span.Span.{Span};
 ghost use Rattle.jz_calls.specs.Numbers.{graph_of};
-ghost use Rattle.jz_calls.specs.Recursion.{Tells, recursive_of};
+ghost use Rattle.jz_calls.specs.Candidates.{Stands, IsNoLater};
+ghost use Rattle.jz_calls.specs.Recursion.{IsRecursive, Tells, recursive_of};
 
-use crate::fall::falls;
+use crate::fall::{Candidate, descends, first_level};
 use crate::graph::graph;
 use crate::reaching::reach;
 use crate::walk::walked_ranks;
@@ -15,7 +17,7 @@ use jz_tree::Program;
 use std::alloc::{AllocError, Global};
 
 /// What the calls of a program are like.
-#[derive(Debug, Drop)]
+#[derive(Drop)]
 pub enum Ranking {
     /// No function reaches itself: a rank for each function, in their order. The functions that one calls have lower ranks.
     Ranked(Seq<usize>),
@@ -58,16 +60,43 @@ fn ask_each(
     }
 }
 
+// The function before which none reaches itself is asked, and the others only where it does not reach itself.
+fn ask_first(
+    alloc: Global,
+    graph: &Seq<Seq<usize>>,
+    program: &Program,
+    first: Candidate,
+) -> Result<Ranking, AllocError>
+    requires graph { graph.now ≡ graph_of program.now.funs }
+    requires stands { Stands program.now.funs first }
+    requires least { (at : Span) → IsRecursive program.now at → IsNoLater (Some first) at }
+    ensures { IfOk result (λ ranking. Tells program.now ranking) }
+{
+    let found = reach(alloc, graph, first.number)?;
+    if found.marks[first.number] {
+        return Ok(Ranking::Recursive(first.name));
+    }
+    let ranking = ask_each(alloc, graph, program)?;
+    Ok(ranking)
+}
+
 /// Ranks of the functions, or the earliest name of one that reaches itself by its calls. The work grows with the number of
-/// calls. In a program with such a function alone it grows with the number of functions times that of calls.
+/// functions and calls, where the ranks that are guessed are those of the functions that reach one another. Nothing is
+/// promised of the guess: where it were wrong, the work would grow with the number of functions times that of calls.
 pub fn find_recursion(alloc: Global, program: &Program) -> Result<Ranking, AllocError>
     ensures { IfOk result (λ ranking. Tells program.now ranking) }
 {
     let graph = graph(alloc, &program.funs)?;
     let ranks = walked_ranks(alloc, &graph)?;
-    if falls(&graph, ranks.as_slice()) {
-        return Ok(Ranking::Ranked(Seq::from_vec(ranks)));
+    if !descends(&graph, ranks.as_slice()) {
+        let ranking = ask_each(alloc, &graph, program)?;
+        return Ok(ranking);
     }
-    let ranking = ask_each(alloc, &graph, program)?;
-    Ok(ranking)
+    match first_level(&graph, &program.funs, ranks.as_slice()) {
+        None => Ok(Ranking::Ranked(Seq::from_vec(ranks))),
+        Some(first) => {
+            let ranking = ask_first(alloc, &graph, program, first)?;
+            Ok(ranking)
+        }
+    }
 }

@@ -98,6 +98,7 @@ source = record {
   does = λ a s. assigned a.to a.op a.rhs a.at s;
   quiets = λ a s. s;
   tests = λ c s. absurd c;
+  settled = λ c s. s;
   counts = λ c s. absurd c;
   begins = λ c i s. absurd c;
   restores = λ c s t. absurd c;

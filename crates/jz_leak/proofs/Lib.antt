@@ -1,4 +1,5 @@
 pub mod Applied
+pub mod CutLaws
 pub mod Examples
 pub mod MemorySegments
 pub mod Walking

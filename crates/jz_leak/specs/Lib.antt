@@ -1,6 +1,7 @@
 pub mod MemoryMap
 pub mod MemoryMapSegments
 pub mod RunLeaks
+pub mod Cuts
 pub mod Applying
 pub mod Shown
 pub mod Walks

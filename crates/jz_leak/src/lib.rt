@@ -2,6 +2,7 @@
 #![tactic(auto)]
 
 mod event;
+mod laws;
 mod leak;
 mod mem_map;
 mod segment;
@@ -9,6 +10,7 @@ mod transformer;
 mod walk;
 
 pub use event::{Event, Events};
+pub use laws::{broken_leaks_are_cut, whole_leaks_are_not_cut};
 pub use leak::{Item, Leak, Turn};
 pub use mem_map::MemMap;
 pub use transformer::{Case, Form, Out, Tr, Transformer};

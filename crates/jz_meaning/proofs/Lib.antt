@@ -1,5 +1,6 @@
 pub mod AttemptLemmas
 pub mod Counts
+pub mod CutRuns
 pub mod InlineLemmas
 pub mod LeftSideLemmas
 pub mod MemoryLemmas

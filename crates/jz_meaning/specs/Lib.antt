@@ -1,5 +1,6 @@
 pub mod Assignments
 pub mod Attempts
+pub mod CutLaws
 pub mod Evaluating
 pub mod Intrinsics
 pub mod Operators

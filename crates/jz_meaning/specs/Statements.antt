@@ -143,7 +143,7 @@ array_passed at n p (Some x) outer inner = went [] (copied n p x outer inner)
 -- an argument is evaluated in the caller's state, and its parameter set among the callee's variables
 abbrev pub passed : Span → Kind → Ref → Expr → State → Store → Evaluation Store
 passed at (kind.Array z n) p e s inner = array_passed at n p (array_of e) s.store inner
-passed at k p e s inner = and_then (evaluated e (size_of k) s) (λ v. and_then (held at k v) (λ h. went [] (put inner (key_of p) (Some h))))
+passed at k p e s inner = and_then (evaluated e (size_of k) s) (λ v. and_then (held p.span k v) (λ h. went [] (put inner (key_of p) (Some h))))
 
 abbrev pub all_passed : Span → List Param → List Expr → State → Store → Evaluation Store
 all_passed at [] [] s inner = went [] inner
@@ -180,4 +180,4 @@ leaves c s t =
     all_given c.at c.to c.callee.result t.store (record { store = arrays_back c.callee.params c.args t.store s.store; memory = t.memory })
 
 abbrev pub source : Parts Operation Condition Counter Call State Stuck
-source = record { does = does; quiets = quiets; tests = tests; counts = counts; begins = begins; restores = restores; enters = enters; leaves = leaves }
+source = record { does = does; quiets = quiets; tests = tests; settled = λ c s. s; counts = counts; begins = begins; restores = restores; enters = enters; leaves = leaves }

@@ -17,6 +17,7 @@ ghost use Rattle.jz_runs.specs.Rules.{went, Outcome, End, Goes};
 ghost use Rattle.jz_meaning.specs.States.{State, Value};
 ghost use Rattle.jz_meaning.specs.Operators.{of_constant};
 ghost use Rattle.jz_meaning.specs.Values.{evaluated};
+ghost use Rattle.jz_meaning.specs.CutLaws.{BodiesHoldCuts, FunctionsHoldCuts};
 ghost use Rattle.jz_meaning.specs.Shapes.{Sorts, HoldsSorts, shape_of, HoldsIntegers};
 
 /// How many numbers an expression leaks where it is not stuck, and whether its value is a word, a flag or a whole number, depends
@@ -53,4 +54,10 @@ pub fn same_with_more_turns()
 pub fn same_with_as_many_used()
     ensures statements { (b : Block) (n m : ℕ) (s t : State) (l : Leak) → Goes source b n s (End t m l) → (used : ℕ) × (n ≡ m + used) × ((k : ℕ) → Goes source b (k + used) s (End t k l)) }
     ensures functions { (p : Program) (f : Fun) (words : List Value) (memory : Memory) (n m : ℕ) (r : Returned) (l : Leak) → IsRun p f words memory n (End r m l) → (used : ℕ) × (n ≡ m + used) × ((k : ℕ) → IsRun p f words memory (k + used) (End r k l)) }
+{}
+
+/// At an end no part of what was leaked is cut; at a cut the last part of each open list is, and nothing before it.
+pub fn a_leak_holds_a_cut_where_its_run_was_cut()
+    ensures statements { BodiesHoldCuts }
+    ensures functions { FunctionsHoldCuts }
 {}

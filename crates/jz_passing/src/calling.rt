@@ -32,11 +32,11 @@ fn pass_value(
     inner: &mut Store,
     out: &mut Seq<u64>,
 ) -> Result<Result<(), Stuck>, AllocError>
-    ensures { IfOk result (λ r. changed out.new (store_of inner.new) r ≡ numbers_first out.old (and_then (values.evaluated arg.now (values.size_of kind) (state store.now mem.now)) (λ v. and_then (assignments.held span kind v) (λ h. went [] (states.put (store_of inner.old) (values.key_of (ref_of param.now)) (Some h)))))) }
+    ensures { IfOk result (λ r. changed out.new (store_of inner.new) r ≡ numbers_first out.old (and_then (values.evaluated arg.now (values.size_of kind) (state store.now mem.now)) (λ v. and_then (assignments.held (ref_of param.now).span kind v) (λ h. went [] (states.put (store_of inner.old) (values.key_of (ref_of param.now)) (Some h)))))) }
 {
     match evaluate(alloc, arg, size_of(kind), store, mem, out)? {
         Err(stuck) => Ok(Err(stuck)),
-        Ok(value) => match held(span, kind, value) {
+        Ok(value) => match held(param.span, kind, value) {
             Err(stuck) => Ok(Err(stuck)),
             Ok(value) => {
                 set(param, Some(value), inner)?;

@@ -7,6 +7,8 @@ mod integer_tests;
 #[cfg(test)]
 mod lex_tests;
 #[cfg(test)]
+mod names;
+#[cfg(test)]
 mod outside_tests;
 #[cfg(test)]
 mod parse_tests;
