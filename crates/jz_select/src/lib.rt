@@ -2,6 +2,7 @@
 #![tactic(auto)]
 
 mod class;
+mod comparing;
 mod immediates;
 mod look;
 mod operand;
