@@ -242,7 +242,7 @@ fn statements_are_limited(rt: HostRuntime) -> Result<(), Fail> {
     ] {
         let text = long_function(alloc, statements)?;
         let ran = run(alloc, COMPILE, text.as_slice(), &NO_FAULTS)?;
-        assert_eq!(rt; ran.status, Status::Limit);
+        assert!(rt; ran.status == Status::Limit);
         assert_eq!(rt; ran.written.as_slice(), wanted.as_bytes());
     }
     Ok(())
@@ -273,7 +273,7 @@ fn items_are_numbers(rt: HostRuntime) -> Result<(), Fail> {
         } else {
             Status::Usage
         };
-        assert_eq!(rt; ran.status, status, "item {item}");
+        assert!(rt; ran.status == status, "item {item}");
     }
     Ok(())
 }
@@ -298,7 +298,7 @@ fn constants_of_operations_are_limited(rt: HostRuntime) -> Result<(), Fail> {
         text.extend_from_slice(b"; return r; }")?;
         let ran = run(alloc, COMPILE, text.as_slice(), &NO_FAULTS)?;
         let status = if *is_held { Status::Ok } else { Status::Limit };
-        assert_eq!(rt; ran.status, status, "number {number}");
+        assert!(rt; ran.status == status, "number {number}");
     }
     Ok(())
 }
@@ -314,7 +314,7 @@ static REMEDIES: [&[u8]; 3] = [
 fn remedies_are_compiled(rt: HostRuntime) -> Result<(), Fail> {
     for (i, text) in REMEDIES.iter().enumerate() {
         let ran = run(rt.alloc(), COMPILE, text, &NO_FAULTS)?;
-        assert_eq!(rt; ran.status, Status::Ok, "text {i}");
+        assert!(rt; ran.status == Status::Ok, "text {i}");
         assert_eq!(rt; ran.made.len(), 1, "text {i}");
     }
     Ok(())

@@ -87,7 +87,7 @@ pub(crate) fn answer_rows(rt: &impl Abort, alloc: Global, rows: &[Row]) -> Resul
         } else {
             0
         };
-        assert_eq!(rt; ran.status, row.status, "row {i}");
+        assert!(rt; ran.status == row.status, "row {i}");
         assert_eq!(rt; ran.written.as_slice(), row.written.as_bytes(), "row {i}");
         assert_eq!(rt; ran.made.len(), row.made, "row {i}");
         assert_eq!(rt; ran.source_faults, missed, "row {i}");
@@ -302,7 +302,7 @@ fn reads_a_text_up_to_the_limit(rt: HostRuntime) -> Result<(), Fail> {
         let text = padded(alloc, length)?;
         assert_eq!(rt; text.len(), length);
         let ran = run(alloc, COMPILE, text.as_slice(), &NO_FAULTS)?;
-        assert_eq!(rt; ran.status, status);
+        assert!(rt; ran.status == status);
         assert_eq!(rt; ran.written.as_slice(), wanted.as_bytes());
     }
     Ok(())
@@ -368,7 +368,7 @@ static FAULTS: [Faulty; 4] = [
 fn tells_faults(rt: HostRuntime) -> Result<(), Fail> {
     for (i, row) in FAULTS.iter().enumerate() {
         let ran = run(rt.alloc(), COMPILE, SUM, &row.faults)?;
-        assert_eq!(rt; ran.status, row.status, "row {i}");
+        assert!(rt; ran.status == row.status, "row {i}");
         assert_eq!(rt; ran.written.as_slice(), row.written.as_bytes(), "row {i}");
         assert!(rt; ran.made.is_empty(), "row {i}");
         assert_eq!(rt; ran.source_faults, row.source_faults, "row {i}");

@@ -24,7 +24,7 @@ const RETURN_SLOT: u64 = 0x7fff_ffff_0008;
 const STEP_LIMIT: u64 = 1_000_000;
 
 /// How a run ended.
-#[derive(Debug, Drop)]
+#[derive(Drop)]
 pub enum Finish {
     /// The code returned, after so many steps with these events.
     Ended { steps: u64, events: Events },

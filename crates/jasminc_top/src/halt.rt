@@ -11,7 +11,7 @@ use jz_safety::Alarm;
 use std::alloc::AllocError;
 
 /// What stops a command without a reply of its own.
-#[derive(Clone, Copy, Debug, PartialEq, Eq)]
+#[derive(Clone, Copy, PartialEq, Eq)]
 pub enum Stop {
     Fault,
     Memory,

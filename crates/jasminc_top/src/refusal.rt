@@ -15,7 +15,7 @@ use jz_safety::Alarm;
 use std::alloc::{AllocError, Global};
 
 /// How a command ends, by the program's exit status.
-#[derive(Clone, Copy, Debug, PartialEq, Eq)]
+#[derive(Clone, Copy, PartialEq, Eq)]
 pub enum Status {
     Ok = 0,
     Usage = 1,
@@ -36,7 +36,7 @@ pub enum Status {
 }
 
 /// Why the words or the text are refused, by what the answer's line shows.
-#[derive(Debug, Drop, PartialEq, Eq)]
+#[derive(Drop, PartialEq, Eq)]
 pub enum Refusal {
     /// The words are no command.
     Usage,

@@ -15,7 +15,7 @@ use jz_listing::Compiled;
 use std::alloc::Global;
 
 /// How a command ended, and what this call compiled: at Ok each export function in the text's order, else nothing.
-#[derive(Debug, Drop)]
+#[derive(Drop)]
 pub struct Done {
     pub status: Status,
     pub made: Seq<Compiled>,

@@ -8,7 +8,7 @@ use jz_data::Seq;
 use std::alloc::{AllocError, Global};
 
 /// A command of the program.
-#[derive(Debug, Drop)]
+#[derive(Drop)]
 pub enum Request<'a> {
     Compile {
         file: &'a str,

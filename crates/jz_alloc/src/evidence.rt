@@ -17,7 +17,7 @@ use std::alloc::{AllocError, Global};
 use x64_insn::Place;
 
 /// What keeps a variable from a place, and where: a variable, or without one a fixed write.
-#[derive(Clone, Copy, Debug, PartialEq, Eq)]
+#[derive(Clone, Copy, PartialEq, Eq)]
 pub struct Holder {
     pub place: Place,
     pub variable: Option<u32>,

@@ -11,7 +11,7 @@ use jz_bits::Bits;
 use std::alloc::{AllocError, Global};
 
 /// Each variable's place, or a variable that has none with the places before it.
-#[derive(Debug, Drop)]
+#[derive(Drop)]
 pub enum Fit {
     Placed(Vec<Option<u8>>),
     Refused(u32, Vec<Option<u8>>),

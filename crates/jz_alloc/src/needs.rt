@@ -9,7 +9,7 @@ use std::alloc::{AllocError, Global};
 use x64_insn::Place;
 
 /// A place that a variable needs, and where in the text.
-#[derive(Clone, Copy, Debug, PartialEq, Eq)]
+#[derive(Clone, Copy, PartialEq, Eq)]
 pub struct Needed {
     pub place: Place,
     pub span: Span,

@@ -22,7 +22,7 @@ use std::alloc::{AllocError, Global};
 use x64_insn::Place;
 
 /// The first variable without a place, all its needs, and what holds each place that meets them.
-#[derive(Debug, Drop)]
+#[derive(Drop)]
 pub struct NoPlace {
     pub variable: u32,
     pub needs: Seq<Needed>,
@@ -33,7 +33,7 @@ pub struct NoPlace {
 pub type Places = Seq<Place>;
 
 /// The number of each variable's place, or why one has none.
-#[derive(Debug, Drop)]
+#[derive(Drop)]
 pub enum Allocation {
     Places(Vec<Option<u8>>),
     NoPlace(NoPlace),

@@ -9,7 +9,7 @@ use std::alloc::{AllocError, Global};
 use std::marker::Model;
 
 /// A set of small numbers, as a row of words with a bit for each.
-#[derive(Debug, Drop)]
+#[derive(Drop)]
 pub struct Bits {
     words: Vec<u64>,
 }

@@ -12,7 +12,7 @@ use jz_scopes::is_before;
 use jz_tree::Fun;
 
 /// A function by its number, and the place of its name.
-#[derive(Clone, Copy, Debug)]
+#[derive(Clone, Copy)]
 pub struct Candidate {
     pub number: usize,
     pub name: Span,

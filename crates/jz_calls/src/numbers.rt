@@ -10,7 +10,7 @@ use jz_tree::Fun;
 use std::alloc::{AllocError, Global};
 
 /// The number of the first function of each name.
-#[derive(Debug, Drop)]
+#[derive(Drop)]
 pub struct Numbers {
     numbers: IndexMap<Text, usize>,
 }

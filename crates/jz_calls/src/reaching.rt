@@ -7,7 +7,7 @@ use jz_data::Seq;
 use std::alloc::{AllocError, Global};
 
 /// The functions found so far, in the order in which they were found.
-#[derive(Debug, Drop)]
+#[derive(Drop)]
 pub struct Found {
     pub marks: Vec<bool>,
     pub order: Vec<usize>,

@@ -17,7 +17,7 @@ use jz_tree::Program;
 use std::alloc::{AllocError, Global};
 
 /// What the calls of a program are like.
-#[derive(Debug, Drop)]
+#[derive(Drop)]
 pub enum Ranking {
     /// No function reaches itself: a rank for each function, in their order. The functions that one calls have lower ranks.
     Ranked(Seq<usize>),

@@ -5,7 +5,7 @@ use jz_data::Seq;
 use std::alloc::{AllocError, Global};
 
 /// What the walk knows of a function.
-#[derive(Clone, Copy, Debug)]
+#[derive(Clone, Copy)]
 enum Mark {
     /// The walk was not there.
     Unseen,
@@ -15,7 +15,7 @@ enum Mark {
 }
 
 /// A function that the walk is in, its place among the open ones, and how many of its calls the walk has followed.
-#[derive(Clone, Copy, Debug)]
+#[derive(Clone, Copy)]
 struct Visit {
     at: usize,
     place: usize,
@@ -32,7 +32,7 @@ impl Visit {
     }
 }
 
-#[derive(Debug, Drop)]
+#[derive(Drop)]
 struct Walk {
     marks: Vec<Mark>,
     inside: Vec<Visit>,

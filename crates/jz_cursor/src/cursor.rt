@@ -23,7 +23,7 @@ pub const UNEXPECTED: Stop = Failure::Refused(SyntaxKind::Unexpected);
 
 /// The tokens that are still to be read. A call that reads takes what it reads, and leaves the rest from the first wrong
 /// token on.
-#[derive(Debug, Drop)]
+#[derive(Drop)]
 pub struct Cursor<'a> {
     tokens: &'a [Token],
 }

@@ -7,7 +7,7 @@ use jz_io::Span;
 use jz_lex::Tokens;
 
 /// Why tokens derive no program.
-#[derive(Clone, Copy, Debug, PartialEq, Eq)]
+#[derive(Clone, Copy, PartialEq, Eq)]
 pub enum SyntaxKind {
     /// The tokens before it begin some program, and those with it begin none.
     Unexpected,
@@ -17,7 +17,7 @@ pub enum SyntaxKind {
 
 /// The first wrong token: its number from 0, and its span. Where the tokens run out before a program's end the number is
 /// how many there are, and the span is that of the last (1:1 where there is none).
-#[derive(Clone, Copy, Debug, PartialEq, Eq)]
+#[derive(Clone, Copy, PartialEq, Eq)]
 pub struct SyntaxFault {
     pub kind: SyntaxKind,
     pub token: u64,

@@ -1,7 +1,7 @@
 use std::alloc::AllocError;
 
 /// Why a call that takes memory gives no value: a refusal with its cause, or want of memory.
-#[derive(Clone, Copy, Debug, PartialEq, Eq, Drop)]
+#[derive(Clone, Copy, PartialEq, Eq, Drop)]
 pub enum Failure<E> {
     Refused(E),
     OutOfMemory,

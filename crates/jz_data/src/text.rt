@@ -5,7 +5,7 @@ use std::hash::{Hash, Hasher};
 use std::marker::Model;
 
 /// A text that contracts see as the list of its bytes.
-#[derive(Debug, Drop)]
+#[derive(Drop)]
 pub struct Text {
     text: String,
 }

@@ -12,7 +12,7 @@ use std::alloc::{AllocError, Global};
 
 /// A fact that has to be given where the text stands at the span. Where it isn't, there is an alarm of this kind about the
 /// target.
-#[derive(Debug, Drop, PartialEq, Eq)]
+#[derive(Drop, PartialEq, Eq)]
 pub struct Condition {
     pub fact: Fact,
     pub span: Span,

@@ -9,7 +9,7 @@ use jz_data::Text;
 use std::alloc::{AllocError, Global};
 
 /// A set of facts. Contracts see of each fact whether the set gives it.
-#[derive(Debug, Drop)]
+#[derive(Drop)]
 pub struct FactSet {
     names: IndexSet<Text>,
 }

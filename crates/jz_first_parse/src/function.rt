@@ -15,7 +15,7 @@ use jz_first_tree::{Fun, Program, Stmt, Var};
 use std::alloc::Global;
 
 /// What stands between the braces of a function.
-#[derive(Debug, Drop, PartialEq, Eq)]
+#[derive(Drop, PartialEq, Eq)]
 pub struct Body {
     pub vars: Seq<Var>,
     pub stmts: Seq<Stmt>,

@@ -14,7 +14,7 @@ use jz_first_tree::{BinOp, Expr, Lval, Rhs, Stmt, StmtKind, Var};
 use std::alloc::{AllocError, Global};
 
 /// A declaration of variables, or a statement.
-#[derive(Debug, Drop, PartialEq, Eq)]
+#[derive(Drop, PartialEq, Eq)]
 pub enum Item {
     Declares(Seq<Var>),
     Does(Stmt),

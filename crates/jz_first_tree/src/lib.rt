@@ -6,13 +6,13 @@ use jz_io::Span;
 use jz_words::Size;
 
 /// What a text says: its functions, in their order.
-#[derive(Debug, Drop, PartialEq, Eq)]
+#[derive(Drop, PartialEq, Eq)]
 pub struct Program {
     pub funs: Seq<Fun>,
 }
 
 /// An export function. Its span is that of its name.
-#[derive(Debug, Drop, PartialEq, Eq)]
+#[derive(Drop, PartialEq, Eq)]
 pub struct Fun {
     pub name: Text,
     pub span: Span,
@@ -26,40 +26,40 @@ pub struct Fun {
 }
 
 /// A parameter of a function, with its declaration.
-#[derive(Debug, Drop, PartialEq, Eq)]
+#[derive(Drop, PartialEq, Eq)]
 pub struct Param {
     pub var: Var,
 }
 
 /// A result that a function declares.
-#[derive(Debug, Drop, PartialEq, Eq)]
+#[derive(Drop, PartialEq, Eq)]
 pub struct Ret {
     pub decl: Decl,
 }
 
 /// Where a value is kept.
-#[derive(Clone, Copy, Debug, PartialEq, Eq)]
+#[derive(Clone, Copy, PartialEq, Eq)]
 pub enum Storage {
     /// In a register.
     Reg,
 }
 
 /// What a value is.
-#[derive(Clone, Copy, Debug, PartialEq, Eq)]
+#[derive(Clone, Copy, PartialEq, Eq)]
 pub enum Ty {
     /// A word of that size.
     Word(Size),
 }
 
 /// What is declared of a variable or a result.
-#[derive(Clone, Copy, Debug, PartialEq, Eq)]
+#[derive(Clone, Copy, PartialEq, Eq)]
 pub struct Decl {
     pub storage: Storage,
     pub ty: Ty,
 }
 
 /// A variable where it stands in the text. Parameters and variables of the body have their declaration.
-#[derive(Debug, Drop, PartialEq, Eq)]
+#[derive(Drop, PartialEq, Eq)]
 pub struct Var {
     pub name: Text,
     pub decl: Option<Decl>,
@@ -67,7 +67,7 @@ pub struct Var {
 }
 
 /// An expression. The span of a number is that of its token.
-#[derive(Debug, Drop, PartialEq, Eq)]
+#[derive(Drop, PartialEq, Eq)]
 pub enum Expr {
     /// The number that is written, before it is taken modulo 2 to the bits of a size.
     Num(i128, Span),
@@ -75,7 +75,7 @@ pub enum Expr {
 }
 
 /// An operation on two words, modulo 2 to the bits of their size.
-#[derive(Clone, Copy, Debug, PartialEq, Eq)]
+#[derive(Clone, Copy, PartialEq, Eq)]
 pub enum BinOp {
     Xor,
     Add,
@@ -83,25 +83,25 @@ pub enum BinOp {
 }
 
 /// What an assignment sets.
-#[derive(Debug, Drop, PartialEq, Eq)]
+#[derive(Drop, PartialEq, Eq)]
 pub enum Lval {
     Var(Var),
 }
 
 /// What an assignment sets it to.
-#[derive(Debug, Drop, PartialEq, Eq)]
+#[derive(Drop, PartialEq, Eq)]
 pub enum Rhs {
     Value(Expr),
 }
 
 /// A statement. Its span is that of its first token.
-#[derive(Debug, Drop, PartialEq, Eq)]
+#[derive(Drop, PartialEq, Eq)]
 pub struct Stmt {
     pub span: Span,
     pub kind: StmtKind,
 }
 
-#[derive(Debug, Drop, PartialEq, Eq)]
+#[derive(Drop, PartialEq, Eq)]
 pub enum StmtKind {
     /// `to = rhs`, or with an operation `to = to op rhs`.
     Assign {

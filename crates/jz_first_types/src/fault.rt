@@ -7,7 +7,7 @@ ghost use Rattle.jz_first_types.specs.Faults.{number_of, is_before, precedes, ea
 use jz_io::Span;
 
 /// A rule of typing.
-#[derive(Clone, Copy, Debug, PartialEq, Eq)]
+#[derive(Clone, Copy, PartialEq, Eq)]
 pub enum TypeRule {
     /// A variable is declared above its use.
     Unknown,
@@ -34,7 +34,7 @@ impl TypeRule {
 }
 
 /// A rule that fails, and where.
-#[derive(Clone, Copy, Debug, PartialEq, Eq)]
+#[derive(Clone, Copy, PartialEq, Eq)]
 pub struct TypeFault {
     pub rule: TypeRule,
     pub span: Span,

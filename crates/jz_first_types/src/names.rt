@@ -14,7 +14,7 @@ use jz_io::Span;
 use std::alloc::{AllocError, Global};
 
 /// Names that differ, and the first fault among further ones.
-#[derive(Debug, Drop)]
+#[derive(Drop)]
 pub(crate) struct Names {
     seen: IndexSet<Text>,
     first: Option<TypeFault>,

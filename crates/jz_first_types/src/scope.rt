@@ -13,14 +13,14 @@ use jz_io::Span;
 use std::alloc::{AllocError, Global};
 
 /// A variable where it is declared.
-#[derive(Clone, Copy, Debug, PartialEq, Eq)]
+#[derive(Clone, Copy, PartialEq, Eq)]
 pub(crate) struct Declared {
     decl: Option<Decl>,
     span: Span,
 }
 
 /// The first variable of each name.
-#[derive(Debug, Drop)]
+#[derive(Drop)]
 pub(crate) struct Scope {
     variables: IndexMap<Text, Declared>,
 }

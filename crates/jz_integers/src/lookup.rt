@@ -14,7 +14,7 @@ pub trait Numbers {
 }
 
 /// Knows none.
-#[derive(Clone, Copy, Debug, Drop)]
+#[derive(Clone, Copy, Drop)]
 pub struct NoNumbers;
 
 impl Numbers for NoNumbers {

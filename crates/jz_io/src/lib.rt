@@ -18,5 +18,5 @@ pub use verdict::{Ct, CtKind};
 pub type Bytes = Seq<u8>;
 
 /// A read or a write failed, and the source or sink has counted it.
-#[derive(Clone, Copy, Debug, PartialEq, Eq)]
+#[derive(Clone, Copy, PartialEq, Eq)]
 pub struct Failed;

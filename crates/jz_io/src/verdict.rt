@@ -4,7 +4,7 @@ use crate::Span;
 use jz_data::Text;
 
 /// How a secret shows in what an observer sees.
-#[derive(Clone, Copy, PartialEq, Eq, Debug)]
+#[derive(Clone, Copy, PartialEq, Eq)]
 pub enum CtKind {
     /// It decides a branch.
     Branch,
@@ -15,7 +15,7 @@ pub enum CtKind {
 }
 
 /// Whether a function is constant time, or the place, the kind and the variable of its first breach.
-#[derive(Debug, Drop, PartialEq, Eq)]
+#[derive(Drop, PartialEq, Eq)]
 pub enum Ct {
     Yes,
     No { span: Span, kind: CtKind, var: Text },

@@ -5,14 +5,14 @@ use jz_io::Span;
 use x64_insn::Place;
 
 /// What a variable is: a word lives in a register, a flag in a flag.
-#[derive(Clone, Copy, Debug, PartialEq, Eq)]
+#[derive(Clone, Copy, PartialEq, Eq)]
 pub enum Kind {
     Word,
     Flag,
 }
 
 /// A variable that must be in a place, and where the text says so.
-#[derive(Clone, Copy, Debug, PartialEq, Eq)]
+#[derive(Clone, Copy, PartialEq, Eq)]
 pub struct Need {
     pub variable: u32,
     pub place: Place,
@@ -20,7 +20,7 @@ pub struct Need {
 }
 
 /// An operation: the variables that it reads and writes, the places that it writes besides, and what it needs.
-#[derive(Debug, Drop, PartialEq, Eq)]
+#[derive(Drop, PartialEq, Eq)]
 pub struct Op {
     pub span: Span,
     pub reads: Seq<u32>,
@@ -30,7 +30,7 @@ pub struct Op {
 }
 
 /// Operations one after another, the kind of each variable, and the places that variables may have.
-#[derive(Debug, Drop, PartialEq, Eq)]
+#[derive(Drop, PartialEq, Eq)]
 pub struct Code {
     pub ops: Seq<Op>,
     pub kinds: Seq<Kind>,
@@ -39,7 +39,7 @@ pub struct Code {
 
 /// A part of code with branches and loops. A test is an operation; a loop without one is never left.
 #[cycle(node)]
-#[derive(Debug, Drop, PartialEq, Eq)]
+#[derive(Drop, PartialEq, Eq)]
 pub enum Node {
     Op(Op),
     If(Op, Seq<Node>, Seq<Node>),

@@ -12,6 +12,7 @@ use Rattle.jz_tree.specs.declared.expr.Expr.TheOpen.{Expr-F}
 use Rattle.jz_scopes.specs.declared.kinds.Kind.{Kind}
 use Rattle.jz_scopes.specs.declared.kinds.Kind.TheVariants as kind
 use Rattle.jz_kinds.specs.declared.wants.Want.TheVariants as want
+use Rattle.jz_kinds.specs.Wants.{index_want}
 use Rattle.jz_kinds.specs.Typings.{Typing, typing_step, access_typing}
 
 abbrev at : ℕ → Span
@@ -93,10 +94,10 @@ signed_shift_by_a_byte : (bin op.Sar (num 1) (x sizes.S8 2)).wrong (want.Word si
 signed_shift_by_a_byte = refl
 
 -- 3 + c and i + c as an index, x64 + c there
-number_and_bool_as_index : (bin op.Add (num 1) (flag 2)).wrong want.Index ≡ []
+number_and_bool_as_index : (bin op.Add (num 1) (flag 2)).wrong index_want ≡ []
 number_and_bool_as_index = refl
 
-word_and_bool_as_index : (bin op.Add (x sizes.S64 1) (flag 2)).wrong want.Index ≡ []
+word_and_bool_as_index : (bin op.Add (x sizes.S64 1) (flag 2)).wrong index_want ≡ []
 word_and_bool_as_index = refl
 
 -- 3 + c in the place of an integer, of a word, and where nothing gives a size; 3 * c there
@@ -125,3 +126,7 @@ access_without_size = refl
 -- (64u)(3 << c8): a number has no size, whatever the count is
 cast_of_a_shifted_number : (cast sizes.S64 (bin op.Shl (num 1) (x sizes.S8 2))).wrong (want.Word sizes.S64) ≡ (at 1 ∷ [])
 cast_of_a_shifted_number = refl
+
+-- (32u)(q ^ [p]): an access without a size has none under a cast, whatever stands beside it
+cast_of_an_access_beside_a_word : (cast sizes.S32 (bin op.Xor (x sizes.S64 2) (load None 3))).wrong (want.Word sizes.S32) ≡ (at 3 ∷ [])
+cast_of_an_access_beside_a_word = refl

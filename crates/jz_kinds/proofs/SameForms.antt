@@ -21,7 +21,7 @@ use Rattle.jz_scopes.specs.Kinds.{Known, kind_step, declared_step}
 use Rattle.jz_kinds.specs.declared.wants.Want.{Want}
 use Rattle.jz_kinds.specs.declared.wants.Want.TheVariants as want
 use Rattle.jz_kinds.specs.declared.wants.Form.{Form}
-use Rattle.jz_kinds.specs.Wants.{fits_truth, fits_word, fits_access, fits_cell, cell_size, sized_want}
+use Rattle.jz_kinds.specs.Wants.{fits_truth, fits_word, fits_access, fits_cell, cell_size, cast_want, index_want}
 use Rattle.jz_kinds.specs.Operators.{group_of, gives, stops, compared, left_of, right_of, takes_carry}
 use Rattle.jz_kinds.specs.Typings.{Typing, typing, typing_of_access, typing_step, access_typing, neg_form, left_want, right_want}
 use Rattle.jz_kinds.specs.Found.{Found, found, found_in_access, found_step, access_found, left_inline}
@@ -93,17 +93,17 @@ var_same : (p q : Named) → p ≡ q → IsSame (typing_step (Expr-F.Var p)) (fo
 var_same p q e = subst (λ q. IsSame (typing_step (Expr-F.Var p)) (found_step (Expr-F.Var q))) e (record { form = refl; first = λ w. refl })
 
 cell_same : (p q : Named) (i : Typing) (j : Found) → p ≡ q → IsSame i j → IsSame (typing_step (Expr-F.Cell p i)) (found_step (Expr-F.Cell q j))
-cell_same p q i j e h = subst (λ q. IsSame (typing_step (Expr-F.Cell p i)) (found_step (Expr-F.Cell q j))) e (record { form = refl; first = λ w. two (unless (fits_cell (cell_size p.0) w) p.1) (i.wrong want.Index) _ _ refl (h.first want.Index) })
+cell_same p q i j e h = subst (λ q. IsSame (typing_step (Expr-F.Cell p i)) (found_step (Expr-F.Cell q j))) e (record { form = refl; first = λ w. two (unless (fits_cell (cell_size p.0) w) p.1) (i.wrong index_want) _ _ refl (h.first index_want) })
 
 access_same : (z : Option Size) (u : Bool) (at : Span) (i : Typing) (j : Found) → IsSame i j
     → IsSame (access_typing (record { size = z; at = i; unaligned = u; span = at })) (access_found (record { size = z; at = j; unaligned = u; span = at }))
-access_same z u at i j h = record { form = refl; first = λ w. two (unless (fits_access z w) at) (i.wrong want.Index) _ _ refl (h.first want.Index) }
+access_same z u at i j h = record { form = refl; first = λ w. two (unless (fits_access z w) at) (i.wrong index_want) _ _ refl (h.first index_want) }
 
 neg_same : (at : Span) (i : Typing) (j : Found) → IsSame i j → IsSame (typing_step (Expr-F.Neg i at)) (found_step (Expr-F.Neg j at))
 neg_same at i j h = record { form = ap neg_form h.form; first = λ w. two (unless (not (fits_truth w)) at) (if fits_truth w then [] else i.wrong w) _ _ refl (stopped (fits_truth w) _ (i.wrong w) (h.first w)) }
 
 cast_same : (z : Size) (s : Bool) (at : Span) (i : Typing) (j : Found) → IsSame i j → IsSame (typing_step (Expr-F.Cast z s i at)) (found_step (Expr-F.Cast z s j at))
-cast_same z s at i j h = record { form = refl; first = λ w. two (unless (fits_word z w) at) (i.wrong (sized_want true i.form.size)) _ _ refl (h.first _ ∙ ap (λ g. earliest (i.wrong (sized_want true g.size))) h.form) }
+cast_same z s at i j h = record { form = refl; first = λ w. two (unless (fits_word z w) at) (i.wrong (cast_want i.form.size)) _ _ refl (h.first _ ∙ ap (λ g. earliest (i.wrong (cast_want g.size))) h.form) }
 
 abbrev with_form : Form → (Bool → Want → Option Span) → Found
 with_form g p = record { form = g; first = p }

@@ -13,7 +13,7 @@ use Rattle.jz_scopes.specs.Kinds.{Known, kind_step, declared_step}
 use Rattle.jz_kinds.specs.declared.wants.Want.{Want}
 use Rattle.jz_kinds.specs.declared.wants.Want.TheVariants as want
 use Rattle.jz_kinds.specs.declared.wants.Form.{Form}
-use Rattle.jz_kinds.specs.Wants.{fits_int, fits_truth, fits_word, fits_access, fits_known, fits_cell, cell_size, sized_want, sized, var_form}
+use Rattle.jz_kinds.specs.Wants.{fits_int, fits_truth, fits_word, fits_access, fits_known, fits_cell, cell_size, cast_want, index_want, sized, var_form}
 use Rattle.jz_kinds.specs.Operators.{group_of, gives, stops, compared, bin_form, left_of, right_of, takes_carry}
 use Rattle.jz_kinds.specs.Typings.{neg_form}
 
@@ -34,10 +34,10 @@ bin_first o a b at k w =
     (a.first (left_inline k a.form.inline b.form.inline) (left_of (group_of o) o k (compared (group_of o) a.form.size b.form.size) w)))
 
 abbrev pub cell_first : Known → Span → Found → Want → Option Span
-cell_first v at i w = earlier (earliest (unless (fits_cell (cell_size v) w) at)) (i.first i.form.inline want.Index)
+cell_first v at i w = earlier (earliest (unless (fits_cell (cell_size v) w) at)) (i.first i.form.inline index_want)
 
 abbrev pub access_found : Access-F Found Kind Found Declared (Known × Span) → Found
-access_found a = record { form = sized a.size; first = λ k w. earlier (earliest (unless (fits_access a.size w) a.span)) (a.at.first a.at.form.inline want.Index) }
+access_found a = record { form = sized a.size; first = λ k w. earlier (earliest (unless (fits_access a.size w) a.span)) (a.at.first a.at.form.inline index_want) }
 
 abbrev pub found_step : Expr-F Found Kind Found Declared (Known × Span) → Found
 found_step (Expr-F.Num n at) = record { form = record { size = None; truth = false; inline = true }; first = λ k w. earliest (unless (fits_int w) at) }
@@ -47,7 +47,7 @@ found_step (Expr-F.Cell v i) = record { form = sized (cell_size v.0); first = λ
 found_step (Expr-F.Load a) = a
 found_step (Expr-F.Neg a at) = record { form = neg_form a.form; first = λ k w. earlier (earliest (unless (not (fits_truth w)) at)) (if fits_truth w then None else a.first k w) }
 found_step (Expr-F.Not a at) = a
-found_step (Expr-F.Cast z s a at) = record { form = sized (Some z); first = λ k w. earlier (earliest (unless (fits_word z w) at)) (a.first a.form.inline (sized_want true a.form.size)) }
+found_step (Expr-F.Cast z s a at) = record { form = sized (Some z); first = λ k w. earlier (earliest (unless (fits_word z w) at)) (a.first a.form.inline (cast_want a.form.size)) }
 found_step (Expr-F.Bin o a b at) = record { form = bin_form (group_of o) a.form b.form; first = bin_first o a b at }
 
 abbrev pub found : Expr → Found

@@ -11,7 +11,7 @@ use Rattle.jz_kinds.specs.declared.signatures.Role.{Role}
 use Rattle.jz_kinds.specs.declared.signatures.Role.TheVariants as role
 use Rattle.jz_kinds.specs.declared.wants.Want.{Want}
 use Rattle.jz_kinds.specs.declared.wants.Want.TheVariants as want
-use Rattle.jz_kinds.specs.Wants.{or_size, own_size}
+use Rattle.jz_kinds.specs.Wants.{or_size, own_size, index_want}
 use Rattle.jz_kinds.specs.Typings.{typing}
 use Rattle.jz_kinds.specs.Worded.{is_worded}
 use Rattle.jz_kinds.specs.Firsts.{wrong_beside}
@@ -24,7 +24,7 @@ role_want z role.Flag = want.Truth
 role_want z role.Value = own_size z
 role_want z role.Count = want.Word sizes.S8
 role_want z role.Condition = want.Truth
-role_want z role.Address = want.Index
+role_want z role.Address = index_want
 role_want z role.Byte = want.Word sizes.S8
 
 abbrev pub valued : Role → Option Size → Option Size

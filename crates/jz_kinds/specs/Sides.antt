@@ -12,7 +12,7 @@ use Rattle.jz_scopes.specs.Kinds.{known_of, is_array, same_size}
 use Rattle.jz_kinds.specs.declared.wants.Want.{Want}
 use Rattle.jz_kinds.specs.declared.wants.Want.TheVariants as want
 use Rattle.jz_kinds.specs.declared.wants.Form.{Form}
-use Rattle.jz_kinds.specs.Wants.{fits_known, fits_cell, fits_access, cell_size, sized_want, no_form, sized, var_form, own_want}
+use Rattle.jz_kinds.specs.Wants.{fits_known, fits_cell, fits_access, cell_size, sized_want, index_want, no_form, sized, var_form, own_want}
 use Rattle.jz_kinds.specs.Typings.{Typing, typing}
 
 abbrev pub is_skip : Lval → Bool
@@ -30,8 +30,8 @@ left_form (lval.Store a) = sized a.size
 abbrev pub left_wrong : Lval → Want → List Span
 left_wrong (lval.Skip at) w = []
 left_wrong (lval.Var v) w = if is_array (known_of v) then [] else unless (fits_known (known_of v) w) (name_of v).1
-left_wrong (lval.Cell v i) w = unless (fits_cell (cell_size (known_of v)) w) (name_of v).1 ++ (typing i).wrong want.Index
-left_wrong (lval.Store a) w = unless (fits_access a.size w) a.span ++ (typing (out-Access a).at).wrong want.Index
+left_wrong (lval.Cell v i) w = unless (fits_cell (cell_size (known_of v)) w) (name_of v).1 ++ (typing i).wrong index_want
+left_wrong (lval.Store a) w = unless (fits_access a.size w) a.span ++ (typing (out-Access a).at).wrong index_want
 
 abbrev pub left_typing : Lval → Typing
 left_typing d = record { form = left_form d; wrong = left_wrong d }

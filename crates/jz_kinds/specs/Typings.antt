@@ -13,7 +13,7 @@ use Rattle.jz_scopes.specs.Kinds.{Known, kind_step, declared_step}
 use Rattle.jz_kinds.specs.declared.wants.Want.{Want}
 use Rattle.jz_kinds.specs.declared.wants.Want.TheVariants as want
 use Rattle.jz_kinds.specs.declared.wants.Form.{Form}
-use Rattle.jz_kinds.specs.Wants.{fits_int, fits_truth, fits_word, fits_access, fits_known, fits_cell, cell_size, sized_want, sized, var_form}
+use Rattle.jz_kinds.specs.Wants.{fits_int, fits_truth, fits_word, fits_access, fits_known, fits_cell, cell_size, cast_want, index_want, sized, var_form}
 use Rattle.jz_kinds.specs.Operators.{group_of, gives, stops, compared, bin_form, left_of, right_of, takes_carry}
 
 -- what an expression is by itself, and its wrong places by what its own place wants
@@ -42,10 +42,10 @@ abbrev pub var_typing : Known → Span → Typing
 var_typing k at = record { form = var_form k; wrong = λ w. unless (fits_known k w) at }
 
 abbrev pub cell_typing : Known → Span → Typing → Typing
-cell_typing k at i = record { form = sized (cell_size k); wrong = λ w. unless (fits_cell (cell_size k) w) at ++ i.wrong want.Index }
+cell_typing k at i = record { form = sized (cell_size k); wrong = λ w. unless (fits_cell (cell_size k) w) at ++ i.wrong index_want }
 
 abbrev pub access_typing : Access-F Typing Kind Typing Declared (Known × Span) → Typing
-access_typing a = record { form = sized a.size; wrong = λ w. unless (fits_access a.size w) a.span ++ a.at.wrong want.Index }
+access_typing a = record { form = sized a.size; wrong = λ w. unless (fits_access a.size w) a.span ++ a.at.wrong index_want }
 
 abbrev pub neg_form : Form → Form
 neg_form f = record { size = f.size; truth = false; inline = f.inline }
@@ -61,7 +61,7 @@ typing_step (Expr-F.Cell v i) = cell_typing v.0 v.1 i
 typing_step (Expr-F.Load a) = a
 typing_step (Expr-F.Neg a at) = record { form = neg_form a.form; wrong = neg_wrong a at }
 typing_step (Expr-F.Not a at) = a
-typing_step (Expr-F.Cast z s a at) = record { form = sized (Some z); wrong = λ w. unless (fits_word z w) at ++ a.wrong (sized_want true a.form.size) }
+typing_step (Expr-F.Cast z s a at) = record { form = sized (Some z); wrong = λ w. unless (fits_word z w) at ++ a.wrong (cast_want a.form.size) }
 typing_step (Expr-F.Bin o a b at) = bin_typing o a b at
 
 abbrev pub typing : Expr → Typing

@@ -22,10 +22,10 @@ fits_truth _ = false
 abbrev pub fits_word : Size → Want → Bool
 fits_word z (want.Word y) = same_size z y
 fits_word z want.AnyWord = true
-fits_word z want.Index = same_size z sizes.S64
+fits_word z (want.Sized y) = same_size z y
 fits_word z _ = false
 
--- an access without a size has that of its place
+-- an access without a size has that of its place, where a word is wanted and nothing more
 abbrev pub fits_access : Option Size → Want → Bool
 fits_access (Some z) w = fits_word z w
 fits_access None (want.Word y) = true
@@ -76,6 +76,15 @@ known_truth (Some d) = is_truth d.kind
 abbrev pub or_size : Option Size → Option Size → Option Size
 or_size None b = b
 or_size (Some z) b = Some z
+
+-- what the operand of a cast wants: a word that says its size itself, and nothing in it that leaves its size to the place
+abbrev pub cast_want : Option Size → Want
+cast_want None = want.AnyWord
+cast_want (Some z) = want.Sized z
+
+-- an index or an address: a number, or a word of 64 bits that says so itself
+abbrev pub index_want : Want
+index_want = want.Sized sizes.S64
 
 -- what operands want where their size is this; without one they are integers, or of an operation that only words have words
 abbrev pub sized_want : Bool → Option Size → Want

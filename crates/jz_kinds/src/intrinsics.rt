@@ -26,7 +26,7 @@ fn role_want(size: Option<Size>, role: Role) -> Want
         Role::Flag | Role::Condition => Want::Truth,
         Role::Value => own_size(size),
         Role::Count | Role::Byte => Want::Word(Size::S8),
-        Role::Address => Want::Index,
+        Role::Address => Want::Sized(Size::S64),
     }
 }
 

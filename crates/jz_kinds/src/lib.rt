@@ -16,3 +16,6 @@ mod wants;
 
 pub use functions::{body_fault, constants_fault, statement_fault};
 pub use lengths::{Lengths, lengths_fault};
+pub use operators::Group;
+pub use signatures::Role;
+pub use wants::{Form, Want};

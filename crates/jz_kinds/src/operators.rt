@@ -8,8 +8,8 @@ use jz_tree::BinOp;
 use jz_words::Size;
 
 /// The operators by what they take and give.
-#[derive(Clone, Copy, Debug, PartialEq, Eq)]
-pub(crate) enum Group {
+#[derive(Clone, Copy)]
+pub enum Group {
     /// Of two bools.
     Logic,
     /// Of two values, with a bool as result.

@@ -55,11 +55,11 @@ pub(crate) fn left_fault(to: &Lval, want: Want) -> Option<Span>
         }
         Lval::Cell(var, at) => {
             let own = unless(fits_cell(cell_size(known(var)), want), var.span);
-            earlier_of(own, fault(at.get(), Want::Index))
+            earlier_of(own, fault(at.get(), Want::Sized(Size::S64)))
         }
         Lval::Store(access) => {
             let own = unless(fits_access(access.size, want), access.span);
-            earlier_of(own, fault(access.at.get(), Want::Index))
+            earlier_of(own, fault(access.at.get(), Want::Sized(Size::S64)))
         }
     }
 }
@@ -128,7 +128,7 @@ fn takes_form(want: Want, to: Form) -> bool
     match want {
         Want::Truth => to.truth,
         Want::Word(size) => takes_word(Some(size), to),
-        Want::Int | Want::AnyWord | Want::Index | Want::Unsized => takes_word(None, to),
+        Want::Int | Want::AnyWord | Want::Sized(_) | Want::Unsized => takes_word(None, to),
     }
 }
 

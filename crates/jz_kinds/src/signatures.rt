@@ -6,8 +6,8 @@ ghost use Rattle.jz_kinds.specs.Signatures.{operands_of, results_of};
 use jz_tree::Intrinsic;
 
 /// What an argument or result of an intrinsic is.
-#[derive(Clone, Copy, Debug, PartialEq, Eq)]
-pub(crate) enum Role {
+#[derive(Clone, Copy)]
+pub enum Role {
     Flag,
     /// A value of the intrinsic's size.
     Value,

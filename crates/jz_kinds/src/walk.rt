@@ -9,8 +9,8 @@ ghost use Rattle.jz_scopes.specs.Order.{earliest};
 use crate::forms::{inline, or, size, truth};
 use crate::operators::{Group, gives, group_of, left_of, right_of, stops, takes_carry};
 use crate::wants::{
-    Form, Want, cell_size, fits_access, fits_cell, fits_int, fits_known, fits_truth, fits_word,
-    sized_want,
+    Form, Want, cast_want, cell_size, fits_access, fits_cell, fits_int, fits_known, fits_truth,
+    fits_word,
 };
 use jz_io::Span;
 use jz_scopes::{earlier_of, known, unless};
@@ -54,13 +54,13 @@ pub(crate) fn first(e: &Expr, e_inline: bool, want: Want) -> Option<Span>
             Expr::Var(var) => return earlier_of(best, unless(fits_known(known(var), w), var.span)),
             Expr::Cell(var, at) => {
                 best = earlier_of(best, unless(fits_cell(cell_size(known(var)), w), var.span));
-                w = Want::Index;
+                w = Want::Sized(Size::S64);
                 cur = at.get();
                 whole = inline(cur);
             }
             Expr::Load(access) => {
                 best = earlier_of(best, unless(fits_access(access.size, w), access.span));
-                w = Want::Index;
+                w = Want::Sized(Size::S64);
                 cur = access.at.get();
                 whole = inline(cur);
             }
@@ -81,7 +81,7 @@ pub(crate) fn first(e: &Expr, e_inline: bool, want: Want) -> Option<Span>
                 best = earlier_of(best, unless(fits_word(*z, w), *at));
                 cur = a.get();
                 whole = inline(cur);
-                w = sized_want(true, size(cur));
+                w = cast_want(size(cur));
             }
             Expr::Bin(op, a, b, at) => {
                 let group = group_of(*op);

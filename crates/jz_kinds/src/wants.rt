@@ -1,22 +1,22 @@
 //! What a place wants, and what fits it.
 
 ghost use Rattle.std.specs.Prelude.{◌≡◌};
-ghost use Rattle.jz_kinds.specs.Wants.{fits_int, fits_truth, fits_word, fits_access, fits_known, fits_cell, known_size, cell_size, known_truth, own_size, sized_want};
+ghost use Rattle.jz_kinds.specs.Wants.{fits_int, fits_truth, fits_word, fits_access, fits_known, fits_cell, known_size, cell_size, known_truth, own_size, cast_want, sized_want};
 
 use jz_scopes::{Declared, Kind, same_size};
 use jz_words::Size;
 
 /// What a place wants.
-#[derive(Clone, Copy, Debug, PartialEq, Eq)]
-pub(crate) enum Want {
+#[derive(Clone, Copy)]
+pub enum Want {
     /// A number that is known when the text is compiled.
     Int,
     /// A bool.
     Truth,
     /// A word that says its size itself.
     AnyWord,
-    /// A number or a word of 64 bits, as an index or an address.
-    Index,
+    /// A number, or a word of that size that says its size itself: of 64 bits as an index or an address, and under a cast.
+    Sized(Size),
     /// A number to which nothing gives a size.
     Unsized,
     /// A word of that size.
@@ -24,14 +24,14 @@ pub(crate) enum Want {
 }
 
 /// What an expression is by itself.
-#[derive(Clone, Copy, Debug, PartialEq, Eq)]
-pub(crate) struct Form {
+#[derive(Clone, Copy)]
+pub struct Form {
     /// The size of the word that it is, where it says one.
-    pub(crate) size: Option<Size>,
+    pub size: Option<Size>,
     /// Whether it is a bool.
-    pub(crate) truth: bool,
+    pub truth: bool,
     /// Whether its value is known when the text is compiled.
-    pub(crate) inline: bool,
+    pub inline: bool,
 }
 
 pub(crate) fn fits_int(want: Want) -> bool
@@ -39,7 +39,7 @@ pub(crate) fn fits_int(want: Want) -> bool
 {
     match want {
         Want::Truth | Want::AnyWord => false,
-        Want::Int | Want::Index | Want::Unsized | Want::Word(_) => true,
+        Want::Int | Want::Sized(_) | Want::Unsized | Want::Word(_) => true,
     }
 }
 
@@ -53,9 +53,8 @@ pub(crate) fn fits_word(size: Size, want: Want) -> bool
     ensures { result ≡ fits_word size want }
 {
     match want {
-        Want::Word(wanted) => same_size(size, wanted),
+        Want::Word(wanted) | Want::Sized(wanted) => same_size(size, wanted),
         Want::AnyWord => true,
-        Want::Index => same_size(size, Size::S64),
         Want::Int | Want::Truth | Want::Unsized => false,
     }
 }
@@ -134,6 +133,16 @@ pub(crate) fn own_size(size: Option<Size>) -> Want
     match size {
         Some(size) => Want::Word(size),
         None => Want::Unsized,
+    }
+}
+
+/// What the operand of a cast wants.
+pub(crate) fn cast_want(size: Option<Size>) -> Want
+    ensures { result ≡ cast_want size }
+{
+    match size {
+        Some(size) => Want::Sized(size),
+        None => Want::AnyWord,
     }
 }
 

@@ -1,7 +1,7 @@
 use jz_data::Seq;
 
 /// What a step of the machine shows.
-#[derive(Clone, Copy, Debug, PartialEq, Eq)]
+#[derive(Clone, Copy, PartialEq, Eq)]
 pub enum Event {
     /// Whether a conditional jump was taken.
     Branch(bool),

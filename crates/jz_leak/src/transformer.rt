@@ -1,7 +1,7 @@
 use jz_data::Seq;
 
 /// A number of an event, by the leaked numbers of a statement and the stack pointer at entry.
-#[derive(Clone, Copy, Debug, PartialEq, Eq)]
+#[derive(Clone, Copy, PartialEq, Eq)]
 pub enum Form {
     /// A constant.
     Num(u64),
@@ -14,7 +14,7 @@ pub enum Form {
 }
 
 /// An event of the machine, with a form for each of its numbers.
-#[derive(Clone, Copy, Debug, PartialEq, Eq)]
+#[derive(Clone, Copy, PartialEq, Eq)]
 pub enum Out {
     /// Whether the jump is taken is fixed here.
     Branch(bool),
@@ -26,14 +26,14 @@ pub enum Out {
 
 /// One case for each item of a leak.
 #[cycle(transformer)]
-#[derive(Debug, Drop, PartialEq, Eq)]
+#[derive(Drop, PartialEq, Eq)]
 pub struct Tr {
     pub cases: Seq<Case>,
 }
 
 /// What an item of a leak becomes. The lists of a condition and of a call see the numbers of that condition or call.
 #[cycle(transformer)]
-#[derive(Debug, Drop, PartialEq, Eq)]
+#[derive(Drop, PartialEq, Eq)]
 pub enum Case {
     /// The events of an operation.
     Op(Seq<Out>),
@@ -64,7 +64,7 @@ pub enum Case {
 }
 
 /// The transformer of a function: the events before its body, those of the body, and those after it.
-#[derive(Debug, Drop, PartialEq, Eq)]
+#[derive(Drop, PartialEq, Eq)]
 pub struct Transformer {
     pub before: Seq<Out>,
     pub body: Tr,

@@ -16,7 +16,7 @@ use jz_data::Seq;
 use std::alloc::{AllocError, Global};
 
 /// How far a walk came.
-#[derive(Clone, Copy, Debug, PartialEq, Eq)]
+#[derive(Clone, Copy, PartialEq, Eq)]
 pub enum Reach {
     /// To the end of its items.
     End,

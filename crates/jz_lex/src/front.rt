@@ -17,7 +17,7 @@ use super::table::begins;
 use super::token::LexKind;
 
 /// What sort of lexeme stands somewhere.
-#[derive(Clone, Copy, Debug, PartialEq, Eq)]
+#[derive(Clone, Copy, PartialEq, Eq)]
 pub(super) enum Shape {
     Word,
     Number(i128),
@@ -27,7 +27,7 @@ pub(super) enum Shape {
 }
 
 /// What stands at the front of a text: a blank byte or a comment and its length, a lexeme and its length, or no token.
-#[derive(Clone, Copy, Debug, PartialEq, Eq)]
+#[derive(Clone, Copy, PartialEq, Eq)]
 pub(super) enum Front {
     Skipped(usize),
     Lexeme(Shape, usize),

@@ -5,13 +5,13 @@ use jz_io::Span;
 use jz_words::Size;
 
 /// A token, and the place of its first byte. The end of the text is one, just past the last byte.
-#[derive(Debug, Drop, PartialEq, Eq)]
+#[derive(Drop, PartialEq, Eq)]
 pub struct Token {
     pub kind: TokenKind,
     pub span: Span,
 }
 
-#[derive(Debug, Drop, PartialEq, Eq)]
+#[derive(Drop, PartialEq, Eq)]
 pub enum TokenKind {
     Ident(Text),
     Keyword(Text),
@@ -28,7 +28,7 @@ pub enum TokenKind {
 pub type Tokens = Seq<Token>;
 
 /// Why a text has no token at a place.
-#[derive(Clone, Copy, Debug, PartialEq, Eq)]
+#[derive(Clone, Copy, PartialEq, Eq)]
 pub enum LexKind {
     /// A byte that begins no token, as the quote of a string that its line does not close.
     BadByte,
@@ -38,7 +38,7 @@ pub enum LexKind {
     OpenComment,
 }
 
-#[derive(Clone, Copy, Debug, PartialEq, Eq)]
+#[derive(Clone, Copy, PartialEq, Eq)]
 pub struct LexFault {
     pub kind: LexKind,
     pub span: Span,

@@ -5,7 +5,7 @@ use jz_words::Size;
 use x64_insn::Reg;
 
 /// A parameter or a result, and the register that holds it in its low bits.
-#[derive(Debug, Drop, PartialEq, Eq)]
+#[derive(Drop, PartialEq, Eq)]
 pub struct Arg {
     pub name: Text,
     pub size: Size,
@@ -13,7 +13,7 @@ pub struct Arg {
 }
 
 /// A precondition of a function.
-#[derive(Debug, Drop, PartialEq, Eq)]
+#[derive(Drop, PartialEq, Eq)]
 pub enum Pre {
     /// From the parameter on, `factor * variable + constant` bytes are valid; without a variable `constant` bytes.
     Region {
@@ -36,7 +36,7 @@ pub enum Pre {
 }
 
 /// A compiled export function: what a caller has to know, its bytes and its transformer.
-#[derive(Debug, Drop, PartialEq, Eq)]
+#[derive(Drop, PartialEq, Eq)]
 pub struct Compiled {
     pub name: Text,
     pub args: Seq<Arg>,

@@ -12,7 +12,7 @@ use jz_first_tree::{Fun, Var};
 use std::alloc::{AllocError, Global};
 
 /// The number of the first variable of each name, and how many variables there are.
-#[derive(Debug, Drop)]
+#[derive(Drop)]
 pub(crate) struct Numbers {
     first: IndexMap<Text, u32>,
     count: u32,

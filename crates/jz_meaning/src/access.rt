@@ -21,7 +21,7 @@ use jz_words::{Size, Word};
 use std::alloc::AllocError;
 
 /// What a variable can hold, by its declaration.
-#[derive(Clone, Copy, Debug, PartialEq, Eq)]
+#[derive(Clone, Copy, PartialEq, Eq)]
 pub enum Kind {
     /// Nothing: it has no declaration, or is an array whose length is no written number.
     Undeclared,

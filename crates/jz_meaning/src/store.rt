@@ -13,7 +13,7 @@ use jz_data::Text;
 use std::alloc::{AllocError, Global};
 
 /// A variable of a name, or one cell of it where it is an array.
-#[derive(Clone, Copy, Debug, PartialEq, Eq, Hash)]
+#[derive(Clone, Copy, PartialEq, Eq, Hash)]
 struct Place {
     /// Which copy of a function's variables it belongs to.
     copy: u32,
@@ -21,7 +21,7 @@ struct Place {
 }
 
 /// The values of variables and of cells. Each is found without going through all of them.
-#[derive(Debug, Drop)]
+#[derive(Drop)]
 pub struct Store {
     alloc: Global,
     names: IndexMap<Text, IndexMap<Place, Option<Value>>>,

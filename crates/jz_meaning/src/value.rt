@@ -9,7 +9,7 @@ use jz_io::Span;
 use jz_words::Word;
 
 /// What an expression is.
-#[derive(Clone, Copy, Debug, PartialEq, Eq)]
+#[derive(Clone, Copy, PartialEq, Eq)]
 pub enum Value {
     Word(Word),
     /// A flag, or the answer of a condition.
@@ -19,7 +19,7 @@ pub enum Value {
 }
 
 /// Why a run is stuck. At one access Bounds comes before Init, and Address before Align.
-#[derive(Clone, Copy, Debug, PartialEq, Eq)]
+#[derive(Clone, Copy, PartialEq, Eq)]
 pub enum Why {
     /// An index past the cells of an array.
     Bounds,
@@ -34,7 +34,7 @@ pub enum Why {
 }
 
 /// Where a run is stuck, and why.
-#[derive(Clone, Copy, Debug, PartialEq, Eq)]
+#[derive(Clone, Copy, PartialEq, Eq)]
 pub struct Stuck {
     pub span: Span,
     pub why: Why,

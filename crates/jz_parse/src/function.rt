@@ -14,14 +14,14 @@ use jz_tree::{Fun, FunKind, Stmt, Var};
 use std::alloc::Global;
 
 /// A declaration of variables, or a statement.
-#[derive(Debug, Drop, PartialEq, Eq)]
+#[derive(Drop, PartialEq, Eq)]
 pub enum Item {
     Declares(Seq<Var>),
     Does(Stmt),
 }
 
 /// What stands between the braces of a function.
-#[derive(Debug, Drop, PartialEq, Eq)]
+#[derive(Drop, PartialEq, Eq)]
 pub struct Body {
     pub vars: Seq<Var>,
     pub stmts: Seq<Stmt>,

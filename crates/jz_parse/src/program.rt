@@ -14,7 +14,7 @@ use jz_tree::{Const, Fun, Program};
 use std::alloc::Global;
 
 /// A constant or a function.
-#[derive(Debug, Drop, PartialEq, Eq)]
+#[derive(Drop, PartialEq, Eq)]
 pub enum Part {
     Constant(Const),
     Function(Fun),

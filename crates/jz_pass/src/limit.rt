@@ -10,7 +10,7 @@ use jz_io::Span;
 pub const MOST_STATEMENTS: u64 = 65_536;
 
 /// Which limit is passed.
-#[derive(Clone, Copy, Debug, PartialEq, Eq)]
+#[derive(Clone, Copy, PartialEq, Eq)]
 pub enum LimitKind {
     /// The number of statements.
     Expand,
@@ -19,7 +19,7 @@ pub enum LimitKind {
 }
 
 /// A limit that a function passes. The place is the function's name, or the constant.
-#[derive(Debug, Drop, PartialEq, Eq)]
+#[derive(Drop, PartialEq, Eq)]
 pub struct Limit {
     pub kind: LimitKind,
     /// The name of the function.

@@ -11,7 +11,7 @@ use jz_tree::{Access, BinOp, Expr, Var};
 use std::alloc::{AllocError, Global};
 
 /// An operation on the left side of an expression, without its first operand.
-#[derive(Debug, Drop)]
+#[derive(Drop)]
 struct Step {
     op: BinOp,
     right: Expr,
@@ -19,7 +19,7 @@ struct Step {
 }
 
 /// The left side of an expression: its operations from the outermost, and the operand where it ends.
-#[derive(Debug, Drop)]
+#[derive(Drop)]
 struct Side {
     steps: Vec<Step>,
     first: Expr,

@@ -15,7 +15,7 @@ use jz_tree::{Const, Decl, Expr, Storage, Ty};
 use std::alloc::{AllocError, Global};
 
 /// The constants of a program by their names: where each stands, and its number where it has one.
-#[derive(Debug, Drop)]
+#[derive(Drop)]
 pub struct ConstantTable {
     places: Places,
     values: ByName<i128>,

@@ -94,8 +94,8 @@ fn at_the_ends(rt: HostRuntime) -> Result<(), Fail> {
     let alloc = rt.alloc();
     for (op, a, b, wanted) in ROWS {
         let e = Expr::Bin(op, operand(alloc, a)?, operand(alloc, b)?, HERE);
-        assert_eq!(rt; on_integers(op, a, b), wanted, "{a} {op:?} {b}");
-        assert_eq!(rt; inline_value(alloc, &NoNumbers, &e)?, wanted);
+        assert!(rt; on_integers(op, a, b) == wanted, "{a} and {b}");
+        assert!(rt; inline_value(alloc, &NoNumbers, &e)? == wanted);
         assert_eq!(rt; written_number(&e), number_of(wanted));
     }
     Ok(())

@@ -255,7 +255,7 @@ fn takes_long_texts(rt: HostRuntime) -> Result<(), Fail> {
         // Three of them are a comment and a sign.
         (b"/*".as_slice(), 524_288, open_at(1_048_573)),
     ] {
-        assert_eq!(rt; repeated(&rt, alloc, piece, times)?, want);
+        assert!(rt; repeated(&rt, alloc, piece, times)? == want);
     }
     Ok(())
 }

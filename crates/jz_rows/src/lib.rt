@@ -7,11 +7,15 @@ mod integer_tests;
 #[cfg(test)]
 mod lex_tests;
 #[cfg(test)]
+mod names;
+#[cfg(test)]
 mod outside_tests;
 #[cfg(test)]
 mod parse_tests;
 #[cfg(test)]
 mod pattern_tests;
+#[cfg(test)]
+mod statement_tests;
 #[cfg(test)]
 mod tree_tests;
 #[cfg(test)]

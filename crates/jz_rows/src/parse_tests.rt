@@ -1,5 +1,6 @@
 //! Texts with the programs and faults that the language's rules give by hand.
 
+use crate::names::operation_name;
 use jz_data::{Failure, Seq, Text};
 use jz_io::Span;
 use jz_lex::{Tokens, lex};
@@ -77,9 +78,9 @@ fn expr_text(alloc: Global, expr: &Expr) -> Result<String, AllocError> {
             let first = expr_text(alloc, left.get())?;
             let second = expr_text(alloc, right.get())?;
             format!(in alloc;
-                "({} {:?}@{} {})",
+                "({} {}@{} {})",
                 first.as_str(),
-                op,
+                operation_name(*op),
                 span.col,
                 second.as_str()
             )
@@ -238,8 +239,8 @@ fn assign_text(
 fn kind_text(alloc: Global, kind: &StmtKind) -> Result<String, AllocError> {
     match kind {
         StmtKind::Assign { to, op, rhs, cond } => {
-            let op = format!(in alloc; "{:?}", op)?;
-            assign_text(alloc, to, rhs, cond, op.as_str())
+            let op = op.map(operation_name).unwrap_or("None");
+            assign_text(alloc, to, rhs, cond, op)
         }
         StmtKind::If(cond, then, other) => {
             let cond = expr_text(alloc, cond)?;
@@ -491,11 +492,11 @@ static ROWS: [(&str, &str); 59] = [
     ),
     (
         "export fn f() {a[i + 1] >>s= 3 if b <s 2;}",
-        "export f( ) { 16: a[(i@18 Add@18 1@22)] Some(Sar) 3@30 if (b@35 LtS@35 2@40); return }",
+        "export f( ) { 16: a[(i@18 Add@18 1@22)] Sar 3@30 if (b@35 LtS@35 2@40); return }",
     ),
     (
         "export fn f() {cf, x += c;}",
-        "export f( ) { 16: cf@16 x@20 Some(Add) c@25 if always; return }",
+        "export f( ) { 16: cf@16 x@20 Add c@25 if always; return }",
     ),
     (
         "export fn f() {#loud _, x = #add(x, (u64)[p + e]);}",
@@ -527,11 +528,11 @@ static ROWS: [(&str, &str); 59] = [
     ),
     (
         "export fn f() {_ , a [ 1 ] , [ b ] <<r= # f ( a , 2 ) if c ;}",
-        "export f( ) { 16: _ a[1@24] [:b@32 @30] Some(Rol) #f@41(a@47 2@51 ) if c@58; return }",
+        "export f( ) { 16: _ a[1@24] [:b@32 @30] Rol #f@41(a@47 2@51 ) if c@58; return }",
     ),
     (
         "export fn f() {# a # [ b = 1 , c ] a /s= f ( b ) ;}",
-        "export f( ) { #a@16 #b=1@20 #c@20 36: a@36 Some(DivS) f@42(b@46 ) if always; return }",
+        "export f( ) { #a@16 #b=1@20 #c@20 36: a@36 DivS f@42(b@46 ) if always; return }",
     ),
     (
         "export fn f() {if a { } else { f ( ) ; f ( ) ; }}",

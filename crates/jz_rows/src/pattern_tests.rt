@@ -1,5 +1,6 @@
 // Statements and the rows that they match. A row has the results, a sign, and the operands, each before its operator:
 // `r1 r2 8 * + []` is `[r1 + r2 * 8]`, `t r1 @` is `t[r1]`.
+use crate::names::intrinsic_name;
 use jz_data::{Boxed, Seq, Text};
 use jz_io::Span;
 use jz_select::{Pattern, immediate, select};
@@ -210,7 +211,7 @@ fn told(alloc: Global, found: Option<Pattern>) -> Result<String, AllocError> {
         None => String::from_str(alloc, "-"),
         Some(Pattern::P(row)) => format!(in alloc; "{row}"),
         Some(Pattern::Condition) => String::from_str(alloc, "condition"),
-        Some(Pattern::Intrinsic(name)) => format!(in alloc; "{name:?}"),
+        Some(Pattern::Intrinsic(name)) => String::from_str(alloc, intrinsic_name(name)),
     }
 }
 
@@ -426,7 +427,7 @@ fn immediates(rt: HostRuntime) {
         (Size::S8, (1 << 64) - 1, Some(-1)),
     ];
     for (size, number, wanted) in rows {
-        assert_eq!(rt; immediate(size, number), wanted, "{size:?} {number}");
+        assert_eq!(rt; immediate(size, number), wanted, "{number}");
     }
 }
 
@@ -460,6 +461,6 @@ fn a_long_address(rt: HostRuntime) -> Result<(), Fail> {
         rhs: Rhs::Value(Expr::Bin(BinOp::Add, left, right, HERE)),
         cond: None,
     };
-    assert_eq!(rt; selected(alloc, kind), Some(Pattern::P(2)));
+    assert!(rt; selected(alloc, kind) == Some(Pattern::P(2)));
     Ok(())
 }

@@ -2,4 +2,3 @@ pub mod Steps
 pub mod TableLaws
 pub mod TwiceLaws
 pub mod CopyLaws
-pub mod RowLaws

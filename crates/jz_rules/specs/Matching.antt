@@ -1,6 +1,6 @@
 -- NoInstruction: a statement matches a row of the tables, and so do the copies of a call.
 use Rattle.std.specs.Prelude.{Bool, true, false, not, ◌&&◌, ◌||◌, is_some, if◌then◌else◌, List, [], ◌∷◌, Option, Some, None}
-use Rattle.std.specs.List.{list_all, list_any, zip}
+use Rattle.std.specs.List.{list_all, zip}
 use Rattle.jz_io.specs.declared.span.Span.{Span}
 use Rattle.jz_tree.specs.declared.expr.Expr.{Expr}
 use Rattle.jz_tree.specs.declared.expr.Ty.{Ty}
@@ -15,9 +15,7 @@ use Rattle.jz_tree.specs.declared.stmt.Rhs.TheVariants as rhs
 use Rattle.jz_tree.specs.declared.stmt.Stmt.{Stmt}
 use Rattle.jz_tree.specs.declared.stmt.StmtKind.{StmtKind}
 use Rattle.jz_tree.specs.declared.stmt.StmtKind.TheOpen.{StmtKind-F}
-use Rattle.jz_select.specs.declared.shape.Shape.{Shape}
-use Rattle.jz_select.specs.Selected.{rows}
-use Rattle.jz_select.specs.Shapes.{assign_of, shape_of}
+use Rattle.jz_select.specs.Selected.{selected, copied}
 use Rattle.jz_scopes.specs.Order.{unless}
 use Rattle.jz_scopes.specs.Parts.{Layer, layer_of}
 use Rattle.jz_scopes.specs.Kinds.{known_of, is_inline_int, is_inline, is_word}
@@ -48,17 +46,14 @@ needs_row (StmtKind-F.For i from down to b) = false
 needs_row (StmtKind-F.Mark vs) = false
 
 -- ---- rows
--- some row of the tables matches
-unfoldable pub some_row : Shape → Bool
-some_row s = list_any (λ r. r.1 s) rows
-
--- of an `if` or `while` it is the condition that matches
+-- a row of the tables is selected: one that matches whichever way comparisons of indices go, of an `if` or `while` its
+-- condition
 abbrev pub has_row : StmtKind → Bool
-has_row k = some_row (shape_of k)
+has_row k = is_some (selected k)
 
 -- `d = e`
 abbrev pub has_copy : Lval → Expr → Bool
-has_copy d e = some_row (assign_of None d None e)
+has_copy d e = is_some (copied d e)
 
 -- ---- the copies of a call, of words alone
 abbrev pub is_word_left : Lval → Bool

@@ -4,20 +4,50 @@ ghost use Rattle.std.specs.Prelude.{◌≡◌, IfOk};
 ghost use Rattle.jz_scopes.specs.Order.{earliest, first_in};
 ghost use Rattle.jz_scopes.specs.Lent.{these, paired};
 ghost use Rattle.jz_scopes.specs.Parts.{layer_of};
-ghost use Rattle.jz_rules.specs.Indexes.{indexed_at, indexed_in, indexed_by};
+ghost use Rattle.jz_rules.specs.Indexes.{is_inline_integer, indexed_at, indexed_in, indexed_by};
 
 use jz_io::Span;
 use jz_scopes::{
-    cells, cells_set, earlier_of, exprs_of, is_inline, is_register_array, known, span_of, unless,
+    cells, cells_set, earlier_of, exprs_of, is_inline_int, is_register_array, known, span_of,
+    unless,
 };
+use jz_select::gives_number;
 use jz_tree::{Expr, Stmt, Var};
 use std::alloc::{AllocError, Global};
+
+/// Whether it is an integer that is known when the text is compiled; an unknown name counts as one.
+fn is_inline_integer(expr: &Expr) -> bool
+    ensures { result ≡ is_inline_integer expr.now }
+{
+    let mut cur = expr;
+    loop {
+        match cur {
+            Expr::Num(_, _) => return true,
+            Expr::Bool(_, _) => return false,
+            Expr::Var(var) => return is_inline_int(known(var)),
+            Expr::Cell(_, _) => return false,
+            Expr::Load(_) => return false,
+            Expr::Neg(e, _) => cur = e.get(),
+            Expr::Not(e, _) => cur = e.get(),
+            Expr::Cast { .. } => return false,
+            Expr::Bin(op, left, right, _) => {
+                if !gives_number(*op) {
+                    return false;
+                }
+                if !is_inline_integer(right.get()) {
+                    return false;
+                }
+                cur = left.get();
+            }
+        }
+    }
+}
 
 fn indexed_at(array: &Var, index: &Expr) -> Option<Span>
     ensures { result ≡ earliest (indexed_at (array.now, index.now)) }
 {
     unless(
-        !is_register_array(known(array)) || is_inline(index),
+        !is_register_array(known(array)) || is_inline_integer(index),
         span_of(index),
     )
 }
@@ -50,7 +80,7 @@ fn indexed_in_all(alloc: Global, exprs: &[&Expr]) -> Result<Option<Span>, AllocE
     Ok(first)
 }
 
-/// The first index of a register array, in a statement without those that stand in it, that is not inline.
+/// The first index of a register array, in a statement without those that stand in it, that is no inline integer.
 #[tactic(auto, using(jz_scopes::proofs::Earliest::joining))]
 pub fn indexed(alloc: Global, stmt: &Stmt) -> Result<Option<Span>, AllocError>
     ensures { IfOk result (λ at. at ≡ earliest (indexed_by (layer_of stmt.now))) }

@@ -71,14 +71,12 @@ fn needs_row(kind: &StmtKind) -> bool
     }
 }
 
-#[tactic(auto, using(crate::proofs::RowLaws::row_is))]
 fn has_row(stmt: &Stmt) -> bool
     ensures { result ≡ has_row stmt.now.kind }
 {
     select(stmt).is_some()
 }
 
-#[tactic(auto, using(crate::proofs::RowLaws::copy_is))]
 fn has_copy(to: &Lval, e: &Expr) -> bool
     ensures { result ≡ has_copy to.now e.now }
 {

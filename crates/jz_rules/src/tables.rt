@@ -12,7 +12,7 @@ use jz_scopes::ByName;
 use std::alloc::{AllocError, Global};
 
 /// A set of names.
-#[derive(Debug, Drop)]
+#[derive(Drop)]
 pub(crate) struct Names {
     texts: IndexSet<Text>,
 }
@@ -41,7 +41,7 @@ impl Names {
 }
 
 /// A set of numbers.
-#[derive(Debug, Drop)]
+#[derive(Drop)]
 pub(crate) struct Numbers {
     numbers: IndexSet<usize>,
 }

@@ -15,7 +15,7 @@ use jz_scopes::{earlier_of, unless};
 use std::alloc::{AllocError, Global};
 
 /// The names of the arrays that were passed, and of those that are written.
-#[derive(Debug, Drop)]
+#[derive(Drop)]
 struct Seen {
     all: Names,
     written: Names,

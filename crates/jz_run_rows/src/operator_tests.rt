@@ -13,7 +13,7 @@ use std::process::Abort;
 use std::test::Fail;
 
 /// A word by what it is at each size.
-#[derive(Clone, Copy, Debug)]
+#[derive(Clone, Copy)]
 enum Edge {
     Number(i128),
     /// The least signed word.
@@ -26,7 +26,7 @@ enum Edge {
     Width,
 }
 
-#[derive(Clone, Copy, Debug)]
+#[derive(Clone, Copy)]
 enum Wanted {
     Is(Edge),
     Flag(bool),
@@ -145,22 +145,17 @@ fn answer(size: Size, wanted: Wanted) -> Result<Value, Stuck> {
     }
 }
 
-fn answer_row(rt: &impl Abort, alloc: Global, size: Size, row: Row) -> Result<(), Fail> {
+fn is_answered(alloc: Global, size: Size, row: Row) -> Result<bool, Fail> {
     let (op, a, b, wanted) = row;
     let mut out = Seq::new(alloc);
     let x = Value::Word(word(size, a));
     let y = Value::Word(word(size, b));
-    let got = binary(op, AT, None, x, y, &mut out)?;
-    assert!(rt;
-        got == answer(size, wanted),
-        "{op:?} {a:?} {b:?} at {size:?}"
-    );
-    Ok(())
+    Ok(binary(op, AT, None, x, y, &mut out)? == answer(size, wanted))
 }
 
 fn answer_rows(rt: &impl Abort, alloc: Global, size: Size, rows: &[Row]) -> Result<(), Fail> {
-    for row in rows {
-        answer_row(rt, alloc, size, *row)?;
+    for (i, row) in rows.iter().enumerate() {
+        assert!(rt; is_answered(alloc, size, *row)?, "row {i}");
     }
     Ok(())
 }
@@ -174,7 +169,7 @@ fn words_at_their_edges(rt: HostRuntime) -> Result<(), Fail> {
 }
 
 /// A value, a word of it being a byte.
-#[derive(Clone, Copy, Debug)]
+#[derive(Clone, Copy)]
 enum Part {
     Byte(u64),
     Whole(i128),
@@ -209,17 +204,16 @@ fn value(part: Part) -> Value {
     }
 }
 
-fn answer_mixed(rt: &impl Abort, alloc: Global, row: Mixed) -> Result<(), Fail> {
+fn is_mixed(alloc: Global, row: Mixed) -> Result<bool, Fail> {
     let (op, x, y, wanted) = row;
     let mut out = Seq::new(alloc);
     let got = binary(op, AT, Some(Size::S8), value(x), value(y), &mut out)?;
-    assert!(rt; got.ok() == wanted.map(value), "{op:?} {x:?} {y:?}");
-    Ok(())
+    Ok(got.ok() == wanted.map(value))
 }
 
 fn answer_all_mixed(rt: &impl Abort, alloc: Global, rows: &[Mixed]) -> Result<(), Fail> {
-    for row in rows {
-        answer_mixed(rt, alloc, *row)?;
+    for (i, row) in rows.iter().enumerate() {
+        assert!(rt; is_mixed(alloc, *row)?, "row {i}");
     }
     Ok(())
 }
@@ -235,13 +229,13 @@ fn numbers_and_values_alone(rt: HostRuntime) -> Result<(), Fail> {
     let got = binary(BinOp::DivS, AT, None, byte(249), byte(2), &mut out)?;
     assert!(rt; got.ok() == Some(byte(253)));
     assert!(rt; out.as_slice() == [255, 249, 2].as_slice());
-    assert_eq!(rt; negated_value(byte(1)), Some(byte(255)));
-    assert_eq!(rt; negated_value(Value::Int(i128::MIN)), None);
-    assert_eq!(rt; inverted_value(byte(0x0f)), byte(0xf0));
-    assert_eq!(rt; inverted_value(Value::Int(0)), Value::Int(-1));
+    assert!(rt; negated_value(byte(1)) == Some(byte(255)));
+    assert!(rt; negated_value(Value::Int(i128::MIN)) == None);
+    assert!(rt; inverted_value(byte(0x0f)) == byte(0xf0));
+    assert!(rt; inverted_value(Value::Int(0)) == Value::Int(-1));
     let wide = Value::Word(Word::truncate(Size::S32, 0xffff_ff80));
-    assert_eq!(rt; cast(Size::S32, true, byte(0x80)), Some(wide));
-    assert_eq!(rt; cast(Size::S8, false, wide), Some(byte(0x80)));
+    assert!(rt; cast(Size::S32, true, byte(0x80)) == Some(wide));
+    assert!(rt; cast(Size::S8, false, wide) == Some(byte(0x80)));
     Ok(())
 }
 
@@ -257,9 +251,9 @@ fn a_store_keeps_each_key(rt: HostRuntime) -> Result<(), Fail> {
     store.put(&a, 1, None, Some(byte(5)))?;
     store.unset(&b, 0, None);
     store.put(&a, 0, None, None)?;
-    assert_eq!(rt; store.get(&a, 0, None), None);
-    assert_eq!(rt; store.get(&a, 1, None), Some(byte(5)));
-    assert_eq!(rt; store.get(&a, 0, Some(1 << 40)), Some(byte(3)));
-    assert_eq!(rt; store.get(&b, 0, None), None);
+    assert!(rt; store.get(&a, 0, None) == None);
+    assert!(rt; store.get(&a, 1, None) == Some(byte(5)));
+    assert!(rt; store.get(&a, 0, Some(1 << 40)) == Some(byte(3)));
+    assert!(rt; store.get(&b, 0, None) == None);
     Ok(())
 }

@@ -14,7 +14,7 @@ use std::process::Abort;
 use std::test::Fail;
 
 /// What stands at the right of `cells[i] + `.
-#[derive(Clone, Copy, Debug)]
+#[derive(Clone, Copy)]
 enum Part {
     /// A variable without a value.
     Unset,
@@ -28,7 +28,7 @@ enum Part {
     Quotient(i128),
 }
 
-#[derive(Clone, Copy, Debug)]
+#[derive(Clone, Copy)]
 enum Wanted {
     Is(u64),
     /// Stuck at that column.
@@ -163,35 +163,64 @@ fn answer(wanted: Wanted) -> Result<Value, Stuck> {
     }
 }
 
-fn value(
+// Whether an expression has this value, beside what it leaks.
+fn is_value(
     alloc: Global,
     e: &Expr,
     store: &Store,
     mem: &MemMap,
-) -> Result<Result<Value, Stuck>, Fail> {
+    wanted: Result<Value, Stuck>,
+) -> bool {
     match value_of(alloc, e, store, mem) {
-        Ok(value) => Ok(Ok(value)),
-        Err(Failure::Refused(stuck)) => Ok(Err(stuck)),
-        Err(Failure::OutOfMemory) => Err("no memory".into()),
+        Ok(value) => wanted == Ok(value),
+        Err(Failure::Refused(stuck)) => wanted == Err(stuck),
+        Err(Failure::OutOfMemory) => false,
     }
 }
 
-fn answer_row(rt: &impl Abort, alloc: Global, row: Row) -> Result<(), Fail> {
-    let (_, _, wanted, numbers) = row;
-    let e = sum(alloc, row)?;
+// Whether an expression comes to this over the cells and the bytes, and leaks these numbers until then.
+fn comes_to(
+    alloc: Global,
+    e: &Expr,
+    size: Option<Size>,
+    wanted: Result<Value, Stuck>,
+    numbers: &[u64],
+) -> Result<bool, AllocError> {
     let store = cells(alloc)?;
     let mem = bytes(alloc)?;
+    leaks(alloc, e, size, &store, &mem, wanted, numbers)
+}
+
+fn leaks(
+    alloc: Global,
+    e: &Expr,
+    size: Option<Size>,
+    store: &Store,
+    mem: &MemMap,
+    wanted: Result<Value, Stuck>,
+    numbers: &[u64],
+) -> Result<bool, AllocError> {
     let mut out = Seq::new(alloc);
-    let got = evaluate(alloc, &e, None, &store, &mem, &mut out)?;
-    assert!(rt; got == answer(wanted), "{row:?}");
-    assert!(rt; out.as_slice() == numbers, "{row:?}");
-    assert!(rt; value(alloc, &e, &store, &mem)? == got, "{row:?}");
-    Ok(())
+    let got = evaluate(alloc, e, size, store, mem, &mut out)?;
+    Ok(got == wanted && out.as_slice() == numbers)
+}
+
+fn has_value(alloc: Global, e: &Expr, wanted: Result<Value, Stuck>) -> Result<bool, AllocError> {
+    let store = cells(alloc)?;
+    let mem = bytes(alloc)?;
+    Ok(is_value(alloc, e, &store, &mem, wanted))
+}
+
+fn is_answered(alloc: Global, row: Row) -> Result<bool, AllocError> {
+    let (_, _, wanted, numbers) = row;
+    let e = sum(alloc, row)?;
+    let wanted = answer(wanted);
+    Ok(comes_to(alloc, &e, None, wanted, numbers)? && has_value(alloc, &e, wanted)?)
 }
 
 fn answer_rows(rt: &impl Abort, alloc: Global, rows: &[Row]) -> Result<(), Fail> {
-    for row in rows {
-        answer_row(rt, alloc, *row)?;
+    for (i, row) in rows.iter().enumerate() {
+        assert!(rt; is_answered(alloc, *row)?, "row {i}");
     }
     Ok(())
 }
@@ -201,58 +230,55 @@ fn sums_with_a_stuck_part(rt: HostRuntime) -> Result<(), Fail> {
     answer_rows(&rt, rt.alloc(), &ROWS)
 }
 
-// What comes out of an expression where a word of that size is wanted, and whether the numbers are these.
-fn is_answered(
-    rt: &impl Abort,
-    alloc: Global,
-    e: Expr,
-    size: Option<Size>,
-    wanted: Result<Value, Stuck>,
-    numbers: &[u64],
-) -> Result<(), Fail> {
-    let store = cells(alloc)?;
-    let mem = bytes(alloc)?;
-    let mut out = Seq::new(alloc);
-    let got = evaluate(alloc, &e, size, &store, &mem, &mut out)?;
-    assert!(rt; got == wanted, "{wanted:?} {numbers:?}");
-    assert!(rt; out.as_slice() == numbers, "{wanted:?} {numbers:?}");
+const NO_VALUE: Wanted = At(12, Why::Init);
+
+// An access whose size nothing gives.
+#[test]
+fn an_access_without_a_size(rt: HostRuntime) -> Result<(), Fail> {
+    let alloc = rt.alloc();
+    let alone = Expr::Load(access(alloc, 0x1000, false)?);
+    assert!(rt; comes_to(alloc, &alone, None, answer(NO_VALUE), &[])?);
     Ok(())
 }
 
-// An access whose size nothing gives, or the other side does; whole numbers; a part that is not asked.
+// An access whose size the other side gives.
 #[test]
-fn expressions_alone(rt: HostRuntime) -> Result<(), Fail> {
+fn an_access_of_the_wanted_size(rt: HostRuntime) -> Result<(), Fail> {
     let alloc = rt.alloc();
-    let init = answer(At(12, Why::Init));
-    let alone = Expr::Load(access(alloc, 0x1000, false)?);
-    is_answered(&rt, alloc, alone, None, init, &[])?;
     let short = Ok(Value::Word(Word::truncate(Size::S16, 0x0403)));
     let beside = Expr::Load(access(alloc, 0x1002, false)?);
-    is_answered(&rt, alloc, beside, Some(Size::S16), short, &[0x1002])?;
-    let quotient = operation(
-        alloc,
-        BinOp::Div,
-        Expr::Num(7, column(12)),
-        Expr::Num(0, column(16)),
-        12,
-    )?;
-    is_answered(&rt, alloc, quotient, None, init, &[])?;
-    let settled = operation(
-        alloc,
-        BinOp::OrElse,
-        Expr::Bool(true, column(4)),
-        unset(alloc)?,
-        4,
-    )?;
-    is_answered(&rt, alloc, settled, None, Ok(Value::Bool(true)), &[])?;
-    let asked = operation(
-        alloc,
-        BinOp::AndThen,
-        Expr::Bool(true, column(4)),
-        unset(alloc)?,
-        4,
-    )?;
-    is_answered(&rt, alloc, asked, None, init, &[])
+    assert!(rt; comes_to(alloc, &beside, Some(Size::S16), short, &[0x1002])?);
+    Ok(())
+}
+
+#[test]
+fn a_quotient_of_whole_numbers(rt: HostRuntime) -> Result<(), Fail> {
+    let alloc = rt.alloc();
+    let divisor = Expr::Num(0, column(16));
+    let quotient = operation(alloc, BinOp::Div, Expr::Num(7, column(12)), divisor, 12)?;
+    assert!(rt; comes_to(alloc, &quotient, None, answer(NO_VALUE), &[])?);
+    Ok(())
+}
+
+// `true` with an operator before what has no value.
+fn before_unset(alloc: Global, op: BinOp) -> Result<Expr, AllocError> {
+    operation(alloc, op, Expr::Bool(true, column(4)), unset(alloc)?, 4)
+}
+
+#[test]
+fn a_part_that_is_not_asked(rt: HostRuntime) -> Result<(), Fail> {
+    let alloc = rt.alloc();
+    let settled = before_unset(alloc, BinOp::OrElse)?;
+    assert!(rt; comes_to(alloc, &settled, None, Ok(Value::Bool(true)), &[])?);
+    Ok(())
+}
+
+#[test]
+fn a_part_that_is_asked(rt: HostRuntime) -> Result<(), Fail> {
+    let alloc = rt.alloc();
+    let asked = before_unset(alloc, BinOp::AndThen)?;
+    assert!(rt; comes_to(alloc, &asked, None, answer(NO_VALUE), &[])?);
+    Ok(())
 }
 
 // A word of 32 bits is written at an address: what comes out, what stands at 0x1000 then, and the numbers.
@@ -308,5 +334,6 @@ fn a_sum_as_long_as_a_text(rt: HostRuntime) -> Result<(), Fail> {
     for _ in 0..350_000 {
         sum = operation(alloc, BinOp::Add, sum, Expr::Num(2, column(5)), 1)?;
     }
-    is_answered(&rt, alloc, sum, None, Ok(Value::Int(700_001)), &[])
+    assert!(rt; comes_to(alloc, &sum, None, Ok(Value::Int(700_001)), &[])?);
+    Ok(())
 }

@@ -5,7 +5,7 @@ use jz_first_meaning::Reason;
 use jz_io::Span;
 
 /// A condition that the facts don't give: where it is asked, what would be wrong, and of which variable.
-#[derive(Debug, Drop, PartialEq, Eq)]
+#[derive(Drop, PartialEq, Eq)]
 pub struct Alarm {
     pub span: Span,
     pub kind: Reason,

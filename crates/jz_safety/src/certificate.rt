@@ -7,7 +7,7 @@ use jz_first_meaning::Expanded;
 use std::marker::Model;
 
 /// A function without an alarm, as `safe` found. Contracts see the function itself.
-#[derive(Debug, Drop)]
+#[derive(Drop)]
 pub struct Safe {
     expanded: Expanded,
 }

@@ -8,7 +8,7 @@ use jz_tree::{Decl, Expr, Lval, Storage, Ty, Var};
 use jz_words::Size;
 
 /// The type of a variable, without the length of an array.
-#[derive(Clone, Copy, Debug, PartialEq, Eq)]
+#[derive(Clone, Copy, PartialEq, Eq)]
 pub enum Kind {
     Int,
     /// A bool.
@@ -20,7 +20,7 @@ pub enum Kind {
 }
 
 /// What is declared of a variable.
-#[derive(Clone, Copy, Debug, PartialEq, Eq)]
+#[derive(Clone, Copy, PartialEq, Eq)]
 pub struct Declared {
     pub storage: Storage,
     pub kind: Kind,

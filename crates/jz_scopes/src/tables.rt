@@ -16,7 +16,7 @@ use jz_tree::{Const, Fun, Var};
 use std::alloc::{AllocError, Global};
 
 /// An item of each name.
-#[derive(Debug, Drop)]
+#[derive(Drop)]
 pub struct ByName<T> {
     items: IndexMap<Text, T>,
 }
@@ -57,7 +57,7 @@ impl<T: Drop> ByName<T> {
 }
 
 /// A place of each name.
-#[derive(Debug, Drop)]
+#[derive(Drop)]
 pub struct Places {
     places: ByName<Span>,
 }

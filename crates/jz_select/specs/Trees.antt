@@ -112,7 +112,3 @@ abbrev pub indices_eq : Option ℤ → Option ℤ → Bool → Bool
 indices_eq None None b = b
 indices_eq (Some m) (Some n) b = int_eq m n
 indices_eq _ _ b = false
-
-abbrev pub index_if : Option Expr → Option Tree
-index_if None = None
-index_if (Some e) = Some (index_of e)

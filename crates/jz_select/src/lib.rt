@@ -2,6 +2,7 @@
 #![tactic(auto)]
 
 mod class;
+mod comparing;
 mod immediates;
 mod look;
 mod operand;
@@ -13,5 +14,6 @@ mod shape;
 mod shaping;
 
 pub use immediates::immediate;
+pub use look::gives_number;
 pub use pattern::Pattern;
 pub use selecting::{equal_trees, one_row, select, select_copy};

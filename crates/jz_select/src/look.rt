@@ -71,6 +71,7 @@ pub fn compares_values(op: BinOp) -> bool
     }
 }
 
+/// Whether it gives an integer of integers.
 pub fn gives_number(op: BinOp) -> bool
     ensures { result ≡ gives_number_is op }
 {

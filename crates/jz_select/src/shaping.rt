@@ -61,7 +61,8 @@ fn first_of(op: BinOp, a: &Expr) -> Option<&Expr>
 }
 
 fn two(d: &Lval, op: BinOp, a: &Expr, b: &Expr) -> Value
-    ensures { result ≡ Value.Two op (beside hardest d.now (first_of_is op a.now) a.now) (beside hardest d.now (first_of_is op a.now) b.now) }
+    ensures { let first = first_of_is op a.now in
+        result ≡ Value.Two op (beside hardest d.now first a.now) (beside hardest d.now first b.now) }
 {
     let first = first_of(op, a);
     Value::Two(op, operand(d, first, a), operand(d, first, b))
@@ -364,7 +365,9 @@ fn stand_apart(q: &Lval, r: &Lval, hi: &Expr, b: &Expr) -> bool
 }
 
 fn division(i: Instance, q: &Lval, r: &Lval, hi: &Expr, lo: &Expr, b: &Expr) -> Shape
-    ensures { result ≡ Shape.Division i.size (dest_of q.now) (dest_of r.now) (class_of hi.now) (class_of lo.now) (class_of b.now) (stand_apart_is hardest q.now r.now hi.now b.now) }
+    ensures { let apart = stand_apart_is hardest q.now r.now hi.now b.now in
+        result ≡ Shape.Division i.size (dest_of q.now) (dest_of r.now)
+        (class_of hi.now) (class_of lo.now) (class_of b.now) apart }
 {
     let apart = stand_apart(q, r, hi, b);
     Shape::Division(

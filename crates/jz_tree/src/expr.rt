@@ -5,7 +5,7 @@ use jz_io::Span;
 use jz_words::Size;
 
 /// Where a value is kept.
-#[derive(Clone, Copy, Debug, PartialEq, Eq)]
+#[derive(Clone, Copy, PartialEq, Eq)]
 pub enum Storage {
     /// In a register, or of an array in a group of registers.
     Reg,
@@ -17,7 +17,7 @@ pub enum Storage {
 
 /// What a value is.
 #[cycle(expression)]
-#[derive(Debug, Drop)]
+#[derive(Drop)]
 pub enum Ty {
     /// A whole number of 128 bits with a sign.
     Int,
@@ -30,7 +30,7 @@ pub enum Ty {
 
 /// What is declared of a variable or a result.
 #[cycle(expression)]
-#[derive(Debug, Drop)]
+#[derive(Drop)]
 pub struct Decl {
     pub storage: Storage,
     pub ty: Ty,
@@ -38,7 +38,7 @@ pub struct Decl {
 
 /// A variable where it stands in the text.
 #[cycle(expression)]
-#[derive(Debug, Drop)]
+#[derive(Drop)]
 pub struct Var {
     pub name: Text,
     /// Which copy of a function's variables it belongs to; 0 in a text that was read.
@@ -52,7 +52,7 @@ pub struct Var {
 
 /// An access to memory. Its span is that of its first token.
 #[cycle(expression)]
-#[derive(Debug, Drop)]
+#[derive(Drop)]
 pub struct Access {
     /// The size that is written; where there is none, that of the other side.
     pub size: Option<Size>,
@@ -63,7 +63,7 @@ pub struct Access {
 }
 
 /// An operation on two values. On words the names without `S` are unsigned.
-#[derive(Clone, Copy, Debug, PartialEq, Eq)]
+#[derive(Clone, Copy, PartialEq, Eq)]
 pub enum BinOp {
     /// `||`, of conditions.
     OrElse,
@@ -99,7 +99,6 @@ pub enum BinOp {
 
 /// An expression. Its span is that of its first token, but for parentheses round the whole of it, which the tree does not keep.
 #[cycle(expression)]
-#[derive(Debug)]
 pub enum Expr {
     /// The number that is written.
     Num(i128, Span),

@@ -6,7 +6,7 @@ ghost use Rattle.jz_tree.specs.Spellings.{sized as sized_is, entry as entry_of, 
 use jz_words::Size;
 
 /// An instruction that a statement names.
-#[derive(Clone, Copy, Debug, PartialEq, Eq)]
+#[derive(Clone, Copy, PartialEq, Eq)]
 pub enum Intrinsic {
     Add,
     Sub,

@@ -5,7 +5,7 @@ use jz_data::{Boxed, Seq, Text};
 use jz_io::Span;
 
 /// What an assignment sets.
-#[derive(Debug, Drop, PartialEq, Eq)]
+#[derive(Drop, PartialEq, Eq)]
 pub enum Lval {
     /// `_`: the value is dropped.
     Skip(Span),
@@ -17,7 +17,7 @@ pub enum Lval {
 }
 
 /// What an assignment sets it to. The span of a call is that of its name, that of an intrinsic that of its `#`.
-#[derive(Debug, Drop, PartialEq, Eq)]
+#[derive(Drop, PartialEq, Eq)]
 pub enum Rhs {
     Value(Expr),
     Call(Text, Seq<Expr>, Span),
@@ -27,7 +27,7 @@ pub enum Rhs {
 
 /// A statement. Its span is that of its first token behind its annotations.
 #[cycle(statement)]
-#[derive(Debug, Drop, PartialEq, Eq)]
+#[derive(Drop, PartialEq, Eq)]
 pub struct Stmt {
     pub notes: Seq<crate::program::Note>,
     pub span: Span,
@@ -35,7 +35,7 @@ pub struct Stmt {
 }
 
 #[cycle(statement)]
-#[derive(Debug, Drop, PartialEq, Eq)]
+#[derive(Drop, PartialEq, Eq)]
 pub enum StmtKind {
     /// `to = rhs`, with an operation `to = to op rhs`, and only where `cond` holds. A call without results sets nothing.
     Assign {

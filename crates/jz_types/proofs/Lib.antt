@@ -2,3 +2,8 @@ pub mod Telling
 pub mod Joins
 pub mod Storing
 pub mod Judging
+pub mod Empty
+pub mod NamesKept
+pub mod StatementsKept
+pub mod ProgramsKept
+pub mod RowsHeld

@@ -3,3 +3,4 @@ pub mod Faults
 pub mod Rules
 pub mod Asking
 pub mod TypedPrograms
+pub mod Guarantees

@@ -52,7 +52,7 @@ impl TypeRule {
 }
 
 /// A rule that fails, and where.
-#[derive(Clone, Copy, Debug, PartialEq, Eq)]
+#[derive(Clone, Copy, PartialEq, Eq)]
 pub struct TypeFault {
     pub rule: TypeRule,
     pub span: Span,

@@ -4,7 +4,7 @@ ghost use Rattle.std.specs.Prelude.{◌≡◌};
 ghost use Rattle.jz_words.specs.Sizes.{bits_of, bytes_of, half, modulus};
 
 /// How many bits a word has.
-#[derive(Clone, Copy, PartialEq, Eq, Debug)]
+#[derive(Clone, Copy, PartialEq, Eq)]
 pub enum Size {
     S8,
     S16,

@@ -6,7 +6,7 @@ ghost use Rattle.jz_words.specs.Sizes.{modulus, signed};
 use crate::size::Size;
 
 /// A word of a size, by its bits as an unsigned number.
-#[derive(Clone, Copy, PartialEq, Eq, Debug)]
+#[derive(Clone, Copy, PartialEq, Eq)]
 pub struct Word {
     size: Size,
     bits: u64,

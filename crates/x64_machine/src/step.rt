@@ -1,7 +1,7 @@
 use x64_insn::FaultKind;
 
 /// What a step answers.
-#[derive(Clone, Copy, Debug, PartialEq, Eq)]
+#[derive(Clone, Copy, PartialEq, Eq)]
 pub enum Step {
     Running,
     /// The return from the entry was made.
