@@ -15,6 +15,8 @@ mod parse_tests;
 #[cfg(test)]
 mod pattern_tests;
 #[cfg(test)]
+mod statement_tests;
+#[cfg(test)]
 mod tree_tests;
 #[cfg(test)]
 mod typing_tests;

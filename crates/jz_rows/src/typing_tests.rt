@@ -154,7 +154,7 @@ fn with_lines(alloc: Global, text: &str) -> Result<String, AllocError> {
     Ok(whole)
 }
 
-fn answer(rt: &impl Abort, alloc: Global, text: &str) -> Result<String, Fail> {
+pub(crate) fn answer(rt: &impl Abort, alloc: Global, text: &str) -> Result<String, Fail> {
     assert!(rt; text.len() < 1000);
     let tokens = lex(alloc, text.as_bytes())
         .ok()
@@ -184,7 +184,7 @@ fn row_is(rt: &impl Abort, alloc: Global, row: &str) -> Result<(), Fail> {
     Ok(())
 }
 
-fn rows_are(rt: &impl Abort, alloc: Global, rows: &str) -> Result<(), Fail> {
+pub(crate) fn rows_are(rt: &impl Abort, alloc: Global, rows: &str) -> Result<(), Fail> {
     for row in rows.lines() {
         row_is(rt, alloc, row)?;
     }

@@ -14,7 +14,7 @@ use reading::{Stop, read_fields};
 use x64_insn::Insn;
 
 /// What bytes begin with: an instruction and how many bytes it has, no instruction whatever follows, or less than a whole one.
-#[derive(Clone, Copy, PartialEq, Eq)]
+#[derive(Clone, Copy)]
 pub enum Decoded {
     Insn { insn: Insn, len: u8 },
     Unknown,

@@ -10,7 +10,7 @@ ghost use Rattle.x64_decode.specs.Decoding.{AreShort, fields_of, may_be_escape, 
 use x64_insn::table::{Row, row_of};
 
 /// Why nothing was read.
-#[derive(Clone, Copy, PartialEq, Eq)]
+#[derive(Clone, Copy)]
 pub enum Stop {
     /// The bytes end before the instruction does.
     Short,

@@ -7,7 +7,7 @@ use crate::types::{Alu, Cond, Reg, Width};
 use jz_words::Size;
 
 /// The size of a row's operands: one byte, or the size that the prefixes give.
-#[derive(Clone, Copy, PartialEq, Eq)]
+#[derive(Clone, Copy)]
 pub enum Operands {
     Bytes,
     Sized,
@@ -15,7 +15,7 @@ pub enum Operands {
 
 /// A row of the table: an instruction, and which fields its operands stand in. The destination is named first; `Rm` is
 /// the operand of ModRM's rm field, `Reg` the register of its reg field, `Imm` an immediate.
-#[derive(Clone, Copy, PartialEq, Eq)]
+#[derive(Clone, Copy)]
 pub enum Row {
     AluRmReg(Alu, Operands),
     AluRegRm(Alu, Operands),

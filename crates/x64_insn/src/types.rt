@@ -41,7 +41,7 @@ pub enum Place {
 }
 
 /// What is known of a flag: an instruction may leave one undefined.
-#[derive(Clone, Copy, PartialEq, Eq)]
+#[derive(Clone, Copy)]
 pub enum FlagVal {
     True,
     False,
@@ -49,7 +49,7 @@ pub enum FlagVal {
 }
 
 /// The condition of a jump, a move or a SETcc, in the order of its code 0 .. 15 (Intel SDM vol. 2, appendix B.1.4.7).
-#[derive(Clone, Copy, PartialEq, Eq)]
+#[derive(Clone, Copy)]
 pub enum Cond {
     O,
     No,
@@ -70,7 +70,7 @@ pub enum Cond {
 }
 
 /// The base of an address.
-#[derive(Clone, Copy, PartialEq, Eq)]
+#[derive(Clone, Copy)]
 pub enum Base {
     Absent,
     Reg(Reg),
@@ -78,7 +78,7 @@ pub enum Base {
 }
 
 /// An address: base + scale * index + displacement, modulo 2^64. The scale is 1, 2, 4 or 8.
-#[derive(Clone, Copy, PartialEq, Eq)]
+#[derive(Clone, Copy)]
 pub struct Mem {
     pub base: Base,
     pub index: Option<(Reg, u8)>,
@@ -86,7 +86,7 @@ pub struct Mem {
 }
 
 /// An operand. An immediate is the signed reading of its bits.
-#[derive(Clone, Copy, PartialEq, Eq)]
+#[derive(Clone, Copy)]
 pub enum Operand {
     Reg(Reg),
     Imm(i64),
@@ -94,7 +94,7 @@ pub enum Operand {
 }
 
 /// The operations on two operands. CMP and TEST set the flags alone.
-#[derive(Clone, Copy, PartialEq, Eq)]
+#[derive(Clone, Copy)]
 pub enum Alu {
     Add,
     Or,
@@ -108,7 +108,7 @@ pub enum Alu {
 }
 
 /// The operations on one operand.
-#[derive(Clone, Copy, PartialEq, Eq)]
+#[derive(Clone, Copy)]
 pub enum One {
     Not,
     Neg,
@@ -117,7 +117,7 @@ pub enum One {
 }
 
 /// Products and quotients over RDX and RAX.
-#[derive(Clone, Copy, PartialEq, Eq)]
+#[derive(Clone, Copy)]
 pub enum Wide {
     Mul,
     Imul,
@@ -126,7 +126,7 @@ pub enum Wide {
 }
 
 /// Rotations and shifts.
-#[derive(Clone, Copy, PartialEq, Eq)]
+#[derive(Clone, Copy)]
 pub enum Shift {
     Rol,
     Ror,
@@ -136,21 +136,21 @@ pub enum Shift {
 }
 
 /// How far a shift goes: an immediate, or the register CL.
-#[derive(Clone, Copy, PartialEq, Eq)]
+#[derive(Clone, Copy)]
 pub enum Count {
     Imm(u8),
     Cl,
 }
 
 /// The width of a jump's displacement.
-#[derive(Clone, Copy, PartialEq, Eq)]
+#[derive(Clone, Copy)]
 pub enum Width {
     Rel8,
     Rel32,
 }
 
 /// An instruction. Of two operands the destination stands first.
-#[derive(Clone, Copy, PartialEq, Eq)]
+#[derive(Clone, Copy)]
 pub enum Insn {
     Alu(Alu, Size, Operand, Operand),
     Mov(Size, Operand, Operand),
@@ -179,7 +179,7 @@ pub enum Insn {
 }
 
 /// Registers, instruction pointer and flags, in the orders of `Reg` and `Flag`.
-#[derive(Clone, Copy, PartialEq, Eq)]
+#[derive(Clone, Copy)]
 pub struct State {
     pub regs: [u64; 16],
     pub rip: u64,
@@ -199,7 +199,7 @@ impl State {
 }
 
 /// What a step shows: whether a branch was taken, the address of a memory access, and high word, low word and divisor of a division.
-#[derive(Clone, Copy, PartialEq, Eq)]
+#[derive(Clone, Copy)]
 pub struct StepLeak {
     pub branch: Option<bool>,
     pub addr: Option<u64>,
