@@ -59,7 +59,8 @@ IsSkip _ = ⊥
 
 abbrev pub GivenAs : Kind → Decl → Lval → Type 0
 GivenAs (kind.Word z) d l = (whole_array l ≡ None) × Holds (word z) l
-GivenAs (kind.Array z) d l = IsSkip l ⊎ ((v : Var) × (whole_array l ≡ Some v) × (is_declared d v ≡ true))
+GivenAs (kind.Array z) d l =
+    IsSkip l ⊎ ((v : Var) × (whole_array l ≡ Some v) × (is_declared d v ≡ true))
 GivenAs _ d l = IsSound l
 
 abbrev pub Given : Ret → Lval → Type 0
@@ -136,7 +137,8 @@ abbrev pub Returned : Ret → Var → Type 0
 Returned r v = is_declared r.decl v ≡ true
 
 abbrev pub WellTypedIn : Named → Fun → Type 0
-WellTypedIn named f = InPairs Returned f.rets f.result × All (λ s. WellTyped named (layer_of s)) (statements_of f.body)
+WellTypedIn named f =
+    InPairs Returned f.rets f.result × All (λ s. WellTyped named (layer_of s)) (statements_of f.body)
 
 -- each variable has its declaration
 abbrev pub IsWellTyped : Program → Type 0

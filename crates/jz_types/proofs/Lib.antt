@@ -7,3 +7,4 @@ pub mod NamesKept
 pub mod StatementsKept
 pub mod ProgramsKept
 pub mod RowsHeld
+pub mod Carrying

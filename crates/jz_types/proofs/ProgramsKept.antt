@@ -18,6 +18,9 @@ use Rattle.jz_tree.specs.declared.program.Const.{Const}
 use Rattle.jz_tree.specs.declared.program.Fun.{Fun}
 use Rattle.jz_tree.specs.declared.program.Param.{Param}
 use Rattle.jz_tree.specs.declared.program.Program.{Program}
+use Rattle.jz_tree.specs.declared.expr.Storage.{Storage}
+use Rattle.jz_scopes.specs.declared.kinds.Kind.{Kind}
+use Rattle.jz_scopes.specs.declared.kinds.Declared.{Declared}
 use Rattle.jz_scopes.specs.Scopes.{Name, name_of, variables_of, place_among, constant_place, variable_place, value_place, or_values, function_named}
 use Rattle.jz_scopes.specs.Kinds.{kind_step, kind_of, declared_of, known_of, is_array_kind, is_array}
 use Rattle.jz_scopes.specs.Parts.{layer_of, statements_of}
@@ -45,11 +48,14 @@ placed h span same None = refl
 placed h span same (Some a) = ap (λ (s : Span). Some s) (same a)
 
 -- ---- declarations with numbers as lengths
+abbrev declaring : Storage → Kind → Declared
+declaring s k = record { storage = s; kind = k }
+
 module _ (values : Values) where
-  var_out : (v : Var) → out-Var (counted_var values v) ≡ record (out-Var v) { decl = option_map (counted_decl values) (out-Var v).decl }
+  pub var_out : (v : Var) → out-Var (counted_var values v) ≡ record (out-Var v) { decl = option_map (counted_decl values) (out-Var v).decl }
   var_out v = out-roll-Var _
 
-  var_name : (v : Var) → (out-Var (counted_var values v)).name ≡ (out-Var v).name
+  pub var_name : (v : Var) → (out-Var (counted_var values v)).name ≡ (out-Var v).name
   var_name v = ap (λ (y : Var-F Expr Ty Access Decl Var). y.name) (var_out v)
 
   var_span : (v : Var) → (out-Var (counted_var values v)).span ≡ (out-Var v).span
@@ -60,6 +66,11 @@ module _ (values : Values) where
   layer_kind Ty-F.Ty::Bool = ap kind_step (out-roll-Ty Ty-F.Ty::Bool)
   layer_kind (Ty-F.Word z) = ap kind_step (out-roll-Ty (Ty-F.Word z))
   layer_kind (Ty-F.Array z e) = ap kind_step (out-roll-Ty _)
+
+  -- the same storage and type
+  pub decl_known : (d : Option Decl) → option_map declared_of (option_map (counted_decl values) d) ≡ option_map declared_of d
+  decl_known None = refl
+  decl_known (Some d) = ap (λ k. Some (declaring d.storage k)) (layer_kind (out-Ty d.ty))
 
   decl_array : (d : Option Decl) → is_array (option_map declared_of (option_map (counted_decl values) d)) ≡ is_array (option_map declared_of d)
   decl_array None = refl
@@ -72,7 +83,7 @@ module _ (values : Values) where
   params_counted [] = refl
   params_counted (p ∷ ps) = ap (λ vs. counted_var values p.var ∷ vs) (params_counted ps)
 
-  variables_counted : (f : Fun) → variables_of (counted_fun values f) ≡ map (counted_var values) (variables_of f)
+  pub variables_counted : (f : Fun) → variables_of (counted_fun values f) ≡ map (counted_var values) (variables_of f)
   variables_counted f = ap (λ vs. vs ++ map (counted_var values) f.vars) (params_counted f.params) ∙ sym (map-append (counted_var values) (map (λ p. p.var) f.params) f.vars)
 
   place_kept : (vs : List Var) (m : List ℕ) → place_among (map (counted_var values) vs) m ≡ place_among vs m

@@ -89,7 +89,7 @@ module _ (d : List ℕ → Option Decl) (n : Name → Option (Option ℤ)) where
   cond_kept None = refl
   cond_kept (Some c) = refl
 
-  exprs_kept : (k : Layer) → exprs_of (set_layer k) ≡ map RE (exprs_of k)
+  pub exprs_kept : (k : Layer) → exprs_of (set_layer k) ≡ map RE (exprs_of k)
   exprs_kept (StmtKind-F.Assign to op from cond) =
       ap₂ (λ x y. x ++ y) (ap₂ (λ x y. x ++ y) (lefts_kept to) (right_kept from) ∙ sym (map-append RE (flat_map left_exprs to) (right_exprs from))) (cond_kept cond)
       ∙ sym (map-append RE (flat_map left_exprs to ++ right_exprs from) (option_to_list cond))

@@ -4,3 +4,4 @@ pub mod Rules
 pub mod Asking
 pub mod TypedPrograms
 pub mod Guarantees
+pub mod Carried

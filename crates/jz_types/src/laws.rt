@@ -5,6 +5,7 @@ ghost use Rattle.jz_tree.specs.declared.program.Program.{Program};
 ghost use Rattle.jz_types.specs.declared.fault.TypeFault.{TypeFault};
 ghost use Rattle.jz_types.specs.Rules.{IsTyped, IsFirstTypeFault};
 ghost use Rattle.jz_types.specs.Guarantees.{RowsLaw};
+ghost use Rattle.jz_types.specs.Carried.{CarryingLaw, KnownLaw};
 
 /// A program has one first fault at most.
 pub fn one_fault()
@@ -20,4 +21,10 @@ pub fn no_fault_of_a_typed()
 /// argument or result of a call.
 pub fn statements_have_rows()
     ensures { RowsLaw }
+{}
+
+/// In a resolved program each variable that is used carries the declaration of its name, and is known as what the text declares.
+pub fn variables_are_declared()
+    ensures carried { CarryingLaw }
+    ensures known { KnownLaw }
 {}

@@ -11,5 +11,5 @@ mod typed;
 
 pub use checking::check;
 pub use fault::{TypeFault, TypeRule};
-pub use laws::{no_fault_of_a_typed, one_fault, statements_have_rows};
+pub use laws::{no_fault_of_a_typed, one_fault, statements_have_rows, variables_are_declared};
 pub use typed::Typed;
