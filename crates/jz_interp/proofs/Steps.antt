@@ -86,12 +86,12 @@ module _ {O T F C S W : Type 0} (M : Parts O T F C S W) where
   runs_not_more t n m s s1 is h = not_more M (goes_end M h).2
 
   -- an arm that ran, inside its statement
-  if_out : {c : T} (a b : Tree O T F C) {n : ℕ} {s : S} {ns : List ℕ} {z : Bool} → M.tests c s ≡ went ns z → (out : Outcome S W Leak) → Goes M (if z then a else b) n s out → Leads M (choose c a b) n s (finished_by (λ t. t) (λ is. item.If ns z (leak_of is)) (after items_of out))
+  if_out : {c : T} (a b : Tree O T F C) {n : ℕ} {s : S} {ns : List ℕ} {z : Bool} → M.tests c s ≡ went ns z → (out : Outcome S W Leak) → Goes M (if z then a else b) n (M.settled c s) out → Leads M (choose c a b) n s (finished_by (λ t. t) (λ is. item.If ns z (leak_of is)) (after items_of out))
   if_out a b {ns} {z} q (End s1 m l) g = λ r o h. record { out = after (leak.chose ns z l) h.out; goes = chosen q g h.goes; is = shown_after items_of (leak.chose ns z l) (item.If ns z (leak_of (items_of l))) (λ k. refl) h.out o h.is }
   if_out a b {ns} {z} q (Cut l) g = λ r. record { out = Cut (leak.chose_cut ns z l); goes = chosen_cut q g; is = refl }
   if_out a b q (Stuck w) g = λ r. record { out = Stuck w; goes = chosen_stuck q g; is = refl }
 
-  pub if_leads : {c : T} (a b : Tree O T F C) {n : ℕ} {s : S} {ns : List ℕ} {z : Bool} {o : Outcome S W (List Item)} → M.tests c s ≡ went ns z → Runs M (if z then a else b) n s o → Leads M (choose c a b) n s (finished_by (λ t. t) (λ is. item.If ns z (leak_of is)) o)
+  pub if_leads : {c : T} (a b : Tree O T F C) {n : ℕ} {s : S} {ns : List ℕ} {z : Bool} {o : Outcome S W (List Item)} → M.tests c s ≡ went ns z → Runs M (if z then a else b) n (M.settled c s) o → Leads M (choose c a b) n s (finished_by (λ t. t) (λ is. item.If ns z (leak_of is)) o)
   if_leads {c} a b {n} {s} {ns} {z} q h = subst (λ x. Leads M (choose c a b) n s (finished_by (λ t. t) (λ is. item.If ns z (leak_of is)) x)) h.is (if_out a b q h.out h.goes)
 
   pub if_stuck : {c : T} {a b : Tree O T F C} {n : ℕ} {s : S} {w : W} → M.tests c s ≡ stuck w → Leads M (choose c a b) n s (Stuck w)
@@ -144,35 +144,35 @@ module _ {O T F C S W : Type 0} (M : Parts O T F C S W) (c : T) (b : Tree O T F 
   pub test_is_stuck : {w : W} → M.tests c t ≡ stuck w → IsTested M c b is m t (stuck_in w)
   test_is_stuck {w} q = record { so = λ p n s g. record { out = Stuck w; goes = tested_not (goes_end M g).2 q; is = refl } }
 
-  pub test_is_false : {ns : List ℕ} → M.tests c t ≡ went ns false → IsTested M c b is m t (last t m (turn_of is ns false []))
-  test_is_false {ns} q = record { so = λ p n s g. let y = goes_end M g in record { out = End t m (leak.left y.0 ns); goes = leaves_loop y.2 q; is = ap (λ x. End t m (turn_of x ns false [] ∷ [])) y.1 } }
+  pub test_is_false : {ns : List ℕ} → M.tests c t ≡ went ns false → IsTested M c b is m t (last (M.settled c t) m (turn_of is ns false []))
+  test_is_false {ns} q = record { so = λ p n s g. let y = goes_end M g in record { out = End (M.settled c t) m (leak.left y.0 ns); goes = leaves_loop y.2 q; is = ap (λ x. End (M.settled c t) m (turn_of x ns false [] ∷ [])) y.1 } }
 
 module _ {O T F C S W : Type 0} (M : Parts O T F C S W) (c : T) (b : Tree O T F C) (is : List Item) (t : S) {ns : List ℕ} (q : M.tests c t ≡ went ns true) where
   pub turn_is_wanted : IsTested M c b is zero t (cut (turn_of is ns true (item.Cut ∷ [])))
   turn_is_wanted = record { so = λ p n s g. let y = goes_end M g in record { out = Cut (leak.wanted y.0 ns); goes = no_turn y.2 q; is = ap (λ x. Cut (turn_of x ns true (item.Cut ∷ []) ∷ [])) y.1 } }
 
-  pub body_is_stuck : {m : ℕ} {w : W} → Runs M b m t (Stuck w) → IsTested M c b is (suc m) t (stuck_in w)
+  pub body_is_stuck : {m : ℕ} {w : W} → Runs M b m (M.settled c t) (Stuck w) → IsTested M c b is (suc m) t (stuck_in w)
   body_is_stuck {w} i = record { so = λ p n s g. record { out = Stuck w; goes = body_stuck (goes_end M g).2 q (goes_stuck M i); is = refl } }
 
-  pub body_is_cut : {m : ℕ} {js : List Item} → Runs M b m t (Cut js) → IsTested M c b is (suc m) t (cut (turn_of is ns true js))
+  pub body_is_cut : {m : ℕ} {js : List Item} → Runs M b m (M.settled c t) (Cut js) → IsTested M c b is (suc m) t (cut (turn_of is ns true js))
   body_is_cut {js} i = record {
     so = λ p n s g.
         let y = goes_end M g in let z = goes_cut M i in
         record { out = Cut (leak.body_cut y.0 ns z.0); goes = in_body y.2 q z.2; is = ap (λ x. Cut (turn_of x ns true (items_of z.0) ∷ [])) y.1 ∙ ap (λ x. Cut (turn_of is ns true x ∷ [])) z.1 };
   }
 
-  first_turn : {m n k : ℕ} {p : Tree O T F C} {s u : S} (lp lb : Leak) (js : List Item) → items_of lp ≡ is → items_of lb ≡ js → Goes M p n s (End t (suc m) lp) → Goes M b m t (End u k lb) → (o : Outcome S W (List Turn)) → RunsTurns M p c b k u o → RunsTurns M p c b n s (before (turn_of is ns true js ∷ []) o)
+  first_turn : {m n k : ℕ} {p : Tree O T F C} {s u : S} (lp lb : Leak) (js : List Item) → items_of lp ≡ is → items_of lb ≡ js → Goes M p n s (End t (suc m) lp) → Goes M b m (M.settled c t) (End u k lb) → (o : Outcome S W (List Turn)) → RunsTurns M p c b k u o → RunsTurns M p c b n s (before (turn_of is ns true js ∷ []) o)
   first_turn lp lb js e f g h o x = record {
     out = after (leak.turn lp ns lb) x.out;
     goes = more_turns g q h x.goes;
     is = shown_after turns_of (leak.turn lp ns lb) (turn_of is ns true js) (λ ts. ap (λ y. turn_of y ns true (items_of lb) ∷ turns_of ts) e ∙ ap (λ y. turn_of is ns true y ∷ turns_of ts) f) x.out o x.is;
   }
 
-  pub body_is_over : {m k : ℕ} {u : S} {js : List Item} → Runs M b m t (End u k js) → IsTested M c b is (suc m) t (more u k (turn_of is ns true js))
+  pub body_is_over : {m k : ℕ} {u : S} {js : List Item} → Runs M b m (M.settled c t) (End u k js) → IsTested M c b is (suc m) t (more u k (turn_of is ns true js))
   body_is_over {m} {k} {u} {js} i = record {
     so = λ p n s g.
         let y = goes_end M g in let z = goes_end M i in
-        let a = runs_not_more M p n (suc m) s t is g in let d = runs_not_more M b m k t u js i in
+        let a = runs_not_more M p n (suc m) s t is g in let d = runs_not_more M b m k (M.settled c t) u js i in
         (omega (arith, a, d), λ o x. first_turn y.0 z.0 js y.1 z.1 y.2 z.2 o x);
   }
 
