@@ -372,7 +372,7 @@ r1 | c0 | 14 | condition
 r1 | c0 not not | 14 | condition
 r1 | i0 5 < | - | condition
 r1 | true | - | condition
-r1 | i0 i1 && not | - | condition
+r1 | i0 5 < true && not | - | condition
 5 | c0 | - | condition
 r1 r2 + | c0 | - | condition
 r1 | r2 | - | -

@@ -154,7 +154,7 @@ fn with_lines(alloc: Global, text: &str) -> Result<String, AllocError> {
     Ok(whole)
 }
 
-pub(crate) fn answer(rt: &impl Abort, alloc: Global, text: &str) -> Result<String, Fail> {
+fn answer(rt: &impl Abort, alloc: Global, text: &str) -> Result<String, Fail> {
     assert!(rt; text.len() < 1000);
     let tokens = lex(alloc, text.as_bytes())
         .ok()
@@ -173,7 +173,7 @@ pub(crate) fn answer(rt: &impl Abort, alloc: Global, text: &str) -> Result<Strin
     }
 }
 
-fn row_is(rt: &impl Abort, alloc: Global, row: &str) -> Result<(), Fail> {
+pub(crate) fn row_is(rt: &impl Abort, alloc: Global, row: &str) -> Result<(), Fail> {
     let columns: Vec<&str> = row.split(" => ").collect(alloc)?;
     let [text, wanted] = columns.as_slice() else {
         panic!(rt; "no row: {row}")
