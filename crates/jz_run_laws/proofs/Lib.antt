@@ -1,0 +1,4 @@
+pub mod SameTrees
+pub mod Deepening
+pub mod Chains
+pub mod Uncut
