@@ -12,3 +12,4 @@ pub mod Instructions
 pub mod Nodes
 pub mod Calls
 pub mod Functions
+pub mod Declarations

@@ -1,17 +1,22 @@
 -- What a tree's variables have to be declared as: each that is written carries what its function
 -- declares of it, a counter is a whole number, and an argument for an array is an array of the same
 -- cells.
-use Rattle.std.specs.Prelude.{◌≡◌, List, ◌∷◌, Option, Some, All}
+use Rattle.std.specs.Prelude.{◌≡◌, ℕ, List, ◌∷◌, Option, Some, All, option_map}
 use Rattle.jz_tree.specs.declared.expr.Expr.{Expr}
+use Rattle.jz_tree.specs.declared.expr.Decl.{Decl}
 use Rattle.jz_tree.specs.declared.stmt.Lval.{Lval}
 use Rattle.jz_tree.specs.declared.stmt.Lval.TheVariants as lval
 use Rattle.jz_tree.specs.declared.program.Param.{Param}
 use Rattle.jz_meaning.specs.declared.access.Kind.{Kind}
 use Rattle.jz_meaning.specs.declared.access.Kind.TheVariants as kind
-use Rattle.jz_meaning.specs.Values.{Ref, key_of, ref_of}
+use Rattle.jz_meaning.specs.Values.{Ref, key_of, ref_of, kind_or, declared_kind}
 use Rattle.jz_meaning.specs.Statements.{Operation, assign, instruction, unset, meaningless, Counter, Call, Block, array_of}
 use Rattle.jz_kept_kinds.specs.Kinds.{Kinds, kind_at}
 use Rattle.jz_kept_kinds.specs.Nodes.{AllNodes}
+
+-- the kinds that the declarations of a function's variables give, whatever the copy
+abbrev pub kinds_of : (List ℕ → Option Decl) → Kinds
+kinds_of declared name copy = kind_or (option_map declared_kind (declared name))
 
 -- a variable carries the declaration that its function has of it
 abbrev pub IsDeclared : Kinds → Ref → Type 0

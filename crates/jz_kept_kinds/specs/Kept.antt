@@ -1,21 +1,24 @@
 -- What is kept: expressions give values that fit their sizes, and what the parts of statements do
 -- leaves values of their kinds.
-use Rattle.std.specs.Prelude.{ℕ, ℤ, List, All, Option}
+use Rattle.std.specs.Prelude.{◌≡◌, ℕ, ℤ, List, All, Option, None}
 use Rattle.jz_words.specs.declared.size.Size.{Size}
 use Rattle.jz_words.specs.Memory.{Memory}
 use Rattle.jz_tree.specs.declared.expr.Expr.{Expr}
+use Rattle.jz_tree.specs.declared.expr.Decl.{Decl}
+use Rattle.jz_tree.specs.declared.expr.Var.{Var}
+use Rattle.jz_tree.specs.declared.expr.Expr.TheViews.{out-Var}
 use Rattle.jz_tree.specs.declared.program.Program.{Program}
 use Rattle.jz_tree.specs.declared.program.Fun.{Fun}
 use Rattle.jz_leak.specs.RunLeaks.{Leak}
 use Rattle.jz_runs.specs.Rules.{Attempt, stuck, went, Outcome, End, Cut, Stuck, Goes}
 use Rattle.jz_meaning.specs.declared.value.Stuck as code
 use Rattle.jz_meaning.specs.States.{Value, State, Store}
-use Rattle.jz_meaning.specs.Values.{evaluated}
+use Rattle.jz_meaning.specs.Values.{evaluated, ref_of}
 use Rattle.jz_meaning.specs.Statements.{Operation, Counter, Call, Block, does, quiets, begins, restores, enters, leaves, source}
 use Rattle.jz_meaning.specs.Runs.{Returned, FunOutcome, IsInput, entry_state, body_of, IsRun}
 use Rattle.jz_meaning.specs.Shapes.{HoldsSorts}
 use Rattle.jz_kept_kinds.specs.Kinds.{Kinds, FitsSize, HoldsKinds, HoldsBytes, IsOfKinds, sorts_of}
-use Rattle.jz_kept_kinds.specs.Declared.{OperationDeclared, CounterDeclared, ParamDeclared, CallDeclared, BodyDeclared}
+use Rattle.jz_kept_kinds.specs.Declared.{kinds_of, IsDeclared, OperationDeclared, CounterDeclared, ParamDeclared, CallDeclared, BodyDeclared}
 
 -- what is said of what a part gives, unless it is stuck
 abbrev pub IfWent : {W A : Type 0} → (A → Type 0) → Attempt W A → Type 0
@@ -37,6 +40,13 @@ abbrev pub KindsAreSorts : Type 0
 KindsAreSorts =
     (kinds : Kinds) (store : Store)
     → HoldsKinds kinds store → HoldsSorts (sorts_of kinds) store
+
+-- a variable of a text that carries what is declared of its name
+abbrev pub DeclarationsGiveKinds : Type 0
+DeclarationsGiveKinds =
+    (declared : List ℕ → Option Decl) (v : Var)
+    → (out-Var v).decl ≡ declared (out-Var v).name → (out-Var v).cell ≡ None
+    → IsDeclared (kinds_of declared) (ref_of v)
 
 abbrev pub OperationsKeep : Type 0
 OperationsKeep =

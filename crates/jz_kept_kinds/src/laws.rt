@@ -1,6 +1,6 @@
 //! What runs keep.
 
-ghost use Rattle.jz_kept_kinds.specs.Kept.{ValuesFit, KindsAreSorts, OperationsKeep, MarksKeep, CountersBegin, CountersRestore, CallsEnter, CallsLeave, BodiesKeep, EntriesKeep, FunctionsKeep};
+ghost use Rattle.jz_kept_kinds.specs.Kept.{ValuesFit, KindsAreSorts, DeclarationsGiveKinds, OperationsKeep, MarksKeep, CountersBegin, CountersRestore, CallsEnter, CallsLeave, BodiesKeep, EntriesKeep, FunctionsKeep};
 
 /// Where each variable holds a value of its kind, a word that an expression gives is below the
 /// modulus of its size.
@@ -11,6 +11,12 @@ pub fn values_fit_their_sizes()
 /// A store that holds kinds holds the sorts of those kinds, by which a text counts what it leaks.
 pub fn kinds_are_sorts()
     ensures { KindsAreSorts }
+{}
+
+/// A variable of a text that carries what is declared of its name is of the kind that the
+/// declarations give.
+pub fn declarations_give_kinds()
+    ensures { DeclarationsGiveKinds }
 {}
 
 /// Assignments, instructions and marks leave values of the declared kinds, where the left sides
