@@ -1,0 +1,15 @@
+pub mod Runs
+pub mod Parts
+pub mod Bounds
+pub mod Bytes
+pub mod Operators
+pub mod Expressions
+pub mod Stores
+pub mod LeftSides
+pub mod RightSides
+pub mod Results
+pub mod Instructions
+pub mod Nodes
+pub mod Calls
+pub mod Functions
+pub mod Declarations

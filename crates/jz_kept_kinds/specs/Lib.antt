@@ -1,0 +1,4 @@
+pub mod Kinds
+pub mod Nodes
+pub mod Declared
+pub mod Kept
