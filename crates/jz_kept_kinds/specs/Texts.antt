@@ -1,4 +1,4 @@
--- What the statements of a program's functions have to declare, so that the trees of their bodies do.
+-- What the statements of a program's functions have to declare, so that the trees of bodies do.
 use Rattle.std.specs.Prelude.{◌≡◌, List, Option, Some, None, All, Contains}
 use Rattle.jz_tree.specs.declared.expr.Expr.{Expr}
 use Rattle.jz_tree.specs.declared.stmt.Rhs.{Rhs}

@@ -20,8 +20,8 @@ pub fn declarations_give_kinds()
     ensures { DeclarationsGiveKinds }
 {}
 
-/// Where the statements of a program's functions carry what is declared, the tree of each body does,
-/// with the bodies that it calls.
+/// Where the statements of a program's functions carry what is declared, the tree of each body
+/// does, with the bodies that it calls.
 pub fn texts_declare_bodies()
     ensures { TextsDeclare }
 {}
