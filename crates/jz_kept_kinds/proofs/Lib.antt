@@ -13,3 +13,4 @@ pub mod Nodes
 pub mod Calls
 pub mod Functions
 pub mod Declarations
+pub mod Texts

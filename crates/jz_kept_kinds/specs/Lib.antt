@@ -2,3 +2,4 @@ pub mod Kinds
 pub mod Nodes
 pub mod Declared
 pub mod Kept
+pub mod Texts

@@ -1,5 +1,6 @@
 //! What runs keep.
 
+ghost use Rattle.jz_kept_kinds.specs.Texts.{TextsDeclare};
 ghost use Rattle.jz_kept_kinds.specs.Kept.{ValuesFit, KindsAreSorts, DeclarationsGiveKinds, OperationsKeep, MarksKeep, CountersBegin, CountersRestore, CallsEnter, CallsLeave, BodiesKeep, EntriesKeep, FunctionsKeep};
 
 /// Where each variable holds a value of its kind, a word that an expression gives is below the
@@ -17,6 +18,12 @@ pub fn kinds_are_sorts()
 /// declarations give.
 pub fn declarations_give_kinds()
     ensures { DeclarationsGiveKinds }
+{}
+
+/// Where the statements of a program's functions carry what is declared, the tree of each body
+/// does, with the bodies that it calls.
+pub fn texts_declare_bodies()
+    ensures { TextsDeclare }
 {}
 
 /// Assignments, instructions and marks leave values of the declared kinds, where the left sides
