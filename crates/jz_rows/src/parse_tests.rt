@@ -6,8 +6,8 @@ use jz_io::Span;
 use jz_lex::{Tokens, lex};
 use jz_parse::{SyntaxFault, SyntaxKind, parse};
 use jz_tree::{
-    Access, Decl, Expr, Fun, FunKind, Lval, Note, NoteValue, Program, Rhs, Stmt, StmtKind, Storage,
-    Ty, Var,
+    Access, Decl, Expr, Fun, FunKind, Lval, Note, NoteValue, Param, Program, Ret, Rhs, Stmt,
+    StmtKind, Storage, Ty, Var,
 };
 use jz_words::Size;
 use std::alloc::{AllocError, Global};
@@ -286,6 +286,24 @@ fn stmts_text(alloc: Global, stmts: &Seq<Stmt>) -> Result<String, AllocError> {
 }
 
 /// A function's head, without its body.
+fn push_params(text: &mut String, alloc: Global, params: &Seq<Param>) -> Result<(), AllocError> {
+    for param in params.as_slice() {
+        text.push_str(notes_text(alloc, &param.notes)?.as_str())?;
+        text.push_str(declared_text(alloc, &param.var)?.as_str())?;
+        text.push_str("; ")?;
+    }
+    Ok(())
+}
+
+fn push_rets(text: &mut String, alloc: Global, rets: &Seq<Ret>) -> Result<(), AllocError> {
+    for ret in rets.as_slice() {
+        text.push_str(notes_text(alloc, &ret.notes)?.as_str())?;
+        text.push_str(decl_text(alloc, &ret.decl)?.as_str())?;
+        text.push_str("; ")?;
+    }
+    Ok(())
+}
+
 fn head_text(alloc: Global, fun: &Fun) -> Result<String, AllocError> {
     let mut text = notes_text(alloc, &fun.notes)?;
     text.push_str(match fun.kind {
@@ -294,21 +312,9 @@ fn head_text(alloc: Global, fun: &Fun) -> Result<String, AllocError> {
     })?;
     text.push_str(fun.name.as_str())?;
     text.push_str("( ")?;
-    for param in fun.params.as_slice() {
-        let notes = notes_text(alloc, &param.notes)?;
-        let var = declared_text(alloc, &param.var)?;
-        text.push_str(notes.as_str())?;
-        text.push_str(var.as_str())?;
-        text.push_str("; ")?;
-    }
+    push_params(&mut text, alloc, &fun.params)?;
     text.push_str(") ")?;
-    for ret in fun.rets.as_slice() {
-        let notes = notes_text(alloc, &ret.notes)?;
-        let decl = decl_text(alloc, &ret.decl)?;
-        text.push_str(notes.as_str())?;
-        text.push_str(decl.as_str())?;
-        text.push_str("; ")?;
-    }
+    push_rets(&mut text, alloc, &fun.rets)?;
     Ok(text)
 }
 
@@ -595,9 +601,20 @@ const VALUE: &str = "export fn f() { reg u64 x; x = ";
 
 const BODY: &str = "export fn f() {";
 
+/// The text with so many pieces behind its head, read.
+fn nested_outcome(
+    rt: &impl Abort,
+    alloc: Global,
+    head: &str,
+    piece: &str,
+    count: usize,
+) -> Result<String, Fail> {
+    let text = nested(alloc, head, piece, count)?;
+    outcome(rt, alloc, text.as_str())
+}
+
 #[test]
 fn tells_what_is_nested_too_deep(rt: HostRuntime) -> Result<(), Fail> {
-    let alloc = rt.alloc();
     for (head, piece, count, want) in [
         (VALUE, "(", 300, "TooDeep 1:231 token 211"),
         (VALUE, "(", 200, "TooDeep 1:231 token 211"),
@@ -607,8 +624,8 @@ fn tells_what_is_nested_too_deep(rt: HostRuntime) -> Result<(), Fail> {
         (BODY, "if a{", 201, "TooDeep 1:1015 token 605"),
         (BODY, "if a{}else ", 201, "TooDeep 1:2209 token 1003"),
     ] {
-        let text = nested(alloc, head, piece, count)?;
-        assert_eq!(rt; outcome(&rt, alloc, text.as_str())?.as_str(), want);
+        let told = nested_outcome(&rt, rt.alloc(), head, piece, count)?;
+        assert_eq!(rt; told.as_str(), want);
     }
     Ok(())
 }

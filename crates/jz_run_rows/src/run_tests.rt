@@ -293,21 +293,44 @@ fn memory_of(alloc: Global, digits: &str) -> Result<MemMap, Fail> {
     Ok(mem)
 }
 
+/// The number of a program's last function, and the input that a row has for it.
+fn input_of(
+    alloc: Global,
+    typed: &Typed,
+    numbers: &str,
+    digits: &str,
+) -> Result<(usize, Input), Fail> {
+    let functions = typed.program().funs.as_slice();
+    let last = functions.len().checked_sub(1).ok_or("no function")?;
+    let function = functions.get(last).ok_or("no function")?;
+    let words = words_of(alloc, &function.params, numbers)?;
+    let mem = memory_of(alloc, digits)?;
+    Ok((last, Input { words, mem }))
+}
+
+/// What the run of a function comes to, as a row tells it.
+fn run_text(
+    rt: &impl Abort,
+    alloc: Global,
+    typed: &Typed,
+    function: usize,
+    input: &Input,
+    turns: &str,
+) -> Result<String, Fail> {
+    assert!(rt; takes(typed, function, &input.words));
+    let turns = turns.parse::<u64>().map_err(|_| "no turns")?;
+    let outcome = interpret(alloc, typed, function, input, turns)?;
+    Ok(outcome_text(alloc, &outcome)?)
+}
+
 fn row_is(rt: &impl Abort, alloc: Global, row: &str) -> Result<(), Fail> {
     let columns: Vec<&str> = row.split(" => ").collect(alloc)?;
     let [text, numbers, digits, turns, wanted] = columns.as_slice() else {
         panic!(rt; "no row: {row}")
     };
     let typed = typed_text(rt, alloc, text)?;
-    let functions = typed.program().funs.as_slice();
-    let last = functions.len().checked_sub(1).ok_or("no function")?;
-    let function = functions.get(last).ok_or("no function")?;
-    let words = words_of(alloc, &function.params, numbers)?;
-    assert!(rt; takes(&typed, last, &words), "{row}");
-    let mem = memory_of(alloc, digits)?;
-    let turns = turns.parse::<u64>().map_err(|_| "no turns")?;
-    let outcome = interpret(alloc, &typed, last, &Input { words, mem }, turns)?;
-    let told = outcome_text(alloc, &outcome)?;
+    let (last, input) = input_of(alloc, &typed, numbers, digits)?;
+    let told = run_text(rt, alloc, &typed, last, &input, turns)?;
     assert!(rt; told.as_str() == *wanted, "{row}: {}", told.as_str());
     Ok(())
 }
