@@ -1,0 +1,3 @@
+pub mod SameKinds
+pub mod Placed
+pub mod Sizes
