@@ -1,3 +1,4 @@
 pub mod SameKinds
 pub mod Placed
 pub mod Sizes
+pub mod LeftSizes

@@ -1,9 +1,10 @@
 -- What typing and evaluation each know of a variable.
-use Rattle.std.proofs.Common.{◌≡◌, Some, None, refl, ap}
+use Rattle.std.proofs.Common.{◌≡◌, false, Some, None, refl, ap}
+use Rattle.std.proofs.lemmas.Bool.{true≢false}
 use Rattle.jz_words.specs.declared.size.Size.{Size}
 use Rattle.jz_scopes.specs.declared.kinds.Kind as known
 use Rattle.jz_scopes.specs.declared.kinds.Kind.TheVariants as scope
-use Rattle.jz_scopes.specs.Kinds.{Known}
+use Rattle.jz_scopes.specs.Kinds.{Known, is_array, is_array_kind}
 use Rattle.jz_kinds.specs.Wants.{known_size, word_size, cell_size, array_size}
 use Rattle.jz_judgement.specs.Places.{Place, Goes, KindGoes, IsArrayOf, ArrayKind}
 use Rattle.jz_meaning.specs.declared.access.Kind as meant
@@ -40,3 +41,13 @@ kind_cells k m y (array z n) g = refl
 pub known_cells : (k : Known) (m : meant.Kind) (z : Size) → SameKnown k m → IsArrayOf z k → size_of m ≡ cell_size k
 known_cells None m z same g = absurd g
 known_cells (Some d) m z same g = kind_cells d.kind m z same g
+
+kind_plain : (k : known.Kind) (m : meant.Kind) → SameKind k m → is_array_kind k ≡ false → size_of m ≡ word_size k
+kind_plain k m int g = refl
+kind_plain k m bool g = refl
+kind_plain k m (word z) g = refl
+kind_plain k m (array z n) g = absurd (true≢false g)
+
+pub known_plain : (k : Known) (m : meant.Kind) → SameKnown k m → is_array k ≡ false → size_of m ≡ known_size k
+known_plain None m same g = ap size_of same
+known_plain (Some d) m same g = kind_plain d.kind m same g

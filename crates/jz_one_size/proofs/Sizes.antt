@@ -37,7 +37,7 @@ use Rattle.jz_one_size.proofs.SameKinds as same
 use Rattle.jz_one_size.proofs.SameKinds.{SameKind, SameKnown, known_one, known_cells}
 
 -- ---- operators
-or_same : (a b : Option Size) → option_or a b ≡ or_size a b
+pub or_same : (a b : Option Size) → option_or a b ≡ or_size a b
 or_same None b = refl
 or_same (Some z) b = refl
 
@@ -133,7 +133,7 @@ bare y = map-Expr _ _ _ _ _ _ _ _ _ _ (λ e. e.0) (λ e. e.0) (λ e. e.0) (λ e.
 abbrev typed_layer : Layer → Typing
 typed_layer x = typing_step (map-Expr _ _ _ _ _ Typing known.Kind Typing Declared (Known × Span) typing ty_typed typing_of_access decl_typed var_typed x)
 
-abbrev meant_layer : Layer → Meaning
+abbrev pub meant_layer : Layer → Meaning
 meant_layer x = expr_step (map-Expr _ _ _ _ _ Meaning meant.Kind MemoryAccess meant.Kind Ref meaning_of ty_meant access_of declared_kind ref_of x)
 
 literal_layer : (x : Layer) → (meant_layer x).literal ≡ number_layer x

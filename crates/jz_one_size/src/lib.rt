@@ -3,4 +3,7 @@
 
 mod laws;
 
-pub use laws::{expressions_have_one_size, expressions_say_their_size};
+pub use laws::{
+    assignments_have_one_size, expressions_have_one_size, expressions_say_their_size,
+    left_sides_have_one_size,
+};
