@@ -16,8 +16,10 @@ use Rattle.jz_tree.specs.declared.expr.Expr.TheViews.{out-Expr, roll-Expr, roll-
 use Rattle.jz_tree.specs.declared.expr.Expr.TheFolds.{fold-roll-Expr}
 use Rattle.jz_tree.specs.declared.stmt.Lval.{Lval}
 use Rattle.jz_tree.specs.declared.stmt.Lval.TheVariants as lval
-use Rattle.jz_scopes.specs.Kinds.{known_of, is_array}
-use Rattle.jz_kinds.specs.Wants.{or_size}
+use Rattle.jz_scopes.specs.declared.kinds.Kind.{Kind}
+use Rattle.jz_scopes.specs.declared.kinds.Kind.TheVariants as kind
+use Rattle.jz_scopes.specs.Kinds.{Known, known_of, is_array}
+use Rattle.jz_kinds.specs.Wants.{or_size, known_size, word_size}
 use Rattle.jz_kinds.specs.Operators.{group_of, group_size}
 use Rattle.jz_kinds.specs.Sides.{left_form}
 use Rattle.jz_kinds.specs.Values.{value_typing}
@@ -63,7 +65,7 @@ wants_sound d p (lefts.variable h) = lefts.variable
 wants_sound d p (lefts.cell {z = z} h j) = lefts.cell z h j
 wants_sound d p (lefts.access h j) = lefts.access j
 
-leaves_sound : (d : Lval) (p : Place) → Leaves d p → IsSound d
+pub leaves_sound : (d : Lval) (p : Place) → Leaves d p → IsSound d
 leaves_sound d p lefts.nothing = lefts.nothing
 leaves_sound d p (lefts.array h) = lefts.variable
 leaves_sound d p (lefts.number h i t) = lefts.variable
@@ -188,3 +190,18 @@ assignment_law to d o e w last u c k v =
     ∙ ap₂ or_size (lefts_law to c (sound_lefts to o e v))
     (value_own d o e w (value_type to d o e last v).0 (last_of IsCountedLeft to d last c) (last_of IsSound to d last (sound_lefts to o e v))
     k u (value_type to d o e last v).1)
+
+-- ---- flags
+bool_none : (k : Known) → lefts.IsBool k → known_size k ≡ None
+bool_none None h = absurd h
+bool_none (Some d) h = kind_none d.kind h
+  where
+    kind_none : (k : Kind) → lefts.BoolKind k → word_size k ≡ None
+    kind_none kind.Int h = absurd h
+    kind_none kind.Truth h = refl
+    kind_none (kind.Word z) h = absurd h
+    kind_none (kind.Array z) h = absurd h
+
+pub flag_none : (d : Lval) → IsFlag d → (left_form d).size ≡ None
+flag_none d lefts.nothing = refl
+flag_none d (lefts.variable {v = v} h) = bool_none (known_of v) h

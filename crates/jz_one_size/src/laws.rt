@@ -1,7 +1,7 @@
 //! The size of a value is stated three times, and each statement says the same.
 
 ghost use Rattle.jz_one_size.specs.OneSize.{ExpressionSizes, ExpressionsSay};
-ghost use Rattle.jz_one_size.specs.OneSize.{LeftSizes, AssignmentSizes};
+ghost use Rattle.jz_one_size.specs.OneSize.{LeftSizes, AssignmentSizes, IntrinsicSizes};
 
 /// Evaluation gives an expression by itself the size that typing finds, wherever it has a type.
 pub fn expressions_have_one_size()
@@ -22,4 +22,9 @@ pub fn left_sides_have_one_size()
 /// with an operation is the left side and the value in one.
 pub fn assignments_have_one_size()
     ensures { AssignmentSizes }
+{}
+
+/// An intrinsic for which typing finds a size is done at that size. LEA and SETcc have one of their own.
+pub fn intrinsics_have_one_size()
+    ensures { IntrinsicSizes }
 {}
