@@ -1,0 +1,6 @@
+pub mod SameKinds
+pub mod Placed
+pub mod Sizes
+pub mod LeftSizes
+pub mod Unworded
+pub mod InstructionSizes

@@ -1,0 +1,30 @@
+//! The size of a value is stated three times, and each statement says the same.
+
+ghost use Rattle.jz_one_size.specs.OneSize.{ExpressionSizes, ExpressionsSay};
+ghost use Rattle.jz_one_size.specs.OneSize.{LeftSizes, AssignmentSizes, IntrinsicSizes};
+
+/// Evaluation gives an expression by itself the size that typing finds, wherever it has a type.
+pub fn expressions_have_one_size()
+    ensures { ExpressionSizes }
+{}
+
+/// It gives it a size exactly where the expression says that size.
+pub fn expressions_say_their_size()
+    ensures { ExpressionsSay }
+{}
+
+/// The same of a left side that is no array as a whole.
+pub fn left_sides_have_one_size()
+    ensures { LeftSizes }
+{}
+
+/// An assignment is done at the size that typing finds: that of the first left side that has one, else that of the value, which
+/// with an operation is the left side and the value in one.
+pub fn assignments_have_one_size()
+    ensures { AssignmentSizes }
+{}
+
+/// An intrinsic for which typing finds a size is done at that size. LEA and SETcc have one of their own.
+pub fn intrinsics_have_one_size()
+    ensures { IntrinsicSizes }
+{}
