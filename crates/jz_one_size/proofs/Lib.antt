@@ -4,3 +4,5 @@ pub mod Sizes
 pub mod LeftSizes
 pub mod Unworded
 pub mod InstructionSizes
+pub mod OperatorsInPlaces
+pub mod InPlaces

@@ -32,7 +32,7 @@ pub size_at : (e : Expr) (p : Place) → HasType (value e) p → (y : Size) → 
 size_at e p h = placed (judged_of e) p h
 
 -- ---- operations
-sum_group : (o : BinOp) → IsSum o → group_of o ≡ group.Arith
+pub sum_group : (o : BinOp) → IsSum o → group_of o ≡ group.Arith
 sum_group op.Add h = refl
 sum_group op.Sub h = refl
 sum_group o h = absurd h

@@ -31,7 +31,7 @@ use Rattle.jz_judgement.proofs.Variables.{word_sized, array_sized}
 use Rattle.jz_meaning.specs.declared.access.Kind as meant
 use Rattle.jz_meaning.specs.Values.{Meaning, MemoryAccess, Ref, meaning_of, ref_of, access_of, declared_kind, own_size, size_of_operation, expr_step, ty_step, access_step, decl_step, var_step, array_kind}
 use Rattle.jz_one_size.specs.Counted as counted
-use Rattle.jz_one_size.specs.Counted.{TyLayer, is_count, counted_type, counted_decl, is_counted, Counted, CountedLayer}
+use Rattle.jz_one_size.specs.Counted.{TyLayer, is_count, counted_type, counted_decl, is_counted, Counted, CountedLayer, Each, EachLayer}
 use Rattle.jz_one_size.proofs.Placed.{operation_says}
 use Rattle.jz_one_size.proofs.SameKinds as same
 use Rattle.jz_one_size.proofs.SameKinds.{SameKind, SameKnown, known_one, known_cells}
@@ -190,8 +190,11 @@ says_of e z (judged.expression h) = h
 pub types_of : (e : Expr) (p : Place) → HasType (value e) p → Types (out-Expr e) p
 types_of e p (judged.expression h) = h
 
+pub each_of : {P : Var → Type 0} (e : Expr) → Each P e → EachLayer P (out-Expr e)
+each_of e (counted.expression h) = h
+
 pub counted_of : (e : Expr) → Counted e → CountedLayer (out-Expr e)
-counted_of e (counted.expression h) = h
+counted_of e h = each_of e h
 
 expr_case : (y : Proved) → ExprLaw (roll-Expr (bare y))
 expr_case y = (

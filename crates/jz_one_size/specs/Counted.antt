@@ -35,20 +35,29 @@ counted_decl (Some d) = counted_type (out-Ty d.ty)
 abbrev pub is_counted : Var → Bool
 is_counted v = counted_decl (out-Var v).decl
 
--- so is each variable in an expression
-mutual
-  pub data Counted : Expr → Type 0 where
-    expression : {e : Expr} → CountedLayer (out-Expr e) → Counted e
+abbrev pub IsCounted : Var → Type 0
+IsCounted v = is_counted v ≡ true
 
-  pub data CountedLayer : Layer → Type 0 where
-    number : {n : ℤ} {at : Span} → CountedLayer (Expr-F.Num n at)
-    bool : {b : Bool} {at : Span} → CountedLayer (Expr-F.Expr::Bool b at)
-    variable : {v : Var} → is_counted v ≡ true → CountedLayer (Expr-F.Var v)
-    cell : {v : Var} {i : Expr} → is_counted v ≡ true → Counted i → CountedLayer (Expr-F.Cell v i)
-    load : {a : Access} → Counted (out-Access a).at → CountedLayer (Expr-F.Load a)
-    negated : {a : Expr} {at : Span} → Counted a → CountedLayer (Expr-F.Neg a at)
-    inverted : {a : Expr} {at : Span} → Counted a → CountedLayer (Expr-F.Not a at)
-    cast : {z : Size} {s : Bool} {a : Expr} {at : Span} → Counted a
-        → CountedLayer (Expr-F.Cast z s a at)
-    operation : {o : BinOp} {a b : Expr} {at : Span} → Counted a → Counted b
-        → CountedLayer (Expr-F.Bin o a b at)
+-- what holds of each variable in an expression
+mutual
+  pub data Each (P : Var → Type 0) : Expr → Type 0 where
+    expression : {e : Expr} → EachLayer P (out-Expr e) → Each P e
+
+  pub data EachLayer (P : Var → Type 0) : Layer → Type 0 where
+    number : {n : ℤ} {at : Span} → EachLayer P (Expr-F.Num n at)
+    bool : {b : Bool} {at : Span} → EachLayer P (Expr-F.Expr::Bool b at)
+    variable : {v : Var} → P v → EachLayer P (Expr-F.Var v)
+    cell : {v : Var} {i : Expr} → P v → Each P i → EachLayer P (Expr-F.Cell v i)
+    load : {a : Access} → Each P (out-Access a).at → EachLayer P (Expr-F.Load a)
+    negated : {a : Expr} {at : Span} → Each P a → EachLayer P (Expr-F.Neg a at)
+    inverted : {a : Expr} {at : Span} → Each P a → EachLayer P (Expr-F.Not a at)
+    cast : {z : Size} {s : Bool} {a : Expr} {at : Span} → Each P a
+        → EachLayer P (Expr-F.Cast z s a at)
+    operation : {o : BinOp} {a b : Expr} {at : Span} → Each P a → Each P b
+        → EachLayer P (Expr-F.Bin o a b at)
+
+abbrev pub Counted : Expr → Type 0
+Counted = Each IsCounted
+
+abbrev pub CountedLayer : Layer → Type 0
+CountedLayer = EachLayer IsCounted

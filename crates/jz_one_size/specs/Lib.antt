@@ -1,3 +1,4 @@
 pub mod Counted
 pub mod Lefts
 pub mod OneSize
+pub mod Values

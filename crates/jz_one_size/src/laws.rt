@@ -2,6 +2,7 @@
 
 ghost use Rattle.jz_one_size.specs.OneSize.{ExpressionSizes, ExpressionsSay};
 ghost use Rattle.jz_one_size.specs.OneSize.{LeftSizes, AssignmentSizes, IntrinsicSizes};
+ghost use Rattle.jz_one_size.specs.Values.{ValuesInPlaces};
 
 /// Evaluation gives an expression by itself the size that typing finds, wherever it has a type.
 pub fn expressions_have_one_size()
@@ -27,4 +28,10 @@ pub fn assignments_have_one_size()
 /// An intrinsic for which typing finds a size is done at that size. LEA and SETcc have one of their own.
 pub fn intrinsics_have_one_size()
     ensures { IntrinsicSizes }
+{}
+
+/// Where variables hold values of their kinds, and an expression that is well typed in a place is evaluated at the size of
+/// that place, it is stuck or has a value of the place: of a word, a word of that size or a whole number.
+pub fn values_are_of_their_places()
+    ensures { ValuesInPlaces }
 {}
