@@ -6,3 +6,4 @@ pub mod Unworded
 pub mod InstructionSizes
 pub mod OperatorsInPlaces
 pub mod InPlaces
+pub mod Classes

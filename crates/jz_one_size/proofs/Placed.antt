@@ -12,14 +12,10 @@ use Rattle.jz_kinds.specs.Typings.{Typing, typing}
 use Rattle.jz_judgement.specs.Places.{Place, integer, truth, word, stated, unsized, IsSum}
 use Rattle.jz_judgement.specs.HasType as judged
 use Rattle.jz_judgement.specs.HasType.{Term, value, HasType, Says, OperandSays, Operates}
+use Rattle.jz_one_size.specs.Rows.{place_size}
 use Rattle.jz_judgement.proofs.Layers.{Judged}
 use Rattle.jz_judgement.proofs.Expressions.{judged_of}
 use Rattle.jz_judgement.proofs.Nothing.{none_not}
-
-abbrev pub place_size : Place → Option Size
-place_size (word z) = Some z
-place_size (stated z) = Some z
-place_size _ = None
 
 placed : {t : Typing} {H : Place → Type 0} {S : Size → Type 0} {k : Bool} → Judged t H S k → (p : Place) → H p → (y : Size) → t.form.size ≡ Some y → place_size p ≡ Some y
 placed j integer h y e = sym (j.agrees.whole (j.agrees.right integer h)) ∙ e

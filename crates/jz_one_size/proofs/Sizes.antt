@@ -88,13 +88,13 @@ right_type o a b p (judged.words z g s x y) = (word z, y)
 right_type o a b p (judged.logic g x y) = (truth, y)
 
 -- ---- the folds of the parts
-abbrev ty_typed : Ty → known.Kind
+abbrev pub ty_typed : Ty → known.Kind
 ty_typed = fold-Ty Typing known.Kind Typing Declared (Known × Span) typing_step kind_step access_typing declared_step (λ v. (v.decl, v.span))
 
-abbrev decl_typed : Decl → Declared
+abbrev pub decl_typed : Decl → Declared
 decl_typed = fold-Decl Typing known.Kind Typing Declared (Known × Span) typing_step kind_step access_typing declared_step (λ v. (v.decl, v.span))
 
-abbrev var_typed : Var → Known × Span
+abbrev pub var_typed : Var → Known × Span
 var_typed = fold-Var Typing known.Kind Typing Declared (Known × Span) typing_step kind_step access_typing declared_step (λ v. (v.decl, v.span))
 
 abbrev ty_meant : Ty → meant.Kind
@@ -130,7 +130,7 @@ abbrev bare : Proved → Layer
 bare y = map-Expr _ _ _ _ _ _ _ _ _ _ (λ e. e.0) (λ e. e.0) (λ e. e.0) (λ e. e.0) (λ e. e.0) y
 
 -- ---- expressions
-abbrev typed_layer : Layer → Typing
+abbrev pub typed_layer : Layer → Typing
 typed_layer x = typing_step (map-Expr _ _ _ _ _ Typing known.Kind Typing Declared (Known × Span) typing ty_typed typing_of_access decl_typed var_typed x)
 
 abbrev pub meant_layer : Layer → Meaning

@@ -2,6 +2,7 @@
 
 ghost use Rattle.jz_one_size.specs.OneSize.{ExpressionSizes, ExpressionsSay};
 ghost use Rattle.jz_one_size.specs.OneSize.{LeftSizes, AssignmentSizes, IntrinsicSizes};
+ghost use Rattle.jz_one_size.specs.Rows.{ClassSizes, ResultSizes, PlaceSizes};
 ghost use Rattle.jz_one_size.specs.Values.{ValuesInPlaces};
 
 /// Evaluation gives an expression by itself the size that typing finds, wherever it has a type.
@@ -34,4 +35,12 @@ pub fn intrinsics_have_one_size()
 /// that place, it is stuck or has a value of the place: of a word, a word of that size or a whole number.
 pub fn values_are_of_their_places()
     ensures { ValuesInPlaces }
+{}
+
+/// The size that a row of the pattern table sees of an operand or a result is the one that typing finds, and that of the place
+/// where the operand is well typed.
+pub fn rows_see_that_size()
+    ensures operands { ClassSizes }
+    ensures results { ResultSizes }
+    ensures places { PlaceSizes }
 {}
