@@ -44,7 +44,8 @@ AssignmentSizes =
     (to : List Lval) (d : Lval) (o : Option BinOp) (e w : Expr)
     → last_left to ≡ Some d → whole_of (Some d) o e ≡ Some w
     → All IsCountedLeft to → Counted e → Values to o e
-    → option_or (left_sizes to) (own_size w) ≡ or_size (typed_lefts to) (value_typing o d e).form.size
+    → option_or (left_sizes to) (own_size w)
+    ≡ or_size (typed_lefts to) (value_typing o d e).form.size
 
 -- ---- intrinsics
 -- each but LEA and SETcc, which have a size of their own
