@@ -4,10 +4,12 @@
 
 mod boxed;
 mod failure;
+mod mapping;
 mod seq;
 mod text;
 
 pub use boxed::Boxed;
 pub use failure::Failure;
+pub use mapping::try_map_slice;
 pub use seq::Seq;
 pub use text::Text;

@@ -1,0 +1,64 @@
+//! Lists that a function makes of lists, item by item; the first failure ends it.
+
+ghost use Rattle.std.specs.Prelude.{◌⊎◌, IfOk, IfErr};
+ghost use Rattle.std.specs.Fn.{FnReturns, FnReturnsAt};
+ghost use Rattle.jz_data.specs.Maps.{Maps, IsImage, Lacks, FailsFirst};
+
+use crate::seq::Seq;
+use std::alloc::{AllocError, Global};
+
+/// What `f` makes of each item of a slice. A failure is that of the first item that has one, or want of memory.
+pub fn try_map_slice<T, U: Drop, E: From<AllocError>, F: Fn(&T) -> Result<U, E>>(
+    alloc: Global,
+    items: &[T],
+    f: F,
+) -> Result<Seq<U>, E>
+    requires { F.IsAlwaysCallable f }
+    ensures each { IfOk result (Maps (FnReturnsAt F.Fn f) items.now) }
+    ensures image { IsImage (FnReturnsAt F.Fn f) items.now result }
+    ensures err { IfErr result (λ e. Lacks E.from_gives e ⊎ FailsFirst (FnReturnsAt F.Fn f) items.now e) }
+{
+    let mut out = Seq::new(alloc);
+    for item in items {
+        let made = f(item)?;
+        out.push(made)?;
+    }
+    Ok(out)
+}
+
+impl<T> Seq<T> {
+    /// What `f` makes of each item. A failure is that of the first item that has one, or want of memory.
+    pub fn try_map<U: Drop, E: From<AllocError>, F: Fn(&T) -> Result<U, E>>(
+        &self,
+        alloc: Global,
+        f: F,
+    ) -> Result<Seq<U>, E>
+        requires { F.IsAlwaysCallable f }
+        ensures each { IfOk result (Maps (FnReturnsAt F.Fn f) self.now) }
+        ensures image { IsImage (FnReturnsAt F.Fn f) self.now result }
+        ensures err { IfErr result (λ e. Lacks E.from_gives e ⊎ FailsFirst (FnReturnsAt F.Fn f) self.now e) }
+    {
+        try_map_slice(alloc, self.as_slice(), f)
+    }
+
+    /// The same by value.
+    pub fn into_try_map<U: Drop, E: From<AllocError>, F: Fn(T) -> Result<U, E>>(
+        self,
+        alloc: Global,
+        f: F,
+    ) -> Result<Seq<U>, E>
+    where
+        T: Drop,
+        requires { F.IsAlwaysCallable f }
+        ensures each { IfOk result (Maps (λ x r. FnReturns F.Fn f (x, tt) r) self) }
+        ensures image { IsImage (λ x r. FnReturns F.Fn f (x, tt) r) self result }
+        ensures err { IfErr result (λ e. Lacks E.from_gives e ⊎ FailsFirst (λ x r. FnReturns F.Fn f (x, tt) r) self e) }
+    {
+        let mut out = Seq::new(alloc);
+        for item in self.into_vec() {
+            let made = f(item)?;
+            out.push(made)?;
+        }
+        Ok(out)
+    }
+}
