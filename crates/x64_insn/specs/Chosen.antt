@@ -389,10 +389,6 @@ is_rm (operand.Reg r) = true
 is_rm (operand.Imm i) = false
 is_rm (operand.Mem a) = is_address a
 
-abbrev pub is_memory : Operand → Bool
-is_memory (operand.Mem a) = is_address a
-is_memory other = false
-
 abbrev pub is_register : Operand → Bool
 is_register (operand.Reg r) = true
 is_register other = false

@@ -309,13 +309,6 @@ division_event rm high low d next st = record {
   div = Some (high, low, d);
 }
 
--- the product and the quotient of words, or of signed words
-abbrev pub product_kind : Bool → Wide
-product_kind signed = if signed then wide.Imul else wide.Mul
-
-abbrev pub quotient_kind : Bool → Wide
-quotient_kind signed = if signed then wide.Idiv else wide.Div
-
 -- MUL, IMUL, DIV and IDIV of RDX and RAX by a word
 abbrev pub wide_word_row : Wide → Size → Operand → ℕ → ℕ → State → Memory → Result After FaultKind
 wide_word_row wide.Mul s rm b next st m =

@@ -2,7 +2,8 @@
 
 ghost use Rattle.std.specs.Prelude.{◌≡◌, ◌<◌};
 ghost use Rattle.jz_words.specs.Sizes.{modulus};
-ghost use Rattle.x64_insn.specs.Rows.{Does, alu_row, both_row, carry_read, count_value, division_event, imul_row, one_row, product_kind, quotient_kind, shift_row, wide_row, wide_word_row, with_both, writes_operand};
+ghost use Rattle.x64_insn.specs.Rows.{Does, alu_row, both_row, carry_read, count_value, division_event, imul_row, one_row, shift_row, wide_row, wide_word_row, with_both, writes_operand};
+ghost use Rattle.x64_insn.specs.InnerRows.{product_kind, quotient_kind};
 
 use crate::answer::{alu_answer, one_answer};
 use crate::bus::Bus;
