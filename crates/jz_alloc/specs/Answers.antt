@@ -14,21 +14,35 @@ use Rattle.jz_alloc.specs.declared.placing.NoPlace.{NoPlace}
 use Rattle.jz_alloc.specs.declared.placing.Allocation.TheVariants as V
 use Rattle.jz_alloc.specs.Needs.{need_before, Wants}
 
+-- the holder is what first keeps the variable from the place
+abbrev pub IsFirstHolder : List Op → (ℕ → ℕ → Type 0) → List (Option ℕ) → ℕ → ℕ → Holder → Type 0
+IsFirstHolder ops Live places variable place holder =
+    (number_of holder.place ≡ place)
+    × FirstHolder ops Live places variable place holder.span holder.variable
+
 -- for each place below the bound that passes one holder, in the order of places
-abbrev pub HoldsEach : List Op → (ℕ → ℕ → Type 0) → List (Option ℕ) → ℕ → (ℕ → Bool) → ℕ → List Holder → Type 0
+abbrev pub HoldsEach :
+    List Op → (ℕ → ℕ → Type 0) → List (Option ℕ) → ℕ → (ℕ → Bool) → ℕ → List Holder → Type 0
 HoldsEach ops Live places variable passes bound holders =
     (map (λ holder. number_of holder.place) holders ≡ filter passes (range_with_len 0 bound))
-    × All (λ holder. FirstHolder ops Live places variable (number_of holder.place) holder.span holder.variable) holders
+    × All
+    (λ holder.
+    FirstHolder ops Live places variable (number_of holder.place) holder.span holder.variable)
+    holders
 
 module _ (ops : List Op) (kinds : List Kind) (in_use : List Place) (Live : ℕ → ℕ → Type 0) where
-  -- the first variable that first fit leaves without a place; each of its needs once, in the order of the text; and for
-  -- each place that meets them all the first operation at which it is kept from there
+  -- the first variable that first fit leaves without a place; each of its needs once, in the order
+  -- of the text; and for each place that meets them all the first operation at which it is kept
+  -- from there
   pub record Explained (refusal : NoPlace) : Type 0 where
     pub places : List (Option ℕ)
     pub is_first : FirstFit ops kinds in_use Live (refused refusal.variable places)
     pub text_order : AllPairs (λ first second. IsTrue (need_before first second)) refusal.needs
-    pub each_need : (needed : Needed) → Contains refusal.needs needed ↔ Wants refusal.variable needed ops
-    pub holders : HoldsEach ops Live places refusal.variable (meets kinds in_use ops refusal.variable) 20 refusal.holders
+    pub each_need :
+        (needed : Needed) → Contains refusal.needs needed ↔ Wants refusal.variable needed ops
+    pub holders :
+        HoldsEach ops Live places refusal.variable (meets kinds in_use ops refusal.variable) 20
+        refusal.holders
 
   abbrev pub Allocated : Allocation → Type 0
   Allocated (V.Places places) = FirstFit ops kinds in_use Live (placed places.items)

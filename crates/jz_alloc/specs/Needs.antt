@@ -10,13 +10,21 @@ use Rattle.jz_alloc.specs.declared.needs.Needed.{Needed}
 abbrev pub need_before : Needed → Needed → Bool
 need_before first second =
     if nat_eq first.span.line second.span.line
-    then (if nat_eq first.span.col second.span.col then nat_lt (number_of first.place) (number_of second.place) else nat_lt first.span.col second.span.col)
+    then (if nat_eq first.span.col second.span.col
+    then nat_lt (number_of first.place) (number_of second.place)
+    else nat_lt first.span.col second.span.col)
     else nat_lt first.span.line second.span.line
+
+-- the place of a need, and where the text says so
+abbrev pub needed_by : Need → Needed
+needed_by need = record { place = need.place; span = need.span }
 
 -- some operation has this need of the variable
 abbrev pub Wants : ℕ → Needed → List Op → Type 0
 Wants variable needed ops =
-    Any (λ op. Any (λ need. (need.variable ≡ variable) × (record { place = need.place; span = need.span } ≡ needed)) op.needs) ops
+    Any
+    (λ op. Any (λ need. (need.variable ≡ variable) × (needed_by need ≡ needed)) op.needs)
+    ops
 
 -- ---- the list that is built, need by need
 abbrev pub insert_need : Needed → List Needed → List Needed
@@ -28,7 +36,8 @@ insert_need needed (first ∷ rest) =
 abbrev pub add_needs : ℕ → List Need → List Needed → List Needed
 add_needs variable [] needs = needs
 add_needs variable (need ∷ rest) needs =
-    add_needs variable rest (if nat_eq need.variable variable then insert_need (record { place = need.place; span = need.span }) needs else needs)
+    add_needs variable rest
+    (if nat_eq need.variable variable then insert_need (needed_by need) needs else needs)
 
 abbrev pub need_list : ℕ → List Op → List Needed → List Needed
 need_list variable [] needs = needs

@@ -1,4 +1,5 @@
 //! Why a variable has no place.
+
 ghost use Rattle.std.specs.Prelude.{◌≡◌, ◌≢◌, ℕ, ◌+◌, ◌*◌, ◌/◌, ◌<◌, ◌≤◌, ◌^◌, ◌||◌, ◌&&◌, length, IfOk, MatchOption, IsTrue, ◌↔◌, slice_index_or, [], Some, None, ◌==◌, nat_eq};
 ghost use Rattle.std.specs.List.{All};
 ghost use Rattle.jz_bits.specs.Has.{has, Shares};
@@ -7,6 +8,7 @@ ghost use Rattle.jz_ir.specs.Paths.{among};
 ghost use Rattle.jz_ir.specs.Places.{op_at, HeldByVar, HeldBy, FirstHolder, TakenAt, ConflictAt};
 ghost use Rattle.jz_alloc.specs.Tables.{AllWide, row_has};
 ghost use Rattle.jz_alloc.specs.Holding.{LiveIn, IsHeld, WhoAt, VarAt, FirstVarAt};
+ghost use Rattle.jz_alloc.specs.Answers.{IsFirstHolder};
 
 use crate::tables::holds;
 use jz_bits::Bits;
@@ -17,7 +19,7 @@ use std::alloc::{AllocError, Global};
 use x64_insn::Place;
 
 /// What keeps a variable from a place, and where: a variable, or without one a fixed write.
-#[derive(Clone, Copy, PartialEq, Eq)]
+#[derive(Clone, Copy)]
 pub struct Holder {
     pub place: Place,
     pub variable: Option<u32>,
@@ -27,7 +29,8 @@ pub struct Holder {
 /// The variables in the place.
 fn held_row(alloc: Global, places: &[Option<u8>], place: u8) -> Result<Bits, AllocError>
     ensures wide { IfOk result (λ row. length row ≡ length places.now / 64 + 1) }
-    ensures set { IfOk result (λ row. (variable : ℕ) → IsTrue (has row variable) ↔ (slice_index_or places.now variable None ≡ Some place)) }
+    ensures set { IfOk result (λ row. (variable : ℕ)
+        → IsTrue (has row variable) ↔ (slice_index_or places.now variable None ≡ Some place)) }
 {
     let mut row = Bits::new(alloc, places.len())?;
     for (variable, seat) in places.iter().enumerate() {
@@ -53,8 +56,9 @@ fn is_among(variables: &Seq<u32>, variable: u32) -> bool
 
 /// The first variable in both rows.
 fn first_common(first: &Bits, second: &Bits, count: u32) -> Option<u32>
-    ensures { MatchOption result ((variable : ℕ) → variable < count → IsTrue (has first.now variable) → IsTrue (has second.now variable) → ⊥)
-        (λ variable. (variable < count) × IsTrue (has first.now variable) × IsTrue (has second.now variable)) }
+    ensures { MatchOption result
+        ((v : ℕ) → v < count → IsTrue (has first.now v) → IsTrue (has second.now v) → ⊥)
+        (λ v. (v < count) × IsTrue (has first.now v) × IsTrue (has second.now v)) }
 {
     for variable in 0..count {
         if first.contains(variable as usize) && second.contains(variable as usize) {
@@ -66,8 +70,9 @@ fn first_common(first: &Bits, second: &Bits, count: u32) -> Option<u32>
 
 /// The first of the variables that is in the row.
 fn first_in(variables: &Seq<u32>, row: &Bits) -> Option<u32>
-    ensures { MatchOption result ((variable : ℕ) → IsTrue (among variables.now variable) → IsTrue (has row.now variable) → ⊥)
-        (λ variable. IsTrue (among variables.now variable) × IsTrue (has row.now variable)) }
+    ensures { MatchOption result
+        ((v : ℕ) → IsTrue (among variables.now v) → IsTrue (has row.now v) → ⊥)
+        (λ v. IsTrue (among variables.now v) × IsTrue (has row.now v)) }
 {
     for variable in variables.as_slice() {
         if row.contains(*variable as usize) {
@@ -77,7 +82,8 @@ fn first_in(variables: &Seq<u32>, row: &Bits) -> Option<u32>
     None
 }
 
-/// The first variable of the row that conflicts with the variable at an operation, where `found` is one.
+/// The first variable of the row that conflicts with the variable at an operation, where `found` is
+/// one.
 fn first_conflicting(op: &Op, after: &Bits, held: &Bits, variable: u32, found: u32) -> u32
     requires { VarAt op.now after.now held.now variable found }
     ensures { FirstVarAt op.now after.now held.now variable result }
@@ -134,9 +140,9 @@ pub fn holder_of(
     requires rows { length after.now ≡ length ops.now }
     requires vars { length places.now < 2 ^ 32 }
     requires place { place < 20 }
-    ensures { IfOk result (λ found. MatchOption found (IsHeld ops.now after.now places.now variable place → ⊥)
-        (λ holder. (number_of holder.place ≡ place)
-        × FirstHolder ops.now (LiveIn after.now) places.now variable place holder.span holder.variable)) }
+    ensures { IfOk result (λ found. MatchOption found
+        (IsHeld ops.now after.now places.now variable place → ⊥)
+        (IsFirstHolder ops.now (LiveIn after.now) places.now variable place)) }
 {
     let held = held_row(alloc, places, place)?;
     for i in 0..ops.len() {

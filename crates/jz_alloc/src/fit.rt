@@ -1,4 +1,5 @@
 //! First fit.
+
 ghost use Rattle.std.specs.Prelude.{◌≡◌, ◌≢◌, ℕ, ◌+◌, ◌*◌, ◌/◌, ◌<◌, ◌≤◌, length, IfOk, MatchOption, IsTrue, replicate, slice_index_or, [], None};
 ghost use Rattle.std.specs.List.{All};
 ghost use Rattle.jz_bits.specs.Has.{has};
@@ -29,8 +30,11 @@ fn first_open(
     requires busy { length busy.now ≡ 20 }
     requires holders { length holders.now ≡ 20 }
     requires wide { All (λ held. length held ≡ length row.now) holders.now }
-    ensures { MatchOption result ((place : ℕ) → place < 20 → IsOpen meets.now busy.now holders.now row.now variable place → ⊥)
-        (λ place. (place < 20) × IsOpen meets.now busy.now holders.now row.now variable place × ((earlier : ℕ) → earlier < place
+    ensures { MatchOption result
+        ((place : ℕ) → place < 20
+        → IsOpen meets.now busy.now holders.now row.now variable place → ⊥)
+        (λ place. (place < 20) × IsOpen meets.now busy.now holders.now row.now variable place
+        × ((earlier : ℕ) → earlier < place
         → IsOpen meets.now busy.now holders.now row.now variable earlier → ⊥)) }
 {
     for place in 0..20 {
@@ -59,7 +63,9 @@ pub fn place_all(
     requires taken { length taken.items ≡ 20 }
     requires taken_wide { AllWide (length rows.now) taken.items }
     requires wide { AllWide (length rows.now) rows.now }
-    ensures { IfOk result (λ fit. First (MeetsIn meets.now) (ConflictsIn rows.now) (TakenIn taken.items) order.now (replicate (length rows.now) None) (out_of fit)) }
+    ensures { IfOk result (λ fit.
+        First (MeetsIn meets.now) (ConflictsIn rows.now) (TakenIn taken.items)
+        order.now (replicate (length rows.now) None) (out_of fit)) }
 {
     let mut places = vec![in alloc; None; rows.len()]?;
     let mut busy = taken;

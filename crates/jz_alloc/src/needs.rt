@@ -1,4 +1,5 @@
 //! The needs of a variable, in the order of the text.
+
 ghost use Rattle.std.specs.Prelude.{◌≡◌, ℕ, ◌++◌, ◌<◌, ◌≤◌, ◌+◌, take, drop, length, IfOk, OnOk, []};
 ghost use Rattle.jz_alloc.specs.Needs.{need_before, insert_need, add_needs, need_list};
 

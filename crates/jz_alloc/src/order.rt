@@ -1,4 +1,5 @@
 //! The order of placing.
+
 ghost use Rattle.std.specs.Prelude.{◌≡◌, ℕ, ◌++◌, ◌<◌, ◌≤◌, ◌*◌, ◌+◌, ◌/◌, ◌&&◌, not, length, IfOk};
 ghost use Rattle.std.specs.List.{All};
 ghost use Rattle.jz_bits.specs.Has.{has};

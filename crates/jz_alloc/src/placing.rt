@@ -1,4 +1,5 @@
 //! A place for each variable, or why one has none.
+
 ghost use Rattle.std.specs.Prelude.{◌≡◌, ℕ, ◌+◌, ◌*◌, ◌/◌, ◌<◌, ◌≤◌, ◌^◌, length, IfOk, IfErr, IsTrue, slice_index_or, [], None};
 ghost use Rattle.std.specs.List.{All};
 ghost use Rattle.jz_data.specs.Failures.{IfRefused};
@@ -51,8 +52,8 @@ fn holders_of(
     requires rows { length after.now ≡ length ops.now }
     requires meets { length meets.now ≡ 20 }
     requires vars { length places.now < 2 ^ 32 }
-    requires held { (place : ℕ) → place < 20 → IsTrue (row_has meets.now place variable) → (IsHeld ops.now after.now places.now variable place
-        → ⊥) → ⊥ }
+    requires held { (place : ℕ) → place < 20 → IsTrue (row_has meets.now place variable)
+        → (IsHeld ops.now after.now places.now variable place → ⊥) → ⊥ }
     ensures { IfOk result (λ holders. HoldsEach ops.now (LiveInRows after.now) places.now variable
         (λ place. row_has meets.now place variable) 20 holders) }
 {
@@ -80,7 +81,7 @@ fn allocate_rows(
     requires rows { length after.now ≡ length ops.now }
     requires wide { AllWide (length kinds.now) after.now }
     requires vars { length kinds.now < 2 ^ 32 }
-    ensures { IfOk result (λ allocation. Allocated ops.now kinds.now in_use.now (LiveInRows after.now) allocation) }
+    ensures { IfOk result (Allocated ops.now kinds.now in_use.now (LiveInRows after.now)) }
 {
     let meets = meets_rows(alloc, ops, kinds, in_use)?;
     let taken = taken_rows(alloc, ops, after, kinds.len())?;
@@ -122,20 +123,21 @@ fn allocate_straight(
 ) -> Result<Allocation, AllocError>
     requires below { All (Below (length kinds.now)) ops.now }
     requires vars { length kinds.now < 2 ^ 32 }
-    ensures { IfOk result (λ allocation. Allocated ops.now kinds.now in_use.now (LiveIn ops.now) allocation) }
+    ensures { IfOk result (Allocated ops.now kinds.now in_use.now (LiveIn ops.now)) }
 {
     let after = live_after(alloc, ops, kinds.len())?;
     let allocation = allocate_rows(alloc, ops, after.as_slice(), kinds, in_use)?;
     Ok(allocation)
 }
 
-/// A place for each variable of code without branches: the variables with needs first, then the others, each in the
-/// order of declaration, take the first place that they can have. Or the first that is left without one, and why.
+/// A place for each variable of code without branches: the variables with needs first, then the
+/// others, each in the order of declaration, take the first place that they can have. Or the first
+/// that is left without one, and why.
 pub fn allocate(alloc: Global, code: &Code) -> Result<Places, Failure<NoPlace>>
     requires within { IsWithin code.now }
     requires count { length code.now.kinds < 2 ^ 32 }
-    ensures first { IfOk result
-        (λ places. FirstFit code.now.ops code.now.kinds code.now.in_use (LiveIn code.now.ops) (all_of places)) }
+    ensures first { IfOk result (λ places. FirstFit code.now.ops code.now.kinds code.now.in_use
+        (LiveIn code.now.ops) (all_of places)) }
     ensures rule { IfOk result (λ places. IsPlacing code.now (LiveIn code.now.ops) places) }
     ensures evidence { IfErr result (λ failure. IfRefused failure
         (λ refusal. IsEvidence code.now (LiveIn code.now.ops) refusal)) }

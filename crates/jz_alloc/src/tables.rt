@@ -1,7 +1,8 @@
 //! What the code says of each variable and place, as rows of bits.
-ghost use Rattle.std.specs.Prelude.{◌≡◌, ℕ, ◌+◌, ◌*◌, ◌/◌, ◌<◌, ◌≤◌, ◌||◌, ◌&&◌, not, length, IfOk, IsTrue, ◌↔◌, slice_index_or, [], nat_lt, nat_le, Bool, false};
+
+ghost use Rattle.std.specs.Prelude.{◌≡◌, ℕ, ◌+◌, ◌*◌, ◌/◌, ◌<◌, ◌≤◌, ◌||◌, ◌&&◌, not, length, IfOk, slice_index_or, [], nat_lt, false};
 ghost use Rattle.std.specs.List.{All, list_all};
-ghost use Rattle.jz_bits.specs.Has.{has};
+ghost use Rattle.jz_bits.specs.Has.{EachHas, has, HasExactly};
 ghost use Rattle.jz_ir.specs.Order.{number_of, has_place};
 ghost use Rattle.jz_ir.specs.Paths.{among};
 ghost use Rattle.jz_ir.specs.Places.{op_at, kind_has, need_fits, op_fits, meets};
@@ -31,7 +32,8 @@ pub fn holds(places: &[Place], place: u8) -> bool
 fn across(alloc: Global, op: &Op, after: &Bits) -> Result<Bits, AllocError>
     requires { Below (64 * length after.now) op.now }
     ensures wide { IfOk result (λ row. length row ≡ length after.now) }
-    ensures set { IfOk result (λ row. (variable : ℕ) → has row variable ≡ (not (among op.now.writes variable) && has after.now variable)) }
+    ensures set { IfOk result (λ row.
+        HasExactly row (λ v. not (among op.now.writes v) && has after.now v)) }
 {
     let mut live = after.copy(alloc)?;
     remove_all(&mut live, &op.writes);
@@ -50,8 +52,8 @@ fn taken_row(
     requires rows { length after.now ≡ length ops.now }
     requires wide { AllWide count after.now }
     ensures wide { IfOk result (λ row. length row ≡ count / 64 + 1) }
-    ensures set { IfOk result (λ row. (variable : ℕ) → has row variable ≡ any_below (length ops.now)
-        (λ i. taken ops.now after.now i variable place)) }
+    ensures set { IfOk result (λ row. HasExactly row
+        (λ v. any_below (length ops.now) (λ i. taken ops.now after.now i v place))) }
 {
     let mut row = Bits::new(alloc, count)?;
     for i in 0..ops.len() {
@@ -66,7 +68,8 @@ fn taken_row(
 fn leave_fit(row: &mut Bits, needs: &Seq<Need>, place: u8)
     requires { All (λ need. need.variable < 64 * length row.old) needs.now }
     ensures wide { length row.new ≡ length row.old }
-    ensures set { (variable : ℕ) → has row.new variable ≡ (list_all (need_fits variable place) needs.now && has row.old variable) }
+    ensures set { HasExactly row.new
+        (λ v. list_all (need_fits v place) needs.now && has row.old v) }
 {
     for need in needs.as_slice() {
         if place_number(need.place) != place {
@@ -78,8 +81,8 @@ fn leave_fit(row: &mut Bits, needs: &Seq<Need>, place: u8)
 /// The variables of the place's kind, where the place is in use.
 fn kind_row(alloc: Global, kinds: &[Kind], in_use: &[Place], place: u8) -> Result<Bits, AllocError>
     ensures wide { IfOk result (λ row. length row ≡ length kinds.now / 64 + 1) }
-    ensures set { IfOk result (λ row. (variable : ℕ) → has row variable ≡ (nat_lt variable (length kinds.now)
-        && kind_has kinds.now in_use.now variable place)) }
+    ensures set { IfOk result (λ row. HasExactly row
+        (λ v. nat_lt v (length kinds.now) && kind_has kinds.now in_use.now v place)) }
 {
     let mut row = Bits::new(alloc, kinds.len())?;
     let is_in_use = holds(in_use, place);
@@ -105,8 +108,8 @@ fn meets_row(
 ) -> Result<Bits, AllocError>
     requires { All (Below (length kinds.now)) ops.now }
     ensures wide { IfOk result (λ row. length row ≡ length kinds.now / 64 + 1) }
-    ensures set { IfOk result (λ row. (variable : ℕ) → has row variable ≡ (nat_lt variable (length kinds.now)
-        && meets kinds.now in_use.now ops.now variable place)) }
+    ensures set { IfOk result (λ row. HasExactly row
+        (λ v. nat_lt v (length kinds.now) && meets kinds.now in_use.now ops.now v place)) }
 {
     let mut row = kind_row(alloc, kinds, in_use, place)?;
     for op in ops {
@@ -121,8 +124,9 @@ fn add_rows(rows: &mut Vec<Bits>, writes: &Seq<u32>, row: &Bits)
     requires wide { All (λ other. length other ≡ length row.now) rows.old.items }
     ensures rows { length rows.new.items ≡ length rows.old.items }
     ensures wide { All (λ other. length other ≡ length row.now) rows.new.items }
-    ensures set { (written variable : ℕ) → written < length rows.old.items → has (slice_index_or rows.new.items written []) variable
-        ≡ (has (slice_index_or rows.old.items written []) variable || (among writes.now written && has row.now variable)) }
+    ensures set { EachHas (length rows.old.items) rows.new.items
+        (λ i v. has (slice_index_or rows.old.items i []) v
+        || (among writes.now i && has row.now v)) }
 {
     for written in writes.as_slice() {
         rows[*written as usize].union(row);
@@ -133,7 +137,7 @@ fn add_rows(rows: &mut Vec<Bits>, writes: &Seq<u32>, row: &Bits)
 pub fn empty_rows(alloc: Global, rows: usize, count: usize) -> Result<Vec<Bits>, AllocError>
     ensures rows { IfOk result (λ made. length made.items ≡ rows) }
     ensures wide { IfOk result (λ made. AllWide count made.items) }
-    ensures empty { IfOk result (λ made. (i variable : ℕ) → i < rows → has (slice_index_or made.items i []) variable ≡ false) }
+    ensures empty { IfOk result (λ made. EachHas rows made.items (λ i v. false)) }
 {
     let mut made = Vec::new(alloc);
     for row in 0..rows {
@@ -155,8 +159,8 @@ pub fn write_rows(
     requires wide { AllWide count after.now }
     ensures rows { IfOk result (λ rows. length rows.items ≡ count) }
     ensures wide { IfOk result (λ rows. AllWide count rows.items) }
-    ensures set { IfOk result (λ rows. (written variable : ℕ) → written < count → has (slice_index_or rows.items written []) variable
-        ≡ any_below (length ops.now) (λ i. reaches ops.now after.now i written variable)) }
+    ensures set { IfOk result (λ rows. EachHas count rows.items
+        (λ written v. any_below (length ops.now) (λ i. reaches ops.now after.now i written v))) }
 {
     let mut rows = empty_rows(alloc, count, count)?;
     for i in 0..ops.len() {
@@ -175,8 +179,8 @@ pub fn meets_rows(
     requires { All (Below (length kinds.now)) ops.now }
     ensures rows { IfOk result (λ rows. length rows.items ≡ 20) }
     ensures wide { IfOk result (λ rows. AllWide (length kinds.now) rows.items) }
-    ensures set { IfOk result (λ rows. (place variable : ℕ) → place < 20 → has (slice_index_or rows.items place []) variable
-        ≡ (nat_lt variable (length kinds.now) && meets kinds.now in_use.now ops.now variable place)) }
+    ensures set { IfOk result (λ rows. EachHas 20 rows.items (λ place v.
+        nat_lt v (length kinds.now) && meets kinds.now in_use.now ops.now v place)) }
 {
     let mut rows = Vec::new(alloc);
     for place in 0..20u8 {
@@ -197,8 +201,8 @@ pub fn taken_rows(
     requires wide { AllWide count after.now }
     ensures rows { IfOk result (λ rows. length rows.items ≡ 20) }
     ensures wide { IfOk result (λ rows. AllWide count rows.items) }
-    ensures set { IfOk result (λ rows. (place variable : ℕ) → place < 20 → has (slice_index_or rows.items place []) variable
-        ≡ any_below (length ops.now) (λ i. taken ops.now after.now i variable place)) }
+    ensures set { IfOk result (λ rows. EachHas 20 rows.items
+        (λ place v. any_below (length ops.now) (λ i. taken ops.now after.now i v place))) }
 {
     let mut rows = Vec::new(alloc);
     for place in 0..20u8 {

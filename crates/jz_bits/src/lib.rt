@@ -2,7 +2,7 @@
 #![tactic(auto)]
 
 ghost use Rattle.std.specs.Prelude.{◌≡◌, ℕ, ◌+◌, ◌*◌, ◌/◌, ◌<◌, ◌≤◌, ◌||◌, ◌&&◌, not, false, nat_eq, length, IfOk, replicate, Bool};
-ghost use Rattle.jz_bits.specs.Has.{has, Shares};
+ghost use Rattle.jz_bits.specs.Has.{has, HasExactly, Shares};
 ghost use Rattle.std.specs.Bool.{MatchBool};
 
 use std::alloc::{AllocError, Global};
@@ -26,7 +26,7 @@ impl Bits {
     /// The empty set, with a bit for each number up to `bound`.
     pub fn new(alloc: Global, bound: usize) -> Result<Bits, AllocError>
         ensures wide { IfOk result (λ bits. length bits ≡ bound / 64 + 1) }
-        ensures empty { IfOk result (λ bits. (number : ℕ) → has bits number ≡ false) }
+        ensures empty { IfOk result (λ bits. HasExactly bits (λ number. false)) }
     {
         Ok(Bits {
             words: vec![in alloc; 0; bound / 64 + 1]?,
@@ -36,7 +36,7 @@ impl Bits {
     /// An empty set as wide as this one.
     pub fn empty_like(&self, alloc: Global) -> Result<Bits, AllocError>
         ensures wide { IfOk result (λ bits. length bits ≡ length self.now) }
-        ensures empty { IfOk result (λ bits. (number : ℕ) → has bits number ≡ false) }
+        ensures empty { IfOk result (λ bits. HasExactly bits (λ number. false)) }
     {
         Ok(Bits {
             words: vec![in alloc; 0; self.words.len()]?,
@@ -57,7 +57,7 @@ impl Bits {
     pub fn insert(&mut self, number: usize)
         requires { number / 64 < length self.old }
         ensures wide { length self.new ≡ length self.old }
-        ensures set { (other : ℕ) → has self.new other ≡ (nat_eq other number || has self.old other) }
+        ensures set { HasExactly self.new (λ other. nat_eq other number || has self.old other) }
     {
         self.words[number / 64] |= 1 << (number % 64);
     }
@@ -66,7 +66,8 @@ impl Bits {
     pub fn remove(&mut self, number: usize)
         requires { number / 64 < length self.old }
         ensures wide { length self.new ≡ length self.old }
-        ensures set { (other : ℕ) → has self.new other ≡ (not (nat_eq other number) && has self.old other) }
+        ensures set { HasExactly self.new
+            (λ other. not (nat_eq other number) && has self.old other) }
     {
         self.words[number / 64] &= !(1 << (number % 64));
     }
@@ -75,7 +76,7 @@ impl Bits {
     pub fn union(&mut self, other: &Bits)
         requires { length other.now ≡ length self.old }
         ensures wide { length self.new ≡ length self.old }
-        ensures set { (number : ℕ) → has self.new number ≡ (has self.old number || has other.now number) }
+        ensures set { HasExactly self.new (λ number. has self.old number || has other.now number) }
     {
         for i in 0..self.words.len() {
             self.words[i] |= other.words[i];

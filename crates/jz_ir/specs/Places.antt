@@ -1,4 +1,5 @@
--- Conflicts, needs and first fit, over operations and any liveness `Live i v` (v is live after the operation i).
+-- Conflicts, needs and first fit, over operations and any liveness `Live i v` (v is live after the
+-- operation i).
 use Rattle.std.specs.Prelude.{◌≡◌, ℕ, ◌<◌, ◌≢◌, ◌⊎◌, Bool, not, ◌&&◌, ◌||◌, List, [], ◌∷◌, ◌++◌, nat_eq, nat_lt, nat_le, IsTrue, IsFalse, slice_index_or, slice_set, length, map, replicate, Option, Some, None}
 use Rattle.std.specs.List.{All, list_any, list_all, filter, range_with_len}
 use Rattle.x64_insn.specs.declared.types.Place.{Place}
@@ -15,7 +16,13 @@ use Rattle.jz_ir.specs.Paths.{among}
 
 -- what stands past the end of the code
 abbrev pub no_op : Op
-no_op = record { span = record { line = 0; col = 0 }; reads = []; writes = []; fixed = []; needs = [] }
+no_op = record {
+  span = record { line = 0; col = 0 };
+  reads = [];
+  writes = [];
+  fixed = [];
+  needs = [];
+}
 
 abbrev pub op_at : List Op → ℕ → Op
 op_at ops i = slice_index_or ops i no_op
@@ -55,11 +62,14 @@ has_need ops v = list_any (λ o. list_any (λ n. nat_eq n.variable v) o.needs) o
 module _ (ops : List Op) (Live : ℕ → ℕ → Type 0) where
   -- at the operation i: it writes one, and the other is live after it
   abbrev pub ConflictAt : ℕ → ℕ → ℕ → Type 0
-  ConflictAt i a b = (IsTrue (among (op_at ops i).writes a) × Live i b) ⊎ (IsTrue (among (op_at ops i).writes b) × Live i a)
+  ConflictAt i a b =
+      (IsTrue (among (op_at ops i).writes a) × Live i b)
+      ⊎ (IsTrue (among (op_at ops i).writes b) × Live i a)
 
   -- the operation i writes the place besides, and v is live across it
   abbrev pub TakenAt : ℕ → ℕ → ℕ → Type 0
-  TakenAt i v q = IsTrue (has_place (op_at ops i).fixed q) × IsFalse (among (op_at ops i).writes v) × Live i v
+  TakenAt i v q =
+      IsTrue (has_place (op_at ops i).fixed q) × IsFalse (among (op_at ops i).writes v) × Live i v
 
 -- ---- first fit
 pub data Out : Type 0 where
@@ -80,15 +90,22 @@ module _ (Meets : ℕ → ℕ → Type 0) (Conflict : ℕ → ℕ → Type 0) (T
   abbrev pub IsLeft : List (Option ℕ) → ℕ → Type 0
   IsLeft done v = (q : ℕ) → Meets v q → Free done v q → ⊥
 
-  -- the variables of the list, one after another: each takes the first place that it can have, or is left without one
+  -- the variables of the list, one after another: each takes the first place that it can have, or
+  -- is left without one
   pub data First : List ℕ → List (Option ℕ) → Out → Type 0 where
     all_placed : {done : List (Option ℕ)} → First [] done (placed done)
-    one_placed : {v q : ℕ} {vs : List ℕ} {done : List (Option ℕ)} {o : Out} → Takes done v q → First vs (slice_set done v (Some q)) o → First (v ∷ vs) done o
-    one_left : {v : ℕ} {vs : List ℕ} {done : List (Option ℕ)} → IsLeft done v → First (v ∷ vs) done (refused v done)
+    one_placed :
+        {v q : ℕ} {vs : List ℕ} {done : List (Option ℕ)} {o : Out} → Takes done v q
+        → First vs (slice_set done v (Some q)) o → First (v ∷ vs) done o
+    one_left :
+        {v : ℕ} {vs : List ℕ} {done : List (Option ℕ)} → IsLeft done v
+        → First (v ∷ vs) done (refused v done)
 
 -- those with needs first, each in order of declaration
 abbrev pub order_of : List Op → ℕ → List ℕ
-order_of ops n = filter (has_need ops) (range_with_len 0 n) ++ filter (λ v. not (has_need ops v)) (range_with_len 0 n)
+order_of ops n =
+    filter (has_need ops) (range_with_len 0 n)
+    ++ filter (λ v. not (has_need ops v)) (range_with_len 0 n)
 
 module _ (ops : List Op) (kinds : List Kind) (in_use : List Place) (Live : ℕ → ℕ → Type 0) where
   abbrev pub Meets : ℕ → ℕ → Type 0
@@ -102,7 +119,8 @@ module _ (ops : List Op) (kinds : List Kind) (in_use : List Place) (Live : ℕ �
 
   -- first fit of all variables comes to this
   abbrev pub FirstFit : Out → Type 0
-  FirstFit o = First Meets Conflict Taken (order_of ops (length kinds)) (replicate (length kinds) None) o
+  FirstFit o =
+      First Meets Conflict Taken (order_of ops (length kinds)) (replicate (length kinds) None) o
 
 -- a place for each variable
 abbrev pub all_of : List Place → Out
@@ -134,7 +152,9 @@ place_at places v = slice_index_or places v (place.Reg reg.Rsp)
 
 -- an operation writes u, and another variable is live after it: they have different places
 abbrev pub AllocatedApart : List Op → (ℕ → ℕ → Type 0) → List Place → Type 0
-AllocatedApart ops Live places = (i u v : ℕ) → u ≢ v → IsTrue (among (op_at ops i).writes u) → Live i v → place_at places u ≢ place_at places v
+AllocatedApart ops Live places =
+    (i u v : ℕ) → u ≢ v → IsTrue (among (op_at ops i).writes u) → Live i v
+    → place_at places u ≢ place_at places v
 
 -- no variable is live across a fixed write of its place
 abbrev pub KeptFromFixed : List Op → (ℕ → ℕ → Type 0) → List Place → Type 0
@@ -143,6 +163,8 @@ KeptFromFixed ops Live places = (i v : ℕ) → TakenAt ops Live i v (number_of 
 -- each variable has a place of its kind in use, which is that of each of its needs
 pub record IsPlacing (code : Code) (Live : ℕ → ℕ → Type 0) (places : List Place) : Type 0 where
   pub one_each : length places ≡ length code.kinds
-  pub meets_needs : (v : ℕ) → v < length code.kinds → IsTrue (meets code.kinds code.in_use code.ops v (number_of (place_at places v)))
+  pub meets_needs :
+      (v : ℕ) → v < length code.kinds
+      → IsTrue (meets code.kinds code.in_use code.ops v (number_of (place_at places v)))
   pub apart : AllocatedApart code.ops Live places
   pub kept : KeptFromFixed code.ops Live places

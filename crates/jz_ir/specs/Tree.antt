@@ -24,12 +24,22 @@ pub data Frame : Type 0 where
 pub data Step : List Frame → Op → List Frame → Type 0 where
   s_done : {k s : List Frame} {o : Op} → Step k o s → Step (at done ∷ k) o s
   s_op : {k : List Frame} {o : Op} {t : Tree} → Step (at (op o t) ∷ k) o (at t ∷ k)
-  s_then : {k : List Frame} {c : Op} {a b r : Tree} → Step (at (choose c a b r) ∷ k) c (at a ∷ at r ∷ k)
-  s_else : {k : List Frame} {c : Op} {a b r : Tree} → Step (at (choose c a b r) ∷ k) c (at b ∷ at r ∷ k)
-  s_loop : {k s : List Frame} {o : Op} {p : Tree} {c : Option Op} {b r : Tree} → Step (at p ∷ test p c b r ∷ k) o s → Step (at (loop p c b r) ∷ k) o s
-  s_more : {k : List Frame} {p : Tree} {c : Op} {b r : Tree} → Step (test p (Some c) b r ∷ k) c (at b ∷ at (loop p (Some c) b r) ∷ k)
-  s_leave : {k : List Frame} {p : Tree} {c : Op} {b r : Tree} → Step (test p (Some c) b r ∷ k) c (at r ∷ k)
-  s_ever : {k s : List Frame} {o : Op} {p : Tree} {b r : Tree} → Step (at b ∷ at (loop p None b r) ∷ k) o s → Step (test p None b r ∷ k) o s
+  s_then :
+      {k : List Frame} {c : Op} {a b r : Tree} → Step (at (choose c a b r) ∷ k) c (at a ∷ at r ∷ k)
+  s_else :
+      {k : List Frame} {c : Op} {a b r : Tree} → Step (at (choose c a b r) ∷ k) c (at b ∷ at r ∷ k)
+  s_loop :
+      {k s : List Frame} {o : Op} {p : Tree} {c : Option Op} {b r : Tree}
+      → Step (at p ∷ test p c b r ∷ k) o s → Step (at (loop p c b r) ∷ k) o s
+  s_more :
+      {k : List Frame} {p : Tree} {c : Op} {b r : Tree}
+      → Step (test p (Some c) b r ∷ k) c (at b ∷ at (loop p (Some c) b r) ∷ k)
+  s_leave :
+      {k : List Frame} {p : Tree} {c : Op} {b r : Tree}
+      → Step (test p (Some c) b r ∷ k) c (at r ∷ k)
+  s_ever :
+      {k s : List Frame} {o : Op} {p : Tree} {b r : Tree}
+      → Step (at b ∷ at (loop p None b r) ∷ k) o s → Step (test p None b r ∷ k) o s
 
 -- the states before each operation, in the order of the code
 abbrev pub at_test : Tree → Option Op → Tree → Tree → List Frame → List (List Frame)
@@ -39,8 +49,11 @@ at_test p (Some c) b r k = (test p (Some c) b r ∷ k) ∷ []
 abbrev pub states : Tree → List Frame → List (List Frame)
 states done k = []
 states (op o t) k = (at (op o t) ∷ k) ∷ states t k
-states (choose c a b r) k = (at (choose c a b r) ∷ k) ∷ (states a (at r ∷ k) ++ (states b (at r ∷ k) ++ states r k))
-states (loop p c b r) k = states p (test p c b r ∷ k) ++ (at_test p c b r k ++ (states b (at (loop p c b r) ∷ k) ++ states r k))
+states (choose c a b r) k =
+    (at (choose c a b r) ∷ k) ∷ (states a (at r ∷ k) ++ (states b (at r ∷ k) ++ states r k))
+states (loop p c b r) k =
+    states p (test p c b r ∷ k)
+    ++ (at_test p c b r k ++ (states b (at (loop p c b r) ∷ k) ++ states r k))
 
 -- v is live after the operation i of the tree
 abbrev pub LiveInTree : Tree → ℕ → ℕ → Type 0

@@ -1,4 +1,5 @@
-//! Code as the placing of variables sees it: operations over variables, what each reads, writes and needs.
+//! Code as the placing of variables sees it: operations over variables, what each reads, writes and
+//! needs.
 #![tactic(auto)]
 
 mod code;

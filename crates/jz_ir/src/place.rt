@@ -5,7 +5,8 @@ ghost use Rattle.jz_ir.specs.Order.{number_of};
 
 use x64_insn::{Flag, Place, Reg};
 
-/// The number of a place: the registers but RSP are 0 .. 14, the flags 15 .. 19. RSP, where no variable is, is 20.
+/// The number of a place: the registers but RSP are 0 .. 14, the flags 15 .. 19. RSP, where no
+/// variable is, is 20.
 pub fn place_number(place: Place) -> u8
     ensures value { result ≡ number_of place }
     ensures fits { result ≤ 20 }

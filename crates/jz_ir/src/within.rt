@@ -8,7 +8,8 @@ ghost use Rattle.jz_ir.specs.Places.{Below};
 use crate::code::{Need, Op};
 
 fn variables_below(variables: &[u32], count: usize) -> bool
-    ensures { MatchBool result (All (λ v. v < count) variables.now) (All (λ v. v < count) variables.now → ⊥) }
+    ensures { MatchBool result (All (λ v. v < count) variables.now)
+        (All (λ v. v < count) variables.now → ⊥) }
 {
     for variable in variables {
         if *variable as usize >= count {
@@ -19,7 +20,8 @@ fn variables_below(variables: &[u32], count: usize) -> bool
 }
 
 fn needs_below(needs: &[Need], count: usize) -> bool
-    ensures { MatchBool result (All (λ k. k.variable < count) needs.now) (All (λ k. k.variable < count) needs.now → ⊥) }
+    ensures { MatchBool result (All (λ k. k.variable < count) needs.now)
+        (All (λ k. k.variable < count) needs.now → ⊥) }
 {
     for need in needs {
         if need.variable as usize >= count {

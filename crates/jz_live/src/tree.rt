@@ -1,10 +1,10 @@
 //! Liveness in code with branches and loops.
 
-ghost use Rattle.std.specs.Prelude.{◌≡◌, ℕ, ◌+◌, ◌*◌, ◌/◌, ◌<◌, ◌++◌, ◌∷◌, ◌↔◌, [], length, IfOk, IsTrue, OnOk, slice_index_or};
+ghost use Rattle.std.specs.Prelude.{◌≡◌, ℕ, ◌+◌, ◌*◌, ◌/◌, ◌∷◌, [], length, IfOk, OnOk};
 ghost use Rattle.std.specs.List.{All};
 ghost use Rattle.jz_bits.specs.Has.{has};
 ghost use Rattle.jz_ir.specs.Tree.{then_tree, tree_of, done, LiveInTree, states};
-ghost use Rattle.jz_live.specs.Lives.{column, live_after_each, live_before, test_after, test_before, TestBelow, TreeBelow};
+ghost use Rattle.jz_live.specs.Lives.{AddsLive, AddsTest, EachLives, LiveBefore, LiveBeforeTest, column, TestBelow, TreeBelow};
 
 use crate::straight::step_back;
 use jz_bits::Bits;
@@ -17,7 +17,7 @@ use std::alloc::{AllocError, Global};
 fn before_block(alloc: Global, nodes: &Seq<Node>, behind: Bits) -> Result<Bits, AllocError>
     requires { TreeBelow (64 * length behind) (tree_of nodes.now) }
     ensures wide { IfOk result (λ live. length live ≡ length behind) }
-    ensures set { IfOk result (λ live. (variable : ℕ) → has live variable ≡ live_before variable (tree_of nodes.now) (has behind variable)) }
+    ensures set { IfOk result (LiveBefore (tree_of nodes.now) behind) }
 {
     let mut live = behind;
     for i in (0..nodes.len()).rev() {
@@ -30,7 +30,7 @@ fn before_block(alloc: Global, nodes: &Seq<Node>, behind: Bits) -> Result<Bits, 
 fn before_node(alloc: Global, node: &Node, behind: Bits) -> Result<Bits, AllocError>
     requires { TreeBelow (64 * length behind) (then_tree node.now done) }
     ensures wide { IfOk result (λ live. length live ≡ length behind) }
-    ensures set { IfOk result (λ live. (variable : ℕ) → has live variable ≡ live_before variable (then_tree node.now done) (has behind variable)) }
+    ensures set { IfOk result (LiveBefore (then_tree node.now done) behind) }
 {
     match node {
         Node::Op(op) => {
@@ -56,7 +56,7 @@ fn before_test(test: &Option<Op>, at_body: Bits, behind: &Bits) -> Bits
     requires wide { length behind.now ≡ length at_body }
     requires below { TestBelow (64 * length at_body) test.now }
     ensures wide { length result ≡ length at_body }
-    ensures set { (variable : ℕ) → has result variable ≡ test_before variable test.now (has at_body variable) (has behind.now variable) }
+    ensures set { LiveBeforeTest test.now at_body behind.now result }
 {
     match test {
         None => at_body,
@@ -69,7 +69,8 @@ fn before_test(test: &Option<Op>, at_body: Bits, behind: &Bits) -> Bits
     }
 }
 
-/// Adds what is live after each operation of a block, the last first, and gives what is live before it.
+/// Adds what is live after each operation of a block, the last first, and gives what is live before
+/// it.
 #[cycle(rows)]
 fn rows_block(
     alloc: Global,
@@ -80,9 +81,11 @@ fn rows_block(
     requires below { TreeBelow (64 * length behind) (tree_of nodes.now) }
     requires rows_wide { All (λ row. length row ≡ length behind) rows.old.items }
     ensures wide { IfOk result (λ live. length live ≡ length behind) }
-    ensures set { IfOk result (λ live. (variable : ℕ) → has live variable ≡ live_before variable (tree_of nodes.now) (has behind variable)) }
-    ensures rows { IfOk result (λ live. (variable : ℕ) → column variable rows.new.items ≡ live_after_each variable (tree_of nodes.now) (has behind variable) ++ column variable rows.old.items) }
-    ensures rows_wide { IfOk result (λ live. All (λ row. length row ≡ length behind) rows.new.items) }
+    ensures set { IfOk result (LiveBefore (tree_of nodes.now) behind) }
+    ensures rows { IfOk result
+        (λ live. AddsLive (tree_of nodes.now) behind rows.old.items rows.new.items) }
+    ensures rows_wide { IfOk result
+        (λ live. All (λ row. length row ≡ length behind) rows.new.items) }
 {
     let mut live = behind;
     for i in (0..nodes.len()).rev() {
@@ -101,9 +104,11 @@ fn rows_node(
     requires below { TreeBelow (64 * length behind) (then_tree node.now done) }
     requires rows_wide { All (λ row. length row ≡ length behind) rows.old.items }
     ensures wide { IfOk result (λ live. length live ≡ length behind) }
-    ensures set { IfOk result (λ live. (variable : ℕ) → has live variable ≡ live_before variable (then_tree node.now done) (has behind variable)) }
-    ensures rows { IfOk result (λ live. (variable : ℕ) → column variable rows.new.items ≡ live_after_each variable (then_tree node.now done) (has behind variable) ++ column variable rows.old.items) }
-    ensures rows_wide { IfOk result (λ live. All (λ row. length row ≡ length behind) rows.new.items) }
+    ensures set { IfOk result (LiveBefore (then_tree node.now done) behind) }
+    ensures rows { IfOk result
+        (λ live. AddsLive (then_tree node.now done) behind rows.old.items rows.new.items) }
+    ensures rows_wide { IfOk result
+        (λ live. All (λ row. length row ≡ length behind) rows.new.items) }
 {
     match node {
         Node::Op(op) => {
@@ -134,7 +139,8 @@ fn rows_node(
 /// Adds a row.
 fn add_row(alloc: Global, rows: &mut Vec<Bits>, live: &Bits) -> Result<(), AllocError>
     requires { All (λ row. length row ≡ length live.now) rows.old.items }
-    ensures rows { OnOk result ((variable : ℕ) → column variable rows.new.items ≡ has live.now variable ∷ column variable rows.old.items) }
+    ensures rows { OnOk result ((v : ℕ)
+        → column v rows.new.items ≡ has live.now v ∷ column v rows.old.items) }
     ensures rows_wide { OnOk result (All (λ row. length row ≡ length live.now) rows.new.items) }
 {
     rows.push(live.copy(alloc)?)?;
@@ -153,9 +159,11 @@ fn rows_test(
     requires rows_wide { All (λ row. length row ≡ length at_body) rows.old.items }
     requires below { TestBelow (64 * length at_body) test.now }
     ensures wide { IfOk result (λ live. length live ≡ length at_body) }
-    ensures set { IfOk result (λ live. (variable : ℕ) → has live variable ≡ test_before variable test.now (has at_body variable) (has behind.now variable)) }
-    ensures rows { IfOk result (λ live. (variable : ℕ) → column variable rows.new.items ≡ test_after variable test.now (has at_body variable) (has behind.now variable) ++ column variable rows.old.items) }
-    ensures rows_wide { IfOk result (λ live. All (λ row. length row ≡ length at_body) rows.new.items) }
+    ensures set { IfOk result (LiveBeforeTest test.now at_body behind.now) }
+    ensures rows { IfOk result
+        (λ live. AddsTest test.now at_body behind.now rows.old.items rows.new.items) }
+    ensures rows_wide { IfOk result
+        (λ live. All (λ row. length row ≡ length at_body) rows.new.items) }
 {
     match test {
         None => Ok(at_body),
@@ -174,7 +182,8 @@ pub fn live(alloc: Global, code: &Seq<Node>, count: usize) -> Result<Vec<Bits>, 
     requires { TreeBelow count (tree_of code.now) }
     ensures rows { IfOk result (λ rows. length rows.items ≡ length (states (tree_of code.now) [])) }
     ensures wide { IfOk result (λ rows. All (λ row. length row ≡ count / 64 + 1) rows.items) }
-    ensures exact { IfOk result (λ rows. (i : ℕ) → i < length rows.items → (variable : ℕ) → IsTrue (has (slice_index_or rows.items i []) variable) ↔ LiveInTree (tree_of code.now) i variable) }
+    ensures exact { IfOk result
+        (λ rows. EachLives (length rows.items) rows.items (LiveInTree (tree_of code.now))) }
 {
     let mut rows = Vec::new(alloc);
     let behind = Bits::new(alloc, count)?;

@@ -46,4 +46,5 @@ follow f g bs = f bs >>= λ x. g x.0 x.1 >>= λ y. Ok ((x.0, y.0), y.1)
 -- so many bytes
 unfoldable pub some_bytes : ℕ → Reader (List ℕ)
 some_bytes zero bs = Ok ([], bs)
-some_bytes (suc n) bs = through (λ p. p.0 ∷ p.1) (follow (byte_where is_byte) (λ _. some_bytes n) bs)
+some_bytes (suc n) bs =
+    through (λ p. p.0 ∷ p.1) (follow (byte_where is_byte) (λ _. some_bytes n) bs)

@@ -51,7 +51,8 @@ row_immediate operand_size rex field (Some row) = immediate_length row operand_s
 
 -- how many bytes the immediate of an opcode's row has
 unfoldable pub immediate_bytes : Option ℕ → Option ℕ → Option ℕ → ℕ → Option ℕ → ℕ
-immediate_bytes operand_size rex escape opcode modrm = row_immediate operand_size rex (reg_field (unwrap_or modrm 0)) (row_of escape opcode)
+immediate_bytes operand_size rex escape opcode modrm =
+    row_immediate operand_size rex (reg_field (unwrap_or modrm 0)) (row_of escape opcode)
 
 -- ---- the fields one after the other, as nested pairs
 abbrev pub Parts : Type 0
@@ -59,15 +60,15 @@ Parts = Option ℕ × (Option ℕ × (Option ℕ × (ℕ × (Option ℕ × (Opti
 
 -- the fields by their names
 abbrev pub fields_of : Parts → Fields
-fields_of a = record {
-  operand_size = a.0;
-  rex = a.1.0;
-  escape = a.1.1.0;
-  opcode = a.1.1.1.0;
-  modrm = a.1.1.1.1.0;
-  sib = a.1.1.1.1.1.0;
-  displacement = a.1.1.1.1.1.1.0;
-  immediate = a.1.1.1.1.1.1.1;
+fields_of (size, (rex, (escape, (opcode, (modrm, (sib, (displacement, immediate))))))) = record {
+  operand_size = size;
+  rex = rex;
+  escape = escape;
+  opcode = opcode;
+  modrm = modrm;
+  sib = sib;
+  displacement = displacement;
+  immediate = immediate;
 }
 
 -- prefixes, opcode, ModRM, SIB, displacement and immediate, each where it may stand
@@ -84,9 +85,32 @@ parts =
 
 -- what the code has read, as nested pairs
 abbrev pub parts_read : FieldsRead → Parts
-parts_read f = (f.operand_size, (f.rex, (f.escape, (f.opcode, (f.modrm, (f.sib, (f.displacement.now, f.immediate.now)))))))
+parts_read f = (
+  f.operand_size,
+  (
+    f.rex,
+    (
+      f.escape,
+      (
+        f.opcode,
+        (
+          f.modrm,
+          (
+            f.sib,
+            (f.displacement.now, f.immediate.now),
+          ),
+        ),
+      ),
+    ),
+  ),
+)
 
--- how many bytes an immediate has at most: one for the count of a shift, four for a signed number of 32 bits
+-- the same by their names
+abbrev pub fields_read : FieldsRead → Fields
+fields_read f = fields_of (parts_read f)
+
+-- how many bytes an immediate has at most: one for the count of a shift, four for a signed number
+-- of 32 bits
 abbrev pub immediate_limit : Row → ℕ
 immediate_limit row.ImulRmImm = 4
 immediate_limit row.ImulRmImm8 = 4

@@ -13,7 +13,8 @@ mod reading;
 use reading::{Stop, read_fields};
 use x64_insn::Insn;
 
-/// What bytes begin with: an instruction and how many bytes it has, no instruction whatever follows, or less than a whole one.
+/// What bytes begin with: an instruction and how many bytes it has, no instruction whatever
+/// follows, or less than a whole one.
 #[derive(Clone, Copy)]
 pub enum Decoded {
     Insn { insn: Insn, len: u8 },
@@ -35,11 +36,13 @@ fn answer(bytes: &[u8]) -> Decoded
     }
 }
 
-/// The instruction that bytes begin with (Intel SDM vol. 2, chapter 2). Bytes after it play no part.
+/// The instruction that bytes begin with (Intel SDM vol. 2, chapter 2). Bytes after it play no
+/// part.
 pub fn decode(bytes: &[u8]) -> Decoded
     ensures insn { (i : Insn) (len : ℕ) → Decodes bytes.now i len ↔ (result ≡ Decoded.Insn i len) }
     ensures truncated { IsBeginning bytes.now ↔ (result ≡ Decoded.Truncated) }
-    ensures unknown { ((¬ IsBeginning bytes.now) × ((i : Insn) (len : ℕ) → ¬ Decodes bytes.now i len)) ↔ (result ≡ Decoded.Unknown) }
+    ensures unknown { ((¬ IsBeginning bytes.now)
+        × ((i : Insn) (len : ℕ) → ¬ Decodes bytes.now i len)) ↔ (result ≡ Decoded.Unknown) }
     // The same as a function, for the layers above.
     ensures exact { result ≡ decoded_of bytes.now }
 {
@@ -48,10 +51,12 @@ pub fn decode(bytes: &[u8]) -> Decoded
 
 /// A spelling is read, whatever follows it.
 pub fn read_again()
-    ensures { (bs rest : List ℕ) (i : Insn) → Spells bs i → decoded_of (bs ++ rest) ≡ Decoded.Insn i (length bs) }
+    ensures { (bs rest : List ℕ) (i : Insn) → Spells bs i
+        → decoded_of (bs ++ rest) ≡ Decoded.Insn i (length bs) }
 {}
 
 /// No spelling begins another, and none is of two instructions.
 pub fn one_form()
-    ensures { (a b x y : List ℕ) (i j : Insn) → Spells a i → Spells b j → a ++ x ≡ b ++ y → (a ≡ b) × (i ≡ j) }
+    ensures { (a b x y : List ℕ) (i j : Insn) → Spells a i → Spells b j → a ++ x ≡ b ++ y
+        → (a ≡ b) × (i ≡ j) }
 {}

@@ -6,7 +6,7 @@ ghost use Rattle.x64_insn.specs.Encoding.{immediate_of, index_of, meaning, memor
 ghost use Rattle.x64_insn.specs.declared.types.Insn.{Insn};
 ghost use Rattle.x64_insn.specs.declared.types.Operand.{Operand};
 ghost use Rattle.x64_insn.specs.declared.table.Row.{Row};
-ghost use Rattle.x64_decode.specs.Decoding.{AreShort, fields_of, parts_read};
+ghost use Rattle.x64_decode.specs.Decoding.{AreShort, fields_read};
 
 use crate::numbers::{byte_of, signed_of, small_signed_of};
 use crate::reading::FieldsRead;
@@ -14,7 +14,7 @@ use jz_words::Size;
 use x64_insn::table::{Operands, Row, has_w, operation_of, reg_of, rex_bits};
 use x64_insn::{Alu, Base, Count, Insn, Mem, One, Operand, Reg, Shift, Wide};
 
-// The kind of shift of a number.
+/// The kind of shift of a number.
 #[tactic(auto, unfolding(x64_insn::specs::Encoding::shift_of))]
 fn shift_of(number: u8) -> Shift
     ensures { result ≡ shift_of number }
@@ -28,7 +28,7 @@ fn shift_of(number: u8) -> Shift
     }
 }
 
-// The factor of an index.
+/// The factor of an index.
 fn scale_of(sib: u8) -> u8
     ensures { result ≡ 2 ^ (sib / 64) }
 {
@@ -42,46 +42,46 @@ fn scale_of(sib: u8) -> u8
 
 impl FieldsRead<'_> {
     fn modrm_byte(&self) -> u8
-        ensures { result ≡ modrm_byte (fields_of (parts_read self.now)) }
+        ensures { result ≡ modrm_byte (fields_read self.now) }
     {
         self.modrm.unwrap_or(0)
     }
 
     fn sib_byte(&self) -> u8
-        ensures { result ≡ sib_byte (fields_of (parts_read self.now)) }
+        ensures { result ≡ sib_byte (fields_read self.now) }
     {
         self.sib.unwrap_or(0)
     }
 
     fn reg_field(&self) -> u8
-        ensures { result ≡ reg_field (modrm_byte (fields_of (parts_read self.now))) }
+        ensures { result ≡ reg_field (modrm_byte (fields_read self.now)) }
     {
         self.modrm_byte() / 8 % 8
     }
 
-    // The register of the reg field.
+    /// The register of the reg field.
     fn reg(&self) -> Reg
-        ensures { result ≡ reg_of_modrm (fields_of (parts_read self.now)) }
+        ensures { result ≡ reg_of_modrm (fields_read self.now) }
     {
         reg_of(8 * (rex_bits(self.rex) / 4 % 2) + self.reg_field())
     }
 
     fn register(&self) -> Operand
-        ensures { result ≡ Operand.Reg (reg_of_modrm (fields_of (parts_read self.now))) }
+        ensures { result ≡ Operand.Reg (reg_of_modrm (fields_read self.now)) }
     {
         Operand::Reg(self.reg())
     }
 
-    // The register in the opcode.
+    /// The register in the opcode.
     fn opcode_reg(&self) -> Reg
-        ensures { result ≡ reg_of_opcode (fields_of (parts_read self.now)) }
+        ensures { result ≡ reg_of_opcode (fields_read self.now) }
     {
         reg_of(8 * (rex_bits(self.rex) % 2) + self.opcode % 8)
     }
 
-    // The index of a SIB and its scale.
+    /// The index of a SIB and its scale.
     fn index(&self) -> Option<(Reg, u8)>
-        ensures { result ≡ index_of (fields_of (parts_read self.now)) }
+        ensures { result ≡ index_of (fields_read self.now) }
     {
         let sib = self.sib_byte();
         let number = 8 * (rex_bits(self.rex) / 2 % 2) + sib / 8 % 8;
@@ -92,10 +92,10 @@ impl FieldsRead<'_> {
         }
     }
 
-    // An address with a SIB.
+    /// An address with a SIB.
     fn sib_memory(&self) -> Mem
         requires { AreShort self.now }
-        ensures { result ≡ sib_memory (fields_of (parts_read self.now)) }
+        ensures { result ≡ sib_memory (fields_read self.now) }
     {
         let field = self.sib_byte() % 8;
         let base = if self.modrm_byte() / 64 == 0 && field == 5 {
@@ -110,10 +110,10 @@ impl FieldsRead<'_> {
         }
     }
 
-    // An address without a SIB.
+    /// An address without a SIB.
     fn plain_memory(&self) -> Mem
         requires { AreShort self.now }
-        ensures { result ≡ plain_memory (fields_of (parts_read self.now)) }
+        ensures { result ≡ plain_memory (fields_read self.now) }
     {
         let field = self.modrm_byte() % 8;
         let base = if self.modrm_byte() / 64 == 0 && field == 5 {
@@ -128,11 +128,11 @@ impl FieldsRead<'_> {
         }
     }
 
-    // The address of the rm field.
+    /// The address of the rm field.
     #[tactic(auto, unfolding(x64_insn::specs::Encoding::memory_of))]
     fn memory(&self) -> Mem
         requires { AreShort self.now }
-        ensures { result ≡ memory_of (fields_of (parts_read self.now)) }
+        ensures { result ≡ memory_of (fields_read self.now) }
     {
         if self.modrm_byte() % 8 == 4 {
             self.sib_memory()
@@ -141,11 +141,11 @@ impl FieldsRead<'_> {
         }
     }
 
-    // The operand of the rm field.
+    /// The operand of the rm field.
     #[tactic(auto, unfolding(x64_insn::specs::Encoding::rm_of_modrm))]
     fn rm(&self) -> Operand
         requires { AreShort self.now }
-        ensures { result ≡ rm_of_modrm (fields_of (parts_read self.now)) }
+        ensures { result ≡ rm_of_modrm (fields_read self.now) }
     {
         let modrm = self.modrm_byte();
         if modrm / 64 == 3 {
@@ -155,24 +155,24 @@ impl FieldsRead<'_> {
         }
     }
 
-    // The immediate, by the signed reading of its bytes.
+    /// The immediate, by the signed reading of its bytes.
     fn immediate(&self) -> Operand
         requires { AreShort self.now }
-        ensures { result ≡ immediate_of (fields_of (parts_read self.now)) }
+        ensures { result ≡ immediate_of (fields_read self.now) }
     {
         Operand::Imm(signed_of(self.immediate))
     }
 
     fn size(&self, operands: Operands) -> Size
-        ensures { result ≡ size_in operands (fields_of (parts_read self.now)) }
+        ensures { result ≡ size_in operands (fields_read self.now) }
     {
         operands.size_by(self.operand_size, self.rex)
     }
 
-    // INC or DEC.
+    /// INC or DEC.
     fn inc_or_dec(&self, operands: Operands) -> Insn
         requires { AreShort self.now }
-        ensures { result ≡ meaning (Row.IncDec operands) (fields_of (parts_read self.now)) }
+        ensures { result ≡ meaning (Row.IncDec operands) (fields_read self.now) }
     {
         let one = if self.reg_field() == 0 {
             One::Inc
@@ -182,11 +182,11 @@ impl FieldsRead<'_> {
         Insn::One(one, self.size(operands), self.rm())
     }
 
-    // An instruction of F6 and F7.
+    /// An instruction of F6 and F7.
     #[tactic(auto, unfolding(x64_insn::specs::Encoding::group3))]
     fn group3(&self, operands: Operands) -> Insn
         requires { AreShort self.now }
-        ensures { result ≡ meaning (Row.Group3 operands) (fields_of (parts_read self.now)) }
+        ensures { result ≡ meaning (Row.Group3 operands) (fields_read self.now) }
     {
         let size = self.size(operands);
         let rm = self.rm();
@@ -203,7 +203,8 @@ impl FieldsRead<'_> {
 
     fn shift(&self, operands: Operands, count: Count) -> Insn
         requires { AreShort self.now }
-        ensures { result ≡ Insn.Shift (shift_of (reg_field (modrm_byte (fields_of (parts_read self.now))))) (size_in operands (fields_of (parts_read self.now))) (rm_of_modrm (fields_of (parts_read self.now))) count }
+        ensures { result ≡ Insn.Shift (shift_of (reg_field (modrm_byte (fields_read self.now))))
+            (size_in operands (fields_read self.now)) (rm_of_modrm (fields_read self.now)) count }
     {
         Insn::Shift(
             shift_of(self.reg_field()),
@@ -213,37 +214,37 @@ impl FieldsRead<'_> {
         )
     }
 
-    // An operation that the reg field names.
+    /// An operation that the reg field names.
     fn alu_immediate(&self, operands: Operands) -> Insn
         requires { AreShort self.now }
-        ensures { result ≡ meaning (Row.AluRmImm operands) (fields_of (parts_read self.now)) }
+        ensures { result ≡ meaning (Row.AluRmImm operands) (fields_read self.now) }
     {
         let alu = operation_of(self.reg_field());
         Insn::Alu(alu, self.size(operands), self.rm(), self.immediate())
     }
 
     fn alu(&self, alu: Alu, operands: Operands, to: Operand, from: Operand) -> Insn
-        ensures { result ≡ Insn.Alu alu (size_in operands (fields_of (parts_read self.now))) to from }
+        ensures { result ≡ Insn.Alu alu (size_in operands (fields_read self.now)) to from }
     {
         Insn::Alu(alu, self.size(operands), to, from)
     }
 
     fn mov(&self, operands: Operands, to: Operand, from: Operand) -> Insn
-        ensures { result ≡ Insn.Mov (size_in operands (fields_of (parts_read self.now))) to from }
+        ensures { result ≡ Insn.Mov (size_in operands (fields_read self.now)) to from }
     {
         Insn::Mov(self.size(operands), to, from)
     }
 
     fn mov_whole(&self) -> Insn
         requires { AreShort self.now }
-        ensures { result ≡ meaning Row.MovRegImm64 (fields_of (parts_read self.now)) }
+        ensures { result ≡ meaning Row.MovRegImm64 (fields_read self.now) }
     {
         Insn::Mov(Size::S64, Operand::Reg(self.opcode_reg()), self.immediate())
     }
 
     fn extend(&self, signed: bool, from: Size) -> Insn
         requires { AreShort self.now }
-        ensures { result ≡ meaning (Row.Extend signed from) (fields_of (parts_read self.now)) }
+        ensures { result ≡ meaning (Row.Extend signed from) (fields_read self.now) }
     {
         Insn::Extend {
             signed,
@@ -255,7 +256,7 @@ impl FieldsRead<'_> {
     }
 
     fn cdq_or_cqo(&self) -> Insn
-        ensures { result ≡ meaning Row.CdqCqo (fields_of (parts_read self.now)) }
+        ensures { result ≡ meaning Row.CdqCqo (fields_read self.now) }
     {
         if has_w(self.rex) {
             Insn::Cqo
@@ -267,7 +268,7 @@ impl FieldsRead<'_> {
     fn imul_by(&self) -> Insn
         requires short { AreShort self.now }
         requires immediate { length self.now.immediate.now ≤ 4 }
-        ensures { result ≡ meaning Row.ImulRmImm (fields_of (parts_read self.now)) }
+        ensures { result ≡ meaning Row.ImulRmImm (fields_read self.now) }
     {
         let size = self.size(Operands::Sized);
         Insn::ImulBy(size, self.reg(), self.rm(), small_signed_of(self.immediate))
@@ -276,7 +277,7 @@ impl FieldsRead<'_> {
     /// The instruction that the fields spell.
     pub fn insn(&self) -> Insn
         requires { AreShort self.now }
-        ensures { result ≡ meaning self.now.row (fields_of (parts_read self.now)) }
+        ensures { result ≡ meaning self.now.row (fields_read self.now) }
     {
         let sized = Operands::Sized;
         match self.row {

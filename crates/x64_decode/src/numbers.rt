@@ -3,7 +3,7 @@
 ghost use Rattle.std.specs.Prelude.{◌≡◌, ◌<◌, ◌≤◌, ◌^◌, length};
 ghost use Rattle.x64_insn.specs.Encoding.{signed_from, signed_of, unsigned_of};
 
-// The number of bytes, the lowest first.
+/// The number of bytes, the lowest first.
 fn unsigned_of(bytes: &[u8]) -> u64
     requires { length bytes.now ≤ 8 }
     ensures value { result ≡ unsigned_of bytes.now }
@@ -15,7 +15,7 @@ fn unsigned_of(bytes: &[u8]) -> u64
     }
 }
 
-// How many numbers so many bytes have.
+/// How many numbers so many bytes have.
 fn numbers_of(count: usize) -> u128
     requires { count ≤ 8 }
     ensures value { result ≡ 256 ^ count }
@@ -35,7 +35,7 @@ fn numbers_of(count: usize) -> u128
     }
 }
 
-// A number as a signed one: the upper half stands for the negative numbers.
+/// A number as a signed one: the upper half stands for the negative numbers.
 #[tactic(auto, unfolding(x64_insn::specs::Encoding::signed_from))]
 fn signed_from(number: u64, all: u128) -> i64
     requires below { number < all }
@@ -49,7 +49,7 @@ fn signed_from(number: u64, all: u128) -> i64
     }
 }
 
-// The same for numbers of up to 32 bits.
+/// The same for numbers of up to 32 bits.
 #[tactic(auto, unfolding(x64_insn::specs::Encoding::signed_from))]
 fn small_signed_from(number: u64, all: u128) -> i32
     requires below { number < all }

@@ -5,7 +5,7 @@ ghost use Rattle.std.specs.Option.{option_to_list};
 ghost use Rattle.x64_insn.specs.Table.{row_of};
 ghost use Rattle.x64_insn.specs.Encoding.{displacement_length, has_sib, is_byte, spelling_of};
 ghost use Rattle.x64_decode.specs.ByteReading.{Gives, byte_if, byte_where, prefix, some_bytes};
-ghost use Rattle.x64_decode.specs.Decoding.{AreShort, fields_of, may_be_escape, may_be_modrm, may_be_opcode, may_be_operand_size, may_be_rex, parts, parts_read, row_has_modrm};
+ghost use Rattle.x64_decode.specs.Decoding.{AreShort, fields_read, may_be_escape, may_be_modrm, may_be_opcode, may_be_operand_size, may_be_rex, parts, parts_read, row_has_modrm};
 
 use x64_insn::table::{Row, row_of};
 
@@ -32,7 +32,7 @@ pub struct FieldsRead<'a> {
     pub immediate: &'a [u8],
 }
 
-// The prefix 66.
+/// The prefix 66.
 #[tactic(auto, unfolding(crate::specs::ByteReading::prefix))]
 fn read_operand_size(bytes: &[u8]) -> Result<(Option<u8>, &[u8]), Stop>
     ensures { Gives (λ x. (x.0, x.1.now)) result (prefix may_be_operand_size bytes.now) }
@@ -44,7 +44,7 @@ fn read_operand_size(bytes: &[u8]) -> Result<(Option<u8>, &[u8]), Stop>
     }
 }
 
-// A REX prefix, behind 66 one without W.
+/// A REX prefix, behind 66 one without W.
 #[tactic(auto, unfolding(crate::specs::ByteReading::prefix))]
 fn read_rex<'a>(operand_size: Option<u8>, bytes: &'a [u8]) -> Result<(Option<u8>, &'a [u8]), Stop>
     ensures { Gives (λ x. (x.0, x.1.now)) result (prefix (may_be_rex operand_size) bytes.now) }
@@ -62,7 +62,7 @@ fn read_rex<'a>(operand_size: Option<u8>, bytes: &'a [u8]) -> Result<(Option<u8>
     }
 }
 
-// The escape byte.
+/// The escape byte.
 #[tactic(auto, unfolding(crate::specs::ByteReading::prefix))]
 fn read_escape(bytes: &[u8]) -> Result<(Option<u8>, &[u8]), Stop>
     ensures { Gives (λ x. (x.0, x.1.now)) result (prefix may_be_escape bytes.now) }
@@ -82,7 +82,8 @@ fn read_opcode<'a>(
     escape: Option<u8>,
     bytes: &'a [u8],
 ) -> Result<(u8, Row, &'a [u8]), Stop>
-    ensures read { Gives (λ x. (x.0, x.2.now)) result (byte_where (may_be_opcode operand_size rex escape) bytes.now) }
+    ensures read { Gives (λ x. (x.0, x.2.now)) result
+        (byte_where (may_be_opcode operand_size rex escape) bytes.now) }
     ensures row { IfOk result (λ x. row_of escape x.0 ≡ Some x.1) }
 {
     match bytes {
@@ -94,7 +95,7 @@ fn read_opcode<'a>(
     }
 }
 
-// The ModRM of a row that has one.
+/// The ModRM of a row that has one.
 #[tactic(auto, unfolding(crate::specs::ByteReading::byte_where, crate::specs::ByteReading::byte_if, crate::specs::Decoding::may_be_modrm))]
 fn read_modrm<'a>(
     rex: Option<u8>,
@@ -104,7 +105,9 @@ fn read_modrm<'a>(
     bytes: &'a [u8],
 ) -> Result<(Option<u8>, &'a [u8]), Stop>
     requires { row_of escape opcode ≡ Some row }
-    ensures { Gives (λ x. (x.0, x.1.now)) result (byte_if (row_has_modrm (row_of escape opcode)) (may_be_modrm rex escape opcode) bytes.now) }
+    ensures { Gives (λ x. (x.0, x.1.now)) result
+        (byte_if (row_has_modrm (row_of escape opcode)) (may_be_modrm rex escape opcode)
+        bytes.now) }
 {
     if !row.has_modrm() {
         return Ok((None, bytes));
@@ -130,7 +133,7 @@ fn has_sib(modrm: Option<u8>) -> bool
     }
 }
 
-// The SIB of a ModRM that has one.
+/// The SIB of a ModRM that has one.
 #[tactic(auto, unfolding(crate::specs::ByteReading::byte_where, crate::specs::ByteReading::byte_if))]
 fn read_sib<'a>(modrm: Option<u8>, bytes: &'a [u8]) -> Result<(Option<u8>, &'a [u8]), Stop>
     ensures { Gives (λ x. (x.0, x.1.now)) result (byte_if (has_sib modrm) is_byte bytes.now) }
@@ -163,7 +166,7 @@ fn displacement_length(modrm: Option<u8>, sib: Option<u8>) -> usize
     }
 }
 
-// So many bytes.
+/// So many bytes.
 fn read_bytes(count: usize, bytes: &[u8]) -> Result<(&[u8], &[u8]), Stop>
     ensures { Gives (λ x. (x.0.now, x.1.now)) result (some_bytes count bytes.now) }
 {
@@ -214,7 +217,7 @@ impl FieldsRead<'_> {
     #[tactic(auto, unfolding(x64_insn::specs::Encoding::spelling_of))]
     pub fn length(&self) -> u8
         requires { AreShort self.now }
-        ensures { result ≡ length (spelling_of (fields_of (parts_read self.now))) }
+        ensures { result ≡ length (spelling_of (fields_read self.now)) }
     {
         count_of(self.operand_size)
             + count_of(self.rex)

@@ -17,7 +17,7 @@ use jz_words::Size;
 use x64_insn::table::{immediate_by, number_of, width_length};
 use x64_insn::{Alu, Cond, Count, Insn, Mem, One, Operand, Reg, Shift, Width};
 
-// An immediate of the operands' size.
+/// An immediate of the operands' size.
 fn sized(size: Size, value: i64) -> SignedBytes
     ensures bytes { named_bytes result ≡ signed_bytes (immediate_by size) value }
     ensures count { result.count ≤ 4 }
@@ -28,7 +28,7 @@ fn sized(size: Size, value: i64) -> SignedBytes
     }
 }
 
-// An immediate of one byte.
+/// An immediate of one byte.
 fn short(value: i64) -> SignedBytes
     ensures bytes { named_bytes result ≡ signed_bytes 1 value }
     ensures count { result.count ≤ 4 }
@@ -36,7 +36,7 @@ fn short(value: i64) -> SignedBytes
     SignedBytes { value, count: 1 }
 }
 
-// An operation with an immediate: of one byte where it holds the number.
+/// An operation with an immediate: of one byte where it holds the number.
 fn alu_immediate(alu: Alu, size: Size, rm: Operand, value: i64) -> ChosenFields
     ensures fields { named_fields result ≡ alu_immediate alu size rm value }
     ensures fits { IsShort result }
@@ -54,7 +54,7 @@ fn alu_immediate(alu: Alu, size: Size, rm: Operand, value: i64) -> ChosenFields
     }
 }
 
-// TEST has its immediate in full.
+/// TEST has its immediate in full.
 fn test_fields(size: Size, to: Operand, from: Operand) -> Option<ChosenFields>
     ensures fields { named_choice result ≡ alu_fields Test size to from }
     ensures fits { IfSome result (λ f. IsShort f) }
@@ -74,7 +74,7 @@ fn test_fields(size: Size, to: Operand, from: Operand) -> Option<ChosenFields>
     }
 }
 
-// The operations but for TEST.
+/// The operations but for TEST.
 fn other_fields(alu: Alu, size: Size, to: Operand, from: Operand) -> Option<ChosenFields>
     requires { is_test alu ≡ false }
     ensures fields { named_choice result ≡ alu_fields alu size to from }
@@ -93,7 +93,7 @@ fn other_fields(alu: Alu, size: Size, to: Operand, from: Operand) -> Option<Chos
     }
 }
 
-// The fields of an operation.
+/// The fields of an operation.
 fn alu_fields(alu: Alu, size: Size, to: Operand, from: Operand) -> Option<ChosenFields>
     ensures fields { named_choice result ≡ alu_fields alu size to from }
     ensures fits { IfSome result (λ f. IsShort f) }
@@ -106,7 +106,7 @@ fn alu_fields(alu: Alu, size: Size, to: Operand, from: Operand) -> Option<Chosen
     }
 }
 
-// MOV of an immediate: of 64 bits alone where fewer do not hold the number.
+/// MOV of an immediate: of 64 bits alone where fewer do not hold the number.
 fn mov_immediate(size: Size, rm: Operand, value: i64) -> ChosenFields
     ensures fields { named_fields result ≡ mov_immediate size rm value }
     ensures fits { IsShort result }
@@ -123,7 +123,7 @@ fn mov_immediate(size: Size, rm: Operand, value: i64) -> ChosenFields
     }
 }
 
-// The fields of MOV.
+/// The fields of MOV.
 fn mov_fields(size: Size, to: Operand, from: Operand) -> Option<ChosenFields>
     ensures fields { named_choice result ≡ mov_fields size to from }
     ensures fits { IfSome result (λ f. IsShort f) }
@@ -140,9 +140,10 @@ fn mov_fields(size: Size, to: Operand, from: Operand) -> Option<ChosenFields>
     }
 }
 
-// The fields of LEA.
+/// The fields of LEA.
 fn lea_fields(reg: Reg, mem: Mem) -> ChosenFields
-    ensures fields { named_fields result ≡ modrm_fields S64 false None 0x8D (number_of reg) (operand.Mem mem) [] }
+    ensures fields { named_fields result
+        ≡ modrm_fields S64 false None 0x8D (number_of reg) (operand.Mem mem) [] }
     ensures fits { IsShort result }
 {
     let rm = Operand::Mem(mem);
@@ -150,18 +151,20 @@ fn lea_fields(reg: Reg, mem: Mem) -> ChosenFields
     ChosenFields::with_modrm(Size::S64, false, None, 0x8D, number_of(reg), rm, none)
 }
 
-// The fields of NOT, NEG, INC and DEC.
+/// The fields of NOT, NEG, INC and DEC.
 fn one_fields(one: One, size: Size, rm: Operand) -> ChosenFields
-    ensures fields { named_fields result ≡ with_number size (opcode_for size (one_opcode one)) (one_number one) rm [] }
+    ensures fields { named_fields result
+        ≡ with_number size (opcode_for size (one_opcode one)) (one_number one) rm [] }
     ensures fits { IsShort result }
 {
     let opcode = opcode_for(size, one_opcode(one));
     ChosenFields::with_number(size, opcode, one_number(one), rm, SignedBytes::none())
 }
 
-// The fields of SETcc.
+/// The fields of SETcc.
 fn set_fields(condition: Cond, rm: Operand) -> ChosenFields
-    ensures fields { named_fields result ≡ modrm_fields S8 (needs_rex S8 rm) (Some 0x0F) (0x90 + condition_number condition) 0 rm [] }
+    ensures fields { named_fields result ≡ modrm_fields S8 (needs_rex S8 rm) (Some 0x0F)
+        (0x90 + condition_number condition) 0 rm [] }
     ensures fits { IsShort result }
 {
     let opcode = 0x90 + condition_number(condition);
@@ -170,9 +173,10 @@ fn set_fields(condition: Cond, rm: Operand) -> ChosenFields
     ChosenFields::with_modrm(Size::S8, needed, Some(0x0F), opcode, 0, rm, none)
 }
 
-// The fields of CMOVcc.
+/// The fields of CMOVcc.
 fn cmov_fields(condition: Cond, size: Size, reg: Reg, rm: Operand) -> ChosenFields
-    ensures fields { named_fields result ≡ modrm_fields size false (Some 0x0F) (0x40 + condition_number condition) (number_of reg) rm [] }
+    ensures fields { named_fields result ≡ modrm_fields size false (Some 0x0F)
+        (0x40 + condition_number condition) (number_of reg) rm [] }
     ensures fits { IsShort result }
 {
     let opcode = 0x40 + condition_number(condition);
@@ -180,7 +184,7 @@ fn cmov_fields(condition: Cond, size: Size, reg: Reg, rm: Operand) -> ChosenFiel
     ChosenFields::with_modrm(size, false, Some(0x0F), opcode, number_of(reg), rm, none)
 }
 
-// The fields of an extension: MOVZX and MOVSX stand behind 0F, MOVSXD does not.
+/// The fields of an extension: MOVZX and MOVSX stand behind 0F, MOVSXD does not.
 fn extend_fields(signed: bool, to: Size, from: Size, reg: Reg, rm: Operand) -> ChosenFields
     ensures fields { named_fields result ≡ extend_fields signed to from reg rm }
     ensures fits { IsShort result }
@@ -197,7 +201,7 @@ fn extend_fields(signed: bool, to: Size, from: Size, reg: Reg, rm: Operand) -> C
     }
 }
 
-// The fields of IMUL by an immediate.
+/// The fields of IMUL by an immediate.
 fn imul_by_fields(size: Size, reg: Reg, rm: Operand, value: i64) -> ChosenFields
     ensures fields { named_fields result ≡ imul_by_fields size reg rm value }
     ensures fits { IsShort result }
@@ -210,7 +214,7 @@ fn imul_by_fields(size: Size, reg: Reg, rm: Operand, value: i64) -> ChosenFields
     }
 }
 
-// The fields of a shift: a count of 1 stands in the opcode.
+/// The fields of a shift: a count of 1 stands in the opcode.
 fn shift_fields(kind: Shift, size: Size, rm: Operand, count: Count) -> ChosenFields
     ensures fields { named_fields result ≡ shift_fields kind size rm count }
     ensures fits { IsShort result }
@@ -227,7 +231,7 @@ fn shift_fields(kind: Shift, size: Size, rm: Operand, count: Count) -> ChosenFie
     }
 }
 
-// The fields of a jump on a condition.
+/// The fields of a jump on a condition.
 fn jcc_fields(condition: Cond, width: Width, disp: i32) -> ChosenFields
     ensures fields { named_fields result ≡ jcc_fields condition width disp }
     ensures fits { IsShort result }
@@ -241,7 +245,7 @@ fn jcc_fields(condition: Cond, width: Width, disp: i32) -> ChosenFields
     }
 }
 
-// The fields of a jump.
+/// The fields of a jump.
 fn jmp_fields(width: Width, disp: i32) -> ChosenFields
     ensures fields { named_fields result ≡ jmp_fields width disp }
     ensures fits { IsShort result }
@@ -253,7 +257,7 @@ fn jmp_fields(width: Width, disp: i32) -> ChosenFields
     ChosenFields::opcode_alone(None, opcode, displacement(width, disp))
 }
 
-// The displacement of a jump.
+/// The displacement of a jump.
 fn displacement(width: Width, disp: i32) -> SignedBytes
     ensures bytes { named_bytes result ≡ signed_bytes (width_length width) disp }
     ensures count { result.count ≤ 4 }
@@ -264,7 +268,7 @@ fn displacement(width: Width, disp: i32) -> SignedBytes
     }
 }
 
-// The fields of CALL.
+/// The fields of CALL.
 fn call_fields(disp: i32) -> ChosenFields
     ensures fields { named_fields result ≡ opcode_alone None 0xE8 (signed_bytes 4 disp) }
     ensures fits { IsShort result }

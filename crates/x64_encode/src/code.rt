@@ -6,7 +6,8 @@ ghost use Rattle.x64_insn.specs.Chosen.{bytes_of_number, signed_bytes};
 
 use std::marker::Model;
 
-/// Up to 15 bytes, as many as an instruction may have (Intel SDM vol. 2, 2.3.11). Contracts see the list of them.
+/// Up to 15 bytes, as many as an instruction may have (Intel SDM vol. 2, 2.3.11). Contracts see the
+/// list of them.
 #[derive(Drop)]
 pub struct Code15 {
     bytes: [u8; 15],

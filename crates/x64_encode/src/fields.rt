@@ -52,8 +52,8 @@ impl SignedBytes {
     }
 }
 
-// The mode of a displacement behind a base register: none where it is 0, but for the field of RBP and R13, which has one;
-// else the shortest.
+/// The mode of a displacement behind a base register: none where it is 0, but for the field of RBP
+/// and R13, which has one; else the shortest.
 fn mode_for(field: u8, disp: i32) -> u8
     ensures value { result ≡ mode_for field disp }
     ensures fits { result < 3 }
@@ -67,7 +67,7 @@ fn mode_for(field: u8, disp: i32) -> u8
     }
 }
 
-// The displacement of a mode.
+/// The displacement of a mode.
 fn displacement_for(mode: u8, disp: i32) -> SignedBytes
     ensures bytes { named_bytes result ≡ displacement_for mode disp }
     ensures count { result.count ≤ 4 }
@@ -83,7 +83,7 @@ fn displacement_for(mode: u8, disp: i32) -> SignedBytes
     }
 }
 
-// The number of an index, 4 for none.
+/// The number of an index, 4 for none.
 fn index_code(index: Option<(Reg, u8)>) -> u8
     ensures value { result ≡ index_code index }
     ensures fits { result < 16 }
@@ -94,7 +94,7 @@ fn index_code(index: Option<(Reg, u8)>) -> u8
     }
 }
 
-// The field of a scale.
+/// The field of a scale.
 fn scale_code(index: Option<(Reg, u8)>) -> u8
     ensures value { result ≡ scale_code index }
     ensures fits { result < 4 }
@@ -110,7 +110,7 @@ fn scale_code(index: Option<(Reg, u8)>) -> u8
     }
 }
 
-// A SIB with a base field.
+/// A SIB with a base field.
 fn sib_with(low: u8, index: Option<(Reg, u8)>) -> u8
     requires { low < 8 }
     ensures { result ≡ sib_with low index }
@@ -119,7 +119,7 @@ fn sib_with(low: u8, index: Option<(Reg, u8)>) -> u8
 }
 
 impl RmFields {
-    // A register.
+    /// A register.
     fn register(reg: Reg) -> Self
         ensures fields { named_parts result ≡ register_parts reg }
         ensures fits { Small result }
@@ -135,7 +135,8 @@ impl RmFields {
         }
     }
 
-    // An address with a base register: without a SIB where it has no index, but for the field of RSP and R12.
+    /// An address with a base register: without a SIB where it has no index, but for the field of
+    /// RSP and R12.
     fn based(reg: Reg, index: Option<(Reg, u8)>, disp: i32) -> Self
         ensures fields { named_parts result ≡ based_parts reg index disp }
         ensures fits { Small result }
@@ -165,7 +166,7 @@ impl RmFields {
         }
     }
 
-    // An address: without a base, or with RIP, the displacement has four bytes.
+    /// An address: without a base, or with RIP, the displacement has four bytes.
     fn address(base: Base, index: Option<(Reg, u8)>, disp: i32) -> Self
         ensures fields { named_parts result ≡ address_parts base index disp }
         ensures fits { Small result }
@@ -195,7 +196,7 @@ impl RmFields {
         }
     }
 
-    // A register or an address.
+    /// A register or an address.
     #[tactic(auto, unfolding(x64_insn::specs::Chosen::rm_parts))]
     fn of_operand(rm: Operand) -> Self
         ensures fields { named_parts result ≡ rm_parts rm }
@@ -209,7 +210,7 @@ impl RmFields {
     }
 }
 
-// The prefix 66 gives 16 bits.
+/// The prefix 66 gives 16 bits.
 fn operand_size_for(size: Size) -> Option<u8>
     ensures { result ≡ operand_size_for size }
 {
@@ -219,7 +220,7 @@ fn operand_size_for(size: Size) -> Option<u8>
     }
 }
 
-// REX.W gives 64 bits.
+/// REX.W gives 64 bits.
 fn w_for(size: Size) -> u8
     ensures value { result ≡ w_for size }
     ensures fits { result < 2 }
@@ -230,7 +231,7 @@ fn w_for(size: Size) -> u8
     }
 }
 
-// REX with the bits W, R, X and B, where one is set or a register needs it.
+/// REX with the bits W, R, X and B, where one is set or a register needs it.
 fn rex_with(w: u8, r: u8, x: u8, b: u8, needed: bool) -> Option<u8>
     requires w { w < 2 }
     requires r { r < 2 }
@@ -270,7 +271,8 @@ impl ChosenFields {
     ) -> Self
         requires number { number < 16 }
         requires immediate { immediate.count ≤ 4 }
-        ensures fields { named_fields result ≡ modrm_fields size needed escape opcode number rm (named_bytes immediate) }
+        ensures fields { named_fields result
+            ≡ modrm_fields size needed escape opcode number rm (named_bytes immediate) }
         ensures fits { IsShort result }
     {
         let parts = RmFields::of_operand(rm);
@@ -306,7 +308,8 @@ impl ChosenFields {
     ) -> Self
         requires number { number < 8 }
         requires immediate { immediate.count ≤ 4 }
-        ensures fields { named_fields result ≡ with_number size opcode number rm (named_bytes immediate) }
+        ensures fields { named_fields result
+            ≡ with_number size opcode number rm (named_bytes immediate) }
         ensures fits { IsShort result }
     {
         let needed = needs_rex(size, rm);
@@ -341,7 +344,8 @@ impl ChosenFields {
     ) -> Self
         requires opcode { opcode < 248 }
         requires immediate { immediate.count ≤ 8 }
-        ensures fields { named_fields result ≡ with_opcode_register size escape opcode reg (named_bytes immediate) }
+        ensures fields { named_fields result
+            ≡ with_opcode_register size escape opcode reg (named_bytes immediate) }
         ensures fits { IsShort result }
     {
         let number = number_of(reg);

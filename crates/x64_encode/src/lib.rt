@@ -26,7 +26,7 @@ pub fn has_spelling(insn: &Insn) -> bool
     spelled::is_spelled(*insn)
 }
 
-// The bytes that are chosen, none for an instruction without a spelling.
+/// The bytes that are chosen, none for an instruction without a spelling.
 #[tactic(auto, unfolding(x64_insn::specs::Chosen::chosen_bytes))]
 fn chosen(insn: Insn) -> Code15
     ensures { result ≡ chosen_bytes insn }
@@ -48,5 +48,6 @@ pub fn encode(insn: &Insn) -> Code15
 
 /// What is encoded is decoded, whatever follows it.
 pub fn round_trip()
-    ensures { (i : Insn) (rest : List ℕ) → HasSpelling i → decoded_of (chosen_bytes i ++ rest) ≡ Decoded.Insn i (length (chosen_bytes i)) }
+    ensures { (i : Insn) (rest : List ℕ) → HasSpelling i
+        → decoded_of (chosen_bytes i ++ rest) ≡ Decoded.Insn i (length (chosen_bytes i)) }
 {}

@@ -14,7 +14,7 @@ pub(super) fn fits_byte(value: i64) -> bool
     (-128..128).contains(&value)
 }
 
-// Whether two bytes hold a signed number.
+/// Whether two bytes hold a signed number.
 fn fits_two_bytes(value: i64) -> bool
     ensures { result ≡ fits_bytes 2 value }
 {

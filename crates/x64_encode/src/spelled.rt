@@ -9,7 +9,7 @@ use jz_words::Size;
 use x64_insn::table::number_of;
 use x64_insn::{Alu, Base, Insn, Mem, Operand, Reg, Width};
 
-// An index that has a number, with a scale that has a field: the number of RSP stands for none.
+/// An index that has a number, with a scale that has a field: the number of RSP stands for none.
 fn is_index(index: Option<(Reg, u8)>) -> bool
     ensures { result ≡ is_index index }
 {
@@ -19,7 +19,7 @@ fn is_index(index: Option<(Reg, u8)>) -> bool
     }
 }
 
-// An address that a spelling can name: beside RIP there is no index.
+/// An address that a spelling can name: beside RIP there is no index.
 fn is_address(mem: Mem) -> bool
     ensures { result ≡ is_address mem }
 {
@@ -29,7 +29,7 @@ fn is_address(mem: Mem) -> bool
     }
 }
 
-// A register or an address.
+/// A register or an address.
 fn is_rm(operand: Operand) -> bool
     ensures { result ≡ is_rm operand }
 {
@@ -40,7 +40,8 @@ fn is_rm(operand: Operand) -> bool
     }
 }
 
-// A register or an address with a register or an immediate; and, but for TEST, a register with an address.
+/// A register or an address with a register or an immediate; and, but for TEST, a register with an
+/// address.
 fn are_alu_operands(alu: Alu, size: Size, to: Operand, from: Operand) -> bool
     ensures { result ≡ are_alu_operands alu size to from }
 {
@@ -53,7 +54,7 @@ fn are_alu_operands(alu: Alu, size: Size, to: Operand, from: Operand) -> bool
     }
 }
 
-// Whether MOV has an immediate of so many bits: a register of 64 has any.
+/// Whether MOV has an immediate of so many bits: a register of 64 has any.
 fn fits_mov(size: Size, to: Operand, value: i64) -> bool
     ensures { result ≡ fits_bytes (mov_length size to) value }
 {
@@ -63,7 +64,7 @@ fn fits_mov(size: Size, to: Operand, value: i64) -> bool
     }
 }
 
-// The operands of MOV.
+/// The operands of MOV.
 fn are_mov_operands(size: Size, to: Operand, from: Operand) -> bool
     ensures { result ≡ are_mov_operands size to from }
 {
@@ -74,7 +75,7 @@ fn are_mov_operands(size: Size, to: Operand, from: Operand) -> bool
     }
 }
 
-// A source that is smaller than the destination; 32 bits are extended with their sign alone.
+/// A source that is smaller than the destination; 32 bits are extended with their sign alone.
 fn is_extension(signed: bool, to: Size, from: Size) -> bool
     ensures { result ≡ is_extension signed to from }
 {
@@ -86,14 +87,14 @@ fn is_extension(signed: bool, to: Size, from: Size) -> bool
     }
 }
 
-// More than one byte.
+/// More than one byte.
 fn is_no_byte(size: Size) -> bool
     ensures { result ≡ is_no_byte size }
 {
     !matches!(size, Size::S8)
 }
 
-// Whether the displacement of a jump fits its width.
+/// Whether the displacement of a jump fits its width.
 fn fits_width(width: Width, disp: i32) -> bool
     ensures { result ≡ fits_bytes (width_length width) disp }
 {

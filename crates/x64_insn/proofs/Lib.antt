@@ -1,4 +1,5 @@
 pub mod Registers
+pub mod Numbers
 pub mod Immediates
 pub mod PlainRows
 pub mod ResultFlags

@@ -13,7 +13,7 @@ use Rattle.x64_insn.specs.declared.table.Operands.TheVariants.{Sized}
 use Rattle.x64_insn.specs.declared.table.Row.{Row}
 use Rattle.x64_insn.specs.Table.{number_of, row_of, allows, names_low_byte, reg_field, rm_field, r_of, has_modrm, takes_reg_field, takes_modrm, has_byte_reg, has_byte_rm, is_lea, immediate_length}
 use Rattle.x64_insn.specs.Encoding.{Fields, AreFields, is_byte, StandsIf, AreBytes, modrm_byte, reg_of_modrm, memory_of, rm_of_modrm, size_in, meaning, meaning_of, insn_of}
-use Rattle.x64_insn.specs.Chosen.{RmParts, operand_size_for, w_for, rex_with, rm_parts, address_parts, modrm_fields, is_rm, is_memory, is_address, is_no_byte, needs_rex}
+use Rattle.x64_insn.specs.Chosen.{RmParts, operand_size_for, w_for, rex_with, rm_parts, address_parts, modrm_fields, is_rm, is_address, is_no_byte, needs_rex}
 use Rattle.x64_insn.proofs.Registers.{number_small}
 use Rattle.x64_insn.proofs.RexBits.{operands_for, operand_size_ok, r_is, x_is, b_is, w_small, size_is, size_by_is, rex_ok, low_byte_named}
 use Rattle.x64_insn.proofs.ModrmFields.{modrm_with, modrm_small, mode_is, reg_is, rm_is, has_sib_by, length_by, rm_by, has_sib_is, length_is, memory_is, rm_parts_are}
@@ -74,6 +74,10 @@ byte_rm w r needed (operand.Mem a) h k = let m = addressed a h in let n = no_reg
 byte_rm w r needed (operand.Imm i) h k = absurd (false≢true h)
 
 -- an address has no mode 3
+abbrev pub is_memory : Operand → Bool
+is_memory (operand.Mem a) = is_address a
+is_memory other = false
+
 memory_alone : (rm : Operand) → is_memory rm ≡ true → not ((rm_parts rm).mode == 3) ≡ true
 unfolding rm_parts
 memory_alone (operand.Mem a) h = let m = addressed a h in let n = no_register _ m.mode_small in rw n refl

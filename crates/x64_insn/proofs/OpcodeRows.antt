@@ -1,5 +1,5 @@
 -- The opcodes that are chosen have the rows that their instructions need.
-use Rattle.std.proofs.Common.{◌≡◌, ℕ, ◌+◌, ◌*◌, ◌%◌, ◌<◌, true, false, Some, None, refl, arith}
+use Rattle.std.proofs.Common.{◌≡◌, ℕ, ◌+◌, ◌*◌, ◌%◌, ◌<◌, true, false, Some, None, refl, ap, ◌∙◌, arith}
 use Rattle.std.proofs.lemmas.Bool.{true≢false}
 use Rattle.std.proofs.lemmas.Bool.Decides.{nat_tests}
 use Rattle.jz_words.specs.declared.size.Size.{Size}
@@ -18,6 +18,7 @@ use Rattle.x64_insn.specs.declared.table.Row.TheVariants as row
 use Rattle.x64_insn.specs.Table.{operation_of, condition_of, one_byte_row, escaped_row, row_of, is_shift_number}
 use Rattle.x64_insn.specs.Encoding.{shift_of}
 use Rattle.x64_insn.specs.Chosen.{alu_number, condition_number, shift_number, opcode_for, is_test}
+use Rattle.x64_insn.proofs.Numbers.{operation_of_number}
 use Rattle.x64_insn.proofs.RexBits.{operands_for}
 
 -- a pair of opcodes
@@ -220,16 +221,8 @@ alu_small alu.Cmp = omega arith
 alu_small alu.Test = omega arith
 
 pub operation_back : (a : Alu) → is_test a ≡ false → operation_of (alu_number a % 8) ≡ a
-unfolding operation_of
-operation_back alu.Add h = refl
-operation_back alu.Or h = refl
-operation_back alu.Adc h = refl
-operation_back alu.Sbb h = refl
-operation_back alu.And h = refl
-operation_back alu.Sub h = refl
-operation_back alu.Xor h = refl
-operation_back alu.Cmp h = refl
-operation_back alu.Test h = absurd (true≢false h)
+operation_back a h =
+    let e : alu_number a % 8 ≡ alu_number a = omega (arith, alu_small a) in ap operation_of e ∙ operation_of_number a h
 
 pub shift_small : (s : Shift) → shift_number s < 8
 shift_small shift.Rol = omega arith

@@ -1,6 +1,8 @@
 -- Registers and their numbers.
-use Rattle.std.proofs.Common.{◌≡◌, ℕ, ◌%◌, ◌^◌, ◌<◌, List, length, refl, sym, ap, ◌∙◌, arith}
-use Rattle.std.specs.Prelude.{slice_index, slice_set}
+use Rattle.std.proofs.Common.{◌≡◌, ℕ, ◌%◌, ◌^◌, ◌<◌, true, List, length, refl, sym, ap, ◌∙◌, arith}
+use Rattle.std.specs.Prelude.{◌==◌, slice_index, slice_set}
+use Rattle.std.proofs.lemmas.Bool.{agree_below_at}
+use Rattle.std.proofs.lemmas.Bool.Decides.{nat_tests}
 use Rattle.std.proofs.lemmas.List.{get_or-set_same}
 use Rattle.x64_insn.specs.declared.types.Reg.{Reg}
 use Rattle.x64_insn.specs.declared.types.Reg.TheVariants as reg
@@ -42,6 +44,14 @@ number_small reg.R12 = omega arith
 number_small reg.R13 = omega arith
 number_small reg.R14 = omega arith
 number_small reg.R15 = omega arith
+
+-- the number of a register's place in the list is that place
+number_found : (n : ℕ) → n < 16 → (number_of (reg_of n) == n) ≡ true
+unfolding reg_of
+number_found n h = agree_below_at (λ k. number_of (reg_of k) == k) (λ k. true) 16 n refl h
+
+pub number_of_reg : (n : ℕ) → n < 16 → number_of (reg_of n) ≡ n
+number_of_reg n h = grind (arith, nat_tests, number_found n h)
 
 -- a register is known by its number
 pub same_register : (q r : Reg) → number_of q ≡ number_of r → q ≡ r

@@ -1,6 +1,7 @@
 -- Only instructions that pass the test have a spelling.
-use Rattle.std.proofs.Common.{◌≡◌, ℕ, ◌/◌, ◌%◌, ◌^◌, List, length, Bool, true, false, not, Option, Some, None, refl, sym, ap, ◌∙◌, subst, arith}
-use Rattle.std.specs.Prelude.{◌&&◌, ◌||◌, ◌==◌, nat_lt, nat_le, if◌then◌else◌, unwrap_or, is_none, is_some}
+use Rattle.std.proofs.Common.{◌≡◌, ℕ, zero, suc, ◌/◌, ◌%◌, ◌^◌, List, [], ◌∷◌, length, Bool, true, false, not, Option, Some, None, refl, sym, ap, ◌∙◌, subst, arith}
+use Rattle.std.specs.Prelude.{◌&&◌, ◌||◌, ◌==◌, nat_lt, nat_le, if◌then◌else◌, unwrap_or, is_none, is_some, slice_index_or}
+use Rattle.std.specs.List.{list_all}
 use Rattle.std.proofs.lemmas.Bool.{false≢true, and_parts, and_from, cond_both, lt-ltb}
 use Rattle.std.proofs.lemmas.Bool.Decides.{nat_tests}
 use Rattle.jz_words.specs.declared.size.Size.{Size}
@@ -18,7 +19,7 @@ use Rattle.x64_insn.specs.declared.table.Operands.{Operands}
 use Rattle.x64_insn.specs.declared.table.Operands.TheVariants.{Bytes, Sized}
 use Rattle.x64_insn.specs.declared.table.Row.{Row}
 use Rattle.x64_insn.specs.declared.table.Row.TheVariants as row
-use Rattle.x64_insn.specs.Table.{operation_of, one_byte_row, escaped_row, row_of, has_w, size_of, size_by, reg_field, allows, has_modrm, takes_reg_field, takes_modrm, immediate_by, immediate_length, width_length, operands_of, is_pair, is_one_of}
+use Rattle.x64_insn.specs.Table.{operations, operation_of, one_byte_row, escaped_row, row_of, has_w, size_of, size_by, reg_field, allows, has_modrm, takes_reg_field, takes_modrm, immediate_by, immediate_length, width_length, operands_of, is_pair, is_one_of}
 use Rattle.x64_insn.specs.Encoding.{Fields, AreFields, StandsIf, AreBytes, has_sib, unsigned_of, signed_of, modrm_byte, memory_of, rm_of_modrm, group3, insn_of, meaning, reg_of_modrm}
 use Rattle.x64_insn.specs.Chosen.{fits_bytes, is_address, is_rm, is_test, is_extension, is_no_byte, has_byte_order, are_alu_operands, are_mov_operands, mov_length, is_spelled}
 use Rattle.x64_insn.proofs.Immediates.{unsigned_small, bytes_fit}
@@ -38,20 +39,15 @@ is_fine other = true
 is_fine_alu : Alu → Bool
 is_fine_alu a = not (is_test a)
 
-by_number : (b c d e f g h : Bool) → is_fine_alu (if b then alu.Add else if c then alu.Or else if d then alu.Adc else if e then alu.Sbb else if f then alu.And else if g then alu.Sub else if h then alu.Xor else alu.Cmp) ≡ true
+each_fine : (ops : List Alu) → list_all is_fine_alu ops ≡ true → (n : ℕ) → is_fine_alu (slice_index_or ops n alu.Cmp) ≡ true
 unfolding is_fine_alu
-by_number true c d e f g h = refl
-by_number false true d e f g h = refl
-by_number false false true e f g h = refl
-by_number false false false true f g h = refl
-by_number false false false false true g h = refl
-by_number false false false false false true h = refl
-by_number false false false false false false true = refl
-by_number false false false false false false false = refl
+each_fine [] h n = refl
+each_fine (a ∷ ops) h zero = (and_parts _ _ h).0
+each_fine (a ∷ ops) h (suc n) = each_fine ops (and_parts _ _ h).1 n
 
 no_test : (n : ℕ) (o : Operands) → is_fine (Some (row.AluRegRm (operation_of n) o)) ≡ true
 unfolding is_fine operation_of is_fine_alu
-no_test n o = by_number _ _ _ _ _ _ _
+no_test n o = each_fine operations refl n
 
 record Fine (x : Option Row) : Type 0 where
   is : is_fine x ≡ true

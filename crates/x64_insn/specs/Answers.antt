@@ -1,4 +1,5 @@
--- The result of an operation on words, and the status flags that it leaves (Intel SDM vol. 1, 3.4.3.1).
+-- The result of an operation on words, and the status flags that it leaves (Intel SDM vol. 1,
+-- 3.4.3.1).
 use Rattle.std.specs.Prelude.{ℕ, ◌-◌, bit_and, bit_or, bit_xor, Bool, false, not, ◌||◌, ◌==◌, slice_set, slice_index_or, nat_le, int_lt, if◌then◌else◌, List, [], ◌∷◌, ℤ, pos, ◌+ℤ◌, ◌-ℤ◌}
 use Rattle.jz_words.specs.declared.size.Size.{Size}
 use Rattle.jz_words.specs.Sizes.{half, modulus, signed}
@@ -31,7 +32,9 @@ unfoldable pub sum_answer : Size → ℕ → ℕ → Bool → Answer
 sum_answer s a b c =
     record {
       value = sum_of s a b c;
-      flags = flags_of s (overflows s ((signed s a +ℤ signed s b) +ℤ pos (carried c))) (carry_of s a b c) (sum_of s a b c);
+      flags =
+          flags_of s (overflows s ((signed s a +ℤ signed s b) +ℤ pos (carried c)))
+          (carry_of s a b c) (sum_of s a b c);
     }
 
 -- a - b - c
@@ -39,7 +42,9 @@ unfoldable pub difference_answer : Size → ℕ → ℕ → Bool → Answer
 difference_answer s a b c =
     record {
       value = difference_of s a b c;
-      flags = flags_of s (overflows s ((signed s a -ℤ signed s b) -ℤ pos (carried c))) (borrow_of a b c) (difference_of s a b c);
+      flags =
+          flags_of s (overflows s ((signed s a -ℤ signed s b) -ℤ pos (carried c))) (borrow_of a b c)
+          (difference_of s a b c);
     }
 
 -- the bits that a and b have, and those that one of them has; neither overflow nor carry
@@ -70,7 +75,8 @@ alu_answer alu.Test s a b c = and_answer s a b
 abbrev pub with_carry_of : List FlagVal → Answer → Answer
 with_carry_of old r = record r { flags = slice_set r.flags 1 (slice_index_or old 1 Undefined) }
 
--- NOT turns each bit over and keeps the flags; NEG is 0 - a, INC and DEC add and take away 1, and keep CF
+-- NOT turns each bit over and keeps the flags; NEG is 0 - a, INC and DEC add and take away 1, and
+-- keep CF
 unfoldable pub one_answer : One → Size → ℕ → List FlagVal → Answer
 one_answer one.Not s a old = record { value = modulus s - 1 - a; flags = old }
 one_answer one.Neg s a old = difference_answer s 0 a false

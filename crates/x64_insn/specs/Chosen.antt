@@ -1,8 +1,10 @@
--- The spelling that is chosen among those of an instruction: with the shortest immediate and displacement, and nothing set that has no use.
-use Rattle.std.specs.Prelude.{ℕ, zero, suc, ◌+◌, ◌*◌, ◌/◌, ◌%◌, ◌^◌, ℤ, pos, ◌-ℤ◌, int_lt, Bool, true, false, not, ◌&&◌, ◌||◌, ◌==◌, nat_lt, nat_le, if◌then◌else◌, Option, Some, None, is_none, List, [], ◌∷◌}
+-- The spelling that is chosen among those of an instruction: with the shortest immediate and
+-- displacement, and nothing set that has no use.
+use Rattle.std.specs.Prelude.{ℕ, zero, suc, ◌+◌, ◌*◌, ◌/◌, ◌%◌, ◌^◌, ℤ, pos, int_lt, Bool, true, false, not, ◌&&◌, ◌||◌, ◌==◌, nat_lt, nat_le, if◌then◌else◌, Option, Some, None, is_none, List, [], ◌∷◌}
 use Rattle.jz_words.specs.declared.size.Size.{Size}
 use Rattle.jz_words.specs.declared.size.Size.TheVariants.{S8, S16, S32, S64}
 use Rattle.jz_words.specs.Words.{modulo}
+pub use Rattle.jz_words.specs.Readings.{fits_bytes}
 use Rattle.x64_insn.specs.declared.types.Alu.{Alu}
 use Rattle.x64_insn.specs.declared.types.Alu.TheVariants as alu
 use Rattle.x64_insn.specs.declared.types.One.{One}
@@ -102,10 +104,6 @@ bytes_of_number (suc k) n = n % 256 ∷ bytes_of_number k (n / 256)
 abbrev pub signed_bytes : ℕ → ℤ → List ℕ
 signed_bytes k i = bytes_of_number k (modulo i (256 ^ k))
 
--- whether so many bytes can hold a signed number
-abbrev pub fits_bytes : ℕ → ℤ → Bool
-fits_bytes k i = not (int_lt i (pos 0 -ℤ pos (256 ^ k / 2))) && int_lt i (pos (256 ^ k / 2))
-
 -- ---- prefixes
 -- 66 gives 16 bits, and REX.W gives 64
 abbrev pub operand_size_for : Size → Option ℕ
@@ -118,7 +116,9 @@ w_for other = 0
 
 -- REX with the bits W, R, X and B, where one is set or a register needs it
 abbrev pub rex_with : ℕ → ℕ → ℕ → ℕ → Bool → Option ℕ
-rex_with w r x b needed = if (8 * w + 4 * r + 2 * x + b == 0) && not needed then None else Some (0x40 + (8 * w + 4 * r + 2 * x + b))
+rex_with w r x b needed =
+    if (8 * w + 4 * r + 2 * x + b == 0) && not needed then None
+    else Some (0x40 + (8 * w + 4 * r + 2 * x + b))
 
 -- SPL, BPL, SIL and DIL need a REX
 abbrev pub is_low_byte_of_pointer : Reg → Bool
@@ -139,17 +139,27 @@ pub record RmParts : Type 0 where
   pub displacement : List ℕ
 
 abbrev pub register_parts : Reg → RmParts
-register_parts r = record { mode = 3; field = number_of r % 8; x = 0; b = number_of r / 8; sib = None; displacement = [] }
+register_parts r = record {
+  mode = 3;
+  field = number_of r % 8;
+  x = 0;
+  b = number_of r / 8;
+  sib = None;
+  displacement = [];
+}
 
--- the mode of a displacement behind a base register: none where it is 0, but for the fields of RBP and R13, which have one; else the shortest
+-- the mode of a displacement behind a base register: none where it is 0, but for the fields of RBP
+-- and R13, which have one; else the shortest
 abbrev pub is_zero : ℤ → Bool
 is_zero i = not (int_lt i (pos 0)) && int_lt i (pos 1)
 
 abbrev pub mode_for : ℕ → ℤ → ℕ
-mode_for field disp = if is_zero disp && not (field == 5) then 0 else if fits_bytes 1 disp then 1 else 2
+mode_for field disp =
+    if is_zero disp && not (field == 5) then 0 else if fits_bytes 1 disp then 1 else 2
 
 abbrev pub displacement_for : ℕ → ℤ → List ℕ
-displacement_for mode disp = if mode == 0 then [] else if mode == 1 then signed_bytes 1 disp else signed_bytes 4 disp
+displacement_for mode disp =
+    if mode == 0 then [] else if mode == 1 then signed_bytes 1 disp else signed_bytes 4 disp
 
 -- the number of an index, 4 for none, and the field of its scale
 abbrev pub index_code : Option (Reg × ℕ) → ℕ
@@ -168,15 +178,34 @@ abbrev pub based_parts : Reg → Option (Reg × ℕ) → ℤ → RmParts
 based_parts r index disp =
     let low = number_of r % 8 in
     let mode = mode_for low disp in
-    if is_none index && not (low == 4) then record { mode = mode; field = low; x = 0; b = number_of r / 8; sib = None; displacement = displacement_for mode disp }
-    else record { mode = mode; field = 4; x = index_code index / 8; b = number_of r / 8; sib = Some (sib_with low index); displacement = displacement_for mode disp }
+    let displacement = displacement_for mode disp in
+    let b = number_of r / 8 in
+    let x = index_code index / 8 in
+    let sib = Some (sib_with low index) in
+    if is_none index && not (low == 4)
+    then record { mode = mode; field = low; x = 0; b = b; sib = None; displacement = displacement }
+    else record { mode = mode; field = 4; x = x; b = b; sib = sib; displacement = displacement }
 
 -- without a base, or with RIP, the displacement has four bytes
 abbrev pub address_parts : Base → Option (Reg × ℕ) → ℤ → RmParts
 address_parts (base.Reg r) index disp = based_parts r index disp
 address_parts base.Absent index disp =
-    record { mode = 0; field = 4; x = index_code index / 8; b = 0; sib = Some (sib_with 5 index); displacement = signed_bytes 4 disp }
-address_parts base.Rip index disp = record { mode = 0; field = 5; x = 0; b = 0; sib = None; displacement = signed_bytes 4 disp }
+    record {
+      mode = 0;
+      field = 4;
+      x = index_code index / 8;
+      b = 0;
+      sib = Some (sib_with 5 index);
+      displacement = signed_bytes 4 disp;
+    }
+address_parts base.Rip index disp = record {
+  mode = 0;
+  field = 5;
+  x = 0;
+  b = 0;
+  sib = None;
+  displacement = signed_bytes 4 disp;
+}
 
 unfoldable pub rm_parts : Operand → RmParts
 rm_parts (operand.Reg r) = register_parts r
@@ -201,15 +230,27 @@ modrm_fields size needed escape opcode number rm immediate =
 
 -- an operation with a register in the reg field, and one with a number there
 abbrev pub with_register : Size → ℕ → Reg → Operand → Fields
-with_register size opcode r rm = modrm_fields size (needs_rex size (operand.Reg r) || needs_rex size rm) None opcode (number_of r) rm []
+with_register size opcode r rm =
+    modrm_fields size (needs_rex size (operand.Reg r) || needs_rex size rm) None opcode
+    (number_of r) rm []
 
 abbrev pub with_number : Size → ℕ → ℕ → Operand → List ℕ → Fields
-with_number size opcode n rm immediate = modrm_fields size (needs_rex size rm) None opcode n rm immediate
+with_number size opcode n rm immediate =
+    modrm_fields size (needs_rex size rm) None opcode n rm immediate
 
 -- an opcode without ModRM: alone, and with a register in its lowest three bits
 abbrev pub opcode_alone : Option ℕ → ℕ → List ℕ → Fields
 opcode_alone escape opcode immediate =
-    record { operand_size = None; rex = None; escape = escape; opcode = opcode; modrm = None; sib = None; displacement = []; immediate = immediate }
+    record {
+      operand_size = None;
+      rex = None;
+      escape = escape;
+      opcode = opcode;
+      modrm = None;
+      sib = None;
+      displacement = [];
+      immediate = immediate;
+    }
 
 abbrev pub with_opcode_register : Size → Option ℕ → ℕ → Reg → List ℕ → Fields
 with_opcode_register size escape opcode r immediate = record {
@@ -234,31 +275,40 @@ alu_immediate op size rm i =
 -- TEST has its immediate in full, and no address behind a register
 abbrev pub alu_fields : Alu → Size → Operand → Operand → Option Fields
 alu_fields alu.Test size rm (operand.Reg r) = Some (with_register size (opcode_for size 0x84) r rm)
-alu_fields alu.Test size rm (operand.Imm i) = Some (with_number size (opcode_for size 0xF6) 0 rm (signed_bytes (immediate_by size) i))
+alu_fields alu.Test size rm (operand.Imm i) =
+    Some (with_number size (opcode_for size 0xF6) 0 rm (signed_bytes (immediate_by size) i))
 alu_fields alu.Test size to (operand.Mem a) = None
-alu_fields op size rm (operand.Reg r) = Some (with_register size (opcode_for size (8 * alu_number op)) r rm)
+alu_fields op size rm (operand.Reg r) =
+    Some (with_register size (opcode_for size (8 * alu_number op)) r rm)
 alu_fields op size rm (operand.Imm i) = Some (alu_immediate op size rm i)
-alu_fields op size (operand.Reg r) (operand.Mem a) = Some (with_register size (opcode_for size (8 * alu_number op + 2)) r (operand.Mem a))
+alu_fields op size (operand.Reg r) (operand.Mem a) =
+    Some (with_register size (opcode_for size (8 * alu_number op + 2)) r (operand.Mem a))
 alu_fields op size to from = None
 
 -- MOV of an immediate: of 64 bits alone where fewer do not hold the number
 abbrev pub mov_immediate : Size → Operand → ℤ → Fields
 mov_immediate size (operand.Reg r) i =
-    if fits_bytes (immediate_by size) i then with_number size (opcode_for size 0xC6) 0 (operand.Reg r) (signed_bytes (immediate_by size) i)
+    if fits_bytes (immediate_by size) i
+    then with_number size (opcode_for size 0xC6) 0 (operand.Reg r)
+    (signed_bytes (immediate_by size) i)
     else with_opcode_register S64 None 0xB8 r (signed_bytes 8 i)
-mov_immediate size rm i = with_number size (opcode_for size 0xC6) 0 rm (signed_bytes (immediate_by size) i)
+mov_immediate size rm i =
+    with_number size (opcode_for size 0xC6) 0 rm (signed_bytes (immediate_by size) i)
 
 abbrev pub mov_fields : Size → Operand → Operand → Option Fields
 mov_fields size rm (operand.Reg r) = Some (with_register size (opcode_for size 0x88) r rm)
 mov_fields size rm (operand.Imm i) = Some (mov_immediate size rm i)
-mov_fields size (operand.Reg r) (operand.Mem a) = Some (with_register size (opcode_for size 0x8A) r (operand.Mem a))
+mov_fields size (operand.Reg r) (operand.Mem a) =
+    Some (with_register size (opcode_for size 0x8A) r (operand.Mem a))
 mov_fields size to from = None
 
 -- MOVZX and MOVSX stand behind 0F, MOVSXD does not
 abbrev pub extend_fields : Bool → Size → Size → Reg → Operand → Fields
 extend_fields sign to S32 r rm = modrm_fields to false None 0x63 (number_of r) rm []
-extend_fields false to from r rm = modrm_fields to (needs_rex from rm) (Some 0x0F) (opcode_for from 0xB6) (number_of r) rm []
-extend_fields true to from r rm = modrm_fields to (needs_rex from rm) (Some 0x0F) (opcode_for from 0xBE) (number_of r) rm []
+extend_fields false to from r rm =
+    modrm_fields to (needs_rex from rm) (Some 0x0F) (opcode_for from 0xB6) (number_of r) rm []
+extend_fields true to from r rm =
+    modrm_fields to (needs_rex from rm) (Some 0x0F) (opcode_for from 0xBE) (number_of r) rm []
 
 abbrev pub imul_by_fields : Size → Reg → Operand → ℤ → Fields
 imul_by_fields size r rm i =
@@ -267,7 +317,8 @@ imul_by_fields size r rm i =
 
 -- a count of 1 stands in the opcode
 abbrev pub shift_fields : Shift → Size → Operand → Count → Fields
-shift_fields kind size rm count.Cl = with_number size (opcode_for size 0xD2) (shift_number kind) rm []
+shift_fields kind size rm count.Cl =
+    with_number size (opcode_for size 0xD2) (shift_number kind) rm []
 shift_fields kind size rm (count.Imm n) =
     if n == 1 then with_number size (opcode_for size 0xD0) (shift_number kind) rm []
     else with_number size (opcode_for size 0xC0) (shift_number kind) rm (n ∷ [])
@@ -285,17 +336,23 @@ unfoldable pub chosen_fields : Insn → Option Fields
 chosen_fields (insn.Alu op size to from) = alu_fields op size to from
 chosen_fields (insn.Mov size to from) = mov_fields size to from
 chosen_fields (insn.Extend sign to from r rm) = Some (extend_fields sign to from r rm)
-chosen_fields (insn.Lea r a) = Some (modrm_fields S64 false None 0x8D (number_of r) (operand.Mem a) [])
-chosen_fields (insn.One op size rm) = Some (with_number size (opcode_for size (one_opcode op)) (one_number op) rm [])
-chosen_fields (insn.Wide op size rm) = Some (with_number size (opcode_for size 0xF6) (wide_number op) rm [])
-chosen_fields (insn.Imul size r rm) = Some (modrm_fields size false (Some 0x0F) 0xAF (number_of r) rm [])
+chosen_fields (insn.Lea r a) =
+    Some (modrm_fields S64 false None 0x8D (number_of r) (operand.Mem a) [])
+chosen_fields (insn.One op size rm) =
+    Some (with_number size (opcode_for size (one_opcode op)) (one_number op) rm [])
+chosen_fields (insn.Wide op size rm) =
+    Some (with_number size (opcode_for size 0xF6) (wide_number op) rm [])
+chosen_fields (insn.Imul size r rm) =
+    Some (modrm_fields size false (Some 0x0F) 0xAF (number_of r) rm [])
 chosen_fields (insn.ImulBy size r rm i) = Some (imul_by_fields size r rm i)
 chosen_fields (insn.Shift kind size rm n) = Some (shift_fields kind size rm n)
 chosen_fields (insn.Bswap size r) = Some (with_opcode_register size (Some 0x0F) 0xC8 r [])
 chosen_fields insn.Cdq = Some (opcode_alone None 0x99 [])
 chosen_fields insn.Cqo = Some (with_opcode_register S64 None 0x99 reg.Rax [])
-chosen_fields (insn.Set c rm) = Some (modrm_fields S8 (needs_rex S8 rm) (Some 0x0F) (0x90 + condition_number c) 0 rm [])
-chosen_fields (insn.Cmov c size r rm) = Some (modrm_fields size false (Some 0x0F) (0x40 + condition_number c) (number_of r) rm [])
+chosen_fields (insn.Set c rm) =
+    Some (modrm_fields S8 (needs_rex S8 rm) (Some 0x0F) (0x90 + condition_number c) 0 rm [])
+chosen_fields (insn.Cmov c size r rm) =
+    Some (modrm_fields size false (Some 0x0F) (0x40 + condition_number c) (number_of r) rm [])
 chosen_fields (insn.Jcc c width disp) = Some (jcc_fields c width disp)
 chosen_fields (insn.Jmp width disp) = Some (jmp_fields width disp)
 chosen_fields (insn.Call disp) = Some (opcode_alone None 0xE8 (signed_bytes 4 disp))
@@ -314,7 +371,8 @@ chosen_bytes i = bytes_of_fields (chosen_fields i)
 -- an index that has a number, with a scale that has a field: RSP's number stands for none
 abbrev pub is_index : Option (Reg × ℕ) → Bool
 is_index None = true
-is_index (Some i) = not (number_of i.0 == 4) && ((i.1 == 1) || ((i.1 == 2) || ((i.1 == 4) || (i.1 == 8))))
+is_index (Some i) =
+    not (number_of i.0 == 4) && ((i.1 == 1) || ((i.1 == 2) || ((i.1 == 4) || (i.1 == 8))))
 
 -- an index beside a base: RIP has none
 abbrev pub is_index_of : Base → Option (Reg × ℕ) → Bool
@@ -331,10 +389,6 @@ is_rm (operand.Reg r) = true
 is_rm (operand.Imm i) = false
 is_rm (operand.Mem a) = is_address a
 
-abbrev pub is_memory : Operand → Bool
-is_memory (operand.Mem a) = is_address a
-is_memory other = false
-
 abbrev pub is_register : Operand → Bool
 is_register (operand.Reg r) = true
 is_register other = false
@@ -343,7 +397,8 @@ abbrev pub is_test : Alu → Bool
 is_test alu.Test = true
 is_test other = false
 
--- operations on a register or an address with a register or an immediate; and, but for TEST, on a register with an address
+-- operations on a register or an address with a register or an immediate; and, but for TEST, on a
+-- register with an address
 abbrev pub are_alu_operands : Alu → Size → Operand → Operand → Bool
 are_alu_operands op size to (operand.Reg r) = is_rm to
 are_alu_operands op size to (operand.Imm i) = is_rm to && fits_bytes (immediate_by size) i
@@ -391,7 +446,8 @@ is_spelled (insn.Lea r a) = is_address a
 is_spelled (insn.One op size rm) = is_rm rm
 is_spelled (insn.Wide op size rm) = is_no_byte size && is_rm rm
 is_spelled (insn.Imul size r rm) = is_no_byte size && is_rm rm
-is_spelled (insn.ImulBy size r rm i) = is_no_byte size && (is_rm rm && fits_bytes (immediate_by size) i)
+is_spelled (insn.ImulBy size r rm i) =
+    is_no_byte size && (is_rm rm && fits_bytes (immediate_by size) i)
 is_spelled (insn.Shift kind size rm n) = is_rm rm && is_count n
 is_spelled (insn.Bswap size r) = has_byte_order size
 is_spelled insn.Cdq = true

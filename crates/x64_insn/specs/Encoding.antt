@@ -1,4 +1,5 @@
--- The spellings of instructions in bytes (Intel SDM vol. 2, chapter 2). Each byte is a number below 256.
+-- The spellings of instructions in bytes (Intel SDM vol. 2, chapter 2). Each byte is a number below
+-- 256.
 use Rattle.std.specs.Prelude.{◌≡◌, ◌<◌, ◌≤◌, ℕ, ◌+◌, ◌*◌, ◌/◌, ◌%◌, ◌^◌, ℤ, pos, ◌-ℤ◌, Bool, true, false, ◌&&◌, ◌==◌, nat_lt, nat_le, if◌then◌else◌, Option, Some, None, is_some, unwrap_or, IfSome, IsTrue, List, [], ◌∷◌, ◌++◌, length, take}
 use Rattle.std.specs.List.{list_all}
 use Rattle.std.specs.Option.{option_to_list}
@@ -40,7 +41,10 @@ pub record Fields : Type 0 where
 
 -- the bytes of the fields
 unfoldable pub spelling_of : Fields → List ℕ
-spelling_of f = option_to_list f.operand_size ++ (option_to_list f.rex ++ (option_to_list f.escape ++ ((f.opcode ∷ []) ++ (option_to_list f.modrm ++ (option_to_list f.sib ++ (f.displacement ++ f.immediate))))))
+spelling_of f =
+    option_to_list f.operand_size ++ (option_to_list f.rex ++ (option_to_list f.escape
+    ++ ((f.opcode ∷ []) ++ (option_to_list f.modrm ++ (option_to_list f.sib
+    ++ (f.displacement ++ f.immediate))))))
 
 -- ---- which fields may stand there
 -- a number that a byte can hold
@@ -92,7 +96,9 @@ pub record AreFields (f : Fields) : Type 0 where
   pub modrm : StandsIf (has_modrm row) (takes_modrm row f.rex) f.modrm
   pub sib : StandsIf (has_sib f.modrm) is_byte f.sib
   pub displacement : AreBytes (displacement_length f.modrm f.sib) f.displacement
-  pub immediate : AreBytes (immediate_length row f.operand_size f.rex (reg_field (unwrap_or f.modrm 0))) f.immediate
+  pub immediate :
+      AreBytes (immediate_length row f.operand_size f.rex (reg_field (unwrap_or f.modrm 0)))
+      f.immediate
 
 -- ---- what fields mean
 -- a byte of ModRM, 0 where none stands
@@ -103,7 +109,8 @@ modrm_byte f = unwrap_or f.modrm 0
 abbrev pub reg_of_modrm : Fields → Reg
 reg_of_modrm f = reg_of (8 * r_of f.rex + reg_field (modrm_byte f))
 
--- the register in the lowest three bits of an opcode, whose fourth bit is REX.B (2.2.1.2, figure 2-7)
+-- the register in the lowest three bits of an opcode, whose fourth bit is REX.B (2.2.1.2, figure
+-- 2-7)
 abbrev pub reg_of_opcode : Fields → Reg
 reg_of_opcode f = reg_of (8 * b_of f.rex + f.opcode % 8)
 
@@ -120,7 +127,8 @@ signed_from n all = if nat_lt (2 * n) all then pos n else pos n -ℤ pos all
 abbrev pub signed_of : List ℕ → ℤ
 signed_of bs = signed_from (unsigned_of bs) (256 ^ length bs)
 
--- the immediate, which stands for the word of the operands' size with the same signed number (2.2.1.3)
+-- the immediate, which stands for the word of the operands' size with the same signed number
+-- (2.2.1.3)
 abbrev pub immediate_of : Fields → Operand
 immediate_of f = operand.Imm (signed_of f.immediate)
 
@@ -139,7 +147,8 @@ index_number f = 8 * x_of f.rex + sib_byte f / 8 % 8
 
 -- the index and its scale; the number 4 stands for none
 abbrev pub index_of : Fields → Option (Reg × ℕ)
-index_of f = if index_number f == 4 then None else Some (reg_of (index_number f), 2 ^ (sib_byte f / 64))
+index_of f =
+    if index_number f == 4 then None else Some (reg_of (index_number f), 2 ^ (sib_byte f / 64))
 
 -- the displacement, which is 0 where it has no bytes
 abbrev pub displacement_of : Fields → ℤ
@@ -148,7 +157,9 @@ displacement_of f = signed_of f.displacement
 -- an address with a SIB: mode 0 with the base field 5 has no base
 abbrev pub sib_memory : Fields → Mem
 sib_memory f = record {
-  base = if (mod_of (modrm_byte f) == 0) && (sib_byte f % 8 == 5) then base.Absent else base.Reg (reg_of (8 * b_of f.rex + sib_byte f % 8));
+  base =
+      if (mod_of (modrm_byte f) == 0) && (sib_byte f % 8 == 5) then base.Absent
+      else base.Reg (reg_of (8 * b_of f.rex + sib_byte f % 8));
   index = index_of f;
   disp = displacement_of f;
 }
@@ -156,7 +167,9 @@ sib_memory f = record {
 -- an address without one: mode 0 with the rm field 5 counts from the next instruction (2.2.1.6)
 abbrev pub plain_memory : Fields → Mem
 plain_memory f = record {
-  base = if (mod_of (modrm_byte f) == 0) && (rm_field (modrm_byte f) == 5) then base.Rip else base.Reg (reg_of (8 * b_of f.rex + rm_field (modrm_byte f)));
+  base =
+      if (mod_of (modrm_byte f) == 0) && (rm_field (modrm_byte f) == 5) then base.Rip
+      else base.Reg (reg_of (8 * b_of f.rex + rm_field (modrm_byte f)));
   index = None;
   disp = displacement_of f;
 }
@@ -164,14 +177,23 @@ plain_memory f = record {
 unfoldable pub memory_of : Fields → Mem
 memory_of f = if rm_field (modrm_byte f) == 4 then sib_memory f else plain_memory f
 
--- the operand of ModRM's rm field: a register, whose fourth bit is REX.B (2.2.1.2, figure 2-5), or an address
+-- the operand of ModRM's rm field: a register, whose fourth bit is REX.B (2.2.1.2, figure 2-5), or
+-- an address
 unfoldable pub rm_of_modrm : Fields → Operand
-rm_of_modrm f = if mod_of (modrm_byte f) == 3 then operand.Reg (reg_of (8 * b_of f.rex + rm_field (modrm_byte f))) else operand.Mem (memory_of f)
+rm_of_modrm f =
+    if mod_of (modrm_byte f) == 3
+    then operand.Reg (reg_of (8 * b_of f.rex + rm_field (modrm_byte f)))
+    else operand.Mem (memory_of f)
 
 -- ---- instructions
 -- the kind of shift that ModRM's reg field names
 unfoldable pub shift_of : ℕ → Shift
-shift_of n = if n == 0 then shift.Rol else if n == 1 then shift.Ror else if n == 4 then shift.Shl else if n == 5 then shift.Shr else shift.Sar
+shift_of n =
+    if n == 0 then shift.Rol
+    else if n == 1 then shift.Ror
+    else if n == 4 then shift.Shl
+    else if n == 5 then shift.Shr
+    else shift.Sar
 
 -- the instruction of F6 and F7 that ModRM's reg field names
 unfoldable pub group3 : ℕ → Size → Operand → Operand → Insn
@@ -186,28 +208,48 @@ group3 n size rm imm =
 
 -- the instruction of a row: the destination is the operand that the row names first
 abbrev pub meaning : Row → Fields → Insn
-meaning (row.AluRmReg op operands) f = insn.Alu op (size_in operands f) (rm_of_modrm f) (operand.Reg (reg_of_modrm f))
-meaning (row.AluRegRm op operands) f = insn.Alu op (size_in operands f) (operand.Reg (reg_of_modrm f)) (rm_of_modrm f)
-meaning (row.AluRmImm operands) f = insn.Alu (operation_of (reg_field (modrm_byte f))) (size_in operands f) (rm_of_modrm f) (immediate_of f)
-meaning row.AluRmImm8 f = insn.Alu (operation_of (reg_field (modrm_byte f))) (size_in Sized f) (rm_of_modrm f) (immediate_of f)
-meaning (row.MovRmReg operands) f = insn.Mov (size_in operands f) (rm_of_modrm f) (operand.Reg (reg_of_modrm f))
-meaning (row.MovRegRm operands) f = insn.Mov (size_in operands f) (operand.Reg (reg_of_modrm f)) (rm_of_modrm f)
+meaning (row.AluRmReg op operands) f =
+    insn.Alu op (size_in operands f) (rm_of_modrm f) (operand.Reg (reg_of_modrm f))
+meaning (row.AluRegRm op operands) f =
+    insn.Alu op (size_in operands f) (operand.Reg (reg_of_modrm f)) (rm_of_modrm f)
+meaning (row.AluRmImm operands) f =
+    insn.Alu (operation_of (reg_field (modrm_byte f))) (size_in operands f) (rm_of_modrm f)
+    (immediate_of f)
+meaning row.AluRmImm8 f =
+    insn.Alu (operation_of (reg_field (modrm_byte f))) (size_in Sized f) (rm_of_modrm f)
+    (immediate_of f)
+meaning (row.MovRmReg operands) f =
+    insn.Mov (size_in operands f) (rm_of_modrm f) (operand.Reg (reg_of_modrm f))
+meaning (row.MovRegRm operands) f =
+    insn.Mov (size_in operands f) (operand.Reg (reg_of_modrm f)) (rm_of_modrm f)
 meaning (row.MovRmImm operands) f = insn.Mov (size_in operands f) (rm_of_modrm f) (immediate_of f)
 meaning row.MovRegImm64 f = insn.Mov S64 (operand.Reg (reg_of_opcode f)) (immediate_of f)
-meaning (row.Extend sign from) f = insn.Extend sign (size_in Sized f) from (reg_of_modrm f) (rm_of_modrm f)
+meaning (row.Extend sign from) f =
+    insn.Extend sign (size_in Sized f) from (reg_of_modrm f) (rm_of_modrm f)
 meaning row.Lea f = insn.Lea (reg_of_modrm f) (memory_of f)
-meaning (row.IncDec operands) f = insn.One (if reg_field (modrm_byte f) == 0 then one.Inc else one.Dec) (size_in operands f) (rm_of_modrm f)
-meaning (row.Group3 operands) f = group3 (reg_field (modrm_byte f)) (size_in operands f) (rm_of_modrm f) (immediate_of f)
+meaning (row.IncDec operands) f =
+    insn.One (if reg_field (modrm_byte f) == 0 then one.Inc else one.Dec) (size_in operands f)
+    (rm_of_modrm f)
+meaning (row.Group3 operands) f =
+    group3 (reg_field (modrm_byte f)) (size_in operands f) (rm_of_modrm f) (immediate_of f)
 meaning row.ImulRegRm f = insn.Imul (size_in Sized f) (reg_of_modrm f) (rm_of_modrm f)
-meaning row.ImulRmImm f = insn.ImulBy (size_in Sized f) (reg_of_modrm f) (rm_of_modrm f) (signed_of f.immediate)
-meaning row.ImulRmImm8 f = insn.ImulBy (size_in Sized f) (reg_of_modrm f) (rm_of_modrm f) (signed_of f.immediate)
-meaning (row.ShiftImm operands) f = insn.Shift (shift_of (reg_field (modrm_byte f))) (size_in operands f) (rm_of_modrm f) (count.Imm (unsigned_of f.immediate))
-meaning (row.ShiftOne operands) f = insn.Shift (shift_of (reg_field (modrm_byte f))) (size_in operands f) (rm_of_modrm f) (count.Imm 1)
-meaning (row.ShiftCl operands) f = insn.Shift (shift_of (reg_field (modrm_byte f))) (size_in operands f) (rm_of_modrm f) count.Cl
+meaning row.ImulRmImm f =
+    insn.ImulBy (size_in Sized f) (reg_of_modrm f) (rm_of_modrm f) (signed_of f.immediate)
+meaning row.ImulRmImm8 f =
+    insn.ImulBy (size_in Sized f) (reg_of_modrm f) (rm_of_modrm f) (signed_of f.immediate)
+meaning (row.ShiftImm operands) f =
+    insn.Shift (shift_of (reg_field (modrm_byte f))) (size_in operands f) (rm_of_modrm f)
+    (count.Imm (unsigned_of f.immediate))
+meaning (row.ShiftOne operands) f =
+    insn.Shift (shift_of (reg_field (modrm_byte f))) (size_in operands f) (rm_of_modrm f)
+    (count.Imm 1)
+meaning (row.ShiftCl operands) f =
+    insn.Shift (shift_of (reg_field (modrm_byte f))) (size_in operands f) (rm_of_modrm f) count.Cl
 meaning row.Bswap f = insn.Bswap (size_in Sized f) (reg_of_opcode f)
 meaning row.CdqCqo f = if has_w f.rex then insn.Cqo else insn.Cdq
 meaning (row.Set condition) f = insn.Set condition (rm_of_modrm f)
-meaning (row.Cmov condition) f = insn.Cmov condition (size_in Sized f) (reg_of_modrm f) (rm_of_modrm f)
+meaning (row.Cmov condition) f =
+    insn.Cmov condition (size_in Sized f) (reg_of_modrm f) (rm_of_modrm f)
 meaning (row.Jcc condition width) f = insn.Jcc condition width (signed_of f.immediate)
 meaning (row.Jmp width) f = insn.Jmp width (signed_of f.immediate)
 meaning row.Call f = insn.Call (signed_of f.immediate)

@@ -30,7 +30,8 @@ bytes_at (operand.Reg r) s next st = []
 bytes_at (operand.Imm i) s next st = []
 bytes_at (operand.Mem a) s next st = (address_of st next a, bytes_of s) ∷ []
 
--- what an instruction accesses, next being the address of the one behind it: addresses, with the number of bytes at each
+-- what an instruction accesses, next being the address of the one behind it: addresses, with the
+-- number of bytes at each
 abbrev pub accessed_bytes : Insn → ℕ → State → List (ℕ × ℕ)
 accessed_bytes (insn.Alu op s to from) next st = bytes_at to s next st ++ bytes_at from s next st
 accessed_bytes (insn.Mov s to from) next st = bytes_at to s next st ++ bytes_at from s next st
@@ -48,7 +49,8 @@ accessed_bytes (insn.Set c rm) next st = bytes_at rm S8 next st
 accessed_bytes (insn.Cmov c s r rm) next st = bytes_at rm s next st
 accessed_bytes (insn.Jcc c width disp) next st = []
 accessed_bytes (insn.Jmp width disp) next st = []
-accessed_bytes (insn.Call disp) next st = (residue S64 (pos (reg_value st reg.Rsp) -ℤ pos 8), 8) ∷ []
+accessed_bytes (insn.Call disp) next st =
+    (residue S64 (pos (reg_value st reg.Rsp) -ℤ pos 8), 8) ∷ []
 accessed_bytes insn.Ret next st = (reg_value st reg.Rsp, 8) ∷ []
 
 -- some byte of one of these is not valid
@@ -62,9 +64,11 @@ IsWordOf st (operand.Reg r) b = reg_word st S64 r ≡ b
 IsWordOf st (operand.Imm i) b = residue S64 i ≡ b
 IsWordOf st (operand.Mem m) b = ⊥
 
--- A register holds the word r, and the status flags say of it what they should (SDM vol. 1, 3.4.3.1): OF that it overflows, CF that it carries or
--- borrows, SF its highest bit, PF that its lowest byte has an even number of ones, ZF that it is 0. None is undefined.
-pub record ShowsResult (to : Reg) (r : ℕ) (Overflows Carries IsZero : Type 0) (st : State) : Type 0 where
+-- A register holds the word r, and the status flags say of it what they should (SDM vol. 1,
+-- 3.4.3.1): OF that it overflows, CF that it carries or borrows, SF its highest bit, PF that its
+-- lowest byte has an even number of ones, ZF that it is 0. None is undefined.
+pub record ShowsResult
+    (to : Reg) (r : ℕ) (Overflows Carries IsZero : Type 0) (st : State) : Type 0 where
   -- of the sixteen registers that a machine has
   pub value : length st.regs ≡ 16 → reg_word st S64 to ≡ r
   pub overflow : (flag_of st Of ≡ Some True) ↔ Overflows
@@ -77,18 +81,24 @@ pub record ShowsResult (to : Reg) (r : ℕ) (Overflows Carries IsZero : Type 0) 
 -- the sum of two words of 64 bits
 abbrev pub ShowsSum : Reg → ℕ → ℕ → State → Type 0
 ShowsSum to a b =
-    ShowsResult to ((a + b) % 2 ^ 64) (IsNoWord S64 (signed S64 a +ℤ signed S64 b)) (2 ^ 64 ≤ a + b) ((a + b) % 2 ^ 64 ≡ 0)
+    ShowsResult to ((a + b) % 2 ^ 64) (IsNoWord S64 (signed S64 a +ℤ signed S64 b))
+    (2 ^ 64 ≤ a + b) ((a + b) % 2 ^ 64 ≡ 0)
 
 -- their difference, which borrows exactly where it is below 0
 abbrev pub ShowsDifference : Reg → ℕ → ℕ → State → Type 0
 ShowsDifference to a b =
-    ShowsResult to (residue S64 (pos a -ℤ pos b)) (IsNoWord S64 (signed S64 a -ℤ signed S64 b)) (a < b) (a ≡ b)
+    ShowsResult to (residue S64 (pos a -ℤ pos b)) (IsNoWord S64 (signed S64 a -ℤ signed S64 b))
+    (a < b) (a ≡ b)
 
 -- the bits in which they differ, which never overflow nor carry
 abbrev pub ShowsDifferentBits : Reg → ℕ → ℕ → State → Type 0
 ShowsDifferentBits to a b = ShowsResult to (bit_xor a b) ⊥ ⊥ (a ≡ b)
 
--- an operation on a register and an operand that is no memory makes a step, after which this holds of the register, the two words and the state
+-- an operation on a register and an operand that is no memory makes a step, after which this holds
+-- of the register, the two words and the state
 abbrev pub Leaves : Alu → (Reg → ℕ → ℕ → State → Type 0) → Type 0
-Leaves operation Shows = (to : Reg) (from : Operand) (b next : ℕ) (st : State) (m : Memory) → IsWordOf st from b
-    → (after : After) × (effect_of (insn.Alu operation S64 (operand.Reg to) from) next st m ≡ Ok after) × Shows to (reg_word st S64 to) b after.state
+Leaves operation Shows =
+    (to : Reg) (from : Operand) (b next : ℕ) (st : State) (m : Memory) → IsWordOf st from b
+    → (after : After)
+    × (effect_of (insn.Alu operation S64 (operand.Reg to) from) next st m ≡ Ok after)
+    × Shows to (reg_word st S64 to) b after.state

@@ -6,3 +6,4 @@ pub mod Products
 pub mod Shifts
 pub mod Rows
 pub mod Laws
+pub mod InnerRows

@@ -23,7 +23,8 @@ product_answer s a b = record {
   flags = product_flags (not (a * b / modulus s == 0));
 }
 
--- both words of a signed product; the high one is the product divided by the number of words, rounded down
+-- both words of a signed product; the high one is the product divided by the number of words,
+-- rounded down
 unfoldable pub signed_product_answer : Size → ℕ → ℕ → DoubleAnswer
 signed_product_answer s a b = record {
   high = residue s (int_div_euclid (signed_product s a b) (pos (modulus s)));
@@ -33,7 +34,10 @@ signed_product_answer s a b = record {
 
 -- the low word of a signed product alone
 unfoldable pub low_product_answer : Size → ℕ → ℕ → Answer
-low_product_answer s a b = record { value = residue s (signed_product s a b); flags = product_flags (overflows s (signed_product s a b)) }
+low_product_answer s a b = record {
+  value = residue s (signed_product s a b);
+  flags = product_flags (overflows s (signed_product s a b));
+}
 
 -- ---- quotients
 -- all flags are undefined
@@ -52,17 +56,21 @@ unfoldable pub quotient_answer : Size → ℕ → ℕ → ℕ → Option DoubleA
 quotient_answer s high low d =
     let n = double_word s high low in
     if d == 0 then None
-    else if nat_lt (n / d) (modulus s) then Some (record { high = n % d; low = n / d; flags = no_flags })
+    else if nat_lt (n / d) (modulus s)
+    then Some (record { high = n % d; low = n / d; flags = no_flags })
     else None
 
--- the same of signed words: the quotient is rounded towards 0, and the remainder has the sign of what is divided
+-- the same of signed words: the quotient is rounded towards 0, and the remainder has the sign of
+-- what is divided
 unfoldable pub signed_quotient_answer : Size → ℕ → ℕ → ℕ → Option DoubleAnswer
 signed_quotient_answer s high low d =
     let n = signed_double_word s high low in
     let e = signed s d in
     if d == 0 then None
     else if overflows s (int_div n e) then None
-    else Some (record { high = residue s (int_rem n e); low = residue s (int_div n e); flags = no_flags })
+    else
+    Some
+    (record { high = residue s (int_rem n e); low = residue s (int_div n e); flags = no_flags })
 
 -- ---- the same in plain arithmetic
 -- two words that make the product of a and b, and of their signed readings
@@ -70,7 +78,10 @@ abbrev pub IsProduct : Size → ℕ → ℕ → DoubleAnswer → Type 0
 IsProduct s a b r = (double_word s r.high r.low ≡ a * b) × (r.low < modulus s)
 
 abbrev pub IsSignedProduct : Size → ℕ → ℕ → DoubleAnswer → Type 0
-IsSignedProduct s a b r = (signed_double_word s r.high r.low ≡ signed_product s a b) × (r.high < modulus s) × (r.low < modulus s)
+IsSignedProduct s a b r =
+    (signed_double_word s r.high r.low ≡ signed_product s a b)
+    × (r.high < modulus s)
+    × (r.low < modulus s)
 
 -- no signed word of the size is this number
 abbrev pub IsNoWord : Size → ℤ → Type 0
@@ -78,7 +89,8 @@ IsNoWord s z = (z <ℤ (pos 0 -ℤ pos (half s))) ⊎ (pos (half s) ≤ℤ z)
 
 -- OF and CF are set exactly where this holds, else clear
 abbrev pub MarksOverflow : List FlagVal → Type 0 → Type 0
-MarksOverflow flags Over = ((flags ≡ product_flags true) ↔ Over) × ((flags ≡ product_flags false) ↔ (Over → ⊥))
+MarksOverflow flags Over =
+    ((flags ≡ product_flags true) ↔ Over) × ((flags ≡ product_flags false) ↔ (Over → ⊥))
 
 -- quotient and remainder of two words by d
 abbrev pub IsQuotient : Size → ℕ → ℕ → ℕ → DoubleAnswer → Type 0

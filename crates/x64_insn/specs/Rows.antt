@@ -1,4 +1,5 @@
--- The instruction table: what each instruction does to state and memory, and what its step shows (Intel SDM vol. 2, the page of each).
+-- The instruction table: what each instruction does to state and memory, and what its step shows
+-- (Intel SDM vol. 2, the page of each).
 use Rattle.std.specs.Prelude.{◌≡◌, ℕ, ◌+◌, ◌-◌, ◌*◌, ◌/◌, ◌%◌, ◌^◌, Bool, true, false, not, ◌||◌, nat_lt, if◌then◌else◌, Option, Some, None, Result, Ok, Err, List, ℤ, pos, ◌+ℤ◌, ◌-ℤ◌, slice_index, slice_get, slice_set}
 use Rattle.std.specs.Option.{option_or}
 use Rattle.jz_words.specs.declared.size.Size.{Size}
@@ -72,7 +73,8 @@ merged S32 old v = v
 merged S64 old v = v
 
 abbrev pub with_reg : State → Size → Reg → ℕ → State
-with_reg st s r v = record st { regs = slice_set st.regs (number_of r) (merged s (reg_value st r) v) }
+with_reg st s r v =
+    record st { regs = slice_set st.regs (number_of r) (merged s (reg_value st r) v) }
 
 -- ---- flags that are read
 -- a flag that is defined
@@ -144,7 +146,8 @@ or_undefined None f = Err UndefinedFlag
 or_undefined (Some b) f = f b
 
 -- where a divisor is 0, or no word holds a quotient
-abbrev pub or_divide : Option DoubleAnswer → (DoubleAnswer → Result After FaultKind) → Result After FaultKind
+abbrev pub or_divide :
+    Option DoubleAnswer → (DoubleAnswer → Result After FaultKind) → Result After FaultKind
 or_divide None f = Err Divide
 or_divide (Some r) f = f r
 
@@ -158,9 +161,11 @@ abbrev pub index_value : State → Option (Reg × ℕ) → ℕ
 index_value st None = 0
 index_value st (Some i) = i.1 * reg_value st i.0
 
--- an address: base, scaled index and displacement, modulo 2 ^ 64 (SDM vol. 1, 3.7.5); RIP is the address of the next instruction (vol. 2, 2.2.1.6)
+-- an address: base, scaled index and displacement, modulo 2 ^ 64 (SDM vol. 1, 3.7.5); RIP is the
+-- address of the next instruction (vol. 2, 2.2.1.6)
 unfoldable pub address_of : State → ℕ → Mem → ℕ
-address_of st next m = residue S64 (pos (base_value st next m.base + index_value st m.index) +ℤ m.disp)
+address_of st next m =
+    residue S64 (pos (base_value st next m.base + index_value st m.index) +ℤ m.disp)
 
 -- the word of an operand, where its bytes are valid
 unfoldable pub operand_value : Operand → Size → ℕ → State → Memory → Option ℕ
@@ -179,26 +184,34 @@ abbrev pub access_event : Operand → ℕ → State → StepLeak
 access_event o next st = record { branch = None; addr = accessed o next st; div = None }
 
 abbrev pub access_events : Operand → Operand → ℕ → State → StepLeak
-access_events to from next st = record { branch = None; addr = option_or (accessed to next st) (accessed from next st); div = None }
+access_events to from next st = record {
+  branch = None;
+  addr = option_or (accessed to next st) (accessed from next st);
+  div = None;
+}
 
 -- ---- what every row ends with
 -- rip, flags and what the step shows
 abbrev pub finished : State → Memory → ℕ → List FlagVal → StepLeak → Result After FaultKind
-finished st m next flags leak = Ok (record { state = record st { rip = next; flags = flags }; memory = m; leak = leak })
+finished st m next flags leak =
+    Ok (record { state = record st { rip = next; flags = flags }; memory = m; leak = leak })
 
 -- a word is written to an operand before; an immediate is no place to write to
-unfoldable pub put_row : Operand → Size → ℕ → ℕ → List FlagVal → StepLeak → State → Memory → Result After FaultKind
+unfoldable pub put_row :
+    Operand → Size → ℕ → ℕ → List FlagVal → StepLeak → State → Memory → Result After FaultKind
 put_row (operand.Reg r) s v next flags leak st m = finished (with_reg st s r v) m next flags leak
 put_row (operand.Imm i) s v next flags leak st m = Err NoInsn
 put_row (operand.Mem a) s v next flags leak st m =
-    if all_valid m (address_of st next a) (bytes_of s) then finished st (stored m (address_of st next a) (bytes_of s) v) next flags leak
+    if all_valid m (address_of st next a) (bytes_of s)
+    then finished st (stored m (address_of st next a) (bytes_of s) v) next flags leak
     else Err BadAddress
 
 -- ---- moves and extensions
 -- MOV: the flags stay
 unfoldable pub mov_row : Size → Operand → Operand → ℕ → State → Memory → Result After FaultKind
 mov_row s to from next st m =
-    or_bad_address (operand_value from s next st m) (λ v. put_row to s v next st.flags (access_events to from next st) st m)
+    or_bad_address (operand_value from s next st m)
+    (λ v. put_row to s v next st.flags (access_events to from next st) st m)
 
 -- a word of one size as one of another: with its sign, or with zeros before it
 abbrev pub extended : Bool → Size → Size → ℕ → ℕ
@@ -206,23 +219,29 @@ extended false to from v = v % modulus to
 extended true to from v = residue to (signed from v)
 
 -- MOVZX, MOVSX and MOVSXD
-unfoldable pub extend_row : Bool → Size → Size → Reg → Operand → ℕ → State → Memory → Result After FaultKind
+unfoldable pub extend_row :
+    Bool → Size → Size → Reg → Operand → ℕ → State → Memory → Result After FaultKind
 extend_row sign to from r rm next st m =
     or_bad_address (operand_value rm from next st m) (λ v.
-    put_row (operand.Reg r) to (extended sign to from v) next st.flags (access_event rm next st) st m)
+    put_row (operand.Reg r) to (extended sign to from v)
+    next st.flags (access_event rm next st) st m)
 
 -- LEA: the address, and no access
 unfoldable pub lea_row : Reg → Mem → ℕ → State → Memory → Result After FaultKind
-lea_row r a next st m = put_row (operand.Reg r) S64 (address_of st next a) next st.flags no_event st m
+lea_row r a next st m =
+    put_row (operand.Reg r) S64 (address_of st next a) next st.flags no_event st m
 
 -- BSWAP
 unfoldable pub bswap_row : Size → Reg → ℕ → State → Memory → Result After FaultKind
-bswap_row s r next st m = put_row (operand.Reg r) s (swapped_of s (reg_word st s r)) next st.flags no_event st m
+bswap_row s r next st m =
+    put_row (operand.Reg r) s (swapped_of s (reg_word st s r)) next st.flags no_event st m
 
 -- CDQ and CQO: each bit of RDX is the highest of RAX
 unfoldable pub sign_row : Size → ℕ → State → Memory → Result After FaultKind
 sign_row s next st m =
-    put_row (operand.Reg reg.Rdx) s (if nat_lt (reg_word st s reg.Rax) (half s) then 0 else modulus s - 1) next st.flags no_event st m
+    put_row (operand.Reg reg.Rdx) s
+    (if nat_lt (reg_word st s reg.Rax) (half s) then 0 else modulus s - 1)
+    next st.flags no_event st m
 
 -- ---- operations
 -- ADC and SBB read CF
@@ -237,7 +256,8 @@ writes_operand alu.Cmp = false
 writes_operand alu.Test = false
 writes_operand other = true
 
-unfoldable pub alu_row : Alu → Size → Operand → Operand → ℕ → State → Memory → Result After FaultKind
+unfoldable pub alu_row :
+    Alu → Size → Operand → Operand → ℕ → State → Memory → Result After FaultKind
 alu_row op s to from next st m =
     or_bad_address (operand_value to s next st m) (λ a.
     or_bad_address (operand_value from s next st m) (λ b.
@@ -259,7 +279,8 @@ count_value (count.Imm n) st = n
 count_value count.Cl st = reg_word st S8 reg.Rcx
 
 -- ROL, ROR, SHL, SHR and SAR, which access their operand whatever the count
-unfoldable pub shift_row : Shift → Size → Operand → Count → ℕ → State → Memory → Result After FaultKind
+unfoldable pub shift_row :
+    Shift → Size → Operand → Count → ℕ → State → Memory → Result After FaultKind
 shift_row kind s rm n next st m =
     or_bad_address (operand_value rm s next st m) (λ a.
     let r = shift_answer kind s a (masked s (count_value n st)) st.flags in
@@ -282,21 +303,33 @@ both_row s r next leak st m = finished (with_both st s r) m next r.flags leak
 
 -- a division shows high word, low word and divisor
 abbrev pub division_event : Operand → ℕ → ℕ → ℕ → ℕ → State → StepLeak
-division_event rm high low d next st = record { branch = None; addr = accessed rm next st; div = Some (high, low, d) }
+division_event rm high low d next st = record {
+  branch = None;
+  addr = accessed rm next st;
+  div = Some (high, low, d);
+}
 
 -- MUL, IMUL, DIV and IDIV of RDX and RAX by a word
 abbrev pub wide_word_row : Wide → Size → Operand → ℕ → ℕ → State → Memory → Result After FaultKind
-wide_word_row wide.Mul s rm b next st m = both_row s (product_answer s (reg_word st s reg.Rax) b) next (access_event rm next st) st m
-wide_word_row wide.Imul s rm b next st m = both_row s (signed_product_answer s (reg_word st s reg.Rax) b) next (access_event rm next st) st m
+wide_word_row wide.Mul s rm b next st m =
+    both_row s (product_answer s (reg_word st s reg.Rax) b) next (access_event rm next st) st m
+wide_word_row wide.Imul s rm b next st m =
+    both_row s (signed_product_answer s (reg_word st s reg.Rax) b)
+    next (access_event rm next st) st m
 wide_word_row wide.Div s rm b next st m =
-    or_divide (quotient_answer s (reg_word st s reg.Rdx) (reg_word st s reg.Rax) b) (λ r.
-    both_row s r next (division_event rm (reg_word st s reg.Rdx) (reg_word st s reg.Rax) b next st) st m)
+    let high = reg_word st s reg.Rdx in
+    let low = reg_word st s reg.Rax in
+    or_divide (quotient_answer s high low b) (λ r.
+    both_row s r next (division_event rm high low b next st) st m)
 wide_word_row wide.Idiv s rm b next st m =
-    or_divide (signed_quotient_answer s (reg_word st s reg.Rdx) (reg_word st s reg.Rax) b) (λ r.
-    both_row s r next (division_event rm (reg_word st s reg.Rdx) (reg_word st s reg.Rax) b next st) st m)
+    let high = reg_word st s reg.Rdx in
+    let low = reg_word st s reg.Rax in
+    or_divide (signed_quotient_answer s high low b) (λ r.
+    both_row s r next (division_event rm high low b next st) st m)
 
 unfoldable pub wide_row : Wide → Size → Operand → ℕ → State → Memory → Result After FaultKind
-wide_row op s rm next st m = or_bad_address (operand_value rm s next st m) (λ b. wide_word_row op s rm b next st m)
+wide_row op s rm next st m =
+    or_bad_address (operand_value rm s next st m) (λ b. wide_word_row op s rm b next st m)
 
 -- ---- conditions (SDM vol. 2, appendix B.1.4.7)
 -- SETcc, whose bytes have to be valid before the condition is read
@@ -306,12 +339,14 @@ set_row c rm next st m =
     or_undefined (holds c st) (λ b.
     put_row rm S8 (carried b) next st.flags (access_event rm next st) st m))
 
--- CMOVcc, which reads its operand whatever the condition, and writes the register, with its own word where the condition does not hold
+-- CMOVcc, which reads its operand whatever the condition, and writes the register, with its own
+-- word where the condition does not hold
 unfoldable pub cmov_row : Cond → Size → Reg → Operand → ℕ → State → Memory → Result After FaultKind
 cmov_row c s r rm next st m =
     or_bad_address (operand_value rm s next st m) (λ v.
     or_undefined (holds c st) (λ b.
-    put_row (operand.Reg r) s (if b then v else reg_word st s r) next st.flags (access_event rm next st) st m))
+    put_row (operand.Reg r) s (if b then v else reg_word st s r)
+    next st.flags (access_event rm next st) st m))
 
 -- ---- jumps
 -- the place that a displacement names, counted from the next instruction
@@ -321,7 +356,8 @@ target_of next disp = residue S64 (pos next +ℤ disp)
 unfoldable pub jcc_row : Cond → ℤ → ℕ → State → Memory → Result After FaultKind
 jcc_row c disp next st m =
     or_undefined (holds c st) (λ b.
-    finished st m (if b then target_of next disp else next) st.flags (record { branch = Some b; addr = None; div = None }))
+    finished st m (if b then target_of next disp else next) st.flags
+    (record { branch = Some b; addr = None; div = None }))
 
 unfoldable pub jmp_row : ℤ → ℕ → State → Memory → Result After FaultKind
 jmp_row disp next st m = finished st m (target_of next disp) st.flags no_event
@@ -330,7 +366,9 @@ jmp_row disp next st m = finished st m (target_of next disp) st.flags no_event
 unfoldable pub call_row : ℤ → ℕ → State → Memory → Result After FaultKind
 call_row disp next st m =
     let slot = residue S64 (pos (reg_value st reg.Rsp) -ℤ pos 8) in
-    if all_valid m slot 8 then finished (with_reg st S64 reg.Rsp slot) (stored m slot 8 next) (target_of next disp) st.flags (address_event slot)
+    if all_valid m slot 8
+    then finished (with_reg st S64 reg.Rsp slot) (stored m slot 8 next)
+    (target_of next disp) st.flags (address_event slot)
     else Err BadAddress
 
 -- RET: the address on the stack is taken off it
@@ -338,7 +376,8 @@ unfoldable pub ret_row : State → Memory → Result After FaultKind
 ret_row st m =
     let rsp = reg_value st reg.Rsp in
     or_bad_address (loaded m rsp 8) (λ target.
-    Ok (record { state = record (with_reg st S64 reg.Rsp ((rsp + 8) % 2 ^ 64)) { rip = target }; memory = m; leak = address_event rsp }))
+    let after = with_reg st S64 reg.Rsp ((rsp + 8) % 2 ^ 64) in
+    Ok (record { state = record after { rip = target }; memory = m; leak = address_event rsp }))
 
 -- what an instruction does, next being the address of the one behind it
 abbrev pub effect_of : Insn → ℕ → State → Memory → Result After FaultKind
@@ -375,7 +414,15 @@ memory_after (Ok a) m = a.memory
 memory_after (Err e) m = m
 
 -- what a call did, a fault changing nothing
-pub record Did (is : Result After FaultKind) (result : Result StepLeak FaultKind) (old new : State) (before now : Memory) : Type 0 where
+pub record Did
+    (is : Result After FaultKind) (result : Result StepLeak FaultKind)
+    (old new : State) (before now : Memory) : Type 0 where
   pub answer : result ≡ leak_after is
   pub state : new ≡ state_after is old
   pub memory : now ≡ memory_after is before
+
+-- a call did what a row says of the state and the memory that it found
+abbrev pub Does :
+    (State → Memory → Result After FaultKind) → Result StepLeak FaultKind
+    → State → State → Memory → Memory → Type 0
+Does row result old new before now = Did (row old before) result old new before now

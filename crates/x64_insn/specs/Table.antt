@@ -1,5 +1,6 @@
--- The table of opcodes (Intel SDM vol. 2, appendix A and the page of each instruction), and the numbers of registers, operations and conditions.
-use Rattle.std.specs.Prelude.{ℕ, ◌+◌, ◌/◌, ◌%◌, Bool, true, false, not, ◌&&◌, ◌||◌, ◌==◌, nat_lt, nat_le, if◌then◌else◌, Option, Some, None, is_some, is_none}
+-- The table of opcodes (Intel SDM vol. 2, appendix A and the page of each instruction), and the
+-- numbers of registers, operations and conditions.
+use Rattle.std.specs.Prelude.{ℕ, ◌+◌, ◌/◌, ◌%◌, Bool, true, false, not, ◌&&◌, ◌||◌, ◌==◌, nat_lt, nat_le, if◌then◌else◌, Option, Some, None, is_some, is_none, List, [], ◌∷◌, slice_index_or}
 use Rattle.jz_words.specs.declared.size.Size.{Size}
 use Rattle.jz_words.specs.declared.size.Size.TheVariants.{S8, S16, S32, S64}
 use Rattle.x64_insn.specs.declared.types.Alu.{Alu}
@@ -16,7 +17,17 @@ use Rattle.x64_insn.specs.declared.table.Row.{Row}
 use Rattle.x64_insn.specs.declared.table.Row.TheVariants as row
 
 -- ---- the numbers of registers (2.1.5, table 2-2; 2.2.1.2, table 2-4)
--- the number of a register
+-- the registers in the order of their numbers
+abbrev pub registers : List Reg
+registers =
+    reg.Rax ∷ reg.Rcx ∷ reg.Rdx ∷ reg.Rbx ∷ reg.Rsp ∷ reg.Rbp ∷ reg.Rsi ∷ reg.Rdi
+    ∷ reg.R8 ∷ reg.R9 ∷ reg.R10 ∷ reg.R11 ∷ reg.R12 ∷ reg.R13 ∷ reg.R14 ∷ reg.R15 ∷ []
+
+-- the register of a number below 16
+unfoldable pub reg_of : ℕ → Reg
+reg_of n = slice_index_or registers n reg.R15
+
+-- the number of a register, which is its place in the list
 abbrev pub number_of : Reg → ℕ
 number_of reg.Rax = 0
 number_of reg.Rcx = 1
@@ -35,18 +46,25 @@ number_of reg.R13 = 13
 number_of reg.R14 = 14
 number_of reg.R15 = 15
 
--- the register of a number below 16
-unfoldable pub reg_of : ℕ → Reg
-reg_of n = if n == 0 then reg.Rax else if n == 1 then reg.Rcx else if n == 2 then reg.Rdx else if n == 3 then reg.Rbx else if n == 4 then reg.Rsp else if n == 5 then reg.Rbp else if n == 6 then reg.Rsi else if n == 7 then reg.Rdi else if n == 8 then reg.R8 else if n == 9 then reg.R9 else if n == 10 then reg.R10 else if n == 11 then reg.R11 else if n == 12 then reg.R12 else if n == 13 then reg.R13 else if n == 14 then reg.R14 else reg.R15
-
 -- ---- opcodes (appendix A.2 and A.3; the groups of A.4)
--- the operation of a number: it stands in the opcode, or in the reg field
-unfoldable pub operation_of : ℕ → Alu
-operation_of n = if n == 0 then alu.Add else if n == 1 then alu.Or else if n == 2 then alu.Adc else if n == 3 then alu.Sbb else if n == 4 then alu.And else if n == 5 then alu.Sub else if n == 6 then alu.Xor else alu.Cmp
+-- the operations in the order of their numbers, which stand in the opcode or in the reg field; TEST
+-- has none
+abbrev pub operations : List Alu
+operations = alu.Add ∷ alu.Or ∷ alu.Adc ∷ alu.Sbb ∷ alu.And ∷ alu.Sub ∷ alu.Xor ∷ alu.Cmp ∷ []
 
--- the condition of a number (appendix B.1.4.7)
+-- the operation of a number below 8
+unfoldable pub operation_of : ℕ → Alu
+operation_of n = slice_index_or operations n alu.Cmp
+
+-- the conditions in the order of their numbers (appendix B.1.4.7)
+abbrev pub conditions : List Cond
+conditions =
+    cond.O ∷ cond.No ∷ cond.B ∷ cond.Ae ∷ cond.E ∷ cond.Ne ∷ cond.Be ∷ cond.A
+    ∷ cond.S ∷ cond.Ns ∷ cond.P ∷ cond.Np ∷ cond.L ∷ cond.Ge ∷ cond.Le ∷ cond.G ∷ []
+
+-- the condition of a number below 16
 unfoldable pub condition_of : ℕ → Cond
-condition_of n = if n == 0 then cond.O else if n == 1 then cond.No else if n == 2 then cond.B else if n == 3 then cond.Ae else if n == 4 then cond.E else if n == 5 then cond.Ne else if n == 6 then cond.Be else if n == 7 then cond.A else if n == 8 then cond.S else if n == 9 then cond.Ns else if n == 10 then cond.P else if n == 11 then cond.Np else if n == 12 then cond.L else if n == 13 then cond.Ge else if n == 14 then cond.Le else cond.G
+condition_of n = slice_index_or conditions n cond.G
 
 -- an even opcode of a pair has operands of one byte, the odd one of the size that the prefixes give
 abbrev pub operands_of : ℕ → Operands
@@ -63,8 +81,10 @@ is_one_of count first o = nat_le first o && nat_lt o (first + count)
 -- an opcode of one byte
 unfoldable pub one_byte_row : ℕ → Option Row
 one_byte_row o =
-    if nat_lt o 64 && nat_lt (o % 8) 2 then Some (row.AluRmReg (operation_of (o / 8)) (operands_of o))
-    else if nat_lt o 64 && nat_lt (o % 8) 4 then Some (row.AluRegRm (operation_of (o / 8)) (operands_of o))
+    if nat_lt o 64
+    && nat_lt (o % 8) 2 then Some (row.AluRmReg (operation_of (o / 8)) (operands_of o))
+    else if nat_lt o 64
+    && nat_lt (o % 8) 4 then Some (row.AluRegRm (operation_of (o / 8)) (operands_of o))
     else if o == 0x63 then Some (row.Extend true S32)
     else if o == 0x69 then Some row.ImulRmImm
     else if o == 0x6B then Some row.ImulRmImm8
@@ -197,7 +217,8 @@ has_modrm other = true
 abbrev pub is_shift_number : ℕ → Bool
 is_shift_number n = nat_lt n 2 || (nat_le 4 n && not (n == 6))
 
--- which numbers the reg field may have: it names a register, an operation, a kind of shift, or is given
+-- which numbers the reg field may have: it names a register, an operation, a kind of shift, or is
+-- given
 abbrev pub takes_reg_field : Row → ℕ → Bool
 takes_reg_field (row.MovRmImm operands) n = n == 0
 takes_reg_field (row.IncDec operands) n = nat_lt n 2
@@ -248,7 +269,9 @@ takes_modrm row rex modrm =
     nat_lt modrm 256 && (takes_reg_field row (reg_field modrm)
     && ((not (is_lea row) || not (mod_of modrm == 3))
     && ((not (has_byte_reg row) || names_low_byte rex (reg_field modrm))
-    && (not (has_byte_rm row) || (not (mod_of modrm == 3) || names_low_byte rex (rm_field modrm))))))
+    &&
+    (not (has_byte_rm row)
+    || (not (mod_of modrm == 3) || names_low_byte rex (rm_field modrm))))))
 
 -- ---- immediates
 -- an immediate of the operands' size, of 32 bits for operands of 64 (2.2.1.3)
@@ -263,17 +286,21 @@ abbrev pub width_length : Width → ℕ
 width_length Rel8 = 1
 width_length Rel32 = 4
 
--- how many bytes a row's immediate has, by the prefixes and ModRM's reg field; the displacement of a jump is one
+-- how many bytes a row's immediate has, by the prefixes and ModRM's reg field; the displacement of
+-- a jump is one
 abbrev pub immediate_length : Row → Option ℕ → Option ℕ → ℕ → ℕ
-immediate_length (row.AluRmImm operands) operand_size rex field = immediate_by (size_by operands operand_size rex)
+immediate_length (row.AluRmImm operands) operand_size rex field =
+    immediate_by (size_by operands operand_size rex)
 immediate_length row.AluRmImm8 operand_size rex field = 1
-immediate_length (row.MovRmImm operands) operand_size rex field = immediate_by (size_by operands operand_size rex)
+immediate_length (row.MovRmImm operands) operand_size rex field =
+    immediate_by (size_by operands operand_size rex)
 immediate_length row.MovRegImm64 operand_size rex field = 8
 immediate_length row.ImulRmImm operand_size rex field = immediate_by (size_of operand_size rex)
 immediate_length row.ImulRmImm8 operand_size rex field = 1
 immediate_length (row.ShiftImm operands) operand_size rex field = 1
 -- TEST alone
-immediate_length (row.Group3 operands) operand_size rex field = if field == 0 then immediate_by (size_by operands operand_size rex) else 0
+immediate_length (row.Group3 operands) operand_size rex field =
+    if field == 0 then immediate_by (size_by operands operand_size rex) else 0
 immediate_length (row.Jcc condition width) operand_size rex field = width_length width
 immediate_length (row.Jmp width) operand_size rex field = width_length width
 immediate_length row.Call operand_size rex field = 4

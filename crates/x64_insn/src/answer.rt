@@ -21,7 +21,7 @@ pub(crate) fn flag(set: bool) -> FlagVal
     if set { FlagVal::True } else { FlagVal::False }
 }
 
-// Whether no signed word of the size is this number.
+/// Whether no signed word of the size is this number.
 #[tactic(auto, unfolding(crate::specs::Answers::overflows))]
 pub(crate) fn overflows(size: Size, value: i128) -> bool
     ensures { result ≡ overflows size value }
@@ -43,7 +43,7 @@ pub(crate) fn flags_of(overflow: bool, carry: bool, word: Word) -> [FlagVal; 5]
     ]
 }
 
-// A carry as a number.
+/// A carry as a number.
 fn carried(c: bool) -> i128
     ensures value { result ≡ pos (carried c) }
     ensures low { pos 0 ≤ℤ result }
@@ -52,7 +52,7 @@ fn carried(c: bool) -> i128
     if c { 1 } else { 0 }
 }
 
-// The sum of two words and a carry as signed numbers.
+/// The sum of two words and a carry as signed numbers.
 fn signed_sum(a: Word, b: Word, c: bool) -> i128
     ensures { result ≡ (signed a.size a.bits +ℤ signed b.size b.bits) +ℤ pos (carried c) }
 {
@@ -74,7 +74,7 @@ pub(crate) fn sum_answer(a: Word, b: Word, c: bool) -> Answer
     }
 }
 
-// The difference of two words and a borrow as signed numbers.
+/// The difference of two words and a borrow as signed numbers.
 fn signed_difference(a: Word, b: Word, c: bool) -> i128
     ensures { result ≡ (signed a.size a.bits -ℤ signed b.size b.bits) -ℤ pos (carried c) }
 {
@@ -157,7 +157,7 @@ pub fn alu_answer(op: Alu, a: Word, b: Word, c: bool) -> Answer
     }
 }
 
-// The other bits of a word.
+/// The other bits of a word.
 fn not(a: Word) -> u64
     ensures value { result ≡ modulus a.size - 1 - a.bits }
     ensures fits { result < modulus a.size }
@@ -165,7 +165,7 @@ fn not(a: Word) -> u64
     (a.size().modulus() - 1) as u64 - a.bits()
 }
 
-// An answer whose CF is that of before.
+/// An answer whose CF is that of before.
 fn with_carry_of(old: [FlagVal; 5], answer: Answer) -> Answer
     ensures { result ≡ with_carry_of old answer }
 {

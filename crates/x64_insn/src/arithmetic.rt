@@ -1,14 +1,16 @@
 //! Operations on words, with the flags that they leave.
 
-ghost use Rattle.std.specs.Prelude.{◌≡◌, ◌<◌, if◌then◌else◌};
+ghost use Rattle.std.specs.Prelude.{◌≡◌, ◌<◌};
 ghost use Rattle.jz_words.specs.Sizes.{modulus};
-ghost use Rattle.x64_insn.specs.declared.types.Wide.TheVariants as wide;
-ghost use Rattle.x64_insn.specs.Rows.{Did, alu_row, both_row, carry_read, count_value, division_event, imul_row, one_row, shift_row, wide_row, wide_word_row, with_both, writes_operand};
+ghost use Rattle.x64_insn.specs.Rows.{Does, alu_row, both_row, carry_read, count_value, division_event, imul_row, one_row, shift_row, wide_row, wide_word_row, with_both, writes_operand};
+ghost use Rattle.x64_insn.specs.InnerRows.{product_kind, quotient_kind};
 
 use crate::answer::{alu_answer, one_answer};
 use crate::bus::Bus;
 use crate::conditions::known;
-use crate::operands::{access_event, access_events, finish, operand_value, put, reg_word, set_reg};
+use crate::operands::{
+    Ending, access_event, access_events, finish, operand_value, put, reg_word, set_reg,
+};
 use crate::products::{
     DoubleAnswer, low_product_answer, product_answer, quotient_answer, signed_product_answer,
     signed_quotient_answer,
@@ -17,7 +19,7 @@ use crate::shifts::{masked, shift_answer};
 use crate::types::{Alu, Count, FaultKind, Flag, One, Operand, Reg, Shift, State, StepLeak, Wide};
 use jz_words::{Size, Word};
 
-// The carry that ADC and SBB read.
+/// The carry that ADC and SBB read.
 fn carry_read(alu: Alu, state: &State) -> Option<bool>
     ensures { result ≡ carry_read alu state.now }
 {
@@ -27,7 +29,7 @@ fn carry_read(alu: Alu, state: &State) -> Option<bool>
     }
 }
 
-// CMP and TEST write flags alone.
+/// CMP and TEST write flags alone.
 fn writes_operand(alu: Alu) -> bool
     ensures { result ≡ writes_operand alu }
 {
@@ -48,7 +50,8 @@ pub(crate) fn alu<B: Bus>(
     state: &mut State,
     bus: &mut B,
 ) -> Result<StepLeak, FaultKind>
-    ensures { Did (alu_row alu size to.now from.now next state.old (B.bytes bus.old)) result state.old state.new (B.bytes bus.old) (B.bytes bus.new) }
+    ensures { Does (alu_row alu size to.now from.now next) result
+        state.old state.new (B.bytes bus.old) (B.bytes bus.new) }
 {
     let Some(a) = operand_value(to, size, next, state, bus) else {
         return Err(FaultKind::BadAddress);
@@ -62,10 +65,11 @@ pub(crate) fn alu<B: Bus>(
     let answer = alu_answer(alu, a, b, carry);
     let flags = answer.flags;
     let leak = access_events(to, from, next, state);
+    let end = Ending { next, flags, leak };
     if writes_operand(alu) {
-        put(to, size, answer.value, next, flags, leak, state, bus)
+        put(to, size, answer.value, end, state, bus)
     } else {
-        finish(next, flags, leak, state, bus)
+        finish(end, state, bus)
     }
 }
 
@@ -79,7 +83,8 @@ pub(crate) fn one<B: Bus>(
     state: &mut State,
     bus: &mut B,
 ) -> Result<StepLeak, FaultKind>
-    ensures { Did (one_row one size rm.now next state.old (B.bytes bus.old)) result state.old state.new (B.bytes bus.old) (B.bytes bus.new) }
+    ensures { Does (one_row one size rm.now next) result
+        state.old state.new (B.bytes bus.old) (B.bytes bus.new) }
 {
     let Some(a) = operand_value(rm, size, next, state, bus) else {
         return Err(FaultKind::BadAddress);
@@ -87,10 +92,11 @@ pub(crate) fn one<B: Bus>(
     let answer = one_answer(one, a, state.flags);
     let flags = answer.flags;
     let leak = access_event(rm, next, state);
-    put(rm, size, answer.value, next, flags, leak, state, bus)
+    let end = Ending { next, flags, leak };
+    put(rm, size, answer.value, end, state, bus)
 }
 
-// How far a shift goes.
+/// How far a shift goes.
 fn count_value(count: Count, state: &State) -> u32
     ensures { result ≡ count_value count state.now }
 {
@@ -111,7 +117,8 @@ pub(crate) fn shift<B: Bus>(
     state: &mut State,
     bus: &mut B,
 ) -> Result<StepLeak, FaultKind>
-    ensures { Did (shift_row shift size rm.now count next state.old (B.bytes bus.old)) result state.old state.new (B.bytes bus.old) (B.bytes bus.new) }
+    ensures { Does (shift_row shift size rm.now count next) result
+        state.old state.new (B.bytes bus.old) (B.bytes bus.new) }
 {
     let Some(a) = operand_value(rm, size, next, state, bus) else {
         return Err(FaultKind::BadAddress);
@@ -120,7 +127,8 @@ pub(crate) fn shift<B: Bus>(
     let answer = shift_answer(shift, a, turns, state.flags);
     let flags = answer.flags;
     let leak = access_event(rm, next, state);
-    put(rm, size, answer.value, next, flags, leak, state, bus)
+    let end = Ending { next, flags, leak };
+    put(rm, size, answer.value, end, state, bus)
 }
 
 /// IMUL of a word and an operand: the low word of the product goes to the register.
@@ -135,7 +143,8 @@ pub(crate) fn imul<B: Bus>(
     bus: &mut B,
 ) -> Result<StepLeak, FaultKind>
     requires { a.size ≡ size }
-    ensures { Did (imul_row size reg a.bits rm.now next state.old (B.bytes bus.old)) result state.old state.new (B.bytes bus.old) (B.bytes bus.new) }
+    ensures { Does (imul_row size reg a.bits rm.now next) result
+        state.old state.new (B.bytes bus.old) (B.bytes bus.new) }
 {
     let Some(b) = operand_value(rm, size, next, state, bus) else {
         return Err(FaultKind::BadAddress);
@@ -143,19 +152,11 @@ pub(crate) fn imul<B: Bus>(
     let answer = low_product_answer(a, b);
     let flags = answer.flags;
     let leak = access_event(rm, next, state);
-    put(
-        &Operand::Reg(reg),
-        size,
-        answer.value,
-        next,
-        flags,
-        leak,
-        state,
-        bus,
-    )
+    let end = Ending { next, flags, leak };
+    put(&Operand::Reg(reg), size, answer.value, end, state, bus)
 }
 
-// The low word to RAX, the high word to RDX.
+/// The low word to RAX, the high word to RDX.
 fn set_both(state: &mut State, size: Size, answer: DoubleAnswer)
     requires high { answer.high < modulus size }
     requires low { answer.low < modulus size }
@@ -165,7 +166,7 @@ fn set_both(state: &mut State, size: Size, answer: DoubleAnswer)
     set_reg(state, size, Reg::Rdx, answer.high);
 }
 
-// What a product or a quotient leaves.
+/// What a product or a quotient leaves.
 fn put_both<B: Bus>(
     size: Size,
     answer: DoubleAnswer,
@@ -176,14 +177,16 @@ fn put_both<B: Bus>(
 ) -> Result<StepLeak, FaultKind>
     requires high { answer.high < modulus size }
     requires low { answer.low < modulus size }
-    ensures { Did (both_row size answer next leak state.old (B.bytes bus.now)) result state.old state.new (B.bytes bus.now) (B.bytes bus.now) }
+    ensures { Does (both_row size answer next leak) result
+        state.old state.new (B.bytes bus.now) (B.bytes bus.now) }
 {
     let flags = answer.flags;
+    let end = Ending { next, flags, leak };
     set_both(state, size, answer);
-    finish(next, flags, leak, state, bus)
+    finish(end, state, bus)
 }
 
-// A division shows high word, low word and divisor.
+/// A division shows high word, low word and divisor.
 fn division_event(
     rm: &Operand,
     high: Word,
@@ -202,7 +205,7 @@ fn division_event(
     }
 }
 
-// MUL or IMUL of RAX by a word.
+/// MUL or IMUL of RAX by a word.
 fn multiply<B: Bus>(
     signed: bool,
     b: Word,
@@ -211,7 +214,8 @@ fn multiply<B: Bus>(
     state: &mut State,
     bus: &B,
 ) -> Result<StepLeak, FaultKind>
-    ensures { Did (wide_word_row (if signed then wide.Imul else wide.Mul) b.size rm.now b.bits next state.old (B.bytes bus.now)) result state.old state.new (B.bytes bus.now) (B.bytes bus.now) }
+    ensures { Does (wide_word_row (product_kind signed) b.size rm.now b.bits next) result
+        state.old state.new (B.bytes bus.now) (B.bytes bus.now) }
 {
     let size = b.size();
     let rax = reg_word(state, size, Reg::Rax);
@@ -224,7 +228,7 @@ fn multiply<B: Bus>(
     put_both(size, answer, next, leak, state, bus)
 }
 
-// DIV or IDIV of RDX and RAX by a word.
+/// DIV or IDIV of RDX and RAX by a word.
 fn divide<B: Bus>(
     signed: bool,
     divisor: Word,
@@ -233,7 +237,8 @@ fn divide<B: Bus>(
     state: &mut State,
     bus: &B,
 ) -> Result<StepLeak, FaultKind>
-    ensures { Did (wide_word_row (if signed then wide.Idiv else wide.Div) divisor.size rm.now divisor.bits next state.old (B.bytes bus.now)) result state.old state.new (B.bytes bus.now) (B.bytes bus.now) }
+    ensures { Does (wide_word_row (quotient_kind signed) divisor.size rm.now divisor.bits next)
+        result state.old state.new (B.bytes bus.now) (B.bytes bus.now) }
 {
     let size = divisor.size();
     let high = reg_word(state, size, Reg::Rdx);
@@ -260,7 +265,8 @@ pub(crate) fn wide<B: Bus>(
     state: &mut State,
     bus: &B,
 ) -> Result<StepLeak, FaultKind>
-    ensures { Did (wide_row wide size rm.now next state.old (B.bytes bus.now)) result state.old state.new (B.bytes bus.now) (B.bytes bus.now) }
+    ensures { Does (wide_row wide size rm.now next) result
+        state.old state.new (B.bytes bus.now) (B.bytes bus.now) }
 {
     let Some(word) = operand_value(rm, size, next, state, bus) else {
         return Err(FaultKind::BadAddress);

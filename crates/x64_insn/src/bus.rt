@@ -16,8 +16,10 @@ pub trait Bus {
         ensures value { result ≡ loaded (bytes self.now) addr (bytes_of size) }
         ensures fits { IfSome result (λ v. v < modulus size) };
 
-    /// Writes the lowest bytes of a number, where each byte of the access is valid; else changes nothing.
+    /// Writes the lowest bytes of a number, where each byte of the access is valid; else changes
+    /// nothing.
     fn store(&mut self, addr: u64, size: Size, v: u64) -> bool
         ensures valid { result ≡ all_valid (bytes self.old) addr (bytes_of size) }
-        ensures bytes { bytes self.new ≡ (if result then stored (bytes self.old) addr (bytes_of size) v else bytes self.old) };
+        ensures bytes { bytes self.new
+            ≡ (if result then stored (bytes self.old) addr (bytes_of size) v else bytes self.old) };
 }

@@ -1,23 +1,25 @@
 //! What each instruction does.
 
-ghost use Rattle.x64_insn.specs.Rows.{Did, effect_of};
+ghost use Rattle.x64_insn.specs.Rows.{Does, effect_of};
 
 use crate::arithmetic::{alu, imul, one, shift, wide};
 use crate::bus::Bus;
 use crate::jumps::{call, jcc, jmp, ret};
-use crate::moves::{bswap, cmov, extend, lea, mov, set, sign};
+use crate::moves::{Extension, bswap, cmov, extend, lea, mov, set, sign};
 use crate::operands::reg_word;
 use crate::types::{FaultKind, Insn, State, StepLeak};
 use jz_words::{Size, residue};
 
-/// What an instruction does, by the table; `next` is the address of the instruction behind it. A fault changes nothing.
+/// What an instruction does, by the table; `next` is the address of the instruction behind it. A
+/// fault changes nothing.
 pub fn effect<B: Bus>(
     insn: &Insn,
     next: u64,
     state: &mut State,
     bus: &mut B,
 ) -> Result<StepLeak, FaultKind>
-    ensures { Did (effect_of insn.now next state.old (B.bytes bus.old)) result state.old state.new (B.bytes bus.old) (B.bytes bus.new) }
+    ensures { Does (effect_of insn.now next) result
+        state.old state.new (B.bytes bus.old) (B.bytes bus.new) }
 {
     match insn {
         Insn::Alu(op, size, to, from) => alu(*op, *size, to, from, next, state, bus),
@@ -28,7 +30,14 @@ pub fn effect<B: Bus>(
             from,
             reg,
             rm,
-        } => extend(*signed, *to, *from, *reg, rm, next, state, bus),
+        } => {
+            let kind = Extension {
+                signed: *signed,
+                to: *to,
+                from: *from,
+            };
+            extend(kind, *reg, rm, next, state, bus)
+        }
         Insn::Lea(reg, mem) => lea(*reg, mem, next, state, bus),
         Insn::One(op, size, rm) => one(*op, *size, rm, next, state, bus),
         Insn::Wide(op, size, rm) => wide(*op, *size, rm, next, state, bus),

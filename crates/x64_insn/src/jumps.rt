@@ -4,7 +4,7 @@ ghost use Rattle.std.specs.Prelude.{◌≡◌, pos, ◌-ℤ◌};
 ghost use Rattle.jz_words.specs.declared.size.Size.TheVariants.{S64};
 ghost use Rattle.jz_words.specs.Words.{residue};
 ghost use Rattle.x64_insn.specs.declared.types.Reg.TheVariants as reg;
-ghost use Rattle.x64_insn.specs.Rows.{Did, call_row, jcc_row, jmp_row, reg_value, ret_row, target_of};
+ghost use Rattle.x64_insn.specs.Rows.{Does, call_row, jcc_row, jmp_row, reg_value, ret_row, target_of};
 
 use crate::bus::Bus;
 use crate::conditions::holds;
@@ -12,7 +12,7 @@ use crate::operands::{event, set_reg};
 use crate::types::{Cond, FaultKind, Reg, State, StepLeak};
 use jz_words::{Size, residue};
 
-// The place that a displacement names, counted from the next instruction.
+/// The place that a displacement names, counted from the next instruction.
 fn target_of(next: u64, disp: i32) -> u64
     ensures { result ≡ target_of next disp }
 {
@@ -28,7 +28,8 @@ pub(crate) fn jcc<B: Bus>(
     state: &mut State,
     bus: &B,
 ) -> Result<StepLeak, FaultKind>
-    ensures { Did (jcc_row cond disp next state.old (B.bytes bus.now)) result state.old state.new (B.bytes bus.now) (B.bytes bus.now) }
+    ensures { Does (jcc_row cond disp next) result
+        state.old state.new (B.bytes bus.now) (B.bytes bus.now) }
 {
     let Some(taken) = holds(cond, state) else {
         return Err(FaultKind::UndefinedFlag);
@@ -49,13 +50,14 @@ pub(crate) fn jmp<B: Bus>(
     state: &mut State,
     bus: &B,
 ) -> Result<StepLeak, FaultKind>
-    ensures { Did (jmp_row disp next state.old (B.bytes bus.now)) result state.old state.new (B.bytes bus.now) (B.bytes bus.now) }
+    ensures { Does (jmp_row disp next) result
+        state.old state.new (B.bytes bus.now) (B.bytes bus.now) }
 {
     state.rip = target_of(next, disp);
     Ok(event(None))
 }
 
-// The slot below the stack.
+/// The slot below the stack.
 fn slot_below(state: &State) -> u64
     ensures { result ≡ residue S64 (pos (reg_value state.now reg.Rsp) -ℤ pos 8) }
 {
@@ -70,7 +72,8 @@ pub(crate) fn call<B: Bus>(
     state: &mut State,
     bus: &mut B,
 ) -> Result<StepLeak, FaultKind>
-    ensures { Did (call_row disp next state.old (B.bytes bus.old)) result state.old state.new (B.bytes bus.old) (B.bytes bus.new) }
+    ensures { Does (call_row disp next) result
+        state.old state.new (B.bytes bus.old) (B.bytes bus.new) }
 {
     let slot = slot_below(state);
     if !bus.store(slot, Size::S64, next) {
@@ -84,7 +87,7 @@ pub(crate) fn call<B: Bus>(
 /// RET: the address on the stack is taken off it.
 #[tactic(auto, unfolding(crate::specs::Rows::ret_row))]
 pub(crate) fn ret<B: Bus>(state: &mut State, bus: &B) -> Result<StepLeak, FaultKind>
-    ensures { Did (ret_row state.old (B.bytes bus.now)) result state.old state.new (B.bytes bus.now) (B.bytes bus.now) }
+    ensures { Does ret_row result state.old state.new (B.bytes bus.now) (B.bytes bus.now) }
 {
     let rsp = state.reg(Reg::Rsp);
     let Some(target) = bus.load(rsp, Size::S64) else {

@@ -20,7 +20,8 @@ pub use answer::{Answer, alu_answer, one_answer};
 pub use bus::Bus;
 pub use effects::effect;
 pub use laws::{
-    add_shows_its_sum, bad_address_is_an_invalid_byte, faults_change_nothing,
+    add_shows_its_sum, bad_address_is_an_invalid_byte, conditions_stand_at_their_numbers,
+    faults_change_nothing, operations_stand_at_their_numbers, registers_stand_at_their_numbers,
     sub_shows_its_difference, xor_shows_different_bits,
 };
 pub use products::{

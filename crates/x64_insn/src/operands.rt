@@ -1,9 +1,10 @@
-//! The operands of an instruction: their words, the addresses that they access, and what a row ends with.
+//! The operands of an instruction: their words, the addresses that they access, and what a row ends
+//! with.
 
 ghost use Rattle.std.specs.Prelude.{◌≡◌, ◌<◌, ◌+◌, ◌^◌, IfSome, None, pos, ◌+ℤ◌};
 ghost use Rattle.std.specs.Option.{option_map};
 ghost use Rattle.jz_words.specs.Sizes.{modulus};
-ghost use Rattle.x64_insn.specs.Rows.{Did, finished, put_row, base_value, index_value, address_of, operand_value, accessed, access_event, access_events, merged, reg_word, with_reg};
+ghost use Rattle.x64_insn.specs.Rows.{Did, Does, finished, put_row, base_value, index_value, address_of, operand_value, accessed, access_event, access_events, merged, reg_word, with_reg};
 
 use crate::bus::Bus;
 use crate::types::{Base, FaultKind, FlagVal, Mem, Operand, Reg, State, StepLeak};
@@ -17,7 +18,7 @@ pub(crate) fn reg_word(state: &State, size: Size, reg: Reg) -> Word
     Word::truncate(size, state.reg(reg))
 }
 
-// A register after a write of a size.
+/// A register after a write of a size.
 fn merged(size: Size, old: u64, value: u64) -> u64
     requires { value < modulus size }
     ensures { result ≡ merged size old value }
@@ -58,9 +59,11 @@ fn index_value(state: &State, index: Option<(Reg, u8)>) -> u128
     }
 }
 
-// The sum that an address is, not yet modulo 2^64.
+/// The sum that an address is, not yet modulo 2^64.
 fn address_sum(state: &State, next: u64, mem: &Mem) -> i128
-    ensures { result ≡ pos (base_value state.now next mem.now.base + index_value state.now mem.now.index) +ℤ mem.now.disp }
+    ensures { result
+        ≡ pos (base_value state.now next mem.now.base + index_value state.now mem.now.index)
+        +ℤ mem.now.disp }
 {
     let base = base_value(state, next, mem.base) as i128;
     let index = index_value(state, mem.index) as i128;
@@ -84,7 +87,8 @@ pub(crate) fn operand_value<B: Bus>(
     state: &State,
     bus: &B,
 ) -> Option<Word>
-    ensures value { option_map (λ w. w.bits) result ≡ operand_value operand.now size next state.now (B.bytes bus.now) }
+    ensures value { option_map (λ w. w.bits) result
+        ≡ operand_value operand.now size next state.now (B.bytes bus.now) }
     ensures size { IfSome result (λ w. w.size ≡ size) }
 {
     match operand {
@@ -97,7 +101,7 @@ pub(crate) fn operand_value<B: Bus>(
     }
 }
 
-// The address that an operand accesses.
+/// The address that an operand accesses.
 fn accessed(operand: &Operand, next: u64, state: &State) -> Option<u64>
     ensures { result ≡ accessed operand.now next state.now }
 {
@@ -134,19 +138,23 @@ pub(crate) fn access_events(to: &Operand, from: &Operand, next: u64, state: &Sta
     event(first.or(second))
 }
 
+/// What a row ends with: the address for rip, the flags, and what the step shows.
+#[derive(Clone, Copy)]
+pub(crate) struct Ending {
+    pub(crate) next: u64,
+    pub(crate) flags: [FlagVal; 5],
+    pub(crate) leak: StepLeak,
+}
+
 /// Sets rip and flags.
-pub(crate) fn finish<B: Bus>(
-    next: u64,
-    flags: [FlagVal; 5],
-    leak: StepLeak,
-    state: &mut State,
-    bus: &B,
-) -> Result<StepLeak, FaultKind>
-    ensures { Did (finished state.old (B.bytes bus.now) next flags leak) result state.old state.new (B.bytes bus.now) (B.bytes bus.now) }
+pub(crate) fn finish<B: Bus>(end: Ending, state: &mut State, bus: &B) -> Result<StepLeak, FaultKind>
+    ensures { Did (finished state.old (B.bytes bus.now) end.next end.flags end.leak) result
+        state.old state.new (B.bytes bus.now) (B.bytes bus.now) }
 {
-    state.rip = next;
+    let flags = end.flags;
+    state.rip = end.next;
     state.flags = flags;
-    Ok(leak)
+    Ok(end.leak)
 }
 
 /// Writes a word to an operand, then sets rip and flags. An immediate is no place to write to.
@@ -155,25 +163,25 @@ pub(crate) fn put<B: Bus>(
     to: &Operand,
     size: Size,
     value: u64,
-    next: u64,
-    flags: [FlagVal; 5],
-    leak: StepLeak,
+    end: Ending,
     state: &mut State,
     bus: &mut B,
 ) -> Result<StepLeak, FaultKind>
     requires { value < modulus size }
-    ensures { Did (put_row to.now size value next flags leak state.old (B.bytes bus.old)) result state.old state.new (B.bytes bus.old) (B.bytes bus.new) }
+    ensures { Does (put_row to.now size value end.next end.flags end.leak) result
+        state.old state.new (B.bytes bus.old) (B.bytes bus.new) }
 {
     match to {
         Operand::Reg(reg) => set_reg(state, size, *reg, value),
         Operand::Imm(_) => return Err(FaultKind::NoInsn),
         Operand::Mem(mem) => {
-            if !bus.store(address_of(state, next, mem), size, value) {
+            if !bus.store(address_of(state, end.next, mem), size, value) {
                 return Err(FaultKind::BadAddress);
             }
         }
     }
-    state.rip = next;
+    let flags = end.flags;
+    state.rip = end.next;
     state.flags = flags;
-    Ok(leak)
+    Ok(end.leak)
 }

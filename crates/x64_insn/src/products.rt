@@ -10,8 +10,8 @@ use crate::answer::{Answer, flag, overflows};
 use crate::types::FlagVal;
 use jz_words::{Word, mul_signed, mul_wide, residue};
 
-/// Two words of the result, the high and the low one of a product, or remainder and quotient; and the flags in the order
-/// of `Flag`.
+/// Two words of the result, the high and the low one of a product, or remainder and quotient; and
+/// the flags in the order of `Flag`.
 #[derive(Clone, Copy)]
 pub struct DoubleAnswer {
     pub high: u64,
@@ -19,7 +19,7 @@ pub struct DoubleAnswer {
     pub flags: [FlagVal; 5],
 }
 
-// The flags of a product, by whether it needs more than the low word.
+/// The flags of a product, by whether it needs more than the low word.
 fn product_flags(more: bool) -> [FlagVal; 5]
     ensures { result ≡ product_flags more }
 {
@@ -76,7 +76,7 @@ pub fn low_product_answer(a: Word, b: Word) -> Answer
     }
 }
 
-// Two words of one size as one number.
+/// Two words of one size as one number.
 fn double_word(high: Word, low: Word) -> u128
     requires { high.size ≡ low.size }
     ensures { result ≡ double_word high.size high.bits low.bits }
@@ -84,7 +84,8 @@ fn double_word(high: Word, low: Word) -> u128
     high.bits() as u128 * high.size().modulus() + low.bits() as u128
 }
 
-/// Remainder and quotient of two words by a third, all of one size; none where that is 0 or no word holds the quotient.
+/// Remainder and quotient of two words by a third, all of one size; none where that is 0 or no word
+/// holds the quotient.
 #[tactic(auto, unfolding(crate::specs::Products::quotient_answer))]
 pub fn quotient_answer(high: Word, low: Word, divisor: Word) -> Option<DoubleAnswer>
     requires low { high.size ≡ low.size }
@@ -109,7 +110,7 @@ pub fn quotient_answer(high: Word, low: Word, divisor: Word) -> Option<DoubleAns
     })
 }
 
-// Two words of one size as one signed number.
+/// Two words of one size as one signed number.
 fn signed_double_word(high: Word, low: Word) -> i128
     requires { high.size ≡ low.size }
     ensures { result ≡ signed_double_word high.size high.bits low.bits }
@@ -117,10 +118,11 @@ fn signed_double_word(high: Word, low: Word) -> i128
     high.signed() * high.size().modulus() as i128 + low.bits() as i128
 }
 
-// Quotient and remainder, rounded towards 0; none where the quotient is 2^127.
+/// Quotient and remainder, rounded towards 0; none where the quotient is 2^127.
 fn rounded_quotient(dividend: i128, divisor: i128) -> Option<(i128, i128)>
     requires { divisor ≢ pos 0 }
-    ensures some { IfSome result (λ r. (r.0 ≡ int_div dividend divisor) × (r.1 ≡ int_rem dividend divisor)) }
+    ensures some { IfSome result
+        (λ r. (r.0 ≡ int_div dividend divisor) × (r.1 ≡ int_rem dividend divisor)) }
     ensures none { IfNone result ((dividend ≡ negsuc (2 ^ 127 - 1)) × (divisor ≡ negsuc 0)) }
 {
     if dividend == i128::MIN && divisor == -1 {

@@ -20,7 +20,7 @@ pub(crate) fn masked(size: Size, count: u32) -> u32
     }
 }
 
-// The word shifted or rotated.
+/// The word shifted or rotated.
 fn shifted(kind: Shift, a: Word, count: u32) -> Word
     requires { count < 64 }
     ensures size { result.size ≡ a.size }
@@ -47,7 +47,7 @@ fn differ(a: bool, b: bool) -> bool
     a != b
 }
 
-// The last bit that SHL shifts out, where the word has so many.
+/// The last bit that SHL shifts out, where the word has so many.
 fn left_carry(a: Word, count: u32) -> FlagVal
     requires some { 0 < count }
     requires below { count < 64 }
@@ -59,7 +59,7 @@ fn left_carry(a: Word, count: u32) -> FlagVal
     flag(has_bit(a, a.size().bits() - count))
 }
 
-// The last bit that SHR shifts out, where the word has so many.
+/// The last bit that SHR shifts out, where the word has so many.
 fn right_carry(a: Word, count: u32) -> FlagVal
     requires some { 0 < count }
     requires below { count < 64 }
@@ -71,7 +71,7 @@ fn right_carry(a: Word, count: u32) -> FlagVal
     flag(has_bit(a, count - 1))
 }
 
-// The last bit that SAR shifts out, which is the sign where the count is past the size.
+/// The last bit that SAR shifts out, which is the sign where the count is past the size.
 fn signed_carry(a: Word, count: u32) -> FlagVal
     requires some { 0 < count }
     requires below { count < 64 }
@@ -80,7 +80,7 @@ fn signed_carry(a: Word, count: u32) -> FlagVal
     flag(has_bit(a, (count - 1).min(a.size().bits() - 1)))
 }
 
-// CF for a count that is not 0.
+/// CF for a count that is not 0.
 fn shift_carry(kind: Shift, a: Word, count: u32) -> FlagVal
     requires some { 0 < count }
     requires below { count < 64 }
@@ -95,7 +95,7 @@ fn shift_carry(kind: Shift, a: Word, count: u32) -> FlagVal
     }
 }
 
-// The two bits at the end where ROR by 1 puts its bit in.
+/// The two bits at the end where ROR by 1 puts its bit in.
 fn right_turn_overflow(a: Word) -> bool
     ensures { result ≡ overflow_by_one shift.Ror a.size a.bits }
 {
@@ -103,7 +103,7 @@ fn right_turn_overflow(a: Word) -> bool
     differ(highest(turned), has_bit(turned, turned.size().bits() - 2))
 }
 
-// OF for the count 1.
+/// OF for the count 1.
 fn overflow_by_one(kind: Shift, a: Word) -> bool
     ensures { result ≡ overflow_by_one kind a.size a.bits }
 {
@@ -116,7 +116,7 @@ fn overflow_by_one(kind: Shift, a: Word) -> bool
     }
 }
 
-// OF, which other counts leave undefined.
+/// OF, which other counts leave undefined.
 fn shift_overflow(kind: Shift, a: Word, count: u32) -> FlagVal
     ensures { result ≡ shift_overflow kind a.size a.bits count }
 {
@@ -126,7 +126,7 @@ fn shift_overflow(kind: Shift, a: Word, count: u32) -> FlagVal
     flag(overflow_by_one(kind, a))
 }
 
-// These flags with another OF and CF.
+/// These flags with another OF and CF.
 fn with_both(overflow: FlagVal, carry: FlagVal, old: [FlagVal; 5]) -> [FlagVal; 5]
     ensures { result ≡ slice_set (slice_set old 0 overflow) 1 carry }
 {
@@ -136,7 +136,7 @@ fn with_both(overflow: FlagVal, carry: FlagVal, old: [FlagVal; 5]) -> [FlagVal; 
     flags
 }
 
-// The flags for a count that is not 0: rotations keep SF, PF and ZF.
+/// The flags for a count that is not 0: rotations keep SF, PF and ZF.
 #[tactic(auto, unfolding(crate::specs::Answers::flags_of))]
 fn shift_flags(kind: Shift, a: Word, count: u32, old: [FlagVal; 5]) -> [FlagVal; 5]
     requires some { 0 < count }

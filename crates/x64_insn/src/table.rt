@@ -13,8 +13,9 @@ pub enum Operands {
     Sized,
 }
 
-/// A row of the table: an instruction, and which fields its operands stand in. The destination is named first; `Rm` is
-/// the operand of ModRM's rm field, `Reg` the register of its reg field, `Imm` an immediate.
+/// A row of the table: an instruction, and which fields its operands stand in. The destination is
+/// named first; `Rm` is the operand of ModRM's rm field, `Reg` the register of its reg field, `Imm`
+/// an immediate.
 #[derive(Clone, Copy)]
 pub enum Row {
     AluRmReg(Alu, Operands),
@@ -52,20 +53,66 @@ pub enum Row {
     Ret,
 }
 
+/// The registers in the order of their numbers.
+const REGISTERS: [Reg; 16] = [
+    Reg::Rax,
+    Reg::Rcx,
+    Reg::Rdx,
+    Reg::Rbx,
+    Reg::Rsp,
+    Reg::Rbp,
+    Reg::Rsi,
+    Reg::Rdi,
+    Reg::R8,
+    Reg::R9,
+    Reg::R10,
+    Reg::R11,
+    Reg::R12,
+    Reg::R13,
+    Reg::R14,
+    Reg::R15,
+];
+
+/// The operations in the order of their numbers; TEST has none.
+const OPERATIONS: [Alu; 8] = [
+    Alu::Add,
+    Alu::Or,
+    Alu::Adc,
+    Alu::Sbb,
+    Alu::And,
+    Alu::Sub,
+    Alu::Xor,
+    Alu::Cmp,
+];
+
+/// The conditions in the order of their numbers.
+const CONDITIONS: [Cond; 16] = [
+    Cond::O,
+    Cond::No,
+    Cond::B,
+    Cond::Ae,
+    Cond::E,
+    Cond::Ne,
+    Cond::Be,
+    Cond::A,
+    Cond::S,
+    Cond::Ns,
+    Cond::P,
+    Cond::Np,
+    Cond::L,
+    Cond::Ge,
+    Cond::Le,
+    Cond::G,
+];
+
 /// The operation of a number: it stands in an opcode, or in a reg field.
 #[tactic(auto, unfolding(crate::specs::Table::operation_of))]
 pub fn operation_of(number: u8) -> Alu
     ensures { result ≡ operation_of number }
 {
-    match number {
-        0 => Alu::Add,
-        1 => Alu::Or,
-        2 => Alu::Adc,
-        3 => Alu::Sbb,
-        4 => Alu::And,
-        5 => Alu::Sub,
-        6 => Alu::Xor,
-        _ => Alu::Cmp,
+    match OPERATIONS.get(number as usize) {
+        Some(operation) => *operation,
+        None => Alu::Cmp,
     }
 }
 
@@ -74,27 +121,13 @@ pub fn operation_of(number: u8) -> Alu
 fn condition_of(number: u8) -> Cond
     ensures { result ≡ condition_of number }
 {
-    match number {
-        0 => Cond::O,
-        1 => Cond::No,
-        2 => Cond::B,
-        3 => Cond::Ae,
-        4 => Cond::E,
-        5 => Cond::Ne,
-        6 => Cond::Be,
-        7 => Cond::A,
-        8 => Cond::S,
-        9 => Cond::Ns,
-        10 => Cond::P,
-        11 => Cond::Np,
-        12 => Cond::L,
-        13 => Cond::Ge,
-        14 => Cond::Le,
-        _ => Cond::G,
+    match CONDITIONS.get(number as usize) {
+        Some(condition) => *condition,
+        None => Cond::G,
     }
 }
 
-// The first opcode of a pair has operands of one byte.
+/// The first opcode of a pair has operands of one byte.
 fn operands_of(opcode: u8) -> Operands
     ensures { result ≡ operands_of opcode }
 {
@@ -105,7 +138,7 @@ fn operands_of(opcode: u8) -> Operands
     }
 }
 
-// The row of an opcode of one byte.
+/// The row of an opcode of one byte.
 #[tactic(auto, unfolding(crate::specs::Table::one_byte_row))]
 fn one_byte_row(opcode: u8) -> Option<Row>
     ensures { result ≡ one_byte_row opcode }
@@ -144,7 +177,7 @@ fn one_byte_row(opcode: u8) -> Option<Row>
     Some(row)
 }
 
-// The row of an opcode behind the escape byte.
+/// The row of an opcode behind the escape byte.
 #[tactic(auto, unfolding(crate::specs::Table::escaped_row))]
 fn escaped_row(opcode: u8) -> Option<Row>
     ensures { result ≡ escaped_row opcode }
@@ -214,14 +247,15 @@ pub fn size_of(operand_size: Option<u8>, rex: Option<u8>) -> Size
     }
 }
 
-// Whether a register of one byte may have this field: without REX the fields 4 to 7 name the second bytes of registers.
+/// Whether a register of one byte may have this field: without REX the fields 4 to 7 name the
+/// second bytes of registers.
 fn names_low_byte(rex: Option<u8>, field: u8) -> bool
     ensures { result ≡ names_low_byte rex field }
 {
     rex.is_some() || field < 4
 }
 
-// The numbers of ROL, ROR, SHL, SHR and SAR.
+/// The numbers of ROL, ROR, SHL, SHR and SAR.
 fn is_shift_number(number: u8) -> bool
     ensures { result ≡ is_shift_number number }
 {
@@ -260,7 +294,7 @@ impl Operands {
         }
     }
 
-    // Whether the prefix 66 may stand there.
+    /// Whether the prefix 66 may stand there.
     fn allows_by(self, operand_size: Option<u8>) -> bool
         ensures { result ≡ allows_by self operand_size }
     {
@@ -319,7 +353,8 @@ impl Row {
         )
     }
 
-    // Whether the row's ModRM may have a reg field: it names a register, an operation, a kind of shift, or is given.
+    /// Whether the row's ModRM may have a reg field: it names a register, an operation, a kind of
+    /// shift, or is given.
     fn takes_reg_field(self, field: u8) -> bool
         ensures { result ≡ takes_reg_field self field }
     {
@@ -333,7 +368,7 @@ impl Row {
         }
     }
 
-    // Whether the reg field names a register of one byte.
+    /// Whether the reg field names a register of one byte.
     fn has_byte_reg(self) -> bool
         ensures { result ≡ has_byte_reg self }
     {
@@ -346,7 +381,7 @@ impl Row {
         )
     }
 
-    // Whether the rm field of mode 3 names a register of one byte.
+    /// Whether the rm field of mode 3 names a register of one byte.
     fn has_byte_rm(self) -> bool
         ensures { result ≡ has_byte_rm self }
     {
@@ -419,22 +454,5 @@ pub fn reg_of(number: u8) -> Reg
     requires { number < 16 }
     ensures { result ≡ reg_of number }
 {
-    match number {
-        0 => Reg::Rax,
-        1 => Reg::Rcx,
-        2 => Reg::Rdx,
-        3 => Reg::Rbx,
-        4 => Reg::Rsp,
-        5 => Reg::Rbp,
-        6 => Reg::Rsi,
-        7 => Reg::Rdi,
-        8 => Reg::R8,
-        9 => Reg::R9,
-        10 => Reg::R10,
-        11 => Reg::R11,
-        12 => Reg::R12,
-        13 => Reg::R13,
-        14 => Reg::R14,
-        _ => Reg::R15,
-    }
+    REGISTERS[number as usize]
 }

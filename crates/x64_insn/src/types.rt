@@ -48,7 +48,8 @@ pub enum FlagVal {
     Undefined,
 }
 
-/// The condition of a jump, a move or a SETcc, in the order of its code 0 .. 15 (Intel SDM vol. 2, appendix B.1.4.7).
+/// The condition of a jump, a move or a SETcc, in the order of its code 0 .. 15 (Intel SDM vol. 2,
+/// appendix B.1.4.7).
 #[derive(Clone, Copy)]
 pub enum Cond {
     O,
@@ -198,7 +199,8 @@ impl State {
     }
 }
 
-/// What a step shows: whether a branch was taken, the address of a memory access, and high word, low word and divisor of a division.
+/// What a step shows: whether a branch was taken, the address of a memory access, and high word,
+/// low word and divisor of a division.
 #[derive(Clone, Copy)]
 pub struct StepLeak {
     pub branch: Option<bool>,
@@ -207,7 +209,7 @@ pub struct StepLeak {
 }
 
 /// Why a step is not made.
-#[derive(Clone, Copy, PartialEq, Eq)]
+#[derive(Clone, Copy)]
 pub enum FaultKind {
     NoInsn,
     BadAddress,

@@ -7,7 +7,7 @@ use Rattle.x64_insn.specs.Rows.{reg_value}
 use Rattle.x64_machine.specs.declared.machine.Machine.{Machine}
 use Rattle.x64_machine.specs.declared.step.Step.{Step}
 use Rattle.x64_machine.specs.declared.step.Step.TheVariants.{Running, Ended}
-use Rattle.x64_machine.specs.Steps.{Config, Ran, step_of, steps_of}
+use Rattle.x64_machine.specs.Steps.{Config, Moved, Ran, step_of, steps_of}
 
 -- the code that a machine runs
 abbrev pub code_of : Machine → List ℕ
@@ -27,7 +27,8 @@ config_of m = record {
   entry_return = m.entry_return;
 }
 
--- the configuration at entry: its stack pointer, and the return address in its slot if that is valid
+-- the configuration at entry: its stack pointer, and the return address in its slot if that is
+-- valid
 abbrev pub start_of : State → Memory → Config
 start_of st m = record {
   state = st;
@@ -38,7 +39,8 @@ start_of st m = record {
 }
 
 -- a machine over this code that stands at entry
-pub record Starts (m : Machine) (code : List ℕ) (base : ℕ) (st : State) (memory : Memory) : Type 0 where
+pub record Starts
+    (m : Machine) (code : List ℕ) (base : ℕ) (st : State) (memory : Memory) : Type 0 where
   pub code_is : code_of m ≡ code
   pub base_is : base_of m ≡ base
   pub config_is : config_of m ≡ start_of st memory
@@ -46,6 +48,13 @@ pub record Starts (m : Machine) (code : List ℕ) (base : ℕ) (st : State) (mem
 -- the code and its place stay
 abbrev pub SameCode : Machine → Machine → Type 0
 SameCode m n = (code_of n ≡ code_of m) × (base_of n ≡ base_of m)
+
+-- what a machine's next step makes, and where its next steps lead
+abbrev pub next_of : Machine → Moved
+next_of m = step_of (code_of m) (base_of m) (config_of m)
+
+abbrev pub steps_from : Machine → ℕ → Ran
+steps_from m k = steps_of (code_of m) (base_of m) (config_of m) k
 
 -- one run after another
 abbrev pub followed : Ran → Ran → Ran

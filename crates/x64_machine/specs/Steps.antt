@@ -17,7 +17,8 @@ use Rattle.x64_machine.specs.declared.step.Step.{Step}
 use Rattle.x64_machine.specs.declared.step.Step.TheVariants.{Running, Ended, Fault}
 use Rattle.x64_decode.specs.Decoding.{decoded_of}
 
--- A configuration. No step changes the entry's stack pointer and return address; without a return address no RET ends.
+-- A configuration. No step changes the entry's stack pointer and return address; without a return
+-- address no RET ends.
 pub record Config : Type 0 where
   pub state : State
   pub memory : Memory
@@ -31,10 +32,12 @@ pub record Moved : Type 0 where
   pub leak : StepLeak
   pub after : Config
 
--- the instruction at an address: a place in the code is the address less the base, and lies below the code's length
+-- the instruction at an address: a place in the code is the address less the base, and lies below
+-- the code's length
 unfoldable pub insn_at : List ℕ → ℕ → ℕ → Decoded
 insn_at code base rip =
-    if nat_le base rip && nat_lt (rip - base) (length code) then decoded_of (drop (rip - base) code) else decoded.Unknown
+    if nat_le base rip && nat_lt (rip - base) (length code) then decoded_of (drop (rip - base) code)
+    else decoded.Unknown
 
 -- two numbers that are there, and equal
 abbrev pub same_number : Option ℕ → Option ℕ → Bool
@@ -44,7 +47,9 @@ same_number (Some x) (Some y) = x == y
 
 -- the stack pointer is the entry's, and its slot still holds the entry's return address
 abbrev pub at_entry : Config → Bool
-at_entry c = (reg_value c.state reg.Rsp == c.entry_rsp) && same_number (loaded c.memory c.entry_rsp 8) c.entry_return
+at_entry c =
+    (reg_value c.state reg.Rsp == c.entry_rsp)
+    && same_number (loaded c.memory c.entry_rsp 8) c.entry_return
 
 abbrev pub is_ret : Insn → Bool
 is_ret insn.Ret = true
@@ -73,7 +78,8 @@ by_insn c (decoded.Insn i len) =
 -- one step; where the entry has returned nothing happens any more
 unfoldable pub step_of : List ℕ → ℕ → Config → Moved
 step_of code base c =
-    if c.ended then record { answer = Ended; leak = no_event; after = c } else by_insn c (insn_at code base c.state.rip)
+    if c.ended then record { answer = Ended; leak = no_event; after = c }
+    else by_insn c (insn_at code base c.state.rip)
 
 abbrev pub branches_of : Option Bool → List Event
 branches_of None = []

@@ -1,8 +1,8 @@
 //! The machine: its start, a step, and a run.
 
 ghost use Rattle.std.specs.Prelude.{◌≡◌, IfOk};
-ghost use Rattle.x64_machine.specs.Steps.{at_entry, insn_at, step_of, steps_of};
-ghost use Rattle.x64_machine.specs.MachineRuns.{code_of, base_of, config_of, SameCode, last_answer, Starts};
+ghost use Rattle.x64_machine.specs.Steps.{at_entry, insn_at};
+ghost use Rattle.x64_machine.specs.MachineRuns.{base_of, code_of, config_of, last_answer, next_of, SameCode, Starts, steps_from};
 
 use crate::bus::MemBus;
 use crate::step::Step;
@@ -33,8 +33,8 @@ const NO_EVENT: StepLeak = StepLeak {
 };
 
 impl Machine {
-    /// A machine before its first step. The entry's stack pointer and return address are those of the state and the
-    /// memory; where the slot is not valid no return ends the run.
+    /// A machine before its first step. The entry's stack pointer and return address are those of
+    /// the state and the memory; where the slot is not valid no return ends the run.
     pub fn new(
         alloc: Global,
         code: &[u8],
@@ -74,7 +74,8 @@ impl Machine {
         decode(&code[offset as usize..])
     }
 
-    /// Whether the stack pointer is the entry's, and its slot still holds the entry's return address.
+    /// Whether the stack pointer is the entry's, and its slot still holds the entry's return
+    /// address.
     fn is_at_entry(&self) -> bool
         ensures { result ≡ at_entry (config_of self.now) }
     {
@@ -93,9 +94,9 @@ impl Machine {
     /// One step: the answer, and what it shows.
     #[tactic(auto, unfolding(crate::specs::Steps::step_of))]
     pub fn step(&mut self) -> (Step, StepLeak)
-        ensures answer { result.0 ≡ (step_of (code_of self.old) (base_of self.old) (config_of self.old)).answer }
-        ensures leak { result.1 ≡ (step_of (code_of self.old) (base_of self.old) (config_of self.old)).leak }
-        ensures after { config_of self.new ≡ (step_of (code_of self.old) (base_of self.old) (config_of self.old)).after }
+        ensures answer { result.0 ≡ (next_of self.old).answer }
+        ensures leak { result.1 ≡ (next_of self.old).leak }
+        ensures after { config_of self.new ≡ (next_of self.old).after }
         ensures code { SameCode self.old self.new }
     {
         if self.ended {
@@ -118,8 +119,9 @@ impl Machine {
 
     /// So many steps, or fewer where one ends or faults: the answer of the last.
     pub fn run(&mut self, count: u64) -> Step
-        ensures answer { result ≡ last_answer (code_of self.old) (base_of self.old) (config_of self.old) count }
-        ensures after { config_of self.new ≡ (steps_of (code_of self.old) (base_of self.old) (config_of self.old) count).after }
+        ensures answer { result
+            ≡ last_answer (code_of self.old) (base_of self.old) (config_of self.old) count }
+        ensures after { config_of self.new ≡ (steps_from self.old count).after }
         ensures code { SameCode self.old self.new }
     {
         if self.ended {

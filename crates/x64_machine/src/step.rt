@@ -1,7 +1,9 @@
+//! The answer of a step.
+
 use x64_insn::FaultKind;
 
 /// What a step answers.
-#[derive(Clone, Copy, PartialEq, Eq)]
+#[derive(Clone, Copy)]
 pub enum Step {
     Running,
     /// The return from the entry was made.

@@ -27,135 +27,113 @@ const SIZES: [&str; 4] = ["8", "16", "32", "64"];
 
 const WIDTHS: [&str; 2] = ["rel8", "rel32"];
 
-/// A part of an instruction.
+/// A part of an instruction behind its name.
 #[derive(Clone, Copy)]
 enum Part {
     Absent,
     Word(&'static str),
     Number(i64),
-    Size(Size),
-    Width(Width),
-    Cond(Cond),
     Count(Count),
-    Reg(Reg),
     Operand(Operand),
     Mem(Mem),
 }
 
-fn parts(insn: &Insn) -> [Part; 5] {
-    use Part::{Absent, Word};
+fn size_word(size: Size) -> Part {
+    Part::Word(SIZES[size as usize])
+}
+
+fn width_word(width: Width) -> Part {
+    Part::Word(WIDTHS[width as usize])
+}
+
+fn cond_word(cond: Cond) -> Part {
+    Part::Word(CONDS[cond as usize])
+}
+
+fn reg_word(reg: Reg) -> Part {
+    Part::Word(REGS[reg as usize])
+}
+
+fn number(number: i32) -> Part {
+    Part::Number(number as i64)
+}
+
+fn two(first: Part, second: Part) -> [Part; 4] {
+    [first, second, Part::Absent, Part::Absent]
+}
+
+fn three(first: Part, second: Part, third: Part) -> [Part; 4] {
+    [first, second, third, Part::Absent]
+}
+
+/// The name of an instruction.
+fn name(insn: &Insn) -> &'static str {
+    match insn {
+        Insn::Alu(op, _, _, _) => ALUS[*op as usize],
+        Insn::Mov(_, _, _) => "mov",
+        Insn::Extend { signed: true, .. } => "movsx",
+        Insn::Extend { signed: false, .. } => "movzx",
+        Insn::Lea(_, _) => "lea",
+        Insn::One(op, _, _) => ONES[*op as usize],
+        Insn::Wide(op, _, _) => WIDES[*op as usize],
+        Insn::Imul(_, _, _) | Insn::ImulBy(_, _, _, _) => "imul",
+        Insn::Shift(op, _, _, _) => SHIFTS[*op as usize],
+        Insn::Bswap(_, _) => "bswap",
+        Insn::Cdq => "cdq",
+        Insn::Cqo => "cqo",
+        Insn::Set(_, _) => "set",
+        Insn::Cmov(_, _, _, _) => "cmov",
+        Insn::Jcc(_, _, _) => "j",
+        Insn::Jmp(_, _) => "jmp",
+        Insn::Call(_) => "call",
+        Insn::Ret => "ret",
+    }
+}
+
+/// What stands behind the name.
+fn parts(insn: &Insn) -> [Part; 4] {
     match *insn {
-        Insn::Alu(op, size, to, from) => [
-            Word(ALUS[op as usize]),
-            Part::Size(size),
-            Part::Operand(to),
-            Part::Operand(from),
-            Absent,
-        ],
-        Insn::Mov(size, to, from) => [
-            Word("mov"),
-            Part::Size(size),
-            Part::Operand(to),
-            Part::Operand(from),
-            Absent,
-        ],
+        Insn::Alu(_, size, to, from) | Insn::Mov(size, to, from) => {
+            three(size_word(size), Part::Operand(to), Part::Operand(from))
+        }
         Insn::Extend {
-            signed,
+            signed: _,
             to,
             from,
             reg,
             rm,
-        } => {
-            let name = if signed { "movsx" } else { "movzx" };
-            [
-                Word(name),
-                Part::Size(to),
-                Part::Size(from),
-                Part::Reg(reg),
-                Part::Operand(rm),
-            ]
+        } => [
+            size_word(to),
+            size_word(from),
+            reg_word(reg),
+            Part::Operand(rm),
+        ],
+        Insn::Lea(reg, mem) => two(reg_word(reg), Part::Mem(mem)),
+        Insn::One(_, size, rm) | Insn::Wide(_, size, rm) => {
+            two(size_word(size), Part::Operand(rm))
         }
-        Insn::Lea(reg, mem) => [Word("lea"), Part::Reg(reg), Part::Mem(mem), Absent, Absent],
-        Insn::One(op, size, rm) => [
-            Word(ONES[op as usize]),
-            Part::Size(size),
-            Part::Operand(rm),
-            Absent,
-            Absent,
-        ],
-        Insn::Wide(op, size, rm) => [
-            Word(WIDES[op as usize]),
-            Part::Size(size),
-            Part::Operand(rm),
-            Absent,
-            Absent,
-        ],
-        Insn::Imul(size, reg, rm) => [
-            Word("imul"),
-            Part::Size(size),
-            Part::Reg(reg),
-            Part::Operand(rm),
-            Absent,
-        ],
+        Insn::Imul(size, reg, rm) => three(size_word(size), reg_word(reg), Part::Operand(rm)),
         Insn::ImulBy(size, reg, rm, by) => [
-            Word("imul"),
-            Part::Size(size),
-            Part::Reg(reg),
+            size_word(size),
+            reg_word(reg),
             Part::Operand(rm),
-            Part::Number(by as i64),
+            number(by),
         ],
-        Insn::Shift(op, size, rm, count) => [
-            Word(SHIFTS[op as usize]),
-            Part::Size(size),
-            Part::Operand(rm),
-            Part::Count(count),
-            Absent,
-        ],
-        Insn::Bswap(size, reg) => [
-            Word("bswap"),
-            Part::Size(size),
-            Part::Reg(reg),
-            Absent,
-            Absent,
-        ],
-        Insn::Cdq => [Word("cdq"), Absent, Absent, Absent, Absent],
-        Insn::Cqo => [Word("cqo"), Absent, Absent, Absent, Absent],
-        Insn::Set(cond, rm) => [
-            Word("set"),
-            Part::Cond(cond),
-            Part::Operand(rm),
-            Absent,
-            Absent,
-        ],
+        Insn::Shift(_, size, rm, count) => {
+            three(size_word(size), Part::Operand(rm), Part::Count(count))
+        }
+        Insn::Bswap(size, reg) => two(size_word(size), reg_word(reg)),
+        Insn::Set(cond, rm) => two(cond_word(cond), Part::Operand(rm)),
         Insn::Cmov(cond, size, reg, rm) => [
-            Word("cmov"),
-            Part::Cond(cond),
-            Part::Size(size),
-            Part::Reg(reg),
+            cond_word(cond),
+            size_word(size),
+            reg_word(reg),
             Part::Operand(rm),
         ],
-        Insn::Jcc(cond, width, disp) => [
-            Word("j"),
-            Part::Cond(cond),
-            Part::Width(width),
-            Part::Number(disp as i64),
-            Absent,
-        ],
-        Insn::Jmp(width, disp) => [
-            Word("jmp"),
-            Part::Width(width),
-            Part::Number(disp as i64),
-            Absent,
-            Absent,
-        ],
-        Insn::Call(disp) => [
-            Word("call"),
-            Part::Number(disp as i64),
-            Absent,
-            Absent,
-            Absent,
-        ],
-        Insn::Ret => [Word("ret"), Absent, Absent, Absent, Absent],
+        Insn::Jcc(cond, width, disp) => three(cond_word(cond), width_word(width), number(disp)),
+        Insn::Jmp(width, disp) => two(width_word(width), number(disp)),
+        Insn::Call(disp) => two(number(disp), Part::Absent),
+        Insn::Cdq | Insn::Cqo | Insn::Ret => [Part::Absent; 4],
     }
 }
 
@@ -167,7 +145,7 @@ fn base(base: Base) -> &'static str {
     }
 }
 
-// Base, index with its scale, and displacement.
+/// Base, index with its scale, and displacement.
 fn write_address(text: &mut String, mem: Mem) -> Result<(), AllocError> {
     let base = base(mem.base);
     let disp = mem.disp;
@@ -208,11 +186,7 @@ fn write_part(text: &mut String, part: Part) -> Result<(), AllocError> {
         Part::Absent => Ok(()),
         Part::Word(word) => write_word(text, word),
         Part::Number(number) => write_number(text, number),
-        Part::Size(size) => write_word(text, SIZES[size as usize]),
-        Part::Width(width) => write_word(text, WIDTHS[width as usize]),
-        Part::Cond(cond) => write_word(text, CONDS[cond as usize]),
         Part::Count(count) => write_count(text, count),
-        Part::Reg(reg) => write_word(text, REGS[reg as usize]),
         Part::Operand(operand) => write_operand(text, operand),
         Part::Mem(mem) => write_address(text, mem),
     }
@@ -220,6 +194,7 @@ fn write_part(text: &mut String, part: Part) -> Result<(), AllocError> {
 
 /// Appends an instruction.
 pub fn write_insn(text: &mut String, insn: &Insn) -> Result<(), AllocError> {
+    write_word(text, name(insn))?;
     for part in parts(insn) {
         write_part(text, part)?;
     }

@@ -52,7 +52,7 @@ fn column_of(text: &str) -> Column {
     column
 }
 
-// A machine over the code of a row, before its step.
+/// A machine over the code of a row, before its step.
 fn machine(alloc: Global, code: &[u8], before: Column) -> Result<Machine, AllocError> {
     let [rax, rcx, rdx, rbx, slot] = before.words;
     let mut mem = MemMap::new(alloc);
@@ -122,8 +122,8 @@ fn write_division(text: &mut String, div: Option<(u64, u64, u64)>) -> Result<(),
     }
 }
 
-/// Appends what a step shows: `b0` and `b1` a branch, `a` an access, to the slot where no address is told, `d` a
-/// division, `-` nothing.
+/// Appends what a step shows: `b0` and `b1` a branch, `a` an access, to the slot where no address
+/// is told, `d` a division, `-` nothing.
 pub fn write_shown(text: &mut String, leak: StepLeak) -> Result<(), AllocError> {
     if leak.branch.is_none() && leak.addr.is_none() && leak.div.is_none() {
         return text.push_str(" -");
@@ -145,7 +145,7 @@ pub fn write_answer(text: &mut String, step: Step) -> Result<(), AllocError> {
     }
 }
 
-// The columns after a step: registers with the slot and flags, and how far RIP moved.
+/// The columns after a step: registers with the slot and flags, and how far RIP moved.
 fn write_after(text: &mut String, machine: &Machine) -> Result<(), AllocError> {
     let state = machine.state;
     text.push_str(" |")?;

@@ -1,6 +1,7 @@
-//! Rows of words, instructions, their bytes and the machine, with answers from outside. Standard input has a row a line,
-//! a question and behind ` =` its answer; lines that begin with `#` say what the rows below are about. What is printed
-//! is each row that is answered otherwise, and at the end how many rows there are.
+//! Rows of words, instructions, their bytes and the machine, with answers from outside. Standard
+//! input has a row a line, a question and behind ` =` its answer; lines that begin with `#` say
+//! what the rows below are about. What is printed is each row that is answered otherwise, and at
+//! the end how many rows there are.
 #![tactic(auto)]
 
 mod insns;
@@ -30,7 +31,7 @@ impl Count {
     }
 }
 
-// Whether a row is answered otherwise; then it is printed, and the answer below it.
+/// Whether a row is answered otherwise; then it is printed, and the answer below it.
 fn is_otherwise(rt: &HostRuntime, row: &str) -> io::Result<bool> {
     let (question, wanted) = row.split_once(" =").unwrap_or((row, ""));
     let found = rows::answer(rt.alloc(), question)?;

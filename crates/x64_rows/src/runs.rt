@@ -9,7 +9,7 @@ use std::alloc::{AllocError, Global};
 use x64_insn::{Reg, State};
 use x64_machine::Machine;
 
-// Sixteen bytes below an address, all 0, and the word at it, also over the last address.
+/// Sixteen bytes below an address, all 0, and the word at it, also over the last address.
 fn stack(alloc: Global, at: u64, word: u64) -> Result<MemMap, AllocError> {
     let [a, b, c, d, e, f, g, h] = word.to_le_bytes();
     let low = at.wrapping_sub(16);
@@ -22,7 +22,7 @@ fn stack(alloc: Global, at: u64, word: u64) -> Result<MemMap, AllocError> {
     Ok(map)
 }
 
-// The registers RAX to RDI.
+/// The registers RAX to RDI.
 fn registers(text: &str) -> [u64; 16] {
     let mut regs = [0; 16];
     for (number, word) in text.split_whitespace().enumerate() {
@@ -38,7 +38,7 @@ fn memory(alloc: Global, text: &str) -> Result<MemMap, AllocError> {
     stack(alloc, hexadecimal(at), hexadecimal(word))
 }
 
-// The state of a column, as `400000 FFFFF 0 0 0 0 1000 0 6 5`: RIP, the flags and the registers.
+/// The state of a column, as `400000 FFFFF 0 0 0 0 1000 0 6 5`: RIP, the flags and the registers.
 fn state(text: &str) -> State {
     let (rip, rest) = text.split_once(' ').unwrap_or((text, ""));
     let (flag_letters, words) = rest.split_once(' ').unwrap_or((rest, ""));
@@ -55,7 +55,7 @@ fn machine(alloc: Global, code: &str, before: &str, mem: &str) -> Result<Machine
     Machine::new(alloc, code.as_slice(), BASE, state(before), mem)
 }
 
-// Runs by so many steps, or by one step whose events are shown.
+/// Runs by so many steps, or by one step whose events are shown.
 fn write_run(text: &mut String, machine: &mut Machine, word: &str) -> Result<(), AllocError> {
     if word == "step" {
         let (answer, leak) = machine.step();
@@ -72,7 +72,7 @@ fn write_runs(text: &mut String, machine: &mut Machine, counts: &str) -> Result<
     Ok(())
 }
 
-// RIP, the flags and the registers; then the word at the top of the stack.
+/// RIP, the flags and the registers; then the word at the top of the stack.
 fn write_state(text: &mut String, machine: &Machine) -> Result<(), AllocError> {
     let state = machine.state;
     let rip = state.rip;

@@ -7,7 +7,7 @@ use x64_decode::{Decoded, decode};
 use x64_encode::{encode, has_spelling};
 use x64_insn::Insn;
 
-// Whether fewer bytes are no instruction yet.
+/// Whether fewer bytes are no instruction yet.
 fn begins(spelling: &[u8]) -> bool {
     for end in 0..spelling.len() {
         match decode(&spelling[..end]) {
@@ -18,7 +18,7 @@ fn begins(spelling: &[u8]) -> bool {
     true
 }
 
-// How an instruction has so many of the bytes, where that is not all of them.
+/// How an instruction has so many of the bytes, where that is not all of them.
 fn write_length(text: &mut String, bytes: &[u8], len: u8) -> Result<(), AllocError> {
     let len = usize::from(len);
     if len > bytes.len() || !begins(&bytes[..len]) {
@@ -54,7 +54,7 @@ fn is_written_as(insn: &Insn, bytes: &[u8]) -> bool {
     has_spelling(insn) && encode(insn).as_slice() == bytes
 }
 
-// Whether bytes are those of an instruction.
+/// Whether bytes are those of an instruction.
 fn are_written(bytes: &[u8]) -> bool {
     match decode(bytes) {
         Decoded::Insn { insn, .. } => is_written_as(&insn, bytes),

@@ -44,7 +44,7 @@ fn spelled(insns: &[Insn]) -> usize {
     insns.iter().filter(|insn| has_spelling(insn)).count()
 }
 
-// No opcode has these operands or sizes.
+/// No opcode has these operands or sizes.
 fn operands() -> usize {
     spelled(&[
         Insn::Alu(Alu::Add, Size::S64, Operand::Imm(1), RAX),
@@ -63,7 +63,7 @@ fn operands() -> usize {
     ])
 }
 
-// Numbers that no field holds.
+/// Numbers that no field holds.
 fn numbers() -> usize {
     spelled(&[
         Insn::Alu(Alu::Add, Size::S8, RAX, Operand::Imm(128)),
@@ -82,7 +82,7 @@ fn numbers() -> usize {
     ])
 }
 
-// Addresses that no field holds.
+/// Addresses that no field holds.
 fn addresses() -> usize {
     spelled(&[
         load(Base::Reg(Reg::Rax), Some((Reg::Rsp, 1))),
@@ -93,12 +93,13 @@ fn addresses() -> usize {
     ])
 }
 
-/// How many of the 27 instructions have a spelling: of those with such operands, such numbers and such addresses.
+/// How many of the 27 instructions have a spelling: of those with such operands, such numbers and
+/// such addresses.
 pub fn counts() -> (usize, usize, usize) {
     (operands(), numbers(), addresses())
 }
 
-// What a move to a number answers, which no bytes are.
+/// What a move to a number answers, which no bytes are.
 fn moved_to_number(alloc: Global) -> Step {
     let mut state = State {
         regs: [0; 16],

@@ -18,7 +18,7 @@ fn size(text: &str) -> Size {
     }
 }
 
-// Three numbers of a question; 0 for those that it has not.
+/// Three numbers of a question; 0 for those that it has not.
 fn numbers(text: &str) -> [u64; 3] {
     let mut numbers = [0; 3];
     for (place, word) in text.split_whitespace().enumerate() {
@@ -91,7 +91,7 @@ fn write_product(text: &mut String, kind: &str, a: Word, b: Word) -> Result<(), 
     }
 }
 
-// Bits, bytes, and one more than the highest word.
+/// Bits, bytes, and one more than the highest word.
 fn write_size(text: &mut String, size: Size) -> Result<(), AllocError> {
     let bits = size.bits();
     let bytes = size.bytes();
@@ -117,7 +117,7 @@ fn write_residue(text: &mut String, size: Size, number: &str) -> Result<(), Allo
     }
 }
 
-// The operations on a word, or on two words of one size.
+/// The operations on a word, or on two words of one size.
 fn write_operation(
     text: &mut String,
     kind: &str,

@@ -21,8 +21,11 @@ row_has rows i number = has (slice_index_or rows i []) number
 
 -- the operation i writes the place besides, and the variable is live across it
 abbrev pub taken : List Op → List (List ℕ) → ℕ → ℕ → ℕ → Bool
-taken ops after i variable place = has_place (op_at ops i).fixed place && (not (among (op_at ops i).writes variable) && row_has after i variable)
+taken ops after i variable place =
+    has_place (op_at ops i).fixed place
+    && (not (among (op_at ops i).writes variable) && row_has after i variable)
 
 -- the operation i writes the one, and the other is live after it
 abbrev pub reaches : List Op → List (List ℕ) → ℕ → ℕ → ℕ → Bool
-reaches ops after i written variable = among (op_at ops i).writes written && row_has after i variable
+reaches ops after i written variable =
+    among (op_at ops i).writes written && row_has after i variable

@@ -14,25 +14,34 @@ LiveIn after i variable = IsTrue (row_has after i variable)
 abbrev pub IsHeld : List Op → List (List ℕ) → List (Option ℕ) → ℕ → ℕ → Type 0
 IsHeld ops after places variable place =
     (i : ℕ) × (i < length ops)
-    × (((other : ℕ) × HeldByVar ops (LiveIn after) places variable place i other) ⊎ TakenAt ops (LiveIn after) i variable place)
+    × (((other : ℕ) × HeldByVar ops (LiveIn after) places variable place i other)
+    ⊎ TakenAt ops (LiveIn after) i variable place)
 
 -- at one operation: a variable of the row conflicts with the variable
 abbrev pub VarAt : Op → List ℕ → List ℕ → ℕ → ℕ → Type 0
 VarAt op after held variable other =
     IsTrue (has held other)
-    × ((IsTrue (among op.writes other) × IsTrue (has after variable)) ⊎ (IsTrue (among op.writes variable) × IsTrue (has after other)))
+    × ((IsTrue (among op.writes other) × IsTrue (has after variable))
+    ⊎ (IsTrue (among op.writes variable) × IsTrue (has after other)))
 
 -- and none that was declared before it
 abbrev pub FirstVarAt : Op → List ℕ → List ℕ → ℕ → ℕ → Type 0
 FirstVarAt op after held variable other =
-    VarAt op after held variable other × ((earlier : ℕ) → earlier < other → VarAt op after held variable earlier → ⊥)
+    VarAt op after held variable other
+    × ((earlier : ℕ) → earlier < other → VarAt op after held variable earlier → ⊥)
 
 -- it writes the place besides, and the variable is live across it
 abbrev pub FixedAt : Op → List ℕ → ℕ → ℕ → Type 0
-FixedAt op after variable place = IsTrue (has_place op.fixed place) × IsFalse (among op.writes variable) × IsTrue (has after variable)
+FixedAt op after variable place =
+    IsTrue (has_place op.fixed place)
+    × IsFalse (among op.writes variable)
+    × IsTrue (has after variable)
 
--- what keeps the variable from the place there: nothing, the fixed write, or the first declared of the variables that do
+-- what keeps the variable from the place there: nothing, the fixed write, or the first declared of
+-- the variables that do
 abbrev pub WhoAt : Op → List ℕ → List ℕ → ℕ → ℕ → Option (Option ℕ) → Type 0
-WhoAt op after held variable place None = ((other : ℕ) → VarAt op after held variable other → ⊥) × (FixedAt op after variable place → ⊥)
-WhoAt op after held variable place (Some None) = ((other : ℕ) → VarAt op after held variable other → ⊥) × FixedAt op after variable place
+WhoAt op after held variable place None =
+    ((other : ℕ) → VarAt op after held variable other → ⊥) × (FixedAt op after variable place → ⊥)
+WhoAt op after held variable place (Some None) =
+    ((other : ℕ) → VarAt op after held variable other → ⊥) × FixedAt op after variable place
 WhoAt op after held variable place (Some (Some other)) = FirstVarAt op after held variable other
