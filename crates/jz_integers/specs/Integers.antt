@@ -14,7 +14,8 @@ use Rattle.jz_integers.specs.declared.constant.Constant.TheVariants as constant
 
 -- one of 128 bits with a sign
 abbrev pub in_range : ℤ → Option ℤ
-in_range i = if int_lt i (pos 0 -ℤ pos (2 ^ 127)) || not (int_lt i (pos (2 ^ 127))) then None else Some i
+in_range i =
+    if int_lt i (pos 0 -ℤ pos (2 ^ 127)) || not (int_lt i (pos (2 ^ 127))) then None else Some i
 
 -- rounded towards 0; where there is none there is no remainder
 abbrev pub quotient : ℤ → ℤ → Option ℤ
@@ -117,7 +118,11 @@ opposite (Some (constant.Bool b)) = truth (not b)
 abbrev Nothing : Type 0
 Nothing = Unit {0}
 
-abbrev pub value_step : Expr-F (Option Constant) Nothing Nothing Nothing (Option ℤ) → Option Constant
+-- a layer whose operands are known by their values, and whose variables by their numbers
+abbrev pub ValueLayer : Type 0
+ValueLayer = Expr-F (Option Constant) Nothing Nothing Nothing (Option ℤ)
+
+abbrev pub value_step : ValueLayer → Option Constant
 value_step (Expr-F.Num n at) = number (Some n)
 value_step (Expr-F.Expr::Bool b at) = truth b
 value_step (Expr-F.Var v) = number v
@@ -128,9 +133,18 @@ value_step (Expr-F.Not a at) = opposite a
 value_step (Expr-F.Cast size signed a at) = None
 value_step (Expr-F.Bin op a b at) = joined op a b
 
--- the value of an expression, with the numbers of its variables and constants by name and copy
-abbrev pub inline_value : (List ℕ → ℕ → Option ℤ) → Expr → Option Constant
-inline_value numbers = fold-Expr _ _ _ _ _ value_step (λ t. tt) (λ a. tt) (λ d. tt) (λ v. numbers v.name v.copy)
+-- the numbers of variables and constants by name and copy, where they are known
+abbrev pub KnownNumbers : Type 0
+KnownNumbers = List ℕ → ℕ → Option ℤ
+
+-- the value of an expression, with these numbers
+abbrev pub inline_value : KnownNumbers → Expr → Option Constant
+inline_value numbers =
+    fold-Expr _ _ _ _ _ value_step (λ t. tt) (λ a. tt) (λ d. tt) (λ v. numbers v.name v.copy)
+
+-- the value of an operation whose left part has this value
+abbrev pub value_after : KnownNumbers → BinOp → Option Constant → Expr → Option Constant
+value_after numbers op x e = joined op x (inline_value numbers e)
 
 abbrev pub the_number : Option Constant → Option ℤ
 the_number (Some (constant.Int i)) = Some i

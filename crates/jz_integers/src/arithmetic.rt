@@ -46,7 +46,8 @@ fn count(b: i128) -> Option<u32>
     }
 }
 
-// Of the numbers other than 0 only -1 stays within 128 bits times 2 to the 127, which itself does not.
+// Of the numbers other than 0 only -1 stays within 128 bits times 2 to the 127, which itself does
+// not.
 fn shifted_to_the_sign(a: i128) -> Option<i128>
     ensures { result ≡ numbers.shifted_left a 127 }
 {
@@ -116,8 +117,9 @@ fn number(n: Option<i128>) -> Option<Constant>
     }
 }
 
-/// The operation on two whole numbers. None where the exact value has no 128 bits, where the divisor is 0 or the count of a
-/// shift is not 0 to 127, and for what whole numbers do not have: signed forms, rotations, `&&` and `||`.
+/// The operation on two whole numbers. None where the exact value has no 128 bits, where the
+/// divisor is 0 or the count of a shift is not 0 to 127, and for what whole numbers do not have:
+/// signed forms, rotations, `&&` and `||`.
 pub fn on_integers(op: BinOp, a: i128, b: i128) -> Option<Constant>
     ensures { result ≡ numbers.on_integers op a b }
 {

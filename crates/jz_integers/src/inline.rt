@@ -1,6 +1,7 @@
 //! The values of inline expressions.
 ghost use Rattle.std.specs.Prelude.{◌≡◌, IfOk};
 ghost use Rattle.jz_integers.specs.Integers as values;
+ghost use Rattle.jz_integers.specs.Integers.{value_after};
 ghost use Rattle.jz_integers.specs.LeftSides.{IsSingle};
 
 use crate::Constant;
@@ -66,8 +67,9 @@ pub(super) fn on_both(op: BinOp, left: Constant, right: Constant) -> Option<Cons
     }
 }
 
-/// The value of an expression, also of one whose left side is as long as memory lets it be. None where a part that is asked
-/// for has none: where it is no inline expression, where `numbers` has no number, or where its operation gives none.
+/// The value of an expression, also of one whose left side is as long as memory lets it be. None
+/// where a part that is asked for has none: where it is no inline expression, where `numbers` has
+/// no number, or where its operation gives none.
 #[cycle(inline)]
 pub fn inline_value<N: Numbers>(
     alloc: Global,
@@ -124,7 +126,7 @@ fn joined_value<N: Numbers>(
     left: Option<Constant>,
     right: &Expr,
 ) -> Result<Option<Constant>, AllocError>
-    ensures { IfOk result (λ value. value ≡ values.joined op left (values.inline_value (N.numbers numbers.now) right.now)) }
+    ensures { IfOk result (λ value. value ≡ value_after (N.numbers numbers.now) op left right.now) }
 {
     let Some(left) = left else { return Ok(None) };
     if is_settled(op, left) {

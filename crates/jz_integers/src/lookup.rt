@@ -1,12 +1,13 @@
 //! Where the numbers of inline variables and constants come from.
-ghost use Rattle.std.specs.Prelude.{◌≡◌, ℕ, ℤ, List, Option, None};
+ghost use Rattle.std.specs.Prelude.{◌≡◌, None};
+ghost use Rattle.jz_integers.specs.Integers.{KnownNumbers};
 
 use jz_data::Text;
 
 /// What knows the numbers of inline variables and constants.
 pub trait Numbers {
     /// The number of each name and copy, where it is known.
-    ghost numbers: { Self → List ℕ → ℕ → Option ℤ };
+    ghost numbers: { Self → KnownNumbers };
 
     /// The number of what has that name, in that copy of its function's variables.
     fn number(&self, name: &Text, copy: u32) -> Option<i128>

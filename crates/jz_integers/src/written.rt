@@ -57,8 +57,9 @@ fn joined(op: BinOp, left: Option<Constant>, right: Option<Constant>) -> Option<
     }
 }
 
-/// The value of an expression, given that of the operand that stands some steps down its left side. The lower half of the
-/// steps comes first, so the calls nest as deep as the number of steps has bits.
+/// The value of an expression, given that of the operand that stands some steps down its left side.
+/// The lower half of the steps comes first, so the calls nest as deep as the number of steps has
+/// bits.
 #[cycle(written)]
 fn climbed(e: &Expr, steps: u32, value: Option<Constant>) -> Option<Constant>
     requires { value ≡ plain_value (left_at steps e.now) }
@@ -99,7 +100,8 @@ fn value_of(e: &Expr) -> Option<Constant>
     }
 }
 
-/// The number that an expression without variables is. None where a variable is asked for, or where there is no value.
+/// The number that an expression without variables is. None where a variable is asked for, or where
+/// there is no value.
 pub fn written_number(e: &Expr) -> Option<i128>
     ensures { result ≡ values.written_number e.now }
 {
