@@ -1,4 +1,5 @@
--- What a function without branches, loops and calls gives: its statements are done one after another.
+-- What a function without branches, loops and calls gives: its statements are done one after
+-- another.
 use Rattle.std.specs.Prelude.{ℕ, List, [], ◌∷◌}
 use Rattle.jz_words.specs.Memory.{Memory}
 use Rattle.jz_first_tree.specs.declared.Fun.{Fun}

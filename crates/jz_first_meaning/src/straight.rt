@@ -12,11 +12,14 @@ ghost use Rattle.jz_first_meaning.specs.StraightRuns.{straight_outcome};
 
 /// How many numbers an expression leaks depends on the expression alone.
 pub fn numbers_of_an_expression()
-    ensures { (e : Expr) (s t : State) (v w : Value) → value_of e s ≡ Ok v → value_of e t ≡ Ok w → length (numbers_of e s) ≡ length (numbers_of e t) }
+    ensures { (e : Expr) (s t : State) (v w : Value) → value_of e s ≡ Ok v → value_of e t ≡ Ok w
+        → length (numbers_of e s) ≡ length (numbers_of e t) }
 {}
 
-/// A run of assignments takes no turn, leaks an item without numbers for each, and leaves the memory as it was; its words are
-/// those that the statements give, done one after another, and where these are stuck it is stuck there.
+/// A run of assignments takes no turn, leaks an item without numbers for each, and leaves the
+/// memory as it was; its words are those that the statements give, done one after another, and
+/// where these are stuck it is stuck there.
 pub fn runs_of_assignments()
-    ensures { (p : Program) (f : Fun) (words : List ℕ) (memory : Memory) (n : ℕ) (o : FunOutcome) → IsRun p f words memory n o → o ≡ straight_outcome f words memory n }
+    ensures { (p : Program) (f : Fun) (words : List ℕ) (memory : Memory) (n : ℕ) (o : FunOutcome)
+        → IsRun p f words memory n o → o ≡ straight_outcome f words memory n }
 {}

@@ -9,8 +9,9 @@ use Rattle.jz_leak.specs.declared.transformer.Transformer.{Transformer}
 use Rattle.jz_leak.specs.RunLeaks.{Leak, over, ran, chose, chose_cut, looped, looped_cut, each, each_cut, called, called_cut, Turns, left, turn, prologue_cut, wanted, body_cut, Rounds, no_round, round, round_cut}
 use Rattle.jz_leak.specs.Applying.{apply_of, Fits}
 
--- Each enclosing list ends with the item that holds the cut. Parts that were not reached are empty, an answer that was not reached is
--- false, and the turn that was wanted has a body that is cut at once.
+-- Each enclosing list ends with the item that holds the cut. Parts that were not reached are empty,
+-- an answer that was not reached is false, and the turn that was wanted has a body that is cut at
+-- once.
 abbrev mutual
   pub items_of : Leak → List Item
   items_of over = []

@@ -1,4 +1,5 @@
--- A leak and a transformer that are walked in step. At a cut, or where a case is missing or of another kind, the walk stops.
+-- A leak and a transformer that are walked in step. At a cut, or where a case is missing or of
+-- another kind, the walk stops.
 use Rattle.std.specs.Prelude.{◌≡◌, ℕ, Bool, if◌then◌else◌, List, [], ◌∷◌, ◌++◌, map}
 use Rattle.jz_leak.specs.declared.event.Event.{Event}
 use Rattle.jz_leak.specs.declared.transformer.Out.{Out}
@@ -114,7 +115,8 @@ module _ (rsp0 : ℕ) where
   abbrev pub rounds_walk : List Leak → List Tr → Walk
   rounds_walk rounds trs = walk_in_step (map leak_walk rounds) trs
 
-  -- a call, by the numbers of its arguments, the leak of the callee and the numbers of its left sides
+  -- a call, by the numbers of its arguments, the leak of the callee and the numbers of its left
+  -- sides
   abbrev pub call_walk : List ℕ → Leak → List ℕ → Case → Walk
   call_walk ns callee ms c = layer_walk (Item-F.Call ns (leak_walk callee) ms) (out-Case c)
 
