@@ -192,3 +192,9 @@ pub record IsRun (p : Program) (f : Fun) (words : List ℕ) (memory : Memory) (n
   pub out : Outcome State Why Leak
   pub goes : Goes source (block f.body done) n (entry_state f words memory) out
   pub gives : outcome_of_body f.result out ≡ o
+
+-- this holds of each run of the function, by its words, its memory, its turns and its outcome
+abbrev pub EachRun : Program → Fun → (List ℕ → Memory → ℕ → FunOutcome → Type 0) → Type 0
+EachRun p f Holds =
+    (words : List ℕ) (memory : Memory) (n : ℕ) (o : FunOutcome)
+    → IsRun p f words memory n o → Holds words memory n o

@@ -18,7 +18,7 @@ use Rattle.jz_leak.specs.declared.walk.Reach.TheVariants.{End, Stop}
 use Rattle.jz_leak.specs.RunLeaks.{Leak, over, ran, chose, chose_cut, looped, looped_cut, each, each_cut, called, called_cut, Turns, left, turn, prologue_cut, wanted, body_cut, Rounds, no_round, round, round_cut}
 use Rattle.jz_leak.specs.Applying.{Layer, Loop, events_for, is_cut, is_cut_in_turns, is_cut_in_rounds, op_events, if_events, while_events, for_events, call_events, begun_call_events, body_events, turns_events, rounds_events, apply_of, OpFits, IfFits, WhileFits, ForFits, CallFits, BegunCallFits, CasesFit, TurnsFit, RoundsFit, Fits}
 use Rattle.jz_leak.specs.Shown.{items_of, turns_of, rounds_of, shown_of}
-use Rattle.jz_leak.specs.Walks.{Walk, done, stopped, shown, ◌▹◌, Adds, layer_walk, item_step, leak_step, turn_step, item_walk, leak_walk, turn_walk, walk_in_step, turns_walk}
+use Rattle.jz_leak.specs.InnerWalks.{Walk, done, stopped, shown, ◌▹◌, Adds, layer_walk, item_step, leak_step, turn_step, item_walk, leak_walk, turn_walk, walk_in_step, turns_walk}
 use Rattle.jz_leak.proofs.Walking.{op_walk, if_walk, while_walk, for_walk, call_walk, leak_walk_is, turn_walk_is}
 
 -- how far a walk comes

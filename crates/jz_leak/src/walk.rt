@@ -5,7 +5,7 @@ ghost use Rattle.jz_words.specs.declared.size.Size.TheVariants.{S64};
 ghost use Rattle.jz_words.specs.Words.{residue};
 ghost use Rattle.jz_leak.specs.Applying.{number_of, event_of, events_for};
 ghost use Rattle.jz_leak.specs.Shown.{AreEventsOf, ShowsFitting};
-ghost use Rattle.jz_leak.specs.Walks.{Adds, arm_walk, call_walk, choice_walk, item_walk, leak_walk, loop_of, rounds_walk, turn_walk, while_walk};
+ghost use Rattle.jz_leak.specs.InnerWalks.{Adds, arm_walk, call_walk, choice_walk, item_walk, leak_walk, loop_of, rounds_walk, turn_walk, while_walk};
 
 use crate::event::{Event, Events};
 use crate::leak::{Item, Leak, Turn};

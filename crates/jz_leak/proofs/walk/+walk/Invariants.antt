@@ -1,5 +1,5 @@
 use Rattle.std.proofs.Common.{drop, map}
-use Rattle.jz_leak.specs.Walks.{leak_walk, item_walk, loop_of, rounds_walk, walk_in_step, while_walk}
+use Rattle.jz_leak.specs.InnerWalks.{leak_walk, item_walk, loop_of, rounds_walk, walk_in_step, while_walk}
 use Rattle.jz_leak.proofs.Walking.{Continues}
 use Rattle.jz_leak.proofs.walk.+walk.Given as goal
 

@@ -1,5 +1,5 @@
 -- A leak and a transformer that are walked in step. At a cut, or where a case is missing or of
--- another kind, the walk stops.
+-- another kind, the walk stops. Private contracts alone cite what stands here.
 use Rattle.std.specs.Prelude.{◌≡◌, ℕ, Bool, if◌then◌else◌, List, [], ◌∷◌, ◌++◌, map}
 use Rattle.jz_leak.specs.declared.event.Event.{Event}
 use Rattle.jz_leak.specs.declared.transformer.Out.{Out}
