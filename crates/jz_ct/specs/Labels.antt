@@ -1,5 +1,6 @@
--- What may depend on secrets: labels of variables, and the rules that they meet. A function is constant time where some labels meet
--- them all. What a statement shows has to be public; an assignment between registers shows nothing.
+-- What may depend on secrets: labels of variables, and the rules that they meet. A function is
+-- constant time where some labels meet them all. What a statement shows has to be public; an
+-- assignment between registers shows nothing.
 use Rattle.std.specs.Prelude.{◌≡◌, List, [], ◌∷◌, Option, Some, None}
 use Rattle.jz_first_tree.specs.declared.Fun.{Fun}
 use Rattle.jz_first_tree.specs.declared.Param.{Param}
@@ -50,7 +51,8 @@ assigned_label d (Some o) r labels = either (left_label d labels) (right_label r
 abbrev pub left_labelled : Lval → Label → Labels → Labels
 left_labelled (lval.Var x) l labels = put labels (key_of x) l
 
--- the labels behind a statement; an assignment with another number of left sides than one means nothing, and changes none
+-- the labels behind a statement; an assignment with another number of left sides than one means
+-- nothing, and changes none
 abbrev pub labels_after : StmtKind → Labels → Labels
 labels_after (kind.Assign (d ∷ []) op r) labels = left_labelled d (assigned_label d op r labels) labels
 labels_after (kind.Assign _ op r) labels = labels
@@ -64,7 +66,8 @@ abbrev pub labels_at_entry : List Param → Labels
 labels_at_entry [] = λ k. public
 labels_at_entry (p ∷ ps) = put (labels_at_entry ps) (key_of p.var) (parameter_label p)
 
--- statements in their order lead from labels to labels, and what each of them shows is public: assignments show nothing
+-- statements in their order lead from labels to labels, and what each of them shows is public:
+-- assignments show nothing
 abbrev pub Labelled : List Stmt → Labels → Labels → Type 0
 Labelled [] labels last = last ≡ labels
 Labelled (s ∷ ss) labels last = Labelled ss (labels_after s.kind labels) last

@@ -3,7 +3,8 @@
 ghost use Rattle.jz_first_tree.specs.declared.Fun.{Fun};
 ghost use Rattle.jz_ct.specs.Labels.{IsConstantTime};
 
-/// A function of assignments between registers is constant time, since nothing that it shows has to be public.
+/// A function of assignments between registers is constant time, since nothing that it shows has to
+/// be public.
 pub fn assignments_are_constant_time()
     ensures { (f : Fun) → IsConstantTime f }
 {}

@@ -1,4 +1,5 @@
--- The conditions that a statement asks of the facts before it, in the order in which it is evaluated.
+-- The conditions that a statement asks of the facts before it, in the order in which it is
+-- evaluated.
 use Rattle.std.specs.Prelude.{List, [], ◌∷◌, ◌++◌, Option, Some, None, map}
 use Rattle.jz_first_tree.specs.declared.Var.{Var}
 use Rattle.jz_first_tree.specs.declared.Expr.{Expr}

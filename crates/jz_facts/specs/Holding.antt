@@ -1,5 +1,5 @@
 -- What holds at entry and after a statement.
-use Rattle.std.specs.Prelude.{List, fold}
+use Rattle.std.specs.Prelude.{ℕ, Bool, List, fold}
 use Rattle.jz_first_tree.specs.declared.Fun.{Fun}
 use Rattle.jz_first_tree.specs.declared.Param.{Param}
 use Rattle.jz_first_tree.specs.declared.Lval.{Lval}
@@ -36,3 +36,7 @@ facts_after set s = after_kind set s.kind
 -- and after statements, one after another
 abbrev pub facts_at_end : Facts → List Stmt → Facts
 facts_at_end set ss = fold facts_after set ss
+
+-- whether they say, after these statements of a function, that the variable of a name has a value
+abbrev pub is_set_after : Fun → List Stmt → List ℕ → Bool
+is_set_after f before name = facts_at_end (entry_facts f) before (Set name)

@@ -10,9 +10,9 @@ use jz_first_tree::{BinOp, Expr, Lval, Rhs, Stmt, StmtKind, Var};
 use jz_io::Span;
 use std::alloc::{AllocError, Global};
 
-/// A fact that has to be given where the text stands at the span. Where it isn't, there is an alarm of this kind about the
-/// target.
-#[derive(Drop, PartialEq, Eq)]
+/// A fact that has to be given where the text stands at the span. Where it isn't, there is an alarm
+/// of this kind about the target.
+#[derive(Drop)]
 pub struct Condition {
     pub fact: Fact,
     pub span: Span,

@@ -6,7 +6,7 @@ ghost use Rattle.jz_facts.specs.Facts.{entails};
 use jz_data::Text;
 
 /// A fact over the variables of a function.
-#[derive(Drop, PartialEq, Eq)]
+#[derive(Drop)]
 pub enum Fact {
     /// The variable of this name has a value.
     Set(Text),

@@ -3,12 +3,12 @@
 ghost use Rattle.std.specs.Prelude.{ℕ, List, IsTrue, Contains, ◌↔◌};
 ghost use Rattle.jz_first_tree.specs.declared.Fun.{Fun};
 ghost use Rattle.jz_first_tree.specs.declared.Stmt.{Stmt};
-ghost use Rattle.jz_facts.specs.declared.fact.Fact.TheVariants.{Set};
-ghost use Rattle.jz_facts.specs.Holding.{entry_facts, facts_at_end};
+ghost use Rattle.jz_facts.specs.Holding.{is_set_after};
 ghost use Rattle.jz_facts.specs.Names.{names_with_value};
 
-/// After statements of a function a variable has a value exactly where its name is that of a parameter, or of a left side of one
-/// of the statements.
+/// After statements of a function a variable has a value exactly where its name is that of a
+/// parameter, or of a left side of one of the statements.
 pub fn set_names()
-    ensures { (f : Fun) (before : List Stmt) (name : List ℕ) → IsTrue (facts_at_end (entry_facts f) before (Set name)) ↔ Contains (names_with_value f before) name }
+    ensures { (f : Fun) (before : List Stmt) (name : List ℕ)
+        → IsTrue (is_set_after f before name) ↔ Contains (names_with_value f before) name }
 {}

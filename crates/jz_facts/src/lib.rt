@@ -1,4 +1,5 @@
-//! Facts that hold wherever a run of a function stands, and the conditions that its statements ask of them.
+//! Facts that hold wherever a run of a function stands, and the conditions that its statements ask
+//! of them.
 #![tactic(auto)]
 
 mod condition;

@@ -1,5 +1,6 @@
--- The run of a source function: what its statements do, parameters in and results out. The statements are those of the text; no
--- register, no address of a variable and no code is named. The rules are those of the Jasmin documentation, for the statements that are read.
+-- The run of a source function: what its statements do, parameters in and results out. The
+-- statements are those of the text; no register, no address of a variable and no code is named. The
+-- rules are those of the Jasmin documentation, for the statements that are read.
 use Rattle.std.specs.Prelude.{◌≡◌, ◌<◌, ℕ, ◌+◌, ◌%◌, bit_xor, ℤ, pos, ◌-ℤ◌, List, [], ◌∷◌, Option, Some, None, Contains}
 use Rattle.std.specs.List.{AllZip}
 use Rattle.jz_io.specs.declared.span.Span.{Span}
@@ -70,7 +71,8 @@ operation Xor size a b = bit_xor a b
 operation Add size a b = (a + b) % modulus size
 operation Sub size a b = residue size (pos a -ℤ pos b)
 
--- the operands have one size, and a whole number takes that of the word on its left; with a whole number on the left it means nothing
+-- the operands have one size, and a whole number takes that of the word on its left; with a whole
+-- number on the left it means nothing
 abbrev pub combined : BinOp → Span → Value → Value → Evaluation Value
 combined o at (word size a) (word other b) = went [] (word size (operation o size a b))
 combined o at (word size a) (integer i) = went [] (word size (operation o size a (residue size i)))
@@ -190,3 +192,9 @@ pub record IsRun (p : Program) (f : Fun) (words : List ℕ) (memory : Memory) (n
   pub out : Outcome State Why Leak
   pub goes : Goes source (block f.body done) n (entry_state f words memory) out
   pub gives : outcome_of_body f.result out ≡ o
+
+-- this holds of each run of the function, by its words, its memory, its turns and its outcome
+abbrev pub EachRun : Program → Fun → (List ℕ → Memory → ℕ → FunOutcome → Type 0) → Type 0
+EachRun p f Holds =
+    (words : List ℕ) (memory : Memory) (n : ℕ) (o : FunOutcome)
+    → IsRun p f words memory n o → Holds words memory n o

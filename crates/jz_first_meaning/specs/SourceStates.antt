@@ -8,7 +8,8 @@ use Rattle.jz_first_tree.specs.declared.Var.{Var}
 pub use Rattle.jz_first_meaning.specs.declared.reason.Reason.{Reason}
 pub use Rattle.jz_first_meaning.specs.declared.reason.Reason.TheVariants.{Bounds, Address, Align, Init, Divide}
 
--- what an expression may be: a word of a size, by its bits as an unsigned number; a whole number that is known when the text is compiled
+-- what an expression may be: a word of a size, by its bits as an unsigned number; a whole number
+-- that is known when the text is compiled
 pub data Value : Type 0 where
   word : Size → ℕ → Value
   integer : ℤ → Value

@@ -1,5 +1,6 @@
--- What a function without branches, loops and calls gives: its statements are done one after another.
-use Rattle.std.specs.Prelude.{ℕ, List, [], ◌∷◌}
+-- What a function without branches, loops and calls gives: its statements are done one after
+-- another.
+use Rattle.std.specs.Prelude.{◌≡◌, ℕ, List, [], ◌∷◌}
 use Rattle.jz_words.specs.Memory.{Memory}
 use Rattle.jz_first_tree.specs.declared.Fun.{Fun}
 use Rattle.jz_first_tree.specs.declared.Stmt.{Stmt}
@@ -7,7 +8,7 @@ use Rattle.jz_first_tree.specs.declared.StmtKind.{StmtKind}
 use Rattle.jz_first_tree.specs.declared.StmtKind.TheVariants as kind
 use Rattle.jz_io.specs.declared.span.Span.{Span}
 use Rattle.jz_leak.specs.RunLeaks.{Leak, over, ran}
-use Rattle.jz_runs.specs.Rules.{went}
+use Rattle.jz_runs.specs.Rules.{went, End}
 use Rattle.jz_first_meaning.specs.SourceStates.{State}
 use Rattle.jz_first_meaning.specs.SourceValues.{Evaluation, and_then}
 use Rattle.jz_first_meaning.specs.SourceRuns.{assigned, entry_state, result_words, outcome_of_words, FunOutcome}
@@ -33,3 +34,8 @@ plain_leak (x ∷ xs) = ran [] (plain_leak xs)
 -- what a run comes to: the words, the memory as it was, and each of the n turns left
 abbrev pub straight_outcome : Fun → List ℕ → Memory → ℕ → FunOutcome
 straight_outcome f words memory n = outcome_of_words memory n (plain_leak f.body) (words_returned f words memory)
+
+-- it ended, with some words, the memory as it was, each of the n turns left, and an item for each statement
+abbrev pub EndsPlainly : Fun → Memory → ℕ → FunOutcome → Type 0
+EndsPlainly f memory n o =
+    (returned : List ℕ) × (o ≡ End (record { words = returned; memory = memory }) n (plain_leak f.body))

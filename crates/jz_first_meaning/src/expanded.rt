@@ -3,7 +3,7 @@
 use jz_first_tree::Fun;
 
 /// A function after expansion, and how many statements it has.
-#[derive(Drop, PartialEq, Eq)]
+#[derive(Drop)]
 pub struct Expanded {
     pub fun: Fun,
     pub count: u64,

@@ -1,22 +1,24 @@
 //! What holds of every run of statements without branches, loops and calls.
 
-ghost use Rattle.std.specs.Prelude.{◌≡◌, ℕ, List, length, Ok};
-ghost use Rattle.jz_words.specs.Memory.{Memory};
+ghost use Rattle.std.specs.Prelude.{◌≡◌, length, Ok};
 ghost use Rattle.jz_first_tree.specs.declared.Program.{Program};
 ghost use Rattle.jz_first_tree.specs.declared.Fun.{Fun};
 ghost use Rattle.jz_first_tree.specs.declared.Expr.{Expr};
 ghost use Rattle.jz_first_meaning.specs.SourceStates.{State, Value};
 ghost use Rattle.jz_first_meaning.specs.SourceValues.{value_of, numbers_of};
-ghost use Rattle.jz_first_meaning.specs.SourceRuns.{FunOutcome, IsRun};
+ghost use Rattle.jz_first_meaning.specs.SourceRuns.{EachRun};
 ghost use Rattle.jz_first_meaning.specs.StraightRuns.{straight_outcome};
 
 /// How many numbers an expression leaks depends on the expression alone.
 pub fn numbers_of_an_expression()
-    ensures { (e : Expr) (s t : State) (v w : Value) → value_of e s ≡ Ok v → value_of e t ≡ Ok w → length (numbers_of e s) ≡ length (numbers_of e t) }
+    ensures { (e : Expr) (s t : State) (v w : Value) → value_of e s ≡ Ok v → value_of e t ≡ Ok w
+        → length (numbers_of e s) ≡ length (numbers_of e t) }
 {}
 
-/// A run of assignments takes no turn, leaks an item without numbers for each, and leaves the memory as it was; its words are
-/// those that the statements give, done one after another, and where these are stuck it is stuck there.
+/// A run of assignments takes no turn, leaks an item without numbers for each, and leaves the
+/// memory as it was; its words are those that the statements give, done one after another, and
+/// where these are stuck it is stuck there.
 pub fn runs_of_assignments()
-    ensures { (p : Program) (f : Fun) (words : List ℕ) (memory : Memory) (n : ℕ) (o : FunOutcome) → IsRun p f words memory n o → o ≡ straight_outcome f words memory n }
+    ensures { (p : Program) (f : Fun)
+        → EachRun p f (λ words memory n o. o ≡ straight_outcome f words memory n) }
 {}

@@ -18,7 +18,7 @@ use Rattle.jz_leak.specs.declared.walk.Reach.TheVariants.{End, Stop}
 use Rattle.jz_leak.specs.RunLeaks.{Leak, over, ran, chose, chose_cut, looped, looped_cut, each, each_cut, called, called_cut, Turns, left, turn, prologue_cut, wanted, body_cut, Rounds, no_round, round, round_cut}
 use Rattle.jz_leak.specs.Applying.{Layer, Loop, events_for, is_cut, is_cut_in_turns, is_cut_in_rounds, op_events, if_events, while_events, for_events, call_events, begun_call_events, body_events, turns_events, rounds_events, apply_of, OpFits, IfFits, WhileFits, ForFits, CallFits, BegunCallFits, CasesFit, TurnsFit, RoundsFit, Fits}
 use Rattle.jz_leak.specs.Shown.{items_of, turns_of, rounds_of, shown_of}
-use Rattle.jz_leak.specs.Walks.{Walk, done, stopped, shown, ◌▹◌, Adds, layer_walk, item_step, leak_step, turn_step, item_walk, leak_walk, turn_walk, walk_in_step, turns_walk}
+use Rattle.jz_leak.specs.InnerWalks.{Walk, done, stopped, shown, ◌▹◌, Adds, layer_walk, item_step, leak_step, turn_step, item_walk, leak_walk, turn_walk, walk_in_step, turns_walk}
 use Rattle.jz_leak.proofs.Walking.{op_walk, if_walk, while_walk, for_walk, call_walk, leak_walk_is, turn_walk_is}
 
 -- how far a walk comes
@@ -201,7 +201,7 @@ body_applied tr leak rsp0 l e f = ap (λ x. leak_walk rsp0 x tr.body) (sym e) �
 
 -- the events before the body and those of the body
 up_to_body : (tr : Transformer) (leak : ShownLeak) (rsp0 : ℕ) (l : Leak) → shown_of l ≡ leak → Fits tr l → (none : List ℕ) (start first mid : List Event) (reach : Reach)
-    → none ≡ [] → start ≡ [] → first ≡ start ++ events_for none rsp0 tr.before → Adds first mid reach (leak_walk rsp0 leak tr.body)
+    → none ≡ [] → start ≡ [] → first ≡ start ++ events_for none rsp0 tr.before → Adds first mid (leak_walk rsp0 leak tr.body) reach
     → (mid ≡ events_for [] rsp0 tr.before ++ body_events l rsp0 tr.body.cases) × (reach ≡ came (is_cut l))
 up_to_body tr leak rsp0 l e f none start first mid reach empty begun one adds =
     let walked = body_applied tr leak rsp0 l e f in
@@ -218,7 +218,7 @@ without_last false head last e = absurd (e refl)
 
 -- the body ended, and the last list was put behind it
 pub all_applied : (tr : Transformer) (leak : ShownLeak) (rsp0 : ℕ) (l : Leak) → shown_of l ≡ leak → Fits tr l → (none : List ℕ) (start first mid new : List Event) (reach : Reach)
-    → none ≡ [] → start ≡ [] → first ≡ start ++ events_for none rsp0 tr.before → Adds first mid reach (leak_walk rsp0 leak tr.body)
+    → none ≡ [] → start ≡ [] → first ≡ start ++ events_for none rsp0 tr.before → Adds first mid (leak_walk rsp0 leak tr.body) reach
     → reach ≡ End → new ≡ mid ++ events_for none rsp0 tr.after → new ≡ apply_of tr l rsp0
 all_applied tr leak rsp0 l e f none start first mid new reach empty begun one adds ended more =
     let known = up_to_body tr leak rsp0 l e f none start first mid reach empty begun one adds in
@@ -227,7 +227,7 @@ all_applied tr leak rsp0 l e f none start first mid new reach empty begun one ad
 
 -- the body was cut
 pub cut_applied : (tr : Transformer) (leak : ShownLeak) (rsp0 : ℕ) (l : Leak) → shown_of l ≡ leak → Fits tr l → (none : List ℕ) (start first mid : List Event) (reach : Reach)
-    → none ≡ [] → start ≡ [] → first ≡ start ++ events_for none rsp0 tr.before → Adds first mid reach (leak_walk rsp0 leak tr.body)
+    → none ≡ [] → start ≡ [] → first ≡ start ++ events_for none rsp0 tr.before → Adds first mid (leak_walk rsp0 leak tr.body) reach
     → (reach ≡ End → ⊥) → mid ≡ apply_of tr l rsp0
 cut_applied tr leak rsp0 l e f none start first mid reach empty begun one adds not_ended =
     let known = up_to_body tr leak rsp0 l e f none start first mid reach empty begun one adds in

@@ -11,7 +11,8 @@ use Rattle.std.specs.FinMap.{get, find, from_entries, get-from_entries, get-inse
 use Rattle.jz_leak.specs.declared.segment.Segment.{Segment}
 use Rattle.std.specs.Option.{option_or}
 use Rattle.jz_leak.specs.MemoryMap.{byte_from}
-use Rattle.jz_leak.specs.MemoryMapSegments.{entries_from, all_entries, byte_of, read_at, index_of, with_byte}
+use Rattle.jz_leak.specs.MemoryMapSegments.{entries_from, all_entries}
+use Rattle.jz_leak.specs.InnerSegments.{byte_of, read_at, index_of, with_byte}
 
 test_else : (b : Bool) (v : ℕ) (x y z : Option ℕ) → x ≡ option_or y z → cond b (Some v) x ≡ option_or (cond b (Some v) y) z
 test_else true v x y z h = refl

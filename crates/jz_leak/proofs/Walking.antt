@@ -12,7 +12,7 @@ use Rattle.jz_leak.specs.declared.leak.Item.TheVariants as item
 use Rattle.jz_leak.specs.declared.leak.Item.TheOpen.{Item-F}
 use Rattle.jz_leak.specs.declared.leak.Item.TheFolds.{fold-roll-Item, fold-roll-Leak, fold-roll-Turn}
 use Rattle.jz_leak.specs.Applying.{Loop}
-use Rattle.jz_leak.specs.Walks.{Walk, layer_walk, item_step, leak_step, turn_step, item_walk, leak_walk, turn_walk, walk_in_step}
+use Rattle.jz_leak.specs.InnerWalks.{Walk, layer_walk, item_step, leak_step, turn_step, item_walk, leak_walk, turn_walk, walk_in_step}
 
 -- the events so far and those of the rest are those of before and all of them
 pub record Continues (old now : List Event) (rest all : Walk) : Type 0 where

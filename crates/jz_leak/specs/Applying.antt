@@ -1,5 +1,5 @@
--- What a transformer makes of a leak: the leaks that fit it, and the machine's events that it gives. A form sees the numbers of its
--- item, constants and the stack pointer at entry.
+-- What a transformer makes of a leak: the leaks that fit it, and the machine's events that it
+-- gives. A form sees the numbers of its item, constants and the stack pointer at entry.
 use Rattle.std.specs.Prelude.{ℕ, ◌+◌, ◌*◌, ◌<◌, ◌≡◌, Bool, true, false, if◌then◌else◌, pos, ◌+ℤ◌, List, [], ◌∷◌, ◌++◌, map, length, slice_index, All, ⊤}
 use Rattle.jz_words.specs.declared.size.Size.TheVariants.{S64}
 use Rattle.jz_words.specs.Words.{residue}
@@ -209,7 +209,8 @@ BegunCallFits ns CalleeFits _ = ⊥
 abbrev pub HeadFits : List ℕ → (List Case → Type 0) → Loop → Type 0
 HeadFits ns PrologueFits loop = PrologueFits loop.prologue.cases × OutsFit ns loop.test × OutsFit ns loop.more_outs × OutsFit ns loop.leave_outs
 
--- Up to the cut a case for each item, of its kind; a part holds the cut exactly where its item says so, as nothing stands behind a cut.
+-- Up to the cut a case for each item, of its kind; a part holds the cut exactly where its item says
+-- so, as nothing stands behind a cut.
 abbrev mutual
   pub CasesFit : Leak → List Case → Type 0
   CasesFit over [] = ⊤

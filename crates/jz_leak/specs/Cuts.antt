@@ -1,4 +1,5 @@
--- Which leaks runs have: the cut, where there is one, is the last item of each list that is open, and nothing else is cut.
+-- Which leaks runs have: the cut, where there is one, is the last item of each list that is open,
+-- and nothing else is cut.
 use Rattle.std.specs.Prelude.{⊤}
 use Rattle.jz_leak.specs.RunLeaks.{Leak, over, ran, chose, chose_cut, looped, looped_cut, each, each_cut, called, called_cut, Turns, left, turn, prologue_cut, wanted, body_cut, Rounds, no_round, round, round_cut}
 

@@ -4,4 +4,5 @@ pub mod RunLeaks
 pub mod Cuts
 pub mod Applying
 pub mod Shown
-pub mod Walks
+pub mod InnerWalks
+pub mod InnerSegments

@@ -1,4 +1,5 @@
--- What a run leaks. Where the run is cut, the last item of each open list holds the cut, and nothing stands behind it.
+-- What a run leaks. Where the run is cut, the last item of each open list holds the cut, and
+-- nothing stands behind it.
 use Rattle.std.specs.Prelude.{ℕ, Bool, List}
 
 mutual
@@ -21,7 +22,8 @@ mutual
     called : List ℕ → Leak → List ℕ → Leak → Leak
     called_cut : List ℕ → Leak → Leak
 
-  -- the turns of a `while`: the leak of the prologue and the numbers of the test, and where that is true the leak of the body
+  -- the turns of a `while`: the leak of the prologue and the numbers of the test, and where that is
+  -- true the leak of the body
   pub data Turns : Type 0 where
     -- the test is false
     left : Leak → List ℕ → Turns

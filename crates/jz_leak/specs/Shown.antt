@@ -1,15 +1,17 @@
 -- The leak of a run, as it is shown.
-use Rattle.std.specs.Prelude.{◌≡◌, List, [], ◌∷◌, true, false}
+use Rattle.std.specs.Prelude.{◌≡◌, ℕ, List, [], ◌∷◌, true, false}
+use Rattle.jz_leak.specs.declared.event.Event.{Event}
 use Rattle.jz_leak.specs.declared.leak.Leak.{Leak as ShownLeak}
 use Rattle.jz_leak.specs.declared.leak.Item.{Item}
 use Rattle.jz_leak.specs.declared.leak.Item.TheVariants as item
 use Rattle.jz_leak.specs.declared.leak.Turn.{Turn}
 use Rattle.jz_leak.specs.declared.transformer.Transformer.{Transformer}
 use Rattle.jz_leak.specs.RunLeaks.{Leak, over, ran, chose, chose_cut, looped, looped_cut, each, each_cut, called, called_cut, Turns, left, turn, prologue_cut, wanted, body_cut, Rounds, no_round, round, round_cut}
-use Rattle.jz_leak.specs.Applying.{Fits}
+use Rattle.jz_leak.specs.Applying.{apply_of, Fits}
 
--- Each enclosing list ends with the item that holds the cut. Parts that were not reached are empty, an answer that was not reached is
--- false, and the turn that was wanted has a body that is cut at once.
+-- Each enclosing list ends with the item that holds the cut. Parts that were not reached are empty,
+-- an answer that was not reached is false, and the turn that was wanted has a body that is cut at
+-- once.
 abbrev mutual
   pub items_of : Leak → List Item
   items_of over = []
@@ -45,3 +47,7 @@ shown_of l = record { items = items_of l }
 -- what is shown is a leak that fits the transformer
 abbrev pub ShowsFitting : Transformer → ShownLeak → Type 0
 ShowsFitting tr shown = (l : Leak) × (shown_of l ≡ shown) × Fits tr l
+
+-- where what is shown is a leak that fits the transformer, these are the events that it gives of it
+abbrev pub AreEventsOf : Transformer → ShownLeak → ℕ → List Event → Type 0
+AreEventsOf tr shown rsp0 events = (l : Leak) → shown_of l ≡ shown → Fits tr l → events ≡ apply_of tr l rsp0

@@ -1,6 +1,8 @@
+//! What a step of the machine shows.
+
 use jz_data::Seq;
 
-/// What a step of the machine shows.
+/// An event that a step shows.
 #[derive(Clone, Copy, PartialEq, Eq)]
 pub enum Event {
     /// Whether a conditional jump was taken.

@@ -1,16 +1,18 @@
+//! What a run leaks, as it is shown.
+
 use jz_data::Seq;
 
 /// What a run leaks: an item for each statement that ran and that leaks.
 #[cycle(leak)]
-#[derive(Drop, PartialEq, Eq)]
+#[derive(Drop)]
 pub struct Leak {
     pub items: Seq<Item>,
 }
 
-/// What a statement leaks. Numbers are, in the order of evaluation, the index of each array access, the address of each memory
-/// access, and high word, low word and divisor of each division.
+/// What a statement leaks. Numbers are, in the order of evaluation, the index of each array access,
+/// the address of each memory access, and high word, low word and divisor of each division.
 #[cycle(leak)]
-#[derive(Drop, PartialEq, Eq)]
+#[derive(Drop)]
 pub enum Item {
     /// The numbers of an operation.
     Op(Seq<u64>),
@@ -28,7 +30,7 @@ pub enum Item {
 
 /// A turn of a `while`. Where the condition is false, the body's leak is empty.
 #[cycle(leak)]
-#[derive(Drop, PartialEq, Eq)]
+#[derive(Drop)]
 pub struct Turn {
     pub prologue: Leak,
     /// The numbers of the condition.

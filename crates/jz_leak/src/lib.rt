@@ -1,4 +1,5 @@
-//! Leakage: events of the machine, memory, and transformers from the leakage of the source to events.
+//! Leakage: events of the machine, memory, and transformers from the leakage of the source to
+//! events.
 #![tactic(auto)]
 
 mod event;

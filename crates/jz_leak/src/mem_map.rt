@@ -1,10 +1,10 @@
 //! Memory as a finite map from addresses to bytes, kept in segments.
 
-ghost use Rattle.std.specs.Prelude.{◌≡◌, ℕ, ◌+◌, ◌<◌, ◌≤◌, ◌^◌, ◌*◌, length, true, IfOk, IfSome, OnOk, OnErr, is_some, if◌then◌else◌, None};
+ghost use Rattle.std.specs.Prelude.{◌≡◌, ◌+◌, ◌<◌, ◌≤◌, ◌^◌, ◌*◌, length, true, IfOk, IfSome, OnOk, OnErr, is_some, if◌then◌else◌};
 ghost use Rattle.std.specs.FinMap as map;
 ghost use Rattle.jz_words.specs.Sizes.{bytes_of, modulus};
 ghost use Rattle.jz_words.specs.Memory.{loaded, all_valid, stored};
-ghost use Rattle.jz_leak.specs.MemoryMap.{AddsBytes};
+ghost use Rattle.jz_leak.specs.MemoryMap.{AddsBytes, AreFree};
 
 use crate::segment::{Segment, copied, index_of, read_at, set_byte};
 use jz_data::Seq;
@@ -54,7 +54,7 @@ impl MemMap {
 
     /// Adds bytes from an address on, all of them new; those at or past 2^64 are dropped.
     pub fn add(&mut self, addr: u64, bytes: &[u8]) -> Result<(), AllocError>
-        requires { (q : ℕ) → addr ≤ q → q < addr + length bytes.now → q < 2 ^ 64 → map.get self.old q ≡ None }
+        requires { AreFree self.old addr (length bytes.now) }
         ensures ok { OnOk result (AddsBytes self.old self.new addr bytes.now) }
         ensures err { OnErr result (self.new ≡ self.old) }
     {
@@ -96,7 +96,8 @@ impl MemMap {
         self.load_bytes(addr, byte_count(size))
     }
 
-    /// Writes the lowest bytes of a number, where each byte of the access is valid; else changes nothing.
+    /// Writes the lowest bytes of a number, where each byte of the access is valid; else changes
+    /// nothing.
     pub fn store(&mut self, addr: u64, size: Size, value: u64) -> bool
         ensures valid { result ≡ all_valid self.old addr (bytes_of size) }
         ensures bytes { self.new ≡ (if result then stored self.old addr (bytes_of size) value else self.old) }

@@ -2,7 +2,7 @@
 
 ghost use Rattle.std.specs.Prelude.{◌≡◌, ◌+◌, ◌-◌, ◌<◌, ◌≤◌, ℕ, [], Some, IfOk, IfSome, IfNone, is_some, length, slice_get, slice_set};
 ghost use Rattle.jz_leak.specs.MemoryMap.{byte_from};
-ghost use Rattle.jz_leak.specs.MemoryMapSegments.{byte_of, read_at, index_of, with_byte};
+ghost use Rattle.jz_leak.specs.InnerSegments.{byte_of, read_at, index_of, with_byte};
 
 use jz_data::Seq;
 use std::alloc::{AllocError, Global};

@@ -1,7 +1,9 @@
+//! What a leak becomes: trees of events whose numbers are forms over leaked numbers.
+
 use jz_data::Seq;
 
 /// A number of an event, by the leaked numbers of a statement and the stack pointer at entry.
-#[derive(Clone, Copy, PartialEq, Eq)]
+#[derive(Clone, Copy)]
 pub enum Form {
     /// A constant.
     Num(u64),
@@ -9,12 +11,13 @@ pub enum Form {
     Leaked(u64),
     /// The stack pointer at entry plus an offset, modulo 2^64.
     Frame(i64),
-    /// The stack pointer at entry plus an offset, plus a factor times the leaked number at a place, modulo 2^64.
+    /// The stack pointer at entry plus an offset, plus a factor times the leaked number at a place,
+    /// modulo 2^64.
     Indexed(i64, u64, u64),
 }
 
 /// An event of the machine, with a form for each of its numbers.
-#[derive(Clone, Copy, PartialEq, Eq)]
+#[derive(Clone, Copy)]
 pub enum Out {
     /// Whether the jump is taken is fixed here.
     Branch(bool),
@@ -26,14 +29,15 @@ pub enum Out {
 
 /// One case for each item of a leak.
 #[cycle(transformer)]
-#[derive(Drop, PartialEq, Eq)]
+#[derive(Drop)]
 pub struct Tr {
     pub cases: Seq<Case>,
 }
 
-/// What an item of a leak becomes. The lists of a condition and of a call see the numbers of that condition or call.
+/// What an item of a leak becomes. The lists of a condition and of a call see the numbers of that
+/// condition or call.
 #[cycle(transformer)]
-#[derive(Drop, PartialEq, Eq)]
+#[derive(Drop)]
 pub enum Case {
     /// The events of an operation.
     Op(Seq<Out>),
@@ -45,7 +49,8 @@ pub enum Case {
         else_outs: Seq<Out>,
         else_tr: Tr,
     },
-    /// In each turn the prologue, the events of the condition, and then events and body where it is true, events where it is false.
+    /// In each turn the prologue, the events of the condition, and then events and body where it is
+    /// true, events where it is false.
     While {
         prologue: Tr,
         test: Seq<Out>,
@@ -63,8 +68,9 @@ pub enum Case {
     },
 }
 
-/// The transformer of a function: the events before its body, those of the body, and those after it.
-#[derive(Drop, PartialEq, Eq)]
+/// The transformer of a function: the events before its body, those of the body, and those after
+/// it.
+#[derive(Drop)]
 pub struct Transformer {
     pub before: Seq<Out>,
     pub body: Tr,

@@ -1,13 +1,11 @@
 //! A transformer applied to a leak.
-ghost use Rattle.std.specs.Prelude.{◌≡◌, ◌++◌, ℕ, [], pos, ◌+ℤ◌, map, IfOk, OnOk, slice_index};
+
+ghost use Rattle.std.specs.Prelude.{◌≡◌, ◌++◌, pos, ◌+ℤ◌, IfOk, OnOk, slice_index};
 ghost use Rattle.jz_words.specs.declared.size.Size.TheVariants.{S64};
 ghost use Rattle.jz_words.specs.Words.{residue};
-ghost use Rattle.jz_leak.specs.RunLeaks as run;
-ghost use Rattle.jz_leak.specs.Applying.{number_of, event_of, events_for, apply_of, Loop, Fits};
-ghost use Rattle.jz_leak.specs.Shown.{shown_of, ShowsFitting};
-ghost use Rattle.jz_leak.specs.declared.leak.Item.TheOpen.{Item-F};
-ghost use Rattle.jz_leak.specs.declared.transformer.Case.TheViews.{out-Case};
-ghost use Rattle.jz_leak.specs.Walks.{layer_walk, Adds, leak_walk, item_walk, turn_walk, walk_in_step, turns_walk, shown, ◌▹◌};
+ghost use Rattle.jz_leak.specs.Applying.{number_of, event_of, events_for};
+ghost use Rattle.jz_leak.specs.Shown.{AreEventsOf, ShowsFitting};
+ghost use Rattle.jz_leak.specs.InnerWalks.{Adds, arm_walk, call_walk, choice_walk, item_walk, leak_walk, loop_of, rounds_walk, turn_walk, while_walk};
 
 use crate::event::{Event, Events};
 use crate::leak::{Item, Leak, Turn};
@@ -24,7 +22,18 @@ pub enum Reach {
     Stop,
 }
 
-// The leaked number at a place, from 0. A leak that fits has it; of another the answer is 0 where there is none.
+/// The parts of the case of a `while`.
+#[derive(Clone, Copy)]
+pub struct LoopParts<'a> {
+    pub prologue: &'a Tr,
+    pub test: &'a Seq<Out>,
+    pub more_outs: &'a Seq<Out>,
+    pub body: &'a Tr,
+    pub leave_outs: &'a Seq<Out>,
+}
+
+// The leaked number at a place, from 0. A leak that fits has it; of another the answer is 0 where
+// there is none.
 fn leaked(numbers: &[u64], place: u64) -> u64
     ensures { result ≡ slice_index numbers.now place }
 {
@@ -86,7 +95,8 @@ fn emit(
 // Adds the events of the items, each by its case, up to where the walk stops.
 #[cycle(walk)]
 fn walk_leak(events: &mut Vec<Event>, rsp: u64, leak: &Leak, tr: &Tr) -> Result<Reach, AllocError>
-    ensures { IfOk result (λ reach. Adds events.old.items events.new.items reach (leak_walk rsp leak.now tr.now)) }
+    ensures { IfOk result (Adds events.old.items events.new.items
+        (leak_walk rsp leak.now tr.now)) }
 {
     for (i, item) in leak.items.as_slice().iter().enumerate() {
         match tr.cases.as_slice().get(i) {
@@ -110,7 +120,8 @@ fn walk_item(
     item: &Item,
     case: &Case,
 ) -> Result<Reach, AllocError>
-    ensures { IfOk result (λ reach. Adds events.old.items events.new.items reach (item_walk rsp item.now case.now)) }
+    ensures { IfOk result (Adds events.old.items events.new.items
+        (item_walk rsp item.now case.now)) }
 {
     match item {
         Item::Cut => Ok(Reach::Stop),
@@ -130,7 +141,16 @@ fn walk_item(
                 body,
                 leave_outs,
             } => walk_turns(
-                events, rsp, turns, prologue, test, more_outs, body, leave_outs,
+                events,
+                rsp,
+                turns,
+                &LoopParts {
+                    prologue,
+                    test,
+                    more_outs,
+                    body,
+                    leave_outs,
+                },
             ),
             _ => Ok(Reach::Stop),
         },
@@ -154,8 +174,8 @@ fn walk_choice(
     arm: &Leak,
     case: &Case,
 ) -> Result<Reach, AllocError>
-    ensures { IfOk result (λ reach. Adds events.old.items events.new.items reach
-        (layer_walk rsp (Item-F.If numbers.now answer (leak_walk rsp arm.now)) (out-Case case.now))) }
+    ensures { IfOk result (Adds events.old.items events.new.items
+        (choice_walk rsp numbers.now answer arm.now case.now)) }
 {
     match case {
         Case::If {
@@ -186,8 +206,8 @@ fn walk_call(
     results_numbers: &Seq<u64>,
     case: &Case,
 ) -> Result<Reach, AllocError>
-    ensures { IfOk result (λ reach. Adds events.old.items events.new.items reach
-        (layer_walk rsp (Item-F.Call numbers.now (leak_walk rsp callee.now) results_numbers.now) (out-Case case.now))) }
+    ensures { IfOk result (Adds events.old.items events.new.items
+        (call_walk rsp numbers.now callee.now results_numbers.now case.now)) }
 {
     match case {
         Case::Call {
@@ -215,8 +235,8 @@ fn walk_arm(
     leak: &Leak,
     tr: &Tr,
 ) -> Result<Reach, AllocError>
-    ensures { IfOk result (λ reach. Adds events.old.items events.new.items reach
-        (shown (events_for numbers.now rsp outs.now) ▹ leak_walk rsp leak.now tr.now)) }
+    ensures { IfOk result (Adds events.old.items events.new.items
+        (arm_walk rsp numbers.now outs.now leak.now tr.now)) }
 {
     emit(events, rsp, numbers, outs)?;
     walk_leak(events, rsp, leak, tr)
@@ -230,7 +250,8 @@ fn walk_rounds(
     rounds: &Seq<Leak>,
     trs: &Seq<Tr>,
 ) -> Result<Reach, AllocError>
-    ensures { IfOk result (λ reach. Adds events.old.items events.new.items reach (walk_in_step (map (leak_walk rsp) rounds.now) trs.now)) }
+    ensures { IfOk result (Adds events.old.items events.new.items
+        (rounds_walk rsp rounds.now trs.now)) }
 {
     for (i, round) in rounds.as_slice().iter().enumerate() {
         match trs.as_slice().get(i) {
@@ -252,19 +273,13 @@ fn walk_turns(
     events: &mut Vec<Event>,
     rsp: u64,
     turns: &Seq<Turn>,
-    prologue: &Tr,
-    test: &Seq<Out>,
-    more_outs: &Seq<Out>,
-    body: &Tr,
-    leave_outs: &Seq<Out>,
+    parts: &LoopParts<'_>,
 ) -> Result<Reach, AllocError>
-    ensures { IfOk result (λ reach. Adds events.old.items events.new.items reach (turns_walk (map (turn_walk rsp) turns.now)
-        (record { prologue = prologue.now; test = test.now; more_outs = more_outs.now; body = body.now; leave_outs = leave_outs.now }))) }
+    ensures { IfOk result (Adds events.old.items events.new.items
+        (while_walk rsp turns.now (loop_of parts.now))) }
 {
     for turn in turns.as_slice() {
-        let reach = walk_turn(
-            events, rsp, turn, prologue, test, more_outs, body, leave_outs,
-        )?;
+        let reach = walk_turn(events, rsp, turn, parts)?;
         if reach != Reach::End {
             return Ok(reach);
         }
@@ -272,30 +287,34 @@ fn walk_turns(
     Ok(Reach::End)
 }
 
-// The events of a turn: the prologue's, the condition's, and then the list and the body of a turn that is taken, or the list of leaving.
+// The events of a turn: the prologue's, the condition's, and then the list and the body of a turn
+// that is taken, or the list of leaving.
 #[cycle(walk)]
 fn walk_turn(
     events: &mut Vec<Event>,
     rsp: u64,
     turn: &Turn,
-    prologue: &Tr,
-    test: &Seq<Out>,
-    more_outs: &Seq<Out>,
-    body: &Tr,
-    leave_outs: &Seq<Out>,
+    parts: &LoopParts<'_>,
 ) -> Result<Reach, AllocError>
-    ensures { IfOk result (λ reach. Adds events.old.items events.new.items reach (turn_walk rsp turn.now
-        (record { prologue = prologue.now; test = test.now; more_outs = more_outs.now; body = body.now; leave_outs = leave_outs.now }))) }
+    ensures { IfOk result (Adds events.old.items events.new.items
+        (turn_walk rsp turn.now (loop_of parts.now))) }
 {
-    let reach = walk_leak(events, rsp, &turn.prologue, prologue)?;
+    let reach = walk_leak(events, rsp, &turn.prologue, parts.prologue)?;
     if reach != Reach::End {
         return Ok(reach);
     }
-    emit(events, rsp, &turn.numbers, test)?;
+    emit(events, rsp, &turn.numbers, parts.test)?;
     if turn.more {
-        walk_arm(events, rsp, &turn.numbers, more_outs, &turn.body, body)
+        walk_arm(
+            events,
+            rsp,
+            &turn.numbers,
+            parts.more_outs,
+            &turn.body,
+            parts.body,
+        )
     } else {
-        emit(events, rsp, &turn.numbers, leave_outs)?;
+        emit(events, rsp, &turn.numbers, parts.leave_outs)?;
         Ok(Reach::End)
     }
 }
@@ -307,7 +326,7 @@ pub(crate) fn walk_transformer(
     leak: &Leak,
     rsp: u64,
 ) -> Result<Events, AllocError>
-    ensures { IfOk result (λ events. (l : run.Leak) → shown_of l ≡ leak.now → Fits tr.now l → events ≡ apply_of tr.now l rsp) }
+    ensures { IfOk result (AreEventsOf tr.now leak.now rsp) }
 {
     let mut events = Vec::new(alloc);
     let none = Seq::new(alloc);
@@ -319,11 +338,11 @@ pub(crate) fn walk_transformer(
     Ok(Seq::from_vec(events))
 }
 
-/// The events that a transformer gives of a leak that fits it, with a stack pointer at entry. The depth of the recursion is that of the
-/// leak, which is bounded by the nesting of the text.
+/// The events that a transformer gives of a leak that fits it, with a stack pointer at entry. The
+/// depth of the recursion is that of the leak, which is bounded by the nesting of the text.
 pub fn apply(alloc: Global, tr: &Transformer, leak: &Leak, rsp: u64) -> Result<Events, AllocError>
     requires { ShowsFitting tr.now leak.now }
-    ensures { IfOk result (λ events. (l : run.Leak) → shown_of l ≡ leak.now → Fits tr.now l → events ≡ apply_of tr.now l rsp) }
+    ensures { IfOk result (AreEventsOf tr.now leak.now rsp) }
 {
     walk_transformer(alloc, tr, leak, rsp)
 }

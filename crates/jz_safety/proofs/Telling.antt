@@ -34,14 +34,10 @@ use Rattle.jz_facts.specs.Facts.{Facts, no_facts, with_fact}
 use Rattle.jz_facts.specs.Holding.{with_parameters, entry_facts, after_kind, facts_after, facts_at_end}
 use Rattle.jz_facts.specs.Conditions.{read_of, right_conditions, left_conditions, kind_conditions, conditions_of, result_conditions}
 use Rattle.jz_safety.specs.declared.alarm.Alarm.{Alarm}
-use Rattle.jz_safety.specs.Alarms.{alarm_of, alarms_at, body_alarms, alarms_of, HasNoAlarm, IsFirstAlarm}
+use Rattle.jz_safety.specs.Alarms.{alarm_of, why_of, alarms_at, body_alarms, alarms_of, HasNoAlarm, IsFirstAlarm}
 use Rattle.jz_safety.specs.Resolved.{AssignsToDeclared, IsResolved}
 
 -- ---- what alarms show
-
--- where and why a run is stuck at an alarm
-abbrev pub why_of : Alarm → Why
-why_of a = record { span = a.span; reason = a.kind }
 
 -- with no alarm there is a value, which the fact is about; else it is stuck at the first of them
 abbrev pub Shows : {A : Type 0} → List Alarm → (A → Type 0) → Evaluation A → Type 0

@@ -1,7 +1,10 @@
 -- The alarms of a function, in the order in which it is evaluated.
 use Rattle.std.specs.Prelude.{◌≡◌, not, List, [], ◌∷◌, ◌++◌, map, filter}
+use Rattle.jz_data.specs.declared.failure.Failure.{Failure}
+use Rattle.jz_data.specs.Failures.{IfRefused}
 use Rattle.jz_first_tree.specs.declared.Fun.{Fun}
 use Rattle.jz_first_tree.specs.declared.Stmt.{Stmt}
+use Rattle.jz_first_meaning.specs.SourceStates.{Why}
 use Rattle.jz_facts.specs.declared.condition.Condition.{Condition}
 use Rattle.jz_facts.specs.Facts.{Facts}
 use Rattle.jz_facts.specs.Holding.{entry_facts, facts_after, facts_at_end}
@@ -11,6 +14,10 @@ use Rattle.jz_safety.specs.declared.alarm.Alarm.{Alarm}
 -- what is told of a condition
 abbrev pub alarm_of : Condition → Alarm
 alarm_of c = record { span = c.span; kind = c.kind; target = c.target }
+
+-- where and why a run is stuck by an alarm
+abbrev pub why_of : Alarm → Why
+why_of a = record { span = a.span; reason = a.kind }
 
 -- an alarm for each of the conditions that the facts don't give
 abbrev pub alarms_at : Facts → List Condition → List Alarm
@@ -28,6 +35,10 @@ alarms_of f = body_alarms (entry_facts f) f.body ++ alarms_at (facts_at_end (ent
 -- it is the first of the list
 abbrev pub IsFirst : List Alarm → Alarm → Type 0
 IsFirst alarms a = (later : List Alarm) × (alarms ≡ a ∷ later)
+
+-- a refusal is by the first of the list
+abbrev pub TellsFirst : List Alarm → Failure Alarm → Type 0
+TellsFirst alarms failure = IfRefused failure (IsFirst alarms)
 
 -- the function has no alarm
 abbrev pub HasNoAlarm : Fun → Type 0

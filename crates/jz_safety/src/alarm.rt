@@ -4,7 +4,8 @@ use jz_data::Text;
 use jz_first_meaning::Reason;
 use jz_io::Span;
 
-/// A condition that the facts don't give: where it is asked, what would be wrong, and of which variable.
+/// A condition that the facts don't give: where it is asked, what would be wrong, and of which
+/// variable.
 #[derive(Drop, PartialEq, Eq)]
 pub struct Alarm {
     pub span: Span,

@@ -1,10 +1,9 @@
 //! The search for the first alarm.
 
 ghost use Rattle.std.specs.Prelude.{◌≡◌, [], IfOk, OnOk, IfErr};
-ghost use Rattle.jz_data.specs.Failures.{IfRefused};
 ghost use Rattle.jz_facts.specs.Facts.{facts_of};
 ghost use Rattle.jz_facts.specs.Holding.{facts_at_end};
-ghost use Rattle.jz_safety.specs.Alarms.{alarms_at, body_alarms, IsFirst, HasNoAlarm, IsFirstAlarm};
+ghost use Rattle.jz_safety.specs.Alarms.{alarms_at, alarms_of, body_alarms, HasNoAlarm, TellsFirst};
 
 use crate::alarm::Alarm;
 use crate::certificate::Safe;
@@ -16,7 +15,7 @@ use std::alloc::Global;
 
 fn check_conditions(set: &FactSet, asked: &Seq<Condition>) -> Result<(), Failure<Alarm>>
     ensures met { OnOk result (alarms_at (facts_of set.now) asked.now ≡ []) }
-    ensures alarm { IfErr result (λ failure. IfRefused failure (IsFirst (alarms_at (facts_of set.now) asked.now))) }
+    ensures alarm { IfErr result (TellsFirst (alarms_at (facts_of set.now) asked.now)) }
 {
     for condition in asked.as_slice() {
         if !gives(set, &condition.fact) {
@@ -34,7 +33,7 @@ fn check_conditions(set: &FactSet, asked: &Seq<Condition>) -> Result<(), Failure
 fn check_body(alloc: Global, start: FactSet, body: &Seq<Stmt>) -> Result<FactSet, Failure<Alarm>>
     ensures facts { IfOk result (λ set. facts_of set ≡ facts_at_end (facts_of start) body.now) }
     ensures met { OnOk result (body_alarms (facts_of start) body.now ≡ []) }
-    ensures alarm { IfErr result (λ failure. IfRefused failure (IsFirst (body_alarms (facts_of start) body.now))) }
+    ensures alarm { IfErr result (TellsFirst (body_alarms (facts_of start) body.now)) }
 {
     let mut set = start;
     for statement in body.as_slice() {
@@ -49,7 +48,7 @@ fn check_body(alloc: Global, start: FactSet, body: &Seq<Stmt>) -> Result<FactSet
 pub fn safe(alloc: Global, expanded: Expanded) -> Result<Safe, Failure<Alarm>>
     ensures value { IfOk result (λ safe. safe ≡ expanded) }
     ensures no_alarm { OnOk result (HasNoAlarm expanded.fun) }
-    ensures alarm { IfErr result (λ failure. IfRefused failure (IsFirstAlarm expanded.fun)) }
+    ensures alarm { IfErr result (TellsFirst (alarms_of expanded.fun)) }
 {
     let entry = at_entry(alloc, &expanded)?;
     let set = check_body(alloc, entry, &expanded.fun.body)?;

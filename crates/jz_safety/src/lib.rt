@@ -1,4 +1,5 @@
-//! The alarms of functions: each place where nothing says that a run goes on, and that a function without one is safe.
+//! The alarms of functions: each place where nothing says that a run goes on, and that a function
+//! without one is safe.
 #![tactic(auto)]
 
 mod alarm;

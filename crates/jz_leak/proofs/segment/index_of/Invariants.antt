@@ -1,5 +1,5 @@
 use Rattle.std.proofs.Common.{◌≡◌, drop}
-use Rattle.jz_leak.specs.MemoryMapSegments.{index_of}
+use Rattle.jz_leak.specs.InnerSegments.{index_of}
 use Rattle.jz_leak.proofs.segment.index_of.Given as goal
 
 abbrev pub invariant-loop-index : goal.invariant-loop-index

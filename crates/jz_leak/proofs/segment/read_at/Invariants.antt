@@ -1,5 +1,5 @@
 use Rattle.std.proofs.Common.{◌≡◌, drop}
-use Rattle.jz_leak.specs.MemoryMapSegments.{read_at}
+use Rattle.jz_leak.specs.InnerSegments.{read_at}
 use Rattle.jz_leak.proofs.segment.read_at.Given as goal
 
 abbrev pub invariant-loop-segment : goal.invariant-loop-segment

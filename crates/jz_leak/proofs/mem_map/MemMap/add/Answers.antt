@@ -5,7 +5,8 @@ use Rattle.std.specs.Ordering.{nat_cmp}
 use Rattle.jz_leak.specs.declared.segment.Segment.{Segment}
 use Rattle.std.specs.Option.{option_or}
 use Rattle.jz_leak.specs.MemoryMap.{byte_from}
-use Rattle.jz_leak.specs.MemoryMapSegments.{all_entries, read_at}
+use Rattle.jz_leak.specs.MemoryMapSegments.{all_entries}
+use Rattle.jz_leak.specs.InnerSegments.{read_at}
 use Rattle.jz_leak.proofs.MemorySegments.{get_read, added, from_taken, none_past}
 use Rattle.jz_leak.proofs.mem_map.MemMap.add.Goals as goal
 

@@ -1,6 +1,6 @@
 use Rattle.std.proofs.Common.{sym, ap, ◌∙◌}
 use Rattle.std.specs.FinMap as map
-use Rattle.jz_leak.specs.MemoryMapSegments.{read_at}
+use Rattle.jz_leak.specs.InnerSegments.{read_at}
 use Rattle.jz_leak.proofs.MemorySegments.{get_read}
 use Rattle.jz_leak.proofs.mem_map.MemMap.get.Goals as goal
 

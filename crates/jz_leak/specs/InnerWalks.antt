@@ -1,6 +1,8 @@
--- A leak and a transformer that are walked in step. At a cut, or where a case is missing or of another kind, the walk stops.
-use Rattle.std.specs.Prelude.{◌≡◌, ℕ, if◌then◌else◌, List, [], ◌∷◌, ◌++◌}
+-- A leak and a transformer that are walked in step. At a cut, or where a case is missing or of
+-- another kind, the walk stops. Private contracts alone cite what stands here.
+use Rattle.std.specs.Prelude.{◌≡◌, ℕ, Bool, if◌then◌else◌, List, [], ◌∷◌, ◌++◌, map}
 use Rattle.jz_leak.specs.declared.event.Event.{Event}
+use Rattle.jz_leak.specs.declared.transformer.Out.{Out}
 use Rattle.jz_leak.specs.declared.transformer.Tr.{Tr}
 use Rattle.jz_leak.specs.declared.transformer.Case.{Case}
 use Rattle.jz_leak.specs.declared.transformer.Case.TheOpen.{Case-F}
@@ -10,6 +12,7 @@ use Rattle.jz_leak.specs.declared.leak.Item.{Item}
 use Rattle.jz_leak.specs.declared.leak.Turn.{Turn}
 use Rattle.jz_leak.specs.declared.leak.Item.TheOpen.{Item-F, Leak-F, Turn-F}
 use Rattle.jz_leak.specs.declared.leak.Item.TheFolds.{fold-Item, fold-Leak, fold-Turn}
+use Rattle.jz_leak.specs.declared.walk.LoopParts.{LoopParts}
 use Rattle.jz_leak.specs.declared.walk.Reach.{Reach}
 use Rattle.jz_leak.specs.declared.walk.Reach.TheVariants.{End, Stop}
 use Rattle.jz_leak.specs.Applying.{Layer, Loop, events_for}
@@ -58,9 +61,17 @@ module _ (rsp0 : ℕ) where
   layer_walk (Item-F.Op ns) (Case-F.Op outs) = shown (events_for ns rsp0 outs)
   layer_walk (Item-F.If ns answer arm) (Case-F.If test then_outs then_tr else_outs else_tr) =
       shown (events_for ns rsp0 test)
-      ▹ (if answer then shown (events_for ns rsp0 then_outs) ▹ arm then_tr else (shown (events_for ns rsp0 else_outs) ▹ arm else_tr))
+      ▹ (if answer then shown (events_for ns rsp0 then_outs) ▹ arm then_tr
+      else (shown (events_for ns rsp0 else_outs) ▹ arm else_tr))
   layer_walk (Item-F.While turns) (Case-F.While prologue test more_outs body leave_outs) =
-      turns_walk turns (record { prologue = prologue; test = test; more_outs = more_outs; body = body; leave_outs = leave_outs })
+      turns_walk turns
+      (record {
+        prologue = prologue;
+        test = test;
+        more_outs = more_outs;
+        body = body;
+        leave_outs = leave_outs;
+      })
   layer_walk (Item-F.For rounds) (Case-F.For trs) = walk_in_step rounds trs
   layer_walk (Item-F.Call ns callee ms) (Case-F.Call arguments body results) =
       (shown (events_for ns rsp0 arguments) ▹ callee body) ▹ shown (events_for ms rsp0 results)
@@ -76,7 +87,8 @@ module _ (rsp0 : ℕ) where
   turn_step t loop =
       t.prologue loop.prologue
       ▹ (shown (events_for t.numbers rsp0 loop.test)
-      ▹ (if t.more then shown (events_for t.numbers rsp0 loop.more_outs) ▹ t.body loop.body else shown (events_for t.numbers rsp0 loop.leave_outs)))
+      ▹ (if t.more then shown (events_for t.numbers rsp0 loop.more_outs) ▹ t.body loop.body
+      else shown (events_for t.numbers rsp0 loop.leave_outs)))
 
   abbrev pub item_walk : Item → Case → Walk
   item_walk = fold-Item _ _ _ item_step leak_step turn_step
@@ -87,7 +99,38 @@ module _ (rsp0 : ℕ) where
   abbrev pub turn_walk : Turn → Loop → Walk
   turn_walk = fold-Turn _ _ _ item_step leak_step turn_step
 
+  -- the events of a list, and then those of a leak
+  abbrev pub arm_walk : List ℕ → List Out → Leak → Tr → Walk
+  arm_walk ns outs l t = shown (events_for ns rsp0 outs) ▹ leak_walk l t
+
+  -- an `if`, by its numbers, its answer and the leak of its arm
+  abbrev pub choice_walk : List ℕ → Bool → Leak → Case → Walk
+  choice_walk ns answer arm c = layer_walk (Item-F.If ns answer (leak_walk arm)) (out-Case c)
+
+  -- the turns of a `while`, each by the same parts
+  abbrev pub while_walk : List Turn → Loop → Walk
+  while_walk turns loop = turns_walk (map turn_walk turns) loop
+
+  -- the rounds of a `for`, each by its own tree
+  abbrev pub rounds_walk : List Leak → List Tr → Walk
+  rounds_walk rounds trs = walk_in_step (map leak_walk rounds) trs
+
+  -- a call, by the numbers of its arguments, the leak of the callee and the numbers of its left
+  -- sides
+  abbrev pub call_walk : List ℕ → Leak → List ℕ → Case → Walk
+  call_walk ns callee ms c = layer_walk (Item-F.Call ns (leak_walk callee) ms) (out-Case c)
+
+-- the parts that a walk over turns is given
+abbrev pub loop_of : LoopParts → Loop
+loop_of parts = record {
+  prologue = parts.prologue.now;
+  test = parts.test.now;
+  more_outs = parts.more_outs.now;
+  body = parts.body.now;
+  leave_outs = parts.leave_outs.now;
+}
+
 -- the walk's events were put behind those that were there, and it came so far
-pub record Adds (old new : List Event) (reach : Reach) (w : Walk) : Type 0 where
+pub record Adds (old new : List Event) (w : Walk) (reach : Reach) : Type 0 where
   pub events : new ≡ old ++ w.events
   pub reached : reach ≡ w.reach
