@@ -1,6 +1,6 @@
 //! What stands at the front of a text.
 
-ghost use Rattle.std.specs.Prelude.{◌≡◌, ◌<◌, ◌≤◌, ◌+◌, true, false, length, codes, option_map, None};
+ghost use Rattle.std.specs.Prelude.{◌≡◌, ◌<◌, ◌+◌, true, false, length, codes, option_map, None};
 ghost use Rattle.std.specs.Char.{is_ascii_alphabetic};
 ghost use Rattle.jz_lex.specs.Lexing.{is_blank, begins_comment};
 ghost use Rattle.jz_lex.specs.LexingWords.{begins, heads, begins_word, is_digit, casts};

@@ -1,6 +1,6 @@
 //! The tokens of a whole text.
 
-ghost use Rattle.std.specs.Prelude.{◌≡◌, ◌<◌, ◌≤◌, ◌+◌, ◌-◌, ◌^◌, List, length, IfOk, IfErr};
+ghost use Rattle.std.specs.Prelude.{◌≡◌, ◌<◌, ◌≤◌, ◌+◌, ◌-◌, ◌^◌, length, IfOk, IfErr};
 ghost use Rattle.jz_data.specs.Failures.{IfRefused};
 ghost use Rattle.jz_lex.specs.Lexing.{after, IsLexed, HasNoToken};
 ghost use Rattle.jz_lex.specs.declared.token.Token.{Token};
@@ -47,7 +47,7 @@ fn after(start: Span, bytes: &[u8]) -> Span
 pub fn lex(alloc: Global, text: &[u8]) -> Result<Tokens, Failure<LexFault>>
     requires { length text.now ≤ 2 ^ 32 - 2 }
     ensures tokens { IfOk result (λ tokens. IsLexed text.now tokens) }
-    ensures fault { IfErr result (λ failure. IfRefused failure (λ fault. HasNoToken text.now fault)) }
+    ensures fault { IfErr result (λ failure. IfRefused failure (HasNoToken text.now)) }
 {
     let mut tokens = Seq::new(alloc);
     let mut span = Span { line: 1, col: 1 };

@@ -1,9 +1,9 @@
 //! Reads declarations: parameters, result types and variables.
 
-ghost use Rattle.std.specs.Prelude.{◌≡◌, ◌++◌, [], ◌∷◌, IfOk};
+ghost use Rattle.std.specs.Prelude.{◌≡◌, IfOk};
 ghost use Rattle.jz_grammar.specs.Kinds.{has};
 ghost use Rattle.jz_cursor.specs.Gave.{Gave};
-ghost use Rattle.jz_parse.specs.Trees.{declared_of, declared_all, params_all, ret_of};
+ghost use Rattle.jz_parse.specs.Trees.{declared_of, declared_all, params_all};
 ghost use Rattle.jz_parse.specs.Readers.{storages, storage, word_or_array, value_type, declaration, names_more, name_list, group, next_group, groups_more, groups, group_starts, params, rtype, next_rtype, rtypes_more, arrow_types, results, next_name, next_starts, declared_more, declared_names, decl};
 
 use jz_cursor::{Cursor, Stop};
