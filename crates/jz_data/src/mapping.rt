@@ -7,7 +7,8 @@ ghost use Rattle.jz_data.specs.Maps.{Maps, IsImage, IsFailure, Gives};
 use crate::seq::Seq;
 use std::alloc::{AllocError, Global};
 
-/// What `f` makes of each item of a slice. A failure is that of the first item that has one, or want of memory.
+/// What `f` makes of each item of a slice. A failure is that of the first item that has one, or
+/// want of memory.
 pub fn try_map_slice<T, U: Drop, E: From<AllocError>, F: Fn(&T) -> Result<U, E>>(
     alloc: Global,
     items: &[T],
@@ -27,7 +28,8 @@ pub fn try_map_slice<T, U: Drop, E: From<AllocError>, F: Fn(&T) -> Result<U, E>>
 }
 
 impl<T> Seq<T> {
-    /// What `f` makes of each item. A failure is that of the first item that has one, or want of memory.
+    /// What `f` makes of each item. A failure is that of the first item that has one, or want of
+    /// memory.
     pub fn try_map<U: Drop, E: From<AllocError>, F: Fn(&T) -> Result<U, E>>(
         &self,
         alloc: Global,

@@ -20,7 +20,8 @@ pub fn functions_declare_words()
         → DerivesProgram tokens program → All DeclaresWords program.funs }
 {}
 
-/// The names in the functions of a program that a text's tokens derive are identifiers of the text's language.
+/// The names in the functions of a program that a text's tokens derive are identifiers of the
+/// text's language.
 pub fn names_are_identifiers()
     ensures { (text : List ℕ) (tokens : List Token) (program : Program)
         → DerivesProgram tokens program → IsLexed text tokens → All HasNames program.funs }

@@ -42,8 +42,8 @@ pub fn identifiers_have_word_bytes()
     ensures { (word : List ℕ) → IsIdentifier word → All (λ byte. in_word byte ≡ true) word }
 {}
 
-/// The place behind bytes of a text: its line is one more than their line feeds, and its column one more than the bytes behind
-/// the last of these.
+/// The place behind bytes of a text: its line is one more than their line feeds, and its column one
+/// more than the bytes behind the last of these.
 pub fn places_count_line_feeds()
     ensures line { (bytes : List ℕ) → (after first_place bytes).line ≡ 1 + count_by (λ b. b == 10) bytes }
     ensures column { (bytes : List ℕ)

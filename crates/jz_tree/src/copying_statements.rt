@@ -1,4 +1,5 @@
-// Copies of statements and of what functions declare.
+//! Copies of statements and of what functions declare.
+
 ghost use Rattle.std.specs.Prelude.{◌≡◌, IfOk};
 
 use crate::expr::{Expr, Var};
