@@ -18,7 +18,8 @@ Gave (Ok a) now read = read ≡ Ok (a, now)
 Gave (Err (Refused k)) now read = read ≡ Err (cause_of k, now)
 Gave (Err OutOfMemory) now read = Unit {0}
 
--- what was read of so many tokens: a value, or why there is none and the number of the first token that is left
+-- what was read of so many tokens: a value, or why there is none and the number of the first token
+-- that is left
 abbrev pub numbered : {A : Type 0} → ℕ → Result A (Cause × List Token) → Result A (Cause × ℕ)
 numbered n (Ok a) = Ok a
 numbered n (Err e) = Err (e.0, n - length e.1)

@@ -14,7 +14,8 @@ span_or_start None = record { line = 1; col = 1 }
 abbrev pub span_at : List Token → ℕ → Span
 span_at ts n = span_or_start (slice_get ts n)
 
--- the fault has this cause and that number, and the span of that token, or of the last where there is no such token
+-- the fault has this cause and that number, and the span of that token, or of the last where there
+-- is no such token
 abbrev pub IsFaultAt : SyntaxKind → List Token → ℕ → SyntaxFault → Type 0
 IsFaultAt k ts n fault =
     (fault.kind ≡ k) × (fault.token ≡ n)

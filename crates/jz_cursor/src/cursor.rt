@@ -21,8 +21,8 @@ pub type Stop = Failure<SyntaxKind>;
 /// No phrase goes on with the next token.
 pub const UNEXPECTED: Stop = Failure::Refused(SyntaxKind::Unexpected);
 
-/// The tokens that are still to be read. A call that reads takes what it reads, and leaves the rest from the first wrong
-/// token on.
+/// The tokens that are still to be read. A call that reads takes what it reads, and leaves the rest
+/// from the first wrong token on.
 #[derive(Drop)]
 pub struct Cursor<'a> {
     tokens: &'a [Token],
@@ -254,8 +254,8 @@ impl<'a> Cursor<'a> {
         }
     }
 
-    /// A sign that opens something nested, where so much may still be nested: its place, and how much may still be
-    /// nested in it.
+    /// A sign that opens something nested, where so much may still be nested: its place, and how
+    /// much may still be nested in it.
     #[tactic(auto, using(jz_grammar::proofs::Opening::opening_deep, jz_grammar::proofs::Opening::opening_none, jz_grammar::proofs::Opening::opening_ok, jz_grammar::proofs::Opening::opening_err))]
     pub fn open(&mut self, text: &str, depth: u32) -> Result<(Span, u32), Stop>
         ensures read { Gave result self.new (opening (sign text.now ∷ []) depth self.old) }

@@ -15,8 +15,9 @@ pub enum SyntaxKind {
     TooDeep,
 }
 
-/// The first wrong token: its number from 0, and its span. Where the tokens run out before a program's end the number is
-/// how many there are, and the span is that of the last (1:1 where there is none).
+/// The first wrong token: its number from 0, and its span. Where the tokens run out before a
+/// program's end the number is how many there are, and the span is that of the last (1:1 where
+/// there is none).
 #[derive(Clone, Copy, PartialEq, Eq)]
 pub struct SyntaxFault {
     pub kind: SyntaxKind,

@@ -1,6 +1,7 @@
 -- What a function makes of a list's items, one after another. R says what it may give of an item.
-use Rattle.std.specs.Prelude.{◌≡◌, List, ◌∷◌, ◌++◌, Result, Ok, Err, IfOk, map}
+use Rattle.std.specs.Prelude.{◌≡◌, ◌⊎◌, List, ◌∷◌, ◌++◌, Result, Ok, Err, IfOk, map}
 use Rattle.std.specs.List.{AllZip}
+use Rattle.std.specs.Fn.{Shared, FnReturns}
 use Rattle.std.specs.declared.alloc.AllocError.{AllocError}
 
 module _ {A B E : Type 0} (R : A → Result B E → Type 0) where
@@ -23,6 +24,10 @@ module _ {A B E : Type 0} (R : A → Result B E → Type 0) where
     pub maps : Maps before values
     pub fails : R item (Err e)
 
--- the failure e is want of memory
-abbrev pub Lacks : {E : Type 0} → (AllocError → E → Type 0) → E → Type 0
-Lacks gives e = (full : AllocError) × gives full e
+-- the failure e is want of memory, or that of the first item that fails
+abbrev pub IsFailure : {A B E : Type 0} → (AllocError → E → Type 0) → (A → Result B E → Type 0) → List A → E → Type 0
+IsFailure gives R xs e = ((full : AllocError) × gives full e) ⊎ FailsFirst R xs e
+
+-- a call of the value f, which takes its argument, may give r of x
+abbrev pub Gives : {F A R : Type 0} → Shared F (A × Unit {0}) R → F → A → R → Type 0
+Gives g f x r = FnReturns g f (x, tt) r

@@ -1,3 +1,5 @@
+//! Failures of calls that take memory.
+
 use std::alloc::AllocError;
 
 /// Why a call that takes memory gives no value: a refusal with its cause, or want of memory.

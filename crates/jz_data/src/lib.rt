@@ -1,5 +1,5 @@
-//! A `Vec`, a `Box` and a `String` that contracts see as what they hold, so that a tree of them is plain data, and
-//! the failures of calls that take memory.
+//! A `Vec`, a `Box` and a `String` that contracts see as what they hold, so that a tree of them is
+//! plain data, and the failures of calls that take memory.
 #![tactic(auto)]
 
 mod boxed;

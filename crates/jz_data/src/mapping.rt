@@ -1,13 +1,14 @@
 //! Lists that a function makes of lists, item by item; the first failure ends it.
 
-ghost use Rattle.std.specs.Prelude.{◌⊎◌, IfOk, IfErr};
-ghost use Rattle.std.specs.Fn.{FnReturns, FnReturnsAt};
-ghost use Rattle.jz_data.specs.Maps.{Maps, IsImage, Lacks, FailsFirst};
+ghost use Rattle.std.specs.Prelude.{IfOk, IfErr};
+ghost use Rattle.std.specs.Fn.{FnReturnsAt};
+ghost use Rattle.jz_data.specs.Maps.{Maps, IsImage, IsFailure, Gives};
 
 use crate::seq::Seq;
 use std::alloc::{AllocError, Global};
 
-/// What `f` makes of each item of a slice. A failure is that of the first item that has one, or want of memory.
+/// What `f` makes of each item of a slice. A failure is that of the first item that has one, or
+/// want of memory.
 pub fn try_map_slice<T, U: Drop, E: From<AllocError>, F: Fn(&T) -> Result<U, E>>(
     alloc: Global,
     items: &[T],
@@ -16,7 +17,7 @@ pub fn try_map_slice<T, U: Drop, E: From<AllocError>, F: Fn(&T) -> Result<U, E>>
     requires { F.IsAlwaysCallable f }
     ensures each { IfOk result (Maps (FnReturnsAt F.Fn f) items.now) }
     ensures image { IsImage (FnReturnsAt F.Fn f) items.now result }
-    ensures err { IfErr result (λ e. Lacks E.from_gives e ⊎ FailsFirst (FnReturnsAt F.Fn f) items.now e) }
+    ensures err { IfErr result (IsFailure E.from_gives (FnReturnsAt F.Fn f) items.now) }
 {
     let mut out = Seq::new(alloc);
     for item in items {
@@ -27,7 +28,8 @@ pub fn try_map_slice<T, U: Drop, E: From<AllocError>, F: Fn(&T) -> Result<U, E>>
 }
 
 impl<T> Seq<T> {
-    /// What `f` makes of each item. A failure is that of the first item that has one, or want of memory.
+    /// What `f` makes of each item. A failure is that of the first item that has one, or want of
+    /// memory.
     pub fn try_map<U: Drop, E: From<AllocError>, F: Fn(&T) -> Result<U, E>>(
         &self,
         alloc: Global,
@@ -36,7 +38,7 @@ impl<T> Seq<T> {
         requires { F.IsAlwaysCallable f }
         ensures each { IfOk result (Maps (FnReturnsAt F.Fn f) self.now) }
         ensures image { IsImage (FnReturnsAt F.Fn f) self.now result }
-        ensures err { IfErr result (λ e. Lacks E.from_gives e ⊎ FailsFirst (FnReturnsAt F.Fn f) self.now e) }
+        ensures err { IfErr result (IsFailure E.from_gives (FnReturnsAt F.Fn f) self.now) }
     {
         try_map_slice(alloc, self.as_slice(), f)
     }
@@ -50,9 +52,9 @@ impl<T> Seq<T> {
     where
         T: Drop,
         requires { F.IsAlwaysCallable f }
-        ensures each { IfOk result (Maps (λ x r. FnReturns F.Fn f (x, tt) r) self) }
-        ensures image { IsImage (λ x r. FnReturns F.Fn f (x, tt) r) self result }
-        ensures err { IfErr result (λ e. Lacks E.from_gives e ⊎ FailsFirst (λ x r. FnReturns F.Fn f (x, tt) r) self e) }
+        ensures each { IfOk result (Maps (Gives F.Fn f) self) }
+        ensures image { IsImage (Gives F.Fn f) self result }
+        ensures err { IfErr result (IsFailure E.from_gives (Gives F.Fn f) self) }
     {
         let mut out = Seq::new(alloc);
         for item in self.into_vec() {

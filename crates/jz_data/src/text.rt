@@ -1,3 +1,5 @@
+//! Texts as lists of their bytes.
+
 ghost use Rattle.std.specs.Prelude.{◌≡◌, string_bytes};
 
 use std::alloc::{AllocError, Global};

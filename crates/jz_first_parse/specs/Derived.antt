@@ -12,7 +12,8 @@ pub record DeclaresWords (f : Fun) : Type 0 where
   pub rets : All (λ t. t.decl ≡ register_word) f.rets
   pub few : length f.params + length f.vars ≤ most_names
 
--- the names of the function, of its parameters and variables, and of what it returns are identifiers
+-- the names of the function, of its parameters and variables, and of what it returns are
+-- identifiers
 pub record HasNames (f : Fun) : Type 0 where
   pub name : IsIdentifier f.name
   pub params : All (λ p. IsIdentifier p.var.name) f.params

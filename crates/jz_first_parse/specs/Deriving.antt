@@ -1,4 +1,5 @@
--- The program that a list of tokens derives, and the first token at which none can be derived any more.
+-- The program that a list of tokens derives, and the first token at which none can be derived any
+-- more.
 use Rattle.std.specs.Prelude.{◌≡◌, ◌-◌, List, [], ◌∷◌, ◌++◌, length}
 use Rattle.jz_io.specs.declared.span.Span.{Span}
 use Rattle.jz_lex.specs.declared.token.Token.{Token}
@@ -22,7 +23,8 @@ abbrev pub IsStoppedAt : List Token → List Token → Span → Type 0
 IsStoppedAt front [] span = ((p : Program) → DerivesProgram front p → ⊥) × (span ≡ span_at front (length front - 1))
 IsStoppedAt front (t ∷ rest) span = (BeginsProgram (front ++ t ∷ []) → ⊥) × (span ≡ t.span)
 
--- the fault is at the first token with which the tokens begin no program, and has its number and its span
+-- the fault is at the first token with which the tokens begin no program, and has its number and
+-- its span
 abbrev pub IsUnexpected : List Token → SyntaxFault → Type 0
 IsUnexpected ts fault =
     (front : List Token) × (rest : List Token) × (ts ≡ front ++ rest) × (length front ≡ fault.token)

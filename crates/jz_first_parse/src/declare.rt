@@ -1,10 +1,8 @@
 //! Reads declarations: parameters, result types and variables.
 
-ghost use Rattle.std.specs.Prelude.{◌≡◌, ◌-◌, ◌++◌, [], ◌∷◌, length};
+ghost use Rattle.std.specs.Prelude.{◌≡◌, ◌-◌};
 ghost use Rattle.jz_grammar.specs.Kinds.{has};
 ghost use Rattle.jz_cursor.specs.Gave.{Gave};
-ghost use Rattle.jz_first_parse.specs.Trees.{register_word, declared_of, param_of};
-ghost use Rattle.jz_first_parse.specs.Grammar.{most_names};
 ghost use Rattle.jz_first_parse.specs.Readers.{declared, param, reg_u64, params_more, group, group_starts, next_group, groups_more, groups, params, rtype, next_rtype, rtypes_more, results, next_declared, declared_starts, declared_more, decl};
 
 use jz_cursor::{Cursor, Stop};

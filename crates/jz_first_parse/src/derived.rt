@@ -10,15 +10,19 @@ ghost use Rattle.jz_first_parse.specs.Deriving.{DerivesProgram};
 
 /// Each statement of a program that tokens derive is an assignment to one variable.
 pub fn statements_assign_to_one()
-    ensures { (tokens : List Token) (program : Program) → DerivesProgram tokens program → All (λ f. All AssignsToOne f.body) program.funs }
+    ensures { (tokens : List Token) (program : Program)
+        → DerivesProgram tokens program → All (λ f. All AssignsToOne f.body) program.funs }
 {}
 
 /// Each function of a program that tokens derive declares words in registers alone, and few.
 pub fn functions_declare_words()
-    ensures { (tokens : List Token) (program : Program) → DerivesProgram tokens program → All DeclaresWords program.funs }
+    ensures { (tokens : List Token) (program : Program)
+        → DerivesProgram tokens program → All DeclaresWords program.funs }
 {}
 
-/// The names in the functions of a program that a text's tokens derive are identifiers of the text's language.
+/// The names in the functions of a program that a text's tokens derive are identifiers of the
+/// text's language.
 pub fn names_are_identifiers()
-    ensures { (text : List ℕ) (tokens : List Token) (program : Program) → DerivesProgram tokens program → IsLexed text tokens → All HasNames program.funs }
+    ensures { (text : List ℕ) (tokens : List Token) (program : Program)
+        → DerivesProgram tokens program → IsLexed text tokens → All HasNames program.funs }
 {}

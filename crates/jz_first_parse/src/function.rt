@@ -1,10 +1,8 @@
 //! Reads functions, and the whole program.
 
-ghost use Rattle.std.specs.Prelude.{◌≡◌, ◌-◌, ◌++◌, [], ◌∷◌, length};
+ghost use Rattle.std.specs.Prelude.{◌≡◌, []};
 ghost use Rattle.jz_grammar.specs.Kinds.{has};
 ghost use Rattle.jz_cursor.specs.Gave.{Gave};
-ghost use Rattle.jz_first_parse.specs.Trees.{fun_of, program_of};
-ghost use Rattle.jz_first_parse.specs.Grammar.{most_names};
 ghost use Rattle.jz_first_parse.specs.Readers.{next_used, used_more, variables, name_starts, names, returned, ending, body, function, functions_more, program};
 
 use crate::declare::{MOST_NAMES, params, results};

@@ -1,7 +1,8 @@
 //! The program that a list of tokens derives, or the first token at which none is derived any more.
 
-ghost use Rattle.std.specs.Prelude.{◌≡◌, ◌<◌, ◌-◌, [], ◌∷◌, ◌++◌, List, IfOk, IfErr, length};
+ghost use Rattle.std.specs.Prelude.{◌≡◌, ◌<◌, [], ◌∷◌, ◌++◌, List, IfOk, IfErr, length};
 ghost use Rattle.jz_data.specs.Failures.{IfRefused};
+ghost use Rattle.jz_data.specs.Laws.{AtMostOne, NeverBoth};
 ghost use Rattle.jz_lex.specs.declared.token.TokenKind.TheVariants.{End};
 ghost use Rattle.jz_lex.specs.declared.token.Token.{Token};
 ghost use Rattle.jz_grammar.specs.Reading.{final};
@@ -43,7 +44,7 @@ fn read_whole(alloc: Global, tokens: &Tokens) -> Result<Program, Failure<(Syntax
 #[tactic(auto, using(crate::proofs::Faults::derived))]
 pub fn parse_first(alloc: Global, tokens: &Tokens) -> Result<Program, Failure<SyntaxFault>>
     ensures program { IfOk result (λ program. DerivesProgram tokens.now program) }
-    ensures fault { IfErr result (λ failure. IfRefused failure (λ fault. IsUnexpected tokens.now fault)) }
+    ensures fault { IfErr result (λ failure. IfRefused failure (IsUnexpected tokens.now)) }
 {
     match read_whole(alloc, tokens) {
         Ok(program) => Ok(program),
@@ -58,20 +59,22 @@ pub fn parse_first(alloc: Global, tokens: &Tokens) -> Result<Program, Failure<Sy
 
 /// The tokens derive one program at most.
 pub fn one_program()
-    ensures { (tokens : List Token) (program other : Program) → DerivesProgram tokens program → DerivesProgram tokens other → program ≡ other }
+    ensures { (tokens : List Token) → AtMostOne (DerivesProgram tokens) }
 {}
 
 /// Tokens that derive a program have no fault.
 pub fn no_fault_of_a_program()
-    ensures { (tokens : List Token) (program : Program) (fault : SyntaxFault) → DerivesProgram tokens program → IsUnexpected tokens fault → ⊥ }
+    ensures { (tokens : List Token) → NeverBoth (DerivesProgram tokens) (IsUnexpected tokens) }
 {}
 
 /// The tokens have one fault at most.
 pub fn one_fault()
-    ensures { (tokens : List Token) (fault other : SyntaxFault) → IsUnexpected tokens fault → IsUnexpected tokens other → fault ≡ other }
+    ensures { (tokens : List Token) → AtMostOne (IsUnexpected tokens) }
 {}
 
 /// Where an end token stands last, a fault is at one of the tokens.
 pub fn a_fault_is_at_a_token()
-    ensures { (front : List Token) (last : Token) (fault : SyntaxFault) → last.kind ≡ End → IsUnexpected (front ++ last ∷ []) fault → fault.token < length (front ++ last ∷ []) }
+    ensures { (front : List Token) (last : Token) (fault : SyntaxFault)
+        → last.kind ≡ End → IsUnexpected (front ++ last ∷ []) fault
+        → fault.token < length (front ++ last ∷ []) }
 {}

@@ -1,9 +1,9 @@
 //! Reads statements, and declarations and statements in turn.
 
-ghost use Rattle.std.specs.Prelude.{◌≡◌, ◌-◌, ◌++◌, [], ◌∷◌, length, IfOk};
+ghost use Rattle.std.specs.Prelude.{◌≡◌, [], IfOk};
 ghost use Rattle.jz_grammar.specs.Kinds.{has};
 ghost use Rattle.jz_cursor.specs.Gave.{Gave};
-ghost use Rattle.jz_first_parse.specs.Trees.{used_of, assigned};
+ghost use Rattle.jz_first_parse.specs.Trees.{assigned};
 ghost use Rattle.jz_first_parse.specs.Readers.{used, operand, stmt, decl_starts, item, item_starts, items_more};
 
 use crate::declare::decl;

@@ -58,7 +58,8 @@ pub struct Decl {
     pub ty: Ty,
 }
 
-/// A variable where it stands in the text. Parameters and variables of the body have their declaration.
+/// A variable where it stands in the text. Parameters and variables of the body have their
+/// declaration.
 #[derive(Drop, PartialEq, Eq)]
 pub struct Var {
     pub name: Text,

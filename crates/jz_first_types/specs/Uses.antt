@@ -1,5 +1,5 @@
--- The variables that a function uses, in the order of its text: those that stand in its statements, and those that are
--- returned.
+-- The variables that a function uses, in the order of its text: those that stand in its statements,
+-- and those that are returned.
 use Rattle.std.specs.Prelude.{List, [], ◌∷◌, ◌++◌}
 use Rattle.std.specs.List.{flat_map}
 use Rattle.jz_first_tree.specs.declared.Fun.{Fun}

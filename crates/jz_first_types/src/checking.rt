@@ -31,7 +31,7 @@ fn first_fault(alloc: Global, program: &Program) -> Result<Option<TypeFault>, Al
 pub fn check(alloc: Global, program: Program) -> Result<Typed, Failure<TypeFault>>
     ensures typed { IfOk result (λ typed. IsTyped program) }
     ensures resolved { IfOk result (λ typed. typed.program ≡ resolved program) }
-    ensures fault { IfErr result (λ failure. IfRefused failure (λ fault. IsFirstTypeFault program fault)) }
+    ensures fault { IfErr result (λ failure. IfRefused failure (IsFirstTypeFault program)) }
 {
     if let Some(fault) = first_fault(alloc, &program)? {
         return Err(Failure::Refused(fault));

@@ -1,6 +1,7 @@
 //! Laws of the definitions.
 
 ghost use Rattle.std.specs.Prelude.{◌≡◌, ◌⊎◌, ◌↔◌};
+ghost use Rattle.jz_data.specs.Laws.{AtMostOne};
 ghost use Rattle.jz_first_tree.specs.declared.Program.{Program};
 ghost use Rattle.jz_first_types.specs.declared.fault.TypeFault.{TypeFault};
 ghost use Rattle.jz_first_types.specs.Resolving.{resolved};
@@ -8,17 +9,19 @@ ghost use Rattle.jz_first_types.specs.Rules.{IsTyped, IsFirstTypeFault};
 
 /// A program has one first fault at most.
 pub fn one_fault()
-    ensures { (program : Program) (fault other : TypeFault) → IsFirstTypeFault program fault → IsFirstTypeFault program other → fault ≡ other }
+    ensures { (program : Program) → AtMostOne (IsFirstTypeFault program) }
 {}
 
 /// A typed program has no fault.
 pub fn no_fault_of_a_typed()
-    ensures { (program : Program) (fault : TypeFault) → IsTyped program → IsFirstTypeFault program fault → ⊥ }
+    ensures { (program : Program) (fault : TypeFault)
+        → IsTyped program → IsFirstTypeFault program fault → ⊥ }
 {}
 
 /// A program is typed, or has a first fault.
 pub fn typed_or_a_fault()
-    ensures { (program : Program) → IsTyped program ⊎ ((fault : TypeFault) × IsFirstTypeFault program fault) }
+    ensures { (program : Program)
+        → IsTyped program ⊎ ((fault : TypeFault) × IsFirstTypeFault program fault) }
 {}
 
 /// Declarations that are there stay.

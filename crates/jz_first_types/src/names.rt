@@ -32,7 +32,8 @@ impl Names {
 
     /// Adds a name that stands behind those that are there.
     fn add(&mut self, name: &Text, span: Span) -> Result<(), AllocError>
-        ensures { (ns : List Name) → IsNames self.old ns → OnOk result (IsNames self.new (ns ++ (name.now, span) ∷ [])) }
+        ensures { (ns : List Name) → IsNames self.old ns
+            → OnOk result (IsNames self.new (ns ++ (name.now, span) ∷ [])) }
     {
         let new = self.seen.insert(name.clone()?)?;
         if !new {
@@ -43,7 +44,8 @@ impl Names {
     }
 
     fn add_all(&mut self, vars: &Seq<Var>) -> Result<(), AllocError>
-        ensures { (ns : List Name) → IsNames self.old ns → OnOk result (IsNames self.new (ns ++ map name_of vars.now)) }
+        ensures { (ns : List Name) → IsNames self.old ns
+            → OnOk result (IsNames self.new (ns ++ map name_of vars.now)) }
     {
         for var in vars.as_slice() {
             self.add(&var.name, var.span)?;

@@ -24,11 +24,7 @@ fn in_var(scope: &Scope, var: Var) -> Var
 fn in_vars(alloc: Global, scope: &Scope, vars: Seq<Var>) -> Result<Seq<Var>, AllocError>
     ensures { IfOk result (λ r. r ≡ map (resolved_var (decls_of scope.now)) vars) }
 {
-    let mut done = Seq::new(alloc);
-    for var in vars.into_vec() {
-        done.push(in_var(scope, var))?;
-    }
-    Ok(done)
+    vars.into_try_map(alloc, |var| Ok(in_var(scope, var)))
 }
 
 fn in_expr(scope: &Scope, expr: Expr) -> Expr
@@ -59,11 +55,7 @@ fn in_lval(scope: &Scope, to: Lval) -> Lval
 fn in_lvals(alloc: Global, scope: &Scope, tos: Seq<Lval>) -> Result<Seq<Lval>, AllocError>
     ensures { IfOk result (λ r. r ≡ map (resolved_lval (decls_of scope.now)) tos) }
 {
-    let mut done = Seq::new(alloc);
-    for to in tos.into_vec() {
-        done.push(in_lval(scope, to))?;
-    }
-    Ok(done)
+    tos.into_try_map(alloc, |to| Ok(in_lval(scope, to)))
 }
 
 fn in_kind(alloc: Global, scope: &Scope, kind: StmtKind) -> Result<StmtKind, AllocError>
@@ -92,11 +84,7 @@ fn in_stmt(alloc: Global, scope: &Scope, stmt: Stmt) -> Result<Stmt, AllocError>
 fn in_stmts(alloc: Global, scope: &Scope, stmts: Seq<Stmt>) -> Result<Seq<Stmt>, AllocError>
     ensures { IfOk result (λ r. r ≡ map (resolved_stmt (decls_of scope.now)) stmts) }
 {
-    let mut done = Seq::new(alloc);
-    for stmt in stmts.into_vec() {
-        done.push(in_stmt(alloc, scope, stmt)?)?;
-    }
-    Ok(done)
+    stmts.into_try_map(alloc, |stmt| in_stmt(alloc, scope, stmt))
 }
 
 fn in_fun(alloc: Global, fun: Fun) -> Result<Fun, AllocError>
@@ -130,9 +118,6 @@ pub(crate) fn resolve(alloc: Global, program: Program) -> Result<Program, AllocE
     ensures { IfOk result (λ r. r ≡ resolved program) }
 {
     let Program { funs } = program;
-    let mut done = Seq::new(alloc);
-    for fun in funs.into_vec() {
-        done.push(in_fun(alloc, fun)?)?;
-    }
-    Ok(Program { funs: done })
+    let funs = funs.into_try_map(alloc, |fun| in_fun(alloc, fun))?;
+    Ok(Program { funs })
 }

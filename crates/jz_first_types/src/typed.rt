@@ -7,7 +7,8 @@ ghost use Rattle.jz_first_types.specs.TypedPrograms.{HaveDifferentNames, HaveDec
 
 use jz_first_tree::Program;
 
-/// A program in which no rule fails, and in which each variable has its declaration where it is used.
+/// A program in which no rule fails, and in which each variable has its declaration where it is
+/// used.
 #[derive(Drop)]
 pub struct Typed {
     pub(crate) program: Program,

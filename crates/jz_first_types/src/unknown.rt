@@ -76,7 +76,8 @@ fn in_lvals(scope: &Scope, tos: &Seq<Lval>) -> Option<TypeFault>
 }
 
 fn in_assignment(scope: &Scope, to: &Seq<Lval>, rhs: &Rhs) -> Option<TypeFault>
-    ensures { result ≡ first_of (unknown_by scope.now (flat_map left_side_uses to.now ++ right_side_uses rhs.now)) }
+    ensures { result ≡ first_of
+        (unknown_by scope.now (flat_map left_side_uses to.now ++ right_side_uses rhs.now)) }
 {
     earlier_of(in_lvals(scope, to), in_rhs(scope, rhs))
 }

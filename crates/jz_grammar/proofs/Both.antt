@@ -11,7 +11,8 @@ use Rattle.jz_grammar.specs.Laws.{Shape, head_of, First, outcome, Found, Stopped
 use Rattle.jz_grammar.proofs.Basics.{in_left, in_right, has_append, in_apart, has_same, head_append, outcome_within, disjoint_nil, cancel, plain_length, bind_err, ok_same, ok_err, err_ok, through_err}
 use Rattle.jz_grammar.proofs.Combine.{one_is, one_reads, follow_reads, map_reads, not_empty, shorter}
 
--- a word of two tokens and more is read as far as the word of its first, if the next does not go on with that
+-- a word of two tokens and more is read as far as the word of its first, if the next does not go on
+-- with that
 pub outcome_rest : {A : Type 0} (e : ℕ) (xs : List Marked) (a b : A) (rest us : List Token) → outcome e xs a rest ≡ Ok (b, us) → us ≡ rest
 outcome_rest e [] a b rest us h = let s = ok_same (a, rest) (b, us) h in sym (ap (λ p. p.1) s)
 outcome_rest e (x ∷ xs) a b rest us h = by_cases _ (nat_lt x.1 e)

@@ -37,7 +37,8 @@ pub are_of_append : (over : List Kind) (xs ys : List Marked) → AreOf over xs �
 are_of_append over [] ys h k = k
 are_of_append over (x ∷ xs) ys h k = (h.0, are_of_append over xs ys h.1 k)
 
--- every phrase has one mark at all its tokens, stands for the same with any other, and its tokens are of these kinds
+-- every phrase has one mark at all its tokens, stands for the same with any other, and its tokens
+-- are of these kinds
 abbrev pub IsSteady : {A : Type 0} → List Kind → (ℕ → Lang A) → Type 0
 IsSteady {A} over l = (d e : ℕ) (xs : List Marked) (a : A) → l d xs a → (xs ≡ with_mark d xs) × l e (with_mark e xs) a × AreOf over xs
 

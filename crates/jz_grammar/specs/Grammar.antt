@@ -1,5 +1,5 @@
--- Grammars: which lists of tokens stand for which values. A token of a list is marked with how much could still be
--- nested at it.
+-- Grammars: which lists of tokens stand for which values. A token of a list is marked with how much
+-- could still be nested at it.
 use Rattle.std.specs.Prelude.{◌≡◌, ◌≤◌, ◌⊎◌, ℕ, zero, suc, List, [], ◌∷◌, ◌++◌, map, true, Option, Some, None}
 use Rattle.jz_lex.specs.declared.token.Token.{Token}
 use Rattle.jz_io.specs.declared.span.Span.{Span}

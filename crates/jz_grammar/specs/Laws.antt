@@ -55,7 +55,8 @@ pub record Stopped {A : Type 0} (read : Reader A) (lang : ℕ → Lang A) (ts : 
   pub stays : (other : List Token) → head_of rest ≡ head_of other → read (pre ++ other) ≡ Err (k, other)
   pub begins : (e : ℕ) → 1 < e → Begun (lang e) e pre k rest
 
--- A reader of the phrases of a grammar; e is how much more may be nested in the grammar than the reader goes.
+-- A reader of the phrases of a grammar; e is how much more may be nested in the grammar than the
+-- reader goes.
 pub record IsReader {A : Type 0} (read : Reader A) (lang : ℕ → Lang A) (s : Shape) : Type 0 where
   pub first : (e : ℕ) (xs : List Marked) (a : A) → lang e xs a → First s xs
   pub again : (e : ℕ) (xs : List Marked) (a : A) (rest : List Token) → lang e xs a → has s.goes rest ≡ false → read (plain xs ++ rest) ≡ outcome e xs a rest
@@ -95,7 +96,8 @@ many_shape starts goes = record { starts = starts; goes = starts ++ goes; emptie
 abbrev pub HasPhrase : {A : Type 0} → (ℕ → Lang A) → Type 0
 HasPhrase {A} lang = (e : ℕ) → 0 < e → (xs : List Marked) × (a : A) × lang e xs a
 
--- where a phrase begins with a token of ks, none of ls comes after it, and the reader takes that token
+-- where a phrase begins with a token of ks, none of ls comes after it, and the reader takes that
+-- token
 pub record Second {A : Type 0} (ks ls : List Kind) (read : Reader A) (lang : ℕ → Lang A) : Type 0 where
   pub next : (e : ℕ) (x y : Marked) (xs : List Marked) (a : A) → lang e (x ∷ y ∷ xs) a → is_in ks x.0 ≡ true → is_in ls y.0 ≡ false
   pub takes : (t : Token) (ts : List Token) (k : Cause) → is_in ks t ≡ true → read (t ∷ ts) ≡ Err (k, t ∷ ts) → ⊥

@@ -1,4 +1,5 @@
--- Reading tokens from the left: a value and the tokens after it, or why there is none and the tokens from there on.
+-- Reading tokens from the left: a value and the tokens after it, or why there is none and the
+-- tokens from there on.
 use Rattle.std.specs.Prelude.{length, ℕ, zero, suc, List, [], ◌∷◌, Bool, false, Option, Some, None, Result, Ok, Err, ◌&&◌, if◌then◌else◌, ◌++◌}
 use Rattle.jz_lex.specs.declared.token.Token.{Token}
 use Rattle.jz_io.specs.declared.span.Span.{Span}
@@ -57,8 +58,8 @@ many_at (suc n) ks f ts = if has ks ts then through (λ p. p.0 ∷ p.1) (follow 
 unfoldable pub many : {A : Type 0} → List Kind → Reader A → Reader (List A)
 many ks f ts = many_at (length ts) ks f ts
 
--- as often as a token stands there that may begin one, where what is left from the ones before decides how each is
--- read; at most n times
+-- as often as a token stands there that may begin one, where what is left from the ones before
+-- decides how each is read; at most n times
 abbrev pub many_by_at : {S A : Type 0} → ℕ → (S → List Kind) → (S → Reader A) → (S → A → S) → S → Reader (List A)
 many_by_at zero ks f after s ts = Ok ([], ts)
 many_by_at (suc n) ks f after s ts = if has (ks s) ts then through (λ p. p.0 ∷ p.1) (depend (f s) (λ a. many_by_at n ks f after (after s a)) ts) else Ok ([], ts)

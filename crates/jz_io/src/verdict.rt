@@ -1,4 +1,4 @@
-// What is said of constant time.
+//! What is said of constant time.
 
 use crate::Span;
 use jz_data::Text;
@@ -14,7 +14,8 @@ pub enum CtKind {
     Divide,
 }
 
-/// Whether a function is constant time, or the place, the kind and the variable of its first breach.
+/// Whether a function is constant time, or the place, the kind and the variable of its first
+/// breach.
 #[derive(Drop, PartialEq, Eq)]
 pub enum Ct {
     Yes,

@@ -1,4 +1,5 @@
--- The place behind bytes, by how many of them are line feeds, and how many stand behind the last of these.
+-- The place behind bytes, by how many of them are line feeds, and how many stand behind the last of
+-- these.
 use Rattle.std.proofs.Common.{◌≡◌, ℕ, ◌+◌, List, [], ◌∷◌, ◌++◌, true, false, not, ◌==◌, if◌then◌else◌, cond, refl, sym, ap, ◌∙◌, arith}
 use Rattle.std.specs.Prelude.{reverse, count_by}
 use Rattle.std.specs.List.{prefix_len, suffix_len}

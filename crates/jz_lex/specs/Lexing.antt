@@ -1,4 +1,5 @@
--- A text is blanks, comments and lexemes in turn, each lexeme the longest that stands there; its tokens, and the first place that has none.
+-- A text is blanks, comments and lexemes in turn, each lexeme the longest that stands there; its
+-- tokens, and the first place that has none.
 use Rattle.std.specs.Prelude.{◌≡◌, ◌⊎◌, ◌≤◌, ℕ, ◌+◌, ◌^◌, List, [], ◌∷◌, ◌++◌, Bool, true, false, not, ◌&&◌, ◌||◌, ◌==◌, nat_lt, if◌then◌else◌, length, codes}
 use Rattle.std.specs.Char.{is_ascii_alphabetic}
 use Rattle.std.specs.List.{list_all}
@@ -18,7 +19,8 @@ is_blank b = (b == 9) || (b == 10) || (b == 13) || (b == 32)
 abbrev pub Longest : List ℕ → List ℕ → Type 0
 Longest w more = (is_lexeme w more ≡ true) × ((v rest : List ℕ) → v ++ rest ≡ w ++ more → is_lexeme v rest ≡ true → length v ≤ length w)
 
--- w is a numeral that is no number where more follows: a letter stands behind it, or its value is too large
+-- w is a numeral that is no number where more follows: a letter stands behind it, or its value is
+-- too large
 abbrev pub is_no_number : List ℕ → List ℕ → Bool
 is_no_number w more = is_numeral w && (heads is_ascii_alphabetic more || not (nat_lt (value_of w) (2 ^ 127)))
 
@@ -66,7 +68,8 @@ UpTo s text (Lexeme w ∷ parts) tokens e rest = (more : List ℕ) × (others : 
 abbrev pub IsLexed : List ℕ → List Token → Type 0
 IsLexed text tokens = (parts : List Part) × (before : List Token) × (e : Span) × UpTo first_place text parts before e [] × (tokens ≡ before ++ record { kind = kind.End; span = e } ∷ [])
 
--- at the front of rest stands no token, for this cause: a byte begins none, a numeral is no number, or a comment does not end
+-- at the front of rest stands no token, for this cause: a byte begins none, a numeral is no number,
+-- or a comment does not end
 abbrev pub HasNone : LexKind → List ℕ → Type 0
 HasNone BadByte rest = (b : ℕ) × (bs : List ℕ) × (rest ≡ b ∷ bs) × (is_blank b ≡ false) × (begins_comment rest ≡ false) × ((v more : List ℕ) → v ++ more ≡ rest → is_lexeme v more ≡ true → ⊥)
 HasNone BadNumber rest = (w : List ℕ) × (more : List ℕ) × (rest ≡ w ++ more) × Longest w more × (is_no_number w more ≡ true)

@@ -16,7 +16,8 @@ kept_number n = if nat_lt n (2 ^ 127) then Some (pos n) else None
 abbrev pub wide_number : ℕ → Option ℕ
 wide_number n = if nat_lt n (2 ^ 128) then Some n else None
 
--- w stands at the front of the text, and if it is to stand apart, its last letter does not go on as a name
+-- w stands at the front of the text, and if it is to stand apart, its last letter does not go on as
+-- a name
 abbrev pub fits : Bool → List ℕ → List ℕ → Bool
 fits apart w text = begins w text && not (apart && heads in_word (drop (length w) text))
 

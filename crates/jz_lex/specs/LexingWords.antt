@@ -1,4 +1,5 @@
--- Lexemes: the words, numerals, casts, strings and signs of the language, and which token each one is.
+-- Lexemes: the words, numerals, casts, strings and signs of the language, and which token each one
+-- is.
 use Rattle.std.specs.Prelude.{ℕ, ◌-◌, List, [], ◌∷◌, ◌++◌, Bool, false, not, ◌&&◌, ◌||◌, ◌==◌, nat_lt, if◌then◌else◌, length, take, drop, map, codes, pos, bytes_eq}
 use Rattle.std.specs.List.{list_all, list_any, filter, starts_with, ends_with}
 use Rattle.std.specs.Char.{is_ascii_alphabetic, is_ascii_digit, is_ascii_hexdigit, digit_value}
@@ -11,7 +12,8 @@ use Rattle.jz_words.specs.declared.size.Size.TheVariants.{S8, S16, S32, S64}
 unfoldable pub keywords : List (List ℕ)
 keywords = codes "param" ∷ codes "int" ∷ codes "inline" ∷ codes "export" ∷ codes "fn" ∷ codes "reg" ∷ codes "stack" ∷ codes "bool" ∷ codes "u8" ∷ codes "u16" ∷ codes "u32" ∷ codes "u64" ∷ codes "return" ∷ codes "if" ∷ codes "else" ∷ codes "while" ∷ codes "for" ∷ codes "to" ∷ codes "downto" ∷ codes "true" ∷ codes "false" ∷ codes "_" ∷ []
 
--- the casts, the longer ones first: a size, with `s` where the sign is extended and `u` where it is not
+-- the casts, the longer ones first: a size, with `s` where the sign is extended and `u` where it is
+-- not
 unfoldable pub casts : List (List ℕ)
 casts = codes "16u" ∷ codes "32u" ∷ codes "64u" ∷ codes "16s" ∷ codes "32s" ∷ codes "64s" ∷ codes "8u" ∷ codes "8s" ∷ []
 

@@ -1,6 +1,6 @@
 //! What stands at the front of a text.
 
-ghost use Rattle.std.specs.Prelude.{◌≡◌, ◌<◌, ◌≤◌, ◌+◌, true, false, length, codes, option_map, None};
+ghost use Rattle.std.specs.Prelude.{◌≡◌, ◌<◌, ◌+◌, true, false, length, codes, option_map, None};
 ghost use Rattle.std.specs.Char.{is_ascii_alphabetic};
 ghost use Rattle.jz_lex.specs.Lexing.{is_blank, begins_comment};
 ghost use Rattle.jz_lex.specs.LexingWords.{begins, heads, begins_word, is_digit, casts};
@@ -26,7 +26,8 @@ pub(super) enum Shape {
     Sign,
 }
 
-/// What stands at the front of a text: a blank byte or a comment and its length, a lexeme and its length, or no token.
+/// What stands at the front of a text: a blank byte or a comment and its length, a lexeme and its
+/// length, or no token.
 #[derive(Clone, Copy, PartialEq, Eq)]
 pub(super) enum Front {
     Skipped(usize),
@@ -71,7 +72,7 @@ fn number_at(text: &[u8]) -> Front
     }
 }
 
-// A cast is longer than the numeral that it begins with.
+/// A cast is longer than the numeral that it begins with.
 fn cast_or_number_at(text: &[u8]) -> Front
     requires { heads is_digit text.now ≡ true }
     ensures { IsFront text.now result }

@@ -6,7 +6,7 @@ ghost use Rattle.jz_lex.specs.LexingFront.{first_of, sign_of};
 
 use super::table::first_length;
 
-// The longer ones stand first in each table.
+/// The longer ones stand first in each table.
 const CASTS: [&str; 8] = ["16u", "32u", "64u", "16s", "32s", "64s", "8u", "8s"];
 
 const SIGNS: [&str; 46] = [
@@ -15,7 +15,7 @@ const SIGNS: [&str; 46] = [
     ";", ":", "#", "=", "+", "-", "*", "/", "%", "&", "|", "^", "<", ">", "!",
 ];
 
-// The signs that end with a letter, which no byte of a name follows.
+/// The signs that end with a letter, which no byte of a name follows.
 const SUFFIXED_SIGNS: [&str; 9] = [">>s", "<<r", ">>r", "<=s", ">=s", "<s", ">s", "/s", "%s"];
 
 /// How long the cast is at the front of a text.

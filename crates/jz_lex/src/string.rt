@@ -28,7 +28,8 @@ fn begins_with_quote(text: &[u8]) -> bool
     }
 }
 
-/// How long the string is whose quote stands before this text, without that quote; none if its line does not close it.
+/// How long the string is whose quote stands before this text, without that quote; none if its line
+/// does not close it.
 #[tactic(auto, using(crate::proofs::LexingWords::run_within), unfolding(crate::specs::LexingFront::string_length))]
 pub(super) fn string_length(text: &[u8]) -> Option<usize>
     ensures value { result ≡ string_length text.now }

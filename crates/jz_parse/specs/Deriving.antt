@@ -19,7 +19,8 @@ most_nested = 200
 abbrev pub DerivesProgram : List Token → Program → Type 0
 DerivesProgram ts p = Derives program most_nested ts p
 
--- what comes after is wrong: a token that is refused, or no more tokens behind a list that only begins a program
+-- what comes after is wrong: a token that is refused, or no more tokens behind a list that only
+-- begins a program
 abbrev pub IsStoppedAt : ℕ → SyntaxKind → List Token → List Token → Span → Type 0
 IsStoppedAt limit kind front [] span =
     (kind ≡ Unexpected) × BeginsWithin program limit front × ((p : Program) → Derives program limit front p → ⊥)
@@ -31,8 +32,8 @@ IsFaultWithin limit ts fault =
     (front : List Token) × (rest : List Token) × (ts ≡ front ++ rest) × (length front ≡ fault.token)
     × IsStoppedAt limit fault.kind front rest fault.span
 
--- The fault is at the first wrong token, and has its number and its span: for Unexpected the tokens before it begin a
--- program and those with it begin none, however much is nested; for TooDeep those with it begin one, and at it more is
--- nested than the limit allows for the first time.
+-- The fault is at the first wrong token, and has its number and its span: for Unexpected the tokens
+-- before it begin a program and those with it begin none, however much is nested; for TooDeep those
+-- with it begin one, and at it more is nested than the limit allows for the first time.
 abbrev pub IsSyntaxFault : List Token → SyntaxFault → Type 0
 IsSyntaxFault ts fault = IsFaultWithin most_nested ts fault

@@ -119,7 +119,8 @@ body d = opens (sign (codes "{") ∷ []) (λ b. items b ▸ ending b ▸ the (co
 abbrev pub kind : ℕ → Lang FunKind
 kind d = (key (codes "inline") d ⇒ (λ s. fun_kind.Inline)) ⊕ (key (codes "export") d ⇒ (λ s. fun_kind.Export))
 
--- fun = { annot } ( "inline" | "export" ) "fn" ID "(" [ group { "," group } ] ")" [ "->" rtype { "," rtype } ]
+-- fun = { annot } ( "inline" | "export" ) "fn" ID "(" [ group { "," group } ] ")" [ "->" rtype {
+-- "," rtype } ]
 --       "{" { decl | stmt } [ "return" [ names ] ";" ] "}"
 abbrev pub function : ℕ → Lang Fun
 function d = (notes d ▸ kind d ▸ key (codes "fn") d ▸ name d ▸ params d ▸ results d ▸ body d)

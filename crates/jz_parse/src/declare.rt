@@ -1,9 +1,9 @@
 //! Reads declarations: parameters, result types and variables.
 
-ghost use Rattle.std.specs.Prelude.{◌≡◌, ◌++◌, [], ◌∷◌, IfOk};
+ghost use Rattle.std.specs.Prelude.{◌≡◌, IfOk};
 ghost use Rattle.jz_grammar.specs.Kinds.{has};
 ghost use Rattle.jz_cursor.specs.Gave.{Gave};
-ghost use Rattle.jz_parse.specs.Trees.{declared_of, declared_all, params_all, ret_of};
+ghost use Rattle.jz_parse.specs.Trees.{declared_of, declared_all, param_of, params_all};
 ghost use Rattle.jz_parse.specs.Readers.{storages, storage, word_or_array, value_type, declaration, names_more, name_list, group, next_group, groups_more, groups, group_starts, params, rtype, next_rtype, rtypes_more, arrow_types, results, next_name, next_starts, declared_more, declared_names, decl};
 
 use jz_cursor::{Cursor, Stop};
@@ -115,6 +115,15 @@ fn declared(alloc: Global, decl: &Decl, name: Name) -> Result<Var, AllocError>
     })
 }
 
+/// A parameter of this declaration.
+fn param_of(alloc: Global, notes: &Seq<Note>, decl: &Decl, name: Name) -> Result<Param, AllocError>
+    ensures { IfOk result (λ param. param ≡ param_of notes.now decl.now name) }
+{
+    let notes = copy_notes(alloc, notes)?;
+    let var = declared(alloc, decl, name)?;
+    Ok(Param { notes, var })
+}
+
 /// A parameter of each name.
 fn params_of(
     alloc: Global,
@@ -124,24 +133,14 @@ fn params_of(
 ) -> Result<Seq<Param>, AllocError>
     ensures { IfOk result (λ params. params ≡ params_all notes.now decl.now names) }
 {
-    let mut out = Seq::new(alloc);
-    for name in names.into_vec() {
-        let notes = copy_notes(alloc, notes)?;
-        let var = declared(alloc, decl, name)?;
-        out.push(Param { notes, var })?;
-    }
-    Ok(out)
+    names.into_try_map(alloc, |name| param_of(alloc, notes, decl, name))
 }
 
 /// A variable of each name.
 fn vars_of(alloc: Global, decl: &Decl, names: Seq<Name>) -> Result<Seq<Var>, AllocError>
     ensures { IfOk result (λ vars. vars ≡ declared_all decl.now names) }
 {
-    let mut out = Seq::new(alloc);
-    for name in names.into_vec() {
-        out.push(declared(alloc, decl, name)?)?;
-    }
-    Ok(out)
+    names.into_try_map(alloc, |name| declared(alloc, decl, name))
 }
 
 #[tactic(auto, unfolding(crate::specs::Readers::group))]

@@ -1,9 +1,8 @@
 //! Reads functions.
 
-ghost use Rattle.std.specs.Prelude.{◌≡◌, ◌++◌, [], ◌∷◌};
+ghost use Rattle.std.specs.Prelude.{◌≡◌, []};
 ghost use Rattle.jz_grammar.specs.Kinds.{has};
 ghost use Rattle.jz_cursor.specs.Gave.{Gave};
-ghost use Rattle.jz_parse.specs.Trees.{fun_of, body_of};
 ghost use Rattle.jz_parse.specs.Readers.{item, item_starts, items_more, used, next_used, used_more, variables, enclosed, names, names_starts, returned, ending, body, kind, function};
 
 use crate::declare::{begins_storage, decl, params, results};

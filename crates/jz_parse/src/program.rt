@@ -1,9 +1,8 @@
 //! Reads constants, and the whole program.
 
-ghost use Rattle.std.specs.Prelude.{◌≡◌, ◌++◌, [], ◌∷◌};
+ghost use Rattle.std.specs.Prelude.{◌≡◌, []};
 ghost use Rattle.jz_grammar.specs.Kinds.{has};
 ghost use Rattle.jz_cursor.specs.Gave.{Gave};
-ghost use Rattle.jz_parse.specs.Trees.{const_of, program_of};
 ghost use Rattle.jz_parse.specs.Readers.{constant, part, part_starts, parts_more, program};
 
 use crate::function::function;

@@ -2,6 +2,7 @@
 
 ghost use Rattle.std.specs.Prelude.{◌≡◌, ◌<◌, ℕ, [], ◌∷◌, ◌++◌, List, IfOk, IfErr, length};
 ghost use Rattle.jz_data.specs.Failures.{IfRefused};
+ghost use Rattle.jz_data.specs.Laws.{AtMostOne, NeverBoth};
 ghost use Rattle.jz_lex.specs.declared.token.Token.{Token};
 ghost use Rattle.jz_lex.specs.declared.token.TokenKind.TheVariants.{End};
 ghost use Rattle.jz_grammar.specs.Reading.{final};
@@ -50,7 +51,7 @@ fn read_whole(
 /// The program that the tokens derive, or the first token that is wrong.
 pub fn parse(alloc: Global, tokens: &Tokens) -> Result<Program, Failure<SyntaxFault>>
     ensures program { IfOk result (λ program. DerivesProgram tokens.now program) }
-    ensures fault { IfErr result (λ failure. IfRefused failure (λ fault. IsSyntaxFault tokens.now fault)) }
+    ensures fault { IfErr result (λ failure. IfRefused failure (IsSyntaxFault tokens.now)) }
 {
     match read_whole(alloc, tokens, MOST_NESTED) {
         Ok(program) => Ok(program),
@@ -63,25 +64,27 @@ pub fn parse(alloc: Global, tokens: &Tokens) -> Result<Program, Failure<SyntaxFa
 
 /// A text reads as one program at most.
 pub fn one_reading()
-    ensures { (text : List ℕ) (program other : Program) → Reads text program → Reads text other → program ≡ other }
+    ensures { (text : List ℕ) → AtMostOne (Reads text) }
 {}
 
 /// The tokens derive one program at most.
 pub fn one_program()
-    ensures { (tokens : List Token) (program other : Program) → DerivesProgram tokens program → DerivesProgram tokens other → program ≡ other }
+    ensures { (tokens : List Token) → AtMostOne (DerivesProgram tokens) }
 {}
 
 /// Tokens that derive a program have no fault.
 pub fn no_fault_of_a_program()
-    ensures { (tokens : List Token) (program : Program) (fault : SyntaxFault) → DerivesProgram tokens program → IsSyntaxFault tokens fault → ⊥ }
+    ensures { (tokens : List Token) → NeverBoth (DerivesProgram tokens) (IsSyntaxFault tokens) }
 {}
 
 /// The tokens have one fault at most.
 pub fn one_fault()
-    ensures { (tokens : List Token) (fault other : SyntaxFault) → IsSyntaxFault tokens fault → IsSyntaxFault tokens other → fault ≡ other }
+    ensures { (tokens : List Token) → AtMostOne (IsSyntaxFault tokens) }
 {}
 
 /// Where an end token stands last, a fault is at one of the tokens.
 pub fn a_fault_is_at_a_token()
-    ensures { (front : List Token) (last : Token) (fault : SyntaxFault) → last.kind ≡ End → IsSyntaxFault (front ++ last ∷ []) fault → fault.token < length (front ++ last ∷ []) }
+    ensures { (front : List Token) (last : Token) (fault : SyntaxFault)
+        → last.kind ≡ End → IsSyntaxFault (front ++ last ∷ []) fault
+        → fault.token < length (front ++ last ∷ []) }
 {}

@@ -19,6 +19,10 @@ ops_of (suc (suc (suc (suc (suc (suc (suc zero))))))) = sign (codes "|") ∷ []
 ops_of (suc (suc (suc (suc (suc (suc (suc (suc zero)))))))) = sign (codes "&&") ∷ []
 ops_of (suc (suc (suc (suc (suc (suc (suc (suc (suc k))))))))) = sign (codes "||") ∷ []
 
+-- those that compare words without a sign
+abbrev pub orders : List Kind
+orders = sign (codes "<") ∷ sign (codes "<=") ∷ sign (codes ">") ∷ sign (codes ">=") ∷ []
+
 -- how many levels there are
 abbrev pub level_count : ℕ
 level_count = 10

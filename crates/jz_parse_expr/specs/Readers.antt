@@ -12,7 +12,8 @@ use Rattle.jz_tree.specs.declared.expr.BinOp.{BinOp}
 use Rattle.jz_parse_expr.specs.Operators.{ops_of, op_of, operators, level_count}
 use Rattle.jz_parse_expr.specs.Trees.{number_expr, bool_expr, name_expr, neg_expr, not_expr, access_of, load_expr, chain, Group, At, As, Plain, group_expr}
 
--- the signs that begin an expression, the tokens that do, those that go on with one, and those that begin an access
+-- the signs that begin an expression, the tokens that do, those that go on with one, and those that
+-- begin an access
 abbrev pub signed_starts : List Kind
 signed_starts = sign (codes "-") ∷ sign (codes "!") ∷ sign (codes "[") ∷ sign (codes "(") ∷ []
 
@@ -58,7 +59,8 @@ expr_of unary ts = levels unary level_count ts
 unfoldable pub bracket : (ℕ → Reader (Span × Expr)) → ℕ → Reader Expr
 bracket low d ts = through (λ p. p.1.0.1) (inside (sign (codes "[") ∷ []) (λ b. follow (expr_of (low b)) (the (codes "]"))) d ts)
 
--- the size in parentheses behind their "(", and the address; the bracket is open where the parentheses were
+-- the size in parentheses behind their "(", and the address; the bracket is open where the
+-- parentheses were
 unfoldable pub sized_rest : Reader (Span × Expr) → Reader (Size × Expr)
 sized_rest unary ts = through (λ p. (p.0, p.1.1.1.0.1)) (follow word_type (follow (the (codes ")")) (follow (the (codes "[")) (follow (expr_of unary) (the (codes "]"))))) ts)
 

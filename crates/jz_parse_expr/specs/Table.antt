@@ -1,4 +1,5 @@
--- The grammar of expressions, line by line. At d tokens may still be nested; low has the phrases that stand nested.
+-- The grammar of expressions, line by line. At d tokens may still be nested; low has the phrases
+-- that stand nested.
 use Rattle.std.specs.Prelude.{ℕ, zero, suc, List, [], ◌∷◌, true, false, Option, Some, codes}
 use Rattle.jz_io.specs.declared.span.Span.{Span}
 use Rattle.jz_words.specs.declared.size.Size.{Size}
@@ -47,7 +48,8 @@ abbrev pub plain_access : (ℕ → Lang (Span × Expr)) → ℕ → Lang (Span �
 plain_access low d = opens (sign (codes "[") ∷ []) (λ b. maybe ((the (codes ":") b ▸ word_type b) ⇒ (λ p. p.1)) ▸ expr_at (low b) b ▸ the (codes "]") b) d
     ⇒ (λ p. (p.0, (p.1.0, p.1.1.0.1)))
 
--- unary = NUM | ID [ "[" expr "]" ] | "true" | "false" | "-" unary | "!" unary | "[" [ ":" wtype ] expr "]"
+-- unary = NUM | ID [ "[" expr "]" ] | "true" | "false" | "-" unary | "!" unary | "[" [ ":" wtype ]
+-- expr "]"
 --       | "(" wtype ")" "[" expr "]" | "(" CAST ")" unary | "(" expr ")"
 -- A sign and a cast are open in their operand.
 abbrev pub unary_of : (ℕ → Lang (Span × Expr)) → ℕ → Lang (Span × Expr)

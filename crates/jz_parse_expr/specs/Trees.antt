@@ -1,5 +1,5 @@
--- The tree of a phrase, from its parts. An expression has the span of its first token beside it: its own span, but that
--- parentheses round the whole of it count.
+-- The tree of a phrase, from its parts. An expression has the span of its first token beside it:
+-- its own span, but that parentheses round the whole of it count.
 use Rattle.std.specs.Prelude.{ℕ, ℤ, List, [], ◌∷◌, Bool, false, Option, Some, None}
 use Rattle.jz_io.specs.declared.span.Span.{Span}
 use Rattle.jz_words.specs.declared.size.Size.{Size}
@@ -47,8 +47,8 @@ abbrev pub chain : Span × Expr → List (BinOp × (Span × Expr)) → Span × E
 chain a [] = a
 chain a (p ∷ ps) = chain (a.0, e.Bin p.0 a.1 p.1.1 a.0) ps
 
--- what stands in parentheses that an expression begins with: the size of an access with its address behind them, a cast
--- with its operand behind them, or an expression
+-- what stands in parentheses that an expression begins with: the size of an access with its address
+-- behind them, a cast with its operand behind them, or an expression
 pub data Group : Type 0 where
   At : Size → Expr → Group
   As : Size × Bool → Expr → Group

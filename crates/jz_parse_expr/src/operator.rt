@@ -1,10 +1,10 @@
 //! The operators of two operands.
 
-ghost use Rattle.std.specs.Prelude.{◌≡◌, [], ◌∷◌, codes};
-ghost use Rattle.jz_grammar.specs.Kinds.{sign, has, is_in};
+ghost use Rattle.std.specs.Prelude.{◌≡◌, []};
+ghost use Rattle.jz_grammar.specs.Kinds.{has, is_in};
 ghost use Rattle.jz_grammar.specs.Reading.{leaf};
 ghost use Rattle.jz_cursor.specs.Gave.{Gave};
-ghost use Rattle.jz_parse_expr.specs.Operators.{ops_of, op_of, shift_of, comparison_of, joining_of};
+ghost use Rattle.jz_parse_expr.specs.Operators.{orders, ops_of, op_of, shift_of, comparison_of, joining_of};
 
 use jz_cursor::{Cursor, Stop, UNEXPECTED, has_text, is_sign};
 use jz_lex::Token;
@@ -41,7 +41,7 @@ fn is_shift(token: &Token) -> bool
 
 #[tactic(auto, unfolding(jz_grammar::specs::Kinds::is_in))]
 fn is_unsigned_comparison(token: &Token) -> bool
-    ensures { result ≡ is_in (sign (codes "<") ∷ sign (codes "<=") ∷ sign (codes ">") ∷ sign (codes ">=") ∷ []) token.now }
+    ensures { result ≡ is_in orders token.now }
 {
     is_sign(token, "<") || is_sign(token, "<=") || is_sign(token, ">") || is_sign(token, ">=")
 }

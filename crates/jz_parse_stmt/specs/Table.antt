@@ -1,4 +1,5 @@
--- The grammar of statements, line by line. At d tokens may still be nested; low has the phrases that stand nested.
+-- The grammar of statements, line by line. At d tokens may still be nested; low has the phrases
+-- that stand nested.
 use Rattle.std.specs.Prelude.{ℕ, zero, suc, List, [], ◌∷◌, Bool, true, false, Option, Some, None, codes}
 use Rattle.jz_io.specs.declared.span.Span.{Span}
 use Rattle.jz_grammar.specs.Kinds.{sign, word}

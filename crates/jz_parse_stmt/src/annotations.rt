@@ -1,8 +1,6 @@
 //! Reads annotations.
 
-ghost use Rattle.std.specs.Prelude.{◌≡◌, [], ◌∷◌};
 ghost use Rattle.jz_cursor.specs.Gave.{Gave};
-ghost use Rattle.jz_parse_stmt.specs.NotesTable.{note_of};
 ghost use Rattle.jz_parse_stmt.specs.NotesReaders.{note_value, equal_value, entry, next_entry, entries_more, entry_list, bracketed, entries, annotation, notes};
 
 use jz_cursor::{Cursor, Stop};

@@ -1,4 +1,5 @@
--- Whether two expressions are equal, decided layer by layer, and so for the types that stand in them.
+-- Whether two expressions are equal, decided layer by layer, and so for the types that stand in
+-- them.
 use Rattle.std.specs.Prelude.{◌≡◌, ℕ, ℤ, Bool, true, false, List, [], ◌∷◌, ◌==◌, Option, None, Some}
 use Rattle.std.specs.Bool.{Decides}
 use Rattle.std.specs.Cmp.{IsEquivalence, decided, unsigned_Decides, signed_Decides, booleans_Decides}

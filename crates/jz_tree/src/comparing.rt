@@ -1,4 +1,6 @@
-// Comparisons that tell whether two trees are equal, by a loop down the left side of an expression.
+//! Comparisons that tell whether two trees are equal, by a loop down the left side of an
+//! expression.
+
 ghost use Rattle.std.specs.Prelude.{◌≡◌, ◌↔◌, IsTrue};
 
 use crate::expr::{Access, BinOp, Decl, Expr, Storage, Ty, Var};

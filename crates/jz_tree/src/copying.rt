@@ -1,4 +1,5 @@
-// Copies that equal what they copy, made by a loop down the left side of an expression.
+//! Copies that equal what they copy, made by a loop down the left side of an expression.
+
 ghost use Rattle.std.specs.Prelude.{◌≡◌, IfOk};
 ghost use Rattle.jz_tree.specs.Sides.{on_left};
 
@@ -15,7 +16,8 @@ struct Step {
     span: Span,
 }
 
-/// The left side of an expression: its operations from the outermost, and the operand where it ends.
+/// The left side of an expression: its operations from the outermost, and the operand where it
+/// ends.
 #[derive(Drop)]
 struct Side {
     steps: Vec<Step>,

@@ -1,4 +1,5 @@
-// Copies of statements and of what functions declare.
+//! Copies of statements and of what functions declare.
+
 ghost use Rattle.std.specs.Prelude.{◌≡◌, IfOk};
 
 use crate::expr::{Expr, Var};
@@ -35,11 +36,7 @@ impl Note {
 pub fn copy_notes(alloc: Global, notes: &Seq<Note>) -> Result<Seq<Note>, AllocError>
     ensures { IfOk result (λ copy. copy ≡ notes.now) }
 {
-    let mut copies = Seq::new(alloc);
-    for note in notes.as_slice() {
-        copies.push(note.copy(alloc)?)?;
-    }
-    Ok(copies)
+    notes.try_map(alloc, |note| note.copy(alloc))
 }
 
 impl Param {
@@ -72,31 +69,19 @@ impl Lval {
 pub fn copy_vars(alloc: Global, vars: &Seq<Var>) -> Result<Seq<Var>, AllocError>
     ensures { IfOk result (λ copy. copy ≡ vars.now) }
 {
-    let mut copies = Seq::new(alloc);
-    for var in vars.as_slice() {
-        copies.push(var.copy(alloc)?)?;
-    }
-    Ok(copies)
+    vars.try_map(alloc, |var| var.copy(alloc))
 }
 
 pub fn copy_exprs(alloc: Global, exprs: &Seq<Expr>) -> Result<Seq<Expr>, AllocError>
     ensures { IfOk result (λ copy. copy ≡ exprs.now) }
 {
-    let mut copies = Seq::new(alloc);
-    for e in exprs.as_slice() {
-        copies.push(e.copy(alloc)?)?;
-    }
-    Ok(copies)
+    exprs.try_map(alloc, |expr| expr.copy(alloc))
 }
 
 pub fn copy_lvals(alloc: Global, lvals: &Seq<Lval>) -> Result<Seq<Lval>, AllocError>
     ensures { IfOk result (λ copy. copy ≡ lvals.now) }
 {
-    let mut copies = Seq::new(alloc);
-    for to in lvals.as_slice() {
-        copies.push(to.copy(alloc)?)?;
-    }
-    Ok(copies)
+    lvals.try_map(alloc, |lval| lval.copy(alloc))
 }
 
 impl Rhs {

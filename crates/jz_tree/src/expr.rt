@@ -43,7 +43,8 @@ pub struct Var {
     pub name: Text,
     /// Which copy of a function's variables it belongs to; 0 in a text that was read.
     pub copy: u32,
-    /// Which cell of a register array it is, where arrays became scalars; none in a text that was read.
+    /// Which cell of a register array it is, where arrays became scalars; none in a text that was
+    /// read.
     pub cell: Option<u32>,
     /// What is declared of it, where it is declared.
     pub decl: Option<Decl>,
@@ -97,7 +98,8 @@ pub enum BinOp {
     RemS,
 }
 
-/// An expression. Its span is that of its first token, but for parentheses round the whole of it, which the tree does not keep.
+/// An expression. Its span is that of its first token, but for parentheses round the whole of it,
+/// which the tree does not keep.
 #[cycle(expression)]
 pub enum Expr {
     /// The number that is written.
@@ -120,7 +122,7 @@ pub enum Expr {
     Bin(BinOp, Boxed<Expr>, Boxed<Expr>, Span),
 }
 
-// By a loop down the left side, which may be as long as a text.
+/// By a loop down the left side, which may be as long as a text.
 impl Drop for Expr {
     #[cycle(drop)]
     fn drop(mut self) {

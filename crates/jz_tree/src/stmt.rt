@@ -16,7 +16,8 @@ pub enum Lval {
     Store(Access),
 }
 
-/// What an assignment sets it to. The span of a call is that of its name, that of an intrinsic that of its `#`.
+/// What an assignment sets it to. The span of a call is that of its name, that of an intrinsic that
+/// of its `#`.
 #[derive(Drop, PartialEq, Eq)]
 pub enum Rhs {
     Value(Expr),
@@ -37,7 +38,8 @@ pub struct Stmt {
 #[cycle(statement)]
 #[derive(Drop, PartialEq, Eq)]
 pub enum StmtKind {
-    /// `to = rhs`, with an operation `to = to op rhs`, and only where `cond` holds. A call without results sets nothing.
+    /// `to = rhs`, with an operation `to = to op rhs`, and only where `cond` holds. A call without
+    /// results sets nothing.
     Assign {
         to: Seq<Lval>,
         op: Option<BinOp>,

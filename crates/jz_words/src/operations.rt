@@ -147,7 +147,8 @@ pub fn rol(a: Word, count: u32) -> Word
     requires { count < 64 }
     ensures size { result.size ≡ a.size }
     ensures bits { result.bits ≡ rol_of a.size a.bits count }
-    ensures moved { (i : ℕ) → i < bits_of a.size → bit_at result.bits ((i + count) % bits_of a.size) ≡ bit_at a.bits i }
+    ensures moved { (i : ℕ) → i < bits_of a.size
+        → bit_at result.bits ((i + count) % bits_of a.size) ≡ bit_at a.bits i }
 {
     let width = a.size().bits();
     let turns = count % width;
@@ -161,7 +162,8 @@ pub fn ror(a: Word, count: u32) -> Word
     requires { count < 64 }
     ensures size { result.size ≡ a.size }
     ensures bits { result.bits ≡ ror_of a.size a.bits count }
-    ensures moved { (i : ℕ) → i < bits_of a.size → bit_at result.bits i ≡ bit_at a.bits ((i + count) % bits_of a.size) }
+    ensures moved { (i : ℕ) → i < bits_of a.size
+        → bit_at result.bits i ≡ bit_at a.bits ((i + count) % bits_of a.size) }
 {
     let width = a.size().bits();
     let turns = count % width;

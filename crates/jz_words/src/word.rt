@@ -31,7 +31,7 @@ impl Word {
         Word::reduced(size, value as u128)
     }
 
-    // The same of a longer number.
+    /// The same of a longer number.
     pub(crate) fn reduced(size: Size, value: u128) -> Self
         ensures size { result.size ≡ size }
         ensures bits { result.bits ≡ value % modulus size }

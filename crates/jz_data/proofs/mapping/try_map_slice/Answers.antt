@@ -1,8 +1,8 @@
-use Rattle.std.proofs.Common.{rules, subst, sym, ap, ◌∙◌, Ok, Err, IfErr, inr, refl}
+use Rattle.std.proofs.Common.{rules, subst, sym, Ok, refl}
 use Rattle.std.specs.Fn.{FnReturnsAt}
 use Rattle.std.proofs.lemmas.Fn.{says_at}
 use Rattle.std.proofs.lemmas.List.{take_all}
-use Rattle.jz_data.specs.Maps.{Maps, FailsFirst}
+use Rattle.jz_data.specs.Maps.{Maps}
 use Rattle.jz_data.proofs.Maps.{one_more, failed, AllZip-image}
 use Rattle.jz_data.proofs.mapping.try_map_slice.Goals as goal
 

@@ -1,8 +1,8 @@
-use Rattle.std.proofs.Common.{rules, subst, sym, ap, ◌∙◌, ◌≡◌, ◌++◌, ◌∷◌, List, [], length, Result, Ok, Err, IfErr, inr, refl, arith}
+use Rattle.std.proofs.Common.{rules, subst, sym, ◌≡◌, ◌++◌, ◌∷◌, List, [], length, Result, Ok, refl, arith}
 use Rattle.std.specs.Fn.{FnReturns}
 use Rattle.std.proofs.lemmas.Fn.{says}
-use Rattle.jz_data.specs.Maps.{Maps, FailsFirst}
-use Rattle.jz_data.proofs.Maps.{next_one, fails_next, AllZip-image, no_more}
+use Rattle.jz_data.specs.Maps.{Maps}
+use Rattle.jz_data.proofs.Maps.{next_one, AllZip-image, no_more}
 use Rattle.jz_data.proofs.seq.Seq.into_try_map.Goals as goal
 
 pub loop-item-preserved : goal.loop-item-preserved
