@@ -7,8 +7,8 @@ ghost use Rattle.jz_ir.specs.Order.{number_of, has_place};
 ghost use Rattle.jz_ir.specs.Paths.{among};
 ghost use Rattle.jz_ir.specs.Places.{op_at, HeldByVar, HeldBy, FirstHolder, TakenAt, ConflictAt};
 ghost use Rattle.jz_alloc.specs.Tables.{AllWide, row_has};
-ghost use Rattle.jz_alloc.specs.Holding.{LiveIn, IsHeld, WhoAt, VarAt, FirstVarAt};
-ghost use Rattle.jz_alloc.specs.Answers.{IsFirstHolder};
+ghost use Rattle.jz_alloc.specs.InnerHolding.{LiveIn, IsHeld, WhoAt, VarAt, FirstVarAt};
+ghost use Rattle.jz_alloc.specs.InnerAnswers.{IsFirstHolder};
 
 use crate::tables::holds;
 use jz_bits::Bits;

@@ -10,7 +10,8 @@ use Rattle.x64_insn.specs.declared.table.Row.TheVariants as row
 use Rattle.x64_insn.specs.Table.{row_of, size_by, size_of, reg_field, immediate_by, width_length, immediate_length}
 use Rattle.x64_insn.specs.Encoding.{displacement_length}
 use Rattle.x64_decode.specs.declared.reading.FieldsRead.{FieldsRead}
-use Rattle.x64_decode.specs.Decoding.{parts, parts_read, row_immediate, immediate_bytes, immediate_limit, AreShort}
+use Rattle.x64_decode.specs.Decoding.{parts, row_immediate, immediate_bytes}
+use Rattle.x64_decode.specs.InnerReading.{parts_read, immediate_limit, AreShort}
 use Rattle.x64_decode.proofs.PartsRead.{AreParts, parts_reads}
 
 either : (b : Bool) (x y k : ℕ) → x ≤ k → y ≤ k → (if b then x else y) ≤ k

@@ -19,11 +19,6 @@ abbrev pub through : {A B : Type 0} → (A → B) → Result (A × List ℕ) Sto
 through to (Ok x) = Ok (to x.0, x.1)
 through to (Err e) = Err e
 
--- what a function of the code returned, seen by a view, is what a reader gives
-abbrev pub Gives : {X Y : Type 0} → (X → Y) → Result X Stop → Result Y Stop → Type 0
-Gives view (Ok x) read = read ≡ Ok (view x)
-Gives view (Err e) read = read ≡ Err e
-
 -- one byte that passes a test
 unfoldable pub byte_where : (ℕ → Bool) → Reader ℕ
 byte_where test [] = Err Short

@@ -83,49 +83,6 @@ parts =
     follow (some_bytes (displacement_length m s)) (λ d.
     some_bytes (immediate_bytes p r e o m))))))))
 
--- what the code has read, as nested pairs
-abbrev pub parts_read : FieldsRead → Parts
-parts_read f = (
-  f.operand_size,
-  (
-    f.rex,
-    (
-      f.escape,
-      (
-        f.opcode,
-        (
-          f.modrm,
-          (
-            f.sib,
-            (f.displacement.now, f.immediate.now),
-          ),
-        ),
-      ),
-    ),
-  ),
-)
-
--- the same by their names
-abbrev pub fields_read : FieldsRead → Fields
-fields_read f = fields_of (parts_read f)
-
--- how many bytes an immediate has at most: one for the count of a shift, four for a signed number
--- of 32 bits
-abbrev pub immediate_limit : Row → ℕ
-immediate_limit row.ImulRmImm = 4
-immediate_limit row.ImulRmImm8 = 4
-immediate_limit (row.ShiftImm operands) = 1
-immediate_limit (row.Jcc condition width) = 4
-immediate_limit (row.Jmp width) = 4
-immediate_limit row.Call = 4
-immediate_limit other = 8
-
--- What was read is no longer than it can be.
-pub record AreShort (f : FieldsRead) : Type 0 where
-  pub displacement : length f.displacement.now ≤ 4
-  pub immediate : length f.immediate.now ≤ 8
-  pub by_row : length f.immediate.now ≤ immediate_limit f.row
-
 -- the answer for what was read
 abbrev pub answer_of : Result (Parts × List ℕ) Stop → Decoded
 answer_of (Ok x) = decoded.Insn (insn_of (fields_of x.0)) (length (spelling_of (fields_of x.0)))
