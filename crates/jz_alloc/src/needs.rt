@@ -1,6 +1,6 @@
 //! The needs of a variable, in the order of the text.
 
-ghost use Rattle.std.specs.Prelude.{◌≡◌, ℕ, ◌++◌, ◌<◌, ◌≤◌, ◌+◌, take, drop, length, IfOk, OnOk, []};
+ghost use Rattle.std.specs.Prelude.{◌≡◌, ◌<◌, ◌+◌, IfOk, OnOk, []};
 ghost use Rattle.jz_alloc.specs.Needs.{need_before};
 ghost use Rattle.jz_alloc.specs.InnerNeeds.{insert_need, add_needs, need_list};
 

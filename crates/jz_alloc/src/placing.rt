@@ -1,6 +1,6 @@
 //! A place for each variable, or why one has none.
 
-ghost use Rattle.std.specs.Prelude.{◌≡◌, ℕ, ◌+◌, ◌*◌, ◌/◌, ◌<◌, ◌≤◌, ◌^◌, length, IfOk, IfErr, IsTrue, slice_index_or, [], None};
+ghost use Rattle.std.specs.Prelude.{◌≡◌, ℕ, ◌/◌, ◌<◌, ◌^◌, length, IfOk, IfErr, IsTrue, None};
 ghost use Rattle.std.specs.List.{All};
 ghost use Rattle.jz_data.specs.Failures.{IfRefused};
 ghost use Rattle.jz_ir.specs.Straight.{LiveIn};

@@ -1,5 +1,5 @@
 -- Reading bytes from the left: a value and the bytes after it, or why there is none.
-use Rattle.std.specs.Prelude.{◌≡◌, ℕ, zero, suc, List, [], ◌∷◌, Bool, true, false, Option, Some, None, Result, Ok, Err, if◌then◌else◌}
+use Rattle.std.specs.Prelude.{ℕ, zero, suc, List, [], ◌∷◌, Bool, true, false, Option, Some, None, Result, Ok, Err, if◌then◌else◌}
 use Rattle.x64_decode.specs.declared.reading.Stop.{Stop}
 use Rattle.x64_decode.specs.declared.reading.Stop.TheVariants.{Short, Bad}
 use Rattle.x64_insn.specs.Encoding.{is_byte}

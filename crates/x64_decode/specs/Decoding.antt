@@ -1,14 +1,12 @@
 -- The instruction that bytes begin with, as a function that computes it.
-use Rattle.std.specs.Prelude.{ℕ, ◌≤◌, Bool, false, ◌==◌, List, length, Option, Some, None, unwrap_or, Result, Ok, Err}
+use Rattle.std.specs.Prelude.{ℕ, Bool, false, ◌==◌, List, length, Option, Some, None, unwrap_or, Result, Ok, Err}
 use Rattle.x64_insn.specs.declared.table.Row.{Row}
-use Rattle.x64_insn.specs.declared.table.Row.TheVariants as row
 use Rattle.x64_insn.specs.Table.{row_of, allows, reg_field, has_modrm, takes_modrm, immediate_length}
 use Rattle.x64_insn.specs.Encoding.{Fields, spelling_of, insn_of, is_byte, is_rex, has_sib, displacement_length}
 use Rattle.x64_decode.specs.declared.Decoded.{Decoded}
 use Rattle.x64_decode.specs.declared.Decoded.TheVariants as decoded
 use Rattle.x64_decode.specs.declared.reading.Stop.{Stop}
 use Rattle.x64_decode.specs.declared.reading.Stop.TheVariants.{Short, Bad}
-use Rattle.x64_decode.specs.declared.reading.FieldsRead.{FieldsRead}
 use Rattle.x64_decode.specs.ByteReading.{Reader, prefix, byte_where, byte_if, some_bytes, follow}
 
 -- ---- which byte may come next: one behind which the table has a spelling
