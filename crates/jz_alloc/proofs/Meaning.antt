@@ -10,8 +10,9 @@ use Rattle.jz_bits.proofs.One.{past}
 use Rattle.jz_ir.specs.Places.{Below}
 use Rattle.jz_alloc.specs.Tables.{any_below, row_has, taken, reaches}
 use Rattle.jz_alloc.specs.Fit.{MeetsIn, ConflictsIn, TakenIn}
-use Rattle.jz_alloc.specs.Holding.{LiveIn, IsHeld}
-use Rattle.jz_alloc.specs.Answers.{Allocated, HoldsEach}
+use Rattle.jz_alloc.specs.InnerHolding.{LiveIn, IsHeld}
+use Rattle.jz_alloc.specs.Answers.{HoldsEach}
+use Rattle.jz_alloc.specs.InnerAnswers.{Allocated}
 use Rattle.jz_ir.specs.Places.{Meets, Conflict, Taken}
 use Rattle.jz_alloc.specs.declared.evidence.Holder.{Holder}
 use Rattle.std.proofs.lemmas.List.{map-append}

@@ -11,7 +11,8 @@ use Rattle.std.proofs.lemmas.List.Kept.{AllPairs-cons}
 use Rattle.std.proofs.lemmas.List.Elements.{All-nil, All-cons, All-weaker}
 use Rattle.jz_ir.specs.Order.{number_of}
 use Rattle.jz_ir.proofs.Numbers.{one_place}
-use Rattle.jz_alloc.specs.Needs.{need_before, insert_need, add_needs, need_list, Wants}
+use Rattle.jz_alloc.specs.Needs.{need_before, Wants}
+use Rattle.jz_alloc.specs.InnerNeeds.{insert_need, add_needs, need_list}
 
 -- ---- the words of the specification, element by element
 data Ascending : List Needed → Type 0 where

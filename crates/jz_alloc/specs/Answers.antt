@@ -6,19 +6,11 @@ use Rattle.jz_ir.specs.declared.code.Code.{Code}
 use Rattle.jz_ir.specs.declared.code.Kind.{Kind}
 use Rattle.jz_ir.specs.declared.code.Op.{Op}
 use Rattle.jz_ir.specs.Order.{number_of}
-use Rattle.jz_ir.specs.Places.{meets, placed, refused, FirstFit, FirstHolder}
+use Rattle.jz_ir.specs.Places.{meets, refused, FirstFit, FirstHolder}
 use Rattle.jz_alloc.specs.declared.evidence.Holder.{Holder}
 use Rattle.jz_alloc.specs.declared.needs.Needed.{Needed}
-use Rattle.jz_alloc.specs.declared.placing.Allocation.{Allocation}
 use Rattle.jz_alloc.specs.declared.placing.NoPlace.{NoPlace}
-use Rattle.jz_alloc.specs.declared.placing.Allocation.TheVariants as V
 use Rattle.jz_alloc.specs.Needs.{need_before, Wants}
-
--- the holder is what first keeps the variable from the place
-abbrev pub IsFirstHolder : List Op → (ℕ → ℕ → Type 0) → List (Option ℕ) → ℕ → ℕ → Holder → Type 0
-IsFirstHolder ops Live places variable place holder =
-    (number_of holder.place ≡ place)
-    × FirstHolder ops Live places variable place holder.span holder.variable
 
 -- for each place below the bound that passes one holder, in the order of places
 abbrev pub HoldsEach :
@@ -43,10 +35,6 @@ module _ (ops : List Op) (kinds : List Kind) (in_use : List Place) (Live : ℕ �
     pub holders :
         HoldsEach ops Live places refusal.variable (meets kinds in_use ops refusal.variable) 20
         refusal.holders
-
-  abbrev pub Allocated : Allocation → Type 0
-  Allocated (V.Places places) = FirstFit ops kinds in_use Live (placed places.items)
-  Allocated (V.NoPlace refusal) = Explained refusal
 
 abbrev pub IsEvidence : Code → (ℕ → ℕ → Type 0) → NoPlace → Type 0
 IsEvidence code Live refusal = Explained code.ops code.kinds code.in_use Live refusal

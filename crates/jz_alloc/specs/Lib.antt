@@ -1,5 +1,7 @@
 pub mod Tables
 pub mod Fit
-pub mod Holding
+pub mod InnerHolding
 pub mod Needs
+pub mod InnerNeeds
 pub mod Answers
+pub mod InnerAnswers

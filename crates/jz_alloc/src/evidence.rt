@@ -1,14 +1,10 @@
 //! Why a variable has no place.
 
-ghost use Rattle.std.specs.Prelude.{◌≡◌, ◌≢◌, ℕ, ◌+◌, ◌*◌, ◌/◌, ◌<◌, ◌≤◌, ◌^◌, ◌||◌, ◌&&◌, length, IfOk, MatchOption, IsTrue, ◌↔◌, slice_index_or, [], Some, None, ◌==◌, nat_eq};
-ghost use Rattle.std.specs.List.{All};
-ghost use Rattle.jz_bits.specs.Has.{has, Shares};
-ghost use Rattle.jz_ir.specs.Order.{number_of, has_place};
+ghost use Rattle.std.specs.Prelude.{◌≡◌, ℕ, ◌+◌, ◌*◌, ◌/◌, ◌<◌, ◌^◌, ◌||◌, ◌&&◌, length, IfOk, MatchOption, IsTrue, ◌↔◌, slice_index_or, Some, None, ◌==◌};
+ghost use Rattle.jz_bits.specs.Has.{has};
 ghost use Rattle.jz_ir.specs.Paths.{among};
-ghost use Rattle.jz_ir.specs.Places.{op_at, HeldByVar, HeldBy, FirstHolder, TakenAt, ConflictAt};
-ghost use Rattle.jz_alloc.specs.Tables.{AllWide, row_has};
-ghost use Rattle.jz_alloc.specs.Holding.{LiveIn, IsHeld, WhoAt, VarAt, FirstVarAt};
-ghost use Rattle.jz_alloc.specs.Answers.{IsFirstHolder};
+ghost use Rattle.jz_alloc.specs.InnerHolding.{LiveIn, IsHeld, WhoAt, VarAt, FirstVarAt};
+ghost use Rattle.jz_alloc.specs.InnerAnswers.{IsFirstHolder};
 
 use crate::tables::holds;
 use jz_bits::Bits;

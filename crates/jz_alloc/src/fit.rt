@@ -1,10 +1,10 @@
 //! First fit.
 
-ghost use Rattle.std.specs.Prelude.{◌≡◌, ◌≢◌, ℕ, ◌+◌, ◌*◌, ◌/◌, ◌<◌, ◌≤◌, length, IfOk, MatchOption, IsTrue, replicate, slice_index_or, [], None};
+ghost use Rattle.std.specs.Prelude.{◌≡◌, ◌≢◌, ℕ, ◌*◌, ◌/◌, ◌<◌, length, IfOk, MatchOption, replicate, slice_index_or, None};
 ghost use Rattle.std.specs.List.{All};
 ghost use Rattle.jz_bits.specs.Has.{has};
 ghost use Rattle.jz_ir.specs.Places.{First};
-ghost use Rattle.jz_alloc.specs.Tables.{AllWide, row_has};
+ghost use Rattle.jz_alloc.specs.Tables.{AllWide};
 ghost use Rattle.jz_alloc.specs.Fit.{IsOpen, out_of, MeetsIn, ConflictsIn, TakenIn};
 
 use crate::tables::empty_rows;

@@ -1,7 +1,8 @@
 //! The needs of a variable, in the order of the text.
 
-ghost use Rattle.std.specs.Prelude.{◌≡◌, ℕ, ◌++◌, ◌<◌, ◌≤◌, ◌+◌, take, drop, length, IfOk, OnOk, []};
-ghost use Rattle.jz_alloc.specs.Needs.{need_before, insert_need, add_needs, need_list};
+ghost use Rattle.std.specs.Prelude.{◌≡◌, ◌<◌, ◌+◌, IfOk, OnOk, []};
+ghost use Rattle.jz_alloc.specs.Needs.{need_before};
+ghost use Rattle.jz_alloc.specs.InnerNeeds.{insert_need, add_needs, need_list};
 
 use jz_data::Seq;
 use jz_io::Span;

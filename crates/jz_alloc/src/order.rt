@@ -1,6 +1,6 @@
 //! The order of placing.
 
-ghost use Rattle.std.specs.Prelude.{◌≡◌, ℕ, ◌++◌, ◌<◌, ◌≤◌, ◌*◌, ◌+◌, ◌/◌, ◌&&◌, not, length, IfOk};
+ghost use Rattle.std.specs.Prelude.{◌≡◌, ℕ, ◌<◌, ◌/◌, IfOk};
 ghost use Rattle.std.specs.List.{All};
 ghost use Rattle.jz_bits.specs.Has.{has};
 ghost use Rattle.jz_ir.specs.Places.{has_need, order_of};

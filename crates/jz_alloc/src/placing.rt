@@ -1,13 +1,14 @@
 //! A place for each variable, or why one has none.
 
-ghost use Rattle.std.specs.Prelude.{◌≡◌, ℕ, ◌+◌, ◌*◌, ◌/◌, ◌<◌, ◌≤◌, ◌^◌, length, IfOk, IfErr, IsTrue, slice_index_or, [], None};
+ghost use Rattle.std.specs.Prelude.{◌≡◌, ℕ, ◌/◌, ◌<◌, ◌^◌, length, IfOk, IfErr, IsTrue, None};
 ghost use Rattle.std.specs.List.{All};
 ghost use Rattle.jz_data.specs.Failures.{IfRefused};
 ghost use Rattle.jz_ir.specs.Straight.{LiveIn};
 ghost use Rattle.jz_ir.specs.Places.{Below, IsWithin, IsPlacing, FirstFit, all_of};
 ghost use Rattle.jz_alloc.specs.Tables.{AllWide, row_has};
-ghost use Rattle.jz_alloc.specs.Holding.{LiveIn as LiveInRows, IsHeld};
-ghost use Rattle.jz_alloc.specs.Answers.{Allocated, HoldsEach, IsEvidence};
+ghost use Rattle.jz_alloc.specs.InnerHolding.{LiveIn as LiveInRows, IsHeld};
+ghost use Rattle.jz_alloc.specs.Answers.{HoldsEach, IsEvidence};
+ghost use Rattle.jz_alloc.specs.InnerAnswers.{Allocated};
 
 use crate::evidence::{Holder, holder_of};
 use crate::fit::{Fit, place_all};

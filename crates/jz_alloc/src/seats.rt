@@ -1,6 +1,6 @@
 //! From numbers to places.
 
-ghost use Rattle.std.specs.Prelude.{◌≡◌, ◌<◌, ℕ, Some, IfOk, map};
+ghost use Rattle.std.specs.Prelude.{◌≡◌, ◌<◌, Some, IfOk, map};
 ghost use Rattle.std.specs.List.{All};
 ghost use Rattle.jz_ir.specs.Order.{number_of};
 ghost use Rattle.jz_alloc.specs.Fit.{IsSeat};

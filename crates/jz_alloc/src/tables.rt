@@ -1,13 +1,13 @@
 //! What the code says of each variable and place, as rows of bits.
 
-ghost use Rattle.std.specs.Prelude.{◌≡◌, ℕ, ◌+◌, ◌*◌, ◌/◌, ◌<◌, ◌≤◌, ◌||◌, ◌&&◌, not, length, IfOk, slice_index_or, [], nat_lt, false};
+ghost use Rattle.std.specs.Prelude.{◌≡◌, ◌+◌, ◌*◌, ◌/◌, ◌<◌, ◌||◌, ◌&&◌, not, length, IfOk, slice_index_or, [], nat_lt, false};
 ghost use Rattle.std.specs.List.{All, list_all};
-ghost use Rattle.jz_bits.specs.Has.{EachHas, has, HasExactly};
-ghost use Rattle.jz_ir.specs.Order.{number_of, has_place};
+ghost use Rattle.jz_bits.specs.Has.{has, HasExactly};
+ghost use Rattle.jz_ir.specs.Order.{has_place};
 ghost use Rattle.jz_ir.specs.Paths.{among};
-ghost use Rattle.jz_ir.specs.Places.{op_at, kind_has, need_fits, op_fits, meets};
+ghost use Rattle.jz_ir.specs.Places.{kind_has, need_fits, meets};
 ghost use Rattle.jz_ir.specs.Places.{Below};
-ghost use Rattle.jz_alloc.specs.Tables.{any_below, taken, reaches, AllWide};
+ghost use Rattle.jz_alloc.specs.Tables.{AllWide, any_below, EachHas, reaches, taken};
 
 use jz_bits::Bits;
 use jz_data::Seq;

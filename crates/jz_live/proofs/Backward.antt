@@ -5,7 +5,7 @@ use Rattle.std.proofs.lemmas.Bool.{cases_lt}
 use Rattle.std.proofs.lemmas.List.Elements.{All-weaker}
 use Rattle.jz_bits.specs.Has.{has}
 use Rattle.jz_ir.specs.Places.{Below}
-use Rattle.jz_live.specs.Lives.{transfer}
+use Rattle.jz_live.specs.InnerLives.{transfer}
 use Rattle.jz_ir.specs.declared.code.Op.{Op}
 use Rattle.jz_ir.specs.Paths.{among, IsLive, read_here, read_later}
 use Rattle.jz_ir.specs.Straight.{Next, next, LiveIn}

@@ -7,7 +7,8 @@ use Rattle.jz_ir.specs.declared.code.Node.TheVariants.{While, rolls-While}
 use Rattle.jz_ir.specs.declared.code.Node.TheFolds.{fold-roll-Node, map-Node}
 use Rattle.jz_ir.specs.declared.code.Node.TheViews.{out-Node, roll-out-Node}
 use Rattle.jz_ir.specs.Tree.{Tree, done, op, choose, loop, then_tree, node_step, tree_of}
-use Rattle.jz_live.specs.Lives.{live_before, live_after_each, TreeBelow, test_before, test_after, size, transfer, reads, writes}
+use Rattle.jz_live.specs.InnerLives.{live_before, live_after_each, test_before, test_after, size, transfer, reads, writes}
+use Rattle.jz_live.specs.Lives.{TreeBelow}
 use Rattle.std.proofs.lemmas.Bool.{or_cases, or_left, or_right}
 use Rattle.jz_live.proofs.Trees.{before_more}
 

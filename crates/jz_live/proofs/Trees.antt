@@ -7,7 +7,7 @@ use Rattle.std.proofs.lemmas.List.Elements.{All-nil, All-cons, All-append}
 use Rattle.jz_ir.specs.declared.code.Op.{Op}
 use Rattle.jz_ir.specs.Paths.{IsLive, read_here, read_later, IsLiveAfter}
 use Rattle.jz_ir.specs.Tree.{Tree, done, op, choose, loop, Frame, at, test, Step, s_done, s_op, s_then, s_else, s_loop, s_more, s_leave, s_ever, states, at_test}
-use Rattle.jz_live.specs.Lives.{transfer, reads, writes, test_before, test_after, live_before, live_after_each}
+use Rattle.jz_live.specs.InnerLives.{transfer, reads, writes, test_before, test_after, live_before, live_after_each}
 use Rattle.jz_live.proofs.Backward.{before_cases, before_read, before_later}
 
 module _ (v : ℕ) where

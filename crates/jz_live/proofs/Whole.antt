@@ -5,7 +5,8 @@ use Rattle.std.proofs.lemmas.List.Elements.{All-get_or}
 use Rattle.jz_bits.specs.Has.{has}
 use Rattle.jz_ir.specs.declared.code.Op.{Op}
 use Rattle.jz_ir.specs.Tree.{Tree, done, op, choose, loop, states, LiveInTree}
-use Rattle.jz_live.specs.Lives.{live_after_each, column, TreeBelow, TestBelow}
+use Rattle.jz_live.specs.InnerLives.{live_after_each, column}
+use Rattle.jz_live.specs.Lives.{TreeBelow, TestBelow}
 use Rattle.jz_live.proofs.Backward.{below_wide}
 use Rattle.jz_live.proofs.Trees.{after_at, IsHead, heads, after_sound, after_complete, afters_are}
 

@@ -1,10 +1,10 @@
--- What is live in code with branches and loops, from the back, for one variable.
-use Rattle.std.specs.Prelude.{◌≡◌, ◌↔◌, ◌<◌, ℕ, ◌+◌, List, [], ◌∷◌, ◌++◌, Bool, IsTrue, false, not, ◌&&◌, ◌||◌, Option, Some, None, map, reverse, slice_index_or}
+-- What private contracts alone say: what is live in code with branches and loops, from the back, for
+-- one variable.
+use Rattle.std.specs.Prelude.{◌≡◌, ℕ, ◌+◌, List, [], ◌∷◌, ◌++◌, Bool, false, not, ◌&&◌, ◌||◌, Option, Some, None, map, reverse}
 use Rattle.jz_bits.specs.Has.{has, HasExactly}
 use Rattle.jz_ir.specs.declared.code.Op.{Op}
 use Rattle.jz_ir.specs.Paths.{among}
 use Rattle.jz_ir.specs.Tree.{Tree, done, op, choose, loop}
-use Rattle.jz_ir.specs.Places.{Below}
 
 -- live before an operation, by what is live after it: read, or not written and live after
 abbrev pub transfer : Bool → Bool → Bool → Bool
@@ -77,24 +77,6 @@ AddsLive tree behind old new =
 abbrev pub AddsTest : Option Op → List ℕ → List ℕ → List (List ℕ) → List (List ℕ) → Type 0
 AddsTest test at_body behind old new =
     (v : ℕ) → column v new ≡ test_after v test (has at_body v) (has behind v) ++ column v old
-
--- of so many sets each has exactly the variables that are live after its operation
-abbrev pub EachLives : ℕ → List (List ℕ) → (ℕ → ℕ → Type 0) → Type 0
-EachLives count rows Live =
-    (i : ℕ) → i < count → (v : ℕ) → IsTrue (has (slice_index_or rows i []) v) ↔ Live i v
-
--- the variables of each operation have numbers below n
-abbrev pub TestBelow : ℕ → Option Op → Type 0
-TestBelow n None = Unit {0}
-TestBelow n (Some test) = Below n test
-
-abbrev pub TreeBelow : ℕ → Tree → Type 0
-TreeBelow n done = Unit {0}
-TreeBelow n (op operation rest) = Below n operation × TreeBelow n rest
-TreeBelow n (choose test then_part else_part rest) =
-    Below n test × TreeBelow n then_part × TreeBelow n else_part × TreeBelow n rest
-TreeBelow n (loop prologue test body rest) =
-    TreeBelow n prologue × TestBelow n test × TreeBelow n body × TreeBelow n rest
 
 -- how many operations and loops there are
 abbrev pub size : Tree → ℕ

@@ -1,1 +1,2 @@
+pub mod InnerLives
 pub mod Lives

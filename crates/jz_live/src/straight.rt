@@ -1,6 +1,6 @@
 //! Liveness in code without branches.
 
-ghost use Rattle.std.specs.Prelude.{◌≡◌, ℕ, ◌+◌, ◌*◌, ◌/◌, ◌<◌, ◌≤◌, ◌||◌, ◌&&◌, not, length, IfOk, slice_index_or, [], drop};
+ghost use Rattle.std.specs.Prelude.{◌≡◌, ℕ, ◌+◌, ◌*◌, ◌/◌, ◌<◌, ◌||◌, ◌&&◌, not, length, IfOk, slice_index_or, []};
 ghost use Rattle.std.specs.List.{All};
 ghost use Rattle.jz_bits.specs.Has.{has, HasExactly};
 ghost use Rattle.jz_ir.specs.Paths.{among};

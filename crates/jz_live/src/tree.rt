@@ -4,7 +4,8 @@ ghost use Rattle.std.specs.Prelude.{◌≡◌, ℕ, ◌+◌, ◌*◌, ◌/◌, �
 ghost use Rattle.std.specs.List.{All};
 ghost use Rattle.jz_bits.specs.Has.{has};
 ghost use Rattle.jz_ir.specs.Tree.{then_tree, tree_of, done, LiveInTree, states};
-ghost use Rattle.jz_live.specs.Lives.{AddsLive, AddsTest, EachLives, LiveBefore, LiveBeforeTest, column, TestBelow, TreeBelow};
+ghost use Rattle.jz_live.specs.InnerLives.{AddsLive, AddsTest, LiveBefore, LiveBeforeTest, column};
+ghost use Rattle.jz_live.specs.Lives.{EachLives, TestBelow, TreeBelow};
 
 use crate::straight::step_back;
 use jz_bits::Bits;

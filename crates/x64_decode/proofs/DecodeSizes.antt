@@ -7,10 +7,11 @@ use Rattle.x64_insn.specs.declared.types.Width.{Width}
 use Rattle.x64_insn.specs.declared.types.Width.TheVariants.{Rel8, Rel32}
 use Rattle.x64_insn.specs.declared.table.Row.{Row}
 use Rattle.x64_insn.specs.declared.table.Row.TheVariants as row
-use Rattle.x64_insn.specs.Table.{row_of, size_by, size_of, reg_field, immediate_by, width_length, immediate_length}
+use Rattle.x64_insn.specs.Table.{row_of, size_by, prefixed_size, reg_field, immediate_by, width_length, immediate_length}
 use Rattle.x64_insn.specs.Encoding.{displacement_length}
 use Rattle.x64_decode.specs.declared.reading.FieldsRead.{FieldsRead}
-use Rattle.x64_decode.specs.Decoding.{parts, parts_read, row_immediate, immediate_bytes, immediate_limit, AreShort}
+use Rattle.x64_decode.specs.Decoding.{parts, row_immediate, immediate_bytes}
+use Rattle.x64_decode.specs.InnerReading.{parts_read, immediate_limit, AreShort}
 use Rattle.x64_decode.proofs.PartsRead.{AreParts, parts_reads}
 
 either : (b : Bool) (x y k : ℕ) → x ≤ k → y ≤ k → (if b then x else y) ≤ k
@@ -42,7 +43,7 @@ immediate_small p r n (row.AluRmImm operands) = to_eight _ (sized_small (size_by
 immediate_small p r n row.AluRmImm8 = omega arith
 immediate_small p r n (row.MovRmImm operands) = to_eight _ (sized_small (size_by operands p r))
 immediate_small p r n row.MovRegImm64 = omega arith
-immediate_small p r n row.ImulRmImm = sized_small (size_of p r)
+immediate_small p r n row.ImulRmImm = sized_small (prefixed_size p r)
 immediate_small p r n row.ImulRmImm8 = omega arith
 immediate_small p r n (row.ShiftImm operands) = omega arith
 immediate_small p r n (row.Group3 operands) =

@@ -1,5 +1,5 @@
 -- Reading bytes from the left: a value and the bytes after it, or why there is none.
-use Rattle.std.specs.Prelude.{◌≡◌, ℕ, zero, suc, List, [], ◌∷◌, Bool, true, false, Option, Some, None, Result, Ok, Err, if◌then◌else◌}
+use Rattle.std.specs.Prelude.{ℕ, zero, suc, List, [], ◌∷◌, Bool, true, false, Option, Some, None, Result, Ok, Err, if◌then◌else◌}
 use Rattle.x64_decode.specs.declared.reading.Stop.{Stop}
 use Rattle.x64_decode.specs.declared.reading.Stop.TheVariants.{Short, Bad}
 use Rattle.x64_insn.specs.Encoding.{is_byte}
@@ -18,11 +18,6 @@ abbrev pub ◌>>=◌ : {A B : Type 0} → Result A Stop → (A → Result B Stop
 abbrev pub through : {A B : Type 0} → (A → B) → Result (A × List ℕ) Stop → Result (B × List ℕ) Stop
 through to (Ok x) = Ok (to x.0, x.1)
 through to (Err e) = Err e
-
--- what a function of the code returned, seen by a view, is what a reader gives
-abbrev pub Gives : {X Y : Type 0} → (X → Y) → Result X Stop → Result Y Stop → Type 0
-Gives view (Ok x) read = read ≡ Ok (view x)
-Gives view (Err e) read = read ≡ Err e
 
 -- one byte that passes a test
 unfoldable pub byte_where : (ℕ → Bool) → Reader ℕ

@@ -1,14 +1,12 @@
 -- The instruction that bytes begin with, as a function that computes it.
-use Rattle.std.specs.Prelude.{ℕ, ◌≤◌, Bool, false, ◌==◌, List, length, Option, Some, None, unwrap_or, Result, Ok, Err}
+use Rattle.std.specs.Prelude.{ℕ, Bool, false, ◌==◌, List, length, Option, Some, None, unwrap_or, Result, Ok, Err}
 use Rattle.x64_insn.specs.declared.table.Row.{Row}
-use Rattle.x64_insn.specs.declared.table.Row.TheVariants as row
 use Rattle.x64_insn.specs.Table.{row_of, allows, reg_field, has_modrm, takes_modrm, immediate_length}
 use Rattle.x64_insn.specs.Encoding.{Fields, spelling_of, insn_of, is_byte, is_rex, has_sib, displacement_length}
 use Rattle.x64_decode.specs.declared.Decoded.{Decoded}
 use Rattle.x64_decode.specs.declared.Decoded.TheVariants as decoded
 use Rattle.x64_decode.specs.declared.reading.Stop.{Stop}
 use Rattle.x64_decode.specs.declared.reading.Stop.TheVariants.{Short, Bad}
-use Rattle.x64_decode.specs.declared.reading.FieldsRead.{FieldsRead}
 use Rattle.x64_decode.specs.ByteReading.{Reader, prefix, byte_where, byte_if, some_bytes, follow}
 
 -- ---- which byte may come next: one behind which the table has a spelling
@@ -82,49 +80,6 @@ parts =
     follow (byte_if (has_sib m) is_byte) (λ s.
     follow (some_bytes (displacement_length m s)) (λ d.
     some_bytes (immediate_bytes p r e o m))))))))
-
--- what the code has read, as nested pairs
-abbrev pub parts_read : FieldsRead → Parts
-parts_read f = (
-  f.operand_size,
-  (
-    f.rex,
-    (
-      f.escape,
-      (
-        f.opcode,
-        (
-          f.modrm,
-          (
-            f.sib,
-            (f.displacement.now, f.immediate.now),
-          ),
-        ),
-      ),
-    ),
-  ),
-)
-
--- the same by their names
-abbrev pub fields_read : FieldsRead → Fields
-fields_read f = fields_of (parts_read f)
-
--- how many bytes an immediate has at most: one for the count of a shift, four for a signed number
--- of 32 bits
-abbrev pub immediate_limit : Row → ℕ
-immediate_limit row.ImulRmImm = 4
-immediate_limit row.ImulRmImm8 = 4
-immediate_limit (row.ShiftImm operands) = 1
-immediate_limit (row.Jcc condition width) = 4
-immediate_limit (row.Jmp width) = 4
-immediate_limit row.Call = 4
-immediate_limit other = 8
-
--- What was read is no longer than it can be.
-pub record AreShort (f : FieldsRead) : Type 0 where
-  pub displacement : length f.displacement.now ≤ 4
-  pub immediate : length f.immediate.now ≤ 8
-  pub by_row : length f.immediate.now ≤ immediate_limit f.row
 
 -- the answer for what was read
 abbrev pub answer_of : Result (Parts × List ℕ) Stop → Decoded

@@ -1,2 +1,3 @@
 pub mod ByteReading
 pub mod Decoding
+pub mod InnerReading

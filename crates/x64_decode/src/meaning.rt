@@ -6,7 +6,7 @@ ghost use Rattle.x64_insn.specs.Encoding.{immediate_of, index_of, meaning, memor
 ghost use Rattle.x64_insn.specs.declared.types.Insn.{Insn};
 ghost use Rattle.x64_insn.specs.declared.types.Operand.{Operand};
 ghost use Rattle.x64_insn.specs.declared.table.Row.{Row};
-ghost use Rattle.x64_decode.specs.Decoding.{AreShort, fields_read};
+ghost use Rattle.x64_decode.specs.InnerReading.{AreShort, fields_read};
 
 use crate::numbers::{byte_of, signed_of, small_signed_of};
 use crate::reading::FieldsRead;

@@ -4,8 +4,10 @@ ghost use Rattle.std.specs.Prelude.{◌≡◌, length, IfOk, Some};
 ghost use Rattle.std.specs.Option.{option_to_list};
 ghost use Rattle.x64_insn.specs.Table.{row_of};
 ghost use Rattle.x64_insn.specs.Encoding.{displacement_length, has_sib, is_byte, spelling_of};
-ghost use Rattle.x64_decode.specs.ByteReading.{Gives, byte_if, byte_where, prefix, some_bytes};
-ghost use Rattle.x64_decode.specs.Decoding.{AreShort, fields_read, may_be_escape, may_be_modrm, may_be_opcode, may_be_operand_size, may_be_rex, parts, parts_read, row_has_modrm};
+ghost use Rattle.x64_decode.specs.ByteReading.{byte_if, byte_where, prefix, some_bytes};
+ghost use Rattle.x64_decode.specs.InnerReading.{Gives};
+ghost use Rattle.x64_decode.specs.Decoding.{may_be_escape, may_be_modrm, may_be_opcode, may_be_operand_size, may_be_rex, parts, row_has_modrm};
+ghost use Rattle.x64_decode.specs.InnerReading.{AreShort, fields_read, parts_read};
 
 use x64_insn::table::{Row, row_of};
 
@@ -74,7 +76,7 @@ fn read_escape(bytes: &[u8]) -> Result<(Option<u8>, &[u8]), Stop>
     }
 }
 
-// An opcode, and its row.
+/// An opcode, and its row.
 #[tactic(auto, unfolding(crate::specs::ByteReading::byte_where, crate::specs::Decoding::may_be_opcode))]
 fn read_opcode<'a>(
     operand_size: Option<u8>,

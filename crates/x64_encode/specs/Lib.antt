@@ -1,1 +1,1 @@
-pub mod EncodedFields
+pub mod InnerFields

@@ -6,7 +6,7 @@ ghost use Rattle.x64_insn.specs.Table.{immediate_by, number_of, width_length};
 ghost use Rattle.jz_words.specs.declared.size.Size.TheVariants.{S8, S64};
 ghost use Rattle.x64_insn.specs.declared.types.Alu.TheVariants.{Test};
 ghost use Rattle.x64_insn.specs.declared.types.Operand.TheVariants as operand;
-ghost use Rattle.x64_encode.specs.EncodedFields.{IsShort, named_bytes, named_choice, named_fields};
+ghost use Rattle.x64_encode.specs.InnerFields.{IsShort, named_bytes, named_choice, named_fields};
 
 use crate::fields::{ChosenFields, SignedBytes, needs_rex};
 use crate::numbers::{

@@ -3,7 +3,7 @@
 ghost use Rattle.std.specs.Prelude.{◌≡◌, ◌+◌, ◌<◌, ◌≤◌, []};
 ghost use Rattle.x64_insn.specs.Encoding.{spelling_of};
 ghost use Rattle.x64_insn.specs.Chosen.{address_parts, based_parts, displacement_for, index_code, mode_for, modrm_fields, needs_rex, opcode_alone, operand_size_for, register_parts, rex_with, rm_parts, scale_code, sib_with, w_for, with_number, with_opcode_register, with_register};
-ghost use Rattle.x64_encode.specs.EncodedFields.{IsShort, Small, named_bytes, named_fields, named_parts};
+ghost use Rattle.x64_encode.specs.InnerFields.{IsShort, Small, named_bytes, named_fields, named_parts};
 
 use crate::code::Code15;
 use crate::numbers::fits_byte;

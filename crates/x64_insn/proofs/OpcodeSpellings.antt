@@ -13,7 +13,7 @@ use Rattle.x64_insn.specs.declared.types.Width.TheVariants.{Rel8, Rel32}
 use Rattle.x64_insn.specs.declared.types.Reg.TheVariants as reg
 use Rattle.x64_insn.specs.declared.table.Row.{Row}
 use Rattle.x64_insn.specs.declared.table.Row.TheVariants as row
-use Rattle.x64_insn.specs.Table.{number_of, row_of, allows, has_modrm, immediate_length, has_w, takes_modrm, size_of, b_of, one_byte_row, width_length}
+use Rattle.x64_insn.specs.Table.{number_of, row_of, allows, has_modrm, immediate_length, has_w, takes_modrm, prefixed_size, b_of, one_byte_row, width_length}
 use Rattle.x64_insn.specs.Encoding.{AreFields, AreBytes, signed_of, spelling_of, Spells, StandsIf, is_rex, displacement_length, reg_of_opcode}
 use Rattle.x64_insn.specs.Chosen.{signed_bytes, fits_bytes, operand_size_for, with_number, is_no_byte, w_for, rex_with, condition_number, opcode_alone, with_opcode_register, jcc_fields, jmp_fields, has_byte_order}
 use Rattle.x64_insn.proofs.Immediates.{one_byte, signed_are_bytes, four_bytes, eight_bytes}
@@ -124,7 +124,7 @@ bswap_at : (size : Size) (r : Reg) → operand_size_for size ≡ None → is_no_
 bswap_at size r without more =
     let f = with_opcode_register size (Some 0x0F) 0xC8 r [] in
     let e = bswap_row (number_of r % 8) (low_small r) in
-    let s : size_of None (rex_with (w_for size) 0 0 (number_of r / 8) false) ≡ size = subst (λ p. size_of p (rex_with (w_for size) 0 0 (number_of r / 8) false) ≡ size) without (size_is size 0 0 (number_of r / 8) false (omega arith) (omega arith) (high_small r) more) in
+    let s : prefixed_size None (rex_with (w_for size) 0 0 (number_of r / 8) false) ≡ size = subst (λ p. prefixed_size p (rex_with (w_for size) 0 0 (number_of r / 8) false) ≡ size) without (size_is size 0 0 (number_of r / 8) false (omega arith) (omega arith) (high_small r) more) in
     by_fields f _ (opcode_fields row.Bswap size (Some 0x0F) 0xC8 r [] without e refl refl refl (refl, refl))
     (means row.Bswap f e ∙ ap (λ v. insn.Bswap v (reg_of_opcode f)) s ∙ ap (λ v. insn.Bswap size v) (opcode_reg size (Some 0x0F) 0xC8 r [] refl))
 

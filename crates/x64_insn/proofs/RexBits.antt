@@ -7,7 +7,7 @@ use Rattle.jz_words.specs.declared.size.Size.{Size}
 use Rattle.jz_words.specs.declared.size.Size.TheVariants.{S8, S16, S32, S64}
 use Rattle.x64_insn.specs.declared.table.Operands.{Operands}
 use Rattle.x64_insn.specs.declared.table.Operands.TheVariants.{Bytes, Sized}
-use Rattle.x64_insn.specs.Table.{rex_bits, has_w, r_of, x_of, b_of, size_of, size_by, allows_by, names_low_byte}
+use Rattle.x64_insn.specs.Table.{rex_bits, has_w, r_of, x_of, b_of, prefixed_size, size_by, allows_by, names_low_byte}
 use Rattle.x64_insn.specs.Encoding.{is_rex}
 use Rattle.x64_insn.specs.Chosen.{operand_size_for, w_for, rex_with, is_no_byte}
 
@@ -54,7 +54,7 @@ has_w_is r x b needed hr hx hb = let e = rex_bits_are 1 r x b needed (omega arit
 no_w : (r x b : ℕ) (needed : Bool) → r < 2 → x < 2 → b < 2 → has_w (rex_with 0 r x b needed) ≡ false
 no_w r x b needed hr hx hb = let e = rex_bits_are 0 r x b needed (omega arith) hr hx hb in w_clear _ (omega (arith, e, hr, hx, hb))
 
-pub size_is : (size : Size) (r x b : ℕ) (needed : Bool) → r < 2 → x < 2 → b < 2 → is_no_byte size ≡ true → size_of (operand_size_for size) (rex_with (w_for size) r x b needed) ≡ size
+pub size_is : (size : Size) (r x b : ℕ) (needed : Bool) → r < 2 → x < 2 → b < 2 → is_no_byte size ≡ true → prefixed_size (operand_size_for size) (rex_with (w_for size) r x b needed) ≡ size
 size_is S8 r x b needed hr hx hb h = absurd (false≢true h)
 size_is S16 r x b needed hr hx hb h = let e = no_w r x b needed hr hx hb in rw e refl
 size_is S32 r x b needed hr hx hb h = let e = no_w r x b needed hr hx hb in rw e refl

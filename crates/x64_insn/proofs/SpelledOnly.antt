@@ -19,7 +19,7 @@ use Rattle.x64_insn.specs.declared.table.Operands.{Operands}
 use Rattle.x64_insn.specs.declared.table.Operands.TheVariants.{Bytes, Sized}
 use Rattle.x64_insn.specs.declared.table.Row.{Row}
 use Rattle.x64_insn.specs.declared.table.Row.TheVariants as row
-use Rattle.x64_insn.specs.Table.{operations, operation_of, one_byte_row, escaped_row, row_of, has_w, size_of, size_by, reg_field, allows, has_modrm, takes_reg_field, takes_modrm, immediate_by, immediate_length, width_length, operands_of, is_pair, is_one_of}
+use Rattle.x64_insn.specs.Table.{operations, operation_of, one_byte_row, escaped_row, row_of, has_w, prefixed_size, size_by, reg_field, allows, has_modrm, takes_reg_field, takes_modrm, immediate_by, immediate_length, width_length, operands_of, is_pair, is_one_of}
 use Rattle.x64_insn.specs.Encoding.{Fields, AreFields, StandsIf, AreBytes, has_sib, unsigned_of, signed_of, modrm_byte, memory_of, rm_of_modrm, group3, insn_of, meaning, reg_of_modrm}
 use Rattle.x64_insn.specs.Chosen.{fits_bytes, is_address, is_rm, is_test, is_extension, is_no_byte, has_byte_order, are_alu_operands, are_mov_operands, mov_length, is_spelled}
 use Rattle.x64_insn.proofs.Immediates.{unsigned_small, bytes_fit}
@@ -103,7 +103,7 @@ fine_row None o = (fine_one o).is
 fine_row (Some b) o = (fine_escaped o).is
 
 -- ---- sizes and immediates
-sized : (p rex : Option ℕ) → is_no_byte (size_of p rex) ≡ true
+sized : (p rex : Option ℕ) → is_no_byte (prefixed_size p rex) ≡ true
 sized p rex = cond_both (has_w rex) S64 (if is_some p then S16 else S32) (λ s. is_no_byte s ≡ true) (λ e. refl) (λ e. cond_both (is_some p) S16 S32 (λ s. is_no_byte s ≡ true) (λ k. refl) (λ k. refl))
 
 sized_fit : (size : Size) (bs : List ℕ) → AreBytes (immediate_by size) bs → fits_bytes (immediate_by size) (signed_of bs) ≡ true
@@ -160,7 +160,7 @@ group3_ok : (operands : Operands) (n : ℕ) (p rex : Option ℕ) (rm : Operand) 
 unfolding group3 is_spelled
 group3_ok Sized n p rex rm bs t h ok =
     let more = and_from _ _ (sized p rex) ok in
-    cond_both (n == 0) _ _ (λ i. is_spelled i ≡ true) (λ e. and_from _ _ ok (sized_fit (size_of p rex) bs (in_full n (immediate_by (size_of p rex)) bs e h)))
+    cond_both (n == 0) _ _ (λ i. is_spelled i ≡ true) (λ e. and_from _ _ ok (sized_fit (prefixed_size p rex) bs (in_full n (immediate_by (prefixed_size p rex)) bs e h)))
     (λ a. cond_both (n == 2) _ _ (λ i. is_spelled i ≡ true) (λ e. ok) (λ b. cond_both (n == 3) _ _ (λ i. is_spelled i ≡ true) (λ e. ok)
     (λ c. cond_both (n == 4) _ _ (λ i. is_spelled i ≡ true) (λ e. more) (λ d. cond_both (n == 5) _ _ (λ i. is_spelled i ≡ true) (λ e. more) (λ e. cond_both (n == 6) _ _ (λ i. is_spelled i ≡ true) (λ f. more) (λ f. more))))))
 group3_ok Bytes n p rex rm bs t h ok =
@@ -168,21 +168,21 @@ group3_ok Bytes n p rex rm bs t h ok =
     (λ a. cond_both (n == 2) _ _ (λ i. is_spelled i ≡ true) (λ e. ok) (λ b. cond_both (n == 3) _ _ (λ i. is_spelled i ≡ true) (λ e. ok) (λ c. absurd (three_alone n t a b c))))
 
 -- ---- extensions
-from_word : (sign : Bool) (p rex : Option ℕ) → is_none p ≡ true → is_extension sign (size_of p rex) S16 ≡ true
+from_word : (sign : Bool) (p rex : Option ℕ) → is_none p ≡ true → is_extension sign (prefixed_size p rex) S16 ≡ true
 from_word sign None rex h = cond_both (has_w rex) S64 S32 (λ s. is_extension sign s S16 ≡ true) (λ e. refl) (λ e. refl)
 from_word sign (Some b) rex h = absurd (false≢true h)
 
-from_byte : (sign : Bool) (p rex : Option ℕ) → is_extension sign (size_of p rex) S8 ≡ true
+from_byte : (sign : Bool) (p rex : Option ℕ) → is_extension sign (prefixed_size p rex) S8 ≡ true
 from_byte sign p rex = cond_both (has_w rex) S64 (if is_some p then S16 else S32) (λ s. is_extension sign s S8 ≡ true) (λ e. refl) (λ e. cond_both (is_some p) S16 S32 (λ s. is_extension sign s S8 ≡ true) (λ k. refl) (λ k. refl))
 
-long_size : (p rex : Option ℕ) → has_w rex ≡ true → size_of p rex ≡ S64
+long_size : (p rex : Option ℕ) → has_w rex ≡ true → prefixed_size p rex ≡ S64
 long_size p rex h = rw h refl
 
-byte_order : (p rex : Option ℕ) → is_none p ≡ true → has_byte_order (size_of p rex) ≡ true
+byte_order : (p rex : Option ℕ) → is_none p ≡ true → has_byte_order (prefixed_size p rex) ≡ true
 byte_order None rex h = cond_both (has_w rex) S64 S32 (λ s. has_byte_order s ≡ true) (λ e. refl) (λ e. refl)
 byte_order (Some b) rex h = absurd (false≢true h)
 
-extends : (sign : Bool) (from : Size) (p rex : Option ℕ) → is_fine (Some (row.Extend sign from)) ≡ true → allows (row.Extend sign from) p rex ≡ true → is_extension sign (size_of p rex) from ≡ true
+extends : (sign : Bool) (from : Size) (p rex : Option ℕ) → is_fine (Some (row.Extend sign from)) ≡ true → allows (row.Extend sign from) p rex ≡ true → is_extension sign (prefixed_size p rex) from ≡ true
 unfolding is_fine
 extends sign S8 p rex h k = from_byte sign p rex
 extends sign S16 p rex h k = from_word sign p rex k
@@ -196,7 +196,7 @@ unfolding is_spelled is_fine
 spelled_row (row.AluRmReg op o) f fine a m ad ok i = ok
 spelled_row (row.AluRegRm op o) f fine a m ad ok i = alu_from_rm op (size_by o f.operand_size f.rex) (reg_of_modrm f) (rm_of_modrm f) fine ok
 spelled_row (row.AluRmImm o) f fine a m ad ok i = and_from _ _ ok (sized_fit (size_by o f.operand_size f.rex) f.immediate i)
-spelled_row row.AluRmImm8 f fine a m ad ok i = and_from _ _ ok (byte_fits (size_of f.operand_size f.rex) f.immediate i)
+spelled_row row.AluRmImm8 f fine a m ad ok i = and_from _ _ ok (byte_fits (prefixed_size f.operand_size f.rex) f.immediate i)
 spelled_row (row.MovRmReg o) f fine a m ad ok i = ok
 spelled_row (row.MovRegRm o) f fine a m ad ok i = mov_from_rm (size_by o f.operand_size f.rex) (reg_of_modrm f) (rm_of_modrm f) ok
 spelled_row (row.MovRmImm o) f fine a m ad ok i = and_from _ _ ok (mov_fits (size_by o f.operand_size f.rex) (rm_of_modrm f) f.immediate i)
@@ -206,8 +206,8 @@ spelled_row row.Lea f fine a m ad ok i = ad
 spelled_row (row.Group3 o) f fine a m ad ok i = group3_ok o (reg_field (modrm_byte f)) f.operand_size f.rex (rm_of_modrm f) f.immediate (takes_of (row.Group3 o) f.rex f.modrm m) i ok
 spelled_row (row.IncDec o) f fine a m ad ok i = ok
 spelled_row row.ImulRegRm f fine a m ad ok i = and_from _ _ (sized f.operand_size f.rex) ok
-spelled_row row.ImulRmImm f fine a m ad ok i = and_from _ _ (sized f.operand_size f.rex) (and_from _ _ ok (sized_fit (size_of f.operand_size f.rex) f.immediate i))
-spelled_row row.ImulRmImm8 f fine a m ad ok i = and_from _ _ (sized f.operand_size f.rex) (and_from _ _ ok (byte_fits (size_of f.operand_size f.rex) f.immediate i))
+spelled_row row.ImulRmImm f fine a m ad ok i = and_from _ _ (sized f.operand_size f.rex) (and_from _ _ ok (sized_fit (prefixed_size f.operand_size f.rex) f.immediate i))
+spelled_row row.ImulRmImm8 f fine a m ad ok i = and_from _ _ (sized f.operand_size f.rex) (and_from _ _ ok (byte_fits (prefixed_size f.operand_size f.rex) f.immediate i))
 spelled_row (row.ShiftImm o) f fine a m ad ok i = and_from _ _ ok (count_fits f.immediate i)
 spelled_row (row.ShiftOne o) f fine a m ad ok i = and_from _ _ ok refl
 spelled_row (row.ShiftCl o) f fine a m ad ok i = and_from _ _ ok refl

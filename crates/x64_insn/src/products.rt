@@ -1,10 +1,9 @@
 //! Products and quotients of words, and the status flags that they leave.
 
 ghost use Rattle.std.specs.Prelude.{◌≡◌, ◌≢◌, ◌<◌, ◌-◌, ◌^◌, ◌*◌, ◌/◌, pos, negsuc, int_div, int_rem, IfSome, IfNone};
-ghost use Rattle.std.specs.Int.{int_div_euclid};
 ghost use Rattle.jz_words.specs.Sizes.{modulus, signed};
-ghost use Rattle.jz_words.specs.Words.{residue, signed_product};
-ghost use Rattle.x64_insn.specs.Products.{product_flags, no_flags, product_answer, signed_product_answer, low_product_answer, double_word, signed_double_word, quotient_answer, signed_quotient_answer};
+ghost use Rattle.jz_words.specs.Words.{residue};
+ghost use Rattle.x64_insn.specs.Products.{product_flags, product_answer, signed_product_answer, low_product_answer, double_word, signed_double_word, quotient_answer, signed_quotient_answer};
 
 use crate::answer::{Answer, flag, overflows};
 use crate::types::FlagVal;

@@ -1,7 +1,7 @@
 //! The table of opcodes, and the numbers of registers in the fields of a spelling.
 
 ghost use Rattle.std.specs.Prelude.{◌≡◌, ◌<◌};
-ghost use Rattle.x64_insn.specs.Table.{allows, allows_by, condition_of, escaped_row, has_byte_reg, has_byte_rm, has_modrm, has_w, immediate_by, immediate_length, is_shift_number, names_low_byte, number_of, one_byte_row, operands_of, operation_of, reg_of, rex_bits, row_of, size_by, size_of, takes_modrm, takes_reg_field, width_length};
+ghost use Rattle.x64_insn.specs.Table.{allows, allows_by, condition_of, escaped_row, has_byte_reg, has_byte_rm, has_modrm, has_w, immediate_by, immediate_length, is_shift_number, names_low_byte, number_of, one_byte_row, operands_of, operation_of, reg_of, rex_bits, row_of, size_by, prefixed_size, takes_modrm, takes_reg_field, width_length};
 
 use crate::types::{Alu, Cond, Reg, Width};
 use jz_words::Size;
@@ -235,8 +235,8 @@ pub fn has_w(rex: Option<u8>) -> bool
 }
 
 /// The size that the prefixes give.
-pub fn size_of(operand_size: Option<u8>, rex: Option<u8>) -> Size
-    ensures { result ≡ size_of operand_size rex }
+pub fn prefixed_size(operand_size: Option<u8>, rex: Option<u8>) -> Size
+    ensures { result ≡ prefixed_size operand_size rex }
 {
     if has_w(rex) {
         Size::S64
@@ -290,7 +290,7 @@ impl Operands {
     {
         match self {
             Operands::Bytes => Size::S8,
-            Operands::Sized => size_of(operand_size, rex),
+            Operands::Sized => prefixed_size(operand_size, rex),
         }
     }
 
@@ -425,7 +425,7 @@ impl Row {
             }
             Row::AluRmImm8 | Row::ImulRmImm8 | Row::ShiftImm(_) => 1,
             Row::MovRegImm64 => 8,
-            Row::ImulRmImm => immediate_by(size_of(operand_size, rex)),
+            Row::ImulRmImm => immediate_by(prefixed_size(operand_size, rex)),
             Row::Group3(operands) => {
                 if field == 0 {
                     immediate_by(operands.size_by(operand_size, rex))

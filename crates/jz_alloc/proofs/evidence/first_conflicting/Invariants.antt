@@ -1,5 +1,5 @@
 use Rattle.std.proofs.Common.{ℕ, ◌<◌}
-use Rattle.jz_alloc.specs.Holding.{VarAt}
+use Rattle.jz_alloc.specs.InnerHolding.{VarAt}
 use Rattle.jz_alloc.proofs.evidence.first_conflicting.Given as goal
 
 abbrev pub invariant-loop-other : goal.invariant-loop-other

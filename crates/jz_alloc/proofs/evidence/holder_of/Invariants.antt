@@ -1,6 +1,6 @@
 use Rattle.std.proofs.Common.{ℕ, ◌<◌}
 use Rattle.jz_ir.specs.Places.{HeldByVar, TakenAt}
-use Rattle.jz_alloc.specs.Holding.{LiveIn}
+use Rattle.jz_alloc.specs.InnerHolding.{LiveIn}
 use Rattle.jz_alloc.proofs.evidence.holder_of.Given as goal
 
 abbrev pub invariant-loop-i : goal.invariant-loop-i

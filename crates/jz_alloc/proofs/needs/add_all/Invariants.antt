@@ -1,5 +1,5 @@
 use Rattle.std.proofs.Common.{◌≡◌, drop}
-use Rattle.jz_alloc.specs.Needs.{add_needs}
+use Rattle.jz_alloc.specs.InnerNeeds.{add_needs}
 use Rattle.jz_alloc.proofs.needs.add_all.Given as goal
 
 abbrev pub invariant-loop-need : goal.invariant-loop-need

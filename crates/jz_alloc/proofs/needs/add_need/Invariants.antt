@@ -1,5 +1,5 @@
 use Rattle.std.proofs.Common.{◌≡◌, ◌≤◌, ◌-◌, ◌++◌, length, take, drop}
-use Rattle.jz_alloc.specs.Needs.{insert_need}
+use Rattle.jz_alloc.specs.InnerNeeds.{insert_need}
 use Rattle.jz_alloc.proofs.needs.add_need.Given as goal
 
 abbrev pub invariant-loop-at : goal.invariant-loop-at

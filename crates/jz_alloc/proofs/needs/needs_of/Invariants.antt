@@ -1,5 +1,5 @@
 use Rattle.std.proofs.Common.{◌≡◌, drop, []}
-use Rattle.jz_alloc.specs.Needs.{need_list}
+use Rattle.jz_alloc.specs.InnerNeeds.{need_list}
 use Rattle.jz_alloc.proofs.needs.needs_of.Given as goal
 
 abbrev pub invariant-loop-op : goal.invariant-loop-op

@@ -4,7 +4,7 @@ use Rattle.std.proofs.lemmas.List.{length-replicate}
 use Rattle.jz_ir.specs.Places.{First, order_of, refused}
 use Rattle.jz_alloc.specs.Tables.{row_has}
 use Rattle.jz_alloc.specs.Fit.{MeetsIn, ConflictsIn, TakenIn, out_of}
-use Rattle.jz_alloc.specs.Holding.{IsHeld, LiveIn}
+use Rattle.jz_alloc.specs.InnerHolding.{IsHeld, LiveIn}
 use Rattle.jz_alloc.specs.declared.needs.Needed.{Needed}
 use Rattle.jz_alloc.specs.Needs.{need_before, Wants}
 use Rattle.jz_alloc.proofs.NeedLaw.{each_need, needs_ascend}

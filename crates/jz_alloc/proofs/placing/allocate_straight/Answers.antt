@@ -1,5 +1,5 @@
 use Rattle.std.proofs.Common.{sym, subst, ℕ, ◌<◌, length, ◌↔◌}
-use Rattle.jz_alloc.specs.Holding.{LiveIn as LiveInRows}
+use Rattle.jz_alloc.specs.InnerHolding.{LiveIn as LiveInRows}
 use Rattle.jz_ir.specs.Straight.{LiveIn}
 use Rattle.jz_alloc.proofs.Meaning.{allocated_to}
 use Rattle.jz_alloc.proofs.placing.allocate_straight.Goals as goal

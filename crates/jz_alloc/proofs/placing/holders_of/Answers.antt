@@ -2,7 +2,7 @@ use Rattle.std.proofs.Common.{◌∙◌, sym, ap, [], arith}
 use Rattle.jz_bits.specs.Has.{has}
 use Rattle.std.proofs.lemmas.List.{get_or_default}
 use Rattle.jz_alloc.specs.Tables.{row_has}
-use Rattle.jz_alloc.specs.Holding.{LiveIn}
+use Rattle.jz_alloc.specs.InnerHolding.{LiveIn}
 use Rattle.jz_alloc.proofs.Meaning.{one_holder, no_holder}
 use Rattle.jz_alloc.proofs.placing.holders_of.Goals as goal
 use Rattle.jz_alloc.proofs.placing.holders_of.Goals.{then-contains+in_ok-holder+in-Some+in_ok-push-in-Some, else-contains}

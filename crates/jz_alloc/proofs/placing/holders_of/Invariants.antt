@@ -1,5 +1,5 @@
 use Rattle.jz_alloc.specs.Tables.{row_has}
-use Rattle.jz_alloc.specs.Holding.{LiveIn}
+use Rattle.jz_alloc.specs.InnerHolding.{LiveIn}
 use Rattle.jz_alloc.specs.Answers.{HoldsEach}
 use Rattle.jz_alloc.proofs.placing.holders_of.Given as goal
 

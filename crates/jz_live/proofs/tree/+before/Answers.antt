@@ -1,7 +1,8 @@
 use Rattle.std.proofs.Common.{◌≡◌, ◌∙◌, sym, ap, subst, ◌+◌, ◌*◌, ◌-◌, ◌<◌, length, arith, get_or}
 use Rattle.jz_bits.specs.Has.{has}
 use Rattle.jz_ir.specs.Tree.{then_tree, tree_of, done}
-use Rattle.jz_live.specs.Lives.{TreeBelow, size}
+use Rattle.jz_live.specs.InnerLives.{size}
+use Rattle.jz_live.specs.Lives.{TreeBelow}
 use Rattle.jz_live.proofs.Nodes.{one_more, fine_at, size_at}
 use Rattle.jz_live.proofs.tree.+before.Goals as goal
 

@@ -1,7 +1,7 @@
 use Rattle.std.proofs.Common.{◌≡◌, ℕ, length, drop, ◌+◌, ◌*◌}
 use Rattle.jz_bits.specs.Has.{has}
 use Rattle.jz_ir.specs.Tree.{tree_of, then_tree, done}
-use Rattle.jz_live.specs.Lives.{live_before, size}
+use Rattle.jz_live.specs.InnerLives.{live_before, size}
 use Rattle.jz_live.proofs.tree.+before.Given as goal
 
 abbrev pub invariant-before_block-loop-i : goal.invariant-before_block-loop-i

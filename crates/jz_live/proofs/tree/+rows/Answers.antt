@@ -2,7 +2,8 @@ use Rattle.std.proofs.Common.{◌≡◌, ◌∙◌, sym, ap, subst, ◌+◌, ◌
 use Rattle.std.specs.List.{All}
 use Rattle.jz_bits.specs.Has.{has}
 use Rattle.jz_ir.specs.Tree.{then_tree, tree_of, done}
-use Rattle.jz_live.specs.Lives.{live_before, TreeBelow, size, column, live_after_each}
+use Rattle.jz_live.specs.InnerLives.{live_before, size, column, live_after_each}
+use Rattle.jz_live.specs.Lives.{TreeBelow}
 use Rattle.jz_live.proofs.Nodes.{one_more, fine_at, size_at, afters_more, while_set, while_rows, while_is}
 use Rattle.jz_live.proofs.tree.+rows.Goals as goal
 

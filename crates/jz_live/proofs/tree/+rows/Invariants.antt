@@ -2,7 +2,7 @@ use Rattle.std.proofs.Common.{◌≡◌, ℕ, length, drop, ◌+◌, ◌*◌, �
 use Rattle.std.specs.List.{All}
 use Rattle.jz_bits.specs.Has.{has}
 use Rattle.jz_ir.specs.Tree.{tree_of, then_tree, done}
-use Rattle.jz_live.specs.Lives.{live_before, live_after_each, column, size}
+use Rattle.jz_live.specs.InnerLives.{live_before, live_after_each, column, size}
 use Rattle.jz_live.proofs.tree.+rows.Given as goal
 
 abbrev pub invariant-rows_block-loop-i : goal.invariant-rows_block-loop-i

@@ -1,7 +1,7 @@
 use Rattle.std.proofs.Common.{◌∙◌, ap, arith, ◌++◌}
 use Rattle.jz_bits.specs.Has.{has}
 use Rattle.jz_ir.specs.Tree.{tree_of}
-use Rattle.jz_live.specs.Lives.{column, live_after_each}
+use Rattle.jz_live.specs.InnerLives.{column, live_after_each}
 use Rattle.jz_live.proofs.Whole.{fine_wide, count_is, exact_tree}
 use Rattle.jz_live.proofs.tree.live.Goals as goal
 

@@ -1,5 +1,5 @@
 -- What the tables say.
-use Rattle.std.specs.Prelude.{◌≡◌, ℕ, zero, suc, ◌+◌, ◌/◌, Bool, false, not, ◌&&◌, ◌||◌, List, [], slice_index_or, length}
+use Rattle.std.specs.Prelude.{◌≡◌, ◌<◌, ℕ, zero, suc, ◌+◌, ◌/◌, Bool, false, not, ◌&&◌, ◌||◌, List, [], slice_index_or, length}
 use Rattle.std.specs.List.{All}
 use Rattle.jz_bits.specs.Has.{has}
 use Rattle.jz_ir.specs.declared.code.Op.{Op}
@@ -18,6 +18,11 @@ AllWide count rows = All (λ row. length row ≡ count / 64 + 1) rows
 
 abbrev pub row_has : List (List ℕ) → ℕ → ℕ → Bool
 row_has rows i number = has (slice_index_or rows i []) number
+
+-- of so many rows each has exactly the variables that pass at its place
+abbrev pub EachHas : ℕ → List (List ℕ) → (ℕ → ℕ → Bool) → Type 0
+EachHas count rows passes =
+    (i variable : ℕ) → i < count → has (slice_index_or rows i []) variable ≡ passes i variable
 
 -- the operation i writes the place besides, and the variable is live across it
 abbrev pub taken : List Op → List (List ℕ) → ℕ → ℕ → ℕ → Bool
