@@ -11,7 +11,7 @@ use Rattle.jz_tree.specs.declared.expr.Expr.TheFolds.{fold-roll-Expr}
 use Rattle.jz_integers.specs.declared.constant.Constant.{Constant}
 use Rattle.jz_integers.specs.declared.sides.Waiting.{Waiting}
 use Rattle.jz_integers.specs.Integers.{inline_value, joined, value_step}
-use Rattle.jz_integers.specs.LeftSides.{on_left}
+use Rattle.jz_integers.specs.InnerLeftSides.{on_left}
 
 pub last_waiting : (ws : List Waiting) (w : Waiting) (e : Expr) → on_left (ws ++ w ∷ []) e ≡ on_left ws (expr.Bin w.op e w.right.now w.span)
 last_waiting [] w e = refl

@@ -12,7 +12,7 @@ use Rattle.jz_tree.specs.declared.expr.Expr.TheOpen.{Expr-F}
 use Rattle.jz_tree.specs.declared.expr.Expr.TheViews.{out-Expr, roll-Expr, out-roll-Expr, roll-out-Expr}
 use Rattle.jz_integers.specs.declared.constant.Constant.{Constant}
 use Rattle.jz_integers.specs.Integers.{plain_value, joined}
-use Rattle.jz_integers.specs.LeftSides.{left_layer, left_of, left_at}
+use Rattle.jz_integers.specs.InnerLeftSides.{left_layer, left_of, left_at}
 use Rattle.jz_integers.proofs.LeftSideLemmas.{left_smaller, value_bin}
 
 pub one_more : (k : ℕ) (e : Expr) → left_at (k + 1) e ≡ left_of (left_at k e)

@@ -142,10 +142,6 @@ abbrev pub inline_value : KnownNumbers → Expr → Option Constant
 inline_value numbers =
     fold-Expr _ _ _ _ _ value_step (λ t. tt) (λ a. tt) (λ d. tt) (λ v. numbers v.name v.copy)
 
--- the value of an operation whose left part has this value
-abbrev pub value_after : KnownNumbers → BinOp → Option Constant → Expr → Option Constant
-value_after numbers op x e = joined op x (inline_value numbers e)
-
 abbrev pub the_number : Option Constant → Option ℤ
 the_number (Some (constant.Int i)) = Some i
 the_number _ = None

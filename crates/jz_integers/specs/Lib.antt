@@ -1,3 +1,3 @@
 pub mod Integers
-pub mod LeftSides
+pub mod InnerLeftSides
 pub mod Laws

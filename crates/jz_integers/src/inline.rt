@@ -1,8 +1,7 @@
 //! The values of inline expressions.
 ghost use Rattle.std.specs.Prelude.{◌≡◌, IfOk};
 ghost use Rattle.jz_integers.specs.Integers as values;
-ghost use Rattle.jz_integers.specs.Integers.{value_after};
-ghost use Rattle.jz_integers.specs.LeftSides.{IsSingle};
+ghost use Rattle.jz_integers.specs.InnerLeftSides.{IsSingle, value_after};
 
 use crate::Constant;
 use crate::arithmetic::{inverted, negated, on_integers};

@@ -1,6 +1,6 @@
 //! Expressions by their left side, which may be as long as a text.
 ghost use Rattle.std.specs.Prelude.{◌≡◌, IfOk};
-ghost use Rattle.jz_integers.specs.LeftSides.{on_left, IsSingle};
+ghost use Rattle.jz_integers.specs.InnerLeftSides.{on_left, IsSingle};
 
 use jz_io::Span;
 use jz_tree::{BinOp, Expr};

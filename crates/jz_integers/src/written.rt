@@ -2,7 +2,7 @@
 ghost use Rattle.std.specs.Prelude.{◌≡◌, ◌<◌, ◌^◌, ◌-◌};
 ghost use Rattle.jz_integers.specs.Integers as values;
 ghost use Rattle.jz_integers.specs.Integers.{plain_value};
-ghost use Rattle.jz_integers.specs.LeftSides.{left_of, left_at};
+ghost use Rattle.jz_integers.specs.InnerLeftSides.{left_of, left_at};
 
 use crate::Constant;
 use crate::inline::{is_settled, minus, on_both, opposite};

@@ -3,7 +3,8 @@ use Rattle.std.proofs.Common.{◌≡◌, List, [], ◌∷◌, refl, ap, ◌∙�
 use Rattle.jz_io.specs.declared.span.Span.{Span}
 use Rattle.jz_scopes.specs.Order.{earlier, earliest}
 use Rattle.jz_scopes.proofs.Earliest.{earliest-append, first_in-is, earlier-assoc, none-earlier, earlier-none}
-use Rattle.jz_kinds.specs.Firsts.{wrong_beside, first_beside}
+use Rattle.jz_kinds.specs.Firsts.{wrong_beside}
+use Rattle.jz_kinds.specs.InnerFound.{first_beside}
 
 pub earliest_beside : {A B : Type 0} (f : A → B → List Span) (more : B → List Span) (xs : List A) (ys : List B) → earliest (wrong_beside f more xs ys) ≡ first_beside f more xs ys
 earliest_beside f more xs [] = refl

@@ -24,7 +24,7 @@ use Rattle.jz_kinds.specs.declared.wants.Form.{Form}
 use Rattle.jz_kinds.specs.Wants.{fits_truth, fits_word, fits_access, fits_cell, cell_size, cast_want, index_want}
 use Rattle.jz_kinds.specs.Operators.{group_of, gives, stops, compared, left_of, right_of, takes_carry}
 use Rattle.jz_kinds.specs.Typings.{Typing, typing, typing_of_access, typing_step, access_typing, neg_form, left_want, right_want}
-use Rattle.jz_kinds.specs.Found.{Found, found, found_in_access, found_step, access_found, left_inline}
+use Rattle.jz_kinds.specs.InnerFound.{Found, found, found_in_access, found_step, access_found, left_inline}
 
 -- both say the same
 pub record IsSame (t : Typing) (f : Found) : Type 0 where

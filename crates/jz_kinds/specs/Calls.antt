@@ -31,7 +31,10 @@ same_length (Some n) (Some m) = int_eq n (pos 0) || int_eq m (pos 0) || int_eq n
 same_length _ _ = true
 
 abbrev pub same_decl : Decl → Decl → Bool
-same_decl c d = same_storage c.storage d.storage && (same_kind (kind_of c.ty) (kind_of d.ty) && same_length (written_length c) (written_length d))
+same_decl c d =
+    same_storage c.storage d.storage
+    && (same_kind (kind_of c.ty) (kind_of d.ty)
+    && same_length (written_length c) (written_length d))
 
 -- an unknown name is told by another rule
 abbrev pub agrees : Decl → Option Decl → Bool
@@ -82,7 +85,9 @@ is_callee kinds.Export = false
 
 -- it is an inline function, and has as many parameters and results
 abbrev pub fits_call : Fun → List Lval → List Expr → Bool
-fits_call g to args = is_callee g.kind && (nat_eq (length args) (length g.params) && nat_eq (length to) (length g.rets))
+fits_call g to args =
+    is_callee g.kind
+    && (nat_eq (length args) (length g.params) && nat_eq (length to) (length g.rets))
 
 -- an unknown function is told by another rule; its arguments are asked nothing
 abbrev pub call_wrong : Option Fun → List Lval → List Expr → Span → List Span
@@ -100,4 +105,6 @@ abbrev pub none_beyond : Var → List Span
 none_beyond v = []
 
 abbrev pub returned_wrong : Fun → List Span
-returned_wrong f = unless (nat_eq (length f.result) (length f.rets)) f.span ++ wrong_beside returned_one none_beyond f.rets f.result
+returned_wrong f =
+    unless (nat_eq (length f.result) (length f.rets)) f.span
+    ++ wrong_beside returned_one none_beyond f.rets f.result

@@ -48,9 +48,11 @@ argument_size [] (e ∷ es) = None
 argument_size (r ∷ rs) (e ∷ es) =
     if is_value r && is_worded e then (typing e).form.size else argument_size rs es
 
--- the size of an intrinsic: that of its name, else of its value, else of the first argument that is a word
+-- the size of an intrinsic: that of its name, else of its value, else of the first argument that is
+-- a word
 abbrev pub size_of : Signature → List Lval → List Expr → Option Size
-size_of g to args = or_size g.size (or_size (result_size g.results to) (argument_size g.arguments args))
+size_of g to args =
+    or_size g.size (or_size (result_size g.results to) (argument_size g.arguments args))
 
 -- of an array another rule speaks
 abbrev pub argument_wrong : Option Size → Role → Expr → List Span
@@ -68,7 +70,8 @@ abbrev pub none_more : Expr → List Span
 none_more e = []
 
 abbrev pub are_counted : Signature → List Lval → List Expr → Bool
-are_counted g to args = nat_eq (length args) (length g.arguments) && nat_eq (length to) (length g.results)
+are_counted g to args =
+    nat_eq (length args) (length g.arguments) && nat_eq (length to) (length g.results)
 
 abbrev pub instance_wrong : Option Size → Signature → List Lval → List Expr → Span → List Span
 instance_wrong z g to args at =
@@ -76,7 +79,11 @@ instance_wrong z g to args at =
     ++ unless (are_counted g to args) at
     ++ wrong_beside (argument_wrong z) none_more g.arguments args
 
+-- with the size that it has
+abbrev pub signature_wrong : Signature → List Lval → List Expr → Span → List Span
+signature_wrong g to args at = instance_wrong (size_of g to args) g to args at
+
 -- an unknown intrinsic is told by another rule; its arguments are asked nothing
 abbrev pub intrinsic_wrong : Option Signature → List Lval → List Expr → Span → List Span
 intrinsic_wrong None to args at = flat_map (within any_size) to
-intrinsic_wrong (Some g) to args at = instance_wrong (size_of g to args) g to args at
+intrinsic_wrong (Some g) to args at = signature_wrong g to args at

@@ -1,11 +1,11 @@
 -- The lengths of arrays.
-use Rattle.std.specs.Prelude.{ℕ, ℤ, pos, Bool, false, ◌&&◌, ◌||◌, nat_le, is_some, List, ◌++◌, flat_map, Option, Some, None}
+use Rattle.std.specs.Prelude.{ℤ, pos, Bool, false, ◌&&◌, ◌||◌, nat_le, is_some, List, ◌++◌, flat_map, Option, Some, None}
 use Rattle.jz_io.specs.declared.span.Span.{Span}
 use Rattle.jz_tree.specs.declared.expr.Expr.{Expr}
 use Rattle.jz_tree.specs.declared.expr.Decl.{Decl}
 use Rattle.jz_tree.specs.declared.program.Fun.{Fun}
 use Rattle.jz_scopes.specs.Order.{unless, earliest}
-use Rattle.jz_scopes.specs.Scopes.{Name, variable_place}
+use Rattle.jz_scopes.specs.Scopes.{Name, PlacesByName, variable_place}
 use Rattle.jz_scopes.specs.Parts.{span_of, names_in, lengths_in}
 use Rattle.jz_scopes.specs.Names.{is_constant, decls_of}
 use Rattle.jz_kinds.specs.declared.wants.Want.TheVariants as want
@@ -19,7 +19,8 @@ abbrev pub is_length : Option ℤ → Bool
 is_length None = false
 is_length (Some n) = within_limits n
 
--- constant: whether a name is a constant's where it stands; length_of: the value of a length, if it has one
+-- constant: whether a name is a constant's where it stands; length_of: the value of a length, if it
+-- has one
 module _ (constant : Name → Bool) where
   abbrev pub no_constant : Name → List Span
   no_constant n = unless (constant n) n.1
@@ -31,7 +32,9 @@ module _ (constant : Name → Bool) where
   module _ (length_of : Expr → Option ℤ) where
     -- it is built of numbers and constants, and then is from 1 to 65,536
     abbrev pub length_wrong : Expr → List Span
-    length_wrong e = unbuilt e ++ unless (is_some (earliest (unbuilt e)) || is_length (length_of e)) (span_of e)
+    length_wrong e =
+        unbuilt e
+        ++ unless (is_some (earliest (unbuilt e)) || is_length (length_of e)) (span_of e)
 
     abbrev pub decl_wrong : Decl → List Span
     decl_wrong d = flat_map length_wrong (lengths_in d)
@@ -41,5 +44,6 @@ module _ (constant : Name → Bool) where
     lengths_wrong f = flat_map decl_wrong (decls_of f)
 
 -- of a function of a program whose constants are declared there
-unfoldable pub fun_lengths : (List ℕ → Option Span) → (Expr → Option ℤ) → Fun → List Span
-fun_lengths constants length_of f = lengths_wrong (is_constant constants (variable_place f)) length_of f
+unfoldable pub fun_lengths : PlacesByName → (Expr → Option ℤ) → Fun → List Span
+fun_lengths constants length_of f =
+    lengths_wrong (is_constant constants (variable_place f)) length_of f

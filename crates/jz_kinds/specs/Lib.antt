@@ -1,7 +1,7 @@
 pub mod Wants
 pub mod Operators
 pub mod Typings
-pub mod Found
+pub mod InnerFound
 pub mod Firsts
 pub mod Sides
 pub mod Values
@@ -10,4 +10,5 @@ pub mod Worded
 pub mod Intrinsics
 pub mod Calls
 pub mod Lengths
+pub mod InnerLengths
 pub mod Mismatches

@@ -35,11 +35,18 @@ condition_wrong (Some c) = (typing c).wrong want.Truth
 
 -- the counter of a `for` and its bounds are inline integers
 abbrev pub head_wrong : Var → Expr → Expr → List Span
-head_wrong i from to = unless (is_inline_int (known_of i)) (name_of i).1 ++ (typing from).wrong want.Int ++ (typing to).wrong want.Int
+head_wrong i from to =
+    unless (is_inline_int (known_of i)) (name_of i).1
+    ++ (typing from).wrong want.Int
+    ++ (typing to).wrong want.Int
+
+abbrev pub assign_wrong : Option Fun
+    → List Lval → Option BinOp → Rhs → Option Expr → List Span
+assign_wrong g to o from cond = right_wrong g to o from ++ condition_wrong cond
 
 -- of a statement whose callee is g, and whose variables have their declarations
 abbrev pub mismatched_with : Option Fun → Layer → List Span
-mismatched_with g (StmtKind-F.Assign to o from cond) = right_wrong g to o from ++ condition_wrong cond
+mismatched_with g (StmtKind-F.Assign to o from cond) = assign_wrong g to o from cond
 mismatched_with g (StmtKind-F.If c a b) = (typing c).wrong want.Truth
 mismatched_with g (StmtKind-F.While p c b) = (typing c).wrong want.Truth
 mismatched_with g (StmtKind-F.For i from down to b) = head_wrong i from to
@@ -76,11 +83,14 @@ body_wrong named f = returned_wrong f ++ flat_map (stmt_wrong named) (statements
 abbrev pub among : List Fun → Named
 among fs n = function_named n fs
 
--- ---- of a program: of the program as it was read its constants and the lengths of its arrays, and of the program whose
--- variables have their declarations its functions
+-- ---- of a program
+-- of the program as it was read: its constants, and the lengths of its arrays
 abbrev pub mismatched_as_read : (Expr → Option ℤ) → Program → List Span
-mismatched_as_read length_of p = flat_map constant_wrong p.consts ++ flat_map (fun_lengths (constant_place p.consts) length_of) p.funs
+mismatched_as_read length_of p =
+    flat_map constant_wrong p.consts
+    ++ flat_map (fun_lengths (constant_place p.consts) length_of) p.funs
 
+-- of the program whose variables have their declarations: its functions
 abbrev pub mismatched_declared : Program → List Span
 mismatched_declared q = flat_map (body_wrong (among q.funs)) q.funs
 

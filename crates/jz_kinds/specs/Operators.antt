@@ -75,7 +75,11 @@ is_test group.Compare = true
 is_test _ = false
 
 abbrev pub bin_form : Group → Form → Form → Form
-bin_form g a b = record { size = group_size g a.size b.size; truth = is_test g; inline = b.inline && a.inline }
+bin_form g a b = record {
+  size = group_size g a.size b.size;
+  truth = is_test g;
+  inline = b.inline && a.inline;
+}
 
 -- ---- what it wants
 -- where both operands are inline, an operation that only words have wants a word

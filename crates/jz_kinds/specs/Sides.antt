@@ -12,8 +12,8 @@ use Rattle.jz_scopes.specs.Kinds.{known_of, is_array, same_size}
 use Rattle.jz_kinds.specs.declared.wants.Want.{Want}
 use Rattle.jz_kinds.specs.declared.wants.Want.TheVariants as want
 use Rattle.jz_kinds.specs.declared.wants.Form.{Form}
-use Rattle.jz_kinds.specs.Wants.{fits_known, fits_cell, fits_access, cell_size, sized_want, index_want, no_form, sized, var_form, own_want}
-use Rattle.jz_kinds.specs.Typings.{Typing, typing}
+use Rattle.jz_kinds.specs.Wants.{fits_known, fits_access, cell_size, sized_want, index_want, no_form, sized, var_form, own_want}
+use Rattle.jz_kinds.specs.Typings.{Typing, typing, cell_wrong}
 
 abbrev pub is_skip : Lval → Bool
 is_skip (lval.Skip at) = true
@@ -29,9 +29,11 @@ left_form (lval.Store a) = sized a.size
 -- nothing is asked of `_`, nor of an array as a whole, of which another rule speaks
 abbrev pub left_wrong : Lval → Want → List Span
 left_wrong (lval.Skip at) w = []
-left_wrong (lval.Var v) w = if is_array (known_of v) then [] else unless (fits_known (known_of v) w) (name_of v).1
-left_wrong (lval.Cell v i) w = unless (fits_cell (cell_size (known_of v)) w) (name_of v).1 ++ (typing i).wrong index_want
-left_wrong (lval.Store a) w = unless (fits_access a.size w) a.span ++ (typing (out-Access a).at).wrong index_want
+left_wrong (lval.Var v) w =
+    if is_array (known_of v) then [] else unless (fits_known (known_of v) w) (name_of v).1
+left_wrong (lval.Cell v i) w = cell_wrong (known_of v) (name_of v).1 (typing i) w
+left_wrong (lval.Store a) w =
+    unless (fits_access a.size w) a.span ++ (typing (out-Access a).at).wrong index_want
 
 abbrev pub left_typing : Lval → Typing
 left_typing d = record { form = left_form d; wrong = left_wrong d }
@@ -44,7 +46,11 @@ left_span (lval.Store a) = a.span
 
 -- what a left side wants of a value; one without a size takes the value's own
 abbrev pub set_want : Form → Form → Want
-set_want d f = if d.truth then want.Truth else if d.inline then want.Int else if is_some d.size then sized_want false d.size else own_want f
+set_want d f =
+    if d.truth then want.Truth else
+    if d.inline then want.Int else
+    if is_some d.size then sized_want false d.size else
+    own_want f
 
 -- what is wrong within a left side that is set to a word of that size
 abbrev pub within : Option Size → Lval → List Span

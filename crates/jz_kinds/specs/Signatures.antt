@@ -2,6 +2,7 @@
 use Rattle.std.specs.Prelude.{ℕ, List, [], ◌∷◌, ◌++◌, Option, option_map}
 use Rattle.jz_words.specs.declared.size.Size.{Size}
 use Rattle.jz_tree.specs.declared.intrinsic.Intrinsic.{Intrinsic}
+use Rattle.jz_tree.specs.declared.intrinsic.Instance.{Instance}
 use Rattle.jz_tree.specs.declared.intrinsic.Intrinsic.TheVariants as name
 use Rattle.jz_tree.specs.Spellings.{spelled}
 use Rattle.jz_kinds.specs.declared.signatures.Role.{Role}
@@ -63,5 +64,8 @@ results_of _ = five ++ one role.Value
 abbrev pub signature_of : Intrinsic → Option Size → Signature
 signature_of i z = record { size = z; arguments = operands_of i; results = results_of i }
 
+abbrev pub instance_signature : Instance → Signature
+instance_signature i = signature_of i.name i.size
+
 abbrev pub signature : List ℕ → Option Signature
-signature n = option_map (λ i. signature_of i.name i.size) (spelled n)
+signature n = option_map instance_signature (spelled n)

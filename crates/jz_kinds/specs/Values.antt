@@ -35,22 +35,34 @@ abbrev pub is_product : Option BinOp → Expr → Bool
 is_product None e = product_layer (out-Expr e)
 is_product (Some o) e = is_mul o
 
--- the high and the low word of a product have one size: that of the high one, else of the low one, else of the operands
+-- the high and the low word of a product have one size: that of the high one, else of the low one,
+-- else of the operands
 abbrev pub product_size : Lval → Lval → Typing → Option Size
 product_size h l t = or_size (left_form h).size (or_size (left_form l).size t.form.size)
 
 abbrev pub product_of : Option Size → Lval → Lval → Typing → Span → List Span
-product_of z h l t at = within z h ++ within z l ++ t.wrong (own_size z) ++ unless (takes (own_size z) h && takes (own_size z) l) at
+product_of z h l t at =
+    within z h
+    ++ within z l
+    ++ t.wrong (own_size z)
+    ++ unless (takes (own_size z) h && takes (own_size z) l) at
+
+-- both words of a product
+abbrev pub product_wrong : Option BinOp → Lval → Lval → Expr → List Span
+product_wrong o h l e =
+    product_of (product_size h l (value_typing o l e)) h l (value_typing o l e) (span_of e)
 
 -- a flag and a value
 abbrev pub with_flag : Lval → Lval → Typing → Span → List Span
 with_flag c d t at = within any_size c ++ unless (takes want.Truth c) at ++ single d t
+
+abbrev pub flag_wrong : Option BinOp → Lval → Lval → Expr → List Span
+flag_wrong o c d e = with_flag c d (value_typing o d e) (span_of e)
 
 -- one value; or a flag and a value, or both words of a product; more are told at the value
 abbrev pub value_wrong : List Lval → Option BinOp → Expr → List Span
 value_wrong [] o e = []
 value_wrong (d ∷ []) o e = single d (value_typing o d e)
 value_wrong (c ∷ d ∷ []) o e =
-    if is_product o e then product_of (product_size c d (value_typing o d e)) c d (value_typing o d e) (span_of e)
-    else with_flag c d (value_typing o d e) (span_of e)
+    if is_product o e then product_wrong o c d e else flag_wrong o c d e
 value_wrong ds o e = flat_map (within any_size) ds ++ (span_of e ∷ [])

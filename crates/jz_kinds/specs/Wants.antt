@@ -77,7 +77,8 @@ abbrev pub or_size : Option Size → Option Size → Option Size
 or_size None b = b
 or_size (Some z) b = Some z
 
--- what the operand of a cast wants: a word that says its size itself, and nothing in it that leaves its size to the place
+-- what the operand of a cast wants: a word that says its size itself, and nothing in it that leaves
+-- its size to the place
 abbrev pub cast_want : Option Size → Want
 cast_want None = want.AnyWord
 cast_want (Some z) = want.Sized z
@@ -86,7 +87,8 @@ cast_want (Some z) = want.Sized z
 abbrev pub index_want : Want
 index_want = want.Sized sizes.S64
 
--- what operands want where their size is this; without one they are integers, or of an operation that only words have words
+-- what operands want where their size is this; without one they are integers, or of an operation
+-- that only words have words
 abbrev pub sized_want : Bool → Option Size → Want
 sized_want words (Some z) = want.Word z
 sized_want words None = if words then want.AnyWord else want.Int
@@ -102,6 +104,13 @@ no_form = record { size = None; truth = false; inline = false }
 
 abbrev pub sized : Option Size → Form
 sized z = record { size = z; truth = false; inline = false }
+
+-- of a number, and of a bool that is written
+abbrev pub number_form : Form
+number_form = record { size = None; truth = false; inline = true }
+
+abbrev pub bool_form : Form
+bool_form = record { size = None; truth = true; inline = true }
 
 abbrev pub var_form : Known → Form
 var_form k = record { size = known_size k; truth = known_truth k; inline = is_inline_int k }

@@ -4,7 +4,7 @@ ghost use Rattle.std.specs.Prelude.{◌≡◌, None, Some, is_some};
 ghost use Rattle.jz_scopes.specs.Order.{earliest};
 ghost use Rattle.jz_scopes.specs.Kinds.{array_of, whole_array};
 ghost use Rattle.std.specs.Option.{option_copied};
-ghost use Rattle.jz_kinds.specs.Firsts.{first_beside};
+ghost use Rattle.jz_kinds.specs.InnerFound.{first_beside};
 ghost use Rattle.jz_kinds.specs.Sides.{within, any_size};
 ghost use Rattle.jz_kinds.specs.Intrinsics.{none_more};
 ghost use Rattle.jz_kinds.specs.Calls.{same_length, same_decl, is_declared, is_that_array, passed_as, passed_wrong, takes_kind, takes_result, given_wrong, is_callee, fits_call, call_wrong, returned_one, none_beyond, returned_wrong};
@@ -213,8 +213,8 @@ fn all_returned(rets: &[Ret], vars: &[Var]) -> Option<Span>
     first
 }
 
-/// The first place at which a function gives back another number of results than it declares, told at its name, or a
-/// variable of another storage or type.
+/// The first place at which a function gives back another number of results than it declares, told
+/// at its name, or a variable of another storage or type.
 #[tactic(auto, using(crate::proofs::Joins::joins))]
 pub(crate) fn returned_fault(fun: &Fun) -> Option<Span>
     ensures { result ≡ earliest (returned_wrong fun.now) }

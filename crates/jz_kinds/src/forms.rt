@@ -3,7 +3,7 @@
 ghost use Rattle.std.specs.Prelude.{◌≡◌, Option};
 ghost use Rattle.jz_words.specs.declared.size.Size.{Size};
 ghost use Rattle.jz_kinds.specs.Wants.{or_size};
-ghost use Rattle.jz_kinds.specs.Found.{found};
+ghost use Rattle.jz_kinds.specs.InnerFound.{found};
 ghost use Rattle.jz_kinds.specs.Worded.{is_worded};
 
 use crate::operators::{Group, group_of};
@@ -24,7 +24,8 @@ pub(crate) fn or(a: Option<Size>, b: Option<Size>) -> Option<Size>
     }
 }
 
-/// The size that an expression says, by a loop down its left side: what stands further to the right serves where the left has none.
+/// The size that an expression says, by a loop down its left side: what stands further to the right
+/// serves where the left has none.
 #[tactic(auto, using(crate::proofs::OrSizes::or_sizes))]
 pub(crate) fn size(e: &Expr) -> Option<Size>
     ensures { result ≡ (found e.now).form.size }

@@ -1,11 +1,11 @@
-//! The rule that types, sizes and counts agree, in constants, statements and the body of one function.
+//! The rule that types, sizes and counts agree, in constants, statements and the body of one
+//! function.
 
-ghost use Rattle.std.specs.Prelude.{◌≡◌, IfOk};
+ghost use Rattle.std.specs.Prelude.{◌≡◌};
 ghost use Rattle.std.specs.Option.{option_copied};
-ghost use Rattle.jz_scopes.specs.Order.{earliest};
-ghost use Rattle.jz_scopes.specs.Parts.{layer_of, statements_of};
+ghost use Rattle.jz_scopes.specs.Order.{earliest, first_in, FindsEarliest};
+ghost use Rattle.jz_scopes.specs.Parts.{layer_of};
 ghost use Rattle.jz_scopes.specs.Lent.{these};
-ghost use Rattle.jz_scopes.specs.Order.{first_in};
 ghost use Rattle.jz_kinds.specs.Mismatches.{callee_where, callee_from, stmt_wrong, body_wrong, constant_wrong};
 ghost use Rattle.jz_scopes.specs.Tables.{function_in};
 
@@ -54,7 +54,8 @@ fn callee<'a>(functions: &Functions<'a>, stmt: &Stmt) -> Option<&'a Fun>
     }
 }
 
-/// The first place in a statement, those that stand in it aside, where a type, a size or a count is another than is wanted.
+/// The first place in a statement, those that stand in it aside, where a type, a size or a count is
+/// another than is wanted.
 pub fn statement_fault(functions: &Functions<'_>, stmt: &Stmt) -> Option<Span>
     ensures { result ≡ earliest (stmt_wrong (function_in functions.now) stmt.now) }
 {
@@ -71,15 +72,16 @@ fn statements_fault(functions: &Functions<'_>, stmts: &[&Stmt]) -> Option<Span>
     first
 }
 
-/// The first place in the body of a function, or in what it returns, where a type, a size or a count is another than is
-/// wanted. The function is one whose variables have their declarations where they are used, and numbers as lengths.
+/// The first place in the body of a function, or in what it returns, where a type, a size or a
+/// count is another than is wanted. The function is one whose variables have their declarations
+/// where they are used, and numbers as lengths.
 #[tactic(auto, using(crate::proofs::Joins::joins))]
 pub fn body_fault(
     alloc: Global,
     functions: &Functions<'_>,
     fun: &Fun,
 ) -> Result<Option<Span>, AllocError>
-    ensures { IfOk result (λ r. r ≡ earliest (body_wrong (function_in functions.now) fun.now)) }
+    ensures { FindsEarliest result (body_wrong (function_in functions.now) fun.now) }
 {
     let stmts = statements(alloc, &fun.body)?;
     let own = statements_fault(functions, stmts.as_slice());

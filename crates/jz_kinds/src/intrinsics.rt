@@ -2,10 +2,10 @@
 
 ghost use Rattle.std.specs.Prelude.{◌≡◌, Some};
 ghost use Rattle.jz_scopes.specs.Order.{earliest};
-ghost use Rattle.jz_kinds.specs.Firsts.{first_beside};
+ghost use Rattle.jz_kinds.specs.InnerFound.{first_beside};
 ghost use Rattle.jz_kinds.specs.Sides.{within, any_size};
-ghost use Rattle.jz_kinds.specs.Signatures.{signature, signature_of};
-ghost use Rattle.jz_kinds.specs.Intrinsics.{role_want, valued, is_value, result_size, argument_size, size_of, argument_wrong, role_size, result_wrong, none_more, are_counted, instance_wrong, intrinsic_wrong};
+ghost use Rattle.jz_kinds.specs.Signatures.{signature, instance_signature};
+ghost use Rattle.jz_kinds.specs.Intrinsics.{role_want, valued, is_value, result_size, argument_size, size_of, argument_wrong, role_size, result_wrong, none_more, are_counted, signature_wrong, intrinsic_wrong};
 
 use crate::forms::{or, worded};
 use crate::sides::{left_form, takes, within, within_any};
@@ -83,7 +83,7 @@ fn argument_size(roles: &[Role], args: &[Expr]) -> Option<Size>
 }
 
 fn size_of(instance: Instance, to: &Seq<Lval>, args: &Seq<Expr>) -> Option<Size>
-    ensures { result ≡ size_of (signature_of instance.name instance.size) to.now args.now }
+    ensures { result ≡ size_of (instance_signature instance) to.now args.now }
 {
     let given = result_size(results_of(instance.name), to.as_slice());
     let taken = argument_size(operands_of(instance.name), args.as_slice());
@@ -155,14 +155,14 @@ fn results_fault(size: Option<Size>, at: Span, roles: &[Role], to: &[Lval]) -> O
 }
 
 fn are_counted(instance: Instance, to: &Seq<Lval>, args: &Seq<Expr>) -> bool
-    ensures { result ≡ are_counted (signature_of instance.name instance.size) to.now args.now }
+    ensures { result ≡ are_counted (instance_signature instance) to.now args.now }
 {
     args.len() == operands_of(instance.name).len() && to.len() == results_of(instance.name).len()
 }
 
 #[tactic(auto, using(crate::proofs::Joins::joins))]
 fn instance_fault(instance: Instance, to: &Seq<Lval>, args: &Seq<Expr>, at: Span) -> Option<Span>
-    ensures { let g = signature_of instance.name instance.size in result ≡ earliest (instance_wrong (size_of g to.now args.now) g to.now args.now at) }
+    ensures { result ≡ earliest (signature_wrong (instance_signature instance) to.now args.now at) }
 {
     let size = size_of(instance, to, args);
     let given = results_fault(size, at, results_of(instance.name), to.as_slice());

@@ -1,13 +1,11 @@
 //! The lengths of arrays.
 
-ghost use Rattle.std.specs.Prelude.{◌≡◌, IfOk, map, Option, Some};
-ghost use Rattle.jz_scopes.specs.Order.{earliest};
+ghost use Rattle.std.specs.Prelude.{◌≡◌, Some};
+ghost use Rattle.jz_scopes.specs.Order.{earliest, first_in, FindsEarliest, FindsFirst};
 ghost use Rattle.jz_scopes.specs.Scopes.{name_of};
-ghost use Rattle.jz_scopes.specs.Parts.{names_in};
-ghost use Rattle.jz_scopes.specs.Lent.{these};
-ghost use Rattle.jz_scopes.specs.Order.{first_in};
-ghost use Rattle.jz_kinds.specs.Lengths.{is_length, no_constant, unbuilt, length_wrong, decl_wrong, fun_lengths};
-ghost use Rattle.jz_scopes.specs.Names.{is_constant};
+ghost use Rattle.jz_scopes.specs.Lent.{these, var_names};
+ghost use Rattle.jz_kinds.specs.Lengths.{is_length, fun_lengths};
+ghost use Rattle.jz_kinds.specs.InnerLengths.{no_constant_by, unbuilt_by, length_wrong_by, decl_wrong_by};
 ghost use Rattle.jz_scopes.specs.Kinds.{declared_of, is_array};
 ghost use Rattle.std.specs.List.{list_any};
 ghost use Rattle.jz_scopes.specs.Tables.{place_in};
@@ -43,7 +41,7 @@ fn is_length(length: Option<i128>) -> bool
 }
 
 fn no_constant(constants: &Places, variables: &Places, var: &Var) -> Option<Span>
-    ensures { result ≡ earliest (no_constant (is_constant (place_in constants.now) (place_in variables.now)) (name_of var.now)) }
+    ensures { result ≡ earliest (no_constant_by constants.now variables.now (name_of var.now)) }
 {
     let variable = above(variables.place(&var.name), var.span);
     let constant = above(constants.place(&var.name), var.span);
@@ -51,7 +49,7 @@ fn no_constant(constants: &Places, variables: &Places, var: &Var) -> Option<Span
 }
 
 fn no_constants(constants: &Places, variables: &Places, vars: &[&Var]) -> Option<Span>
-    ensures { result ≡ first_in (no_constant (is_constant (place_in constants.now) (place_in variables.now))) (map name_of (these vars.now)) }
+    ensures { result ≡ first_in (no_constant_by constants.now variables.now) (var_names vars.now) }
 {
     let mut first = None;
     for var in vars {
@@ -67,7 +65,7 @@ fn unbuilt(
     variables: &Places,
     e: &Expr,
 ) -> Result<Option<Span>, AllocError>
-    ensures { IfOk result (λ r. r ≡ earliest (unbuilt (is_constant (place_in constants.now) (place_in variables.now)) e.now)) }
+    ensures { FindsEarliest result (unbuilt_by constants.now variables.now e.now) }
 {
     let vars = names(alloc, e)?;
     let other = no_constants(constants, variables, vars.as_slice());
@@ -82,7 +80,10 @@ fn length_fault<L: Lengths>(
     variables: &Places,
     e: &Expr,
 ) -> Result<Option<Span>, AllocError>
-    ensures { IfOk result (λ r. r ≡ earliest (length_wrong (is_constant (place_in constants.now) (place_in variables.now)) (L.length_of lengths.now) e.now)) }
+    ensures {
+        FindsEarliest result
+            (length_wrong_by constants.now variables.now (L.length_of lengths.now) e.now)
+    }
 {
     let other = unbuilt(alloc, constants, variables, e)?;
     let length = lengths.length(alloc, e)?;
@@ -98,7 +99,10 @@ fn decl_fault<L: Lengths>(
     variables: &Places,
     decl: &Decl,
 ) -> Result<Option<Span>, AllocError>
-    ensures { IfOk result (λ r. r ≡ earliest (decl_wrong (is_constant (place_in constants.now) (place_in variables.now)) (L.length_of lengths.now) decl.now)) }
+    ensures {
+        FindsEarliest result
+            (decl_wrong_by constants.now variables.now (L.length_of lengths.now) decl.now)
+    }
 {
     match length_of(decl) {
         None => Ok(None),
@@ -116,7 +120,11 @@ fn decls_fault<L: Lengths>(
     variables: &Places,
     decls: &[&Decl],
 ) -> Result<Option<Span>, AllocError>
-    ensures { IfOk result (λ r. r ≡ first_in (decl_wrong (is_constant (place_in constants.now) (place_in variables.now)) (L.length_of lengths.now)) (these decls.now)) }
+    ensures {
+        FindsFirst result
+            (decl_wrong_by constants.now variables.now (L.length_of lengths.now))
+            (these decls.now)
+    }
 {
     let mut first = None;
     for decl in decls {
@@ -140,14 +148,18 @@ fn declares_array(decls: &[&Decl]) -> bool
     false
 }
 
-/// The first length of an array in a function that is no number from 1 to 65,536 built of numbers and constants.
+/// The first length of an array in a function that is no number from 1 to 65,536 built of numbers
+/// and constants.
 pub fn lengths_fault<L: Lengths>(
     alloc: Global,
     lengths: &L,
     constants: &Places,
     fun: &Fun,
 ) -> Result<Option<Span>, AllocError>
-    ensures { IfOk result (λ r. r ≡ earliest (fun_lengths (place_in constants.now) (L.length_of lengths.now) fun.now)) }
+    ensures {
+        FindsEarliest result
+            (fun_lengths (place_in constants.now) (L.length_of lengths.now) fun.now)
+    }
 {
     let decls = decls_of(alloc, fun)?;
     if !declares_array(decls.as_slice()) {

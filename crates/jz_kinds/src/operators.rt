@@ -63,7 +63,8 @@ pub(crate) fn stops(group: Group, want: Want) -> bool
     }
 }
 
-/// Whether a bool may stand on the right, as it may be added and taken away where no integer is wanted.
+/// Whether a bool may stand on the right, as it may be added and taken away where no integer is
+/// wanted.
 pub(crate) fn takes_carry(op: BinOp, want: Want) -> bool
     ensures { result ≡ takes_carry op want }
 {

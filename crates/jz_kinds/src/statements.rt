@@ -1,10 +1,10 @@
 //! The rule that types, sizes and counts agree, in one statement.
 
-ghost use Rattle.std.specs.Prelude.{◌≡◌, ◌++◌};
+ghost use Rattle.std.specs.Prelude.{◌≡◌};
 ghost use Rattle.std.specs.Option.{option_copied};
 ghost use Rattle.jz_scopes.specs.Order.{earliest};
 ghost use Rattle.jz_scopes.specs.Parts.{layer_of};
-ghost use Rattle.jz_kinds.specs.Mismatches.{right_wrong, condition_wrong, head_wrong, mismatched_with, constant_wrong};
+ghost use Rattle.jz_kinds.specs.Mismatches.{right_wrong, condition_wrong, assign_wrong, head_wrong, mismatched_with, constant_wrong};
 
 use crate::calls::call_fault;
 use crate::intrinsics::intrinsic_fault;
@@ -43,7 +43,10 @@ fn assign_fault(
     right: &Rhs,
     cond: &Option<Expr>,
 ) -> Option<Span>
-    ensures { result ≡ earliest (right_wrong (option_copied callee.entry) to.now op right.now ++ condition_wrong cond.now) }
+    ensures {
+        result
+            ≡ earliest (assign_wrong (option_copied callee.entry) to.now op right.now cond.now)
+    }
 {
     earlier_of(right_fault(callee, to, op, right), condition_fault(cond))
 }
@@ -57,9 +60,10 @@ fn head_fault(counter: &Var, from: &Expr, to: &Expr) -> Option<Span>
     earlier_of(own, bounds)
 }
 
-/// The first place in a statement, those that stand in it aside, where a type, a size or a count is another than is wanted.
-/// The callee is the function that the statement calls, if it calls one that there is. What is asked is asked of variables
-/// with their declarations; one without counts as an inline integer.
+/// The first place in a statement, those that stand in it aside, where a type, a size or a count is
+/// another than is wanted. The callee is the function that the statement calls, if it calls one
+/// that there is. What is asked is asked of variables with their declarations; one without counts
+/// as an inline integer.
 pub(crate) fn mismatch(callee: Option<&Fun>, stmt: &Stmt) -> Option<Span>
     ensures { result ≡ earliest (mismatched_with (option_copied callee.entry) (layer_of stmt.now)) }
 {

@@ -1,13 +1,11 @@
 //! Values that are assigned.
 
 ghost use Rattle.std.specs.Prelude.{◌≡◌, Some};
-ghost use Rattle.jz_scopes.specs.Order.{earliest};
-ghost use Rattle.jz_scopes.specs.Parts.{span_of};
-ghost use Rattle.jz_scopes.specs.Order.{first_in};
+ghost use Rattle.jz_scopes.specs.Order.{earliest, first_in};
 ghost use Rattle.jz_kinds.specs.Operators.{bin_form, compared, group_size};
 ghost use Rattle.jz_kinds.specs.Typings.{left_want, right_want};
 ghost use Rattle.jz_kinds.specs.Sides.{within, any_size};
-ghost use Rattle.jz_kinds.specs.Values.{value_typing, single, is_product, is_mul, product_size, product_of, with_flag, value_wrong};
+ghost use Rattle.jz_kinds.specs.Values.{value_typing, single, is_product, is_mul, product_size, product_wrong, flag_wrong, value_wrong};
 
 use crate::forms::or;
 use crate::operators::{Group, gives, group_of, left_of, right_of, stops, takes_carry};
@@ -139,7 +137,7 @@ fn product_size(op: Option<BinOp>, high: &Lval, low: &Lval, e: &Expr) -> Option<
 
 #[tactic(auto, using(crate::proofs::Joins::joins))]
 fn product_fault(op: Option<BinOp>, high: &Lval, low: &Lval, e: &Expr) -> Option<Span>
-    ensures { let t = value_typing op low.now e.now in result ≡ earliest (product_of (product_size high.now low.now t) high.now low.now t (span_of e.now)) }
+    ensures { result ≡ earliest (product_wrong op high.now low.now e.now) }
 {
     let size = product_size(op, high, low, e);
     let want = own_size(size);
@@ -150,7 +148,7 @@ fn product_fault(op: Option<BinOp>, high: &Lval, low: &Lval, e: &Expr) -> Option
 
 #[tactic(auto, using(crate::proofs::Joins::joins))]
 fn with_flag(op: Option<BinOp>, flag: &Lval, to: &Lval, e: &Expr) -> Option<Span>
-    ensures { result ≡ earliest (with_flag flag.now to.now (value_typing op to.now e.now) (span_of e.now)) }
+    ensures { result ≡ earliest (flag_wrong op flag.now to.now e.now) }
 {
     let taken = unless(takes(Want::Truth, flag), span_of(e));
     let before = earlier_of(within_any(flag), taken);

@@ -1,7 +1,7 @@
 //! The first wrong place of an expression.
 
 ghost use Rattle.std.specs.Prelude.{◌≡◌};
-ghost use Rattle.jz_kinds.specs.Found.{found, left_inline as left_inline_of};
+ghost use Rattle.jz_kinds.specs.InnerFound.{found, left_inline as left_inline_of};
 ghost use Rattle.jz_kinds.specs.Operators.{compared};
 ghost use Rattle.jz_kinds.specs.Typings.{typing};
 ghost use Rattle.jz_scopes.specs.Order.{earliest};
@@ -26,7 +26,8 @@ fn compared(group: Group, a: &Expr, b: &Expr) -> Option<Size>
     }
 }
 
-/// Asks the left operand only where nothing is known of it, so that a long left side is not asked again at each operator.
+/// Asks the left operand only where nothing is known of it, so that a long left side is not asked
+/// again at each operator.
 fn left_inline(whole: bool, a: &Expr, b: &Expr) -> bool
     ensures { result ≡ left_inline_of whole (found a.now).form.inline (found b.now).form.inline }
 {

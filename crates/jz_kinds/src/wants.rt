@@ -15,7 +15,8 @@ pub enum Want {
     Truth,
     /// A word that says its size itself.
     AnyWord,
-    /// A number, or a word of that size that says its size itself: of 64 bits as an index or an address, and under a cast.
+    /// A number, or a word of that size that says its size itself: of 64 bits as an index or an
+    /// address, and under a cast.
     Sized(Size),
     /// A number to which nothing gives a size.
     Unsized,

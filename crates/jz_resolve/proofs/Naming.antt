@@ -5,11 +5,11 @@ use Rattle.std.specs.Prelude.{if◌then◌else◌, option_map, option_and_then}
 use Rattle.jz_io.specs.declared.span.Span.{Span}
 use Rattle.jz_tree.specs.declared.expr.Var.{Var}
 use Rattle.jz_tree.specs.declared.expr.Expr.TheViews.{out-Var}
-use Rattle.jz_scopes.specs.Scopes.{Name, variable_named, place_among, or_else}
+use Rattle.jz_scopes.specs.Scopes.{Name, PlacesByName, variable_named, place_among, or_else}
 use Rattle.jz_scopes.specs.Names.{is_constant}
-use Rattle.jz_resolve.specs.Numbering.{Values, Places, constant_decl, declaration_in, number_in}
+use Rattle.jz_resolve.specs.Numbering.{Values, constant_decl, declaration_in, number_in}
 
-module _ (variables : List ℕ → Option Var) (places : Places) (values : Values) (vs : List Var) (held : (n : List ℕ) → variables n ≡ variable_named n vs) where
+module _ (variables : List ℕ → Option Var) (places : PlacesByName) (values : Values) (vs : List Var) (held : (n : List ℕ) → variables n ≡ variable_named n vs) where
   pub declares : (λ n. or_else (option_and_then (λ v. (out-Var v).decl) (variables n)) (option_map (λ at. constant_decl) (places n))) ≡ declaration_in places vs
   declares = fun_ext (λ n. ap (λ o. or_else (option_and_then (λ v. (out-Var v).decl) o) (option_map (λ at. constant_decl) (places n))) (held n))
 
@@ -20,7 +20,7 @@ module _ (variables : List ℕ → Option Var) (places : Places) (values : Value
   unfolding place
   placed = fun_ext (λ n. ap (option_map (λ v. (out-Var v).span)) (held n))
 
-  numbered : Places → Name → Option (Option ℤ)
+  numbered : PlacesByName → Name → Option (Option ℤ)
   numbered p n = if is_constant places p n then Some (values n.0) else None
 
   pub numbers : (λ (n : Name). if is_constant places (λ m. option_map (λ v. (out-Var v).span) (variables m)) n then Some (values n.0) else None) ≡ number_in places values vs

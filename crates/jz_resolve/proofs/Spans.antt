@@ -24,7 +24,8 @@ use Rattle.jz_scopes.specs.Scopes.{Name, name_of, constant_place, variables_of}
 use Rattle.jz_scopes.specs.Parts.{span_layer, span_of, nested, nested_step, statements_in, statements_of}
 use Rattle.jz_resolve.specs.Resolving.{number_or, expr_step, var_step, resolved_expr, resolved_access, resolved_var, kind_step, resolved_kind, resolved_stmt}
 use Rattle.jz_resolve.specs.Numbering.{values_of, declaration_in, number_in}
-use Rattle.jz_resolve.specs.Programs.{function_name, counted_fun, resolved_whole, resolved}
+use Rattle.jz_scopes.specs.Scopes.{function_name}
+use Rattle.jz_resolve.specs.Programs.{counted_fun, resolved_whole, resolved}
 
 in_kind : StmtKind → List Stmt
 in_kind = para-StmtKind (List Stmt) (List Stmt) nested_step (λ s. roll-Stmt (record { notes = s.notes; span = s.span; kind = s.kind.0 }) ∷ s.kind.1)

@@ -1,5 +1,6 @@
 pub mod Resolving
-pub mod Sides
+pub mod InnerResolving
 pub mod Numbering
 pub mod Programs
 pub mod Tables
+pub mod InnerTables

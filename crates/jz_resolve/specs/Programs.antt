@@ -1,6 +1,8 @@
--- A program whose variables have their declarations where they are used, whose arrays have numbers as lengths, and in whose
--- expressions each constant stands as its number; one that has none as a division by zero.
-use Rattle.std.specs.Prelude.{ℤ, pos, [], map, Option, Some, None, option_map}
+-- A program whose variables have their declarations where they are used, whose arrays have numbers
+-- as lengths, and in whose expressions each constant stands as its number; one that has none as a
+-- division by zero.
+use Rattle.std.specs.Prelude.{ℤ, pos, List, [], map, Option, Some, None, option_map}
+use Rattle.jz_io.specs.declared.span.Span.{Span}
 use Rattle.jz_tree.specs.declared.expr.Expr.{Expr}
 use Rattle.jz_tree.specs.declared.expr.Expr.TheVariants as expr
 use Rattle.jz_tree.specs.declared.expr.Ty.{Ty}
@@ -14,10 +16,10 @@ use Rattle.jz_tree.specs.declared.program.Const.{Const}
 use Rattle.jz_tree.specs.declared.program.Fun.{Fun}
 use Rattle.jz_tree.specs.declared.program.Param.{Param}
 use Rattle.jz_tree.specs.declared.program.Ret.{Ret}
-use Rattle.jz_scopes.specs.Scopes.{Name, variables_of, constant_place}
-use Rattle.jz_scopes.specs.Parts.{span_of}
-use Rattle.jz_resolve.specs.Resolving.{resolved_expr, resolved_var, resolved_stmt}
-use Rattle.jz_resolve.specs.Numbering.{Values, Places, value_with, values_of, declaration_in, number_in}
+use Rattle.jz_scopes.specs.Scopes.{Name, PlacesByName, variables_of, constant_place, function_name}
+use Rattle.jz_scopes.specs.Parts.{span_of, statements_of}
+use Rattle.jz_resolve.specs.Resolving.{expr_with, var_with, stmt_with}
+use Rattle.jz_resolve.specs.Numbering.{Values, value_with, values_of, known_among}
 
 -- ---- lengths
 -- a length is its value; one that has none is 0, which no array has as its length
@@ -25,9 +27,13 @@ abbrev pub counted : Option ℤ → Expr → Expr
 counted None e = expr.Num (pos 0) (span_of e)
 counted (Some n) e = expr.Num n (span_of e)
 
+-- the same with these values of constants
+abbrev pub counted_by : Values → Expr → Expr
+counted_by values e = counted (value_with values e) e
+
 module _ (values : Values) where
   abbrev pub counted_layer : Ty-F Expr Ty Access Decl Var → Ty
-  counted_layer (Ty-F.Array z e) = roll-Ty (Ty-F.Array z (counted (value_with values e) e))
+  counted_layer (Ty-F.Array z e) = roll-Ty (Ty-F.Array z (counted_by values e))
   counted_layer t = roll-Ty t
 
   abbrev pub counted_ty : Ty → Ty
@@ -54,12 +60,13 @@ module _ (values : Values) where
   }
 
 -- ---- with the places and values of the constants
-module _ (places : Places) (values : Values) where
-  -- each variable that stands in its statements or is returned has the declaration of its name, each constant is its number
+module _ (places : PlacesByName) (values : Values) where
+  -- each variable that stands in its statements or is returned has the declaration of its name,
+  -- each constant is its number
   abbrev pub resolved_fun : Fun → Fun
   resolved_fun f = record f {
-    body = map (resolved_stmt (declaration_in places (variables_of f)) (number_in places values (variables_of f))) f.body;
-    result = map (resolved_var (declaration_in places (variables_of f)) (number_in places values (variables_of f))) f.result;
+    body = map (stmt_with (known_among places values (variables_of f))) f.body;
+    result = map (var_with (known_among places values (variables_of f))) f.result;
   }
 
   -- with numbers as lengths besides
@@ -67,7 +74,7 @@ module _ (places : Places) (values : Values) where
   resolved_whole f = resolved_fun (counted_fun values f)
 
   abbrev pub resolved_const : Const → Const
-  resolved_const c = record c { value = resolved_expr (declaration_in places []) (number_in places values []) c.value }
+  resolved_const c = record c { value = expr_with (known_among places values []) c.value }
 
   abbrev pub resolved_by : Program → Program
   resolved_by p = record p {
@@ -78,6 +85,13 @@ module _ (places : Places) (values : Values) where
 abbrev pub resolved : Program → Program
 resolved p = resolved_by (constant_place p.consts) (values_of p.consts) p
 
--- a function's name where it is declared
-abbrev pub function_name : Fun → Name
-function_name f = (f.name, f.span)
+-- ---- what stays
+abbrev pub function_names : Program → List Name
+function_names p = map function_name p.funs
+
+-- the places of the statements of a function, and of all functions
+abbrev pub statement_places : Fun → List Span
+statement_places f = map (λ s. s.span) (statements_of f.body)
+
+abbrev pub all_statement_places : Program → List (List Span)
+all_statement_places p = map statement_places p.funs

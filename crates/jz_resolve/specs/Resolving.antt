@@ -1,4 +1,5 @@
--- Expressions and statements whose variables have declarations, and in which a constant is its number.
+-- Expressions and statements whose variables have declarations, and in which a constant is its
+-- number.
 use Rattle.std.specs.Prelude.{ℕ, ℤ, pos, List, map, Option, Some, None, option_map}
 use Rattle.jz_io.specs.declared.span.Span.{Span}
 use Rattle.jz_tree.specs.declared.expr.BinOp.TheVariants as op
@@ -19,10 +20,11 @@ use Rattle.jz_tree.specs.declared.stmt.Stmt.{Stmt}
 use Rattle.jz_tree.specs.declared.stmt.StmtKind.{StmtKind}
 use Rattle.jz_tree.specs.declared.stmt.StmtKind.TheOpen.{StmtKind-F}
 use Rattle.jz_tree.specs.declared.stmt.StmtKind.TheViews.{roll-Stmt, roll-StmtKind}
-use Rattle.jz_tree.specs.declared.stmt.StmtKind.TheFolds.{fold-Stmt, fold-StmtKind}
+use Rattle.jz_tree.specs.declared.stmt.StmtKind.TheFolds.{fold-Stmt}
 use Rattle.jz_scopes.specs.Scopes.{Name, name_of}
 
--- what stands for a constant: its number; for one that has none a division by zero, which has none either
+-- what stands for a constant: its number; for one that has none a division by zero, which has none
+-- either
 abbrev pub number_at : Span → Option ℤ → Expr
 number_at at (Some n) = expr.Num n at
 number_at at None = expr.Bin op.Div (expr.Num (pos 1) at) (expr.Num (pos 0) at) at
@@ -32,7 +34,8 @@ abbrev pub number_or : Option (Option ℤ) → Var → Expr
 number_or None v = expr.Var v
 number_or (Some n) v = number_at (out-Var v).span n
 
--- declaration: what is declared of a name; number: of a name that is a constant's where it stands the number, if that has one
+-- declaration: what is declared of a name; number: of a name that is a constant's where it stands
+-- the number, if that has one
 module _ (declaration : List ℕ → Option Decl) (number : Name → Option (Option ℤ)) where
   abbrev pub var_step : Var-F Expr Ty Access Decl Var → Var
   var_step v = roll-Var (record v { decl = declaration v.name })
@@ -62,14 +65,31 @@ module _ (declaration : List ℕ → Option Decl) (number : Name → Option (Opt
   resolved_rhs (rhs.Intrinsic n args at) = rhs.Intrinsic n (map resolved_expr args) at
 
   abbrev pub kind_step : StmtKind-F StmtKind Stmt → StmtKind
-  kind_step (StmtKind-F.Assign to op from cond) = roll-StmtKind (StmtKind-F.Assign (map resolved_lval to) op (resolved_rhs from) (option_map resolved_expr cond))
+  kind_step (StmtKind-F.Assign to op from cond) =
+      roll-StmtKind (StmtKind-F.Assign
+          (map resolved_lval to) op (resolved_rhs from) (option_map resolved_expr cond))
   kind_step (StmtKind-F.If c a b) = roll-StmtKind (StmtKind-F.If (resolved_expr c) a b)
   kind_step (StmtKind-F.While p c b) = roll-StmtKind (StmtKind-F.While p (resolved_expr c) b)
-  kind_step (StmtKind-F.For i from down to b) = roll-StmtKind (StmtKind-F.For (resolved_var i) (resolved_expr from) down (resolved_expr to) b)
+  kind_step (StmtKind-F.For i from down to b) =
+      roll-StmtKind (StmtKind-F.For
+          (resolved_var i) (resolved_expr from) down (resolved_expr to) b)
   kind_step (StmtKind-F.Mark vs) = roll-StmtKind (StmtKind-F.Mark (map resolved_var vs))
 
   abbrev pub resolved_stmt : Stmt → Stmt
   resolved_stmt = fold-Stmt _ _ kind_step roll-Stmt
 
-  abbrev pub resolved_kind : StmtKind → StmtKind
-  resolved_kind = fold-StmtKind _ _ kind_step roll-Stmt
+-- ---- with all that is known of names as one value
+-- what is declared of each name, and of each that is a constant's where it stands its number, if
+-- that has one
+pub record KnownNames : Type 0 where
+  pub declaration : List ℕ → Option Decl
+  pub number : Name → Option (Option ℤ)
+
+abbrev pub expr_with : KnownNames → Expr → Expr
+expr_with k = resolved_expr k.declaration k.number
+
+abbrev pub var_with : KnownNames → Var → Var
+var_with k = resolved_var k.declaration k.number
+
+abbrev pub stmt_with : KnownNames → Stmt → Stmt
+stmt_with k = resolved_stmt k.declaration k.number

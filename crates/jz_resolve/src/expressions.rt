@@ -1,8 +1,7 @@
 //! Expressions whose variables have their declarations, and whose constants are numbers.
 ghost use Rattle.std.specs.Prelude.{◌≡◌, IfOk, OnOk};
-ghost use Rattle.jz_scopes.specs.Scopes.{name_of};
-ghost use Rattle.jz_resolve.specs.Resolving.{resolved_expr, resolved_var, resolved_access, number_at, number_or};
-ghost use Rattle.jz_resolve.specs.Sides.{on_left};
+ghost use Rattle.jz_resolve.specs.Resolving.{expr_with, var_with, number_at};
+ghost use Rattle.jz_resolve.specs.InnerResolving.{access_with, name_with, whole_of};
 
 use crate::lookup::Lookup;
 use jz_data::Boxed;
@@ -18,7 +17,8 @@ struct Step {
     span: Span,
 }
 
-/// The left side of an expression: its operations from the outermost, and the operand where it ends.
+/// The left side of an expression: its operations from the outermost, and the operand where it
+/// ends.
 #[derive(Drop)]
 struct Side {
     steps: Vec<Step>,
@@ -28,7 +28,7 @@ struct Side {
 impl Side {
     #[tactic(auto, using(crate::proofs::Sides::last_step))]
     fn into_expr(self, alloc: Global) -> Result<Expr, AllocError>
-        ensures { IfOk result (λ e. e ≡ on_left self.steps.items self.first) }
+        ensures { IfOk result (λ e. e ≡ whole_of self) }
     {
         let Side {
             mut steps,
@@ -47,7 +47,7 @@ impl Side {
 }
 
 fn resolve_var<L: Lookup>(alloc: Global, names: &L, var: &Var) -> Result<Var, AllocError>
-    ensures { IfOk result (λ r. r ≡ resolved_var (L.declaration names.now) (L.number names.now) var.now) }
+    ensures { IfOk result (λ r. r ≡ var_with (L.known names.now) var.now) }
 {
     let decl = names.declared(alloc, &var.name)?;
     Ok(Var {
@@ -65,7 +65,7 @@ pub(crate) fn declare_var<L: Lookup>(
     names: &L,
     var: &mut Var,
 ) -> Result<(), AllocError>
-    ensures { OnOk result (var.new ≡ resolved_var (L.declaration names.now) (L.number names.now) var.old) }
+    ensures { OnOk result (var.new ≡ var_with (L.known names.now) var.old) }
 {
     let decl = names.declared(alloc, &var.name)?;
     var.decl = decl;
@@ -88,7 +88,7 @@ fn number_at(alloc: Global, number: Option<i128>, at: Span) -> Result<Expr, Allo
 }
 
 fn resolve_name<L: Lookup>(alloc: Global, names: &L, var: &Var) -> Result<Expr, AllocError>
-    ensures { IfOk result (λ r. r ≡ number_or (L.number names.now (name_of var.now)) (resolved_var (L.declaration names.now) (L.number names.now) var.now)) }
+    ensures { IfOk result (λ r. r ≡ name_with (L.known names.now) var.now) }
 {
     match names.constant(&var.name, var.span) {
         Some(number) => {
@@ -102,14 +102,15 @@ fn resolve_name<L: Lookup>(alloc: Global, names: &L, var: &Var) -> Result<Expr, 
     }
 }
 
-/// The expression with the declarations of its variables, also one whose left side is as long as memory lets it be.
+/// The expression with the declarations of its variables, also one whose left side is as long as
+/// memory lets it be.
 #[cycle(resolve)]
 pub(crate) fn resolve_expr<L: Lookup>(
     alloc: Global,
     names: &L,
     e: &Expr,
 ) -> Result<Expr, AllocError>
-    ensures { IfOk result (λ r. r ≡ resolved_expr (L.declaration names.now) (L.number names.now) e.now) }
+    ensures { IfOk result (λ r. r ≡ expr_with (L.known names.now) e.now) }
 {
     let side = resolve_side(alloc, names, e)?;
     let resolved = side.into_expr(alloc)?;
@@ -118,7 +119,7 @@ pub(crate) fn resolve_expr<L: Lookup>(
 
 #[cycle(resolve)]
 fn resolve_side<L: Lookup>(alloc: Global, names: &L, e: &Expr) -> Result<Side, AllocError>
-    ensures { IfOk result (λ side. on_left side.steps.items side.first ≡ resolved_expr (L.declaration names.now) (L.number names.now) e.now) }
+    ensures { IfOk result (λ side. whole_of side ≡ expr_with (L.known names.now) e.now) }
 {
     let mut steps = Vec::new(alloc);
     let mut rest = e;
@@ -136,7 +137,7 @@ fn resolve_side<L: Lookup>(alloc: Global, names: &L, e: &Expr) -> Result<Side, A
 
 #[cycle(resolve)]
 fn resolve_single<L: Lookup>(alloc: Global, names: &L, e: &Expr) -> Result<Expr, AllocError>
-    ensures { IfOk result (λ r. r ≡ resolved_expr (L.declaration names.now) (L.number names.now) e.now) }
+    ensures { IfOk result (λ r. r ≡ expr_with (L.known names.now) e.now) }
 {
     match e {
         Expr::Num(number, span) => Ok(Expr::Num(*number, *span)),
@@ -185,7 +186,7 @@ pub(crate) fn resolve_access<L: Lookup>(
     names: &L,
     access: &Access,
 ) -> Result<Access, AllocError>
-    ensures { IfOk result (λ r. r ≡ resolved_access (L.declaration names.now) (L.number names.now) access.now) }
+    ensures { IfOk result (λ r. r ≡ access_with (L.known names.now) access.now) }
 {
     Ok(Access {
         size: access.size,
@@ -195,14 +196,14 @@ pub(crate) fn resolve_access<L: Lookup>(
     })
 }
 
-/// Resolves the expression where it stands. A number stays, a variable that is no constant gets its declaration, and anything
-/// else is made anew.
+/// Resolves the expression where it stands. A number stays, a variable that is no constant gets its
+/// declaration, and anything else is made anew.
 pub(crate) fn replace_expr<L: Lookup>(
     alloc: Global,
     names: &L,
     e: &mut Expr,
 ) -> Result<(), AllocError>
-    ensures { OnOk result (e.new ≡ resolved_expr (L.declaration names.now) (L.number names.now) e.old) }
+    ensures { OnOk result (e.new ≡ expr_with (L.known names.now) e.old) }
 {
     if let Expr::Num(_, _) = e {
         return Ok(());

@@ -1,4 +1,5 @@
-//! A program whose variables have their declarations where they are used, and whose constants are numbers.
+//! A program whose variables have their declarations where they are used, and whose constants are
+//! numbers.
 #![tactic(auto)]
 
 mod expressions;

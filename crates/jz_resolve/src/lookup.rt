@@ -1,7 +1,6 @@
 //! Where declarations and the numbers of constants come from.
-ghost use Rattle.std.specs.Prelude.{◌≡◌, ℕ, ℤ, List, Option, IfOk};
-ghost use Rattle.jz_tree.specs.declared.expr.Decl.{Decl};
-ghost use Rattle.jz_scopes.specs.Scopes.{Name};
+ghost use Rattle.std.specs.Prelude.{◌≡◌, IfOk};
+ghost use Rattle.jz_resolve.specs.Resolving.{KnownNames};
 
 use jz_data::Text;
 use jz_io::Span;
@@ -10,16 +9,14 @@ use std::alloc::{AllocError, Global};
 
 /// What knows the names that stand in an expression.
 pub(crate) trait Lookup {
-    /// What is declared of each name.
-    ghost declaration: { Self → List ℕ → Option Decl };
-    /// Of each name that is a constant's where it stands, the number of the constant, if that has one.
-    ghost number: { Self → Name → Option (Option ℤ) };
+    ghost known: { Self → KnownNames };
 
     /// What is declared of that name.
     fn declared(&self, alloc: Global, name: &Text) -> Result<Option<Decl>, AllocError>
-        ensures { IfOk result (λ decl. decl ≡ declaration self.now name.now) };
+        ensures { IfOk result (λ decl. decl ≡ (known self.now).declaration name.now) };
 
-    /// The number of the constant that the name is which stands there; none inside, where the constant has no number.
+    /// The number of the constant that the name is which stands there; none inside, where the
+    /// constant has no number.
     fn constant(&self, name: &Text, at: Span) -> Option<Option<i128>>
-        ensures { result ≡ number self.now (name.now, at) };
+        ensures { result ≡ (known self.now).number (name.now, at) };
 }

@@ -1,10 +1,9 @@
 //! Programs whose variables have their declarations, whose lengths and constants are numbers.
 ghost use Rattle.std.specs.Prelude.{◌≡◌, IfOk, OnOk, [], map, option_map};
-ghost use Rattle.jz_resolve.specs.Programs.{counted, counted_ty, counted_decl, counted_var, counted_param, counted_ret, counted_fun, resolved_fun, resolved_whole, resolved_const, resolved};
-ghost use Rattle.jz_resolve.specs.Numbering.{value_with, declaration_in, number_in};
-ghost use Rattle.jz_resolve.specs.Resolving.{resolved_stmt, resolved_var};
-ghost use Rattle.jz_scopes.specs.Scopes.{variables_of};
-ghost use Rattle.jz_resolve.specs.Tables.{values_in, places_in, IsScope};
+ghost use Rattle.jz_resolve.specs.Programs.{counted_by, counted_ty, counted_decl, counted_var, counted_param, counted_ret, counted_fun, resolved};
+ghost use Rattle.jz_resolve.specs.Resolving.{stmt_with, var_with};
+ghost use Rattle.jz_resolve.specs.Tables.{values_in};
+ghost use Rattle.jz_resolve.specs.InnerTables.{names_of_fun, fun_by, whole_by, const_by, IsScope};
 
 use crate::expressions::resolve_expr;
 use crate::scope::Scope;
@@ -16,7 +15,7 @@ use jz_tree::{Const, Decl, Expr, Fun, Param, Program, Ret, Stmt, Ty, Var};
 use std::alloc::{AllocError, Global};
 
 fn count(alloc: Global, constants: &ConstantTable, length: &Expr) -> Result<Expr, AllocError>
-    ensures { IfOk result (λ e. e ≡ counted (value_with (values_in constants.now) length.now) length.now) }
+    ensures { IfOk result (λ e. e ≡ counted_by (values_in constants.now) length.now) }
 {
     match constants.number_of(alloc, length)? {
         None => Ok(Expr::Num(0, span_of(length))),
@@ -175,8 +174,13 @@ fn resolve_parts(
     body: &mut Seq<Stmt>,
     returned: &mut Seq<Var>,
 ) -> Result<(), AllocError>
-    ensures body { OnOk result (body.new ≡ map (resolved_stmt (declaration_in (places_in constants.now) (variables_of head.now)) (number_in (places_in constants.now) (values_in constants.now) (variables_of head.now))) body.old) }
-    ensures returned { OnOk result (returned.new ≡ map (resolved_var (declaration_in (places_in constants.now) (variables_of head.now)) (number_in (places_in constants.now) (values_in constants.now) (variables_of head.now))) returned.old) }
+    ensures body {
+        OnOk result (body.new ≡ map (stmt_with (names_of_fun constants.now head.now)) body.old)
+    }
+    ensures returned {
+        OnOk result
+            (returned.new ≡ map (var_with (names_of_fun constants.now head.now)) returned.old)
+    }
 {
     let scope = Scope::of(alloc, constants, head)?;
     resolve_block(alloc, &scope, body)?;
@@ -185,7 +189,7 @@ fn resolve_parts(
 }
 
 fn resolve_fun(alloc: Global, constants: &ConstantTable, fun: Fun) -> Result<Fun, AllocError>
-    ensures { IfOk result (λ r. r ≡ resolved_fun (places_in constants.now) (values_in constants.now) fun) }
+    ensures { IfOk result (λ r. r ≡ fun_by constants.now fun) }
 {
     let Fun {
         notes,
@@ -216,7 +220,7 @@ fn resolve_fun(alloc: Global, constants: &ConstantTable, fun: Fun) -> Result<Fun
 }
 
 fn resolve_whole(alloc: Global, constants: &ConstantTable, fun: Fun) -> Result<Fun, AllocError>
-    ensures { IfOk result (λ r. r ≡ resolved_whole (places_in constants.now) (values_in constants.now) fun) }
+    ensures { IfOk result (λ r. r ≡ whole_by constants.now fun) }
 {
     let counted = count_fun(alloc, constants, fun)?;
     let resolved = resolve_fun(alloc, constants, counted)?;
@@ -228,7 +232,7 @@ fn resolve_funs(
     constants: &ConstantTable,
     funs: Seq<Fun>,
 ) -> Result<Seq<Fun>, AllocError>
-    ensures { IfOk result (λ r. r ≡ map (resolved_whole (places_in constants.now) (values_in constants.now)) funs) }
+    ensures { IfOk result (λ r. r ≡ map (whole_by constants.now) funs) }
 {
     let mut done = Seq::new(alloc);
     for fun in funs.into_vec() {
@@ -244,7 +248,7 @@ fn resolve_const(
     c: Const,
 ) -> Result<Const, AllocError>
     requires { IsScope scope.now constants.now [] }
-    ensures { IfOk result (λ r. r ≡ resolved_const (places_in constants.now) (values_in constants.now) c) }
+    ensures { IfOk result (λ r. r ≡ const_by constants.now c) }
 {
     let Const { name, value, span } = c;
     let value = resolve_expr(alloc, scope, &value)?;
@@ -256,7 +260,7 @@ fn resolve_consts(
     constants: &ConstantTable,
     consts: Seq<Const>,
 ) -> Result<Seq<Const>, AllocError>
-    ensures { IfOk result (λ r. r ≡ map (resolved_const (places_in constants.now) (values_in constants.now)) consts) }
+    ensures { IfOk result (λ r. r ≡ map (const_by constants.now) consts) }
 {
     let scope = Scope::empty(alloc, constants);
     let mut done = Seq::new(alloc);
@@ -266,8 +270,9 @@ fn resolve_consts(
     Ok(done)
 }
 
-/// The program in which each variable has its declaration where it is used, each length of an array is its value, and each
-/// constant its number. A length that has none becomes 0, and a constant that has none a division by zero.
+/// The program in which each variable has its declaration where it is used, each length of an array
+/// is its value, and each constant its number. A length that has none becomes 0, and a constant
+/// that has none a division by zero.
 pub fn resolve(alloc: Global, program: Program) -> Result<Program, AllocError>
     ensures { IfOk result (λ q. q ≡ resolved program) }
 {

@@ -1,7 +1,7 @@
 //! The variables of a function by their names.
 ghost use Rattle.std.specs.Prelude.{◌≡◌, IfOk, []};
 ghost use Rattle.jz_scopes.specs.Scopes.{variables_of};
-ghost use Rattle.jz_resolve.specs.Tables.{declared_by, place_by, is_constant_by, number_by, IsScope};
+ghost use Rattle.jz_resolve.specs.InnerTables.{declared_by, place_by, is_constant_by, number_by, known_by, IsScope};
 
 use crate::lookup::Lookup;
 use crate::table::ConstantTable;
@@ -64,9 +64,7 @@ impl Scope<'_> {
 }
 
 impl Lookup for Scope<'_> {
-    ghost declaration = { λ scope. declared_by scope };
-
-    ghost number = { λ scope. number_by scope };
+    ghost known = { λ scope. known_by scope };
 
     fn declared(&self, alloc: Global, name: &Text) -> Result<Option<Decl>, AllocError>
         ensures { IfOk result (λ decl. decl ≡ declared_by self.now name.now) }

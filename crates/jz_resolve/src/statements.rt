@@ -1,6 +1,8 @@
-//! Statements whose variables have their declarations, and whose constants are numbers, changed where they stand.
+//! Statements whose variables have their declarations, and whose constants are numbers, changed
+//! where they stand.
 ghost use Rattle.std.specs.Prelude.{◌≡◌, OnOk, map, option_map};
-ghost use Rattle.jz_resolve.specs.Resolving.{resolved_expr, resolved_var, resolved_lval, resolved_rhs, resolved_kind, resolved_stmt};
+ghost use Rattle.jz_resolve.specs.Resolving.{expr_with, var_with, stmt_with};
+ghost use Rattle.jz_resolve.specs.InnerResolving.{lval_with, rhs_with, kind_with};
 
 use crate::expressions::{declare_var, replace_expr, resolve_access, resolve_expr};
 use crate::lookup::Lookup;
@@ -15,7 +17,7 @@ pub(crate) fn resolve_vars<L: Lookup>(
     names: &L,
     vars: &mut Seq<Var>,
 ) -> Result<(), AllocError>
-    ensures { OnOk result (vars.new ≡ map (resolved_var (L.declaration names.now) (L.number names.now)) vars.old) }
+    ensures { OnOk result (vars.new ≡ map (var_with (L.known names.now)) vars.old) }
 {
     for var in vars.as_mut_slice() {
         declare_var(alloc, names, var)?;
@@ -29,7 +31,7 @@ fn resolve_exprs<L: Lookup>(
     names: &L,
     exprs: &mut Seq<Expr>,
 ) -> Result<(), AllocError>
-    ensures { OnOk result (exprs.new ≡ map (resolved_expr (L.declaration names.now) (L.number names.now)) exprs.old) }
+    ensures { OnOk result (exprs.new ≡ map (expr_with (L.known names.now)) exprs.old) }
 {
     for e in exprs.as_mut_slice() {
         replace_expr(alloc, names, e)?;
@@ -38,7 +40,7 @@ fn resolve_exprs<L: Lookup>(
 }
 
 fn resolve_lval<L: Lookup>(alloc: Global, names: &L, to: &mut Lval) -> Result<(), AllocError>
-    ensures { OnOk result (to.new ≡ resolved_lval (L.declaration names.now) (L.number names.now) to.old) }
+    ensures { OnOk result (to.new ≡ lval_with (L.known names.now) to.old) }
 {
     match to {
         Lval::Skip(_) => {}
@@ -58,7 +60,7 @@ fn resolve_lvals<L: Lookup>(
     names: &L,
     lvals: &mut Seq<Lval>,
 ) -> Result<(), AllocError>
-    ensures { OnOk result (lvals.new ≡ map (resolved_lval (L.declaration names.now) (L.number names.now)) lvals.old) }
+    ensures { OnOk result (lvals.new ≡ map (lval_with (L.known names.now)) lvals.old) }
 {
     for to in lvals.as_mut_slice() {
         resolve_lval(alloc, names, to)?;
@@ -67,7 +69,7 @@ fn resolve_lvals<L: Lookup>(
 }
 
 fn resolve_rhs<L: Lookup>(alloc: Global, names: &L, rhs: &mut Rhs) -> Result<(), AllocError>
-    ensures { OnOk result (rhs.new ≡ resolved_rhs (L.declaration names.now) (L.number names.now) rhs.old) }
+    ensures { OnOk result (rhs.new ≡ rhs_with (L.known names.now) rhs.old) }
 {
     match rhs {
         Rhs::Value(e) => replace_expr(alloc, names, e)?,
@@ -82,7 +84,7 @@ fn resolve_condition<L: Lookup>(
     names: &L,
     cond: &mut Option<Expr>,
 ) -> Result<(), AllocError>
-    ensures { OnOk result (cond.new ≡ option_map (resolved_expr (L.declaration names.now) (L.number names.now)) cond.old) }
+    ensures { OnOk result (cond.new ≡ option_map (expr_with (L.known names.now)) cond.old) }
 {
     if let Some(e) = cond {
         replace_expr(alloc, names, e)?;
@@ -97,9 +99,9 @@ fn resolve_assignment<L: Lookup>(
     rhs: &mut Rhs,
     cond: &mut Option<Expr>,
 ) -> Result<(), AllocError>
-    ensures to { OnOk result (to.new ≡ map (resolved_lval (L.declaration names.now) (L.number names.now)) to.old) }
-    ensures rhs { OnOk result (rhs.new ≡ resolved_rhs (L.declaration names.now) (L.number names.now) rhs.old) }
-    ensures cond { OnOk result (cond.new ≡ option_map (resolved_expr (L.declaration names.now) (L.number names.now)) cond.old) }
+    ensures to { OnOk result (to.new ≡ map (lval_with (L.known names.now)) to.old) }
+    ensures rhs { OnOk result (rhs.new ≡ rhs_with (L.known names.now) rhs.old) }
+    ensures cond { OnOk result (cond.new ≡ option_map (expr_with (L.known names.now)) cond.old) }
 {
     resolve_lvals(alloc, names, to)?;
     resolve_rhs(alloc, names, rhs)?;
@@ -109,7 +111,7 @@ fn resolve_assignment<L: Lookup>(
 
 #[cycle(resolve_statement)]
 fn resolve_stmt<L: Lookup>(alloc: Global, names: &L, stmt: &mut Stmt) -> Result<(), AllocError>
-    ensures { OnOk result (stmt.new ≡ resolved_stmt (L.declaration names.now) (L.number names.now) stmt.old) }
+    ensures { OnOk result (stmt.new ≡ stmt_with (L.known names.now) stmt.old) }
 {
     resolve_kind(alloc, names, &mut stmt.kind)?;
     Ok(())
@@ -117,7 +119,7 @@ fn resolve_stmt<L: Lookup>(alloc: Global, names: &L, stmt: &mut Stmt) -> Result<
 
 #[cycle(resolve_statement)]
 fn resolve_kind<L: Lookup>(alloc: Global, names: &L, kind: &mut StmtKind) -> Result<(), AllocError>
-    ensures { OnOk result (kind.new ≡ resolved_kind (L.declaration names.now) (L.number names.now) kind.old) }
+    ensures { OnOk result (kind.new ≡ kind_with (L.known names.now) kind.old) }
 {
     match kind {
         StmtKind::Assign { to, rhs, cond, .. } => {
@@ -164,7 +166,7 @@ pub(crate) fn resolve_block<L: Lookup>(
     names: &L,
     block: &mut Seq<Stmt>,
 ) -> Result<(), AllocError>
-    ensures { OnOk result (block.new ≡ map (resolved_stmt (L.declaration names.now) (L.number names.now)) block.old) }
+    ensures { OnOk result (block.new ≡ map (stmt_with (L.known names.now)) block.old) }
 {
     for s in block.as_mut_slice() {
         resolve_stmt(alloc, names, s)?;

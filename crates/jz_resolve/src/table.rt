@@ -1,11 +1,11 @@
 //! The numbers of constants.
-ghost use Rattle.std.specs.Prelude.{◌≡◌, List, option_map, IfOk, OnOk, Some};
-ghost use Rattle.jz_tree.specs.declared.program.Const.{Const};
-ghost use Rattle.jz_scopes.specs.Scopes.{constant_place, or_named};
+ghost use Rattle.std.specs.Prelude.{◌≡◌, option_map, IfOk, OnOk};
+ghost use Rattle.jz_scopes.specs.Scopes.{constant_place};
 ghost use Rattle.jz_scopes.specs.Names.{stands_above};
 ghost use Rattle.jz_scopes.specs.Tables.{item_in};
-ghost use Rattle.jz_resolve.specs.Numbering.{value_with, no_values, constant_decl};
+ghost use Rattle.jz_resolve.specs.Numbering.{value_with, with_value, no_values, constant_decl};
 ghost use Rattle.jz_resolve.specs.Tables.{values_in, places_in, IsTable};
+ghost use Rattle.jz_resolve.specs.InnerTables.{with_number};
 
 use jz_data::{Seq, Text};
 use jz_integers::{Constant, Numbers, inline_value};
@@ -55,8 +55,8 @@ impl ConstantTable {
         }
     }
 
-    /// The number of an expression that is built of numbers and constants, as the length of an array is; none, where it has no
-    /// value.
+    /// The number of an expression that is built of numbers and constants, as the length of an
+    /// array is; none, where it has no value.
     pub fn number_of(&self, alloc: Global, e: &Expr) -> Result<Option<i128>, AllocError>
         ensures { IfOk result (λ n. n ≡ value_with (values_in self.now) e.now) }
     {
@@ -68,7 +68,9 @@ impl ConstantTable {
     }
 
     fn put_value(&mut self, name: &Text, number: i128) -> Result<(), AllocError>
-        ensures values { OnOk result (values_in self.new ≡ or_named (values_in self.old) name.now (Some number)) }
+        ensures values {
+            OnOk result (values_in self.new ≡ with_number (values_in self.old) name.now number)
+        }
         ensures places { OnOk result (self.new.places ≡ self.old.places) }
     {
         self.values.add(name, number)?;
@@ -76,7 +78,7 @@ impl ConstantTable {
     }
 
     fn add_value(&mut self, alloc: Global, c: &Const) -> Result<(), AllocError>
-        ensures values { OnOk result (values_in self.new ≡ or_named (values_in self.old) c.now.name (value_with (values_in self.old) c.now.value)) }
+        ensures values { OnOk result (values_in self.new ≡ with_value (values_in self.old) c.now) }
         ensures places { OnOk result (self.new.places ≡ self.old.places) }
     {
         match self.number_of(alloc, &c.value)? {

@@ -6,7 +6,7 @@ use Rattle.jz_tree.specs.declared.stmt.StmtKind.TheOpen.{StmtKind-F}
 use Rattle.jz_tree.specs.declared.stmt.StmtKind.TheViews.{out-StmtKind, roll-out-StmtKind, roll-Stmt}
 use Rattle.jz_tree.specs.declared.stmt.StmtKind.TheFolds.{para-StmtKind, para-roll-Stmt, para-roll-StmtKind, map-StmtKind}
 use Rattle.jz_scopes.specs.Parts.{Layer, nested, nested_step, statements_in, statements_of}
-use Rattle.jz_scopes.specs.Nested.{nested_layer, nested_of}
+use Rattle.jz_scopes.specs.InnerNested.{nested_layer, nested_of}
 
 in_kind : StmtKind → List Stmt
 in_kind = para-StmtKind (List Stmt) (List Stmt) nested_step (λ s. roll-Stmt (record { notes = s.notes; span = s.span; kind = s.kind.0 }) ∷ s.kind.1)

@@ -13,7 +13,8 @@ use Rattle.jz_scopes.specs.Order.{is_before, unless, earlier, earliest, first_in
 use Rattle.jz_scopes.specs.Scopes.{Name, name_of, places_of, variables_of}
 use Rattle.jz_scopes.specs.Parts.{layer_of, statements_of}
 use Rattle.jz_scopes.specs.Names.{stands_above, named_before, one_repeated, repeated, repeated_by, repeated_in_fun, repeated_in, top_names}
-use Rattle.jz_scopes.specs.Tables.{IsEarliestPlaces, places_named, one_repeated_in}
+use Rattle.jz_scopes.specs.Tables.{IsEarliestPlaces, places_named}
+use Rattle.jz_scopes.specs.InnerTables.{one_repeated_in}
 use Rattle.jz_scopes.proofs.Earliest.{first_over, both_earliest}
 
 earlier_above : (a b : Option Span) (s : Span) → stands_above (earlier a b) s ≡ (stands_above a s || stands_above b s)

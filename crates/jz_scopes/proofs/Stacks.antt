@@ -2,7 +2,13 @@
 use Rattle.std.proofs.Common.{◌≡◌, ◌<◌, ◌+◌, List, [], ◌∷◌, ◌++◌, Option, Some, None, flat_map, refl, sym, ap, ◌∙◌, arith, append_assoc, append-nil}
 use Rattle.std.specs.Borrow.{Bor}
 use Rattle.jz_tree.specs.declared.expr.Expr.{Expr}
-use Rattle.jz_scopes.specs.Lent.{this, count_in, count_of, stacked}
+use Rattle.jz_scopes.specs.Lent.{this}
+use Rattle.jz_scopes.specs.InnerLists.{count_in, count_of}
+
+-- what stands in the expressions of a stack, of which the last comes first
+abbrev pub stacked : {A : Type 0} → (Expr → List A) → List Expr → List A
+stacked f [] = []
+stacked f (e ∷ es) = stacked f es ++ f e
 
 pub count-append : (xs ys : List Expr) → count_of (xs ++ ys) ≡ count_of xs + count_of ys
 count-append [] ys = omega arith

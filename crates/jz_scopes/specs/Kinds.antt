@@ -120,9 +120,12 @@ declared_step d = record { storage = d.storage; kind = d.ty }
 abbrev pub known_step : {A B C E : Type 0} → Var-F A B C Declared E → Known
 known_step v = v.decl
 
--- it has numbers, bools and inline variables alone, so that its value is known when the text is compiled
+-- it has numbers, bools and inline variables alone, so that its value is known when the text is
+-- compiled
 abbrev pub is_inline : Expr → Bool
-is_inline = fold-Expr Bool Kind Bool Declared Known inline_step kind_step (λ a. a.at) declared_step known_step
+is_inline =
+    fold-Expr Bool Kind Bool Declared Known
+        inline_step kind_step (λ a. a.at) declared_step known_step
 
 abbrev pub array_layer : Expr-F Expr Ty Access Decl Var → Option Var
 array_layer (Expr-F.Var v) = if is_array (known_of v) then Some v else None

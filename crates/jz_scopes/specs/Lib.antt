@@ -2,7 +2,9 @@ pub mod Order
 pub mod Scopes
 pub mod Parts
 pub mod Lent
-pub mod Nested
+pub mod InnerLists
+pub mod InnerNested
 pub mod Tables
+pub mod InnerTables
 pub mod Kinds
 pub mod Names

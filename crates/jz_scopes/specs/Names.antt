@@ -15,8 +15,9 @@ use Rattle.jz_tree.specs.declared.program.Program.{Program}
 use Rattle.jz_tree.specs.declared.program.Const.{Const}
 use Rattle.jz_tree.specs.declared.program.Fun.{Fun}
 use Rattle.jz_tree.specs.declared.program.Param.{Param}
+use Rattle.jz_tree.specs.declared.program.Ret.{Ret}
 use Rattle.jz_scopes.specs.Order.{is_before, unless}
-use Rattle.jz_scopes.specs.Scopes.{Name, name_of, places_of, variables_of, function_named, constant_place, variable_place, value_place}
+use Rattle.jz_scopes.specs.Scopes.{Name, name_of, constant_name, function_name, places_of, PlacesByName, FunctionsByName, variables_of, function_named, constant_place, variable_place, value_place}
 use Rattle.jz_scopes.specs.Kinds.{known_of, is_array}
 use Rattle.jz_scopes.specs.Parts.{Layer, names_in, arrays_in, lengths_in, read_by, set_by, arrays_read_by, wholly_set_by, called_by, statements_of, layer_of}
 
@@ -25,19 +26,21 @@ stands_above None at = false
 stands_above (Some s) at = is_before s at
 
 -- where a name stands, unless it is declared above
-unfoldable pub one_unknown : (List ℕ → Option Span) → Name → List Span
+unfoldable pub one_unknown : PlacesByName → Name → List Span
 one_unknown declared n = unless (stands_above (declared n.0) n.1) n.1
 
 -- the names that are not declared above
-abbrev pub unknown_among : (List ℕ → Option Span) → List Name → List Span
+abbrev pub unknown_among : PlacesByName → List Name → List Span
 unknown_among declared ns = flat_map (one_unknown declared) ns
 
--- what a name is where it stands: that of a constant, where one stands above and no variable of that name does
-abbrev pub is_constant : (List ℕ → Option Span) → (List ℕ → Option Span) → Name → Bool
-is_constant constants variables n = not (stands_above (variables n.0) n.1) && stands_above (constants n.0) n.1
+-- what a name is where it stands: that of a constant, where one stands above and no variable of
+-- that name does
+abbrev pub is_constant : PlacesByName → PlacesByName → Name → Bool
+is_constant constants variables n =
+    not (stands_above (variables n.0) n.1) && stands_above (constants n.0) n.1
 
 -- where a name stands, unless it is a function's
-unfoldable pub no_function : (List ℕ → Option Fun) → Name → List Span
+unfoldable pub no_function : FunctionsByName → Name → List Span
 no_function functions n = unless (is_some (functions n.0)) n.1
 
 -- ---- arguments that have to be arrays
@@ -59,27 +62,39 @@ arrays_to None args = []
 arrays_to (Some g) args = arrays_beside g.params args
 
 -- the names that a statement passes to a function in the places of arrays
-abbrev pub arrays_passed : (List ℕ → Option Fun) → Layer → List Name
-arrays_passed functions (StmtKind-F.Assign to op (rhs.Call n args at) cond) = arrays_to (functions n) args
+abbrev pub arrays_passed : FunctionsByName → Layer → List Name
+arrays_passed functions (StmtKind-F.Assign to op (rhs.Call n args at) cond) =
+    arrays_to (functions n) args
 arrays_passed functions _ = []
 
 -- ---- Unknown
--- the names of a statement that have to be variables: what it sets, what stands before an index, and
--- what is passed as an array
-abbrev pub variables_wanted : (List ℕ → Option Fun) → Layer → List Name
-variables_wanted functions k = map name_of (set_by k) ++ (arrays_read_by k ++ arrays_passed functions k)
+-- the names of a statement that have to be variables: what it sets, what stands before an index,
+-- and what is passed as an array
+abbrev pub variables_wanted : FunctionsByName → Layer → List Name
+variables_wanted functions k =
+    map name_of (set_by k) ++ (arrays_read_by k ++ arrays_passed functions k)
 
--- Unknown, of a statement: what is read is declared above as a variable or constant, what has to be a
--- variable as a variable, and what is called is a function anywhere
-abbrev pub unknown_where : (List ℕ → Option Span) → (List ℕ → Option Span) → (List ℕ → Option Fun) → Layer → List Span
+-- Unknown, of a statement: what is read is declared above as a variable or constant, what has to be
+-- a variable as a variable, and what is called is a function anywhere
+abbrev pub unknown_where : PlacesByName → PlacesByName → FunctionsByName → Layer → List Span
 unknown_where values variables functions k =
     unknown_among values (read_by k)
     ++ unknown_among variables (variables_wanted functions k)
     ++ flat_map (no_function functions) (called_by k)
 
+-- what is declared of a variable, and of a parameter
+abbrev pub var_decl : Var → List Decl
+var_decl v = option_to_list (out-Var v).decl
+
+abbrev pub param_decl : Param → List Decl
+param_decl p = var_decl p.var
+
+abbrev pub ret_decls : List Ret → List Decl
+ret_decls rs = map (λ r. r.decl) rs
+
 -- the declarations of a function: of its parameters, results and variables
 abbrev pub decls_of : Fun → List Decl
-decls_of f = flat_map (λ p. option_to_list (out-Var p.var).decl) f.params ++ map (λ r. r.decl) f.rets ++ flat_map (λ v. option_to_list (out-Var v).decl) f.vars
+decls_of f = flat_map param_decl f.params ++ ret_decls f.rets ++ flat_map var_decl f.vars
 
 -- the names in the length of what a declaration declares
 abbrev pub decl_names : Decl → List Name
@@ -101,29 +116,34 @@ abbrev pub variables_outside : Fun → List Name
 variables_outside f = length_arrays f ++ map name_of f.result
 
 -- Unknown, of what stands outside statements: the lengths of arrays, and what is returned
-abbrev pub outside_where : (List ℕ → Option Span) → (List ℕ → Option Span) → Fun → List Span
+abbrev pub outside_where : PlacesByName → PlacesByName → Fun → List Span
 outside_where values variables f =
     unknown_among values (length_names f) ++ unknown_among variables (variables_outside f)
 
 -- Unknown, of a function
-abbrev pub fun_where : (List ℕ → Option Span) → (List ℕ → Option Span) → (List ℕ → Option Fun) → Fun → List Span
+abbrev pub fun_where : PlacesByName → PlacesByName → FunctionsByName → Fun → List Span
 fun_where values variables functions f =
-    outside_where values variables f ++ flat_map (λ s. unknown_where values variables functions (layer_of s)) (statements_of f.body)
+    outside_where values variables f
+    ++ flat_map (λ s. unknown_where values variables functions (layer_of s)) (statements_of f.body)
 
 abbrev pub unknown_in_fun : Program → Fun → List Span
-unknown_in_fun p f = fun_where (value_place p.consts f) (variable_place f) (λ n. function_named n p.funs) f
+unknown_in_fun p f =
+    fun_where (value_place p.consts f) (variable_place f) (λ n. function_named n p.funs) f
 
--- Unknown, of a constant: the declaration of a constant ends behind its value, so a name there is that
--- of a constant which stands above this one; and none stands before an index, as there are no variables
-unfoldable pub unknown_value : (List ℕ → Option Span) → Span → Name → List Span
+-- Unknown, of a constant: the declaration of a constant ends behind its value, so a name there is
+-- that of a constant which stands above this one; and none stands before an index, as there are no
+-- variables
+unfoldable pub unknown_value : PlacesByName → Span → Name → List Span
 unknown_value constants own n = unless (stands_above (constants n.0) own) n.1
 
-unfoldable pub unknown_in_constant : (List ℕ → Option Span) → Const → List Span
+unfoldable pub unknown_in_constant : PlacesByName → Const → List Span
 unknown_in_constant constants c =
     flat_map (unknown_value constants c.span) (names_in c.value) ++ places_of (arrays_in c.value)
 
 abbrev pub unknown_in : Program → List Span
-unknown_in p = flat_map (unknown_in_constant (constant_place p.consts)) p.consts ++ flat_map (unknown_in_fun p) p.funs
+unknown_in p =
+    flat_map (unknown_in_constant (constant_place p.consts)) p.consts
+    ++ flat_map (unknown_in_fun p) p.funs
 
 -- one of the names equals this one and stands before it
 abbrev pub named_before : List Name → Name → Bool
@@ -143,11 +163,13 @@ repeated_by k = repeated (map name_of (wholly_set_by k))
 
 -- Duplicate, of a function: names differ among its variables
 abbrev pub repeated_in_fun : Fun → List Span
-repeated_in_fun f = repeated (map name_of (variables_of f)) ++ flat_map (λ s. repeated_by (layer_of s)) (statements_of f.body)
+repeated_in_fun f =
+    repeated (map name_of (variables_of f))
+    ++ flat_map (λ s. repeated_by (layer_of s)) (statements_of f.body)
 
 -- the names of constants and functions
 abbrev pub top_names : Program → List Name
-top_names p = map (λ c. (c.name, c.span)) p.consts ++ map (λ f. (f.name, f.span)) p.funs
+top_names p = map constant_name p.consts ++ map function_name p.funs
 
 -- Duplicate: names differ among functions and constants, and among the variables of one function
 abbrev pub repeated_in : Program → List Span

@@ -1,5 +1,5 @@
 -- Places in a text, and the earliest of several.
-use Rattle.std.specs.Prelude.{◌<◌, ◌≡◌, ◌⊎◌, Bool, ◌&&◌, ◌||◌, nat_lt, nat_eq, if◌then◌else◌, List, [], ◌∷◌, Option, Some, None}
+use Rattle.std.specs.Prelude.{◌<◌, ◌≡◌, ◌⊎◌, Bool, ◌&&◌, ◌||◌, nat_lt, nat_eq, if◌then◌else◌, List, [], ◌∷◌, Option, Some, None, Result, IfOk}
 use Rattle.jz_io.specs.declared.span.Span.{Span}
 
 -- a stands before b in the text
@@ -30,7 +30,20 @@ abbrev pub first_in : {A : Type 0} → (A → List Span) → List A → Option S
 first_in places [] = None
 first_in places (a ∷ as') = earlier (earliest (places a)) (first_in places as')
 
--- the place at which something stands, and before which nothing of the kind stands; none, where nothing of the kind stands anywhere
+-- what is found, unless memory is wanting, is the earliest of these places
+abbrev pub FindsEarliest : {E : Type 0} → Result (Option Span) E → List Span → Type 0
+FindsEarliest result places = IfOk result (λ at. at ≡ earliest places)
+
+-- what is found, unless memory is wanting, is the earliest of the places of these items
+abbrev pub FindsFirst : {A E : Type 0}
+    → Result (Option Span) E → (A → List Span) → List A → Type 0
+FindsFirst result places items = IfOk result (λ at. at ≡ first_in places items)
+
+-- the place at which something stands, and before which nothing of the kind stands; none, where
+-- nothing of the kind stands anywhere
 pub data IsEarliest (Wrong : Span → Type 0) : Option Span → Type 0 where
   nowhere : ((at : Span) → Wrong at → ⊥) → IsEarliest Wrong None
-  here : {at : Span} → Wrong at → ((there : Span) → Wrong there → Before at there ⊎ (at ≡ there)) → IsEarliest Wrong (Some at)
+  here : {at : Span}
+      → Wrong at
+      → ((there : Span) → Wrong there → Before at there ⊎ (at ≡ there))
+      → IsEarliest Wrong (Some at)

@@ -1,4 +1,5 @@
--- The statements of a body, and what stands in one statement itself: its expressions, the names that it reads, sets and calls.
+-- The statements of a body, and what stands in one statement itself: its expressions, the names
+-- that it reads, sets and calls.
 use Rattle.std.specs.Prelude.{List, [], ◌∷◌, ◌++◌, flat_map, map, Some, None, option_to_list}
 use Rattle.jz_io.specs.declared.span.Span.{Span}
 use Rattle.jz_tree.specs.declared.expr.Expr.{Expr}
@@ -63,7 +64,12 @@ lengths_in d = length_layer (out-Ty d.ty)
 abbrev pub Cells : Type 0
 Cells = List (Var × Expr)
 
-abbrev pub cells_step : Expr-F (Expr × Cells) (Ty × Unit {0}) (Access × Cells) (Decl × Unit {0}) (Var × Unit {0}) → Cells
+-- a layer whose parts are there with their cells
+abbrev pub CellsLayer : Type 0
+CellsLayer =
+    Expr-F (Expr × Cells) (Ty × Unit {0}) (Access × Cells) (Decl × Unit {0}) (Var × Unit {0})
+
+abbrev pub cells_step : CellsLayer → Cells
 cells_step (Expr-F.Num n at) = []
 cells_step (Expr-F.Expr::Bool b at) = []
 cells_step (Expr-F.Var v) = []
@@ -76,7 +82,9 @@ cells_step (Expr-F.Bin o a b at) = a.1 ++ b.1
 
 -- the cells in an expression, each as its array and index
 abbrev pub cells_in : Expr → Cells
-cells_in = para-Expr Cells (Unit {0}) Cells (Unit {0}) (Unit {0}) cells_step (λ t. tt) (λ a. a.at.1) (λ d. tt) (λ v. tt)
+cells_in =
+    para-Expr Cells (Unit {0}) Cells (Unit {0}) (Unit {0})
+        cells_step (λ t. tt) (λ a. a.at.1) (λ d. tt) (λ v. tt)
 
 -- the arrays of these cells, by their names
 abbrev pub arrays_of : Cells → List Name
@@ -99,7 +107,9 @@ nested_step _ = []
 
 -- a statement and all that stand in it
 abbrev pub statements_in : Stmt → List Stmt
-statements_in = para-Stmt (List Stmt) (List Stmt) nested_step (λ s. roll-Stmt (record { notes = s.notes; span = s.span; kind = s.kind.0 }) ∷ s.kind.1)
+statements_in =
+    para-Stmt (List Stmt) (List Stmt) nested_step
+        (λ s. roll-Stmt (record { notes = s.notes; span = s.span; kind = s.kind.0 }) ∷ s.kind.1)
 
 abbrev pub statements_of : List Stmt → List Stmt
 statements_of ss = flat_map statements_in ss
@@ -123,7 +133,8 @@ right_exprs (rhs.Intrinsic n args at) = args
 
 -- its expressions, indexes and addresses of its left sides among them
 abbrev pub exprs_of : Layer → List Expr
-exprs_of (StmtKind-F.Assign to op from cond) = flat_map left_exprs to ++ right_exprs from ++ option_to_list cond
+exprs_of (StmtKind-F.Assign to op from cond) =
+    flat_map left_exprs to ++ right_exprs from ++ option_to_list cond
 exprs_of (StmtKind-F.If c a b) = c ∷ []
 exprs_of (StmtKind-F.While p c b) = c ∷ []
 exprs_of (StmtKind-F.For i from down to b) = from ∷ to ∷ []

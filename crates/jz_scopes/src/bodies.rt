@@ -1,9 +1,10 @@
 //! The statements of a body.
 
-ghost use Rattle.std.specs.Prelude.{◌≡◌, ◌++◌, IfOk, OnOk};
+ghost use Rattle.std.specs.Prelude.{◌≡◌, IfOk, OnOk};
 ghost use Rattle.jz_scopes.specs.Parts.{statements_of};
 ghost use Rattle.jz_scopes.specs.Lent.{these};
-ghost use Rattle.jz_scopes.specs.Nested.{nested_of};
+ghost use Rattle.jz_scopes.specs.InnerLists.{Gains};
+ghost use Rattle.jz_scopes.specs.InnerNested.{nested_of};
 
 use jz_data::Seq;
 use jz_tree::{Stmt, StmtKind};
@@ -11,7 +12,7 @@ use std::alloc::{AllocError, Global};
 
 #[cycle(statements)]
 fn add_statements<'a>(list: &mut Vec<&'a Stmt>, body: &'a Seq<Stmt>) -> Result<(), AllocError>
-    ensures { OnOk result (these list.new.items ≡ these list.old.items ++ statements_of body.now) }
+    ensures { OnOk result (Gains list.old.items list.new.items (statements_of body.now)) }
 {
     for stmt in body.as_slice() {
         list.push(stmt)?;
@@ -22,7 +23,7 @@ fn add_statements<'a>(list: &mut Vec<&'a Stmt>, body: &'a Seq<Stmt>) -> Result<(
 
 #[cycle(statements)]
 fn add_nested<'a>(list: &mut Vec<&'a Stmt>, kind: &'a StmtKind) -> Result<(), AllocError>
-    ensures { OnOk result (these list.new.items ≡ these list.old.items ++ nested_of kind.now) }
+    ensures { OnOk result (Gains list.old.items list.new.items (nested_of kind.now)) }
 {
     match kind {
         StmtKind::Assign {

@@ -1,10 +1,10 @@
 //! What a function declares, and the names in the lengths of its arrays.
 
-ghost use Rattle.std.specs.Prelude.{◌≡◌, ◌++◌, IfOk, OnOk, map, flat_map, option_to_list};
-ghost use Rattle.jz_tree.specs.declared.expr.Expr.TheViews.{out-Var};
-ghost use Rattle.jz_scopes.specs.Scopes.{name_of, variables_of};
-ghost use Rattle.jz_scopes.specs.Lent.{these};
-ghost use Rattle.jz_scopes.specs.Names.{decl_names, decls_of, length_names};
+ghost use Rattle.std.specs.Prelude.{◌≡◌, IfOk, OnOk, flat_map};
+ghost use Rattle.jz_scopes.specs.Scopes.{variables_of};
+ghost use Rattle.jz_scopes.specs.Lent.{these, var_names};
+ghost use Rattle.jz_scopes.specs.InnerLists.{Gains, GainsVars};
+ghost use Rattle.jz_scopes.specs.Names.{var_decl, param_decl, ret_decls, decl_names, decls_of, length_names};
 
 use crate::exprs::length_of;
 use crate::layers::{add_names, add_refs};
@@ -25,7 +25,7 @@ pub(crate) fn variables(alloc: Global, fun: &Fun) -> Result<Vec<&Var>, AllocErro
 }
 
 fn add_declared<'a>(list: &mut Vec<&'a Decl>, var: &'a Var) -> Result<(), AllocError>
-    ensures { OnOk result (these list.new.items ≡ these list.old.items ++ option_to_list (out-Var var.now).decl) }
+    ensures { OnOk result (Gains list.old.items list.new.items (var_decl var.now)) }
 {
     match &var.decl {
         None => Ok(()),
@@ -37,7 +37,7 @@ fn add_declared<'a>(list: &mut Vec<&'a Decl>, var: &'a Var) -> Result<(), AllocE
 }
 
 fn add_params<'a>(list: &mut Vec<&'a Decl>, params: &'a Seq<Param>) -> Result<(), AllocError>
-    ensures { OnOk result (these list.new.items ≡ these list.old.items ++ flat_map (λ p. option_to_list (out-Var p.var).decl) params.now) }
+    ensures { OnOk result (Gains list.old.items list.new.items (flat_map param_decl params.now)) }
 {
     for param in params.as_slice() {
         add_declared(list, &param.var)?;
@@ -46,7 +46,7 @@ fn add_params<'a>(list: &mut Vec<&'a Decl>, params: &'a Seq<Param>) -> Result<()
 }
 
 fn add_rets<'a>(list: &mut Vec<&'a Decl>, rets: &'a Seq<Ret>) -> Result<(), AllocError>
-    ensures { OnOk result (these list.new.items ≡ these list.old.items ++ map (λ r. r.decl) rets.now) }
+    ensures { OnOk result (Gains list.old.items list.new.items (ret_decls rets.now)) }
 {
     for ret in rets.as_slice() {
         list.push(&ret.decl)?;
@@ -55,7 +55,7 @@ fn add_rets<'a>(list: &mut Vec<&'a Decl>, rets: &'a Seq<Ret>) -> Result<(), Allo
 }
 
 fn add_vars<'a>(list: &mut Vec<&'a Decl>, vars: &'a Seq<Var>) -> Result<(), AllocError>
-    ensures { OnOk result (these list.new.items ≡ these list.old.items ++ flat_map (λ v. option_to_list (out-Var v).decl) vars.now) }
+    ensures { OnOk result (Gains list.old.items list.new.items (flat_map var_decl vars.now)) }
 {
     for var in vars.as_slice() {
         add_declared(list, var)?;
@@ -79,7 +79,7 @@ fn add_length_names<'a>(
     list: &mut Vec<&'a Var>,
     decl: &'a Decl,
 ) -> Result<(), AllocError>
-    ensures { OnOk result (map name_of (these list.new.items) ≡ map name_of (these list.old.items) ++ decl_names decl.now) }
+    ensures { OnOk result (GainsVars list.old.items list.new.items (decl_names decl.now)) }
 {
     match length_of(decl) {
         None => Ok(()),
@@ -92,7 +92,7 @@ fn add_length_names<'a>(
 
 /// The names in the lengths of what a function declares.
 pub(crate) fn length_names(alloc: Global, fun: &Fun) -> Result<Vec<&Var>, AllocError>
-    ensures { IfOk result (λ vs. map name_of (these vs.items) ≡ length_names fun.now) }
+    ensures { IfOk result (λ vs. var_names vs.items ≡ length_names fun.now) }
 {
     let mut list = Vec::new(alloc);
     for decl in decls_of(alloc, fun)? {

@@ -1,9 +1,9 @@
 //! What stands in an expression, in the order of the text.
 
-ghost use Rattle.std.specs.Prelude.{◌≡◌, ◌<◌, ◌++◌, IfOk, OnOk, map, flat_map};
-ghost use Rattle.jz_scopes.specs.Scopes.{name_of};
+ghost use Rattle.std.specs.Prelude.{◌≡◌, ◌<◌, IfOk, OnOk};
 ghost use Rattle.jz_scopes.specs.Parts.{span_of, names_in, cells_in, lengths_in};
-ghost use Rattle.jz_scopes.specs.Lent.{these, this, paired, own_cell, count_in, count_of};
+ghost use Rattle.jz_scopes.specs.Lent.{this, paired, var_names};
+ghost use Rattle.jz_scopes.specs.InnerLists.{Gains, GainsCells, own_cell, count_in, count_of, operands, part_names, part_cells};
 
 use jz_io::Span;
 use jz_tree::{Decl, Expr, Ty, Var};
@@ -31,7 +31,8 @@ pub fn span_of(expr: &Expr) -> Span
     }
 }
 
-/// What an expression is made of: a variable, and its operands, of which the index of a cell is the first.
+/// What an expression is made of: a variable, and its operands, of which the index of a cell is the
+/// first.
 #[derive(Clone, Copy)]
 struct Parts<'a> {
     var: Option<&'a Var>,
@@ -40,9 +41,9 @@ struct Parts<'a> {
 }
 
 fn take_apart(expr: &Expr) -> Parts<'_>
-    ensures names { names_in expr.now ≡ map name_of (this result.var) ++ flat_map names_in (this result.first ++ this result.second) }
-    ensures cells { cells_in expr.now ≡ own_cell result.var result.first ++ flat_map cells_in (this result.first ++ this result.second) }
-    ensures smaller { count_of (this result.first ++ this result.second) < count_in expr.now }
+    ensures names { names_in expr.now ≡ part_names result }
+    ensures cells { cells_in expr.now ≡ part_cells result }
+    ensures smaller { count_of (operands result) < count_in expr.now }
 {
     match expr {
         Expr::Num(_, _) => Parts {
@@ -99,7 +100,7 @@ fn take_apart(expr: &Expr) -> Parts<'_>
 }
 
 pub(crate) fn add<'a, T>(list: &mut Vec<&'a T>, item: Option<&'a T>) -> Result<(), AllocError>
-    ensures { OnOk result (these list.new.items ≡ these list.old.items ++ this item.entry) }
+    ensures { OnOk result (Gains list.old.items list.new.items (this item.entry)) }
 {
     if let Some(item) = item {
         list.push(item)?;
@@ -109,7 +110,7 @@ pub(crate) fn add<'a, T>(list: &mut Vec<&'a T>, item: Option<&'a T>) -> Result<(
 
 /// The variables in an expression, those of its indexes and addresses among them.
 pub fn names(alloc: Global, expr: &Expr) -> Result<Vec<&Var>, AllocError>
-    ensures { IfOk result (λ vs. map name_of (these vs.items) ≡ names_in expr.now) }
+    ensures { IfOk result (λ vs. var_names vs.items ≡ names_in expr.now) }
 {
     let mut names = Vec::new(alloc);
     let mut rest = Vec::new(alloc);
@@ -128,7 +129,10 @@ fn add_cell<'a>(
     var: Option<&'a Var>,
     at: Option<&'a Expr>,
 ) -> Result<(), AllocError>
-    ensures { OnOk result (paired cells.new.items ≡ paired cells.old.items ++ own_cell var.entry at.entry) }
+    ensures {
+        OnOk result
+            (GainsCells cells.old.items cells.new.items (own_cell var.entry at.entry))
+    }
 {
     if let Some(var) = var {
         if let Some(at) = at {

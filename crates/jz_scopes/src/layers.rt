@@ -1,9 +1,9 @@
 //! What stands in one statement, without the statements in it, in the order of the text.
 
-ghost use Rattle.std.specs.Prelude.{◌≡◌, ◌++◌, IfOk, OnOk, map, flat_map, option_to_list};
-ghost use Rattle.jz_scopes.specs.Scopes.{name_of};
+ghost use Rattle.std.specs.Prelude.{◌≡◌, IfOk, OnOk, flat_map, option_to_list};
 ghost use Rattle.jz_scopes.specs.Parts.{layer_of, exprs_of, right_exprs, left_exprs, left_vars, left_cells, whole_left, names_in, read_by, set_by, wholly_set_by, called_by, cells_set};
-ghost use Rattle.jz_scopes.specs.Lent.{these, this, paired, call_of};
+ghost use Rattle.jz_scopes.specs.Lent.{these, this, paired, call_of, var_names};
+ghost use Rattle.jz_scopes.specs.InnerLists.{Gains, GainsVars, GainsCells};
 
 use crate::exprs::{add, names};
 use jz_data::{Seq, Text};
@@ -44,7 +44,7 @@ pub fn whole_var(to: &Lval) -> Option<&Var>
 }
 
 fn add_lefts<'a>(list: &mut Vec<&'a Expr>, to: &'a Seq<Lval>) -> Result<(), AllocError>
-    ensures { OnOk result (these list.new.items ≡ these list.old.items ++ flat_map left_exprs to.now) }
+    ensures { OnOk result (Gains list.old.items list.new.items (flat_map left_exprs to.now)) }
 {
     for lval in to.as_slice() {
         add(list, left_expr(lval))?;
@@ -53,7 +53,7 @@ fn add_lefts<'a>(list: &mut Vec<&'a Expr>, to: &'a Seq<Lval>) -> Result<(), Allo
 }
 
 fn add_args<'a>(list: &mut Vec<&'a Expr>, args: &'a Seq<Expr>) -> Result<(), AllocError>
-    ensures { OnOk result (these list.new.items ≡ these list.old.items ++ args.now) }
+    ensures { OnOk result (Gains list.old.items list.new.items args.now) }
 {
     for arg in args.as_slice() {
         list.push(arg)?;
@@ -62,7 +62,7 @@ fn add_args<'a>(list: &mut Vec<&'a Expr>, args: &'a Seq<Expr>) -> Result<(), All
 }
 
 fn add_right<'a>(list: &mut Vec<&'a Expr>, rhs: &'a Rhs) -> Result<(), AllocError>
-    ensures { OnOk result (these list.new.items ≡ these list.old.items ++ right_exprs rhs.now) }
+    ensures { OnOk result (Gains list.old.items list.new.items (right_exprs rhs.now)) }
 {
     match rhs {
         Rhs::Value(e) => {
@@ -81,7 +81,7 @@ fn add_right<'a>(list: &mut Vec<&'a Expr>, rhs: &'a Rhs) -> Result<(), AllocErro
 }
 
 fn add_option<'a>(list: &mut Vec<&'a Expr>, e: &'a Option<Expr>) -> Result<(), AllocError>
-    ensures { OnOk result (these list.new.items ≡ these list.old.items ++ option_to_list e.now) }
+    ensures { OnOk result (Gains list.old.items list.new.items (option_to_list e.now)) }
 {
     match e {
         None => Ok(()),
@@ -92,7 +92,8 @@ fn add_option<'a>(list: &mut Vec<&'a Expr>, e: &'a Option<Expr>) -> Result<(), A
     }
 }
 
-/// The expressions of a statement: indexes and addresses of its left sides, values, arguments, conditions and bounds.
+/// The expressions of a statement: indexes and addresses of its left sides, values, arguments,
+/// conditions and bounds.
 pub fn exprs_of(alloc: Global, stmt: &Stmt) -> Result<Vec<&Expr>, AllocError>
     ensures { IfOk result (λ es. these es.items ≡ exprs_of (layer_of stmt.now)) }
 {
@@ -141,7 +142,7 @@ pub(crate) fn add_names<'a>(
     list: &mut Vec<&'a Var>,
     expr: &'a Expr,
 ) -> Result<(), AllocError>
-    ensures { OnOk result (map name_of (these list.new.items) ≡ map name_of (these list.old.items) ++ names_in expr.now) }
+    ensures { OnOk result (GainsVars list.old.items list.new.items (names_in expr.now)) }
 {
     for var in names(alloc, expr)? {
         list.push(var)?;
@@ -151,7 +152,7 @@ pub(crate) fn add_names<'a>(
 
 /// The variables that a statement reads.
 pub fn read_by(alloc: Global, stmt: &Stmt) -> Result<Vec<&Var>, AllocError>
-    ensures { IfOk result (λ vs. map name_of (these vs.items) ≡ read_by (layer_of stmt.now)) }
+    ensures { IfOk result (λ vs. var_names vs.items ≡ read_by (layer_of stmt.now)) }
 {
     let mut list = Vec::new(alloc);
     for expr in exprs_of(alloc, stmt)? {
@@ -161,7 +162,7 @@ pub fn read_by(alloc: Global, stmt: &Stmt) -> Result<Vec<&Var>, AllocError>
 }
 
 fn add_set<'a>(list: &mut Vec<&'a Var>, to: &'a Seq<Lval>) -> Result<(), AllocError>
-    ensures { OnOk result (these list.new.items ≡ these list.old.items ++ flat_map left_vars to.now) }
+    ensures { OnOk result (Gains list.old.items list.new.items (flat_map left_vars to.now)) }
 {
     for lval in to.as_slice() {
         add(list, left_var(lval))?;
@@ -205,7 +206,7 @@ pub fn set_by(alloc: Global, stmt: &Stmt) -> Result<Vec<&Var>, AllocError>
 }
 
 fn add_whole<'a>(list: &mut Vec<&'a Var>, to: &'a Seq<Lval>) -> Result<(), AllocError>
-    ensures { OnOk result (these list.new.items ≡ these list.old.items ++ flat_map whole_left to.now) }
+    ensures { OnOk result (Gains list.old.items list.new.items (flat_map whole_left to.now)) }
 {
     for lval in to.as_slice() {
         add(list, whole_var(lval))?;
@@ -267,7 +268,7 @@ pub fn cells_set(alloc: Global, stmt: &Stmt) -> Result<Vec<(&Var, &Expr)>, Alloc
 }
 
 fn add_left_cell<'a>(list: &mut Vec<(&'a Var, &'a Expr)>, to: &'a Lval) -> Result<(), AllocError>
-    ensures { OnOk result (paired list.new.items ≡ paired list.old.items ++ left_cells to.now) }
+    ensures { OnOk result (GainsCells list.old.items list.new.items (left_cells to.now)) }
 {
     match to {
         Lval::Cell(var, at) => {
@@ -282,7 +283,7 @@ fn add_cells_set<'a>(
     list: &mut Vec<(&'a Var, &'a Expr)>,
     to: &'a Seq<Lval>,
 ) -> Result<(), AllocError>
-    ensures { OnOk result (paired list.new.items ≡ paired list.old.items ++ flat_map left_cells to.now) }
+    ensures { OnOk result (GainsCells list.old.items list.new.items (flat_map left_cells to.now)) }
 {
     for lval in to.as_slice() {
         add_left_cell(list, lval)?;
@@ -292,7 +293,7 @@ fn add_cells_set<'a>(
 
 /// Adds the variables of a list, by reference.
 pub(crate) fn add_refs<'a>(list: &mut Vec<&'a Var>, vars: &'a Seq<Var>) -> Result<(), AllocError>
-    ensures { OnOk result (these list.new.items ≡ these list.old.items ++ vars.now) }
+    ensures { OnOk result (Gains list.old.items list.new.items vars.now) }
 {
     for var in vars.as_slice() {
         list.push(var)?;

@@ -1,4 +1,5 @@
-//! The places of a text, the names that a program declares and uses, and the parts of its statements.
+//! The places of a text, the names that a program declares and uses, and the parts of its
+//! statements.
 #![tactic(auto)]
 
 mod bodies;

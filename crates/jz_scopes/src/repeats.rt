@@ -1,11 +1,13 @@
 //! Names that stand twice.
 
-ghost use Rattle.std.specs.Prelude.{◌≡◌, ◌++◌, [], List, IfOk, OnOk, map};
-ghost use Rattle.jz_scopes.specs.Order.{earliest, first_in};
-ghost use Rattle.jz_scopes.specs.Scopes.{Name, name_of, variables_of};
+ghost use Rattle.std.specs.Prelude.{◌≡◌, IfOk, OnOk, map};
+ghost use Rattle.jz_scopes.specs.Order.{earliest, first_in, FindsEarliest, FindsFirst};
+ghost use Rattle.jz_scopes.specs.Scopes.{name_of, constant_name, function_name, variables_of};
 ghost use Rattle.jz_scopes.specs.Parts.{layer_of, statements_of};
-ghost use Rattle.jz_scopes.specs.Lent.{these, these_names};
-ghost use Rattle.jz_scopes.specs.Tables.{IsEarliestPlaces, one_repeated_in};
+ghost use Rattle.jz_scopes.specs.Lent.{var_names};
+ghost use Rattle.jz_scopes.specs.InnerLists.{GainsNames, these_names};
+ghost use Rattle.jz_scopes.specs.Tables.{Adds, IsEarliestPlaces};
+ghost use Rattle.jz_scopes.specs.InnerTables.{one_repeated_in};
 ghost use Rattle.jz_scopes.specs.Names.{repeated, repeated_by, repeated_in_fun, top_names};
 
 use crate::bodies::statements;
@@ -19,7 +21,7 @@ use jz_tree::{Const, Fun, Program, Stmt, Var};
 use std::alloc::{AllocError, Global};
 
 fn add_places(places: &mut Places, names: &[(&Text, Span)]) -> Result<(), AllocError>
-    ensures { (ns : List Name) → IsEarliestPlaces places.old ns → OnOk result (IsEarliestPlaces places.new (ns ++ these_names names.now)) }
+    ensures { OnOk result (Adds IsEarliestPlaces places.old places.new (these_names names.now)) }
 {
     for (name, span) in names {
         places.add_earlier(name, *span)?;
@@ -27,7 +29,7 @@ fn add_places(places: &mut Places, names: &[(&Text, Span)]) -> Result<(), AllocE
     Ok(())
 }
 
-#[tactic(auto, unfolding(crate::specs::Tables::one_repeated_in))]
+#[tactic(auto, unfolding(crate::specs::InnerTables::one_repeated_in))]
 fn repeated_one(places: &Places, name: &Text, span: Span) -> Option<Span>
     ensures { result ≡ earliest (one_repeated_in places.now (name.now, span)) }
 {
@@ -50,7 +52,7 @@ fn repeated_among(places: &Places, names: &[(&Text, Span)]) -> Option<Span>
 
 /// The first name before which an equal one stands.
 fn repeated_names(alloc: Global, names: &[(&Text, Span)]) -> Result<Option<Span>, AllocError>
-    ensures { IfOk result (λ at. at ≡ earliest (repeated (these_names names.now))) }
+    ensures { FindsEarliest result (repeated (these_names names.now)) }
 {
     let mut places = Places::new(alloc);
     add_places(&mut places, names)?;
@@ -61,7 +63,10 @@ fn add_consts<'a>(
     list: &mut Vec<(&'a Text, Span)>,
     consts: &'a Seq<Const>,
 ) -> Result<(), AllocError>
-    ensures { OnOk result (these_names list.new.items ≡ these_names list.old.items ++ map (λ c. (c.name, c.span)) consts.now) }
+    ensures {
+        OnOk result
+            (GainsNames list.old.items list.new.items (map constant_name consts.now))
+    }
 {
     for constant in consts.as_slice() {
         list.push((&constant.name, constant.span))?;
@@ -70,7 +75,7 @@ fn add_consts<'a>(
 }
 
 fn add_funs<'a>(list: &mut Vec<(&'a Text, Span)>, funs: &'a Seq<Fun>) -> Result<(), AllocError>
-    ensures { OnOk result (these_names list.new.items ≡ these_names list.old.items ++ map (λ f. (f.name, f.span)) funs.now) }
+    ensures { OnOk result (GainsNames list.old.items list.new.items (map function_name funs.now)) }
 {
     for fun in funs.as_slice() {
         list.push((&fun.name, fun.span))?;
@@ -79,7 +84,7 @@ fn add_funs<'a>(list: &mut Vec<(&'a Text, Span)>, funs: &'a Seq<Fun>) -> Result<
 }
 
 fn names_of<'a>(alloc: Global, vars: &[&'a Var]) -> Result<Vec<(&'a Text, Span)>, AllocError>
-    ensures { IfOk result (λ ns. these_names ns.items ≡ map name_of (these vars.now)) }
+    ensures { IfOk result (λ ns. these_names ns.items ≡ var_names vars.now) }
 {
     let mut list = Vec::new(alloc);
     for var in vars {
@@ -90,7 +95,7 @@ fn names_of<'a>(alloc: Global, vars: &[&'a Var]) -> Result<Vec<(&'a Text, Span)>
 
 /// The first of the whole variables that a statement sets before which an equal one stands.
 pub fn repeated_of(alloc: Global, stmt: &Stmt) -> Result<Option<Span>, AllocError>
-    ensures { IfOk result (λ at. at ≡ earliest (repeated_by (layer_of stmt.now))) }
+    ensures { FindsEarliest result (repeated_by (layer_of stmt.now)) }
 {
     let vars = wholly_set_by(alloc, stmt)?;
     let list = names_of(alloc, vars.as_slice())?;
@@ -98,7 +103,7 @@ pub fn repeated_of(alloc: Global, stmt: &Stmt) -> Result<Option<Span>, AllocErro
 }
 
 fn in_variables(alloc: Global, fun: &Fun) -> Result<Option<Span>, AllocError>
-    ensures { IfOk result (λ at. at ≡ earliest (repeated (map name_of (variables_of fun.now)))) }
+    ensures { FindsEarliest result (repeated (map name_of (variables_of fun.now))) }
 {
     let vars = variables(alloc, fun)?;
     let list = names_of(alloc, vars.as_slice())?;
@@ -107,7 +112,7 @@ fn in_variables(alloc: Global, fun: &Fun) -> Result<Option<Span>, AllocError>
 }
 
 fn in_body(alloc: Global, body: &Seq<Stmt>) -> Result<Option<Span>, AllocError>
-    ensures { IfOk result (λ at. at ≡ first_in (λ s. repeated_by (layer_of s)) (statements_of body.now)) }
+    ensures { FindsFirst result (λ s. repeated_by (layer_of s)) (statements_of body.now) }
 {
     let mut first = None;
     for stmt in statements(alloc, body)? {
@@ -116,10 +121,10 @@ fn in_body(alloc: Global, body: &Seq<Stmt>) -> Result<Option<Span>, AllocError>
     Ok(first)
 }
 
-/// The first name in a function before which an equal one stands, among its variables, and among the whole variables that one
-/// statement sets.
+/// The first name in a function before which an equal one stands, among its variables, and among
+/// the whole variables that one statement sets.
 pub fn repeated_in_fun(alloc: Global, fun: &Fun) -> Result<Option<Span>, AllocError>
-    ensures { IfOk result (λ at. at ≡ earliest (repeated_in_fun fun.now)) }
+    ensures { FindsEarliest result (repeated_in_fun fun.now) }
 {
     let declared = in_variables(alloc, fun)?;
     let set = in_body(alloc, &fun.body)?;
@@ -128,7 +133,7 @@ pub fn repeated_in_fun(alloc: Global, fun: &Fun) -> Result<Option<Span>, AllocEr
 
 /// The first name of a function or constant before which an equal one stands.
 pub fn repeated_at_top(alloc: Global, program: &Program) -> Result<Option<Span>, AllocError>
-    ensures { IfOk result (λ at. at ≡ earliest (repeated (top_names program.now))) }
+    ensures { FindsEarliest result (repeated (top_names program.now)) }
 {
     let mut list = Vec::new(alloc);
     add_consts(&mut list, &program.consts)?;

@@ -1,12 +1,9 @@
 //! Where names are declared, and functions by their names.
 
-ghost use Rattle.std.specs.Prelude.{◌≡◌, ℕ, [], ◌∷◌, ◌++◌, List, IfOk, OnOk, map, Some, None, if◌then◌else◌};
+ghost use Rattle.std.specs.Prelude.{◌≡◌, ℕ, [], ◌∷◌, List, IfOk, OnOk, map, None};
 ghost use Rattle.std.specs.Option.{option_copied};
-ghost use Rattle.std.specs.Str.{bytes_eq};
-ghost use Rattle.jz_tree.specs.declared.expr.Var.{Var};
-ghost use Rattle.jz_tree.specs.declared.program.Fun.{Fun};
-ghost use Rattle.jz_scopes.specs.Scopes.{Name, name_of, or_named, variables_of};
-ghost use Rattle.jz_scopes.specs.Tables.{IsPlaces, IsEarliestPlaces, IsFunctions, IsVariables, item_in, place_in, function_in, variable_in};
+ghost use Rattle.jz_scopes.specs.Scopes.{name_of, constant_name, variables_of};
+ghost use Rattle.jz_scopes.specs.Tables.{AddsItem, PutsItem, Adds, IsPlaces, IsEarliestPlaces, IsFunctions, IsVariables, item_in, place_in, function_in, variable_in};
 
 use crate::order::sooner;
 use indexmap::IndexMap;
@@ -39,7 +36,7 @@ impl<T: Drop> ByName<T> {
 
     /// Adds an item, which counts where none of that name is there yet.
     pub fn add(&mut self, name: &Text, item: T) -> Result<(), AllocError>
-        ensures { OnOk result (item_in self.new ≡ or_named (item_in self.old) name.now (Some item)) }
+        ensures { OnOk result (AddsItem self.old self.new name.now item) }
     {
         if !self.items.contains_key(name) {
             self.items.insert(name.clone()?, item)?;
@@ -49,7 +46,7 @@ impl<T: Drop> ByName<T> {
 
     /// Puts an item in the place of what is there of that name.
     pub(crate) fn put(&mut self, name: &Text, item: T) -> Result<(), AllocError>
-        ensures { OnOk result ((n : List ℕ) → item_in self.new n ≡ (if bytes_eq name.now n then Some item else item_in self.old n)) }
+        ensures { OnOk result (PutsItem self.old self.new name.now item) }
     {
         self.items.insert(name.clone()?, item)?;
         Ok(())
@@ -84,7 +81,7 @@ impl Places {
 
     /// Adds a name, which counts where it is not there yet.
     pub fn add(&mut self, name: &Text, span: Span) -> Result<(), AllocError>
-        ensures { (ns : List Name) → IsPlaces self.old ns → OnOk result (IsPlaces self.new (ns ++ (name.now, span) ∷ [])) }
+        ensures { OnOk result (Adds IsPlaces self.old self.new ((name.now, span) ∷ [])) }
     {
         self.places.add(name, span)?;
         Ok(())
@@ -92,7 +89,7 @@ impl Places {
 
     /// Adds a name, which counts where it is not there earlier in the text.
     pub fn add_earlier(&mut self, name: &Text, span: Span) -> Result<(), AllocError>
-        ensures { (ns : List Name) → IsEarliestPlaces self.old ns → OnOk result (IsEarliestPlaces self.new (ns ++ (name.now, span) ∷ [])) }
+        ensures { OnOk result (Adds IsEarliestPlaces self.old self.new ((name.now, span) ∷ [])) }
     {
         let first = sooner(self.place(name), span);
         self.places.put(name, first)?;
@@ -100,7 +97,7 @@ impl Places {
     }
 
     fn add_vars(&mut self, vars: &Seq<Var>) -> Result<(), AllocError>
-        ensures { (ns : List Name) → IsPlaces self.old ns → OnOk result (IsPlaces self.new (ns ++ map name_of vars.now)) }
+        ensures { OnOk result (Adds IsPlaces self.old self.new (map name_of vars.now)) }
     {
         for var in vars.as_slice() {
             self.add(&var.name, var.span)?;
@@ -122,7 +119,7 @@ impl Places {
 
     /// Where constants are declared.
     pub fn of_constants(alloc: Global, consts: &Seq<Const>) -> Result<Places, AllocError>
-        ensures { IfOk result (λ places. IsPlaces places (map (λ c. (c.name, c.span)) consts.now)) }
+        ensures { IfOk result (λ places. IsPlaces places (map constant_name consts.now)) }
     {
         let mut places = Places::new(alloc);
         for constant in consts.as_slice() {
@@ -150,7 +147,7 @@ impl<'a> Functions<'a> {
     }
 
     fn add(&mut self, fun: &'a Fun) -> Result<(), AllocError>
-        ensures { (fs : List Fun) → IsFunctions self.old fs → OnOk result (IsFunctions self.new (fs ++ fun.now ∷ [])) }
+        ensures { OnOk result (Adds IsFunctions self.old self.new (fun.now ∷ [])) }
     {
         self.functions.add(&fun.name, fun)?;
         Ok(())
@@ -187,14 +184,14 @@ impl<'a> Variables<'a> {
     }
 
     fn add(&mut self, var: &'a Var) -> Result<(), AllocError>
-        ensures { (vs : List Var) → IsVariables self.old vs → OnOk result (IsVariables self.new (vs ++ var.now ∷ [])) }
+        ensures { OnOk result (Adds IsVariables self.old self.new (var.now ∷ [])) }
     {
         self.variables.add(&var.name, var)?;
         Ok(())
     }
 
     fn add_all(&mut self, vars: &'a Seq<Var>) -> Result<(), AllocError>
-        ensures { (vs : List Var) → IsVariables self.old vs → OnOk result (IsVariables self.new (vs ++ vars.now)) }
+        ensures { OnOk result (Adds IsVariables self.old self.new vars.now) }
     {
         for var in vars.as_slice() {
             self.add(var)?;

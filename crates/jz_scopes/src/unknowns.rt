@@ -1,12 +1,13 @@
 //! Names that are not declared above.
 
-ghost use Rattle.std.specs.Prelude.{◌≡◌, IfOk, map, flat_map, Some};
-ghost use Rattle.jz_scopes.specs.Order.{earliest, first_in};
-ghost use Rattle.jz_scopes.specs.Scopes.{name_of, places_of, or_values, variable_place};
-ghost use Rattle.jz_scopes.specs.Parts.{layer_of, called_by, statements_of};
-ghost use Rattle.jz_scopes.specs.Lent.{these};
-ghost use Rattle.jz_scopes.specs.Tables.{place_in, value_in, function_in};
-ghost use Rattle.jz_scopes.specs.Names.{stands_above, one_unknown, no_function, unknown_where, outside_where, fun_where, unknown_value, unknown_in_constant};
+ghost use Rattle.std.specs.Prelude.{◌≡◌};
+ghost use Rattle.jz_scopes.specs.Order.{earliest, first_in, FindsEarliest, FindsFirst};
+ghost use Rattle.jz_scopes.specs.Scopes.{name_of, places_of};
+ghost use Rattle.jz_scopes.specs.Parts.{statements_of};
+ghost use Rattle.jz_scopes.specs.Lent.{var_names};
+ghost use Rattle.jz_scopes.specs.Tables.{place_in, value_in, unknown_by, unknown_of_fun};
+ghost use Rattle.jz_scopes.specs.InnerTables.{unknown_value_by, unknown_calls, outside_by};
+ghost use Rattle.jz_scopes.specs.Names.{stands_above, one_unknown, unknown_value, unknown_in_constant};
 
 use crate::bodies::statements;
 use crate::declarations::length_names;
@@ -38,7 +39,7 @@ fn value(constants: &Places, variables: &Places, name: &Text) -> Option<Span>
 
 #[tactic(auto, unfolding(crate::specs::Names::one_unknown))]
 fn unknown_value(constants: &Places, variables: &Places, var: &Var) -> Option<Span>
-    ensures { result ≡ earliest (one_unknown (value_in constants.now variables.now) (name_of var.now)) }
+    ensures { result ≡ earliest (unknown_value_by constants.now variables.now (name_of var.now)) }
 {
     unless(
         above(value(constants, variables, &var.name), var.span),
@@ -54,7 +55,10 @@ fn unknown_variable(variables: &Places, var: &Var) -> Option<Span>
 }
 
 fn unknown_values(constants: &Places, variables: &Places, vars: &[&Var]) -> Option<Span>
-    ensures { result ≡ first_in (one_unknown (value_in constants.now variables.now)) (map name_of (these vars.now)) }
+    ensures {
+        result
+            ≡ first_in (unknown_value_by constants.now variables.now) (var_names vars.now)
+    }
 {
     let mut first = None;
     for var in vars {
@@ -64,7 +68,7 @@ fn unknown_values(constants: &Places, variables: &Places, vars: &[&Var]) -> Opti
 }
 
 fn unknown_variables(variables: &Places, vars: &[&Var]) -> Option<Span>
-    ensures { result ≡ first_in (one_unknown (place_in variables.now)) (map name_of (these vars.now)) }
+    ensures { result ≡ first_in (one_unknown (place_in variables.now)) (var_names vars.now) }
 {
     let mut first = None;
     for var in vars {
@@ -75,7 +79,7 @@ fn unknown_variables(variables: &Places, vars: &[&Var]) -> Option<Span>
 
 #[tactic(auto, unfolding(crate::specs::Names::no_function))]
 fn unknown_function(functions: &Functions<'_>, stmt: &Stmt) -> Option<Span>
-    ensures { result ≡ earliest (flat_map (no_function (function_in functions.now)) (called_by (layer_of stmt.now))) }
+    ensures { result ≡ earliest (unknown_calls functions.now stmt.now) }
 {
     match called_by(stmt) {
         None => None,
@@ -94,7 +98,7 @@ pub fn unknown_of(
     functions: &Functions<'_>,
     stmt: &Stmt,
 ) -> Result<Option<Span>, AllocError>
-    ensures { IfOk result (λ at. at ≡ earliest (unknown_where (value_in constants.now variables.now) (place_in variables.now) (function_in functions.now) (layer_of stmt.now))) }
+    ensures { FindsEarliest result (unknown_by constants.now variables.now functions.now stmt.now) }
 {
     let read = read_by(alloc, stmt)?;
     let wanted = variables_wanted(alloc, functions, stmt)?;
@@ -110,7 +114,7 @@ fn outside(
     variables: &Places,
     fun: &Fun,
 ) -> Result<Option<Span>, AllocError>
-    ensures { IfOk result (λ at. at ≡ earliest (outside_where (value_in constants.now variables.now) (place_in variables.now) fun.now)) }
+    ensures { FindsEarliest result (outside_by constants.now variables.now fun.now) }
 {
     let lengths = length_names(alloc, fun)?;
     let wanted = variables_outside(alloc, fun)?;
@@ -126,7 +130,11 @@ fn in_body(
     functions: &Functions<'_>,
     body: &Seq<Stmt>,
 ) -> Result<Option<Span>, AllocError>
-    ensures { IfOk result (λ at. at ≡ first_in (λ s. unknown_where (value_in constants.now variables.now) (place_in variables.now) (function_in functions.now) (layer_of s)) (statements_of body.now)) }
+    ensures {
+        FindsFirst result
+            (unknown_by constants.now variables.now functions.now)
+            (statements_of body.now)
+    }
 {
     let mut first = None;
     for stmt in statements(alloc, body)? {
@@ -138,14 +146,15 @@ fn in_body(
     Ok(first)
 }
 
-/// The first name in a function that is not declared above where it is used, or of a function that stands nowhere.
+/// The first name in a function that is not declared above where it is used, or of a function that
+/// stands nowhere.
 pub fn unknown_in_fun(
     alloc: Global,
     constants: &Places,
     functions: &Functions<'_>,
     fun: &Fun,
 ) -> Result<Option<Span>, AllocError>
-    ensures { IfOk result (λ at. at ≡ earliest (fun_where (or_values (place_in constants.now) (variable_place fun.now)) (variable_place fun.now) (function_in functions.now) fun.now)) }
+    ensures { FindsEarliest result (unknown_of_fun constants.now functions.now fun.now) }
 {
     let variables = Places::of_variables(alloc, fun)?;
     let around = outside(alloc, constants, &variables, fun)?;
@@ -161,7 +170,7 @@ fn unknown_in_value(constants: &Places, own: Span, var: &Var) -> Option<Span>
 }
 
 fn unknown_in_values(constants: &Places, own: Span, vars: &[&Var]) -> Option<Span>
-    ensures { result ≡ first_in (unknown_value (place_in constants.now) own) (map name_of (these vars.now)) }
+    ensures { result ≡ first_in (unknown_value (place_in constants.now) own) (var_names vars.now) }
 {
     let mut first = None;
     for var in vars {
@@ -171,7 +180,7 @@ fn unknown_in_values(constants: &Places, own: Span, vars: &[&Var]) -> Option<Spa
 }
 
 fn first_place(vars: &[&Var]) -> Option<Span>
-    ensures { result ≡ earliest (places_of (map name_of (these vars.now))) }
+    ensures { result ≡ earliest (places_of (var_names vars.now)) }
 {
     let mut first = None;
     for var in vars {
@@ -185,7 +194,7 @@ fn in_constant(
     constants: &Places,
     constant: &Const,
 ) -> Result<Option<Span>, AllocError>
-    ensures { IfOk result (λ at. at ≡ earliest (unknown_in_constant (place_in constants.now) constant.now)) }
+    ensures { FindsEarliest result (unknown_in_constant (place_in constants.now) constant.now) }
 {
     let read = names(alloc, &constant.value)?;
     let indexed = arrays(alloc, &constant.value)?;
@@ -199,7 +208,7 @@ pub fn unknown_in_constants(
     constants: &Places,
     consts: &Seq<Const>,
 ) -> Result<Option<Span>, AllocError>
-    ensures { IfOk result (λ at. at ≡ first_in (unknown_in_constant (place_in constants.now)) consts.now) }
+    ensures { FindsFirst result (unknown_in_constant (place_in constants.now)) consts.now }
 {
     let mut first = None;
     for constant in consts.as_slice() {

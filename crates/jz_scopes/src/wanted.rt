@@ -1,25 +1,24 @@
 //! The names that have to be those of variables, as no constant can stand there.
 
-ghost use Rattle.std.specs.Prelude.{◌≡◌, ◌++◌, IfOk, OnOk, map};
+ghost use Rattle.std.specs.Prelude.{◌≡◌, IfOk, OnOk, map};
 ghost use Rattle.jz_scopes.specs.Scopes.{name_of};
 ghost use Rattle.jz_scopes.specs.Parts.{layer_of, arrays_in, arrays_read_by};
-ghost use Rattle.jz_scopes.specs.Lent.{these, this};
-ghost use Rattle.jz_scopes.specs.Tables.{function_in};
-ghost use Rattle.jz_scopes.specs.Names.{array_passed, arrays_beside, arrays_to, arrays_passed, variables_wanted, decl_arrays, length_arrays, variables_outside};
-ghost use Rattle.std.specs.Option.{option_copied};
+ghost use Rattle.jz_scopes.specs.Lent.{this, var_names};
+ghost use Rattle.jz_scopes.specs.InnerLists.{GainsVars};
+ghost use Rattle.jz_scopes.specs.InnerTables.{passed_by, wanted_by};
+ghost use Rattle.jz_scopes.specs.Names.{array_passed, arrays_beside, decl_arrays, length_arrays, variables_outside};
 
 use crate::declarations::decls_of;
 use crate::exprs::{add, cells, length_of};
 use crate::kinds::{is_array, known};
 use crate::layers::{add_refs, exprs_of, set_by};
 use crate::tables::Functions;
-use jz_data::Seq;
 use jz_tree::{Decl, Expr, Fun, Param, Rhs, Stmt, StmtKind, Var};
 use std::alloc::{AllocError, Global};
 
 /// Adds the arrays of which cells stand in an expression.
 fn add_arrays<'a>(alloc: Global, list: &mut Vec<&'a Var>, expr: &'a Expr) -> Result<(), AllocError>
-    ensures { OnOk result (map name_of (these list.new.items) ≡ map name_of (these list.old.items) ++ arrays_in expr.now) }
+    ensures { OnOk result (GainsVars list.old.items list.new.items (arrays_in expr.now)) }
 {
     for cell in cells(alloc, expr)? {
         list.push(cell.0)?;
@@ -29,7 +28,7 @@ fn add_arrays<'a>(alloc: Global, list: &mut Vec<&'a Var>, expr: &'a Expr) -> Res
 
 /// The arrays of which a statement reads cells.
 fn arrays_read_by(alloc: Global, stmt: &Stmt) -> Result<Vec<&Var>, AllocError>
-    ensures { IfOk result (λ vs. map name_of (these vs.items) ≡ arrays_read_by (layer_of stmt.now)) }
+    ensures { IfOk result (λ vs. var_names vs.items ≡ arrays_read_by (layer_of stmt.now)) }
 {
     let mut list = Vec::new(alloc);
     for expr in exprs_of(alloc, stmt)? {
@@ -56,7 +55,10 @@ fn add_beside<'a>(
     params: &[Param],
     args: &'a [Expr],
 ) -> Result<(), AllocError>
-    ensures { OnOk result (map name_of (these list.new.items) ≡ map name_of (these list.old.items) ++ arrays_beside params.now args.now) }
+    ensures {
+        OnOk result
+            (GainsVars list.old.items list.new.items (arrays_beside params.now args.now))
+    }
 {
     let mut rest = params;
     for arg in args {
@@ -71,29 +73,16 @@ fn add_beside<'a>(
     Ok(())
 }
 
-fn add_to<'a>(
-    list: &mut Vec<&'a Var>,
-    callee: Option<&Fun>,
-    args: &'a Seq<Expr>,
-) -> Result<(), AllocError>
-    ensures { OnOk result (map name_of (these list.new.items) ≡ map name_of (these list.old.items) ++ arrays_to (option_copied callee.entry) args.now) }
-{
-    match callee {
-        None => Ok(()),
-        Some(fun) => {
-            add_beside(list, fun.params.as_slice(), args.as_slice())?;
-            Ok(())
-        }
-    }
-}
-
 /// Adds the names that a statement passes to a function in the places of arrays.
 fn add_passed<'a>(
     list: &mut Vec<&'a Var>,
     functions: &Functions<'_>,
     stmt: &'a Stmt,
 ) -> Result<(), AllocError>
-    ensures { OnOk result (map name_of (these list.new.items) ≡ map name_of (these list.old.items) ++ arrays_passed (function_in functions.now) (layer_of stmt.now)) }
+    ensures {
+        OnOk result
+            (GainsVars list.old.items list.new.items (passed_by functions.now stmt.now))
+    }
 {
     match &stmt.kind {
         StmtKind::Assign {
@@ -101,10 +90,13 @@ fn add_passed<'a>(
             op: _,
             rhs: Rhs::Call(name, args, _),
             cond: _,
-        } => {
-            add_to(list, functions.named(name), args)?;
-            Ok(())
-        }
+        } => match functions.named(name) {
+            None => Ok(()),
+            Some(fun) => {
+                add_beside(list, fun.params.as_slice(), args.as_slice())?;
+                Ok(())
+            }
+        },
         _ => Ok(()),
     }
 }
@@ -115,7 +107,7 @@ pub(crate) fn variables_wanted<'a>(
     functions: &Functions<'_>,
     stmt: &'a Stmt,
 ) -> Result<Vec<&'a Var>, AllocError>
-    ensures { IfOk result (λ vs. map name_of (these vs.items) ≡ variables_wanted (function_in functions.now) (layer_of stmt.now)) }
+    ensures { IfOk result (λ vs. var_names vs.items ≡ wanted_by functions.now stmt.now) }
 {
     let mut list = set_by(alloc, stmt)?;
     for array in arrays_read_by(alloc, stmt)? {
@@ -130,7 +122,7 @@ fn add_decl_arrays<'a>(
     list: &mut Vec<&'a Var>,
     decl: &'a Decl,
 ) -> Result<(), AllocError>
-    ensures { OnOk result (map name_of (these list.new.items) ≡ map name_of (these list.old.items) ++ decl_arrays decl.now) }
+    ensures { OnOk result (GainsVars list.old.items list.new.items (decl_arrays decl.now)) }
 {
     match length_of(decl) {
         None => Ok(()),
@@ -143,7 +135,7 @@ fn add_decl_arrays<'a>(
 
 /// The names before an index in the lengths of what a function declares.
 fn length_arrays(alloc: Global, fun: &Fun) -> Result<Vec<&Var>, AllocError>
-    ensures { IfOk result (λ vs. map name_of (these vs.items) ≡ length_arrays fun.now) }
+    ensures { IfOk result (λ vs. var_names vs.items ≡ length_arrays fun.now) }
 {
     let mut list = Vec::new(alloc);
     for decl in decls_of(alloc, fun)? {
@@ -154,7 +146,7 @@ fn length_arrays(alloc: Global, fun: &Fun) -> Result<Vec<&Var>, AllocError>
 
 /// The names outside the statements of a function that have to be variables.
 pub(crate) fn variables_outside(alloc: Global, fun: &Fun) -> Result<Vec<&Var>, AllocError>
-    ensures { IfOk result (λ vs. map name_of (these vs.items) ≡ variables_outside fun.now) }
+    ensures { IfOk result (λ vs. var_names vs.items ≡ variables_outside fun.now) }
 {
     let mut list = length_arrays(alloc, fun)?;
     add_refs(&mut list, &fun.result)?;
@@ -163,7 +155,7 @@ pub(crate) fn variables_outside(alloc: Global, fun: &Fun) -> Result<Vec<&Var>, A
 
 /// The arrays of which cells stand in an expression.
 pub(crate) fn arrays(alloc: Global, expr: &Expr) -> Result<Vec<&Var>, AllocError>
-    ensures { IfOk result (λ vs. map name_of (these vs.items) ≡ arrays_in expr.now) }
+    ensures { IfOk result (λ vs. var_names vs.items ≡ arrays_in expr.now) }
 {
     let mut list = Vec::new(alloc);
     add_arrays(alloc, &mut list, expr)?;

@@ -1,6 +1,6 @@
 use Rattle.std.proofs.Common.{◌≡◌, ◌∙◌, ap, sym}
 use Rattle.jz_tree.specs.declared.expr.Expr.TheVariants.{Bin}
-use Rattle.jz_integers.specs.LeftSides.{on_left}
+use Rattle.jz_integers.specs.InnerLeftSides.{on_left}
 use Rattle.jz_integers.proofs.LeftSideLemmas.{last_waiting}
 use Rattle.jz_integers.proofs.sides.left_side.Goals as goal
 

@@ -1,5 +1,5 @@
 use Rattle.std.proofs.Common.{◌≡◌}
-use Rattle.jz_integers.specs.LeftSides.{on_left}
+use Rattle.jz_integers.specs.InnerLeftSides.{on_left}
 use Rattle.jz_integers.proofs.sides.left_side.Given as goal
 
 abbrev pub invariant-loop-first : goal.invariant-loop-first

@@ -1,7 +1,7 @@
 use Rattle.std.proofs.Common.{◌≡◌, ◌≤◌, ◌<◌, ◌+◌, ◌*◌, ◌-◌, ◌/◌, ◌^◌, ◌∙◌, ap, sym, subst, arith}
 use Rattle.jz_tree.specs.declared.expr.Expr.{size-Expr}
 use Rattle.jz_integers.specs.Integers.{plain_value}
-use Rattle.jz_integers.specs.LeftSides.{left_at}
+use Rattle.jz_integers.specs.InnerLeftSides.{left_at}
 use Rattle.jz_integers.proofs.StepLemmas.{further, no_larger, climbed_one, below_smaller}
 use Rattle.jz_integers.proofs.written.+written.Goals as goal
 

@@ -1,5 +1,5 @@
 use Rattle.std.proofs.Common.{◌≡◌}
-use Rattle.jz_integers.specs.LeftSides.{left_at}
+use Rattle.jz_integers.specs.InnerLeftSides.{left_at}
 use Rattle.jz_integers.proofs.written.down.Given as goal
 
 abbrev pub invariant-loop-step : goal.invariant-loop-step

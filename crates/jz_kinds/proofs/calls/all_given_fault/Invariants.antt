@@ -1,6 +1,6 @@
 use Rattle.std.proofs.Common.{◌≡◌, drop}
 use Rattle.jz_scopes.specs.Order.{earlier}
-use Rattle.jz_kinds.specs.Firsts.{first_beside}
+use Rattle.jz_kinds.specs.InnerFound.{first_beside}
 use Rattle.jz_kinds.specs.Sides.{within, any_size}
 use Rattle.jz_kinds.specs.Calls.{given_wrong}
 use Rattle.jz_kinds.proofs.calls.all_given_fault.Given as goal

@@ -1,6 +1,6 @@
 use Rattle.std.proofs.Common.{◌≡◌, drop}
 use Rattle.jz_scopes.specs.Order.{earlier}
-use Rattle.jz_kinds.specs.Firsts.{first_beside}
+use Rattle.jz_kinds.specs.InnerFound.{first_beside}
 use Rattle.jz_kinds.specs.Intrinsics.{none_more}
 use Rattle.jz_kinds.specs.Calls.{passed_wrong}
 use Rattle.jz_kinds.proofs.calls.all_passed_fault.Given as goal

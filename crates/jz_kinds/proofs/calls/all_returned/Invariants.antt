@@ -1,6 +1,6 @@
 use Rattle.std.proofs.Common.{◌≡◌, drop}
 use Rattle.jz_scopes.specs.Order.{earlier}
-use Rattle.jz_kinds.specs.Firsts.{first_beside}
+use Rattle.jz_kinds.specs.InnerFound.{first_beside}
 use Rattle.jz_kinds.specs.Calls.{returned_one, none_beyond}
 use Rattle.jz_kinds.proofs.calls.all_returned.Given as goal
 

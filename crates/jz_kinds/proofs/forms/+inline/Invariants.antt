@@ -1,6 +1,6 @@
 use Rattle.std.proofs.Common.{◌≡◌, ◌≤◌}
 use Rattle.jz_tree.specs.declared.expr.Expr.{size-Expr}
-use Rattle.jz_kinds.specs.Found.{found}
+use Rattle.jz_kinds.specs.InnerFound.{found}
 use Rattle.jz_kinds.proofs.forms.+inline.Given as goal
 
 abbrev pub invariant-loop-cur : goal.invariant-loop-cur

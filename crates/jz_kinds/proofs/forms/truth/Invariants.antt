@@ -1,5 +1,5 @@
 use Rattle.std.proofs.Common.{◌≡◌}
-use Rattle.jz_kinds.specs.Found.{found}
+use Rattle.jz_kinds.specs.InnerFound.{found}
 use Rattle.jz_kinds.proofs.forms.truth.Given as goal
 
 abbrev pub invariant-loop-cur : goal.invariant-loop-cur

@@ -1,7 +1,7 @@
 use Rattle.std.proofs.Common.{◌≡◌, ◌++◌, [], ◌∷◌, ap, sym, ◌∙◌, append_assoc, flat_map, drop, ◌+◌}
 use Rattle.jz_scopes.specs.Parts.{statements_in}
 use Rattle.jz_scopes.specs.Lent.{these}
-use Rattle.jz_scopes.specs.Nested.{nested_of}
+use Rattle.jz_scopes.specs.InnerNested.{nested_of}
 use Rattle.jz_scopes.proofs.Lists.{next_item, these-push}
 use Rattle.jz_scopes.proofs.NestedLaws.{statements_out}
 use Rattle.jz_scopes.proofs.bodies.+statements.Goals as goal

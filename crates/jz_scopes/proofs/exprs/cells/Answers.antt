@@ -1,7 +1,8 @@
 use Rattle.std.proofs.Common.{◌≡◌, ◌++◌, [], ◌∷◌, ap, sym, ◌∙◌}
 use Rattle.std.proofs.lemmas.List.{map-append}
 use Rattle.jz_scopes.specs.Parts.{cells_in}
-use Rattle.jz_scopes.specs.Lent.{these, this, paired, own_cell}
+use Rattle.jz_scopes.specs.Lent.{these, this, paired}
+use Rattle.jz_scopes.specs.InnerLists.{own_cell}
 use Rattle.jz_scopes.proofs.Stacks.{one_turn, less_left}
 use Rattle.jz_scopes.proofs.exprs.cells.Goals as goal
 

@@ -1,6 +1,8 @@
 use Rattle.std.proofs.Common.{◌≡◌, ◌++◌}
 use Rattle.jz_scopes.specs.Parts.{cells_in}
-use Rattle.jz_scopes.specs.Lent.{these, paired, count_of, stacked}
+use Rattle.jz_scopes.specs.Lent.{these, paired}
+use Rattle.jz_scopes.specs.InnerLists.{count_of}
+use Rattle.jz_scopes.proofs.Stacks.{stacked}
 use Rattle.jz_scopes.proofs.exprs.cells.Given as goal
 
 abbrev pub invariant-loop-e : goal.invariant-loop-e

@@ -1,7 +1,9 @@
 use Rattle.std.proofs.Common.{◌≡◌, ◌++◌, map}
 use Rattle.jz_scopes.specs.Scopes.{name_of}
 use Rattle.jz_scopes.specs.Parts.{names_in}
-use Rattle.jz_scopes.specs.Lent.{these, count_of, stacked}
+use Rattle.jz_scopes.specs.Lent.{these}
+use Rattle.jz_scopes.specs.InnerLists.{count_of}
+use Rattle.jz_scopes.proofs.Stacks.{stacked}
 use Rattle.jz_scopes.proofs.exprs.names.Given as goal
 
 abbrev pub invariant-loop-e : goal.invariant-loop-e

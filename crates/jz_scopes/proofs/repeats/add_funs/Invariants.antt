@@ -1,5 +1,5 @@
 use Rattle.std.proofs.Common.{◌≡◌, ◌++◌, take, map}
-use Rattle.jz_scopes.specs.Lent.{these_names}
+use Rattle.jz_scopes.specs.InnerLists.{these_names}
 use Rattle.jz_scopes.proofs.repeats.add_funs.Given as goal
 
 abbrev pub invariant-loop-fun : goal.invariant-loop-fun

@@ -1,6 +1,6 @@
 use Rattle.std.proofs.Common.{List, take, ◌++◌}
 use Rattle.jz_scopes.specs.Scopes.{Name}
-use Rattle.jz_scopes.specs.Lent.{these_names}
+use Rattle.jz_scopes.specs.InnerLists.{these_names}
 use Rattle.jz_scopes.specs.Tables.{IsEarliestPlaces}
 use Rattle.jz_scopes.proofs.repeats.add_places.Given as goal
 

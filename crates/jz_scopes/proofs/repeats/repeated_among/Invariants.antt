@@ -1,7 +1,7 @@
 use Rattle.std.proofs.Common.{◌≡◌, drop}
 use Rattle.jz_scopes.specs.Order.{earlier, first_in}
-use Rattle.jz_scopes.specs.Lent.{these_names}
-use Rattle.jz_scopes.specs.Tables.{one_repeated_in}
+use Rattle.jz_scopes.specs.InnerLists.{these_names}
+use Rattle.jz_scopes.specs.InnerTables.{one_repeated_in}
 use Rattle.jz_scopes.proofs.repeats.repeated_among.Given as goal
 
 abbrev pub invariant-loop-name : goal.invariant-loop-name

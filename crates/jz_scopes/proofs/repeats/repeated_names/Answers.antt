@@ -1,5 +1,5 @@
 use Rattle.std.proofs.Common.{[], ◌∙◌}
-use Rattle.jz_scopes.specs.Lent.{these_names}
+use Rattle.jz_scopes.specs.InnerLists.{these_names}
 use Rattle.jz_scopes.proofs.RepeatedLaws.{repeated_is}
 use Rattle.jz_scopes.proofs.repeats.repeated_names.Goals as goal
 

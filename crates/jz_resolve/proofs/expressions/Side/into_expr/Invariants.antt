@@ -1,5 +1,5 @@
 use Rattle.std.proofs.Common.{◌≡◌, length}
-use Rattle.jz_resolve.specs.Sides.{on_left}
+use Rattle.jz_resolve.specs.InnerResolving.{on_left}
 use Rattle.jz_resolve.proofs.expressions.Side.into_expr.Given as goal
 
 abbrev pub invariant-loop-op : goal.invariant-loop-op

@@ -1,10 +1,13 @@
 -- An expression by its left side: the operations on the way down, and the operand where it ends.
-use Rattle.std.specs.Prelude.{ℕ, zero, suc, List, [], ◌∷◌}
+use Rattle.std.specs.Prelude.{ℕ, zero, suc, List, [], ◌∷◌, Option}
+use Rattle.jz_tree.specs.declared.expr.BinOp.{BinOp}
 use Rattle.jz_tree.specs.declared.expr.Expr.{Expr}
 use Rattle.jz_tree.specs.declared.expr.Expr.TheVariants.{Bin}
 use Rattle.jz_tree.specs.declared.expr.Expr.TheViews.{out-Expr}
 use Rattle.jz_tree.specs.declared.expr.Expr.TheOpen.{Expr-F}
+use Rattle.jz_integers.specs.declared.constant.Constant.{Constant}
 use Rattle.jz_integers.specs.declared.sides.Waiting.{Waiting}
+use Rattle.jz_integers.specs.Integers.{KnownNumbers, joined, inline_value}
 
 -- the expression that the operations make of what stands first, the outermost of them at the head
 abbrev pub on_left : List Waiting → Expr → Expr
@@ -31,3 +34,7 @@ left_of e = left_layer e (out-Expr e)
 abbrev pub left_at : ℕ → Expr → Expr
 left_at zero e = e
 left_at (suc k) e = left_at k (left_of e)
+
+-- the value of an operation whose left part has this value
+abbrev pub value_after : KnownNumbers → BinOp → Option Constant → Expr → Option Constant
+value_after numbers op x e = joined op x (inline_value numbers e)
