@@ -1,4 +1,5 @@
--- A function as the placing of its variables sees it: what each of its statements reads, writes and needs.
+-- A function as the placing of its variables sees it: what each of its statements reads, writes and
+-- needs.
 use Rattle.std.specs.Prelude.{ℕ, List, [], ◌∷◌, ◌++◌, length, map, replicate, slice_index_or, Option, Some, None}
 use Rattle.std.specs.List.{position_or_len}
 use Rattle.std.specs.Str.{bytes_eq}
@@ -28,11 +29,13 @@ use Rattle.jz_first_tree.specs.Variables.{variables_of}
 use Rattle.jz_correct.specs.Registers.{argument_registers, result_registers}
 use Rattle.jz_lower.specs.Placing.{variable_of}
 
--- the number of a name: its place in the order of declaration, or the number of variables where none has it
+-- the number of a name: its place in the order of declaration, or the number of variables where
+-- none has it
 abbrev pub number_in : List Var → List ℕ → ℕ
 number_in vs n = position_or_len (λ v. bytes_eq n v.name) vs
 
--- the registers that a function need not preserve, but for the stack pointer (System V AMD64 ABI, 3.2.1)
+-- the registers that a function need not preserve, but for the stack pointer (System V AMD64 ABI,
+-- 3.2.1)
 abbrev pub given_places : List Place
 given_places =
     place.Reg reg.Rax ∷ place.Reg reg.Rcx ∷ place.Reg reg.Rdx ∷ place.Reg reg.Rsi ∷ place.Reg reg.Rdi
@@ -41,7 +44,8 @@ given_places =
 abbrev pub all_flags : List Place
 all_flags = place.Flag flag.Cf ∷ place.Flag flag.Of ∷ place.Flag flag.Sf ∷ place.Flag flag.Pf ∷ place.Flag flag.Zf ∷ []
 
--- an instruction of arithmetic or of bits writes each flag, a move none (Intel SDM vol. 2, ADD, SUB, XOR and MOV)
+-- an instruction of arithmetic or of bits writes each flag, a move none (Intel SDM vol. 2, ADD,
+-- SUB, XOR and MOV)
 abbrev pub flags_of : Option BinOp → List Place
 flags_of None = []
 flags_of (Some o) = all_flags

@@ -18,7 +18,8 @@ use jz_ir::{Code, Kind, Need, Op};
 use std::alloc::{AllocError, Global};
 use x64_insn::{Flag, Place, Reg};
 
-// The registers that a function need not preserve, but for the stack pointer (System V AMD64 ABI, 3.2.1).
+// The registers that a function need not preserve, but for the stack pointer (System V AMD64 ABI,
+// 3.2.1).
 const GIVEN_PLACES: [Place; 9] = [
     Place::Reg(Reg::Rax),
     Place::Reg(Reg::Rcx),
@@ -206,8 +207,8 @@ fn words(alloc: Global, count: usize) -> Result<Seq<Kind>, AllocError>
     Ok(Seq::from_vec(vec![in alloc; Kind::Word; count]?))
 }
 
-/// The operations of a function: one for each parameter, each statement and each variable that is returned. Parameters
-/// and returned variables beyond those that have a register have none.
+/// The operations of a function: one for each parameter, each statement and each variable that is
+/// returned. Parameters and returned variables beyond those that have a register have none.
 pub fn operations(alloc: Global, fun: &Fun) -> Result<Code, AllocError>
     requires { length (variables_of fun.now) < 2 ^ 32 }
     ensures { IfOk result (λ code. code ≡ code_of fun.now) }
