@@ -68,7 +68,13 @@ module _ (vs : List Var) where
 
   -- a statement, at its place in the text
   abbrev pub kind_op : StmtKind → Span → Op
-  kind_op (kind.Assign ds o r) at = record { span = at; reads = read_assigned ds o r; writes = map left_of ds; fixed = flags_of o; needs = [] }
+  kind_op (kind.Assign ds o r) at = record {
+    span = at;
+    reads = read_assigned ds o r;
+    writes = map left_of ds;
+    fixed = flags_of o;
+    needs = [];
+  }
 
   abbrev pub statement_op : Stmt → Op
   statement_op s = kind_op s.kind s.span
@@ -77,17 +83,37 @@ module _ (vs : List Var) where
   abbrev pub need_of : Reg → Var → Need
   need_of r x = record { variable = number_in vs x.name; place = place.Reg r; span = x.span }
 
-  -- the entry writes each parameter, which needs its register
+  -- the entry writes a parameter, which needs its register
+  abbrev pub entry_op : Reg → Var → Op
+  entry_op r x = record {
+    span = x.span;
+    reads = [];
+    writes = number_in vs x.name ∷ [];
+    fixed = [];
+    needs = need_of r x ∷ [];
+  }
+
+  -- each parameter that has a register
   abbrev pub entry_ops : List Reg → List Var → List Op
   entry_ops rs [] = []
   entry_ops [] (x ∷ xs) = []
-  entry_ops (r ∷ rs) (x ∷ xs) = record { span = x.span; reads = []; writes = number_in vs x.name ∷ []; fixed = []; needs = need_of r x ∷ [] } ∷ entry_ops rs xs
+  entry_ops (r ∷ rs) (x ∷ xs) = entry_op r x ∷ entry_ops rs xs
 
-  -- the return reads each variable that it gives back, which needs its register
+  -- the return reads a variable that it gives back, which needs its register
+  abbrev pub return_op : Reg → Var → Op
+  return_op r x = record {
+    span = x.span;
+    reads = number_in vs x.name ∷ [];
+    writes = [];
+    fixed = [];
+    needs = need_of r x ∷ [];
+  }
+
+  -- each variable that has a register
   abbrev pub return_ops : List Reg → List Var → List Op
   return_ops rs [] = []
   return_ops [] (x ∷ xs) = []
-  return_ops (r ∷ rs) (x ∷ xs) = record { span = x.span; reads = number_in vs x.name ∷ []; writes = []; fixed = []; needs = need_of r x ∷ [] } ∷ return_ops rs xs
+  return_ops (r ∷ rs) (x ∷ xs) = return_op r x ∷ return_ops rs xs
 
 -- the entry, the statements and the return, in this order
 abbrev pub operations_of : Fun → List Op

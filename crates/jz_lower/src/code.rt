@@ -6,7 +6,7 @@ ghost use Rattle.jz_ir.specs.declared.code.Kind.TheVariants as kind;
 ghost use Rattle.jz_first_tree.specs.declared.Var.{Var};
 ghost use Rattle.jz_first_tree.specs.Variables.{variables_of};
 ghost use Rattle.jz_correct.specs.Registers.{argument_registers, result_registers};
-ghost use Rattle.jz_lower.specs.Numbers.{IsNumbers};
+ghost use Rattle.jz_lower.specs.InnerNumbers.{IsNumbers};
 ghost use Rattle.jz_lower.specs.Operations.{code_of, entry_ops, flags_of, left_of, need_of, operations_of, read_assigned, read_by, read_right, return_ops, statement_op};
 ghost use Rattle.jz_lower.specs.Placing.{variable_of};
 
@@ -41,7 +41,7 @@ const FLAGS: [Place; 5] = [
 ];
 
 fn read_by(alloc: Global, numbers: &Numbers, expr: &Expr) -> Result<Seq<u32>, AllocError>
-    ensures { (vs : List Var) → IsNumbers numbers.now vs → IfOk result (λ reads. reads ≡ read_by vs expr.now) }
+    ensures { GivesFor numbers.now result (λ vs. read_by vs expr.now) }
 {
     match expr {
         Expr::Num(_, _) => Ok(Seq::new(alloc)),
@@ -50,7 +50,7 @@ fn read_by(alloc: Global, numbers: &Numbers, expr: &Expr) -> Result<Seq<u32>, Al
 }
 
 fn read_right(alloc: Global, numbers: &Numbers, rhs: &Rhs) -> Result<Seq<u32>, AllocError>
-    ensures { (vs : List Var) → IsNumbers numbers.now vs → IfOk result (λ reads. reads ≡ read_right vs rhs.now) }
+    ensures { GivesFor numbers.now result (λ vs. read_right vs rhs.now) }
 {
     match rhs {
         Rhs::Value(expr) => read_by(alloc, numbers, expr),
@@ -58,7 +58,7 @@ fn read_right(alloc: Global, numbers: &Numbers, rhs: &Rhs) -> Result<Seq<u32>, A
 }
 
 fn left_of(numbers: &Numbers, left: &Lval) -> u32
-    ensures { (vs : List Var) → IsNumbers numbers.now vs → result ≡ left_of vs left.now }
+    ensures { IsFor numbers.now result (λ vs. left_of vs left.now) }
 {
     match left {
         Lval::Var(var) => numbers.number(&var.name),
@@ -66,7 +66,7 @@ fn left_of(numbers: &Numbers, left: &Lval) -> u32
 }
 
 fn written(alloc: Global, numbers: &Numbers, to: &[Lval]) -> Result<Seq<u32>, AllocError>
-    ensures { (vs : List Var) → IsNumbers numbers.now vs → IfOk result (λ writes. writes ≡ map (left_of vs) to.now) }
+    ensures { GivesFor numbers.now result (λ vs. map (left_of vs) to.now) }
 {
     let mut writes = Seq::new(alloc);
     for left in to {
@@ -83,7 +83,7 @@ fn read_assigned(
     op: Option<BinOp>,
     rhs: &Rhs,
 ) -> Result<Seq<u32>, AllocError>
-    ensures { (vs : List Var) → IsNumbers numbers.now vs → IfOk result (λ reads. reads ≡ read_assigned vs to.now op rhs.now) }
+    ensures { GivesFor numbers.now result (λ vs. read_assigned vs to.now op rhs.now) }
 {
     match op {
         None => read_right(alloc, numbers, rhs),
@@ -106,7 +106,7 @@ fn flags_of(alloc: Global, op: Option<BinOp>) -> Result<Seq<Place>, AllocError>
 }
 
 fn statement_op(alloc: Global, numbers: &Numbers, stmt: &Stmt) -> Result<Op, AllocError>
-    ensures { (vs : List Var) → IsNumbers numbers.now vs → IfOk result (λ op. op ≡ statement_op vs stmt.now) }
+    ensures { GivesFor numbers.now result (λ vs. statement_op vs stmt.now) }
 {
     match &stmt.kind {
         StmtKind::Assign { to, op, rhs } => Ok(Op {
@@ -120,7 +120,7 @@ fn statement_op(alloc: Global, numbers: &Numbers, stmt: &Stmt) -> Result<Op, All
 }
 
 fn need_of(numbers: &Numbers, register: Reg, var: &Var) -> Need
-    ensures { (vs : List Var) → IsNumbers numbers.now vs → result ≡ need_of vs register var.now }
+    ensures { IsFor numbers.now result (λ vs. need_of vs register var.now) }
 {
     Need {
         variable: numbers.number(&var.name),
@@ -131,7 +131,7 @@ fn need_of(numbers: &Numbers, register: Reg, var: &Var) -> Need
 
 // The entry writes the parameter.
 fn entry_op(alloc: Global, numbers: &Numbers, register: Reg, var: &Var) -> Result<Op, AllocError>
-    ensures { (vs : List Var) → IsNumbers numbers.now vs → IfOk result (λ op. op ∷ [] ≡ entry_ops vs (register ∷ []) (var.now ∷ [])) }
+    ensures { GivesFor numbers.now result (λ vs. entry_op vs register var.now) }
 {
     Ok(Op {
         span: var.span,
@@ -144,7 +144,7 @@ fn entry_op(alloc: Global, numbers: &Numbers, register: Reg, var: &Var) -> Resul
 
 // The return reads the variable.
 fn return_op(alloc: Global, numbers: &Numbers, register: Reg, var: &Var) -> Result<Op, AllocError>
-    ensures { (vs : List Var) → IsNumbers numbers.now vs → IfOk result (λ op. op ∷ [] ≡ return_ops vs (register ∷ []) (var.now ∷ [])) }
+    ensures { GivesFor numbers.now result (λ vs. return_op vs register var.now) }
 {
     Ok(Op {
         span: var.span,
@@ -156,7 +156,8 @@ fn return_op(alloc: Global, numbers: &Numbers, register: Reg, var: &Var) -> Resu
 }
 
 fn entry_ops(alloc: Global, numbers: &Numbers, params: &[Param]) -> Result<Seq<Op>, AllocError>
-    ensures { (vs : List Var) → IsNumbers numbers.now vs → IfOk result (λ ops. ops ≡ entry_ops vs argument_registers (map variable_of params.now)) }
+    ensures { GivesFor numbers.now result
+        (λ vs. entry_ops vs argument_registers (map variable_of params.now)) }
 {
     let mut ops = Seq::new(alloc);
     for (i, param) in params.iter().enumerate() {
@@ -169,7 +170,7 @@ fn entry_ops(alloc: Global, numbers: &Numbers, params: &[Param]) -> Result<Seq<O
 }
 
 fn statement_ops(alloc: Global, numbers: &Numbers, body: &[Stmt]) -> Result<Seq<Op>, AllocError>
-    ensures { (vs : List Var) → IsNumbers numbers.now vs → IfOk result (λ ops. ops ≡ map (statement_op vs) body.now) }
+    ensures { GivesFor numbers.now result (λ vs. map (statement_op vs) body.now) }
 {
     let mut ops = Seq::new(alloc);
     for stmt in body {
@@ -179,7 +180,7 @@ fn statement_ops(alloc: Global, numbers: &Numbers, body: &[Stmt]) -> Result<Seq<
 }
 
 fn return_ops(alloc: Global, numbers: &Numbers, vars: &[Var]) -> Result<Seq<Op>, AllocError>
-    ensures { (vs : List Var) → IsNumbers numbers.now vs → IfOk result (λ ops. ops ≡ return_ops vs result_registers vars.now) }
+    ensures { GivesFor numbers.now result (λ vs. return_ops vs result_registers vars.now) }
 {
     let mut ops = Seq::new(alloc);
     for (i, var) in vars.iter().enumerate() {
@@ -192,7 +193,8 @@ fn return_ops(alloc: Global, numbers: &Numbers, vars: &[Var]) -> Result<Seq<Op>,
 }
 
 fn all_operations(alloc: Global, numbers: &Numbers, fun: &Fun) -> Result<Seq<Op>, AllocError>
-    ensures { IsNumbers numbers.now (variables_of fun.now) → IfOk result (λ ops. ops ≡ operations_of fun.now) }
+    requires { IsNumbers numbers.now (variables_of fun.now) }
+    ensures { IfOk result (λ ops. ops ≡ operations_of fun.now) }
 {
     let mut ops = entry_ops(alloc, numbers, fun.params.as_slice())?;
     ops.append(statement_ops(alloc, numbers, fun.body.as_slice())?)?;
