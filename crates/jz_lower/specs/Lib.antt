@@ -4,3 +4,4 @@ pub mod Straight
 pub mod Placing
 pub mod Operations
 pub mod InnerNumbers
+pub mod InnerLowering

@@ -1,13 +1,11 @@
 //! A function as the placing of its variables sees it.
 
-ghost use Rattle.std.specs.Prelude.{◌≡◌, ◌<◌, ◌^◌, [], ◌∷◌, List, IfOk, length, map, replicate};
-ghost use Rattle.x64_insn.specs.declared.types.Place.TheVariants as place;
+ghost use Rattle.std.specs.Prelude.{◌≡◌, ◌<◌, ◌^◌, IfOk, length, map, replicate};
 ghost use Rattle.jz_ir.specs.declared.code.Kind.TheVariants as kind;
-ghost use Rattle.jz_first_tree.specs.declared.Var.{Var};
 ghost use Rattle.jz_first_tree.specs.Variables.{variables_of};
 ghost use Rattle.jz_correct.specs.Registers.{argument_registers, result_registers};
-ghost use Rattle.jz_lower.specs.InnerNumbers.{IsNumbers};
-ghost use Rattle.jz_lower.specs.Operations.{code_of, entry_ops, flags_of, left_of, need_of, operations_of, read_assigned, read_by, read_right, return_ops, statement_op};
+ghost use Rattle.jz_lower.specs.InnerNumbers.{GivesFor, IsFor, IsNumbers};
+ghost use Rattle.jz_lower.specs.Operations.{code_of, entry_op, entry_ops, flags_of, left_of, need_of, operations_of, read_assigned, read_by, read_right, return_op, return_ops, statement_op};
 ghost use Rattle.jz_lower.specs.Placing.{variable_of};
 
 use crate::numbers::Numbers;
@@ -193,8 +191,8 @@ fn return_ops(alloc: Global, numbers: &Numbers, vars: &[Var]) -> Result<Seq<Op>,
 }
 
 fn all_operations(alloc: Global, numbers: &Numbers, fun: &Fun) -> Result<Seq<Op>, AllocError>
-    requires { IsNumbers numbers.now (variables_of fun.now) }
-    ensures { IfOk result (λ ops. ops ≡ operations_of fun.now) }
+    ensures { IsNumbers numbers.now (variables_of fun.now)
+        → IfOk result (λ ops. ops ≡ operations_of fun.now) }
 {
     let mut ops = entry_ops(alloc, numbers, fun.params.as_slice())?;
     ops.append(statement_ops(alloc, numbers, fun.body.as_slice())?)?;

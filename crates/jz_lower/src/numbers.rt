@@ -3,7 +3,7 @@
 ghost use Rattle.std.specs.Prelude.{◌≡◌, ◌+◌, ◌<◌, ◌^◌, [], ◌∷◌, ◌++◌, List, IfOk, OnOk, length};
 ghost use Rattle.jz_first_tree.specs.declared.Var.{Var};
 ghost use Rattle.jz_first_tree.specs.Variables.{variables_of};
-ghost use Rattle.jz_lower.specs.InnerNumbers.{IsNumbers};
+ghost use Rattle.jz_lower.specs.InnerNumbers.{IsFor, IsNumbers};
 ghost use Rattle.jz_lower.specs.Operations.{number_in};
 
 use indexmap::IndexMap;
