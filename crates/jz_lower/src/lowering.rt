@@ -55,7 +55,8 @@ impl Registers<'_> {
     }
 
     fn operand(&self, expr: &Expr) -> Operand
-        ensures { IsFor self.now.numbers result (λ vs. operand_of (register_by self.now vs) expr.now) }
+        ensures { IsFor self.now.numbers result
+            (λ vs. operand_of (register_by self.now vs) expr.now) }
     {
         match expr {
             Expr::Num(number, _) => Operand::Imm(signed(*number)),
