@@ -47,16 +47,17 @@ use Rattle.jz_leak.specs.Applying.{apply_of, Fits}
 abbrev pub step_bound : Compiled → ℕ → ℕ
 step_bound c n = c.insns * (n + 1)
 
--- The source ends within n turns: the bytes end within the bound, with its results and memory, and show the transformer applied to
--- what it leaked.
+-- The source ends within n turns: the bytes end within the bound, with its results and memory, and
+-- show the transformer applied to what it leaked.
 pub record MatchesEnd (c : Compiled) (words : List ℕ) (rsp0 base : ℕ) (s : Config) (n : ℕ) (r : Returned) (l : Leak) : Type 0 where
   pub fits : Fits c.tr l
   pub steps : ℕ
   pub within : steps ≤ step_bound c n
   pub ends : EndsWith c words rsp0 base s steps r.words r.memory (apply_of c.tr l rsp0)
 
--- The source wants one turn more: the bytes are running after n steps, never fault, and what they show after some number of steps,
--- at most as many short of n as the code has instructions, is the transformer applied to what the source leaked up to there.
+-- The source wants one turn more: the bytes are running after n steps, never fault, and what they
+-- show after some number of steps, at most as many short of n as the code has instructions, is the
+-- transformer applied to what the source leaked up to there.
 pub record MatchesCut (c : Compiled) (rsp0 base : ℕ) (s : Config) (n : ℕ) (l : Leak) : Type 0 where
   pub fits : Fits c.tr l
   pub running : (steps_of c.code base s n).after.ended ≡ false
@@ -73,8 +74,8 @@ Matches c words rsp0 base s n (End r m l) = MatchesEnd c words rsp0 base s n r l
 Matches c words rsp0 base s n (Cut l) = MatchesCut c rsp0 base s n l
 Matches c words rsp0 base s n (Stuck w) = ⊥
 
--- Every run of the source on an input that meets the preconditions, from every start of the bytes on this input; and for each n each
--- such input of a function of the program has a run.
+-- Every run of the source on an input that meets the preconditions, from every start of the bytes
+-- on this input; and for each n each such input of a function of the program has a run.
 pub record CarriesOver (p : Program) (f : Fun) (c : Compiled) : Type 0 where
   pub matches : (words : List ℕ) (memory : Memory) (n : ℕ) (o : FunOutcome) → IsRun p f words memory n o → MeetsPreconditions c words memory
       → (rsp0 base : ℕ) (s : Config) → IsStart c words memory rsp0 base s → Matches c words rsp0 base s n o
@@ -130,7 +131,8 @@ right_names (rhs.Value e) = expression_names e
 abbrev pub kind_names : StmtKind → List (List ℕ)
 kind_names (kind.Assign to op r) = map left_name to ++ right_names r
 
--- an offset from the stack pointer at entry lies in the place of a stack variable with one of these names
+-- an offset from the stack pointer at entry lies in the place of a stack variable with one of these
+-- names
 abbrev pub LiesInPlace : Fun → ℕ → List (List ℕ) → ℤ → Type 0
 LiesInPlace f frame names offset =
     (q : Place) × Contains (layout_of f) q × Contains names q.of.name
@@ -154,7 +156,8 @@ OutStaysIn f frame names (out.Div high low divisor) =
 abbrev pub OutsStayIn : Fun → ℕ → List (List ℕ) → List Out → Type 0
 OutsStayIn f frame names outs = All (OutStaysIn f frame names) outs
 
--- the offset of each form of the frame lies in the place of a stack variable that its statement names
+-- the offset of each form of the frame lies in the place of a stack variable that its statement
+-- names
 abbrev pub CasesStayIn : Fun → ℕ → List Stmt → List Case → Type 0
 CasesStayIn f frame [] [] = ⊤
 CasesStayIn f frame (s ∷ ss) (Op outs ∷ cases) = OutsStayIn f frame (kind_names s.kind) outs × CasesStayIn f frame ss cases
@@ -183,8 +186,8 @@ pub record IsCorrect (p : Program) (f : Fun) (c : Compiled) : Type 0 where
   pub counted : c.insns ≡ length insns
   pub frame : c.frame ≡ frame_of f insns
   pub saved : c.saved ≡ saved_of insns
-  -- the first list shows the slots of the saved registers, the last the same and then the slot of the return; the lists between them
-  -- show of the frame the places of variables alone
+  -- the first list shows the slots of the saved registers, the last the same and then the slot of
+  -- the return; the lists between them show of the frame the places of variables alone
   pub before : c.tr.before ≡ saving_accesses f c
   pub after : c.tr.after ≡ saving_accesses f c ++ out.Addr (form.Frame (pos 0)) ∷ []
   pub places : CasesStayIn f c.frame f.body c.tr.body.cases

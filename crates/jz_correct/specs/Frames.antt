@@ -1,4 +1,5 @@
--- The frame of a function: the places of its stack variables, the preserved registers that its code names, and its size.
+-- The frame of a function: the places of its stack variables, the preserved registers that its code
+-- names, and its size.
 use Rattle.std.specs.Prelude.{ℕ, ◌+◌, ◌*◌, ◌-◌, ◌/◌, Bool, false, ◌||◌, ◌==◌, if◌then◌else◌, Option, Some, None, ℤ, pos, ◌-ℤ◌, List, [], ◌∷◌, ◌++◌, length}
 use Rattle.std.specs.List.{list_any, filter}
 use Rattle.jz_words.specs.declared.size.Size.{Size}
@@ -130,7 +131,8 @@ names insn.Ret r = false
 abbrev pub saved_of : List Insn → List Reg
 saved_of code = filter (λ r. list_any (λ i. names i r) code) preserved_registers
 
--- their slots in the frame, one above the other, the first at the next multiple of 8 above the variables
+-- their slots in the frame, one above the other, the first at the next multiple of 8 above the
+-- variables
 abbrev pub slots_from : ℕ → List Reg → List (Reg × ℕ)
 slots_from at [] = []
 slots_from at (r ∷ rs) = (r, at) ∷ slots_from (at + 8) rs
@@ -144,12 +146,14 @@ from_entry size offset = pos offset -ℤ pos size
 
 -- ---- the size
 
--- the end of what stands in the frame: the preserved registers stand above the variables, from the next multiple of 8 on
+-- the end of what stands in the frame: the preserved registers stand above the variables, from the
+-- next multiple of 8 on
 abbrev pub frame_end : ℕ → List Reg → ℕ
 frame_end end [] = end
 frame_end end (r ∷ rs) = rounded_up 8 end + 8 * length (r ∷ rs)
 
--- 0 for an empty frame, else the least number at or above its end that is 8 more than a multiple of 16
+-- 0 for an empty frame, else the least number at or above its end that is 8 more than a multiple of
+-- 16
 abbrev pub frame_size : ℕ → ℕ
 frame_size end = if end == 0 then 0 else 16 * ((end + 7) / 16) + 8
 

@@ -1,5 +1,6 @@
--- The lists of functions whose listings tell them apart. What is asked is that names have the bytes of names and that a region without
--- a variable has no factor; that numbers have the sizes of their types is said because it isn't seen in a list.
+-- The lists of functions whose listings tell them apart. What is asked is that names have the bytes
+-- of names and that a region without a variable has no factor; that numbers have the sizes of their
+-- types is said because it isn't seen in a list.
 use Rattle.std.specs.Prelude.{◌≡◌, ◌<◌, ◌^◌, ℕ, Bool, true, ◌&&◌, ◌||◌, ◌==◌, nat_lt, nat_le, ℤ, pos, negsuc, List, Some, None, All, ⊤}
 use Rattle.std.specs.List.{AllPass, list_all}
 use Rattle.jz_io.specs.declared.verdict.Ct.{Ct}
@@ -87,7 +88,8 @@ transformer_fits t = outs_fit t.before && (tr_fits t.body && outs_fit t.after)
 abbrev pub IsListableArg : Arg → Type 0
 IsListableArg a = IsName a.name
 
--- a precondition over names, its numbers of 64 bits; a region without a variable has the factor 0, as its line shows none
+-- a precondition over names, its numbers of 64 bits; a region without a variable has the factor 0,
+-- as its line shows none
 abbrev pub IsListablePre : Pre → Type 0
 IsListablePre (pre.Region pointer factor None constant) = IsName pointer × (factor ≡ 0) × (constant < 2 ^ 64)
 IsListablePre (pre.Region pointer factor (Some variable) constant) = IsName pointer × (factor < 2 ^ 64) × IsName variable × (constant < 2 ^ 64)

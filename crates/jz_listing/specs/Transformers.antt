@@ -38,16 +38,35 @@ spaced_outs_text outs = codes " " ++ outs_text outs
 abbrev pub arm_text : List Out → List ℕ → List ℕ
 arm_text outs tr = spaced_outs_text outs ++ codes " " ++ tr
 
+-- an operation
+abbrev pub op_text : List Out → List ℕ
+op_text outs = codes "op" ++ outs_text outs
+
+-- an `if` up to its arms
+abbrev pub if_head_text : List Out → List ℕ
+if_head_text test = codes "if(" ++ outs_text test
+
+-- a `while` up to what its answers show
+abbrev pub while_head_text : List ℕ → List Out → List ℕ
+while_head_text prologue test = codes "while(" ++ prologue ++ spaced_outs_text test
+
+-- a `for`, by the texts of its trees
+abbrev pub for_text : List (List ℕ) → List ℕ
+for_text trs = codes "for(" ++ spaced trs ++ codes ")"
+
+-- a call
+abbrev pub call_text : List Out → List ℕ → List Out → List ℕ
+call_text arguments body results = codes "call(" ++ outs_text arguments ++ codes " " ++ body ++ spaced_outs_text results ++ codes ")"
+
 -- a case, by the texts of its trees
 abbrev pub case_layer_text : Case-F (List ℕ) (List ℕ) → List ℕ
-case_layer_text (Case-F.Op outs) = codes "op" ++ outs_text outs
+case_layer_text (Case-F.Op outs) = op_text outs
 case_layer_text (Case-F.If test then_outs then_tr else_outs else_tr) =
     codes "if(" ++ outs_text test ++ arm_text then_outs then_tr ++ arm_text else_outs else_tr ++ codes ")"
 case_layer_text (Case-F.While prologue test more_outs body leave_outs) =
     codes "while(" ++ prologue ++ spaced_outs_text test ++ arm_text more_outs body ++ spaced_outs_text leave_outs ++ codes ")"
-case_layer_text (Case-F.For trs) = codes "for(" ++ spaced trs ++ codes ")"
-case_layer_text (Case-F.Call arguments body results) =
-    codes "call(" ++ outs_text arguments ++ codes " " ++ body ++ spaced_outs_text results ++ codes ")"
+case_layer_text (Case-F.For trs) = for_text trs
+case_layer_text (Case-F.Call arguments body results) = call_text arguments body results
 
 -- a tree: its cases between braces
 abbrev pub tr_layer_text : Tr-F (List ℕ) (List ℕ) → List ℕ

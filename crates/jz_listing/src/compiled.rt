@@ -1,3 +1,5 @@
+//! What is listed of a compiled function.
+
 use jz_data::{Seq, Text};
 use jz_io::{Bytes, Ct};
 use jz_leak::Transformer;
@@ -5,7 +7,7 @@ use jz_words::Size;
 use x64_insn::Reg;
 
 /// A parameter or a result, and the register that holds it in its low bits.
-#[derive(Drop, PartialEq, Eq)]
+#[derive(Drop)]
 pub struct Arg {
     pub name: Text,
     pub size: Size,
@@ -13,9 +15,10 @@ pub struct Arg {
 }
 
 /// A precondition of a function.
-#[derive(Drop, PartialEq, Eq)]
+#[derive(Drop)]
 pub enum Pre {
-    /// From the parameter on, `factor * variable + constant` bytes are valid; without a variable `constant` bytes.
+    /// From the parameter on, `factor * variable + constant` bytes are valid; without a variable
+    /// `constant` bytes.
     Region {
         pointer: Text,
         factor: u64,
@@ -36,7 +39,7 @@ pub enum Pre {
 }
 
 /// A compiled export function: what a caller has to know, its bytes and its transformer.
-#[derive(Drop, PartialEq, Eq)]
+#[derive(Drop)]
 pub struct Compiled {
     pub name: Text,
     pub args: Seq<Arg>,

@@ -1,4 +1,5 @@
-// The lines of a listing.
+//! The lines of a listing.
+
 ghost use Rattle.std.specs.Prelude.{◌≡◌, ◌++◌, ℕ, List, map, IfOk, OnOk, codes, decimal};
 ghost use Rattle.std.specs.List.{concat};
 ghost use Rattle.jz_listing.specs.Listing.{reg_text, size_text, arg_text, arg_line, ret_line, pre_text, pre_line, saved_text, span_text, kind_text, ct_text, extent_text, saved_reg_text, interface_text, frame_text, code_text, leakage_text, compiled_text, listing_text};
@@ -140,7 +141,8 @@ fn write_extent(
     variable: &Option<Text>,
     constant: u64,
 ) -> Result<(), AllocError>
-    ensures { OnOk result (text.new.items ≡ text.old.items ++ extent_text factor variable.now constant) }
+    ensures { OnOk result (text.new.items ≡ text.old.items
+        ++ extent_text factor variable.now constant) }
 {
     if let Some(variable) = variable {
         write_number(text, factor)?;

@@ -1,7 +1,7 @@
-// The text of a transformer.
+//! The text of a transformer.
+
 ghost use Rattle.std.specs.Prelude.{◌≡◌, ◌++◌, ℕ, List, map, OnOk, codes};
-ghost use Rattle.jz_leak.specs.declared.transformer.Case.TheOpen.{Case-F};
-ghost use Rattle.jz_listing.specs.Transformers.{form_text, out_text, outs_text, spaced_outs_text, arm_text, case_layer_text, case_text, tr_text, transformer_text, spaced, separator};
+ghost use Rattle.jz_listing.specs.Transformers.{arm_text, call_text, case_text, for_text, form_text, if_head_text, op_text, out_text, outs_text, separator, spaced_outs_text, tr_text, transformer_text, while_head_text};
 
 use itoa::Buffer;
 use jz_data::Seq;
@@ -123,7 +123,7 @@ fn write_case(text: &mut Vec<u8>, case: &Case) -> Result<(), AllocError>
 }
 
 fn write_op(text: &mut Vec<u8>, outs: &Seq<Out>) -> Result<(), AllocError>
-    ensures { OnOk result (text.new.items ≡ text.old.items ++ case_layer_text (Case-F.Op outs.now)) }
+    ensures { OnOk result (text.new.items ≡ text.old.items ++ op_text outs.now) }
 {
     text.extend_from_slice(b"op")?;
     write_outs(text, outs)
@@ -131,7 +131,7 @@ fn write_op(text: &mut Vec<u8>, outs: &Seq<Out>) -> Result<(), AllocError>
 
 // An `if` up to its arms.
 fn write_if_head(text: &mut Vec<u8>, test: &Seq<Out>) -> Result<(), AllocError>
-    ensures { OnOk result (text.new.items ≡ text.old.items ++ codes "if(" ++ outs_text test.now) }
+    ensures { OnOk result (text.new.items ≡ text.old.items ++ if_head_text test.now) }
 {
     text.extend_from_slice(b"if(")?;
     write_outs(text, test)
@@ -140,7 +140,8 @@ fn write_if_head(text: &mut Vec<u8>, test: &Seq<Out>) -> Result<(), AllocError>
 // A `while` up to what its answers show.
 #[cycle(write)]
 fn write_while_head(text: &mut Vec<u8>, prologue: &Tr, test: &Seq<Out>) -> Result<(), AllocError>
-    ensures { OnOk result (text.new.items ≡ text.old.items ++ codes "while(" ++ tr_text prologue.now ++ spaced_outs_text test.now) }
+    ensures { OnOk result (text.new.items ≡ text.old.items
+        ++ while_head_text (tr_text prologue.now) test.now) }
 {
     text.extend_from_slice(b"while(")?;
     write_tr(text, prologue)?;
@@ -149,7 +150,7 @@ fn write_while_head(text: &mut Vec<u8>, prologue: &Tr, test: &Seq<Out>) -> Resul
 
 #[cycle(write)]
 fn write_for(text: &mut Vec<u8>, trs: &Seq<Tr>) -> Result<(), AllocError>
-    ensures { OnOk result (text.new.items ≡ text.old.items ++ case_layer_text (Case-F.For (map tr_text trs.now))) }
+    ensures { OnOk result (text.new.items ≡ text.old.items ++ for_text (map tr_text trs.now)) }
 {
     text.extend_from_slice(b"for(")?;
     for (i, tr) in trs.as_slice().iter().enumerate() {
@@ -167,7 +168,7 @@ fn write_call(
     results: &Seq<Out>,
 ) -> Result<(), AllocError>
     ensures { OnOk result (text.new.items ≡ text.old.items
-        ++ case_layer_text (Case-F.Call arguments.now (tr_text body.now) results.now)) }
+        ++ call_text arguments.now (tr_text body.now) results.now) }
 {
     text.extend_from_slice(b"call(")?;
     write_outs(text, arguments)?;

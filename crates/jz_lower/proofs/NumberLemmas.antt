@@ -10,7 +10,7 @@ use Rattle.jz_data.proofs.Texts.{bytes_eq-sym, bytes_eq-true}
 use Rattle.jz_first_tree.specs.declared.Var.{Var}
 use Rattle.indexmap.specs.IndexMap.{get}
 use Rattle.jz_lower.specs.declared.numbers.Numbers.{Numbers}
-use Rattle.jz_lower.specs.Numbers.{IsNumbers}
+use Rattle.jz_lower.specs.InnerNumbers.{IsNumbers}
 use Rattle.jz_lower.specs.Operations.{number_in}
 
 -- a place below the length, or none

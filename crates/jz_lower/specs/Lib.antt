@@ -3,4 +3,5 @@ pub mod Living
 pub mod Straight
 pub mod Placing
 pub mod Operations
-pub mod Numbers
+pub mod InnerNumbers
+pub mod InnerLowering

@@ -1,4 +1,5 @@
--- A function as the placing of its variables sees it: what each of its statements reads, writes and needs.
+-- A function as the placing of its variables sees it: what each of its statements reads, writes and
+-- needs.
 use Rattle.std.specs.Prelude.{ℕ, List, [], ◌∷◌, ◌++◌, length, map, replicate, slice_index_or, Option, Some, None}
 use Rattle.std.specs.List.{position_or_len}
 use Rattle.std.specs.Str.{bytes_eq}
@@ -28,11 +29,13 @@ use Rattle.jz_first_tree.specs.Variables.{variables_of}
 use Rattle.jz_correct.specs.Registers.{argument_registers, result_registers}
 use Rattle.jz_lower.specs.Placing.{variable_of}
 
--- the number of a name: its place in the order of declaration, or the number of variables where none has it
+-- the number of a name: its place in the order of declaration, or the number of variables where
+-- none has it
 abbrev pub number_in : List Var → List ℕ → ℕ
 number_in vs n = position_or_len (λ v. bytes_eq n v.name) vs
 
--- the registers that a function need not preserve, but for the stack pointer (System V AMD64 ABI, 3.2.1)
+-- the registers that a function need not preserve, but for the stack pointer (System V AMD64 ABI,
+-- 3.2.1)
 abbrev pub given_places : List Place
 given_places =
     place.Reg reg.Rax ∷ place.Reg reg.Rcx ∷ place.Reg reg.Rdx ∷ place.Reg reg.Rsi ∷ place.Reg reg.Rdi
@@ -41,7 +44,8 @@ given_places =
 abbrev pub all_flags : List Place
 all_flags = place.Flag flag.Cf ∷ place.Flag flag.Of ∷ place.Flag flag.Sf ∷ place.Flag flag.Pf ∷ place.Flag flag.Zf ∷ []
 
--- an instruction of arithmetic or of bits writes each flag, a move none (Intel SDM vol. 2, ADD, SUB, XOR and MOV)
+-- an instruction of arithmetic or of bits writes each flag, a move none (Intel SDM vol. 2, ADD,
+-- SUB, XOR and MOV)
 abbrev pub flags_of : Option BinOp → List Place
 flags_of None = []
 flags_of (Some o) = all_flags
@@ -64,7 +68,13 @@ module _ (vs : List Var) where
 
   -- a statement, at its place in the text
   abbrev pub kind_op : StmtKind → Span → Op
-  kind_op (kind.Assign ds o r) at = record { span = at; reads = read_assigned ds o r; writes = map left_of ds; fixed = flags_of o; needs = [] }
+  kind_op (kind.Assign ds o r) at = record {
+    span = at;
+    reads = read_assigned ds o r;
+    writes = map left_of ds;
+    fixed = flags_of o;
+    needs = [];
+  }
 
   abbrev pub statement_op : Stmt → Op
   statement_op s = kind_op s.kind s.span
@@ -73,17 +83,37 @@ module _ (vs : List Var) where
   abbrev pub need_of : Reg → Var → Need
   need_of r x = record { variable = number_in vs x.name; place = place.Reg r; span = x.span }
 
-  -- the entry writes each parameter, which needs its register
+  -- the entry writes a parameter, which needs its register
+  abbrev pub entry_op : Reg → Var → Op
+  entry_op r x = record {
+    span = x.span;
+    reads = [];
+    writes = number_in vs x.name ∷ [];
+    fixed = [];
+    needs = need_of r x ∷ [];
+  }
+
+  -- each parameter that has a register
   abbrev pub entry_ops : List Reg → List Var → List Op
   entry_ops rs [] = []
   entry_ops [] (x ∷ xs) = []
-  entry_ops (r ∷ rs) (x ∷ xs) = record { span = x.span; reads = []; writes = number_in vs x.name ∷ []; fixed = []; needs = need_of r x ∷ [] } ∷ entry_ops rs xs
+  entry_ops (r ∷ rs) (x ∷ xs) = entry_op r x ∷ entry_ops rs xs
 
-  -- the return reads each variable that it gives back, which needs its register
+  -- the return reads a variable that it gives back, which needs its register
+  abbrev pub return_op : Reg → Var → Op
+  return_op r x = record {
+    span = x.span;
+    reads = number_in vs x.name ∷ [];
+    writes = [];
+    fixed = [];
+    needs = need_of r x ∷ [];
+  }
+
+  -- each variable that has a register
   abbrev pub return_ops : List Reg → List Var → List Op
   return_ops rs [] = []
   return_ops [] (x ∷ xs) = []
-  return_ops (r ∷ rs) (x ∷ xs) = record { span = x.span; reads = number_in vs x.name ∷ []; writes = []; fixed = []; needs = need_of r x ∷ [] } ∷ return_ops rs xs
+  return_ops (r ∷ rs) (x ∷ xs) = return_op r x ∷ return_ops rs xs
 
 -- the entry, the statements and the return, in this order
 abbrev pub operations_of : Fun → List Op

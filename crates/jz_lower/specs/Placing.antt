@@ -8,7 +8,8 @@ use Rattle.jz_first_tree.specs.declared.Var.{Var}
 use Rattle.jz_correct.specs.Registers.{argument_registers, result_registers}
 use Rattle.jz_lower.specs.Living.{KeepApart}
 
--- the registers that a function need not preserve, but for the stack pointer (System V AMD64 ABI, 3.2.1)
+-- the registers that a function need not preserve, but for the stack pointer (System V AMD64 ABI,
+-- 3.2.1)
 abbrev pub is_given : Reg → Bool
 is_given reg.Rax = true
 is_given reg.Rcx = true
@@ -30,8 +31,8 @@ StandIn register rs [] = Unit {0}
 StandIn register [] (x ∷ xs) = ⊥
 StandIn register (r ∷ rs) (x ∷ xs) = (register x.name ≡ r) × StandIn register rs xs
 
--- Each variable has one of the registers that are given out, the parameters and results have theirs, and what is written stands in
--- another register than all that lives behind.
+-- Each variable has one of the registers that are given out, the parameters and results have
+-- theirs, and what is written stands in another register than all that lives behind.
 pub record IsPlacing (register : List ℕ → Reg) (f : Fun) : Type 0 where
   pub given : (n : List ℕ) → is_given (register n) ≡ true
   pub params : StandIn register argument_registers (map variable_of f.params)

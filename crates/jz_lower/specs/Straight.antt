@@ -43,7 +43,8 @@ abbrev pub SetWords : List Stmt → Type 0
 SetWords [] = Unit {0}
 SetWords (s ∷ ss) = SetsWord s.kind × SetWords ss
 
--- the number of `d op= NUM` is held by an immediate of 32 bits, as the signed reading of its 64 bits
+-- the number of `d op= NUM` is held by an immediate of 32 bits, as the signed reading of its 64
+-- bits
 abbrev pub FitsImmediate : Option BinOp → Rhs → Type 0
 FitsImmediate None r = Unit {0}
 FitsImmediate (Some o) (rhs.Value (expr.Num i at)) = fits_bytes 4 (signed S64 (residue S64 i)) ≡ true

@@ -1,13 +1,11 @@
 //! A function as the placing of its variables sees it.
 
-ghost use Rattle.std.specs.Prelude.{◌≡◌, ◌<◌, ◌^◌, [], ◌∷◌, List, IfOk, length, map, replicate};
-ghost use Rattle.x64_insn.specs.declared.types.Place.TheVariants as place;
+ghost use Rattle.std.specs.Prelude.{◌≡◌, ◌<◌, ◌^◌, IfOk, length, map, replicate};
 ghost use Rattle.jz_ir.specs.declared.code.Kind.TheVariants as kind;
-ghost use Rattle.jz_first_tree.specs.declared.Var.{Var};
 ghost use Rattle.jz_first_tree.specs.Variables.{variables_of};
 ghost use Rattle.jz_correct.specs.Registers.{argument_registers, result_registers};
-ghost use Rattle.jz_lower.specs.Numbers.{IsNumbers};
-ghost use Rattle.jz_lower.specs.Operations.{code_of, entry_ops, flags_of, left_of, need_of, operations_of, read_assigned, read_by, read_right, return_ops, statement_op};
+ghost use Rattle.jz_lower.specs.InnerNumbers.{GivesFor, IsFor, IsNumbers};
+ghost use Rattle.jz_lower.specs.Operations.{code_of, entry_op, entry_ops, flags_of, left_of, need_of, operations_of, read_assigned, read_by, read_right, return_op, return_ops, statement_op};
 ghost use Rattle.jz_lower.specs.Placing.{variable_of};
 
 use crate::numbers::Numbers;
@@ -18,7 +16,8 @@ use jz_ir::{Code, Kind, Need, Op};
 use std::alloc::{AllocError, Global};
 use x64_insn::{Flag, Place, Reg};
 
-// The registers that a function need not preserve, but for the stack pointer (System V AMD64 ABI, 3.2.1).
+// The registers that a function need not preserve, but for the stack pointer (System V AMD64 ABI,
+// 3.2.1).
 const GIVEN_PLACES: [Place; 9] = [
     Place::Reg(Reg::Rax),
     Place::Reg(Reg::Rcx),
@@ -40,7 +39,7 @@ const FLAGS: [Place; 5] = [
 ];
 
 fn read_by(alloc: Global, numbers: &Numbers, expr: &Expr) -> Result<Seq<u32>, AllocError>
-    ensures { (vs : List Var) → IsNumbers numbers.now vs → IfOk result (λ reads. reads ≡ read_by vs expr.now) }
+    ensures { GivesFor numbers.now result (λ vs. read_by vs expr.now) }
 {
     match expr {
         Expr::Num(_, _) => Ok(Seq::new(alloc)),
@@ -49,7 +48,7 @@ fn read_by(alloc: Global, numbers: &Numbers, expr: &Expr) -> Result<Seq<u32>, Al
 }
 
 fn read_right(alloc: Global, numbers: &Numbers, rhs: &Rhs) -> Result<Seq<u32>, AllocError>
-    ensures { (vs : List Var) → IsNumbers numbers.now vs → IfOk result (λ reads. reads ≡ read_right vs rhs.now) }
+    ensures { GivesFor numbers.now result (λ vs. read_right vs rhs.now) }
 {
     match rhs {
         Rhs::Value(expr) => read_by(alloc, numbers, expr),
@@ -57,7 +56,7 @@ fn read_right(alloc: Global, numbers: &Numbers, rhs: &Rhs) -> Result<Seq<u32>, A
 }
 
 fn left_of(numbers: &Numbers, left: &Lval) -> u32
-    ensures { (vs : List Var) → IsNumbers numbers.now vs → result ≡ left_of vs left.now }
+    ensures { IsFor numbers.now result (λ vs. left_of vs left.now) }
 {
     match left {
         Lval::Var(var) => numbers.number(&var.name),
@@ -65,7 +64,7 @@ fn left_of(numbers: &Numbers, left: &Lval) -> u32
 }
 
 fn written(alloc: Global, numbers: &Numbers, to: &[Lval]) -> Result<Seq<u32>, AllocError>
-    ensures { (vs : List Var) → IsNumbers numbers.now vs → IfOk result (λ writes. writes ≡ map (left_of vs) to.now) }
+    ensures { GivesFor numbers.now result (λ vs. map (left_of vs) to.now) }
 {
     let mut writes = Seq::new(alloc);
     for left in to {
@@ -82,7 +81,7 @@ fn read_assigned(
     op: Option<BinOp>,
     rhs: &Rhs,
 ) -> Result<Seq<u32>, AllocError>
-    ensures { (vs : List Var) → IsNumbers numbers.now vs → IfOk result (λ reads. reads ≡ read_assigned vs to.now op rhs.now) }
+    ensures { GivesFor numbers.now result (λ vs. read_assigned vs to.now op rhs.now) }
 {
     match op {
         None => read_right(alloc, numbers, rhs),
@@ -105,7 +104,7 @@ fn flags_of(alloc: Global, op: Option<BinOp>) -> Result<Seq<Place>, AllocError>
 }
 
 fn statement_op(alloc: Global, numbers: &Numbers, stmt: &Stmt) -> Result<Op, AllocError>
-    ensures { (vs : List Var) → IsNumbers numbers.now vs → IfOk result (λ op. op ≡ statement_op vs stmt.now) }
+    ensures { GivesFor numbers.now result (λ vs. statement_op vs stmt.now) }
 {
     match &stmt.kind {
         StmtKind::Assign { to, op, rhs } => Ok(Op {
@@ -119,7 +118,7 @@ fn statement_op(alloc: Global, numbers: &Numbers, stmt: &Stmt) -> Result<Op, All
 }
 
 fn need_of(numbers: &Numbers, register: Reg, var: &Var) -> Need
-    ensures { (vs : List Var) → IsNumbers numbers.now vs → result ≡ need_of vs register var.now }
+    ensures { IsFor numbers.now result (λ vs. need_of vs register var.now) }
 {
     Need {
         variable: numbers.number(&var.name),
@@ -130,7 +129,7 @@ fn need_of(numbers: &Numbers, register: Reg, var: &Var) -> Need
 
 // The entry writes the parameter.
 fn entry_op(alloc: Global, numbers: &Numbers, register: Reg, var: &Var) -> Result<Op, AllocError>
-    ensures { (vs : List Var) → IsNumbers numbers.now vs → IfOk result (λ op. op ∷ [] ≡ entry_ops vs (register ∷ []) (var.now ∷ [])) }
+    ensures { GivesFor numbers.now result (λ vs. entry_op vs register var.now) }
 {
     Ok(Op {
         span: var.span,
@@ -143,7 +142,7 @@ fn entry_op(alloc: Global, numbers: &Numbers, register: Reg, var: &Var) -> Resul
 
 // The return reads the variable.
 fn return_op(alloc: Global, numbers: &Numbers, register: Reg, var: &Var) -> Result<Op, AllocError>
-    ensures { (vs : List Var) → IsNumbers numbers.now vs → IfOk result (λ op. op ∷ [] ≡ return_ops vs (register ∷ []) (var.now ∷ [])) }
+    ensures { GivesFor numbers.now result (λ vs. return_op vs register var.now) }
 {
     Ok(Op {
         span: var.span,
@@ -155,7 +154,8 @@ fn return_op(alloc: Global, numbers: &Numbers, register: Reg, var: &Var) -> Resu
 }
 
 fn entry_ops(alloc: Global, numbers: &Numbers, params: &[Param]) -> Result<Seq<Op>, AllocError>
-    ensures { (vs : List Var) → IsNumbers numbers.now vs → IfOk result (λ ops. ops ≡ entry_ops vs argument_registers (map variable_of params.now)) }
+    ensures { GivesFor numbers.now result
+        (λ vs. entry_ops vs argument_registers (map variable_of params.now)) }
 {
     let mut ops = Seq::new(alloc);
     for (i, param) in params.iter().enumerate() {
@@ -168,7 +168,7 @@ fn entry_ops(alloc: Global, numbers: &Numbers, params: &[Param]) -> Result<Seq<O
 }
 
 fn statement_ops(alloc: Global, numbers: &Numbers, body: &[Stmt]) -> Result<Seq<Op>, AllocError>
-    ensures { (vs : List Var) → IsNumbers numbers.now vs → IfOk result (λ ops. ops ≡ map (statement_op vs) body.now) }
+    ensures { GivesFor numbers.now result (λ vs. map (statement_op vs) body.now) }
 {
     let mut ops = Seq::new(alloc);
     for stmt in body {
@@ -178,7 +178,7 @@ fn statement_ops(alloc: Global, numbers: &Numbers, body: &[Stmt]) -> Result<Seq<
 }
 
 fn return_ops(alloc: Global, numbers: &Numbers, vars: &[Var]) -> Result<Seq<Op>, AllocError>
-    ensures { (vs : List Var) → IsNumbers numbers.now vs → IfOk result (λ ops. ops ≡ return_ops vs result_registers vars.now) }
+    ensures { GivesFor numbers.now result (λ vs. return_ops vs result_registers vars.now) }
 {
     let mut ops = Seq::new(alloc);
     for (i, var) in vars.iter().enumerate() {
@@ -191,7 +191,8 @@ fn return_ops(alloc: Global, numbers: &Numbers, vars: &[Var]) -> Result<Seq<Op>,
 }
 
 fn all_operations(alloc: Global, numbers: &Numbers, fun: &Fun) -> Result<Seq<Op>, AllocError>
-    ensures { IsNumbers numbers.now (variables_of fun.now) → IfOk result (λ ops. ops ≡ operations_of fun.now) }
+    ensures { IsNumbers numbers.now (variables_of fun.now)
+        → IfOk result (λ ops. ops ≡ operations_of fun.now) }
 {
     let mut ops = entry_ops(alloc, numbers, fun.params.as_slice())?;
     ops.append(statement_ops(alloc, numbers, fun.body.as_slice())?)?;
@@ -206,8 +207,8 @@ fn words(alloc: Global, count: usize) -> Result<Seq<Kind>, AllocError>
     Ok(Seq::from_vec(vec![in alloc; Kind::Word; count]?))
 }
 
-/// The operations of a function: one for each parameter, each statement and each variable that is returned. Parameters
-/// and returned variables beyond those that have a register have none.
+/// The operations of a function: one for each parameter, each statement and each variable that is
+/// returned. Parameters and returned variables beyond those that have a register have none.
 pub fn operations(alloc: Global, fun: &Fun) -> Result<Code, AllocError>
     requires { length (variables_of fun.now) < 2 ^ 32 }
     ensures { IfOk result (λ code. code ≡ code_of fun.now) }

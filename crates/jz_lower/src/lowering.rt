@@ -1,14 +1,14 @@
 //! The instructions of statements.
 
-ghost use Rattle.std.specs.Prelude.{◌≡◌, ◌<◌, ◌^◌, [], ◌∷◌, List, IfOk, MatchOption, length};
+ghost use Rattle.std.specs.Prelude.{◌≡◌, ◌<◌, ◌^◌, IfOk, length};
 ghost use Rattle.jz_words.specs.declared.size.Size.TheVariants.{S64};
 ghost use Rattle.jz_words.specs.Sizes.{signed};
 ghost use Rattle.jz_words.specs.Words.{residue};
-ghost use Rattle.jz_first_tree.specs.declared.Var.{Var};
 ghost use Rattle.jz_first_tree.specs.Variables.{variables_of};
 ghost use Rattle.jz_lower.specs.Lowering.{alu_of, assignment_insn, insns_of, kind_insns, operand_of};
-ghost use Rattle.jz_lower.specs.Numbers.{IsNumbers};
-ghost use Rattle.jz_lower.specs.Operations.{register_in, register_of};
+ghost use Rattle.jz_lower.specs.InnerNumbers.{IsFor};
+ghost use Rattle.jz_lower.specs.InnerLowering.{insns_in, register_by};
+ghost use Rattle.jz_lower.specs.Operations.{register_of};
 
 use crate::numbers::Numbers;
 use jz_data::{Seq, Text};
@@ -46,7 +46,7 @@ fn signed(number: i128) -> i64
 impl Registers<'_> {
     // The register of the variable of that name. RAX stands for a name that no variable has.
     fn register(&self, name: &Text) -> Reg
-        ensures { (vs : List Var) → IsNumbers self.now.numbers vs → result ≡ register_in vs self.now.places.now name.now }
+        ensures { IsFor self.now.numbers result (λ vs. register_by self.now vs name.now) }
     {
         match self.places.get(self.numbers.number(name) as usize) {
             Some(Place::Reg(register)) => *register,
@@ -55,7 +55,8 @@ impl Registers<'_> {
     }
 
     fn operand(&self, expr: &Expr) -> Operand
-        ensures { (vs : List Var) → IsNumbers self.now.numbers vs → result ≡ operand_of (register_in vs self.now.places.now) expr.now }
+        ensures { IsFor self.now.numbers result
+            (λ vs. operand_of (register_by self.now vs) expr.now) }
     {
         match expr {
             Expr::Num(number, _) => Operand::Imm(signed(*number)),
@@ -64,7 +65,8 @@ impl Registers<'_> {
     }
 
     fn assignment(&self, left: &Lval, op: Option<BinOp>, rhs: &Rhs) -> Insn
-        ensures { (vs : List Var) → IsNumbers self.now.numbers vs → result ≡ assignment_insn (register_in vs self.now.places.now) left.now op rhs.now }
+        ensures { IsFor self.now.numbers result
+            (λ vs. assignment_insn (register_by self.now vs) left.now op rhs.now) }
     {
         let Lval::Var(var) = left;
         let Rhs::Value(expr) = rhs;
@@ -78,8 +80,8 @@ impl Registers<'_> {
 
     // An assignment with another number of left sides than one has none.
     fn instruction(&self, kind: &StmtKind) -> Option<Insn>
-        ensures { (vs : List Var) → IsNumbers self.now.numbers vs → MatchOption result (kind_insns (register_in vs self.now.places.now) kind.now ≡ [])
-            (λ insn. kind_insns (register_in vs self.now.places.now) kind.now ≡ insn ∷ []) }
+        ensures { IsFor self.now.numbers (insns_in result)
+            (λ vs. kind_insns (register_by self.now vs) kind.now) }
     {
         match kind {
             StmtKind::Assign { to, op, rhs } => match to.as_slice() {
@@ -93,7 +95,8 @@ impl Registers<'_> {
 /// The instructions of a function's statements, where its variables have these places.
 pub fn instructions(alloc: Global, fun: &Fun, places: &[Place]) -> Result<Seq<Insn>, AllocError>
     requires { length (variables_of fun.now) < 2 ^ 32 }
-    ensures { IfOk result (λ insns. insns ≡ insns_of (register_of fun.now places.now) fun.now.body) }
+    ensures { IfOk result (λ insns.
+        insns ≡ insns_of (register_of fun.now places.now) fun.now.body) }
 {
     let numbers = Numbers::of(alloc, fun)?;
     let registers = Registers { numbers, places };

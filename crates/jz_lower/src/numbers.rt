@@ -3,7 +3,7 @@
 ghost use Rattle.std.specs.Prelude.{◌≡◌, ◌+◌, ◌<◌, ◌^◌, [], ◌∷◌, ◌++◌, List, IfOk, OnOk, length};
 ghost use Rattle.jz_first_tree.specs.declared.Var.{Var};
 ghost use Rattle.jz_first_tree.specs.Variables.{variables_of};
-ghost use Rattle.jz_lower.specs.Numbers.{IsNumbers};
+ghost use Rattle.jz_lower.specs.InnerNumbers.{IsFor, IsNumbers};
 ghost use Rattle.jz_lower.specs.Operations.{number_in};
 
 use indexmap::IndexMap;
@@ -30,14 +30,14 @@ impl Numbers {
 
     /// How many variables there are.
     pub(crate) fn count(&self) -> u32
-        ensures { (vs : List Var) → IsNumbers self.now vs → result ≡ length vs }
+        ensures { IsFor self.now result (λ vs. length vs) }
     {
         self.count
     }
 
     /// The number of a name, or how many variables there are where none has it.
     pub(crate) fn number(&self, name: &Text) -> u32
-        ensures { (vs : List Var) → IsNumbers self.now vs → result ≡ number_in vs name.now }
+        ensures { IsFor self.now result (λ vs. number_in vs name.now) }
     {
         match self.first.get(name) {
             None => self.count,
@@ -48,7 +48,8 @@ impl Numbers {
     /// Adds a variable that stands behind those that are there.
     fn add(&mut self, var: &Var) -> Result<(), AllocError>
         requires { self.old.count + 1 < 2 ^ 32 }
-        ensures held { (vs : List Var) → IsNumbers self.old vs → OnOk result (IsNumbers self.new (vs ++ var.now ∷ [])) }
+        ensures held { (vs : List Var) → IsNumbers self.old vs
+            → OnOk result (IsNumbers self.new (vs ++ var.now ∷ [])) }
         ensures count { OnOk result (self.new.count ≡ self.old.count + 1) }
     {
         if !self.first.contains_key(&var.name) {
@@ -60,7 +61,8 @@ impl Numbers {
 
     fn add_all(&mut self, vars: &[Var]) -> Result<(), AllocError>
         requires { self.old.count + length vars.now < 2 ^ 32 }
-        ensures { (vs : List Var) → IsNumbers self.old vs → OnOk result (IsNumbers self.new (vs ++ vars.now)) }
+        ensures { (vs : List Var) → IsNumbers self.old vs
+            → OnOk result (IsNumbers self.new (vs ++ vars.now)) }
     {
         for var in vars {
             self.add(var)?;

@@ -4,18 +4,14 @@ use Rattle.jz_ir.specs.declared.code.Op.{Op}
 use Rattle.jz_first_tree.specs.declared.Param.{Param}
 use Rattle.jz_first_tree.specs.declared.Var.{Var}
 use Rattle.jz_correct.specs.Registers.{argument_registers}
-use Rattle.jz_lower.specs.Operations.{entry_ops}
+use Rattle.jz_lower.specs.Operations.{entry_op, entry_ops}
 use Rattle.jz_lower.specs.Placing.{variable_of}
 use Rattle.jz_lower.proofs.Items.{next_item}
 use Rattle.jz_lower.proofs.code.entry_ops.Goals as goal
 
 module _ (vs : List Var) where
-  one_entered : (r : Reg) (p : Param) (rs : List Reg) (ps : List Param) (op : Op) → op ∷ [] ≡ entry_ops vs (r ∷ []) (p.var ∷ [])
-      → entry_ops vs (r ∷ rs) (map variable_of (p ∷ ps)) ≡ op ∷ entry_ops vs rs (map variable_of ps)
-  one_entered r p rs ps op made = ap (λ (os : List Op). os ++ entry_ops vs rs (map variable_of ps)) (sym made)
-
   entered : (rs : List Reg) (ps : List Param) (i : ℕ) (r : Reg) (p : Param) (op : Op) (ops all : List Op) → i < length ps → p ≡ get_or ps i p → i < length rs → r ≡ get_or rs i r
-      → op ∷ [] ≡ entry_ops vs (r ∷ []) (p.var ∷ []) → ops ++ entry_ops vs (drop i rs) (map variable_of (drop i ps)) ≡ all
+      → op ≡ entry_op vs r p.var → ops ++ entry_ops vs (drop i rs) (map variable_of (drop i ps)) ≡ all
       → (ops ++ op ∷ []) ++ entry_ops vs (drop (i + 1) rs) (map variable_of (drop (i + 1) ps)) ≡ all
   entered rs ps i r p op ops all below item more register made before =
       let items : drop i ps ≡ p ∷ drop (i + 1) ps = next_item ps i p below item in
@@ -23,7 +19,7 @@ module _ (vs : List Var) where
       let step : entry_ops vs (drop i rs) (map variable_of (drop i ps)) ≡ op ∷ entry_ops vs (drop (i + 1) rs) (map variable_of (drop (i + 1) ps)) =
       ap (λ (qs : List Reg). entry_ops vs qs (map variable_of (drop i ps))) registers
       ∙ ap (λ (qs : List Param). entry_ops vs (r ∷ drop (i + 1) rs) (map variable_of qs)) items
-      ∙ one_entered r p (drop (i + 1) rs) (drop (i + 1) ps) op made in
+      ∙ ap (λ (o : Op). o ∷ entry_ops vs (drop (i + 1) rs) (map variable_of (drop (i + 1) ps))) (sym made) in
       append_assoc ops (op ∷ []) _ ∙ sym (ap (λ (os : List Op). ops ++ os) step) ∙ before
 
 pub loop-i-preserved : goal.loop-i-preserved

@@ -1,7 +1,7 @@
 use Rattle.std.proofs.Common.{◌≡◌, ◌++◌, List, drop, map}
 use Rattle.jz_first_tree.specs.declared.Var.{Var}
 use Rattle.jz_correct.specs.Registers.{argument_registers}
-use Rattle.jz_lower.specs.Numbers.{IsNumbers}
+use Rattle.jz_lower.specs.InnerNumbers.{IsNumbers}
 use Rattle.jz_lower.specs.Operations.{entry_ops}
 use Rattle.jz_lower.specs.Placing.{variable_of}
 use Rattle.jz_lower.proofs.code.entry_ops.Given as goal

@@ -1,7 +1,7 @@
 use Rattle.std.proofs.Common.{◌≡◌, ◌++◌, List, drop}
 use Rattle.jz_first_tree.specs.declared.Var.{Var}
 use Rattle.jz_correct.specs.Registers.{result_registers}
-use Rattle.jz_lower.specs.Numbers.{IsNumbers}
+use Rattle.jz_lower.specs.InnerNumbers.{IsNumbers}
 use Rattle.jz_lower.specs.Operations.{return_ops}
 use Rattle.jz_lower.proofs.code.return_ops.Given as goal
 

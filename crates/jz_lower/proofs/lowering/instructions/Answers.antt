@@ -26,8 +26,8 @@ loop-stmt-preserved c =
     elim c.match-instruction.branch [
       | in-Some+in_ok-push w ↦
           one_more register c.as_slice-stmt-items.result.now c.loop-stmt.stmt-index c.stmt-item.result (w.in-Some.insn ∷ []) c.loop-stmt.insns c.match-instruction.insns all
-          (omega arith) c.stmt-item.is (w.in-Some.ensures vs c.in_ok-numbers.ensures) (w.insns-is ∙ w.in_ok-push.ensures.ok) c.loop-stmt.invariant
+          (omega arith) c.stmt-item.is (sym (w.in-Some.ensures vs c.in_ok-numbers.ensures)) (w.insns-is ∙ w.in_ok-push.ensures.ok) c.loop-stmt.invariant
       | in_default w ↦
           one_more register c.as_slice-stmt-items.result.now c.loop-stmt.stmt-index c.stmt-item.result [] c.loop-stmt.insns c.match-instruction.insns all
-          (omega arith) c.stmt-item.is (w.in_default.ensures vs c.in_ok-numbers.ensures) (w.insns-is ∙ sym (append-nil c.loop-stmt.insns)) c.loop-stmt.invariant
+          (omega arith) c.stmt-item.is (sym (w.in_default.ensures vs c.in_ok-numbers.ensures)) (w.insns-is ∙ sym (append-nil c.loop-stmt.insns)) c.loop-stmt.invariant
     ]

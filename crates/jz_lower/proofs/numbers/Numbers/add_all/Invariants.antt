@@ -1,6 +1,6 @@
 use Rattle.std.proofs.Common.{◌≡◌, ◌+◌, ◌++◌, List, take}
 use Rattle.jz_first_tree.specs.declared.Var.{Var}
-use Rattle.jz_lower.specs.Numbers.{IsNumbers}
+use Rattle.jz_lower.specs.InnerNumbers.{IsNumbers}
 use Rattle.jz_lower.proofs.numbers.Numbers.add_all.Given as goal
 
 abbrev pub invariant-loop-var : goal.invariant-loop-var

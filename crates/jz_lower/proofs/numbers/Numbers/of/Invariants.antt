@@ -1,5 +1,5 @@
 use Rattle.std.proofs.Common.{◌≡◌, map, take}
-use Rattle.jz_lower.specs.Numbers.{IsNumbers}
+use Rattle.jz_lower.specs.InnerNumbers.{IsNumbers}
 use Rattle.jz_lower.proofs.numbers.Numbers.of.Given as goal
 
 abbrev pub invariant-loop-param : goal.invariant-loop-param
