@@ -1,4 +1,5 @@
 pub mod Recursion
 pub mod Numbers
+pub mod Visits
 pub mod Candidates
 pub mod Tables

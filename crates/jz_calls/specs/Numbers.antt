@@ -65,14 +65,23 @@ pub record IsFound (g : List (List ℕ)) (start : ℕ) (marks : List Bool) (orde
   pub same : length marks ≡ length g
   pub reached : (j : ℕ) → (slice_index_or marks j false ≡ true) ↔ Leads g start j
 
+-- each rank is below the limit
+abbrev pub AreBelow : List ℕ → ℕ → Type 0
+AreBelow ranks limit = (i : ℕ) → i < length ranks → slice_index_or ranks i 0 < limit
+
+-- and so is the rank of each of these functions
+abbrev pub AreCalledBelow : List ℕ → ℕ → List ℕ → Type 0
+AreCalledBelow ranks limit called =
+    (k : ℕ) → k < length called → slice_index_or ranks (slice_index_or called k 0) 0 < limit
+
 -- a rank for each function, below the number of functions, and each call is of a function of lower rank
 pub record Falls (g : List (List ℕ)) (ranks : List ℕ) : Type 0 where
   pub same : length ranks ≡ length g
-  pub below : (i : ℕ) → i < length ranks → slice_index_or ranks i 0 < length g
+  pub below : AreBelow ranks (length g)
   pub falls : (i j : ℕ) → Has (row_of g i) j → slice_index_or ranks j 0 < slice_index_or ranks i 0
 
 -- a rank for each function, below the number of functions, and no call is of a function of higher rank
 pub record Descends (g : List (List ℕ)) (ranks : List ℕ) : Type 0 where
   pub same : length ranks ≡ length g
-  pub below : (i : ℕ) → i < length ranks → slice_index_or ranks i 0 < length g
+  pub below : AreBelow ranks (length g)
   pub stays : (i j : ℕ) → Has (row_of g i) j → slice_index_or ranks j 0 ≤ slice_index_or ranks i 0

@@ -34,7 +34,8 @@ impl Numbers {
     }
 
     fn add(&mut self, fun: &Fun, number: usize) -> Result<(), AllocError>
-        ensures { (fs : List Fun) → IsNumbers self.old fs → number ≡ length fs → OnOk result (IsNumbers self.new (fs ++ fun.now ∷ [])) }
+        ensures { (fs : List Fun) → IsNumbers self.old fs → number ≡ length fs
+            → OnOk result (IsNumbers self.new (fs ++ fun.now ∷ [])) }
     {
         if !self.numbers.contains_key(&fun.name) {
             self.numbers.insert(fun.name.clone()?, number)?;

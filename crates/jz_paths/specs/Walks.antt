@@ -1,14 +1,36 @@
 -- Names that are set, as a list, and what a walk over a flow makes of them.
-use Rattle.std.specs.Prelude.{ℕ, ◌≤◌, ◌≡◌, List, ◌++◌, length, take, Option}
+use Rattle.std.specs.Prelude.{ℕ, ◌≤◌, ◌≡◌, List, ◌++◌, length, take, Option, Result, IfOk}
 use Rattle.std.specs.List.{list_any}
 use Rattle.std.specs.Str.{bytes_eq}
 use Rattle.jz_io.specs.declared.span.Span.{Span}
-use Rattle.jz_paths.specs.Paths.{Flow}
+use Rattle.jz_tree.specs.declared.expr.Var.{Var}
+use Rattle.jz_tree.specs.declared.expr.Expr.TheViews.{out-Var}
+use Rattle.jz_tree.specs.declared.program.Param.{Param}
+use Rattle.jz_paths.specs.declared.walk.Assigned.{Assigned}
+use Rattle.jz_paths.specs.Paths.{Flow, assigning}
 use Rattle.jz_paths.specs.Surely.{Names, having, both, put, after, first}
 
 -- the names in a list
 unfoldable pub members : List (List ℕ) → Names
 members ks n = list_any (bytes_eq n) ks
+
+abbrev pub text_of : Var → List ℕ
+text_of v = (out-Var v).name
+
+abbrev pub text_of_param : Param → List ℕ
+text_of_param p = text_of p.var
+
+-- what an assignment does
+abbrev pub flow_of_assigned : Assigned → Flow
+flow_of_assigned a = assigning a.to.now a.op.now a.from.now a.cond.now
+
+-- the earliest read along a flow of a name that is asked and not surely set, where names are set before
+abbrev pub unset_read : List (List ℕ) → Flow → List (List ℕ) → Option Span
+unset_read asked g set = first (members asked) g (members set)
+
+-- that read was found, unless memory was short
+abbrev pub FindsUnset : {E : Type 0} → Result (Option Span) E → List (List ℕ) → Flow → List (List ℕ) → Type 0
+FindsUnset result asked g set = IfOk result (λ at. at ≡ unset_read asked g set)
 
 -- the second list begins with the first
 pub record Grows (old new : List (List ℕ)) : Type 0 where
@@ -20,6 +42,11 @@ pub record Walks (asked : Names) (g : Flow) (old : List (List ℕ)) (found : Opt
   pub first : found ≡ first asked g (members old)
   pub after : members new ≡ after asked g (members old)
   pub grows : Grows old new
+
+-- the walk was done, unless memory was short
+abbrev pub HasWalked : {E : Type 0} → Result (Option Span) E
+    → List (List ℕ) → Flow → List (List ℕ) → List (List ℕ) → Type 0
+HasWalked result asked g old new = IfOk result (λ found. Walks (members asked) g old found new)
 
 -- one name was added
 pub record Adds (old : List (List ℕ)) (m : List ℕ) (new : List (List ℕ)) : Type 0 where

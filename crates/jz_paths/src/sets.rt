@@ -67,7 +67,8 @@ pub(crate) fn join(
     names: &IndexSet<Text>,
 ) -> Result<(), AllocError>
     requires { start ≤ length set.old.keys }
-    ensures { OnOk result (Joins (take start set.old.keys) names.now.keys set.old.keys set.new.keys) }
+    ensures { let first = take start set.old.keys in
+        OnOk result (Joins first names.now.keys set.old.keys set.new.keys) }
 {
     let kept = shared(alloc, names.as_slice(), set)?;
     set.truncate(start);

@@ -57,7 +57,8 @@ fn copied_in_body(
     Ok(first)
 }
 
-/// The first name, in a function, at which an array would have to be copied. `callees` are the functions of its program.
+/// The first name, in a function, at which an array would have to be copied. `callees` are the
+/// functions of its program.
 #[tactic(auto, using(jz_scopes::proofs::Earliest::joining))]
 pub fn copied_in(alloc: Global, callees: &Callees, fun: &Fun) -> Result<Option<Span>, AllocError>
     ensures { (fs : List Fun) → HasCallees callees.now fs → IfOk result (λ at. at ≡ earliest (in_body (copied_by fs) fun.now)) }

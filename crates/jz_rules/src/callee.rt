@@ -6,7 +6,9 @@ ghost use Rattle.std.specs.Str.{bytes_eq};
 ghost use Rattle.jz_tree.specs.declared.program.Fun.{Fun};
 ghost use Rattle.jz_scopes.specs.Lent.{these};
 ghost use Rattle.jz_scopes.specs.Parts.{layer_of, set_by};
-ghost use Rattle.jz_rules.specs.Callees.{place_of, text_of, name_of_param, param_of, set_in, names_set, is_written, of_callee, entered_by, left_by, callee_of, callee_by};
+ghost use Rattle.jz_rules.specs.Callees.{place_of, text_of, name_of_param, param_of, set_in};
+ghost use Rattle.jz_rules.specs.Callees.{names_set, is_written, of_callee, entered_by, left_by};
+ghost use Rattle.jz_rules.specs.Callees.{callee_of, callee_by};
 ghost use Rattle.jz_rules.specs.Tables.{HasNames, HasPlaces, HasCallees};
 
 use crate::tables::{Names, add_place, place};

@@ -1,6 +1,7 @@
 //! Where a statement would have to copy an array.
 
-ghost use Rattle.std.specs.Prelude.{◌≡◌, ℕ, ◌++◌, List, map, flat_map, option_to_list, Some, IfOk, OnOk};
+ghost use Rattle.std.specs.Prelude.{◌≡◌, ℕ, ◌++◌, List, map, flat_map, option_to_list, Some, IfOk};
+ghost use Rattle.std.specs.Prelude.{OnOk};
 ghost use Rattle.std.specs.Option.{option_copied};
 ghost use Rattle.jz_scopes.specs.Order.{earliest, first_in};
 ghost use Rattle.jz_scopes.specs.Parts.{layer_of};
@@ -8,7 +9,10 @@ ghost use Rattle.jz_scopes.specs.Kinds.{array_of};
 ghost use Rattle.jz_rules.specs.Pairs.{pair_of};
 ghost use Rattle.jz_rules.specs.Passing.{passed_of};
 ghost use Rattle.jz_rules.specs.Tables.{HasNumbers};
-ghost use Rattle.jz_rules.specs.Copies.{passed_as, is_one, not_passed, gets_back, numbers_back, is_written_at, passed_at, passed_from, not_back, given, passed_wrongly, wrong_arguments, copied_by_call, copied, array_arg, array_left};
+ghost use Rattle.jz_rules.specs.Copies.{passed_as, is_one, not_passed, gets_back, numbers_back};
+ghost use Rattle.jz_rules.specs.Copies.{is_written_at, passed_at, passed_from, not_back, given};
+ghost use Rattle.jz_rules.specs.Copies.{passed_wrongly, wrong_arguments, copied_by_call, copied};
+ghost use Rattle.jz_rules.specs.Copies.{array_arg, array_left};
 
 use crate::arrays::{array_args, array_lefts};
 use crate::callee::Callee;
@@ -219,10 +223,10 @@ fn given_to_intrinsic(to: &Seq<Lval>, args: &Seq<Expr>) -> Option<Span>
     earlier_of(array_lefts(to), array_args(args))
 }
 
-/// The first name at which a statement would have to copy an array: it assigns an array, or passes one to an intrinsic
-/// or to an export function; an array that the callee writes is not given back to the same variable, or is passed twice;
-/// what is given back is not the array that was passed. Of a call the function is given; where there is none nothing is
-/// asked.
+/// The first name at which a statement would have to copy an array: it assigns an array, or passes
+/// one to an intrinsic or to an export function; an array that the callee writes is not given back
+/// to the same variable, or is passed twice; what is given back is not the array that was passed.
+/// Of a call the function is given; where there is none nothing is asked.
 pub fn copied(
     alloc: Global,
     callee: Option<&Callee>,

@@ -1,6 +1,7 @@
 -- The rows of the pattern table and the intrinsics, by the classes of their operands. R is a register, M memory, I an
 -- inline integer; d is R or M.
 use Rattle.std.specs.Prelude.{Bool, true, false, ◌&&◌, ◌||◌, not, nat_lt, Option, Some, None, if◌then◌else◌}
+use Rattle.std.specs.Option.{option_or}
 use Rattle.jz_words.specs.declared.size.Size.{Size}
 use Rattle.jz_words.specs.declared.size.Size.TheVariants as sizes
 use Rattle.jz_words.specs.Sizes.{bits_of}
@@ -74,10 +75,6 @@ abbrev pub size_of : Class → Option Size
 size_of (class.Reg z) = Some z
 size_of (class.Mem z) = z
 size_of _ = None
-
-abbrev pub or_size : Option Size → Option Size → Option Size
-or_size None b = b
-or_size (Some z) b = Some z
 
 -- 16, 32 or 64 bits
 abbrev pub is_wide : Option Size → Bool
@@ -187,7 +184,10 @@ times_inline d a o = is_r d && (is_wide (size_of d) && (is_rm a.class && is_i o.
 
 -- the size that a name says, else that of a result or operand
 abbrev pub product_size : Option Size → Class → Class → Operand → Operand → Option Size
-product_size z h l a b = or_size z (or_size (size_of h) (or_size (size_of l) (or_size (size_of a.class) (size_of b.class))))
+product_size z h l a b =
+    option_or z
+    (option_or (size_of h)
+    (option_or (size_of l) (option_or (size_of a.class) (size_of b.class))))
 
 -- both halves of a product
 abbrev pub is_product : Option Size → Class → Class → Operand → Operand → Bool
@@ -207,7 +207,9 @@ masks longest (class.Masked m) = keeps m longest
 masks longest _ = false
 
 abbrev pub shifts_masked : Option Size → Class → Operand → Operand → Bool
-shifts_masked z d a o = masks (is_longest (or_size z (or_size (size_of d) (size_of a.class)))) o.class && computes false d a o
+shifts_masked z d a o =
+    masks (is_longest (option_or z (option_or (size_of d) (size_of a.class)))) o.class
+    && computes false d a o
 
 -- ---- the rows
 -- P1 `d = o`
@@ -291,7 +293,7 @@ one_fits name.Neg z d a = changes d a
 one_fits name.Inc z d a = changes d a
 one_fits name.Dec z d a = changes d a
 one_fits name.Not z d a = changes d a
-one_fits name.Bswap z d a = is_r d && (is_long (or_size z (size_of d)) && changes d a)
+one_fits name.Bswap z d a = is_r d && (is_long (option_or z (size_of d)) && changes d a)
 one_fits _ z d a = false
 
 abbrev pub two_fits : Intrinsic → Option Size → Class → Operand → Operand → Bool
@@ -313,10 +315,19 @@ three_fits name.Adc d a o c = is_flag c && (is_rmi o.class && computes true d a 
 three_fits name.Sbb d a o c = is_flag c && (is_rmi o.class && computes false d a o)
 three_fits _ d a o c = false
 
+-- the size that the name of a division says, else that of a result or operand
+abbrev pub division_size : Option Size → Class → Class → Class → Class → Class → Option Size
+division_size z q r hi lo b =
+    option_or z
+    (option_or (size_of q)
+    (option_or (size_of r)
+    (option_or (size_of hi) (option_or (size_of lo) (size_of b)))))
+
 -- the quotient is written before the high word and the divisor are read, the remainder before the divisor is
 abbrev pub divides_long : Option Size → Class → Class → Class → Class → Class → Bool → Bool
-divides_long z q r hi lo b apart = is_pinned q && (is_pinned r && (is_rmi hi && (is_rmi lo && (is_rm b && (apart
-    && is_long (or_size z (or_size (size_of q) (or_size (size_of r) (or_size (size_of hi) (or_size (size_of lo) (size_of b)))))))))))
+divides_long z q r hi lo b apart =
+    is_pinned q && (is_pinned r && (is_rmi hi && (is_rmi lo && (is_rm b && (apart
+    && is_long (division_size z q r hi lo b))))))
 
 -- a byte, R or M
 abbrev pub sets : Option Size → Class → Bool
@@ -330,7 +341,7 @@ abbrev pub intrinsic_of : Shape → Option Intrinsic
 intrinsic_of (shapes.One n z d a) = named_if n (one_fits n z d a)
 intrinsic_of (shapes.Two n z d a o) = named_if n (two_fits n z d a o)
 intrinsic_of (shapes.Three n d a o c) = named_if n (three_fits n d a o c)
-intrinsic_of (shapes.Address z d sum) = named_if name.Lea (is_r d && (is_longest (or_size z (size_of d)) && sum))
+intrinsic_of (shapes.Address z d sum) = named_if name.Lea (is_r d && (is_longest (option_or z (size_of d)) && sum))
 intrinsic_of (shapes.Compare n a o) = named_if n (is_rm a && (is_r o || is_i o))
 intrinsic_of (shapes.Product z h l a b) = named_if name.Mul (is_product z h l a b)
 intrinsic_of (shapes.Division z q r hi lo b apart) = named_if name.Div (divides_long z q r hi lo b apart)

@@ -1,5 +1,6 @@
 -- The first row that matches.
 use Rattle.std.specs.Prelude.{ℕ, Bool, true, false, nat_eq, List, [], ◌∷◌, ◌++◌, ◌≡◌, map, All, Option, Some, None, if◌then◌else◌}
+use Rattle.std.specs.Option.{option_or}
 use Rattle.jz_tree.specs.declared.stmt.StmtKind.{StmtKind}
 use Rattle.jz_select.specs.declared.pattern.Pattern.{Pattern}
 use Rattle.jz_select.specs.declared.pattern.Pattern.TheVariants as pattern
@@ -74,7 +75,9 @@ NoneMatches rs s = All (λ q. q.1 s ≡ false) rs
 
 -- the row r of that list matches, and no row before it does
 abbrev pub FirstMatches : List Row → Shape → Row → Type 0
-FirstMatches rs s r = (before : List Row) × (after : List Row) × (rs ≡ before ++ r ∷ after) × (r.1 s ≡ true) × NoneMatches before s
+FirstMatches rs s r =
+    (before : List Row) × (after : List Row) × (rs ≡ before ++ r ∷ after) × (r.1 s ≡ true)
+    × NoneMatches before s
 
 abbrev pub Tells : List Row → Shape → Option Pattern → Type 0
 Tells rs s None = NoneMatches rs s
@@ -93,6 +96,10 @@ IsSelected k answer = TellsAll (λ answers. shape_of (whichever answers) k) answ
 unfoldable pub IsCopied : Lval → Expr → Option Pattern → Type 0
 IsCopied to e answer = TellsAll (λ answers. assign_of (whichever answers) None to None e) answer
 
+-- a statement has one answer
+abbrev pub HasOneRow : StmtKind → Type 0
+HasOneRow k = (a b : Option Pattern) → IsSelected k a → IsSelected k b → a ≡ b
+
 -- ---- the same by a function
 abbrev pub first_of : List Row → Shape → Option Pattern
 first_of [] s = None
@@ -105,12 +112,8 @@ abbrev pub named : Option Intrinsic → Option Pattern
 named None = None
 named (Some n) = Some (pattern.Intrinsic n)
 
-abbrev pub or_pattern : Option Pattern → Option Pattern → Option Pattern
-or_pattern None b = b
-or_pattern (Some p) b = Some p
-
 unfoldable pub chosen : Shape → Option Pattern
-chosen s = or_pattern (first_of table s) (named (intrinsic_of s))
+chosen s = option_or (first_of table s) (named (intrinsic_of s))
 
 -- the answers with which it is hardest tell which row is selected
 unfoldable pub selected : StmtKind → Option Pattern

@@ -153,10 +153,13 @@ module _ (asked : Asked) where
       if carries o p then values.Carry o (beside d (Some a) a) (beside d (Some a) b) else values.Alone
   carry_layer d o _ = values.Alone
 
+  -- an operation of two operands beside its destination
+  abbrev pub two_beside : Lval → BinOp → Expr → Expr → Value
+  two_beside d o a b = values.Two o (beside d (first_of o a) a) (beside d (first_of o a) b)
+
   abbrev pub value_layer : Lval → Layer → Value
   value_layer d (Expr-F.Bin o a b at) =
-      if is_flag (class_of b) then carry_layer d o (out-Expr a)
-      else values.Two o (beside d (first_of o a) a) (beside d (first_of o a) b)
+      if is_flag (class_of b) then carry_layer d o (out-Expr a) else two_beside d o a b
   value_layer d (Expr-F.Neg a at) = values.One (beside d (Some a) a)
   value_layer d (Expr-F.Not a at) = values.One (beside d (Some a) a)
   value_layer d (Expr-F.Cast z signed a at) = values.Cast z signed (class_of a)

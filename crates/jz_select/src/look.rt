@@ -1,6 +1,10 @@
-// What an expression is.
+//! What an expression is.
+
 ghost use Rattle.std.specs.Prelude.{◌≡◌};
-ghost use Rattle.jz_select.specs.Look.{look_of, decl_of, kind_of_ty, is_inline_var, is_reg64, is_regs64, terms_of, joins as joins_bools, compares_values as compares_values_is, gives_number as gives_number_is};
+ghost use Rattle.jz_select.specs.Look.{look_of, decl_of, kind_of_ty, is_inline_var, is_reg64};
+ghost use Rattle.jz_select.specs.Look.{is_regs64, terms_of, joins as joins_bools};
+ghost use Rattle.jz_select.specs.Look.{compares_values as compares_values_is};
+ghost use Rattle.jz_select.specs.Look.{gives_number as gives_number_is};
 ghost use Rattle.jz_select.specs.Sums.{joined, term};
 
 use crate::class::Sum;

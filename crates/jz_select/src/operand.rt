@@ -1,10 +1,12 @@
-// The class of an operand and of a result.
+//! The class of an operand and of a result.
+
 ghost use Rattle.std.specs.Prelude.{◌≡◌};
 ghost use Rattle.std.specs.Option.{option_copied};
 ghost use Rattle.jz_tree.specs.declared.expr.Expr.TheViews.{out-Expr};
 ghost use Rattle.jz_integers.specs.Integers.{written_number as number_of};
 ghost use Rattle.jz_select.specs.Look.{decl_of};
-ghost use Rattle.jz_select.specs.Operands.{var_class, cell_of, mem_of, mask_of, masked, is_byte, register_layer, class_of, dest_of, operand_of};
+ghost use Rattle.jz_select.specs.Operands.{var_class, cell_of, mem_of, mask_of, masked, is_byte};
+ghost use Rattle.jz_select.specs.Operands.{register_layer, class_of, dest_of, operand_of};
 ghost use Rattle.jz_select.specs.Hardest.{hardest};
 
 use crate::class::{Class, Mask, Operand};
@@ -137,8 +139,8 @@ pub fn dest(to: &Lval) -> Class
     }
 }
 
-/// The operand beside that destination and the first operand, if there is one. Where cells are not told apart, it is the
-/// operand for which a row is hardest to match.
+/// The operand beside that destination and the first operand, if there is one. Where cells are not
+/// told apart, it is the operand for which a row is hardest to match.
 pub fn operand(to: &Lval, first: Option<&Expr>, e: &Expr) -> Operand
     ensures { result ≡ operand_of (hardest to.now (option_copied first.entry)) to.now e.now }
 {

@@ -67,7 +67,8 @@ fn firsts(text: OfText, declared: OfDeclared, ranking: &Ranking) -> Firsts
     }
 }
 
-/// The program with the declarations of its variables where they are used, or the first rule that fails.
+/// The program with the declarations of its variables where they are used, or the first rule that
+/// fails.
 pub fn check(alloc: Global, program: Program) -> Result<Typed, Failure<TypeFault>>
     ensures typed { IfOk result (λ typed. IsTyped program) }
     ensures resolved { IfOk result (λ typed. typed.program ≡ resolved program) }

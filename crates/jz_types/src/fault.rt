@@ -11,7 +11,8 @@ use jz_scopes::is_before;
 pub enum TypeRule {
     /// A variable or constant is declared above its use, a function anywhere.
     Unknown,
-    /// Names differ among functions and constants, among the variables of a function, and among the results of a statement.
+    /// Names differ among functions and constants, among the variables of a function, and among the
+    /// results of a statement.
     Duplicate,
     /// Types, sizes, and counts of arguments and results agree.
     Mismatch,
@@ -25,7 +26,8 @@ pub enum TypeRule {
     ArrayCopy,
     /// No precondition is given.
     BadAnnotation,
-    /// An export function has at most six words in registers as parameters, and at most two as results.
+    /// An export function has at most six words in registers as parameters, and at most two as
+    /// results.
     ExportShape,
     /// An index of an array in registers is inline.
     RegIndex,
@@ -73,7 +75,7 @@ pub(crate) struct Firsts {
     pub(crate) indexed: Option<Span>,
 }
 
-// The fault of the earlier of two places; at one place the first.
+/// The fault of the earlier of two places; at one place the first.
 fn told(best: Option<TypeFault>, rule: TypeRule, at: Option<Span>) -> Option<TypeFault>
     ensures { result ≡ told_of best rule at }
 {

@@ -1,4 +1,5 @@
-//! Where the rules fail first in the functions of a program. All of them are asked of a function before the next one is read.
+//! Where the rules fail first in the functions of a program. All of them are asked of a function
+//! before the next one is read.
 
 ghost use Rattle.std.specs.Prelude.{◌≡◌, List, IfOk};
 ghost use Rattle.jz_tree.specs.declared.program.Fun.{Fun};
@@ -30,7 +31,7 @@ use jz_scopes::{Functions, Places, earlier_of, repeated_in_fun, unknown_in_fun};
 use jz_tree::Program;
 use std::alloc::{AllocError, Global};
 
-// Where the rules that are asked of a program as it was read fail first.
+/// Where the rules that are asked of a program as it was read fail first.
 #[derive(Clone, Copy)]
 pub(crate) struct OfText {
     pub(crate) unknown: Option<Span>,
@@ -40,7 +41,8 @@ pub(crate) struct OfText {
     pub(crate) misshapen: Option<Span>,
 }
 
-// Where the rules that are asked of the program with declarations fail first, but for that on recursion.
+/// Where the rules that are asked of the program with declarations fail first, but for that on
+/// recursion.
 #[derive(Clone, Copy)]
 pub(crate) struct OfDeclared {
     pub(crate) mismatched: Option<Span>,

@@ -17,13 +17,14 @@ pub fn no_fault_of_a_typed()
     ensures { (program : Program) (fault : TypeFault) → IsTyped program → IsFirstTypeFault program fault → ⊥ }
 {}
 
-/// In a typed program a row of the tables is selected for each statement that needs one, and for each copy of a word that is an
-/// argument or result of a call.
+/// In a typed program a row of the tables is selected for each statement that needs one, and for
+/// each copy of a word that is an argument or result of a call.
 pub fn statements_have_rows()
     ensures { RowsLaw }
 {}
 
-/// In a resolved program each variable that is used carries the declaration of its name, and is known as what the text declares.
+/// In a resolved program each variable that is used carries the declaration of its name, and is
+/// known as what the text declares.
 pub fn variables_are_declared()
     ensures carried { CarryingLaw }
     ensures known { KnownLaw }

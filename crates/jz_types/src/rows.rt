@@ -17,7 +17,7 @@ use jz_scopes::{Functions, Places, earlier_of, repeated_of, statements, unknown_
 use jz_tree::{Fun, Stmt};
 use std::alloc::{AllocError, Global};
 
-// Whether another fault is told of a statement.
+/// Whether another fault is told of a statement.
 #[tactic(auto, using(crate::proofs::Joins::joining))]
 fn has_others(
     alloc: Global,
@@ -75,8 +75,8 @@ fn unmatched_in_body(
     Ok(first)
 }
 
-/// The first statement of a function of which no other fault is told and that matches no row, or of whose call a copy matches
-/// none. Variables have their declarations where they are used.
+/// The first statement of a function of which no other fault is told and that matches no row, or of
+/// whose call a copy matches none. Variables have their declarations where they are used.
 pub(crate) fn unmatched_in_fun(
     alloc: Global,
     constants: &Places,
