@@ -2,6 +2,7 @@
 #![tactic(auto)]
 
 mod operations;
+mod readings;
 mod size;
 mod word;
 
@@ -9,5 +10,6 @@ pub use operations::{
     add_carry, and, has_bit, mul_signed, mul_wide, or, parity, residue, rol, ror, sar, shl, shr,
     sub_borrow, swap_bytes, xor,
 };
+pub use readings::{fits_four_bytes, reading};
 pub use size::Size;
 pub use word::Word;
