@@ -37,7 +37,8 @@ pub record CallsAt (p : Program) (i j : ℕ) : Type 0 where
   pub among : Contains (callees caller) name
   pub numbered : number_named name.0 p.funs ≡ Some j
 
--- a rank for each function, below the number of functions; a function that is called has a lower rank than the one that calls it
+-- a rank for each function, below the number of functions; a function that is called has a lower
+-- rank than the one that calls it
 pub record IsRanked (p : Program) (ranks : List ℕ) : Type 0 where
   pub same : length ranks ≡ length p.funs
   pub below : AreBelow ranks (length p.funs)

@@ -42,7 +42,8 @@ is_passed d = passed d.storage d.kind
 abbrev pub is_returned : Declared → Bool
 is_returned d = returned d.storage d.kind
 
--- the place of a variable, unless its declaration is fine; a variable without a declaration has no place here
+-- the place of a variable, unless its declaration is fine; a variable without a declaration has no
+-- place here
 abbrev pub unkept_by : (Declared → Bool) → Known → Span → List Span
 unkept_by fine None at = []
 unkept_by fine (Some d) at = unless (fine d) at

@@ -25,7 +25,8 @@ pub data Event : Type 0 where
   Reads : Name → Event
   Sets : List ℕ → Event
 
--- how a run may go: nothing is done, an event, one after the other, one or the other, any number of times
+-- how a run may go: nothing is done, an event, one after the other, one or the other, any number of
+-- times
 pub data Flow : Type 0 where
   Skip : Flow
   Does : Event → Flow

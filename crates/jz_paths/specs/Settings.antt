@@ -14,8 +14,8 @@ use Rattle.jz_tree.specs.declared.program.Program.{Program}
 use Rattle.jz_scopes.specs.Order.{unless}
 use Rattle.jz_scopes.specs.Kinds.{known_of, is_inline_int, is_inline}
 
--- what stands round a statement: whether a `while` or an `if` that is not inline does, and the counters of the loops, from
--- the outermost
+-- what stands round a statement: whether a `while` or an `if` that is not inline does, and the
+-- counters of the loops, from the outermost
 pub record Around : Type 0 where
   pub inside : Bool
   pub counters : List (List ℕ)

@@ -24,7 +24,8 @@ text_of_param p = text_of p.var
 abbrev pub flow_of_assigned : Assigned → Flow
 flow_of_assigned a = assigning a.to.now a.op.now a.from.now a.cond.now
 
--- the earliest read along a flow of a name that is asked and not surely set, where names are set before
+-- the earliest read along a flow of a name that is asked and not surely set, where names are set
+-- before
 abbrev pub unset_read : List (List ℕ) → Flow → List (List ℕ) → Option Span
 unset_read asked g set = first (members asked) g (members set)
 
@@ -63,7 +64,8 @@ pub record AddsAll (old ms new : List (List ℕ)) : Type 0 where
   pub has : members new ≡ members (old ++ ms)
   pub grows : Grows old new
 
--- to the names at the beginning of the second list were added those of the first list that the second has
+-- to the names at the beginning of the second list were added those of the first list that the
+-- second has
 pub record Joins (start first second new : List (List ℕ)) : Type 0 where
   pub has : Grows start second → members new ≡ both (members (start ++ first)) (members second)
   pub grows : Grows start new

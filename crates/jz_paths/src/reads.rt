@@ -28,7 +28,8 @@ fn missing(asked: &IndexSet<Text>, set: &IndexSet<Text>, var: &Var) -> Option<Sp
 }
 
 fn among(asked: &IndexSet<Text>, set: &IndexSet<Text>, vars: &[&Var]) -> Option<Span>
-    ensures { result ≡ unset_read asked.now.keys (reading (map name_of (these vars.now))) set.now.keys }
+    ensures { let read = map name_of (these vars.now) in
+        result ≡ unset_read asked.now.keys (reading read) set.now.keys }
 {
     let mut best = None;
     for var in vars {

@@ -56,7 +56,8 @@ fn set_in_all(
     counters: &mut Vec<Text>,
     stmts: &Seq<Stmt>,
 ) -> Result<Option<Span>, AllocError>
-    ensures first { IfOk result (λ at. at ≡ first_set_all stmts.now (around inside counters.old.items)) }
+    ensures first { let round = around inside counters.old.items in
+        IfOk result (λ at. at ≡ first_set_all stmts.now round) }
     ensures kept { OnOk result (counters.new.items ≡ counters.old.items) }
 {
     let mut best = None;
@@ -72,7 +73,8 @@ fn set_in(
     counters: &mut Vec<Text>,
     kind: &StmtKind,
 ) -> Result<Option<Span>, AllocError>
-    ensures first { IfOk result (λ at. at ≡ first_set_kind kind.now (around inside counters.old.items)) }
+    ensures first { let round = around inside counters.old.items in
+        IfOk result (λ at. at ≡ first_set_kind kind.now round) }
     ensures kept { OnOk result (counters.new.items ≡ counters.old.items) }
 {
     match kind {

@@ -69,7 +69,8 @@ fn assign(
     set: &mut IndexSet<Text>,
     it: Assigned,
 ) -> Result<Option<Span>, AllocError>
-    ensures { HasWalked result asked.now.keys (flow_of_assigned it.entry) set.old.keys set.new.keys }
+    ensures { let flow = flow_of_assigned it.entry in
+        HasWalked result asked.now.keys flow set.old.keys set.new.keys }
 {
     let right = in_right(alloc, asked, &*set, it.from)?;
     let test = in_condition(alloc, asked, &*set, it.cond)?;

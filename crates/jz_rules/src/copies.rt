@@ -114,7 +114,8 @@ fn add_passed<'a>(
     number: usize,
     arg: &'a Expr,
 ) -> Result<(), AllocError>
-    ensures { OnOk result (map passed_of list.new.items ≡ map passed_of list.old.items ++ passed_at number (array_of arg.now)) }
+    ensures { let more = passed_at number (array_of arg.now) in
+        OnOk result (map passed_of list.new.items ≡ map passed_of list.old.items ++ more) }
 {
     if let Some(array) = array_of(arg) {
         list.push(Argument { number, array })?;
@@ -142,14 +143,16 @@ pub(crate) fn is_written_at(callee: &Callee, number: usize) -> bool
 }
 
 fn not_back(callee: &Callee, back: &Numbers, passed: &Argument<'_>) -> Option<Span>
-    ensures { (ns : List ℕ) → HasNumbers back.now ns → result ≡ earliest (not_back callee.now.written ns (passed_of passed.now)) }
+    ensures { (ns : List ℕ) → HasNumbers back.now ns
+        → result ≡ earliest (not_back callee.now.written ns (passed_of passed.now)) }
 {
     let fine = !is_written_at(callee, passed.number) || back.has(passed.number);
     unless(fine, passed.array.span)
 }
 
 fn not_back_among(callee: &Callee, back: &Numbers, passed: &[Argument<'_>]) -> Option<Span>
-    ensures { (ns : List ℕ) → HasNumbers back.now ns → result ≡ first_in (not_back callee.now.written ns) (map passed_of passed.now) }
+    ensures { (ns : List ℕ) → HasNumbers back.now ns
+        → result ≡ first_in (not_back callee.now.written ns) (map passed_of passed.now) }
 {
     let mut first = None;
     for one in passed {
@@ -164,7 +167,8 @@ fn passed_wrongly(
     results: &[Pair<'_, Option<usize>, Lval>],
     args: &Seq<Expr>,
 ) -> Result<Option<Span>, AllocError>
-    ensures { (to : List Lval) → map pair_of results.now ≡ given callee.now to → IfOk result (λ at. at ≡ earliest (passed_wrongly callee.now to args.now)) }
+    ensures { (to : List Lval) → map pair_of results.now ≡ given callee.now to
+        → IfOk result (λ at. at ≡ earliest (passed_wrongly callee.now to args.now)) }
 {
     let passed = passed(alloc, args)?;
     let numbers = numbers_back(alloc, args, results)?;
@@ -180,7 +184,8 @@ fn wrong_arguments(
     results: &[Pair<'_, Option<usize>, Lval>],
     args: &Seq<Expr>,
 ) -> Result<Option<Span>, AllocError>
-    ensures { (to : List Lval) → map pair_of results.now ≡ given callee.now to → IfOk result (λ at. at ≡ earliest (wrong_arguments callee.now to args.now)) }
+    ensures { (to : List Lval) → map pair_of results.now ≡ given callee.now to
+        → IfOk result (λ at. at ≡ earliest (wrong_arguments callee.now to args.now)) }
 {
     if is_exported(callee.kind) {
         Ok(array_args(args))
@@ -208,7 +213,8 @@ fn copied_by_call(
     to: &Seq<Lval>,
     args: &Seq<Expr>,
 ) -> Result<Option<Span>, AllocError>
-    ensures { IfOk result (λ at. at ≡ earliest (copied_by_call (option_copied callee.entry) to.now args.now)) }
+    ensures { IfOk result
+        (λ at. at ≡ earliest (copied_by_call (option_copied callee.entry) to.now args.now)) }
 {
     match callee {
         None => Ok(None),
@@ -232,7 +238,8 @@ pub fn copied(
     callee: Option<&Callee>,
     stmt: &Stmt,
 ) -> Result<Option<Span>, AllocError>
-    ensures { IfOk result (λ at. at ≡ earliest (copied (option_copied callee.entry) (layer_of stmt.now))) }
+    ensures { IfOk result
+        (λ at. at ≡ earliest (copied (option_copied callee.entry) (layer_of stmt.now))) }
 {
     let StmtKind::Assign {
         to,

@@ -150,7 +150,8 @@ fn has_copies_of_call(
     to: &Seq<Lval>,
     args: &Seq<Expr>,
 ) -> Result<bool, AllocError>
-    ensures { IfOk result (λ fine. fine ≡ has_copies_of_call (option_copied callee.entry) to.now args.now) }
+    ensures { IfOk result
+        (λ fine. fine ≡ has_copies_of_call (option_copied callee.entry) to.now args.now) }
 {
     let Some(callee) = callee else {
         return Ok(true);
@@ -161,7 +162,8 @@ fn has_copies_of_call(
 }
 
 fn has_copies(alloc: Global, callee: Option<&Callee>, stmt: &Stmt) -> Result<bool, AllocError>
-    ensures { IfOk result (λ fine. fine ≡ has_copies (option_copied callee.entry) (layer_of stmt.now)) }
+    ensures { IfOk result
+        (λ fine. fine ≡ has_copies (option_copied callee.entry) (layer_of stmt.now)) }
 {
     match &stmt.kind {
         StmtKind::Assign {
@@ -189,7 +191,8 @@ pub fn unmatched(
     others: bool,
     stmt: &Stmt,
 ) -> Result<Option<Span>, AllocError>
-    ensures { IfOk result (λ at. at ≡ earliest (unmatched (option_copied callee.entry) others stmt.now)) }
+    ensures { IfOk result
+        (λ at. at ≡ earliest (unmatched (option_copied callee.entry) others stmt.now)) }
 {
     if others {
         return Ok(None);

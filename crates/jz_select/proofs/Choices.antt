@@ -1,4 +1,5 @@
--- A statement that has a row with the hardest answers has it with all, and the hardest answers are answers.
+-- A statement that has a row with the hardest answers has it with all, and the hardest answers are
+-- answers.
 use Rattle.std.proofs.Common.{◌≡◌, Bool, true, false, ◌&&◌, ◌||◌, not, List, [], ◌∷◌, Option, Some, None, refl, sym, ap, ◌∙◌, inl, inr}
 use Rattle.std.specs.Prelude.{◌⊎◌, if◌then◌else◌}
 use Rattle.jz_tree.specs.declared.expr.BinOp.{BinOp}

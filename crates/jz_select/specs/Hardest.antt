@@ -1,4 +1,5 @@
--- The answers with which a row is hardest to match: where one matches with these, one matches with all.
+-- The answers with which a row is hardest to match: where one matches with these, one matches with
+-- all.
 use Rattle.std.specs.Prelude.{Bool, true, false, not, Option, Some, None, if◌then◌else◌}
 use Rattle.jz_tree.specs.declared.expr.Expr.{Expr}
 use Rattle.jz_tree.specs.declared.expr.Expr.TheOpen.{Expr-F}

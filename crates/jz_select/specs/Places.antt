@@ -18,7 +18,8 @@ abbrev pub Layer : Type 0
 Layer = Expr-F Expr Ty Access Decl Var
 
 -- ---- comparisons of indices
--- an answer to each comparison of an index of the destination with an index of an operand that is open
+-- an answer to each comparison of an index of the destination with an index of an operand that is
+-- open
 abbrev pub Answers : Type 0
 Answers = Tree → Tree → Bool
 
@@ -26,7 +27,8 @@ abbrev pub is_number : Tree → Bool
 is_number (Number n) = true
 is_number _ = false
 
--- two cells of one array are one cell: their indices are equal, or the answer says so; two values that differ are two
+-- two cells of one array are one cell: their indices are equal, or the answer says so; two values
+-- that differ are two
 abbrev pub one_cell : Answers → Tree → Tree → Bool
 one_cell answers x y = tree_eq x y || (not (is_number x && is_number y) && answers x y)
 
@@ -93,5 +95,6 @@ store_layer_meets at _ = meeting.Apart
 abbrev pub meeting_of : Answers → Lval → Expr → Meeting
 meeting_of answers (lval.Skip at) e = meeting.Apart
 meeting_of answers (lval.Var v) e = var_layer_meets answers (named v) e (out-Expr e)
-meeting_of answers (lval.Cell v k) e = cell_layer_meets answers (named v) (index_of k) e (out-Expr e)
+meeting_of answers (lval.Cell v k) e =
+    cell_layer_meets answers (named v) (index_of k) e (out-Expr e)
 meeting_of answers (lval.Store a) e = store_layer_meets (tree_of (out-Access a).at) (out-Expr e)

@@ -20,9 +20,11 @@ Row = Pattern × (Shape → Bool)
 
 -- the rows of the pattern table in their order, then the conditions of `if` and `while`
 abbrev pub operations : List Row
-operations = (pattern.P 2, p2) ∷ (pattern.P 3, p3) ∷ (pattern.P 4, p4) ∷ (pattern.P 5, p5) ∷ (pattern.P 6, p6) ∷ (pattern.P 7, p7)
-    ∷ (pattern.P 8, p8) ∷ (pattern.P 9, p9) ∷ (pattern.P 10, p10) ∷ (pattern.P 11, p11) ∷ (pattern.P 12, p12) ∷ (pattern.P 13, p13)
-    ∷ (pattern.P 14, p14) ∷ (pattern.Condition, condition) ∷ []
+operations =
+    (pattern.P 2, p2) ∷ (pattern.P 3, p3) ∷ (pattern.P 4, p4) ∷ (pattern.P 5, p5) ∷ (pattern.P 6, p6)
+    ∷ (pattern.P 7, p7) ∷ (pattern.P 8, p8) ∷ (pattern.P 9, p9) ∷ (pattern.P 10, p10)
+    ∷ (pattern.P 11, p11) ∷ (pattern.P 12, p12) ∷ (pattern.P 13, p13) ∷ (pattern.P 14, p14)
+    ∷ (pattern.Condition, condition) ∷ []
 
 abbrev pub table : List Row
 table = (pattern.P 1, p1) ∷ operations
@@ -58,9 +60,10 @@ is_named n None = false
 is_named n (Some m) = nat_eq (number_of n) (number_of m)
 
 abbrev pub intrinsics : List Intrinsic
-intrinsics = name.Add ∷ name.Sub ∷ name.And ∷ name.Or ∷ name.Xor ∷ name.Adc ∷ name.Sbb ∷ name.Neg ∷ name.Inc ∷ name.Dec ∷ name.Not
-    ∷ name.Bswap ∷ name.Lea ∷ name.Cmp ∷ name.Test ∷ name.Shl ∷ name.Shr ∷ name.Sar ∷ name.Rol ∷ name.Ror ∷ name.Imul ∷ name.Mul
-    ∷ name.Div ∷ name.Setcc ∷ []
+intrinsics =
+    name.Add ∷ name.Sub ∷ name.And ∷ name.Or ∷ name.Xor ∷ name.Adc ∷ name.Sbb ∷ name.Neg ∷ name.Inc
+    ∷ name.Dec ∷ name.Not ∷ name.Bswap ∷ name.Lea ∷ name.Cmp ∷ name.Test ∷ name.Shl ∷ name.Shr
+    ∷ name.Sar ∷ name.Rol ∷ name.Ror ∷ name.Imul ∷ name.Mul ∷ name.Div ∷ name.Setcc ∷ []
 
 -- an intrinsic as a row
 abbrev pub intrinsic_row : Intrinsic → Row
@@ -83,8 +86,8 @@ abbrev pub Tells : List Row → Shape → Option Pattern → Type 0
 Tells rs s None = NoneMatches rs s
 Tells rs s (Some p) = (r : Row) × (r.0 ≡ p) × FirstMatches rs s r
 
--- whichever way the open comparisons go, the statement matches the row of that pattern, and no row before it; or there are
--- answers with which it matches none
+-- whichever way the open comparisons go, the statement matches the row of that pattern, and no row
+-- before it; or there are answers with which it matches none
 abbrev pub TellsAll : (Answers → Shape) → Option Pattern → Type 0
 TellsAll shape None = (answers : Answers) × NoneMatches rows (shape answers)
 TellsAll shape (Some p) = (answers : Answers) → Tells rows (shape answers) (Some p)

@@ -3,7 +3,6 @@ use Rattle.std.specs.Prelude.{ℕ, ℤ, Bool, true, false, ◌&&◌, not, nat_eq
 use Rattle.std.specs.Ordering.{int_eq}
 use Rattle.std.specs.Str.{bytes_eq}
 use Rattle.jz_words.specs.declared.size.Size.{Size}
-use Rattle.jz_words.specs.Sizes.{bits_of}
 use Rattle.jz_tree.specs.declared.expr.BinOp.{BinOp}
 use Rattle.jz_tree.specs.declared.expr.BinOp.TheVariants as op
 use Rattle.jz_tree.specs.declared.expr.Expr.{Expr}
@@ -12,6 +11,7 @@ use Rattle.jz_tree.specs.declared.expr.Expr.TheOpen.{Expr-F}
 use Rattle.jz_tree.specs.declared.expr.Expr.TheViews.{out-Var}
 use Rattle.jz_tree.specs.declared.expr.Expr.TheFolds.{fold-Expr}
 use Rattle.jz_integers.specs.Integers.{written_number}
+use Rattle.jz_scopes.specs.Kinds.{same_size}
 
 -- ---- one variable: the same name, copy and cell, wherever it stands
 abbrev pub Named : Type 0
@@ -103,8 +103,9 @@ tree_eq (CellOf v j) (CellOf w k) = names_eq v w && tree_eq j k
 tree_eq (Loaded a) (Loaded b) = tree_eq a b
 tree_eq (Minus a) (Minus b) = tree_eq a b
 tree_eq (Opposite a) (Opposite b) = tree_eq a b
-tree_eq (CastTo z s a) (CastTo y t b) = nat_eq (bits_of z) (bits_of y) && (bool_eq s t && tree_eq a b)
-tree_eq (Both o a b) (Both p c d) = nat_eq (number_of o) (number_of p) && (tree_eq b d && tree_eq a c)
+tree_eq (CastTo z s a) (CastTo y t b) = same_size z y && (bool_eq s t && tree_eq a b)
+tree_eq (Both o a b) (Both p c d) =
+    nat_eq (number_of o) (number_of p) && (tree_eq b d && tree_eq a c)
 tree_eq _ _ = false
 
 -- the same of indices, by their values and their trees

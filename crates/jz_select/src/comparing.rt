@@ -1,7 +1,6 @@
 //! Whether expressions are equal but for where they stand, and whether two indices are one.
 
-ghost use Rattle.std.specs.Prelude.{◌≡◌, nat_eq, is_some};
-ghost use Rattle.jz_words.specs.Sizes.{bits_of};
+ghost use Rattle.std.specs.Prelude.{◌≡◌, is_some};
 ghost use Rattle.jz_integers.specs.Integers.{written_number as written};
 ghost use Rattle.jz_tree.specs.declared.expr.Expr.{Expr};
 ghost use Rattle.jz_select.specs.Trees.{named, names_eq, cell_eq, number_of, bool_eq, tree_of};
@@ -9,8 +8,8 @@ ghost use Rattle.jz_select.specs.Trees.{tree_eq, index_of, indices_eq};
 ghost use Rattle.jz_select.specs.Places.{is_number};
 
 use jz_integers::written_number;
+use jz_scopes::same_size;
 use jz_tree::{BinOp, Expr, Var};
-use jz_words::Size;
 
 fn same_cell(a: Option<u32>, b: Option<u32>) -> bool
     ensures { result ≡ cell_eq a b }
@@ -35,12 +34,6 @@ fn same_truth(a: bool, b: bool) -> bool
     ensures { result ≡ bool_eq a b }
 {
     if a { b } else { !b }
-}
-
-fn same_size(a: Size, b: Size) -> bool
-    ensures { result ≡ nat_eq (bits_of a) (bits_of b) }
-{
-    a.bits() == b.bits()
 }
 
 fn number(op: BinOp) -> u8

@@ -3,21 +3,15 @@
 ghost use Rattle.std.specs.Prelude.{◌≡◌, ◌≤◌, IfSome, IsSome};
 ghost use Rattle.jz_words.specs.Sizes.{bits_of};
 ghost use Rattle.jz_words.specs.Words.{residue as residue_of};
-ghost use Rattle.jz_select.specs.Immediates.{reading_of, held_of, immediate_of};
+ghost use Rattle.jz_select.specs.Immediates.{if_short, immediate_of};
 
-use jz_words::{Size, residue};
-
-fn reading(size: Size, number: i128) -> i128
-    ensures { result ≡ reading_of size number }
-{
-    residue(size, number).signed()
-}
+use jz_words::{Size, fits_four_bytes, reading};
 
 /// The number, where 32 bits with a sign hold it.
-fn held(number: i128) -> Option<i32>
-    ensures { result ≡ held_of number }
+fn if_short(number: i128) -> Option<i32>
+    ensures { result ≡ if_short number }
 {
-    if -(1 << 31) <= number && number < 1 << 31 {
+    if fits_four_bytes(number) {
         Some(number as i32)
     } else {
         None
@@ -34,5 +28,5 @@ pub fn immediate(size: Size, number: i128) -> Option<i32>
     ensures word { IfSome result (λ k. residue_of size k ≡ residue_of size number) }
     ensures some { bits_of size ≤ 32 → IsSome result }
 {
-    held(reading(size, number))
+    if_short(reading(size, number))
 }

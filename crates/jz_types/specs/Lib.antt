@@ -5,3 +5,4 @@ pub mod Asking
 pub mod TypedPrograms
 pub mod Guarantees
 pub mod Carried
+pub mod InnerFunctions

@@ -72,7 +72,7 @@ fn firsts(text: OfText, declared: OfDeclared, ranking: &Ranking) -> Firsts
 pub fn check(alloc: Global, program: Program) -> Result<Typed, Failure<TypeFault>>
     ensures typed { IfOk result (λ typed. IsTyped program) }
     ensures resolved { IfOk result (λ typed. typed.program ≡ resolved program) }
-    ensures fault { IfErr result (λ failure. IfRefused failure (λ fault. IsFirstTypeFault program fault)) }
+    ensures fault { IfErr result (λ failure. IfRefused failure (IsFirstTypeFault program)) }
 {
     let text = of_text(alloc, &program)?;
     let program = resolve(alloc, program)?;

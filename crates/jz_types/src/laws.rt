@@ -9,12 +9,14 @@ ghost use Rattle.jz_types.specs.Carried.{CarryingLaw, KnownLaw};
 
 /// A program has one first fault at most.
 pub fn one_fault()
-    ensures { (program : Program) (fault other : TypeFault) → IsFirstTypeFault program fault → IsFirstTypeFault program other → fault ≡ other }
+    ensures { (program : Program) (fault other : TypeFault)
+        → IsFirstTypeFault program fault → IsFirstTypeFault program other → fault ≡ other }
 {}
 
 /// A typed program has no fault.
 pub fn no_fault_of_a_typed()
-    ensures { (program : Program) (fault : TypeFault) → IsTyped program → IsFirstTypeFault program fault → ⊥ }
+    ensures { (program : Program) (fault : TypeFault)
+        → IsTyped program → IsFirstTypeFault program fault → ⊥ }
 {}
 
 /// In a typed program a row of the tables is selected for each statement that needs one, and for

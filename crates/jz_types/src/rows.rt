@@ -27,7 +27,9 @@ fn has_others(
     callee: Option<&Callee>,
     stmt: &Stmt,
 ) -> Result<bool, AllocError>
-    ensures { IfOk result (λ b. b ≡ is_some (earliest (others (place_in constants.now) (place_in variables.now) (function_in functions.now) (option_copied callee.entry) stmt.now))) }
+    ensures { let told = others (place_in constants.now) (place_in variables.now)
+        (function_in functions.now) (option_copied callee.entry) stmt.now in
+        IfOk result (λ b. b ≡ is_some (earliest told)) }
 {
     let unknown = unknown_of(alloc, constants, variables, functions, stmt)?;
     let repeated = repeated_of(alloc, stmt)?;
@@ -50,7 +52,10 @@ fn unmatched_at(
     callees: &Callees,
     stmt: &Stmt,
 ) -> Result<Option<Span>, AllocError>
-    ensures { (fs : List Fun) → HasCallees callees.now fs → IfOk result (λ at. at ≡ earliest (unmatched_at (place_in constants.now) (place_in variables.now) (function_in functions.now) fs stmt.now)) }
+    ensures { let wrong = unmatched_at (place_in constants.now) (place_in variables.now)
+        (function_in functions.now) in
+        (fs : List Fun) → HasCallees callees.now fs
+        → IfOk result (λ at. at ≡ earliest (wrong fs stmt.now)) }
 {
     let callee = callees.called(stmt);
     let others = has_others(alloc, constants, variables, functions, callee, stmt)?;
@@ -65,7 +70,10 @@ fn unmatched_in_body(
     callees: &Callees,
     body: &Seq<Stmt>,
 ) -> Result<Option<Span>, AllocError>
-    ensures { (fs : List Fun) → HasCallees callees.now fs → IfOk result (λ at. at ≡ first_in (unmatched_at (place_in constants.now) (place_in variables.now) (function_in functions.now) fs) (statements_of body.now)) }
+    ensures { let wrong = unmatched_at (place_in constants.now) (place_in variables.now)
+        (function_in functions.now) in
+        (fs : List Fun) → HasCallees callees.now fs
+        → IfOk result (λ at. at ≡ first_in (wrong fs) (statements_of body.now)) }
 {
     let mut first = None;
     for stmt in statements(alloc, body)? {
@@ -84,7 +92,10 @@ pub(crate) fn unmatched_in_fun(
     callees: &Callees,
     fun: &Fun,
 ) -> Result<Option<Span>, AllocError>
-    ensures { (fs : List Fun) → HasCallees callees.now fs → IfOk result (λ at. at ≡ earliest (unmatched_in_fun (place_in constants.now) (function_in functions.now) fs fun.now)) }
+    ensures { let constant = place_in constants.now in
+        let wrong = unmatched_in_fun constant (function_in functions.now) in
+        (fs : List Fun) → HasCallees callees.now fs
+        → IfOk result (λ at. at ≡ earliest (wrong fs fun.now)) }
 {
     let variables = Places::of_variables(alloc, fun)?;
     let first = unmatched_in_body(alloc, constants, &variables, functions, callees, &fun.body)?;
