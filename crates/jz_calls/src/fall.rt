@@ -2,8 +2,9 @@
 
 ghost use Rattle.std.specs.Prelude.{◌≡◌, ◌⊎◌, Some, length, IsTrue};
 ghost use Rattle.jz_io.specs.declared.span.Span.{Span};
-ghost use Rattle.jz_calls.specs.Numbers.{AreBelow, AreCalledBelow, Descends};
-ghost use Rattle.jz_calls.specs.Candidates.{IsNoLater, IsCandidate};
+ghost use Rattle.jz_calls.specs.Numbers.{AreBelow};
+ghost use Rattle.jz_calls.specs.InnerNumbers.{AreCalledBelow, Descends};
+ghost use Rattle.jz_calls.specs.InnerCandidates.{IsNoLater, IsCandidate};
 
 use crate::reaching::calls_of;
 use jz_data::Seq;

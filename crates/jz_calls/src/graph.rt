@@ -2,8 +2,8 @@
 
 ghost use Rattle.std.specs.Prelude.{◌≡◌, ◌++◌, List, IfOk, OnOk};
 ghost use Rattle.jz_tree.specs.declared.program.Fun.{Fun};
-ghost use Rattle.jz_calls.specs.Numbers.{numbers_by, numbers_called, graph_of};
-ghost use Rattle.jz_calls.specs.Tables.{IsNumbers};
+ghost use Rattle.jz_calls.specs.InnerNumbers.{numbers_by, numbers_called, graph_of};
+ghost use Rattle.jz_calls.specs.InnerTables.{IsNumbers};
 
 use crate::numbers::Numbers;
 use jz_data::Seq;

@@ -2,7 +2,7 @@
 
 ghost use Rattle.std.specs.Prelude.{◌≡◌, [], ◌∷◌, ◌++◌, List, length, IfOk, OnOk};
 ghost use Rattle.jz_tree.specs.declared.program.Fun.{Fun};
-ghost use Rattle.jz_calls.specs.Tables.{IsNumbers, number_in};
+ghost use Rattle.jz_calls.specs.InnerTables.{IsNumbers, number_in};
 
 use indexmap::IndexMap;
 use jz_data::{Seq, Text};

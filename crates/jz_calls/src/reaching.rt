@@ -1,8 +1,8 @@
 //! Which functions a function reaches.
 
 ghost use Rattle.std.specs.Prelude.{◌≡◌, ◌∷◌, [], ℕ, ◌<◌, length, OnOk, IfOk};
-ghost use Rattle.jz_calls.specs.Numbers.{Has, row_of, IsClosed, Consistent, IsFound};
-ghost use Rattle.jz_calls.specs.Visits.{HasVisited};
+ghost use Rattle.jz_calls.specs.InnerNumbers.{Has, row_of, IsClosed, Consistent, IsFound};
+ghost use Rattle.jz_calls.specs.InnerVisits.{HasVisited};
 
 use jz_data::Seq;
 use std::alloc::{AllocError, Global};

@@ -2,8 +2,8 @@
 
 ghost use Rattle.std.specs.Prelude.{◌≡◌, Some, IfOk};
 ghost use Rattle.jz_io.specs.declared.span.Span.{Span};
-ghost use Rattle.jz_calls.specs.Numbers.{graph_of};
-ghost use Rattle.jz_calls.specs.Candidates.{Stands, IsNoLater};
+ghost use Rattle.jz_calls.specs.InnerNumbers.{graph_of};
+ghost use Rattle.jz_calls.specs.InnerCandidates.{Stands, IsNoLater};
 ghost use Rattle.jz_calls.specs.Recursion.{IsRecursive, Tells, recursive_of};
 
 use crate::fall::{Candidate, descends, first_level};

@@ -11,9 +11,8 @@ use Rattle.jz_tree.specs.declared.stmt.Lval.TheVariants as lval
 use Rattle.jz_tree.specs.declared.stmt.Rhs.{Rhs}
 use Rattle.jz_tree.specs.declared.stmt.Rhs.TheVariants as rhs
 use Rattle.jz_tree.specs.declared.stmt.Stmt.{Stmt}
-use Rattle.jz_tree.specs.declared.stmt.StmtKind.{StmtKind}
 use Rattle.jz_tree.specs.declared.stmt.StmtKind.TheOpen.{StmtKind-F}
-use Rattle.jz_tree.specs.declared.stmt.StmtKind.TheFolds.{fold-Stmt, fold-StmtKind}
+use Rattle.jz_tree.specs.declared.stmt.StmtKind.TheFolds.{fold-Stmt}
 use Rattle.jz_tree.specs.declared.program.Program.{Program}
 use Rattle.jz_tree.specs.declared.program.Fun.{Fun}
 use Rattle.jz_scopes.specs.Scopes.{Name, name_of, variable_named}
@@ -130,9 +129,6 @@ flow_step (StmtKind-F.Mark vs) = Skip
 
 abbrev pub flow_of : Stmt → Flow
 flow_of = fold-Stmt Flow Flow flow_step (λ s. s.kind)
-
-abbrev pub flow_of_kind : StmtKind → Flow
-flow_of_kind = fold-StmtKind Flow Flow flow_step (λ s. s.kind)
 
 abbrev pub flow_of_all : List Stmt → Flow
 flow_of_all ss = in_turn (map flow_of ss)

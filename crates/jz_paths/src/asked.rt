@@ -3,7 +3,7 @@
 ghost use Rattle.std.specs.Prelude.{◌≡◌, IfOk, map, filter, not};
 ghost use Rattle.jz_scopes.specs.Order.{IsEarliest};
 ghost use Rattle.jz_paths.specs.Paths.{inline_vars, has_to_be_set, IsReadUnset};
-ghost use Rattle.jz_paths.specs.Walks.{members, text_of, text_of_param};
+ghost use Rattle.jz_paths.specs.InnerWalks.{members, text_of, text_of_param};
 
 use crate::sets::{add_all, has};
 use crate::walk::walk_all;

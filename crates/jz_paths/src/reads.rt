@@ -5,8 +5,8 @@ ghost use Rattle.jz_scopes.specs.Scopes.{name_of};
 ghost use Rattle.jz_scopes.specs.Lent.{these};
 ghost use Rattle.jz_paths.specs.Paths.{reading, reading_expr, reading_all, reading_right};
 ghost use Rattle.jz_paths.specs.Paths.{reading_condition, reading_lefts, reading_left, reading_old};
-ghost use Rattle.jz_paths.specs.Surely.{missing};
-ghost use Rattle.jz_paths.specs.Walks.{members, unset_read, FindsUnset};
+ghost use Rattle.jz_paths.specs.InnerSurely.{missing};
+ghost use Rattle.jz_paths.specs.InnerWalks.{members, unset_read, FindsUnset};
 
 use crate::sets::has;
 use indexmap::IndexSet;

@@ -6,7 +6,7 @@ ghost use Rattle.std.specs.List.{list_any};
 ghost use Rattle.std.specs.Str.{bytes_eq};
 ghost use Rattle.jz_scopes.specs.Order.{earliest};
 ghost use Rattle.jz_paths.specs.Settings.{around, may_set, wrongly_set_in};
-ghost use Rattle.jz_paths.specs.FirstSet.{first_left, first_lefts, first_set_all, first_set_kind};
+ghost use Rattle.jz_paths.specs.InnerFirstSet.{first_left, first_lefts, first_set_all, first_set_kind};
 
 use jz_data::{Seq, Text};
 use jz_io::Span;

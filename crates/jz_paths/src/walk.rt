@@ -1,8 +1,9 @@
 //! Which names a walk over statements surely sets, and its earliest read of one that is not.
 
 ghost use Rattle.std.specs.Prelude.{◌≡◌, ◌++◌, IfOk, OnOk};
-ghost use Rattle.jz_paths.specs.Paths.{setting, setting_all, turns_of, flow_of_kind, flow_of_all};
-ghost use Rattle.jz_paths.specs.Walks.{members, Walks, HasWalked, flow_of_assigned};
+ghost use Rattle.jz_paths.specs.Paths.{setting, setting_all, turns_of, flow_of_all};
+ghost use Rattle.jz_paths.specs.InnerWalks.{flow_of_kind};
+ghost use Rattle.jz_paths.specs.InnerWalks.{members, Walks, HasWalked, flow_of_assigned};
 
 use crate::reads::{in_condition, in_expr, in_old, in_right};
 use crate::sets::{join, put};

@@ -8,7 +8,8 @@ ghost use Rattle.jz_scopes.specs.Parts.{layer_of, set_by};
 ghost use Rattle.jz_rules.specs.Callees.{place_among, text_of, name_of_param, set_in};
 ghost use Rattle.jz_rules.specs.Callees.{names_set, is_written, of_callee, entered_by, left_by};
 ghost use Rattle.jz_rules.specs.Callees.{callee_of, callee_by};
-ghost use Rattle.jz_rules.specs.Tables.{HasNames, HasPlaces, HasCallees};
+ghost use Rattle.jz_rules.specs.Tables.{HasCallees};
+ghost use Rattle.jz_rules.specs.InnerTables.{HasNames, HasPlaces};
 
 use crate::tables::{Names, add_place, place};
 use jz_data::Seq;

@@ -6,7 +6,7 @@ ghost use Rattle.std.specs.Option.{option_copied};
 ghost use Rattle.jz_tree.specs.declared.stmt.StmtKind.TheViews.{out-StmtKind};
 ghost use Rattle.jz_scopes.specs.Order.{earliest};
 ghost use Rattle.jz_scopes.specs.Parts.{layer_of};
-ghost use Rattle.jz_rules.specs.Pairs.{pair_of};
+ghost use Rattle.jz_rules.specs.InnerPairs.{pair_of};
 ghost use Rattle.jz_rules.specs.Matching.{is_set_inline, may_be_inline, sets_inline, needs_row};
 ghost use Rattle.jz_rules.specs.Matching.{has_row, has_copy, is_word_left, is_word_value, is_skip};
 ghost use Rattle.jz_rules.specs.Matching.{enters, leaves, has_copies_of_call, has_copies, has_rows};

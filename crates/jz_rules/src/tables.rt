@@ -4,7 +4,7 @@ ghost use Rattle.std.specs.Prelude.{◌≡◌, ℕ, nat_eq, [], ◌∷◌, ◌++
 ghost use Rattle.std.specs.List.{list_any};
 ghost use Rattle.std.specs.Str.{bytes_eq};
 ghost use Rattle.jz_rules.specs.Callees.{place_of};
-ghost use Rattle.jz_rules.specs.Tables.{HasNames, HasNumbers, HasPlaces};
+ghost use Rattle.jz_rules.specs.InnerTables.{HasNames, HasNumbers, HasPlaces};
 
 use indexmap::IndexSet;
 use jz_data::Text;

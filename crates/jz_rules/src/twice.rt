@@ -4,8 +4,8 @@ ghost use Rattle.std.specs.Prelude.{◌≡◌, [], ◌∷◌, ◌++◌, Bool, Li
 ghost use Rattle.std.specs.List.{list_any};
 ghost use Rattle.jz_scopes.specs.Order.{earliest, unless};
 ghost use Rattle.jz_rules.specs.Copies.{Passed, is_written_at, span_of_var, is_twice, passed_twice};
-ghost use Rattle.jz_rules.specs.Passing.{passed_of};
-ghost use Rattle.jz_rules.specs.Tables.{HasSeen};
+ghost use Rattle.jz_rules.specs.InnerPassing.{passed_of};
+ghost use Rattle.jz_rules.specs.InnerTables.{HasSeen};
 
 use crate::callee::Callee;
 use crate::copies::{Argument, is_written_at};

@@ -10,7 +10,8 @@ use Rattle.jz_tree.specs.declared.expr.Var.{Var}
 use Rattle.jz_io.specs.declared.span.Span.{Span}
 use Rattle.jz_integers.specs.declared.constant.Constant.{Constant}
 use Rattle.jz_integers.specs.Integers.{value_step, the_number, written_number}
-use Rattle.jz_select.specs.Trees.{Named, Tree, Number, Truth, Name, CellOf, Loaded, Minus, Opposite, CastTo, Both, tree_step, tree_of, tree_eq, numbered, index_of, indices_eq}
+use Rattle.jz_select.specs.Trees.{Named, Tree, Number, Truth, Name, CellOf, Loaded, Minus, Opposite, CastTo, Both, tree_step, tree_of, tree_eq, numbered, index_of}
+use Rattle.jz_select.specs.InnerLayers.{indices_eq}
 use Rattle.jz_select.specs.Places.{Layer, is_number}
 
 abbrev var_named : Var → Named

@@ -57,19 +57,6 @@ unfoldable pub touches : Answers → Named → Option Tree → Expr → Bool
 touches answers d x = para-Expr Bool (Unit {0}) Bool (Unit {0}) (Unit {0}) (use_step answers d x)
     (λ t. tt) (λ a. a.at.1) (λ d. tt) (λ v. tt)
 
--- the same by the outermost layer
-abbrev pub touches_layer : Answers → Named → Option Tree → Layer → Bool
-touches_layer answers d x (Expr-F.Num n at) = false
-touches_layer answers d x (Expr-F.Expr::Bool b at) = false
-touches_layer answers d x (Expr-F.Var v) = names_eq (named v) d
-touches_layer answers d x (Expr-F.Cell v at) =
-    (names_eq (named v) d && same_index answers x (index_of at)) || touches answers d x at
-touches_layer answers d x (Expr-F.Load a) = touches answers d x (out-Access a).at
-touches_layer answers d x (Expr-F.Neg a at) = touches answers d x a
-touches_layer answers d x (Expr-F.Not a at) = touches answers d x a
-touches_layer answers d x (Expr-F.Cast z s a at) = touches answers d x a
-touches_layer answers d x (Expr-F.Bin o a b at) = touches answers d x b || touches answers d x a
-
 -- ---- how a destination and an operand meet
 abbrev pub elsewhere : Bool → Meeting
 elsewhere t = if t then meeting.Within else meeting.Apart

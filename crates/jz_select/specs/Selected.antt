@@ -108,9 +108,6 @@ abbrev pub first_of : List Row → Shape → Option Pattern
 first_of [] s = None
 first_of (r ∷ rs) s = if r.1 s then Some r.0 else first_of rs s
 
-abbrev pub row_if : ℕ → Bool → Option Pattern
-row_if n fits = if fits then Some (pattern.P n) else None
-
 abbrev pub named : Option Intrinsic → Option Pattern
 named None = None
 named (Some n) = Some (pattern.Intrinsic n)

@@ -86,18 +86,6 @@ unfoldable pub has_flags : Expr → Bool
 has_flags = para-Expr Bool (Unit {0}) (Unit {0}) (Unit {0}) (Unit {0}) flags_step
     (λ x. tt) (λ x. tt) (λ x. tt) (λ x. tt)
 
--- the same by the outermost layer
-abbrev pub flags_layer : Layer → Bool
-flags_layer (Expr-F.Num n at) = false
-flags_layer (Expr-F.Expr::Bool b at) = false
-flags_layer (Expr-F.Var v) = is_flag (var_class (known_of v))
-flags_layer (Expr-F.Cell v at) = false
-flags_layer (Expr-F.Load a) = false
-flags_layer (Expr-F.Neg a at) = false
-flags_layer (Expr-F.Not a at) = has_flags a
-flags_layer (Expr-F.Cast size signed a at) = false
-flags_layer (Expr-F.Bin o a b at) = compares o (class_of a) (class_of b)
-
 -- of an `if` or `while`: also an inline condition
 abbrev pub is_test : Expr → Bool
 is_test c = has_flags c || (look_of c).condition

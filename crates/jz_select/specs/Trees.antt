@@ -107,9 +107,3 @@ tree_eq (CastTo z s a) (CastTo y t b) = same_size z y && (bool_eq s t && tree_eq
 tree_eq (Both o a b) (Both p c d) =
     nat_eq (number_of o) (number_of p) && (tree_eq b d && tree_eq a c)
 tree_eq _ _ = false
-
--- the same of indices, by their values and their trees
-abbrev pub indices_eq : Option ℤ → Option ℤ → Bool → Bool
-indices_eq None None b = b
-indices_eq (Some m) (Some n) b = int_eq m n
-indices_eq _ _ b = false

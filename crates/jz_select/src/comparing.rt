@@ -4,7 +4,8 @@ ghost use Rattle.std.specs.Prelude.{◌≡◌, is_some};
 ghost use Rattle.jz_integers.specs.Integers.{written_number as written};
 ghost use Rattle.jz_tree.specs.declared.expr.Expr.{Expr};
 ghost use Rattle.jz_select.specs.Trees.{named, names_eq, cell_eq, number_of, bool_eq, tree_of};
-ghost use Rattle.jz_select.specs.Trees.{tree_eq, index_of, indices_eq};
+ghost use Rattle.jz_select.specs.Trees.{tree_eq, index_of};
+ghost use Rattle.jz_select.specs.InnerLayers.{indices_eq};
 ghost use Rattle.jz_select.specs.Places.{is_number};
 
 use jz_integers::written_number;

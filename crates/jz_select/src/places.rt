@@ -6,10 +6,12 @@ ghost use Rattle.jz_tree.specs.declared.expr.Expr.TheViews.{out-Expr};
 ghost use Rattle.jz_select.specs.Trees.{Named, Tree, named, tree_of, index_of};
 ghost use Rattle.jz_select.specs.Places.{Answers, one_cell as one_cell_is};
 ghost use Rattle.jz_select.specs.Places.{same_index as same_index_is, touches as touches_is};
-ghost use Rattle.jz_select.specs.Places.{touches_layer, elsewhere as elsewhere_is};
+ghost use Rattle.jz_select.specs.Places.{elsewhere as elsewhere_is};
+ghost use Rattle.jz_select.specs.InnerLayers.{touches_layer};
 ghost use Rattle.jz_select.specs.Places.{one_or_apart as one_or_apart_is, var_layer_meets};
 ghost use Rattle.jz_select.specs.Places.{cell_layer_meets, store_layer_meets, meeting_of};
-ghost use Rattle.jz_select.specs.Hardest.{index_if, guess, cell_index as cell_index_of};
+ghost use Rattle.jz_select.specs.Hardest.{guess, cell_index as cell_index_of};
+ghost use Rattle.jz_select.specs.InnerLayers.{index_if};
 ghost use Rattle.jz_select.specs.Hardest.{first_index as first_index_of, in_memory as in_memory_is};
 ghost use Rattle.jz_select.specs.Hardest.{hardest};
 

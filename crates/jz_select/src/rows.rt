@@ -16,7 +16,8 @@ ghost use Rattle.jz_select.specs.Rows.{one_fits as one_fits_is, two_fits as two_
 ghost use Rattle.jz_select.specs.Rows.{three_fits as three_fits_is};
 ghost use Rattle.jz_select.specs.Rows.{divides_long as divides_long_is, sets as sets_is, sums};
 ghost use Rattle.jz_select.specs.Rows.{is_quotient, named_if, intrinsic_of};
-ghost use Rattle.jz_select.specs.Selected.{table, operations, first_of, row_if, chosen};
+ghost use Rattle.jz_select.specs.Selected.{table, operations, first_of, chosen};
+ghost use Rattle.jz_select.specs.InnerLayers.{row_if};
 
 use crate::class::{Class, Mask, Meeting, Operand};
 use crate::pattern::Pattern;

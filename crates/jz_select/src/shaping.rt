@@ -8,7 +8,8 @@ ghost use Rattle.jz_select.specs.Shapes.{first_of as first_of_is, carries as car
 ghost use Rattle.jz_select.specs.Shapes.{carry_layer, two_beside, value_layer, itself as itself_of};
 ghost use Rattle.jz_select.specs.Shapes.{update_layer, beside, assign_of};
 ghost use Rattle.jz_select.specs.Shapes.{value_shape as value_shape_of, compares as compares_is};
-ghost use Rattle.jz_select.specs.Shapes.{has_flags, flags_layer, is_test};
+ghost use Rattle.jz_select.specs.Shapes.{has_flags, is_test};
+ghost use Rattle.jz_select.specs.InnerLayers.{flags_layer};
 ghost use Rattle.jz_select.specs.Shapes.{conditional as conditional_of, leads as leads_is};
 ghost use Rattle.jz_select.specs.Shapes.{four_lead, five_lead, value_behind as value_behind_of};
 ghost use Rattle.jz_select.specs.Shapes.{one_shape as one_shape_of, two_shape as two_shape_of};

@@ -4,7 +4,7 @@ ghost use Rattle.std.specs.Prelude.{◌≡◌, IfOk, IfErr};
 ghost use Rattle.jz_data.specs.Failures.{IfRefused};
 ghost use Rattle.jz_tree.specs.declared.program.Program.{Program};
 ghost use Rattle.jz_resolve.specs.Programs.{resolved};
-ghost use Rattle.jz_types.specs.Asking.{AreOfText, AreOfDeclared, firsts_of};
+ghost use Rattle.jz_types.specs.InnerAsking.{AreOfText, AreOfDeclared, firsts_of};
 ghost use Rattle.jz_types.specs.Rules.{IsTyped, IsFirstTypeFault};
 
 use crate::fault::{Firsts, TypeFault, first_told};

@@ -1,7 +1,8 @@
 //! Why a program is refused, and which of several faults is told.
 
 ghost use Rattle.std.specs.Prelude.{◌≡◌};
-ghost use Rattle.jz_types.specs.Faults.{number_of, told_of, first_told};
+ghost use Rattle.jz_types.specs.Faults.{number_of};
+ghost use Rattle.jz_types.specs.InnerFaults.{told_of, first_told};
 
 use jz_io::Span;
 use jz_scopes::is_before;

@@ -1,6 +1,6 @@
 use Rattle.std.proofs.Common.{◌≡◌, rules, not, map, filter, ap, ◌∙◌}
 use Rattle.jz_paths.specs.Paths.{inline_vars}
-use Rattle.jz_paths.specs.Walks.{members, text_of, text_of_param}
+use Rattle.jz_paths.specs.InnerWalks.{members, text_of, text_of_param}
 use Rattle.jz_paths.proofs.Asking.{asked_is}
 use Rattle.jz_paths.proofs.asked.asked.Goals as goal
 

@@ -1,6 +1,6 @@
 use Rattle.std.proofs.Common.{◌≡◌, ◌++◌, drop, map}
 use Rattle.jz_paths.specs.Paths.{inline_vars}
-use Rattle.jz_paths.specs.Walks.{text_of}
+use Rattle.jz_paths.specs.InnerWalks.{text_of}
 use Rattle.jz_paths.proofs.asked.inline_names.Given as goal
 
 abbrev pub invariant-loop-var : goal.invariant-loop-var

@@ -1,5 +1,5 @@
 use Rattle.std.proofs.Common.{◌≡◌, ◌++◌, drop, map}
-use Rattle.jz_paths.specs.Walks.{text_of_param}
+use Rattle.jz_paths.specs.InnerWalks.{text_of_param}
 use Rattle.jz_paths.proofs.asked.param_names.Given as goal
 
 abbrev pub invariant-loop-param : goal.invariant-loop-param

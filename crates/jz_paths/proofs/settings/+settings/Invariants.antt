@@ -1,7 +1,7 @@
 use Rattle.std.proofs.Common.{◌≡◌, drop}
 use Rattle.jz_scopes.specs.Order.{earlier}
 use Rattle.jz_paths.specs.Settings.{around}
-use Rattle.jz_paths.specs.FirstSet.{first_set_all}
+use Rattle.jz_paths.specs.InnerFirstSet.{first_set_all}
 use Rattle.jz_paths.proofs.settings.+settings.Given as goal
 
 abbrev pub invariant-set_in_all-loop-stmt : goal.invariant-set_in_all-loop-stmt

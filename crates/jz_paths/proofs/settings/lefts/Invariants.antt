@@ -1,7 +1,7 @@
 use Rattle.std.proofs.Common.{◌≡◌, drop}
 use Rattle.jz_scopes.specs.Order.{earlier}
 use Rattle.jz_paths.specs.Settings.{around}
-use Rattle.jz_paths.specs.FirstSet.{first_lefts}
+use Rattle.jz_paths.specs.InnerFirstSet.{first_lefts}
 use Rattle.jz_paths.proofs.settings.lefts.Given as goal
 
 abbrev pub invariant-loop-lval : goal.invariant-loop-lval

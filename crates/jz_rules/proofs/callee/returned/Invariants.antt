@@ -1,6 +1,6 @@
 use Rattle.std.proofs.Common.{◌≡◌, ℕ, List, ◌++◌, map, drop}
 use Rattle.jz_rules.specs.Callees.{place_among}
-use Rattle.jz_rules.specs.Tables.{HasPlaces}
+use Rattle.jz_rules.specs.InnerTables.{HasPlaces}
 use Rattle.jz_rules.proofs.callee.returned.Given as goal
 
 abbrev pub invariant-loop-var : goal.invariant-loop-var

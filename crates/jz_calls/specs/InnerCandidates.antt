@@ -5,7 +5,7 @@ use Rattle.jz_io.specs.declared.span.Span.{Span}
 use Rattle.jz_tree.specs.declared.program.Fun.{Fun}
 use Rattle.jz_scopes.specs.Order.{Before}
 use Rattle.jz_calls.specs.declared.fall.Candidate.{Candidate}
-use Rattle.jz_calls.specs.Numbers.{Has, row_of}
+use Rattle.jz_calls.specs.InnerNumbers.{Has, row_of}
 
 -- there is a candidate, which stands at that place or before
 abbrev pub IsNoLater : Option Candidate → Span → Type 0

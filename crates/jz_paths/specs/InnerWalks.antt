@@ -7,8 +7,10 @@ use Rattle.jz_tree.specs.declared.expr.Var.{Var}
 use Rattle.jz_tree.specs.declared.expr.Expr.TheViews.{out-Var}
 use Rattle.jz_tree.specs.declared.program.Param.{Param}
 use Rattle.jz_paths.specs.declared.walk.Assigned.{Assigned}
-use Rattle.jz_paths.specs.Paths.{Flow, assigning}
-use Rattle.jz_paths.specs.Surely.{Names, having, both, put, after, first}
+use Rattle.jz_paths.specs.Paths.{Flow, assigning, flow_step}
+use Rattle.jz_paths.specs.InnerSurely.{Names, having, both, put, after, first}
+use Rattle.jz_tree.specs.declared.stmt.StmtKind.{StmtKind}
+use Rattle.jz_tree.specs.declared.stmt.StmtKind.TheFolds.{fold-StmtKind}
 
 -- the names in a list
 unfoldable pub members : List (List ℕ) → Names
@@ -69,3 +71,6 @@ pub record AddsAll (old ms new : List (List ℕ)) : Type 0 where
 pub record Joins (start first second new : List (List ℕ)) : Type 0 where
   pub has : Grows start second → members new ≡ both (members (start ++ first)) (members second)
   pub grows : Grows start new
+
+abbrev pub flow_of_kind : StmtKind → Flow
+flow_of_kind = fold-StmtKind Flow Flow flow_step (λ s. s.kind)
