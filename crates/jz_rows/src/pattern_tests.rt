@@ -379,17 +379,25 @@ r1 r2 + | c0 | - | condition
 r1 | r2 | - | -
 ";
 
+fn move_told(rt: &impl Abort, alloc: Global, from: &str, cond: &str) -> Result<String, AllocError> {
+    let c = pop(rt, &mut exprs(rt, alloc, cond)?);
+    told(alloc, assignment(rt, alloc, ("r0", "=", from), Some(c))?)
+}
+
+fn test_told(rt: &impl Abort, alloc: Global, cond: &str) -> Result<String, AllocError> {
+    let c = pop(rt, &mut exprs(rt, alloc, cond)?);
+    let kind = StmtKind::If(c, Seq::new(alloc), Seq::new(alloc));
+    told(alloc, selected(alloc, kind))
+}
+
 fn condition_is(rt: &impl Abort, alloc: Global, line: &str) -> Result<(), AllocError> {
     let columns: Vec<&str> = line.split(" | ").collect(alloc)?;
     let [from, cond, moves, tests] = columns.as_slice() else {
         panic!(rt; "no row: {line}")
     };
-    let c = pop(rt, &mut exprs(rt, alloc, cond)?);
-    let found = told(alloc, assignment(rt, alloc, ("r0", "=", from), Some(c))?)?;
+    let found = move_told(rt, alloc, from, cond)?;
     assert!(rt; found.as_str() == *moves, "{line}");
-    let c = pop(rt, &mut exprs(rt, alloc, cond)?);
-    let kind = StmtKind::If(c, Seq::new(alloc), Seq::new(alloc));
-    let found = told(alloc, selected(alloc, kind))?;
+    let found = test_told(rt, alloc, cond)?;
     assert!(rt; found.as_str() == *tests, "{line}");
     Ok(())
 }
