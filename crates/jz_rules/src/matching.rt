@@ -9,7 +9,7 @@ ghost use Rattle.jz_scopes.specs.Parts.{layer_of};
 ghost use Rattle.jz_rules.specs.InnerPairs.{pair_of};
 ghost use Rattle.jz_rules.specs.Matching.{is_set_inline, may_be_inline, sets_inline, needs_row};
 ghost use Rattle.jz_rules.specs.Matching.{has_row, has_copy, is_word_left, is_word_value, is_skip};
-ghost use Rattle.jz_rules.specs.Matching.{enters, leaves, has_copies_of_call, has_copies, has_rows};
+ghost use Rattle.jz_rules.specs.Matching.{enters, leaves, has_copies_of_call, has_copies};
 ghost use Rattle.jz_rules.specs.Matching.{unmatched};
 
 use crate::callee::Callee;

@@ -1,9 +1,9 @@
 //! Arrays that are passed twice.
 
-ghost use Rattle.std.specs.Prelude.{◌≡◌, [], ◌∷◌, ◌++◌, Bool, List, map, not, IfOk, OnOk};
+ghost use Rattle.std.specs.Prelude.{◌≡◌, [], ◌∷◌, ◌++◌, List, map, IfOk, OnOk};
 ghost use Rattle.std.specs.List.{list_any};
 ghost use Rattle.jz_scopes.specs.Order.{earliest, unless};
-ghost use Rattle.jz_rules.specs.Copies.{Passed, is_written_at, span_of_var, is_twice, passed_twice};
+ghost use Rattle.jz_rules.specs.Copies.{Passed, is_written_at, is_twice, passed_twice};
 ghost use Rattle.jz_rules.specs.InnerPassing.{passed_of};
 ghost use Rattle.jz_rules.specs.InnerTables.{HasSeen};
 

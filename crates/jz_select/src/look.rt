@@ -6,7 +6,7 @@ ghost use Rattle.jz_select.specs.Look.{look_of, is_inline_var, is_reg64};
 ghost use Rattle.jz_select.specs.Look.{is_regs64, terms_of, joins as joins_bools};
 ghost use Rattle.jz_select.specs.Look.{compares_values as compares_values_is};
 ghost use Rattle.jz_select.specs.Look.{gives_number as gives_number_is};
-ghost use Rattle.jz_select.specs.Sums.{joined, term};
+ghost use Rattle.jz_select.specs.Sums.{term};
 
 use crate::class::Sum;
 use jz_scopes::{Kind, known};

@@ -1,12 +1,12 @@
 //! From a statement to its shape.
 
-ghost use Rattle.std.specs.Prelude.{◌≡◌, Bool};
+ghost use Rattle.std.specs.Prelude.{◌≡◌};
 ghost use Rattle.std.specs.Option.{option_copied};
 ghost use Rattle.jz_tree.specs.declared.expr.Expr.TheViews.{out-Expr};
 ghost use Rattle.jz_select.specs.Operands.{class_of, dest_of};
 ghost use Rattle.jz_select.specs.Shapes.{first_of as first_of_is, carries as carries_is};
 ghost use Rattle.jz_select.specs.Shapes.{carry_layer, two_beside, value_layer, itself as itself_of};
-ghost use Rattle.jz_select.specs.Shapes.{update_layer, beside, assign_of};
+ghost use Rattle.jz_select.specs.Shapes.{update_layer, assign_of};
 ghost use Rattle.jz_select.specs.Shapes.{value_shape as value_shape_of, compares as compares_is};
 ghost use Rattle.jz_select.specs.Shapes.{has_flags, is_test};
 ghost use Rattle.jz_select.specs.InnerLayers.{flags_layer};

@@ -1,13 +1,13 @@
 //! Statements that no row of the tables matches.
 
-ghost use Rattle.std.specs.Prelude.{◌≡◌, ◌++◌, List, is_some, IfOk};
+ghost use Rattle.std.specs.Prelude.{◌≡◌, List, is_some, IfOk};
 ghost use Rattle.std.specs.Option.{option_copied};
 ghost use Rattle.jz_tree.specs.declared.program.Fun.{Fun};
 ghost use Rattle.jz_scopes.specs.Order.{earliest, first_in};
 ghost use Rattle.jz_scopes.specs.Parts.{statements_of};
 ghost use Rattle.jz_scopes.specs.Tables.{place_in, function_in};
 ghost use Rattle.jz_rules.specs.Tables.{HasCallees};
-ghost use Rattle.jz_types.specs.Rows.{others, unmatched_with, unmatched_at, unmatched_in_fun};
+ghost use Rattle.jz_types.specs.Rows.{others, unmatched_at, unmatched_in_fun};
 
 use jz_data::Seq;
 use jz_io::Span;
