@@ -10,7 +10,8 @@ use Rattle.jz_tree.specs.declared.stmt.Stmt.{Stmt}
 use Rattle.jz_scopes.specs.Scopes.{Name}
 use Rattle.jz_scopes.specs.Parts.{called_by, statements_of, layer_of}
 use Rattle.jz_calls.specs.Recursion.{callees, Calls, Reaches, calls, further, CallsAt}
-use Rattle.jz_calls.specs.Numbers.{number_named, called_number, numbers_by, numbers_called, graph_of, Has, row_of, IsClosed, Leads}
+use Rattle.jz_calls.specs.Numbers.{number_named}
+use Rattle.jz_calls.specs.InnerNumbers.{called_number, numbers_by, numbers_called, graph_of, Has, row_of, IsClosed, Leads}
 use Rattle.jz_calls.specs.Numbers as by_number
 use Rattle.jz_calls.proofs.Naming.{At, named_by_function, named_by_number}
 

@@ -6,7 +6,7 @@ use Rattle.jz_tree.specs.declared.program.Fun.{Fun}
 use Rattle.jz_tree.specs.declared.program.Program.{Program}
 use Rattle.jz_scopes.specs.Order.{earlier, earliest, unless, IsEarliest, nowhere, here}
 use Rattle.jz_calls.specs.Recursion.{IsRecursive}
-use Rattle.jz_calls.specs.Numbers.{graph_of, Leads}
+use Rattle.jz_calls.specs.InnerNumbers.{graph_of, Leads}
 use Rattle.jz_calls.proofs.Naming.{At}
 use Rattle.jz_scopes.proofs.Firsts.{same_wrong, earlier_of_two}
 use Rattle.jz_calls.proofs.Bridge.{at_same, cycle_down, cycle_up}

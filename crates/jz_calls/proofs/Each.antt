@@ -6,7 +6,7 @@ use Rattle.std.proofs.Math.Seq.{get_or-append_seam}
 use Rattle.jz_io.specs.declared.span.Span.{Span}
 use Rattle.jz_tree.specs.declared.program.Fun.{Fun}
 use Rattle.jz_scopes.specs.Order.{earlier, earliest, unless, IsEarliest, nowhere, here}
-use Rattle.jz_calls.specs.Numbers.{IsClosed, Leads, IsFound, Falls}
+use Rattle.jz_calls.specs.InnerNumbers.{IsClosed, Leads, IsFound, Falls}
 use Rattle.jz_calls.proofs.Naming.{At}
 use Rattle.jz_calls.proofs.Spread.{mark_is}
 use Rattle.jz_calls.proofs.Falling.{caller_within, fewer_reached, reached_below}

@@ -3,7 +3,8 @@ use Rattle.std.proofs.Common.{◌≡◌, ℕ, zero, suc, ◌+◌, ◌<◌, ◌�
 use Rattle.std.specs.Prelude.{count_by}
 use Rattle.std.proofs.lemmas.List.Sums.{sum_by-cons}
 use Rattle.std.proofs.Math.ListN.{get_or-eq_default}
-use Rattle.jz_calls.specs.Numbers.{Has, row_of, Leads, directly, further, IsFound, Falls, Descends}
+use Rattle.jz_calls.specs.Numbers.{directly, further}
+use Rattle.jz_calls.specs.InnerNumbers.{Has, row_of, Leads, IsFound, Falls, Descends}
 
 within_or_not : (j k : ℕ) → (j < k) ⊎ (k ≤ j)
 within_or_not j k = grind arith

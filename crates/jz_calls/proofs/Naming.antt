@@ -8,7 +8,8 @@ use Rattle.jz_io.specs.declared.span.Span.{Span}
 use Rattle.jz_tree.specs.declared.stmt.Stmt.{Stmt}
 use Rattle.jz_scopes.specs.Scopes.{Name, function_named}
 use Rattle.jz_scopes.specs.Parts.{called_by, layer_of}
-use Rattle.jz_calls.specs.Numbers.{number_named, called_number, numbers_by}
+use Rattle.jz_calls.specs.Numbers.{number_named}
+use Rattle.jz_calls.specs.InnerNumbers.{called_number, numbers_by}
 
 or_number : Option ℕ → Bool → ℕ → Option ℕ
 or_number None b k = if b then Some k else None

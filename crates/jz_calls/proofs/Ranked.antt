@@ -9,8 +9,8 @@ use Rattle.jz_scopes.specs.Order.{IsEarliest, nowhere}
 use Rattle.jz_calls.specs.Recursion.{IsRanked, IsRecursive, Tells}
 use Rattle.jz_calls.specs.declared.fall.Candidate.{Candidate}
 use Rattle.jz_calls.specs.declared.recursion.Ranking.TheVariants.{Ranked, Recursive}
-use Rattle.jz_calls.specs.Numbers.{graph_of, numbers_called, Falls, Descends}
-use Rattle.jz_calls.specs.Candidates.{IsCandidate}
+use Rattle.jz_calls.specs.InnerNumbers.{graph_of, numbers_called, Falls, Descends}
+use Rattle.jz_calls.specs.InnerCandidates.{IsCandidate}
 use Rattle.jz_calls.proofs.Naming.{At}
 use Rattle.jz_calls.proofs.Bridge.{closed, called_at, calls_at, cycle_up}
 use Rattle.jz_calls.proofs.Falling.{caller_within, no_cycle}

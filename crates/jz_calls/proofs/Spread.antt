@@ -5,7 +5,8 @@ use Rattle.std.proofs.lemmas.List.Sums.{sum_by-set}
 use Rattle.std.proofs.Math.ListN.{get_or-append}
 use Rattle.std.proofs.Math.Seq.{get_or-append_seam}
 use Rattle.std.proofs.lemmas.Grind.{get_or_default_zero}
-use Rattle.jz_calls.specs.Numbers.{Has, row_of, Leads, directly, further, IsClosed, Consistent, VisitsAll, IsFound}
+use Rattle.jz_calls.specs.Numbers.{directly, further}
+use Rattle.jz_calls.specs.InnerNumbers.{Has, row_of, Leads, IsClosed, Consistent, VisitsAll, IsFound}
 
 has_left : (xs : List ℕ) (y j : ℕ) → Has xs j → Has (xs ++ y ∷ []) j
 has_left xs y j h = (h.0, omega (arith, h.1, length-append xs (y ∷ [])), get_or-append xs (y ∷ []) 0 h.0 h.1 ∙ h.2)

@@ -10,8 +10,9 @@ use Rattle.jz_scopes.specs.Order.{here}
 use Rattle.jz_scopes.proofs.Standing.{AtLeast}
 use Rattle.jz_calls.specs.declared.fall.Candidate.{Candidate}
 use Rattle.jz_calls.specs.declared.recursion.Ranking.TheVariants.{Recursive}
-use Rattle.jz_calls.specs.Numbers.{Has, row_of, graph_of, numbers_called, Leads, directly, further, Falls, Descends}
-use Rattle.jz_calls.specs.Candidates.{IsCandidate, IsNoLater, IsSteep, Stands}
+use Rattle.jz_calls.specs.Numbers.{directly, further}
+use Rattle.jz_calls.specs.InnerNumbers.{Has, row_of, graph_of, numbers_called, Leads, Falls, Descends}
+use Rattle.jz_calls.specs.InnerCandidates.{IsCandidate, IsNoLater, IsSteep, Stands}
 use Rattle.jz_calls.specs.Recursion.{IsRecursive, Tells}
 use Rattle.jz_calls.proofs.Naming.{At}
 use Rattle.jz_calls.proofs.Bridge.{at_same, stands, found, cycle_down, cycle_up}

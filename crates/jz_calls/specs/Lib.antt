@@ -1,4 +1,6 @@
 pub mod Recursion
 pub mod Numbers
-pub mod Candidates
-pub mod Tables
+pub mod InnerVisits
+pub mod InnerCandidates
+pub mod InnerTables
+pub mod InnerNumbers

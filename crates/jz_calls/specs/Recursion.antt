@@ -6,7 +6,7 @@ use Rattle.jz_tree.specs.declared.program.Fun.{Fun}
 use Rattle.jz_scopes.specs.Scopes.{Name, function_named}
 use Rattle.jz_scopes.specs.Order.{IsEarliest}
 use Rattle.jz_scopes.specs.Parts.{called_by, statements_of, layer_of}
-use Rattle.jz_calls.specs.Numbers.{number_named}
+use Rattle.jz_calls.specs.Numbers.{number_named, AreBelow}
 use Rattle.jz_calls.specs.declared.recursion.Ranking.{Ranking}
 use Rattle.jz_calls.specs.declared.recursion.Ranking.TheVariants.{Ranked, Recursive}
 
@@ -37,10 +37,11 @@ pub record CallsAt (p : Program) (i j : ℕ) : Type 0 where
   pub among : Contains (callees caller) name
   pub numbered : number_named name.0 p.funs ≡ Some j
 
--- a rank for each function, below the number of functions; a function that is called has a lower rank than the one that calls it
+-- a rank for each function, below the number of functions; a function that is called has a lower
+-- rank than the one that calls it
 pub record IsRanked (p : Program) (ranks : List ℕ) : Type 0 where
   pub same : length ranks ≡ length p.funs
-  pub below : (i : ℕ) → i < length ranks → slice_index_or ranks i 0 < length p.funs
+  pub below : AreBelow ranks (length p.funs)
   pub falls : (i j : ℕ) → CallsAt p i j → slice_index_or ranks j 0 < slice_index_or ranks i 0
 
 -- ranks, and no function reaches itself; or that is the earliest name of one that does

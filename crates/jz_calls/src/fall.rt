@@ -1,9 +1,10 @@
 //! Whether ranks get smaller with each call, and the first function of which they do not.
 
-ghost use Rattle.std.specs.Prelude.{◌≡◌, ◌<◌, ◌⊎◌, ℕ, Some, length, slice_index_or, IsTrue};
+ghost use Rattle.std.specs.Prelude.{◌≡◌, ◌⊎◌, Some, length, IsTrue};
 ghost use Rattle.jz_io.specs.declared.span.Span.{Span};
-ghost use Rattle.jz_calls.specs.Numbers.{Descends};
-ghost use Rattle.jz_calls.specs.Candidates.{IsNoLater, IsCandidate};
+ghost use Rattle.jz_calls.specs.Numbers.{AreBelow};
+ghost use Rattle.jz_calls.specs.InnerNumbers.{AreCalledBelow, Descends};
+ghost use Rattle.jz_calls.specs.InnerCandidates.{IsNoLater, IsCandidate};
 
 use crate::reaching::calls_of;
 use jz_data::Seq;
@@ -19,7 +20,7 @@ pub struct Candidate {
 }
 
 fn are_below(ranks: &[usize], limit: usize) -> bool
-    ensures { IsTrue result → (i : ℕ) → i < length ranks.now → slice_index_or ranks.now i 0 < limit }
+    ensures { IsTrue result → AreBelow ranks.now limit }
 {
     for rank in ranks {
         if *rank >= limit {
@@ -29,9 +30,9 @@ fn are_below(ranks: &[usize], limit: usize) -> bool
     true
 }
 
-// Whether each function that is called has a rank below the limit.
+/// Whether each function that is called has a rank below the limit.
 fn calls_below(limit: usize, called: &[usize], ranks: &[usize]) -> bool
-    ensures { IsTrue result → (k : ℕ) → k < length called.now → slice_index_or ranks.now (slice_index_or called.now k 0) 0 < limit }
+    ensures { IsTrue result → AreCalledBelow ranks.now limit called.now }
 {
     for at in called {
         match ranks.get(*at) {
@@ -46,8 +47,8 @@ fn calls_below(limit: usize, called: &[usize], ranks: &[usize]) -> bool
     true
 }
 
-/// Whether there is a rank for each function, below the number of functions, and no call is of a function of higher rank.
-/// Each call is looked at once.
+/// Whether there is a rank for each function, below the number of functions, and no call is of a
+/// function of higher rank. Each call is looked at once.
 pub fn descends(graph: &Seq<Seq<usize>>, ranks: &[usize]) -> bool
     ensures { IsTrue result → Descends graph.now ranks.now }
 {
@@ -65,7 +66,7 @@ pub fn descends(graph: &Seq<Seq<usize>>, ranks: &[usize]) -> bool
     true
 }
 
-// The earlier of the candidate so far and the next function, if a call of that one does not fall.
+/// The earlier of the candidate so far and the next function, if a call of that one does not fall.
 fn with_next(first: Option<Candidate>, falls: bool, next: Candidate) -> Option<Candidate>
     ensures one { (result ≡ first) ⊎ (result ≡ Some next) }
     ensures first { (at : Span) → IsNoLater first at → IsNoLater result at }
@@ -86,8 +87,8 @@ fn with_next(first: Option<Candidate>, falls: bool, next: Candidate) -> Option<C
     }
 }
 
-/// Of the functions with a call of one whose rank is not lower, the one that stands first in the text. Each call is looked at
-/// once.
+/// Of the functions with a call of one whose rank is not lower, the one that stands first in the
+/// text. Each call is looked at once.
 pub fn first_level(graph: &Seq<Seq<usize>>, funs: &Seq<Fun>, ranks: &[usize]) -> Option<Candidate>
     requires functions { length graph.now ≡ length funs.now }
     requires ranks { length ranks.now ≡ length funs.now }

@@ -2,8 +2,8 @@
 
 ghost use Rattle.std.specs.Prelude.{◌≡◌, ◌++◌, List, IfOk, OnOk};
 ghost use Rattle.jz_tree.specs.declared.program.Fun.{Fun};
-ghost use Rattle.jz_calls.specs.Numbers.{numbers_by, numbers_called, graph_of};
-ghost use Rattle.jz_calls.specs.Tables.{IsNumbers};
+ghost use Rattle.jz_calls.specs.InnerNumbers.{numbers_by, numbers_called, graph_of};
+ghost use Rattle.jz_calls.specs.InnerTables.{IsNumbers};
 
 use crate::numbers::Numbers;
 use jz_data::Seq;
@@ -12,7 +12,8 @@ use jz_tree::{Fun, Stmt};
 use std::alloc::{AllocError, Global};
 
 fn add_called(list: &mut Vec<usize>, numbers: &Numbers, stmt: &Stmt) -> Result<(), AllocError>
-    ensures { (fs : List Fun) → IsNumbers numbers.now fs → OnOk result (list.new.items ≡ list.old.items ++ numbers_by fs stmt.now) }
+    ensures { (fs : List Fun) → IsNumbers numbers.now fs
+        → OnOk result (list.new.items ≡ list.old.items ++ numbers_by fs stmt.now) }
 {
     if let Some((name, _)) = called_by(stmt) {
         if let Some(number) = numbers.number(name) {
@@ -23,7 +24,8 @@ fn add_called(list: &mut Vec<usize>, numbers: &Numbers, stmt: &Stmt) -> Result<(
 }
 
 fn called_in(alloc: Global, numbers: &Numbers, fun: &Fun) -> Result<Seq<usize>, AllocError>
-    ensures { (fs : List Fun) → IsNumbers numbers.now fs → IfOk result (λ ns. ns ≡ numbers_called fs fun.now) }
+    ensures { (fs : List Fun) → IsNumbers numbers.now fs
+        → IfOk result (λ ns. ns ≡ numbers_called fs fun.now) }
 {
     let mut list = Vec::new(alloc);
     for stmt in statements(alloc, &fun.body)? {

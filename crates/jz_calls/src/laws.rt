@@ -7,5 +7,6 @@ ghost use Rattle.jz_calls.specs.Recursion.{IsRanked, IsRecursive};
 
 /// Where the functions of a program have ranks, none of them reaches itself.
 pub fn ranks_leave_no_recursion()
-    ensures { (program : Program) (ranks : List ℕ) (at : Span) → IsRanked program ranks → IsRecursive program at → ⊥ }
+    ensures { (program : Program) (ranks : List ℕ) (at : Span)
+        → IsRanked program ranks → IsRecursive program at → ⊥ }
 {}

@@ -2,7 +2,7 @@
 
 ghost use Rattle.std.specs.Prelude.{◌≡◌, [], ◌∷◌, ◌++◌, List, length, IfOk, OnOk};
 ghost use Rattle.jz_tree.specs.declared.program.Fun.{Fun};
-ghost use Rattle.jz_calls.specs.Tables.{IsNumbers, number_in};
+ghost use Rattle.jz_calls.specs.InnerTables.{IsNumbers, number_in};
 
 use indexmap::IndexMap;
 use jz_data::{Seq, Text};
@@ -34,7 +34,8 @@ impl Numbers {
     }
 
     fn add(&mut self, fun: &Fun, number: usize) -> Result<(), AllocError>
-        ensures { (fs : List Fun) → IsNumbers self.old fs → number ≡ length fs → OnOk result (IsNumbers self.new (fs ++ fun.now ∷ [])) }
+        ensures { (fs : List Fun) → IsNumbers self.old fs → number ≡ length fs
+            → OnOk result (IsNumbers self.new (fs ++ fun.now ∷ [])) }
     {
         if !self.numbers.contains_key(&fun.name) {
             self.numbers.insert(fun.name.clone()?, number)?;

@@ -1,7 +1,8 @@
 //! Which functions a function reaches.
 
 ghost use Rattle.std.specs.Prelude.{◌≡◌, ◌∷◌, [], ℕ, ◌<◌, length, OnOk, IfOk};
-ghost use Rattle.jz_calls.specs.Numbers.{Has, row_of, IsClosed, Consistent, VisitsAll, IsFound};
+ghost use Rattle.jz_calls.specs.InnerNumbers.{Has, row_of, IsClosed, Consistent, IsFound};
+ghost use Rattle.jz_calls.specs.InnerVisits.{HasVisited};
 
 use jz_data::Seq;
 use std::alloc::{AllocError, Global};
@@ -16,7 +17,7 @@ pub struct Found {
 fn visit(found: &mut Found, at: usize) -> Result<(), AllocError>
     requires within { at < length found.old.marks.items }
     requires consistent { Consistent found.old.marks.items found.old.order.items }
-    ensures { OnOk result (VisitsAll found.old.marks.items found.old.order.items found.new.marks.items found.new.order.items (at ∷ [])) }
+    ensures { OnOk result (HasVisited found.old found.new (at ∷ [])) }
 {
     if found.marks[at] {
         return Ok(());
@@ -29,7 +30,7 @@ fn visit(found: &mut Found, at: usize) -> Result<(), AllocError>
 fn visit_all(found: &mut Found, all: &[usize]) -> Result<(), AllocError>
     requires within { (j : ℕ) → Has all.now j → j < length found.old.marks.items }
     requires consistent { Consistent found.old.marks.items found.old.order.items }
-    ensures { OnOk result (VisitsAll found.old.marks.items found.old.order.items found.new.marks.items found.new.order.items all.now) }
+    ensures { OnOk result (HasVisited found.old found.new all.now) }
 {
     for at in all {
         visit(found, *at)?;

@@ -2,8 +2,8 @@
 
 ghost use Rattle.std.specs.Prelude.{◌≡◌, Some, IfOk};
 ghost use Rattle.jz_io.specs.declared.span.Span.{Span};
-ghost use Rattle.jz_calls.specs.Numbers.{graph_of};
-ghost use Rattle.jz_calls.specs.Candidates.{Stands, IsNoLater};
+ghost use Rattle.jz_calls.specs.InnerNumbers.{graph_of};
+ghost use Rattle.jz_calls.specs.InnerCandidates.{Stands, IsNoLater};
 ghost use Rattle.jz_calls.specs.Recursion.{IsRecursive, Tells, recursive_of};
 
 use crate::fall::{Candidate, descends, first_level};
@@ -19,7 +19,8 @@ use std::alloc::{AllocError, Global};
 /// What the calls of a program are like.
 #[derive(Drop)]
 pub enum Ranking {
-    /// No function reaches itself: a rank for each function, in their order. The functions that one calls have lower ranks.
+    /// No function reaches itself: a rank for each function, in their order. The functions that one
+    /// calls have lower ranks.
     Ranked(Seq<usize>),
     /// The earliest name of a function that reaches itself.
     Recursive(Span),
@@ -37,7 +38,8 @@ impl Ranking {
     }
 }
 
-// Each function is asked by itself. The number of those that it reaches is a rank, where none reaches itself.
+/// Each function is asked by itself. The number of those that it reaches is a rank, where none
+/// reaches itself.
 fn ask_each(
     alloc: Global,
     graph: &Seq<Seq<usize>>,
@@ -60,7 +62,8 @@ fn ask_each(
     }
 }
 
-// The function before which none reaches itself is asked, and the others only where it does not reach itself.
+/// The function before which none reaches itself is asked, and the others only where it does not
+/// reach itself.
 fn ask_first(
     alloc: Global,
     graph: &Seq<Seq<usize>>,
@@ -80,9 +83,10 @@ fn ask_first(
     Ok(ranking)
 }
 
-/// Ranks of the functions, or the earliest name of one that reaches itself by its calls. The work grows with the number of
-/// functions and calls, where the ranks that are guessed are those of the functions that reach one another. Nothing is
-/// promised of the guess: where it were wrong, the work would grow with the number of functions times that of calls.
+/// Ranks of the functions, or the earliest name of one that reaches itself by its calls. The work
+/// grows with the number of functions and calls, where the ranks that are guessed are those of the
+/// functions that reach one another. Nothing is promised of the guess: where it were wrong, the
+/// work would grow with the number of functions times that of calls.
 pub fn find_recursion(alloc: Global, program: &Program) -> Result<Ranking, AllocError>
     ensures { IfOk result (λ ranking. Tells program.now ranking) }
 {

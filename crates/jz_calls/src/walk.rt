@@ -1,5 +1,6 @@
-//! Ranks of functions by a walk along their calls. Functions that reach one another have one rank, and a function that is
-//! called has no higher rank than the one that calls it. Nothing is promised of these ranks: whoever takes them asks.
+//! Ranks of functions by a walk along their calls. Functions that reach one another have one rank,
+//! and a function that is called has no higher rank than the one that calls it. Nothing is promised
+//! of these ranks: whoever takes them asks.
 
 use jz_data::Seq;
 use std::alloc::{AllocError, Global};
@@ -9,12 +10,14 @@ use std::alloc::{AllocError, Global};
 enum Mark {
     /// The walk was not there.
     Unseen,
-    /// It has no rank yet. The lowest place among the open functions to which its calls are known to lead.
+    /// It has no rank yet. The lowest place among the open functions to which its calls are known
+    /// to lead.
     Open(usize),
     Ranked(usize),
 }
 
-/// A function that the walk is in, its place among the open ones, and how many of its calls the walk has followed.
+/// A function that the walk is in, its place among the open ones, and how many of its calls the
+/// walk has followed.
 #[derive(Clone, Copy)]
 struct Visit {
     at: usize,

@@ -1,7 +1,10 @@
 //! What runs keep.
 
 ghost use Rattle.jz_kept_kinds.specs.Texts.{TextsDeclare};
-ghost use Rattle.jz_kept_kinds.specs.Kept.{ValuesFit, KindsAreSorts, DeclarationsGiveKinds, OperationsKeep, MarksKeep, CountersBegin, CountersRestore, CallsEnter, CallsLeave, BodiesKeep, EntriesKeep, FunctionsKeep};
+ghost use Rattle.jz_kept_kinds.specs.Kept.{ValuesFit, KindsAreSorts, DeclarationsGiveKinds};
+ghost use Rattle.jz_kept_kinds.specs.Kept.{OperationsKeep, MarksKeep, CountersBegin};
+ghost use Rattle.jz_kept_kinds.specs.Kept.{CountersRestore, CallsEnter, CallsLeave, BodiesKeep};
+ghost use Rattle.jz_kept_kinds.specs.Kept.{EntriesKeep, FunctionsKeep};
 
 /// Where each variable holds a value of its kind, a word that an expression gives is below the
 /// modulus of its size.

@@ -1,5 +1,5 @@
 -- The sizes of classes.
-use Rattle.std.proofs.Common.{◌≡◌, Bool, true, false, Option, Some, None, refl, sym, ap, ◌∙◌, subst, option_map, if◌then◌else◌}
+use Rattle.std.proofs.Common.{◌≡◌, Bool, true, false, Option, Some, None, refl, sym, ap, ◌∙◌, if◌then◌else◌}
 use Rattle.std.specs.Prelude.{ℤ, pos}
 use Rattle.std.specs.Ordering.{int_eq}
 use Rattle.jz_io.specs.declared.span.Span.{Span}
@@ -9,20 +9,17 @@ use Rattle.jz_tree.specs.declared.expr.BinOp.TheVariants as op
 use Rattle.jz_tree.specs.declared.expr.Storage.{Storage}
 use Rattle.jz_tree.specs.declared.expr.Storage.TheVariants as storage
 use Rattle.jz_tree.specs.declared.expr.Expr.{Expr}
-use Rattle.jz_tree.specs.declared.expr.Ty.{Ty}
-use Rattle.jz_tree.specs.declared.expr.Access.{Access}
-use Rattle.jz_tree.specs.declared.expr.Decl.{Decl}
 use Rattle.jz_tree.specs.declared.expr.Var.{Var}
-use Rattle.jz_tree.specs.declared.expr.Expr.TheOpen.{Expr-F, Ty-F, Decl-F, Var-F}
-use Rattle.jz_tree.specs.declared.expr.Expr.TheViews.{out-Expr, roll-out-Expr, out-roll-Ty, roll-Ty, out-Access, roll-Decl, out-roll-Var, roll-Var}
-use Rattle.jz_tree.specs.declared.expr.Expr.TheFolds.{fold-Access, fold-Decl, fold-roll-Expr, fold-roll-Ty, fold-roll-Decl, fold-roll-Var, ind-Var, map-Ty, map-Decl, map-Var}
+use Rattle.jz_tree.specs.declared.expr.Expr.TheOpen.{Expr-F}
+use Rattle.jz_tree.specs.declared.expr.Expr.TheViews.{out-Expr, roll-out-Expr, out-Access}
+use Rattle.jz_tree.specs.declared.expr.Expr.TheFolds.{fold-roll-Expr}
 use Rattle.jz_tree.specs.declared.stmt.Lval.{Lval}
 use Rattle.jz_tree.specs.declared.stmt.Lval.TheVariants as lval
 use Rattle.jz_scopes.specs.declared.kinds.Kind as known
 use Rattle.jz_scopes.specs.declared.kinds.Kind.TheVariants as scope
 use Rattle.jz_scopes.specs.declared.kinds.Declared.{Declared}
 use Rattle.jz_scopes.specs.Kinds as scopes
-use Rattle.jz_scopes.specs.Kinds.{Known, kind_of, declared_of, known_of}
+use Rattle.jz_scopes.specs.Kinds.{Known, known_of}
 use Rattle.jz_kinds.specs.Wants.{known_size, cell_size, array_size, word_size}
 use Rattle.jz_kinds.specs.Sides.{left_form}
 use Rattle.jz_scopes.specs.Kinds.{declared_step}
@@ -30,107 +27,23 @@ use Rattle.jz_kinds.specs.Typings.{Typing, typing, typing_step, access_typing}
 use Rattle.jz_judgement.specs.Places.{Place}
 use Rattle.jz_judgement.specs.HasType.{Layer, HasType, value}
 use Rattle.jz_judgement.proofs.Nothing.{none_not}
-use Rattle.jz_select.specs.declared.look.Kind as looked
-use Rattle.jz_select.specs.declared.look.Kind.TheVariants as look
 use Rattle.jz_select.specs.declared.class.Mask.TheVariants as mask
 use Rattle.jz_select.specs.declared.class.Class.{Class}
 use Rattle.jz_select.specs.declared.class.Class.TheVariants as class
 use Rattle.jz_select.specs.Rows.{size_of}
 use Rattle.jz_select.specs.Sums.{is_address, is_index}
-use Rattle.jz_select.specs.Look.{Look, Decided, look_step, kind_step, look_of, decl_of, kind_of_ty, terms_of, bin_inline}
-use Rattle.jz_select.specs.Operands.{var_class, cell_class, cell_of, inline_or, mask_of, is_byte, register_layer, masked, class_layer, class_of, dest_of}
+use Rattle.jz_select.specs.Look.{look_of, terms_of, bin_inline}
+use Rattle.jz_select.specs.Operands.{class_at, var_class, class_if, cell_at, cell_class, cell_of, inline_or, mask_of, is_byte, register_layer, masked, class_layer, class_of, dest_of}
 use Rattle.jz_integers.specs.Integers.{written_number}
-use Rattle.jz_kept_kinds.proofs.Parts.{AnyOf}
 use Rattle.jz_one_size.specs.Rows.{place_size}
 use Rattle.jz_one_size.proofs.Placed.{size_at}
 use Rattle.jz_one_size.proofs.Sizes.{typed_layer, variable_law, access_law}
-
--- ---- declarations
-abbrev as_look : known.Kind → looked.Kind
-as_look scope.Int = look.Int
-as_look scope.Truth = look.Bool
-as_look (scope.Word z) = look.Word z
-as_look (scope.Array z) = look.Array z
-
-abbrev both : Declared → Storage × looked.Kind
-both d = (d.storage, as_look d.kind)
-
-abbrev decl_looked : Decl → Storage × looked.Kind
-decl_looked = fold-Decl _ _ _ _ _ look_step kind_step (λ a. a.at) (λ d. (d.storage, d.ty)) (λ v. v.decl)
-
-abbrev access_looked : Access → Look
-access_looked = fold-Access _ _ _ _ _ look_step kind_step (λ a. a.at) (λ d. (d.storage, d.ty)) (λ v. v.decl)
-
-abbrev TyLaw : Ty → Type 0
-TyLaw t = kind_of_ty t ≡ as_look (kind_of t)
-
-abbrev DeclLaw : Decl → Type 0
-DeclLaw d = decl_looked d ≡ both (declared_of d)
-
-abbrev VarLaw : Var → Type 0
-VarLaw v = decl_of v ≡ option_map both (known_of v)
-
-abbrev TyLayer : Type 0
-TyLayer = Ty-F Expr Ty Access Decl Var
-
-kind_same : (x : TyLayer) → kind_step (map-Ty _ _ _ _ _ Look looked.Kind Look (Storage × looked.Kind) Decided look_of kind_of_ty access_looked decl_looked decl_of x) ≡ as_look (scopes.kind_step x)
-kind_same Ty-F.Int = refl
-kind_same Ty-F.Ty::Bool = refl
-kind_same (Ty-F.Word z) = refl
-kind_same (Ty-F.Array z n) = refl
-
-ty_case : (x : TyLayer) → TyLaw (roll-Ty x)
-ty_case x =
-    fold-roll-Ty _ _ _ _ _ look_step kind_step (λ a. a.at) (λ d. (d.storage, d.ty)) (λ v. v.decl) x
-    ∙ kind_same x ∙ ap (λ y. as_look (scopes.kind_step y)) (sym (out-roll-Ty x))
-
-abbrev ProvedDecl : Type 0
-ProvedDecl = Decl-F ((e : Expr) × AnyOf e) ((t : Ty) × TyLaw t) ((a : Access) × AnyOf a) ((d : Decl) × DeclLaw d) ((v : Var) × VarLaw v)
-
-abbrev bare_decl : ProvedDecl → Decl-F Expr Ty Access Decl Var
-bare_decl y = map-Decl _ _ _ _ _ Expr Ty Access Decl Var (λ e. e.0) (λ e. e.0) (λ e. e.0) (λ e. e.0) (λ e. e.0) y
-
-decl_case : (y : ProvedDecl) → DeclLaw (roll-Decl (bare_decl y))
-decl_case y =
-    fold-roll-Decl _ _ _ _ _ look_step kind_step (λ a. a.at) (λ d. (d.storage, d.ty)) (λ v. v.decl) (bare_decl y)
-    ∙ ap (λ k. (y.storage, k)) y.ty.1
-
-abbrev ProvedVar : Type 0
-ProvedVar = Var-F ((e : Expr) × AnyOf e) ((t : Ty) × TyLaw t) ((a : Access) × AnyOf a) ((d : Decl) × DeclLaw d) ((v : Var) × VarLaw v)
-
-abbrev bare_var : ProvedVar → Var-F Expr Ty Access Decl Var
-bare_var y = map-Var _ _ _ _ _ Expr Ty Access Decl Var (λ e. e.0) (λ e. e.0) (λ e. e.0) (λ e. e.0) (λ e. e.0) y
-
-abbrev looked_named : Var-F Expr Ty Access Decl Var → Decided
-looked_named x = (map-Var _ _ _ _ _ Look looked.Kind Look (Storage × looked.Kind) Decided look_of kind_of_ty access_looked decl_looked decl_of x).decl
-
-abbrev declared : Var-F Expr Ty Access Decl Var → Known
-declared x = option_map declared_of x.decl
-
-named_same : (y : ProvedVar) → looked_named (bare_var y) ≡ option_map both (declared (bare_var y))
-named_same y =
-    elim y.decl as (λ d. looked_named (bare_var (record y { decl = d })) ≡ option_map both (declared (bare_var (record y { decl = d }))))
-    [ None ↦ refl | Some d ↦ ap (λ (z : Storage × looked.Kind). Some z) d.1 ]
-
-var_case : (y : ProvedVar) → VarLaw (roll-Var (bare_var y))
-var_case y =
-    fold-roll-Var _ _ _ _ _ look_step kind_step (λ a. a.at) (λ d. (d.storage, d.ty)) (λ v. v.decl) (bare_var y)
-    ∙ named_same y ∙ ap (λ x. option_map both (declared x)) (sym (out-roll-Var (bare_var y)))
-
-declaration : (v : Var) → VarLaw v
-declaration =
-    ind-Var (λ e. AnyOf e) TyLaw (λ a. AnyOf a) DeclLaw VarLaw
-    (λ x y is. tt)
-    (λ x y is. ty_case x)
-    (λ x y is. tt)
-    (λ x y is. subst (λ z. DeclLaw (roll-Decl z)) is (decl_case y))
-    (λ x y is. subst (λ z. VarLaw (roll-Var z)) is (var_case y))
 
 -- ---- variables and cells
 abbrev Sized : Class → Size → Type 0
 Sized c z = size_of c ≡ Some z
 
-kind_sized : (s : Storage) (k : known.Kind) (z : Size) → Sized (var_class (Some (s, as_look k))) z → word_size k ≡ Some z
+kind_sized : (s : Storage) (k : known.Kind) (z : Size) → Sized (class_at s k) z → word_size k ≡ Some z
 kind_sized storage.Reg (scope.Word y) z h = h
 kind_sized storage.Stack (scope.Word y) z h = h
 kind_sized storage.Inline (scope.Word y) z h = absurd (none_not z h)
@@ -144,18 +57,18 @@ kind_sized storage.Reg (scope.Array y) z h = absurd (none_not z h)
 kind_sized storage.Stack (scope.Array y) z h = absurd (none_not z h)
 kind_sized storage.Inline (scope.Array y) z h = absurd (none_not z h)
 
-known_sized : (k : Known) (z : Size) → Sized (var_class (option_map both k)) z → known_size k ≡ Some z
+known_sized : (k : Known) (z : Size) → Sized (var_class k) z → known_size k ≡ Some z
 known_sized None z h = absurd (none_not z h)
 known_sized (Some d) z h = kind_sized d.storage d.kind z h
 
-var_sized : (v : Var) (z : Size) → Sized (var_class (decl_of v)) z → known_size (known_of v) ≡ Some z
-var_sized v z h = known_sized (known_of v) z (ap (λ d. size_of (var_class d)) (sym (declaration v)) ∙ h)
+var_sized : (v : Var) (z : Size) → Sized (var_class (known_of v)) z → known_size (known_of v) ≡ Some z
+var_sized v z h = known_sized (known_of v) z h
 
 chosen_sized : (b : Bool) (c : Class) (y z : Size) → size_of c ≡ Some y → Sized (if b then c else class.Other) z → Some y ≡ Some z
 chosen_sized true c y z e h = sym e ∙ h
 chosen_sized false c y z e h = absurd (none_not z h)
 
-array_sized : (s : Storage) (k : known.Kind) (i j : Bool) (z : Size) → Sized (cell_class (Some (s, as_look k)) i j) z → array_size k ≡ Some z
+array_sized : (s : Storage) (k : known.Kind) (i j : Bool) (z : Size) → Sized (cell_at s k i j) z → array_size k ≡ Some z
 array_sized storage.Reg (scope.Array y) i j z h = chosen_sized i (class.Reg y) y z refl h
 array_sized storage.Stack (scope.Array y) i j z h = chosen_sized j (class.Mem (Some y)) y z refl h
 array_sized storage.Inline (scope.Array y) i j z h = absurd (none_not z h)
@@ -169,15 +82,12 @@ array_sized storage.Reg (scope.Word y) i j z h = absurd (none_not z h)
 array_sized storage.Stack (scope.Word y) i j z h = absurd (none_not z h)
 array_sized storage.Inline (scope.Word y) i j z h = absurd (none_not z h)
 
-cells_sized : (k : Known) (i j : Bool) (z : Size) → Sized (cell_class (option_map both k) i j) z → cell_size k ≡ Some z
+cells_sized : (k : Known) (i j : Bool) (z : Size) → Sized (cell_class k i j) z → cell_size k ≡ Some z
 cells_sized None i j z h = absurd (none_not z h)
 cells_sized (Some d) i j z h = array_sized d.storage d.kind i j z h
 
 cell_sized : (v : Var) (e : Expr) (z : Size) → Sized (cell_of v e) z → cell_size (known_of v) ≡ Some z
-cell_sized v e z h =
-    let i = (look_of e).inline in
-    let j = is_index (terms_of e) in
-    cells_sized (known_of v) i j z (ap (λ d. size_of (cell_class d i j)) (sym (declaration v)) ∙ h)
+cell_sized v e z h = cells_sized (known_of v) (look_of e).inline (is_index (terms_of e)) z h
 
 mem_if : (b : Bool) (s : Option Size) (z : Size) → Sized (if b then class.Mem s else class.Other) z → s ≡ Some z
 mem_if true s z h = h

@@ -20,25 +20,27 @@ pub fn left_sides_have_one_size()
     ensures { LeftSizes }
 {}
 
-/// An assignment is done at the size that typing finds: that of the first left side that has one, else that of the value, which
-/// with an operation is the left side and the value in one.
+/// An assignment is done at the size that typing finds: that of the first left side that has one,
+/// else that of the value, which with an operation is the left side and the value in one.
 pub fn assignments_have_one_size()
     ensures { AssignmentSizes }
 {}
 
-/// An intrinsic for which typing finds a size is done at that size. LEA and SETcc have one of their own.
+/// An intrinsic for which typing finds a size is done at that size. LEA and SETcc have one of their
+/// own.
 pub fn intrinsics_have_one_size()
     ensures { IntrinsicSizes }
 {}
 
-/// Where variables hold values of their kinds, and an expression that is well typed in a place is evaluated at the size of
-/// that place, it is stuck or has a value of the place: of a word, a word of that size or a whole number.
+/// Where variables hold values of their kinds, and an expression that is well typed in a place is
+/// evaluated at the size of that place, it is stuck or has a value of the place: of a word, a word
+/// of that size or a whole number.
 pub fn values_are_of_their_places()
     ensures { ValuesInPlaces }
 {}
 
-/// The size that a row of the pattern table sees of an operand or a result is the one that typing finds, and that of the place
-/// where the operand is well typed.
+/// The size that a row of the pattern table sees of an operand or a result is the one that typing
+/// finds, and that of the place where the operand is well typed.
 pub fn rows_see_that_size()
     ensures operands { ClassSizes }
     ensures results { ResultSizes }

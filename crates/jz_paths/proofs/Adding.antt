@@ -5,8 +5,8 @@ use Rattle.std.specs.Prelude.{if◌then◌else◌}
 use Rattle.std.specs.List.{list_any}
 use Rattle.std.specs.Str.{bytes_eq}
 use Rattle.jz_data.proofs.Texts.{bytes_eq-true}
-use Rattle.jz_paths.specs.Surely.{Names, having}
-use Rattle.jz_paths.specs.Walks.{members, Grows, Adds, Puts, AddsAll, Joins}
+use Rattle.jz_paths.specs.InnerSurely.{Names, having}
+use Rattle.jz_paths.specs.InnerWalks.{members, Grows, Adds, Puts, AddsAll, Joins}
 use Rattle.jz_paths.proofs.Walking.{grows_self, grows_by, grows_on, behind, members-append, members-push, members-there}
 
 added_by : (ks : List (List ℕ)) (m : List ℕ) (new : List (List ℕ)) (b : Bool) → members ks m ≡ b → new ≡ (if b then ks else (ks ++ m ∷ [])) → Adds ks m new

@@ -8,7 +8,7 @@ use Rattle.jz_io.specs.declared.span.Span.{Span}
 use Rattle.jz_scopes.specs.Scopes.{Name}
 use Rattle.jz_scopes.specs.Order.{IsEarliest, nowhere, here}
 use Rattle.jz_paths.specs.Paths.{Event, Reads, Sets, Flow, Skip, Does, Then, Either, Repeat, Through, Into}
-use Rattle.jz_paths.specs.Surely.{Names, having, after, first}
+use Rattle.jz_paths.specs.InnerSurely.{Names, having, after, first}
 use Rattle.jz_scopes.proofs.Firsts.{same_wrong, earlier_of_two}
 
 -- ---- tests

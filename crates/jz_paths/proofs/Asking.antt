@@ -12,8 +12,8 @@ use Rattle.jz_scopes.specs.Scopes.{variable_named}
 use Rattle.jz_scopes.specs.Kinds.{known_of, is_inline_int}
 use Rattle.jz_scopes.specs.Order.{IsEarliest}
 use Rattle.jz_paths.specs.Paths.{flow_of_all, has_to_be_set, IsReadUnset}
-use Rattle.jz_paths.specs.Surely.{Names, none_set, first}
-use Rattle.jz_paths.specs.Walks.{members}
+use Rattle.jz_paths.specs.InnerSurely.{Names, none_set, first}
+use Rattle.jz_paths.specs.InnerWalks.{members}
 use Rattle.jz_scopes.proofs.Firsts.{same_wrong}
 use Rattle.jz_paths.proofs.Agree.{Misses, agree}
 use Rattle.jz_paths.proofs.Adding.{filtered, front_member, none_member}

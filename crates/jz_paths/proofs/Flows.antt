@@ -8,7 +8,8 @@ use Rattle.jz_tree.specs.declared.stmt.StmtKind.TheVariants as kind
 use Rattle.jz_tree.specs.declared.stmt.StmtKind.TheOpen.{StmtKind-F}
 use Rattle.jz_tree.specs.declared.stmt.StmtKind.TheFolds.{fold-roll-StmtKind}
 use Rattle.jz_scopes.specs.Scopes.{name_of}
-use Rattle.jz_paths.specs.Paths.{Skip, Does, Sets, Then, Either, Repeat, reading_expr, flow_step, flow_of_kind, flow_of_all}
+use Rattle.jz_paths.specs.Paths.{Skip, Does, Sets, Then, Either, Repeat, reading_expr, flow_step, flow_of_all}
+use Rattle.jz_paths.specs.InnerWalks.{flow_of_kind}
 
 pub if_flow : (k : StmtKind) (c : Expr) (a b : List Stmt) → k ≡ kind.If c a b → flow_of_kind k ≡ Then (reading_expr c) (Either (flow_of_all a) (flow_of_all b))
 if_flow k c a b e = ap flow_of_kind (e ∙ sym (kind.rolls-If c a b)) ∙ fold-roll-StmtKind _ _ flow_step (λ s. s.kind) (StmtKind-F.If c a b)

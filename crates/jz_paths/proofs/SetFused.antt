@@ -13,7 +13,7 @@ use Rattle.jz_scopes.specs.Order.{unless, earlier, earliest}
 use Rattle.jz_scopes.specs.Kinds.{is_inline}
 use Rattle.jz_scopes.proofs.Earliest.{earliest-append}
 use Rattle.jz_paths.specs.Settings.{Around, Setting, is_counter, all_set, left_set, entered, counting, set_step}
-use Rattle.jz_paths.specs.FirstSet.{FirstSet, first_all, first_left, first_lefts, first_step, first_set, first_set_kind, first_set_all}
+use Rattle.jz_paths.specs.InnerFirstSet.{FirstSet, first_all, first_left, first_lefts, first_step, first_set, first_set_kind, first_set_all}
 
 abbrev set : Stmt → Setting
 set = fold-Stmt Setting Setting set_step (λ s. s.kind)

@@ -21,8 +21,8 @@ use Rattle.jz_scopes.specs.Order.{earlier}
 use Rattle.jz_scopes.specs.Parts.{names_in}
 use Rattle.jz_scopes.proofs.Earliest.{earlier-assoc, earlier-none}
 use Rattle.jz_paths.specs.Paths.{Flow, Skip, Then, Either, Repeat, in_turn, reads, reading, reading_expr, reading_all, reading_left, reading_lefts, reading_right, reading_condition, reading_old}
-use Rattle.jz_paths.specs.Surely.{Names, having, both, after, first}
-use Rattle.jz_paths.specs.Walks.{members, Grows, Walks, Joins}
+use Rattle.jz_paths.specs.InnerSurely.{Names, having, both, after, first}
+use Rattle.jz_paths.specs.InnerWalks.{members, Grows, Walks, Joins}
 use Rattle.jz_paths.proofs.Earlier.{earlier-same, earlier-swap}
 
 -- ---- lists that grow

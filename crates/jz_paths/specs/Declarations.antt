@@ -7,6 +7,8 @@ use Rattle.jz_tree.specs.declared.expr.Var.{Var}
 use Rattle.jz_tree.specs.declared.expr.Expr.TheViews.{out-Var}
 use Rattle.jz_tree.specs.declared.program.Program.{Program}
 use Rattle.jz_tree.specs.declared.program.Fun.{Fun}
+use Rattle.jz_tree.specs.declared.program.Param.{Param}
+use Rattle.jz_tree.specs.declared.program.Ret.{Ret}
 use Rattle.jz_scopes.specs.declared.kinds.Kind.{Kind}
 use Rattle.jz_scopes.specs.declared.kinds.Kind.TheVariants as kind
 use Rattle.jz_scopes.specs.declared.kinds.Declared.{Declared}
@@ -40,7 +42,8 @@ is_passed d = passed d.storage d.kind
 abbrev pub is_returned : Declared → Bool
 is_returned d = returned d.storage d.kind
 
--- the place of a variable, unless its declaration is fine; a variable without a declaration has no place here
+-- the place of a variable, unless its declaration is fine; a variable without a declaration has no
+-- place here
 abbrev pub unkept_by : (Declared → Bool) → Known → Span → List Span
 unkept_by fine None at = []
 unkept_by fine (Some d) at = unless (fine d) at
@@ -48,11 +51,18 @@ unkept_by fine (Some d) at = unless (fine d) at
 abbrev pub unkept : (Declared → Bool) → Var → List Span
 unkept fine v = unkept_by fine (known_of v) (out-Var v).span
 
+abbrev pub unkept_param : Param → List Span
+unkept_param p = unkept is_passed p.var
+
+-- of a result at the function's name
+abbrev pub unkept_ret : Span → Ret → List Span
+unkept_ret at r = unless (is_returned (declared_of r.decl)) at
+
 -- at the name that is declared; of a result at the function's name
 unfoldable pub unkept_in : Fun → List Span
 unkept_in f =
-    flat_map (λ p. unkept is_passed p.var) f.params
-    ++ (flat_map (unkept is_kept) f.vars ++ flat_map (λ r. unless (is_returned (declared_of r.decl)) f.span) f.rets)
+    flat_map unkept_param f.params
+    ++ (flat_map (unkept is_kept) f.vars ++ flat_map (unkept_ret f.span) f.rets)
 
 abbrev pub wrongly_kept : Program → List Span
 wrongly_kept p = flat_map unkept_in p.funs

@@ -1,6 +1,6 @@
 pub mod Declarations
 pub mod Settings
 pub mod Paths
-pub mod Surely
-pub mod FirstSet
-pub mod Walks
+pub mod InnerSurely
+pub mod InnerFirstSet
+pub mod InnerWalks

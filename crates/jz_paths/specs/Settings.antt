@@ -14,14 +14,17 @@ use Rattle.jz_tree.specs.declared.program.Program.{Program}
 use Rattle.jz_scopes.specs.Order.{unless}
 use Rattle.jz_scopes.specs.Kinds.{known_of, is_inline_int, is_inline}
 
--- what stands round a statement: whether a `while` or an `if` that is not inline does, and the counters of the loops, from
--- the outermost
+-- what stands round a statement: whether a `while` or an `if` that is not inline does, and the
+-- counters of the loops, from the outermost
 pub record Around : Type 0 where
   pub inside : Bool
   pub counters : List (List ℕ)
 
+abbrev pub around : Bool → List (List ℕ) → Around
+around inside counters = record { inside = inside; counters = counters }
+
 abbrev pub outermost : Around
-outermost = record { inside = false; counters = [] }
+outermost = around false []
 
 abbrev pub is_counter : Around → Var → Bool
 is_counter w v = list_any (λ n. bytes_eq n (out-Var v).name) w.counters
@@ -31,10 +34,10 @@ abbrev pub may_set : Around → Var → Bool
 may_set w v = not (is_counter w v) && not (w.inside && is_inline_int (known_of v))
 
 abbrev pub entered : Bool → Around → Around
-entered b w = record { inside = b || w.inside; counters = w.counters }
+entered b w = around (b || w.inside) w.counters
 
 abbrev pub counting : Var → Around → Around
-counting i w = record { inside = w.inside; counters = w.counters ++ (out-Var i).name ∷ [] }
+counting i w = around w.inside (w.counters ++ (out-Var i).name ∷ [])
 
 -- the places at which a variable is wrongly set, by what stands round
 abbrev pub Setting : Type 0
@@ -49,11 +52,13 @@ left_set _ w = []
 
 abbrev pub set_step : StmtKind-F Setting Setting → Setting
 set_step (StmtKind-F.Assign to op from cond) w = flat_map (λ l. left_set l w) to
-set_step (StmtKind-F.If c a b) w = all_set a (entered (not (is_inline c)) w) ++ all_set b (entered (not (is_inline c)) w)
+set_step (StmtKind-F.If c a b) w =
+    all_set a (entered (not (is_inline c)) w) ++ all_set b (entered (not (is_inline c)) w)
 set_step (StmtKind-F.While p c None) w = all_set p (entered true w)
 set_step (StmtKind-F.While p c (Some b)) w = all_set p (entered true w) ++ all_set b (entered true w)
 -- a loop sets its counter, which is not done by `=`
-set_step (StmtKind-F.For i from down to b) w = unless (not (is_counter w i)) (out-Var i).span ++ all_set b (counting i w)
+set_step (StmtKind-F.For i from down to b) w =
+    unless (not (is_counter w i)) (out-Var i).span ++ all_set b (counting i w)
 set_step (StmtKind-F.Mark vs) w = []
 
 abbrev pub wrongly_set_in : List Stmt → List Span

@@ -1,11 +1,9 @@
 //! The inline variables that have to be set before they are read.
 
 ghost use Rattle.std.specs.Prelude.{◌≡◌, IfOk, map, filter, not};
-ghost use Rattle.jz_tree.specs.declared.expr.Expr.TheViews.{out-Var};
-ghost use Rattle.jz_scopes.specs.Kinds.{is_inline_int, known_of};
 ghost use Rattle.jz_scopes.specs.Order.{IsEarliest};
-ghost use Rattle.jz_paths.specs.Paths.{has_to_be_set, IsReadUnset};
-ghost use Rattle.jz_paths.specs.Walks.{members};
+ghost use Rattle.jz_paths.specs.Paths.{inline_vars, has_to_be_set, IsReadUnset};
+ghost use Rattle.jz_paths.specs.InnerWalks.{members, text_of, text_of_param};
 
 use crate::sets::{add_all, has};
 use crate::walk::walk_all;
@@ -17,7 +15,7 @@ use jz_tree::{Fun, Param, Var};
 use std::alloc::{AllocError, Global};
 
 fn inline_names(alloc: Global, vars: &[Var]) -> Result<Vec<Text>, AllocError>
-    ensures { IfOk result (λ ns. ns.items ≡ map (λ v. (out-Var v).name) (filter (λ v. is_inline_int (known_of v)) vars.now)) }
+    ensures { IfOk result (λ ns. ns.items ≡ map text_of (inline_vars vars.now)) }
 {
     let mut names = Vec::new(alloc);
     for var in vars {
@@ -29,7 +27,7 @@ fn inline_names(alloc: Global, vars: &[Var]) -> Result<Vec<Text>, AllocError>
 }
 
 fn param_names(alloc: Global, params: &[Param]) -> Result<Vec<Text>, AllocError>
-    ensures { IfOk result (λ ns. ns.items ≡ map (λ p. (out-Var p.var).name) params.now) }
+    ensures { IfOk result (λ ns. ns.items ≡ map text_of_param params.now) }
 {
     let mut names = Vec::new(alloc);
     for param in params {
@@ -71,7 +69,8 @@ fn asked(alloc: Global, fun: &Fun) -> Result<IndexSet<Text>, AllocError>
     Ok(all)
 }
 
-/// The earliest place at which a function reads an inline variable to which some path leads that does not set it.
+/// The earliest place at which a function reads an inline variable to which some path leads that
+/// does not set it.
 pub fn read_unset(alloc: Global, fun: &Fun) -> Result<Option<Span>, AllocError>
     ensures { IfOk result (λ at. IsEarliest (IsReadUnset fun.now) at) }
 {

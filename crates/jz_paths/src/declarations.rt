@@ -1,9 +1,9 @@
 //! What may be declared.
 
 ghost use Rattle.std.specs.Prelude.{◌≡◌, flat_map};
-ghost use Rattle.jz_scopes.specs.Order.{earliest, unless};
-ghost use Rattle.jz_scopes.specs.Kinds.{declared_of};
-ghost use Rattle.jz_paths.specs.Declarations.{is_kept, is_passed, is_returned, unkept, unkept_in};
+ghost use Rattle.jz_scopes.specs.Order.{earliest};
+ghost use Rattle.jz_paths.specs.Declarations.{is_kept, is_passed, is_returned, unkept};
+ghost use Rattle.jz_paths.specs.Declarations.{unkept_param, unkept_ret, unkept_in};
 
 use jz_io::Span;
 use jz_scopes::{Declared, Kind, declaration, earlier_of, known, unless};
@@ -44,7 +44,7 @@ fn is_returned(declared: Declared) -> bool
 
 /// The place of a parameter that is wrongly declared.
 fn param_unkept(param: &Param) -> Option<Span>
-    ensures { result ≡ earliest (unkept is_passed param.now.var) }
+    ensures { result ≡ earliest (unkept_param param.now) }
 {
     match known(&param.var) {
         None => None,
@@ -64,7 +64,7 @@ fn var_unkept(var: &Var) -> Option<Span>
 
 #[tactic(auto, using(crate::proofs::Joins::earliest_laws))]
 fn params_unkept(params: &[Param]) -> Option<Span>
-    ensures { result ≡ earliest (flat_map (λ p. unkept is_passed p.var) params.now) }
+    ensures { result ≡ earliest (flat_map unkept_param params.now) }
 {
     let mut best = None;
     for param in params {
@@ -87,7 +87,7 @@ fn vars_unkept(vars: &[Var]) -> Option<Span>
 /// The function's name, where one of its results is wrongly declared.
 #[tactic(auto, using(crate::proofs::Joins::earliest_laws))]
 fn rets_unkept(rets: &[Ret], at: Span) -> Option<Span>
-    ensures { result ≡ earliest (flat_map (λ r. unless (is_returned (declared_of r.decl)) at) rets.now) }
+    ensures { result ≡ earliest (flat_map (unkept_ret at) rets.now) }
 {
     let mut best = None;
     for ret in rets {
@@ -96,8 +96,8 @@ fn rets_unkept(rets: &[Ret], at: Span) -> Option<Span>
     best
 }
 
-/// The earliest place of a function's declaration whose storage and type do not go together: at the name that is declared,
-/// and of a result at the function's name.
+/// The earliest place of a function's declaration whose storage and type do not go together: at the
+/// name that is declared, and of a result at the function's name.
 #[tactic(auto, using(crate::proofs::Joins::earliest_laws), unfolding(crate::specs::Declarations::unkept_in))]
 pub fn wrongly_kept(fun: &Fun) -> Option<Span>
     ensures { result ≡ earliest (unkept_in fun.now) }

@@ -1,11 +1,12 @@
 //! The reads of inline variables that are not surely set.
 
-ghost use Rattle.std.specs.Prelude.{◌≡◌, IfOk, map};
+ghost use Rattle.std.specs.Prelude.{◌≡◌, map};
 ghost use Rattle.jz_scopes.specs.Scopes.{name_of};
 ghost use Rattle.jz_scopes.specs.Lent.{these};
-ghost use Rattle.jz_paths.specs.Paths.{reading, reading_expr, reading_all, reading_right, reading_condition, reading_lefts, reading_left, reading_old};
-ghost use Rattle.jz_paths.specs.Surely.{first, missing};
-ghost use Rattle.jz_paths.specs.Walks.{members};
+ghost use Rattle.jz_paths.specs.Paths.{reading, reading_expr, reading_all, reading_right};
+ghost use Rattle.jz_paths.specs.Paths.{reading_condition, reading_lefts, reading_left, reading_old};
+ghost use Rattle.jz_paths.specs.InnerSurely.{missing};
+ghost use Rattle.jz_paths.specs.InnerWalks.{members, unset_read, FindsUnset};
 
 use crate::sets::has;
 use indexmap::IndexSet;
@@ -27,7 +28,8 @@ fn missing(asked: &IndexSet<Text>, set: &IndexSet<Text>, var: &Var) -> Option<Sp
 }
 
 fn among(asked: &IndexSet<Text>, set: &IndexSet<Text>, vars: &[&Var]) -> Option<Span>
-    ensures { result ≡ first (members asked.now.keys) (reading (map name_of (these vars.now))) (members set.now.keys) }
+    ensures { let read = map name_of (these vars.now) in
+        result ≡ unset_read asked.now.keys (reading read) set.now.keys }
 {
     let mut best = None;
     for var in vars {
@@ -44,7 +46,7 @@ pub(crate) fn in_expr(
     set: &IndexSet<Text>,
     expr: &Expr,
 ) -> Result<Option<Span>, AllocError>
-    ensures { IfOk result (λ r. r ≡ first (members asked.now.keys) (reading_expr expr.now) (members set.now.keys)) }
+    ensures { FindsUnset result asked.now.keys (reading_expr expr.now) set.now.keys }
 {
     let vars = names(alloc, expr)?;
     Ok(among(asked, set, vars.as_slice()))
@@ -57,7 +59,7 @@ fn in_all(
     set: &IndexSet<Text>,
     exprs: &[Expr],
 ) -> Result<Option<Span>, AllocError>
-    ensures { IfOk result (λ r. r ≡ first (members asked.now.keys) (reading_all exprs.now) (members set.now.keys)) }
+    ensures { FindsUnset result asked.now.keys (reading_all exprs.now) set.now.keys }
 {
     let mut best = None;
     for expr in exprs {
@@ -72,7 +74,7 @@ pub(crate) fn in_right(
     set: &IndexSet<Text>,
     from: &Rhs,
 ) -> Result<Option<Span>, AllocError>
-    ensures { IfOk result (λ r. r ≡ first (members asked.now.keys) (reading_right from.now) (members set.now.keys)) }
+    ensures { FindsUnset result asked.now.keys (reading_right from.now) set.now.keys }
 {
     match from {
         Rhs::Value(expr) => in_expr(alloc, asked, set, expr),
@@ -87,7 +89,7 @@ pub(crate) fn in_condition(
     set: &IndexSet<Text>,
     cond: &Option<Expr>,
 ) -> Result<Option<Span>, AllocError>
-    ensures { IfOk result (λ r. r ≡ first (members asked.now.keys) (reading_condition cond.now) (members set.now.keys)) }
+    ensures { FindsUnset result asked.now.keys (reading_condition cond.now) set.now.keys }
 {
     match cond {
         None => Ok(None),
@@ -96,7 +98,7 @@ pub(crate) fn in_condition(
 }
 
 fn in_left(asked: &IndexSet<Text>, set: &IndexSet<Text>, to: &Lval) -> Option<Span>
-    ensures { result ≡ first (members asked.now.keys) (reading_left to.now) (members set.now.keys) }
+    ensures { result ≡ unset_read asked.now.keys (reading_left to.now) set.now.keys }
 {
     match to {
         Lval::Skip(_) => None,
@@ -108,7 +110,7 @@ fn in_left(asked: &IndexSet<Text>, set: &IndexSet<Text>, to: &Lval) -> Option<Sp
 
 #[tactic(auto, unfolding(crate::specs::Paths::reading_lefts))]
 fn in_lefts(asked: &IndexSet<Text>, set: &IndexSet<Text>, to: &[Lval]) -> Option<Span>
-    ensures { result ≡ first (members asked.now.keys) (reading_lefts to.now) (members set.now.keys) }
+    ensures { result ≡ unset_read asked.now.keys (reading_lefts to.now) set.now.keys }
 {
     let mut best = None;
     for lval in to {
@@ -125,7 +127,7 @@ pub(crate) fn in_old(
     cond: &Option<Expr>,
     to: &[Lval],
 ) -> Option<Span>
-    ensures { result ≡ first (members asked.now.keys) (reading_old op.now cond.now to.now) (members set.now.keys) }
+    ensures { result ≡ unset_read asked.now.keys (reading_old op.now cond.now to.now) set.now.keys }
 {
     match op {
         Some(_operation) => in_lefts(asked, set, to),

@@ -1,14 +1,14 @@
 //! Sets of names that grow as statements are walked, and are cut back where a way ends.
 
 ghost use Rattle.std.specs.Prelude.{◌≡◌, ◌≤◌, IfOk, OnOk, length, take, filter};
-ghost use Rattle.jz_paths.specs.Walks.{members, Adds, Puts, AddsAll, Joins};
+ghost use Rattle.jz_paths.specs.InnerWalks.{members, Adds, Puts, AddsAll, Joins};
 
 use indexmap::IndexSet;
 use jz_data::Text;
 use std::alloc::{AllocError, Global};
 
 /// Whether the set has a name.
-#[tactic(auto, unfolding(crate::specs::Walks::members))]
+#[tactic(auto, unfolding(crate::specs::InnerWalks::members))]
 pub(crate) fn has(set: &IndexSet<Text>, name: &Text) -> bool
     ensures { result ≡ members set.now.keys name.now }
 {
@@ -67,7 +67,8 @@ pub(crate) fn join(
     names: &IndexSet<Text>,
 ) -> Result<(), AllocError>
     requires { start ≤ length set.old.keys }
-    ensures { OnOk result (Joins (take start set.old.keys) names.now.keys set.old.keys set.new.keys) }
+    ensures { let first = take start set.old.keys in
+        OnOk result (Joins first names.now.keys set.old.keys set.new.keys) }
 {
     let kept = shared(alloc, names.as_slice(), set)?;
     set.truncate(start);

@@ -5,8 +5,8 @@ ghost use Rattle.std.specs.Prelude.{◌≡◌, IfOk, OnOk};
 ghost use Rattle.std.specs.List.{list_any};
 ghost use Rattle.std.specs.Str.{bytes_eq};
 ghost use Rattle.jz_scopes.specs.Order.{earliest};
-ghost use Rattle.jz_paths.specs.Settings.{Around, may_set, wrongly_set_in};
-ghost use Rattle.jz_paths.specs.FirstSet.{first_left, first_lefts, first_set_all, first_set_kind};
+ghost use Rattle.jz_paths.specs.Settings.{around, may_set, wrongly_set_in};
+ghost use Rattle.jz_paths.specs.InnerFirstSet.{first_left, first_lefts, first_set_all, first_set_kind};
 
 use jz_data::{Seq, Text};
 use jz_io::Span;
@@ -22,13 +22,13 @@ fn is_counter(counters: &[Text], name: &Text) -> bool
 }
 
 fn may_set(inside: bool, counters: &[Text], var: &Var) -> bool
-    ensures { result ≡ may_set (record { inside = inside; counters = counters.now }) var.now }
+    ensures { result ≡ may_set (around inside counters.now) var.now }
 {
     !is_counter(counters, &var.name) && !(inside && is_inline_int(known(var)))
 }
 
 fn left(inside: bool, counters: &[Text], to: &Lval) -> Option<Span>
-    ensures { result ≡ first_left to.now (record { inside = inside; counters = counters.now }) }
+    ensures { result ≡ first_left to.now (around inside counters.now) }
 {
     match to {
         Lval::Skip(_) => None,
@@ -39,7 +39,7 @@ fn left(inside: bool, counters: &[Text], to: &Lval) -> Option<Span>
 }
 
 fn lefts(inside: bool, counters: &[Text], to: &[Lval]) -> Option<Span>
-    ensures { result ≡ first_lefts to.now (record { inside = inside; counters = counters.now }) }
+    ensures { result ≡ first_lefts to.now (around inside counters.now) }
 {
     let mut best = None;
     for lval in to {
@@ -48,15 +48,16 @@ fn lefts(inside: bool, counters: &[Text], to: &[Lval]) -> Option<Span>
     best
 }
 
-/// The earliest place in statements: `inside` says that a `while` or an `if` that is not inline stands round them, `counters`
-/// are those of the loops round them.
+/// The earliest place in statements: `inside` says that a `while` or an `if` that is not inline
+/// stands round them, `counters` are those of the loops round them.
 #[cycle(settings)]
 fn set_in_all(
     inside: bool,
     counters: &mut Vec<Text>,
     stmts: &Seq<Stmt>,
 ) -> Result<Option<Span>, AllocError>
-    ensures first { IfOk result (λ r. r ≡ first_set_all stmts.now (record { inside = inside; counters = counters.old.items })) }
+    ensures first { let round = around inside counters.old.items in
+        IfOk result (λ at. at ≡ first_set_all stmts.now round) }
     ensures kept { OnOk result (counters.new.items ≡ counters.old.items) }
 {
     let mut best = None;
@@ -72,7 +73,8 @@ fn set_in(
     counters: &mut Vec<Text>,
     kind: &StmtKind,
 ) -> Result<Option<Span>, AllocError>
-    ensures first { IfOk result (λ r. r ≡ first_set_kind kind.now (record { inside = inside; counters = counters.old.items })) }
+    ensures first { let round = around inside counters.old.items in
+        IfOk result (λ at. at ≡ first_set_kind kind.now round) }
     ensures kept { OnOk result (counters.new.items ≡ counters.old.items) }
 {
     match kind {
@@ -126,8 +128,8 @@ fn set_in(
     }
 }
 
-/// The earliest place in a function at which a counter is set inside its loop, or an inline variable inside a `while` or an
-/// `if` whose condition is not inline.
+/// The earliest place in a function at which a counter is set inside its loop, or an inline
+/// variable inside a `while` or an `if` whose condition is not inline.
 #[tactic(auto, using(crate::proofs::SetFused::all_fused))]
 pub fn wrongly_set(alloc: Global, fun: &Fun) -> Result<Option<Span>, AllocError>
     ensures { IfOk result (λ r. r ≡ earliest (wrongly_set_in fun.now.body)) }

@@ -1,8 +1,9 @@
 //! Which names a walk over statements surely sets, and its earliest read of one that is not.
 
-ghost use Rattle.std.specs.Prelude.{◌≡◌, ◌++◌, IfOk, OnOk, map};
-ghost use Rattle.jz_paths.specs.Paths.{Does, Sets, Then, Repeat, in_turn, setting, reading_expr, reading_right, reading_condition, reading_old, flow_of_kind, flow_of_all};
-ghost use Rattle.jz_paths.specs.Walks.{members, Walks};
+ghost use Rattle.std.specs.Prelude.{◌≡◌, ◌++◌, IfOk, OnOk};
+ghost use Rattle.jz_paths.specs.Paths.{setting, setting_all, turns_of, flow_of_all};
+ghost use Rattle.jz_paths.specs.InnerWalks.{flow_of_kind};
+ghost use Rattle.jz_paths.specs.InnerWalks.{members, Walks, HasWalked, flow_of_assigned};
 
 use crate::reads::{in_condition, in_expr, in_old, in_right};
 use crate::sets::{join, put};
@@ -20,7 +21,7 @@ fn set_left(
     set: &mut IndexSet<Text>,
     to: &Lval,
 ) -> Result<Option<Span>, AllocError>
-    ensures { IfOk result (λ r. Walks (members asked.now.keys) (setting to.now) set.old.keys r set.new.keys) }
+    ensures { HasWalked result asked.now.keys (setting to.now) set.old.keys set.new.keys }
 {
     match to {
         Lval::Skip(_) => Ok(None),
@@ -45,7 +46,7 @@ fn set_lefts(
     set: &mut IndexSet<Text>,
     to: &[Lval],
 ) -> Result<Option<Span>, AllocError>
-    ensures { IfOk result (λ r. Walks (members asked.now.keys) (in_turn (map setting to.now)) set.old.keys r set.new.keys) }
+    ensures { HasWalked result asked.now.keys (setting_all to.now) set.old.keys set.new.keys }
 {
     let mut best = None;
     for lval in to {
@@ -69,7 +70,8 @@ fn assign(
     set: &mut IndexSet<Text>,
     it: Assigned,
 ) -> Result<Option<Span>, AllocError>
-    ensures { IfOk result (λ r. Walks (members asked.now.keys) (Then (reading_right it.entry.from.now) (Then (reading_condition it.entry.cond.now) (Then (reading_old it.entry.op.now it.entry.cond.now it.entry.to.now) (in_turn (map setting it.entry.to.now))))) set.old.keys r set.new.keys) }
+    ensures { let flow = flow_of_assigned it.entry in
+        HasWalked result asked.now.keys flow set.old.keys set.new.keys }
 {
     let right = in_right(alloc, asked, &*set, it.from)?;
     let test = in_condition(alloc, asked, &*set, it.cond)?;
@@ -92,7 +94,7 @@ pub(crate) fn walk_all(
     set: &mut IndexSet<Text>,
     stmts: &Seq<Stmt>,
 ) -> Result<Option<Span>, AllocError>
-    ensures { IfOk result (λ r. Walks (members asked.now.keys) (flow_of_all stmts.now) set.old.keys r set.new.keys) }
+    ensures { HasWalked result asked.now.keys (flow_of_all stmts.now) set.old.keys set.new.keys }
 {
     let mut best = None;
     for stmt in stmts.as_slice() {
@@ -109,7 +111,8 @@ fn aside(
     set: &mut IndexSet<Text>,
     stmts: &Seq<Stmt>,
 ) -> Result<Way, AllocError>
-    ensures walks { IfOk result (λ r. Walks (members asked.now.keys) (flow_of_all stmts.now) set.old.keys r.first (set.old.keys ++ r.names.keys)) }
+    ensures walks { IfOk result (λ way. Walks (members asked.now.keys) (flow_of_all stmts.now)
+        set.old.keys way.first (set.old.keys ++ way.names.keys)) }
     ensures kept { OnOk result (set.new.keys ≡ set.old.keys) }
 {
     let start = set.len();
@@ -127,7 +130,8 @@ fn turns(
     counter: &Text,
     body: &Seq<Stmt>,
 ) -> Result<Option<Span>, AllocError>
-    ensures { IfOk result (λ r. Walks (members asked.now.keys) (Repeat (Then (Does (Sets counter.now)) (flow_of_all body.now))) set.old.keys r set.new.keys) }
+    ensures { let flow = turns_of counter.now (flow_of_all body.now) in
+        HasWalked result asked.now.keys flow set.old.keys set.new.keys }
 {
     let start = set.len();
     put(asked, set, counter)?;
@@ -143,7 +147,7 @@ fn walk(
     set: &mut IndexSet<Text>,
     kind: &StmtKind,
 ) -> Result<Option<Span>, AllocError>
-    ensures { IfOk result (λ r. Walks (members asked.now.keys) (flow_of_kind kind.now) set.old.keys r set.new.keys) }
+    ensures { HasWalked result asked.now.keys (flow_of_kind kind.now) set.old.keys set.new.keys }
 {
     match kind {
         StmtKind::Assign { to, op, rhs, cond } => {

@@ -26,7 +26,7 @@ fn token_line(alloc: Global, token: &Token) -> Result<String, AllocError> {
     }
 }
 
-// The tokens with a letter for their kind, their text and their place, or the fault and its place.
+/// The tokens with a letter for their kind, their text and their place, or the fault and its place.
 fn outcome(rt: &impl Abort, alloc: Global, text: &[u8]) -> Result<String, AllocError> {
     assert!(rt; text.len() < 1000);
     match lex(alloc, text) {
@@ -195,7 +195,7 @@ fn tells_faults(rt: HostRuntime) -> Result<(), Fail> {
     Ok(())
 }
 
-// What the text of one byte begins with, as `outcome` tells it.
+/// What the text of one byte begins with, as `outcome` tells it.
 fn of_one_byte(byte: u8) -> &'static str {
     match byte {
         b'\t' | b'\n' | b'\r' | b' ' => "E@",
@@ -218,7 +218,7 @@ fn tells_each_byte(rt: HostRuntime) -> Result<(), Fail> {
     Ok(())
 }
 
-// How many tokens a piece has that is repeated, or its fault.
+/// How many tokens a piece has that is repeated, or its fault.
 fn repeated(
     rt: &impl Abort,
     alloc: Global,

@@ -5,7 +5,7 @@ use jz_io::{Failed, MemSink, MemSource, ReadRefused, Sink, Source, read_all, wri
 use std::alloc::{AllocError, Global};
 use std::test::Fail;
 
-// Two files of one name, of which the second never shows.
+/// Two files of one name, of which the second never shows.
 fn source(alloc: Global, fails: &[u64]) -> Result<MemSource, AllocError> {
     let mut files = Vec::new(alloc);
     for (name, text) in [("one", "first text"), ("one", "second")] {
@@ -78,7 +78,7 @@ fn a_sink_is_full_or_fails(rt: HostRuntime) -> Result<(), Fail> {
     Ok(())
 }
 
-// A sink that takes three bytes at most.
+/// A sink that takes three bytes at most.
 #[derive(Drop)]
 struct Narrow {
     writes: usize,

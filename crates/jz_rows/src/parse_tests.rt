@@ -6,7 +6,7 @@ use jz_io::Span;
 use jz_lex::{Tokens, lex};
 use jz_parse::{SyntaxFault, SyntaxKind, parse};
 use jz_tree::{
-    Access, Decl, Expr, Fun, FunKind, Lval, Note, NoteValue, Param, Program, Ret, Rhs, Stmt,
+    Access, BinOp, Decl, Expr, Fun, FunKind, Lval, Note, NoteValue, Param, Program, Ret, Rhs, Stmt,
     StmtKind, Storage, Ty, Var,
 };
 use jz_words::Size;
@@ -25,6 +25,27 @@ fn size_text(size: Size) -> &'static str {
 
 fn var_text(alloc: Global, var: &Var) -> Result<String, AllocError> {
     format!(in alloc; "{}@{}", var.name.as_str(), var.span.col)
+}
+
+fn cast_text(
+    alloc: Global,
+    size: Size,
+    signed: bool,
+    span: Span,
+    inner: &str,
+) -> Result<String, AllocError> {
+    let sign = if signed { "s" } else { "u" };
+    format!(in alloc; "({}{sign}@{}){inner}", size_text(size), span.col)
+}
+
+fn operation_text(
+    alloc: Global,
+    op: BinOp,
+    span: Span,
+    first: &str,
+    second: &str,
+) -> Result<String, AllocError> {
+    format!(in alloc; "({first} {}@{} {second})", operation_name(op), span.col)
 }
 
 /// An access: its size if one is written, its place and its address.
@@ -66,24 +87,12 @@ fn expr_text(alloc: Global, expr: &Expr) -> Result<String, AllocError> {
             span,
         } => {
             let inner = expr_text(alloc, e.get())?;
-            let sign = if *signed { "s" } else { "u" };
-            format!(in alloc;
-                "({}{sign}@{}){}",
-                size_text(*size),
-                span.col,
-                inner.as_str()
-            )
+            cast_text(alloc, *size, *signed, *span, inner.as_str())
         }
         Expr::Bin(op, left, right, span) => {
             let first = expr_text(alloc, left.get())?;
             let second = expr_text(alloc, right.get())?;
-            format!(in alloc;
-                "({} {}@{} {})",
-                first.as_str(),
-                operation_name(*op),
-                span.col,
-                second.as_str()
-            )
+            operation_text(alloc, *op, *span, first.as_str(), second.as_str())
         }
     }
 }

@@ -1,5 +1,6 @@
-// Statements and the rows that they match. A row has the results, a sign, and the operands, each before its operator:
-// `r1 r2 8 * + []` is `[r1 + r2 * 8]`, `t r1 @` is `t[r1]`.
+//! Statements and the rows that they match. A row has the results, a sign, and the operands, each before its operator:
+//! `r1 r2 8 * + []` is `[r1 + r2 * 8]`, `t r1 @` is `t[r1]`.
+
 use crate::names::intrinsic_name;
 use jz_data::{Boxed, Seq, Text};
 use jz_io::Span;
@@ -31,8 +32,8 @@ fn operation(word: &str) -> Option<BinOp> {
     }
 }
 
-// What the first letter of a name declares: `r`, `w`, `h` and `b` are registers of 64 to 8 bits, `s` and `z` stack words
-// of 64 and 8 bits, `g` an array in registers, `t` one in the frame, `i` is inline, and `c` a flag.
+/// What the first letter of a name declares: `r`, `w`, `h` and `b` are registers of 64 to 8 bits, `s` and `z` stack words
+/// of 64 and 8 bits, `g` an array in registers, `t` one in the frame, `i` is inline, and `c` a flag.
 fn declared(alloc: Global, name: &str) -> Result<Decl, AllocError> {
     let length = Boxed::new(alloc, Expr::Num(4, HERE))?;
     let (storage, ty) = match name.as_bytes().first() {
@@ -90,7 +91,7 @@ fn load(word: &str) -> Option<Option<Size>> {
     }
 }
 
-// An operand, or what an operator makes of the operands before it.
+/// An operand, or what an operator makes of the operands before it.
 fn expr(
     rt: &impl Abort,
     alloc: Global,
@@ -170,7 +171,7 @@ fn results(rt: &impl Abort, alloc: Global, text: &str) -> Result<Seq<Lval>, Allo
     Ok(to)
 }
 
-// `sign` is `=`, an operation with `=`, or the name of an intrinsic behind `#`.
+/// `sign` is `=`, an operation with `=`, or the name of an intrinsic behind `#`.
 fn right_side(rt: &impl Abort, alloc: Global, sign: &str, text: &str) -> Result<Rhs, AllocError> {
     let mut args = exprs(rt, alloc, text)?;
     match sign.strip_prefix('#') {
@@ -205,7 +206,7 @@ fn assignment(
     Ok(selected(alloc, kind))
 }
 
-// What it is, as the tables write it: the row's number, an intrinsic, `condition`, or `-` for nothing.
+/// What it is, as the tables write it: the row's number, an intrinsic, `condition`, or `-` for nothing.
 fn told(alloc: Global, found: Option<Pattern>) -> Result<String, AllocError> {
     match found {
         None => String::from_str(alloc, "-"),
@@ -215,7 +216,7 @@ fn told(alloc: Global, found: Option<Pattern>) -> Result<String, AllocError> {
     }
 }
 
-// Results, a sign, the right side, and what the statement is.
+/// Results, a sign, the right side, and what the statement is.
 const ROWS: &str = "\
 r0 | = | r1 | 1
 s0 | = | s0 | -
@@ -362,7 +363,7 @@ fn rows(rt: HostRuntime) -> Result<(), Fail> {
     Ok(())
 }
 
-// FROM, COND, what `r0 = FROM if COND` is, and what the condition of an `if` is.
+/// FROM, COND, what `r0 = FROM if COND` is, and what the condition of an `if` is.
 const CONDITIONS: &str = "\
 r1 | r2 r3 < | 14 | condition
 s0 | s1 5 <s | 14 | condition
@@ -378,17 +379,25 @@ r1 r2 + | c0 | - | condition
 r1 | r2 | - | -
 ";
 
+fn move_told(rt: &impl Abort, alloc: Global, from: &str, cond: &str) -> Result<String, AllocError> {
+    let c = pop(rt, &mut exprs(rt, alloc, cond)?);
+    told(alloc, assignment(rt, alloc, ("r0", "=", from), Some(c))?)
+}
+
+fn test_told(rt: &impl Abort, alloc: Global, cond: &str) -> Result<String, AllocError> {
+    let c = pop(rt, &mut exprs(rt, alloc, cond)?);
+    let kind = StmtKind::If(c, Seq::new(alloc), Seq::new(alloc));
+    told(alloc, selected(alloc, kind))
+}
+
 fn condition_is(rt: &impl Abort, alloc: Global, line: &str) -> Result<(), AllocError> {
     let columns: Vec<&str> = line.split(" | ").collect(alloc)?;
     let [from, cond, moves, tests] = columns.as_slice() else {
         panic!(rt; "no row: {line}")
     };
-    let c = pop(rt, &mut exprs(rt, alloc, cond)?);
-    let found = told(alloc, assignment(rt, alloc, ("r0", "=", from), Some(c))?)?;
+    let found = move_told(rt, alloc, from, cond)?;
     assert!(rt; found.as_str() == *moves, "{line}");
-    let c = pop(rt, &mut exprs(rt, alloc, cond)?);
-    let kind = StmtKind::If(c, Seq::new(alloc), Seq::new(alloc));
-    let found = told(alloc, selected(alloc, kind))?;
+    let found = test_told(rt, alloc, cond)?;
     assert!(rt; found.as_str() == *tests, "{line}");
     Ok(())
 }
@@ -401,7 +410,7 @@ fn conditions(rt: HostRuntime) -> Result<(), Fail> {
     Ok(())
 }
 
-// Numbers, and the immediates that instructions of a size have for them.
+/// Numbers, and the immediates that instructions of a size have for them.
 #[test]
 fn immediates(rt: HostRuntime) {
     let rows = [
@@ -433,7 +442,7 @@ fn immediates(rt: HostRuntime) {
 
 const LENGTH: u32 = 500_000;
 
-// `[r1 + 1 + 1 ..]`
+/// `[r1 + 1 + 1 ..]`
 fn long_access(rt: &impl Abort, alloc: Global) -> Result<Access, AllocError> {
     let mut at = pop(rt, &mut exprs(rt, alloc, "r1")?);
     for _ in 0..LENGTH {

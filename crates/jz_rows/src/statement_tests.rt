@@ -5,13 +5,13 @@ use std::alloc::Global;
 use std::process::Abort;
 use std::test::Fail;
 
-// Each statement is the last of a function with these declarations, on its second line.
+/// Each statement is the last of a function with these declarations, on its second line.
 const HEAD: &str = "\
 param int N = 4; inline fn h(reg u64 a) -> reg u64 { return a; } \
 export fn f(reg u64 x y, reg u32 w, reg u8 k) { reg u64 r q; reg bool c b; \
 stack u64[8] s; reg u64[8] g; inline int i j; i = 1; j = 2;~";
 
-// A bool in an operand, an index or an address.
+/// A bool in an operand, an index or an address.
 const BOOLS: &str = "\
 r = 3 + true; } => type 6 NoInstruction 2:1
 r = 3 - true; } => type 6 NoInstruction 2:1
@@ -71,7 +71,7 @@ r = h(3); } => typed
 r = h(true); } => type 3 Mismatch 2:7
 ";
 
-// Conditions, and what inline variables take.
+/// Conditions, and what inline variables take.
 const CONDITIONS: &str = "\
 if (true) { } } => typed
 if (1 < 2 && true) { } } => typed
@@ -102,7 +102,7 @@ if (-x) { } } => type 3 Mismatch 2:5
 while (!x) { } } => type 3 Mismatch 2:9
 ";
 
-// Destinations that stand among the operands, and accesses that are one.
+/// Destinations that stand among the operands, and accesses that are one.
 const CELLS: &str = "\
 g[2] = g[1 + 1] - x; } => typed
 g[2] = x - g[1 + 1]; } => type 6 NoInstruction 2:1
@@ -157,7 +157,7 @@ r = x + s[r]; } => type 6 NoInstruction 2:1
 r = x / s[r]; } => type 6 NoInstruction 2:1
 ";
 
-// Sizes that are missing, and what integers have not.
+/// Sizes that are missing, and what integers have not.
 const SIZES: &str = "\
 _, _, _, _, _ = #CMP([x], x); } => type 3 Mismatch 2:22
 _, _, _, _, _ = #CMP_64([x], x); } => typed
@@ -202,7 +202,7 @@ if (r <s 3) { } } => typed
 [x + w] = y; } => type 3 Mismatch 2:6
 ";
 
-// Several left sides, and accesses without a size.
+/// Several left sides, and accesses without a size.
 const SIDES: &str = "\
 c, r = x + y; } => typed
 _, r = x - y; } => typed
@@ -230,7 +230,7 @@ r = [[x]]; } => type 3 Mismatch 2:6
 r = [x + [y]]; } => type 3 Mismatch 2:10
 ";
 
-// Counts, products, quotients and flags.
+/// Counts, products, quotients and flags.
 const COUNTS: &str = "\
 r <<= k & 63; } => typed
 r <<= k & 31; } => type 6 NoInstruction 2:1
@@ -283,7 +283,7 @@ r = !c; } => type 3 Mismatch 2:6
 r = !i; } => typed
 ";
 
-// Copies, casts, addresses and instructions by name.
+/// Copies, casts, addresses and instructions by name.
 const MOVES: &str = "\
 s[0] = x; } => typed
 s[0] = 3; } => typed
@@ -343,7 +343,7 @@ w = #BSWAP(w); } => typed
 k = #BSWAP(k); } => type 6 NoInstruction 2:1
 ";
 
-// Constants, their uses, and calls in a circle.
+/// Constants, their uses, and calls in a circle.
 const CONSTANTS: &str = "\
 param int N = N; export fn f() { } => type 1 Unknown 1:15
 param int N = 1 + N; export fn f() { } => type 1 Unknown 1:19
@@ -372,7 +372,7 @@ inline fn a(reg u64 x) { b(y); } inline fn b(reg u64 x) { b(x); } => type 1 Unkn
 inline fn b(reg u64 x) { _ = b(x); } => type 5 Recursion 1:11
 ";
 
-// Inline variables, arrays and results.
+/// Inline variables, arrays and results.
 const CALLS: &str = "\
 export fn f(reg u64 x) { inline int i j; j = 1; i = 3 if j == 1; } => type 4 Storage 1:49
 export fn f(reg u64 x) { inline int i j; j = 1; i = 2; i = 3 if j == 1; } => typed

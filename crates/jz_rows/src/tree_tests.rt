@@ -11,7 +11,7 @@ const HERE: Span = Span { line: 1, col: 2 };
 
 const LENGTH: u32 = 500_000;
 
-// `first + 1 + 1 ..`, with `last` for the last operand.
+/// `first + 1 + 1 ..`, with `last` for the last operand.
 fn chain(alloc: Global, length: u32, first: i128, last: i128) -> Result<Expr, AllocError> {
     let mut e = Expr::Num(first, HERE);
     for _ in 1..length {
@@ -51,7 +51,7 @@ fn table(alloc: Global, length: i128) -> Result<Var, AllocError> {
     })
 }
 
-// `(32s)(- table[5]) * [:u16 7]`
+/// `(32s)(- table[5]) * [:u16 7]`
 fn product(alloc: Global, length: i128) -> Result<Expr, AllocError> {
     let cell = Expr::Cell(table(alloc, length)?, boxed(alloc, 5)?);
     let left = Expr::Cast {

@@ -10,8 +10,8 @@ use Rattle.jz_rules.specs.declared.copies.Argument.{Argument}
 use Rattle.jz_rules.specs.declared.twice.Seen.{Seen}
 use Rattle.jz_rules.specs.Callees.{text_of}
 use Rattle.jz_rules.specs.Copies.{Passed, span_of_var, is_written_at, is_twice, passed_twice}
-use Rattle.jz_rules.specs.Passing.{passed_of}
-use Rattle.jz_rules.specs.Tables.{HasSeen, names_passed, written_among}
+use Rattle.jz_rules.specs.InnerPassing.{passed_of}
+use Rattle.jz_rules.specs.InnerTables.{HasSeen, names_passed, written_among}
 
 -- ---- whether one was passed before
 with_written : (e w r1 r t : Bool) → (r1 || (w && r)) ≡ t → ((e || r1) || (w && (e || r))) ≡ ((e && (w || true)) || t)

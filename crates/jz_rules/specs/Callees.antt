@@ -29,9 +29,13 @@ text_of v = (out-Var v).name
 abbrev pub name_of_param : Param → List ℕ
 name_of_param p = text_of p.var
 
+-- the first place of the name of a variable
+abbrev pub place_among : List (List ℕ) → Var → Option ℕ
+place_among names v = place_of (bytes_eq (text_of v)) names
+
 -- the number of the parameter that a variable of the function is, if it is one
 abbrev pub param_of : Fun → Var → Option ℕ
-param_of g v = place_of (bytes_eq (text_of v)) (map name_of_param g.params)
+param_of g = place_among (map name_of_param g.params)
 
 -- the variables that statements set, as a whole or a cell, those that stand in them among them
 abbrev pub set_in : List Stmt → List Var

@@ -1,5 +1,5 @@
 -- ArrayCopy: where an array would have to be copied.
-use Rattle.std.specs.Prelude.{ℕ, ◌+◌, Bool, false, not, ◌&&◌, ◌||◌, nat_eq, if◌then◌else◌, List, [], ◌∷◌, ◌++◌, map, flat_map, slice_get, Option, Some, None, option_to_list}
+use Rattle.std.specs.Prelude.{ℕ, ◌+◌, Bool, false, not, ◌&&◌, ◌||◌, nat_eq, if◌then◌else◌, List, [], ◌∷◌, ◌++◌, map, flat_map, slice_get, unwrap_or, Option, Some, None, option_to_list}
 use Rattle.std.specs.List.{list_any, zip}
 use Rattle.std.specs.Str.{bytes_eq}
 use Rattle.jz_io.specs.declared.span.Span.{Span}
@@ -69,12 +69,8 @@ gets_back args r = if list_any (is_one (passed_as args r.0)) (whole_left r.1) th
 abbrev pub numbers_back : List Expr → List Given → List ℕ
 numbers_back args rs = flat_map (λ r. option_to_list (gets_back args r)) rs
 
-abbrev pub or_false : Option Bool → Bool
-or_false None = false
-or_false (Some b) = b
-
 abbrev pub is_written_at : List Bool → ℕ → Bool
-is_written_at written i = or_false (slice_get written i)
+is_written_at written i = unwrap_or (slice_get written i) false
 
 -- an array that is passed, and the number of the parameter that it is there
 abbrev pub Passed : Type 0

@@ -1,4 +1,5 @@
--- BadAnnotation and ExportShape: what stands before an export function, and its parameters and results.
+-- BadAnnotation and ExportShape: what stands before an export function, and its parameters and
+-- results.
 use Rattle.std.specs.Prelude.{Bool, true, false, not, ◌&&◌, ◌||◌, nat_le, if◌then◌else◌, List, [], length, flat_map, codes, Some}
 use Rattle.std.specs.List.{list_all}
 use Rattle.std.specs.Str.{bytes_eq}

@@ -23,7 +23,8 @@ integer_step (Expr-F.Not a at) = a
 integer_step (Expr-F.Cast z signed a at) = false
 integer_step (Expr-F.Bin o a b at) = gives_number o && (b && a)
 
--- it is built of numbers, inline variables and operations that give integers; an unknown name counts as inline
+-- it is built of numbers, inline variables and operations that give integers; an unknown name
+-- counts as inline
 abbrev pub is_inline_integer : Expr → Bool
 is_inline_integer = fold-Expr Bool Kind Bool Declared Known integer_step kind_step (λ a. a.at) declared_step known_step
 

@@ -1,9 +1,10 @@
 pub mod Programs
-pub mod Pairs
+pub mod InnerPairs
 pub mod Exports
 pub mod Callees
 pub mod Copies
-pub mod Passing
+pub mod InnerPassing
 pub mod Indexes
 pub mod Tables
 pub mod Matching
+pub mod InnerTables

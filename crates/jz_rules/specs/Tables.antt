@@ -1,40 +1,10 @@
--- What the tables of names hold.
-use Rattle.std.specs.Prelude.{◌≡◌, ℕ, Bool, nat_eq, List, map, filter, option_map}
-use Rattle.std.specs.List.{list_any}
-use Rattle.std.specs.Str.{bytes_eq}
+-- What the table of the functions holds.
+use Rattle.std.specs.Prelude.{◌≡◌, ℕ, List, option_map}
 use Rattle.jz_tree.specs.declared.program.Fun.{Fun}
-use Rattle.jz_scopes.specs.declared.tables.ByName.{ByName}
 use Rattle.jz_scopes.specs.Scopes.{function_named}
 use Rattle.jz_scopes.specs.Tables.{item_in}
 use Rattle.jz_rules.specs.declared.callee.Callees.{Callees}
-use Rattle.jz_rules.specs.declared.tables.Names.{Names}
-use Rattle.jz_rules.specs.declared.tables.Numbers.{Numbers}
-use Rattle.jz_rules.specs.declared.twice.Seen.{Seen}
-use Rattle.jz_rules.specs.Callees.{place_of, text_of, callee_of}
-use Rattle.jz_rules.specs.Copies.{Passed, is_written_at}
-
--- the set has these names
-pub record HasNames (s : Names) (ns : List (List ℕ)) : Type 0 where
-  pub has : (n : List ℕ) → list_any (bytes_eq n) s.texts.keys ≡ list_any (bytes_eq n) ns
-
--- the table has the first place of each name of the list
-pub record HasPlaces (t : ByName ℕ) (ns : List (List ℕ)) : Type 0 where
-  pub first : (n : List ℕ) → item_in t n ≡ place_of (bytes_eq n) ns
-
--- the set has these numbers
-pub record HasNumbers (s : Numbers) (ns : List ℕ) : Type 0 where
-  pub has : (n : ℕ) → list_any (nat_eq n) s.numbers.keys ≡ list_any (nat_eq n) ns
-
-abbrev pub names_passed : List Passed → List (List ℕ)
-names_passed as' = map (λ a. text_of a.1) as'
-
-abbrev pub written_among : List Bool → List Passed → List Passed
-written_among written as' = filter (λ a. is_written_at written a.0) as'
-
--- the sets have the names of the arrays that were passed, and of those that are written
-pub record HasSeen (s : Seen) (bs : List Bool) (as' : List Passed) : Type 0 where
-  pub all : HasNames s.all (names_passed as')
-  pub written : HasNames s.written (names_passed (written_among bs as'))
+use Rattle.jz_rules.specs.Callees.{callee_of}
 
 -- the table has the first function of each name
 pub record HasCallees (t : Callees) (fs : List Fun) : Type 0 where

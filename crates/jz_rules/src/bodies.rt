@@ -38,7 +38,8 @@ pub fn indexed_in(alloc: Global, fun: &Fun) -> Result<Option<Span>, AllocError>
 }
 
 fn copied_in_stmt(alloc: Global, callees: &Callees, stmt: &Stmt) -> Result<Option<Span>, AllocError>
-    ensures { (fs : List Fun) → HasCallees callees.now fs → IfOk result (λ at. at ≡ earliest (of_statement (copied_by fs) stmt.now)) }
+    ensures { (fs : List Fun) → HasCallees callees.now fs
+        → IfOk result (λ at. at ≡ earliest (of_statement (copied_by fs) stmt.now)) }
 {
     copied(alloc, callees.called(stmt), stmt)
 }
@@ -48,7 +49,8 @@ fn copied_in_body(
     callees: &Callees,
     body: &Seq<Stmt>,
 ) -> Result<Option<Span>, AllocError>
-    ensures { (fs : List Fun) → HasCallees callees.now fs → IfOk result (λ at. at ≡ first_in (of_statement (copied_by fs)) (statements_of body.now)) }
+    ensures { (fs : List Fun) → HasCallees callees.now fs
+        → IfOk result (λ at. at ≡ first_in (of_statement (copied_by fs)) (statements_of body.now)) }
 {
     let mut first = None;
     for stmt in statements(alloc, body)? {
@@ -57,10 +59,12 @@ fn copied_in_body(
     Ok(first)
 }
 
-/// The first name, in a function, at which an array would have to be copied. `callees` are the functions of its program.
+/// The first name, in a function, at which an array would have to be copied. `callees` are the
+/// functions of its program.
 #[tactic(auto, using(jz_scopes::proofs::Earliest::joining))]
 pub fn copied_in(alloc: Global, callees: &Callees, fun: &Fun) -> Result<Option<Span>, AllocError>
-    ensures { (fs : List Fun) → HasCallees callees.now fs → IfOk result (λ at. at ≡ earliest (in_body (copied_by fs) fun.now)) }
+    ensures { (fs : List Fun) → HasCallees callees.now fs
+        → IfOk result (λ at. at ≡ earliest (in_body (copied_by fs) fun.now)) }
 {
     let first = copied_in_body(alloc, callees, &fun.body)?;
     Ok(first)

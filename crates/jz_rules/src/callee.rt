@@ -2,12 +2,14 @@
 
 ghost use Rattle.std.specs.Prelude.{◌≡◌, ℕ, [], ◌∷◌, ◌++◌, List, map, IfOk, OnOk};
 ghost use Rattle.std.specs.Option.{option_copied};
-ghost use Rattle.std.specs.Str.{bytes_eq};
 ghost use Rattle.jz_tree.specs.declared.program.Fun.{Fun};
 ghost use Rattle.jz_scopes.specs.Lent.{these};
 ghost use Rattle.jz_scopes.specs.Parts.{layer_of, set_by};
-ghost use Rattle.jz_rules.specs.Callees.{place_of, text_of, name_of_param, param_of, set_in, names_set, is_written, of_callee, entered_by, left_by, callee_of, callee_by};
-ghost use Rattle.jz_rules.specs.Tables.{HasNames, HasPlaces, HasCallees};
+ghost use Rattle.jz_rules.specs.Callees.{place_among, text_of, name_of_param, set_in};
+ghost use Rattle.jz_rules.specs.Callees.{names_set, is_written, of_callee, entered_by, left_by};
+ghost use Rattle.jz_rules.specs.Callees.{callee_of, callee_by};
+ghost use Rattle.jz_rules.specs.Tables.{HasCallees};
+ghost use Rattle.jz_rules.specs.InnerTables.{HasNames, HasPlaces};
 
 use crate::tables::{Names, add_place, place};
 use jz_data::Seq;
@@ -30,7 +32,8 @@ pub struct Callee {
 }
 
 fn add_set<'a>(alloc: Global, list: &mut Vec<&'a Var>, stmt: &'a Stmt) -> Result<(), AllocError>
-    ensures { OnOk result (these list.new.items ≡ these list.old.items ++ set_by (layer_of stmt.now)) }
+    ensures { let set = set_by (layer_of stmt.now) in
+        OnOk result (these list.new.items ≡ these list.old.items ++ set) }
 {
     for var in set_by(alloc, stmt)? {
         list.push(var)?;
@@ -81,7 +84,8 @@ fn with_room<T>(alloc: Global, room: usize) -> Result<Seq<T>, AllocError>
 }
 
 fn written(alloc: Global, names: &Names, params: &Seq<Param>) -> Result<Seq<bool>, AllocError>
-    ensures { (ns : List (List ℕ)) → HasNames names.now ns → IfOk result (λ w. w ≡ map (is_written ns) params.now) }
+    ensures { (ns : List (List ℕ)) → HasNames names.now ns
+        → IfOk result (λ w. w ≡ map (is_written ns) params.now) }
 {
     let mut list = with_room(alloc, params.len())?;
     for param in params.as_slice() {
@@ -105,7 +109,8 @@ fn returned(
     places: &ByName<usize>,
     vars: &Seq<Var>,
 ) -> Result<Seq<Option<usize>>, AllocError>
-    ensures { (ns : List (List ℕ)) → HasPlaces places.now ns → IfOk result (λ r. r ≡ map (λ v. place_of (bytes_eq (text_of v)) ns) vars.now) }
+    ensures { (ns : List (List ℕ)) → HasPlaces places.now ns
+        → IfOk result (λ r. r ≡ map (place_among ns) vars.now) }
 {
     let mut list = with_room(alloc, vars.len())?;
     for var in vars.as_slice() {
@@ -178,7 +183,8 @@ pub struct Callees {
 
 impl Callees {
     fn add(&mut self, alloc: Global, fun: &Fun) -> Result<(), AllocError>
-        ensures { (fs : List Fun) → HasCallees self.old fs → OnOk result (HasCallees self.new (fs ++ fun.now ∷ [])) }
+        ensures { (fs : List Fun) → HasCallees self.old fs
+            → OnOk result (HasCallees self.new (fs ++ fun.now ∷ [])) }
     {
         let callee = Callee::of(alloc, fun)?;
         self.callees.add(&fun.name, callee)?;
@@ -200,7 +206,8 @@ impl Callees {
 
     /// The function that a statement calls, where it calls one that is there.
     pub fn called(&self, stmt: &Stmt) -> Option<&Callee>
-        ensures { (fs : List Fun) → HasCallees self.now fs → option_copied result ≡ callee_by fs (layer_of stmt.now) }
+        ensures { (fs : List Fun) → HasCallees self.now fs
+            → option_copied result ≡ callee_by fs (layer_of stmt.now) }
     {
         match &stmt.kind {
             StmtKind::Assign {

@@ -1,14 +1,18 @@
 //! Where a statement would have to copy an array.
 
-ghost use Rattle.std.specs.Prelude.{◌≡◌, ℕ, ◌++◌, List, map, flat_map, option_to_list, Some, IfOk, OnOk};
+ghost use Rattle.std.specs.Prelude.{◌≡◌, ℕ, ◌++◌, List, map, flat_map, option_to_list, Some, IfOk};
+ghost use Rattle.std.specs.Prelude.{OnOk};
 ghost use Rattle.std.specs.Option.{option_copied};
 ghost use Rattle.jz_scopes.specs.Order.{earliest, first_in};
 ghost use Rattle.jz_scopes.specs.Parts.{layer_of};
 ghost use Rattle.jz_scopes.specs.Kinds.{array_of};
-ghost use Rattle.jz_rules.specs.Pairs.{pair_of};
-ghost use Rattle.jz_rules.specs.Passing.{passed_of};
-ghost use Rattle.jz_rules.specs.Tables.{HasNumbers};
-ghost use Rattle.jz_rules.specs.Copies.{passed_as, is_one, not_passed, gets_back, numbers_back, is_written_at, passed_at, passed_from, not_back, given, passed_wrongly, wrong_arguments, copied_by_call, copied, array_arg, array_left};
+ghost use Rattle.jz_rules.specs.InnerPairs.{pair_of};
+ghost use Rattle.jz_rules.specs.InnerPassing.{passed_of};
+ghost use Rattle.jz_rules.specs.InnerTables.{HasNumbers};
+ghost use Rattle.jz_rules.specs.Copies.{passed_as, is_one, not_passed, gets_back, numbers_back};
+ghost use Rattle.jz_rules.specs.Copies.{is_written_at, passed_at, passed_from, not_back, given};
+ghost use Rattle.jz_rules.specs.Copies.{passed_wrongly, wrong_arguments, copied_by_call, copied};
+ghost use Rattle.jz_rules.specs.Copies.{array_arg, array_left};
 
 use crate::arrays::{array_args, array_lefts};
 use crate::callee::Callee;
@@ -110,7 +114,8 @@ fn add_passed<'a>(
     number: usize,
     arg: &'a Expr,
 ) -> Result<(), AllocError>
-    ensures { OnOk result (map passed_of list.new.items ≡ map passed_of list.old.items ++ passed_at number (array_of arg.now)) }
+    ensures { let more = passed_at number (array_of arg.now) in
+        OnOk result (map passed_of list.new.items ≡ map passed_of list.old.items ++ more) }
 {
     if let Some(array) = array_of(arg) {
         list.push(Argument { number, array })?;
@@ -138,14 +143,16 @@ pub(crate) fn is_written_at(callee: &Callee, number: usize) -> bool
 }
 
 fn not_back(callee: &Callee, back: &Numbers, passed: &Argument<'_>) -> Option<Span>
-    ensures { (ns : List ℕ) → HasNumbers back.now ns → result ≡ earliest (not_back callee.now.written ns (passed_of passed.now)) }
+    ensures { (ns : List ℕ) → HasNumbers back.now ns
+        → result ≡ earliest (not_back callee.now.written ns (passed_of passed.now)) }
 {
     let fine = !is_written_at(callee, passed.number) || back.has(passed.number);
     unless(fine, passed.array.span)
 }
 
 fn not_back_among(callee: &Callee, back: &Numbers, passed: &[Argument<'_>]) -> Option<Span>
-    ensures { (ns : List ℕ) → HasNumbers back.now ns → result ≡ first_in (not_back callee.now.written ns) (map passed_of passed.now) }
+    ensures { (ns : List ℕ) → HasNumbers back.now ns
+        → result ≡ first_in (not_back callee.now.written ns) (map passed_of passed.now) }
 {
     let mut first = None;
     for one in passed {
@@ -160,7 +167,8 @@ fn passed_wrongly(
     results: &[Pair<'_, Option<usize>, Lval>],
     args: &Seq<Expr>,
 ) -> Result<Option<Span>, AllocError>
-    ensures { (to : List Lval) → map pair_of results.now ≡ given callee.now to → IfOk result (λ at. at ≡ earliest (passed_wrongly callee.now to args.now)) }
+    ensures { (to : List Lval) → map pair_of results.now ≡ given callee.now to
+        → IfOk result (λ at. at ≡ earliest (passed_wrongly callee.now to args.now)) }
 {
     let passed = passed(alloc, args)?;
     let numbers = numbers_back(alloc, args, results)?;
@@ -176,7 +184,8 @@ fn wrong_arguments(
     results: &[Pair<'_, Option<usize>, Lval>],
     args: &Seq<Expr>,
 ) -> Result<Option<Span>, AllocError>
-    ensures { (to : List Lval) → map pair_of results.now ≡ given callee.now to → IfOk result (λ at. at ≡ earliest (wrong_arguments callee.now to args.now)) }
+    ensures { (to : List Lval) → map pair_of results.now ≡ given callee.now to
+        → IfOk result (λ at. at ≡ earliest (wrong_arguments callee.now to args.now)) }
 {
     if is_exported(callee.kind) {
         Ok(array_args(args))
@@ -204,7 +213,8 @@ fn copied_by_call(
     to: &Seq<Lval>,
     args: &Seq<Expr>,
 ) -> Result<Option<Span>, AllocError>
-    ensures { IfOk result (λ at. at ≡ earliest (copied_by_call (option_copied callee.entry) to.now args.now)) }
+    ensures { IfOk result
+        (λ at. at ≡ earliest (copied_by_call (option_copied callee.entry) to.now args.now)) }
 {
     match callee {
         None => Ok(None),
@@ -219,16 +229,17 @@ fn given_to_intrinsic(to: &Seq<Lval>, args: &Seq<Expr>) -> Option<Span>
     earlier_of(array_lefts(to), array_args(args))
 }
 
-/// The first name at which a statement would have to copy an array: it assigns an array, or passes one to an intrinsic
-/// or to an export function; an array that the callee writes is not given back to the same variable, or is passed twice;
-/// what is given back is not the array that was passed. Of a call the function is given; where there is none nothing is
-/// asked.
+/// The first name at which a statement would have to copy an array: it assigns an array, or passes
+/// one to an intrinsic or to an export function; an array that the callee writes is not given back
+/// to the same variable, or is passed twice; what is given back is not the array that was passed.
+/// Of a call the function is given; where there is none nothing is asked.
 pub fn copied(
     alloc: Global,
     callee: Option<&Callee>,
     stmt: &Stmt,
 ) -> Result<Option<Span>, AllocError>
-    ensures { IfOk result (λ at. at ≡ earliest (copied (option_copied callee.entry) (layer_of stmt.now))) }
+    ensures { IfOk result
+        (λ at. at ≡ earliest (copied (option_copied callee.entry) (layer_of stmt.now))) }
 {
     let StmtKind::Assign {
         to,

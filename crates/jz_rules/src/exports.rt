@@ -3,7 +3,8 @@
 ghost use Rattle.std.specs.Prelude.{◌≡◌};
 ghost use Rattle.std.specs.List.{list_all};
 ghost use Rattle.jz_scopes.specs.Order.{earliest, first_in};
-ghost use Rattle.jz_rules.specs.Exports.{is_exported, is_word_param, is_word_result, has_shape, misshapen, is_precondition, annotated_by, annotated};
+ghost use Rattle.jz_rules.specs.Exports.{is_exported, is_word_param, is_word_result, has_shape};
+ghost use Rattle.jz_rules.specs.Exports.{misshapen, is_precondition, annotated_by, annotated};
 
 use jz_data::Seq;
 use jz_io::Span;
@@ -50,7 +51,8 @@ fn has_shape(fun: &Fun) -> bool
         && are_word_results(&fun.rets)
 }
 
-/// The name of an export function that has more than six parameters or two results, or another than words in registers.
+/// The name of an export function that has more than six parameters or two results, or another than
+/// words in registers.
 pub fn misshapen(fun: &Fun) -> Option<Span>
     ensures { result ≡ earliest (misshapen fun.now) }
 {

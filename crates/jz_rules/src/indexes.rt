@@ -80,7 +80,8 @@ fn indexed_in_all(alloc: Global, exprs: &[&Expr]) -> Result<Option<Span>, AllocE
     Ok(first)
 }
 
-/// The first index of a register array, in a statement without those that stand in it, that is no inline integer.
+/// The first index of a register array, in a statement without those that stand in it, that is no
+/// inline integer.
 #[tactic(auto, using(jz_scopes::proofs::Earliest::joining))]
 pub fn indexed(alloc: Global, stmt: &Stmt) -> Result<Option<Span>, AllocError>
     ensures { IfOk result (λ at. at ≡ earliest (indexed_by (layer_of stmt.now))) }

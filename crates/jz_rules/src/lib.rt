@@ -1,4 +1,5 @@
-//! Rules of typing: arrays, indexes, annotations, the shape of export functions, and rows of the pattern table.
+//! Rules of typing: arrays, indexes, annotations, the shape of export functions, and rows of the
+//! pattern table.
 #![tactic(auto)]
 
 mod arrays;

@@ -6,8 +6,11 @@ ghost use Rattle.std.specs.Option.{option_copied};
 ghost use Rattle.jz_tree.specs.declared.stmt.StmtKind.TheViews.{out-StmtKind};
 ghost use Rattle.jz_scopes.specs.Order.{earliest};
 ghost use Rattle.jz_scopes.specs.Parts.{layer_of};
-ghost use Rattle.jz_rules.specs.Pairs.{pair_of};
-ghost use Rattle.jz_rules.specs.Matching.{is_set_inline, may_be_inline, sets_inline, needs_row, has_row, has_copy, is_word_left, is_word_value, is_skip, enters, leaves, has_copies_of_call, has_copies, has_rows, unmatched};
+ghost use Rattle.jz_rules.specs.InnerPairs.{pair_of};
+ghost use Rattle.jz_rules.specs.Matching.{is_set_inline, may_be_inline, sets_inline, needs_row};
+ghost use Rattle.jz_rules.specs.Matching.{has_row, has_copy, is_word_left, is_word_value, is_skip};
+ghost use Rattle.jz_rules.specs.Matching.{enters, leaves, has_copies_of_call, has_copies};
+ghost use Rattle.jz_rules.specs.Matching.{unmatched};
 
 use crate::callee::Callee;
 use crate::pairs::{Pair, pairs};
@@ -147,7 +150,8 @@ fn has_copies_of_call(
     to: &Seq<Lval>,
     args: &Seq<Expr>,
 ) -> Result<bool, AllocError>
-    ensures { IfOk result (λ fine. fine ≡ has_copies_of_call (option_copied callee.entry) to.now args.now) }
+    ensures { IfOk result
+        (λ fine. fine ≡ has_copies_of_call (option_copied callee.entry) to.now args.now) }
 {
     let Some(callee) = callee else {
         return Ok(true);
@@ -158,7 +162,8 @@ fn has_copies_of_call(
 }
 
 fn has_copies(alloc: Global, callee: Option<&Callee>, stmt: &Stmt) -> Result<bool, AllocError>
-    ensures { IfOk result (λ fine. fine ≡ has_copies (option_copied callee.entry) (layer_of stmt.now)) }
+    ensures { IfOk result
+        (λ fine. fine ≡ has_copies (option_copied callee.entry) (layer_of stmt.now)) }
 {
     match &stmt.kind {
         StmtKind::Assign {
@@ -177,16 +182,17 @@ fn has_own_row(stmt: &Stmt) -> bool
     !needs_row(&stmt.kind) || has_row(stmt)
 }
 
-/// The statement, where it needs a row of the tables and none matches, or where none matches a copy of an argument or
-/// result of its call. `others` says that another fault is told of it; then none is asked. Of a call the function is
-/// given; where there is none its copies are not asked.
+/// The statement, where it needs a row of the tables and none matches, or where none matches a copy
+/// of an argument or result of its call. `others` says that another fault is told of it; then none
+/// is asked. Of a call the function is given; where there is none its copies are not asked.
 pub fn unmatched(
     alloc: Global,
     callee: Option<&Callee>,
     others: bool,
     stmt: &Stmt,
 ) -> Result<Option<Span>, AllocError>
-    ensures { IfOk result (λ at. at ≡ earliest (unmatched (option_copied callee.entry) others stmt.now)) }
+    ensures { IfOk result
+        (λ at. at ≡ earliest (unmatched (option_copied callee.entry) others stmt.now)) }
 {
     if others {
         return Ok(None);

@@ -2,7 +2,7 @@
 
 ghost use Rattle.std.specs.Prelude.{◌≡◌, IfOk, map};
 ghost use Rattle.std.specs.List.{zip};
-ghost use Rattle.jz_rules.specs.Pairs.{pair_of};
+ghost use Rattle.jz_rules.specs.InnerPairs.{pair_of};
 
 use std::alloc::{AllocError, Global};
 

@@ -4,7 +4,7 @@ ghost use Rattle.std.specs.Prelude.{◌≡◌, ℕ, nat_eq, [], ◌∷◌, ◌++
 ghost use Rattle.std.specs.List.{list_any};
 ghost use Rattle.std.specs.Str.{bytes_eq};
 ghost use Rattle.jz_rules.specs.Callees.{place_of};
-ghost use Rattle.jz_rules.specs.Tables.{HasNames, HasNumbers, HasPlaces};
+ghost use Rattle.jz_rules.specs.InnerTables.{HasNames, HasNumbers, HasPlaces};
 
 use indexmap::IndexSet;
 use jz_data::Text;
@@ -27,13 +27,15 @@ impl Names {
     }
 
     pub(crate) fn has(&self, name: &Text) -> bool
-        ensures { (ns : List (List ℕ)) → HasNames self.now ns → result ≡ list_any (bytes_eq name.now) ns }
+        ensures { (ns : List (List ℕ)) → HasNames self.now ns
+            → result ≡ list_any (bytes_eq name.now) ns }
     {
         self.texts.contains(name)
     }
 
     pub(crate) fn add(&mut self, name: &Text) -> Result<(), AllocError>
-        ensures { (ns : List (List ℕ)) → HasNames self.old ns → OnOk result (HasNames self.new (ns ++ name.now ∷ [])) }
+        ensures { (ns : List (List ℕ)) → HasNames self.old ns
+            → OnOk result (HasNames self.new (ns ++ name.now ∷ [])) }
     {
         self.texts.insert(name.clone()?)?;
         Ok(())
@@ -62,7 +64,8 @@ impl Numbers {
     }
 
     fn add(&mut self, number: usize) -> Result<(), AllocError>
-        ensures { (ns : List ℕ) → HasNumbers self.old ns → OnOk result (HasNumbers self.new (ns ++ number ∷ [])) }
+        ensures { (ns : List ℕ) → HasNumbers self.old ns
+            → OnOk result (HasNumbers self.new (ns ++ number ∷ [])) }
     {
         self.numbers.insert(number)?;
         Ok(())
@@ -81,7 +84,8 @@ impl Numbers {
 
 /// The first place of a name in a list.
 pub(crate) fn place(places: &ByName<usize>, name: &Text) -> Option<usize>
-    ensures { (ns : List (List ℕ)) → HasPlaces places.now ns → result ≡ place_of (bytes_eq name.now) ns }
+    ensures { (ns : List (List ℕ)) → HasPlaces places.now ns
+        → result ≡ place_of (bytes_eq name.now) ns }
 {
     match places.get(name) {
         None => None,
@@ -95,7 +99,8 @@ pub(crate) fn add_place(
     name: &Text,
     place: usize,
 ) -> Result<(), AllocError>
-    ensures { (ns : List (List ℕ)) → place ≡ length ns → HasPlaces places.old ns → OnOk result (HasPlaces places.new (ns ++ name.now ∷ [])) }
+    ensures { (ns : List (List ℕ)) → place ≡ length ns → HasPlaces places.old ns
+        → OnOk result (HasPlaces places.new (ns ++ name.now ∷ [])) }
 {
     places.add(name, place)?;
     Ok(())

@@ -1,11 +1,11 @@
 //! Arrays that are passed twice.
 
-ghost use Rattle.std.specs.Prelude.{◌≡◌, [], ◌∷◌, ◌++◌, Bool, List, map, not, IfOk, OnOk};
+ghost use Rattle.std.specs.Prelude.{◌≡◌, [], ◌∷◌, ◌++◌, List, map, IfOk, OnOk};
 ghost use Rattle.std.specs.List.{list_any};
 ghost use Rattle.jz_scopes.specs.Order.{earliest, unless};
-ghost use Rattle.jz_rules.specs.Copies.{Passed, is_written_at, span_of_var, is_twice, passed_twice};
-ghost use Rattle.jz_rules.specs.Passing.{passed_of};
-ghost use Rattle.jz_rules.specs.Tables.{HasSeen};
+ghost use Rattle.jz_rules.specs.Copies.{Passed, is_written_at, is_twice, passed_twice};
+ghost use Rattle.jz_rules.specs.InnerPassing.{passed_of};
+ghost use Rattle.jz_rules.specs.InnerTables.{HasSeen};
 
 use crate::callee::Callee;
 use crate::copies::{Argument, is_written_at};
@@ -22,14 +22,16 @@ struct Seen {
 }
 
 fn is_twice(seen: &Seen, callee: &Callee, passed: &Argument<'_>) -> bool
-    ensures { (before : List Passed) → HasSeen seen.now callee.now.written before → result ≡ list_any (is_twice callee.now.written (passed_of passed.now)) before }
+    ensures { (before : List Passed) → HasSeen seen.now callee.now.written before
+        → result ≡ list_any (is_twice callee.now.written (passed_of passed.now)) before }
 {
     let name = &passed.array.name;
     seen.written.has(name) || is_written_at(callee, passed.number) && seen.all.has(name)
 }
 
 fn add(seen: &mut Seen, callee: &Callee, passed: &Argument<'_>) -> Result<(), AllocError>
-    ensures { (before : List Passed) → HasSeen seen.old callee.now.written before → OnOk result (HasSeen seen.new callee.now.written (before ++ passed_of passed.now ∷ [])) }
+    ensures { (before : List Passed) → HasSeen seen.old callee.now.written before
+        → OnOk result (HasSeen seen.new callee.now.written (before ++ passed_of passed.now ∷ [])) }
 {
     seen.all.add(&passed.array.name)?;
     if is_written_at(callee, passed.number) {
@@ -44,7 +46,8 @@ pub(crate) fn passed_twice(
     callee: &Callee,
     passed: &[Argument<'_>],
 ) -> Result<Option<Span>, AllocError>
-    ensures { IfOk result (λ at. at ≡ earliest (passed_twice callee.now.written [] (map passed_of passed.now))) }
+    ensures { let all = map passed_of passed.now in
+        IfOk result (λ at. at ≡ earliest (passed_twice callee.now.written [] all)) }
 {
     let mut seen = Seen {
         all: Names::new(alloc),

@@ -3,7 +3,8 @@ use Rattle.std.proofs.Common.{◌≡◌, ◌+◌, ◌<◌, ◌≤◌, ◌⊎◌,
 use Rattle.std.specs.Prelude.{slice_get}
 use Rattle.jz_tree.specs.declared.program.Fun.{Fun}
 use Rattle.jz_tree.specs.declared.program.Program.{Program}
-use Rattle.jz_calls.specs.Numbers.{graph_of, Has, row_of, Leads, directly, further}
+use Rattle.jz_calls.specs.Numbers.{directly, further}
+use Rattle.jz_calls.specs.InnerNumbers.{graph_of, Has, row_of, Leads}
 use Rattle.jz_calls.specs.Recursion.{CallsAt}
 use Rattle.jz_calls.proofs.Bridge.{closed, called_at, stands, cycle_down}
 use Rattle.jz_calls.proofs.Ranked.{same_length}

@@ -10,7 +10,8 @@ use Rattle.jz_tree.specs.declared.expr.Expr.TheOpen.{Expr-F, Access-F}
 use Rattle.jz_tree.specs.declared.expr.Expr.TheViews.{out-Access, roll-Expr, roll-Access, out-roll-Access}
 use Rattle.jz_tree.specs.declared.expr.Expr.TheFolds.{ind-Expr, map-Expr, map-Access}
 use Rattle.jz_select.specs.Trees.{Named, named, names_eq, Tree, index_of, tree_eq}
-use Rattle.jz_select.specs.Places.{Layer, Answers, is_number, one_cell, same_index, touches, touches_layer}
+use Rattle.jz_select.specs.Places.{Layer, Answers, is_number, one_cell, same_index, touches}
+use Rattle.jz_select.specs.InnerLayers.{touches_layer}
 use Rattle.jz_select.specs.Hardest.{guess}
 use Rattle.jz_select.proofs.Uses.{layer_is}
 use Rattle.jz_select.proofs.TreeLaws.{tree_one, tree_self}

@@ -1,4 +1,5 @@
--- A statement that has a row with the hardest answers has it with all, and the hardest answers are answers.
+-- A statement that has a row with the hardest answers has it with all, and the hardest answers are
+-- answers.
 use Rattle.std.proofs.Common.{◌≡◌, Bool, true, false, ◌&&◌, ◌||◌, not, List, [], ◌∷◌, Option, Some, None, refl, sym, ap, ◌∙◌, inl, inr}
 use Rattle.std.specs.Prelude.{◌⊎◌, if◌then◌else◌}
 use Rattle.jz_tree.specs.declared.expr.BinOp.{BinOp}
@@ -32,7 +33,8 @@ use Rattle.jz_select.specs.Rows.{is_m, is_rm, is_rmi, is_flag, is_pinned, is_sam
 use Rattle.jz_select.specs.Shapes.{Asked, whichever, itself, carries, five_lead, value_behind, conditional, beside, carry_layer, value_layer, update_layer, assign_of, value_shape, one_shape, two_shape, three_shape, product_shape, stand_apart, division_shape, intrinsic_shape, named_shape, rhs_shape, kind_layer, shape_of}
 use Rattle.jz_select.specs.Shapes as shaped
 use Rattle.jz_select.specs.Hardest.{guess, index_beside, hardest}
-use Rattle.jz_select.specs.Selected.{chosen, table, first_of, or_pattern}
+use Rattle.std.specs.Option.{option_or}
+use Rattle.jz_select.specs.Selected.{chosen, table, first_of}
 use Rattle.jz_select.proofs.Meetings.{same_or_apart, no_same, but_same, but_apart, yes_apart}
 use Rattle.jz_select.proofs.Keeping.{Goes, an, first, second, and_kept, two_goes, quotient_goes, carry_goes, one_goes, two_kept, three_kept, one_kept, product_kept, named_kept}
 
@@ -213,7 +215,7 @@ module _ (B : Answers) (d : Lval) where
 abbrev pub Keeps : Shape → Shape → Type 0
 Keeps s t = (q : Pattern) → chosen s ≡ Some q → chosen t ≡ Some q
 
-or_none : (x : Option Pattern) → or_pattern x None ≡ x
+or_none : (x : Option Pattern) → option_or x None ≡ x
 or_none None = refl
 or_none (Some q) = refl
 

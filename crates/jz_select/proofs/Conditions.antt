@@ -5,7 +5,8 @@ use Rattle.jz_tree.specs.declared.expr.Expr.TheOpen.{Expr-F}
 use Rattle.jz_tree.specs.declared.expr.Expr.TheViews.{out-Expr, roll-Expr, roll-out-Expr}
 use Rattle.jz_tree.specs.declared.expr.Expr.TheFolds.{para-roll-Expr, map-Expr}
 use Rattle.jz_select.specs.Places.{Layer}
-use Rattle.jz_select.specs.Shapes.{TestLayer, has_flags, flags_step, flags_layer}
+use Rattle.jz_select.specs.Shapes.{TestLayer, has_flags, flags_step}
+use Rattle.jz_select.specs.InnerLayers.{flags_layer}
 
 abbrev paired : Layer → TestLayer
 paired x = map-Expr _ _ _ _ _ _ _ _ _ _ (λ y. (y, has_flags y)) (λ y. (y, tt)) (λ y. (y, tt)) (λ y. (y, tt)) (λ y. (y, tt)) x

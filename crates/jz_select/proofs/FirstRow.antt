@@ -16,7 +16,8 @@ use Rattle.jz_select.specs.Shapes.{Asked, whichever, assign_of, shape_of}
 use Rattle.jz_select.specs.Hardest.{hardest}
 use Rattle.jz_select.proofs.Choices.{Keeps, assign_kept, statement_kept}
 use Rattle.jz_select.proofs.SomeAnswers.{assign_some, statement_some}
-use Rattle.jz_select.specs.Selected.{Row, table, rows, intrinsics, intrinsic_row, is_named, NoneMatches, Tells, TellsAll, IsCopied, IsSelected, first_of, named, or_pattern, chosen}
+use Rattle.std.specs.Option.{option_or}
+use Rattle.jz_select.specs.Selected.{Row, table, rows, intrinsics, intrinsic_row, is_named, NoneMatches, Tells, TellsAll, IsCopied, IsSelected, first_of, named, chosen}
 
 all_nil : (s : Shape) → NoneMatches [] s
 all_nil s = All-nil (λ q. q.1 s ≡ false)
@@ -37,11 +38,11 @@ pub first_tells : (rs : List Row) (s : Shape) → Tells rs s (first_of rs s)
 first_tells [] s = all_nil s
 first_tells (r ∷ rs) s = one_more r rs s (r.1 s) refl (first_tells rs s)
 
-or_if : (b : Bool) (p : Pattern) (x y : Option Pattern) → (if b then Some p else or_pattern x y) ≡ or_pattern (if b then Some p else x) y
+or_if : (b : Bool) (p : Pattern) (x y : Option Pattern) → (if b then Some p else option_or x y) ≡ option_or (if b then Some p else x) y
 or_if true p x y = refl
 or_if false p x y = refl
 
-first_append : (xs ys : List Row) (s : Shape) → first_of (xs ++ ys) s ≡ or_pattern (first_of xs s) (first_of ys s)
+first_append : (xs ys : List Row) (s : Shape) → first_of (xs ++ ys) s ≡ option_or (first_of xs s) (first_of ys s)
 first_append [] ys s = refl
 first_append (r ∷ rs) ys s = ap (λ x. if r.1 s then Some r.0 else x) (first_append rs ys s) ∙ or_if (r.1 s) r.0 (first_of rs s) (first_of ys s)
 
@@ -84,7 +85,7 @@ all_named (Some name.Setcc) = refl
 chosen_is : (s : Shape) → first_of rows s ≡ chosen s
 unfolding chosen
 chosen_is s = first_append table (map intrinsic_row intrinsics) s
-    ∙ ap (or_pattern (first_of table s)) (rows_by_name intrinsics s ∙ all_named (intrinsic_of s))
+    ∙ ap (option_or (first_of table s)) (rows_by_name intrinsics s ∙ all_named (intrinsic_of s))
 
 chosen_tells : (s : Shape) (answer : Option Pattern) → answer ≡ chosen s → Tells rows s answer
 chosen_tells s answer e = subst (λ x. Tells rows s x) (chosen_is s ∙ sym e) (first_tells rows s)

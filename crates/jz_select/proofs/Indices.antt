@@ -10,14 +10,15 @@ use Rattle.jz_tree.specs.declared.expr.Var.{Var}
 use Rattle.jz_io.specs.declared.span.Span.{Span}
 use Rattle.jz_integers.specs.declared.constant.Constant.{Constant}
 use Rattle.jz_integers.specs.Integers.{value_step, the_number, written_number}
-use Rattle.jz_select.specs.Trees.{Named, Tree, Number, Truth, Name, CellOf, Loaded, Minus, Opposite, CastTo, Both, tree_step, tree_of, tree_eq, numbered, index_of, indices_eq}
+use Rattle.jz_select.specs.Trees.{Named, named_step, Tree, Number, Truth, Name, CellOf, Loaded, Minus, Opposite, CastTo, Both, tree_step, tree_of, tree_eq, numbered, index_of}
+use Rattle.jz_select.specs.InnerLayers.{indices_eq}
 use Rattle.jz_select.specs.Places.{Layer, is_number}
 
 abbrev var_named : Var → Named
-var_named = fold-Var Tree (Unit {0}) Tree (Unit {0}) Named tree_step (λ t. tt) (λ a. a.at) (λ d. tt) (λ v. (v.name, (v.copy, v.cell)))
+var_named = fold-Var Tree (Unit {0}) Tree (Unit {0}) Named tree_step (λ t. tt) (λ a. a.at) (λ d. tt) named_step
 
 abbrev at_tree : Access → Tree
-at_tree = fold-Access Tree (Unit {0}) Tree (Unit {0}) Named tree_step (λ t. tt) (λ a. a.at) (λ d. tt) (λ v. (v.name, (v.copy, v.cell)))
+at_tree = fold-Access Tree (Unit {0}) Tree (Unit {0}) Named tree_step (λ t. tt) (λ a. a.at) (λ d. tt) named_step
 
 abbrev tree_layer : Layer → Tree
 tree_layer y = tree_step (map-Expr _ _ _ _ _ Tree (Unit {0}) Tree (Unit {0}) Named tree_of (λ t. tt) at_tree (λ d. tt) var_named y)
@@ -30,7 +31,7 @@ value_of_number : (n : ℤ) (at : Span) → written_number (roll-Expr (Expr-F.Nu
 value_of_number n at = ap the_number (fold-roll-Expr (Option Constant) (Unit {0}) (Unit {0}) (Unit {0}) (Option ℤ) value_step (λ t. tt) (λ a. tt) (λ d. tt) (λ v. None) (Expr-F.Num n at))
 
 tree_is : (y : Layer) → tree_of (roll-Expr y) ≡ tree_layer y
-tree_is y = fold-roll-Expr Tree (Unit {0}) Tree (Unit {0}) Named tree_step (λ t. tt) (λ a. a.at) (λ d. tt) (λ v. (v.name, (v.copy, v.cell))) y
+tree_is y = fold-roll-Expr Tree (Unit {0}) Tree (Unit {0}) Named tree_step (λ t. tt) (λ a. a.at) (λ d. tt) named_step y
 
 no_number : (n : ℤ) (w : Option ℤ) → w ≡ Some n → w ≡ None → ⊥
 no_number n w e h = cc

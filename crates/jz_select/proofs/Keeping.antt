@@ -15,7 +15,8 @@ use Rattle.jz_select.specs.declared.pattern.Pattern.TheVariants as pattern
 use Rattle.jz_select.specs.declared.shape.Value.TheVariants as values
 use Rattle.jz_select.specs.declared.shape.Shape.{Shape}
 use Rattle.jz_select.specs.declared.shape.Shape.TheVariants as shapes
-use Rattle.jz_select.specs.Rows.{is_rm, is_i, is_rmi, is_apart_from, computes, changes, sums, times, times_inline, is_product, is_quotient, shifts_inline, shifts_masked, masks, divides, swaps, is_wide, is_long, is_longest, or_size, size_of, is_r, is_skip, is_flag, is_pinned, may_lead, are_inline, product_size, one_fits, two_fits, three_fits, named_if}
+use Rattle.std.specs.Option.{option_or}
+use Rattle.jz_select.specs.Rows.{is_rm, is_i, is_rmi, is_apart_from, computes, changes, sums, times, times_inline, is_product, is_quotient, shifts_inline, shifts_masked, masks, divides, swaps, is_wide, is_long, is_longest, size_of, is_r, is_skip, is_flag, is_pinned, may_lead, are_inline, product_size, one_fits, two_fits, three_fits, named_if}
 use Rattle.jz_select.specs.Selected.{table, first_of, named}
 
 -- ---- tests
@@ -109,7 +110,7 @@ module _ (d a o : Class) (m n m' n' : Meeting)
   inline_kept = and_kept (is_i o) _ _ changed
 
   masked_kept : (z : Option Size) → shifts_masked z d (an a m) (an o n) ≡ true → shifts_masked z d (an a m') (an o n') ≡ true
-  masked_kept z = and_kept (masks (is_longest (or_size z (or_size (size_of d) (size_of a)))) o) _ _ (computed false)
+  masked_kept z = and_kept (masks (is_longest (option_or z (option_or (size_of d) (size_of a)))) o) _ _ (computed false)
 
   -- a product is not one of an inline operand
   not_inline : times d (an a m') (an o n') ≡ true → times_inline d (an a m) (an o n) ≡ false
@@ -198,7 +199,7 @@ module _ (d a : Class) (m m' : Meeting) (changed : changes d (an a m) ≡ true �
   one_kept name.Inc z e = changed e
   one_kept name.Dec z e = changed e
   one_kept name.Not z e = changed e
-  one_kept name.Bswap z e = and_kept (is_r d) _ _ (and_kept (is_long (or_size z (size_of d))) _ _ changed) e
+  one_kept name.Bswap z e = and_kept (is_r d) _ _ (and_kept (is_long (option_or z (size_of d))) _ _ changed) e
   one_kept _ z e = e
 
 -- ---- quotients

@@ -9,7 +9,8 @@ use Rattle.jz_words.specs.declared.size.Size.TheVariants.{S8, S16, S32, S64}
 use Rattle.jz_words.specs.Sizes.{bits_of, half, modulus, signed}
 use Rattle.jz_words.specs.Words.{modulo, residue}
 use Rattle.jz_words.proofs.Residues.{residue_below}
-use Rattle.jz_select.specs.Immediates.{reading_of, is_short, immediate_of}
+use Rattle.jz_words.specs.Readings.{fits_bytes, reading_of}
+use Rattle.jz_select.specs.Immediates.{immediate_of}
 
 -- ---- a word and its reading
 back : (a m : ℕ) (z : ℤ) → z ≡ pos a -ℤ pos m → a < m → modulo z m ≡ a
@@ -30,21 +31,21 @@ stands_for s a lt =
 
 pub same_word : (s : Size) (n : ℤ) → IfSome (immediate_of s n) (λ k. residue s k ≡ residue s n)
 same_word s n =
-    cond_both (is_short (reading_of s n)) (Some (reading_of s n)) None (λ o. IfSome o (λ k. residue s k ≡ residue s n))
+    cond_both (fits_bytes 4 (reading_of s n)) (Some (reading_of s n)) None (λ o. IfSome o (λ k. residue s k ≡ residue s n))
     (λ t. stands_for s (residue s n) (residue_below s n))
     (λ f. tt)
 
 -- ---- up to 32 bits
-short_by : (z : ℤ) → (pos 0 -ℤ pos (2 ^ 31)) ≤ℤ z → z <ℤ pos (2 ^ 31) → is_short z ≡ true
+short_by : (z : ℤ) → (pos 0 -ℤ pos (2 ^ 31)) ≤ℤ z → z <ℤ pos (2 ^ 31) → fits_bytes 4 z ≡ true
 short_by z low high = grind (arith, ints)
 
-is_within : (h m a : ℕ) → m ≡ 2 * h → h ≤ 2 ^ 31 → a < m → is_short (if nat_lt a h then pos a else (pos a -ℤ pos m)) ≡ true
+is_within : (h m a : ℕ) → m ≡ 2 * h → h ≤ 2 ^ 31 → a < m → fits_bytes 4 (if nat_lt a h then pos a else (pos a -ℤ pos m)) ≡ true
 is_within h m a e le lt =
-    cond_both (nat_lt a h) (pos a) (pos a -ℤ pos m) (λ z. is_short z ≡ true)
+    cond_both (nat_lt a h) (pos a) (pos a -ℤ pos m) (λ z. fits_bytes 4 z ≡ true)
     (λ t. let below = ltb-true a h t in short_by (pos a) (omega (arith, ints)) (omega (arith, ints, below, le)))
     (λ f. let above = ltb-false a h f in short_by (pos a -ℤ pos m) (omega (arith, ints, above, e, le)) (omega (arith, ints, lt)))
 
-reads_short : (s : Size) (a : ℕ) → bits_of s ≤ 32 → a < modulus s → is_short (signed s a) ≡ true
+reads_short : (s : Size) (a : ℕ) → bits_of s ≤ 32 → a < modulus s → fits_bytes 4 (signed s a) ≡ true
 unfolding signed
 reads_short S8 a le lt = is_within (half S8) (modulus S8) a refl (omega arith) lt
 reads_short S16 a le lt = is_within (half S16) (modulus S16) a refl (omega arith) lt
@@ -54,4 +55,4 @@ reads_short S64 a le lt = absurd (omega (arith, le))
 pub has_one : (s : Size) (n : ℤ) → bits_of s ≤ 32 → IsSome (immediate_of s n)
 has_one s n le =
     let short = reads_short s (residue s n) le (residue_below s n) in
-    ap is_some (cond-true (is_short (reading_of s n)) (Some (reading_of s n)) None short)
+    ap is_some (cond-true (fits_bytes 4 (reading_of s n)) (Some (reading_of s n)) None short)

@@ -31,21 +31,23 @@ cell_self : (a : Option ℕ) → cell_eq a a ≡ true
 cell_self None = refl
 cell_self (Some j) = (unsigned_Decides j j).1 refl
 
-named_by : (a a' : List ℕ) (b b' : ℕ) (c c' : Option ℕ) → a ≡ a' → b ≡ b' → c ≡ c' → ◌≡◌ {A = Named} (a, (b, c)) (a', (b', c'))
+abbrev of_parts : List ℕ → ℕ → Option ℕ → Named
+of_parts name copy cell = record { name = name; copy = copy; cell = cell }
+
+named_by : (a a' : List ℕ) (b b' : ℕ) (c c' : Option ℕ) → a ≡ a' → b ≡ b' → c ≡ c'
+    → of_parts a b c ≡ of_parts a' b' c'
 named_by a a' b b' c c' e f g =
-    let first : ◌≡◌ {A = Named} (a, (b, c)) (a', (b, c)) = ap (λ x. (x, (b, c))) e in
-    let second : ◌≡◌ {A = Named} (a', (b, c)) (a', (b', c)) = ap (λ x. (a', (x, c))) f in
-    let third : ◌≡◌ {A = Named} (a', (b', c)) (a', (b', c')) = ap (λ x. (a', (b', x))) g in
-    first ∙ (second ∙ third)
+    ap (λ x. of_parts x b c) e
+    ∙ (ap (λ x. of_parts a' x c) f ∙ ap (λ x. of_parts a' b' x) g)
 
 names_one : (v w : Named) → names_eq v w ≡ true → v ≡ w
 names_one v w e =
-    let texts = from_both (bytes_eq v.0 w.0) (nat_eq v.1.0 w.1.0 && cell_eq v.1.1 w.1.1) e in
-    let rest = from_both (nat_eq v.1.0 w.1.0) (cell_eq v.1.1 w.1.1) texts.1 in
-    named_by v.0 w.0 v.1.0 w.1.0 v.1.1 w.1.1 ((bytes_eq-Decides v.0 w.0).0 texts.0) ((unsigned_Decides v.1.0 w.1.0).0 rest.0) (cell_one v.1.1 w.1.1 rest.1)
+    let texts = from_both (bytes_eq v.name w.name) (nat_eq v.copy w.copy && cell_eq v.cell w.cell) e in
+    let rest = from_both (nat_eq v.copy w.copy) (cell_eq v.cell w.cell) texts.1 in
+    named_by v.name w.name v.copy w.copy v.cell w.cell ((bytes_eq-Decides v.name w.name).0 texts.0) ((unsigned_Decides v.copy w.copy).0 rest.0) (cell_one v.cell w.cell rest.1)
 
 names_self : (v : Named) → names_eq v v ≡ true
-names_self v = to_both _ _ ((bytes_eq-Decides v.0 v.0).1 refl) (to_both _ _ ((unsigned_Decides v.1.0 v.1.0).1 refl) (cell_self v.1.1))
+names_self v = to_both _ _ ((bytes_eq-Decides v.name v.name).1 refl) (to_both _ _ ((unsigned_Decides v.copy v.copy).1 refl) (cell_self v.cell))
 
 truth_one : (a b : Bool) → bool_eq a b ≡ true → a ≡ b
 truth_one true true e = refl

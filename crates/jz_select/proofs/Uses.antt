@@ -6,7 +6,8 @@ use Rattle.jz_tree.specs.declared.expr.Expr.TheOpen.{Expr-F}
 use Rattle.jz_tree.specs.declared.expr.Expr.TheViews.{out-Expr, out-Access, roll-Expr, roll-out-Expr, roll-out-Access}
 use Rattle.jz_tree.specs.declared.expr.Expr.TheFolds.{para-roll-Expr, para-roll-Access, map-Expr, para-Access}
 use Rattle.jz_select.specs.Trees.{Named, Tree}
-use Rattle.jz_select.specs.Places.{Layer, Answers, UseLayer, use_step, touches, touches_layer}
+use Rattle.jz_select.specs.Places.{Layer, Answers, UseLayer, use_step, touches}
+use Rattle.jz_select.specs.InnerLayers.{touches_layer}
 
 module _ (answers : Answers) (d : Named) (x : Option Tree) where
   touches_at : Access → Bool

@@ -1,20 +1,16 @@
--- The answers with which a row is hardest to match: where one matches with these, one matches with all.
+-- The answers with which a row is hardest to match: where one matches with these, one matches with
+-- all.
 use Rattle.std.specs.Prelude.{Bool, true, false, not, Option, Some, None, if◌then◌else◌}
 use Rattle.jz_tree.specs.declared.expr.Expr.{Expr}
 use Rattle.jz_tree.specs.declared.expr.Expr.TheOpen.{Expr-F}
 use Rattle.jz_tree.specs.declared.expr.Expr.TheViews.{out-Expr}
 use Rattle.jz_tree.specs.declared.stmt.Lval.{Lval}
 use Rattle.jz_tree.specs.declared.stmt.Lval.TheVariants as lval
-use Rattle.jz_select.specs.declared.comparing.Index.{Index}
 use Rattle.jz_select.specs.Trees.{Named, named, names_eq, Tree, index_of, tree_eq}
 use Rattle.jz_select.specs.Places.{Layer, Answers}
 use Rattle.jz_select.specs.Operands.{dest_of}
 use Rattle.jz_select.specs.Rows.{is_m}
 use Rattle.jz_select.specs.Shapes.{Asked}
-
-abbrev pub index_if : Option Index → Option Tree
-index_if None = None
-index_if (Some i) = Some (index_of i.at.now)
 
 -- the index of the first operand, where it is a cell of the destination's array
 abbrev pub cell_index : Named → Layer → Option Tree

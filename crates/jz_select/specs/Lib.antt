@@ -8,3 +8,4 @@ pub mod Shapes
 pub mod Hardest
 pub mod Selected
 pub mod Immediates
+pub mod InnerLayers

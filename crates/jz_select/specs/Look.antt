@@ -1,19 +1,19 @@
--- What an expression is: an inline integer, an inline condition, a register of 64 bits, such a register times a scale;
--- and the terms of its sum.
-use Rattle.std.specs.Prelude.{Bool, true, false, ◌&&◌, ◌||◌, not, Option, Some, if◌then◌else◌}
+-- What an expression is: an inline integer, an inline condition, a register of 64 bits, such a
+-- register times a scale; and the terms of its sum.
+use Rattle.std.specs.Prelude.{Bool, true, false, ◌&&◌, ◌||◌, not, Some, None, if◌then◌else◌}
 use Rattle.jz_words.specs.declared.size.Size.TheVariants as sizes
 use Rattle.jz_tree.specs.declared.expr.Storage.{Storage}
 use Rattle.jz_tree.specs.declared.expr.Storage.TheVariants as storage
 use Rattle.jz_tree.specs.declared.expr.BinOp.{BinOp}
 use Rattle.jz_tree.specs.declared.expr.BinOp.TheVariants as op
 use Rattle.jz_tree.specs.declared.expr.Expr.{Expr}
-use Rattle.jz_tree.specs.declared.expr.Var.{Var}
-use Rattle.jz_tree.specs.declared.expr.Ty.{Ty}
-use Rattle.jz_tree.specs.declared.expr.Expr.TheOpen.{Expr-F, Ty-F}
-use Rattle.jz_tree.specs.declared.expr.Expr.TheFolds.{fold-Expr, fold-Var, fold-Ty}
+use Rattle.jz_tree.specs.declared.expr.Expr.TheOpen.{Expr-F}
+use Rattle.jz_tree.specs.declared.expr.Expr.TheFolds.{fold-Expr}
+use Rattle.jz_scopes.specs.declared.kinds.Kind.{Kind}
+use Rattle.jz_scopes.specs.declared.kinds.Kind.TheVariants as kind
+use Rattle.jz_scopes.specs.declared.kinds.Declared.{Declared}
+use Rattle.jz_scopes.specs.Kinds.{Known, inline_int, kind_step, declared_step, known_step}
 use Rattle.jz_select.specs.declared.class.Sum.{Sum}
-use Rattle.jz_select.specs.declared.look.Kind.{Kind}
-use Rattle.jz_select.specs.declared.look.Kind.TheVariants as kind
 use Rattle.jz_select.specs.Sums.{joined, term, taken, sum_of}
 
 pub record Look : Type 0 where
@@ -23,27 +23,26 @@ pub record Look : Type 0 where
   pub scaled : Bool
   pub sum : Sum
 
--- a declaration without the length of its array
-abbrev pub Decided : Type 0
-Decided = Option (Storage × Kind)
+-- a variable of an unknown name is none of these
+abbrev pub is_inline_var : Known → Bool
+is_inline_var None = false
+is_inline_var (Some d) = inline_int d.storage d.kind
 
-abbrev pub kind_step : {A B C D E : Type 0} → Ty-F A B C D E → Kind
-kind_step Ty-F.Int = kind.Int
-kind_step (Ty-F.Ty::Bool) = kind.Bool
-kind_step (Ty-F.Word z) = kind.Word z
-kind_step (Ty-F.Array z n) = kind.Array z
+abbrev pub reg64 : Storage → Kind → Bool
+reg64 storage.Reg (kind.Word sizes.S64) = true
+reg64 _ _ = false
 
-abbrev pub is_inline_var : Decided → Bool
-is_inline_var (Some (storage.Inline, kind.Int)) = true
-is_inline_var _ = false
+abbrev pub regs64 : Storage → Kind → Bool
+regs64 storage.Reg (kind.Array sizes.S64) = true
+regs64 _ _ = false
 
-abbrev pub is_reg64 : Decided → Bool
-is_reg64 (Some (storage.Reg, kind.Word sizes.S64)) = true
-is_reg64 _ = false
+abbrev pub is_reg64 : Known → Bool
+is_reg64 None = false
+is_reg64 (Some d) = reg64 d.storage d.kind
 
-abbrev pub is_regs64 : Decided → Bool
-is_regs64 (Some (storage.Reg, kind.Array sizes.S64)) = true
-is_regs64 _ = false
+abbrev pub is_regs64 : Known → Bool
+is_regs64 None = false
+is_regs64 (Some d) = regs64 d.storage d.kind
 
 abbrev pub looks : Bool → Bool → Bool → Bool → Look
 looks i c r s = record { inline = i; condition = c; reg = r; scaled = s; sum = term i r s }
@@ -72,16 +71,19 @@ compares_values _ = false
 abbrev pub gives_number : BinOp → Bool
 gives_number o = not (joins o) && not (compares_values o)
 
--- an inline integer is built of numbers, inline variables and operations that give integers; a bool is none
+-- an inline integer is built of numbers, inline variables and operations that give integers; a bool
+-- is none
 abbrev pub bin_inline : BinOp → Look → Look → Bool
 bin_inline o a b = gives_number o && (b.inline && a.inline)
 
--- an inline condition is built of `true`, `false`, comparisons of inline integers, `&&`, `||` and `!`
+-- an inline condition is built of `true`, `false`, comparisons of inline integers, `&&`, `||` and
+-- `!`
 abbrev pub bin_condition : BinOp → Look → Look → Bool
 bin_condition o a b =
     if joins o then b.condition && a.condition else compares_values o && (b.inline && a.inline)
 
--- a register times an inline expression, in either order; what value a scale may have the expansion asks
+-- a register times an inline expression, in either order; what value a scale may have the expansion
+-- asks
 abbrev pub bin_scaled : BinOp → Look → Look → Bool
 bin_scaled op.Mul a b = (a.reg && b.inline) || (a.inline && b.reg)
 bin_scaled _ a b = false
@@ -92,7 +94,7 @@ bin_sum op.Add a b = joined b.sum a.sum
 bin_sum op.Sub a b = joined (taken b.inline) a.sum
 bin_sum o a b = term (bin_inline o a b) false (bin_scaled o a b)
 
-abbrev pub look_step : Expr-F Look Kind Look (Storage × Kind) Decided → Look
+abbrev pub look_step : Expr-F Look Kind Look Declared Known → Look
 look_step (Expr-F.Num n at) = looks true false false false
 look_step (Expr-F.Expr::Bool b at) = looks false true false false
 look_step (Expr-F.Var v) = looks (is_inline_var v) false (is_reg64 v) false
@@ -110,13 +112,8 @@ look_step (Expr-F.Bin o a b at) = record {
 }
 
 abbrev pub look_of : Expr → Look
-look_of = fold-Expr _ _ _ _ _ look_step kind_step (λ a. a.at) (λ d. (d.storage, d.ty)) (λ v. v.decl)
-
-abbrev pub decl_of : Var → Decided
-decl_of = fold-Var _ _ _ _ _ look_step kind_step (λ a. a.at) (λ d. (d.storage, d.ty)) (λ v. v.decl)
-
-abbrev pub kind_of_ty : Ty → Kind
-kind_of_ty = fold-Ty _ _ _ _ _ look_step kind_step (λ a. a.at) (λ d. (d.storage, d.ty)) (λ v. v.decl)
+look_of =
+    fold-Expr Look Kind Look Declared Known look_step kind_step (λ a. a.at) declared_step known_step
 
 -- the terms of a sum
 abbrev pub terms_of : Expr → Sum

@@ -18,7 +18,8 @@ abbrev pub Layer : Type 0
 Layer = Expr-F Expr Ty Access Decl Var
 
 -- ---- comparisons of indices
--- an answer to each comparison of an index of the destination with an index of an operand that is open
+-- an answer to each comparison of an index of the destination with an index of an operand that is
+-- open
 abbrev pub Answers : Type 0
 Answers = Tree → Tree → Bool
 
@@ -26,7 +27,8 @@ abbrev pub is_number : Tree → Bool
 is_number (Number n) = true
 is_number _ = false
 
--- two cells of one array are one cell: their indices are equal, or the answer says so; two values that differ are two
+-- two cells of one array are one cell: their indices are equal, or the answer says so; two values
+-- that differ are two
 abbrev pub one_cell : Answers → Tree → Tree → Bool
 one_cell answers x y = tree_eq x y || (not (is_number x && is_number y) && answers x y)
 
@@ -55,19 +57,6 @@ unfoldable pub touches : Answers → Named → Option Tree → Expr → Bool
 touches answers d x = para-Expr Bool (Unit {0}) Bool (Unit {0}) (Unit {0}) (use_step answers d x)
     (λ t. tt) (λ a. a.at.1) (λ d. tt) (λ v. tt)
 
--- the same by the outermost layer
-abbrev pub touches_layer : Answers → Named → Option Tree → Layer → Bool
-touches_layer answers d x (Expr-F.Num n at) = false
-touches_layer answers d x (Expr-F.Expr::Bool b at) = false
-touches_layer answers d x (Expr-F.Var v) = names_eq (named v) d
-touches_layer answers d x (Expr-F.Cell v at) =
-    (names_eq (named v) d && same_index answers x (index_of at)) || touches answers d x at
-touches_layer answers d x (Expr-F.Load a) = touches answers d x (out-Access a).at
-touches_layer answers d x (Expr-F.Neg a at) = touches answers d x a
-touches_layer answers d x (Expr-F.Not a at) = touches answers d x a
-touches_layer answers d x (Expr-F.Cast z s a at) = touches answers d x a
-touches_layer answers d x (Expr-F.Bin o a b at) = touches answers d x b || touches answers d x a
-
 -- ---- how a destination and an operand meet
 abbrev pub elsewhere : Bool → Meeting
 elsewhere t = if t then meeting.Within else meeting.Apart
@@ -93,5 +82,6 @@ store_layer_meets at _ = meeting.Apart
 abbrev pub meeting_of : Answers → Lval → Expr → Meeting
 meeting_of answers (lval.Skip at) e = meeting.Apart
 meeting_of answers (lval.Var v) e = var_layer_meets answers (named v) e (out-Expr e)
-meeting_of answers (lval.Cell v k) e = cell_layer_meets answers (named v) (index_of k) e (out-Expr e)
+meeting_of answers (lval.Cell v k) e =
+    cell_layer_meets answers (named v) (index_of k) e (out-Expr e)
 meeting_of answers (lval.Store a) e = store_layer_meets (tree_of (out-Access a).at) (out-Expr e)

@@ -1,6 +1,7 @@
--- The rows of the pattern table and the intrinsics, by the classes of their operands. R is a register, M memory, I an
--- inline integer; d is R or M.
+-- The rows of the pattern table and the intrinsics, by the classes of their operands. R is a
+-- register, M memory, I an inline integer; d is R or M.
 use Rattle.std.specs.Prelude.{Bool, true, false, ◌&&◌, ◌||◌, not, nat_lt, Option, Some, None, if◌then◌else◌}
+use Rattle.std.specs.Option.{option_or}
 use Rattle.jz_words.specs.declared.size.Size.{Size}
 use Rattle.jz_words.specs.declared.size.Size.TheVariants as sizes
 use Rattle.jz_words.specs.Sizes.{bits_of}
@@ -75,10 +76,6 @@ size_of (class.Reg z) = Some z
 size_of (class.Mem z) = z
 size_of _ = None
 
-abbrev pub or_size : Option Size → Option Size → Option Size
-or_size None b = b
-or_size (Some z) b = Some z
-
 -- 16, 32 or 64 bits
 abbrev pub is_wide : Option Size → Bool
 is_wide None = false
@@ -143,9 +140,9 @@ swaps op.Sub = false
 swaps p = adds p || joins_bits p
 
 -- ---- the destination as first operand
--- an instruction `OP d, o` has its first operand where its result goes. Either the first operand a is d; or the operands
--- may be swapped and o is d; or d is a register that the rest does not have, and a is copied to it first. Then one
--- instruction has at most one M.
+-- an instruction `OP d, o` has its first operand where its result goes. Either the first operand a
+-- is d; or the operands may be swapped and o is d; or d is a register that the rest does not have,
+-- and a is copied to it first. Then one instruction has at most one M.
 abbrev pub computes : Bool → Class → Operand → Operand → Bool
 computes swapped d a o = is_rm d && (is_rmi a.class &&
     ((is_same a && not (is_m d && is_m o.class))
@@ -169,17 +166,21 @@ abbrev pub is_alone : Option Class → Bool
 is_alone None = true
 is_alone (Some c) = false
 
--- a sum, a difference or an operation on bits, perhaps with a flag before; two inline operands are one
+-- a sum, a difference or an operation on bits, perhaps with a flag before; two inline operands are
+-- one
 abbrev pub sums : Option Class → Bool → Class → Operand → Operand → Bool
-sums lead swapped d a o = may_lead lead && (is_rmi o.class && (not (are_inline a o) && computes swapped d a o))
+sums lead swapped d a o =
+    may_lead lead && (is_rmi o.class && (not (are_inline a o) && computes swapped d a o))
 
 -- a quotient or remainder in a register that the divisor does not have
 abbrev pub is_quotient : Class → Operand → Operand → Bool
-is_quotient d a b = is_r d && (is_long (size_of d) && (is_rmi a.class && (is_rm b.class && is_apart b)))
+is_quotient d a b =
+    is_r d && (is_long (size_of d) && (is_rmi a.class && (is_rm b.class && is_apart b)))
 
 -- a product in a register; the operands are not swapped where the first is I
 abbrev pub times : Class → Operand → Operand → Bool
-times d a o = is_r d && (is_wide (size_of d) && (is_rm o.class && computes (not (is_i a.class)) d a o))
+times d a o =
+    is_r d && (is_wide (size_of d) && (is_rm o.class && computes (not (is_i a.class)) d a o))
 
 -- a product of R or M and I
 abbrev pub times_inline : Class → Operand → Operand → Bool
@@ -187,11 +188,15 @@ times_inline d a o = is_r d && (is_wide (size_of d) && (is_rm a.class && is_i o.
 
 -- the size that a name says, else that of a result or operand
 abbrev pub product_size : Option Size → Class → Class → Operand → Operand → Option Size
-product_size z h l a b = or_size z (or_size (size_of h) (or_size (size_of l) (or_size (size_of a.class) (size_of b.class))))
+product_size z h l a b =
+    option_or z
+    (option_or (size_of h)
+    (option_or (size_of l) (option_or (size_of a.class) (size_of b.class))))
 
 -- both halves of a product
 abbrev pub is_product : Option Size → Class → Class → Operand → Operand → Bool
-is_product z h l a b = is_pinned h && (is_long (product_size z h l a b) && (is_rmi a.class && (is_rm b.class
+is_product z h l a b =
+    is_pinned h && (is_long (product_size z h l a b) && (is_rmi a.class && (is_rm b.class
     && (is_skip l || (is_r l && computes (not (is_i a.class)) l a b)))))
 
 abbrev pub shifts_inline : Class → Operand → Operand → Bool
@@ -207,7 +212,9 @@ masks longest (class.Masked m) = keeps m longest
 masks longest _ = false
 
 abbrev pub shifts_masked : Option Size → Class → Operand → Operand → Bool
-shifts_masked z d a o = masks (is_longest (or_size z (or_size (size_of d) (size_of a.class)))) o.class && computes false d a o
+shifts_masked z d a o =
+    masks (is_longest (option_or z (option_or (size_of d) (size_of a.class)))) o.class
+    && computes false d a o
 
 -- ---- the rows
 -- P1 `d = o`
@@ -217,7 +224,8 @@ p1 _ = false
 
 -- P2 `d = a op o`, op `+ - & | ^`; a flag may lead for `+` and `-`
 abbrev pub p2 : Shape → Bool
-p2 (shapes.Assign lead d w (values.Two p a o)) = (adds p || (joins_bits p && is_alone lead)) && sums lead (swaps p) d a o
+p2 (shapes.Assign lead d w (values.Two p a o)) =
+    (adds p || (joins_bits p && is_alone lead)) && sums lead (swaps p) d a o
 p2 _ = false
 
 -- P3 `d = a + o + c`, `d = a - o - c`, c a flag; a flag may lead
@@ -262,17 +270,20 @@ p10 _ = false
 
 -- P11 `r = (tu)o`, o R or M, smaller
 abbrev pub p11 : Shape → Bool
-p11 (shapes.Assign None d w (values.Cast z signed o)) = not signed && (is_r d && (is_rm o && is_below (size_of o) z))
+p11 (shapes.Assign None d w (values.Cast z signed o)) =
+    not signed && (is_r d && (is_rm o && is_below (size_of o) z))
 p11 _ = false
 
 -- P12 `r = (ts)o`, the same
 abbrev pub p12 : Shape → Bool
-p12 (shapes.Assign None d w (values.Cast z signed o)) = signed && (is_r d && (is_rm o && is_below (size_of o) z))
+p12 (shapes.Assign None d w (values.Cast z signed o)) =
+    signed && (is_r d && (is_rm o && is_below (size_of o) z))
 p12 _ = false
 
 -- P13 `r = (tu)a`, a R of the same size or a larger one
 abbrev pub p13 : Shape → Bool
-p13 (shapes.Assign None d w (values.Cast z signed a)) = not signed && (is_r d && (is_r a && not (is_below (size_of a) z)))
+p13 (shapes.Assign None d w (values.Cast z signed a)) =
+    not signed && (is_r d && (is_r a && not (is_below (size_of a) z)))
 p13 _ = false
 
 -- P14 `r = o if c`, o R or M; 16, 32 and 64 bits
@@ -291,7 +302,7 @@ one_fits name.Neg z d a = changes d a
 one_fits name.Inc z d a = changes d a
 one_fits name.Dec z d a = changes d a
 one_fits name.Not z d a = changes d a
-one_fits name.Bswap z d a = is_r d && (is_long (or_size z (size_of d)) && changes d a)
+one_fits name.Bswap z d a = is_r d && (is_long (option_or z (size_of d)) && changes d a)
 one_fits _ z d a = false
 
 abbrev pub two_fits : Intrinsic → Option Size → Class → Operand → Operand → Bool
@@ -313,10 +324,20 @@ three_fits name.Adc d a o c = is_flag c && (is_rmi o.class && computes true d a 
 three_fits name.Sbb d a o c = is_flag c && (is_rmi o.class && computes false d a o)
 three_fits _ d a o c = false
 
--- the quotient is written before the high word and the divisor are read, the remainder before the divisor is
+-- the size that the name of a division says, else that of a result or operand
+abbrev pub division_size : Option Size → Class → Class → Class → Class → Class → Option Size
+division_size z q r hi lo b =
+    option_or z
+    (option_or (size_of q)
+    (option_or (size_of r)
+    (option_or (size_of hi) (option_or (size_of lo) (size_of b)))))
+
+-- the quotient is written before the high word and the divisor are read, the remainder before the
+-- divisor is
 abbrev pub divides_long : Option Size → Class → Class → Class → Class → Class → Bool → Bool
-divides_long z q r hi lo b apart = is_pinned q && (is_pinned r && (is_rmi hi && (is_rmi lo && (is_rm b && (apart
-    && is_long (or_size z (or_size (size_of q) (or_size (size_of r) (or_size (size_of hi) (or_size (size_of lo) (size_of b)))))))))))
+divides_long z q r hi lo b apart =
+    is_pinned q && (is_pinned r && (is_rmi hi && (is_rmi lo && (is_rm b && (apart
+    && is_long (division_size z q r hi lo b))))))
 
 -- a byte, R or M
 abbrev pub sets : Option Size → Class → Bool
@@ -330,9 +351,11 @@ abbrev pub intrinsic_of : Shape → Option Intrinsic
 intrinsic_of (shapes.One n z d a) = named_if n (one_fits n z d a)
 intrinsic_of (shapes.Two n z d a o) = named_if n (two_fits n z d a o)
 intrinsic_of (shapes.Three n d a o c) = named_if n (three_fits n d a o c)
-intrinsic_of (shapes.Address z d sum) = named_if name.Lea (is_r d && (is_longest (or_size z (size_of d)) && sum))
+intrinsic_of (shapes.Address z d sum) =
+    named_if name.Lea (is_r d && (is_longest (option_or z (size_of d)) && sum))
 intrinsic_of (shapes.Compare n a o) = named_if n (is_rm a && (is_r o || is_i o))
 intrinsic_of (shapes.Product z h l a b) = named_if name.Mul (is_product z h l a b)
-intrinsic_of (shapes.Division z q r hi lo b apart) = named_if name.Div (divides_long z q r hi lo b apart)
+intrinsic_of (shapes.Division z q r hi lo b apart) =
+    named_if name.Div (divides_long z q r hi lo b apart)
 intrinsic_of (shapes.Set z d c) = named_if name.Setcc (sets z d && c)
 intrinsic_of _ = None

@@ -1,5 +1,6 @@
 -- The first row that matches.
 use Rattle.std.specs.Prelude.{ℕ, Bool, true, false, nat_eq, List, [], ◌∷◌, ◌++◌, ◌≡◌, map, All, Option, Some, None, if◌then◌else◌}
+use Rattle.std.specs.Option.{option_or}
 use Rattle.jz_tree.specs.declared.stmt.StmtKind.{StmtKind}
 use Rattle.jz_select.specs.declared.pattern.Pattern.{Pattern}
 use Rattle.jz_select.specs.declared.pattern.Pattern.TheVariants as pattern
@@ -19,9 +20,11 @@ Row = Pattern × (Shape → Bool)
 
 -- the rows of the pattern table in their order, then the conditions of `if` and `while`
 abbrev pub operations : List Row
-operations = (pattern.P 2, p2) ∷ (pattern.P 3, p3) ∷ (pattern.P 4, p4) ∷ (pattern.P 5, p5) ∷ (pattern.P 6, p6) ∷ (pattern.P 7, p7)
-    ∷ (pattern.P 8, p8) ∷ (pattern.P 9, p9) ∷ (pattern.P 10, p10) ∷ (pattern.P 11, p11) ∷ (pattern.P 12, p12) ∷ (pattern.P 13, p13)
-    ∷ (pattern.P 14, p14) ∷ (pattern.Condition, condition) ∷ []
+operations =
+    (pattern.P 2, p2) ∷ (pattern.P 3, p3) ∷ (pattern.P 4, p4) ∷ (pattern.P 5, p5) ∷ (pattern.P 6, p6)
+    ∷ (pattern.P 7, p7) ∷ (pattern.P 8, p8) ∷ (pattern.P 9, p9) ∷ (pattern.P 10, p10)
+    ∷ (pattern.P 11, p11) ∷ (pattern.P 12, p12) ∷ (pattern.P 13, p13) ∷ (pattern.P 14, p14)
+    ∷ (pattern.Condition, condition) ∷ []
 
 abbrev pub table : List Row
 table = (pattern.P 1, p1) ∷ operations
@@ -57,9 +60,10 @@ is_named n None = false
 is_named n (Some m) = nat_eq (number_of n) (number_of m)
 
 abbrev pub intrinsics : List Intrinsic
-intrinsics = name.Add ∷ name.Sub ∷ name.And ∷ name.Or ∷ name.Xor ∷ name.Adc ∷ name.Sbb ∷ name.Neg ∷ name.Inc ∷ name.Dec ∷ name.Not
-    ∷ name.Bswap ∷ name.Lea ∷ name.Cmp ∷ name.Test ∷ name.Shl ∷ name.Shr ∷ name.Sar ∷ name.Rol ∷ name.Ror ∷ name.Imul ∷ name.Mul
-    ∷ name.Div ∷ name.Setcc ∷ []
+intrinsics =
+    name.Add ∷ name.Sub ∷ name.And ∷ name.Or ∷ name.Xor ∷ name.Adc ∷ name.Sbb ∷ name.Neg ∷ name.Inc
+    ∷ name.Dec ∷ name.Not ∷ name.Bswap ∷ name.Lea ∷ name.Cmp ∷ name.Test ∷ name.Shl ∷ name.Shr
+    ∷ name.Sar ∷ name.Rol ∷ name.Ror ∷ name.Imul ∷ name.Mul ∷ name.Div ∷ name.Setcc ∷ []
 
 -- an intrinsic as a row
 abbrev pub intrinsic_row : Intrinsic → Row
@@ -74,14 +78,16 @@ NoneMatches rs s = All (λ q. q.1 s ≡ false) rs
 
 -- the row r of that list matches, and no row before it does
 abbrev pub FirstMatches : List Row → Shape → Row → Type 0
-FirstMatches rs s r = (before : List Row) × (after : List Row) × (rs ≡ before ++ r ∷ after) × (r.1 s ≡ true) × NoneMatches before s
+FirstMatches rs s r =
+    (before : List Row) × (after : List Row) × (rs ≡ before ++ r ∷ after) × (r.1 s ≡ true)
+    × NoneMatches before s
 
 abbrev pub Tells : List Row → Shape → Option Pattern → Type 0
 Tells rs s None = NoneMatches rs s
 Tells rs s (Some p) = (r : Row) × (r.0 ≡ p) × FirstMatches rs s r
 
--- whichever way the open comparisons go, the statement matches the row of that pattern, and no row before it; or there are
--- answers with which it matches none
+-- whichever way the open comparisons go, the statement matches the row of that pattern, and no row
+-- before it; or there are answers with which it matches none
 abbrev pub TellsAll : (Answers → Shape) → Option Pattern → Type 0
 TellsAll shape None = (answers : Answers) × NoneMatches rows (shape answers)
 TellsAll shape (Some p) = (answers : Answers) → Tells rows (shape answers) (Some p)
@@ -93,24 +99,21 @@ IsSelected k answer = TellsAll (λ answers. shape_of (whichever answers) k) answ
 unfoldable pub IsCopied : Lval → Expr → Option Pattern → Type 0
 IsCopied to e answer = TellsAll (λ answers. assign_of (whichever answers) None to None e) answer
 
+-- a statement has one answer
+abbrev pub HasOneRow : StmtKind → Type 0
+HasOneRow k = (a b : Option Pattern) → IsSelected k a → IsSelected k b → a ≡ b
+
 -- ---- the same by a function
 abbrev pub first_of : List Row → Shape → Option Pattern
 first_of [] s = None
 first_of (r ∷ rs) s = if r.1 s then Some r.0 else first_of rs s
 
-abbrev pub row_if : ℕ → Bool → Option Pattern
-row_if n fits = if fits then Some (pattern.P n) else None
-
 abbrev pub named : Option Intrinsic → Option Pattern
 named None = None
 named (Some n) = Some (pattern.Intrinsic n)
 
-abbrev pub or_pattern : Option Pattern → Option Pattern → Option Pattern
-or_pattern None b = b
-or_pattern (Some p) b = Some p
-
 unfoldable pub chosen : Shape → Option Pattern
-chosen s = or_pattern (first_of table s) (named (intrinsic_of s))
+chosen s = option_or (first_of table s) (named (intrinsic_of s))
 
 -- the answers with which it is hardest tell which row is selected
 unfoldable pub selected : StmtKind → Option Pattern

@@ -30,7 +30,8 @@ use Rattle.jz_select.specs.declared.shape.Shape.TheVariants as shapes
 use Rattle.jz_tree.specs.declared.intrinsic.Instance.{Instance}
 use Rattle.jz_select.specs.declared.shaping.Flags.{Flags}
 use Rattle.jz_select.specs.declared.shaping.Flags.TheVariants as flags
-use Rattle.jz_select.specs.Look.{decl_of, look_of, terms_of, compares_values}
+use Rattle.jz_scopes.specs.Kinds.{known_of}
+use Rattle.jz_select.specs.Look.{look_of, terms_of, compares_values}
 use Rattle.jz_select.specs.Sums.{is_sum}
 use Rattle.jz_select.specs.Places.{Layer, Answers}
 use Rattle.jz_select.specs.Operands.{class_of, dest_of, operand_of, var_class}
@@ -38,7 +39,8 @@ use Rattle.jz_tree.specs.Spellings.{spelled}
 use Rattle.jz_select.specs.Rows.{is_m, is_rm, is_rmi, is_flag, is_flag_result, is_apart, divides}
 
 -- ---- operands
--- which answers hold for an operand, by its destination and, but for a division, by the first operand
+-- which answers hold for an operand, by its destination and, but for a division, by the first
+-- operand
 abbrev pub Asked : Type 0
 Asked = Lval → Option Expr → Answers
 
@@ -65,12 +67,13 @@ abbrev pub compares : BinOp → Class → Class → Bool
 compares p a o = compares_values p && (is_rm a && (is_rmi o && not (is_m a && is_m o)))
 
 abbrev pub TestLayer : Type 0
-TestLayer = Expr-F (Expr × Bool) (Ty × Unit {0}) (Access × Unit {0}) (Decl × Unit {0}) (Var × Unit {0})
+TestLayer =
+    Expr-F (Expr × Bool) (Ty × Unit {0}) (Access × Unit {0}) (Decl × Unit {0}) (Var × Unit {0})
 
 abbrev pub flags_step : TestLayer → Bool
 flags_step (Expr-F.Num n at) = false
 flags_step (Expr-F.Expr::Bool b at) = false
-flags_step (Expr-F.Var v) = is_flag (var_class (decl_of v.0))
+flags_step (Expr-F.Var v) = is_flag (var_class (known_of v.0))
 flags_step (Expr-F.Cell v at) = false
 flags_step (Expr-F.Load a) = false
 flags_step (Expr-F.Neg a at) = false
@@ -83,25 +86,14 @@ unfoldable pub has_flags : Expr → Bool
 has_flags = para-Expr Bool (Unit {0}) (Unit {0}) (Unit {0}) (Unit {0}) flags_step
     (λ x. tt) (λ x. tt) (λ x. tt) (λ x. tt)
 
--- the same by the outermost layer
-abbrev pub flags_layer : Layer → Bool
-flags_layer (Expr-F.Num n at) = false
-flags_layer (Expr-F.Expr::Bool b at) = false
-flags_layer (Expr-F.Var v) = is_flag (var_class (decl_of v))
-flags_layer (Expr-F.Cell v at) = false
-flags_layer (Expr-F.Load a) = false
-flags_layer (Expr-F.Neg a at) = false
-flags_layer (Expr-F.Not a at) = has_flags a
-flags_layer (Expr-F.Cast size signed a at) = false
-flags_layer (Expr-F.Bin o a b at) = compares o (class_of a) (class_of b)
-
 -- of an `if` or `while`: also an inline condition
 abbrev pub is_test : Expr → Bool
 is_test c = has_flags c || (look_of c).condition
 
 -- `d = e if c`
 abbrev pub conditional : List Lval → Option BinOp → Rhs → Expr → Shape
-conditional (d ∷ []) None (rhs.Value e) c = shapes.Conditional (dest_of d) (class_of e) (has_flags c)
+conditional (d ∷ []) None (rhs.Value e) c =
+    shapes.Conditional (dest_of d) (class_of e) (has_flags c)
 conditional _ p e c = shapes.Free
 
 -- ---- intrinsics
@@ -138,7 +130,8 @@ set_shape i d args = shapes.Free
 
 abbrev pub compare_shape : Instance → List Lval → List Expr → Shape
 compare_shape i (of' ∷ cf ∷ sf ∷ pf ∷ zf ∷ []) (a ∷ o ∷ []) =
-    if five_lead of' cf sf pf zf then shapes.Compare i.name (class_of a) (class_of o) else shapes.Free
+    if five_lead of' cf sf pf zf then shapes.Compare i.name (class_of a) (class_of o)
+    else shapes.Free
 compare_shape i to args = shapes.Free
 
 module _ (asked : Asked) where
@@ -150,13 +143,17 @@ module _ (asked : Asked) where
   -- a sum or difference that ends with a flag
   abbrev pub carry_layer : Lval → BinOp → Layer → Value
   carry_layer d o (Expr-F.Bin p a b at) =
-      if carries o p then values.Carry o (beside d (Some a) a) (beside d (Some a) b) else values.Alone
+      if carries o p then values.Carry o (beside d (Some a) a) (beside d (Some a) b)
+      else values.Alone
   carry_layer d o _ = values.Alone
+
+  -- an operation of two operands beside its destination
+  abbrev pub two_beside : Lval → BinOp → Expr → Expr → Value
+  two_beside d o a b = values.Two o (beside d (first_of o a) a) (beside d (first_of o a) b)
 
   abbrev pub value_layer : Lval → Layer → Value
   value_layer d (Expr-F.Bin o a b at) =
-      if is_flag (class_of b) then carry_layer d o (out-Expr a)
-      else values.Two o (beside d (first_of o a) a) (beside d (first_of o a) b)
+      if is_flag (class_of b) then carry_layer d o (out-Expr a) else two_beside d o a b
   value_layer d (Expr-F.Neg a at) = values.One (beside d (Some a) a)
   value_layer d (Expr-F.Not a at) = values.One (beside d (Some a) a)
   value_layer d (Expr-F.Cast z signed a at) = values.Cast z signed (class_of a)
@@ -172,7 +169,8 @@ module _ (asked : Asked) where
   -- `d = e`, or `d op= e`, which is `d = d op e`
   abbrev pub assign_of : Option Class → Lval → Option BinOp → Expr → Shape
   assign_of lead d None e = shapes.Assign lead (dest_of d) (class_of e) (value_layer d (out-Expr e))
-  assign_of lead d (Some o) e = shapes.Assign lead (dest_of d) class.Other (update_layer d o e (out-Expr e))
+  assign_of lead d (Some o) e =
+      shapes.Assign lead (dest_of d) class.Other (update_layer d o e (out-Expr e))
 
   abbrev pub value_shape : List Lval → Option BinOp → Expr → Shape
   value_shape (d ∷ []) p e = assign_of None d p e

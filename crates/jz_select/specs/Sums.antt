@@ -8,20 +8,29 @@ capped a b = if nat_lt (a + b) 3 then a + b else 3
 
 -- the terms of both
 abbrev pub joined : Sum → Sum → Sum
-joined a b = record { plain = capped a.plain b.plain; scaled = capped a.scaled b.scaled; good = a.good && b.good }
+joined a b = record {
+  plain = capped a.plain b.plain;
+  scaled = capped a.scaled b.scaled;
+  good = a.good && b.good;
+}
 
 abbrev pub sum_of : ℕ → ℕ → Bool → Sum
 sum_of p s g = record { plain = p; scaled = s; good = g }
 
 -- one term that is added: inline, a register, a register times a scale, or none of these
 abbrev pub term : Bool → Bool → Bool → Sum
-term inline reg scaled = if inline then sum_of 0 0 true else if reg then sum_of 1 0 true else if scaled then sum_of 0 1 true else sum_of 0 0 false
+term inline reg scaled =
+    if inline then sum_of 0 0 true
+    else if reg then sum_of 1 0 true
+    else if scaled then sum_of 0 1 true
+    else sum_of 0 0 false
 
 -- one term that is taken away
 abbrev pub taken : Bool → Sum
 taken inline = sum_of 0 0 inline
 
--- at most one base and one index, which may be a register alone; where two registers stand alone, one is the index
+-- at most one base and one index, which may be a register alone; where two registers stand alone,
+-- one is the index
 abbrev pub is_sum : Sum → Bool
 is_sum s = s.good && (nat_le s.scaled 1 && nat_le (s.plain + s.scaled) 2)
 

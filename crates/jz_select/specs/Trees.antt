@@ -3,22 +3,27 @@ use Rattle.std.specs.Prelude.{ℕ, ℤ, Bool, true, false, ◌&&◌, not, nat_eq
 use Rattle.std.specs.Ordering.{int_eq}
 use Rattle.std.specs.Str.{bytes_eq}
 use Rattle.jz_words.specs.declared.size.Size.{Size}
-use Rattle.jz_words.specs.Sizes.{bits_of}
 use Rattle.jz_tree.specs.declared.expr.BinOp.{BinOp}
 use Rattle.jz_tree.specs.declared.expr.BinOp.TheVariants as op
 use Rattle.jz_tree.specs.declared.expr.Expr.{Expr}
 use Rattle.jz_tree.specs.declared.expr.Var.{Var}
-use Rattle.jz_tree.specs.declared.expr.Expr.TheOpen.{Expr-F}
+use Rattle.jz_tree.specs.declared.expr.Expr.TheOpen.{Expr-F, Var-F}
 use Rattle.jz_tree.specs.declared.expr.Expr.TheViews.{out-Var}
 use Rattle.jz_tree.specs.declared.expr.Expr.TheFolds.{fold-Expr}
 use Rattle.jz_integers.specs.Integers.{written_number}
+use Rattle.jz_scopes.specs.Kinds.{same_size}
 
 -- ---- one variable: the same name, copy and cell, wherever it stands
-abbrev pub Named : Type 0
-Named = List ℕ × (ℕ × Option ℕ)
+pub record Named : Type 0 where
+  pub name : List ℕ
+  pub copy : ℕ
+  pub cell : Option ℕ
+
+abbrev pub named_step : {A B C D E : Type 0} → Var-F A B C D E → Named
+named_step v = record { name = v.name; copy = v.copy; cell = v.cell }
 
 abbrev pub named : Var → Named
-named v = ((out-Var v).name, ((out-Var v).copy, (out-Var v).cell))
+named v = named_step (out-Var v)
 
 abbrev pub cell_eq : Option ℕ → Option ℕ → Bool
 cell_eq None None = true
@@ -26,7 +31,7 @@ cell_eq (Some j) (Some k) = nat_eq j k
 cell_eq _ _ = false
 
 abbrev pub names_eq : Named → Named → Bool
-names_eq a b = bytes_eq a.0 b.0 && (nat_eq a.1.0 b.1.0 && cell_eq a.1.1 b.1.1)
+names_eq a b = bytes_eq a.name b.name && (nat_eq a.copy b.copy && cell_eq a.cell b.cell)
 
 -- ---- an expression without spans, declarations and the sizes of accesses
 pub data Tree : Type 0 where
@@ -51,7 +56,7 @@ tree_step (Expr-F.Bin o a b at) = Both o a b
 
 abbrev pub tree_of : Expr → Tree
 tree_of = fold-Expr Tree (Unit {0}) Tree (Unit {0}) Named tree_step
-    (λ t. tt) (λ a. a.at) (λ d. tt) (λ v. (v.name, (v.copy, v.cell)))
+    (λ t. tt) (λ a. a.at) (λ d. tt) named_step
 
 abbrev pub numbered : Option ℤ → Tree → Tree
 numbered None t = t
@@ -103,12 +108,7 @@ tree_eq (CellOf v j) (CellOf w k) = names_eq v w && tree_eq j k
 tree_eq (Loaded a) (Loaded b) = tree_eq a b
 tree_eq (Minus a) (Minus b) = tree_eq a b
 tree_eq (Opposite a) (Opposite b) = tree_eq a b
-tree_eq (CastTo z s a) (CastTo y t b) = nat_eq (bits_of z) (bits_of y) && (bool_eq s t && tree_eq a b)
-tree_eq (Both o a b) (Both p c d) = nat_eq (number_of o) (number_of p) && (tree_eq b d && tree_eq a c)
+tree_eq (CastTo z s a) (CastTo y t b) = same_size z y && (bool_eq s t && tree_eq a b)
+tree_eq (Both o a b) (Both p c d) =
+    nat_eq (number_of o) (number_of p) && (tree_eq b d && tree_eq a c)
 tree_eq _ _ = false
-
--- the same of indices, by their values and their trees
-abbrev pub indices_eq : Option ℤ → Option ℤ → Bool → Bool
-indices_eq None None b = b
-indices_eq (Some m) (Some n) b = int_eq m n
-indices_eq _ _ b = false

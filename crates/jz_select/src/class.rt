@@ -1,6 +1,8 @@
-// What an operand is, in the words of the table.
+//! What an operand is, in the words of the table.
+
 ghost use Rattle.std.specs.Prelude.{◌≡◌};
-ghost use Rattle.jz_select.specs.Sums.{joined, capped as capped_of, is_address as is_address_of, is_sum as is_sum_of, is_index as is_index_of};
+ghost use Rattle.jz_select.specs.Sums.{joined, capped as capped_of, is_address as is_address_of};
+ghost use Rattle.jz_select.specs.Sums.{is_sum as is_sum_of, is_index as is_index_of};
 
 use jz_words::Size;
 
@@ -16,7 +18,8 @@ pub enum Mask {
 pub enum Class {
     /// A word in a register.
     Reg(Size),
-    /// A word of the stack, a cell of a stack array, or an access, whose size may be that of the other side.
+    /// A word of the stack, a cell of a stack array, or an access, whose size may be that of the
+    /// other side.
     Mem(Option<Size>),
     Inline,
     /// A bool variable.
@@ -46,8 +49,8 @@ pub struct Operand {
     pub meeting: Meeting,
 }
 
-/// The terms of a sum: registers alone, registers times a scale (three stands for more), and whether each other one is
-/// inline.
+/// The terms of a sum: registers alone, registers times a scale (three stands for more), and
+/// whether each other one is inline.
 #[derive(Clone, Copy)]
 pub struct Sum {
     pub plain: u8,

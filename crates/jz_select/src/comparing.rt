@@ -1,14 +1,16 @@
-// Whether expressions are equal but for where they stand, and whether two indices are one.
-ghost use Rattle.std.specs.Prelude.{◌≡◌, nat_eq, is_some};
-ghost use Rattle.jz_words.specs.Sizes.{bits_of};
+//! Whether expressions are equal but for where they stand, and whether two indices are one.
+
+ghost use Rattle.std.specs.Prelude.{◌≡◌, is_some};
 ghost use Rattle.jz_integers.specs.Integers.{written_number as written};
 ghost use Rattle.jz_tree.specs.declared.expr.Expr.{Expr};
-ghost use Rattle.jz_select.specs.Trees.{named, names_eq, cell_eq, number_of, bool_eq, tree_of, tree_eq, index_of, indices_eq};
+ghost use Rattle.jz_select.specs.Trees.{named, names_eq, cell_eq, number_of, bool_eq, tree_of};
+ghost use Rattle.jz_select.specs.Trees.{tree_eq, index_of};
+ghost use Rattle.jz_select.specs.InnerLayers.{indices_eq};
 ghost use Rattle.jz_select.specs.Places.{is_number};
 
 use jz_integers::written_number;
+use jz_scopes::same_size;
 use jz_tree::{BinOp, Expr, Var};
-use jz_words::Size;
 
 fn same_cell(a: Option<u32>, b: Option<u32>) -> bool
     ensures { result ≡ cell_eq a b }
@@ -33,12 +35,6 @@ fn same_truth(a: bool, b: bool) -> bool
     ensures { result ≡ bool_eq a b }
 {
     if a { b } else { !b }
-}
-
-fn same_size(a: Size, b: Size) -> bool
-    ensures { result ≡ nat_eq (bits_of a) (bits_of b) }
-{
-    a.bits() == b.bits()
 }
 
 fn number(op: BinOp) -> u8
@@ -164,7 +160,7 @@ fn alike_single(one: &Expr, other: &Expr) -> bool
     }
 }
 
-// An index has a value where it is a number.
+/// An index has a value where it is a number.
 #[tactic(auto, using(crate::proofs::Indices::number_is, crate::proofs::Indices::index_is))]
 fn index_law(e: &Expr)
     ensures number { is_number (index_of e.now) ≡ is_some (written e.now) }
@@ -172,7 +168,8 @@ fn index_law(e: &Expr)
         ≡ indices_eq (written e.now) (written o) (tree_eq (tree_of e.now) (tree_of o)) }
 {}
 
-/// An index of a cell, and its value where it is built of numbers alone and has one. The value is asked once.
+/// An index of a cell, and its value where it is built of numbers alone and has one. The value is
+/// asked once.
 #[derive(Clone, Copy)]
 pub(crate) struct Index<'a> {
     pub(crate) at: &'a Expr,

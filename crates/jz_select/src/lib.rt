@@ -1,4 +1,5 @@
-//! Which row of the pattern table, or which intrinsic, a typed statement matches, and the immediates of its operands.
+//! Which row of the pattern table, or which intrinsic, a typed statement matches, and the
+//! immediates of its operands.
 #![tactic(auto)]
 
 mod class;

@@ -1,57 +1,44 @@
-// What an expression is.
+//! What an expression is.
+
 ghost use Rattle.std.specs.Prelude.{◌≡◌};
-ghost use Rattle.jz_select.specs.Look.{look_of, decl_of, kind_of_ty, is_inline_var, is_reg64, is_regs64, terms_of, joins as joins_bools, compares_values as compares_values_is, gives_number as gives_number_is};
-ghost use Rattle.jz_select.specs.Sums.{joined, term};
+ghost use Rattle.jz_scopes.specs.Kinds.{known_of};
+ghost use Rattle.jz_select.specs.Look.{look_of, is_inline_var, is_reg64};
+ghost use Rattle.jz_select.specs.Look.{is_regs64, terms_of, joins as joins_bools};
+ghost use Rattle.jz_select.specs.Look.{compares_values as compares_values_is};
+ghost use Rattle.jz_select.specs.Look.{gives_number as gives_number_is};
+ghost use Rattle.jz_select.specs.Sums.{term};
 
 use crate::class::Sum;
-use jz_tree::{BinOp, Expr, Storage, Ty, Var};
+use jz_scopes::{Kind, known};
+use jz_tree::{BinOp, Expr, Storage, Var};
 use jz_words::Size;
 
-/// A type without the length of its array.
-#[derive(Clone, Copy)]
-pub enum Kind {
-    Int,
-    Bool,
-    Word(Size),
-    Array(Size),
-}
-
-fn kind_of(ty: &Ty) -> Kind
-    ensures { result ≡ kind_of_ty ty.now }
+/// Whether it is an inline integer; an unknown name is none.
+fn is_inline(v: &Var) -> bool
+    ensures { result ≡ is_inline_var (known_of v.now) }
 {
-    match ty {
-        Ty::Int => Kind::Int,
-        Ty::Bool => Kind::Bool,
-        Ty::Word(z) => Kind::Word(*z),
-        Ty::Array(z, _) => Kind::Array(*z),
+    match known(v) {
+        None => false,
+        Some(d) => matches!((d.storage, d.kind), (Storage::Inline, Kind::Int)),
     }
-}
-
-pub fn decl(v: &Var) -> Option<(Storage, Kind)>
-    ensures { result ≡ decl_of v.now }
-{
-    match &v.decl {
-        None => None,
-        Some(d) => Some((d.storage, kind_of(&d.ty))),
-    }
-}
-
-pub fn is_inline(v: &Var) -> bool
-    ensures { result ≡ is_inline_var (decl_of v.now) }
-{
-    matches!(decl(v), Some((Storage::Inline, Kind::Int)))
 }
 
 fn is_word(v: &Var) -> bool
-    ensures { result ≡ is_reg64 (decl_of v.now) }
+    ensures { result ≡ is_reg64 (known_of v.now) }
 {
-    matches!(decl(v), Some((Storage::Reg, Kind::Word(Size::S64))))
+    match known(v) {
+        None => false,
+        Some(d) => matches!((d.storage, d.kind), (Storage::Reg, Kind::Word(Size::S64))),
+    }
 }
 
 fn is_words(v: &Var) -> bool
-    ensures { result ≡ is_regs64 (decl_of v.now) }
+    ensures { result ≡ is_regs64 (known_of v.now) }
 {
-    matches!(decl(v), Some((Storage::Reg, Kind::Array(Size::S64))))
+    match known(v) {
+        None => false,
+        Some(d) => matches!((d.storage, d.kind), (Storage::Reg, Kind::Array(Size::S64))),
+    }
 }
 
 fn joins(op: BinOp) -> bool

@@ -1,47 +1,53 @@
-// The class of an operand and of a result.
+//! The class of an operand and of a result.
+
 ghost use Rattle.std.specs.Prelude.{◌≡◌};
 ghost use Rattle.std.specs.Option.{option_copied};
 ghost use Rattle.jz_tree.specs.declared.expr.Expr.TheViews.{out-Expr};
 ghost use Rattle.jz_integers.specs.Integers.{written_number as number_of};
-ghost use Rattle.jz_select.specs.Look.{decl_of};
-ghost use Rattle.jz_select.specs.Operands.{var_class, cell_of, mem_of, mask_of, masked, is_byte, register_layer, class_of, dest_of, operand_of};
+ghost use Rattle.jz_scopes.specs.Kinds.{known_of};
+ghost use Rattle.jz_select.specs.Operands.{var_class, class_if, cell_of, mem_of, mask_of, masked};
+ghost use Rattle.jz_select.specs.Operands.{is_byte, register_layer, class_of, dest_of, operand_of};
 ghost use Rattle.jz_select.specs.Hardest.{hardest};
 
 use crate::class::{Class, Mask, Operand};
-use crate::look::{Kind, decl, gives_number, inline, sum};
+use crate::look::{gives_number, inline, sum};
 use crate::places::meet;
 use jz_integers::written_number;
+use jz_scopes::{Kind, known};
 use jz_tree::{BinOp, Expr, Lval, Storage, Var};
 use jz_words::Size;
 
 pub fn class_of_var(v: &Var) -> Class
-    ensures { result ≡ var_class (decl_of v.now) }
+    ensures { result ≡ var_class (known_of v.now) }
 {
-    match decl(v) {
-        Some((Storage::Reg, Kind::Word(z))) => Class::Reg(z),
-        Some((Storage::Stack, Kind::Word(z))) => Class::Mem(Some(z)),
-        Some((Storage::Reg, Kind::Bool)) => Class::Flag,
-        Some((Storage::Inline, Kind::Int)) => Class::Inline,
+    let Some(d) = known(v) else {
+        return Class::Other;
+    };
+    match (d.storage, d.kind) {
+        (Storage::Reg, Kind::Word(z)) => Class::Reg(z),
+        (Storage::Stack, Kind::Word(z)) => Class::Mem(Some(z)),
+        (Storage::Reg, Kind::Truth) => Class::Flag,
+        (Storage::Inline, Kind::Int) => Class::Inline,
         _ => Class::Other,
     }
+}
+
+/// The class, where it is one of an operand.
+fn class_if(fits: bool, class: Class) -> Class
+    ensures { result ≡ class_if fits class }
+{
+    if fits { class } else { Class::Other }
 }
 
 fn class_of_cell(v: &Var, at: &Expr) -> Class
     ensures { result ≡ cell_of v.now at.now }
 {
-    match decl(v) {
-        Some((Storage::Reg, Kind::Array(z))) => if inline(at) {
-            Class::Reg(z)
-        } else {
-            Class::Other
-        },
-        Some((Storage::Stack, Kind::Array(z))) => {
-            if sum(at).is_index() {
-                Class::Mem(Some(z))
-            } else {
-                Class::Other
-            }
-        }
+    let Some(d) = known(v) else {
+        return Class::Other;
+    };
+    match (d.storage, d.kind) {
+        (Storage::Reg, Kind::Array(z)) => class_if(inline(at), Class::Reg(z)),
+        (Storage::Stack, Kind::Array(z)) => class_if(sum(at).is_index(), Class::Mem(Some(z))),
         _ => Class::Other,
     }
 }
@@ -49,11 +55,7 @@ fn class_of_cell(v: &Var, at: &Expr) -> Class
 fn class_of_access(size: Option<Size>, at: &Expr) -> Class
     ensures { result ≡ mem_of size at.now }
 {
-    if sum(at).is_address() {
-        Class::Mem(size)
-    } else {
-        Class::Other
-    }
+    class_if(sum(at).is_address(), Class::Mem(size))
 }
 
 fn mask(k: &Expr) -> Class
@@ -137,8 +139,8 @@ pub fn dest(to: &Lval) -> Class
     }
 }
 
-/// The operand beside that destination and the first operand, if there is one. Where cells are not told apart, it is the
-/// operand for which a row is hardest to match.
+/// The operand beside that destination and the first operand, if there is one. Where cells are not
+/// told apart, it is the operand for which a row is hardest to match.
 pub fn operand(to: &Lval, first: Option<&Expr>, e: &Expr) -> Operand
     ensures { result ≡ operand_of (hardest to.now (option_copied first.entry)) to.now e.now }
 {

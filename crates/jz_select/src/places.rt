@@ -1,10 +1,19 @@
-// When two operands are one place, and when a place stands in an operand.
+//! When two operands are one place, and when a place stands in an operand.
+
 ghost use Rattle.std.specs.Prelude.{◌≡◌, Option};
 ghost use Rattle.std.specs.Option.{option_copied};
 ghost use Rattle.jz_tree.specs.declared.expr.Expr.TheViews.{out-Expr};
 ghost use Rattle.jz_select.specs.Trees.{Named, Tree, named, tree_of, index_of};
-ghost use Rattle.jz_select.specs.Places.{Answers, one_cell as one_cell_is, same_index as same_index_is, touches as touches_is, touches_layer, elsewhere as elsewhere_is, one_or_apart as one_or_apart_is, var_layer_meets, cell_layer_meets, store_layer_meets, meeting_of};
-ghost use Rattle.jz_select.specs.Hardest.{index_if, guess, cell_index as cell_index_of, first_index as first_index_of, in_memory as in_memory_is, hardest};
+ghost use Rattle.jz_select.specs.Places.{Answers, one_cell as one_cell_is};
+ghost use Rattle.jz_select.specs.Places.{same_index as same_index_is, touches as touches_is};
+ghost use Rattle.jz_select.specs.Places.{elsewhere as elsewhere_is};
+ghost use Rattle.jz_select.specs.InnerLayers.{touches_layer};
+ghost use Rattle.jz_select.specs.Places.{one_or_apart as one_or_apart_is, var_layer_meets};
+ghost use Rattle.jz_select.specs.Places.{cell_layer_meets, store_layer_meets, meeting_of};
+ghost use Rattle.jz_select.specs.Hardest.{guess, cell_index as cell_index_of};
+ghost use Rattle.jz_select.specs.InnerLayers.{index_if};
+ghost use Rattle.jz_select.specs.Hardest.{first_index as first_index_of, in_memory as in_memory_is};
+ghost use Rattle.jz_select.specs.Hardest.{hardest};
 
 use crate::class::Meeting;
 use crate::comparing::{Index, alike, has_value, read, same_index, same_var};
@@ -14,7 +23,8 @@ use jz_tree::{Expr, Lval, Var};
 
 /// The answer with which a row is hardest to match.
 fn guessed(memory: bool, first: Option<Index<'_>>, index: Index<'_>) -> bool
-    ensures { (x : Tree) → result ≡ guess memory (index_if first.entry) x (index_of index.entry.at.now) }
+    ensures { let own = index_if first.entry in
+        (x : Tree) → result ≡ guess memory own x (index_of index.entry.at.now) }
 {
     if memory {
         return false;
@@ -48,7 +58,7 @@ fn at_index(
     }
 }
 
-// Where a place stands in an expression, by its outermost operation.
+/// Where a place stands in an expression, by its outermost operation.
 #[tactic(auto, using(crate::proofs::Uses::touches_out))]
 fn touches_law(e: &Expr)
     ensures { (answers : Answers) (d : Named) (x : Option Tree) →

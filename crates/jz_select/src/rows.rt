@@ -1,7 +1,23 @@
-// The first row that matches, chosen by the operation.
+//! The first row that matches, chosen by the operation.
+
 ghost use Rattle.std.specs.Prelude.{◌≡◌, Some, None};
-ghost use Rattle.jz_select.specs.Rows.{is_r, is_m, is_i, is_rm, is_rmi, is_flag, is_skip, is_flag_result, is_pinned, is_same, is_apart, size_of, or_size, is_wide, is_long, is_longest, is_byte_size, is_below, divides as divides_is, swaps, computes as computes_is, changes as changes_is, are_inline, may_lead, times as times_is, times_inline as times_inline_is, product_size as product_size_of, is_product, shifts_inline as shifts_inline_is, keeps as keeps_is, masks as masks_is, shifts_masked as shifts_masked_is, one_fits as one_fits_is, two_fits as two_fits_is, three_fits as three_fits_is, divides_long as divides_long_is, sets as sets_is, sums, is_quotient, named_if, intrinsic_of};
-ghost use Rattle.jz_select.specs.Selected.{table, operations, first_of, row_if, chosen};
+ghost use Rattle.jz_select.specs.Rows.{is_r, is_m, is_i, is_rm, is_rmi, is_flag, is_skip};
+ghost use Rattle.jz_select.specs.Rows.{is_flag_result, is_pinned, is_same, is_apart, size_of};
+ghost use Rattle.jz_select.specs.Rows.{is_wide, is_long, is_longest, is_byte_size};
+ghost use Rattle.jz_select.specs.Rows.{is_below, divides as divides_is, swaps};
+ghost use Rattle.jz_select.specs.Rows.{computes as computes_is, changes as changes_is, are_inline};
+ghost use Rattle.jz_select.specs.Rows.{may_lead, times as times_is};
+ghost use Rattle.jz_select.specs.Rows.{times_inline as times_inline_is};
+ghost use Rattle.jz_select.specs.Rows.{product_size as product_size_of, is_product};
+ghost use Rattle.jz_select.specs.Rows.{division_size as division_size_of};
+ghost use Rattle.jz_select.specs.Rows.{shifts_inline as shifts_inline_is, keeps as keeps_is};
+ghost use Rattle.jz_select.specs.Rows.{masks as masks_is, shifts_masked as shifts_masked_is};
+ghost use Rattle.jz_select.specs.Rows.{one_fits as one_fits_is, two_fits as two_fits_is};
+ghost use Rattle.jz_select.specs.Rows.{three_fits as three_fits_is};
+ghost use Rattle.jz_select.specs.Rows.{divides_long as divides_long_is, sets as sets_is, sums};
+ghost use Rattle.jz_select.specs.Rows.{is_quotient, named_if, intrinsic_of};
+ghost use Rattle.jz_select.specs.Selected.{table, operations, first_of, chosen};
+ghost use Rattle.jz_select.specs.InnerLayers.{row_if};
 
 use crate::class::{Class, Mask, Meeting, Operand};
 use crate::pattern::Pattern;
@@ -85,15 +101,6 @@ fn size(c: Class) -> Option<Size>
     }
 }
 
-fn or(a: Option<Size>, b: Option<Size>) -> Option<Size>
-    ensures { result ≡ or_size a b }
-{
-    match a {
-        None => b,
-        Some(z) => Some(z),
-    }
-}
-
 fn wide(z: Option<Size>) -> bool
     ensures { result ≡ is_wide z }
 {
@@ -146,7 +153,8 @@ fn swapped(op: BinOp) -> bool
     matches!(op, BinOp::Add | BinOp::And | BinOp::Or | BinOp::Xor)
 }
 
-/// Whether `OP d, o` computes it: with d as its first operand, or with the operands swapped, or behind a copy.
+/// Whether `OP d, o` computes it: with d as its first operand, or with the operands swapped, or
+/// behind a copy.
 fn computes(swapped: bool, d: Class, a: Operand, o: Operand) -> bool
     ensures { result ≡ computes_is swapped d a o }
 {
@@ -177,10 +185,7 @@ fn times_inline(d: Class, a: Operand, o: Operand) -> bool
 fn product_size(z: Option<Size>, h: Class, l: Class, a: Operand, b: Operand) -> Option<Size>
     ensures { result ≡ product_size_of z h l a b }
 {
-    or(
-        z,
-        or(size(h), or(size(l), or(size(a.class), size(b.class)))),
-    )
+    z.or(size(h).or(size(l).or(size(a.class).or(size(b.class)))))
 }
 
 fn product(z: Option<Size>, h: Class, l: Class, a: Operand, b: Operand) -> bool
@@ -220,7 +225,7 @@ fn masks(longest: bool, c: Class) -> bool
 fn shifts_masked(z: Option<Size>, d: Class, a: Operand, o: Operand) -> bool
     ensures { result ≡ shifts_masked_is z d a o }
 {
-    masks(longest(or(z, or(size(d), size(a.class)))), o.class) && computes(false, d, a, o)
+    masks(longest(z.or(size(d).or(size(a.class)))), o.class) && computes(false, d, a, o)
 }
 
 fn leading(lead: Option<Class>) -> bool
@@ -301,7 +306,8 @@ fn two_behind(x: Class, op: BinOp, d: Class, a: Operand, o: Operand) -> Option<P
 }
 
 fn cast(d: Class, z: Size, signed: bool, o: Class) -> Option<Pattern>
-    ensures { result ≡ first_of operations (Shape.Assign None d Class.Other (Value.Cast z signed o)) }
+    ensures { let statement = Shape.Assign None d Class.Other (Value.Cast z signed o) in
+        result ≡ first_of operations statement }
 {
     let smaller = below(size(o), z);
     if signed {
@@ -357,7 +363,7 @@ fn one_fits(n: Intrinsic, z: Option<Size>, d: Class, a: Operand) -> bool
 {
     match n {
         Intrinsic::Neg | Intrinsic::Inc | Intrinsic::Dec | Intrinsic::Not => changes(d, a),
-        Intrinsic::Bswap => r(d) && long(or(z, size(d))) && changes(d, a),
+        Intrinsic::Bswap => r(d) && long(z.or(size(d))) && changes(d, a),
         _ => false,
     }
 }
@@ -395,12 +401,9 @@ fn division_size(
     lo: Class,
     b: Class,
 ) -> Option<Size>
-    ensures { result ≡ or_size z (or_size (size_of q) (or_size (size_of r) (or_size (size_of hi) (or_size (size_of lo) (size_of b))))) }
+    ensures { result ≡ division_size_of z q r hi lo b }
 {
-    or(
-        z,
-        or(size(q), or(size(r), or(size(hi), or(size(lo), size(b))))),
-    )
+    z.or(size(q).or(size(r).or(size(hi).or(size(lo).or(size(b))))))
 }
 
 fn divides_long(
@@ -442,10 +445,7 @@ fn intrinsic(s: Shape) -> Option<Intrinsic>
         Shape::One(n, z, d, a) => name_if(n, one_fits(n, z, d, a)),
         Shape::Two(n, z, d, a, o) => name_if(n, two_fits(n, z, d, a, o)),
         Shape::Three(n, d, a, o, c) => name_if(n, three_fits(n, d, a, o, c)),
-        Shape::Address(z, d, sum) => name_if(
-            Intrinsic::Lea,
-            r(d) && longest(or(z, size(d))) && sum,
-        ),
+        Shape::Address(z, d, sum) => name_if(Intrinsic::Lea, r(d) && longest(z.or(size(d))) && sum),
         Shape::Compare(n, a, o) => name_if(n, rm(a) && (r(o) || i(o))),
         Shape::Product(z, h, l, a, b) => name_if(Intrinsic::Mul, product(z, h, l, a, b)),
         Shape::Division(z, q, r, hi, lo, b, apart) => {

@@ -1,18 +1,19 @@
-// The row of a statement.
-ghost use Rattle.std.specs.Prelude.{◌≡◌, Option, true};
-ghost use Rattle.jz_select.specs.declared.pattern.Pattern.{Pattern};
+//! The row of a statement.
+
+ghost use Rattle.std.specs.Prelude.{◌≡◌, true};
 ghost use Rattle.jz_select.specs.Trees.{Tree, tree_eq};
-ghost use Rattle.jz_select.specs.Selected.{IsCopied, IsSelected, copied, selected};
+ghost use Rattle.jz_select.specs.Selected.{HasOneRow, IsCopied, IsSelected, copied, selected};
 
 use crate::pattern::Pattern;
 use crate::rows::choose;
 use crate::shaping::{assign, shape};
 use jz_tree::{Expr, Lval, Stmt};
 
-/// The first row of the pattern table that the statement matches, or the intrinsic that it is; of an `if` or `while`
-/// whether its condition matches. The statement is one of a typed program, in which the names of constants are numbers.
-/// What the value of an inline expression may be is not asked here, but for that of a mask.
-/// Cells that are not told apart may be one or two: a row is selected that matches either way.
+/// The first row of the pattern table that the statement matches, or the intrinsic that it is; of
+/// an `if` or `while` whether its condition matches. The statement is one of a typed program, in
+/// which the names of constants are numbers. What the value of an inline expression may be is not
+/// asked here, but for that of a mask. Cells that are not told apart may be one or two: a row is
+/// selected that matches either way.
 #[tactic(auto, unfolding(crate::specs::Selected::selected), using(crate::proofs::FirstRow::is_selected))]
 pub fn select(statement: &Stmt) -> Option<Pattern>
     ensures meaning { IsSelected statement.now.kind result }
@@ -33,7 +34,7 @@ pub fn select_copy(to: &Lval, e: &Expr) -> Option<Pattern>
 /// A statement has one answer: its row is the only one that is selected.
 #[tactic(auto, using(crate::proofs::FirstRow::one_selected))]
 pub fn one_row(statement: &Stmt)
-    ensures { (a b : Option Pattern) → IsSelected statement.now.kind a → IsSelected statement.now.kind b → a ≡ b }
+    ensures { HasOneRow statement.now.kind }
 {}
 
 /// Trees are found equal just where they are equal.

@@ -1,4 +1,5 @@
-// A statement in the words of the table.
+//! A statement in the words of the table.
+
 use crate::class::{Class, Operand};
 use jz_tree::{BinOp, Intrinsic};
 use jz_words::Size;
@@ -38,8 +39,8 @@ pub enum Shape {
     Compare(Intrinsic, Class, Class),
     /// `MUL`: the high and the low half; the operands beside the low one.
     Product(Option<Size>, Class, Class, Operand, Operand),
-    /// `DIV`: quotient, remainder, high and low word, divisor, and whether the results stand apart from what is read after
-    /// they are written.
+    /// `DIV`: quotient, remainder, high and low word, divisor, and whether the results stand apart
+    /// from what is read after they are written.
     Division(Option<Size>, Class, Class, Class, Class, Class, bool),
     /// `SETcc`: the destination, and whether the condition has an instruction.
     Set(Option<Size>, Class, bool),

@@ -1,9 +1,28 @@
-// From a statement to its shape.
-ghost use Rattle.std.specs.Prelude.{◌≡◌, Bool};
+//! From a statement to its shape.
+
+ghost use Rattle.std.specs.Prelude.{◌≡◌};
 ghost use Rattle.std.specs.Option.{option_copied};
 ghost use Rattle.jz_tree.specs.declared.expr.Expr.TheViews.{out-Expr};
 ghost use Rattle.jz_select.specs.Operands.{class_of, dest_of};
-ghost use Rattle.jz_select.specs.Shapes.{first_of as first_of_is, carries as carries_is, carry_layer, value_layer, itself as itself_of, update_layer, beside, assign_of, value_shape as value_shape_of, compares as compares_is, has_flags, flags_layer, is_test, conditional as conditional_of, leads as leads_is, four_lead, five_lead, value_behind as value_behind_of, one_shape as one_shape_of, two_shape as two_shape_of, three_shape as three_shape_of, address_shape as address_shape_of, set_shape as set_shape_of, compare_shape as compare_shape_of, product_shape as product_shape_of, division_shape as division_shape_of, stand_apart as stand_apart_is, intrinsic_shape as intrinsic_shape_of, named_shape as named_shape_of, rhs_shape as rhs_shape_of, shape_of};
+ghost use Rattle.jz_select.specs.Shapes.{first_of as first_of_is, carries as carries_is};
+ghost use Rattle.jz_select.specs.Shapes.{carry_layer, two_beside, value_layer, itself as itself_of};
+ghost use Rattle.jz_select.specs.Shapes.{update_layer, assign_of};
+ghost use Rattle.jz_select.specs.Shapes.{value_shape as value_shape_of, compares as compares_is};
+ghost use Rattle.jz_select.specs.Shapes.{has_flags, is_test};
+ghost use Rattle.jz_select.specs.InnerLayers.{flags_layer};
+ghost use Rattle.jz_select.specs.Shapes.{conditional as conditional_of, leads as leads_is};
+ghost use Rattle.jz_select.specs.Shapes.{four_lead, five_lead, value_behind as value_behind_of};
+ghost use Rattle.jz_select.specs.Shapes.{one_shape as one_shape_of, two_shape as two_shape_of};
+ghost use Rattle.jz_select.specs.Shapes.{three_shape as three_shape_of};
+ghost use Rattle.jz_select.specs.Shapes.{address_shape as address_shape_of};
+ghost use Rattle.jz_select.specs.Shapes.{set_shape as set_shape_of};
+ghost use Rattle.jz_select.specs.Shapes.{compare_shape as compare_shape_of};
+ghost use Rattle.jz_select.specs.Shapes.{product_shape as product_shape_of};
+ghost use Rattle.jz_select.specs.Shapes.{division_shape as division_shape_of};
+ghost use Rattle.jz_select.specs.Shapes.{stand_apart as stand_apart_is};
+ghost use Rattle.jz_select.specs.Shapes.{intrinsic_shape as intrinsic_shape_of};
+ghost use Rattle.jz_select.specs.Shapes.{named_shape as named_shape_of, rhs_shape as rhs_shape_of};
+ghost use Rattle.jz_select.specs.Shapes.{shape_of};
 ghost use Rattle.jz_select.specs.Hardest.{hardest};
 
 use crate::class::{Class, Meeting, Operand};
@@ -53,7 +72,8 @@ fn carry(d: &Lval, outer: BinOp, e: &Expr) -> Value
     }
 }
 
-/// What `operand` takes as the first operand: a division reads its operands after the result is written.
+/// What `operand` takes as the first operand: a division reads its operands after the result is
+/// written.
 fn first_of(op: BinOp, a: &Expr) -> Option<&Expr>
     ensures { option_copied result ≡ first_of_is op a.now }
 {
@@ -61,8 +81,7 @@ fn first_of(op: BinOp, a: &Expr) -> Option<&Expr>
 }
 
 fn two(d: &Lval, op: BinOp, a: &Expr, b: &Expr) -> Value
-    ensures { let first = first_of_is op a.now in
-        result ≡ Value.Two op (beside hardest d.now first a.now) (beside hardest d.now first b.now) }
+    ensures { result ≡ two_beside hardest d.now op a.now b.now }
 {
     let first = first_of(op, a);
     Value::Two(op, operand(d, first, a), operand(d, first, b))
@@ -140,7 +159,7 @@ fn compares(op: BinOp, a: Class, o: Class) -> bool
     compares_values(op) && rm(a) && rmi(o) && !(m(a) && m(o))
 }
 
-// A condition by its outermost operation.
+/// A condition by its outermost operation.
 #[tactic(auto, using(crate::proofs::Conditions::flags_out))]
 fn flagged_law(e: &Expr)
     ensures { has_flags e.now ≡ flags_layer (out-Expr e.now) }

@@ -9,7 +9,8 @@ use Rattle.jz_types.specs.declared.fault.TypeRule.{TypeRule}
 use Rattle.jz_types.specs.declared.fault.TypeRule.TheVariants.{Unknown, Duplicate, Mismatch, Storage, Recursion, NoInstruction, ArrayCopy, BadAnnotation, ExportShape, RegIndex}
 use Rattle.jz_types.specs.declared.fault.TypeFault.{TypeFault}
 use Rattle.jz_types.specs.declared.fault.Firsts.{Firsts}
-use Rattle.jz_types.specs.Faults.{number_of, IsToldBefore, IsTold, told_of, first_told, AreFirst}
+use Rattle.jz_types.specs.Faults.{number_of, IsToldBefore, IsTold, AreFirst}
+use Rattle.jz_types.specs.InnerFaults.{told_of, first_told}
 
 -- ---- rules differ in their numbers
 abbrev rule_of : ℕ → TypeRule

@@ -1,7 +1,9 @@
 pub mod Rows
 pub mod Faults
 pub mod Rules
-pub mod Asking
+pub mod InnerAsking
 pub mod TypedPrograms
 pub mod Guarantees
 pub mod Carried
+pub mod InnerFunctions
+pub mod InnerFaults

@@ -20,8 +20,8 @@ use Rattle.jz_types.specs.declared.fault.TypeRule.TheVariants.{Unknown, Duplicat
 use Rattle.jz_types.specs.declared.fault.TypeFault.{TypeFault}
 use Rattle.jz_types.specs.Faults.{IsTold}
 
--- p is the program as it was read; in q each variable has its declaration where it is used, lengths are numbers, and so are
--- the names of constants with a value
+-- p is the program as it was read; in q each variable has its declaration where it is used, lengths
+-- are numbers, and so are the names of constants with a value
 abbrev pub BreaksIn : Program → Program → TypeRule → Span → Type 0
 BreaksIn p q Unknown at = Contains (unknown_in p) at
 BreaksIn p q Duplicate at = Contains (repeated_in p) at
@@ -42,6 +42,7 @@ Breaks p rule at = BreaksIn p (resolved p) rule at
 abbrev pub IsTyped : Program → Type 0
 IsTyped p = (rule : TypeRule) (at : Span) → Breaks p rule at → ⊥
 
--- this rule fails, at this place, and each failure stands behind it, or at its place with a rule of no lower number
+-- this rule fails, at this place, and each failure stands behind it, or at its place with a rule of
+-- no lower number
 abbrev pub IsFirstTypeFault : Program → TypeFault → Type 0
 IsFirstTypeFault p fault = IsTold (Breaks p) fault

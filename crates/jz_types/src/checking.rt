@@ -4,7 +4,7 @@ ghost use Rattle.std.specs.Prelude.{◌≡◌, IfOk, IfErr};
 ghost use Rattle.jz_data.specs.Failures.{IfRefused};
 ghost use Rattle.jz_tree.specs.declared.program.Program.{Program};
 ghost use Rattle.jz_resolve.specs.Programs.{resolved};
-ghost use Rattle.jz_types.specs.Asking.{AreOfText, AreOfDeclared, firsts_of};
+ghost use Rattle.jz_types.specs.InnerAsking.{AreOfText, AreOfDeclared, firsts_of};
 ghost use Rattle.jz_types.specs.Rules.{IsTyped, IsFirstTypeFault};
 
 use crate::fault::{Firsts, TypeFault, first_told};
@@ -67,11 +67,12 @@ fn firsts(text: OfText, declared: OfDeclared, ranking: &Ranking) -> Firsts
     }
 }
 
-/// The program with the declarations of its variables where they are used, or the first rule that fails.
+/// The program with the declarations of its variables where they are used, or the first rule that
+/// fails.
 pub fn check(alloc: Global, program: Program) -> Result<Typed, Failure<TypeFault>>
     ensures typed { IfOk result (λ typed. IsTyped program) }
     ensures resolved { IfOk result (λ typed. typed.program ≡ resolved program) }
-    ensures fault { IfErr result (λ failure. IfRefused failure (λ fault. IsFirstTypeFault program fault)) }
+    ensures fault { IfErr result (λ failure. IfRefused failure (IsFirstTypeFault program)) }
 {
     let text = of_text(alloc, &program)?;
     let program = resolve(alloc, program)?;

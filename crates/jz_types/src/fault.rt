@@ -1,7 +1,8 @@
 //! Why a program is refused, and which of several faults is told.
 
 ghost use Rattle.std.specs.Prelude.{◌≡◌};
-ghost use Rattle.jz_types.specs.Faults.{number_of, told_of, first_told};
+ghost use Rattle.jz_types.specs.Faults.{number_of};
+ghost use Rattle.jz_types.specs.InnerFaults.{told_of, first_told};
 
 use jz_io::Span;
 use jz_scopes::is_before;
@@ -11,7 +12,8 @@ use jz_scopes::is_before;
 pub enum TypeRule {
     /// A variable or constant is declared above its use, a function anywhere.
     Unknown,
-    /// Names differ among functions and constants, among the variables of a function, and among the results of a statement.
+    /// Names differ among functions and constants, among the variables of a function, and among the
+    /// results of a statement.
     Duplicate,
     /// Types, sizes, and counts of arguments and results agree.
     Mismatch,
@@ -25,7 +27,8 @@ pub enum TypeRule {
     ArrayCopy,
     /// No precondition is given.
     BadAnnotation,
-    /// An export function has at most six words in registers as parameters, and at most two as results.
+    /// An export function has at most six words in registers as parameters, and at most two as
+    /// results.
     ExportShape,
     /// An index of an array in registers is inline.
     RegIndex,
@@ -73,7 +76,7 @@ pub(crate) struct Firsts {
     pub(crate) indexed: Option<Span>,
 }
 
-// The fault of the earlier of two places; at one place the first.
+/// The fault of the earlier of two places; at one place the first.
 fn told(best: Option<TypeFault>, rule: TypeRule, at: Option<Span>) -> Option<TypeFault>
     ensures { result ≡ told_of best rule at }
 {

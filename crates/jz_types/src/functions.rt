@@ -1,10 +1,10 @@
-//! Where the rules fail first in the functions of a program. All of them are asked of a function before the next one is read.
+//! Where the rules fail first in the functions of a program. All of them are asked of a function
+//! before the next one is read.
 
 ghost use Rattle.std.specs.Prelude.{◌≡◌, List, IfOk};
 ghost use Rattle.jz_tree.specs.declared.program.Fun.{Fun};
 ghost use Rattle.jz_scopes.specs.Order.{first_in, IsEarliest};
-ghost use Rattle.jz_scopes.specs.Scopes.{or_values, variable_place};
-ghost use Rattle.jz_scopes.specs.Names.{fun_where, repeated_in_fun};
+ghost use Rattle.jz_scopes.specs.Names.{repeated_in_fun};
 ghost use Rattle.jz_scopes.specs.Tables.{place_in, function_in};
 ghost use Rattle.jz_resolve.specs.Tables.{values_in};
 ghost use Rattle.jz_resolve.specs.Numbering.{value_with};
@@ -19,6 +19,7 @@ ghost use Rattle.jz_rules.specs.Indexes.{indexed_by};
 ghost use Rattle.jz_rules.specs.Programs.{in_body};
 ghost use Rattle.jz_rules.specs.Tables.{HasCallees};
 ghost use Rattle.jz_types.specs.Rows.{unmatched_in_fun};
+ghost use Rattle.jz_types.specs.InnerFunctions.{unknown_with};
 
 use crate::lengths::ConstantLengths;
 use crate::rows::unmatched_in_fun;
@@ -30,7 +31,7 @@ use jz_scopes::{Functions, Places, earlier_of, repeated_in_fun, unknown_in_fun};
 use jz_tree::Program;
 use std::alloc::{AllocError, Global};
 
-// Where the rules that are asked of a program as it was read fail first.
+/// Where the rules that are asked of a program as it was read fail first.
 #[derive(Clone, Copy)]
 pub(crate) struct OfText {
     pub(crate) unknown: Option<Span>,
@@ -40,7 +41,8 @@ pub(crate) struct OfText {
     pub(crate) misshapen: Option<Span>,
 }
 
-// Where the rules that are asked of the program with declarations fail first, but for that on recursion.
+/// Where the rules that are asked of the program with declarations fail first, but for that on
+/// recursion.
 #[derive(Clone, Copy)]
 pub(crate) struct OfDeclared {
     pub(crate) mismatched: Option<Span>,
@@ -59,9 +61,13 @@ pub(crate) fn text_of_functions(
     functions: &Functions<'_>,
     program: &Program,
 ) -> Result<OfText, AllocError>
-    ensures unknown { IfOk result (λ t. t.unknown ≡ first_in (λ f. fun_where (or_values (place_in constants.now) (variable_place f)) (variable_place f) (function_in functions.now) f) program.now.funs) }
+    ensures unknown { let constant = place_in constants.now in
+        let wrong = unknown_with constant (function_in functions.now) in
+        IfOk result (λ t. t.unknown ≡ first_in wrong program.now.funs) }
     ensures repeated { IfOk result (λ t. t.repeated ≡ first_in repeated_in_fun program.now.funs) }
-    ensures mismatched { IfOk result (λ t. t.mismatched ≡ first_in (fun_lengths (place_in constants.now) (value_with (values_in lengths.now.table))) program.now.funs) }
+    ensures mismatched { let value = value_with (values_in lengths.now.table) in
+        let wrong = fun_lengths (place_in constants.now) value in
+        IfOk result (λ t. t.mismatched ≡ first_in wrong program.now.funs) }
     ensures annotated { IfOk result (λ t. t.annotated ≡ first_in annotated program.now.funs) }
     ensures misshapen { IfOk result (λ t. t.misshapen ≡ first_in misshapen program.now.funs) }
 {
@@ -94,13 +100,20 @@ pub(crate) fn declared_of_functions(
     callees: &Callees,
     declared: &Program,
 ) -> Result<OfDeclared, AllocError>
-    ensures mismatched { IfOk result (λ d. d.mismatched ≡ first_in (body_wrong (function_in functions.now)) declared.now.funs) }
+    ensures mismatched { let wrong = body_wrong (function_in functions.now) in
+        IfOk result (λ d. d.mismatched ≡ first_in wrong declared.now.funs) }
     ensures kept { IfOk result (λ d. d.kept ≡ first_in unkept_in declared.now.funs) }
-    ensures set { IfOk result (λ d. d.set ≡ first_in (λ f. wrongly_set_in f.body) declared.now.funs) }
+    ensures set { IfOk result
+        (λ d. d.set ≡ first_in (λ f. wrongly_set_in f.body) declared.now.funs) }
     ensures read { IfOk result (λ d. IsEarliest (IsReadUnsetIn declared.now) d.read) }
-    ensures unmatched { (fs : List Fun) → HasCallees callees.now fs → IfOk result (λ d. d.unmatched ≡ first_in (unmatched_in_fun (place_in constants.now) (function_in functions.now) fs) declared.now.funs) }
-    ensures copied { (fs : List Fun) → HasCallees callees.now fs → IfOk result (λ d. d.copied ≡ first_in (in_body (copied_by fs)) declared.now.funs) }
-    ensures indexed { IfOk result (λ d. d.indexed ≡ first_in (in_body indexed_by) declared.now.funs) }
+    ensures unmatched { let constant = place_in constants.now in
+        let wrong = unmatched_in_fun constant (function_in functions.now) in
+        (fs : List Fun) → HasCallees callees.now fs
+        → IfOk result (λ d. d.unmatched ≡ first_in (wrong fs) declared.now.funs) }
+    ensures copied { (fs : List Fun) → HasCallees callees.now fs
+        → IfOk result (λ d. d.copied ≡ first_in (in_body (copied_by fs)) declared.now.funs) }
+    ensures indexed { IfOk result
+        (λ d. d.indexed ≡ first_in (in_body indexed_by) declared.now.funs) }
 {
     let mut first = OfDeclared {
         mismatched: None,

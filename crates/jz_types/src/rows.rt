@@ -1,13 +1,13 @@
 //! Statements that no row of the tables matches.
 
-ghost use Rattle.std.specs.Prelude.{◌≡◌, ◌++◌, List, is_some, IfOk};
+ghost use Rattle.std.specs.Prelude.{◌≡◌, List, is_some, IfOk};
 ghost use Rattle.std.specs.Option.{option_copied};
 ghost use Rattle.jz_tree.specs.declared.program.Fun.{Fun};
 ghost use Rattle.jz_scopes.specs.Order.{earliest, first_in};
 ghost use Rattle.jz_scopes.specs.Parts.{statements_of};
 ghost use Rattle.jz_scopes.specs.Tables.{place_in, function_in};
 ghost use Rattle.jz_rules.specs.Tables.{HasCallees};
-ghost use Rattle.jz_types.specs.Rows.{others, unmatched_with, unmatched_at, unmatched_in_fun};
+ghost use Rattle.jz_types.specs.Rows.{others, unmatched_at, unmatched_in_fun};
 
 use jz_data::Seq;
 use jz_io::Span;
@@ -17,7 +17,7 @@ use jz_scopes::{Functions, Places, earlier_of, repeated_of, statements, unknown_
 use jz_tree::{Fun, Stmt};
 use std::alloc::{AllocError, Global};
 
-// Whether another fault is told of a statement.
+/// Whether another fault is told of a statement.
 #[tactic(auto, using(crate::proofs::Joins::joining))]
 fn has_others(
     alloc: Global,
@@ -27,7 +27,9 @@ fn has_others(
     callee: Option<&Callee>,
     stmt: &Stmt,
 ) -> Result<bool, AllocError>
-    ensures { IfOk result (λ b. b ≡ is_some (earliest (others (place_in constants.now) (place_in variables.now) (function_in functions.now) (option_copied callee.entry) stmt.now))) }
+    ensures { let told = others (place_in constants.now) (place_in variables.now)
+        (function_in functions.now) (option_copied callee.entry) stmt.now in
+        IfOk result (λ b. b ≡ is_some (earliest told)) }
 {
     let unknown = unknown_of(alloc, constants, variables, functions, stmt)?;
     let repeated = repeated_of(alloc, stmt)?;
@@ -50,7 +52,10 @@ fn unmatched_at(
     callees: &Callees,
     stmt: &Stmt,
 ) -> Result<Option<Span>, AllocError>
-    ensures { (fs : List Fun) → HasCallees callees.now fs → IfOk result (λ at. at ≡ earliest (unmatched_at (place_in constants.now) (place_in variables.now) (function_in functions.now) fs stmt.now)) }
+    ensures { let wrong = unmatched_at (place_in constants.now) (place_in variables.now)
+        (function_in functions.now) in
+        (fs : List Fun) → HasCallees callees.now fs
+        → IfOk result (λ at. at ≡ earliest (wrong fs stmt.now)) }
 {
     let callee = callees.called(stmt);
     let others = has_others(alloc, constants, variables, functions, callee, stmt)?;
@@ -65,7 +70,10 @@ fn unmatched_in_body(
     callees: &Callees,
     body: &Seq<Stmt>,
 ) -> Result<Option<Span>, AllocError>
-    ensures { (fs : List Fun) → HasCallees callees.now fs → IfOk result (λ at. at ≡ first_in (unmatched_at (place_in constants.now) (place_in variables.now) (function_in functions.now) fs) (statements_of body.now)) }
+    ensures { let wrong = unmatched_at (place_in constants.now) (place_in variables.now)
+        (function_in functions.now) in
+        (fs : List Fun) → HasCallees callees.now fs
+        → IfOk result (λ at. at ≡ first_in (wrong fs) (statements_of body.now)) }
 {
     let mut first = None;
     for stmt in statements(alloc, body)? {
@@ -75,8 +83,8 @@ fn unmatched_in_body(
     Ok(first)
 }
 
-/// The first statement of a function of which no other fault is told and that matches no row, or of whose call a copy matches
-/// none. Variables have their declarations where they are used.
+/// The first statement of a function of which no other fault is told and that matches no row, or of
+/// whose call a copy matches none. Variables have their declarations where they are used.
 pub(crate) fn unmatched_in_fun(
     alloc: Global,
     constants: &Places,
@@ -84,7 +92,10 @@ pub(crate) fn unmatched_in_fun(
     callees: &Callees,
     fun: &Fun,
 ) -> Result<Option<Span>, AllocError>
-    ensures { (fs : List Fun) → HasCallees callees.now fs → IfOk result (λ at. at ≡ earliest (unmatched_in_fun (place_in constants.now) (function_in functions.now) fs fun.now)) }
+    ensures { let constant = place_in constants.now in
+        let wrong = unmatched_in_fun constant (function_in functions.now) in
+        (fs : List Fun) → HasCallees callees.now fs
+        → IfOk result (λ at. at ≡ earliest (wrong fs fun.now)) }
 {
     let variables = Places::of_variables(alloc, fun)?;
     let first = unmatched_in_body(alloc, constants, &variables, functions, callees, &fun.body)?;

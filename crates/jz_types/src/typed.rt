@@ -7,8 +7,9 @@ ghost use Rattle.jz_types.specs.TypedPrograms.{IsTypedProgram};
 use jz_data::Seq;
 use jz_tree::Program;
 
-/// A program in which no rule fails: each variable has its declaration where it is used, lengths are numbers, and so are the
-/// names of constants that have a value. Its functions have ranks, which get smaller with each call.
+/// A program in which no rule fails: each variable has its declaration where it is used, lengths
+/// are numbers, and so are the names of constants that have a value. Its functions have ranks,
+/// which get smaller with each call.
 #[derive(Drop)]
 pub struct Typed {
     pub(crate) program: Program,

@@ -1,5 +1,5 @@
 use Rattle.std.proofs.Common.{ℕ, ◌<◌, ◌≤◌, length, get_or}
-use Rattle.jz_calls.specs.Numbers.{row_of}
+use Rattle.jz_calls.specs.InnerNumbers.{row_of}
 use Rattle.jz_calls.proofs.fall.descends.Given as goal
 
 abbrev pub invariant-loop-i : goal.invariant-loop-i

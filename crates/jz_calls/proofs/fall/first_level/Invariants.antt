@@ -1,4 +1,4 @@
-use Rattle.jz_calls.specs.Candidates.{IsCandidate}
+use Rattle.jz_calls.specs.InnerCandidates.{IsCandidate}
 use Rattle.jz_calls.proofs.fall.first_level.Given as goal
 
 abbrev pub invariant-loop-i : goal.invariant-loop-i

@@ -1,5 +1,5 @@
 use Rattle.std.proofs.Common.{◌≡◌, map, take}
-use Rattle.jz_calls.specs.Numbers.{numbers_called}
+use Rattle.jz_calls.specs.InnerNumbers.{numbers_called}
 use Rattle.jz_calls.proofs.graph.graph.Given as goal
 
 abbrev pub invariant-loop-fun : goal.invariant-loop-fun

@@ -1,5 +1,5 @@
 use Rattle.std.proofs.Common.{rules, subst, sym}
-use Rattle.jz_calls.specs.Numbers.{VisitsAll}
+use Rattle.jz_calls.specs.InnerNumbers.{VisitsAll}
 use Rattle.std.proofs.Common.{[], ◌∷◌, slice_set, true, List, ℕ}
 use Rattle.jz_calls.proofs.Spread.{found_new}
 use Rattle.jz_calls.proofs.reaching.visit.Goals as goal

@@ -1,6 +1,6 @@
 use Rattle.std.proofs.Common.{arith, refl, sym, subst, ◌<◌, length, take, get_or}
 use Rattle.std.proofs.lemmas.List.{take_more}
-use Rattle.jz_calls.specs.Numbers.{VisitsAll}
+use Rattle.jz_calls.specs.InnerNumbers.{VisitsAll}
 use Rattle.jz_calls.proofs.Spread.{visits_more}
 use Rattle.jz_calls.proofs.reaching.visit_all.Goals as goal
 

@@ -1,5 +1,5 @@
 use Rattle.std.proofs.Common.{take}
-use Rattle.jz_calls.specs.Numbers.{VisitsAll}
+use Rattle.jz_calls.specs.InnerNumbers.{VisitsAll}
 use Rattle.jz_calls.proofs.reaching.visit_all.Given as goal
 
 abbrev pub invariant-loop-at : goal.invariant-loop-at

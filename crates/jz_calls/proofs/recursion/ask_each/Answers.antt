@@ -1,7 +1,7 @@
 use Rattle.std.proofs.Common.{rules, arith, sym, subst, ap, ◌∙◌, ◌<◌, ◌≡◌, ◌+◌, ◌++◌, ◌∷◌, [], length, None}
 use Rattle.std.proofs.lemmas.List.{length-map}
 use Rattle.jz_calls.specs.declared.recursion.Ranking.TheVariants.{Ranked}
-use Rattle.jz_calls.specs.Numbers.{IsClosed, numbers_called, graph_of}
+use Rattle.jz_calls.specs.InnerNumbers.{IsClosed, numbers_called, graph_of}
 use Rattle.jz_calls.specs.Recursion.{Tells}
 use Rattle.jz_calls.proofs.Bridge.{closed}
 use Rattle.jz_calls.proofs.Each.{Each, each_begins, each_more}

@@ -1,5 +1,5 @@
 use Rattle.std.proofs.Common.{arith, ◌<◌, ◌∙◌, sym, subst, length}
-use Rattle.jz_calls.specs.Numbers.{IsClosed}
+use Rattle.jz_calls.specs.InnerNumbers.{IsClosed}
 use Rattle.jz_calls.proofs.Bridge.{closed}
 use Rattle.jz_calls.proofs.Spread.{mark_is}
 use Rattle.jz_calls.proofs.Steep.{candidate_within, first_recursive}

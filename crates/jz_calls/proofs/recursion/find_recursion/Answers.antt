@@ -1,7 +1,7 @@
 use Rattle.std.proofs.Common.{sym, subst, length}
 use Rattle.jz_calls.specs.declared.recursion.Ranking.TheVariants.{Ranked}
-use Rattle.jz_calls.specs.Numbers.{Descends}
-use Rattle.jz_calls.specs.Candidates.{IsCandidate}
+use Rattle.jz_calls.specs.InnerNumbers.{Descends}
+use Rattle.jz_calls.specs.InnerCandidates.{IsCandidate}
 use Rattle.jz_calls.specs.Recursion.{Tells}
 use Rattle.jz_calls.proofs.Ranked.{level_tells}
 use Rattle.jz_calls.proofs.Steep.{none_sooner}

@@ -1,5 +1,5 @@
 use Rattle.std.proofs.Common.{◌≡◌, ◌++◌, not, drop, filter}
-use Rattle.jz_paths.specs.Walks.{members}
+use Rattle.jz_paths.specs.InnerWalks.{members}
 use Rattle.jz_paths.proofs.asked.apart.Given as goal
 
 abbrev pub invariant-loop-name : goal.invariant-loop-name

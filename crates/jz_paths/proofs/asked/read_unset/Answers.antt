@@ -1,4 +1,4 @@
-use Rattle.jz_paths.specs.Walks.{members}
+use Rattle.jz_paths.specs.InnerWalks.{members}
 use Rattle.jz_paths.proofs.Asking.{unset_law}
 use Rattle.jz_paths.proofs.asked.read_unset.Goals as goal
 

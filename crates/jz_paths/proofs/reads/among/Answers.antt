@@ -1,8 +1,8 @@
 use Rattle.std.proofs.Common.{refl, arith, ◌∙◌, ap}
 use Rattle.jz_scopes.specs.Scopes.{name_of}
 use Rattle.jz_paths.specs.Paths.{reads}
-use Rattle.jz_paths.specs.Surely.{first}
-use Rattle.jz_paths.specs.Walks.{members}
+use Rattle.jz_paths.specs.InnerSurely.{first}
+use Rattle.jz_paths.specs.InnerWalks.{members}
 use Rattle.jz_paths.proofs.Walking.{turn_more, turn_ends, names_turn}
 use Rattle.jz_paths.proofs.reads.among.Goals as goal
 

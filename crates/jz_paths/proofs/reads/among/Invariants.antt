@@ -2,8 +2,8 @@ use Rattle.std.proofs.Common.{◌≡◌, drop, map}
 use Rattle.jz_scopes.specs.Order.{earlier}
 use Rattle.jz_scopes.specs.Scopes.{name_of}
 use Rattle.jz_paths.specs.Paths.{in_turn, reads}
-use Rattle.jz_paths.specs.Surely.{first}
-use Rattle.jz_paths.specs.Walks.{members}
+use Rattle.jz_paths.specs.InnerSurely.{first}
+use Rattle.jz_paths.specs.InnerWalks.{members}
 use Rattle.jz_paths.proofs.reads.among.Given as goal
 
 abbrev pub invariant-loop-var : goal.invariant-loop-var

@@ -1,5 +1,5 @@
 use Rattle.jz_paths.specs.Paths.{reading_expr}
-use Rattle.jz_paths.specs.Walks.{members}
+use Rattle.jz_paths.specs.InnerWalks.{members}
 use Rattle.jz_paths.proofs.Walking.{turn_more, idle_expr}
 use Rattle.jz_paths.proofs.reads.in_all.Goals as goal
 

@@ -1,8 +1,8 @@
 use Rattle.std.proofs.Common.{◌≡◌, drop, map}
 use Rattle.jz_scopes.specs.Order.{earlier}
 use Rattle.jz_paths.specs.Paths.{in_turn, reading_left}
-use Rattle.jz_paths.specs.Surely.{first}
-use Rattle.jz_paths.specs.Walks.{members}
+use Rattle.jz_paths.specs.InnerSurely.{first}
+use Rattle.jz_paths.specs.InnerWalks.{members}
 use Rattle.jz_paths.proofs.reads.in_lefts.Given as goal
 
 abbrev pub invariant-loop-lval : goal.invariant-loop-lval

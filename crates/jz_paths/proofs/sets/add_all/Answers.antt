@@ -1,6 +1,6 @@
 use Rattle.std.proofs.Common.{◌≡◌, ◌+◌, rules, arith, sym, ap, ◌∙◌, subst, ◌∷◌, drop}
 use Rattle.std.proofs.lemmas.List.{drop_more, drop_all}
-use Rattle.jz_paths.specs.Walks.{Adds, AddsAll}
+use Rattle.jz_paths.specs.InnerWalks.{Adds, AddsAll}
 use Rattle.jz_paths.proofs.Adding.{adds_none, adds_one}
 use Rattle.jz_paths.proofs.sets.add_all.Goals as goal
 

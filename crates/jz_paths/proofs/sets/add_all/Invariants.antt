@@ -1,5 +1,5 @@
 use Rattle.std.proofs.Common.{List, ℕ, drop}
-use Rattle.jz_paths.specs.Walks.{AddsAll}
+use Rattle.jz_paths.specs.InnerWalks.{AddsAll}
 use Rattle.jz_paths.proofs.sets.add_all.Given as goal
 
 abbrev pub invariant-loop-name : goal.invariant-loop-name

@@ -1,5 +1,5 @@
 use Rattle.std.proofs.Common.{rules, take, filter, subst, ap, ◌∙◌}
-use Rattle.jz_paths.specs.Walks.{members, AddsAll}
+use Rattle.jz_paths.specs.InnerWalks.{members, AddsAll}
 use Rattle.jz_paths.proofs.Adding.{joined}
 use Rattle.jz_paths.proofs.sets.join.Goals as goal
 

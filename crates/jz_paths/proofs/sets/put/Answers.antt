@@ -1,5 +1,5 @@
 use Rattle.std.proofs.Common.{◌≡◌, rules, subst}
-use Rattle.jz_paths.specs.Walks.{members, Adds}
+use Rattle.jz_paths.specs.InnerWalks.{members, Adds}
 use Rattle.jz_paths.proofs.Adding.{puts_asked, puts_other}
 use Rattle.jz_paths.proofs.sets.put.Goals as goal
 

@@ -1,10 +1,10 @@
 use Rattle.std.proofs.Common.{◌≡◌, drop}
 use Rattle.jz_scopes.specs.Order.{earlier}
-use Rattle.jz_paths.specs.Settings.{Around}
-use Rattle.jz_paths.specs.FirstSet.{first_set_all}
+use Rattle.jz_paths.specs.Settings.{around}
+use Rattle.jz_paths.specs.InnerFirstSet.{first_set_all}
 use Rattle.jz_paths.proofs.settings.+settings.Given as goal
 
 abbrev pub invariant-set_in_all-loop-stmt : goal.invariant-set_in_all-loop-stmt
 invariant-set_in_all-loop-stmt l =
-    let w : Around = record { inside = l.inside; counters = l.initial.counters.items } in
+    let w = around l.inside l.initial.counters.items in
     (earlier l.best (first_set_all (drop l.stmt-index l.stmt-items) w) ≡ first_set_all l.stmts w) × (l.counters.items ≡ l.initial.counters.items)

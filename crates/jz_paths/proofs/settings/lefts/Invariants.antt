@@ -1,10 +1,10 @@
 use Rattle.std.proofs.Common.{◌≡◌, drop}
 use Rattle.jz_scopes.specs.Order.{earlier}
-use Rattle.jz_paths.specs.Settings.{Around}
-use Rattle.jz_paths.specs.FirstSet.{first_lefts}
+use Rattle.jz_paths.specs.Settings.{around}
+use Rattle.jz_paths.specs.InnerFirstSet.{first_lefts}
 use Rattle.jz_paths.proofs.settings.lefts.Given as goal
 
 abbrev pub invariant-loop-lval : goal.invariant-loop-lval
 invariant-loop-lval l =
-    let w : Around = record { inside = l.inside; counters = l.counters } in
+    let w = around l.inside l.counters in
     earlier l.best (first_lefts (drop l.lval-index l.to) w) ≡ first_lefts l.to w

@@ -1,7 +1,7 @@
 use Rattle.std.proofs.Common.{rules, arith, drop, sym, subst, ap, ◌∙◌, None}
 use Rattle.std.proofs.lemmas.List.{drop_all}
 use Rattle.jz_paths.specs.Paths.{flow_of, flow_of_all, reading_expr, Repeat, Then, Does, Sets}
-use Rattle.jz_paths.specs.Walks.{members, Walks}
+use Rattle.jz_paths.specs.InnerWalks.{members, Walks}
 use Rattle.jz_scopes.specs.Order.{earlier}
 use Rattle.jz_scopes.specs.Scopes.{name_of}
 use Rattle.jz_paths.proofs.Flows.{if_flow, bare_flow, body_flow, for_flow, mark_flow}

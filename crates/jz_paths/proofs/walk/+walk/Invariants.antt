@@ -1,6 +1,6 @@
 use Rattle.std.proofs.Common.{drop}
 use Rattle.jz_paths.specs.Paths.{flow_of}
-use Rattle.jz_paths.specs.Walks.{members}
+use Rattle.jz_paths.specs.InnerWalks.{members}
 use Rattle.jz_paths.proofs.Walking.{Walking}
 use Rattle.jz_paths.proofs.walk.+walk.Given as goal
 

@@ -1,7 +1,7 @@
 use Rattle.std.proofs.Common.{map, ap, subst, ◌∙◌}
 use Rattle.jz_paths.specs.Paths.{in_turn, setting, reading_old}
-use Rattle.jz_paths.specs.Surely.{first}
-use Rattle.jz_paths.specs.Walks.{members, Walks}
+use Rattle.jz_paths.specs.InnerSurely.{first}
+use Rattle.jz_paths.specs.InnerWalks.{members, Walks}
 use Rattle.jz_paths.proofs.Walking.{walks_assign}
 use Rattle.jz_paths.proofs.walk.assign.Goals as goal
 

@@ -1,8 +1,8 @@
 use Rattle.std.proofs.Common.{sym, ap, ◌∙◌, subst}
 use Rattle.jz_tree.specs.declared.expr.Expr.TheViews.{out-Access}
 use Rattle.jz_paths.specs.Paths.{reading_expr, setting}
-use Rattle.jz_paths.specs.Surely.{first}
-use Rattle.jz_paths.specs.Walks.{members, Walks}
+use Rattle.jz_paths.specs.InnerSurely.{first}
+use Rattle.jz_paths.specs.InnerWalks.{members, Walks}
 use Rattle.jz_paths.proofs.Walking.{walks_reads, idle_expr}
 use Rattle.jz_paths.proofs.walk.set_left.Goals as goal
 

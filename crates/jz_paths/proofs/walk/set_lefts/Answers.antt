@@ -1,7 +1,7 @@
 use Rattle.std.proofs.Common.{arith, drop}
 use Rattle.std.proofs.lemmas.List.{drop_all}
 use Rattle.jz_paths.specs.Paths.{setting}
-use Rattle.jz_paths.specs.Walks.{members}
+use Rattle.jz_paths.specs.InnerWalks.{members}
 use Rattle.jz_paths.proofs.Walking.{walking_begins, walking_on, walking_ends}
 use Rattle.jz_paths.proofs.walk.set_lefts.Goals as goal
 

@@ -1,6 +1,6 @@
 use Rattle.std.proofs.Common.{drop}
 use Rattle.jz_paths.specs.Paths.{setting}
-use Rattle.jz_paths.specs.Walks.{members}
+use Rattle.jz_paths.specs.InnerWalks.{members}
 use Rattle.jz_paths.proofs.Walking.{Walking}
 use Rattle.jz_paths.proofs.walk.set_lefts.Given as goal
 

@@ -1,6 +1,6 @@
 use Rattle.std.proofs.Common.{map, take}
 use Rattle.jz_rules.specs.Callees.{name_of_param}
-use Rattle.jz_rules.specs.Tables.{HasPlaces}
+use Rattle.jz_rules.specs.InnerTables.{HasPlaces}
 use Rattle.jz_rules.proofs.callee.places_of.Given as goal
 
 abbrev pub invariant-loop-number : goal.invariant-loop-number

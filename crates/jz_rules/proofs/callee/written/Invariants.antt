@@ -1,6 +1,6 @@
 use Rattle.std.proofs.Common.{◌≡◌, ℕ, List, ◌++◌, map, drop}
 use Rattle.jz_rules.specs.Callees.{is_written}
-use Rattle.jz_rules.specs.Tables.{HasNames}
+use Rattle.jz_rules.specs.InnerTables.{HasNames}
 use Rattle.jz_rules.proofs.callee.written.Given as goal
 
 abbrev pub invariant-loop-param : goal.invariant-loop-param

@@ -1,6 +1,6 @@
 use Rattle.std.proofs.Common.{◌∙◌, ap, map}
 use Rattle.std.specs.List.{zip}
-use Rattle.jz_rules.specs.Pairs.{pair_of}
+use Rattle.jz_rules.specs.InnerPairs.{pair_of}
 use Rattle.jz_rules.proofs.CopyLaws.{by_call_is}
 use Rattle.jz_rules.proofs.copies.copied_with.Goals as goal
 

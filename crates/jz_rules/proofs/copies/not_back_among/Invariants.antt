@@ -1,7 +1,7 @@
 use Rattle.std.proofs.Common.{◌≡◌, ℕ, List, map, drop}
 use Rattle.jz_scopes.specs.Order.{earlier, first_in}
-use Rattle.jz_rules.specs.Passing.{passed_of}
-use Rattle.jz_rules.specs.Tables.{HasNumbers}
+use Rattle.jz_rules.specs.InnerPassing.{passed_of}
+use Rattle.jz_rules.specs.InnerTables.{HasNumbers}
 use Rattle.jz_rules.specs.Copies.{not_back}
 use Rattle.jz_rules.proofs.copies.not_back_among.Given as goal
 

@@ -1,6 +1,6 @@
 use Rattle.std.proofs.Common.{◌≡◌, map, drop}
 use Rattle.jz_scopes.specs.Order.{earlier, first_in}
-use Rattle.jz_rules.specs.Pairs.{pair_of}
+use Rattle.jz_rules.specs.InnerPairs.{pair_of}
 use Rattle.jz_rules.specs.Copies.{not_passed}
 use Rattle.jz_rules.proofs.copies.not_passed_among.Given as goal
 

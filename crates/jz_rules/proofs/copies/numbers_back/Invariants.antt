@@ -1,5 +1,5 @@
 use Rattle.std.proofs.Common.{◌≡◌, ◌++◌, map, drop}
-use Rattle.jz_rules.specs.Pairs.{pair_of}
+use Rattle.jz_rules.specs.InnerPairs.{pair_of}
 use Rattle.jz_rules.specs.Copies.{numbers_back}
 use Rattle.jz_rules.proofs.copies.numbers_back.Given as goal
 

@@ -1,5 +1,5 @@
 use Rattle.std.proofs.Common.{◌≡◌, ◌++◌, map, drop}
-use Rattle.jz_rules.specs.Passing.{passed_of}
+use Rattle.jz_rules.specs.InnerPassing.{passed_of}
 use Rattle.jz_rules.specs.Copies.{passed_from}
 use Rattle.jz_rules.proofs.copies.passed.Given as goal
 

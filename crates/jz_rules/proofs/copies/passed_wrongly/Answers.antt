@@ -1,6 +1,6 @@
 use Rattle.std.proofs.Common.{◌∙◌, ap, map}
-use Rattle.jz_rules.specs.Pairs.{pair_of}
-use Rattle.jz_rules.specs.Passing.{passed_of}
+use Rattle.jz_rules.specs.InnerPairs.{pair_of}
+use Rattle.jz_rules.specs.InnerPassing.{passed_of}
 use Rattle.jz_rules.proofs.CopyLaws.{wrongly_is}
 use Rattle.jz_rules.proofs.copies.passed_wrongly.Goals as goal
 

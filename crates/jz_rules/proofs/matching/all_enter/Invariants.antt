@@ -1,6 +1,6 @@
 use Rattle.std.proofs.Common.{◌≡◌, map, drop}
 use Rattle.std.specs.List.{list_all}
-use Rattle.jz_rules.specs.Pairs.{pair_of}
+use Rattle.jz_rules.specs.InnerPairs.{pair_of}
 use Rattle.jz_rules.specs.Matching.{enters}
 use Rattle.jz_rules.proofs.matching.all_enter.Given as goal
 

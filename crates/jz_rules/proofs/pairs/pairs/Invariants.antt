@@ -2,7 +2,7 @@ use Rattle.std.proofs.Common.{◌≡◌, ◌++◌, map}
 use Rattle.std.specs.List.{zip}
 use Rattle.std.specs.Iterator.Adapters.{zip_first, zip_second}
 use Rattle.std.specs.Slice.Iter.{iter_rest}
-use Rattle.jz_rules.specs.Pairs.{pair_of}
+use Rattle.jz_rules.specs.InnerPairs.{pair_of}
 use Rattle.jz_rules.proofs.pairs.pairs.Given as goal
 
 abbrev pub invariant-loop-left : goal.invariant-loop-left

@@ -1,5 +1,5 @@
 use Rattle.std.proofs.Common.{sym, ◌∙◌}
-use Rattle.jz_rules.specs.Passing.{passed_of}
+use Rattle.jz_rules.specs.InnerPassing.{passed_of}
 use Rattle.jz_rules.proofs.TwiceLaws.{twice_is, by_written, by_all, by_none}
 use Rattle.jz_rules.proofs.twice.is_twice.Goals as goal
 

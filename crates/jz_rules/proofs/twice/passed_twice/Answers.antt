@@ -1,7 +1,7 @@
 use Rattle.std.proofs.Common.{◌∙◌, ap, map, take, not}
 use Rattle.jz_scopes.specs.Order.{unless, earlier, earliest}
 use Rattle.jz_rules.specs.Copies.{span_of_var}
-use Rattle.jz_rules.specs.Passing.{passed_of}
+use Rattle.jz_rules.specs.InnerPassing.{passed_of}
 use Rattle.jz_rules.proofs.TwiceLaws.{seen_at, turn_taken, turn_left}
 use Rattle.jz_rules.proofs.twice.passed_twice.Goals as goal
 

@@ -1,7 +1,7 @@
 use Rattle.std.proofs.Common.{◌≡◌, [], map, take, drop}
 use Rattle.jz_scopes.specs.Order.{earlier, earliest}
-use Rattle.jz_rules.specs.Passing.{passed_of}
-use Rattle.jz_rules.specs.Tables.{HasSeen}
+use Rattle.jz_rules.specs.InnerPassing.{passed_of}
+use Rattle.jz_rules.specs.InnerTables.{HasSeen}
 use Rattle.jz_rules.specs.Copies.{passed_twice}
 use Rattle.jz_rules.proofs.twice.passed_twice.Given as goal
 

@@ -1,6 +1,6 @@
 use Rattle.std.proofs.Common.{ap, ◌∙◌}
 use Rattle.std.proofs.lemmas.Option.{MatchOption-at_none, MatchOption-at_some}
-use Rattle.jz_types.specs.Faults.{first_told}
+use Rattle.jz_types.specs.InnerFaults.{first_told}
 use Rattle.jz_types.specs.Rules.{IsTyped, IsFirstTypeFault}
 use Rattle.jz_types.proofs.Judging.{judged, ranked, not_recursive}
 use Rattle.jz_types.proofs.checking.check.Goals as goal

@@ -1,5 +1,5 @@
-use Rattle.jz_scopes.specs.Scopes.{or_values, variable_place}
-use Rattle.jz_scopes.specs.Names.{fun_where, repeated_in_fun}
+use Rattle.jz_scopes.specs.Names.{repeated_in_fun}
+use Rattle.jz_types.specs.InnerFunctions.{unknown_with}
 use Rattle.jz_scopes.specs.Tables.{place_in, function_in}
 use Rattle.jz_resolve.specs.Tables.{values_in}
 use Rattle.jz_resolve.specs.Numbering.{value_with}
@@ -21,7 +21,7 @@ loop-fun-preserved c =
     in let is = c.fun-item.is
     in let held = c.loop-fun.invariant
     in (
-      first_more (λ f. fun_where (or_values places (variable_place f)) (variable_place f) functions f) funs i fun first.unknown _ _ _ within is c.in_ok-unknown.ensures c.earlier_of.ensures.is held.0,
+      first_more (unknown_with places functions) funs i fun first.unknown _ _ _ within is c.in_ok-unknown.ensures c.earlier_of.ensures.is held.0,
       first_more repeated_in_fun funs i fun first.repeated _ _ _ within is c.in_ok-repeated.ensures c.earlier_of-in-loop-fun.ensures.is held.1,
       first_more (fun_lengths places length) funs i fun first.mismatched _ _ _ within is c.in_ok-mismatched.ensures c.earlier_of-in-loop-fun-2.ensures.is held.2,
       first_more annotated funs i fun first.annotated _ _ _ within is c.annotated.ensures c.earlier_of-in-loop-fun-3.ensures.is held.3,

@@ -1,7 +1,7 @@
 use Rattle.std.proofs.Common.{◌≡◌, drop}
 use Rattle.jz_scopes.specs.Order.{earlier, first_in}
-use Rattle.jz_scopes.specs.Scopes.{or_values, variable_place}
-use Rattle.jz_scopes.specs.Names.{fun_where, repeated_in_fun}
+use Rattle.jz_scopes.specs.Names.{repeated_in_fun}
+use Rattle.jz_types.specs.InnerFunctions.{unknown_with}
 use Rattle.jz_scopes.specs.Tables.{place_in, function_in}
 use Rattle.jz_resolve.specs.Tables.{values_in}
 use Rattle.jz_resolve.specs.Numbering.{value_with}
@@ -16,8 +16,8 @@ invariant-loop-fun l =
     in let length = value_with (values_in l.fn.lengths.table)
     in let rest = drop l.fun-index l.fun-items
     in let all = l.fn.program.funs
-    in (earlier l.first.unknown (first_in (λ f. fun_where (or_values places (variable_place f)) (variable_place f) functions f) rest)
-    ≡ first_in (λ f. fun_where (or_values places (variable_place f)) (variable_place f) functions f) all)
+    in (earlier l.first.unknown (first_in (unknown_with places functions) rest)
+    ≡ first_in (unknown_with places functions) all)
     × (earlier l.first.repeated (first_in repeated_in_fun rest) ≡ first_in repeated_in_fun all)
     × (earlier l.first.mismatched (first_in (fun_lengths places length) rest) ≡ first_in (fun_lengths places length) all)
     × (earlier l.first.annotated (first_in annotated rest) ≡ first_in annotated all)

@@ -1,5 +1,5 @@
 use Rattle.std.proofs.Common.{take}
-use Rattle.jz_calls.specs.Tables.{IsNumbers}
+use Rattle.jz_calls.specs.InnerTables.{IsNumbers}
 use Rattle.jz_calls.proofs.numbers.Numbers.of.Given as goal
 
 abbrev pub invariant-loop-i : goal.invariant-loop-i

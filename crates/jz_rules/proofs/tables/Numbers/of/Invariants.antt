@@ -1,5 +1,5 @@
 use Rattle.std.proofs.Common.{take}
-use Rattle.jz_rules.specs.Tables.{HasNumbers}
+use Rattle.jz_rules.specs.InnerTables.{HasNumbers}
 use Rattle.jz_rules.proofs.tables.Numbers.of.Given as goal
 
 abbrev pub invariant-loop-number : goal.invariant-loop-number

@@ -29,10 +29,15 @@ first_lefts (l ∷ ls) w = earlier (first_left l w) (first_lefts ls w)
 
 abbrev pub first_step : StmtKind-F FirstSet FirstSet → FirstSet
 first_step (StmtKind-F.Assign to op from cond) w = first_lefts to w
-first_step (StmtKind-F.If c a b) w = earlier (first_all a (entered (not (is_inline c)) w)) (first_all b (entered (not (is_inline c)) w))
+first_step (StmtKind-F.If c a b) w =
+    earlier (first_all a (entered (not (is_inline c)) w))
+    (first_all b (entered (not (is_inline c)) w))
 first_step (StmtKind-F.While p c None) w = first_all p (entered true w)
-first_step (StmtKind-F.While p c (Some b)) w = earlier (first_all p (entered true w)) (first_all b (entered true w))
-first_step (StmtKind-F.For i from down to b) w = earlier (earliest (unless (not (is_counter w i)) (out-Var i).span)) (first_all b (counting i w))
+first_step (StmtKind-F.While p c (Some b)) w =
+    earlier (first_all p (entered true w)) (first_all b (entered true w))
+first_step (StmtKind-F.For i from down to b) w =
+    earlier (earliest (unless (not (is_counter w i)) (out-Var i).span))
+    (first_all b (counting i w))
 first_step (StmtKind-F.Mark vs) w = None
 
 abbrev pub first_set : Stmt → FirstSet

@@ -1,4 +1,5 @@
--- Where the rules fail first: those that are asked of the program as it was read, and those of the one with declarations.
+-- Where the rules fail first: those that are asked of the program as it was read, and those of the
+-- one with declarations.
 use Rattle.std.specs.Prelude.{◌≡◌}
 use Rattle.jz_tree.specs.declared.program.Program.{Program}
 use Rattle.jz_scopes.specs.Order.{earliest, earlier, IsEarliest}

@@ -1,4 +1,5 @@
--- What is surely set after a flow, and the earliest read of what is not surely set before it, by sets.
+-- What is surely set after a flow, and the earliest read of what is not surely set before it, by
+-- sets.
 use Rattle.std.specs.Prelude.{ℕ, Bool, false, not, ◌&&◌, ◌||◌, if◌then◌else◌, List, Option, Some, None}
 use Rattle.std.specs.Str.{bytes_eq}
 use Rattle.jz_io.specs.declared.span.Span.{Span}
