@@ -1,15 +1,15 @@
 -- One limit is passed first, or none.
 use Rattle.std.proofs.Common.{◌≡◌, ℕ, ◌<◌, ◌≤◌, ◌⊎◌, inl, inr, ℤ, List, [], ◌∷◌, ◌++◌, refl, sym, ap, ◌∙◌, subst, arith}
-use Rattle.std.specs.Prelude.{All, Contains, FitsSigned}
-use Rattle.std.specs.Int.{w32}
+use Rattle.std.specs.Prelude.{Bool, true, false, All, Contains}
 use Rattle.std.proofs.lemmas.List.Elements.{All-nil, All-cons, All-head, All-tail, All-contains, Contains-append_left, Contains-append_right, Contains-push}
-use lib.Signed.{mag}
+use Rattle.jz_words.specs.declared.size.Size.TheVariants.{S64}
+use Rattle.jz_words.specs.Readings.{reading_of, fits_bytes}
 use Rattle.jz_io.specs.declared.span.Span.{Span}
 use Rattle.jz_first_tree.specs.declared.Fun.{Fun}
 use Rattle.jz_pipeline.specs.declared.limits.Limit.{Limit}
 use Rattle.jz_pipeline.specs.declared.limits.LimitKind.{LimitKind}
 use Rattle.jz_pipeline.specs.declared.limits.LimitKind.TheVariants.{Expand, ImmRange}
-use Rattle.jz_pipeline.specs.Limits.{Constant, HasField, HasOwnField, reading, count_of, immediates_of, IsFirstWithout, IsWithinLimits, Passes, IsFirstLimit}
+use Rattle.jz_pipeline.specs.Limits.{Constant, HasField, HasOwnField, count_of, immediates_of, IsFirstWithout, IsWithinLimits, Passes, IsFirstLimit}
 
 -- the first of a list is one
 same_first : (front other : List Constant) (n m : ℤ) (a b : Span) (rest more : List Constant)
@@ -58,8 +58,12 @@ none_within f l h p = not_passed f l.kind l.span h p.1
 below : (a b : ℕ) → (a < b) ⊎ (b ≤ a)
 below a b = grind arith
 
-fits : (z : ℤ) → FitsSigned w32 z ⊎ (FitsSigned w32 z → ⊥)
-fits z = elim (below (mag z) 2147483648) [ inl h ↦ inl (record { sfits = h }) | inr h ↦ inr (λ f. omega (arith, h, f.sfits)) ]
+is_or_not : (b : Bool) → (b ≡ true) ⊎ (b ≡ true → ⊥)
+is_or_not true = inl refl
+is_or_not false = inr (λ e. cc)
+
+has_or_lacks : (n : ℤ) → HasField n ⊎ (HasField n → ⊥)
+has_or_lacks n = is_or_not (fits_bytes 4 (reading_of S64 n))
 
 one_later : (c : Constant) (cs : List Constant) (at : Span) → HasOwnField c → IsFirstWithout cs at → IsFirstWithout (c ∷ cs) at
 one_later c cs at h first = record {
@@ -74,7 +78,7 @@ one_later c cs at h first = record {
 split : (cs : List Constant) → All HasOwnField cs ⊎ ((at : Span) × IsFirstWithout cs at)
 split [] = inl (All-nil HasOwnField)
 split (c ∷ cs) =
-    elim (fits (reading c.0)) [
+    elim (has_or_lacks c.0) [
       | inl h ↦ elim (split cs) [
         | inl all ↦ inl (All-cons HasOwnField c cs h all)
         | inr one ↦ inr (one.0, one_later c cs one.0 h one.1)

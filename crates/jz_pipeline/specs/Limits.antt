@@ -1,12 +1,10 @@
 -- The limits that a function without calls and loops may pass.
-use Rattle.std.specs.Prelude.{◌≡◌, ℕ, ◌<◌, ◌≤◌, ℤ, List, ◌∷◌, ◌++◌, length}
-use Rattle.std.specs.Prelude.{Option, Some, None, IfSome, IsSomeAnd, All, FitsSigned, slice_get}
-use Rattle.std.specs.Int.{w32}
+use Rattle.std.specs.Prelude.{◌≡◌, true, ℕ, ◌<◌, ◌≤◌, ℤ, List, ◌∷◌, ◌++◌, length}
+use Rattle.std.specs.Prelude.{Option, Some, None, IfSome, IsSomeAnd, All, slice_get}
 use Rattle.std.specs.List.{filter_map}
 use Rattle.jz_io.specs.declared.span.Span.{Span}
 use Rattle.jz_words.specs.declared.size.Size.TheVariants.{S64}
-use Rattle.jz_words.specs.Sizes.{signed}
-use Rattle.jz_words.specs.Words.{residue}
+use Rattle.jz_words.specs.Readings.{reading_of, fits_bytes}
 use Rattle.jz_first_tree.specs.declared.Fun.{Fun}
 use Rattle.jz_first_tree.specs.declared.Expr.TheVariants as expr
 use Rattle.jz_first_tree.specs.declared.Rhs.{Rhs}
@@ -21,13 +19,9 @@ use Rattle.jz_pipeline.specs.declared.limits.LimitKind.TheVariants.{Expand, ImmR
 abbrev pub count_of : Fun → ℕ
 count_of f = length f.body
 
--- the number modulo 2^64 as a signed number
-abbrev pub reading : ℤ → ℤ
-reading n = signed S64 (residue S64 n)
-
--- an instruction can hold the number, as a signed one of 32 bits
+-- an instruction can hold the number: modulo 2^64 it is a signed one of 32 bits
 abbrev pub HasField : ℤ → Type 0
-HasField n = FitsSigned w32 (reading n)
+HasField n = fits_bytes 4 (reading_of S64 n) ≡ true
 
 -- a constant where it stands
 abbrev pub Constant : Type 0
@@ -51,8 +45,8 @@ abbrev pub immediates_of : Fun → List Constant
 immediates_of f = filter_map (λ s. immediate_of s.kind) f.body
 
 -- the statement has no constant, or one with a field
-abbrev pub FitsImmediate : StmtKind → Type 0
-FitsImmediate k = IfSome (immediate_of k) HasOwnField
+abbrev pub ConstantHasField : StmtKind → Type 0
+ConstantHasField k = IfSome (immediate_of k) HasOwnField
 
 -- the statement's constant is there, and has no field
 pub record LacksField (k : StmtKind) (at : Span) : Type 0 where

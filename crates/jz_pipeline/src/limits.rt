@@ -2,13 +2,14 @@
 //! it passes.
 
 ghost use Rattle.std.specs.Prelude.{◌≡◌, ◌↔◌, IsTrue, All, IfOk, MatchOption};
-ghost use Rattle.jz_pipeline.specs.Limits.{reading, HasField, HasOwnField, FitsImmediate, LacksField};
+ghost use Rattle.jz_pipeline.specs.Limits.{HasField, HasOwnField, ConstantHasField, LacksField};
 ghost use Rattle.jz_pipeline.specs.Limits.{constant_in, immediate_of, immediates_of, IsFirstWithout};
 ghost use Rattle.jz_pipeline.specs.Limits.{IsWithinLimits, IsFirstLimit};
 
 use jz_data::Text;
 use jz_first_tree::{Expr, Fun, Rhs, StmtKind};
 use jz_io::Span;
+use jz_words::{Size, fits_four_bytes, reading};
 use std::alloc::AllocError;
 
 /// How many statements a function may have.
@@ -32,21 +33,12 @@ pub struct Limit {
     pub span: Span,
 }
 
-/// The number modulo 2^64 as a signed number.
-#[tactic(auto, unfolding(jz_words::specs::Sizes::signed))]
-fn reading(number: i128) -> i128
-    ensures { result ≡ reading number }
-{
-    let low = number.rem_euclid(1 << 64);
-    if low < 1 << 63 { low } else { low - (1 << 64) }
-}
-
 /// Whether an instruction can hold the number, modulo 2^64, in 32 bits that are read as a signed
 /// number.
 pub fn has_field(number: i128) -> bool
     ensures { IsTrue result ↔ HasField number }
 {
-    i32::try_from(reading(number)).is_ok()
+    fits_four_bytes(reading(Size::S64, number))
 }
 
 /// The number on a right side, with its place.
@@ -72,7 +64,7 @@ fn immediate(kind: &StmtKind) -> Option<(i128, Span)>
 
 /// The place of the statement's constant, if it has one without a field.
 fn without_field(kind: &StmtKind) -> Option<Span>
-    ensures { MatchOption result (FitsImmediate kind.now) (LacksField kind.now) }
+    ensures { MatchOption result (ConstantHasField kind.now) (LacksField kind.now) }
 {
     let Some((number, span)) = immediate(kind) else {
         return None;
