@@ -4,7 +4,7 @@ use jz_data::{Boxed, Seq, Text};
 use jz_io::{Ct, CtKind, Span};
 use jz_leak::{Case, Event, Form, Leak, MemMap, Out, Tr, Transformer, apply};
 use jz_listing::{Arg, Compiled, Pre, listing};
-use jz_pass::has_field;
+use jz_pipeline::has_field;
 use jz_words::Size;
 use std::alloc::{AllocError, Global};
 use std::test::Fail;

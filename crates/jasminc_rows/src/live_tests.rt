@@ -14,7 +14,7 @@ use jz_live::live;
 use std::alloc::{AllocError, Global};
 use std::test::Fail;
 
-// An operation over the variables 0, 1 and 2.
+/// An operation over the variables 0, 1 and 2.
 fn op(alloc: Global, reads: &[u32], writes: &[u32]) -> Result<Op, AllocError>
     requires reads { All (λ variable. variable < 3) reads.now }
     requires writes { All (λ variable. variable < 3) writes.now }
@@ -29,6 +29,7 @@ fn op(alloc: Global, reads: &[u32], writes: &[u32]) -> Result<Op, AllocError>
     })
 }
 
+/// An operation as a part of code.
 fn operation(op: Op) -> Node
     requires { Below 3 op }
     ensures { TreeBelow 3 (then_tree result done) }
@@ -36,6 +37,7 @@ fn operation(op: Op) -> Node
     Node::Op(op)
 }
 
+/// A branch on what a test reads.
 fn branch(test: Op, yes: Seq<Node>, no: Seq<Node>) -> Node
     requires test { Below 3 test }
     requires yes { TreeBelow 3 (tree_of yes) }
@@ -45,6 +47,7 @@ fn branch(test: Op, yes: Seq<Node>, no: Seq<Node>) -> Node
     Node::If(test, yes, no)
 }
 
+/// A loop with a test.
 fn repeated(prologue: Seq<Node>, test: Op, body: Seq<Node>) -> Node
     requires prologue { TreeBelow 3 (tree_of prologue) }
     requires test { Below 3 test }
@@ -54,6 +57,7 @@ fn repeated(prologue: Seq<Node>, test: Op, body: Seq<Node>) -> Node
     Node::While(prologue, Some(test), body)
 }
 
+/// A loop without a test.
 fn endless(alloc: Global, body: Seq<Node>) -> Node
     requires { TreeBelow 3 (tree_of body) }
     ensures { TreeBelow 3 (then_tree result done) }
@@ -61,6 +65,7 @@ fn endless(alloc: Global, body: Seq<Node>) -> Node
     Node::While(Seq::new(alloc), None, body)
 }
 
+/// A part more.
 fn append(nodes: &mut Seq<Node>, node: Node) -> Result<(), AllocError>
     requires nodes { TreeBelow 3 (tree_of nodes.old) }
     requires node { TreeBelow 3 (then_tree node done) }
@@ -70,7 +75,23 @@ fn append(nodes: &mut Seq<Node>, node: Node) -> Result<(), AllocError>
     Ok(())
 }
 
-// The variables of each row.
+/// An operation more.
+fn append_op(
+    alloc: Global,
+    nodes: &mut Seq<Node>,
+    reads: &[u32],
+    writes: &[u32],
+) -> Result<(), AllocError>
+    requires nodes { TreeBelow 3 (tree_of nodes.old) }
+    requires reads { All (λ variable. variable < 3) reads.now }
+    requires writes { All (λ variable. variable < 3) writes.now }
+    ensures { OnOk result (TreeBelow 3 (tree_of nodes.new)) }
+{
+    let op = op(alloc, reads, writes)?;
+    append(nodes, operation(op))
+}
+
+/// The variables of each row.
 fn shown(alloc: Global, rows: &[Bits]) -> Result<String, AllocError> {
     let mut text = String::new(alloc);
     for row in rows {
@@ -84,53 +105,53 @@ fn shown(alloc: Global, rows: &[Bits]) -> Result<String, AllocError> {
     Ok(text)
 }
 
-// 0 = ..; 1 = ..; if 0 { 2 = 1; } else { 2 = ..; } .. = 2;
+/// 0 = ..; 1 = ..; if 0 { 2 = 1; } else { 2 = ..; } .. = 2;
 #[test]
 fn one_part_of_a_branch_reads_it(rt: HostRuntime) -> Result<(), Fail> {
     let a = rt.alloc();
     let mut yes = Seq::new(a);
-    append(&mut yes, operation(op(a, &[1], &[2])?))?;
+    append_op(a, &mut yes, &[1], &[2])?;
     let mut no = Seq::new(a);
-    append(&mut no, operation(op(a, &[], &[2])?))?;
+    append_op(a, &mut no, &[], &[2])?;
     let mut nodes = Seq::new(a);
-    append(&mut nodes, operation(op(a, &[], &[0])?))?;
-    append(&mut nodes, operation(op(a, &[], &[1])?))?;
+    append_op(a, &mut nodes, &[], &[0])?;
+    append_op(a, &mut nodes, &[], &[1])?;
     append(&mut nodes, branch(op(a, &[0], &[])?, yes, no))?;
-    append(&mut nodes, operation(op(a, &[2], &[])?))?;
+    append_op(a, &mut nodes, &[2], &[])?;
     let rows = live(a, &nodes, 3)?;
     assert_eq!(rt; shown(a, rows.as_slice())?.as_str(), "0;01;1;2;2;;");
     Ok(())
 }
 
-// 0 = ..; 1 = ..; while { 2 = 0; } (2) { 1 = 1 + 0; 0 = 0 - 1; } .. = 1;
+/// 0 = ..; 1 = ..; while { 2 = 0; } (2) { 1 = 1 + 0; 0 = 0 - 1; } .. = 1;
 #[test]
 fn the_next_turn_of_a_loop_reads_it(rt: HostRuntime) -> Result<(), Fail> {
     let a = rt.alloc();
     let mut prologue = Seq::new(a);
-    append(&mut prologue, operation(op(a, &[0], &[2])?))?;
+    append_op(a, &mut prologue, &[0], &[2])?;
     let mut body = Seq::new(a);
-    append(&mut body, operation(op(a, &[1, 0], &[1])?))?;
-    append(&mut body, operation(op(a, &[0], &[0])?))?;
+    append_op(a, &mut body, &[1, 0], &[1])?;
+    append_op(a, &mut body, &[0], &[0])?;
     let mut nodes = Seq::new(a);
-    append(&mut nodes, operation(op(a, &[], &[0])?))?;
-    append(&mut nodes, operation(op(a, &[], &[1])?))?;
+    append_op(a, &mut nodes, &[], &[0])?;
+    append_op(a, &mut nodes, &[], &[1])?;
     append(&mut nodes, repeated(prologue, op(a, &[2], &[])?, body))?;
-    append(&mut nodes, operation(op(a, &[1], &[])?))?;
+    append_op(a, &mut nodes, &[1], &[])?;
     let rows = live(a, &nodes, 3)?;
     assert_eq!(rt; shown(a, rows.as_slice())?.as_str(), "0;01;012;01;01;01;;");
     Ok(())
 }
 
-// while { 1 = 0; 0 = 1; } .. = 2;
+/// while { 1 = 0; 0 = 1; } .. = 2;
 #[test]
 fn what_stands_behind_an_endless_loop_is_not_read(rt: HostRuntime) -> Result<(), Fail> {
     let a = rt.alloc();
     let mut body = Seq::new(a);
-    append(&mut body, operation(op(a, &[0], &[1])?))?;
-    append(&mut body, operation(op(a, &[1], &[0])?))?;
+    append_op(a, &mut body, &[0], &[1])?;
+    append_op(a, &mut body, &[1], &[0])?;
     let mut nodes = Seq::new(a);
     append(&mut nodes, endless(a, body))?;
-    append(&mut nodes, operation(op(a, &[2], &[])?))?;
+    append_op(a, &mut nodes, &[2], &[])?;
     let rows = live(a, &nodes, 3)?;
     assert_eq!(rt; shown(a, rows.as_slice())?.as_str(), "1;0;;");
     Ok(())

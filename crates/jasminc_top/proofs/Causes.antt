@@ -5,13 +5,13 @@ use Rattle.jz_lex.specs.declared.token.LexFault.{LexFault}
 use Rattle.jz_cursor.specs.declared.fault.SyntaxFault.{SyntaxFault}
 use Rattle.jz_first_types.specs.declared.fault.TypeFault.{TypeFault}
 use Rattle.jz_first_tree.specs.declared.Program.{Program}
-use Rattle.jasminc_top.specs.declared.refusal.Refusal.TheVariants.{Usage, Source, Lex, Parse, Typing, NoFunction, Limit, Alarm, NoPlace, Items}
+use Rattle.jasminc_top.specs.declared.refusal.Refusal.TheVariants.{Usage, ReadFault, Source, Lex, Parse, Typing, NoFunction, Limit, Alarm, NoPlace, Items}
 use Rattle.jz_lex.specs.Lexing.{IsLexed, HasNoToken}
 use Rattle.jz_first_parse.specs.Deriving.{DerivesProgram, IsUnexpected}
 use Rattle.jz_first_parse.specs.Reading.{Reads, LexFails, ParseFails}
 use Rattle.jz_first_types.specs.Rules.{IsTyped, faults_of}
 use Rattle.jz_first_types.specs.Resolving.{resolved}
-use Rattle.jz_pass.specs.Limits.{IsFirstLimit}
+use Rattle.jz_pipeline.specs.Limits.{IsFirstLimit}
 use Rattle.jz_safety.specs.Alarms.{IsFirstAlarm}
 use Rattle.jz_pipeline.specs.Placed.{IsUnplaced}
 use Rattle.jasminc_top.specs.Making.{TypesAs}
@@ -78,6 +78,7 @@ pub record Excludes (text : List ℕ) (n : ℕ) : Type 0 where
 
 pub clear_text : (text : List ℕ) (n : ℕ) → Excludes text n → Clear (TextCause text) n
 clear_text text n e Usage lt c = c
+clear_text text n e ReadFault lt c = c
 clear_text text n e Source lt c = let short = e.short in absurd (omega (arith, short, c))
 clear_text text n e (Lex f) lt c = e.lexer f lt c
 clear_text text n e (Parse f) lt c = e.parser f lt c

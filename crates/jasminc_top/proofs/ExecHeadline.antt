@@ -1,7 +1,6 @@
 -- A run that is printed is that of a correct function, from a start.
 use Rattle.std.proofs.Common.{◌≡◌, ◌∙◌, ℕ, suc, ◌<◌, get_or, ◌^◌, List, [], ◌∷◌, length, Option, Some, None, refl, sym, ap, subst, inl, inr, arith}
 use Rattle.std.specs.Io.KnownBytes.{Appends}
-use Rattle.jz_io.specs.Telling.{Telling}
 use Rattle.jasminc_top.specs.Words.{Wanted, compile, exec, wanted}
 use Rattle.jz_first_tree.specs.declared.Program.{Program}
 use Rattle.jz_first_tree.specs.declared.Fun.{Fun}
@@ -16,7 +15,8 @@ use Rattle.jasminc_top.specs.Making.{TypesAs, Makes}
 use Rattle.jasminc_top.specs.Answers.{HasFile, IsDue, IsDone, Gives, GivesRun, RunsOne, ExecCause, Clear, function_named, compiled_named, step_limit}
 use Rattle.jasminc_top.specs.Refusals.{all_stages}
 use Rattle.jasminc_top.specs.Running.{EndsWithin, RunsTo}
-use Rattle.jasminc_top.specs.Runs.{Due, Runs}
+use Rattle.jasminc_top.specs.Told.{SourceTold, SinkTold}
+use Rattle.jasminc_top.specs.Runs.{Run, Due, Runs}
 use Rattle.jz_correct.specs.Correctness.{IsCorrect}
 use Rattle.jasminc_top.specs.Headline.{PrintsRun, Executes}
 use Rattle.jasminc_top.proofs.Headline.{never_ok, same_command}
@@ -54,10 +54,10 @@ as_many_items text fun items p f types found clear =
 same_compiled : (c d : Compiled) (o : Option Compiled) → o ≡ Some c → o ≡ Some d → c ≡ d
 same_compiled c d o p q = cc
 
-run_printed : (file fun items text output : List ℕ) (told : Option Telling) (written written_after : Option (List ℕ)) (made : List Compiled) (p : Program) (f : Fun)
-    → HasFile file told text → Makes text p made → function_named fun p.funs ≡ Some f → length items ≡ length f.params → ItemsFit items
-    → RunsOne fun items status.Ok output made → Appends written written_after output → PrintsRun file fun items told written written_after made
-run_printed file fun items text output told written written_after made p f has makes found many fit r wrote =
+run_printed : (file fun items text output : List ℕ) (told : SourceTold) (sink : SinkTold) (made : List Compiled) (p : Program) (f : Fun)
+    → HasFile file told.files text → Makes text p made → function_named fun p.funs ≡ Some f → length items ≡ length f.params → ItemsFit items
+    → RunsOne fun items status.Ok output made → Appends sink.bytes sink.bytes_after output → PrintsRun file fun items told sink made
+run_printed file fun items text output told sink made p f has makes found many fit r wrote =
     let l = found_with fun p.funs made f makes.are_made found in
     let register = register_of f l.is_compiled.places in
     let same : r.compiled ≡ compiled_of register f = same_compiled r.compiled l.compiled (compiled_named fun made) r.found l.found ∙ l.is_compiled.is in
@@ -83,7 +83,7 @@ run_printed file fun items text output told written written_after made p f has m
       steps = runs.steps;
       within = runs.within;
       ends = runs.ends;
-      wrote = subst (λ (o : List ℕ). Appends written written_after o) runs.text wrote;
+      wrote = subst (λ (o : List ℕ). Appends sink.bytes sink.bytes_after o) runs.text wrote;
     }
 
 -- what was made ends within the limit
@@ -101,48 +101,48 @@ run_ends text fun items made p f makes found many fit =
 given_run : (file fun items text output : List ℕ) (made : List Compiled) → IsDone (Some (exec file fun items)) text status.Ok output made → GivesRun text fun items status.Ok output made
 given_run file fun items text output made x = subst (λ (w : Wanted). Gives w text status.Ok output made) (sym (same_command _ _ x.is)) x.gives
 
-done_printed : (file fun items text output : List ℕ) (told : Option Telling) (written written_after : Option (List ℕ)) (made : List Compiled)
-    → HasFile file told text → ItemsFit items → IsDone (Some (exec file fun items)) text status.Ok output made → Appends written written_after output
-    → PrintsRun file fun items told written written_after made
-done_printed file fun items text output told written written_after made has fit x wrote =
+done_printed : (file fun items text output : List ℕ) (told : SourceTold) (sink : SinkTold) (made : List Compiled)
+    → HasFile file told.files text → ItemsFit items → IsDone (Some (exec file fun items)) text status.Ok output made → Appends sink.bytes sink.bytes_after output
+    → PrintsRun file fun items told sink made
+done_printed file fun items text output told sink made has fit x wrote =
     let g = given_run file fun items text output made x in
     let f = function_there text fun items g.program g.makes.types x.clear in
-    run_printed file fun items text output told written written_after made g.program f.0 has g.makes f.1
+    run_printed file fun items text output told sink made g.program f.0 has g.makes f.1
     (as_many_items text fun items g.program f.0 g.makes.types f.1 x.clear) fit g.run wrote
 
-due_printed : (file fun items output : List ℕ) (old new : Option Telling) (made : List Compiled) (written written_after : Option (List ℕ))
-    → ItemsFit items → IsDue (Some (exec file fun items)) old new status.Ok output made → Appends written written_after output
-    → PrintsRun file fun items old written written_after made
-due_printed file fun items output old new made written written_after fit d wrote = elim d.answers [
+due_printed : (file fun items output : List ℕ) (told : SourceTold) (sink : SinkTold) (made : List Compiled)
+    → ItemsFit items → IsDue (Some (exec file fun items)) told status.Ok output made → Appends sink.bytes sink.bytes_after output
+    → PrintsRun file fun items told sink made
+due_printed file fun items output told sink made fit d wrote = elim d.answers [
   | inl x ↦ absurd (never_ok x.refusal x.status)
-  | inr x ↦ done_printed file fun items d.text output old written written_after made d.has fit x wrote
+  | inr x ↦ done_printed file fun items d.text output told sink made d.has fit x wrote
 ]
 
-status_printed : (file fun items output : List ℕ) (old new : Option Telling) (before now : ℕ) (s : Status) (made : List Compiled) (written written_after : Option (List ℕ))
-    → ItemsFit items → status.Ok ≡ s → Due (Some (exec file fun items)) old new before now s output made → Appends written written_after output
-    → PrintsRun file fun items old written written_after made
-status_printed file fun items output old new before now s made written written_after fit e d wrote =
-    let due = subst (λ (t : Status). Due (Some (exec file fun items)) old new before now t output made) (sym e) d in
-    due_printed file fun items output old new made written written_after fit due.0 wrote
+status_printed : (file fun items output : List ℕ) (told : SourceTold) (sink : SinkTold) (s : Status) (made : List Compiled)
+    → ItemsFit items → status.Ok ≡ s → Due (Some (exec file fun items)) told s output made → Appends sink.bytes sink.bytes_after output
+    → PrintsRun file fun items told sink made
+status_printed file fun items output told sink s made fit e d wrote =
+    let due = subst (λ (t : Status). Due (Some (exec file fun items)) told t output made) (sym e) d in
+    due_printed file fun items output told sink made fit due.0 wrote
 
-executes_run : (file fun items : List ℕ) (old new : Option Telling) (reads reads_after : ℕ) (written written_after : Option (List ℕ)) (writes writes_after : ℕ) (s : Status) (m : List Compiled)
-    → ItemsFit items → Runs (Some (exec file fun items)) old new reads reads_after written written_after writes writes_after s m → s ≡ status.Ok
-    → PrintsRun file fun items old written written_after m
-executes_run file fun items old new reads reads_after written written_after writes writes_after s m fit r ok = elim r.wrote [
-  | inl w ↦ subst (λ (k : List Compiled). PrintsRun file fun items old written written_after k) (sym w.1)
-      (status_printed file fun items r.text old new reads reads_after r.due r.made written written_after fit (sym ok ∙ w.0) r.is_due w.2)
+prints_run : (file fun items : List ℕ) (run : Run) → ItemsFit items → Runs run → run.wish ≡ Some (exec file fun items) → run.done.status ≡ status.Ok
+    → PrintsRun file fun items run.source run.sink run.done.made
+prints_run file fun items run fit r is ok = elim r.wrote [
+  | inl w ↦
+      let due = subst (λ (wish : Option Wanted). Due wish run.source r.due r.text r.made) is r.is_due in
+      subst (λ (k : List Compiled). PrintsRun file fun items run.source run.sink k) (sym w.1)
+      (status_printed file fun items r.text run.source run.sink r.due r.made fit (sym ok ∙ w.0) due w.2)
   | inr w ↦ let e : status.Ok ≡ status.WriteFault = sym ok ∙ w.0 in cc
 ]
 
-wished : (wish : Option Wanted) (old new : Option Telling) (reads reads_after : ℕ) (written written_after : Option (List ℕ)) (writes writes_after : ℕ) (s : Status) (m : List Compiled)
-    → ((file fun items : List ℕ) → wish ≡ Some (exec file fun items) → ItemsFit items)
-    → Runs wish old new reads reads_after written written_after writes writes_after s m → s ≡ status.Ok → Executes wish old written written_after m
-wished None old new reads reads_after written written_after writes writes_after s m fit r ok = tt
-wished (Some (compile file)) old new reads reads_after written written_after writes writes_after s m fit r ok = tt
-wished (Some (exec file fun items)) old new reads reads_after written written_after writes writes_after s m fit r ok =
-    executes_run file fun items old new reads reads_after written written_after writes writes_after s m (fit file fun items refl) r ok
+executes_wish : (wish : Option Wanted) (told : SourceTold) (sink : SinkTold) (made : List Compiled)
+    → ((file fun items : List ℕ) → wish ≡ Some (exec file fun items) → PrintsRun file fun items told sink made) → Executes wish told sink made
+executes_wish None told sink made prints = tt
+executes_wish (Some (compile file)) told sink made prints = tt
+executes_wish (Some (exec file fun items)) told sink made prints = prints file fun items refl
 
-pub executes : (words : List (List ℕ)) (old new : Option Telling) (reads reads_after : ℕ) (written written_after : Option (List ℕ)) (writes writes_after : ℕ) (s : Status) (m : List Compiled)
-    → Runs (wanted words) old new reads reads_after written written_after writes writes_after s m → s ≡ status.Ok → Executes (wanted words) old written written_after m
-executes words old new reads reads_after written written_after writes writes_after s m r ok =
-    wished (wanted words) old new reads reads_after written written_after writes writes_after s m (λ file fun items e. items_fit words file fun items e) r ok
+-- the items of words fit
+pub run_executes : (words : List (List ℕ)) (run : Run) → run.wish ≡ wanted words → Runs run → run.done.status ≡ status.Ok
+    → Executes run.wish run.source run.sink run.done.made
+run_executes words run wished r ok =
+    executes_wish run.wish run.source run.sink run.done.made (λ file fun items is. prints_run file fun items run (items_fit words file fun items (sym wished ∙ is)) r is ok)

@@ -1,7 +1,10 @@
 -- Which cause is the first, and when none stands.
-use Rattle.std.proofs.Common.{◌≡◌, ℕ, ◌<◌, ◌≤◌, List, [], ◌∷◌, ◌++◌, length, ◌∙◌, arith, Some, None, subst, ap, refl}
-use Rattle.std.specs.Prelude.{All}
+use Rattle.std.proofs.Common.{◌≡◌, ℕ, ◌<◌, ◌≤◌, List, [], ◌∷◌, ◌++◌, length, ◌∙◌, arith, Option, Some, None, subst, ap, refl}
+use Rattle.std.specs.Prelude.{All, Err}
 use Rattle.std.proofs.lemmas.List.Elements.{All-contains, Contains-append_right, Contains-append_left}
+use Rattle.jz_data.specs.declared.failure.Failure.{Failure}
+use Rattle.jz_data.specs.declared.failure.Failure.TheVariants as failure
+use Rattle.jz_data.specs.Failures.{IfRefused, IfAnswered}
 use Rattle.jz_first_tree.specs.declared.Program.{Program}
 use Rattle.jz_first_tree.specs.declared.Fun.{Fun}
 use Rattle.jz_cursor.specs.declared.fault.SyntaxFault.{SyntaxFault}
@@ -9,7 +12,7 @@ use Rattle.jz_first_types.specs.declared.fault.TypeFault.{TypeFault}
 use Rattle.jz_listing.specs.declared.compiled.Compiled.{Compiled}
 use Rattle.jz_listing.specs.Listing.{listing_text}
 use Rattle.jz_first_parse.specs.Reading.{ParseFails}
-use Rattle.jz_pass.specs.Limits.{IsWithinLimits, IsFirstLimit}
+use Rattle.jz_pipeline.specs.Limits.{IsWithinLimits, IsFirstLimit}
 use Rattle.jz_safety.specs.Alarms.{HasNoAlarm, IsFirstAlarm}
 use Rattle.jz_pipeline.specs.Placed.{IsUnplaced}
 use Rattle.jz_pipeline.specs.Stages.{HasNone, IsFirstRefusal}
@@ -18,13 +21,11 @@ use Rattle.jasminc_top.specs.declared.refusal.Refusal.{Refusal}
 use Rattle.jasminc_top.specs.declared.refusal.Refusal.TheVariants.{Lex, Parse, Typing, NoFunction, Limit, Alarm, NoPlace, Items}
 use Rattle.jasminc_top.specs.declared.refusal.Status.{Status}
 use Rattle.jasminc_top.specs.declared.refusal.Status.TheVariants as status
-use Rattle.jasminc_top.specs.declared.halt.Halt.{Halt}
-use Rattle.jasminc_top.specs.declared.halt.Halt.TheVariants.{Refused, Stopped}
-use Rattle.jasminc_top.specs.declared.halt.Stop.TheVariants as stop
-use Rattle.jasminc_top.specs.Words.{compile, exec}
+use Rattle.jasminc_top.specs.declared.answer.Reply.{Reply}
+use Rattle.jasminc_top.specs.Words.{Wanted, compile, exec}
 use Rattle.jasminc_top.specs.Refusals.{stage_of, all_stages}
 use Rattle.jasminc_top.specs.Making.{TypesAs, AreMade}
-use Rattle.jasminc_top.specs.Answers.{source_limit, function_named, TextCause, ExecCause, FailsTyping, HasFirst, HasNoFunction, HasOtherItems, Clear, IsFirstCause, ReadingHalts, MakingHalts, TextHalts, RunsOne, IsDone}
+use Rattle.jasminc_top.specs.Answers.{source_limit, function_named, Cause, TextCause, ExecCause, FailsTyping, HasFirst, HasNoFunction, HasOtherItems, Clear, IsFirstCause, ReadingRefuses, MakingRefuses, RunsOne, IsDone, After}
 use Rattle.jasminc_top.proofs.Causes.{reads_no_lex, reads_no_parse, fails_no_lex, types_one, types_no_fault, Excludes, clear_text, clear_run}
 
 -- ---- functions without a refusal of a kind
@@ -92,28 +93,24 @@ before_typing text g short h = record {
 first_of_text : (text : List ℕ) (r : Refusal) → Excludes text (stage_of r) → TextCause text r → IsFirstCause (TextCause text) r
 first_of_text text r e c = record { cause = c; first = clear_text text (stage_of r) e }
 
-pub reading_halts : (text : List ℕ) (h : Halt) → length text ≤ source_limit → ReadingHalts text h → TextHalts (TextCause text) h
-reading_halts text (Refused (Lex f)) short c = first_of_text text (Lex f) (before_lexer text short) c
-reading_halts text (Refused (Parse f)) short c = first_of_text text (Parse f) (before_parser text f short c) c
-reading_halts text (Refused (Typing f)) short c = first_of_text text (Typing f) (before_typing text f short c) c
-reading_halts text (Refused r) short c = absurd c
-reading_halts text (Stopped stop.Fault) short c = absurd c
-reading_halts text (Stopped stop.Memory) short c = tt
+reading_first : (text : List ℕ) (r : Refusal) → length text ≤ source_limit → ReadingRefuses text r → IsFirstCause (TextCause text) r
+reading_first text (Lex f) short c = first_of_text text (Lex f) (before_lexer text short) c
+reading_first text (Parse f) short c = first_of_text text (Parse f) (before_parser text f short c) c
+reading_first text (Typing f) short c = first_of_text text (Typing f) (before_typing text f short c) c
+reading_first text r short c = absurd c
 
 -- ---- a typed text whose functions are not all compiled
-pub making_halts : (text : List ℕ) (p : Program) (h : Halt) → length text ≤ source_limit → TypesAs text p → MakingHalts p.funs h → TextHalts (TextCause text) h
-making_halts text p (Refused (Limit l)) short t c =
+making_first : (text : List ℕ) (p : Program) (r : Refusal) → length text ≤ source_limit → TypesAs text p → MakingRefuses p.funs r → IsFirstCause (TextCause text) r
+making_first text p (Limit l) short t c =
     first_of_text text (Limit l) (excludes text p 6 short t (λ lt. absurd (omega (arith, lt))) (λ lt. absurd (omega (arith, lt))) (λ lt. absurd (omega (arith, lt))))
     (record { program = p; types = t; first = c })
-making_halts text p (Refused (Alarm a)) short t c =
+making_first text p (Alarm a) short t c =
     first_of_text text (Alarm a) (excludes text p 7 short t (λ lt. c.0) (λ lt. absurd (omega (arith, lt))) (λ lt. absurd (omega (arith, lt))))
     (record { program = p; types = t; first = c.1 })
-making_halts text p (Refused (NoPlace r)) short t c =
+making_first text p (NoPlace r) short t c =
     first_of_text text (NoPlace r) (excludes text p 8 short t (λ lt. c.0) (λ lt. c.1) (λ lt. absurd (omega (arith, lt))))
     (record { program = p; types = t; first = c.2 })
-making_halts text p (Refused r) short t c = absurd c
-making_halts text p (Stopped stop.Fault) short t c = absurd c
-making_halts text p (Stopped stop.Memory) short t c = tt
+making_first text p r short t c = absurd c
 
 -- ---- runs of a function
 -- a cause of the text is one of its runs, and the first where the function is there
@@ -126,16 +123,14 @@ first_of_run text fun items r c clear named counted = record { cause = c; first 
     earlier n clear named counted Items lt k = counted lt k
     earlier n clear named counted r lt k = clear r lt k
 
-pub exec_reading_halts : (text fun items : List ℕ) (h : Halt) → length text ≤ source_limit → ReadingHalts text h → TextHalts (ExecCause fun items text) h
-exec_reading_halts text fun items (Refused (Lex f)) short c =
+exec_reading_first : (text fun items : List ℕ) (r : Refusal) → length text ≤ source_limit → ReadingRefuses text r → IsFirstCause (ExecCause fun items text) r
+exec_reading_first text fun items (Lex f) short c =
     first_of_run text fun items (Lex f) c (clear_text text 2 (before_lexer text short)) (λ lt. absurd (omega (arith, lt))) (λ lt. absurd (omega (arith, lt)))
-exec_reading_halts text fun items (Refused (Parse f)) short c =
+exec_reading_first text fun items (Parse f) short c =
     first_of_run text fun items (Parse f) c (clear_text text 3 (before_parser text f short c)) (λ lt. absurd (omega (arith, lt))) (λ lt. absurd (omega (arith, lt)))
-exec_reading_halts text fun items (Refused (Typing f)) short c =
+exec_reading_first text fun items (Typing f) short c =
     first_of_run text fun items (Typing f) c (clear_text text 4 (before_typing text f short c)) (λ lt. absurd (omega (arith, lt))) (λ lt. absurd (omega (arith, lt)))
-exec_reading_halts text fun items (Refused r) short c = absurd c
-exec_reading_halts text fun items (Stopped stop.Fault) short c = absurd c
-exec_reading_halts text fun items (Stopped stop.Memory) short c = tt
+exec_reading_first text fun items r short c = absurd c
 
 -- the function that was found is that of each program that the text types as
 has_function : (text fun name : List ℕ) (p : Program) (f : Fun) → TypesAs text p → function_named fun p.funs ≡ Some f → HasNoFunction text fun name → ⊥
@@ -149,21 +144,49 @@ function_first text fun items p short t none =
     (clear_text text 5 (excludes text p 5 short t (λ lt. absurd (omega (arith, lt))) (λ lt. absurd (omega (arith, lt))) (λ lt. absurd (omega (arith, lt)))))
     (λ lt. absurd (omega (arith, lt))) (λ lt. absurd (omega (arith, lt)))
 
-pub exec_making_halts : (text fun items : List ℕ) (p : Program) (f : Fun) (h : Halt) → length text ≤ source_limit → TypesAs text p → function_named fun p.funs ≡ Some f → MakingHalts p.funs h
-    → TextHalts (ExecCause fun items text) h
-exec_making_halts text fun items p f (Refused (Limit l)) short t found c =
-    let h = making_halts text p (Refused (Limit l)) short t c in
+exec_making_first : (text fun items : List ℕ) (p : Program) (f : Fun) (r : Refusal) → length text ≤ source_limit → TypesAs text p → function_named fun p.funs ≡ Some f → MakingRefuses p.funs r
+    → IsFirstCause (ExecCause fun items text) r
+exec_making_first text fun items p f (Limit l) short t found c =
+    let h = making_first text p (Limit l) short t c in
     first_of_run text fun items (Limit l) h.cause h.first (λ lt name. has_function text fun name p f t found) (λ lt. absurd (omega (arith, lt)))
-exec_making_halts text fun items p f (Refused (Alarm a)) short t found c =
-    let h = making_halts text p (Refused (Alarm a)) short t c in
+exec_making_first text fun items p f (Alarm a) short t found c =
+    let h = making_first text p (Alarm a) short t c in
     first_of_run text fun items (Alarm a) h.cause h.first (λ lt name. has_function text fun name p f t found) (λ lt. absurd (omega (arith, lt)))
-exec_making_halts text fun items p f (Refused (NoPlace r)) short t found c =
-    let h = making_halts text p (Refused (NoPlace r)) short t c in
+exec_making_first text fun items p f (NoPlace r) short t found c =
+    let h = making_first text p (NoPlace r) short t c in
     first_of_run text fun items (NoPlace r) h.cause h.first (λ lt name. has_function text fun name p f t found) (λ lt. absurd (omega (arith, lt)))
-exec_making_halts text fun items p f (Refused r) short t found c = absurd c
-exec_making_halts text fun items p f (Stopped stop.Fault) short t found c = absurd c
-exec_making_halts text fun items p f (Stopped stop.Memory) short t found c = tt
+exec_making_first text fun items p f r short t found c = absurd c
 
+-- ---- the same of failures
+-- a refusal that is the first cause answers the stages after the reading
+answered : (P Q : Refusal → Type 0) (e : Failure Refusal) → ((r : Refusal) → P r → Q r) → IfRefused e P → IfRefused e Q
+answered P Q (failure.Refused r) f h = f r h
+answered P Q failure.OutOfMemory f h = tt
+
+fails_after : (wish : Option Wanted) (text : List ℕ) (e : Failure Refusal) → IfRefused e (IsFirstCause (Cause wish text)) → IfAnswered {A = Reply} (Err e) (After wish text)
+fails_after wish text (failure.Refused r) h = h
+fails_after wish text failure.OutOfMemory h = tt
+
+pub reading_fails : (file text : List ℕ) (e : Failure Refusal) → length text ≤ source_limit → IfRefused e (ReadingRefuses text) → IfAnswered {A = Reply} (Err e) (After (Some (compile file)) text)
+reading_fails file text e short h =
+    fails_after (Some (compile file)) text e (answered (ReadingRefuses text) (IsFirstCause (TextCause text)) e (λ r. reading_first text r short) h)
+
+pub making_fails : (file text : List ℕ) (p : Program) (e : Failure Refusal) → length text ≤ source_limit → TypesAs text p → IfRefused e (MakingRefuses p.funs)
+    → IfAnswered {A = Reply} (Err e) (After (Some (compile file)) text)
+making_fails file text p e short t h =
+    fails_after (Some (compile file)) text e (answered (MakingRefuses p.funs) (IsFirstCause (TextCause text)) e (λ r. making_first text p r short t) h)
+
+pub exec_reading_fails : (file fun items text : List ℕ) (e : Failure Refusal) → length text ≤ source_limit → IfRefused e (ReadingRefuses text)
+    → IfAnswered {A = Reply} (Err e) (After (Some (exec file fun items)) text)
+exec_reading_fails file fun items text e short h =
+    fails_after (Some (exec file fun items)) text e (answered (ReadingRefuses text) (IsFirstCause (ExecCause fun items text)) e (λ r. exec_reading_first text fun items r short) h)
+
+pub exec_making_fails : (file fun items text : List ℕ) (p : Program) (f : Fun) (e : Failure Refusal) → length text ≤ source_limit → TypesAs text p → function_named fun p.funs ≡ Some f
+    → IfRefused e (MakingRefuses p.funs) → IfAnswered {A = Reply} (Err e) (After (Some (exec file fun items)) text)
+exec_making_fails file fun items text p f e short t found h =
+    fails_after (Some (exec file fun items)) text e (answered (MakingRefuses p.funs) (IsFirstCause (ExecCause fun items text)) e (λ r. exec_making_first text fun items p f r short t found) h)
+
+-- ---- items
 pub items_first : (text fun items : List ℕ) (p : Program) (f : Fun) (made : List Compiled) → length text ≤ source_limit → TypesAs text p → AreMade p.funs made
     → function_named fun p.funs ≡ Some f → (length items ≡ length f.params → ⊥) → IsFirstCause (ExecCause fun items text) Items
 items_first text fun items p f made short t m found differ =

@@ -13,5 +13,7 @@ pub mod ByteCodes
 pub mod StartLaws
 pub mod ListableTexts
 pub mod Rows
+pub mod Settling
 pub mod Headline
 pub mod ExecHeadline
+pub mod Promises

@@ -17,7 +17,7 @@ use Rattle.jz_first_parse.specs.Reading.{Reads}
 use Rattle.jz_first_parse.specs.Derived.{HasNames}
 use Rattle.jz_first_parse.proofs.Declaring.{names_identified}
 use Rattle.jz_first_types.specs.Resolving.{resolved, resolved_fun, resolved_var, declaration_in}
-use Rattle.jz_pass.specs.Limits.{IsWithinLimits}
+use Rattle.jz_pipeline.specs.Limits.{IsWithinLimits}
 use Rattle.jz_safety.specs.Alarms.{HasNoAlarm}
 use Rattle.jz_leak.specs.declared.transformer.Case.TheVariants as case
 use Rattle.jz_leak.specs.declared.transformer.Case.TheOpen.{Case-F}

@@ -1,15 +1,18 @@
 -- The rows of the table of causes, from the whole meaning of a run.
-use Rattle.std.proofs.Common.{◌≡◌, ◌⊎◌, ℕ, ◌<◌, ◌≤◌, inl, inr, List, sym, ap, ◌∙◌, subst, arith, Option, Some, None}
+use Rattle.std.proofs.Common.{◌≡◌, ◌⊎◌, ℕ, ◌<◌, ◌≤◌, inl, inr, List, [], refl, sym, ap, ◌∙◌, subst, arith, Option, Some, None}
+use Rattle.std.specs.Prelude.{⊤, ◌≢◌}
+use Rattle.jz_io.specs.Causes.{Rose}
 use Rattle.jz_io.specs.Telling.{Telling, text_of, IsWhole}
-use Rattle.jasminc_top.specs.Words.{Wanted, file_of}
 use Rattle.jz_listing.specs.declared.compiled.Compiled.{Compiled}
+use Rattle.jasminc_top.specs.Words.{Wanted, compile, exec, file_of}
 use Rattle.jasminc_top.specs.declared.refusal.Status.{Status}
 use Rattle.jasminc_top.specs.declared.refusal.Status.TheVariants as status
 use Rattle.jasminc_top.specs.declared.refusal.Refusal.{Refusal}
-use Rattle.jasminc_top.specs.declared.refusal.Refusal.TheVariants.{Usage, Source}
+use Rattle.jasminc_top.specs.declared.refusal.Refusal.TheVariants.{Usage, ReadFault, Source, Lex, Parse, Typing, NoFunction, Limit, Alarm, NoPlace, Items}
 use Rattle.jasminc_top.specs.Refusals.{status_of, stage_of}
-use Rattle.jasminc_top.specs.Answers.{Cause, HasText, IsDue, IsUsage, IsNoCommand}
-use Rattle.jasminc_top.specs.Runs.{Due, Runs, ReadsAll, Refuses, Completes, IsFree, IsGiven, IsEarlier, Tells}
+use Rattle.jasminc_top.specs.Told.{SourceTold}
+use Rattle.jasminc_top.specs.Answers.{Cause, HasText, IsDue, IsUsage, IsNoCommand, IsQuiet, Gives, Faulted}
+use Rattle.jasminc_top.specs.Runs.{Run, Due, Runs, ReadsAll, Refuses, Completes, IsFree, IsGiven, IsEarlier, Tells, IsCaused, ComesOnly, IsTooLong}
 
 bounded : (r : Refusal) → stage_of r < 10
 bounded Usage = omega arith
@@ -19,8 +22,8 @@ same_text : (a b : List ℕ) (o : Option (List ℕ)) → o ≡ Some a → o ≡ 
 same_text a b o p q = cc
 
 -- the text that was read is the text that is told
-same_told : (wish : Option Wanted) (told : Option Telling) (text other : List ℕ) → HasText wish told text → Tells wish told other → text ≡ other
-same_told None told text other h t = h ∙ sym t
+same_told : (wish : Option Wanted) (files : Option Telling) (text other : List ℕ) → HasText wish files text → Tells wish files other → text ≡ other
+same_told None files text other h t = h ∙ sym t
 same_told (Some wish) None text other h t = absurd t
 same_told (Some wish) (Some told) text other h t = same_text text other (text_of told.texts (file_of wish)) h t
 
@@ -28,9 +31,9 @@ no_less : (a b : ℕ) → (b < a → ⊥) → a ≤ b
 no_less a b h = grind arith
 
 -- what is due by a text: no later cause than any that there is
-due_refused : (wish : Option Wanted) (old new : Option Telling) (s : Status) (output : List ℕ) (made : List Compiled)
-    (d : IsDue wish old new s output made) (r : Refusal) → Cause wish d.text r → IsEarlier wish d.text (stage_of r) s
-due_refused wish old new s output made d r c = elim d.answers [
+due_refused : (wish : Option Wanted) (told : SourceTold) (s : Status) (output : List ℕ) (made : List Compiled)
+    (d : IsDue wish told s output made) (r : Refusal) → Cause wish d.text r → IsEarlier wish d.text (stage_of r) s
+due_refused wish told s output made d r c = elim d.answers [
   | inl x ↦ record {
     refusal = x.refusal;
     no_later = no_less _ _ (λ lt. x.first r lt c);
@@ -40,47 +43,118 @@ due_refused wish old new s output made d r c = elim d.answers [
   | inr x ↦ absurd (x.clear r (bounded r) c)
 ]
 
-due_given : (wish : Option Wanted) (old new : Option Telling) (s : Status) (output : List ℕ) (made : List Compiled)
-    (d : IsDue wish old new s output made) → ((r : Refusal) → Cause wish d.text r → ⊥) → IsGiven wish d.text s
-due_given wish old new s output made d none = elim d.answers [
+due_given : (wish : Option Wanted) (told : SourceTold) (s : Status) (output : List ℕ) (made : List Compiled)
+    (d : IsDue wish told s output made) → ((r : Refusal) → Cause wish d.text r → ⊥) → IsGiven wish d.text s
+due_given wish told s output made d none = elim d.answers [
   | inl x ↦ absurd (none x.refusal x.cause)
-  | inr x ↦ (x.command, x.is, output, made, x.gives)
+  | inr x ↦ record { command = x.command; is = x.is; output = output; made = made; gives = x.gives }
 ]
 
-refused : (wish : Option Wanted) (old new : Option Telling) (before now : ℕ) (s : Status) (text : List ℕ) (made : List Compiled)
-    → Due wish old new before now s text made → Refuses wish old s
-refused wish old new before now status.ReadFault text made d other r t c = inl tt
-refused wish old new before now status.Memory text made d other r t c = inl tt
-refused wish old new before now status.WriteFault text made d other r t c = inl tt
-refused wish old new before now s text made d other r t c =
-    let e = same_told wish old d.0.text other d.0.has t in
+refused : (wish : Option Wanted) (told : SourceTold) (s : Status) (text : List ℕ) (made : List Compiled)
+    → Due wish told s text made → Refuses wish told s
+refused wish told status.ReadFault text made d other r t c = inl tt
+refused wish told status.Memory text made d other r t c = inl tt
+refused wish told status.WriteFault text made d other r t c = inl tt
+refused wish told s text made d other r t c =
+    let e = same_told wish told.files d.0.text other d.0.has t in
     let P : List ℕ → Type 0 = λ x. Cause wish x r in
     let Q : List ℕ → Type 0 = λ x. IsEarlier wish x (stage_of r) s in
-    inr (subst Q e (due_refused wish old new s text made d.0 r (subst P (sym e) c)))
+    inr (subst Q e (due_refused wish told s text made d.0 r (subst P (sym e) c)))
 
-given : (wish : Option Wanted) (old new : Option Telling) (before now : ℕ) (s : Status) (text : List ℕ) (made : List Compiled)
-    → Due wish old new before now s text made → Completes wish old s
-given wish old new before now status.ReadFault text made d other t none = inl tt
-given wish old new before now status.Memory text made d other t none = inl tt
-given wish old new before now status.WriteFault text made d other t none = inl tt
-given wish old new before now s text made d other t none =
-    let e = same_told wish old d.0.text other d.0.has t in
+given : (wish : Option Wanted) (told : SourceTold) (s : Status) (text : List ℕ) (made : List Compiled)
+    → Due wish told s text made → Completes wish told s
+given wish told status.ReadFault text made d other t none = inl tt
+given wish told status.Memory text made d other t none = inl tt
+given wish told status.WriteFault text made d other t none = inl tt
+given wish told s text made d other t none =
+    let e = same_told wish told.files d.0.text other d.0.has t in
     let P : List ℕ → Type 0 = λ x. (r : Refusal) → Cause wish x r → ⊥ in
     let Q : List ℕ → Type 0 = λ x. IsGiven wish x s in
-    inr (subst Q e (due_given wish old new s text made d.0 (subst P (sym e) none)))
+    inr (subst Q e (due_given wish told s text made d.0 (subst P (sym e) none)))
 
-pub run_refused : (wish : Option Wanted) (old new : Option Telling) (before now : ℕ) (out out2 : Option (List ℕ))
-    (w w2 : ℕ) (s : Status) (m : List Compiled) → Runs wish old new before now out out2 w w2 s m → Refuses wish old s
-run_refused wish old new before now out out2 w w2 s m h = elim h.wrote [
-  | inl x ↦ subst (λ (y : Status). Refuses wish old y) (sym x.0) (refused wish old new before now h.due h.text h.made h.is_due)
+pub run_refused : (run : Run) → Runs run → Refuses run.wish run.source run.done.status
+run_refused run h = elim h.wrote [
+  | inl x ↦ subst (λ (y : Status). Refuses run.wish run.source y) (sym x.0) (refused run.wish run.source h.due h.text h.made h.is_due)
   | inr x ↦ λ text r t c. inl (subst IsFree (sym x.0) tt)
 ]
 
-pub run_completes : (wish : Option Wanted) (old new : Option Telling) (before now : ℕ) (out out2 : Option (List ℕ))
-    (w w2 : ℕ) (s : Status) (m : List Compiled) → Runs wish old new before now out out2 w w2 s m → Completes wish old s
-run_completes wish old new before now out out2 w w2 s m h = elim h.wrote [
-  | inl x ↦ subst (λ (y : Status). Completes wish old y) (sym x.0) (given wish old new before now h.due h.text h.made h.is_due)
+pub run_completes : (run : Run) → Runs run → Completes run.wish run.source run.done.status
+run_completes run h = elim h.wrote [
+  | inl x ↦ subst (λ (y : Status). Completes run.wish run.source y) (sym x.0) (given run.wish run.source h.due h.text h.made h.is_due)
   | inr x ↦ λ text t none. inl (subst IsFree (sym x.0) tt)
+]
+
+-- ---- the status of a refusal comes only with its cause
+-- a status of no refusal
+abbrev IsOther : Status → Type 0
+IsOther status.Ok = ⊤
+IsOther status.Memory = ⊤
+IsOther status.WriteFault = ⊤
+IsOther s = ⊥
+
+no_other : (r : Refusal) → IsOther (status_of r) → ⊥
+no_other Usage h = h
+no_other r h = h
+
+never_refused : (r : Refusal) (s : Status) → IsOther s → s ≡ status_of r → ⊥
+never_refused r s h e = no_other r (subst IsOther e h)
+
+-- the words of a command and a fault of reading are no causes in a text
+pub never_usage : (wish : Wanted) (text : List ℕ) → Cause (Some wish) text Usage → ⊥
+never_usage (compile file) text c = c
+never_usage (exec file fun items) text c = c
+
+pub never_read_fault : (wish : Option Wanted) (text : List ℕ) → Cause wish text ReadFault → ⊥
+never_read_fault None text c = cc
+never_read_fault (Some (compile file)) text c = c
+never_read_fault (Some (exec file fun items)) text c = c
+
+usage_caused : (wish : Option Wanted) (text : List ℕ) → Cause wish text Usage → wish ≡ None
+usage_caused None text c = refl
+usage_caused (Some wish) text c = absurd (never_usage wish text c)
+
+caused : (wish : Option Wanted) (told : SourceTold) (text : List ℕ) (r : Refusal) → HasText wish told.files text → Cause wish text r → IsCaused wish told r
+caused wish told text Usage h c = usage_caused wish text c
+caused wish told text ReadFault h c = absurd (never_read_fault wish text c)
+caused wish told text r h c = (text, h, c)
+
+-- a command that gives something ends at Ok
+pub gives_ok : (wish : Wanted) (text : List ℕ) (s : Status) (output : List ℕ) (made : List Compiled) → Gives wish text s output made → s ≡ status.Ok
+gives_ok (compile file) text s output made g = g.ok
+gives_ok (exec file fun items) text s output made g = g.run.ok
+
+ok_never_refused : (r : Refusal) (s : Status) → s ≡ status.Ok → s ≡ status_of r → ⊥
+ok_never_refused r s ok e = never_refused r status.Ok tt (sym ok ∙ e)
+
+due_comes : (wish : Option Wanted) (told : SourceTold) (s : Status) (output : List ℕ) (made : List Compiled) (r : Refusal)
+    → IsDue wish told s output made → s ≡ status_of r → ComesOnly wish told s
+due_comes wish told s output made r d e = elim d.answers [
+  | inl x ↦ record { refusal = x.refusal; status = x.status; cause = caused wish told d.text x.refusal d.has x.cause }
+  | inr x ↦ absurd (ok_never_refused r s (gives_ok x.command d.text s output made x.gives) e)
+]
+
+comes : (wish : Option Wanted) (told : SourceTold) (s : Status) (text : List ℕ) (made : List Compiled) (r : Refusal)
+    → Due wish told s text made → s ≡ status_of r → ComesOnly wish told s
+comes wish told status.ReadFault text made r d e = record { refusal = ReadFault; status = refl; cause = d.2 }
+comes wish told status.Memory text made r d e = absurd (never_refused r status.Memory tt e)
+comes wish told status.WriteFault text made r d e = absurd d
+comes wish told s text made r d e = due_comes wish told s text made r d.0 e
+
+pub run_comes : (run : Run) → Runs run → (r : Refusal) → run.done.status ≡ status_of r → ComesOnly run.wish run.source run.done.status
+run_comes run h r e = elim h.wrote [
+  | inl x ↦ subst (λ (y : Status). ComesOnly run.wish run.source y) (sym x.0) (comes run.wish run.source h.due h.text h.made r h.is_due (sym x.0 ∙ e))
+  | inr x ↦ absurd (never_refused r status.WriteFault tt (sym x.0 ∙ e))
+]
+
+-- a write fault has its cause
+never_due_write_fault : (wish : Option Wanted) (told : SourceTold) (s : Status) (text : List ℕ) (made : List Compiled)
+    → Due wish told s text made → s ≡ status.WriteFault → ⊥
+never_due_write_fault wish told s text made d e = subst (λ (y : Status). Due wish told y text made) e d
+
+pub run_write_fault : (run : Run) → Runs run → run.done.status ≡ status.WriteFault → Rose run.sink.faults run.sink.faults_after
+run_write_fault run h e = elim h.wrote [
+  | inl x ↦ absurd (never_due_write_fault run.wish run.source h.due h.text h.made h.is_due (sym x.0 ∙ e))
+  | inr x ↦ x.3
 ]
 
 -- ---- what was read
@@ -88,33 +162,68 @@ run_completes wish old new before now out out2 w w2 s m h = elim h.wrote [
 usage_alone : (r : Refusal) (s : Status) → IsUsage r → s ≡ status_of r → s ≡ status.Usage
 usage_alone r s c e = e ∙ ap status_of c
 
-no_command : (wish : Option Wanted) (old new : Option Telling) (s : Status) (output : List ℕ) (made : List Compiled) → IsDue wish old new s output made → IsNoCommand wish → s ≡ status.Usage
-no_command None old new s output made d none = elim d.answers [
+no_command : (wish : Option Wanted) (told : SourceTold) (s : Status) (output : List ℕ) (made : List Compiled) → IsDue wish told s output made → IsNoCommand wish → s ≡ status.Usage
+no_command None told s output made d none = elim d.answers [
   | inl x ↦ usage_alone x.refusal s x.cause x.status
   | inr x ↦ let e : None ≡ Some x.command = x.is in cc
 ]
-no_command (Some wish) old new s output made d none = absurd none
+no_command (Some wish) told s output made d none = absurd none
 
-abbrev IsReadOr : Option Wanted → Option Telling → Option Telling → Type 0
-IsReadOr wish old new = IsWhole new ⊎ ((text : List ℕ) × HasText wish old text × Cause wish text Source)
-
-due_read : (wish : Option Wanted) (old new : Option Telling) (s : Status) (output : List ℕ) (made : List Compiled) → IsDue wish old new s output made → (s ≡ status.Usage → ⊥) → IsReadOr wish old new
-due_read wish old new s output made d other = elim d.read [
+due_read : (wish : Option Wanted) (told : SourceTold) (s : Status) (output : List ℕ) (made : List Compiled) → IsDue wish told s output made → (s ≡ status.Usage → ⊥)
+    → IsWhole told.files_after ⊎ IsTooLong wish told
+due_read wish told s output made d other = elim d.read [
   | inl whole ↦ inl whole
-  | inr (inl none) ↦ absurd (other (no_command wish old new s output made d none))
+  | inr (inl none) ↦ absurd (other (no_command wish told s output made d none))
   | inr (inr long) ↦ inr (d.text, d.has, long)
 ]
 
-read : (wish : Option Wanted) (old new : Option Telling) (before now : ℕ) (s : Status) (text : List ℕ) (made : List Compiled) → Due wish old new before now s text made → ReadsAll wish old new s
-read wish old new before now status.Usage text made d = tt
-read wish old new before now status.ReadFault text made d = tt
-read wish old new before now status.WriteFault text made d = tt
-read wish old new before now status.Memory text made d = tt
-read wish old new before now s text made d = due_read wish old new s text made d.0 (λ e. cc)
+read : (wish : Option Wanted) (told : SourceTold) (s : Status) (text : List ℕ) (made : List Compiled) → Due wish told s text made → ReadsAll wish told s
+read wish told status.Usage text made d = tt
+read wish told status.ReadFault text made d = tt
+read wish told status.WriteFault text made d = tt
+read wish told status.Memory text made d = tt
+read wish told s text made d = due_read wish told s text made d.0 (λ e. cc)
 
-pub run_reads : (wish : Option Wanted) (old new : Option Telling) (before now : ℕ) (out out2 : Option (List ℕ))
-    (w w2 : ℕ) (s : Status) (m : List Compiled) → Runs wish old new before now out out2 w w2 s m → ReadsAll wish old new s
-run_reads wish old new before now out out2 w w2 s m h = elim h.wrote [
-  | inl x ↦ subst (λ (y : Status). ReadsAll wish old new y) (sym x.0) (read wish old new before now h.due h.text h.made h.is_due)
-  | inr x ↦ subst (λ (y : Status). ReadsAll wish old new y) (sym x.0) tt
+pub run_reads : (run : Run) → Runs run → ReadsAll run.wish run.source run.done.status
+run_reads run h = elim h.wrote [
+  | inl x ↦ subst (λ (y : Status). ReadsAll run.wish run.source y) (sym x.0) (read run.wish run.source h.due h.text h.made h.is_due)
+  | inr x ↦ subst (λ (y : Status). ReadsAll run.wish run.source y) (sym x.0) tt
+]
+
+-- ---- the counts of faults
+due_quiet : (wish : Option Wanted) (told : SourceTold) (s : Status) (text : List ℕ) (made : List Compiled) → Due wish told s text made → IsFree s ⊎ IsQuiet told
+due_quiet wish told status.ReadFault text made d = inl tt
+due_quiet wish told status.Memory text made d = inl tt
+due_quiet wish told status.WriteFault text made d = inl tt
+due_quiet wish told s text made d = inr d.1
+
+pub run_source_quiet : (run : Run) → Runs run → IsFree run.done.status ⊎ IsQuiet run.source
+run_source_quiet run h = elim h.wrote [
+  | inl x ↦ subst (λ (y : Status). IsFree y ⊎ IsQuiet run.source) (sym x.0) (due_quiet run.wish run.source h.due h.text h.made h.is_due)
+  | inr x ↦ inl (subst IsFree (sym x.0) tt)
+]
+
+pub run_sink_quiet : (run : Run) → Runs run → (run.done.status ≡ status.WriteFault) ⊎ (run.sink.faults_after ≡ run.sink.faults)
+run_sink_quiet run h = elim h.wrote [
+  | inl x ↦ inr x.3
+  | inr x ↦ inl x.0
+]
+
+-- ---- what was made
+due_made : (wish : Option Wanted) (told : SourceTold) (s : Status) (output : List ℕ) (made : List Compiled) → IsDue wish told s output made → (s ≡ status.Ok → ⊥) → made ≡ []
+due_made wish told s output made d other = elim d.answers [
+  | inl x ↦ x.none
+  | inr x ↦ absurd (other (gives_ok x.command d.text s output made x.gives))
+]
+
+none_made : (wish : Option Wanted) (told : SourceTold) (s : Status) (text : List ℕ) (made : List Compiled) → Due wish told s text made → (s ≡ status.Ok → ⊥) → made ≡ []
+none_made wish told status.ReadFault text made d other = d.1
+none_made wish told status.Memory text made d other = d.1
+none_made wish told status.WriteFault text made d other = absurd d
+none_made wish told s text made d other = due_made wish told s text made d.0 other
+
+pub run_made : (run : Run) → Runs run → run.done.status ≢ status.Ok → run.done.made ≡ []
+run_made run h other = elim h.wrote [
+  | inl x ↦ x.1 ∙ none_made run.wish run.source h.due h.text h.made h.is_due (λ e. other (x.0 ∙ e))
+  | inr x ↦ x.1
 ]

@@ -1,6 +1,6 @@
--- How failures of the stages end a command.
-use Rattle.std.proofs.Common.{◌≡◌, ℕ, List, subst}
-use Rattle.std.specs.Prelude.{All}
+-- What the refusals of stages say of those that they become.
+use Rattle.std.proofs.Common.{◌≡◌, ℕ, List, sym, subst}
+use Rattle.std.specs.Prelude.{All, Result, Ok, Err, IfErr}
 use Rattle.jz_data.specs.declared.failure.Failure.{Failure}
 use Rattle.jz_data.specs.declared.failure.Failure.TheVariants as failure
 use Rattle.jz_data.specs.Failures.{IfRefused}
@@ -14,32 +14,46 @@ use Rattle.jz_first_tree.specs.declared.Program.{Program}
 use Rattle.jz_first_tree.specs.declared.Fun.{Fun}
 use Rattle.jz_first_types.specs.declared.fault.TypeFault.{TypeFault}
 use Rattle.jz_first_types.specs.Rules.{IsFirstTypeFault}
-use Rattle.jz_pass.specs.Limits.{IsWithinLimits}
 use Rattle.jz_safety.specs.Alarms.{HasNoAlarm}
-use Rattle.jz_pipeline.specs.declared.unplaced.NoPlace as pipeline
-use Rattle.jz_pipeline.specs.Placed.{IsUnplaced}
-use Rattle.jz_pipeline.specs.Stages.{IsFirstRefusal}
-use Rattle.jasminc_top.specs.declared.refusal.Refusal.TheVariants.{Lex, Parse, Typing, NoPlace}
-use Rattle.jasminc_top.specs.Halting.{halt_by}
-use Rattle.jasminc_top.specs.Answers.{ReadingHalts, MakingHalts}
+use Rattle.jz_safety.specs.declared.alarm.Alarm as safety
+use Rattle.jz_pipeline.specs.Limits.{IsWithinLimits}
+use Rattle.jz_pipeline.specs.declared.limits.Limit as limits
+use Rattle.jz_pipeline.specs.declared.unplaced.NoPlace as unplaced
+use Rattle.jz_pipeline.specs.Stages.{FirstLimit, FirstAlarm, FirstUnplaced}
+use Rattle.jasminc_top.specs.declared.refusal.Refusal.{Refusal}
+use Rattle.jasminc_top.specs.declared.refusal.Refusal.TheVariants.{Lex, Parse, Typing, Limit, Alarm, NoPlace}
+use Rattle.jasminc_top.specs.Stage.{ComesFrom}
+use Rattle.jasminc_top.specs.Answers.{ReadingRefuses, MakingRefuses}
 use Rattle.jasminc_top.proofs.Causes.{has_no_token, fails_from}
 
+-- what a stage says of its refusals holds of those that they become
+pub stage_refuses : {A E : Type 0} (Says : E → Type 0) (Becomes : E → Refusal → Type 0) (P : Refusal → Type 0)
+    (answer : Result A (Failure E)) (e : Failure Refusal) → IfErr answer (λ d. IfRefused d Says)
+    → ((fault : E) (r : Refusal) → Says fault → Becomes fault r → P r) → IfRefused e (ComesFrom Becomes answer) → IfRefused e P
+stage_refuses Says Becomes P (Err (failure.Refused fault)) (failure.Refused r) says becomes from = becomes fault r says from
+stage_refuses Says Becomes P (Err failure.OutOfMemory) (failure.Refused r) says becomes from = absurd from
+stage_refuses Says Becomes P (Ok x) (failure.Refused r) says becomes from = absurd from
+stage_refuses Says Becomes P answer failure.OutOfMemory says becomes from = tt
+
 -- ---- reading
-pub lexer_stops : (text : List ℕ) (e : Failure LexFault) → IfRefused e (λ f. HasNoToken text f) → ReadingHalts text (halt_by Lex e)
-lexer_stops text (failure.Refused f) h = has_no_token text f h
-lexer_stops text failure.OutOfMemory h = tt
+pub lexer_refuses : (text : List ℕ) (f : LexFault) (r : Refusal) → HasNoToken text f → r ≡ Lex f → ReadingRefuses text r
+lexer_refuses text f r h is = subst (ReadingRefuses text) (sym is) (has_no_token text f h)
 
-pub parser_stops : (text : List ℕ) (tokens : List Token) (e : Failure SyntaxFault) → IsLexed text tokens → IfRefused e (λ f. IsUnexpected tokens f) → ReadingHalts text (halt_by Parse e)
-parser_stops text tokens (failure.Refused f) l h = fails_from text tokens f l h
-parser_stops text tokens failure.OutOfMemory l h = tt
+pub parser_refuses : (text : List ℕ) (tokens : List Token) (f : SyntaxFault) (r : Refusal) → IsLexed text tokens → IsUnexpected tokens f → r ≡ Parse f → ReadingRefuses text r
+parser_refuses text tokens f r l h is = subst (ReadingRefuses text) (sym is) (fails_from text tokens f l h)
 
-pub typing_stops : (text : List ℕ) (p : Program) (e : Failure TypeFault) → Reads text p → IfRefused e (λ f. IsFirstTypeFault p f) → ReadingHalts text (halt_by Typing e)
-typing_stops text p (failure.Refused f) r h = record { program = p; reads = r; first = h }
-typing_stops text p failure.OutOfMemory r h = tt
+pub typing_refuses : (text : List ℕ) (p : Program) (f : TypeFault) (r : Refusal) → Reads text p → IsFirstTypeFault p f → r ≡ Typing f → ReadingRefuses text r
+typing_refuses text p f r reads h is = subst (ReadingRefuses text) (sym is) (record { program = p; reads = reads; first = h })
 
 -- ---- making
+pub limits_refuse : (funs : List Fun) (l : limits.Limit) (r : Refusal) → FirstLimit funs l → r ≡ Limit l → MakingRefuses funs r
+limits_refuse funs l r h is = subst (MakingRefuses funs) (sym is) h
 
-pub places_stop : (funs fs : List Fun) (e : Failure pipeline.NoPlace) → fs ≡ funs → All IsWithinLimits funs → All HasNoAlarm funs → IfRefused e (IsFirstRefusal IsUnplaced fs)
-    → MakingHalts funs (halt_by NoPlace e)
-places_stop funs fs (failure.Refused n) same w s h = (w, s, subst (λ (gs : List Fun). IsFirstRefusal IsUnplaced gs n) same h)
-places_stop funs fs failure.OutOfMemory same w s h = tt
+pub safety_refuses : (funs fs : List Fun) (a : safety.Alarm) (r : Refusal) → fs ≡ funs → All IsWithinLimits funs → FirstAlarm fs a → r ≡ Alarm a → MakingRefuses funs r
+safety_refuses funs fs a r same w h is =
+    subst (MakingRefuses funs) (sym is) (w, subst (λ (gs : List Fun). FirstAlarm gs a) same h)
+
+pub places_refuse : (funs fs : List Fun) (n : unplaced.NoPlace) (r : Refusal) → fs ≡ funs → All IsWithinLimits funs → All HasNoAlarm funs → FirstUnplaced fs n
+    → r ≡ NoPlace n → MakingRefuses funs r
+places_refuse funs fs n r same w s h is =
+    subst (MakingRefuses funs) (sym is) (w, s, subst (λ (gs : List Fun). FirstUnplaced gs n) same h)

@@ -16,7 +16,7 @@ use Rattle.jz_first_types.specs.Resolving.{resolved, resolved_fun}
 use Rattle.jz_first_types.specs.TypedPrograms.{HaveDifferentNames, HaveDeclarations, HaveCounts}
 use Rattle.jz_first_types.proofs.TypedLemmas as typed
 use Rattle.jz_first_types.proofs.ResolvedLemmas.{typed_resolved, resolved_stays}
-use Rattle.jz_pass.specs.Limits.{IsWithinLimits}
+use Rattle.jz_pipeline.specs.Limits.{IsWithinLimits}
 use Rattle.jz_safety.specs.Alarms.{HasNoAlarm}
 use Rattle.jz_safety.specs.Resolved.{IsResolved}
 use Rattle.jz_safety.proofs.Declaring as declaring

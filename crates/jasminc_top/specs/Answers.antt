@@ -1,31 +1,32 @@
 -- What a command may answer: the table of causes, and the table of commands.
-use Rattle.std.specs.Prelude.{◌≡◌, ◌<◌, ◌⊎◌, ℕ, List, [], length, find, All, Option, Some, None, IsSome, ⊤, Result, Ok, Err}
+use Rattle.std.specs.Prelude.{◌≡◌, ◌<◌, ◌≤◌, ◌⊎◌, ℕ, List, [], length, find, All}
+use Rattle.std.specs.Prelude.{Option, Some, None, IsSome, ⊤, Result, Ok, Err}
 use Rattle.std.specs.Str.{bytes_eq}
 use Rattle.jz_io.specs.Causes.{Rose}
 use Rattle.jz_io.specs.Telling.{Telling, text_of, IsWhole}
-use Rattle.jasminc_top.specs.Words.{Wanted, compile, exec, file_of}
 use Rattle.jz_first_parse.specs.Reading.{Reads, LexFails, ParseFails}
-use Rattle.jz_first_types.specs.Rules.{IsFirstTypeFault}
-use Rattle.jz_pass.specs.Limits.{IsWithinLimits, IsFirstLimit}
-use Rattle.jz_safety.specs.Alarms.{HasNoAlarm, IsFirstAlarm}
-use Rattle.jz_pipeline.specs.Placed.{IsUnplaced}
-use Rattle.jz_pipeline.specs.Stages.{IsFirstRefusal}
-use Rattle.jasminc_top.specs.Making.{TypesAs, Makes}
-use Rattle.jz_listing.specs.Listing.{listing_text}
-use Rattle.jasminc_top.specs.Running.{RunsTo}
-use Rattle.jasminc_top.specs.Refusals.{status_of, line_of, stage_of, all_stages}
 use Rattle.jz_first_tree.specs.declared.Program.{Program}
 use Rattle.jz_first_tree.specs.declared.Fun.{Fun}
+use Rattle.jz_first_types.specs.Rules.{IsFirstTypeFault}
 use Rattle.jz_first_types.specs.declared.fault.TypeFault.{TypeFault}
+use Rattle.jz_safety.specs.Alarms.{HasNoAlarm, IsFirstAlarm}
+use Rattle.jz_pipeline.specs.Limits.{IsWithinLimits, IsFirstLimit}
+use Rattle.jz_pipeline.specs.Placed.{IsUnplaced}
+use Rattle.jz_pipeline.specs.Stages.{IsFirstRefusal, FirstLimit, FirstAlarm, FirstUnplaced}
+use Rattle.jz_listing.specs.Listing.{listing_text}
 use Rattle.jz_listing.specs.declared.compiled.Compiled.{Compiled}
+use Rattle.jasminc_top.specs.Words.{Wanted, compile, exec, file_of}
+use Rattle.jasminc_top.specs.Refusals.{status_of, line_of, stage_of, all_stages}
+use Rattle.jasminc_top.specs.Making.{TypesAs, Makes}
+use Rattle.jasminc_top.specs.Running.{EndsWithin, RunsTo}
+use Rattle.jasminc_top.specs.Told.{SourceTold}
 use Rattle.jasminc_top.specs.declared.refusal.Status.{Status}
 use Rattle.jasminc_top.specs.declared.refusal.Status.TheVariants as status
 use Rattle.jasminc_top.specs.declared.refusal.Refusal.{Refusal}
-use Rattle.jasminc_top.specs.declared.refusal.Refusal.TheVariants.{Usage, Source, Lex, Parse, Typing, NoFunction, Limit, Alarm, NoPlace, Items}
-use Rattle.jasminc_top.specs.declared.halt.Halt.{Halt}
-use Rattle.jasminc_top.specs.declared.halt.Halt.TheVariants.{Refused, Stopped}
+use Rattle.jasminc_top.specs.declared.refusal.Refusal.TheVariants.{Usage, ReadFault, Source}
+use Rattle.jasminc_top.specs.declared.refusal.Refusal.TheVariants.{Lex, Parse, Typing, NoFunction}
+use Rattle.jasminc_top.specs.declared.refusal.Refusal.TheVariants.{Limit, Alarm, NoPlace, Items}
 use Rattle.jasminc_top.specs.declared.answer.Reply.{Reply}
-use Rattle.jasminc_top.specs.declared.halt.Stop.TheVariants as stop
 
 -- the longest text that is read
 abbrev pub source_limit : ℕ
@@ -51,7 +52,8 @@ pub record FailsTyping (text : List ℕ) (fault : TypeFault) : Type 0 where
   pub reads : Reads text program
   pub first : IsFirstTypeFault program fault
 
--- the text's program is typed, and the first of its functions with a refusal of this kind has this one
+-- the text's program is typed, and the first of its functions with a refusal of this kind has this
+-- one
 pub record HasFirst {A : Type 0} (OfKind : Fun → A → Type 0) (text : List ℕ) (a : A) : Type 0 where
   pub program : Program
   pub types : TypesAs text program
@@ -93,6 +95,7 @@ ExecCause fun items text r = TextCause text r
 abbrev pub IsUsage : Refusal → Type 0
 IsUsage r = r ≡ Usage
 
+-- why a command is refused by the text of its file
 abbrev pub Cause : Option Wanted → List ℕ → Refusal → Type 0
 Cause None text = IsUsage
 Cause (Some (compile file)) text = TextCause text
@@ -110,21 +113,29 @@ pub record IsFirstCause (causes : Refusal → Type 0) (r : Refusal) : Type 0 whe
 -- ---- the table of commands: status, output and what is made where nothing refuses
 
 -- the functions of the text's program, and their listing
-pub record GivesListing (text : List ℕ) (s : Status) (output : List ℕ) (made : List Compiled) : Type 0 where
+pub record GivesListing (text : List ℕ) (s : Status) (output : List ℕ) (made : List Compiled)
+    : Type 0 where
   pub program : Program
   pub makes : Makes text program made
   pub output_is : output ≡ listing_text made
   pub ok : s ≡ status.Ok
 
 -- one of the functions that were made, and its run on the items
-pub record RunsOne (fun items : List ℕ) (s : Status) (output : List ℕ) (made : List Compiled) : Type 0 where
+pub record RunsOne (fun items : List ℕ) (s : Status) (output : List ℕ) (made : List Compiled)
+    : Type 0 where
   pub compiled : Compiled
   pub found : compiled_named fun made ≡ Some compiled
   pub runs : RunsTo compiled items step_limit output
   pub ok : s ≡ status.Ok
 
+-- the function of that name was made, and its run on the items ends within the limit
+abbrev pub EndsWithinLimit : List Compiled → List ℕ → List ℕ → Type 0
+EndsWithinLimit made fun items =
+    (c : Compiled) × (compiled_named fun made ≡ Some c) × EndsWithin c items step_limit
+
 -- the functions of the text's program, and the run of one of them on the items
-pub record GivesRun (text fun items : List ℕ) (s : Status) (output : List ℕ) (made : List Compiled) : Type 0 where
+pub record GivesRun (text fun items : List ℕ) (s : Status) (output : List ℕ) (made : List Compiled)
+    : Type 0 where
   pub program : Program
   pub makes : Makes text program made
   pub run : RunsOne fun items s output made
@@ -136,7 +147,8 @@ Gives (exec file fun items) text s output made = GivesRun text fun items s outpu
 -- ---- what is due
 
 -- the first cause, with its status and line
-pub record IsRefused (wish : Option Wanted) (text : List ℕ) (s : Status) (output : List ℕ) (made : List Compiled) : Type 0 where
+pub record IsRefused (wish : Option Wanted) (text : List ℕ) (s : Status) (output : List ℕ)
+    (made : List Compiled) : Type 0 where
   pub refusal : Refusal
   pub cause : Cause wish text refusal
   pub first : Clear (Cause wish text) (stage_of refusal)
@@ -145,14 +157,16 @@ pub record IsRefused (wish : Option Wanted) (text : List ℕ) (s : Status) (outp
   pub none : made ≡ []
 
 -- no cause, and what the command gives
-pub record IsDone (wish : Option Wanted) (text : List ℕ) (s : Status) (output : List ℕ) (made : List Compiled) : Type 0 where
+pub record IsDone (wish : Option Wanted) (text : List ℕ) (s : Status) (output : List ℕ)
+    (made : List Compiled) : Type 0 where
   pub command : Wanted
   pub is : wish ≡ Some command
   pub clear : Clear (Cause wish text) all_stages
   pub gives : Gives command text s output made
 
 abbrev pub Answers : Option Wanted → List ℕ → Status → List ℕ → List Compiled → Type 0
-Answers wish text s output made = IsRefused wish text s output made ⊎ IsDone wish text s output made
+Answers wish text s output made =
+    IsRefused wish text s output made ⊎ IsDone wish text s output made
 
 -- ---- the source
 
@@ -161,8 +175,13 @@ abbrev pub HasFile : List ℕ → Option Telling → List ℕ → Type 0
 HasFile file None text = ⊤
 HasFile file (Some told) text = text_of told.texts file ≡ Some text
 
+-- the file has this text, within the limit
+abbrev pub IsShortFile : List ℕ → Option Telling → List ℕ → Type 0
+IsShortFile file files text = HasFile file files text × (length text ≤ source_limit)
+
+-- the file has a text past the limit
 abbrev pub IsLongFile : List ℕ → Option Telling → Type 0
-IsLongFile file told = (text : List ℕ) × HasFile file told text × (source_limit < length text)
+IsLongFile file files = (text : List ℕ) × HasFile file files text × (source_limit < length text)
 
 -- a file that is there wasn't missed
 abbrev pub IsNotMissed : List ℕ → Option Telling → Option Telling → Type 0
@@ -175,10 +194,19 @@ abbrev pub HasText : Option Wanted → Option Telling → List ℕ → Type 0
 HasText None told text = text ≡ []
 HasText (Some wish) told text = HasFile (file_of wish) told text
 
--- a fault of reading: of a command, counted, with no name missed that is there
-abbrev pub Faulted : Option Wanted → Option Telling → Option Telling → ℕ → ℕ → Type 0
-Faulted None old new before now = ⊥
-Faulted (Some wish) old new before now = Rose before now × IsNotMissed (file_of wish) old new
+-- the count of faults stayed
+abbrev pub IsQuiet : SourceTold → Type 0
+IsQuiet told = told.faults_after ≡ told.faults
+
+-- a fault of reading a file: counted, and no name was missed that is there
+abbrev pub IsReadFault : List ℕ → SourceTold → Type 0
+IsReadFault file told =
+    Rose told.faults told.faults_after × IsNotMissed file told.files told.files_after
+
+-- a fault of reading the command's file
+abbrev pub Faulted : Option Wanted → SourceTold → Type 0
+Faulted None told = ⊥
+Faulted (Some wish) told = IsReadFault (file_of wish) told
 
 abbrev pub IsNoCommand : Option Wanted → Type 0
 IsNoCommand None = ⊤
@@ -186,60 +214,54 @@ IsNoCommand (Some wish) = ⊥
 
 -- the source is at its end, unless the words or the length refuse
 abbrev pub IsRead : Option Wanted → List ℕ → Option Telling → Type 0
-IsRead wish text new = IsWhole new ⊎ IsNoCommand wish ⊎ Cause wish text Source
-
--- a stage refuses at the first cause, or stops
-abbrev pub Halts : Option Wanted → Option Telling → Option Telling → ℕ → ℕ → Halt → Type 0
-Halts wish old new before now (Refused r) = (text : List ℕ) × HasText wish old text × IsFirstCause (Cause wish text) r
-    × IsRead wish text new × (now ≡ before)
-Halts wish old new before now (Stopped stop.Fault) = Faulted wish old new before now
-Halts wish old new before now (Stopped stop.Memory) = ⊤
+IsRead wish text files = IsWhole files ⊎ IsNoCommand wish ⊎ Cause wish text Source
 
 -- what is due by the text of the file
-pub record IsDue (wish : Option Wanted) (old new : Option Telling) (s : Status) (output : List ℕ) (made : List Compiled) : Type 0 where
+pub record IsDue (wish : Option Wanted) (told : SourceTold) (s : Status) (output : List ℕ)
+    (made : List Compiled) : Type 0 where
   pub text : List ℕ
-  pub has : HasText wish old text
+  pub has : HasText wish told.files text
   pub answers : Answers wish text s output made
-  pub read : IsRead wish text new
+  pub read : IsRead wish text told.files_after
 
--- how the reading of a file ends a command
-abbrev pub FileHalts : List ℕ → Option Telling → Option Telling → ℕ → ℕ → Halt → Type 0
-FileHalts file old new before now (Refused Source) = IsLongFile file old × (now ≡ before)
-FileHalts file old new before now (Refused r) = ⊥
-FileHalts file old new before now (Stopped stop.Fault) = Rose before now × IsNotMissed file old new
-FileHalts file old new before now (Stopped stop.Memory) = ⊤
+-- ---- the answers of stages
 
--- how a text that has no typed program ends a command
-abbrev pub ReadingHalts : List ℕ → Halt → Type 0
-ReadingHalts text (Refused (Lex fault)) = LexFails text fault
-ReadingHalts text (Refused (Parse fault)) = ParseFails text fault
-ReadingHalts text (Refused (Typing fault)) = FailsTyping text fault
-ReadingHalts text (Refused r) = ⊥
-ReadingHalts text (Stopped stop.Fault) = ⊥
-ReadingHalts text (Stopped stop.Memory) = ⊤
+-- why the reading of a file refuses a command
+abbrev pub FileRefuses : List ℕ → SourceTold → Refusal → Type 0
+FileRefuses file told ReadFault = IsReadFault file told
+FileRefuses file told Source = IsLongFile file told.files × IsQuiet told
+FileRefuses file told r = ⊥
 
--- how functions that are not all compiled end a command
-abbrev pub MakingHalts : List Fun → Halt → Type 0
-MakingHalts funs (Refused (Limit limit)) = IsFirstRefusal IsFirstLimit funs limit
-MakingHalts funs (Refused (Alarm alarm)) = All IsWithinLimits funs × IsFirstRefusal IsFirstAlarm funs alarm
-MakingHalts funs (Refused (NoPlace refusal)) = All IsWithinLimits funs × All HasNoAlarm funs × IsFirstRefusal IsUnplaced funs refusal
-MakingHalts funs (Refused r) = ⊥
-MakingHalts funs (Stopped stop.Fault) = ⊥
-MakingHalts funs (Stopped stop.Memory) = ⊤
+-- why a text has no typed program
+abbrev pub ReadingRefuses : List ℕ → Refusal → Type 0
+ReadingRefuses text (Lex fault) = LexFails text fault
+ReadingRefuses text (Parse fault) = ParseFails text fault
+ReadingRefuses text (Typing fault) = FailsTyping text fault
+ReadingRefuses text r = ⊥
 
--- how the stages of a text end a command
-abbrev pub TextHalts : (Refusal → Type 0) → Halt → Type 0
-TextHalts causes (Refused r) = IsFirstCause causes r
-TextHalts causes (Stopped stop.Fault) = ⊥
-TextHalts causes (Stopped stop.Memory) = ⊤
+-- why functions are not all compiled
+abbrev pub MakingRefuses : List Fun → Refusal → Type 0
+MakingRefuses funs (Limit limit) = FirstLimit funs limit
+MakingRefuses funs (Alarm alarm) = All IsWithinLimits funs × FirstAlarm funs alarm
+MakingRefuses funs (NoPlace refusal) =
+    All IsWithinLimits funs × All HasNoAlarm funs × FirstUnplaced funs refusal
+MakingRefuses funs r = ⊥
 
--- what the stages after the reading make of a text
-abbrev pub After : Option Wanted → List ℕ → Result Reply Halt → Type 0
+-- what the stages after the reading make of a text: what the command gives, or the first cause
+abbrev pub After : Option Wanted → List ℕ → Result Reply Refusal → Type 0
 After wish text (Ok reply) = IsDone wish text reply.status reply.text reply.made
-After wish text (Err halt) = TextHalts (Cause wish text) halt
+After wish text (Err r) = IsFirstCause (Cause wish text) r
+
+-- the text of the file settles the answer of all stages, and reading it raised no count
+pub record Settles (wish : Option Wanted) (told : SourceTold) (answer : Result Reply Refusal)
+    : Type 0 where
+  pub text : List ℕ
+  pub has : HasText wish told.files text
+  pub after : After wish text answer
+  pub read : IsRead wish text told.files_after
+  pub quiet : IsQuiet told
 
 -- what all stages make of the words
-abbrev pub Performs : Option Wanted → Option Telling → Option Telling → ℕ → ℕ → Result Reply Halt → Type 0
-Performs wish old new before now (Ok reply) = (text : List ℕ) × HasText wish old text
-    × IsDone wish text reply.status reply.text reply.made × IsRead wish text new × (now ≡ before)
-Performs wish old new before now (Err halt) = Halts wish old new before now halt
+abbrev pub Performs : Option Wanted → SourceTold → Result Reply Refusal → Type 0
+Performs wish told (Err ReadFault) = Faulted wish told
+Performs wish told answer = Settles wish told answer

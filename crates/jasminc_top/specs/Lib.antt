@@ -3,7 +3,9 @@ pub mod Lines
 pub mod Refusals
 pub mod Making
 pub mod Running
+pub mod Told
+pub mod Stage
 pub mod Answers
-pub mod Halting
 pub mod Runs
 pub mod Headline
+pub mod Promises

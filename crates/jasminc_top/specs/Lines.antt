@@ -16,9 +16,9 @@ use Rattle.jz_first_types.specs.declared.fault.TypeRule.{TypeRule}
 use Rattle.jz_first_types.specs.declared.fault.TypeRule.TheVariants as rule
 use Rattle.jz_first_types.specs.declared.fault.TypeFault.{TypeFault}
 use Rattle.jz_first_types.specs.Faults.{number_of}
-use Rattle.jz_pass.specs.declared.limit.LimitKind.{LimitKind}
-use Rattle.jz_pass.specs.declared.limit.LimitKind.TheVariants.{Expand, ImmRange}
-use Rattle.jz_pass.specs.declared.limit.Limit.{Limit}
+use Rattle.jz_pipeline.specs.declared.limits.LimitKind.{LimitKind}
+use Rattle.jz_pipeline.specs.declared.limits.LimitKind.TheVariants.{Expand, ImmRange}
+use Rattle.jz_pipeline.specs.declared.limits.Limit.{Limit}
 use Rattle.jz_first_meaning.specs.declared.reason.Reason.{Reason}
 use Rattle.jz_first_meaning.specs.declared.reason.Reason.TheVariants as reason
 use Rattle.jz_safety.specs.declared.alarm.Alarm.{Alarm}
@@ -40,7 +40,9 @@ syntax_name Unexpected = codes "Unexpected"
 syntax_name TooDeep = codes "TooDeep"
 
 abbrev pub parser_line : SyntaxFault → List ℕ
-parser_line f = codes "syntax " ++ syntax_name f.kind ++ codes " " ++ span_text f.span ++ codes " token " ++ decimal f.token
+parser_line f =
+    codes "syntax " ++ syntax_name f.kind ++ codes " " ++ span_text f.span
+    ++ codes " token " ++ decimal f.token
 
 unfoldable pub rule_name : TypeRule → List ℕ
 rule_name rule.Unknown = codes "Unknown"
@@ -49,7 +51,9 @@ rule_name rule.Mismatch = codes "Mismatch"
 rule_name rule.ExportShape = codes "ExportShape"
 
 abbrev pub type_line : TypeFault → List ℕ
-type_line f = codes "type " ++ decimal (number_of f.rule) ++ codes " " ++ rule_name f.rule ++ codes " " ++ span_text f.span
+type_line f =
+    codes "type " ++ decimal (number_of f.rule) ++ codes " " ++ rule_name f.rule
+    ++ codes " " ++ span_text f.span
 
 unfoldable pub limit_name : LimitKind → List ℕ
 limit_name Expand = codes "Expand"
@@ -71,7 +75,8 @@ reason_name reason.Init = codes "Init"
 reason_name reason.Divide = codes "Divide"
 
 abbrev pub alarm_line : Alarm → List ℕ
-alarm_line a = codes "alarm " ++ span_text a.span ++ codes " " ++ reason_name a.kind ++ codes " " ++ a.target
+alarm_line a =
+    codes "alarm " ++ span_text a.span ++ codes " " ++ reason_name a.kind ++ codes " " ++ a.target
 
 -- ---- a variable without a place
 abbrev pub flag_text : Flag → List ℕ
@@ -94,7 +99,9 @@ holder_name None = codes "*"
 holder_name (Some name) = name
 
 unfoldable pub holder_text : Holder → List ℕ
-holder_text h = codes " " ++ place_text h.place ++ codes "=" ++ holder_name h.variable ++ codes "@" ++ span_text h.span
+holder_text h =
+    codes " " ++ place_text h.place ++ codes "=" ++ holder_name h.variable
+    ++ codes "@" ++ span_text h.span
 
 -- the texts of a list, a dash where it is empty
 abbrev pub texts_or_dash : List (List ℕ) → List ℕ
@@ -103,4 +110,5 @@ texts_or_dash (t ∷ ts) = concat (t ∷ ts)
 
 abbrev pub no_place_line : NoPlace → List ℕ
 no_place_line n =
-    codes "no place " ++ n.variable ++ codes " needs" ++ texts_or_dash (map need_text n.needs) ++ codes " held" ++ texts_or_dash (map holder_text n.holders)
+    codes "no place " ++ n.variable ++ codes " needs" ++ texts_or_dash (map need_text n.needs)
+    ++ codes " held" ++ texts_or_dash (map holder_text n.holders)

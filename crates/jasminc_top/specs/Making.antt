@@ -7,23 +7,26 @@ use Rattle.jz_first_parse.specs.Reading.{Reads}
 use Rattle.jz_first_parse.specs.Derived.{DeclaresWords}
 use Rattle.jz_first_types.specs.Rules.{IsTyped}
 use Rattle.jz_first_types.specs.Resolving.{resolved}
-use Rattle.jz_pass.specs.Limits.{IsWithinLimits}
+use Rattle.jz_pipeline.specs.Limits.{IsWithinLimits}
 use Rattle.jz_safety.specs.Alarms.{HasNoAlarm}
 use Rattle.jz_pipeline.specs.Placed.{AreCompiled}
 use Rattle.jz_listing.specs.declared.compiled.Compiled.{Compiled}
 
--- The text reads as a program in which no rule of typing fails; this is that program, each variable that is used with its declaration.
+-- The text reads as a program in which no rule of typing fails; this is that program, each variable
+-- that is used with its declaration.
 pub record TypesAs (text : List ℕ) (program : Program) : Type 0 where
   pub written : Program
   pub reads : Reads text written
   pub typed : IsTyped written
   pub is : program ≡ resolved written
 
--- what the grammar gives a function: its variables are declared words, and each of its statements assigns to one
+-- what the grammar gives a function: its variables are declared words, and each of its statements
+-- assigns to one
 abbrev pub IsWritten : Fun → Type 0
 IsWritten f = DeclaresWords f × All AssignsToOne f.body
 
--- Each function is within the limits, has no alarm, and is compiled, its variables where first fit puts them.
+-- Each function is within the limits, has no alarm, and is compiled, its variables where first fit
+-- puts them.
 pub record AreMade (funs : List Fun) (made : List Compiled) : Type 0 where
   pub within : All IsWithinLimits funs
   pub safe : All HasNoAlarm funs

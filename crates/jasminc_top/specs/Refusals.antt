@@ -3,11 +3,15 @@ use Rattle.std.specs.Prelude.{ℕ, List, ◌++◌, codes}
 use Rattle.jasminc_top.specs.declared.refusal.Status.{Status}
 use Rattle.jasminc_top.specs.declared.refusal.Status.TheVariants as status
 use Rattle.jasminc_top.specs.declared.refusal.Refusal.{Refusal}
-use Rattle.jasminc_top.specs.declared.refusal.Refusal.TheVariants.{Usage, Source, Lex, Parse, Typing, NoFunction, Limit, Alarm, NoPlace, Items}
-use Rattle.jasminc_top.specs.Lines.{lexer_line, parser_line, type_line, limit_line, alarm_line, no_place_line}
+use Rattle.jasminc_top.specs.declared.refusal.Refusal.TheVariants.{Usage, ReadFault, Source}
+use Rattle.jasminc_top.specs.declared.refusal.Refusal.TheVariants.{Lex, Parse, Typing, NoFunction}
+use Rattle.jasminc_top.specs.declared.refusal.Refusal.TheVariants.{Limit, Alarm, NoPlace, Items}
+use Rattle.jasminc_top.specs.Lines.{lexer_line, parser_line, type_line}
+use Rattle.jasminc_top.specs.Lines.{limit_line, alarm_line, no_place_line}
 
 abbrev pub status_of : Refusal → Status
 status_of Usage = status.Usage
+status_of ReadFault = status.ReadFault
 status_of Source = status.Limit
 status_of (Lex fault) = status.Syntax
 status_of (Parse fault) = status.Syntax
@@ -21,6 +25,7 @@ status_of Items = status.Precondition
 -- the line without its line feed
 abbrev pub cause_text : Refusal → List ℕ
 cause_text Usage = codes "usage: jasminc COMMAND ARGS"
+cause_text ReadFault = codes "read fault"
 cause_text Source = codes "limit Source"
 cause_text (Lex fault) = lexer_line fault
 cause_text (Parse fault) = parser_line fault
@@ -34,9 +39,11 @@ cause_text Items = codes "precondition items"
 abbrev pub line_of : Refusal → List ℕ
 line_of r = cause_text r ++ codes "\n"
 
--- the stages in their order: words, length, lexer, parser, typing, function name, limits, safety, places, items
+-- the stages in their order: words, file, lexer, parser, typing, function name, limits, safety,
+-- places, items
 abbrev pub stage_of : Refusal → ℕ
 stage_of Usage = 0
+stage_of ReadFault = 1
 stage_of Source = 1
 stage_of (Lex fault) = 2
 stage_of (Parse fault) = 3

@@ -1,5 +1,6 @@
 -- A run of compiled code to its end: where it starts, where it ends, and its text.
-use Rattle.std.specs.Prelude.{◌≡◌, ◌<◌, ◌≤◌, ℕ, ◌-◌, ◌^◌, ⊤, false, List, [], ◌∷◌, ◌++◌, map, drop, codes, decimal, replicate, slice_set, if◌then◌else◌}
+use Rattle.std.specs.Prelude.{◌≡◌, ◌<◌, ◌≤◌, ℕ, ◌-◌, ◌^◌, ⊤, false, if◌then◌else◌}
+use Rattle.std.specs.Prelude.{List, [], ◌∷◌, ◌++◌, map, drop, replicate, slice_set, codes, decimal}
 use Rattle.std.specs.List.{concat}
 use Rattle.std.specs.FinMap as map_of
 use Rattle.std.specs.Int.{w64, to_be_bytes}
@@ -69,8 +70,10 @@ ItemsFit (n ∷ ns) = (n < 2 ^ 64) × ItemsFit ns
 -- how a run of at most so many steps ended, and where it stands then
 abbrev pub Finishes : List ℕ → ℕ → Config → ℕ → Config → Finish → Type 0
 Finishes code base c limit now (finish.Ended k events) =
-    (k ≤ limit) × EndsAfter code base c k × (events ≡ (steps_of code base c k).events) × (now ≡ (steps_of code base c k).after)
-Finishes code base c limit now finish.OutOfFuel = (j : ℕ) → j ≤ limit → (steps_of code base c j).after.ended ≡ false
+    (k ≤ limit) × EndsAfter code base c k × (events ≡ (steps_of code base c k).events)
+    × (now ≡ (steps_of code base c k).after)
+Finishes code base c limit now finish.OutOfFuel =
+    (j : ℕ) → j ≤ limit → (steps_of code base c j).after.ended ≡ false
 Finishes code base c limit now (finish.Faulted f) =
     (j : ℕ) × (j < limit) × ((i : ℕ) → i ≤ j → (steps_of code base c i).after.ended ≡ false)
     × ((step_of code base (steps_of code base c j).after).answer ≡ Fault f)
@@ -90,19 +93,23 @@ abbrev pub word_text : Size → ℕ → List ℕ
 word_text s n = hexadecimal (drop (8 - bytes_of s) (to_be_bytes w64 n))
 
 abbrev pub event_line : Event → List ℕ
-event_line (event.Branch taken) = codes "branch " ++ (if taken then codes "1" else codes "0") ++ codes "\n"
+event_line (event.Branch taken) =
+    codes "branch " ++ (if taken then codes "1" else codes "0") ++ codes "\n"
 event_line (event.Addr a) = codes "addr " ++ quadword_text a ++ codes "\n"
 event_line (event.Div high low divisor) =
-    codes "div " ++ quadword_text high ++ codes " " ++ quadword_text low ++ codes " " ++ quadword_text divisor ++ codes "\n"
+    codes "div " ++ quadword_text high ++ codes " " ++ quadword_text low
+    ++ codes " " ++ quadword_text divisor ++ codes "\n"
 
 -- a result, by its register at the end
 abbrev pub result_line : State → Arg → List ℕ
-result_line st a = codes "result " ++ a.name ++ codes " " ++ word_text a.size (reg_value st a.reg) ++ codes "\n"
+result_line st a =
+    codes "result " ++ a.name ++ codes " " ++ word_text a.size (reg_value st a.reg) ++ codes "\n"
 
 -- the events, the number of steps, and the results in the state at the end
 abbrev pub run_text : Compiled → State → List Event → ℕ → List ℕ
 run_text c st events k =
-    concat (map event_line events) ++ codes "end " ++ decimal k ++ codes "\n" ++ concat (map (result_line st) c.rets)
+    concat (map event_line events) ++ codes "end " ++ decimal k ++ codes "\n"
+    ++ concat (map (result_line st) c.rets)
 
 -- where `exec` starts a function
 abbrev pub exec_start : List ℕ → Memory → Config
@@ -111,7 +118,8 @@ exec_start items m = start_of (start_state items) m
 -- started on these items the code ends within so many steps, and no step faults
 abbrev pub EndsWithin : Compiled → List ℕ → ℕ → Type 0
 EndsWithin c items limit = (m : Memory) → IsStartMemory m
-    → ((k : ℕ) × (k ≤ limit) × EndsAfter c.code code_base (exec_start items m) k) × NeverFaults c.code code_base (exec_start items m)
+    → ((k : ℕ) × (k ≤ limit) × EndsAfter c.code code_base (exec_start items m) k)
+    × NeverFaults c.code code_base (exec_start items m)
 
 -- the text of the run of a function on items, to the end of its code
 pub record RunsTo (c : Compiled) (items : List ℕ) (limit : ℕ) (output : List ℕ) : Type 0 where
@@ -120,4 +128,5 @@ pub record RunsTo (c : Compiled) (items : List ℕ) (limit : ℕ) (output : List
   pub steps : ℕ
   pub within : steps ≤ limit
   pub ends : EndsAfter c.code code_base (exec_start items memory) steps
-  pub text : let ran = steps_of c.code code_base (exec_start items memory) steps in output ≡ run_text c ran.after.state ran.events steps
+  pub text : let ran = steps_of c.code code_base (exec_start items memory) steps in
+      output ≡ run_text c ran.after.state ran.events steps

@@ -1,19 +1,22 @@
-// From the words and the source to what is due: a reply, or a stop that has no memory to say more.
-ghost use Rattle.std.specs.Prelude.{◌≡◌, ◌≤◌, ℕ, List, All, Some, IfOk, IfErr, OnOk, IsErrOf, length, find};
+//! From the words and the source to what is due: a reply, or a refusal.
+
+ghost use Rattle.std.specs.Prelude.{◌≡◌, ◌≤◌, All, Some, IfOk, IfErr, OnOk, IsErrOf, length};
 ghost use Rattle.std.specs.Option.{option_copied};
-ghost use Rattle.jz_io.specs.Causes.{Rose};
+ghost use Rattle.jz_data.specs.Failures.{IfRefused, IfAnswered};
 ghost use Rattle.jz_io.specs.Telling.{IsWhole};
-ghost use Rattle.jz_listing.specs.declared.compiled.Compiled.{Compiled};
 ghost use Rattle.jasminc_top.specs.Words.{texts_of, wanted, wanted_of, compile, exec};
 ghost use Rattle.jasminc_top.specs.Making.{TypesAs, IsWritten, AreMade};
-ghost use Rattle.jasminc_top.specs.Running.{EndsWithin};
-ghost use Rattle.jasminc_top.specs.Answers.{source_limit, step_limit, function_named, compiled_named, ReadingHalts, MakingHalts, FileHalts, RunsOne, HasFile, IsLongFile, IsNotMissed, IsDue, Faulted, After, Performs};
+ghost use Rattle.jasminc_top.specs.Told.{source_told};
+ghost use Rattle.jasminc_top.specs.Answers.{source_limit, function_named, compiled_named};
+ghost use Rattle.jasminc_top.specs.Answers.{IsShortFile, IsLongFile, IsReadFault, FileRefuses};
+ghost use Rattle.jasminc_top.specs.Answers.{ReadingRefuses, MakingRefuses, RunsOne};
+ghost use Rattle.jasminc_top.specs.Answers.{EndsWithinLimit, After, Performs};
 
 use crate::exec::exec_text;
-use crate::halt::{Halt, Stop};
 use crate::refusal::{Refusal, Status};
+use crate::stage::as_refusal;
 use crate::words::{Request, request_of};
-use jz_data::{Seq, Text};
+use jz_data::{Failure, Seq, Text};
 use jz_first_parse::parse_first;
 use jz_first_tree::Fun;
 use jz_first_types::{Typed, check};
@@ -25,7 +28,7 @@ use std::alloc::{AllocError, Global};
 
 const SOURCE_LIMIT: usize = 1_048_576;
 
-/// What is due: a status, the text to write, and what was made.
+/// What a command gives: a status, the text to write, and what was made.
 #[derive(Drop)]
 pub struct Reply {
     pub status: Status,
@@ -33,12 +36,14 @@ pub struct Reply {
     pub made: Seq<Compiled>,
 }
 
-// The text of a file, up to the limit.
+/// The text of a file, up to the limit.
 fn read_text<S: Source>(alloc: Global, src: &mut S, file: &str) -> Result<Bytes, ReadRefused>
-    ensures text { IfOk result (λ text. HasFile file.now (S.told src.old) text × (length text ≤ source_limit)) }
+    ensures text { IfOk result (IsShortFile file.now (S.told src.old)) }
     ensures whole { OnOk result (IsWhole (S.told src.new) × (S.faults src.new ≡ S.faults src.old)) }
-    ensures long { IsErrOf result ReadRefused.TooLong → IsLongFile file.now (S.told src.old) × (S.faults src.new ≡ S.faults src.old) }
-    ensures fault { IsErrOf result ReadRefused.Fault → Rose (S.faults src.old) (S.faults src.new) × IsNotMissed file.now (S.told src.old) (S.told src.new) }
+    ensures long { IsErrOf result ReadRefused.TooLong
+        → IsLongFile file.now (S.told src.old) × (S.faults src.new ≡ S.faults src.old) }
+    ensures fault { IsErrOf result ReadRefused.Fault
+        → IsReadFault file.now (source_told S.told S.faults src.old src.new) }
 {
     match src.begin(file) {
         Ok(()) => read_all(alloc, src, SOURCE_LIMIT),
@@ -46,49 +51,52 @@ fn read_text<S: Source>(alloc: Global, src: &mut S, file: &str) -> Result<Bytes,
     }
 }
 
-// The text of a command's file, or the end of the command.
-fn file_text<S: Source>(alloc: Global, src: &mut S, file: &str) -> Result<Bytes, Halt>
-    ensures text { IfOk result (λ text. HasFile file.now (S.told src.old) text × (length text ≤ source_limit)) }
+/// The text of a command's file.
+fn file_text<S: Source>(alloc: Global, src: &mut S, file: &str) -> Result<Bytes, Failure<Refusal>>
+    ensures text { IfOk result (IsShortFile file.now (S.told src.old)) }
     ensures whole { OnOk result (IsWhole (S.told src.new) × (S.faults src.new ≡ S.faults src.old)) }
-    ensures halt { IfErr result (FileHalts file.now (S.told src.old) (S.told src.new) (S.faults src.old) (S.faults src.new)) }
+    ensures refused { let told = source_told S.told S.faults src.old src.new
+        in IfErr result (λ e. IfRefused e (FileRefuses file.now told)) }
 {
     match read_text(alloc, src, file) {
         Ok(text) => Ok(text),
-        Err(ReadRefused::Fault) => Err(Halt::Stopped(Stop::Fault)),
-        Err(ReadRefused::TooLong) => Err(Halt::Refused(Refusal::Source)),
-        Err(ReadRefused::OutOfMemory) => Err(Halt::Stopped(Stop::Memory)),
+        Err(ReadRefused::Fault) => Err(Failure::Refused(Refusal::ReadFault)),
+        Err(ReadRefused::TooLong) => Err(Failure::Refused(Refusal::Source)),
+        Err(ReadRefused::OutOfMemory) => Err(Failure::OutOfMemory),
     }
 }
 
-// The typed program of a text.
-fn typed_program(alloc: Global, text: &[u8]) -> Result<Typed, Halt>
+/// The typed program of a text.
+fn typed_program(alloc: Global, text: &[u8]) -> Result<Typed, Failure<Refusal>>
     requires { length text.now ≤ source_limit }
     ensures program { IfOk result (λ typed. TypesAs text.now typed.program) }
-    ensures halt { IfErr result (ReadingHalts text.now) }
+    ensures refused { IfErr result (λ e. IfRefused e (ReadingRefuses text.now)) }
 {
-    let tokens = lex(alloc, text)?;
-    let program = parse_first(alloc, &tokens)?;
-    Ok(check(alloc, program)?)
+    let tokens = as_refusal(lex(alloc, text), Refusal::Lex)?;
+    let program = as_refusal(parse_first(alloc, &tokens), Refusal::Parse)?;
+    let typed = as_refusal(check(alloc, program), Refusal::Typing)?;
+    Ok(typed)
 }
 
-// The functions of a typed program, compiled.
-fn compile_typed(alloc: Global, typed: &Typed) -> Result<Seq<Compiled>, Halt>
+/// The functions of a typed program, compiled.
+fn compile_typed(alloc: Global, typed: &Typed) -> Result<Seq<Compiled>, Failure<Refusal>>
     requires { All IsWritten typed.now.program.funs }
     ensures made { IfOk result (AreMade typed.now.program.funs) }
-    ensures halt { IfErr result (MakingHalts typed.now.program.funs) }
+    ensures refused { IfErr result (λ e. IfRefused e (MakingRefuses typed.now.program.funs)) }
 {
     typed.has_different_names();
     typed.has_declarations();
     typed.has_counts();
-    let expanded = expand_all(alloc, typed)?;
-    let safes = safe_all(alloc, expanded)?;
-    Ok(compile_all(alloc, &safes)?)
+    let expanded = as_refusal(expand_all(alloc, typed), Refusal::Limit)?;
+    let safes = as_refusal(safe_all(alloc, expanded), Refusal::Alarm)?;
+    let made = as_refusal(compile_all(alloc, &safes), Refusal::NoPlace)?;
+    Ok(made)
 }
 
-// The listing of a text's functions.
-fn compile_text(alloc: Global, file: &str, text: &[u8]) -> Result<Reply, Halt>
+/// The listing of a text's functions.
+fn compile_text(alloc: Global, file: &str, text: &[u8]) -> Result<Reply, Failure<Refusal>>
     requires { length text.now ≤ source_limit }
-    ensures { After (Some (compile file.now)) text.now result }
+    ensures { IfAnswered result (After (Some (compile file.now)) text.now) }
 {
     let typed = typed_program(alloc, text)?;
     let made = compile_typed(alloc, &typed)?;
@@ -100,28 +108,30 @@ fn compile_text(alloc: Global, file: &str, text: &[u8]) -> Result<Reply, Halt>
     })
 }
 
-// The first function with this name.
+/// The first function with this name.
 fn function_named<'a>(funs: &'a [Fun], name: &str) -> Option<&'a Fun>
     ensures { option_copied result ≡ function_named name.now funs.now }
 {
     funs.iter().find(|fun| fun.name.as_str() == name)
 }
 
+/// The first of what was made with this name.
 fn compiled_named<'a>(made: &'a [Compiled], name: &str) -> Option<&'a Compiled>
     ensures { option_copied result ≡ compiled_named name.now made.now }
 {
     made.iter().find(|compiled| compiled.name.as_str() == name)
 }
 
-// The run of one of the functions that were made on items.
+/// The run of one of the functions that were made on items.
 fn run_reply(
     alloc: Global,
     made: Seq<Compiled>,
     fun: &str,
     items: &[u64],
 ) -> Result<Reply, AllocError>
-    requires { (c : Compiled) × (compiled_named fun.now made ≡ Some c) × EndsWithin c items.now step_limit }
-    ensures { IfOk result (λ reply. RunsOne fun.now items.now reply.status reply.text reply.made × (reply.made ≡ made)) }
+    requires { EndsWithinLimit made fun.now items.now }
+    ensures runs { IfOk result (λ r. RunsOne fun.now items.now r.status r.text r.made) }
+    ensures made { IfOk result (λ r. r.made ≡ made) }
 {
     let Some(compiled) = compiled_named(made.as_slice(), fun) else {
         unreachable!()
@@ -134,32 +144,37 @@ fn run_reply(
     })
 }
 
-// The run of a text's function on items.
+/// The run of a text's function on items.
 fn exec_reply(
     alloc: Global,
     file: &str,
     fun: &str,
     items: &[u64],
     text: &[u8],
-) -> Result<Reply, Halt>
+) -> Result<Reply, Failure<Refusal>>
     requires { length text.now ≤ source_limit }
-    ensures { After (Some (exec file.now fun.now items.now)) text.now result }
+    ensures { IfAnswered result (After (Some (exec file.now fun.now items.now)) text.now) }
 {
     let typed = typed_program(alloc, text)?;
     let Some(function) = function_named(typed.program().funs.as_slice(), fun) else {
         let name = Text::from_string(String::from_str(alloc, fun)?);
-        return Err(Halt::Refused(Refusal::NoFunction(name)));
+        return Err(Failure::Refused(Refusal::NoFunction(name)));
     };
     let made = compile_typed(alloc, &typed)?;
     if items.len() != function.params.len() {
-        return Err(Halt::Refused(Refusal::Items));
+        return Err(Failure::Refused(Refusal::Items));
     }
     Ok(run_reply(alloc, made, fun, items)?)
 }
 
-// A request, from the reading on.
-fn perform<S: Source>(alloc: Global, request: Request<'_>, src: &mut S) -> Result<Reply, Halt>
-    ensures { Performs (Some (wanted_of request.entry)) (S.told src.old) (S.told src.new) (S.faults src.old) (S.faults src.new) result }
+/// A request, from the reading on.
+fn perform<S: Source>(
+    alloc: Global,
+    request: Request<'_>,
+    src: &mut S,
+) -> Result<Reply, Failure<Refusal>>
+    ensures { let told = source_told S.told S.faults src.old src.new
+        in IfAnswered result (Performs (Some (wanted_of request.entry)) told) }
 {
     let text = file_text(alloc, src, request.file())?;
     match request {
@@ -170,32 +185,17 @@ fn perform<S: Source>(alloc: Global, request: Request<'_>, src: &mut S) -> Resul
     }
 }
 
-// The stages in their order: each refuses, stops or goes on.
-fn stages<S: Source>(alloc: Global, words: &[String], src: &mut S) -> Result<Reply, Halt>
-    ensures { Performs (wanted (texts_of words.now)) (S.told src.old) (S.told src.new) (S.faults src.old) (S.faults src.new) result }
+/// The stages in their order: each refuses, wants memory or goes on.
+pub fn answer<S: Source>(
+    alloc: Global,
+    words: &[String],
+    src: &mut S,
+) -> Result<Reply, Failure<Refusal>>
+    ensures { let told = source_told S.told S.faults src.old src.new
+        in IfAnswered result (Performs (wanted (texts_of words.now)) told) }
 {
     match request_of(alloc, words)? {
         Some(request) => perform(alloc, request, src),
-        None => Err(Halt::Refused(Refusal::Usage)),
-    }
-}
-
-/// What is due, the lines of refusals among it.
-pub fn answer<S: Source>(alloc: Global, words: &[String], src: &mut S) -> Result<Reply, Stop>
-    ensures due { IfOk result (λ reply. IsDue (wanted (texts_of words.now)) (S.told src.old) (S.told src.new) reply.status reply.text reply.made
-        × (S.faults src.new ≡ S.faults src.old)) }
-    ensures fault { IsErrOf result Stop.Fault → Faulted (wanted (texts_of words.now)) (S.told src.old) (S.told src.new) (S.faults src.old) (S.faults src.new) }
-{
-    match stages(alloc, words, src) {
-        Ok(reply) => Ok(reply),
-        Err(Halt::Stopped(stop)) => Err(stop),
-        Err(Halt::Refused(refusal)) => match refusal.line(alloc) {
-            Ok(line) => Ok(Reply {
-                status: refusal.status(),
-                text: Bytes::from_vec(line),
-                made: Seq::new(alloc),
-            }),
-            Err(_) => Err(Stop::Memory),
-        },
+        None => Err(Failure::Refused(Refusal::Usage)),
     }
 }

@@ -1,9 +1,12 @@
-// Runs of compiled code on the machine.
-ghost use Rattle.std.specs.Prelude.{◌≡◌, ◌++◌, ◌∷◌, [], ◌≤◌, List, ℕ, map, length, false, IfOk, OnOk, codes};
+//! Runs of compiled code on the machine.
+
+ghost use Rattle.std.specs.Prelude.{◌≡◌, ◌++◌, map, false, IfOk, OnOk};
 ghost use Rattle.std.specs.List.{concat};
 ghost use Rattle.x64_machine.specs.MachineRuns.{code_of, base_of, config_of, start_of, SameCode};
 ghost use Rattle.x64_machine.specs.Steps.{events_of, steps_of};
-ghost use Rattle.jasminc_top.specs.Running.{EndsWithin, IsStartMemory, start_state, with_numbers, Finishes, hexadecimal, quadword_text, word_text, event_line, result_line, run_text, RunsTo};
+ghost use Rattle.jasminc_top.specs.Running.{EndsWithin, IsStartMemory, start_state, Finishes, RunsTo};
+ghost use Rattle.jasminc_top.specs.Running.{hexadecimal, quadword_text, word_text};
+ghost use Rattle.jasminc_top.specs.Running.{event_line, result_line, run_text};
 ghost use Rattle.jz_correct.specs.Registers.{argument_registers};
 ghost use Rattle.jasminc_top.specs.Answers.{step_limit};
 
@@ -34,7 +37,7 @@ pub enum Finish {
     Faulted(FaultKind),
 }
 
-// The return slot, which holds 0.
+/// The return slot, which holds 0.
 fn start_memory(alloc: Global) -> Result<MemMap, AllocError>
     ensures { IfOk result (λ memory. IsStartMemory memory) }
 {
@@ -43,7 +46,7 @@ fn start_memory(alloc: Global) -> Result<MemMap, AllocError>
     Ok(memory)
 }
 
-// Items in the argument registers; each other register is 0.
+/// Items in the argument registers; each other register is 0.
 fn registers(items: &[u64]) -> [u64; 16]
     ensures { result ≡ (start_state items.now).regs }
 {
@@ -68,7 +71,7 @@ fn start_state(items: &[u64]) -> State
     }
 }
 
-// The events of a step: branch, access, division.
+/// The events of a step: branch, access, division.
 fn push_events(events: &mut Vec<Event>, leak: StepLeak) -> Result<(), AllocError>
     ensures { OnOk result (events.new.items ≡ events.old.items ++ events_of leak) }
 {
@@ -84,10 +87,11 @@ fn push_events(events: &mut Vec<Event>, leak: StepLeak) -> Result<(), AllocError
     Ok(())
 }
 
-// Up to so many steps, to the end of the code.
+/// Up to so many steps, to the end of the code.
 fn run_to_end(alloc: Global, machine: &mut Machine, limit: u64) -> Result<Finish, AllocError>
     requires { (config_of machine.old).ended ≡ false }
-    ensures { IfOk result (λ finish. Finishes (code_of machine.old) (base_of machine.old) (config_of machine.old) limit (config_of machine.new) finish) }
+    ensures { IfOk result (Finishes (code_of machine.old) (base_of machine.old) (config_of machine.old)
+        limit (config_of machine.new)) }
 {
     let mut events = Vec::new(alloc);
     for made in 0..limit {
@@ -107,7 +111,7 @@ fn run_to_end(alloc: Global, machine: &mut Machine, limit: u64) -> Result<Finish
     Ok(Finish::OutOfFuel)
 }
 
-// Bytes in hexadecimal digits, the highest of a number first.
+/// Bytes in hexadecimal digits, the highest of a number first.
 fn write_hexadecimal(alloc: Global, text: &mut Vec<u8>, bytes: &[u8]) -> Result<(), AllocError>
     ensures { OnOk result (text.new.items ≡ text.old.items ++ hexadecimal bytes.now) }
 {
@@ -122,7 +126,7 @@ fn write_quadword(alloc: Global, text: &mut Vec<u8>, number: u64) -> Result<(), 
     write_hexadecimal(alloc, text, &number.to_be_bytes())
 }
 
-// The low bits of a number, as many as the size has.
+/// The low bits of a number, as many as the size has.
 fn write_word(alloc: Global, text: &mut Vec<u8>, size: Size, number: u64) -> Result<(), AllocError>
     ensures { OnOk result (text.new.items ≡ text.old.items ++ word_text size number) }
 {
@@ -185,7 +189,8 @@ fn write_results(
     state: &State,
     rets: &Seq<Arg>,
 ) -> Result<(), AllocError>
-    ensures { OnOk result (text.new.items ≡ text.old.items ++ concat (map (result_line state.now) rets.now)) }
+    ensures { OnOk result (text.new.items ≡
+        text.old.items ++ concat (map (result_line state.now) rets.now)) }
 {
     for ret in rets.as_slice() {
         write_result(alloc, text, state, ret)?;
@@ -193,7 +198,7 @@ fn write_results(
     Ok(())
 }
 
-// The text of a run: the events, the number of steps, and the results.
+/// The text of a run: the events, the number of steps, and the results.
 fn run_text(
     alloc: Global,
     compiled: &Compiled,

@@ -4,10 +4,10 @@
 mod answer;
 pub mod correctness;
 mod exec;
-mod halt;
 mod lines;
 mod refusal;
 mod run;
+mod stage;
 mod starts;
 mod words;
 

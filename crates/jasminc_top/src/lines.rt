@@ -1,7 +1,12 @@
-// The lines that tell refusals, without their line feeds.
+//! The lines that tell refusals, without their line feeds.
+
 ghost use Rattle.std.specs.Prelude.{◌≡◌, ◌++◌, OnOk, map};
 ghost use Rattle.std.specs.List.{concat};
-ghost use Rattle.jasminc_top.specs.Lines.{lex_name, lexer_line, syntax_name, parser_line, rule_name, type_line, limit_name, limit_subject, limit_line, reason_name, alarm_line, place_text, need_text, holder_text, texts_or_dash, no_place_line};
+ghost use Rattle.jasminc_top.specs.Lines.{lex_name, lexer_line, syntax_name, parser_line};
+ghost use Rattle.jasminc_top.specs.Lines.{rule_name, type_line, limit_name, limit_subject};
+ghost use Rattle.jasminc_top.specs.Lines.{limit_line, reason_name, alarm_line};
+ghost use Rattle.jasminc_top.specs.Lines.{place_text, need_text, holder_text};
+ghost use Rattle.jasminc_top.specs.Lines.{texts_or_dash, no_place_line};
 
 use jz_alloc::Needed;
 use jz_cursor::{SyntaxFault, SyntaxKind};
@@ -11,8 +16,7 @@ use jz_first_types::{TypeFault, TypeRule};
 use jz_io::Span;
 use jz_lex::{LexFault, LexKind};
 use jz_listing::{reg_name, write_number, write_span};
-use jz_pass::{Limit, LimitKind};
-use jz_pipeline::{Holder, NoPlace};
+use jz_pipeline::{Holder, Limit, LimitKind, NoPlace};
 use jz_safety::Alarm;
 use std::alloc::AllocError;
 use x64_insn::{Flag, Place};
@@ -205,7 +209,8 @@ fn write_each_holder(line: &mut Vec<u8>, holders: &Seq<Holder>) -> Result<(), Al
 }
 
 fn write_holders(line: &mut Vec<u8>, holders: &Seq<Holder>) -> Result<(), AllocError>
-    ensures { OnOk result (line.new.items ≡ line.old.items ++ texts_or_dash (map holder_text holders.now)) }
+    ensures { OnOk result (line.new.items ≡
+        line.old.items ++ texts_or_dash (map holder_text holders.now)) }
 {
     if holders.is_empty() {
         line.extend_from_slice(b" -")

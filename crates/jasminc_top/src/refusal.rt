@@ -1,4 +1,5 @@
-// The statuses of the program, and the answers other than Ok with their lines.
+//! The statuses of the program, and the answers other than Ok with their lines.
+
 ghost use Rattle.std.specs.Prelude.{◌≡◌, ◌++◌, IfOk, OnOk, codes, decimal};
 ghost use Rattle.jasminc_top.specs.Refusals.{status_of, cause_text, line_of};
 
@@ -9,8 +10,7 @@ use jz_cursor::SyntaxFault;
 use jz_data::Text;
 use jz_first_types::TypeFault;
 use jz_lex::LexFault;
-use jz_pass::Limit;
-use jz_pipeline::NoPlace;
+use jz_pipeline::{Limit, NoPlace};
 use jz_safety::Alarm;
 use std::alloc::{AllocError, Global};
 
@@ -35,11 +35,13 @@ pub enum Status {
     Undecodable = 15,
 }
 
-/// Why the words or the text are refused, by what the answer's line shows.
-#[derive(Drop, PartialEq, Eq)]
+/// Why a command is refused, by what the answer's line shows.
+#[derive(Drop)]
 pub enum Refusal {
     /// The words are no command.
     Usage,
+    /// The file was not opened or not read.
+    ReadFault,
     /// The text is longer than 1,048,576 bytes.
     Source,
     /// The text has no token at a place.
@@ -61,11 +63,13 @@ pub enum Refusal {
 }
 
 impl Refusal {
+    /// The status that it ends a command with.
     pub fn status(&self) -> Status
         ensures { result ≡ status_of self.now }
     {
         match self {
             Refusal::Usage => Status::Usage,
+            Refusal::ReadFault => Status::ReadFault,
             Refusal::Source | Refusal::Limit(_) => Status::Limit,
             Refusal::Lex(_) | Refusal::Parse(_) => Status::Syntax,
             Refusal::Typing(_) => Status::Typing,
@@ -76,11 +80,13 @@ impl Refusal {
         }
     }
 
+    /// Appends its line without the line feed.
     fn write(&self, line: &mut Vec<u8>) -> Result<(), AllocError>
         ensures { OnOk result (line.new.items ≡ line.old.items ++ cause_text self.now) }
     {
         match self {
             Refusal::Usage => line.extend_from_slice(b"usage: jasminc COMMAND ARGS"),
+            Refusal::ReadFault => line.extend_from_slice(b"read fault"),
             Refusal::Source => line.extend_from_slice(b"limit Source"),
             Refusal::Lex(fault) => write_lex_fault(line, *fault),
             Refusal::Parse(fault) => write_syntax_fault(line, *fault),

@@ -1,8 +1,10 @@
-// What the words of the command line ask for.
+//! What the words of the command line ask for.
+
 ghost use Rattle.std.specs.Prelude.{◌≡◌, ◌==◌, slice_index, ◌≤◌, ◌++◌, List, IfOk, None, Some};
 ghost use Rattle.std.specs.List.{list_any};
 ghost use Rattle.std.specs.Option.{option_map};
-ghost use Rattle.jasminc_top.specs.Words.{wanted, wanted_of, command_of, run_of, texts_of, file_of, is_option, numeral, has_leading_zero, number_of, numbers_of};
+ghost use Rattle.jasminc_top.specs.Words.{wanted, wanted_of, command_of, run_of, texts_of, file_of};
+ghost use Rattle.jasminc_top.specs.Words.{is_option, numeral, has_leading_zero, number_of, numbers_of};
 
 use jz_data::Seq;
 use std::alloc::{AllocError, Global};
@@ -43,7 +45,7 @@ fn begins_with_plus(word: &str) -> bool
     matches!(word.as_bytes(), [b'+', ..])
 }
 
-// The number that digits write. A sign is no digit.
+/// The number that digits write. A sign is no digit.
 fn numeral(base: u32, digits: &str) -> Option<u64>
     requires low { 2 ≤ base }
     requires high { base ≤ 36 }
@@ -61,7 +63,7 @@ fn has_leading_zero(word: &str) -> bool
     matches!(word.as_bytes(), [b'0', _, ..])
 }
 
-// The number that a word is.
+/// The number that a word is.
 fn number(word: &str) -> Option<u64>
     ensures { result ≡ number_of word.now }
 {
@@ -74,7 +76,7 @@ fn number(word: &str) -> Option<u64>
     numeral(10, word)
 }
 
-// The numbers that words are, if each is one.
+/// The numbers that words are, if each is one.
 fn numbers(alloc: Global, words: &[String]) -> Result<Option<Seq<u64>>, AllocError>
     ensures { IfOk result (λ ns. ns ≡ numbers_of (texts_of words.now)) }
 {
@@ -99,7 +101,7 @@ fn has_option(words: &[String]) -> bool
     false
 }
 
-// A run of a function on items, if each is a number.
+/// A run of a function on items, if each is a number.
 fn run_request<'a>(
     alloc: Global,
     file: &'a str,
@@ -114,7 +116,7 @@ fn run_request<'a>(
     }
 }
 
-// The command that the words behind the program's name are.
+/// The command that the words behind the program's name are.
 fn command<'a>(alloc: Global, words: &'a [String]) -> Result<Option<Request<'a>>, AllocError>
     ensures { IfOk result (λ r. option_map wanted_of r ≡ command_of (texts_of words.now)) }
 {

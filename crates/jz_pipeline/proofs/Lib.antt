@@ -1,3 +1,4 @@
+pub mod LimitLemmas
 pub mod LimitWalks
 pub mod Lines
 pub mod Carrying

@@ -1,14 +1,10 @@
 -- Typed functions over words are what can be placed.
 use Rattle.std.proofs.Common.{◌≡◌, ◌≢◌, true, List, [], ◌∷◌, refl, sym, ap, ◌∙◌, subst, arith, ℤ, pos, negsuc}
-use Rattle.std.specs.Prelude.{Some, None, map, FitsSigned}
-use Rattle.std.specs.Int.{w32}
+use Rattle.std.specs.Prelude.{Some, None, map}
 use Rattle.std.specs.List.{All, AllPairs, Contains, filter_map, cons_option}
-use Rattle.std.proofs.lemmas.Int.{ints}
 use Rattle.std.proofs.lemmas.List.{length-append, length-map}
 use Rattle.std.proofs.lemmas.List.Elements.{All-head, All-tail, All-append, All-map, All-weaker, All-contains}
 use Rattle.jz_data.proofs.Lists.{All-front, All-back}
-use Rattle.x64_insn.specs.Chosen.{fits_bytes}
-use Rattle.x64_insn.proofs.Immediates.{within_fits}
 use Rattle.jz_first_tree.specs.declared.Program.{Program}
 use Rattle.jz_first_tree.specs.declared.Fun.{Fun}
 use Rattle.jz_first_tree.specs.declared.Param.{Param}
@@ -26,7 +22,7 @@ use Rattle.jz_first_parse.specs.Trees.{register_word}
 use Rattle.jz_first_parse.specs.Derived.{DeclaresWords}
 use Rattle.jz_first_types.specs.TypedPrograms.{HaveDifferentNames, HasDeclaration, HaveDeclarations, HasCounts, HaveCounts}
 use Rattle.jz_first_types.specs.Uses.{right_side_uses, kind_uses, body_uses, uses_of}
-use Rattle.jz_pass.specs.Limits.{Constant, HasField, reading, immediate_of, IsWithinLimits}
+use Rattle.jz_pipeline.specs.Limits.{HasOwnField, Constant, immediate_of, IsWithinLimits}
 use Rattle.jz_lower.specs.Straight.{IsWord, AreWords, GiveWords, SetsWord, SetWords, KindFits, FitImmediates, IsStraight}
 use Rattle.jz_pipeline.specs.Placed.{IsPlaceable}
 
@@ -62,20 +58,12 @@ set_words (s ∷ ss) one a = (
 )
 
 -- ---- immediates
--- a signed number of 32 bits is held by four bytes
-field_fits : (i : ℤ) → FitsSigned w32 i → fits_bytes 4 i ≡ true
-field_fits (pos n) h = within_fits 4 (pos n) (omega (arith, ints, h.sfits)) (omega (arith, ints, h.sfits))
-field_fits (negsuc n) h = within_fits 4 (negsuc n) (omega (arith, ints, h.sfits)) (omega (arith, ints, h.sfits))
-
-abbrev HasOwn : Constant → Type 0
-HasOwn c = HasField c.0
-
-kind_fits : (k : StmtKind) (rest : List Constant) → All HasOwn (cons_option (immediate_of k) rest) → KindFits k × All HasOwn rest
+kind_fits : (k : StmtKind) (rest : List Constant) → All HasOwnField (cons_option (immediate_of k) rest) → KindFits k × All HasOwnField rest
 kind_fits (kind.Assign to None r) rest a = (tt, a)
-kind_fits (kind.Assign to (Some o) (rhs.Value (expr.Num n at))) rest a = (field_fits (reading n) (All-head HasOwn (n, at) rest a), All-tail HasOwn (n, at) rest a)
+kind_fits (kind.Assign to (Some o) (rhs.Value (expr.Num n at))) rest a = (All-head HasOwnField (n, at) rest a, All-tail HasOwnField (n, at) rest a)
 kind_fits (kind.Assign to (Some o) (rhs.Value (expr.Var x))) rest a = (tt, a)
 
-fit_immediates : (ss : List Stmt) → All HasOwn (filter_map (λ s. immediate_of s.kind) ss) → FitImmediates ss
+fit_immediates : (ss : List Stmt) → All HasOwnField (filter_map (λ s. immediate_of s.kind) ss) → FitImmediates ss
 fit_immediates [] a = tt
 fit_immediates (s ∷ ss) a = let z = kind_fits s.kind (filter_map (λ (t : Stmt). immediate_of t.kind) ss) a in (z.0, fit_immediates ss z.1)
 

@@ -10,9 +10,9 @@ use Rattle.jz_data.specs.declared.failure.Failure.TheVariants.{Refused, OutOfMem
 use Rattle.jz_data.specs.Failures.{IfRefused}
 use Rattle.jz_first_meaning.specs.declared.expanded.Expanded.{Expanded}
 use Rattle.jz_first_tree.specs.declared.Fun.{Fun}
-use Rattle.jz_pass.specs.declared.limit.Limit.{Limit}
-use Rattle.jz_pass.specs.Limits.{IsWithinLimits, IsFirstLimit}
-use Rattle.jz_pass.proofs.LimitLemmas.{none_within}
+use Rattle.jz_pipeline.specs.declared.limits.Limit.{Limit}
+use Rattle.jz_pipeline.specs.Limits.{IsWithinLimits, IsFirstLimit}
+use Rattle.jz_pipeline.proofs.LimitLemmas.{none_within}
 use Rattle.jz_safety.specs.declared.alarm.Alarm.{Alarm}
 use Rattle.jz_safety.specs.Alarms.{HasNoAlarm, IsFirstAlarm}
 use Rattle.jz_safety.proofs.Alarming.{never_both}

@@ -14,7 +14,7 @@ use Rattle.jz_first_parse.proofs.Declaring.{words_declared}
 use Rattle.jz_first_types.specs.Resolving.{resolved_fun, resolved}
 use Rattle.jz_first_types.specs.TypedPrograms.{HaveDifferentNames, HaveDeclarations, HaveCounts}
 use Rattle.jz_first_meaning.specs.declared.expanded.Expanded.{Expanded}
-use Rattle.jz_pass.specs.Limits.{IsWithinLimits}
+use Rattle.jz_pipeline.specs.Limits.{IsWithinLimits}
 use Rattle.jz_safety.proofs.Declaring.{keeps_one}
 use Rattle.jz_pipeline.specs.Placed.{IsPlaceable}
 use Rattle.jz_pipeline.proofs.Placeable.{placeable}

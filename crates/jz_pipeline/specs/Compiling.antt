@@ -20,11 +20,15 @@ use Rattle.jz_correct.specs.Assembled.{assembled}
 use Rattle.jz_lower.specs.Lowering.{insns_of}
 use Rattle.jz_lower.specs.Placing.{variable_of}
 
--- variables in these registers, one after the other; each is a word of 64 bits
+-- a variable in this register, a word of 64 bits
+abbrev pub line_of : Reg → Var → Arg
+line_of r x = record { name = x.name; size = S64; reg = r }
+
+-- variables in these registers, one after the other
 abbrev pub lines_of : List Reg → List Var → List Arg
 lines_of rs [] = []
 lines_of [] (x ∷ xs) = []
-lines_of (r ∷ rs) (x ∷ xs) = record { name = x.name; size = S64; reg = r } ∷ lines_of rs xs
+lines_of (r ∷ rs) (x ∷ xs) = line_of r x ∷ lines_of rs xs
 
 -- the instructions of a body, and the return
 abbrev pub code_insns : (List ℕ → Reg) → Fun → List Insn

@@ -1,3 +1,4 @@
+pub mod Limits
 pub mod Compiling
 pub mod Placed
 pub mod Stages

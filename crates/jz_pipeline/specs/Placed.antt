@@ -20,7 +20,8 @@ use Rattle.jz_pipeline.specs.declared.unplaced.Holder.{Holder}
 
 -- first fit of the function's variables comes to this
 abbrev pub ComesTo : Fun → Out → Type 0
-ComesTo f o = FirstFit (operations_of f) (code_of f).kinds (code_of f).in_use (LiveIn (operations_of f)) o
+ComesTo f o =
+    FirstFit (operations_of f) (code_of f).kinds (code_of f).in_use (LiveIn (operations_of f)) o
 
 -- its variables stand where first fit puts them
 pub record IsCompiled (f : Fun) (c : Compiled) : Type 0 where
@@ -40,12 +41,21 @@ abbrev pub name_at : List Var → ℕ → List ℕ
 name_at vs v = slice_index_or (map (λ x. x.name) vs) v []
 
 abbrev pub holder_of : List Var → numbered_holder.Holder → Holder
-holder_of vs h = record { place = h.place; variable = option_map (name_at vs) h.variable; span = h.span }
+holder_of vs h = record {
+  place = h.place;
+  variable = option_map (name_at vs) h.variable;
+  span = h.span;
+}
 
 abbrev pub refusal_of : List Var → numbered.NoPlace → NoPlace
-refusal_of vs n = record { variable = name_at vs n.variable; needs = n.needs; holders = map (holder_of vs) n.holders }
+refusal_of vs n = record {
+  variable = name_at vs n.variable;
+  needs = n.needs;
+  holders = map (holder_of vs) n.holders;
+}
 
--- first fit leaves the variable without a place: all its needs, and for each place that meets them what keeps it from there
+-- first fit leaves the variable without a place: all its needs, and for each place that meets them
+-- what keeps it from there
 pub record IsUnplaced (f : Fun) (n : NoPlace) : Type 0 where
   pub evidence : numbered.NoPlace
   pub is_evidence : IsEvidence (code_of f) (LiveIn (operations_of f)) evidence

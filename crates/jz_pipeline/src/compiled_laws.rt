@@ -5,7 +5,7 @@ ghost use Rattle.jz_first_tree.specs.declared.Program.{Program};
 ghost use Rattle.jz_first_tree.specs.declared.Fun.{Fun};
 ghost use Rattle.jz_first_types.specs.TypedPrograms.{HaveDifferentNames, HaveDeclarations, HaveCounts};
 ghost use Rattle.jz_first_parse.specs.Derived.{DeclaresWords};
-ghost use Rattle.jz_pass.specs.Limits.{IsWithinLimits};
+ghost use Rattle.jz_pipeline.specs.Limits.{IsWithinLimits};
 ghost use Rattle.jz_safety.specs.Alarms.{HasNoAlarm};
 ghost use Rattle.jz_safety.specs.Resolved.{IsResolved};
 ghost use Rattle.jz_first_tree.specs.Assignments.{AssignsToOne};
@@ -16,7 +16,8 @@ ghost use Rattle.jz_pipeline.specs.declared.unplaced.NoPlace.{NoPlace};
 
 /// What a function without an alarm becomes is correct for it.
 pub fn compiled_is_correct()
-    ensures { (p : Program) (f : Fun) (c : Compiled) → IsPlaceable f → IsResolved f → HasNoAlarm f → IsCompiled f c → IsCorrect p f c }
+    ensures { (p : Program) (f : Fun) (c : Compiled)
+        → IsPlaceable f → IsResolved f → HasNoAlarm f → IsCompiled f c → IsCorrect p f c }
 {}
 
 /// A function becomes one code alone.
@@ -31,6 +32,7 @@ pub fn never_both()
 
 /// A function of a typed program, over words of 64 bits and within the limits, can be placed.
 pub fn typed_functions_are_placeable()
-    ensures { (p : Program) (f : Fun) → HaveDifferentNames p → HaveDeclarations p → HaveCounts p → Contains p.funs f
+    ensures { (p : Program) (f : Fun)
+        → HaveDifferentNames p → HaveDeclarations p → HaveCounts p → Contains p.funs f
         → DeclaresWords f → IsWithinLimits f → All AssignsToOne f.body → IsPlaceable f }
 {}

@@ -44,7 +44,8 @@ fn placed(alloc: Global, fun: &Fun, places: &[Place]) -> Result<Compiled, AllocE
     })
 }
 
-/// The code of a function whose variables stand where first fit puts them, or the first that has no place there.
+/// The code of a function whose variables stand where first fit puts them, or the first that has
+/// no place there.
 pub fn compile_fun(alloc: Global, safe: &Safe) -> Result<Compiled, Failure<NoPlace>>
     requires { IsPlaceable safe.now.fun }
     ensures compiled { IfOk result (IsCompiled safe.now.fun) }

@@ -2,7 +2,6 @@
 
 ghost use Rattle.std.specs.Prelude.{◌≡◌, IfOk};
 
-use jz_data::Seq;
 use jz_first_tree::{Expr, Fun, Lval, Param, Ret, Rhs, Stmt, StmtKind, Var};
 use std::alloc::{AllocError, Global};
 
@@ -16,35 +15,11 @@ fn copy_var(var: &Var) -> Result<Var, AllocError>
     })
 }
 
-fn copy_vars(alloc: Global, vars: &Seq<Var>) -> Result<Seq<Var>, AllocError>
-    ensures { IfOk result (λ c. c ≡ vars.now) }
+fn copy_param(param: &Param) -> Result<Param, AllocError>
+    ensures { IfOk result (λ c. c ≡ param.now) }
 {
-    let mut copies = Seq::new(alloc);
-    for var in vars.as_slice() {
-        copies.push(copy_var(var)?)?;
-    }
-    Ok(copies)
-}
-
-fn copy_params(alloc: Global, params: &Seq<Param>) -> Result<Seq<Param>, AllocError>
-    ensures { IfOk result (λ c. c ≡ params.now) }
-{
-    let mut copies = Seq::new(alloc);
-    for param in params.as_slice() {
-        let var = copy_var(&param.var)?;
-        copies.push(Param { var })?;
-    }
-    Ok(copies)
-}
-
-fn copy_rets(alloc: Global, rets: &Seq<Ret>) -> Result<Seq<Ret>, AllocError>
-    ensures { IfOk result (λ c. c ≡ rets.now) }
-{
-    let mut copies = Seq::new(alloc);
-    for ret in rets.as_slice() {
-        copies.push(Ret { decl: ret.decl })?;
-    }
-    Ok(copies)
+    let var = copy_var(&param.var)?;
+    Ok(Param { var })
 }
 
 fn copy_expr(expr: &Expr) -> Result<Expr, AllocError>
@@ -64,16 +39,6 @@ fn copy_lval(to: &Lval) -> Result<Lval, AllocError>
     }
 }
 
-fn copy_lvals(alloc: Global, tos: &Seq<Lval>) -> Result<Seq<Lval>, AllocError>
-    ensures { IfOk result (λ c. c ≡ tos.now) }
-{
-    let mut copies = Seq::new(alloc);
-    for to in tos.as_slice() {
-        copies.push(copy_lval(to)?)?;
-    }
-    Ok(copies)
-}
-
 fn copy_rhs(rhs: &Rhs) -> Result<Rhs, AllocError>
     ensures { IfOk result (λ c. c ≡ rhs.now) }
 {
@@ -87,7 +52,7 @@ fn copy_kind(alloc: Global, kind: &StmtKind) -> Result<StmtKind, AllocError>
 {
     match kind {
         StmtKind::Assign { to, op, rhs } => {
-            let to = copy_lvals(alloc, to)?;
+            let to = to.try_map(alloc, copy_lval)?;
             Ok(StmtKind::Assign {
                 to,
                 op: *op,
@@ -97,28 +62,26 @@ fn copy_kind(alloc: Global, kind: &StmtKind) -> Result<StmtKind, AllocError>
     }
 }
 
-fn copy_stmts(alloc: Global, stmts: &Seq<Stmt>) -> Result<Seq<Stmt>, AllocError>
-    ensures { IfOk result (λ c. c ≡ stmts.now) }
+fn copy_stmt(alloc: Global, stmt: &Stmt) -> Result<Stmt, AllocError>
+    ensures { IfOk result (λ c. c ≡ stmt.now) }
 {
-    let mut copies = Seq::new(alloc);
-    for stmt in stmts.as_slice() {
-        let kind = copy_kind(alloc, &stmt.kind)?;
-        let span = stmt.span;
-        copies.push(Stmt { span, kind })?;
-    }
-    Ok(copies)
+    Ok(Stmt {
+        span: stmt.span,
+        kind: copy_kind(alloc, &stmt.kind)?,
+    })
 }
 
+/// The function itself, once more.
 pub(crate) fn copy_fun(alloc: Global, fun: &Fun) -> Result<Fun, AllocError>
     ensures { IfOk result (λ c. c ≡ fun.now) }
 {
     Ok(Fun {
         name: fun.name.clone()?,
         span: fun.span,
-        params: copy_params(alloc, &fun.params)?,
-        rets: copy_rets(alloc, &fun.rets)?,
-        vars: copy_vars(alloc, &fun.vars)?,
-        body: copy_stmts(alloc, &fun.body)?,
-        result: copy_vars(alloc, &fun.result)?,
+        params: fun.params.try_map(alloc, copy_param)?,
+        rets: fun.rets.try_map(alloc, |ret| Ok(Ret { decl: ret.decl }))?,
+        vars: fun.vars.try_map(alloc, copy_var)?,
+        body: fun.body.try_map(alloc, |stmt| copy_stmt(alloc, stmt))?,
+        result: fun.result.try_map(alloc, copy_var)?,
     })
 }

@@ -8,7 +8,7 @@ ghost use Rattle.jz_first_tree.specs.declared.Fun.{Fun};
 ghost use Rattle.jz_first_parse.specs.Deriving.{DerivesProgram};
 ghost use Rattle.jz_first_types.specs.Resolving.{resolved};
 ghost use Rattle.jz_first_types.specs.TypedPrograms.{HaveDifferentNames, HaveDeclarations, HaveCounts};
-ghost use Rattle.jz_pass.specs.Limits.{IsWithinLimits};
+ghost use Rattle.jz_pipeline.specs.Limits.{IsWithinLimits};
 ghost use Rattle.jz_safety.specs.Alarms.{HasNoAlarm};
 ghost use Rattle.jz_safety.specs.Resolved.{IsResolved};
 ghost use Rattle.jz_correct.specs.Correctness.{IsCorrect};
@@ -20,10 +20,12 @@ ghost use Rattle.jz_leak.specs.declared.transformer.Out.{Out};
 ghost use Rattle.jz_pipeline.specs.Addition.{addition, addition_alone, added, shows_more};
 ghost use Rattle.jz_pipeline.specs.Placed.{IsPlaceable};
 
-/// A function of assignments without an alarm, whose variables stand in registers that keep them apart: what it becomes
-/// in these registers is correct for it.
+/// A function of assignments without an alarm, whose variables stand in registers that keep them
+/// apart: what it becomes in these registers is correct for it.
 pub fn placed_is_correct()
-    ensures { (p : Program) (f : Fun) (register : List ℕ → Reg) → IsStraight f → IsPlacing register f → IsResolved f → HasNoAlarm f → IsCorrect p f (compiled_of register f) }
+    ensures { (p : Program) (f : Fun) (register : List ℕ → Reg)
+        → IsStraight f → IsPlacing register f → IsResolved f → HasNoAlarm f
+        → IsCorrect p f (compiled_of register f) }
 {}
 
 /// What a function becomes is correct with its own transformer alone, and with no frame.
@@ -37,15 +39,20 @@ pub fn no_other_is_correct()
         → IsCorrect p f (record (compiled_of register f) { frame = n }) → n ≡ 0 }
 {}
 
-/// The addition of two words becomes correct bytes. With one event more, or with a frame of 8 bytes, it is not correct.
+/// The addition of two words becomes correct bytes. With one event more, or with a frame of 8
+/// bytes, it is not correct.
 pub fn addition_is_told_apart()
     ensures correct { IsCorrect addition_alone addition (added (shows_more []) 0) }
-    ensures event { (o : Out) → IsCorrect addition_alone addition (added (shows_more (o ∷ [])) 0) → ⊥ }
+    ensures event { (o : Out)
+        → IsCorrect addition_alone addition (added (shows_more (o ∷ [])) 0) → ⊥ }
     ensures frame { IsCorrect addition_alone addition (added (shows_more []) 8) → ⊥ }
 {}
 
-/// The functions of a program that tokens derive can be placed, once they are typed and within their limits.
+/// The functions of a program that tokens derive can be placed, once they are typed and within
+/// their limits.
 pub fn read_functions_are_placeable()
-    ensures { (tokens : List Token) (read typed : Program) → DerivesProgram tokens read → typed ≡ resolved read
-        → HaveDifferentNames typed → HaveDeclarations typed → HaveCounts typed → All IsWithinLimits typed.funs → All IsPlaceable typed.funs }
+    ensures { (tokens : List Token) (read typed : Program)
+        → DerivesProgram tokens read → typed ≡ resolved read
+        → HaveDifferentNames typed → HaveDeclarations typed → HaveCounts typed
+        → All IsWithinLimits typed.funs → All IsPlaceable typed.funs }
 {}

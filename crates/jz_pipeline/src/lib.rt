@@ -7,6 +7,7 @@ mod compiling;
 mod copying;
 mod expanding;
 mod laws;
+mod limit_laws;
 mod limits;
 mod refusing;
 mod signature;
@@ -19,5 +20,7 @@ pub use compiled_laws::{
 pub use compiling::compile_fun;
 pub use expanding::expand;
 pub use laws::{placed_is_correct, read_functions_are_placeable};
+pub use limit_laws::{limit_or_none, no_limit_within, one_first_limit};
+pub use limits::{Limit, LimitKind, has_field};
 pub use stages::{compile_all, expand_all, safe_all};
 pub use unplaced::{Holder, NoPlace};

@@ -1,11 +1,11 @@
 //! The names of a variable without a place and of what holds its places.
 
-ghost use Rattle.std.specs.Prelude.{◌≡◌, IfOk, map, option_copied, slice_get};
+ghost use Rattle.std.specs.Prelude.{◌≡◌, IfOk, option_copied, slice_get};
 ghost use Rattle.jz_first_tree.specs.Variables.{variables_of};
 ghost use Rattle.jz_pipeline.specs.Placed.{name_at, holder_of, refusal_of};
 
 use crate::unplaced::{Holder, NoPlace};
-use jz_data::{Seq, Text};
+use jz_data::Text;
 use jz_first_tree::{Fun, Var};
 use std::alloc::{AllocError, Global};
 
@@ -19,6 +19,7 @@ fn variable(fun: &Fun, number: usize) -> Option<&Var>
     }
 }
 
+/// Its name.
 fn name(alloc: Global, fun: &Fun, number: u32) -> Result<Text, AllocError>
     ensures { IfOk result (λ name. name ≡ name_at (variables_of fun.now) number) }
 {
@@ -28,6 +29,7 @@ fn name(alloc: Global, fun: &Fun, number: u32) -> Result<Text, AllocError>
     }
 }
 
+/// A holder by the name of its variable.
 fn holder(alloc: Global, fun: &Fun, holder: &jz_alloc::Holder) -> Result<Holder, AllocError>
     ensures { IfOk result (λ named. named ≡ holder_of (variables_of fun.now) holder.now) }
 {
@@ -42,20 +44,6 @@ fn holder(alloc: Global, fun: &Fun, holder: &jz_alloc::Holder) -> Result<Holder,
     })
 }
 
-fn holders(
-    alloc: Global,
-    fun: &Fun,
-    holders: &[jz_alloc::Holder],
-) -> Result<Seq<Holder>, AllocError>
-    ensures { IfOk result (λ named. named ≡ map (holder_of (variables_of fun.now)) holders.now) }
-{
-    let mut named = Seq::new(alloc);
-    for one in holders {
-        named.push(holder(alloc, fun, one)?)?;
-    }
-    Ok(named)
-}
-
 /// The refusal, by the names of the function's variables.
 pub(crate) fn refusal(
     alloc: Global,
@@ -66,7 +54,9 @@ pub(crate) fn refusal(
 {
     Ok(NoPlace {
         variable: name(alloc, fun, refused.variable)?,
-        holders: holders(alloc, fun, refused.holders.as_slice())?,
+        holders: refused
+            .holders
+            .try_map(alloc, |one| holder(alloc, fun, one))?,
         needs: refused.needs,
     })
 }

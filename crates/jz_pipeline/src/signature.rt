@@ -1,10 +1,9 @@
 //! The parameters and results of a function, each in its register.
 
 ghost use Rattle.std.specs.Prelude.{◌≡◌, IfOk, map};
-ghost use Rattle.jz_words.specs.declared.size.Size.TheVariants.{S64};
 ghost use Rattle.jz_correct.specs.Registers.{argument_registers, result_registers};
 ghost use Rattle.jz_lower.specs.Placing.{variable_of};
-ghost use Rattle.jz_pipeline.specs.Compiling.{lines_of};
+ghost use Rattle.jz_pipeline.specs.Compiling.{line_of, lines_of};
 
 use jz_data::Seq;
 use jz_first_tree::{Param, Var};
@@ -14,8 +13,9 @@ use jz_words::Size;
 use std::alloc::{AllocError, Global};
 use x64_insn::Reg;
 
+/// The line of a variable in its register. Each variable of today is a word of 64 bits.
 fn line(var: &Var, reg: Reg) -> Result<Arg, AllocError>
-    ensures { IfOk result (λ line. line ≡ record { name = var.now.name; size = S64; reg = reg }) }
+    ensures { IfOk result (λ line. line ≡ line_of reg var.now) }
 {
     Ok(Arg {
         name: var.name.clone()?,
@@ -24,6 +24,7 @@ fn line(var: &Var, reg: Reg) -> Result<Arg, AllocError>
     })
 }
 
+/// The lines of the parameters.
 pub(crate) fn arguments(alloc: Global, params: &[Param]) -> Result<Seq<Arg>, AllocError>
     ensures { IfOk result (λ lines. lines ≡ lines_of argument_registers (map variable_of params.now)) }
 {
@@ -37,6 +38,7 @@ pub(crate) fn arguments(alloc: Global, params: &[Param]) -> Result<Seq<Arg>, All
     Ok(lines)
 }
 
+/// The lines of the results.
 pub(crate) fn results(alloc: Global, vars: &[Var]) -> Result<Seq<Arg>, AllocError>
     ensures { IfOk result (λ lines. lines ≡ lines_of result_registers vars.now) }
 {

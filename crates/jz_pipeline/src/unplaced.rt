@@ -14,7 +14,8 @@ pub struct Holder {
     pub span: Span,
 }
 
-/// The first variable without a place: its name, each of its needs, and what holds each place that meets them all.
+/// The first variable without a place: its name, each of its needs, and what holds each place that
+/// meets them all.
 #[derive(Drop, PartialEq, Eq)]
 pub struct NoPlace {
     pub variable: Text,

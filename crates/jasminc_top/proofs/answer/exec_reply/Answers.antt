@@ -6,14 +6,14 @@ use Rattle.jasminc_top.specs.declared.refusal.Refusal.TheVariants.{NoFunction}
 use Rattle.jasminc_top.specs.Making.{AreMade}
 use Rattle.jasminc_top.specs.Answers.{function_named, ExecCause, IsFirstCause}
 use Rattle.jasminc_top.proofs.TypedTexts.{text_written}
-use Rattle.jasminc_top.proofs.FirstCauses.{exec_reading_halts, exec_making_halts, function_first, items_first, run_done}
+use Rattle.jasminc_top.proofs.FirstCauses.{exec_reading_fails, exec_making_fails, function_first, items_first, run_done}
 use Rattle.jasminc_top.proofs.ExecHeadline.{run_ends, slice_fits}
 use Rattle.jasminc_top.proofs.answer.exec_reply.Goals as goal
 
 pub returns-in_err-typed : goal.returns-in_err-typed
 returns-in_err-typed c =
     let p = err_from_is_err_and c.from_residual.result c.from_residual.ensures.1 in
-    rw (p.1, p.2) (exec_reading_halts c.args.text.now c.args.fun.now c.args.items.now _ c.requires c.in_err-typed.ensures.halt)
+    rw (p.1, p.2) (exec_reading_fails c.args.file.now c.args.fun.now c.args.items.now c.args.text.now _ c.requires c.in_err-typed.ensures.refused)
 
 pub returns-in_default : goal.returns-in_default
 returns-in_default c =
@@ -33,7 +33,7 @@ returns-in_err-made c =
     let program = c.in_ok-typed.typed.program in
     let found = sym (c.function_named.ensures ∙ ap (function_named fun) (c.as_slice.ensures ∙ ap (λ p. p.funs) c.program.ensures)) ∙ ap option_copied c.in-Some.is in
     let p = err_from_is_err_and c.from_residual-in_err-made.result c.from_residual-in_err-made.ensures.1 in
-    rw (p.1, p.2) (exec_making_halts c.args.text.now fun c.args.items.now program c.in-Some.function.now _ c.requires c.in_ok-typed.ensures.program found c.in_err-made.ensures.halt)
+    rw (p.1, p.2) (exec_making_fails c.args.file.now fun c.args.items.now c.args.text.now program c.in-Some.function.now _ c.requires c.in_ok-typed.ensures.program found c.in_err-made.ensures.refused)
 
 pub returns-then-items-len : goal.returns-then-items-len
 returns-then-items-len c =
@@ -56,6 +56,6 @@ returns c =
     let fun = c.args.fun.now in
     let program = c.in_ok-typed.typed.program in
     let found = sym (c.function_named.ensures ∙ ap (function_named fun) (c.as_slice.ensures ∙ ap (λ p. p.funs) c.program.ensures)) ∙ ap option_copied c.in-Some.is in
-    let made : AreMade program.funs c.in_ok-run_reply.field-0.made = subst (λ (m : List Compiled). AreMade program.funs m) (sym c.in_ok-run_reply.ensures.1) c.in_ok-made.ensures.made in
+    let made : AreMade program.funs c.in_ok-run_reply.field-0.made = subst (λ (m : List Compiled). AreMade program.funs m) (sym c.in_ok-run_reply.ensures.made) c.in_ok-made.ensures.made in
     run_done c.args.file.now fun c.args.items.now c.args.text.now program c.in-Some.function.now _ _ _ c.requires
-    c.in_ok-typed.ensures.program made found (c.if-items-len.false ∙ c.len.ensures) c.in_ok-run_reply.ensures.0
+    c.in_ok-typed.ensures.program made found (c.if-items-len.false ∙ c.len.ensures) c.in_ok-run_reply.ensures.runs

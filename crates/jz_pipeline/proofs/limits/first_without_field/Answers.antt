@@ -3,7 +3,7 @@ use Rattle.std.specs.Prelude.{All}
 use Rattle.std.specs.List.{filter_map}
 use Rattle.std.proofs.lemmas.List.{take_all}
 use Rattle.jz_first_tree.specs.declared.Stmt.{Stmt}
-use Rattle.jz_pass.specs.Limits.{Constant, HasField, immediate_of, IsFirstWithout}
+use Rattle.jz_pipeline.specs.Limits.{HasOwnField, immediate_of, IsFirstWithout}
 use Rattle.jz_pipeline.proofs.LimitWalks.{first_here, next_here}
 use Rattle.jz_pipeline.proofs.limits.first_without_field.Goals as goal
 
@@ -11,7 +11,7 @@ pub returns-in-Some : goal.returns-in-Some
 returns-in-Some c =
     let told = c.in-Some.ensures
     in subst (λ (ss : List Stmt). IsFirstWithout (filter_map (λ s. immediate_of s.kind) ss) c.in-Some.span) c.as_slice-stmt-items.ensures
-    (first_here c.as_slice-stmt-items.result.now c.loop-stmt.stmt-index c.stmt-item.result told.0 c.in-Some.span c.loop-stmt-test.true c.stmt-item.is told.1 c.loop-stmt.invariant told.2)
+    (first_here c.as_slice-stmt-items.result.now c.loop-stmt.stmt-index c.stmt-item.result told.number c.in-Some.span c.loop-stmt-test.true c.stmt-item.is told.is c.loop-stmt.invariant told.none)
 
 pub loop-stmt-preserved : goal.loop-stmt-preserved
 loop-stmt-preserved c =
@@ -19,6 +19,6 @@ loop-stmt-preserved c =
 
 pub returns : goal.returns
 returns c =
-    subst (λ (ss : List Stmt). All (λ (k : Constant). HasField k.0) (filter_map (λ s. immediate_of s.kind) ss))
+    subst (λ (ss : List Stmt). All HasOwnField (filter_map (λ s. immediate_of s.kind) ss))
     (take_all c.loop-stmt.stmt-index c.as_slice-stmt-items.result.now c.loop-stmt-test.false ∙ c.as_slice-stmt-items.ensures)
     c.loop-stmt.invariant

@@ -3,7 +3,7 @@ use Rattle.std.specs.Prelude.{All}
 use Rattle.std.proofs.lemmas.List.Elements.{All-push}
 use Rattle.jz_data.specs.Failures.{IfRefused}
 use Rattle.jz_first_meaning.specs.declared.expanded.Expanded.{Expanded}
-use Rattle.jz_pass.specs.Limits.{count_of, IsFirstLimit}
+use Rattle.jz_pipeline.specs.Limits.{count_of, IsFirstLimit}
 use Rattle.jz_safety.proofs.Checking.{passed_on}
 use Rattle.jz_pipeline.specs.Stages.{IsFirstRefusal}
 use Rattle.jz_pipeline.proofs.Refusals.{limit_here, one_more_expanded, one_more_within}

@@ -1,6 +1,6 @@
 use Rattle.std.proofs.Common.{◌≡◌, take, map}
 use Rattle.std.specs.Prelude.{All}
-use Rattle.jz_pass.specs.Limits.{count_of, IsWithinLimits}
+use Rattle.jz_pipeline.specs.Limits.{count_of, IsWithinLimits}
 use Rattle.jz_pipeline.proofs.stages.expand_all.Given as goal
 
 abbrev pub invariant-loop-fun : goal.invariant-loop-fun

@@ -1,33 +1,31 @@
 -- One limit is passed first, or none.
 use Rattle.std.proofs.Common.{◌≡◌, ℕ, ◌<◌, ◌≤◌, ◌⊎◌, inl, inr, ℤ, List, [], ◌∷◌, ◌++◌, refl, sym, ap, ◌∙◌, subst, arith}
-use Rattle.std.specs.Prelude.{All, Contains, FitsSigned}
-use Rattle.std.specs.Int.{w32}
+use Rattle.std.specs.Prelude.{Bool, true, false, All, Contains}
 use Rattle.std.proofs.lemmas.List.Elements.{All-nil, All-cons, All-head, All-tail, All-contains, Contains-append_left, Contains-append_right, Contains-push}
-use lib.Signed.{mag}
+use Rattle.jz_words.specs.declared.size.Size.TheVariants.{S64}
+use Rattle.jz_words.specs.Readings.{reading_of, fits_bytes}
 use Rattle.jz_io.specs.declared.span.Span.{Span}
 use Rattle.jz_first_tree.specs.declared.Fun.{Fun}
-use Rattle.jz_pass.specs.declared.limit.Limit.{Limit}
-use Rattle.jz_pass.specs.declared.limit.LimitKind.{LimitKind}
-use Rattle.jz_pass.specs.declared.limit.LimitKind.TheVariants.{Expand, ImmRange}
-use Rattle.jz_pass.specs.Limits.{Constant, HasField, reading, count_of, immediates_of, IsFirstWithout, IsWithinLimits, Passes, IsFirstLimit}
-
-abbrev HasOwn : Constant → Type 0
-HasOwn c = HasField c.0
+use Rattle.jz_pipeline.specs.declared.limits.Limit.{Limit}
+use Rattle.jz_pipeline.specs.declared.limits.LimitKind.{LimitKind}
+use Rattle.jz_pipeline.specs.declared.limits.LimitKind.TheVariants.{Expand, ImmRange}
+use Rattle.jz_pipeline.specs.Limits.{Constant, HasField, HasOwnField, count_of, immediates_of, IsFirstWithout, IsWithinLimits, Passes, IsFirstLimit}
 
 -- the first of a list is one
 same_first : (front other : List Constant) (n m : ℤ) (a b : Span) (rest more : List Constant)
-    → front ++ (n, a) ∷ rest ≡ other ++ (m, b) ∷ more → All HasOwn front → All HasOwn other → (HasField n → ⊥) → (HasField m → ⊥) → a ≡ b
+    → front ++ (n, a) ∷ rest ≡ other ++ (m, b) ∷ more → All HasOwnField front → All HasOwnField other → (HasField n → ⊥) → (HasField m → ⊥) → a ≡ b
 same_first [] [] n m a b rest more e p q x y =
     let c : Constant = (n, a) in let d : Constant = (m, b) in let same : c ≡ d = cc in ap (λ (k : Constant). k.1) same
 same_first [] (c ∷ other) n m a b rest more e p q x y =
-    let same : c ≡ (n, a) = cc in absurd (x (subst HasOwn same (All-head HasOwn c other q)))
+    let same : c ≡ (n, a) = cc in absurd (x (subst HasOwnField same (All-head HasOwnField c other q)))
 same_first (c ∷ front) [] n m a b rest more e p q x y =
-    let same : c ≡ (m, b) = cc in absurd (y (subst HasOwn same (All-head HasOwn c front p)))
+    let same : c ≡ (m, b) = cc in absurd (y (subst HasOwnField same (All-head HasOwnField c front p)))
 same_first (c ∷ front) (d ∷ other) n m a b rest more e p q x y =
-    same_first front other n m a b rest more (cc) (All-tail HasOwn c front p) (All-tail HasOwn d other q) x y
+    same_first front other n m a b rest more (cc) (All-tail HasOwnField c front p) (All-tail HasOwnField d other q) x y
 
 one_place : (cs : List Constant) (a b : Span) → IsFirstWithout cs a → IsFirstWithout cs b → a ≡ b
-one_place cs a b p q = same_first p.0 q.0 p.1 q.1 a b p.2 q.2 (sym p.3 ∙ q.3) p.4 q.4 p.5 q.5
+one_place cs a b p q =
+    same_first p.front q.front p.number q.number a b p.rest q.rest (sym p.split ∙ q.split) p.earlier q.earlier p.none q.none
 
 one_passed : (f : Fun) (k j : LimitKind) (a b : Span) → Passes f k a → Passes f j b → (k ≡ j) × (a ≡ b)
 one_passed f Expand Expand a b p q = (refl, p.1 ∙ sym q.1)
@@ -51,8 +49,8 @@ held front c rest = Contains-append_right front (c ∷ rest) c (Contains-append_
 not_passed : (f : Fun) (k : LimitKind) (at : Span) → IsWithinLimits f → Passes f k at → ⊥
 not_passed f Expand at h p = omega (arith, h.0, p.0)
 not_passed f ImmRange at h p =
-    let first = p.1
-    in first.5 (All-contains HasOwn (first.0 ++ (first.1, at) ∷ first.2) (first.1, at) (subst (All HasOwn) first.3 h.1) (held first.0 (first.1, at) first.2))
+    let first = p.1 in let c : Constant = (first.number, at) in
+    first.none (All-contains HasOwnField (first.front ++ c ∷ first.rest) c (subst (All HasOwnField) first.split h.1) (held first.front c first.rest))
 
 pub none_within : (f : Fun) (l : Limit) → IsWithinLimits f → IsFirstLimit f l → ⊥
 none_within f l h p = not_passed f l.kind l.span h p.1
@@ -60,18 +58,32 @@ none_within f l h p = not_passed f l.kind l.span h p.1
 below : (a b : ℕ) → (a < b) ⊎ (b ≤ a)
 below a b = grind arith
 
-fits : (z : ℤ) → FitsSigned w32 z ⊎ (FitsSigned w32 z → ⊥)
-fits z = elim (below (mag z) 2147483648) [ inl h ↦ inl (record { sfits = h }) | inr h ↦ inr (λ f. omega (arith, h, f.sfits)) ]
+is_or_not : (b : Bool) → (b ≡ true) ⊎ (b ≡ true → ⊥)
+is_or_not true = inl refl
+is_or_not false = inr (λ e. cc)
 
-split : (cs : List Constant) → All HasOwn cs ⊎ ((at : Span) × IsFirstWithout cs at)
-split [] = inl (All-nil HasOwn)
+has_or_lacks : (n : ℤ) → HasField n ⊎ (HasField n → ⊥)
+has_or_lacks n = is_or_not (fits_bytes 4 (reading_of S64 n))
+
+one_later : (c : Constant) (cs : List Constant) (at : Span) → HasOwnField c → IsFirstWithout cs at → IsFirstWithout (c ∷ cs) at
+one_later c cs at h first = record {
+  front = c ∷ first.front;
+  number = first.number;
+  rest = first.rest;
+  split = ap (λ ds. c ∷ ds) first.split;
+  earlier = All-cons HasOwnField c first.front h first.earlier;
+  none = first.none;
+}
+
+split : (cs : List Constant) → All HasOwnField cs ⊎ ((at : Span) × IsFirstWithout cs at)
+split [] = inl (All-nil HasOwnField)
 split (c ∷ cs) =
-    elim (fits (reading c.0)) [
+    elim (has_or_lacks c.0) [
       | inl h ↦ elim (split cs) [
-        | inl all ↦ inl (All-cons HasOwn c cs h all)
-        | inr one ↦ inr (one.0, (c ∷ one.1.0, one.1.1, one.1.2, ap (λ ds. c ∷ ds) one.1.3, All-cons HasOwn c one.1.0 h one.1.4, one.1.5))
+        | inl all ↦ inl (All-cons HasOwnField c cs h all)
+        | inr one ↦ inr (one.0, one_later c cs one.0 h one.1)
       ]
-      | inr out ↦ inr (c.1, ([], c.0, cs, refl, All-nil HasOwn, out))
+      | inr out ↦ inr (c.1, record { front = []; number = c.0; rest = cs; split = refl; earlier = All-nil HasOwnField; none = out })
     ]
 
 pub none_or_first : (f : Fun) → IsWithinLimits f ⊎ ((l : Limit) × IsFirstLimit f l)

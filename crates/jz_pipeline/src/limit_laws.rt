@@ -1,13 +1,14 @@
-//! Laws of the definitions.
+//! Laws of the definitions of limits.
 
 ghost use Rattle.std.specs.Prelude.{◌≡◌, ◌⊎◌};
 ghost use Rattle.jz_first_tree.specs.declared.Fun.{Fun};
-ghost use Rattle.jz_pass.specs.declared.limit.Limit.{Limit};
-ghost use Rattle.jz_pass.specs.Limits.{IsWithinLimits, IsFirstLimit};
+ghost use Rattle.jz_pipeline.specs.declared.limits.Limit.{Limit};
+ghost use Rattle.jz_pipeline.specs.Limits.{IsWithinLimits, IsFirstLimit};
 
 /// A function passes one limit first at most.
 pub fn one_first_limit()
-    ensures { (fun : Fun) (limit other : Limit) → IsFirstLimit fun limit → IsFirstLimit fun other → limit ≡ other }
+    ensures { (fun : Fun) (limit other : Limit)
+        → IsFirstLimit fun limit → IsFirstLimit fun other → limit ≡ other }
 {}
 
 /// A function within its limits passes none.

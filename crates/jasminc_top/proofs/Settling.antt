@@ -1,0 +1,102 @@
+-- What the answer of all stages is, and what is due by it.
+use Rattle.std.proofs.Common.{◌≡◌, ℕ, ◌<◌, ◌≤◌, List, [], length, refl, sym, subst, arith, inl, inr, Option, Some, None}
+use Rattle.std.specs.Prelude.{Result, Ok, Err, codes}
+use Rattle.jz_data.specs.declared.failure.Failure.{Failure}
+use Rattle.jz_data.specs.declared.failure.Failure.TheVariants as failure
+use Rattle.jz_data.specs.Failures.{IfRefused, IfAnswered}
+use Rattle.jz_io.specs.Telling.{IsWhole}
+use Rattle.jz_listing.specs.declared.compiled.Compiled.{Compiled}
+use Rattle.jasminc_top.specs.declared.answer.Reply.{Reply}
+use Rattle.jasminc_top.specs.declared.run.Done.{Done}
+use Rattle.jasminc_top.specs.declared.refusal.Status.{Status}
+use Rattle.jasminc_top.specs.declared.refusal.Status.TheVariants as status
+use Rattle.jasminc_top.specs.declared.refusal.Refusal.{Refusal}
+use Rattle.jasminc_top.specs.declared.refusal.Refusal.TheVariants.{Usage, ReadFault, Source}
+use Rattle.jasminc_top.specs.Words.{Wanted, compile, exec, file_of}
+use Rattle.jasminc_top.specs.Refusals.{status_of, line_of, stage_of}
+use Rattle.jasminc_top.specs.Told.{SourceTold, SinkTold}
+use Rattle.jasminc_top.specs.Answers.{source_limit, Cause, Clear, IsUsage, IsFirstCause, HasText, HasFile, IsQuiet, FileRefuses, IsDone, After, Performs}
+use Rattle.jasminc_top.specs.Runs.{Run, Due, Runs, Writes, WritesRefusal, WritesNoMemory}
+use Rattle.jasminc_top.proofs.Rows.{never_usage, never_read_fault, gives_ok}
+
+-- ---- a text that was read settles the answer
+pub settled : (wish : Option Wanted) (told : SourceTold) (text : List ℕ) (answer : Result Reply (Failure Refusal)) → HasText wish told.files text
+    → IsWhole told.files_after → IsQuiet told → IfAnswered answer (After wish text) → IfAnswered answer (Performs wish told)
+settled wish told text (Ok reply) has whole quiet a = record { text = text; has = has; after = a; read = inl whole; quiet = quiet }
+settled wish told text (Err (failure.Refused ReadFault)) has whole quiet a = absurd (never_read_fault wish text a.cause)
+settled wish told text (Err (failure.Refused r)) has whole quiet a = record { text = text; has = has; after = a; read = inl whole; quiet = quiet }
+settled wish told text (Err failure.OutOfMemory) has whole quiet a = tt
+
+-- ---- a file that was not read
+long_cause : (wish : Wanted) (text : List ℕ) → source_limit < length text → Cause (Some wish) text Source
+long_cause (compile file) text long = long
+long_cause (exec file fun items) text long = long
+
+clear_file : (wish : Wanted) (text : List ℕ) → Clear (Cause (Some wish) text) 1
+clear_file wish text Usage lt c = never_usage wish text c
+clear_file wish text r lt c = absurd (omega (arith, lt))
+
+pub file_refused : (wish : Wanted) (told : SourceTold) (r : Refusal) → FileRefuses (file_of wish) told r → Performs (Some wish) told (Err r)
+file_refused wish told ReadFault h = h
+file_refused wish told Source h =
+    let cause = long_cause wish h.0.0 h.0.2 in
+    record {
+      text = h.0.0;
+      has = h.0.1;
+      after = record { cause = cause; first = clear_file wish h.0.0 };
+      read = inr (inr cause);
+      quiet = h.1;
+    }
+file_refused wish told r h = absurd h
+
+pub file_fails : (wish : Wanted) (told : SourceTold) (e : Failure Refusal) → IfRefused e (FileRefuses (file_of wish) told)
+    → IfAnswered {A = Reply} (Err e) (Performs (Some wish) told)
+file_fails wish told (failure.Refused r) h = file_refused wish told r h
+file_fails wish told failure.OutOfMemory h = tt
+
+-- ---- words that are no command
+pub no_command_settles : (told : SourceTold) → IsQuiet told → Performs None told (Err Usage)
+no_command_settles told quiet = record {
+  text = [];
+  has = refl;
+  after = record { cause = refl; first = λ r lt c. absurd (omega (arith, lt)) };
+  read = inr (inl tt);
+  quiet = quiet;
+}
+
+-- ---- what is due by an answer
+refusal_due : (wish : Option Wanted) (told : SourceTold) (r : Refusal) → Performs wish told (Err r) → Due wish told (status_of r) (line_of r) []
+refusal_due wish told ReadFault p = (refl, refl, p)
+refusal_due wish told r p = (
+  record {
+    text = p.text;
+    has = p.has;
+    answers = inl (record { refusal = r; cause = p.after.cause; first = p.after.first; status = refl; line = refl; none = refl });
+    read = p.read;
+  },
+  p.quiet,
+)
+
+pub reply_due : (wish : Option Wanted) (told : SourceTold) (reply : Reply) → Performs wish told (Ok reply) → Due wish told reply.status reply.text reply.made
+reply_due wish told reply p =
+    let ok = gives_ok p.after.command p.text reply.status reply.text reply.made p.after.gives in
+    let done = subst (λ (s : Status). IsDone wish p.text s reply.text reply.made) ok p.after in
+    let due : Due wish told status.Ok reply.text reply.made = (record { text = p.text; has = p.has; answers = inr done; read = p.read }, p.quiet) in
+    subst (λ (s : Status). Due wish told s reply.text reply.made) (sym ok) due
+
+-- ---- what a run leaves
+pub reply_runs : (run : Run) (reply : Reply) → Performs run.wish run.source (Ok reply) → Writes reply.status reply.text reply.made run.sink run.done → Runs run
+reply_runs run reply p w = record {
+  due = reply.status;
+  text = reply.text;
+  made = reply.made;
+  is_due = reply_due run.wish run.source reply p;
+  wrote = w;
+}
+
+pub memory_runs : (run : Run) → WritesNoMemory run.sink run.done → Runs run
+memory_runs run w = record { due = status.Memory; text = codes "out of memory\n"; made = []; is_due = (refl, refl); wrote = w }
+
+pub refusal_runs : (run : Run) (r : Refusal) → Performs run.wish run.source (Err r) → WritesRefusal r run.sink run.done → Runs run
+refusal_runs run r p (inl w) = record { due = status_of r; text = line_of r; made = []; is_due = refusal_due run.wish run.source r p; wrote = w }
+refusal_runs run r p (inr w) = memory_runs run w

@@ -1,0 +1,34 @@
+-- What the program promises of each of its runs.
+use Rattle.std.specs.Prelude.{◌≡◌, ◌≢◌, ◌⊎◌, []}
+use Rattle.jz_io.specs.Causes.{Rose}
+use Rattle.jasminc_top.specs.Refusals.{status_of}
+use Rattle.jasminc_top.specs.Answers.{IsQuiet}
+use Rattle.jasminc_top.specs.Runs.{Run, Runs, ComesOnly, Refuses, Completes, ReadsAll, IsFree}
+use Rattle.jasminc_top.specs.Headline.{Compiles, Executes}
+use Rattle.jasminc_top.specs.declared.refusal.Refusal.{Refusal}
+use Rattle.jasminc_top.specs.declared.refusal.Status.TheVariants as status
+
+pub record KeepsPromises (run : Run) : Type 0 where
+  -- The whole meaning: what was due, and that it was written.
+  pub runs : Runs run
+  -- What is printed at Ok is the listing of correct functions, one for each of the text.
+  pub compiles : run.done.status ≡ status.Ok → Compiles run.wish run.source run.sink run.done.made
+  -- What `exec` prints at Ok is the run of a correct function on the machine, from a start on the
+  -- items.
+  pub executes : run.done.status ≡ status.Ok → Executes run.wish run.source run.sink run.done.made
+  -- The status of a refusal comes only with its cause, and that of a write fault with one.
+  pub comes_only : (r : Refusal)
+      → run.done.status ≡ status_of r → ComesOnly run.wish run.source run.done.status
+  pub write_fault : run.done.status ≡ status.WriteFault → Rose run.sink.faults run.sink.faults_after
+  -- Where a cause stands its answer comes, or an earlier one with its cause, or a fault or want of
+  -- memory.
+  pub refused : Refuses run.wish run.source run.done.status
+  -- Where no cause stands the command gives what it promises, or a fault or want of memory comes.
+  pub complete : Completes run.wish run.source run.done.status
+  -- The file was read to its end.
+  pub read : ReadsAll run.wish run.source run.done.status
+  -- Where a count of faults rose, the status says so.
+  pub source_quiet : IsFree run.done.status ⊎ IsQuiet run.source
+  pub sink_quiet : (run.done.status ≡ status.WriteFault) ⊎ (run.sink.faults_after ≡ run.sink.faults)
+  -- What was made is told at Ok alone.
+  pub made : run.done.status ≢ status.Ok → run.done.made ≡ []
