@@ -7,7 +7,7 @@ ghost use Rattle.jz_meaning.specs.States as states;
 ghost use Rattle.jz_meaning.specs.Stores.{store_of};
 ghost use Rattle.jz_meaning.specs.Statements as statements;
 ghost use Rattle.jz_meaning.specs.Values.{cell_key, ref_of};
-ghost use Rattle.jz_passing.specs.Parts.{array_passed, array_back};
+ghost use Rattle.jz_passing.specs.Calls.{array_passed, array_back};
 
 use jz_assign::missing;
 use jz_data::Failure;

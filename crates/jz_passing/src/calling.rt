@@ -6,7 +6,7 @@ ghost use Rattle.jz_meaning.specs.Attempts.{Changes, numbers_first};
 ghost use Rattle.jz_meaning.specs.Stores.{state_of, store_of};
 ghost use Rattle.jz_meaning.specs.Statements as statements;
 ghost use Rattle.jz_passing.specs.Answers.{entered};
-ghost use Rattle.jz_passing.specs.Parts.{value_passed, argument_passed, entered_by, value_given, result_given, left_by};
+ghost use Rattle.jz_passing.specs.Calls.{value_passed, argument_passed, entered_by, value_given, result_given, left_by};
 
 use crate::arrays::{give_array_back, pass_array};
 use jz_assign::{held, missing, set, write};
