@@ -1,8 +1,11 @@
 -- What the code answers, without what it keeps of words.
-use Rattle.std.specs.Prelude.{ℕ, List, [], ◌∷◌, map, Option, Some, option_map, Result, Ok, Err}
+use Rattle.std.specs.Prelude.{◌≡◌, ℕ, List, [], ◌∷◌, map, Option, Some, option_map, Result, Ok, Err}
+use Rattle.jz_data.specs.declared.failure.Failure.{Failure}
+use Rattle.jz_data.specs.Failures.{IfAnswered}
 use Rattle.jz_words.specs.declared.word.Word.{Word}
 use Rattle.jz_meaning.specs.declared.value.Stuck.{Stuck}
 use Rattle.jz_meaning.specs.declared.value.Value as code
+use Rattle.jz_meaning.specs.Attempts.{Evaluation, did, numbers_first}
 use Rattle.jz_meaning.specs.States.{as_value}
 use Rattle.jz_meaning.specs.Assignments.{Results}
 
@@ -23,3 +26,14 @@ results_in (Err k) = Err k
 abbrev pub pair_in : Result (code.Value × code.Value) Stuck → Result Results Stuck
 pair_in (Ok p) = Ok (Some (as_value p.0) ∷ Some (as_value p.1) ∷ [])
 pair_in (Err k) = Err k
+
+-- ---- what the code promises, as the `Gives` of all attempts: of a word its bits, and of results what left sides get
+
+abbrev pub GivesBits : Result Word (Failure Stuck) → List ℕ → List ℕ → Evaluation ℕ → Type 0
+GivesBits result before now e = IfAnswered result (λ r. did now (bits_in r) ≡ numbers_first before e)
+
+abbrev pub GivesResults : Result (List (Option code.Value)) (Failure Stuck) → List ℕ → List ℕ → Evaluation Results → Type 0
+GivesResults result before now e = IfAnswered result (λ r. did now (results_in r) ≡ numbers_first before e)
+
+abbrev pub GivesSilently : Result (List (Option code.Value)) (Failure Stuck) → Evaluation Results → Type 0
+GivesSilently result e = (ns : List ℕ) → GivesResults result ns ns e

@@ -1,115 +1,109 @@
 //! Assignments of expressions.
 
-ghost use Rattle.std.specs.Prelude.{◌≡◌, IfOk};
-ghost use Rattle.jz_meaning.specs.Attempts.{did, seen, changed, numbers_first};
+ghost use Rattle.std.specs.Prelude.{◌≡◌, [], ◌∷◌, Some, IfOk};
+ghost use Rattle.std.specs.Option.{option_or};
+ghost use Rattle.jz_meaning.specs.Attempts.{Evaluates, Changes};
 ghost use Rattle.jz_meaning.specs.States.{as_value};
-ghost use Rattle.jz_meaning.specs.Stores.{state};
+ghost use Rattle.jz_meaning.specs.Stores.{state_of};
+ghost use Rattle.jz_meaning.specs.Values.{own_size};
 ghost use Rattle.jz_meaning.specs.Assignments as assignments;
-ghost use Rattle.jz_assign.specs.Answers.{meant, results_in};
+ghost use Rattle.jz_assign.specs.Answers.{meant, GivesResults};
 ghost use Rattle.jz_assign.specs.Rights.{right_side, IsCarry};
+ghost use Rattle.jz_assign.specs.Parts.{one_value, results_written, right_assigned, value_assigned};
 
 use crate::left::{left_size, left_sizes, missing, write_all};
 use crate::operands::truth_in;
 use crate::pairs::pair_results;
 use crate::reading::{read, right_value};
 use crate::right::{Right, place_of, right_of, right_size};
-use jz_data::Seq;
+use jz_data::{Failure, Seq};
 use jz_io::Span;
-use jz_leak::MemMap;
-use jz_meaning::{Store, Stuck, Value};
+use jz_meaning::{State, Stuck, Value};
 use jz_tree::{BinOp, Expr, Lval};
 use jz_words::Size;
 use std::alloc::{AllocError, Global};
 
-fn one_result(
-    alloc: Global,
-    right: Right<'_>,
-    size: Option<Size>,
-    store: &Store,
-    mem: &MemMap,
-    out: &mut Seq<u64>,
-) -> Result<Result<Seq<Option<Value>>, Stuck>, AllocError>
-    ensures { IfOk result (λ r. did out.new (results_in r) ≡ numbers_first out.old (and_then (evaluated (right_side right.entry) size (state store.now mem.now)) (λ v. went [] (Some v ∷ [])))) }
-{
-    match right_value(alloc, right, size, store, mem, out)? {
-        Err(stuck) => Ok(Err(stuck)),
-        Ok(value) => {
-            let results = Seq::from_slice(alloc, &[Some(value)])?;
-            Ok(Ok(results))
-        }
-    }
+/// An assignment but for its right side: `to = ..` or `to op= ..`, and with a condition only where that holds.
+#[derive(Clone, Copy)]
+pub struct Assignment<'a> {
+    pub to: &'a Seq<Lval>,
+    pub op: Option<BinOp>,
+    pub cond: &'a Option<Expr>,
+    pub span: Span,
 }
 
-ghost use Rattle.std.specs.Prelude.{[], ◌∷◌, Some};
-ghost use Rattle.jz_runs.specs.Rules.{went};
-ghost use Rattle.jz_meaning.specs.Attempts.{and_then};
-ghost use Rattle.jz_meaning.specs.Values.{evaluated};
+fn one_result(
+    right: Right<'_>,
+    size: Option<Size>,
+    state: &State,
+    out: &mut Seq<u64>,
+) -> Result<Seq<Option<Value>>, Failure<Stuck>>
+    ensures { GivesResults result out.old out.new (one_value (right_side right.entry) size (state_of state.now)) }
+{
+    let value = right_value(right, size, state, out)?;
+    let results = Seq::from_slice(out.allocator(), &[Some(value)])?;
+    Ok(results)
+}
 
-// The right side, by the number of left sides.
+/// The right side, by the number of left sides.
 fn results_of(
-    alloc: Global,
     to: &Seq<Lval>,
     right: Right<'_>,
     span: Span,
     size: Option<Size>,
-    store: &Store,
-    mem: &MemMap,
+    state: &State,
     out: &mut Seq<u64>,
-) -> Result<Result<Seq<Option<Value>>, Stuck>, AllocError>
+) -> Result<Seq<Option<Value>>, Failure<Stuck>>
     requires { IsCarry right }
-    ensures { IfOk result (λ r. did out.new (results_in r) ≡ numbers_first out.old (assignments.results_of to.now (right_side right.entry) span size (state store.now mem.now))) }
+    ensures { GivesResults result out.old out.new (assignments.results_of to.now (right_side right.entry) span size (state_of state.now)) }
 {
     match to.as_slice() {
-        [] => Ok(Err(missing(span))),
+        [] => Err(Failure::Refused(missing(span))),
         [_] => {
-            let answer = one_result(alloc, right, size, store, mem, out)?;
-            Ok(answer)
+            let results = one_result(right, size, state, out)?;
+            Ok(results)
         }
         [_, _] => {
-            let answer = pair_results(alloc, right, span, size, store, mem, out)?;
-            Ok(answer)
+            let results = pair_results(right, span, size, state, out)?;
+            Ok(results)
         }
-        [_, _, _, ..] => Ok(Err(missing(span))),
+        [_, _, _, ..] => Err(Failure::Refused(missing(span))),
     }
 }
 
 fn old_of(
-    alloc: Global,
     left: &Lval,
     span: Span,
-    store: &Store,
-    mem: &MemMap,
+    state: &State,
     out: &mut Seq<u64>,
-) -> Result<Result<Value, Stuck>, AllocError>
-    ensures { IfOk result (λ r. seen out.new r ≡ numbers_first out.old (assignments.old_value (left.now ∷ []) span (state store.now mem.now))) }
+) -> Result<Value, Failure<Stuck>>
+    ensures { Evaluates result out.old out.new (assignments.old_value (left.now ∷ []) span (state_of state.now)) }
 {
     match place_of(left) {
-        None => Ok(Err(missing(span))),
+        None => Err(Failure::Refused(missing(span))),
         Some(place) => {
-            let answer = read(alloc, place, left_size(left), store, mem, out)?;
-            Ok(answer)
+            let value = read(place, left_size(left), state, out)?;
+            Ok(value)
         }
     }
 }
 
-// What the one left side has.
+/// What the one left side has.
 fn old_value(
-    alloc: Global,
     to: &Seq<Lval>,
     span: Span,
-    store: &Store,
-    mem: &MemMap,
+    state: &State,
     out: &mut Seq<u64>,
-) -> Result<Result<Value, Stuck>, AllocError>
-    ensures { IfOk result (λ r. seen out.new r ≡ numbers_first out.old (assignments.old_value to.now span (state store.now mem.now))) }
+) -> Result<Value, Failure<Stuck>>
+    ensures { Evaluates result out.old out.new (assignments.old_value to.now span (state_of state.now)) }
 {
     match to.as_slice() {
-        [] => Ok(Err(missing(span))),
+        [] => Err(Failure::Refused(missing(span))),
         [left] => {
-            let answer = old_of(alloc, left, span, store, mem, out)?;
-            Ok(answer)
+            let value = old_of(left, span, state, out)?;
+            Ok(value)
         }
-        [_, _, ..] => Ok(Err(missing(span))),
+        [_, _, ..] => Err(Failure::Refused(missing(span))),
     }
 }
 
@@ -128,128 +122,98 @@ fn chosen(
     }
 }
 
-// The condition is read behind the operand, and then the old value, whatever the condition is.
+/// The condition is read behind the operand, and then the old value, whatever the condition is.
 fn conditioned(
-    alloc: Global,
     to: &Seq<Lval>,
     cond: &Expr,
     span: Span,
     values: Seq<Option<Value>>,
-    store: &Store,
-    mem: &MemMap,
+    state: &State,
     out: &mut Seq<u64>,
-) -> Result<Result<Seq<Option<Value>>, Stuck>, AllocError>
-    ensures { IfOk result (λ r. did out.new (results_in r) ≡ numbers_first out.old (assignments.conditioned to.now (Some cond.now) span (meant values) (state store.now mem.now))) }
+) -> Result<Seq<Option<Value>>, Failure<Stuck>>
+    ensures { GivesResults result out.old out.new (assignments.conditioned to.now (Some cond.now) span (meant values) (state_of state.now)) }
 {
-    match truth_in(alloc, span, cond, store, mem, out)? {
-        Err(stuck) => Ok(Err(stuck)),
-        Ok(holds) => match old_value(alloc, to, span, store, mem, out)? {
-            Err(stuck) => Ok(Err(stuck)),
-            Ok(old) => {
-                let values = chosen(alloc, holds, values, old)?;
-                Ok(Ok(values))
-            }
-        },
-    }
+    let holds = truth_in(span, cond, state, out)?;
+    let old = old_value(to, span, state, out)?;
+    let values = chosen(out.allocator(), holds, values, old)?;
+    Ok(values)
 }
 
 fn where_conditioned(
-    alloc: Global,
-    to: &Seq<Lval>,
-    cond: &Option<Expr>,
-    span: Span,
+    assignment: Assignment<'_>,
     values: Seq<Option<Value>>,
-    store: &Store,
-    mem: &MemMap,
+    state: &State,
     out: &mut Seq<u64>,
-) -> Result<Result<Seq<Option<Value>>, Stuck>, AllocError>
-    ensures { IfOk result (λ r. did out.new (results_in r) ≡ numbers_first out.old (assignments.conditioned to.now cond.now span (meant values) (state store.now mem.now))) }
+) -> Result<Seq<Option<Value>>, Failure<Stuck>>
+    ensures { GivesResults result out.old out.new (assignments.conditioned assignment.to.now assignment.cond.now assignment.span (meant values) (state_of state.now)) }
 {
-    match cond {
-        None => Ok(Ok(values)),
+    match assignment.cond {
+        None => Ok(values),
         Some(cond) => {
-            let answer = conditioned(alloc, to, cond, span, values, store, mem, out)?;
-            Ok(answer)
+            let values =
+                conditioned(assignment.to, cond, assignment.span, values, state, out)?;
+            Ok(values)
         }
     }
 }
 
-// The size of an assignment: that of its left sides, or else of its right side.
+/// The size of an assignment: that of its left sides, or else of its right side.
 fn assigned_size(to: &Seq<Lval>, right: Right<'_>) -> Option<Size>
     ensures { result ≡ option_or (assignments.left_sizes to.now) (own_size (right_side right.entry)) }
 {
     left_sizes(to).or(right_size(right))
 }
 
-ghost use Rattle.std.specs.Option.{option_or};
-ghost use Rattle.jz_meaning.specs.Values.{own_size};
-
-// The results, or under a condition what is chosen, are written.
+/// The results, or under a condition what is chosen, are written.
 fn write_results(
-    alloc: Global,
-    to: &Seq<Lval>,
+    assignment: Assignment<'_>,
     values: Seq<Option<Value>>,
-    cond: &Option<Expr>,
-    span: Span,
     size: Option<Size>,
-    store: &mut Store,
-    mem: &mut MemMap,
+    state: &mut State,
     out: &mut Seq<u64>,
-) -> Result<Result<(), Stuck>, AllocError>
-    ensures { IfOk result (λ r. changed out.new (state store.new mem.new) r ≡ numbers_first out.old (and_then (assignments.conditioned to.now cond.now span (meant values) (state store.old mem.old)) (λ ws. assignments.all_written span size to.now ws (state store.old mem.old)))) }
+) -> Result<(), Failure<Stuck>>
+    ensures { Changes result out.old out.new (state_of state.new) (results_written assignment.entry size (meant values) (state_of state.old)) }
 {
-    match where_conditioned(alloc, to, cond, span, values, store, mem, out)? {
-        Err(stuck) => Ok(Err(stuck)),
-        Ok(values) => {
-            let answer = write_all(alloc, span, size, to, values.as_slice(), store, mem, out)?;
-            Ok(answer)
-        }
-    }
+    let values = where_conditioned(assignment, values, state, out)?;
+    let Assignment {
+        to,
+        op: _,
+        cond: _,
+        span,
+    } = assignment;
+    write_all(span, size, to, values.as_slice(), state, out)?;
+    Ok(())
 }
 
 fn assign_right(
-    alloc: Global,
-    to: &Seq<Lval>,
+    assignment: Assignment<'_>,
     right: Right<'_>,
-    cond: &Option<Expr>,
-    span: Span,
-    store: &mut Store,
-    mem: &mut MemMap,
+    state: &mut State,
     out: &mut Seq<u64>,
-) -> Result<Result<(), Stuck>, AllocError>
+) -> Result<(), Failure<Stuck>>
     requires { IsCarry right }
-    ensures { IfOk result (λ r. changed out.new (state store.new mem.new) r ≡ numbers_first out.old (assignments.assigned_whole to.now (Some (right_side right.entry)) cond.now span (state store.old mem.old))) }
+    ensures { Changes result out.old out.new (state_of state.new) (right_assigned assignment.entry (right_side right.entry) (state_of state.old)) }
 {
-    let size = assigned_size(to, right);
-    match results_of(alloc, to, right, span, size, store, mem, out)? {
-        Err(stuck) => Ok(Err(stuck)),
-        Ok(values) => {
-            let answer = write_results(alloc, to, values, cond, span, size, store, mem, out)?;
-            Ok(answer)
-        }
-    }
+    let size = assigned_size(assignment.to, right);
+    let values = results_of(assignment.to, right, assignment.span, size, state, out)?;
+    write_results(assignment, values, size, state, out)?;
+    Ok(())
 }
 
-/// An assignment of an expression, `to = value` or `to op= value`, and with a condition only where that holds. Its numbers are appended
-/// to `out` in the order of evaluation.
+/// An assignment of an expression. Its numbers are appended to `out` in the order of evaluation.
 pub fn assign(
-    alloc: Global,
-    to: &Seq<Lval>,
-    op: Option<BinOp>,
+    assignment: Assignment<'_>,
     value: &Expr,
-    cond: &Option<Expr>,
-    span: Span,
-    store: &mut Store,
-    mem: &mut MemMap,
+    state: &mut State,
     out: &mut Seq<u64>,
-) -> Result<Result<(), Stuck>, AllocError>
-    ensures { IfOk result (λ r. changed out.new (state store.new mem.new) r ≡ numbers_first out.old (assignments.assigned to.now op value.now cond.now span (state store.old mem.old))) }
+) -> Result<(), Failure<Stuck>>
+    ensures { Changes result out.old out.new (state_of state.new) (value_assigned assignment.entry value.now (state_of state.old)) }
 {
-    match right_of(to, op, value) {
-        None => Ok(Err(missing(span))),
+    match right_of(assignment.to, assignment.op, value) {
+        None => Err(Failure::Refused(missing(assignment.span))),
         Some(right) => {
-            let answer = assign_right(alloc, to, right, cond, span, store, mem, out)?;
-            Ok(answer)
+            assign_right(assignment, right, state, out)?;
+            Ok(())
         }
     }
 }

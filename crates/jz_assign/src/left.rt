@@ -1,23 +1,21 @@
 //! Left sides: their sizes, and how they are written.
 
-ghost use Rattle.std.specs.Prelude.{◌≡◌, IfOk, List, ℕ, map, option_map};
-ghost use Rattle.jz_words.specs.Memory.{Memory};
-ghost use Rattle.jz_meaning.specs.Attempts.{seen, changed, numbers_first, and_then};
-ghost use Rattle.jz_meaning.specs.States.{as_value};
-ghost use Rattle.jz_meaning.specs.Stores.{state};
-ghost use Rattle.jz_meaning.specs.Values as values;
-ghost use Rattle.jz_meaning.specs.Values.{ref_of, index_at};
+ghost use Rattle.std.specs.Prelude.{◌≡◌, List, ℕ, map, Some, option_map, OnOk};
+ghost use Rattle.jz_meaning.specs.Attempts.{seen, numbers_first, Changes, ChangesSilently};
+ghost use Rattle.jz_meaning.specs.States.{as_value, put};
+ghost use Rattle.jz_meaning.specs.Stores.{state_of, store_of};
+ghost use Rattle.jz_meaning.specs.Values.{ref_of, cell_key};
 ghost use Rattle.jz_meaning.specs.Assignments as assignments;
 ghost use Rattle.jz_meaning.specs.declared.value.Why.TheVariants.{Init};
+ghost use Rattle.jz_assign.specs.Parts.{variable_written, cell_written};
 
 use crate::variables::set;
-use jz_data::Seq;
+use jz_data::{Failure, Seq};
 use jz_io::Span;
-use jz_leak::MemMap;
-use jz_meaning::{Kind, Store, Stuck, Value, Why, evaluate, index, kind_of, size_of, word_of};
+use jz_meaning::{Kind, State, Store, Stuck, Value, Why, evaluate, index, kind_of, size_of, word_of};
 use jz_tree::{Lval, Var};
 use jz_words::Size;
-use std::alloc::{AllocError, Global};
+use std::alloc::AllocError;
 
 /// Stuck at that place for Init: a variable, cell or operand has no value of the sort that is wanted.
 pub fn missing(span: Span) -> Stuck
@@ -54,7 +52,7 @@ pub fn left_sizes(to: &Seq<Lval>) -> Option<Size>
     None
 }
 
-// What a word of a size holds of a value.
+/// What a word of a size holds of a value.
 fn word_held(span: Span, size: Size, value: Value) -> Result<Value, Stuck>
     ensures { (ns : List ℕ) → seen ns result ≡ numbers_first ns (assignments.word_value span size (as_value value)) }
 {
@@ -91,121 +89,101 @@ fn var_span(var: &Var) -> Span
     var.span
 }
 
-fn put_cell(var: &Var, index: u64, value: Value, store: &mut Store) -> Result<(), AllocError>
+fn put_cell(
+    var: &Var,
+    index: u64,
+    value: Value,
+    store: &mut Store,
+) -> Result<(), AllocError>
     ensures { OnOk result (store_of store.new ≡ put (store_of store.old) (cell_key (ref_of var.now) index) (Some (as_value value))) }
 {
     store.put(&var.name, var.copy, Some(index), Some(value))
 }
 
-ghost use Rattle.std.specs.Prelude.{OnOk, Some, None};
-ghost use Rattle.jz_tree.specs.declared.stmt.Lval.TheVariants as lval;
-ghost use Rattle.jz_meaning.specs.States.{put};
-ghost use Rattle.jz_meaning.specs.Stores.{store_of};
-ghost use Rattle.jz_meaning.specs.Values.{cell_key};
-
 fn write_variable(
     var: &Var,
     value: Option<Value>,
-    store: &mut Store,
-) -> Result<Result<(), Stuck>, AllocError>
-    ensures { IfOk result (λ r. (ns : List ℕ) (m : Memory) → changed ns (state store.new m) r ≡ numbers_first ns (assignments.written None (lval.Var var.now) (option_map as_value value) (state store.old m))) }
+    state: &mut State,
+) -> Result<(), Failure<Stuck>>
+    ensures { ChangesSilently result (state_of state.new) (variable_written var.now (option_map as_value value) (state_of state.old)) }
 {
     match value {
         None => {
-            set(var, None, store)?;
-            Ok(Ok(()))
+            set(var, None, &mut state.store)?;
+            Ok(())
         }
-        Some(value) => match held(var_span(var), kind_of(var), value) {
-            Err(stuck) => Ok(Err(stuck)),
-            Ok(value) => {
-                set(var, Some(value), store)?;
-                Ok(Ok(()))
-            }
-        },
+        Some(value) => {
+            let value = held(var_span(var), kind_of(var), value)?;
+            set(var, Some(value), &mut state.store)?;
+            Ok(())
+        }
     }
 }
 
-// The cell of an array gets a word of this size.
+/// The cell of an array gets a word of this size.
 fn write_cell(
     var: &Var,
     index: u64,
     size: Option<Size>,
     value: Option<Value>,
-    store: &mut Store,
-) -> Result<Result<(), Stuck>, AllocError>
-    ensures { IfOk result (λ r. (ns : List ℕ) (m : Memory) → changed ns (state store.new m) r ≡ numbers_first ns (assignments.in_cell (ref_of var.now) index size (option_map as_value value) (state store.old m))) }
+    state: &mut State,
+) -> Result<(), Failure<Stuck>>
+    ensures { ChangesSilently result (state_of state.new) (assignments.in_cell (ref_of var.now) index size (option_map as_value value) (state_of state.old)) }
 {
     match size {
-        None => Ok(Err(missing(var.span))),
+        None => Err(Failure::Refused(missing(var.span))),
         Some(size) => match value {
-            None => Ok(Err(missing(var.span))),
-            Some(value) => match word_held(var_span(var), size, value) {
-                Err(stuck) => Ok(Err(stuck)),
-                Ok(value) => {
-                    put_cell(var, index, value, store)?;
-                    Ok(Ok(()))
-                }
-            },
+            None => Err(Failure::Refused(missing(var.span))),
+            Some(value) => {
+                let value = word_held(var_span(var), size, value)?;
+                put_cell(var, index, value, &mut state.store)?;
+                Ok(())
+            }
         },
     }
 }
 
-// The same where the index is a value, which is appended to `out`.
+/// The same where the index is a value, which is appended to `out`.
 fn write_at(
     var: &Var,
     at: Value,
     value: Option<Value>,
-    store: &mut Store,
+    state: &mut State,
     out: &mut Seq<u64>,
-) -> Result<Result<(), Stuck>, AllocError>
-    ensures { IfOk result (λ r. (m : Memory) → changed out.new (state store.new m) r ≡ numbers_first out.old (and_then (index_at (ref_of var.now) (as_value at)) (λ n. assignments.in_cell (ref_of var.now) n (values.size_of (ref_of var.now).kind) (option_map as_value value) (state store.old m)))) }
+) -> Result<(), Failure<Stuck>>
+    ensures { Changes result out.old out.new (state_of state.new) (cell_written var.now (as_value at) (option_map as_value value) (state_of state.old)) }
 {
-    match index(var, at, out)? {
-        Err(stuck) => Ok(Err(stuck)),
-        Ok(index) => {
-            let size = size_of(kind_of(var));
-            let answer = write_cell(var, index, size, value, store)?;
-            Ok(answer)
-        }
-    }
+    let index = index(var, at, out)?;
+    write_cell(var, index, size_of(kind_of(var)), value, state)?;
+    Ok(())
 }
 
 /// Writes a value to a left side, or takes away what it has; an index or address is evaluated first and appended to `out`. `size` is the
 /// size of the other side.
 pub fn write(
-    alloc: Global,
     size: Option<Size>,
     to: &Lval,
     value: Option<Value>,
-    store: &mut Store,
-    mem: &mut MemMap,
+    state: &mut State,
     out: &mut Seq<u64>,
-) -> Result<Result<(), Stuck>, AllocError>
-    ensures { IfOk result (λ r. changed out.new (state store.new mem.new) r ≡ numbers_first out.old (assignments.written size to.now (option_map as_value value) (state store.old mem.old))) }
+) -> Result<(), Failure<Stuck>>
+    ensures { Changes result out.old out.new (state_of state.new) (assignments.written size to.now (option_map as_value value) (state_of state.old)) }
 {
     match to {
-        Lval::Skip(_) => Ok(Ok(())),
+        Lval::Skip(_) => Ok(()),
         Lval::Var(var) => {
-            let answer = write_variable(var, value, store)?;
-            Ok(answer)
+            write_variable(var, value, state)?;
+            Ok(())
         }
         Lval::Cell(var, at) => {
-            match evaluate(alloc, at.get(), Some(Size::S64), store, mem, out)? {
-                Err(stuck) => Ok(Err(stuck)),
-                Ok(index) => {
-                    let answer = write_at(var, index, value, store, out)?;
-                    Ok(answer)
-                }
-            }
+            let index = evaluate(at.get(), Some(Size::S64), state, out)?;
+            write_at(var, index, value, state, out)?;
+            Ok(())
         }
         Lval::Store(access) => {
-            match evaluate(alloc, access.at.get(), Some(Size::S64), store, mem, out)? {
-                Err(stuck) => Ok(Err(stuck)),
-                Ok(address) => {
-                    let answer = jz_meaning::write(access, size, address, value, mem, out)?;
-                    Ok(answer)
-                }
-            }
+            let address = evaluate(access.at.get(), Some(Size::S64), state, out)?;
+            jz_meaning::write(access, size, address, value, &mut state.memory, out)?;
+            Ok(())
         }
     }
 }
@@ -213,26 +191,21 @@ pub fn write(
 /// Writes values to left sides from left to right, each before the next is evaluated; stuck for Init at `span` where they are not as
 /// many.
 pub fn write_all(
-    alloc: Global,
     span: Span,
     size: Option<Size>,
     to: &Seq<Lval>,
     values: &[Option<Value>],
-    store: &mut Store,
-    mem: &mut MemMap,
+    state: &mut State,
     out: &mut Seq<u64>,
-) -> Result<Result<(), Stuck>, AllocError>
-    ensures { IfOk result (λ r. changed out.new (state store.new mem.new) r ≡ numbers_first out.old (assignments.all_written span size to.now (map (option_map as_value) values.now) (state store.old mem.old))) }
+) -> Result<(), Failure<Stuck>>
+    ensures { Changes result out.old out.new (state_of state.new) (assignments.all_written span size to.now (map (option_map as_value) values.now) (state_of state.old)) }
 {
     for (left, value) in to.as_slice().iter().zip(values.iter()) {
-        match write(alloc, size, left, *value, store, mem, out)? {
-            Err(stuck) => return Ok(Err(stuck)),
-            Ok(()) => {}
-        }
+        write(size, left, *value, state, out)?;
     }
     if to.len() == values.len() {
-        Ok(Ok(()))
+        Ok(())
     } else {
-        Ok(Err(missing(span)))
+        Err(Failure::Refused(missing(span)))
     }
 }

@@ -9,7 +9,7 @@ mod reading;
 mod right;
 mod variables;
 
-pub use assigning::assign;
+pub use assigning::{Assignment, assign};
 pub use left::{held, left_sizes, missing, write, write_all};
 pub use operands::{truth_in, word_in};
 pub use variables::{set, unset, value_of};

@@ -109,7 +109,7 @@ pub(crate) fn carries(op: BinOp, other: BinOp) -> bool
     }
 }
 
-// Whether the flag is the carry of a sum, or the borrow of a difference.
+/// Whether the flag is the carry of a sum, or the borrow of a difference.
 fn is_carry(op: BinOp, other: BinOp, flag: &Expr) -> bool
     ensures value { result ≡ (assignments.carries op other && assignments.is_flag flag.now) }
     ensures turned { IsTrue result → (assignments.carries other op ≡ true) × (assignments.is_flag flag.now ≡ true) }

@@ -9,7 +9,7 @@ use jz_meaning::{Store, Value};
 use jz_tree::Var;
 use std::alloc::AllocError;
 
-// Which cell of an array a variable is, where arrays became scalars.
+/// Which cell of an array a variable is, where arrays became scalars.
 fn cell_of(var: &Var) -> Option<u64>
     ensures { result ≡ (ref_of var.now).cell }
 {

@@ -1,3 +1,4 @@
+pub mod Accesses
 pub mod Assignments
 pub mod Attempts
 pub mod CutLaws

@@ -2,8 +2,8 @@
 use Rattle.std.specs.Prelude.{ℕ, Bool, ◌==◌, ◌&&◌, List, Option, Some, None, option_map}
 use Rattle.std.specs.Str.{bytes_eq}
 use Rattle.indexmap.specs.IndexMap.{IndexMap, get}
-use Rattle.jz_words.specs.Memory.{Memory}
 use Rattle.jz_meaning.specs.declared.store.Store as code
+use Rattle.jz_meaning.specs.declared.state.State as code_state
 use Rattle.jz_meaning.specs.declared.value.Value as value
 use Rattle.jz_meaning.specs.declared.store.Place.{Place}
 use Rattle.jz_meaning.specs.States as states
@@ -29,5 +29,5 @@ abbrev pub key_of : List ℕ → Place → states.Key
 key_of n p = record { name = n; copy = p.copy; cell = p.cell }
 
 -- where a run of the code stands
-abbrev pub state : code.Store → Memory → states.State
-state s m = record { store = store_of s; memory = m }
+abbrev pub state_of : code_state.State → states.State
+state_of s = record { store = store_of s.store; memory = s.memory }

@@ -1,9 +1,11 @@
 //! Accesses to arrays and to memory.
 
-ghost use Rattle.std.specs.Prelude.{◌≡◌, ◌%◌, ◌==◌, IfOk, ℕ, List};
-ghost use Rattle.jz_words.specs.Memory.{loaded};
-ghost use Rattle.jz_words.specs.Sizes.{bytes_of};
-ghost use Rattle.jz_meaning.specs.Attempts.{did, seen, numbers_first, and_then};
+ghost use Rattle.std.specs.Prelude.{◌≡◌, ◌<◌, ℕ, List, Some, option_map};
+ghost use Rattle.std.specs.Option.{option_or};
+ghost use Rattle.jz_words.specs.Memory.{all_valid};
+ghost use Rattle.jz_words.specs.Sizes.{bytes_of, modulus};
+ghost use Rattle.jz_meaning.specs.Accesses as accesses;
+ghost use Rattle.jz_meaning.specs.Attempts.{did, seen, numbers_first, Gives, Evaluates, Changes};
 ghost use Rattle.jz_meaning.specs.Operators as operators;
 ghost use Rattle.jz_meaning.specs.States.{as_value};
 ghost use Rattle.jz_meaning.specs.Stores.{store_of};
@@ -13,12 +15,11 @@ ghost use Rattle.jz_meaning.specs.Values.{ref_of, meaning_of, access_of};
 use crate::operators::word_of;
 use crate::store::Store;
 use crate::value::{Stuck, Value, Why, defined};
-use jz_data::Seq;
+use jz_data::{Failure, Seq};
 use jz_io::Span;
 use jz_leak::MemMap;
 use jz_tree::{Access, Decl, Expr, Ty, Var};
 use jz_words::{Size, Word};
-use std::alloc::AllocError;
 
 /// What a variable can hold, by its declaration.
 #[derive(Clone, Copy, PartialEq, Eq)]
@@ -94,7 +95,7 @@ fn stuck(span: Span, why: Why) -> Stuck
     Stuck { span, why }
 }
 
-// The bits of a value in the place of a word of a size.
+/// The bits of a value in the place of a word of a size.
 fn bits_at(span: Span, size: Size, value: Value) -> Result<u64, Stuck>
     ensures { (ns : List ℕ) → did ns result ≡ numbers_first ns (operators.word_at span size (as_value value)) }
 {
@@ -109,20 +110,20 @@ fn in_cells(
     kind: Kind,
     index: u64,
     out: &mut Seq<u64>,
-) -> Result<Result<u64, Stuck>, AllocError>
-    ensures { IfOk result (λ r. did out.new r ≡ numbers_first out.old (values.in_cells span kind index)) }
+) -> Result<u64, Failure<Stuck>>
+    ensures { Gives result out.old out.new (values.in_cells span kind index) }
 {
     match kind {
-        Kind::Undeclared => Ok(Err(stuck(span, Why::Init))),
-        Kind::Int => Ok(Err(stuck(span, Why::Init))),
-        Kind::Bool => Ok(Err(stuck(span, Why::Init))),
-        Kind::Word(_) => Ok(Err(stuck(span, Why::Init))),
+        Kind::Undeclared => Err(Failure::Refused(stuck(span, Why::Init))),
+        Kind::Int => Err(Failure::Refused(stuck(span, Why::Init))),
+        Kind::Bool => Err(Failure::Refused(stuck(span, Why::Init))),
+        Kind::Word(_) => Err(Failure::Refused(stuck(span, Why::Init))),
         Kind::Array(_, cells) => {
             if (index as u128) < cells {
                 out.push(index)?;
-                Ok(Ok(index))
+                Ok(index)
             } else {
-                Ok(Err(stuck(span, Why::Bounds)))
+                Err(Failure::Refused(stuck(span, Why::Bounds)))
             }
         }
     }
@@ -136,17 +137,13 @@ fn var_span(var: &Var) -> Span
 
 /// The index of a cell, which is appended to `out`. Stuck for Bounds where it is past the cells, and for Init where typing excludes
 /// it.
-pub fn index(var: &Var, value: Value, out: &mut Seq<u64>) -> Result<Result<u64, Stuck>, AllocError>
-    ensures { IfOk result (λ r. did out.new r ≡ numbers_first out.old (values.index_at (ref_of var.now) (as_value value))) }
+pub fn index(var: &Var, value: Value, out: &mut Seq<u64>) -> Result<u64, Failure<Stuck>>
+    ensures { Gives result out.old out.new (values.index_at (ref_of var.now) (as_value value)) }
 {
     let span = var_span(var);
-    match bits_at(span, Size::S64, value) {
-        Err(stuck) => Ok(Err(stuck)),
-        Ok(index) => {
-            let answer = in_cells(span, kind_of(var), index, out)?;
-            Ok(answer)
-        }
-    }
+    let index = bits_at(span, Size::S64, value)?;
+    let cell = in_cells(span, kind_of(var), index, out)?;
+    Ok(cell)
 }
 
 fn cell_to_u64(cell: Option<u32>) -> Option<u64>
@@ -174,13 +171,15 @@ pub fn cell(
     value: Value,
     store: &Store,
     out: &mut Seq<u64>,
-) -> Result<Result<Value, Stuck>, AllocError>
-    ensures { IfOk result (λ r. seen out.new r ≡ numbers_first out.old (values.cell_value (ref_of var.now) (as_value value) (store_of store.now))) }
+) -> Result<Value, Failure<Stuck>>
+    ensures { Evaluates result out.old out.new (values.cell_value (ref_of var.now) (as_value value) (store_of store.now)) }
 {
-    match index(var, value, out)? {
-        Err(stuck) => Ok(Err(stuck)),
-        Ok(index) => Ok(defined(var.span, store.get(&var.name, var.copy, Some(index)))),
-    }
+    let index = index(var, value, out)?;
+    let value = defined(
+        var_span(var),
+        store.get(&var.name, var.copy, Some(index)),
+    )?;
+    Ok(value)
 }
 
 fn is_aligned(size: Size, address: u64) -> bool
@@ -189,43 +188,38 @@ fn is_aligned(size: Size, address: u64) -> bool
     address % u64::from(size.bytes()) == 0
 }
 
-// What stands at an address; its bytes are valid.
+/// What stands at an address; its bytes are valid.
 fn aligned(
     access: &Access,
     size: Size,
     address: u64,
     bits: u64,
     out: &mut Seq<u64>,
-) -> Result<Result<Value, Stuck>, AllocError>
+) -> Result<Value, Failure<Stuck>>
     requires { bits < modulus size }
-    ensures { IfOk result (λ r. seen out.new r ≡ numbers_first out.old (and_then (values.accessed (access_of access.now).span (access_of access.now).unaligned size address (Some bits)) (λ b. went [] (word size b)))) }
+    ensures { Evaluates result out.old out.new (accesses.load_bits (access_of access.now) size address bits) }
 {
     if access.unaligned || is_aligned(size, address) {
         out.push(address)?;
-        Ok(Ok(Value::Word(Word::new(size, bits))))
+        Ok(Value::Word(Word::new(size, bits)))
     } else {
-        Ok(Err(stuck(access.span, Why::Align)))
+        Err(Failure::Refused(stuck(access.span, Why::Align)))
     }
 }
-
-ghost use Rattle.std.specs.Prelude.{◌<◌, [], Some};
-ghost use Rattle.jz_words.specs.Sizes.{modulus};
-ghost use Rattle.jz_runs.specs.Rules.{went};
-ghost use Rattle.jz_meaning.specs.States.{word};
 
 fn load_word(
     access: &Access,
     size: Option<Size>,
     address: u64,
-    mem: &MemMap,
+    memory: &MemMap,
     out: &mut Seq<u64>,
-) -> Result<Result<Value, Stuck>, AllocError>
-    ensures { IfOk result (λ r. seen out.new r ≡ numbers_first out.old (values.load_word (access_of access.now).span (access_of access.now).unaligned size address mem.now)) }
+) -> Result<Value, Failure<Stuck>>
+    ensures { Evaluates result out.old out.new (accesses.load_word (access_of access.now) size address memory.now) }
 {
     match size {
-        None => Ok(Err(stuck(access.span, Why::Init))),
-        Some(size) => match mem.load(address, size) {
-            None => Ok(Err(stuck(access.span, Why::Address))),
+        None => Err(Failure::Refused(stuck(access.span, Why::Init))),
+        Some(size) => match memory.load(address, size) {
+            None => Err(Failure::Refused(stuck(access.span, Why::Address))),
             Some(bits) => aligned(access, size, address, bits, out),
         },
     }
@@ -243,80 +237,64 @@ fn access_size(access: &Access, wanted: Option<Size>) -> Option<Size>
     access.size.or(wanted)
 }
 
-ghost use Rattle.std.specs.Option.{option_or};
-
 /// What memory holds where an access has this address, which is appended to `out`; `wanted` is the size of the other side. Stuck
 /// for Address where a byte is not valid, then for Align, and for Init where the access has no size.
 pub fn load(
     access: &Access,
     wanted: Option<Size>,
     address: Value,
-    mem: &MemMap,
+    memory: &MemMap,
     out: &mut Seq<u64>,
-) -> Result<Result<Value, Stuck>, AllocError>
-    ensures { IfOk result (λ r. seen out.new r ≡ numbers_first out.old (values.load_at (access_of access.now) wanted (as_value address) mem.now)) }
+) -> Result<Value, Failure<Stuck>>
+    ensures { Evaluates result out.old out.new (values.load_at (access_of access.now) wanted (as_value address) memory.now) }
 {
-    match bits_at(access_span(access), Size::S64, address) {
-        Err(stuck) => Ok(Err(stuck)),
-        Ok(address) => {
-            let answer = load_word(access, access_size(access, wanted), address, mem, out)?;
-            Ok(answer)
-        }
-    }
+    let address = bits_at(access_span(access), Size::S64, address)?;
+    let value = load_word(access, access_size(access, wanted), address, memory, out)?;
+    Ok(value)
 }
 
-// Whether each byte of an access is valid.
+/// Whether each byte of an access is valid.
 #[tactic(auto, using(crate::proofs::MemoryLemmas::loaded_where_valid))]
-fn is_valid(mem: &MemMap, address: u64, size: Size) -> bool
-    ensures { result ≡ all_valid mem.now address (bytes_of size) }
+fn is_valid(memory: &MemMap, address: u64, size: Size) -> bool
+    ensures { result ≡ all_valid memory.now address (bytes_of size) }
 {
-    mem.load(address, size).is_some()
+    memory.load(address, size).is_some()
 }
-
-ghost use Rattle.jz_words.specs.Memory.{all_valid};
 
 fn store_bits(
     access: &Access,
     size: Size,
     address: u64,
     bits: u64,
-    mem: &mut MemMap,
+    memory: &mut MemMap,
     out: &mut Seq<u64>,
-) -> Result<Result<(), Stuck>, AllocError>
-    ensures { IfOk result (λ r. changed out.new mem.new r ≡ numbers_first out.old (values.accessed (access_of access.now).span (access_of access.now).unaligned size address (after_store mem.old address size bits))) }
+) -> Result<(), Failure<Stuck>>
+    ensures { Changes result out.old out.new memory.new (accesses.store_bits (access_of access.now) size address bits memory.old) }
 {
-    if !is_valid(mem, address, size) {
-        return Ok(Err(stuck(access.span, Why::Address)));
+    if !is_valid(memory, address, size) {
+        return Err(Failure::Refused(stuck(access.span, Why::Address)));
     }
     if !access.unaligned && !is_aligned(size, address) {
-        return Ok(Err(stuck(access.span, Why::Align)));
+        return Err(Failure::Refused(stuck(access.span, Why::Align)));
     }
     out.push(address)?;
-    let _stored = mem.store(address, size, bits);
-    Ok(Ok(()))
+    let _stored = memory.store(address, size, bits);
+    Ok(())
 }
-
-ghost use Rattle.std.specs.Prelude.{option_map};
-ghost use Rattle.jz_meaning.specs.Attempts.{changed};
-ghost use Rattle.jz_meaning.specs.Values.{after_store};
 
 fn store_word(
     access: &Access,
     size: Size,
     address: u64,
     value: Value,
-    mem: &mut MemMap,
+    memory: &mut MemMap,
     out: &mut Seq<u64>,
-) -> Result<Result<(), Stuck>, AllocError>
-    ensures { IfOk result (λ r. changed out.new mem.new r ≡ numbers_first out.old (values.store_word (access_of access.now).span (access_of access.now).unaligned (Some size) address (Some (as_value value)) mem.old)) }
+) -> Result<(), Failure<Stuck>>
+    ensures { Changes result out.old out.new memory.new (accesses.store_word (access_of access.now) (Some size) address (Some (as_value value)) memory.old) }
 {
-    match bits_at(access_span(access), size, value) {
-        Err(stuck) => Ok(Err(stuck)),
-        Ok(bits) => {
-            let answer = store_bits(access, size, address, bits, mem, out)?;
-            Ok(answer)
-        }
-    }
+    let bits = bits_at(access_span(access), size, value)?;
+    store_bits(access, size, address, bits, memory, out)?;
+    Ok(())
 }
 
 fn store_value(
@@ -324,18 +302,18 @@ fn store_value(
     size: Option<Size>,
     address: u64,
     value: Option<Value>,
-    mem: &mut MemMap,
+    memory: &mut MemMap,
     out: &mut Seq<u64>,
-) -> Result<Result<(), Stuck>, AllocError>
-    ensures { IfOk result (λ r. changed out.new mem.new r ≡ numbers_first out.old (values.store_word (access_of access.now).span (access_of access.now).unaligned size address (option_map as_value value) mem.old)) }
+) -> Result<(), Failure<Stuck>>
+    ensures { Changes result out.old out.new memory.new (accesses.store_word (access_of access.now) size address (option_map as_value value) memory.old) }
 {
     match size {
-        None => Ok(Err(stuck(access.span, Why::Init))),
+        None => Err(Failure::Refused(stuck(access.span, Why::Init))),
         Some(size) => match value {
-            None => Ok(Err(stuck(access.span, Why::Init))),
+            None => Err(Failure::Refused(stuck(access.span, Why::Init))),
             Some(value) => {
-                let answer = store_word(access, size, address, value, mem, out)?;
-                Ok(answer)
+                store_word(access, size, address, value, memory, out)?;
+                Ok(())
             }
         },
     }
@@ -348,17 +326,13 @@ pub fn write(
     wanted: Option<Size>,
     address: Value,
     value: Option<Value>,
-    mem: &mut MemMap,
+    memory: &mut MemMap,
     out: &mut Seq<u64>,
-) -> Result<Result<(), Stuck>, AllocError>
-    ensures { IfOk result (λ r. changed out.new mem.new r ≡ numbers_first out.old (values.store_at (access_of access.now) wanted (as_value address) (option_map as_value value) mem.old)) }
+) -> Result<(), Failure<Stuck>>
+    ensures { Changes result out.old out.new memory.new (values.store_at (access_of access.now) wanted (as_value address) (option_map as_value value) memory.old) }
 {
-    match bits_at(access_span(access), Size::S64, address) {
-        Err(stuck) => Ok(Err(stuck)),
-        Ok(address) => {
-            let size = access_size(access, wanted);
-            let answer = store_value(access, size, address, value, mem, out)?;
-            Ok(answer)
-        }
-    }
+    let address = bits_at(access_span(access), Size::S64, address)?;
+    let size = access_size(access, wanted);
+    store_value(access, size, address, value, memory, out)?;
+    Ok(())
 }

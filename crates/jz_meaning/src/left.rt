@@ -45,7 +45,7 @@ pub fn gives_word(op: BinOp) -> bool
     }
 }
 
-// What stands at the right of a left operand without a size.
+/// What stands at the right of a left operand without a size.
 #[cycle(sizes)]
 fn size_behind(op: BinOp, right: &Expr, found: Option<Size>) -> Option<Size>
     ensures { result ≡ (if is_shift op then found else option_or (values.own_size right.now) found) }
@@ -97,7 +97,7 @@ pub fn own_size(e: &Expr) -> Option<Size>
     single_size(rest).or(found)
 }
 
-// What is wanted of both operands where this size is wanted of the whole.
+/// What is wanted of both operands where this size is wanted of the whole.
 fn left_wanted(op: BinOp, wanted: Option<Size>, left: &Expr, right: &Expr) -> Option<Size>
     ensures { result ≡ (if values.gives_word op then wanted else option_or (values.own_size left.now) (values.own_size right.now)) }
 {

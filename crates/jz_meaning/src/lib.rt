@@ -6,6 +6,7 @@ mod evaluating;
 mod laws;
 mod left;
 mod operators;
+mod state;
 mod store;
 mod value;
 
@@ -17,5 +18,6 @@ pub use laws::{
 };
 pub use left::{gives_word, own_size};
 pub use operators::{binary, cast, inverted_value, is_settled, is_shift, negated_value, word_of};
+pub use state::State;
 pub use store::Store;
 pub use value::{Stuck, Value, Why, defined};

@@ -6,14 +6,14 @@ ghost use Rattle.jz_words.specs.Sizes.{signed, modulus, bits_of};
 ghost use Rattle.jz_words.specs.Words.{shl_of, shr_of, sar_of, rol_of, ror_of};
 ghost use Rattle.jz_tree.specs.declared.expr.BinOp.TheVariants as op;
 ghost use Rattle.jz_integers.specs.Integers as integers;
-ghost use Rattle.jz_meaning.specs.Attempts.{seen, numbers_first};
+ghost use Rattle.jz_meaning.specs.Attempts.{Evaluates};
 ghost use Rattle.jz_meaning.specs.Operators as operators;
 ghost use Rattle.jz_meaning.specs.States.{as_value};
 ghost use Rattle.jz_meaning.specs.declared.value.Why.TheVariants as why;
 ghost use Rattle.jz_meaning.specs.States as states;
 
 use crate::value::{Stuck, Value, Why, defined};
-use jz_data::Seq;
+use jz_data::{Failure, Seq};
 use jz_integers::{Constant, inverted, negated, on_integers};
 use jz_io::Span;
 use jz_tree::BinOp;
@@ -58,7 +58,7 @@ fn no_quotient(span: Span) -> Stuck
     }
 }
 
-// The numbers that a division shows.
+/// The numbers that a division shows.
 fn show(high: u64, a: Word, b: Word, out: &mut Seq<u64>) -> Result<(), AllocError>
     ensures { OnOk result (out.new ≡ out.old ++ (high ∷ a.bits ∷ b.bits ∷ [])) }
 {
@@ -73,15 +73,15 @@ fn quotient(
     a: Word,
     b: Word,
     out: &mut Seq<u64>,
-) -> Result<Result<Value, Stuck>, AllocError>
+) -> Result<Value, Failure<Stuck>>
     requires { a.size ≡ b.size }
-    ensures { IfOk result (λ r. seen out.new r ≡ numbers_first out.old (operators.on_words op.Div span a.size a.bits b.bits)) }
+    ensures { Evaluates result out.old out.new (operators.on_words op.Div span a.size a.bits b.bits) }
 {
     if b.bits() == 0 {
-        return Ok(Err(no_quotient(span)));
+        return Err(Failure::Refused(no_quotient(span)));
     }
     show(0, a, b, out)?;
-    Ok(Ok(Value::Word(Word::new(a.size(), a.bits() / b.bits()))))
+    Ok(Value::Word(Word::new(a.size(), a.bits() / b.bits())))
 }
 
 fn remainder(
@@ -89,18 +89,18 @@ fn remainder(
     a: Word,
     b: Word,
     out: &mut Seq<u64>,
-) -> Result<Result<Value, Stuck>, AllocError>
+) -> Result<Value, Failure<Stuck>>
     requires { a.size ≡ b.size }
-    ensures { IfOk result (λ r. seen out.new r ≡ numbers_first out.old (operators.on_words op.Rem span a.size a.bits b.bits)) }
+    ensures { Evaluates result out.old out.new (operators.on_words op.Rem span a.size a.bits b.bits) }
 {
     if b.bits() == 0 {
-        return Ok(Err(no_quotient(span)));
+        return Err(Failure::Refused(no_quotient(span)));
     }
     show(0, a, b, out)?;
-    Ok(Ok(Value::Word(Word::new(a.size(), a.bits() % b.bits()))))
+    Ok(Value::Word(Word::new(a.size(), a.bits() % b.bits())))
 }
 
-// All bits equal to the sign.
+/// All bits equal to the sign.
 fn sign_word(a: Word) -> u64
     ensures { result ≡ operators.sign_word a.size a.bits }
 {
@@ -111,7 +111,7 @@ fn sign_word(a: Word) -> u64
     }
 }
 
-// Whether a / b has no room in the word, if b is not 0.
+/// Whether a / b has no room in the word, if b is not 0.
 fn is_least_by_minus_one(a: Word, b: Word) -> bool
     requires { a.size ≡ b.size }
     ensures { result ≡ operators.is_least_by_minus_one a.size a.bits b.bits }
@@ -119,7 +119,7 @@ fn is_least_by_minus_one(a: Word, b: Word) -> bool
     a.bits() == a.size().half() && b.bits() as u128 == a.size().modulus() - 1
 }
 
-// Of the words as signed numbers: the quotient rounded towards 0, and the remainder.
+/// Of the words as signed numbers: the quotient rounded towards 0, and the remainder.
 fn divided(a: Word, b: Word) -> (i128, i128)
     requires zero { b.bits ≢ 0 }
     requires size { a.size ≡ b.size }
@@ -136,15 +136,15 @@ fn signed_quotient(
     a: Word,
     b: Word,
     out: &mut Seq<u64>,
-) -> Result<Result<Value, Stuck>, AllocError>
+) -> Result<Value, Failure<Stuck>>
     requires { a.size ≡ b.size }
-    ensures { IfOk result (λ r. seen out.new r ≡ numbers_first out.old (operators.on_words op.DivS span a.size a.bits b.bits)) }
+    ensures { Evaluates result out.old out.new (operators.on_words op.DivS span a.size a.bits b.bits) }
 {
     if b.bits() == 0 || is_least_by_minus_one(a, b) {
-        return Ok(Err(no_quotient(span)));
+        return Err(Failure::Refused(no_quotient(span)));
     }
     show(sign_word(a), a, b, out)?;
-    Ok(Ok(Value::Word(residue(a.size(), divided(a, b).0))))
+    Ok(Value::Word(residue(a.size(), divided(a, b).0)))
 }
 
 fn signed_remainder(
@@ -152,15 +152,15 @@ fn signed_remainder(
     a: Word,
     b: Word,
     out: &mut Seq<u64>,
-) -> Result<Result<Value, Stuck>, AllocError>
+) -> Result<Value, Failure<Stuck>>
     requires { a.size ≡ b.size }
-    ensures { IfOk result (λ r. seen out.new r ≡ numbers_first out.old (operators.on_words op.RemS span a.size a.bits b.bits)) }
+    ensures { Evaluates result out.old out.new (operators.on_words op.RemS span a.size a.bits b.bits) }
 {
     if b.bits() == 0 || is_least_by_minus_one(a, b) {
-        return Ok(Err(no_quotient(span)));
+        return Err(Failure::Refused(no_quotient(span)));
     }
     show(sign_word(a), a, b, out)?;
-    Ok(Ok(Value::Word(residue(a.size(), divided(a, b).1))))
+    Ok(Value::Word(residue(a.size(), divided(a, b).1)))
 }
 
 fn compared(op: BinOp, a: Word, b: Word) -> Option<bool>
@@ -191,7 +191,7 @@ fn product(a: Word, b: Word) -> Word
     Word::new(a.size(), product as u64)
 }
 
-// On two words, where nothing is leaked.
+/// On two words, where nothing is leaked.
 fn plain(op: BinOp, a: Word, b: Word) -> Option<Value>
     requires { a.size ≡ b.size }
     ensures { option_map as_value result ≡ operators.plain op a.size a.bits b.bits }
@@ -216,16 +216,16 @@ fn on_words(
     a: Word,
     b: Word,
     out: &mut Seq<u64>,
-) -> Result<Result<Value, Stuck>, AllocError>
+) -> Result<Value, Failure<Stuck>>
     requires { a.size ≡ b.size }
-    ensures { IfOk result (λ r. seen out.new r ≡ numbers_first out.old (operators.on_words op span a.size a.bits b.bits)) }
+    ensures { Evaluates result out.old out.new (operators.on_words op span a.size a.bits b.bits) }
 {
     match op {
         BinOp::Div => quotient(span, a, b, out),
         BinOp::Rem => remainder(span, a, b, out),
         BinOp::DivS => signed_quotient(span, a, b, out),
         BinOp::RemS => signed_remainder(span, a, b, out),
-        _ => Ok(defined(span, plain(op, a, b))),
+        _ => Ok(defined(span, plain(op, a, b))?),
     }
 }
 
@@ -265,7 +265,7 @@ fn shifted_with_sign(a: Word, count: u128) -> Word
     }
 }
 
-// How far a word of the size is turned.
+/// How far a word of the size is turned.
 fn turns(size: Size, count: u128) -> u32
     ensures is { result ≡ count % bits_of size }
     ensures below { result < 64 }
@@ -302,7 +302,7 @@ fn shifted_word(op: BinOp, a: Word, count: u128) -> Option<Value>
     }
 }
 
-// A word and a flag.
+/// A word and a flag.
 fn by_flag(op: BinOp, a: Word, flag: bool) -> Option<Value>
     ensures { option_map as_value result ≡ operators.by_flag op a.size a.bits flag }
 {
@@ -357,7 +357,7 @@ pub fn is_settled(op: BinOp, left: Value) -> bool
     }
 }
 
-// The value of an inline expression.
+/// The value of an inline expression.
 fn of_constant(constant: Option<Constant>) -> Option<Value>
     ensures { option_map as_value result ≡ option_map operators.of_constant constant }
 {
@@ -375,25 +375,25 @@ fn combined(
     x: Value,
     y: Value,
     out: &mut Seq<u64>,
-) -> Result<Result<Value, Stuck>, AllocError>
-    ensures { IfOk result (λ r. seen out.new r ≡ numbers_first out.old (operators.combined op span (as_value x) (as_value y))) }
+) -> Result<Value, Failure<Stuck>>
+    ensures { Evaluates result out.old out.new (operators.combined op span (as_value x) (as_value y)) }
 {
     match x {
         Value::Word(a) => beside_word(op, span, a, y, out),
         Value::Int(a) => match y {
             Value::Word(b) => on_words(op, span, residue(b.size(), a), b, out),
-            Value::Int(b) => Ok(defined(span, of_constant(on_integers(op, a, b)))),
-            Value::Bool(_) => Ok(defined(span, None)),
+            Value::Int(b) => Ok(defined(span, of_constant(on_integers(op, a, b)))?),
+            Value::Bool(_) => Ok(defined(span, None)?),
         },
         Value::Bool(_) => match y {
-            Value::Word(_) => Ok(defined(span, None)),
-            Value::Int(_) => Ok(defined(span, None)),
-            Value::Bool(b) => Ok(defined(span, joined(op, b))),
+            Value::Word(_) => Ok(defined(span, None)?),
+            Value::Int(_) => Ok(defined(span, None)?),
+            Value::Bool(b) => Ok(defined(span, joined(op, b))?),
         },
     }
 }
 
-// Two flags.
+/// Two flags.
 fn joined(op: BinOp, right: bool) -> Option<Value>
     ensures { option_map as_value result ≡ operators.joined op right }
 {
@@ -411,19 +411,19 @@ fn beside_word(
     a: Word,
     y: Value,
     out: &mut Seq<u64>,
-) -> Result<Result<Value, Stuck>, AllocError>
-    ensures { IfOk result (λ r. seen out.new r ≡ numbers_first out.old (operators.combined op span (states.word a.size a.bits) (as_value y))) }
+) -> Result<Value, Failure<Stuck>>
+    ensures { Evaluates result out.old out.new (operators.combined op span (states.word a.size a.bits) (as_value y)) }
 {
     match y {
         Value::Word(b) => {
             if same_size(a.size(), b.size()) {
                 on_words(op, span, a, b, out)
             } else {
-                Ok(defined(span, None))
+                Ok(defined(span, None)?)
             }
         }
         Value::Int(b) => on_words(op, span, a, residue(a.size(), b), out),
-        Value::Bool(flag) => Ok(defined(span, by_flag(op, a, flag))),
+        Value::Bool(flag) => Ok(defined(span, by_flag(op, a, flag))?),
     }
 }
 
@@ -472,11 +472,11 @@ pub fn binary(
     x: Value,
     y: Value,
     out: &mut Seq<u64>,
-) -> Result<Result<Value, Stuck>, AllocError>
-    ensures { IfOk result (λ r. seen out.new r ≡ numbers_first out.old (operators.binary op span wanted (as_value x) (as_value y))) }
+) -> Result<Value, Failure<Stuck>>
+    ensures { Evaluates result out.old out.new (operators.binary op span wanted (as_value x) (as_value y)) }
 {
     if is_shift(op) {
-        Ok(defined(span, shifted(op, wanted, x, y)))
+        Ok(defined(span, shifted(op, wanted, x, y))?)
     } else {
         combined(op, span, x, y, out)
     }

@@ -38,6 +38,11 @@ impl Store {
         }
     }
 
+    /// What it takes its memory from.
+    pub fn allocator(&self) -> Global {
+        self.alloc
+    }
+
     /// The value of a variable or of a cell.
     pub fn get(&self, name: &Text, copy: u32, cell: Option<u64>) -> Option<Value>
         ensures { option_map as_value result ≡ store_of self.now (record { name = name.now; copy = copy; cell = cell }) }
@@ -50,7 +55,7 @@ impl Store {
             },
         }
     }
-    // Places of a name that had none.
+    /// Places of a name that had none.
     fn begin(&mut self, name: &Text, place: Place, value: Option<Value>) -> Result<(), AllocError>
         requires { get bytes_eq self.old.names name.now ≡ None }
         ensures { OnOk result (store_of self.new ≡ states.put (store_of self.old) (key_of name.now place) (option_map as_value value)) }

@@ -5,6 +5,7 @@ ghost use Rattle.jz_meaning.specs.Attempts as part;
 ghost use Rattle.jz_meaning.specs.Attempts.{seen, numbers_first};
 ghost use Rattle.jz_meaning.specs.States.{as_value};
 
+use jz_data::Failure;
 use jz_io::Span;
 use jz_words::Word;
 
@@ -38,6 +39,17 @@ pub enum Why {
 pub struct Stuck {
     pub span: Span,
     pub why: Why,
+}
+
+impl From<Stuck> for Failure<Stuck> {
+    ghost use Rattle.std.specs.Prelude.{◌≡◌};
+    ghost use Rattle.jz_data.specs.declared.failure.Failure.TheVariants.{Refused};
+
+    ghost from_gives = { λ stuck failure. failure ≡ Refused stuck };
+
+    fn from(stuck: Stuck) -> Self {
+        Failure::Refused(stuck)
+    }
 }
 
 /// The value that is there; else stuck for Init.

@@ -6,8 +6,14 @@ use Rattle.jz_meaning.specs.declared.value.Stuck.{Stuck}
 use Rattle.jz_meaning.specs.Attempts.{Evaluation}
 use Rattle.jz_meaning.specs.States.{Store}
 use Rattle.jz_meaning.specs.Stores.{store_of}
+use Rattle.jz_meaning.specs.Statements as statements
+use Rattle.jz_passing.specs.declared.calling.Call as code_call
 
 -- the variables of a callee
 abbrev pub entered : List ℕ → Result code.Store Stuck → Evaluation Store
 entered ns (Ok s) = went ns (store_of s)
 entered ns (Err k) = stuck k
+
+-- a call of the code
+abbrev pub call_of : code_call.Call → statements.Call
+call_of c = record { to = c.to.now; callee = c.callee.now; args = c.args.now; at = c.span }

@@ -1,14 +1,16 @@
 //! Cells of arrays. The caller's go into a call and come back from it.
 
-ghost use Rattle.std.specs.Prelude.{◌≡◌, IfOk, OnOk, ℕ, List, option_map};
+ghost use Rattle.std.specs.Prelude.{◌≡◌, OnOk, option_map};
 ghost use Rattle.std.specs.Option.{option_copied};
-ghost use Rattle.jz_meaning.specs.Attempts.{changed, numbers_first};
+ghost use Rattle.jz_meaning.specs.Attempts.{ChangesSilently};
 ghost use Rattle.jz_meaning.specs.States as states;
 ghost use Rattle.jz_meaning.specs.Stores.{store_of};
 ghost use Rattle.jz_meaning.specs.Statements as statements;
 ghost use Rattle.jz_meaning.specs.Values.{cell_key, ref_of};
+ghost use Rattle.jz_passing.specs.Calls.{array_passed, array_back};
 
 use jz_assign::missing;
+use jz_data::Failure;
 use jz_io::Span;
 use jz_meaning::{Kind, Store, Stuck, kind_of};
 use jz_tree::{Expr, Var};
@@ -27,7 +29,7 @@ fn copy_cell(
     store.put(&to.name, to.copy, Some(cell), value)
 }
 
-// The first cells. No memory has room for more of them than a u64 can count.
+/// The first cells. No memory has room for more of them than a u64 can count.
 fn copy_cells(
     cells: u128,
     to: &Var,
@@ -46,7 +48,7 @@ fn copy_cells(
     Ok(())
 }
 
-// The variable that an argument is.
+/// The variable that an argument is.
 fn variable_of(arg: &Expr) -> Option<&Var>
     ensures { option_map ref_of (option_copied result) ≡ statements.array_of arg.now }
 {
@@ -72,14 +74,14 @@ pub(crate) fn pass_array(
     arg: &Expr,
     outer: &Store,
     inner: &mut Store,
-) -> Result<Result<(), Stuck>, AllocError>
-    ensures { IfOk result (λ r. (ns : List ℕ) → changed ns (store_of inner.new) r ≡ numbers_first ns (statements.array_passed span cells (ref_of param.now) (statements.array_of arg.now) (store_of outer.now) (store_of inner.old))) }
+) -> Result<(), Failure<Stuck>>
+    ensures { ChangesSilently result (store_of inner.new) (array_passed span cells param.now arg.now (store_of outer.now) (store_of inner.old)) }
 {
     match variable_of(arg) {
-        None => Ok(Err(missing(span))),
+        None => Err(Failure::Refused(missing(span))),
         Some(var) => {
             copy_cells(cells, param, var, outer, inner)?;
-            Ok(Ok(()))
+            Ok(())
         }
     }
 }
@@ -91,7 +93,7 @@ pub(crate) fn give_array_back(
     inner: &Store,
     outer: &mut Store,
 ) -> Result<(), AllocError>
-    ensures { OnOk result (store_of outer.new ≡ statements.array_back (ref_of param.now).kind (ref_of param.now) (statements.array_of arg.now) (store_of inner.now) (store_of outer.old)) }
+    ensures { OnOk result (store_of outer.new ≡ array_back param.now arg.now (store_of inner.now) (store_of outer.old)) }
 {
     match kind_of(param) {
         Kind::Array(_, cells) => match variable_of(arg) {

@@ -1,123 +1,106 @@
 //! Calls of inline functions. A call has fresh variables of its own; its array parameters are the caller's arrays.
 
-ghost use Rattle.std.specs.Prelude.{◌≡◌, [], Some, IfOk, OnOk};
-ghost use Rattle.jz_runs.specs.Rules.{went};
-ghost use Rattle.jz_meaning.specs.Assignments as assignments;
-ghost use Rattle.jz_meaning.specs.Attempts.{changed, numbers_first, and_then};
-ghost use Rattle.jz_meaning.specs.States as states;
-ghost use Rattle.jz_meaning.specs.Stores.{state, store_of};
+ghost use Rattle.std.specs.Prelude.{◌≡◌, OnOk};
+ghost use Rattle.jz_data.specs.Failures.{IfAnswered};
+ghost use Rattle.jz_meaning.specs.Attempts.{Changes, numbers_first};
+ghost use Rattle.jz_meaning.specs.Stores.{state_of, store_of};
 ghost use Rattle.jz_meaning.specs.Statements as statements;
-ghost use Rattle.jz_meaning.specs.Values as values;
-ghost use Rattle.jz_meaning.specs.Values.{ref_of};
 ghost use Rattle.jz_passing.specs.Answers.{entered};
+ghost use Rattle.jz_passing.specs.Calls.{value_passed, argument_passed, entered_by, value_given, result_given, left_by};
 
 use crate::arrays::{give_array_back, pass_array};
 use jz_assign::{held, missing, set, write};
-use jz_data::Seq;
+use jz_data::{Failure, Seq};
 use jz_io::Span;
-use jz_leak::MemMap;
-use jz_meaning::{Kind, Store, Stuck, evaluate, kind_of, size_of, variable};
+use jz_meaning::{Kind, State, Store, Stuck, evaluate, kind_of, size_of, variable};
 use jz_tree::{Expr, Fun, Lval, Param, Var};
-use std::alloc::{AllocError, Global};
+use std::alloc::AllocError;
 
-// An argument that is no array.
+/// A call of an inline function: the left sides of its results, the callee, the arguments and where it stands.
+#[derive(Clone, Copy)]
+pub struct Call<'a> {
+    pub to: &'a Seq<Lval>,
+    pub callee: &'a Fun,
+    pub args: &'a Seq<Expr>,
+    pub span: Span,
+}
+
+/// An argument that is no array.
 fn pass_value(
-    alloc: Global,
-    span: Span,
     kind: Kind,
     param: &Var,
     arg: &Expr,
-    store: &Store,
-    mem: &MemMap,
+    state: &State,
     inner: &mut Store,
     out: &mut Seq<u64>,
-) -> Result<Result<(), Stuck>, AllocError>
-    ensures { IfOk result (λ r. changed out.new (store_of inner.new) r ≡ numbers_first out.old (and_then (values.evaluated arg.now (values.size_of kind) (state store.now mem.now)) (λ v. and_then (assignments.held (ref_of param.now).span kind v) (λ h. went [] (states.put (store_of inner.old) (values.key_of (ref_of param.now)) (Some h)))))) }
+) -> Result<(), Failure<Stuck>>
+    ensures { Changes result out.old out.new (store_of inner.new) (value_passed kind param.now arg.now (state_of state.now) (store_of inner.old)) }
 {
-    match evaluate(alloc, arg, size_of(kind), store, mem, out)? {
-        Err(stuck) => Ok(Err(stuck)),
-        Ok(value) => match held(param.span, kind, value) {
-            Err(stuck) => Ok(Err(stuck)),
-            Ok(value) => {
-                set(param, Some(value), inner)?;
-                Ok(Ok(()))
-            }
-        },
-    }
+    let value = evaluate(arg, size_of(kind), state, out)?;
+    let value = held(param.span, kind, value)?;
+    set(param, Some(value), inner)?;
+    Ok(())
 }
 
 fn pass(
-    alloc: Global,
     span: Span,
     param: &Var,
     arg: &Expr,
-    store: &Store,
-    mem: &MemMap,
+    state: &State,
     inner: &mut Store,
     out: &mut Seq<u64>,
-) -> Result<Result<(), Stuck>, AllocError>
-    ensures { IfOk result (λ r. changed out.new (store_of inner.new) r ≡ numbers_first out.old (statements.passed span (ref_of param.now).kind (ref_of param.now) arg.now (state store.now mem.now) (store_of inner.old))) }
+) -> Result<(), Failure<Stuck>>
+    ensures { Changes result out.old out.new (store_of inner.new) (argument_passed span param.now arg.now (state_of state.now) (store_of inner.old)) }
 {
     let kind = kind_of(param);
     match kind {
         Kind::Array(_, cells) => {
-            let passed = pass_array(span, cells, param, arg, store, inner)?;
-            Ok(passed)
+            pass_array(span, cells, param, arg, &state.store, inner)?;
+            Ok(())
         }
         Kind::Undeclared | Kind::Int | Kind::Bool | Kind::Word(_) => {
-            let passed = pass_value(alloc, span, kind, param, arg, store, mem, inner, out)?;
-            Ok(passed)
+            pass_value(kind, param, arg, state, inner, out)?;
+            Ok(())
         }
     }
 }
 
-// Parameters and arguments, from left to right.
+/// Parameters and arguments, from left to right.
 fn pass_all(
-    alloc: Global,
     span: Span,
     params: &Seq<Param>,
     args: &Seq<Expr>,
-    store: &Store,
-    mem: &MemMap,
+    state: &State,
     inner: &mut Store,
     out: &mut Seq<u64>,
-) -> Result<Result<(), Stuck>, AllocError>
-    ensures { IfOk result (λ r. changed out.new (store_of inner.new) r ≡ numbers_first out.old (statements.all_passed span params.now args.now (state store.now mem.now) (store_of inner.old))) }
+) -> Result<(), Failure<Stuck>>
+    ensures { Changes result out.old out.new (store_of inner.new) (statements.all_passed span params.now args.now (state_of state.now) (store_of inner.old)) }
 {
     for (i, param) in params.as_slice().iter().enumerate() {
         match args.get(i) {
-            None => return Ok(Err(missing(span))),
-            Some(arg) => match pass(alloc, span, &param.var, arg, store, mem, inner, out)? {
-                Err(stuck) => return Ok(Err(stuck)),
-                Ok(()) => {}
-            },
+            None => return Err(Failure::Refused(missing(span))),
+            Some(arg) => pass(span, &param.var, arg, state, inner, out)?,
         }
     }
     if params.len() < args.len() {
-        return Ok(Err(missing(span)));
+        return Err(Failure::Refused(missing(span)));
     }
-    Ok(Ok(()))
+    Ok(())
 }
 
 /// The variables of a callee as it begins: each parameter has its argument, which is evaluated among the caller's variables, and nothing
-/// else has a value. The numbers of the arguments are appended to `out`. Stuck as the first argument that is, and for Init at `span` where
-/// they are not as many as the parameters.
+/// else has a value. The numbers of the arguments are appended to `out`. Stuck as the first argument that is, and for Init at the call
+/// where they are not as many as the parameters.
 pub fn enter(
-    alloc: Global,
-    span: Span,
-    params: &Seq<Param>,
-    args: &Seq<Expr>,
-    store: &Store,
-    mem: &MemMap,
+    call: Call<'_>,
+    state: &State,
     out: &mut Seq<u64>,
-) -> Result<Result<Store, Stuck>, AllocError>
-    ensures { IfOk result (λ r. entered out.new r ≡ numbers_first out.old (statements.all_passed span params.now args.now (state store.now mem.now) states.empty_store)) }
+) -> Result<Store, Failure<Stuck>>
+    ensures { IfAnswered result (λ r. entered out.new r ≡ numbers_first out.old (entered_by call.entry (state_of state.now))) }
 {
-    let mut inner = Store::new(alloc);
-    match pass_all(alloc, span, params, args, store, mem, &mut inner, out)? {
-        Err(stuck) => Ok(Err(stuck)),
-        Ok(()) => Ok(Ok(inner)),
-    }
+    let mut inner = Store::new(out.allocator());
+    pass_all(call.span, &call.callee.params, call.args, state, &mut inner, out)?;
+    Ok(inner)
 }
 
 fn give_arrays_back(
@@ -137,97 +120,85 @@ fn give_arrays_back(
     Ok(())
 }
 
-// A result that is no array.
+/// A result that is no array.
 fn give_value(
-    alloc: Global,
     kind: Kind,
     to: &Lval,
     from: &Var,
     inner: &Store,
-    store: &mut Store,
-    mem: &mut MemMap,
+    state: &mut State,
     out: &mut Seq<u64>,
-) -> Result<Result<(), Stuck>, AllocError>
-    ensures { IfOk result (λ r. changed out.new (state store.new mem.new) r ≡ numbers_first out.old (and_then (values.variable_value (ref_of from.now) (store_of inner.now)) (λ v. assignments.written (values.size_of kind) to.now (Some v) (state store.old mem.old)))) }
+) -> Result<(), Failure<Stuck>>
+    ensures { Changes result out.old out.new (state_of state.new) (value_given kind to.now from.now (store_of inner.now) (state_of state.old)) }
 {
-    match variable(from, inner) {
-        Err(stuck) => Ok(Err(stuck)),
-        Ok(value) => {
-            let given = write(alloc, size_of(kind), to, Some(value), store, mem, out)?;
-            Ok(given)
-        }
-    }
+    let value = variable(from, inner)?;
+    write(size_of(kind), to, Some(value), state, out)?;
+    Ok(())
 }
 
 fn give(
-    alloc: Global,
     to: &Lval,
     from: &Var,
     inner: &Store,
-    store: &mut Store,
-    mem: &mut MemMap,
+    state: &mut State,
     out: &mut Seq<u64>,
-) -> Result<Result<(), Stuck>, AllocError>
-    ensures { IfOk result (λ r. changed out.new (state store.new mem.new) r ≡ numbers_first out.old (statements.given (ref_of from.now).kind (ref_of from.now) to.now (store_of inner.now) (state store.old mem.old))) }
+) -> Result<(), Failure<Stuck>>
+    ensures { Changes result out.old out.new (state_of state.new) (result_given to.now from.now (store_of inner.now) (state_of state.old)) }
 {
     let kind = kind_of(from);
     match to {
-        Lval::Skip(_) => Ok(Ok(())),
+        Lval::Skip(_) => Ok(()),
         Lval::Var(_) | Lval::Cell(_, _) | Lval::Store(_) => match kind {
-            Kind::Array(_, _) => Ok(Ok(())),
+            Kind::Array(_, _) => Ok(()),
             Kind::Undeclared | Kind::Int | Kind::Bool | Kind::Word(_) => {
-                let given = give_value(alloc, kind, to, from, inner, store, mem, out)?;
-                Ok(given)
+                give_value(kind, to, from, inner, state, out)?;
+                Ok(())
             }
         },
     }
 }
 
-// Left sides and results, from left to right.
+/// Left sides and results, from left to right.
 fn give_all(
-    alloc: Global,
     span: Span,
     to: &Seq<Lval>,
     results: &Seq<Var>,
     inner: &Store,
-    store: &mut Store,
-    mem: &mut MemMap,
+    state: &mut State,
     out: &mut Seq<u64>,
-) -> Result<Result<(), Stuck>, AllocError>
-    ensures { IfOk result (λ r. changed out.new (state store.new mem.new) r ≡ numbers_first out.old (statements.all_given span to.now results.now (store_of inner.now) (state store.old mem.old))) }
+) -> Result<(), Failure<Stuck>>
+    ensures { Changes result out.old out.new (state_of state.new) (statements.all_given span to.now results.now (store_of inner.now) (state_of state.old)) }
 {
     for (i, left) in to.as_slice().iter().enumerate() {
         match results.get(i) {
-            None => return Ok(Err(missing(span))),
-            Some(from) => match give(alloc, left, from, inner, store, mem, out)? {
-                Err(stuck) => return Ok(Err(stuck)),
-                Ok(()) => {}
-            },
+            None => return Err(Failure::Refused(missing(span))),
+            Some(from) => give(left, from, inner, state, out)?,
         }
     }
     if to.len() < results.len() {
-        return Ok(Err(missing(span)));
+        return Err(Failure::Refused(missing(span)));
     }
-    Ok(Ok(()))
+    Ok(())
 }
 
 /// The end of a call: the caller's arrays that were passed have the cells of the callee's, and each result is read just before its left side
-/// is evaluated and written. `inner` are the callee's variables at its end, and `mem` is the memory then. The numbers of the left sides are
-/// appended to `out`. Stuck for Init at `span` where the results are not as many as the left sides.
+/// is evaluated and written. `inner` are the callee's variables at its end, and `state` the caller's with the memory then. The numbers of the
+/// left sides are appended to `out`. Stuck for Init at the call where the results are not as many as the left sides.
 pub fn leave(
-    alloc: Global,
-    span: Span,
-    to: &Seq<Lval>,
-    callee: &Fun,
-    args: &Seq<Expr>,
+    call: Call<'_>,
     inner: &Store,
-    store: &mut Store,
-    mem: &mut MemMap,
+    state: &mut State,
     out: &mut Seq<u64>,
-) -> Result<Result<(), Stuck>, AllocError>
-    ensures { IfOk result (λ r. changed out.new (state store.new mem.new) r ≡ numbers_first out.old (statements.leaves (record { to = to.now; callee = callee.now; args = args.now; at = span }) (state store.old mem.old) (state inner.now mem.old))) }
+) -> Result<(), Failure<Stuck>>
+    ensures { Changes result out.old out.new (state_of state.new) (left_by call.entry (store_of inner.now) (state_of state.old)) }
 {
-    give_arrays_back(&callee.params, args, inner, store)?;
-    let given = give_all(alloc, span, to, &callee.result, inner, store, mem, out)?;
-    Ok(given)
+    let Call {
+        to,
+        callee,
+        args,
+        span,
+    } = call;
+    give_arrays_back(&callee.params, args, inner, &mut state.store)?;
+    give_all(span, to, &callee.result, inner, state, out)?;
+    Ok(())
 }

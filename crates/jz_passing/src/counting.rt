@@ -1,20 +1,18 @@
 //! Whole numbers that are known when the text is compiled.
 
-ghost use Rattle.std.specs.Prelude.{◌≡◌, IfOk, ℕ, List};
-ghost use Rattle.jz_meaning.specs.Attempts.{did, numbers_first};
+ghost use Rattle.std.specs.Prelude.{◌≡◌, ℕ, List};
+ghost use Rattle.jz_meaning.specs.Attempts.{did, numbers_first, Gives};
 ghost use Rattle.jz_meaning.specs.States.{as_value};
-ghost use Rattle.jz_meaning.specs.Stores.{state};
+ghost use Rattle.jz_meaning.specs.Stores.{state_of};
 ghost use Rattle.jz_meaning.specs.Statements as statements;
 
 use jz_assign::missing;
-use jz_data::Seq;
+use jz_data::{Failure, Seq};
 use jz_io::Span;
-use jz_leak::MemMap;
-use jz_meaning::{Store, Stuck, Value, evaluate};
+use jz_meaning::{State, Stuck, Value, evaluate};
 use jz_tree::Expr;
-use std::alloc::{AllocError, Global};
 
-// A value as a whole number.
+/// A value as a whole number.
 fn number_at(span: Span, value: Value) -> Result<i128, Stuck>
     ensures { (ns : List ℕ) → did ns result ≡ numbers_first ns (statements.number_at span (as_value value)) }
 {
@@ -27,17 +25,14 @@ fn number_at(span: Span, value: Value) -> Result<i128, Stuck>
 
 /// The value of an inline expression as a whole number; stuck for Init at `span` where it is none.
 pub fn number_in(
-    alloc: Global,
     span: Span,
     e: &Expr,
-    store: &Store,
-    mem: &MemMap,
+    state: &State,
     out: &mut Seq<u64>,
-) -> Result<Result<i128, Stuck>, AllocError>
-    ensures { IfOk result (λ r. did out.new r ≡ numbers_first out.old (statements.number_in span e.now (state store.now mem.now))) }
+) -> Result<i128, Failure<Stuck>>
+    ensures { Gives result out.old out.new (statements.number_in span e.now (state_of state.now)) }
 {
-    match evaluate(alloc, e, None, store, mem, out)? {
-        Err(stuck) => Ok(Err(stuck)),
-        Ok(value) => Ok(number_at(span, value)),
-    }
+    let value = evaluate(e, None, state, out)?;
+    let number = number_at(span, value)?;
+    Ok(number)
 }

@@ -6,6 +6,6 @@ mod calling;
 mod counting;
 mod variables;
 
-pub use calling::{enter, leave};
+pub use calling::{Call, enter, leave};
 pub use counting::number_in;
 pub use variables::unset_all;

@@ -17,7 +17,7 @@ fn unset_cell(cell: u64, var: &Var, store: &mut Store)
     store.unset(&var.name, var.copy, Some(cell));
 }
 
-// The first cells. No memory has room for more of them than a u64 can count.
+/// The first cells. No memory has room for more of them than a u64 can count.
 fn unset_cells(cells: u128, var: &Var, store: &mut Store) -> Result<(), AllocError>
     ensures { OnOk result (store_of store.new ≡ statements.no_cells cells (ref_of var.now) (store_of store.old)) }
 {

@@ -4,7 +4,7 @@ use Rattle.jz_runs.specs.Rules.{went}
 use Rattle.jz_meaning.specs.Attempts.{numbers_first}
 use Rattle.jz_meaning.specs.States.{as_value}
 use Rattle.jz_meaning.specs.Values.{evaluated}
-use Rattle.jz_meaning.specs.Stores.{state}
+use Rattle.jz_meaning.specs.Stores.{state_of}
 use Rattle.jz_meaning.specs.Evaluating.{gone_on, AllDetermined}
 use Rattle.jz_meaning.proofs.LeftSideLemmas.{AllSmaller}
 use Rattle.jz_meaning.proofs.evaluating.+evaluation.Given as goal
@@ -20,7 +20,7 @@ decreases-finish l = 3 * size-Expr l.operation.right.now + 2
 
 abbrev pub invariant-evaluate_settled-loop-operation : goal.invariant-evaluate_settled-loop-operation
 invariant-evaluate_settled-loop-operation l =
-    (gone_on l.waiting.items (state l.store l.mem) (went l.out (as_value l.value)) ≡ numbers_first l.fn.out (evaluated l.e l.fn.wanted (state l.store l.mem)))
+    (gone_on l.waiting.items (state_of l.state) (went l.out (as_value l.value)) ≡ numbers_first l.fn.out (evaluated l.e l.fn.wanted (state_of l.state)))
     × AllSmaller (size-Expr l.e) l.waiting.items × AllDetermined l.waiting.items
 
 abbrev pub decreases-evaluate_settled-loop-operation : goal.decreases-evaluate_settled-loop-operation
