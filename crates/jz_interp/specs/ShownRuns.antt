@@ -1,6 +1,6 @@
 -- Runs with what they leak as it is shown: of a body, of the turns of a `while`, of the rounds of a `for`, and of the statements of a
 -- body before whatever follows them.
-use Rattle.std.specs.Prelude.{◌≡◌, ◌<◌, ℕ, ℤ, List, [], ◌∷◌, ◌++◌}
+use Rattle.std.specs.Prelude.{◌≡◌, ◌<◌, ℕ, ℤ, Bool, List, [], ◌∷◌, ◌++◌}
 use Rattle.jz_leak.specs.declared.leak.Leak as shown_leak
 use Rattle.jz_leak.specs.declared.leak.Item.{Item}
 use Rattle.jz_leak.specs.declared.leak.Item.TheVariants as item
@@ -13,6 +13,13 @@ use Rattle.jz_runs.specs.Rules.{Attempt, stuck, went, Parts, Outcome, End, Cut, 
 -- these first
 abbrev pub before : {S W X : Type 0} → List X → Outcome S W (List X) → Outcome S W (List X)
 before xs = after (λ l. xs ++ l)
+
+-- what is shown of a run inside a statement, and of one turn of a `while`
+abbrev pub leak_of : List Item → shown_leak.Leak
+leak_of is = record { items = is }
+
+abbrev pub turn_of : List Item → List ℕ → Bool → List Item → Turn
+turn_of is ns z js = record { prologue = leak_of is; numbers = ns; more = z; body = leak_of js }
 
 -- ---- whole runs
 
