@@ -45,9 +45,10 @@ abbrev pub wrapped : (List Item → Item) → Ran → Ran
 wrapped f (ran_as.End n is) = ran_as.End n (f is ∷ [])
 wrapped f (ran_as.Cut is) = ran_as.Cut (f is ∷ [])
 
--- ---- what the code does from one state to another, with n true tests of `while` left, unless memory
--- is wanted: its answer is the outcome of a piece of a body, of a turn, of the rest of a turn from
--- its test on, of all rounds
+-- ---- what the code does from one state to another, with n true tests of `while` left, where
+-- memory suffices: its answer is the outcome of a piece of a body, of a turn, of the rest of a turn
+-- from its test on, of all rounds
+
 abbrev pub RunsPiece :
     Result Ran (Failure why.Stuck) → ℕ → code.State → code.State → (Block → Block) → Type 0
 RunsPiece result n before now piece =

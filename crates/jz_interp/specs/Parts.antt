@@ -1,4 +1,4 @@
--- What parts of statements stand for, as the code borrows them from the text, and the trees of them.
+-- What parts of statements stand for as the code borrows them from the text, and their trees.
 use Rattle.std.specs.Prelude.{ℕ, List, Option, None, Some, not, is_some}
 use Rattle.jz_tree.specs.declared.expr.Expr.{Expr}
 use Rattle.jz_tree.specs.declared.stmt.Rhs.{Rhs}
