@@ -62,6 +62,13 @@ passed_on (Err v) e P Q h p go = subst (λ y. IfAnswered (Err y) Q) (sym h) (ref
     refused (Refused k) q = go k q
     refused OutOfMemory q = tt
 
+-- an answer and its numbers, behind those before, as the definition gives them
+abbrev pub NumbersGo : {A : Type 0} → List ℕ → List ℕ → Evaluation A → Result A why.Stuck → Type 0
+NumbersGo before now g r = did now r ≡ numbers_first before g
+
+abbrev pub arguments_of : Call → State → Evaluation Store
+arguments_of c s = all_passed c.at c.callee.params c.args s empty_store
+
 -- numbers behind none
 pub nothing_first : {A : Type 0} (ns : List ℕ) (g : Evaluation A) → ns ≡ [] → numbers_first ns g ≡ g
 nothing_first ns (stuck w) e = refl

@@ -45,29 +45,46 @@ abbrev pub wrapped : (List Item → Item) → Ran → Ran
 wrapped f (ran_as.End n is) = ran_as.End n (f is ∷ [])
 wrapped f (ran_as.Cut is) = ran_as.Cut (f is ∷ [])
 
--- ---- what the code does from one state to another, with n true tests of `while` left, where
--- memory suffices: its answer is the outcome of a piece of a body, of a turn, of the rest of a turn
--- from its test on, of all rounds
+-- ---- the answer of the code, which stands in the second state then, is the outcome from the first
+-- state on, with n true tests of `while` left: of a piece of a body, of a turn, of the rest of a
+-- turn from its test on, of all rounds
+
+abbrev pub PieceGoes : (Block → Block) → ℕ → State → State → Result Ran why.Stuck → Type 0
+PieceGoes piece n s t r = Leads source piece n s (seen r t)
+
+abbrev pub TurnGoes :
+    Block → Condition → Block → ℕ → State → State → Result TurnEnd why.Stuck → Type 0
+TurnGoes p c b n s t r = IsTurn source p c b n s (turn_seen r t)
+
+abbrev pub TestGoes :
+    List Item → Condition → Block → ℕ → State → State → Result TurnEnd why.Stuck → Type 0
+TestGoes is c b n s t r = IsTested source c b is n s (turn_seen r t)
+
+abbrev pub RoundsGo :
+    Var → Block → List ℤ → ℕ → State → State → Result RoundsEnd why.Stuck → Type 0
+RoundsGo x b js n s t r = RoundsOf x b js n s (rounds_seen r t)
+
+-- ---- the same of what the code promises, where memory suffices
 
 abbrev pub RunsPiece :
     Result Ran (Failure why.Stuck) → ℕ → code.State → code.State → (Block → Block) → Type 0
 RunsPiece result n before now piece =
-    IfAnswered result (λ r. Leads source piece n (state_of before) (seen r (state_of now)))
+    IfAnswered result (PieceGoes piece n (state_of before) (state_of now))
 
 abbrev pub RunsTurn :
     Result TurnEnd (Failure why.Stuck) → ℕ → code.State → code.State
     → Block → Condition → Block → Type 0
 RunsTurn result n before now p c b =
-    IfAnswered result (λ r. IsTurn source p c b n (state_of before) (turn_seen r (state_of now)))
+    IfAnswered result (TurnGoes p c b n (state_of before) (state_of now))
 
 abbrev pub RunsTest :
     Result TurnEnd (Failure why.Stuck) → ℕ → code.State → code.State
     → List Item → Condition → Block → Type 0
 RunsTest result n before now is c b =
-    IfAnswered result (λ r. IsTested source c b is n (state_of before) (turn_seen r (state_of now)))
+    IfAnswered result (TestGoes is c b n (state_of before) (state_of now))
 
 abbrev pub RunsAllRounds :
     Result RoundsEnd (Failure why.Stuck) → ℕ → code.State → code.State
     → Var → Block → List ℤ → Type 0
 RunsAllRounds result n before now x b js =
-    IfAnswered result (λ r. RoundsOf x b js n (state_of before) (rounds_seen r (state_of now)))
+    IfAnswered result (RoundsGo x b js n (state_of before) (state_of now))
