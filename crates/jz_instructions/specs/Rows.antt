@@ -5,12 +5,18 @@ use Rattle.jz_words.specs.declared.size.Size.{Size}
 use Rattle.jz_words.specs.declared.size.Size.TheVariants.{S64}
 use Rattle.jz_words.specs.Words.{swapped_of}
 use Rattle.x64_insn.specs.declared.types.FlagVal.{FlagVal}
+use Rattle.x64_insn.specs.declared.types.Shift.{Shift}
+use Rattle.x64_insn.specs.declared.types.Shift.TheVariants as shift
 use Rattle.x64_insn.specs.Answers.{alu_answer}
 use Rattle.jz_tree.specs.declared.expr.Expr.{Expr}
 use Rattle.jz_meaning.specs.Attempts.{Evaluation}
 use Rattle.jz_meaning.specs.States.{State}
 use Rattle.jz_meaning.specs.Assignments.{Results}
-use Rattle.jz_meaning.specs.Intrinsics.{all_flags, first_two, all_but_carry, no_results, before_value, alu_results, one_results, low_product_results, product_results, of_one, of_two, of_carry, of_count, of_division, of_condition}
+use Rattle.jz_meaning.specs.Intrinsics.{all_flags, first_two, all_but_carry, no_results}
+use Rattle.jz_meaning.specs.Intrinsics.{before_value, alu_results, one_results}
+use Rattle.jz_meaning.specs.Intrinsics.{low_product_results, product_results}
+use Rattle.jz_meaning.specs.Intrinsics.{of_one, of_two, of_carry, of_count}
+use Rattle.jz_meaning.specs.Intrinsics.{of_division, of_condition}
 use Rattle.jz_instructions.specs.declared.rows.Sets.{Sets}
 use Rattle.jz_instructions.specs.declared.rows.Sets.TheVariants as sets
 use Rattle.jz_instructions.specs.declared.rows.OneWord.{OneWord}
@@ -26,6 +32,12 @@ set_by sets.Nothing = no_results
 set_by sets.All = all_flags
 set_by sets.FirstTwo = first_two
 set_by sets.AllButCarry = all_but_carry
+
+-- those that a shift or a rotation sets
+abbrev pub shift_flags : Shift → List FlagVal → Results
+shift_flags shift.Rol = first_two
+shift_flags shift.Ror = first_two
+shift_flags _ = all_flags
 
 abbrev pub one_row : OneWord → Size → ℕ → Results
 one_row (one.Alu flags op) z a = one_results (set_by flags) op z a
@@ -43,6 +55,6 @@ row_results (row.One r) at z = of_one (one_row r z) at z
 row_results row.Address at z = of_one (one_row one.Same S64) at S64
 row_results (row.Two r) at z = of_two (two_row r z) at z
 row_results (row.Carry op) at z = of_carry (alu_results op z) at z
-row_results (row.Count flags kind) at z = of_count (set_by flags) kind at z
+row_results (row.Count kind) at z = of_count (shift_flags kind) kind at z
 row_results row.Division at z = of_division at z
 row_results row.Condition at z = of_condition at

@@ -1,4 +1,5 @@
-//! Instructions that a statement names: the results that each leaves, and the left sides that get them.
+//! Instructions that a statement names: the results that each leaves, and the left sides that get
+//! them.
 #![tactic(auto)]
 
 mod dispatching;

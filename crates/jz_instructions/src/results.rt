@@ -28,7 +28,10 @@ fn flag_result(flag: FlagVal) -> Option<Value>
 }
 
 fn add(results: &mut Results, value: Option<Value>) -> Result<(), AllocError>
-    ensures { OnOk result (meant results.new ≡ meant results.old ++ option_map as_value value ∷ []) }
+    ensures {
+        let added = option_map as_value value ∷ [] in
+        OnOk result (meant results.new ≡ meant results.old ++ added)
+    }
 {
     results.push(value)?;
     Ok(())
@@ -42,7 +45,10 @@ fn add_word(results: &mut Results, size: Size, bits: u64) -> Result<(), AllocErr
 }
 
 fn add_flags(results: &mut Results, flags: &[FlagVal]) -> Result<(), AllocError>
-    ensures { OnOk result (meant results.new ≡ meant results.old ++ intrinsics.all_flags flags.now) }
+    ensures {
+        let added = intrinsics.all_flags flags.now in
+        OnOk result (meant results.new ≡ meant results.old ++ added)
+    }
 {
     for flag in flags {
         add(results, flag_result(*flag))?;
@@ -85,7 +91,10 @@ pub(crate) fn before_value(
     answer: Answer,
 ) -> Result<Results, AllocError>
     requires { answer.value < modulus size }
-    ensures { IfOk result (λ vs. meant vs ≡ intrinsics.before_value (set_by sets answer.flags) size answer.value) }
+    ensures {
+        let results = intrinsics.before_value (set_by sets answer.flags) size answer.value in
+        IfOk result (λ vs. meant vs ≡ results)
+    }
 {
     let mut results = flags_set(alloc, sets, answer.flags)?;
     add_word(&mut results, size, answer.value)?;
@@ -102,7 +111,10 @@ pub(crate) fn before_both(
 ) -> Result<Results, AllocError>
     requires first { first < modulus size }
     requires second { second < modulus size }
-    ensures { IfOk result (λ vs. meant vs ≡ intrinsics.all_flags flags ++ (Some (word size first) ∷ Some (word size second) ∷ [])) }
+    ensures {
+        let both = Some (word size first) ∷ Some (word size second) ∷ [] in
+        IfOk result (λ vs. meant vs ≡ intrinsics.all_flags flags ++ both)
+    }
 {
     let mut results = flags_set(alloc, Sets::All, flags)?;
     add_word(&mut results, size, first)?;

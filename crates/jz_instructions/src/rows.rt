@@ -6,7 +6,8 @@ ghost use Rattle.jz_words.specs.declared.size.Size.{Size};
 ghost use Rattle.jz_tree.specs.declared.expr.Expr.{Expr};
 ghost use Rattle.jz_meaning.specs.States.{State};
 ghost use Rattle.jz_meaning.specs.Intrinsics as intrinsics;
-ghost use Rattle.jz_instructions.specs.Rows.{row_results};
+ghost use Rattle.x64_insn.specs.declared.types.FlagVal.{FlagVal};
+ghost use Rattle.jz_instructions.specs.Rows.{shift_flags, row_results, set_by};
 
 use jz_tree::Intrinsic;
 use x64_insn::{Alu, One, Shift};
@@ -51,14 +52,27 @@ pub(crate) enum Row {
     /// Two words and a flag.
     Carry(Alu),
     /// A word and a count.
-    Count(Sets, Shift),
+    Count(Shift),
     Division,
     Condition,
 }
 
+/// The flags that a shift or a rotation sets.
+pub(crate) fn set_by_shift(kind: Shift) -> Sets
+    ensures { (flags : List FlagVal) → set_by result flags ≡ shift_flags kind flags }
+{
+    match kind {
+        Shift::Rol | Shift::Ror => Sets::FirstTwo,
+        Shift::Shl | Shift::Shr | Shift::Sar => Sets::All,
+    }
+}
+
 /// What an instruction takes.
 pub(crate) fn row_of(name: Intrinsic) -> Row
-    ensures { (at : Span) (z : Size) (es : List Expr) (s : State) → intrinsics.intrinsic_results name at z es s ≡ row_results result at z es s }
+    ensures {
+        (at : Span) (z : Size) (es : List Expr) (s : State) →
+            intrinsics.intrinsic_results name at z es s ≡ row_results result at z es s
+    }
 {
     match name {
         Intrinsic::Add => Row::Two(TwoWords::Alu(Alu::Add)),
@@ -76,11 +90,11 @@ pub(crate) fn row_of(name: Intrinsic) -> Row
         Intrinsic::Lea => Row::Address,
         Intrinsic::Cmp => Row::Two(TwoWords::Compare(Alu::Cmp)),
         Intrinsic::Test => Row::Two(TwoWords::Compare(Alu::Test)),
-        Intrinsic::Shl => Row::Count(Sets::All, Shift::Shl),
-        Intrinsic::Shr => Row::Count(Sets::All, Shift::Shr),
-        Intrinsic::Sar => Row::Count(Sets::All, Shift::Sar),
-        Intrinsic::Rol => Row::Count(Sets::FirstTwo, Shift::Rol),
-        Intrinsic::Ror => Row::Count(Sets::FirstTwo, Shift::Ror),
+        Intrinsic::Shl => Row::Count(Shift::Shl),
+        Intrinsic::Shr => Row::Count(Shift::Shr),
+        Intrinsic::Sar => Row::Count(Shift::Sar),
+        Intrinsic::Rol => Row::Count(Shift::Rol),
+        Intrinsic::Ror => Row::Count(Shift::Ror),
         Intrinsic::Imul => Row::Two(TwoWords::LowProduct),
         Intrinsic::Mul => Row::Two(TwoWords::Product),
         Intrinsic::Div => Row::Division,

@@ -7,16 +7,15 @@ ghost use Rattle.x64_insn.specs.Answers.{alu_answer as alu_answered};
 ghost use Rattle.x64_insn.specs.Products.{no_flags};
 ghost use Rattle.x64_insn.specs.Shifts as shifts;
 ghost use Rattle.jz_meaning.specs.declared.value.Why.TheVariants as why;
-ghost use Rattle.jz_meaning.specs.Attempts.{did, numbers_first};
 ghost use Rattle.jz_meaning.specs.States.{as_value, word};
 ghost use Rattle.jz_meaning.specs.Intrinsics as intrinsics;
-ghost use Rattle.jz_assign.specs.Answers.{meant, results_in};
-ghost use Rattle.jz_instructions.specs.Rows.{set_by, one_row, two_row};
+ghost use Rattle.jz_assign.specs.Answers.{meant, GivesResults};
+ghost use Rattle.jz_instructions.specs.Rows.{shift_flags, one_row, two_row};
 
 use crate::results::{Results, alone, before_both, before_value, flags_set};
-use crate::rows::{OneWord, Sets, TwoWords};
+use crate::rows::{OneWord, Sets, TwoWords, set_by_shift};
 use jz_assign::missing;
-use jz_data::Seq;
+use jz_data::{Failure, Seq};
 use jz_io::Span;
 use jz_meaning::{Stuck, Value, Why};
 use jz_words::{Size, Word, rol, ror, sar, shl, shr, swap_bytes};
@@ -75,7 +74,10 @@ fn of_product(alloc: Global, a: Word, b: Word) -> Result<Results, AllocError>
 // The flags alone.
 fn of_comparison(alloc: Global, op: Alu, a: Word, b: Word) -> Result<Results, AllocError>
     requires { a.size ≡ b.size }
-    ensures { IfOk result (λ vs. meant vs ≡ intrinsics.all_flags (alu_answered op a.size a.bits b.bits false).flags) }
+    ensures {
+        let answer = alu_answered op a.size a.bits b.bits false in
+        IfOk result (λ vs. meant vs ≡ intrinsics.all_flags answer.flags)
+    }
 {
     let answer = alu_answer(op, a, b, false);
     flags_set(alloc, Sets::All, answer.flags)
@@ -127,55 +129,63 @@ fn shifted(kind: Shift, a: Word, count: u32) -> Word
 // A count that is known when the text is compiled: 0 changes nothing, and sets no flag.
 fn by_constant(
     alloc: Global,
-    sets: Sets,
     kind: Shift,
     a: Word,
     count: u128,
 ) -> Result<Results, AllocError>
-    ensures { IfOk result (λ vs. meant vs ≡ (let r = shifts.shift_answer kind a.size a.bits (shifts.masked a.size count) no_flags in intrinsics.before_value (set_by sets r.flags) a.size r.value)) }
+    ensures {
+        let count = shifts.masked a.size count in
+        let answer = shifts.shift_answer kind a.size a.bits count no_flags in
+        let results = intrinsics.before_value (shift_flags kind answer.flags) a.size answer.value in
+        IfOk result (λ vs. meant vs ≡ results)
+    }
 {
     let count = masked(a.size(), count);
     let answer = shift_answer(kind, a, count, [FlagVal::Undefined; 5]);
-    before_value(alloc, sets, a.size(), answer)
+    before_value(alloc, set_by_shift(kind), a.size(), answer)
 }
 
 // A count of the run, which may be 0: no flag is known afterwards.
-fn by_byte(
-    alloc: Global,
-    sets: Sets,
-    kind: Shift,
-    a: Word,
-    count: u128,
-) -> Result<Results, AllocError>
-    ensures { IfOk result (λ vs. meant vs ≡ intrinsics.before_value (set_by sets no_flags) a.size (shifts.shifted kind a.size a.bits (shifts.masked a.size count))) }
+fn by_byte(alloc: Global, kind: Shift, a: Word, count: u128) -> Result<Results, AllocError>
+    ensures {
+        let value = shifts.shifted kind a.size a.bits (shifts.masked a.size count) in
+        let results = intrinsics.before_value (shift_flags kind no_flags) a.size value in
+        IfOk result (λ vs. meant vs ≡ results)
+    }
 {
     let value = shifted(kind, a, masked(a.size(), count));
     let answer = Answer {
         value: value.bits(),
         flags: [FlagVal::Undefined; 5],
     };
-    before_value(alloc, sets, value.size(), answer)
+    before_value(alloc, set_by_shift(kind), value.size(), answer)
 }
 
 /// A shift or a rotation of a word.
 pub(crate) fn of_shift(
     alloc: Global,
-    sets: Sets,
     kind: Shift,
     span: Span,
     a: Word,
     count: Value,
-) -> Result<Result<Results, Stuck>, AllocError>
-    ensures { IfOk result (λ r. (ns : List ℕ) → did ns (results_in r) ≡ numbers_first ns (intrinsics.shift_results (set_by sets) kind span a.size a.bits (as_value count))) }
+) -> Result<Results, Failure<Stuck>>
+    ensures {
+        let shifted = intrinsics.shift_results (shift_flags kind) kind span a.size a.bits in
+        (ns : List ℕ) → GivesResults result ns ns (shifted (as_value count))
+    }
 {
     match count {
-        Value::Word(count) => Ok(Ok(by_byte(alloc, sets, kind, a, u128::from(count.bits()))?)),
-        Value::Bool(_) => Ok(Err(missing(span))),
+        Value::Word(count) => {
+            let results = by_byte(alloc, kind, a, u128::from(count.bits()))?;
+            Ok(results)
+        }
+        Value::Bool(_) => Err(Failure::Refused(missing(span))),
         Value::Int(count) => {
             if count < 0 {
-                return Ok(Err(missing(span)));
+                return Err(Failure::Refused(missing(span)));
             }
-            Ok(Ok(by_constant(alloc, sets, kind, a, count as u128)?))
+            let results = by_constant(alloc, kind, a, count as u128)?;
+            Ok(results)
         }
     }
 }
@@ -200,26 +210,30 @@ fn no_quotient(span: Span) -> Stuck
     }
 }
 
-/// A division, the quotient before the remainder. High word, low word and divisor are appended to `out`.
+/// A division, the quotient before the remainder. High word, low word and divisor are appended to
+/// `out`.
 pub(crate) fn of_division(
-    alloc: Global,
     span: Span,
     high: Word,
     low: Word,
     divisor: Word,
     out: &mut Seq<u64>,
-) -> Result<Result<Results, Stuck>, AllocError>
+) -> Result<Results, Failure<Stuck>>
     requires low { high.size ≡ low.size }
     requires divisor { high.size ≡ divisor.size }
-    ensures { IfOk result (λ r. did out.new (results_in r) ≡ numbers_first out.old (intrinsics.division_results span high.size high.bits low.bits divisor.bits)) }
+    ensures {
+        let quotient = intrinsics.division_results span high.size high.bits low.bits in
+        GivesResults result out.old out.new (quotient divisor.bits)
+    }
 {
     match quotient_answer(high, low, divisor) {
-        None => Ok(Err(no_quotient(span))),
+        None => Err(Failure::Refused(no_quotient(span))),
         Some(answer) => {
             let size = high.size();
+            let alloc = out.allocator();
             let results = before_both(alloc, answer.flags, size, answer.low, answer.high)?;
             show(high, low, divisor, out)?;
-            Ok(Ok(results))
+            Ok(results)
         }
     }
 }

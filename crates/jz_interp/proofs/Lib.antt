@@ -1,7 +1,6 @@
 pub mod Arguments
 pub mod Counting
 pub mod Falls
-pub mod Lists
 pub mod Pieces
 pub mod Rules
 pub mod Starts

@@ -1,7 +1,10 @@
 -- The rules as the code meets them.
 use Rattle.std.proofs.Common.{◌≡◌, ℕ, zero, suc, ◌+◌, ◌-◌, ◌<◌, ◌≤◌, Bool, true, false, List, [], ◌∷◌, ◌++◌, drop, length, get_or, Option, Some, None, refl, sym, ap, ◌∙◌, subst, arith, append-nil}
-use Rattle.std.specs.Prelude.{ℤ, if◌then◌else◌, Result, Ok, Err}
+use Rattle.std.specs.Prelude.{ℤ, if◌then◌else◌, not, is_some, Result, Ok, Err, IsErrAnd}
 use Rattle.std.proofs.lemmas.List.{drop_all}
+use Rattle.jz_data.specs.declared.failure.Failure.{Failure}
+use Rattle.jz_data.specs.declared.failure.Failure.TheVariants.{Refused, OutOfMemory}
+use Rattle.jz_data.specs.Failures.{IfAnswered}
 use Rattle.jz_io.specs.declared.span.Span.{Span}
 use Rattle.jz_leak.specs.declared.leak.Leak as shown_leak
 use Rattle.jz_leak.specs.declared.leak.Item.{Item}
@@ -22,32 +25,49 @@ use Rattle.jz_meaning.specs.Attempts.{Evaluation, numbers_first, and_then, did, 
 use Rattle.jz_meaning.specs.States.{integer, Store, empty_store, State}
 use Rattle.jz_meaning.specs.Values.{key_of, ref_of}
 use Rattle.jz_meaning.specs.Assignments.{with_value}
-use Rattle.jz_meaning.specs.Statements.{Block, Operation, instruction, meaningless, unset, Condition, Counter, Call, source, does, tests, counts, begins, restores, enters, leaves, all_passed, all_unset}
+use Rattle.jz_meaning.specs.Statements.{Block, Operation, instruction, meaningless, unset}
+use Rattle.jz_meaning.specs.Statements.{Condition, Counter, Call, source, does, tests}
+use Rattle.jz_meaning.specs.Statements.{counts, begins, restores, enters, leaves}
+use Rattle.jz_meaning.specs.Statements.{all_passed, all_unset}
 use Rattle.jz_meaning.specs.Runs.{Callee, Callees, block, statement_tree, callees_of, call_tree, instruction_tree, with_tree}
-use Rattle.jz_interp.specs.ShownRuns.{before, Runs, RunsRounds, Leads, TurnOutcome, last, more, cut, stuck_in, IsTurn, IsTested, Passed, Turned, Counted, finished_by, left_with, call_finished}
+use Rattle.jz_interp.specs.ShownRuns.{leak_of, turn_of, before, Runs, RunsRounds, Leads, TurnOutcome, last, more, cut, stuck_in, IsTurn, IsTested, Passed, Turned, Counted, finished_by, left_with, call_finished}
 use Rattle.jz_interp.specs.Calls.{called}
-use Rattle.jz_interp.specs.Rounds.{values_in, RoundsOf}
+use Rattle.jz_interp.specs.Rounds.{RoundsOf}
 use Rattle.jz_interp.specs.declared.ends.Ran.{Ran}
 use Rattle.jz_interp.specs.declared.ends.Ran.TheVariants as ran_as
 use Rattle.jz_interp.specs.declared.ends.TurnEnd.{TurnEnd}
 use Rattle.jz_interp.specs.declared.ends.RoundsEnd.{RoundsEnd}
-use Rattle.jz_interp.specs.Ends.{seen, turn_seen, rounds_seen, wrapped, operation_end, call_end}
-use Rattle.jz_interp.proofs.Lists.{drop_at}
+use Rattle.jz_interp.specs.Ends.{seen, turn_seen, rounds_seen, wrapped}
+use Rattle.jz_passing.proofs.RestLemmas.{rest_at}
 use Rattle.jz_interp.proofs.Pieces.{mark_is}
-use Rattle.jz_interp.proofs.Steps.{leak_of, turn_of, op_leads, op_stuck, quiet_leads, runs_whole, if_leads, if_stuck, loop_leads, each_leads, each_stuck, call_leads, enter_stuck, prologue_is_stuck, prologue_is_cut, test_is_stuck, test_is_false, turn_is_wanted, body_is_stuck, body_is_cut, body_is_over, next_turn, last_turn, cut_turn, stuck_turn, next_count, counted_all, cut_in_count, stuck_in_count, next_passed, whole_passed, cut_passed, stuck_passed}
+use Rattle.jz_interp.proofs.Steps.{op_leads, op_stuck, quiet_leads, runs_whole, if_leads, if_stuck, loop_leads, each_leads, each_stuck, call_leads, enter_stuck, prologue_is_stuck, prologue_is_cut, test_is_stuck, test_is_false, turn_is_wanted, body_is_stuck, body_is_cut, body_is_over, next_turn, last_turn, cut_turn, stuck_turn, next_count, counted_all, cut_in_count, stuck_in_count, next_passed, whole_passed, cut_passed, stuck_passed}
 
 -- what is known of an answer that is this variant
-pub as_end : (f : Block → Block) (n m : ℕ) (s t : State) (r : Ran) (is : List Item) → Leads source f n s (seen r t) → r ≡ ran_as.End m is → Leads source f n s (End t m is)
-as_end f n m s t r is h e = subst (λ x. Leads source f n s (seen x t)) e h
+pub as_end : (f : Block → Block) (n m : ℕ) (s t : State) (r : Ran) (is : List Item) → Leads source f n s (seen (Ok r) t) → r ≡ ran_as.End m is → Leads source f n s (End t m is)
+as_end f n m s t r is h e = subst (λ x. Leads source f n s (seen (Ok x) t)) e h
 
-pub as_cut : (f : Block → Block) (n : ℕ) (s t : State) (r : Ran) (is : List Item) → Leads source f n s (seen r t) → r ≡ ran_as.Cut is → Leads source f n s (Cut is)
-as_cut f n s t r is h e = subst (λ x. Leads source f n s (seen x t)) e h
+pub as_cut : (f : Block → Block) (n : ℕ) (s t : State) (r : Ran) (is : List Item) → Leads source f n s (seen (Ok r) t) → r ≡ ran_as.Cut is → Leads source f n s (Cut is)
+as_cut f n s t r is h e = subst (λ x. Leads source f n s (seen (Ok x) t)) e h
 
-pub as_stuck : (f : Block → Block) (n : ℕ) (s t : State) (r : Ran) (k : why.Stuck) → Leads source f n s (seen r t) → r ≡ ran_as.Stuck k → Leads source f n s (Stuck k)
-as_stuck f n s t r k h e = subst (λ x. Leads source f n s (seen x t)) e h
+pub turn_as : (p : Block) (c : Condition) (b : Block) (n : ℕ) (s t : State) (r q : TurnEnd) → IsTurn source p c b n s (turn_seen (Ok r) t) → r ≡ q → IsTurn source p c b n s (turn_seen (Ok q) t)
+turn_as p c b n s t r q h e = subst (λ x. IsTurn source p c b n s (turn_seen (Ok x) t)) e h
 
-pub turn_as : (p : Block) (c : Condition) (b : Block) (n : ℕ) (s t : State) (r q : TurnEnd) → IsTurn source p c b n s (turn_seen r t) → r ≡ q → IsTurn source p c b n s (turn_seen q t)
-turn_as p c b n s t r q h e = subst (λ x. IsTurn source p c b n s (turn_seen x t)) e h
+-- ---- a failure that is passed on: where the call was stuck, the caller is
+
+pub passed_on : {A B E : Type 0} (r : Result B (Failure E)) (e : Failure E) (P : Result A E → Type 0) (Q : Result B E → Type 0) → IsErrAnd r (λ v. v ≡ e) → IfAnswered (Err e) P → ((k : E) → P (Err k) → Q (Err k)) → IfAnswered r Q
+passed_on (Ok x) e P Q h p go = absurd h
+passed_on (Err v) e P Q h p go = subst (λ y. IfAnswered (Err y) Q) (sym h) (refused e p)
+  where
+    refused : (y : Failure E) → IfAnswered (Err y) P → IfAnswered (Err y) Q
+    refused (Refused k) q = go k q
+    refused OutOfMemory q = tt
+
+-- an answer and its numbers, behind those before, as the definition gives them
+abbrev pub NumbersGo : {A : Type 0} → List ℕ → List ℕ → Evaluation A → Result A why.Stuck → Type 0
+NumbersGo before now g r = did now r ≡ numbers_first before g
+
+abbrev pub arguments_of : Call → State → Evaluation Store
+arguments_of c s = all_passed c.at c.callee.params c.args s empty_store
 
 -- numbers behind none
 pub nothing_first : {A : Type 0} (ns : List ℕ) (g : Evaluation A) → ns ≡ [] → numbers_first ns g ≡ g
@@ -56,28 +76,29 @@ nothing_first ns (went ms x) e = ap (λ y. went (y ++ ms) x) e
 
 -- ---- operations
 
-operation_by : {A : Type 0} (o : Operation) (n : ℕ) (s t : State) (ns : List ℕ) (d : Result A why.Stuck) → does o s ≡ changed ns t d → Leads source (op o) n s (seen (operation_end n ns d) t)
-operation_by o n s t ns (Ok u) e = op_leads source {o = o} e
-operation_by o n s t ns (Err k) e = op_stuck source {o = o} e
+pub operation_stuck : (o : Operation) (n : ℕ) (s : State) (none : List ℕ) → none ≡ [] → (k : why.Stuck) → stuck k ≡ numbers_first none (does o s) → Leads source (op o) n s (Stuck k)
+operation_stuck o n s none q k e = op_stuck source {o = o} (sym (e ∙ nothing_first none (does o s) q))
 
-pub operation_leads : {A : Type 0} (o : Operation) (n : ℕ) (s t : State) (none ns : List ℕ) (d : Result A why.Stuck) (r : Ran) → none ≡ [] → changed ns t d ≡ numbers_first none (does o s) → r ≡ operation_end n ns d → Leads source (op o) n s (seen r t)
-operation_leads o n s t none ns d r q e i = subst (λ x. Leads source (op o) n s (seen x t)) (sym i) (operation_by o n s t ns d (sym (e ∙ nothing_first none (does o s) q)))
+pub operation_leads : (o : Operation) (n : ℕ) (s t : State) (none ns : List ℕ) (is : List Item) → none ≡ [] → went ns t ≡ numbers_first none (does o s) → is ≡ item.Op ns ∷ [] → Leads source (op o) n s (End t n is)
+operation_leads o n s t none ns is q e i = subst (λ x. Leads source (op o) n s (End t n x)) (sym i) (op_leads source {o = o} (sym (e ∙ nothing_first none (does o s) q)))
 
-pub meaningless_leads : (at : Span) (n : ℕ) (s t : State) (r : Ran) → r ≡ ran_as.Stuck (record { span = at; why = Init }) → Leads source (op (meaningless at)) n s (seen r t)
-meaningless_leads at n s t r e = subst (λ x. Leads source (op (meaningless at)) n s (seen x t)) (sym e) (op_stuck source {o = meaningless at} refl)
+-- what has no meaning
+pub meaningless_leads : (at : Span) (n : ℕ) (s : State) (k : why.Stuck) → k ≡ record { span = at; why = Init } → Leads source (op (meaningless at)) n s (Stuck k)
+meaningless_leads at n s k e = subst (λ x. Leads source (op (meaningless at)) n s (Stuck x)) (sym e) (op_stuck source {o = meaningless at} refl)
 
-pub instruction_operates : (to : List Lval) (o : BinOp) (name : List ℕ) (args : List Expr) (c : Option Expr) (at : Span) (x : Option BinOp) (n : ℕ) (s t : State) (r : Ran) → x ≡ Some o → r ≡ ran_as.Stuck (record { span = at; why = Init }) → Leads source (instruction_tree to x name args c at) n s (seen r t)
-instruction_operates to o name args c at x n s t r e i = subst (λ y. Leads source (instruction_tree to y name args c at) n s (seen r t)) (sym e) (meaningless_leads at n s t r i)
+module _ (to : List Lval) (name : List ℕ) (args : List Expr) (at : Span) (x : Option BinOp) (y : Option Expr) (n : ℕ) (s : State) where
+  pub instruction_operates : (o : BinOp) (k : why.Stuck) → x ≡ Some o → k ≡ record { span = at; why = Init } → Leads source (instruction_tree to x name args y at) n s (Stuck k)
+  instruction_operates o k e i = subst (λ z. Leads source (instruction_tree to z name args y at) n s (Stuck k)) (sym e) (meaningless_leads at n s k i)
 
-pub instruction_conditioned : (to : List Lval) (name : List ℕ) (args : List Expr) (c : Expr) (at : Span) (x : Option BinOp) (y : Option Expr) (n : ℕ) (s t : State) (r : Ran) → x ≡ None → y ≡ Some c → r ≡ ran_as.Stuck (record { span = at; why = Init }) → Leads source (instruction_tree to x name args y at) n s (seen r t)
-instruction_conditioned to name args c at x y n s t r e d i =
-    subst (λ o. Leads source (instruction_tree to o name args y at) n s (seen r t)) (sym e)
-    (subst (λ z. Leads source (instruction_tree to None name args z at) n s (seen r t)) (sym d) (meaningless_leads at n s t r i))
+  pub instruction_conditioned : (c : Expr) (k : why.Stuck) → x ≡ None → y ≡ Some c → k ≡ record { span = at; why = Init } → Leads source (instruction_tree to x name args y at) n s (Stuck k)
+  instruction_conditioned c k e d i =
+      subst (λ o. Leads source (instruction_tree to o name args y at) n s (Stuck k)) (sym e)
+      (subst (λ z. Leads source (instruction_tree to None name args z at) n s (Stuck k)) (sym d) (meaningless_leads at n s k i))
 
-pub instruction_plain : (to : List Lval) (name : List ℕ) (args : List Expr) (at : Span) (x : Option BinOp) (y : Option Expr) (n : ℕ) (s t : State) (r : Ran) → x ≡ None → y ≡ None → Leads source (op (instruction to name args at)) n s (seen r t) → Leads source (instruction_tree to x name args y at) n s (seen r t)
-instruction_plain to name args at x y n s t r e d h =
-    subst (λ o. Leads source (instruction_tree to o name args y at) n s (seen r t)) (sym e)
-    (subst (λ z. Leads source (instruction_tree to None name args z at) n s (seen r t)) (sym d) h)
+  pub instruction_plain : (o : Outcome State why.Stuck (List Item)) → x ≡ None → y ≡ None → Leads source (op (instruction to name args at)) n s o → Leads source (instruction_tree to x name args y at) n s o
+  instruction_plain r e d h =
+      subst (λ o. Leads source (instruction_tree to o name args y at) n s r) (sym e)
+      (subst (λ z. Leads source (instruction_tree to None name args z at) n s r) (sym d) h)
 
 -- ---- statements one after another
 
@@ -87,7 +108,7 @@ module _ (callees : Callees) (ss : List Stmt) (n0 : ℕ) (s0 : State) (i : ℕ) 
 
   module _ (x : Stmt) (lt : i < length ss) (ix : x ≡ get_or ss i x) where
     at_head : Passed source (block callees ss) (λ r. statement_tree callees x (block callees (drop (i + 1) ss) r)) n0 s0 so_far m t
-    at_head = subst (λ y. Passed source (block callees ss) (block callees y) n0 s0 so_far m t) (drop_at ss i x lt ix) h
+    at_head = subst (λ y. Passed source (block callees ss) (block callees y) n0 s0 so_far m t) (rest_at ss i x lt ix) h
 
     pub block_stuck : (k : why.Stuck) → Leads source (statement_tree callees x) m t (Stuck k) → Leads source (block callees ss) n0 s0 (Stuck k)
     block_stuck k g = stuck_passed source (block callees ss) n0 s0 (statement_tree callees x) (block callees (drop (i + 1) ss)) at_head k g
@@ -106,10 +127,9 @@ mark_leads callees x xs n s t is e it ii =
 
 -- ---- `if`
 
-seen_wrapped : (f : List Item → Item) (r : Ran) (t : State) → seen (wrapped f r) t ≡ finished_by (λ s. s) f (seen r t)
+seen_wrapped : (f : List Item → Item) (r : Ran) (t : State) → seen (Ok (wrapped f r)) t ≡ finished_by (λ s. s) f (seen (Ok r) t)
 seen_wrapped f (ran_as.End n is) t = refl
 seen_wrapped f (ran_as.Cut is) t = refl
-seen_wrapped f (ran_as.Stuck k) t = refl
 
 arm_tree : (callees : Callees) (a b : List Stmt) (z : Bool) → block callees (if z then a else b) done ≡ (if z then block callees a done else block callees b done)
 arm_tree callees a b true = refl
@@ -119,16 +139,24 @@ module _ (callees : Callees) (c : Condition) (a b : List Stmt) (n : ℕ) (s : St
   pub if_fails : (k : why.Stuck) → stuck k ≡ numbers_first none (tests c s) → Leads source (choose c (block callees a done) (block callees b done)) n s (Stuck k)
   if_fails k e = if_stuck source {c = c} (sym (e ∙ nothing_first none (tests c s) q))
 
-  pub if_goes : (z : Bool) (arm : List Stmt) (ran r : Ran) (t : State) → went ns z ≡ numbers_first none (tests c s) → arm ≡ (if z then a else b) → Leads source (block callees arm) n s (seen ran t) → r ≡ wrapped (λ is. item.If ns z (leak_of is)) ran → Leads source (choose c (block callees a done) (block callees b done)) n s (seen r t)
-  if_goes z arm ran r t e i g w =
-      subst (Leads source (choose c (block callees a done) (block callees b done)) n s) (sym (ap (λ x. seen x t) w ∙ seen_wrapped (λ is. item.If ns z (leak_of is)) ran t))
-      (if_leads source {c = c} (block callees a done) (block callees b done) {z = z} (sym (e ∙ nothing_first none (tests c s) q))
-      (subst (λ x. Runs source x n s (seen ran t)) (ap (λ x. block callees x done) i ∙ arm_tree callees a b z) (runs_whole source (block callees arm) n s (seen ran t) g)))
+  module _ (z : Bool) (arm : List Stmt) (e : went ns z ≡ numbers_first none (tests c s)) (i : arm ≡ (if z then a else b)) where
+    if_by : (o : Outcome State why.Stuck (List Item)) → Leads source (block callees arm) n s o → Leads source (choose c (block callees a done) (block callees b done)) n s (finished_by (λ t. t) (λ is. item.If ns z (leak_of is)) o)
+    if_by o g =
+        if_leads source {c = c} (block callees a done) (block callees b done) {z = z} (sym (e ∙ nothing_first none (tests c s) q))
+        (subst (λ x. Runs source x n s o) (ap (λ x. block callees x done) i ∙ arm_tree callees a b z) (runs_whole source (block callees arm) n s o g))
+
+    pub arm_stuck : (k : why.Stuck) → Leads source (block callees arm) n s (Stuck k) → Leads source (choose c (block callees a done) (block callees b done)) n s (Stuck k)
+    arm_stuck k g = if_by (Stuck k) g
+
+    pub if_goes : (ran r : Ran) (t : State) → Leads source (block callees arm) n s (seen (Ok ran) t) → r ≡ wrapped (λ is. item.If ns z (leak_of is)) ran → Leads source (choose c (block callees a done) (block callees b done)) n s (seen (Ok r) t)
+    if_goes ran r t g w =
+        subst (Leads source (choose c (block callees a done) (block callees b done)) n s) (sym (ap (λ x. seen (Ok x) t) w ∙ seen_wrapped (λ is. item.If ns z (leak_of is)) ran t))
+        (if_by (seen (Ok ran) t) g)
 
 -- ---- tests
 
-pub truth_is : (ns : List ℕ) (r : Result Bool why.Stuck) (y z : Bool) (g : Evaluation Bool) → r ≡ Ok y → y ≡ z → did ns r ≡ g → went ns z ≡ g
-truth_is ns r y z g e f h = ap (went ns) (sym f) ∙ ap (did ns) (sym e) ∙ h
+pub truth_is : (ns : List ℕ) (y z : Bool) (g : Evaluation Bool) → y ≡ z → went ns y ≡ g → went ns z ≡ g
+truth_is ns y z g f h = ap (went ns) (sym f) ∙ h
 
 -- ---- one turn of a `while`
 
@@ -223,14 +251,14 @@ module _ (x : Var) (fb : Block → Block) (js : List ℤ) (n0 : ℕ) (s0 : State
 
 -- ---- `for`
 
-pub rounds_as : (x : Var) (b : Block) (js : List ℤ) (n : ℕ) (s t : State) (r q : RoundsEnd) → RoundsOf x b js n s (rounds_seen r t) → r ≡ q → RoundsOf x b js n s (rounds_seen q t)
-rounds_as x b js n s t r q h e = subst (λ y. RoundsOf x b js n s (rounds_seen y t)) e h
+pub rounds_as : (x : Var) (b : Block) (js : List ℤ) (n : ℕ) (s t : State) (r q : RoundsEnd) → RoundsOf x b js n s (rounds_seen (Ok r) t) → r ≡ q → RoundsOf x b js n s (rounds_seen (Ok q) t)
+rounds_as x b js n s t r q h e = subst (λ y. RoundsOf x b js n s (rounds_seen (Ok y) t)) e h
 
 module _ (f : Counter) (fb : Block → Block) (n : ℕ) (s : State) (none ns : List ℕ) (q : none ≡ []) where
-  pub for_fails : (k : why.Stuck) → stuck k ≡ numbers_first none (values_in f.at f.from f.down f.to s) → Leads source (each f (fb done)) n s (Stuck k)
+  pub for_fails : (k : why.Stuck) → stuck k ≡ numbers_first none (counts f s) → Leads source (each f (fb done)) n s (Stuck k)
   for_fails k e = each_stuck source {f = f} (sym (e ∙ nothing_first none (counts f s) q))
 
-  module _ (js : List ℤ) (e : went ns js ≡ numbers_first none (values_in f.at f.from f.down f.to s)) where
+  module _ (js : List ℤ) (e : went ns js ≡ numbers_first none (counts f s)) where
     counts_are : counts f s ≡ went ns js
     counts_are = sym (e ∙ nothing_first none (counts f s) q)
 
@@ -276,19 +304,15 @@ same_runs f g n s (End t m is) e h = λ r o i. subst (λ x. Runs source x n s (b
 same_runs f g n s (Cut is) e h = λ r. subst (λ x. Runs source x n s (Cut is)) (sym (e r)) (h r)
 same_runs f g n s (Stuck w) e h = λ r. subst (λ x. Runs source x n s (Stuck w)) (sym (e r)) (h r)
 
-module _ (fs : List Fun) (d : ℕ) (o : Option BinOp) (name : List ℕ) (c : Option Expr) (to : List Lval) (args : List Expr) (at : Span) (n : ℕ) (s t : State) (r : Ran) where
-  pub call_of_none : called fs d o name c ≡ None → r ≡ ran_as.Stuck (record { span = at; why = Init }) → Leads source (call_tree (callees_of fs d name) to o args c at) n s (seen r t)
-  call_of_none e i = same_runs (op (meaningless at)) (call_tree (callees_of fs d name) to o args c at) n s (seen r t) (λ rest. calls_nothing fs d o name c to args at rest e) (meaningless_leads at n s t r i)
+module _ (fs : List Fun) (d : ℕ) (o : Option BinOp) (name : List ℕ) (c : Option Expr) (to : List Lval) (args : List Expr) (at : Span) (n : ℕ) (s : State) where
+  pub call_of_none : called fs d o name c ≡ None → (k : why.Stuck) → k ≡ record { span = at; why = Init } → Leads source (call_tree (callees_of fs d name) to o args c at) n s (Stuck k)
+  call_of_none e k i = same_runs (op (meaningless at)) (call_tree (callees_of fs d name) to o args c at) n s (Stuck k) (λ rest. calls_nothing fs d o name c to args at rest e) (meaningless_leads at n s k i)
 
-  pub call_of_some : (f : Fun) → called fs d o name c ≡ Some f → Leads source (call (record { to = to; callee = f; args = args; at = at }) (block (callees_of fs (d - 1)) f.body done)) n s (seen r t) → Leads source (call_tree (callees_of fs d name) to o args c at) n s (seen r t)
-  call_of_some f e h = same_runs (call (record { to = to; callee = f; args = args; at = at }) (block (callees_of fs (d - 1)) f.body done)) (call_tree (callees_of fs d name) to o args c at) n s (seen r t) (λ rest. calls_it fs d o name c to args at f rest e) h
+  pub call_of_some : (f : Fun) (x : Outcome State why.Stuck (List Item)) → called fs d o name c ≡ Some f → Leads source (call (record { to = to; callee = f; args = args; at = at }) (block (callees_of fs (d - 1)) f.body done)) n s x → Leads source (call_tree (callees_of fs d name) to o args c at) n s x
+  call_of_some f x e h = same_runs (call (record { to = to; callee = f; args = args; at = at }) (block (callees_of fs (d - 1)) f.body done)) (call_tree (callees_of fs d name) to o args c at) n s x (λ rest. calls_it fs d o name c to args at f rest e) h
 
 inside : {A B : Type 0} (g : A → B) (x : Evaluation A) (ns : List ℕ) (v : A) → x ≡ went ns v → and_then x (λ y. went [] (g y)) ≡ went ns (g v)
 inside g x ns v e = ap (λ z. and_then z (λ y. went [] (g y))) e ∙ ap (λ ms. went ms (g v)) (append-nil ns)
-
-call_end_seen : {A : Type 0} (n : ℕ) (ns : List ℕ) (is : List Item) (ms : List ℕ) (d : Result A why.Stuck) (t : State) → seen (call_end n ns is ms d) t ≡ left_with ns n is (changed ms t d)
-call_end_seen n ns is ms (Ok u) t = refl
-call_end_seen n ns is ms (Err k) t = refl
 
 module _ (call_here : Call) (fb : Block → Block) (n : ℕ) (s : State) (none ns : List ℕ) (q : none ≡ []) where
   abbrev arguments : Evaluation Store
@@ -310,7 +334,12 @@ module _ (call_here : Call) (fb : Block → Block) (n : ℕ) (s : State) (none n
     pub callee_cut : (is items : List Item) (ms : List ℕ) → ms ≡ [] → items ≡ item.Call ns (leak_of is) ms ∷ [] → Leads source fb n t1 (Cut is) → Leads source (call call_here (fb done)) n s (Cut items)
     callee_cut is items ms im ii g = subst (λ y. Leads source (call call_here (fb done)) n s (Cut y)) (sym (ii ∙ ap (λ y. item.Call ns (leak_of is) y ∷ []) im)) (finished_call (Cut is) g)
 
-    pub callee_ended : {A : Type 0} (is : List Item) (m : ℕ) (t2 u : State) (none2 ms : List ℕ) (d : Result A why.Stuck) (r : Ran) → Leads source fb n t1 (End t2 m is) → none2 ≡ [] → changed ms u d ≡ numbers_first none2 (leaves call_here s t2) → r ≡ call_end m ns is ms d → Leads source (call call_here (fb done)) n s (seen r u)
-    callee_ended is m t2 u none2 ms d r g q2 i ir =
-        subst (Leads source (call call_here (fb done)) n s) (sym (ap (λ x. seen x u) ir ∙ call_end_seen m ns is ms d u ∙ ap (left_with ns m is) (i ∙ nothing_first none2 (leaves call_here s t2) q2)))
-        (finished_call (End t2 m is) g)
+    module _ (is : List Item) (m : ℕ) (t2 : State) (g : Leads source fb n t1 (End t2 m is)) (none2 : List ℕ) (q2 : none2 ≡ []) where
+      left_by : (o : Evaluation State) → o ≡ numbers_first none2 (leaves call_here s t2) → Leads source (call call_here (fb done)) n s (left_with ns m is o)
+      left_by o i = subst (λ x. Leads source (call call_here (fb done)) n s (left_with ns m is x)) (sym (i ∙ nothing_first none2 (leaves call_here s t2) q2)) (finished_call (End t2 m is) g)
+
+      pub not_left : (k : why.Stuck) → stuck k ≡ numbers_first none2 (leaves call_here s t2) → Leads source (call call_here (fb done)) n s (Stuck k)
+      not_left k i = left_by (stuck k) i
+
+      pub callee_ended : (u : State) (ms : List ℕ) (items : List Item) → went ms u ≡ numbers_first none2 (leaves call_here s t2) → items ≡ item.Call ns (leak_of is) ms ∷ [] → Leads source (call call_here (fb done)) n s (End u m items)
+      callee_ended u ms items i ii = subst (λ y. Leads source (call call_here (fb done)) n s (End u m y)) (sym ii) (left_by (went ms u) i)

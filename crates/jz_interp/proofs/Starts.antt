@@ -18,13 +18,13 @@ use Rattle.jz_meaning.specs.States.{Value, word, Store, put, State}
 use Rattle.jz_meaning.specs.Values.{key_of, ref_of}
 use Rattle.jz_meaning.specs.Statements.{source}
 use Rattle.jz_meaning.specs.Runs.{block, callees_of, with_arguments, entry_state, result_word, result_words, outcome_of_words, outcome_of_body, IsInput}
-use Rattle.jz_interp.specs.ShownRuns.{Runs, Leads}
+use Rattle.jz_interp.specs.ShownRuns.{leak_of, Runs, Leads}
 use Rattle.jz_interp.specs.declared.outcome.Outcome as code
 use Rattle.jz_interp.specs.declared.outcome.Outcome.TheVariants as outcome
 use Rattle.jz_interp.specs.Outcomes.{values_of, Takes, Shows, Interprets}
 use Rattle.jz_interp.specs.Answers.{values_first, BodyShows}
-use Rattle.jz_interp.proofs.Lists.{drop_at, drop_some, drop_none}
-use Rattle.jz_interp.proofs.Steps.{leak_of, ended, was_cut, was_stuck, runs_whole}
+use Rattle.jz_passing.proofs.RestLemmas.{rest_at, rest_some, rest_none}
+use Rattle.jz_interp.proofs.Steps.{ended, was_cut, was_stuck, runs_whole}
 
 -- ---- arguments
 
@@ -34,7 +34,7 @@ arguments_nil (p ∷ ps) vs = refl
 
 module _ (ps : List Param) (ws : List code_word.Word) (i : ℕ) (vs whole : Store) (so : with_arguments (drop i ps) (values_of (drop i ws)) vs ≡ whole) where
   pub arguments_end : slice_get ws i ≡ None → vs ≡ whole
-  arguments_end e = sym (ap (λ x. with_arguments (drop i ps) (values_of x) vs) (drop_none ws i e) ∙ arguments_nil (drop i ps) vs) ∙ so
+  arguments_end e = sym (ap (λ x. with_arguments (drop i ps) (values_of x) vs) (rest_none ws i e) ∙ arguments_nil (drop i ps) vs) ∙ so
 
   pub arguments_over : length ps ≤ i → vs ≡ whole
   arguments_over le = sym (ap (λ x. with_arguments x (values_of (drop i ws)) vs) (drop_all i ps le)) ∙ so
@@ -42,7 +42,7 @@ module _ (ps : List Param) (ws : List code_word.Word) (i : ℕ) (vs whole : Stor
   pub arguments_more : (p : Param) (w : code_word.Word) (us : Store) → i < length ps → p ≡ get_or ps i p → slice_get ws i ≡ Some w → us ≡ put vs (key_of (ref_of p.var)) (Some (word w.size w.bits)) → with_arguments (drop (i + 1) ps) (values_of (drop (i + 1) ws)) us ≡ whole
   arguments_more p w us lt ip iw iu =
       ap (with_arguments (drop (i + 1) ps) (values_of (drop (i + 1) ws))) iu
-      ∙ sym (ap (λ x. with_arguments x (values_of (drop i ws)) vs) (drop_at ps i p lt ip) ∙ ap (λ x. with_arguments (p ∷ drop (i + 1) ps) (values_of x) vs) (drop_some ws i w iw)) ∙ so
+      ∙ sym (ap (λ x. with_arguments x (values_of (drop i ws)) vs) (rest_at ps i p lt ip) ∙ ap (λ x. with_arguments (p ∷ drop (i + 1) ps) (values_of x) vs) (rest_some ws i w iw)) ∙ so
 
 -- ---- results
 
@@ -64,7 +64,7 @@ module _ (xs : List Var) (i : ℕ) (ws : List code_word.Word) (store : Store) (s
 
   module _ (x : Var) (lt : i < length xs) (ix : x ≡ get_or xs i x) where
     at_variable : values_first (values_of ws) (and_then (result_word x store) (λ v. and_then (result_words (drop (i + 1) xs) store) (λ vs. went [] (v ∷ vs)))) ≡ result_words xs store
-    at_variable = sym (ap (λ ys. values_first (values_of ws) (result_words ys store)) (drop_at xs i x lt ix)) ∙ so
+    at_variable = sym (ap (λ ys. values_first (values_of ws) (result_words ys store)) (rest_at xs i x lt ix)) ∙ so
 
     pub results_stuck : (k : why.Stuck) → stuck k ≡ result_word x store → stuck k ≡ result_words xs store
     results_stuck k e = ap (λ g. values_first (values_of ws) (and_then g (λ v. and_then (result_words (drop (i + 1) xs) store) (λ vs. went [] (v ∷ vs))))) e ∙ at_variable

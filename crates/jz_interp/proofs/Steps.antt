@@ -10,7 +10,7 @@ use Rattle.jz_leak.specs.Shown.{items_of, turns_of, rounds_of}
 use Rattle.jz_runs.specs.Trees.{Tree, done, op, quiet, choose, loop, each, call}
 use Rattle.jz_runs.specs.Rules.{Attempt, stuck, went, Parts, Outcome, End, Cut, Stuck, after, Goes, finished, did, did_not, quieted, chosen, chosen_cut, chosen_stuck, chose_not, loop_left, loop_cut, loop_stuck, counted, counted_cut, counted_stuck, counted_not, call_ended, call_cut, call_stuck, entered_not, left_not, Loops, in_prologue, prologue_stuck, tested_not, leaves_loop, no_turn, in_body, body_stuck, more_turns, Counts, no_count, more_counts, count_cut, count_stuck}
 use Rattle.jz_runs.proofs.Steady.{not_more}
-use Rattle.jz_interp.specs.ShownRuns.{before, finished_by, left_with, call_finished, Runs, RunsTurns, RunsRounds, Leads, last, more, cut, stuck_in, IsTurn, IsTested, Passed, Turned, Counted}
+use Rattle.jz_interp.specs.ShownRuns.{leak_of, turn_of, before, finished_by, left_with, call_finished, Runs, RunsTurns, RunsRounds, Leads, last, more, cut, stuck_in, IsTurn, IsTested, Passed, Turned, Counted}
 
 -- one item more is one in front of what is shown
 shown_after : {S W L X : Type 0} (show : L → List X) (f : L → L) (x : X) → ((l : L) → show (f l) ≡ x ∷ show l) → (o : Outcome S W L) (o' : Outcome S W (List X)) → after show o ≡ o' → after show (after f o) ≡ before (x ∷ []) o'
@@ -27,12 +27,6 @@ pub before_none : {S W X : Type 0} (o : Outcome S W (List X)) → before [] o �
 before_none (End s n l) = refl
 before_none (Cut l) = refl
 before_none (Stuck w) = refl
-
-abbrev pub leak_of : List Item → shown_leak.Leak
-leak_of is = record { items = is }
-
-abbrev pub turn_of : List Item → List ℕ → Bool → List Item → Turn
-turn_of is ns z js = record { prologue = leak_of is; numbers = ns; more = z; body = leak_of js }
 
 -- ---- what a run that is shown as an end, a cut or stuck was
 

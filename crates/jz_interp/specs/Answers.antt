@@ -12,6 +12,7 @@ use Rattle.jz_meaning.specs.States.{Value, word, State}
 use Rattle.jz_meaning.specs.Statements.{source}
 use Rattle.jz_meaning.specs.Runs.{block, callees_of, entry_state, outcome_of_body}
 use Rattle.jz_interp.specs.declared.outcome.Outcome as code
+use Rattle.jz_interp.specs.declared.outcome.Outcome.TheVariants as outcome
 use Rattle.jz_interp.specs.Outcomes.{values_of, Shows}
 
 abbrev pub word_seen : Result code_word.Word why.Stuck → Evaluation Value
@@ -27,8 +28,15 @@ abbrev pub values_first : List Value → Evaluation (List Value) → Evaluation 
 values_first vs (stuck w) = stuck w
 values_first vs (went ns ws) = went ns (vs ++ ws)
 
+-- what a run comes to that is stuck there, or not
+abbrev pub outcome_of : Result code.Outcome why.Stuck → code.Outcome
+outcome_of (Ok o) = o
+outcome_of (Err k) = outcome.Stuck k
+
 -- a function's body on argument words has an outcome that the answer shows
-pub record BodyShows (fs : List Fun) (f : Fun) (words : List Value) (memory : Memory) (n : ℕ) (answer : code.Outcome) : Type 0 where
+pub record BodyShows (fs : List Fun) (f : Fun) (words : List Value) (memory : Memory) (n : ℕ)
+    (answer : code.Outcome) : Type 0 where
   pub out : Outcome State why.Stuck Leak
-  pub goes : Goes source (block (callees_of fs (length fs)) f.body done) n (entry_state f words memory) out
+  pub goes :
+      Goes source (block (callees_of fs (length fs)) f.body done) n (entry_state f words memory) out
   pub shows : Shows (outcome_of_body f.result out) answer

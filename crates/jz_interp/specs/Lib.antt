@@ -2,5 +2,6 @@ pub mod Answers
 pub mod Calls
 pub mod Ends
 pub mod Outcomes
+pub mod Parts
 pub mod Rounds
 pub mod ShownRuns

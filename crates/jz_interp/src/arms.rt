@@ -15,7 +15,8 @@ pub fn arm<'a>(answer: bool, holds: &'a Seq<Stmt>, other: &'a Seq<Stmt>) -> &'a 
     if answer { holds } else { other }
 }
 
-/// The function that a call runs, where calls may be so deep; none where the call has an operation or a condition.
+/// The function that a call runs, where calls may be so deep; none where the call has an operation
+/// or a condition.
 pub fn callee_of<'a>(
     code: &Code<'a>,
     depth: usize,

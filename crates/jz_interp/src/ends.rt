@@ -2,14 +2,11 @@
 
 ghost use Rattle.std.specs.Prelude.{◌≡◌, [], ◌∷◌, IfOk};
 ghost use Rattle.jz_leak.specs.declared.leak.Item.TheVariants as item;
-ghost use Rattle.jz_meaning.specs.declared.value.Why.TheVariants.{Init};
-ghost use Rattle.jz_interp.specs.declared.ends.Ran.TheVariants as ran_as;
+ghost use Rattle.jz_interp.specs.ShownRuns.{leak_of, turn_of};
 ghost use Rattle.jz_interp.specs.Ends.{wrapped};
 
 use jz_data::Seq;
-use jz_io::Span;
 use jz_leak::{Item, Leak, Turn};
-use jz_meaning::{Stuck, Why};
 use std::alloc::{AllocError, Global};
 
 /// How statements ended.
@@ -18,7 +15,6 @@ pub enum Ran {
     /// With so many turns left.
     End(u64, Seq<Item>),
     Cut(Seq<Item>),
-    Stuck(Stuck),
 }
 
 /// How a turn of a `while` ended.
@@ -29,7 +25,6 @@ pub enum TurnEnd {
     /// There is another test after it.
     More(u64, Turn),
     Cut(Turn),
-    Stuck(Stuck),
 }
 
 /// How the rounds of a `for` ended.
@@ -37,17 +32,6 @@ pub enum TurnEnd {
 pub enum RoundsEnd {
     End(u64, Seq<Leak>),
     Cut(Seq<Leak>),
-    Stuck(Stuck),
-}
-
-/// What has no meaning.
-pub fn meaningless(span: Span) -> Ran
-    ensures { result ≡ ran_as.Stuck (record { span = span; why = Init }) }
-{
-    Ran::Stuck(Stuck {
-        span,
-        why: Why::Init,
-    })
 }
 
 /// The leak of one statement.
@@ -66,7 +50,7 @@ pub fn end_of_if(
     answer: bool,
     ran: Ran,
 ) -> Result<Ran, AllocError>
-    ensures { IfOk result (λ r. r ≡ wrapped (λ is. item.If numbers answer (record { items = is })) ran) }
+    ensures { IfOk result (λ r. r ≡ wrapped (λ is. item.If numbers answer (leak_of is)) ran) }
 {
     match ran {
         Ran::End(left, items) => {
@@ -77,13 +61,12 @@ pub fn end_of_if(
             let leaked = one(alloc, Item::If(numbers, answer, Leak { items }))?;
             Ok(Ran::Cut(leaked))
         }
-        Ran::Stuck(stuck) => Ok(Ran::Stuck(stuck)),
     }
 }
 
 /// A turn of a `while`.
 pub fn turn(prologue: Seq<Item>, numbers: Seq<u64>, more: bool, body: Seq<Item>) -> Turn
-    ensures { result ≡ record { prologue = record { items = prologue }; numbers = numbers; more = more; body = record { items = body } } }
+    ensures { result ≡ turn_of prologue numbers more body }
 {
     Turn {
         prologue: Leak { items: prologue },

@@ -1,26 +1,30 @@
 //! The run of a function on argument words.
 
 ghost use Rattle.std.specs.Prelude.{◌≡◌, IfOk, OnOk};
+ghost use Rattle.jz_data.specs.Failures.{IfAnswered};
 ghost use Rattle.jz_meaning.specs.Stores.{store_of};
 ghost use Rattle.jz_meaning.specs.Runs as runs;
 ghost use Rattle.jz_interp.specs.Outcomes.{values_of};
-ghost use Rattle.jz_interp.specs.Answers.{word_seen, words_seen, BodyShows};
+ghost use Rattle.jz_interp.specs.Answers.{word_seen, words_seen, outcome_of, BodyShows};
 
 use crate::code::Code;
 use crate::ends::Ran;
 use crate::outcome::Outcome;
 use crate::running::run_block;
 use jz_assign::{set, value_of};
-use jz_data::Seq;
+use jz_data::{Failure, Seq};
 use jz_leak::{Leak, MemMap};
-use jz_meaning::{Store, Stuck, Value, Why};
+use jz_meaning::{State, Store, Stuck, Value, Why};
 use jz_tree::{Fun, Param, Var};
 use jz_words::Word;
-use std::alloc::{AllocError, Global};
+use std::alloc::AllocError;
 
 // The parameters have the argument words.
 fn give_words(params: &Seq<Param>, words: &Seq<Word>, store: &mut Store) -> Result<(), AllocError>
-    ensures { OnOk result (store_of store.new ≡ runs.with_arguments params.now (values_of words.now) (store_of store.old)) }
+    ensures {
+        let given = runs.with_arguments params.now (values_of words.now) (store_of store.old) in
+        OnOk result (store_of store.new ≡ given)
+    }
 {
     for (i, param) in params.as_slice().iter().enumerate() {
         match words.get(i) {
@@ -46,21 +50,44 @@ fn result_word(var: &Var, store: &Store) -> Result<Word, Stuck>
 }
 
 // The words of the variables that are returned.
-fn result_words(
-    alloc: Global,
-    vars: &Seq<Var>,
-    store: &Store,
-) -> Result<Result<Seq<Word>, Stuck>, AllocError>
-    ensures { IfOk result (λ r. words_seen r ≡ runs.result_words vars.now (store_of store.now)) }
+fn result_words(vars: &Seq<Var>, store: &Store) -> Result<Seq<Word>, Failure<Stuck>>
+    ensures {
+        let words = runs.result_words vars.now (store_of store.now) in
+        IfAnswered result (λ r. words_seen r ≡ words)
+    }
 {
-    let mut words = Seq::new(alloc);
+    let mut words = Seq::new(store.allocator());
     for var in vars.as_slice() {
-        match result_word(var, store) {
-            Err(stuck) => return Ok(Err(stuck)),
-            Ok(word) => words.push(word)?,
+        let word = result_word(var, store)?;
+        words.push(word)?;
+    }
+    Ok(words)
+}
+
+// The run of its body, and the words that it returns.
+fn run_body_of(
+    code: &Code<'_>,
+    function: &Fun,
+    words: &Seq<Word>,
+    memory: MemMap,
+    fuel: u64,
+) -> Result<Outcome, Failure<Stuck>>
+    ensures {
+        let run = BodyShows code.now.funs.now function.now (values_of words.now) memory fuel in
+        IfAnswered result (λ r. run (outcome_of r))
+    }
+{
+    let mut store = Store::new(code.alloc);
+    give_words(&function.params, words, &mut store)?;
+    let mut state = State { store, memory };
+    match run_block(code, code.funs.len(), &function.body, &mut state, fuel)? {
+        Ran::Cut(items) => Ok(Outcome::Cut(Leak { items })),
+        Ran::End(_, items) => {
+            let words = result_words(&function.result, &state.store)?;
+            let State { store: _, memory } = state;
+            Ok(Outcome::End(words, memory, Leak { items }))
         }
     }
-    Ok(Ok(words))
 }
 
 /// The run of a function on argument words, one for each parameter.
@@ -68,27 +95,17 @@ pub fn run_function(
     code: &Code<'_>,
     function: &Fun,
     words: &Seq<Word>,
-    mem: MemMap,
+    memory: MemMap,
     fuel: u64,
 ) -> Result<Outcome, AllocError>
-    ensures { IfOk result (λ answer. BodyShows code.now.funs.now function.now (values_of words.now) mem fuel answer) }
+    ensures {
+        let run = BodyShows code.now.funs.now function.now (values_of words.now) memory fuel in
+        IfOk result run
+    }
 {
-    let mut mem = mem;
-    let mut store = Store::new(code.alloc);
-    give_words(&function.params, words, &mut store)?;
-    match run_block(
-        code,
-        code.funs.len(),
-        &function.body,
-        &mut store,
-        &mut mem,
-        fuel,
-    )? {
-        Ran::Stuck(stuck) => Ok(Outcome::Stuck(stuck)),
-        Ran::Cut(items) => Ok(Outcome::Cut(Leak { items })),
-        Ran::End(_, items) => match result_words(code.alloc, &function.result, &store)? {
-            Err(stuck) => Ok(Outcome::Stuck(stuck)),
-            Ok(words) => Ok(Outcome::End(words, mem, Leak { items })),
-        },
+    match run_body_of(code, function, words, memory, fuel) {
+        Ok(outcome) => Ok(outcome),
+        Err(Failure::Refused(stuck)) => Ok(Outcome::Stuck(stuck)),
+        Err(Failure::OutOfMemory) => Err(AllocError),
     }
 }

@@ -9,8 +9,9 @@ use crate::outcome::{Input, Outcome};
 use jz_types::Typed;
 use std::alloc::{AllocError, Global};
 
-/// The run of the function at that place in the text, with at most `fuel` true tests of `while` in the whole run. It takes memory for
-/// what is leaked; its stack grows with the nesting of the text and the depth of calls, and not with the turns of loops.
+/// The run of the function at that place in the text, with at most `fuel` true tests of `while` in
+/// the whole run. It takes memory for what is leaked; its stack grows with the nesting of the text
+/// and the depth of calls, and not with the turns of loops.
 pub fn interpret(
     alloc: Global,
     typed: &Typed,
@@ -19,7 +20,9 @@ pub fn interpret(
     fuel: u64,
 ) -> Result<Outcome, AllocError>
     requires { Takes typed.now.program fun input.now.words }
-    ensures { IfOk result (λ answer. Interprets typed.now.program fun input.now.words input.now.mem fuel answer) }
+    ensures {
+        IfOk result (Interprets typed.now.program fun input.now.words input.now.mem fuel)
+    }
 {
     let funs = &typed.program().funs;
     let code = Code::of(alloc, funs)?;

@@ -8,6 +8,7 @@ mod ends;
 mod functions;
 mod interpreting;
 mod outcome;
+mod parts;
 mod running;
 mod straight;
 mod taking;

@@ -1,28 +1,28 @@
-//! Runs of statements, forward. A loop of the text is a loop here, so the stack grows with the nesting of the text and the depth of
-//! calls alone.
+//! Runs of statements, forward. A loop of the text is a loop here, so the stack grows with the
+//! nesting of the text and the depth of calls alone.
 
-ghost use Rattle.std.specs.Prelude.{◌≡◌, IfOk, not, is_some};
 ghost use Rattle.jz_runs.specs.Trees as tree;
-ghost use Rattle.jz_meaning.specs.Stores.{state};
-ghost use Rattle.jz_meaning.specs.Statements as statements;
-ghost use Rattle.jz_meaning.specs.Runs.{block, statement_tree, assign_tree, call_tree, callees_of};
-ghost use Rattle.jz_interp.specs.Rounds.{values_left, RoundsOf};
-ghost use Rattle.jz_interp.specs.ShownRuns.{Leads, IsTurn, IsTested};
-ghost use Rattle.jz_interp.specs.Ends.{seen, turn_seen, rounds_seen, body_piece};
+ghost use Rattle.jz_meaning.specs.Runs.{block, statement_tree};
+ghost use Rattle.jz_passing.specs.Answers.{call_of};
+ghost use Rattle.jz_interp.specs.Parts.{callees_in, condition_of, counter_of};
+ghost use Rattle.jz_interp.specs.Parts.{assignment_tree, named_call_tree, while_tree};
+ghost use Rattle.jz_interp.specs.Parts.{inner_block, body_piece, inner_body};
+ghost use Rattle.jz_interp.specs.Rounds.{values_left};
+ghost use Rattle.jz_interp.specs.Ends.{RunsPiece, RunsTurn, RunsTest, RunsAllRounds};
 
 use crate::arms::{arm, callee_of};
 use crate::code::Code;
 use crate::counters::{Values, counter_values};
-use crate::ends::{Ran, RoundsEnd, TurnEnd, end_of_if, meaningless, one, turn};
-use crate::straight::{end_of_call, run_instruction, run_value};
-use jz_assign::{set, truth_in, value_of};
-use jz_data::{Seq, Text};
-use jz_io::Span;
-use jz_leak::{Item, Leak, MemMap};
-use jz_meaning::{Store, Value};
-use jz_passing::{enter, leave, unset_all};
-use jz_tree::{BinOp, Expr, Fun, Lval, Rhs, Stmt, StmtKind, Var};
-use std::alloc::AllocError;
+use crate::ends::{Ran, RoundsEnd, TurnEnd, end_of_if, one, turn};
+use crate::parts::{Counter, Named, Test};
+use crate::straight::{run_instruction, run_value};
+use jz_assign::{Assignment, missing, set, truth_in, value_of};
+use jz_data::{Failure, Seq};
+use jz_leak::{Item, Leak};
+use jz_meaning::{State, Stuck, Value};
+use jz_passing::{Call, enter, leave, unset_all};
+use jz_tree::{Rhs, Stmt, StmtKind, Var};
+use std::mem::replace;
 
 /// Statements in their order, with so many true tests of `while` left.
 #[cycle(run)]
@@ -30,17 +30,18 @@ pub fn run_block(
     code: &Code<'_>,
     depth: usize,
     stmts: &Seq<Stmt>,
-    store: &mut Store,
-    mem: &mut MemMap,
+    state: &mut State,
     fuel: u64,
-) -> Result<Ran, AllocError>
-    ensures { IfOk result (λ r. Leads statements.source (block (callees_of code.now.funs.now depth) stmts.now) fuel (state store.old mem.old) (seen r (state store.new mem.new))) }
+) -> Result<Ran, Failure<Stuck>>
+    ensures {
+        let callees = callees_in code.now depth in
+        RunsPiece result fuel state.old state.new (block callees stmts.now)
+    }
 {
     let mut items = Seq::new(code.alloc);
     let mut left = fuel;
     for stmt in stmts.as_slice() {
-        match run_statement(code, depth, stmt, store, mem, left)? {
-            Ran::Stuck(stuck) => return Ok(Ran::Stuck(stuck)),
+        match run_statement(code, depth, stmt, state, left)? {
             Ran::Cut(more) => {
                 items.append(more)?;
                 return Ok(Ran::Cut(items));
@@ -59,20 +60,25 @@ fn run_statement(
     code: &Code<'_>,
     depth: usize,
     stmt: &Stmt,
-    store: &mut Store,
-    mem: &mut MemMap,
+    state: &mut State,
     fuel: u64,
-) -> Result<Ran, AllocError>
-    ensures { IfOk result (λ r. Leads statements.source (statement_tree (callees_of code.now.funs.now depth) stmt.now) fuel (state store.old mem.old) (seen r (state store.new mem.new))) }
+) -> Result<Ran, Failure<Stuck>>
+    ensures {
+        let callees = callees_in code.now depth in
+        RunsPiece result fuel state.old state.new (statement_tree callees stmt.now)
+    }
 {
     let span = stmt.span;
     match &stmt.kind {
         StmtKind::Assign { to, op, rhs, cond } => {
-            let ran = run_assign(code, depth, to, *op, rhs, cond, span, store, mem, fuel)?;
+            let op = *op;
+            let assignment = Assignment { to, op, cond, span };
+            let ran = run_assign(code, depth, assignment, rhs, state, fuel)?;
             Ok(ran)
         }
         StmtKind::If(cond, holds, other) => {
-            let ran = run_if(code, depth, cond, holds, other, span, store, mem, fuel)?;
+            let test = Test { cond, span };
+            let ran = run_if(code, depth, test, holds, other, state, fuel)?;
             Ok(ran)
         }
         StmtKind::While {
@@ -80,7 +86,8 @@ fn run_statement(
             cond,
             body,
         } => {
-            let ran = run_while(code, depth, prologue, cond, body, span, store, mem, fuel)?;
+            let test = Test { cond, span };
+            let ran = run_while(code, depth, prologue, test, body, state, fuel)?;
             Ok(ran)
         }
         StmtKind::For {
@@ -90,13 +97,18 @@ fn run_statement(
             to,
             body,
         } => {
-            let ran = run_for(
-                code, depth, counter, from, *down, to, body, span, store, mem, fuel,
-            )?;
+            let counter = Counter {
+                counter,
+                from,
+                down: *down,
+                to,
+                span,
+            };
+            let ran = run_for(code, depth, counter, body, state, fuel)?;
             Ok(ran)
         }
         StmtKind::Mark(vars) => {
-            unset_all(vars, store)?;
+            unset_all(vars, &mut state.store)?;
             Ok(Ran::End(fuel, Seq::new(code.alloc)))
         }
     }
@@ -106,32 +118,32 @@ fn run_statement(
 fn run_assign(
     code: &Code<'_>,
     depth: usize,
-    to: &Seq<Lval>,
-    op: Option<BinOp>,
+    assignment: Assignment<'_>,
     rhs: &Rhs,
-    cond: &Option<Expr>,
-    span: Span,
-    store: &mut Store,
-    mem: &mut MemMap,
+    state: &mut State,
     fuel: u64,
-) -> Result<Ran, AllocError>
-    ensures { IfOk result (λ r. Leads statements.source (assign_tree (callees_of code.now.funs.now depth) to.now op rhs.now cond.now span) fuel (state store.old mem.old) (seen r (state store.new mem.new))) }
+) -> Result<Ran, Failure<Stuck>>
+    ensures {
+        let callees = callees_in code.now depth in
+        let piece = assignment_tree callees assignment.entry rhs.now in
+        RunsPiece result fuel state.old state.new piece
+    }
 {
     match rhs {
         Rhs::Value(value) => {
-            let ran = run_value(code.alloc, to, op, value, cond, span, store, mem, fuel)?;
+            let ran = run_value(assignment, value, state, fuel)?;
             Ok(ran)
         }
         Rhs::Call(name, args, place) => {
-            let ran = run_call(
-                code, depth, to, op, name, args, cond, *place, store, mem, fuel,
-            )?;
+            let span = *place;
+            let named = Named { name, args, span };
+            let ran = run_call(code, depth, assignment, named, state, fuel)?;
             Ok(ran)
         }
         Rhs::Intrinsic(name, args, place) => {
-            let ran = run_instruction(
-                code.alloc, to, op, name, args, cond, *place, store, mem, fuel,
-            )?;
+            let span = *place;
+            let named = Named { name, args, span };
+            let ran = run_instruction(assignment, named, state, fuel)?;
             Ok(ran)
         }
     }
@@ -141,25 +153,23 @@ fn run_assign(
 fn run_if(
     code: &Code<'_>,
     depth: usize,
-    cond: &Expr,
+    test: Test<'_>,
     holds: &Seq<Stmt>,
     other: &Seq<Stmt>,
-    span: Span,
-    store: &mut Store,
-    mem: &mut MemMap,
+    state: &mut State,
     fuel: u64,
-) -> Result<Ran, AllocError>
-    ensures { IfOk result (λ r. Leads statements.source (tree.choose (record { cond = cond.now; at = span }) (block (callees_of code.now.funs.now depth) holds.now tree.done) (block (callees_of code.now.funs.now depth) other.now tree.done)) fuel (state store.old mem.old) (seen r (state store.new mem.new))) }
+) -> Result<Ran, Failure<Stuck>>
+    ensures {
+        let callees = callees_in code.now depth in
+        let choice = tree.choose (condition_of test.entry) (inner_block callees holds.now) in
+        RunsPiece result fuel state.old state.new (choice (inner_block callees other.now))
+    }
 {
     let mut numbers = Seq::new(code.alloc);
-    match truth_in(code.alloc, span, cond, store, mem, &mut numbers)? {
-        Err(stuck) => Ok(Ran::Stuck(stuck)),
-        Ok(answer) => {
-            let ran = run_block(code, depth, arm(answer, holds, other), store, mem, fuel)?;
-            let whole = end_of_if(code.alloc, numbers, answer, ran)?;
-            Ok(whole)
-        }
-    }
+    let answer = truth_in(test.span, test.cond, state, &mut numbers)?;
+    let ran = run_block(code, depth, arm(answer, holds, other), state, fuel)?;
+    let whole = end_of_if(code.alloc, numbers, answer, ran)?;
+    Ok(whole)
 }
 
 /// A body that may be absent.
@@ -168,16 +178,18 @@ fn run_body(
     code: &Code<'_>,
     depth: usize,
     body: &Option<Seq<Stmt>>,
-    store: &mut Store,
-    mem: &mut MemMap,
+    state: &mut State,
     fuel: u64,
-) -> Result<Ran, AllocError>
-    ensures { IfOk result (λ r. Leads statements.source (body_piece (callees_of code.now.funs.now depth) body.now) fuel (state store.old mem.old) (seen r (state store.new mem.new))) }
+) -> Result<Ran, Failure<Stuck>>
+    ensures {
+        let callees = callees_in code.now depth in
+        RunsPiece result fuel state.old state.new (body_piece callees body.now)
+    }
 {
     match body {
         None => Ok(Ran::End(fuel, Seq::new(code.alloc))),
         Some(stmts) => {
-            let ran = run_block(code, depth, stmts, store, mem, fuel)?;
+            let ran = run_block(code, depth, stmts, state, fuel)?;
             Ok(ran)
         }
     }
@@ -189,32 +201,28 @@ fn run_test(
     code: &Code<'_>,
     depth: usize,
     prologue: Seq<Item>,
-    cond: &Expr,
+    test: Test<'_>,
     body: &Option<Seq<Stmt>>,
-    span: Span,
-    store: &mut Store,
-    mem: &mut MemMap,
+    state: &mut State,
     fuel: u64,
-) -> Result<TurnEnd, AllocError>
-    ensures { IfOk result (λ r. IsTested statements.source (record { cond = cond.now; at = span }) (body_piece (callees_of code.now.funs.now depth) body.now tree.done) prologue fuel (state store.old mem.old) (turn_seen r (state store.new mem.new))) }
+) -> Result<TurnEnd, Failure<Stuck>>
+    ensures {
+        let body = inner_body (callees_in code.now depth) body.now in
+        RunsTest result fuel state.old state.new prologue (condition_of test.entry) body
+    }
 {
     let mut numbers = Seq::new(code.alloc);
-    match truth_in(code.alloc, span, cond, store, mem, &mut numbers)? {
-        Err(stuck) => Ok(TurnEnd::Stuck(stuck)),
-        Ok(false) => Ok(TurnEnd::Last(fuel, turn(prologue, numbers, false, Seq::new(code.alloc)))),
-        Ok(true) => {
-            if fuel == 0 {
-                let wanted = one(code.alloc, Item::Cut)?;
-                return Ok(TurnEnd::Cut(turn(prologue, numbers, true, wanted)));
-            }
-            match run_body(code, depth, body, store, mem, fuel - 1)? {
-                Ran::Stuck(stuck) => Ok(TurnEnd::Stuck(stuck)),
-                Ran::Cut(items) => Ok(TurnEnd::Cut(turn(prologue, numbers, true, items))),
-                Ran::End(left, items) => {
-                    Ok(TurnEnd::More(left, turn(prologue, numbers, true, items)))
-                }
-            }
-        }
+    let more = truth_in(test.span, test.cond, state, &mut numbers)?;
+    if !more {
+        return Ok(TurnEnd::Last(fuel, turn(prologue, numbers, false, Seq::new(code.alloc))));
+    }
+    if fuel == 0 {
+        let wanted = one(code.alloc, Item::Cut)?;
+        return Ok(TurnEnd::Cut(turn(prologue, numbers, true, wanted)));
+    }
+    match run_body(code, depth, body, state, fuel - 1)? {
+        Ran::Cut(items) => Ok(TurnEnd::Cut(turn(prologue, numbers, true, items))),
+        Ran::End(left, items) => Ok(TurnEnd::More(left, turn(prologue, numbers, true, items))),
     }
 }
 
@@ -223,25 +231,25 @@ fn run_turn(
     code: &Code<'_>,
     depth: usize,
     prologue: &Seq<Stmt>,
-    cond: &Expr,
+    test: Test<'_>,
     body: &Option<Seq<Stmt>>,
-    span: Span,
-    store: &mut Store,
-    mem: &mut MemMap,
+    state: &mut State,
     fuel: u64,
-) -> Result<TurnEnd, AllocError>
-    ensures { IfOk result (λ r. IsTurn statements.source (block (callees_of code.now.funs.now depth) prologue.now tree.done) (record { cond = cond.now; at = span }) (body_piece (callees_of code.now.funs.now depth) body.now tree.done) fuel (state store.old mem.old) (turn_seen r (state store.new mem.new))) }
+) -> Result<TurnEnd, Failure<Stuck>>
+    ensures {
+        let callees = callees_in code.now depth in
+        let before = inner_block callees prologue.now in
+        let body = inner_body callees body.now in
+        RunsTurn result fuel state.old state.new before (condition_of test.entry) body
+    }
 {
-    match run_block(code, depth, prologue, store, mem, fuel)? {
-        Ran::Stuck(stuck) => Ok(TurnEnd::Stuck(stuck)),
-        Ran::Cut(items) => Ok(TurnEnd::Cut(turn(
-            items,
-            Seq::new(code.alloc),
-            false,
-            Seq::new(code.alloc),
-        ))),
+    match run_block(code, depth, prologue, state, fuel)? {
+        Ran::Cut(items) => {
+            let numbers = Seq::new(code.alloc);
+            Ok(TurnEnd::Cut(turn(items, numbers, false, Seq::new(code.alloc))))
+        }
         Ran::End(left, items) => {
-            let end = run_test(code, depth, items, cond, body, span, store, mem, left)?;
+            let end = run_test(code, depth, items, test, body, state, left)?;
             Ok(end)
         }
     }
@@ -252,20 +260,21 @@ fn run_while(
     code: &Code<'_>,
     depth: usize,
     prologue: &Seq<Stmt>,
-    cond: &Expr,
+    test: Test<'_>,
     body: &Option<Seq<Stmt>>,
-    span: Span,
-    store: &mut Store,
-    mem: &mut MemMap,
+    state: &mut State,
     fuel: u64,
-) -> Result<Ran, AllocError>
-    ensures { IfOk result (λ r. Leads statements.source (tree.loop (not (is_some body.now)) (block (callees_of code.now.funs.now depth) prologue.now tree.done) (record { cond = cond.now; at = span }) (body_piece (callees_of code.now.funs.now depth) body.now tree.done)) fuel (state store.old mem.old) (seen r (state store.new mem.new))) }
+) -> Result<Ran, Failure<Stuck>>
+    ensures {
+        let callees = callees_in code.now depth in
+        let turns = while_tree callees prologue.now (condition_of test.entry) body.now in
+        RunsPiece result fuel state.old state.new turns
+    }
 {
     let mut turns = Seq::new(code.alloc);
     let mut left = fuel;
     loop {
-        match run_turn(code, depth, prologue, cond, body, span, store, mem, left)? {
-            TurnEnd::Stuck(stuck) => return Ok(Ran::Stuck(stuck)),
+        match run_turn(code, depth, prologue, test, body, state, left)? {
             TurnEnd::Cut(cut_turn) => {
                 turns.push(cut_turn)?;
                 let turns_until_cut = one(code.alloc, Item::While(turns))?;
@@ -292,19 +301,20 @@ fn run_rounds(
     counter: &Var,
     values: Values,
     body: &Seq<Stmt>,
-    store: &mut Store,
-    mem: &mut MemMap,
+    state: &mut State,
     fuel: u64,
-) -> Result<RoundsEnd, AllocError>
-    ensures { IfOk result (λ r. RoundsOf counter.now (block (callees_of code.now.funs.now depth) body.now tree.done) (values_left values) fuel (state store.old mem.old) (rounds_seen r (state store.new mem.new))) }
+) -> Result<RoundsEnd, Failure<Stuck>>
+    ensures {
+        let round = inner_block (callees_in code.now depth) body.now in
+        RunsAllRounds result fuel state.old state.new counter.now round (values_left values)
+    }
 {
     let mut leaks = Seq::new(code.alloc);
     let mut left = fuel;
     let mut values = values;
     while let Some(value) = values.take() {
-        set(counter, Some(Value::Int(value)), store)?;
-        match run_block(code, depth, body, store, mem, left)? {
-            Ran::Stuck(stuck) => return Ok(RoundsEnd::Stuck(stuck)),
+        set(counter, Some(Value::Int(value)), &mut state.store)?;
+        match run_block(code, depth, body, state, left)? {
             Ran::Cut(items) => {
                 leaks.push(Leak { items })?;
                 return Ok(RoundsEnd::Cut(leaks));
@@ -322,35 +332,28 @@ fn run_rounds(
 fn run_for(
     code: &Code<'_>,
     depth: usize,
-    counter: &Var,
-    from: &Expr,
-    down: bool,
-    to: &Expr,
+    counter: Counter<'_>,
     body: &Seq<Stmt>,
-    span: Span,
-    store: &mut Store,
-    mem: &mut MemMap,
+    state: &mut State,
     fuel: u64,
-) -> Result<Ran, AllocError>
-    ensures { IfOk result (λ r. Leads statements.source (tree.each (record { counter = counter.now; from = from.now; down = down; to = to.now; at = span }) (block (callees_of code.now.funs.now depth) body.now tree.done)) fuel (state store.old mem.old) (seen r (state store.new mem.new))) }
+) -> Result<Ran, Failure<Stuck>>
+    ensures {
+        let round = inner_block (callees_in code.now depth) body.now in
+        RunsPiece result fuel state.old state.new (tree.each (counter_of counter.entry) round)
+    }
 {
     let mut numbers = Seq::new(code.alloc);
-    match counter_values(code.alloc, span, from, down, to, store, mem, &mut numbers)? {
-        Err(stuck) => Ok(Ran::Stuck(stuck)),
-        Ok(values) => {
-            let before = value_of(counter, store);
-            match run_rounds(code, depth, counter, values, body, store, mem, fuel)? {
-                RoundsEnd::Stuck(stuck) => Ok(Ran::Stuck(stuck)),
-                RoundsEnd::Cut(leaks) => {
-                    let leaked = one(code.alloc, Item::For(leaks))?;
-                    Ok(Ran::Cut(leaked))
-                }
-                RoundsEnd::End(left, leaks) => {
-                    set(counter, before, store)?;
-                    let leaked = one(code.alloc, Item::For(leaks))?;
-                    Ok(Ran::End(left, leaked))
-                }
-            }
+    let values = counter_values(counter, state, &mut numbers)?;
+    let before = value_of(counter.counter, &state.store);
+    match run_rounds(code, depth, counter.counter, values, body, state, fuel)? {
+        RoundsEnd::Cut(leaks) => {
+            let leaked = one(code.alloc, Item::For(leaks))?;
+            Ok(Ran::Cut(leaked))
+        }
+        RoundsEnd::End(left, leaks) => {
+            set(counter.counter, before, &mut state.store)?;
+            let leaked = one(code.alloc, Item::For(leaks))?;
+            Ok(Ran::End(left, leaked))
         }
     }
 }
@@ -359,71 +362,64 @@ fn run_for(
 fn run_call(
     code: &Code<'_>,
     depth: usize,
-    to: &Seq<Lval>,
-    op: Option<BinOp>,
-    name: &Text,
-    args: &Seq<Expr>,
-    cond: &Option<Expr>,
-    span: Span,
-    store: &mut Store,
-    mem: &mut MemMap,
+    assignment: Assignment<'_>,
+    named: Named<'_>,
+    state: &mut State,
     fuel: u64,
-) -> Result<Ran, AllocError>
-    ensures { IfOk result (λ r. Leads statements.source (call_tree (callees_of code.now.funs.now depth name.now) to.now op args.now cond.now span) fuel (state store.old mem.old) (seen r (state store.new mem.new))) }
+) -> Result<Ran, Failure<Stuck>>
+    ensures {
+        let callees = callees_in code.now depth in
+        let piece = named_call_tree callees assignment.entry named.entry in
+        RunsPiece result fuel state.old state.new piece
+    }
 {
+    let Assignment { to, op, cond, .. } = assignment;
+    let Named { name, args, span } = named;
     match callee_of(code, depth, op, name, cond) {
-        None => Ok(meaningless(span)),
-        Some(called) => {
-            let ran = run_callee(code, depth - 1, to, called, args, span, store, mem, fuel)?;
+        None => Err(Failure::Refused(missing(span))),
+        Some(callee) => {
+            let call = Call {
+                to,
+                callee,
+                args,
+                span,
+            };
+            let ran = run_callee(code, depth - 1, call, state, fuel)?;
             Ok(ran)
         }
     }
 }
 
-/// A call of a function, in whose body calls may be so deep.
+/// A call of a function, in whose body calls may be so deep. The caller's variables are kept aside
+/// while the callee runs.
 #[cycle(run)]
 fn run_callee(
     code: &Code<'_>,
     depth: usize,
-    to: &Seq<Lval>,
-    callee: &Fun,
-    args: &Seq<Expr>,
-    span: Span,
-    store: &mut Store,
-    mem: &mut MemMap,
+    call: Call<'_>,
+    state: &mut State,
     fuel: u64,
-) -> Result<Ran, AllocError>
-    ensures { IfOk result (λ r. Leads statements.source (tree.call (record { to = to.now; callee = callee.now; args = args.now; at = span }) (block (callees_of code.now.funs.now depth) callee.now.body tree.done)) fuel (state store.old mem.old) (seen r (state store.new mem.new))) }
+) -> Result<Ran, Failure<Stuck>>
+    ensures {
+        let body = inner_block (callees_in code.now depth) call.entry.callee.now.body in
+        RunsPiece result fuel state.old state.new (tree.call (call_of call.entry) body)
+    }
 {
     let mut before = Seq::new(code.alloc);
-    let mut inner = match enter(
-        code.alloc,
-        span,
-        &callee.params,
-        args,
-        store,
-        mem,
-        &mut before,
-    )? {
-        Err(stuck) => return Ok(Ran::Stuck(stuck)),
-        Ok(inner) => inner,
-    };
-    match run_block(code, depth, &callee.body, &mut inner, mem, fuel)? {
-        Ran::Stuck(stuck) => Ok(Ran::Stuck(stuck)),
+    let inner = enter(call, state, &mut before)?;
+    let outer = replace(&mut state.store, inner);
+    match run_block(code, depth, &call.callee.body, state, fuel)? {
         Ran::Cut(items) => {
-            let call_until_cut = one(
-                code.alloc,
-                Item::Call(before, Leak { items }, Seq::new(code.alloc)),
-            )?;
+            let cut_call = Item::Call(before, Leak { items }, Seq::new(code.alloc));
+            let call_until_cut = one(code.alloc, cut_call)?;
             Ok(Ran::Cut(call_until_cut))
         }
         Ran::End(left, items) => {
+            let inner = replace(&mut state.store, outer);
             let mut after = Seq::new(code.alloc);
-            let done = leave(
-                code.alloc, span, to, callee, args, &inner, store, mem, &mut after,
-            )?;
-            let ran = end_of_call(code.alloc, left, before, items, after, done)?;
-            Ok(ran)
+            leave(call, &inner, state, &mut after)?;
+            let leaked = one(code.alloc, Item::Call(before, Leak { items }, after))?;
+            Ok(Ran::End(left, leaked))
         }
     }
 }

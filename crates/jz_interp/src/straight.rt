@@ -1,119 +1,75 @@
 //! Statements without an inner run.
 
-ghost use Rattle.std.specs.Prelude.{◌≡◌, IfOk};
 ghost use Rattle.jz_runs.specs.Trees as tree;
-ghost use Rattle.jz_meaning.specs.Stores.{state};
 ghost use Rattle.jz_meaning.specs.Statements as statements;
-ghost use Rattle.jz_meaning.specs.Runs.{instruction_tree};
-ghost use Rattle.jz_interp.specs.ShownRuns.{Leads};
-ghost use Rattle.jz_interp.specs.Ends.{seen, operation_end, call_end};
+ghost use Rattle.jz_interp.specs.Parts.{value_assignment, named_instruction_tree};
+ghost use Rattle.jz_interp.specs.Ends.{RunsPiece};
 
-use crate::ends::{Ran, meaningless, one};
-use jz_assign::assign;
-use jz_data::{Seq, Text};
+use crate::ends::{Ran, one};
+use crate::parts::Named;
+use jz_assign::{Assignment, assign, missing};
+use jz_data::{Failure, Seq};
 use jz_instructions::instruct;
-use jz_io::Span;
-use jz_leak::{Item, Leak, MemMap};
-use jz_meaning::{Store, Stuck};
-use jz_tree::{BinOp, Expr, Lval};
-use std::alloc::{AllocError, Global};
-
-fn end_of_operation(
-    alloc: Global,
-    left: u64,
-    numbers: Seq<u64>,
-    done: Result<(), Stuck>,
-) -> Result<Ran, AllocError>
-    ensures { IfOk result (λ r. r ≡ operation_end left numbers done) }
-{
-    match done {
-        Err(stuck) => Ok(Ran::Stuck(stuck)),
-        Ok(()) => {
-            let leaked = one(alloc, Item::Op(numbers))?;
-            Ok(Ran::End(left, leaked))
-        }
-    }
-}
-
-/// How a call ended whose callee came to its end, by whether its results were given.
-pub fn end_of_call(
-    alloc: Global,
-    left: u64,
-    before: Seq<u64>,
-    items: Seq<Item>,
-    after: Seq<u64>,
-    done: Result<(), Stuck>,
-) -> Result<Ran, AllocError>
-    ensures { IfOk result (λ r. r ≡ call_end left before items after done) }
-{
-    match done {
-        Err(stuck) => Ok(Ran::Stuck(stuck)),
-        Ok(()) => {
-            let leaked = one(alloc, Item::Call(before, Leak { items }, after))?;
-            Ok(Ran::End(left, leaked))
-        }
-    }
-}
+use jz_leak::Item;
+use jz_meaning::{State, Stuck};
+use jz_tree::{Expr, Lval};
 
 /// An assignment of an expression.
 pub fn run_value(
-    alloc: Global,
-    to: &Seq<Lval>,
-    op: Option<BinOp>,
+    assignment: Assignment<'_>,
     value: &Expr,
-    cond: &Option<Expr>,
-    span: Span,
-    store: &mut Store,
-    mem: &mut MemMap,
+    state: &mut State,
     fuel: u64,
-) -> Result<Ran, AllocError>
-    ensures { IfOk result (λ r. Leads statements.source (tree.op (statements.assign to.now op value.now cond.now span)) fuel (state store.old mem.old) (seen r (state store.new mem.new))) }
+) -> Result<Ran, Failure<Stuck>>
+    ensures {
+        let operation = value_assignment assignment.entry value.now in
+        RunsPiece result fuel state.old state.new (tree.op operation)
+    }
 {
+    let alloc = state.store.allocator();
     let mut numbers = Seq::new(alloc);
-    let done = assign(alloc, to, op, value, cond, span, store, mem, &mut numbers)?;
-    let ran = end_of_operation(alloc, fuel, numbers, done)?;
-    Ok(ran)
+    assign(assignment, value, state, &mut numbers)?;
+    let leaked = one(alloc, Item::Op(numbers))?;
+    Ok(Ran::End(fuel, leaked))
 }
 
 fn run_plain_instruction(
-    alloc: Global,
     to: &Seq<Lval>,
-    name: &Text,
-    operands: &Seq<Expr>,
-    span: Span,
-    store: &mut Store,
-    mem: &mut MemMap,
+    named: Named<'_>,
+    state: &mut State,
     fuel: u64,
-) -> Result<Ran, AllocError>
-    ensures { IfOk result (λ r. Leads statements.source (tree.op (statements.instruction to.now name.now operands.now span)) fuel (state store.old mem.old) (seen r (state store.new mem.new))) }
+) -> Result<Ran, Failure<Stuck>>
+    ensures {
+        let operands = named.entry.args.now in
+        let done = statements.instruction to.now named.entry.name.now operands named.entry.span in
+        RunsPiece result fuel state.old state.new (tree.op done)
+    }
 {
+    let alloc = state.store.allocator();
     let mut numbers = Seq::new(alloc);
-    let done = instruct(alloc, to, name, operands, span, store, mem, &mut numbers)?;
-    let ran = end_of_operation(alloc, fuel, numbers, done)?;
-    Ok(ran)
+    instruct(to, named.name, named.args, named.span, state, &mut numbers)?;
+    let leaked = one(alloc, Item::Op(numbers))?;
+    Ok(Ran::End(fuel, leaked))
 }
 
 /// An instruction, which has neither an operation nor a condition.
 pub fn run_instruction(
-    alloc: Global,
-    to: &Seq<Lval>,
-    op: Option<BinOp>,
-    name: &Text,
-    operands: &Seq<Expr>,
-    cond: &Option<Expr>,
-    span: Span,
-    store: &mut Store,
-    mem: &mut MemMap,
+    assignment: Assignment<'_>,
+    named: Named<'_>,
+    state: &mut State,
     fuel: u64,
-) -> Result<Ran, AllocError>
-    ensures { IfOk result (λ r. Leads statements.source (instruction_tree to.now op name.now operands.now cond.now span) fuel (state store.old mem.old) (seen r (state store.new mem.new))) }
+) -> Result<Ran, Failure<Stuck>>
+    ensures {
+        let piece = named_instruction_tree assignment.entry named.entry in
+        RunsPiece result fuel state.old state.new piece
+    }
 {
-    match op {
-        Some(_) => Ok(meaningless(span)),
-        None => match cond {
-            Some(_) => Ok(meaningless(span)),
+    match assignment.op {
+        Some(_) => Err(Failure::Refused(missing(named.span))),
+        None => match assignment.cond {
+            Some(_) => Err(Failure::Refused(missing(named.span))),
             None => {
-                let ran = run_plain_instruction(alloc, to, name, operands, span, store, mem, fuel)?;
+                let ran = run_plain_instruction(assignment.to, named, state, fuel)?;
                 Ok(ran)
             }
         },

@@ -1,11 +1,10 @@
 //! What `interpret` asks of its input.
 
 ghost use Rattle.std.specs.Prelude.{◌↔◌, IsTrue};
-ghost use Rattle.std.specs.List.{AllZip};
 ghost use Rattle.jz_meaning.specs.Values.{ref_of};
 ghost use Rattle.jz_meaning.specs.Runs.{FitsKind};
 ghost use Rattle.jz_meaning.specs.States.{word};
-ghost use Rattle.jz_interp.specs.Outcomes.{values_of, Takes};
+ghost use Rattle.jz_interp.specs.Outcomes.{values_of, AllFit, Takes};
 
 use jz_data::Seq;
 use jz_meaning::{Kind, kind_of};
@@ -23,7 +22,7 @@ fn fits(param: &Param, given: Word) -> bool
 }
 
 fn fit(params: &Seq<Param>, words: &Seq<Word>) -> bool
-    ensures { IsTrue result ↔ AllZip (λ q v. FitsKind (ref_of q.var).kind v) params.now (values_of words.now) }
+    ensures { IsTrue result ↔ AllFit params.now (values_of words.now) }
 {
     if params.len() != words.len() {
         return false;
@@ -41,7 +40,8 @@ fn fit(params: &Seq<Param>, words: &Seq<Word>) -> bool
     true
 }
 
-/// Whether a program has a function at that place, and these are its arguments: one word for each parameter and of its size.
+/// Whether a program has a function at that place, and these are its arguments: one word for each
+/// parameter and of its size.
 pub fn takes(typed: &Typed, fun: usize, words: &Seq<Word>) -> bool
     ensures { IsTrue result ↔ Takes typed.now.program fun words.now }
 {

@@ -1,11 +1,10 @@
 use Rattle.std.proofs.Common.{◌+◌, ◌*◌, drop, length}
-use Rattle.jz_runs.specs.Trees.{done}
-use Rattle.jz_meaning.specs.Stores.{state}
+use Rattle.jz_meaning.specs.Stores.{state_of}
 use Rattle.jz_meaning.specs.Statements.{source}
 use Rattle.jz_meaning.specs.Runs.{block, callees_of}
+use Rattle.jz_interp.specs.Parts.{condition_of, inner_block, inner_body}
 use Rattle.jz_interp.specs.ShownRuns.{Passed, Turned}
 use Rattle.jz_interp.specs.Rounds.{values_left}
-use Rattle.jz_interp.specs.Ends.{body_piece}
 use Rattle.jz_interp.proofs.Rules.{CountedOf}
 use Rattle.jz_interp.proofs.Weights.{weight, weights, body_weight, level}
 use Rattle.jz_interp.proofs.running.+run.Given as goal
@@ -23,7 +22,7 @@ abbrev pub decreases-run_call : goal.decreases-run_call
 decreases-run_call l = 6 * level l.code.now.funs.now l.depth + 1
 
 abbrev pub decreases-run_callee : goal.decreases-run_callee
-decreases-run_callee l = 6 * (level l.code.now.funs.now l.depth + weights l.callee.now.body) + 2
+decreases-run_callee l = 6 * (level l.code.now.funs.now l.depth + weights l.call.callee.now.body) + 2
 
 abbrev pub decreases-run_if : goal.decreases-run_if
 decreases-run_if l = 6 * (level l.code.now.funs.now l.depth + weights l.holds.now + weights l.other.now) + 2
@@ -48,17 +47,17 @@ decreases-run_for l = 6 * (level l.code.now.funs.now l.depth + weights l.body.no
 
 abbrev pub invariant-run_block-loop-stmt : goal.invariant-run_block-loop-stmt
 invariant-run_block-loop-stmt l =
-    Passed source (block (callees_of l.code.funs.now l.depth) l.stmts) (block (callees_of l.code.funs.now l.depth) (drop l.stmt-index l.stmts)) l.fuel (state l.fn.store l.fn.mem) l.items l.left (state l.store l.mem)
+    Passed source (block (callees_of l.code.funs.now l.depth) l.stmts) (block (callees_of l.code.funs.now l.depth) (drop l.stmt-index l.stmts)) l.fuel (state_of l.fn.state) l.items l.left (state_of l.state)
 
 abbrev pub invariant-run_while-loop-turns : goal.invariant-run_while-loop-turns
 invariant-run_while-loop-turns l =
-    Turned source (block (callees_of l.code.funs.now l.depth) l.prologue done) (record { cond = l.cond; at = l.fn.span }) (body_piece (callees_of l.code.funs.now l.depth) l.body done) l.fuel (state l.fn.store l.fn.mem) l.turns l.left (state l.store l.mem)
+    Turned source (inner_block (callees_of l.code.funs.now l.depth) l.prologue) (condition_of l.test) (inner_body (callees_of l.code.funs.now l.depth) l.body) l.fuel (state_of l.fn.state) l.turns l.left (state_of l.state)
 
 abbrev pub decreases-run_while-loop-turns : goal.decreases-run_while-loop-turns
 decreases-run_while-loop-turns l = l.left
 
 abbrev pub invariant-run_rounds-loop-value : goal.invariant-run_rounds-loop-value
-invariant-run_rounds-loop-value l = CountedOf l.counter (block (callees_of l.code.funs.now l.depth) l.body done) (values_left l.fn.values) l.fuel (state l.fn.store l.fn.mem) l.leaks (values_left l.values) l.left (state l.store l.mem)
+invariant-run_rounds-loop-value l = CountedOf l.counter (inner_block (callees_of l.code.funs.now l.depth) l.body) (values_left l.fn.values) l.fuel (state_of l.fn.state) l.leaks (values_left l.values) l.left (state_of l.state)
 
 abbrev pub decreases-run_rounds-loop-value : goal.decreases-run_rounds-loop-value
 decreases-run_rounds-loop-value l = length (values_left l.values)
