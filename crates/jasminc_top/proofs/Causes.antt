@@ -10,7 +10,7 @@ use Rattle.jz_lex.specs.Lexing.{IsLexed, HasNoToken}
 use Rattle.jz_first_parse.specs.Deriving.{DerivesProgram, IsUnexpected}
 use Rattle.jz_first_parse.specs.Reading.{Reads, LexFails, ParseFails}
 use Rattle.jz_first_types.specs.Rules.{IsTyped, faults_of}
-use Rattle.jz_first_types.specs.Resolving.{resolved}
+use Rattle.jz_first_types.specs.Resolving.{resolved_program}
 use Rattle.jz_pipeline.specs.Limits.{IsFirstLimit}
 use Rattle.jz_safety.specs.Alarms.{IsFirstAlarm}
 use Rattle.jz_pipeline.specs.Placed.{IsUnplaced}
@@ -59,7 +59,7 @@ reads_no_parse text p f a b =
 
 -- and types as one
 pub types_one : (text : List ℕ) (p q : Program) → TypesAs text p → TypesAs text q → p ≡ q
-types_one text p q a b = a.is ∙ ap resolved (reads_one text a.written b.written a.reads b.reads) ∙ sym b.is
+types_one text p q a b = a.is ∙ ap resolved_program (reads_one text a.written b.written a.reads b.reads) ∙ sym b.is
 
 pub types_no_fault : (text : List ℕ) (p : Program) (f : TypeFault) → TypesAs text p → FailsTyping text f → ⊥
 types_no_fault text p f a b =

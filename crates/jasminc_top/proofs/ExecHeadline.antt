@@ -1,7 +1,7 @@
 -- A run that is printed is that of a correct function, from a start.
 use Rattle.std.proofs.Common.{◌≡◌, ◌∙◌, ℕ, suc, ◌<◌, get_or, ◌^◌, List, [], ◌∷◌, length, Option, Some, None, refl, sym, ap, subst, inl, inr, arith}
 use Rattle.std.specs.Io.KnownBytes.{Appends}
-use Rattle.jasminc_top.specs.Words.{Wanted, compile, exec, wanted}
+use Rattle.jasminc_top.specs.Words.{Wanted, compile, exec, wanted_command}
 use Rattle.jz_first_tree.specs.declared.Program.{Program}
 use Rattle.jz_first_tree.specs.declared.Fun.{Fun}
 use Rattle.jz_listing.specs.declared.compiled.Compiled.{Compiled}
@@ -142,7 +142,7 @@ executes_wish (Some (compile file)) told sink made prints = tt
 executes_wish (Some (exec file fun items)) told sink made prints = prints file fun items refl
 
 -- the items of words fit
-pub run_executes : (words : List (List ℕ)) (run : Run) → run.wish ≡ wanted words → Runs run → run.done.status ≡ status.Ok
+pub run_executes : (words : List (List ℕ)) (run : Run) → run.wish ≡ wanted_command words → Runs run → run.done.status ≡ status.Ok
     → Executes run.wish run.source run.sink run.done.made
 run_executes words run wished r ok =
     executes_wish run.wish run.source run.sink run.done.made (λ file fun items is. prints_run file fun items run (items_fit words file fun items (sym wished ∙ is)) r is ok)

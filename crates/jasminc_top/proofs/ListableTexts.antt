@@ -16,7 +16,7 @@ use Rattle.jz_first_tree.specs.Variables.{variables_of}
 use Rattle.jz_first_parse.specs.Reading.{Reads}
 use Rattle.jz_first_parse.specs.Derived.{HasNames}
 use Rattle.jz_first_parse.proofs.Declaring.{names_identified}
-use Rattle.jz_first_types.specs.Resolving.{resolved, resolved_fun, resolved_var, declaration_in}
+use Rattle.jz_first_types.specs.Resolving.{resolved_program, resolved_fun, resolved_var, declaration_in}
 use Rattle.jz_pipeline.specs.Limits.{IsWithinLimits}
 use Rattle.jz_safety.specs.Alarms.{HasNoAlarm}
 use Rattle.jz_leak.specs.declared.transformer.Case.TheVariants as case
@@ -56,7 +56,7 @@ names_resolved f h =
       result = All-map (λ (v : Var). IsIdentifier v.name) (resolved_var d) f.result h.result;
     }
 
-reads_names : (text : List ℕ) (p : Program) → Reads text p → All HasNames (resolved p).funs
+reads_names : (text : List ℕ) (p : Program) → Reads text p → All HasNames (resolved_program p).funs
 unfolding Reads
 reads_names text p (tokens, lexed, derives) =
     All-map HasNames resolved_fun p.funs (All-weaker HasNames (λ f. HasNames (resolved_fun f)) names_resolved p.funs (names_identified text tokens p derives lexed))

@@ -12,7 +12,7 @@ use Rattle.jz_first_parse.specs.Reading.{Reads}
 use Rattle.jz_first_parse.specs.Derived.{DeclaresWords}
 use Rattle.jz_first_parse.proofs.Assigning.{statements_one}
 use Rattle.jz_first_parse.proofs.Declaring.{words_declared}
-use Rattle.jz_first_types.specs.Resolving.{resolved, resolved_fun}
+use Rattle.jz_first_types.specs.Resolving.{resolved_program, resolved_fun}
 use Rattle.jz_first_types.specs.TypedPrograms.{HaveDifferentNames, HaveDeclarations, HaveCounts}
 use Rattle.jz_first_types.proofs.TypedLemmas as typed
 use Rattle.jz_first_types.proofs.ResolvedLemmas.{typed_resolved, resolved_stays}
@@ -43,10 +43,10 @@ written_resolved (f ∷ fs) w a =
     All-cons IsWritten (resolved_fun f) (map resolved_fun fs) (resolved_words f words, declaring.keeps_one f one)
     (written_resolved fs (All-tail DeclaresWords f fs w) (All-tail (λ (g : Fun). All AssignsToOne g.body) f fs a))
 
-derived_written : (tokens : List Token) (p : Program) → DerivesProgram tokens p → All IsWritten (resolved p).funs
+derived_written : (tokens : List Token) (p : Program) → DerivesProgram tokens p → All IsWritten (resolved_program p).funs
 derived_written tokens p d = written_resolved p.funs (words_declared tokens p d) (statements_one tokens p d)
 
-reads_written : (text : List ℕ) (p : Program) → Reads text p → All IsWritten (resolved p).funs
+reads_written : (text : List ℕ) (p : Program) → Reads text p → All IsWritten (resolved_program p).funs
 unfolding Reads
 reads_written text p (tokens, lexed, derives) = derived_written tokens p derives
 

@@ -15,7 +15,7 @@ use Rattle.jz_cursor.specs.declared.fault.SyntaxFault.{SyntaxFault}
 use Rattle.jz_first_types.specs.declared.fault.TypeRule.{TypeRule}
 use Rattle.jz_first_types.specs.declared.fault.TypeRule.TheVariants as rule
 use Rattle.jz_first_types.specs.declared.fault.TypeFault.{TypeFault}
-use Rattle.jz_first_types.specs.Faults.{number_of}
+use Rattle.jz_first_types.specs.Faults.{rule_number}
 use Rattle.jz_pipeline.specs.declared.limits.LimitKind.{LimitKind}
 use Rattle.jz_pipeline.specs.declared.limits.LimitKind.TheVariants.{Expand, ImmRange}
 use Rattle.jz_pipeline.specs.declared.limits.Limit.{Limit}
@@ -52,7 +52,7 @@ rule_name rule.ExportShape = codes "ExportShape"
 
 abbrev pub type_line : TypeFault → List ℕ
 type_line f =
-    codes "type " ++ decimal (number_of f.rule) ++ codes " " ++ rule_name f.rule
+    codes "type " ++ decimal (rule_number f.rule) ++ codes " " ++ rule_name f.rule
     ++ codes " " ++ span_text f.span
 
 unfoldable pub limit_name : LimitKind → List ℕ

@@ -6,7 +6,7 @@ use Rattle.jz_first_tree.specs.Assignments.{AssignsToOne}
 use Rattle.jz_first_parse.specs.Reading.{Reads}
 use Rattle.jz_first_parse.specs.Derived.{DeclaresWords}
 use Rattle.jz_first_types.specs.Rules.{IsTyped}
-use Rattle.jz_first_types.specs.Resolving.{resolved}
+use Rattle.jz_first_types.specs.Resolving.{resolved_program}
 use Rattle.jz_pipeline.specs.Limits.{IsWithinLimits}
 use Rattle.jz_safety.specs.Alarms.{HasNoAlarm}
 use Rattle.jz_pipeline.specs.Placed.{AreCompiled}
@@ -18,7 +18,7 @@ pub record TypesAs (text : List ℕ) (program : Program) : Type 0 where
   pub written : Program
   pub reads : Reads text written
   pub typed : IsTyped written
-  pub is : program ≡ resolved written
+  pub is : program ≡ resolved_program written
 
 -- what the grammar gives a function: its variables are declared words, and each of its statements
 -- assigns to one

@@ -41,8 +41,8 @@ has_leading_zero ds = false
 
 -- the number that a word is: decimal digits without a leading zero, or `0x` and hexadecimal digits
 -- of either case
-abbrev pub number_of : List ℕ → Option ℕ
-number_of word =
+abbrev pub decimal_number : List ℕ → Option ℕ
+decimal_number word =
     if starts_with ◌==◌ word (codes "0x") then numeral 16 (drop 2 word)
     else (if has_leading_zero word then None else numeral 10 word)
 
@@ -50,7 +50,7 @@ number_of word =
 abbrev pub numbers_of : List (List ℕ) → Option (List ℕ)
 numbers_of [] = Some []
 numbers_of (word ∷ words) =
-    option_and_then (λ n. option_and_then (λ ns. Some (n ∷ ns)) (numbers_of words)) (number_of word)
+    option_and_then (λ n. option_and_then (λ ns. Some (n ∷ ns)) (numbers_of words)) (decimal_number word)
 
 -- a run of a function on items, if each is a number
 abbrev pub run_of : List ℕ → List ℕ → List (List ℕ) → Option Wanted
@@ -65,9 +65,9 @@ command_of (command ∷ file ∷ fun ∷ items) =
 command_of _ = None
 
 -- the command that all the words are, the program's name first; a word with a dash makes it none
-abbrev pub wanted : List (List ℕ) → Option Wanted
-wanted [] = None
-wanted (program ∷ words) = if list_any is_option words then None else command_of words
+abbrev pub wanted_command : List (List ℕ) → Option Wanted
+wanted_command [] = None
+wanted_command (program ∷ words) = if list_any is_option words then None else command_of words
 
 abbrev pub file_of : Wanted → List ℕ
 file_of (compile file) = file

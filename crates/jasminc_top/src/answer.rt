@@ -4,7 +4,7 @@ ghost use Rattle.std.specs.Prelude.{◌≡◌, ◌≤◌, All, Some, IfOk, IfErr
 ghost use Rattle.std.specs.Option.{option_copied};
 ghost use Rattle.jz_data.specs.Failures.{IfRefused, IfAnswered};
 ghost use Rattle.jz_io.specs.Telling.{IsWhole};
-ghost use Rattle.jasminc_top.specs.Words.{texts_of, wanted, wanted_of, compile, exec};
+ghost use Rattle.jasminc_top.specs.Words.{texts_of, wanted_command, wanted_of, compile, exec};
 ghost use Rattle.jasminc_top.specs.Making.{TypesAs, IsWritten, AreMade};
 ghost use Rattle.jasminc_top.specs.Told.{source_told};
 ghost use Rattle.jasminc_top.specs.Answers.{source_limit, function_named, compiled_named};
@@ -192,7 +192,7 @@ pub fn answer<S: Source>(
     src: &mut S,
 ) -> Result<Reply, Failure<Refusal>>
     ensures { let told = source_told S.told S.faults src.old src.new
-        in IfAnswered result (Performs (wanted (texts_of words.now)) told) }
+        in IfAnswered result (Performs (wanted_command (texts_of words.now)) told) }
 {
     match request_of(alloc, words)? {
         Some(request) => perform(alloc, request, src),

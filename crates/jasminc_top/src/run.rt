@@ -1,7 +1,7 @@
 //! The call over all stages.
 
 ghost use Rattle.std.specs.Prelude.{[], codes};
-ghost use Rattle.jasminc_top.specs.Words.{texts_of, wanted};
+ghost use Rattle.jasminc_top.specs.Words.{texts_of, wanted_command};
 ghost use Rattle.jasminc_top.specs.Told.{source_told, sink_told};
 ghost use Rattle.jasminc_top.specs.Runs.{Writes, WritesNoMemory, WritesRefusal};
 ghost use Rattle.jasminc_top.specs.Promises.{KeepsPromises};
@@ -88,7 +88,7 @@ pub fn jasminc_run<S: Source, K: Sink>(
     out: &mut K,
 ) -> Done
     ensures { KeepsPromises (record {
-      wish = wanted (texts_of words.now);
+      wish = wanted_command (texts_of words.now);
       source = source_told S.told S.faults src.old src.new;
       sink = sink_told K.written K.faults out.old out.new;
       done = result;

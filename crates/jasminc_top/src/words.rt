@@ -3,8 +3,8 @@
 ghost use Rattle.std.specs.Prelude.{◌≡◌, ◌==◌, slice_index, ◌≤◌, ◌++◌, List, IfOk, None, Some};
 ghost use Rattle.std.specs.List.{list_any};
 ghost use Rattle.std.specs.Option.{option_map};
-ghost use Rattle.jasminc_top.specs.Words.{wanted, wanted_of, command_of, run_of, texts_of, file_of};
-ghost use Rattle.jasminc_top.specs.Words.{is_option, numeral, has_leading_zero, number_of, numbers_of};
+ghost use Rattle.jasminc_top.specs.Words.{wanted_command, wanted_of, command_of, run_of, texts_of, file_of};
+ghost use Rattle.jasminc_top.specs.Words.{is_option, numeral, has_leading_zero, decimal_number, numbers_of};
 
 use jz_data::Seq;
 use std::alloc::{AllocError, Global};
@@ -65,7 +65,7 @@ fn has_leading_zero(word: &str) -> bool
 
 /// The number that a word is.
 fn number(word: &str) -> Option<u64>
-    ensures { result ≡ number_of word.now }
+    ensures { result ≡ decimal_number word.now }
 {
     if let Some(digits) = word.strip_prefix("0x") {
         return numeral(16, digits);
@@ -133,7 +133,7 @@ fn command<'a>(alloc: Global, words: &'a [String]) -> Result<Option<Request<'a>>
 
 /// The words are a command exactly where there is a request.
 pub fn request_of(alloc: Global, words: &[String]) -> Result<Option<Request<'_>>, AllocError>
-    ensures { IfOk result (λ r. option_map wanted_of r ≡ wanted (texts_of words.now)) }
+    ensures { IfOk result (λ r. option_map wanted_of r ≡ wanted_command (texts_of words.now)) }
 {
     match words {
         [] => Ok(None),

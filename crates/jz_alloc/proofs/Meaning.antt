@@ -8,7 +8,7 @@ use Rattle.std.specs.Prelude.{nat_lt, nat_le}
 use Rattle.jz_bits.specs.Has.{has}
 use Rattle.jz_bits.proofs.One.{past}
 use Rattle.jz_ir.specs.Places.{Below}
-use Rattle.jz_alloc.specs.Tables.{any_below, row_has, taken, reaches}
+use Rattle.jz_alloc.specs.Tables.{any_below, row_has, is_taken, reaches}
 use Rattle.jz_alloc.specs.Fit.{MeetsIn, ConflictsIn, TakenIn}
 use Rattle.jz_alloc.specs.InnerHolding.{LiveIn, IsHeld}
 use Rattle.jz_alloc.specs.Answers.{HoldsEach}
@@ -114,7 +114,7 @@ kind_below kinds in_use v q h = go (get_or kinds v Word) (and_parts (is_of_kind 
     go Flag t = ltb-true q 20 (and_parts (nat_le 15 q) (nat_lt q 20) t).1
     go Word t = omega (arith, ltb-true q 15 t)
 
-module _ (ops : List Op) (kinds : List Kind) (in_use : List Place) (after ms ts rows : List (List ℕ)) (below : All (Below (length kinds)) ops) (rl : length rows ≡ length kinds) (msr : (q v : ℕ) → q < 20 → row_has ms q v ≡ (nat_lt v (length kinds) && meets kinds in_use ops v q)) (tsr : (q v : ℕ) → q < 20 → row_has ts q v ≡ any_below (length ops) (λ i. taken ops after i v q)) (wsr : (u v : ℕ) → u < length kinds → row_has rows u v ≡ any_below (length ops) (λ i. reaches ops after i u v)) where
+module _ (ops : List Op) (kinds : List Kind) (in_use : List Place) (after ms ts rows : List (List ℕ)) (below : All (Below (length kinds)) ops) (rl : length rows ≡ length kinds) (msr : (q v : ℕ) → q < 20 → row_has ms q v ≡ (nat_lt v (length kinds) && meets kinds in_use ops v q)) (tsr : (q v : ℕ) → q < 20 → row_has ts q v ≡ any_below (length ops) (λ i. is_taken ops after i v q)) (wsr : (u v : ℕ) → u < length kinds → row_has rows u v ≡ any_below (length ops) (λ i. reaches ops after i u v)) where
   meets_to : (v q : ℕ) → v < length kinds → MeetsIn ms v q → Meets ops kinds in_use (LiveIn after) v q
   meets_to v q l (ql, t) = (and_parts (nat_lt v (length kinds)) (meets kinds in_use ops v q) (sym (msr q v ql) ∙ t)).1
 
@@ -145,13 +145,13 @@ module _ (ops : List Op) (kinds : List Kind) (in_use : List Place) (after ms ts 
 
   takens_to : (v q : ℕ) → v < length kinds → MeetsIn ms v q → TakenIn ts v q → Taken ops kinds in_use (LiveIn after) v q
   takens_to v q l m t =
-      let z = any_found (length ops) (λ i. taken ops after i v q) (sym (tsr q v m.0) ∙ t) in
+      let z = any_found (length ops) (λ i. is_taken ops after i v q) (sym (tsr q v m.0) ∙ t) in
       let a = and_parts (has_place (op_at ops z.0).fixed q) (not (among (op_at ops z.0).writes v) && row_has after z.0 v) z.2 in
       let b = and_parts (not (among (op_at ops z.0).writes v)) (row_has after z.0 v) a.1 in
       (z.0, (a.0, not_false (among (op_at ops z.0).writes v) b.0, b.1))
 
   takens_from : (v q : ℕ) → v < length kinds → MeetsIn ms v q → Taken ops kinds in_use (LiveIn after) v q → TakenIn ts v q
-  takens_from v q l m (i, (f, w, a)) = tsr q v m.0 ∙ any_here (length ops) (λ i. taken ops after i v q) i (fixed ops (LiveIn after) (LiveIn after) (λ j k x. (λ y. y, λ y. y)) i q f) (and_from (has_place (op_at ops i).fixed q) (not (among (op_at ops i).writes v) && row_has after i v) f (and_from (not (among (op_at ops i).writes v)) (row_has after i v) (rw w refl) a))
+  takens_from v q l m (i, (f, w, a)) = tsr q v m.0 ∙ any_here (length ops) (λ i. is_taken ops after i v q) i (fixed ops (LiveIn after) (LiveIn after) (λ j k x. (λ y. y, λ y. y)) i q f) (and_from (has_place (op_at ops i).fixed q) (not (among (op_at ops i).writes v) && row_has after i v) f (and_from (not (among (op_at ops i).writes v)) (row_has after i v) (rw w refl) a))
 
   pub first_by_paths : {vs : List ℕ} {done : List (Option ℕ)} {o : Out} → All (λ v. v < length kinds) vs → First (MeetsIn ms) (ConflictsIn rows) (TakenIn ts) vs done o → First (Meets ops kinds in_use (LiveIn after)) (Conflict ops kinds in_use (LiveIn after)) (Taken ops kinds in_use (LiveIn after)) vs done o
   first_by_paths a f = first_to (length kinds) _ _ _ _ _ _ meets_to meets_from conflicts_to conflicts_from takens_to takens_from a f

@@ -25,8 +25,8 @@ EachHas count rows passes =
     (i variable : ℕ) → i < count → has (slice_index_or rows i []) variable ≡ passes i variable
 
 -- the operation i writes the place besides, and the variable is live across it
-abbrev pub taken : List Op → List (List ℕ) → ℕ → ℕ → ℕ → Bool
-taken ops after i variable place =
+abbrev pub is_taken : List Op → List (List ℕ) → ℕ → ℕ → ℕ → Bool
+is_taken ops after i variable place =
     has_place (op_at ops i).fixed place
     && (not (among (op_at ops i).writes variable) && row_has after i variable)
 

@@ -7,7 +7,7 @@ ghost use Rattle.jz_ir.specs.Order.{has_place};
 ghost use Rattle.jz_ir.specs.Paths.{among};
 ghost use Rattle.jz_ir.specs.Places.{kind_has, need_fits, meets};
 ghost use Rattle.jz_ir.specs.Places.{Below};
-ghost use Rattle.jz_alloc.specs.Tables.{AllWide, any_below, EachHas, reaches, taken};
+ghost use Rattle.jz_alloc.specs.Tables.{AllWide, any_below, EachHas, reaches, is_taken};
 
 use jz_bits::Bits;
 use jz_data::Seq;
@@ -53,7 +53,7 @@ fn taken_row(
     requires wide { AllWide count after.now }
     ensures wide { IfOk result (λ row. length row ≡ count / 64 + 1) }
     ensures set { IfOk result (λ row. HasExactly row
-        (λ v. any_below (length ops.now) (λ i. taken ops.now after.now i v place))) }
+        (λ v. any_below (length ops.now) (λ i. is_taken ops.now after.now i v place))) }
 {
     let mut row = Bits::new(alloc, count)?;
     for i in 0..ops.len() {
@@ -202,7 +202,7 @@ pub fn taken_rows(
     ensures rows { IfOk result (λ rows. length rows.items ≡ 20) }
     ensures wide { IfOk result (λ rows. AllWide count rows.items) }
     ensures set { IfOk result (λ rows. EachHas 20 rows.items
-        (λ place v. any_below (length ops.now) (λ i. taken ops.now after.now i v place))) }
+        (λ place v. any_below (length ops.now) (λ i. is_taken ops.now after.now i v place))) }
 {
     let mut rows = Vec::new(alloc);
     for place in 0..20u8 {

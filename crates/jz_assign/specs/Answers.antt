@@ -15,11 +15,11 @@ bits_in (Ok w) = Ok w.bits
 bits_in (Err k) = Err k
 
 -- what left sides get
-abbrev pub meant : List (Option code.Value) → Results
-meant = map (option_map as_value)
+abbrev pub meant_results : List (Option code.Value) → Results
+meant_results = map (option_map as_value)
 
 abbrev pub results_in : Result (List (Option code.Value)) Stuck → Result Results Stuck
-results_in (Ok vs) = Ok (meant vs)
+results_in (Ok vs) = Ok (meant_results vs)
 results_in (Err k) = Err k
 
 -- two values

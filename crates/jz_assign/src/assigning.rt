@@ -7,7 +7,7 @@ ghost use Rattle.jz_meaning.specs.States.{as_value};
 ghost use Rattle.jz_meaning.specs.Stores.{state_of};
 ghost use Rattle.jz_meaning.specs.Values.{own_size};
 ghost use Rattle.jz_meaning.specs.Assignments as assignments;
-ghost use Rattle.jz_assign.specs.Answers.{meant, GivesResults};
+ghost use Rattle.jz_assign.specs.Answers.{meant_results, GivesResults};
 ghost use Rattle.jz_assign.specs.Rights.{right_side, IsCarry};
 ghost use Rattle.jz_assign.specs.Parts.{one_value, results_written, right_assigned, value_assigned};
 
@@ -113,7 +113,7 @@ fn chosen(
     values: Seq<Option<Value>>,
     old: Value,
 ) -> Result<Seq<Option<Value>>, AllocError>
-    ensures { IfOk result (λ vs. meant vs ≡ assignments.chosen holds (meant values) (as_value old)) }
+    ensures { IfOk result (λ vs. meant_results vs ≡ assignments.chosen holds (meant_results values) (as_value old)) }
 {
     if holds {
         Ok(values)
@@ -131,7 +131,7 @@ fn conditioned(
     state: &State,
     out: &mut Seq<u64>,
 ) -> Result<Seq<Option<Value>>, Failure<Stuck>>
-    ensures { GivesResults result out.old out.new (assignments.conditioned to.now (Some cond.now) span (meant values) (state_of state.now)) }
+    ensures { GivesResults result out.old out.new (assignments.conditioned to.now (Some cond.now) span (meant_results values) (state_of state.now)) }
 {
     let holds = truth_in(span, cond, state, out)?;
     let old = old_value(to, span, state, out)?;
@@ -145,7 +145,7 @@ fn where_conditioned(
     state: &State,
     out: &mut Seq<u64>,
 ) -> Result<Seq<Option<Value>>, Failure<Stuck>>
-    ensures { GivesResults result out.old out.new (assignments.conditioned assignment.to.now assignment.cond.now assignment.span (meant values) (state_of state.now)) }
+    ensures { GivesResults result out.old out.new (assignments.conditioned assignment.to.now assignment.cond.now assignment.span (meant_results values) (state_of state.now)) }
 {
     match assignment.cond {
         None => Ok(values),
@@ -172,7 +172,7 @@ fn write_results(
     state: &mut State,
     out: &mut Seq<u64>,
 ) -> Result<(), Failure<Stuck>>
-    ensures { Changes result out.old out.new (state_of state.new) (results_written assignment.entry size (meant values) (state_of state.old)) }
+    ensures { Changes result out.old out.new (state_of state.new) (results_written assignment.entry size (meant_results values) (state_of state.old)) }
 {
     let values = where_conditioned(assignment, values, state, out)?;
     let Assignment {

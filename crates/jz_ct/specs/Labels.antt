@@ -14,7 +14,7 @@ use Rattle.jz_first_tree.specs.declared.Rhs.TheVariants as rhs
 use Rattle.jz_first_tree.specs.declared.Stmt.{Stmt}
 use Rattle.jz_first_tree.specs.declared.StmtKind.{StmtKind}
 use Rattle.jz_first_tree.specs.declared.StmtKind.TheVariants as kind
-use Rattle.jz_first_meaning.specs.SourceStates.{Key, key_of, put}
+use Rattle.jz_first_meaning.specs.SourceStates.{Key, key_of, with_value_at}
 
 -- whether a value may depend on a secret
 pub data Label : Type 0 where
@@ -49,7 +49,7 @@ assigned_label d (Some o) r labels = either (left_label d labels) (right_label r
 
 -- the left side has the label of what is assigned to it
 abbrev pub left_labelled : Lval → Label → Labels → Labels
-left_labelled (lval.Var x) l labels = put labels (key_of x) l
+left_labelled (lval.Var x) l labels = with_value_at labels (key_of x) l
 
 -- the labels behind a statement; an assignment with another number of left sides than one means
 -- nothing, and changes none
@@ -64,7 +64,7 @@ parameter_label p = secret
 -- at entry the parameters have their labels, and no other variable is secret
 abbrev pub labels_at_entry : List Param → Labels
 labels_at_entry [] = λ k. public
-labels_at_entry (p ∷ ps) = put (labels_at_entry ps) (key_of p.var) (parameter_label p)
+labels_at_entry (p ∷ ps) = with_value_at (labels_at_entry ps) (key_of p.var) (parameter_label p)
 
 -- statements in their order lead from labels to labels, and what each of them shows is public:
 -- assignments show nothing

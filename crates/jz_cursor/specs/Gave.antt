@@ -20,9 +20,9 @@ Gave (Err OutOfMemory) now read = Unit {0}
 
 -- what was read of so many tokens: a value, or why there is none and the number of the first token
 -- that is left
-abbrev pub numbered : {A : Type 0} → ℕ → Result A (Cause × List Token) → Result A (Cause × ℕ)
-numbered n (Ok a) = Ok a
-numbered n (Err e) = Err (e.0, n - length e.1)
+abbrev pub numbered_answer : {A : Type 0} → ℕ → Result A (Cause × List Token) → Result A (Cause × ℕ)
+numbered_answer n (Ok a) = Ok a
+numbered_answer n (Err e) = Err (e.0, n - length e.1)
 
 abbrev pub IsNumbered : {A : Type 0} → Result A (Cause × ℕ) → Result A (Failure (SyntaxKind × ℕ)) → Type 0
 IsNumbered read (Ok a) = read ≡ Ok a

@@ -21,8 +21,8 @@ number_in (kind.Num n) = n
 number_in other = pos 0
 
 -- a number, and where it stands
-unfoldable pub number_of : Token → ℤ × Span
-number_of t = (number_in t.kind, t.span)
+unfoldable pub number_of_token : Token → ℤ × Span
+number_of_token t = (number_in t.kind, t.span)
 
 abbrev pub cast_in : TokenKind → Size × Bool
 cast_in (kind.Cast size signed) = (size, signed)
@@ -51,5 +51,5 @@ abbrev pub word_types : List Kind
 word_types = word (codes "u8") ∷ word (codes "u16") ∷ word (codes "u32") ∷ word (codes "u64") ∷ []
 
 -- the size of a word's type
-unfoldable pub size_of : Token → Size
-size_of t = if bytes_eq (text_in t.kind) (codes "u8") then S8 else if bytes_eq (text_in t.kind) (codes "u16") then S16 else if bytes_eq (text_in t.kind) (codes "u32") then S32 else S64
+unfoldable pub size_of_token : Token → Size
+size_of_token t = if bytes_eq (text_in t.kind) (codes "u8") then S8 else if bytes_eq (text_in t.kind) (codes "u16") then S16 else if bytes_eq (text_in t.kind) (codes "u32") then S32 else S64

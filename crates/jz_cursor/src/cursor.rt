@@ -4,7 +4,7 @@ ghost use Rattle.std.specs.Prelude.{◌≡◌, ◌<◌, [], ◌∷◌, length, d
 ghost use Rattle.jz_grammar.specs.Kinds.{identifier, word, number, cast, string, sign, end, span_of, has};
 ghost use Rattle.jz_grammar.specs.Reading.{leaf, opening, has_both};
 ghost use Rattle.jz_cursor.specs.Gave.{Gave};
-ghost use Rattle.jz_cursor.specs.Tokens.{name_of, number_of, cast_of, string_of, word_types, size_of};
+ghost use Rattle.jz_cursor.specs.Tokens.{name_of, number_of_token, cast_of, string_of, word_types, size_of_token};
 
 use crate::fault::SyntaxKind;
 use crate::kinds;
@@ -187,7 +187,7 @@ impl<'a> Cursor<'a> {
     /// A number and its place.
     #[tactic(auto, unfolding(jz_grammar::specs::Reading::one))]
     pub fn number(&mut self) -> Result<(i128, Span), Stop>
-        ensures { Gave result self.new (leaf (number ∷ []) number_of self.old) }
+        ensures { Gave result self.new (leaf (number ∷ []) number_of_token self.old) }
     {
         match self.tokens {
             [token, rest @ ..] if kinds::is_number(token) => {
@@ -230,7 +230,7 @@ impl<'a> Cursor<'a> {
     /// The size of a word's type.
     #[tactic(auto, unfolding(jz_grammar::specs::Reading::one))]
     pub fn word_type(&mut self) -> Result<Size, Stop>
-        ensures { Gave result self.new (leaf word_types size_of self.old) }
+        ensures { Gave result self.new (leaf word_types size_of_token self.old) }
     {
         match self.tokens {
             [token, rest @ ..] if kinds::is_word_type(token) => {

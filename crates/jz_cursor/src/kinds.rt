@@ -2,7 +2,7 @@
 
 ghost use Rattle.std.specs.Prelude.{◌≡◌, [], ◌∷◌, IfOk, bytes_eq};
 ghost use Rattle.jz_grammar.specs.Kinds.{identifier, word, number, cast, string, sign, end, is_in};
-ghost use Rattle.jz_cursor.specs.Tokens.{name_of, number_of, cast_of, string_of, text_in, word_types, size_of};
+ghost use Rattle.jz_cursor.specs.Tokens.{name_of, number_of_token, cast_of, string_of, text_in, word_types, size_of_token};
 
 use jz_data::{Seq, Text};
 use jz_io::Span;
@@ -140,9 +140,9 @@ pub(super) fn name_of(alloc: Global, token: &Token) -> Result<(Text, Span), Allo
     Ok((name, token.span))
 }
 
-#[tactic(auto, unfolding(crate::specs::Tokens::number_of))]
+#[tactic(auto, unfolding(crate::specs::Tokens::number_of_token))]
 pub(super) fn number_of(token: &Token) -> (i128, Span)
-    ensures { result ≡ number_of token.now }
+    ensures { result ≡ number_of_token token.now }
 {
     let value = match &token.kind {
         TokenKind::Num(value) => *value,
@@ -200,9 +200,9 @@ pub fn has_text(token: &Token, text: &str) -> bool
     }
 }
 
-#[tactic(auto, unfolding(crate::specs::Tokens::size_of))]
+#[tactic(auto, unfolding(crate::specs::Tokens::size_of_token))]
 pub(super) fn size_of(token: &Token) -> Size
-    ensures { result ≡ size_of token.now }
+    ensures { result ≡ size_of_token token.now }
 {
     if has_text(token, "u8") {
         Size::S8

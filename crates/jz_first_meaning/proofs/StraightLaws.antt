@@ -20,8 +20,8 @@ use Rattle.jz_leak.specs.RunLeaks.{Leak, ran}
 use Rattle.jz_runs.specs.Trees.{done}
 use Rattle.jz_runs.specs.Rules.{stuck, went, Outcome, End, Stuck, after}
 use Rattle.jz_first_meaning.specs.SourceStates.{Value, word, integer, key_of, State, Why}
-use Rattle.jz_first_meaning.specs.SourceValues.{Evaluation, numbers_first, and_then, defined, evaluated, value_of, numbers_in, numbers_of}
-use Rattle.jz_first_meaning.specs.SourceRuns.{as_declared, held, written, left_value, right_value, combined, assigned_value, assigned, Block, source, statement, block, entry_state, result_words, outcome_of_words, outcome_of_body, FunOutcome, IsRun}
+use Rattle.jz_first_meaning.specs.SourceValues.{Evaluation, numbers_first, and_then, defined_value, evaluated_value, expression_value, numbers_in, numbers_of}
+use Rattle.jz_first_meaning.specs.SourceRuns.{as_declared, held_value, written_state, left_value, right_value, combined_value, assigned_value, assigned_state, Block, source, statement, block, entry_state, result_words, outcome_of_words, outcome_of_body, FunOutcome, IsRun}
 use Rattle.jz_first_meaning.specs.StraightRuns.{run_statement, run_statements, plain_leak, straight_outcome}
 use Rattle.jz_runs.proofs.Steady.{run, ran_so}
 
@@ -40,11 +40,11 @@ pub silent_then : {A B : Type 0} (x : Evaluation A) (go : A → Evaluation B) �
 silent_then (stuck w) go h k = tt
 silent_then (went ns x) go h k = silent_first ns (go x) h (k x)
 
-silent_defined : (at : Span) (v : Option Value) → Silent (defined at v)
+silent_defined : (at : Span) (v : Option Value) → Silent (defined_value at v)
 silent_defined at None = tt
 silent_defined at (Some v) = refl
 
-pub silent_evaluated : (e : Expr) (s : State) → Silent (evaluated e s)
+pub silent_evaluated : (e : Expr) (s : State) → Silent (evaluated_value e s)
 silent_evaluated (expr.Num i at) s = refl
 silent_evaluated (expr.Var x) s = silent_defined x.span (s.store (key_of x))
 
@@ -58,14 +58,14 @@ silent_declared : (d : Option Decl) (at : Span) (i : ℤ) → Silent (as_declare
 silent_declared None at i = tt
 silent_declared (Some d) at i = refl
 
-silent_held : (x : Var) (v : Value) → Silent (held x v)
+silent_held : (x : Var) (v : Value) → Silent (held_value x v)
 silent_held x (word size a) = refl
 silent_held x (integer i) = silent_declared x.decl x.span i
 
-silent_written : (d : Lval) (v : Value) (s : State) → Silent (written d v s)
-silent_written (lval.Var x) v s = silent_then (held x v) _ (silent_held x v) (λ w. refl)
+silent_written : (d : Lval) (v : Value) (s : State) → Silent (written_state d v s)
+silent_written (lval.Var x) v s = silent_then (held_value x v) _ (silent_held x v) (λ w. refl)
 
-silent_combined : (o : BinOp) (at : Span) (a b : Value) → Silent (combined o at a b)
+silent_combined : (o : BinOp) (at : Span) (a b : Value) → Silent (combined_value o at a b)
 silent_combined o at (word size a) (word other b) = refl
 silent_combined o at (word size a) (integer i) = refl
 silent_combined o at (integer i) b = tt
@@ -74,7 +74,7 @@ silent_value : (d : Lval) (o : Option BinOp) (r : Rhs) (at : Span) (s : State) �
 silent_value d None r at s = silent_right r s
 silent_value d (Some o) r at s = silent_then (left_value d s) _ (silent_left d s) (λ a. silent_then (right_value r s) _ (silent_right r s) (λ b. silent_combined o at a b))
 
-silent_assigned : (to : List Lval) (o : Option BinOp) (r : Rhs) (at : Span) (s : State) → Silent (assigned to o r at s)
+silent_assigned : (to : List Lval) (o : Option BinOp) (r : Rhs) (at : Span) (s : State) → Silent (assigned_state to o r at s)
 silent_assigned [] o r at s = tt
 silent_assigned (d ∷ []) o r at s = silent_then (assigned_value d o r at s) _ (silent_value d o r at s) (λ v. silent_written d v s)
 silent_assigned (d ∷ e ∷ ds) o r at s = tt
@@ -97,10 +97,10 @@ memory_then : {A : Type 0} (m : Memory) (x : Evaluation A) (go : A → Evaluatio
 memory_then m (stuck w) go h = tt
 memory_then m (went ns x) go h = memory_first m ns (go x) (h x)
 
-memory_written : (d : Lval) (v : Value) (s : State) → HasMemory s.memory (written d v s)
-memory_written (lval.Var x) v s = memory_then s.memory (held x v) _ (λ w. refl)
+memory_written : (d : Lval) (v : Value) (s : State) → HasMemory s.memory (written_state d v s)
+memory_written (lval.Var x) v s = memory_then s.memory (held_value x v) _ (λ w. refl)
 
-memory_assigned : (to : List Lval) (o : Option BinOp) (r : Rhs) (at : Span) (s : State) → HasMemory s.memory (assigned to o r at s)
+memory_assigned : (to : List Lval) (o : Option BinOp) (r : Rhs) (at : Span) (s : State) → HasMemory s.memory (assigned_state to o r at s)
 memory_assigned [] o r at s = tt
 memory_assigned (d ∷ []) o r at s = memory_then s.memory (assigned_value d o r at s) _ (λ v. memory_written d v s)
 memory_assigned (d ∷ e ∷ ds) o r at s = tt
@@ -129,9 +129,9 @@ then_run n b (stuck w) = Stuck w
 then_run n b (went ns s) = after (ran ns) (run source b n s)
 
 one_first : (x : StmtKind) (at : Span) (b : Block) (n : ℕ) (s : State) → run source (statement x at b) n s ≡ then_run n b (run_statement x at s)
-one_first (kind.Assign to o r) at b n s = by_case (assigned to o r at s) refl
+one_first (kind.Assign to o r) at b n s = by_case (assigned_state to o r at s) refl
   where
-    by_case : (x : Evaluation State) → assigned to o r at s ≡ x → run source (statement (kind.Assign to o r) at b) n s ≡ then_run n b (assigned to o r at s)
+    by_case : (x : Evaluation State) → assigned_state to o r at s ≡ x → run source (statement (kind.Assign to o r) at b) n s ≡ then_run n b (assigned_state to o r at s)
     by_case (stuck w) q = rw q
     by_case (went ns s1) q = rw q
 
@@ -172,5 +172,5 @@ no_numbers : (x : Evaluation Value) → Silent x → numbers_in x ≡ []
 no_numbers (stuck w) h = refl
 no_numbers (went ns v) h = h
 
-pub numbers_so : (e : Expr) (s t : State) (v w : Value) → value_of e s ≡ Ok v → value_of e t ≡ Ok w → length (numbers_of e s) ≡ length (numbers_of e t)
-numbers_so e s t v w a b = ap length (no_numbers (evaluated e s) (silent_evaluated e s) ∙ sym (no_numbers (evaluated e t) (silent_evaluated e t)))
+pub numbers_so : (e : Expr) (s t : State) (v w : Value) → expression_value e s ≡ Ok v → expression_value e t ≡ Ok w → length (numbers_of e s) ≡ length (numbers_of e t)
+numbers_so e s t v w a b = ap length (no_numbers (evaluated_value e s) (silent_evaluated e s) ∙ sym (no_numbers (evaluated_value e t) (silent_evaluated e t)))

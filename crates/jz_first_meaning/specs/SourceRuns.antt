@@ -27,8 +27,8 @@ use Rattle.jz_first_tree.specs.declared.StmtKind.TheVariants as kind
 use Rattle.jz_runs.specs.Trees.{Tree, done, op}
 use Rattle.jz_leak.specs.RunLeaks.{Leak}
 use Rattle.jz_runs.specs.Rules.{stuck, went, Parts, Outcome, End, Cut, Stuck, Goes}
-use Rattle.jz_first_meaning.specs.SourceStates.{Value, word, integer, key_of, Store, empty_store, put, State, Init, Why}
-use Rattle.jz_first_meaning.specs.SourceValues.{Evaluation, stuck_at, and_then, variable_value, evaluated}
+use Rattle.jz_first_meaning.specs.SourceStates.{Value, word, integer, key_of, Store, empty_store, with_value_at, State, Init, Why}
+use Rattle.jz_first_meaning.specs.SourceValues.{Evaluation, stuck_at, and_then, variable_value, evaluated_value}
 
 -- ---- assignments
 
@@ -48,14 +48,14 @@ abbrev pub as_declared : Option Decl → Span → ℤ → Evaluation Value
 as_declared None at i = stuck_at at Init
 as_declared (Some d) at i = went [] (of_type d.ty i)
 
--- what a variable holds of a value that is assigned to it: a word
-abbrev pub held : Var → Value → Evaluation Value
-held x (word size a) = went [] (word size a)
-held x (integer i) = as_declared x.decl x.span i
+-- what a variable holds of a value that is assigned_state to it: a word
+abbrev pub held_value : Var → Value → Evaluation Value
+held_value x (word size a) = went [] (word size a)
+held_value x (integer i) = as_declared x.decl x.span i
 
--- the left side, written: a variable gets the value
-abbrev pub written : Lval → Value → State → Evaluation State
-written (lval.Var x) v s = and_then (held x v) (λ w. went [] (record s { store = put s.store (key_of x) (Some w) }))
+-- the left side, written_state: a variable gets the value
+abbrev pub written_state : Lval → Value → State → Evaluation State
+written_state (lval.Var x) v s = and_then (held_value x v) (λ w. went [] (record s { store = with_value_at s.store (key_of x) (Some w) }))
 
 -- the value that the left side has before
 abbrev pub left_value : Lval → State → Evaluation Value
@@ -63,7 +63,7 @@ left_value (lval.Var x) s = variable_value x s.store
 
 -- the value of a right side
 abbrev pub right_value : Rhs → State → Evaluation Value
-right_value (rhs.Value e) s = evaluated e s
+right_value (rhs.Value e) s = evaluated_value e s
 
 -- an operation on words of a size: modulo 2 to its bits, for 64 bits modulo 2 ^ 64
 abbrev pub operation : BinOp → Size → ℕ → ℕ → ℕ
@@ -73,20 +73,20 @@ operation Sub size a b = residue size (pos a -ℤ pos b)
 
 -- the operands have one size, and a whole number takes that of the word on its left; with a whole
 -- number on the left it means nothing
-abbrev pub combined : BinOp → Span → Value → Value → Evaluation Value
-combined o at (word size a) (word other b) = went [] (word size (operation o size a b))
-combined o at (word size a) (integer i) = went [] (word size (operation o size a (residue size i)))
-combined o at (integer i) b = stuck_at at Init
+abbrev pub combined_value : BinOp → Span → Value → Value → Evaluation Value
+combined_value o at (word size a) (word other b) = went [] (word size (operation o size a b))
+combined_value o at (word size a) (integer i) = went [] (word size (operation o size a (residue size i)))
+combined_value o at (integer i) b = stuck_at at Init
 
--- the value that is assigned: `d op= e` is `d = d op e`
+-- the value that is assigned_state: `d op= e` is `d = d op e`
 abbrev pub assigned_value : Lval → Option BinOp → Rhs → Span → State → Evaluation Value
 assigned_value d None r at s = right_value r s
-assigned_value d (Some o) r at s = and_then (left_value d s) (λ a. and_then (right_value r s) (λ b. combined o at a b))
+assigned_value d (Some o) r at s = and_then (left_value d s) (λ a. and_then (right_value r s) (λ b. combined_value o at a b))
 
 -- the value, and then the left side; with another number of left sides than one it means nothing
-abbrev pub assigned : List Lval → Option BinOp → Rhs → Span → State → Evaluation State
-assigned (d ∷ []) o r at s = and_then (assigned_value d o r at s) (λ v. written d v s)
-assigned _ o r at s = stuck_at at Init
+abbrev pub assigned_state : List Lval → Option BinOp → Rhs → Span → State → Evaluation State
+assigned_state (d ∷ []) o r at s = and_then (assigned_value d o r at s) (λ v. written_state d v s)
+assigned_state _ o r at s = stuck_at at Init
 
 -- ---- the statements of a body
 
@@ -97,7 +97,7 @@ Block = Tree Assignment ⊥ ⊥ ⊥
 -- what the parts of a body do; none of them is quiet yet
 abbrev pub source : Parts Assignment ⊥ ⊥ ⊥ State Why
 source = record {
-  does = λ a s. assigned a.to a.op a.rhs a.at s;
+  does = λ a s. assigned_state a.to a.op a.rhs a.at s;
   quiets = λ a s. s;
   tests = λ c s. absurd c;
   settled = λ c s. s;
@@ -132,7 +132,7 @@ argument (Some d) w = Some (value_of_type d.ty w)
 abbrev pub with_arguments : List Param → List ℕ → Store → Store
 with_arguments [] ws store = store
 with_arguments (p ∷ ps) [] store = store
-with_arguments (p ∷ ps) (w ∷ ws) store = with_arguments ps ws (put store (key_of p.var) (argument p.var.decl w))
+with_arguments (p ∷ ps) (w ∷ ws) store = with_arguments ps ws (with_value_at store (key_of p.var) (argument p.var.decl w))
 
 -- where a function begins: no other variable has a value
 abbrev pub entry_state : Fun → List ℕ → Memory → State

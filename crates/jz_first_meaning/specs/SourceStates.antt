@@ -35,8 +35,8 @@ abbrev pub empty_store : Store
 empty_store k = None
 
 -- what is given by keys, with this for one of them
-abbrev pub put : {A : Type 0} → (Key → A) → Key → A → Key → A
-put given k v q = if same_key q k then v else given q
+abbrev pub with_value_at : {A : Type 0} → (Key → A) → Key → A → Key → A
+with_value_at given k v q = if same_key q k then v else given q
 
 -- where a run stands
 pub record State : Type 0 where

@@ -26,18 +26,18 @@ and_then (stuck w) go = stuck w
 and_then (went ns x) go = numbers_first ns (go x)
 
 -- the value that is there
-abbrev pub defined : Span → Option Value → Evaluation Value
-defined at None = stuck_at at Init
-defined at (Some v) = went [] v
+abbrev pub defined_value : Span → Option Value → Evaluation Value
+defined_value at None = stuck_at at Init
+defined_value at (Some v) = went [] v
 
 -- the value of a variable: reading one leaks nothing, and it is stuck where the variable has none
 abbrev pub variable_value : Var → Store → Evaluation Value
-variable_value x store = defined x.span (store (key_of x))
+variable_value x store = defined_value x.span (store (key_of x))
 
 -- an expression's numbers, from left to right, and its value
-abbrev pub evaluated : Expr → State → Evaluation Value
-evaluated (expr.Num i at) s = went [] (integer i)
-evaluated (expr.Var x) s = variable_value x s.store
+abbrev pub evaluated_value : Expr → State → Evaluation Value
+evaluated_value (expr.Num i at) s = went [] (integer i)
+evaluated_value (expr.Var x) s = variable_value x s.store
 
 -- the value, or where and why there is none
 abbrev pub value_in : Evaluation Value → Result Value Why
@@ -50,9 +50,9 @@ numbers_in (stuck w) = []
 numbers_in (went ns v) = ns
 
 -- the value of an expression
-abbrev pub value_of : Expr → State → Result Value Why
-value_of e s = value_in (evaluated e s)
+abbrev pub expression_value : Expr → State → Result Value Why
+expression_value e s = value_in (evaluated_value e s)
 
 -- the numbers that an expression leaks, if it is not stuck
 abbrev pub numbers_of : Expr → State → List ℕ
-numbers_of e s = numbers_in (evaluated e s)
+numbers_of e s = numbers_in (evaluated_value e s)

@@ -11,11 +11,11 @@ use Rattle.jz_leak.specs.RunLeaks.{Leak, over, ran}
 use Rattle.jz_runs.specs.Rules.{went, End}
 use Rattle.jz_first_meaning.specs.SourceStates.{State}
 use Rattle.jz_first_meaning.specs.SourceValues.{Evaluation, and_then}
-use Rattle.jz_first_meaning.specs.SourceRuns.{assigned, entry_state, result_words, outcome_of_words, FunOutcome}
+use Rattle.jz_first_meaning.specs.SourceRuns.{assigned_state, entry_state, result_words, outcome_of_words, FunOutcome}
 
 -- the state after a statement
 abbrev pub run_statement : StmtKind → Span → State → Evaluation State
-run_statement (kind.Assign to o r) at s = assigned to o r at s
+run_statement (kind.Assign to o r) at s = assigned_state to o r at s
 
 -- the state after statements
 abbrev pub run_statements : List Stmt → State → Evaluation State

@@ -5,13 +5,13 @@ ghost use Rattle.jz_first_tree.specs.declared.Program.{Program};
 ghost use Rattle.jz_first_tree.specs.declared.Fun.{Fun};
 ghost use Rattle.jz_first_tree.specs.declared.Expr.{Expr};
 ghost use Rattle.jz_first_meaning.specs.SourceStates.{State, Value};
-ghost use Rattle.jz_first_meaning.specs.SourceValues.{value_of, numbers_of};
+ghost use Rattle.jz_first_meaning.specs.SourceValues.{expression_value, numbers_of};
 ghost use Rattle.jz_first_meaning.specs.SourceRuns.{EachRun};
 ghost use Rattle.jz_first_meaning.specs.StraightRuns.{straight_outcome};
 
 /// How many numbers an expression leaks depends on the expression alone.
 pub fn numbers_of_an_expression()
-    ensures { (e : Expr) (s t : State) (v w : Value) → value_of e s ≡ Ok v → value_of e t ≡ Ok w
+    ensures { (e : Expr) (s t : State) (v w : Value) → expression_value e s ≡ Ok v → expression_value e t ≡ Ok w
         → length (numbers_of e s) ≡ length (numbers_of e t) }
 {}
 

@@ -22,8 +22,8 @@ use Rattle.jz_first_tree.specs.declared.Expr.TheVariants as expr
 use Rattle.jz_first_parse.specs.declared.function.Body.{Body}
 use Rattle.jz_first_parse.specs.declared.statement.Item.{Item}
 use Rattle.jz_first_parse.specs.declared.statement.Item.TheVariants.{Declares, Does}
-use Rattle.jz_cursor.specs.Tokens.{name_of, number_of}
-use Rattle.jz_first_parse.specs.Trees.{number_expr, assignments, operation_of, register_word, declared_of, param_of, used_of, assigned, vars_in, stmts_in, body_of, joined, or_empty, fun_of}
+use Rattle.jz_cursor.specs.Tokens.{name_of, number_of_token}
+use Rattle.jz_first_parse.specs.Trees.{number_expr, assignments, operation_of, register_word, declared_of, param_of, used_of, assign_statement, vars_in, stmts_in, body_of, joined_lists, or_empty, fun_of}
 use Rattle.jz_first_parse.specs.Grammar as g
 use Rattle.jz_first_parse.specs.Grammar.{most_names}
 use Rattle.jz_first_parse.specs.Readers as r
@@ -42,7 +42,7 @@ module _ (d : ℕ) where
   next_group (suc n) = g.comma d (group n)
 
   abbrev pub groups : Lang (List Param)
-  groups = then_by (group 8) (λ ps. each_by next_group r.less (most_names - length ps)) ⇒ (λ p. p.0 ++ joined p.1)
+  groups = then_by (group 8) (λ ps. each_by next_group r.less (most_names - length ps)) ⇒ (λ p. p.0 ++ joined_lists p.1)
 
   abbrev pub params : Lang (List Param)
   params = (g.the d (codes "(") ▸ maybe groups ▸ g.the d (codes ")")) ⇒ (λ p. or_empty p.1.0)
@@ -73,16 +73,16 @@ the_law s = sign_reads s span_of 0
 pub name_law : IsReader r.name (λ e. g.name e) (one_shape r.ids)
 name_law = identifier_reads name_of 0
 
-pub declared_law : IsReader r.declared (λ e. g.declared e) (one_shape r.ids)
-unfolding r.declared
+pub declared_law : IsReader r.variable_declared (λ e. g.declared e) (one_shape r.ids)
+unfolding r.variable_declared
 declared_law = map_reads declared_of name_law
 
 pub param_law : IsReader r.param (λ e. g.param e) (one_shape r.ids)
 unfolding r.param
 param_law = map_reads param_of declared_law
 
-pub used_law : IsReader r.used (λ e. g.used e) (one_shape r.ids)
-unfolding r.used
+pub used_law : IsReader r.variable_used (λ e. g.used e) (one_shape r.ids)
+unfolding r.variable_used
 used_law = map_reads used_of name_law
 
 some_key : (s : List ℕ) → HasPhrase (λ d. g.key d s)
@@ -146,21 +146,21 @@ starts_groups (suc n) = refl
 pub groups_by_law : (n : ℕ) → IsReader (many_by r.group_starts r.next_group r.less n) (λ e. each_by (next_group e) r.less n) (many_shape r.commas r.ids)
 groups_by_law n = many_by_reads r.group_starts r.commas r.ids r.less next_group_law starts_groups refl n
 
-groups_is : (ts : List Token) → through (λ p. p.0 ++ joined p.1) (depend (r.group 8) (λ ps. many_by r.group_starts r.next_group r.less (most_names - length ps)) ts) ≡ r.groups ts
+groups_is : (ts : List Token) → through (λ p. p.0 ++ joined_lists p.1) (depend (r.group 8) (λ ps. many_by r.group_starts r.next_group r.less (most_names - length ps)) ts) ≡ r.groups ts
 unfolding r.groups r.groups_more
 groups_is ts = step (r.group 8 ts)
   where
-    last : (ps : List Param) (w : Answer (List (List Param))) → through {A = List Param × List (List Param)} (λ p. p.0 ++ joined p.1) (w >>= λ y. Ok ((ps, y.0), y.1)) ≡ through (λ gs. ps ++ joined gs) w
+    last : (ps : List Param) (w : Answer (List (List Param))) → through {A = List Param × List (List Param)} (λ p. p.0 ++ joined_lists p.1) (w >>= λ y. Ok ((ps, y.0), y.1)) ≡ through (λ gs. ps ++ joined_lists gs) w
     last ps (Ok y) = refl
     last ps (Err e) = refl
 
-    step : (w : Answer (List Param)) → through {A = List Param × List (List Param)} (λ p. p.0 ++ joined p.1) (w >>= λ x. many_by r.group_starts r.next_group r.less (most_names - length x.0) x.1 >>= λ y. Ok ((x.0, y.0), y.1)) ≡ (w >>= λ x. through (λ gs. x.0 ++ joined gs) (many_by r.group_starts r.next_group r.less (most_names - length x.0) x.1))
+    step : (w : Answer (List Param)) → through {A = List Param × List (List Param)} (λ p. p.0 ++ joined_lists p.1) (w >>= λ x. many_by r.group_starts r.next_group r.less (most_names - length x.0) x.1 >>= λ y. Ok ((x.0, y.0), y.1)) ≡ (w >>= λ x. through (λ gs. x.0 ++ joined_lists gs) (many_by r.group_starts r.next_group r.less (most_names - length x.0) x.1))
     step (Ok x) = last x.0 (many_by r.group_starts r.next_group r.less (most_names - length x.0) x.1)
     step (Err e) = refl
 
 pub groups_law : IsReader r.groups (λ e. groups e) (full regs (r.ids ++ (r.commas ++ r.ids)))
 groups_law = reads_as r.groups
-    (map_reads (λ p. p.0 ++ joined p.1) (depend_reads (group_law 8) (λ ps. groups_by_law (most_names - length ps)) (λ ps e h. ([], [], refl)) refl))
+    (map_reads (λ p. p.0 ++ joined_lists p.1) (depend_reads (group_law 8) (λ ps. groups_by_law (most_names - length ps)) (λ ps e h. ([], [], refl)) refl))
     groups_is
 
 abbrev opened : List Kind
@@ -221,10 +221,10 @@ operands = identifier ∷ number ∷ []
 
 pub operand_law : IsReader r.operand (λ e. g.operand e) (full operands [])
 unfolding r.operand
-operand_law = pick_reads (map_reads expr.Var used_law) (map_reads number_expr (number_reads number_of 0)) refl refl
+operand_law = pick_reads (map_reads expr.Var used_law) (map_reads number_expr (number_reads number_of_token 0)) refl refl
 
 some_operand : HasPhrase (λ d. g.operand d)
-some_operand = some_left (λ d. g.used d ⇒ expr.Var) (λ d. token (number ∷ []) d ⇒ number_of ⇒ number_expr) (some_map (λ d. g.used d) expr.Var some_used)
+some_operand = some_left (λ d. g.used d ⇒ expr.Var) (λ d. token (number ∷ []) d ⇒ number_of_token ⇒ number_expr) (some_map (λ d. g.used d) expr.Var some_used)
 
 operation_in : is_in assignments (sign_token (codes "=")) ≡ true
 operation_in = sign_in (codes "=") (sign (codes "+=") ∷ sign (codes "-=") ∷ sign (codes "^=") ∷ [])
@@ -237,7 +237,7 @@ some_end_of_stmt = some_then (λ d. g.operand d) (λ d. g.the d (codes ";")) som
 
 pub stmt_law : IsReader r.stmt (λ e. g.stmt e) (full r.ids [])
 unfolding r.stmt
-stmt_law = map_reads (λ p. assigned p.0 p.1.0 p.1.1.0)
+stmt_law = map_reads (λ p. assign_statement p.0 p.1.0 p.1.1.0)
     (follow_reads used_law
     (follow_reads (leaf_reads assignments operation_of 0 (sign_token (codes "=")) operation_in)
     (follow_reads operand_law (the_law (codes ";")) (some_the (codes ";")) refl) some_end_of_stmt refl)
@@ -282,8 +282,8 @@ names_law = shaped (full r.name_starts r.commas)
 abbrev returns : List Kind
 returns = word (codes "return") ∷ []
 
-pub returned_law : IsReader r.returned (λ e. (g.key e (codes "return") ▸ maybe (g.names e) ▸ g.the e (codes ";")) ⇒ (λ p. or_empty p.1.0)) (full returns [])
-unfolding r.returned
+pub returned_law : IsReader r.variables_returned (λ e. (g.key e (codes "return") ▸ maybe (g.names e) ▸ g.the e (codes ";")) ⇒ (λ p. or_empty p.1.0)) (full returns [])
+unfolding r.variables_returned
 returned_law = map_reads (λ p. or_empty p.1.0)
     (follow_reads (key_law (codes "return")) (follow_reads (optional_reads r.name_starts r.commas names_law) (the_law (codes ";")) (some_the (codes ";")) refl)
     (some_then (λ d. maybe (g.names d)) (λ d. g.the d (codes ";")) (some_maybe (λ d. g.names d)) (some_the (codes ";"))) refl)

@@ -16,16 +16,16 @@ use Rattle.jz_grammar.specs.Grammar.{Lang}
 use Rattle.jz_first_parse.specs.declared.function.Body.{Body}
 use Rattle.jz_first_parse.specs.declared.statement.Item.{Item}
 use Rattle.jz_first_parse.specs.declared.statement.Item.TheVariants.{Declares, Does}
-use Rattle.jz_first_parse.specs.Trees.{register_word, declared_of, param_of, used_of, assigned, vars_in, stmts_in, body_of, joined, or_empty, fun_of, program_of}
+use Rattle.jz_first_parse.specs.Trees.{register_word, declared_of, param_of, used_of, assign_statement, vars_in, stmts_in, body_of, joined_lists, or_empty, fun_of, program_of}
 use Rattle.jz_first_parse.specs.Grammar as g
 use Rattle.jz_first_parse.specs.Deriving.{DerivesProgram}
 use Rattle.jz_first_parse.specs.Derived.{DeclaresWords, HasNames}
 use Rattle.jz_first_tree.specs.Assignments.{AssignsToOne}
 use Rattle.jz_first_parse.proofs.Phrases.{Named, Gives, all_named, gives_then, gives_any, gives_seen, gives_or, gives_each, gives_maybe, gives_name}
 
-joined_all : {A : Type 0} (P : A → Type 0) (xss : List (List A)) → All (All P) xss → All P (joined xss)
+joined_all : {A : Type 0} (P : A → Type 0) (xss : List (List A)) → All (All P) xss → All P (joined_lists xss)
 joined_all P [] h = All-nil P
-joined_all P (xs ∷ xss) h = All-append P xs (joined xss) (All-head (All P) xs xss h) (joined_all P xss (All-tail (All P) xs xss h))
+joined_all P (xs ∷ xss) h = All-append P xs (joined_lists xss) (All-head (All P) xs xss h) (joined_all P xss (All-tail (All P) xs xss h))
 
 module _ (N : List ℕ → Type 0) where
   -- a variable that is declared as a word in a register, and whose name has the property
@@ -64,7 +64,7 @@ module _ (N : List ℕ → Type 0) where
       several = gives_seen N (All IsWordParam) (λ p. p.0 ∷ p.1) (λ p h. All-cons IsWordParam p.0 p.1 h.0 h.1) (gives_then N param (gives_each N IsWordParam param))
 
   groups : Gives N (g.groups 0) (All IsWordParam)
-  groups = gives_seen N (All IsWordParam) (λ p. p.0 ++ joined p.1) (λ p h. All-append IsWordParam p.0 (joined p.1) h.0 (joined_all IsWordParam p.1 h.1))
+  groups = gives_seen N (All IsWordParam) (λ p. p.0 ++ joined_lists p.1) (λ p h. All-append IsWordParam p.0 (joined_lists p.1) h.0 (joined_all IsWordParam p.1 h.1))
       (gives_then N group (gives_each N (All IsWordParam) (comma (All IsWordParam) group)))
 
   params : Gives N (g.params 0) (All IsWordParam)
@@ -94,7 +94,7 @@ module _ (N : List ℕ → Type 0) where
   DeclaresItem (Does s) = AssignsToOne s
 
   stmt : Gives N (g.stmt 0) AssignsToOne
-  stmt = gives_seen N AssignsToOne (λ p. assigned p.0 p.1.0 p.1.1.0) (λ p h. (p.0, p.1.0, Value p.1.1.0, refl)) (gives_any N _)
+  stmt = gives_seen N AssignsToOne (λ p. assign_statement p.0 p.1.0 p.1.1.0) (λ p h. (p.0, p.1.0, Value p.1.1.0, refl)) (gives_any N _)
 
   item : Gives N (g.item 0) DeclaresItem
   item = gives_or N (gives_seen N DeclaresItem Declares (λ vs h. h) decl) (gives_seen N DeclaresItem Does (λ s h. h) stmt)

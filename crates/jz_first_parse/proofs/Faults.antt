@@ -6,7 +6,7 @@ use Rattle.jz_io.specs.declared.span.Span.{Span}
 use Rattle.jz_lex.specs.declared.token.Token.{Token}
 use Rattle.jz_lex.specs.declared.token.TokenKind.TheVariants.{End}
 use Rattle.jz_grammar.specs.Causes.{Cause, Unexpected}
-use Rattle.jz_grammar.specs.Kinds.{kind_of, member, is_in}
+use Rattle.jz_grammar.specs.Kinds.{token_kind, member, is_in}
 use Rattle.jz_grammar.specs.Reading.{final}
 use Rattle.jz_grammar.specs.Grammar.{Marked, plain}
 use Rattle.jz_grammar.specs.Laws.{Begins}
@@ -19,29 +19,29 @@ use Rattle.jz_first_tree.specs.declared.Program.{Program}
 use Rattle.jz_cursor.specs.declared.fault.SyntaxFault.{SyntaxFault}
 use Rattle.jz_cursor.specs.declared.fault.SyntaxKind.TheVariants as kind
 use Rattle.jz_cursor.specs.Places.{span_at, span_or_start, IsFaultAt}
-use Rattle.jz_cursor.specs.Gave.{numbered}
+use Rattle.jz_cursor.specs.Gave.{numbered_answer}
 use Rattle.jz_first_parse.specs.Deriving.{DerivesProgram, BeginsProgram, IsStoppedAt, IsUnexpected}
 use Rattle.jz_first_parse.specs.Grammar as g
 use Rattle.jz_first_parse.specs.Readers as r
 use Rattle.jz_first_parse.proofs.Program.{program_shape, program_law, kinds, all_kinds, steady_function, steady_program}
 
 -- ---- what was read, and what is left
-pub read_done : (n : ℕ) (ts now : List Token) (p : Program) → r.program ts ≡ Ok (p, now) → length now ≡ 0 → numbered n (final (r.program ts)) ≡ Ok p
-read_done n ts [] p h e = ap (λ z. numbered n (final z)) h
+pub read_done : (n : ℕ) (ts now : List Token) (p : Program) → r.program ts ≡ Ok (p, now) → length now ≡ 0 → numbered_answer n (final (r.program ts)) ≡ Ok p
+read_done n ts [] p h e = ap (λ z. numbered_answer n (final z)) h
 read_done n ts (t ∷ now) p h e = absurd (omega (arith, e))
 
-pub read_over : (n : ℕ) (ts now : List Token) (p : Program) → r.program ts ≡ Ok (p, now) → (length now ≡ 0 → ⊥) → numbered n (final (r.program ts)) ≡ Err (Unexpected, n - length now)
+pub read_over : (n : ℕ) (ts now : List Token) (p : Program) → r.program ts ≡ Ok (p, now) → (length now ≡ 0 → ⊥) → numbered_answer n (final (r.program ts)) ≡ Err (Unexpected, n - length now)
 read_over n ts [] p h e = absurd (e refl)
-read_over n ts (t ∷ now) p h e = ap (λ z. numbered n (final z)) h
+read_over n ts (t ∷ now) p h e = ap (λ z. numbered_answer n (final z)) h
 
-pub read_wrong : (n : ℕ) (ts now : List Token) (k : Cause) → r.program ts ≡ Err (k, now) → numbered n (final (r.program ts)) ≡ Err (k, n - length now)
-read_wrong n ts now k h = ap (λ z. numbered n (final z)) h
+pub read_wrong : (n : ℕ) (ts now : List Token) (k : Cause) → r.program ts ≡ Err (k, now) → numbered_answer n (final (r.program ts)) ≡ Err (k, n - length now)
+read_wrong n ts now k h = ap (λ z. numbered_answer n (final z)) h
 
 -- ---- the reader in words of tokens
-pub derived : (ts : List Token) (n : ℕ) (p : Program) → numbered n (final (r.program ts)) ≡ Ok p → DerivesProgram ts p
+pub derived : (ts : List Token) (n : ℕ) (p : Program) → numbered_answer n (final (r.program ts)) ≡ Ok p → DerivesProgram ts p
 derived ts n p h = cases (final (r.program ts)) refl h
   where
-    cases : (w : Result Program (Cause × List Token)) → final (r.program ts) ≡ w → numbered n w ≡ Ok p → DerivesProgram ts p
+    cases : (w : Result Program (Cause × List Token)) → final (r.program ts) ≡ w → numbered_answer n w ≡ Ok p → DerivesProgram ts p
     cases (Ok a) e i = let s : a ≡ p = cc in x.derives_from r.program g.program program_shape program_law has_nil all_kinds steady_program ts p (e ∙ ap (λ z. Ok z) s)
     cases (Err a) e i = cc
 
@@ -70,10 +70,10 @@ abbrev number : Result Program (Cause × ℕ) → ℕ
 number (Ok p) = 0
 number (Err e) = e.1
 
-pub unexpected_law : (ts : List Token) (c : Cause) (at : ℕ) (f : SyntaxFault) → numbered (length ts) (final (r.program ts)) ≡ Err (c, at) → IsFaultAt kind.Unexpected ts at f → IsUnexpected ts f
+pub unexpected_law : (ts : List Token) (c : Cause) (at : ℕ) (f : SyntaxFault) → numbered_answer (length ts) (final (r.program ts)) ≡ Err (c, at) → IsFaultAt kind.Unexpected ts at f → IsUnexpected ts f
 unexpected_law ts c at f h is = cases (final (r.program ts)) refl h
   where
-    cases : (w : Result Program (Cause × List Token)) → final (r.program ts) ≡ w → numbered (length ts) w ≡ Err (c, at) → IsUnexpected ts f
+    cases : (w : Result Program (Cause × List Token)) → final (r.program ts) ≡ w → numbered_answer (length ts) w ≡ Err (c, at) → IsUnexpected ts f
     cases (Ok a) e i = cc
     cases (Err (k, [])) e i =
         let n : length ts - 0 ≡ at = ap number i in
@@ -131,7 +131,7 @@ one_fault_law ts f h u v = ⊎_elim
 -- ---- an end stands last
 end_is_none : (t : Token) → t.kind ≡ End → is_in kinds t ≡ false
 unfolding is_in
-end_is_none t h = ap (λ z. member (kind_of z) kinds) h
+end_is_none t h = ap (λ z. member (token_kind z) kinds) h
 
 among : (ys : List Marked) (front more : List Token) (e t u : Token) → AreOf kinds ys → plain ys ++ e ∷ [] ≡ front ++ t ∷ u ∷ more → is_in kinds t ≡ true
 among [] [] more e t u h s = absurd (omega (arith, ap length s))

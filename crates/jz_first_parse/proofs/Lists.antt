@@ -2,7 +2,7 @@
 use Rattle.std.proofs.Common.{◌≡◌, ℕ, zero, suc, ◌-◌, ◌<◌, List, [], ◌∷◌, ◌++◌, length, true, false, ◌||◌, Ok, Err, refl, sym, ap, ◌∙◌, arith, append-nil, append_assoc, codes}
 use Rattle.jz_lex.specs.declared.token.Token.{Token}
 use Rattle.jz_grammar.specs.Causes.{Cause}
-use Rattle.jz_grammar.specs.Kinds.{Kind, kind_of, word, sign, is_in, has}
+use Rattle.jz_grammar.specs.Kinds.{Kind, token_kind, word, sign, is_in, has}
 use Rattle.jz_grammar.specs.Reading.{Answer, through, many_by}
 use Rattle.jz_grammar.proofs.Basics.{member_append}
 use Rattle.jz_grammar.proofs.Combine.{shorter, has_nil}
@@ -15,7 +15,7 @@ use Rattle.jz_first_tree.specs.declared.Var.{Var}
 use Rattle.jz_first_tree.specs.declared.Stmt.{Stmt}
 use Rattle.jz_first_parse.specs.declared.statement.Item.{Item}
 use Rattle.jz_first_parse.specs.declared.statement.Item.TheVariants.{Declares, Does}
-use Rattle.jz_first_parse.specs.Trees.{vars_in, stmts_in, joined}
+use Rattle.jz_first_parse.specs.Trees.{vars_in, stmts_in, joined_lists}
 use Rattle.jz_first_parse.specs.Readers as r
 use Rattle.jz_first_parse.proofs.Counted.{next_group_law, next_rtype_law, item_law, next_used_law, counted_law, starts_groups, starts_items, all_starts, exports}
 
@@ -23,7 +23,7 @@ use Rattle.jz_first_parse.proofs.Counted.{next_group_law, next_rtype_law, item_l
 has_either : (ks ls : List Kind) (ts : List Token) → has (ks ++ ls) ts ≡ (has ks ts || has ls ts)
 unfolding is_in
 has_either ks ls [] = refl
-has_either ks ls (t ∷ ts) = member_append ks ls (kind_of t.kind)
+has_either ks ls (t ∷ ts) = member_append ks ls (token_kind t.kind)
 
 pub begins_names : (ts : List Token) → has r.name_starts ts ≡ (has r.ids ts || has (sign (codes "(") ∷ []) ts)
 begins_names ts = has_either r.ids (sign (codes "(") ∷ []) ts
@@ -59,21 +59,21 @@ some_group (suc n) ts h = refl
 
 pub groups_done : (n : ℕ) (out : List Param) (ts : List Token) → has (r.group_starts n) ts ≡ false → r.groups_more n out ts ≡ Ok (out, ts)
 unfolding r.groups_more
-groups_done n out ts h = ap (through (λ gs. out ++ joined gs)) (many_by_done r.group_starts r.next_group r.less n ts h) ∙ ap (λ z. Ok (z, ts)) (append-nil out)
+groups_done n out ts h = ap (through (λ gs. out ++ joined_lists gs)) (many_by_done r.group_starts r.next_group r.less n ts h) ∙ ap (λ z. Ok (z, ts)) (append-nil out)
 
 pub groups_next : (n : ℕ) (out ps : List Param) (ts us : List Token) → has (r.group_starts n) ts ≡ true → r.next_group n ts ≡ Ok (ps, us) → r.groups_more n out ts ≡ r.groups_more (n - length ps) (out ++ ps) us
 unfolding r.groups_more
 groups_next n out ps ts us h e =
-    ap (through (λ gs. out ++ joined gs)) (many_by_next r.group_starts r.commas r.ids r.less next_group_law starts_groups refl n ts us ps h e)
+    ap (through (λ gs. out ++ joined_lists gs)) (many_by_next r.group_starts r.commas r.ids r.less next_group_law starts_groups refl n ts us ps h e)
     ∙ last (many_by r.group_starts r.next_group r.less (n - length ps) us)
   where
-    last : (w : Answer (List (List Param))) → through {A = List (List Param)} (λ gs. out ++ joined gs) (through (λ gs. ps ∷ gs) w) ≡ through (λ gs. (out ++ ps) ++ joined gs) w
-    last (Ok y) = ap (λ z. Ok (z, y.1)) (sym (append_assoc out ps (joined y.0)))
+    last : (w : Answer (List (List Param))) → through {A = List (List Param)} (λ gs. out ++ joined_lists gs) (through (λ gs. ps ∷ gs) w) ≡ through (λ gs. (out ++ ps) ++ joined_lists gs) w
+    last (Ok y) = ap (λ z. Ok (z, y.1)) (sym (append_assoc out ps (joined_lists y.0)))
     last (Err x) = refl
 
 pub groups_wrong : (n : ℕ) (out : List Param) (ts us : List Token) (k : Cause) → has (r.group_starts n) ts ≡ true → r.next_group n ts ≡ Err (k, us) → r.groups_more n out ts ≡ Err (k, us)
 unfolding r.groups_more
-groups_wrong n out ts us k h e = ap (through (λ gs. out ++ joined gs)) (many_by_wrong r.group_starts r.commas r.ids r.less next_group_law starts_groups refl n ts us k h e)
+groups_wrong n out ts us k h e = ap (through (λ gs. out ++ joined_lists gs)) (many_by_wrong r.group_starts r.commas r.ids r.less next_group_law starts_groups refl n ts us k h e)
 
 pub groups_shorter : (n : ℕ) (ps : List Param) (ts us : List Token) → has (r.group_starts n) ts ≡ true → r.next_group n ts ≡ Ok (ps, us) → length us < length ts
 groups_shorter n ps ts us h e = item_shorter r.group_starts r.commas r.ids r.less next_group_law starts_groups refl n ts us ps h e

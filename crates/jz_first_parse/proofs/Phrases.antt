@@ -5,7 +5,7 @@ use Rattle.std.proofs.lemmas.List.Elements.{All-nil, All-cons, All-head, All-tai
 use Rattle.jz_lex.specs.declared.token.Token.{Token}
 use Rattle.jz_lex.specs.declared.token.TokenKind.{TokenKind}
 use Rattle.jz_lex.specs.declared.token.TokenKind.TheVariants as kind
-use Rattle.jz_grammar.specs.Kinds.{identifier, kind_of, member, is_in}
+use Rattle.jz_grammar.specs.Kinds.{identifier, token_kind, member, is_in}
 use Rattle.jz_grammar.specs.Grammar.{Marked, Lang, plain, ◌▸◌, ◌⊕◌, ◌⇒◌, each, maybe}
 use Rattle.jz_cursor.specs.Tokens.{name_in, name_of}
 use Rattle.jz_first_parse.specs.Trees.{or_empty}
@@ -62,7 +62,7 @@ module _ (N : List ℕ → Type 0) where
   gives_maybe P L xs o n (inl h) = subst (λ z. All P (or_empty z)) h.2 (L xs h.0 n h.1)
   gives_maybe P L xs o n (inr h) = subst (λ z. All P (or_empty z)) h.1 (All-nil P)
 
-  named_in : (k : TokenKind) → member (kind_of k) (identifier ∷ []) ≡ true → ((s : List ℕ) → k ≡ kind.Ident s → N s) → N (name_in k)
+  named_in : (k : TokenKind) → member (token_kind k) (identifier ∷ []) ≡ true → ((s : List ℕ) → k ≡ kind.Ident s → N s) → N (name_in k)
   named_in (kind.Ident s) h n = n s refl
   named_in (kind.Keyword s) h n = absurd (let no : ⊥ = cc in no)
   named_in (kind.Num i) h n = absurd (let no : ⊥ = cc in no)

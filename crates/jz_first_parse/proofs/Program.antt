@@ -9,8 +9,8 @@ use Rattle.jz_grammar.proofs.Samples.{end_reads, end_token, end_in, some_leaf}
 use Rattle.jz_grammar.proofs.Steady.{IsSteady, steady_leaf, steady_then, steady_or, steady_map, steady_only, steady_each, steady_maybe, steady_more}
 use Rattle.jz_first_tree.specs.declared.Expr.TheVariants as expr
 use Rattle.jz_first_parse.specs.declared.statement.Item.TheVariants.{Declares, Does}
-use Rattle.jz_cursor.specs.Tokens.{name_of, number_of}
-use Rattle.jz_first_parse.specs.Trees.{number_expr, assignments, operation_of, register_word, declared_of, param_of, used_of, assigned, body_of, joined, or_empty, fun_of, program_of}
+use Rattle.jz_cursor.specs.Tokens.{name_of, number_of_token}
+use Rattle.jz_first_parse.specs.Trees.{number_expr, assignments, operation_of, register_word, declared_of, param_of, used_of, assign_statement, body_of, joined_lists, or_empty, fun_of, program_of}
 use Rattle.jz_first_parse.specs.Grammar as g
 use Rattle.jz_first_parse.specs.Grammar.{most_names}
 use Rattle.jz_first_parse.specs.Readers as r
@@ -67,7 +67,7 @@ steady_group = steady_map kinds (λ p. p.1) (steady_then kinds steady_reg (stead
 steady_params : S (λ d. g.params d)
 steady_params = steady_map kinds (λ p. or_empty p.1.0)
     (steady_then kinds (steady_leaf kinds (sign (codes "(") ∷ []) span_of refl)
-    (steady_then kinds (steady_maybe kinds (steady_map kinds (λ p. p.0 ++ joined p.1) (steady_then kinds steady_group (steady_each kinds (steady_comma steady_group)))))
+    (steady_then kinds (steady_maybe kinds (steady_map kinds (λ p. p.0 ++ joined_lists p.1) (steady_then kinds steady_group (steady_each kinds (steady_comma steady_group)))))
     (steady_leaf kinds (sign (codes ")") ∷ []) span_of refl)))
 
 steady_rtype : S (λ d. g.rtype d)
@@ -88,10 +88,10 @@ steady_decl = steady_map kinds (λ p. p.1.0)
     (steady_then kinds steady_reg (steady_then kinds (steady_map kinds (λ p. p.0 ∷ p.1) (steady_then kinds steady_declared (steady_each kinds steady_next_declared))) steady_semicolon))
 
 steady_operand : S (λ d. g.operand d)
-steady_operand = steady_or kinds (steady_map kinds expr.Var steady_used) (steady_map kinds number_expr (steady_leaf kinds (number ∷ []) number_of refl))
+steady_operand = steady_or kinds (steady_map kinds expr.Var steady_used) (steady_map kinds number_expr (steady_leaf kinds (number ∷ []) number_of_token refl))
 
 steady_stmt : S (λ d. g.stmt d)
-steady_stmt = steady_map kinds (λ p. assigned p.0 p.1.0 p.1.1.0)
+steady_stmt = steady_map kinds (λ p. assign_statement p.0 p.1.0 p.1.1.0)
     (steady_then kinds steady_used (steady_then kinds (steady_leaf kinds assignments operation_of refl) (steady_then kinds steady_operand steady_semicolon)))
 
 steady_item : S (λ d. g.item d)

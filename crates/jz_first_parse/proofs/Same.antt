@@ -9,7 +9,7 @@ use Rattle.jz_first_tree.specs.declared.Var.{Var}
 use Rattle.jz_first_parse.specs.declared.function.Body.{Body}
 use Rattle.jz_first_parse.specs.declared.statement.Item.{Item}
 use Rattle.jz_first_parse.specs.declared.statement.Item.TheVariants.{Declares, Does}
-use Rattle.jz_first_parse.specs.Trees.{vars_in, joined, or_empty}
+use Rattle.jz_first_parse.specs.Trees.{vars_in, joined_lists, or_empty}
 use Rattle.jz_first_parse.specs.Grammar as g
 use Rattle.jz_first_parse.specs.Grammar.{most_names}
 use Rattle.jz_first_parse.specs.Readers as r
@@ -57,25 +57,25 @@ next_from d n xs ps h k = (h.0, (h.1.0, h.1.1, h.1.2, group_from d n h.1.1 h.0.1
 next_some : (d : ℕ) (xs : List Marked) (ps : List Param) → g.comma d (g.group d) xs ps → 0 < length ps
 next_some d xs ps h = subst (λ z. 0 < length z) h.2 (group_some d h.1.1 h.0.1 h.1.3)
 
-more_to : (d n : ℕ) (xs : List Marked) (gs : List (List Param)) → each_by (c.next_group d) r.less n xs gs → each (g.comma d (g.group d)) xs gs × (length (joined gs) ≤ n)
+more_to : (d n : ℕ) (xs : List Marked) (gs : List (List Param)) → each_by (c.next_group d) r.less n xs gs → each (g.comma d (g.group d)) xs gs × (length (joined_lists gs) ≤ n)
 more_to d n xs [] h = (h, omega arith)
 more_to d zero xs (ps ∷ gs) h = absurd h.2
 more_to d (suc n) xs (ps ∷ gs) h =
     let k = next_to d n h.0 ps h.2 in
     let i = more_to d (suc n - length ps) h.1 gs h.3 in
-    ((h.0, h.1, k.0, i.0, h.4), omega (arith, k.1, i.1, length-append ps (joined gs)))
+    ((h.0, h.1, k.0, i.0, h.4), omega (arith, k.1, i.1, length-append ps (joined_lists gs)))
 
-more_from : (d n : ℕ) (xs : List Marked) (gs : List (List Param)) → each (g.comma d (g.group d)) xs gs → length (joined gs) ≤ n → each_by (c.next_group d) r.less n xs gs
+more_from : (d n : ℕ) (xs : List Marked) (gs : List (List Param)) → each (g.comma d (g.group d)) xs gs → length (joined_lists gs) ≤ n → each_by (c.next_group d) r.less n xs gs
 more_from d n xs [] h k = h
-more_from d zero xs (ps ∷ gs) h k = let s = next_some d h.0 ps h.2 in absurd (omega (arith, s, k, length-append ps (joined gs)))
+more_from d zero xs (ps ∷ gs) h k = let s = next_some d h.0 ps h.2 in absurd (omega (arith, s, k, length-append ps (joined_lists gs)))
 more_from d (suc n) xs (ps ∷ gs) h k =
-    (h.0, h.1, next_from d n h.0 ps h.2 (omega (arith, k, length-append ps (joined gs))), more_from d (suc n - length ps) h.1 gs h.3 (omega (arith, k, length-append ps (joined gs))), h.4)
+    (h.0, h.1, next_from d n h.0 ps h.2 (omega (arith, k, length-append ps (joined_lists gs))), more_from d (suc n - length ps) h.1 gs h.3 (omega (arith, k, length-append ps (joined_lists gs))), h.4)
 
 groups_to : (d : ℕ) (xs : List Marked) (ps : List Param) → c.groups d xs ps → g.groups d xs ps × (length ps ≤ most_names)
 groups_to d xs ps h =
     let k = group_to d 8 h.1.0 h.0.0 h.1.2 in
     let i = more_to d (most_names - length h.0.0) h.1.1 h.0.1 h.1.3 in
-    ((h.0, (h.1.0, h.1.1, k.0, i.0, h.1.4), h.2), omega (arith, k.1, i.1, length-append h.0.0 (joined h.0.1), ap length h.2))
+    ((h.0, (h.1.0, h.1.1, k.0, i.0, h.1.4), h.2), omega (arith, k.1, i.1, length-append h.0.0 (joined_lists h.0.1), ap length h.2))
 
 groups_from : (d : ℕ) (xs : List Marked) (ps : List Param) → g.groups d xs ps → length ps ≤ most_names → c.groups d xs ps
 groups_from d xs ps h k = (
@@ -83,8 +83,8 @@ groups_from d xs ps h k = (
   (
     h.1.0,
     h.1.1,
-    group_from d 8 h.1.0 h.0.0 h.1.2 (omega (arith, k, length-append h.0.0 (joined h.0.1), ap length h.2)),
-    more_from d (most_names - length h.0.0) h.1.1 h.0.1 h.1.3 (omega (arith, k, length-append h.0.0 (joined h.0.1), ap length h.2)),
+    group_from d 8 h.1.0 h.0.0 h.1.2 (omega (arith, k, length-append h.0.0 (joined_lists h.0.1), ap length h.2)),
+    more_from d (most_names - length h.0.0) h.1.1 h.0.1 h.1.3 (omega (arith, k, length-append h.0.0 (joined_lists h.0.1), ap length h.2)),
     h.1.4,
   ),
   h.2,

@@ -15,8 +15,8 @@ use Rattle.jz_first_tree.specs.declared.Expr.TheVariants as expr
 use Rattle.jz_first_parse.specs.declared.function.Body.{Body}
 use Rattle.jz_first_parse.specs.declared.statement.Item.{Item}
 use Rattle.jz_first_parse.specs.declared.statement.Item.TheVariants.{Declares, Does}
-use Rattle.jz_cursor.specs.Tokens.{name_of, number_of}
-use Rattle.jz_first_parse.specs.Trees.{number_expr, assignments, operation_of, register_word, declared_of, param_of, used_of, assigned, body_of, joined, or_empty, fun_of, program_of}
+use Rattle.jz_cursor.specs.Tokens.{name_of, number_of_token}
+use Rattle.jz_first_parse.specs.Trees.{number_expr, assignments, operation_of, register_word, declared_of, param_of, used_of, assign_statement, body_of, joined_lists, or_empty, fun_of, program_of}
 
 -- at most so many names are declared in a function
 abbrev pub most_names : ℕ
@@ -60,7 +60,7 @@ module _ (d : ℕ) where
 
   -- "(" [ group { "," group } ] ")"
   abbrev pub groups : Lang (List Param)
-  groups = (group ▸ each (comma group)) ⇒ (λ p. p.0 ++ joined p.1)
+  groups = (group ▸ each (comma group)) ⇒ (λ p. p.0 ++ joined_lists p.1)
 
   abbrev pub params : Lang (List Param)
   params = (the (codes "(") ▸ maybe groups ▸ the (codes ")")) ⇒ (λ p. or_empty p.1.0)
@@ -88,11 +88,11 @@ module _ (d : ℕ) where
 
   -- o = ID | NUM
   abbrev pub operand : Lang Expr
-  operand = (used ⇒ expr.Var) ⊕ (token (number ∷ []) d ⇒ number_of ⇒ number_expr)
+  operand = (used ⇒ expr.Var) ⊕ (token (number ∷ []) d ⇒ number_of_token ⇒ number_expr)
 
   -- stmt = ID aop o ";"      aop one of = += -= ^=
   abbrev pub stmt : Lang Stmt
-  stmt = (used ▸ (token assignments d ⇒ operation_of) ▸ operand ▸ the (codes ";")) ⇒ (λ p. assigned p.0 p.1.0 p.1.1.0)
+  stmt = (used ▸ (token assignments d ⇒ operation_of) ▸ operand ▸ the (codes ";")) ⇒ (λ p. assign_statement p.0 p.1.0 p.1.1.0)
 
   -- decl | stmt
   abbrev pub item : Lang Item

@@ -15,8 +15,8 @@ use Rattle.jz_first_tree.specs.declared.Expr.TheVariants as expr
 use Rattle.jz_first_parse.specs.declared.function.Body.{Body}
 use Rattle.jz_first_parse.specs.declared.statement.Item.{Item}
 use Rattle.jz_first_parse.specs.declared.statement.Item.TheVariants.{Declares, Does}
-use Rattle.jz_cursor.specs.Tokens.{name_of, number_of}
-use Rattle.jz_first_parse.specs.Trees.{number_expr, assignments, operation_of, register_word, declared_of, param_of, used_of, assigned, vars_in, stmts_in, joined, or_empty, fun_of, program_of}
+use Rattle.jz_cursor.specs.Tokens.{name_of, number_of_token}
+use Rattle.jz_first_parse.specs.Trees.{number_expr, assignments, operation_of, register_word, declared_of, param_of, used_of, assign_statement, vars_in, stmts_in, joined_lists, or_empty, fun_of, program_of}
 use Rattle.jz_first_parse.specs.Grammar.{most_names}
 
 abbrev pub key : List ℕ → Reader Span
@@ -28,14 +28,14 @@ the s = leaf (sign s ∷ []) span_of
 abbrev pub name : Reader (List ℕ × Span)
 name = leaf (identifier ∷ []) name_of
 
-unfoldable pub declared : Reader Var
-declared ts = through declared_of (name ts)
+unfoldable pub variable_declared : Reader Var
+variable_declared ts = through declared_of (name ts)
 
 unfoldable pub param : Reader Param
-param ts = through param_of (declared ts)
+param ts = through param_of (variable_declared ts)
 
-unfoldable pub used : Reader Var
-used ts = through used_of (name ts)
+unfoldable pub variable_used : Reader Var
+variable_used ts = through used_of (name ts)
 
 -- the tokens that may go on
 abbrev pub ids : List Kind
@@ -74,7 +74,7 @@ abbrev pub less : {A : Type 0} → ℕ → List A → ℕ
 less n xs = n - length xs
 
 unfoldable pub groups_more : ℕ → List Param → Reader (List Param)
-groups_more n out ts = through (λ gs. out ++ joined gs) (many_by group_starts next_group less n ts)
+groups_more n out ts = through (λ gs. out ++ joined_lists gs) (many_by group_starts next_group less n ts)
 
 unfoldable pub groups : Reader (List Param)
 groups ts = group (most_names - 1) ts >>= λ x. groups_more (most_names - length x.0) x.0 x.1
@@ -97,7 +97,7 @@ results ts = through or_empty (optional (sign (codes "->") ∷ []) (λ us. throu
 
 -- ---- declarations and statements
 unfoldable pub next_declared : Reader Var
-next_declared ts = through (λ p. p.1) (follow (optional commas (the (codes ","))) declared ts)
+next_declared ts = through (λ p. p.1) (follow (optional commas (the (codes ","))) variable_declared ts)
 
 abbrev pub declared_starts : List Kind
 declared_starts = sign (codes ",") ∷ identifier ∷ []
@@ -107,13 +107,13 @@ declared_more n out ts = few_of n declared_starts next_declared out ts
 
 -- a declaration of at most n names after its first
 unfoldable pub decl : ℕ → Reader (List Var)
-decl n ts = through (λ p. p.1.0) (follow reg_u64 (follow (one_and declared (declared_more n)) (the (codes ";"))) ts)
+decl n ts = through (λ p. p.1.0) (follow reg_u64 (follow (one_and variable_declared (declared_more n)) (the (codes ";"))) ts)
 
 unfoldable pub operand : Reader Expr
-operand = pick ids (λ ts. through expr.Var (used ts)) (λ ts. through number_expr (leaf (number ∷ []) number_of ts))
+operand = pick ids (λ ts. through expr.Var (variable_used ts)) (λ ts. through number_expr (leaf (number ∷ []) number_of_token ts))
 
 unfoldable pub stmt : Reader Stmt
-stmt ts = through (λ p. assigned p.0 p.1.0 p.1.1.0) (follow used (follow (leaf assignments operation_of) (follow operand (the (codes ";")))) ts)
+stmt ts = through (λ p. assign_statement p.0 p.1.0 p.1.1.0) (follow variable_used (follow (leaf assignments operation_of) (follow operand (the (codes ";")))) ts)
 
 -- a declaration or statement, where so many names are left
 abbrev pub decl_starts : ℕ → List Kind
@@ -135,13 +135,13 @@ items_more n vars stmts ts = through (λ is. (vars ++ vars_in is, stmts ++ stmts
 
 -- ---- functions
 unfoldable pub next_used : Reader Var
-next_used ts = comma used ts
+next_used ts = comma variable_used ts
 
 unfoldable pub used_more : List Var → Reader (List Var)
 used_more out ts = more_of commas next_used out ts
 
 unfoldable pub variables : Reader (List Var)
-variables ts = one_and used used_more ts
+variables ts = one_and variable_used used_more ts
 
 unfoldable pub names : Reader (List Var)
 names = pick ids variables (λ ts. through (λ p. p.1.0) (follow (the (codes "(")) (follow variables (the (codes ")"))) ts))
@@ -149,11 +149,11 @@ names = pick ids variables (λ ts. through (λ p. p.1.0) (follow (the (codes "("
 abbrev pub name_starts : List Kind
 name_starts = identifier ∷ sign (codes "(") ∷ []
 
-unfoldable pub returned : Reader (List Var)
-returned ts = through (λ p. or_empty p.1.0) (follow (key (codes "return")) (follow (optional name_starts names) (the (codes ";"))) ts)
+unfoldable pub variables_returned : Reader (List Var)
+variables_returned ts = through (λ p. or_empty p.1.0) (follow (key (codes "return")) (follow (optional name_starts names) (the (codes ";"))) ts)
 
 unfoldable pub ending : Reader (List Var)
-ending ts = through or_empty (optional (word (codes "return") ∷ []) returned ts)
+ending ts = through or_empty (optional (word (codes "return") ∷ []) variables_returned ts)
 
 unfoldable pub body : ℕ → Reader Body
 body n ts = through (λ p. record { vars = p.1.0.0; stmts = p.1.0.1; result = p.1.1.0 }) (follow (the (codes "{")) (follow (items_more n [] []) (follow ending (the (codes "}")))) ts)

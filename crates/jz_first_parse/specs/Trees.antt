@@ -54,8 +54,8 @@ used_of n = record { name = n.0; decl = None; span = n.1 }
 
 -- ---- statements and functions
 -- a statement stands where its left side does
-abbrev pub assigned : Var → Option BinOp → Expr → Stmt
-assigned to op from = record { span = to.span; kind = Assign (lval.Var to ∷ []) op (Value from) }
+abbrev pub assign_statement : Var → Option BinOp → Expr → Stmt
+assign_statement to op from = record { span = to.span; kind = Assign (lval.Var to ∷ []) op (Value from) }
 
 -- the variables that are declared, and the statements, each in the order of the text
 abbrev pub declared_by : Item → List Var
@@ -76,8 +76,8 @@ abbrev pub body_of : List Item → List Var → Body
 body_of is result = record { vars = vars_in is; stmts = stmts_in is; result = result }
 
 -- the items of all lists
-abbrev pub joined : {A : Type 0} → List (List A) → List A
-joined xss = flat_map (λ xs. xs) xss
+abbrev pub joined_lists : {A : Type 0} → List (List A) → List A
+joined_lists xss = flat_map (λ xs. xs) xss
 
 abbrev pub or_empty : {A : Type 0} → Option (List A) → List A
 or_empty None = []

@@ -3,7 +3,7 @@
 ghost use Rattle.std.specs.Prelude.{◌≡◌, ◌-◌};
 ghost use Rattle.jz_grammar.specs.Kinds.{has};
 ghost use Rattle.jz_cursor.specs.Gave.{Gave};
-ghost use Rattle.jz_first_parse.specs.Readers.{declared, param, reg_u64, params_more, group, group_starts, next_group, groups_more, groups, params, rtype, next_rtype, rtypes_more, results, next_declared, declared_starts, declared_more, decl};
+ghost use Rattle.jz_first_parse.specs.Readers.{variable_declared, param, reg_u64, params_more, group, group_starts, next_group, groups_more, groups, params, rtype, next_rtype, rtypes_more, results, next_declared, declared_starts, declared_more, decl};
 
 use jz_cursor::{Cursor, Stop};
 use jz_data::Seq;
@@ -19,9 +19,9 @@ const REGISTER_WORD: Decl = Decl {
     ty: Ty::Word(Size::S64),
 };
 
-#[tactic(auto, unfolding(crate::specs::Readers::declared))]
+#[tactic(auto, unfolding(crate::specs::Readers::variable_declared))]
 fn declared(alloc: Global, c: &mut Cursor) -> Result<Var, Stop>
-    ensures { Gave result c.new (declared c.old) }
+    ensures { Gave result c.new (variable_declared c.old) }
 {
     let (name, span) = c.name(alloc)?;
     Ok(Var {

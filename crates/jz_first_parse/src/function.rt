@@ -3,7 +3,7 @@
 ghost use Rattle.std.specs.Prelude.{◌≡◌, []};
 ghost use Rattle.jz_grammar.specs.Kinds.{has};
 ghost use Rattle.jz_cursor.specs.Gave.{Gave};
-ghost use Rattle.jz_first_parse.specs.Readers.{next_used, used_more, variables, name_starts, names, returned, ending, body, function, functions_more, program};
+ghost use Rattle.jz_first_parse.specs.Readers.{next_used, used_more, variables, name_starts, names, variables_returned, ending, body, function, functions_more, program};
 
 use crate::declare::{MOST_NAMES, params, results};
 use crate::statement::{items, used};
@@ -70,9 +70,9 @@ fn begins_names(c: &Cursor) -> bool
     c.is_identifier() || c.is_sign("(")
 }
 
-#[tactic(auto, unfolding(crate::specs::Readers::returned))]
+#[tactic(auto, unfolding(crate::specs::Readers::variables_returned))]
 fn returned(alloc: Global, c: &mut Cursor) -> Result<Seq<Var>, Stop>
-    ensures { Gave result c.new (returned c.old) }
+    ensures { Gave result c.new (variables_returned c.old) }
 {
     let _return = c.word("return")?;
     let out = if begins_names(c) {

@@ -6,7 +6,7 @@ ghost use Rattle.jz_data.specs.Laws.{AtMostOne, NeverBoth};
 ghost use Rattle.jz_lex.specs.declared.token.TokenKind.TheVariants.{End};
 ghost use Rattle.jz_lex.specs.declared.token.Token.{Token};
 ghost use Rattle.jz_grammar.specs.Reading.{final};
-ghost use Rattle.jz_cursor.specs.Gave.{numbered, IsNumbered};
+ghost use Rattle.jz_cursor.specs.Gave.{numbered_answer, IsNumbered};
 ghost use Rattle.jz_first_parse.specs.Readers.{program};
 ghost use Rattle.jz_first_parse.specs.Deriving.{DerivesProgram, IsUnexpected};
 
@@ -20,7 +20,7 @@ use std::alloc::Global;
 /// The program of all the tokens, or why there is none and the number of the first that is left.
 #[tactic(auto, using(crate::proofs::Faults::read_done, crate::proofs::Faults::read_over, crate::proofs::Faults::read_wrong))]
 fn read_whole(alloc: Global, tokens: &Tokens) -> Result<Program, Failure<(SyntaxKind, usize)>>
-    ensures { IsNumbered (numbered (length tokens.now) (final (program tokens.now))) result }
+    ensures { IsNumbered (numbered_answer (length tokens.now) (final (program tokens.now))) result }
 {
     let mut c = Cursor::new(tokens.as_slice());
     match program(alloc, &mut c) {

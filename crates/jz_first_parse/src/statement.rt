@@ -3,8 +3,8 @@
 ghost use Rattle.std.specs.Prelude.{◌≡◌, [], IfOk};
 ghost use Rattle.jz_grammar.specs.Kinds.{has};
 ghost use Rattle.jz_cursor.specs.Gave.{Gave};
-ghost use Rattle.jz_first_parse.specs.Trees.{assigned};
-ghost use Rattle.jz_first_parse.specs.Readers.{used, operand, stmt, decl_starts, item, item_starts, items_more};
+ghost use Rattle.jz_first_parse.specs.Trees.{assign_statement};
+ghost use Rattle.jz_first_parse.specs.Readers.{variable_used, operand, stmt, decl_starts, item, item_starts, items_more};
 
 use crate::declare::decl;
 use crate::operation::operation;
@@ -20,9 +20,9 @@ pub enum Item {
     Does(Stmt),
 }
 
-#[tactic(auto, unfolding(crate::specs::Readers::used))]
+#[tactic(auto, unfolding(crate::specs::Readers::variable_used))]
 pub fn used(alloc: Global, c: &mut Cursor) -> Result<Var, Stop>
-    ensures { Gave result c.new (used c.old) }
+    ensures { Gave result c.new (variable_used c.old) }
 {
     let (name, span) = c.name(alloc)?;
     Ok(Var {
@@ -45,7 +45,7 @@ fn operand(alloc: Global, c: &mut Cursor) -> Result<Expr, Stop>
 }
 
 fn assigned(alloc: Global, to: Var, op: Option<BinOp>, from: Expr) -> Result<Stmt, AllocError>
-    ensures { IfOk result (λ stmt. stmt ≡ assigned to op from) }
+    ensures { IfOk result (λ stmt. stmt ≡ assign_statement to op from) }
 {
     let span = to.span;
     let mut targets = Seq::new(alloc);

@@ -3,7 +3,7 @@ use Rattle.std.proofs.Common.{◌≡◌, ℕ, Bool, true, false, ◌&&◌, ◌||
 use Rattle.std.specs.Prelude.{if◌then◌else◌, nat_lt, nat_eq}
 use Rattle.std.proofs.lemmas.Bool.Decides.{nat_tests}
 use Rattle.jz_first_types.specs.declared.fault.TypeFault.{TypeFault}
-use Rattle.jz_first_types.specs.Faults.{number_of, precedes, earlier, first_of}
+use Rattle.jz_first_types.specs.Faults.{rule_number, precedes, earlier, first_of}
 
 -- by lines, columns and numbers
 abbrev lower : ℕ → ℕ → ℕ → ℕ → ℕ → ℕ → Bool
@@ -20,14 +20,14 @@ in_turn true b c d e = refl
 in_turn false b c true e = refl
 in_turn false b c false e = refl
 
-lower_is : (f g : TypeFault) → precedes f g ≡ lower f.span.line f.span.col (number_of f.rule) g.span.line g.span.col (number_of g.rule)
-lower_is f g = in_turn (nat_lt f.span.line g.span.line) (nat_lt f.span.col g.span.col) (nat_lt (number_of f.rule) (number_of g.rule)) (nat_eq f.span.line g.span.line) (nat_eq f.span.col g.span.col)
+lower_is : (f g : TypeFault) → precedes f g ≡ lower f.span.line f.span.col (rule_number f.rule) g.span.line g.span.col (rule_number g.rule)
+lower_is f g = in_turn (nat_lt f.span.line g.span.line) (nat_lt f.span.col g.span.col) (nat_lt (rule_number f.rule) (rule_number g.rule)) (nat_eq f.span.line g.span.line) (nat_eq f.span.col g.span.col)
 
 pub precedes_trans : (f g h : TypeFault) → precedes f g ≡ true → precedes g h ≡ true → precedes f h ≡ true
-precedes_trans f g h p q = lower_is f h ∙ lower_trans _ _ _ g.span.line g.span.col (number_of g.rule) _ _ _ (sym (lower_is f g) ∙ p) (sym (lower_is g h) ∙ q)
+precedes_trans f g h p q = lower_is f h ∙ lower_trans _ _ _ g.span.line g.span.col (rule_number g.rule) _ _ _ (sym (lower_is f g) ∙ p) (sym (lower_is g h) ∙ q)
 
 pub precedes_not : (f g h : TypeFault) → precedes f g ≡ false → precedes g h ≡ false → precedes f h ≡ false
-precedes_not f g h p q = lower_is f h ∙ lower_not _ _ _ g.span.line g.span.col (number_of g.rule) _ _ _ (sym (lower_is f g) ∙ p) (sym (lower_is g h) ∙ q)
+precedes_not f g h p q = lower_is f h ∙ lower_not _ _ _ g.span.line g.span.col (rule_number g.rule) _ _ _ (sym (lower_is f g) ∙ p) (sym (lower_is g h) ∙ q)
 
 pub precedes_self : (f : TypeFault) → precedes f f ≡ false
 precedes_self f = grind (arith, nat_tests)

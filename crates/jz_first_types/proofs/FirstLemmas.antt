@@ -5,7 +5,7 @@ use Rattle.std.proofs.lemmas.Bool.Decides.{nat_tests}
 use Rattle.std.proofs.lemmas.List.Elements.{Contains-append_left, Contains-append_right, Contains-append_cases, Contains-push, Contains-push_cases}
 use Rattle.jz_io.specs.declared.span.Span.{Span}
 use Rattle.jz_first_types.specs.declared.fault.TypeFault.{TypeFault}
-use Rattle.jz_first_types.specs.Faults.{number_of, Before, IsToldBefore, IsFirst, precedes, earlier, first_of}
+use Rattle.jz_first_types.specs.Faults.{rule_number, Before, IsToldBefore, IsFirst, precedes, earlier, first_of}
 use Rattle.jz_first_types.proofs.Earliest.{precedes_self, precedes_not}
 use Rattle.jz_first_types.proofs.NameLemmas.{same_fault}
 
@@ -70,7 +70,7 @@ same_span a b l c =
     in let e : made a.line a.col ≡ made b.line b.col = ap (λ k. made k a.col) l ∙ ap (made b.line) c
     in e
 
-stands : (f g : TypeFault) → precedes g f ≡ false → Before f.span g.span ⊎ ((f.span.line ≡ g.span.line) × (f.span.col ≡ g.span.col) × (number_of f.rule ≤ number_of g.rule))
+stands : (f g : TypeFault) → precedes g f ≡ false → Before f.span g.span ⊎ ((f.span.line ≡ g.span.line) × (f.span.col ≡ g.span.col) × (rule_number f.rule ≤ rule_number g.rule))
 stands f g h = grind (arith, nat_tests)
 
 told : (f g : TypeFault) → precedes g f ≡ false → IsToldBefore f g
@@ -100,7 +100,7 @@ one_first fs f g p q =
       | inl a ↦ elim (q.1 f p.0) [ inl b ↦ absurd (both_before f.span g.span a b) | inr b ↦ absurd (not_itself f.span g.span a (sym b.0)) ]
       | inr a ↦ elim (q.1 f p.0) [
         | inl b ↦ absurd (not_itself g.span f.span b (sym a.0))
-        | inr b ↦ let n : number_of f.rule ≡ number_of g.rule = omega (arith, a.1, b.1) in same_fault f g n (ap (λ s. s.line) a.0) (ap (λ s. s.col) a.0)
+        | inr b ↦ let n : rule_number f.rule ≡ rule_number g.rule = omega (arith, a.1, b.1) in same_fault f g n (ap (λ s. s.line) a.0) (ap (λ s. s.col) a.0)
       ]
     ]
 

@@ -11,35 +11,35 @@ use Rattle.jz_io.specs.declared.span.Span.{Span}
 use Rattle.jz_first_types.specs.declared.fault.TypeRule.{TypeRule}
 use Rattle.jz_first_types.specs.declared.fault.TypeRule.TheVariants.{Unknown, Duplicate, Mismatch, ExportShape}
 use Rattle.jz_first_types.specs.declared.fault.TypeFault.{TypeFault}
-use Rattle.jz_first_types.specs.Faults.{number_of, precedes, earlier, first_of}
-use Rattle.jz_first_types.specs.Rules.{Name, fault_at, second_places, repeated}
+use Rattle.jz_first_types.specs.Faults.{rule_number, precedes, earlier, first_of}
+use Rattle.jz_first_types.specs.Rules.{Name, fault_at, second_places, repetition_faults}
 use Rattle.jz_first_types.proofs.Earliest.{earlier-assoc, earlier-none, first_of-append}
 
 -- the rule of a number
 rule_of : ℕ → TypeRule
 rule_of n = if nat_eq n 1 then Unknown else if nat_eq n 2 then Duplicate else if nat_eq n 3 then Mismatch else ExportShape
 
-rule_of-number_of : (r : TypeRule) → rule_of (number_of r) ≡ r
+rule_of-number_of : (r : TypeRule) → rule_of (rule_number r) ≡ r
 unfolding rule_of
 rule_of-number_of Unknown = refl
 rule_of-number_of Duplicate = refl
 rule_of-number_of Mismatch = refl
 rule_of-number_of ExportShape = refl
 
-pub one_number : (r s : TypeRule) → number_of r ≡ number_of s → r ≡ s
+pub one_number : (r s : TypeRule) → rule_number r ≡ rule_number s → r ≡ s
 one_number r s h = sym (rule_of-number_of r) ∙ (ap rule_of h ∙ rule_of-number_of s)
 
 abbrev made : TypeRule → ℕ → ℕ → TypeFault
 made r l c = record { rule = r; span = record { line = l; col = c } }
 
-pub same_fault : (f g : TypeFault) → number_of f.rule ≡ number_of g.rule → f.span.line ≡ g.span.line → f.span.col ≡ g.span.col → f ≡ g
+pub same_fault : (f g : TypeFault) → rule_number f.rule ≡ rule_number g.rule → f.span.line ≡ g.span.line → f.span.col ≡ g.span.col → f ≡ g
 same_fault f g r l c =
     let at : made f.rule f.span.line f.span.col ≡ made g.rule g.span.line g.span.col =
     ap (λ s. made s f.span.line f.span.col) (one_number f.rule g.rule r) ∙ (ap (λ k. made g.rule k f.span.col) l ∙ ap (made g.rule g.span.line) c)
     in at
 
 -- neither precedes
-level : (f g : TypeFault) → precedes f g ≡ false → precedes g f ≡ false → (number_of f.rule ≡ number_of g.rule) × (f.span.line ≡ g.span.line) × (f.span.col ≡ g.span.col)
+level : (f g : TypeFault) → precedes f g ≡ false → precedes g f ≡ false → (rule_number f.rule ≡ rule_number g.rule) × (f.span.line ≡ g.span.line) × (f.span.col ≡ g.span.col)
 level f g p q = grind (arith, nat_tests)
 
 pub level_same : (f g : TypeFault) → precedes f g ≡ false → precedes g f ≡ false → f ≡ g
@@ -164,15 +164,15 @@ module _ (keys : List (List ℕ)) (ns : List Name) (held : (k : List ℕ) → li
       ]
       in ap (list_any (bytes_eq k)) e ∙ (split _ _ refl refl ∙ sym (named-push k ns m))
 
-  pub first_more : (first : Option TypeFault) → first ≡ first_of (repeated ns) → (new : Bool) → new ≡ not (list_any (bytes_eq m.0) keys) → new ≡ false
-      → earlier first (Some (fault_at Duplicate m.1)) ≡ first_of (repeated (ns ++ m ∷ []))
+  pub first_more : (first : Option TypeFault) → first ≡ first_of (repetition_faults ns) → (new : Bool) → new ≡ not (list_any (bytes_eq m.0) keys) → new ≡ false
+      → earlier first (Some (fault_at Duplicate m.1)) ≡ first_of (repetition_faults (ns ++ m ∷ []))
   unfolding repeated_first first_at if_fault named
   first_more first e new p q =
       ap (λ a. earlier a (Some (fault_at Duplicate m.1))) e
-      ∙ (ap (λ b. earlier (first_of (repeated ns)) (if_fault b m)) (sym (not_true new _ p q) ∙ held m.0) ∙ sym (repeated-push ns m))
+      ∙ (ap (λ b. earlier (first_of (repetition_faults ns)) (if_fault b m)) (sym (not_true new _ p q) ∙ held m.0) ∙ sym (repeated-push ns m))
 
-  pub first_same : (first : Option TypeFault) → first ≡ first_of (repeated ns) → (new : Bool) → new ≡ not (list_any (bytes_eq m.0) keys) → new ≡ true → first ≡ first_of (repeated (ns ++ m ∷ []))
+  pub first_same : (first : Option TypeFault) → first ≡ first_of (repetition_faults ns) → (new : Bool) → new ≡ not (list_any (bytes_eq m.0) keys) → new ≡ true → first ≡ first_of (repetition_faults (ns ++ m ∷ []))
   unfolding repeated_first first_at if_fault named
   first_same first e new p q =
-      e ∙ (sym (earlier-none (first_of (repeated ns)))
-      ∙ (ap (λ b. earlier (first_of (repeated ns)) (if_fault b m)) (sym (not_false new _ p q) ∙ held m.0) ∙ sym (repeated-push ns m)))
+      e ∙ (sym (earlier-none (first_of (repetition_faults ns)))
+      ∙ (ap (λ b. earlier (first_of (repetition_faults ns)) (if_fault b m)) (sym (not_false new _ p q) ∙ held m.0) ∙ sym (repeated-push ns m)))

@@ -18,8 +18,8 @@ use Rattle.jz_first_tree.specs.declared.StmtKind.{StmtKind}
 use Rattle.jz_first_tree.specs.declared.StmtKind.TheVariants.{Assign}
 use Rattle.jz_first_types.specs.declared.fault.TypeRule.TheVariants.{Unknown}
 use Rattle.jz_first_types.specs.declared.fault.TypeFault.{TypeFault}
-use Rattle.jz_first_types.specs.Resolving.{resolved_var, resolved_expr, resolved_lval, resolved_rhs, resolved_kind, resolved_stmt, declaration_in, resolved_fun, resolved}
-use Rattle.jz_first_types.specs.Rules.{fault_at, is_known, unknown_among, unknown_in, repeated_in, name_of_fun, miscounted, misshapen, faults_of}
+use Rattle.jz_first_types.specs.Resolving.{resolved_var, resolved_expr, resolved_lval, resolved_rhs, resolved_kind, resolved_stmt, declaration_in, resolved_fun, resolved_program}
+use Rattle.jz_first_types.specs.Rules.{fault_at, is_known, unknown_among, unknown_in, repeated_in, name_of_fun, count_faults, shape_faults, faults_of}
 use Rattle.jz_first_types.specs.Uses.{expression_uses, left_side_uses, right_side_uses, kind_uses, body_uses, uses_of}
 use Rattle.jz_first_tree.specs.Variables.{variables_of}
 
@@ -53,7 +53,7 @@ fun_twice f =
     in ap (λ b. made b (map (resolved_var d) (map (resolved_var d) f.result))) (twice (resolved_stmt d) (stmt_twice d) f.body)
     ∙ ap (made (map (resolved_stmt d) f.body)) (twice (resolved_var d) (λ v. refl) f.result)
 
-pub program_twice : (p : Program) → resolved (resolved p) ≡ resolved p
+pub program_twice : (p : Program) → resolved_program (resolved_program p) ≡ resolved_program p
 program_twice p = ap (λ (fs : List Fun). let q : Program = record { funs = fs } in q) (twice resolved_fun fun_twice p.funs)
 
 -- the uses are those of before, with their declarations
@@ -103,7 +103,7 @@ unknown_same f =
     in ap (unknown_among (is_known vs)) (uses_resolved f)
     ∙ unknown_mapped vs (declaration_in vs) (uses_of f)
 
-miscounted_same : (f : Fun) → miscounted (resolved_fun f) ≡ miscounted f
+miscounted_same : (f : Fun) → count_faults (resolved_fun f) ≡ count_faults f
 miscounted_same f = simp length-map
 
 over_mapped : (g : Fun → List TypeFault) → ((f : Fun) → g (resolved_fun f) ≡ g f) → (fs : List Fun) → flat_map g (map resolved_fun fs) ≡ flat_map g fs
@@ -114,13 +114,13 @@ names_mapped : (fs : List Fun) → map name_of_fun (map resolved_fun fs) ≡ map
 names_mapped [] = refl
 names_mapped (f ∷ fs) = ap (λ ns. name_of_fun f ∷ ns) (names_mapped fs)
 
-pub faults_same : (p : Program) → faults_of (resolved p) ≡ faults_of p
+pub faults_same : (p : Program) → faults_of (resolved_program p) ≡ faults_of p
 faults_same p =
-    simp (over_mapped unknown_in unknown_same p.funs, names_mapped p.funs, over_mapped repeated_in (λ f. refl) p.funs, over_mapped miscounted miscounted_same p.funs, over_mapped misshapen (λ f. refl) p.funs)
+    simp (over_mapped unknown_in unknown_same p.funs, names_mapped p.funs, over_mapped repeated_in (λ f. refl) p.funs, over_mapped count_faults miscounted_same p.funs, over_mapped shape_faults (λ f. refl) p.funs)
 
--- a program that is the resolved one of a typed program
-pub typed_resolved : (p q : Program) → q ≡ resolved p → faults_of p ≡ [] → faults_of q ≡ []
+-- a program that is the resolved_program one of a typed program
+pub typed_resolved : (p q : Program) → q ≡ resolved_program p → faults_of p ≡ [] → faults_of q ≡ []
 typed_resolved p q e h = ap faults_of e ∙ (faults_same p ∙ h)
 
-pub resolved_stays : (p q : Program) → q ≡ resolved p → resolved q ≡ q
-resolved_stays p q e = ap resolved e ∙ (program_twice p ∙ sym e)
+pub resolved_stays : (p q : Program) → q ≡ resolved_program p → resolved_program q ≡ q
+resolved_stays p q e = ap resolved_program e ∙ (program_twice p ∙ sym e)

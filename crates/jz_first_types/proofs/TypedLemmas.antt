@@ -16,8 +16,8 @@ use Rattle.jz_first_tree.specs.declared.Var.{Var}
 use Rattle.jz_first_types.specs.declared.fault.TypeRule.TheVariants.{Unknown, Duplicate, Mismatch, ExportShape}
 use Rattle.jz_first_types.specs.declared.fault.TypeFault.{TypeFault}
 use Rattle.jz_first_types.specs.Faults.{Before, is_before}
-use Rattle.jz_first_types.specs.Resolving.{resolved_var, declaration_in, resolved_fun, resolved}
-use Rattle.jz_first_types.specs.Rules.{Name, name_of, name_of_fun, fault_at, is_known, unknown_among, unknown_in, second_places, repeated, repeated_in, miscounted, misshapen, IsTyped}
+use Rattle.jz_first_types.specs.Resolving.{resolved_var, declaration_in, resolved_fun, resolved_program}
+use Rattle.jz_first_types.specs.Rules.{Name, name_of, name_of_fun, fault_at, is_known, unknown_among, unknown_in, second_places, repetition_faults, repeated_in, count_faults, shape_faults, IsTyped}
 use Rattle.jz_first_types.specs.TypedPrograms.{HaveDifferentNames, HasDeclaration, HaveDeclarations, HasCounts, HaveCounts}
 use Rattle.jz_first_types.specs.Uses.{uses_of}
 use Rattle.jz_first_tree.specs.Variables.{variables_of}
@@ -77,16 +77,16 @@ shaped a b at h =
     [ true ↦ λ e i. grind (arith, nat_tests) | false ↦ λ e i. cc ]
     in split (nat_le a 6 && nat_le b 2) refl h
 
-counts_one : (f : Fun) → miscounted f ≡ [] → misshapen f ≡ [] → HasCounts f
+counts_one : (f : Fun) → count_faults f ≡ [] → shape_faults f ≡ [] → HasCounts f
 counts_one f m s =
     let shape = shaped (length f.params) (length f.rets) f.span s
     in record { results = counted (length f.result) (length f.rets) f.span m; few_params = shape.0; few_rets = shape.1 }
 
-counts_of : (fs : List Fun) → All (λ f. miscounted f ≡ []) fs → All (λ f. misshapen f ≡ []) fs → All HasCounts fs
+counts_of : (fs : List Fun) → All (λ f. count_faults f ≡ []) fs → All (λ f. shape_faults f ≡ []) fs → All HasCounts fs
 counts_of [] m s = All-nil HasCounts
 counts_of (f ∷ fs) m s =
-    All-cons HasCounts f fs (counts_one f (All-head (λ (f : Fun). miscounted f ≡ []) f fs m) (All-head (λ (f : Fun). misshapen f ≡ []) f fs s))
-    (counts_of fs (All-tail (λ (f : Fun). miscounted f ≡ []) f fs m) (All-tail (λ (f : Fun). misshapen f ≡ []) f fs s))
+    All-cons HasCounts f fs (counts_one f (All-head (λ (f : Fun). count_faults f ≡ []) f fs m) (All-head (λ (f : Fun). shape_faults f ≡ []) f fs s))
+    (counts_of fs (All-tail (λ (f : Fun). count_faults f ≡ []) f fs m) (All-tail (λ (f : Fun). shape_faults f ≡ []) f fs s))
 
 -- declarations
 before_is : (a b : Span) → is_before a b ≡ true → Before a b
@@ -143,16 +143,16 @@ module _ (p : Program) (h : IsTyped p) where
   us = flat_map unknown_in p.funs
 
   abbrev fs : List TypeFault
-  fs = repeated (map name_of_fun p.funs)
+  fs = repetition_faults (map name_of_fun p.funs)
 
   abbrev vs : List TypeFault
   vs = flat_map repeated_in p.funs
 
   abbrev ms : List TypeFault
-  ms = flat_map miscounted p.funs
+  ms = flat_map count_faults p.funs
 
   abbrev ss : List TypeFault
-  ss = flat_map misshapen p.funs
+  ss = flat_map shape_faults p.funs
 
   first_four : us ++ fs ++ vs ++ ms ≡ []
   first_four = left_nil (us ++ fs ++ vs ++ ms) ss h
@@ -183,7 +183,7 @@ module _ (p : Program) (h : IsTyped p) where
   }
 
   pub counts : HaveCounts p
-  counts = counts_of p.funs (each_nil miscounted p.funs no_count) (each_nil misshapen p.funs no_shape)
+  counts = counts_of p.funs (each_nil count_faults p.funs no_count) (each_nil shape_faults p.funs no_shape)
 
-  pub declarations : resolved p ≡ p → HaveDeclarations p
+  pub declarations : resolved_program p ≡ p → HaveDeclarations p
   declarations e = subst HaveDeclarations e (declared_all p.funs (each_nil unknown_in p.funs no_unknown))

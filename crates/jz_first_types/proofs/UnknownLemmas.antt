@@ -16,7 +16,7 @@ use Rattle.jz_first_types.specs.declared.fault.TypeFault.{TypeFault}
 use Rattle.jz_first_types.specs.declared.scope.Scope.{Scope}
 use Rattle.jz_first_types.specs.Faults.{earlier, first_of}
 use Rattle.jz_first_types.specs.Joining.{first_in}
-use Rattle.jz_first_types.specs.Rules.{fault_at, is_known, unknown_in, repeated, repeated_in, name_of_fun, miscounted, misshapen, faults_of}
+use Rattle.jz_first_types.specs.Rules.{fault_at, is_known, unknown_in, repetition_faults, repeated_in, name_of_fun, count_faults, shape_faults, faults_of}
 use Rattle.jz_first_types.specs.Scopes.{IsScope, declared_of, stands_above, has_above, unknown_by}
 use Rattle.jz_first_types.specs.Uses.{left_side_uses, right_side_uses, kind_uses, body_uses, uses_of}
 use Rattle.jz_first_tree.specs.Variables.{variables_of}
@@ -78,19 +78,19 @@ unknown_is s f h =
 
 -- the faults of the five walks are those of the program
 pub all_faults : (p : Program) (u f v m s : Option TypeFault)
-    → u ≡ first_in unknown_in p.funs → f ≡ first_of (repeated (map name_of_fun p.funs)) → v ≡ first_in repeated_in p.funs
-    → m ≡ first_in miscounted p.funs → s ≡ first_in misshapen p.funs
+    → u ≡ first_in unknown_in p.funs → f ≡ first_of (repetition_faults (map name_of_fun p.funs)) → v ≡ first_in repeated_in p.funs
+    → m ≡ first_in count_faults p.funs → s ≡ first_in shape_faults p.funs
     → earlier u (earlier f (earlier v (earlier m s))) ≡ first_of (faults_of p)
 all_faults p u f v m s eu ef ev em es =
     let us = flat_map unknown_in p.funs
-    in let fs = repeated (map name_of_fun p.funs)
+    in let fs = repetition_faults (map name_of_fun p.funs)
     in let vs = flat_map repeated_in p.funs
-    in let ms = flat_map miscounted p.funs
-    in let ss = flat_map misshapen p.funs
+    in let ms = flat_map count_faults p.funs
+    in let ss = flat_map shape_faults p.funs
     in let e1 : u ≡ first_of us = eu ∙ first_over unknown_in p.funs
     in let e3 : v ≡ first_of vs = ev ∙ first_over repeated_in p.funs
-    in let e4 : m ≡ first_of ms = em ∙ first_over miscounted p.funs
-    in let e5 : s ≡ first_of ss = es ∙ first_over misshapen p.funs
+    in let e4 : m ≡ first_of ms = em ∙ first_over count_faults p.funs
+    in let e5 : s ≡ first_of ss = es ∙ first_over shape_faults p.funs
     in let joined : first_of (us ++ fs ++ vs ++ ms ++ ss) ≡ earlier (first_of us) (earlier (first_of fs) (earlier (first_of vs) (earlier (first_of ms) (first_of ss)))) =
     simp (first_of-append, earlier-assoc)
     in simp (e1, ef, e3, e4, e5) (sym joined)

@@ -6,11 +6,11 @@ use Rattle.jz_first_types.specs.declared.fault.TypeRule.TheVariants.{Unknown, Du
 use Rattle.jz_first_types.specs.declared.fault.TypeFault.{TypeFault}
 
 -- the number of a rule
-abbrev pub number_of : TypeRule → ℕ
-number_of Unknown = 1
-number_of Duplicate = 2
-number_of Mismatch = 3
-number_of ExportShape = 9
+abbrev pub rule_number : TypeRule → ℕ
+rule_number Unknown = 1
+rule_number Duplicate = 2
+rule_number Mismatch = 3
+rule_number ExportShape = 9
 
 -- a stands before b in the text
 abbrev pub is_before : Span → Span → Bool
@@ -22,7 +22,7 @@ Before a b = (a.line < b.line) ⊎ ((a.line ≡ b.line) × (a.col < b.col))
 
 -- f stands before g, or at one place with it and has no higher number
 abbrev pub IsToldBefore : TypeFault → TypeFault → Type 0
-IsToldBefore f g = Before f.span g.span ⊎ ((f.span ≡ g.span) × (number_of f.rule ≤ number_of g.rule))
+IsToldBefore f g = Before f.span g.span ⊎ ((f.span ≡ g.span) × (rule_number f.rule ≤ rule_number g.rule))
 
 -- f is one of the faults, and is told before each of them
 abbrev pub IsFirst : List TypeFault → TypeFault → Type 0
@@ -32,7 +32,7 @@ IsFirst fs f = Contains fs f × ((g : TypeFault) → Contains fs g → IsToldBef
 abbrev pub precedes : TypeFault → TypeFault → Bool
 precedes f g =
     is_before f.span g.span
-    || (nat_eq f.span.line g.span.line && nat_eq f.span.col g.span.col && nat_lt (number_of f.rule) (number_of g.rule))
+    || (nat_eq f.span.line g.span.line && nat_eq f.span.col g.span.col && nat_lt (rule_number f.rule) (rule_number g.rule))
 
 -- the one of two that is told, if there is one
 abbrev pub earlier : Option TypeFault → Option TypeFault → Option TypeFault

@@ -48,5 +48,5 @@ resolved_fun f =
       result = map (resolved_var (declaration_in (variables_of f))) f.result;
     }
 
-abbrev pub resolved : Program → Program
-resolved p = record p { funs = map resolved_fun p.funs }
+abbrev pub resolved_program : Program → Program
+resolved_program p = record p { funs = map resolved_fun p.funs }

@@ -44,26 +44,26 @@ second_places [] = []
 second_places (n ∷ ns) = map (λ m. m.1) (filter (λ m. bytes_eq n.0 m.0) ns) ++ second_places ns
 
 -- Duplicate: names differ among the functions, and among the variables of one function
-abbrev pub repeated : List Name → List TypeFault
-repeated ns = map (fault_at Duplicate) (second_places ns)
+abbrev pub repetition_faults : List Name → List TypeFault
+repetition_faults ns = map (fault_at Duplicate) (second_places ns)
 
 abbrev pub repeated_in : Fun → List TypeFault
-repeated_in f = repeated (map name_of (variables_of f))
+repeated_in f = repetition_faults (map name_of (variables_of f))
 
 -- Mismatch: a function gives back as many results as it declares
-abbrev pub miscounted : Fun → List TypeFault
-miscounted f = if nat_eq (length f.result) (length f.rets) then [] else fault_at Mismatch f.span ∷ []
+abbrev pub count_faults : Fun → List TypeFault
+count_faults f = if nat_eq (length f.result) (length f.rets) then [] else fault_at Mismatch f.span ∷ []
 
 -- ExportShape: at most six parameters and two results
-abbrev pub misshapen : Fun → List TypeFault
-misshapen f =
+abbrev pub shape_faults : Fun → List TypeFault
+shape_faults f =
     if nat_le (length f.params) 6 && nat_le (length f.rets) 2 then [] else fault_at ExportShape f.span ∷ []
 
 -- each fault of a program
 abbrev pub faults_of : Program → List TypeFault
 faults_of p =
-    flat_map unknown_in p.funs ++ repeated (map name_of_fun p.funs) ++ flat_map repeated_in p.funs
-    ++ flat_map miscounted p.funs ++ flat_map misshapen p.funs
+    flat_map unknown_in p.funs ++ repetition_faults (map name_of_fun p.funs) ++ flat_map repeated_in p.funs
+    ++ flat_map count_faults p.funs ++ flat_map shape_faults p.funs
 
 -- no rule fails
 abbrev pub IsTyped : Program → Type 0

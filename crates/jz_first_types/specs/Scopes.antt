@@ -13,7 +13,7 @@ use Rattle.jz_first_types.specs.declared.scope.Scope.{Scope}
 use Rattle.jz_first_types.specs.declared.names.Names.{Names}
 use Rattle.jz_first_types.specs.Faults.{is_before, first_of}
 use Rattle.jz_first_types.specs.Variables.{variable_named}
-use Rattle.jz_first_types.specs.Rules.{Name, unknown_among, repeated}
+use Rattle.jz_first_types.specs.Rules.{Name, unknown_among, repetition_faults}
 
 -- what a table keeps of a variable
 abbrev pub declared_of : Var → Declared
@@ -46,4 +46,4 @@ unknown_by s us = unknown_among (has_above s) us
 -- the names of the list are known, and the first fault of those that repeat
 pub record IsNames (s : Names) (ns : List Name) : Type 0 where
   pub known : (n : List ℕ) → list_any (bytes_eq n) s.seen.keys ≡ list_any (λ m. bytes_eq n m.0) ns
-  pub first : s.first ≡ first_of (repeated ns)
+  pub first : s.first ≡ first_of (repetition_faults ns)

@@ -3,7 +3,7 @@
 ghost use Rattle.std.specs.Prelude.{◌≡◌, IfOk, IfErr};
 ghost use Rattle.jz_data.specs.Failures.{IfRefused};
 ghost use Rattle.jz_first_types.specs.Faults.{first_of};
-ghost use Rattle.jz_first_types.specs.Resolving.{resolved};
+ghost use Rattle.jz_first_types.specs.Resolving.{resolved_program};
 ghost use Rattle.jz_first_types.specs.Rules.{faults_of, IsTyped, IsFirstTypeFault};
 
 use crate::counts::{miscounted_funs, misshapen_funs};
@@ -30,7 +30,7 @@ fn first_fault(alloc: Global, program: &Program) -> Result<Option<TypeFault>, Al
 /// The program with the declarations of its variables, or the first rule that fails.
 pub fn check(alloc: Global, program: Program) -> Result<Typed, Failure<TypeFault>>
     ensures typed { IfOk result (λ typed. IsTyped program) }
-    ensures resolved { IfOk result (λ typed. typed.program ≡ resolved program) }
+    ensures resolved_program { IfOk result (λ typed. typed.program ≡ resolved_program program) }
     ensures fault { IfErr result (λ failure. IfRefused failure (IsFirstTypeFault program)) }
 {
     if let Some(fault) = first_fault(alloc, &program)? {

@@ -3,13 +3,13 @@
 ghost use Rattle.std.specs.Prelude.{◌≡◌};
 ghost use Rattle.jz_first_types.specs.Faults.{first_of};
 ghost use Rattle.jz_first_types.specs.Joining.{first_in};
-ghost use Rattle.jz_first_types.specs.Rules.{miscounted, misshapen};
+ghost use Rattle.jz_first_types.specs.Rules.{count_faults, shape_faults};
 
 use crate::fault::{TypeFault, TypeRule, earlier_of};
 use jz_first_tree::{Fun, Program};
 
 fn miscounted_fun(fun: &Fun) -> Option<TypeFault>
-    ensures { result ≡ first_of (miscounted fun.now) }
+    ensures { result ≡ first_of (count_faults fun.now) }
 {
     if fun.result.len() == fun.rets.len() {
         return None;
@@ -22,7 +22,7 @@ fn miscounted_fun(fun: &Fun) -> Option<TypeFault>
 
 /// The first function that gives back another number of results than it declares.
 pub(crate) fn miscounted_funs(program: &Program) -> Option<TypeFault>
-    ensures { result ≡ first_in miscounted program.now.funs }
+    ensures { result ≡ first_in count_faults program.now.funs }
 {
     let mut first = None;
     for fun in program.funs.as_slice() {
@@ -32,7 +32,7 @@ pub(crate) fn miscounted_funs(program: &Program) -> Option<TypeFault>
 }
 
 fn misshapen_fun(fun: &Fun) -> Option<TypeFault>
-    ensures { result ≡ first_of (misshapen fun.now) }
+    ensures { result ≡ first_of (shape_faults fun.now) }
 {
     if fun.params.len() <= 6 && fun.rets.len() <= 2 {
         return None;
@@ -45,7 +45,7 @@ fn misshapen_fun(fun: &Fun) -> Option<TypeFault>
 
 /// The first function with too many parameters or results.
 pub(crate) fn misshapen_funs(program: &Program) -> Option<TypeFault>
-    ensures { result ≡ first_in misshapen program.now.funs }
+    ensures { result ≡ first_in shape_faults program.now.funs }
 {
     let mut first = None;
     for fun in program.funs.as_slice() {

@@ -2,7 +2,7 @@
 
 ghost use Rattle.std.specs.Prelude.{◌≡◌, Option};
 ghost use Rattle.jz_first_types.specs.declared.fault.TypeFault.{TypeFault};
-ghost use Rattle.jz_first_types.specs.Faults.{number_of, is_before, precedes, earlier};
+ghost use Rattle.jz_first_types.specs.Faults.{rule_number, is_before, precedes, earlier};
 
 use jz_io::Span;
 
@@ -22,7 +22,7 @@ pub enum TypeRule {
 impl TypeRule {
     /// The rule's number in what is told.
     pub fn number(self) -> u8
-        ensures { result ≡ number_of self }
+        ensures { result ≡ rule_number self }
     {
         match self {
             TypeRule::Unknown => 1,

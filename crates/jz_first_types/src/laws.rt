@@ -4,7 +4,7 @@ ghost use Rattle.std.specs.Prelude.{◌≡◌, ◌⊎◌, ◌↔◌};
 ghost use Rattle.jz_data.specs.Laws.{AtMostOne};
 ghost use Rattle.jz_first_tree.specs.declared.Program.{Program};
 ghost use Rattle.jz_first_types.specs.declared.fault.TypeFault.{TypeFault};
-ghost use Rattle.jz_first_types.specs.Resolving.{resolved};
+ghost use Rattle.jz_first_types.specs.Resolving.{resolved_program};
 ghost use Rattle.jz_first_types.specs.Rules.{IsTyped, IsFirstTypeFault};
 
 /// A program has one first fault at most.
@@ -26,10 +26,10 @@ pub fn typed_or_a_fault()
 
 /// Declarations that are there stay.
 pub fn resolved_once()
-    ensures { (program : Program) → resolved (resolved program) ≡ resolved program }
+    ensures { (program : Program) → resolved_program (resolved_program program) ≡ resolved_program program }
 {}
 
 /// Typing does not look at the declarations of the variables that are used.
 pub fn typed_when_resolved()
-    ensures { (program : Program) → IsTyped (resolved program) ↔ IsTyped program }
+    ensures { (program : Program) → IsTyped (resolved_program program) ↔ IsTyped program }
 {}

@@ -3,7 +3,7 @@
 ghost use Rattle.std.specs.Prelude.{◌≡◌, [], ◌∷◌, ◌++◌, List, IfOk, OnOk, map};
 ghost use Rattle.jz_first_types.specs.Faults.{first_of};
 ghost use Rattle.jz_first_types.specs.Joining.{first_in};
-ghost use Rattle.jz_first_types.specs.Rules.{Name, name_of, name_of_fun, repeated, repeated_in};
+ghost use Rattle.jz_first_types.specs.Rules.{Name, name_of, name_of_fun, repetition_faults, repeated_in};
 ghost use Rattle.jz_first_types.specs.Scopes.{IsNames};
 
 use crate::fault::{TypeFault, TypeRule, earlier_of};
@@ -85,7 +85,7 @@ pub(crate) fn repeated_function(
     alloc: Global,
     program: &Program,
 ) -> Result<Option<TypeFault>, AllocError>
-    ensures { IfOk result (λ f. f ≡ first_of (repeated (map name_of_fun program.now.funs))) }
+    ensures { IfOk result (λ f. f ≡ first_of (repetition_faults (map name_of_fun program.now.funs))) }
 {
     let mut names = Names::new(alloc);
     for fun in program.funs.as_slice() {

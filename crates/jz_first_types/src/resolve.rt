@@ -1,7 +1,7 @@
 //! Each variable gets its declaration where it is used.
 
 ghost use Rattle.std.specs.Prelude.{◌≡◌, IfOk, map};
-ghost use Rattle.jz_first_types.specs.Resolving.{resolved_var, resolved_expr, resolved_lval, resolved_rhs, resolved_kind, resolved_stmt, resolved_fun, resolved};
+ghost use Rattle.jz_first_types.specs.Resolving.{resolved_var, resolved_expr, resolved_lval, resolved_rhs, resolved_kind, resolved_stmt, resolved_fun, resolved_program};
 ghost use Rattle.jz_first_types.specs.Scopes.{decls_of};
 
 use crate::scope::Scope;
@@ -115,7 +115,7 @@ fn in_fun(alloc: Global, fun: Fun) -> Result<Fun, AllocError>
 
 /// The program in which each variable has its declaration where it is used.
 pub(crate) fn resolve(alloc: Global, program: Program) -> Result<Program, AllocError>
-    ensures { IfOk result (λ r. r ≡ resolved program) }
+    ensures { IfOk result (λ r. r ≡ resolved_program program) }
 {
     let Program { funs } = program;
     let funs = funs.into_try_map(alloc, |fun| in_fun(alloc, fun))?;

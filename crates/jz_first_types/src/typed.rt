@@ -1,7 +1,7 @@
 //! Typed programs.
 
 ghost use Rattle.std.specs.Prelude.{◌≡◌};
-ghost use Rattle.jz_first_types.specs.Resolving.{resolved};
+ghost use Rattle.jz_first_types.specs.Resolving.{resolved_program};
 ghost use Rattle.jz_first_types.specs.Rules.{IsTyped};
 ghost use Rattle.jz_first_types.specs.TypedPrograms.{HaveDifferentNames, HaveDeclarations, HaveCounts};
 

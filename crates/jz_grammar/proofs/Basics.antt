@@ -6,7 +6,7 @@ use Rattle.jz_lex.proofs.LexingWords.{by_cases, if_false, true_false}
 use Rattle.jz_lex.specs.declared.token.Token.{Token}
 pub use Rattle.jz_lex.proofs.LexingWords.{by_cases, true_false, if_true, if_false}
 use Rattle.jz_grammar.specs.Causes.{Cause, Unexpected, TooDeep}
-use Rattle.jz_grammar.specs.Kinds.{Kind, identifier, word, number, cast, string, sign, end, kind_of, same, member, disjoint, is_in, has}
+use Rattle.jz_grammar.specs.Kinds.{Kind, identifier, word, number, cast, string, sign, end, token_kind, same, member, disjoint, is_in, has}
 use Rattle.jz_grammar.specs.Reading.{Answer, ◌>>=◌, through}
 use Rattle.jz_grammar.specs.Grammar.{Marked, plain, Within}
 use Rattle.jz_grammar.specs.Laws.{head_of, outcome, Next, plus}
@@ -77,11 +77,11 @@ member_append (l ∷ ks) ls k = by_cases _ (same k l) (λ f. rw f refl) (λ f. r
 
 pub in_left : (ks ls : List Kind) (t : Token) → is_in ks t ≡ true → is_in (ks ++ ls) t ≡ true
 unfolding is_in
-in_left ks ls t h = member_append ks ls (kind_of t.kind) ∙ rw h refl
+in_left ks ls t h = member_append ks ls (token_kind t.kind) ∙ rw h refl
 
 pub in_right : (ks ls : List Kind) (t : Token) → is_in ls t ≡ true → is_in (ks ++ ls) t ≡ true
 unfolding is_in
-in_right ks ls t h = member_append ks ls (kind_of t.kind) ∙ by_cases _ (member (kind_of t.kind) ks) (λ f. rw f refl) (λ f. rw f h)
+in_right ks ls t h = member_append ks ls (token_kind t.kind) ∙ by_cases _ (member (token_kind t.kind) ks) (λ f. rw f refl) (λ f. rw f h)
 
 or_false : (a b : Bool) → (a || b) ≡ false → (a ≡ false) × (b ≡ false)
 or_false true b h = cc
@@ -90,11 +90,11 @@ or_false false b h = (refl, h)
 pub has_append : (ks ls : List Kind) (ts : List Token) → has (ks ++ ls) ts ≡ false → (has ks ts ≡ false) × (has ls ts ≡ false)
 unfolding is_in
 has_append ks ls [] h = (refl, refl)
-has_append ks ls (t ∷ ts) h = or_false _ _ (sym (member_append ks ls (kind_of t.kind)) ∙ h)
+has_append ks ls (t ∷ ts) h = or_false _ _ (sym (member_append ks ls (token_kind t.kind)) ∙ h)
 
 pub in_apart : (ks ls : List Kind) (t : Token) → disjoint ks ls ≡ true → is_in ks t ≡ true → is_in ls t ≡ false
 unfolding is_in
-in_apart ks ls t d m = apart ks ls (kind_of t.kind) d m
+in_apart ks ls t d m = apart ks ls (token_kind t.kind) d m
 
 head_some : (t u : Token) → ◌≡◌ {A = Option Token} (Some t) (Some u) → t ≡ u
 head_some t u h = cc
@@ -172,7 +172,7 @@ err_ok p e P h = cc
 pub has_join : (ks ls : List Kind) (ts : List Token) → has ks ts ≡ false → has ls ts ≡ false → has (ks ++ ls) ts ≡ false
 unfolding is_in
 has_join ks ls [] h i = refl
-has_join ks ls (t ∷ ts) h i = member_append ks ls (kind_of t.kind) ∙ rw h i
+has_join ks ls (t ∷ ts) h i = member_append ks ls (token_kind t.kind) ∙ rw h i
 
 pub disjoint_nil : (ks : List Kind) → disjoint ks [] ≡ true
 disjoint_nil [] = refl
@@ -204,7 +204,7 @@ member_in (l ∷ ks) ls k a h = by_cases _ (member l ls)
 
 pub in_more : (ks ls : List Kind) (t : Token) → all_in ks ls ≡ true → is_in ks t ≡ true → is_in ls t ≡ true
 unfolding is_in
-in_more ks ls t a h = member_in ks ls (kind_of t.kind) a h
+in_more ks ls t a h = member_in ks ls (token_kind t.kind) a h
 
 pub has_fewer : (ks ls : List Kind) (ts : List Token) → all_in ks ls ≡ true → has ls ts ≡ false → has ks ts ≡ false
 has_fewer ks ls [] a h = refl

@@ -6,7 +6,7 @@ use Rattle.jz_io.specs.declared.span.Span.{Span}
 use Rattle.jz_grammar.specs.Causes.{Cause, Unexpected, TooDeep}
 use Rattle.jz_grammar.specs.Kinds.{Kind, same, disjoint, is_in, has}
 use Rattle.jz_grammar.specs.Reading.{Answer, Reader, ◌>>=◌, through, one, nothing, follow, pick, nest, many_at, many, leaf, opening, inside, optional}
-use Rattle.jz_grammar.specs.Grammar.{Marked, Lang, plain, token, empty, ◌▸◌, ◌⊕◌, ◌⇒◌, nested, each, at_most, opens, maybe}
+use Rattle.jz_grammar.specs.Grammar.{Marked, Lang, plain, token, empty, ◌▸◌, ◌⊕◌, ◌⇒◌, nested_phrase, each, at_most, opens, maybe}
 use Rattle.jz_grammar.specs.Laws.{Shape, head_of, First, outcome, Next, Begun, Found, Stopped, IsReader, plus, HasPhrase, one_shape, empty_shape, both, either, full, many_shape}
 use Rattle.jz_grammar.proofs.Basics.{all_in, in_more, has_fewer, in_left, in_right, has_append, in_apart, has_same, head_append, plain_append, plain_rest, within_append, outcome_within, outcome_through, outcome_append, next_more, plus_le, has_join, disjoint_nil, cancel, plain_length, bind_ok, bind_err, ok_same, err_same, ok_err, err_ok, through_err}
 
@@ -244,9 +244,9 @@ pick_reads {A} {f = f} {g = g} {l = l} {m = m} {s = s} {r = r} F G full apart = 
         (λ c. let q = G.stop ts rest k (sym (right ts c) ∙ h) in
         record { pre = q.pre; splits = q.splits; stays = λ other n. right _ (heads q.pre ts rest other q.splits n ∙ c) ∙ q.stays other n; begins = λ e i. let b = q.begins e i in (b.0, b.1, b.2, inr b.3, b.4, b.5, b.6) })
 
--- ---- nested
--- where nothing more may be nested, the opening token is refused
-nest_zero_reads : {A : Type 0} (ks : List Kind) (example : Token) → is_in ks example ≡ true → (inner : ℕ → Reader A) (lang : ℕ → Lang A) → HasPhrase lang → (s : Shape) → IsReader (nest ks inner zero) (λ e. nested ks lang (plus zero e)) (both (one_shape ks) s)
+-- ---- nested_phrase
+-- where nothing more may be nested_phrase, the opening token is refused
+nest_zero_reads : {A : Type 0} (ks : List Kind) (example : Token) → is_in ks example ≡ true → (inner : ℕ → Reader A) (lang : ℕ → Lang A) → HasPhrase lang → (s : Shape) → IsReader (nest ks inner zero) (λ e. nested_phrase ks lang (plus zero e)) (both (one_shape ks) s)
 nest_zero_reads {A} ks example passes inner lang some s = record { first = first; again = again; found = found; stop = stop }
   where
     taken : (t : Token) (ts : List Token) → is_in ks t ≡ true → nest ks inner zero (t ∷ ts) ≡ Err (TooDeep, t ∷ ts)
@@ -255,11 +255,11 @@ nest_zero_reads {A} ks example passes inner lang some s = record { first = first
     refused : (ts : List Token) → has ks ts ≡ false → nest ks inner zero ts ≡ Err (Unexpected, ts)
     refused ts h = ap (λ z. ◌>>=◌ {B = Token × A} z (λ x. Err (TooDeep, ts))) (one_not ks ts h)
 
-    first : (e : ℕ) (xs : List Marked) (p : Token × A) → nested ks lang e xs p → First (both (one_shape ks) s) xs
+    first : (e : ℕ) (xs : List Marked) (p : Token × A) → nested_phrase ks lang e xs p → First (both (one_shape ks) s) xs
     first zero xs p h = absurd h
     first (suc e) xs p h = subst (λ z. First (both (one_shape ks) s) z) (sym h.4) (subst (λ z. First (both (one_shape ks) s) (z ++ h.1)) (sym h.2.0) h.2.1)
 
-    again : (e : ℕ) (xs : List Marked) (p : Token × A) (rest : List Token) → nested ks lang e xs p → has (both (one_shape ks) s).goes rest ≡ false → nest ks inner zero (plain xs ++ rest) ≡ outcome e xs p rest
+    again : (e : ℕ) (xs : List Marked) (p : Token × A) (rest : List Token) → nested_phrase ks lang e xs p → has (both (one_shape ks) s).goes rest ≡ false → nest ks inner zero (plain xs ++ rest) ≡ outcome e xs p rest
     again zero xs p rest h free = absurd h
     again (suc e) xs p rest h free =
         let here : nest ks inner zero (plain ((p.0, e) ∷ h.1) ++ rest) ≡ outcome (suc e) ((p.0, e) ∷ h.1) p rest =
@@ -269,18 +269,18 @@ nest_zero_reads {A} ks example passes inner lang some s = record { first = first
         lt : (e : ℕ) → nat_lt e (suc e) ≡ true
         lt e = grind arith
 
-    found : (ts rest : List Token) (p : Token × A) → nest ks inner zero ts ≡ Ok (p, rest) → Found (nest ks inner zero) (λ e. nested ks lang e) ts p rest
+    found : (ts rest : List Token) (p : Token × A) → nest ks inner zero ts ≡ Ok (p, rest) → Found (nest ks inner zero) (λ e. nested_phrase ks lang e) ts p rest
     found ts rest p h = let x = bind_ok {B = Token × A} (one ks ts) (λ x. Err (TooDeep, ts)) (p, rest) h in err_ok (p, rest) (TooDeep, ts) _ x.2
 
-    begins : (e : ℕ) (t : Token) (rest : List Token) → 1 < e → is_in ks t ≡ true → Begun (nested ks lang e) e [] TooDeep (t ∷ rest)
+    begins : (e : ℕ) (t : Token) (rest : List Token) → 1 < e → is_in ks t ≡ true → Begun (nested_phrase ks lang e) e [] TooDeep (t ∷ rest)
     begins zero t rest i h = absurd (omega (arith, i))
     begins (suc e) t rest i h = let w = some e (omega arith) in ([], (t, e) ∷ w.0, (t, w.1), ((t, e) ∷ [], w.0, (refl, h), w.2, refl), tt, refl, (refl, omega arith))
 
-    begins' : (e : ℕ) (rest : List Token) → 1 < e → Begun (nested ks lang e) e [] Unexpected rest
+    begins' : (e : ℕ) (rest : List Token) → 1 < e → Begun (nested_phrase ks lang e) e [] Unexpected rest
     begins' zero rest i = absurd (omega (arith, i))
     begins' (suc e) rest i = let w = some e (omega arith) in ([], (example, e) ∷ w.0, (example, w.1), ((example, e) ∷ [], w.0, (refl, passes), w.2, refl), tt, refl, tt)
 
-    deep : (ts : List Token) → has ks ts ≡ true → Stopped (nest ks inner zero) (λ e. nested ks lang e) ts TooDeep ts
+    deep : (ts : List Token) → has ks ts ≡ true → Stopped (nest ks inner zero) (λ e. nested_phrase ks lang e) ts TooDeep ts
     deep [] c = cc
     deep (t ∷ ts) c = record { pre = []; splits = refl; stays = stays; begins = λ e i. begins e t ts i c }
       where
@@ -288,12 +288,12 @@ nest_zero_reads {A} ks example passes inner lang some s = record { first = first
         stays [] n = cc
         stays (u ∷ us) n = taken u us (sym (has_same ks (t ∷ ts) (u ∷ us) n) ∙ c)
 
-    stop : (ts rest : List Token) (k : Cause) → nest ks inner zero ts ≡ Err (k, rest) → Stopped (nest ks inner zero) (λ e. nested ks lang e) ts k rest
+    stop : (ts rest : List Token) (k : Cause) → nest ks inner zero ts ≡ Err (k, rest) → Stopped (nest ks inner zero) (λ e. nested_phrase ks lang e) ts k rest
     stop ts rest k h = by_cases _ (has ks ts)
         (λ c. let v = err_same {A = Token × A} (TooDeep, ts) (k, rest) (sym (is_deep ts c) ∙ h) in
-        subst (λ (z : Cause × List Token). Stopped (nest ks inner zero) (λ e. nested ks lang e) ts z.0 z.1) v (deep ts c))
+        subst (λ (z : Cause × List Token). Stopped (nest ks inner zero) (λ e. nested_phrase ks lang e) ts z.0 z.1) v (deep ts c))
         (λ c. let v = err_same {A = Token × A} (Unexpected, ts) (k, rest) (sym (refused ts c) ∙ h) in
-        subst (λ (z : Cause × List Token). Stopped (nest ks inner zero) (λ e. nested ks lang e) ts z.0 z.1) v
+        subst (λ (z : Cause × List Token). Stopped (nest ks inner zero) (λ e. nested_phrase ks lang e) ts z.0 z.1) v
         (record { pre = []; splits = refl; stays = λ other n. refused other (sym (has_same ks ts other n) ∙ c); begins = λ e i. begins' e ts i }))
       where
         is_deep : (ts : List Token) → has ks ts ≡ true → nest ks inner zero ts ≡ Err (TooDeep, ts)
@@ -304,7 +304,7 @@ some_more : {A : Type 0} (lang : ℕ → Lang A) (d : ℕ) → HasPhrase lang �
 some_more lang d some e h = let p = plus_le d e in some (plus d e) (omega arith)
 
 -- how far down the parts are read
-pub nest_reads : {A : Type 0} (ks : List Kind) (example : Token) → is_in ks example ≡ true → (inner : ℕ → Reader A) (lang : ℕ → Lang A) → HasPhrase lang → (s : Shape) (d : ℕ) → ((b : ℕ) → d ≡ suc b → IsReader (inner b) (λ e. lang (plus b e)) s) → IsReader (nest ks inner d) (λ e. nested ks lang (plus d e)) (both (one_shape ks) s)
+pub nest_reads : {A : Type 0} (ks : List Kind) (example : Token) → is_in ks example ≡ true → (inner : ℕ → Reader A) (lang : ℕ → Lang A) → HasPhrase lang → (s : Shape) (d : ℕ) → ((b : ℕ) → d ≡ suc b → IsReader (inner b) (λ e. lang (plus b e)) s) → IsReader (nest ks inner d) (λ e. nested_phrase ks lang (plus d e)) (both (one_shape ks) s)
 nest_reads ks example passes inner lang some s zero below = nest_zero_reads ks example passes inner lang some s
 nest_reads ks example passes inner lang some s (suc d) below = follow_reads (one_reads ks d example passes) (below d refl) (some_more lang d some) (disjoint_nil s.starts)
 

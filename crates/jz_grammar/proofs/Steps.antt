@@ -3,7 +3,7 @@ use Rattle.std.proofs.Common.{◌≡◌, ℕ, zero, suc, ◌-◌, List, [], ◌�
 use Rattle.jz_lex.specs.declared.token.Token.{Token}
 use Rattle.jz_grammar.specs.Causes.{Cause}
 use Rattle.jz_grammar.specs.Kinds.{Kind, disjoint, has}
-use Rattle.jz_grammar.specs.Reading.{Answer, Reader, ◌>>=◌, through, follow, many, many_at, more_of, few_of, listed, listed_few}
+use Rattle.jz_grammar.specs.Reading.{Answer, Reader, ◌>>=◌, through, follow, many, many_at, more_of, few_of, listed_items, listed_few}
 use Rattle.jz_grammar.specs.Grammar.{Lang, ◌▸◌, ◌⇒◌, each, at_most}
 use Rattle.jz_grammar.specs.Laws.{IsReader, full, both, many_shape}
 use Rattle.jz_grammar.proofs.Combine.{many_next, many_done, many_reads, at_most_reads, some_at_most, follow_reads, map_reads, reads_as}
@@ -67,8 +67,8 @@ listed_is {A} first rest ts = step (first ts)
     step (Ok x) = put_first x.0 (rest x.1)
     step (Err e) = refl
 
-pub listed_reads : {A : Type 0} {f g : Reader A} {l m : ℕ → Lang A} (st go ks go' : List Kind) → IsReader f l (full st go) → IsReader g m (full ks go') → disjoint ks go' ≡ true → disjoint ks go ≡ true → IsReader (listed ks f g) (λ e. (l e ▸ each (m e)) ⇒ (λ p. p.0 ∷ p.1)) (both (full st go) (many_shape ks go'))
-listed_reads {f = f} {g = g} st go ks go' F G apart clear = reads_as (listed ks f g)
+pub listed_reads : {A : Type 0} {f g : Reader A} {l m : ℕ → Lang A} (st go ks go' : List Kind) → IsReader f l (full st go) → IsReader g m (full ks go') → disjoint ks go' ≡ true → disjoint ks go ≡ true → IsReader (listed_items ks f g) (λ e. (l e ▸ each (m e)) ⇒ (λ p. p.0 ∷ p.1)) (both (full st go) (many_shape ks go'))
+listed_reads {f = f} {g = g} st go ks go' F G apart clear = reads_as (listed_items ks f g)
     (map_reads (λ p. p.0 ∷ p.1) (follow_reads F (many_reads ks go' G apart) (λ e h. ([], [], refl)) clear))
     (λ ts. listed_is f (many ks g) ts)
 

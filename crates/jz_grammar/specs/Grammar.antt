@@ -1,11 +1,11 @@
 -- Grammars: which lists of tokens stand for which values. A token of a list is marked with how much
--- could still be nested at it.
+-- could still be nested_phrase at it.
 use Rattle.std.specs.Prelude.{◌≡◌, ◌≤◌, ◌⊎◌, ℕ, zero, suc, List, [], ◌∷◌, ◌++◌, map, true, Option, Some, None}
 use Rattle.jz_lex.specs.declared.token.Token.{Token}
 use Rattle.jz_io.specs.declared.span.Span.{Span}
 use Rattle.jz_grammar.specs.Kinds.{Kind, is_in}
 
--- a token, and how much may still be nested at it
+-- a token, and how much may still be nested_phrase at it
 abbrev pub Marked : Type 0
 Marked = Token × ℕ
 
@@ -44,10 +44,10 @@ only holds l xs a = l xs a × holds a
 abbrev pub never : {A : Type 0} → Lang A
 never xs a = ⊥
 
--- a token, and what is nested in it, of what may still be nested
-abbrev pub nested : {A : Type 0} → List Kind → (ℕ → Lang A) → ℕ → Lang (Token × A)
-nested ks inner zero = never
-nested ks inner (suc d) = token ks d ▸ inner d
+-- a token, and what is nested_phrase in it, of what may still be nested_phrase
+abbrev pub nested_phrase : {A : Type 0} → List Kind → (ℕ → Lang A) → ℕ → Lang (Token × A)
+nested_phrase ks inner zero = never
+nested_phrase ks inner (suc d) = token ks d ▸ inner d
 
 -- one after the other, where the first decides what the second may be
 abbrev pub then_by : {A B : Type 0} → Lang A → (A → Lang B) → Lang (A × B)
@@ -72,14 +72,14 @@ each_by l after s xs (a ∷ as') = (ys : List Marked) × (zs : List Marked) × l
 abbrev pub plain : List Marked → List Token
 plain xs = map (λ x. x.0) xs
 
--- nothing at these tokens is nested too deep, where e could still be nested at the limit
+-- nothing at these tokens is nested_phrase too deep, where e could still be nested_phrase at the limit
 abbrev pub Within : ℕ → List Marked → Type 0
 Within e [] = Unit {0}
 Within e (x ∷ xs) = (e ≤ x.1) × Within e xs
 
--- where a token stands, and what is nested in it
+-- where a token stands, and what is nested_phrase in it
 abbrev pub opens : {A : Type 0} → List Kind → (ℕ → Lang A) → ℕ → Lang (Span × A)
-opens ks inner d = nested ks inner d ⇒ (λ p. (p.0.span, p.1))
+opens ks inner d = nested_phrase ks inner d ⇒ (λ p. (p.0.span, p.1))
 
 -- it or nothing
 abbrev pub maybe : {A : Type 0} → Lang A → Lang (Option A)

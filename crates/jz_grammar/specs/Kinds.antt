@@ -17,14 +17,14 @@ pub data Kind : Type 0 where
   end : Kind
 
 -- what a grammar sees of a token
-abbrev pub kind_of : TokenKind → Kind
-kind_of (kind.Ident s) = identifier
-kind_of (kind.Keyword s) = word s
-kind_of (kind.Num n) = number
-kind_of (kind.Cast size signed) = cast
-kind_of (kind.Str s) = string
-kind_of (kind.Sign s) = sign s
-kind_of kind.End = end
+abbrev pub token_kind : TokenKind → Kind
+token_kind (kind.Ident s) = identifier
+token_kind (kind.Keyword s) = word s
+token_kind (kind.Num n) = number
+token_kind (kind.Cast size signed) = cast
+token_kind (kind.Str s) = string
+token_kind (kind.Sign s) = sign s
+token_kind kind.End = end
 
 -- they are one kind
 abbrev pub same : Kind → Kind → Bool
@@ -47,7 +47,7 @@ disjoint ks ls = list_all (λ k. not (member k ls)) ks
 
 -- the token is of one of these kinds
 unfoldable pub is_in : List Kind → Token → Bool
-is_in ks t = member (kind_of t.kind) ks
+is_in ks t = member (token_kind t.kind) ks
 
 -- the list begins with such a token
 abbrev pub has : List Kind → List Token → Bool

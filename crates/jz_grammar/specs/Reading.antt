@@ -106,8 +106,8 @@ abbrev pub few_of : {A : Type 0} → ℕ → List Kind → Reader A → List A �
 few_of n ks f out ts = through (λ as'. out ++ as') (many_at n ks f ts)
 
 -- one and any number more, or one and at most n more
-abbrev pub listed : {A : Type 0} → List Kind → Reader A → Reader A → Reader (List A)
-listed ks first f ts = first ts >>= λ x. more_of ks f (x.0 ∷ []) x.1
+abbrev pub listed_items : {A : Type 0} → List Kind → Reader A → Reader A → Reader (List A)
+listed_items ks first f ts = first ts >>= λ x. more_of ks f (x.0 ∷ []) x.1
 
 abbrev pub listed_few : {A : Type 0} → ℕ → List Kind → Reader A → Reader A → Reader (List A)
 listed_few n ks first f ts = first ts >>= λ x. few_of n ks f (x.0 ∷ []) x.1

@@ -13,8 +13,8 @@ both_bits (Ok p) = Ok (p.0.bits, p.1.bits)
 both_bits (Err k) = Err k
 
 -- one operand, and then another
-abbrev pub both : Evaluation ℕ → Evaluation ℕ → Evaluation (ℕ × ℕ)
-both g h = and_then g (λ x. and_then h (λ y. went [] (x, y)))
+abbrev pub both_words : Evaluation ℕ → Evaluation ℕ → Evaluation (ℕ × ℕ)
+both_words g h = and_then g (λ x. and_then h (λ y. went [] (x, y)))
 
 -- the answer and its numbers behind those before, as the definition gives the bits of two words
 abbrev pub GivesWords :

@@ -27,11 +27,11 @@ use Rattle.jz_instructions.specs.declared.rows.Row.{Row}
 use Rattle.jz_instructions.specs.declared.rows.Row.TheVariants as row
 
 -- the flags that an instruction sets
-abbrev pub set_by : Sets → List FlagVal → Results
-set_by sets.Nothing = no_results
-set_by sets.All = all_flags
-set_by sets.FirstTwo = first_two
-set_by sets.AllButCarry = all_but_carry
+abbrev pub flags_set_by : Sets → List FlagVal → Results
+flags_set_by sets.Nothing = no_results
+flags_set_by sets.All = all_flags
+flags_set_by sets.FirstTwo = first_two
+flags_set_by sets.AllButCarry = all_but_carry
 
 -- those that a shift or a rotation sets
 abbrev pub shift_flags : Shift → List FlagVal → Results
@@ -39,21 +39,21 @@ shift_flags shift.Rol = first_two
 shift_flags shift.Ror = first_two
 shift_flags _ = all_flags
 
-abbrev pub one_row : OneWord → Size → ℕ → Results
-one_row (one.Alu flags op) z a = one_results (set_by flags) op z a
-one_row one.Swapped z a = before_value [] z (swapped_of z a)
-one_row one.Same z a = before_value [] z a
+abbrev pub one_word_results : OneWord → Size → ℕ → Results
+one_word_results (one.Alu flags op) z a = one_results (flags_set_by flags) op z a
+one_word_results one.Swapped z a = before_value [] z (swapped_of z a)
+one_word_results one.Same z a = before_value [] z a
 
-abbrev pub two_row : TwoWords → Size → ℕ → ℕ → Results
-two_row (two.Alu op) z a b = alu_results op z a b false
-two_row (two.Compare op) z a b = all_flags (alu_answer op z a b false).flags
-two_row two.LowProduct z a b = low_product_results z a b
-two_row two.Product z a b = product_results z a b
+abbrev pub two_word_results : TwoWords → Size → ℕ → ℕ → Results
+two_word_results (two.Alu op) z a b = alu_results op z a b false
+two_word_results (two.Compare op) z a b = all_flags (alu_answer op z a b false).flags
+two_word_results two.LowProduct z a b = low_product_results z a b
+two_word_results two.Product z a b = product_results z a b
 
 abbrev pub row_results : Row → Span → Size → List Expr → State → Evaluation Results
-row_results (row.One r) at z = of_one (one_row r z) at z
-row_results row.Address at z = of_one (one_row one.Same S64) at S64
-row_results (row.Two r) at z = of_two (two_row r z) at z
+row_results (row.One r) at z = of_one (one_word_results r z) at z
+row_results row.Address at z = of_one (one_word_results one.Same S64) at S64
+row_results (row.Two r) at z = of_two (two_word_results r z) at z
 row_results (row.Carry op) at z = of_carry (alu_results op z) at z
 row_results (row.Count kind) at z = of_count (shift_flags kind) kind at z
 row_results row.Division at z = of_division at z

@@ -3,7 +3,7 @@
 ghost use Rattle.jz_meaning.specs.Stores.{state_of};
 ghost use Rattle.jz_meaning.specs.Intrinsics as intrinsics;
 ghost use Rattle.jz_assign.specs.Answers.{GivesResults};
-ghost use Rattle.jz_instructions.specs.Rows.{shift_flags, one_row, two_row, row_results};
+ghost use Rattle.jz_instructions.specs.Rows.{shift_flags, one_word_results, two_word_results, row_results};
 
 use crate::operands::{
     with_carry, with_condition, with_count, with_division, with_one, with_two, words_in,
@@ -27,7 +27,7 @@ fn of_one(
     out: &mut Seq<u64>,
 ) -> Result<Results, Failure<Stuck>>
     ensures {
-        let meaning = intrinsics.of_one (one_row row size) span size operands.now in
+        let meaning = intrinsics.of_one (one_word_results row size) span size operands.now in
         GivesResults result out.old out.new (meaning (state_of state.now))
     }
 {
@@ -46,7 +46,7 @@ fn of_two(
     out: &mut Seq<u64>,
 ) -> Result<Results, Failure<Stuck>>
     ensures {
-        let meaning = intrinsics.of_two (two_row row size) span size operands.now in
+        let meaning = intrinsics.of_two (two_word_results row size) span size operands.now in
         GivesResults result out.old out.new (meaning (state_of state.now))
     }
 {

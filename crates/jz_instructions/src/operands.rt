@@ -9,8 +9,8 @@ ghost use Rattle.jz_meaning.specs.Values.{evaluated};
 ghost use Rattle.jz_meaning.specs.Assignments as assignments;
 ghost use Rattle.jz_meaning.specs.Intrinsics as intrinsics;
 ghost use Rattle.jz_assign.specs.Answers.{GivesResults};
-ghost use Rattle.jz_instructions.specs.Answers.{both, GivesWords};
-ghost use Rattle.jz_instructions.specs.Rows.{shift_flags, one_row, two_row};
+ghost use Rattle.jz_instructions.specs.Answers.{both_words, GivesWords};
+ghost use Rattle.jz_instructions.specs.Rows.{shift_flags, one_word_results, two_word_results};
 
 use crate::results::Results;
 use crate::rows::{OneWord, TwoWords};
@@ -35,7 +35,7 @@ pub(crate) fn words_in(
     ensures bits {
         let first = assignments.word_in span size a.now (state_of state.now) in
         let second = assignments.word_in span size b.now (state_of state.now) in
-        GivesWords result out.old out.new (both first second)
+        GivesWords result out.old out.new (both_words first second)
     }
     ensures sizes { IfOk result (λ p. (p.0.size ≡ size) × (p.1.size ≡ size)) }
 {
@@ -54,7 +54,7 @@ pub(crate) fn with_one(
     out: &mut Seq<u64>,
 ) -> Result<Results, Failure<Stuck>>
     ensures {
-        let meaning = intrinsics.of_one (one_row row size) span size (operand.now ∷ []) in
+        let meaning = intrinsics.of_one (one_word_results row size) span size (operand.now ∷ []) in
         GivesResults result out.old out.new (meaning (state_of state.now))
     }
 {
@@ -74,7 +74,7 @@ pub(crate) fn with_two(
     out: &mut Seq<u64>,
 ) -> Result<Results, Failure<Stuck>>
     ensures {
-        let meaning = intrinsics.of_two (two_row row size) span size (a.now ∷ b.now ∷ []) in
+        let meaning = intrinsics.of_two (two_word_results row size) span size (a.now ∷ b.now ∷ []) in
         GivesResults result out.old out.new (meaning (state_of state.now))
     }
 {

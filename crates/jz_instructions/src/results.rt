@@ -4,8 +4,8 @@ ghost use Rattle.std.specs.Prelude.{◌≡◌, ◌<◌, [], ◌∷◌, ◌++◌,
 ghost use Rattle.jz_words.specs.Sizes.{modulus};
 ghost use Rattle.jz_meaning.specs.States.{as_value, word};
 ghost use Rattle.jz_meaning.specs.Intrinsics as intrinsics;
-ghost use Rattle.jz_assign.specs.Answers.{meant};
-ghost use Rattle.jz_instructions.specs.Rows.{set_by};
+ghost use Rattle.jz_assign.specs.Answers.{meant_results};
+ghost use Rattle.jz_instructions.specs.Rows.{flags_set_by};
 
 use crate::rows::Sets;
 use jz_data::Seq;
@@ -30,7 +30,7 @@ fn flag_result(flag: FlagVal) -> Option<Value>
 fn add(results: &mut Results, value: Option<Value>) -> Result<(), AllocError>
     ensures {
         let added = option_map as_value value ∷ [] in
-        OnOk result (meant results.new ≡ meant results.old ++ added)
+        OnOk result (meant_results results.new ≡ meant_results results.old ++ added)
     }
 {
     results.push(value)?;
@@ -39,7 +39,7 @@ fn add(results: &mut Results, value: Option<Value>) -> Result<(), AllocError>
 
 fn add_word(results: &mut Results, size: Size, bits: u64) -> Result<(), AllocError>
     requires { bits < modulus size }
-    ensures { OnOk result (meant results.new ≡ meant results.old ++ Some (word size bits) ∷ []) }
+    ensures { OnOk result (meant_results results.new ≡ meant_results results.old ++ Some (word size bits) ∷ []) }
 {
     add(results, Some(Value::Word(Word::new(size, bits))))
 }
@@ -47,7 +47,7 @@ fn add_word(results: &mut Results, size: Size, bits: u64) -> Result<(), AllocErr
 fn add_flags(results: &mut Results, flags: &[FlagVal]) -> Result<(), AllocError>
     ensures {
         let added = intrinsics.all_flags flags.now in
-        OnOk result (meant results.new ≡ meant results.old ++ added)
+        OnOk result (meant_results results.new ≡ meant_results results.old ++ added)
     }
 {
     for flag in flags {
@@ -57,7 +57,7 @@ fn add_flags(results: &mut Results, flags: &[FlagVal]) -> Result<(), AllocError>
 }
 
 fn add_set(results: &mut Results, sets: Sets, flags: [FlagVal; 5]) -> Result<(), AllocError>
-    ensures { OnOk result (meant results.new ≡ meant results.old ++ set_by sets flags) }
+    ensures { OnOk result (meant_results results.new ≡ meant_results results.old ++ flags_set_by sets flags) }
 {
     match sets {
         Sets::Nothing => Ok(()),
@@ -76,7 +76,7 @@ pub(crate) fn flags_set(
     sets: Sets,
     flags: [FlagVal; 5],
 ) -> Result<Results, AllocError>
-    ensures { IfOk result (λ vs. meant vs ≡ set_by sets flags) }
+    ensures { IfOk result (λ vs. meant_results vs ≡ flags_set_by sets flags) }
 {
     let mut results = Seq::new(alloc);
     add_set(&mut results, sets, flags)?;
@@ -92,8 +92,8 @@ pub(crate) fn before_value(
 ) -> Result<Results, AllocError>
     requires { answer.value < modulus size }
     ensures {
-        let results = intrinsics.before_value (set_by sets answer.flags) size answer.value in
-        IfOk result (λ vs. meant vs ≡ results)
+        let results = intrinsics.before_value (flags_set_by sets answer.flags) size answer.value in
+        IfOk result (λ vs. meant_results vs ≡ results)
     }
 {
     let mut results = flags_set(alloc, sets, answer.flags)?;
@@ -113,7 +113,7 @@ pub(crate) fn before_both(
     requires second { second < modulus size }
     ensures {
         let both = Some (word size first) ∷ Some (word size second) ∷ [] in
-        IfOk result (λ vs. meant vs ≡ intrinsics.all_flags flags ++ both)
+        IfOk result (λ vs. meant_results vs ≡ intrinsics.all_flags flags ++ both)
     }
 {
     let mut results = flags_set(alloc, Sets::All, flags)?;
@@ -124,7 +124,7 @@ pub(crate) fn before_both(
 
 /// One word.
 pub(crate) fn alone(alloc: Global, value: Word) -> Result<Results, AllocError>
-    ensures { IfOk result (λ vs. meant vs ≡ Some (word value.size value.bits) ∷ []) }
+    ensures { IfOk result (λ vs. meant_results vs ≡ Some (word value.size value.bits) ∷ []) }
 {
     let mut results = Seq::new(alloc);
     add_word(&mut results, value.size(), value.bits())?;

@@ -7,7 +7,7 @@ ghost use Rattle.jz_tree.specs.declared.expr.Expr.{Expr};
 ghost use Rattle.jz_meaning.specs.States.{State};
 ghost use Rattle.jz_meaning.specs.Intrinsics as intrinsics;
 ghost use Rattle.x64_insn.specs.declared.types.FlagVal.{FlagVal};
-ghost use Rattle.jz_instructions.specs.Rows.{shift_flags, row_results, set_by};
+ghost use Rattle.jz_instructions.specs.Rows.{shift_flags, row_results, flags_set_by};
 
 use jz_tree::Intrinsic;
 use x64_insn::{Alu, One, Shift};
@@ -59,7 +59,7 @@ pub(crate) enum Row {
 
 /// The flags that a shift or a rotation sets.
 pub(crate) fn set_by_shift(kind: Shift) -> Sets
-    ensures { (flags : List FlagVal) → set_by result flags ≡ shift_flags kind flags }
+    ensures { (flags : List FlagVal) → flags_set_by result flags ≡ shift_flags kind flags }
 {
     match kind {
         Shift::Rol | Shift::Ror => Sets::FirstTwo,

@@ -9,8 +9,8 @@ ghost use Rattle.x64_insn.specs.Shifts as shifts;
 ghost use Rattle.jz_meaning.specs.declared.value.Why.TheVariants as why;
 ghost use Rattle.jz_meaning.specs.States.{as_value, word};
 ghost use Rattle.jz_meaning.specs.Intrinsics as intrinsics;
-ghost use Rattle.jz_assign.specs.Answers.{meant, GivesResults};
-ghost use Rattle.jz_instructions.specs.Rows.{shift_flags, one_row, two_row};
+ghost use Rattle.jz_assign.specs.Answers.{meant_results, GivesResults};
+ghost use Rattle.jz_instructions.specs.Rows.{shift_flags, one_word_results, two_word_results};
 
 use crate::results::{Results, alone, before_both, before_value, flags_set};
 use crate::rows::{OneWord, Sets, TwoWords, set_by_shift};
@@ -27,7 +27,7 @@ use x64_insn::{
 
 /// An instruction on one word.
 pub(crate) fn of_word(alloc: Global, row: OneWord, a: Word) -> Result<Results, AllocError>
-    ensures { IfOk result (λ vs. meant vs ≡ one_row row a.size a.bits) }
+    ensures { IfOk result (λ vs. meant_results vs ≡ one_word_results row a.size a.bits) }
 {
     match row {
         OneWord::Alu(sets, op) => {
@@ -48,7 +48,7 @@ pub(crate) fn of_sum(
     c: bool,
 ) -> Result<Results, AllocError>
     requires { a.size ≡ b.size }
-    ensures { IfOk result (λ vs. meant vs ≡ intrinsics.alu_results op a.size a.bits b.bits c) }
+    ensures { IfOk result (λ vs. meant_results vs ≡ intrinsics.alu_results op a.size a.bits b.bits c) }
 {
     let answer = alu_answer(op, a, b, c);
     before_value(alloc, Sets::All, a.size(), answer)
@@ -56,7 +56,7 @@ pub(crate) fn of_sum(
 
 fn of_low_product(alloc: Global, a: Word, b: Word) -> Result<Results, AllocError>
     requires { a.size ≡ b.size }
-    ensures { IfOk result (λ vs. meant vs ≡ intrinsics.low_product_results a.size a.bits b.bits) }
+    ensures { IfOk result (λ vs. meant_results vs ≡ intrinsics.low_product_results a.size a.bits b.bits) }
 {
     let answer = low_product_answer(a, b);
     before_value(alloc, Sets::All, a.size(), answer)
@@ -65,7 +65,7 @@ fn of_low_product(alloc: Global, a: Word, b: Word) -> Result<Results, AllocError
 // The high word before the low one.
 fn of_product(alloc: Global, a: Word, b: Word) -> Result<Results, AllocError>
     requires { a.size ≡ b.size }
-    ensures { IfOk result (λ vs. meant vs ≡ intrinsics.product_results a.size a.bits b.bits) }
+    ensures { IfOk result (λ vs. meant_results vs ≡ intrinsics.product_results a.size a.bits b.bits) }
 {
     let answer = product_answer(a, b);
     before_both(alloc, answer.flags, a.size(), answer.high, answer.low)
@@ -76,7 +76,7 @@ fn of_comparison(alloc: Global, op: Alu, a: Word, b: Word) -> Result<Results, Al
     requires { a.size ≡ b.size }
     ensures {
         let answer = alu_answered op a.size a.bits b.bits false in
-        IfOk result (λ vs. meant vs ≡ intrinsics.all_flags answer.flags)
+        IfOk result (λ vs. meant_results vs ≡ intrinsics.all_flags answer.flags)
     }
 {
     let answer = alu_answer(op, a, b, false);
@@ -91,7 +91,7 @@ pub(crate) fn of_words(
     b: Word,
 ) -> Result<Results, AllocError>
     requires { a.size ≡ b.size }
-    ensures { IfOk result (λ vs. meant vs ≡ two_row row a.size a.bits b.bits) }
+    ensures { IfOk result (λ vs. meant_results vs ≡ two_word_results row a.size a.bits b.bits) }
 {
     match row {
         TwoWords::Alu(op) => of_sum(alloc, op, a, b, false),
@@ -137,7 +137,7 @@ fn by_constant(
         let count = shifts.masked a.size count in
         let answer = shifts.shift_answer kind a.size a.bits count no_flags in
         let results = intrinsics.before_value (shift_flags kind answer.flags) a.size answer.value in
-        IfOk result (λ vs. meant vs ≡ results)
+        IfOk result (λ vs. meant_results vs ≡ results)
     }
 {
     let count = masked(a.size(), count);
@@ -150,7 +150,7 @@ fn by_byte(alloc: Global, kind: Shift, a: Word, count: u128) -> Result<Results, 
     ensures {
         let value = shifts.shifted kind a.size a.bits (shifts.masked a.size count) in
         let results = intrinsics.before_value (shift_flags kind no_flags) a.size value in
-        IfOk result (λ vs. meant vs ≡ results)
+        IfOk result (λ vs. meant_results vs ≡ results)
     }
 {
     let value = shifted(kind, a, masked(a.size(), count));
@@ -247,7 +247,7 @@ fn carried(c: bool) -> u64
 
 /// A condition as a byte.
 pub(crate) fn of_truth(alloc: Global, c: bool) -> Result<Results, AllocError>
-    ensures { IfOk result (λ vs. meant vs ≡ Some (word size.S8 (carried_as c)) ∷ []) }
+    ensures { IfOk result (λ vs. meant_results vs ≡ Some (word size.S8 (carried_as c)) ∷ []) }
 {
     alone(alloc, Word::new(Size::S8, carried(c)))
 }

@@ -14,7 +14,7 @@ use Rattle.jz_tree.specs.declared.stmt.StmtKind.TheVariants as kind
 use Rattle.jz_tree.specs.declared.stmt.StmtKind.TheOpen.{StmtKind-F}
 use Rattle.jz_tree.specs.declared.stmt.StmtKind.TheFolds.{fold-StmtKind, fold-roll-Stmt, fold-roll-StmtKind}
 use Rattle.jz_scopes.specs.Scopes.{function_named}
-use Rattle.jz_interp.specs.Calls.{called}
+use Rattle.jz_interp.specs.Calls.{called_function}
 use Rattle.jz_interp.proofs.Weights.{kind_weight, weight, weights, body_weight, total, level}
 
 weight_kind : StmtKind → ℕ
@@ -60,12 +60,12 @@ body_at name [] g e = absurd cc
 body_at name (f ∷ fs) g e = body_by (bytes_eq name f.name) name f g fs (body_at name fs g) e
 
 -- what a call runs is less than what may be run where calls are as deep as here
-pub one_deeper : (fs : List Fun) (d : ℕ) (o : Option BinOp) (n : List ℕ) (c : Option Expr) (f : Fun) → called fs d o n c ≡ Some f → level fs (d - 1) + weights f.body < level fs d
+pub one_deeper : (fs : List Fun) (d : ℕ) (o : Option BinOp) (n : List ℕ) (c : Option Expr) (f : Fun) → called_function fs d o n c ≡ Some f → level fs (d - 1) + weights f.body < level fs d
 one_deeper fs zero o n c f e = absurd cc
 one_deeper fs (suc d) None n None f e = let x = body_at n fs f e in let y : suc d - 1 ≡ d = omega arith in let h = ap (level fs) y in omega (arith, h, x)
 one_deeper fs (suc d) None n (Some c) f e = absurd cc
 one_deeper fs (suc d) (Some o) n c f e = absurd cc
 
-pub some_depth : (fs : List Fun) (d : ℕ) (o : Option BinOp) (n : List ℕ) (c : Option Expr) (f : Fun) → called fs d o n c ≡ Some f → 1 ≤ d
+pub some_depth : (fs : List Fun) (d : ℕ) (o : Option BinOp) (n : List ℕ) (c : Option Expr) (f : Fun) → called_function fs d o n c ≡ Some f → 1 ≤ d
 some_depth fs zero o n c f e = absurd cc
 some_depth fs (suc d) o n c f e = omega arith

@@ -30,24 +30,24 @@ use Rattle.jz_meaning.specs.Statements.{Condition, Counter, Call, source, does, 
 use Rattle.jz_meaning.specs.Statements.{counts, begins, restores, enters, leaves}
 use Rattle.jz_meaning.specs.Statements.{all_passed, all_unset}
 use Rattle.jz_meaning.specs.Runs.{Callee, Callees, block, statement_tree, callees_of, call_tree, instruction_tree, with_tree}
-use Rattle.jz_interp.specs.ShownRuns.{leak_of, turn_of, before, Runs, RunsRounds, Leads, TurnOutcome, last, more, cut, stuck_in, IsTurn, IsTested, Passed, Turned, Counted, finished_by, left_with, call_finished}
-use Rattle.jz_interp.specs.Calls.{called}
+use Rattle.jz_interp.specs.ShownRuns.{leak_of, turn_of, before, Runs, RunsRounds, Leads, TurnOutcome, last, more, cut, stuck_in, IsTurn, IsTested, Passed, Turned, Counted, finished_outcome, call_left_outcome, call_outcome}
+use Rattle.jz_interp.specs.Calls.{called_function}
 use Rattle.jz_interp.specs.Rounds.{RoundsOf}
 use Rattle.jz_interp.specs.declared.ends.Ran.{Ran}
 use Rattle.jz_interp.specs.declared.ends.Ran.TheVariants as ran_as
 use Rattle.jz_interp.specs.declared.ends.TurnEnd.{TurnEnd}
 use Rattle.jz_interp.specs.declared.ends.RoundsEnd.{RoundsEnd}
-use Rattle.jz_interp.specs.Ends.{seen, turn_seen, rounds_seen, wrapped}
+use Rattle.jz_interp.specs.Ends.{seen_outcome, turn_seen, rounds_seen, wrapped_run}
 use Rattle.jz_passing.proofs.RestLemmas.{rest_at}
 use Rattle.jz_interp.proofs.Pieces.{mark_is}
 use Rattle.jz_interp.proofs.Steps.{op_leads, op_stuck, quiet_leads, runs_whole, if_leads, if_stuck, loop_leads, each_leads, each_stuck, call_leads, enter_stuck, prologue_is_stuck, prologue_is_cut, test_is_stuck, test_is_false, turn_is_wanted, body_is_stuck, body_is_cut, body_is_over, next_turn, last_turn, cut_turn, stuck_turn, next_count, counted_all, cut_in_count, stuck_in_count, next_passed, whole_passed, cut_passed, stuck_passed}
 
 -- what is known of an answer that is this variant
-pub as_end : (f : Block → Block) (n m : ℕ) (s t : State) (r : Ran) (is : List Item) → Leads source f n s (seen (Ok r) t) → r ≡ ran_as.End m is → Leads source f n s (End t m is)
-as_end f n m s t r is h e = subst (λ x. Leads source f n s (seen (Ok x) t)) e h
+pub as_end : (f : Block → Block) (n m : ℕ) (s t : State) (r : Ran) (is : List Item) → Leads source f n s (seen_outcome (Ok r) t) → r ≡ ran_as.End m is → Leads source f n s (End t m is)
+as_end f n m s t r is h e = subst (λ x. Leads source f n s (seen_outcome (Ok x) t)) e h
 
-pub as_cut : (f : Block → Block) (n : ℕ) (s t : State) (r : Ran) (is : List Item) → Leads source f n s (seen (Ok r) t) → r ≡ ran_as.Cut is → Leads source f n s (Cut is)
-as_cut f n s t r is h e = subst (λ x. Leads source f n s (seen (Ok x) t)) e h
+pub as_cut : (f : Block → Block) (n : ℕ) (s t : State) (r : Ran) (is : List Item) → Leads source f n s (seen_outcome (Ok r) t) → r ≡ ran_as.Cut is → Leads source f n s (Cut is)
+as_cut f n s t r is h e = subst (λ x. Leads source f n s (seen_outcome (Ok x) t)) e h
 
 pub turn_as : (p : Block) (c : Condition) (b : Block) (n : ℕ) (s t : State) (r q : TurnEnd) → IsTurn source p c b n s (turn_seen (Ok r) t) → r ≡ q → IsTurn source p c b n s (turn_seen (Ok q) t)
 turn_as p c b n s t r q h e = subst (λ x. IsTurn source p c b n s (turn_seen (Ok x) t)) e h
@@ -127,7 +127,7 @@ mark_leads callees x xs n s t is e it ii =
 
 -- ---- `if`
 
-seen_wrapped : (f : List Item → Item) (r : Ran) (t : State) → seen (Ok (wrapped f r)) t ≡ finished_by (λ s. s) f (seen (Ok r) t)
+seen_wrapped : (f : List Item → Item) (r : Ran) (t : State) → seen_outcome (Ok (wrapped_run f r)) t ≡ finished_outcome (λ s. s) f (seen_outcome (Ok r) t)
 seen_wrapped f (ran_as.End n is) t = refl
 seen_wrapped f (ran_as.Cut is) t = refl
 
@@ -140,7 +140,7 @@ module _ (callees : Callees) (c : Condition) (a b : List Stmt) (n : ℕ) (s : St
   if_fails k e = if_stuck source {c = c} (sym (e ∙ nothing_first none (tests c s) q))
 
   module _ (z : Bool) (arm : List Stmt) (e : went ns z ≡ numbers_first none (tests c s)) (i : arm ≡ (if z then a else b)) where
-    if_by : (o : Outcome State why.Stuck (List Item)) → Leads source (block callees arm) n s o → Leads source (choose c (block callees a done) (block callees b done)) n s (finished_by (λ t. t) (λ is. item.If ns z (leak_of is)) o)
+    if_by : (o : Outcome State why.Stuck (List Item)) → Leads source (block callees arm) n s o → Leads source (choose c (block callees a done) (block callees b done)) n s (finished_outcome (λ t. t) (λ is. item.If ns z (leak_of is)) o)
     if_by o g =
         if_leads source {c = c} (block callees a done) (block callees b done) {z = z} (sym (e ∙ nothing_first none (tests c s) q))
         (subst (λ x. Runs source x n s o) (ap (λ x. block callees x done) i ∙ arm_tree callees a b z) (runs_whole source (block callees arm) n s o g))
@@ -148,10 +148,10 @@ module _ (callees : Callees) (c : Condition) (a b : List Stmt) (n : ℕ) (s : St
     pub arm_stuck : (k : why.Stuck) → Leads source (block callees arm) n s (Stuck k) → Leads source (choose c (block callees a done) (block callees b done)) n s (Stuck k)
     arm_stuck k g = if_by (Stuck k) g
 
-    pub if_goes : (ran r : Ran) (t : State) → Leads source (block callees arm) n s (seen (Ok ran) t) → r ≡ wrapped (λ is. item.If ns z (leak_of is)) ran → Leads source (choose c (block callees a done) (block callees b done)) n s (seen (Ok r) t)
+    pub if_goes : (ran r : Ran) (t : State) → Leads source (block callees arm) n s (seen_outcome (Ok ran) t) → r ≡ wrapped_run (λ is. item.If ns z (leak_of is)) ran → Leads source (choose c (block callees a done) (block callees b done)) n s (seen_outcome (Ok r) t)
     if_goes ran r t g w =
-        subst (Leads source (choose c (block callees a done) (block callees b done)) n s) (sym (ap (λ x. seen (Ok x) t) w ∙ seen_wrapped (λ is. item.If ns z (leak_of is)) ran t))
-        (if_by (seen (Ok ran) t) g)
+        subst (Leads source (choose c (block callees a done) (block callees b done)) n s) (sym (ap (λ x. seen_outcome (Ok x) t) w ∙ seen_wrapped (λ is. item.If ns z (leak_of is)) ran t))
+        (if_by (seen_outcome (Ok ran) t) g)
 
 -- ---- tests
 
@@ -283,13 +283,13 @@ with_condition : (x : Option Callee) (to : List Lval) (args : List Expr) (e : Ex
 with_condition None to args e at rest = refl
 with_condition (Some f) to args e at rest = refl
 
-calls_nothing : (fs : List Fun) (d : ℕ) (o : Option BinOp) (name : List ℕ) (c : Option Expr) (to : List Lval) (args : List Expr) (at : Span) (rest : Block) → called fs d o name c ≡ None → call_tree (callees_of fs d name) to o args c at rest ≡ op (meaningless at) rest
+calls_nothing : (fs : List Fun) (d : ℕ) (o : Option BinOp) (name : List ℕ) (c : Option Expr) (to : List Lval) (args : List Expr) (at : Span) (rest : Block) → called_function fs d o name c ≡ None → call_tree (callees_of fs d name) to o args c at rest ≡ op (meaningless at) rest
 calls_nothing fs zero o name c to args at rest e = refl
 calls_nothing fs (suc d) None name None to args at rest e = ap (λ y. call_tree y to None args None at rest) (ap (with_tree (λ ss. block (callees_of fs d) ss done)) e)
 calls_nothing fs (suc d) None name (Some c) to args at rest e = with_condition (callees_of fs (suc d) name) to args c at rest
 calls_nothing fs (suc d) (Some o) name c to args at rest e = with_operation (callees_of fs (suc d) name) to o args c at rest
 
-calls_it : (fs : List Fun) (d : ℕ) (o : Option BinOp) (name : List ℕ) (c : Option Expr) (to : List Lval) (args : List Expr) (at : Span) (f : Fun) (rest : Block) → called fs d o name c ≡ Some f → call_tree (callees_of fs d name) to o args c at rest ≡ call (record { to = to; callee = f; args = args; at = at }) (block (callees_of fs (d - 1)) f.body done) rest
+calls_it : (fs : List Fun) (d : ℕ) (o : Option BinOp) (name : List ℕ) (c : Option Expr) (to : List Lval) (args : List Expr) (at : Span) (f : Fun) (rest : Block) → called_function fs d o name c ≡ Some f → call_tree (callees_of fs d name) to o args c at rest ≡ call (record { to = to; callee = f; args = args; at = at }) (block (callees_of fs (d - 1)) f.body done) rest
 calls_it fs zero o name c to args at f rest e = absurd cc
 calls_it fs (suc d) None name None to args at f rest e =
     let i : suc d - 1 ≡ d = omega arith in
@@ -305,10 +305,10 @@ same_runs f g n s (Cut is) e h = λ r. subst (λ x. Runs source x n s (Cut is)) 
 same_runs f g n s (Stuck w) e h = λ r. subst (λ x. Runs source x n s (Stuck w)) (sym (e r)) (h r)
 
 module _ (fs : List Fun) (d : ℕ) (o : Option BinOp) (name : List ℕ) (c : Option Expr) (to : List Lval) (args : List Expr) (at : Span) (n : ℕ) (s : State) where
-  pub call_of_none : called fs d o name c ≡ None → (k : why.Stuck) → k ≡ record { span = at; why = Init } → Leads source (call_tree (callees_of fs d name) to o args c at) n s (Stuck k)
+  pub call_of_none : called_function fs d o name c ≡ None → (k : why.Stuck) → k ≡ record { span = at; why = Init } → Leads source (call_tree (callees_of fs d name) to o args c at) n s (Stuck k)
   call_of_none e k i = same_runs (op (meaningless at)) (call_tree (callees_of fs d name) to o args c at) n s (Stuck k) (λ rest. calls_nothing fs d o name c to args at rest e) (meaningless_leads at n s k i)
 
-  pub call_of_some : (f : Fun) (x : Outcome State why.Stuck (List Item)) → called fs d o name c ≡ Some f → Leads source (call (record { to = to; callee = f; args = args; at = at }) (block (callees_of fs (d - 1)) f.body done)) n s x → Leads source (call_tree (callees_of fs d name) to o args c at) n s x
+  pub call_of_some : (f : Fun) (x : Outcome State why.Stuck (List Item)) → called_function fs d o name c ≡ Some f → Leads source (call (record { to = to; callee = f; args = args; at = at }) (block (callees_of fs (d - 1)) f.body done)) n s x → Leads source (call_tree (callees_of fs d name) to o args c at) n s x
   call_of_some f x e h = same_runs (call (record { to = to; callee = f; args = args; at = at }) (block (callees_of fs (d - 1)) f.body done)) (call_tree (callees_of fs d name) to o args c at) n s x (λ rest. calls_it fs d o name c to args at f rest e) h
 
 inside : {A B : Type 0} (g : A → B) (x : Evaluation A) (ns : List ℕ) (v : A) → x ≡ went ns v → and_then x (λ y. went [] (g y)) ≡ went ns (g v)
@@ -325,7 +325,7 @@ module _ (call_here : Call) (fb : Block → Block) (n : ℕ) (s : State) (none n
     enters_so : enters call_here s ≡ went ns t1
     enters_so = inside (λ v. let y : State = record { store = v; memory = s.memory } in y) arguments ns inner (sym (e ∙ nothing_first none arguments q)) ∙ ap (went ns) (sym it1)
 
-    finished_call : (o : Outcome State why.Stuck (List Item)) → Leads source fb n t1 o → Leads source (call call_here (fb done)) n s (call_finished (leaves call_here s) ns o)
+    finished_call : (o : Outcome State why.Stuck (List Item)) → Leads source fb n t1 o → Leads source (call call_here (fb done)) n s (call_outcome (leaves call_here s) ns o)
     finished_call o g = call_leads source {c = call_here} enters_so (runs_whole source fb n t1 o g)
 
     pub callee_stuck : (k : why.Stuck) → Leads source fb n t1 (Stuck k) → Leads source (call call_here (fb done)) n s (Stuck k)
@@ -335,8 +335,8 @@ module _ (call_here : Call) (fb : Block → Block) (n : ℕ) (s : State) (none n
     callee_cut is items ms im ii g = subst (λ y. Leads source (call call_here (fb done)) n s (Cut y)) (sym (ii ∙ ap (λ y. item.Call ns (leak_of is) y ∷ []) im)) (finished_call (Cut is) g)
 
     module _ (is : List Item) (m : ℕ) (t2 : State) (g : Leads source fb n t1 (End t2 m is)) (none2 : List ℕ) (q2 : none2 ≡ []) where
-      left_by : (o : Evaluation State) → o ≡ numbers_first none2 (leaves call_here s t2) → Leads source (call call_here (fb done)) n s (left_with ns m is o)
-      left_by o i = subst (λ x. Leads source (call call_here (fb done)) n s (left_with ns m is x)) (sym (i ∙ nothing_first none2 (leaves call_here s t2) q2)) (finished_call (End t2 m is) g)
+      left_by : (o : Evaluation State) → o ≡ numbers_first none2 (leaves call_here s t2) → Leads source (call call_here (fb done)) n s (call_left_outcome ns m is o)
+      left_by o i = subst (λ x. Leads source (call call_here (fb done)) n s (call_left_outcome ns m is x)) (sym (i ∙ nothing_first none2 (leaves call_here s t2) q2)) (finished_call (End t2 m is) g)
 
       pub not_left : (k : why.Stuck) → stuck k ≡ numbers_first none2 (leaves call_here s t2) → Leads source (call call_here (fb done)) n s (Stuck k)
       not_left k i = left_by (stuck k) i

@@ -10,7 +10,7 @@ use Rattle.jz_leak.specs.Shown.{items_of, turns_of, rounds_of}
 use Rattle.jz_runs.specs.Trees.{Tree, done, op, quiet, choose, loop, each, call}
 use Rattle.jz_runs.specs.Rules.{Attempt, stuck, went, Parts, Outcome, End, Cut, Stuck, after, Goes, finished, did, did_not, quieted, chosen, chosen_cut, chosen_stuck, chose_not, loop_left, loop_cut, loop_stuck, counted, counted_cut, counted_stuck, counted_not, call_ended, call_cut, call_stuck, entered_not, left_not, Loops, in_prologue, prologue_stuck, tested_not, leaves_loop, no_turn, in_body, body_stuck, more_turns, Counts, no_count, more_counts, count_cut, count_stuck}
 use Rattle.jz_runs.proofs.Steady.{not_more}
-use Rattle.jz_interp.specs.ShownRuns.{leak_of, turn_of, before, finished_by, left_with, call_finished, Runs, RunsTurns, RunsRounds, Leads, last, more, cut, stuck_in, IsTurn, IsTested, Passed, Turned, Counted}
+use Rattle.jz_interp.specs.ShownRuns.{leak_of, turn_of, before, finished_outcome, call_left_outcome, call_outcome, Runs, RunsTurns, RunsRounds, Leads, last, more, cut, stuck_in, IsTurn, IsTested, Passed, Turned, Counted}
 
 -- one item more is one in front of what is shown
 shown_after : {S W L X : Type 0} (show : L → List X) (f : L → L) (x : X) → ((l : L) → show (f l) ≡ x ∷ show l) → (o : Outcome S W L) (o' : Outcome S W (List X)) → after show o ≡ o' → after show (after f o) ≡ before (x ∷ []) o'
@@ -80,47 +80,47 @@ module _ {O T F C S W : Type 0} (M : Parts O T F C S W) where
   runs_not_more t n m s s1 is h = not_more M (goes_end M h).2
 
   -- an arm that ran, inside its statement
-  if_out : {c : T} (a b : Tree O T F C) {n : ℕ} {s : S} {ns : List ℕ} {z : Bool} → M.tests c s ≡ went ns z → (out : Outcome S W Leak) → Goes M (if z then a else b) n (M.settled c s) out → Leads M (choose c a b) n s (finished_by (λ t. t) (λ is. item.If ns z (leak_of is)) (after items_of out))
+  if_out : {c : T} (a b : Tree O T F C) {n : ℕ} {s : S} {ns : List ℕ} {z : Bool} → M.tests c s ≡ went ns z → (out : Outcome S W Leak) → Goes M (if z then a else b) n (M.settled c s) out → Leads M (choose c a b) n s (finished_outcome (λ t. t) (λ is. item.If ns z (leak_of is)) (after items_of out))
   if_out a b {ns} {z} q (End s1 m l) g = λ r o h. record { out = after (leak.chose ns z l) h.out; goes = chosen q g h.goes; is = shown_after items_of (leak.chose ns z l) (item.If ns z (leak_of (items_of l))) (λ k. refl) h.out o h.is }
   if_out a b {ns} {z} q (Cut l) g = λ r. record { out = Cut (leak.chose_cut ns z l); goes = chosen_cut q g; is = refl }
   if_out a b q (Stuck w) g = λ r. record { out = Stuck w; goes = chosen_stuck q g; is = refl }
 
-  pub if_leads : {c : T} (a b : Tree O T F C) {n : ℕ} {s : S} {ns : List ℕ} {z : Bool} {o : Outcome S W (List Item)} → M.tests c s ≡ went ns z → Runs M (if z then a else b) n (M.settled c s) o → Leads M (choose c a b) n s (finished_by (λ t. t) (λ is. item.If ns z (leak_of is)) o)
-  if_leads {c} a b {n} {s} {ns} {z} q h = subst (λ x. Leads M (choose c a b) n s (finished_by (λ t. t) (λ is. item.If ns z (leak_of is)) x)) h.is (if_out a b q h.out h.goes)
+  pub if_leads : {c : T} (a b : Tree O T F C) {n : ℕ} {s : S} {ns : List ℕ} {z : Bool} {o : Outcome S W (List Item)} → M.tests c s ≡ went ns z → Runs M (if z then a else b) n (M.settled c s) o → Leads M (choose c a b) n s (finished_outcome (λ t. t) (λ is. item.If ns z (leak_of is)) o)
+  if_leads {c} a b {n} {s} {ns} {z} q h = subst (λ x. Leads M (choose c a b) n s (finished_outcome (λ t. t) (λ is. item.If ns z (leak_of is)) x)) h.is (if_out a b q h.out h.goes)
 
   pub if_stuck : {c : T} {a b : Tree O T F C} {n : ℕ} {s : S} {w : W} → M.tests c s ≡ stuck w → Leads M (choose c a b) n s (Stuck w)
   if_stuck {w} q = λ r. record { out = Stuck w; goes = chose_not q; is = refl }
 
-  loop_out : (q : Bool) {p : Tree O T F C} {c : T} {b : Tree O T F C} {n : ℕ} {s : S} (out : Outcome S W Turns) → Loops M p c b n s out → Leads M (loop q p c b) n s (finished_by (λ t. t) item.While (after turns_of out))
+  loop_out : (q : Bool) {p : Tree O T F C} {c : T} {b : Tree O T F C} {n : ℕ} {s : S} (out : Outcome S W Turns) → Loops M p c b n s out → Leads M (loop q p c b) n s (finished_outcome (λ t. t) item.While (after turns_of out))
   loop_out q (End s1 m ts) g = λ r o h. record { out = after (leak.looped ts) h.out; goes = loop_left g h.goes; is = shown_after items_of (leak.looped ts) (item.While (turns_of ts)) (λ k. refl) h.out o h.is }
   loop_out q (Cut ts) g = λ r. record { out = Cut (leak.looped_cut ts); goes = loop_cut g; is = refl }
   loop_out q (Stuck w) g = λ r. record { out = Stuck w; goes = loop_stuck g; is = refl }
 
-  pub loop_leads : (q : Bool) {p : Tree O T F C} {c : T} {b : Tree O T F C} {n : ℕ} {s : S} {o : Outcome S W (List Turn)} → RunsTurns M p c b n s o → Leads M (loop q p c b) n s (finished_by (λ t. t) item.While o)
-  loop_leads q {p} {c} {b} {n} {s} h = subst (λ x. Leads M (loop q p c b) n s (finished_by (λ t. t) item.While x)) h.is (loop_out q h.out h.goes)
+  pub loop_leads : (q : Bool) {p : Tree O T F C} {c : T} {b : Tree O T F C} {n : ℕ} {s : S} {o : Outcome S W (List Turn)} → RunsTurns M p c b n s o → Leads M (loop q p c b) n s (finished_outcome (λ t. t) item.While o)
+  loop_leads q {p} {c} {b} {n} {s} h = subst (λ x. Leads M (loop q p c b) n s (finished_outcome (λ t. t) item.While x)) h.is (loop_out q h.out h.goes)
 
-  each_out : {f : F} {b : Tree O T F C} {n : ℕ} {s : S} {ns : List ℕ} {js : List ℤ} → M.counts f s ≡ went ns js → (out : Outcome S W Rounds) → Counts M f b js n s out → Leads M (each f b) n s (finished_by (M.restores f s) item.For (after rounds_of out))
+  each_out : {f : F} {b : Tree O T F C} {n : ℕ} {s : S} {ns : List ℕ} {js : List ℤ} → M.counts f s ≡ went ns js → (out : Outcome S W Rounds) → Counts M f b js n s out → Leads M (each f b) n s (finished_outcome (M.restores f s) item.For (after rounds_of out))
   each_out q (End s1 m ls) g = λ r o h. record { out = after (leak.each ls) h.out; goes = counted q g h.goes; is = shown_after items_of (leak.each ls) (item.For (rounds_of ls)) (λ k. refl) h.out o h.is }
   each_out q (Cut ls) g = λ r. record { out = Cut (leak.each_cut ls); goes = counted_cut q g; is = refl }
   each_out q (Stuck w) g = λ r. record { out = Stuck w; goes = counted_stuck q g; is = refl }
 
-  pub each_leads : {f : F} {b : Tree O T F C} {n : ℕ} {s : S} {ns : List ℕ} {js : List ℤ} {o : Outcome S W (List shown_leak.Leak)} → M.counts f s ≡ went ns js → RunsRounds M f b js n s o → Leads M (each f b) n s (finished_by (M.restores f s) item.For o)
-  each_leads {f} {b} {n} {s} q h = subst (λ x. Leads M (each f b) n s (finished_by (M.restores f s) item.For x)) h.is (each_out q h.out h.goes)
+  pub each_leads : {f : F} {b : Tree O T F C} {n : ℕ} {s : S} {ns : List ℕ} {js : List ℤ} {o : Outcome S W (List shown_leak.Leak)} → M.counts f s ≡ went ns js → RunsRounds M f b js n s o → Leads M (each f b) n s (finished_outcome (M.restores f s) item.For o)
+  each_leads {f} {b} {n} {s} q h = subst (λ x. Leads M (each f b) n s (finished_outcome (M.restores f s) item.For x)) h.is (each_out q h.out h.goes)
 
   pub each_stuck : {f : F} {b : Tree O T F C} {n : ℕ} {s : S} {w : W} → M.counts f s ≡ stuck w → Leads M (each f b) n s (Stuck w)
   each_stuck {w} q = λ r. record { out = Stuck w; goes = counted_not q; is = refl }
 
-  call_left : {c : C} {b : Tree O T F C} {n m : ℕ} {s s1 s2 : S} {ns : List ℕ} {l : Leak} → M.enters c s ≡ went ns s1 → Goes M b n s1 (End s2 m l) → (x : Attempt W S) → M.leaves c s s2 ≡ x → Leads M (call c b) n s (left_with ns m (items_of l) x)
+  call_left : {c : C} {b : Tree O T F C} {n m : ℕ} {s s1 s2 : S} {ns : List ℕ} {l : Leak} → M.enters c s ≡ went ns s1 → Goes M b n s1 (End s2 m l) → (x : Attempt W S) → M.leaves c s s2 ≡ x → Leads M (call c b) n s (call_left_outcome ns m (items_of l) x)
   call_left {ns} {l} q g (went ms s3) k = λ r o h. record { out = after (leak.called ns l ms) h.out; goes = call_ended q g k h.goes; is = shown_after items_of (leak.called ns l ms) (item.Call ns (leak_of (items_of l)) ms) (λ k. refl) h.out o h.is }
   call_left q g (stuck w) k = λ r. record { out = Stuck w; goes = left_not q g k; is = refl }
 
-  call_out : {c : C} {b : Tree O T F C} {n : ℕ} {s s1 : S} {ns : List ℕ} → M.enters c s ≡ went ns s1 → (out : Outcome S W Leak) → Goes M b n s1 out → Leads M (call c b) n s (call_finished (M.leaves c s) ns (after items_of out))
+  call_out : {c : C} {b : Tree O T F C} {n : ℕ} {s s1 : S} {ns : List ℕ} → M.enters c s ≡ went ns s1 → (out : Outcome S W Leak) → Goes M b n s1 out → Leads M (call c b) n s (call_outcome (M.leaves c s) ns (after items_of out))
   call_out {c} {s} q (End s2 m l) g = call_left q g (M.leaves c s s2) refl
   call_out {ns} q (Cut l) g = λ r. record { out = Cut (leak.called_cut ns l); goes = call_cut q g; is = refl }
   call_out q (Stuck w) g = λ r. record { out = Stuck w; goes = call_stuck q g; is = refl }
 
-  pub call_leads : {c : C} {b : Tree O T F C} {n : ℕ} {s s1 : S} {ns : List ℕ} {o : Outcome S W (List Item)} → M.enters c s ≡ went ns s1 → Runs M b n s1 o → Leads M (call c b) n s (call_finished (M.leaves c s) ns o)
-  call_leads {c} {b} {n} {s} {ns} q h = subst (λ x. Leads M (call c b) n s (call_finished (M.leaves c s) ns x)) h.is (call_out q h.out h.goes)
+  pub call_leads : {c : C} {b : Tree O T F C} {n : ℕ} {s s1 : S} {ns : List ℕ} {o : Outcome S W (List Item)} → M.enters c s ≡ went ns s1 → Runs M b n s1 o → Leads M (call c b) n s (call_outcome (M.leaves c s) ns o)
+  call_leads {c} {b} {n} {s} {ns} q h = subst (λ x. Leads M (call c b) n s (call_outcome (M.leaves c s) ns x)) h.is (call_out q h.out h.goes)
 
   pub enter_stuck : {c : C} {b : Tree O T F C} {n : ℕ} {s : S} {w : W} → M.enters c s ≡ stuck w → Leads M (call c b) n s (Stuck w)
   enter_stuck {w} q = λ r. record { out = Stuck w; goes = entered_not q; is = refl }

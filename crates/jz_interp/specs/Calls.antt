@@ -7,6 +7,6 @@ use Rattle.jz_scopes.specs.Scopes.{function_named}
 
 -- the function that a call runs, where calls may be so deep: none where the call has an operation
 -- or a condition
-abbrev pub called : List Fun → ℕ → Option BinOp → List ℕ → Option Expr → Option Fun
-called fs (suc depth) None n None = function_named n fs
-called _ _ _ _ _ = None
+abbrev pub called_function : List Fun → ℕ → Option BinOp → List ℕ → Option Expr → Option Fun
+called_function fs (suc depth) None n None = function_named n fs
+called_function _ _ _ _ _ = None

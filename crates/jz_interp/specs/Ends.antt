@@ -22,10 +22,10 @@ use Rattle.jz_interp.specs.declared.ends.RoundsEnd.{RoundsEnd}
 use Rattle.jz_interp.specs.declared.ends.RoundsEnd.TheVariants as rounds_as
 
 -- the outcome of statements, where the code stands in this state at their end
-abbrev pub seen : Result Ran why.Stuck → State → Outcome State why.Stuck (List Item)
-seen (Ok (ran_as.End n is)) s = End s n is
-seen (Ok (ran_as.Cut is)) s = Cut is
-seen (Err k) s = Stuck k
+abbrev pub seen_outcome : Result Ran why.Stuck → State → Outcome State why.Stuck (List Item)
+seen_outcome (Ok (ran_as.End n is)) s = End s n is
+seen_outcome (Ok (ran_as.Cut is)) s = Cut is
+seen_outcome (Err k) s = Stuck k
 
 -- the same of a turn, and of rounds
 abbrev pub turn_seen : Result TurnEnd why.Stuck → State → TurnOutcome State why.Stuck
@@ -41,16 +41,16 @@ rounds_seen (Ok (rounds_as.Cut ls)) s = Cut ls
 rounds_seen (Err k) s = Stuck k
 
 -- the end of a statement by that of its inner run
-abbrev pub wrapped : (List Item → Item) → Ran → Ran
-wrapped f (ran_as.End n is) = ran_as.End n (f is ∷ [])
-wrapped f (ran_as.Cut is) = ran_as.Cut (f is ∷ [])
+abbrev pub wrapped_run : (List Item → Item) → Ran → Ran
+wrapped_run f (ran_as.End n is) = ran_as.End n (f is ∷ [])
+wrapped_run f (ran_as.Cut is) = ran_as.Cut (f is ∷ [])
 
 -- ---- the answer of the code, which stands in the second state then, is the outcome from the first
 -- state on, with n true tests of `while` left: of a piece of a body, of a turn, of the rest of a
 -- turn from its test on, of all rounds
 
 abbrev pub PieceGoes : (Block → Block) → ℕ → State → State → Result Ran why.Stuck → Type 0
-PieceGoes piece n s t r = Leads source piece n s (seen r t)
+PieceGoes piece n s t r = Leads source piece n s (seen_outcome r t)
 
 abbrev pub TurnGoes :
     Block → Condition → Block → ℕ → State → State → Result TurnEnd why.Stuck → Type 0

@@ -17,15 +17,15 @@ abbrev pub values_left : Values → List ℤ
 values_left v = values_between v.down v.next v.end
 
 -- what the code answers of them
-abbrev pub valued : List ℕ → Result Values why.Stuck → Evaluation (List ℤ)
-valued ns (Ok v) = went ns (values_left v)
-valued ns (Err k) = stuck k
+abbrev pub evaluated_values : List ℕ → Result Values why.Stuck → Evaluation (List ℤ)
+evaluated_values ns (Ok v) = went ns (values_left v)
+evaluated_values ns (Err k) = stuck k
 
 -- the values and their numbers behind those before, as the definition gives them
 abbrev pub GivesValues :
     Result Values (Failure why.Stuck) → List ℕ → List ℕ → Evaluation (List ℤ) → Type 0
 GivesValues result before now e =
-    IfAnswered result (λ r. valued now r ≡ numbers_first before e)
+    IfAnswered result (λ r. evaluated_values now r ≡ numbers_first before e)
 
 -- the rounds of each `for` with this counter
 pub record RoundsOf (x : Var) (b : Block) (js : List ℤ) (n : ℕ) (s : State)

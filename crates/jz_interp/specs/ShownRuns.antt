@@ -59,23 +59,23 @@ Leads {O} {T} {F} {C} {S} {W} M piece n s (Stuck w) =
 
 -- what the outcome of an inner run makes of that of its statement: the state afterwards, and the
 -- item of what was leaked inside
-abbrev pub finished_by :
+abbrev pub finished_outcome :
     {S W X : Type 0} → (S → S) → (List X → Item) → Outcome S W (List X) → Outcome S W (List Item)
-finished_by g f (End s n l) = End (g s) n (f l ∷ [])
-finished_by g f (Cut l) = Cut (f l ∷ [])
-finished_by g f (Stuck w) = Stuck w
+finished_outcome g f (End s n l) = End (g s) n (f l ∷ [])
+finished_outcome g f (Cut l) = Cut (f l ∷ [])
+finished_outcome g f (Stuck w) = Stuck w
 
 -- a call whose callee came to its end
-abbrev pub left_with :
+abbrev pub call_left_outcome :
     {S W : Type 0} → List ℕ → ℕ → List Item → Attempt W S → Outcome S W (List Item)
-left_with ns k is (stuck w) = Stuck w
-left_with ns k is (went ms s) = End s k (item.Call ns (record { items = is }) ms ∷ [])
+call_left_outcome ns k is (stuck w) = Stuck w
+call_left_outcome ns k is (went ms s) = End s k (item.Call ns (record { items = is }) ms ∷ [])
 
-abbrev pub call_finished :
+abbrev pub call_outcome :
     {S W : Type 0} → (S → Attempt W S) → List ℕ → Outcome S W (List Item) → Outcome S W (List Item)
-call_finished leave ns (End t k is) = left_with ns k is (leave t)
-call_finished leave ns (Cut is) = Cut (item.Call ns (record { items = is }) [] ∷ [])
-call_finished leave ns (Stuck w) = Stuck w
+call_outcome leave ns (End t k is) = call_left_outcome ns k is (leave t)
+call_outcome leave ns (Cut is) = Cut (item.Call ns (record { items = is }) [] ∷ [])
+call_outcome leave ns (Stuck w) = Stuck w
 
 -- ---- one turn
 

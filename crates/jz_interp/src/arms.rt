@@ -2,7 +2,7 @@
 
 ghost use Rattle.std.specs.Prelude.{◌≡◌, ◌-◌, if◌then◌else◌};
 ghost use Rattle.std.specs.Option.{option_copied};
-ghost use Rattle.jz_interp.specs.Calls.{called};
+ghost use Rattle.jz_interp.specs.Calls.{called_function};
 
 use crate::code::Code;
 use jz_data::{Seq, Text};
@@ -24,7 +24,7 @@ pub fn callee_of<'a>(
     name: &Text,
     cond: &Option<Expr>,
 ) -> Option<&'a Fun>
-    ensures { option_copied result ≡ called code.now.funs.now depth op name.now cond.now }
+    ensures { option_copied result ≡ called_function code.now.funs.now depth op name.now cond.now }
 {
     if depth == 0 {
         return None;

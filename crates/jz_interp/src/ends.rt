@@ -3,7 +3,7 @@
 ghost use Rattle.std.specs.Prelude.{◌≡◌, [], ◌∷◌, IfOk};
 ghost use Rattle.jz_leak.specs.declared.leak.Item.TheVariants as item;
 ghost use Rattle.jz_interp.specs.ShownRuns.{leak_of, turn_of};
-ghost use Rattle.jz_interp.specs.Ends.{wrapped};
+ghost use Rattle.jz_interp.specs.Ends.{wrapped_run};
 
 use jz_data::Seq;
 use jz_leak::{Item, Leak, Turn};
@@ -50,7 +50,7 @@ pub fn end_of_if(
     answer: bool,
     ran: Ran,
 ) -> Result<Ran, AllocError>
-    ensures { IfOk result (λ r. r ≡ wrapped (λ is. item.If numbers answer (leak_of is)) ran) }
+    ensures { IfOk result (λ r. r ≡ wrapped_run (λ is. item.If numbers answer (leak_of is)) ran) }
 {
     match ran {
         Ran::End(left, items) => {

@@ -17,7 +17,7 @@ use Rattle.jz_kinds.specs.Values.{value_typing, single, is_product, product_size
 use Rattle.jz_judgement.specs.Places.{word, unsized}
 use Rattle.jz_judgement.specs.HasType.{Term, Says}
 use Rattle.jz_judgement.specs.Lefts as lefts
-use Rattle.jz_judgement.specs.Lefts.{Wants, Leaves, Holds, Takes, IsFlag, IsProduct, value_of, Values}
+use Rattle.jz_judgement.specs.Lefts.{Wants, Leaves, Holds, Takes, IsFlag, IsProduct, value_term, Values}
 use Rattle.jz_judgement.proofs.Nothing.{one_not, none_not, both, joined, passed, passes, no_sizes, neither_size}
 use Rattle.jz_judgement.proofs.Operations.{if_true, if_false}
 use Rattle.jz_judgement.proofs.LeftSides.{Valued, valued, single_holds, single_right}
@@ -124,21 +124,21 @@ module _ (c d : Lval) (t : Typing) (x : Term) (v : Valued t x) (at : Span) where
 -- ---- all left sides
 two_hold : (c d : Lval) (o : Option BinOp) (e : Expr) (b : Bool) → is_product o e ≡ b
     → (if b then product_of (product_size c d (value_typing o d e)) c d (value_typing o d e) (span_of e) else with_flag c d (value_typing o d e) (span_of e)) ≡ [] → Values (c ∷ d ∷ []) o e
-two_hold c d o e true p h = lefts.product p (product_holds c d (value_typing o d e) (value_of o d e) (valued o d e) (span_of e) h)
-two_hold c d o e false p h = let f = flagged_holds c d (value_typing o d e) (value_of o d e) (valued o d e) (span_of e) h in lefts.flagged p f.0 f.1
+two_hold c d o e true p h = lefts.product p (product_holds c d (value_typing o d e) (value_term o d e) (valued o d e) (span_of e) h)
+two_hold c d o e false p h = let f = flagged_holds c d (value_typing o d e) (value_term o d e) (valued o d e) (span_of e) h in lefts.flagged p f.0 f.1
 
 pub values_hold : (to : List Lval) (o : Option BinOp) (e : Expr) → value_wrong to o e ≡ [] → Values to o e
 values_hold [] o e h = lefts.nothing
-values_hold (d ∷ []) o e h = lefts.one (single_holds (value_typing o d e) (value_of o d e) (valued o d e) d h)
+values_hold (d ∷ []) o e h = lefts.one (single_holds (value_typing o d e) (value_term o d e) (valued o d e) d h)
 values_hold (c ∷ d ∷ []) o e h = two_hold c d o e (is_product o e) refl h
 values_hold (c ∷ d ∷ x ∷ xs) o e h = absurd (one_not (span_of e) [] (both (flat_map (within any_size) (c ∷ d ∷ x ∷ xs)) (span_of e ∷ []) h).1)
 
 pub values_right : (to : List Lval) (o : Option BinOp) (e : Expr) → Values to o e → value_wrong to o e ≡ []
 values_right to o e lefts.nothing = refl
-values_right to o e (lefts.one {d = d} g) = single_right (value_typing o d e) (value_of o d e) (valued o d e) d g
+values_right to o e (lefts.one {d = d} g) = single_right (value_typing o d e) (value_term o d e) (valued o d e) d g
 values_right to o e (lefts.product {h = c} {l = d} p g) =
     if_true (is_product o e) (product_of (product_size c d (value_typing o d e)) c d (value_typing o d e) (span_of e)) (with_flag c d (value_typing o d e) (span_of e)) p
-    ∙ product_right c d (value_typing o d e) (value_of o d e) (valued o d e) (span_of e) g
+    ∙ product_right c d (value_typing o d e) (value_term o d e) (valued o d e) (span_of e) g
 values_right to o e (lefts.flagged {c = c} {d = d} p f g) =
     if_false (is_product o e) (product_of (product_size c d (value_typing o d e)) c d (value_typing o d e) (span_of e)) (with_flag c d (value_typing o d e) (span_of e)) p
-    ∙ flagged_right c d (value_typing o d e) (value_of o d e) (valued o d e) (span_of e) f g
+    ∙ flagged_right c d (value_typing o d e) (value_term o d e) (valued o d e) (span_of e) f g

@@ -34,7 +34,7 @@ use Rattle.jz_kinds.specs.Firsts.{wrong_beside}
 use Rattle.jz_kinds.specs.Typings.{typing}
 use Rattle.jz_kinds.specs.Sides.{left_form, is_skip, within, any_size, takes}
 use Rattle.jz_kinds.specs.Signatures.{Signature, signature}
-use Rattle.jz_kinds.specs.Intrinsics.{role_want, role_size, valued, result_size, argument_size, size_of, argument_wrong, result_wrong, none_more, are_counted, intrinsic_wrong}
+use Rattle.jz_kinds.specs.Intrinsics.{role_want, role_size, value_size, result_size, argument_size, size_of_intrinsic, argument_wrong, result_wrong, none_more, are_counted, intrinsic_wrong}
 use Rattle.jz_kinds.specs.Calls.{is_declared, is_that_array, passed_as, passed_by, passed_wrong, takes_kind, takes_result, given_wrong, is_callee, fits_call, call_wrong, returned_one, none_beyond, returned_wrong}
 use Rattle.jz_kinds.specs.Mismatches.{Named, right_wrong, condition_wrong, mismatched_with, callee_from, callee_where, stmt_wrong, body_wrong, among, mismatched_declared}
 use Rattle.jz_judgement.specs.Places.{integer, truth, word}
@@ -221,7 +221,7 @@ operand_right z r e (inr h) =
 
 -- where no size is known, a value has none
 abbrev Sizeless : Option Size → Role → Lval → Type 0
-Sizeless z r d = z ≡ None → valued r (left_form d).size ≡ None
+Sizeless z r d = z ≡ None → value_size r (left_form d).size ≡ None
 
 output_in : (z : Option Size) (r : Role) (d : Lval) → Sizeless z r d → within (role_size z r) d ≡ [] → takes (role_want z r) d ≡ true → Output z r d
 output_in z role.Flag d n h t = flag d t
@@ -253,17 +253,17 @@ outputs_hold z at (r ∷ rs) [] n l e = (let w : 0 ≡ length (r ∷ rs) = eqb-t
 outputs_hold z at (r ∷ rs) (d ∷ ds) n l e =
     let h = both (result_wrong z at r d) (wrong_beside (result_wrong z at) (within any_size) rs ds) e in
     let parts = both (within (role_size z r) d) (unless (takes (role_want z r) d) at) h.0 in
-    next (output_in z r d (λ q. (neither_size (valued r (left_form d).size) (result_size rs ds) (n q)).0) parts.0 (passed (takes (role_want z r) d) at parts.1))
-    (outputs_hold z at rs ds (λ q. (neither_size (valued r (left_form d).size) (result_size rs ds) (n q)).1) (shorter r d rs ds l) h.1)
+    next (output_in z r d (λ q. (neither_size (value_size r (left_form d).size) (result_size rs ds) (n q)).0) parts.0 (passed (takes (role_want z r) d) at parts.1))
+    (outputs_hold z at rs ds (λ q. (neither_size (value_size r (left_form d).size) (result_size rs ds) (n q)).1) (shorter r d rs ds l) h.1)
 
-no_result_size : (g : Signature) (to : List Lval) (args : List Expr) → size_of g to args ≡ None → result_size g.results to ≡ None
+no_result_size : (g : Signature) (to : List Lval) (args : List Expr) → size_of_intrinsic g to args ≡ None → result_size g.results to ≡ None
 no_result_size g to args e =
     (neither_size (result_size g.results to) (argument_size g.arguments args) (neither_size g.size (or_size (result_size g.results to) (argument_size g.arguments args)) e).1).0
 
 pub instructs_hold : (g : Option Signature) (to : List Lval) (args : List Expr) (at : Span) → intrinsic_wrong g to args at ≡ [] → Instructs g to args
 instructs_hold None to args at h = well.unknown (all_hold (within any_size) IsSound (sound sizes.S8) to h)
 instructs_hold (Some g) to args at h =
-    let z = size_of g to args in
+    let z = size_of_intrinsic g to args in
     let a = both (wrong_beside (result_wrong z at) (within any_size) g.results to ++ unless (are_counted g to args) at) (wrong_beside (argument_wrong z) none_more g.arguments args) h in
     let b = both (wrong_beside (result_wrong z at) (within any_size) g.results to) (unless (are_counted g to args) at) a.0 in
     let c = and_parts (nat_eq (length args) (length g.arguments)) (nat_eq (length to) (length g.results)) (passed (are_counted g to args) at b.1) in
@@ -272,7 +272,7 @@ instructs_hold (Some g) to args at h =
 pub instructs_right : (g : Option Signature) (to : List Lval) (args : List Expr) (at : Span) → Instructs g to args → intrinsic_wrong g to args at ≡ []
 instructs_right g to args at (well.unknown h) = all_right (within any_size) IsSound (sound_so sizes.S8) to h
 instructs_right g to args at (well.instance_of {g = s} rs ps) =
-    let z = size_of s to args in
+    let z = size_of_intrinsic s to args in
     let a = pairs_right (result_wrong z at) (within any_size) (Output z) (output_right z at) s.results to rs in
     let b = pairs_right (argument_wrong z) none_more (Operand z) (operand_right z) s.arguments args ps in
     joined (wrong_beside (result_wrong z at) (within any_size) s.results to ++ unless (are_counted s to args) at) (wrong_beside (argument_wrong z) none_more s.arguments args)

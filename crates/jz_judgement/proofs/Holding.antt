@@ -13,7 +13,7 @@ use Rattle.jz_scopes.specs.Kinds.{known_of, is_inline_int}
 use Rattle.jz_kinds.specs.declared.wants.Form.{Form}
 use Rattle.jz_kinds.specs.declared.wants.Want.{Want}
 use Rattle.jz_kinds.specs.declared.wants.Want.TheVariants as want
-use Rattle.jz_kinds.specs.Wants.{index_want, fits_access, fits_cell, known_size, known_truth, cell_size, own_size, sized}
+use Rattle.jz_kinds.specs.Wants.{index_want, fits_access, fits_cell, known_size, known_truth, cell_size, own_size, form_of_size}
 use Rattle.jz_kinds.specs.Typings.{typing}
 use Rattle.jz_kinds.specs.Sides.{left_form, left_wrong, set_want, within, any_size, takes, has_size}
 use Rattle.jz_judgement.specs.Places.{Place, integer, truth, word, index, unsized}
@@ -102,22 +102,22 @@ takes_own (lval.Store a) b = refl
 
 -- ---- words of a size
 within_wants : (d : Lval) (p : Place) (s : Option Size) → Wants d p → within s d ≡ []
-within_wants d p s w = let f = wanted d p (sized s) w in ap (λ u. left_wrong d u) f.0 ∙ f.1
+within_wants d p s w = let f = wanted d p (form_of_size s) w in ap (λ u. left_wrong d u) f.0 ∙ f.1
 
 pub holds_word : (z : Size) (d : Lval) → within (Some z) d ≡ [] → takes (want.Word z) d ≡ true → Holds (word z) d
-holds_word z d h t = at_choice (chosen d (sized (Some z)) h)
+holds_word z d h t = at_choice (chosen d (form_of_size (Some z)) h)
   where
     at_word : (p : Place) → Worded d p → Holds (word z) d
     at_word p (of_size y e w) = inl (subst (λ u. Wants d (word u)) (takes_size d z y t (wants_size d y w)) w)
 
-    at_choice : Chosen d (sized (Some z)) → Holds (word z) d
+    at_choice : Chosen d (form_of_size (Some z)) → Holds (word z) d
     at_choice (it_wants p w e) = at_word p (wants_word d p w (skip_wordy d (Some z) (want.Word z) refl t))
     at_choice (it_leaves e l) = inr (l (word z) refl)
 
 pub word_holds : (z : Size) (d : Lval) → Holds (word z) d → (within (Some z) d ≡ []) × (takes (want.Word z) d ≡ true)
 word_holds z d (inl w) = (within_wants d (word z) (Some z) w, takes_sized d z (wants_wordy d z w) (ap (λ s. has_size (Some z) s) (wants_size d z w) ∙ same_self z))
 word_holds z d (inr l) =
-    let f = leaving d (word z) (sized (Some z)) l in
+    let f = leaving d (word z) (form_of_size (Some z)) l in
     (ap (λ u. left_wrong d u) f.0 ∙ f.1, takes_sized d z (leaves_wordy d (word z) l) (ap (λ s. has_size (Some z) s) (leaves_size d (word z) l)))
 
 pub holds_size : (z y : Size) (d : Lval) → Holds (word z) d → (left_form d).size ≡ Some y → y ≡ z
@@ -129,17 +129,17 @@ holds_wants z y d (inr l) e = absurd (none_not y (sym (leaves_size d (word z) l)
 
 -- ---- no size
 pub holds_none : (d : Lval) → (left_form d).size ≡ None → within None d ≡ [] → takes want.Unsized d ≡ true → Leaves d unsized
-holds_none d n h t = at_choice (chosen d (sized None) h)
+holds_none d n h t = at_choice (chosen d (form_of_size None) h)
   where
     at_word : (p : Place) → Worded d p → Leaves d unsized
     at_word p (of_size y e w) = absurd (none_not y (sym n ∙ wants_size d y w))
 
-    at_choice : Chosen d (sized None) → Leaves d unsized
+    at_choice : Chosen d (form_of_size None) → Leaves d unsized
     at_choice (it_wants p w e) = at_word p (wants_word d p w (skip_wordy d None want.Unsized refl t))
     at_choice (it_leaves e l) = l unsized refl
 
 pub none_holds : (d : Lval) → Leaves d unsized → (within None d ≡ []) × (takes want.Unsized d ≡ true)
-none_holds d l = let f = leaving d unsized (sized None) l in (ap (λ u. left_wrong d u) f.0 ∙ f.1, takes_own d (leaves_wordy d unsized l))
+none_holds d l = let f = leaving d unsized (form_of_size None) l in (ap (λ u. left_wrong d u) f.0 ∙ f.1, takes_own d (leaves_wordy d unsized l))
 
 -- ---- whatever it is set to
 pub sound : (z : Size) (d : Lval) → within (Some z) d ≡ [] → IsSound d
@@ -147,11 +147,11 @@ sound z (lval.Skip at) h = lefts.nothing
 sound z (lval.Var v) h = lefts.variable
 sound z (lval.Cell v i) h = at_size (cell_size (known_of v)) refl h
   where
-    at_size : (s : Option Size) → cell_size (known_of v) ≡ s → unless (fits_cell s (set_want (sized s) (sized (Some z)))) (out-Var v).span ++ (typing i).wrong index_want ≡ [] → IsSound (lval.Cell v i)
+    at_size : (s : Option Size) → cell_size (known_of v) ≡ s → unless (fits_cell s (set_want (form_of_size s) (form_of_size (Some z)))) (out-Var v).span ++ (typing i).wrong index_want ≡ [] → IsSound (lval.Cell v i)
     at_size None e h = absurd (one_not (out-Var v).span ((typing i).wrong index_want) h)
     at_size (Some y) e h = lefts.cell y (sized_array y (known_of v) e) ((judged_of i).agrees.holds index (both (unless (fits_cell (Some y) (want.Word y)) (out-Var v).span) ((typing i).wrong index_want) h).1)
 sound z (lval.Store a) h =
-    lefts.access ((judged_of (out-Access a).at).agrees.holds index (both (unless (fits_access a.size (set_want (sized a.size) (sized (Some z)))) a.span) ((typing (out-Access a).at).wrong index_want) h).1)
+    lefts.access ((judged_of (out-Access a).at).agrees.holds index (both (unless (fits_access a.size (set_want (form_of_size a.size) (form_of_size (Some z)))) a.span) ((typing (out-Access a).at).wrong index_want) h).1)
 
 sound_variable : (z : Size) (v : Var) → sorts.Sort (known_of v) → within (Some z) (lval.Var v) ≡ []
 sound_variable z v (sorts.an_inline i) = within_wants (lval.Var v) integer (Some z) (lefts.number i)
@@ -183,12 +183,12 @@ flag_so d (lefts.variable {v = v} b) = (within_wants (lval.Var v) truth any_size
 
 -- ---- a word of some size
 pub holds_some : (d : Lval) → within any_size d ≡ [] → takes index_want d ≡ true → (y : Size) × Holds (word y) d
-holds_some d h t = at_choice (chosen d (sized any_size) h)
+holds_some d h t = at_choice (chosen d (form_of_size any_size) h)
   where
     at_word : (p : Place) → Worded d p → (y : Size) × Holds (word y) d
     at_word p (of_size y e w) = (y, inl w)
 
-    at_choice : Chosen d (sized any_size) → (y : Size) × Holds (word y) d
+    at_choice : Chosen d (form_of_size any_size) → (y : Size) × Holds (word y) d
     at_choice (it_wants p w e) = at_word p (wants_word d p w (index_wordy d t))
       where
         index_wordy : (d : Lval) → takes index_want d ≡ true → is_wordy (left_form d) ≡ true

@@ -16,7 +16,7 @@ use Rattle.jz_scopes.specs.Kinds.{Known, known_of, is_inline_int, is_array}
 use Rattle.jz_kinds.specs.declared.wants.Form.{Form}
 use Rattle.jz_kinds.specs.declared.wants.Want.{Want}
 use Rattle.jz_kinds.specs.declared.wants.Want.TheVariants as want
-use Rattle.jz_kinds.specs.Wants.{index_want, fits_int, fits_access, fits_known, fits_cell, known_size, known_truth, cell_size, sized_want, own_want, own_size, sized, var_form}
+use Rattle.jz_kinds.specs.Wants.{index_want, fits_int, fits_access, fits_known, fits_cell, known_size, known_truth, cell_size, sized_want, own_want, own_size, form_of_size, var_form}
 use Rattle.jz_kinds.specs.Typings.{Typing, typing}
 use Rattle.jz_kinds.specs.Sides.{left_form, left_wrong, left_typing, left_span, set_want}
 use Rattle.jz_kinds.specs.Values.{value_typing, single}
@@ -24,7 +24,7 @@ use Rattle.jz_judgement.specs.Places.{Place, integer, truth, word, stated, index
 use Rattle.jz_judgement.specs.HasType as judged
 use Rattle.jz_judgement.specs.HasType.{Term, value, left, result, Says, OperandSays, left_known, is_known, HasType, Accesses, Operates}
 use Rattle.jz_judgement.specs.Lefts as lefts
-use Rattle.jz_judgement.specs.Lefts.{IsBool, Wants, Leaves, Holds, Own, Takes, IsSound, IsFlag, value_of}
+use Rattle.jz_judgement.specs.Lefts.{IsBool, Wants, Leaves, Holds, Own, Takes, IsSound, IsFlag, value_term}
 use Rattle.jz_judgement.specs.Agreement.{want_of}
 use Rattle.jz_judgement.proofs.Nothing.{one_not, none_not, both, joined, passed, passes, number_goes, number_fits, same_self}
 use Rattle.jz_judgement.proofs.Variables.{array_sized, sized_array, word_sized, sized_word}
@@ -117,7 +117,7 @@ pub record Valued (t : Typing) (x : Term) : Type 0 where
   pub agrees : Agrees t (HasType x) (Says x) (is_known x)
   pub apart : IsApart t
 
-pub valued : (o : Option BinOp) (d : Lval) (e : Expr) → Valued (value_typing o d e) (value_of o d e)
+pub valued : (o : Option BinOp) (d : Lval) (e : Expr) → Valued (value_typing o d e) (value_term o d e)
 valued None d e = record { agrees = (judged_of e).agrees; apart = (judged_of e).apart }
 valued (Some o) d e = record {
   agrees = mapped (λ p g. judged.updated g) (updated_from o d e) (λ z s. judged.updated s) (updated_said o d e) (operation_agrees o (left_span d) (left_typing d) (typing e) (left d) (value e) (left_agrees d) (judged_of e).agrees (judged_of e).apart);
@@ -155,8 +155,8 @@ set_fits v w a f = if_false (is_array (known_of v)) [] (unless (fits_known (know
 fits_set : (v : Var) (w : Want) → is_array (known_of v) ≡ false → left_wrong (lval.Var v) w ≡ [] → fits_known (known_of v) w ≡ true
 fits_set v w a h = passed (fits_known (known_of v) w) (out-Var v).span (sym (if_false (is_array (known_of v)) [] (unless (fits_known (known_of v) w) (out-Var v).span) a) ∙ h)
 
-pick_cell : (s : Option Size) (z : Size) (f : Form) → s ≡ Some z → set_want (sized s) f ≡ want.Word z
-pick_cell s z f e = ap (λ c. set_want (sized c) f) e
+pick_cell : (s : Option Size) (z : Size) (f : Form) → s ≡ Some z → set_want (form_of_size s) f ≡ want.Word z
+pick_cell s z f e = ap (λ c. set_want (form_of_size c) f) e
 
 cell_passes : (s : Option Size) (z : Size) → s ≡ Some z → fits_cell s (want.Word z) ≡ true
 cell_passes s z e = ap (λ c. fits_cell c (want.Word z)) e ∙ same_self z
@@ -185,7 +185,7 @@ leaving d p f lefts.nothing = (refl, refl)
 leaving d p f (lefts.array {v = v} a) = (pick_array (known_of v) f a, set_array v (want_of p) a)
 leaving d p f (lefts.number {v = v} n i g) = (pick_number (known_of v) f n i, set_fits v (want_of p) (sorts.other (known_of v) n).array ((sorts.other (known_of v) n).fits (want_of p) ∙ number_fits p g))
 leaving d p f (lefts.access {a = a} {z = z} e h) = (
-  ap (λ c. set_want (sized c) f) e,
+  ap (λ c. set_want (form_of_size c) f) e,
   joined (unless (fits_access a.size (want.Word z)) a.span) ((typing (out-Access a).at).wrong index_want) (passes (fits_access a.size (want.Word z)) a.span (ap (λ c. fits_access c (want.Word z)) e)) ((judged_of (out-Access a).at).agrees.right index h),
 )
 
@@ -204,7 +204,7 @@ chosen_variable v f (sorts.a_number n i) h =
     let same = pick_number (known_of v) f n i in
     it_leaves same (λ p e. lefts.number n i (number_goes p (ap fits_int (sym e) ∙ ap fits_int (sym same) ∙ sym ((sorts.other (known_of v) n).fits (set_want (var_form (known_of v)) f)) ∙ fits)))
 
-chosen_cell : (v : Var) (i : Expr) (f : Form) (s : Option Size) → cell_size (known_of v) ≡ s → unless (fits_cell s (set_want (sized s) f)) (out-Var v).span ++ (typing i).wrong index_want ≡ [] → Chosen (lval.Cell v i) f
+chosen_cell : (v : Var) (i : Expr) (f : Form) (s : Option Size) → cell_size (known_of v) ≡ s → unless (fits_cell s (set_want (form_of_size s) f)) (out-Var v).span ++ (typing i).wrong index_want ≡ [] → Chosen (lval.Cell v i) f
 chosen_cell v i f None e h = absurd (one_not (out-Var v).span ((typing i).wrong index_want) h)
 chosen_cell v i f (Some z) e h =
     it_wants (word z) (lefts.cell (sized_array z (known_of v) e) ((judged_of i).agrees.holds index (both (unless (fits_cell (Some z) (want.Word z)) (out-Var v).span) ((typing i).wrong index_want) h).1))
@@ -217,13 +217,13 @@ only_word (word z) e = (z, refl)
 only_word (stated x) e = absurd (false≢true e)
 only_word unsized e = absurd (false≢true e)
 
-chosen_access : (a : Access) (f : Form) (s : Option Size) → a.size ≡ s → unless (fits_access s (set_want (sized s) f)) a.span ++ (typing (out-Access a).at).wrong index_want ≡ [] → Chosen (lval.Store a) f
+chosen_access : (a : Access) (f : Form) (s : Option Size) → a.size ≡ s → unless (fits_access s (set_want (form_of_size s) f)) a.span ++ (typing (out-Access a).at).wrong index_want ≡ [] → Chosen (lval.Store a) f
 chosen_access a f (Some z) e h =
     it_wants (word z) (lefts.access e ((judged_of (out-Access a).at).agrees.holds index (both (unless (fits_access (Some z) (want.Word z)) a.span) ((typing (out-Access a).at).wrong index_want) h).1))
     (pick_cell a.size z f e)
 chosen_access a f None e h =
     let parts = both (unless (fits_access None (own_want f)) a.span) ((typing (out-Access a).at).wrong index_want) h in
-    it_leaves (ap (λ c. set_want (sized c) f) e)
+    it_leaves (ap (λ c. set_want (form_of_size c) f) e)
     (λ p q. let only = only_word p (ap (λ w. fits_access None w) (sym q) ∙ passed (fits_access None (own_want f)) a.span parts.0) in
     subst (λ r. Leaves (lval.Store a) r) (sym only.1) (lefts.access e ((judged_of (out-Access a).at).agrees.holds index parts.1)))
 

@@ -13,7 +13,7 @@ use Rattle.jz_kinds.specs.declared.operators.Group.TheVariants as group
 use Rattle.jz_kinds.specs.declared.wants.Want.{Want}
 use Rattle.jz_kinds.specs.declared.wants.Want.TheVariants as want
 use Rattle.jz_kinds.specs.Wants.{or_size, sized_want}
-use Rattle.jz_kinds.specs.Operators.{group_of, is_of_words, gives, stops, compared, group_size, is_test, word_or, left_of, right_of, is_word_place, takes_carry, count_want}
+use Rattle.jz_kinds.specs.Operators.{group_of, is_of_words, gives, stops, compared_size, group_size, is_test, word_or, left_of, right_of, is_word_place, takes_carry, count_want}
 use Rattle.jz_kinds.specs.Typings.{Typing, bin_typing}
 use Rattle.jz_judgement.specs.Places.{Place, integer, truth, word, stated, unsized, TakesNumber, TakesCarry, count_place, IsSum}
 use Rattle.jz_judgement.specs.HasType.{Term, Says, OperandSays, first, second, shifted, is_known, Admits, HasType, Operates, arithmetic, carry, shift, integers, words, logic}
@@ -96,8 +96,8 @@ module _ (o : BinOp) (at : Span) (a b : Typing) (x y : Term) (ha : Agrees a (Has
   wrong_in g w =
       unless (gives g w) at
       ++ (if stops g w then [] else
-      b.wrong (right_of g (takes_carry o w && b.form.truth) (compared g a.form.size b.form.size) w)
-      ++ a.wrong (left_of g o both_inline (compared g a.form.size b.form.size) w))
+      b.wrong (right_of g (takes_carry o w && b.form.truth) (compared_size g a.form.size b.form.size) w)
+      ++ a.wrong (left_of g o both_inline (compared_size g a.form.size b.form.size) w))
 
   same_known : both_inline ≡ (is_known y && is_known x)
   same_known = ap₂ (λ c d. c && d) hb.inline ha.inline

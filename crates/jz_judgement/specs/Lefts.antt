@@ -92,15 +92,15 @@ pub data IsProduct : Lval → Lval → Term → Type 0 where
       → IsProduct h l x
 
 -- `e`, or with an operation `d op e`
-abbrev pub value_of : Option BinOp → Lval → Expr → Term
-value_of None d e = value e
-value_of (Some o) d e = result o d e
+abbrev pub value_term : Option BinOp → Lval → Expr → Term
+value_term None d e = value e
+value_term (Some o) d e = result o d e
 
 -- one; a product; or a flag and one
 pub data Values : List Lval → Option BinOp → Expr → Type 0 where
   nothing : {o : Option BinOp} {e : Expr} → Values [] o e
-  one : {d : Lval} {o : Option BinOp} {e : Expr} → Takes d (value_of o d e) → Values (d ∷ []) o e
+  one : {d : Lval} {o : Option BinOp} {e : Expr} → Takes d (value_term o d e) → Values (d ∷ []) o e
   product : {h l : Lval} {o : Option BinOp} {e : Expr} → is_product o e ≡ true
-      → IsProduct h l (value_of o l e) → Values (h ∷ l ∷ []) o e
+      → IsProduct h l (value_term o l e) → Values (h ∷ l ∷ []) o e
   flagged : {c d : Lval} {o : Option BinOp} {e : Expr} → is_product o e ≡ false → IsFlag c
-      → Takes d (value_of o d e) → Values (c ∷ d ∷ []) o e
+      → Takes d (value_term o d e) → Values (c ∷ d ∷ []) o e

@@ -24,7 +24,7 @@ use Rattle.jz_scopes.specs.Parts.{Layer, layer_of, statements_of}
 use Rattle.jz_kinds.specs.declared.signatures.Role.{Role}
 use Rattle.jz_kinds.specs.declared.signatures.Role.TheVariants as role
 use Rattle.jz_kinds.specs.Signatures.{Signature, signature}
-use Rattle.jz_kinds.specs.Intrinsics.{size_of}
+use Rattle.jz_kinds.specs.Intrinsics.{size_of_intrinsic}
 use Rattle.jz_kinds.specs.Calls.{is_declared, is_callee}
 use Rattle.jz_kinds.specs.Mismatches.{Named, callee_from, among}
 use Rattle.jz_judgement.specs.Places.{Place, integer, truth, word, index, unsized}
@@ -100,8 +100,8 @@ Output z role.Byte d = Holds (word sizes.S8) d
 pub data Instructs : Option Signature → List Lval → List Expr → Type 0 where
   unknown : {to : List Lval} {args : List Expr} → All IsSound to → Instructs None to args
   instance_of : {g : Signature} {to : List Lval} {args : List Expr}
-      → InPairs (Output (size_of g to args)) g.results to
-      → InPairs (Operand (size_of g to args)) g.arguments args
+      → InPairs (Output (size_of_intrinsic g to args)) g.results to
+      → InPairs (Operand (size_of_intrinsic g to args)) g.arguments args
       → Instructs (Some g) to args
 
 -- ---- statements

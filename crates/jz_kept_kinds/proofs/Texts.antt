@@ -15,7 +15,7 @@ use Rattle.jz_tree.specs.declared.stmt.StmtKind.TheFolds.{fold-StmtKind, fold-ro
 use Rattle.jz_tree.specs.declared.program.Fun.{Fun}
 use Rattle.jz_runs.specs.Trees.{done}
 use Rattle.jz_scopes.specs.Scopes.{function_named}
-use Rattle.jz_scopes.specs.Parts.{layer_of, nested, nested_step, statements_in, statements_of}
+use Rattle.jz_scopes.specs.Parts.{layer_of, nested_statements, nested_step, statements_in, statements_of}
 use Rattle.jz_meaning.specs.Statements.{Block}
 use Rattle.jz_meaning.specs.Runs.{Callee, Callees, in_order, call_tree, instruction_tree, assign_tree, kind_tree, statement_tree, block, with_tree, callees_of}
 use Rattle.jz_kept_kinds.specs.Kinds.{Kinds}
@@ -104,11 +104,11 @@ module _ (of : Fun → Kinds) (fs : List Fun) (callees : Callees) (ready : AreRe
   abbrev mapped : Parts → StmtKind-F (Span → Block → Block) (Block → Block)
   mapped y = map-StmtKind _ _ (Span → Block → Block) (Block → Block) kind_of (statement_tree callees) (bare y)
 
-  rows : (ss : List ((s : Stmt) × StmtLaw s)) → All Said (nested (map pair (firsts ss))) → Before (in_order (map (statement_tree callees) (firsts ss)))
+  rows : (ss : List ((s : Stmt) × StmtLaw s)) → All Said (nested_statements (map pair (firsts ss))) → Before (in_order (map (statement_tree callees) (firsts ss)))
   unfolding pair
   rows [] h r b = b
   rows (s ∷ ss) h r b =
-      let p = parted Said (statements_in s.0) (nested (map pair (firsts ss))) h in
+      let p = parted Said (statements_in s.0) (nested_statements (map pair (firsts ss))) h in
       s.1 p.0 (in_order (map (statement_tree callees) (firsts ss)) r) (rows ss p.1 r b)
 
   -- ---- assignments
@@ -138,11 +138,11 @@ module _ (of : Fun → Kinds) (fs : List Fun) (callees : Callees) (ready : AreRe
   unfolding pairs
   layer_law (StmtKind-F.Assign to o from c) h d at r b = assigned to o from c at d.0 d.1 r b
   layer_law (StmtKind-F.If c x y) h d at r b =
-      let p = parted Said (nested (map pair (firsts x))) (nested (map pair (firsts y))) h in
+      let p = parted Said (nested_statements (map pair (firsts x))) (nested_statements (map pair (firsts y))) h in
       (rows x p.0 done tt, rows y p.1 done tt, b)
   layer_law (StmtKind-F.While p c None) h d at r b = (rows p h done tt, tt, b)
   layer_law (StmtKind-F.While p c (Some x)) h d at r b =
-      let q = parted Said (nested (map pair (firsts p))) (nested (map pair (firsts x))) h in
+      let q = parted Said (nested_statements (map pair (firsts p))) (nested_statements (map pair (firsts x))) h in
       (rows p q.0 done tt, rows x q.1 done tt, b)
   layer_law (StmtKind-F.For i from down to x) h d at r b = (d, rows x h done tt, b)
   layer_law (StmtKind-F.Mark xs) h d at r b = (tt, b)

@@ -22,9 +22,9 @@ use Rattle.jz_kinds.specs.declared.wants.Want.{Want}
 use Rattle.jz_kinds.specs.declared.wants.Want.TheVariants as want
 use Rattle.jz_kinds.specs.declared.wants.Form.{Form}
 use Rattle.jz_kinds.specs.Wants.{fits_truth, fits_word, fits_access, fits_cell, cell_size, cast_want, index_want}
-use Rattle.jz_kinds.specs.Operators.{group_of, gives, stops, compared, left_of, right_of, takes_carry}
+use Rattle.jz_kinds.specs.Operators.{group_of, gives, stops, compared_size, left_of, right_of, takes_carry}
 use Rattle.jz_kinds.specs.Typings.{Typing, typing, typing_of_access, typing_step, access_typing, neg_form, left_want, right_want}
-use Rattle.jz_kinds.specs.InnerFound.{Found, found, found_in_access, found_step, access_found, left_inline}
+use Rattle.jz_kinds.specs.InnerFound.{Found, found_of, found_in_access, found_step, access_found, left_inline}
 
 -- both say the same
 pub record IsSame (t : Typing) (f : Found) : Type 0 where
@@ -32,7 +32,7 @@ pub record IsSame (t : Typing) (f : Found) : Type 0 where
   pub first : (w : Want) → f.first f.form.inline w ≡ earliest (t.wrong w)
 
 abbrev ExprLaw : Expr → Type 0
-ExprLaw e = IsSame (typing e) (found e)
+ExprLaw e = IsSame (typing e) (found_of e)
 
 abbrev AccessLaw : Access → Type 0
 AccessLaw a = IsSame (typing_of_access a) (found_in_access a)
@@ -116,14 +116,14 @@ BinSame o at a b f g = IsSame (typing_step (Expr-F.Bin o a b at)) (found_step (E
 
 bin_operands : (o : BinOp) (a b : Typing) (p q : Bool → Want → Option Span) (w : Want) → Finds a a.form p → Finds b b.form q
     → earlier
-    (q b.form.inline (right_of (group_of o) (takes_carry o w && b.form.truth) (compared (group_of o) a.form.size b.form.size) w))
-    (p (left_inline (b.form.inline && a.form.inline) a.form.inline b.form.inline) (left_of (group_of o) o (b.form.inline && a.form.inline) (compared (group_of o) a.form.size b.form.size) w))
+    (q b.form.inline (right_of (group_of o) (takes_carry o w && b.form.truth) (compared_size (group_of o) a.form.size b.form.size) w))
+    (p (left_inline (b.form.inline && a.form.inline) a.form.inline b.form.inline) (left_of (group_of o) o (b.form.inline && a.form.inline) (compared_size (group_of o) a.form.size b.form.size) w))
     ≡ earliest (b.wrong (right_want o a.form b.form w) ++ a.wrong (left_want o a.form b.form w))
 bin_operands o a b p q w ha hb =
     subst
     (λ i. earlier
-    (q b.form.inline (right_of (group_of o) (takes_carry o w && b.form.truth) (compared (group_of o) a.form.size b.form.size) w))
-    (p i (left_of (group_of o) o (b.form.inline && a.form.inline) (compared (group_of o) a.form.size b.form.size) w))
+    (q b.form.inline (right_of (group_of o) (takes_carry o w && b.form.truth) (compared_size (group_of o) a.form.size b.form.size) w))
+    (p i (left_of (group_of o) o (b.form.inline && a.form.inline) (compared_size (group_of o) a.form.size b.form.size) w))
     ≡ earliest (b.wrong (right_want o a.form b.form w) ++ a.wrong (left_want o a.form b.form w)))
     (sym (left_is a.form.inline b.form.inline))
     (two (b.wrong (right_want o a.form b.form w)) (a.wrong (left_want o a.form b.form w)) _ _ (hb (right_want o a.form b.form w)) (ha (left_want o a.form b.form w)))
@@ -148,7 +148,7 @@ abbrev typed_layer : Expr-F Expr Ty Access Decl Var → Typing
 typed_layer x = typing_step (map-Expr _ _ _ _ _ Typing Kind Typing Declared (Known × Span) typing ty_typed typing_of_access decl_typed var_typed x)
 
 abbrev found_layer : Expr-F Expr Ty Access Decl Var → Found
-found_layer x = found_step (map-Expr _ _ _ _ _ Found Kind Found Declared (Known × Span) found ty_found found_in_access decl_found var_found x)
+found_layer x = found_step (map-Expr _ _ _ _ _ Found Kind Found Declared (Known × Span) found_of ty_found found_in_access decl_found var_found x)
 
 layer_same : (y : Proved) → IsSame (typed_layer (bare y)) (found_layer (bare y))
 layer_same (Expr-F.Num n at) = record { form = refl; first = λ w. refl }
@@ -163,7 +163,7 @@ layer_same (Expr-F.Bin o a b at) = bin_same o at _ _ _ _ a.1 b.1
 
 expr_case : (y : Proved) → ExprLaw (roll-Expr (bare y))
 expr_case y =
-    subst (λ t. IsSame t (found (roll-Expr (bare y)))) (sym (fold-roll-Expr Typing Kind Typing Declared (Known × Span) typing_step kind_step access_typing declared_step (λ v. (v.decl, v.span)) (bare y)))
+    subst (λ t. IsSame t (found_of (roll-Expr (bare y)))) (sym (fold-roll-Expr Typing Kind Typing Declared (Known × Span) typing_step kind_step access_typing declared_step (λ v. (v.decl, v.span)) (bare y)))
     (subst (λ f. IsSame (typed_layer (bare y)) f) (sym (fold-roll-Expr Found Kind Found Declared (Known × Span) found_step kind_step access_found declared_step (λ v. (v.decl, v.span)) (bare y))) (layer_same y))
 
 access_case : (y : Access-F ((e : Expr) × ExprLaw e) ((t : Ty) × TyLaw t) ((a : Access) × AccessLaw a) ((d : Decl) × DeclLaw d) ((v : Var) × VarLaw v))
@@ -184,7 +184,7 @@ ty_case y =
   where
     kinds : (x : Ty-F Expr Ty Access Decl Var)
         → kind_step (map-Ty _ _ _ _ _ Typing Kind Typing Declared (Known × Span) typing ty_typed typing_of_access decl_typed var_typed x)
-        ≡ kind_step (map-Ty _ _ _ _ _ Found Kind Found Declared (Known × Span) found ty_found found_in_access decl_found var_found x)
+        ≡ kind_step (map-Ty _ _ _ _ _ Found Kind Found Declared (Known × Span) found_of ty_found found_in_access decl_found var_found x)
     kinds Ty-F.Int = refl
     kinds Ty-F.Ty::Bool = refl
     kinds (Ty-F.Word z) = refl
@@ -214,7 +214,7 @@ abbrev typed_named : Var-F Expr Ty Access Decl Var → Known × Span
 typed_named x = named (map-Var _ _ _ _ _ Typing Kind Typing Declared (Known × Span) typing ty_typed typing_of_access decl_typed var_typed x)
 
 abbrev found_named : Var-F Expr Ty Access Decl Var → Known × Span
-found_named x = named (map-Var _ _ _ _ _ Found Kind Found Declared (Known × Span) found ty_found found_in_access decl_found var_found x)
+found_named x = named (map-Var _ _ _ _ _ Found Kind Found Declared (Known × Span) found_of ty_found found_in_access decl_found var_found x)
 
 named_same : (y : VarProved) → typed_named (bare_var y) ≡ found_named (bare_var y)
 named_same y = elim y.decl as (λ d. typed_named (bare_var (record y { decl = d })) ≡ found_named (bare_var (record y { decl = d }))) [ None ↦ refl | Some d ↦ ap (λ z. (Some z, y.span)) d.1 ]
@@ -225,7 +225,7 @@ var_case y =
     ∙ named_same y
     ∙ sym (fold-roll-Var Found Kind Found Declared (Known × Span) found_step kind_step access_found declared_step (λ v. (v.decl, v.span)) (bare_var y))
 
-pub same : (e : Expr) → IsSame (typing e) (found e)
+pub same : (e : Expr) → IsSame (typing e) (found_of e)
 same =
     ind-Expr ExprLaw TyLaw AccessLaw DeclLaw VarLaw
     (λ x y is. subst (λ z. ExprLaw (roll-Expr z)) is (expr_case y))
@@ -234,8 +234,8 @@ same =
     (λ x y is. subst (λ z. DeclLaw (roll-Decl z)) is (decl_case y))
     (λ x y is. subst (λ z. VarLaw (roll-Var z)) is (var_case y))
 
-pub same_form : (e : Expr) → (found e).form ≡ (typing e).form
+pub same_form : (e : Expr) → (found_of e).form ≡ (typing e).form
 same_form e = (same e).form
 
-pub same_first : (e : Expr) (w : Want) → (found e).first (found e).form.inline w ≡ earliest ((typing e).wrong w)
+pub same_first : (e : Expr) (w : Want) → (found_of e).first (found_of e).form.inline w ≡ earliest ((typing e).wrong w)
 same_first e w = (same e).first w

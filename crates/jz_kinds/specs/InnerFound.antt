@@ -14,8 +14,8 @@ use Rattle.jz_scopes.specs.Kinds.{Known, kind_step, declared_step}
 use Rattle.jz_kinds.specs.declared.wants.Want.{Want}
 use Rattle.jz_kinds.specs.declared.wants.Want.TheVariants as want
 use Rattle.jz_kinds.specs.declared.wants.Form.{Form}
-use Rattle.jz_kinds.specs.Wants.{fits_int, fits_truth, fits_word, fits_access, fits_known, fits_cell, cell_size, cast_want, index_want, sized, number_form, bool_form, var_form}
-use Rattle.jz_kinds.specs.Operators.{group_of, gives, stops, compared, bin_form, left_of}
+use Rattle.jz_kinds.specs.Wants.{fits_int, fits_truth, fits_word, fits_access, fits_known, fits_cell, cell_size, cast_want, index_want, form_of_size, number_form, bool_form, var_form}
+use Rattle.jz_kinds.specs.Operators.{group_of, gives, stops, compared_size, bin_form, left_of}
 use Rattle.jz_kinds.specs.Typings.{neg_form, right_want}
 
 -- what it is by itself, and its earliest wrong place: by whether it is inline, which is known on
@@ -36,7 +36,7 @@ bin_first o a b at k w =
         (b.first b.form.inline (right_want o a.form b.form w))
         (a.first
             (left_inline k a.form.inline b.form.inline)
-            (left_of (group_of o) o k (compared (group_of o) a.form.size b.form.size) w)))
+            (left_of (group_of o) o k (compared_size (group_of o) a.form.size b.form.size) w)))
 
 abbrev pub cell_first : Known → Span → Found → Want → Option Span
 cell_first v at i w =
@@ -52,7 +52,7 @@ access_first a k w =
         (a.at.first a.at.form.inline index_want)
 
 abbrev pub access_found : AccessLayer → Found
-access_found a = record { form = sized a.size; first = access_first a }
+access_found a = record { form = form_of_size a.size; first = access_first a }
 
 abbrev pub neg_first : Found → Span → Bool → Want → Option Span
 neg_first a at k w =
@@ -74,16 +74,16 @@ found_step (Expr-F.Expr::Bool b at) =
 found_step (Expr-F.Var v) =
     record { form = var_form v.0; first = λ k w. earliest (unless (fits_known v.0 w) v.1) }
 found_step (Expr-F.Cell v i) =
-    record { form = sized (cell_size v.0); first = λ k w. cell_first v.0 v.1 i w }
+    record { form = form_of_size (cell_size v.0); first = λ k w. cell_first v.0 v.1 i w }
 found_step (Expr-F.Load a) = a
 found_step (Expr-F.Neg a at) = record { form = neg_form a.form; first = neg_first a at }
 found_step (Expr-F.Not a at) = a
-found_step (Expr-F.Cast z s a at) = record { form = sized (Some z); first = cast_first z a at }
+found_step (Expr-F.Cast z s a at) = record { form = form_of_size (Some z); first = cast_first z a at }
 found_step (Expr-F.Bin o a b at) =
     record { form = bin_form (group_of o) a.form b.form; first = bin_first o a b at }
 
-abbrev pub found : Expr → Found
-found =
+abbrev pub found_of : Expr → Found
+found_of =
     fold-Expr Found Kind Found Declared (Known × Span)
         found_step kind_step access_found declared_step (λ v. (v.decl, v.span))
 

@@ -27,15 +27,15 @@ role_want z role.Condition = want.Truth
 role_want z role.Address = index_want
 role_want z role.Byte = want.Word sizes.S8
 
-abbrev pub valued : Role → Option Size → Option Size
-valued role.Value z = z
-valued _ z = None
+abbrev pub value_size : Role → Option Size → Option Size
+value_size role.Value z = z
+value_size _ z = None
 
 -- the size of the first left side that is a value
 abbrev pub result_size : List Role → List Lval → Option Size
 result_size rs [] = None
 result_size [] (d ∷ ds) = None
-result_size (r ∷ rs) (d ∷ ds) = or_size (valued r (left_form d).size) (result_size rs ds)
+result_size (r ∷ rs) (d ∷ ds) = or_size (value_size r (left_form d).size) (result_size rs ds)
 
 abbrev pub is_value : Role → Bool
 is_value role.Value = true
@@ -50,8 +50,8 @@ argument_size (r ∷ rs) (e ∷ es) =
 
 -- the size of an intrinsic: that of its name, else of its value, else of the first argument that is
 -- a word
-abbrev pub size_of : Signature → List Lval → List Expr → Option Size
-size_of g to args =
+abbrev pub size_of_intrinsic : Signature → List Lval → List Expr → Option Size
+size_of_intrinsic g to args =
     or_size g.size (or_size (result_size g.results to) (argument_size g.arguments args))
 
 -- of an array another rule speaks
@@ -81,7 +81,7 @@ instance_wrong z g to args at =
 
 -- with the size that it has
 abbrev pub signature_wrong : Signature → List Lval → List Expr → Span → List Span
-signature_wrong g to args at = instance_wrong (size_of g to args) g to args at
+signature_wrong g to args at = instance_wrong (size_of_intrinsic g to args) g to args at
 
 -- an unknown intrinsic is told by another rule; its arguments are asked nothing
 abbrev pub intrinsic_wrong : Option Signature → List Lval → List Expr → Span → List Span

@@ -60,9 +60,9 @@ stops group.Shift w = fits_truth w
 stops group.Arith w = fits_truth w
 
 -- the size that the operands of a comparison share, that of the left one where it has one
-abbrev pub compared : Group → Option Size → Option Size → Option Size
-compared group.Compare a b = or_size a b
-compared _ a b = None
+abbrev pub compared_size : Group → Option Size → Option Size → Option Size
+compared_size group.Compare a b = or_size a b
+compared_size _ a b = None
 
 abbrev pub group_size : Group → Option Size → Option Size → Option Size
 group_size group.Shift a b = a

@@ -12,7 +12,7 @@ use Rattle.jz_scopes.specs.Kinds.{known_of, is_array, same_size}
 use Rattle.jz_kinds.specs.declared.wants.Want.{Want}
 use Rattle.jz_kinds.specs.declared.wants.Want.TheVariants as want
 use Rattle.jz_kinds.specs.declared.wants.Form.{Form}
-use Rattle.jz_kinds.specs.Wants.{fits_known, fits_access, cell_size, sized_want, index_want, no_form, sized, var_form, own_want}
+use Rattle.jz_kinds.specs.Wants.{fits_known, fits_access, cell_size, sized_want, index_want, no_form, form_of_size, var_form, own_want}
 use Rattle.jz_kinds.specs.Typings.{Typing, typing, cell_wrong}
 
 abbrev pub is_skip : Lval → Bool
@@ -23,8 +23,8 @@ is_skip _ = false
 abbrev pub left_form : Lval → Form
 left_form (lval.Skip at) = no_form
 left_form (lval.Var v) = var_form (known_of v)
-left_form (lval.Cell v i) = sized (cell_size (known_of v))
-left_form (lval.Store a) = sized a.size
+left_form (lval.Cell v i) = form_of_size (cell_size (known_of v))
+left_form (lval.Store a) = form_of_size a.size
 
 -- nothing is asked of `_`, nor of an array as a whole, of which another rule speaks
 abbrev pub left_wrong : Lval → Want → List Span
@@ -54,7 +54,7 @@ set_want d f =
 
 -- what is wrong within a left side that is set to a word of that size
 abbrev pub within : Option Size → Lval → List Span
-within z d = left_wrong d (set_want (left_form d) (sized z))
+within z d = left_wrong d (set_want (left_form d) (form_of_size z))
 
 -- the same, whatever it is set to
 abbrev pub any_size : Option Size

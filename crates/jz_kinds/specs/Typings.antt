@@ -14,8 +14,8 @@ use Rattle.jz_scopes.specs.Kinds.{Known, kind_step, declared_step}
 use Rattle.jz_kinds.specs.declared.wants.Want.{Want}
 use Rattle.jz_kinds.specs.declared.wants.Want.TheVariants as want
 use Rattle.jz_kinds.specs.declared.wants.Form.{Form}
-use Rattle.jz_kinds.specs.Wants.{fits_int, fits_truth, fits_word, fits_access, fits_known, fits_cell, cell_size, cast_want, index_want, sized, number_form, bool_form, var_form}
-use Rattle.jz_kinds.specs.Operators.{group_of, gives, stops, compared, bin_form, left_of, right_of, takes_carry}
+use Rattle.jz_kinds.specs.Wants.{fits_int, fits_truth, fits_word, fits_access, fits_known, fits_cell, cell_size, cast_want, index_want, form_of_size, number_form, bool_form, var_form}
+use Rattle.jz_kinds.specs.Operators.{group_of, gives, stops, compared_size, bin_form, left_of, right_of, takes_carry}
 
 -- what an expression is by itself, and its wrong places by what its own place wants
 pub record Typing : Type 0 where
@@ -25,11 +25,11 @@ pub record Typing : Type 0 where
 -- ---- operations
 abbrev pub left_want : BinOp → Form → Form → Want → Want
 left_want o a b w =
-    left_of (group_of o) o (b.inline && a.inline) (compared (group_of o) a.size b.size) w
+    left_of (group_of o) o (b.inline && a.inline) (compared_size (group_of o) a.size b.size) w
 
 abbrev pub right_want : BinOp → Form → Form → Want → Want
 right_want o a b w =
-    right_of (group_of o) (takes_carry o w && b.truth) (compared (group_of o) a.size b.size) w
+    right_of (group_of o) (takes_carry o w && b.truth) (compared_size (group_of o) a.size b.size) w
 
 -- a and b are the operands, at is the first token
 abbrev pub bin_wrong : BinOp → Typing → Typing → Span → Want → List Span
@@ -50,7 +50,7 @@ abbrev pub cell_wrong : Known → Span → Typing → Want → List Span
 cell_wrong k at i w = unless (fits_cell (cell_size k) w) at ++ i.wrong index_want
 
 abbrev pub cell_typing : Known → Span → Typing → Typing
-cell_typing k at i = record { form = sized (cell_size k); wrong = cell_wrong k at i }
+cell_typing k at i = record { form = form_of_size (cell_size k); wrong = cell_wrong k at i }
 
 abbrev pub AccessLayer : Type 0
 AccessLayer = Access-F Typing Kind Typing Declared (Known × Span)
@@ -59,7 +59,7 @@ abbrev pub access_wrong : AccessLayer → Want → List Span
 access_wrong a w = unless (fits_access a.size w) a.span ++ a.at.wrong index_want
 
 abbrev pub access_typing : AccessLayer → Typing
-access_typing a = record { form = sized a.size; wrong = access_wrong a }
+access_typing a = record { form = form_of_size a.size; wrong = access_wrong a }
 
 abbrev pub neg_form : Form → Form
 neg_form f = record { size = f.size; truth = false; inline = f.inline }
@@ -79,7 +79,7 @@ typing_step (Expr-F.Cell v i) = cell_typing v.0 v.1 i
 typing_step (Expr-F.Load a) = a
 typing_step (Expr-F.Neg a at) = record { form = neg_form a.form; wrong = neg_wrong a at }
 typing_step (Expr-F.Not a at) = a
-typing_step (Expr-F.Cast z s a at) = record { form = sized (Some z); wrong = cast_wrong z a at }
+typing_step (Expr-F.Cast z s a at) = record { form = form_of_size (Some z); wrong = cast_wrong z a at }
 typing_step (Expr-F.Bin o a b at) = bin_typing o a b at
 
 abbrev pub typing : Expr → Typing

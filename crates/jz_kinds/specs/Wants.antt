@@ -102,8 +102,8 @@ own_size None = want.Unsized
 abbrev pub no_form : Form
 no_form = record { size = None; truth = false; inline = false }
 
-abbrev pub sized : Option Size → Form
-sized z = record { size = z; truth = false; inline = false }
+abbrev pub form_of_size : Option Size → Form
+form_of_size z = record { size = z; truth = false; inline = false }
 
 -- of a number, and of a bool that is written
 abbrev pub number_form : Form

@@ -3,7 +3,7 @@
 ghost use Rattle.std.specs.Prelude.{◌≡◌, Option};
 ghost use Rattle.jz_words.specs.declared.size.Size.{Size};
 ghost use Rattle.jz_kinds.specs.Wants.{or_size};
-ghost use Rattle.jz_kinds.specs.InnerFound.{found};
+ghost use Rattle.jz_kinds.specs.InnerFound.{found_of};
 ghost use Rattle.jz_kinds.specs.Worded.{is_worded};
 
 use crate::operators::{Group, group_of};
@@ -28,7 +28,7 @@ pub(crate) fn or(a: Option<Size>, b: Option<Size>) -> Option<Size>
 /// serves where the left has none.
 #[tactic(auto, using(crate::proofs::OrSizes::or_sizes))]
 pub(crate) fn size(e: &Expr) -> Option<Size>
-    ensures { result ≡ (found e.now).form.size }
+    ensures { result ≡ (found_of e.now).form.size }
 {
     let mut rest = None;
     let mut cur = e;
@@ -92,7 +92,7 @@ pub(crate) fn worded(e: &Expr) -> bool
 
 /// Whether an expression is a bool.
 pub(crate) fn truth(e: &Expr) -> bool
-    ensures { result ≡ (found e.now).form.truth }
+    ensures { result ≡ (found_of e.now).form.truth }
 {
     let mut cur = e;
     loop {
@@ -115,7 +115,7 @@ pub(crate) fn truth(e: &Expr) -> bool
 
 /// Whether the value of an expression is known when the text is compiled.
 pub(crate) fn inline(e: &Expr) -> bool
-    ensures { result ≡ (found e.now).form.inline }
+    ensures { result ≡ (found_of e.now).form.inline }
 {
     let mut cur = e;
     loop {

@@ -5,7 +5,7 @@ ghost use Rattle.jz_scopes.specs.Order.{earliest};
 ghost use Rattle.jz_kinds.specs.InnerFound.{first_beside};
 ghost use Rattle.jz_kinds.specs.Sides.{within, any_size};
 ghost use Rattle.jz_kinds.specs.Signatures.{signature, instance_signature};
-ghost use Rattle.jz_kinds.specs.Intrinsics.{role_want, valued, is_value, result_size, argument_size, size_of, argument_wrong, role_size, result_wrong, none_more, are_counted, signature_wrong, intrinsic_wrong};
+ghost use Rattle.jz_kinds.specs.Intrinsics.{role_want, value_size, is_value, result_size, argument_size, size_of_intrinsic, argument_wrong, role_size, result_wrong, none_more, are_counted, signature_wrong, intrinsic_wrong};
 
 use crate::forms::{or, worded};
 use crate::sides::{left_form, takes, within, within_any};
@@ -31,7 +31,7 @@ fn role_want(size: Option<Size>, role: Role) -> Want
 }
 
 fn valued(role: Role, size: Option<Size>) -> Option<Size>
-    ensures { result ≡ valued role size }
+    ensures { result ≡ value_size role size }
 {
     match role {
         Role::Value => size,
@@ -83,7 +83,7 @@ fn argument_size(roles: &[Role], args: &[Expr]) -> Option<Size>
 }
 
 fn size_of(instance: Instance, to: &Seq<Lval>, args: &Seq<Expr>) -> Option<Size>
-    ensures { result ≡ size_of (instance_signature instance) to.now args.now }
+    ensures { result ≡ size_of_intrinsic (instance_signature instance) to.now args.now }
 {
     let given = result_size(results_of(instance.name), to.as_slice());
     let taken = argument_size(operands_of(instance.name), args.as_slice());

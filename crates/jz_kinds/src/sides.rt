@@ -2,7 +2,7 @@
 
 ghost use Rattle.std.specs.Prelude.{◌≡◌};
 ghost use Rattle.jz_scopes.specs.Order.{earliest};
-ghost use Rattle.jz_kinds.specs.Wants.{own_want, sized};
+ghost use Rattle.jz_kinds.specs.Wants.{own_want, form_of_size};
 ghost use Rattle.jz_kinds.specs.Sides.{left_form, left_wrong, left_span, set_want, within, any_size, is_skip, has_size, takes_form, takes, takes_word};
 
 use crate::walk::fault;
@@ -15,7 +15,7 @@ use jz_tree::Lval;
 use jz_words::Size;
 
 fn of_size(size: Option<Size>) -> Form
-    ensures { result ≡ sized size }
+    ensures { result ≡ form_of_size size }
 {
     Form {
         size,

@@ -2,7 +2,7 @@
 
 ghost use Rattle.std.specs.Prelude.{◌≡◌, Some};
 ghost use Rattle.jz_scopes.specs.Order.{earliest, first_in};
-ghost use Rattle.jz_kinds.specs.Operators.{bin_form, compared, group_size};
+ghost use Rattle.jz_kinds.specs.Operators.{bin_form, compared_size, group_size};
 ghost use Rattle.jz_kinds.specs.Typings.{left_want, right_want};
 ghost use Rattle.jz_kinds.specs.Sides.{within, any_size};
 ghost use Rattle.jz_kinds.specs.Values.{value_typing, single, is_product, is_mul, product_size, product_wrong, flag_wrong, value_wrong};
@@ -19,7 +19,7 @@ use jz_tree::{BinOp, Expr, Lval};
 use jz_words::Size;
 
 fn compared(group: Group, a: Option<Size>, b: Option<Size>) -> Option<Size>
-    ensures { result ≡ compared group a b }
+    ensures { result ≡ compared_size group a b }
 {
     match group {
         Group::Compare => or(a, b),

@@ -1,8 +1,8 @@
 //! The first wrong place of an expression.
 
 ghost use Rattle.std.specs.Prelude.{◌≡◌};
-ghost use Rattle.jz_kinds.specs.InnerFound.{found, left_inline as left_inline_of};
-ghost use Rattle.jz_kinds.specs.Operators.{compared};
+ghost use Rattle.jz_kinds.specs.InnerFound.{found_of, left_inline as left_inline_of};
+ghost use Rattle.jz_kinds.specs.Operators.{compared_size};
 ghost use Rattle.jz_kinds.specs.Typings.{typing};
 ghost use Rattle.jz_scopes.specs.Order.{earliest};
 
@@ -18,7 +18,7 @@ use jz_tree::Expr;
 use jz_words::Size;
 
 fn compared(group: Group, a: &Expr, b: &Expr) -> Option<Size>
-    ensures { result ≡ compared group (found a.now).form.size (found b.now).form.size }
+    ensures { result ≡ compared_size group (found_of a.now).form.size (found_of b.now).form.size }
 {
     match group {
         Group::Compare => or(size(a), size(b)),
@@ -29,7 +29,7 @@ fn compared(group: Group, a: &Expr, b: &Expr) -> Option<Size>
 /// Asks the left operand only where nothing is known of it, so that a long left side is not asked
 /// again at each operator.
 fn left_inline(whole: bool, a: &Expr, b: &Expr) -> bool
-    ensures { result ≡ left_inline_of whole (found a.now).form.inline (found b.now).form.inline }
+    ensures { result ≡ left_inline_of whole (found_of a.now).form.inline (found_of b.now).form.inline }
 {
     if whole {
         return true;
@@ -42,7 +42,7 @@ fn left_inline(whole: bool, a: &Expr, b: &Expr) -> bool
 
 /// The first place whose type is not what is wanted, by a loop down the left side.
 pub(crate) fn first(e: &Expr, e_inline: bool, want: Want) -> Option<Span>
-    ensures { result ≡ (found e.now).first e_inline want }
+    ensures { result ≡ (found_of e.now).first e_inline want }
 {
     let mut best = None;
     let mut cur = e;

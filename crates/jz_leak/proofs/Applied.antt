@@ -1,4 +1,4 @@
--- The walk over what is shown of a leak that fits a transformer is what the transformer makes of the leak.
+-- The walk over what is shown_walk of a leak that fits a transformer is what the transformer makes of the leak.
 use Rattle.std.proofs.Common.{◌≡◌, ℕ, Bool, true, false, if◌then◌else◌, List, [], ◌∷◌, ◌++◌, refl, sym, ap, ◌∙◌, append_assoc, append-nil}
 use Rattle.std.specs.Prelude.{map}
 use Rattle.jz_leak.specs.declared.event.Event.{Event}
@@ -18,7 +18,7 @@ use Rattle.jz_leak.specs.declared.walk.Reach.TheVariants.{End, Stop}
 use Rattle.jz_leak.specs.RunLeaks.{Leak, over, ran, chose, chose_cut, looped, looped_cut, each, each_cut, called, called_cut, Turns, left, turn, prologue_cut, wanted, body_cut, Rounds, no_round, round, round_cut}
 use Rattle.jz_leak.specs.Applying.{Layer, Loop, events_for, is_cut, is_cut_in_turns, is_cut_in_rounds, op_events, if_events, while_events, for_events, call_events, begun_call_events, body_events, turns_events, rounds_events, apply_of, OpFits, IfFits, WhileFits, ForFits, CallFits, BegunCallFits, CasesFit, TurnsFit, RoundsFit, Fits}
 use Rattle.jz_leak.specs.Shown.{items_of, turns_of, rounds_of, shown_of}
-use Rattle.jz_leak.specs.InnerWalks.{Walk, done, stopped, shown, ◌▹◌, Adds, layer_walk, item_step, leak_step, turn_step, item_walk, leak_walk, turn_walk, walk_in_step, turns_walk}
+use Rattle.jz_leak.specs.InnerWalks.{Walk, done, stopped_walk, shown_walk, ◌▹◌, Adds, layer_walk, item_step, leak_step, turn_step, item_walk, leak_walk, turn_walk, walk_in_step, turns_walk}
 use Rattle.jz_leak.proofs.Walking.{op_walk, if_walk, while_walk, for_walk, call_walk, leak_walk_is, turn_walk_is}
 
 -- how far a walk comes
@@ -52,9 +52,9 @@ if_made : (rsp0 : ℕ) (ns : List ℕ) (z : Bool) (arm : Tr → Walk) (ArmFits :
     → ((t : Tr) → ArmFits t.cases → arm t ≡ made (events t.cases) cut) → IfFits ns z ArmFits c
     → layer_walk rsp0 (Item-F.If ns z arm) c ≡ made (if_events rsp0 ns z events c) cut
 if_made rsp0 ns true arm ArmFits events cut (Case-F.If test then_outs then_tr else_outs else_tr) known h =
-    ap (λ w. shown (events_for ns rsp0 test) ▹ (shown (events_for ns rsp0 then_outs) ▹ w)) (known then_tr h.3)
+    ap (λ w. shown_walk (events_for ns rsp0 test) ▹ (shown_walk (events_for ns rsp0 then_outs) ▹ w)) (known then_tr h.3)
 if_made rsp0 ns false arm ArmFits events cut (Case-F.If test then_outs then_tr else_outs else_tr) known h =
-    ap (λ w. shown (events_for ns rsp0 test) ▹ (shown (events_for ns rsp0 else_outs) ▹ w)) (known else_tr h.3)
+    ap (λ w. shown_walk (events_for ns rsp0 test) ▹ (shown_walk (events_for ns rsp0 else_outs) ▹ w)) (known else_tr h.3)
 if_made rsp0 ns z arm ArmFits events cut _ known h = absurd h
 
 while_made : (rsp0 : ℕ) (turns : List (Loop → Walk)) (AllFit : Loop → Type 0) (events : Loop → List Event) (cut : Bool) (c : Layer)
@@ -73,14 +73,14 @@ call_made : (rsp0 : ℕ) (ns ms : List ℕ) (callee : Tr → Walk) (CalleeFits :
     → ((t : Tr) → CalleeFits t.cases → callee t ≡ made (events t.cases) false) → CallFits ns ms CalleeFits c
     → layer_walk rsp0 (Item-F.Call ns callee ms) c ≡ made (call_events rsp0 ns ms events c) false
 call_made rsp0 ns ms callee CalleeFits events (Case-F.Call arguments body results) known h =
-    ap (λ w. (shown (events_for ns rsp0 arguments) ▹ w) ▹ shown (events_for ms rsp0 results)) (known body h.1)
+    ap (λ w. (shown_walk (events_for ns rsp0 arguments) ▹ w) ▹ shown_walk (events_for ms rsp0 results)) (known body h.1)
 call_made rsp0 ns ms callee CalleeFits events _ known h = absurd h
 
 begun_call_made : (rsp0 : ℕ) (ns : List ℕ) (callee : Tr → Walk) (CalleeFits : List Case → Type 0) (events : List Case → List Event) (c : Layer)
     → ((t : Tr) → CalleeFits t.cases → callee t ≡ made (events t.cases) true) → BegunCallFits ns CalleeFits c
     → layer_walk rsp0 (Item-F.Call ns callee []) c ≡ made (begun_call_events rsp0 ns events c) true
 begun_call_made rsp0 ns callee CalleeFits events (Case-F.Call arguments body results) known h =
-    ap (λ w. (shown (events_for ns rsp0 arguments) ▹ w) ▹ shown (events_for [] rsp0 results)) (known body h.1)
+    ap (λ w. (shown_walk (events_for ns rsp0 arguments) ▹ w) ▹ shown_walk (events_for [] rsp0 results)) (known body h.1)
     ∙ same_events _ _ Stop (append-nil (events_for ns rsp0 arguments ++ events body.cases))
 begun_call_made rsp0 ns callee CalleeFits events _ known h = absurd h
 
@@ -89,13 +89,13 @@ begun_call_made rsp0 ns callee CalleeFits events _ known h = absurd h
 turn_parts : (rsp0 : ℕ) (p b : List Item) (ns : List ℕ) (z : Bool) (loop : Loop) (v w : Walk)
     → leak_walk rsp0 (record { items = p }) loop.prologue ≡ v → leak_walk rsp0 (record { items = b }) loop.body ≡ w
     → turn_walk rsp0 (record { prologue = record { items = p }; numbers = ns; more = z; body = record { items = b } }) loop
-    ≡ v ▹ (shown (events_for ns rsp0 loop.test) ▹ (if z then shown (events_for ns rsp0 loop.more_outs) ▹ w else shown (events_for ns rsp0 loop.leave_outs)))
+    ≡ v ▹ (shown_walk (events_for ns rsp0 loop.test) ▹ (if z then shown_walk (events_for ns rsp0 loop.more_outs) ▹ w else shown_walk (events_for ns rsp0 loop.leave_outs)))
 turn_parts rsp0 p b ns z loop v w e f =
     turn_walk_is rsp0 (record { prologue = record { items = p }; numbers = ns; more = z; body = record { items = b } }) loop
-    ∙ ap (λ x. x ▹ (shown (events_for ns rsp0 loop.test) ▹ (if z then shown (events_for ns rsp0 loop.more_outs) ▹ leak_walk rsp0 (record { items = b }) loop.body else shown (events_for ns rsp0 loop.leave_outs)))) e
-    ∙ ap (λ y. v ▹ (shown (events_for ns rsp0 loop.test) ▹ (if z then shown (events_for ns rsp0 loop.more_outs) ▹ y else shown (events_for ns rsp0 loop.leave_outs)))) f
+    ∙ ap (λ x. x ▹ (shown_walk (events_for ns rsp0 loop.test) ▹ (if z then shown_walk (events_for ns rsp0 loop.more_outs) ▹ leak_walk rsp0 (record { items = b }) loop.body else shown_walk (events_for ns rsp0 loop.leave_outs)))) e
+    ∙ ap (λ y. v ▹ (shown_walk (events_for ns rsp0 loop.test) ▹ (if z then shown_walk (events_for ns rsp0 loop.more_outs) ▹ y else shown_walk (events_for ns rsp0 loop.leave_outs)))) f
 
-cut_at_once : (rsp0 : ℕ) (cs : List Case) → walk_in_step (map (item_walk rsp0) (item.Cut ∷ [])) cs ≡ stopped
+cut_at_once : (rsp0 : ℕ) (cs : List Case) → walk_in_step (map (item_walk rsp0) (item.Cut ∷ [])) cs ≡ stopped_walk
 cut_at_once rsp0 [] = refl
 cut_at_once rsp0 (c ∷ cs) =
     ap (λ w. w ▹ done)
@@ -195,7 +195,7 @@ mutual
   rounds_applied (round_cut a) rsp0 (t ∷ ts) h = last_made _ _ (tree_made a rsp0 t true h.0 (items_applied a rsp0 t.cases h.1))
 
 -- ---- what `apply` meets
--- the walk over a body, where what is shown is a leak that fits
+-- the walk over a body, where what is shown_walk is a leak that fits
 body_applied : (tr : Transformer) (leak : ShownLeak) (rsp0 : ℕ) (l : Leak) → shown_of l ≡ leak → Fits tr l → leak_walk rsp0 leak tr.body ≡ made (body_events l rsp0 tr.body.cases) (is_cut l)
 body_applied tr leak rsp0 l e f = ap (λ x. leak_walk rsp0 x tr.body) (sym e) ∙ leak_walk_is rsp0 (items_of l) tr.body ∙ items_applied l rsp0 tr.body.cases f.body
 

@@ -26,18 +26,18 @@ pub record Walk : Type 0 where
 abbrev pub done : Walk
 done = record { events = []; reach = End }
 
--- nothing was shown, and nothing follows
-abbrev pub stopped : Walk
-stopped = record { events = []; reach = Stop }
+-- nothing was shown_walk, and nothing follows
+abbrev pub stopped_walk : Walk
+stopped_walk = record { events = []; reach = Stop }
 
 -- a list of events
-abbrev pub shown : List Event → Walk
-shown es = record { events = es; reach = End }
+abbrev pub shown_walk : List Event → Walk
+shown_walk es = record { events = es; reach = End }
 
 -- what is left of a walk behind one that came so far
 abbrev pub behind : Reach → Walk → Walk
 behind End w = w
-behind Stop w = stopped
+behind Stop w = stopped_walk
 
 infixr 5 ◌▹◌
 -- one walk behind another
@@ -47,7 +47,7 @@ a ▹ b = record { events = a.events ++ (behind a.reach b).events; reach = (behi
 -- items and their cases, or rounds and their trees, one after another
 abbrev pub walk_in_step : {A : Type 0} → List (A → Walk) → List A → Walk
 walk_in_step [] xs = done
-walk_in_step (f ∷ fs) [] = stopped
+walk_in_step (f ∷ fs) [] = stopped_walk
 walk_in_step (f ∷ fs) (x ∷ xs) = f x ▹ walk_in_step fs xs
 
 -- one turn after another, each with the same parts
@@ -58,11 +58,11 @@ turns_walk (f ∷ fs) loop = f loop ▹ turns_walk fs loop
 module _ (rsp0 : ℕ) where
   -- one item with its case
   abbrev pub layer_walk : Item-F (Case → Walk) (Tr → Walk) (Loop → Walk) → Layer → Walk
-  layer_walk (Item-F.Op ns) (Case-F.Op outs) = shown (events_for ns rsp0 outs)
+  layer_walk (Item-F.Op ns) (Case-F.Op outs) = shown_walk (events_for ns rsp0 outs)
   layer_walk (Item-F.If ns answer arm) (Case-F.If test then_outs then_tr else_outs else_tr) =
-      shown (events_for ns rsp0 test)
-      ▹ (if answer then shown (events_for ns rsp0 then_outs) ▹ arm then_tr
-      else (shown (events_for ns rsp0 else_outs) ▹ arm else_tr))
+      shown_walk (events_for ns rsp0 test)
+      ▹ (if answer then shown_walk (events_for ns rsp0 then_outs) ▹ arm then_tr
+      else (shown_walk (events_for ns rsp0 else_outs) ▹ arm else_tr))
   layer_walk (Item-F.While turns) (Case-F.While prologue test more_outs body leave_outs) =
       turns_walk turns
       (record {
@@ -74,8 +74,8 @@ module _ (rsp0 : ℕ) where
       })
   layer_walk (Item-F.For rounds) (Case-F.For trs) = walk_in_step rounds trs
   layer_walk (Item-F.Call ns callee ms) (Case-F.Call arguments body results) =
-      (shown (events_for ns rsp0 arguments) ▹ callee body) ▹ shown (events_for ms rsp0 results)
-  layer_walk _ _ = stopped
+      (shown_walk (events_for ns rsp0 arguments) ▹ callee body) ▹ shown_walk (events_for ms rsp0 results)
+  layer_walk _ _ = stopped_walk
 
   abbrev pub item_step : Item-F (Case → Walk) (Tr → Walk) (Loop → Walk) → Case → Walk
   item_step i c = layer_walk i (out-Case c)
@@ -86,9 +86,9 @@ module _ (rsp0 : ℕ) where
   abbrev pub turn_step : Turn-F (Case → Walk) (Tr → Walk) (Loop → Walk) → Loop → Walk
   turn_step t loop =
       t.prologue loop.prologue
-      ▹ (shown (events_for t.numbers rsp0 loop.test)
-      ▹ (if t.more then shown (events_for t.numbers rsp0 loop.more_outs) ▹ t.body loop.body
-      else shown (events_for t.numbers rsp0 loop.leave_outs)))
+      ▹ (shown_walk (events_for t.numbers rsp0 loop.test)
+      ▹ (if t.more then shown_walk (events_for t.numbers rsp0 loop.more_outs) ▹ t.body loop.body
+      else shown_walk (events_for t.numbers rsp0 loop.leave_outs)))
 
   abbrev pub item_walk : Item → Case → Walk
   item_walk = fold-Item _ _ _ item_step leak_step turn_step
@@ -101,7 +101,7 @@ module _ (rsp0 : ℕ) where
 
   -- the events of a list, and then those of a leak
   abbrev pub arm_walk : List ℕ → List Out → Leak → Tr → Walk
-  arm_walk ns outs l t = shown (events_for ns rsp0 outs) ▹ leak_walk l t
+  arm_walk ns outs l t = shown_walk (events_for ns rsp0 outs) ▹ leak_walk l t
 
   -- an `if`, by its numbers, its answer and the leak of its arm
   abbrev pub choice_walk : List ℕ → Bool → Leak → Case → Walk

@@ -4,7 +4,7 @@ use Rattle.std.specs.List.{All, list_all}
 use Rattle.std.specs.Char.{is_ascii_alphabetic, is_ascii_digit}
 use Rattle.std.proofs.lemmas.List.Elements.{All-nil, All-cons, All-append}
 use Rattle.std.proofs.lemmas.Bool.{and_parts, or_left, or_right}
-use Rattle.jz_lex.specs.LexingWords.{begins_word, in_word, kind_of}
+use Rattle.jz_lex.specs.LexingWords.{begins_word, in_word, kind_of_word}
 use Rattle.jz_lex.specs.Lexing.{Part, Skipped, Lexeme, first_place, after, UpTo, IsLexed}
 use Rattle.jz_lex.specs.Identifiers.{IsIdentifier, IsSpelled}
 use Rattle.jz_io.specs.declared.span.Span.{Span}
@@ -14,7 +14,7 @@ use Rattle.jz_lex.proofs.LexingWords.{or_true}
 use Rattle.jz_lex.proofs.LexingFront.{kind_cases}
 
 -- ---- tokens
-word_is : (w s : List ℕ) → kind_of w ≡ kind.Ident s → IsIdentifier s
+word_is : (w s : List ℕ) → kind_of_word w ≡ kind.Ident s → IsIdentifier s
 word_is w s e = kind_cases (λ k. k ≡ kind.Ident s → IsIdentifier s) w
     (λ f h. absurd (let no : ⊥ = cc in no))
     (λ f g h. let same : w ≡ s = cc in subst IsIdentifier same (f, g))
@@ -29,7 +29,7 @@ all_spelled s text [] ts e rest u = subst (All IsSpelled) (sym u.2) (All-nil IsS
 all_spelled s text (Skipped w ∷ ps) ts e rest u = all_spelled (after s w) u.0 ps ts e rest u.3
 all_spelled s text (Lexeme w ∷ ps) ts e rest u =
     subst (All IsSpelled) (sym u.6)
-    (All-cons IsSpelled (record { kind = kind_of w; span = s }) u.1 (word_is w) (all_spelled (after s w) u.0 ps u.1 e rest u.7))
+    (All-cons IsSpelled (record { kind = kind_of_word w; span = s }) u.1 (word_is w) (all_spelled (after s w) u.0 ps u.1 e rest u.7))
 
 pub tokens_spelled : (text : List ℕ) (tokens : List Token) → IsLexed text tokens → All IsSpelled tokens
 tokens_spelled text tokens x =

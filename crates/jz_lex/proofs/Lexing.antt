@@ -1,6 +1,6 @@
 -- Parts of a text, one after the other.
 use Rattle.std.proofs.Common.{◌≡◌, ℕ, ◌<◌, ◌≤◌, List, [], ◌∷◌, ◌++◌, length, true, false, refl, sym, ap, ap₂, ◌∙◌, subst, arith, length-append}
-use Rattle.jz_lex.specs.LexingWords.{is_lexeme, kind_of}
+use Rattle.jz_lex.specs.LexingWords.{is_lexeme, kind_of_word}
 use Rattle.jz_lex.specs.Lexing.{begins_comment, IsSkipped, Longest, is_no_number, Part, Skipped, Lexeme, first_place, after, UpTo, IsLexed, HasNoToken}
 use Rattle.jz_lex.specs.LexingFront.{shape_of, IsFront}
 use Rattle.jz_io.specs.declared.span.Span.{Span}
@@ -24,12 +24,12 @@ skipped_more s text (Skipped v ∷ ps) ts e rest w more u f h = (u.0, u.1, u.2, 
 skipped_more s text (Lexeme v ∷ ps) ts e rest w more u f h = (u.0, u.1, u.2, u.3, u.4, u.5, u.6, skipped_more (after s v) u.0 ps u.1 e rest w more u.7 f h)
 
 -- one more lexeme
-lexeme_more : (s : Span) (text : List ℕ) (ps : List Part) (ts : List Token) (e : Span) (rest w more : List ℕ) → UpTo s text ps ts e rest → rest ≡ w ++ more → begins_comment rest ≡ false → Longest w more → is_no_number w more ≡ false → UpTo s text (ps ++ Lexeme w ∷ []) (ts ++ record { kind = kind_of w; span = e } ∷ []) (after e w) more
+lexeme_more : (s : Span) (text : List ℕ) (ps : List Part) (ts : List Token) (e : Span) (rest w more : List ℕ) → UpTo s text ps ts e rest → rest ≡ w ++ more → begins_comment rest ≡ false → Longest w more → is_no_number w more ≡ false → UpTo s text (ps ++ Lexeme w ∷ []) (ts ++ record { kind = kind_of_word w; span = e } ∷ []) (after e w) more
 lexeme_more s text [] ts e rest w more u f c l n =
-    (more, [], u.0 ∙ f, ap begins_comment u.0 ∙ c, l, n, ap₂ (λ x y. x ++ record { kind = kind_of w; span = y } ∷ []) u.2 (sym u.1), (refl, ap (λ z. after z w) u.1, refl))
+    (more, [], u.0 ∙ f, ap begins_comment u.0 ∙ c, l, n, ap₂ (λ x y. x ++ record { kind = kind_of_word w; span = y } ∷ []) u.2 (sym u.1), (refl, ap (λ z. after z w) u.1, refl))
 lexeme_more s text (Skipped v ∷ ps) ts e rest w more u f c l n = (u.0, u.1, u.2, lexeme_more (after s v) u.0 ps ts e rest w more u.3 f c l n)
 lexeme_more s text (Lexeme v ∷ ps) ts e rest w more u f c l n =
-    (u.0, u.1 ++ record { kind = kind_of w; span = e } ∷ [], u.2, u.3, u.4, u.5, ap (λ z. z ++ record { kind = kind_of w; span = e } ∷ []) u.6, lexeme_more (after s v) u.0 ps u.1 e rest w more u.7 f c l n)
+    (u.0, u.1 ++ record { kind = kind_of_word w; span = e } ∷ [], u.2, u.3, u.4, u.5, ap (λ z. z ++ record { kind = kind_of_word w; span = e } ∷ []) u.6, lexeme_more (after s v) u.0 ps u.1 e rest w more u.7 f c l n)
 
 pub skipped_step : (text : List ℕ) (ts : List Token) (e : Span) (rest w more : List ℕ) (n : ℕ) → Until text ts e rest → IsFront rest (front.Skipped n) → rest ≡ w ++ more → length w ≡ n → Until text ts (after e w) more
 skipped_step text ts e rest w more n u p f l =
@@ -48,7 +48,7 @@ lexeme_is rest w more s n p f l =
 pub lexeme_here : (rest w more : List ℕ) (s : Shape) (n : ℕ) → IsFront rest (front.Lexeme s n) → rest ≡ w ++ more → length w ≡ n → (is_lexeme w [] ≡ true) × (shape_of w ≡ s)
 lexeme_here rest w more s n p f l = let q = lexeme_is rest w more s n p f l in (lexeme_alone w more q.0.0, q.2)
 
-pub lexeme_step : (text : List ℕ) (ts : List Token) (e : Span) (rest w more : List ℕ) (s : Shape) (n : ℕ) → Until text ts e rest → IsFront rest (front.Lexeme s n) → rest ≡ w ++ more → length w ≡ n → Until text (ts ++ record { kind = kind_of w; span = e } ∷ []) (after e w) more
+pub lexeme_step : (text : List ℕ) (ts : List Token) (e : Span) (rest w more : List ℕ) (s : Shape) (n : ℕ) → Until text ts e rest → IsFront rest (front.Lexeme s n) → rest ≡ w ++ more → length w ≡ n → Until text (ts ++ record { kind = kind_of_word w; span = e } ∷ []) (after e w) more
 lexeme_step text ts e rest w more s n u p f l =
     let q = lexeme_is rest w more s n p f l in
     (u.0 ++ Lexeme w ∷ [], lexeme_more first_place text u.0 ts e rest w more u.1 f p.4 q.0 q.1)

@@ -7,7 +7,7 @@ use mir.Val.{to_z, of_z}
 use mir.Syntax.{w128}
 use Rattle.std.specs.Char.{is_ascii_alphabetic}
 use Rattle.std.proofs.lemmas.Bool.{and_parts, or_left, or_right}
-use Rattle.jz_lex.specs.LexingWords.{keywords, casts, signs, suffixed_signs, is_among, heads, begins_word, in_word, is_digit, is_word, is_numeral, in_string, inner, is_string, is_sign, is_lexeme, value_of, word_kind, cast_kind, kind_of}
+use Rattle.jz_lex.specs.LexingWords.{keywords, casts, signs, suffixed_signs, is_among, heads, begins_word, in_word, is_digit, is_word, is_numeral, in_string, inner, is_string, is_sign, is_lexeme, value_of_numeral, word_kind, cast_kind, kind_of_word}
 use Rattle.jz_lex.specs.Lexing.{is_blank, begins_comment, Longest, is_no_number, HasNone}
 use Rattle.jz_lex.specs.LexingFront.{kept_number, first_of, sign_of, string_length, numeral_length, shape_of, IsFront}
 use Rattle.jz_lex.specs.declared.token.TokenKind.{TokenKind}
@@ -46,7 +46,7 @@ word_shape : (w : List ℕ) → is_word w ≡ true → (is_numeral w ≡ false) 
 word_shape [] h = cc
 word_shape (b ∷ bs) h = (not_numeral b bs (false_if (is_digit b) (λ i. apart b _ (word_head b bs h).0 i)), rw h refl)
 
-numeral_shape : (w : List ℕ) → is_numeral w ≡ true → shape_of w ≡ shape.Number (pos (value_of w))
+numeral_shape : (w : List ℕ) → is_numeral w ≡ true → shape_of w ≡ shape.Number (pos (value_of_numeral w))
 numeral_shape [] h = cc
 numeral_shape (b ∷ bs) h = rw (not_word b bs (word_no_digit b (numeral_head b bs h)), h) refl
 
@@ -237,7 +237,7 @@ numeral_here text w more h c e l =
 pub letter_part : (text w more : List ℕ) → heads is_digit text ≡ true → FindsNoCast text → text ≡ w ++ more → length w ≡ numeral_length text → heads is_ascii_alphabetic more ≡ true → HasNone BadNumber text
 letter_part text w more h c e l a =
     let q = numeral_here text w more h c e l in
-    (w, more, e, q.0, rw q.1 (or_left (heads is_ascii_alphabetic more) (not (nat_lt (value_of w) (2 ^ 127))) a))
+    (w, more, e, q.0, rw q.1 (or_left (heads is_ascii_alphabetic more) (not (nat_lt (value_of_numeral w) (2 ^ 127))) a))
 
 kept_none : (n : ℕ) → kept_number n ≡ None → nat_lt n (2 ^ 127) ≡ false
 kept_none n h = false_if (nat_lt n (2 ^ 127)) (λ i. let e = sym h ∙ if_true (nat_lt n (2 ^ 127)) (Some (pos n)) None i in some_none (pos n) (sym e))
@@ -256,16 +256,16 @@ kept_some n z h = by_cases _ (nat_lt n (2 ^ 127))
     none : (z : ℤ) → ◌≡◌ {A = Option ℤ} None (Some z) → ⊥
     none z e = cc
 
-pub large_part : (text w more : List ℕ) → heads is_digit text ≡ true → FindsNoCast text → text ≡ w ++ more → length w ≡ numeral_length text → kept_number (value_of w) ≡ None → HasNone BadNumber text
+pub large_part : (text w more : List ℕ) → heads is_digit text ≡ true → FindsNoCast text → text ≡ w ++ more → length w ≡ numeral_length text → kept_number (value_of_numeral w) ≡ None → HasNone BadNumber text
 large_part text w more h c e l a =
     let q = numeral_here text w more h c e l in
-    let t : not (nat_lt (value_of w) (2 ^ 127)) ≡ true = ap not (kept_none (value_of w) a) in
-    (w, more, e, q.0, rw q.1 (or_right (heads is_ascii_alphabetic more) (not (nat_lt (value_of w) (2 ^ 127))) t))
+    let t : not (nat_lt (value_of_numeral w) (2 ^ 127)) ≡ true = ap not (kept_none (value_of_numeral w) a) in
+    (w, more, e, q.0, rw q.1 (or_right (heads is_ascii_alphabetic more) (not (nat_lt (value_of_numeral w) (2 ^ 127))) t))
 
-pub number_part : (text w more : List ℕ) (z : ℤ) → heads is_digit text ≡ true → FindsNoCast text → text ≡ w ++ more → length w ≡ numeral_length text → heads is_ascii_alphabetic more ≡ false → kept_number (value_of w) ≡ Some z → IsFront text (front.Lexeme (shape.Number z) (numeral_length text))
+pub number_part : (text w more : List ℕ) (z : ℤ) → heads is_digit text ≡ true → FindsNoCast text → text ≡ w ++ more → length w ≡ numeral_length text → heads is_ascii_alphabetic more ≡ false → kept_number (value_of_numeral w) ≡ Some z → IsFront text (front.Lexeme (shape.Number z) (numeral_length text))
 number_part text w more z h c e l a k =
     let q = numeral_here text w more h c e l in
-    let v = kept_some (value_of w) z k in
+    let v = kept_some (value_of_numeral w) z k in
     let n : is_no_number w more ≡ false = rw q.1 (rw a (rw v.0 refl)) in
     (w, more, e, l, digit_no_slash text h, q.0, n, numeral_shape w q.1 ∙ ap (λ y. shape.Number y) v.1)
 
@@ -285,12 +285,12 @@ number_fits text h c = let q = number_stands text h (no_cast text (is_none (firs
 
 -- ---- what a shape tells
 abbrev shape_by : Bool → Bool → Bool → Bool → List ℕ → Shape
-shape_by a b c d w = if a then shape.Word else if b then shape.Number (pos (value_of w)) else if c then shape.Cast else if d then shape.Str else shape.Sign
+shape_by a b c d w = if a then shape.Word else if b then shape.Number (pos (value_of_numeral w)) else if c then shape.Cast else if d then shape.Str else shape.Sign
 
 abbrev kind_by : Bool → Bool → Bool → Bool → List ℕ → TokenKind
-kind_by a b c d w = if a then word_kind w else if b then Num (pos (value_of w)) else if c then cast_kind w else if d then Str (inner w) else Sign w
+kind_by a b c d w = if a then word_kind w else if b then Num (pos (value_of_numeral w)) else if c then cast_kind w else if d then Str (inner w) else Sign w
 
-pub shape_word : (w : List ℕ) → shape_of w ≡ shape.Word → (is_word w ≡ true) × (kind_of w ≡ word_kind w)
+pub shape_word : (w : List ℕ) → shape_of w ≡ shape.Word → (is_word w ≡ true) × (kind_of_word w ≡ word_kind w)
 shape_word w h = go (is_word w) (is_numeral w) (is_among casts w) (is_string w) h
   where
     go : (a b c d : Bool) → shape_by a b c d w ≡ shape.Word → (a ≡ true) × (kind_by a b c d w ≡ word_kind w)
@@ -300,7 +300,7 @@ shape_word w h = go (is_word w) (is_numeral w) (is_among casts w) (is_string w) 
     go false false false true e = cc
     go false false false false e = cc
 
-pub shape_number : (w : List ℕ) (n : ℤ) → shape_of w ≡ shape.Number n → kind_of w ≡ Num n
+pub shape_number : (w : List ℕ) (n : ℤ) → shape_of w ≡ shape.Number n → kind_of_word w ≡ Num n
 shape_number w n h = go (is_word w) (is_numeral w) (is_among casts w) (is_string w) h
   where
     go : (a b c d : Bool) → shape_by a b c d w ≡ shape.Number n → kind_by a b c d w ≡ Num n
@@ -310,7 +310,7 @@ shape_number w n h = go (is_word w) (is_numeral w) (is_among casts w) (is_string
     go false false false true e = cc
     go false false false false e = cc
 
-pub shape_cast : (w : List ℕ) → shape_of w ≡ shape.Cast → kind_of w ≡ cast_kind w
+pub shape_cast : (w : List ℕ) → shape_of w ≡ shape.Cast → kind_of_word w ≡ cast_kind w
 shape_cast w h = go (is_word w) (is_numeral w) (is_among casts w) (is_string w) h
   where
     go : (a b c d : Bool) → shape_by a b c d w ≡ shape.Cast → kind_by a b c d w ≡ cast_kind w
@@ -320,7 +320,7 @@ shape_cast w h = go (is_word w) (is_numeral w) (is_among casts w) (is_string w) 
     go false false false true e = cc
     go false false false false e = cc
 
-pub shape_string : (w : List ℕ) → shape_of w ≡ shape.Str → (2 ≤ length w) × (kind_of w ≡ Str (inner w))
+pub shape_string : (w : List ℕ) → shape_of w ≡ shape.Str → (2 ≤ length w) × (kind_of_word w ≡ Str (inner w))
 shape_string w h = let p = go (is_word w) (is_numeral w) (is_among casts w) (is_string w) h in (omega (arith, ap length (string_is w p.0).0, length-append (inner w) (34 ∷ [])), p.1)
   where
     go : (a b c d : Bool) → shape_by a b c d w ≡ shape.Str → (d ≡ true) × (kind_by a b c d w ≡ Str (inner w))
@@ -330,7 +330,7 @@ shape_string w h = let p = go (is_word w) (is_numeral w) (is_among casts w) (is_
     go false false false true e = (refl, refl)
     go false false false false e = cc
 
-pub shape_sign : (w more : List ℕ) → is_lexeme w more ≡ true → shape_of w ≡ shape.Sign → (is_sign w more ≡ true) × (kind_of w ≡ Sign w)
+pub shape_sign : (w more : List ℕ) → is_lexeme w more ≡ true → shape_of w ≡ shape.Sign → (is_sign w more ≡ true) × (kind_of_word w ≡ Sign w)
 shape_sign w more l h = go (is_word w) (is_numeral w) (is_among casts w) (is_string w) (is_sign w more) l h
   where
     go : (a b c d s : Bool) → (a || b || c || d || s) ≡ true → shape_by a b c d w ≡ shape.Sign → (s ≡ true) × (kind_by a b c d w ≡ Sign w)
@@ -341,13 +341,13 @@ shape_sign w more l h = go (is_word w) (is_numeral w) (is_among casts w) (is_str
     go false false false false s l e = (l, refl)
 
 -- the token of a lexeme is of one of six kinds
-pub kind_cases : (P : TokenKind → Type 0) (w : List ℕ) → (is_word w ≡ true → P (Keyword w)) → (is_word w ≡ true → is_among keywords w ≡ false → P (Ident w)) → ((n : ℤ) → P (Num n)) → ((s : Size) (g : Bool) → P (Cast s g)) → ((bs : List ℕ) → P (Str bs)) → P (Sign w) → P (kind_of w)
+pub kind_cases : (P : TokenKind → Type 0) (w : List ℕ) → (is_word w ≡ true → P (Keyword w)) → (is_word w ≡ true → is_among keywords w ≡ false → P (Ident w)) → ((n : ℤ) → P (Num n)) → ((s : Size) (g : Bool) → P (Cast s g)) → ((bs : List ℕ) → P (Str bs)) → P (Sign w) → P (kind_of_word w)
 kind_cases P w f g h i j k = go (is_word w) (is_numeral w) (is_among casts w) (is_string w) (is_among keywords w) refl refl
   where
-    go : (a b c d e : Bool) → is_word w ≡ a → is_among keywords w ≡ e → P (if a then (if e then Keyword w else Ident w) else if b then Num (pos (value_of w)) else if c then cast_kind w else if d then Str (inner w) else Sign w)
+    go : (a b c d e : Bool) → is_word w ≡ a → is_among keywords w ≡ e → P (if a then (if e then Keyword w else Ident w) else if b then Num (pos (value_of_numeral w)) else if c then cast_kind w else if d then Str (inner w) else Sign w)
     go true b c d true x y = f x
     go true b c d false x y = g x y
-    go false true c d e x y = h (pos (value_of w))
+    go false true c d e x y = h (pos (value_of_numeral w))
     go false false true d e x y = i _ _
     go false false false true e x y = j (inner w)
     go false false false false e x y = k

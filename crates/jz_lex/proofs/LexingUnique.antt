@@ -4,7 +4,7 @@ use Rattle.std.specs.List.{All}
 use Rattle.std.specs.Char.{is_ascii_alphabetic}
 use Rattle.std.proofs.lemmas.List.Elements.{All-nil, All-cons}
 use Rattle.std.proofs.lemmas.Bool.{and_parts}
-use Rattle.jz_lex.specs.LexingWords.{heads, is_numeral, value_of, is_lexeme, kind_of}
+use Rattle.jz_lex.specs.LexingWords.{heads, is_numeral, value_of_numeral, is_lexeme, kind_of_word}
 use Rattle.jz_lex.specs.Lexing.{is_blank, begins_comment, IsSkipped, Longest, is_no_number, Part, Skipped, Lexeme, first_place, after, UpTo, IsLexed, HasNone, HasNoToken}
 use Rattle.jz_io.specs.declared.span.Span.{Span}
 use Rattle.jz_lex.specs.declared.token.Token.{Token}
@@ -51,7 +51,7 @@ lexeme_no_blank text (b ∷ w) more e h = ap (heads is_blank) e ∙ lexeme_blank
 number_no_comment : (text w more : List ℕ) → text ≡ w ++ more → is_no_number w more ≡ true → begins_comment text ≡ false
 number_no_comment text [] more e h = cc
 number_no_comment text (b ∷ w) more e h =
-    ap begins_comment e ∙ digit_no_slash (b ∷ (w ++ more)) (numeral_head b w (and_parts (is_numeral (b ∷ w)) (heads is_ascii_alphabetic more || not (nat_lt (value_of (b ∷ w)) (2 ^ 127))) h).0)
+    ap begins_comment e ∙ digit_no_slash (b ∷ (w ++ more)) (numeral_head b w (and_parts (is_numeral (b ∷ w)) (heads is_ascii_alphabetic more || not (nat_lt (value_of_numeral (b ∷ w)) (2 ^ 127))) h).0)
 
 -- where it stops nothing is skipped
 stop_skipped : (P : Type 0) (rest w more : List ℕ) → Stops rest → rest ≡ w ++ more → IsSkipped w more → P
@@ -103,7 +103,7 @@ unique s text (Lexeme w ∷ ps) (Lexeme v ∷ qs) ts us d e rest other a b x y =
     let c = same_longest w v a.0 b.0 a.4 b.4 (sym a.2 ∙ b.2) in
     let k : UpTo (after s w) a.0 qs b.1 e other = subst (λ z. UpTo (after s z) a.0 qs b.1 e other) (sym c.0) (subst (λ z. UpTo (after s v) z qs b.1 e other) (sym c.1) b.7) in
     let i = unique (after s w) a.0 ps qs a.1 b.1 d e rest other a.7 k x y in
-    (a.6 ∙ ap₂ (λ z zs. (record { kind = kind_of z; span = s }) ∷ zs) c.0 i.0 ∙ sym b.6, i.1, i.2)
+    (a.6 ∙ ap₂ (λ z zs. (record { kind = kind_of_word z; span = s }) ∷ zs) c.0 i.0 ∙ sym b.6, i.1, i.2)
 
 pub one_lexing : (text : List ℕ) (a b : List Token) → IsLexed text a → IsLexed text b → a ≡ b
 one_lexing text a b x y =
@@ -142,7 +142,7 @@ one_fault text f g x y =
     ap₂ (λ a b. let r : LexFault = record { kind = a; span = b } in r) k u.1
 
 -- ---- the end stands last
-no_end : (w : List ℕ) → kind_of w ≡ kind.End → ⊥
+no_end : (w : List ℕ) → kind_of_word w ≡ kind.End → ⊥
 no_end w e = kind_cases (λ k. k ≡ kind.End → ⊥) w (λ x h. cc) (λ x y h. cc) (λ n h. cc) (λ s g h. cc) (λ bs h. cc) (λ h. cc) e
 
 none_ends : (s : Span) (text : List ℕ) (ps : List Part) (ts : List Token) (e : Span) (rest : List ℕ) → UpTo s text ps ts e rest → All (λ t. t.kind ≡ kind.End → ⊥) ts
@@ -150,7 +150,7 @@ none_ends s text [] ts e rest u = subst (λ z. All (λ t. t.kind ≡ kind.End �
 none_ends s text (Skipped w ∷ ps) ts e rest u = none_ends (after s w) u.0 ps ts e rest u.3
 none_ends s text (Lexeme w ∷ ps) ts e rest u =
     subst (λ z. All (λ t. t.kind ≡ kind.End → ⊥) z) (sym u.6)
-    (All-cons (λ t. t.kind ≡ kind.End → ⊥) (record { kind = kind_of w; span = s }) u.1 (no_end w) (none_ends (after s w) u.0 ps u.1 e rest u.7))
+    (All-cons (λ t. t.kind ≡ kind.End → ⊥) (record { kind = kind_of_word w; span = s }) u.1 (no_end w) (none_ends (after s w) u.0 ps u.1 e rest u.7))
 
 pub end_stands_last : (text : List ℕ) (tokens : List Token) → IsLexed text tokens → (before : List Token) × (e : Span) × (tokens ≡ before ++ record { kind = kind.End; span = e } ∷ []) × All (λ t. t.kind ≡ kind.End → ⊥) before
 end_stands_last text tokens x = (x.1, x.2, x.4, none_ends first_place text x.0 x.1 x.2 [] x.3)

@@ -3,7 +3,7 @@
 use Rattle.std.specs.Prelude.{◌≡◌, ◌⊎◌, ◌≤◌, ℕ, ◌+◌, ◌^◌, List, [], ◌∷◌, ◌++◌, Bool, true, false, not, ◌&&◌, ◌||◌, ◌==◌, nat_lt, if◌then◌else◌, length, codes}
 use Rattle.std.specs.Char.{is_ascii_alphabetic}
 use Rattle.std.specs.List.{list_all}
-use Rattle.jz_lex.specs.LexingWords.{begins, heads, is_lexeme, is_numeral, value_of, kind_of}
+use Rattle.jz_lex.specs.LexingWords.{begins, heads, is_lexeme, is_numeral, value_of_numeral, kind_of_word}
 use Rattle.jz_io.specs.declared.span.Span.{Span}
 use Rattle.jz_lex.specs.declared.token.Token.{Token}
 use Rattle.jz_lex.specs.declared.token.TokenKind.TheVariants as kind
@@ -22,7 +22,7 @@ Longest w more = (is_lexeme w more ≡ true) × ((v rest : List ℕ) → v ++ re
 -- w is a numeral that is no number where more follows: a letter stands behind it, or its value is
 -- too large
 abbrev pub is_no_number : List ℕ → List ℕ → Bool
-is_no_number w more = is_numeral w && (heads is_ascii_alphabetic more || not (nat_lt (value_of w) (2 ^ 127)))
+is_no_number w more = is_numeral w && (heads is_ascii_alphabetic more || not (nat_lt (value_of_numeral w) (2 ^ 127)))
 
 -- a byte that does not end a line
 abbrev pub in_line : ℕ → Bool
@@ -62,7 +62,7 @@ after s (b ∷ bs) = if b == 10 then after (record { line = s.line + 1; col = 1 
 abbrev pub UpTo : Span → List ℕ → List Part → List Token → Span → List ℕ → Type 0
 UpTo s text [] tokens e rest = (text ≡ rest) × (s ≡ e) × (tokens ≡ [])
 UpTo s text (Skipped w ∷ parts) tokens e rest = (more : List ℕ) × (text ≡ w ++ more) × IsSkipped w more × UpTo (after s w) more parts tokens e rest
-UpTo s text (Lexeme w ∷ parts) tokens e rest = (more : List ℕ) × (others : List Token) × (text ≡ w ++ more) × (begins_comment text ≡ false) × Longest w more × (is_no_number w more ≡ false) × (tokens ≡ record { kind = kind_of w; span = s } ∷ others) × UpTo (after s w) more parts others e rest
+UpTo s text (Lexeme w ∷ parts) tokens e rest = (more : List ℕ) × (others : List Token) × (text ≡ w ++ more) × (begins_comment text ≡ false) × Longest w more × (is_no_number w more ≡ false) × (tokens ≡ record { kind = kind_of_word w; span = s } ∷ others) × UpTo (after s w) more parts others e rest
 
 -- the tokens of the whole text, its end last
 abbrev pub IsLexed : List ℕ → List Token → Type 0

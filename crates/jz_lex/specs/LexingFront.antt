@@ -1,7 +1,7 @@
 -- What stands at the front of a text, and how it is found.
 use Rattle.std.specs.Prelude.{◌≡◌, ℕ, ℤ, pos, ◌+◌, ◌^◌, List, [], ◌∷◌, ◌++◌, Bool, true, false, not, ◌&&◌, ◌==◌, nat_lt, if◌then◌else◌, Option, Some, None, option_map, length, take, drop, find, codes}
 use Rattle.std.specs.List.{take_while}
-use Rattle.jz_lex.specs.LexingWords.{begins, heads, casts, signs, suffixed_signs, is_among, in_word, is_word, is_numeral, is_hexadecimal, in_decimal, in_hexadecimal, in_string, is_string, value_of}
+use Rattle.jz_lex.specs.LexingWords.{begins, heads, casts, signs, suffixed_signs, is_among, in_word, is_word, is_numeral, is_hexadecimal, in_decimal, in_hexadecimal, in_string, is_string, value_of_numeral}
 use Rattle.jz_lex.specs.Lexing.{begins_comment, IsSkipped, Longest, is_no_number, HasNone}
 use Rattle.jz_lex.specs.declared.front.Shape.{Shape}
 use Rattle.jz_lex.specs.declared.front.Shape.TheVariants as shape
@@ -50,7 +50,7 @@ numeral_length text = if is_hexadecimal (take 3 text) then 3 + length (take_whil
 
 -- what sort of lexeme these bytes are, and a numeral's number
 abbrev pub shape_of : List ℕ → Shape
-shape_of w = if is_word w then shape.Word else if is_numeral w then shape.Number (pos (value_of w)) else if is_among casts w then shape.Cast else if is_string w then shape.Str else shape.Sign
+shape_of w = if is_word w then shape.Word else if is_numeral w then shape.Number (pos (value_of_numeral w)) else if is_among casts w then shape.Cast else if is_string w then shape.Str else shape.Sign
 
 -- what stands at the front of the text: bytes that are skipped, the longest lexeme, or no token
 abbrev pub IsFront : List ℕ → Front → Type 0

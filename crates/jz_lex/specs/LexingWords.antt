@@ -82,12 +82,12 @@ abbrev pub begins : List ℕ → List ℕ → Bool
 begins w text = starts_with ◌==◌ text w
 
 -- the number that the digits among these bytes write in a base: underscores count for nothing
-abbrev pub number_of : ℕ → List ℕ → ℕ
-number_of base bs = number_from_digits base (map digit_value (filter (λ b. nat_lt (digit_value b) base) bs))
+abbrev pub digits_number : ℕ → List ℕ → ℕ
+digits_number base bs = number_from_digits base (map digit_value (filter (λ b. nat_lt (digit_value b) base) bs))
 
 -- the number that a numeral writes: hexadecimal behind `0x`, else decimal
-unfoldable pub value_of : List ℕ → ℕ
-value_of w = if begins (codes "0x") w then number_of 16 (drop 2 w) else number_of 10 w
+unfoldable pub value_of_numeral : List ℕ → ℕ
+value_of_numeral w = if begins (codes "0x") w then digits_number 16 (drop 2 w) else digits_number 10 w
 
 -- the first byte passes
 abbrev pub heads : (ℕ → Bool) → List ℕ → Bool
@@ -123,5 +123,5 @@ abbrev pub cast_kind : List ℕ → TokenKind
 cast_kind w = Cast (if begins (codes "8") w then S8 else if begins (codes "16") w then S16 else if begins (codes "32") w then S32 else S64) (ends_with ◌==◌ w (codes "s"))
 
 -- the token that a lexeme spells
-abbrev pub kind_of : List ℕ → TokenKind
-kind_of w = if is_word w then word_kind w else if is_numeral w then Num (pos (value_of w)) else if is_among casts w then cast_kind w else if is_string w then Str (inner w) else Sign w
+abbrev pub kind_of_word : List ℕ → TokenKind
+kind_of_word w = if is_word w then word_kind w else if is_numeral w then Num (pos (value_of_numeral w)) else if is_among casts w then cast_kind w else if is_string w then Str (inner w) else Sign w

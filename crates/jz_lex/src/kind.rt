@@ -2,7 +2,7 @@
 
 ghost use Rattle.std.specs.Prelude.{◌≡◌, ◌≤◌, [], true, length, IfOk};
 ghost use Rattle.std.specs.Str.{IsAscii};
-ghost use Rattle.jz_lex.specs.LexingWords.{keywords, is_among, inner, is_lexeme, cast_kind, kind_of};
+ghost use Rattle.jz_lex.specs.LexingWords.{keywords, is_among, inner, is_lexeme, cast_kind, kind_of_word};
 ghost use Rattle.jz_lex.specs.LexingFront.{shape_of};
 
 use super::front::Shape;
@@ -65,7 +65,7 @@ fn inner(lexeme: &[u8]) -> &[u8]
 pub(super) fn kind_of(alloc: Global, shape: Shape, lexeme: &[u8]) -> Result<TokenKind, AllocError>
     requires lexeme { is_lexeme lexeme.now [] ≡ true }
     requires shape { shape_of lexeme.now ≡ shape }
-    ensures { IfOk result (λ kind. kind ≡ kind_of lexeme.now) }
+    ensures { IfOk result (λ kind. kind ≡ kind_of_word lexeme.now) }
 {
     match shape {
         Shape::Number(value) => Ok(TokenKind::Num(value)),

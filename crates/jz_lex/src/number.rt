@@ -1,13 +1,13 @@
 //! The number that a numeral writes.
 
 ghost use Rattle.std.specs.Prelude.{◌≡◌, ◌≤◌, ◌<◌, ◌+◌, ◌*◌, ◌^◌, SomeIff};
-ghost use Rattle.jz_lex.specs.LexingWords.{value_of, number_of};
+ghost use Rattle.jz_lex.specs.LexingWords.{value_of_numeral, digits_number};
 ghost use Rattle.jz_lex.specs.LexingFront.{kept_number, wide_number};
 
 /// The number that a numeral writes, if it is at most 2^127 - 1.
-#[tactic(auto, unfolding(crate::specs::LexingWords::value_of))]
+#[tactic(auto, unfolding(crate::specs::LexingWords::value_of_numeral))]
 pub(super) fn numeral_value(numeral: &[u8]) -> Option<i128>
-    ensures { result ≡ kept_number (value_of numeral.now) }
+    ensures { result ≡ kept_number (value_of_numeral numeral.now) }
 {
     let value = match numeral {
         [b'0', b'x', digits @ ..] => digits_value(16, digits)?,
@@ -24,7 +24,7 @@ pub(super) fn numeral_value(numeral: &[u8]) -> Option<i128>
 fn digits_value(base: u32, bytes: &[u8]) -> Option<u128>
     requires low { 2 ≤ base }
     requires high { base ≤ 36 }
-    ensures { result ≡ wide_number (number_of base bytes.now) }
+    ensures { result ≡ wide_number (digits_number base bytes.now) }
 {
     let mut value: u128 = 0;
     for byte in bytes {

@@ -9,7 +9,7 @@ use Rattle.std.proofs.lemmas.Fmt.{decimal_is_IsNumeral, decimal_injective}
 use Rattle.std.proofs.lemmas.Bool.{and_parts, and_from, lt-ltb, ltb-true}
 use Rattle.std.proofs.lemmas.List.Elements.{All-head, All-tail}
 use Rattle.jz_listing.specs.Listable.{offset_fits}
-use Rattle.jz_listing.specs.Transformers.{spaced}
+use Rattle.jz_listing.specs.Transformers.{spaced_pieces}
 
 -- ---- the first byte, and the others
 abbrev pub first : List ℕ → ℕ
@@ -81,25 +81,25 @@ pub spaced_apart : {P A : Type 0} (f : P → A) (t : A → List ℕ) (fits : A �
     → ((p : P) (b : A) (x y : List ℕ) → fits (f p) ≡ true → fits b ≡ true → Ends (first x) → Ends (first y) → t (f p) ++ x ≡ t b ++ y → (f p ≡ b) × (x ≡ y))
     → ((a : A) (x : List ℕ) → fits a ≡ true → first (t a ++ x) ≡ end → ⊥)
     → (ps : List P) (bs : List A) (x y : List ℕ) → list_all fits (map f ps) ≡ true → list_all fits bs ≡ true
-    → spaced (map t (map f ps)) ++ (end ∷ x) ≡ spaced (map t bs) ++ (end ∷ y) → (map f ps ≡ bs) × (x ≡ y)
+    → spaced_pieces (map t (map f ps)) ++ (end ∷ x) ≡ spaced_pieces (map t bs) ++ (end ∷ y) → (map f ps ≡ bs) × (x ≡ y)
 spaced_apart f t fits Ends end sp en ne one begins [] [] x y h k e = (refl, ap rest e)
 spaced_apart f t fits Ends end sp en ne one begins [] (b ∷ []) x y h k e = absurd (begins b (end ∷ y) (and_parts _ _ k).0 (sym (ap first e)))
 spaced_apart f t fits Ends end sp en ne one begins [] (b ∷ (d ∷ bs)) x y h k e =
-    absurd (begins b (32 ∷ (spaced (map t (d ∷ bs)) ++ (end ∷ y))) (and_parts _ _ k).0 (sym (ap first (e ∙ append_assoc (t b) (32 ∷ spaced (map t (d ∷ bs))) (end ∷ y)))))
+    absurd (begins b (32 ∷ (spaced_pieces (map t (d ∷ bs)) ++ (end ∷ y))) (and_parts _ _ k).0 (sym (ap first (e ∙ append_assoc (t b) (32 ∷ spaced_pieces (map t (d ∷ bs))) (end ∷ y)))))
 spaced_apart f t fits Ends end sp en ne one begins (p ∷ []) [] x y h k e = absurd (begins (f p) (end ∷ x) (and_parts _ _ h).0 (ap first e))
 spaced_apart f t fits Ends end sp en ne one begins (p ∷ (q ∷ ps)) [] x y h k e =
-    absurd (begins (f p) (32 ∷ (spaced (map t (map f (q ∷ ps))) ++ (end ∷ x))) (and_parts _ _ h).0 (ap first (sym (append_assoc (t (f p)) (32 ∷ spaced (map t (map f (q ∷ ps)))) (end ∷ x)) ∙ e)))
+    absurd (begins (f p) (32 ∷ (spaced_pieces (map t (map f (q ∷ ps))) ++ (end ∷ x))) (and_parts _ _ h).0 (ap first (sym (append_assoc (t (f p)) (32 ∷ spaced_pieces (map t (map f (q ∷ ps)))) (end ∷ x)) ∙ e)))
 spaced_apart f t fits Ends end sp en ne one begins (p ∷ []) (b ∷ []) x y h k e =
     let r = one p b (end ∷ x) (end ∷ y) (and_parts _ _ h).0 (and_parts _ _ k).0 en en e in (ap (λ a. a ∷ []) r.0, ap rest r.1)
 spaced_apart f t fits Ends end sp en ne one begins (p ∷ []) (b ∷ (d ∷ bs)) x y h k e =
-    let r = one p b (end ∷ x) (32 ∷ (spaced (map t (d ∷ bs)) ++ (end ∷ y))) (and_parts _ _ h).0 (and_parts _ _ k).0 en sp (e ∙ append_assoc (t b) (32 ∷ spaced (map t (d ∷ bs))) (end ∷ y)) in
+    let r = one p b (end ∷ x) (32 ∷ (spaced_pieces (map t (d ∷ bs)) ++ (end ∷ y))) (and_parts _ _ h).0 (and_parts _ _ k).0 en sp (e ∙ append_assoc (t b) (32 ∷ spaced_pieces (map t (d ∷ bs))) (end ∷ y)) in
     absurd (ne (ap first r.1))
 spaced_apart f t fits Ends end sp en ne one begins (p ∷ (q ∷ ps)) (b ∷ []) x y h k e =
-    let r = one p b (32 ∷ (spaced (map t (map f (q ∷ ps))) ++ (end ∷ x))) (end ∷ y) (and_parts _ _ h).0 (and_parts _ _ k).0 sp en (sym (append_assoc (t (f p)) (32 ∷ spaced (map t (map f (q ∷ ps)))) (end ∷ x)) ∙ e) in
+    let r = one p b (32 ∷ (spaced_pieces (map t (map f (q ∷ ps))) ++ (end ∷ x))) (end ∷ y) (and_parts _ _ h).0 (and_parts _ _ k).0 sp en (sym (append_assoc (t (f p)) (32 ∷ spaced_pieces (map t (map f (q ∷ ps)))) (end ∷ x)) ∙ e) in
     absurd (ne (sym (ap first r.1)))
 spaced_apart f t fits Ends end sp en ne one begins (p ∷ (q ∷ ps)) (b ∷ (d ∷ bs)) x y h k e =
-    let r = one p b (32 ∷ (spaced (map t (map f (q ∷ ps))) ++ (end ∷ x))) (32 ∷ (spaced (map t (d ∷ bs)) ++ (end ∷ y))) (and_parts _ _ h).0 (and_parts _ _ k).0 sp sp
-    (sym (append_assoc (t (f p)) (32 ∷ spaced (map t (map f (q ∷ ps)))) (end ∷ x)) ∙ e ∙ append_assoc (t b) (32 ∷ spaced (map t (d ∷ bs))) (end ∷ y)) in
+    let r = one p b (32 ∷ (spaced_pieces (map t (map f (q ∷ ps))) ++ (end ∷ x))) (32 ∷ (spaced_pieces (map t (d ∷ bs)) ++ (end ∷ y))) (and_parts _ _ h).0 (and_parts _ _ k).0 sp sp
+    (sym (append_assoc (t (f p)) (32 ∷ spaced_pieces (map t (map f (q ∷ ps)))) (end ∷ x)) ∙ e ∙ append_assoc (t b) (32 ∷ spaced_pieces (map t (d ∷ bs))) (end ∷ y)) in
     let more = spaced_apart f t fits Ends end sp en ne one begins (q ∷ ps) (d ∷ bs) x y (and_parts _ _ h).1 (and_parts _ _ k).1 (ap rest r.1) in
     (ap (λ a. a ∷ map f (q ∷ ps)) r.0 ∙ ap (λ zs. b ∷ zs) more.0, more.1)
 

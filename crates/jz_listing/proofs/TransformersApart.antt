@@ -15,7 +15,7 @@ use Rattle.jz_leak.specs.declared.transformer.Case.TheOpen.{Case-F}
 use Rattle.jz_leak.specs.declared.transformer.Case.TheViews.{roll-Case, out-Case, roll-out-Case, roll-Tr}
 use Rattle.jz_leak.specs.declared.transformer.Case.TheFolds.{fold-roll-Case, fold-roll-Tr, ind-Tr, map-Case}
 use Rattle.jz_leak.specs.declared.transformer.Transformer.{Transformer}
-use Rattle.jz_listing.specs.Transformers.{spaced, form_text, out_text, outs_text, case_layer_text, tr_layer_text, case_text, tr_text, transformer_text}
+use Rattle.jz_listing.specs.Transformers.{spaced_pieces, form_text, out_text, outs_text, case_layer_text, tr_layer_text, case_text, tr_text, transformer_text}
 use Rattle.jz_listing.specs.Listable.{form_fits, out_fits, parts_fit, outs_fit, case_layer_fits, tr_layer_fits, case_fits, tr_fits, transformer_fits}
 use Rattle.jz_listing.proofs.Apart.{first, rest, is_digit, decimal_apart, signed_apart, spaced_apart, digit_first}
 
@@ -128,9 +128,9 @@ bracketed t x = simp append_assoc refl
 pub outs_apart : (os us : List Out) (x y : List ℕ) → outs_fit os ≡ true → outs_fit us ≡ true → outs_text os ++ x ≡ outs_text us ++ y → (os ≡ us) × (x ≡ y)
 unfolding outs_text
 outs_apart os us x y h k e =
-    let inner = sym (bracketed (spaced (map out_text os)) x) ∙ e ∙ bracketed (spaced (map out_text us)) y in
+    let inner = sym (bracketed (spaced_pieces (map out_text os)) x) ∙ e ∙ bracketed (spaced_pieces (map out_text us)) y in
     let r = spaced_apart (λ o. o) out_text out_fits Stops 93 refl refl (λ z. omega (arith, z)) (λ o u v w. out_apart o u v w) (λ o v f. no_bracket o v) os us x y
-    (ap (λ l. list_all out_fits l) (map_same os) ∙ h) k (ap (λ l. spaced (map out_text l) ++ (93 ∷ x)) (map_same os) ∙ ap rest inner) in
+    (ap (λ l. list_all out_fits l) (map_same os) ∙ h) k (ap (λ l. spaced_pieces (map out_text l) ++ (93 ∷ x)) (map_same os) ∙ ap rest inner) in
     (sym (map_same os) ∙ r.0, r.1)
 
 -- ---- cases and trees
@@ -230,7 +230,7 @@ tr_begins : (t : Tr) (x : List ℕ) → first (tr_text t ++ x) ≡ 123
 tr_begins t x = ap (λ u. first (u ++ x)) (fold-roll-Tr _ _ case_layer_text tr_layer_text (record { cases = t.cases }))
 
 trs_apart : (ts : List ((t : Tr) × TrLaw t)) (us : List Tr) (x y : List ℕ) → parts_fit (map tr_fits (map (λ e. e.0) ts)) ≡ true → parts_fit (map tr_fits us) ≡ true
-    → spaced (map tr_text (map (λ e. e.0) ts)) ++ (41 ∷ x) ≡ spaced (map tr_text us) ++ (41 ∷ y) → (map (λ e. e.0) ts ≡ us) × (x ≡ y)
+    → spaced_pieces (map tr_text (map (λ e. e.0) ts)) ++ (41 ∷ x) ≡ spaced_pieces (map tr_text us) ++ (41 ∷ y) → (map (λ e. e.0) ts ≡ us) × (x ≡ y)
 trs_apart ts us x y h k e =
     spaced_apart (λ (p : (t : Tr) × TrLaw t). p.0) tr_text tr_fits (λ c. Unit {0}) 41 tt tt (λ z. omega (arith, z)) (λ p b v w f g m n q. p.1 b v w f g q)
     (λ t v f z. (let s : 123 ≡ 41 = sym (tr_begins t v) ∙ z in omega (arith, s))) ts us x y (each_fits tr_fits (map (λ p. p.0) ts) h) (each_fits tr_fits us k) e
@@ -271,7 +271,7 @@ layer_apart (Case-F.While p t a b c) (Case-F.While p2 t2 a2 b2 c2) x y h k e =
     let r5 = outs_apart c c2 _ _ h4.1 k4.1 (ap rest r4.1) in
     (λ i. Case-F.While (r1.0 i) (r2.0 i) (r3.0 i) (r4.0 i) (r5.0 i), ap rest r5.1)
 layer_apart (Case-F.For ts) (Case-F.For us) x y h k e =
-    let s = sym (for_shape (spaced (map tr_text (map (λ p. p.0) ts))) x) ∙ e ∙ for_shape (spaced (map tr_text us)) y in
+    let s = sym (for_shape (spaced_pieces (map tr_text (map (λ p. p.0) ts))) x) ∙ e ∙ for_shape (spaced_pieces (map tr_text us)) y in
     let r = trs_apart ts us x y h k (ap rest (ap rest (ap rest (ap rest s)))) in
     (ap Case-F.For r.0, r.1)
 layer_apart (Case-F.Call a b c) (Case-F.Call a2 b2 c2) x y h k e =
@@ -294,7 +294,7 @@ case_law v d x y h k e =
     (ap (λ t. t ++ x) (sym (text_is (layer_of v))) ∙ e ∙ ap (λ c. case_text c ++ y) (sym d_is) ∙ ap (λ t. t ++ y) (text_is w)) in
     (ap roll-Case r.0 ∙ d_is, r.1)
 
-tr_text_is : (t : Tr) → tr_text t ≡ (123 ∷ []) ++ spaced (map case_text t.cases) ++ (125 ∷ [])
+tr_text_is : (t : Tr) → tr_text t ≡ (123 ∷ []) ++ spaced_pieces (map case_text t.cases) ++ (125 ∷ [])
 tr_text_is t = fold-roll-Tr _ _ case_layer_text tr_layer_text (record { cases = t.cases })
 
 tr_fits_is : (t : Tr) → tr_fits t ≡ parts_fit (map case_fits t.cases)
@@ -313,7 +313,7 @@ no_brace c x e = no_brace_layer (out-Case c) x (ap (λ t. first (t ++ x)) (sym (
 cases_law : (cs : List ((c : Case) × CaseLaw c)) → TrLaw (roll-Tr (record { cases = map (λ e. e.0) cs }))
 cases_law cs s x y h k e =
     let t : Tr = record { cases = map (λ (p : (c : Case) × CaseLaw c). p.0) cs } in
-    let m = sym (braced (spaced (map case_text (map (λ p. p.0) cs))) x) ∙ ap (λ u. u ++ x) (sym (tr_text_is t)) ∙ e ∙ ap (λ u. u ++ y) (tr_text_is s) ∙ braced (spaced (map case_text s.cases)) y in
+    let m = sym (braced (spaced_pieces (map case_text (map (λ p. p.0) cs))) x) ∙ ap (λ u. u ++ x) (sym (tr_text_is t)) ∙ e ∙ ap (λ u. u ++ y) (tr_text_is s) ∙ braced (spaced_pieces (map case_text s.cases)) y in
     let r = spaced_apart (λ (p : (c : Case) × CaseLaw c). p.0) case_text case_fits (λ c. Unit {0}) 125 tt tt (λ z. omega (arith, z)) (λ p b v w f g i j q. p.1 b v w f g q)
     (λ c v f z. no_brace c v z) cs s.cases x y (each_fits case_fits t.cases (sym (tr_fits_is t) ∙ h)) (each_fits case_fits s.cases (sym (tr_fits_is s) ∙ k)) (ap rest m) in
     (ap (λ (zs : List Case). record { cases = zs }) r.0, r.1)

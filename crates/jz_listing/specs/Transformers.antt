@@ -13,8 +13,8 @@ use Rattle.jz_leak.specs.declared.transformer.Case.TheFolds.{fold-Case, fold-Tr}
 use Rattle.jz_leak.specs.declared.transformer.Transformer.{Transformer}
 
 -- pieces with a space between them
-abbrev pub spaced : List (List ℕ) → List ℕ
-spaced pieces = join_with_byte 32 pieces
+abbrev pub spaced_pieces : List (List ℕ) → List ℕ
+spaced_pieces pieces = join_with_byte 32 pieces
 
 abbrev pub form_text : Form → List ℕ
 form_text (Num n) = decimal n
@@ -29,7 +29,7 @@ out_text (out.Div a b c) = codes "d:" ++ form_text a ++ codes ":" ++ form_text b
 
 -- a list of events
 unfoldable pub outs_text : List Out → List ℕ
-outs_text outs = codes "[" ++ spaced (map out_text outs) ++ codes "]"
+outs_text outs = codes "[" ++ spaced_pieces (map out_text outs) ++ codes "]"
 
 abbrev pub spaced_outs_text : List Out → List ℕ
 spaced_outs_text outs = codes " " ++ outs_text outs
@@ -52,7 +52,7 @@ while_head_text prologue test = codes "while(" ++ prologue ++ spaced_outs_text t
 
 -- a `for`, by the texts of its trees
 abbrev pub for_text : List (List ℕ) → List ℕ
-for_text trs = codes "for(" ++ spaced trs ++ codes ")"
+for_text trs = codes "for(" ++ spaced_pieces trs ++ codes ")"
 
 -- a call
 abbrev pub call_text : List Out → List ℕ → List Out → List ℕ
@@ -70,7 +70,7 @@ case_layer_text (Case-F.Call arguments body results) = call_text arguments body 
 
 -- a tree: its cases between braces
 abbrev pub tr_layer_text : Tr-F (List ℕ) (List ℕ) → List ℕ
-tr_layer_text t = codes "{" ++ spaced t.cases ++ codes "}"
+tr_layer_text t = codes "{" ++ spaced_pieces t.cases ++ codes "}"
 
 abbrev pub case_text : Case → List ℕ
 case_text = fold-Case (List ℕ) (List ℕ) case_layer_text tr_layer_text

@@ -20,9 +20,9 @@ use Rattle.jz_first_tree.specs.declared.Stmt.{Stmt}
 use Rattle.jz_first_tree.specs.declared.StmtKind.{StmtKind}
 use Rattle.jz_first_tree.specs.declared.StmtKind.TheVariants as kind
 use Rattle.jz_runs.specs.Rules.{stuck, went}
-use Rattle.jz_first_meaning.specs.SourceStates.{Value, word, integer, key_of, Store, put, State}
-use Rattle.jz_first_meaning.specs.SourceValues.{Evaluation, numbers_first, and_then, defined, variable_value, evaluated}
-use Rattle.jz_first_meaning.specs.SourceRuns.{of_type, as_declared, held, written, operation, combined, assigned_value, assigned}
+use Rattle.jz_first_meaning.specs.SourceStates.{Value, word, integer, key_of, Store, with_value_at, State}
+use Rattle.jz_first_meaning.specs.SourceValues.{Evaluation, numbers_first, and_then, defined_value, variable_value, evaluated_value}
+use Rattle.jz_first_meaning.specs.SourceRuns.{of_type, as_declared, held_value, written_state, operation, combined_value, assigned_value, assigned_state}
 use Rattle.jz_first_meaning.specs.StraightRuns.{run_statement, run_statements}
 use Rattle.jz_correct.proofs.PlainCode.{word_in, operand_in, result_of, regs_of, regs_after}
 use Rattle.jz_lower.specs.Lowering.{alu_of, operand_of, assignment_insn, kind_insns, insns_of}
@@ -44,7 +44,7 @@ then_went (went ns a) go ms b e = let r = first_went ns (go a) ms b e in (ns, a,
 went_same : {A : Type 0} (ns ms : List ℕ) (a b : A) → ◌≡◌ {A = Evaluation A} (went ns a) (went ms b) → a ≡ b
 went_same ns ms a b e = cc
 
-pub defined_back : (at : Span) (o : Option Value) (ms : List ℕ) (v : Value) → defined at o ≡ went ms v → o ≡ Some v
+pub defined_back : (at : Span) (o : Option Value) (ms : List ℕ) (v : Value) → defined_value at o ≡ went ms v → o ≡ Some v
 defined_back at None ms v e = absurd cc
 defined_back at (Some u) ms v e = ap (λ x. Some x) (went_same [] ms u v e)
 
@@ -54,11 +54,11 @@ pub data StandsFor : Value → ℕ → Type 0 where
   a_word : (a : ℕ) → StandsFor (word S64 a) a
   a_number : (i : ℤ) → StandsFor (integer i) (residue S64 i)
 
-held_is : (x : Var) (v : Value) (w : ℕ) → IsWord x → StandsFor v w → held x v ≡ went [] (word S64 w)
+held_is : (x : Var) (v : Value) (w : ℕ) → IsWord x → StandsFor v w → held_value x v ≡ went [] (word S64 w)
 held_is x v w is (a_word a) = refl
 held_is x v w is (a_number i) = ap (λ d. as_declared d x.span i) is.decl ∙ ap (λ t. went [] (of_type t i)) is.ty
 
-combined_is : (o : BinOp) (at : Span) (a : ℕ) (v : Value) (b : ℕ) → StandsFor v b → combined o at (word S64 a) v ≡ went [] (word S64 (operation o S64 a b))
+combined_is : (o : BinOp) (at : Span) (a : ℕ) (v : Value) (b : ℕ) → StandsFor v b → combined_value o at (word S64 a) v ≡ went [] (word S64 (operation o S64 a b))
 combined_is o at a v b (a_word c) = refl
 combined_is o at a v b (a_number i) = refl
 
@@ -91,7 +91,7 @@ module _ (register : List ℕ → Reg) where
   }
 
   operand_holds : (e : Expr) (s : State) (regs : List ℕ) (Lives : List ℕ → Type 0) → Holds Lives s.store regs → ((n : List ℕ) → ReadsIn e n → Lives n)
-      → (ms : List ℕ) (v : Value) → evaluated e s ≡ went ms v → Operand e v regs
+      → (ms : List ℕ) (v : Value) → evaluated_value e s ≡ went ms v → Operand e v regs
   operand_holds (expr.Num i at) s regs Lives h reads ms v e = number_operand i at v regs (sym (went_same [] ms (integer i) v e))
   operand_holds (expr.Var x) s regs Lives h reads ms v e = word_operand x v regs (h x.name v (reads x.name refl) (defined_back x.span (s.store (key_of x)) ms v e))
 
@@ -100,19 +100,19 @@ module _ (register : List ℕ → Reg) where
   pub record Sets (x : Var) (o : Option BinOp) (r : Rhs) (s t : State) (regs : List ℕ) : Type 0 where
     pub word_is : ℕ
     pub small : word_is < 2 ^ 64
-    pub state : t ≡ record s { store = put s.store (key_of x) (Some (word S64 word_is)) }
+    pub state : t ≡ record s { store = with_value_at s.store (key_of x) (Some (word S64 word_is)) }
     pub regs_are : regs_of (assignment_insn register (lval.Var x) o r) regs ≡ slice_set regs (number_of (register x.name)) word_is
 
-  written_is : (x : Var) (v : Value) (w : ℕ) (s t : State) (ms : List ℕ) → IsWord x → StandsFor v w → written (lval.Var x) v s ≡ went ms t
-      → t ≡ record s { store = put s.store (key_of x) (Some (word S64 w)) }
+  written_is : (x : Var) (v : Value) (w : ℕ) (s t : State) (ms : List ℕ) → IsWord x → StandsFor v w → written_state (lval.Var x) v s ≡ went ms t
+      → t ≡ record s { store = with_value_at s.store (key_of x) (Some (word S64 w)) }
   written_is x v w s t ms is stands e =
-      let k = ap (λ g. and_then g (λ u. went [] (record s { store = put s.store (key_of x) (Some u) }))) (held_is x v w is stands) in
+      let k = ap (λ g. and_then g (λ u. went [] (record s { store = with_value_at s.store (key_of x) (Some u) }))) (held_is x v w is stands) in
       sym (went_same [] ms _ t (sym k ∙ e))
 
   sets_plain : (x : Var) (e : Expr) (at : Span) (s t : State) (regs : List ℕ) (Lives : List ℕ → Type 0) → IsWord x → Holds Lives s.store regs → ((n : List ℕ) → ReadsAssigned (lval.Var x) None (rhs.Value e) n → Lives n)
-      → (ms : List ℕ) → assigned (lval.Var x ∷ []) None (rhs.Value e) at s ≡ went ms t → Sets x None (rhs.Value e) s t regs
+      → (ms : List ℕ) → assigned_state (lval.Var x ∷ []) None (rhs.Value e) at s ≡ went ms t → Sets x None (rhs.Value e) s t regs
   sets_plain x e at s t regs Lives is h reads ms run =
-      let r = then_went (evaluated e s) (λ v. written (lval.Var x) v s) ms t run in
+      let r = then_went (evaluated_value e s) (λ v. written_state (lval.Var x) v s) ms t run in
       let a = operand_holds e s regs Lives h reads r.0 r.1 r.3 in
       record {
         word_is = a.word_is;
@@ -122,17 +122,17 @@ module _ (register : List ℕ → Reg) where
       }
 
   sets_combined : (x : Var) (o : BinOp) (e : Expr) (at : Span) (s t : State) (regs : List ℕ) (Lives : List ℕ → Type 0) → IsWord x → Holds Lives s.store regs → ((n : List ℕ) → ReadsAssigned (lval.Var x) (Some o) (rhs.Value e) n → Lives n)
-      → (ms : List ℕ) → assigned (lval.Var x ∷ []) (Some o) (rhs.Value e) at s ≡ went ms t → Sets x (Some o) (rhs.Value e) s t regs
+      → (ms : List ℕ) → assigned_state (lval.Var x ∷ []) (Some o) (rhs.Value e) at s ≡ went ms t → Sets x (Some o) (rhs.Value e) s t regs
   sets_combined x o e at s t regs Lives is h reads ms run =
-      let r = then_went (assigned_value (lval.Var x) (Some o) (rhs.Value e) at s) (λ v. written (lval.Var x) v s) ms t run in
-      let l = then_went (variable_value x s.store) (λ a. and_then (evaluated e s) (λ b. combined o at a b)) r.0 r.1 r.3 in
-      let q = then_went (evaluated e s) (λ b. combined o at l.1 b) l.2 r.1 l.4 in
+      let r = then_went (assigned_value (lval.Var x) (Some o) (rhs.Value e) at s) (λ v. written_state (lval.Var x) v s) ms t run in
+      let l = then_went (variable_value x s.store) (λ a. and_then (evaluated_value e s) (λ b. combined_value o at a b)) r.0 r.1 r.3 in
+      let q = then_went (evaluated_value e s) (λ b. combined_value o at l.1 b) l.2 r.1 l.4 in
       let left : l.1 ≡ word S64 (word_in regs (register x.name)) = h x.name l.1 (reads x.name (inl refl)) (defined_back x.span (s.store (key_of x)) l.0 l.1 l.3) in
       let b = operand_holds e s regs Lives h (λ n c. reads n (inr c)) q.0 q.1 q.3 in
       let w = word_in regs (register x.name) in
       let small = word_small regs (register x.name) in
       let value : r.1 ≡ word S64 (operation o S64 w b.word_is) =
-      sym (went_same [] q.2 _ r.1 (sym (ap (λ a. combined o at a q.1) left ∙ combined_is o at w q.1 b.word_is b.stands) ∙ q.4)) in
+      sym (went_same [] q.2 _ r.1 (sym (ap (λ a. combined_value o at a q.1) left ∙ combined_is o at w q.1 b.word_is b.stands) ∙ q.4)) in
       record {
         word_is = operation o S64 w b.word_is;
         small = operation_small o w b.word_is small b.small;
@@ -141,14 +141,14 @@ module _ (register : List ℕ → Reg) where
       }
 
   sets : (x : Var) (o : Option BinOp) (r : Rhs) (at : Span) (s t : State) (regs : List ℕ) (Lives : List ℕ → Type 0) → IsWord x → Holds Lives s.store regs → ((n : List ℕ) → ReadsAssigned (lval.Var x) o r n → Lives n)
-      → (ms : List ℕ) → assigned (lval.Var x ∷ []) o r at s ≡ went ms t → Sets x o r s t regs
+      → (ms : List ℕ) → assigned_state (lval.Var x ∷ []) o r at s ≡ went ms t → Sets x o r s t regs
   sets x None (rhs.Value e) at s t regs Lives is h reads ms run = sets_plain x e at s t regs Lives is h reads ms run
   sets x (Some o) (rhs.Value e) at s t regs Lives is h reads ms run = sets_combined x o e at s t regs Lives is h reads ms run
 
   -- what lives behind the statement is there behind it: the variable that it sets, and each other in a register of its own
   kept_by : (x : Var) (behind Lives : List ℕ → Type 0) (s : State) (regs : List ℕ) (w : ℕ) → length regs ≡ 16 → w < 2 ^ 64
       → Holds Lives s.store regs → ((n : List ℕ) → x.name ≢ n → behind n → Lives n) → ((n : List ℕ) → x.name ≢ n → behind n → register n ≢ register x.name)
-      → (n : List ℕ) (v : Value) → behind n → (same : Bool) → pointwise nat_eq n x.name ≡ same → put s.store (named x.name) (Some (word S64 w)) (named n) ≡ Some v
+      → (n : List ℕ) (v : Value) → behind n → (same : Bool) → pointwise nat_eq n x.name ≡ same → with_value_at s.store (named x.name) (Some (word S64 w)) (named n) ≡ Some v
       → v ≡ word S64 (word_in (slice_set regs (number_of (register x.name)) w) (register n))
   kept_by x behind Lives s regs w size small h lives apart n v b true e there =
       let name : n ≡ x.name = same_text n x.name (sym e) in
@@ -171,7 +171,7 @@ module _ (register : List ℕ → Reg) where
       let Lives : List ℕ → Type 0 = LivesThrough (kind.Assign (lval.Var x ∷ []) o r) behind in
       let g = sets x o r at s t regs Lives is h (λ n c. inl c) ms run in
       let now = slice_set regs (number_of (register x.name)) g.word_is in
-      let holds : Holds behind (put s.store (named x.name) (Some (word S64 g.word_is))) now =
+      let holds : Holds behind (with_value_at s.store (named x.name) (Some (word S64 g.word_is))) now =
       λ n v b there. kept_by x behind Lives s regs g.word_is size g.small h (λ m ne c. inr (ne, c)) apart n v b (pointwise nat_eq n x.name) refl there in
       record {
         holds = subst (λ (rs : List ℕ). Holds behind t.store rs) (sym g.regs_are) (subst (λ (u : State). Holds behind u.store now) (sym g.state) holds);

@@ -6,7 +6,7 @@ use Rattle.std.proofs.lemmas.List.{get_or-set_other}
 use Rattle.x64_insn.specs.declared.types.Reg.{Reg}
 use Rattle.x64_insn.specs.Table.{number_of}
 use Rattle.x64_insn.proofs.Registers.{same_register}
-use Rattle.jz_first_meaning.specs.SourceStates.{Value, Key, Store, put}
+use Rattle.jz_first_meaning.specs.SourceStates.{Value, Key, Store, with_value_at}
 use Rattle.jz_correct.proofs.PlainCode.{word_in}
 
 -- the key of a name
@@ -14,7 +14,7 @@ abbrev pub named : List ℕ → Key
 named n = record { name = n }
 
 -- what a store has for a name after another, or the same, was set
-pub put_at : (store : Store) (x n : List ℕ) (v : Option Value) (same : Bool) → pointwise nat_eq n x ≡ same → put store (named x) v (named n) ≡ (if same then v else store (named n))
+pub put_at : (store : Store) (x n : List ℕ) (v : Option Value) (same : Bool) → pointwise nat_eq n x ≡ same → with_value_at store (named x) v (named n) ≡ (if same then v else store (named n))
 put_at store x n v same e = ap (λ (z : Bool). if z then v else store (named n)) e
 
 -- ---- registers and their numbers

@@ -30,10 +30,10 @@ use Rattle.jz_judgement.proofs.Nothing.{none_not}
 use Rattle.jz_select.specs.declared.class.Mask.TheVariants as mask
 use Rattle.jz_select.specs.declared.class.Class.{Class}
 use Rattle.jz_select.specs.declared.class.Class.TheVariants as class
-use Rattle.jz_select.specs.Rows.{size_of}
+use Rattle.jz_select.specs.Rows.{class_size}
 use Rattle.jz_select.specs.Sums.{is_address, is_index}
 use Rattle.jz_select.specs.Look.{look_of, terms_of, bin_inline}
-use Rattle.jz_select.specs.Operands.{class_at, var_class, class_if, cell_at, cell_class, cell_of, inline_or, mask_of, is_byte, register_layer, masked, class_layer, class_of, dest_of}
+use Rattle.jz_select.specs.Operands.{class_at, var_class, class_if, cell_at, cell_class, cell_of, inline_or, mask_of, is_byte, register_layer, masked_class, class_layer, class_of, dest_of}
 use Rattle.jz_integers.specs.Integers.{written_number}
 use Rattle.jz_one_size.specs.Rows.{place_size}
 use Rattle.jz_one_size.proofs.Placed.{size_at}
@@ -41,7 +41,7 @@ use Rattle.jz_one_size.proofs.Sizes.{typed_layer, variable_law, access_law}
 
 -- ---- variables and cells
 abbrev Sized : Class → Size → Type 0
-Sized c z = size_of c ≡ Some z
+Sized c z = class_size c ≡ Some z
 
 kind_sized : (s : Storage) (k : known.Kind) (z : Size) → Sized (class_at s k) z → word_size k ≡ Some z
 kind_sized storage.Reg (scope.Word y) z h = h
@@ -64,7 +64,7 @@ known_sized (Some d) z h = kind_sized d.storage d.kind z h
 var_sized : (v : Var) (z : Size) → Sized (var_class (known_of v)) z → known_size (known_of v) ≡ Some z
 var_sized v z h = known_sized (known_of v) z h
 
-chosen_sized : (b : Bool) (c : Class) (y z : Size) → size_of c ≡ Some y → Sized (if b then c else class.Other) z → Some y ≡ Some z
+chosen_sized : (b : Bool) (c : Class) (y z : Size) → class_size c ≡ Some y → Sized (if b then c else class.Other) z → Some y ≡ Some z
 chosen_sized true c y z e h = sym e ∙ h
 chosen_sized false c y z e h = absurd (none_not z h)
 
@@ -102,7 +102,7 @@ no_other : (z : Size) → Sized class.Other z → ⊥
 no_other z h = none_not z h
 
 abbrev NoSize : Class → Type 0
-NoSize c = size_of c ≡ None
+NoSize c = class_size c ≡ None
 
 mask_none : (n : Option ℤ) → NoSize (mask_of n)
 mask_none None = refl
@@ -117,7 +117,7 @@ byte_mask : (b : Bool) (n : Option ℤ) → NoSize (if b then mask_of n else cla
 byte_mask true n = mask_none n
 byte_mask false n = refl
 
-masked_none : (o : BinOp) (a b : Expr) → NoSize (masked o a b)
+masked_none : (o : BinOp) (a b : Expr) → NoSize (masked_class o a b)
 masked_none op.And a b = byte_mask (is_byte (register_layer (out-Expr a))) (written_number b)
 masked_none o a b = refl
 
@@ -131,21 +131,21 @@ layer_sized (Expr-F.Neg a at) z h = absurd (no_inline (look_of a).inline class.O
 layer_sized (Expr-F.Not a at) z h = absurd (no_inline (look_of a).inline class.Other z (no_other z) h)
 layer_sized (Expr-F.Cast y s a at) z h = absurd (none_not z h)
 layer_sized (Expr-F.Bin o a b at) z h =
-    absurd (no_inline (bin_inline o (look_of a) (look_of b)) (masked o a b) z (λ k. none_not z (sym (masked_none o a b) ∙ k)) h)
+    absurd (no_inline (bin_inline o (look_of a) (look_of b)) (masked_class o a b) z (λ k. none_not z (sym (masked_none o a b) ∙ k)) h)
 
 expression_typed : (e : Expr) → (typing e).form.size ≡ (typed_layer (out-Expr e)).form.size
 expression_typed e =
     ap (λ x. (typing x).form.size) (sym (roll-out-Expr e))
     ∙ ap (λ m. m.form.size) (fold-roll-Expr Typing known.Kind Typing Declared (Known × Span) typing_step scopes.kind_step access_typing declared_step (λ v. (v.decl, v.span)) (out-Expr e))
 
-pub class_law : (e : Expr) (z : Size) → size_of (class_of e) ≡ Some z → (typing e).form.size ≡ Some z
+pub class_law : (e : Expr) (z : Size) → class_size (class_of e) ≡ Some z → (typing e).form.size ≡ Some z
 class_law e z h = expression_typed e ∙ layer_sized (out-Expr e) z h
 
-pub result_law : (d : Lval) (z : Size) → size_of (dest_of d) ≡ Some z → (left_form d).size ≡ Some z
+pub result_law : (d : Lval) (z : Size) → class_size (dest_of d) ≡ Some z → (left_form d).size ≡ Some z
 result_law (lval.Skip at) z h = absurd (none_not z h)
 result_law (lval.Var v) z h = var_sized v z h
 result_law (lval.Cell v i) z h = cell_sized v i z h
 result_law (lval.Store a) z h = mem_if (is_address (terms_of (out-Access a).at)) (out-Access a).size z h
 
-pub place_law : (e : Expr) (p : Place) (z : Size) → HasType (value e) p → size_of (class_of e) ≡ Some z → place_size p ≡ Some z
+pub place_law : (e : Expr) (p : Place) (z : Size) → HasType (value e) p → class_size (class_of e) ≡ Some z → place_size p ≡ Some z
 place_law e p z t h = size_at e p t z (class_law e z h)

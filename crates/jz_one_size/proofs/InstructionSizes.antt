@@ -17,7 +17,7 @@ use Rattle.jz_kinds.specs.Sides.{left_form}
 use Rattle.jz_kinds.specs.Typings.{typing}
 use Rattle.jz_kinds.specs.Worded.{is_worded}
 use Rattle.jz_kinds.specs.Signatures.{Signature, operands_of, results_of, signature_of}
-use Rattle.jz_kinds.specs.Intrinsics.{size_of, result_size, argument_size, is_value}
+use Rattle.jz_kinds.specs.Intrinsics.{size_of_intrinsic, result_size, argument_size, is_value}
 use Rattle.jz_judgement.specs.Places.{truth, word, unsized}
 use Rattle.jz_judgement.specs.HasType.{value, HasType}
 use Rattle.jz_judgement.specs.Lefts.{IsFlag, IsSound}
@@ -224,7 +224,7 @@ joined None (Some r) a f y h k = h
 joined (Some z) r a f y h k = h
 
 abbrev PairsOf : Signature → List Lval → List Expr → Type 0
-PairsOf g to args = InPairs (Output (size_of g to args)) g.results to × InPairs (Operand (size_of g to args)) g.arguments args
+PairsOf g to args = InPairs (Output (size_of_intrinsic g to args)) g.results to × InPairs (Operand (size_of_intrinsic g to args)) g.arguments args
 
 pairs_of : (s : Option Signature) (g : Signature) (to : List Lval) (args : List Expr) → s ≡ Some g → Instructs s to args → PairsOf g to args
 pairs_of s g to args e (well.unknown h) = absurd (none_not g e)
@@ -233,12 +233,12 @@ pairs_of s g to args e (well.instance_of {g = x} rs ps) = subst (λ g. PairsOf g
 pub intrinsic_law : (i : Intrinsic) (z : Option Size) (to : List Lval) (args : List Expr) (y : Size)
     → takes_size i ≡ true → All IsCountedLeft to → All Counted args → All IsNoArray args
     → Instructs (Some (signature_of i z)) to args
-    → size_of (signature_of i z) to args ≡ Some y → intrinsic_size i z to args ≡ Some y
+    → size_of_intrinsic (signature_of i z) to args ≡ Some y → intrinsic_size i z to args ≡ Some y
 intrinsic_law i z to args y k c d n t h =
     let g = signature_of i z in
     let pairs = pairs_of (Some g) g to args refl t in
-    let results = results_law (size_of g to args) (results_of i) to (results_fit i k) pairs.0 in
+    let results = results_law (size_of_intrinsic g to args) (results_of i) to (results_fit i k) pairs.0 in
     plain_size i z to args k
     ∙ ap (λ s. option_or z (option_or s (first_size args))) (lefts_law to c results.1 ∙ sym results.0)
     ∙ joined z (result_size (results_of i) to) (argument_size (operands_of i) args) (first_size args) y h
-    (arguments_law (size_of g to args) y (operands_of i) args (arguments_fit i k) d n pairs.1)
+    (arguments_law (size_of_intrinsic g to args) y (operands_of i) args (arguments_fit i k) d n pairs.1)

@@ -27,7 +27,7 @@ use Rattle.jz_judgement.specs.Places.{Place, word, unsized}
 use Rattle.jz_judgement.specs.HasType as judged
 use Rattle.jz_judgement.specs.HasType.{Layer, Term, value, left, result, HasType, Operates}
 use Rattle.jz_judgement.specs.Lefts as lefts
-use Rattle.jz_judgement.specs.Lefts.{IsSound, IsFlag, IsProduct, Wants, Leaves, Holds, Takes, Values, value_of}
+use Rattle.jz_judgement.specs.Lefts.{IsSound, IsFlag, IsProduct, Wants, Leaves, Holds, Takes, Values, value_term}
 use Rattle.jz_judgement.proofs.Nothing.{none_not, same_some}
 use Rattle.jz_meaning.proofs.LeftSideLemmas.{or_assoc, size_bin}
 use Rattle.jz_meaning.specs.Values.{ref_of, own_size, size_of_operation, expr_step, ty_step, access_step, decl_step, var_step}
@@ -99,20 +99,20 @@ all_one d s = All-cons IsSound d [] s (All-nil IsSound)
 
 pub sound_lefts : (to : List Lval) (o : Option BinOp) (e : Expr) → Values to o e → All IsSound to
 sound_lefts to o e lefts.nothing = All-nil IsSound
-sound_lefts to o e (lefts.one {d = d} t) = all_one d (takes_sound d (value_of o d e) t)
+sound_lefts to o e (lefts.one {d = d} t) = all_one d (takes_sound d (value_term o d e) t)
 sound_lefts to o e (lefts.product {h = h} {l = l} k t) =
-    All-cons IsSound h (l ∷ []) (product_sound h l (value_of o l e) t).0 (all_one l (product_sound h l (value_of o l e) t).1)
+    All-cons IsSound h (l ∷ []) (product_sound h l (value_term o l e) t).0 (all_one l (product_sound h l (value_term o l e) t).1)
 sound_lefts to o e (lefts.flagged {c = c} {d = d} k f t) =
-    All-cons IsSound c (d ∷ []) (flag_sound c f) (all_one d (takes_sound d (value_of o d e) t))
+    All-cons IsSound c (d ∷ []) (flag_sound c f) (all_one d (takes_sound d (value_term o d e) t))
 
-pub value_type : (to : List Lval) (d : Lval) (o : Option BinOp) (e : Expr) → last_left to ≡ Some d → Values to o e → (p : Place) × HasType (value_of o d e) p
+pub value_type : (to : List Lval) (d : Lval) (o : Option BinOp) (e : Expr) → last_left to ≡ Some d → Values to o e → (p : Place) × HasType (value_term o d e) p
 value_type to d o e last lefts.nothing = absurd (none_not d last)
 value_type to d o e last (lefts.one {d = x} t) =
-    subst (λ y. (p : Place) × HasType (value_of o y e) p) (same_some x d last) (takes_type x (value_of o x e) t)
+    subst (λ y. (p : Place) × HasType (value_term o y e) p) (same_some x d last) (takes_type x (value_term o x e) t)
 value_type to d o e last (lefts.product {h = h} {l = x} k t) =
-    subst (λ y. (p : Place) × HasType (value_of o y e) p) (same_some x d last) (product_type h x (value_of o x e) t)
+    subst (λ y. (p : Place) × HasType (value_term o y e) p) (same_some x d last) (product_type h x (value_term o x e) t)
 value_type to d o e last (lefts.flagged {c = c} {d = x} k f t) =
-    subst (λ y. (p : Place) × HasType (value_of o y e) p) (same_some x d last) (takes_type x (value_of o x e) t)
+    subst (λ y. (p : Place) × HasType (value_term o y e) p) (same_some x d last) (takes_type x (value_term o x e) t)
 
 -- ---- `d op e`
 layer_own : (x : Layer) → own_size (roll-Expr x) ≡ (meant_layer x).size
@@ -169,7 +169,7 @@ operated : (o : BinOp) (d : Lval) (e : Expr) (p : Place) → HasType (result o d
 operated o d e p (judged.updated h) = right_type o (left d) (value e) p h
 
 value_own : (d : Lval) (o : Option BinOp) (e w : Expr) (p : Place) → IsCountedLeft d → IsSound d → Counted e → whole_of (Some d) o e ≡ Some w
-    → HasType (value_of o d e) p → own_size w ≡ (value_typing o d e).form.size
+    → HasType (value_term o d e) p → own_size w ≡ (value_typing o d e).form.size
 value_own d None e w p c s k u t = ap own_size (sym (same_some e w u)) ∙ size_law e p k t
 value_own d (Some o) e w p c s k u t =
     whole_own d o e w (as_expr d) refl u

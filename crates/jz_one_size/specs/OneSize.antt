@@ -9,7 +9,7 @@ use Rattle.jz_tree.specs.declared.intrinsic.Intrinsic.{Intrinsic}
 use Rattle.jz_tree.specs.declared.intrinsic.Intrinsic.TheVariants as name
 use Rattle.jz_scopes.specs.Kinds.{array_of}
 use Rattle.jz_kinds.specs.Signatures.{signature_of}
-use Rattle.jz_kinds.specs.Intrinsics.{size_of}
+use Rattle.jz_kinds.specs.Intrinsics.{size_of_intrinsic}
 use Rattle.jz_kinds.specs.Wants.{or_size}
 use Rattle.jz_kinds.specs.Sides.{left_form}
 use Rattle.jz_kinds.specs.Values.{value_typing}
@@ -62,4 +62,4 @@ IntrinsicSizes =
     (i : Intrinsic) (z : Option Size) (to : List Lval) (args : List Expr) (y : Size)
     → takes_size i ≡ true → All IsCountedLeft to → All Counted args → All IsNoArray args
     → Instructs (Some (signature_of i z)) to args
-    → size_of (signature_of i z) to args ≡ Some y → intrinsic_size i z to args ≡ Some y
+    → size_of_intrinsic (signature_of i z) to args ≡ Some y → intrinsic_size i z to args ≡ Some y

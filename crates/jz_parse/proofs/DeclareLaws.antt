@@ -11,7 +11,7 @@ use Rattle.jz_grammar.proofs.Combine.{follow_reads, map_reads, pick_reads, insid
 use Rattle.jz_grammar.proofs.Opening.{HasPhraseAnyway, some_opens}
 use Rattle.jz_grammar.proofs.Samples.{sign_token, sign_in, word_token, word_in, sign_reads, word_reads, identifier_reads, some_sign, some_word, some_identifier, some_then, some_map, some_left, some_each, some_maybe, up}
 use Rattle.jz_grammar.proofs.Steps.{listed_reads}
-use Rattle.jz_cursor.specs.Tokens.{name_of, word_types, size_of}
+use Rattle.jz_cursor.specs.Tokens.{name_of, word_types, size_of_token}
 use Rattle.jz_tree.specs.declared.expr.Decl.{Decl}
 use Rattle.jz_tree.specs.declared.expr.Storage.TheVariants as place
 use Rattle.jz_tree.specs.declared.expr.Ty.TheVariants as ty
@@ -20,7 +20,7 @@ use Rattle.jz_parse_expr.specs.Table.{the, key, name, index}
 use Rattle.jz_parse_expr.proofs.Laws.{index_reads}
 use Rattle.jz_parse_stmt.specs.NotesTable.{notes}
 use Rattle.jz_parse_stmt.proofs.NoteLemmas.{notes_reads, some_notes}
-use Rattle.jz_parse.specs.Trees.{type_of, decl_of, params_all, declared_all, ret_of, joined, or_empty}
+use Rattle.jz_parse.specs.Trees.{type_of, decl_of, params_all, declared_all, ret_of, joined_lists, or_empty}
 use Rattle.jz_parse.specs.Grammar as g
 use Rattle.jz_parse.specs.Readers as r
 
@@ -60,7 +60,7 @@ word_type_in = word_in (codes "u8") (word (codes "u16") ∷ word (codes "u32") �
 word_or_array_law : (d : ℕ) → IsReader (r.word_or_array d) (λ e. g.word_or_array (plus d e)) (full word_types brackets)
 unfolding r.word_or_array
 word_or_array_law d = map_reads (λ p. type_of p.0 p.1)
-    (follow_reads (leaf_reads word_types size_of d (word_token (codes "u8")) word_type_in) (optional_reads brackets [] (index_reads d)) (up (λ d. maybe (index d)) d (some_maybe index)) refl)
+    (follow_reads (leaf_reads word_types size_of_token d (word_token (codes "u8")) word_type_in) (optional_reads brackets [] (index_reads d)) (up (λ d. maybe (index d)) d (some_maybe index)) refl)
 
 abbrev type_starts : List Kind
 type_starts = word (codes "int") ∷ word (codes "bool") ∷ word_types
@@ -108,15 +108,15 @@ pub next_group_law : (d : ℕ) → IsReader (r.next_group d) (λ e. g.comma g.gr
 unfolding r.next_group
 next_group_law d = comma_law g.group r.group_starts r.ids d (group_law d) some_group
 
-groups_is : (d : ℕ) (ts : List Token) → through (λ p. p.0 ++ joined p.1) (follow (r.group d) (many r.commas (r.next_group d)) ts) ≡ r.groups d ts
+groups_is : (d : ℕ) (ts : List Token) → through (λ p. p.0 ++ joined_lists p.1) (follow (r.group d) (many r.commas (r.next_group d)) ts) ≡ r.groups d ts
 unfolding r.groups r.groups_more
 groups_is d ts = step (r.group d ts)
   where
-    last : (ps : List Param) (w : Answer (List (List Param))) → through {A = List Param × List (List Param)} (λ p. p.0 ++ joined p.1) (w >>= λ y. Ok ((ps, y.0), y.1)) ≡ through (λ gs. ps ++ joined gs) w
+    last : (ps : List Param) (w : Answer (List (List Param))) → through {A = List Param × List (List Param)} (λ p. p.0 ++ joined_lists p.1) (w >>= λ y. Ok ((ps, y.0), y.1)) ≡ through (λ gs. ps ++ joined_lists gs) w
     last ps (Ok y) = refl
     last ps (Err e) = refl
 
-    step : (w : Answer (List Param)) → through {A = List Param × List (List Param)} (λ p. p.0 ++ joined p.1) (w >>= λ x. many r.commas (r.next_group d) x.1 >>= λ y. Ok ((x.0, y.0), y.1)) ≡ (w >>= λ x. through (λ gs. x.0 ++ joined gs) (many r.commas (r.next_group d) x.1))
+    step : (w : Answer (List Param)) → through {A = List Param × List (List Param)} (λ p. p.0 ++ joined_lists p.1) (w >>= λ x. many r.commas (r.next_group d) x.1 >>= λ y. Ok ((x.0, y.0), y.1)) ≡ (w >>= λ x. through (λ gs. x.0 ++ joined_lists gs) (many r.commas (r.next_group d) x.1))
     step (Ok x) = last x.0 (many r.commas (r.next_group d) x.1)
     step (Err e) = refl
 
@@ -125,7 +125,7 @@ more_groups d = each (g.comma g.group d)
 
 groups_law : (d : ℕ) → IsReader (r.groups d) (λ e. g.groups (plus d e)) (full r.group_starts r.next_starts)
 groups_law d = shaped (full r.group_starts r.next_starts)
-    (reads_as (r.groups d) (map_reads (λ p. p.0 ++ joined p.1) (follow_reads (group_law d) (many_reads r.commas r.ids (next_group_law d) refl) (up more_groups d (some_each (g.comma g.group))) refl)) (groups_is d)) refl refl refl
+    (reads_as (r.groups d) (map_reads (λ p. p.0 ++ joined_lists p.1) (follow_reads (group_law d) (many_reads r.commas r.ids (next_group_law d) refl) (up more_groups d (some_each (g.comma g.group))) refl)) (groups_is d)) refl refl refl
 
 abbrev parenthesis : List Kind
 parenthesis = r.mark (codes "(")

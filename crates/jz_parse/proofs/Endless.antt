@@ -5,7 +5,7 @@ use Rattle.jz_grammar.specs.Kinds.{Kind, identifier, word, number, cast, string,
 use Rattle.jz_grammar.specs.Grammar.{Marked, Lang, token, ◌▸◌, ◌⊕◌, ◌⇒◌, never, then_by, opens, each, maybe}
 use Rattle.jz_grammar.proofs.Basics.{in_apart}
 use Rattle.jz_io.specs.declared.span.Span.{Span}
-use Rattle.jz_cursor.specs.Tokens.{name_of, number_of, cast_of, string_of, word_types, size_of}
+use Rattle.jz_cursor.specs.Tokens.{name_of, number_of_token, cast_of, string_of, word_types, size_of_token}
 use Rattle.jz_tree.specs.declared.expr.Expr.{Expr}
 use Rattle.jz_parse_expr.specs.Operators.{ops_of, op_of, level_count}
 use Rattle.jz_parse_expr.specs.Table as e
@@ -71,7 +71,7 @@ name : (d : ℕ) → IsEndless (e.name d)
 name d = plain (identifier ∷ []) name_of d refl
 
 word_type : (d : ℕ) → IsEndless (e.word_type d)
-word_type d = plain word_types size_of d refl
+word_type d = plain word_types size_of_token d refl
 
 -- ---- expressions
 operators_apart : (k : ℕ) → disjoint (ops_of k) (end ∷ []) ≡ true
@@ -105,7 +105,7 @@ module _ (low : ℕ → Lang (Span × Expr)) (L : (b : ℕ) → IsEndless (low b
 
   unary_of : (d : ℕ) → IsEndless (e.unary_of low d)
   unary_of d =
-      either (seen _ (plain (number ∷ []) number_of d refl))
+      either (seen _ (plain (number ∷ []) number_of_token d refl))
       (either (seen _ (two (name d) (perhaps (bracket d))))
       (either (seen _ (key (codes "true") d))
       (either (seen _ (key (codes "false") d))
@@ -133,7 +133,7 @@ access d = either (seen _ (cast_access e.unary unary d)) (seen _ (plain_access e
 note_value : (d : ℕ) → IsEndless (n.note_value d)
 note_value d =
     either (seen _ (plain (identifier ∷ []) name_of d refl))
-    (either (seen _ (plain (number ∷ []) number_of d refl)) (seen _ (plain (string ∷ []) string_of d refl)))
+    (either (seen _ (plain (number ∷ []) number_of_token d refl)) (seen _ (plain (string ∷ []) string_of d refl)))
 
 entry : (at : Span) (d : ℕ) → IsEndless (n.entry at d)
 entry at d = seen _ (two (name d) (perhaps (seen _ (two (the (codes "=") d) (note_value d)))))
@@ -242,7 +242,7 @@ items : (d : ℕ) → IsEndless (g.items d)
 items d = seen _ (any (either (seen _ (decl d)) (seen _ (stmt d))))
 
 variables : (d : ℕ) → IsEndless (g.variables d)
-variables d = seen _ (two (seen _ (name d)) (any (comma g.used d (seen _ (name d)))))
+variables d = seen _ (two (seen _ (name d)) (any (comma g.variable_used d (seen _ (name d)))))
 
 names : (d : ℕ) → IsEndless (g.names d)
 names d = either (variables d) (seen _ (within (sign (codes "(") ∷ []) _ d refl (λ b. two (variables b) (the (codes ")") b))))

@@ -16,7 +16,7 @@ use Rattle.jz_tree.specs.declared.program.Program.{Program}
 use Rattle.jz_cursor.specs.declared.fault.SyntaxKind.{SyntaxKind}
 use Rattle.jz_cursor.specs.declared.fault.SyntaxKind.TheVariants.{Unexpected, TooDeep}
 use Rattle.jz_cursor.specs.declared.fault.SyntaxFault.{SyntaxFault}
-use Rattle.jz_cursor.specs.Gave.{cause_of, numbered}
+use Rattle.jz_cursor.specs.Gave.{cause_of, numbered_answer}
 use Rattle.jz_cursor.specs.Places.{span_at, span_or_start, IsFaultAt}
 use Rattle.jz_parse.specs.Deriving.{IsStoppedAt, IsFaultWithin}
 use Rattle.jz_parse.specs.Grammar as g
@@ -24,16 +24,16 @@ use Rattle.jz_parse.specs.Readers as r
 use Rattle.jz_parse.proofs.FunctionLaws.{program_shape, program_law}
 
 -- ---- what was read, and what is left
-pub read_done : (limit n : ℕ) (ts now : List Token) (p : Program) → r.program limit ts ≡ Ok (p, now) → length now ≡ 0 → numbered n (final (r.program limit ts)) ≡ Ok p
-read_done limit n ts [] p h e = ap (λ z. numbered n (final z)) h
+pub read_done : (limit n : ℕ) (ts now : List Token) (p : Program) → r.program limit ts ≡ Ok (p, now) → length now ≡ 0 → numbered_answer n (final (r.program limit ts)) ≡ Ok p
+read_done limit n ts [] p h e = ap (λ z. numbered_answer n (final z)) h
 read_done limit n ts (t ∷ now) p h e = absurd (omega (arith, e))
 
-pub read_over : (limit n : ℕ) (ts now : List Token) (p : Program) → r.program limit ts ≡ Ok (p, now) → (length now ≡ 0 → ⊥) → numbered n (final (r.program limit ts)) ≡ Err (cause.Unexpected, n - length now)
+pub read_over : (limit n : ℕ) (ts now : List Token) (p : Program) → r.program limit ts ≡ Ok (p, now) → (length now ≡ 0 → ⊥) → numbered_answer n (final (r.program limit ts)) ≡ Err (cause.Unexpected, n - length now)
 read_over limit n ts [] p h e = absurd (e refl)
-read_over limit n ts (t ∷ now) p h e = ap (λ z. numbered n (final z)) h
+read_over limit n ts (t ∷ now) p h e = ap (λ z. numbered_answer n (final z)) h
 
-pub read_wrong : (limit n : ℕ) (ts now : List Token) (k : Cause) → r.program limit ts ≡ Err (k, now) → numbered n (final (r.program limit ts)) ≡ Err (k, n - length now)
-read_wrong limit n ts now k h = ap (λ z. numbered n (final z)) h
+pub read_wrong : (limit n : ℕ) (ts now : List Token) (k : Cause) → r.program limit ts ≡ Err (k, now) → numbered_answer n (final (r.program limit ts)) ≡ Err (k, n - length now)
+read_wrong limit n ts now k h = ap (λ z. numbered_answer n (final z)) h
 
 -- ---- causes
 same_cause : (k j : SyntaxKind) → cause_of k ≡ cause_of j → k ≡ j
@@ -46,10 +46,10 @@ same_pair : {A B : Type 0} (a c : A) (b d : B) → ◌≡◌ {A = Result Program
 same_pair {A} {B} a c b d h = let p : ◌≡◌ {A = A × B} (a, b) (c, d) = cc in (ap (λ z. z.0) p, ap (λ z. z.1) p)
 
 -- ---- the reader in words of tokens
-pub derived : (limit n : ℕ) (ts : List Token) (p : Program) → numbered n (final (r.program limit ts)) ≡ Ok p → Derives g.program limit ts p
+pub derived : (limit n : ℕ) (ts : List Token) (p : Program) → numbered_answer n (final (r.program limit ts)) ≡ Ok p → Derives g.program limit ts p
 derived limit n ts p h = cases (final (r.program limit ts)) refl h
   where
-    cases : (w : Result Program (Cause × List Token)) → final (r.program limit ts) ≡ w → numbered n w ≡ Ok p → Derives g.program limit ts p
+    cases : (w : Result Program (Cause × List Token)) → final (r.program limit ts) ≡ w → numbered_answer n w ≡ Ok p → Derives g.program limit ts p
     cases (Ok a) e i = let s : a ≡ p = cc in x.final_ok (r.program limit) g.program limit program_shape (program_law limit) has_nil ts p (e ∙ ap (λ z. Ok z) s)
     cases (Err a) e i = cc
 
@@ -91,10 +91,10 @@ outside a b h = if_false (nat_lt a b) a (b - 1) (not_less a b h)
     not_less a b h = grind arith
 
 -- ---- the fault
-pub fault_law : (limit : ℕ) (ts : List Token) (k : SyntaxKind) (at : ℕ) (f : SyntaxFault) → numbered (length ts) (final (r.program limit ts)) ≡ Err (cause_of k, at) → IsFaultAt k ts at f → IsFaultWithin limit ts f
+pub fault_law : (limit : ℕ) (ts : List Token) (k : SyntaxKind) (at : ℕ) (f : SyntaxFault) → numbered_answer (length ts) (final (r.program limit ts)) ≡ Err (cause_of k, at) → IsFaultAt k ts at f → IsFaultWithin limit ts f
 fault_law limit ts k at f h is = cases (final (r.program limit ts)) refl h
   where
-    cases : (w : Result Program (Cause × List Token)) → final (r.program limit ts) ≡ w → numbered (length ts) w ≡ Err (cause_of k, at) → IsFaultWithin limit ts f
+    cases : (w : Result Program (Cause × List Token)) → final (r.program limit ts) ≡ w → numbered_answer (length ts) w ≡ Err (cause_of k, at) → IsFaultWithin limit ts f
     cases (Ok a) e i = cc
     cases (Err (c, [])) e i =
         let n = same_pair c (cause_of k) (length ts - 0) at i in

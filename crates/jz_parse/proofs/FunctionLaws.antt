@@ -40,23 +40,23 @@ unfolding r.items_more
 items_law d = map_reads (λ is. (vars_in is, stmts_in is)) (many_reads r.item_starts stmt_goes (item_law d) refl)
 
 -- ---- returned variables
-used_law : (d : ℕ) → IsReader r.used (λ e. g.used (plus d e)) (full r.ids [])
-unfolding r.used
+used_law : (d : ℕ) → IsReader r.variable_used (λ e. g.variable_used (plus d e)) (full r.ids [])
+unfolding r.variable_used
 used_law d = map_reads used_of (identifier_reads name_of d)
 
-some_used : HasPhrase g.used
+some_used : HasPhrase g.variable_used
 some_used = some_map name used_of some_name
 
-pub next_used_law : (d : ℕ) → IsReader r.next_used (λ e. g.comma g.used (plus d e)) (full r.commas [])
+pub next_used_law : (d : ℕ) → IsReader r.next_used (λ e. g.comma g.variable_used (plus d e)) (full r.commas [])
 unfolding r.next_used
-next_used_law d = comma_law g.used r.ids [] d (used_law d) some_used
+next_used_law d = comma_law g.variable_used r.ids [] d (used_law d) some_used
 
 variables_law : (d : ℕ) → IsReader r.variables (λ e. g.variables (plus d e)) (full r.ids r.commas)
 unfolding r.variables r.used_more
 variables_law d = shaped (full r.ids r.commas) (listed_reads r.ids [] r.commas [] (used_law d) (next_used_law d) refl refl) refl refl refl
 
 some_variables : HasPhrase g.variables
-some_variables = some_map (λ d. g.used d ▸ each (g.comma g.used d)) (λ p. p.0 ∷ p.1) (some_then g.used (λ d. each (g.comma g.used d)) some_used (some_each (g.comma g.used)))
+some_variables = some_map (λ d. g.variable_used d ▸ each (g.comma g.variable_used d)) (λ p. p.0 ∷ p.1) (some_then g.variable_used (λ d. each (g.comma g.variable_used d)) some_used (some_each (g.comma g.variable_used)))
 
 abbrev parenthesis : List Kind
 parenthesis = r.mark (codes "(")
@@ -64,8 +64,8 @@ parenthesis = r.mark (codes "(")
 abbrev closed_variables : ℕ → Lang (List Var × Span)
 closed_variables b = g.variables b ▸ the (codes ")") b
 
-enclosed_law : (d : ℕ) → IsReader (r.enclosed d) (λ e. g.enclosed (plus d e)) (full parenthesis [])
-unfolding r.enclosed
+enclosed_law : (d : ℕ) → IsReader (r.variables_enclosed d) (λ e. g.variables_enclosed (plus d e)) (full parenthesis [])
+unfolding r.variables_enclosed
 enclosed_law d = map_reads (λ p. p.1.0)
     (inside_reads parenthesis (sign_token (codes "(")) (sign_in (codes "(") []) _ closed_variables (some_then g.variables (the (codes ")")) some_variables (some_the (codes ")"))) (full r.ids []) d
     (λ b h. follow_reads (variables_law b) (sign_reads (codes ")") span_of b) (up (the (codes ")")) b (some_the (codes ")"))) refl))
@@ -80,8 +80,8 @@ returns = r.keyword (codes "return")
 abbrev names_and_end : ℕ → Lang (Option (List Var) × Span)
 names_and_end d = maybe (g.names d) ▸ the (codes ";") d
 
-returned_law : (d : ℕ) → IsReader (r.returned d) (λ e. g.returned (plus d e)) (full returns [])
-unfolding r.returned
+returned_law : (d : ℕ) → IsReader (r.variables_returned d) (λ e. g.variables_returned (plus d e)) (full returns [])
+unfolding r.variables_returned
 returned_law d = map_reads (λ p. or_empty p.1.0)
     (follow_reads (word_reads (codes "return") span_of d)
     (follow_reads (optional_reads r.names_starts r.commas (names_law d)) (sign_reads (codes ";") span_of d) (up (the (codes ";")) d (some_the (codes ";"))) refl)

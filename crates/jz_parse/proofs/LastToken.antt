@@ -3,7 +3,7 @@ use Rattle.std.proofs.Common.{◌≡◌, ℕ, ◌<◌, List, [], ◌∷◌, ◌+
 use Rattle.jz_lex.proofs.LexingWords.{true_false}
 use Rattle.jz_lex.specs.declared.token.Token.{Token}
 use Rattle.jz_lex.specs.declared.token.TokenKind.TheVariants.{End}
-use Rattle.jz_grammar.specs.Kinds.{kind_of, end, member, is_in}
+use Rattle.jz_grammar.specs.Kinds.{token_kind, end, member, is_in}
 use Rattle.jz_grammar.specs.Grammar.{Marked, plain, Within}
 use Rattle.jz_grammar.specs.Laws.{Derives, plus}
 use Rattle.jz_grammar.proofs.Basics.{outcome_within}
@@ -19,7 +19,7 @@ use Rattle.jz_parse.proofs.FunctionLaws.{program_shape, program_law}
 
 is_end : (t : Token) → t.kind ≡ End → is_in (end ∷ []) t ≡ true
 unfolding is_in
-is_end t h = ap (λ z. member (kind_of z) (end ∷ [])) h
+is_end t h = ap (λ z. member (token_kind z) (end ∷ [])) h
 
 no_more : (v : Marked) (xs ys : List Marked) (x : Marked) → x ∷ (xs ++ ys) ≡ v ∷ [] → ys ≡ []
 no_more v [] [] x h = refl

@@ -3,7 +3,7 @@ use Rattle.std.proofs.Common.{◌≡◌, ℕ, ◌<◌, List, [], ◌∷◌, ◌+
 use Rattle.jz_io.specs.declared.span.Span.{Span}
 use Rattle.jz_lex.specs.declared.token.Token.{Token}
 use Rattle.jz_grammar.specs.Causes.{Cause}
-use Rattle.jz_grammar.specs.Kinds.{Kind, kind_of, word, sign, is_in, has}
+use Rattle.jz_grammar.specs.Kinds.{Kind, token_kind, word, sign, is_in, has}
 use Rattle.jz_grammar.specs.Reading.{Answer, Reader, ◌>>=◌, through, many}
 use Rattle.jz_grammar.specs.Grammar.{Lang}
 use Rattle.jz_grammar.specs.Laws.{IsReader, full}
@@ -24,7 +24,7 @@ use Rattle.jz_parse.specs.declared.function.Item.{Item}
 use Rattle.jz_parse.specs.declared.function.Item.TheVariants.{Declares, Does}
 use Rattle.jz_parse.specs.declared.program.Part.{Part}
 use Rattle.jz_parse.specs.declared.program.Part.TheVariants.{Constant, Function}
-use Rattle.jz_parse.specs.Trees.{joined, vars_in, stmts_in, consts_in, funs_in}
+use Rattle.jz_parse.specs.Trees.{joined_lists, vars_in, stmts_in, consts_in, funs_in}
 use Rattle.jz_parse.specs.Readers as r
 use Rattle.jz_parse.proofs.DeclareLaws.{brackets, next_group_law, next_rtype_law, next_name_law}
 use Rattle.jz_parse.proofs.FunctionLaws.{item_law, next_used_law, part_law}
@@ -33,7 +33,7 @@ use Rattle.jz_parse.proofs.FunctionLaws.{item_law, next_used_law, part_law}
 has_either : (ks ls : List Kind) (ts : List Token) → has (ks ++ ls) ts ≡ (has ks ts || has ls ts)
 unfolding is_in
 has_either ks ls [] = refl
-has_either ks ls (t ∷ ts) = member_append ks ls (kind_of t.kind)
+has_either ks ls (t ∷ ts) = member_append ks ls (token_kind t.kind)
 
 pub begins_storage : (ts : List Token) → has r.storages ts ≡ (has (r.keyword (codes "reg")) ts || (has (r.keyword (codes "stack")) ts || has (r.keyword (codes "inline")) ts))
 begins_storage ts =
@@ -92,20 +92,20 @@ names_shorter a ts us e = shorter r.ids [] (identifier_reads name_of 0) ts us a 
 -- ---- groups of parameters
 pub groups_done : (d : ℕ) (out : List Param) (ts : List Token) → has r.commas ts ≡ false → r.groups_more d out ts ≡ Ok (out, ts)
 unfolding r.groups_more
-groups_done d out ts h = ap (through (λ gs. out ++ joined gs)) (many_done (r.next_group d) r.commas ts h) ∙ ap (λ z. Ok (z, ts)) (append-nil out)
+groups_done d out ts h = ap (through (λ gs. out ++ joined_lists gs)) (many_done (r.next_group d) r.commas ts h) ∙ ap (λ z. Ok (z, ts)) (append-nil out)
 
 pub groups_next : (d : ℕ) (out ps : List Param) (ts us : List Token) → has r.commas ts ≡ true → r.next_group d ts ≡ Ok (ps, us) → r.groups_more d out ts ≡ r.groups_more d (out ++ ps) us
 unfolding r.groups_more
 groups_next d out ps ts us h e =
-    ap (through (λ gs. out ++ joined gs)) (many_ok r.commas r.ids (next_group_law d) ps ts us h e) ∙ last (many r.commas (r.next_group d) us)
+    ap (through (λ gs. out ++ joined_lists gs)) (many_ok r.commas r.ids (next_group_law d) ps ts us h e) ∙ last (many r.commas (r.next_group d) us)
   where
-    last : (w : Answer (List (List Param))) → through {A = List (List Param)} (λ gs. out ++ joined gs) (through (λ gs. ps ∷ gs) w) ≡ through (λ gs. (out ++ ps) ++ joined gs) w
-    last (Ok y) = ap (λ z. Ok (z, y.1)) (sym (append_assoc out ps (joined y.0)))
+    last : (w : Answer (List (List Param))) → through {A = List (List Param)} (λ gs. out ++ joined_lists gs) (through (λ gs. ps ∷ gs) w) ≡ through (λ gs. (out ++ ps) ++ joined_lists gs) w
+    last (Ok y) = ap (λ z. Ok (z, y.1)) (sym (append_assoc out ps (joined_lists y.0)))
     last (Err x) = refl
 
 pub groups_wrong : (d : ℕ) (out : List Param) (ts us : List Token) (k : Cause) → has r.commas ts ≡ true → r.next_group d ts ≡ Err (k, us) → r.groups_more d out ts ≡ Err (k, us)
 unfolding r.groups_more
-groups_wrong d out ts us k h e = ap (through (λ gs. out ++ joined gs)) (many_err r.commas r.ids (next_group_law d) ts us k h e)
+groups_wrong d out ts us k h e = ap (through (λ gs. out ++ joined_lists gs)) (many_err r.commas r.ids (next_group_law d) ts us k h e)
 
 pub groups_shorter : (d : ℕ) (ps : List Param) (ts us : List Token) → r.next_group d ts ≡ Ok (ps, us) → length us < length ts
 groups_shorter d ps ts us e = shorter r.commas r.ids (next_group_law d) ts us ps e

@@ -26,7 +26,7 @@ use Rattle.jz_parse.specs.declared.function.Item.{Item}
 use Rattle.jz_parse.specs.declared.function.Item.TheVariants.{Declares, Does}
 use Rattle.jz_parse.specs.declared.program.Part.{Part}
 use Rattle.jz_parse.specs.declared.program.Part.TheVariants.{Constant, Function}
-use Rattle.jz_parse.specs.Trees.{type_of, decl_of, declared_all, params_all, ret_of, joined, or_empty, vars_in, stmts_in, body_of, fun_of, const_of, consts_in, funs_in, program_of}
+use Rattle.jz_parse.specs.Trees.{type_of, decl_of, declared_all, params_all, ret_of, joined_lists, or_empty, vars_in, stmts_in, body_of, fun_of, const_of, consts_in, funs_in, program_of}
 
 -- "," and what l is
 abbrev pub comma : {A : Type 0} → (ℕ → Lang A) → ℕ → Lang A
@@ -57,7 +57,7 @@ group d = (notes d ▸ declaration d ▸ name_list d) ⇒ (λ p. params_all p.0 
 
 -- group { "," group }
 abbrev pub groups : ℕ → Lang (List Param)
-groups d = (group d ▸ each (comma group d)) ⇒ (λ p. p.0 ++ joined p.1)
+groups d = (group d ▸ each (comma group d)) ⇒ (λ p. p.0 ++ joined_lists p.1)
 
 -- "(" [ group { "," group } ] ")"
 abbrev pub params : ℕ → Lang (List Param)
@@ -92,24 +92,24 @@ abbrev pub items : ℕ → Lang (List Var × List Stmt)
 items d = each (item d) ⇒ (λ is. (vars_in is, stmts_in is))
 
 -- names = ID { "," ID } | "(" ID { "," ID } ")"
-abbrev pub used : ℕ → Lang Var
-used d = name d ⇒ used_of
+abbrev pub variable_used : ℕ → Lang Var
+variable_used d = name d ⇒ used_of
 
 abbrev pub variables : ℕ → Lang (List Var)
-variables d = (used d ▸ each (comma used d)) ⇒ (λ p. p.0 ∷ p.1)
+variables d = (variable_used d ▸ each (comma variable_used d)) ⇒ (λ p. p.0 ∷ p.1)
 
-abbrev pub enclosed : ℕ → Lang (List Var)
-enclosed d = opens (sign (codes "(") ∷ []) (λ b. variables b ▸ the (codes ")") b) d ⇒ (λ p. p.1.0)
+abbrev pub variables_enclosed : ℕ → Lang (List Var)
+variables_enclosed d = opens (sign (codes "(") ∷ []) (λ b. variables b ▸ the (codes ")") b) d ⇒ (λ p. p.1.0)
 
 abbrev pub names : ℕ → Lang (List Var)
-names d = variables d ⊕ enclosed d
+names d = variables d ⊕ variables_enclosed d
 
 -- [ "return" [ names ] ";" ]
-abbrev pub returned : ℕ → Lang (List Var)
-returned d = (key (codes "return") d ▸ maybe (names d) ▸ the (codes ";") d) ⇒ (λ p. or_empty p.1.0)
+abbrev pub variables_returned : ℕ → Lang (List Var)
+variables_returned d = (key (codes "return") d ▸ maybe (names d) ▸ the (codes ";") d) ⇒ (λ p. or_empty p.1.0)
 
 abbrev pub ending : ℕ → Lang (List Var)
-ending d = maybe (returned d) ⇒ or_empty
+ending d = maybe (variables_returned d) ⇒ or_empty
 
 -- "{" { decl | stmt } [ "return" [ names ] ";" ] "}"
 abbrev pub body : ℕ → Lang Body

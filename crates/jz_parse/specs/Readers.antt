@@ -26,7 +26,7 @@ use Rattle.jz_parse.specs.declared.function.Item.{Item}
 use Rattle.jz_parse.specs.declared.function.Item.TheVariants.{Declares, Does}
 use Rattle.jz_parse.specs.declared.program.Part.{Part}
 use Rattle.jz_parse.specs.declared.program.Part.TheVariants.{Constant, Function}
-use Rattle.jz_parse.specs.Trees.{type_of, decl_of, declared_all, params_all, ret_of, joined, or_empty, vars_in, stmts_in, body_of, fun_of, const_of, consts_in, funs_in, program_of}
+use Rattle.jz_parse.specs.Trees.{type_of, decl_of, declared_all, params_all, ret_of, joined_lists, or_empty, vars_in, stmts_in, body_of, fun_of, const_of, consts_in, funs_in, program_of}
 
 -- ---- the tokens that decide
 abbrev pub keyword : List ℕ → List Kind
@@ -80,7 +80,7 @@ unfoldable pub next_group : ℕ → Reader (List Param)
 next_group d ts = comma (group d) ts
 
 unfoldable pub groups_more : ℕ → List Param → Reader (List Param)
-groups_more d out ts = through (λ gs. out ++ joined gs) (many commas (next_group d) ts)
+groups_more d out ts = through (λ gs. out ++ joined_lists gs) (many commas (next_group d) ts)
 
 unfoldable pub groups : ℕ → Reader (List Param)
 groups d ts = group d ts >>= λ x. groups_more d x.0 x.1
@@ -133,33 +133,33 @@ item_starts = storages ++ stmt_starts
 unfoldable pub items_more : ℕ → List Var → List Stmt → Reader (List Var × List Stmt)
 items_more d vars stmts ts = through (λ is. (vars ++ vars_in is, stmts ++ stmts_in is)) (many item_starts (item d) ts)
 
--- ---- returned variables
-unfoldable pub used : Reader Var
-used ts = through used_of (name ts)
+-- ---- variables_returned variables
+unfoldable pub variable_used : Reader Var
+variable_used ts = through used_of (name ts)
 
 unfoldable pub next_used : Reader Var
-next_used ts = comma used ts
+next_used ts = comma variable_used ts
 
 unfoldable pub used_more : List Var → Reader (List Var)
 used_more out ts = more_of commas next_used out ts
 
 unfoldable pub variables : Reader (List Var)
-variables ts = one_and used used_more ts
+variables ts = one_and variable_used used_more ts
 
-unfoldable pub enclosed : ℕ → Reader (List Var)
-enclosed d ts = through (λ p. p.1.0) (inside (mark (codes "(")) (λ b. follow variables (the (codes ")"))) d ts)
+unfoldable pub variables_enclosed : ℕ → Reader (List Var)
+variables_enclosed d ts = through (λ p. p.1.0) (inside (mark (codes "(")) (λ b. follow variables (the (codes ")"))) d ts)
 
 unfoldable pub names : ℕ → Reader (List Var)
-names d = pick ids variables (enclosed d)
+names d = pick ids variables (variables_enclosed d)
 
 abbrev pub names_starts : List Kind
 names_starts = identifier ∷ sign (codes "(") ∷ []
 
-unfoldable pub returned : ℕ → Reader (List Var)
-returned d ts = through (λ p. or_empty p.1.0) (follow (key (codes "return")) (follow (optional names_starts (names d)) (the (codes ";"))) ts)
+unfoldable pub variables_returned : ℕ → Reader (List Var)
+variables_returned d ts = through (λ p. or_empty p.1.0) (follow (key (codes "return")) (follow (optional names_starts (names d)) (the (codes ";"))) ts)
 
 unfoldable pub ending : ℕ → Reader (List Var)
-ending d ts = through or_empty (optional (keyword (codes "return")) (returned d) ts)
+ending d ts = through or_empty (optional (keyword (codes "return")) (variables_returned d) ts)
 
 -- ---- functions
 unfoldable pub body : ℕ → Reader Body

@@ -3,7 +3,7 @@
 ghost use Rattle.std.specs.Prelude.{◌≡◌, []};
 ghost use Rattle.jz_grammar.specs.Kinds.{has};
 ghost use Rattle.jz_cursor.specs.Gave.{Gave};
-ghost use Rattle.jz_parse.specs.Readers.{item, item_starts, items_more, used, next_used, used_more, variables, enclosed, names, names_starts, returned, ending, body, kind, function};
+ghost use Rattle.jz_parse.specs.Readers.{item, item_starts, items_more, variable_used, next_used, used_more, variables, variables_enclosed, names, names_starts, variables_returned, ending, body, kind, function};
 
 use crate::declare::{begins_storage, decl, params, results};
 use jz_cursor::{Cursor, Stop};
@@ -63,9 +63,9 @@ fn items(alloc: Global, c: &mut Cursor, depth: u32) -> Result<(Seq<Var>, Seq<Stm
 }
 
 /// A variable where it is used.
-#[tactic(auto, unfolding(crate::specs::Readers::used))]
+#[tactic(auto, unfolding(crate::specs::Readers::variable_used))]
 fn used(alloc: Global, c: &mut Cursor) -> Result<Var, Stop>
-    ensures { Gave result c.new (used c.old) }
+    ensures { Gave result c.new (variable_used c.old) }
 {
     let (name, span) = c.name(alloc)?;
     Ok(Var {
@@ -109,9 +109,9 @@ fn variables(alloc: Global, c: &mut Cursor) -> Result<Seq<Var>, Stop>
 }
 
 /// Variables in parentheses.
-#[tactic(auto, unfolding(crate::specs::Readers::enclosed))]
+#[tactic(auto, unfolding(crate::specs::Readers::variables_enclosed))]
 fn enclosed(alloc: Global, c: &mut Cursor, depth: u32) -> Result<Seq<Var>, Stop>
-    ensures { Gave result c.new (enclosed depth c.old) }
+    ensures { Gave result c.new (variables_enclosed depth c.old) }
 {
     let (_open, _inner) = c.open("(", depth)?;
     let out = variables(alloc, c)?;
@@ -138,9 +138,9 @@ fn begins_names(c: &Cursor) -> bool
     c.is_identifier() || c.is_sign("(")
 }
 
-#[tactic(auto, unfolding(crate::specs::Readers::returned))]
+#[tactic(auto, unfolding(crate::specs::Readers::variables_returned))]
 fn returned(alloc: Global, c: &mut Cursor, depth: u32) -> Result<Seq<Var>, Stop>
-    ensures { Gave result c.new (returned depth c.old) }
+    ensures { Gave result c.new (variables_returned depth c.old) }
 {
     let _return = c.word("return")?;
     let out = if begins_names(c) {

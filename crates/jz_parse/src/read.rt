@@ -6,7 +6,7 @@ ghost use Rattle.jz_data.specs.Laws.{AtMostOne, NeverBoth};
 ghost use Rattle.jz_lex.specs.declared.token.Token.{Token};
 ghost use Rattle.jz_lex.specs.declared.token.TokenKind.TheVariants.{End};
 ghost use Rattle.jz_grammar.specs.Reading.{final};
-ghost use Rattle.jz_cursor.specs.Gave.{numbered, IsNumbered};
+ghost use Rattle.jz_cursor.specs.Gave.{numbered_answer, IsNumbered};
 ghost use Rattle.jz_parse.specs.Readers.{program};
 ghost use Rattle.jz_parse.specs.Deriving.{DerivesProgram, IsSyntaxFault};
 ghost use Rattle.jz_parse.specs.Reading.{Reads};
@@ -28,7 +28,7 @@ fn read_whole(
     tokens: &Tokens,
     depth: u32,
 ) -> Result<Program, Failure<(SyntaxKind, usize)>>
-    ensures { IsNumbered (numbered (length tokens.now) (final (program depth tokens.now))) result }
+    ensures { IsNumbered (numbered_answer (length tokens.now) (final (program depth tokens.now))) result }
 {
     let mut c = Cursor::new(tokens.as_slice());
     match program(alloc, &mut c, depth) {

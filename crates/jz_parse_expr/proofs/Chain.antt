@@ -3,7 +3,7 @@ use Rattle.std.proofs.Common.{◌≡◌, ℕ, zero, suc, ◌-◌, ◌<◌, ◌�
 use Rattle.jz_io.specs.declared.span.Span.{Span}
 use Rattle.jz_lex.specs.declared.token.Token.{Token}
 use Rattle.jz_grammar.specs.Causes.{Cause}
-use Rattle.jz_grammar.specs.Kinds.{Kind, number, identifier, word, kind_of, is_in, has}
+use Rattle.jz_grammar.specs.Kinds.{Kind, number, identifier, word, token_kind, is_in, has}
 use Rattle.jz_grammar.specs.Reading.{Answer, Reader, ◌>>=◌, through, many, leaf}
 use Rattle.jz_grammar.proofs.Basics.{member_append}
 use Rattle.jz_grammar.proofs.Combine.{many_next, many_done, shorter}
@@ -102,7 +102,7 @@ level_err u (suc k) ts rest w n h = let s : suc k - 1 ≡ k = omega arith in
 
 in_either : (ks ls : List Kind) (t : Token) → is_in (ks ++ ls) t ≡ (is_in ks t || is_in ls t)
 unfolding is_in
-in_either ks ls t = member_append ks ls (kind_of t.kind)
+in_either ks ls t = member_append ks ls (token_kind t.kind)
 
 pub begins_is : (ts : List Token) → has r.expr_starts ts ≡ (has (number ∷ []) ts || (has (identifier ∷ []) ts || (has (word (codes "true") ∷ []) ts || (has (word (codes "false") ∷ []) ts || has r.signed_starts ts))))
 begins_is ts = has_either (number ∷ []) (identifier ∷ word (codes "true") ∷ word (codes "false") ∷ r.signed_starts) ts

@@ -10,7 +10,7 @@ use Rattle.jz_grammar.specs.Laws.{IsReader, HasPhrase, plus, full}
 use Rattle.jz_grammar.proofs.Combine.{follow_reads, map_reads, pick_reads, inside_reads, optional_reads, reads_as, same_reads, shaped}
 use Rattle.jz_grammar.proofs.Opening.{inside_same, HasPhraseAnyway, some_opens}
 use Rattle.jz_grammar.proofs.Samples.{sign_token, sign_in, identifier_reads, number_reads, some_then, some_map, some_maybe, some_right, up}
-use Rattle.jz_cursor.specs.Tokens.{name_of, number_of}
+use Rattle.jz_cursor.specs.Tokens.{name_of, number_of_token}
 use Rattle.jz_tree.specs.declared.expr.Expr.{Expr}
 use Rattle.jz_parse_expr.specs.Trees.{number_expr, bool_expr, name_expr, neg_expr, not_expr, access_of, load_expr, Group, group_expr}
 use Rattle.jz_parse_expr.specs.Table as g
@@ -25,7 +25,7 @@ square = sign (codes "[") ∷ []
 pub bracket_reads : (d : ℕ) → Below d → IsReader (r.bracket r.unary d) (λ e. g.bracket g.unary (plus d e)) (full square [])
 unfolding r.bracket
 bracket_reads d below = map_reads (λ p. p.1.0.1)
-    (inside_reads square (sign_token (codes "[")) (sign_in (codes "[") []) (λ b. follow (r.expr_of (r.unary b)) (r.the (codes "]"))) (λ b. g.spanned b ▸ g.the (codes "]") b) (some_closed (codes "]")) (full r.expr_starts []) d
+    (inside_reads square (sign_token (codes "[")) (sign_in (codes "[") []) (λ b. follow (r.expr_of (r.unary b)) (r.the (codes "]"))) (λ b. g.spanned_expression b ▸ g.the (codes "]") b) (some_closed (codes "]")) (full r.expr_starts []) d
     (λ b h. follow_reads (expr_of_reads b (below b h)) (the_reads (codes "]") b) (up (λ b. g.the (codes "]") b) b (some_the (codes "]"))) refl))
 
 abbrev size_mark : ℕ → Lang Size
@@ -43,19 +43,19 @@ unfolding r.plain_access
 plain_access_reads d below = map_reads (λ p. (p.0, (p.1.0, p.1.1.0.1)))
     (inside_reads square (sign_token (codes "[")) (sign_in (codes "[") [])
     (λ b. follow (optional (sign (codes ":") ∷ []) r.size_mark) (follow (r.expr_of (r.unary b)) (r.the (codes "]"))))
-    (λ b. maybe (size_mark b) ▸ g.spanned b ▸ g.the (codes "]") b)
-    (some_then (λ b. maybe (size_mark b)) (λ b. g.spanned b ▸ g.the (codes "]") b) (some_maybe size_mark) (some_closed (codes "]")))
+    (λ b. maybe (size_mark b) ▸ g.spanned_expression b ▸ g.the (codes "]") b)
+    (some_then (λ b. maybe (size_mark b)) (λ b. g.spanned_expression b ▸ g.the (codes "]") b) (some_maybe size_mark) (some_closed (codes "]")))
     (full address_starts []) d
     (λ b h. shaped (full address_starts [])
     (follow_reads (optional_reads (sign (codes ":") ∷ []) [] (size_mark_reads b))
     (follow_reads (expr_of_reads b (below b h)) (the_reads (codes "]") b) (up (λ b. g.the (codes "]") b) b (some_the (codes "]"))) refl)
-    (up (λ b. g.spanned b ▸ g.the (codes "]") b) b (some_closed (codes "]"))) refl)
+    (up (λ b. g.spanned_expression b ▸ g.the (codes "]") b) b (some_closed (codes "]"))) refl)
     refl refl refl))
 
 -- ---- the other forms
-number_reads' : (d : ℕ) → IsReader r.number_form (λ e. (token (number ∷ []) (plus d e) ⇒ number_of) ⇒ number_expr) (full (number ∷ []) [])
+number_reads' : (d : ℕ) → IsReader r.number_form (λ e. (token (number ∷ []) (plus d e) ⇒ number_of_token) ⇒ number_expr) (full (number ∷ []) [])
 unfolding r.number_form
-number_reads' d = map_reads number_expr (number_reads number_of d)
+number_reads' d = map_reads number_expr (number_reads number_of_token d)
 
 name_reads : (d : ℕ) → Below d → IsReader (r.name_form r.unary d) (λ e. (g.name (plus d e) ▸ maybe (g.bracket g.unary (plus d e))) ⇒ name_expr) (full (identifier ∷ []) unary_goes)
 unfolding r.name_form
@@ -183,25 +183,25 @@ below d b h = unary_reads b
 
 -- ---- what others read
 pub expr_reads : (d : ℕ) → IsReader (r.expr d) (λ e. g.expr (plus d e)) (full r.expr_starts r.expr_goes)
-unfolding r.expr r.spanned
+unfolding r.expr r.spanned_expression
 expr_reads d = map_reads (λ p. p.1) (expr_of_reads d (unary_reads d))
 
 pub some_expr : HasPhrase (λ d. g.expr d)
-some_expr = some_map g.spanned (λ p. p.1) some_spanned
+some_expr = some_map g.spanned_expression (λ p. p.1) some_spanned
 
 pub index_reads : (d : ℕ) → IsReader (r.index d) (λ e. g.index (plus d e)) (full square [])
 unfolding r.index
 index_reads d = bracket_reads d (below d)
 
 pub some_index : HasPhrase (λ d. g.index d)
-some_index = some_map (opens square (λ b. g.spanned b ▸ g.the (codes "]") b)) (λ p. p.1.0.1) (some_opens (sign (codes "[")) (sign_token (codes "[")) (sign_in (codes "[") []) (λ b. g.spanned b ▸ g.the (codes "]") b) any_closed)
+some_index = some_map (opens square (λ b. g.spanned_expression b ▸ g.the (codes "]") b)) (λ p. p.1.0.1) (some_opens (sign (codes "[")) (sign_token (codes "[")) (sign_in (codes "[") []) (λ b. g.spanned_expression b ▸ g.the (codes "]") b) any_closed)
 
 pub access_reads : (d : ℕ) → IsReader (r.access d) (λ e. g.access (plus d e)) (full r.access_starts [])
 unfolding r.access
 access_reads d = shaped (full r.access_starts []) (pick_reads (map_reads access_of (cast_access_reads d (below d))) (map_reads access_of (plain_access_reads d (below d))) refl refl) refl refl refl
 
 abbrev address : ℕ → Lang (Option Size × ((Span × Expr) × Span))
-address b = maybe (size_mark b) ▸ g.spanned b ▸ g.the (codes "]") b
+address b = maybe (size_mark b) ▸ g.spanned_expression b ▸ g.the (codes "]") b
 
 any_address : HasPhraseAnyway address
 any_address d = let x = any_closed d in ([] ++ x.0, (None, x.1), ([], x.0, inr (refl, refl), x.2, refl))

@@ -8,7 +8,7 @@ use Rattle.jz_grammar.proofs.Basics.{disjoint_nil, has_append, has_join}
 use Rattle.jz_grammar.proofs.Combine.{leaf_reads, follow_reads, map_reads, many_reads, reshape, shaped}
 use Rattle.jz_grammar.proofs.Opening.{HasPhraseAnyway}
 use Rattle.jz_grammar.proofs.Samples.{sign_token, sign_in, sign_reads, word_token, word_in, word_reads, number_token, number_in, some_leaf, some_sign, some_then, up}
-use Rattle.jz_cursor.specs.Tokens.{number_of, word_types, size_of}
+use Rattle.jz_cursor.specs.Tokens.{number_of_token, word_types, size_of_token}
 use Rattle.jz_parse_expr.specs.Operators.{ops_of, op_of}
 use Rattle.jz_parse_expr.specs.Trees.{number_expr, chain}
 use Rattle.jz_parse_expr.specs.Table as g
@@ -28,35 +28,35 @@ u8_in : is_in word_types (word_token (codes "u8")) ≡ true
 u8_in = word_in (codes "u8") (word (codes "u16") ∷ word (codes "u32") ∷ word (codes "u64") ∷ [])
 
 pub word_type_reads : (d : ℕ) → IsReader r.word_type (λ e. g.word_type (plus d e)) (one_shape word_types)
-word_type_reads d = leaf_reads word_types size_of d (word_token (codes "u8")) u8_in
+word_type_reads d = leaf_reads word_types size_of_token d (word_token (codes "u8")) u8_in
 
 pub some_word_type : HasPhrase (λ d. g.word_type d)
-some_word_type = some_leaf word_types size_of (word_token (codes "u8")) u8_in
+some_word_type = some_leaf word_types size_of_token (word_token (codes "u8")) u8_in
 
 -- ---- there are phrases
 pub any_unary : HasPhraseAnyway g.unary
-any_unary zero = ((number_token, zero) ∷ [], number_expr (number_of number_token), inl (number_of number_token, (number_token, (refl, number_in), refl), refl))
-any_unary (suc d) = ((number_token, suc d) ∷ [], number_expr (number_of number_token), inl (number_of number_token, (number_token, (refl, number_in), refl), refl))
+any_unary zero = ((number_token, zero) ∷ [], number_expr (number_of_token number_token), inl (number_of_token number_token, (number_token, (refl, number_in), refl), refl))
+any_unary (suc d) = ((number_token, suc d) ∷ [], number_expr (number_of_token number_token), inl (number_of_token number_token, (number_token, (refl, number_in), refl), refl))
 
 any_levels : (k : ℕ) → HasPhraseAnyway (λ d. g.levels (g.unary d) k d)
 any_levels zero d = any_unary d
 any_levels (suc k) d = let w = any_levels k d in (w.0 ++ [], chain w.1 [], ((w.1, []), (w.0, [], w.2, refl, refl), refl))
 
-any_spanned : HasPhraseAnyway g.spanned
+any_spanned : HasPhraseAnyway g.spanned_expression
 any_spanned d = any_levels 10 d
 
-pub any_closed : HasPhraseAnyway (λ b. g.spanned b ▸ g.the (codes "]") b)
+pub any_closed : HasPhraseAnyway (λ b. g.spanned_expression b ▸ g.the (codes "]") b)
 any_closed d = let x = any_spanned d in
     (x.0 ++ (sign_token (codes "]"), d) ∷ [], (x.1, span_of (sign_token (codes "]"))), (x.0, (sign_token (codes "]"), d) ∷ [], x.2, (sign_token (codes "]"), (refl, sign_in (codes "]") []), refl), refl))
 
 pub some_unary : HasPhrase g.unary
 some_unary d h = any_unary d
 
-pub some_spanned : HasPhrase g.spanned
+pub some_spanned : HasPhrase g.spanned_expression
 some_spanned d h = any_spanned d
 
-pub some_closed : (s : List ℕ) → HasPhrase (λ b. g.spanned b ▸ g.the s b)
-some_closed s = some_then (λ b. g.spanned b) (λ b. g.the s b) some_spanned (some_the s)
+pub some_closed : (s : List ℕ) → HasPhrase (λ b. g.spanned_expression b ▸ g.the s b)
+some_closed s = some_then (λ b. g.spanned_expression b) (λ b. g.the s b) some_spanned (some_the s)
 
 -- ---- the operators of a level
 first_op : (k : ℕ) → (s : List ℕ) × (ks : List Kind) × (ops_of k ≡ sign s ∷ ks)
@@ -143,6 +143,6 @@ pub item_reads : (d : ℕ) → Unary d → (k : ℕ) → k ≤ 9 → Item d k
 item_reads d F k h = item_of d k (level_reads d F k (omega (arith, h)))
 
 -- an expression, where the unary ones are read
-pub expr_of_reads : (d : ℕ) → Unary d → IsReader (r.expr_of (r.unary d)) (λ e. g.spanned (plus d e)) (full r.expr_starts r.expr_goes)
+pub expr_of_reads : (d : ℕ) → Unary d → IsReader (r.expr_of (r.unary d)) (λ e. g.spanned_expression (plus d e)) (full r.expr_starts r.expr_goes)
 unfolding r.expr_of
 expr_of_reads d F = shaped (full r.expr_starts r.expr_goes) (level_reads d F 10 (omega arith)) refl refl refl

@@ -23,19 +23,19 @@ Below d = (b : ℕ) → d ≡ suc b → Unary b
 
 -- ---- a size, and its address
 abbrev sized_in : ℕ → Lang (Size × (Span × (Span × ((Span × Expr) × Span))))
-sized_in b = g.word_type b ▸ g.the (codes ")") b ▸ g.the (codes "[") b ▸ g.spanned b ▸ g.the (codes "]") b
+sized_in b = g.word_type b ▸ g.the (codes ")") b ▸ g.the (codes "[") b ▸ g.spanned_expression b ▸ g.the (codes "]") b
 
 abbrev sized : ℕ → Lang (Size × Expr)
 sized b = sized_in b ⇒ (λ p. (p.0, p.1.1.1.0.1))
 
-some_bracket : HasPhrase (λ b. g.the (codes "[") b ▸ g.spanned b ▸ g.the (codes "]") b)
-some_bracket = some_then (λ b. g.the (codes "[") b) (λ b. g.spanned b ▸ g.the (codes "]") b) (some_the (codes "[")) (some_closed (codes "]"))
+some_bracket : HasPhrase (λ b. g.the (codes "[") b ▸ g.spanned_expression b ▸ g.the (codes "]") b)
+some_bracket = some_then (λ b. g.the (codes "[") b) (λ b. g.spanned_expression b ▸ g.the (codes "]") b) (some_the (codes "[")) (some_closed (codes "]"))
 
-some_after : HasPhrase (λ b. g.the (codes ")") b ▸ g.the (codes "[") b ▸ g.spanned b ▸ g.the (codes "]") b)
-some_after = some_then (λ b. g.the (codes ")") b) (λ b. g.the (codes "[") b ▸ g.spanned b ▸ g.the (codes "]") b) (some_the (codes ")")) some_bracket
+some_after : HasPhrase (λ b. g.the (codes ")") b ▸ g.the (codes "[") b ▸ g.spanned_expression b ▸ g.the (codes "]") b)
+some_after = some_then (λ b. g.the (codes ")") b) (λ b. g.the (codes "[") b ▸ g.spanned_expression b ▸ g.the (codes "]") b) (some_the (codes ")")) some_bracket
 
 some_sized : HasPhrase sized
-some_sized = some_map sized_in (λ p. (p.0, p.1.1.1.0.1)) (some_then (λ b. g.word_type b) (λ b. g.the (codes ")") b ▸ g.the (codes "[") b ▸ g.spanned b ▸ g.the (codes "]") b) some_word_type some_after)
+some_sized = some_map sized_in (λ p. (p.0, p.1.1.1.0.1)) (some_then (λ b. g.word_type b) (λ b. g.the (codes ")") b ▸ g.the (codes "[") b ▸ g.spanned_expression b ▸ g.the (codes "]") b) some_word_type some_after)
 
 sized_reads : (b : ℕ) → Unary b → IsReader (r.sized_rest (r.unary b)) (λ e. sized (plus b e)) (full word_types [])
 unfolding r.sized_rest
@@ -44,9 +44,9 @@ sized_reads b F = map_reads (λ p. (p.0, p.1.1.1.0.1))
     (follow_reads (the_reads (codes ")") b)
     (follow_reads (the_reads (codes "[") b)
     (follow_reads (expr_of_reads b F) (the_reads (codes "]") b) (up (λ b. g.the (codes "]") b) b (some_the (codes "]"))) refl)
-    (up (λ b. g.spanned b ▸ g.the (codes "]") b) b (some_closed (codes "]"))) refl)
-    (up (λ b. g.the (codes "[") b ▸ g.spanned b ▸ g.the (codes "]") b) b some_bracket) refl)
-    (up (λ b. g.the (codes ")") b ▸ g.the (codes "[") b ▸ g.spanned b ▸ g.the (codes "]") b) b some_after) refl)
+    (up (λ b. g.spanned_expression b ▸ g.the (codes "]") b) b (some_closed (codes "]"))) refl)
+    (up (λ b. g.the (codes "[") b ▸ g.spanned_expression b ▸ g.the (codes "]") b) b some_bracket) refl)
+    (up (λ b. g.the (codes ")") b ▸ g.the (codes "[") b ▸ g.spanned_expression b ▸ g.the (codes "]") b) b some_after) refl)
 
 abbrev access_parts : Span × (Size × Expr) → Span × (Option Size × Expr)
 access_parts p = (p.0, (Some p.1.0, p.1.1))
@@ -113,7 +113,7 @@ abbrev cast_in : ℕ → Lang ((Size × Bool) × (Span × (Span × Expr)))
 cast_in b = (token (cast ∷ []) b ⇒ cast_of) ▸ g.the (codes ")") b ▸ g.unary b
 
 abbrev plain_in : ℕ → Lang ((Span × Expr) × Span)
-plain_in b = g.spanned b ▸ g.the (codes ")") b
+plain_in b = g.spanned_expression b ▸ g.the (codes ")") b
 
 cast_rest_reads : (b : ℕ) → Unary b → IsReader (r.cast_rest (r.unary b)) (λ e. cast_in (plus b e) ⇒ (λ p. As p.0 p.1.1.1)) (full (cast ∷ []) unary_goes)
 unfolding r.cast_rest

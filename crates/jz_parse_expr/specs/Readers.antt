@@ -5,7 +5,7 @@ use Rattle.jz_words.specs.declared.size.Size.{Size}
 use Rattle.jz_grammar.specs.Causes.{Unexpected}
 use Rattle.jz_grammar.specs.Kinds.{Kind, word, sign, identifier, number, cast, span_of}
 use Rattle.jz_grammar.specs.Reading.{Reader, through, follow, pick, many, leaf, inside, optional}
-use Rattle.jz_cursor.specs.Tokens.{name_of, number_of, cast_of, word_types, size_of}
+use Rattle.jz_cursor.specs.Tokens.{name_of, number_of_token, cast_of, word_types, size_of_token}
 use Rattle.jz_tree.specs.declared.expr.Expr.{Expr}
 use Rattle.jz_tree.specs.declared.expr.Access.{Access}
 use Rattle.jz_tree.specs.declared.expr.BinOp.{BinOp}
@@ -37,7 +37,7 @@ abbrev pub name : Reader (List ℕ × Span)
 name = leaf (identifier ∷ []) name_of
 
 abbrev pub word_type : Reader Size
-word_type = leaf word_types size_of
+word_type = leaf word_types size_of_token
 
 -- ---- levels
 -- an operator and what stands behind it
@@ -88,7 +88,7 @@ group_form low d ts = through (λ p. group_expr p.0 p.1) (inside (sign (codes "(
 
 -- ---- the other forms
 unfoldable pub number_form : Reader (Span × Expr)
-number_form ts = through number_expr (leaf (number ∷ []) number_of ts)
+number_form ts = through number_expr (leaf (number ∷ []) number_of_token ts)
 
 unfoldable pub name_form : (ℕ → Reader (Span × Expr)) → ℕ → Reader (Span × Expr)
 name_form low d ts = through name_expr (follow name (optional (sign (codes "[") ∷ []) (bracket low d)) ts)
@@ -129,11 +129,11 @@ unfoldable pub unary : ℕ → Reader (Span × Expr)
 unary zero = unary_of (λ _ ts. Err (Unexpected, ts)) zero
 unary (suc d) = unary_of (λ _. unary d) (suc d)
 
-unfoldable pub spanned : ℕ → Reader (Span × Expr)
-spanned d ts = expr_of (unary d) ts
+unfoldable pub spanned_expression : ℕ → Reader (Span × Expr)
+spanned_expression d ts = expr_of (unary d) ts
 
 unfoldable pub expr : ℕ → Reader Expr
-expr d ts = through (λ p. p.1) (spanned d ts)
+expr d ts = through (λ p. p.1) (spanned_expression d ts)
 
 unfoldable pub index : ℕ → Reader Expr
 index d ts = bracket unary d ts

@@ -5,7 +5,7 @@ use Rattle.jz_io.specs.declared.span.Span.{Span}
 use Rattle.jz_words.specs.declared.size.Size.{Size}
 use Rattle.jz_grammar.specs.Kinds.{word, sign, identifier, number, cast, span_of}
 use Rattle.jz_grammar.specs.Grammar.{Lang, token, ◌▸◌, ◌⊕◌, ◌⇒◌, never, opens, each, maybe}
-use Rattle.jz_cursor.specs.Tokens.{name_of, number_of, cast_of, word_types, size_of}
+use Rattle.jz_cursor.specs.Tokens.{name_of, number_of_token, cast_of, word_types, size_of_token}
 use Rattle.jz_tree.specs.declared.expr.Expr.{Expr}
 use Rattle.jz_tree.specs.declared.expr.Access.{Access}
 use Rattle.jz_parse_expr.specs.Operators.{ops_of, op_of, level_count}
@@ -24,7 +24,7 @@ name d = token (identifier ∷ []) d ⇒ name_of
 
 -- wtype = "u8" | "u16" | "u32" | "u64"
 abbrev pub word_type : ℕ → Lang Size
-word_type d = token word_types d ⇒ size_of
+word_type d = token word_types d ⇒ size_of_token
 
 -- level 0 = unary ; level k = level (k - 1) { op level (k - 1) }, the operators those of that level
 abbrev pub levels : Lang (Span × Expr) → ℕ → ℕ → Lang (Span × Expr)
@@ -54,7 +54,7 @@ plain_access low d = opens (sign (codes "[") ∷ []) (λ b. maybe ((the (codes "
 -- A sign and a cast are open in their operand.
 abbrev pub unary_of : (ℕ → Lang (Span × Expr)) → ℕ → Lang (Span × Expr)
 unary_of low d =
-    ((token (number ∷ []) d ⇒ number_of) ⇒ number_expr)
+    ((token (number ∷ []) d ⇒ number_of_token) ⇒ number_expr)
     ⊕ ((name d ▸ maybe (bracket low d)) ⇒ name_expr)
     ⊕ (key (codes "true") d ⇒ bool_expr true)
     ⊕ (key (codes "false") d ⇒ bool_expr false)
@@ -71,11 +71,11 @@ unary zero = unary_of (λ _. never) zero
 unary (suc d) = unary_of (λ _. unary d) (suc d)
 
 -- an expression with the span of its first token, and alone
-abbrev pub spanned : ℕ → Lang (Span × Expr)
-spanned d = expr_at (unary d) d
+abbrev pub spanned_expression : ℕ → Lang (Span × Expr)
+spanned_expression d = expr_at (unary d) d
 
 abbrev pub expr : ℕ → Lang Expr
-expr d = spanned d ⇒ (λ p. p.1)
+expr d = spanned_expression d ⇒ (λ p. p.1)
 
 -- what an array's name is followed by
 abbrev pub index : ℕ → Lang Expr

@@ -287,7 +287,7 @@ pub fn begins_expr(c: &Cursor) -> bool
 }
 
 /// An expression.
-#[tactic(auto, unfolding(crate::specs::Readers::expr, crate::specs::Readers::spanned))]
+#[tactic(auto, unfolding(crate::specs::Readers::expr, crate::specs::Readers::spanned_expression))]
 pub fn expr(alloc: Global, c: &mut Cursor, depth: u32) -> Result<Expr, Stop>
     ensures { Gave result c.new (expr depth c.old) }
 {

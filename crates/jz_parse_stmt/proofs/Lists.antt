@@ -2,7 +2,7 @@
 use Rattle.std.proofs.Common.{◌≡◌, ℕ, ◌<◌, List, [], ◌∷◌, ◌++◌, length, true, false, ◌||◌, Ok, Err, refl, ap, ◌∙◌}
 use Rattle.jz_lex.specs.declared.token.Token.{Token}
 use Rattle.jz_grammar.specs.Causes.{Cause}
-use Rattle.jz_grammar.specs.Kinds.{Kind, kind_of, is_in, has}
+use Rattle.jz_grammar.specs.Kinds.{Kind, token_kind, is_in, has}
 use Rattle.jz_grammar.specs.Reading.{Answer, through, many}
 use Rattle.jz_grammar.proofs.Combine.{shorter}
 use Rattle.jz_grammar.proofs.Basics.{member_append}
@@ -19,7 +19,7 @@ use Rattle.jz_parse_stmt.proofs.StmtReads.{stmt_reads}
 -- ---- choices of tokens
 either : (ks ls : List Kind) (t : Token) → is_in (ks ++ ls) t ≡ (is_in ks t || is_in ls t)
 unfolding is_in
-either ks ls t = member_append ks ls (kind_of t.kind)
+either ks ls t = member_append ks ls (token_kind t.kind)
 
 pub any_assignment : (t : Token) → is_in assignments t ≡ (is_in sum_assignments t || (is_in quotient_assignments t || (is_in bit_assignments t || is_in shift_assignments t)))
 any_assignment t =

@@ -14,7 +14,7 @@ use Rattle.jz_grammar.proofs.Steps.{listed_reads, more_done, more_next, more_wro
 use Rattle.jz_tree.specs.declared.program.Note.{Note}
 use Rattle.jz_tree.specs.declared.program.NoteValue.{NoteValue}
 use Rattle.jz_tree.specs.declared.program.NoteValue.TheVariants as value
-use Rattle.jz_cursor.specs.Tokens.{name_of, number_of, string_of}
+use Rattle.jz_cursor.specs.Tokens.{name_of, number_of_token, string_of}
 use Rattle.jz_parse_stmt.specs.NotesTable as g
 use Rattle.jz_parse_stmt.specs.NotesTable.{note_of, all_notes}
 use Rattle.jz_parse_stmt.specs.NotesReaders as r
@@ -27,10 +27,10 @@ value_law : (d : ℕ) → IsReader r.note_value (λ e. g.note_value (plus d e)) 
 unfolding r.note_value
 value_law d = shaped (full value_starts [])
     (pick_reads (map_reads (λ n. value.Name n.0) (identifier_reads name_of d))
-    (pick_reads (map_reads (λ n. value.Num n.0) (number_reads number_of d)) (map_reads value.Str (string_reads string_of d)) refl refl) refl refl) refl refl refl
+    (pick_reads (map_reads (λ n. value.Num n.0) (number_reads number_of_token d)) (map_reads value.Str (string_reads string_of d)) refl refl) refl refl) refl refl refl
 
 some_value : HasPhrase g.note_value
-some_value = some_left (λ d. token (identifier ∷ []) d ⇒ name_of ⇒ (λ n. value.Name n.0)) (λ d. (token (number ∷ []) d ⇒ number_of ⇒ (λ n. value.Num n.0)) ⊕ (token (string ∷ []) d ⇒ string_of ⇒ value.Str))
+some_value = some_left (λ d. token (identifier ∷ []) d ⇒ name_of ⇒ (λ n. value.Name n.0)) (λ d. (token (number ∷ []) d ⇒ number_of_token ⇒ (λ n. value.Num n.0)) ⊕ (token (string ∷ []) d ⇒ string_of ⇒ value.Str))
     (some_map (λ d. token (identifier ∷ []) d ⇒ name_of) (λ n. value.Name n.0) (some_identifier name_of))
 
 abbrev equal_value : ℕ → Lang NoteValue
@@ -75,8 +75,8 @@ some_bracket s = some_then (g.entry_list s) (λ d. token (sign (codes "]") ∷ [
 abbrev brackets : List Kind
 brackets = sign (codes "[") ∷ []
 
-bracketed_law : (s : Span) (d : ℕ) → IsReader (r.bracketed s d) (λ e. opens brackets (bracket s) (plus d e) ⇒ (λ p. p.1.0)) (full brackets [])
-unfolding r.bracketed
+bracketed_law : (s : Span) (d : ℕ) → IsReader (r.notes_bracketed s d) (λ e. opens brackets (bracket s) (plus d e) ⇒ (λ p. p.1.0)) (full brackets [])
+unfolding r.notes_bracketed
 bracketed_law s d = map_reads (λ p. p.1.0)
     (inside_reads brackets (sign_token (codes "[")) (sign_in (codes "[") []) _ (bracket s) (some_bracket s) (full r.ids []) d
     (λ b h. follow_reads (list_law s b) (sign_reads (codes "]") span_of b) (up (λ d. token (sign (codes "]") ∷ []) d ⇒ span_of) b (some_sign (codes "]") span_of)) refl))

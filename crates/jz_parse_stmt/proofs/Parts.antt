@@ -25,7 +25,7 @@ use Rattle.jz_parse_expr.specs.Readers as q
 use Rattle.jz_parse_expr.specs.Operators.{level_count}
 use Rattle.jz_parse_expr.proofs.Levels.{the_reads, key_reads, some_the}
 use Rattle.jz_parse_expr.proofs.Laws.{expr_reads, index_reads, access_reads, some_expr}
-use Rattle.jz_parse_stmt.specs.Trees.{assignments, operation_of, or_empty, call_of, intrinsic_of, name_lval, span_of_lval, assigned, called}
+use Rattle.jz_parse_stmt.specs.Trees.{assignments, operation_of, or_empty, call_of, intrinsic_of, name_lval, span_of_lval, assign_statement, call_statement}
 use Rattle.jz_parse_stmt.specs.Table as g
 use Rattle.jz_parse_stmt.specs.Readers as r
 
@@ -158,8 +158,8 @@ L = full (word (codes "_") ∷ identifier ∷ sign (codes "(") ∷ sign (codes "
 abbrev bracket : List Kind
 bracket = sign (codes "[") ∷ []
 
-named_law : (d : ℕ) → IsReader (r.named d) (λ e. (t.name (plus d e) ▸ maybe (t.index (plus d e))) ⇒ name_lval) (full r.names bracket)
-unfolding r.named
+named_law : (d : ℕ) → IsReader (r.left_side_named d) (λ e. (t.name (plus d e) ▸ maybe (t.index (plus d e))) ⇒ name_lval) (full r.names bracket)
+unfolding r.left_side_named
 named_law d = map_reads name_lval (follow_reads (name_reads d) (optional_reads bracket [] (index_reads d)) (up (λ d. maybe (t.index d)) d (some_maybe t.index)) refl)
 
 pub lval_law : (d : ℕ) → IsReader (r.lval d) (λ e. g.lval (plus d e)) L
@@ -235,7 +235,7 @@ abbrev Parts : Type 0
 Parts = Lval × (List Lval × (Option BinOp × (Rhs × (Option Expr × Span))))
 
 abbrev joined : Parts → Span × StmtKind
-joined p = assigned (span_of_lval p.0) (p.0 ∷ p.1.0) p.1.1.0 p.1.1.1.0 p.1.1.1.1.0
+joined p = assign_statement (span_of_lval p.0) (p.0 ∷ p.1.0) p.1.1.0 p.1.1.1.0 p.1.1.1.1.0
 
 -- an assignment by its parts
 abbrev by_parts : ℕ → Reader (Span × StmtKind)
@@ -248,15 +248,15 @@ assign_is : (d : ℕ) (ts : List Token) → by_parts d ts ≡ r.assign d ts
 unfolding r.assign r.lvals_more
 assign_is d ts = step (r.lval d ts)
   where
-    end : (a : Lval) (ps : List Lval) (w : Answer (Option BinOp × (Rhs × (Option Expr × Span)))) → ◌≡◌ {A = Answer (Span × StmtKind)} (through {A = Parts} joined ((w >>= λ y. Ok ((ps, y.0), y.1)) >>= λ z. Ok ((a, z.0), z.1))) (w >>= λ y. Ok (assigned (span_of_lval a) (a ∷ ps) y.0.0 y.0.1.0 y.0.1.1.0, y.1))
+    end : (a : Lval) (ps : List Lval) (w : Answer (Option BinOp × (Rhs × (Option Expr × Span)))) → ◌≡◌ {A = Answer (Span × StmtKind)} (through {A = Parts} joined ((w >>= λ y. Ok ((ps, y.0), y.1)) >>= λ z. Ok ((a, z.0), z.1))) (w >>= λ y. Ok (assign_statement (span_of_lval a) (a ∷ ps) y.0.0 y.0.1.0 y.0.1.1.0, y.1))
     end a ps (Ok y) = refl
     end a ps (Err e) = refl
 
-    mid : (a : Lval) (w : Answer (List Lval)) → ◌≡◌ {A = Answer (Span × StmtKind)} (through {A = Parts} joined ((w >>= λ x. r.set_to d x.1 >>= λ y. Ok ((x.0, y.0), y.1)) >>= λ z. Ok ((a, z.0), z.1))) (through (λ ps. (a ∷ []) ++ ps) w >>= λ to. r.set_to d to.1 >>= λ y. Ok (assigned (span_of_lval a) to.0 y.0.0 y.0.1.0 y.0.1.1.0, y.1))
+    mid : (a : Lval) (w : Answer (List Lval)) → ◌≡◌ {A = Answer (Span × StmtKind)} (through {A = Parts} joined ((w >>= λ x. r.set_to d x.1 >>= λ y. Ok ((x.0, y.0), y.1)) >>= λ z. Ok ((a, z.0), z.1))) (through (λ ps. (a ∷ []) ++ ps) w >>= λ to. r.set_to d to.1 >>= λ y. Ok (assign_statement (span_of_lval a) to.0 y.0.0 y.0.1.0 y.0.1.1.0, y.1))
     mid a (Ok y) = end a y.0 (r.set_to d y.1)
     mid a (Err e) = refl
 
-    step : (w : Answer Lval) → ◌≡◌ {A = Answer (Span × StmtKind)} (through {A = Parts} joined (w >>= λ a. (many r.commas (r.next_lval d) a.1 >>= λ x. r.set_to d x.1 >>= λ y. Ok ((x.0, y.0), y.1)) >>= λ z. Ok ((a.0, z.0), z.1))) (w >>= λ a. through (λ ps. (a.0 ∷ []) ++ ps) (many r.commas (r.next_lval d) a.1) >>= λ to. r.set_to d to.1 >>= λ y. Ok (assigned (span_of_lval a.0) to.0 y.0.0 y.0.1.0 y.0.1.1.0, y.1))
+    step : (w : Answer Lval) → ◌≡◌ {A = Answer (Span × StmtKind)} (through {A = Parts} joined (w >>= λ a. (many r.commas (r.next_lval d) a.1 >>= λ x. r.set_to d x.1 >>= λ y. Ok ((x.0, y.0), y.1)) >>= λ z. Ok ((a.0, z.0), z.1))) (w >>= λ a. through (λ ps. (a.0 ∷ []) ++ ps) (many r.commas (r.next_lval d) a.1) >>= λ to. r.set_to d to.1 >>= λ y. Ok (assign_statement (span_of_lval a.0) to.0 y.0.0 y.0.1.0 y.0.1.1.0, y.1))
     step (Ok a) = mid a.0 (many r.commas (r.next_lval d) a.1)
     step (Err e) = refl
 
@@ -274,7 +274,7 @@ some_call_end = some_then (λ d. g.call_args d) (λ d. t.the (codes ";") d) some
 pub simple_law : (d : ℕ) → IsReader (r.simple d) (λ e. g.call (plus d e) ⊕ g.assign (plus d e)) (full (identifier ∷ L.starts) [])
 unfolding r.simple r.call
 simple_law d = reads_as (r.simple d)
-    (named_or_reads call_end (λ e. g.assign (plus d e)) [] L.starts [] [] d (λ p. called (p.0, p.1.0))
+    (named_or_reads call_end (λ e. g.assign (plus d e)) [] L.starts [] [] d (λ p. call_statement (p.0, p.1.0))
     (follow_reads (call_args_law d) (the_reads (codes ";") d) (up (λ d. t.the (codes ";") d) d (some_the (codes ";"))) refl)
     some_call_end (parts_law d) (assign_second d)
     (λ e x a rest h i free. follow_single L.starts L.goes after_lval [] (lval_law d) (behind_law d) _ e x h.0 h.1))

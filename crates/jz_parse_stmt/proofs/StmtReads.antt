@@ -17,7 +17,7 @@ use Rattle.jz_parse_expr.specs.Table as t
 use Rattle.jz_parse_expr.specs.Readers as q
 use Rattle.jz_parse_expr.proofs.Levels.{the_reads, key_reads, some_the}
 use Rattle.jz_parse_expr.proofs.Laws.{expr_reads, some_expr}
-use Rattle.jz_parse_stmt.specs.Trees.{or_empty, chosen, looped, counted, stmt_of}
+use Rattle.jz_parse_stmt.specs.Trees.{or_empty, if_statement, while_statement, for_statement, stmt_of}
 use Rattle.jz_parse_stmt.specs.NotesTable as n
 use Rattle.jz_parse_stmt.specs.NotesReaders as m
 use Rattle.jz_parse_stmt.specs.Table as g
@@ -68,10 +68,10 @@ abbrev elses : List Kind
 elses = word (codes "else") ∷ []
 
 abbrev else_body : (ℕ → g.Low) → ℕ → Lang (List Stmt)
-else_body low d = (opens ifs (λ b. (low b).ifs) d ⇒ (λ p. stmt_of [] (chosen p.0 p.1) ∷ [])) ⊕ g.block low d
+else_body low d = (opens ifs (λ b. (low b).ifs) d ⇒ (λ p. stmt_of [] (if_statement p.0 p.1) ∷ [])) ⊕ g.block low d
 
 some_else_body : (low : ℕ → g.Low) → HasPhrase (else_body low)
-some_else_body low = some_right (λ d. opens ifs (λ b. (low b).ifs) d ⇒ (λ p. stmt_of [] (chosen p.0 p.1) ∷ [])) (λ d. g.block low d) (some_block low)
+some_else_body low = some_right (λ d. opens ifs (λ b. (low b).ifs) d ⇒ (λ p. stmt_of [] (if_statement p.0 p.1) ∷ [])) (λ d. g.block low d) (some_block low)
 
 abbrev if_tail : (ℕ → g.Low) → ℕ → Lang (List Stmt × Option (List Stmt))
 if_tail low d = g.block low d ▸ maybe (g.else_arm low d)
@@ -89,7 +89,7 @@ some_ifs (suc d) h = some_if_rest (λ _. g.nested_in d) (suc d) h
 else_body_law : (low : ℕ → r.Low) (d : ℕ) → Below low d → IsReader (r.else_body low d) (λ e. else_body g.nested_in (plus d e)) (full (word (codes "if") ∷ r.braces) elses)
 unfolding r.else_body
 else_body_law low d below = shaped (full (word (codes "if") ∷ r.braces) elses)
-    (pick_reads (map_reads (λ p. stmt_of [] (chosen p.0 p.1) ∷ []) (inside_reads ifs (word_token (codes "if")) (word_in (codes "if") []) (λ b. (low b).ifs) (λ b. (g.nested_in b).ifs) some_ifs I d (λ b h. (below b h).1)))
+    (pick_reads (map_reads (λ p. stmt_of [] (if_statement p.0 p.1) ∷ []) (inside_reads ifs (word_token (codes "if")) (word_in (codes "if") []) (λ b. (low b).ifs) (λ b. (g.nested_in b).ifs) some_ifs I d (λ b h. (below b h).1)))
     (block_law low d below) refl refl) refl refl refl
 
 else_law : (low : ℕ → r.Low) (d : ℕ) → Below low d → IsReader (r.else_arm low d) (λ e. g.else_arm g.nested_in (plus d e)) (full elses elses)
@@ -105,7 +105,7 @@ if_rest_law low d below = shaped I (map_reads (λ p. (p.0, (p.1.0, or_empty p.1.
 
 if_law : (low : ℕ → r.Low) (d : ℕ) → Below low d → IsReader (r.if_form low d) (λ e. g.if_form g.nested_in (plus d e)) (full ifs elses)
 unfolding r.if_form
-if_law low d below = map_reads (λ p. chosen p.0 p.1) (follow_reads (key_reads (codes "if") d) (if_rest_law low d below) (up (λ d. g.if_rest g.nested_in d) d (some_if_rest g.nested_in)) refl)
+if_law low d below = map_reads (λ p. if_statement p.0 p.1) (follow_reads (key_reads (codes "if") d) (if_rest_law low d below) (up (λ d. g.if_rest g.nested_in d) d (some_if_rest g.nested_in)) refl)
 
 -- ---- "while"
 -- one level for the parentheses; an expression in them needs none
@@ -148,7 +148,7 @@ some_prologued low = some_then (λ d. maybe (g.block low d) ⇒ or_empty) (teste
 
 while_law : (low : ℕ → r.Low) (d : ℕ) → Below low d → IsReader (r.while_form low d) (λ e. g.while g.nested_in (plus d e)) (full (word (codes "while") ∷ []) body_goes)
 unfolding r.while_form
-while_law low d below = map_reads (λ p. looped p.0 p.1.0 p.1.1.0 p.1.1.1)
+while_law low d below = map_reads (λ p. while_statement p.0 p.1.0 p.1.1.0 p.1.1.1)
     (follow_reads (key_reads (codes "while") d)
     (follow_reads (prologue_law low d below)
     (follow_reads (test_law d) (body_law low d below) (up (λ d. g.body g.nested_in d) d (some_body g.nested_in)) refl)
@@ -195,7 +195,7 @@ some_counter low = some_then (λ d. t.name d) (set_from low) some_name (some_set
 
 for_law : (low : ℕ → r.Low) (d : ℕ) → Below low d → IsReader (r.for_form low d) (λ e. g.for g.nested_in (plus d e)) (full (word (codes "for") ∷ []) [])
 unfolding r.for_form
-for_law low d below = map_reads (λ p. counted p.0 p.1.0 p.1.1.1.0 p.1.1.1.1.0 p.1.1.1.1.1.0 p.1.1.1.1.1.1)
+for_law low d below = map_reads (λ p. for_statement p.0 p.1.0 p.1.1.1.0 p.1.1.1.1.0 p.1.1.1.1.1.0 p.1.1.1.1.1.1)
     (follow_reads (key_reads (codes "for") d)
     (follow_reads (name_reads d)
     (follow_reads (the_reads (codes "=") d)
@@ -290,7 +290,7 @@ nested_if_same f h d same = inside_same ifs (λ b. (f b).ifs) (λ b. (h b).ifs) 
 
 else_same : (f h : ℕ → r.Low) (d : ℕ) → SameBelow f h d → r.else_arm f d ≡ r.else_arm h d
 unfolding r.else_arm r.else_body
-else_same f h d same = λ i. λ ts. through {A = Span × List Stmt} (λ p. p.1) (follow (q.key (codes "else")) (pick ifs (λ us. through {A = Span × (Expr × (List Stmt × List Stmt))} (λ p. stmt_of [] (chosen p.0 p.1) ∷ []) (nested_if_same f h d same i us)) (block_same f h d same i)) ts)
+else_same f h d same = λ i. λ ts. through {A = Span × List Stmt} (λ p. p.1) (follow (q.key (codes "else")) (pick ifs (λ us. through {A = Span × (Expr × (List Stmt × List Stmt))} (λ p. stmt_of [] (if_statement p.0 p.1) ∷ []) (nested_if_same f h d same i us)) (block_same f h d same i)) ts)
 
 if_rest_same : (f h : ℕ → r.Low) (d : ℕ) → SameBelow f h d → r.if_rest f d ≡ r.if_rest h d
 unfolding r.if_rest
@@ -298,17 +298,17 @@ if_rest_same f h d same = λ i. λ ts. through {A = Expr × (List Stmt × Option
 
 if_same : (f h : ℕ → r.Low) (d : ℕ) → SameBelow f h d → r.if_form f d ≡ r.if_form h d
 unfolding r.if_form
-if_same f h d same = λ i. λ ts. through {A = Span × (Expr × (List Stmt × List Stmt))} (λ p. chosen p.0 p.1) (follow (q.key (codes "if")) (if_rest_same f h d same i) ts)
+if_same f h d same = λ i. λ ts. through {A = Span × (Expr × (List Stmt × List Stmt))} (λ p. if_statement p.0 p.1) (follow (q.key (codes "if")) (if_rest_same f h d same i) ts)
 
 while_same : (f h : ℕ → r.Low) (d : ℕ) → SameBelow f h d → r.while_form f d ≡ r.while_form h d
 unfolding r.while_form r.prologue r.body
-while_same f h d same = λ i. λ ts. through {A = Span × (List Stmt × (Expr × Option (List Stmt)))} (λ p. looped p.0 p.1.0 p.1.1.0 p.1.1.1)
+while_same f h d same = λ i. λ ts. through {A = Span × (List Stmt × (Expr × Option (List Stmt)))} (λ p. while_statement p.0 p.1.0 p.1.1.0 p.1.1.1)
     (follow (q.key (codes "while")) (follow (λ us. through or_empty (optional r.braces (block_same f h d same i) us))
     (follow (r.loop_condition d) (pick r.braces (λ us. through (λ b. Some b) (block_same f h d same i us)) (λ us. through (λ p. None) (optional (sign (codes ";") ∷ []) (q.the (codes ";")) us))))) ts)
 
 for_same : (f h : ℕ → r.Low) (d : ℕ) → SameBelow f h d → r.for_form f d ≡ r.for_form h d
 unfolding r.for_form
-for_same f h d same = ap (λ x ts. through (λ p. counted p.0 p.1.0 p.1.1.1.0 p.1.1.1.1.0 p.1.1.1.1.1.0 p.1.1.1.1.1.1)
+for_same f h d same = ap (λ x ts. through (λ p. for_statement p.0 p.1.0 p.1.1.1.0 p.1.1.1.1.0 p.1.1.1.1.1.0 p.1.1.1.1.1.1)
     (follow (q.key (codes "for")) (follow q.name (follow (q.the (codes "=")) (follow (q.expr d) (follow r.direction (follow (q.expr d) x))))) ts)) (block_same f h d same)
 
 stmt_same : (f h : ℕ → r.Low) (d : ℕ) → SameBelow f h d → r.stmt_in f d ≡ r.stmt_in h d

@@ -6,7 +6,7 @@ use Rattle.jz_grammar.specs.Reading.{Reader, ◌>>=◌, through, follow, depend,
 use Rattle.jz_tree.specs.declared.program.Note.{Note}
 use Rattle.jz_tree.specs.declared.program.NoteValue.{NoteValue}
 use Rattle.jz_tree.specs.declared.program.NoteValue.TheVariants as value
-use Rattle.jz_cursor.specs.Tokens.{name_of, number_of, string_of}
+use Rattle.jz_cursor.specs.Tokens.{name_of, number_of_token, string_of}
 use Rattle.jz_parse_stmt.specs.NotesTable.{note_of, all_notes}
 
 -- the tokens that decide
@@ -27,7 +27,7 @@ hashes = sign (codes "#") ∷ []
 
 unfoldable pub note_value : Reader NoteValue
 note_value = pick ids (λ ts. through (λ n. value.Name n.0) (leaf ids name_of ts))
-    (pick numbers (λ ts. through (λ n. value.Num n.0) (leaf numbers number_of ts)) (λ ts. through value.Str (leaf (string ∷ []) string_of ts)))
+    (pick numbers (λ ts. through (λ n. value.Num n.0) (leaf numbers number_of_token ts)) (λ ts. through value.Str (leaf (string ∷ []) string_of ts)))
 
 unfoldable pub equal_value : Reader NoteValue
 equal_value ts = through (λ p. p.1) (follow (leaf equal_signs span_of) note_value ts)
@@ -44,11 +44,11 @@ entries_more s out ts = more_of entry_commas (next_entry s) out ts
 unfoldable pub entry_list : Span → Reader (List Note)
 entry_list s ts = entry s ts >>= λ x. entries_more s (x.0 ∷ []) x.1
 
-unfoldable pub bracketed : Span → ℕ → Reader (List Note)
-bracketed s d ts = through (λ p. p.1.0) (inside (sign (codes "[") ∷ []) (λ b. follow (entry_list s) (leaf (sign (codes "]") ∷ []) span_of)) d ts)
+unfoldable pub notes_bracketed : Span → ℕ → Reader (List Note)
+notes_bracketed s d ts = through (λ p. p.1.0) (inside (sign (codes "[") ∷ []) (λ b. follow (entry_list s) (leaf (sign (codes "]") ∷ []) span_of)) d ts)
 
 unfoldable pub entries : Span → ℕ → Reader (List Note)
-entries s d = pick ids (λ ts. through (λ n. n ∷ []) (entry s ts)) (bracketed s d)
+entries s d = pick ids (λ ts. through (λ n. n ∷ []) (entry s ts)) (notes_bracketed s d)
 
 unfoldable pub annotation : ℕ → Reader (List Note)
 annotation d ts = through (λ p. p.1) (depend (leaf hashes span_of) (λ s. entries s d) ts)

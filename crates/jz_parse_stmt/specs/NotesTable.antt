@@ -6,7 +6,7 @@ use Rattle.jz_grammar.specs.Grammar.{Lang, token, ◌▸◌, ◌⊕◌, ◌⇒�
 use Rattle.jz_tree.specs.declared.program.Note.{Note}
 use Rattle.jz_tree.specs.declared.program.NoteValue.{NoteValue}
 use Rattle.jz_tree.specs.declared.program.NoteValue.TheVariants as value
-use Rattle.jz_cursor.specs.Tokens.{name_of, number_of, string_of}
+use Rattle.jz_cursor.specs.Tokens.{name_of, number_of_token, string_of}
 
 -- the value of an entry, none where none is written
 abbrev pub value_or_none : Option NoteValue → NoteValue
@@ -25,7 +25,7 @@ all_notes nss = flat_map (λ ns. ns) nss
 abbrev pub note_value : ℕ → Lang NoteValue
 note_value d =
     (token (identifier ∷ []) d ⇒ name_of ⇒ (λ n. value.Name n.0))
-    ⊕ (token (number ∷ []) d ⇒ number_of ⇒ (λ n. value.Num n.0))
+    ⊕ (token (number ∷ []) d ⇒ number_of_token ⇒ (λ n. value.Num n.0))
     ⊕ (token (string ∷ []) d ⇒ string_of ⇒ value.Str)
 
 -- entry = ID [ "=" ( ID | NUM | STR ) ], of the annotation at this place

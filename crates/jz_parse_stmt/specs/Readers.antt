@@ -14,7 +14,7 @@ use Rattle.jz_tree.specs.declared.stmt.Rhs.TheVariants.{Value}
 use Rattle.jz_tree.specs.declared.stmt.Stmt.{Stmt}
 use Rattle.jz_tree.specs.declared.stmt.StmtKind.{StmtKind}
 use Rattle.jz_parse_expr.specs.Readers.{the, key, name, expr, index, access, expr_starts}
-use Rattle.jz_parse_stmt.specs.Trees.{assignments, operation_of, or_empty, call_of, intrinsic_of, name_lval, span_of_lval, assigned, called, chosen, looped, counted, stmt_of}
+use Rattle.jz_parse_stmt.specs.Trees.{assignments, operation_of, or_empty, call_of, intrinsic_of, name_lval, span_of_lval, assign_statement, call_statement, if_statement, while_statement, for_statement, stmt_of}
 use Rattle.jz_parse_stmt.specs.NotesReaders.{notes}
 
 -- ---- the tokens that decide
@@ -72,11 +72,11 @@ unfoldable pub rhs : ℕ → Reader Rhs
 rhs d = pick marks (intrinsic d) (pick_both names parens (call_value d) (λ ts. through Value (expr d ts)))
 
 -- ---- assignments
-unfoldable pub named : ℕ → Reader Lval
-named d ts = through name_lval (follow name (optional (sign (codes "[") ∷ []) (index d)) ts)
+unfoldable pub left_side_named : ℕ → Reader Lval
+left_side_named d ts = through name_lval (follow name (optional (sign (codes "[") ∷ []) (index d)) ts)
 
 unfoldable pub lval : ℕ → Reader Lval
-lval d = pick (word (codes "_") ∷ []) (λ ts. through Skip (key (codes "_") ts)) (pick names (named d) (λ ts. through Store (access d ts)))
+lval d = pick (word (codes "_") ∷ []) (λ ts. through Skip (key (codes "_") ts)) (pick names (left_side_named d) (λ ts. through Store (access d ts)))
 
 unfoldable pub next_lval : ℕ → Reader Lval
 next_lval d ts = comma (lval d) ts
@@ -97,10 +97,10 @@ set_to d ts = follow operation (follow (rhs d) (follow (condition d) (the (codes
 unfoldable pub assign : ℕ → Reader (Span × StmtKind)
 assign d ts =
     lval d ts >>= λ first. lvals_more d (first.0 ∷ []) first.1 >>= λ to. set_to d to.1 >>= λ y.
-    Ok (assigned (span_of_lval first.0) to.0 y.0.0 y.0.1.0 y.0.1.1.0, y.1)
+    Ok (assign_statement (span_of_lval first.0) to.0 y.0.0 y.0.1.0 y.0.1.1.0, y.1)
 
 unfoldable pub call : ℕ → Reader (Span × StmtKind)
-call d ts = through (λ p. called (p.0, p.1.0)) (follow name (follow (call_args d) (the (codes ";"))) ts)
+call d ts = through (λ p. call_statement (p.0, p.1.0)) (follow name (follow (call_args d) (the (codes ";"))) ts)
 
 unfoldable pub simple : ℕ → Reader (Span × StmtKind)
 simple d = pick_both names parens (call d) (assign d)
@@ -114,7 +114,7 @@ unfoldable pub block : (ℕ → Low) → ℕ → Reader (List Stmt)
 block low d ts = through (λ p. p.1.0) (inside braces (λ b. follow (many stmt_starts (low b).stmts) (the (codes "}"))) d ts)
 
 unfoldable pub else_body : (ℕ → Low) → ℕ → Reader (List Stmt)
-else_body low d = pick (word (codes "if") ∷ []) (λ ts. through (λ p. stmt_of [] (chosen p.0 p.1) ∷ []) (inside (word (codes "if") ∷ []) (λ b. (low b).ifs) d ts)) (block low d)
+else_body low d = pick (word (codes "if") ∷ []) (λ ts. through (λ p. stmt_of [] (if_statement p.0 p.1) ∷ []) (inside (word (codes "if") ∷ []) (λ b. (low b).ifs) d ts)) (block low d)
 
 unfoldable pub else_arm : (ℕ → Low) → ℕ → Reader (List Stmt)
 else_arm low d ts = through (λ p. p.1) (follow (key (codes "else")) (else_body low d) ts)
@@ -123,7 +123,7 @@ unfoldable pub if_rest : (ℕ → Low) → ℕ → Reader (Expr × (List Stmt ×
 if_rest low d ts = through (λ p. (p.0, (p.1.0, or_empty p.1.1))) (follow (expr d) (follow (block low d) (optional (word (codes "else") ∷ []) (else_arm low d))) ts)
 
 unfoldable pub if_form : (ℕ → Low) → ℕ → Reader (Span × StmtKind)
-if_form low d ts = through (λ p. chosen p.0 p.1) (follow (key (codes "if")) (if_rest low d) ts)
+if_form low d ts = through (λ p. if_statement p.0 p.1) (follow (key (codes "if")) (if_rest low d) ts)
 
 unfoldable pub loop_condition : ℕ → Reader Expr
 loop_condition d ts = through (λ p. p.1.0) (inside parens (λ b. follow (expr b) (the (codes ")"))) d ts)
@@ -135,13 +135,13 @@ unfoldable pub body : (ℕ → Low) → ℕ → Reader (Option (List Stmt))
 body low d = pick braces (λ ts. through (λ b. Some b) (block low d ts)) (λ ts. through (λ p. None) (optional (sign (codes ";") ∷ []) (the (codes ";")) ts))
 
 unfoldable pub while_form : (ℕ → Low) → ℕ → Reader (Span × StmtKind)
-while_form low d ts = through (λ p. looped p.0 p.1.0 p.1.1.0 p.1.1.1) (follow (key (codes "while")) (follow (prologue low d) (follow (loop_condition d) (body low d))) ts)
+while_form low d ts = through (λ p. while_statement p.0 p.1.0 p.1.1.0 p.1.1.1) (follow (key (codes "while")) (follow (prologue low d) (follow (loop_condition d) (body low d))) ts)
 
 unfoldable pub direction : Reader Bool
 direction = pick (word (codes "to") ∷ []) (λ ts. through (λ p. false) (key (codes "to") ts)) (λ ts. through (λ p. true) (key (codes "downto") ts))
 
 unfoldable pub for_form : (ℕ → Low) → ℕ → Reader (Span × StmtKind)
-for_form low d ts = through (λ p. counted p.0 p.1.0 p.1.1.1.0 p.1.1.1.1.0 p.1.1.1.1.1.0 p.1.1.1.1.1.1)
+for_form low d ts = through (λ p. for_statement p.0 p.1.0 p.1.1.1.0 p.1.1.1.1.0 p.1.1.1.1.1.0 p.1.1.1.1.1.1)
     (follow (key (codes "for")) (follow name (follow (the (codes "=")) (follow (expr d) (follow direction (follow (expr d) (block low d)))))) ts)
 
 unfoldable pub form : (ℕ → Low) → ℕ → Reader (Span × StmtKind)

@@ -13,7 +13,7 @@ use Rattle.jz_tree.specs.declared.stmt.Rhs.TheVariants.{Value}
 use Rattle.jz_tree.specs.declared.stmt.Stmt.{Stmt}
 use Rattle.jz_tree.specs.declared.stmt.StmtKind.{StmtKind}
 use Rattle.jz_parse_expr.specs.Table.{the, key, name, expr, index, access}
-use Rattle.jz_parse_stmt.specs.Trees.{assignments, operation_of, or_empty, call_of, intrinsic_of, name_lval, span_of_lval, assigned, called, chosen, looped, counted, stmt_of}
+use Rattle.jz_parse_stmt.specs.Trees.{assignments, operation_of, or_empty, call_of, intrinsic_of, name_lval, span_of_lval, assign_statement, call_statement, if_statement, while_statement, for_statement, stmt_of}
 use Rattle.jz_parse_stmt.specs.NotesTable.{notes}
 
 -- "," and what l is
@@ -53,11 +53,11 @@ condition d = maybe ((key (codes "if") d ▸ expr d) ⇒ (λ p. p.1))
 -- assign = lval { "," lval } aop rhs [ "if" expr ] ";"
 abbrev pub assign : ℕ → Lang (Span × StmtKind)
 assign d = (lval d ▸ each (comma lval d) ▸ operation d ▸ rhs d ▸ condition d ▸ the (codes ";") d)
-    ⇒ (λ p. assigned (span_of_lval p.0) (p.0 ∷ p.1.0) p.1.1.0 p.1.1.1.0 p.1.1.1.1.0)
+    ⇒ (λ p. assign_statement (span_of_lval p.0) (p.0 ∷ p.1.0) p.1.1.0 p.1.1.1.0 p.1.1.1.1.0)
 
 -- call = ID "(" [ args ] ")" ";"
 abbrev pub call : ℕ → Lang (Span × StmtKind)
-call d = (name d ▸ call_args d ▸ the (codes ";") d) ⇒ (λ p. called (p.0, p.1.0))
+call d = (name d ▸ call_args d ▸ the (codes ";") d) ⇒ (λ p. call_statement (p.0, p.1.0))
 
 -- what may stand nested: what follows an "if", and statements
 pub record Low : Type 1 where
@@ -71,7 +71,7 @@ block low d = opens (sign (codes "{") ∷ []) (λ b. each (low b).stmts ▸ the 
 -- "else" ( if | block )      an "else if" is open from its "if"
 abbrev pub else_arm : (ℕ → Low) → ℕ → Lang (List Stmt)
 else_arm low d = (key (codes "else") d
-    ▸ ((opens (word (codes "if") ∷ []) (λ b. (low b).ifs) d ⇒ (λ p. stmt_of [] (chosen p.0 p.1) ∷ [])) ⊕ block low d))
+    ▸ ((opens (word (codes "if") ∷ []) (λ b. (low b).ifs) d ⇒ (λ p. stmt_of [] (if_statement p.0 p.1) ∷ [])) ⊕ block low d))
     ⇒ (λ p. p.1)
 
 -- if = "if" expr block [ "else" ( if | block ) ]
@@ -79,7 +79,7 @@ abbrev pub if_rest : (ℕ → Low) → ℕ → Lang (Expr × (List Stmt × List 
 if_rest low d = (expr d ▸ block low d ▸ maybe (else_arm low d)) ⇒ (λ p. (p.0, (p.1.0, or_empty p.1.1)))
 
 abbrev pub if_form : (ℕ → Low) → ℕ → Lang (Span × StmtKind)
-if_form low d = (key (codes "if") d ▸ if_rest low d) ⇒ (λ p. chosen p.0 p.1)
+if_form low d = (key (codes "if") d ▸ if_rest low d) ⇒ (λ p. if_statement p.0 p.1)
 
 -- "(" expr ")"
 abbrev pub test : ℕ → Lang Expr
@@ -92,7 +92,7 @@ body low d = (block low d ⇒ (λ b. Some b)) ⊕ (maybe (the (codes ";") d) ⇒
 -- "while" [ block ] "(" expr ")" ( block | [ ";" ] )
 abbrev pub while : (ℕ → Low) → ℕ → Lang (Span × StmtKind)
 while low d = (key (codes "while") d ▸ (maybe (block low d) ⇒ or_empty) ▸ test d ▸ body low d)
-    ⇒ (λ p. looped p.0 p.1.0 p.1.1.0 p.1.1.1)
+    ⇒ (λ p. while_statement p.0 p.1.0 p.1.1.0 p.1.1.1)
 
 -- "to" | "downto"
 abbrev pub direction : ℕ → Lang Bool
@@ -101,7 +101,7 @@ direction d = (key (codes "to") d ⇒ (λ p. false)) ⊕ (key (codes "downto") d
 -- "for" ID "=" expr ( "to" | "downto" ) expr block
 abbrev pub for : (ℕ → Low) → ℕ → Lang (Span × StmtKind)
 for low d = (key (codes "for") d ▸ name d ▸ the (codes "=") d ▸ expr d ▸ direction d ▸ expr d ▸ block low d)
-    ⇒ (λ p. counted p.0 p.1.0 p.1.1.1.0 p.1.1.1.1.0 p.1.1.1.1.1.0 p.1.1.1.1.1.1)
+    ⇒ (λ p. for_statement p.0 p.1.0 p.1.1.1.0 p.1.1.1.1.0 p.1.1.1.1.1.0 p.1.1.1.1.1.1)
 
 -- stmt = { annot } ( assign | call | if | while | for )
 abbrev pub stmt_in : (ℕ → Low) → ℕ → Lang Stmt

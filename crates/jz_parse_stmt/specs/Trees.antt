@@ -89,21 +89,21 @@ span_of_lval (lval.Cell v i) = (out-Var v).span
 span_of_lval (lval.Store a) = a.span
 
 -- ---- statements: where one stands, and what it does
-abbrev pub assigned : Span → List Lval → Option BinOp → Rhs → Option Expr → Span × StmtKind
-assigned s to op from cond = (s, Assign to op from cond)
+abbrev pub assign_statement : Span → List Lval → Option BinOp → Rhs → Option Expr → Span × StmtKind
+assign_statement s to op from cond = (s, Assign to op from cond)
 
 -- a call that sets nothing
-abbrev pub called : (List ℕ × Span) × List Expr → Span × StmtKind
-called p = assigned p.0.1 [] None (call_of p) None
+abbrev pub call_statement : (List ℕ × Span) × List Expr → Span × StmtKind
+call_statement p = assign_statement p.0.1 [] None (call_of p) None
 
-abbrev pub chosen : Span → Expr × (List Stmt × List Stmt) → Span × StmtKind
-chosen s p = (s, If p.0 p.1.0 p.1.1)
+abbrev pub if_statement : Span → Expr × (List Stmt × List Stmt) → Span × StmtKind
+if_statement s p = (s, If p.0 p.1.0 p.1.1)
 
-abbrev pub looped : Span → List Stmt → Expr → Option (List Stmt) → Span × StmtKind
-looped s before cond body = (s, While before cond body)
+abbrev pub while_statement : Span → List Stmt → Expr → Option (List Stmt) → Span × StmtKind
+while_statement s before cond body = (s, While before cond body)
 
-abbrev pub counted : Span → List ℕ × Span → Expr → Bool → Expr → List Stmt → Span × StmtKind
-counted s name from down to body = (s, For (used_of name) from down to body)
+abbrev pub for_statement : Span → List ℕ × Span → Expr → Bool → Expr → List Stmt → Span × StmtKind
+for_statement s name from down to body = (s, For (used_of name) from down to body)
 
 abbrev pub stmt_of : List Note → Span × StmtKind → Stmt
 stmt_of notes p = record { notes = notes; span = p.0; kind = p.1 }

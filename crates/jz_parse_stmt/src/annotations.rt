@@ -1,7 +1,7 @@
 //! Reads annotations.
 
 ghost use Rattle.jz_cursor.specs.Gave.{Gave};
-ghost use Rattle.jz_parse_stmt.specs.NotesReaders.{note_value, equal_value, entry, next_entry, entries_more, entry_list, bracketed, entries, annotation, notes};
+ghost use Rattle.jz_parse_stmt.specs.NotesReaders.{note_value, equal_value, entry, next_entry, entries_more, entry_list, notes_bracketed, entries, annotation, notes};
 
 use jz_cursor::{Cursor, Stop};
 use jz_data::Seq;
@@ -85,9 +85,9 @@ fn entry_list(alloc: Global, c: &mut Cursor, span: Span) -> Result<Seq<Note>, St
 }
 
 /// The entries in brackets.
-#[tactic(auto, unfolding(crate::specs::NotesReaders::bracketed))]
+#[tactic(auto, unfolding(crate::specs::NotesReaders::notes_bracketed))]
 fn bracketed(alloc: Global, c: &mut Cursor, depth: u32, span: Span) -> Result<Seq<Note>, Stop>
-    ensures { Gave result c.new (bracketed span depth c.old) }
+    ensures { Gave result c.new (notes_bracketed span depth c.old) }
 {
     let (_open, _inner) = c.open("[", depth)?;
     let out = entry_list(alloc, c, span)?;

@@ -5,7 +5,7 @@ ghost use Rattle.jz_grammar.specs.Kinds.{is_in};
 ghost use Rattle.jz_grammar.specs.Reading.{leaf};
 ghost use Rattle.jz_cursor.specs.Gave.{Gave};
 ghost use Rattle.jz_parse_stmt.specs.Trees.{sum_assignments, quotient_assignments, bit_assignments, shift_assignments, assignments, number_operation, bit_operation, operation_of, span_of_lval};
-ghost use Rattle.jz_parse_stmt.specs.Readers.{next_arg, args_more, args, call_args, intrinsic, call_value, rhs, named, lval, next_lval, lvals_more, condition, assign, call, simple};
+ghost use Rattle.jz_parse_stmt.specs.Readers.{next_arg, args_more, args, call_args, intrinsic, call_value, rhs, left_side_named, lval, next_lval, lvals_more, condition, assign, call, simple};
 
 use jz_cursor::{Cursor, Stop, UNEXPECTED, has_text, is_sign};
 use jz_data::{Boxed, Seq};
@@ -96,9 +96,9 @@ fn rhs(alloc: Global, c: &mut Cursor, depth: u32) -> Result<Rhs, Stop>
 }
 
 /// A variable, or the cell of an array.
-#[tactic(auto, unfolding(crate::specs::Readers::named))]
+#[tactic(auto, unfolding(crate::specs::Readers::left_side_named))]
 fn named(alloc: Global, c: &mut Cursor, depth: u32) -> Result<Lval, Stop>
-    ensures { Gave result c.new (named depth c.old) }
+    ensures { Gave result c.new (left_side_named depth c.old) }
 {
     let (name, span) = c.name(alloc)?;
     let var = Var {

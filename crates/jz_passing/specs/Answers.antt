@@ -10,9 +10,9 @@ use Rattle.jz_meaning.specs.Statements as statements
 use Rattle.jz_passing.specs.declared.calling.Call as code_call
 
 -- the variables of a callee
-abbrev pub entered : List ℕ → Result code.Store Stuck → Evaluation Store
-entered ns (Ok s) = went ns (store_of s)
-entered ns (Err k) = stuck k
+abbrev pub entered_store : List ℕ → Result code.Store Stuck → Evaluation Store
+entered_store ns (Ok s) = went ns (store_of s)
+entered_store ns (Err k) = stuck k
 
 -- a call of the code
 abbrev pub call_of : code_call.Call → statements.Call

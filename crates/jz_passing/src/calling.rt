@@ -5,7 +5,7 @@ ghost use Rattle.jz_data.specs.Failures.{IfAnswered};
 ghost use Rattle.jz_meaning.specs.Attempts.{Changes, numbers_first};
 ghost use Rattle.jz_meaning.specs.Stores.{state_of, store_of};
 ghost use Rattle.jz_meaning.specs.Statements as statements;
-ghost use Rattle.jz_passing.specs.Answers.{entered};
+ghost use Rattle.jz_passing.specs.Answers.{entered_store};
 ghost use Rattle.jz_passing.specs.Calls.{value_passed, argument_passed, entered_by, value_given, result_given, left_by};
 
 use crate::arrays::{give_array_back, pass_array};
@@ -96,7 +96,7 @@ pub fn enter(
     state: &State,
     out: &mut Seq<u64>,
 ) -> Result<Store, Failure<Stuck>>
-    ensures { IfAnswered result (λ r. entered out.new r ≡ numbers_first out.old (entered_by call.entry (state_of state.now))) }
+    ensures { IfAnswered result (λ r. entered_store out.new r ≡ numbers_first out.old (entered_by call.entry (state_of state.now))) }
 {
     let mut inner = Store::new(out.allocator());
     pass_all(call.span, &call.callee.params, call.args, state, &mut inner, out)?;

@@ -12,7 +12,7 @@ use Rattle.jz_tree.specs.declared.stmt.StmtKind.TheFolds.{fold-Stmt, fold-StmtKi
 use Rattle.jz_scopes.specs.Order.{unless, earlier, earliest}
 use Rattle.jz_scopes.specs.Kinds.{is_inline}
 use Rattle.jz_scopes.proofs.Earliest.{earliest-append}
-use Rattle.jz_paths.specs.Settings.{Around, Setting, is_counter, all_set, left_set, entered, counting, set_step}
+use Rattle.jz_paths.specs.Settings.{Around, Setting, is_counter, all_set, left_set, entered_around, counting, set_step}
 use Rattle.jz_paths.specs.InnerFirstSet.{FirstSet, first_all, first_left, first_lefts, first_step, first_set, first_set_kind, first_set_all}
 
 abbrev set : Stmt → Setting
@@ -59,9 +59,9 @@ lefts w (l ∷ ls) = two (left_set l w) (flat_map (λ l. left_set l w) ls) _ _ (
 
 layer_law : (y : Kinds) (w : Around) → earliest (set_step (map-StmtKind _ _ Setting Setting set_kind set (bare y)) w) ≡ first_step (map-StmtKind _ _ FirstSet FirstSet first_set_kind first_set (bare y)) w
 layer_law (StmtKind-F.Assign to op from cond) w = lefts w to
-layer_law (StmtKind-F.If c a b) w = both_rows (entered (not (is_inline c)) w) a b
-layer_law (StmtKind-F.While p c None) w = rows (entered true w) p
-layer_law (StmtKind-F.While p c (Some b)) w = both_rows (entered true w) p b
+layer_law (StmtKind-F.If c a b) w = both_rows (entered_around (not (is_inline c)) w) a b
+layer_law (StmtKind-F.While p c None) w = rows (entered_around true w) p
+layer_law (StmtKind-F.While p c (Some b)) w = both_rows (entered_around true w) p b
 layer_law (StmtKind-F.For i from down to b) w = two (unless (not (is_counter w i)) (out-Var i).span) (these b (counting i w)) _ _ refl (rows (counting i w) b)
 layer_law (StmtKind-F.Mark vs) w = refl
 

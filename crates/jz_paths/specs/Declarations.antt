@@ -16,31 +16,31 @@ use Rattle.jz_scopes.specs.Order.{unless}
 use Rattle.jz_scopes.specs.Kinds.{Known, declared_of, known_of}
 
 -- `int` and `inline` go together, and a bool is in a register
-abbrev pub kept : Storage → Kind → Bool
-kept storage.Inline kind.Int = true
-kept storage.Inline _ = false
-kept _ kind.Int = false
-kept storage.Stack kind.Truth = false
-kept _ _ = true
+abbrev pub may_keep : Storage → Kind → Bool
+may_keep storage.Inline kind.Int = true
+may_keep storage.Inline _ = false
+may_keep _ kind.Int = false
+may_keep storage.Stack kind.Truth = false
+may_keep _ _ = true
 
 -- a parameter is no bool
-abbrev pub passed : Storage → Kind → Bool
-passed _ kind.Truth = false
-passed s k = kept s k
+abbrev pub may_pass : Storage → Kind → Bool
+may_pass _ kind.Truth = false
+may_pass s k = may_keep s k
 
 -- a result is no bool, and is not inline
-abbrev pub returned : Storage → Kind → Bool
-returned storage.Inline _ = false
-returned s k = passed s k
+abbrev pub may_return : Storage → Kind → Bool
+may_return storage.Inline _ = false
+may_return s k = may_pass s k
 
 abbrev pub is_kept : Declared → Bool
-is_kept d = kept d.storage d.kind
+is_kept d = may_keep d.storage d.kind
 
 abbrev pub is_passed : Declared → Bool
-is_passed d = passed d.storage d.kind
+is_passed d = may_pass d.storage d.kind
 
 abbrev pub is_returned : Declared → Bool
-is_returned d = returned d.storage d.kind
+is_returned d = may_return d.storage d.kind
 
 -- the place of a variable, unless its declaration is fine; a variable without a declaration has no
 -- place here

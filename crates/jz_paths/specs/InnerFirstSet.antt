@@ -10,7 +10,7 @@ use Rattle.jz_tree.specs.declared.stmt.StmtKind.TheOpen.{StmtKind-F}
 use Rattle.jz_tree.specs.declared.stmt.StmtKind.TheFolds.{fold-Stmt, fold-StmtKind}
 use Rattle.jz_scopes.specs.Order.{unless, earlier, earliest}
 use Rattle.jz_scopes.specs.Kinds.{is_inline}
-use Rattle.jz_paths.specs.Settings.{Around, is_counter, may_set, entered, counting}
+use Rattle.jz_paths.specs.Settings.{Around, is_counter, may_set, entered_around, counting}
 
 abbrev pub FirstSet : Type 0
 FirstSet = Around → Option Span
@@ -30,11 +30,11 @@ first_lefts (l ∷ ls) w = earlier (first_left l w) (first_lefts ls w)
 abbrev pub first_step : StmtKind-F FirstSet FirstSet → FirstSet
 first_step (StmtKind-F.Assign to op from cond) w = first_lefts to w
 first_step (StmtKind-F.If c a b) w =
-    earlier (first_all a (entered (not (is_inline c)) w))
-    (first_all b (entered (not (is_inline c)) w))
-first_step (StmtKind-F.While p c None) w = first_all p (entered true w)
+    earlier (first_all a (entered_around (not (is_inline c)) w))
+    (first_all b (entered_around (not (is_inline c)) w))
+first_step (StmtKind-F.While p c None) w = first_all p (entered_around true w)
 first_step (StmtKind-F.While p c (Some b)) w =
-    earlier (first_all p (entered true w)) (first_all b (entered true w))
+    earlier (first_all p (entered_around true w)) (first_all b (entered_around true w))
 first_step (StmtKind-F.For i from down to b) w =
     earlier (earliest (unless (not (is_counter w i)) (out-Var i).span))
     (first_all b (counting i w))

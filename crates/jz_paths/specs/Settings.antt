@@ -33,8 +33,8 @@ is_counter w v = list_any (λ n. bytes_eq n (out-Var v).name) w.counters
 abbrev pub may_set : Around → Var → Bool
 may_set w v = not (is_counter w v) && not (w.inside && is_inline_int (known_of v))
 
-abbrev pub entered : Bool → Around → Around
-entered b w = around (b || w.inside) w.counters
+abbrev pub entered_around : Bool → Around → Around
+entered_around b w = around (b || w.inside) w.counters
 
 abbrev pub counting : Var → Around → Around
 counting i w = around w.inside (w.counters ++ (out-Var i).name ∷ [])
@@ -53,9 +53,9 @@ left_set _ w = []
 abbrev pub set_step : StmtKind-F Setting Setting → Setting
 set_step (StmtKind-F.Assign to op from cond) w = flat_map (λ l. left_set l w) to
 set_step (StmtKind-F.If c a b) w =
-    all_set a (entered (not (is_inline c)) w) ++ all_set b (entered (not (is_inline c)) w)
-set_step (StmtKind-F.While p c None) w = all_set p (entered true w)
-set_step (StmtKind-F.While p c (Some b)) w = all_set p (entered true w) ++ all_set b (entered true w)
+    all_set a (entered_around (not (is_inline c)) w) ++ all_set b (entered_around (not (is_inline c)) w)
+set_step (StmtKind-F.While p c None) w = all_set p (entered_around true w)
+set_step (StmtKind-F.While p c (Some b)) w = all_set p (entered_around true w) ++ all_set b (entered_around true w)
 -- a loop sets its counter, which is not done by `=`
 set_step (StmtKind-F.For i from down to b) w =
     unless (not (is_counter w i)) (out-Var i).span ++ all_set b (counting i w)

@@ -22,7 +22,7 @@ use Rattle.jz_correct.specs.Correctness.{IsCorrect}
 use Rattle.jz_lower.specs.Straight.{IsWord, IsStraight}
 use Rattle.jz_lower.specs.Placing.{is_given, IsPlacing}
 use Rattle.jz_pipeline.specs.Compiling.{compiled_of}
-use Rattle.jz_pipeline.specs.Addition.{word, variable, copies, adds, addition, addition_alone, added, shows_more}
+use Rattle.jz_pipeline.specs.Addition.{word, variable, copies, adds, addition, addition_alone, added_function, shows_more}
 use Rattle.jz_pipeline.proofs.Correct.{correct}
 use Rattle.jz_pipeline.proofs.Settled.{cases_settled, frame_settled}
 
@@ -82,7 +82,7 @@ among : Contains addition_alone.funs addition
 among = (0, lit< tt, refl)
 
 -- ---- what it becomes
-becomes : (t : Transformer) (frame : ℕ) → added t frame ≡ record (compiled_of register addition) { tr = t; frame = frame }
+becomes : (t : Transformer) (frame : ℕ) → added_function t frame ≡ record (compiled_of register addition) { tr = t; frame = frame }
 unfolding chosen_bytes chosen_fields spelling_of modrm_fields rm_parts
 becomes t frame = refl
 
@@ -92,16 +92,16 @@ short = subst (λ (c : Compiled). length c.code ≤ 2 ^ 64) (becomes (shows_more
 abbrev Right : Compiled → Type 0
 Right c = IsCorrect addition_alone addition c
 
-pub own_is_correct : IsCorrect addition_alone addition (added (shows_more []) 0)
+pub own_is_correct : IsCorrect addition_alone addition (added_function (shows_more []) 0)
 own_is_correct = subst Right (sym (becomes (shows_more []) 0)) (correct addition_alone addition register straight placing resolved safe)
 
-pub no_event_more : (o : Out) → IsCorrect addition_alone addition (added (shows_more (o ∷ [])) 0) → ⊥
+pub no_event_more : (o : Out) → IsCorrect addition_alone addition (added_function (shows_more (o ∷ [])) 0) → ⊥
 no_event_more o right =
     let t = shows_more (o ∷ []) in
     let cases = cases_settled addition_alone addition register among straight placing resolved safe short t (subst Right (becomes t 0) right) in
     let counts : 1 ≡ 0 = ap (λ cs. length (body_events (plain_leak addition.body) 8 cs)) cases in
     absurd (omega (arith, counts))
 
-pub no_frame_of_eight : IsCorrect addition_alone addition (added (shows_more []) 8) → ⊥
+pub no_frame_of_eight : IsCorrect addition_alone addition (added_function (shows_more []) 8) → ⊥
 no_frame_of_eight right =
     let none = frame_settled addition_alone addition register 8 (subst Right (becomes (shows_more []) 8) right) in absurd (omega (arith, none))

@@ -18,7 +18,7 @@ use Rattle.jz_leak.specs.declared.transformer.Form.TheVariants as form
 use Rattle.jz_leak.specs.declared.transformer.Out.TheVariants as out
 use Rattle.jz_leak.specs.Applying.{apply_of, body_events, is_cut, Fits, OutFits, CasesFit}
 use Rattle.jz_runs.specs.Rules.{went}
-use Rattle.jz_first_meaning.specs.SourceStates.{Value, word, key_of, Store, put}
+use Rattle.jz_first_meaning.specs.SourceStates.{Value, word, key_of, Store, with_value_at}
 use Rattle.jz_first_meaning.specs.SourceValues.{Evaluation, and_then, variable_value}
 use Rattle.jz_first_meaning.specs.SourceRuns.{argument, value_of_type, with_arguments, word_of, result_words, FitsDecl, FitsType, AreArguments}
 use Rattle.jz_first_meaning.specs.StraightRuns.{plain_leak}
@@ -52,7 +52,7 @@ argument_is x w is = ap (λ d. argument d w) is.decl ∙ ap (λ t. Some (value_o
 
 module _ (register : List ℕ → Reg) where
   one_more : (x : Var) (store : Store) (regs : List ℕ) (w : ℕ) → word_in regs (register x.name) ≡ w → Holds register Any store regs
-      → (n : List ℕ) (v : Value) (same : Bool) → pointwise nat_eq n x.name ≡ same → put store (named x.name) (Some (word S64 w)) (named n) ≡ Some v → v ≡ word S64 (word_in regs (register n))
+      → (n : List ℕ) (v : Value) (same : Bool) → pointwise nat_eq n x.name ≡ same → with_value_at store (named x.name) (Some (word S64 w)) (named n) ≡ Some v → v ≡ word S64 (word_in regs (register n))
   one_more x store regs w e h n v true s there =
       let name : n ≡ x.name = same_text n x.name (sym s) in
       let is : Some (word S64 w) ≡ Some v = sym (put_at store x.name n (Some (word S64 w)) true s) ∙ there in
@@ -67,10 +67,10 @@ module _ (register : List ℕ → Reg) where
   entered (r ∷ rs) (p ∷ ps) [] store st w s t h = h
   entered (r ∷ rs) (p ∷ ps) (x ∷ words) store st w s t h =
       let there : word_in st.regs (register p.var.name) ≡ x = ap (word_in st.regs) s.0 ∙ t.0 in
-      let more : Holds register Any (put store (key_of p.var) (Some (word S64 x))) st.regs =
+      let more : Holds register Any (with_value_at store (key_of p.var) (Some (word S64 x))) st.regs =
       λ n v u e. one_more p.var store st.regs x there h n v (pointwise nat_eq n p.var.name) refl e in
-      entered rs ps words (put store (key_of p.var) (argument p.var.decl x)) st w.1 s.1 t.1
-      (subst (λ (o : Option Value). Holds register Any (put store (key_of p.var) o) st.regs) (sym (argument_is p.var x w.0)) more)
+      entered rs ps words (with_value_at store (key_of p.var) (argument p.var.decl x)) st w.1 s.1 t.1
+      (subst (λ (o : Option Value). Holds register Any (with_value_at store (key_of p.var) o) st.regs) (sym (argument_is p.var x w.0)) more)
 
   -- ---- at the end each result's word is in its register
   word_back : (x : Var) (v : Value) (ms : List ℕ) (w a : ℕ) → v ≡ word S64 a → word_of x.span v ≡ went ms w → a ≡ w

@@ -11,7 +11,7 @@ use Rattle.jz_first_parse.specs.Deriving.{DerivesProgram}
 use Rattle.jz_first_parse.specs.Derived.{DeclaresWords}
 use Rattle.jz_first_parse.proofs.Assigning.{statements_one}
 use Rattle.jz_first_parse.proofs.Declaring.{words_declared}
-use Rattle.jz_first_types.specs.Resolving.{resolved_fun, resolved}
+use Rattle.jz_first_types.specs.Resolving.{resolved_fun, resolved_program}
 use Rattle.jz_first_types.specs.TypedPrograms.{HaveDifferentNames, HaveDeclarations, HaveCounts}
 use Rattle.jz_first_meaning.specs.declared.expanded.Expanded.{Expanded}
 use Rattle.jz_pipeline.specs.Limits.{IsWithinLimits}
@@ -23,7 +23,7 @@ use Rattle.jz_pipeline.proofs.Placeable.{placeable}
 pub resolved_words : (f : Fun) → DeclaresWords f → DeclaresWords (resolved_fun f)
 resolved_words f h = record { params = h.params; vars = h.vars; rets = h.rets; few = h.few }
 
-pub read_placeable : (tokens : List Token) (read typed : Program) → DerivesProgram tokens read → typed ≡ resolved read
+pub read_placeable : (tokens : List Token) (read typed : Program) → DerivesProgram tokens read → typed ≡ resolved_program read
     → HaveDifferentNames typed → HaveDeclarations typed → HaveCounts typed → All IsWithinLimits typed.funs → All IsPlaceable typed.funs
 read_placeable tokens read typed derived is names declarations counts limits =
     let funs : typed.funs ≡ map resolved_fun read.funs = ap (λ (p : Program). p.funs) is in

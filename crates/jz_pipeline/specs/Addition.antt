@@ -80,8 +80,8 @@ addition_alone = record { funs = addition ∷ [] }
 abbrev pub line : List ℕ → Reg → Arg
 line name r = record { name = name; size = S64; reg = r }
 
-abbrev pub added : Transformer → ℕ → Compiled
-added t frame = record {
+abbrev pub added_function : Transformer → ℕ → Compiled
+added_function t frame = record {
   name = codes "add";
   args = line (codes "x") Rdi ∷ line (codes "y") Rsi ∷ [];
   rets = line (codes "r") Rax ∷ [];

@@ -6,7 +6,7 @@ ghost use Rattle.jz_lex.specs.declared.token.Token.{Token};
 ghost use Rattle.jz_first_tree.specs.declared.Program.{Program};
 ghost use Rattle.jz_first_tree.specs.declared.Fun.{Fun};
 ghost use Rattle.jz_first_parse.specs.Deriving.{DerivesProgram};
-ghost use Rattle.jz_first_types.specs.Resolving.{resolved};
+ghost use Rattle.jz_first_types.specs.Resolving.{resolved_program};
 ghost use Rattle.jz_first_types.specs.TypedPrograms.{HaveDifferentNames, HaveDeclarations, HaveCounts};
 ghost use Rattle.jz_pipeline.specs.Limits.{IsWithinLimits};
 ghost use Rattle.jz_safety.specs.Alarms.{HasNoAlarm};
@@ -17,7 +17,7 @@ ghost use Rattle.jz_lower.specs.Placing.{IsPlacing};
 ghost use Rattle.jz_leak.specs.declared.transformer.Transformer.{Transformer};
 ghost use Rattle.jz_pipeline.specs.Compiling.{compiled_of, straight_transformer};
 ghost use Rattle.jz_leak.specs.declared.transformer.Out.{Out};
-ghost use Rattle.jz_pipeline.specs.Addition.{addition, addition_alone, added, shows_more};
+ghost use Rattle.jz_pipeline.specs.Addition.{addition, addition_alone, added_function, shows_more};
 ghost use Rattle.jz_pipeline.specs.Placed.{IsPlaceable};
 
 /// A function of assignments without an alarm, whose variables stand in registers that keep them
@@ -42,17 +42,17 @@ pub fn no_other_is_correct()
 /// The addition of two words becomes correct bytes. With one event more, or with a frame of 8
 /// bytes, it is not correct.
 pub fn addition_is_told_apart()
-    ensures correct { IsCorrect addition_alone addition (added (shows_more []) 0) }
+    ensures correct { IsCorrect addition_alone addition (added_function (shows_more []) 0) }
     ensures event { (o : Out)
-        → IsCorrect addition_alone addition (added (shows_more (o ∷ [])) 0) → ⊥ }
-    ensures frame { IsCorrect addition_alone addition (added (shows_more []) 8) → ⊥ }
+        → IsCorrect addition_alone addition (added_function (shows_more (o ∷ [])) 0) → ⊥ }
+    ensures frame { IsCorrect addition_alone addition (added_function (shows_more []) 8) → ⊥ }
 {}
 
 /// The functions of a program that tokens derive can be placed, once they are typed and within
 /// their limits.
 pub fn read_functions_are_placeable()
     ensures { (tokens : List Token) (read typed : Program)
-        → DerivesProgram tokens read → typed ≡ resolved read
+        → DerivesProgram tokens read → typed ≡ resolved_program read
         → HaveDifferentNames typed → HaveDeclarations typed → HaveCounts typed
         → All IsWithinLimits typed.funs → All IsPlaceable typed.funs }
 {}

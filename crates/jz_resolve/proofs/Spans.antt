@@ -1,4 +1,4 @@
--- What is resolved stands where it stood.
+-- What is resolved_program stands where it stood.
 use Rattle.std.proofs.Common.{◌≡◌, ℕ, ℤ, List, [], ◌∷◌, ◌++◌, Option, Some, None, map, refl, sym, ap, ap₂, ◌∙◌, subst}
 use Rattle.std.proofs.lemmas.List.{map-append}
 use Rattle.std.specs.Prelude.{pos}
@@ -21,11 +21,11 @@ use Rattle.jz_tree.specs.declared.stmt.StmtKind.TheFolds.{fold-roll-Stmt, fold-r
 use Rattle.jz_tree.specs.declared.program.Program.{Program}
 use Rattle.jz_tree.specs.declared.program.Fun.{Fun}
 use Rattle.jz_scopes.specs.Scopes.{Name, name_of, constant_place, variables_of}
-use Rattle.jz_scopes.specs.Parts.{span_layer, span_of, nested, nested_step, statements_in, statements_of}
+use Rattle.jz_scopes.specs.Parts.{span_layer, span_of, nested_statements, nested_step, statements_in, statements_of}
 use Rattle.jz_resolve.specs.Resolving.{number_or, expr_step, var_step, resolved_expr, resolved_access, resolved_var, kind_step, resolved_kind, resolved_stmt}
 use Rattle.jz_resolve.specs.Numbering.{values_of, declaration_in, number_in}
 use Rattle.jz_scopes.specs.Scopes.{function_name}
-use Rattle.jz_resolve.specs.Programs.{counted_fun, resolved_whole, resolved}
+use Rattle.jz_resolve.specs.Programs.{counted_fun, resolved_whole, resolved_program}
 
 in_kind : StmtKind → List Stmt
 in_kind = para-StmtKind (List Stmt) (List Stmt) nested_step (λ s. roll-Stmt (record { notes = s.notes; span = s.span; kind = s.kind.0 }) ∷ s.kind.1)
@@ -59,14 +59,14 @@ module _ (d : List ℕ → Option Decl) (n : Name → Option (Option ℤ)) where
   abbrev firsts : List ((s : Stmt) × StmtLaw s) → List Stmt
   firsts ss = map (λ e. e.0) ss
 
-  rows : (ss : List ((s : Stmt) × StmtLaw s)) → nested (map pair (map R (firsts ss))) ≡ map R (nested (map pair (firsts ss)))
+  rows : (ss : List ((s : Stmt) × StmtLaw s)) → nested_statements (map pair (map R (firsts ss))) ≡ map R (nested_statements (map pair (firsts ss)))
   unfolding pair
   rows [] = refl
-  rows (s ∷ ss) = ap₂ (λ x y. x ++ y) s.1 (rows ss) ∙ sym (map-append R (statements_in s.0) (nested (map pair (firsts ss))))
+  rows (s ∷ ss) = ap₂ (λ x y. x ++ y) s.1 (rows ss) ∙ sym (map-append R (statements_in s.0) (nested_statements (map pair (firsts ss))))
 
   both : (as' bs : List ((s : Stmt) × StmtLaw s))
-      → nested (map pair (map R (firsts as'))) ++ nested (map pair (map R (firsts bs))) ≡ map R (nested (map pair (firsts as')) ++ nested (map pair (firsts bs)))
-  both as' bs = ap₂ (λ x y. x ++ y) (rows as') (rows bs) ∙ sym (map-append R (nested (map pair (firsts as'))) (nested (map pair (firsts bs))))
+      → nested_statements (map pair (map R (firsts as'))) ++ nested_statements (map pair (map R (firsts bs))) ≡ map R (nested_statements (map pair (firsts as')) ++ nested_statements (map pair (firsts bs)))
+  both as' bs = ap₂ (λ x y. x ++ y) (rows as') (rows bs) ∙ sym (map-append R (nested_statements (map pair (firsts as'))) (nested_statements (map pair (firsts bs))))
 
   abbrev mapped : Kinds → StmtKind-F StmtKind Stmt
   mapped y = map-StmtKind _ _ StmtKind Stmt (resolved_kind d n) R (bare y)
@@ -170,10 +170,10 @@ same_bodies : (f : Fun → Fun) → ((g : Fun) → spans_in (f g) ≡ spans_in g
 same_bodies f same [] = refl
 same_bodies f same (g ∷ gs) = ap₂ (λ x y. x ∷ y) (same g) (same_bodies f same gs)
 
-pub functions_named : (p : Program) → map function_name (resolved p).funs ≡ map function_name p.funs
+pub functions_named : (p : Program) → map function_name (resolved_program p).funs ≡ map function_name p.funs
 functions_named p = same_names (resolved_whole (constant_place p.consts) (values_of p.consts)) (λ g. refl) p.funs
 
-pub functions_placed : (p : Program) → map (λ f. map (λ s. s.span) (statements_of f.body)) (resolved p).funs ≡ map (λ f. map (λ s. s.span) (statements_of f.body)) p.funs
+pub functions_placed : (p : Program) → map (λ f. map (λ s. s.span) (statements_of f.body)) (resolved_program p).funs ≡ map (λ f. map (λ s. s.span) (statements_of f.body)) p.funs
 unfolding spans_in
 functions_placed p =
     let places = constant_place p.consts in

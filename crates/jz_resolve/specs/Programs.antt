@@ -23,13 +23,13 @@ use Rattle.jz_resolve.specs.Numbering.{Values, value_with, values_of, known_amon
 
 -- ---- lengths
 -- a length is its value; one that has none is 0, which no array has as its length
-abbrev pub counted : Option ℤ → Expr → Expr
-counted None e = expr.Num (pos 0) (span_of e)
-counted (Some n) e = expr.Num n (span_of e)
+abbrev pub counted_length : Option ℤ → Expr → Expr
+counted_length None e = expr.Num (pos 0) (span_of e)
+counted_length (Some n) e = expr.Num n (span_of e)
 
 -- the same with these values of constants
 abbrev pub counted_by : Values → Expr → Expr
-counted_by values e = counted (value_with values e) e
+counted_by values e = counted_length (value_with values e) e
 
 module _ (values : Values) where
   abbrev pub counted_layer : Ty-F Expr Ty Access Decl Var → Ty
@@ -82,8 +82,8 @@ module _ (places : PlacesByName) (values : Values) where
     funs = map resolved_whole p.funs;
   }
 
-abbrev pub resolved : Program → Program
-resolved p = resolved_by (constant_place p.consts) (values_of p.consts) p
+abbrev pub resolved_program : Program → Program
+resolved_program p = resolved_by (constant_place p.consts) (values_of p.consts) p
 
 -- ---- what stays
 abbrev pub function_names : Program → List Name

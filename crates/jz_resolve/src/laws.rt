@@ -2,7 +2,7 @@
 ghost use Rattle.std.specs.Prelude.{◌≡◌, map};
 ghost use Rattle.jz_scopes.specs.Parts.{span_of, statements_in};
 ghost use Rattle.jz_resolve.specs.Resolving.{KnownNames, expr_with, stmt_with};
-ghost use Rattle.jz_resolve.specs.Programs.{function_names, all_statement_places, resolved};
+ghost use Rattle.jz_resolve.specs.Programs.{function_names, all_statement_places, resolved_program};
 
 use jz_tree::{Expr, Program, Stmt};
 
@@ -22,8 +22,8 @@ pub fn statement_stays(s: &Stmt)
 
 /// The functions keep their names and places, and their statements stand where they stood.
 pub fn functions_stay(program: &Program)
-    ensures names { function_names (resolved program.now) ≡ function_names program.now }
+    ensures names { function_names (resolved_program program.now) ≡ function_names program.now }
     ensures statements {
-        all_statement_places (resolved program.now) ≡ all_statement_places program.now
+        all_statement_places (resolved_program program.now) ≡ all_statement_places program.now
     }
 {}

@@ -1,6 +1,6 @@
 //! Programs whose variables have their declarations, whose lengths and constants are numbers.
 ghost use Rattle.std.specs.Prelude.{◌≡◌, IfOk, OnOk, [], map, option_map};
-ghost use Rattle.jz_resolve.specs.Programs.{counted_by, counted_ty, counted_decl, counted_var, counted_param, counted_ret, counted_fun, resolved};
+ghost use Rattle.jz_resolve.specs.Programs.{counted_by, counted_ty, counted_decl, counted_var, counted_param, counted_ret, counted_fun, resolved_program};
 ghost use Rattle.jz_resolve.specs.Resolving.{stmt_with, var_with};
 ghost use Rattle.jz_resolve.specs.Tables.{values_in};
 ghost use Rattle.jz_resolve.specs.InnerTables.{names_of_fun, fun_by, whole_by, const_by, IsScope};
@@ -274,7 +274,7 @@ fn resolve_consts(
 /// is its value, and each constant its number. A length that has none becomes 0, and a constant
 /// that has none a division by zero.
 pub fn resolve(alloc: Global, program: Program) -> Result<Program, AllocError>
-    ensures { IfOk result (λ q. q ≡ resolved program) }
+    ensures { IfOk result (λ q. q ≡ resolved_program program) }
 {
     let table = constants(alloc, &program.consts)?;
     let Program { consts, funs } = program;

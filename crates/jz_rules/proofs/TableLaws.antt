@@ -7,7 +7,7 @@ use Rattle.std.specs.List.{list_any}
 use Rattle.std.specs.Str.{bytes_eq}
 use Rattle.indexmap.specs.IndexSet.{insert_key}
 use Rattle.jz_scopes.specs.Scopes.{or_else, or_named}
-use Rattle.jz_rules.specs.Callees.{place_of}
+use Rattle.jz_rules.specs.Callees.{index_where}
 
 -- ---- sets
 or_true : (a : Bool) → (a || true) ≡ true
@@ -45,7 +45,7 @@ shifted None true n k e = ap Some (sym e)
 shifted None false n k e = refl
 shifted (Some i) b n k e = refl
 
-place-push : {A : Type 0} (test : A → Bool) (xs : List A) (x : A) → place_of test (xs ++ x ∷ []) ≡ or_else (place_of test xs) (if test x then Some (length xs) else None)
+place-push : {A : Type 0} (test : A → Bool) (xs : List A) (x : A) → index_where test (xs ++ x ∷ []) ≡ or_else (index_where test xs) (if test x then Some (length xs) else None)
 place-push test [] x =
     let first : Option ℕ = Some 0
     in let none : Option ℕ = None
@@ -53,12 +53,12 @@ place-push test [] x =
 place-push test (y ∷ xs) x =
     let first : Option ℕ = Some 0
     in elim (test y)
-    as (λ b. cond b first (option_map (λ i. i + 1) (place_of test (xs ++ x ∷ []))) ≡ or_else (cond b first (option_map (λ i. i + 1) (place_of test xs))) (if test x then Some (length (y ∷ xs)) else None))
-    [ true ↦ refl | false ↦ ap (option_map (λ i. i + 1)) (place-push test xs x) ∙ shifted (place_of test xs) (test x) (length xs) (length (y ∷ xs)) (omega arith) ]
+    as (λ b. cond b first (option_map (λ i. i + 1) (index_where test (xs ++ x ∷ []))) ≡ or_else (cond b first (option_map (λ i. i + 1) (index_where test xs))) (if test x then Some (length (y ∷ xs)) else None))
+    [ true ↦ refl | false ↦ ap (option_map (λ i. i + 1)) (place-push test xs x) ∙ shifted (index_where test xs) (test x) (length xs) (length (y ∷ xs)) (omega arith) ]
 
-pub places_more : (ns : List (List ℕ)) (m : List ℕ) (old new : List ℕ → Option ℕ) (at : ℕ) → at ≡ length ns → ((n : List ℕ) → old n ≡ place_of (bytes_eq n) ns)
-    → new ≡ or_named old m (Some at) → (n : List ℕ) → new n ≡ place_of (bytes_eq n) (ns ++ m ∷ [])
+pub places_more : (ns : List (List ℕ)) (m : List ℕ) (old new : List ℕ → Option ℕ) (at : ℕ) → at ≡ length ns → ((n : List ℕ) → old n ≡ index_where (bytes_eq n) ns)
+    → new ≡ or_named old m (Some at) → (n : List ℕ) → new n ≡ index_where (bytes_eq n) (ns ++ m ∷ [])
 places_more ns m old new at long held e n =
     ap (λ t. t n) e
     ∙ (ap (λ o. or_else o (if bytes_eq n m then Some at else None)) (held n)
-    ∙ (ap (λ k. or_else (place_of (bytes_eq n) ns) (if bytes_eq n m then Some k else None)) long ∙ sym (place-push (bytes_eq n) ns m)))
+    ∙ (ap (λ k. or_else (index_where (bytes_eq n) ns) (if bytes_eq n m then Some k else None)) long ∙ sym (place-push (bytes_eq n) ns m)))

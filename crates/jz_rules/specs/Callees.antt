@@ -19,9 +19,9 @@ use Rattle.jz_scopes.specs.Kinds.{known_of, is_array}
 use Rattle.jz_rules.specs.declared.callee.Callee.{Callee}
 
 -- the first place of a list at which the test is passed
-abbrev pub place_of : {A : Type 0} → (A → Bool) → List A → Option ℕ
-place_of test [] = None
-place_of test (a ∷ as') = if test a then Some 0 else option_map (λ n. n + 1) (place_of test as')
+abbrev pub index_where : {A : Type 0} → (A → Bool) → List A → Option ℕ
+index_where test [] = None
+index_where test (a ∷ as') = if test a then Some 0 else option_map (λ n. n + 1) (index_where test as')
 
 abbrev pub text_of : Var → List ℕ
 text_of v = (out-Var v).name
@@ -31,7 +31,7 @@ name_of_param p = text_of p.var
 
 -- the first place of the name of a variable
 abbrev pub place_among : List (List ℕ) → Var → Option ℕ
-place_among names v = place_of (bytes_eq (text_of v)) names
+place_among names v = index_where (bytes_eq (text_of v)) names
 
 -- the number of the parameter that a variable of the function is, if it is one
 abbrev pub param_of : Fun → Var → Option ℕ
@@ -68,9 +68,9 @@ callee_of g = record {
 }
 
 -- the function that a statement calls
-abbrev pub called : List Fun → Layer → Option Fun
-called fs (StmtKind-F.Assign to op (rhs.Call n args at) cond) = function_named n fs
-called fs _ = None
+abbrev pub called_function : List Fun → Layer → Option Fun
+called_function fs (StmtKind-F.Assign to op (rhs.Call n args at) cond) = function_named n fs
+called_function fs _ = None
 
 abbrev pub callee_by : List Fun → Layer → Option Callee
-callee_by fs k = option_map callee_of (called fs k)
+callee_by fs k = option_map callee_of (called_function fs k)

@@ -29,8 +29,8 @@ has_shape f =
     nat_le (length f.params) 6 && nat_le (length f.rets) 2
     && list_all is_word_param f.params && list_all is_word_result f.rets
 
-abbrev pub misshapen : Fun → List Span
-misshapen f = unless (not (is_exported f.kind) || has_shape f) f.span
+abbrev pub misshapen_places : Fun → List Span
+misshapen_places f = unless (not (is_exported f.kind) || has_shape f) f.span
 
 -- ---- BadAnnotation: no entry before an export function is a precondition
 abbrev pub is_precondition : Note → Bool
@@ -39,5 +39,5 @@ is_precondition n = bytes_eq n.name (codes "region") || bytes_eq n.name (codes "
 abbrev pub annotated_by : Note → List Span
 annotated_by n = unless (not (is_precondition n)) n.span
 
-abbrev pub annotated : Fun → List Span
-annotated f = if is_exported f.kind then flat_map annotated_by f.notes else []
+abbrev pub annotated_places : Fun → List Span
+annotated_places f = if is_exported f.kind then flat_map annotated_by f.notes else []

@@ -7,7 +7,7 @@ use Rattle.jz_scopes.specs.Tables.{item_in}
 use Rattle.jz_rules.specs.declared.tables.Names.{Names}
 use Rattle.jz_rules.specs.declared.tables.Numbers.{Numbers}
 use Rattle.jz_rules.specs.declared.twice.Seen.{Seen}
-use Rattle.jz_rules.specs.Callees.{place_of, text_of}
+use Rattle.jz_rules.specs.Callees.{index_where, text_of}
 use Rattle.jz_rules.specs.Copies.{Passed, is_written_at}
 
 -- the set has these names
@@ -16,7 +16,7 @@ pub record HasNames (s : Names) (ns : List (List ℕ)) : Type 0 where
 
 -- the table has the first place of each name of the list
 pub record HasPlaces (t : ByName ℕ) (ns : List (List ℕ)) : Type 0 where
-  pub first : (n : List ℕ) → item_in t n ≡ place_of (bytes_eq n) ns
+  pub first : (n : List ℕ) → item_in t n ≡ index_where (bytes_eq n) ns
 
 -- the set has these numbers
 pub record HasNumbers (s : Numbers) (ns : List ℕ) : Type 0 where

@@ -15,7 +15,7 @@ use Rattle.jz_tree.specs.declared.stmt.Rhs.TheVariants as rhs
 use Rattle.jz_tree.specs.declared.stmt.Stmt.{Stmt}
 use Rattle.jz_tree.specs.declared.stmt.StmtKind.{StmtKind}
 use Rattle.jz_tree.specs.declared.stmt.StmtKind.TheOpen.{StmtKind-F}
-use Rattle.jz_select.specs.Selected.{selected, copied}
+use Rattle.jz_select.specs.Selected.{pattern_selected, pattern_copied}
 use Rattle.jz_scopes.specs.Order.{unless}
 use Rattle.jz_scopes.specs.Parts.{Layer, layer_of}
 use Rattle.jz_scopes.specs.Kinds.{known_of, is_inline_int, is_inline, is_word}
@@ -46,14 +46,14 @@ needs_row (StmtKind-F.For i from down to b) = false
 needs_row (StmtKind-F.Mark vs) = false
 
 -- ---- rows
--- a row of the tables is selected: one that matches whichever way comparisons of indices go, of an
+-- a row of the tables is pattern_selected: one that matches whichever way comparisons of indices go, of an
 -- `if` or `while` its condition
 abbrev pub has_row : StmtKind → Bool
-has_row k = is_some (selected k)
+has_row k = is_some (pattern_selected k)
 
 -- `d = e`
 abbrev pub has_copy : Lval → Expr → Bool
-has_copy d e = is_some (copied d e)
+has_copy d e = is_some (pattern_copied d e)
 
 -- ---- the copies of a call, of words alone
 abbrev pub is_word_left : Lval → Bool
@@ -91,5 +91,5 @@ abbrev pub has_rows : Option Callee → Stmt → Bool
 has_rows callee s = (not (needs_row (layer_of s)) || has_row s.kind) && has_copies callee (layer_of s)
 
 -- no row is asked of a statement of which another fault is told
-abbrev pub unmatched : Option Callee → Bool → Stmt → List Span
-unmatched callee others s = if others then [] else unless (has_rows callee s) s.span
+abbrev pub unmatched_places : Option Callee → Bool → Stmt → List Span
+unmatched_places callee others s = if others then [] else unless (has_rows callee s) s.span

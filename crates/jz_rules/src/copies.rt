@@ -10,8 +10,8 @@ ghost use Rattle.jz_rules.specs.InnerPairs.{pair_of};
 ghost use Rattle.jz_rules.specs.InnerPassing.{passed_of};
 ghost use Rattle.jz_rules.specs.InnerTables.{HasNumbers};
 ghost use Rattle.jz_rules.specs.Copies.{passed_as, is_one, not_passed, gets_back, numbers_back};
-ghost use Rattle.jz_rules.specs.Copies.{is_written_at, passed_at, passed_from, not_back, given};
-ghost use Rattle.jz_rules.specs.Copies.{passed_wrongly, wrong_arguments, copied_by_call, copied};
+ghost use Rattle.jz_rules.specs.Copies.{is_written_at, passed_at, passed_from, not_back, given_results};
+ghost use Rattle.jz_rules.specs.Copies.{passed_wrongly, wrong_arguments, copied_by_call, copied_places};
 ghost use Rattle.jz_rules.specs.Copies.{array_arg, array_left};
 
 use crate::arrays::{array_args, array_lefts};
@@ -57,7 +57,7 @@ fn not_passed(args: &Seq<Expr>, number: Option<usize>, to: &Lval) -> Option<Span
 }
 
 fn not_passed_among(args: &Seq<Expr>, given: &[Pair<'_, Option<usize>, Lval>]) -> Option<Span>
-    ensures { result ≡ first_in (not_passed args.now) (map pair_of given.now) }
+    ensures { result ≡ first_in (not_passed args.now) (map pair_of given_results.now) }
 {
     let mut first = None;
     for pair in given {
@@ -93,7 +93,7 @@ fn numbers_back(
     args: &Seq<Expr>,
     given: &[Pair<'_, Option<usize>, Lval>],
 ) -> Result<Vec<usize>, AllocError>
-    ensures { IfOk result (λ ns. ns.items ≡ numbers_back args.now (map pair_of given.now)) }
+    ensures { IfOk result (λ ns. ns.items ≡ numbers_back args.now (map pair_of given_results.now)) }
 {
     let mut numbers = Vec::new(alloc);
     for pair in given {
@@ -167,7 +167,7 @@ fn passed_wrongly(
     results: &[Pair<'_, Option<usize>, Lval>],
     args: &Seq<Expr>,
 ) -> Result<Option<Span>, AllocError>
-    ensures { (to : List Lval) → map pair_of results.now ≡ given callee.now to
+    ensures { (to : List Lval) → map pair_of results.now ≡ given_results callee.now to
         → IfOk result (λ at. at ≡ earliest (passed_wrongly callee.now to args.now)) }
 {
     let passed = passed(alloc, args)?;
@@ -184,7 +184,7 @@ fn wrong_arguments(
     results: &[Pair<'_, Option<usize>, Lval>],
     args: &Seq<Expr>,
 ) -> Result<Option<Span>, AllocError>
-    ensures { (to : List Lval) → map pair_of results.now ≡ given callee.now to
+    ensures { (to : List Lval) → map pair_of results.now ≡ given_results callee.now to
         → IfOk result (λ at. at ≡ earliest (wrong_arguments callee.now to args.now)) }
 {
     if is_exported(callee.kind) {
@@ -239,7 +239,7 @@ pub fn copied(
     stmt: &Stmt,
 ) -> Result<Option<Span>, AllocError>
     ensures { IfOk result
-        (λ at. at ≡ earliest (copied (option_copied callee.entry) (layer_of stmt.now))) }
+        (λ at. at ≡ earliest (copied_places (option_copied callee.entry) (layer_of stmt.now))) }
 {
     let StmtKind::Assign {
         to,

@@ -4,7 +4,7 @@ ghost use Rattle.std.specs.Prelude.{◌≡◌};
 ghost use Rattle.std.specs.List.{list_all};
 ghost use Rattle.jz_scopes.specs.Order.{earliest, first_in};
 ghost use Rattle.jz_rules.specs.Exports.{is_exported, is_word_param, is_word_result, has_shape};
-ghost use Rattle.jz_rules.specs.Exports.{misshapen, is_precondition, annotated_by, annotated};
+ghost use Rattle.jz_rules.specs.Exports.{misshapen_places, is_precondition, annotated_by, annotated_places};
 
 use jz_data::Seq;
 use jz_io::Span;
@@ -54,7 +54,7 @@ fn has_shape(fun: &Fun) -> bool
 /// The name of an export function that has more than six parameters or two results, or another than
 /// words in registers.
 pub fn misshapen(fun: &Fun) -> Option<Span>
-    ensures { result ≡ earliest (misshapen fun.now) }
+    ensures { result ≡ earliest (misshapen_places fun.now) }
 {
     unless(!is_exported(fun.kind) || has_shape(fun), fun.span)
 }
@@ -85,7 +85,7 @@ fn annotated_among(notes: &Seq<Note>) -> Option<Span>
 /// The first entry before an export function that is a precondition; no entry is read as one yet.
 #[tactic(auto, using(jz_scopes::proofs::Earliest::joining))]
 pub fn annotated(fun: &Fun) -> Option<Span>
-    ensures { result ≡ earliest (annotated fun.now) }
+    ensures { result ≡ earliest (annotated_places fun.now) }
 {
     if is_exported(fun.kind) {
         annotated_among(&fun.notes)

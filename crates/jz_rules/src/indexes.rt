@@ -2,7 +2,7 @@
 
 ghost use Rattle.std.specs.Prelude.{◌≡◌, IfOk};
 ghost use Rattle.jz_scopes.specs.Order.{earliest, first_in};
-ghost use Rattle.jz_scopes.specs.Lent.{these, paired};
+ghost use Rattle.jz_scopes.specs.Lent.{these, paired_lists};
 ghost use Rattle.jz_scopes.specs.Parts.{layer_of};
 ghost use Rattle.jz_rules.specs.Indexes.{is_inline_integer, indexed_at, indexed_in, indexed_by};
 
@@ -53,7 +53,7 @@ fn indexed_at(array: &Var, index: &Expr) -> Option<Span>
 }
 
 fn indexed_among(cells: &[(&Var, &Expr)]) -> Option<Span>
-    ensures { result ≡ first_in indexed_at (paired cells.now) }
+    ensures { result ≡ first_in indexed_at (paired_lists cells.now) }
 {
     let mut first = None;
     for (array, index) in cells {

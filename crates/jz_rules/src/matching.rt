@@ -10,7 +10,7 @@ ghost use Rattle.jz_rules.specs.InnerPairs.{pair_of};
 ghost use Rattle.jz_rules.specs.Matching.{is_set_inline, may_be_inline, sets_inline, needs_row};
 ghost use Rattle.jz_rules.specs.Matching.{has_row, has_copy, is_word_left, is_word_value, is_skip};
 ghost use Rattle.jz_rules.specs.Matching.{enters, leaves, has_copies_of_call, has_copies};
-ghost use Rattle.jz_rules.specs.Matching.{unmatched};
+ghost use Rattle.jz_rules.specs.Matching.{unmatched_places};
 
 use crate::callee::Callee;
 use crate::pairs::{Pair, pairs};
@@ -192,7 +192,7 @@ pub fn unmatched(
     stmt: &Stmt,
 ) -> Result<Option<Span>, AllocError>
     ensures { IfOk result
-        (λ at. at ≡ earliest (unmatched (option_copied callee.entry) others stmt.now)) }
+        (λ at. at ≡ earliest (unmatched_places (option_copied callee.entry) others stmt.now)) }
 {
     if others {
         return Ok(None);

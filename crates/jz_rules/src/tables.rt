@@ -3,7 +3,7 @@
 ghost use Rattle.std.specs.Prelude.{◌≡◌, ℕ, nat_eq, [], ◌∷◌, ◌++◌, List, length, IfOk, OnOk};
 ghost use Rattle.std.specs.List.{list_any};
 ghost use Rattle.std.specs.Str.{bytes_eq};
-ghost use Rattle.jz_rules.specs.Callees.{place_of};
+ghost use Rattle.jz_rules.specs.Callees.{index_where};
 ghost use Rattle.jz_rules.specs.InnerTables.{HasNames, HasNumbers, HasPlaces};
 
 use indexmap::IndexSet;
@@ -85,7 +85,7 @@ impl Numbers {
 /// The first place of a name in a list.
 pub(crate) fn place(places: &ByName<usize>, name: &Text) -> Option<usize>
     ensures { (ns : List (List ℕ)) → HasPlaces places.now ns
-        → result ≡ place_of (bytes_eq name.now) ns }
+        → result ≡ index_where (bytes_eq name.now) ns }
 {
     match places.get(name) {
         None => None,

@@ -17,7 +17,7 @@ use Rattle.jz_tree.specs.declared.stmt.StmtKind.TheViews.{out-StmtKind, out-roll
 use Rattle.jz_tree.specs.declared.stmt.StmtKind.TheFolds.{fold-StmtKind, fold-roll-Stmt, fold-roll-StmtKind, para-StmtKind, para-roll-Stmt, para-roll-StmtKind, ind-Stmt, map-Stmt, map-StmtKind}
 use Rattle.jz_runs.specs.Trees.{done, choose, loop, each}
 use Rattle.jz_scopes.specs.Scopes.{Name}
-use Rattle.jz_scopes.specs.Parts.{Layer, layer_of, called_by, nested, nested_step, statements_in, statements_of}
+use Rattle.jz_scopes.specs.Parts.{Layer, layer_of, called_by, nested_statements, nested_step, statements_in, statements_of}
 use Rattle.jz_meaning.specs.Statements.{Block}
 use Rattle.jz_meaning.specs.Runs.{Callee, Callees, call_tree, assign_tree, kind_tree, statement_tree, block}
 
@@ -96,12 +96,12 @@ module _ (f g : Callees) where
   right_part : (xs ys : List Stmt) → Agree (xs ++ ys) → Agree ys
   right_part xs ys a = λ s c. a s (Contains-append_right xs ys s c)
 
-  rows : (ss : List ((s : Stmt) × StmtLaw s)) → Agree (nested (map pair (firsts ss))) → block f (firsts ss) ≡ block g (firsts ss)
+  rows : (ss : List ((s : Stmt) × StmtLaw s)) → Agree (nested_statements (map pair (firsts ss))) → block f (firsts ss) ≡ block g (firsts ss)
   unfolding pair
   rows [] a = refl
   rows (s ∷ ss) a =
-      let x = s.1 (left_part (statements_in s.0) (nested (map pair (firsts ss))) a) in
-      let y = rows ss (right_part (statements_in s.0) (nested (map pair (firsts ss))) a) in
+      let x = s.1 (left_part (statements_in s.0) (nested_statements (map pair (firsts ss))) a) in
+      let y = rows ss (right_part (statements_in s.0) (nested_statements (map pair (firsts ss))) a) in
       ap₂ before x y
 
   assign_law : (to : List Lval) (o : Option BinOp) (r : Rhs) (c : Option Expr) → AgreeAt (StmtKind-F.Assign to o r c) → assign_tree f to o r c ≡ assign_tree g to o r c
@@ -115,13 +115,13 @@ module _ (f g : Callees) where
   unfolding pairs
   layer_law (StmtKind-F.Assign to o r c) own inner = assign_law to o r c own
   layer_law (StmtKind-F.If c a b) own inner =
-      let xs = nested (map pair (firsts a)) in
-      let ys = nested (map pair (firsts b)) in
+      let xs = nested_statements (map pair (firsts a)) in
+      let ys = nested_statements (map pair (firsts b)) in
       ap₂ (if_piece c) (rows a (left_part xs ys inner)) (rows b (right_part xs ys inner))
   layer_law (StmtKind-F.While p c None) own inner = ap (until_piece c) (rows p inner)
   layer_law (StmtKind-F.While p c (Some b)) own inner =
-      let xs = nested (map pair (firsts p)) in
-      let ys = nested (map pair (firsts b)) in
+      let xs = nested_statements (map pair (firsts p)) in
+      let ys = nested_statements (map pair (firsts b)) in
       ap₂ (while_piece c) (rows p (left_part xs ys inner)) (rows b (right_part xs ys inner))
   layer_law (StmtKind-F.For i from down to b) own inner = ap (for_piece i from down to) (rows b inner)
   layer_law (StmtKind-F.Mark xs) own inner = refl

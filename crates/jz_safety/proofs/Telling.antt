@@ -23,9 +23,9 @@ use Rattle.jz_first_tree.specs.declared.Stmt.{Stmt}
 use Rattle.jz_first_tree.specs.declared.StmtKind.{StmtKind}
 use Rattle.jz_leak.specs.RunLeaks.{Leak}
 use Rattle.jz_runs.specs.Rules.{stuck, went, End, Stuck}
-use Rattle.jz_first_meaning.specs.SourceStates.{Value, word, integer, key_of, Store, empty_store, put, State, Why}
-use Rattle.jz_first_meaning.specs.SourceValues.{Evaluation, numbers_first, and_then, defined, variable_value}
-use Rattle.jz_first_meaning.specs.SourceRuns.{of_type, as_declared, held, written, right_value, combined, assigned_value, assigned, value_of_type, argument, with_arguments, entry_state, word_of, result_words, outcome_of_words, FunOutcome, FitsDecl, AreArguments, IsRun}
+use Rattle.jz_first_meaning.specs.SourceStates.{Value, word, integer, key_of, Store, empty_store, with_value_at, State, Why}
+use Rattle.jz_first_meaning.specs.SourceValues.{Evaluation, numbers_first, and_then, defined_value, variable_value}
+use Rattle.jz_first_meaning.specs.SourceRuns.{of_type, as_declared, held_value, written_state, right_value, combined_value, assigned_value, assigned_state, value_of_type, argument, with_arguments, entry_state, word_of, result_words, outcome_of_words, FunOutcome, FitsDecl, AreArguments, IsRun}
 use Rattle.jz_first_meaning.specs.StraightRuns.{run_statement, run_statements, words_returned, plain_leak}
 use Rattle.jz_first_meaning.proofs.StraightLaws.{fun_straight}
 use Rattle.jz_facts.specs.declared.fact.Fact.TheVariants.{Set}
@@ -92,7 +92,7 @@ fits_if true false z v w e h k = cc
 fits_if false true z v w e h k = cc
 fits_if false false z v w e h k = k
 
-pub tells_put : (set : Facts) (store : Store) (x : Var) (v : Option Value) → Fits true v → Tells set store → Tells (with_fact set (Set x.name)) (put store (key_of x) v)
+pub tells_put : (set : Facts) (store : Store) (x : Var) (v : Option Value) → Fits true v → Tells set store → Tells (with_fact set (Set x.name)) (with_value_at store (key_of x) v)
 tells_put set store x v h t = record {
   each = λ name. fits_if (bytes_eq x.name name) (bytes_eq name x.name) (set (Set name)) v (store (record { name = name })) (bytes_eq-sym x.name name) h (t.each name);
 }
@@ -110,7 +110,7 @@ tells_arguments : (ps : List Param) (ws : List ℕ) (set : Facts) (store : Store
 tells_arguments [] ws set store h t = t
 tells_arguments (p ∷ ps) [] set store h t = absurd h
 tells_arguments (p ∷ ps) (w ∷ ws) set store h t =
-    tells_arguments ps ws (with_fact set (Set p.var.name)) (put store (key_of p.var) (argument p.var.decl w)) h.1
+    tells_arguments ps ws (with_fact set (Set p.var.name)) (with_value_at store (key_of p.var) (argument p.var.decl w)) h.1
     (tells_put set store p.var (argument p.var.decl w) (argument_fits p.var.decl w h.0) t)
 
 tells_none : Tells no_facts empty_store
@@ -128,7 +128,7 @@ alarms_more set c cs = by_test (set c.fact) refl
 -- ---- reads
 
 module _ (set : Facts) (store : Store) (t : Tells set store) where
-  read_by : (x : Var) (b : Bool) (v : Option Value) → Fits b v → Shows (map alarm_of (filter (λ c. not b) (read_of x ∷ []))) IsWord (defined x.span v)
+  read_by : (x : Var) (b : Bool) (v : Option Value) → Fits b v → Shows (map alarm_of (filter (λ c. not b) (read_of x ∷ []))) IsWord (defined_value x.span v)
   read_by x true None h = absurd h
   read_by x true (Some v) h = h
   read_by x false None h = refl
@@ -161,7 +161,7 @@ module _ (set : Facts) (s : State) (t : Tells set s.store) where
   shows_right (rhs.Value (expr.Num i at)) = tt
   shows_right (rhs.Value (expr.Var x)) = weaker (alarms_at set (read_of x ∷ [])) IsWord (variable_value x s.store) (shows_read set s.store t x)
 
-  shows_combined : (o : BinOp) (at : Span) (a b : Value) → IsWord a → Shows [] AnyValue (combined o at a b)
+  shows_combined : (o : BinOp) (at : Span) (a b : Value) → IsWord a → Shows [] AnyValue (combined_value o at a b)
   shows_combined o at (word size a) (word other b) h = tt
   shows_combined o at (word size a) (integer i) h = tt
   shows_combined o at (integer i) b h = absurd h
@@ -180,19 +180,19 @@ shows_declared : (d : Option Decl) (at : Span) (i : ℤ) → IsSome d → Shows 
 shows_declared None at i h = cc
 shows_declared (Some d) at i h = word_of_type d.ty i
 
-shows_held : (x : Var) (v : Value) → IsSome x.decl → Shows [] IsWord (held x v)
+shows_held : (x : Var) (v : Value) → IsSome x.decl → Shows [] IsWord (held_value x v)
 shows_held x (word size a) h = tt
 shows_held x (integer i) h = shows_declared x.decl x.span i h
 
-shows_written : (set : Facts) (s : State) (x : Var) (v : Value) → IsSome x.decl → Tells set s.store → Shows [] (λ (u : State). Tells (with_fact set (Set x.name)) u.store) (written (lval.Var x) v s)
+shows_written : (set : Facts) (s : State) (x : Var) (v : Value) → IsSome x.decl → Tells set s.store → Shows [] (λ (u : State). Tells (with_fact set (Set x.name)) u.store) (written_state (lval.Var x) v s)
 shows_written set s x v h t =
-    shows_on [] IsWord (λ (u : State). Tells (with_fact set (Set x.name)) u.store) (held x v) _ (shows_held x v h) (λ w k. tells_put set s.store x (Some w) k t)
+    shows_on [] IsWord (λ (u : State). Tells (with_fact set (Set x.name)) u.store) (held_value x v) _ (shows_held x v h) (λ w k. tells_put set s.store x (Some w) k t)
 
 shows_assigned : (set : Facts) (s : State) (x : Var) (o : Option BinOp) (r : Rhs) (at : Span) → IsSome x.decl → Tells set s.store
-    → Shows (alarms_at set (left_conditions o (lval.Var x ∷ []) ++ right_conditions r)) (λ (u : State). Tells (with_fact set (Set x.name)) u.store) (assigned (lval.Var x ∷ []) o r at s)
+    → Shows (alarms_at set (left_conditions o (lval.Var x ∷ []) ++ right_conditions r)) (λ (u : State). Tells (with_fact set (Set x.name)) u.store) (assigned_state (lval.Var x ∷ []) o r at s)
 shows_assigned set s x o r at h t =
     shows_on (alarms_at set (left_conditions o (lval.Var x ∷ []) ++ right_conditions r)) AnyValue (λ (u : State). Tells (with_fact set (Set x.name)) u.store)
-    (assigned_value (lval.Var x) o r at s) (λ v. written (lval.Var x) v s) (shows_value set s t (lval.Var x) o r at) (λ v k. shows_written set s x v h t)
+    (assigned_value (lval.Var x) o r at s) (λ v. written_state (lval.Var x) v s) (shows_value set s t (lval.Var x) o r at) (λ v k. shows_written set s x v h t)
 
 shows_statement : (set : Facts) (s : State) (x : Stmt) → AssignsToDeclared x → Tells set s.store → Shows (alarms_at set (conditions_of x)) (λ (u : State). Tells (facts_after set x) u.store) (run_statement x.kind x.span s)
 shows_statement set s x (v, o, r, e, d) t =

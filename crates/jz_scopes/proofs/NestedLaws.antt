@@ -5,13 +5,13 @@ use Rattle.jz_tree.specs.declared.stmt.StmtKind.{StmtKind}
 use Rattle.jz_tree.specs.declared.stmt.StmtKind.TheOpen.{StmtKind-F}
 use Rattle.jz_tree.specs.declared.stmt.StmtKind.TheViews.{out-StmtKind, roll-out-StmtKind, roll-Stmt}
 use Rattle.jz_tree.specs.declared.stmt.StmtKind.TheFolds.{para-StmtKind, para-roll-Stmt, para-roll-StmtKind, map-StmtKind}
-use Rattle.jz_scopes.specs.Parts.{Layer, nested, nested_step, statements_in, statements_of}
+use Rattle.jz_scopes.specs.Parts.{Layer, nested_statements, nested_step, statements_in, statements_of}
 use Rattle.jz_scopes.specs.InnerNested.{nested_layer, nested_of}
 
 in_kind : StmtKind → List Stmt
 in_kind = para-StmtKind (List Stmt) (List Stmt) nested_step (λ s. roll-Stmt (record { notes = s.notes; span = s.span; kind = s.kind.0 }) ∷ s.kind.1)
 
-nested_is : (ss : List Stmt) → nested (map (λ s. (s, statements_in s)) ss) ≡ statements_of ss
+nested_is : (ss : List Stmt) → nested_statements (map (λ s. (s, statements_in s)) ss) ≡ statements_of ss
 nested_is [] = refl
 nested_is (s ∷ ss) = ap (λ l. statements_in s ++ l) (nested_is ss)
 

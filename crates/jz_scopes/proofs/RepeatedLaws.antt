@@ -12,7 +12,7 @@ use Rattle.jz_scopes.specs.declared.tables.Places.{Places}
 use Rattle.jz_scopes.specs.Order.{is_before, unless, earlier, earliest, first_in}
 use Rattle.jz_scopes.specs.Scopes.{Name, name_of, places_of, variables_of}
 use Rattle.jz_scopes.specs.Parts.{layer_of, statements_of}
-use Rattle.jz_scopes.specs.Names.{stands_above, named_before, one_repeated, repeated, repeated_by, repeated_in_fun, repeated_in, top_names}
+use Rattle.jz_scopes.specs.Names.{stands_above, named_before, one_repeated, repeated_places, repeated_by, repeated_in_fun, repeated_in, top_names}
 use Rattle.jz_scopes.specs.Tables.{IsEarliestPlaces, places_named}
 use Rattle.jz_scopes.specs.InnerTables.{one_repeated_in}
 use Rattle.jz_scopes.proofs.Earliest.{first_over, both_earliest}
@@ -35,16 +35,16 @@ one_is : (t : Places) (ns : List Name) → IsEarliestPlaces t ns → (n : Name) 
 unfolding one_repeated_in one_repeated
 one_is t ns h n = ap (λ b. unless (not b) n.1) (ap (λ o. stands_above o n.1) (h.earliest n.0) ∙ sym (before_is ns n.0 n.1))
 
-pub repeated_is : (t : Places) (ns : List Name) → IsEarliestPlaces t ns → first_in (one_repeated_in t) ns ≡ earliest (repeated ns)
+pub repeated_is : (t : Places) (ns : List Name) → IsEarliestPlaces t ns → first_in (one_repeated_in t) ns ≡ earliest (repeated_places ns)
 repeated_is t ns h = ap (λ f. first_in f ns) (fun_ext (one_is t ns h)) ∙ first_over (one_repeated ns) ns
 
-pub in_fun_is : (f : Fun) (a b : Option Span) → a ≡ earliest (repeated (map name_of (variables_of f)))
+pub in_fun_is : (f : Fun) (a b : Option Span) → a ≡ earliest (repeated_places (map name_of (variables_of f)))
     → b ≡ first_in (λ s. repeated_by (layer_of s)) (statements_of f.body) → earlier a b ≡ earliest (repeated_in_fun f)
 in_fun_is f a b h k =
     let each : Stmt → List Span = λ s. repeated_by (layer_of s)
-    in both_earliest (repeated (map name_of (variables_of f))) (flat_map each (statements_of f.body)) a b h (k ∙ first_over each (statements_of f.body))
+    in both_earliest (repeated_places (map name_of (variables_of f))) (flat_map each (statements_of f.body)) a b h (k ∙ first_over each (statements_of f.body))
 
-pub in_program_is : (p : Program) (a b : Option Span) → a ≡ earliest (repeated (top_names p)) → b ≡ first_in repeated_in_fun p.funs
+pub in_program_is : (p : Program) (a b : Option Span) → a ≡ earliest (repeated_places (top_names p)) → b ≡ first_in repeated_in_fun p.funs
     → earlier a b ≡ earliest (repeated_in p)
 in_program_is p a b h k =
-    both_earliest (repeated (top_names p)) (flat_map repeated_in_fun p.funs) a b h (k ∙ first_over repeated_in_fun p.funs)
+    both_earliest (repeated_places (top_names p)) (flat_map repeated_in_fun p.funs) a b h (k ∙ first_over repeated_in_fun p.funs)

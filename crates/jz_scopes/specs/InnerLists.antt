@@ -9,7 +9,7 @@ use Rattle.jz_io.specs.declared.span.Span.{Span}
 use Rattle.jz_scopes.specs.declared.exprs.Parts.{Parts}
 use Rattle.jz_scopes.specs.Scopes.{Name, name_of}
 use Rattle.jz_scopes.specs.Parts.{Cells, names_in, cells_in}
-use Rattle.jz_scopes.specs.Lent.{these, this, paired, var_names}
+use Rattle.jz_scopes.specs.Lent.{these, this, paired_lists, var_names}
 
 -- ---- lists that grow at their end
 -- by what references refer to
@@ -22,7 +22,7 @@ GainsVars old new more = var_names new ≡ var_names old ++ more
 
 -- by these cells
 abbrev pub GainsCells : List (Bor Var × Bor Expr) → List (Bor Var × Bor Expr) → Cells → Type 0
-GainsCells old new more = paired new ≡ paired old ++ more
+GainsCells old new more = paired_lists new ≡ paired_lists old ++ more
 
 -- names that references refer to, each with its place
 abbrev pub these_names : List (Bor (List ℕ) × Span) → List Name

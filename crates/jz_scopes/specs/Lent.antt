@@ -14,8 +14,8 @@ abbrev pub this : {A : Type 0} → Option (Bor A) → List A
 this None = []
 this (Some x) = x.now ∷ []
 
-abbrev pub paired : {A B : Type 0} → List (Bor A × Bor B) → List (A × B)
-paired xs = map (λ x. (x.0.now, x.1.now)) xs
+abbrev pub paired_lists : {A B : Type 0} → List (Bor A × Bor B) → List (A × B)
+paired_lists xs = map (λ x. (x.0.now, x.1.now)) xs
 
 -- the names of the variables that references refer to, each with its place
 abbrev pub var_names : List (Bor Var) → List Name

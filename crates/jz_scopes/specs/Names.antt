@@ -154,17 +154,17 @@ unfoldable pub one_repeated : List Name → Name → List Span
 one_repeated ns n = unless (not (named_before ns n)) n.1
 
 -- the names before which an equal one stands
-abbrev pub repeated : List Name → List Span
-repeated ns = flat_map (one_repeated ns) ns
+abbrev pub repeated_places : List Name → List Span
+repeated_places ns = flat_map (one_repeated ns) ns
 
 -- Duplicate, of a statement: whole variables differ among its results
 abbrev pub repeated_by : Layer → List Span
-repeated_by k = repeated (map name_of (wholly_set_by k))
+repeated_by k = repeated_places (map name_of (wholly_set_by k))
 
 -- Duplicate, of a function: names differ among its variables
 abbrev pub repeated_in_fun : Fun → List Span
 repeated_in_fun f =
-    repeated (map name_of (variables_of f))
+    repeated_places (map name_of (variables_of f))
     ++ flat_map (λ s. repeated_by (layer_of s)) (statements_of f.body)
 
 -- the names of constants and functions
@@ -173,4 +173,4 @@ top_names p = map constant_name p.consts ++ map function_name p.funs
 
 -- Duplicate: names differ among functions and constants, and among the variables of one function
 abbrev pub repeated_in : Program → List Span
-repeated_in p = repeated (top_names p) ++ flat_map repeated_in_fun p.funs
+repeated_in p = repeated_places (top_names p) ++ flat_map repeated_in_fun p.funs

@@ -95,14 +95,14 @@ abbrev pub arrays_in : Expr → List Name
 arrays_in e = arrays_of (cells_in e)
 
 -- ---- statements
-abbrev pub nested : List (Stmt × List Stmt) → List Stmt
-nested ss = flat_map (λ s. s.1) ss
+abbrev pub nested_statements : List (Stmt × List Stmt) → List Stmt
+nested_statements ss = flat_map (λ s. s.1) ss
 
 abbrev pub nested_step : StmtKind-F (StmtKind × List Stmt) (Stmt × List Stmt) → List Stmt
-nested_step (StmtKind-F.If c a b) = nested a ++ nested b
-nested_step (StmtKind-F.While p c None) = nested p
-nested_step (StmtKind-F.While p c (Some b)) = nested p ++ nested b
-nested_step (StmtKind-F.For i from down to b) = nested b
+nested_step (StmtKind-F.If c a b) = nested_statements a ++ nested_statements b
+nested_step (StmtKind-F.While p c None) = nested_statements p
+nested_step (StmtKind-F.While p c (Some b)) = nested_statements p ++ nested_statements b
+nested_step (StmtKind-F.For i from down to b) = nested_statements b
 nested_step _ = []
 
 -- a statement and all that stand in it

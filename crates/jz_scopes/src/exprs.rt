@@ -2,7 +2,7 @@
 
 ghost use Rattle.std.specs.Prelude.{◌≡◌, ◌<◌, IfOk, OnOk};
 ghost use Rattle.jz_scopes.specs.Parts.{span_of, names_in, cells_in, lengths_in};
-ghost use Rattle.jz_scopes.specs.Lent.{this, paired, var_names};
+ghost use Rattle.jz_scopes.specs.Lent.{this, paired_lists, var_names};
 ghost use Rattle.jz_scopes.specs.InnerLists.{Gains, GainsCells, own_cell, count_in, count_of, operands, part_names, part_cells};
 
 use jz_io::Span;
@@ -144,7 +144,7 @@ fn add_cell<'a>(
 
 /// The cells of arrays in an expression, each as its array and its index.
 pub fn cells(alloc: Global, expr: &Expr) -> Result<Vec<(&Var, &Expr)>, AllocError>
-    ensures { IfOk result (λ cs. paired cs.items ≡ cells_in expr.now) }
+    ensures { IfOk result (λ cs. paired_lists cs.items ≡ cells_in expr.now) }
 {
     let mut cells = Vec::new(alloc);
     let mut rest = Vec::new(alloc);

@@ -2,7 +2,7 @@
 
 ghost use Rattle.std.specs.Prelude.{◌≡◌, IfOk, OnOk, flat_map, option_to_list};
 ghost use Rattle.jz_scopes.specs.Parts.{layer_of, exprs_of, right_exprs, left_exprs, left_vars, left_cells, whole_left, names_in, read_by, set_by, wholly_set_by, called_by, cells_set};
-ghost use Rattle.jz_scopes.specs.Lent.{these, this, paired, call_of, var_names};
+ghost use Rattle.jz_scopes.specs.Lent.{these, this, paired_lists, call_of, var_names};
 ghost use Rattle.jz_scopes.specs.InnerLists.{Gains, GainsVars, GainsCells};
 
 use crate::exprs::{add, names};
@@ -250,7 +250,7 @@ pub fn called_by(stmt: &Stmt) -> Option<(&Text, Span)>
 
 /// The cells that a statement sets, each as its array and its index.
 pub fn cells_set(alloc: Global, stmt: &Stmt) -> Result<Vec<(&Var, &Expr)>, AllocError>
-    ensures { IfOk result (λ cs. paired cs.items ≡ cells_set (layer_of stmt.now)) }
+    ensures { IfOk result (λ cs. paired_lists cs.items ≡ cells_set (layer_of stmt.now)) }
 {
     let mut list = Vec::new(alloc);
     match &stmt.kind {

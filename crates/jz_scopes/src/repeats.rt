@@ -8,7 +8,7 @@ ghost use Rattle.jz_scopes.specs.Lent.{var_names};
 ghost use Rattle.jz_scopes.specs.InnerLists.{GainsNames, these_names};
 ghost use Rattle.jz_scopes.specs.Tables.{Adds, IsEarliestPlaces};
 ghost use Rattle.jz_scopes.specs.InnerTables.{one_repeated_in};
-ghost use Rattle.jz_scopes.specs.Names.{repeated, repeated_by, repeated_in_fun, top_names};
+ghost use Rattle.jz_scopes.specs.Names.{repeated_places, repeated_by, repeated_in_fun, top_names};
 
 use crate::bodies::statements;
 use crate::declarations::variables;
@@ -52,7 +52,7 @@ fn repeated_among(places: &Places, names: &[(&Text, Span)]) -> Option<Span>
 
 /// The first name before which an equal one stands.
 fn repeated_names(alloc: Global, names: &[(&Text, Span)]) -> Result<Option<Span>, AllocError>
-    ensures { FindsEarliest result (repeated (these_names names.now)) }
+    ensures { FindsEarliest result (repeated_places (these_names names.now)) }
 {
     let mut places = Places::new(alloc);
     add_places(&mut places, names)?;
@@ -103,7 +103,7 @@ pub fn repeated_of(alloc: Global, stmt: &Stmt) -> Result<Option<Span>, AllocErro
 }
 
 fn in_variables(alloc: Global, fun: &Fun) -> Result<Option<Span>, AllocError>
-    ensures { FindsEarliest result (repeated (map name_of (variables_of fun.now))) }
+    ensures { FindsEarliest result (repeated_places (map name_of (variables_of fun.now))) }
 {
     let vars = variables(alloc, fun)?;
     let list = names_of(alloc, vars.as_slice())?;
@@ -133,7 +133,7 @@ pub fn repeated_in_fun(alloc: Global, fun: &Fun) -> Result<Option<Span>, AllocEr
 
 /// The first name of a function or constant before which an equal one stands.
 pub fn repeated_at_top(alloc: Global, program: &Program) -> Result<Option<Span>, AllocError>
-    ensures { FindsEarliest result (repeated (top_names program.now)) }
+    ensures { FindsEarliest result (repeated_places (top_names program.now)) }
 {
     let mut list = Vec::new(alloc);
     add_consts(&mut list, &program.consts)?;

@@ -9,7 +9,7 @@ use Rattle.jz_tree.specs.declared.expr.Var.{Var}
 use Rattle.jz_tree.specs.declared.expr.Expr.TheOpen.{Expr-F, Access-F}
 use Rattle.jz_tree.specs.declared.expr.Expr.TheViews.{out-Access, roll-Expr, roll-Access, out-roll-Access}
 use Rattle.jz_tree.specs.declared.expr.Expr.TheFolds.{ind-Expr, map-Expr, map-Access}
-use Rattle.jz_select.specs.Trees.{Named, named, names_eq, Tree, index_of, tree_eq}
+use Rattle.jz_select.specs.Trees.{Named, named_variable, names_eq, Tree, index_of, tree_eq}
 use Rattle.jz_select.specs.Places.{Layer, Answers, is_number, one_cell, same_index, touches}
 use Rattle.jz_select.specs.InnerLayers.{touches_layer}
 use Rattle.jz_select.specs.Hardest.{guess}
@@ -88,7 +88,7 @@ module _ (A B : Answers) (Q : Type 0) (d : Named) (i : Option Tree) (h : (y : Tr
   layer_keeps (Expr-F.Num n at) e = inr refl
   layer_keeps (Expr-F.Expr::Bool b at) e = inr refl
   layer_keeps (Expr-F.Var v) e = inr e
-  layer_keeps (Expr-F.Cell v k) e = cell_bools Q (names_eq (named v.0) d) _ _ _ _ (h (index_of k.0)) k.1 e
+  layer_keeps (Expr-F.Cell v k) e = cell_bools Q (names_eq (named_variable v.0) d) _ _ _ _ (h (index_of k.0)) k.1 e
   layer_keeps (Expr-F.Load a) e = a.1 e
   layer_keeps (Expr-F.Neg a at) e = a.1 e
   layer_keeps (Expr-F.Not a at) e = a.1 e

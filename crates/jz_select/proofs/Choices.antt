@@ -34,7 +34,7 @@ use Rattle.jz_select.specs.Shapes.{Asked, whichever, itself, carries, five_lead,
 use Rattle.jz_select.specs.Shapes as shaped
 use Rattle.jz_select.specs.Hardest.{guess, index_beside, hardest}
 use Rattle.std.specs.Option.{option_or}
-use Rattle.jz_select.specs.Selected.{chosen, table, first_of}
+use Rattle.jz_select.specs.Selected.{pattern_chosen, table, first_of}
 use Rattle.jz_select.proofs.Meetings.{same_or_apart, no_same, but_same, but_apart, yes_apart}
 use Rattle.jz_select.proofs.Keeping.{Goes, an, first, second, and_kept, two_goes, quotient_goes, carry_goes, one_goes, two_kept, three_kept, one_kept, product_kept, named_kept}
 
@@ -213,14 +213,14 @@ module _ (B : Answers) (d : Lval) where
 
 -- ---- statements
 abbrev pub Keeps : Shape → Shape → Type 0
-Keeps s t = (q : Pattern) → chosen s ≡ Some q → chosen t ≡ Some q
+Keeps s t = (q : Pattern) → pattern_chosen s ≡ Some q → pattern_chosen t ≡ Some q
 
 or_none : (x : Option Pattern) → option_or x None ≡ x
 or_none None = refl
 or_none (Some q) = refl
 
 assign_keeps : (lead : Option Class) (d c : Class) (v w : Value) → Goes (shapes.Assign lead d c v) (shapes.Assign lead d c w) → Keeps (shapes.Assign lead d c v) (shapes.Assign lead d c w)
-unfolding chosen
+unfolding pattern_chosen
 assign_keeps lead d c v w g q e =
     or_none (first_of table (shapes.Assign lead d c w)) ∙ g q (sym (or_none (first_of table (shapes.Assign lead d c v))) ∙ e)
 
@@ -247,27 +247,27 @@ module _ (B : Answers) where
   value_kept (x ∷ d ∷ y ∷ ds) p e = λ q h. h
 
   one_shape_kept : (i : Instance) (to : Option Lval) (args : List Expr) → Keeps (one_shape hardest i to args) (one_shape (whichever B) i to args)
-  unfolding chosen
+  unfolding pattern_chosen
   one_shape_kept i None args q e = e
   one_shape_kept i (Some d) [] q e = e
   one_shape_kept i (Some d) (a ∷ []) q e = named_kept i.name _ _ (one_kept (dest_of d) (class_of a) _ _ (changed B d a) i.name i.size) q e
   one_shape_kept i (Some d) (a ∷ o ∷ es) q e = e
 
   two_shape_kept : (i : Instance) (to : Option Lval) (args : List Expr) → Keeps (two_shape hardest i to args) (two_shape (whichever B) i to args)
-  unfolding chosen
+  unfolding pattern_chosen
   two_shape_kept i (Some d) (a ∷ o ∷ []) q e =
       named_kept i.name _ _ (two_kept (dest_of d) (class_of a) (class_of o) _ _ _ _ (computed B d a o) (changed B d a) i.name i.size) q e
   two_shape_kept i _ _ q e = e
 
   three_shape_kept : (i : Instance) (to : Option Lval) (args : List Expr) → Keeps (three_shape hardest i to args) (three_shape (whichever B) i to args)
-  unfolding chosen
+  unfolding pattern_chosen
   three_shape_kept i (Some d) (a ∷ o ∷ c ∷ []) q e =
       named_kept i.name _ _ (three_kept (dest_of d) (class_of a) (class_of o) _ _ _ _ (computed B d a o) (changed B d a) i.name (class_of c)) q e
   three_shape_kept i _ _ q e = e
 
   product_by : (i : Instance) (h l : Lval) (a b : Expr)
       → Keeps (shapes.Product i.size (dest_of h) (dest_of l) (beside hardest l (Some a) a) (beside hardest l (Some a) b)) (shapes.Product i.size (dest_of h) (dest_of l) (operand_of B l a) (operand_of B l b))
-  unfolding chosen
+  unfolding pattern_chosen
   product_by i h l a b q e = named_kept name.Mul _ _ (product_kept (dest_of l) (class_of a) (class_of b) _ _ _ _ (computed B l a b) (changed B l a) i.size (dest_of h)) q e
 
   product_shape_kept : (i : Instance) (to : List Lval) (args : List Expr) → Keeps (product_shape hardest i to args) (product_shape (whichever B) i to args)
@@ -280,7 +280,7 @@ module _ (B : Answers) where
   division_by : (i : Instance) (q r : Lval) (hi lo b : Expr)
       → Keeps (shapes.Division i.size (dest_of q) (dest_of r) (class_of hi) (class_of lo) (class_of b) (stand_apart hardest q r hi b))
       (shapes.Division i.size (dest_of q) (dest_of r) (class_of hi) (class_of lo) (class_of b) (stand_apart (whichever B) q r hi b))
-  unfolding chosen
+  unfolding pattern_chosen
   division_by i q r hi lo b p e =
       named_kept name.Div _ _
       (and_kept (is_pinned (dest_of q)) _ _ (and_kept (is_pinned (dest_of r)) _ _ (and_kept (is_rmi (class_of hi)) _ _ (and_kept (is_rmi (class_of lo)) _ _ (and_kept (is_rm (class_of b)) _ _ (and_front _ _ _ (apart_kept q r hi b)))))))

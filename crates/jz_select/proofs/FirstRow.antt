@@ -17,7 +17,7 @@ use Rattle.jz_select.specs.Hardest.{hardest}
 use Rattle.jz_select.proofs.Choices.{Keeps, assign_kept, statement_kept}
 use Rattle.jz_select.proofs.SomeAnswers.{assign_some, statement_some}
 use Rattle.std.specs.Option.{option_or}
-use Rattle.jz_select.specs.Selected.{Row, table, rows, intrinsics, intrinsic_row, is_named, NoneMatches, Tells, TellsAll, IsCopied, IsSelected, first_of, named, chosen}
+use Rattle.jz_select.specs.Selected.{Row, table, rows, intrinsics, intrinsic_row, is_named, NoneMatches, Tells, TellsAll, IsCopied, IsSelected, first_of, pattern_named, pattern_chosen}
 
 all_nil : (s : Shape) → NoneMatches [] s
 all_nil s = All-nil (λ q. q.1 s ≡ false)
@@ -55,7 +55,7 @@ rows_by_name : (ns : List Intrinsic) (s : Shape) → first_of (map intrinsic_row
 rows_by_name [] s = refl
 rows_by_name (n ∷ ns) s = ap (λ x. if is_named n (intrinsic_of s) then Some (pattern.Intrinsic n) else x) (rows_by_name ns s)
 
-all_named : (o : Option Intrinsic) → by_name intrinsics o ≡ named o
+all_named : (o : Option Intrinsic) → by_name intrinsics o ≡ pattern_named o
 all_named None = refl
 all_named (Some name.Add) = refl
 all_named (Some name.Sub) = refl
@@ -82,25 +82,25 @@ all_named (Some name.Mul) = refl
 all_named (Some name.Div) = refl
 all_named (Some name.Setcc) = refl
 
-chosen_is : (s : Shape) → first_of rows s ≡ chosen s
-unfolding chosen
+chosen_is : (s : Shape) → first_of rows s ≡ pattern_chosen s
+unfolding pattern_chosen
 chosen_is s = first_append table (map intrinsic_row intrinsics) s
     ∙ ap (option_or (first_of table s)) (rows_by_name intrinsics s ∙ all_named (intrinsic_of s))
 
-chosen_tells : (s : Shape) (answer : Option Pattern) → answer ≡ chosen s → Tells rows s answer
+chosen_tells : (s : Shape) (answer : Option Pattern) → answer ≡ pattern_chosen s → Tells rows s answer
 chosen_tells s answer e = subst (λ x. Tells rows s x) (chosen_is s ∙ sym e) (first_tells rows s)
 
 -- what has a row with the hardest answers has it with all, and they are answers
 tells_all : (shape : Asked → Shape) → ((B : Answers) → Keeps (shape hardest) (shape (whichever B))) → (B : Answers) × (shape (whichever B) ≡ shape hardest)
-    → (answer : Option Pattern) → answer ≡ chosen (shape hardest) → TellsAll (λ B. shape (whichever B)) answer
-tells_all shape keeps (B, is) None e = (B, chosen_tells (shape (whichever B)) None (e ∙ ap chosen (sym is)))
+    → (answer : Option Pattern) → answer ≡ pattern_chosen (shape hardest) → TellsAll (λ B. shape (whichever B)) answer
+tells_all shape keeps (B, is) None e = (B, chosen_tells (shape (whichever B)) None (e ∙ ap pattern_chosen (sym is)))
 tells_all shape keeps some (Some p) e = λ B. chosen_tells (shape (whichever B)) (Some p) (sym (keeps B p (sym e)))
 
-pub is_selected : (k : StmtKind) (answer : Option Pattern) → answer ≡ chosen (shape_of hardest k) → IsSelected k answer
+pub is_selected : (k : StmtKind) (answer : Option Pattern) → answer ≡ pattern_chosen (shape_of hardest k) → IsSelected k answer
 unfolding IsSelected
 is_selected k answer e = tells_all (λ asked. shape_of asked k) (λ B. statement_kept B k) (statement_some k) answer e
 
-pub is_copied : (to : Lval) (x : Expr) (answer : Option Pattern) → answer ≡ chosen (assign_of hardest None to None x) → IsCopied to x answer
+pub is_copied : (to : Lval) (x : Expr) (answer : Option Pattern) → answer ≡ pattern_chosen (assign_of hardest None to None x) → IsCopied to x answer
 unfolding IsCopied
 is_copied to x answer e = tells_all (λ asked. assign_of asked None to None x) (λ B. assign_kept B None to None x) (assign_some None to None x) answer e
 

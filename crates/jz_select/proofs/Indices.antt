@@ -10,7 +10,7 @@ use Rattle.jz_tree.specs.declared.expr.Var.{Var}
 use Rattle.jz_io.specs.declared.span.Span.{Span}
 use Rattle.jz_integers.specs.declared.constant.Constant.{Constant}
 use Rattle.jz_integers.specs.Integers.{value_step, the_number, written_number}
-use Rattle.jz_select.specs.Trees.{Named, named_step, Tree, Number, Truth, Name, CellOf, Loaded, Minus, Opposite, CastTo, Both, tree_step, tree_of, tree_eq, numbered, index_of}
+use Rattle.jz_select.specs.Trees.{Named, named_step, Tree, Number, Truth, Name, CellOf, Loaded, Minus, Opposite, CastTo, Both, tree_step, tree_of, tree_eq, numbered_tree, index_of}
 use Rattle.jz_select.specs.InnerLayers.{indices_eq}
 use Rattle.jz_select.specs.Places.{Layer, is_number}
 
@@ -50,7 +50,7 @@ layer_apart (Expr-F.Bin o a b at) e = ap is_number (tree_is (Expr-F.Bin o a b at
 apart : (e : Expr) → Apart e
 apart e = subst Apart (roll-out-Expr e) (layer_apart (out-Expr e))
 
-number_by : (w : Option ℤ) (t : Tree) → (w ≡ None → is_number t ≡ false) → is_number (numbered w t) ≡ is_some w
+number_by : (w : Option ℤ) (t : Tree) → (w ≡ None → is_number t ≡ false) → is_number (numbered_tree w t) ≡ is_some w
 number_by None t h = h refl
 number_by (Some n) t h = refl
 
@@ -79,7 +79,7 @@ no_right (Opposite a) n h = refl
 no_right (CastTo z s a) n h = refl
 no_right (Both o a b) n h = refl
 
-index_by : (v w : Option ℤ) (s t : Tree) → (v ≡ None → is_number s ≡ false) → (w ≡ None → is_number t ≡ false) → tree_eq (numbered v s) (numbered w t) ≡ indices_eq v w (tree_eq s t)
+index_by : (v w : Option ℤ) (s t : Tree) → (v ≡ None → is_number s ≡ false) → (w ≡ None → is_number t ≡ false) → tree_eq (numbered_tree v s) (numbered_tree w t) ≡ indices_eq v w (tree_eq s t)
 index_by None None s t h k = refl
 index_by None (Some n) s t h k = no_left s n (h refl)
 index_by (Some m) None s t h k = no_right t m (k refl)

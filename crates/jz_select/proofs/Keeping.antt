@@ -16,8 +16,8 @@ use Rattle.jz_select.specs.declared.shape.Value.TheVariants as values
 use Rattle.jz_select.specs.declared.shape.Shape.{Shape}
 use Rattle.jz_select.specs.declared.shape.Shape.TheVariants as shapes
 use Rattle.std.specs.Option.{option_or}
-use Rattle.jz_select.specs.Rows.{is_rm, is_i, is_rmi, is_apart_from, computes, changes, sums, times, times_inline, is_product, is_quotient, shifts_inline, shifts_masked, masks, divides, swaps, is_wide, is_long, is_longest, size_of, is_r, is_skip, is_flag, is_pinned, may_lead, are_inline, product_size, one_fits, two_fits, three_fits, named_if}
-use Rattle.jz_select.specs.Selected.{table, first_of, named}
+use Rattle.jz_select.specs.Rows.{is_rm, is_i, is_rmi, is_apart_from, computes, changes, sums, times, times_inline, is_product, is_quotient, shifts_inline, shifts_masked, masks, divides, swaps, is_wide, is_long, is_longest, class_size, is_r, is_skip, is_flag, is_pinned, may_lead, are_inline, product_size, one_fits, two_fits, three_fits, named_if}
+use Rattle.jz_select.specs.Selected.{table, first_of, pattern_named}
 
 -- ---- tests
 pub and_kept : (p b c : Bool) → (b ≡ true → c ≡ true) → (p && b) ≡ true → (p && c) ≡ true
@@ -99,7 +99,7 @@ module _ (d a o : Class) (m n m' n' : Meeting)
       and_kept (may_lead lead) _ _ (and_kept (is_rmi o) _ _ (and_kept (not (are_inline (an a m) (an o n))) _ _ (computed swapped)))
 
   times_kept : times d (an a m) (an o n) ≡ true → times d (an a m') (an o n') ≡ true
-  times_kept = and_kept (is_r d) _ _ (and_kept (is_wide (size_of d)) _ _ (and_kept (is_rm o) _ _ (computed (not (is_i a)))))
+  times_kept = and_kept (is_r d) _ _ (and_kept (is_wide (class_size d)) _ _ (and_kept (is_rm o) _ _ (computed (not (is_i a)))))
 
   pub product_kept : (z : Option Size) (h : Class) → is_product z h d (an a m) (an o n) ≡ true → is_product z h d (an a m') (an o n') ≡ true
   product_kept z h =
@@ -110,16 +110,16 @@ module _ (d a o : Class) (m n m' n' : Meeting)
   inline_kept = and_kept (is_i o) _ _ changed
 
   masked_kept : (z : Option Size) → shifts_masked z d (an a m) (an o n) ≡ true → shifts_masked z d (an a m') (an o n') ≡ true
-  masked_kept z = and_kept (masks (is_longest (option_or z (option_or (size_of d) (size_of a)))) o) _ _ (computed false)
+  masked_kept z = and_kept (masks (is_longest (option_or z (option_or (class_size d) (class_size a)))) o) _ _ (computed false)
 
   -- a product is not one of an inline operand
   not_inline : times d (an a m') (an o n') ≡ true → times_inline d (an a m) (an o n) ≡ false
   not_inline e =
-      let rest = second (is_wide (size_of d)) _ (second (is_r d) _ e) in
+      let rest = second (is_wide (class_size d)) _ (second (is_r d) _ e) in
       let is_none : is_i o ≡ false = rm_not_i o (first (is_rm o) _ rest) in
-      ap (λ i. is_r d && (is_wide (size_of d) && (is_rm a && i))) is_none
-      ∙ (ap (λ x. is_r d && (is_wide (size_of d) && x)) (and_false (is_rm a))
-      ∙ (ap (λ x. is_r d && x) (and_false (is_wide (size_of d))) ∙ and_false (is_r d)))
+      ap (λ i. is_r d && (is_wide (class_size d) && (is_rm a && i))) is_none
+      ∙ (ap (λ x. is_r d && (is_wide (class_size d) && x)) (and_false (is_rm a))
+      ∙ (ap (λ x. is_r d && x) (and_false (is_wide (class_size d))) ∙ and_false (is_r d)))
 
   not_masked : shifts_inline d (an a m') (an o n') ≡ true → shifts_masked None d (an a m) (an o n) ≡ false
   not_masked e = ap (λ x. x && computes false d (an a m) (an o n)) (i_not_masked _ o (first (is_i o) _ e))
@@ -199,13 +199,13 @@ module _ (d a : Class) (m m' : Meeting) (changed : changes d (an a m) ≡ true �
   one_kept name.Inc z e = changed e
   one_kept name.Dec z e = changed e
   one_kept name.Not z e = changed e
-  one_kept name.Bswap z e = and_kept (is_r d) _ _ (and_kept (is_long (option_or z (size_of d))) _ _ changed) e
+  one_kept name.Bswap z e = and_kept (is_r d) _ _ (and_kept (is_long (option_or z (class_size d))) _ _ changed) e
   one_kept _ z e = e
 
 -- ---- quotients
 module _ (d a o : Class) (m n m' n' : Meeting) (apart : is_apart_from n ≡ true → is_apart_from n' ≡ true) where
   quotient_kept : is_quotient d (an a m) (an o n) ≡ true → is_quotient d (an a m') (an o n') ≡ true
-  quotient_kept = and_kept (is_r d) _ _ (and_kept (is_long (size_of d)) _ _ (and_kept (is_rmi a) _ _ (and_kept (is_rm o) _ _ apart)))
+  quotient_kept = and_kept (is_r d) _ _ (and_kept (is_long (class_size d)) _ _ (and_kept (is_rmi a) _ _ (and_kept (is_rm o) _ _ apart)))
 
   quotient_alone : (w : Class) (p : BinOp) → divides p ≡ true → Goes (shapes.Assign None d w (values.Two p (an a m) (an o n))) (shapes.Assign None d w (values.Two p (an a m') (an o n')))
   quotient_alone w op.Div h q e = past _ _ q _ _ (λ x. one_row _ _ _ q quotient_kept x) e
@@ -226,6 +226,6 @@ module _ (d a o : Class) (m n m' n' : Meeting) (apart : is_apart_from n ≡ true
   quotient_goes (Some x) w p h q e = quotient_behind x w p h q e
 
 -- ---- the intrinsic that a statement is
-pub named_kept : (i : Intrinsic) (b c : Bool) → (b ≡ true → c ≡ true) → (q : Pattern) → named (named_if i b) ≡ Some q → named (named_if i c) ≡ Some q
-named_kept i true c h q e = ap (λ x. named (named_if i x)) (h refl) ∙ e
+pub named_kept : (i : Intrinsic) (b c : Bool) → (b ≡ true → c ≡ true) → (q : Pattern) → pattern_named (named_if i b) ≡ Some q → pattern_named (named_if i c) ≡ Some q
+named_kept i true c h q e = ap (λ x. pattern_named (named_if i x)) (h refl) ∙ e
 named_kept i false c h q e = absurd (none_some q e)

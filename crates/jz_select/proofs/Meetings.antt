@@ -7,7 +7,7 @@ use Rattle.jz_tree.specs.declared.expr.Expr.TheViews.{out-Expr}
 use Rattle.jz_tree.specs.declared.stmt.Lval.{Lval}
 use Rattle.jz_tree.specs.declared.stmt.Lval.TheVariants as lval
 use Rattle.jz_select.specs.declared.class.Meeting.{Meeting}
-use Rattle.jz_select.specs.Trees.{Named, named, names_eq, Tree, index_of}
+use Rattle.jz_select.specs.Trees.{Named, named_variable, names_eq, Tree, index_of}
 use Rattle.jz_select.specs.Places.{Layer, Answers, one_cell, same_index, touches, elsewhere, one_or_apart, var_layer_meets, cell_layer_meets, meeting_of}
 use Rattle.jz_select.specs.Rows.{is_same_place, is_apart_from}
 use Rattle.jz_select.specs.Hardest.{guess, cell_index, index_beside}
@@ -64,13 +64,13 @@ module _ (A B : Answers) (Q : Type 0) where
   by_name d x t e h false p = elsewhere_kept d (Some x) e h p
 
   cell_apart : (d : Named) (x : Tree) (e : Expr) → Harder x → (y : Layer) → is_apart_from (cell_layer_meets A d x e y) ≡ true → Q ⊎ (is_apart_from (cell_layer_meets B d x e y) ≡ true)
-  cell_apart d x e h (Expr-F.Cell v at) p = by_name d x (index_of at) e h (names_eq (named v) d) p
+  cell_apart d x e h (Expr-F.Cell v at) p = by_name d x (index_of at) e h (names_eq (named_variable v) d) p
   cell_apart d x e h _ p = elsewhere_kept d (Some x) e h p
 
   pub apart_kept : (d : Lval) (o : Expr) → HarderFor d → is_apart_from (meeting_of A d o) ≡ true → Q ⊎ (is_apart_from (meeting_of B d o) ≡ true)
   apart_kept (lval.Skip at) o h p = inr p
-  apart_kept (lval.Var v) o h p = var_apart (named v) o (out-Expr o) p
-  apart_kept (lval.Cell v k) o h p = cell_apart (named v) (index_of k) o h (out-Expr o) p
+  apart_kept (lval.Var v) o h p = var_apart (named_variable v) o (out-Expr o) p
+  apart_kept (lval.Cell v k) o h p = cell_apart (named_variable v) (index_of k) o h (out-Expr o) p
   apart_kept (lval.Store a) o h p = inr p
 
 -- ---- one place with some answers, then one place or apart with others
@@ -89,13 +89,13 @@ module _ (A B : Answers) where
   name_one d x t e false p = absurd (elsewhere_not_same (touches A d (Some x) e) p)
 
   cell_one : (d : Named) (x : Tree) (e : Expr) (y : Layer) → is_same_place (cell_layer_meets A d x e y) ≡ true → OneOrApart (cell_layer_meets B d x e y)
-  cell_one d x e (Expr-F.Cell v at) p = name_one d x (index_of at) e (names_eq (named v) d) p
+  cell_one d x e (Expr-F.Cell v at) p = name_one d x (index_of at) e (names_eq (named_variable v) d) p
   cell_one d x e _ p = absurd (elsewhere_not_same (touches A d (Some x) e) p)
 
   pub same_or_apart : (d : Lval) (o : Expr) → is_same_place (meeting_of A d o) ≡ true → OneOrApart (meeting_of B d o)
   same_or_apart (lval.Skip at) o p = absurd cc
-  same_or_apart (lval.Var v) o p = inl (var_one (named v) o (out-Expr o) p)
-  same_or_apart (lval.Cell v k) o p = cell_one (named v) (index_of k) o (out-Expr o) p
+  same_or_apart (lval.Var v) o p = inl (var_one (named_variable v) o (out-Expr o) p)
+  same_or_apart (lval.Cell v k) o p = cell_one (named_variable v) (index_of k) o (out-Expr o) p
   same_or_apart (lval.Store a) o p = inl p
 
 -- ---- the hardest answers
@@ -108,13 +108,13 @@ module _ (B : Answers) where
   no_name s d x t e false p = absurd (elsewhere_not_same (touches (guess true s) d (Some x) e) p)
 
   no_cell : (s : Option Tree) (d : Named) (x : Tree) (e : Expr) (y : Layer) → is_same_place (cell_layer_meets (guess true s) d x e y) ≡ true → is_same_place (cell_layer_meets B d x e y) ≡ true
-  no_cell s d x e (Expr-F.Cell v at) p = no_name s d x (index_of at) e (names_eq (named v) d) p
+  no_cell s d x e (Expr-F.Cell v at) p = no_name s d x (index_of at) e (names_eq (named_variable v) d) p
   no_cell s d x e _ p = absurd (elsewhere_not_same (touches (guess true s) d (Some x) e) p)
 
   pub no_same : (s : Option Tree) (d : Lval) (o : Expr) → is_same_place (meeting_of (guess true s) d o) ≡ true → is_same_place (meeting_of B d o) ≡ true
   no_same s (lval.Skip at) o p = p
-  no_same s (lval.Var v) o p = var_one (guess true s) B (named v) o (out-Expr o) p
-  no_same s (lval.Cell v k) o p = no_cell s (named v) (index_of k) o (out-Expr o) p
+  no_same s (lval.Var v) o p = var_one (guess true s) B (named_variable v) o (out-Expr o) p
+  no_same s (lval.Cell v k) o p = no_cell s (named_variable v) (index_of k) o (out-Expr o) p
   no_same s (lval.Store a) o p = p
 
   -- the first operand is no cell but by its index
@@ -128,13 +128,13 @@ module _ (B : Answers) where
   but_name d x t e false p = absurd (elsewhere_not_same (touches (guess false None) d (Some x) e) p)
 
   but_cell : (d : Named) (x : Tree) (e : Expr) (y : Layer) → is_same_place (cell_layer_meets (guess false (cell_index d y)) d x e y) ≡ true → is_same_place (cell_layer_meets B d x e y) ≡ true
-  but_cell d x e (Expr-F.Cell v at) p = but_name d x (index_of at) e (names_eq (named v) d) p
+  but_cell d x e (Expr-F.Cell v at) p = but_name d x (index_of at) e (names_eq (named_variable v) d) p
   but_cell d x e _ p = absurd (elsewhere_not_same (touches (guess false None) d (Some x) e) p)
 
   pub but_same : (d : Lval) (a : Expr) → is_same_place (meeting_of (guess false (index_beside d a)) d a) ≡ true → is_same_place (meeting_of B d a) ≡ true
   but_same (lval.Skip at) a p = p
-  but_same (lval.Var v) a p = var_one (guess false None) B (named v) a (out-Expr a) p
-  but_same (lval.Cell v k) a p = but_cell (named v) (index_of k) a (out-Expr a) p
+  but_same (lval.Var v) a p = var_one (guess false None) B (named_variable v) a (out-Expr a) p
+  but_same (lval.Cell v k) a p = but_cell (named_variable v) (index_of k) a (out-Expr a) p
   but_same (lval.Store x) a p = p
 
   -- what is apart then is apart, or the first operand is the destination
@@ -146,13 +146,13 @@ module _ (B : Answers) where
 
   harder_cell : (d : Named) (x z : Tree) (e : Expr) (y : Layer) → one_cell (guess false (cell_index d y)) x z ≡ false
       → (is_same_place (cell_layer_meets B d x e y) ≡ true) ⊎ (one_cell B x z ≡ false)
-  harder_cell d x z e (Expr-F.Cell v at) p = harder_name d x (index_of at) z e (names_eq (named v) d) p
+  harder_cell d x z e (Expr-F.Cell v at) p = harder_name d x (index_of at) z e (names_eq (named_variable v) d) p
   harder_cell d x z e _ p = inr (yes_hardest B x z p)
 
   harder_for : (d : Lval) (a : Expr) → HarderFor (guess false (index_beside d a)) B (is_same_place (meeting_of B d a) ≡ true) d
   harder_for (lval.Skip at) a = tt
   harder_for (lval.Var v) a = tt
-  harder_for (lval.Cell v k) a = λ z p. harder_cell (named v) (index_of k) z a (out-Expr a) p
+  harder_for (lval.Cell v k) a = λ z p. harder_cell (named_variable v) (index_of k) z a (out-Expr a) p
   harder_for (lval.Store x) a = tt
 
   pub but_apart : (d : Lval) (a o : Expr) → is_apart_from (meeting_of (guess false (index_beside d a)) d o) ≡ true

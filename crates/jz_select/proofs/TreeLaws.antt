@@ -10,7 +10,7 @@ use Rattle.jz_words.specs.declared.size.Size.TheVariants.{S8, S16, S32, S64}
 use Rattle.jz_words.specs.Sizes.{bits_of}
 use Rattle.jz_tree.specs.declared.expr.BinOp.{BinOp}
 use Rattle.jz_tree.specs.declared.expr.BinOp.TheVariants as op
-use Rattle.jz_select.specs.Trees.{Named, cell_eq, names_eq, bool_eq, number_of, Tree, Number, Truth, Name, CellOf, Loaded, Minus, Opposite, CastTo, Both, tree_eq}
+use Rattle.jz_select.specs.Trees.{Named, cell_eq, names_eq, bool_eq, operator_number, Tree, Number, Truth, Name, CellOf, Loaded, Minus, Opposite, CastTo, Both, tree_eq}
 
 -- ---- both of two
 pub from_both : (a b : Bool) → (a && b) ≡ true → (a ≡ true) × (b ≡ true)
@@ -101,7 +101,7 @@ operation_at n =
     else if n == 25 then op.DivS
     else op.RemS
 
-operation_back : (o : BinOp) → operation_at (number_of o) ≡ o
+operation_back : (o : BinOp) → operation_at (operator_number o) ≡ o
 operation_back op.OrElse = refl
 operation_back op.AndThen = refl
 operation_back op.Or = refl
@@ -130,8 +130,8 @@ operation_back op.Rem = refl
 operation_back op.DivS = refl
 operation_back op.RemS = refl
 
-operation_one : (o p : BinOp) → nat_eq (number_of o) (number_of p) ≡ true → o ≡ p
-operation_one o p e = sym (operation_back o) ∙ (ap operation_at ((unsigned_Decides (number_of o) (number_of p)).0 e) ∙ operation_back p)
+operation_one : (o p : BinOp) → nat_eq (operator_number o) (operator_number p) ≡ true → o ≡ p
+operation_one o p e = sym (operation_back o) ∙ (ap operation_at ((unsigned_Decides (operator_number o) (operator_number p)).0 e) ∙ operation_back p)
 
 -- ---- trees
 cast_by : (z y : Size) (s t : Bool) (a b : Tree) → z ≡ y → s ≡ t → a ≡ b → CastTo z s a ≡ CastTo y t b
@@ -166,7 +166,7 @@ tree_one (CastTo z s a) (CastTo y t b) e =
     cast_by z y s t a b (size_one z y parts.0) (truth_one s t rest.0) (tree_one a b rest.1)
 tree_one (CastTo z s a) _ e = absurd cc
 tree_one (Both o a b) (Both p c d) e =
-    let parts = from_both (nat_eq (number_of o) (number_of p)) (tree_eq b d && tree_eq a c) e in
+    let parts = from_both (nat_eq (operator_number o) (operator_number p)) (tree_eq b d && tree_eq a c) e in
     let rest = from_both (tree_eq b d) (tree_eq a c) parts.1 in
     both_by o p a b c d (operation_one o p parts.0) (tree_one a c rest.1) (tree_one b d rest.0)
 tree_one (Both o a b) _ e = absurd cc
@@ -180,4 +180,4 @@ tree_self (Loaded a) = tree_self a
 tree_self (Minus a) = tree_self a
 tree_self (Opposite a) = tree_self a
 tree_self (CastTo z s a) = to_both _ _ ((unsigned_Decides (bits_of z) (bits_of z)).1 refl) (to_both _ _ (truth_self s) (tree_self a))
-tree_self (Both o a b) = to_both _ _ ((unsigned_Decides (number_of o) (number_of o)).1 refl) (to_both _ _ (tree_self b) (tree_self a))
+tree_self (Both o a b) = to_both _ _ ((unsigned_Decides (operator_number o) (operator_number o)).1 refl) (to_both _ _ (tree_self b) (tree_self a))

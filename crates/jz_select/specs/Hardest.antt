@@ -6,7 +6,7 @@ use Rattle.jz_tree.specs.declared.expr.Expr.TheOpen.{Expr-F}
 use Rattle.jz_tree.specs.declared.expr.Expr.TheViews.{out-Expr}
 use Rattle.jz_tree.specs.declared.stmt.Lval.{Lval}
 use Rattle.jz_tree.specs.declared.stmt.Lval.TheVariants as lval
-use Rattle.jz_select.specs.Trees.{Named, named, names_eq, Tree, index_of, tree_eq}
+use Rattle.jz_select.specs.Trees.{Named, named_variable, names_eq, Tree, index_of, tree_eq}
 use Rattle.jz_select.specs.Places.{Layer, Answers}
 use Rattle.jz_select.specs.Operands.{dest_of}
 use Rattle.jz_select.specs.Rows.{is_m}
@@ -14,11 +14,11 @@ use Rattle.jz_select.specs.Shapes.{Asked}
 
 -- the index of the first operand, where it is a cell of the destination's array
 abbrev pub cell_index : Named → Layer → Option Tree
-cell_index d (Expr-F.Cell v at) = if names_eq (named v) d then Some (index_of at) else None
+cell_index d (Expr-F.Cell v at) = if names_eq (named_variable v) d then Some (index_of at) else None
 cell_index d _ = None
 
 abbrev pub index_beside : Lval → Expr → Option Tree
-index_beside (lval.Cell v k) a = cell_index (named v) (out-Expr a)
+index_beside (lval.Cell v k) a = cell_index (named_variable v) (out-Expr a)
 index_beside d a = None
 
 -- each cell is the destination, but for the first operand; no cell is a destination in memory

@@ -2,7 +2,7 @@
 use Rattle.std.specs.Prelude.{Bool, false, Option, Some, None, if◌then◌else◌, ◌&&◌, ◌||◌, ℕ, ℤ}
 use Rattle.jz_tree.specs.declared.expr.Expr.TheOpen.{Expr-F}
 use Rattle.jz_select.specs.declared.comparing.Index.{Index}
-use Rattle.jz_select.specs.Trees.{Named, named, names_eq, Tree, index_of}
+use Rattle.jz_select.specs.Trees.{Named, named_variable, names_eq, Tree, index_of}
 use Rattle.jz_select.specs.Places.{Layer, Answers, same_index, touches}
 use Rattle.jz_tree.specs.declared.expr.Expr.TheViews.{out-Access}
 use Rattle.jz_select.specs.declared.pattern.Pattern.{Pattern}
@@ -21,9 +21,9 @@ index_if (Some i) = Some (index_of i.at.now)
 abbrev pub touches_layer : Answers → Named → Option Tree → Layer → Bool
 touches_layer answers d x (Expr-F.Num n at) = false
 touches_layer answers d x (Expr-F.Expr::Bool b at) = false
-touches_layer answers d x (Expr-F.Var v) = names_eq (named v) d
+touches_layer answers d x (Expr-F.Var v) = names_eq (named_variable v) d
 touches_layer answers d x (Expr-F.Cell v at) =
-    (names_eq (named v) d && same_index answers x (index_of at)) || touches answers d x at
+    (names_eq (named_variable v) d && same_index answers x (index_of at)) || touches answers d x at
 touches_layer answers d x (Expr-F.Load a) = touches answers d x (out-Access a).at
 touches_layer answers d x (Expr-F.Neg a at) = touches answers d x a
 touches_layer answers d x (Expr-F.Not a at) = touches answers d x a

@@ -14,7 +14,7 @@ use Rattle.jz_scopes.specs.declared.kinds.Kind.TheVariants as kind
 use Rattle.jz_scopes.specs.declared.kinds.Declared.{Declared}
 use Rattle.jz_scopes.specs.Kinds.{Known, inline_int, kind_step, declared_step, known_step}
 use Rattle.jz_select.specs.declared.class.Sum.{Sum}
-use Rattle.jz_select.specs.Sums.{joined, term, taken, sum_of}
+use Rattle.jz_select.specs.Sums.{joined_sum, term, taken_sum, sum_of}
 
 pub record Look : Type 0 where
   pub inline : Bool
@@ -88,10 +88,10 @@ abbrev pub bin_scaled : BinOp → Look → Look → Bool
 bin_scaled op.Mul a b = (a.reg && b.inline) || (a.inline && b.reg)
 bin_scaled _ a b = false
 
--- sums are added term by term; only an inline expression is taken away
+-- sums are added term by term; only an inline expression is taken_sum away
 abbrev pub bin_sum : BinOp → Look → Look → Sum
-bin_sum op.Add a b = joined b.sum a.sum
-bin_sum op.Sub a b = joined (taken b.inline) a.sum
+bin_sum op.Add a b = joined_sum b.sum a.sum
+bin_sum op.Sub a b = joined_sum (taken_sum b.inline) a.sum
 bin_sum o a b = term (bin_inline o a b) false (bin_scaled o a b)
 
 abbrev pub look_step : Expr-F Look Kind Look Declared Known → Look
@@ -117,4 +117,4 @@ look_of =
 
 -- the terms of a sum
 abbrev pub terms_of : Expr → Sum
-terms_of e = joined (sum_of 0 0 true) (look_of e).sum
+terms_of e = joined_sum (sum_of 0 0 true) (look_of e).sum

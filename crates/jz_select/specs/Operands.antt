@@ -76,9 +76,9 @@ register_layer (Expr-F.Cell v at) = cell_of v at
 register_layer _ = class.Other
 
 -- `v & k`, v a byte in a register
-abbrev pub masked : BinOp → Expr → Expr → Class
-masked op.And a b = class_if (is_byte (register_layer (out-Expr a))) (mask_of (written_number b))
-masked _ a b = class.Other
+abbrev pub masked_class : BinOp → Expr → Expr → Class
+masked_class op.And a b = class_if (is_byte (register_layer (out-Expr a))) (mask_of (written_number b))
+masked_class _ a b = class.Other
 
 abbrev pub class_layer : Layer → Class
 class_layer (Expr-F.Num n at) = class.Inline
@@ -89,7 +89,7 @@ class_layer (Expr-F.Load a) = mem_of (out-Access a).size (out-Access a).at
 class_layer (Expr-F.Neg a at) = inline_or (look_of a).inline class.Other
 class_layer (Expr-F.Not a at) = inline_or (look_of a).inline class.Other
 class_layer (Expr-F.Cast size signed a at) = class.Other
-class_layer (Expr-F.Bin o a b at) = inline_or (bin_inline o (look_of a) (look_of b)) (masked o a b)
+class_layer (Expr-F.Bin o a b at) = inline_or (bin_inline o (look_of a) (look_of b)) (masked_class o a b)
 
 abbrev pub class_of : Expr → Class
 class_of e = class_layer (out-Expr e)

@@ -12,7 +12,7 @@ use Rattle.jz_tree.specs.declared.stmt.Lval.{Lval}
 use Rattle.jz_tree.specs.declared.stmt.Lval.TheVariants as lval
 use Rattle.jz_select.specs.declared.class.Meeting.{Meeting}
 use Rattle.jz_select.specs.declared.class.Meeting.TheVariants as meeting
-use Rattle.jz_select.specs.Trees.{Named, named, names_eq, Tree, Number, tree_of, index_of, tree_eq}
+use Rattle.jz_select.specs.Trees.{Named, named_variable, names_eq, Tree, Number, tree_of, index_of, tree_eq}
 
 abbrev pub Layer : Type 0
 Layer = Expr-F Expr Ty Access Decl Var
@@ -43,9 +43,9 @@ UseLayer = Expr-F (Expr × Bool) (Ty × Unit {0}) (Access × Bool) (Decl × Unit
 abbrev pub use_step : Answers → Named → Option Tree → UseLayer → Bool
 use_step answers d x (Expr-F.Num n at) = false
 use_step answers d x (Expr-F.Expr::Bool b at) = false
-use_step answers d x (Expr-F.Var v) = names_eq (named v.0) d
+use_step answers d x (Expr-F.Var v) = names_eq (named_variable v.0) d
 use_step answers d x (Expr-F.Cell v at) =
-    (names_eq (named v.0) d && same_index answers x (index_of at.0)) || at.1
+    (names_eq (named_variable v.0) d && same_index answers x (index_of at.0)) || at.1
 use_step answers d x (Expr-F.Load a) = a.1
 use_step answers d x (Expr-F.Neg a at) = a.1
 use_step answers d x (Expr-F.Not a at) = a.1
@@ -65,12 +65,12 @@ abbrev pub one_or_apart : Bool → Meeting
 one_or_apart same = if same then meeting.Same else meeting.Apart
 
 abbrev pub var_layer_meets : Answers → Named → Expr → Layer → Meeting
-var_layer_meets answers d e (Expr-F.Var v) = one_or_apart (names_eq (named v) d)
+var_layer_meets answers d e (Expr-F.Var v) = one_or_apart (names_eq (named_variable v) d)
 var_layer_meets answers d e _ = elsewhere (touches answers d None e)
 
 abbrev pub cell_layer_meets : Answers → Named → Tree → Expr → Layer → Meeting
 cell_layer_meets answers d x e (Expr-F.Cell v at) =
-    if names_eq (named v) d then one_or_apart (one_cell answers x (index_of at))
+    if names_eq (named_variable v) d then one_or_apart (one_cell answers x (index_of at))
     else elsewhere (touches answers d (Some x) e)
 cell_layer_meets answers d x e _ = elsewhere (touches answers d (Some x) e)
 
@@ -81,7 +81,7 @@ store_layer_meets at _ = meeting.Apart
 -- equal variables, one cell of an array and accesses with equal address trees are one place
 abbrev pub meeting_of : Answers → Lval → Expr → Meeting
 meeting_of answers (lval.Skip at) e = meeting.Apart
-meeting_of answers (lval.Var v) e = var_layer_meets answers (named v) e (out-Expr e)
+meeting_of answers (lval.Var v) e = var_layer_meets answers (named_variable v) e (out-Expr e)
 meeting_of answers (lval.Cell v k) e =
-    cell_layer_meets answers (named v) (index_of k) e (out-Expr e)
+    cell_layer_meets answers (named_variable v) (index_of k) e (out-Expr e)
 meeting_of answers (lval.Store a) e = store_layer_meets (tree_of (out-Access a).at) (out-Expr e)

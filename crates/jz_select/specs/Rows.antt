@@ -71,10 +71,10 @@ abbrev pub is_apart : Operand → Bool
 is_apart o = is_apart_from o.meeting
 
 -- ---- sizes
-abbrev pub size_of : Class → Option Size
-size_of (class.Reg z) = Some z
-size_of (class.Mem z) = z
-size_of _ = None
+abbrev pub class_size : Class → Option Size
+class_size (class.Reg z) = Some z
+class_size (class.Mem z) = z
+class_size _ = None
 
 -- 16, 32 or 64 bits
 abbrev pub is_wide : Option Size → Bool
@@ -175,23 +175,23 @@ sums lead swapped d a o =
 -- a quotient or remainder in a register that the divisor does not have
 abbrev pub is_quotient : Class → Operand → Operand → Bool
 is_quotient d a b =
-    is_r d && (is_long (size_of d) && (is_rmi a.class && (is_rm b.class && is_apart b)))
+    is_r d && (is_long (class_size d) && (is_rmi a.class && (is_rm b.class && is_apart b)))
 
 -- a product in a register; the operands are not swapped where the first is I
 abbrev pub times : Class → Operand → Operand → Bool
 times d a o =
-    is_r d && (is_wide (size_of d) && (is_rm o.class && computes (not (is_i a.class)) d a o))
+    is_r d && (is_wide (class_size d) && (is_rm o.class && computes (not (is_i a.class)) d a o))
 
 -- a product of R or M and I
 abbrev pub times_inline : Class → Operand → Operand → Bool
-times_inline d a o = is_r d && (is_wide (size_of d) && (is_rm a.class && is_i o.class))
+times_inline d a o = is_r d && (is_wide (class_size d) && (is_rm a.class && is_i o.class))
 
 -- the size that a name says, else that of a result or operand
 abbrev pub product_size : Option Size → Class → Class → Operand → Operand → Option Size
 product_size z h l a b =
     option_or z
-    (option_or (size_of h)
-    (option_or (size_of l) (option_or (size_of a.class) (size_of b.class))))
+    (option_or (class_size h)
+    (option_or (class_size l) (option_or (class_size a.class) (class_size b.class))))
 
 -- both halves of a product
 abbrev pub is_product : Option Size → Class → Class → Operand → Operand → Bool
@@ -213,7 +213,7 @@ masks longest _ = false
 
 abbrev pub shifts_masked : Option Size → Class → Operand → Operand → Bool
 shifts_masked z d a o =
-    masks (is_longest (option_or z (option_or (size_of d) (size_of a.class)))) o.class
+    masks (is_longest (option_or z (option_or (class_size d) (class_size a.class)))) o.class
     && computes false d a o
 
 -- ---- the rows
@@ -271,24 +271,24 @@ p10 _ = false
 -- P11 `r = (tu)o`, o R or M, smaller
 abbrev pub p11 : Shape → Bool
 p11 (shapes.Assign None d w (values.Cast z signed o)) =
-    not signed && (is_r d && (is_rm o && is_below (size_of o) z))
+    not signed && (is_r d && (is_rm o && is_below (class_size o) z))
 p11 _ = false
 
 -- P12 `r = (ts)o`, the same
 abbrev pub p12 : Shape → Bool
 p12 (shapes.Assign None d w (values.Cast z signed o)) =
-    signed && (is_r d && (is_rm o && is_below (size_of o) z))
+    signed && (is_r d && (is_rm o && is_below (class_size o) z))
 p12 _ = false
 
 -- P13 `r = (tu)a`, a R of the same size or a larger one
 abbrev pub p13 : Shape → Bool
 p13 (shapes.Assign None d w (values.Cast z signed a)) =
-    not signed && (is_r d && (is_r a && not (is_below (size_of a) z)))
+    not signed && (is_r d && (is_r a && not (is_below (class_size a) z)))
 p13 _ = false
 
 -- P14 `r = o if c`, o R or M; 16, 32 and 64 bits
 abbrev pub p14 : Shape → Bool
-p14 (shapes.Conditional d o c) = is_r d && (is_wide (size_of d) && (is_rm o && c))
+p14 (shapes.Conditional d o c) = is_r d && (is_wide (class_size d) && (is_rm o && c))
 p14 _ = false
 
 -- the condition of an `if` or `while`
@@ -302,7 +302,7 @@ one_fits name.Neg z d a = changes d a
 one_fits name.Inc z d a = changes d a
 one_fits name.Dec z d a = changes d a
 one_fits name.Not z d a = changes d a
-one_fits name.Bswap z d a = is_r d && (is_long (option_or z (size_of d)) && changes d a)
+one_fits name.Bswap z d a = is_r d && (is_long (option_or z (class_size d)) && changes d a)
 one_fits _ z d a = false
 
 abbrev pub two_fits : Intrinsic → Option Size → Class → Operand → Operand → Bool
@@ -328,9 +328,9 @@ three_fits _ d a o c = false
 abbrev pub division_size : Option Size → Class → Class → Class → Class → Class → Option Size
 division_size z q r hi lo b =
     option_or z
-    (option_or (size_of q)
-    (option_or (size_of r)
-    (option_or (size_of hi) (option_or (size_of lo) (size_of b)))))
+    (option_or (class_size q)
+    (option_or (class_size r)
+    (option_or (class_size hi) (option_or (class_size lo) (class_size b)))))
 
 -- the quotient is written before the high word and the divisor are read, the remainder before the
 -- divisor is
@@ -341,7 +341,7 @@ divides_long z q r hi lo b apart =
 
 -- a byte, R or M
 abbrev pub sets : Option Size → Class → Bool
-sets z d = is_byte_size z && (is_rm d && is_byte_size (size_of d))
+sets z d = is_byte_size z && (is_rm d && is_byte_size (class_size d))
 
 -- the intrinsic that a statement is
 abbrev pub named_if : Intrinsic → Bool → Option Intrinsic
@@ -352,7 +352,7 @@ intrinsic_of (shapes.One n z d a) = named_if n (one_fits n z d a)
 intrinsic_of (shapes.Two n z d a o) = named_if n (two_fits n z d a o)
 intrinsic_of (shapes.Three n d a o c) = named_if n (three_fits n d a o c)
 intrinsic_of (shapes.Address z d sum) =
-    named_if name.Lea (is_r d && (is_longest (option_or z (size_of d)) && sum))
+    named_if name.Lea (is_r d && (is_longest (option_or z (class_size d)) && sum))
 intrinsic_of (shapes.Compare n a o) = named_if n (is_rm a && (is_r o || is_i o))
 intrinsic_of (shapes.Product z h l a b) = named_if name.Mul (is_product z h l a b)
 intrinsic_of (shapes.Division z q r hi lo b apart) =

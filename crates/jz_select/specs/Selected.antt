@@ -29,35 +29,35 @@ operations =
 abbrev pub table : List Row
 table = (pattern.P 1, p1) ∷ operations
 
-abbrev pub number_of : Intrinsic → ℕ
-number_of name.Add = 0
-number_of name.Sub = 1
-number_of name.And = 2
-number_of name.Or = 3
-number_of name.Xor = 4
-number_of name.Adc = 5
-number_of name.Sbb = 6
-number_of name.Neg = 7
-number_of name.Inc = 8
-number_of name.Dec = 9
-number_of name.Not = 10
-number_of name.Bswap = 11
-number_of name.Lea = 12
-number_of name.Cmp = 13
-number_of name.Test = 14
-number_of name.Shl = 15
-number_of name.Shr = 16
-number_of name.Sar = 17
-number_of name.Rol = 18
-number_of name.Ror = 19
-number_of name.Imul = 20
-number_of name.Mul = 21
-number_of name.Div = 22
-number_of name.Setcc = 23
+abbrev pub intrinsic_number : Intrinsic → ℕ
+intrinsic_number name.Add = 0
+intrinsic_number name.Sub = 1
+intrinsic_number name.And = 2
+intrinsic_number name.Or = 3
+intrinsic_number name.Xor = 4
+intrinsic_number name.Adc = 5
+intrinsic_number name.Sbb = 6
+intrinsic_number name.Neg = 7
+intrinsic_number name.Inc = 8
+intrinsic_number name.Dec = 9
+intrinsic_number name.Not = 10
+intrinsic_number name.Bswap = 11
+intrinsic_number name.Lea = 12
+intrinsic_number name.Cmp = 13
+intrinsic_number name.Test = 14
+intrinsic_number name.Shl = 15
+intrinsic_number name.Shr = 16
+intrinsic_number name.Sar = 17
+intrinsic_number name.Rol = 18
+intrinsic_number name.Ror = 19
+intrinsic_number name.Imul = 20
+intrinsic_number name.Mul = 21
+intrinsic_number name.Div = 22
+intrinsic_number name.Setcc = 23
 
 abbrev pub is_named : Intrinsic → Option Intrinsic → Bool
 is_named n None = false
-is_named n (Some m) = nat_eq (number_of n) (number_of m)
+is_named n (Some m) = nat_eq (intrinsic_number n) (intrinsic_number m)
 
 abbrev pub intrinsics : List Intrinsic
 intrinsics =
@@ -108,16 +108,16 @@ abbrev pub first_of : List Row → Shape → Option Pattern
 first_of [] s = None
 first_of (r ∷ rs) s = if r.1 s then Some r.0 else first_of rs s
 
-abbrev pub named : Option Intrinsic → Option Pattern
-named None = None
-named (Some n) = Some (pattern.Intrinsic n)
+abbrev pub pattern_named : Option Intrinsic → Option Pattern
+pattern_named None = None
+pattern_named (Some n) = Some (pattern.Intrinsic n)
 
-unfoldable pub chosen : Shape → Option Pattern
-chosen s = option_or (first_of table s) (named (intrinsic_of s))
+unfoldable pub pattern_chosen : Shape → Option Pattern
+pattern_chosen s = option_or (first_of table s) (pattern_named (intrinsic_of s))
 
--- the answers with which it is hardest tell which row is selected
-unfoldable pub selected : StmtKind → Option Pattern
-selected k = chosen (shape_of hardest k)
+-- the answers with which it is hardest tell which row is pattern_selected
+unfoldable pub pattern_selected : StmtKind → Option Pattern
+pattern_selected k = pattern_chosen (shape_of hardest k)
 
-unfoldable pub copied : Lval → Expr → Option Pattern
-copied to e = chosen (assign_of hardest None to None e)
+unfoldable pub pattern_copied : Lval → Expr → Option Pattern
+pattern_copied to e = pattern_chosen (assign_of hardest None to None e)

@@ -3,14 +3,14 @@ use Rattle.std.specs.Prelude.{ℕ, ◌+◌, Bool, true, false, ◌&&◌, nat_le,
 use Rattle.jz_select.specs.declared.class.Sum.{Sum}
 
 -- three stands for more
-abbrev pub capped : ℕ → ℕ → ℕ
-capped a b = if nat_lt (a + b) 3 then a + b else 3
+abbrev pub capped_count : ℕ → ℕ → ℕ
+capped_count a b = if nat_lt (a + b) 3 then a + b else 3
 
 -- the terms of both
-abbrev pub joined : Sum → Sum → Sum
-joined a b = record {
-  plain = capped a.plain b.plain;
-  scaled = capped a.scaled b.scaled;
+abbrev pub joined_sum : Sum → Sum → Sum
+joined_sum a b = record {
+  plain = capped_count a.plain b.plain;
+  scaled = capped_count a.scaled b.scaled;
   good = a.good && b.good;
 }
 
@@ -25,9 +25,9 @@ term inline reg scaled =
     else if scaled then sum_of 0 1 true
     else sum_of 0 0 false
 
--- one term that is taken away
-abbrev pub taken : Bool → Sum
-taken inline = sum_of 0 0 inline
+-- one term that is taken_sum away
+abbrev pub taken_sum : Bool → Sum
+taken_sum inline = sum_of 0 0 inline
 
 -- at most one base and one index, which may be a register alone; where two registers stand alone,
 -- one is the index

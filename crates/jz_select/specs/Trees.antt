@@ -22,8 +22,8 @@ pub record Named : Type 0 where
 abbrev pub named_step : {A B C D E : Type 0} → Var-F A B C D E → Named
 named_step v = record { name = v.name; copy = v.copy; cell = v.cell }
 
-abbrev pub named : Var → Named
-named v = named_step (out-Var v)
+abbrev pub named_variable : Var → Named
+named_variable v = named_step (out-Var v)
 
 abbrev pub cell_eq : Option ℕ → Option ℕ → Bool
 cell_eq None None = true
@@ -58,47 +58,47 @@ abbrev pub tree_of : Expr → Tree
 tree_of = fold-Expr Tree (Unit {0}) Tree (Unit {0}) Named tree_step
     (λ t. tt) (λ a. a.at) (λ d. tt) named_step
 
-abbrev pub numbered : Option ℤ → Tree → Tree
-numbered None t = t
-numbered (Some n) t = Number n
+abbrev pub numbered_tree : Option ℤ → Tree → Tree
+numbered_tree None t = t
+numbered_tree (Some n) t = Number n
 
 -- an index: its value, where it is built of numbers alone and has one, else its tree
 abbrev pub index_of : Expr → Tree
-index_of e = numbered (written_number e) (tree_of e)
+index_of e = numbered_tree (written_number e) (tree_of e)
 
 -- ---- whether two trees are equal
 abbrev pub bool_eq : Bool → Bool → Bool
 bool_eq true b = b
 bool_eq false b = not b
 
-abbrev pub number_of : BinOp → ℕ
-number_of op.OrElse = 0
-number_of op.AndThen = 1
-number_of op.Or = 2
-number_of op.Xor = 3
-number_of op.And = 4
-number_of op.Eq = 5
-number_of op.Ne = 6
-number_of op.Lt = 7
-number_of op.Le = 8
-number_of op.Gt = 9
-number_of op.Ge = 10
-number_of op.LtS = 11
-number_of op.LeS = 12
-number_of op.GtS = 13
-number_of op.GeS = 14
-number_of op.Shl = 15
-number_of op.Shr = 16
-number_of op.Sar = 17
-number_of op.Rol = 18
-number_of op.Ror = 19
-number_of op.Add = 20
-number_of op.Sub = 21
-number_of op.Mul = 22
-number_of op.Div = 23
-number_of op.Rem = 24
-number_of op.DivS = 25
-number_of op.RemS = 26
+abbrev pub operator_number : BinOp → ℕ
+operator_number op.OrElse = 0
+operator_number op.AndThen = 1
+operator_number op.Or = 2
+operator_number op.Xor = 3
+operator_number op.And = 4
+operator_number op.Eq = 5
+operator_number op.Ne = 6
+operator_number op.Lt = 7
+operator_number op.Le = 8
+operator_number op.Gt = 9
+operator_number op.Ge = 10
+operator_number op.LtS = 11
+operator_number op.LeS = 12
+operator_number op.GtS = 13
+operator_number op.GeS = 14
+operator_number op.Shl = 15
+operator_number op.Shr = 16
+operator_number op.Sar = 17
+operator_number op.Rol = 18
+operator_number op.Ror = 19
+operator_number op.Add = 20
+operator_number op.Sub = 21
+operator_number op.Mul = 22
+operator_number op.Div = 23
+operator_number op.Rem = 24
+operator_number op.DivS = 25
+operator_number op.RemS = 26
 
 abbrev pub tree_eq : Tree → Tree → Bool
 tree_eq (Number m) (Number n) = int_eq m n
@@ -110,5 +110,5 @@ tree_eq (Minus a) (Minus b) = tree_eq a b
 tree_eq (Opposite a) (Opposite b) = tree_eq a b
 tree_eq (CastTo z s a) (CastTo y t b) = same_size z y && (bool_eq s t && tree_eq a b)
 tree_eq (Both o a b) (Both p c d) =
-    nat_eq (number_of o) (number_of p) && (tree_eq b d && tree_eq a c)
+    nat_eq (operator_number o) (operator_number p) && (tree_eq b d && tree_eq a c)
 tree_eq _ _ = false

@@ -3,7 +3,7 @@
 ghost use Rattle.std.specs.Prelude.{◌≡◌, is_some};
 ghost use Rattle.jz_integers.specs.Integers.{written_number as written};
 ghost use Rattle.jz_tree.specs.declared.expr.Expr.{Expr};
-ghost use Rattle.jz_select.specs.Trees.{named, names_eq, cell_eq, number_of, bool_eq, tree_of};
+ghost use Rattle.jz_select.specs.Trees.{named_variable, names_eq, cell_eq, operator_number, bool_eq, tree_of};
 ghost use Rattle.jz_select.specs.Trees.{tree_eq, index_of};
 ghost use Rattle.jz_select.specs.InnerLayers.{indices_eq};
 ghost use Rattle.jz_select.specs.Places.{is_number};
@@ -26,7 +26,7 @@ fn same_cell(a: Option<u32>, b: Option<u32>) -> bool
 
 /// Whether both are one variable, wherever they stand.
 pub fn same_var(a: &Var, b: &Var) -> bool
-    ensures { result ≡ names_eq (named a.now) (named b.now) }
+    ensures { result ≡ names_eq (named_variable a.now) (named_variable b.now) }
 {
     a.name == b.name && a.copy == b.copy && same_cell(a.cell, b.cell)
 }
@@ -38,7 +38,7 @@ fn same_truth(a: bool, b: bool) -> bool
 }
 
 fn number(op: BinOp) -> u8
-    ensures { result ≡ number_of op }
+    ensures { result ≡ operator_number op }
 {
     match op {
         BinOp::OrElse => 0,

@@ -3,7 +3,7 @@
 ghost use Rattle.std.specs.Prelude.{◌≡◌, Option};
 ghost use Rattle.std.specs.Option.{option_copied};
 ghost use Rattle.jz_tree.specs.declared.expr.Expr.TheViews.{out-Expr};
-ghost use Rattle.jz_select.specs.Trees.{Named, Tree, named, tree_of, index_of};
+ghost use Rattle.jz_select.specs.Trees.{Named, Tree, named_variable, tree_of, index_of};
 ghost use Rattle.jz_select.specs.Places.{Answers, one_cell as one_cell_is};
 ghost use Rattle.jz_select.specs.Places.{same_index as same_index_is, touches as touches_is};
 ghost use Rattle.jz_select.specs.Places.{elsewhere as elsewhere_is};
@@ -74,7 +74,7 @@ fn touches(
     e: &Expr,
 ) -> bool
     ensures { result ≡ touches_is (guess memory (index_if first.entry))
-        (named d.now) (index_if place.entry) e.now }
+        (named_variable d.now) (index_if place.entry) e.now }
 {
     let mut cur = e;
     loop {
@@ -126,7 +126,7 @@ fn one_or_apart(same: bool) -> Meeting
 
 fn meet_var(d: &Var, memory: bool, first: Option<Index<'_>>, e: &Expr) -> Meeting
     ensures { result ≡ var_layer_meets (guess memory (index_if first.entry))
-        (named d.now) e.now (out-Expr e.now) }
+        (named_variable d.now) e.now (out-Expr e.now) }
 {
     match e {
         Expr::Var(v) => one_or_apart(same_var(v, d)),
@@ -136,7 +136,7 @@ fn meet_var(d: &Var, memory: bool, first: Option<Index<'_>>, e: &Expr) -> Meetin
 
 fn meet_cell(d: &Var, place: Index<'_>, memory: bool, first: Option<Index<'_>>, e: &Expr) -> Meeting
     ensures { result ≡ cell_layer_meets (guess memory (index_if first.entry))
-        (named d.now) (index_of place.entry.at.now) e.now (out-Expr e.now) }
+        (named_variable d.now) (index_of place.entry.at.now) e.now (out-Expr e.now) }
 {
     match e {
         Expr::Cell(v, at) => {
@@ -161,7 +161,7 @@ fn meet_store(at: &Expr, e: &Expr) -> Meeting
 
 /// The index of the operand, where it is a cell of that array.
 fn cell_index<'a>(d: &Var, e: &'a Expr) -> Option<Index<'a>>
-    ensures { index_if result ≡ cell_index_of (named d.now) (out-Expr e.now) }
+    ensures { index_if result ≡ cell_index_of (named_variable d.now) (out-Expr e.now) }
 {
     match e {
         Expr::Cell(v, at) => if same_var(v, d) {

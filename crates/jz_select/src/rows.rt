@@ -2,7 +2,7 @@
 
 ghost use Rattle.std.specs.Prelude.{◌≡◌, Some, None};
 ghost use Rattle.jz_select.specs.Rows.{is_r, is_m, is_i, is_rm, is_rmi, is_flag, is_skip};
-ghost use Rattle.jz_select.specs.Rows.{is_flag_result, is_pinned, is_same, is_apart, size_of};
+ghost use Rattle.jz_select.specs.Rows.{is_flag_result, is_pinned, is_same, is_apart, class_size};
 ghost use Rattle.jz_select.specs.Rows.{is_wide, is_long, is_longest, is_byte_size};
 ghost use Rattle.jz_select.specs.Rows.{is_below, divides as divides_is, swaps};
 ghost use Rattle.jz_select.specs.Rows.{computes as computes_is, changes as changes_is, are_inline};
@@ -16,7 +16,7 @@ ghost use Rattle.jz_select.specs.Rows.{one_fits as one_fits_is, two_fits as two_
 ghost use Rattle.jz_select.specs.Rows.{three_fits as three_fits_is};
 ghost use Rattle.jz_select.specs.Rows.{divides_long as divides_long_is, sets as sets_is, sums};
 ghost use Rattle.jz_select.specs.Rows.{is_quotient, named_if, intrinsic_of};
-ghost use Rattle.jz_select.specs.Selected.{table, operations, first_of, chosen};
+ghost use Rattle.jz_select.specs.Selected.{table, operations, first_of, pattern_chosen};
 ghost use Rattle.jz_select.specs.InnerLayers.{row_if};
 
 use crate::class::{Class, Mask, Meeting, Operand};
@@ -92,7 +92,7 @@ pub fn apart(o: Operand) -> bool
 }
 
 fn size(c: Class) -> Option<Size>
-    ensures { result ≡ size_of c }
+    ensures { result ≡ class_size c }
 {
     match c {
         Class::Reg(z) => Some(z),
@@ -457,9 +457,9 @@ fn intrinsic(s: Shape) -> Option<Intrinsic>
 }
 
 /// The first row, or the intrinsic.
-#[tactic(auto, unfolding(crate::specs::Selected::chosen))]
+#[tactic(auto, unfolding(crate::specs::Selected::pattern_chosen))]
 pub fn choose(s: Shape) -> Option<Pattern>
-    ensures { result ≡ chosen s }
+    ensures { result ≡ pattern_chosen s }
 {
     match tabled(s) {
         Some(p) => Some(p),

@@ -2,7 +2,7 @@
 
 ghost use Rattle.std.specs.Prelude.{◌≡◌, true};
 ghost use Rattle.jz_select.specs.Trees.{Tree, tree_eq};
-ghost use Rattle.jz_select.specs.Selected.{HasOneRow, IsCopied, IsSelected, copied, selected};
+ghost use Rattle.jz_select.specs.Selected.{HasOneRow, IsCopied, IsSelected, pattern_copied, pattern_selected};
 
 use crate::pattern::Pattern;
 use crate::rows::choose;
@@ -14,19 +14,19 @@ use jz_tree::{Expr, Lval, Stmt};
 /// which the names of constants are numbers. What the value of an inline expression may be is not
 /// asked here, but for that of a mask. Cells that are not told apart may be one or two: a row is
 /// selected that matches either way.
-#[tactic(auto, unfolding(crate::specs::Selected::selected), using(crate::proofs::FirstRow::is_selected))]
+#[tactic(auto, unfolding(crate::specs::Selected::pattern_selected), using(crate::proofs::FirstRow::is_selected))]
 pub fn select(statement: &Stmt) -> Option<Pattern>
     ensures meaning { IsSelected statement.now.kind result }
-    ensures is { result ≡ selected statement.now.kind }
+    ensures is { result ≡ pattern_selected statement.now.kind }
 {
     choose(shape(&statement.kind))
 }
 
 /// The row of `to = e`, which the copy of a call's argument or result is.
-#[tactic(auto, unfolding(crate::specs::Selected::copied), using(crate::proofs::FirstRow::is_copied))]
+#[tactic(auto, unfolding(crate::specs::Selected::pattern_copied), using(crate::proofs::FirstRow::is_copied))]
 pub fn select_copy(to: &Lval, e: &Expr) -> Option<Pattern>
     ensures meaning { IsCopied to.now e.now result }
-    ensures is { result ≡ copied to.now e.now }
+    ensures is { result ≡ pattern_copied to.now e.now }
 {
     choose(assign(None, to, None, e))
 }

@@ -23,9 +23,9 @@ use Rattle.jz_tree.specs.declared.expr.Expr.TheOpen.{Expr-F, Ty-F, Access-F, Dec
 use Rattle.jz_tree.specs.declared.expr.Expr.TheViews.{out-Expr, roll-Expr, out-roll-Expr, roll-out-Expr, out-Ty, roll-Ty, out-roll-Ty, roll-out-Ty, roll-Access, roll-Decl, out-Var, roll-Var, out-roll-Var, roll-out-Var}
 use Rattle.jz_tree.specs.declared.expr.Expr.TheFolds.{map-Expr, map-Ty, map-Access, map-Decl, map-Var, ind-Expr, ind-Ty, ind-Access, ind-Decl, ind-Var}
 
-moved : {P Q : Type 0} → (P → Q) → (Q → P) → Dec P → Dec Q
-moved f g (yes p) = yes (f p)
-moved f g (no n) = no (λ q. n (g q))
+moved_decision : {P Q : Type 0} → (P → Q) → (Q → P) → Dec P → Dec Q
+moved_decision f g (yes p) = yes (f p)
+moved_decision f g (no n) = no (λ q. n (g q))
 
 also : {P Q : Type 0} → Dec P → Dec Q → Dec (P × Q)
 also (yes p) (yes q) = yes (p, q)
@@ -40,7 +40,7 @@ numbers : (a b : ℕ) → Dec (a ≡ b)
 numbers a b = from_test (a == b) (unsigned_Decides a b)
 
 spans : (a b : Span) → Dec (a ≡ b)
-spans a b = moved (λ h z. record { line = h.0 z; col = h.1 z }) (λ e. (ap (λ s. s.line) e, ap (λ s. s.col) e)) (also (numbers a.line b.line) (numbers a.col b.col))
+spans a b = moved_decision (λ h z. record { line = h.0 z; col = h.1 z }) (λ e. (ap (λ s. s.line) e, ap (λ s. s.col) e)) (also (numbers a.line b.line) (numbers a.col b.col))
 
 sizes : (a b : Size) → Dec (a ≡ b)
 sizes a b = from_test (sameb size.the_type a b) (same_true size.the_type tt a b, true_same size.the_type a b)
@@ -64,7 +64,7 @@ unfolding is_there there_or
 options each None None = yes refl
 options each None (Some b) = no (λ e. true≢false (sym (ap is_there e)))
 options each (Some a) None = no (λ e. true≢false (ap is_there e))
-options each (Some a) (Some b) = moved (ap (λ (x : _). Some x)) (ap (there_or a)) (each a b)
+options each (Some a) (Some b) = moved_decision (ap (λ (x : _). Some x)) (ap (there_or a)) (each a b)
 
 has_first : List ℕ → Bool
 has_first [] = false
@@ -83,7 +83,7 @@ unfolding has_first first_or rest
 texts [] [] = yes refl
 texts [] (y ∷ ys) = no (λ e. true≢false (sym (ap has_first e)))
 texts (x ∷ xs) [] = no (λ e. true≢false (ap has_first e))
-texts (x ∷ xs) (y ∷ ys) = moved (λ h z. h.0 z ∷ h.1 z) (λ e. (ap (first_or x) e, ap rest e)) (also (numbers x y) (texts xs ys))
+texts (x ∷ xs) (y ∷ ys) = moved_decision (λ h z. h.0 z ∷ h.1 z) (λ e. (ap (first_or x) e, ap rest e)) (also (numbers x y) (texts xs ys))
 
 -- ---- one layer, whose parts are decided
 abbrev Claim : {A : Type 0} → A → Type 0
@@ -147,23 +147,23 @@ bin_parts d _ = d
 
 layers : (v : KnownLayer) (w : Layer) → Dec (layer_of v ≡ w)
 layers (Expr-F.Num n s) (Expr-F.Num m t) =
-    moved (λ h z. Expr-F.Num (h.0 z) (h.1 z)) (λ e. (ap (λ x. (num_parts (n, s) x).0) e, ap (λ x. (num_parts (n, s) x).1) e)) (also (from_test _ (signed_Decides n m)) (spans s t))
+    moved_decision (λ h z. Expr-F.Num (h.0 z) (h.1 z)) (λ e. (ap (λ x. (num_parts (n, s) x).0) e, ap (λ x. (num_parts (n, s) x).1) e)) (also (from_test _ (signed_Decides n m)) (spans s t))
 layers (Expr-F.Expr::Bool b s) (Expr-F.Expr::Bool c t) =
-    moved (λ h z. Expr-F.Expr::Bool (h.0 z) (h.1 z)) (λ e. (ap (λ x. (bool_parts (b, s) x).0) e, ap (λ x. (bool_parts (b, s) x).1) e)) (also (from_test _ (booleans_Decides b c)) (spans s t))
-layers (Expr-F.Var v) (Expr-F.Var w) = moved (ap (λ x. Expr-F.Var x)) (ap (var_part v.0)) (v.1 w)
+    moved_decision (λ h z. Expr-F.Expr::Bool (h.0 z) (h.1 z)) (λ e. (ap (λ x. (bool_parts (b, s) x).0) e, ap (λ x. (bool_parts (b, s) x).1) e)) (also (from_test _ (booleans_Decides b c)) (spans s t))
+layers (Expr-F.Var v) (Expr-F.Var w) = moved_decision (ap (λ x. Expr-F.Var x)) (ap (var_part v.0)) (v.1 w)
 layers (Expr-F.Cell v a) (Expr-F.Cell w b) =
-    moved (λ h z. Expr-F.Cell (h.0 z) (h.1 z)) (λ e. (ap (λ x. (cell_parts (v.0, a.0) x).0) e, ap (λ x. (cell_parts (v.0, a.0) x).1) e)) (also (v.1 w) (a.1 b))
-layers (Expr-F.Load a) (Expr-F.Load b) = moved (ap (λ x. Expr-F.Load x)) (ap (load_part a.0)) (a.1 b)
+    moved_decision (λ h z. Expr-F.Cell (h.0 z) (h.1 z)) (λ e. (ap (λ x. (cell_parts (v.0, a.0) x).0) e, ap (λ x. (cell_parts (v.0, a.0) x).1) e)) (also (v.1 w) (a.1 b))
+layers (Expr-F.Load a) (Expr-F.Load b) = moved_decision (ap (λ x. Expr-F.Load x)) (ap (load_part a.0)) (a.1 b)
 layers (Expr-F.Neg a s) (Expr-F.Neg b t) =
-    moved (λ h z. Expr-F.Neg (h.0 z) (h.1 z)) (λ e. (ap (λ x. (sign_parts (a.0, s) x).0) e, ap (λ x. (sign_parts (a.0, s) x).1) e)) (also (a.1 b) (spans s t))
+    moved_decision (λ h z. Expr-F.Neg (h.0 z) (h.1 z)) (λ e. (ap (λ x. (sign_parts (a.0, s) x).0) e, ap (λ x. (sign_parts (a.0, s) x).1) e)) (also (a.1 b) (spans s t))
 layers (Expr-F.Not a s) (Expr-F.Not b t) =
-    moved (λ h z. Expr-F.Not (h.0 z) (h.1 z)) (λ e. (ap (λ x. (sign_parts (a.0, s) x).0) e, ap (λ x. (sign_parts (a.0, s) x).1) e)) (also (a.1 b) (spans s t))
+    moved_decision (λ h z. Expr-F.Not (h.0 z) (h.1 z)) (λ e. (ap (λ x. (sign_parts (a.0, s) x).0) e, ap (λ x. (sign_parts (a.0, s) x).1) e)) (also (a.1 b) (spans s t))
 layers (Expr-F.Cast n g a s) (Expr-F.Cast m h b t) =
-    moved (λ h z. Expr-F.Cast (h.0 z) (h.1.0 z) (h.1.1.0 z) (h.1.1.1 z))
+    moved_decision (λ h z. Expr-F.Cast (h.0 z) (h.1.0 z) (h.1.1.0 z) (h.1.1.1 z))
     (λ e. let of = cast_parts (n, g, a.0, s) in (ap (λ x. (of x).0) e, (ap (λ x. (of x).1) e, (ap (λ x. (of x).2) e, ap (λ x. (of x).3) e))))
     (also (sizes n m) (also (from_test _ (booleans_Decides g h)) (also (a.1 b) (spans s t))))
 layers (Expr-F.Bin o a b s) (Expr-F.Bin p c d t) =
-    moved (λ h z. Expr-F.Bin (h.0 z) (h.1.0 z) (h.1.1.0 z) (h.1.1.1 z))
+    moved_decision (λ h z. Expr-F.Bin (h.0 z) (h.1.0 z) (h.1.1.0 z) (h.1.1.1 z))
     (λ e. let of = bin_parts (o, a.0, b.0, s) in (ap (λ x. (of x).0) e, (ap (λ x. (of x).1) e, (ap (λ x. (of x).2) e, ap (λ x. (of x).3) e))))
     (also (operations o p) (also (a.1 c) (also (b.1 d) (spans s t))))
 layers v w = no (λ e. eq→eqb (ap kind e))
@@ -194,29 +194,29 @@ array_parts d _ = d
 ty_layers : (v : KnownTy) (w : TyLayer) → Dec (ty_of v ≡ w)
 ty_layers Ty-F.Int Ty-F.Int = yes refl
 ty_layers Ty-F.Ty::Bool Ty-F.Ty::Bool = yes refl
-ty_layers (Ty-F.Word n) (Ty-F.Word m) = moved (ap (λ x. Ty-F.Word x)) (ap (word_part n)) (sizes n m)
+ty_layers (Ty-F.Word n) (Ty-F.Word m) = moved_decision (ap (λ x. Ty-F.Word x)) (ap (word_part n)) (sizes n m)
 ty_layers (Ty-F.Array n a) (Ty-F.Array m b) =
-    moved (λ h z. Ty-F.Array (h.0 z) (h.1 z)) (λ e. (ap (λ x. (array_parts (n, a.0) x).0) e, ap (λ x. (array_parts (n, a.0) x).1) e)) (also (sizes n m) (a.1 b))
+    moved_decision (λ h z. Ty-F.Array (h.0 z) (h.1 z)) (λ e. (ap (λ x. (array_parts (n, a.0) x).0) e, ap (λ x. (array_parts (n, a.0) x).1) e)) (also (sizes n m) (a.1 b))
 ty_layers v w = no (λ e. eq→eqb (ap ty_kind e))
 
 -- ---- whole values
 expr_case : (v : KnownLayer) → Claim (roll-Expr (layer_of v))
-expr_case v b = moved (λ e. ap roll-Expr e ∙ roll-out-Expr b) (λ e. sym (out-roll-Expr (layer_of v)) ∙ ap out-Expr e) (layers v (out-Expr b))
+expr_case v b = moved_decision (λ e. ap roll-Expr e ∙ roll-out-Expr b) (λ e. sym (out-roll-Expr (layer_of v)) ∙ ap out-Expr e) (layers v (out-Expr b))
 
 ty_case : (v : KnownTy) → Claim (roll-Ty (ty_of v))
-ty_case v b = moved (λ e. ap roll-Ty e ∙ roll-out-Ty b) (λ e. sym (out-roll-Ty (ty_of v)) ∙ ap out-Ty e) (ty_layers v (out-Ty b))
+ty_case v b = moved_decision (λ e. ap roll-Ty e ∙ roll-out-Ty b) (λ e. sym (out-roll-Ty (ty_of v)) ∙ ap out-Ty e) (ty_layers v (out-Ty b))
 
 access_case : (v : Access-F (Part Expr) (Part Ty) (Part Access) (Part Decl) (Part Var))
     → Claim (roll-Access (map-Access _ _ _ _ _ _ _ _ _ _ (λ p. p.0) (λ p. p.0) (λ p. p.0) (λ p. p.0) (λ p. p.0) v))
 access_case v b =
-    moved (λ h z. record { size = h.0 z; at = h.1.0 z; unaligned = h.1.1.0 z; span = h.1.1.1 z })
+    moved_decision (λ h z. record { size = h.0 z; at = h.1.0 z; unaligned = h.1.1.0 z; span = h.1.1.1 z })
     (λ e. (ap (λ x. x.size) e, (ap (λ x. x.at) e, (ap (λ x. x.unaligned) e, ap (λ x. x.span) e))))
     (also (options sizes v.size b.size) (also (v.at.1 b.at) (also (from_test _ (booleans_Decides v.unaligned b.unaligned)) (spans v.span b.span))))
 
 decl_case : (v : Decl-F (Part Expr) (Part Ty) (Part Access) (Part Decl) (Part Var))
     → Claim (roll-Decl (map-Decl _ _ _ _ _ _ _ _ _ _ (λ p. p.0) (λ p. p.0) (λ p. p.0) (λ p. p.0) (λ p. p.0) v))
 decl_case v b =
-    moved (λ h z. record { storage = h.0 z; ty = h.1 z }) (λ e. (ap (λ x. x.storage) e, ap (λ x. x.ty) e)) (also (storages v.storage b.storage) (v.ty.1 b.ty))
+    moved_decision (λ h z. record { storage = h.0 z; ty = h.1 z }) (λ e. (ap (λ x. x.storage) e, ap (λ x. x.ty) e)) (also (storages v.storage b.storage) (v.ty.1 b.ty))
 
 no_decl : (e : Option Decl) → Dec (◌≡◌ {A = Option Decl} None e)
 unfolding is_there
@@ -226,7 +226,7 @@ no_decl (Some d) = no (λ e. true≢false (sym (ap is_there e)))
 a_decl : (d : Part Decl) (e : Option Decl) → Dec (Some d.0 ≡ e)
 unfolding is_there there_or
 a_decl d None = no (λ e. true≢false (ap is_there e))
-a_decl d (Some b) = moved (ap (λ (x : Decl). Some x)) (ap (there_or d.0)) (d.1 b)
+a_decl d (Some b) = moved_decision (ap (λ (x : Decl). Some x)) (ap (there_or d.0)) (d.1 b)
 
 abbrev VarLayer : Type 0
 VarLayer = Var-F Expr Ty Access Decl Var
@@ -239,7 +239,7 @@ var_of v = map-Var _ _ _ _ _ _ _ _ _ _ (λ p. p.0) (λ p. p.0) (λ p. p.0) (λ p
 
 var_layers : (a b : VarLayer) → Dec (a.decl ≡ b.decl) → Dec (a ≡ b)
 var_layers a b d =
-    moved (λ h z. record { name = h.0 z; copy = h.1.0 z; cell = h.1.1.0 z; decl = h.1.1.1.0 z; span = h.1.1.1.1 z })
+    moved_decision (λ h z. record { name = h.0 z; copy = h.1.0 z; cell = h.1.1.0 z; decl = h.1.1.1.0 z; span = h.1.1.1.1 z })
     (λ e. (ap (λ x. x.name) e, (ap (λ x. x.copy) e, (ap (λ x. x.cell) e, (ap (λ x. x.decl) e, ap (λ x. x.span) e)))))
     (also (texts a.name b.name) (also (numbers a.copy b.copy) (also (options numbers a.cell b.cell) (also d (spans a.span b.span)))))
 
@@ -250,7 +250,7 @@ var_parts n c l (Some d) s b = var_layers (record { name = n; copy = c; cell = l
 
 var_case : (v : KnownVar) → Claim (roll-Var (var_of v))
 var_case v b =
-    moved (λ e. ap roll-Var e ∙ roll-out-Var b) (λ e. sym (out-roll-Var (var_of v)) ∙ ap out-Var e)
+    moved_decision (λ e. ap roll-Var e ∙ roll-out-Var b) (λ e. sym (out-roll-Var (var_of v)) ∙ ap out-Var e)
     (var_parts v.name v.copy v.cell v.decl v.span (out-Var b))
 
 -- ---- the tests

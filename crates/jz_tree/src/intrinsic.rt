@@ -1,7 +1,7 @@
 //! The intrinsics, and how a text names them.
 
 ghost use Rattle.std.specs.Prelude.{◌≡◌};
-ghost use Rattle.jz_tree.specs.Spellings.{sized as sized_is, entry as entry_of, or_else, sums_named, ones_named, shifts_named, rest_named, spelled as spelled_as};
+ghost use Rattle.jz_tree.specs.Spellings.{sized_spelling as sized_is, entry as entry_of, or_else, sums_named, ones_named, shifts_named, rest_named, spelled as spelled_as};
 
 use jz_words::Size;
 
@@ -41,7 +41,7 @@ pub struct Instance {
     pub size: Option<Size>,
 }
 
-#[tactic(auto, unfolding(crate::specs::Spellings::sized))]
+#[tactic(auto, unfolding(crate::specs::Spellings::sized_spelling))]
 fn sized(name: &str, plain: &str, s8: &str, s16: &str, s32: &str, s64: &str) -> Option<Option<Size>>
     ensures { result ≡ sized_is name.now plain.now s8.now s16.now s32.now s64.now }
 {

@@ -8,12 +8,12 @@ use Rattle.jz_scopes.specs.Names.{unknown_in, repeated_in}
 use Rattle.jz_scopes.proofs.Earliest.{both_earliest}
 use Rattle.jz_scopes.proofs.Firsts.{earliest_is}
 use Rattle.jz_resolve.specs.Numbering.{length_of}
-use Rattle.jz_resolve.specs.Programs.{resolved}
+use Rattle.jz_resolve.specs.Programs.{resolved_program}
 use Rattle.jz_kinds.specs.Mismatches.{mismatched_as_read, mismatched_declared}
 use Rattle.jz_calls.specs.declared.recursion.Ranking.{Ranking}
 use Rattle.jz_calls.specs.declared.recursion.Ranking.TheVariants.{Ranked, Recursive}
 use Rattle.jz_calls.specs.Recursion.{IsRanked, IsRecursive, Tells, recursive_of}
-use Rattle.jz_rules.specs.Exports.{misshapen, annotated}
+use Rattle.jz_rules.specs.Exports.{misshapen_places, annotated_places}
 use Rattle.jz_rules.specs.Copies.{copied_by}
 use Rattle.jz_rules.specs.Indexes.{indexed_by}
 use Rattle.jz_rules.specs.Programs.{in_functions, in_statements}
@@ -39,23 +39,23 @@ first_recursive : (q : Program) (r : Ranking) → Tells q r → IsEarliest (IsRe
 first_recursive q (Ranked ranks) h = h.1
 first_recursive q (Recursive at) h = h
 
-all_asked : (p : Program) (t : OfText) (d : OfDeclared) (r : Ranking) → AreOfText p t → AreOfDeclared (resolved p) d → Tells (resolved p) r
+all_asked : (p : Program) (t : OfText) (d : OfDeclared) (r : Ranking) → AreOfText p t → AreOfDeclared (resolved_program p) d → Tells (resolved_program p) r
     → AreFirst (Breaks p) (firsts_of t d r)
 all_asked p t d r h k tells = record {
   unknown = found (unknown_in p) t.unknown h.unknown;
   repeated = found (repeated_in p) t.repeated h.repeated;
-  mismatched = found_both (mismatched_as_read (length_of p.consts) p) (mismatched_declared (resolved p)) t.mismatched d.mismatched h.mismatched k.mismatched;
-  misplaced = first_misplaced p (resolved p) d.kept d.set d.read k.kept k.set k.read;
-  recursive = first_recursive (resolved p) r tells;
-  unmatched = found (unmatched_in (resolved p)) d.unmatched k.unmatched;
-  copied = found (in_statements (copied_by (resolved p).funs) (resolved p)) d.copied k.copied;
-  annotated = found (in_functions annotated p) t.annotated h.annotated;
-  misshapen = found (in_functions misshapen p) t.misshapen h.misshapen;
-  indexed = found (in_statements indexed_by (resolved p)) d.indexed k.indexed;
+  mismatched = found_both (mismatched_as_read (length_of p.consts) p) (mismatched_declared (resolved_program p)) t.mismatched d.mismatched h.mismatched k.mismatched;
+  misplaced = first_misplaced p (resolved_program p) d.kept d.set d.read k.kept k.set k.read;
+  recursive = first_recursive (resolved_program p) r tells;
+  unmatched = found (unmatched_in (resolved_program p)) d.unmatched k.unmatched;
+  copied = found (in_statements (copied_by (resolved_program p).funs) (resolved_program p)) d.copied k.copied;
+  annotated_places = found (in_functions annotated_places p) t.annotated h.annotated;
+  misshapen_places = found (in_functions misshapen_places p) t.misshapen h.misshapen;
+  indexed = found (in_statements indexed_by (resolved_program p)) d.indexed k.indexed;
 }
 
 -- no rule of p fails, or this fault is told; q has the declarations
-pub judged : (p q : Program) (t : OfText) (d : OfDeclared) (r : Ranking) (told : Option TypeFault) → q ≡ resolved p → AreOfText p t → AreOfDeclared q d → Tells q r
+pub judged : (p q : Program) (t : OfText) (d : OfDeclared) (r : Ranking) (told : Option TypeFault) → q ≡ resolved_program p → AreOfText p t → AreOfDeclared q d → Tells q r
     → told ≡ first_told (firsts_of t d r) → MatchOption told (IsTyped p) (IsFirstTypeFault p)
 judged p q t d r told e h k tells f =
     subst (λ o. MatchOption o (IsTyped p) (IsFirstTypeFault p)) (sym f)
@@ -65,7 +65,7 @@ judged p q t d r told e h k tells f =
 recursive_at : (q : Program) (at : Span) → IsEarliest (IsRecursive q) (Some at) → IsRecursive q at
 recursive_at q at (here w first) = w
 
-pub not_recursive : (p q : Program) (r : Ranking) (at : Span) → q ≡ resolved p → IsTyped p → Tells q r → r ≡ Recursive at → ⊥
+pub not_recursive : (p q : Program) (r : Ranking) (at : Span) → q ≡ resolved_program p → IsTyped p → Tells q r → r ≡ Recursive at → ⊥
 not_recursive p q r at e typed told is =
     let h : Tells q (Recursive at) = subst (Tells q) is told
     in typed Recursion at (subst (λ z. IsRecursive z at) e (recursive_at q at h))

@@ -1,4 +1,4 @@
--- In a program that is resolved no name is unknown and none repeated, where none was.
+-- In a program that is resolved_program no name is unknown and none repeated_places, where none was.
 use Rattle.std.proofs.Common.{◌≡◌, ℕ, ℤ, Bool, true, false, List, [], ◌∷◌, ◌++◌, Option, Some, None, map, flat_map, refl, sym, ap, ap₂, ◌∙◌, subst, cond}
 use Rattle.std.proofs.Math.Path.{fun_ext}
 use Rattle.std.proofs.lemmas.List.{map-append}
@@ -24,10 +24,10 @@ use Rattle.jz_scopes.specs.declared.kinds.Declared.{Declared}
 use Rattle.jz_scopes.specs.Scopes.{Name, name_of, PlacesByName, variables_of, place_among, constant_place, variable_place, value_place, or_values, function_named}
 use Rattle.jz_scopes.specs.Kinds.{kind_step, kind_of, declared_of, known_of, is_array_kind, is_array}
 use Rattle.jz_scopes.specs.Parts.{layer_of, statements_of}
-use Rattle.jz_scopes.specs.Names.{unknown_where, outside_where, unknown_in_constant, unknown_in_fun, unknown_in, repeated, repeated_by, repeated_in_fun, top_names, repeated_in}
+use Rattle.jz_scopes.specs.Names.{unknown_where, outside_where, unknown_in_constant, unknown_in_fun, unknown_in, repeated_places, repeated_by, repeated_in_fun, top_names, repeated_in}
 use Rattle.jz_resolve.specs.Resolving.{resolved_stmt}
 use Rattle.jz_resolve.specs.Numbering.{Values, values_of, declaration_in, number_in}
-use Rattle.jz_resolve.specs.Programs.{counted_layer, counted_decl, counted_var, counted_param, counted_fun, resolved_whole, resolved_const, resolved}
+use Rattle.jz_resolve.specs.Programs.{counted_layer, counted_decl, counted_var, counted_param, counted_fun, resolved_whole, resolved_const, resolved_program}
 use Rattle.jz_resolve.proofs.Spans.{body_resolved}
 use Rattle.jz_types.proofs.Empty.{both, all_empty}
 use Rattle.jz_types.proofs.StatementsKept.{layer_resolved, repeated_kept, unknown_kept}
@@ -111,28 +111,28 @@ module _ (p : Program) where
   abbrev N : Fun → Name → Option (Option ℤ)
   N f = number_in places values (variables_of (counted_fun values f))
 
-  constants_kept : constant_place (resolved p).consts ≡ constant_place p.consts
+  constants_kept : constant_place (resolved_program p).consts ≡ constant_place p.consts
   constants_kept =
       fun_ext
       (λ m. ap (option_map (λ c. c.span)) (find_kept (λ (c : Const). c.name) (resolved_const places values) (λ c. refl) m p.consts)
       ∙ placed (resolved_const places values) (λ (c : Const). c.span) (λ c. refl) (find (λ c. bytes_eq m c.name) p.consts))
 
-  functions_kept : (m : List ℕ) → function_named m (resolved p).funs ≡ option_map H (function_named m p.funs)
+  functions_kept : (m : List ℕ) → function_named m (resolved_program p).funs ≡ option_map H (function_named m p.funs)
   functions_kept m = find_kept (λ (f : Fun). f.name) H (λ f. refl) m p.funs
 
-  -- in the resolved program nothing is unknown in these statements
+  -- in the resolved_program program nothing is unknown in these statements
   abbrev pub KnownIn : Fun → Stmt → Type 0
-  KnownIn f s = unknown_where (or_values (constant_place (resolved p).consts) (variable_place f)) (variable_place f) (λ m. function_named m (resolved p).funs) (layer_of s) ≡ []
+  KnownIn f s = unknown_where (or_values (constant_place (resolved_program p).consts) (variable_place f)) (variable_place f) (λ m. function_named m (resolved_program p).funs) (layer_of s) ≡ []
 
   abbrev pub DifferentIn : Stmt → Type 0
   DifferentIn s = repeated_by (layer_of s) ≡ []
 
   statement_known : (f : Fun) (s : Stmt) → unknown_where (value_place p.consts f) (variable_place f) (λ m. function_named m p.funs) (layer_of s) ≡ [] → KnownIn (H f) (resolved_stmt (D f) (N f) s)
   statement_known f s e =
-      let k = unknown_kept (D f) (N f) H (counted_param values) (λ g. refl) (param_array values) (λ m. function_named m p.funs) (λ m. function_named m (resolved p).funs) functions_kept (value_place p.consts f) (variable_place f) (layer_of s) e in
-      let at_layer = subst (λ l. unknown_where (value_place p.consts f) (variable_place f) (λ m. function_named m (resolved p).funs) l ≡ []) (sym (layer_resolved (D f) (N f) s)) k in
-      let at_variables = subst (λ v. unknown_where (or_values (constant_place p.consts) v) v (λ m. function_named m (resolved p).funs) (layer_of (resolved_stmt (D f) (N f) s)) ≡ []) (sym (variables_kept values f)) at_layer in
-      subst (λ c. unknown_where (or_values c (variable_place (H f))) (variable_place (H f)) (λ m. function_named m (resolved p).funs) (layer_of (resolved_stmt (D f) (N f) s)) ≡ []) (sym constants_kept) at_variables
+      let k = unknown_kept (D f) (N f) H (counted_param values) (λ g. refl) (param_array values) (λ m. function_named m p.funs) (λ m. function_named m (resolved_program p).funs) functions_kept (value_place p.consts f) (variable_place f) (layer_of s) e in
+      let at_layer = subst (λ l. unknown_where (value_place p.consts f) (variable_place f) (λ m. function_named m (resolved_program p).funs) l ≡ []) (sym (layer_resolved (D f) (N f) s)) k in
+      let at_variables = subst (λ v. unknown_where (or_values (constant_place p.consts) v) v (λ m. function_named m (resolved_program p).funs) (layer_of (resolved_stmt (D f) (N f) s)) ≡ []) (sym (variables_kept values f)) at_layer in
+      subst (λ c. unknown_where (or_values c (variable_place (H f))) (variable_place (H f)) (λ m. function_named m (resolved_program p).funs) (layer_of (resolved_stmt (D f) (N f) s)) ≡ []) (sym constants_kept) at_variables
 
   in_body : (f : Fun) (P : Stmt → Type 0) → All (λ s. P (resolved_stmt (D f) (N f) s)) (statements_of f.body) → All P (statements_of (H f).body)
   in_body f P h = subst (All P) (sym (body_resolved (D f) (N f) f.body)) (All-map P (resolved_stmt (D f) (N f)) (statements_of f.body) h)
@@ -144,7 +144,7 @@ module _ (p : Program) where
       (All-weaker (λ s. unknown_where (value_place p.consts f) (variable_place f) (λ m. function_named m p.funs) (layer_of s) ≡ []) (λ s. KnownIn (H f) (resolved_stmt (D f) (N f) s)) (statement_known f) (statements_of f.body)
       (all_empty (λ s. unknown_where (value_place p.consts f) (variable_place f) (λ m. function_named m p.funs) (layer_of s)) (statements_of f.body) body.1))
 
-  pub all_known : unknown_in p ≡ [] → All (λ f. All (KnownIn f) (statements_of f.body)) (resolved p).funs
+  pub all_known : unknown_in p ≡ [] → All (λ f. All (KnownIn f) (statements_of f.body)) (resolved_program p).funs
   all_known e =
       let funs = both (flat_map (unknown_in_constant (constant_place p.consts)) p.consts) (flat_map (unknown_in_fun p) p.funs) e in
       All-map (λ f. All (KnownIn f) (statements_of f.body)) H p.funs (All-weaker (λ f. unknown_in_fun p f ≡ []) (λ f. All (KnownIn (H f)) (statements_of (H f).body)) fun_known p.funs (all_empty (unknown_in_fun p) p.funs funs.1))
@@ -154,11 +154,11 @@ module _ (p : Program) where
 
   fun_different : (f : Fun) → repeated_in_fun f ≡ [] → All DifferentIn (statements_of (H f).body)
   fun_different f e =
-      let body = both (repeated (map name_of (variables_of f))) (flat_map (λ s. repeated_by (layer_of s)) (statements_of f.body)) e in
+      let body = both (repeated_places (map name_of (variables_of f))) (flat_map (λ s. repeated_by (layer_of s)) (statements_of f.body)) e in
       in_body f DifferentIn
       (All-weaker (λ s. repeated_by (layer_of s) ≡ []) (λ s. DifferentIn (resolved_stmt (D f) (N f) s)) (statement_different f) (statements_of f.body) (all_empty (λ s. repeated_by (layer_of s)) (statements_of f.body) body.1))
 
-  pub all_different : repeated_in p ≡ [] → All (λ f. All DifferentIn (statements_of f.body)) (resolved p).funs
+  pub all_different : repeated_in p ≡ [] → All (λ f. All DifferentIn (statements_of f.body)) (resolved_program p).funs
   all_different e =
-      let funs = both (repeated (top_names p)) (flat_map repeated_in_fun p.funs) e in
+      let funs = both (repeated_places (top_names p)) (flat_map repeated_in_fun p.funs) e in
       All-map (λ f. All DifferentIn (statements_of f.body)) H p.funs (All-weaker (λ f. repeated_in_fun f ≡ []) (λ f. All DifferentIn (statements_of (H f).body)) fun_different p.funs (all_empty repeated_in_fun p.funs funs.1))

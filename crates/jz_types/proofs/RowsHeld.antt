@@ -14,14 +14,14 @@ use Rattle.jz_tree.specs.declared.stmt.StmtKind.TheOpen.{StmtKind-F}
 use Rattle.jz_tree.specs.declared.program.Fun.{Fun}
 use Rattle.jz_tree.specs.declared.program.Program.{Program}
 use Rattle.jz_select.specs.declared.pattern.Pattern.{Pattern}
-use Rattle.jz_select.specs.Selected.{IsSelected, IsCopied, selected, copied}
+use Rattle.jz_select.specs.Selected.{IsSelected, IsCopied, pattern_selected, pattern_copied}
 use Rattle.jz_select.proofs.FirstRow.{is_selected, is_copied}
 use Rattle.jz_scopes.specs.Order.{earliest}
 use Rattle.jz_scopes.specs.Scopes.{constant_place, variable_place, or_values}
 use Rattle.jz_scopes.specs.Parts.{Layer, layer_of, statements_of}
 use Rattle.jz_scopes.specs.Names.{unknown_where, repeated_by, unknown_in, repeated_in}
 use Rattle.jz_resolve.specs.Numbering.{length_of}
-use Rattle.jz_resolve.specs.Programs.{resolved}
+use Rattle.jz_resolve.specs.Programs.{resolved_program}
 use Rattle.jz_kinds.specs.Calls.{returned_wrong}
 use Rattle.jz_kinds.specs.Mismatches.{among, stmt_wrong, body_wrong, mismatched_as_read, mismatched_declared}
 use Rattle.jz_rules.specs.declared.callee.Callee.{Callee}
@@ -29,7 +29,7 @@ use Rattle.jz_rules.specs.Callees.{callee_by}
 use Rattle.jz_rules.specs.Copies as copies
 use Rattle.jz_rules.specs.Indexes.{indexed_by}
 use Rattle.jz_rules.specs.Programs.{of_statement, in_body, in_statements}
-use Rattle.jz_rules.specs.Matching.{needs_row, has_row, has_copy, is_word_left, is_word_value, is_skip, enters, leaves, has_copies, has_rows, unmatched}
+use Rattle.jz_rules.specs.Matching.{needs_row, has_row, has_copy, is_word_left, is_word_value, is_skip, enters, leaves, has_copies, has_rows, unmatched_places}
 use Rattle.jz_types.specs.Rows.{others, unmatched_at, unmatched_in_fun, unmatched_in}
 use Rattle.jz_types.specs.Rules.{IsTyped}
 use Rattle.jz_types.specs.declared.fault.TypeRule.TheVariants.{Unknown, Duplicate, Mismatch, NoInstruction, ArrayCopy, RegIndex}
@@ -43,12 +43,12 @@ some_of None e = absurd (false≢true e)
 some_of (Some a) e = (a, refl)
 
 row_of : (k : StmtKind) → has_row k ≡ true → (p : Pattern) × IsSelected k (Some p)
-unfolding selected
-row_of k e = let some = some_of (selected k) e in (some.0, is_selected k (Some some.0) (sym some.1))
+unfolding pattern_selected
+row_of k e = let some = some_of (pattern_selected k) e in (some.0, is_selected k (Some some.0) (sym some.1))
 
 copy_of : (d : Lval) (e : Expr) → has_copy d e ≡ true → (p : Pattern) × IsCopied d e (Some p)
-unfolding copied
-copy_of d e h = let some = some_of (copied d e) h in (some.0, is_copied d e (Some some.0) (sym some.1))
+unfolding pattern_copied
+copy_of d e h = let some = some_of (pattern_copied d e) h in (some.0, is_copied d e (Some some.0) (sym some.1))
 
 second_of : (a b : Bool) → (not a || b) ≡ true → a ≡ true → b ≡ true
 second_of true b h e = h
@@ -92,12 +92,12 @@ rows_so fs s h =
     (λ e. row_of s.kind (second_of (needs_row (layer_of s)) (has_row s.kind) parts.0 e), copies_so (callee_by fs (layer_of s)) (layer_of s) parts.1)
 
 -- ---- a statement of which no other fault is told
-asked : (callee : Option Callee) (xs : List Span) (s : Stmt) → xs ≡ [] → unmatched callee (is_some (earliest xs)) s ≡ [] → has_rows callee s ≡ true
-asked callee xs s e h = passed (has_rows callee s) s.span (subst (λ ys. unmatched callee (is_some (earliest ys)) s ≡ []) e h)
+asked : (callee : Option Callee) (xs : List Span) (s : Stmt) → xs ≡ [] → unmatched_places callee (is_some (earliest xs)) s ≡ [] → has_rows callee s ≡ true
+asked callee xs s e h = passed (has_rows callee s) s.span (subst (λ ys. unmatched_places callee (is_some (earliest ys)) s ≡ []) e h)
 
 module _ (p : Program) (typed : IsTyped p) where
   abbrev q : Program
-  q = resolved p
+  q = resolved_program p
 
   unknown : unknown_in p ≡ []
   unknown = no_member (unknown_in p) (λ at c. typed Unknown at c)
@@ -124,9 +124,9 @@ module _ (p : Program) (typed : IsTyped p) where
       let callee = callee_by q.funs (layer_of s) in
       let u = unknown_where (or_values (constant_place q.consts) (variable_place f)) (variable_place f) (among q.funs) (layer_of s) in
       let none =
-      joined u (repeated_by (layer_of s) ++ (stmt_wrong (among q.funs) s ++ (copies.copied callee (layer_of s) ++ indexed_by (layer_of s)))) known
-      (joined (repeated_by (layer_of s)) (stmt_wrong (among q.funs) s ++ (copies.copied callee (layer_of s) ++ indexed_by (layer_of s))) differs
-      (joined (stmt_wrong (among q.funs) s) (copies.copied callee (layer_of s) ++ indexed_by (layer_of s)) fits (joined (copies.copied callee (layer_of s)) (indexed_by (layer_of s)) given at_index)))
+      joined u (repeated_by (layer_of s) ++ (stmt_wrong (among q.funs) s ++ (copies.copied_places callee (layer_of s) ++ indexed_by (layer_of s)))) known
+      (joined (repeated_by (layer_of s)) (stmt_wrong (among q.funs) s ++ (copies.copied_places callee (layer_of s) ++ indexed_by (layer_of s))) differs
+      (joined (stmt_wrong (among q.funs) s) (copies.copied_places callee (layer_of s) ++ indexed_by (layer_of s)) fits (joined (copies.copied_places callee (layer_of s)) (indexed_by (layer_of s)) given at_index)))
       in rows_so q.funs s (asked callee (others (constant_place q.consts) (variable_place f) (among q.funs) callee s) s none e)
 
   -- ---- of a function
@@ -135,17 +135,17 @@ module _ (p : Program) (typed : IsTyped p) where
   unfolding unmatched_in_fun
   fun_so f known differs fits given at_index e =
       let wrong = all_empty (stmt_wrong (among q.funs)) (statements_of f.body) (both (returned_wrong f) (flat_map (stmt_wrong (among q.funs)) (statements_of f.body)) fits).1 in
-      let copied = all_empty (of_statement (copies.copied_by q.funs)) (statements_of f.body) given in
+      let pattern_copied = all_empty (of_statement (copies.copied_by q.funs)) (statements_of f.body) given in
       let index = all_empty (of_statement indexed_by) (statements_of f.body) at_index in
       let rows = all_empty (unmatched_at (constant_place q.consts) (variable_place f) (among q.funs) q.funs) (statements_of f.body) e in
-      λ i s l. statement_so f _ (known i s l) (differs i s l) (wrong i s l) (copied i s l) (index i s l) (rows i s l)
+      λ i s l. statement_so f _ (known i s l) (differs i s l) (wrong i s l) (pattern_copied i s l) (index i s l) (rows i s l)
 
   pub rows_held : All (λ f. All (HasRows q.funs) (statements_of f.body)) q.funs
   rows_held =
       let known = all_known p unknown in
       let differs = all_different p different in
       let fits = all_empty (body_wrong (among q.funs)) q.funs matched in
-      let copied = all_empty (in_body (copies.copied_by q.funs)) q.funs given in
+      let pattern_copied = all_empty (in_body (copies.copied_by q.funs)) q.funs given in
       let index = all_empty (in_body indexed_by) q.funs indexed in
       let rows = all_empty (unmatched_in_fun (constant_place q.consts) (among q.funs) q.funs) q.funs found in
-      λ i f l. fun_so _ (known i f l) (differs i f l) (fits i f l) (copied i f l) (index i f l) (rows i f l)
+      λ i f l. fun_so _ (known i f l) (differs i f l) (fits i f l) (pattern_copied i f l) (index i f l) (rows i f l)

@@ -28,7 +28,7 @@ use Rattle.jz_tree.specs.declared.program.Param.{Param}
 use Rattle.jz_scopes.specs.Scopes.{Name, name_of}
 use Rattle.jz_scopes.specs.Kinds.{known_of, is_array}
 use Rattle.jz_scopes.specs.Parts.{Layer, layer_of, names_in, arrays_in, left_exprs, right_exprs, exprs_of, read_by, arrays_read_by, left_vars, set_by, whole_left, wholly_set_by, called_by}
-use Rattle.jz_scopes.specs.Names.{name_layer, array_passed, arrays_beside, arrays_to, arrays_passed, variables_wanted, one_unknown, no_function, unknown_where, repeated, repeated_by}
+use Rattle.jz_scopes.specs.Names.{name_layer, array_passed, arrays_beside, arrays_to, arrays_passed, variables_wanted, one_unknown, no_function, unknown_where, repeated_places, repeated_by}
 use Rattle.jz_scopes.specs.Order.{unless}
 use Rattle.jz_resolve.specs.Resolving.{number_or, expr_step, var_step, resolved_expr, resolved_var, resolved_lval, resolved_rhs, kind_step, resolved_kind, resolved_stmt}
 use Rattle.jz_types.proofs.NamesKept.{All-both, var_kept, access_at, resolved_layer, keeps}
@@ -161,7 +161,7 @@ module _ (d : List ℕ → Option Decl) (n : Name → Option (Option ℤ)) where
   called_kept (StmtKind-F.Mark vs) = refl
 
   pub repeated_kept : (k : Layer) → repeated_by (set_layer k) ≡ repeated_by k
-  repeated_kept k = ap repeated (wholly_kept k)
+  repeated_kept k = ap repeated_places (wholly_kept k)
 
   -- ---- what is passed as an array
   number_named : (P : Name → Type 0) (k : Option (Option ℤ)) (w : Var) (m : Name) → name_of w ≡ m → All P (m ∷ []) → All P (name_layer (out-Expr (number_or k w)))

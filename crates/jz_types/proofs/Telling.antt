@@ -9,7 +9,7 @@ use Rattle.jz_types.specs.declared.fault.TypeRule.{TypeRule}
 use Rattle.jz_types.specs.declared.fault.TypeRule.TheVariants.{Unknown, Duplicate, Mismatch, Storage, Recursion, NoInstruction, ArrayCopy, BadAnnotation, ExportShape, RegIndex}
 use Rattle.jz_types.specs.declared.fault.TypeFault.{TypeFault}
 use Rattle.jz_types.specs.declared.fault.Firsts.{Firsts}
-use Rattle.jz_types.specs.Faults.{number_of, IsToldBefore, IsTold, AreFirst}
+use Rattle.jz_types.specs.Faults.{rule_number, IsToldBefore, IsTold, AreFirst}
 use Rattle.jz_types.specs.InnerFaults.{told_of, first_told}
 
 -- ---- rules differ in their numbers
@@ -26,7 +26,7 @@ rule_of n =
     else if nat_eq n 9 then ExportShape
     else RegIndex
 
-numbered : (r : TypeRule) → rule_of (number_of r) ≡ r
+numbered : (r : TypeRule) → rule_of (rule_number r) ≡ r
 numbered Unknown = refl
 numbered Duplicate = refl
 numbered Mismatch = refl
@@ -38,10 +38,10 @@ numbered BadAnnotation = refl
 numbered ExportShape = refl
 numbered RegIndex = refl
 
-pub same_rule : (r s : TypeRule) → number_of r ≡ number_of s → r ≡ s
+pub same_rule : (r s : TypeRule) → rule_number r ≡ rule_number s → r ≡ s
 same_rule r s e = sym (numbered r) ∙ (ap rule_of e ∙ numbered s)
 
-below_eleven : (r : TypeRule) → number_of r < 11
+below_eleven : (r : TypeRule) → rule_number r < 11
 below_eleven Unknown = omega arith
 below_eleven Duplicate = omega arith
 below_eleven Mismatch = omega arith
@@ -53,7 +53,7 @@ below_eleven BadAnnotation = omega arith
 below_eleven ExportShape = omega arith
 below_eleven RegIndex = omega arith
 
-above_zero : (r : TypeRule) → number_of r < 1 → ⊥
+above_zero : (r : TypeRule) → rule_number r < 1 → ⊥
 above_zero Unknown h = omega arith
 above_zero Duplicate h = omega arith
 above_zero Mismatch h = omega arith
@@ -82,25 +82,25 @@ lt_or_eq a k b e h = grind (arith, nat_tests)
 module _ (Fails : TypeRule → Span → Type 0) where
   -- none of the rules below that number fails, or of their failures this one is told
   pub record IsLeast (k : ℕ) (f : TypeFault) : Type 0 where
-    pub below : number_of f.rule < k
+    pub below : rule_number f.rule < k
     pub fails : Fails f.rule f.span
-    pub first : (rule : TypeRule) (at : Span) → number_of rule < k → Fails rule at → IsToldBefore f rule at
+    pub first : (rule : TypeRule) (at : Span) → rule_number rule < k → Fails rule at → IsToldBefore f rule at
 
   abbrev pub Below : ℕ → Option TypeFault → Type 0
-  Below k None = (rule : TypeRule) (at : Span) → number_of rule < k → Fails rule at → ⊥
+  Below k None = (rule : TypeRule) (at : Span) → rule_number rule < k → Fails rule at → ⊥
   Below k (Some f) = IsLeast k f
 
   pub below_none : Below 1 None
   below_none rule at h w = above_zero rule h
 
   -- a rule below the next number is below this one, or is the rule of this number
-  parted : (k : ℕ) (rule other : TypeRule) → number_of rule ≡ k → number_of other < suc k → (number_of other < k) ⊎ (other ≡ rule)
+  parted : (k : ℕ) (rule other : TypeRule) → rule_number rule ≡ k → rule_number other < suc k → (rule_number other < k) ⊎ (other ≡ rule)
   parted k rule other e h =
-      let either : (number_of other < k) ⊎ (number_of other ≡ number_of rule) = lt_or_eq (number_of other) k (number_of rule) e h
+      let either : (rule_number other < k) ⊎ (rule_number other ≡ rule_number rule) = lt_or_eq (rule_number other) k (rule_number rule) e h
       in elim either [ inl p ↦ inl p | inr p ↦ inr (same_rule other rule p) ]
 
   -- a rule that fails nowhere
-  quiet : (k : ℕ) (rule : TypeRule) → number_of rule ≡ k → ((at : Span) → Fails rule at → ⊥) → (best : Option TypeFault) → Below k best → Below (suc k) best
+  quiet : (k : ℕ) (rule : TypeRule) → rule_number rule ≡ k → ((at : Span) → Fails rule at → ⊥) → (best : Option TypeFault) → Below k best → Below (suc k) best
   quiet k rule e n None b = λ other at h w. elim (parted k rule other e h) [ inl p ↦ b other at p w | inr p ↦ n at (subst (λ r. Fails r at) p w) ]
   quiet k rule e n (Some f) b = record {
     below = omega (arith, b.below);
@@ -108,7 +108,7 @@ module _ (Fails : TypeRule → Span → Type 0) where
     first = λ other at h w. elim (parted k rule other e h) [ inl p ↦ b.first other at p w | inr p ↦ absurd (n at (subst (λ r. Fails r at) p w)) ];
   }
 
-  pub told_more : (k : ℕ) (rule : TypeRule) → number_of rule ≡ k → (r : Option Span) → IsEarliest (Fails rule) r → (best : Option TypeFault) → Below k best
+  pub told_more : (k : ℕ) (rule : TypeRule) → rule_number rule ≡ k → (r : Option Span) → IsEarliest (Fails rule) r → (best : Option TypeFault) → Below k best
       → Below (suc k) (told_of best rule r)
   told_more k rule e None (nowhere n) best b = quiet k rule e n best b
   told_more k rule e (Some at) (here w first) None b = record {
@@ -116,7 +116,7 @@ module _ (Fails : TypeRule → Span → Type 0) where
     fails = w;
     first = λ other there h v. elim (parted k rule other e h) [
       | inl p ↦ absurd (b other there p v)
-      | inr p ↦ elim (first there (subst (λ r. Fails r there) p v)) [ inl q ↦ inl q | inr q ↦ inr (q, subst (λ r. number_of rule ≤ number_of r) (sym p) (omega arith)) ]
+      | inr p ↦ elim (first there (subst (λ r. Fails r there) p v)) [ inl q ↦ inl q | inr q ↦ inr (q, subst (λ r. rule_number rule ≤ rule_number r) (sym p) (omega arith)) ]
     ];
   }
   told_more k rule e (Some at) (here w first) (Some f) b =
@@ -133,7 +133,7 @@ module _ (Fails : TypeRule → Span → Type 0) where
             ]
             | inr p ↦ elim (first there (subst (λ r. Fails r there) p v)) [
               | inl q ↦ inl q
-              | inr q ↦ inr (q, subst (λ r. number_of rule ≤ number_of r) (sym p) (omega arith))
+              | inr q ↦ inr (q, subst (λ r. rule_number rule ≤ rule_number r) (sym p) (omega arith))
             ]
           ];
         }
@@ -146,7 +146,7 @@ module _ (Fails : TypeRule → Span → Type 0) where
               | inl q ↦ elim (at_least f.span at i) [ inl z ↦ inl (before_before f.span at there z q) | inr z ↦ inl (subst (λ s. Before s there) (sym z) q) ]
               | inr q ↦ elim (at_least f.span at i) [
                 | inl z ↦ inl (subst (Before f.span) q z)
-                | inr z ↦ inr (z ∙ q, subst (λ r. number_of f.rule ≤ number_of r) (sym p) (omega (arith, b.below, e)))
+                | inr z ↦ inr (z ∙ q, subst (λ r. rule_number f.rule ≤ rule_number r) (sym p) (omega (arith, b.below, e)))
               ]
             ]
           ];
@@ -181,6 +181,6 @@ module _ (Fails : TypeRule → Span → Type 0) where
         | inl a ↦ elim (q.first f.rule f.span p.fails) [ inl b ↦ absurd (clash f.span g.span a b) | inr b ↦ absurd (not_itself f.span g.span a (sym b.0)) ]
         | inr a ↦ elim (q.first f.rule f.span p.fails) [
           | inl b ↦ absurd (not_itself g.span f.span b (sym a.0))
-          | inr b ↦ let n : number_of f.rule ≡ number_of g.rule = omega (arith, a.1, b.1) in same_fault f g (same_rule f.rule g.rule n) a.0
+          | inr b ↦ let n : rule_number f.rule ≡ rule_number g.rule = omega (arith, a.1, b.1) in same_fault f g (same_rule f.rule g.rule n) a.0
         ]
       ]

@@ -8,21 +8,21 @@ use Rattle.jz_types.specs.declared.fault.TypeFault.{TypeFault}
 use Rattle.jz_types.specs.declared.fault.Firsts.{Firsts}
 
 -- the number of a rule
-abbrev pub number_of : TypeRule → ℕ
-number_of Unknown = 1
-number_of Duplicate = 2
-number_of Mismatch = 3
-number_of Storage = 4
-number_of Recursion = 5
-number_of NoInstruction = 6
-number_of ArrayCopy = 7
-number_of BadAnnotation = 8
-number_of ExportShape = 9
-number_of RegIndex = 10
+abbrev pub rule_number : TypeRule → ℕ
+rule_number Unknown = 1
+rule_number Duplicate = 2
+rule_number Mismatch = 3
+rule_number Storage = 4
+rule_number Recursion = 5
+rule_number NoInstruction = 6
+rule_number ArrayCopy = 7
+rule_number BadAnnotation = 8
+rule_number ExportShape = 9
+rule_number RegIndex = 10
 
 -- f stands before the place, or at it with a rule of no higher number
 abbrev pub IsToldBefore : TypeFault → TypeRule → Span → Type 0
-IsToldBefore f rule at = Before f.span at ⊎ ((f.span ≡ at) × (number_of f.rule ≤ number_of rule))
+IsToldBefore f rule at = Before f.span at ⊎ ((f.span ≡ at) × (rule_number f.rule ≤ rule_number rule))
 
 -- of the failures of rules, which are given by their places, this one is told
 pub record IsTold (Fails : TypeRule → Span → Type 0) (f : TypeFault) : Type 0 where

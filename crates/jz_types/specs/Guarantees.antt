@@ -15,7 +15,7 @@ use Rattle.jz_rules.specs.declared.callee.Callee.{Callee}
 use Rattle.jz_rules.specs.Callees.{callee_by}
 use Rattle.jz_rules.specs.Matching.{needs_row, is_word_left, is_word_value, is_skip}
 use Rattle.jz_types.specs.Rules.{IsTyped}
-use Rattle.jz_resolve.specs.Programs.{resolved}
+use Rattle.jz_resolve.specs.Programs.{resolved_program}
 
 -- a row is selected, where the statement needs one
 abbrev pub HasRow : Stmt → Type 0
@@ -40,4 +40,4 @@ HasRows fs s = HasRow s × HasCopies (callee_by fs (layer_of s)) (layer_of s)
 -- all statements of a typed program, with the declarations of variables where they are used
 abbrev pub RowsLaw : Type 0
 RowsLaw = (p : Program) → IsTyped p
-    → All (λ f. All (HasRows (resolved p).funs) (statements_of f.body)) (resolved p).funs
+    → All (λ f. All (HasRows (resolved_program p).funs) (statements_of f.body)) (resolved_program p).funs

@@ -11,7 +11,7 @@ use Rattle.jz_paths.specs.Settings.{wrongly_set}
 use Rattle.jz_paths.specs.Paths.{IsReadUnsetIn}
 use Rattle.jz_calls.specs.declared.recursion.Ranking.{Ranking}
 use Rattle.jz_calls.specs.Recursion.{recursive_of}
-use Rattle.jz_rules.specs.Exports.{misshapen, annotated}
+use Rattle.jz_rules.specs.Exports.{misshapen_places, annotated_places}
 use Rattle.jz_rules.specs.Copies.{copied_by}
 use Rattle.jz_rules.specs.Indexes.{indexed_by}
 use Rattle.jz_rules.specs.Programs.{in_functions, in_statements}
@@ -24,8 +24,8 @@ pub record AreOfText (p : Program) (t : OfText) : Type 0 where
   pub unknown : t.unknown ≡ earliest (unknown_in p)
   pub repeated : t.repeated ≡ earliest (repeated_in p)
   pub mismatched : t.mismatched ≡ earliest (mismatched_as_read (length_of p.consts) p)
-  pub annotated : t.annotated ≡ earliest (in_functions annotated p)
-  pub misshapen : t.misshapen ≡ earliest (in_functions misshapen p)
+  pub annotated_places : t.annotated ≡ earliest (in_functions annotated_places p)
+  pub misshapen_places : t.misshapen ≡ earliest (in_functions misshapen_places p)
 
 pub record AreOfDeclared (q : Program) (d : OfDeclared) : Type 0 where
   pub mismatched : d.mismatched ≡ earliest (mismatched_declared q)
@@ -45,7 +45,7 @@ firsts_of t d r = record {
   recursive = recursive_of r;
   unmatched = d.unmatched;
   copied = d.copied;
-  annotated = t.annotated;
-  misshapen = t.misshapen;
+  annotated_places = t.annotated;
+  misshapen_places = t.misshapen;
   indexed = d.indexed;
 }

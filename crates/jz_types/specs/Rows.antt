@@ -12,9 +12,9 @@ use Rattle.jz_scopes.specs.Names.{unknown_where, repeated_by}
 use Rattle.jz_kinds.specs.Mismatches.{Named, among, stmt_wrong}
 use Rattle.jz_rules.specs.declared.callee.Callee.{Callee}
 use Rattle.jz_rules.specs.Callees.{callee_by}
-use Rattle.jz_rules.specs.Copies.{copied}
+use Rattle.jz_rules.specs.Copies.{copied_places}
 use Rattle.jz_rules.specs.Indexes.{indexed_by}
-use Rattle.jz_rules.specs.Matching.{unmatched}
+use Rattle.jz_rules.specs.Matching.{unmatched_places}
 
 abbrev pub Declared : Type 0
 Declared = List ℕ → Option Span
@@ -25,10 +25,10 @@ module _ (constants variables : Declared) (functions : Named) where
   abbrev pub others : Option Callee → Stmt → List Span
   others callee s =
       unknown_where (or_values constants variables) variables functions (layer_of s)
-      ++ (repeated_by (layer_of s) ++ (stmt_wrong functions s ++ (copied callee (layer_of s) ++ indexed_by (layer_of s))))
+      ++ (repeated_by (layer_of s) ++ (stmt_wrong functions s ++ (copied_places callee (layer_of s) ++ indexed_by (layer_of s))))
 
   abbrev pub unmatched_with : Option Callee → Stmt → List Span
-  unmatched_with callee s = unmatched callee (is_some (earliest (others callee s))) s
+  unmatched_with callee s = unmatched_places callee (is_some (earliest (others callee s))) s
 
   unfoldable pub unmatched_at : List Fun → Stmt → List Span
   unmatched_at fs s = unmatched_with (callee_by fs (layer_of s)) s

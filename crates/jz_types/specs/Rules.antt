@@ -4,13 +4,13 @@ use Rattle.jz_io.specs.declared.span.Span.{Span}
 use Rattle.jz_tree.specs.declared.program.Program.{Program}
 use Rattle.jz_scopes.specs.Names.{unknown_in, repeated_in}
 use Rattle.jz_resolve.specs.Numbering.{length_of}
-use Rattle.jz_resolve.specs.Programs.{resolved}
+use Rattle.jz_resolve.specs.Programs.{resolved_program}
 use Rattle.jz_kinds.specs.Mismatches.{mismatched_in}
 use Rattle.jz_paths.specs.Declarations.{wrongly_kept}
 use Rattle.jz_paths.specs.Settings.{wrongly_set}
 use Rattle.jz_paths.specs.Paths.{IsReadUnsetIn}
 use Rattle.jz_calls.specs.Recursion.{IsRecursive}
-use Rattle.jz_rules.specs.Exports.{misshapen, annotated}
+use Rattle.jz_rules.specs.Exports.{misshapen_places, annotated_places}
 use Rattle.jz_rules.specs.Copies.{copied_by}
 use Rattle.jz_rules.specs.Indexes.{indexed_by}
 use Rattle.jz_rules.specs.Programs.{in_functions, in_statements}
@@ -30,13 +30,13 @@ BreaksIn p q Storage at = Contains (wrongly_kept q ++ wrongly_set q) at ⊎ IsRe
 BreaksIn p q Recursion at = IsRecursive q at
 BreaksIn p q NoInstruction at = Contains (unmatched_in q) at
 BreaksIn p q ArrayCopy at = Contains (in_statements (copied_by q.funs) q) at
-BreaksIn p q BadAnnotation at = Contains (in_functions annotated p) at
-BreaksIn p q ExportShape at = Contains (in_functions misshapen p) at
+BreaksIn p q BadAnnotation at = Contains (in_functions annotated_places p) at
+BreaksIn p q ExportShape at = Contains (in_functions misshapen_places p) at
 BreaksIn p q RegIndex at = Contains (in_statements indexed_by q) at
 
 -- the rule fails at that place
 abbrev pub Breaks : Program → TypeRule → Span → Type 0
-Breaks p rule at = BreaksIn p (resolved p) rule at
+Breaks p rule at = BreaksIn p (resolved_program p) rule at
 
 -- no rule fails
 abbrev pub IsTyped : Program → Type 0

@@ -3,7 +3,7 @@
 ghost use Rattle.std.specs.Prelude.{◌≡◌, IfOk, IfErr};
 ghost use Rattle.jz_data.specs.Failures.{IfRefused};
 ghost use Rattle.jz_tree.specs.declared.program.Program.{Program};
-ghost use Rattle.jz_resolve.specs.Programs.{resolved};
+ghost use Rattle.jz_resolve.specs.Programs.{resolved_program};
 ghost use Rattle.jz_types.specs.InnerAsking.{AreOfText, AreOfDeclared, firsts_of};
 ghost use Rattle.jz_types.specs.Rules.{IsTyped, IsFirstTypeFault};
 
@@ -71,7 +71,7 @@ fn firsts(text: OfText, declared: OfDeclared, ranking: &Ranking) -> Firsts
 /// fails.
 pub fn check(alloc: Global, program: Program) -> Result<Typed, Failure<TypeFault>>
     ensures typed { IfOk result (λ typed. IsTyped program) }
-    ensures resolved { IfOk result (λ typed. typed.program ≡ resolved program) }
+    ensures resolved_program { IfOk result (λ typed. typed.program ≡ resolved_program program) }
     ensures fault { IfErr result (λ failure. IfRefused failure (IsFirstTypeFault program)) }
 {
     let text = of_text(alloc, &program)?;

@@ -1,7 +1,7 @@
 //! Why a program is refused, and which of several faults is told.
 
 ghost use Rattle.std.specs.Prelude.{◌≡◌};
-ghost use Rattle.jz_types.specs.Faults.{number_of};
+ghost use Rattle.jz_types.specs.Faults.{rule_number};
 ghost use Rattle.jz_types.specs.InnerFaults.{told_of, first_told};
 
 use jz_io::Span;
@@ -37,7 +37,7 @@ pub enum TypeRule {
 impl TypeRule {
     /// The rule's number in what is told.
     pub fn number(self) -> u8
-        ensures { result ≡ number_of self }
+        ensures { result ≡ rule_number self }
     {
         match self {
             TypeRule::Unknown => 1,

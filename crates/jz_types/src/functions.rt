@@ -13,7 +13,7 @@ ghost use Rattle.jz_kinds.specs.Mismatches.{body_wrong};
 ghost use Rattle.jz_paths.specs.Declarations.{unkept_in};
 ghost use Rattle.jz_paths.specs.Settings.{wrongly_set_in};
 ghost use Rattle.jz_paths.specs.Paths.{IsReadUnsetIn};
-ghost use Rattle.jz_rules.specs.Exports.{misshapen, annotated};
+ghost use Rattle.jz_rules.specs.Exports.{misshapen_places, annotated_places};
 ghost use Rattle.jz_rules.specs.Copies.{copied_by};
 ghost use Rattle.jz_rules.specs.Indexes.{indexed_by};
 ghost use Rattle.jz_rules.specs.Programs.{in_body};
@@ -68,8 +68,8 @@ pub(crate) fn text_of_functions(
     ensures mismatched { let value = value_with (values_in lengths.now.table) in
         let wrong = fun_lengths (place_in constants.now) value in
         IfOk result (λ t. t.mismatched ≡ first_in wrong program.now.funs) }
-    ensures annotated { IfOk result (λ t. t.annotated ≡ first_in annotated program.now.funs) }
-    ensures misshapen { IfOk result (λ t. t.misshapen ≡ first_in misshapen program.now.funs) }
+    ensures annotated_places { IfOk result (λ t. t.annotated ≡ first_in annotated_places program.now.funs) }
+    ensures misshapen_places { IfOk result (λ t. t.misshapen ≡ first_in misshapen_places program.now.funs) }
 {
     let mut first = OfText {
         unknown: None,

@@ -6,7 +6,7 @@ use Rattle.std.proofs.lemmas.Bool.Decides.{nat_tests}
 use Rattle.x64_insn.specs.declared.table.Row.{Row}
 use Rattle.x64_insn.specs.Table.{allows, reg_field}
 use Rattle.x64_insn.specs.Encoding.{Fields, AreFields, is_rex, StandsIf, AreBytes}
-use Rattle.x64_decode.specs.Decoding.{may_be_rex, may_be_opcode, allowed, row_has_modrm, row_takes, may_be_modrm, row_immediate, immediate_bytes, Parts, fields_of}
+use Rattle.x64_decode.specs.Decoding.{may_be_rex, may_be_opcode, is_allowed, row_has_modrm, row_takes, may_be_modrm, row_immediate, immediate_bytes, Parts, fields_of}
 use Rattle.x64_decode.proofs.ByteReaders.{PrefixPasses}
 use Rattle.x64_decode.proofs.PartsRead.{AreParts, eq_of}
 
@@ -32,7 +32,7 @@ to_parts f h =
         (
           same_byte 0x0F f.escape h.escape,
           (
-            ap (allowed f.operand_size f.rex) h.in_table ∙ h.prefixes,
+            ap (is_allowed f.operand_size f.rex) h.in_table ∙ h.prefixes,
             (
               subst (λ (x : Option Row). StandsIf (row_has_modrm x) (row_takes x f.rex) f.modrm) w h.modrm,
               (
@@ -46,7 +46,7 @@ to_parts f h =
     )
 
 -- ---- from the pairs to the names
-some_row : (w : Option Row) (p r : Option ℕ) → allowed p r w ≡ true → (x : Row) × (w ≡ Some x) × (allows x p r ≡ true)
+some_row : (w : Option Row) (p r : Option ℕ) → is_allowed p r w ≡ true → (x : Row) × (w ≡ Some x) × (allows x p r ≡ true)
 some_row None p r h = absurd (false≢true h)
 some_row (Some x) p r h = (x, refl, h)
 

@@ -10,7 +10,7 @@ use Rattle.x64_insn.specs.declared.table.Row.TheVariants as row
 use Rattle.x64_insn.specs.Table.{row_of, one_byte_row, escaped_row, takes_reg_field, names_low_byte, is_lea, has_byte_reg, has_byte_rm}
 use Rattle.x64_insn.specs.Encoding.{spelling_of, is_byte, is_rex, has_sib, displacement_length, StandsIf, AreBytes}
 use Rattle.x64_decode.specs.ByteReading.{Reader, byte_where, byte_if, prefix, some_bytes, follow}
-use Rattle.x64_decode.specs.Decoding.{may_be_operand_size, may_be_rex, may_be_escape, may_be_opcode, allowed, row_has_modrm, row_takes, may_be_modrm, immediate_bytes, Parts, fields_of, parts}
+use Rattle.x64_decode.specs.Decoding.{may_be_operand_size, may_be_rex, may_be_escape, may_be_opcode, is_allowed, row_has_modrm, row_takes, may_be_modrm, immediate_bytes, Parts, fields_of, parts}
 use Rattle.x64_decode.proofs.ByteReaders.{ReadsBack, PrefixPasses, spell_byte, Passes, byte_where_reads, spell_both, BothValid, follow_reads, some_bytes_reads, byte_if_reads, Begins, ahead_reads}
 
 -- ---- a byte that may stand there: ModRM 0, the opcode 01, behind 0F the opcode AF
@@ -140,7 +140,7 @@ rex_opcode : (p r : Option ℕ) (o : ℕ) → may_be_opcode p r None o ≡ true 
 unfolding may_be_opcode
 rex_opcode p r o ok = false_from_ne_true (may_be_rex p o) (λ e.
     let b = rex_bounds p o e in
-    both_ways (may_be_opcode p r None o) (ap (allowed p r) (no_rex_opcode o b.0 b.1)) ok)
+    both_ways (may_be_opcode p r None o) (ap (is_allowed p r) (no_rex_opcode o b.0 b.1)) ok)
 
 -- ---- what may not begin a REX or an opcode
 no_escape_rex : (p : Option ℕ) → may_be_rex p 0x0F ≡ false

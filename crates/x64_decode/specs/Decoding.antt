@@ -20,13 +20,13 @@ abbrev pub may_be_escape : ℕ → Bool
 may_be_escape b = b == 0x0F
 
 -- whether there is a row and it allows these prefixes
-abbrev pub allowed : Option ℕ → Option ℕ → Option Row → Bool
-allowed operand_size rex None = false
-allowed operand_size rex (Some row) = allows row operand_size rex
+abbrev pub is_allowed : Option ℕ → Option ℕ → Option Row → Bool
+is_allowed operand_size rex None = false
+is_allowed operand_size rex (Some row) = allows row operand_size rex
 
 -- the opcode of a row that allows these prefixes
 unfoldable pub may_be_opcode : Option ℕ → Option ℕ → Option ℕ → ℕ → Bool
-may_be_opcode operand_size rex escape b = allowed operand_size rex (row_of escape b)
+may_be_opcode operand_size rex escape b = is_allowed operand_size rex (row_of escape b)
 
 -- whether there is a row and it has a ModRM
 abbrev pub row_has_modrm : Option Row → Bool

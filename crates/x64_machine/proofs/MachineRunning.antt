@@ -8,7 +8,7 @@ use Rattle.x64_decode.specs.declared.Decoded.TheVariants as decoded
 use Rattle.x64_machine.specs.declared.step.Step.{Step}
 use Rattle.x64_machine.specs.declared.step.Step.TheVariants.{Running, Ended, Fault}
 use Rattle.jz_leak.specs.declared.event.Event.{Event}
-use Rattle.x64_machine.specs.Steps.{Config, Moved, Ran, insn_at, moved, by_insn, faulted, events_of, step_of, steps_of}
+use Rattle.x64_machine.specs.Steps.{Config, Moved, Ran, insn_at, moved, by_insn, fault_move, events_of, step_of, steps_of}
 use Rattle.x64_machine.specs.MachineRuns.{first_answer, last_answer, followed}
 
 abbrev stopped : Config → Moved
@@ -172,23 +172,23 @@ none_answered_running code base c h = ap (λ b. if b then Ended else Running) h
 fault_same : (f g : FaultKind) → Fault f ≡ Fault g → f ≡ g
 fault_same f g h = cc
 
-fault_moved : (c : Config) (ends : Bool) (r : Result After FaultKind) (f : FaultKind) → (moved c ends r).answer ≡ Fault f → moved c ends r ≡ faulted c f
+fault_moved : (c : Config) (ends : Bool) (r : Result After FaultKind) (f : FaultKind) → (moved c ends r).answer ≡ Fault f → moved c ends r ≡ fault_move c f
 fault_moved c true (Ok a) f h = cc
 fault_moved c false (Ok a) f h = cc
-fault_moved c ends (Err e) f h = ap (faulted c) (fault_same e f h)
+fault_moved c ends (Err e) f h = ap (fault_move c) (fault_same e f h)
 
-fault_insn : (c : Config) (d : Decoded) (f : FaultKind) → (by_insn c d).answer ≡ Fault f → by_insn c d ≡ faulted c f
-fault_insn c decoded.Unknown f h = ap (faulted c) (fault_same _ f h)
-fault_insn c decoded.Truncated f h = ap (faulted c) (fault_same _ f h)
+fault_insn : (c : Config) (d : Decoded) (f : FaultKind) → (by_insn c d).answer ≡ Fault f → by_insn c d ≡ fault_move c f
+fault_insn c decoded.Unknown f h = ap (fault_move c) (fault_same _ f h)
+fault_insn c decoded.Truncated f h = ap (fault_move c) (fault_same _ f h)
 fault_insn c (decoded.Insn i len) f h = fault_moved c _ _ f h
 
 fault_flag : (code : List ℕ) (base : ℕ) (c : Config) (f : FaultKind) (b : Bool)
     → (if b then stopped c else by_insn c (insn_at code base c.state.rip)).answer ≡ Fault f
-    → (if b then stopped c else by_insn c (insn_at code base c.state.rip)) ≡ faulted c f
+    → (if b then stopped c else by_insn c (insn_at code base c.state.rip)) ≡ fault_move c f
 fault_flag code base c f true h = cc
 fault_flag code base c f false h = fault_insn c (insn_at code base c.state.rip) f h
 
-pub fault_step : (code : List ℕ) (base : ℕ) (c : Config) (f : FaultKind) → (step_of code base c).answer ≡ Fault f → step_of code base c ≡ faulted c f
+pub fault_step : (code : List ℕ) (base : ℕ) (c : Config) (f : FaultKind) → (step_of code base c).answer ≡ Fault f → step_of code base c ≡ fault_move c f
 unfolding step_of
 fault_step code base c f h = fault_flag code base c f c.ended h
 

@@ -56,12 +56,12 @@ is_ret insn.Ret = true
 is_ret other = false
 
 -- a fault changes nothing and shows nothing
-abbrev pub faulted : Config → FaultKind → Moved
-faulted c f = record { answer = Fault f; leak = no_event; after = c }
+abbrev pub fault_move : Config → FaultKind → Moved
+fault_move c f = record { answer = Fault f; leak = no_event; after = c }
 
 -- a step by what its instruction does
 abbrev pub moved : Config → Bool → Result After FaultKind → Moved
-moved c ends (Err f) = faulted c f
+moved c ends (Err f) = fault_move c f
 moved c ends (Ok a) = record {
   answer = if ends then Ended else Running;
   leak = a.leak;
@@ -70,8 +70,8 @@ moved c ends (Ok a) = record {
 
 -- a step by what stands at rip
 abbrev pub by_insn : Config → Decoded → Moved
-by_insn c decoded.Unknown = faulted c NoInsn
-by_insn c decoded.Truncated = faulted c NoInsn
+by_insn c decoded.Unknown = fault_move c NoInsn
+by_insn c decoded.Truncated = fault_move c NoInsn
 by_insn c (decoded.Insn i len) =
     moved c (is_ret i && at_entry c) (effect_of i ((c.state.rip + len) % 2 ^ 64) c.state c.memory)
 

@@ -2,7 +2,7 @@
 
 ghost use Rattle.std.specs.Prelude.{◌≡◌, ℕ, ◌+◌, true, List, []};
 ghost use Rattle.x64_insn.specs.declared.types.FaultKind.{FaultKind};
-ghost use Rattle.x64_machine.specs.Steps.{Config, faulted, step_of, steps_of};
+ghost use Rattle.x64_machine.specs.Steps.{Config, fault_move, step_of, steps_of};
 ghost use Rattle.x64_machine.specs.MachineRuns.{followed};
 ghost use Rattle.x64_machine.specs.declared.step.Step.{Step};
 
@@ -23,7 +23,7 @@ pub fn an_end_stays()
 pub fn a_fault_changes_nothing()
     ensures { (code : List ℕ) (base : ℕ) (c : Config) (fault : FaultKind)
         → (step_of code base c).answer ≡ Step.Fault fault
-        → step_of code base c ≡ faulted c fault }
+        → step_of code base c ≡ fault_move c fault }
 {}
 
 /// No step changes the entry's stack pointer and return address.

@@ -9,12 +9,12 @@ use Rattle.jz_meaning.specs.Stores.{state_of, store_of}
 use Rattle.jz_meaning.specs.Values.{key_of, ref_of}
 use Rattle.jz_meaning.specs.Statements.{source, tests, counts, leaves, enters}
 use Rattle.jz_meaning.specs.Runs.{block, statement_tree}
-use Rattle.jz_passing.specs.Answers.{call_of, entered}
+use Rattle.jz_passing.specs.Answers.{call_of, entered_store}
 use Rattle.jz_interp.specs.Parts.{callees_in, condition_of, counter_of, inner_block}
 use Rattle.jz_interp.specs.Parts.{body_piece, inner_body, assignment_tree, named_call_tree, while_tree}
-use Rattle.jz_interp.specs.Rounds.{values_left, valued, RoundsOf}
+use Rattle.jz_interp.specs.Rounds.{values_left, evaluated_values, RoundsOf}
 use Rattle.jz_interp.specs.ShownRuns.{Leads, IsTurn, IsTested}
-use Rattle.jz_interp.specs.Ends.{seen, turn_seen, rounds_seen}
+use Rattle.jz_interp.specs.Ends.{seen_outcome, turn_seen, rounds_seen}
 use Rattle.jz_interp.specs.Ends.{PieceGoes, TurnGoes, TestGoes, RoundsGo}
 use Rattle.jz_interp.proofs.Falls.{weights_at, one_deeper}
 use Rattle.jz_interp.proofs.Pieces.{assign_is, if_is, while_is, for_is}
@@ -68,7 +68,7 @@ run_statement-returns-in_err-ran-in-Assign t c =
 
 pub run_statement-returns-in_ok-ran-in-Assign : goal.run_statement-returns-in_ok-ran-in-Assign
 run_statement-returns-in_ok-ran-in-Assign t c =
-    subst (λ f. Leads source f c.args.fuel (state_of c.args.state.now) (seen (Ok c.in_ok-ran-in-Assign.ran) (state_of c.run_assign.new.state)))
+    subst (λ f. Leads source f c.args.fuel (state_of c.args.state.now) (seen_outcome (Ok c.in_ok-ran-in-Assign.ran) (state_of c.run_assign.new.state)))
     (sym (assign_is (callees_in c.args.code.now c.args.depth) c.args.stmt.now c.in-Assign.to c.in-Assign.op c.in-Assign.rhs c.in-Assign.cond c.in-Assign.is)) c.in_ok-ran-in-Assign.ensures
 
 pub run_statement-returns-in_err-ran-in-If : goal.run_statement-returns-in_err-ran-in-If
@@ -81,7 +81,7 @@ run_statement-returns-in_err-ran-in-If t c =
 
 pub run_statement-returns-in_ok-ran-in-If : goal.run_statement-returns-in_ok-ran-in-If
 run_statement-returns-in_ok-ran-in-If t c =
-    subst (λ f. Leads source f c.args.fuel (state_of c.args.state.now) (seen (Ok c.in_ok-ran-in-If.ran) (state_of c.run_if.new.state)))
+    subst (λ f. Leads source f c.args.fuel (state_of c.args.state.now) (seen_outcome (Ok c.in_ok-ran-in-If.ran) (state_of c.run_if.new.state)))
     (sym (if_is (callees_in c.args.code.now c.args.depth) c.args.stmt.now c.in-If.cond c.in-If.holds c.in-If.other c.in-If.is)) c.in_ok-ran-in-If.ensures
 
 pub run_statement-returns-in_err-ran-in-While : goal.run_statement-returns-in_err-ran-in-While
@@ -94,7 +94,7 @@ run_statement-returns-in_err-ran-in-While t c =
 
 pub run_statement-returns-in_ok-ran-in-While : goal.run_statement-returns-in_ok-ran-in-While
 run_statement-returns-in_ok-ran-in-While t c =
-    subst (λ f. Leads source f c.args.fuel (state_of c.args.state.now) (seen (Ok c.in_ok-ran-in-While.ran) (state_of c.run_while.new.state)))
+    subst (λ f. Leads source f c.args.fuel (state_of c.args.state.now) (seen_outcome (Ok c.in_ok-ran-in-While.ran) (state_of c.run_while.new.state)))
     (sym (while_is (callees_in c.args.code.now c.args.depth) c.args.stmt.now c.in-While.prologue c.in-While.cond c.in-While.body c.in-While.is)) c.in_ok-ran-in-While.ensures
 
 pub run_statement-returns-in_err-ran-in-For : goal.run_statement-returns-in_err-ran-in-For
@@ -107,7 +107,7 @@ run_statement-returns-in_err-ran-in-For t c =
 
 pub run_statement-returns-in_ok-ran-in-For : goal.run_statement-returns-in_ok-ran-in-For
 run_statement-returns-in_ok-ran-in-For t c =
-    subst (λ f. Leads source f c.args.fuel (state_of c.args.state.now) (seen (Ok c.in_ok-ran-in-For.ran) (state_of c.run_for.new.state)))
+    subst (λ f. Leads source f c.args.fuel (state_of c.args.state.now) (seen_outcome (Ok c.in_ok-ran-in-For.ran) (state_of c.run_for.new.state)))
     (sym (for_is (callees_in c.args.code.now c.args.depth) c.args.stmt.now c.in-For.counter c.in-For.from c.in-For.down c.in-For.to c.in-For.body c.in-For.is)) c.in_ok-ran-in-For.ensures
 
 pub run_statement-returns-in_ok-unset_all-in-Mark : goal.run_statement-returns-in_ok-unset_all-in-Mark
@@ -144,7 +144,7 @@ run_body-returns-in_err-ran-in-Some t c =
 
 pub run_body-returns-in_ok-ran-in-Some : goal.run_body-returns-in_ok-ran-in-Some
 run_body-returns-in_ok-ran-in-Some t c =
-    subst (λ y. Leads source (body_piece (callees_in c.args.code.now c.args.depth) y) c.args.fuel (state_of c.args.state.now) (seen (Ok c.in_ok-ran-in-Some.ran) (state_of c.run_block.new.state)))
+    subst (λ y. Leads source (body_piece (callees_in c.args.code.now c.args.depth) y) c.args.fuel (state_of c.args.state.now) (seen_outcome (Ok c.in_ok-ran-in-Some.ran) (state_of c.run_block.new.state)))
     (sym c.in-Some.is) c.in_ok-ran-in-Some.ensures
 
 
@@ -247,7 +247,7 @@ run_rounds-returns t c = rounds_end c.args.counter.now (block (callees_in c.args
 pub run_for-returns-in_err-values : goal.run_for-returns-in_err-values
 run_for-returns-in_err-values t c =
     passed_on c.from_residual.result c.in_err-values.field-0
-    (λ r. valued c.counter_values.new.out r ≡ numbers_first c.new-numbers.result (counts (counter_of c.args.counter) (state_of c.args.state.now))) _
+    (λ r. evaluated_values c.counter_values.new.out r ≡ numbers_first c.new-numbers.result (counts (counter_of c.args.counter) (state_of c.args.state.now))) _
     c.from_residual.ensures.1 c.in_err-values.ensures (for_fails (counter_of c.args.counter) (block (callees_in c.args.code.now c.args.depth) c.args.body.now) c.args.fuel (state_of c.args.state.now) c.new-numbers.result c.counter_values.new.out c.new-numbers.ensures)
 
 pub run_for-returns-in_err-leaks : goal.run_for-returns-in_err-leaks
@@ -289,7 +289,7 @@ run_call-returns-in_ok-ran-in-Some t c =
 pub run_callee-returns-in_err-inner : goal.run_callee-returns-in_err-inner
 run_callee-returns-in_err-inner t c =
     passed_on c.from_residual.result c.in_err-inner.field-0
-    (λ r. entered c.enter.new.out r ≡ numbers_first c.new-before.result (arguments_of (call_of c.args.call) (state_of c.args.state.now))) _
+    (λ r. entered_store c.enter.new.out r ≡ numbers_first c.new-before.result (arguments_of (call_of c.args.call) (state_of c.args.state.now))) _
     c.from_residual.ensures.1 c.in_err-inner.ensures (not_entered (call_of c.args.call) (block (callees_in c.args.code.now c.args.depth) c.args.call.callee.now.body) c.args.fuel (state_of c.args.state.now) c.new-before.result c.enter.new.out c.new-before.ensures)
 
 pub run_callee-returns-in_err-items : goal.run_callee-returns-in_err-items

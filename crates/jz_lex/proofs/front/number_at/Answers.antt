@@ -1,5 +1,5 @@
 use Rattle.std.proofs.Common.{◌≤◌, ◌∙◌, sym, subst, length}
-use Rattle.jz_lex.specs.LexingWords.{value_of}
+use Rattle.jz_lex.specs.LexingWords.{value_of_numeral}
 use Rattle.jz_lex.specs.LexingFront.{IsFront}
 use Rattle.jz_lex.specs.declared.front.Shape.TheVariants as shape
 use Rattle.jz_lex.specs.declared.front.Front.TheVariants as front
@@ -25,7 +25,7 @@ returns-in-Some c =
     (c.split_at.ensures.front_len ∙ c.numeral_length-length.ensures)
     (sym c.begins_with_letter.ensures ∙ c.if-begins_with_letter.false)
     k in
-    subst (λ z. IsFront text (front.Lexeme (shape.Number z) c.numeral_length-length.result)) (sym (kept_signed (value_of c.split_at.result.0.now) c.in-Some.value k))
+    subst (λ z. IsFront text (front.Lexeme (shape.Number z) c.numeral_length-length.result)) (sym (kept_signed (value_of_numeral c.split_at.result.0.now) c.in-Some.value k))
     (subst (λ n. IsFront text (front.Lexeme (shape.Number c.in-Some.value) n)) (sym c.numeral_length-length.ensures) m)
 
 pub returns-in-None : goal.returns-in-None

@@ -1,6 +1,6 @@
 use Rattle.std.proofs.Common.{◌≡◌, [], ◌∙◌, sym, ap, rules}
 use Rattle.jz_lex.specs.declared.token.TokenKind.TheVariants.{Num, Sign}
-use Rattle.jz_lex.specs.LexingWords.{kind_of}
+use Rattle.jz_lex.specs.LexingWords.{kind_of_word}
 use Rattle.jz_lex.proofs.LexingWords.{word_ascii, sign_ascii}
 use Rattle.jz_lex.proofs.LexingFront.{shape_word, shape_number, shape_sign}
 use Rattle.jz_lex.proofs.kind.kind_of.Goals as goal
@@ -16,5 +16,5 @@ returns-in_ok-text_of-in-Sign c = ap Sign c.in_ok-text_of-in-Sign.ensures ∙ sy
 
 pub returns-in-Number : goal.returns-in-Number
 returns-in-Number c =
-    let kind : kind_of c.args.lexeme.now ≡ Num c.in-Number.value = shape_number c.args.lexeme.now c.in-Number.value (c.requires.shape ∙ c.in-Number.is) in
+    let kind : kind_of_word c.args.lexeme.now ≡ Num c.in-Number.value = shape_number c.args.lexeme.now c.in-Number.value (c.requires.shape ∙ c.in-Number.is) in
     search (rules, kind)

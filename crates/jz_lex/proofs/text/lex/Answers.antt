@@ -1,5 +1,5 @@
 use Rattle.std.proofs.Common.{◌≡◌, ◌++◌, ◌∷◌, [], sym, ap, subst, arith, length, length-append}
-use Rattle.jz_lex.specs.LexingWords.{kind_of}
+use Rattle.jz_lex.specs.LexingWords.{kind_of_word}
 use Rattle.jz_lex.proofs.LexingFront.{split_is}
 use Rattle.jz_lex.proofs.Lexing.{Until, skipped_step, lexeme_here, lexeme_step, lexeme_length}
 use Rattle.jz_lex.proofs.text.lex.Goals as goal
@@ -29,10 +29,10 @@ loop-rest-preserved c =
     let u = lexeme_step c.args.text.now c.loop-rest.tokens c.loop-rest.span c.loop-rest.rest.now w more c.in-Lexeme.shape c.in-Lexeme.length c.loop-rest.invariant.0 c.in-Lexeme.ensures e c.split_at-in-Lexeme.ensures.front_len in
     let n : length c.loop-rest.rest.now ≡ length (w ++ more) = ap length e in
     let m = length-append w more in
-    let k : c.in_ok-kind-in-Lexeme.kind ≡ kind_of w = c.in_ok-kind-in-Lexeme.ensures in (
+    let k : c.in_ok-kind-in-Lexeme.kind ≡ kind_of_word w = c.in_ok-kind-in-Lexeme.ensures in (
       subst (λ z. Until c.args.text.now z c.after-span-in-Lexeme.result more) (sym c.in_ok-push-in-Lexeme.ensures.ok)
           (subst (λ z. Until c.args.text.now (c.loop-rest.tokens ++ record { kind = z; span = c.loop-rest.span } ∷ []) c.after-span-in-Lexeme.result more) (sym k)
-          (subst (λ z. Until c.args.text.now (c.loop-rest.tokens ++ record { kind = kind_of w; span = c.loop-rest.span } ∷ []) z more) (sym c.after-span-in-Lexeme.ensures.value) u)),
+          (subst (λ z. Until c.args.text.now (c.loop-rest.tokens ++ record { kind = kind_of_word w; span = c.loop-rest.span } ∷ []) z more) (sym c.after-span-in-Lexeme.ensures.value) u)),
       omega (arith, n, m, c.after-span-in-Lexeme.ensures.line, c.loop-rest.invariant.1),
       omega (arith, n, m, c.after-span-in-Lexeme.ensures.col, c.loop-rest.invariant.2),
     )

@@ -1,7 +1,7 @@
 use Rattle.std.proofs.Common.{◌≡◌, ◌++◌, [], ◌∷◌, ap, sym, ◌∙◌}
 use Rattle.std.proofs.lemmas.List.{map-append}
 use Rattle.jz_scopes.specs.Parts.{cells_in}
-use Rattle.jz_scopes.specs.Lent.{these, this, paired}
+use Rattle.jz_scopes.specs.Lent.{these, this, paired_lists}
 use Rattle.jz_scopes.specs.InnerLists.{own_cell}
 use Rattle.jz_scopes.proofs.Stacks.{one_turn, less_left}
 use Rattle.jz_scopes.proofs.exprs.cells.Goals as goal
@@ -19,5 +19,5 @@ pub loop-e-preserved : goal.loop-e-preserved
 loop-e-preserved c =
     let parts = c.take_apart-parts.result
     in rw (rested c, c.in_ok-add_cell.ensures)
-    (one_turn cells_in (paired c.loop-e.cells.items) (own_cell parts.var parts.first) (cells_in c.args.expr.now) (these c.pop.new.self.items) c.in-Some.e.now parts.first parts.second
+    (one_turn cells_in (paired_lists c.loop-e.cells.items) (own_cell parts.var parts.first) (cells_in c.args.expr.now) (these c.pop.new.self.items) c.in-Some.e.now parts.first parts.second
     (rw (sym (popped c)) c.loop-e.invariant) c.take_apart-parts.ensures.cells)

@@ -4,7 +4,7 @@ use Rattle.jz_scopes.specs.Tables.{place_in, function_in}
 use Rattle.jz_resolve.specs.Tables.{values_in}
 use Rattle.jz_resolve.specs.Numbering.{value_with}
 use Rattle.jz_kinds.specs.Lengths.{fun_lengths}
-use Rattle.jz_rules.specs.Exports.{misshapen, annotated}
+use Rattle.jz_rules.specs.Exports.{misshapen_places, annotated_places}
 use Rattle.jz_types.proofs.Joins.{first_more}
 use Rattle.jz_types.proofs.functions.text_of_functions.Goals as goal
 
@@ -24,6 +24,6 @@ loop-fun-preserved c =
       first_more (unknown_with places functions) funs i fun first.unknown _ _ _ within is c.in_ok-unknown.ensures c.earlier_of.ensures.is held.0,
       first_more repeated_in_fun funs i fun first.repeated _ _ _ within is c.in_ok-repeated.ensures c.earlier_of-in-loop-fun.ensures.is held.1,
       first_more (fun_lengths places length) funs i fun first.mismatched _ _ _ within is c.in_ok-mismatched.ensures c.earlier_of-in-loop-fun-2.ensures.is held.2,
-      first_more annotated funs i fun first.annotated _ _ _ within is c.annotated.ensures c.earlier_of-in-loop-fun-3.ensures.is held.3,
-      first_more misshapen funs i fun first.misshapen _ _ _ within is c.misshapen.ensures c.earlier_of-in-loop-fun-4.ensures.is held.4,
+      first_more annotated_places funs i fun first.annotated _ _ _ within is c.annotated.ensures c.earlier_of-in-loop-fun-3.ensures.is held.3,
+      first_more misshapen_places funs i fun first.misshapen _ _ _ within is c.misshapen.ensures c.earlier_of-in-loop-fun-4.ensures.is held.4,
     )

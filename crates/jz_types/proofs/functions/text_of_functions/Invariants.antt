@@ -6,7 +6,7 @@ use Rattle.jz_scopes.specs.Tables.{place_in, function_in}
 use Rattle.jz_resolve.specs.Tables.{values_in}
 use Rattle.jz_resolve.specs.Numbering.{value_with}
 use Rattle.jz_kinds.specs.Lengths.{fun_lengths}
-use Rattle.jz_rules.specs.Exports.{misshapen, annotated}
+use Rattle.jz_rules.specs.Exports.{misshapen_places, annotated_places}
 use Rattle.jz_types.proofs.functions.text_of_functions.Given as goal
 
 abbrev pub invariant-loop-fun : goal.invariant-loop-fun
@@ -20,5 +20,5 @@ invariant-loop-fun l =
     ≡ first_in (unknown_with places functions) all)
     × (earlier l.first.repeated (first_in repeated_in_fun rest) ≡ first_in repeated_in_fun all)
     × (earlier l.first.mismatched (first_in (fun_lengths places length) rest) ≡ first_in (fun_lengths places length) all)
-    × (earlier l.first.annotated (first_in annotated rest) ≡ first_in annotated all)
-    × (earlier l.first.misshapen (first_in misshapen rest) ≡ first_in misshapen all)
+    × (earlier l.first.annotated (first_in annotated_places rest) ≡ first_in annotated_places all)
+    × (earlier l.first.misshapen (first_in misshapen_places rest) ≡ first_in misshapen_places all)
