@@ -8,13 +8,13 @@ use Rattle.x64_insn.specs.declared.types.Insn.{Insn}
 use Rattle.x64_insn.specs.declared.types.Insn.TheVariants as insn
 use Rattle.x64_insn.specs.Chosen.{chosen_bytes}
 use Rattle.x64_insn.proofs.RegisterBytes.{alu_reg_few, mov_reg_few, alu_imm_few, mov_imm_few, ret_few}
-use Rattle.jz_first_tree.specs.declared.Fun.{Fun}
-use Rattle.jz_first_tree.specs.declared.Expr.TheVariants as expr
-use Rattle.jz_first_tree.specs.declared.Lval.TheVariants as lval
-use Rattle.jz_first_tree.specs.declared.Rhs.TheVariants as rhs
-use Rattle.jz_first_tree.specs.declared.Stmt.{Stmt}
-use Rattle.jz_first_tree.specs.declared.StmtKind.{StmtKind}
-use Rattle.jz_first_tree.specs.declared.StmtKind.TheVariants as kind
+use Rattle.jz_first.specs.declared.tree.Fun.{Fun}
+use Rattle.jz_first.specs.declared.tree.Expr.TheVariants as expr
+use Rattle.jz_first.specs.declared.tree.Lval.TheVariants as lval
+use Rattle.jz_first.specs.declared.tree.Rhs.TheVariants as rhs
+use Rattle.jz_first.specs.declared.tree.Stmt.{Stmt}
+use Rattle.jz_first.specs.declared.tree.StmtKind.{StmtKind}
+use Rattle.jz_first.specs.declared.tree.StmtKind.TheVariants as kind
 use Rattle.jz_correct.specs.Assembled.{assembled}
 use Rattle.jz_lower.specs.Lowering.{insns_of, kind_insns}
 use Rattle.jz_pipeline.specs.Compiling.{code_insns, compiled_of}

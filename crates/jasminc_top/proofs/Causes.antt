@@ -2,23 +2,23 @@
 use Rattle.std.proofs.Common.{◌≡◌, ℕ, ◌<◌, ◌≤◌, List, length, ◌∙◌, arith, subst, ap, sym}
 use Rattle.jz_lex.specs.declared.token.Token.{Token}
 use Rattle.jz_lex.specs.declared.token.LexFault.{LexFault}
-use Rattle.jz_cursor.specs.declared.fault.SyntaxFault.{SyntaxFault}
-use Rattle.jz_first_types.specs.declared.fault.TypeFault.{TypeFault}
-use Rattle.jz_first_tree.specs.declared.Program.{Program}
+use Rattle.jz_grammar.specs.declared.fault.SyntaxFault.{SyntaxFault}
+use Rattle.jz_first.specs.declared.fault.TypeFault.{TypeFault}
+use Rattle.jz_first.specs.declared.tree.Program.{Program}
 use Rattle.jasminc_top.specs.declared.refusal.Refusal.TheVariants.{Usage, ReadFault, Source, Lex, Parse, Typing, NoFunction, Limit, Alarm, NoPlace, Items}
 use Rattle.jz_lex.specs.Lexing.{IsLexed, HasNoToken}
-use Rattle.jz_first_parse.specs.Deriving.{DerivesProgram, IsUnexpected}
-use Rattle.jz_first_parse.specs.Reading.{Reads, LexFails, ParseFails}
-use Rattle.jz_first_types.specs.Rules.{IsTyped, faults_of}
-use Rattle.jz_first_types.specs.Resolving.{resolved_program}
+use Rattle.jz_first.specs.Deriving.{DerivesProgram, IsUnexpected}
+use Rattle.jz_first.specs.Reading.{Reads, LexFails, ParseFails}
+use Rattle.jz_first.specs.Rules.{IsTyped, faults_of}
+use Rattle.jz_first.specs.Resolving.{resolved_program}
 use Rattle.jz_pipeline.specs.Limits.{IsFirstLimit}
 use Rattle.jz_safety.specs.Alarms.{IsFirstAlarm}
 use Rattle.jz_pipeline.specs.Placed.{IsUnplaced}
 use Rattle.jasminc_top.specs.Making.{TypesAs}
 use Rattle.jasminc_top.specs.Answers.{source_limit, TextCause, ExecCause, FailsTyping, HasFirst, HasNoFunction, HasOtherItems, Clear}
 use Rattle.jz_lex.proofs.LexingUnique.{one_lexing, lexed_or_refused}
-use Rattle.jz_first_parse.proofs.Faults.{one_program_law, no_fault_law}
-use Rattle.jz_first_types.proofs.FirstLemmas.{no_first}
+use Rattle.jz_first.proofs.Faults.{one_program_law, no_fault_law}
+use Rattle.jz_first.proofs.FirstLemmas.{no_first}
 
 -- ---- a text reads as one program
 pub reads_from : (text : List ℕ) (tokens : List Token) (p : Program) → IsLexed text tokens → DerivesProgram tokens p → Reads text p

@@ -8,15 +8,15 @@ use Rattle.x64_insn.specs.declared.types.Insn.TheVariants as insn
 use Rattle.jz_lex.specs.LexingWords.{in_word}
 use Rattle.jz_lex.specs.Identifiers.{IsIdentifier}
 use Rattle.jz_lex.proofs.Identifiers.{identifier_bytes, byte_code}
-use Rattle.jz_first_tree.specs.declared.Program.{Program}
-use Rattle.jz_first_tree.specs.declared.Fun.{Fun}
-use Rattle.jz_first_tree.specs.declared.Var.{Var}
-use Rattle.jz_first_tree.specs.declared.Stmt.{Stmt}
-use Rattle.jz_first_tree.specs.Variables.{variables_of}
-use Rattle.jz_first_parse.specs.Reading.{Reads}
-use Rattle.jz_first_parse.specs.Derived.{HasNames}
-use Rattle.jz_first_parse.proofs.Declaring.{names_identified}
-use Rattle.jz_first_types.specs.Resolving.{resolved_program, resolved_fun, resolved_var, declaration_in}
+use Rattle.jz_first.specs.declared.tree.Program.{Program}
+use Rattle.jz_first.specs.declared.tree.Fun.{Fun}
+use Rattle.jz_first.specs.declared.tree.Var.{Var}
+use Rattle.jz_first.specs.declared.tree.Stmt.{Stmt}
+use Rattle.jz_first.specs.Variables.{variables_of}
+use Rattle.jz_first.specs.Reading.{Reads}
+use Rattle.jz_first.specs.Derived.{HasNames}
+use Rattle.jz_first.proofs.Declaring.{names_identified}
+use Rattle.jz_first.specs.Resolving.{resolved_program, resolved_fun, resolved_var, declaration_in}
 use Rattle.jz_pipeline.specs.Limits.{IsWithinLimits}
 use Rattle.jz_safety.specs.Alarms.{HasNoAlarm}
 use Rattle.jz_leak.specs.declared.transformer.Case.TheVariants as case

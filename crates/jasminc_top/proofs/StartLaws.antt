@@ -16,12 +16,12 @@ use Rattle.x64_insn.specs.declared.types.State.{State}
 use Rattle.x64_insn.specs.declared.types.Insn.TheVariants as insn
 use Rattle.x64_insn.specs.Table.{number_of}
 use Rattle.x64_insn.specs.Rows.{reg_value}
-use Rattle.jz_first_tree.specs.declared.Program.{Program}
-use Rattle.jz_first_tree.specs.declared.Fun.{Fun}
-use Rattle.jz_first_tree.specs.declared.Var.{Var}
-use Rattle.jz_first_tree.specs.declared.Stmt.{Stmt}
-use Rattle.jz_first_tree.specs.declared.StmtKind.{StmtKind}
-use Rattle.jz_first_tree.specs.declared.StmtKind.TheVariants as kind
+use Rattle.jz_first.specs.declared.tree.Program.{Program}
+use Rattle.jz_first.specs.declared.tree.Fun.{Fun}
+use Rattle.jz_first.specs.declared.tree.Var.{Var}
+use Rattle.jz_first.specs.declared.tree.Stmt.{Stmt}
+use Rattle.jz_first.specs.declared.tree.StmtKind.{StmtKind}
+use Rattle.jz_first.specs.declared.tree.StmtKind.TheVariants as kind
 use Rattle.jz_first_meaning.specs.SourceRuns.{FunOutcome, IsRun}
 use Rattle.jz_safety.specs.Alarms.{HasNoAlarm}
 use Rattle.jz_safety.specs.Resolved.{IsResolved}

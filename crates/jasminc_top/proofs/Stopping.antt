@@ -7,13 +7,13 @@ use Rattle.jz_data.specs.Failures.{IfRefused}
 use Rattle.jz_lex.specs.declared.token.Token.{Token}
 use Rattle.jz_lex.specs.declared.token.LexFault.{LexFault}
 use Rattle.jz_lex.specs.Lexing.{IsLexed, HasNoToken}
-use Rattle.jz_cursor.specs.declared.fault.SyntaxFault.{SyntaxFault}
-use Rattle.jz_first_parse.specs.Deriving.{IsUnexpected}
-use Rattle.jz_first_parse.specs.Reading.{Reads}
-use Rattle.jz_first_tree.specs.declared.Program.{Program}
-use Rattle.jz_first_tree.specs.declared.Fun.{Fun}
-use Rattle.jz_first_types.specs.declared.fault.TypeFault.{TypeFault}
-use Rattle.jz_first_types.specs.Rules.{IsFirstTypeFault}
+use Rattle.jz_grammar.specs.declared.fault.SyntaxFault.{SyntaxFault}
+use Rattle.jz_first.specs.Deriving.{IsUnexpected}
+use Rattle.jz_first.specs.Reading.{Reads}
+use Rattle.jz_first.specs.declared.tree.Program.{Program}
+use Rattle.jz_first.specs.declared.tree.Fun.{Fun}
+use Rattle.jz_first.specs.declared.fault.TypeFault.{TypeFault}
+use Rattle.jz_first.specs.Rules.{IsFirstTypeFault}
 use Rattle.jz_safety.specs.Alarms.{HasNoAlarm}
 use Rattle.jz_safety.specs.declared.alarm.Alarm as safety
 use Rattle.jz_pipeline.specs.Limits.{IsWithinLimits}

@@ -4,18 +4,18 @@ use Rattle.std.specs.Prelude.{All, Contains, map}
 use Rattle.std.specs.Str.{bytes_eq}
 use Rattle.std.proofs.lemmas.List.Elements.{All-nil, All-cons, All-head, All-tail, All-contains, Contains-append_left, Contains-append_right}
 use Rattle.jz_lex.specs.declared.token.Token.{Token}
-use Rattle.jz_first_tree.specs.declared.Program.{Program}
-use Rattle.jz_first_tree.specs.declared.Fun.{Fun}
-use Rattle.jz_first_tree.specs.Assignments.{AssignsToOne}
-use Rattle.jz_first_parse.specs.Deriving.{DerivesProgram}
-use Rattle.jz_first_parse.specs.Reading.{Reads}
-use Rattle.jz_first_parse.specs.Derived.{DeclaresWords}
-use Rattle.jz_first_parse.proofs.Assigning.{statements_one}
-use Rattle.jz_first_parse.proofs.Declaring.{words_declared}
-use Rattle.jz_first_types.specs.Resolving.{resolved_program, resolved_fun}
-use Rattle.jz_first_types.specs.TypedPrograms.{HaveDifferentNames, HaveDeclarations, HaveCounts}
-use Rattle.jz_first_types.proofs.TypedLemmas as typed
-use Rattle.jz_first_types.proofs.ResolvedLemmas.{typed_resolved, resolved_stays}
+use Rattle.jz_first.specs.declared.tree.Program.{Program}
+use Rattle.jz_first.specs.declared.tree.Fun.{Fun}
+use Rattle.jz_first.specs.Assignments.{AssignsToOne}
+use Rattle.jz_first.specs.Deriving.{DerivesProgram}
+use Rattle.jz_first.specs.Reading.{Reads}
+use Rattle.jz_first.specs.Derived.{DeclaresWords}
+use Rattle.jz_first.proofs.Assigning.{statements_one}
+use Rattle.jz_first.proofs.Declaring.{words_declared}
+use Rattle.jz_first.specs.Resolving.{resolved_program, resolved_fun}
+use Rattle.jz_first.specs.TypedPrograms.{HaveDifferentNames, HaveDeclarations, HaveCounts}
+use Rattle.jz_first.proofs.TypedLemmas as typed
+use Rattle.jz_first.proofs.ResolvedLemmas.{typed_resolved, resolved_stays}
 use Rattle.jz_pipeline.specs.Limits.{IsWithinLimits}
 use Rattle.jz_safety.specs.Alarms.{HasNoAlarm}
 use Rattle.jz_safety.specs.Resolved.{IsResolved}

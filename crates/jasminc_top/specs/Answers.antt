@@ -4,11 +4,11 @@ use Rattle.std.specs.Prelude.{Option, Some, None, IsSome, ⊤, Result, Ok, Err}
 use Rattle.std.specs.Str.{bytes_eq}
 use Rattle.jz_io.specs.Causes.{Rose}
 use Rattle.jz_io.specs.Telling.{Telling, text_of, IsWhole}
-use Rattle.jz_first_parse.specs.Reading.{Reads, LexFails, ParseFails}
-use Rattle.jz_first_tree.specs.declared.Program.{Program}
-use Rattle.jz_first_tree.specs.declared.Fun.{Fun}
-use Rattle.jz_first_types.specs.Rules.{IsFirstTypeFault}
-use Rattle.jz_first_types.specs.declared.fault.TypeFault.{TypeFault}
+use Rattle.jz_first.specs.Reading.{Reads, LexFails, ParseFails}
+use Rattle.jz_first.specs.declared.tree.Program.{Program}
+use Rattle.jz_first.specs.declared.tree.Fun.{Fun}
+use Rattle.jz_first.specs.Rules.{IsFirstTypeFault}
+use Rattle.jz_first.specs.declared.fault.TypeFault.{TypeFault}
 use Rattle.jz_safety.specs.Alarms.{HasNoAlarm, IsFirstAlarm}
 use Rattle.jz_pipeline.specs.Limits.{IsWithinLimits, IsFirstLimit}
 use Rattle.jz_pipeline.specs.Placed.{IsUnplaced}

@@ -3,8 +3,8 @@ use Rattle.std.specs.Prelude.{◌≡◌, ◌≤◌, List, ℕ, Option, Some, Non
 use Rattle.std.specs.Io.KnownBytes.{Appends}
 use Rattle.std.specs.FinMap as map_of
 use Rattle.jz_words.specs.Memory.{Memory}
-use Rattle.jz_first_tree.specs.declared.Program.{Program}
-use Rattle.jz_first_tree.specs.declared.Fun.{Fun}
+use Rattle.jz_first.specs.declared.tree.Program.{Program}
+use Rattle.jz_first.specs.declared.tree.Fun.{Fun}
 use Rattle.jz_listing.specs.Listing.{listing_text}
 use Rattle.jz_listing.specs.declared.compiled.Compiled.{Compiled}
 use Rattle.jz_correct.specs.Ends.{EndsAfter}

@@ -9,13 +9,13 @@ use Rattle.x64_insn.specs.declared.types.Place.TheVariants as place
 use Rattle.jz_lex.specs.declared.token.LexKind.{LexKind}
 use Rattle.jz_lex.specs.declared.token.LexKind.TheVariants.{BadByte, BadNumber, OpenComment}
 use Rattle.jz_lex.specs.declared.token.LexFault.{LexFault}
-use Rattle.jz_cursor.specs.declared.fault.SyntaxKind.{SyntaxKind}
-use Rattle.jz_cursor.specs.declared.fault.SyntaxKind.TheVariants.{Unexpected, TooDeep}
-use Rattle.jz_cursor.specs.declared.fault.SyntaxFault.{SyntaxFault}
-use Rattle.jz_first_types.specs.declared.fault.TypeRule.{TypeRule}
-use Rattle.jz_first_types.specs.declared.fault.TypeRule.TheVariants as rule
-use Rattle.jz_first_types.specs.declared.fault.TypeFault.{TypeFault}
-use Rattle.jz_first_types.specs.Faults.{rule_number}
+use Rattle.jz_grammar.specs.declared.fault.SyntaxKind.{SyntaxKind}
+use Rattle.jz_grammar.specs.declared.fault.SyntaxKind.TheVariants.{Unexpected, TooDeep}
+use Rattle.jz_grammar.specs.declared.fault.SyntaxFault.{SyntaxFault}
+use Rattle.jz_first.specs.declared.fault.TypeRule.{TypeRule}
+use Rattle.jz_first.specs.declared.fault.TypeRule.TheVariants as rule
+use Rattle.jz_first.specs.declared.fault.TypeFault.{TypeFault}
+use Rattle.jz_first.specs.Faults.{rule_number}
 use Rattle.jz_pipeline.specs.declared.limits.LimitKind.{LimitKind}
 use Rattle.jz_pipeline.specs.declared.limits.LimitKind.TheVariants.{Expand, ImmRange}
 use Rattle.jz_pipeline.specs.declared.limits.Limit.{Limit}

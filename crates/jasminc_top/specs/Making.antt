@@ -1,12 +1,12 @@
 -- The program of a text, and what is made of it.
 use Rattle.std.specs.Prelude.{◌≡◌, ℕ, List, All}
-use Rattle.jz_first_tree.specs.declared.Program.{Program}
-use Rattle.jz_first_tree.specs.declared.Fun.{Fun}
-use Rattle.jz_first_tree.specs.Assignments.{AssignsToOne}
-use Rattle.jz_first_parse.specs.Reading.{Reads}
-use Rattle.jz_first_parse.specs.Derived.{DeclaresWords}
-use Rattle.jz_first_types.specs.Rules.{IsTyped}
-use Rattle.jz_first_types.specs.Resolving.{resolved_program}
+use Rattle.jz_first.specs.declared.tree.Program.{Program}
+use Rattle.jz_first.specs.declared.tree.Fun.{Fun}
+use Rattle.jz_first.specs.Assignments.{AssignsToOne}
+use Rattle.jz_first.specs.Reading.{Reads}
+use Rattle.jz_first.specs.Derived.{DeclaresWords}
+use Rattle.jz_first.specs.Rules.{IsTyped}
+use Rattle.jz_first.specs.Resolving.{resolved_program}
 use Rattle.jz_pipeline.specs.Limits.{IsWithinLimits}
 use Rattle.jz_safety.specs.Alarms.{HasNoAlarm}
 use Rattle.jz_pipeline.specs.Placed.{AreCompiled}

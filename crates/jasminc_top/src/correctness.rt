@@ -1,8 +1,8 @@
 //! What the bytes that are made of a text owe to it.
 
 ghost use Rattle.std.specs.Prelude.{◌≡◌, ℕ, List, Some};
-ghost use Rattle.jz_first_tree.specs.declared.Program.{Program};
-ghost use Rattle.jz_first_tree.specs.declared.Fun.{Fun};
+ghost use Rattle.jz_first.specs.declared.tree.Program.{Program};
+ghost use Rattle.jz_first.specs.declared.tree.Fun.{Fun};
 ghost use Rattle.jz_listing.specs.declared.compiled.Compiled.{Compiled};
 ghost use Rattle.jz_listing.specs.Listable.{AreListable};
 ghost use Rattle.jz_listing.specs.Listing.{listing_text};

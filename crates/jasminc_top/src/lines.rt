@@ -9,10 +9,10 @@ ghost use Rattle.jasminc_top.specs.Lines.{place_text, need_text, holder_text};
 ghost use Rattle.jasminc_top.specs.Lines.{texts_or_dash, no_place_line};
 
 use jz_alloc::Needed;
-use jz_cursor::{SyntaxFault, SyntaxKind};
+use jz_grammar::{SyntaxFault, SyntaxKind};
 use jz_data::{Seq, Text};
 use jz_first_meaning::Reason;
-use jz_first_types::{TypeFault, TypeRule};
+use jz_first::{TypeFault, TypeRule};
 use jz_io::Span;
 use jz_lex::{LexFault, LexKind};
 use jz_listing::{reg_name, write_number, write_span};

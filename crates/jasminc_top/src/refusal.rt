@@ -6,9 +6,9 @@ ghost use Rattle.jasminc_top.specs.Refusals.{status_of, cause_text, line_of};
 use crate::lines::{
     write_alarm, write_lex_fault, write_limit, write_no_place, write_syntax_fault, write_type_fault,
 };
-use jz_cursor::SyntaxFault;
+use jz_grammar::SyntaxFault;
 use jz_data::Text;
-use jz_first_types::TypeFault;
+use jz_first::TypeFault;
 use jz_lex::LexFault;
 use jz_pipeline::{Limit, NoPlace};
 use jz_safety::Alarm;

@@ -6,22 +6,22 @@ use Rattle.jz_words.specs.Sizes.{bytes_of}
 use Rattle.x64_insn.specs.declared.types.Reg.{Reg}
 use Rattle.x64_insn.specs.declared.types.Insn.{Insn}
 use Rattle.x64_insn.specs.Encoding.{Spells}
-use Rattle.jz_first_tree.specs.declared.Program.{Program}
-use Rattle.jz_first_tree.specs.declared.Fun.{Fun}
-use Rattle.jz_first_tree.specs.declared.Param.{Param}
-use Rattle.jz_first_tree.specs.declared.Ret.{Ret}
-use Rattle.jz_first_tree.specs.declared.Decl.{Decl}
-use Rattle.jz_first_tree.specs.declared.Ty.TheVariants.{Word}
-use Rattle.jz_first_tree.specs.declared.Var.{Var}
-use Rattle.jz_first_tree.specs.declared.Expr.{Expr}
-use Rattle.jz_first_tree.specs.declared.Expr.TheVariants as expr
-use Rattle.jz_first_tree.specs.declared.Lval.{Lval}
-use Rattle.jz_first_tree.specs.declared.Lval.TheVariants as lval
-use Rattle.jz_first_tree.specs.declared.Rhs.{Rhs}
-use Rattle.jz_first_tree.specs.declared.Rhs.TheVariants as rhs
-use Rattle.jz_first_tree.specs.declared.Stmt.{Stmt}
-use Rattle.jz_first_tree.specs.declared.StmtKind.{StmtKind}
-use Rattle.jz_first_tree.specs.declared.StmtKind.TheVariants as kind
+use Rattle.jz_first.specs.declared.tree.Program.{Program}
+use Rattle.jz_first.specs.declared.tree.Fun.{Fun}
+use Rattle.jz_first.specs.declared.tree.Param.{Param}
+use Rattle.jz_first.specs.declared.tree.Ret.{Ret}
+use Rattle.jz_first.specs.declared.tree.Decl.{Decl}
+use Rattle.jz_first.specs.declared.tree.Ty.TheVariants.{Word}
+use Rattle.jz_first.specs.declared.tree.Var.{Var}
+use Rattle.jz_first.specs.declared.tree.Expr.{Expr}
+use Rattle.jz_first.specs.declared.tree.Expr.TheVariants as expr
+use Rattle.jz_first.specs.declared.tree.Lval.{Lval}
+use Rattle.jz_first.specs.declared.tree.Lval.TheVariants as lval
+use Rattle.jz_first.specs.declared.tree.Rhs.{Rhs}
+use Rattle.jz_first.specs.declared.tree.Rhs.TheVariants as rhs
+use Rattle.jz_first.specs.declared.tree.Stmt.{Stmt}
+use Rattle.jz_first.specs.declared.tree.StmtKind.{StmtKind}
+use Rattle.jz_first.specs.declared.tree.StmtKind.TheVariants as kind
 use Rattle.jz_leak.specs.declared.transformer.Form.{Form}
 use Rattle.jz_leak.specs.declared.transformer.Form.TheVariants as form
 use Rattle.jz_leak.specs.declared.transformer.Out.{Out}
@@ -29,7 +29,7 @@ use Rattle.jz_leak.specs.declared.transformer.Out.TheVariants as out
 use Rattle.jz_leak.specs.declared.transformer.Case.{Case}
 use Rattle.jz_leak.specs.declared.transformer.Case.TheVariants.{Op}
 use Rattle.jz_io.specs.declared.verdict.Ct.TheVariants.{Yes}
-use Rattle.jz_ct.specs.Labels.{IsConstantTime}
+use Rattle.jz_first_meaning.specs.Labels.{IsConstantTime}
 use Rattle.jz_listing.specs.declared.compiled.Arg.{Arg}
 use Rattle.jz_listing.specs.declared.compiled.Pre.{Pre}
 use Rattle.jz_listing.specs.declared.compiled.Compiled.{Compiled}

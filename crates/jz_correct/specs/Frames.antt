@@ -14,11 +14,11 @@ use Rattle.x64_insn.specs.declared.types.Operand.TheVariants as operand
 use Rattle.x64_insn.specs.declared.types.Insn.{Insn}
 use Rattle.x64_insn.specs.declared.types.Insn.TheVariants as insn
 use Rattle.x64_insn.specs.Table.{number_of}
-use Rattle.jz_first_tree.specs.declared.Storage.{Storage}
-use Rattle.jz_first_tree.specs.declared.Storage.TheVariants as storage
-use Rattle.jz_first_tree.specs.declared.Decl.{Decl}
-use Rattle.jz_first_tree.specs.declared.Var.{Var}
-use Rattle.jz_first_tree.specs.declared.Fun.{Fun}
+use Rattle.jz_first.specs.declared.tree.Storage.{Storage}
+use Rattle.jz_first.specs.declared.tree.Storage.TheVariants as storage
+use Rattle.jz_first.specs.declared.tree.Decl.{Decl}
+use Rattle.jz_first.specs.declared.tree.Var.{Var}
+use Rattle.jz_first.specs.declared.tree.Fun.{Fun}
 
 -- ---- the layout
 

@@ -4,7 +4,7 @@ use Rattle.std.specs.Str.{bytes_eq}
 use Rattle.jz_io.specs.declared.span.Span.{Span}
 use Rattle.jz_words.specs.declared.size.Size.{Size}
 use Rattle.jz_words.specs.Memory.{Memory}
-use Rattle.jz_first_tree.specs.declared.Var.{Var}
+use Rattle.jz_first.specs.declared.tree.Var.{Var}
 pub use Rattle.jz_first_meaning.specs.declared.reason.Reason.{Reason}
 pub use Rattle.jz_first_meaning.specs.declared.reason.Reason.TheVariants.{Bounds, Address, Align, Init, Divide}
 

@@ -1,9 +1,9 @@
 -- The value of an expression and the numbers that it leaks.
 use Rattle.std.specs.Prelude.{ℕ, List, [], ◌++◌, Option, Some, None, Result, Ok, Err}
 use Rattle.jz_io.specs.declared.span.Span.{Span}
-use Rattle.jz_first_tree.specs.declared.Var.{Var}
-use Rattle.jz_first_tree.specs.declared.Expr.{Expr}
-use Rattle.jz_first_tree.specs.declared.Expr.TheVariants as expr
+use Rattle.jz_first.specs.declared.tree.Var.{Var}
+use Rattle.jz_first.specs.declared.tree.Expr.{Expr}
+use Rattle.jz_first.specs.declared.tree.Expr.TheVariants as expr
 use Rattle.jz_runs.specs.Rules.{Attempt, stuck, went}
 use Rattle.jz_first_meaning.specs.SourceStates.{Value, integer, key_of, Store, State, Reason, Init, Why}
 

@@ -1,6 +1,6 @@
 //! Functions after expansion.
 
-use jz_first_tree::Fun;
+use jz_first::Fun;
 
 /// A function after expansion, and how many statements it has.
 #[derive(Drop)]

@@ -2,8 +2,8 @@
 
 ghost use Rattle.std.specs.Prelude.{ℕ, List};
 ghost use Rattle.jz_words.specs.Memory.{Memory};
-ghost use Rattle.jz_first_tree.specs.declared.Program.{Program};
-ghost use Rattle.jz_first_tree.specs.declared.Fun.{Fun};
+ghost use Rattle.jz_first.specs.declared.tree.Program.{Program};
+ghost use Rattle.jz_first.specs.declared.tree.Fun.{Fun};
 ghost use Rattle.jz_runs.specs.Rules.{Goes};
 ghost use Rattle.jz_runs.specs.Laws.{AtLeastOne, AtMostOne, StaysWithMore};
 ghost use Rattle.jz_first_meaning.specs.SourceStates.{State};

@@ -1,9 +1,9 @@
 //! What holds of every run of statements without branches, loops and calls.
 
 ghost use Rattle.std.specs.Prelude.{◌≡◌, length, Ok};
-ghost use Rattle.jz_first_tree.specs.declared.Program.{Program};
-ghost use Rattle.jz_first_tree.specs.declared.Fun.{Fun};
-ghost use Rattle.jz_first_tree.specs.declared.Expr.{Expr};
+ghost use Rattle.jz_first.specs.declared.tree.Program.{Program};
+ghost use Rattle.jz_first.specs.declared.tree.Fun.{Fun};
+ghost use Rattle.jz_first.specs.declared.tree.Expr.{Expr};
 ghost use Rattle.jz_first_meaning.specs.SourceStates.{State, Value};
 ghost use Rattle.jz_first_meaning.specs.SourceValues.{expression_value, numbers_of};
 ghost use Rattle.jz_first_meaning.specs.SourceRuns.{EachRun};

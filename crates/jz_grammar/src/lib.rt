@@ -1,4 +1,13 @@
 //! Grammars and readers: which lists of tokens stand for which values, how tokens are read from the
 //! left, and what joins them. There is no code here; the crate of the parser gives the readers as
 //! functions.
+//! The tokens that are still to be read, what each one tells, and the faults of a list of tokens.
 #![tactic(auto)]
+
+mod cursor;
+mod fault;
+mod kinds;
+
+pub use cursor::{Cursor, Stop, UNEXPECTED};
+pub use fault::{SyntaxFault, SyntaxKind, fault_at};
+pub use kinds::{has_text, is_sign, is_word};

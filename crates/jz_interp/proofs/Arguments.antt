@@ -3,7 +3,7 @@ use Rattle.std.proofs.Common.{◌≡◌, ℕ, suc, ◌+◌, ◌<◌, ◌≤◌, 
 use Rattle.std.specs.Prelude.{◌↔◌, map, slice_get}
 use Rattle.std.specs.List.{AllZip}
 use Rattle.std.proofs.lemmas.List.{drop_all}
-use Rattle.jz_passing.proofs.RestLemmas.{rest_at, rest_some, rest_none}
+use Rattle.jz_run_assign.proofs.RestLemmas.{rest_at, rest_some, rest_none}
 
 module _ {X Y Z : Type 0} (R : X → Z → Type 0) (v : Y → Z) (xs : List X) (ys : List Y) (i : ℕ)
     (so : AllZip R (drop i xs) (map v (drop i ys)) ↔ AllZip R xs (map v ys)) where

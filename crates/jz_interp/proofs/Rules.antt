@@ -38,7 +38,7 @@ use Rattle.jz_interp.specs.declared.ends.Ran.TheVariants as ran_as
 use Rattle.jz_interp.specs.declared.ends.TurnEnd.{TurnEnd}
 use Rattle.jz_interp.specs.declared.ends.RoundsEnd.{RoundsEnd}
 use Rattle.jz_interp.specs.Ends.{seen_outcome, turn_seen, rounds_seen, wrapped_run}
-use Rattle.jz_passing.proofs.RestLemmas.{rest_at}
+use Rattle.jz_run_assign.proofs.RestLemmas.{rest_at}
 use Rattle.jz_interp.proofs.Pieces.{mark_is}
 use Rattle.jz_interp.proofs.Steps.{op_leads, op_stuck, quiet_leads, runs_whole, if_leads, if_stuck, loop_leads, each_leads, each_stuck, call_leads, enter_stuck, prologue_is_stuck, prologue_is_cut, test_is_stuck, test_is_false, turn_is_wanted, body_is_stuck, body_is_cut, body_is_over, next_turn, last_turn, cut_turn, stuck_turn, next_count, counted_all, cut_in_count, stuck_in_count, next_passed, whole_passed, cut_passed, stuck_passed}
 

@@ -23,7 +23,7 @@ use Rattle.jz_interp.specs.declared.outcome.Outcome as code
 use Rattle.jz_interp.specs.declared.outcome.Outcome.TheVariants as outcome
 use Rattle.jz_interp.specs.Outcomes.{values_of, Takes, Shows, Interprets}
 use Rattle.jz_interp.specs.Answers.{values_first, BodyShows}
-use Rattle.jz_passing.proofs.RestLemmas.{rest_at, rest_some, rest_none}
+use Rattle.jz_run_assign.proofs.RestLemmas.{rest_at, rest_some, rest_none}
 use Rattle.jz_interp.proofs.Steps.{ended, was_cut, was_stuck, runs_whole}
 
 -- ---- arguments

@@ -7,7 +7,7 @@ use Rattle.jz_runs.specs.Trees.{done, loop}
 use Rattle.jz_meaning.specs.Statements.{Block, Operation, assign, instruction, Condition, Counter}
 use Rattle.jz_meaning.specs.Runs.{Callees, callees_of, block}
 use Rattle.jz_meaning.specs.Runs.{assign_tree, call_tree, instruction_tree}
-use Rattle.jz_assign.specs.declared.assigning.Assignment.{Assignment}
+use Rattle.jz_run_assign.specs.declared.assigning.Assignment.{Assignment}
 use Rattle.jz_interp.specs.declared.code.Code.{Code}
 use Rattle.jz_interp.specs.declared.parts.Test.{Test}
 use Rattle.jz_interp.specs.declared.parts.Counter as borrowed

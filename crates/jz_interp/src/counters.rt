@@ -9,7 +9,7 @@ ghost use Rattle.jz_interp.specs.Rounds.{values_left, GivesValues};
 use crate::parts::Counter;
 use jz_data::{Failure, Seq};
 use jz_meaning::{State, Stuck};
-use jz_passing::number_in;
+use jz_run_assign::number_in;
 
 /// The values that a counter has yet to take: from the next one on, upwards or downwards, up to the
 /// bound, which is left out.

@@ -11,7 +11,7 @@ use crate::code::Code;
 use crate::ends::Ran;
 use crate::outcome::Outcome;
 use crate::running::run_block;
-use jz_assign::{set, value_of};
+use jz_run_assign::{set, value_of};
 use jz_data::{Failure, Seq};
 use jz_leak::{Leak, MemMap};
 use jz_meaning::{State, Store, Stuck, Value, Why};

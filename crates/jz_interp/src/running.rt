@@ -3,7 +3,7 @@
 
 ghost use Rattle.jz_runs.specs.Trees as tree;
 ghost use Rattle.jz_meaning.specs.Runs.{block, statement_tree};
-ghost use Rattle.jz_passing.specs.Answers.{call_of};
+ghost use Rattle.jz_run_assign.specs.Passings.{call_of};
 ghost use Rattle.jz_interp.specs.Parts.{callees_in, condition_of, counter_of};
 ghost use Rattle.jz_interp.specs.Parts.{assignment_tree, named_call_tree, while_tree};
 ghost use Rattle.jz_interp.specs.Parts.{inner_block, body_piece, inner_body};
@@ -16,11 +16,11 @@ use crate::counters::{Values, counter_values};
 use crate::ends::{Ran, RoundsEnd, TurnEnd, end_of_if, one, turn};
 use crate::parts::{Counter, Named, Test};
 use crate::straight::{run_instruction, run_value};
-use jz_assign::{Assignment, missing, set, truth_in, value_of};
+use jz_run_assign::{Assignment, missing, set, truth_in, value_of};
 use jz_data::{Failure, Seq};
 use jz_leak::{Item, Leak};
 use jz_meaning::{State, Stuck, Value};
-use jz_passing::{Call, enter, leave, unset_all};
+use jz_run_assign::{Call, enter, leave, unset_all};
 use jz_tree::{Rhs, Stmt, StmtKind, Var};
 use std::mem::replace;
 

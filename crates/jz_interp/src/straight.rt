@@ -7,9 +7,9 @@ ghost use Rattle.jz_interp.specs.Ends.{RunsPiece};
 
 use crate::ends::{Ran, one};
 use crate::parts::Named;
-use jz_assign::{Assignment, assign, missing};
+use jz_run_assign::{Assignment, assign, missing};
 use jz_data::{Failure, Seq};
-use jz_instructions::instruct;
+use jz_run_instruct::instruct;
 use jz_leak::Item;
 use jz_meaning::{State, Stuck};
 use jz_tree::{Expr, Lval};

@@ -2,8 +2,8 @@
 use Rattle.std.proofs.Common.{◌≡◌, Bool, true, false, [], Some, None}
 use Rattle.std.specs.Prelude.{is_some}
 use Rattle.jz_words.specs.declared.size.Size.{Size}
-use Rattle.jz_kinds.specs.declared.wants.Want.TheVariants as want
-use Rattle.jz_kinds.specs.Typings.{Typing}
+use Rattle.jz_type_sizes.specs.declared.wants.Want.TheVariants as want
+use Rattle.jz_type_sizes.specs.Typings.{Typing}
 use Rattle.jz_judgement.specs.Places.{Place, TakesNumber}
 use Rattle.jz_judgement.specs.Agreement.{want_of}
 

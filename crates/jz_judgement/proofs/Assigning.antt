@@ -7,13 +7,13 @@ use Rattle.jz_words.specs.declared.size.Size.{Size}
 use Rattle.jz_tree.specs.declared.expr.BinOp.{BinOp}
 use Rattle.jz_tree.specs.declared.expr.Expr.{Expr}
 use Rattle.jz_tree.specs.declared.stmt.Lval.{Lval}
-use Rattle.jz_scopes.specs.Order.{unless}
-use Rattle.jz_scopes.specs.Parts.{span_of}
-use Rattle.jz_kinds.specs.declared.wants.Want.TheVariants as want
-use Rattle.jz_kinds.specs.Wants.{or_size, own_size}
-use Rattle.jz_kinds.specs.Typings.{Typing}
-use Rattle.jz_kinds.specs.Sides.{left_form, within, any_size, takes}
-use Rattle.jz_kinds.specs.Values.{value_typing, single, is_product, product_size, product_of, with_flag, value_wrong}
+use Rattle.jz_type_names.specs.Order.{unless}
+use Rattle.jz_type_names.specs.Parts.{span_of}
+use Rattle.jz_type_sizes.specs.declared.wants.Want.TheVariants as want
+use Rattle.jz_type_sizes.specs.Wants.{or_size, own_size}
+use Rattle.jz_type_sizes.specs.Typings.{Typing}
+use Rattle.jz_type_sizes.specs.Sides.{left_form, within, any_size, takes}
+use Rattle.jz_type_sizes.specs.Values.{value_typing, single, is_product, product_size, product_of, with_flag, value_wrong}
 use Rattle.jz_judgement.specs.Places.{word, unsized}
 use Rattle.jz_judgement.specs.HasType.{Term, Says}
 use Rattle.jz_judgement.specs.Lefts as lefts

@@ -20,23 +20,23 @@ use Rattle.jz_tree.specs.declared.program.Fun.{Fun}
 use Rattle.jz_tree.specs.declared.program.Param.{Param}
 use Rattle.jz_tree.specs.declared.program.Ret.{Ret}
 use Rattle.jz_tree.specs.declared.program.Program.{Program}
-use Rattle.jz_scopes.specs.declared.kinds.Kind.{Kind}
-use Rattle.jz_scopes.specs.declared.kinds.Kind.TheVariants as kind
-use Rattle.jz_scopes.specs.Order.{unless}
-use Rattle.jz_scopes.specs.Kinds.{known_of, is_inline_int, kind_of, array_of, whole_array}
-use Rattle.jz_scopes.specs.Scopes.{name_of}
-use Rattle.jz_scopes.specs.Parts.{Layer, layer_of, span_of, statements_of}
-use Rattle.jz_kinds.specs.declared.signatures.Role.{Role}
-use Rattle.jz_kinds.specs.declared.signatures.Role.TheVariants as role
-use Rattle.jz_kinds.specs.declared.wants.Want.TheVariants as want
-use Rattle.jz_kinds.specs.Wants.{or_size}
-use Rattle.jz_kinds.specs.Firsts.{wrong_beside}
-use Rattle.jz_kinds.specs.Typings.{typing}
-use Rattle.jz_kinds.specs.Sides.{left_form, is_skip, within, any_size, takes}
-use Rattle.jz_kinds.specs.Signatures.{Signature, signature}
-use Rattle.jz_kinds.specs.Intrinsics.{role_want, role_size, value_size, result_size, argument_size, size_of_intrinsic, argument_wrong, result_wrong, none_more, are_counted, intrinsic_wrong}
-use Rattle.jz_kinds.specs.Calls.{is_declared, is_that_array, passed_as, passed_by, passed_wrong, takes_kind, takes_result, given_wrong, is_callee, fits_call, call_wrong, returned_one, none_beyond, returned_wrong}
-use Rattle.jz_kinds.specs.Mismatches.{Named, right_wrong, condition_wrong, mismatched_with, callee_from, callee_where, stmt_wrong, body_wrong, among, mismatched_declared}
+use Rattle.jz_type_names.specs.declared.kinds.Kind.{Kind}
+use Rattle.jz_type_names.specs.declared.kinds.Kind.TheVariants as kind
+use Rattle.jz_type_names.specs.Order.{unless}
+use Rattle.jz_type_names.specs.Kinds.{known_of, is_inline_int, kind_of, array_of, whole_array}
+use Rattle.jz_type_names.specs.Scopes.{name_of}
+use Rattle.jz_type_names.specs.Parts.{Layer, layer_of, span_of, statements_of}
+use Rattle.jz_type_sizes.specs.declared.signatures.Role.{Role}
+use Rattle.jz_type_sizes.specs.declared.signatures.Role.TheVariants as role
+use Rattle.jz_type_sizes.specs.declared.wants.Want.TheVariants as want
+use Rattle.jz_type_sizes.specs.Wants.{or_size}
+use Rattle.jz_type_sizes.specs.Firsts.{wrong_beside}
+use Rattle.jz_type_sizes.specs.Typings.{typing}
+use Rattle.jz_type_sizes.specs.Sides.{left_form, is_skip, within, any_size, takes}
+use Rattle.jz_type_sizes.specs.Signatures.{Signature, signature}
+use Rattle.jz_type_sizes.specs.Intrinsics.{role_want, role_size, value_size, result_size, argument_size, size_of_intrinsic, argument_wrong, result_wrong, none_more, are_counted, intrinsic_wrong}
+use Rattle.jz_type_sizes.specs.Calls.{is_declared, is_that_array, passed_as, passed_by, passed_wrong, takes_kind, takes_result, given_wrong, is_callee, fits_call, call_wrong, returned_one, none_beyond, returned_wrong}
+use Rattle.jz_type_sizes.specs.Mismatches.{Named, right_wrong, condition_wrong, mismatched_with, callee_from, callee_where, stmt_wrong, body_wrong, among, mismatched_declared}
 use Rattle.jz_judgement.specs.Places.{integer, truth, word}
 use Rattle.jz_judgement.specs.Lefts as lefts
 use Rattle.jz_judgement.specs.Lefts.{Holds, Leaves, IsSound, IsFlag, Values}

@@ -13,9 +13,9 @@ use Rattle.jz_tree.specs.declared.expr.Var.{Var}
 use Rattle.jz_tree.specs.declared.expr.Expr.TheOpen.{Expr-F}
 use Rattle.jz_tree.specs.declared.expr.Expr.TheViews.{roll-Expr, out-roll-Expr}
 use Rattle.jz_tree.specs.declared.stmt.Lval.TheVariants as lval
-use Rattle.jz_scopes.specs.declared.kinds.Kind.{Kind}
-use Rattle.jz_scopes.specs.declared.kinds.Kind.TheVariants as kind
-use Rattle.jz_scopes.specs.Kinds.{Known, known_of}
+use Rattle.jz_type_names.specs.declared.kinds.Kind.{Kind}
+use Rattle.jz_type_names.specs.declared.kinds.Kind.TheVariants as kind
+use Rattle.jz_type_names.specs.Kinds.{Known, known_of}
 use Rattle.jz_judgement.specs.Places.{Place, integer, truth, word, unsized, Goes, IsWordOf}
 use Rattle.jz_judgement.specs.HasType.{Layer, value, Says, LayerSays, HasType, Types, expression, number, variable, operation, carry, words}
 use Rattle.jz_judgement.specs.Lefts as lefts

@@ -12,10 +12,10 @@ use Rattle.jz_tree.specs.declared.expr.Var.{Var}
 use Rattle.jz_tree.specs.declared.expr.Expr.TheOpen.{Expr-F, Ty-F, Access-F, Decl-F, Var-F}
 use Rattle.jz_tree.specs.declared.expr.Expr.TheViews.{out-Expr, out-roll-Expr, roll-Expr, out-roll-Ty, roll-Ty, out-Access, roll-Access, roll-Decl, out-Var, out-roll-Var, roll-Var}
 use Rattle.jz_tree.specs.declared.expr.Expr.TheFolds.{fold-Ty, fold-Access, fold-Decl, fold-Var, fold-roll-Expr, fold-roll-Ty, fold-roll-Access, fold-roll-Decl, fold-roll-Var, ind-Expr, map-Expr, map-Ty, map-Access, map-Decl, map-Var}
-use Rattle.jz_scopes.specs.declared.kinds.Kind.{Kind}
-use Rattle.jz_scopes.specs.declared.kinds.Declared.{Declared}
-use Rattle.jz_scopes.specs.Kinds.{Known, kind_step, declared_step, known_step, inline_step, is_inline, kind_of, declared_of, known_of}
-use Rattle.jz_kinds.specs.Typings.{Typing, typing, typing_of_access, typing_step, access_typing}
+use Rattle.jz_type_names.specs.declared.kinds.Kind.{Kind}
+use Rattle.jz_type_names.specs.declared.kinds.Declared.{Declared}
+use Rattle.jz_type_names.specs.Kinds.{Known, kind_step, declared_step, known_step, inline_step, is_inline, kind_of, declared_of, known_of}
+use Rattle.jz_type_sizes.specs.Typings.{Typing, typing, typing_of_access, typing_step, access_typing}
 use Rattle.jz_judgement.specs.Places.{Place}
 use Rattle.jz_judgement.specs.HasType as judged
 use Rattle.jz_judgement.specs.HasType.{Layer, AccessLayer, Term, value, Says, LayerSays, HasType, Types, Accesses}

@@ -8,14 +8,14 @@ use Rattle.jz_tree.specs.declared.expr.Var.{Var}
 use Rattle.jz_tree.specs.declared.expr.Expr.TheViews.{out-Access, out-Var}
 use Rattle.jz_tree.specs.declared.stmt.Lval.{Lval}
 use Rattle.jz_tree.specs.declared.stmt.Lval.TheVariants as lval
-use Rattle.jz_scopes.specs.Order.{unless}
-use Rattle.jz_scopes.specs.Kinds.{known_of, is_inline_int}
-use Rattle.jz_kinds.specs.declared.wants.Form.{Form}
-use Rattle.jz_kinds.specs.declared.wants.Want.{Want}
-use Rattle.jz_kinds.specs.declared.wants.Want.TheVariants as want
-use Rattle.jz_kinds.specs.Wants.{index_want, fits_access, fits_cell, known_size, known_truth, cell_size, own_size, form_of_size}
-use Rattle.jz_kinds.specs.Typings.{typing}
-use Rattle.jz_kinds.specs.Sides.{left_form, left_wrong, set_want, within, any_size, takes, has_size}
+use Rattle.jz_type_names.specs.Order.{unless}
+use Rattle.jz_type_names.specs.Kinds.{known_of, is_inline_int}
+use Rattle.jz_type_sizes.specs.declared.wants.Form.{Form}
+use Rattle.jz_type_sizes.specs.declared.wants.Want.{Want}
+use Rattle.jz_type_sizes.specs.declared.wants.Want.TheVariants as want
+use Rattle.jz_type_sizes.specs.Wants.{index_want, fits_access, fits_cell, known_size, known_truth, cell_size, own_size, form_of_size}
+use Rattle.jz_type_sizes.specs.Typings.{typing}
+use Rattle.jz_type_sizes.specs.Sides.{left_form, left_wrong, set_want, within, any_size, takes, has_size}
 use Rattle.jz_judgement.specs.Places.{Place, integer, truth, word, index, unsized}
 use Rattle.jz_judgement.specs.HasType.{value, HasType}
 use Rattle.jz_judgement.specs.Lefts as lefts

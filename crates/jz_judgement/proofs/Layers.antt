@@ -10,12 +10,12 @@ use Rattle.jz_tree.specs.declared.expr.Access.{Access}
 use Rattle.jz_tree.specs.declared.expr.Var.{Var}
 use Rattle.jz_tree.specs.declared.expr.Expr.TheOpen.{Expr-F}
 use Rattle.jz_tree.specs.declared.expr.Expr.TheViews.{out-Access, out-Var}
-use Rattle.jz_scopes.specs.Order.{unless}
-use Rattle.jz_scopes.specs.Kinds.{Known, known_of, is_inline_int}
-use Rattle.jz_kinds.specs.declared.wants.Want.{Want}
-use Rattle.jz_kinds.specs.declared.wants.Want.TheVariants as want
-use Rattle.jz_kinds.specs.Wants.{fits_int, fits_truth, fits_word, fits_access, fits_known, fits_cell, known_size, cell_size, cast_want, index_want}
-use Rattle.jz_kinds.specs.Typings.{Typing, typing_step, access_typing, var_typing, cell_typing}
+use Rattle.jz_type_names.specs.Order.{unless}
+use Rattle.jz_type_names.specs.Kinds.{Known, known_of, is_inline_int}
+use Rattle.jz_type_sizes.specs.declared.wants.Want.{Want}
+use Rattle.jz_type_sizes.specs.declared.wants.Want.TheVariants as want
+use Rattle.jz_type_sizes.specs.Wants.{fits_int, fits_truth, fits_word, fits_access, fits_known, fits_cell, known_size, cell_size, cast_want, index_want}
+use Rattle.jz_type_sizes.specs.Typings.{Typing, typing_step, access_typing, var_typing, cell_typing}
 use Rattle.jz_judgement.specs.Places.{Place, integer, truth, word, stated, index, unsized, IsTruth, TakesWord, Goes, IsArrayOf}
 use Rattle.jz_judgement.specs.HasType as judged
 use Rattle.jz_judgement.specs.HasType.{Layer, AccessLayer, Term, value, left, result, Says, LayerSays, OperandSays, is_known, HasType, Types, Accesses, Operates}

@@ -4,12 +4,12 @@ use Rattle.std.proofs.lemmas.Bool.{false≢true, true≢false}
 use Rattle.jz_words.specs.declared.size.Size.{Size}
 use Rattle.jz_tree.specs.declared.expr.Storage.{Storage}
 use Rattle.jz_tree.specs.declared.expr.Storage.TheVariants as storage
-use Rattle.jz_scopes.specs.declared.kinds.Kind.{Kind}
-use Rattle.jz_scopes.specs.declared.kinds.Kind.TheVariants as kind
-use Rattle.jz_scopes.specs.Kinds.{Known, inline_int, is_inline_int, is_array}
-use Rattle.jz_kinds.specs.declared.wants.Want.{Want}
-use Rattle.jz_kinds.specs.declared.wants.Want.TheVariants as want
-use Rattle.jz_kinds.specs.Wants.{fits_known, known_size, known_truth, fits_int}
+use Rattle.jz_type_names.specs.declared.kinds.Kind.{Kind}
+use Rattle.jz_type_names.specs.declared.kinds.Kind.TheVariants as kind
+use Rattle.jz_type_names.specs.Kinds.{Known, inline_int, is_inline_int, is_array}
+use Rattle.jz_type_sizes.specs.declared.wants.Want.{Want}
+use Rattle.jz_type_sizes.specs.declared.wants.Want.TheVariants as want
+use Rattle.jz_type_sizes.specs.Wants.{fits_known, known_size, known_truth, fits_int}
 use Rattle.jz_judgement.specs.Places.{IsWordOf}
 use Rattle.jz_judgement.specs.Lefts.{IsBool, IsNumber}
 use Rattle.jz_judgement.proofs.Nothing.{same_sizes}

@@ -11,15 +11,15 @@ use Rattle.jz_tree.specs.declared.expr.Var.{Var}
 use Rattle.jz_tree.specs.declared.expr.Expr.TheViews.{out-Access, out-Var}
 use Rattle.jz_tree.specs.declared.stmt.Lval.{Lval}
 use Rattle.jz_tree.specs.declared.stmt.Lval.TheVariants as lval
-use Rattle.jz_scopes.specs.Order.{unless}
-use Rattle.jz_scopes.specs.Kinds.{Known, known_of, is_inline_int, is_array}
-use Rattle.jz_kinds.specs.declared.wants.Form.{Form}
-use Rattle.jz_kinds.specs.declared.wants.Want.{Want}
-use Rattle.jz_kinds.specs.declared.wants.Want.TheVariants as want
-use Rattle.jz_kinds.specs.Wants.{index_want, fits_int, fits_access, fits_known, fits_cell, known_size, known_truth, cell_size, sized_want, own_want, own_size, form_of_size, var_form}
-use Rattle.jz_kinds.specs.Typings.{Typing, typing}
-use Rattle.jz_kinds.specs.Sides.{left_form, left_wrong, left_typing, left_span, set_want}
-use Rattle.jz_kinds.specs.Values.{value_typing, single}
+use Rattle.jz_type_names.specs.Order.{unless}
+use Rattle.jz_type_names.specs.Kinds.{Known, known_of, is_inline_int, is_array}
+use Rattle.jz_type_sizes.specs.declared.wants.Form.{Form}
+use Rattle.jz_type_sizes.specs.declared.wants.Want.{Want}
+use Rattle.jz_type_sizes.specs.declared.wants.Want.TheVariants as want
+use Rattle.jz_type_sizes.specs.Wants.{index_want, fits_int, fits_access, fits_known, fits_cell, known_size, known_truth, cell_size, sized_want, own_want, own_size, form_of_size, var_form}
+use Rattle.jz_type_sizes.specs.Typings.{Typing, typing}
+use Rattle.jz_type_sizes.specs.Sides.{left_form, left_wrong, left_typing, left_span, set_want}
+use Rattle.jz_type_sizes.specs.Values.{value_typing, single}
 use Rattle.jz_judgement.specs.Places.{Place, integer, truth, word, stated, index, unsized, Goes, IsWordOf}
 use Rattle.jz_judgement.specs.HasType as judged
 use Rattle.jz_judgement.specs.HasType.{Term, value, left, result, Says, OperandSays, left_known, is_known, HasType, Accesses, Operates}

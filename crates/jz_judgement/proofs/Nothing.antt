@@ -5,9 +5,9 @@ use Rattle.std.proofs.lemmas.Bool.{false≢true}
 use Rattle.jz_io.specs.declared.span.Span.{Span}
 use Rattle.jz_words.specs.declared.size.Size.{Size}
 use Rattle.jz_words.specs.declared.size.Size.TheVariants as sizes
-use Rattle.jz_scopes.specs.Order.{unless}
-use Rattle.jz_scopes.specs.Kinds.{same_size}
-use Rattle.jz_kinds.specs.Wants.{fits_int, fits_truth, fits_word, or_size}
+use Rattle.jz_type_names.specs.Order.{unless}
+use Rattle.jz_type_names.specs.Kinds.{same_size}
+use Rattle.jz_type_sizes.specs.Wants.{fits_int, fits_truth, fits_word, or_size}
 use Rattle.jz_judgement.specs.Places.{Place, integer, truth, word, stated, unsized, IsTruth, TakesNumber, TakesWord}
 use Rattle.jz_judgement.specs.Agreement.{want_of}
 

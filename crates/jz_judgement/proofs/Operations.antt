@@ -7,14 +7,14 @@ use Rattle.jz_words.specs.declared.size.Size.{Size}
 use Rattle.jz_words.specs.declared.size.Size.TheVariants as sizes
 use Rattle.jz_tree.specs.declared.expr.BinOp.{BinOp}
 use Rattle.jz_tree.specs.declared.expr.BinOp.TheVariants as op
-use Rattle.jz_scopes.specs.Order.{unless}
-use Rattle.jz_kinds.specs.declared.operators.Group.{Group}
-use Rattle.jz_kinds.specs.declared.operators.Group.TheVariants as group
-use Rattle.jz_kinds.specs.declared.wants.Want.{Want}
-use Rattle.jz_kinds.specs.declared.wants.Want.TheVariants as want
-use Rattle.jz_kinds.specs.Wants.{or_size, sized_want}
-use Rattle.jz_kinds.specs.Operators.{group_of, is_of_words, gives, stops, compared_size, group_size, is_test, word_or, left_of, right_of, is_word_place, takes_carry, count_want}
-use Rattle.jz_kinds.specs.Typings.{Typing, bin_typing}
+use Rattle.jz_type_names.specs.Order.{unless}
+use Rattle.jz_type_sizes.specs.declared.operators.Group.{Group}
+use Rattle.jz_type_sizes.specs.declared.operators.Group.TheVariants as group
+use Rattle.jz_type_sizes.specs.declared.wants.Want.{Want}
+use Rattle.jz_type_sizes.specs.declared.wants.Want.TheVariants as want
+use Rattle.jz_type_sizes.specs.Wants.{or_size, sized_want}
+use Rattle.jz_type_sizes.specs.Operators.{group_of, is_of_words, gives, stops, compared_size, group_size, is_test, word_or, left_of, right_of, is_word_place, takes_carry, count_want}
+use Rattle.jz_type_sizes.specs.Typings.{Typing, bin_typing}
 use Rattle.jz_judgement.specs.Places.{Place, integer, truth, word, stated, unsized, TakesNumber, TakesCarry, count_place, IsSum}
 use Rattle.jz_judgement.specs.HasType.{Term, Says, OperandSays, first, second, shifted, is_known, Admits, HasType, Operates, arithmetic, carry, shift, integers, words, logic}
 use Rattle.jz_judgement.specs.Agreement.{want_of}

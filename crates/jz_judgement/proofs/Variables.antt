@@ -4,11 +4,11 @@ use Rattle.std.proofs.lemmas.Bool.{false≢true}
 use Rattle.jz_words.specs.declared.size.Size.{Size}
 use Rattle.jz_tree.specs.declared.expr.Storage.{Storage}
 use Rattle.jz_tree.specs.declared.expr.Storage.TheVariants as storage
-use Rattle.jz_scopes.specs.declared.kinds.Kind.{Kind}
-use Rattle.jz_scopes.specs.declared.kinds.Kind.TheVariants as kind
-use Rattle.jz_scopes.specs.Kinds.{Known, inline_int, is_inline_int}
-use Rattle.jz_kinds.specs.declared.wants.Want.TheVariants as want
-use Rattle.jz_kinds.specs.Wants.{fits_kind, fits_known, fits_cell, word_size, known_size, array_size, cell_size, is_truth, known_truth}
+use Rattle.jz_type_names.specs.declared.kinds.Kind.{Kind}
+use Rattle.jz_type_names.specs.declared.kinds.Kind.TheVariants as kind
+use Rattle.jz_type_names.specs.Kinds.{Known, inline_int, is_inline_int}
+use Rattle.jz_type_sizes.specs.declared.wants.Want.TheVariants as want
+use Rattle.jz_type_sizes.specs.Wants.{fits_kind, fits_known, fits_cell, word_size, known_size, array_size, cell_size, is_truth, known_truth}
 use Rattle.jz_judgement.specs.Places.{Place, TakesNumber, TakesWord, KindGoes, Goes, WordKind, IsWordOf, ArrayKind, IsArrayOf}
 use Rattle.jz_judgement.specs.Agreement.{want_of}
 use Rattle.jz_judgement.proofs.Nothing.{some_not, none_not, same_some, size_same, number_goes, number_fits, truth_goes, truth_fits, number_no_truth, word_goes, word_fits}

@@ -7,15 +7,15 @@ use Rattle.jz_tree.specs.declared.stmt.Lval.{Lval}
 use Rattle.jz_tree.specs.declared.stmt.Stmt.{Stmt}
 use Rattle.jz_tree.specs.declared.program.Fun.{Fun}
 use Rattle.jz_tree.specs.declared.program.Program.{Program}
-use Rattle.jz_scopes.specs.Parts.{layer_of}
-use Rattle.jz_kinds.specs.declared.wants.Want.{Want}
-use Rattle.jz_kinds.specs.declared.wants.Want.TheVariants as want
-use Rattle.jz_kinds.specs.Typings.{typing}
-use Rattle.jz_kinds.specs.Values.{value_wrong}
-use Rattle.jz_kinds.specs.Calls.{call_wrong}
-use Rattle.jz_kinds.specs.Signatures.{Signature}
-use Rattle.jz_kinds.specs.Intrinsics.{intrinsic_wrong}
-use Rattle.jz_kinds.specs.Mismatches.{Named, stmt_wrong, mismatched_declared}
+use Rattle.jz_type_names.specs.Parts.{layer_of}
+use Rattle.jz_type_sizes.specs.declared.wants.Want.{Want}
+use Rattle.jz_type_sizes.specs.declared.wants.Want.TheVariants as want
+use Rattle.jz_type_sizes.specs.Typings.{typing}
+use Rattle.jz_type_sizes.specs.Values.{value_wrong}
+use Rattle.jz_type_sizes.specs.Calls.{call_wrong}
+use Rattle.jz_type_sizes.specs.Signatures.{Signature}
+use Rattle.jz_type_sizes.specs.Intrinsics.{intrinsic_wrong}
+use Rattle.jz_type_sizes.specs.Mismatches.{Named, stmt_wrong, mismatched_declared}
 use Rattle.jz_judgement.specs.Places.{Place, integer, truth, word, stated, unsized}
 use Rattle.jz_judgement.specs.HasType.{HasType, value}
 use Rattle.jz_judgement.specs.Lefts.{Values}

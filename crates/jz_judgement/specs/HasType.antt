@@ -12,9 +12,9 @@ use Rattle.jz_tree.specs.declared.expr.Expr.TheOpen.{Expr-F, Access-F}
 use Rattle.jz_tree.specs.declared.expr.Expr.TheViews.{out-Expr, out-Access}
 use Rattle.jz_tree.specs.declared.stmt.Lval.{Lval}
 use Rattle.jz_tree.specs.declared.stmt.Lval.TheVariants as lval
-use Rattle.jz_scopes.specs.Kinds.{known_of, is_inline_int, is_array, is_inline}
-use Rattle.jz_kinds.specs.declared.operators.Group.TheVariants as group
-use Rattle.jz_kinds.specs.Operators.{group_of, is_of_words}
+use Rattle.jz_type_names.specs.Kinds.{known_of, is_inline_int, is_array, is_inline}
+use Rattle.jz_type_sizes.specs.declared.operators.Group.TheVariants as group
+use Rattle.jz_type_sizes.specs.Operators.{group_of, is_of_words}
 use Rattle.jz_judgement.specs.Places.{Place, truth, integer, word, stated, index, TakesNumber, TakesWord, TakesCarry, count_place, Goes, IsWordOf, IsArrayOf, IsSum}
 
 abbrev pub Layer : Type 0

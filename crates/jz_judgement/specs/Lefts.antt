@@ -9,10 +9,10 @@ use Rattle.jz_tree.specs.declared.expr.Var.{Var}
 use Rattle.jz_tree.specs.declared.expr.Expr.TheViews.{out-Access}
 use Rattle.jz_tree.specs.declared.stmt.Lval.{Lval}
 use Rattle.jz_tree.specs.declared.stmt.Lval.TheVariants as lval
-use Rattle.jz_scopes.specs.declared.kinds.Kind.{Kind}
-use Rattle.jz_scopes.specs.declared.kinds.Kind.TheVariants as kind
-use Rattle.jz_scopes.specs.Kinds.{Known, known_of, is_inline_int, is_array}
-use Rattle.jz_kinds.specs.Values.{is_product}
+use Rattle.jz_type_names.specs.declared.kinds.Kind.{Kind}
+use Rattle.jz_type_names.specs.declared.kinds.Kind.TheVariants as kind
+use Rattle.jz_type_names.specs.Kinds.{Known, known_of, is_inline_int, is_array}
+use Rattle.jz_type_sizes.specs.Values.{is_product}
 use Rattle.jz_judgement.specs.Places.{Place, integer, truth, word, index, unsized, TakesNumber, IsWordOf, IsArrayOf}
 use Rattle.jz_judgement.specs.HasType.{Term, value, result, Says, HasType}
 

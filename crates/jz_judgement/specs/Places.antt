@@ -4,9 +4,9 @@ use Rattle.jz_words.specs.declared.size.Size.{Size}
 use Rattle.jz_words.specs.declared.size.Size.TheVariants as sizes
 use Rattle.jz_tree.specs.declared.expr.BinOp.{BinOp}
 use Rattle.jz_tree.specs.declared.expr.BinOp.TheVariants as op
-use Rattle.jz_scopes.specs.declared.kinds.Kind.{Kind}
-use Rattle.jz_scopes.specs.declared.kinds.Kind.TheVariants as kind
-use Rattle.jz_scopes.specs.Kinds.{Known}
+use Rattle.jz_type_names.specs.declared.kinds.Kind.{Kind}
+use Rattle.jz_type_names.specs.declared.kinds.Kind.TheVariants as kind
+use Rattle.jz_type_names.specs.Kinds.{Known}
 
 -- the type that a value has in its place
 pub data Place : Type 0 where

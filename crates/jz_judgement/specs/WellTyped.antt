@@ -17,16 +17,16 @@ use Rattle.jz_tree.specs.declared.program.Fun.{Fun}
 use Rattle.jz_tree.specs.declared.program.Param.{Param}
 use Rattle.jz_tree.specs.declared.program.Ret.{Ret}
 use Rattle.jz_tree.specs.declared.program.Program.{Program}
-use Rattle.jz_scopes.specs.declared.kinds.Kind.{Kind}
-use Rattle.jz_scopes.specs.declared.kinds.Kind.TheVariants as kind
-use Rattle.jz_scopes.specs.Kinds.{known_of, is_inline_int, kind_of, array_of, whole_array}
-use Rattle.jz_scopes.specs.Parts.{Layer, layer_of, statements_of}
-use Rattle.jz_kinds.specs.declared.signatures.Role.{Role}
-use Rattle.jz_kinds.specs.declared.signatures.Role.TheVariants as role
-use Rattle.jz_kinds.specs.Signatures.{Signature, signature}
-use Rattle.jz_kinds.specs.Intrinsics.{size_of_intrinsic}
-use Rattle.jz_kinds.specs.Calls.{is_declared, is_callee}
-use Rattle.jz_kinds.specs.Mismatches.{Named, callee_from, among}
+use Rattle.jz_type_names.specs.declared.kinds.Kind.{Kind}
+use Rattle.jz_type_names.specs.declared.kinds.Kind.TheVariants as kind
+use Rattle.jz_type_names.specs.Kinds.{known_of, is_inline_int, kind_of, array_of, whole_array}
+use Rattle.jz_type_names.specs.Parts.{Layer, layer_of, statements_of}
+use Rattle.jz_type_sizes.specs.declared.signatures.Role.{Role}
+use Rattle.jz_type_sizes.specs.declared.signatures.Role.TheVariants as role
+use Rattle.jz_type_sizes.specs.Signatures.{Signature, signature}
+use Rattle.jz_type_sizes.specs.Intrinsics.{size_of_intrinsic}
+use Rattle.jz_type_sizes.specs.Calls.{is_declared, is_callee}
+use Rattle.jz_type_sizes.specs.Mismatches.{Named, callee_from, among}
 use Rattle.jz_judgement.specs.Places.{Place, integer, truth, word, index, unsized}
 use Rattle.jz_judgement.specs.HasType.{value, HasType}
 use Rattle.jz_judgement.specs.Lefts.{Holds, Leaves, IsSound, IsFlag, Values}

@@ -4,8 +4,8 @@ use Rattle.std.proofs.lemmas.Nat.{xor_lt}
 use Rattle.jz_words.specs.declared.size.Size.TheVariants.{S64}
 use Rattle.jz_words.proofs.Residues.{residue_small, difference_residue}
 use Rattle.x64_insn.specs.Answers.{sum_answer, difference_answer, xor_answer}
-use Rattle.jz_first_tree.specs.declared.BinOp.{BinOp}
-use Rattle.jz_first_tree.specs.declared.BinOp.TheVariants as op
+use Rattle.jz_first.specs.declared.tree.BinOp.{BinOp}
+use Rattle.jz_first.specs.declared.tree.BinOp.TheVariants as op
 use Rattle.jz_first_meaning.specs.SourceRuns.{operation}
 use Rattle.jz_correct.proofs.PlainCode.{result_of}
 use Rattle.jz_lower.specs.Lowering.{alu_of}

@@ -2,7 +2,7 @@
 
 ghost use Rattle.std.specs.Prelude.{◌≡◌, ◌<◌, ◌^◌, IfOk, length, map, replicate};
 ghost use Rattle.jz_ir.specs.declared.code.Kind.TheVariants as kind;
-ghost use Rattle.jz_first_tree.specs.Variables.{variables_of};
+ghost use Rattle.jz_first.specs.Variables.{variables_of};
 ghost use Rattle.jz_correct.specs.Registers.{argument_registers, result_registers};
 ghost use Rattle.jz_lower.specs.InnerNumbers.{GivesFor, IsFor, IsNumbers};
 ghost use Rattle.jz_lower.specs.Operations.{code_of, entry_op, entry_ops, flags_of, left_of, need_of, operations_of, read_assigned, read_by, read_right, return_op, return_ops, statement_op};
@@ -11,7 +11,7 @@ ghost use Rattle.jz_lower.specs.Placing.{variable_of};
 use crate::numbers::Numbers;
 use crate::registers::{ARGUMENT_REGISTERS, RESULT_REGISTERS};
 use jz_data::Seq;
-use jz_first_tree::{BinOp, Expr, Fun, Lval, Param, Rhs, Stmt, StmtKind, Var};
+use jz_first::{BinOp, Expr, Fun, Lval, Param, Rhs, Stmt, StmtKind, Var};
 use jz_ir::{Code, Kind, Need, Op};
 use std::alloc::{AllocError, Global};
 use x64_insn::{Flag, Place, Reg};

@@ -4,7 +4,7 @@ ghost use Rattle.std.specs.Prelude.{◌≡◌, ◌<◌, ◌^◌, IfOk, length};
 ghost use Rattle.jz_words.specs.declared.size.Size.TheVariants.{S64};
 ghost use Rattle.jz_words.specs.Sizes.{signed};
 ghost use Rattle.jz_words.specs.Words.{residue};
-ghost use Rattle.jz_first_tree.specs.Variables.{variables_of};
+ghost use Rattle.jz_first.specs.Variables.{variables_of};
 ghost use Rattle.jz_lower.specs.Lowering.{alu_of, assignment_insn, insns_of, kind_insns, operand_of};
 ghost use Rattle.jz_lower.specs.InnerNumbers.{IsFor};
 ghost use Rattle.jz_lower.specs.InnerLowering.{insns_in, register_by};
@@ -12,7 +12,7 @@ ghost use Rattle.jz_lower.specs.Operations.{register_of};
 
 use crate::numbers::Numbers;
 use jz_data::{Seq, Text};
-use jz_first_tree::{BinOp, Expr, Fun, Lval, Rhs, StmtKind};
+use jz_first::{BinOp, Expr, Fun, Lval, Rhs, StmtKind};
 use jz_words::Size;
 use std::alloc::{AllocError, Global};
 use x64_insn::{Alu, Insn, Operand, Place, Reg};

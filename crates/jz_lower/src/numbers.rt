@@ -1,14 +1,14 @@
 //! The numbers of a function's variables, by their names.
 
 ghost use Rattle.std.specs.Prelude.{◌≡◌, ◌+◌, ◌<◌, ◌^◌, [], ◌∷◌, ◌++◌, List, IfOk, OnOk, length};
-ghost use Rattle.jz_first_tree.specs.declared.Var.{Var};
-ghost use Rattle.jz_first_tree.specs.Variables.{variables_of};
+ghost use Rattle.jz_first.specs.declared.tree.Var.{Var};
+ghost use Rattle.jz_first.specs.Variables.{variables_of};
 ghost use Rattle.jz_lower.specs.InnerNumbers.{IsFor, IsNumbers};
 ghost use Rattle.jz_lower.specs.Operations.{number_in};
 
 use indexmap::IndexMap;
 use jz_data::Text;
-use jz_first_tree::{Fun, Var};
+use jz_first::{Fun, Var};
 use std::alloc::{AllocError, Global};
 
 /// The number of the first variable of each name, and how many variables there are.

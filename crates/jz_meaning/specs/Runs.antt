@@ -20,7 +20,7 @@ use Rattle.jz_tree.specs.declared.program.Param.{Param}
 use Rattle.jz_leak.specs.RunLeaks.{Leak}
 use Rattle.jz_runs.specs.Trees.{Tree, done, op, quiet, choose, loop, each, call}
 use Rattle.jz_runs.specs.Rules.{stuck, went, Outcome, End, Cut, Stuck, Goes}
-use Rattle.jz_scopes.specs.Scopes.{function_named}
+use Rattle.jz_type_names.specs.Scopes.{function_named}
 use Rattle.jz_meaning.specs.declared.access.Kind.{Kind}
 use Rattle.jz_meaning.specs.declared.access.Kind.TheVariants as kind
 use Rattle.jz_meaning.specs.declared.value.Why.TheVariants.{Init}

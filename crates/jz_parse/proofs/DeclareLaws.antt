@@ -11,15 +11,15 @@ use Rattle.jz_grammar.proofs.Combine.{follow_reads, map_reads, pick_reads, insid
 use Rattle.jz_grammar.proofs.Opening.{HasPhraseAnyway, some_opens}
 use Rattle.jz_grammar.proofs.Samples.{sign_token, sign_in, word_token, word_in, sign_reads, word_reads, identifier_reads, some_sign, some_word, some_identifier, some_then, some_map, some_left, some_each, some_maybe, up}
 use Rattle.jz_grammar.proofs.Steps.{listed_reads}
-use Rattle.jz_cursor.specs.Tokens.{name_of, word_types, size_of_token}
+use Rattle.jz_grammar.specs.Tokens.{name_of, word_types, size_of_token}
 use Rattle.jz_tree.specs.declared.expr.Decl.{Decl}
 use Rattle.jz_tree.specs.declared.expr.Storage.TheVariants as place
 use Rattle.jz_tree.specs.declared.expr.Ty.TheVariants as ty
 use Rattle.jz_tree.specs.declared.program.Param.{Param}
 use Rattle.jz_parse_expr.specs.Table.{the, key, name, index}
 use Rattle.jz_parse_expr.proofs.Laws.{index_reads}
-use Rattle.jz_parse_stmt.specs.NotesTable.{notes}
-use Rattle.jz_parse_stmt.proofs.NoteLemmas.{notes_reads, some_notes}
+use Rattle.jz_parse.specs.NotesTable.{notes}
+use Rattle.jz_parse.proofs.NoteLemmas.{notes_reads, some_notes}
 use Rattle.jz_parse.specs.Trees.{type_of, decl_of, params_all, declared_all, ret_of, joined_lists, or_empty}
 use Rattle.jz_parse.specs.Grammar as g
 use Rattle.jz_parse.specs.Readers as r

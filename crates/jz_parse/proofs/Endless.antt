@@ -5,14 +5,14 @@ use Rattle.jz_grammar.specs.Kinds.{Kind, identifier, word, number, cast, string,
 use Rattle.jz_grammar.specs.Grammar.{Marked, Lang, token, ◌▸◌, ◌⊕◌, ◌⇒◌, never, then_by, opens, each, maybe}
 use Rattle.jz_grammar.proofs.Basics.{in_apart}
 use Rattle.jz_io.specs.declared.span.Span.{Span}
-use Rattle.jz_cursor.specs.Tokens.{name_of, number_of_token, cast_of, string_of, word_types, size_of_token}
+use Rattle.jz_grammar.specs.Tokens.{name_of, number_of_token, cast_of, string_of, word_types, size_of_token}
 use Rattle.jz_tree.specs.declared.expr.Expr.{Expr}
 use Rattle.jz_parse_expr.specs.Operators.{ops_of, op_of, level_count}
 use Rattle.jz_parse_expr.specs.Table as e
-use Rattle.jz_parse_stmt.specs.NotesTable as n
-use Rattle.jz_parse_stmt.specs.Trees.{assignments, operation_of}
-use Rattle.jz_parse_stmt.specs.Table as s
-use Rattle.jz_parse_stmt.specs.Table.{Low}
+use Rattle.jz_parse.specs.NotesTable as n
+use Rattle.jz_parse.specs.StmtTrees.{assignments, operation_of}
+use Rattle.jz_parse.specs.Table as s
+use Rattle.jz_parse.specs.Table.{Low}
 use Rattle.jz_parse.specs.Grammar as g
 
 -- none of the tokens is an end

@@ -13,11 +13,11 @@ use Rattle.jz_grammar.proofs.Combine.{has_nil}
 use Rattle.jz_grammar.proofs.Exact as x
 use Rattle.jz_grammar.proofs.Exact.{compare}
 use Rattle.jz_tree.specs.declared.program.Program.{Program}
-use Rattle.jz_cursor.specs.declared.fault.SyntaxKind.{SyntaxKind}
-use Rattle.jz_cursor.specs.declared.fault.SyntaxKind.TheVariants.{Unexpected, TooDeep}
-use Rattle.jz_cursor.specs.declared.fault.SyntaxFault.{SyntaxFault}
-use Rattle.jz_cursor.specs.Gave.{cause_of, numbered_answer}
-use Rattle.jz_cursor.specs.Places.{span_at, span_or_start, IsFaultAt}
+use Rattle.jz_grammar.specs.declared.fault.SyntaxKind.{SyntaxKind}
+use Rattle.jz_grammar.specs.declared.fault.SyntaxKind.TheVariants.{Unexpected, TooDeep}
+use Rattle.jz_grammar.specs.declared.fault.SyntaxFault.{SyntaxFault}
+use Rattle.jz_grammar.specs.Gave.{cause_of, numbered_answer}
+use Rattle.jz_grammar.specs.Places.{span_at, span_or_start, IsFaultAt}
 use Rattle.jz_parse.specs.Deriving.{IsStoppedAt, IsFaultWithin}
 use Rattle.jz_parse.specs.Grammar as g
 use Rattle.jz_parse.specs.Readers as r

@@ -8,7 +8,7 @@ use Rattle.jz_grammar.proofs.Combine.{follow_reads, map_reads, pick_reads, insid
 use Rattle.jz_grammar.proofs.Opening.{HasPhraseAnyway, some_opens}
 use Rattle.jz_grammar.proofs.Samples.{sign_token, sign_in, end_token, end_in, sign_reads, word_reads, identifier_reads, end_reads, some_leaf, some_then, some_map, some_left, some_each, some_maybe, up}
 use Rattle.jz_grammar.proofs.Steps.{listed_reads}
-use Rattle.jz_cursor.specs.Tokens.{name_of}
+use Rattle.jz_grammar.specs.Tokens.{name_of}
 use Rattle.jz_tree.specs.declared.expr.Expr.{Expr}
 use Rattle.jz_tree.specs.declared.expr.Var.{Var}
 use Rattle.jz_tree.specs.declared.program.FunKind.{FunKind}
@@ -20,9 +20,9 @@ use Rattle.jz_parse.specs.declared.function.Body.{Body}
 use Rattle.jz_parse_expr.specs.Table.{the, key, name, expr}
 use Rattle.jz_parse_expr.specs.Trees.{used_of}
 use Rattle.jz_parse_expr.proofs.Laws.{expr_reads, some_expr}
-use Rattle.jz_parse_stmt.specs.Readers.{stmt_goes}
-use Rattle.jz_parse_stmt.proofs.NoteLemmas.{notes_reads}
-use Rattle.jz_parse_stmt.proofs.StmtReads.{stmt_reads}
+use Rattle.jz_parse.specs.StmtReaders.{stmt_goes}
+use Rattle.jz_parse.proofs.NoteLemmas.{notes_reads}
+use Rattle.jz_parse.proofs.StmtReads.{stmt_reads}
 use Rattle.jz_parse.specs.declared.function.Item.TheVariants.{Declares, Does}
 use Rattle.jz_parse.specs.declared.program.Part.TheVariants.{Constant, Function}
 use Rattle.jz_parse.specs.Trees.{or_empty, vars_in, stmts_in, body_of, fun_of, const_of, consts_in, funs_in, program_of}

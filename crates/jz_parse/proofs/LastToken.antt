@@ -10,7 +10,7 @@ use Rattle.jz_grammar.proofs.Basics.{outcome_within}
 use Rattle.jz_grammar.proofs.Combine.{has_nil}
 use Rattle.jz_grammar.proofs.Exact as x
 use Rattle.jz_tree.specs.declared.program.Program.{Program}
-use Rattle.jz_cursor.specs.declared.fault.SyntaxFault.{SyntaxFault}
+use Rattle.jz_grammar.specs.declared.fault.SyntaxFault.{SyntaxFault}
 use Rattle.jz_parse.specs.Deriving.{IsStoppedAt, IsFaultWithin}
 use Rattle.jz_parse.specs.Grammar as g
 use Rattle.jz_parse.specs.Readers as r

@@ -4,3 +4,7 @@ pub mod Lists
 pub mod Faults
 pub mod Endless
 pub mod LastToken
+pub mod NoteLemmas
+pub mod Parts
+pub mod StmtReads
+pub mod StmtLists

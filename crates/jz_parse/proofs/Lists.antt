@@ -11,7 +11,7 @@ use Rattle.jz_grammar.proofs.Basics.{member_append}
 use Rattle.jz_grammar.proofs.Combine.{shorter, many_next, many_done}
 use Rattle.jz_grammar.proofs.Samples.{identifier_reads}
 use Rattle.jz_grammar.proofs.Steps.{more_done, more_next, more_wrong}
-use Rattle.jz_cursor.specs.Tokens.{name_of}
+use Rattle.jz_grammar.specs.Tokens.{name_of}
 use Rattle.jz_tree.specs.declared.expr.Var.{Var}
 use Rattle.jz_tree.specs.declared.program.Const.{Const}
 use Rattle.jz_tree.specs.declared.program.Fun.{Fun}
@@ -19,7 +19,7 @@ use Rattle.jz_tree.specs.declared.program.Param.{Param}
 use Rattle.jz_tree.specs.declared.program.Ret.{Ret}
 use Rattle.jz_tree.specs.declared.stmt.Stmt.{Stmt}
 use Rattle.jz_parse_expr.specs.Readers.{name}
-use Rattle.jz_parse_stmt.specs.Readers.{stmt_starts, stmt_goes}
+use Rattle.jz_parse.specs.StmtReaders.{stmt_starts, stmt_goes}
 use Rattle.jz_parse.specs.declared.function.Item.{Item}
 use Rattle.jz_parse.specs.declared.function.Item.TheVariants.{Declares, Does}
 use Rattle.jz_parse.specs.declared.program.Part.{Part}

@@ -4,11 +4,11 @@ use Rattle.jz_io.specs.declared.span.Span.{Span}
 use Rattle.jz_lex.specs.declared.token.Token.{Token}
 use Rattle.jz_grammar.specs.Laws.{Derives, BeginsWithin, IsRefused}
 use Rattle.jz_tree.specs.declared.program.Program.{Program}
-use Rattle.jz_cursor.specs.declared.fault.SyntaxKind.{SyntaxKind}
-use Rattle.jz_cursor.specs.declared.fault.SyntaxKind.TheVariants.{Unexpected}
-use Rattle.jz_cursor.specs.declared.fault.SyntaxFault.{SyntaxFault}
-use Rattle.jz_cursor.specs.Gave.{cause_of}
-use Rattle.jz_cursor.specs.Places.{span_at}
+use Rattle.jz_grammar.specs.declared.fault.SyntaxKind.{SyntaxKind}
+use Rattle.jz_grammar.specs.declared.fault.SyntaxKind.TheVariants.{Unexpected}
+use Rattle.jz_grammar.specs.declared.fault.SyntaxFault.{SyntaxFault}
+use Rattle.jz_grammar.specs.Gave.{cause_of}
+use Rattle.jz_grammar.specs.Places.{span_at}
 use Rattle.jz_parse.specs.Grammar.{program}
 
 -- at most so much is nested

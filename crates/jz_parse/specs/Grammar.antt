@@ -19,8 +19,8 @@ use Rattle.jz_tree.specs.declared.program.Ret.{Ret}
 use Rattle.jz_tree.specs.declared.stmt.Stmt.{Stmt}
 use Rattle.jz_parse_expr.specs.Trees.{used_of}
 use Rattle.jz_parse_expr.specs.Table.{the, key, name, word_type, index, expr}
-use Rattle.jz_parse_stmt.specs.NotesTable.{notes}
-use Rattle.jz_parse_stmt.specs.Table.{stmt}
+use Rattle.jz_parse.specs.NotesTable.{notes}
+use Rattle.jz_parse.specs.Table.{stmt}
 use Rattle.jz_parse.specs.declared.function.Body.{Body}
 use Rattle.jz_parse.specs.declared.function.Item.{Item}
 use Rattle.jz_parse.specs.declared.function.Item.TheVariants.{Declares, Does}

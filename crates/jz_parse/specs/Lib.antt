@@ -3,3 +3,8 @@ pub mod Grammar
 pub mod Readers
 pub mod Deriving
 pub mod Reading
+pub mod NotesTable
+pub mod NotesReaders
+pub mod StmtTrees
+pub mod Table
+pub mod StmtReaders

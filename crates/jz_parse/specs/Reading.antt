@@ -3,7 +3,7 @@ use Rattle.std.specs.Prelude.{ℕ, List}
 use Rattle.jz_lex.specs.declared.token.Token.{Token}
 use Rattle.jz_lex.specs.declared.token.LexFault.{LexFault}
 use Rattle.jz_lex.specs.Lexing.{IsLexed, HasNoToken}
-use Rattle.jz_cursor.specs.declared.fault.SyntaxFault.{SyntaxFault}
+use Rattle.jz_grammar.specs.declared.fault.SyntaxFault.{SyntaxFault}
 use Rattle.jz_tree.specs.declared.program.Program.{Program}
 use Rattle.jz_parse.specs.Deriving.{DerivesProgram, IsSyntaxFault}
 

@@ -2,13 +2,13 @@
 
 ghost use Rattle.std.specs.Prelude.{◌≡◌, []};
 ghost use Rattle.jz_grammar.specs.Kinds.{has};
-ghost use Rattle.jz_cursor.specs.Gave.{Gave};
+ghost use Rattle.jz_grammar.specs.Gave.{Gave};
 ghost use Rattle.jz_parse.specs.Readers.{item, item_starts, items_more, variable_used, next_used, used_more, variables, variables_enclosed, names, names_starts, variables_returned, ending, body, kind, function};
 
 use crate::declare::{begins_storage, decl, params, results};
-use jz_cursor::{Cursor, Stop};
+use jz_grammar::{Cursor, Stop};
 use jz_data::Seq;
-use jz_parse_stmt::{begins_stmt, notes, stmt};
+use crate::{begins_stmt, notes, stmt};
 use jz_tree::{Fun, FunKind, Stmt, Var};
 use std::alloc::Global;
 

@@ -2,11 +2,11 @@
 
 ghost use Rattle.std.specs.Prelude.{◌≡◌, []};
 ghost use Rattle.jz_grammar.specs.Kinds.{has};
-ghost use Rattle.jz_cursor.specs.Gave.{Gave};
+ghost use Rattle.jz_grammar.specs.Gave.{Gave};
 ghost use Rattle.jz_parse.specs.Readers.{constant, part, part_starts, parts_more, program};
 
 use crate::function::function;
-use jz_cursor::{Cursor, Stop};
+use jz_grammar::{Cursor, Stop};
 use jz_data::Seq;
 use jz_parse_expr::expr;
 use jz_tree::{Const, Fun, Program};

@@ -6,13 +6,13 @@ ghost use Rattle.jz_data.specs.Laws.{AtMostOne, NeverBoth};
 ghost use Rattle.jz_lex.specs.declared.token.Token.{Token};
 ghost use Rattle.jz_lex.specs.declared.token.TokenKind.TheVariants.{End};
 ghost use Rattle.jz_grammar.specs.Reading.{final};
-ghost use Rattle.jz_cursor.specs.Gave.{numbered_answer, IsNumbered};
+ghost use Rattle.jz_grammar.specs.Gave.{numbered_answer, IsNumbered};
 ghost use Rattle.jz_parse.specs.Readers.{program};
 ghost use Rattle.jz_parse.specs.Deriving.{DerivesProgram, IsSyntaxFault};
 ghost use Rattle.jz_parse.specs.Reading.{Reads};
 
 use crate::program::program;
-use jz_cursor::{Cursor, SyntaxFault, SyntaxKind, fault_at};
+use jz_grammar::{Cursor, SyntaxFault, SyntaxKind, fault_at};
 use jz_data::Failure;
 use jz_lex::Tokens;
 use jz_tree::Program;

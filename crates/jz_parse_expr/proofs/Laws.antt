@@ -10,7 +10,7 @@ use Rattle.jz_grammar.specs.Laws.{IsReader, HasPhrase, plus, full}
 use Rattle.jz_grammar.proofs.Combine.{follow_reads, map_reads, pick_reads, inside_reads, optional_reads, reads_as, same_reads, shaped}
 use Rattle.jz_grammar.proofs.Opening.{inside_same, HasPhraseAnyway, some_opens}
 use Rattle.jz_grammar.proofs.Samples.{sign_token, sign_in, identifier_reads, number_reads, some_then, some_map, some_maybe, some_right, up}
-use Rattle.jz_cursor.specs.Tokens.{name_of, number_of_token}
+use Rattle.jz_grammar.specs.Tokens.{name_of, number_of_token}
 use Rattle.jz_tree.specs.declared.expr.Expr.{Expr}
 use Rattle.jz_parse_expr.specs.Trees.{number_expr, bool_expr, name_expr, neg_expr, not_expr, access_of, load_expr, Group, group_expr}
 use Rattle.jz_parse_expr.specs.Table as g

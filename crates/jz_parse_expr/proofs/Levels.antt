@@ -8,7 +8,7 @@ use Rattle.jz_grammar.proofs.Basics.{disjoint_nil, has_append, has_join}
 use Rattle.jz_grammar.proofs.Combine.{leaf_reads, follow_reads, map_reads, many_reads, reshape, shaped}
 use Rattle.jz_grammar.proofs.Opening.{HasPhraseAnyway}
 use Rattle.jz_grammar.proofs.Samples.{sign_token, sign_in, sign_reads, word_token, word_in, word_reads, number_token, number_in, some_leaf, some_sign, some_then, up}
-use Rattle.jz_cursor.specs.Tokens.{number_of_token, word_types, size_of_token}
+use Rattle.jz_grammar.specs.Tokens.{number_of_token, word_types, size_of_token}
 use Rattle.jz_parse_expr.specs.Operators.{ops_of, op_of}
 use Rattle.jz_parse_expr.specs.Trees.{number_expr, chain}
 use Rattle.jz_parse_expr.specs.Table as g

@@ -7,7 +7,7 @@ use Rattle.jz_grammar.specs.Grammar.{Marked, Lang, token, ◌▸◌, ◌⊕◌, 
 use Rattle.jz_grammar.specs.Laws.{IsReader, HasPhrase, plus, full}
 use Rattle.jz_grammar.proofs.Combine.{follow_reads, map_reads, pick_reads, inside_reads, same_reads, shaped}
 use Rattle.jz_grammar.proofs.Samples.{sign_token, sign_in, cast_reads, some_then, some_map, some_left, up}
-use Rattle.jz_cursor.specs.Tokens.{word_types, cast_of}
+use Rattle.jz_grammar.specs.Tokens.{word_types, cast_of}
 use Rattle.jz_tree.specs.declared.expr.Expr.{Expr}
 use Rattle.jz_parse_expr.specs.Trees.{load_expr, cast_expr, Group, At, As, Plain, group_expr}
 use Rattle.jz_parse_expr.specs.Table as g

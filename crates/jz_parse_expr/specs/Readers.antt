@@ -5,7 +5,7 @@ use Rattle.jz_words.specs.declared.size.Size.{Size}
 use Rattle.jz_grammar.specs.Causes.{Unexpected}
 use Rattle.jz_grammar.specs.Kinds.{Kind, word, sign, identifier, number, cast, span_of}
 use Rattle.jz_grammar.specs.Reading.{Reader, through, follow, pick, many, leaf, inside, optional}
-use Rattle.jz_cursor.specs.Tokens.{name_of, number_of_token, cast_of, word_types, size_of_token}
+use Rattle.jz_grammar.specs.Tokens.{name_of, number_of_token, cast_of, word_types, size_of_token}
 use Rattle.jz_tree.specs.declared.expr.Expr.{Expr}
 use Rattle.jz_tree.specs.declared.expr.Access.{Access}
 use Rattle.jz_tree.specs.declared.expr.BinOp.{BinOp}

@@ -5,7 +5,7 @@ use Rattle.jz_io.specs.declared.span.Span.{Span}
 use Rattle.jz_words.specs.declared.size.Size.{Size}
 use Rattle.jz_grammar.specs.Kinds.{word, sign, identifier, number, cast, span_of}
 use Rattle.jz_grammar.specs.Grammar.{Lang, token, ◌▸◌, ◌⊕◌, ◌⇒◌, never, opens, each, maybe}
-use Rattle.jz_cursor.specs.Tokens.{name_of, number_of_token, cast_of, word_types, size_of_token}
+use Rattle.jz_grammar.specs.Tokens.{name_of, number_of_token, cast_of, word_types, size_of_token}
 use Rattle.jz_tree.specs.declared.expr.Expr.{Expr}
 use Rattle.jz_tree.specs.declared.expr.Access.{Access}
 use Rattle.jz_parse_expr.specs.Operators.{ops_of, op_of, level_count}

@@ -3,12 +3,12 @@
 ghost use Rattle.std.specs.Prelude.{◌≡◌, ◌≤◌, [], ◌∷◌, codes, IfOk};
 ghost use Rattle.jz_grammar.specs.Kinds.{sign, has};
 ghost use Rattle.jz_grammar.specs.Reading.{through, optional};
-ghost use Rattle.jz_cursor.specs.Gave.{Gave};
+ghost use Rattle.jz_grammar.specs.Gave.{Gave};
 ghost use Rattle.jz_parse_expr.specs.Trees.{used_of, access_of, load_expr, group_expr};
 ghost use Rattle.jz_parse_expr.specs.Readers.{expr_starts, signed_starts, expr, index, access, size_mark, unary, unary_of, signed_of, name_form, group_form, cast_rest, plain_rest, sized_rest, bracket, cast_access, plain_access, expr_of, levels, rest_of};
 
 use crate::operator::{begins_op, operator};
-use jz_cursor::{Cursor, Stop};
+use jz_grammar::{Cursor, Stop};
 use jz_data::{Boxed, Text};
 use jz_io::Span;
 use jz_tree::{Access, Expr, Var};

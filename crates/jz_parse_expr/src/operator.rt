@@ -3,10 +3,10 @@
 ghost use Rattle.std.specs.Prelude.{◌≡◌, []};
 ghost use Rattle.jz_grammar.specs.Kinds.{has, is_in};
 ghost use Rattle.jz_grammar.specs.Reading.{leaf};
-ghost use Rattle.jz_cursor.specs.Gave.{Gave};
+ghost use Rattle.jz_grammar.specs.Gave.{Gave};
 ghost use Rattle.jz_parse_expr.specs.Operators.{orders, ops_of, op_of, shift_of, comparison_of, joining_of};
 
-use jz_cursor::{Cursor, Stop, UNEXPECTED, has_text, is_sign};
+use jz_grammar::{Cursor, Stop, UNEXPECTED, has_text, is_sign};
 use jz_lex::Token;
 use jz_tree::BinOp;
 

@@ -8,9 +8,9 @@ use Rattle.x64_insn.specs.declared.types.Reg.{Reg}
 use Rattle.x64_insn.specs.declared.types.Reg.TheVariants as reg
 use Rattle.x64_insn.specs.Chosen.{chosen_bytes, chosen_fields, modrm_fields, rm_parts}
 use Rattle.x64_insn.specs.Encoding.{spelling_of}
-use Rattle.jz_first_tree.specs.declared.BinOp.TheVariants.{Add}
-use Rattle.jz_first_tree.specs.declared.Expr.TheVariants as expr
-use Rattle.jz_first_tree.specs.declared.Rhs.TheVariants as rhs
+use Rattle.jz_first.specs.declared.tree.BinOp.TheVariants.{Add}
+use Rattle.jz_first.specs.declared.tree.Expr.TheVariants as expr
+use Rattle.jz_first.specs.declared.tree.Rhs.TheVariants as rhs
 use Rattle.jz_leak.specs.declared.transformer.Out.{Out}
 use Rattle.jz_leak.specs.declared.transformer.Transformer.{Transformer}
 use Rattle.jz_leak.specs.Applying.{body_events}

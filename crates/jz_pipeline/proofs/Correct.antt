@@ -12,12 +12,12 @@ use Rattle.x64_insn.specs.declared.types.Insn.{Insn}
 use Rattle.x64_insn.specs.declared.types.Insn.TheVariants as insn
 use Rattle.x64_insn.specs.Table.{number_of}
 use Rattle.x64_insn.specs.Rows.{reg_value, reg_word}
-use Rattle.jz_first_tree.specs.declared.Program.{Program}
-use Rattle.jz_first_tree.specs.declared.Fun.{Fun}
-use Rattle.jz_first_tree.specs.declared.Stmt.{Stmt}
+use Rattle.jz_first.specs.declared.tree.Program.{Program}
+use Rattle.jz_first.specs.declared.tree.Fun.{Fun}
+use Rattle.jz_first.specs.declared.tree.Stmt.{Stmt}
 use Rattle.jz_leak.specs.declared.event.Event.TheVariants as event
 use Rattle.jz_leak.specs.Applying.{apply_of}
-use Rattle.jz_ct.proofs.SomeLabels.{constant_time}
+use Rattle.jz_first_meaning.proofs.SomeLabels.{constant_time}
 use Rattle.jz_runs.specs.Rules.{stuck, went}
 use Rattle.jz_first_meaning.specs.SourceStates.{State, Value, empty_store}
 use Rattle.jz_first_meaning.specs.SourceValues.{Evaluation}

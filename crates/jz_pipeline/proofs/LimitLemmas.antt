@@ -5,7 +5,7 @@ use Rattle.std.proofs.lemmas.List.Elements.{All-nil, All-cons, All-head, All-tai
 use Rattle.jz_words.specs.declared.size.Size.TheVariants.{S64}
 use Rattle.jz_words.specs.Readings.{reading_of, fits_bytes}
 use Rattle.jz_io.specs.declared.span.Span.{Span}
-use Rattle.jz_first_tree.specs.declared.Fun.{Fun}
+use Rattle.jz_first.specs.declared.tree.Fun.{Fun}
 use Rattle.jz_pipeline.specs.declared.limits.Limit.{Limit}
 use Rattle.jz_pipeline.specs.declared.limits.LimitKind.{LimitKind}
 use Rattle.jz_pipeline.specs.declared.limits.LimitKind.TheVariants.{Expand, ImmRange}

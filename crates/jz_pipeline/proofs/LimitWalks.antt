@@ -5,7 +5,7 @@ use Rattle.std.specs.List.{filter_map, cons_option}
 use Rattle.std.proofs.lemmas.List.Elements.{All-nil, All-cons, All-append, filter_map-append}
 use Rattle.std.proofs.lemmas.List.{take_more}
 use Rattle.jz_io.specs.declared.span.Span.{Span}
-use Rattle.jz_first_tree.specs.declared.Stmt.{Stmt}
+use Rattle.jz_first.specs.declared.tree.Stmt.{Stmt}
 use Rattle.jz_pipeline.specs.Limits.{Constant, HasField, HasOwnField, immediate_of, IsFirstWithout}
 
 abbrev own : Stmt → Option Constant

@@ -18,23 +18,23 @@ use Rattle.x64_insn.specs.Chosen.{chosen_bytes, fits_bytes}
 use Rattle.x64_insn.proofs.ChosenSpelling.{chosen_spells}
 use Rattle.x64_insn.proofs.Immediates.{within_fits}
 use Rattle.x64_insn.proofs.Registers.{same_register}
-use Rattle.jz_first_tree.specs.declared.Fun.{Fun}
-use Rattle.jz_first_tree.specs.declared.Param.{Param}
-use Rattle.jz_first_tree.specs.declared.Ret.{Ret}
-use Rattle.jz_first_tree.specs.declared.Decl.{Decl}
-use Rattle.jz_first_tree.specs.declared.Storage.{Storage}
-use Rattle.jz_first_tree.specs.declared.Storage.TheVariants as storage
-use Rattle.jz_first_tree.specs.declared.Var.{Var}
-use Rattle.jz_first_tree.specs.declared.Expr.{Expr}
-use Rattle.jz_first_tree.specs.declared.Expr.TheVariants as expr
-use Rattle.jz_first_tree.specs.declared.BinOp.{BinOp}
-use Rattle.jz_first_tree.specs.declared.BinOp.TheVariants as op
-use Rattle.jz_first_tree.specs.declared.Lval.TheVariants as lval
-use Rattle.jz_first_tree.specs.declared.Rhs.{Rhs}
-use Rattle.jz_first_tree.specs.declared.Rhs.TheVariants as rhs
-use Rattle.jz_first_tree.specs.declared.Stmt.{Stmt}
-use Rattle.jz_first_tree.specs.declared.StmtKind.{StmtKind}
-use Rattle.jz_first_tree.specs.declared.StmtKind.TheVariants as kind
+use Rattle.jz_first.specs.declared.tree.Fun.{Fun}
+use Rattle.jz_first.specs.declared.tree.Param.{Param}
+use Rattle.jz_first.specs.declared.tree.Ret.{Ret}
+use Rattle.jz_first.specs.declared.tree.Decl.{Decl}
+use Rattle.jz_first.specs.declared.tree.Storage.{Storage}
+use Rattle.jz_first.specs.declared.tree.Storage.TheVariants as storage
+use Rattle.jz_first.specs.declared.tree.Var.{Var}
+use Rattle.jz_first.specs.declared.tree.Expr.{Expr}
+use Rattle.jz_first.specs.declared.tree.Expr.TheVariants as expr
+use Rattle.jz_first.specs.declared.tree.BinOp.{BinOp}
+use Rattle.jz_first.specs.declared.tree.BinOp.TheVariants as op
+use Rattle.jz_first.specs.declared.tree.Lval.TheVariants as lval
+use Rattle.jz_first.specs.declared.tree.Rhs.{Rhs}
+use Rattle.jz_first.specs.declared.tree.Rhs.TheVariants as rhs
+use Rattle.jz_first.specs.declared.tree.Stmt.{Stmt}
+use Rattle.jz_first.specs.declared.tree.StmtKind.{StmtKind}
+use Rattle.jz_first.specs.declared.tree.StmtKind.TheVariants as kind
 use Rattle.jz_correct.specs.Assembled.{assembled}
 use Rattle.jz_correct.specs.Frames.{stacked_by, stacked_if, stacked_among, is_reg, operand_names, names, saved_of, frame_of, frame_size, frame_end, end_from}
 use Rattle.jz_correct.specs.Correctness.{IsLineOf, AreArgumentLines, AreResultLines, AreSpelled}

@@ -9,21 +9,21 @@ use Rattle.jz_ir.specs.Places.{IsWithin, placed, refused}
 use Rattle.jz_ir.specs.Straight.{LiveIn}
 use Rattle.jz_ir.proofs.Numbers.{one_place}
 use Rattle.jz_alloc.proofs.Seating.{one_out, placing, live_below}
-use Rattle.jz_first_tree.specs.declared.Program.{Program}
-use Rattle.jz_first_tree.specs.declared.Fun.{Fun}
-use Rattle.jz_first_tree.specs.declared.Var.{Var}
-use Rattle.jz_first_tree.specs.declared.Expr.TheVariants as expr
-use Rattle.jz_first_tree.specs.declared.Lval.{Lval}
-use Rattle.jz_first_tree.specs.declared.Lval.TheVariants as lval
-use Rattle.jz_first_tree.specs.declared.Rhs.{Rhs}
-use Rattle.jz_first_tree.specs.declared.Rhs.TheVariants as rhs
-use Rattle.jz_first_tree.specs.declared.Stmt.{Stmt}
-use Rattle.jz_first_tree.specs.declared.StmtKind.{StmtKind}
-use Rattle.jz_first_tree.specs.declared.StmtKind.TheVariants as kind
-use Rattle.jz_first_tree.specs.Variables.{variables_of}
+use Rattle.jz_first.specs.declared.tree.Program.{Program}
+use Rattle.jz_first.specs.declared.tree.Fun.{Fun}
+use Rattle.jz_first.specs.declared.tree.Var.{Var}
+use Rattle.jz_first.specs.declared.tree.Expr.TheVariants as expr
+use Rattle.jz_first.specs.declared.tree.Lval.{Lval}
+use Rattle.jz_first.specs.declared.tree.Lval.TheVariants as lval
+use Rattle.jz_first.specs.declared.tree.Rhs.{Rhs}
+use Rattle.jz_first.specs.declared.tree.Rhs.TheVariants as rhs
+use Rattle.jz_first.specs.declared.tree.Stmt.{Stmt}
+use Rattle.jz_first.specs.declared.tree.StmtKind.{StmtKind}
+use Rattle.jz_first.specs.declared.tree.StmtKind.TheVariants as kind
+use Rattle.jz_first.specs.Variables.{variables_of}
 use Rattle.jz_data.proofs.Lists.{All-front, All-back}
-use Rattle.jz_first_types.specs.TypedPrograms.{HasDeclaration}
-use Rattle.jz_first_types.specs.Uses.{left_side_uses, right_side_uses, kind_uses, body_uses, uses_of}
+use Rattle.jz_first.specs.TypedPrograms.{HasDeclaration}
+use Rattle.jz_first.specs.Uses.{left_side_uses, right_side_uses, kind_uses, body_uses, uses_of}
 use Rattle.jz_safety.specs.Alarms.{HasNoAlarm}
 use Rattle.jz_safety.specs.Resolved.{IsResolved}
 use Rattle.jz_listing.specs.declared.compiled.Compiled.{Compiled}

@@ -5,23 +5,23 @@ use Rattle.std.specs.List.{All, AllPairs, Contains, filter_map, cons_option}
 use Rattle.std.proofs.lemmas.List.{length-append, length-map}
 use Rattle.std.proofs.lemmas.List.Elements.{All-head, All-tail, All-append, All-map, All-weaker, All-contains}
 use Rattle.jz_data.proofs.Lists.{All-front, All-back}
-use Rattle.jz_first_tree.specs.declared.Program.{Program}
-use Rattle.jz_first_tree.specs.declared.Fun.{Fun}
-use Rattle.jz_first_tree.specs.declared.Param.{Param}
-use Rattle.jz_first_tree.specs.declared.Ret.{Ret}
-use Rattle.jz_first_tree.specs.declared.Var.{Var}
-use Rattle.jz_first_tree.specs.declared.Expr.TheVariants as expr
-use Rattle.jz_first_tree.specs.declared.Rhs.TheVariants as rhs
-use Rattle.jz_first_tree.specs.declared.Stmt.{Stmt}
-use Rattle.jz_first_tree.specs.declared.StmtKind.{StmtKind}
-use Rattle.jz_first_tree.specs.declared.StmtKind.TheVariants as kind
-use Rattle.jz_first_tree.specs.Variables.{variables_of}
-use Rattle.jz_first_tree.specs.Assignments.{AssignsToOne}
+use Rattle.jz_first.specs.declared.tree.Program.{Program}
+use Rattle.jz_first.specs.declared.tree.Fun.{Fun}
+use Rattle.jz_first.specs.declared.tree.Param.{Param}
+use Rattle.jz_first.specs.declared.tree.Ret.{Ret}
+use Rattle.jz_first.specs.declared.tree.Var.{Var}
+use Rattle.jz_first.specs.declared.tree.Expr.TheVariants as expr
+use Rattle.jz_first.specs.declared.tree.Rhs.TheVariants as rhs
+use Rattle.jz_first.specs.declared.tree.Stmt.{Stmt}
+use Rattle.jz_first.specs.declared.tree.StmtKind.{StmtKind}
+use Rattle.jz_first.specs.declared.tree.StmtKind.TheVariants as kind
+use Rattle.jz_first.specs.Variables.{variables_of}
+use Rattle.jz_first.specs.Assignments.{AssignsToOne}
 use Rattle.jz_data.proofs.Lists.{All-front, All-back}
-use Rattle.jz_first_parse.specs.Trees.{register_word}
-use Rattle.jz_first_parse.specs.Derived.{DeclaresWords}
-use Rattle.jz_first_types.specs.TypedPrograms.{HaveDifferentNames, HasDeclaration, HaveDeclarations, HasCounts, HaveCounts}
-use Rattle.jz_first_types.specs.Uses.{right_side_uses, kind_uses, body_uses, uses_of}
+use Rattle.jz_first.specs.Trees.{register_word}
+use Rattle.jz_first.specs.Derived.{DeclaresWords}
+use Rattle.jz_first.specs.TypedPrograms.{HaveDifferentNames, HasDeclaration, HaveDeclarations, HasCounts, HaveCounts}
+use Rattle.jz_first.specs.Uses.{right_side_uses, kind_uses, body_uses, uses_of}
 use Rattle.jz_pipeline.specs.Limits.{HasOwnField, Constant, immediate_of, IsWithinLimits}
 use Rattle.jz_lower.specs.Straight.{IsWord, AreWords, GiveWords, SetsWord, SetWords, KindFits, FitImmediates, IsStraight}
 use Rattle.jz_pipeline.specs.Placed.{IsPlaceable}

@@ -9,7 +9,7 @@ use Rattle.jz_data.specs.declared.failure.Failure.{Failure}
 use Rattle.jz_data.specs.declared.failure.Failure.TheVariants.{Refused, OutOfMemory}
 use Rattle.jz_data.specs.Failures.{IfRefused}
 use Rattle.jz_first_meaning.specs.declared.expanded.Expanded.{Expanded}
-use Rattle.jz_first_tree.specs.declared.Fun.{Fun}
+use Rattle.jz_first.specs.declared.tree.Fun.{Fun}
 use Rattle.jz_pipeline.specs.declared.limits.Limit.{Limit}
 use Rattle.jz_pipeline.specs.Limits.{IsWithinLimits, IsFirstLimit}
 use Rattle.jz_pipeline.proofs.LimitLemmas.{none_within}

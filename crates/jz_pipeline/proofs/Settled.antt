@@ -4,9 +4,9 @@ use Rattle.std.specs.Prelude.{map, Contains}
 use Rattle.std.specs.FinMap as map_of
 use Rattle.std.proofs.lemmas.List.{length-map}
 use Rattle.x64_insn.specs.declared.types.Reg.{Reg}
-use Rattle.jz_first_tree.specs.declared.Program.{Program}
-use Rattle.jz_first_tree.specs.declared.Fun.{Fun}
-use Rattle.jz_first_tree.specs.declared.Stmt.{Stmt}
+use Rattle.jz_first.specs.declared.tree.Program.{Program}
+use Rattle.jz_first.specs.declared.tree.Fun.{Fun}
+use Rattle.jz_first.specs.declared.tree.Stmt.{Stmt}
 use Rattle.jz_leak.specs.declared.event.Event.{Event}
 use Rattle.jz_leak.specs.declared.transformer.Out.{Out}
 use Rattle.jz_leak.specs.declared.transformer.Case.{Case}

@@ -13,8 +13,8 @@ use Rattle.x64_insn.specs.declared.types.Reg.TheVariants as reg
 use Rattle.x64_insn.specs.declared.types.FlagVal.TheVariants.{Undefined}
 use Rattle.x64_insn.specs.declared.types.State.{State}
 use Rattle.x64_insn.specs.Rows.{reg_value, reg_word}
-use Rattle.jz_first_tree.specs.declared.Fun.{Fun}
-use Rattle.jz_first_tree.specs.declared.Var.{Var}
+use Rattle.jz_first.specs.declared.tree.Fun.{Fun}
+use Rattle.jz_first.specs.declared.tree.Var.{Var}
 use Rattle.jz_leak.specs.declared.transformer.Transformer.{Transformer}
 use Rattle.jz_listing.specs.declared.compiled.Arg.{Arg}
 use Rattle.jz_listing.specs.declared.compiled.Compiled.{Compiled}

@@ -7,7 +7,7 @@ use Rattle.x64_insn.specs.declared.types.Insn.{Insn}
 use Rattle.x64_insn.specs.declared.types.Insn.TheVariants as insn
 use Rattle.x64_insn.specs.Encoding.{HasSpelling}
 use Rattle.x64_insn.proofs.ChosenSpelling.{spelling_exists}
-use Rattle.jz_first_tree.specs.declared.Fun.{Fun}
+use Rattle.jz_first.specs.declared.tree.Fun.{Fun}
 use Rattle.jz_correct.proofs.PlainCode.{AllPlain, plain_spelled, ret_spelled}
 use Rattle.jz_lower.specs.Lowering.{insns_of}
 use Rattle.jz_lower.specs.Straight.{FitImmediates}

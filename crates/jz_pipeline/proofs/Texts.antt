@@ -4,15 +4,15 @@ use Rattle.std.specs.Prelude.{map, slice_index_or}
 use Rattle.std.specs.List.{All}
 use Rattle.std.proofs.lemmas.List.Elements.{All-nil, All-cons, All-head, All-tail, All-map, All-weaker, All-contains_itself}
 use Rattle.jz_lex.specs.declared.token.Token.{Token}
-use Rattle.jz_first_tree.specs.declared.Program.{Program}
-use Rattle.jz_first_tree.specs.declared.Fun.{Fun}
-use Rattle.jz_first_tree.specs.Assignments.{AssignsToOne}
-use Rattle.jz_first_parse.specs.Deriving.{DerivesProgram}
-use Rattle.jz_first_parse.specs.Derived.{DeclaresWords}
-use Rattle.jz_first_parse.proofs.Assigning.{statements_one}
-use Rattle.jz_first_parse.proofs.Declaring.{words_declared}
-use Rattle.jz_first_types.specs.Resolving.{resolved_fun, resolved_program}
-use Rattle.jz_first_types.specs.TypedPrograms.{HaveDifferentNames, HaveDeclarations, HaveCounts}
+use Rattle.jz_first.specs.declared.tree.Program.{Program}
+use Rattle.jz_first.specs.declared.tree.Fun.{Fun}
+use Rattle.jz_first.specs.Assignments.{AssignsToOne}
+use Rattle.jz_first.specs.Deriving.{DerivesProgram}
+use Rattle.jz_first.specs.Derived.{DeclaresWords}
+use Rattle.jz_first.proofs.Assigning.{statements_one}
+use Rattle.jz_first.proofs.Declaring.{words_declared}
+use Rattle.jz_first.specs.Resolving.{resolved_fun, resolved_program}
+use Rattle.jz_first.specs.TypedPrograms.{HaveDifferentNames, HaveDeclarations, HaveCounts}
 use Rattle.jz_first_meaning.specs.declared.expanded.Expanded.{Expanded}
 use Rattle.jz_pipeline.specs.Limits.{IsWithinLimits}
 use Rattle.jz_safety.proofs.Declaring.{keeps_one}

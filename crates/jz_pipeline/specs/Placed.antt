@@ -6,11 +6,11 @@ use Rattle.jz_ir.specs.Straight.{LiveIn}
 use Rattle.jz_alloc.specs.Answers.{IsEvidence}
 use Rattle.jz_alloc.specs.declared.evidence.Holder as numbered_holder
 use Rattle.jz_alloc.specs.declared.placing.NoPlace as numbered
-use Rattle.jz_first_tree.specs.declared.Fun.{Fun}
-use Rattle.jz_first_tree.specs.declared.Var.{Var}
-use Rattle.jz_first_tree.specs.Variables.{variables_of}
-use Rattle.jz_first_types.specs.Uses.{uses_of}
-use Rattle.jz_first_types.specs.TypedPrograms.{HasDeclaration, HasCounts}
+use Rattle.jz_first.specs.declared.tree.Fun.{Fun}
+use Rattle.jz_first.specs.declared.tree.Var.{Var}
+use Rattle.jz_first.specs.Variables.{variables_of}
+use Rattle.jz_first.specs.Uses.{uses_of}
+use Rattle.jz_first.specs.TypedPrograms.{HasDeclaration, HasCounts}
 use Rattle.jz_listing.specs.declared.compiled.Compiled.{Compiled}
 use Rattle.jz_lower.specs.Straight.{IsStraight}
 use Rattle.jz_lower.specs.Operations.{code_of, operations_of, register_of}

@@ -1,6 +1,6 @@
 -- Stages that are done for each function of a text, one after another.
 use Rattle.std.specs.Prelude.{◌≡◌, List, ◌∷◌, ◌++◌, All, map}
-use Rattle.jz_first_tree.specs.declared.Fun.{Fun}
+use Rattle.jz_first.specs.declared.tree.Fun.{Fun}
 use Rattle.jz_first_meaning.specs.declared.expanded.Expanded.{Expanded}
 use Rattle.jz_safety.specs.declared.alarm.Alarm.{Alarm}
 use Rattle.jz_safety.specs.Alarms.{IsFirstAlarm}

@@ -6,7 +6,7 @@ ghost use Rattle.jz_correct.specs.Assembled.{assembled};
 ghost use Rattle.jz_pipeline.specs.Compiling.{straight_transformer};
 
 use jz_data::Seq;
-use jz_first_tree::Stmt;
+use jz_first::Stmt;
 use jz_io::Bytes;
 use jz_leak::{Case, Form, Out, Tr, Transformer};
 use std::alloc::{AllocError, Global};

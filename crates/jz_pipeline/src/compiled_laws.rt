@@ -1,14 +1,14 @@
 //! What holds of each function that is compiled where first fit puts its variables.
 
 ghost use Rattle.std.specs.Prelude.{◌≡◌, Contains, All};
-ghost use Rattle.jz_first_tree.specs.declared.Program.{Program};
-ghost use Rattle.jz_first_tree.specs.declared.Fun.{Fun};
-ghost use Rattle.jz_first_types.specs.TypedPrograms.{HaveDifferentNames, HaveDeclarations, HaveCounts};
-ghost use Rattle.jz_first_parse.specs.Derived.{DeclaresWords};
+ghost use Rattle.jz_first.specs.declared.tree.Program.{Program};
+ghost use Rattle.jz_first.specs.declared.tree.Fun.{Fun};
+ghost use Rattle.jz_first.specs.TypedPrograms.{HaveDifferentNames, HaveDeclarations, HaveCounts};
+ghost use Rattle.jz_first.specs.Derived.{DeclaresWords};
 ghost use Rattle.jz_pipeline.specs.Limits.{IsWithinLimits};
 ghost use Rattle.jz_safety.specs.Alarms.{HasNoAlarm};
 ghost use Rattle.jz_safety.specs.Resolved.{IsResolved};
-ghost use Rattle.jz_first_tree.specs.Assignments.{AssignsToOne};
+ghost use Rattle.jz_first.specs.Assignments.{AssignsToOne};
 ghost use Rattle.jz_listing.specs.declared.compiled.Compiled.{Compiled};
 ghost use Rattle.jz_correct.specs.Correctness.{IsCorrect};
 ghost use Rattle.jz_pipeline.specs.Placed.{IsCompiled, IsPlaceable, IsUnplaced};

@@ -2,7 +2,7 @@
 
 ghost use Rattle.std.specs.Prelude.{◌≡◌, ◌<◌, ◌^◌, IfOk, IfErr, length};
 ghost use Rattle.jz_data.specs.Failures.{IfRefused};
-ghost use Rattle.jz_first_tree.specs.Variables.{variables_of};
+ghost use Rattle.jz_first.specs.Variables.{variables_of};
 ghost use Rattle.jz_lower.specs.Operations.{register_of};
 ghost use Rattle.jz_lower.specs.Straight.{FitImmediates};
 ghost use Rattle.jz_pipeline.specs.Compiling.{compiled_of};
@@ -14,7 +14,7 @@ use crate::signature::{arguments, results};
 use crate::unplaced::NoPlace;
 use jz_alloc::allocate;
 use jz_data::{Failure, Seq};
-use jz_first_tree::Fun;
+use jz_first::Fun;
 use jz_io::Ct;
 use jz_listing::Compiled;
 use jz_lower::{instructions, operations};

@@ -2,7 +2,7 @@
 
 ghost use Rattle.std.specs.Prelude.{◌≡◌, IfOk};
 
-use jz_first_tree::{Expr, Fun, Lval, Param, Ret, Rhs, Stmt, StmtKind, Var};
+use jz_first::{Expr, Fun, Lval, Param, Ret, Rhs, Stmt, StmtKind, Var};
 use std::alloc::{AllocError, Global};
 
 fn copy_var(var: &Var) -> Result<Var, AllocError>

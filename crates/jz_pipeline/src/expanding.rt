@@ -8,7 +8,7 @@ use crate::copying::copy_fun;
 use crate::limits::{Limit, first_limit};
 use jz_data::Failure;
 use jz_first_meaning::Expanded;
-use jz_first_types::Typed;
+use jz_first::Typed;
 use std::alloc::Global;
 
 /// The function of that number after expansion, or the first limit that it passes. A function

@@ -3,11 +3,11 @@
 ghost use Rattle.std.specs.Prelude.{[], ◌∷◌, ◌≡◌, ◌≤◌, ◌^◌, All, Contains, List, length, ℕ};
 ghost use Rattle.x64_insn.specs.declared.types.Reg.{Reg};
 ghost use Rattle.jz_lex.specs.declared.token.Token.{Token};
-ghost use Rattle.jz_first_tree.specs.declared.Program.{Program};
-ghost use Rattle.jz_first_tree.specs.declared.Fun.{Fun};
-ghost use Rattle.jz_first_parse.specs.Deriving.{DerivesProgram};
-ghost use Rattle.jz_first_types.specs.Resolving.{resolved_program};
-ghost use Rattle.jz_first_types.specs.TypedPrograms.{HaveDifferentNames, HaveDeclarations, HaveCounts};
+ghost use Rattle.jz_first.specs.declared.tree.Program.{Program};
+ghost use Rattle.jz_first.specs.declared.tree.Fun.{Fun};
+ghost use Rattle.jz_first.specs.Deriving.{DerivesProgram};
+ghost use Rattle.jz_first.specs.Resolving.{resolved_program};
+ghost use Rattle.jz_first.specs.TypedPrograms.{HaveDifferentNames, HaveDeclarations, HaveCounts};
 ghost use Rattle.jz_pipeline.specs.Limits.{IsWithinLimits};
 ghost use Rattle.jz_safety.specs.Alarms.{HasNoAlarm};
 ghost use Rattle.jz_safety.specs.Resolved.{IsResolved};

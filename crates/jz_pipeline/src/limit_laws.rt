@@ -1,7 +1,7 @@
 //! Laws of the definitions of limits.
 
 ghost use Rattle.std.specs.Prelude.{◌≡◌, ◌⊎◌};
-ghost use Rattle.jz_first_tree.specs.declared.Fun.{Fun};
+ghost use Rattle.jz_first.specs.declared.tree.Fun.{Fun};
 ghost use Rattle.jz_pipeline.specs.declared.limits.Limit.{Limit};
 ghost use Rattle.jz_pipeline.specs.Limits.{IsWithinLimits, IsFirstLimit};
 

@@ -7,7 +7,7 @@ ghost use Rattle.jz_pipeline.specs.Limits.{constant_in, immediate_of, immediates
 ghost use Rattle.jz_pipeline.specs.Limits.{IsWithinLimits, IsFirstLimit};
 
 use jz_data::Text;
-use jz_first_tree::{Expr, Fun, Rhs, StmtKind};
+use jz_first::{Expr, Fun, Rhs, StmtKind};
 use jz_io::Span;
 use jz_words::{Size, fits_four_bytes, reading};
 use std::alloc::AllocError;

@@ -1,12 +1,12 @@
 //! The names of a variable without a place and of what holds its places.
 
 ghost use Rattle.std.specs.Prelude.{◌≡◌, IfOk, option_copied, slice_get};
-ghost use Rattle.jz_first_tree.specs.Variables.{variables_of};
+ghost use Rattle.jz_first.specs.Variables.{variables_of};
 ghost use Rattle.jz_pipeline.specs.Placed.{name_at, holder_of, refusal_of};
 
 use crate::unplaced::{Holder, NoPlace};
 use jz_data::Text;
-use jz_first_tree::{Fun, Var};
+use jz_first::{Fun, Var};
 use std::alloc::{AllocError, Global};
 
 /// The variable of this number: parameters come first.

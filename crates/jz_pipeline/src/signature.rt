@@ -6,7 +6,7 @@ ghost use Rattle.jz_lower.specs.Placing.{variable_of};
 ghost use Rattle.jz_pipeline.specs.Compiling.{line_of, lines_of};
 
 use jz_data::Seq;
-use jz_first_tree::{Param, Var};
+use jz_first::{Param, Var};
 use jz_listing::Arg;
 use jz_lower::{ARGUMENT_REGISTERS, RESULT_REGISTERS};
 use jz_words::Size;

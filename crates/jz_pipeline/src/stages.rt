@@ -13,7 +13,7 @@ use crate::limits::Limit;
 use crate::unplaced::NoPlace;
 use jz_data::{Failure, Seq};
 use jz_first_meaning::Expanded;
-use jz_first_types::Typed;
+use jz_first::Typed;
 use jz_listing::Compiled;
 use jz_safety::{Alarm, Safe, safe};
 use std::alloc::Global;

@@ -2,7 +2,7 @@
 use Rattle.std.proofs.Common.{◌≡◌, ℕ, ◌+◌, ◌<◌, List, [], ◌∷◌, ◌++◌, refl, sym, ap, ◌∙◌, take, length, get_or}
 use Rattle.std.proofs.lemmas.List.{take_more}
 use Rattle.jz_tree.specs.declared.program.Const.{Const}
-use Rattle.jz_scopes.specs.Scopes.{or_named}
+use Rattle.jz_type_names.specs.Scopes.{or_named}
 use Rattle.jz_resolve.specs.Numbering.{Values, value_with, no_values, values_after, values_of}
 
 after_last : (known : Values) (cs : List Const) (c : Const) → values_after known (cs ++ c ∷ []) ≡ or_named (values_after known cs) c.name (value_with (values_after known cs) c.value)

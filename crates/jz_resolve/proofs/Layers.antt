@@ -8,7 +8,7 @@ use Rattle.jz_tree.specs.declared.expr.Decl.{Decl}
 use Rattle.jz_tree.specs.declared.expr.Expr.TheOpen.{Expr-F}
 use Rattle.jz_tree.specs.declared.expr.Expr.TheViews.{roll-Ty, roll-Access, roll-Decl}
 use Rattle.jz_tree.specs.declared.expr.Expr.TheFolds.{fold-roll-Expr}
-use Rattle.jz_scopes.specs.Scopes.{Name}
+use Rattle.jz_type_names.specs.Scopes.{Name}
 use Rattle.jz_resolve.specs.Resolving.{expr_step, var_step, resolved_expr}
 
 module _ (d : List ℕ → Option Decl) (n : Name → Option (Option ℤ)) where

@@ -5,8 +5,8 @@ use Rattle.std.specs.Prelude.{if◌then◌else◌, option_map, option_and_then}
 use Rattle.jz_io.specs.declared.span.Span.{Span}
 use Rattle.jz_tree.specs.declared.expr.Var.{Var}
 use Rattle.jz_tree.specs.declared.expr.Expr.TheViews.{out-Var}
-use Rattle.jz_scopes.specs.Scopes.{Name, PlacesByName, variable_named, place_among, or_else}
-use Rattle.jz_scopes.specs.Names.{is_constant}
+use Rattle.jz_type_names.specs.Scopes.{Name, PlacesByName, variable_named, place_among, or_else}
+use Rattle.jz_type_names.specs.Names.{is_constant}
 use Rattle.jz_resolve.specs.Numbering.{Values, constant_decl, declaration_in, number_in}
 
 module _ (variables : List ℕ → Option Var) (places : PlacesByName) (values : Values) (vs : List Var) (held : (n : List ℕ) → variables n ≡ variable_named n vs) where

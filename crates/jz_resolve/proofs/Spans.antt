@@ -20,11 +20,11 @@ use Rattle.jz_tree.specs.declared.stmt.StmtKind.TheViews.{roll-Stmt, roll-StmtKi
 use Rattle.jz_tree.specs.declared.stmt.StmtKind.TheFolds.{fold-roll-Stmt, fold-roll-StmtKind, para-StmtKind, para-roll-Stmt, para-roll-StmtKind, ind-Stmt, map-Stmt, map-StmtKind}
 use Rattle.jz_tree.specs.declared.program.Program.{Program}
 use Rattle.jz_tree.specs.declared.program.Fun.{Fun}
-use Rattle.jz_scopes.specs.Scopes.{Name, name_of, constant_place, variables_of}
-use Rattle.jz_scopes.specs.Parts.{span_layer, span_of, nested_statements, nested_step, statements_in, statements_of}
+use Rattle.jz_type_names.specs.Scopes.{Name, name_of, constant_place, variables_of}
+use Rattle.jz_type_names.specs.Parts.{span_layer, span_of, nested_statements, nested_step, statements_in, statements_of}
 use Rattle.jz_resolve.specs.Resolving.{number_or, expr_step, var_step, resolved_expr, resolved_access, resolved_var, kind_step, resolved_kind, resolved_stmt}
 use Rattle.jz_resolve.specs.Numbering.{values_of, declaration_in, number_in}
-use Rattle.jz_scopes.specs.Scopes.{function_name}
+use Rattle.jz_type_names.specs.Scopes.{function_name}
 use Rattle.jz_resolve.specs.Programs.{counted_fun, resolved_whole, resolved_program}
 
 in_kind : StmtKind → List Stmt

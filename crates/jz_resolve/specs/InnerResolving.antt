@@ -9,7 +9,7 @@ use Rattle.jz_tree.specs.declared.stmt.Rhs.{Rhs}
 use Rattle.jz_tree.specs.declared.stmt.StmtKind.{StmtKind}
 use Rattle.jz_tree.specs.declared.stmt.StmtKind.TheViews.{roll-Stmt}
 use Rattle.jz_tree.specs.declared.stmt.StmtKind.TheFolds.{fold-StmtKind}
-use Rattle.jz_scopes.specs.Scopes.{name_of}
+use Rattle.jz_type_names.specs.Scopes.{name_of}
 use Rattle.jz_resolve.specs.declared.expressions.Step.{Step}
 use Rattle.jz_resolve.specs.declared.expressions.Side.{Side}
 use Rattle.jz_resolve.specs.Resolving.{KnownNames, resolved_access, resolved_lval, resolved_rhs, kind_step, number_or, var_with}

@@ -5,9 +5,9 @@ use Rattle.jz_tree.specs.declared.expr.Var.{Var}
 use Rattle.jz_tree.specs.declared.expr.Expr.TheViews.{out-Var}
 use Rattle.jz_tree.specs.declared.program.Const.{Const}
 use Rattle.jz_tree.specs.declared.program.Fun.{Fun}
-use Rattle.jz_scopes.specs.Scopes.{Name, PlacesByName, variables_of, or_else, or_named}
-use Rattle.jz_scopes.specs.Names.{is_constant}
-use Rattle.jz_scopes.specs.Tables.{variable_in}
+use Rattle.jz_type_names.specs.Scopes.{Name, PlacesByName, variables_of, or_else, or_named}
+use Rattle.jz_type_names.specs.Names.{is_constant}
+use Rattle.jz_type_names.specs.Tables.{variable_in}
 use Rattle.jz_resolve.specs.declared.table.ConstantTable.{ConstantTable}
 use Rattle.jz_resolve.specs.declared.scope.Scope.{Scope}
 use Rattle.jz_resolve.specs.Resolving.{KnownNames}

@@ -8,8 +8,8 @@ use Rattle.jz_tree.specs.declared.expr.Var.{Var}
 use Rattle.jz_tree.specs.declared.expr.Expr.TheViews.{out-Var, roll-Decl}
 use Rattle.jz_tree.specs.declared.program.Const.{Const}
 use Rattle.jz_integers.specs.Integers.{inline_value, the_number}
-use Rattle.jz_scopes.specs.Scopes.{Name, PlacesByName, variable_named, place_among, or_else, or_named}
-use Rattle.jz_scopes.specs.Names.{is_constant}
+use Rattle.jz_type_names.specs.Scopes.{Name, PlacesByName, variable_named, place_among, or_else, or_named}
+use Rattle.jz_type_names.specs.Names.{is_constant}
 use Rattle.jz_resolve.specs.Resolving.{KnownNames}
 
 -- ---- the values of constants, each by those before it

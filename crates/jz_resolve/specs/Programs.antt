@@ -16,8 +16,8 @@ use Rattle.jz_tree.specs.declared.program.Const.{Const}
 use Rattle.jz_tree.specs.declared.program.Fun.{Fun}
 use Rattle.jz_tree.specs.declared.program.Param.{Param}
 use Rattle.jz_tree.specs.declared.program.Ret.{Ret}
-use Rattle.jz_scopes.specs.Scopes.{Name, PlacesByName, variables_of, constant_place, function_name}
-use Rattle.jz_scopes.specs.Parts.{span_of, statements_of}
+use Rattle.jz_type_names.specs.Scopes.{Name, PlacesByName, variables_of, constant_place, function_name}
+use Rattle.jz_type_names.specs.Parts.{span_of, statements_of}
 use Rattle.jz_resolve.specs.Resolving.{expr_with, var_with, stmt_with}
 use Rattle.jz_resolve.specs.Numbering.{Values, value_with, values_of, known_among}
 

@@ -21,7 +21,7 @@ use Rattle.jz_tree.specs.declared.stmt.StmtKind.{StmtKind}
 use Rattle.jz_tree.specs.declared.stmt.StmtKind.TheOpen.{StmtKind-F}
 use Rattle.jz_tree.specs.declared.stmt.StmtKind.TheViews.{roll-Stmt, roll-StmtKind}
 use Rattle.jz_tree.specs.declared.stmt.StmtKind.TheFolds.{fold-Stmt}
-use Rattle.jz_scopes.specs.Scopes.{Name, name_of}
+use Rattle.jz_type_names.specs.Scopes.{Name, name_of}
 
 -- what stands for a constant: its number; for one that has none a division by zero, which has none
 -- either

@@ -1,8 +1,8 @@
 -- What a table of constants holds.
 use Rattle.std.specs.Prelude.{◌≡◌, List}
 use Rattle.jz_tree.specs.declared.program.Const.{Const}
-use Rattle.jz_scopes.specs.Scopes.{PlacesByName, constant_place}
-use Rattle.jz_scopes.specs.Tables.{item_in, place_in}
+use Rattle.jz_type_names.specs.Scopes.{PlacesByName, constant_place}
+use Rattle.jz_type_names.specs.Tables.{item_in, place_in}
 use Rattle.jz_resolve.specs.declared.table.ConstantTable.{ConstantTable}
 use Rattle.jz_resolve.specs.Numbering.{Values, values_of}
 

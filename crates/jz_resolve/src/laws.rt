@@ -1,6 +1,6 @@
 //! What stays of a program that is resolved.
 ghost use Rattle.std.specs.Prelude.{◌≡◌, map};
-ghost use Rattle.jz_scopes.specs.Parts.{span_of, statements_in};
+ghost use Rattle.jz_type_names.specs.Parts.{span_of, statements_in};
 ghost use Rattle.jz_resolve.specs.Resolving.{KnownNames, expr_with, stmt_with};
 ghost use Rattle.jz_resolve.specs.Programs.{function_names, all_statement_places, resolved_program};
 

@@ -1,6 +1,6 @@
 //! The variables of a function by their names.
 ghost use Rattle.std.specs.Prelude.{◌≡◌, IfOk, []};
-ghost use Rattle.jz_scopes.specs.Scopes.{variables_of};
+ghost use Rattle.jz_type_names.specs.Scopes.{variables_of};
 ghost use Rattle.jz_resolve.specs.InnerTables.{declared_by, place_by, is_constant_by, number_by, known_by, IsScope};
 
 use crate::lookup::Lookup;
@@ -8,7 +8,7 @@ use crate::table::ConstantTable;
 use jz_data::Text;
 use jz_integers::Numbers;
 use jz_io::Span;
-use jz_scopes::{Variables, above};
+use jz_type_names::{Variables, above};
 use jz_tree::{Decl, Fun};
 use std::alloc::{AllocError, Global};
 

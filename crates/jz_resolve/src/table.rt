@@ -1,8 +1,8 @@
 //! The numbers of constants.
 ghost use Rattle.std.specs.Prelude.{◌≡◌, option_map, IfOk, OnOk};
-ghost use Rattle.jz_scopes.specs.Scopes.{constant_place};
-ghost use Rattle.jz_scopes.specs.Names.{stands_above};
-ghost use Rattle.jz_scopes.specs.Tables.{item_in};
+ghost use Rattle.jz_type_names.specs.Scopes.{constant_place};
+ghost use Rattle.jz_type_names.specs.Names.{stands_above};
+ghost use Rattle.jz_type_names.specs.Tables.{item_in};
 ghost use Rattle.jz_resolve.specs.Numbering.{value_with, with_value, no_values, constant_decl};
 ghost use Rattle.jz_resolve.specs.Tables.{values_in, places_in, IsTable};
 ghost use Rattle.jz_resolve.specs.InnerTables.{with_number};
@@ -10,7 +10,7 @@ ghost use Rattle.jz_resolve.specs.InnerTables.{with_number};
 use jz_data::{Seq, Text};
 use jz_integers::{Constant, Numbers, inline_value};
 use jz_io::Span;
-use jz_scopes::{ByName, Places, above};
+use jz_type_names::{ByName, Places, above};
 use jz_tree::{Const, Decl, Expr, Storage, Ty};
 use std::alloc::{AllocError, Global};
 

@@ -16,8 +16,8 @@ use Rattle.jz_tree.specs.declared.stmt.StmtKind.TheOpen.{StmtKind-F, Stmt-F}
 use Rattle.jz_tree.specs.declared.stmt.StmtKind.TheViews.{out-StmtKind, out-roll-StmtKind, roll-Stmt, roll-StmtKind}
 use Rattle.jz_tree.specs.declared.stmt.StmtKind.TheFolds.{fold-StmtKind, fold-roll-Stmt, fold-roll-StmtKind, para-StmtKind, para-roll-Stmt, para-roll-StmtKind, ind-Stmt, map-Stmt, map-StmtKind}
 use Rattle.jz_runs.specs.Trees.{done, choose, loop, each}
-use Rattle.jz_scopes.specs.Scopes.{Name}
-use Rattle.jz_scopes.specs.Parts.{Layer, layer_of, called_by, nested_statements, nested_step, statements_in, statements_of}
+use Rattle.jz_type_names.specs.Scopes.{Name}
+use Rattle.jz_type_names.specs.Parts.{Layer, layer_of, called_by, nested_statements, nested_step, statements_in, statements_of}
 use Rattle.jz_meaning.specs.Statements.{Block}
 use Rattle.jz_meaning.specs.Runs.{Callee, Callees, call_tree, assign_tree, kind_tree, statement_tree, block}
 

@@ -9,10 +9,10 @@ use Rattle.jz_tree.specs.declared.stmt.Stmt.{Stmt}
 use Rattle.jz_tree.specs.declared.stmt.StmtKind.TheVariants as kind
 use Rattle.jz_tree.specs.declared.program.Fun.{Fun}
 use Rattle.jz_tree.specs.declared.program.Program.{Program}
-use Rattle.jz_scopes.specs.Scopes.{function_named}
+use Rattle.jz_type_names.specs.Scopes.{function_named}
 use Rattle.jz_runs.specs.Trees.{done, call}
-use Rattle.jz_calls.specs.Numbers.{number_named}
-use Rattle.jz_calls.specs.Recursion.{IsRecursive, IsRanked}
+use Rattle.jz_type_storage.specs.Numbers.{number_named}
+use Rattle.jz_type_storage.specs.Recursion.{IsRecursive, IsRanked}
 use Rattle.jz_types.specs.TypedPrograms.{IsTypedProgram}
 use Rattle.jz_meaning.specs.Statements.{Block}
 use Rattle.jz_meaning.specs.Runs.{Callee, Callees, statement_tree, block, callees_of, body_of}

@@ -1,1 +1,11 @@
 pub mod Depths
+pub mod Kinds
+pub mod Nodes
+pub mod Declared
+pub mod Kept
+pub mod Texts
+pub mod Counted
+pub mod Lefts
+pub mod OneSize
+pub mod Values
+pub mod Rows

@@ -1,6 +1,6 @@
 -- A function has one first alarm or none.
 use Rattle.std.proofs.Common.{◌≡◌, List, [], ◌∷◌, ◌⊎◌, inl, inr, refl, sym, ◌∙◌}
-use Rattle.jz_first_tree.specs.declared.Fun.{Fun}
+use Rattle.jz_first.specs.declared.tree.Fun.{Fun}
 use Rattle.jz_safety.specs.declared.alarm.Alarm.{Alarm}
 use Rattle.jz_safety.specs.Alarms.{alarms_of, IsFirst, HasNoAlarm, IsFirstAlarm}
 

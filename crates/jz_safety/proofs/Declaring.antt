@@ -2,17 +2,17 @@
 use Rattle.std.proofs.Common.{List, [], ◌∷◌, ap, subst}
 use Rattle.std.specs.Prelude.{All, Contains}
 use Rattle.std.proofs.lemmas.List.Elements.{All-nil, All-cons, All-head, All-tail, All-map, All-weaker, All-contains}
-use Rattle.jz_first_tree.specs.declared.Program.{Program}
-use Rattle.jz_first_tree.specs.declared.Fun.{Fun}
-use Rattle.jz_first_tree.specs.declared.Var.{Var}
-use Rattle.jz_first_tree.specs.declared.Stmt.{Stmt}
-use Rattle.jz_first_tree.specs.declared.StmtKind.{StmtKind}
-use Rattle.jz_first_tree.specs.Variables.{variables_of}
-use Rattle.jz_first_tree.specs.Assignments.{AssignsToOne}
+use Rattle.jz_first.specs.declared.tree.Program.{Program}
+use Rattle.jz_first.specs.declared.tree.Fun.{Fun}
+use Rattle.jz_first.specs.declared.tree.Var.{Var}
+use Rattle.jz_first.specs.declared.tree.Stmt.{Stmt}
+use Rattle.jz_first.specs.declared.tree.StmtKind.{StmtKind}
+use Rattle.jz_first.specs.Variables.{variables_of}
+use Rattle.jz_first.specs.Assignments.{AssignsToOne}
 use Rattle.jz_data.proofs.Lists.{All-front, All-back}
-use Rattle.jz_first_types.specs.Uses.{right_side_uses, kind_uses, body_uses, uses_of}
-use Rattle.jz_first_types.specs.Resolving.{resolved_var, resolved_rhs, resolved_kind, resolved_stmt, declaration_in, resolved_fun}
-use Rattle.jz_first_types.specs.TypedPrograms.{HasDeclaration, HaveDeclarations}
+use Rattle.jz_first.specs.Uses.{right_side_uses, kind_uses, body_uses, uses_of}
+use Rattle.jz_first.specs.Resolving.{resolved_var, resolved_rhs, resolved_kind, resolved_stmt, declaration_in, resolved_fun}
+use Rattle.jz_first.specs.TypedPrograms.{HasDeclaration, HaveDeclarations}
 use Rattle.jz_safety.specs.Resolved.{AssignsToDeclared, IsResolved}
 
 stmt_resolved : (vs : List Var) (s : Stmt) → AssignsToOne s → All (HasDeclaration vs) (kind_uses s.kind) → AssignsToDeclared s

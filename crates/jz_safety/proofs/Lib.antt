@@ -2,3 +2,5 @@ pub mod Alarming
 pub mod Checking
 pub mod Declaring
 pub mod Telling
+pub mod NamesSet
+pub mod Walks

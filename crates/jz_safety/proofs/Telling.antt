@@ -6,21 +6,21 @@ use Rattle.std.specs.Str.{bytes_eq}
 use Rattle.jz_data.proofs.Texts.{bytes_eq-sym}
 use Rattle.jz_io.specs.declared.span.Span.{Span}
 use Rattle.jz_words.specs.Memory.{Memory}
-use Rattle.jz_first_tree.specs.declared.Program.{Program}
-use Rattle.jz_first_tree.specs.declared.Fun.{Fun}
-use Rattle.jz_first_tree.specs.declared.Param.{Param}
-use Rattle.jz_first_tree.specs.declared.Decl.{Decl}
-use Rattle.jz_first_tree.specs.declared.Ty.{Ty}
-use Rattle.jz_first_tree.specs.declared.Ty.TheVariants.{Word}
-use Rattle.jz_first_tree.specs.declared.Var.{Var}
-use Rattle.jz_first_tree.specs.declared.Expr.TheVariants as expr
-use Rattle.jz_first_tree.specs.declared.BinOp.{BinOp}
-use Rattle.jz_first_tree.specs.declared.Lval.{Lval}
-use Rattle.jz_first_tree.specs.declared.Lval.TheVariants as lval
-use Rattle.jz_first_tree.specs.declared.Rhs.{Rhs}
-use Rattle.jz_first_tree.specs.declared.Rhs.TheVariants as rhs
-use Rattle.jz_first_tree.specs.declared.Stmt.{Stmt}
-use Rattle.jz_first_tree.specs.declared.StmtKind.{StmtKind}
+use Rattle.jz_first.specs.declared.tree.Program.{Program}
+use Rattle.jz_first.specs.declared.tree.Fun.{Fun}
+use Rattle.jz_first.specs.declared.tree.Param.{Param}
+use Rattle.jz_first.specs.declared.tree.Decl.{Decl}
+use Rattle.jz_first.specs.declared.tree.Ty.{Ty}
+use Rattle.jz_first.specs.declared.tree.Ty.TheVariants.{Word}
+use Rattle.jz_first.specs.declared.tree.Var.{Var}
+use Rattle.jz_first.specs.declared.tree.Expr.TheVariants as expr
+use Rattle.jz_first.specs.declared.tree.BinOp.{BinOp}
+use Rattle.jz_first.specs.declared.tree.Lval.{Lval}
+use Rattle.jz_first.specs.declared.tree.Lval.TheVariants as lval
+use Rattle.jz_first.specs.declared.tree.Rhs.{Rhs}
+use Rattle.jz_first.specs.declared.tree.Rhs.TheVariants as rhs
+use Rattle.jz_first.specs.declared.tree.Stmt.{Stmt}
+use Rattle.jz_first.specs.declared.tree.StmtKind.{StmtKind}
 use Rattle.jz_leak.specs.RunLeaks.{Leak}
 use Rattle.jz_runs.specs.Rules.{stuck, went, End, Stuck}
 use Rattle.jz_first_meaning.specs.SourceStates.{Value, word, integer, key_of, Store, empty_store, with_value_at, State, Why}
@@ -28,11 +28,11 @@ use Rattle.jz_first_meaning.specs.SourceValues.{Evaluation, numbers_first, and_t
 use Rattle.jz_first_meaning.specs.SourceRuns.{of_type, as_declared, held_value, written_state, right_value, combined_value, assigned_value, assigned_state, value_of_type, argument, with_arguments, entry_state, word_of, result_words, outcome_of_words, FunOutcome, FitsDecl, AreArguments, IsRun}
 use Rattle.jz_first_meaning.specs.StraightRuns.{run_statement, run_statements, words_returned, plain_leak}
 use Rattle.jz_first_meaning.proofs.StraightLaws.{fun_straight}
-use Rattle.jz_facts.specs.declared.fact.Fact.TheVariants.{Set}
-use Rattle.jz_facts.specs.declared.condition.Condition.{Condition}
-use Rattle.jz_facts.specs.Facts.{Facts, no_facts, with_fact}
-use Rattle.jz_facts.specs.Holding.{with_parameters, entry_facts, after_kind, facts_after, facts_at_end}
-use Rattle.jz_facts.specs.Conditions.{read_of, right_conditions, left_conditions, kind_conditions, conditions_of, result_conditions}
+use Rattle.jz_safety.specs.declared.fact.Fact.TheVariants.{Set}
+use Rattle.jz_safety.specs.declared.condition.Condition.{Condition}
+use Rattle.jz_safety.specs.Facts.{Facts, no_facts, with_fact}
+use Rattle.jz_safety.specs.Holding.{with_parameters, entry_facts, after_kind, facts_after, facts_at_end}
+use Rattle.jz_safety.specs.Conditions.{read_of, right_conditions, left_conditions, kind_conditions, conditions_of, result_conditions}
 use Rattle.jz_safety.specs.declared.alarm.Alarm.{Alarm}
 use Rattle.jz_safety.specs.Alarms.{alarm_of, why_of, alarms_at, body_alarms, alarms_of, HasNoAlarm, IsFirstAlarm}
 use Rattle.jz_safety.specs.Resolved.{AssignsToDeclared, IsResolved}

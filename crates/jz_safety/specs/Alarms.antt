@@ -2,13 +2,13 @@
 use Rattle.std.specs.Prelude.{◌≡◌, not, List, [], ◌∷◌, ◌++◌, map, filter}
 use Rattle.jz_data.specs.declared.failure.Failure.{Failure}
 use Rattle.jz_data.specs.Failures.{IfRefused}
-use Rattle.jz_first_tree.specs.declared.Fun.{Fun}
-use Rattle.jz_first_tree.specs.declared.Stmt.{Stmt}
+use Rattle.jz_first.specs.declared.tree.Fun.{Fun}
+use Rattle.jz_first.specs.declared.tree.Stmt.{Stmt}
 use Rattle.jz_first_meaning.specs.SourceStates.{Why}
-use Rattle.jz_facts.specs.declared.condition.Condition.{Condition}
-use Rattle.jz_facts.specs.Facts.{Facts}
-use Rattle.jz_facts.specs.Holding.{entry_facts, facts_after, facts_at_end}
-use Rattle.jz_facts.specs.Conditions.{conditions_of, result_conditions}
+use Rattle.jz_safety.specs.declared.condition.Condition.{Condition}
+use Rattle.jz_safety.specs.Facts.{Facts}
+use Rattle.jz_safety.specs.Holding.{entry_facts, facts_after, facts_at_end}
+use Rattle.jz_safety.specs.Conditions.{conditions_of, result_conditions}
 use Rattle.jz_safety.specs.declared.alarm.Alarm.{Alarm}
 
 -- what is told of a condition

@@ -1,12 +1,12 @@
 -- What statements need beside facts, so that they mean something.
 use Rattle.std.specs.Prelude.{◌≡◌, [], ◌∷◌, Option, IsSome, All}
-use Rattle.jz_first_tree.specs.declared.Fun.{Fun}
-use Rattle.jz_first_tree.specs.declared.Var.{Var}
-use Rattle.jz_first_tree.specs.declared.BinOp.{BinOp}
-use Rattle.jz_first_tree.specs.declared.Lval.TheVariants as lval
-use Rattle.jz_first_tree.specs.declared.Rhs.{Rhs}
-use Rattle.jz_first_tree.specs.declared.Stmt.{Stmt}
-use Rattle.jz_first_tree.specs.declared.StmtKind.TheVariants as kind
+use Rattle.jz_first.specs.declared.tree.Fun.{Fun}
+use Rattle.jz_first.specs.declared.tree.Var.{Var}
+use Rattle.jz_first.specs.declared.tree.BinOp.{BinOp}
+use Rattle.jz_first.specs.declared.tree.Lval.TheVariants as lval
+use Rattle.jz_first.specs.declared.tree.Rhs.{Rhs}
+use Rattle.jz_first.specs.declared.tree.Stmt.{Stmt}
+use Rattle.jz_first.specs.declared.tree.StmtKind.TheVariants as kind
 
 -- an assignment to one variable, which has its declaration
 abbrev pub AssignsToDeclared : Stmt → Type 0

@@ -1,16 +1,16 @@
 //! The search for the first alarm.
 
 ghost use Rattle.std.specs.Prelude.{◌≡◌, [], IfOk, OnOk, IfErr};
-ghost use Rattle.jz_facts.specs.Facts.{facts_of};
-ghost use Rattle.jz_facts.specs.Holding.{facts_at_end};
+ghost use Rattle.jz_safety.specs.Facts.{facts_of};
+ghost use Rattle.jz_safety.specs.Holding.{facts_at_end};
 ghost use Rattle.jz_safety.specs.Alarms.{alarms_at, alarms_of, body_alarms, HasNoAlarm, TellsFirst};
 
 use crate::alarm::Alarm;
 use crate::certificate::Safe;
 use jz_data::{Failure, Seq};
-use jz_facts::{Condition, FactSet, at_entry, conditions, gives, holds_after, result_conditions};
+use crate::{Condition, FactSet, at_entry, conditions, gives, holds_after, result_conditions};
 use jz_first_meaning::Expanded;
-use jz_first_tree::Stmt;
+use jz_first::Stmt;
 use std::alloc::Global;
 
 fn check_conditions(set: &FactSet, asked: &Seq<Condition>) -> Result<(), Failure<Alarm>>

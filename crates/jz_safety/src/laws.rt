@@ -1,9 +1,9 @@
 //! What alarms say of source runs.
 
 ghost use Rattle.std.specs.Prelude.{◌≡◌, ◌≢◌, ◌⊎◌, All, Contains};
-ghost use Rattle.jz_first_tree.specs.declared.Program.{Program};
-ghost use Rattle.jz_first_tree.specs.declared.Fun.{Fun};
-ghost use Rattle.jz_first_tree.specs.Assignments.{AssignsToOne};
+ghost use Rattle.jz_first.specs.declared.tree.Program.{Program};
+ghost use Rattle.jz_first.specs.declared.tree.Fun.{Fun};
+ghost use Rattle.jz_first.specs.Assignments.{AssignsToOne};
 ghost use Rattle.jz_runs.specs.Rules.{Stuck};
 ghost use Rattle.jz_runs.specs.Laws.{AtMostOne};
 ghost use Rattle.jz_first_meaning.specs.SourceStates.{Why};
@@ -11,8 +11,8 @@ ghost use Rattle.jz_first_meaning.specs.SourceRuns.{EachRun};
 ghost use Rattle.jz_first_meaning.specs.StraightRuns.{EndsPlainly};
 ghost use Rattle.jz_safety.specs.declared.alarm.Alarm.{Alarm};
 ghost use Rattle.jz_safety.specs.Alarms.{HasNoAlarm, IsFirstAlarm, why_of};
-ghost use Rattle.jz_first_types.specs.Resolving.{resolved_fun};
-ghost use Rattle.jz_first_types.specs.TypedPrograms.{HaveDeclarations};
+ghost use Rattle.jz_first.specs.Resolving.{resolved_fun};
+ghost use Rattle.jz_first.specs.TypedPrograms.{HaveDeclarations};
 ghost use Rattle.jz_safety.specs.Resolved.{IsResolved};
 
 /// A function has one first alarm, or no alarm, and never both.

@@ -7,7 +7,7 @@ use Rattle.jz_select.specs.Places.{Layer, Answers, same_index, touches}
 use Rattle.jz_tree.specs.declared.expr.Expr.TheViews.{out-Access}
 use Rattle.jz_select.specs.declared.pattern.Pattern.{Pattern}
 use Rattle.jz_select.specs.declared.pattern.Pattern.TheVariants as pattern
-use Rattle.jz_scopes.specs.Kinds.{known_of}
+use Rattle.jz_type_names.specs.Kinds.{known_of}
 use Rattle.jz_select.specs.Operands.{class_of, var_class}
 use Rattle.jz_select.specs.Rows.{is_flag}
 use Rattle.jz_select.specs.Shapes.{compares, has_flags}

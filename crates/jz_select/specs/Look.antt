@@ -9,10 +9,10 @@ use Rattle.jz_tree.specs.declared.expr.BinOp.TheVariants as op
 use Rattle.jz_tree.specs.declared.expr.Expr.{Expr}
 use Rattle.jz_tree.specs.declared.expr.Expr.TheOpen.{Expr-F}
 use Rattle.jz_tree.specs.declared.expr.Expr.TheFolds.{fold-Expr}
-use Rattle.jz_scopes.specs.declared.kinds.Kind.{Kind}
-use Rattle.jz_scopes.specs.declared.kinds.Kind.TheVariants as kind
-use Rattle.jz_scopes.specs.declared.kinds.Declared.{Declared}
-use Rattle.jz_scopes.specs.Kinds.{Known, inline_int, kind_step, declared_step, known_step}
+use Rattle.jz_type_names.specs.declared.kinds.Kind.{Kind}
+use Rattle.jz_type_names.specs.declared.kinds.Kind.TheVariants as kind
+use Rattle.jz_type_names.specs.declared.kinds.Declared.{Declared}
+use Rattle.jz_type_names.specs.Kinds.{Known, inline_int, kind_step, declared_step, known_step}
 use Rattle.jz_select.specs.declared.class.Sum.{Sum}
 use Rattle.jz_select.specs.Sums.{joined_sum, term, taken_sum, sum_of}
 

@@ -30,7 +30,7 @@ use Rattle.jz_select.specs.declared.shape.Shape.TheVariants as shapes
 use Rattle.jz_tree.specs.declared.intrinsic.Instance.{Instance}
 use Rattle.jz_select.specs.declared.shaping.Flags.{Flags}
 use Rattle.jz_select.specs.declared.shaping.Flags.TheVariants as flags
-use Rattle.jz_scopes.specs.Kinds.{known_of}
+use Rattle.jz_type_names.specs.Kinds.{known_of}
 use Rattle.jz_select.specs.Look.{look_of, terms_of, compares_values}
 use Rattle.jz_select.specs.Sums.{is_sum}
 use Rattle.jz_select.specs.Places.{Layer, Answers}

@@ -11,7 +11,7 @@ use Rattle.jz_tree.specs.declared.expr.Expr.TheOpen.{Expr-F, Var-F}
 use Rattle.jz_tree.specs.declared.expr.Expr.TheViews.{out-Var}
 use Rattle.jz_tree.specs.declared.expr.Expr.TheFolds.{fold-Expr}
 use Rattle.jz_integers.specs.Integers.{written_number}
-use Rattle.jz_scopes.specs.Kinds.{same_size}
+use Rattle.jz_type_names.specs.Kinds.{same_size}
 
 -- ---- one variable: the same name, copy and cell, wherever it stands
 pub record Named : Type 0 where

@@ -1,7 +1,7 @@
 //! What an expression is.
 
 ghost use Rattle.std.specs.Prelude.{◌≡◌};
-ghost use Rattle.jz_scopes.specs.Kinds.{known_of};
+ghost use Rattle.jz_type_names.specs.Kinds.{known_of};
 ghost use Rattle.jz_select.specs.Look.{look_of, is_inline_var, is_reg64};
 ghost use Rattle.jz_select.specs.Look.{is_regs64, terms_of, joins as joins_bools};
 ghost use Rattle.jz_select.specs.Look.{compares_values as compares_values_is};
@@ -9,7 +9,7 @@ ghost use Rattle.jz_select.specs.Look.{gives_number as gives_number_is};
 ghost use Rattle.jz_select.specs.Sums.{term};
 
 use crate::class::Sum;
-use jz_scopes::{Kind, known};
+use jz_type_names::{Kind, known};
 use jz_tree::{BinOp, Expr, Storage, Var};
 use jz_words::Size;
 

@@ -4,7 +4,7 @@ ghost use Rattle.std.specs.Prelude.{◌≡◌};
 ghost use Rattle.std.specs.Option.{option_copied};
 ghost use Rattle.jz_tree.specs.declared.expr.Expr.TheViews.{out-Expr};
 ghost use Rattle.jz_integers.specs.Integers.{written_number as number_of};
-ghost use Rattle.jz_scopes.specs.Kinds.{known_of};
+ghost use Rattle.jz_type_names.specs.Kinds.{known_of};
 ghost use Rattle.jz_select.specs.Operands.{var_class, class_if, cell_of, mem_of, mask_of, masked_class};
 ghost use Rattle.jz_select.specs.Operands.{is_byte, register_layer, class_of, dest_of, operand_of};
 ghost use Rattle.jz_select.specs.Hardest.{hardest};
@@ -13,7 +13,7 @@ use crate::class::{Class, Mask, Operand};
 use crate::look::{gives_number, inline, sum};
 use crate::places::meet;
 use jz_integers::written_number;
-use jz_scopes::{Kind, known};
+use jz_type_names::{Kind, known};
 use jz_tree::{BinOp, Expr, Lval, Storage, Var};
 use jz_words::Size;
 

@@ -18,9 +18,9 @@ use Rattle.jz_tree.specs.declared.stmt.Stmt.{Stmt}
 use Rattle.jz_tree.specs.declared.stmt.StmtKind.TheOpen.{StmtKind-F}
 use Rattle.jz_tree.specs.declared.program.Fun.{Fun}
 use Rattle.jz_tree.specs.declared.program.Program.{Program}
-use Rattle.jz_scopes.specs.Scopes.{Name, name_of, PlacesByName, variables_of, variable_named, constant_place, or_else}
-use Rattle.jz_scopes.specs.Kinds.{declared_of}
-use Rattle.jz_scopes.specs.Parts.{Layer, layer_of, exprs_of, left_vars, set_by, statements_of}
+use Rattle.jz_type_names.specs.Scopes.{Name, name_of, PlacesByName, variables_of, variable_named, constant_place, or_else}
+use Rattle.jz_type_names.specs.Kinds.{declared_of}
+use Rattle.jz_type_names.specs.Parts.{Layer, layer_of, exprs_of, left_vars, set_by, statements_of}
 use Rattle.jz_resolve.specs.Resolving.{number_or, expr_step, var_step, resolved_expr, resolved_access, resolved_var, resolved_lval, resolved_stmt}
 use Rattle.jz_resolve.specs.Numbering.{Values, values_of, constant_decl, declaration_in, number_in}
 use Rattle.jz_resolve.specs.Programs.{counted_var, counted_fun}

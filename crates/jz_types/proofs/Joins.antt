@@ -2,9 +2,9 @@
 use Rattle.std.proofs.Common.{◌≡◌, ℕ, ◌+◌, ◌<◌, List, ◌∷◌, length, drop, get_or, Option, sym, ap, ◌∙◌}
 use Rattle.std.proofs.lemmas.List.{drop_more}
 use Rattle.jz_io.specs.declared.span.Span.{Span}
-use Rattle.jz_scopes.specs.Order.{earlier, earliest, first_in}
-use Rattle.jz_scopes.proofs.Earliest.{earlier-assoc}
-pub use Rattle.jz_scopes.proofs.Earliest.{joining}
+use Rattle.jz_type_names.specs.Order.{earlier, earliest, first_in}
+use Rattle.jz_type_names.proofs.Earliest.{earlier-assoc}
+pub use Rattle.jz_type_names.proofs.Earliest.{joining}
 
 -- one item more
 pub first_more : {A : Type 0} (g : A → List Span) (xs : List A) (i : ℕ) (x : A) (best own next all : Option Span)

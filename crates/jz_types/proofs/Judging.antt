@@ -3,20 +3,20 @@ use Rattle.std.proofs.Common.{◌≡◌, ℕ, List, ◌++◌, Option, Some, sym,
 use Rattle.std.specs.Prelude.{Contains, MatchOption}
 use Rattle.jz_io.specs.declared.span.Span.{Span}
 use Rattle.jz_tree.specs.declared.program.Program.{Program}
-use Rattle.jz_scopes.specs.Order.{earlier, earliest, IsEarliest, here}
-use Rattle.jz_scopes.specs.Names.{unknown_in, repeated_in}
-use Rattle.jz_scopes.proofs.Earliest.{both_earliest}
-use Rattle.jz_scopes.proofs.Firsts.{earliest_is}
+use Rattle.jz_type_names.specs.Order.{earlier, earliest, IsEarliest, here}
+use Rattle.jz_type_names.specs.Names.{unknown_in, repeated_in}
+use Rattle.jz_type_names.proofs.Earliest.{both_earliest}
+use Rattle.jz_type_names.proofs.Firsts.{earliest_is}
 use Rattle.jz_resolve.specs.Numbering.{length_of}
 use Rattle.jz_resolve.specs.Programs.{resolved_program}
-use Rattle.jz_kinds.specs.Mismatches.{mismatched_as_read, mismatched_declared}
-use Rattle.jz_calls.specs.declared.recursion.Ranking.{Ranking}
-use Rattle.jz_calls.specs.declared.recursion.Ranking.TheVariants.{Ranked, Recursive}
-use Rattle.jz_calls.specs.Recursion.{IsRanked, IsRecursive, Tells, recursive_of}
-use Rattle.jz_rules.specs.Exports.{misshapen_places, annotated_places}
-use Rattle.jz_rules.specs.Copies.{copied_by}
-use Rattle.jz_rules.specs.Indexes.{indexed_by}
-use Rattle.jz_rules.specs.Programs.{in_functions, in_statements}
+use Rattle.jz_type_sizes.specs.Mismatches.{mismatched_as_read, mismatched_declared}
+use Rattle.jz_type_storage.specs.declared.recursion.Ranking.{Ranking}
+use Rattle.jz_type_storage.specs.declared.recursion.Ranking.TheVariants.{Ranked, Recursive}
+use Rattle.jz_type_storage.specs.Recursion.{IsRanked, IsRecursive, Tells, recursive_of}
+use Rattle.jz_type_rows.specs.Exports.{misshapen_places, annotated_places}
+use Rattle.jz_type_rows.specs.Copies.{copied_by}
+use Rattle.jz_type_rows.specs.Indexes.{indexed_by}
+use Rattle.jz_type_rows.specs.Programs.{in_functions, in_statements}
 use Rattle.jz_types.specs.Rows.{unmatched_in}
 use Rattle.jz_types.specs.declared.fault.TypeRule.TheVariants.{Recursion}
 use Rattle.jz_types.specs.declared.fault.TypeFault.{TypeFault}

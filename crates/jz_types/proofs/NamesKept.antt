@@ -13,8 +13,8 @@ use Rattle.jz_tree.specs.declared.expr.Var.{Var}
 use Rattle.jz_tree.specs.declared.expr.Expr.TheOpen.{Expr-F, Var-F}
 use Rattle.jz_tree.specs.declared.expr.Expr.TheViews.{out-Var, out-Access, roll-Expr, roll-Ty, roll-Access, roll-out-Access, roll-Decl, out-roll-Var}
 use Rattle.jz_tree.specs.declared.expr.Expr.TheFolds.{fold-roll-Expr, fold_out-Var, fold_out-Access, fold-Ty, fold-Decl, fold-Var, fold-Access, map-Expr, para-roll-Expr, para-Access, para-roll-Access, ind-Expr}
-use Rattle.jz_scopes.specs.Scopes.{Name, name_of}
-use Rattle.jz_scopes.specs.Parts.{names_step, names_in, cells_step, Cells, cells_in, arrays_of, arrays_in}
+use Rattle.jz_type_names.specs.Scopes.{Name, name_of}
+use Rattle.jz_type_names.specs.Parts.{names_step, names_in, cells_step, Cells, cells_in, arrays_of, arrays_in}
 use Rattle.jz_resolve.specs.Resolving.{number_or, expr_step, var_step, resolved_expr, resolved_access, resolved_var}
 
 abbrev Layer : Type 0

@@ -19,12 +19,12 @@ use Rattle.jz_tree.specs.declared.program.Fun.{Fun}
 use Rattle.jz_tree.specs.declared.program.Param.{Param}
 use Rattle.jz_tree.specs.declared.program.Program.{Program}
 use Rattle.jz_tree.specs.declared.expr.Storage.{Storage}
-use Rattle.jz_scopes.specs.declared.kinds.Kind.{Kind}
-use Rattle.jz_scopes.specs.declared.kinds.Declared.{Declared}
-use Rattle.jz_scopes.specs.Scopes.{Name, name_of, PlacesByName, variables_of, place_among, constant_place, variable_place, value_place, or_values, function_named}
-use Rattle.jz_scopes.specs.Kinds.{kind_step, kind_of, declared_of, known_of, is_array_kind, is_array}
-use Rattle.jz_scopes.specs.Parts.{layer_of, statements_of}
-use Rattle.jz_scopes.specs.Names.{unknown_where, outside_where, unknown_in_constant, unknown_in_fun, unknown_in, repeated_places, repeated_by, repeated_in_fun, top_names, repeated_in}
+use Rattle.jz_type_names.specs.declared.kinds.Kind.{Kind}
+use Rattle.jz_type_names.specs.declared.kinds.Declared.{Declared}
+use Rattle.jz_type_names.specs.Scopes.{Name, name_of, PlacesByName, variables_of, place_among, constant_place, variable_place, value_place, or_values, function_named}
+use Rattle.jz_type_names.specs.Kinds.{kind_step, kind_of, declared_of, known_of, is_array_kind, is_array}
+use Rattle.jz_type_names.specs.Parts.{layer_of, statements_of}
+use Rattle.jz_type_names.specs.Names.{unknown_where, outside_where, unknown_in_constant, unknown_in_fun, unknown_in, repeated_places, repeated_by, repeated_in_fun, top_names, repeated_in}
 use Rattle.jz_resolve.specs.Resolving.{resolved_stmt}
 use Rattle.jz_resolve.specs.Numbering.{Values, values_of, declaration_in, number_in}
 use Rattle.jz_resolve.specs.Programs.{counted_layer, counted_decl, counted_var, counted_param, counted_fun, resolved_whole, resolved_const, resolved_program}

@@ -25,11 +25,11 @@ use Rattle.jz_tree.specs.declared.stmt.StmtKind.TheViews.{out-StmtKind, out-roll
 use Rattle.jz_tree.specs.declared.stmt.StmtKind.TheFolds.{fold-roll-Stmt, fold-roll-StmtKind, map-StmtKind}
 use Rattle.jz_tree.specs.declared.program.Fun.{Fun}
 use Rattle.jz_tree.specs.declared.program.Param.{Param}
-use Rattle.jz_scopes.specs.Scopes.{Name, name_of}
-use Rattle.jz_scopes.specs.Kinds.{known_of, is_array}
-use Rattle.jz_scopes.specs.Parts.{Layer, layer_of, names_in, arrays_in, left_exprs, right_exprs, exprs_of, read_by, arrays_read_by, left_vars, set_by, whole_left, wholly_set_by, called_by}
-use Rattle.jz_scopes.specs.Names.{name_layer, array_passed, arrays_beside, arrays_to, arrays_passed, variables_wanted, one_unknown, no_function, unknown_where, repeated_places, repeated_by}
-use Rattle.jz_scopes.specs.Order.{unless}
+use Rattle.jz_type_names.specs.Scopes.{Name, name_of}
+use Rattle.jz_type_names.specs.Kinds.{known_of, is_array}
+use Rattle.jz_type_names.specs.Parts.{Layer, layer_of, names_in, arrays_in, left_exprs, right_exprs, exprs_of, read_by, arrays_read_by, left_vars, set_by, whole_left, wholly_set_by, called_by}
+use Rattle.jz_type_names.specs.Names.{name_layer, array_passed, arrays_beside, arrays_to, arrays_passed, variables_wanted, one_unknown, no_function, unknown_where, repeated_places, repeated_by}
+use Rattle.jz_type_names.specs.Order.{unless}
 use Rattle.jz_resolve.specs.Resolving.{number_or, expr_step, var_step, resolved_expr, resolved_var, resolved_lval, resolved_rhs, kind_step, resolved_kind, resolved_stmt}
 use Rattle.jz_types.proofs.NamesKept.{All-both, var_kept, access_at, resolved_layer, keeps}
 use Rattle.jz_types.proofs.Empty.{both, joined, all_empty, empty_all}

@@ -3,12 +3,12 @@ use Rattle.std.proofs.Common.{◌≡◌, ◌++◌, Option, sym, subst}
 use Rattle.std.specs.Prelude.{Contains}
 use Rattle.jz_io.specs.declared.span.Span.{Span}
 use Rattle.jz_tree.specs.declared.program.Program.{Program}
-use Rattle.jz_scopes.specs.Order.{earlier, earliest, IsEarliest}
-use Rattle.jz_scopes.proofs.Earliest.{both_earliest}
-use Rattle.jz_scopes.proofs.Firsts.{earliest_is, earlier_of_two}
-use Rattle.jz_paths.specs.Declarations.{wrongly_kept}
-use Rattle.jz_paths.specs.Settings.{wrongly_set}
-use Rattle.jz_paths.specs.Paths.{IsReadUnsetIn}
+use Rattle.jz_type_names.specs.Order.{earlier, earliest, IsEarliest}
+use Rattle.jz_type_names.proofs.Earliest.{both_earliest}
+use Rattle.jz_type_names.proofs.Firsts.{earliest_is, earlier_of_two}
+use Rattle.jz_type_storage.specs.Declarations.{wrongly_kept}
+use Rattle.jz_type_storage.specs.Settings.{wrongly_set}
+use Rattle.jz_type_storage.specs.Paths.{IsReadUnsetIn}
 use Rattle.jz_types.specs.declared.fault.TypeRule.TheVariants.{Storage}
 use Rattle.jz_types.specs.Rules.{BreaksIn}
 

@@ -3,8 +3,8 @@ use Rattle.std.proofs.Common.{◌≡◌, ℕ, ◌<◌, ◌≤◌, ◌⊎◌, inl
 use Rattle.std.specs.Prelude.{if◌then◌else◌, nat_eq, MatchOption}
 use Rattle.std.proofs.lemmas.Bool.Decides.{nat_tests}
 use Rattle.jz_io.specs.declared.span.Span.{Span}
-use Rattle.jz_scopes.specs.Order.{Before, is_before, IsEarliest, nowhere, here}
-use Rattle.jz_scopes.proofs.Standing.{before_is, before_before, clash, at_least}
+use Rattle.jz_type_names.specs.Order.{Before, is_before, IsEarliest, nowhere, here}
+use Rattle.jz_type_names.proofs.Standing.{before_is, before_before, clash, at_least}
 use Rattle.jz_types.specs.declared.fault.TypeRule.{TypeRule}
 use Rattle.jz_types.specs.declared.fault.TypeRule.TheVariants.{Unknown, Duplicate, Mismatch, Storage, Recursion, NoInstruction, ArrayCopy, BadAnnotation, ExportShape, RegIndex}
 use Rattle.jz_types.specs.declared.fault.TypeFault.{TypeFault}

@@ -10,9 +10,9 @@ use Rattle.jz_tree.specs.declared.expr.Expr.TheViews.{out-Var}
 use Rattle.jz_tree.specs.declared.expr.Expr.TheFolds.{para-Expr}
 use Rattle.jz_tree.specs.declared.program.Fun.{Fun}
 use Rattle.jz_tree.specs.declared.program.Program.{Program}
-use Rattle.jz_scopes.specs.Scopes.{variables_of, constant_place}
-use Rattle.jz_scopes.specs.Kinds.{Known, declared_of, known_of}
-use Rattle.jz_scopes.specs.Parts.{Layer, layer_of, exprs_of, set_by, statements_of}
+use Rattle.jz_type_names.specs.Scopes.{variables_of, constant_place}
+use Rattle.jz_type_names.specs.Kinds.{Known, declared_of, known_of}
+use Rattle.jz_type_names.specs.Parts.{Layer, layer_of, exprs_of, set_by, statements_of}
 use Rattle.jz_resolve.specs.Numbering.{values_of, declaration_in}
 use Rattle.jz_resolve.specs.Programs.{resolved_whole}
 

@@ -2,19 +2,19 @@
 -- one with declarations.
 use Rattle.std.specs.Prelude.{◌≡◌}
 use Rattle.jz_tree.specs.declared.program.Program.{Program}
-use Rattle.jz_scopes.specs.Order.{earliest, earlier, IsEarliest}
-use Rattle.jz_scopes.specs.Names.{unknown_in, repeated_in}
+use Rattle.jz_type_names.specs.Order.{earliest, earlier, IsEarliest}
+use Rattle.jz_type_names.specs.Names.{unknown_in, repeated_in}
 use Rattle.jz_resolve.specs.Numbering.{length_of}
-use Rattle.jz_kinds.specs.Mismatches.{mismatched_as_read, mismatched_declared}
-use Rattle.jz_paths.specs.Declarations.{wrongly_kept}
-use Rattle.jz_paths.specs.Settings.{wrongly_set}
-use Rattle.jz_paths.specs.Paths.{IsReadUnsetIn}
-use Rattle.jz_calls.specs.declared.recursion.Ranking.{Ranking}
-use Rattle.jz_calls.specs.Recursion.{recursive_of}
-use Rattle.jz_rules.specs.Exports.{misshapen_places, annotated_places}
-use Rattle.jz_rules.specs.Copies.{copied_by}
-use Rattle.jz_rules.specs.Indexes.{indexed_by}
-use Rattle.jz_rules.specs.Programs.{in_functions, in_statements}
+use Rattle.jz_type_sizes.specs.Mismatches.{mismatched_as_read, mismatched_declared}
+use Rattle.jz_type_storage.specs.Declarations.{wrongly_kept}
+use Rattle.jz_type_storage.specs.Settings.{wrongly_set}
+use Rattle.jz_type_storage.specs.Paths.{IsReadUnsetIn}
+use Rattle.jz_type_storage.specs.declared.recursion.Ranking.{Ranking}
+use Rattle.jz_type_storage.specs.Recursion.{recursive_of}
+use Rattle.jz_type_rows.specs.Exports.{misshapen_places, annotated_places}
+use Rattle.jz_type_rows.specs.Copies.{copied_by}
+use Rattle.jz_type_rows.specs.Indexes.{indexed_by}
+use Rattle.jz_type_rows.specs.Programs.{in_functions, in_statements}
 use Rattle.jz_types.specs.Rows.{unmatched_in}
 use Rattle.jz_types.specs.declared.fault.Firsts.{Firsts}
 use Rattle.jz_types.specs.declared.functions.OfText.{OfText}

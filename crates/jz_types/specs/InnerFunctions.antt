@@ -2,9 +2,9 @@
 use Rattle.std.specs.Prelude.{List}
 use Rattle.jz_io.specs.declared.span.Span.{Span}
 use Rattle.jz_tree.specs.declared.program.Fun.{Fun}
-use Rattle.jz_scopes.specs.Scopes.{variable_place, or_values}
-use Rattle.jz_scopes.specs.Names.{fun_where}
-use Rattle.jz_kinds.specs.Mismatches.{Named}
+use Rattle.jz_type_names.specs.Scopes.{variable_place, or_values}
+use Rattle.jz_type_names.specs.Names.{fun_where}
+use Rattle.jz_type_sizes.specs.Mismatches.{Named}
 use Rattle.jz_types.specs.Rows.{Declared}
 
 -- its unknown names, where constants are declared there and these are the functions

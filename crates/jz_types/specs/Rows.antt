@@ -5,16 +5,16 @@ use Rattle.jz_io.specs.declared.span.Span.{Span}
 use Rattle.jz_tree.specs.declared.stmt.Stmt.{Stmt}
 use Rattle.jz_tree.specs.declared.program.Fun.{Fun}
 use Rattle.jz_tree.specs.declared.program.Program.{Program}
-use Rattle.jz_scopes.specs.Order.{earliest}
-use Rattle.jz_scopes.specs.Scopes.{constant_place, variable_place, or_values}
-use Rattle.jz_scopes.specs.Parts.{layer_of, statements_of}
-use Rattle.jz_scopes.specs.Names.{unknown_where, repeated_by}
-use Rattle.jz_kinds.specs.Mismatches.{Named, among, stmt_wrong}
-use Rattle.jz_rules.specs.declared.callee.Callee.{Callee}
-use Rattle.jz_rules.specs.Callees.{callee_by}
-use Rattle.jz_rules.specs.Copies.{copied_places}
-use Rattle.jz_rules.specs.Indexes.{indexed_by}
-use Rattle.jz_rules.specs.Matching.{unmatched_places}
+use Rattle.jz_type_names.specs.Order.{earliest}
+use Rattle.jz_type_names.specs.Scopes.{constant_place, variable_place, or_values}
+use Rattle.jz_type_names.specs.Parts.{layer_of, statements_of}
+use Rattle.jz_type_names.specs.Names.{unknown_where, repeated_by}
+use Rattle.jz_type_sizes.specs.Mismatches.{Named, among, stmt_wrong}
+use Rattle.jz_type_rows.specs.declared.callee.Callee.{Callee}
+use Rattle.jz_type_rows.specs.Callees.{callee_by}
+use Rattle.jz_type_rows.specs.Copies.{copied_places}
+use Rattle.jz_type_rows.specs.Indexes.{indexed_by}
+use Rattle.jz_type_rows.specs.Matching.{unmatched_places}
 
 abbrev pub Declared : Type 0
 Declared = List ℕ → Option Span

@@ -2,18 +2,18 @@
 use Rattle.std.specs.Prelude.{◌⊎◌, ◌++◌, Contains}
 use Rattle.jz_io.specs.declared.span.Span.{Span}
 use Rattle.jz_tree.specs.declared.program.Program.{Program}
-use Rattle.jz_scopes.specs.Names.{unknown_in, repeated_in}
+use Rattle.jz_type_names.specs.Names.{unknown_in, repeated_in}
 use Rattle.jz_resolve.specs.Numbering.{length_of}
 use Rattle.jz_resolve.specs.Programs.{resolved_program}
-use Rattle.jz_kinds.specs.Mismatches.{mismatched_in}
-use Rattle.jz_paths.specs.Declarations.{wrongly_kept}
-use Rattle.jz_paths.specs.Settings.{wrongly_set}
-use Rattle.jz_paths.specs.Paths.{IsReadUnsetIn}
-use Rattle.jz_calls.specs.Recursion.{IsRecursive}
-use Rattle.jz_rules.specs.Exports.{misshapen_places, annotated_places}
-use Rattle.jz_rules.specs.Copies.{copied_by}
-use Rattle.jz_rules.specs.Indexes.{indexed_by}
-use Rattle.jz_rules.specs.Programs.{in_functions, in_statements}
+use Rattle.jz_type_sizes.specs.Mismatches.{mismatched_in}
+use Rattle.jz_type_storage.specs.Declarations.{wrongly_kept}
+use Rattle.jz_type_storage.specs.Settings.{wrongly_set}
+use Rattle.jz_type_storage.specs.Paths.{IsReadUnsetIn}
+use Rattle.jz_type_storage.specs.Recursion.{IsRecursive}
+use Rattle.jz_type_rows.specs.Exports.{misshapen_places, annotated_places}
+use Rattle.jz_type_rows.specs.Copies.{copied_by}
+use Rattle.jz_type_rows.specs.Indexes.{indexed_by}
+use Rattle.jz_type_rows.specs.Programs.{in_functions, in_statements}
 use Rattle.jz_types.specs.Rows.{unmatched_in}
 use Rattle.jz_types.specs.declared.fault.TypeRule.{TypeRule}
 use Rattle.jz_types.specs.declared.fault.TypeRule.TheVariants.{Unknown, Duplicate, Mismatch, Storage, Recursion, NoInstruction, ArrayCopy, BadAnnotation, ExportShape, RegIndex}

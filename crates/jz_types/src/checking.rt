@@ -11,12 +11,12 @@ use crate::fault::{Firsts, TypeFault, first_told};
 use crate::functions::{OfDeclared, OfText, declared_of_functions, text_of_functions};
 use crate::lengths::ConstantLengths;
 use crate::typed::Typed;
-use jz_calls::{Ranking, find_recursion};
+use jz_type_storage::{Ranking, find_recursion};
 use jz_data::Failure;
-use jz_kinds::constants_fault;
+use jz_type_sizes::constants_fault;
 use jz_resolve::{constants, resolve};
-use jz_rules::Callees;
-use jz_scopes::{Functions, Places, earlier_of, repeated_at_top, unknown_in_constants};
+use jz_type_rows::Callees;
+use jz_type_names::{Functions, Places, earlier_of, repeated_at_top, unknown_in_constants};
 use jz_tree::Program;
 use std::alloc::{AllocError, Global};
 

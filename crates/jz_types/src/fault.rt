@@ -5,7 +5,7 @@ ghost use Rattle.jz_types.specs.Faults.{rule_number};
 ghost use Rattle.jz_types.specs.InnerFaults.{told_of, first_told};
 
 use jz_io::Span;
-use jz_scopes::is_before;
+use jz_type_names::is_before;
 
 /// A rule of typing.
 #[derive(Clone, Copy, Debug, PartialEq, Eq)]

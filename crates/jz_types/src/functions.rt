@@ -3,31 +3,31 @@
 
 ghost use Rattle.std.specs.Prelude.{◌≡◌, List, IfOk};
 ghost use Rattle.jz_tree.specs.declared.program.Fun.{Fun};
-ghost use Rattle.jz_scopes.specs.Order.{first_in, IsEarliest};
-ghost use Rattle.jz_scopes.specs.Names.{repeated_in_fun};
-ghost use Rattle.jz_scopes.specs.Tables.{place_in, function_in};
+ghost use Rattle.jz_type_names.specs.Order.{first_in, IsEarliest};
+ghost use Rattle.jz_type_names.specs.Names.{repeated_in_fun};
+ghost use Rattle.jz_type_names.specs.Tables.{place_in, function_in};
 ghost use Rattle.jz_resolve.specs.Tables.{values_in};
 ghost use Rattle.jz_resolve.specs.Numbering.{value_with};
-ghost use Rattle.jz_kinds.specs.Lengths.{fun_lengths};
-ghost use Rattle.jz_kinds.specs.Mismatches.{body_wrong};
-ghost use Rattle.jz_paths.specs.Declarations.{unkept_in};
-ghost use Rattle.jz_paths.specs.Settings.{wrongly_set_in};
-ghost use Rattle.jz_paths.specs.Paths.{IsReadUnsetIn};
-ghost use Rattle.jz_rules.specs.Exports.{misshapen_places, annotated_places};
-ghost use Rattle.jz_rules.specs.Copies.{copied_by};
-ghost use Rattle.jz_rules.specs.Indexes.{indexed_by};
-ghost use Rattle.jz_rules.specs.Programs.{in_body};
-ghost use Rattle.jz_rules.specs.Tables.{HasCallees};
+ghost use Rattle.jz_type_sizes.specs.Lengths.{fun_lengths};
+ghost use Rattle.jz_type_sizes.specs.Mismatches.{body_wrong};
+ghost use Rattle.jz_type_storage.specs.Declarations.{unkept_in};
+ghost use Rattle.jz_type_storage.specs.Settings.{wrongly_set_in};
+ghost use Rattle.jz_type_storage.specs.Paths.{IsReadUnsetIn};
+ghost use Rattle.jz_type_rows.specs.Exports.{misshapen_places, annotated_places};
+ghost use Rattle.jz_type_rows.specs.Copies.{copied_by};
+ghost use Rattle.jz_type_rows.specs.Indexes.{indexed_by};
+ghost use Rattle.jz_type_rows.specs.Programs.{in_body};
+ghost use Rattle.jz_type_rows.specs.Tables.{HasCallees};
 ghost use Rattle.jz_types.specs.Rows.{unmatched_in_fun};
 ghost use Rattle.jz_types.specs.InnerFunctions.{unknown_with};
 
 use crate::lengths::ConstantLengths;
 use crate::rows::unmatched_in_fun;
 use jz_io::Span;
-use jz_kinds::{body_fault, lengths_fault};
-use jz_paths::{read_unset, wrongly_kept, wrongly_set};
-use jz_rules::{Callees, annotated, copied_in, indexed_in, misshapen};
-use jz_scopes::{Functions, Places, earlier_of, repeated_in_fun, unknown_in_fun};
+use jz_type_sizes::{body_fault, lengths_fault};
+use jz_type_storage::{read_unset, wrongly_kept, wrongly_set};
+use jz_type_rows::{Callees, annotated, copied_in, indexed_in, misshapen};
+use jz_type_names::{Functions, Places, earlier_of, repeated_in_fun, unknown_in_fun};
 use jz_tree::Program;
 use std::alloc::{AllocError, Global};
 

@@ -3,17 +3,17 @@
 ghost use Rattle.std.specs.Prelude.{◌≡◌, List, is_some, IfOk};
 ghost use Rattle.std.specs.Option.{option_copied};
 ghost use Rattle.jz_tree.specs.declared.program.Fun.{Fun};
-ghost use Rattle.jz_scopes.specs.Order.{earliest, first_in};
-ghost use Rattle.jz_scopes.specs.Parts.{statements_of};
-ghost use Rattle.jz_scopes.specs.Tables.{place_in, function_in};
-ghost use Rattle.jz_rules.specs.Tables.{HasCallees};
+ghost use Rattle.jz_type_names.specs.Order.{earliest, first_in};
+ghost use Rattle.jz_type_names.specs.Parts.{statements_of};
+ghost use Rattle.jz_type_names.specs.Tables.{place_in, function_in};
+ghost use Rattle.jz_type_rows.specs.Tables.{HasCallees};
 ghost use Rattle.jz_types.specs.Rows.{others, unmatched_at, unmatched_in_fun};
 
 use jz_data::Seq;
 use jz_io::Span;
-use jz_kinds::statement_fault;
-use jz_rules::{Callee, Callees, copied, indexed, unmatched};
-use jz_scopes::{Functions, Places, earlier_of, repeated_of, statements, unknown_of};
+use jz_type_sizes::statement_fault;
+use jz_type_rows::{Callee, Callees, copied, indexed, unmatched};
+use jz_type_names::{Functions, Places, earlier_of, repeated_of, statements, unknown_of};
 use jz_tree::{Fun, Stmt};
 use std::alloc::{AllocError, Global};
 

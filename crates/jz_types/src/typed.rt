@@ -1,7 +1,7 @@
 //! Typed programs.
 
 ghost use Rattle.std.specs.Prelude.{◌≡◌};
-ghost use Rattle.jz_calls.specs.Recursion.{IsRanked};
+ghost use Rattle.jz_type_storage.specs.Recursion.{IsRanked};
 ghost use Rattle.jz_types.specs.TypedPrograms.{IsTypedProgram};
 
 use jz_data::Seq;

@@ -2,7 +2,7 @@ use Rattle.std.proofs.Common.{List, sym, ap, subst, ◌∙◌}
 use Rattle.std.specs.Prelude.{All, map}
 use Rattle.std.proofs.lemmas.Result.{err_from_is_err_and}
 use Rattle.std.proofs.lemmas.List.Elements.{All-map}
-use Rattle.jz_first_tree.specs.declared.Fun.{Fun}
+use Rattle.jz_first.specs.declared.tree.Fun.{Fun}
 use Rattle.jz_first_meaning.specs.declared.expanded.Expanded.{Expanded}
 use Rattle.jz_safety.specs.Alarms.{HasNoAlarm}
 use Rattle.jz_pipeline.specs.Placed.{IsPlaceable, AreCompiled}

@@ -9,7 +9,7 @@ use Rattle.jz_meaning.specs.Stores.{state_of, store_of}
 use Rattle.jz_meaning.specs.Values.{key_of, ref_of}
 use Rattle.jz_meaning.specs.Statements.{source, tests, counts, leaves, enters}
 use Rattle.jz_meaning.specs.Runs.{block, statement_tree}
-use Rattle.jz_passing.specs.Answers.{call_of, entered_store}
+use Rattle.jz_run_assign.specs.Passings.{call_of, entered_store}
 use Rattle.jz_interp.specs.Parts.{callees_in, condition_of, counter_of, inner_block}
 use Rattle.jz_interp.specs.Parts.{body_piece, inner_body, assignment_tree, named_call_tree, while_tree}
 use Rattle.jz_interp.specs.Rounds.{values_left, evaluated_values, RoundsOf}

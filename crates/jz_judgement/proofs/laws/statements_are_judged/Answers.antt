@@ -1,4 +1,4 @@
-use Rattle.jz_scopes.specs.Parts.{layer_of}
+use Rattle.jz_type_names.specs.Parts.{layer_of}
 use Rattle.jz_judgement.proofs.Calling.{layer_holds, layer_right}
 use Rattle.jz_judgement.proofs.laws.statements_are_judged.Goals as goal
 

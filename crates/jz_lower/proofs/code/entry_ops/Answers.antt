@@ -1,8 +1,8 @@
 use Rattle.std.proofs.Common.{rules, arith, ◌≡◌, ℕ, ◌+◌, ◌<◌, List, [], ◌∷◌, ◌++◌, sym, ap, ◌∙◌, map, drop, length, get_or, append_assoc}
 use Rattle.x64_insn.specs.declared.types.Reg.{Reg}
 use Rattle.jz_ir.specs.declared.code.Op.{Op}
-use Rattle.jz_first_tree.specs.declared.Param.{Param}
-use Rattle.jz_first_tree.specs.declared.Var.{Var}
+use Rattle.jz_first.specs.declared.tree.Param.{Param}
+use Rattle.jz_first.specs.declared.tree.Var.{Var}
 use Rattle.jz_correct.specs.Registers.{argument_registers}
 use Rattle.jz_lower.specs.Operations.{entry_op, entry_ops}
 use Rattle.jz_lower.specs.Placing.{variable_of}

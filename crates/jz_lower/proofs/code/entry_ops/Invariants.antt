@@ -1,5 +1,5 @@
 use Rattle.std.proofs.Common.{◌≡◌, ◌++◌, List, drop, map}
-use Rattle.jz_first_tree.specs.declared.Var.{Var}
+use Rattle.jz_first.specs.declared.tree.Var.{Var}
 use Rattle.jz_correct.specs.Registers.{argument_registers}
 use Rattle.jz_lower.specs.InnerNumbers.{IsNumbers}
 use Rattle.jz_lower.specs.Operations.{entry_ops}

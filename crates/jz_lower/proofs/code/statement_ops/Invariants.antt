@@ -1,5 +1,5 @@
 use Rattle.std.proofs.Common.{◌≡◌, List, map, take}
-use Rattle.jz_first_tree.specs.declared.Var.{Var}
+use Rattle.jz_first.specs.declared.tree.Var.{Var}
 use Rattle.jz_lower.specs.InnerNumbers.{IsNumbers}
 use Rattle.jz_lower.specs.Operations.{statement_op}
 use Rattle.jz_lower.proofs.code.statement_ops.Given as goal

@@ -2,7 +2,7 @@ use Rattle.std.proofs.Common.{List, ◌∙◌, subst}
 use Rattle.std.specs.Prelude.{All}
 use Rattle.std.specs.List.{filter_map}
 use Rattle.std.proofs.lemmas.List.{take_all}
-use Rattle.jz_first_tree.specs.declared.Stmt.{Stmt}
+use Rattle.jz_first.specs.declared.tree.Stmt.{Stmt}
 use Rattle.jz_pipeline.specs.Limits.{HasOwnField, immediate_of, IsFirstWithout}
 use Rattle.jz_pipeline.proofs.LimitWalks.{first_here, next_here}
 use Rattle.jz_pipeline.proofs.limits.first_without_field.Goals as goal

@@ -1,7 +1,7 @@
 use Rattle.std.proofs.Common.{◌≡◌, ℕ, zero, suc, List, [], ◌∷◌, refl, sym, ◌∙◌}
 use Rattle.std.specs.Prelude.{None, slice_get}
-use Rattle.jz_first_tree.specs.declared.Var.{Var}
-use Rattle.jz_first_tree.specs.Variables.{variables_of}
+use Rattle.jz_first.specs.declared.tree.Var.{Var}
+use Rattle.jz_first.specs.Variables.{variables_of}
 use Rattle.jz_pipeline.specs.Placed.{name_at}
 use Rattle.jz_pipeline.proofs.refusing.name.Goals as goal
 

@@ -2,7 +2,7 @@ use Rattle.std.proofs.Common.{◌≡◌, ℕ, ◌+◌, ◌<◌, List, [], ◌∷
 use Rattle.std.proofs.lemmas.List.{at_drop_more}
 use Rattle.jz_words.specs.declared.size.Size.TheVariants.{S64}
 use Rattle.x64_insn.specs.declared.types.Reg.{Reg}
-use Rattle.jz_first_tree.specs.declared.Param.{Param}
+use Rattle.jz_first.specs.declared.tree.Param.{Param}
 use Rattle.jz_listing.specs.declared.compiled.Arg.{Arg}
 use Rattle.jz_correct.specs.Registers.{argument_registers}
 use Rattle.jz_lower.specs.Placing.{variable_of}

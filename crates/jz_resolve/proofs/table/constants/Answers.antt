@@ -1,5 +1,5 @@
 use Rattle.std.proofs.Common.{ap, ◌∙◌}
-use Rattle.jz_scopes.specs.Tables.{place_in}
+use Rattle.jz_type_names.specs.Tables.{place_in}
 use Rattle.jz_resolve.specs.Tables.{values_in}
 use Rattle.jz_resolve.proofs.Growing.{one_more_value}
 use Rattle.jz_resolve.proofs.table.constants.Goals as goal

@@ -1,6 +1,6 @@
 use Rattle.std.proofs.Common.{take}
 use Rattle.std.proofs.Common.{◌≡◌}
-use Rattle.jz_scopes.specs.Scopes.{constant_place}
+use Rattle.jz_type_names.specs.Scopes.{constant_place}
 use Rattle.jz_resolve.specs.Numbering.{values_of}
 use Rattle.jz_resolve.specs.Tables.{values_in, places_in}
 use Rattle.jz_resolve.proofs.table.constants.Given as goal

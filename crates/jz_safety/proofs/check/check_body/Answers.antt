@@ -1,7 +1,7 @@
 use Rattle.std.proofs.Common.{refl, ap, sym, ◌∙◌}
-use Rattle.jz_facts.specs.Facts.{facts_of}
-use Rattle.jz_facts.specs.Holding.{facts_after, facts_at_end}
-use Rattle.jz_facts.proofs.Walks.{walk_on, walk_over}
+use Rattle.jz_safety.specs.Facts.{facts_of}
+use Rattle.jz_safety.specs.Holding.{facts_after, facts_at_end}
+use Rattle.jz_safety.proofs.Walks.{walk_on, walk_over}
 use Rattle.jz_safety.specs.Alarms.{alarms_at, body_alarms}
 use Rattle.jz_safety.proofs.Checking.{alarms_on}
 use Rattle.jz_safety.proofs.check.check_body.Goals as goal

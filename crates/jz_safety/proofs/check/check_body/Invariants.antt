@@ -1,6 +1,6 @@
 use Rattle.std.proofs.Common.{◌≡◌, drop}
-use Rattle.jz_facts.specs.Facts.{facts_of}
-use Rattle.jz_facts.specs.Holding.{facts_at_end}
+use Rattle.jz_safety.specs.Facts.{facts_of}
+use Rattle.jz_safety.specs.Holding.{facts_at_end}
 use Rattle.jz_safety.specs.Alarms.{body_alarms}
 use Rattle.jz_safety.proofs.check.check_body.Given as goal
 

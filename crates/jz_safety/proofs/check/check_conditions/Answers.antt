@@ -1,5 +1,5 @@
 use Rattle.std.proofs.Common.{◌≡◌, ℕ, false, List, ◌∷◌, ap, ◌∙◌}
-use Rattle.jz_facts.specs.Facts.{facts_of}
+use Rattle.jz_safety.specs.Facts.{facts_of}
 use Rattle.jz_safety.specs.Alarms.{alarms_at}
 use Rattle.jz_safety.proofs.Checking.{first_unmet}
 use Rattle.jz_safety.proofs.check.check_conditions.Goals as goal

@@ -1,5 +1,5 @@
 use Rattle.std.proofs.Common.{◌≡◌, drop}
-use Rattle.jz_facts.specs.Facts.{facts_of}
+use Rattle.jz_safety.specs.Facts.{facts_of}
 use Rattle.jz_safety.specs.Alarms.{alarms_at}
 use Rattle.jz_safety.proofs.check.check_conditions.Given as goal
 

@@ -1,7 +1,7 @@
 use Rattle.std.proofs.Common.{ap, ◌∙◌, sym}
 use Rattle.jz_data.specs.Failures.{IfRefused}
-use Rattle.jz_facts.specs.Facts.{Facts, facts_of}
-use Rattle.jz_facts.specs.Holding.{facts_at_end}
+use Rattle.jz_safety.specs.Facts.{Facts, facts_of}
+use Rattle.jz_safety.specs.Holding.{facts_at_end}
 use Rattle.jz_safety.specs.Alarms.{body_alarms, IsFirstAlarm}
 use Rattle.jz_safety.proofs.Checking.{failure_of_return, passed_on}
 use Rattle.jz_safety.proofs.check.safe.Goals as goal

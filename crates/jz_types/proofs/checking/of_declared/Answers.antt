@@ -1,15 +1,15 @@
 use Rattle.std.proofs.Common.{ap₂, ◌∙◌}
 use Rattle.std.specs.Prelude.{flat_map}
-use Rattle.jz_scopes.specs.Order.{earliest}
-use Rattle.jz_scopes.specs.Tables.{place_in, function_in}
-use Rattle.jz_scopes.proofs.Earliest.{first_over}
-use Rattle.jz_scopes.proofs.UnknownLaws.{constants_are, functions_are}
-use Rattle.jz_kinds.proofs.Whole.{declared_whole}
-use Rattle.jz_paths.specs.Declarations.{unkept_in}
-use Rattle.jz_paths.specs.Settings.{wrongly_set_in}
-use Rattle.jz_rules.specs.Copies.{copied_by}
-use Rattle.jz_rules.specs.Indexes.{indexed_by}
-use Rattle.jz_rules.specs.Programs.{in_body}
+use Rattle.jz_type_names.specs.Order.{earliest}
+use Rattle.jz_type_names.specs.Tables.{place_in, function_in}
+use Rattle.jz_type_names.proofs.Earliest.{first_over}
+use Rattle.jz_type_names.proofs.UnknownLaws.{constants_are, functions_are}
+use Rattle.jz_type_sizes.proofs.Whole.{declared_whole}
+use Rattle.jz_type_storage.specs.Declarations.{unkept_in}
+use Rattle.jz_type_storage.specs.Settings.{wrongly_set_in}
+use Rattle.jz_type_rows.specs.Copies.{copied_by}
+use Rattle.jz_type_rows.specs.Indexes.{indexed_by}
+use Rattle.jz_type_rows.specs.Programs.{in_body}
 use Rattle.jz_types.specs.Rows.{unmatched_in_fun}
 use Rattle.jz_types.proofs.checking.of_declared.Goals as goal
 

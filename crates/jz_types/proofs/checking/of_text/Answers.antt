@@ -1,14 +1,14 @@
 use Rattle.std.proofs.Common.{ap, ap₂, ◌∙◌}
-use Rattle.jz_scopes.specs.Order.{earlier, earliest, first_in}
-use Rattle.jz_scopes.specs.Tables.{place_in, function_in}
-use Rattle.jz_scopes.proofs.Earliest.{first_over}
-use Rattle.jz_scopes.proofs.UnknownLaws.{program_is, constants_are, functions_are}
-use Rattle.jz_scopes.proofs.RepeatedLaws.{in_program_is}
+use Rattle.jz_type_names.specs.Order.{earlier, earliest, first_in}
+use Rattle.jz_type_names.specs.Tables.{place_in, function_in}
+use Rattle.jz_type_names.proofs.Earliest.{first_over}
+use Rattle.jz_type_names.proofs.UnknownLaws.{program_is, constants_are, functions_are}
+use Rattle.jz_type_names.proofs.RepeatedLaws.{in_program_is}
 use Rattle.jz_resolve.specs.Tables.{values_in}
 use Rattle.jz_resolve.specs.Numbering.{value_with}
-use Rattle.jz_kinds.specs.Mismatches.{constant_wrong, mismatched_as_read}
-use Rattle.jz_kinds.proofs.Whole.{as_read_whole}
-use Rattle.jz_rules.specs.Exports.{misshapen_places, annotated_places}
+use Rattle.jz_type_sizes.specs.Mismatches.{constant_wrong, mismatched_as_read}
+use Rattle.jz_type_sizes.proofs.Whole.{as_read_whole}
+use Rattle.jz_type_rows.specs.Exports.{misshapen_places, annotated_places}
 use Rattle.jz_types.proofs.checking.of_text.Goals as goal
 
 pub returns : goal.returns

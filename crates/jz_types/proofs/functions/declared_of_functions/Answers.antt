@@ -1,14 +1,14 @@
 use Rattle.std.proofs.Common.{ap, arith}
-use Rattle.jz_scopes.specs.Order.{first_in}
-use Rattle.jz_scopes.specs.Tables.{place_in, function_in}
-use Rattle.jz_kinds.specs.Mismatches.{body_wrong}
-use Rattle.jz_paths.specs.Declarations.{unkept_in}
-use Rattle.jz_paths.specs.Settings.{wrongly_set_in}
-use Rattle.jz_paths.specs.Paths.{IsReadUnset}
-use Rattle.jz_paths.proofs.FunctionLaws.{none_among, more_taken, all_taken, unset_in_program}
-use Rattle.jz_rules.specs.Copies.{copied_by}
-use Rattle.jz_rules.specs.Indexes.{indexed_by}
-use Rattle.jz_rules.specs.Programs.{in_body}
+use Rattle.jz_type_names.specs.Order.{first_in}
+use Rattle.jz_type_names.specs.Tables.{place_in, function_in}
+use Rattle.jz_type_sizes.specs.Mismatches.{body_wrong}
+use Rattle.jz_type_storage.specs.Declarations.{unkept_in}
+use Rattle.jz_type_storage.specs.Settings.{wrongly_set_in}
+use Rattle.jz_type_storage.specs.Paths.{IsReadUnset}
+use Rattle.jz_type_storage.proofs.FunctionLaws.{none_among, more_taken, all_taken, unset_in_program}
+use Rattle.jz_type_rows.specs.Copies.{copied_by}
+use Rattle.jz_type_rows.specs.Indexes.{indexed_by}
+use Rattle.jz_type_rows.specs.Programs.{in_body}
 use Rattle.jz_types.specs.Rows.{unmatched_in_fun}
 use Rattle.jz_types.proofs.Joins.{first_more}
 use Rattle.jz_types.proofs.functions.declared_of_functions.Goals as goal

@@ -1,16 +1,16 @@
 use Rattle.std.proofs.Common.{◌≡◌, List, take, drop}
 use Rattle.jz_tree.specs.declared.program.Fun.{Fun}
-use Rattle.jz_scopes.specs.Order.{earlier, first_in, IsEarliest}
-use Rattle.jz_scopes.specs.Tables.{place_in, function_in}
-use Rattle.jz_kinds.specs.Mismatches.{body_wrong}
-use Rattle.jz_paths.specs.Declarations.{unkept_in}
-use Rattle.jz_paths.specs.Settings.{wrongly_set_in}
-use Rattle.jz_paths.specs.Paths.{IsReadUnset}
-use Rattle.jz_paths.proofs.FunctionLaws.{InOneOf}
-use Rattle.jz_rules.specs.Copies.{copied_by}
-use Rattle.jz_rules.specs.Indexes.{indexed_by}
-use Rattle.jz_rules.specs.Programs.{in_body}
-use Rattle.jz_rules.specs.Tables.{HasCallees}
+use Rattle.jz_type_names.specs.Order.{earlier, first_in, IsEarliest}
+use Rattle.jz_type_names.specs.Tables.{place_in, function_in}
+use Rattle.jz_type_sizes.specs.Mismatches.{body_wrong}
+use Rattle.jz_type_storage.specs.Declarations.{unkept_in}
+use Rattle.jz_type_storage.specs.Settings.{wrongly_set_in}
+use Rattle.jz_type_storage.specs.Paths.{IsReadUnset}
+use Rattle.jz_type_storage.proofs.FunctionLaws.{InOneOf}
+use Rattle.jz_type_rows.specs.Copies.{copied_by}
+use Rattle.jz_type_rows.specs.Indexes.{indexed_by}
+use Rattle.jz_type_rows.specs.Programs.{in_body}
+use Rattle.jz_type_rows.specs.Tables.{HasCallees}
 use Rattle.jz_types.specs.Rows.{unmatched_in_fun}
 use Rattle.jz_types.proofs.functions.declared_of_functions.Given as goal
 

@@ -1,10 +1,10 @@
-use Rattle.jz_scopes.specs.Names.{repeated_in_fun}
+use Rattle.jz_type_names.specs.Names.{repeated_in_fun}
 use Rattle.jz_types.specs.InnerFunctions.{unknown_with}
-use Rattle.jz_scopes.specs.Tables.{place_in, function_in}
+use Rattle.jz_type_names.specs.Tables.{place_in, function_in}
 use Rattle.jz_resolve.specs.Tables.{values_in}
 use Rattle.jz_resolve.specs.Numbering.{value_with}
-use Rattle.jz_kinds.specs.Lengths.{fun_lengths}
-use Rattle.jz_rules.specs.Exports.{misshapen_places, annotated_places}
+use Rattle.jz_type_sizes.specs.Lengths.{fun_lengths}
+use Rattle.jz_type_rows.specs.Exports.{misshapen_places, annotated_places}
 use Rattle.jz_types.proofs.Joins.{first_more}
 use Rattle.jz_types.proofs.functions.text_of_functions.Goals as goal
 

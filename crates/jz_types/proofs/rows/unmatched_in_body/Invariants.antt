@@ -1,10 +1,10 @@
 use Rattle.std.proofs.Common.{◌≡◌, List}
 use Rattle.jz_tree.specs.declared.program.Fun.{Fun}
-use Rattle.jz_scopes.specs.Order.{earlier, first_in}
-use Rattle.jz_scopes.specs.Lent.{these}
-use Rattle.jz_scopes.specs.Parts.{statements_of}
-use Rattle.jz_scopes.specs.Tables.{place_in, function_in}
-use Rattle.jz_rules.specs.Tables.{HasCallees}
+use Rattle.jz_type_names.specs.Order.{earlier, first_in}
+use Rattle.jz_type_names.specs.Lent.{these}
+use Rattle.jz_type_names.specs.Parts.{statements_of}
+use Rattle.jz_type_names.specs.Tables.{place_in, function_in}
+use Rattle.jz_type_rows.specs.Tables.{HasCallees}
 use Rattle.jz_types.specs.Rows.{unmatched_at}
 use Rattle.jz_types.proofs.rows.unmatched_in_body.Given as goal
 

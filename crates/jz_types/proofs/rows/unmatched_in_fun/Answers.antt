@@ -1,11 +1,11 @@
 use Rattle.std.proofs.Common.{ap, sym, ◌∙◌}
 use Rattle.std.specs.Prelude.{flat_map}
-use Rattle.jz_scopes.specs.Order.{earliest}
-use Rattle.jz_scopes.specs.Parts.{statements_of}
-use Rattle.jz_scopes.specs.Tables.{place_in, function_in}
-use Rattle.jz_scopes.proofs.UnknownLaws.{variables_are}
+use Rattle.jz_type_names.specs.Order.{earliest}
+use Rattle.jz_type_names.specs.Parts.{statements_of}
+use Rattle.jz_type_names.specs.Tables.{place_in, function_in}
+use Rattle.jz_type_names.proofs.UnknownLaws.{variables_are}
 use Rattle.jz_types.specs.Rows.{unmatched_at, unmatched_in_fun}
-use Rattle.jz_scopes.proofs.Earliest.{first_in-is}
+use Rattle.jz_type_names.proofs.Earliest.{first_in-is}
 use Rattle.jz_types.proofs.rows.unmatched_in_fun.Goals as goal
 
 pub returns : goal.returns

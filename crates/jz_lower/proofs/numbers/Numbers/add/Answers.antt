@@ -1,7 +1,7 @@
 use Rattle.std.proofs.Common.{rules}
 use Rattle.std.specs.Str.{bytes_eq}
 use Rattle.indexmap.specs.IndexMap.{get}
-use Rattle.jz_first_tree.specs.declared.Var.{Var}
+use Rattle.jz_first.specs.declared.tree.Var.{Var}
 use Rattle.jz_lower.proofs.NumberLemmas.{number_more, number_kept, held_more}
 use Rattle.jz_lower.proofs.numbers.Numbers.add.Goals as goal
 use Rattle.jz_lower.proofs.numbers.Numbers.add.Goals.{then-not-contains_key+in_ok-clone+in_ok-insert, else-not-contains_key}

@@ -1,5 +1,5 @@
-use Rattle.jz_scopes.specs.Scopes.{variables_of}
-use Rattle.jz_scopes.specs.Tables.{variable_in}
+use Rattle.jz_type_names.specs.Scopes.{variables_of}
+use Rattle.jz_type_names.specs.Tables.{variable_in}
 use Rattle.jz_resolve.specs.Tables.{values_in, places_in}
 use Rattle.jz_resolve.proofs.Naming.{declares, numbers}
 use Rattle.jz_resolve.proofs.scope.Scope.of.Goals as goal

@@ -1,5 +1,5 @@
 use Rattle.std.proofs.Math.Path.{fun_ext}
-use Rattle.jz_scopes.proofs.UnknownLaws.{constants_are}
+use Rattle.jz_type_names.proofs.UnknownLaws.{constants_are}
 use Rattle.jz_resolve.proofs.table.ConstantTable.with_places.Goals as goal
 
 pub returns-clause-places : goal.returns-clause-places

@@ -1,3 +1,0 @@
-pub mod LastLeft
-pub mod RightValues
-pub mod Writing

@@ -1,8 +1,0 @@
-pub mod Spread
-pub mod Naming
-pub mod Bridge
-pub mod Cyclic
-pub mod Falling
-pub mod Each
-pub mod Steep
-pub mod Ranked

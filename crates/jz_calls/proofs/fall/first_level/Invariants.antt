@@ -1,5 +1,0 @@
-use Rattle.jz_calls.specs.InnerCandidates.{IsCandidate}
-use Rattle.jz_calls.proofs.fall.first_level.Given as goal
-
-abbrev pub invariant-loop-i : goal.invariant-loop-i
-invariant-loop-i l = IsCandidate l.graph l.funs l.ranks l.i l.first

@@ -1,6 +1,0 @@
-use Rattle.std.proofs.Common.{◌≡◌, map, take}
-use Rattle.jz_calls.specs.InnerNumbers.{numbers_called}
-use Rattle.jz_calls.proofs.graph.graph.Given as goal
-
-abbrev pub invariant-loop-fun : goal.invariant-loop-fun
-invariant-loop-fun l = l.graph.items ≡ map (numbers_called l.funs) (take l.fun-index l.fun-items)

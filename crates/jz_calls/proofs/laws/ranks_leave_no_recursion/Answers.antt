@@ -1,5 +1,0 @@
-use Rattle.jz_calls.proofs.Ranked.{not_recursive}
-use Rattle.jz_calls.proofs.laws.ranks_leave_no_recursion.Goals as goal
-
-pub returns : goal.returns
-returns c = λ p ranks at r h. not_recursive p ranks at r h

@@ -1,5 +1,0 @@
-use Rattle.jz_calls.proofs.Each.{Each}
-use Rattle.jz_calls.proofs.recursion.ask_each.Given as goal
-
-abbrev pub invariant-loop-i : goal.invariant-loop-i
-invariant-loop-i l = Each l.graph l.fun-items l.i l.first l.ranks.items

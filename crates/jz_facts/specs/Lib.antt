@@ -1,4 +1,0 @@
-pub mod Facts
-pub mod Holding
-pub mod Names
-pub mod Conditions

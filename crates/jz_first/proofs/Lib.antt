@@ -1,0 +1,15 @@
+pub mod Counted
+pub mod Lists
+pub mod Same
+pub mod Program
+pub mod Faults
+pub mod Phrases
+pub mod Declaring
+pub mod Assigning
+pub mod Earliest
+pub mod NameLemmas
+pub mod ScopeLemmas
+pub mod UnknownLemmas
+pub mod FirstLemmas
+pub mod ResolvedLemmas
+pub mod TypedLemmas

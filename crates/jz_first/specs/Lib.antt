@@ -1,0 +1,16 @@
+pub mod Variables
+pub mod Assignments
+pub mod Trees
+pub mod Grammar
+pub mod Readers
+pub mod Deriving
+pub mod Reading
+pub mod Derived
+pub mod Faults
+pub mod Declared
+pub mod Uses
+pub mod Rules
+pub mod Resolving
+pub mod Scopes
+pub mod Joining
+pub mod TypedPrograms

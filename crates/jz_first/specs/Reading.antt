@@ -1,0 +1,20 @@
+-- The program that a text reads as, and why it reads as none.
+use Rattle.std.specs.Prelude.{ℕ, List}
+use Rattle.jz_lex.specs.declared.token.Token.{Token}
+use Rattle.jz_lex.specs.declared.token.LexFault.{LexFault}
+use Rattle.jz_grammar.specs.declared.fault.SyntaxFault.{SyntaxFault}
+use Rattle.jz_first.specs.declared.tree.Program.{Program}
+use Rattle.jz_lex.specs.Lexing.{IsLexed, HasNoToken}
+use Rattle.jz_first.specs.Deriving.{DerivesProgram, IsUnexpected}
+
+-- the text has tokens, and the grammar derives the program from them
+unfoldable pub Reads : List ℕ → Program → Type 0
+Reads text p = (tokens : List Token) × IsLexed text tokens × DerivesProgram tokens p
+
+-- at this place the text has no token, and before it has
+unfoldable pub LexFails : List ℕ → LexFault → Type 0
+LexFails text f = HasNoToken text f
+
+-- the text has tokens, and this is the first of them that no program goes on with
+unfoldable pub ParseFails : List ℕ → SyntaxFault → Type 0
+ParseFails text f = (tokens : List Token) × IsLexed text tokens × IsUnexpected tokens f

@@ -1,9 +1,0 @@
-use Rattle.std.proofs.Common.{◌≡◌, drop}
-use Rattle.jz_first_types.specs.Faults.{earlier}
-use Rattle.jz_first_types.specs.Joining.{first_in}
-use Rattle.jz_first_types.specs.Scopes.{unknown_by}
-use Rattle.jz_first_types.specs.Uses.{kind_uses}
-use Rattle.jz_first_types.proofs.unknown.in_stmts.Given as goal
-
-abbrev pub invariant-loop-stmt : goal.invariant-loop-stmt
-invariant-loop-stmt l = earlier l.first (first_in (λ s. unknown_by l.scope (kind_uses s.kind)) (drop l.stmt-index l.stmt-items)) ≡ first_in (λ s. unknown_by l.scope (kind_uses s.kind)) l.stmts

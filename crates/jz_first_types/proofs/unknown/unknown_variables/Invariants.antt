@@ -1,8 +1,0 @@
-use Rattle.std.proofs.Common.{◌≡◌, drop}
-use Rattle.jz_first_types.specs.Faults.{earlier}
-use Rattle.jz_first_types.specs.Joining.{first_in}
-use Rattle.jz_first_types.specs.Rules.{unknown_in}
-use Rattle.jz_first_types.proofs.unknown.unknown_variables.Given as goal
-
-abbrev pub invariant-loop-fun : goal.invariant-loop-fun
-invariant-loop-fun l = earlier l.first (first_in unknown_in (drop l.fun-index l.fun-items)) ≡ first_in unknown_in l.program.funs

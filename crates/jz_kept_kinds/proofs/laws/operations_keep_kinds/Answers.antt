@@ -1,5 +1,0 @@
-use Rattle.jz_kept_kinds.proofs.Nodes.{operations_keep, marks_keep}
-use Rattle.jz_kept_kinds.proofs.laws.operations_keep_kinds.Goals as goal
-
-pub returns : goal.returns
-returns c = record { operations = operations_keep; marks = marks_keep }

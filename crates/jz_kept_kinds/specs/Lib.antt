@@ -1,5 +1,0 @@
-pub mod Kinds
-pub mod Nodes
-pub mod Declared
-pub mod Kept
-pub mod Texts

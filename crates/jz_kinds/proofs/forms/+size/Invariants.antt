@@ -1,8 +1,0 @@
-use Rattle.std.proofs.Common.{◌≡◌, ◌≤◌}
-use Rattle.jz_tree.specs.declared.expr.Expr.{size-Expr}
-use Rattle.jz_kinds.specs.Wants.{or_size}
-use Rattle.jz_kinds.specs.InnerFound.{found_of}
-use Rattle.jz_kinds.proofs.forms.+size.Given as goal
-
-abbrev pub invariant-loop-cur : goal.invariant-loop-cur
-invariant-loop-cur l = (or_size (found_of l.cur).form.size l.rest ≡ (found_of l.e).form.size) × (size-Expr l.cur ≤ size-Expr l.e)

@@ -1,7 +1,0 @@
-use Rattle.std.proofs.Common.{◌≡◌, drop}
-use Rattle.jz_scopes.specs.Order.{earlier, first_in}
-use Rattle.jz_kinds.specs.Mismatches.{constant_wrong}
-use Rattle.jz_kinds.proofs.functions.constants_fault.Given as goal
-
-abbrev pub invariant-loop-constant : goal.invariant-loop-constant
-invariant-loop-constant l = earlier l.first (first_in constant_wrong (drop l.constant-index l.constants)) ≡ first_in constant_wrong l.fn.constants

@@ -1,7 +1,0 @@
-use Rattle.std.proofs.Common.{◌≡◌, drop}
-use Rattle.jz_kinds.specs.Wants.{or_size}
-use Rattle.jz_kinds.specs.Intrinsics.{result_size}
-use Rattle.jz_kinds.proofs.intrinsics.result_size.Given as goal
-
-abbrev pub invariant-loop-side : goal.invariant-loop-side
-invariant-loop-side l = or_size l.found (result_size l.rest (drop l.side-index l.to)) ≡ result_size l.fn.roles l.fn.to

@@ -1,9 +1,0 @@
-pub mod SameKinds
-pub mod Placed
-pub mod Sizes
-pub mod LeftSizes
-pub mod Unworded
-pub mod InstructionSizes
-pub mod OperatorsInPlaces
-pub mod InPlaces
-pub mod Classes

@@ -1,4 +1,0 @@
-pub mod NoteLemmas
-pub mod Parts
-pub mod StmtReads
-pub mod Lists

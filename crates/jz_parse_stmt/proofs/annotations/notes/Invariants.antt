@@ -1,9 +1,0 @@
-use Rattle.std.proofs.Common.{◌≡◌, [], length}
-use Rattle.jz_parse_stmt.specs.NotesReaders.{notes_more}
-use Rattle.jz_parse_stmt.proofs.annotations.notes.Given as goal
-
-abbrev pub invariant-loop-alloc : goal.invariant-loop-alloc
-invariant-loop-alloc l = notes_more l.fn.depth l.out l.c ≡ notes_more l.fn.depth [] l.fn.c
-
-abbrev pub decreases-loop-alloc : goal.decreases-loop-alloc
-decreases-loop-alloc l = length l.c

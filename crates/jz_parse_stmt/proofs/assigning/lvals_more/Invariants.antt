@@ -1,9 +1,0 @@
-use Rattle.std.proofs.Common.{◌≡◌, length}
-use Rattle.jz_parse_stmt.specs.Readers.{lvals_more}
-use Rattle.jz_parse_stmt.proofs.assigning.lvals_more.Given as goal
-
-abbrev pub invariant-loop-alloc : goal.invariant-loop-alloc
-invariant-loop-alloc l = lvals_more l.depth l.out l.c ≡ lvals_more l.fn.depth l.fn.first l.fn.c
-
-abbrev pub decreases-loop-alloc : goal.decreases-loop-alloc
-decreases-loop-alloc l = length l.c

@@ -1,4 +1,0 @@
-pub mod GivenLemmas
-pub mod RestLemmas
-pub mod StepLemmas
-pub mod ValueLemmas

@@ -1,9 +1,0 @@
-pub mod Joins
-pub mod Earlier
-pub mod Agree
-pub mod SetFused
-pub mod Walking
-pub mod Adding
-pub mod Asking
-pub mod FunctionLaws
-pub mod Flows

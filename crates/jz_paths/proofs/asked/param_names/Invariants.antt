@@ -1,6 +1,0 @@
-use Rattle.std.proofs.Common.{◌≡◌, ◌++◌, drop, map}
-use Rattle.jz_paths.specs.InnerWalks.{text_of_param}
-use Rattle.jz_paths.proofs.asked.param_names.Given as goal
-
-abbrev pub invariant-loop-param : goal.invariant-loop-param
-invariant-loop-param l = l.names.items ++ map text_of_param (drop l.param-index l.params) ≡ map text_of_param l.params

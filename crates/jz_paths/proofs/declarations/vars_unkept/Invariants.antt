@@ -1,8 +1,0 @@
-use Rattle.std.proofs.Common.{◌≡◌, drop, flat_map}
-use Rattle.jz_scopes.specs.Order.{earlier, earliest}
-use Rattle.jz_paths.specs.Declarations.{is_kept, unkept}
-use Rattle.jz_paths.proofs.declarations.vars_unkept.Given as goal
-
-abbrev pub invariant-loop-var : goal.invariant-loop-var
-invariant-loop-var l =
-    earlier l.best (earliest (flat_map (unkept is_kept) (drop l.var-index l.vars))) ≡ earliest (flat_map (unkept is_kept) l.vars)

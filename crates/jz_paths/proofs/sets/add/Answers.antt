@@ -1,5 +1,0 @@
-use Rattle.jz_paths.proofs.Adding.{added}
-use Rattle.jz_paths.proofs.sets.add.Goals as goal
-
-pub returns : goal.returns
-returns c = added c.args.set.now.keys c.args.name c.insert.new.self.keys c.in_ok-insert.ensures.keys

@@ -1,7 +1,0 @@
-use Rattle.std.proofs.Common.{◌≡◌, drop}
-use Rattle.jz_scopes.specs.Order.{earlier, first_in}
-use Rattle.jz_rules.specs.Copies.{array_left}
-use Rattle.jz_rules.proofs.arrays.first_left.Given as goal
-
-abbrev pub invariant-loop-to : goal.invariant-loop-to
-invariant-loop-to l = earlier l.first (first_in array_left (drop l.to-index l.to-items)) ≡ first_in array_left l.fn.tos

@@ -1,7 +1,0 @@
-use Rattle.std.proofs.Common.{◌≡◌, ◌++◌}
-use Rattle.jz_scopes.specs.Lent.{these}
-use Rattle.jz_scopes.specs.Parts.{layer_of, set_by}
-use Rattle.jz_rules.proofs.callee.add_set.Given as goal
-
-abbrev pub invariant-loop-var : goal.invariant-loop-var
-invariant-loop-var l = these l.list.items ++ these l.var-iterator.rest.items ≡ these l.initial.list.items ++ set_by (layer_of l.fn.stmt)

@@ -1,8 +1,0 @@
-use Rattle.std.proofs.Common.{map, take}
-use Rattle.jz_scopes.specs.Lent.{these}
-use Rattle.jz_rules.specs.Callees.{text_of}
-use Rattle.jz_rules.specs.InnerTables.{HasNames}
-use Rattle.jz_rules.proofs.callee.names_of.Given as goal
-
-abbrev pub invariant-loop-var : goal.invariant-loop-var
-invariant-loop-var l = HasNames l.names (map text_of (these (take l.var-index l.vars)))

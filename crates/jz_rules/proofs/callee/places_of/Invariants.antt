@@ -1,7 +1,0 @@
-use Rattle.std.proofs.Common.{map, take}
-use Rattle.jz_rules.specs.Callees.{name_of_param}
-use Rattle.jz_rules.specs.InnerTables.{HasPlaces}
-use Rattle.jz_rules.proofs.callee.places_of.Given as goal
-
-abbrev pub invariant-loop-number : goal.invariant-loop-number
-invariant-loop-number l = HasPlaces l.places (map name_of_param (take l.number l.fn.params))

@@ -1,8 +1,0 @@
-use Rattle.std.proofs.Common.{◌≡◌, ◌++◌, flat_map}
-use Rattle.jz_scopes.specs.Lent.{these}
-use Rattle.jz_scopes.specs.Parts.{layer_of, set_by}
-use Rattle.jz_rules.specs.Callees.{set_in}
-use Rattle.jz_rules.proofs.callee.set_in.Given as goal
-
-abbrev pub invariant-loop-stmt : goal.invariant-loop-stmt
-invariant-loop-stmt l = these l.list.items ++ flat_map (λ s. set_by (layer_of s)) (these l.stmt-iterator.rest.items) ≡ set_in l.fn.body

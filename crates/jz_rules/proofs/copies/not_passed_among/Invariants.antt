@@ -1,8 +1,0 @@
-use Rattle.std.proofs.Common.{◌≡◌, map, drop}
-use Rattle.jz_scopes.specs.Order.{earlier, first_in}
-use Rattle.jz_rules.specs.InnerPairs.{pair_of}
-use Rattle.jz_rules.specs.Copies.{not_passed}
-use Rattle.jz_rules.proofs.copies.not_passed_among.Given as goal
-
-abbrev pub invariant-loop-pair : goal.invariant-loop-pair
-invariant-loop-pair l = earlier l.first (first_in (not_passed l.args) (map pair_of (drop l.pair-index l.given))) ≡ first_in (not_passed l.args) (map pair_of l.fn.given)

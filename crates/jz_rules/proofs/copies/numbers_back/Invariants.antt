@@ -1,7 +1,0 @@
-use Rattle.std.proofs.Common.{◌≡◌, ◌++◌, map, drop}
-use Rattle.jz_rules.specs.InnerPairs.{pair_of}
-use Rattle.jz_rules.specs.Copies.{numbers_back}
-use Rattle.jz_rules.proofs.copies.numbers_back.Given as goal
-
-abbrev pub invariant-loop-pair : goal.invariant-loop-pair
-invariant-loop-pair l = l.numbers.items ++ numbers_back l.args (map pair_of (drop l.pair-index l.given)) ≡ numbers_back l.args (map pair_of l.fn.given)

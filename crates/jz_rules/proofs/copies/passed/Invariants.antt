@@ -1,7 +1,0 @@
-use Rattle.std.proofs.Common.{◌≡◌, ◌++◌, map, drop}
-use Rattle.jz_rules.specs.InnerPassing.{passed_of}
-use Rattle.jz_rules.specs.Copies.{passed_from}
-use Rattle.jz_rules.proofs.copies.passed.Given as goal
-
-abbrev pub invariant-loop-number : goal.invariant-loop-number
-invariant-loop-number l = map passed_of l.list.items ++ passed_from l.number (drop l.number l.args) ≡ passed_from 0 l.args

@@ -1,8 +1,0 @@
-use Rattle.std.proofs.Common.{◌≡◌, map, drop}
-use Rattle.std.specs.List.{list_all}
-use Rattle.jz_rules.specs.InnerPairs.{pair_of}
-use Rattle.jz_rules.specs.Matching.{enters}
-use Rattle.jz_rules.proofs.matching.all_enter.Given as goal
-
-abbrev pub invariant-loop-pair : goal.invariant-loop-pair
-invariant-loop-pair l = list_all enters (map pair_of (drop l.pair-index l.pairs)) ≡ list_all enters (map pair_of l.pairs)

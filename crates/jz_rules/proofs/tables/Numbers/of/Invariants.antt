@@ -1,6 +1,0 @@
-use Rattle.std.proofs.Common.{take}
-use Rattle.jz_rules.specs.InnerTables.{HasNumbers}
-use Rattle.jz_rules.proofs.tables.Numbers.of.Given as goal
-
-abbrev pub invariant-loop-number : goal.invariant-loop-number
-invariant-loop-number l = HasNumbers l.numbers (take l.number-index l.list)

@@ -1,5 +1,0 @@
--- Two lists in step.
-use Rattle.jz_rules.specs.declared.pairs.Pair.{Pair}
-
-abbrev pub pair_of : {A B : Type 0} → Pair A B → A × B
-pair_of p = (p.left.now, p.right.now)

@@ -1,6 +1,0 @@
--- Arrays that are passed, as the code keeps them.
-use Rattle.jz_rules.specs.declared.copies.Argument.{Argument}
-use Rattle.jz_rules.specs.Copies.{Passed}
-
-abbrev pub passed_of : Argument → Passed
-passed_of p = (p.number, p.array.now)

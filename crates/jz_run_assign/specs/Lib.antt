@@ -1,0 +1,6 @@
+pub mod Answers
+pub mod Pairs
+pub mod Parts
+pub mod Rights
+pub mod Passings
+pub mod Calls

@@ -1,0 +1,19 @@
+-- What the code answers, seen as the definitions give it.
+use Rattle.std.specs.Prelude.{ℕ, List, Result, Ok, Err}
+use Rattle.jz_runs.specs.Rules.{stuck, went}
+use Rattle.jz_meaning.specs.declared.store.Store as code
+use Rattle.jz_meaning.specs.declared.value.Stuck.{Stuck}
+use Rattle.jz_meaning.specs.Attempts.{Evaluation}
+use Rattle.jz_meaning.specs.States.{Store}
+use Rattle.jz_meaning.specs.Stores.{store_of}
+use Rattle.jz_meaning.specs.Statements as statements
+use Rattle.jz_run_assign.specs.declared.calling.Call as code_call
+
+-- the variables of a callee
+abbrev pub entered_store : List ℕ → Result code.Store Stuck → Evaluation Store
+entered_store ns (Ok s) = went ns (store_of s)
+entered_store ns (Err k) = stuck k
+
+-- a call of the code
+abbrev pub call_of : code_call.Call → statements.Call
+call_of c = record { to = c.to.now; callee = c.callee.now; args = c.args.now; at = c.span }

@@ -1,7 +1,0 @@
-use Rattle.std.proofs.Common.{◌≡◌, ◌++◌, drop}
-use Rattle.jz_scopes.specs.Parts.{statements_of}
-use Rattle.jz_scopes.specs.Lent.{these}
-use Rattle.jz_scopes.proofs.bodies.+statements.Given as goal
-
-abbrev pub invariant-add_statements-loop-stmt : goal.invariant-add_statements-loop-stmt
-invariant-add_statements-loop-stmt l = these l.list.items ++ statements_of (drop l.stmt-index l.stmt-items) ≡ these l.initial.list.items ++ statements_of l.body

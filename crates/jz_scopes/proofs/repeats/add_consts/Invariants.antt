@@ -1,6 +1,0 @@
-use Rattle.std.proofs.Common.{◌≡◌, ◌++◌, take, map}
-use Rattle.jz_scopes.specs.InnerLists.{these_names}
-use Rattle.jz_scopes.proofs.repeats.add_consts.Given as goal
-
-abbrev pub invariant-loop-constant : goal.invariant-loop-constant
-invariant-loop-constant l = these_names l.list.items ≡ these_names l.initial.list.items ++ map (λ c. (c.name, c.span)) (take l.constant-index l.constant-items)

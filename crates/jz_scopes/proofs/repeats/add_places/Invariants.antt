@@ -1,8 +1,0 @@
-use Rattle.std.proofs.Common.{List, take, ◌++◌}
-use Rattle.jz_scopes.specs.Scopes.{Name}
-use Rattle.jz_scopes.specs.InnerLists.{these_names}
-use Rattle.jz_scopes.specs.Tables.{IsEarliestPlaces}
-use Rattle.jz_scopes.proofs.repeats.add_places.Given as goal
-
-abbrev pub invariant-loop-name : goal.invariant-loop-name
-invariant-loop-name l = (ns : List Name) → IsEarliestPlaces l.initial.places ns → IsEarliestPlaces l.places (ns ++ these_names (take l.name-index l.names))

@@ -1,6 +1,0 @@
-use Rattle.std.proofs.Common.{take}
-use Rattle.jz_scopes.specs.Tables.{IsFunctions}
-use Rattle.jz_scopes.proofs.tables.Functions.of.Given as goal
-
-abbrev pub invariant-loop-fun : goal.invariant-loop-fun
-invariant-loop-fun l = IsFunctions l.functions (take l.fun-index l.fun-items)

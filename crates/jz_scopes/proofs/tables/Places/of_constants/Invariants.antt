@@ -1,6 +1,0 @@
-use Rattle.std.proofs.Common.{map, take}
-use Rattle.jz_scopes.specs.Tables.{IsPlaces}
-use Rattle.jz_scopes.proofs.tables.Places.of_constants.Given as goal
-
-abbrev pub invariant-loop-constant : goal.invariant-loop-constant
-invariant-loop-constant l = IsPlaces l.places (map (λ c. (c.name, c.span)) (take l.constant-index l.constant-items))

@@ -1,7 +1,0 @@
-use Rattle.std.proofs.Common.{map, take}
-use Rattle.jz_scopes.specs.Scopes.{name_of}
-use Rattle.jz_scopes.specs.Tables.{IsPlaces}
-use Rattle.jz_scopes.proofs.tables.Places.of_variables.Given as goal
-
-abbrev pub invariant-loop-param : goal.invariant-loop-param
-invariant-loop-param l = IsPlaces l.places (map name_of (map (λ p. p.var) (take l.param-index l.param-items)))

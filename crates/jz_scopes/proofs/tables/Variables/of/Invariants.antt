@@ -1,6 +1,0 @@
-use Rattle.std.proofs.Common.{map, take}
-use Rattle.jz_scopes.specs.Tables.{IsVariables}
-use Rattle.jz_scopes.proofs.tables.Variables.of.Given as goal
-
-abbrev pub invariant-loop-param : goal.invariant-loop-param
-invariant-loop-param l = IsVariables l.variables (map (λ p. p.var) (take l.param-index l.param-items))

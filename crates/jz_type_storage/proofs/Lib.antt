@@ -1,0 +1,17 @@
+pub mod Joins
+pub mod Earlier
+pub mod Agree
+pub mod SetFused
+pub mod Walking
+pub mod Adding
+pub mod Asking
+pub mod FunctionLaws
+pub mod Flows
+pub mod Spread
+pub mod Naming
+pub mod Bridge
+pub mod Cyclic
+pub mod Falling
+pub mod Each
+pub mod Steep
+pub mod Ranked

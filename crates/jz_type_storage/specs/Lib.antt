@@ -1,0 +1,12 @@
+pub mod Declarations
+pub mod Settings
+pub mod Paths
+pub mod InnerSurely
+pub mod InnerFirstSet
+pub mod InnerWalks
+pub mod Recursion
+pub mod Numbers
+pub mod InnerVisits
+pub mod InnerCandidates
+pub mod InnerTables
+pub mod InnerNumbers
