@@ -1,11 +1,11 @@
 //! Calls of the crates below whose answers no text of the first language shows.
 
-use jz_data::{Boxed, Seq, Text};
+use jz_leak::{Boxed, Seq, Text};
 use jz_io::{Ct, CtKind, Span};
 use jz_leak::{Case, Event, Form, Leak, MemMap, Out, Tr, Transformer, apply};
 use jz_listing::{Arg, Compiled, Pre, listing};
 use jz_pipeline::has_field;
-use jz_words::Size;
+use x64_insn::Size;
 use std::alloc::{AllocError, Global};
 use std::test::Fail;
 use x64_insn::Reg;

@@ -7,7 +7,7 @@ ghost use Rattle.jz_ir.specs.Tree.{done, then_tree, tree_of};
 ghost use Rattle.jz_live.specs.Lives.{TreeBelow};
 
 use jz_bits::Bits;
-use jz_data::Seq;
+use jz_leak::Seq;
 use jz_io::Span;
 use jz_ir::{Node, Op};
 use jz_live::live;

@@ -1,12 +1,12 @@
 -- Causes, and what excludes them.
 use Rattle.std.proofs.Common.{◌≡◌, ℕ, ◌<◌, ◌≤◌, List, length, ◌∙◌, arith, subst, ap, sym}
-use Rattle.jz_lex.specs.declared.token.Token.{Token}
-use Rattle.jz_lex.specs.declared.token.LexFault.{LexFault}
+use Rattle.jz_grammar.specs.Token.{Token}
+use Rattle.jz_grammar.specs.LexFault.{LexFault}
 use Rattle.jz_grammar.specs.declared.fault.SyntaxFault.{SyntaxFault}
 use Rattle.jz_first.specs.declared.fault.TypeFault.{TypeFault}
 use Rattle.jz_first.specs.declared.tree.Program.{Program}
 use Rattle.jasminc_top.specs.declared.refusal.Refusal.TheVariants.{Usage, ReadFault, Source, Lex, Parse, Typing, NoFunction, Limit, Alarm, NoPlace, Items}
-use Rattle.jz_lex.specs.Lexing.{IsLexed, HasNoToken}
+use Rattle.jz_grammar.specs.Lexing.{IsLexed, HasNoToken}
 use Rattle.jz_first.specs.Deriving.{DerivesProgram, IsUnexpected}
 use Rattle.jz_first.specs.Reading.{Reads, LexFails, ParseFails}
 use Rattle.jz_first.specs.Rules.{IsTyped, faults_of}
@@ -16,7 +16,7 @@ use Rattle.jz_safety.specs.Alarms.{IsFirstAlarm}
 use Rattle.jz_pipeline.specs.Placed.{IsUnplaced}
 use Rattle.jasminc_top.specs.Making.{TypesAs}
 use Rattle.jasminc_top.specs.Answers.{source_limit, TextCause, ExecCause, FailsTyping, HasFirst, HasNoFunction, HasOtherItems, Clear}
-use Rattle.jz_lex.proofs.LexingUnique.{one_lexing, lexed_or_refused}
+use Rattle.jz_grammar.proofs.LexingUnique.{one_lexing, lexed_or_refused}
 use Rattle.jz_first.proofs.Faults.{one_program_law, no_fault_law}
 use Rattle.jz_first.proofs.FirstLemmas.{no_first}
 

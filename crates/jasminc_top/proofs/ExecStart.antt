@@ -6,7 +6,7 @@ use Rattle.std.specs.FinMap as map_of
 use Rattle.std.proofs.lemmas.Bool.{and_parts}
 use Rattle.std.proofs.lemmas.Bool.Decides.{nat_tests}
 use Rattle.std.proofs.lemmas.List.{get_or-set_other, length-set}
-use Rattle.jz_words.specs.Memory.{Memory, loaded}
+use Rattle.jz_first.specs.Memory.{Memory, loaded}
 use Rattle.x64_insn.specs.declared.types.Reg.{Reg}
 use Rattle.x64_insn.specs.Table.{number_of}
 use Rattle.jasminc_top.specs.Running.{code_base, return_slot, with_numbers, bare_registers, IsStartMemory, exec_start, Finishes, EndsWithin, RunsTo, run_text}

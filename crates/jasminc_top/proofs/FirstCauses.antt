@@ -2,9 +2,9 @@
 use Rattle.std.proofs.Common.{◌≡◌, ℕ, ◌<◌, ◌≤◌, List, [], ◌∷◌, ◌++◌, length, ◌∙◌, arith, Option, Some, None, subst, ap, refl}
 use Rattle.std.specs.Prelude.{All, Err}
 use Rattle.std.proofs.lemmas.List.Elements.{All-contains, Contains-append_right, Contains-append_left}
-use Rattle.jz_data.specs.declared.failure.Failure.{Failure}
-use Rattle.jz_data.specs.declared.failure.Failure.TheVariants as failure
-use Rattle.jz_data.specs.Failures.{IfRefused, IfAnswered}
+use Rattle.jz_first.specs.Failure.{Failure}
+use Rattle.jz_first.specs.Failure.TheVariants as failure
+use Rattle.jz_first.specs.Failures.{IfRefused, IfAnswered}
 use Rattle.jz_first.specs.declared.tree.Program.{Program}
 use Rattle.jz_first.specs.declared.tree.Fun.{Fun}
 use Rattle.jz_grammar.specs.declared.fault.SyntaxFault.{SyntaxFault}

@@ -2,12 +2,12 @@
 use Rattle.std.proofs.Common.{◌≡◌, ℕ, ◌+◌, ◌<◌, ◌≤◌, ◌^◌, Bool, true, List, [], ◌∷◌, length, refl, sym, ap, ◌∙◌, subst, arith, lit<, length-append}
 use Rattle.std.specs.Prelude.{All, map, ◌&&◌}
 use Rattle.std.proofs.lemmas.List.Elements.{All-nil, All-cons, All-head, All-tail, All-map, All-weaker}
-use Rattle.jz_words.specs.declared.size.Size.TheVariants.{S64}
+use Rattle.jz_first.specs.Size.TheVariants.{S64}
 use Rattle.x64_insn.specs.declared.types.Reg.{Reg}
 use Rattle.x64_insn.specs.declared.types.Insn.TheVariants as insn
-use Rattle.jz_lex.specs.LexingWords.{in_word}
-use Rattle.jz_lex.specs.Identifiers.{IsIdentifier}
-use Rattle.jz_lex.proofs.Identifiers.{identifier_bytes, byte_code}
+use Rattle.jz_grammar.specs.LexingWords.{in_word}
+use Rattle.jz_grammar.specs.Identifiers.{IsIdentifier}
+use Rattle.jz_grammar.proofs.Identifiers.{identifier_bytes, byte_code}
 use Rattle.jz_first.specs.declared.tree.Program.{Program}
 use Rattle.jz_first.specs.declared.tree.Fun.{Fun}
 use Rattle.jz_first.specs.declared.tree.Var.{Var}

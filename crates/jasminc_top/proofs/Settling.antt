@@ -1,9 +1,9 @@
 -- What the answer of all stages is, and what is due by it.
 use Rattle.std.proofs.Common.{◌≡◌, ℕ, ◌<◌, ◌≤◌, List, [], length, refl, sym, subst, arith, inl, inr, Option, Some, None}
 use Rattle.std.specs.Prelude.{Result, Ok, Err, codes}
-use Rattle.jz_data.specs.declared.failure.Failure.{Failure}
-use Rattle.jz_data.specs.declared.failure.Failure.TheVariants as failure
-use Rattle.jz_data.specs.Failures.{IfRefused, IfAnswered}
+use Rattle.jz_first.specs.Failure.{Failure}
+use Rattle.jz_first.specs.Failure.TheVariants as failure
+use Rattle.jz_first.specs.Failures.{IfRefused, IfAnswered}
 use Rattle.jz_io.specs.Telling.{IsWhole}
 use Rattle.jz_listing.specs.declared.compiled.Compiled.{Compiled}
 use Rattle.jasminc_top.specs.declared.answer.Reply.{Reply}

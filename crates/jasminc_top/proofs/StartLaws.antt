@@ -8,7 +8,7 @@ use Rattle.std.specs.FinMap as map_of
 use Rattle.std.specs.Ordering.{nat_cmp}
 use Rattle.std.specs.Option.{option_or}
 use Rattle.jz_leak.specs.MemoryMap.{byte_from}
-use Rattle.jz_words.specs.Memory.{Memory, loaded}
+use Rattle.jz_first.specs.Memory.{Memory, loaded}
 use Rattle.x64_insn.specs.declared.types.Reg.{Reg}
 use Rattle.x64_insn.specs.declared.types.Reg.TheVariants as reg
 use Rattle.x64_insn.specs.declared.types.FlagVal.TheVariants.{Undefined}

@@ -1,12 +1,12 @@
 -- What the refusals of stages say of those that they become.
 use Rattle.std.proofs.Common.{◌≡◌, ℕ, List, sym, subst}
 use Rattle.std.specs.Prelude.{All, Result, Ok, Err, IfErr}
-use Rattle.jz_data.specs.declared.failure.Failure.{Failure}
-use Rattle.jz_data.specs.declared.failure.Failure.TheVariants as failure
-use Rattle.jz_data.specs.Failures.{IfRefused}
-use Rattle.jz_lex.specs.declared.token.Token.{Token}
-use Rattle.jz_lex.specs.declared.token.LexFault.{LexFault}
-use Rattle.jz_lex.specs.Lexing.{IsLexed, HasNoToken}
+use Rattle.jz_first.specs.Failure.{Failure}
+use Rattle.jz_first.specs.Failure.TheVariants as failure
+use Rattle.jz_first.specs.Failures.{IfRefused}
+use Rattle.jz_grammar.specs.Token.{Token}
+use Rattle.jz_grammar.specs.LexFault.{LexFault}
+use Rattle.jz_grammar.specs.Lexing.{IsLexed, HasNoToken}
 use Rattle.jz_grammar.specs.declared.fault.SyntaxFault.{SyntaxFault}
 use Rattle.jz_first.specs.Deriving.{IsUnexpected}
 use Rattle.jz_first.specs.Reading.{Reads}

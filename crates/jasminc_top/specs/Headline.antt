@@ -2,7 +2,7 @@
 use Rattle.std.specs.Prelude.{◌≡◌, ◌≤◌, List, ℕ, Option, Some, None, ⊤}
 use Rattle.std.specs.Io.KnownBytes.{Appends}
 use Rattle.std.specs.FinMap as map_of
-use Rattle.jz_words.specs.Memory.{Memory}
+use Rattle.jz_first.specs.Memory.{Memory}
 use Rattle.jz_first.specs.declared.tree.Program.{Program}
 use Rattle.jz_first.specs.declared.tree.Fun.{Fun}
 use Rattle.jz_listing.specs.Listing.{listing_text}

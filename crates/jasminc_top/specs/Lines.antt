@@ -6,9 +6,9 @@ use Rattle.x64_insn.specs.declared.types.Flag.{Flag}
 use Rattle.x64_insn.specs.declared.types.Flag.TheVariants as flag
 use Rattle.x64_insn.specs.declared.types.Place.{Place}
 use Rattle.x64_insn.specs.declared.types.Place.TheVariants as place
-use Rattle.jz_lex.specs.declared.token.LexKind.{LexKind}
-use Rattle.jz_lex.specs.declared.token.LexKind.TheVariants.{BadByte, BadNumber, OpenComment}
-use Rattle.jz_lex.specs.declared.token.LexFault.{LexFault}
+use Rattle.jz_grammar.specs.LexKind.{LexKind}
+use Rattle.jz_grammar.specs.LexKind.TheVariants.{BadByte, BadNumber, OpenComment}
+use Rattle.jz_grammar.specs.LexFault.{LexFault}
 use Rattle.jz_grammar.specs.declared.fault.SyntaxKind.{SyntaxKind}
 use Rattle.jz_grammar.specs.declared.fault.SyntaxKind.TheVariants.{Unexpected, TooDeep}
 use Rattle.jz_grammar.specs.declared.fault.SyntaxFault.{SyntaxFault}

@@ -1,7 +1,7 @@
 -- The refusal of a stage as one of a command.
 use Rattle.std.specs.Prelude.{Result, Err}
-use Rattle.jz_data.specs.declared.failure.Failure.{Failure}
-use Rattle.jz_data.specs.declared.failure.Failure.TheVariants.{Refused}
+use Rattle.jz_first.specs.Failure.{Failure}
+use Rattle.jz_first.specs.Failure.TheVariants.{Refused}
 
 -- the answer is a refusal, and its cause becomes this one
 abbrev pub ComesFrom : {A E R : Type 0} → (E → R → Type 0) → Result A (Failure E) → R → Type 0

@@ -2,7 +2,7 @@
 
 ghost use Rattle.std.specs.Prelude.{◌≡◌, ◌≤◌, All, Some, IfOk, IfErr, OnOk, IsErrOf, length};
 ghost use Rattle.std.specs.Option.{option_copied};
-ghost use Rattle.jz_data.specs.Failures.{IfRefused, IfAnswered};
+ghost use Rattle.jz_first.specs.Failures.{IfRefused, IfAnswered};
 ghost use Rattle.jz_io.specs.Telling.{IsWhole};
 ghost use Rattle.jasminc_top.specs.Words.{texts_of, wanted_command, wanted_of, compile, exec};
 ghost use Rattle.jasminc_top.specs.Making.{TypesAs, IsWritten, AreMade};
@@ -16,12 +16,12 @@ use crate::exec::exec_text;
 use crate::refusal::{Refusal, Status};
 use crate::stage::as_refusal;
 use crate::words::{Request, request_of};
-use jz_data::{Failure, Seq, Text};
+use jz_first::{Failure, Seq, Text};
 use jz_first::parse_first;
 use jz_first::Fun;
 use jz_first::{Typed, check};
 use jz_io::{Bytes, ReadRefused, Source, read_all};
-use jz_lex::lex;
+use jz_grammar::lex;
 use jz_listing::{Compiled, listing};
 use jz_pipeline::{compile_all, expand_all, safe_all};
 use std::alloc::{AllocError, Global};

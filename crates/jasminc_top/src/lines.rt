@@ -10,11 +10,11 @@ ghost use Rattle.jasminc_top.specs.Lines.{texts_or_dash, no_place_line};
 
 use jz_alloc::Needed;
 use jz_grammar::{SyntaxFault, SyntaxKind};
-use jz_data::{Seq, Text};
+use jz_first::{Seq, Text};
 use jz_first_meaning::Reason;
 use jz_first::{TypeFault, TypeRule};
 use jz_io::Span;
-use jz_lex::{LexFault, LexKind};
+use jz_grammar::{LexFault, LexKind};
 use jz_listing::{reg_name, write_number, write_span};
 use jz_pipeline::{Holder, Limit, LimitKind, NoPlace};
 use jz_safety::Alarm;

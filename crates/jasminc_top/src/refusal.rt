@@ -7,9 +7,9 @@ use crate::lines::{
     write_alarm, write_lex_fault, write_limit, write_no_place, write_syntax_fault, write_type_fault,
 };
 use jz_grammar::SyntaxFault;
-use jz_data::Text;
+use jz_first::Text;
 use jz_first::TypeFault;
-use jz_lex::LexFault;
+use jz_grammar::LexFault;
 use jz_pipeline::{Limit, NoPlace};
 use jz_safety::Alarm;
 use std::alloc::{AllocError, Global};

@@ -8,7 +8,7 @@ ghost use Rattle.jasminc_top.specs.Promises.{KeepsPromises};
 
 use crate::answer::{Reply, answer};
 use crate::refusal::{Refusal, Status};
-use jz_data::{Failure, Seq};
+use jz_first::{Failure, Seq};
 use jz_io::{Sink, Source, write_all};
 use jz_listing::Compiled;
 use std::alloc::Global;

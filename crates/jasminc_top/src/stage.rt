@@ -1,11 +1,11 @@
 //! The answers of stages as those of a command.
 
 ghost use Rattle.std.specs.Prelude.{◌≡◌, Ok, IfOk, IfErr};
-ghost use Rattle.jz_data.specs.Failures.{IfRefused};
+ghost use Rattle.jz_first.specs.Failures.{IfRefused};
 ghost use Rattle.jasminc_top.specs.Stage.{ComesFrom};
 
 use crate::refusal::Refusal;
-use jz_data::Failure;
+use jz_first::Failure;
 
 /// A stage's value, or its refusal as one of the table.
 pub fn as_refusal<T, E, F: FnOnce(E) -> Refusal>(

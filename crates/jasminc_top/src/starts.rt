@@ -2,7 +2,7 @@
 
 ghost use Rattle.std.specs.Prelude.{◌≡◌, ◌≤◌, ℕ, List, length};
 ghost use Rattle.std.specs.FinMap as map;
-ghost use Rattle.jz_words.specs.Memory.{Memory};
+ghost use Rattle.jz_first.specs.Memory.{Memory};
 ghost use Rattle.x64_insn.specs.declared.types.Reg.{Reg};
 ghost use Rattle.jz_first.specs.declared.tree.Fun.{Fun};
 ghost use Rattle.jz_correct.specs.Starts.{IsStart, MeetsPreconditions};

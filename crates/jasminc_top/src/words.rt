@@ -6,7 +6,7 @@ ghost use Rattle.std.specs.Option.{option_map};
 ghost use Rattle.jasminc_top.specs.Words.{wanted_command, wanted_of, command_of, run_of, texts_of, file_of};
 ghost use Rattle.jasminc_top.specs.Words.{is_option, numeral, has_leading_zero, decimal_number, numbers_of};
 
-use jz_data::Seq;
+use jz_first::Seq;
 use std::alloc::{AllocError, Global};
 
 /// A command of the program.

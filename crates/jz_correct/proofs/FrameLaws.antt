@@ -2,8 +2,8 @@
 use Rattle.std.proofs.Common.{◌≡◌, ℕ, ◌+◌, ◌-◌, ◌*◌, ◌/◌, ◌%◌, ◌<◌, ◌≤◌, false, List, [], ◌∷◌, refl, ap, arith, if◌then◌else◌, ◌==◌}
 use Rattle.std.specs.Prelude.{map}
 use Rattle.std.proofs.lemmas.Bool.Decides.{nat_tests}
-use Rattle.jz_words.specs.Memory.{Memory}
-use Rattle.jz_words.specs.declared.size.Size.TheVariants.{S8, S16, S64}
+use Rattle.jz_first.specs.Memory.{Memory}
+use Rattle.jz_first.specs.Size.TheVariants.{S8, S16, S64}
 use Rattle.x64_insn.specs.declared.types.Reg.TheVariants as reg
 use Rattle.jz_listing.specs.declared.compiled.Compiled.{Compiled}
 use Rattle.jz_correct.specs.Frames.{StackVariable, Place, places_from, saved_slots, end_from, frame_end, frame_size, preserved_registers}

@@ -1,8 +1,8 @@
 -- What the bytes of a compiled function owe to the runs of its source.
 use Rattle.std.specs.Prelude.{◌≡◌, ◌↔◌, ◌≤◌, ℕ, ◌+◌, ◌*◌, ℤ, ◌≤ℤ◌, ◌<ℤ◌, pos, List, [], ◌∷◌, ◌++◌, map, length, Option, Some, None, Contains, All, false, ⊤}
 use Rattle.std.specs.List.{AllZip}
-use Rattle.jz_words.specs.Memory.{Memory}
-use Rattle.jz_words.specs.Sizes.{bytes_of}
+use Rattle.jz_first.specs.Memory.{Memory}
+use Rattle.jz_first.specs.Sizes.{bytes_of}
 use Rattle.x64_insn.specs.declared.types.Reg.{Reg}
 use Rattle.x64_insn.specs.declared.types.Insn.{Insn}
 use Rattle.x64_insn.specs.Encoding.{Spells}
@@ -22,26 +22,26 @@ use Rattle.jz_first.specs.declared.tree.Rhs.TheVariants as rhs
 use Rattle.jz_first.specs.declared.tree.Stmt.{Stmt}
 use Rattle.jz_first.specs.declared.tree.StmtKind.{StmtKind}
 use Rattle.jz_first.specs.declared.tree.StmtKind.TheVariants as kind
-use Rattle.jz_leak.specs.declared.transformer.Form.{Form}
-use Rattle.jz_leak.specs.declared.transformer.Form.TheVariants as form
-use Rattle.jz_leak.specs.declared.transformer.Out.{Out}
-use Rattle.jz_leak.specs.declared.transformer.Out.TheVariants as out
-use Rattle.jz_leak.specs.declared.transformer.Case.{Case}
-use Rattle.jz_leak.specs.declared.transformer.Case.TheVariants.{Op}
-use Rattle.jz_io.specs.declared.verdict.Ct.TheVariants.{Yes}
+use Rattle.jz_runs.specs.Form.{Form}
+use Rattle.jz_runs.specs.Form.TheVariants as form
+use Rattle.jz_runs.specs.Out.{Out}
+use Rattle.jz_runs.specs.Out.TheVariants as out
+use Rattle.jz_runs.specs.Case.{Case}
+use Rattle.jz_runs.specs.Case.TheVariants.{Op}
+use Rattle.jz_first.specs.Ct.TheVariants.{Yes}
 use Rattle.jz_first_meaning.specs.Labels.{IsConstantTime}
 use Rattle.jz_listing.specs.declared.compiled.Arg.{Arg}
 use Rattle.jz_listing.specs.declared.compiled.Pre.{Pre}
 use Rattle.jz_listing.specs.declared.compiled.Compiled.{Compiled}
 use Rattle.jz_correct.specs.Registers.{argument_registers, result_registers}
 use Rattle.jz_correct.specs.Frames.{Place, layout_of, layout_end, saved_of, saved_slots, frame_of, from_entry}
-use Rattle.jz_leak.specs.RunLeaks.{Leak}
+use Rattle.jz_runs.specs.RunLeaks.{Leak}
 use Rattle.jz_runs.specs.Rules.{End, Cut, Stuck}
 use Rattle.jz_first_meaning.specs.SourceRuns.{Returned, FunOutcome, IsRun}
 use Rattle.x64_machine.specs.Steps.{Config, steps_of}
 use Rattle.jz_correct.specs.Starts.{MeetsPreconditions, IsStart}
 use Rattle.jz_correct.specs.Agreement.{NeverFaults, EndsWith}
-use Rattle.jz_leak.specs.Applying.{apply_of, Fits}
+use Rattle.jz_runs.specs.Applying.{apply_of, Fits}
 
 -- so many steps are enough for n turns
 abbrev pub step_bound : Compiled → ℕ → ℕ

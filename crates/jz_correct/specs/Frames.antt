@@ -2,8 +2,8 @@
 -- names, and its size.
 use Rattle.std.specs.Prelude.{ℕ, ◌+◌, ◌*◌, ◌-◌, ◌/◌, Bool, false, ◌||◌, ◌==◌, if◌then◌else◌, Option, Some, None, ℤ, pos, ◌-ℤ◌, List, [], ◌∷◌, ◌++◌, length}
 use Rattle.std.specs.List.{list_any, filter}
-use Rattle.jz_words.specs.declared.size.Size.{Size}
-use Rattle.jz_words.specs.Sizes.{bytes_of}
+use Rattle.jz_first.specs.Size.{Size}
+use Rattle.jz_first.specs.Sizes.{bytes_of}
 use Rattle.x64_insn.specs.declared.types.Reg.{Reg}
 use Rattle.x64_insn.specs.declared.types.Reg.TheVariants as reg
 use Rattle.x64_insn.specs.declared.types.Base.{Base}

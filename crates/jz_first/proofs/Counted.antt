@@ -1,8 +1,8 @@
 -- The grammar with the names counted that are left, and that its readers read it.
 use Rattle.std.proofs.Common.{◌≡◌, inl, inr, ℕ, zero, suc, ◌-◌, List, [], ◌∷◌, ◌++◌, length, true, None, Ok, Err, refl, sym, subst, arith, codes}
-use Rattle.jz_lex.proofs.LexingWords.{if_false}
-use Rattle.jz_io.specs.declared.span.Span.{Span}
-use Rattle.jz_lex.specs.declared.token.Token.{Token}
+use Rattle.jz_grammar.proofs.LexingWords.{if_false}
+use Rattle.jz_grammar.specs.Span.{Span}
+use Rattle.jz_grammar.specs.Token.{Token}
 use Rattle.jz_grammar.specs.Kinds.{Kind, word, sign, identifier, number, span_of, is_in, has}
 use Rattle.jz_grammar.specs.Reading.{Answer, Reader, ◌>>=◌, through, follow, depend, pick, many_by}
 use Rattle.jz_grammar.specs.Grammar.{Lang, token, ◌▸◌, ◌⊕◌, ◌⇒◌, never, each, each_by, at_most, then_by, maybe}

@@ -2,10 +2,10 @@
 use Rattle.std.proofs.Common.{◌≡◌, ◌≤◌, ◌+◌, ℕ, List, [], ◌∷◌, ◌++◌, length, Some, refl, sym, subst}
 use Rattle.std.specs.Prelude.{All}
 use Rattle.std.proofs.lemmas.List.Elements.{All-nil, All-cons, All-head, All-tail, All-append, All-weaker}
-use Rattle.jz_lex.specs.declared.token.Token.{Token}
-use Rattle.jz_lex.specs.Lexing.{IsLexed}
-use Rattle.jz_lex.specs.Identifiers.{IsIdentifier}
-use Rattle.jz_lex.proofs.Identifiers.{tokens_spelled}
+use Rattle.jz_grammar.specs.Token.{Token}
+use Rattle.jz_grammar.specs.Lexing.{IsLexed}
+use Rattle.jz_grammar.specs.Identifiers.{IsIdentifier}
+use Rattle.jz_grammar.proofs.Identifiers.{tokens_spelled}
 use Rattle.jz_first.specs.declared.tree.Program.{Program}
 use Rattle.jz_first.specs.declared.tree.Fun.{Fun}
 use Rattle.jz_first.specs.declared.tree.Param.{Param}

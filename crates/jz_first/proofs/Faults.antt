@@ -1,10 +1,10 @@
 -- Programs and faults of lists of tokens.
 use Rattle.std.proofs.Common.{◌≡◌, ⊎_elim, ℕ, ◌-◌, ◌<◌, nat_lt, if◌then◌else◌, List, [], ◌∷◌, ◌++◌, length, slice_get, true, false, Some, Result, Ok, Err, refl, sym, ap, subst, ◌∙◌, arith, append-nil, append_assoc, length-append}
 use Rattle.std.proofs.lemmas.Bool.{lt-ltb}
-use Rattle.jz_lex.proofs.LexingWords.{if_false, if_true, true_false}
-use Rattle.jz_io.specs.declared.span.Span.{Span}
-use Rattle.jz_lex.specs.declared.token.Token.{Token}
-use Rattle.jz_lex.specs.declared.token.TokenKind.TheVariants.{End}
+use Rattle.jz_grammar.proofs.LexingWords.{if_false, if_true, true_false}
+use Rattle.jz_grammar.specs.Span.{Span}
+use Rattle.jz_grammar.specs.Token.{Token}
+use Rattle.jz_grammar.specs.TokenKind.TheVariants.{End}
 use Rattle.jz_grammar.specs.Causes.{Cause, Unexpected}
 use Rattle.jz_grammar.specs.Kinds.{token_kind, member, is_in}
 use Rattle.jz_grammar.specs.Reading.{final}

@@ -3,7 +3,7 @@ use Rattle.std.proofs.Common.{◌≡◌, ℕ, ◌<◌, ◌≤◌, ◌⊎◌, inl
 use Rattle.std.specs.Prelude.{if◌then◌else◌, Contains, MatchOption}
 use Rattle.std.proofs.lemmas.Bool.Decides.{nat_tests}
 use Rattle.std.proofs.lemmas.List.Elements.{Contains-append_left, Contains-append_right, Contains-append_cases, Contains-push, Contains-push_cases}
-use Rattle.jz_io.specs.declared.span.Span.{Span}
+use Rattle.jz_grammar.specs.Span.{Span}
 use Rattle.jz_first.specs.declared.fault.TypeFault.{TypeFault}
 use Rattle.jz_first.specs.Faults.{rule_number, Before, IsToldBefore, IsFirst, precedes, earlier, first_of}
 use Rattle.jz_first.proofs.Earliest.{precedes_self, precedes_not}

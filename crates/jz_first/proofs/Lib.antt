@@ -13,3 +13,6 @@ pub mod UnknownLemmas
 pub mod FirstLemmas
 pub mod ResolvedLemmas
 pub mod TypedLemmas
+pub use Rattle.jz_grammar.proofs.Lists as DataLists
+pub use Rattle.jz_grammar.proofs.Residues
+pub use Rattle.jz_grammar.proofs.Texts

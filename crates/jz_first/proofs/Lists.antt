@@ -1,6 +1,6 @@
 -- Lists, item by item.
 use Rattle.std.proofs.Common.{◌≡◌, ℕ, zero, suc, ◌-◌, ◌<◌, List, [], ◌∷◌, ◌++◌, length, true, false, ◌||◌, Ok, Err, refl, sym, ap, ◌∙◌, arith, append-nil, append_assoc, codes}
-use Rattle.jz_lex.specs.declared.token.Token.{Token}
+use Rattle.jz_grammar.specs.Token.{Token}
 use Rattle.jz_grammar.specs.Causes.{Cause}
 use Rattle.jz_grammar.specs.Kinds.{Kind, token_kind, word, sign, is_in, has}
 use Rattle.jz_grammar.specs.Reading.{Answer, through, many_by}

@@ -5,9 +5,9 @@ use Rattle.std.specs.List.{list_any}
 use Rattle.std.specs.Str.{bytes_eq}
 use Rattle.std.proofs.lemmas.Bool.Decides.{nat_tests}
 use Rattle.std.proofs.lemmas.List.{map-append}
-use Rattle.jz_data.proofs.Texts.{bytes_eq-sym, bytes_eq-true}
+use Rattle.jz_grammar.proofs.Texts.{bytes_eq-sym, bytes_eq-true}
 use Rattle.indexmap.specs.IndexSet.{insert_key}
-use Rattle.jz_io.specs.declared.span.Span.{Span}
+use Rattle.jz_grammar.specs.Span.{Span}
 use Rattle.jz_first.specs.declared.fault.TypeRule.{TypeRule}
 use Rattle.jz_first.specs.declared.fault.TypeRule.TheVariants.{Unknown, Duplicate, Mismatch, ExportShape}
 use Rattle.jz_first.specs.declared.fault.TypeFault.{TypeFault}

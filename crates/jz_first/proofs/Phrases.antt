@@ -2,9 +2,9 @@
 use Rattle.std.proofs.Common.{◌≡◌, inl, inr, ℕ, List, [], ◌∷◌, ◌++◌, true, refl, subst}
 use Rattle.std.specs.Prelude.{All}
 use Rattle.std.proofs.lemmas.List.Elements.{All-nil, All-cons, All-head, All-tail}
-use Rattle.jz_lex.specs.declared.token.Token.{Token}
-use Rattle.jz_lex.specs.declared.token.TokenKind.{TokenKind}
-use Rattle.jz_lex.specs.declared.token.TokenKind.TheVariants as kind
+use Rattle.jz_grammar.specs.Token.{Token}
+use Rattle.jz_grammar.specs.TokenKind.{TokenKind}
+use Rattle.jz_grammar.specs.TokenKind.TheVariants as kind
 use Rattle.jz_grammar.specs.Kinds.{identifier, token_kind, member, is_in}
 use Rattle.jz_grammar.specs.Grammar.{Marked, Lang, plain, ◌▸◌, ◌⊕◌, ◌⇒◌, each, maybe}
 use Rattle.jz_grammar.specs.Tokens.{name_in, name_of}

@@ -3,7 +3,7 @@ use Rattle.std.proofs.Common.{◌≡◌, ℕ, Bool, true, false, List, [], ◌�
 use Rattle.std.specs.Prelude.{if◌then◌else◌, is_some}
 use Rattle.std.specs.Option.{option_map}
 use Rattle.std.specs.Str.{bytes_eq}
-use Rattle.jz_data.proofs.Texts.{bytes_eq-sym, bytes_eq-true}
+use Rattle.jz_grammar.proofs.Texts.{bytes_eq-sym, bytes_eq-true}
 use Rattle.jz_first.specs.declared.tree.Var.{Var}
 use Rattle.jz_first.specs.declared.scope.Declared.{Declared}
 use Rattle.jz_first.specs.Declared.{variable_named}

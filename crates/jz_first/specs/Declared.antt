@@ -1,7 +1,7 @@
 -- The variables of a function, where they are declared.
 use Rattle.std.specs.Prelude.{ℕ, Bool, false, ◌&&◌, is_some, List, Option, Some, None, find}
 use Rattle.std.specs.Str.{bytes_eq}
-use Rattle.jz_io.specs.declared.span.Span.{Span}
+use Rattle.jz_grammar.specs.Span.{Span}
 use Rattle.jz_first.specs.declared.tree.Var.{Var}
 use Rattle.jz_first.specs.declared.tree.Decl.{Decl}
 use Rattle.jz_first.specs.Faults.{is_before}

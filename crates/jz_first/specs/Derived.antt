@@ -1,6 +1,6 @@
 -- What the functions of a program that is derived have.
 use Rattle.std.specs.Prelude.{◌≡◌, ◌≤◌, ◌+◌, length, Some, All}
-use Rattle.jz_lex.specs.Identifiers.{IsIdentifier}
+use Rattle.jz_grammar.specs.Identifiers.{IsIdentifier}
 use Rattle.jz_first.specs.declared.tree.Fun.{Fun}
 use Rattle.jz_first.specs.Trees.{register_word}
 use Rattle.jz_first.specs.Grammar.{most_names}

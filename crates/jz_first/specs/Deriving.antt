@@ -1,8 +1,8 @@
 -- The program that a list of tokens derives, and the first token at which none can be derived any
 -- more.
 use Rattle.std.specs.Prelude.{◌≡◌, ◌-◌, List, [], ◌∷◌, ◌++◌, length}
-use Rattle.jz_io.specs.declared.span.Span.{Span}
-use Rattle.jz_lex.specs.declared.token.Token.{Token}
+use Rattle.jz_grammar.specs.Span.{Span}
+use Rattle.jz_grammar.specs.Token.{Token}
 use Rattle.jz_grammar.specs.Laws.{Derives}
 use Rattle.jz_first.specs.declared.tree.Program.{Program}
 use Rattle.jz_grammar.specs.declared.fault.SyntaxKind.TheVariants.{Unexpected}

@@ -1,6 +1,6 @@
 -- The grammar of the language, line by line. Each token has the mark d, since nothing is nested.
 use Rattle.std.specs.Prelude.{◌≤◌, ◌+◌, ℕ, List, [], ◌∷◌, ◌++◌, length, codes}
-use Rattle.jz_io.specs.declared.span.Span.{Span}
+use Rattle.jz_grammar.specs.Span.{Span}
 use Rattle.jz_grammar.specs.Kinds.{word, sign, identifier, number, end, span_of}
 use Rattle.jz_grammar.specs.Grammar.{Lang, token, ◌▸◌, ◌⊕◌, ◌⇒◌, only, each, maybe}
 use Rattle.jz_first.specs.declared.tree.Program.{Program}

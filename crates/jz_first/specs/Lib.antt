@@ -14,3 +14,11 @@ pub mod Resolving
 pub mod Scopes
 pub mod Joining
 pub mod TypedPrograms
+pub use Rattle.jz_grammar.specs.Ct
+pub use Rattle.jz_grammar.specs.Failure
+pub use Rattle.jz_grammar.specs.Failures
+pub use Rattle.jz_grammar.specs.Memory
+pub use Rattle.jz_grammar.specs.Size
+pub use Rattle.jz_grammar.specs.Sizes
+pub use Rattle.jz_grammar.specs.Span
+pub use Rattle.jz_grammar.specs.Words

@@ -1,6 +1,6 @@
 -- How phrases are read: each choice by the next token.
 use Rattle.std.specs.Prelude.{ℕ, zero, suc, ◌-◌, List, [], ◌∷◌, ◌++◌, length, codes}
-use Rattle.jz_io.specs.declared.span.Span.{Span}
+use Rattle.jz_grammar.specs.Span.{Span}
 use Rattle.jz_grammar.specs.Kinds.{Kind, word, sign, identifier, number, end, span_of}
 use Rattle.jz_grammar.specs.Reading.{Reader, ◌>>=◌, through, follow, depend, pick, many_by, leaf, optional, more_of, few_of}
 use Rattle.jz_first.specs.declared.tree.Program.{Program}

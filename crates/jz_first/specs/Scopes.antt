@@ -4,7 +4,7 @@ use Rattle.std.specs.Option.{option_map}
 use Rattle.std.specs.List.{list_any}
 use Rattle.std.specs.Str.{bytes_eq}
 use Rattle.indexmap.specs.IndexMap.{get}
-use Rattle.jz_io.specs.declared.span.Span.{Span}
+use Rattle.jz_grammar.specs.Span.{Span}
 use Rattle.jz_first.specs.declared.tree.Decl.{Decl}
 use Rattle.jz_first.specs.declared.tree.Var.{Var}
 use Rattle.jz_first.specs.declared.fault.TypeFault.{TypeFault}

@@ -1,8 +1,8 @@
 -- The tree of a phrase, from what its tokens tell.
 use Rattle.std.specs.Prelude.{ℕ, ℤ, List, [], ◌∷◌, Option, Some, None, codes, bytes_eq, flat_map, filter_map, if◌then◌else◌}
-use Rattle.jz_io.specs.declared.span.Span.{Span}
-use Rattle.jz_words.specs.declared.size.Size.TheVariants.{S64}
-use Rattle.jz_lex.specs.declared.token.Token.{Token}
+use Rattle.jz_grammar.specs.Span.{Span}
+use Rattle.jz_grammar.specs.Size.TheVariants.{S64}
+use Rattle.jz_grammar.specs.Token.{Token}
 use Rattle.jz_grammar.specs.Kinds.{Kind, sign}
 use Rattle.jz_grammar.specs.Tokens.{text_in}
 use Rattle.jz_first.specs.declared.tree.Program.{Program}

@@ -1,7 +1,7 @@
 //! The program that is typed, or the first fault.
 
 ghost use Rattle.std.specs.Prelude.{◌≡◌, IfOk, IfErr};
-ghost use Rattle.jz_data.specs.Failures.{IfRefused};
+ghost use Rattle.jz_grammar.specs.Failures.{IfRefused};
 ghost use Rattle.jz_first.specs.Faults.{first_of};
 ghost use Rattle.jz_first.specs.Resolving.{resolved_program};
 ghost use Rattle.jz_first.specs.Rules.{faults_of, IsTyped, IsFirstTypeFault};
@@ -12,7 +12,7 @@ use crate::names::{repeated_function, repeated_variables};
 use crate::resolve::resolve;
 use crate::typed::Typed;
 use crate::unknown::unknown_variables;
-use jz_data::Failure;
+use jz_grammar::Failure;
 use crate::Program;
 use std::alloc::{AllocError, Global};
 

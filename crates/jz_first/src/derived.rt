@@ -1,8 +1,8 @@
 //! What a program that is derived has.
 
 ghost use Rattle.std.specs.Prelude.{ℕ, List, All};
-ghost use Rattle.jz_lex.specs.Lexing.{IsLexed};
-ghost use Rattle.jz_lex.specs.declared.token.Token.{Token};
+ghost use Rattle.jz_grammar.specs.Lexing.{IsLexed};
+ghost use Rattle.jz_grammar.specs.Token.{Token};
 ghost use Rattle.jz_first.specs.declared.tree.Program.{Program};
 ghost use Rattle.jz_first.specs.Assignments.{AssignsToOne};
 ghost use Rattle.jz_first.specs.Derived.{DeclaresWords, HasNames};

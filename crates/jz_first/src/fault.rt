@@ -4,7 +4,7 @@ ghost use Rattle.std.specs.Prelude.{◌≡◌, Option};
 ghost use Rattle.jz_first.specs.declared.fault.TypeFault.{TypeFault};
 ghost use Rattle.jz_first.specs.Faults.{rule_number, is_before, precedes, earlier};
 
-use jz_io::Span;
+use jz_grammar::Span;
 
 /// A rule of typing.
 #[derive(Clone, Copy, PartialEq, Eq)]

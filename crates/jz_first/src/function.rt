@@ -8,7 +8,7 @@ ghost use Rattle.jz_first.specs.Readers.{next_used, used_more, variables, name_s
 use crate::declare::{MOST_NAMES, params, results};
 use crate::statement::{items, used};
 use jz_grammar::{Cursor, Stop};
-use jz_data::Seq;
+use jz_grammar::Seq;
 use crate::{Fun, Program, Stmt, Var};
 use std::alloc::Global;
 

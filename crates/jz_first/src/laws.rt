@@ -1,7 +1,7 @@
 //! Laws of the definitions.
 
 ghost use Rattle.std.specs.Prelude.{◌≡◌, ◌⊎◌, ◌↔◌};
-ghost use Rattle.jz_data.specs.Laws.{AtMostOne};
+ghost use Rattle.jz_grammar.specs.DataLaws.{AtMostOne};
 ghost use Rattle.jz_first.specs.declared.tree.Program.{Program};
 ghost use Rattle.jz_first.specs.declared.fault.TypeFault.{TypeFault};
 ghost use Rattle.jz_first.specs.Resolving.{resolved_program};

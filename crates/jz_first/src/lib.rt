@@ -29,3 +29,4 @@ pub use laws::{
 pub use read::{a_fault_is_at_a_token, no_fault_of_a_program, one_syntax_fault, one_program, parse_first};
 pub use tree::{BinOp, Decl, Expr, Fun, Lval, Param, Program, Ret, Rhs, Stmt, StmtKind, Storage, Ty, Var};
 pub use typed::Typed;
+pub use jz_grammar::{Failure, Seq, Size, Span, Text};

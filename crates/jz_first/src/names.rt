@@ -8,9 +8,9 @@ ghost use Rattle.jz_first.specs.Scopes.{IsNames};
 
 use crate::fault::{TypeFault, TypeRule, earlier_of};
 use indexmap::IndexSet;
-use jz_data::{Seq, Text};
+use jz_grammar::{Seq, Text};
 use crate::{Fun, Program, Var};
-use jz_io::Span;
+use jz_grammar::Span;
 use std::alloc::{AllocError, Global};
 
 /// Names that differ, and the first fault among further ones.

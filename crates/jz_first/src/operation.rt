@@ -8,7 +8,7 @@ ghost use Rattle.jz_first.specs.Trees.{assignments, operation_of};
 
 use jz_grammar::{Cursor, Stop, UNEXPECTED, has_text, is_sign};
 use crate::BinOp;
-use jz_lex::Token;
+use jz_grammar::Token;
 
 #[tactic(auto, unfolding(jz_grammar::specs::Kinds::is_in))]
 fn is_assignment(token: &Token) -> bool

@@ -1,10 +1,10 @@
 //! The program that a list of tokens derives, or the first token at which none is derived any more.
 
 ghost use Rattle.std.specs.Prelude.{◌≡◌, ◌<◌, [], ◌∷◌, ◌++◌, List, IfOk, IfErr, length};
-ghost use Rattle.jz_data.specs.Failures.{IfRefused};
-ghost use Rattle.jz_data.specs.Laws.{AtMostOne, NeverBoth};
-ghost use Rattle.jz_lex.specs.declared.token.TokenKind.TheVariants.{End};
-ghost use Rattle.jz_lex.specs.declared.token.Token.{Token};
+ghost use Rattle.jz_grammar.specs.Failures.{IfRefused};
+ghost use Rattle.jz_grammar.specs.DataLaws.{AtMostOne, NeverBoth};
+ghost use Rattle.jz_grammar.specs.TokenKind.TheVariants.{End};
+ghost use Rattle.jz_grammar.specs.Token.{Token};
 ghost use Rattle.jz_grammar.specs.Reading.{final};
 ghost use Rattle.jz_grammar.specs.Gave.{numbered_answer, IsNumbered};
 ghost use Rattle.jz_first.specs.Readers.{program};
@@ -12,9 +12,9 @@ ghost use Rattle.jz_first.specs.Deriving.{DerivesProgram, IsUnexpected};
 
 use crate::function::program;
 use jz_grammar::{Cursor, SyntaxFault, SyntaxKind, fault_at};
-use jz_data::Failure;
+use jz_grammar::Failure;
 use crate::Program;
-use jz_lex::Tokens;
+use jz_grammar::Tokens;
 use std::alloc::Global;
 
 /// The program of all the tokens, or why there is none and the number of the first that is left.

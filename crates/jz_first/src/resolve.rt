@@ -5,7 +5,7 @@ ghost use Rattle.jz_first.specs.Resolving.{resolved_var, resolved_expr, resolved
 ghost use Rattle.jz_first.specs.Scopes.{decls_of};
 
 use crate::scope::Scope;
-use jz_data::Seq;
+use jz_grammar::Seq;
 use crate::{Expr, Fun, Lval, Program, Rhs, Stmt, StmtKind, Var};
 use std::alloc::{AllocError, Global};
 

@@ -1,8 +1,8 @@
 //! The syntax tree of a text: plain data. It has what the texts that are read need.
 
-use jz_data::{Seq, Text};
-use jz_io::Span;
-use jz_words::Size;
+use jz_grammar::{Seq, Text};
+use jz_grammar::Span;
+use jz_grammar::Size;
 
 /// What a text says: its functions, in their order.
 #[derive(Drop, PartialEq, Eq)]

@@ -11,7 +11,7 @@ ghost use Rattle.jz_first.specs.Uses.{expression_uses, left_side_uses, right_sid
 
 use crate::fault::{TypeFault, TypeRule, earlier_of};
 use crate::scope::Scope;
-use jz_data::Seq;
+use jz_grammar::Seq;
 use crate::{Expr, Fun, Lval, Program, Rhs, Stmt, StmtKind, Var};
 use std::alloc::{AllocError, Global};
 

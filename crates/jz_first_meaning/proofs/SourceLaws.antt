@@ -1,11 +1,11 @@
 -- The laws of a function's runs, from those of its body's runs.
 use Rattle.std.proofs.Common.{◌≡◌, ℕ, ◌+◌, List, sym, ap, ◌∙◌, subst, arith, refl}
-use Rattle.jz_words.specs.Memory.{Memory}
+use Rattle.jz_first.specs.Memory.{Memory}
 use Rattle.jz_first.specs.declared.tree.Program.{Program}
 use Rattle.jz_first.specs.declared.tree.Fun.{Fun}
 use Rattle.jz_first.specs.declared.tree.Var.{Var}
 use Rattle.jz_runs.specs.Trees.{done}
-use Rattle.jz_leak.specs.RunLeaks.{Leak}
+use Rattle.jz_runs.specs.RunLeaks.{Leak}
 use Rattle.jz_runs.specs.Rules.{stuck, went, Outcome, End, Cut, Stuck, Goes}
 use Rattle.jz_runs.specs.Laws.{IsOver, with_more}
 use Rattle.jz_first_meaning.specs.SourceStates.{State, Why}

@@ -1,7 +1,7 @@
 -- Runs of assignments, as the function of one statement after another.
 use Rattle.std.proofs.Common.{◌≡◌, ℕ, List, [], ◌∷◌, ℤ, Option, Some, None, Ok, length, refl, sym, ap, ◌∙◌, subst}
-use Rattle.jz_io.specs.declared.span.Span.{Span}
-use Rattle.jz_words.specs.Memory.{Memory}
+use Rattle.jz_first.specs.Span.{Span}
+use Rattle.jz_first.specs.Memory.{Memory}
 use Rattle.jz_first.specs.declared.tree.Program.{Program}
 use Rattle.jz_first.specs.declared.tree.Fun.{Fun}
 use Rattle.jz_first.specs.declared.tree.Var.{Var}
@@ -16,7 +16,7 @@ use Rattle.jz_first.specs.declared.tree.Rhs.TheVariants as rhs
 use Rattle.jz_first.specs.declared.tree.Stmt.{Stmt}
 use Rattle.jz_first.specs.declared.tree.StmtKind.{StmtKind}
 use Rattle.jz_first.specs.declared.tree.StmtKind.TheVariants as kind
-use Rattle.jz_leak.specs.RunLeaks.{Leak, ran}
+use Rattle.jz_runs.specs.RunLeaks.{Leak, ran}
 use Rattle.jz_runs.specs.Trees.{done}
 use Rattle.jz_runs.specs.Rules.{stuck, went, Outcome, End, Stuck, after}
 use Rattle.jz_first_meaning.specs.SourceStates.{Value, word, integer, key_of, State, Why}

@@ -3,11 +3,11 @@
 -- rules are those of the Jasmin documentation, for the statements that are read.
 use Rattle.std.specs.Prelude.{◌≡◌, ◌<◌, ℕ, ◌+◌, ◌%◌, bit_xor, ℤ, pos, ◌-ℤ◌, List, [], ◌∷◌, Option, Some, None, Contains}
 use Rattle.std.specs.List.{AllZip}
-use Rattle.jz_io.specs.declared.span.Span.{Span}
-use Rattle.jz_words.specs.Memory.{Memory}
-use Rattle.jz_words.specs.declared.size.Size.{Size}
-use Rattle.jz_words.specs.Sizes.{modulus}
-use Rattle.jz_words.specs.Words.{residue}
+use Rattle.jz_first.specs.Span.{Span}
+use Rattle.jz_first.specs.Memory.{Memory}
+use Rattle.jz_first.specs.Size.{Size}
+use Rattle.jz_first.specs.Sizes.{modulus}
+use Rattle.jz_first.specs.Words.{residue}
 use Rattle.jz_first.specs.declared.tree.Program.{Program}
 use Rattle.jz_first.specs.declared.tree.Fun.{Fun}
 use Rattle.jz_first.specs.declared.tree.Param.{Param}
@@ -25,7 +25,7 @@ use Rattle.jz_first.specs.declared.tree.Stmt.{Stmt}
 use Rattle.jz_first.specs.declared.tree.StmtKind.{StmtKind}
 use Rattle.jz_first.specs.declared.tree.StmtKind.TheVariants as kind
 use Rattle.jz_runs.specs.Trees.{Tree, done, op}
-use Rattle.jz_leak.specs.RunLeaks.{Leak}
+use Rattle.jz_runs.specs.RunLeaks.{Leak}
 use Rattle.jz_runs.specs.Rules.{stuck, went, Parts, Outcome, End, Cut, Stuck, Goes}
 use Rattle.jz_first_meaning.specs.SourceStates.{Value, word, integer, key_of, Store, empty_store, with_value_at, State, Init, Why}
 use Rattle.jz_first_meaning.specs.SourceValues.{Evaluation, stuck_at, and_then, variable_value, evaluated_value}

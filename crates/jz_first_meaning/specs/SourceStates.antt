@@ -1,9 +1,9 @@
 -- Stores of a source run: what the variables are, and the valid bytes of the memory.
 use Rattle.std.specs.Prelude.{ℕ, ℤ, Bool, List, Option, None, if◌then◌else◌}
 use Rattle.std.specs.Str.{bytes_eq}
-use Rattle.jz_io.specs.declared.span.Span.{Span}
-use Rattle.jz_words.specs.declared.size.Size.{Size}
-use Rattle.jz_words.specs.Memory.{Memory}
+use Rattle.jz_first.specs.Span.{Span}
+use Rattle.jz_first.specs.Size.{Size}
+use Rattle.jz_first.specs.Memory.{Memory}
 use Rattle.jz_first.specs.declared.tree.Var.{Var}
 pub use Rattle.jz_first_meaning.specs.declared.reason.Reason.{Reason}
 pub use Rattle.jz_first_meaning.specs.declared.reason.Reason.TheVariants.{Bounds, Address, Align, Init, Divide}

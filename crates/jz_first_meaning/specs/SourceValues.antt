@@ -1,6 +1,6 @@
 -- The value of an expression and the numbers that it leaks.
 use Rattle.std.specs.Prelude.{ℕ, List, [], ◌++◌, Option, Some, None, Result, Ok, Err}
-use Rattle.jz_io.specs.declared.span.Span.{Span}
+use Rattle.jz_first.specs.Span.{Span}
 use Rattle.jz_first.specs.declared.tree.Var.{Var}
 use Rattle.jz_first.specs.declared.tree.Expr.{Expr}
 use Rattle.jz_first.specs.declared.tree.Expr.TheVariants as expr

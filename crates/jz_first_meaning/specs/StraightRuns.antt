@@ -1,13 +1,13 @@
 -- What a function without branches, loops and calls gives: its statements are done one after
 -- another.
 use Rattle.std.specs.Prelude.{◌≡◌, ℕ, List, [], ◌∷◌}
-use Rattle.jz_words.specs.Memory.{Memory}
+use Rattle.jz_first.specs.Memory.{Memory}
 use Rattle.jz_first.specs.declared.tree.Fun.{Fun}
 use Rattle.jz_first.specs.declared.tree.Stmt.{Stmt}
 use Rattle.jz_first.specs.declared.tree.StmtKind.{StmtKind}
 use Rattle.jz_first.specs.declared.tree.StmtKind.TheVariants as kind
-use Rattle.jz_io.specs.declared.span.Span.{Span}
-use Rattle.jz_leak.specs.RunLeaks.{Leak, over, ran}
+use Rattle.jz_first.specs.Span.{Span}
+use Rattle.jz_runs.specs.RunLeaks.{Leak, over, ran}
 use Rattle.jz_runs.specs.Rules.{went, End}
 use Rattle.jz_first_meaning.specs.SourceStates.{State}
 use Rattle.jz_first_meaning.specs.SourceValues.{Evaluation, and_then}

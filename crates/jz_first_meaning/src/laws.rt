@@ -1,7 +1,7 @@
 //! What holds of every run of a source function, and of a body, apart from any code.
 
 ghost use Rattle.std.specs.Prelude.{ℕ, List};
-ghost use Rattle.jz_words.specs.Memory.{Memory};
+ghost use Rattle.jz_first.specs.Memory.{Memory};
 ghost use Rattle.jz_first.specs.declared.tree.Program.{Program};
 ghost use Rattle.jz_first.specs.declared.tree.Fun.{Fun};
 ghost use Rattle.jz_runs.specs.Rules.{Goes};

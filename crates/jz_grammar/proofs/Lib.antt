@@ -9,3 +9,9 @@ pub mod Steady
 pub mod Steps
 pub mod Opening
 pub mod Plain
+pub use Rattle.jz_lex.proofs.Identifiers
+pub use Rattle.jz_lex.proofs.LexingUnique
+pub use Rattle.jz_lex.proofs.LexingWords
+pub use Rattle.jz_lex.proofs.Lists
+pub use Rattle.jz_lex.proofs.Residues
+pub use Rattle.jz_lex.proofs.Texts

@@ -1,6 +1,6 @@
 -- Tokens that open something nested, and forms that begin alike.
 use Rattle.std.proofs.Common.{◌≡◌, ◌-◌, Ok, Err, ℕ, zero, suc, List, [], ◌∷◌, true, false, refl, ap, ◌∙◌, arith}
-use Rattle.jz_io.specs.declared.span.Span.{Span}
+use Rattle.jz_lex.specs.Span.{Span}
 use Rattle.jz_lex.specs.declared.token.Token.{Token}
 use Rattle.jz_grammar.specs.Causes.{Cause, Unexpected, TooDeep}
 use Rattle.jz_grammar.specs.Kinds.{Kind, is_in, has, span_of}

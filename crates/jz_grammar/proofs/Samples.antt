@@ -1,9 +1,9 @@
 -- A token of each kind, and that there are phrases.
 use Rattle.std.proofs.Common.{◌≡◌, inl, inr, ℕ, zero, suc, ◌<◌, List, [], ◌∷◌, ◌++◌, true, false, None, pos, refl, arith}
-use Rattle.jz_io.specs.declared.span.Span.{Span}
+use Rattle.jz_lex.specs.Span.{Span}
 use Rattle.jz_lex.specs.declared.token.Token.{Token}
 use Rattle.jz_lex.specs.declared.token.TokenKind.TheVariants as kind
-use Rattle.jz_words.specs.declared.size.Size.TheVariants.{S64}
+use Rattle.jz_lex.specs.Size.TheVariants.{S64}
 use Rattle.jz_grammar.specs.Kinds.{Kind, identifier, word, number, cast, string, sign, end, is_in}
 use Rattle.jz_grammar.specs.Reading.{leaf}
 use Rattle.jz_grammar.specs.Grammar.{Lang, token, ◌▸◌, ◌⊕◌, ◌⇒◌, each, maybe, then_by, each_by}

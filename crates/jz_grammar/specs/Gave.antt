@@ -1,7 +1,7 @@
 -- A function of the code read what a reader reads; now is what it left.
 use Rattle.std.specs.Prelude.{◌≡◌, ℕ, ◌-◌, length, List, Result, Ok, Err}
-use Rattle.jz_data.specs.declared.failure.Failure.{Failure}
-use Rattle.jz_data.specs.declared.failure.Failure.TheVariants.{Refused, OutOfMemory}
+use Rattle.jz_lex.specs.Failure.{Failure}
+use Rattle.jz_lex.specs.Failure.TheVariants.{Refused, OutOfMemory}
 use Rattle.jz_lex.specs.declared.token.Token.{Token}
 use Rattle.jz_grammar.specs.Causes.{Cause}
 use Rattle.jz_grammar.specs.Causes as cause

@@ -2,7 +2,7 @@
 -- could still be nested_phrase at it.
 use Rattle.std.specs.Prelude.{◌≡◌, ◌≤◌, ◌⊎◌, ℕ, zero, suc, List, [], ◌∷◌, ◌++◌, map, true, Option, Some, None}
 use Rattle.jz_lex.specs.declared.token.Token.{Token}
-use Rattle.jz_io.specs.declared.span.Span.{Span}
+use Rattle.jz_lex.specs.Span.{Span}
 use Rattle.jz_grammar.specs.Kinds.{Kind, is_in}
 
 -- a token, and how much may still be nested_phrase at it

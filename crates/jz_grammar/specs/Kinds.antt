@@ -1,7 +1,7 @@
 -- Which tokens the grammar tells apart.
 use Rattle.std.specs.Prelude.{ℕ, List, [], ◌∷◌, Bool, true, false, not, bytes_eq}
 use Rattle.std.specs.List.{list_all, list_any}
-use Rattle.jz_io.specs.declared.span.Span.{Span}
+use Rattle.jz_lex.specs.Span.{Span}
 use Rattle.jz_lex.specs.declared.token.TokenKind.{TokenKind}
 use Rattle.jz_lex.specs.declared.token.TokenKind.TheVariants as kind
 use Rattle.jz_lex.specs.declared.token.Token.{Token}

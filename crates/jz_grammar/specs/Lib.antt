@@ -6,3 +6,19 @@ pub mod Laws
 pub mod Places
 pub mod Tokens
 pub mod Gave
+pub use Rattle.jz_lex.specs.Ct
+pub use Rattle.jz_lex.specs.Failure
+pub use Rattle.jz_lex.specs.Failures
+pub use Rattle.jz_lex.specs.Identifiers
+pub use Rattle.jz_lex.specs.Laws as DataLaws
+pub use Rattle.jz_lex.specs.Lexing
+pub use Rattle.jz_lex.specs.LexingWords
+pub use Rattle.jz_lex.specs.Memory
+pub use Rattle.jz_lex.specs.Size
+pub use Rattle.jz_lex.specs.Sizes
+pub use Rattle.jz_lex.specs.Span
+pub use Rattle.jz_lex.specs.Words
+pub use Rattle.jz_lex.specs.declared.token.LexFault
+pub use Rattle.jz_lex.specs.declared.token.LexKind
+pub use Rattle.jz_lex.specs.declared.token.Token
+pub use Rattle.jz_lex.specs.declared.token.TokenKind

@@ -1,6 +1,6 @@
 -- Where a token stands, by its number.
 use Rattle.std.specs.Prelude.{ℕ, List, slice_get, Option, Some, None, ◌≡◌, ◌-◌, nat_lt, length, if◌then◌else◌}
-use Rattle.jz_io.specs.declared.span.Span.{Span}
+use Rattle.jz_lex.specs.Span.{Span}
 use Rattle.jz_lex.specs.declared.token.Token.{Token}
 use Rattle.jz_grammar.specs.declared.fault.SyntaxKind.{SyntaxKind}
 use Rattle.jz_grammar.specs.declared.fault.SyntaxFault.{SyntaxFault}

@@ -2,7 +2,7 @@
 -- tokens from there on.
 use Rattle.std.specs.Prelude.{length, ℕ, zero, suc, List, [], ◌∷◌, Bool, false, Option, Some, None, Result, Ok, Err, ◌&&◌, if◌then◌else◌, ◌++◌}
 use Rattle.jz_lex.specs.declared.token.Token.{Token}
-use Rattle.jz_io.specs.declared.span.Span.{Span}
+use Rattle.jz_lex.specs.Span.{Span}
 use Rattle.jz_grammar.specs.Causes.{Cause, Unexpected, TooDeep}
 use Rattle.jz_grammar.specs.Kinds.{Kind, is_in, has}
 

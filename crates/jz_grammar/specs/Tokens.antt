@@ -1,8 +1,8 @@
 -- What a token tells.
 use Rattle.std.specs.Prelude.{ℕ, ℤ, pos, List, [], ◌∷◌, Bool, false, codes, bytes_eq, if◌then◌else◌}
-use Rattle.jz_io.specs.declared.span.Span.{Span}
-use Rattle.jz_words.specs.declared.size.Size.{Size}
-use Rattle.jz_words.specs.declared.size.Size.TheVariants.{S8, S16, S32, S64}
+use Rattle.jz_lex.specs.Span.{Span}
+use Rattle.jz_lex.specs.Size.{Size}
+use Rattle.jz_lex.specs.Size.TheVariants.{S8, S16, S32, S64}
 use Rattle.jz_lex.specs.declared.token.Token.{Token}
 use Rattle.jz_lex.specs.declared.token.TokenKind.{TokenKind}
 use Rattle.jz_lex.specs.declared.token.TokenKind.TheVariants as kind

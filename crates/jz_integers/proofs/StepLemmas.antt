@@ -1,6 +1,6 @@
 -- Steps down the left side of an expression, and the values on the way up.
 use Rattle.std.proofs.Common.{◌≡◌, ℕ, zero, suc, ◌≤◌, ◌+◌, Option, None, refl, ap, sym, ◌∙◌, subst, arith}
-use Rattle.jz_io.specs.declared.span.Span.{Span}
+use Rattle.jz_tree.specs.Span.{Span}
 use Rattle.jz_tree.specs.declared.expr.BinOp.{BinOp}
 use Rattle.jz_tree.specs.declared.expr.Expr.{Expr, size-Expr}
 use Rattle.jz_tree.specs.declared.expr.Ty.{Ty}

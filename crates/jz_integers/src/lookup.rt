@@ -2,7 +2,7 @@
 ghost use Rattle.std.specs.Prelude.{◌≡◌, None};
 ghost use Rattle.jz_integers.specs.Integers.{KnownNumbers};
 
-use jz_data::Text;
+use jz_tree::Text;
 
 /// What knows the numbers of inline variables and constants.
 pub trait Numbers {

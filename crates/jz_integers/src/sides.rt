@@ -2,7 +2,7 @@
 ghost use Rattle.std.specs.Prelude.{◌≡◌, IfOk};
 ghost use Rattle.jz_integers.specs.InnerLeftSides.{on_left, IsSingle};
 
-use jz_io::Span;
+use jz_tree::Span;
 use jz_tree::{BinOp, Expr};
 use std::alloc::{AllocError, Global};
 

@@ -1,7 +1,7 @@
 -- The trees of single statements.
 use Rattle.std.proofs.Common.{◌≡◌, Bool, List, Option, Some, None, sym, ap, ◌∙◌}
 use Rattle.std.specs.Prelude.{not, is_some}
-use Rattle.jz_io.specs.declared.span.Span.{Span}
+use Rattle.jz_tree.specs.Span.{Span}
 use Rattle.jz_tree.specs.declared.expr.BinOp.{BinOp}
 use Rattle.jz_tree.specs.declared.expr.Expr.{Expr}
 use Rattle.jz_tree.specs.declared.expr.Var.{Var}
@@ -12,7 +12,7 @@ use Rattle.jz_tree.specs.declared.stmt.StmtKind.{StmtKind}
 use Rattle.jz_tree.specs.declared.stmt.StmtKind.TheVariants as kind
 use Rattle.jz_tree.specs.declared.stmt.StmtKind.TheOpen.{StmtKind-F}
 use Rattle.jz_tree.specs.declared.stmt.StmtKind.TheFolds.{fold-StmtKind, fold-roll-Stmt, fold-roll-StmtKind}
-use Rattle.jz_runs.specs.Trees.{done, quiet, choose, loop, each}
+use Rattle.jz_meaning.specs.Trees.{done, quiet, choose, loop, each}
 use Rattle.jz_meaning.specs.Statements.{Block, unset}
 use Rattle.jz_meaning.specs.Runs.{Callees, block, statement_tree, kind_tree, assign_tree}
 use Rattle.jz_interp.specs.Parts.{body_piece}

@@ -2,14 +2,14 @@
 use Rattle.std.proofs.Common.{◌≡◌, ℕ, zero, suc, ◌+◌, ◌-◌, ◌<◌, ◌≤◌, Bool, true, false, List, [], ◌∷◌, ◌++◌, drop, length, get_or, Option, Some, None, refl, sym, ap, ◌∙◌, subst, arith, append-nil}
 use Rattle.std.specs.Prelude.{ℤ, if◌then◌else◌, not, is_some, Result, Ok, Err, IsErrAnd}
 use Rattle.std.proofs.lemmas.List.{drop_all}
-use Rattle.jz_data.specs.declared.failure.Failure.{Failure}
-use Rattle.jz_data.specs.declared.failure.Failure.TheVariants.{Refused, OutOfMemory}
-use Rattle.jz_data.specs.Failures.{IfAnswered}
-use Rattle.jz_io.specs.declared.span.Span.{Span}
-use Rattle.jz_leak.specs.declared.leak.Leak as shown_leak
-use Rattle.jz_leak.specs.declared.leak.Item.{Item}
-use Rattle.jz_leak.specs.declared.leak.Item.TheVariants as item
-use Rattle.jz_leak.specs.declared.leak.Turn.{Turn}
+use Rattle.jz_tree.specs.Failure.{Failure}
+use Rattle.jz_tree.specs.Failure.TheVariants.{Refused, OutOfMemory}
+use Rattle.jz_tree.specs.Failures.{IfAnswered}
+use Rattle.jz_tree.specs.Span.{Span}
+use Rattle.jz_meaning.specs.Leak as shown_leak
+use Rattle.jz_meaning.specs.Item.{Item}
+use Rattle.jz_meaning.specs.Item.TheVariants as item
+use Rattle.jz_meaning.specs.Turn.{Turn}
 use Rattle.jz_tree.specs.declared.expr.BinOp.{BinOp}
 use Rattle.jz_tree.specs.declared.expr.Expr.{Expr}
 use Rattle.jz_tree.specs.declared.expr.Var.{Var}
@@ -17,8 +17,8 @@ use Rattle.jz_tree.specs.declared.stmt.Lval.{Lval}
 use Rattle.jz_tree.specs.declared.stmt.Stmt.{Stmt}
 use Rattle.jz_tree.specs.declared.stmt.StmtKind.TheVariants as kind
 use Rattle.jz_tree.specs.declared.program.Fun.{Fun}
-use Rattle.jz_runs.specs.Trees.{done, op, choose, loop, each, call}
-use Rattle.jz_runs.specs.Rules.{stuck, went, Outcome, End, Cut, Stuck}
+use Rattle.jz_meaning.specs.Trees.{done, op, choose, loop, each, call}
+use Rattle.jz_meaning.specs.Rules.{stuck, went, Outcome, End, Cut, Stuck}
 use Rattle.jz_meaning.specs.declared.value.Why.TheVariants.{Init}
 use Rattle.jz_meaning.specs.declared.value.Stuck as why
 use Rattle.jz_meaning.specs.Attempts.{Evaluation, numbers_first, and_then, did, changed}

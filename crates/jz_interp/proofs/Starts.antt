@@ -3,15 +3,15 @@ use Rattle.std.proofs.Common.{◌≡◌, ℕ, ◌+◌, ◌<◌, ◌≤◌, List,
 use Rattle.std.specs.Prelude.{slice_get}
 use Rattle.std.proofs.lemmas.List.{drop_all, map-append}
 use Rattle.std.proofs.lemmas.Option.{get_or_from_slice_get}
-use Rattle.jz_words.specs.declared.word.Word as code_word
-use Rattle.jz_words.specs.Memory.{Memory}
+use Rattle.jz_tree.specs.Word as code_word
+use Rattle.jz_tree.specs.Memory.{Memory}
 use Rattle.jz_tree.specs.declared.expr.Var.{Var}
 use Rattle.jz_tree.specs.declared.program.Program.{Program}
 use Rattle.jz_tree.specs.declared.program.Fun.{Fun}
 use Rattle.jz_tree.specs.declared.program.Param.{Param}
-use Rattle.jz_leak.specs.declared.leak.Item.{Item}
-use Rattle.jz_runs.specs.Trees.{done}
-use Rattle.jz_runs.specs.Rules.{stuck, went, Outcome, End, Cut, Stuck}
+use Rattle.jz_meaning.specs.Item.{Item}
+use Rattle.jz_meaning.specs.Trees.{done}
+use Rattle.jz_meaning.specs.Rules.{stuck, went, Outcome, End, Cut, Stuck}
 use Rattle.jz_meaning.specs.declared.value.Stuck as why
 use Rattle.jz_meaning.specs.Attempts.{Evaluation, and_then, numbers_first}
 use Rattle.jz_meaning.specs.States.{Value, word, Store, put, State}

@@ -1,11 +1,11 @@
 -- What the code answers of the words of variables, and of a function's body.
 use Rattle.std.specs.Prelude.{ℕ, List, [], ◌++◌, length, Result, Ok, Err}
-use Rattle.jz_words.specs.declared.word.Word as code_word
-use Rattle.jz_words.specs.Memory.{Memory}
+use Rattle.jz_tree.specs.Word as code_word
+use Rattle.jz_tree.specs.Memory.{Memory}
 use Rattle.jz_tree.specs.declared.program.Fun.{Fun}
-use Rattle.jz_leak.specs.RunLeaks.{Leak}
-use Rattle.jz_runs.specs.Trees.{done}
-use Rattle.jz_runs.specs.Rules.{stuck, went, Outcome, Goes}
+use Rattle.jz_meaning.specs.RunLeaks.{Leak}
+use Rattle.jz_meaning.specs.Trees.{done}
+use Rattle.jz_meaning.specs.Rules.{stuck, went, Outcome, Goes}
 use Rattle.jz_meaning.specs.declared.value.Stuck as why
 use Rattle.jz_meaning.specs.Attempts.{Evaluation}
 use Rattle.jz_meaning.specs.States.{Value, word, State}

@@ -1,11 +1,11 @@
 -- What the ends of the code stand for.
 use Rattle.std.specs.Prelude.{ℕ, ℤ, List, [], ◌∷◌, Result, Ok, Err}
-use Rattle.jz_data.specs.declared.failure.Failure.{Failure}
-use Rattle.jz_data.specs.Failures.{IfAnswered}
-use Rattle.jz_leak.specs.declared.leak.Leak as shown_leak
-use Rattle.jz_leak.specs.declared.leak.Item.{Item}
+use Rattle.jz_tree.specs.Failure.{Failure}
+use Rattle.jz_tree.specs.Failures.{IfAnswered}
+use Rattle.jz_meaning.specs.Leak as shown_leak
+use Rattle.jz_meaning.specs.Item.{Item}
 use Rattle.jz_tree.specs.declared.expr.Var.{Var}
-use Rattle.jz_runs.specs.Rules.{Outcome, End, Cut, Stuck}
+use Rattle.jz_meaning.specs.Rules.{Outcome, End, Cut, Stuck}
 use Rattle.jz_meaning.specs.declared.value.Stuck as why
 use Rattle.jz_meaning.specs.declared.state.State as code
 use Rattle.jz_meaning.specs.States.{State}

@@ -1,13 +1,13 @@
 -- What the interpreter takes and answers.
 use Rattle.std.specs.Prelude.{◌≡◌, ℕ, List, map, Some, slice_get}
 use Rattle.std.specs.List.{AllZip}
-use Rattle.jz_words.specs.declared.word.Word as code_word
-use Rattle.jz_words.specs.Memory.{Memory}
+use Rattle.jz_tree.specs.Word as code_word
+use Rattle.jz_tree.specs.Memory.{Memory}
 use Rattle.jz_tree.specs.declared.program.Program.{Program}
 use Rattle.jz_tree.specs.declared.program.Fun.{Fun}
 use Rattle.jz_tree.specs.declared.program.Param.{Param}
-use Rattle.jz_leak.specs.Shown.{shown_of}
-use Rattle.jz_runs.specs.Rules.{End, Cut, Stuck}
+use Rattle.jz_meaning.specs.Shown.{shown_of}
+use Rattle.jz_meaning.specs.Rules.{End, Cut, Stuck}
 use Rattle.jz_meaning.specs.States.{Value, word}
 use Rattle.jz_meaning.specs.Values.{ref_of}
 use Rattle.jz_meaning.specs.Runs.{FunOutcome, FitsKind, IsInput, IsRun}

@@ -3,7 +3,7 @@ use Rattle.std.specs.Prelude.{ℕ, List, Option, None, Some, not, is_some}
 use Rattle.jz_tree.specs.declared.expr.Expr.{Expr}
 use Rattle.jz_tree.specs.declared.stmt.Rhs.{Rhs}
 use Rattle.jz_tree.specs.declared.stmt.Stmt.{Stmt}
-use Rattle.jz_runs.specs.Trees.{done, loop}
+use Rattle.jz_meaning.specs.Trees.{done, loop}
 use Rattle.jz_meaning.specs.Statements.{Block, Operation, assign, instruction, Condition, Counter}
 use Rattle.jz_meaning.specs.Runs.{Callees, callees_of, block}
 use Rattle.jz_meaning.specs.Runs.{assign_tree, call_tree, instruction_tree}

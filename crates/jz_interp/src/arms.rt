@@ -5,7 +5,7 @@ ghost use Rattle.std.specs.Option.{option_copied};
 ghost use Rattle.jz_interp.specs.Calls.{called_function};
 
 use crate::code::Code;
-use jz_data::{Seq, Text};
+use jz_tree::{Seq, Text};
 use jz_tree::{BinOp, Expr, Fun, Stmt};
 
 /// The arm of a test's answer.

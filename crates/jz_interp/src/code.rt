@@ -5,7 +5,7 @@ ghost use Rattle.std.specs.Option.{option_copied};
 ghost use Rattle.jz_type_names.specs.Scopes.{function_named};
 ghost use Rattle.jz_type_names.specs.Tables.{IsFunctions};
 
-use jz_data::{Seq, Text};
+use jz_tree::{Seq, Text};
 use jz_type_names::Functions;
 use jz_tree::Fun;
 use std::alloc::{AllocError, Global};

@@ -7,7 +7,7 @@ ghost use Rattle.jz_interp.specs.Parts.{counter_of};
 ghost use Rattle.jz_interp.specs.Rounds.{values_left, GivesValues};
 
 use crate::parts::Counter;
-use jz_data::{Failure, Seq};
+use jz_tree::{Failure, Seq};
 use jz_meaning::{State, Stuck};
 use jz_run_assign::number_in;
 

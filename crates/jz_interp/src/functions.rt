@@ -1,7 +1,7 @@
 //! The run of a function on argument words.
 
 ghost use Rattle.std.specs.Prelude.{◌≡◌, IfOk, OnOk};
-ghost use Rattle.jz_data.specs.Failures.{IfAnswered};
+ghost use Rattle.jz_tree.specs.Failures.{IfAnswered};
 ghost use Rattle.jz_meaning.specs.Stores.{store_of};
 ghost use Rattle.jz_meaning.specs.Runs as runs;
 ghost use Rattle.jz_interp.specs.Outcomes.{values_of};
@@ -12,11 +12,11 @@ use crate::ends::Ran;
 use crate::outcome::Outcome;
 use crate::running::run_block;
 use jz_run_assign::{set, value_of};
-use jz_data::{Failure, Seq};
-use jz_leak::{Leak, MemMap};
+use jz_tree::{Failure, Seq};
+use jz_meaning::{Leak, MemMap};
 use jz_meaning::{State, Store, Stuck, Value, Why};
 use jz_tree::{Fun, Param, Var};
-use jz_words::Word;
+use jz_tree::Word;
 use std::alloc::AllocError;
 
 // The parameters have the argument words.

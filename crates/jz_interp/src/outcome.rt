@@ -1,9 +1,9 @@
 //! What a run takes and what it comes to.
 
-use jz_data::Seq;
-use jz_leak::{Leak, MemMap};
+use jz_tree::Seq;
+use jz_meaning::{Leak, MemMap};
 use jz_meaning::Stuck;
-use jz_words::Word;
+use jz_tree::Word;
 
 /// The arguments of a function, one for each parameter and of its size, and the valid memory.
 #[derive(Drop)]

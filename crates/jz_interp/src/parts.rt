@@ -1,7 +1,7 @@
 //! Parts of statements that go together, as the text has them.
 
-use jz_data::{Seq, Text};
-use jz_io::Span;
+use jz_tree::{Seq, Text};
+use jz_tree::Span;
 use jz_tree::{Expr, Var};
 
 /// A test of an `if` or a `while`, and where it is told where it has no value.

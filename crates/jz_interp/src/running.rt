@@ -1,7 +1,7 @@
 //! Runs of statements, forward. A loop of the text is a loop here, so the stack grows with the
 //! nesting of the text and the depth of calls alone.
 
-ghost use Rattle.jz_runs.specs.Trees as tree;
+ghost use Rattle.jz_meaning.specs.Trees as tree;
 ghost use Rattle.jz_meaning.specs.Runs.{block, statement_tree};
 ghost use Rattle.jz_run_assign.specs.Passings.{call_of};
 ghost use Rattle.jz_interp.specs.Parts.{callees_in, condition_of, counter_of};
@@ -17,8 +17,8 @@ use crate::ends::{Ran, RoundsEnd, TurnEnd, end_of_if, one, turn};
 use crate::parts::{Counter, Named, Test};
 use crate::straight::{run_instruction, run_value};
 use jz_run_assign::{Assignment, missing, set, truth_in, value_of};
-use jz_data::{Failure, Seq};
-use jz_leak::{Item, Leak};
+use jz_tree::{Failure, Seq};
+use jz_meaning::{Item, Leak};
 use jz_meaning::{State, Stuck, Value};
 use jz_run_assign::{Call, enter, leave, unset_all};
 use jz_tree::{Rhs, Stmt, StmtKind, Var};

@@ -1,6 +1,6 @@
 //! Statements without an inner run.
 
-ghost use Rattle.jz_runs.specs.Trees as tree;
+ghost use Rattle.jz_meaning.specs.Trees as tree;
 ghost use Rattle.jz_meaning.specs.Statements as statements;
 ghost use Rattle.jz_interp.specs.Parts.{value_assignment, named_instruction_tree};
 ghost use Rattle.jz_interp.specs.Ends.{RunsPiece};
@@ -8,9 +8,9 @@ ghost use Rattle.jz_interp.specs.Ends.{RunsPiece};
 use crate::ends::{Ran, one};
 use crate::parts::Named;
 use jz_run_assign::{Assignment, assign, missing};
-use jz_data::{Failure, Seq};
+use jz_tree::{Failure, Seq};
 use jz_run_instruct::instruct;
-use jz_leak::Item;
+use jz_meaning::Item;
 use jz_meaning::{State, Stuck};
 use jz_tree::{Expr, Lval};
 

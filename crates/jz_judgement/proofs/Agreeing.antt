@@ -1,7 +1,7 @@
 -- What a judgement and what typing finds have to do with one another.
 use Rattle.std.proofs.Common.{◌≡◌, Bool, true, false, [], Some, None}
 use Rattle.std.specs.Prelude.{is_some}
-use Rattle.jz_words.specs.declared.size.Size.{Size}
+use Rattle.jz_tree.specs.Size.{Size}
 use Rattle.jz_type_sizes.specs.declared.wants.Want.TheVariants as want
 use Rattle.jz_type_sizes.specs.Typings.{Typing}
 use Rattle.jz_judgement.specs.Places.{Place, TakesNumber}

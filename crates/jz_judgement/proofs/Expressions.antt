@@ -1,8 +1,8 @@
 -- The judgement of every expression and what typing finds there.
 use Rattle.std.proofs.Common.{◌≡◌, Bool, true, false, ◌&&◌, Some, None, refl, sym, ap, ◌∙◌, subst}
 use Rattle.std.specs.Prelude.{option_map}
-use Rattle.jz_io.specs.declared.span.Span.{Span}
-use Rattle.jz_words.specs.declared.size.Size.{Size}
+use Rattle.jz_tree.specs.Span.{Span}
+use Rattle.jz_tree.specs.Size.{Size}
 use Rattle.jz_tree.specs.declared.expr.Storage.{Storage}
 use Rattle.jz_tree.specs.declared.expr.Expr.{Expr}
 use Rattle.jz_tree.specs.declared.expr.Ty.{Ty}

@@ -1,6 +1,6 @@
 -- The judgement and what typing finds.
 use Rattle.std.specs.Prelude.{◌≡◌, ◌↔◌, List, [], Option}
-use Rattle.jz_io.specs.declared.span.Span.{Span}
+use Rattle.jz_tree.specs.Span.{Span}
 use Rattle.jz_tree.specs.declared.expr.BinOp.{BinOp}
 use Rattle.jz_tree.specs.declared.expr.Expr.{Expr}
 use Rattle.jz_tree.specs.declared.stmt.Lval.{Lval}

@@ -1,7 +1,7 @@
 -- What a place in the text takes, and what goes there.
 use Rattle.std.specs.Prelude.{◌≡◌, Some, None}
-use Rattle.jz_words.specs.declared.size.Size.{Size}
-use Rattle.jz_words.specs.declared.size.Size.TheVariants as sizes
+use Rattle.jz_tree.specs.Size.{Size}
+use Rattle.jz_tree.specs.Size.TheVariants as sizes
 use Rattle.jz_tree.specs.declared.expr.BinOp.{BinOp}
 use Rattle.jz_tree.specs.declared.expr.BinOp.TheVariants as op
 use Rattle.jz_type_names.specs.declared.kinds.Kind.{Kind}

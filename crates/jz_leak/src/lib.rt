@@ -16,3 +16,4 @@ pub use leak::{Item, Leak, Turn};
 pub use mem_map::MemMap;
 pub use transformer::{Case, Form, Out, Tr, Transformer};
 pub use walk::apply;
+pub use jz_data::{Boxed, Failure, Seq, Text};

@@ -6,3 +6,6 @@ pub mod LexingUnique
 pub mod Identifiers
 pub mod Places
 pub mod Comments
+pub use Rattle.jz_data.proofs.Lists
+pub use Rattle.jz_data.proofs.Texts
+pub use Rattle.jz_words.proofs.Residues

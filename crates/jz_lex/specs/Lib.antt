@@ -2,3 +2,12 @@ pub mod LexingWords
 pub mod Lexing
 pub mod LexingFront
 pub mod Identifiers
+pub use Rattle.jz_data.specs.Failures
+pub use Rattle.jz_data.specs.Laws
+pub use Rattle.jz_data.specs.declared.failure.Failure
+pub use Rattle.jz_io.specs.declared.span.Span
+pub use Rattle.jz_io.specs.declared.verdict.Ct
+pub use Rattle.jz_words.specs.Memory
+pub use Rattle.jz_words.specs.Sizes
+pub use Rattle.jz_words.specs.Words
+pub use Rattle.jz_words.specs.declared.size.Size

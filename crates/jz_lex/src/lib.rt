@@ -19,3 +19,6 @@ pub use laws::{
 };
 pub use text::lex;
 pub use token::{LexFault, LexKind, Token, TokenKind, Tokens};
+pub use jz_data::{Failure, Seq, Text};
+pub use jz_io::{Span};
+pub use jz_words::{Size};

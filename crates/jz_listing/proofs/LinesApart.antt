@@ -7,8 +7,8 @@ use Rattle.std.proofs.lemmas.List.Elements.{All-head, All-tail}
 use Rattle.std.proofs.lemmas.List.Sums.{list_all-from_AllPass}
 use Rattle.hex.specs.Hex.{encode_lower, encode_with, lower_digits, decode_of}
 use Rattle.hex.proofs.HexLemmas.{decode_of-encode_lower}
-use Rattle.jz_words.specs.declared.size.Size.{Size}
-use Rattle.jz_words.specs.declared.size.Size.TheVariants.{S8, S16, S32, S64}
+use Rattle.x64_insn.specs.Size.{Size}
+use Rattle.x64_insn.specs.Size.TheVariants.{S8, S16, S32, S64}
 use Rattle.jz_io.specs.declared.verdict.Ct.{Ct}
 use Rattle.jz_io.specs.declared.verdict.Ct.TheVariants as ct
 use Rattle.jz_io.specs.declared.verdict.CtKind.{CtKind}

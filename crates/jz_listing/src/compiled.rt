@@ -1,9 +1,9 @@
 //! What is listed of a compiled function.
 
-use jz_data::{Seq, Text};
+use jz_leak::{Seq, Text};
 use jz_io::{Bytes, Ct};
 use jz_leak::Transformer;
-use jz_words::Size;
+use x64_insn::Size;
 use x64_insn::Reg;
 
 /// A parameter or a result, and the register that holds it in its low bits.

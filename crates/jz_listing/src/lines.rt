@@ -7,9 +7,9 @@ ghost use Rattle.jz_listing.specs.Listing.{reg_text, size_text, arg_text, arg_li
 use super::compiled::{Arg, Compiled, Pre};
 use super::transformers::write_transformer;
 use itoa::Buffer;
-use jz_data::{Seq, Text};
+use jz_leak::{Seq, Text};
 use jz_io::{Bytes, Ct, CtKind, Span};
-use jz_words::Size;
+use x64_insn::Size;
 use std::alloc::{AllocError, Global};
 use x64_insn::Reg;
 

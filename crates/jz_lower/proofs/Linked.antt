@@ -6,7 +6,7 @@ use Rattle.std.proofs.lemmas.Bool.{cases_lt, eq-eqb, eqb-true, or_cases, or_righ
 use Rattle.std.proofs.lemmas.List.{get_or_default, get_or_past, get_or-replicate, length-map, length-replicate}
 use Rattle.std.proofs.lemmas.List.Elements.{All-nil, All-cons, All-head, All-tail, All-append, Contains-append_left, Contains-get_or}
 use Rattle.std.proofs.lemmas.List.Folds.{list_all-append}
-use Rattle.jz_io.specs.declared.span.Span.{Span}
+use Rattle.jz_first.specs.Span.{Span}
 use Rattle.x64_insn.specs.declared.types.Reg.{Reg}
 use Rattle.x64_insn.specs.declared.types.Reg.TheVariants as reg
 use Rattle.x64_insn.specs.declared.types.Flag.TheVariants as flag

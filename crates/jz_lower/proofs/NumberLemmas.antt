@@ -6,7 +6,7 @@ use Rattle.std.specs.Str.{bytes_eq}
 use Rattle.std.proofs.lemmas.Bool.Decides.{nat_tests}
 use Rattle.std.proofs.lemmas.List.Folds.{position_or_len_push}
 use Rattle.std.proofs.lemmas.List.Sums.{prefix_len-le-length}
-use Rattle.jz_data.proofs.Texts.{bytes_eq-sym, bytes_eq-true}
+use Rattle.jz_first.proofs.Texts.{bytes_eq-sym, bytes_eq-true}
 use Rattle.jz_first.specs.declared.tree.Var.{Var}
 use Rattle.indexmap.specs.IndexMap.{get}
 use Rattle.jz_lower.specs.declared.numbers.Numbers.{Numbers}

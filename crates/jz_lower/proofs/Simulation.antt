@@ -3,9 +3,9 @@ use Rattle.std.proofs.Common.{◌≡◌, ◌≢◌, inl, inr, ℕ, ◌^◌, ◌<
 use Rattle.std.specs.Prelude.{Option, Some, None, slice_set}
 use Rattle.std.specs.Cmp.Lexicographic.{pointwise, same_text, other_text}
 use Rattle.std.proofs.lemmas.List.{length-set}
-use Rattle.jz_io.specs.declared.span.Span.{Span}
-use Rattle.jz_words.specs.declared.size.Size.TheVariants.{S64}
-use Rattle.jz_words.specs.Words.{residue}
+use Rattle.jz_first.specs.Span.{Span}
+use Rattle.jz_first.specs.Size.TheVariants.{S64}
+use Rattle.jz_first.specs.Words.{residue}
 use Rattle.x64_insn.specs.declared.types.Reg.{Reg}
 use Rattle.x64_insn.specs.Table.{number_of}
 use Rattle.x64_insn.proofs.Registers.{word_same}
@@ -28,7 +28,7 @@ use Rattle.jz_correct.proofs.PlainCode.{word_in, operand_in, result_of, regs_of,
 use Rattle.jz_lower.specs.Lowering.{alu_of, operand_of, assignment_insn, kind_insns, insns_of}
 use Rattle.jz_lower.specs.Living.{IsNamed, ReadsIn, ReadsAssigned, LivesThrough, LivesBefore, KeepsApart, KeepApart}
 use Rattle.jz_lower.specs.Straight.{IsWord, SetsWord, SetWords}
-use Rattle.jz_words.proofs.Residues.{residue_small, signed_residue}
+use Rattle.jz_first.proofs.Residues.{residue_small, signed_residue}
 use Rattle.jz_lower.proofs.WordLaws.{same_operation, operation_small}
 use Rattle.jz_lower.proofs.Stores.{named, put_at, word_other, word_small}
 

@@ -1,8 +1,8 @@
 -- Operations of the source and of instructions on words of 64 bits.
 use Rattle.std.proofs.Common.{◌≡◌, ℕ, ◌+◌, ◌%◌, ◌^◌, ◌<◌, refl, ap, arith, pos, ◌-ℤ◌}
 use Rattle.std.proofs.lemmas.Nat.{xor_lt}
-use Rattle.jz_words.specs.declared.size.Size.TheVariants.{S64}
-use Rattle.jz_words.proofs.Residues.{residue_small, difference_residue}
+use Rattle.jz_first.specs.Size.TheVariants.{S64}
+use Rattle.jz_first.proofs.Residues.{residue_small, difference_residue}
 use Rattle.x64_insn.specs.Answers.{sum_answer, difference_answer, xor_answer}
 use Rattle.jz_first.specs.declared.tree.BinOp.{BinOp}
 use Rattle.jz_first.specs.declared.tree.BinOp.TheVariants as op

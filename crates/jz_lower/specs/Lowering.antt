@@ -1,8 +1,8 @@
 -- The instructions of statements, by the registers in which variables stand.
 use Rattle.std.specs.Prelude.{ℕ, List, [], ◌∷◌, ◌++◌, Option, Some, None}
-use Rattle.jz_words.specs.declared.size.Size.TheVariants.{S64}
-use Rattle.jz_words.specs.Sizes.{signed}
-use Rattle.jz_words.specs.Words.{residue}
+use Rattle.jz_first.specs.Size.TheVariants.{S64}
+use Rattle.jz_first.specs.Sizes.{signed}
+use Rattle.jz_first.specs.Words.{residue}
 use Rattle.x64_insn.specs.declared.types.Reg.{Reg}
 use Rattle.x64_insn.specs.declared.types.Alu.{Alu}
 use Rattle.x64_insn.specs.declared.types.Alu.TheVariants as alu

@@ -3,7 +3,7 @@
 use Rattle.std.specs.Prelude.{ℕ, List, [], ◌∷◌, ◌++◌, length, map, replicate, slice_index_or, Option, Some, None}
 use Rattle.std.specs.List.{position_or_len}
 use Rattle.std.specs.Str.{bytes_eq}
-use Rattle.jz_io.specs.declared.span.Span.{Span}
+use Rattle.jz_first.specs.Span.{Span}
 use Rattle.x64_insn.specs.declared.types.Reg.{Reg}
 use Rattle.x64_insn.specs.declared.types.Reg.TheVariants as reg
 use Rattle.x64_insn.specs.declared.types.Flag.TheVariants as flag

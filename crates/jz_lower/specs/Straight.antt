@@ -1,8 +1,8 @@
 -- Functions over words of 64 bits whose statements each set one variable.
 use Rattle.std.specs.Prelude.{◌≡◌, true, List, [], ◌∷◌, length, Option, Some, None}
-use Rattle.jz_words.specs.declared.size.Size.TheVariants.{S64}
-use Rattle.jz_words.specs.Sizes.{signed}
-use Rattle.jz_words.specs.Words.{residue}
+use Rattle.jz_first.specs.Size.TheVariants.{S64}
+use Rattle.jz_first.specs.Sizes.{signed}
+use Rattle.jz_first.specs.Words.{residue}
 use Rattle.x64_insn.specs.Chosen.{fits_bytes}
 use Rattle.jz_first.specs.declared.tree.Fun.{Fun}
 use Rattle.jz_first.specs.declared.tree.Param.{Param}

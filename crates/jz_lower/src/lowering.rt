@@ -1,9 +1,9 @@
 //! The instructions of statements.
 
 ghost use Rattle.std.specs.Prelude.{◌≡◌, ◌<◌, ◌^◌, IfOk, length};
-ghost use Rattle.jz_words.specs.declared.size.Size.TheVariants.{S64};
-ghost use Rattle.jz_words.specs.Sizes.{signed};
-ghost use Rattle.jz_words.specs.Words.{residue};
+ghost use Rattle.jz_first.specs.Size.TheVariants.{S64};
+ghost use Rattle.jz_first.specs.Sizes.{signed};
+ghost use Rattle.jz_first.specs.Words.{residue};
 ghost use Rattle.jz_first.specs.Variables.{variables_of};
 ghost use Rattle.jz_lower.specs.Lowering.{alu_of, assignment_insn, insns_of, kind_insns, operand_of};
 ghost use Rattle.jz_lower.specs.InnerNumbers.{IsFor};
@@ -11,9 +11,9 @@ ghost use Rattle.jz_lower.specs.InnerLowering.{insns_in, register_by};
 ghost use Rattle.jz_lower.specs.Operations.{register_of};
 
 use crate::numbers::Numbers;
-use jz_data::{Seq, Text};
+use jz_first::{Seq, Text};
 use jz_first::{BinOp, Expr, Fun, Lval, Rhs, StmtKind};
-use jz_words::Size;
+use jz_first::Size;
 use std::alloc::{AllocError, Global};
 use x64_insn::{Alu, Insn, Operand, Place, Reg};
 
@@ -35,7 +35,7 @@ fn alu_of(op: BinOp) -> Alu
 }
 
 // The signed reading of the number's 64 bits.
-#[tactic(auto, unfolding(jz_words::specs::Sizes::signed))]
+#[tactic(auto, unfolding(jz_first::specs::Sizes::signed))]
 fn signed(number: i128) -> i64
     ensures { result ≡ signed S64 (residue S64 number) }
 {

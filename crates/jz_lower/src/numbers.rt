@@ -7,7 +7,7 @@ ghost use Rattle.jz_lower.specs.InnerNumbers.{IsFor, IsNumbers};
 ghost use Rattle.jz_lower.specs.Operations.{number_in};
 
 use indexmap::IndexMap;
-use jz_data::Text;
+use jz_first::Text;
 use jz_first::{Fun, Var};
 use std::alloc::{AllocError, Global};
 

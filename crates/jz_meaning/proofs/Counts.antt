@@ -7,11 +7,11 @@ use Rattle.std.proofs.Math.Pow.{pow_mono}
 use Rattle.std.proofs.lemmas.Nat.{pow-add}
 use Rattle.std.proofs.lemmas.Bool.{ltb-true, ltb-false}
 use Rattle.std.proofs.lemmas.Int.{ints}
-use Rattle.jz_words.specs.declared.size.Size.{Size}
-use Rattle.jz_words.specs.declared.size.Size.TheVariants.{S8, S16, S32, S64}
-use Rattle.jz_words.specs.Sizes.{bits_of, half, modulus, signed}
-use Rattle.jz_words.proofs.Residues.{double_half}
-use Rattle.jz_words.specs.Words.{residue, shl_of, shr_of, sar_of, rol_of, ror_of}
+use Rattle.x64_insn.specs.Size.{Size}
+use Rattle.x64_insn.specs.Size.TheVariants.{S8, S16, S32, S64}
+use Rattle.x64_insn.specs.Sizes.{bits_of, half, modulus, signed}
+use Rattle.x64_insn.proofs.Residues.{double_half}
+use Rattle.x64_insn.specs.Words.{residue, shl_of, shr_of, sar_of, rol_of, ror_of}
 
 widest : (s : Size) → bits_of s ≤ 64
 widest S8 = omega arith

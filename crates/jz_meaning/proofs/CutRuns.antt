@@ -1,9 +1,9 @@
 -- A leak holds a cut exactly where its run was cut: of functions, from that of their bodies.
 use Rattle.std.proofs.Common.{ℕ, List, subst}
-use Rattle.jz_words.specs.Memory.{Memory}
+use Rattle.x64_insn.specs.Memory.{Memory}
 use Rattle.jz_tree.specs.declared.expr.Var.{Var}
-use Rattle.jz_leak.specs.RunLeaks.{Leak}
-use Rattle.jz_leak.specs.Cuts.{IsWhole}
+use Rattle.jz_runs.specs.RunLeaks.{Leak}
+use Rattle.jz_runs.specs.Cuts.{IsWhole}
 use Rattle.jz_runs.specs.Rules.{stuck, went, Outcome, End, Cut, Stuck}
 use Rattle.jz_runs.proofs.Held.{held}
 use Rattle.jz_meaning.specs.declared.value.Stuck as code

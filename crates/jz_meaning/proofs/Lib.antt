@@ -9,3 +9,4 @@ pub mod ShapeLemmas
 pub mod StoreLemmas
 pub mod Widths
 pub mod RunLaws
+pub use Rattle.jz_runs.proofs.Steady

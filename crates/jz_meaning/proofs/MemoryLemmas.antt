@@ -3,7 +3,7 @@ use Rattle.std.proofs.Common.{◌≡◌, ℕ, ◌+◌, ◌*◌, ◌%◌, ◌^◌
 use Rattle.std.specs.Prelude.{is_some, ◌&&◌}
 use Rattle.std.specs.Option.{option_and_then}
 use Rattle.std.specs.FinMap.{get}
-use Rattle.jz_words.specs.Memory.{Memory, loaded, all_valid}
+use Rattle.x64_insn.specs.Memory.{Memory, loaded, all_valid}
 
 -- a low byte and the bytes above it are there where both are
 both_there : (low high : Option ℕ) → is_some (option_and_then (λ b. option_and_then (λ h. Some (b + 256 * h)) high) low) ≡ (is_some low && is_some high)

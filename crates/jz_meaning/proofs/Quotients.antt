@@ -4,8 +4,8 @@ use Rattle.std.specs.Prelude.{nat_lt, if◌then◌else◌, ℤ, pos, negsuc, neg
 use Rattle.std.specs.Int.{w128}
 use Rattle.std.proofs.Math.Nat.{div-le_self}
 use Rattle.std.proofs.lemmas.Int.{ints, to_z-of_z, fits_signed_from_abs}
-use Rattle.jz_words.specs.declared.size.Size.{Size}
-use Rattle.jz_words.specs.Sizes.{half, modulus, signed}
+use Rattle.x64_insn.specs.Size.{Size}
+use Rattle.x64_insn.specs.Sizes.{half, modulus, signed}
 
 only_zero : (d m : ℕ) (b : Bool) → d < m → (if b then pos d else (pos d -ℤ pos m)) ≡ pos 0 → d ≡ 0
 only_zero d m true lt e = let f : pos d ≡ pos 0 = e in omega (arith, ints, f)

@@ -1,10 +1,10 @@
 -- The laws of a function's runs, from those of its body's runs.
 use Rattle.std.proofs.Common.{◌≡◌, ℕ, ◌+◌, List, sym, ap, ◌∙◌, subst, arith, refl}
-use Rattle.jz_words.specs.Memory.{Memory}
+use Rattle.x64_insn.specs.Memory.{Memory}
 use Rattle.jz_tree.specs.declared.program.Program.{Program}
 use Rattle.jz_tree.specs.declared.program.Fun.{Fun}
 use Rattle.jz_tree.specs.declared.expr.Var.{Var}
-use Rattle.jz_leak.specs.RunLeaks.{Leak}
+use Rattle.jz_runs.specs.RunLeaks.{Leak}
 use Rattle.jz_runs.specs.Rules.{stuck, went, Outcome, End, Cut, Stuck, Goes}
 use Rattle.jz_runs.specs.Laws.{IsOver, with_more}
 use Rattle.jz_runs.proofs.Steady.{Exact, exact, one_outcome, has_outcome}

@@ -3,7 +3,7 @@ use Rattle.std.proofs.Common.{◌≡◌, ℕ, List, Bool, true, false, Option, S
 use Rattle.std.specs.Prelude.{if◌then◌else◌, ◌&&◌, option_map}
 use Rattle.std.specs.Str.{bytes_eq}
 use Rattle.indexmap.specs.IndexMap.{IndexMap, get}
-use Rattle.jz_data.proofs.Texts.{bytes_eq-true}
+use Rattle.jz_tree.proofs.Texts.{bytes_eq-true}
 use Rattle.jz_meaning.specs.declared.store.Place.{Place}
 use Rattle.jz_meaning.specs.declared.value.Value as value
 use Rattle.jz_meaning.specs.States.{Key, Value, as_value, put}

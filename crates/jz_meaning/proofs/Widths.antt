@@ -1,7 +1,7 @@
 -- Sizes with the same number of bits.
 use Rattle.std.proofs.Common.{◌≡◌, true, refl}
-use Rattle.jz_words.specs.declared.size.Size.{Size}
-use Rattle.jz_words.specs.declared.size.Size.TheVariants.{S8, S16, S32, S64}
+use Rattle.x64_insn.specs.Size.{Size}
+use Rattle.x64_insn.specs.Size.TheVariants.{S8, S16, S32, S64}
 use Rattle.jz_meaning.specs.Operators.{same_size}
 
 pub equal_sizes : (a b : Size) → same_size a b ≡ true → a ≡ b

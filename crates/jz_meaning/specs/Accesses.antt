@@ -1,7 +1,7 @@
 -- An access to memory by its parts, as the code makes it: the address is known.
 use Rattle.std.specs.Prelude.{ℕ, [], Option, Some}
-use Rattle.jz_words.specs.declared.size.Size.{Size}
-use Rattle.jz_words.specs.Memory.{Memory}
+use Rattle.x64_insn.specs.Size.{Size}
+use Rattle.x64_insn.specs.Memory.{Memory}
 use Rattle.jz_runs.specs.Rules.{went}
 use Rattle.jz_meaning.specs.Attempts.{Evaluation, and_then}
 use Rattle.jz_meaning.specs.States.{Value, word}

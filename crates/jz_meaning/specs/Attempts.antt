@@ -1,8 +1,8 @@
 -- The parts of a statement, one after another: each leaks numbers and gives something, or is stuck at a place for a reason.
 use Rattle.std.specs.Prelude.{◌≡◌, ℕ, List, [], ◌++◌, Option, Some, None, Result, Ok, Err}
-use Rattle.jz_data.specs.declared.failure.Failure.{Failure}
-use Rattle.jz_data.specs.Failures.{IfAnswered}
-use Rattle.jz_io.specs.declared.span.Span.{Span}
+use Rattle.jz_tree.specs.Failure.{Failure}
+use Rattle.jz_tree.specs.Failures.{IfAnswered}
+use Rattle.jz_tree.specs.Span.{Span}
 use Rattle.jz_runs.specs.Rules.{Attempt, stuck, went}
 use Rattle.jz_meaning.specs.declared.value.Value as code
 use Rattle.jz_meaning.specs.declared.value.Why.{Why}

@@ -1,10 +1,10 @@
 -- A leak holds a cut exactly where its run was cut, at each depth: of bodies, and of functions.
 use Rattle.std.specs.Prelude.{ℕ, List}
-use Rattle.jz_words.specs.Memory.{Memory}
+use Rattle.x64_insn.specs.Memory.{Memory}
 use Rattle.jz_tree.specs.declared.program.Program.{Program}
 use Rattle.jz_tree.specs.declared.program.Fun.{Fun}
-use Rattle.jz_leak.specs.RunLeaks.{Leak}
-use Rattle.jz_leak.specs.Cuts.{IsWhole, IsBroken}
+use Rattle.jz_runs.specs.RunLeaks.{Leak}
+use Rattle.jz_runs.specs.Cuts.{IsWhole, IsBroken}
 use Rattle.jz_runs.specs.Rules.{Outcome, Goes}
 use Rattle.jz_runs.specs.Laws.{HoldsCut}
 use Rattle.jz_meaning.specs.declared.value.Stuck as code

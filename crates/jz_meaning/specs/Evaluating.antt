@@ -2,7 +2,7 @@
 -- where it ends.
 use Rattle.std.specs.Prelude.{List, [], ◌∷◌, Option, ◌≡◌}
 use Rattle.std.specs.Option.{option_or}
-use Rattle.jz_words.specs.declared.size.Size.{Size}
+use Rattle.x64_insn.specs.Size.{Size}
 use Rattle.jz_tree.specs.declared.expr.Expr.{Expr}
 use Rattle.jz_tree.specs.declared.expr.Expr.TheVariants.{Bin}
 use Rattle.jz_tree.specs.declared.expr.Expr.TheViews.{out-Expr}

@@ -1,10 +1,10 @@
 -- Intrinsics: what each instruction leaves of words, flags and value, by its own formulas. A flag that it leaves undefined is unset.
 use Rattle.std.specs.Prelude.{ℕ, Bool, true, false, List, [], ◌∷◌, ◌++◌, map, drop, take, Option, Some, None, pos}
 use Rattle.std.specs.Option.{option_or}
-use Rattle.jz_io.specs.declared.span.Span.{Span}
-use Rattle.jz_words.specs.declared.size.Size.{Size}
-use Rattle.jz_words.specs.declared.size.Size.TheVariants.{S8, S64}
-use Rattle.jz_words.specs.Words.{carried, swapped_of}
+use Rattle.jz_tree.specs.Span.{Span}
+use Rattle.x64_insn.specs.Size.{Size}
+use Rattle.x64_insn.specs.Size.TheVariants.{S8, S64}
+use Rattle.x64_insn.specs.Words.{carried, swapped_of}
 use Rattle.x64_insn.specs.declared.types.FlagVal.{FlagVal}
 use Rattle.x64_insn.specs.declared.types.FlagVal.TheVariants.{True, False, Undefined}
 use Rattle.x64_insn.specs.declared.types.Alu.{Alu}

@@ -11,3 +11,10 @@ pub mod Statements
 pub mod States
 pub mod Stores
 pub mod Values
+pub use Rattle.jz_runs.specs.Item
+pub use Rattle.jz_runs.specs.Leak
+pub use Rattle.jz_runs.specs.Rules
+pub use Rattle.jz_runs.specs.RunLeaks
+pub use Rattle.jz_runs.specs.Shown
+pub use Rattle.jz_runs.specs.Trees
+pub use Rattle.jz_runs.specs.Turn

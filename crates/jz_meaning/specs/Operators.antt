@@ -1,10 +1,10 @@
 -- What the operators give on words, on whole numbers and on flags. What typing excludes has no value.
 use Rattle.std.specs.Prelude.{ℕ, ◌-◌, ◌*◌, ◌/◌, ◌%◌, ◌==◌, nat_lt, nat_le, bit_and, bit_or, bit_xor, Bool, true, false, not, ◌&&◌, ◌||◌, [], ◌∷◌, Option, Some, None, option_map, if◌then◌else◌, ℤ, pos, int_lt, int_le, int_div, int_rem}
 use Rattle.std.specs.Option.{option_and_then}
-use Rattle.jz_io.specs.declared.span.Span.{Span}
-use Rattle.jz_words.specs.declared.size.Size.{Size}
-use Rattle.jz_words.specs.Sizes.{bits_of, modulus, half, signed}
-use Rattle.jz_words.specs.Words.{sum_of, difference_of, residue, shl_of, shr_of, sar_of, rol_of, ror_of}
+use Rattle.jz_tree.specs.Span.{Span}
+use Rattle.x64_insn.specs.Size.{Size}
+use Rattle.x64_insn.specs.Sizes.{bits_of, modulus, half, signed}
+use Rattle.x64_insn.specs.Words.{sum_of, difference_of, residue, shl_of, shr_of, sar_of, rol_of, ror_of}
 use Rattle.jz_tree.specs.declared.expr.BinOp.{BinOp}
 use Rattle.jz_tree.specs.declared.expr.BinOp.TheVariants as o
 use Rattle.jz_integers.specs.declared.constant.Constant.{Constant}

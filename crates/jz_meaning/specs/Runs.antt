@@ -2,9 +2,9 @@
 -- no code is named. A body is seen as a tree in which each call holds the body that it calls.
 use Rattle.std.specs.Prelude.{◌≡◌, ◌<◌, ℕ, zero, suc, not, is_some, Bool, List, [], ◌∷◌, map, length, Option, Some, None, Contains, if◌then◌else◌}
 use Rattle.std.specs.List.{AllZip}
-use Rattle.jz_io.specs.declared.span.Span.{Span}
-use Rattle.jz_words.specs.Sizes.{modulus}
-use Rattle.jz_words.specs.Memory.{Memory}
+use Rattle.jz_tree.specs.Span.{Span}
+use Rattle.x64_insn.specs.Sizes.{modulus}
+use Rattle.x64_insn.specs.Memory.{Memory}
 use Rattle.jz_tree.specs.declared.expr.BinOp.{BinOp}
 use Rattle.jz_tree.specs.declared.expr.Expr.{Expr}
 use Rattle.jz_tree.specs.declared.expr.Var.{Var}
@@ -17,7 +17,7 @@ use Rattle.jz_tree.specs.declared.stmt.StmtKind.TheFolds.{fold-Stmt}
 use Rattle.jz_tree.specs.declared.program.Program.{Program}
 use Rattle.jz_tree.specs.declared.program.Fun.{Fun}
 use Rattle.jz_tree.specs.declared.program.Param.{Param}
-use Rattle.jz_leak.specs.RunLeaks.{Leak}
+use Rattle.jz_runs.specs.RunLeaks.{Leak}
 use Rattle.jz_runs.specs.Trees.{Tree, done, op, quiet, choose, loop, each, call}
 use Rattle.jz_runs.specs.Rules.{stuck, went, Outcome, End, Cut, Stuck, Goes}
 use Rattle.jz_type_names.specs.Scopes.{function_named}

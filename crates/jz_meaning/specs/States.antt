@@ -1,8 +1,8 @@
 -- Where a run of a program stands: what its variables are, and the valid bytes of the memory.
 use Rattle.std.specs.Prelude.{ℕ, ℤ, ◌==◌, Bool, true, false, ◌&&◌, List, Option, Some, None, if◌then◌else◌}
 use Rattle.std.specs.Str.{bytes_eq}
-use Rattle.jz_words.specs.declared.size.Size.{Size}
-use Rattle.jz_words.specs.Memory.{Memory}
+use Rattle.x64_insn.specs.Size.{Size}
+use Rattle.x64_insn.specs.Memory.{Memory}
 use Rattle.jz_meaning.specs.declared.value.Value as code
 use Rattle.jz_meaning.specs.declared.value.Value.TheVariants as v
 

@@ -2,11 +2,11 @@
 -- each access to memory, and the high word, the low word and the divisor of each division.
 use Rattle.std.specs.Prelude.{ℕ, ◌%◌, ◌==◌, nat_lt, Bool, true, false, ◌||◌, List, [], ◌∷◌, Option, Some, None, Result, Ok, Err, if◌then◌else◌, ℤ, pos, negsuc}
 use Rattle.std.specs.Option.{option_or}
-use Rattle.jz_io.specs.declared.span.Span.{Span}
-use Rattle.jz_words.specs.declared.size.Size.{Size}
-use Rattle.jz_words.specs.declared.size.Size.TheVariants.{S8, S64}
-use Rattle.jz_words.specs.Sizes.{bytes_of}
-use Rattle.jz_words.specs.Memory.{Memory, loaded, all_valid, stored}
+use Rattle.jz_tree.specs.Span.{Span}
+use Rattle.x64_insn.specs.Size.{Size}
+use Rattle.x64_insn.specs.Size.TheVariants.{S8, S64}
+use Rattle.x64_insn.specs.Sizes.{bytes_of}
+use Rattle.x64_insn.specs.Memory.{Memory, loaded, all_valid, stored}
 use Rattle.jz_tree.specs.declared.expr.BinOp.{BinOp}
 use Rattle.jz_tree.specs.declared.expr.BinOp.TheVariants as o
 use Rattle.jz_tree.specs.declared.expr.Expr.{Expr}

@@ -2,8 +2,8 @@
 
 ghost use Rattle.std.specs.Prelude.{◌≡◌, ◌<◌, ℕ, List, Some, option_map};
 ghost use Rattle.std.specs.Option.{option_or};
-ghost use Rattle.jz_words.specs.Memory.{all_valid};
-ghost use Rattle.jz_words.specs.Sizes.{bytes_of, modulus};
+ghost use Rattle.x64_insn.specs.Memory.{all_valid};
+ghost use Rattle.x64_insn.specs.Sizes.{bytes_of, modulus};
 ghost use Rattle.jz_meaning.specs.Accesses as accesses;
 ghost use Rattle.jz_meaning.specs.Attempts.{did, seen, numbers_first, Gives, Evaluates, Changes};
 ghost use Rattle.jz_meaning.specs.Operators as operators;
@@ -15,11 +15,11 @@ ghost use Rattle.jz_meaning.specs.Values.{ref_of, meaning_of, access_of};
 use crate::operators::word_of;
 use crate::store::Store;
 use crate::value::{Stuck, Value, Why, defined};
-use jz_data::{Failure, Seq};
-use jz_io::Span;
-use jz_leak::MemMap;
+use jz_tree::{Failure, Seq};
+use jz_tree::Span;
+use jz_runs::MemMap;
 use jz_tree::{Access, Decl, Expr, Ty, Var};
-use jz_words::{Size, Word};
+use x64_insn::{Size, Word};
 
 /// What a variable can hold, by its declaration.
 #[derive(Clone, Copy, PartialEq, Eq)]

@@ -1,7 +1,7 @@
 //! The value of an expression, and the numbers that it leaks.
 
 ghost use Rattle.std.specs.Prelude.{◌≡◌};
-ghost use Rattle.jz_data.specs.Failures.{IfAnswered};
+ghost use Rattle.jz_tree.specs.Failures.{IfAnswered};
 ghost use Rattle.jz_meaning.specs.Attempts.{Evaluates, value_seen};
 ghost use Rattle.jz_meaning.specs.Evaluating.{IsDetermined, IsSingle, go_on};
 ghost use Rattle.jz_meaning.specs.States.{as_value};
@@ -14,9 +14,9 @@ use crate::left::{LeftSide, Waiting, left_side, own_size};
 use crate::operators::{binary, cast, inverted_value, is_settled, is_shift, negated_value};
 use crate::state::State;
 use crate::value::{Stuck, Value, defined};
-use jz_data::{Failure, Seq};
+use jz_tree::{Failure, Seq};
 use jz_tree::{BinOp, Expr};
-use jz_words::Size;
+use x64_insn::Size;
 
 /// What is wanted of the right operand, beside what is of the left one: a count is a byte.
 pub fn right_wanted(op: BinOp, left: Option<Size>) -> Option<Size>

@@ -1,12 +1,12 @@
 //! What holds of every value of an expression, apart from any code.
 
 ghost use Rattle.std.specs.Prelude.{◌≡◌, ℕ, ◌+◌, ℤ, true, List, [], length, Option, Some};
-ghost use Rattle.jz_words.specs.Memory.{Memory};
-ghost use Rattle.jz_words.specs.declared.size.Size.{Size};
+ghost use Rattle.x64_insn.specs.Memory.{Memory};
+ghost use Rattle.x64_insn.specs.Size.{Size};
 ghost use Rattle.jz_tree.specs.declared.expr.Expr.{Expr};
 ghost use Rattle.jz_tree.specs.declared.program.Program.{Program};
 ghost use Rattle.jz_tree.specs.declared.program.Fun.{Fun};
-ghost use Rattle.jz_leak.specs.RunLeaks.{Leak};
+ghost use Rattle.jz_runs.specs.RunLeaks.{Leak};
 ghost use Rattle.jz_runs.specs.Laws.{IsOver, with_more};
 ghost use Rattle.jz_meaning.specs.declared.value.Stuck as code;
 ghost use Rattle.jz_meaning.specs.Statements.{Block, source};

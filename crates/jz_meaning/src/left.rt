@@ -9,9 +9,9 @@ ghost use Rattle.std.specs.Prelude.{if◌then◌else◌};
 
 use crate::access::{kind_of, size_of};
 use crate::operators::is_shift;
-use jz_io::Span;
+use jz_tree::Span;
 use jz_tree::{BinOp, Expr};
-use jz_words::Size;
+use x64_insn::Size;
 use std::alloc::{AllocError, Global};
 
 /// An operation whose left operand has no value yet.

@@ -21,3 +21,4 @@ pub use operators::{binary, cast, inverted_value, is_settled, is_shift, negated_
 pub use state::State;
 pub use store::Store;
 pub use value::{Stuck, Value, Why, defined};
+pub use jz_runs::{Item, Leak, MemMap, Turn};

@@ -2,8 +2,8 @@
 
 ghost use Rattle.std.specs.Prelude.{◌≡◌, ◌++◌, ◌∷◌, [], true, IfOk, OnOk, IfSome, option_map, ◌≢◌, int_div, int_rem, ◌*◌, ◌%◌, ◌-◌, ◌<◌};
 ghost use Rattle.std.specs.Option.{option_and_then};
-ghost use Rattle.jz_words.specs.Sizes.{signed, modulus, bits_of};
-ghost use Rattle.jz_words.specs.Words.{shl_of, shr_of, sar_of, rol_of, ror_of};
+ghost use Rattle.x64_insn.specs.Sizes.{signed, modulus, bits_of};
+ghost use Rattle.x64_insn.specs.Words.{shl_of, shr_of, sar_of, rol_of, ror_of};
 ghost use Rattle.jz_tree.specs.declared.expr.BinOp.TheVariants as op;
 ghost use Rattle.jz_integers.specs.Integers as integers;
 ghost use Rattle.jz_meaning.specs.Attempts.{Evaluates};
@@ -13,11 +13,11 @@ ghost use Rattle.jz_meaning.specs.declared.value.Why.TheVariants as why;
 ghost use Rattle.jz_meaning.specs.States as states;
 
 use crate::value::{Stuck, Value, Why, defined};
-use jz_data::{Failure, Seq};
+use jz_tree::{Failure, Seq};
 use jz_integers::{Constant, inverted, negated, on_integers};
-use jz_io::Span;
+use jz_tree::Span;
 use jz_tree::BinOp;
-use jz_words::{
+use x64_insn::{
     Size, Word, add_carry, and, mul_wide, or, residue, rol, ror, sar, shl, shr, sub_borrow, xor,
 };
 use std::alloc::AllocError;

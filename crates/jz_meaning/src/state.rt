@@ -1,7 +1,7 @@
 //! Where a run stands.
 
 use crate::store::Store;
-use jz_leak::MemMap;
+use jz_runs::MemMap;
 
 /// Where a run stands: what variables and cells have, and the valid bytes of memory.
 #[derive(Drop)]

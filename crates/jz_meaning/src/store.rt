@@ -9,7 +9,7 @@ ghost use Rattle.std.specs.Str.{bytes_eq};
 
 use crate::value::Value;
 use indexmap::IndexMap;
-use jz_data::Text;
+use jz_tree::Text;
 use std::alloc::{AllocError, Global};
 
 /// A variable of a name, or one cell of it where it is an array.

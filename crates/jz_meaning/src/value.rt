@@ -5,9 +5,9 @@ ghost use Rattle.jz_meaning.specs.Attempts as part;
 ghost use Rattle.jz_meaning.specs.Attempts.{seen, numbers_first};
 ghost use Rattle.jz_meaning.specs.States.{as_value};
 
-use jz_data::Failure;
-use jz_io::Span;
-use jz_words::Word;
+use jz_tree::Failure;
+use jz_tree::Span;
+use x64_insn::Word;
 
 /// What an expression is.
 #[derive(Clone, Copy, PartialEq, Eq)]
@@ -43,7 +43,7 @@ pub struct Stuck {
 
 impl From<Stuck> for Failure<Stuck> {
     ghost use Rattle.std.specs.Prelude.{◌≡◌};
-    ghost use Rattle.jz_data.specs.declared.failure.Failure.TheVariants.{Refused};
+    ghost use Rattle.jz_tree.specs.Failure.TheVariants.{Refused};
 
     ghost from_gives = { λ stuck failure. failure ≡ Refused stuck };
 

@@ -1,7 +1,7 @@
 -- The readers of declarations, parameters and results read their grammar.
 use Rattle.std.proofs.Common.{◌≡◌, ℕ, List, [], ◌∷◌, ◌++◌, Option, None, true, Ok, Err, inr, refl, codes}
-use Rattle.jz_io.specs.declared.span.Span.{Span}
-use Rattle.jz_lex.specs.declared.token.Token.{Token}
+use Rattle.jz_tree.specs.Span.{Span}
+use Rattle.jz_grammar.specs.Token.{Token}
 use Rattle.jz_grammar.specs.Kinds.{Kind, word, sign, span_of, is_in}
 use Rattle.jz_grammar.specs.Reading.{Answer, Reader, ◌>>=◌, through, follow, many}
 use Rattle.jz_grammar.specs.Grammar.{Lang, ◌▸◌, ◌⊕◌, ◌⇒◌, each, opens, maybe}

@@ -1,10 +1,10 @@
 -- The end of a text stands in no constant and in no function.
 use Rattle.std.proofs.Common.{◌≡◌, ⊎_elim, ℕ, zero, suc, List, [], ◌∷◌, ◌++◌, true, false, refl, sym, subst, codes}
-use Rattle.jz_lex.specs.declared.token.Token.{Token}
+use Rattle.jz_grammar.specs.Token.{Token}
 use Rattle.jz_grammar.specs.Kinds.{Kind, identifier, word, number, cast, string, sign, end, span_of, disjoint, is_in}
 use Rattle.jz_grammar.specs.Grammar.{Marked, Lang, token, ◌▸◌, ◌⊕◌, ◌⇒◌, never, then_by, opens, each, maybe}
 use Rattle.jz_grammar.proofs.Basics.{in_apart}
-use Rattle.jz_io.specs.declared.span.Span.{Span}
+use Rattle.jz_tree.specs.Span.{Span}
 use Rattle.jz_grammar.specs.Tokens.{name_of, number_of_token, cast_of, string_of, word_types, size_of_token}
 use Rattle.jz_tree.specs.declared.expr.Expr.{Expr}
 use Rattle.jz_parse_expr.specs.Operators.{ops_of, op_of, level_count}

@@ -1,6 +1,6 @@
 -- The readers of functions and programs read their grammar.
 use Rattle.std.proofs.Common.{ℕ, List, [], ◌∷◌, ◌++◌, Option, None, true, inr, refl, codes}
-use Rattle.jz_io.specs.declared.span.Span.{Span}
+use Rattle.jz_tree.specs.Span.{Span}
 use Rattle.jz_grammar.specs.Kinds.{Kind, word, sign, end, span_of}
 use Rattle.jz_grammar.specs.Grammar.{Lang, token, ◌▸◌, ◌⇒◌, each, opens, maybe}
 use Rattle.jz_grammar.specs.Laws.{IsReader, HasPhrase, Shape, full, plus}

@@ -1,8 +1,8 @@
 -- Where an end stands last, a fault is at a token.
 use Rattle.std.proofs.Common.{◌≡◌, ℕ, ◌<◌, List, [], ◌∷◌, ◌++◌, length, true, false, Ok, refl, sym, ap, subst, ◌∙◌, arith, append-nil, length-append}
-use Rattle.jz_lex.proofs.LexingWords.{true_false}
-use Rattle.jz_lex.specs.declared.token.Token.{Token}
-use Rattle.jz_lex.specs.declared.token.TokenKind.TheVariants.{End}
+use Rattle.jz_grammar.proofs.LexingWords.{true_false}
+use Rattle.jz_grammar.specs.Token.{Token}
+use Rattle.jz_grammar.specs.TokenKind.TheVariants.{End}
 use Rattle.jz_grammar.specs.Kinds.{token_kind, end, member, is_in}
 use Rattle.jz_grammar.specs.Grammar.{Marked, plain, Within}
 use Rattle.jz_grammar.specs.Laws.{Derives, plus}

@@ -1,7 +1,7 @@
 -- The readers of annotations read their grammar.
 use Rattle.std.proofs.Common.{◌≡◌, ℕ, ◌<◌, List, [], ◌∷◌, ◌++◌, length, true, false, Ok, Err, refl, sym, ap, ◌∙◌, append-nil, append_assoc, codes}
-use Rattle.jz_io.specs.declared.span.Span.{Span}
-use Rattle.jz_lex.specs.declared.token.Token.{Token}
+use Rattle.jz_tree.specs.Span.{Span}
+use Rattle.jz_grammar.specs.Token.{Token}
 use Rattle.jz_grammar.specs.Causes.{Cause}
 use Rattle.jz_grammar.specs.Kinds.{Kind, identifier, number, string, sign, span_of, has}
 use Rattle.jz_grammar.specs.Reading.{Answer, ◌>>=◌, through, many}

@@ -1,7 +1,7 @@
 -- The program that a list of tokens derives, and the first wrong token where it derives none.
 use Rattle.std.specs.Prelude.{◌≡◌, ◌-◌, ℕ, List, [], ◌∷◌, ◌++◌, length}
-use Rattle.jz_io.specs.declared.span.Span.{Span}
-use Rattle.jz_lex.specs.declared.token.Token.{Token}
+use Rattle.jz_tree.specs.Span.{Span}
+use Rattle.jz_grammar.specs.Token.{Token}
 use Rattle.jz_grammar.specs.Laws.{Derives, BeginsWithin, IsRefused}
 use Rattle.jz_tree.specs.declared.program.Program.{Program}
 use Rattle.jz_grammar.specs.declared.fault.SyntaxKind.{SyntaxKind}

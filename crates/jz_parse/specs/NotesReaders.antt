@@ -1,6 +1,6 @@
 -- How annotations are read. d is how much may still be nested.
 use Rattle.std.specs.Prelude.{ℕ, List, [], ◌∷◌, ◌++◌, codes}
-use Rattle.jz_io.specs.declared.span.Span.{Span}
+use Rattle.jz_tree.specs.Span.{Span}
 use Rattle.jz_grammar.specs.Kinds.{Kind, identifier, number, string, sign, span_of}
 use Rattle.jz_grammar.specs.Reading.{Reader, ◌>>=◌, through, follow, depend, pick, many, leaf, inside, optional, more_of}
 use Rattle.jz_tree.specs.declared.program.Note.{Note}

@@ -1,6 +1,6 @@
 -- Annotations: the notes that a list of tokens stands for. d is how much may still be nested.
 use Rattle.std.specs.Prelude.{ℕ, List, [], ◌∷◌, Option, Some, None, codes, flat_map}
-use Rattle.jz_io.specs.declared.span.Span.{Span}
+use Rattle.jz_tree.specs.Span.{Span}
 use Rattle.jz_grammar.specs.Kinds.{identifier, number, string, sign, span_of}
 use Rattle.jz_grammar.specs.Grammar.{Lang, token, ◌▸◌, ◌⊕◌, ◌⇒◌, then_by, each, opens, maybe}
 use Rattle.jz_tree.specs.declared.program.Note.{Note}

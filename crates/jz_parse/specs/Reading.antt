@@ -1,8 +1,8 @@
 -- The program that a text reads as, and why it reads as none.
 use Rattle.std.specs.Prelude.{ℕ, List}
-use Rattle.jz_lex.specs.declared.token.Token.{Token}
-use Rattle.jz_lex.specs.declared.token.LexFault.{LexFault}
-use Rattle.jz_lex.specs.Lexing.{IsLexed, HasNoToken}
+use Rattle.jz_grammar.specs.Token.{Token}
+use Rattle.jz_grammar.specs.LexFault.{LexFault}
+use Rattle.jz_grammar.specs.Lexing.{IsLexed, HasNoToken}
 use Rattle.jz_grammar.specs.declared.fault.SyntaxFault.{SyntaxFault}
 use Rattle.jz_tree.specs.declared.program.Program.{Program}
 use Rattle.jz_parse.specs.Deriving.{DerivesProgram, IsSyntaxFault}

@@ -1,7 +1,7 @@
 -- How statements are read: each choice by the next token, that between a call and another form by
 -- the next two.
 use Rattle.std.specs.Prelude.{ℕ, zero, suc, List, [], ◌∷◌, Bool, true, false, Option, Some, None, Ok, Err, codes}
-use Rattle.jz_io.specs.declared.span.Span.{Span}
+use Rattle.jz_tree.specs.Span.{Span}
 use Rattle.jz_grammar.specs.Causes.{Unexpected}
 use Rattle.jz_grammar.specs.Kinds.{Kind, sign, word, identifier}
 use Rattle.jz_grammar.specs.Reading.{Reader, ◌>>=◌, through, follow, pick, pick_both, many, leaf, inside, optional, more_of}

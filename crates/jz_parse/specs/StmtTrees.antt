@@ -1,7 +1,7 @@
 -- The tree of a statement, from its parts.
 use Rattle.std.specs.Prelude.{ℕ, List, [], ◌∷◌, ◌++◌, Bool, Option, Some, None, codes, bytes_eq, if◌then◌else◌}
-use Rattle.jz_io.specs.declared.span.Span.{Span}
-use Rattle.jz_lex.specs.declared.token.Token.{Token}
+use Rattle.jz_tree.specs.Span.{Span}
+use Rattle.jz_grammar.specs.Token.{Token}
 use Rattle.jz_grammar.specs.Kinds.{Kind, sign}
 use Rattle.jz_grammar.specs.Tokens.{text_in}
 use Rattle.jz_tree.specs.declared.expr.Expr.{Expr}

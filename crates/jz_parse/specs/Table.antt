@@ -1,7 +1,7 @@
 -- The grammar of statements, line by line. At d tokens may still be nested; low has the phrases
 -- that stand nested.
 use Rattle.std.specs.Prelude.{ℕ, zero, suc, List, [], ◌∷◌, Bool, true, false, Option, Some, None, codes}
-use Rattle.jz_io.specs.declared.span.Span.{Span}
+use Rattle.jz_tree.specs.Span.{Span}
 use Rattle.jz_grammar.specs.Kinds.{sign, word}
 use Rattle.jz_grammar.specs.Grammar.{Lang, token, ◌▸◌, ◌⊕◌, ◌⇒◌, never, opens, each, maybe}
 use Rattle.jz_tree.specs.declared.expr.Expr.{Expr}

@@ -1,7 +1,7 @@
 -- The tree of a phrase, from its parts.
 use Rattle.std.specs.Prelude.{ℕ, List, [], Option, Some, None, flat_map, filter_map, map}
-use Rattle.jz_io.specs.declared.span.Span.{Span}
-use Rattle.jz_words.specs.declared.size.Size.{Size}
+use Rattle.jz_tree.specs.Span.{Span}
+use Rattle.jz_tree.specs.Size.{Size}
 use Rattle.jz_tree.specs.declared.expr.Decl.{Decl}
 use Rattle.jz_tree.specs.declared.expr.Expr.{Expr}
 use Rattle.jz_tree.specs.declared.expr.Expr.TheViews.{roll-Var, roll-Decl}

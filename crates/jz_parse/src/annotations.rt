@@ -4,8 +4,8 @@ ghost use Rattle.jz_grammar.specs.Gave.{Gave};
 ghost use Rattle.jz_parse.specs.NotesReaders.{note_value, equal_value, entry, next_entry, entries_more, entry_list, notes_bracketed, entries, annotation, notes};
 
 use jz_grammar::{Cursor, Stop};
-use jz_data::Seq;
-use jz_io::Span;
+use jz_tree::Seq;
+use jz_tree::Span;
 use jz_tree::{Note, NoteValue};
 use std::alloc::Global;
 

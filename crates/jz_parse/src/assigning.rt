@@ -8,9 +8,9 @@ ghost use Rattle.jz_parse.specs.StmtTrees.{sum_assignments, quotient_assignments
 ghost use Rattle.jz_parse.specs.StmtReaders.{next_arg, args_more, args, call_args, intrinsic, call_value, rhs, left_side_named, lval, next_lval, lvals_more, condition, assign, call, simple};
 
 use jz_grammar::{Cursor, Stop, UNEXPECTED, has_text, is_sign};
-use jz_data::{Boxed, Seq};
-use jz_io::Span;
-use jz_lex::Token;
+use jz_tree::{Boxed, Seq};
+use jz_tree::Span;
+use jz_grammar::Token;
 use jz_parse_expr::{access, begins_expr, expr, index};
 use jz_tree::{BinOp, Expr, Lval, Rhs, StmtKind, Var};
 use std::alloc::Global;

@@ -7,7 +7,7 @@ ghost use Rattle.jz_parse.specs.Readers.{item, item_starts, items_more, variable
 
 use crate::declare::{begins_storage, decl, params, results};
 use jz_grammar::{Cursor, Stop};
-use jz_data::Seq;
+use jz_tree::Seq;
 use crate::{begins_stmt, notes, stmt};
 use jz_tree::{Fun, FunKind, Stmt, Var};
 use std::alloc::Global;

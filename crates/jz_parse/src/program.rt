@@ -7,7 +7,7 @@ ghost use Rattle.jz_parse.specs.Readers.{constant, part, part_starts, parts_more
 
 use crate::function::function;
 use jz_grammar::{Cursor, Stop};
-use jz_data::Seq;
+use jz_tree::Seq;
 use jz_parse_expr::expr;
 use jz_tree::{Const, Fun, Program};
 use std::alloc::Global;

@@ -1,10 +1,10 @@
 //! The program that a list of tokens derives, or the first token that is wrong.
 
 ghost use Rattle.std.specs.Prelude.{◌≡◌, ◌<◌, ℕ, [], ◌∷◌, ◌++◌, List, IfOk, IfErr, length};
-ghost use Rattle.jz_data.specs.Failures.{IfRefused};
-ghost use Rattle.jz_data.specs.Laws.{AtMostOne, NeverBoth};
-ghost use Rattle.jz_lex.specs.declared.token.Token.{Token};
-ghost use Rattle.jz_lex.specs.declared.token.TokenKind.TheVariants.{End};
+ghost use Rattle.jz_tree.specs.Failures.{IfRefused};
+ghost use Rattle.jz_tree.specs.Laws.{AtMostOne, NeverBoth};
+ghost use Rattle.jz_grammar.specs.Token.{Token};
+ghost use Rattle.jz_grammar.specs.TokenKind.TheVariants.{End};
 ghost use Rattle.jz_grammar.specs.Reading.{final};
 ghost use Rattle.jz_grammar.specs.Gave.{numbered_answer, IsNumbered};
 ghost use Rattle.jz_parse.specs.Readers.{program};
@@ -13,8 +13,8 @@ ghost use Rattle.jz_parse.specs.Reading.{Reads};
 
 use crate::program::program;
 use jz_grammar::{Cursor, SyntaxFault, SyntaxKind, fault_at};
-use jz_data::Failure;
-use jz_lex::Tokens;
+use jz_tree::Failure;
+use jz_grammar::Tokens;
 use jz_tree::Program;
 use std::alloc::Global;
 

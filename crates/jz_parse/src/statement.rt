@@ -8,8 +8,8 @@ ghost use Rattle.jz_parse.specs.StmtReaders.{simple_starts, form_starts, stmt_st
 use crate::annotations::notes;
 use crate::assigning::simple;
 use jz_grammar::{Cursor, Stop};
-use jz_data::Seq;
-use jz_io::Span;
+use jz_tree::Seq;
+use jz_tree::Span;
 use jz_parse_expr::expr;
 use jz_tree::{Expr, Stmt, StmtKind, Var};
 use std::alloc::Global;

@@ -1,7 +1,7 @@
 -- A level, operator by operator.
 use Rattle.std.proofs.Common.{◌≡◌, ℕ, zero, suc, ◌-◌, ◌<◌, ◌≤◌, List, [], ◌∷◌, ◌++◌, length, true, false, Ok, Err, refl, sym, ap, ◌∙◌, arith, ◌||◌, codes}
-use Rattle.jz_io.specs.declared.span.Span.{Span}
-use Rattle.jz_lex.specs.declared.token.Token.{Token}
+use Rattle.jz_tree.specs.Span.{Span}
+use Rattle.jz_grammar.specs.Token.{Token}
 use Rattle.jz_grammar.specs.Causes.{Cause}
 use Rattle.jz_grammar.specs.Kinds.{Kind, number, identifier, word, token_kind, is_in, has}
 use Rattle.jz_grammar.specs.Reading.{Answer, Reader, ◌>>=◌, through, many, leaf}

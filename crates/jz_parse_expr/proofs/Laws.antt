@@ -1,8 +1,8 @@
 -- What is read of an expression is the grammar's.
 use Rattle.std.proofs.Common.{◌≡◌, inr, ℕ, zero, suc, List, [], ◌∷◌, ◌++◌, true, false, Option, None, refl, ap, ◌∙◌, subst, codes}
-use Rattle.jz_io.specs.declared.span.Span.{Span}
-use Rattle.jz_words.specs.declared.size.Size.{Size}
-use Rattle.jz_lex.specs.declared.token.Token.{Token}
+use Rattle.jz_tree.specs.Span.{Span}
+use Rattle.jz_tree.specs.Size.{Size}
+use Rattle.jz_grammar.specs.Token.{Token}
 use Rattle.jz_grammar.specs.Kinds.{Kind, word, sign, identifier, number}
 use Rattle.jz_grammar.specs.Reading.{Reader, through, follow, pick, optional}
 use Rattle.jz_grammar.specs.Grammar.{Marked, Lang, token, ◌▸◌, ◌⊕◌, ◌⇒◌, opens, maybe}

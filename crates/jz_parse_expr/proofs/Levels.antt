@@ -1,6 +1,6 @@
 -- What is read of a level of operators is the grammar's.
 use Rattle.std.proofs.Common.{◌≡◌, inl, ℕ, zero, suc, ◌≤◌, List, [], ◌∷◌, ◌++◌, true, false, refl, sym, subst, arith, codes}
-use Rattle.jz_lex.specs.declared.token.Token.{Token}
+use Rattle.jz_grammar.specs.Token.{Token}
 use Rattle.jz_grammar.specs.Kinds.{Kind, word, sign, span_of, disjoint, is_in, has}
 use Rattle.jz_grammar.specs.Grammar.{Marked, token, ◌▸◌, ◌⇒◌}
 use Rattle.jz_grammar.specs.Laws.{Shape, First, IsReader, HasPhrase, plus, full, one_shape, many_shape, both}

@@ -1,6 +1,6 @@
 -- The levels of operators.
 use Rattle.std.proofs.Common.{◌≡◌, ℕ, zero, suc, [], ◌∷◌, refl, codes}
-use Rattle.jz_lex.specs.declared.token.Token.{Token}
+use Rattle.jz_grammar.specs.Token.{Token}
 use Rattle.jz_grammar.specs.Kinds.{sign, is_in}
 use Rattle.jz_parse_expr.specs.Operators.{ops_of}
 

@@ -1,6 +1,6 @@
 -- The operators of two operands.
 use Rattle.std.specs.Prelude.{ℕ, zero, suc, List, [], ◌∷◌, ◌++◌, codes, bytes_eq, if◌then◌else◌}
-use Rattle.jz_lex.specs.declared.token.Token.{Token}
+use Rattle.jz_grammar.specs.Token.{Token}
 use Rattle.jz_grammar.specs.Kinds.{Kind, sign}
 use Rattle.jz_grammar.specs.Tokens.{text_in}
 use Rattle.jz_tree.specs.declared.expr.BinOp.{BinOp}

@@ -1,7 +1,7 @@
 -- How expressions are read: each choice by the next token.
 use Rattle.std.specs.Prelude.{ℕ, zero, suc, List, [], ◌∷◌, true, false, Option, Some, Err, codes}
-use Rattle.jz_io.specs.declared.span.Span.{Span}
-use Rattle.jz_words.specs.declared.size.Size.{Size}
+use Rattle.jz_tree.specs.Span.{Span}
+use Rattle.jz_tree.specs.Size.{Size}
 use Rattle.jz_grammar.specs.Causes.{Unexpected}
 use Rattle.jz_grammar.specs.Kinds.{Kind, word, sign, identifier, number, cast, span_of}
 use Rattle.jz_grammar.specs.Reading.{Reader, through, follow, pick, many, leaf, inside, optional}

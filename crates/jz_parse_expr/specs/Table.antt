@@ -1,8 +1,8 @@
 -- The grammar of expressions, line by line. At d tokens may still be nested; low has the phrases
 -- that stand nested.
 use Rattle.std.specs.Prelude.{ℕ, zero, suc, List, [], ◌∷◌, true, false, Option, Some, codes}
-use Rattle.jz_io.specs.declared.span.Span.{Span}
-use Rattle.jz_words.specs.declared.size.Size.{Size}
+use Rattle.jz_tree.specs.Span.{Span}
+use Rattle.jz_tree.specs.Size.{Size}
 use Rattle.jz_grammar.specs.Kinds.{word, sign, identifier, number, cast, span_of}
 use Rattle.jz_grammar.specs.Grammar.{Lang, token, ◌▸◌, ◌⊕◌, ◌⇒◌, never, opens, each, maybe}
 use Rattle.jz_grammar.specs.Tokens.{name_of, number_of_token, cast_of, word_types, size_of_token}

@@ -1,8 +1,8 @@
 -- The tree of a phrase, from its parts. An expression has the span of its first token beside it:
 -- its own span, but that parentheses round the whole of it count.
 use Rattle.std.specs.Prelude.{ℕ, ℤ, List, [], ◌∷◌, Bool, false, Option, Some, None}
-use Rattle.jz_io.specs.declared.span.Span.{Span}
-use Rattle.jz_words.specs.declared.size.Size.{Size}
+use Rattle.jz_tree.specs.Span.{Span}
+use Rattle.jz_tree.specs.Size.{Size}
 use Rattle.jz_tree.specs.declared.expr.Expr.{Expr}
 use Rattle.jz_tree.specs.declared.expr.Expr.TheVariants as e
 use Rattle.jz_tree.specs.declared.expr.Var.{Var}

@@ -4,8 +4,8 @@ use Rattle.std.specs.Prelude.{Option, Some, None, map, slice_index, slice_index_
 use Rattle.std.specs.FinMap as map_of
 use Rattle.std.proofs.lemmas.List.{get_or-set_other, get_or-set_same}
 use Rattle.std.proofs.lemmas.List.Elements.{All-nil}
-use Rattle.jz_words.specs.declared.size.Size.TheVariants.{S64}
-use Rattle.jz_words.specs.Memory.{Memory, loaded}
+use Rattle.x64_insn.specs.Size.TheVariants.{S64}
+use Rattle.x64_insn.specs.Memory.{Memory, loaded}
 use Rattle.x64_insn.specs.declared.types.Reg.{Reg}
 use Rattle.x64_insn.specs.declared.types.Reg.TheVariants as reg
 use Rattle.x64_insn.specs.declared.types.Insn.{Insn}
@@ -15,8 +15,8 @@ use Rattle.x64_insn.specs.Rows.{reg_value, reg_word}
 use Rattle.jz_first.specs.declared.tree.Program.{Program}
 use Rattle.jz_first.specs.declared.tree.Fun.{Fun}
 use Rattle.jz_first.specs.declared.tree.Stmt.{Stmt}
-use Rattle.jz_leak.specs.declared.event.Event.TheVariants as event
-use Rattle.jz_leak.specs.Applying.{apply_of}
+use Rattle.jz_runs.specs.Event.TheVariants as event
+use Rattle.jz_runs.specs.Applying.{apply_of}
 use Rattle.jz_first_meaning.proofs.SomeLabels.{constant_time}
 use Rattle.jz_runs.specs.Rules.{stuck, went}
 use Rattle.jz_first_meaning.specs.SourceStates.{State, Value, empty_store}

@@ -2,8 +2,8 @@
 use Rattle.std.proofs.Common.{◌≡◌, ℕ, ◌<◌, ◌≤◌, ◌⊎◌, inl, inr, ℤ, List, [], ◌∷◌, ◌++◌, refl, sym, ap, ◌∙◌, subst, arith}
 use Rattle.std.specs.Prelude.{Bool, true, false, All, Contains}
 use Rattle.std.proofs.lemmas.List.Elements.{All-nil, All-cons, All-head, All-tail, All-contains, Contains-append_left, Contains-append_right, Contains-push}
-use Rattle.jz_words.specs.declared.size.Size.TheVariants.{S64}
-use Rattle.jz_words.specs.Readings.{reading_of, fits_bytes}
+use Rattle.x64_insn.specs.Size.TheVariants.{S64}
+use Rattle.x64_insn.specs.Readings.{reading_of, fits_bytes}
 use Rattle.jz_io.specs.declared.span.Span.{Span}
 use Rattle.jz_first.specs.declared.tree.Fun.{Fun}
 use Rattle.jz_pipeline.specs.declared.limits.Limit.{Limit}

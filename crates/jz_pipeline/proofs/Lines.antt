@@ -6,9 +6,9 @@ use Rattle.std.proofs.lemmas.Bool.{cond_both, ltb-true, ltb-false}
 use Rattle.std.proofs.lemmas.Bool.Decides.{nat_tests}
 use Rattle.std.proofs.lemmas.Int.{ints}
 use Rattle.std.proofs.lemmas.List.{get_or-set_other}
-use Rattle.jz_words.specs.declared.size.Size.TheVariants.{S64}
-use Rattle.jz_words.specs.Sizes.{signed}
-use Rattle.jz_words.specs.Words.{residue}
+use Rattle.x64_insn.specs.Size.TheVariants.{S64}
+use Rattle.x64_insn.specs.Sizes.{signed}
+use Rattle.x64_insn.specs.Words.{residue}
 use Rattle.x64_insn.specs.declared.types.Reg.{Reg}
 use Rattle.x64_insn.specs.declared.types.Reg.TheVariants as reg
 use Rattle.x64_insn.specs.declared.types.Insn.{Insn}
@@ -42,7 +42,7 @@ use Rattle.jz_correct.proofs.PlainCode.{Plain, alu_reg, alu_imm, mov_reg, mov_im
 use Rattle.jz_lower.specs.Lowering.{alu_of, operand_of, assignment_insn, kind_insns, insns_of}
 use Rattle.jz_lower.specs.Straight.{IsWord, AreWords, GiveWords, FitsImmediate, KindFits, FitImmediates}
 use Rattle.jz_lower.specs.Placing.{is_given, variable_of, StandIn}
-use Rattle.jz_words.proofs.Residues.{residue_small}
+use Rattle.x64_insn.proofs.Residues.{residue_small}
 use Rattle.jz_lower.proofs.Simulation.{after_both}
 use Rattle.jz_pipeline.specs.Compiling.{lines_of}
 

@@ -21,7 +21,7 @@ use Rattle.jz_first.specs.declared.tree.Stmt.{Stmt}
 use Rattle.jz_first.specs.declared.tree.StmtKind.{StmtKind}
 use Rattle.jz_first.specs.declared.tree.StmtKind.TheVariants as kind
 use Rattle.jz_first.specs.Variables.{variables_of}
-use Rattle.jz_data.proofs.Lists.{All-front, All-back}
+use Rattle.jz_first.proofs.DataLists.{All-front, All-back}
 use Rattle.jz_first.specs.TypedPrograms.{HasDeclaration}
 use Rattle.jz_first.specs.Uses.{left_side_uses, right_side_uses, kind_uses, body_uses, uses_of}
 use Rattle.jz_safety.specs.Alarms.{HasNoAlarm}

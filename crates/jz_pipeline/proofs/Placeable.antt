@@ -4,7 +4,7 @@ use Rattle.std.specs.Prelude.{Some, None, map}
 use Rattle.std.specs.List.{All, AllPairs, Contains, filter_map, cons_option}
 use Rattle.std.proofs.lemmas.List.{length-append, length-map}
 use Rattle.std.proofs.lemmas.List.Elements.{All-head, All-tail, All-append, All-map, All-weaker, All-contains}
-use Rattle.jz_data.proofs.Lists.{All-front, All-back}
+use Rattle.jz_first.proofs.DataLists.{All-front, All-back}
 use Rattle.jz_first.specs.declared.tree.Program.{Program}
 use Rattle.jz_first.specs.declared.tree.Fun.{Fun}
 use Rattle.jz_first.specs.declared.tree.Param.{Param}
@@ -17,7 +17,7 @@ use Rattle.jz_first.specs.declared.tree.StmtKind.{StmtKind}
 use Rattle.jz_first.specs.declared.tree.StmtKind.TheVariants as kind
 use Rattle.jz_first.specs.Variables.{variables_of}
 use Rattle.jz_first.specs.Assignments.{AssignsToOne}
-use Rattle.jz_data.proofs.Lists.{All-front, All-back}
+use Rattle.jz_first.proofs.DataLists.{All-front, All-back}
 use Rattle.jz_first.specs.Trees.{register_word}
 use Rattle.jz_first.specs.Derived.{DeclaresWords}
 use Rattle.jz_first.specs.TypedPrograms.{HaveDifferentNames, HasDeclaration, HaveDeclarations, HasCounts, HaveCounts}

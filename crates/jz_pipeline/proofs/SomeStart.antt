@@ -6,8 +6,8 @@ use Rattle.std.specs.Cmp.{nat_cmp_total}
 use Rattle.std.specs.FinMap as map_of
 use Rattle.std.proofs.lemmas.Bool.Decides.{nat_tests}
 use Rattle.std.proofs.lemmas.List.Elements.{All-nil}
-use Rattle.jz_words.specs.declared.size.Size.TheVariants.{S64}
-use Rattle.jz_words.specs.Memory.{Memory}
+use Rattle.x64_insn.specs.Size.TheVariants.{S64}
+use Rattle.x64_insn.specs.Memory.{Memory}
 use Rattle.x64_insn.specs.declared.types.Reg.{Reg}
 use Rattle.x64_insn.specs.declared.types.Reg.TheVariants as reg
 use Rattle.x64_insn.specs.declared.types.FlagVal.TheVariants.{Undefined}
@@ -15,7 +15,7 @@ use Rattle.x64_insn.specs.declared.types.State.{State}
 use Rattle.x64_insn.specs.Rows.{reg_value, reg_word}
 use Rattle.jz_first.specs.declared.tree.Fun.{Fun}
 use Rattle.jz_first.specs.declared.tree.Var.{Var}
-use Rattle.jz_leak.specs.declared.transformer.Transformer.{Transformer}
+use Rattle.jz_runs.specs.Transformer.{Transformer}
 use Rattle.jz_listing.specs.declared.compiled.Arg.{Arg}
 use Rattle.jz_listing.specs.declared.compiled.Compiled.{Compiled}
 use Rattle.x64_machine.specs.MachineRuns.{start_of}

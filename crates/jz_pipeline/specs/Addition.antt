@@ -2,7 +2,7 @@
 -- or another. Its text stands in the next line, and its bytes are 4889f84801f0c3.
 -- export fn add(reg u64 x, reg u64 y) -> reg u64 { reg u64 r; r = x; r += y; return r; }
 use Rattle.std.specs.Prelude.{ℕ, List, [], ◌∷◌, codes, Some, None, pos}
-use Rattle.jz_words.specs.declared.size.Size.TheVariants.{S64}
+use Rattle.x64_insn.specs.Size.TheVariants.{S64}
 use Rattle.jz_io.specs.declared.span.Span.{Span}
 use Rattle.jz_io.specs.declared.verdict.Ct.TheVariants.{Yes}
 use Rattle.x64_insn.specs.declared.types.Reg.{Reg}
@@ -22,11 +22,11 @@ use Rattle.jz_first.specs.declared.tree.Rhs.{Rhs}
 use Rattle.jz_first.specs.declared.tree.Rhs.TheVariants as rhs
 use Rattle.jz_first.specs.declared.tree.Stmt.{Stmt}
 use Rattle.jz_first.specs.declared.tree.StmtKind.TheVariants.{Assign}
-use Rattle.jz_leak.specs.declared.transformer.Form.TheVariants.{Frame}
-use Rattle.jz_leak.specs.declared.transformer.Out.{Out}
-use Rattle.jz_leak.specs.declared.transformer.Out.TheVariants.{Addr}
-use Rattle.jz_leak.specs.declared.transformer.Case.TheVariants.{Op}
-use Rattle.jz_leak.specs.declared.transformer.Transformer.{Transformer}
+use Rattle.jz_runs.specs.Form.TheVariants.{Frame}
+use Rattle.jz_runs.specs.Out.{Out}
+use Rattle.jz_runs.specs.Out.TheVariants.{Addr}
+use Rattle.jz_runs.specs.Case.TheVariants.{Op}
+use Rattle.jz_runs.specs.Transformer.{Transformer}
 use Rattle.jz_listing.specs.declared.compiled.Arg.{Arg}
 use Rattle.jz_listing.specs.declared.compiled.Compiled.{Compiled}
 

@@ -1,6 +1,6 @@
 -- What a function becomes, by the registers of its variables.
 use Rattle.std.specs.Prelude.{ℕ, List, [], ◌∷◌, ◌++◌, length, map, pos}
-use Rattle.jz_words.specs.declared.size.Size.TheVariants.{S64}
+use Rattle.x64_insn.specs.Size.TheVariants.{S64}
 use Rattle.jz_io.specs.declared.verdict.Ct.TheVariants.{Yes}
 use Rattle.x64_insn.specs.declared.types.Reg.{Reg}
 use Rattle.x64_insn.specs.declared.types.Insn.{Insn}
@@ -8,11 +8,11 @@ use Rattle.x64_insn.specs.declared.types.Insn.TheVariants as insn
 use Rattle.jz_first.specs.declared.tree.Fun.{Fun}
 use Rattle.jz_first.specs.declared.tree.Var.{Var}
 use Rattle.jz_first.specs.declared.tree.Stmt.{Stmt}
-use Rattle.jz_leak.specs.declared.transformer.Form.TheVariants.{Frame}
-use Rattle.jz_leak.specs.declared.transformer.Out.TheVariants as out
-use Rattle.jz_leak.specs.declared.transformer.Case.{Case}
-use Rattle.jz_leak.specs.declared.transformer.Case.TheVariants.{Op}
-use Rattle.jz_leak.specs.declared.transformer.Transformer.{Transformer}
+use Rattle.jz_runs.specs.Form.TheVariants.{Frame}
+use Rattle.jz_runs.specs.Out.TheVariants as out
+use Rattle.jz_runs.specs.Case.{Case}
+use Rattle.jz_runs.specs.Case.TheVariants.{Op}
+use Rattle.jz_runs.specs.Transformer.{Transformer}
 use Rattle.jz_listing.specs.declared.compiled.Arg.{Arg}
 use Rattle.jz_listing.specs.declared.compiled.Compiled.{Compiled}
 use Rattle.jz_correct.specs.Registers.{argument_registers, result_registers}

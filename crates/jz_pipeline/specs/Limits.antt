@@ -3,8 +3,8 @@ use Rattle.std.specs.Prelude.{◌≡◌, true, ℕ, ◌<◌, ◌≤◌, ℤ, Lis
 use Rattle.std.specs.Prelude.{Option, Some, None, IfSome, IsSomeAnd, All, slice_get}
 use Rattle.std.specs.List.{filter_map}
 use Rattle.jz_io.specs.declared.span.Span.{Span}
-use Rattle.jz_words.specs.declared.size.Size.TheVariants.{S64}
-use Rattle.jz_words.specs.Readings.{reading_of, fits_bytes}
+use Rattle.x64_insn.specs.Size.TheVariants.{S64}
+use Rattle.x64_insn.specs.Readings.{reading_of, fits_bytes}
 use Rattle.jz_first.specs.declared.tree.Fun.{Fun}
 use Rattle.jz_first.specs.declared.tree.Expr.TheVariants as expr
 use Rattle.jz_first.specs.declared.tree.Rhs.{Rhs}

@@ -1,7 +1,7 @@
 //! From a function without an alarm to its bytes.
 
 ghost use Rattle.std.specs.Prelude.{◌≡◌, ◌<◌, ◌^◌, IfOk, IfErr, length};
-ghost use Rattle.jz_data.specs.Failures.{IfRefused};
+ghost use Rattle.jz_first.specs.Failures.{IfRefused};
 ghost use Rattle.jz_first.specs.Variables.{variables_of};
 ghost use Rattle.jz_lower.specs.Operations.{register_of};
 ghost use Rattle.jz_lower.specs.Straight.{FitImmediates};
@@ -13,7 +13,7 @@ use crate::refusing::refusal;
 use crate::signature::{arguments, results};
 use crate::unplaced::NoPlace;
 use jz_alloc::allocate;
-use jz_data::{Failure, Seq};
+use jz_first::{Failure, Seq};
 use jz_first::Fun;
 use jz_io::Ct;
 use jz_listing::Compiled;

@@ -1,12 +1,12 @@
 //! The expansion of a function.
 
 ghost use Rattle.std.specs.Prelude.{◌≡◌, ◌<◌, Some, IfOk, IfErr, length, slice_get};
-ghost use Rattle.jz_data.specs.Failures.{IfRefused};
+ghost use Rattle.jz_first.specs.Failures.{IfRefused};
 ghost use Rattle.jz_pipeline.specs.Limits.{count_of, IsWithinLimits, IsFirstLimitAt};
 
 use crate::copying::copy_fun;
 use crate::limits::{Limit, first_limit};
-use jz_data::Failure;
+use jz_first::Failure;
 use jz_first_meaning::Expanded;
 use jz_first::Typed;
 use std::alloc::Global;

@@ -1,7 +1,7 @@
 //! Stages that are done for each function of a text, one after another.
 
 ghost use Rattle.std.specs.Prelude.{◌≡◌, All, IfOk, IfErr};
-ghost use Rattle.jz_data.specs.Failures.{IfRefused};
+ghost use Rattle.jz_first.specs.Failures.{IfRefused};
 ghost use Rattle.jz_pipeline.specs.Limits.{count_of, IsWithinLimits};
 ghost use Rattle.jz_safety.specs.Alarms.{HasNoAlarm};
 ghost use Rattle.jz_pipeline.specs.Placed.{AreCompiled, IsPlaceable};
@@ -11,7 +11,7 @@ use crate::compiling::compile_fun;
 use crate::expanding::expand;
 use crate::limits::Limit;
 use crate::unplaced::NoPlace;
-use jz_data::{Failure, Seq};
+use jz_first::{Failure, Seq};
 use jz_first_meaning::Expanded;
 use jz_first::Typed;
 use jz_listing::Compiled;

@@ -1,7 +1,7 @@
 //! Why a function has a variable without a place.
 
 use jz_alloc::Needed;
-use jz_data::{Seq, Text};
+use jz_first::{Seq, Text};
 use jz_io::Span;
 use x64_insn::Place;
 

@@ -2,7 +2,7 @@
 -- as lengths, and in whose expressions each constant stands as its number; one that has none as a
 -- division by zero.
 use Rattle.std.specs.Prelude.{ℤ, pos, List, [], map, Option, Some, None, option_map}
-use Rattle.jz_io.specs.declared.span.Span.{Span}
+use Rattle.jz_tree.specs.Span.{Span}
 use Rattle.jz_tree.specs.declared.expr.Expr.{Expr}
 use Rattle.jz_tree.specs.declared.expr.Expr.TheVariants as expr
 use Rattle.jz_tree.specs.declared.expr.Ty.{Ty}

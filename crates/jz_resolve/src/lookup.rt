@@ -2,8 +2,8 @@
 ghost use Rattle.std.specs.Prelude.{◌≡◌, IfOk};
 ghost use Rattle.jz_resolve.specs.Resolving.{KnownNames};
 
-use jz_data::Text;
-use jz_io::Span;
+use jz_tree::Text;
+use jz_tree::Span;
 use jz_tree::Decl;
 use std::alloc::{AllocError, Global};
 

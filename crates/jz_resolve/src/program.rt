@@ -9,7 +9,7 @@ use crate::expressions::resolve_expr;
 use crate::scope::Scope;
 use crate::statements::{resolve_block, resolve_vars};
 use crate::table::{ConstantTable, constants};
-use jz_data::{Boxed, Seq};
+use jz_tree::{Boxed, Seq};
 use jz_type_names::span_of;
 use jz_tree::{Const, Decl, Expr, Fun, Param, Program, Ret, Stmt, Ty, Var};
 use std::alloc::{AllocError, Global};

@@ -5,9 +5,9 @@ ghost use Rattle.jz_resolve.specs.InnerTables.{declared_by, place_by, is_constan
 
 use crate::lookup::Lookup;
 use crate::table::ConstantTable;
-use jz_data::Text;
+use jz_tree::Text;
 use jz_integers::Numbers;
-use jz_io::Span;
+use jz_tree::Span;
 use jz_type_names::{Variables, above};
 use jz_tree::{Decl, Fun};
 use std::alloc::{AllocError, Global};

@@ -7,9 +7,9 @@ ghost use Rattle.jz_resolve.specs.Numbering.{value_with, with_value, no_values, 
 ghost use Rattle.jz_resolve.specs.Tables.{values_in, places_in, IsTable};
 ghost use Rattle.jz_resolve.specs.InnerTables.{with_number};
 
-use jz_data::{Seq, Text};
+use jz_tree::{Seq, Text};
 use jz_integers::{Constant, Numbers, inline_value};
-use jz_io::Span;
+use jz_tree::Span;
 use jz_type_names::{ByName, Places, above};
 use jz_tree::{Const, Decl, Expr, Storage, Ty};
 use std::alloc::{AllocError, Global};

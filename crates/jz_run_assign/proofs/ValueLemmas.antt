@@ -1,6 +1,6 @@
 -- A part behind two others: the second of them is stuck, or all have gone.
 use Rattle.std.proofs.Common.{◌≡◌, ℕ, List, [], sym, ap, ◌∙◌, append-nil}
-use Rattle.jz_runs.specs.Rules.{stuck, went}
+use Rattle.jz_meaning.specs.Rules.{stuck, went}
 use Rattle.jz_meaning.specs.declared.value.Stuck.{Stuck}
 use Rattle.jz_meaning.specs.Attempts.{Evaluation, numbers_first, and_then}
 use Rattle.jz_meaning.proofs.AttemptLemmas.{stuck_then, gone_then}

@@ -2,7 +2,7 @@
 use Rattle.std.proofs.Common.{◌≡◌, ◌≢◌, ℕ, ◌+◌, List, [], ◌∷◌, ◌++◌, Option, Some, None, ◌⊎◌, inl, inr, refl, ap, sym, ◌∙◌, map, length, append-nil, arith}
 use Rattle.std.specs.Prelude.{Result, Ok, Err, option_map}
 use Rattle.std.specs.Option.{option_or}
-use Rattle.jz_io.specs.declared.span.Span.{Span}
+use Rattle.jz_tree.specs.Span.{Span}
 use Rattle.jz_words.specs.declared.size.Size.{Size}
 use Rattle.jz_words.specs.declared.size.Size.TheVariants.{S64}
 use Rattle.jz_words.specs.Memory.{Memory}
@@ -12,7 +12,7 @@ use Rattle.jz_tree.specs.declared.expr.Var.{Var}
 use Rattle.jz_tree.specs.declared.expr.Expr.TheFolds.{fold-roll-Access}
 use Rattle.jz_tree.specs.declared.stmt.Lval.{Lval}
 use Rattle.jz_tree.specs.declared.stmt.Lval.TheVariants as lval
-use Rattle.jz_runs.specs.Rules.{stuck, went}
+use Rattle.jz_meaning.specs.Rules.{stuck, went}
 use Rattle.jz_meaning.specs.declared.value.Stuck.{Stuck}
 use Rattle.jz_meaning.specs.declared.value.Value as code
 use Rattle.jz_meaning.specs.declared.value.Why.TheVariants.{Init}

@@ -1,7 +1,7 @@
 -- What the code answers, without what it keeps of words.
 use Rattle.std.specs.Prelude.{◌≡◌, ℕ, List, [], ◌∷◌, map, Option, Some, option_map, Result, Ok, Err}
-use Rattle.jz_data.specs.declared.failure.Failure.{Failure}
-use Rattle.jz_data.specs.Failures.{IfAnswered}
+use Rattle.jz_tree.specs.Failure.{Failure}
+use Rattle.jz_tree.specs.Failures.{IfAnswered}
 use Rattle.jz_words.specs.declared.word.Word.{Word}
 use Rattle.jz_meaning.specs.declared.value.Stuck.{Stuck}
 use Rattle.jz_meaning.specs.declared.value.Value as code

@@ -1,10 +1,10 @@
 -- The parts of a call, as the code has them.
 use Rattle.std.specs.Prelude.{ℕ, [], Some}
-use Rattle.jz_io.specs.declared.span.Span.{Span}
+use Rattle.jz_tree.specs.Span.{Span}
 use Rattle.jz_tree.specs.declared.expr.Expr.{Expr}
 use Rattle.jz_tree.specs.declared.expr.Var.{Var}
 use Rattle.jz_tree.specs.declared.stmt.Lval.{Lval}
-use Rattle.jz_runs.specs.Rules.{went}
+use Rattle.jz_meaning.specs.Rules.{went}
 use Rattle.jz_meaning.specs.declared.access.Kind.{Kind}
 use Rattle.jz_meaning.specs.Assignments.{held, written}
 use Rattle.jz_meaning.specs.Attempts.{Evaluation, and_then}

@@ -1,10 +1,10 @@
 -- Operations with two results, as the code has them.
 use Rattle.std.specs.Prelude.{ℕ, false, Result, Ok, Err}
-use Rattle.jz_io.specs.declared.span.Span.{Span}
+use Rattle.jz_tree.specs.Span.{Span}
 use Rattle.jz_words.specs.declared.size.Size.{Size}
 use Rattle.jz_tree.specs.declared.expr.BinOp.{BinOp}
 use Rattle.jz_tree.specs.declared.expr.Expr.{Expr}
-use Rattle.jz_runs.specs.Rules.{stuck}
+use Rattle.jz_meaning.specs.Rules.{stuck}
 use Rattle.jz_meaning.specs.declared.value.Stuck.{Stuck}
 use Rattle.jz_meaning.specs.Attempts.{Evaluation, and_then}
 use Rattle.jz_meaning.specs.States.{State}

@@ -4,7 +4,7 @@ use Rattle.jz_words.specs.declared.size.Size.{Size}
 use Rattle.jz_tree.specs.declared.expr.Expr.{Expr}
 use Rattle.jz_tree.specs.declared.expr.Var.{Var}
 use Rattle.jz_tree.specs.declared.stmt.Lval.TheVariants as lval
-use Rattle.jz_runs.specs.Rules.{went}
+use Rattle.jz_meaning.specs.Rules.{went}
 use Rattle.jz_meaning.specs.Attempts.{Evaluation, and_then}
 use Rattle.jz_meaning.specs.States.{Value, State}
 use Rattle.jz_meaning.specs.Values.{size_of, ref_of, index_at, evaluated}

@@ -1,7 +1,7 @@
 //! Calls of inline functions. A call has fresh variables of its own; its array parameters are the caller's arrays.
 
 ghost use Rattle.std.specs.Prelude.{◌≡◌, OnOk};
-ghost use Rattle.jz_data.specs.Failures.{IfAnswered};
+ghost use Rattle.jz_tree.specs.Failures.{IfAnswered};
 ghost use Rattle.jz_meaning.specs.Attempts.{Changes, numbers_first};
 ghost use Rattle.jz_meaning.specs.Stores.{state_of, store_of};
 ghost use Rattle.jz_meaning.specs.Statements as statements;
@@ -10,8 +10,8 @@ ghost use Rattle.jz_run_assign.specs.Calls.{value_passed, argument_passed, enter
 
 use crate::arrays::{give_array_back, pass_array};
 use crate::{held, missing, set, write};
-use jz_data::{Failure, Seq};
-use jz_io::Span;
+use jz_tree::{Failure, Seq};
+use jz_tree::Span;
 use jz_meaning::{Kind, State, Store, Stuck, evaluate, kind_of, size_of, variable};
 use jz_tree::{Expr, Fun, Lval, Param, Var};
 use std::alloc::AllocError;

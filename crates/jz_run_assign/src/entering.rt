@@ -6,7 +6,7 @@ ghost use Rattle.jz_meaning.specs.Stores.{store_of};
 ghost use Rattle.jz_meaning.specs.Statements as statements;
 ghost use Rattle.jz_meaning.specs.Values.{cell_key, ref_of};
 
-use jz_data::Seq;
+use jz_tree::Seq;
 use jz_meaning::{Kind, Store, kind_of};
 use jz_tree::Var;
 use std::alloc::AllocError;

@@ -10,8 +10,8 @@ ghost use Rattle.jz_meaning.specs.declared.value.Why.TheVariants.{Init};
 ghost use Rattle.jz_run_assign.specs.Parts.{variable_written, cell_written};
 
 use crate::variables::set;
-use jz_data::{Failure, Seq};
-use jz_io::Span;
+use jz_tree::{Failure, Seq};
+use jz_tree::Span;
 use jz_meaning::{Kind, State, Store, Stuck, Value, Why, evaluate, index, kind_of, size_of, word_of};
 use jz_tree::{Lval, Var};
 use jz_words::Size;

@@ -9,8 +9,8 @@ ghost use Rattle.jz_meaning.specs.Values.{evaluated};
 ghost use Rattle.jz_run_assign.specs.Rights.{read_of, operand_of, right_side};
 
 use crate::right::{Operand, Place, Right, left_wanted, place_size, update_size};
-use jz_data::{Failure, Seq};
-use jz_io::Span;
+use jz_tree::{Failure, Seq};
+use jz_tree::Span;
 use jz_meaning::{
     State, Stuck, Value, binary, cell, evaluate, is_settled, load, own_size, right_wanted, variable,
 };

@@ -1,8 +1,8 @@
 -- Results that are known, and the left sides that get them.
 use Rattle.std.proofs.Common.{◌≡◌, ℕ, List, Option, ap, sym, ◌∙◌}
 use Rattle.std.specs.Prelude.{Result, Ok}
-use Rattle.jz_io.specs.declared.span.Span.{Span}
-use Rattle.jz_words.specs.declared.size.Size.{Size}
+use Rattle.jz_tree.specs.Span.{Span}
+use Rattle.x64_insn.specs.Size.{Size}
 use Rattle.jz_tree.specs.declared.stmt.Lval.{Lval}
 use Rattle.jz_meaning.specs.declared.value.Value as code
 use Rattle.jz_meaning.specs.declared.value.Stuck.{Stuck}

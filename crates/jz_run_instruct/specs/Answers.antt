@@ -1,9 +1,9 @@
 -- What the code answers, without what it keeps of words.
 use Rattle.std.specs.Prelude.{◌≡◌, ℕ, List, [], Result, Ok, Err}
-use Rattle.jz_data.specs.declared.failure.Failure.{Failure}
-use Rattle.jz_data.specs.Failures.{IfAnswered}
-use Rattle.jz_words.specs.declared.word.Word.{Word}
-use Rattle.jz_runs.specs.Rules.{went}
+use Rattle.jz_tree.specs.Failure.{Failure}
+use Rattle.jz_tree.specs.Failures.{IfAnswered}
+use Rattle.x64_insn.specs.Word.{Word}
+use Rattle.jz_meaning.specs.Rules.{went}
 use Rattle.jz_meaning.specs.declared.value.Stuck.{Stuck}
 use Rattle.jz_meaning.specs.Attempts.{Evaluation, and_then, did, numbers_first}
 

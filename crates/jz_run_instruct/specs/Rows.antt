@@ -1,9 +1,9 @@
 -- Instructions by what they take, and what those of one kind leave.
 use Rattle.std.specs.Prelude.{ℕ, false, List, []}
-use Rattle.jz_io.specs.declared.span.Span.{Span}
-use Rattle.jz_words.specs.declared.size.Size.{Size}
-use Rattle.jz_words.specs.declared.size.Size.TheVariants.{S64}
-use Rattle.jz_words.specs.Words.{swapped_of}
+use Rattle.jz_tree.specs.Span.{Span}
+use Rattle.x64_insn.specs.Size.{Size}
+use Rattle.x64_insn.specs.Size.TheVariants.{S64}
+use Rattle.x64_insn.specs.Words.{swapped_of}
 use Rattle.x64_insn.specs.declared.types.FlagVal.{FlagVal}
 use Rattle.x64_insn.specs.declared.types.Shift.{Shift}
 use Rattle.x64_insn.specs.declared.types.Shift.TheVariants as shift

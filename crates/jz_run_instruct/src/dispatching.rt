@@ -11,11 +11,11 @@ use crate::operands::{
 use crate::results::Results;
 use crate::rows::{OneWord, Row, TwoWords, row_of};
 use jz_run_assign::missing;
-use jz_data::{Failure, Seq};
-use jz_io::Span;
+use jz_tree::{Failure, Seq};
+use jz_tree::Span;
 use jz_meaning::{State, Stuck};
 use jz_tree::{Expr, Intrinsic};
-use jz_words::Size;
+use x64_insn::Size;
 use x64_insn::{Alu, Shift};
 
 fn of_one(

@@ -9,8 +9,8 @@ ghost use Rattle.jz_meaning.specs.Intrinsics as intrinsics;
 use crate::dispatching::results_of;
 use crate::sizes::intrinsic_size;
 use jz_run_assign::{missing, write_all};
-use jz_data::{Failure, Seq, Text};
-use jz_io::Span;
+use jz_tree::{Failure, Seq, Text};
+use jz_tree::Span;
 use jz_meaning::{State, Stuck};
 use jz_tree::{Expr, Instance, Lval, spelled};
 

@@ -1,8 +1,8 @@
 //! Operands, which are evaluated from left to right, and the results of them.
 
 ghost use Rattle.std.specs.Prelude.{◌≡◌, Bool, [], ◌∷◌, Some, IfOk};
-ghost use Rattle.jz_words.specs.declared.size.Size.TheVariants as size;
-ghost use Rattle.jz_runs.specs.Rules.{went};
+ghost use Rattle.x64_insn.specs.Size.TheVariants as size;
+ghost use Rattle.jz_meaning.specs.Rules.{went};
 ghost use Rattle.jz_meaning.specs.Attempts.{and_then};
 ghost use Rattle.jz_meaning.specs.Stores.{state_of};
 ghost use Rattle.jz_meaning.specs.Values.{evaluated};
@@ -16,11 +16,11 @@ use crate::results::Results;
 use crate::rows::{OneWord, TwoWords};
 use crate::words::{of_division, of_shift, of_sum, of_truth, of_word, of_words};
 use jz_run_assign::{truth_in, word_in};
-use jz_data::{Failure, Seq};
-use jz_io::Span;
+use jz_tree::{Failure, Seq};
+use jz_tree::Span;
 use jz_meaning::{State, Stuck, evaluate};
 use jz_tree::Expr;
-use jz_words::{Size, Word};
+use x64_insn::{Size, Word};
 use x64_insn::{Alu, Shift};
 
 /// The words of two operands.

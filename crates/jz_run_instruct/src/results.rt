@@ -1,16 +1,16 @@
 //! Lists of results: flags, and the values behind them.
 
 ghost use Rattle.std.specs.Prelude.{◌≡◌, ◌<◌, [], ◌∷◌, ◌++◌, Some, IfOk, OnOk, option_map};
-ghost use Rattle.jz_words.specs.Sizes.{modulus};
+ghost use Rattle.x64_insn.specs.Sizes.{modulus};
 ghost use Rattle.jz_meaning.specs.States.{as_value, word};
 ghost use Rattle.jz_meaning.specs.Intrinsics as intrinsics;
 ghost use Rattle.jz_run_assign.specs.Answers.{meant_results};
 ghost use Rattle.jz_run_instruct.specs.Rows.{flags_set_by};
 
 use crate::rows::Sets;
-use jz_data::Seq;
+use jz_tree::Seq;
 use jz_meaning::Value;
-use jz_words::{Size, Word};
+use x64_insn::{Size, Word};
 use std::alloc::{AllocError, Global};
 use x64_insn::{Answer, FlagVal};
 

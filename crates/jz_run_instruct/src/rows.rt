@@ -1,8 +1,8 @@
 //! Instructions by what they take.
 
 ghost use Rattle.std.specs.Prelude.{◌≡◌, List};
-ghost use Rattle.jz_io.specs.declared.span.Span.{Span};
-ghost use Rattle.jz_words.specs.declared.size.Size.{Size};
+ghost use Rattle.jz_tree.specs.Span.{Span};
+ghost use Rattle.x64_insn.specs.Size.{Size};
 ghost use Rattle.jz_tree.specs.declared.expr.Expr.{Expr};
 ghost use Rattle.jz_meaning.specs.States.{State};
 ghost use Rattle.jz_meaning.specs.Intrinsics as intrinsics;

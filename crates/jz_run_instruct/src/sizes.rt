@@ -4,10 +4,10 @@ ghost use Rattle.std.specs.Prelude.{◌≡◌};
 ghost use Rattle.jz_meaning.specs.Intrinsics as intrinsics;
 
 use jz_run_assign::left_sizes;
-use jz_data::Seq;
+use jz_tree::Seq;
 use jz_meaning::own_size;
 use jz_tree::{Expr, Instance, Intrinsic, Lval};
-use jz_words::Size;
+use x64_insn::Size;
 
 // The size of the first operand that has one.
 fn first_size(operands: &[Expr]) -> Option<Size>

@@ -1,8 +1,8 @@
 //! What instructions leave of words that are known.
 
 ghost use Rattle.std.specs.Prelude.{◌≡◌, ◌<◌, ℕ, false, List, [], ◌∷◌, ◌++◌, Some, IfOk, OnOk};
-ghost use Rattle.jz_words.specs.Words.{carried as carried_as};
-ghost use Rattle.jz_words.specs.declared.size.Size.TheVariants as size;
+ghost use Rattle.x64_insn.specs.Words.{carried as carried_as};
+ghost use Rattle.x64_insn.specs.Size.TheVariants as size;
 ghost use Rattle.x64_insn.specs.Answers.{alu_answer as alu_answered};
 ghost use Rattle.x64_insn.specs.Products.{no_flags};
 ghost use Rattle.x64_insn.specs.Shifts as shifts;
@@ -15,10 +15,10 @@ ghost use Rattle.jz_run_instruct.specs.Rows.{shift_flags, one_word_results, two_
 use crate::results::{Results, alone, before_both, before_value, flags_set};
 use crate::rows::{OneWord, Sets, TwoWords, set_by_shift};
 use jz_run_assign::missing;
-use jz_data::{Failure, Seq};
-use jz_io::Span;
+use jz_tree::{Failure, Seq};
+use jz_tree::Span;
 use jz_meaning::{Stuck, Value, Why};
-use jz_words::{Size, Word, rol, ror, sar, shl, shr, swap_bytes};
+use x64_insn::{Size, Word, rol, ror, sar, shl, shr, swap_bytes};
 use std::alloc::{AllocError, Global};
 use x64_insn::{
     Alu, Answer, FlagVal, Shift, alu_answer, low_product_answer, one_answer, product_answer,

@@ -1,15 +1,15 @@
 -- Results of operations are words of their size.
 use Rattle.std.proofs.Common.{◌≡◌, ℕ, ◌+◌, ◌-◌, ◌*◌, ◌/◌, ◌%◌, ◌^◌, ◌<◌, ◌≤◌, Bool, true, false, Some, None, refl, sym, subst, arith, bit_and, bit_or, bit_xor, if◌then◌else◌, lt_of_le_of_lt, div-le_self}
 use Rattle.std.proofs.lemmas.Nat.{mod_below, div_below, mul-lt, and_le_l, or_lt, xor_lt, div-add-mod'}
-use Rattle.jz_words.specs.declared.size.Size.{Size}
-use Rattle.jz_words.specs.declared.size.Size.TheVariants.{S8, S16, S32, S64}
-use Rattle.jz_words.specs.Sizes.{bits_of, modulus}
-use Rattle.jz_words.specs.Words.{carried, swapped_of}
-use Rattle.jz_words.proofs.Residues.{some_words}
+use Rattle.jz_tree.specs.Size.{Size}
+use Rattle.jz_tree.specs.Size.TheVariants.{S8, S16, S32, S64}
+use Rattle.jz_tree.specs.Sizes.{bits_of, modulus}
+use Rattle.jz_tree.specs.Words.{carried, swapped_of}
+use Rattle.jz_tree.proofs.Residues.{some_words}
 use Rattle.jz_meaning.specs.Operators.{same_size, word_of}
 use Rattle.jz_meaning.specs.States.{Value, word, boolean, integer}
 use Rattle.jz_meaning.proofs.Widths.{equal_sizes}
-use Rattle.jz_words.proofs.Residues.{residue_below}
+use Rattle.jz_tree.proofs.Residues.{residue_below}
 use Rattle.jz_run_laws.specs.Kinds.{FitsSize}
 use Rattle.jz_run_laws.proofs.Parts.{IfThere}
 

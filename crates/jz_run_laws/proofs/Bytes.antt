@@ -5,13 +5,13 @@ use Rattle.std.specs.Option.{option_and_then, option_or}
 use Rattle.std.specs.Ordering.{nat_cmp, eq_by_cmp}
 use Rattle.std.specs.Cmp.{nat_cmp_total}
 use Rattle.std.specs.FinMap.{get, insert, get-insert}
-use Rattle.jz_io.specs.declared.span.Span.{Span}
-use Rattle.jz_words.specs.declared.size.Size.{Size}
-use Rattle.jz_words.specs.declared.size.Size.TheVariants.{S8, S16, S32, S64}
-use Rattle.jz_words.specs.Sizes.{bytes_of}
-use Rattle.jz_words.specs.Memory.{Memory, loaded, all_valid, stored}
+use Rattle.jz_tree.specs.Span.{Span}
+use Rattle.jz_tree.specs.Size.{Size}
+use Rattle.jz_tree.specs.Size.TheVariants.{S8, S16, S32, S64}
+use Rattle.jz_tree.specs.Sizes.{bytes_of}
+use Rattle.jz_tree.specs.Memory.{Memory, loaded, all_valid, stored}
 use Rattle.jz_meaning.specs.declared.value.Why.TheVariants.{Align}
-use Rattle.jz_runs.specs.Rules.{went}
+use Rattle.jz_meaning.specs.Rules.{went}
 use Rattle.jz_meaning.specs.Attempts.{stuck_at}
 use Rattle.jz_meaning.specs.States.{Value, word}
 use Rattle.jz_meaning.specs.Operators.{word_at}

@@ -2,8 +2,8 @@
 use Rattle.std.proofs.Common.{◌≡◌, Bool, true, false, Option, Some, None, refl, sym, ap, ◌∙◌, if◌then◌else◌}
 use Rattle.std.specs.Prelude.{ℤ, pos}
 use Rattle.std.specs.Ordering.{int_eq}
-use Rattle.jz_io.specs.declared.span.Span.{Span}
-use Rattle.jz_words.specs.declared.size.Size.{Size}
+use Rattle.jz_tree.specs.Span.{Span}
+use Rattle.jz_tree.specs.Size.{Size}
 use Rattle.jz_tree.specs.declared.expr.BinOp.{BinOp}
 use Rattle.jz_tree.specs.declared.expr.BinOp.TheVariants as op
 use Rattle.jz_tree.specs.declared.expr.Storage.{Storage}

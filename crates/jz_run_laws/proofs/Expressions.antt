@@ -1,8 +1,8 @@
 -- The value of an expression fits its size, where the values of variables do and memory holds bytes.
 use Rattle.std.proofs.Common.{◌≡◌, ℕ, [], Option, Some, Bool, true, false, sym, subst, if◌then◌else◌}
-use Rattle.jz_io.specs.declared.span.Span.{Span}
-use Rattle.jz_words.specs.declared.size.Size.{Size}
-use Rattle.jz_words.specs.declared.size.Size.TheVariants.{S64}
+use Rattle.jz_tree.specs.Span.{Span}
+use Rattle.jz_tree.specs.Size.{Size}
+use Rattle.jz_tree.specs.Size.TheVariants.{S64}
 use Rattle.jz_tree.specs.declared.expr.BinOp.{BinOp}
 use Rattle.jz_tree.specs.declared.expr.Expr.{Expr}
 use Rattle.jz_tree.specs.declared.expr.Ty.{Ty}
@@ -13,7 +13,7 @@ use Rattle.jz_tree.specs.declared.expr.Expr.TheOpen.{Expr-F, Access-F}
 use Rattle.jz_tree.specs.declared.expr.Expr.TheViews.{roll-Expr, roll-Access}
 use Rattle.jz_tree.specs.declared.expr.Expr.TheFolds.{fold-Ty, fold-Decl, fold-roll-Expr, fold-roll-Access, ind-Expr, map-Expr, map-Access}
 use Rattle.jz_meaning.specs.declared.access.Kind.{Kind}
-use Rattle.jz_runs.specs.Rules.{went}
+use Rattle.jz_meaning.specs.Rules.{went}
 use Rattle.jz_meaning.specs.Attempts.{Evaluation, and_then, defined}
 use Rattle.jz_meaning.specs.States.{Value, Key, Store, State}
 use Rattle.jz_meaning.specs.Operators.{word_of, word_at, is_settled, binary, negated, inverted, cast}

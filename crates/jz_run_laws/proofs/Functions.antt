@@ -2,12 +2,12 @@
 use Rattle.std.proofs.Common.{ℕ, List, ◌∷◌, [], Some, All, sym, subst}
 use Rattle.std.specs.List.{AllZip}
 use Rattle.std.proofs.lemmas.List.Elements.{All-nil, All-cons, All-head, All-tail}
-use Rattle.jz_io.specs.declared.span.Span.{Span}
-use Rattle.jz_words.specs.Memory.{Memory}
+use Rattle.jz_tree.specs.Span.{Span}
+use Rattle.jz_tree.specs.Memory.{Memory}
 use Rattle.jz_tree.specs.declared.expr.Var.{Var}
 use Rattle.jz_tree.specs.declared.program.Param.{Param}
-use Rattle.jz_leak.specs.RunLeaks.{Leak}
-use Rattle.jz_runs.specs.Rules.{stuck, went, Outcome, End, Cut, Stuck}
+use Rattle.jz_meaning.specs.RunLeaks.{Leak}
+use Rattle.jz_meaning.specs.Rules.{stuck, went, Outcome, End, Cut, Stuck}
 use Rattle.jz_meaning.specs.declared.access.Kind.{Kind}
 use Rattle.jz_meaning.specs.declared.access.Kind.TheVariants as kind
 use Rattle.jz_meaning.specs.declared.value.Stuck as code

@@ -3,11 +3,11 @@ use Rattle.std.proofs.Common.{◌≡◌, ℕ, ◌<◌, Bool, true, false, [], �
 use Rattle.std.proofs.lemmas.Bool.{false≢true}
 use Rattle.std.specs.Prelude.{nat_lt, ◌||◌, ◌⊎◌}
 use Rattle.std.specs.Option.{option_or}
-use Rattle.jz_io.specs.declared.span.Span.{Span}
-use Rattle.jz_words.specs.declared.size.Size.{Size}
-use Rattle.jz_words.specs.declared.size.Size.TheVariants.{S8, S64}
-use Rattle.jz_words.specs.Sizes.{bytes_of}
-use Rattle.jz_words.specs.Memory.{Memory, loaded}
+use Rattle.jz_tree.specs.Span.{Span}
+use Rattle.jz_tree.specs.Size.{Size}
+use Rattle.jz_tree.specs.Size.TheVariants.{S8, S64}
+use Rattle.jz_tree.specs.Sizes.{bytes_of}
+use Rattle.jz_tree.specs.Memory.{Memory, loaded}
 use Rattle.jz_tree.specs.declared.expr.BinOp.{BinOp}
 use Rattle.jz_tree.specs.declared.expr.BinOp.TheVariants as o
 use Rattle.jz_tree.specs.declared.expr.Expr.{Expr}
@@ -29,7 +29,7 @@ use Rattle.jz_judgement.specs.HasType as judged
 use Rattle.jz_judgement.specs.HasType.{Layer, value, HasType, Types, Accesses, Operates, Says}
 use Rattle.jz_judgement.proofs.Expressions.{judged_of}
 use Rattle.jz_judgement.proofs.Nothing.{none_not, same_some}
-use Rattle.jz_runs.specs.Rules.{went}
+use Rattle.jz_meaning.specs.Rules.{went}
 use Rattle.jz_meaning.specs.declared.access.Kind as meant
 use Rattle.jz_meaning.specs.declared.access.Kind.TheVariants as kind
 use Rattle.jz_meaning.specs.declared.value.Why.TheVariants.{Bounds, Align}

@@ -1,10 +1,10 @@
 -- Instructions leave values of the kinds that are declared of their left sides.
 use Rattle.std.proofs.Common.{◌<◌, ℕ, List, ◌∷◌, [], Bool, false, Option, Some, None, All, pos, negsuc}
-use Rattle.jz_io.specs.declared.span.Span.{Span}
-use Rattle.jz_words.specs.declared.size.Size.{Size}
-use Rattle.jz_words.specs.declared.size.Size.TheVariants.{S8, S64}
-use Rattle.jz_words.specs.Sizes.{modulus}
-use Rattle.jz_words.specs.Words.{carried, swapped_of}
+use Rattle.jz_tree.specs.Span.{Span}
+use Rattle.jz_tree.specs.Size.{Size}
+use Rattle.jz_tree.specs.Size.TheVariants.{S8, S64}
+use Rattle.jz_tree.specs.Sizes.{modulus}
+use Rattle.jz_tree.specs.Words.{carried, swapped_of}
 use Rattle.x64_insn.specs.declared.types.FlagVal.{FlagVal}
 use Rattle.x64_insn.specs.declared.types.Alu.{Alu}
 use Rattle.x64_insn.specs.declared.types.Alu.TheVariants as alu
@@ -20,7 +20,7 @@ use Rattle.jz_tree.specs.declared.stmt.Lval.{Lval}
 use Rattle.jz_tree.specs.declared.intrinsic.Intrinsic.{Intrinsic}
 use Rattle.jz_tree.specs.declared.intrinsic.Instance.{Instance}
 use Rattle.jz_tree.specs.declared.intrinsic.Intrinsic.TheVariants as name
-use Rattle.jz_runs.specs.Rules.{went}
+use Rattle.jz_meaning.specs.Rules.{went}
 use Rattle.jz_meaning.specs.Attempts.{and_then}
 use Rattle.jz_meaning.specs.States.{Value, word, boolean, integer, State}
 use Rattle.jz_meaning.specs.Values.{evaluated}

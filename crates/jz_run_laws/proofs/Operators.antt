@@ -1,11 +1,11 @@
 -- What operators give fits its size.
 use Rattle.std.proofs.Common.{◌≡◌, ℕ, ◌*◌, ◌/◌, ◌%◌, ◌^◌, ◌<◌, ◌==◌, Bool, true, false, List, Option, Some, None, refl, sym, subst, if◌then◌else◌, ℤ, pos, negsuc, option_map}
 use Rattle.std.specs.Prelude.{◌||◌, int_div, int_rem}
-use Rattle.jz_io.specs.declared.span.Span.{Span}
-use Rattle.jz_words.specs.declared.size.Size.{Size}
-use Rattle.jz_words.specs.Sizes.{modulus, signed}
-use Rattle.jz_words.specs.Words.{residue}
-use Rattle.jz_words.proofs.Residues.{residue_below}
+use Rattle.jz_tree.specs.Span.{Span}
+use Rattle.jz_tree.specs.Size.{Size}
+use Rattle.jz_tree.specs.Sizes.{modulus, signed}
+use Rattle.jz_tree.specs.Words.{residue}
+use Rattle.jz_tree.proofs.Residues.{residue_below}
 use Rattle.jz_tree.specs.declared.expr.BinOp.{BinOp}
 use Rattle.jz_tree.specs.declared.expr.BinOp.TheVariants as o
 use Rattle.jz_integers.specs.declared.constant.Constant.{Constant}
@@ -13,7 +13,7 @@ use Rattle.jz_integers.specs.declared.constant.Constant.TheVariants as constant
 use Rattle.jz_integers.specs.Integers as numbers
 use Rattle.jz_integers.specs.Integers.{on_integers}
 use Rattle.jz_meaning.specs.declared.value.Why.TheVariants.{Init, Divide}
-use Rattle.jz_runs.specs.Rules.{went}
+use Rattle.jz_meaning.specs.Rules.{went}
 use Rattle.jz_meaning.specs.Attempts.{stuck_at, defined}
 use Rattle.jz_meaning.specs.States.{Value, word, boolean, integer}
 use Rattle.jz_meaning.specs.Operators.{of_constant, same_size, is_least_by_minus_one, plain, on_words, by_count, shifted_word, by_flag, joins, joined, is_shift, combined, shifted, binary, negated, inverted, cast}

@@ -1,7 +1,7 @@
 -- What parts of a statement give, one after another.
 use Rattle.std.proofs.Common.{◌≡◌, ℕ, List, Option, Some, None, refl, subst}
-use Rattle.jz_io.specs.declared.span.Span.{Span}
-use Rattle.jz_runs.specs.Rules.{stuck, went}
+use Rattle.jz_tree.specs.Span.{Span}
+use Rattle.jz_meaning.specs.Rules.{stuck, went}
 use Rattle.jz_meaning.specs.Attempts.{Evaluation, numbers_first, and_then, defined}
 use Rattle.jz_run_laws.specs.Kept.{IfWent}
 

@@ -4,9 +4,9 @@ use Rattle.std.specs.Prelude.{take, drop}
 use Rattle.std.proofs.lemmas.List.Elements.{All-nil, All-cons, All-append, All-take, All-drop}
 use Rattle.std.proofs.lemmas.Bool.Decides.{nat_tests}
 use Rattle.std.proofs.lemmas.Nat.{mod_below}
-use Rattle.jz_words.specs.declared.size.Size.{Size}
-use Rattle.jz_words.specs.Sizes.{modulus}
-use Rattle.jz_words.proofs.Residues.{residue_below}
+use Rattle.jz_tree.specs.Size.{Size}
+use Rattle.jz_tree.specs.Sizes.{modulus}
+use Rattle.jz_tree.proofs.Residues.{residue_below}
 use Rattle.x64_insn.specs.declared.types.FlagVal.{FlagVal}
 use Rattle.x64_insn.specs.declared.types.FlagVal.TheVariants.{True, False, Undefined}
 use Rattle.x64_insn.specs.declared.types.Alu.{Alu}

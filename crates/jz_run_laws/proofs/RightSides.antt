@@ -2,10 +2,10 @@
 use Rattle.std.proofs.Common.{◌<◌, ◌*◌, ◌/◌, ◌%◌, ℕ, List, ◌∷◌, [], Bool, true, false, Option, Some, None, All, if◌then◌else◌}
 use Rattle.std.specs.Option.{option_or}
 use Rattle.std.proofs.lemmas.List.Elements.{All-nil, All-cons}
-use Rattle.jz_io.specs.declared.span.Span.{Span}
-use Rattle.jz_words.specs.declared.size.Size.{Size}
-use Rattle.jz_words.specs.Sizes.{modulus}
-use Rattle.jz_words.specs.Words.{sum_of, carry_of, difference_of, borrow_of}
+use Rattle.jz_tree.specs.Span.{Span}
+use Rattle.jz_tree.specs.Size.{Size}
+use Rattle.jz_tree.specs.Sizes.{modulus}
+use Rattle.jz_tree.specs.Words.{sum_of, carry_of, difference_of, borrow_of}
 use Rattle.jz_tree.specs.declared.expr.BinOp.{BinOp}
 use Rattle.jz_tree.specs.declared.expr.BinOp.TheVariants as o
 use Rattle.jz_tree.specs.declared.expr.Expr.{Expr}
@@ -13,7 +13,7 @@ use Rattle.jz_tree.specs.declared.expr.Expr.TheOpen.{Expr-F}
 use Rattle.jz_tree.specs.declared.expr.Expr.TheViews.{out-Expr}
 use Rattle.jz_tree.specs.declared.stmt.Lval.{Lval}
 use Rattle.jz_meaning.specs.declared.value.Why.TheVariants.{Init}
-use Rattle.jz_runs.specs.Rules.{went}
+use Rattle.jz_meaning.specs.Rules.{went}
 use Rattle.jz_meaning.specs.Attempts.{Evaluation, stuck_at, and_then, defined}
 use Rattle.jz_meaning.specs.States.{Value, word, boolean, State}
 use Rattle.jz_meaning.specs.Values.{own_size, evaluated}

@@ -1,9 +1,9 @@
 -- What the parts of statements keep of a state, a run keeps.
 use Rattle.std.proofs.Common.{◌≡◌, ℕ, List, ℤ, Bool, true, false, subst, if◌then◌else◌}
-use Rattle.jz_leak.specs.RunLeaks as leak
-use Rattle.jz_leak.specs.RunLeaks.{Leak, Turns, Rounds}
-use Rattle.jz_runs.specs.Trees.{Tree}
-use Rattle.jz_runs.specs.Rules.{Parts, Attempt, went, Outcome, End, Cut, Stuck, after, Goes, finished, did, did_not, quieted, chosen, chosen_cut, chosen_stuck, chose_not, loop_left, loop_cut, loop_stuck, counted, counted_cut, counted_stuck, counted_not, call_ended, call_cut, call_stuck, entered_not, left_not, Loops, in_prologue, prologue_stuck, tested_not, leaves_loop, no_turn, in_body, body_stuck, more_turns, Counts, no_count, more_counts, count_cut, count_stuck}
+use Rattle.jz_meaning.specs.RunLeaks as leak
+use Rattle.jz_meaning.specs.RunLeaks.{Leak, Turns, Rounds}
+use Rattle.jz_meaning.specs.Trees.{Tree}
+use Rattle.jz_meaning.specs.Rules.{Parts, Attempt, went, Outcome, End, Cut, Stuck, after, Goes, finished, did, did_not, quieted, chosen, chosen_cut, chosen_stuck, chose_not, loop_left, loop_cut, loop_stuck, counted, counted_cut, counted_stuck, counted_not, call_ended, call_cut, call_stuck, entered_not, left_not, Loops, in_prologue, prologue_stuck, tested_not, leaves_loop, no_turn, in_body, body_stuck, more_turns, Counts, no_count, more_counts, count_cut, count_stuck}
 use Rattle.jz_run_laws.specs.Nodes.{AllNodes}
 use Rattle.jz_run_laws.specs.Kept.{IfWent, AtEnd}
 

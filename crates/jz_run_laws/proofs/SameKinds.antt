@@ -1,7 +1,7 @@
 -- What typing and evaluation each know of a variable.
 use Rattle.std.proofs.Common.{◌≡◌, false, Some, None, refl, ap}
 use Rattle.std.proofs.lemmas.Bool.{true≢false}
-use Rattle.jz_words.specs.declared.size.Size.{Size}
+use Rattle.jz_tree.specs.Size.{Size}
 use Rattle.jz_type_names.specs.declared.kinds.Kind as known
 use Rattle.jz_type_names.specs.declared.kinds.Kind.TheVariants as scope
 use Rattle.jz_type_names.specs.Kinds.{Known, is_array, is_array_kind}

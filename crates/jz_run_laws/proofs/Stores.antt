@@ -2,9 +2,9 @@
 use Rattle.std.proofs.Common.{◌≡◌, ◌<◌, ℕ, ◌==◌, Bool, true, false, Option, Some, None, refl, ap, sym, subst, nat_lt, if◌then◌else◌, lt-ltb, eqb-true}
 use Rattle.std.proofs.lemmas.Bool.{and_parts}
 use Rattle.std.specs.Str.{bytes_eq}
-use Rattle.jz_data.proofs.Texts.{bytes_eq-true}
-use Rattle.jz_words.specs.declared.size.Size.{Size}
-use Rattle.jz_words.specs.Sizes.{modulus}
+use Rattle.jz_tree.proofs.Texts.{bytes_eq-true}
+use Rattle.jz_tree.specs.Size.{Size}
+use Rattle.jz_tree.specs.Sizes.{modulus}
 use Rattle.jz_meaning.specs.declared.access.Kind.{Kind}
 use Rattle.jz_meaning.specs.declared.access.Kind.TheVariants as kind
 use Rattle.jz_meaning.specs.States.{Value, word, boolean, integer, Key, Store, State, same_cell, same_key, put}

@@ -1,7 +1,7 @@
 -- The trees of bodies declare what the statements of the text do.
 use Rattle.std.proofs.Common.{◌≡◌, ℕ, zero, suc, List, [], ◌∷◌, ◌++◌, Option, Some, None, Bool, true, false, cond, map, length, All, find, bytes_eq, refl, sym, ap, subst}
 use Rattle.std.proofs.lemmas.List.Elements.{All-nil, All-cons, All-head, All-tail, All-contains}
-use Rattle.jz_io.specs.declared.span.Span.{Span}
+use Rattle.jz_tree.specs.Span.{Span}
 use Rattle.jz_tree.specs.declared.expr.BinOp.{BinOp}
 use Rattle.jz_tree.specs.declared.expr.Expr.{Expr}
 use Rattle.jz_tree.specs.declared.stmt.Lval.{Lval}
@@ -13,7 +13,7 @@ use Rattle.jz_tree.specs.declared.stmt.StmtKind.TheOpen.{StmtKind-F, Stmt-F}
 use Rattle.jz_tree.specs.declared.stmt.StmtKind.TheViews.{out-StmtKind, out-roll-StmtKind, roll-Stmt, roll-StmtKind}
 use Rattle.jz_tree.specs.declared.stmt.StmtKind.TheFolds.{fold-StmtKind, fold-roll-Stmt, fold-roll-StmtKind, para-StmtKind, para-roll-Stmt, para-roll-StmtKind, ind-Stmt, map-Stmt, map-StmtKind}
 use Rattle.jz_tree.specs.declared.program.Fun.{Fun}
-use Rattle.jz_runs.specs.Trees.{done}
+use Rattle.jz_meaning.specs.Trees.{done}
 use Rattle.jz_type_names.specs.Scopes.{function_named}
 use Rattle.jz_type_names.specs.Parts.{layer_of, nested_statements, nested_step, statements_in, statements_of}
 use Rattle.jz_meaning.specs.Statements.{Block}

@@ -1,6 +1,6 @@
 -- Without recursion the tree of a body is not cut off.
 use Rattle.std.proofs.Common.{◌≡◌, ◌≤◌, ℕ, suc, inl, inr, List, length, Option, Some, None, refl, sym, ap, ◌∙◌, subst, arith}
-use Rattle.jz_io.specs.declared.span.Span.{Span}
+use Rattle.jz_tree.specs.Span.{Span}
 use Rattle.jz_tree.specs.declared.expr.Expr.{Expr}
 use Rattle.jz_tree.specs.declared.stmt.Lval.{Lval}
 use Rattle.jz_tree.specs.declared.stmt.Rhs.TheVariants as rhs
@@ -8,7 +8,7 @@ use Rattle.jz_tree.specs.declared.stmt.Stmt.{Stmt}
 use Rattle.jz_tree.specs.declared.stmt.StmtKind.TheVariants as kind
 use Rattle.jz_tree.specs.declared.program.Fun.{Fun}
 use Rattle.jz_tree.specs.declared.program.Program.{Program}
-use Rattle.jz_runs.specs.Trees.{done, call}
+use Rattle.jz_meaning.specs.Trees.{done, call}
 use Rattle.jz_type_names.specs.Scopes.{function_named}
 use Rattle.jz_type_storage.specs.Recursion.{IsRecursive}
 use Rattle.jz_type_storage.proofs.Naming.{named_or_nobody}

@@ -1,7 +1,7 @@
 -- How deep calls may be. `callees_of` has none below its depth; where no function reaches itself, nothing
 -- is cut off: each call holds the body of the function that it names, with all calls in it.
 use Rattle.std.specs.Prelude.{◌≡◌, ◌<◌, ◌≤◌, ℕ, List, length, Option, Some, None, slice_index_or}
-use Rattle.jz_io.specs.declared.span.Span.{Span}
+use Rattle.jz_tree.specs.Span.{Span}
 use Rattle.jz_tree.specs.declared.expr.Expr.{Expr}
 use Rattle.jz_tree.specs.declared.stmt.Lval.{Lval}
 use Rattle.jz_tree.specs.declared.stmt.Rhs.TheVariants as rhs
@@ -10,7 +10,7 @@ use Rattle.jz_tree.specs.declared.stmt.StmtKind.TheVariants as kind
 use Rattle.jz_tree.specs.declared.program.Fun.{Fun}
 use Rattle.jz_tree.specs.declared.program.Program.{Program}
 use Rattle.jz_type_names.specs.Scopes.{function_named}
-use Rattle.jz_runs.specs.Trees.{done, call}
+use Rattle.jz_meaning.specs.Trees.{done, call}
 use Rattle.jz_type_storage.specs.Numbers.{number_named}
 use Rattle.jz_type_storage.specs.Recursion.{IsRecursive, IsRanked}
 use Rattle.jz_types.specs.TypedPrograms.{IsTypedProgram}

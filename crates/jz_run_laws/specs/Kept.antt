@@ -1,16 +1,16 @@
 -- What is kept: expressions give values that fit their sizes, and what the parts of statements do
 -- leaves values of their kinds.
 use Rattle.std.specs.Prelude.{◌≡◌, ℕ, ℤ, List, All, Option, None}
-use Rattle.jz_words.specs.declared.size.Size.{Size}
-use Rattle.jz_words.specs.Memory.{Memory}
+use Rattle.jz_tree.specs.Size.{Size}
+use Rattle.jz_tree.specs.Memory.{Memory}
 use Rattle.jz_tree.specs.declared.expr.Expr.{Expr}
 use Rattle.jz_tree.specs.declared.expr.Decl.{Decl}
 use Rattle.jz_tree.specs.declared.expr.Var.{Var}
 use Rattle.jz_tree.specs.declared.expr.Expr.TheViews.{out-Var}
 use Rattle.jz_tree.specs.declared.program.Program.{Program}
 use Rattle.jz_tree.specs.declared.program.Fun.{Fun}
-use Rattle.jz_leak.specs.RunLeaks.{Leak}
-use Rattle.jz_runs.specs.Rules.{Attempt, stuck, went, Outcome, End, Cut, Stuck, Goes}
+use Rattle.jz_meaning.specs.RunLeaks.{Leak}
+use Rattle.jz_meaning.specs.Rules.{Attempt, stuck, went, Outcome, End, Cut, Stuck, Goes}
 use Rattle.jz_meaning.specs.declared.value.Stuck as code
 use Rattle.jz_meaning.specs.States.{Value, State, Store}
 use Rattle.jz_meaning.specs.Values.{evaluated, ref_of}

@@ -1,8 +1,8 @@
 -- What a state holds where each variable has nothing or a value of its declared kind.
 use Rattle.std.specs.Prelude.{◌≡◌, ◌<◌, ℕ, nat_lt, List, Option, Some, None, if◌then◌else◌}
 use Rattle.std.specs.FinMap.{get}
-use Rattle.jz_words.specs.Sizes.{modulus}
-use Rattle.jz_words.specs.Memory.{Memory}
+use Rattle.jz_tree.specs.Sizes.{modulus}
+use Rattle.jz_tree.specs.Memory.{Memory}
 use Rattle.jz_meaning.specs.declared.access.Kind.{Kind}
 use Rattle.jz_meaning.specs.declared.access.Kind.TheVariants as kind
 use Rattle.jz_meaning.specs.States.{Value, word, boolean, integer, Key, Store, State}

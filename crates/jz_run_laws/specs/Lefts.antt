@@ -1,6 +1,6 @@
 -- Left sides: what stands in them, and the size of an assignment to them.
 use Rattle.std.specs.Prelude.{◌≡◌, true, List, [], ◌∷◌, Option, None}
-use Rattle.jz_words.specs.declared.size.Size.{Size}
+use Rattle.jz_tree.specs.Size.{Size}
 use Rattle.jz_tree.specs.declared.expr.Expr.TheViews.{out-Access}
 use Rattle.jz_tree.specs.declared.stmt.Lval.{Lval}
 use Rattle.jz_tree.specs.declared.stmt.Lval.TheVariants as lval

@@ -1,5 +1,5 @@
 -- What is said of each node of a tree, by what is known of the function in whose body it stands.
-use Rattle.jz_runs.specs.Trees.{Tree, done, op, quiet, choose, loop, each, call}
+use Rattle.jz_meaning.specs.Trees.{Tree, done, op, quiet, choose, loop, each, call}
 
 module _ {O T F C K : Type 0} (Op : K → O → Type 0) (Counter : K → F → Type 0)
     (Call : K → K → C → Type 0) where

@@ -1,7 +1,7 @@
 -- One size: by evaluation, by typing, by the judgement.
 use Rattle.std.specs.Prelude.{◌≡◌, ◌↔◌, Bool, true, false, List, All, Option, Some, None}
 use Rattle.std.specs.Option.{option_or}
-use Rattle.jz_words.specs.declared.size.Size.{Size}
+use Rattle.jz_tree.specs.Size.{Size}
 use Rattle.jz_tree.specs.declared.expr.Expr.{Expr}
 use Rattle.jz_tree.specs.declared.expr.BinOp.{BinOp}
 use Rattle.jz_tree.specs.declared.stmt.Lval.{Lval}

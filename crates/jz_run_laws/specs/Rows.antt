@@ -1,6 +1,6 @@
 -- The sizes in the words of the pattern table.
 use Rattle.std.specs.Prelude.{◌≡◌, Option, Some, None}
-use Rattle.jz_words.specs.declared.size.Size.{Size}
+use Rattle.jz_tree.specs.Size.{Size}
 use Rattle.jz_tree.specs.declared.expr.Expr.{Expr}
 use Rattle.jz_tree.specs.declared.stmt.Lval.{Lval}
 use Rattle.jz_type_sizes.specs.Sides.{left_form}

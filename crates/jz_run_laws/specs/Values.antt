@@ -1,6 +1,6 @@
 -- The values that an expression has in its place.
 use Rattle.std.specs.Prelude.{◌≡◌, Option, Some, None}
-use Rattle.jz_words.specs.declared.size.Size.{Size}
+use Rattle.jz_tree.specs.Size.{Size}
 use Rattle.jz_tree.specs.declared.expr.Expr.{Expr}
 use Rattle.jz_judgement.specs.Places.{Place}
 use Rattle.jz_judgement.specs.Places as place

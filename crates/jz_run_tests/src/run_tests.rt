@@ -2,9 +2,9 @@
 //! A line has the text, the arguments, the memory from address 16 on, the turns, and the outcome: `end`, the results, the memory and the
 //! leak; `cut` and the leak; or `stuck`, the place and the reason. The last function of a text is run.
 
-use jz_data::{Failure, Seq};
+use jz_tree::{Failure, Seq};
 use jz_interp::{Input, Outcome, interpret, takes};
-use jz_leak::{Item, Leak, MemMap, Turn};
+use jz_meaning::{Item, Leak, MemMap, Turn};
 use jz_lex::lex;
 use jz_meaning::{Kind, Stuck, Why, kind_of};
 use jz_parse::parse;

@@ -3,9 +3,9 @@
 
 use Part::{Cell, Memory, Quotient, Unaligned, Unset};
 use Wanted::{At, Is};
-use jz_data::{Boxed, Failure, Seq, Text};
-use jz_io::Span;
-use jz_leak::MemMap;
+use jz_tree::{Boxed, Failure, Seq, Text};
+use jz_tree::Span;
+use jz_meaning::MemMap;
 use jz_meaning::{Store, Stuck, Value, Why, evaluate, value_of, write};
 use jz_tree::{Access, BinOp, Decl, Expr, Storage, Ty, Var};
 use jz_words::{Size, Word};

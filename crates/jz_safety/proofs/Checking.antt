@@ -2,9 +2,9 @@
 use Rattle.std.proofs.Common.{◌≡◌, ℕ, ◌+◌, ◌<◌, false, List, [], ◌∷◌, ◌++◌, drop, get_or, length, sym, ap, subst, ◌∙◌}
 use Rattle.std.specs.Prelude.{Result, Ok, Err, IfErr, IsErrAnd}
 use Rattle.std.proofs.lemmas.List.{at_drop_more}
-use Rattle.jz_data.specs.declared.failure.Failure.{Failure}
-use Rattle.jz_data.specs.declared.failure.Failure.TheVariants.{Refused, OutOfMemory}
-use Rattle.jz_data.specs.Failures.{IfRefused}
+use Rattle.jz_first.specs.Failure.{Failure}
+use Rattle.jz_first.specs.Failure.TheVariants.{Refused, OutOfMemory}
+use Rattle.jz_first.specs.Failures.{IfRefused}
 use Rattle.jz_first.specs.declared.tree.Fun.{Fun}
 use Rattle.jz_first.specs.declared.tree.Stmt.{Stmt}
 use Rattle.jz_safety.specs.declared.condition.Condition.{Condition}

@@ -9,7 +9,7 @@ use Rattle.jz_first.specs.declared.tree.Stmt.{Stmt}
 use Rattle.jz_first.specs.declared.tree.StmtKind.{StmtKind}
 use Rattle.jz_first.specs.Variables.{variables_of}
 use Rattle.jz_first.specs.Assignments.{AssignsToOne}
-use Rattle.jz_data.proofs.Lists.{All-front, All-back}
+use Rattle.jz_first.proofs.DataLists.{All-front, All-back}
 use Rattle.jz_first.specs.Uses.{right_side_uses, kind_uses, body_uses, uses_of}
 use Rattle.jz_first.specs.Resolving.{resolved_var, resolved_rhs, resolved_kind, resolved_stmt, declaration_in, resolved_fun}
 use Rattle.jz_first.specs.TypedPrograms.{HasDeclaration, HaveDeclarations}

@@ -3,9 +3,9 @@ use Rattle.std.proofs.Common.{◌≡◌, ℕ, Bool, true, false, not, List, [], 
 use Rattle.std.specs.Prelude.{All}
 use Rattle.std.proofs.lemmas.List.Elements.{All-head, All-tail}
 use Rattle.std.specs.Str.{bytes_eq}
-use Rattle.jz_data.proofs.Texts.{bytes_eq-sym}
-use Rattle.jz_io.specs.declared.span.Span.{Span}
-use Rattle.jz_words.specs.Memory.{Memory}
+use Rattle.jz_first.proofs.Texts.{bytes_eq-sym}
+use Rattle.jz_first.specs.Span.{Span}
+use Rattle.jz_first.specs.Memory.{Memory}
 use Rattle.jz_first.specs.declared.tree.Program.{Program}
 use Rattle.jz_first.specs.declared.tree.Fun.{Fun}
 use Rattle.jz_first.specs.declared.tree.Param.{Param}
@@ -21,7 +21,7 @@ use Rattle.jz_first.specs.declared.tree.Rhs.{Rhs}
 use Rattle.jz_first.specs.declared.tree.Rhs.TheVariants as rhs
 use Rattle.jz_first.specs.declared.tree.Stmt.{Stmt}
 use Rattle.jz_first.specs.declared.tree.StmtKind.{StmtKind}
-use Rattle.jz_leak.specs.RunLeaks.{Leak}
+use Rattle.jz_runs.specs.RunLeaks.{Leak}
 use Rattle.jz_runs.specs.Rules.{stuck, went, End, Stuck}
 use Rattle.jz_first_meaning.specs.SourceStates.{Value, word, integer, key_of, Store, empty_store, with_value_at, State, Why}
 use Rattle.jz_first_meaning.specs.SourceValues.{Evaluation, numbers_first, and_then, defined_value, variable_value}

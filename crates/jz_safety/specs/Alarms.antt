@@ -1,7 +1,7 @@
 -- The alarms of a function, in the order in which it is evaluated.
 use Rattle.std.specs.Prelude.{◌≡◌, not, List, [], ◌∷◌, ◌++◌, map, filter}
-use Rattle.jz_data.specs.declared.failure.Failure.{Failure}
-use Rattle.jz_data.specs.Failures.{IfRefused}
+use Rattle.jz_first.specs.Failure.{Failure}
+use Rattle.jz_first.specs.Failures.{IfRefused}
 use Rattle.jz_first.specs.declared.tree.Fun.{Fun}
 use Rattle.jz_first.specs.declared.tree.Stmt.{Stmt}
 use Rattle.jz_first_meaning.specs.SourceStates.{Why}

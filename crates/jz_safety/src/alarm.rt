@@ -1,8 +1,8 @@
 //! Alarms.
 
-use jz_data::Text;
+use jz_first::Text;
 use jz_first_meaning::Reason;
-use jz_io::Span;
+use jz_first::Span;
 
 /// A condition that the facts don't give: where it is asked, what would be wrong, and of which
 /// variable.

@@ -3,7 +3,7 @@
 ghost use Rattle.std.specs.Prelude.{◌≡◌};
 ghost use Rattle.jz_safety.specs.Facts.{entails};
 
-use jz_data::Text;
+use jz_first::Text;
 
 /// A fact over the variables of a function.
 #[derive(Drop)]

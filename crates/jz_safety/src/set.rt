@@ -5,7 +5,7 @@ ghost use Rattle.jz_safety.specs.Facts.{no_facts, with_fact, facts_of};
 
 use crate::fact::Fact;
 use indexmap::IndexSet;
-use jz_data::Text;
+use jz_first::Text;
 use std::alloc::{AllocError, Global};
 
 /// A set of facts. Contracts see of each fact whether the set gives it.

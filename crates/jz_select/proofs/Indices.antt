@@ -7,7 +7,7 @@ use Rattle.jz_tree.specs.declared.expr.Expr.TheViews.{out-Expr, roll-Expr, roll-
 use Rattle.jz_tree.specs.declared.expr.Expr.TheFolds.{fold-roll-Expr, fold-Access, fold-Var, map-Expr}
 use Rattle.jz_tree.specs.declared.expr.Access.{Access}
 use Rattle.jz_tree.specs.declared.expr.Var.{Var}
-use Rattle.jz_io.specs.declared.span.Span.{Span}
+use Rattle.jz_tree.specs.Span.{Span}
 use Rattle.jz_integers.specs.declared.constant.Constant.{Constant}
 use Rattle.jz_integers.specs.Integers.{value_step, the_number, written_number}
 use Rattle.jz_select.specs.Trees.{Named, named_step, Tree, Number, Truth, Name, CellOf, Loaded, Minus, Opposite, CastTo, Both, tree_step, tree_of, tree_eq, numbered_tree, index_of}

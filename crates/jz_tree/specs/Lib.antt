@@ -1,3 +1,12 @@
 pub mod Sides
 pub mod Deciding
 pub mod Spellings
+pub use Rattle.jz_data.specs.Failures
+pub use Rattle.jz_data.specs.Laws
+pub use Rattle.jz_data.specs.declared.failure.Failure
+pub use Rattle.jz_io.specs.declared.span.Span
+pub use Rattle.jz_words.specs.Memory
+pub use Rattle.jz_words.specs.Sizes
+pub use Rattle.jz_words.specs.Words
+pub use Rattle.jz_words.specs.declared.size.Size
+pub use Rattle.jz_words.specs.declared.word.Word

@@ -14,3 +14,6 @@ pub use expr::{Access, BinOp, Decl, Expr, Storage, Ty, Var};
 pub use intrinsic::{Instance, Intrinsic, spelled};
 pub use program::{Const, Fun, FunKind, Note, NoteValue, Param, Program, Ret};
 pub use stmt::{Lval, Rhs, Stmt, StmtKind};
+pub use jz_data::{Boxed, Failure, Seq, Text};
+pub use jz_io::{Span};
+pub use jz_words::{Size, Word};

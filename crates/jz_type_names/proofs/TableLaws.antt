@@ -3,8 +3,8 @@ use Rattle.std.proofs.Common.{◌≡◌, ℕ, Bool, true, false, List, [], ◌�
 use Rattle.std.specs.Prelude.{if◌then◌else◌, is_some, option_map, find}
 use Rattle.std.specs.Str.{bytes_eq}
 use Rattle.std.proofs.Math.Path.{fun_ext}
-use Rattle.jz_data.proofs.Texts.{bytes_eq-sym, bytes_eq-true}
-use Rattle.jz_io.specs.declared.span.Span.{Span}
+use Rattle.jz_tree.proofs.Texts.{bytes_eq-sym, bytes_eq-true}
+use Rattle.jz_tree.specs.Span.{Span}
 use Rattle.jz_type_names.specs.Order.{earlier, earliest}
 use Rattle.jz_type_names.specs.Scopes.{Name, places_of, or_else, or_named}
 use Rattle.jz_type_names.specs.Tables.{places_named}

@@ -1,6 +1,6 @@
 -- The first unknown name, part by part.
 use Rattle.std.proofs.Common.{◌≡◌, ℕ, List, [], ◌∷◌, ◌++◌, Option, Some, map, flat_map, refl, sym, ap, ap₂, ◌∙◌}
-use Rattle.jz_io.specs.declared.span.Span.{Span}
+use Rattle.jz_tree.specs.Span.{Span}
 use Rattle.std.specs.Prelude.{option_map, find}
 use Rattle.std.specs.Str.{bytes_eq}
 use Rattle.std.proofs.Common.{cond, true, false}

@@ -5,7 +5,7 @@ use Rattle.jz_tree.specs.declared.expr.Expr.{Expr}
 use Rattle.jz_tree.specs.declared.expr.Expr.TheOpen.{Expr-F}
 use Rattle.jz_tree.specs.declared.expr.Expr.TheFolds.{fold-Expr}
 use Rattle.jz_tree.specs.declared.expr.Var.{Var}
-use Rattle.jz_io.specs.declared.span.Span.{Span}
+use Rattle.jz_tree.specs.Span.{Span}
 use Rattle.jz_type_names.specs.declared.exprs.Parts.{Parts}
 use Rattle.jz_type_names.specs.Scopes.{Name, name_of}
 use Rattle.jz_type_names.specs.Parts.{Cells, names_in, cells_in}

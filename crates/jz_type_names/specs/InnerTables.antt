@@ -1,6 +1,6 @@
 -- What private contracts say of names that tables know, statement by statement and name by name.
 use Rattle.std.specs.Prelude.{not, List, flat_map}
-use Rattle.jz_io.specs.declared.span.Span.{Span}
+use Rattle.jz_tree.specs.Span.{Span}
 use Rattle.jz_tree.specs.declared.program.Fun.{Fun}
 use Rattle.jz_tree.specs.declared.stmt.Stmt.{Stmt}
 use Rattle.jz_type_names.specs.declared.tables.Places.{Places}

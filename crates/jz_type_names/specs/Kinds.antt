@@ -1,7 +1,7 @@
 -- What is declared of the variables in an expression, and what is known when the text is compiled.
 use Rattle.std.specs.Prelude.{ℤ, Bool, true, false, not, ◌&&◌, nat_eq, if◌then◌else◌, Option, Some, None, option_map}
-use Rattle.jz_words.specs.declared.size.Size.{Size}
-use Rattle.jz_words.specs.Sizes.{bits_of}
+use Rattle.jz_tree.specs.Size.{Size}
+use Rattle.jz_tree.specs.Sizes.{bits_of}
 use Rattle.jz_tree.specs.declared.expr.Storage.{Storage}
 use Rattle.jz_tree.specs.declared.expr.Storage.TheVariants as storage
 use Rattle.jz_tree.specs.declared.expr.Expr.{Expr}

@@ -1,7 +1,7 @@
 -- Unknown and Duplicate.
 use Rattle.std.specs.Prelude.{ℕ, Bool, false, not, ◌&&◌, ◌||◌, is_some, if◌then◌else◌, List, [], ◌∷◌, ◌++◌, map, flat_map, Option, Some, None, option_to_list}
 use Rattle.std.specs.Str.{bytes_eq}
-use Rattle.jz_io.specs.declared.span.Span.{Span}
+use Rattle.jz_tree.specs.Span.{Span}
 use Rattle.jz_tree.specs.declared.expr.Expr.{Expr}
 use Rattle.jz_tree.specs.declared.expr.Ty.{Ty}
 use Rattle.jz_tree.specs.declared.expr.Access.{Access}

@@ -1,6 +1,6 @@
 -- Places in a text, and the earliest of several.
 use Rattle.std.specs.Prelude.{◌<◌, ◌≡◌, ◌⊎◌, Bool, ◌&&◌, ◌||◌, nat_lt, nat_eq, if◌then◌else◌, List, [], ◌∷◌, Option, Some, None, Result, IfOk}
-use Rattle.jz_io.specs.declared.span.Span.{Span}
+use Rattle.jz_tree.specs.Span.{Span}
 
 -- a stands before b in the text
 abbrev pub is_before : Span → Span → Bool

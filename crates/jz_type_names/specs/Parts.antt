@@ -1,7 +1,7 @@
 -- The statements of a body, and what stands in one statement itself: its expressions, the names
 -- that it reads, sets and calls.
 use Rattle.std.specs.Prelude.{List, [], ◌∷◌, ◌++◌, flat_map, map, Some, None, option_to_list}
-use Rattle.jz_io.specs.declared.span.Span.{Span}
+use Rattle.jz_tree.specs.Span.{Span}
 use Rattle.jz_tree.specs.declared.expr.Expr.{Expr}
 use Rattle.jz_tree.specs.declared.expr.Ty.{Ty}
 use Rattle.jz_tree.specs.declared.expr.Access.{Access}

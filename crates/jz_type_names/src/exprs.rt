@@ -5,7 +5,7 @@ ghost use Rattle.jz_type_names.specs.Parts.{span_of, names_in, cells_in, lengths
 ghost use Rattle.jz_type_names.specs.Lent.{this, paired_lists, var_names};
 ghost use Rattle.jz_type_names.specs.InnerLists.{Gains, GainsCells, own_cell, count_in, count_of, operands, part_names, part_cells};
 
-use jz_io::Span;
+use jz_tree::Span;
 use jz_tree::{Decl, Expr, Ty, Var};
 use std::alloc::{AllocError, Global};
 

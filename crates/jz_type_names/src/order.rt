@@ -1,10 +1,10 @@
 //! Places in a text, and the earlier of two.
 
 ghost use Rattle.std.specs.Prelude.{◌≡◌, Option, Some};
-ghost use Rattle.jz_io.specs.declared.span.Span.{Span};
+ghost use Rattle.jz_tree.specs.Span.{Span};
 ghost use Rattle.jz_type_names.specs.Order.{is_before, unless, earlier, earliest};
 
-use jz_io::Span;
+use jz_tree::Span;
 
 /// Whether a stands before b in the text.
 pub fn is_before(a: Span, b: Span) -> bool

@@ -15,8 +15,8 @@ use crate::declarations::variables;
 use crate::layers::wholly_set_by;
 use crate::order::{earlier_of, is_before, unless};
 use crate::tables::Places;
-use jz_data::{Seq, Text};
-use jz_io::Span;
+use jz_tree::{Seq, Text};
+use jz_tree::Span;
 use jz_tree::{Const, Fun, Program, Stmt, Var};
 use std::alloc::{AllocError, Global};
 

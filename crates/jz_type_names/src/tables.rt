@@ -7,8 +7,8 @@ ghost use Rattle.jz_type_names.specs.Tables.{AddsItem, PutsItem, Adds, IsPlaces,
 
 use crate::order::sooner;
 use indexmap::IndexMap;
-use jz_data::{Seq, Text};
-use jz_io::Span;
+use jz_tree::{Seq, Text};
+use jz_tree::Span;
 use jz_tree::{Const, Fun, Var};
 use std::alloc::{AllocError, Global};
 

@@ -16,8 +16,8 @@ use crate::layers::{called_by, read_by};
 use crate::order::{earlier_of, is_before, unless};
 use crate::tables::{Functions, Places};
 use crate::wanted::{arrays, variables_outside, variables_wanted};
-use jz_data::{Seq, Text};
-use jz_io::Span;
+use jz_tree::{Seq, Text};
+use jz_tree::Span;
 use jz_tree::{Const, Fun, Stmt, Var};
 use std::alloc::{AllocError, Global};
 

@@ -1,6 +1,6 @@
 -- The earliest of what is wrong with the arguments and results of a call.
 use Rattle.std.proofs.Common.{◌≡◌, ℕ, List, [], flat_map, Option, Some, ap, ◌∙◌}
-use Rattle.jz_io.specs.declared.span.Span.{Span}
+use Rattle.jz_tree.specs.Span.{Span}
 use Rattle.jz_tree.specs.declared.expr.Expr.{Expr}
 use Rattle.jz_tree.specs.declared.stmt.Lval.{Lval}
 use Rattle.jz_type_names.specs.Order.{earlier, earliest, first_in}

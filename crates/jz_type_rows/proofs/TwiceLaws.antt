@@ -3,7 +3,7 @@ use Rattle.std.proofs.Common.{◌≡◌, ℕ, ◌+◌, ◌<◌, suc, Bool, true,
 use Rattle.std.specs.List.{list_any}
 use Rattle.std.specs.Str.{bytes_eq}
 use Rattle.std.proofs.lemmas.List.{map_more}
-use Rattle.jz_io.specs.declared.span.Span.{Span}
+use Rattle.jz_tree.specs.Span.{Span}
 use Rattle.jz_type_names.specs.Order.{unless, earlier, earliest}
 use Rattle.jz_type_names.proofs.Earliest.{earliest-append}
 use Rattle.jz_type_rows.specs.declared.copies.Argument.{Argument}

@@ -1,6 +1,6 @@
 -- RegIndex: an index of a register array is an inline integer.
 use Rattle.std.specs.Prelude.{Bool, true, false, not, ◌&&◌, ◌||◌, List, ◌++◌, flat_map}
-use Rattle.jz_io.specs.declared.span.Span.{Span}
+use Rattle.jz_tree.specs.Span.{Span}
 use Rattle.jz_tree.specs.declared.expr.Expr.{Expr}
 use Rattle.jz_tree.specs.declared.expr.Var.{Var}
 use Rattle.jz_tree.specs.declared.expr.Expr.TheOpen.{Expr-F}

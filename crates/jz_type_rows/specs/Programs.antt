@@ -1,6 +1,6 @@
 -- A rule of each function, or of each statement, over a whole program.
 use Rattle.std.specs.Prelude.{List, flat_map}
-use Rattle.jz_io.specs.declared.span.Span.{Span}
+use Rattle.jz_tree.specs.Span.{Span}
 use Rattle.jz_tree.specs.declared.stmt.Stmt.{Stmt}
 use Rattle.jz_tree.specs.declared.program.Program.{Program}
 use Rattle.jz_tree.specs.declared.program.Fun.{Fun}

@@ -5,8 +5,8 @@ ghost use Rattle.std.specs.Option.{option_copied};
 ghost use Rattle.jz_type_names.specs.Order.{earliest, first_in};
 ghost use Rattle.jz_type_rows.specs.Copies.{place_of_array, array_arg, array_left};
 
-use jz_data::Seq;
-use jz_io::Span;
+use jz_tree::Seq;
+use jz_tree::Span;
 use jz_type_names::{array_of, earlier_of, whole_array};
 use jz_tree::{Expr, Lval, Var};
 

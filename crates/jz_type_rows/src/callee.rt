@@ -12,7 +12,7 @@ ghost use Rattle.jz_type_rows.specs.Tables.{HasCallees};
 ghost use Rattle.jz_type_rows.specs.InnerTables.{HasNames, HasPlaces};
 
 use crate::tables::{Names, add_place, place};
-use jz_data::Seq;
+use jz_tree::Seq;
 use jz_type_names::{ByName, is_array, known, set_by, statements};
 use jz_tree::{Expr, Fun, FunKind, Lval, Param, Program, Rhs, Stmt, StmtKind, Var};
 use std::alloc::{AllocError, Global};

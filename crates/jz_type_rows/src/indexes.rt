@@ -6,7 +6,7 @@ ghost use Rattle.jz_type_names.specs.Lent.{these, paired_lists};
 ghost use Rattle.jz_type_names.specs.Parts.{layer_of};
 ghost use Rattle.jz_type_rows.specs.Indexes.{is_inline_integer, indexed_at, indexed_in, indexed_by};
 
-use jz_io::Span;
+use jz_tree::Span;
 use jz_type_names::{
     cells, cells_set, earlier_of, exprs_of, is_inline_int, is_register_array, known, span_of,
     unless,

@@ -14,8 +14,8 @@ ghost use Rattle.jz_type_rows.specs.Matching.{unmatched_places};
 
 use crate::callee::Callee;
 use crate::pairs::{Pair, pairs};
-use jz_data::Seq;
-use jz_io::Span;
+use jz_tree::Seq;
+use jz_tree::Span;
 use jz_type_names::{is_inline, is_inline_int, is_word, known, unless};
 use jz_select::{select, select_copy};
 use jz_tree::{Expr, Lval, Rhs, Stmt, StmtKind};

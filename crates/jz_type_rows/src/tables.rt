@@ -7,7 +7,7 @@ ghost use Rattle.jz_type_rows.specs.Callees.{index_where};
 ghost use Rattle.jz_type_rows.specs.InnerTables.{HasNames, HasNumbers, HasPlaces};
 
 use indexmap::IndexSet;
-use jz_data::Text;
+use jz_tree::Text;
 use jz_type_names::ByName;
 use std::alloc::{AllocError, Global};
 

@@ -10,7 +10,7 @@ ghost use Rattle.jz_type_rows.specs.InnerTables.{HasSeen};
 use crate::callee::Callee;
 use crate::copies::{Argument, is_written_at};
 use crate::tables::Names;
-use jz_io::Span;
+use jz_tree::Span;
 use jz_type_names::{earlier_of, unless};
 use std::alloc::{AllocError, Global};
 

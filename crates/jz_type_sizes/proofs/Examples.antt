@@ -1,9 +1,9 @@
 -- Examples of what the definitions say.
 use Rattle.std.specs.Prelude.{◌≡◌, ℕ, suc, pos, false, [], ◌∷◌, Option, Some, None}
 use mathlib.Core.Path.{refl}
-use Rattle.jz_io.specs.declared.span.Span.{Span}
-use Rattle.jz_words.specs.declared.size.Size.{Size}
-use Rattle.jz_words.specs.declared.size.Size.TheVariants as sizes
+use Rattle.jz_tree.specs.Span.{Span}
+use Rattle.jz_tree.specs.Size.{Size}
+use Rattle.jz_tree.specs.Size.TheVariants as sizes
 use Rattle.jz_tree.specs.declared.expr.Storage.{Storage}
 use Rattle.jz_tree.specs.declared.expr.Storage.TheVariants as storage
 use Rattle.jz_tree.specs.declared.expr.BinOp.{BinOp}

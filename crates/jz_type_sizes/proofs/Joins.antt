@@ -1,6 +1,6 @@
 -- The earliest of several lists.
 use Rattle.std.proofs.Common.{◌≡◌, List, [], ◌∷◌, refl, ap, ◌∙◌}
-use Rattle.jz_io.specs.declared.span.Span.{Span}
+use Rattle.jz_tree.specs.Span.{Span}
 use Rattle.jz_type_names.specs.Order.{earlier, earliest}
 use Rattle.jz_type_names.proofs.Earliest.{earliest-append, first_in-is, earlier-assoc, none-earlier, earlier-none}
 use Rattle.jz_type_sizes.specs.Firsts.{wrong_beside}

@@ -1,6 +1,6 @@
 -- Sizes in any grouping.
 use Rattle.std.proofs.Common.{◌≡◌, Option, Some, None, refl}
-use Rattle.jz_words.specs.declared.size.Size.{Size}
+use Rattle.jz_tree.specs.Size.{Size}
 use Rattle.jz_type_sizes.specs.Wants.{or_size}
 
 pub or_size-assoc : (a b c : Option Size) → or_size a (or_size b c) ≡ or_size (or_size a b) c

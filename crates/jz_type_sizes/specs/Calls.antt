@@ -1,7 +1,7 @@
 -- Calls of functions, and what functions give back.
 use Rattle.std.specs.Prelude.{pos, ℤ, Bool, true, false, ◌&&◌, ◌||◌, nat_eq, is_none, List, [], ◌++◌, length, flat_map, Option, Some, None}
 use Rattle.std.specs.Ordering.{int_eq}
-use Rattle.jz_io.specs.declared.span.Span.{Span}
+use Rattle.jz_tree.specs.Span.{Span}
 use Rattle.jz_tree.specs.declared.expr.Expr.{Expr}
 use Rattle.jz_tree.specs.declared.expr.Expr.TheViews.{out-Var}
 use Rattle.jz_tree.specs.declared.expr.Decl.{Decl}

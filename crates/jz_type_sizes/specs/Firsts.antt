@@ -1,6 +1,6 @@
 -- Wrong places among the parts of lists.
 use Rattle.std.specs.Prelude.{List, [], ◌∷◌, ◌++◌}
-use Rattle.jz_io.specs.declared.span.Span.{Span}
+use Rattle.jz_tree.specs.Span.{Span}
 
 -- what is wrong with items beside others, in their order, and with those that are more
 abbrev pub wrong_beside : {A B : Type 0}

@@ -1,6 +1,6 @@
 -- What private contracts say of lengths, by tables of the places of constants and variables.
 use Rattle.std.specs.Prelude.{ℤ, Bool, List, Option}
-use Rattle.jz_io.specs.declared.span.Span.{Span}
+use Rattle.jz_tree.specs.Span.{Span}
 use Rattle.jz_tree.specs.declared.expr.Expr.{Expr}
 use Rattle.jz_tree.specs.declared.expr.Decl.{Decl}
 use Rattle.jz_type_names.specs.declared.tables.Places.{Places}

@@ -1,6 +1,6 @@
 -- The rule that types, sizes and counts agree.
 use Rattle.std.specs.Prelude.{ℕ, ℤ, List, [], ◌++◌, flat_map, Option, Some, None}
-use Rattle.jz_io.specs.declared.span.Span.{Span}
+use Rattle.jz_tree.specs.Span.{Span}
 use Rattle.jz_tree.specs.declared.expr.BinOp.{BinOp}
 use Rattle.jz_tree.specs.declared.expr.Expr.{Expr}
 use Rattle.jz_tree.specs.declared.expr.Var.{Var}

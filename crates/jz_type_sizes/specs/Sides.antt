@@ -1,8 +1,8 @@
 -- Left sides: what they are, what is wrong within them, and what they take.
 use Rattle.std.specs.Prelude.{Bool, true, false, not, ◌&&◌, ◌||◌, is_some, if◌then◌else◌, List, [], ◌++◌, Option, Some, None}
-use Rattle.jz_io.specs.declared.span.Span.{Span}
-use Rattle.jz_words.specs.declared.size.Size.{Size}
-use Rattle.jz_words.specs.declared.size.Size.TheVariants as sizes
+use Rattle.jz_tree.specs.Span.{Span}
+use Rattle.jz_tree.specs.Size.{Size}
+use Rattle.jz_tree.specs.Size.TheVariants as sizes
 use Rattle.jz_tree.specs.declared.expr.Expr.TheViews.{out-Access}
 use Rattle.jz_tree.specs.declared.stmt.Lval.{Lval}
 use Rattle.jz_tree.specs.declared.stmt.Lval.TheVariants as lval

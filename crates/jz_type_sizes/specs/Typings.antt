@@ -1,7 +1,7 @@
 -- What expressions are, and where one has not the type that its place wants.
 use Rattle.std.specs.Prelude.{true, false, not, ◌&&◌, if◌then◌else◌, List, [], ◌++◌, Some, None}
-use Rattle.jz_io.specs.declared.span.Span.{Span}
-use Rattle.jz_words.specs.declared.size.Size.{Size}
+use Rattle.jz_tree.specs.Span.{Span}
+use Rattle.jz_tree.specs.Size.{Size}
 use Rattle.jz_tree.specs.declared.expr.BinOp.{BinOp}
 use Rattle.jz_tree.specs.declared.expr.Expr.{Expr}
 use Rattle.jz_tree.specs.declared.expr.Access.{Access}

@@ -1,7 +1,7 @@
 -- What fits a place, by what the place wants.
 use Rattle.std.specs.Prelude.{Bool, true, false, if◌then◌else◌, Option, Some, None}
-use Rattle.jz_words.specs.declared.size.Size.{Size}
-use Rattle.jz_words.specs.declared.size.Size.TheVariants as sizes
+use Rattle.jz_tree.specs.Size.{Size}
+use Rattle.jz_tree.specs.Size.TheVariants as sizes
 use Rattle.jz_type_names.specs.declared.kinds.Kind.{Kind}
 use Rattle.jz_type_names.specs.declared.kinds.Kind.TheVariants as kind
 use Rattle.jz_type_names.specs.Kinds.{Known, same_size, is_inline_int}

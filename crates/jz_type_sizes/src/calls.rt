@@ -13,8 +13,8 @@ use crate::sides::{is_skip, takes, within_any};
 use crate::values::within_all;
 use crate::walk::fault;
 use crate::wants::Want;
-use jz_data::Seq;
-use jz_io::Span;
+use jz_tree::Seq;
+use jz_tree::Span;
 use jz_type_names::{
     Kind, declaration, earlier_of, is_array, known, same_kind, same_storage, span_of, unless,
     written_length,

@@ -1,7 +1,7 @@
 //! What expressions are by themselves.
 
 ghost use Rattle.std.specs.Prelude.{◌≡◌, Option};
-ghost use Rattle.jz_words.specs.declared.size.Size.{Size};
+ghost use Rattle.jz_tree.specs.Size.{Size};
 ghost use Rattle.jz_type_sizes.specs.Wants.{or_size};
 ghost use Rattle.jz_type_sizes.specs.InnerFound.{found_of};
 ghost use Rattle.jz_type_sizes.specs.Worded.{is_worded};
@@ -10,7 +10,7 @@ use crate::operators::{Group, group_of};
 use crate::wants::{cell_size, known_size, known_truth};
 use jz_type_names::{is_inline_int, known};
 use jz_tree::Expr;
-use jz_words::Size;
+use jz_tree::Size;
 
 /// The size, or where there is none the other's.
 #[tactic(auto, using(crate::proofs::OrSizes::or_sizes))]

@@ -11,7 +11,7 @@ ghost use Rattle.jz_type_names.specs.Tables.{function_in};
 
 use crate::calls::returned_fault;
 use crate::statements::{constant_fault, mismatch};
-use jz_io::Span;
+use jz_tree::Span;
 use jz_type_names::{Functions, earlier_of, statements};
 use jz_tree::{Const, Fun, Rhs, Stmt, StmtKind};
 use std::alloc::{AllocError, Global};

@@ -12,7 +12,7 @@ ghost use Rattle.jz_type_names.specs.Tables.{place_in};
 
 use crate::walk::fault;
 use crate::wants::Want;
-use jz_io::Span;
+use jz_tree::Span;
 use jz_type_names::{
     Places, above, declaration, decls_of, earlier_of, is_array, length_of, names, span_of, unless,
 };

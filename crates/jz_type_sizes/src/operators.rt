@@ -5,7 +5,7 @@ ghost use Rattle.jz_type_sizes.specs.Operators.{group_of, is_of_words, gives, st
 
 use crate::wants::{Want, fits_truth, sized_want};
 use jz_tree::BinOp;
-use jz_words::Size;
+use jz_tree::Size;
 
 /// The operators by what they take and give.
 #[derive(Clone, Copy)]

@@ -11,8 +11,8 @@ use crate::intrinsics::intrinsic_fault;
 use crate::values::assigned_fault;
 use crate::walk::fault;
 use crate::wants::Want;
-use jz_data::Seq;
-use jz_io::Span;
+use jz_tree::Seq;
+use jz_tree::Span;
 use jz_type_names::{earlier_of, is_inline_int, known, unless};
 use jz_tree::{BinOp, Const, Expr, Fun, Lval, Rhs, Stmt, StmtKind, Var};
 

@@ -4,7 +4,7 @@ use Rattle.std.proofs.Common.{◌≡◌, ℕ, Bool, true, false, ◌&&◌, ◌||
 use Rattle.std.specs.Prelude.{if◌then◌else◌}
 use Rattle.std.specs.List.{list_any}
 use Rattle.std.specs.Str.{bytes_eq}
-use Rattle.jz_data.proofs.Texts.{bytes_eq-true}
+use Rattle.jz_tree.proofs.Texts.{bytes_eq-true}
 use Rattle.jz_type_storage.specs.InnerSurely.{Names, having}
 use Rattle.jz_type_storage.specs.InnerWalks.{members, Grows, Adds, Puts, AddsAll, Joins}
 use Rattle.jz_type_storage.proofs.Walking.{grows_self, grows_by, grows_on, behind, members-append, members-push, members-there}

@@ -4,7 +4,7 @@ use Rattle.std.specs.Prelude.{if◌then◌else◌, ◌↔◌, Contains}
 use Rattle.std.specs.Str.{bytes_eq}
 use Rattle.std.proofs.lemmas.List.Elements.{All-nil, Contains-append_left, Contains-append_right, Contains-append_cases}
 use Rattle.std.proofs.lemmas.Slice.Eq.{bytes_eq-Decides}
-use Rattle.jz_io.specs.declared.span.Span.{Span}
+use Rattle.jz_tree.specs.Span.{Span}
 use Rattle.jz_type_names.specs.Scopes.{Name}
 use Rattle.jz_type_names.specs.Order.{IsEarliest, nowhere, here}
 use Rattle.jz_type_storage.specs.Paths.{Event, Reads, Sets, Flow, Skip, Does, Then, Either, Repeat, Through, Into}

@@ -3,7 +3,7 @@ use Rattle.std.proofs.Common.{◌≡◌, ℕ, ◌+◌, ◌<◌, ◌⊎◌, inl, 
 use Rattle.std.specs.Prelude.{◌↔◌, IsTrue}
 use Rattle.std.proofs.Math.ListN.{get_or-append}
 use Rattle.std.proofs.Math.Seq.{get_or-append_seam}
-use Rattle.jz_io.specs.declared.span.Span.{Span}
+use Rattle.jz_tree.specs.Span.{Span}
 use Rattle.jz_tree.specs.declared.program.Fun.{Fun}
 use Rattle.jz_type_names.specs.Order.{earlier, earliest, unless, IsEarliest, nowhere, here}
 use Rattle.jz_type_storage.specs.InnerNumbers.{IsClosed, Leads, IsFound, Falls}

@@ -1,7 +1,7 @@
 -- The earlier of two places, whichever stands first.
 use Rattle.std.proofs.Common.{◌≡◌, Bool, true, false, Option, Some, None, refl, ap}
 use Rattle.std.specs.Prelude.{if◌then◌else◌}
-use Rattle.jz_io.specs.declared.span.Span.{Span}
+use Rattle.jz_tree.specs.Span.{Span}
 use Rattle.jz_type_names.specs.Order.{is_before, earlier}
 use Rattle.jz_type_names.proofs.Standing.{before_is, clash, at_least, only_place}
 

@@ -1,7 +1,7 @@
 -- The earliest of lists that are joined.
 use Rattle.std.proofs.Common.{◌≡◌, ℕ, ◌+◌, ◌<◌, List, ◌∷◌, ◌++◌, length, flat_map, drop, get_or, Option, sym, ap, ◌∙◌}
 use Rattle.std.proofs.lemmas.List.{drop_more}
-use Rattle.jz_io.specs.declared.span.Span.{Span}
+use Rattle.jz_tree.specs.Span.{Span}
 use Rattle.jz_type_names.specs.Order.{earlier, earliest}
 use Rattle.jz_type_names.proofs.Earliest.{earlier-assoc, none-earlier, earlier-none, earliest-append, both_earliest}
 

@@ -2,9 +2,9 @@
 use Rattle.std.proofs.Common.{◌≡◌, ℕ, suc, ◌<◌, ◌⊎◌, inl, inr, Bool, true, false, List, [], ◌∷◌, ◌++◌, Option, Some, None, length, flat_map, get_or, refl, sym, ap, ◌∙◌, cond, arith}
 use Rattle.std.specs.Prelude.{if◌then◌else◌, is_some, option_map, option_to_list}
 use Rattle.std.specs.Str.{bytes_eq}
-use Rattle.jz_data.proofs.Texts.{bytes_eq-sym, bytes_eq-true}
+use Rattle.jz_tree.proofs.Texts.{bytes_eq-sym, bytes_eq-true}
 use Rattle.jz_tree.specs.declared.program.Fun.{Fun}
-use Rattle.jz_io.specs.declared.span.Span.{Span}
+use Rattle.jz_tree.specs.Span.{Span}
 use Rattle.jz_tree.specs.declared.stmt.Stmt.{Stmt}
 use Rattle.jz_type_names.specs.Scopes.{Name, function_named}
 use Rattle.jz_type_names.specs.Parts.{called_by, layer_of}

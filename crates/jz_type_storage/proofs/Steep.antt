@@ -3,7 +3,7 @@ use Rattle.std.proofs.Common.{◌≡◌, ℕ, ◌+◌, ◌<◌, ◌⊎◌, inl, 
 use Rattle.std.specs.Prelude.{Bool, IsTrue, slice_get}
 use Rattle.std.proofs.lemmas.List.{length-map}
 use Rattle.std.proofs.lemmas.Option.{slice_get_cases}
-use Rattle.jz_io.specs.declared.span.Span.{Span}
+use Rattle.jz_tree.specs.Span.{Span}
 use Rattle.jz_tree.specs.declared.program.Fun.{Fun}
 use Rattle.jz_tree.specs.declared.program.Program.{Program}
 use Rattle.jz_type_names.specs.Order.{here}

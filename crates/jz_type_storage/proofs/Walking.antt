@@ -6,8 +6,8 @@ use Rattle.std.specs.Borrow.{Bor}
 use Rattle.std.specs.Str.{bytes_eq}
 use Rattle.std.proofs.lemmas.List.{drop_more, drop_all, take-append-drop}
 use Rattle.std.proofs.Math.Seq.{take-append_seam, take-length}
-use Rattle.jz_data.proofs.Texts.{bytes_eq-true}
-use Rattle.jz_io.specs.declared.span.Span.{Span}
+use Rattle.jz_tree.proofs.Texts.{bytes_eq-true}
+use Rattle.jz_tree.specs.Span.{Span}
 use Rattle.jz_tree.specs.declared.expr.Expr.{Expr}
 use Rattle.jz_tree.specs.declared.expr.Var.{Var}
 use Rattle.jz_tree.specs.declared.expr.BinOp.{BinOp}

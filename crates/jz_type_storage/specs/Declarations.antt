@@ -1,6 +1,6 @@
 -- What may be declared.
 use Rattle.std.specs.Prelude.{Bool, true, false, List, [], ◌++◌, flat_map, Some, None}
-use Rattle.jz_io.specs.declared.span.Span.{Span}
+use Rattle.jz_tree.specs.Span.{Span}
 use Rattle.jz_tree.specs.declared.expr.Storage.{Storage}
 use Rattle.jz_tree.specs.declared.expr.Storage.TheVariants as storage
 use Rattle.jz_tree.specs.declared.expr.Var.{Var}

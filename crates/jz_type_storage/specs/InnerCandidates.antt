@@ -1,7 +1,7 @@
 -- Which functions may reach themselves, where no call is of a function of higher rank: those with a
 -- call of one of equal rank.
 use Rattle.std.specs.Prelude.{◌≡◌, ◌<◌, ◌⊎◌, ℕ, List, Option, Some, None, slice_get, slice_index_or}
-use Rattle.jz_io.specs.declared.span.Span.{Span}
+use Rattle.jz_tree.specs.Span.{Span}
 use Rattle.jz_tree.specs.declared.program.Fun.{Fun}
 use Rattle.jz_type_names.specs.Order.{Before}
 use Rattle.jz_type_storage.specs.declared.fall.Candidate.{Candidate}

@@ -1,6 +1,6 @@
 -- The earliest place at which a variable is wrongly set, statement by statement.
 use Rattle.std.specs.Prelude.{true, not, List, [], ◌∷◌, map, Option, Some, None}
-use Rattle.jz_io.specs.declared.span.Span.{Span}
+use Rattle.jz_tree.specs.Span.{Span}
 use Rattle.jz_tree.specs.declared.expr.Expr.TheViews.{out-Var}
 use Rattle.jz_tree.specs.declared.stmt.Lval.{Lval}
 use Rattle.jz_tree.specs.declared.stmt.Lval.TheVariants as lval

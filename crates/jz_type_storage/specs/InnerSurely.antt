@@ -2,7 +2,7 @@
 -- sets.
 use Rattle.std.specs.Prelude.{ℕ, Bool, false, not, ◌&&◌, ◌||◌, if◌then◌else◌, List, Option, Some, None}
 use Rattle.std.specs.Str.{bytes_eq}
-use Rattle.jz_io.specs.declared.span.Span.{Span}
+use Rattle.jz_tree.specs.Span.{Span}
 use Rattle.jz_type_names.specs.Scopes.{Name}
 use Rattle.jz_type_names.specs.Order.{earlier}
 use Rattle.jz_type_storage.specs.Paths.{Event, Reads, Sets, Flow, Skip, Does, Then, Either, Repeat}

@@ -1,6 +1,6 @@
 -- Recursion: no function reaches itself. Ranks of functions show that none does.
 use Rattle.std.specs.Prelude.{◌≡◌, ◌<◌, ℕ, List, length, flat_map, Option, Some, None, Contains, slice_get, slice_index_or}
-use Rattle.jz_io.specs.declared.span.Span.{Span}
+use Rattle.jz_tree.specs.Span.{Span}
 use Rattle.jz_tree.specs.declared.program.Program.{Program}
 use Rattle.jz_tree.specs.declared.program.Fun.{Fun}
 use Rattle.jz_type_names.specs.Scopes.{Name, function_named}

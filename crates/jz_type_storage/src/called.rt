@@ -2,7 +2,7 @@
 //! and a function that is called has no higher rank than the one that calls it. Nothing is promised
 //! of these ranks: whoever takes them asks.
 
-use jz_data::Seq;
+use jz_tree::Seq;
 use std::alloc::{AllocError, Global};
 
 /// What the walk knows of a function.

@@ -5,7 +5,7 @@ ghost use Rattle.jz_type_names.specs.Order.{earliest};
 ghost use Rattle.jz_type_storage.specs.Declarations.{is_kept, is_passed, is_returned, unkept};
 ghost use Rattle.jz_type_storage.specs.Declarations.{unkept_param, unkept_ret, unkept_in};
 
-use jz_io::Span;
+use jz_tree::Span;
 use jz_type_names::{Declared, Kind, declaration, earlier_of, known, unless};
 use jz_tree::{Fun, Param, Ret, Storage, Var};
 

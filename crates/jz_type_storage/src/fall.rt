@@ -1,14 +1,14 @@
 //! Whether ranks get smaller with each call, and the first function of which they do not.
 
 ghost use Rattle.std.specs.Prelude.{◌≡◌, ◌⊎◌, Some, length, IsTrue};
-ghost use Rattle.jz_io.specs.declared.span.Span.{Span};
+ghost use Rattle.jz_tree.specs.Span.{Span};
 ghost use Rattle.jz_type_storage.specs.Numbers.{AreBelow};
 ghost use Rattle.jz_type_storage.specs.InnerNumbers.{AreCalledBelow, Descends};
 ghost use Rattle.jz_type_storage.specs.InnerCandidates.{IsNoLater, IsCandidate};
 
 use crate::reaching::calls_of;
-use jz_data::Seq;
-use jz_io::Span;
+use jz_tree::Seq;
+use jz_tree::Span;
 use jz_type_names::is_before;
 use jz_tree::Fun;
 

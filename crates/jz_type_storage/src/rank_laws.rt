@@ -1,7 +1,7 @@
 //! Laws of the definitions.
 
 ghost use Rattle.std.specs.Prelude.{ℕ, List};
-ghost use Rattle.jz_io.specs.declared.span.Span.{Span};
+ghost use Rattle.jz_tree.specs.Span.{Span};
 ghost use Rattle.jz_tree.specs.declared.program.Program.{Program};
 ghost use Rattle.jz_type_storage.specs.Recursion.{IsRanked, IsRecursive};
 

@@ -4,7 +4,7 @@ ghost use Rattle.std.specs.Prelude.{◌≡◌, ◌∷◌, [], ℕ, ◌<◌, leng
 ghost use Rattle.jz_type_storage.specs.InnerNumbers.{Has, row_of, IsClosed, Consistent, IsFound};
 ghost use Rattle.jz_type_storage.specs.InnerVisits.{HasVisited};
 
-use jz_data::Seq;
+use jz_tree::Seq;
 use std::alloc::{AllocError, Global};
 
 /// The functions found so far, in the order in which they were found.

@@ -10,8 +10,8 @@ ghost use Rattle.jz_type_storage.specs.InnerWalks.{members, unset_read, FindsUns
 
 use crate::sets::has;
 use indexmap::IndexSet;
-use jz_data::Text;
-use jz_io::Span;
+use jz_tree::Text;
+use jz_tree::Span;
 use jz_type_names::{earlier_of, names};
 use jz_tree::{BinOp, Expr, Lval, Rhs, Var};
 use std::alloc::{AllocError, Global};

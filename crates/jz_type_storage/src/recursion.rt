@@ -1,7 +1,7 @@
 //! Ranks of the functions of a program, or the first function that reaches itself.
 
 ghost use Rattle.std.specs.Prelude.{◌≡◌, Some, IfOk};
-ghost use Rattle.jz_io.specs.declared.span.Span.{Span};
+ghost use Rattle.jz_tree.specs.Span.{Span};
 ghost use Rattle.jz_type_storage.specs.InnerNumbers.{graph_of};
 ghost use Rattle.jz_type_storage.specs.InnerCandidates.{Stands, IsNoLater};
 ghost use Rattle.jz_type_storage.specs.Recursion.{IsRecursive, Tells, recursive_of};
@@ -10,8 +10,8 @@ use crate::fall::{Candidate, descends, first_level};
 use crate::graph::graph;
 use crate::reaching::reach;
 use crate::called::walked_ranks;
-use jz_data::Seq;
-use jz_io::Span;
+use jz_tree::Seq;
+use jz_tree::Span;
 use jz_type_names::{earlier_of, unless};
 use jz_tree::Program;
 use std::alloc::{AllocError, Global};

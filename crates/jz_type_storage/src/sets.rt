@@ -4,7 +4,7 @@ ghost use Rattle.std.specs.Prelude.{◌≡◌, ◌≤◌, IfOk, OnOk, length, ta
 ghost use Rattle.jz_type_storage.specs.InnerWalks.{members, Adds, Puts, AddsAll, Joins};
 
 use indexmap::IndexSet;
-use jz_data::Text;
+use jz_tree::Text;
 use std::alloc::{AllocError, Global};
 
 /// Whether the set has a name.

@@ -8,8 +8,8 @@ ghost use Rattle.jz_type_names.specs.Order.{earliest};
 ghost use Rattle.jz_type_storage.specs.Settings.{around, may_set, wrongly_set_in};
 ghost use Rattle.jz_type_storage.specs.InnerFirstSet.{first_left, first_lefts, first_set_all, first_set_kind};
 
-use jz_data::{Seq, Text};
-use jz_io::Span;
+use jz_tree::{Seq, Text};
+use jz_tree::Span;
 use jz_type_names::{earlier_of, is_inline, is_inline_int, known, unless};
 use jz_tree::{Fun, Lval, Stmt, StmtKind, Var};
 use std::alloc::{AllocError, Global};

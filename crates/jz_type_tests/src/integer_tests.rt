@@ -1,5 +1,5 @@
 //! Operations on whole numbers, most at the ends of 128 bits, as Rust's checked operations answer them.
-use jz_data::Boxed;
+use jz_tree::Boxed;
 use jz_integers::Constant::{self, Bool, Int};
 use jz_integers::{NoNumbers, inline_value, on_integers, written_number};
 use jz_io::Span;

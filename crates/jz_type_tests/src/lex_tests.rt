@@ -1,6 +1,6 @@
 //! Texts with the tokens and faults that the language's rules give by hand.
 
-use jz_data::Failure;
+use jz_tree::Failure;
 use jz_io::Span;
 use jz_lex::{LexFault, LexKind, Token, TokenKind, lex};
 use std::alloc::{AllocError, Global};

@@ -1,7 +1,7 @@
 //! Texts with the programs and faults that the language's rules give by hand.
 
 use crate::names::operation_name;
-use jz_data::{Failure, Seq, Text};
+use jz_tree::{Failure, Seq, Text};
 use jz_io::Span;
 use jz_lex::{Tokens, lex};
 use jz_parse::{SyntaxFault, SyntaxKind, parse};
@@ -9,7 +9,7 @@ use jz_tree::{
     Access, BinOp, Decl, Expr, Fun, FunKind, Lval, Note, NoteValue, Param, Program, Ret, Rhs, Stmt,
     StmtKind, Storage, Ty, Var,
 };
-use jz_words::Size;
+use jz_tree::Size;
 use std::alloc::{AllocError, Global};
 use std::process::Abort;
 use std::test::Fail;

@@ -1,9 +1,9 @@
 //! Copies and comparisons of trees, also of a left side as long as a text lets it be.
 
-use jz_data::{Boxed, Seq, Text};
+use jz_tree::{Boxed, Seq, Text};
 use jz_io::Span;
 use jz_tree::{Access, BinOp, Decl, Expr, Stmt, StmtKind, Storage, Ty, Var};
-use jz_words::Size;
+use jz_tree::Size;
 use std::alloc::{AllocError, Global};
 use std::test::Fail;
 

@@ -1,6 +1,6 @@
 //! Texts, and what typing tells of each.
 
-use jz_data::Failure;
+use jz_tree::Failure;
 use jz_lex::lex;
 use jz_parse::parse;
 use jz_types::check;

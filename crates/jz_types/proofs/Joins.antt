@@ -1,7 +1,7 @@
 -- For loops over what a definition says by `flat_map`.
 use Rattle.std.proofs.Common.{◌≡◌, ℕ, ◌+◌, ◌<◌, List, ◌∷◌, length, drop, get_or, Option, sym, ap, ◌∙◌}
 use Rattle.std.proofs.lemmas.List.{drop_more}
-use Rattle.jz_io.specs.declared.span.Span.{Span}
+use Rattle.jz_tree.specs.Span.{Span}
 use Rattle.jz_type_names.specs.Order.{earlier, earliest, first_in}
 use Rattle.jz_type_names.proofs.Earliest.{earlier-assoc}
 pub use Rattle.jz_type_names.proofs.Earliest.{joining}

@@ -1,7 +1,7 @@
 -- What the rules find first, told.
 use Rattle.std.proofs.Common.{◌≡◌, ℕ, List, ◌++◌, Option, Some, sym, subst}
 use Rattle.std.specs.Prelude.{Contains, MatchOption}
-use Rattle.jz_io.specs.declared.span.Span.{Span}
+use Rattle.jz_tree.specs.Span.{Span}
 use Rattle.jz_tree.specs.declared.program.Program.{Program}
 use Rattle.jz_type_names.specs.Order.{earlier, earliest, IsEarliest, here}
 use Rattle.jz_type_names.specs.Names.{unknown_in, repeated_in}

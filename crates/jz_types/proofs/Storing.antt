@@ -1,7 +1,7 @@
 -- Where variables are first kept, set or read as their storage does not allow.
 use Rattle.std.proofs.Common.{◌≡◌, ◌++◌, Option, sym, subst}
 use Rattle.std.specs.Prelude.{Contains}
-use Rattle.jz_io.specs.declared.span.Span.{Span}
+use Rattle.jz_tree.specs.Span.{Span}
 use Rattle.jz_tree.specs.declared.program.Program.{Program}
 use Rattle.jz_type_names.specs.Order.{earlier, earliest, IsEarliest}
 use Rattle.jz_type_names.proofs.Earliest.{both_earliest}

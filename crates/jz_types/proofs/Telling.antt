@@ -2,7 +2,7 @@
 use Rattle.std.proofs.Common.{◌≡◌, ℕ, ◌<◌, ◌≤◌, ◌⊎◌, inl, inr, suc, Bool, true, false, Option, Some, None, refl, sym, ap, ◌∙◌, subst, arith}
 use Rattle.std.specs.Prelude.{if◌then◌else◌, nat_eq, MatchOption}
 use Rattle.std.proofs.lemmas.Bool.Decides.{nat_tests}
-use Rattle.jz_io.specs.declared.span.Span.{Span}
+use Rattle.jz_tree.specs.Span.{Span}
 use Rattle.jz_type_names.specs.Order.{Before, is_before, IsEarliest, nowhere, here}
 use Rattle.jz_type_names.proofs.Standing.{before_is, before_before, clash, at_least}
 use Rattle.jz_types.specs.declared.fault.TypeRule.{TypeRule}

@@ -1,6 +1,6 @@
 -- The fault that is told, of what each rule finds first.
 use Rattle.std.specs.Prelude.{if◌then◌else◌, Option, Some, None}
-use Rattle.jz_io.specs.declared.span.Span.{Span}
+use Rattle.jz_tree.specs.Span.{Span}
 use Rattle.jz_type_names.specs.Order.{is_before}
 use Rattle.jz_types.specs.declared.fault.TypeRule.{TypeRule}
 use Rattle.jz_types.specs.declared.fault.TypeRule.TheVariants.{Unknown, Duplicate, Mismatch, Storage, Recursion, NoInstruction, ArrayCopy, BadAnnotation, ExportShape, RegIndex}

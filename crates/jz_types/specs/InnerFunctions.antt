@@ -1,6 +1,6 @@
 -- What a rule finds in one function, by the tables of the program.
 use Rattle.std.specs.Prelude.{List}
-use Rattle.jz_io.specs.declared.span.Span.{Span}
+use Rattle.jz_tree.specs.Span.{Span}
 use Rattle.jz_tree.specs.declared.program.Fun.{Fun}
 use Rattle.jz_type_names.specs.Scopes.{variable_place, or_values}
 use Rattle.jz_type_names.specs.Names.{fun_where}

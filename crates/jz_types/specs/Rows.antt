@@ -1,7 +1,7 @@
 -- NoInstruction: a statement of which no other fault is told matches a row of the tables, and so do
 -- the copies of its call.
 use Rattle.std.specs.Prelude.{ℕ, List, ◌++◌, flat_map, Option, is_some}
-use Rattle.jz_io.specs.declared.span.Span.{Span}
+use Rattle.jz_tree.specs.Span.{Span}
 use Rattle.jz_tree.specs.declared.stmt.Stmt.{Stmt}
 use Rattle.jz_tree.specs.declared.program.Fun.{Fun}
 use Rattle.jz_tree.specs.declared.program.Program.{Program}

@@ -1,6 +1,6 @@
 -- The rules of typing: which places break each of them.
 use Rattle.std.specs.Prelude.{◌⊎◌, ◌++◌, Contains}
-use Rattle.jz_io.specs.declared.span.Span.{Span}
+use Rattle.jz_tree.specs.Span.{Span}
 use Rattle.jz_tree.specs.declared.program.Program.{Program}
 use Rattle.jz_type_names.specs.Names.{unknown_in, repeated_in}
 use Rattle.jz_resolve.specs.Numbering.{length_of}

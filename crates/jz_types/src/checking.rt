@@ -1,7 +1,7 @@
 //! The program that is typed, or the first fault.
 
 ghost use Rattle.std.specs.Prelude.{◌≡◌, IfOk, IfErr};
-ghost use Rattle.jz_data.specs.Failures.{IfRefused};
+ghost use Rattle.jz_tree.specs.Failures.{IfRefused};
 ghost use Rattle.jz_tree.specs.declared.program.Program.{Program};
 ghost use Rattle.jz_resolve.specs.Programs.{resolved_program};
 ghost use Rattle.jz_types.specs.InnerAsking.{AreOfText, AreOfDeclared, firsts_of};
@@ -12,7 +12,7 @@ use crate::functions::{OfDeclared, OfText, declared_of_functions, text_of_functi
 use crate::lengths::ConstantLengths;
 use crate::typed::Typed;
 use jz_type_storage::{Ranking, find_recursion};
-use jz_data::Failure;
+use jz_tree::Failure;
 use jz_type_sizes::constants_fault;
 use jz_resolve::{constants, resolve};
 use jz_type_rows::Callees;

@@ -4,7 +4,7 @@ ghost use Rattle.std.specs.Prelude.{◌≡◌};
 ghost use Rattle.jz_types.specs.Faults.{rule_number};
 ghost use Rattle.jz_types.specs.InnerFaults.{told_of, first_told};
 
-use jz_io::Span;
+use jz_tree::Span;
 use jz_type_names::is_before;
 
 /// A rule of typing.

@@ -23,7 +23,7 @@ ghost use Rattle.jz_types.specs.InnerFunctions.{unknown_with};
 
 use crate::lengths::ConstantLengths;
 use crate::rows::unmatched_in_fun;
-use jz_io::Span;
+use jz_tree::Span;
 use jz_type_sizes::{body_fault, lengths_fault};
 use jz_type_storage::{read_unset, wrongly_kept, wrongly_set};
 use jz_type_rows::{Callees, annotated, copied_in, indexed_in, misshapen};

@@ -1,7 +1,7 @@
 -- What closed bytes begin with, as a disassembler says it.
 use Rattle.std.proofs.Common.{◌≡◌, ℕ, List, [], ◌∷◌, false, Some, None, refl}
 use Rattle.std.specs.Prelude.{pos, negsuc}
-use Rattle.jz_words.specs.declared.size.Size.TheVariants.{S8, S16, S32, S64}
+use Rattle.x64_insn.specs.Size.TheVariants.{S8, S16, S32, S64}
 use Rattle.x64_insn.specs.declared.types.Alu.TheVariants as alu
 use Rattle.x64_insn.specs.declared.types.Cond.TheVariants as cond
 use Rattle.x64_insn.specs.declared.types.Width.TheVariants.{Rel8}

@@ -1,8 +1,8 @@
 -- How long the fields are.
 use Rattle.std.proofs.Common.{◌≡◌, ℕ, ◌≤◌, List, Bool, true, false, Option, Some, None, sym, ap, ◌∙◌, subst, arith, if◌then◌else◌, ◌==◌, Ok}
 use Rattle.std.specs.Prelude.{unwrap_or}
-use Rattle.jz_words.specs.declared.size.Size.{Size}
-use Rattle.jz_words.specs.declared.size.Size.TheVariants.{S8, S16, S32, S64}
+use Rattle.x64_insn.specs.Size.{Size}
+use Rattle.x64_insn.specs.Size.TheVariants.{S8, S16, S32, S64}
 use Rattle.x64_insn.specs.declared.types.Width.{Width}
 use Rattle.x64_insn.specs.declared.types.Width.TheVariants.{Rel8, Rel32}
 use Rattle.x64_insn.specs.declared.table.Row.{Row}

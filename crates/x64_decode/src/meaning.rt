@@ -10,7 +10,7 @@ ghost use Rattle.x64_decode.specs.InnerReading.{AreShort, fields_read};
 
 use crate::numbers::{byte_of, signed_of, small_signed_of};
 use crate::reading::FieldsRead;
-use jz_words::Size;
+use x64_insn::Size;
 use x64_insn::table::{Operands, Row, has_w, operation_of, reg_of, rex_bits};
 use x64_insn::{Alu, Base, Count, Insn, Mem, One, Operand, Reg, Shift, Wide};
 

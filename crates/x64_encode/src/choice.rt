@@ -3,7 +3,7 @@
 ghost use Rattle.std.specs.Prelude.{◌≡◌, ◌+◌, ◌≤◌, false, IfSome, None, Some, []};
 ghost use Rattle.x64_insn.specs.Chosen.{alu_fields, alu_immediate, chosen_fields, condition_number, extend_fields, imul_by_fields, is_test, jcc_fields, jmp_fields, modrm_fields, mov_fields, mov_immediate, needs_rex, one_number, one_opcode, opcode_alone, opcode_for, shift_fields, signed_bytes, with_number};
 ghost use Rattle.x64_insn.specs.Table.{immediate_by, number_of, width_length};
-ghost use Rattle.jz_words.specs.declared.size.Size.TheVariants.{S8, S64};
+ghost use Rattle.x64_insn.specs.Size.TheVariants.{S8, S64};
 ghost use Rattle.x64_insn.specs.declared.types.Alu.TheVariants.{Test};
 ghost use Rattle.x64_insn.specs.declared.types.Operand.TheVariants as operand;
 ghost use Rattle.x64_encode.specs.InnerFields.{IsShort, named_bytes, named_choice, named_fields};
@@ -13,7 +13,7 @@ use crate::numbers::{
     alu_number, condition_number, fits_byte, fits_immediate, one_number, one_opcode, opcode_for,
     shift_number, wide_number,
 };
-use jz_words::Size;
+use x64_insn::Size;
 use x64_insn::table::{immediate_by, number_of, width_length};
 use x64_insn::{Alu, Cond, Count, Insn, Mem, One, Operand, Reg, Shift, Width};
 

@@ -7,7 +7,7 @@ ghost use Rattle.x64_encode.specs.InnerFields.{IsShort, Small, named_bytes, name
 
 use crate::code::Code15;
 use crate::numbers::fits_byte;
-use jz_words::Size;
+use x64_insn::Size;
 use x64_insn::table::number_of;
 use x64_insn::{Base, Operand, Reg};
 

@@ -4,7 +4,7 @@ ghost use Rattle.std.specs.Prelude.{◌≡◌, ◌<◌};
 ghost use Rattle.x64_insn.specs.Table.{immediate_by};
 ghost use Rattle.x64_insn.specs.Chosen.{alu_number, condition_number, fits_bytes, one_number, one_opcode, opcode_for, shift_number, wide_number};
 
-use jz_words::Size;
+use x64_insn::Size;
 use x64_insn::{Alu, Cond, One, Shift, Wide};
 
 /// Whether one byte holds a signed number.

@@ -5,7 +5,7 @@ ghost use Rattle.x64_insn.specs.Chosen.{are_alu_operands, are_mov_operands, fits
 ghost use Rattle.x64_insn.specs.Table.{width_length};
 
 use crate::numbers::{fits_byte, fits_immediate};
-use jz_words::Size;
+use x64_insn::Size;
 use x64_insn::table::number_of;
 use x64_insn::{Alu, Base, Insn, Mem, Operand, Reg, Width};
 

@@ -21,3 +21,5 @@ pub mod ChosenSpelling
 pub mod RegisterBytes
 mod Examples
 mod ResultExamples
+pub use Rattle.jz_words.proofs.MemorySpans
+pub use Rattle.jz_words.proofs.Residues

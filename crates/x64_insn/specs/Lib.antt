@@ -7,3 +7,9 @@ pub mod Shifts
 pub mod Rows
 pub mod Laws
 pub mod InnerRows
+pub use Rattle.jz_words.specs.Memory
+pub use Rattle.jz_words.specs.Readings
+pub use Rattle.jz_words.specs.Sizes
+pub use Rattle.jz_words.specs.Words
+pub use Rattle.jz_words.specs.declared.size.Size
+pub use Rattle.jz_words.specs.declared.word.Word

@@ -38,3 +38,4 @@ pub use types::{
     Alu, Base, Cond, Count, FaultKind, Flag, FlagVal, Insn, Mem, One, Operand, Place, Reg, Shift,
     State, StepLeak, Wide, Width,
 };
+pub use jz_words::{Size, Word, add_carry, and, fits_four_bytes, has_bit, mul_signed, mul_wide, or, parity, reading, residue, rol, ror, sar, shl, shr, sub_borrow, swap_bytes, xor};

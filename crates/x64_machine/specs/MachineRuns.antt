@@ -1,6 +1,6 @@
 -- A machine as a configuration over its code, and what a run of it answers.
 use Rattle.std.specs.Prelude.{◌≡◌, ℕ, zero, suc, false, if◌then◌else◌, List, ◌++◌}
-use Rattle.jz_words.specs.Memory.{Memory, loaded}
+use Rattle.x64_insn.specs.Memory.{Memory, loaded}
 use Rattle.x64_insn.specs.declared.types.Reg.TheVariants as reg
 use Rattle.x64_insn.specs.declared.types.State.{State}
 use Rattle.x64_insn.specs.Rows.{reg_value}

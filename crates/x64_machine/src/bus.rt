@@ -1,7 +1,7 @@
 //! The memory of a machine behind a bus.
 
 use jz_leak::MemMap;
-use jz_words::Size;
+use x64_insn::Size;
 use x64_insn::Bus;
 
 /// The memory of a machine, as an instruction sees it.

@@ -6,9 +6,9 @@ ghost use Rattle.x64_machine.specs.MachineRuns.{base_of, code_of, config_of, las
 
 use crate::bus::MemBus;
 use crate::step::Step;
-use jz_data::Seq;
+use jz_leak::Seq;
 use jz_leak::MemMap;
-use jz_words::Size;
+use x64_insn::Size;
 use std::alloc::{AllocError, Global};
 use x64_decode::{Decoded, decode};
 use x64_insn::{Bus, FaultKind, Insn, Reg, State, StepLeak, effect};

@@ -1,6 +1,6 @@
 //! The text of an instruction: its name, then its parts in their order, each behind a space.
 
-use jz_words::Size;
+use x64_insn::Size;
 use std::alloc::AllocError;
 use x64_insn::{Base, Cond, Count, Insn, Mem, Operand, Reg, Width};
 

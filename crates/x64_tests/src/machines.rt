@@ -3,7 +3,7 @@
 use crate::numbers::{bytes, hexadecimal};
 use crate::spellings::write_decoded;
 use jz_leak::MemMap;
-use jz_words::Size;
+use x64_insn::Size;
 use std::alloc::{AllocError, Global};
 use x64_insn::{FlagVal, State, StepLeak};
 use x64_machine::{Machine, Step};

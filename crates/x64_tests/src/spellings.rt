@@ -3,7 +3,7 @@
 use crate::insns::write_insn;
 use crate::numbers::bytes;
 use std::alloc::{AllocError, Global};
-use x64_decode::{Decoded, decode};
+use x64_machine::{Decoded, decode};
 use x64_encode::{encode, has_spelling};
 use x64_insn::Insn;
 

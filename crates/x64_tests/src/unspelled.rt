@@ -2,7 +2,7 @@
 
 use crate::machines::{BASE, write_answer};
 use jz_leak::MemMap;
-use jz_words::Size;
+use x64_insn::Size;
 use std::alloc::{AllocError, Global};
 use x64_encode::has_spelling;
 use x64_insn::{

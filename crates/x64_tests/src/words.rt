@@ -3,7 +3,7 @@
 ghost use Rattle.std.specs.Prelude.{◌≡◌, ◌<◌};
 
 use crate::numbers::hexadecimal;
-use jz_words::{
+use x64_insn::{
     Size, Word, add_carry, and, has_bit, mul_signed, mul_wide, or, parity, residue, rol, ror, sar,
     shl, shr, sub_borrow, swap_bytes, xor,
 };

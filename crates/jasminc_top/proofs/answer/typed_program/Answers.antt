@@ -1,7 +1,7 @@
 use Rattle.std.proofs.Common.{◌≡◌, rules, subst, sym}
 use Rattle.std.proofs.lemmas.Result.{err_from_is_err_and}
 use Rattle.std.specs.Prelude.{IfOk}
-use Rattle.jz_lex.specs.Lexing.{IsLexed, HasNoToken}
+use Rattle.jz_grammar.specs.Lexing.{IsLexed, HasNoToken}
 use Rattle.jz_first.specs.Deriving.{DerivesProgram, IsUnexpected}
 use Rattle.jz_first.specs.Rules.{IsFirstTypeFault}
 use Rattle.jasminc_top.specs.declared.refusal.Refusal.TheVariants.{Lex, Parse, Typing}

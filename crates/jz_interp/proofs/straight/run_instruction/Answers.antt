@@ -1,4 +1,4 @@
-use Rattle.jz_runs.specs.Trees.{op}
+use Rattle.jz_meaning.specs.Trees.{op}
 use Rattle.jz_meaning.specs.Stores.{state_of}
 use Rattle.jz_meaning.specs.Statements.{instruction}
 use Rattle.jz_interp.specs.Parts.{named_instruction_tree}

@@ -1,5 +1,5 @@
 use Rattle.std.proofs.Common.{◌≡◌}
-use Rattle.jz_runs.specs.Trees.{op}
+use Rattle.jz_meaning.specs.Trees.{op}
 use Rattle.jz_meaning.specs.Attempts.{changed, numbers_first}
 use Rattle.jz_meaning.specs.Stores.{state_of}
 use Rattle.jz_meaning.specs.Statements.{does}

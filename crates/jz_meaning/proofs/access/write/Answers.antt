@@ -1,7 +1,7 @@
 use Rattle.std.proofs.Common.{ap, sym, ◌∙◌}
 use Rattle.std.specs.Prelude.{option_map}
 use Rattle.std.specs.Option.{option_or}
-use Rattle.jz_words.specs.declared.size.Size.TheVariants.{S64}
+use Rattle.x64_insn.specs.Size.TheVariants.{S64}
 use Rattle.jz_meaning.specs.Attempts.{did, numbers_first}
 use Rattle.jz_meaning.specs.Operators.{word_at}
 use Rattle.jz_meaning.specs.States.{as_value}

@@ -1,5 +1,5 @@
 use Rattle.std.proofs.Common.{◌≡◌, subst}
-use Rattle.jz_lex.proofs.LexingUnique.{one_lexing}
+use Rattle.jz_grammar.proofs.LexingUnique.{one_lexing}
 use Rattle.jz_parse.specs.Deriving.{DerivesProgram, most_nested}
 use Rattle.jz_parse.specs.Reading.{Reads}
 use Rattle.jz_parse.proofs.Faults.{one_program_law}

@@ -1,5 +1,5 @@
 use Rattle.std.proofs.Common.{List, take, map, sym, subst, ◌+◌}
-use Rattle.jz_data.specs.Failures.{IfRefused}
+use Rattle.jz_first.specs.Failures.{IfRefused}
 use Rattle.jz_first_meaning.specs.declared.expanded.Expanded.{Expanded}
 use Rattle.jz_listing.specs.declared.compiled.Compiled.{Compiled}
 use Rattle.jz_safety.proofs.Checking.{passed_on}

@@ -1,7 +1,7 @@
 use Rattle.std.proofs.Common.{◌≡◌, List, map, ap, sym, subst, ◌∙◌}
 use Rattle.std.specs.Prelude.{All}
 use Rattle.std.proofs.lemmas.List.Elements.{All-push}
-use Rattle.jz_data.specs.Failures.{IfRefused}
+use Rattle.jz_first.specs.Failures.{IfRefused}
 use Rattle.jz_first_meaning.specs.declared.expanded.Expanded.{Expanded}
 use Rattle.jz_pipeline.specs.Limits.{count_of, IsFirstLimit}
 use Rattle.jz_safety.proofs.Checking.{passed_on}

@@ -1,6 +1,6 @@
 use Rattle.std.proofs.Common.{List, ◌++◌, ap, sym, subst, ◌∙◌}
 use Rattle.std.specs.Prelude.{All}
-use Rattle.jz_data.specs.Failures.{IfRefused}
+use Rattle.jz_first.specs.Failures.{IfRefused}
 use Rattle.jz_first_meaning.specs.declared.expanded.Expanded.{Expanded}
 use Rattle.jz_safety.specs.Alarms.{HasNoAlarm, IsFirstAlarm}
 use Rattle.jz_safety.proofs.Checking.{passed_on}

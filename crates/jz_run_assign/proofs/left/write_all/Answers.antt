@@ -2,7 +2,7 @@ use Rattle.std.proofs.Common.{ap, sym, ◌∙◌, length}
 use Rattle.std.specs.Iterator.Adapters.{zip_first, zip_second}
 use Rattle.std.specs.Slice.Iter.{iter_rest}
 use Rattle.std.proofs.lemmas.Slice.Zip.{Zip-more, either_empty_from_Zip}
-use Rattle.jz_runs.specs.Rules.{stuck}
+use Rattle.jz_meaning.specs.Rules.{stuck}
 use Rattle.jz_meaning.specs.Attempts.{changed}
 use Rattle.jz_meaning.specs.Stores.{state}
 use Rattle.jz_run_assign.proofs.Writing.{next_written, next_stuck, still_in_step, one_left_over}

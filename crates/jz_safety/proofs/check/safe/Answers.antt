@@ -1,5 +1,5 @@
 use Rattle.std.proofs.Common.{ap, ◌∙◌, sym}
-use Rattle.jz_data.specs.Failures.{IfRefused}
+use Rattle.jz_first.specs.Failures.{IfRefused}
 use Rattle.jz_safety.specs.Facts.{Facts, facts_of}
 use Rattle.jz_safety.specs.Holding.{facts_at_end}
 use Rattle.jz_safety.specs.Alarms.{body_alarms, IsFirstAlarm}

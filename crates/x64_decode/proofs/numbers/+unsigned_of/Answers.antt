@@ -1,6 +1,6 @@
 -- Eight bytes are below 2 ^ 64.
 use Rattle.std.proofs.Common.{arith}
-use Rattle.jz_words.proofs.MemorySpans.{fits_seven_bytes}
+use Rattle.x64_insn.proofs.MemorySpans.{fits_seven_bytes}
 use Rattle.x64_decode.proofs.numbers.+unsigned_of.Goals as goal
 
 pub overflow_mul-result : goal.overflow_mul-result

@@ -5,7 +5,7 @@ use Rattle.std.specs.Ordering.{nat_cmp}
 use Rattle.std.specs.FinMap.{get, get-empty}
 use Rattle.std.proofs.lemmas.Bool.{cond_both, ltb-false}
 use Rattle.std.proofs.lemmas.Option.{slice_get_past}
-use Rattle.jz_words.specs.Memory.{Memory}
+use Rattle.x64_insn.specs.Memory.{Memory}
 use Rattle.jz_leak.specs.MemoryMap.{AddsBytes, byte_from}
 use Rattle.x64_tests.proofs.runs.stack.Goals as goal
 

@@ -1,6 +1,6 @@
 use Rattle.std.proofs.Common.{rules}
 use Rattle.std.specs.Str.{bytes_eq}
-use Rattle.jz_data.proofs.Texts.{bytes_eq-true}
+use Rattle.jz_tree.proofs.Texts.{bytes_eq-true}
 use Rattle.jz_type_rows.proofs.TableLaws.{set_more}
 use Rattle.jz_type_rows.proofs.tables.Names.add.Goals as goal
 
