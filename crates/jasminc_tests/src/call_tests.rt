@@ -1,14 +1,12 @@
 //! Calls of the crates below whose answers no text of the first language shows.
 
-use jz_leak::{Boxed, Seq, Text};
 use jz_io::{Ct, CtKind, Span};
-use jz_leak::{Case, Event, Form, Leak, MemMap, Out, Tr, Transformer, apply};
+use jz_leak::{Boxed, Case, Event, Form, Leak, MemMap, Out, Seq, Text, Tr, Transformer, apply};
 use jz_listing::{Arg, Compiled, Pre, listing};
 use jz_pipeline::has_field;
-use x64_insn::Size;
 use std::alloc::{AllocError, Global};
 use std::test::Fail;
-use x64_insn::Reg;
+use x64_insn::{Reg, Size};
 
 #[test]
 fn what_is_copied_is_equal(rt: HostRuntime) -> Result<(), Fail> {

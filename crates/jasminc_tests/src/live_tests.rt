@@ -7,9 +7,9 @@ ghost use Rattle.jz_ir.specs.Tree.{done, then_tree, tree_of};
 ghost use Rattle.jz_live.specs.Lives.{TreeBelow};
 
 use jz_bits::Bits;
-use jz_leak::Seq;
 use jz_io::Span;
 use jz_ir::{Node, Op};
+use jz_leak::Seq;
 use jz_live::live;
 use std::alloc::{AllocError, Global};
 use std::test::Fail;

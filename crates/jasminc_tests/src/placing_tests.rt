@@ -1,9 +1,9 @@
 //! Code that no text of the first language gives, and the places or the refusal that it has to come to.
 
 use jz_alloc::{NoPlace, Places, allocate};
-use jz_leak::{Failure, Seq};
 use jz_io::Span;
 use jz_ir::{Code, Kind, Need, Op, are_below};
+use jz_leak::{Failure, Seq};
 use std::alloc::{AllocError, Global};
 use std::test::Fail;
 use x64_insn::{Flag, Place, Reg};

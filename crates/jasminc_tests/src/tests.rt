@@ -1,8 +1,8 @@
 //! Whole commands over texts in memory, with the answers that the rules give by hand.
 
 use jasminc_top::{Done, Status, jasminc_run};
-use jz_leak::Seq;
 use jz_io::{MemSink, MemSource};
+use jz_leak::Seq;
 use jz_listing::Compiled;
 use std::alloc::{AllocError, Global};
 use std::process::Abort;

@@ -10,12 +10,11 @@ ghost use Rattle.jasminc_top.specs.Running.{event_line, result_line, run_text};
 ghost use Rattle.jz_correct.specs.Registers.{argument_registers};
 ghost use Rattle.jasminc_top.specs.Answers.{step_limit};
 
-use jz_first::Seq;
+use jz_first::{Seq, Size};
 use jz_io::Bytes;
 use jz_leak::{Event, Events, MemMap};
 use jz_listing::{Arg, Compiled, write_number};
 use jz_lower::ARGUMENT_REGISTERS;
-use jz_first::Size;
 use std::alloc::{AllocError, Global};
 use x64_insn::{FaultKind, FlagVal, Reg, State, StepLeak};
 use x64_machine::{Machine, Step};

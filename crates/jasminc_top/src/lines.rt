@@ -9,12 +9,10 @@ ghost use Rattle.jasminc_top.specs.Lines.{place_text, need_text, holder_text};
 ghost use Rattle.jasminc_top.specs.Lines.{texts_or_dash, no_place_line};
 
 use jz_alloc::Needed;
-use jz_grammar::{SyntaxFault, SyntaxKind};
-use jz_first::{Seq, Text};
+use jz_first::{Seq, Text, TypeFault, TypeRule};
 use jz_first_meaning::Reason;
-use jz_first::{TypeFault, TypeRule};
+use jz_grammar::{LexFault, LexKind, SyntaxFault, SyntaxKind};
 use jz_io::Span;
-use jz_grammar::{LexFault, LexKind};
 use jz_listing::{reg_name, write_number, write_span};
 use jz_pipeline::{Holder, Limit, LimitKind, NoPlace};
 use jz_safety::Alarm;

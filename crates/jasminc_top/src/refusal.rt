@@ -6,10 +6,8 @@ ghost use Rattle.jasminc_top.specs.Refusals.{status_of, cause_text, line_of};
 use crate::lines::{
     write_alarm, write_lex_fault, write_limit, write_no_place, write_syntax_fault, write_type_fault,
 };
-use jz_grammar::SyntaxFault;
-use jz_first::Text;
-use jz_first::TypeFault;
-use jz_grammar::LexFault;
+use jz_first::{Text, TypeFault};
+use jz_grammar::{LexFault, SyntaxFault};
 use jz_pipeline::{Limit, NoPlace};
 use jz_safety::Alarm;
 use std::alloc::{AllocError, Global};

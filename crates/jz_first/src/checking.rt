@@ -6,6 +6,7 @@ ghost use Rattle.jz_first.specs.Faults.{first_of};
 ghost use Rattle.jz_first.specs.Resolving.{resolved_program};
 ghost use Rattle.jz_first.specs.Rules.{faults_of, IsTyped, IsFirstTypeFault};
 
+use crate::Program;
 use crate::counts::{miscounted_funs, misshapen_funs};
 use crate::fault::{TypeFault, earlier_of};
 use crate::names::{repeated_function, repeated_variables};
@@ -13,7 +14,6 @@ use crate::resolve::resolve;
 use crate::typed::Typed;
 use crate::unknown::unknown_variables;
 use jz_grammar::Failure;
-use crate::Program;
 use std::alloc::{AllocError, Global};
 
 fn first_fault(alloc: Global, program: &Program) -> Result<Option<TypeFault>, AllocError>

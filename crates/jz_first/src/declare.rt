@@ -5,10 +5,8 @@ ghost use Rattle.jz_grammar.specs.Kinds.{has};
 ghost use Rattle.jz_grammar.specs.Gave.{Gave};
 ghost use Rattle.jz_first.specs.Readers.{variable_declared, param, reg_u64, params_more, group, group_starts, next_group, groups_more, groups, params, rtype, next_rtype, rtypes_more, results, next_declared, declared_starts, declared_more, decl};
 
-use jz_grammar::{Cursor, Stop};
-use jz_grammar::Seq;
 use crate::{Decl, Param, Ret, Storage, Ty, Var};
-use jz_grammar::Size;
+use jz_grammar::{Cursor, Seq, Size, Stop};
 use std::alloc::Global;
 
 /// At most so many names are declared in a function.

@@ -7,9 +7,8 @@ ghost use Rattle.jz_first.specs.Readers.{next_used, used_more, variables, name_s
 
 use crate::declare::{MOST_NAMES, params, results};
 use crate::statement::{items, used};
-use jz_grammar::{Cursor, Stop};
-use jz_grammar::Seq;
 use crate::{Fun, Program, Stmt, Var};
+use jz_grammar::{Cursor, Seq, Stop};
 use std::alloc::Global;
 
 /// What stands between the braces of a function.

@@ -23,10 +23,14 @@ mod unknown;
 pub use checking::check;
 pub use derived::{functions_declare_words, names_are_identifiers, statements_assign_to_one};
 pub use fault::{TypeFault, TypeRule};
+pub use jz_grammar::{Failure, Seq, Size, Span, Text};
 pub use laws::{
     no_fault_of_a_typed, one_fault, resolved_once, typed_or_a_fault, typed_when_resolved,
 };
-pub use read::{a_fault_is_at_a_token, no_fault_of_a_program, one_syntax_fault, one_program, parse_first};
-pub use tree::{BinOp, Decl, Expr, Fun, Lval, Param, Program, Ret, Rhs, Stmt, StmtKind, Storage, Ty, Var};
+pub use read::{
+    a_fault_is_at_a_token, no_fault_of_a_program, one_program, one_syntax_fault, parse_first,
+};
+pub use tree::{
+    BinOp, Decl, Expr, Fun, Lval, Param, Program, Ret, Rhs, Stmt, StmtKind, Storage, Ty, Var,
+};
 pub use typed::Typed;
-pub use jz_grammar::{Failure, Seq, Size, Span, Text};

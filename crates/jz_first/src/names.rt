@@ -7,10 +7,9 @@ ghost use Rattle.jz_first.specs.Rules.{Name, name_of, name_of_fun, repetition_fa
 ghost use Rattle.jz_first.specs.Scopes.{IsNames};
 
 use crate::fault::{TypeFault, TypeRule, earlier_of};
-use indexmap::IndexSet;
-use jz_grammar::{Seq, Text};
 use crate::{Fun, Program, Var};
-use jz_grammar::Span;
+use indexmap::IndexSet;
+use jz_grammar::{Seq, Span, Text};
 use std::alloc::{AllocError, Global};
 
 /// Names that differ, and the first fault among further ones.

@@ -6,9 +6,8 @@ ghost use Rattle.jz_grammar.specs.Reading.{leaf};
 ghost use Rattle.jz_grammar.specs.Gave.{Gave};
 ghost use Rattle.jz_first.specs.Trees.{assignments, operation_of};
 
-use jz_grammar::{Cursor, Stop, UNEXPECTED, has_text, is_sign};
 use crate::BinOp;
-use jz_grammar::Token;
+use jz_grammar::{Cursor, Stop, Token, UNEXPECTED, has_text, is_sign};
 
 #[tactic(auto, unfolding(jz_grammar::specs::Kinds::is_in))]
 fn is_assignment(token: &Token) -> bool

@@ -10,11 +10,9 @@ ghost use Rattle.jz_grammar.specs.Gave.{numbered_answer, IsNumbered};
 ghost use Rattle.jz_first.specs.Readers.{program};
 ghost use Rattle.jz_first.specs.Deriving.{DerivesProgram, IsUnexpected};
 
-use crate::function::program;
-use jz_grammar::{Cursor, SyntaxFault, SyntaxKind, fault_at};
-use jz_grammar::Failure;
 use crate::Program;
-use jz_grammar::Tokens;
+use crate::function::program;
+use jz_grammar::{Cursor, Failure, SyntaxFault, SyntaxKind, Tokens, fault_at};
 use std::alloc::Global;
 
 /// The program of all the tokens, or why there is none and the number of the first that is left.

@@ -5,8 +5,8 @@ ghost use Rattle.jz_first.specs.Resolving.{resolved_var, resolved_expr, resolved
 ghost use Rattle.jz_first.specs.Scopes.{decls_of};
 
 use crate::scope::Scope;
-use jz_grammar::Seq;
 use crate::{Expr, Fun, Lval, Program, Rhs, Stmt, StmtKind, Var};
+use jz_grammar::Seq;
 use std::alloc::{AllocError, Global};
 
 fn in_var(scope: &Scope, var: Var) -> Var

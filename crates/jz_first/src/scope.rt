@@ -6,10 +6,9 @@ ghost use Rattle.jz_first.specs.Variables.{variables_of};
 ghost use Rattle.jz_first.specs.Scopes.{IsScope, has_above, decls_of};
 
 use crate::fault::is_before;
-use indexmap::IndexMap;
-use jz_grammar::{Seq, Text};
 use crate::{Decl, Fun, Param, Var};
-use jz_grammar::Span;
+use indexmap::IndexMap;
+use jz_grammar::{Seq, Span, Text};
 use std::alloc::{AllocError, Global};
 
 /// A variable where it is declared.

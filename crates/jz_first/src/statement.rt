@@ -8,9 +8,8 @@ ghost use Rattle.jz_first.specs.Readers.{variable_used, operand, stmt, decl_star
 
 use crate::declare::decl;
 use crate::operation::operation;
-use jz_grammar::{Cursor, Stop};
-use jz_grammar::Seq;
 use crate::{BinOp, Expr, Lval, Rhs, Stmt, StmtKind, Var};
+use jz_grammar::{Cursor, Seq, Stop};
 use std::alloc::{AllocError, Global};
 
 /// A declaration of variables, or a statement.

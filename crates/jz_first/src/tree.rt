@@ -1,8 +1,6 @@
 //! The syntax tree of a text: plain data. It has what the texts that are read need.
 
-use jz_grammar::{Seq, Text};
-use jz_grammar::Span;
-use jz_grammar::Size;
+use jz_grammar::{Seq, Size, Span, Text};
 
 /// What a text says: its functions, in their order.
 #[derive(Drop, PartialEq, Eq)]

@@ -11,8 +11,8 @@ ghost use Rattle.jz_first.specs.Uses.{expression_uses, left_side_uses, right_sid
 
 use crate::fault::{TypeFault, TypeRule, earlier_of};
 use crate::scope::Scope;
-use jz_grammar::Seq;
 use crate::{Expr, Fun, Lval, Program, Rhs, Stmt, StmtKind, Var};
+use jz_grammar::Seq;
 use std::alloc::{AllocError, Global};
 
 #[tactic(auto, unfolding(crate::specs::Scopes::unknown_by))]

@@ -8,10 +8,7 @@ ghost use Rattle.jz_grammar.specs.Tokens.{name_of, number_of_token, cast_of, str
 
 use crate::fault::SyntaxKind;
 use crate::kinds;
-use jz_lex::{Failure, Seq, Text};
-use jz_lex::Span;
-use jz_lex::Token;
-use jz_lex::Size;
+use jz_lex::{Failure, Seq, Size, Span, Text, Token};
 use std::alloc::Global;
 use std::marker::Model;
 

@@ -3,8 +3,7 @@
 ghost use Rattle.std.specs.Prelude.{◌≡◌};
 ghost use Rattle.jz_grammar.specs.Places.{span_at, IsFaultAt};
 
-use jz_lex::Span;
-use jz_lex::Tokens;
+use jz_lex::{Span, Tokens};
 
 /// Why tokens derive no program.
 #[derive(Clone, Copy, PartialEq, Eq)]

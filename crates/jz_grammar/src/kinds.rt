@@ -4,10 +4,7 @@ ghost use Rattle.std.specs.Prelude.{◌≡◌, [], ◌∷◌, IfOk, bytes_eq};
 ghost use Rattle.jz_grammar.specs.Kinds.{identifier, word, number, cast, string, sign, end, is_in};
 ghost use Rattle.jz_grammar.specs.Tokens.{name_of, number_of_token, cast_of, string_of, text_in, word_types, size_of_token};
 
-use jz_lex::{Seq, Text};
-use jz_lex::Span;
-use jz_lex::{Token, TokenKind};
-use jz_lex::Size;
+use jz_lex::{Seq, Size, Span, Text, Token, TokenKind};
 use std::alloc::{AllocError, Global};
 
 #[tactic(auto, unfolding(crate::specs::Kinds::is_in))]

@@ -10,5 +10,5 @@ mod kinds;
 
 pub use cursor::{Cursor, Stop, UNEXPECTED};
 pub use fault::{SyntaxFault, SyntaxKind, fault_at};
-pub use kinds::{has_text, is_sign, is_word};
 pub use jz_lex::{Failure, LexFault, LexKind, Seq, Size, Span, Text, Token, Tokens, lex};
+pub use kinds::{has_text, is_sign, is_word};

@@ -2,8 +2,7 @@
 ghost use Rattle.std.specs.Prelude.{◌≡◌, IfOk};
 ghost use Rattle.jz_integers.specs.InnerLeftSides.{on_left, IsSingle};
 
-use jz_tree::Span;
-use jz_tree::{BinOp, Expr};
+use jz_tree::{BinOp, Expr, Span};
 use std::alloc::{AllocError, Global};
 
 /// An operation whose left operand has no value yet.

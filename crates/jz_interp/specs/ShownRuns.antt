@@ -94,7 +94,7 @@ IsTurn M p c b n s (last t m x) = RunsTurns M p c b n s (End t m (x ∷ []))
 IsTurn {O} {T} {F} {C} {S} {W} M p c b n s (more t m x) =
     (m < n)
     × ((o : Outcome S W (List Turn)) → RunsTurns M p c b m t o
-        → RunsTurns M p c b n s (before (x ∷ []) o))
+    → RunsTurns M p c b n s (before (x ∷ []) o))
 IsTurn M p c b n s (cut x) = RunsTurns M p c b n s (Cut (x ∷ []))
 IsTurn M p c b n s (stuck_in w) = RunsTurns M p c b n s (Stuck w)
 

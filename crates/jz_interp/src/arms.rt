@@ -5,8 +5,7 @@ ghost use Rattle.std.specs.Option.{option_copied};
 ghost use Rattle.jz_interp.specs.Calls.{called_function};
 
 use crate::code::Code;
-use jz_tree::{Seq, Text};
-use jz_tree::{BinOp, Expr, Fun, Stmt};
+use jz_tree::{BinOp, Expr, Fun, Seq, Stmt, Text};
 
 /// The arm of a test's answer.
 pub fn arm<'a>(answer: bool, holds: &'a Seq<Stmt>, other: &'a Seq<Stmt>) -> &'a Seq<Stmt>

@@ -5,9 +5,8 @@ ghost use Rattle.std.specs.Option.{option_copied};
 ghost use Rattle.jz_type_names.specs.Scopes.{function_named};
 ghost use Rattle.jz_type_names.specs.Tables.{IsFunctions};
 
-use jz_tree::{Seq, Text};
+use jz_tree::{Fun, Seq, Text};
 use jz_type_names::Functions;
-use jz_tree::Fun;
 use std::alloc::{AllocError, Global};
 
 /// The functions of a program, each found by its name without going through all of them.

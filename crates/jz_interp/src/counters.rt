@@ -7,9 +7,9 @@ ghost use Rattle.jz_interp.specs.Parts.{counter_of};
 ghost use Rattle.jz_interp.specs.Rounds.{values_left, GivesValues};
 
 use crate::parts::Counter;
-use jz_tree::{Failure, Seq};
 use jz_meaning::{State, Stuck};
 use jz_run_assign::number_in;
+use jz_tree::{Failure, Seq};
 
 /// The values that a counter has yet to take: from the next one on, upwards or downwards, up to the
 /// bound, which is left out.
@@ -23,10 +23,8 @@ pub struct Values {
 impl Values {
     /// Takes the next value.
     pub fn take(&mut self) -> Option<i128>
-        ensures {
-            MatchOption result (values_left self.old ≡ [])
-                (λ value. values_left self.old ≡ value ∷ values_left self.new)
-        }
+        ensures { MatchOption result (values_left self.old ≡ [])
+            (λ value. values_left self.old ≡ value ∷ values_left self.new) }
     {
         let value = self.next;
         match behind(self.down, value, self.end) {
@@ -45,10 +43,8 @@ pub fn counter_values(
     state: &State,
     out: &mut Seq<u64>,
 ) -> Result<Values, Failure<Stuck>>
-    ensures {
-        let meaning = counts (counter_of counter.entry) (state_of state.now) in
-        GivesValues result out.old out.new meaning
-    }
+    ensures { let meaning = counts (counter_of counter.entry) (state_of state.now) in
+        GivesValues result out.old out.new meaning }
 {
     let next = number_in(counter.span, counter.from, state, out)?;
     let end = number_in(counter.span, counter.to, state, out)?;
@@ -58,10 +54,8 @@ pub fn counter_values(
 
 // The value behind this one, if this one is a value of the counter.
 fn behind(down: bool, value: i128, end: i128) -> Option<i128>
-    ensures {
-        MatchOption result (values_between down value end ≡ [])
-            (λ next. values_between down value end ≡ value ∷ values_between down next end)
-    }
+    ensures { MatchOption result (values_between down value end ≡ [])
+        (λ next. values_between down value end ≡ value ∷ values_between down next end) }
 {
     if down {
         one_lower(value, end)
@@ -72,20 +66,16 @@ fn behind(down: bool, value: i128, end: i128) -> Option<i128>
 
 #[tactic(auto, using(crate::proofs::Counting::rising_none, crate::proofs::Counting::rising_more))]
 fn one_higher(value: i128, end: i128) -> Option<i128>
-    ensures {
-        MatchOption result (values_between false value end ≡ [])
-            (λ next. values_between false value end ≡ value ∷ values_between false next end)
-    }
+    ensures { MatchOption result (values_between false value end ≡ [])
+        (λ next. values_between false value end ≡ value ∷ values_between false next end) }
 {
     if value < end { Some(value + 1) } else { None }
 }
 
 #[tactic(auto, using(crate::proofs::Counting::falling_none, crate::proofs::Counting::falling_more))]
 fn one_lower(value: i128, end: i128) -> Option<i128>
-    ensures {
-        MatchOption result (values_between true value end ≡ [])
-            (λ next. values_between true value end ≡ value ∷ values_between true next end)
-    }
+    ensures { MatchOption result (values_between true value end ≡ [])
+        (λ next. values_between true value end ≡ value ∷ values_between true next end) }
 {
     if end < value { Some(value - 1) } else { None }
 }

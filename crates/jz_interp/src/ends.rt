@@ -5,8 +5,8 @@ ghost use Rattle.jz_meaning.specs.Item.TheVariants as item;
 ghost use Rattle.jz_interp.specs.ShownRuns.{leak_of, turn_of};
 ghost use Rattle.jz_interp.specs.Ends.{wrapped_run};
 
-use jz_tree::Seq;
 use jz_meaning::{Item, Leak, Turn};
+use jz_tree::Seq;
 use std::alloc::{AllocError, Global};
 
 /// How statements ended.

@@ -11,20 +11,15 @@ use crate::code::Code;
 use crate::ends::Ran;
 use crate::outcome::Outcome;
 use crate::running::run_block;
+use jz_meaning::{Leak, MemMap, State, Store, Stuck, Value, Why};
 use jz_run_assign::{set, value_of};
-use jz_tree::{Failure, Seq};
-use jz_meaning::{Leak, MemMap};
-use jz_meaning::{State, Store, Stuck, Value, Why};
-use jz_tree::{Fun, Param, Var};
-use jz_tree::Word;
+use jz_tree::{Failure, Fun, Param, Seq, Var, Word};
 use std::alloc::AllocError;
 
 // The parameters have the argument words.
 fn give_words(params: &Seq<Param>, words: &Seq<Word>, store: &mut Store) -> Result<(), AllocError>
-    ensures {
-        let given = runs.with_arguments params.now (values_of words.now) (store_of store.old) in
-        OnOk result (store_of store.new ≡ given)
-    }
+    ensures { let given = runs.with_arguments params.now (values_of words.now) (store_of store.old) in
+        OnOk result (store_of store.new ≡ given) }
 {
     for (i, param) in params.as_slice().iter().enumerate() {
         match words.get(i) {
@@ -51,10 +46,8 @@ fn result_word(var: &Var, store: &Store) -> Result<Word, Stuck>
 
 // The words of the variables that are returned.
 fn result_words(vars: &Seq<Var>, store: &Store) -> Result<Seq<Word>, Failure<Stuck>>
-    ensures {
-        let words = runs.result_words vars.now (store_of store.now) in
-        IfAnswered result (λ r. words_seen r ≡ words)
-    }
+    ensures { let words = runs.result_words vars.now (store_of store.now) in
+        IfAnswered result (λ r. words_seen r ≡ words) }
 {
     let mut words = Seq::new(store.allocator());
     for var in vars.as_slice() {
@@ -72,10 +65,8 @@ fn run_body_of(
     memory: MemMap,
     fuel: u64,
 ) -> Result<Outcome, Failure<Stuck>>
-    ensures {
-        let run = BodyShows code.now.funs.now function.now (values_of words.now) memory fuel in
-        IfAnswered result (λ r. run (outcome_of r))
-    }
+    ensures { let run = BodyShows code.now.funs.now function.now (values_of words.now) memory fuel in
+        IfAnswered result (λ r. run (outcome_of r)) }
 {
     let mut store = Store::new(code.alloc);
     give_words(&function.params, words, &mut store)?;
@@ -98,10 +89,8 @@ pub fn run_function(
     memory: MemMap,
     fuel: u64,
 ) -> Result<Outcome, AllocError>
-    ensures {
-        let run = BodyShows code.now.funs.now function.now (values_of words.now) memory fuel in
-        IfOk result run
-    }
+    ensures { let run = BodyShows code.now.funs.now function.now (values_of words.now) memory fuel in
+        IfOk result run }
 {
     match run_body_of(code, function, words, memory, fuel) {
         Ok(outcome) => Ok(outcome),

@@ -20,9 +20,7 @@ pub fn interpret(
     fuel: u64,
 ) -> Result<Outcome, AllocError>
     requires { Takes typed.now.program fun input.now.words }
-    ensures {
-        IfOk result (Interprets typed.now.program fun input.now.words input.now.mem fuel)
-    }
+    ensures { IfOk result (Interprets typed.now.program fun input.now.words input.now.mem fuel) }
 {
     let funs = &typed.program().funs;
     let code = Code::of(alloc, funs)?;

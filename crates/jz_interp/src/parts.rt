@@ -1,8 +1,6 @@
 //! Parts of statements that go together, as the text has them.
 
-use jz_tree::{Seq, Text};
-use jz_tree::Span;
-use jz_tree::{Expr, Var};
+use jz_tree::{Expr, Seq, Span, Text, Var};
 
 /// A test of an `if` or a `while`, and where it is told where it has no value.
 #[derive(Clone, Copy)]

@@ -16,12 +16,9 @@ use crate::counters::{Values, counter_values};
 use crate::ends::{Ran, RoundsEnd, TurnEnd, end_of_if, one, turn};
 use crate::parts::{Counter, Named, Test};
 use crate::straight::{run_instruction, run_value};
-use jz_run_assign::{Assignment, missing, set, truth_in, value_of};
-use jz_tree::{Failure, Seq};
-use jz_meaning::{Item, Leak};
-use jz_meaning::{State, Stuck, Value};
-use jz_run_assign::{Call, enter, leave, unset_all};
-use jz_tree::{Rhs, Stmt, StmtKind, Var};
+use jz_meaning::{Item, Leak, State, Stuck, Value};
+use jz_run_assign::{Assignment, Call, enter, leave, missing, set, truth_in, unset_all, value_of};
+use jz_tree::{Failure, Rhs, Seq, Stmt, StmtKind, Var};
 use std::mem::replace;
 
 /// Statements in their order, with so many true tests of `while` left.
@@ -33,10 +30,8 @@ pub fn run_block(
     state: &mut State,
     fuel: u64,
 ) -> Result<Ran, Failure<Stuck>>
-    ensures {
-        let callees = callees_in code.now depth in
-        RunsPiece result fuel state.old state.new (block callees stmts.now)
-    }
+    ensures { let callees = callees_in code.now depth in
+        RunsPiece result fuel state.old state.new (block callees stmts.now) }
 {
     let mut items = Seq::new(code.alloc);
     let mut left = fuel;
@@ -63,10 +58,8 @@ fn run_statement(
     state: &mut State,
     fuel: u64,
 ) -> Result<Ran, Failure<Stuck>>
-    ensures {
-        let callees = callees_in code.now depth in
-        RunsPiece result fuel state.old state.new (statement_tree callees stmt.now)
-    }
+    ensures { let callees = callees_in code.now depth in
+        RunsPiece result fuel state.old state.new (statement_tree callees stmt.now) }
 {
     let span = stmt.span;
     match &stmt.kind {
@@ -123,11 +116,9 @@ fn run_assign(
     state: &mut State,
     fuel: u64,
 ) -> Result<Ran, Failure<Stuck>>
-    ensures {
-        let callees = callees_in code.now depth in
+    ensures { let callees = callees_in code.now depth in
         let piece = assignment_tree callees assignment.entry rhs.now in
-        RunsPiece result fuel state.old state.new piece
-    }
+        RunsPiece result fuel state.old state.new piece }
 {
     match rhs {
         Rhs::Value(value) => {
@@ -159,11 +150,9 @@ fn run_if(
     state: &mut State,
     fuel: u64,
 ) -> Result<Ran, Failure<Stuck>>
-    ensures {
-        let callees = callees_in code.now depth in
+    ensures { let callees = callees_in code.now depth in
         let choice = tree.choose (condition_of test.entry) (inner_block callees holds.now) in
-        RunsPiece result fuel state.old state.new (choice (inner_block callees other.now))
-    }
+        RunsPiece result fuel state.old state.new (choice (inner_block callees other.now)) }
 {
     let mut numbers = Seq::new(code.alloc);
     let answer = truth_in(test.span, test.cond, state, &mut numbers)?;
@@ -181,10 +170,8 @@ fn run_body(
     state: &mut State,
     fuel: u64,
 ) -> Result<Ran, Failure<Stuck>>
-    ensures {
-        let callees = callees_in code.now depth in
-        RunsPiece result fuel state.old state.new (body_piece callees body.now)
-    }
+    ensures { let callees = callees_in code.now depth in
+        RunsPiece result fuel state.old state.new (body_piece callees body.now) }
 {
     match body {
         None => Ok(Ran::End(fuel, Seq::new(code.alloc))),
@@ -206,10 +193,8 @@ fn run_test(
     state: &mut State,
     fuel: u64,
 ) -> Result<TurnEnd, Failure<Stuck>>
-    ensures {
-        let body = inner_body (callees_in code.now depth) body.now in
-        RunsTest result fuel state.old state.new prologue (condition_of test.entry) body
-    }
+    ensures { let body = inner_body (callees_in code.now depth) body.now in
+        RunsTest result fuel state.old state.new prologue (condition_of test.entry) body }
 {
     let mut numbers = Seq::new(code.alloc);
     let more = truth_in(test.span, test.cond, state, &mut numbers)?;
@@ -236,12 +221,10 @@ fn run_turn(
     state: &mut State,
     fuel: u64,
 ) -> Result<TurnEnd, Failure<Stuck>>
-    ensures {
-        let callees = callees_in code.now depth in
+    ensures { let callees = callees_in code.now depth in
         let before = inner_block callees prologue.now in
         let body = inner_body callees body.now in
-        RunsTurn result fuel state.old state.new before (condition_of test.entry) body
-    }
+        RunsTurn result fuel state.old state.new before (condition_of test.entry) body }
 {
     match run_block(code, depth, prologue, state, fuel)? {
         Ran::Cut(items) => {
@@ -265,11 +248,9 @@ fn run_while(
     state: &mut State,
     fuel: u64,
 ) -> Result<Ran, Failure<Stuck>>
-    ensures {
-        let callees = callees_in code.now depth in
+    ensures { let callees = callees_in code.now depth in
         let turns = while_tree callees prologue.now (condition_of test.entry) body.now in
-        RunsPiece result fuel state.old state.new turns
-    }
+        RunsPiece result fuel state.old state.new turns }
 {
     let mut turns = Seq::new(code.alloc);
     let mut left = fuel;
@@ -304,10 +285,8 @@ fn run_rounds(
     state: &mut State,
     fuel: u64,
 ) -> Result<RoundsEnd, Failure<Stuck>>
-    ensures {
-        let round = inner_block (callees_in code.now depth) body.now in
-        RunsAllRounds result fuel state.old state.new counter.now round (values_left values)
-    }
+    ensures { let round = inner_block (callees_in code.now depth) body.now in
+        RunsAllRounds result fuel state.old state.new counter.now round (values_left values) }
 {
     let mut leaks = Seq::new(code.alloc);
     let mut left = fuel;
@@ -337,10 +316,8 @@ fn run_for(
     state: &mut State,
     fuel: u64,
 ) -> Result<Ran, Failure<Stuck>>
-    ensures {
-        let round = inner_block (callees_in code.now depth) body.now in
-        RunsPiece result fuel state.old state.new (tree.each (counter_of counter.entry) round)
-    }
+    ensures { let round = inner_block (callees_in code.now depth) body.now in
+        RunsPiece result fuel state.old state.new (tree.each (counter_of counter.entry) round) }
 {
     let mut numbers = Seq::new(code.alloc);
     let values = counter_values(counter, state, &mut numbers)?;
@@ -367,11 +344,9 @@ fn run_call(
     state: &mut State,
     fuel: u64,
 ) -> Result<Ran, Failure<Stuck>>
-    ensures {
-        let callees = callees_in code.now depth in
+    ensures { let callees = callees_in code.now depth in
         let piece = named_call_tree callees assignment.entry named.entry in
-        RunsPiece result fuel state.old state.new piece
-    }
+        RunsPiece result fuel state.old state.new piece }
 {
     let Assignment { to, op, cond, .. } = assignment;
     let Named { name, args, span } = named;
@@ -400,10 +375,8 @@ fn run_callee(
     state: &mut State,
     fuel: u64,
 ) -> Result<Ran, Failure<Stuck>>
-    ensures {
-        let body = inner_block (callees_in code.now depth) call.entry.callee.now.body in
-        RunsPiece result fuel state.old state.new (tree.call (call_of call.entry) body)
-    }
+    ensures { let body = inner_block (callees_in code.now depth) call.entry.callee.now.body in
+        RunsPiece result fuel state.old state.new (tree.call (call_of call.entry) body) }
 {
     let mut before = Seq::new(code.alloc);
     let inner = enter(call, state, &mut before)?;

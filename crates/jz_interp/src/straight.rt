@@ -7,12 +7,10 @@ ghost use Rattle.jz_interp.specs.Ends.{RunsPiece};
 
 use crate::ends::{Ran, one};
 use crate::parts::Named;
+use jz_meaning::{Item, State, Stuck};
 use jz_run_assign::{Assignment, assign, missing};
-use jz_tree::{Failure, Seq};
 use jz_run_instruct::instruct;
-use jz_meaning::Item;
-use jz_meaning::{State, Stuck};
-use jz_tree::{Expr, Lval};
+use jz_tree::{Expr, Failure, Lval, Seq};
 
 /// An assignment of an expression.
 pub fn run_value(
@@ -21,10 +19,8 @@ pub fn run_value(
     state: &mut State,
     fuel: u64,
 ) -> Result<Ran, Failure<Stuck>>
-    ensures {
-        let operation = value_assignment assignment.entry value.now in
-        RunsPiece result fuel state.old state.new (tree.op operation)
-    }
+    ensures { let operation = value_assignment assignment.entry value.now in
+        RunsPiece result fuel state.old state.new (tree.op operation) }
 {
     let alloc = state.store.allocator();
     let mut numbers = Seq::new(alloc);
@@ -39,11 +35,9 @@ fn run_plain_instruction(
     state: &mut State,
     fuel: u64,
 ) -> Result<Ran, Failure<Stuck>>
-    ensures {
-        let operands = named.entry.args.now in
+    ensures { let operands = named.entry.args.now in
         let done = statements.instruction to.now named.entry.name.now operands named.entry.span in
-        RunsPiece result fuel state.old state.new (tree.op done)
-    }
+        RunsPiece result fuel state.old state.new (tree.op done) }
 {
     let alloc = state.store.allocator();
     let mut numbers = Seq::new(alloc);
@@ -59,10 +53,8 @@ pub fn run_instruction(
     state: &mut State,
     fuel: u64,
 ) -> Result<Ran, Failure<Stuck>>
-    ensures {
-        let piece = named_instruction_tree assignment.entry named.entry in
-        RunsPiece result fuel state.old state.new piece
-    }
+    ensures { let piece = named_instruction_tree assignment.entry named.entry in
+        RunsPiece result fuel state.old state.new piece }
 {
     match assignment.op {
         Some(_) => Err(Failure::Refused(missing(named.span))),

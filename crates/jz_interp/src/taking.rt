@@ -6,11 +6,9 @@ ghost use Rattle.jz_meaning.specs.Runs.{FitsKind};
 ghost use Rattle.jz_meaning.specs.States.{word};
 ghost use Rattle.jz_interp.specs.Outcomes.{values_of, AllFit, Takes};
 
-use jz_tree::Seq;
 use jz_meaning::{Kind, kind_of};
-use jz_tree::Param;
+use jz_tree::{Param, Seq, Word};
 use jz_types::Typed;
-use jz_tree::Word;
 
 fn fits(param: &Param, given: Word) -> bool
     ensures { IsTrue result ↔ FitsKind (ref_of param.now.var).kind (word given.size given.bits) }

@@ -1,10 +1,8 @@
 //! What is listed of a compiled function.
 
-use jz_leak::{Seq, Text};
 use jz_io::{Bytes, Ct};
-use jz_leak::Transformer;
-use x64_insn::Size;
-use x64_insn::Reg;
+use jz_leak::{Seq, Text, Transformer};
+use x64_insn::{Reg, Size};
 
 /// A parameter or a result, and the register that holds it in its low bits.
 #[derive(Drop)]

@@ -7,11 +7,10 @@ ghost use Rattle.jz_listing.specs.Listing.{reg_text, size_text, arg_text, arg_li
 use super::compiled::{Arg, Compiled, Pre};
 use super::transformers::write_transformer;
 use itoa::Buffer;
-use jz_leak::{Seq, Text};
 use jz_io::{Bytes, Ct, CtKind, Span};
-use x64_insn::Size;
+use jz_leak::{Seq, Text};
 use std::alloc::{AllocError, Global};
-use x64_insn::Reg;
+use x64_insn::{Reg, Size};
 
 /// The name of a register's 64 bits, in lower case.
 pub fn reg_name(reg: Reg) -> &'static str

@@ -4,8 +4,7 @@ ghost use Rattle.std.specs.Prelude.{◌≡◌, ◌++◌, ℕ, List, map, OnOk, c
 ghost use Rattle.jz_listing.specs.Transformers.{arm_text, call_text, case_text, for_text, form_text, if_head_text, op_text, out_text, outs_text, separator, spaced_outs_text, tr_text, transformer_text, while_head_text};
 
 use itoa::Buffer;
-use jz_leak::Seq;
-use jz_leak::{Case, Form, Out, Tr, Transformer};
+use jz_leak::{Case, Form, Out, Seq, Tr, Transformer};
 use std::alloc::AllocError;
 
 fn write_form(text: &mut Vec<u8>, form: Form) -> Result<(), AllocError>

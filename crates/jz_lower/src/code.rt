@@ -10,8 +10,7 @@ ghost use Rattle.jz_lower.specs.Placing.{variable_of};
 
 use crate::numbers::Numbers;
 use crate::registers::{ARGUMENT_REGISTERS, RESULT_REGISTERS};
-use jz_first::Seq;
-use jz_first::{BinOp, Expr, Fun, Lval, Param, Rhs, Stmt, StmtKind, Var};
+use jz_first::{BinOp, Expr, Fun, Lval, Param, Rhs, Seq, Stmt, StmtKind, Var};
 use jz_ir::{Code, Kind, Need, Op};
 use std::alloc::{AllocError, Global};
 use x64_insn::{Flag, Place, Reg};

@@ -11,9 +11,7 @@ ghost use Rattle.jz_lower.specs.InnerLowering.{insns_in, register_by};
 ghost use Rattle.jz_lower.specs.Operations.{register_of};
 
 use crate::numbers::Numbers;
-use jz_first::{Seq, Text};
-use jz_first::{BinOp, Expr, Fun, Lval, Rhs, StmtKind};
-use jz_first::Size;
+use jz_first::{BinOp, Expr, Fun, Lval, Rhs, Seq, Size, StmtKind, Text};
 use std::alloc::{AllocError, Global};
 use x64_insn::{Alu, Insn, Operand, Place, Reg};
 

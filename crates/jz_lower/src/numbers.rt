@@ -7,8 +7,7 @@ ghost use Rattle.jz_lower.specs.InnerNumbers.{IsFor, IsNumbers};
 ghost use Rattle.jz_lower.specs.Operations.{number_in};
 
 use indexmap::IndexMap;
-use jz_first::Text;
-use jz_first::{Fun, Var};
+use jz_first::{Fun, Text, Var};
 use std::alloc::{AllocError, Global};
 
 /// The number of the first variable of each name, and how many variables there are.

@@ -15,10 +15,8 @@ ghost use Rattle.jz_meaning.specs.Values.{ref_of, meaning_of, access_of};
 use crate::operators::word_of;
 use crate::store::Store;
 use crate::value::{Stuck, Value, Why, defined};
-use jz_tree::{Failure, Seq};
-use jz_tree::Span;
 use jz_runs::MemMap;
-use jz_tree::{Access, Decl, Expr, Ty, Var};
+use jz_tree::{Access, Decl, Expr, Failure, Seq, Span, Ty, Var};
 use x64_insn::{Size, Word};
 
 /// What a variable can hold, by its declaration.
@@ -105,12 +103,7 @@ fn bits_at(span: Span, size: Size, value: Value) -> Result<u64, Stuck>
     }
 }
 
-fn in_cells(
-    span: Span,
-    kind: Kind,
-    index: u64,
-    out: &mut Seq<u64>,
-) -> Result<u64, Failure<Stuck>>
+fn in_cells(span: Span, kind: Kind, index: u64, out: &mut Seq<u64>) -> Result<u64, Failure<Stuck>>
     ensures { Gives result out.old out.new (values.in_cells span kind index) }
 {
     match kind {
@@ -175,10 +168,7 @@ pub fn cell(
     ensures { Evaluates result out.old out.new (values.cell_value (ref_of var.now) (as_value value) (store_of store.now)) }
 {
     let index = index(var, value, out)?;
-    let value = defined(
-        var_span(var),
-        store.get(&var.name, var.copy, Some(index)),
-    )?;
+    let value = defined(var_span(var), store.get(&var.name, var.copy, Some(index)))?;
     Ok(value)
 }
 

@@ -14,8 +14,7 @@ use crate::left::{LeftSide, Waiting, left_side, own_size};
 use crate::operators::{binary, cast, inverted_value, is_settled, is_shift, negated_value};
 use crate::state::State;
 use crate::value::{Stuck, Value, defined};
-use jz_tree::{Failure, Seq};
-use jz_tree::{BinOp, Expr};
+use jz_tree::{BinOp, Expr, Failure, Seq};
 use x64_insn::Size;
 
 /// What is wanted of the right operand, beside what is of the left one: a count is a byte.

@@ -9,10 +9,9 @@ ghost use Rattle.std.specs.Prelude.{if◌then◌else◌};
 
 use crate::access::{kind_of, size_of};
 use crate::operators::is_shift;
-use jz_tree::Span;
-use jz_tree::{BinOp, Expr};
-use x64_insn::Size;
+use jz_tree::{BinOp, Expr, Span};
 use std::alloc::{AllocError, Global};
+use x64_insn::Size;
 
 /// An operation whose left operand has no value yet.
 #[derive(Drop)]

@@ -13,14 +13,12 @@ ghost use Rattle.jz_meaning.specs.declared.value.Why.TheVariants as why;
 ghost use Rattle.jz_meaning.specs.States as states;
 
 use crate::value::{Stuck, Value, Why, defined};
-use jz_tree::{Failure, Seq};
 use jz_integers::{Constant, inverted, negated, on_integers};
-use jz_tree::Span;
-use jz_tree::BinOp;
+use jz_tree::{BinOp, Failure, Seq, Span};
+use std::alloc::AllocError;
 use x64_insn::{
     Size, Word, add_carry, and, mul_wide, or, residue, rol, ror, sar, shl, shr, sub_borrow, xor,
 };
-use std::alloc::AllocError;
 
 /// Whether two words of these sizes can stand side by side.
 #[tactic(auto, using(crate::proofs::Widths::equal_sizes))]
@@ -68,12 +66,7 @@ fn show(high: u64, a: Word, b: Word, out: &mut Seq<u64>) -> Result<(), AllocErro
     Ok(())
 }
 
-fn quotient(
-    span: Span,
-    a: Word,
-    b: Word,
-    out: &mut Seq<u64>,
-) -> Result<Value, Failure<Stuck>>
+fn quotient(span: Span, a: Word, b: Word, out: &mut Seq<u64>) -> Result<Value, Failure<Stuck>>
     requires { a.size ≡ b.size }
     ensures { Evaluates result out.old out.new (operators.on_words op.Div span a.size a.bits b.bits) }
 {
@@ -84,12 +77,7 @@ fn quotient(
     Ok(Value::Word(Word::new(a.size(), a.bits() / b.bits())))
 }
 
-fn remainder(
-    span: Span,
-    a: Word,
-    b: Word,
-    out: &mut Seq<u64>,
-) -> Result<Value, Failure<Stuck>>
+fn remainder(span: Span, a: Word, b: Word, out: &mut Seq<u64>) -> Result<Value, Failure<Stuck>>
     requires { a.size ≡ b.size }
     ensures { Evaluates result out.old out.new (operators.on_words op.Rem span a.size a.bits b.bits) }
 {

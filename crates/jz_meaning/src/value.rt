@@ -5,8 +5,7 @@ ghost use Rattle.jz_meaning.specs.Attempts as part;
 ghost use Rattle.jz_meaning.specs.Attempts.{seen, numbers_first};
 ghost use Rattle.jz_meaning.specs.States.{as_value};
 
-use jz_tree::Failure;
-use jz_tree::Span;
+use jz_tree::{Failure, Span};
 use x64_insn::Word;
 
 /// What an expression is.

@@ -4,9 +4,7 @@ ghost use Rattle.jz_grammar.specs.Gave.{Gave};
 ghost use Rattle.jz_parse.specs.NotesReaders.{note_value, equal_value, entry, next_entry, entries_more, entry_list, notes_bracketed, entries, annotation, notes};
 
 use jz_grammar::{Cursor, Stop};
-use jz_tree::Seq;
-use jz_tree::Span;
-use jz_tree::{Note, NoteValue};
+use jz_tree::{Note, NoteValue, Seq, Span};
 use std::alloc::Global;
 
 #[tactic(auto, unfolding(crate::specs::NotesReaders::note_value))]

@@ -7,12 +7,9 @@ ghost use Rattle.jz_grammar.specs.Gave.{Gave};
 ghost use Rattle.jz_parse.specs.StmtTrees.{sum_assignments, quotient_assignments, bit_assignments, shift_assignments, assignments, number_operation, bit_operation, operation_of, span_of_lval};
 ghost use Rattle.jz_parse.specs.StmtReaders.{next_arg, args_more, args, call_args, intrinsic, call_value, rhs, left_side_named, lval, next_lval, lvals_more, condition, assign, call, simple};
 
-use jz_grammar::{Cursor, Stop, UNEXPECTED, has_text, is_sign};
-use jz_tree::{Boxed, Seq};
-use jz_tree::Span;
-use jz_grammar::Token;
+use jz_grammar::{Cursor, Stop, Token, UNEXPECTED, has_text, is_sign};
 use jz_parse_expr::{access, begins_expr, expr, index};
-use jz_tree::{BinOp, Expr, Lval, Rhs, StmtKind, Var};
+use jz_tree::{BinOp, Boxed, Expr, Lval, Rhs, Seq, Span, StmtKind, Var};
 use std::alloc::Global;
 
 /// A further argument and the comma before it.

@@ -6,12 +6,10 @@ ghost use Rattle.jz_grammar.specs.Gave.{Gave};
 ghost use Rattle.jz_parse.specs.Trees.{declared_of, declared_all, param_of, params_all};
 ghost use Rattle.jz_parse.specs.Readers.{storages, storage, word_or_array, value_type, declaration, names_more, name_list, group, next_group, groups_more, groups, group_starts, params, rtype, next_rtype, rtypes_more, arrow_types, results, next_name, next_starts, declared_more, declared_names, decl};
 
-use jz_grammar::{Cursor, Stop};
-use jz_tree::{Boxed, Seq, Text};
-use jz_tree::Span;
-use jz_parse_expr::index;
 use crate::notes;
-use jz_tree::{Decl, Note, Param, Ret, Storage, Ty, Var, copy_notes};
+use jz_grammar::{Cursor, Stop};
+use jz_parse_expr::index;
+use jz_tree::{Boxed, Decl, Note, Param, Ret, Seq, Span, Storage, Text, Ty, Var, copy_notes};
 use std::alloc::{AllocError, Global};
 
 /// A name and its place.

@@ -6,10 +6,9 @@ ghost use Rattle.jz_grammar.specs.Gave.{Gave};
 ghost use Rattle.jz_parse.specs.Readers.{item, item_starts, items_more, variable_used, next_used, used_more, variables, variables_enclosed, names, names_starts, variables_returned, ending, body, kind, function};
 
 use crate::declare::{begins_storage, decl, params, results};
-use jz_grammar::{Cursor, Stop};
-use jz_tree::Seq;
 use crate::{begins_stmt, notes, stmt};
-use jz_tree::{Fun, FunKind, Stmt, Var};
+use jz_grammar::{Cursor, Stop};
+use jz_tree::{Fun, FunKind, Seq, Stmt, Var};
 use std::alloc::Global;
 
 /// A declaration of variables, or a statement.

@@ -7,9 +7,8 @@ ghost use Rattle.jz_parse.specs.Readers.{constant, part, part_starts, parts_more
 
 use crate::function::function;
 use jz_grammar::{Cursor, Stop};
-use jz_tree::Seq;
 use jz_parse_expr::expr;
-use jz_tree::{Const, Fun, Program};
+use jz_tree::{Const, Fun, Program, Seq};
 use std::alloc::Global;
 
 /// A constant or a function.

@@ -12,10 +12,8 @@ ghost use Rattle.jz_parse.specs.Deriving.{DerivesProgram, IsSyntaxFault};
 ghost use Rattle.jz_parse.specs.Reading.{Reads};
 
 use crate::program::program;
-use jz_grammar::{Cursor, SyntaxFault, SyntaxKind, fault_at};
-use jz_tree::Failure;
-use jz_grammar::Tokens;
-use jz_tree::Program;
+use jz_grammar::{Cursor, SyntaxFault, SyntaxKind, Tokens, fault_at};
+use jz_tree::{Failure, Program};
 use std::alloc::Global;
 
 /// At most so much may be nested.

@@ -8,10 +8,8 @@ ghost use Rattle.jz_parse.specs.StmtReaders.{simple_starts, form_starts, stmt_st
 use crate::annotations::notes;
 use crate::assigning::simple;
 use jz_grammar::{Cursor, Stop};
-use jz_tree::Seq;
-use jz_tree::Span;
 use jz_parse_expr::expr;
-use jz_tree::{Expr, Stmt, StmtKind, Var};
+use jz_tree::{Expr, Seq, Span, Stmt, StmtKind, Var};
 use std::alloc::Global;
 
 /// What follows an `if`: the condition, the statements where it holds, and those where it does not.

@@ -9,10 +9,7 @@ ghost use Rattle.jz_parse_expr.specs.Readers.{expr_starts, signed_starts, expr, 
 
 use crate::operator::{begins_op, operator};
 use jz_grammar::{Cursor, Stop};
-use jz_tree::{Boxed, Text};
-use jz_tree::Span;
-use jz_tree::{Access, Expr, Var};
-use jz_tree::Size;
+use jz_tree::{Access, Boxed, Expr, Size, Span, Text, Var};
 use std::alloc::{AllocError, Global};
 
 /// Where an access stands, the size that is written, and the address.

@@ -6,8 +6,7 @@ ghost use Rattle.jz_grammar.specs.Reading.{leaf};
 ghost use Rattle.jz_grammar.specs.Gave.{Gave};
 ghost use Rattle.jz_parse_expr.specs.Operators.{orders, ops_of, op_of, shift_of, comparison_of, joining_of};
 
-use jz_grammar::{Cursor, Stop, UNEXPECTED, has_text, is_sign};
-use jz_grammar::Token;
+use jz_grammar::{Cursor, Stop, Token, UNEXPECTED, has_text, is_sign};
 use jz_tree::BinOp;
 
 #[tactic(auto, unfolding(jz_grammar::specs::Kinds::is_in))]

@@ -5,8 +5,7 @@ ghost use Rattle.x64_insn.specs.Encoding.{HasSpelling};
 ghost use Rattle.jz_correct.specs.Assembled.{assembled};
 ghost use Rattle.jz_pipeline.specs.Compiling.{straight_transformer};
 
-use jz_first::Seq;
-use jz_first::Stmt;
+use jz_first::{Seq, Stmt};
 use jz_io::Bytes;
 use jz_runs::{Case, Form, Out, Tr, Transformer};
 use std::alloc::{AllocError, Global};

@@ -6,9 +6,8 @@ ghost use Rattle.jz_pipeline.specs.Limits.{count_of, IsWithinLimits, IsFirstLimi
 
 use crate::copying::copy_fun;
 use crate::limits::{Limit, first_limit};
-use jz_first::Failure;
+use jz_first::{Failure, Typed};
 use jz_first_meaning::Expanded;
-use jz_first::Typed;
 use std::alloc::Global;
 
 /// The function of that number after expansion, or the first limit that it passes. A function

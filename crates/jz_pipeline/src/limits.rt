@@ -6,11 +6,10 @@ ghost use Rattle.jz_pipeline.specs.Limits.{HasField, HasOwnField, ConstantHasFie
 ghost use Rattle.jz_pipeline.specs.Limits.{constant_in, immediate_of, immediates_of, IsFirstWithout};
 ghost use Rattle.jz_pipeline.specs.Limits.{IsWithinLimits, IsFirstLimit};
 
-use jz_first::Text;
-use jz_first::{Expr, Fun, Rhs, StmtKind};
+use jz_first::{Expr, Fun, Rhs, StmtKind, Text};
 use jz_io::Span;
-use x64_insn::{Size, fits_four_bytes, reading};
 use std::alloc::AllocError;
+use x64_insn::{Size, fits_four_bytes, reading};
 
 /// How many statements a function may have.
 const MOST_STATEMENTS: u64 = 65_536;

@@ -5,8 +5,7 @@ ghost use Rattle.jz_first.specs.Variables.{variables_of};
 ghost use Rattle.jz_pipeline.specs.Placed.{name_at, holder_of, refusal_of};
 
 use crate::unplaced::{Holder, NoPlace};
-use jz_first::Text;
-use jz_first::{Fun, Var};
+use jz_first::{Fun, Text, Var};
 use std::alloc::{AllocError, Global};
 
 /// The variable of this number: parameters come first.

@@ -5,13 +5,11 @@ ghost use Rattle.jz_correct.specs.Registers.{argument_registers, result_register
 ghost use Rattle.jz_lower.specs.Placing.{variable_of};
 ghost use Rattle.jz_pipeline.specs.Compiling.{line_of, lines_of};
 
-use jz_first::Seq;
-use jz_first::{Param, Var};
+use jz_first::{Param, Seq, Var};
 use jz_listing::Arg;
 use jz_lower::{ARGUMENT_REGISTERS, RESULT_REGISTERS};
-use x64_insn::Size;
 use std::alloc::{AllocError, Global};
-use x64_insn::Reg;
+use x64_insn::{Reg, Size};
 
 /// The line of a variable in its register. Each variable of today is a word of 64 bits.
 fn line(var: &Var, reg: Reg) -> Result<Arg, AllocError>

@@ -24,8 +24,8 @@ with_number known name n = or_named known name (Some n)
 abbrev pub declared_by : Scope → List ℕ → Option Decl
 declared_by s n =
     or_else
-        (option_and_then (λ v. (out-Var v).decl) (variable_in s.variables n))
-        (option_map (λ at. constant_decl) (places_in s.constants.now n))
+    (option_and_then (λ v. (out-Var v).decl) (variable_in s.variables n))
+    (option_map (λ at. constant_decl) (places_in s.constants.now n))
 
 -- where the variable of that name is declared
 abbrev pub place_by : Scope → PlacesByName

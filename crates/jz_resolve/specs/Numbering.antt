@@ -49,8 +49,8 @@ constant_decl = roll-Decl (record { storage = storage.Inline; ty = ty.Int })
 abbrev pub declaration_in : PlacesByName → List Var → List ℕ → Option Decl
 declaration_in places vs n =
     or_else
-        (option_and_then (λ v. (out-Var v).decl) (variable_named n vs))
-        (option_map (λ at. constant_decl) (places n))
+    (option_and_then (λ v. (out-Var v).decl) (variable_named n vs))
+    (option_map (λ at. constant_decl) (places n))
 
 -- of a name that is a constant's where it stands among these variables, the number of the constant,
 -- if that has one

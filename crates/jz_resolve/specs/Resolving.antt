@@ -67,12 +67,12 @@ module _ (declaration : List ℕ → Option Decl) (number : Name → Option (Opt
   abbrev pub kind_step : StmtKind-F StmtKind Stmt → StmtKind
   kind_step (StmtKind-F.Assign to op from cond) =
       roll-StmtKind (StmtKind-F.Assign
-          (map resolved_lval to) op (resolved_rhs from) (option_map resolved_expr cond))
+      (map resolved_lval to) op (resolved_rhs from) (option_map resolved_expr cond))
   kind_step (StmtKind-F.If c a b) = roll-StmtKind (StmtKind-F.If (resolved_expr c) a b)
   kind_step (StmtKind-F.While p c b) = roll-StmtKind (StmtKind-F.While p (resolved_expr c) b)
   kind_step (StmtKind-F.For i from down to b) =
       roll-StmtKind (StmtKind-F.For
-          (resolved_var i) (resolved_expr from) down (resolved_expr to) b)
+      (resolved_var i) (resolved_expr from) down (resolved_expr to) b)
   kind_step (StmtKind-F.Mark vs) = roll-StmtKind (StmtKind-F.Mark (map resolved_var vs))
 
   abbrev pub resolved_stmt : Stmt → Stmt

@@ -4,9 +4,7 @@ ghost use Rattle.jz_resolve.specs.Resolving.{expr_with, var_with, number_at};
 ghost use Rattle.jz_resolve.specs.InnerResolving.{access_with, name_with, whole_of};
 
 use crate::lookup::Lookup;
-use jz_tree::Boxed;
-use jz_tree::Span;
-use jz_tree::{Access, BinOp, Expr, Var};
+use jz_tree::{Access, BinOp, Boxed, Expr, Span, Var};
 use std::alloc::{AllocError, Global};
 
 /// An operation on the left side of an expression, without its first operand.

@@ -14,16 +14,12 @@ pub fn expression_stays(e: &Expr)
 /// A statement stands where it stood, and in it there stand the same statements, resolved.
 pub fn statement_stays(s: &Stmt)
     ensures span { (k : KnownNames) → (stmt_with k s.now).span ≡ s.now.span }
-    ensures nested {
-        (k : KnownNames)
-        → statements_in (stmt_with k s.now) ≡ map (stmt_with k) (statements_in s.now)
-    }
+    ensures nested { (k : KnownNames)
+        → statements_in (stmt_with k s.now) ≡ map (stmt_with k) (statements_in s.now) }
 {}
 
 /// The functions keep their names and places, and their statements stand where they stood.
 pub fn functions_stay(program: &Program)
     ensures names { function_names (resolved_program program.now) ≡ function_names program.now }
-    ensures statements {
-        all_statement_places (resolved_program program.now) ≡ all_statement_places program.now
-    }
+    ensures statements { all_statement_places (resolved_program program.now) ≡ all_statement_places program.now }
 {}

@@ -2,9 +2,7 @@
 ghost use Rattle.std.specs.Prelude.{◌≡◌, IfOk};
 ghost use Rattle.jz_resolve.specs.Resolving.{KnownNames};
 
-use jz_tree::Text;
-use jz_tree::Span;
-use jz_tree::Decl;
+use jz_tree::{Decl, Span, Text};
 use std::alloc::{AllocError, Global};
 
 /// What knows the names that stand in an expression.

@@ -9,9 +9,8 @@ use crate::expressions::resolve_expr;
 use crate::scope::Scope;
 use crate::statements::{resolve_block, resolve_vars};
 use crate::table::{ConstantTable, constants};
-use jz_tree::{Boxed, Seq};
+use jz_tree::{Boxed, Const, Decl, Expr, Fun, Param, Program, Ret, Seq, Stmt, Ty, Var};
 use jz_type_names::span_of;
-use jz_tree::{Const, Decl, Expr, Fun, Param, Program, Ret, Stmt, Ty, Var};
 use std::alloc::{AllocError, Global};
 
 fn count(alloc: Global, constants: &ConstantTable, length: &Expr) -> Result<Expr, AllocError>
@@ -174,13 +173,9 @@ fn resolve_parts(
     body: &mut Seq<Stmt>,
     returned: &mut Seq<Var>,
 ) -> Result<(), AllocError>
-    ensures body {
-        OnOk result (body.new ≡ map (stmt_with (names_of_fun constants.now head.now)) body.old)
-    }
-    ensures returned {
-        OnOk result
-            (returned.new ≡ map (var_with (names_of_fun constants.now head.now)) returned.old)
-    }
+    ensures body { OnOk result (body.new ≡ map (stmt_with (names_of_fun constants.now head.now)) body.old) }
+    ensures returned { OnOk result
+        (returned.new ≡ map (var_with (names_of_fun constants.now head.now)) returned.old) }
 {
     let scope = Scope::of(alloc, constants, head)?;
     resolve_block(alloc, &scope, body)?;

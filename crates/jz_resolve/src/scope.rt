@@ -5,11 +5,9 @@ ghost use Rattle.jz_resolve.specs.InnerTables.{declared_by, place_by, is_constan
 
 use crate::lookup::Lookup;
 use crate::table::ConstantTable;
-use jz_tree::Text;
 use jz_integers::Numbers;
-use jz_tree::Span;
+use jz_tree::{Decl, Fun, Span, Text};
 use jz_type_names::{Variables, above};
-use jz_tree::{Decl, Fun};
 use std::alloc::{AllocError, Global};
 
 /// The names that are known in a function.

@@ -6,8 +6,7 @@ ghost use Rattle.jz_resolve.specs.InnerResolving.{lval_with, rhs_with, kind_with
 
 use crate::expressions::{declare_var, replace_expr, resolve_access, resolve_expr};
 use crate::lookup::Lookup;
-use jz_tree::{Boxed, Seq};
-use jz_tree::{Expr, Lval, Rhs, Stmt, StmtKind, Var};
+use jz_tree::{Boxed, Expr, Lval, Rhs, Seq, Stmt, StmtKind, Var};
 use std::alloc::{AllocError, Global};
 
 /// Gives each variable what is declared of its name.

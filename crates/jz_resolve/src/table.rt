@@ -7,11 +7,9 @@ ghost use Rattle.jz_resolve.specs.Numbering.{value_with, with_value, no_values, 
 ghost use Rattle.jz_resolve.specs.Tables.{values_in, places_in, IsTable};
 ghost use Rattle.jz_resolve.specs.InnerTables.{with_number};
 
-use jz_tree::{Seq, Text};
 use jz_integers::{Constant, Numbers, inline_value};
-use jz_tree::Span;
+use jz_tree::{Const, Decl, Expr, Seq, Span, Storage, Text, Ty};
 use jz_type_names::{ByName, Places, above};
-use jz_tree::{Const, Decl, Expr, Storage, Ty};
 use std::alloc::{AllocError, Global};
 
 /// The constants of a program by their names: where each stands, and its number where it has one.
@@ -68,9 +66,7 @@ impl ConstantTable {
     }
 
     fn put_value(&mut self, name: &Text, number: i128) -> Result<(), AllocError>
-        ensures values {
-            OnOk result (values_in self.new ≡ with_number (values_in self.old) name.now number)
-        }
+        ensures values { OnOk result (values_in self.new ≡ with_number (values_in self.old) name.now number) }
         ensures places { OnOk result (self.new.places ≡ self.old.places) }
     {
         self.values.add(name, number)?;

@@ -10,10 +10,8 @@ ghost use Rattle.jz_meaning.specs.Values.{cell_key, ref_of};
 ghost use Rattle.jz_run_assign.specs.Calls.{array_passed, array_back};
 
 use crate::missing;
-use jz_tree::Failure;
-use jz_tree::Span;
 use jz_meaning::{Kind, Store, Stuck, kind_of};
-use jz_tree::{Expr, Var};
+use jz_tree::{Expr, Failure, Span, Var};
 use std::alloc::AllocError;
 
 fn copy_cell(

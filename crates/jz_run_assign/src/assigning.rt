@@ -16,10 +16,8 @@ use crate::operands::truth_in;
 use crate::pairs::pair_results;
 use crate::reading::{read, right_value};
 use crate::right::{Right, place_of, right_of, right_size};
-use jz_tree::{Failure, Seq};
-use jz_tree::Span;
 use jz_meaning::{State, Stuck, Value};
-use jz_tree::{BinOp, Expr, Lval};
+use jz_tree::{BinOp, Expr, Failure, Lval, Seq, Span};
 use jz_words::Size;
 use std::alloc::{AllocError, Global};
 
@@ -150,8 +148,7 @@ fn where_conditioned(
     match assignment.cond {
         None => Ok(values),
         Some(cond) => {
-            let values =
-                conditioned(assignment.to, cond, assignment.span, values, state, out)?;
+            let values = conditioned(assignment.to, cond, assignment.span, values, state, out)?;
             Ok(values)
         }
     }

@@ -10,10 +10,8 @@ ghost use Rattle.jz_run_assign.specs.Calls.{value_passed, argument_passed, enter
 
 use crate::arrays::{give_array_back, pass_array};
 use crate::{held, missing, set, write};
-use jz_tree::{Failure, Seq};
-use jz_tree::Span;
 use jz_meaning::{Kind, State, Store, Stuck, evaluate, kind_of, size_of, variable};
-use jz_tree::{Expr, Fun, Lval, Param, Var};
+use jz_tree::{Expr, Failure, Fun, Lval, Param, Seq, Span, Var};
 use std::alloc::AllocError;
 
 /// A call of an inline function: the left sides of its results, the callee, the arguments and where it stands.
@@ -91,15 +89,18 @@ fn pass_all(
 /// The variables of a callee as it begins: each parameter has its argument, which is evaluated among the caller's variables, and nothing
 /// else has a value. The numbers of the arguments are appended to `out`. Stuck as the first argument that is, and for Init at the call
 /// where they are not as many as the parameters.
-pub fn enter(
-    call: Call<'_>,
-    state: &State,
-    out: &mut Seq<u64>,
-) -> Result<Store, Failure<Stuck>>
+pub fn enter(call: Call<'_>, state: &State, out: &mut Seq<u64>) -> Result<Store, Failure<Stuck>>
     ensures { IfAnswered result (λ r. entered_store out.new r ≡ numbers_first out.old (entered_by call.entry (state_of state.now))) }
 {
     let mut inner = Store::new(out.allocator());
-    pass_all(call.span, &call.callee.params, call.args, state, &mut inner, out)?;
+    pass_all(
+        call.span,
+        &call.callee.params,
+        call.args,
+        state,
+        &mut inner,
+        out,
+    )?;
     Ok(inner)
 }
 

@@ -7,10 +7,8 @@ ghost use Rattle.jz_meaning.specs.Stores.{state_of};
 ghost use Rattle.jz_meaning.specs.Statements as statements;
 
 use crate::missing;
-use jz_tree::{Failure, Seq};
-use jz_tree::Span;
 use jz_meaning::{State, Stuck, Value, evaluate};
-use jz_tree::Expr;
+use jz_tree::{Expr, Failure, Seq, Span};
 
 /// A value as a whole number.
 fn number_at(span: Span, value: Value) -> Result<i128, Stuck>

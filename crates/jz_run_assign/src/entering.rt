@@ -6,9 +6,8 @@ ghost use Rattle.jz_meaning.specs.Stores.{store_of};
 ghost use Rattle.jz_meaning.specs.Statements as statements;
 ghost use Rattle.jz_meaning.specs.Values.{cell_key, ref_of};
 
-use jz_tree::Seq;
 use jz_meaning::{Kind, Store, kind_of};
-use jz_tree::Var;
+use jz_tree::{Seq, Var};
 use std::alloc::AllocError;
 
 fn unset_cell(cell: u64, var: &Var, store: &mut Store)

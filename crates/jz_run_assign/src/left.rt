@@ -10,10 +10,10 @@ ghost use Rattle.jz_meaning.specs.declared.value.Why.TheVariants.{Init};
 ghost use Rattle.jz_run_assign.specs.Parts.{variable_written, cell_written};
 
 use crate::variables::set;
-use jz_tree::{Failure, Seq};
-use jz_tree::Span;
-use jz_meaning::{Kind, State, Store, Stuck, Value, Why, evaluate, index, kind_of, size_of, word_of};
-use jz_tree::{Lval, Var};
+use jz_meaning::{
+    Kind, State, Store, Stuck, Value, Why, evaluate, index, kind_of, size_of, word_of,
+};
+use jz_tree::{Failure, Lval, Seq, Span, Var};
 use jz_words::Size;
 use std::alloc::AllocError;
 
@@ -89,22 +89,13 @@ fn var_span(var: &Var) -> Span
     var.span
 }
 
-fn put_cell(
-    var: &Var,
-    index: u64,
-    value: Value,
-    store: &mut Store,
-) -> Result<(), AllocError>
+fn put_cell(var: &Var, index: u64, value: Value, store: &mut Store) -> Result<(), AllocError>
     ensures { OnOk result (store_of store.new ≡ put (store_of store.old) (cell_key (ref_of var.now) index) (Some (as_value value))) }
 {
     store.put(&var.name, var.copy, Some(index), Some(value))
 }
 
-fn write_variable(
-    var: &Var,
-    value: Option<Value>,
-    state: &mut State,
-) -> Result<(), Failure<Stuck>>
+fn write_variable(var: &Var, value: Option<Value>, state: &mut State) -> Result<(), Failure<Stuck>>
     ensures { ChangesSilently result (state_of state.new) (variable_written var.now (option_map as_value value) (state_of state.old)) }
 {
     match value {

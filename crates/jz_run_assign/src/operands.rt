@@ -9,10 +9,8 @@ ghost use Rattle.jz_meaning.specs.Assignments as assignments;
 ghost use Rattle.jz_run_assign.specs.Answers.{bits_in, GivesBits};
 
 use crate::left::missing;
-use jz_tree::{Failure, Seq};
-use jz_tree::Span;
 use jz_meaning::{State, Stuck, Value, evaluate, word_of};
-use jz_tree::Expr;
+use jz_tree::{Expr, Failure, Seq, Span};
 use jz_words::{Size, Word};
 
 /// The value in the place of a word of a size.

@@ -16,10 +16,8 @@ use crate::left::missing;
 use crate::operands::{truth_in, word_at, word_in};
 use crate::reading::operand;
 use crate::right::{Operand, Right, carries, is_flag};
-use jz_tree::{Failure, Seq};
-use jz_tree::Span;
 use jz_meaning::{State, Stuck, Value};
-use jz_tree::{BinOp, Expr};
+use jz_tree::{BinOp, Expr, Failure, Seq, Span};
 use jz_words::{Size, Word, add_carry, mul_wide, sub_borrow};
 use std::alloc::Global;
 

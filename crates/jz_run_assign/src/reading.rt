@@ -9,12 +9,10 @@ ghost use Rattle.jz_meaning.specs.Values.{evaluated};
 ghost use Rattle.jz_run_assign.specs.Rights.{read_of, operand_of, right_side};
 
 use crate::right::{Operand, Place, Right, left_wanted, place_size, update_size};
-use jz_tree::{Failure, Seq};
-use jz_tree::Span;
 use jz_meaning::{
     State, Stuck, Value, binary, cell, evaluate, is_settled, load, own_size, right_wanted, variable,
 };
-use jz_tree::{BinOp, Expr};
+use jz_tree::{BinOp, Expr, Failure, Seq, Span};
 use jz_words::Size;
 
 /// What a left side has, where a word of a size is wanted.

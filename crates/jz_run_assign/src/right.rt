@@ -7,10 +7,8 @@ ghost use Rattle.jz_meaning.specs.Values as values;
 ghost use Rattle.jz_meaning.specs.Assignments as assignments;
 ghost use Rattle.jz_run_assign.specs.Rights.{read_of, right_side, IsCarry};
 
-use jz_tree::Seq;
-use jz_tree::Span;
 use jz_meaning::{Kind, gives_word, is_shift, kind_of, own_size, size_of};
-use jz_tree::{Access, BinOp, Expr, Lval, Var};
+use jz_tree::{Access, BinOp, Expr, Lval, Seq, Span, Var};
 use jz_words::Size;
 
 /// A left side that is read.

@@ -10,13 +10,10 @@ use crate::operands::{
 };
 use crate::results::Results;
 use crate::rows::{OneWord, Row, TwoWords, row_of};
-use jz_run_assign::missing;
-use jz_tree::{Failure, Seq};
-use jz_tree::Span;
 use jz_meaning::{State, Stuck};
-use jz_tree::{Expr, Intrinsic};
-use x64_insn::Size;
-use x64_insn::{Alu, Shift};
+use jz_run_assign::missing;
+use jz_tree::{Expr, Failure, Intrinsic, Seq, Span};
+use x64_insn::{Alu, Shift, Size};
 
 fn of_one(
     row: OneWord,
@@ -26,10 +23,8 @@ fn of_one(
     state: &State,
     out: &mut Seq<u64>,
 ) -> Result<Results, Failure<Stuck>>
-    ensures {
-        let meaning = intrinsics.of_one (one_word_results row size) span size operands.now in
-        GivesResults result out.old out.new (meaning (state_of state.now))
-    }
+    ensures { let meaning = intrinsics.of_one (one_word_results row size) span size operands.now in
+        GivesResults result out.old out.new (meaning (state_of state.now)) }
 {
     match operands {
         [a] => with_one(row, span, size, a, state, out),
@@ -45,10 +40,8 @@ fn of_two(
     state: &State,
     out: &mut Seq<u64>,
 ) -> Result<Results, Failure<Stuck>>
-    ensures {
-        let meaning = intrinsics.of_two (two_word_results row size) span size operands.now in
-        GivesResults result out.old out.new (meaning (state_of state.now))
-    }
+    ensures { let meaning = intrinsics.of_two (two_word_results row size) span size operands.now in
+        GivesResults result out.old out.new (meaning (state_of state.now)) }
 {
     match operands {
         [a, b] => with_two(row, span, size, a, b, state, out),
@@ -64,10 +57,8 @@ fn of_carry(
     state: &State,
     out: &mut Seq<u64>,
 ) -> Result<Results, Failure<Stuck>>
-    ensures {
-        let meaning = intrinsics.of_carry (intrinsics.alu_results op size) span size operands.now in
-        GivesResults result out.old out.new (meaning (state_of state.now))
-    }
+    ensures { let meaning = intrinsics.of_carry (intrinsics.alu_results op size) span size operands.now in
+        GivesResults result out.old out.new (meaning (state_of state.now)) }
 {
     match operands {
         [a, b, c] => {
@@ -87,10 +78,8 @@ fn of_count(
     state: &State,
     out: &mut Seq<u64>,
 ) -> Result<Results, Failure<Stuck>>
-    ensures {
-        let meaning = intrinsics.of_count (shift_flags kind) kind span size operands.now in
-        GivesResults result out.old out.new (meaning (state_of state.now))
-    }
+    ensures { let meaning = intrinsics.of_count (shift_flags kind) kind span size operands.now in
+        GivesResults result out.old out.new (meaning (state_of state.now)) }
 {
     match operands {
         [a, count] => with_count(kind, span, size, a, count, state, out),
@@ -105,10 +94,8 @@ fn of_division(
     state: &State,
     out: &mut Seq<u64>,
 ) -> Result<Results, Failure<Stuck>>
-    ensures {
-        let meaning = intrinsics.of_division span size operands.now in
-        GivesResults result out.old out.new (meaning (state_of state.now))
-    }
+    ensures { let meaning = intrinsics.of_division span size operands.now in
+        GivesResults result out.old out.new (meaning (state_of state.now)) }
 {
     match operands {
         [high, low, divisor] => with_division(span, size, high, low, divisor, state, out),
@@ -122,10 +109,8 @@ fn of_condition(
     state: &State,
     out: &mut Seq<u64>,
 ) -> Result<Results, Failure<Stuck>>
-    ensures {
-        let meaning = intrinsics.of_condition span operands.now in
-        GivesResults result out.old out.new (meaning (state_of state.now))
-    }
+    ensures { let meaning = intrinsics.of_condition span operands.now in
+        GivesResults result out.old out.new (meaning (state_of state.now)) }
 {
     match operands {
         [c] => with_condition(span, c, state, out),
@@ -141,10 +126,8 @@ fn of_row(
     state: &State,
     out: &mut Seq<u64>,
 ) -> Result<Results, Failure<Stuck>>
-    ensures {
-        let meaning = row_results row span size operands.now in
-        GivesResults result out.old out.new (meaning (state_of state.now))
-    }
+    ensures { let meaning = row_results row span size operands.now in
+        GivesResults result out.old out.new (meaning (state_of state.now)) }
 {
     match row {
         Row::One(row) => of_one(row, span, size, operands, state, out),
@@ -166,10 +149,8 @@ pub(crate) fn results_of(
     state: &State,
     out: &mut Seq<u64>,
 ) -> Result<Results, Failure<Stuck>>
-    ensures {
-        let meaning = intrinsics.sized_results name span size operands.now in
-        GivesResults result out.old out.new (meaning (state_of state.now))
-    }
+    ensures { let meaning = intrinsics.sized_results name span size operands.now in
+        GivesResults result out.old out.new (meaning (state_of state.now)) }
 {
     match size {
         None => Err(Failure::Refused(missing(span))),

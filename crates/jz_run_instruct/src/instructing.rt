@@ -8,11 +8,9 @@ ghost use Rattle.jz_meaning.specs.Intrinsics as intrinsics;
 
 use crate::dispatching::results_of;
 use crate::sizes::intrinsic_size;
-use jz_run_assign::{missing, write_all};
-use jz_tree::{Failure, Seq, Text};
-use jz_tree::Span;
 use jz_meaning::{State, Stuck};
-use jz_tree::{Expr, Instance, Lval, spelled};
+use jz_run_assign::{missing, write_all};
+use jz_tree::{Expr, Failure, Instance, Lval, Seq, Span, Text, spelled};
 
 fn instruct_by(
     to: &Seq<Lval>,
@@ -22,10 +20,8 @@ fn instruct_by(
     state: &mut State,
     out: &mut Seq<u64>,
 ) -> Result<(), Failure<Stuck>>
-    ensures {
-        let meaning = intrinsics.instruction_done (Some instance) to.now operands.now span in
-        Changes result out.old out.new (state_of state.new) (meaning (state_of state.old))
-    }
+    ensures { let meaning = intrinsics.instruction_done (Some instance) to.now operands.now span in
+        Changes result out.old out.new (state_of state.new) (meaning (state_of state.old)) }
 {
     let operands = operands.as_slice();
     let size = intrinsic_size(instance, to, operands);
@@ -45,11 +41,9 @@ pub fn instruct(
     state: &mut State,
     out: &mut Seq<u64>,
 ) -> Result<(), Failure<Stuck>>
-    ensures {
-        let named = spelled_as name.now in
+    ensures { let named = spelled_as name.now in
         let meaning = intrinsics.instruction_done named to.now operands.now span in
-        Changes result out.old out.new (state_of state.new) (meaning (state_of state.old))
-    }
+        Changes result out.old out.new (state_of state.new) (meaning (state_of state.old)) }
 {
     match spelled(name.as_str()) {
         None => Err(Failure::Refused(missing(span))),

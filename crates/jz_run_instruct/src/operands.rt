@@ -15,13 +15,10 @@ ghost use Rattle.jz_run_instruct.specs.Rows.{shift_flags, one_word_results, two_
 use crate::results::Results;
 use crate::rows::{OneWord, TwoWords};
 use crate::words::{of_division, of_shift, of_sum, of_truth, of_word, of_words};
-use jz_run_assign::{truth_in, word_in};
-use jz_tree::{Failure, Seq};
-use jz_tree::Span;
 use jz_meaning::{State, Stuck, evaluate};
-use jz_tree::Expr;
-use x64_insn::{Size, Word};
-use x64_insn::{Alu, Shift};
+use jz_run_assign::{truth_in, word_in};
+use jz_tree::{Expr, Failure, Seq, Span};
+use x64_insn::{Alu, Shift, Size, Word};
 
 /// The words of two operands.
 pub(crate) fn words_in(
@@ -32,11 +29,9 @@ pub(crate) fn words_in(
     state: &State,
     out: &mut Seq<u64>,
 ) -> Result<(Word, Word), Failure<Stuck>>
-    ensures bits {
-        let first = assignments.word_in span size a.now (state_of state.now) in
+    ensures bits { let first = assignments.word_in span size a.now (state_of state.now) in
         let second = assignments.word_in span size b.now (state_of state.now) in
-        GivesWords result out.old out.new (both_words first second)
-    }
+        GivesWords result out.old out.new (both_words first second) }
     ensures sizes { IfOk result (λ p. (p.0.size ≡ size) × (p.1.size ≡ size)) }
 {
     let first = word_in(span, size, a, state, out)?;
@@ -53,10 +48,8 @@ pub(crate) fn with_one(
     state: &State,
     out: &mut Seq<u64>,
 ) -> Result<Results, Failure<Stuck>>
-    ensures {
-        let meaning = intrinsics.of_one (one_word_results row size) span size (operand.now ∷ []) in
-        GivesResults result out.old out.new (meaning (state_of state.now))
-    }
+    ensures { let meaning = intrinsics.of_one (one_word_results row size) span size (operand.now ∷ []) in
+        GivesResults result out.old out.new (meaning (state_of state.now)) }
 {
     let word = word_in(span, size, operand, state, out)?;
     let results = of_word(out.allocator(), row, word)?;
@@ -73,10 +66,8 @@ pub(crate) fn with_two(
     state: &State,
     out: &mut Seq<u64>,
 ) -> Result<Results, Failure<Stuck>>
-    ensures {
-        let meaning = intrinsics.of_two (two_word_results row size) span size (a.now ∷ b.now ∷ []) in
-        GivesResults result out.old out.new (meaning (state_of state.now))
-    }
+    ensures { let meaning = intrinsics.of_two (two_word_results row size) span size (a.now ∷ b.now ∷ []) in
+        GivesResults result out.old out.new (meaning (state_of state.now)) }
 {
     let (a, b) = words_in(span, size, a, b, state, out)?;
     let results = of_words(out.allocator(), row, a, b)?;
@@ -94,11 +85,9 @@ pub(crate) fn with_carry(
     out: &mut Seq<u64>,
 ) -> Result<Results, Failure<Stuck>>
     requires { a.size ≡ b.size }
-    ensures {
-        let carry = assignments.bool_in span c.now (state_of state.now) in
+    ensures { let carry = assignments.bool_in span c.now (state_of state.now) in
         let sum = λ (k : Bool). went [] (intrinsics.alu_results op a.size a.bits b.bits k) in
-        GivesResults result out.old out.new (and_then carry sum)
-    }
+        GivesResults result out.old out.new (and_then carry sum) }
 {
     let carry = truth_in(span, c, state, out)?;
     let results = of_sum(out.allocator(), op, a, b, carry)?;
@@ -114,11 +103,9 @@ fn by_count(
     state: &State,
     out: &mut Seq<u64>,
 ) -> Result<Results, Failure<Stuck>>
-    ensures {
-        let shifted = intrinsics.shift_results (shift_flags kind) kind span word.size word.bits in
+    ensures { let shifted = intrinsics.shift_results (shift_flags kind) kind span word.size word.bits in
         let count = evaluated count.now (Some size.S8) (state_of state.now) in
-        GivesResults result out.old out.new (and_then count shifted)
-    }
+        GivesResults result out.old out.new (and_then count shifted) }
 {
     let count = evaluate(count, Some(Size::S8), state, out)?;
     let results = of_shift(out.allocator(), kind, span, word, count)?;
@@ -135,11 +122,9 @@ pub(crate) fn with_count(
     state: &State,
     out: &mut Seq<u64>,
 ) -> Result<Results, Failure<Stuck>>
-    ensures {
-        let operands = operand.now ∷ count.now ∷ [] in
+    ensures { let operands = operand.now ∷ count.now ∷ [] in
         let meaning = intrinsics.of_count (shift_flags kind) kind span size operands in
-        GivesResults result out.old out.new (meaning (state_of state.now))
-    }
+        GivesResults result out.old out.new (meaning (state_of state.now)) }
 {
     let word = word_in(span, size, operand, state, out)?;
     let results = by_count(kind, span, word, count, state, out)?;
@@ -156,11 +141,9 @@ fn by_divisor(
     out: &mut Seq<u64>,
 ) -> Result<Results, Failure<Stuck>>
     requires { high.size ≡ low.size }
-    ensures {
-        let divisor = assignments.word_in span high.size divisor.now (state_of state.now) in
+    ensures { let divisor = assignments.word_in span high.size divisor.now (state_of state.now) in
         let quotient = intrinsics.division_results span high.size high.bits low.bits in
-        GivesResults result out.old out.new (and_then divisor quotient)
-    }
+        GivesResults result out.old out.new (and_then divisor quotient) }
 {
     let divisor = word_in(span, high.size(), divisor, state, out)?;
     let results = of_division(span, high, low, divisor, out)?;
@@ -177,11 +160,9 @@ pub(crate) fn with_division(
     state: &State,
     out: &mut Seq<u64>,
 ) -> Result<Results, Failure<Stuck>>
-    ensures {
-        let operands = high.now ∷ low.now ∷ divisor.now ∷ [] in
+    ensures { let operands = high.now ∷ low.now ∷ divisor.now ∷ [] in
         let meaning = intrinsics.of_division span size operands in
-        GivesResults result out.old out.new (meaning (state_of state.now))
-    }
+        GivesResults result out.old out.new (meaning (state_of state.now)) }
 {
     let (high, low) = words_in(span, size, high, low, state, out)?;
     let results = by_divisor(span, high, low, divisor, state, out)?;
@@ -195,10 +176,8 @@ pub(crate) fn with_condition(
     state: &State,
     out: &mut Seq<u64>,
 ) -> Result<Results, Failure<Stuck>>
-    ensures {
-        let meaning = intrinsics.of_condition span (c.now ∷ []) in
-        GivesResults result out.old out.new (meaning (state_of state.now))
-    }
+    ensures { let meaning = intrinsics.of_condition span (c.now ∷ []) in
+        GivesResults result out.old out.new (meaning (state_of state.now)) }
 {
     let c = truth_in(span, c, state, out)?;
     let results = of_truth(out.allocator(), c)?;

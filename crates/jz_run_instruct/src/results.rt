@@ -8,11 +8,10 @@ ghost use Rattle.jz_run_assign.specs.Answers.{meant_results};
 ghost use Rattle.jz_run_instruct.specs.Rows.{flags_set_by};
 
 use crate::rows::Sets;
-use jz_tree::Seq;
 use jz_meaning::Value;
-use x64_insn::{Size, Word};
+use jz_tree::Seq;
 use std::alloc::{AllocError, Global};
-use x64_insn::{Answer, FlagVal};
+use x64_insn::{Answer, FlagVal, Size, Word};
 
 /// What the left sides get, in their order; None is a flag that has no value afterwards.
 pub(crate) type Results = Seq<Option<Value>>;
@@ -28,10 +27,8 @@ fn flag_result(flag: FlagVal) -> Option<Value>
 }
 
 fn add(results: &mut Results, value: Option<Value>) -> Result<(), AllocError>
-    ensures {
-        let added = option_map as_value value ∷ [] in
-        OnOk result (meant_results results.new ≡ meant_results results.old ++ added)
-    }
+    ensures { let added = option_map as_value value ∷ [] in
+        OnOk result (meant_results results.new ≡ meant_results results.old ++ added) }
 {
     results.push(value)?;
     Ok(())
@@ -45,10 +42,8 @@ fn add_word(results: &mut Results, size: Size, bits: u64) -> Result<(), AllocErr
 }
 
 fn add_flags(results: &mut Results, flags: &[FlagVal]) -> Result<(), AllocError>
-    ensures {
-        let added = intrinsics.all_flags flags.now in
-        OnOk result (meant_results results.new ≡ meant_results results.old ++ added)
-    }
+    ensures { let added = intrinsics.all_flags flags.now in
+        OnOk result (meant_results results.new ≡ meant_results results.old ++ added) }
 {
     for flag in flags {
         add(results, flag_result(*flag))?;
@@ -91,10 +86,8 @@ pub(crate) fn before_value(
     answer: Answer,
 ) -> Result<Results, AllocError>
     requires { answer.value < modulus size }
-    ensures {
-        let results = intrinsics.before_value (flags_set_by sets answer.flags) size answer.value in
-        IfOk result (λ vs. meant_results vs ≡ results)
-    }
+    ensures { let results = intrinsics.before_value (flags_set_by sets answer.flags) size answer.value in
+        IfOk result (λ vs. meant_results vs ≡ results) }
 {
     let mut results = flags_set(alloc, sets, answer.flags)?;
     add_word(&mut results, size, answer.value)?;
@@ -111,10 +104,8 @@ pub(crate) fn before_both(
 ) -> Result<Results, AllocError>
     requires first { first < modulus size }
     requires second { second < modulus size }
-    ensures {
-        let both = Some (word size first) ∷ Some (word size second) ∷ [] in
-        IfOk result (λ vs. meant_results vs ≡ intrinsics.all_flags flags ++ both)
-    }
+    ensures { let both = Some (word size first) ∷ Some (word size second) ∷ [] in
+        IfOk result (λ vs. meant_results vs ≡ intrinsics.all_flags flags ++ both) }
 {
     let mut results = flags_set(alloc, Sets::All, flags)?;
     add_word(&mut results, size, first)?;

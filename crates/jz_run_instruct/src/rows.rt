@@ -69,10 +69,8 @@ pub(crate) fn set_by_shift(kind: Shift) -> Sets
 
 /// What an instruction takes.
 pub(crate) fn row_of(name: Intrinsic) -> Row
-    ensures {
-        (at : Span) (z : Size) (es : List Expr) (s : State) →
-            intrinsics.intrinsic_results name at z es s ≡ row_results result at z es s
-    }
+    ensures { (at : Span) (z : Size) (es : List Expr) (s : State) →
+        intrinsics.intrinsic_results name at z es s ≡ row_results result at z es s }
 {
     match name {
         Intrinsic::Add => Row::Two(TwoWords::Alu(Alu::Add)),

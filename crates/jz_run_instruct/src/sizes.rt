@@ -3,10 +3,9 @@
 ghost use Rattle.std.specs.Prelude.{◌≡◌};
 ghost use Rattle.jz_meaning.specs.Intrinsics as intrinsics;
 
-use jz_run_assign::left_sizes;
-use jz_tree::Seq;
 use jz_meaning::own_size;
-use jz_tree::{Expr, Instance, Intrinsic, Lval};
+use jz_run_assign::left_sizes;
+use jz_tree::{Expr, Instance, Intrinsic, Lval, Seq};
 use x64_insn::Size;
 
 // The size of the first operand that has one.

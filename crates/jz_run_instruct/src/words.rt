@@ -14,15 +14,13 @@ ghost use Rattle.jz_run_instruct.specs.Rows.{shift_flags, one_word_results, two_
 
 use crate::results::{Results, alone, before_both, before_value, flags_set};
 use crate::rows::{OneWord, Sets, TwoWords, set_by_shift};
-use jz_run_assign::missing;
-use jz_tree::{Failure, Seq};
-use jz_tree::Span;
 use jz_meaning::{Stuck, Value, Why};
-use x64_insn::{Size, Word, rol, ror, sar, shl, shr, swap_bytes};
+use jz_run_assign::missing;
+use jz_tree::{Failure, Seq, Span};
 use std::alloc::{AllocError, Global};
 use x64_insn::{
-    Alu, Answer, FlagVal, Shift, alu_answer, low_product_answer, one_answer, product_answer,
-    quotient_answer, shift_answer,
+    Alu, Answer, FlagVal, Shift, Size, Word, alu_answer, low_product_answer, one_answer,
+    product_answer, quotient_answer, rol, ror, sar, shift_answer, shl, shr, swap_bytes,
 };
 
 /// An instruction on one word.
@@ -74,10 +72,8 @@ fn of_product(alloc: Global, a: Word, b: Word) -> Result<Results, AllocError>
 // The flags alone.
 fn of_comparison(alloc: Global, op: Alu, a: Word, b: Word) -> Result<Results, AllocError>
     requires { a.size ≡ b.size }
-    ensures {
-        let answer = alu_answered op a.size a.bits b.bits false in
-        IfOk result (λ vs. meant_results vs ≡ intrinsics.all_flags answer.flags)
-    }
+    ensures { let answer = alu_answered op a.size a.bits b.bits false in
+        IfOk result (λ vs. meant_results vs ≡ intrinsics.all_flags answer.flags) }
 {
     let answer = alu_answer(op, a, b, false);
     flags_set(alloc, Sets::All, answer.flags)
@@ -127,18 +123,11 @@ fn shifted(kind: Shift, a: Word, count: u32) -> Word
 }
 
 // A count that is known when the text is compiled: 0 changes nothing, and sets no flag.
-fn by_constant(
-    alloc: Global,
-    kind: Shift,
-    a: Word,
-    count: u128,
-) -> Result<Results, AllocError>
-    ensures {
-        let count = shifts.masked a.size count in
+fn by_constant(alloc: Global, kind: Shift, a: Word, count: u128) -> Result<Results, AllocError>
+    ensures { let count = shifts.masked a.size count in
         let answer = shifts.shift_answer kind a.size a.bits count no_flags in
         let results = intrinsics.before_value (shift_flags kind answer.flags) a.size answer.value in
-        IfOk result (λ vs. meant_results vs ≡ results)
-    }
+        IfOk result (λ vs. meant_results vs ≡ results) }
 {
     let count = masked(a.size(), count);
     let answer = shift_answer(kind, a, count, [FlagVal::Undefined; 5]);
@@ -147,11 +136,9 @@ fn by_constant(
 
 // A count of the run, which may be 0: no flag is known afterwards.
 fn by_byte(alloc: Global, kind: Shift, a: Word, count: u128) -> Result<Results, AllocError>
-    ensures {
-        let value = shifts.shifted kind a.size a.bits (shifts.masked a.size count) in
+    ensures { let value = shifts.shifted kind a.size a.bits (shifts.masked a.size count) in
         let results = intrinsics.before_value (shift_flags kind no_flags) a.size value in
-        IfOk result (λ vs. meant_results vs ≡ results)
-    }
+        IfOk result (λ vs. meant_results vs ≡ results) }
 {
     let value = shifted(kind, a, masked(a.size(), count));
     let answer = Answer {
@@ -169,10 +156,8 @@ pub(crate) fn of_shift(
     a: Word,
     count: Value,
 ) -> Result<Results, Failure<Stuck>>
-    ensures {
-        let shifted = intrinsics.shift_results (shift_flags kind) kind span a.size a.bits in
-        (ns : List ℕ) → GivesResults result ns ns (shifted (as_value count))
-    }
+    ensures { let shifted = intrinsics.shift_results (shift_flags kind) kind span a.size a.bits in
+        (ns : List ℕ) → GivesResults result ns ns (shifted (as_value count)) }
 {
     match count {
         Value::Word(count) => {
@@ -221,10 +206,8 @@ pub(crate) fn of_division(
 ) -> Result<Results, Failure<Stuck>>
     requires low { high.size ≡ low.size }
     requires divisor { high.size ≡ divisor.size }
-    ensures {
-        let quotient = intrinsics.division_results span high.size high.bits low.bits in
-        GivesResults result out.old out.new (quotient divisor.bits)
-    }
+    ensures { let quotient = intrinsics.division_results span high.size high.bits low.bits in
+        GivesResults result out.old out.new (quotient divisor.bits) }
 {
     match quotient_answer(high, low, divisor) {
         None => Err(Failure::Refused(no_quotient(span))),

@@ -3,10 +3,8 @@
 use Edge::{Last, Least, Most, Number, Width};
 use Part::{Byte, Truth, Whole};
 use Wanted::{Divide, Flag, Is};
-use jz_tree::{Seq, Text};
-use jz_tree::Span;
 use jz_meaning::{Store, Stuck, Value, Why, binary, cast, inverted_value, negated_value};
-use jz_tree::BinOp;
+use jz_tree::{BinOp, Seq, Span, Text};
 use jz_words::{Size, Word, residue};
 use std::alloc::{AllocError, Global};
 use std::process::Abort;

@@ -2,13 +2,11 @@
 //! A line has the text, the arguments, the memory from address 16 on, the turns, and the outcome: `end`, the results, the memory and the
 //! leak; `cut` and the leak; or `stuck`, the place and the reason. The last function of a text is run.
 
-use jz_tree::{Failure, Seq};
 use jz_interp::{Input, Outcome, interpret, takes};
-use jz_meaning::{Item, Leak, MemMap, Turn};
 use jz_lex::lex;
-use jz_meaning::{Kind, Stuck, Why, kind_of};
+use jz_meaning::{Item, Kind, Leak, MemMap, Stuck, Turn, Why, kind_of};
 use jz_parse::parse;
-use jz_tree::Param;
+use jz_tree::{Failure, Param, Seq};
 use jz_types::{Typed, check};
 use jz_words::{Size, Word};
 use std::alloc::{AllocError, Global};

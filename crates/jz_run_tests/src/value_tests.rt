@@ -3,11 +3,8 @@
 
 use Part::{Cell, Memory, Quotient, Unaligned, Unset};
 use Wanted::{At, Is};
-use jz_tree::{Boxed, Failure, Seq, Text};
-use jz_tree::Span;
-use jz_meaning::MemMap;
-use jz_meaning::{Store, Stuck, Value, Why, evaluate, value_of, write};
-use jz_tree::{Access, BinOp, Decl, Expr, Storage, Ty, Var};
+use jz_meaning::{MemMap, Store, Stuck, Value, Why, evaluate, value_of, write};
+use jz_tree::{Access, BinOp, Boxed, Decl, Expr, Failure, Seq, Span, Storage, Text, Ty, Var};
 use jz_words::{Size, Word};
 use std::alloc::{AllocError, Global};
 use std::process::Abort;

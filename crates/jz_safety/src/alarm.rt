@@ -1,8 +1,7 @@
 //! Alarms.
 
-use jz_first::Text;
+use jz_first::{Span, Text};
 use jz_first_meaning::Reason;
-use jz_first::Span;
 
 /// A condition that the facts don't give: where it is asked, what would be wrong, and of which
 /// variable.

@@ -7,10 +7,9 @@ ghost use Rattle.jz_safety.specs.Alarms.{alarms_at, alarms_of, body_alarms, HasN
 
 use crate::alarm::Alarm;
 use crate::certificate::Safe;
-use jz_first::{Failure, Seq};
 use crate::{Condition, FactSet, at_entry, conditions, gives, holds_after, result_conditions};
+use jz_first::{Failure, Seq, Stmt};
 use jz_first_meaning::Expanded;
-use jz_first::Stmt;
 use std::alloc::Global;
 
 fn check_conditions(set: &FactSet, asked: &Seq<Condition>) -> Result<(), Failure<Alarm>>

@@ -4,10 +4,8 @@ ghost use Rattle.std.specs.Prelude.{◌≡◌, ◌++◌, ◌∷◌, [], IfOk, On
 ghost use Rattle.jz_safety.specs.Conditions.{read_of, left_condition, left_conditions, right_conditions, conditions_of, result_conditions};
 
 use crate::fact::Fact;
-use jz_first::{Seq, Text};
+use jz_first::{BinOp, Expr, Lval, Rhs, Seq, Span, Stmt, StmtKind, Text, Var};
 use jz_first_meaning::Reason;
-use jz_first::{BinOp, Expr, Lval, Rhs, Stmt, StmtKind, Var};
-use jz_first::Span;
 use std::alloc::{AllocError, Global};
 
 /// A fact that has to be given where the text stands at the span. Where it isn't, there is an alarm

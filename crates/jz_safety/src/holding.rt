@@ -6,8 +6,8 @@ ghost use Rattle.jz_safety.specs.Holding.{entry_facts, after_left_side, facts_af
 
 use crate::fact::Fact;
 use crate::set::FactSet;
-use jz_first_meaning::Expanded;
 use jz_first::{Lval, Stmt, StmtKind};
+use jz_first_meaning::Expanded;
 use std::alloc::{AllocError, Global};
 
 /// What holds where a function begins: each parameter has a value.

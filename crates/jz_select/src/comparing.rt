@@ -9,8 +9,8 @@ ghost use Rattle.jz_select.specs.InnerLayers.{indices_eq};
 ghost use Rattle.jz_select.specs.Places.{is_number};
 
 use jz_integers::written_number;
-use jz_type_names::same_size;
 use jz_tree::{BinOp, Expr, Var};
+use jz_type_names::same_size;
 
 fn same_cell(a: Option<u32>, b: Option<u32>) -> bool
     ensures { result ≡ cell_eq a b }

@@ -9,8 +9,8 @@ ghost use Rattle.jz_select.specs.Look.{gives_number as gives_number_is};
 ghost use Rattle.jz_select.specs.Sums.{term};
 
 use crate::class::Sum;
-use jz_type_names::{Kind, known};
 use jz_tree::{BinOp, Expr, Storage, Var};
+use jz_type_names::{Kind, known};
 use jz_words::Size;
 
 /// Whether it is an inline integer; an unknown name is none.

@@ -13,8 +13,8 @@ use crate::class::{Class, Mask, Operand};
 use crate::look::{gives_number, inline, sum};
 use crate::places::meet;
 use jz_integers::written_number;
-use jz_type_names::{Kind, known};
 use jz_tree::{BinOp, Expr, Lval, Storage, Var};
+use jz_type_names::{Kind, known};
 use jz_words::Size;
 
 pub fn class_of_var(v: &Var) -> Class

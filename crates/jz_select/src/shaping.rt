@@ -30,8 +30,7 @@ use crate::look::{compares_values, inline_condition, sum};
 use crate::operand::{class, class_of_var, dest, operand};
 use crate::rows::{apart, divides, flag, flag_result, m, rm, rmi};
 use crate::shape::{Shape, Value};
-use jz_tree::Seq;
-use jz_tree::{BinOp, Expr, Instance, Intrinsic, Lval, Rhs, StmtKind, spelled};
+use jz_tree::{BinOp, Expr, Instance, Intrinsic, Lval, Rhs, Seq, StmtKind, spelled};
 
 /// How many flags an intrinsic gives before its values.
 #[derive(Clone, Copy)]

@@ -53,7 +53,7 @@ count_step (Expr-F.Bin o a b at) = a + b + 1
 abbrev pub count_in : Expr → ℕ
 count_in =
     fold-Expr ℕ (Unit {0}) ℕ (Unit {0}) (Unit {0})
-        count_step (λ t. tt) (λ a. a.at) (λ d. tt) (λ v. tt)
+    count_step (λ t. tt) (λ a. a.at) (λ d. tt) (λ v. tt)
 
 abbrev pub count_of : List Expr → ℕ
 count_of [] = 0

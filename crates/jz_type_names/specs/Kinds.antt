@@ -125,7 +125,7 @@ known_step v = v.decl
 abbrev pub is_inline : Expr → Bool
 is_inline =
     fold-Expr Bool Kind Bool Declared Known
-        inline_step kind_step (λ a. a.at) declared_step known_step
+    inline_step kind_step (λ a. a.at) declared_step known_step
 
 abbrev pub array_layer : Expr-F Expr Ty Access Decl Var → Option Var
 array_layer (Expr-F.Var v) = if is_array (known_of v) then Some v else None

@@ -84,7 +84,7 @@ cells_step (Expr-F.Bin o a b at) = a.1 ++ b.1
 abbrev pub cells_in : Expr → Cells
 cells_in =
     para-Expr Cells (Unit {0}) Cells (Unit {0}) (Unit {0})
-        cells_step (λ t. tt) (λ a. a.at.1) (λ d. tt) (λ v. tt)
+    cells_step (λ t. tt) (λ a. a.at.1) (λ d. tt) (λ v. tt)
 
 -- the arrays of these cells, by their names
 abbrev pub arrays_of : Cells → List Name
@@ -109,7 +109,7 @@ nested_step _ = []
 abbrev pub statements_in : Stmt → List Stmt
 statements_in =
     para-Stmt (List Stmt) (List Stmt) nested_step
-        (λ s. roll-Stmt (record { notes = s.notes; span = s.span; kind = s.kind.0 }) ∷ s.kind.1)
+    (λ s. roll-Stmt (record { notes = s.notes; span = s.span; kind = s.kind.0 }) ∷ s.kind.1)
 
 abbrev pub statements_of : List Stmt → List Stmt
 statements_of ss = flat_map statements_in ss

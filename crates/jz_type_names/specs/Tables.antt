@@ -77,16 +77,16 @@ pub record IsVariables (t : Variables) (vs : List Var) : Type 0 where
 abbrev pub unknown_by : Places → Places → Functions → Stmt → List Span
 unknown_by constants variables functions s =
     unknown_where
-        (value_in constants variables)
-        (place_in variables)
-        (function_in functions)
-        (layer_of s)
+    (value_in constants variables)
+    (place_in variables)
+    (function_in functions)
+    (layer_of s)
 
 -- of a function, whose variables are declared where it says
 abbrev pub unknown_of_fun : Places → Functions → Fun → List Span
 unknown_of_fun constants functions f =
     fun_where
-        (or_values (place_in constants) (variable_place f))
-        (variable_place f)
-        (function_in functions)
-        f
+    (or_values (place_in constants) (variable_place f))
+    (variable_place f)
+    (function_in functions)
+    f

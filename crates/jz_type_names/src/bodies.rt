@@ -6,8 +6,7 @@ ghost use Rattle.jz_type_names.specs.Lent.{these};
 ghost use Rattle.jz_type_names.specs.InnerLists.{Gains};
 ghost use Rattle.jz_type_names.specs.InnerNested.{nested_of};
 
-use jz_tree::Seq;
-use jz_tree::{Stmt, StmtKind};
+use jz_tree::{Seq, Stmt, StmtKind};
 use std::alloc::{AllocError, Global};
 
 #[cycle(statements)]

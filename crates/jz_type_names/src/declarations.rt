@@ -8,8 +8,7 @@ ghost use Rattle.jz_type_names.specs.Names.{var_decl, param_decl, ret_decls, dec
 
 use crate::exprs::length_of;
 use crate::layers::{add_names, add_refs};
-use jz_tree::Seq;
-use jz_tree::{Decl, Fun, Param, Ret, Var};
+use jz_tree::{Decl, Fun, Param, Ret, Seq, Var};
 use std::alloc::{AllocError, Global};
 
 /// The parameters and variables of a function.

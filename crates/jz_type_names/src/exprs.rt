@@ -5,8 +5,7 @@ ghost use Rattle.jz_type_names.specs.Parts.{span_of, names_in, cells_in, lengths
 ghost use Rattle.jz_type_names.specs.Lent.{this, paired_lists, var_names};
 ghost use Rattle.jz_type_names.specs.InnerLists.{Gains, GainsCells, own_cell, count_in, count_of, operands, part_names, part_cells};
 
-use jz_tree::Span;
-use jz_tree::{Decl, Expr, Ty, Var};
+use jz_tree::{Decl, Expr, Span, Ty, Var};
 use std::alloc::{AllocError, Global};
 
 /// The first token of an expression.
@@ -129,10 +128,8 @@ fn add_cell<'a>(
     var: Option<&'a Var>,
     at: Option<&'a Expr>,
 ) -> Result<(), AllocError>
-    ensures {
-        OnOk result
-            (GainsCells cells.old.items cells.new.items (own_cell var.entry at.entry))
-    }
+    ensures { OnOk result
+        (GainsCells cells.old.items cells.new.items (own_cell var.entry at.entry)) }
 {
     if let Some(var) = var {
         if let Some(at) = at {

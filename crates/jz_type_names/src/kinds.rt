@@ -4,8 +4,7 @@ ghost use Rattle.std.specs.Prelude.{◌≡◌};
 ghost use Rattle.std.specs.Option.{option_copied};
 ghost use Rattle.jz_type_names.specs.Kinds.{kind_of, declared_of, known_of, written_length, same_size, same_storage, same_kind, is_inline_int, is_array, is_register_array, is_register_word, is_word, is_inline, array_of, whole_array};
 
-use jz_tree::{Decl, Expr, Lval, Storage, Ty, Var};
-use jz_tree::Size;
+use jz_tree::{Decl, Expr, Lval, Size, Storage, Ty, Var};
 
 /// The type of a variable, without the length of an array.
 #[derive(Clone, Copy, PartialEq, Eq)]

@@ -6,9 +6,7 @@ ghost use Rattle.jz_type_names.specs.Lent.{these, this, paired_lists, call_of, v
 ghost use Rattle.jz_type_names.specs.InnerLists.{Gains, GainsVars, GainsCells};
 
 use crate::exprs::{add, names};
-use jz_tree::{Seq, Text};
-use jz_tree::Span;
-use jz_tree::{Expr, Lval, Rhs, Stmt, StmtKind, Var};
+use jz_tree::{Expr, Lval, Rhs, Seq, Span, Stmt, StmtKind, Text, Var};
 use std::alloc::{AllocError, Global};
 
 fn left_expr(to: &Lval) -> Option<&Expr>

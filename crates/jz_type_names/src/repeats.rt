@@ -15,9 +15,7 @@ use crate::declarations::variables;
 use crate::layers::wholly_set_by;
 use crate::order::{earlier_of, is_before, unless};
 use crate::tables::Places;
-use jz_tree::{Seq, Text};
-use jz_tree::Span;
-use jz_tree::{Const, Fun, Program, Stmt, Var};
+use jz_tree::{Const, Fun, Program, Seq, Span, Stmt, Text, Var};
 use std::alloc::{AllocError, Global};
 
 fn add_places(places: &mut Places, names: &[(&Text, Span)]) -> Result<(), AllocError>
@@ -63,10 +61,8 @@ fn add_consts<'a>(
     list: &mut Vec<(&'a Text, Span)>,
     consts: &'a Seq<Const>,
 ) -> Result<(), AllocError>
-    ensures {
-        OnOk result
-            (GainsNames list.old.items list.new.items (map constant_name consts.now))
-    }
+    ensures { OnOk result
+        (GainsNames list.old.items list.new.items (map constant_name consts.now)) }
 {
     for constant in consts.as_slice() {
         list.push((&constant.name, constant.span))?;

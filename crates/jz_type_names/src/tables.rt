@@ -7,9 +7,7 @@ ghost use Rattle.jz_type_names.specs.Tables.{AddsItem, PutsItem, Adds, IsPlaces,
 
 use crate::order::sooner;
 use indexmap::IndexMap;
-use jz_tree::{Seq, Text};
-use jz_tree::Span;
-use jz_tree::{Const, Fun, Var};
+use jz_tree::{Const, Fun, Seq, Span, Text, Var};
 use std::alloc::{AllocError, Global};
 
 /// An item of each name.

@@ -16,9 +16,7 @@ use crate::layers::{called_by, read_by};
 use crate::order::{earlier_of, is_before, unless};
 use crate::tables::{Functions, Places};
 use crate::wanted::{arrays, variables_outside, variables_wanted};
-use jz_tree::{Seq, Text};
-use jz_tree::Span;
-use jz_tree::{Const, Fun, Stmt, Var};
+use jz_tree::{Const, Fun, Seq, Span, Stmt, Text, Var};
 use std::alloc::{AllocError, Global};
 
 /// Whether what is declared there stands above, if it is declared.
@@ -55,10 +53,8 @@ fn unknown_variable(variables: &Places, var: &Var) -> Option<Span>
 }
 
 fn unknown_values(constants: &Places, variables: &Places, vars: &[&Var]) -> Option<Span>
-    ensures {
-        result
-            ≡ first_in (unknown_value_by constants.now variables.now) (var_names vars.now)
-    }
+    ensures { result
+        ≡ first_in (unknown_value_by constants.now variables.now) (var_names vars.now) }
 {
     let mut first = None;
     for var in vars {
@@ -130,11 +126,9 @@ fn in_body(
     functions: &Functions<'_>,
     body: &Seq<Stmt>,
 ) -> Result<Option<Span>, AllocError>
-    ensures {
-        FindsFirst result
-            (unknown_by constants.now variables.now functions.now)
-            (statements_of body.now)
-    }
+    ensures { FindsFirst result
+        (unknown_by constants.now variables.now functions.now)
+        (statements_of body.now) }
 {
     let mut first = None;
     for stmt in statements(alloc, body)? {

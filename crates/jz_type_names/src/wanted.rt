@@ -55,10 +55,8 @@ fn add_beside<'a>(
     params: &[Param],
     args: &'a [Expr],
 ) -> Result<(), AllocError>
-    ensures {
-        OnOk result
-            (GainsVars list.old.items list.new.items (arrays_beside params.now args.now))
-    }
+    ensures { OnOk result
+        (GainsVars list.old.items list.new.items (arrays_beside params.now args.now)) }
 {
     let mut rest = params;
     for arg in args {
@@ -79,10 +77,8 @@ fn add_passed<'a>(
     functions: &Functions<'_>,
     stmt: &'a Stmt,
 ) -> Result<(), AllocError>
-    ensures {
-        OnOk result
-            (GainsVars list.old.items list.new.items (passed_by functions.now stmt.now))
-    }
+    ensures { OnOk result
+        (GainsVars list.old.items list.new.items (passed_by functions.now stmt.now)) }
 {
     match &stmt.kind {
         StmtKind::Assign {

@@ -5,10 +5,8 @@ ghost use Rattle.std.specs.Option.{option_copied};
 ghost use Rattle.jz_type_names.specs.Order.{earliest, first_in};
 ghost use Rattle.jz_type_rows.specs.Copies.{place_of_array, array_arg, array_left};
 
-use jz_tree::Seq;
-use jz_tree::Span;
+use jz_tree::{Expr, Lval, Seq, Span, Var};
 use jz_type_names::{array_of, earlier_of, whole_array};
-use jz_tree::{Expr, Lval, Var};
 
 fn place_of_array(array: Option<&Var>) -> Option<Span>
     ensures { result ≡ earliest (place_of_array (option_copied array.entry)) }

@@ -12,10 +12,8 @@ ghost use Rattle.jz_type_rows.specs.Tables.{HasCallees};
 use crate::callee::Callees;
 use crate::copies::copied;
 use crate::indexes::indexed;
-use jz_tree::Seq;
-use jz_tree::Span;
+use jz_tree::{Fun, Seq, Span, Stmt};
 use jz_type_names::{earlier_of, statements};
-use jz_tree::{Fun, Stmt};
 use std::alloc::{AllocError, Global};
 
 fn indexed_in_body(alloc: Global, body: &Seq<Stmt>) -> Result<Option<Span>, AllocError>

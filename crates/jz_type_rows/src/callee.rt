@@ -12,9 +12,8 @@ ghost use Rattle.jz_type_rows.specs.Tables.{HasCallees};
 ghost use Rattle.jz_type_rows.specs.InnerTables.{HasNames, HasPlaces};
 
 use crate::tables::{Names, add_place, place};
-use jz_tree::Seq;
+use jz_tree::{Expr, Fun, FunKind, Lval, Param, Program, Rhs, Seq, Stmt, StmtKind, Var};
 use jz_type_names::{ByName, is_array, known, set_by, statements};
-use jz_tree::{Expr, Fun, FunKind, Lval, Param, Program, Rhs, Stmt, StmtKind, Var};
 use std::alloc::{AllocError, Global};
 
 /// What the calls of a function need to know of it; made once for all of them.

@@ -20,10 +20,8 @@ use crate::exports::is_exported;
 use crate::pairs::{Pair, pairs};
 use crate::tables::Numbers;
 use crate::twice::passed_twice;
-use jz_tree::Seq;
-use jz_tree::Span;
+use jz_tree::{Expr, Lval, Rhs, Seq, Span, Stmt, StmtKind, Var};
 use jz_type_names::{array_of, earlier_of, unless, whole_array};
-use jz_tree::{Expr, Lval, Rhs, Stmt, StmtKind, Var};
 use std::alloc::{AllocError, Global};
 
 fn passed_as(args: &Seq<Expr>, number: Option<usize>) -> Option<&Var>

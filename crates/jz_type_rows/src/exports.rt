@@ -6,10 +6,8 @@ ghost use Rattle.jz_type_names.specs.Order.{earliest, first_in};
 ghost use Rattle.jz_type_rows.specs.Exports.{is_exported, is_word_param, is_word_result, has_shape};
 ghost use Rattle.jz_type_rows.specs.Exports.{misshapen_places, is_precondition, annotated_by, annotated_places};
 
-use jz_tree::Seq;
-use jz_tree::Span;
+use jz_tree::{Fun, FunKind, Note, Param, Ret, Seq, Span};
 use jz_type_names::{declaration, earlier_of, is_register_word, known, unless};
-use jz_tree::{Fun, FunKind, Note, Param, Ret};
 
 pub(crate) fn is_exported(kind: FunKind) -> bool
     ensures { result ≡ is_exported kind }

@@ -6,13 +6,12 @@ ghost use Rattle.jz_type_names.specs.Lent.{these, paired_lists};
 ghost use Rattle.jz_type_names.specs.Parts.{layer_of};
 ghost use Rattle.jz_type_rows.specs.Indexes.{is_inline_integer, indexed_at, indexed_in, indexed_by};
 
-use jz_tree::Span;
+use jz_select::gives_number;
+use jz_tree::{Expr, Span, Stmt, Var};
 use jz_type_names::{
     cells, cells_set, earlier_of, exprs_of, is_inline_int, is_register_array, known, span_of,
     unless,
 };
-use jz_select::gives_number;
-use jz_tree::{Expr, Stmt, Var};
 use std::alloc::{AllocError, Global};
 
 /// Whether it is an integer that is known when the text is compiled; an unknown name counts as one.

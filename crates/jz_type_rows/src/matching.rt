@@ -14,11 +14,9 @@ ghost use Rattle.jz_type_rows.specs.Matching.{unmatched_places};
 
 use crate::callee::Callee;
 use crate::pairs::{Pair, pairs};
-use jz_tree::Seq;
-use jz_tree::Span;
-use jz_type_names::{is_inline, is_inline_int, is_word, known, unless};
 use jz_select::{select, select_copy};
-use jz_tree::{Expr, Lval, Rhs, Stmt, StmtKind};
+use jz_tree::{Expr, Lval, Rhs, Seq, Span, Stmt, StmtKind};
+use jz_type_names::{is_inline, is_inline_int, is_word, known, unless};
 use std::alloc::{AllocError, Global};
 
 fn is_set_inline(to: &Lval) -> bool

@@ -33,10 +33,10 @@ bin_first o a b at k w =
     earlier (earliest (unless (gives (group_of o) w) at))
     (if stops (group_of o) w then None else
     earlier
-        (b.first b.form.inline (right_want o a.form b.form w))
-        (a.first
-            (left_inline k a.form.inline b.form.inline)
-            (left_of (group_of o) o k (compared_size (group_of o) a.form.size b.form.size) w)))
+    (b.first b.form.inline (right_want o a.form b.form w))
+    (a.first
+    (left_inline k a.form.inline b.form.inline)
+    (left_of (group_of o) o k (compared_size (group_of o) a.form.size b.form.size) w)))
 
 abbrev pub cell_first : Known → Span → Found → Want → Option Span
 cell_first v at i w =
@@ -48,8 +48,8 @@ AccessLayer = Access-F Found Kind Found Declared (Known × Span)
 abbrev pub access_first : AccessLayer → Bool → Want → Option Span
 access_first a k w =
     earlier
-        (earliest (unless (fits_access a.size w) a.span))
-        (a.at.first a.at.form.inline index_want)
+    (earliest (unless (fits_access a.size w) a.span))
+    (a.at.first a.at.form.inline index_want)
 
 abbrev pub access_found : AccessLayer → Found
 access_found a = record { form = form_of_size a.size; first = access_first a }
@@ -57,14 +57,14 @@ access_found a = record { form = form_of_size a.size; first = access_first a }
 abbrev pub neg_first : Found → Span → Bool → Want → Option Span
 neg_first a at k w =
     earlier
-        (earliest (unless (not (fits_truth w)) at))
-        (if fits_truth w then None else a.first k w)
+    (earliest (unless (not (fits_truth w)) at))
+    (if fits_truth w then None else a.first k w)
 
 abbrev pub cast_first : Size → Found → Span → Bool → Want → Option Span
 cast_first z a at k w =
     earlier
-        (earliest (unless (fits_word z w) at))
-        (a.first a.form.inline (cast_want a.form.size))
+    (earliest (unless (fits_word z w) at))
+    (a.first a.form.inline (cast_want a.form.size))
 
 abbrev pub found_step : Expr-F Found Kind Found Declared (Known × Span) → Found
 found_step (Expr-F.Num n at) =
@@ -85,12 +85,12 @@ found_step (Expr-F.Bin o a b at) =
 abbrev pub found_of : Expr → Found
 found_of =
     fold-Expr Found Kind Found Declared (Known × Span)
-        found_step kind_step access_found declared_step (λ v. (v.decl, v.span))
+    found_step kind_step access_found declared_step (λ v. (v.decl, v.span))
 
 abbrev pub found_in_access : Access → Found
 found_in_access =
     fold-Access Found Kind Found Declared (Known × Span)
-        found_step kind_step access_found declared_step (λ v. (v.decl, v.span))
+    found_step kind_step access_found declared_step (λ v. (v.decl, v.span))
 
 -- the earliest of the places of items beside others, and of those that are more
 abbrev pub first_beside : {A B : Type 0}

@@ -85,9 +85,9 @@ typing_step (Expr-F.Bin o a b at) = bin_typing o a b at
 abbrev pub typing : Expr → Typing
 typing =
     fold-Expr Typing Kind Typing Declared (Known × Span)
-        typing_step kind_step access_typing declared_step (λ v. (v.decl, v.span))
+    typing_step kind_step access_typing declared_step (λ v. (v.decl, v.span))
 
 abbrev pub typing_of_access : Access → Typing
 typing_of_access =
     fold-Access Typing Kind Typing Declared (Known × Span)
-        typing_step kind_step access_typing declared_step (λ v. (v.decl, v.span))
+    typing_step kind_step access_typing declared_step (λ v. (v.decl, v.span))

@@ -32,4 +32,4 @@ worded_step (Expr-F.Bin o a b at) = worded_group (group_of o) a b
 abbrev pub is_worded : Expr → Bool
 is_worded =
     fold-Expr Bool Kind Bool Declared Known
-        worded_step kind_step (λ a. a.at) declared_step (λ v. v.decl)
+    worded_step kind_step (λ a. a.at) declared_step (λ v. v.decl)

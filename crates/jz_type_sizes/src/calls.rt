@@ -13,13 +13,11 @@ use crate::sides::{is_skip, takes, within_any};
 use crate::values::within_all;
 use crate::walk::fault;
 use crate::wants::Want;
-use jz_tree::Seq;
-use jz_tree::Span;
+use jz_tree::{Decl, Expr, Fun, FunKind, Lval, Param, Ret, Seq, Span, Var};
 use jz_type_names::{
     Kind, declaration, earlier_of, is_array, known, same_kind, same_storage, span_of, unless,
     written_length,
 };
-use jz_tree::{Decl, Expr, Fun, FunKind, Lval, Param, Ret, Var};
 
 fn same_length(a: Option<i128>, b: Option<i128>) -> bool
     ensures { result ≡ same_length a b }

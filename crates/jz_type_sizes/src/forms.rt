@@ -8,9 +8,8 @@ ghost use Rattle.jz_type_sizes.specs.Worded.{is_worded};
 
 use crate::operators::{Group, group_of};
 use crate::wants::{cell_size, known_size, known_truth};
+use jz_tree::{Expr, Size};
 use jz_type_names::{is_inline_int, known};
-use jz_tree::Expr;
-use jz_tree::Size;
 
 /// The size, or where there is none the other's.
 #[tactic(auto, using(crate::proofs::OrSizes::or_sizes))]

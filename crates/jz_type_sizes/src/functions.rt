@@ -11,9 +11,8 @@ ghost use Rattle.jz_type_names.specs.Tables.{function_in};
 
 use crate::calls::returned_fault;
 use crate::statements::{constant_fault, mismatch};
-use jz_tree::Span;
+use jz_tree::{Const, Fun, Rhs, Span, Stmt, StmtKind};
 use jz_type_names::{Functions, earlier_of, statements};
-use jz_tree::{Const, Fun, Rhs, Stmt, StmtKind};
 use std::alloc::{AllocError, Global};
 
 fn callee_from<'a>(functions: &Functions<'a>, right: &Rhs) -> Option<&'a Fun>

@@ -13,11 +13,8 @@ use crate::signatures::{Role, operands_of, results_of};
 use crate::values::within_all;
 use crate::walk::{fault, form};
 use crate::wants::{Want, own_size};
-use jz_tree::Seq;
-use jz_tree::Span;
+use jz_tree::{Expr, Instance, Lval, Seq, Size, Span, spelled};
 use jz_type_names::{earlier_of, is_array, known, unless};
-use jz_tree::{Expr, Instance, Lval, spelled};
-use jz_tree::Size;
 
 fn role_want(size: Option<Size>, role: Role) -> Want
     ensures { result ≡ role_want size role }

@@ -12,11 +12,10 @@ ghost use Rattle.jz_type_names.specs.Tables.{place_in};
 
 use crate::walk::fault;
 use crate::wants::Want;
-use jz_tree::Span;
+use jz_tree::{Decl, Expr, Fun, Span, Var};
 use jz_type_names::{
     Places, above, declaration, decls_of, earlier_of, is_array, length_of, names, span_of, unless,
 };
-use jz_tree::{Decl, Expr, Fun, Var};
 use std::alloc::{AllocError, Global};
 
 /// What lengths are, as far as they have values.
@@ -80,10 +79,8 @@ fn length_fault<L: Lengths>(
     variables: &Places,
     e: &Expr,
 ) -> Result<Option<Span>, AllocError>
-    ensures {
-        FindsEarliest result
-            (length_wrong_by constants.now variables.now (L.length_of lengths.now) e.now)
-    }
+    ensures { FindsEarliest result
+        (length_wrong_by constants.now variables.now (L.length_of lengths.now) e.now) }
 {
     let other = unbuilt(alloc, constants, variables, e)?;
     let length = lengths.length(alloc, e)?;
@@ -99,10 +96,8 @@ fn decl_fault<L: Lengths>(
     variables: &Places,
     decl: &Decl,
 ) -> Result<Option<Span>, AllocError>
-    ensures {
-        FindsEarliest result
-            (decl_wrong_by constants.now variables.now (L.length_of lengths.now) decl.now)
-    }
+    ensures { FindsEarliest result
+        (decl_wrong_by constants.now variables.now (L.length_of lengths.now) decl.now) }
 {
     match length_of(decl) {
         None => Ok(None),
@@ -120,11 +115,9 @@ fn decls_fault<L: Lengths>(
     variables: &Places,
     decls: &[&Decl],
 ) -> Result<Option<Span>, AllocError>
-    ensures {
-        FindsFirst result
-            (decl_wrong_by constants.now variables.now (L.length_of lengths.now))
-            (these decls.now)
-    }
+    ensures { FindsFirst result
+        (decl_wrong_by constants.now variables.now (L.length_of lengths.now))
+        (these decls.now) }
 {
     let mut first = None;
     for decl in decls {
@@ -156,10 +149,8 @@ pub fn lengths_fault<L: Lengths>(
     constants: &Places,
     fun: &Fun,
 ) -> Result<Option<Span>, AllocError>
-    ensures {
-        FindsEarliest result
-            (fun_lengths (place_in constants.now) (L.length_of lengths.now) fun.now)
-    }
+    ensures { FindsEarliest result
+        (fun_lengths (place_in constants.now) (L.length_of lengths.now) fun.now) }
 {
     let decls = decls_of(alloc, fun)?;
     if !declares_array(decls.as_slice()) {

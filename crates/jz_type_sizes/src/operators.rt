@@ -4,8 +4,7 @@ ghost use Rattle.std.specs.Prelude.{◌≡◌};
 ghost use Rattle.jz_type_sizes.specs.Operators.{group_of, is_of_words, gives, stops, takes_carry, count_want, left_of, right_of};
 
 use crate::wants::{Want, fits_truth, sized_want};
-use jz_tree::BinOp;
-use jz_tree::Size;
+use jz_tree::{BinOp, Size};
 
 /// The operators by what they take and give.
 #[derive(Clone, Copy)]

@@ -9,10 +9,8 @@ use crate::walk::fault;
 use crate::wants::{
     Form, Want, cell_size, fits_access, fits_cell, fits_known, known_size, known_truth, own_size,
 };
-use jz_tree::Span;
+use jz_tree::{Lval, Size, Span};
 use jz_type_names::{earlier_of, is_array, is_inline_int, known, same_size, unless};
-use jz_tree::Lval;
-use jz_tree::Size;
 
 fn of_size(size: Option<Size>) -> Form
     ensures { result ≡ form_of_size size }

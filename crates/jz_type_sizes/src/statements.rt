@@ -11,10 +11,8 @@ use crate::intrinsics::intrinsic_fault;
 use crate::values::assigned_fault;
 use crate::walk::fault;
 use crate::wants::Want;
-use jz_tree::Seq;
-use jz_tree::Span;
+use jz_tree::{BinOp, Const, Expr, Fun, Lval, Rhs, Seq, Span, Stmt, StmtKind, Var};
 use jz_type_names::{earlier_of, is_inline_int, known, unless};
-use jz_tree::{BinOp, Const, Expr, Fun, Lval, Rhs, Stmt, StmtKind, Var};
 
 fn right_fault(callee: Option<&Fun>, to: &Seq<Lval>, op: Option<BinOp>, right: &Rhs) -> Option<Span>
     ensures { result ≡ earliest (right_wrong (option_copied callee.entry) to.now op right.now) }
@@ -43,10 +41,8 @@ fn assign_fault(
     right: &Rhs,
     cond: &Option<Expr>,
 ) -> Option<Span>
-    ensures {
-        result
-            ≡ earliest (assign_wrong (option_copied callee.entry) to.now op right.now cond.now)
-    }
+    ensures { result
+        ≡ earliest (assign_wrong (option_copied callee.entry) to.now op right.now cond.now) }
 {
     earlier_of(right_fault(callee, to, op, right), condition_fault(cond))
 }

@@ -12,11 +12,8 @@ use crate::operators::{Group, gives, group_of, left_of, right_of, stops, takes_c
 use crate::sides::{left_fault, left_form, left_span, set_want, takes, within, within_any};
 use crate::walk::{fault, form};
 use crate::wants::{Form, Want, own_size};
-use jz_tree::Seq;
-use jz_tree::Span;
+use jz_tree::{BinOp, Expr, Lval, Seq, Size, Span};
 use jz_type_names::{earlier_of, span_of, unless};
-use jz_tree::{BinOp, Expr, Lval};
-use jz_tree::Size;
 
 fn compared(group: Group, a: Option<Size>, b: Option<Size>) -> Option<Size>
     ensures { result ≡ compared_size group a b }

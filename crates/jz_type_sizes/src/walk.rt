@@ -12,10 +12,8 @@ use crate::wants::{
     Form, Want, cast_want, cell_size, fits_access, fits_cell, fits_int, fits_known, fits_truth,
     fits_word,
 };
-use jz_tree::Span;
+use jz_tree::{Expr, Size, Span};
 use jz_type_names::{earlier_of, known, unless};
-use jz_tree::Expr;
-use jz_tree::Size;
 
 fn compared(group: Group, a: &Expr, b: &Expr) -> Option<Size>
     ensures { result ≡ compared_size group (found_of a.now).form.size (found_of b.now).form.size }

@@ -3,8 +3,8 @@
 ghost use Rattle.std.specs.Prelude.{◌≡◌};
 ghost use Rattle.jz_type_sizes.specs.Wants.{fits_int, fits_truth, fits_word, fits_access, fits_known, fits_cell, known_size, cell_size, known_truth, own_size, cast_want, sized_want};
 
-use jz_type_names::{Declared, Kind, same_size};
 use jz_tree::Size;
+use jz_type_names::{Declared, Kind, same_size};
 
 /// What a place wants.
 #[derive(Clone, Copy)]

@@ -8,10 +8,8 @@ ghost use Rattle.jz_type_storage.specs.InnerWalks.{members, text_of, text_of_par
 use crate::sets::{add_all, has};
 use crate::walk::walk_all;
 use indexmap::IndexSet;
-use jz_tree::Text;
-use jz_tree::Span;
+use jz_tree::{Fun, Param, Span, Text, Var};
 use jz_type_names::{is_inline_int, known};
-use jz_tree::{Fun, Param, Var};
 use std::alloc::{AllocError, Global};
 
 fn inline_names(alloc: Global, vars: &[Var]) -> Result<Vec<Text>, AllocError>

@@ -5,9 +5,8 @@ ghost use Rattle.jz_type_names.specs.Order.{earliest};
 ghost use Rattle.jz_type_storage.specs.Declarations.{is_kept, is_passed, is_returned, unkept};
 ghost use Rattle.jz_type_storage.specs.Declarations.{unkept_param, unkept_ret, unkept_in};
 
-use jz_tree::Span;
+use jz_tree::{Fun, Param, Ret, Span, Storage, Var};
 use jz_type_names::{Declared, Kind, declaration, earlier_of, known, unless};
-use jz_tree::{Fun, Param, Ret, Storage, Var};
 
 /// `int` and `inline` go together, and a bool is in a register.
 fn is_kept(declared: Declared) -> bool

@@ -7,10 +7,8 @@ ghost use Rattle.jz_type_storage.specs.InnerNumbers.{AreCalledBelow, Descends};
 ghost use Rattle.jz_type_storage.specs.InnerCandidates.{IsNoLater, IsCandidate};
 
 use crate::reaching::calls_of;
-use jz_tree::Seq;
-use jz_tree::Span;
+use jz_tree::{Fun, Seq, Span};
 use jz_type_names::is_before;
-use jz_tree::Fun;
 
 /// A function by its number, and the place of its name.
 #[derive(Clone, Copy)]

@@ -6,9 +6,8 @@ ghost use Rattle.jz_type_storage.specs.InnerNumbers.{numbers_by, numbers_called,
 ghost use Rattle.jz_type_storage.specs.InnerTables.{IsNumbers};
 
 use crate::numbers::Numbers;
-use jz_tree::Seq;
+use jz_tree::{Fun, Seq, Stmt};
 use jz_type_names::{called_by, statements};
-use jz_tree::{Fun, Stmt};
 use std::alloc::{AllocError, Global};
 
 fn add_called(list: &mut Vec<usize>, numbers: &Numbers, stmt: &Stmt) -> Result<(), AllocError>

@@ -5,8 +5,7 @@ ghost use Rattle.jz_tree.specs.declared.program.Fun.{Fun};
 ghost use Rattle.jz_type_storage.specs.InnerTables.{IsNumbers, number_in};
 
 use indexmap::IndexMap;
-use jz_tree::{Seq, Text};
-use jz_tree::Fun;
+use jz_tree::{Fun, Seq, Text};
 use std::alloc::{AllocError, Global};
 
 /// The number of the first function of each name.

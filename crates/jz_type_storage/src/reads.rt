@@ -10,10 +10,8 @@ ghost use Rattle.jz_type_storage.specs.InnerWalks.{members, unset_read, FindsUns
 
 use crate::sets::has;
 use indexmap::IndexSet;
-use jz_tree::Text;
-use jz_tree::Span;
+use jz_tree::{BinOp, Expr, Lval, Rhs, Span, Text, Var};
 use jz_type_names::{earlier_of, names};
-use jz_tree::{BinOp, Expr, Lval, Rhs, Var};
 use std::alloc::{AllocError, Global};
 
 /// The place of a variable that is asked and is not set.

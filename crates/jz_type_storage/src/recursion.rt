@@ -6,14 +6,12 @@ ghost use Rattle.jz_type_storage.specs.InnerNumbers.{graph_of};
 ghost use Rattle.jz_type_storage.specs.InnerCandidates.{Stands, IsNoLater};
 ghost use Rattle.jz_type_storage.specs.Recursion.{IsRecursive, Tells, recursive_of};
 
+use crate::called::walked_ranks;
 use crate::fall::{Candidate, descends, first_level};
 use crate::graph::graph;
 use crate::reaching::reach;
-use crate::called::walked_ranks;
-use jz_tree::Seq;
-use jz_tree::Span;
+use jz_tree::{Program, Seq, Span};
 use jz_type_names::{earlier_of, unless};
-use jz_tree::Program;
 use std::alloc::{AllocError, Global};
 
 /// What the calls of a program are like.

@@ -8,10 +8,8 @@ ghost use Rattle.jz_type_names.specs.Order.{earliest};
 ghost use Rattle.jz_type_storage.specs.Settings.{around, may_set, wrongly_set_in};
 ghost use Rattle.jz_type_storage.specs.InnerFirstSet.{first_left, first_lefts, first_set_all, first_set_kind};
 
-use jz_tree::{Seq, Text};
-use jz_tree::Span;
+use jz_tree::{Fun, Lval, Seq, Span, Stmt, StmtKind, Text, Var};
 use jz_type_names::{earlier_of, is_inline, is_inline_int, known, unless};
-use jz_tree::{Fun, Lval, Stmt, StmtKind, Var};
 use std::alloc::{AllocError, Global};
 
 /// Whether a loop round here has the name as its counter; there are as many as loops are nested.

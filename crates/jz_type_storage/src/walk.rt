@@ -8,10 +8,8 @@ ghost use Rattle.jz_type_storage.specs.InnerWalks.{members, Walks, HasWalked, fl
 use crate::reads::{in_condition, in_expr, in_old, in_right};
 use crate::sets::{join, put};
 use indexmap::IndexSet;
-use jz_tree::{Seq, Text};
-use jz_tree::Span;
+use jz_tree::{BinOp, Expr, Lval, Rhs, Seq, Span, Stmt, StmtKind, Text};
 use jz_type_names::earlier_of;
-use jz_tree::{BinOp, Expr, Lval, Rhs, Stmt, StmtKind};
 use std::alloc::{AllocError, Global};
 
 /// A left side: its index or address is read, and then it is set.

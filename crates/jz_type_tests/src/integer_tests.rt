@@ -1,9 +1,8 @@
 //! Operations on whole numbers, most at the ends of 128 bits, as Rust's checked operations answer them.
-use jz_tree::Boxed;
 use jz_integers::Constant::{self, Bool, Int};
 use jz_integers::{NoNumbers, inline_value, on_integers, written_number};
 use jz_io::Span;
-use jz_tree::{BinOp, Expr};
+use jz_tree::{BinOp, Boxed, Expr};
 use std::alloc::{AllocError, Global};
 use std::test::Fail;
 

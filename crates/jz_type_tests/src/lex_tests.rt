@@ -1,8 +1,8 @@
 //! Texts with the tokens and faults that the language's rules give by hand.
 
-use jz_tree::Failure;
 use jz_io::Span;
 use jz_lex::{LexFault, LexKind, Token, TokenKind, lex};
+use jz_tree::Failure;
 use std::alloc::{AllocError, Global};
 use std::process::Abort;
 use std::test::Fail;

@@ -1,15 +1,13 @@
 //! Texts with the programs and faults that the language's rules give by hand.
 
 use crate::names::operation_name;
-use jz_tree::{Failure, Seq, Text};
 use jz_io::Span;
 use jz_lex::{Tokens, lex};
 use jz_parse::{SyntaxFault, SyntaxKind, parse};
 use jz_tree::{
-    Access, BinOp, Decl, Expr, Fun, FunKind, Lval, Note, NoteValue, Param, Program, Ret, Rhs, Stmt,
-    StmtKind, Storage, Ty, Var,
+    Access, BinOp, Decl, Expr, Failure, Fun, FunKind, Lval, Note, NoteValue, Param, Program, Ret,
+    Rhs, Seq, Size, Stmt, StmtKind, Storage, Text, Ty, Var,
 };
-use jz_tree::Size;
 use std::alloc::{AllocError, Global};
 use std::process::Abort;
 use std::test::Fail;

@@ -2,11 +2,12 @@
 //! `r1 r2 8 * + []` is `[r1 + r2 * 8]`, `t r1 @` is `t[r1]`.
 
 use crate::names::intrinsic_name;
-use jz_tree::{Boxed, Seq, Text};
 use jz_io::Span;
 use jz_select::{Pattern, immediate, select};
-use jz_tree::{Access, BinOp, Decl, Expr, Intrinsic, Lval, Rhs, Stmt, StmtKind, Storage, Ty, Var};
-use jz_tree::Size;
+use jz_tree::{
+    Access, BinOp, Boxed, Decl, Expr, Intrinsic, Lval, Rhs, Seq, Size, Stmt, StmtKind, Storage,
+    Text, Ty, Var,
+};
 use std::alloc::{AllocError, Global};
 use std::process::Abort;
 use std::test::Fail;

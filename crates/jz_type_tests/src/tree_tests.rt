@@ -1,9 +1,9 @@
 //! Copies and comparisons of trees, also of a left side as long as a text lets it be.
 
-use jz_tree::{Boxed, Seq, Text};
 use jz_io::Span;
-use jz_tree::{Access, BinOp, Decl, Expr, Stmt, StmtKind, Storage, Ty, Var};
-use jz_tree::Size;
+use jz_tree::{
+    Access, BinOp, Boxed, Decl, Expr, Seq, Size, Stmt, StmtKind, Storage, Text, Ty, Var,
+};
 use std::alloc::{AllocError, Global};
 use std::test::Fail;
 

@@ -1,8 +1,8 @@
 //! Texts, and what typing tells of each.
 
-use jz_tree::Failure;
 use jz_lex::lex;
 use jz_parse::parse;
+use jz_tree::Failure;
 use jz_types::check;
 use std::alloc::{AllocError, Global};
 use std::process::Abort;

@@ -11,13 +11,12 @@ use crate::fault::{Firsts, TypeFault, first_told};
 use crate::functions::{OfDeclared, OfText, declared_of_functions, text_of_functions};
 use crate::lengths::ConstantLengths;
 use crate::typed::Typed;
-use jz_type_storage::{Ranking, find_recursion};
-use jz_tree::Failure;
-use jz_type_sizes::constants_fault;
 use jz_resolve::{constants, resolve};
-use jz_type_rows::Callees;
+use jz_tree::{Failure, Program};
 use jz_type_names::{Functions, Places, earlier_of, repeated_at_top, unknown_in_constants};
-use jz_tree::Program;
+use jz_type_rows::Callees;
+use jz_type_sizes::constants_fault;
+use jz_type_storage::{Ranking, find_recursion};
 use std::alloc::{AllocError, Global};
 
 fn of_text(alloc: Global, program: &Program) -> Result<OfText, AllocError>

@@ -23,12 +23,11 @@ ghost use Rattle.jz_types.specs.InnerFunctions.{unknown_with};
 
 use crate::lengths::ConstantLengths;
 use crate::rows::unmatched_in_fun;
-use jz_tree::Span;
+use jz_tree::{Program, Span};
+use jz_type_names::{Functions, Places, earlier_of, repeated_in_fun, unknown_in_fun};
+use jz_type_rows::{Callees, annotated, copied_in, indexed_in, misshapen};
 use jz_type_sizes::{body_fault, lengths_fault};
 use jz_type_storage::{read_unset, wrongly_kept, wrongly_set};
-use jz_type_rows::{Callees, annotated, copied_in, indexed_in, misshapen};
-use jz_type_names::{Functions, Places, earlier_of, repeated_in_fun, unknown_in_fun};
-use jz_tree::Program;
 use std::alloc::{AllocError, Global};
 
 /// Where the rules that are asked of a program as it was read fail first.

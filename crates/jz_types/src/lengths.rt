@@ -5,9 +5,9 @@ ghost use Rattle.jz_tree.specs.declared.expr.Expr.{Expr};
 ghost use Rattle.jz_resolve.specs.Tables.{values_in};
 ghost use Rattle.jz_resolve.specs.Numbering.{value_with};
 
-use jz_type_sizes::Lengths;
 use jz_resolve::ConstantTable;
 use jz_tree::Expr;
+use jz_type_sizes::Lengths;
 use std::alloc::{AllocError, Global};
 
 /// The lengths that are built of the constants of a table.

@@ -9,12 +9,10 @@ ghost use Rattle.jz_type_names.specs.Tables.{place_in, function_in};
 ghost use Rattle.jz_type_rows.specs.Tables.{HasCallees};
 ghost use Rattle.jz_types.specs.Rows.{others, unmatched_at, unmatched_in_fun};
 
-use jz_tree::Seq;
-use jz_tree::Span;
-use jz_type_sizes::statement_fault;
-use jz_type_rows::{Callee, Callees, copied, indexed, unmatched};
+use jz_tree::{Fun, Seq, Span, Stmt};
 use jz_type_names::{Functions, Places, earlier_of, repeated_of, statements, unknown_of};
-use jz_tree::{Fun, Stmt};
+use jz_type_rows::{Callee, Callees, copied, indexed, unmatched};
+use jz_type_sizes::statement_fault;
 use std::alloc::{AllocError, Global};
 
 /// Whether another fault is told of a statement.

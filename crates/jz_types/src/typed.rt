@@ -4,8 +4,7 @@ ghost use Rattle.std.specs.Prelude.{◌≡◌};
 ghost use Rattle.jz_type_storage.specs.Recursion.{IsRanked};
 ghost use Rattle.jz_types.specs.TypedPrograms.{IsTypedProgram};
 
-use jz_tree::Seq;
-use jz_tree::Program;
+use jz_tree::{Program, Seq};
 
 /// A program in which no rule fails: each variable has its declaration where it is used, lengths
 /// are numbers, and so are the names of constants that have a value. Its functions have ranks,

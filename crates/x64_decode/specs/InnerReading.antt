@@ -16,7 +16,7 @@ Gives view (Err e) read = read ≡ Err e
 abbrev pub parts_read : FieldsRead → Parts
 parts_read f =
     let behind_opcode : Option ℕ × (Option ℕ × (List ℕ × List ℕ)) =
-        (f.modrm, (f.sib, (f.displacement.now, f.immediate.now))) in
+    (f.modrm, (f.sib, (f.displacement.now, f.immediate.now))) in
     (f.operand_size, (f.rex, (f.escape, (f.opcode, behind_opcode))))
 
 -- the same by their names

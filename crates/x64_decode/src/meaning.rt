@@ -10,9 +10,8 @@ ghost use Rattle.x64_decode.specs.InnerReading.{AreShort, fields_read};
 
 use crate::numbers::{byte_of, signed_of, small_signed_of};
 use crate::reading::FieldsRead;
-use x64_insn::Size;
 use x64_insn::table::{Operands, Row, has_w, operation_of, reg_of, rex_bits};
-use x64_insn::{Alu, Base, Count, Insn, Mem, One, Operand, Reg, Shift, Wide};
+use x64_insn::{Alu, Base, Count, Insn, Mem, One, Operand, Reg, Shift, Size, Wide};
 
 /// The kind of shift of a number.
 #[tactic(auto, unfolding(x64_insn::specs::Encoding::shift_of))]

@@ -13,9 +13,8 @@ use crate::numbers::{
     alu_number, condition_number, fits_byte, fits_immediate, one_number, one_opcode, opcode_for,
     shift_number, wide_number,
 };
-use x64_insn::Size;
 use x64_insn::table::{immediate_by, number_of, width_length};
-use x64_insn::{Alu, Cond, Count, Insn, Mem, One, Operand, Reg, Shift, Width};
+use x64_insn::{Alu, Cond, Count, Insn, Mem, One, Operand, Reg, Shift, Size, Width};
 
 /// An immediate of the operands' size.
 fn sized(size: Size, value: i64) -> SignedBytes

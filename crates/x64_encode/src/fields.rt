@@ -7,9 +7,8 @@ ghost use Rattle.x64_encode.specs.InnerFields.{IsShort, Small, named_bytes, name
 
 use crate::code::Code15;
 use crate::numbers::fits_byte;
-use x64_insn::Size;
 use x64_insn::table::number_of;
-use x64_insn::{Base, Operand, Reg};
+use x64_insn::{Base, Operand, Reg, Size};
 
 /// The lowest bytes of a signed number, so many as are counted.
 #[derive(Clone, Copy)]

@@ -4,8 +4,7 @@ ghost use Rattle.std.specs.Prelude.{◌≡◌, ◌<◌};
 ghost use Rattle.x64_insn.specs.Table.{immediate_by};
 ghost use Rattle.x64_insn.specs.Chosen.{alu_number, condition_number, fits_bytes, one_number, one_opcode, opcode_for, shift_number, wide_number};
 
-use x64_insn::Size;
-use x64_insn::{Alu, Cond, One, Shift, Wide};
+use x64_insn::{Alu, Cond, One, Shift, Size, Wide};
 
 /// Whether one byte holds a signed number.
 pub(super) fn fits_byte(value: i64) -> bool

@@ -5,9 +5,8 @@ ghost use Rattle.x64_insn.specs.Chosen.{are_alu_operands, are_mov_operands, fits
 ghost use Rattle.x64_insn.specs.Table.{width_length};
 
 use crate::numbers::{fits_byte, fits_immediate};
-use x64_insn::Size;
 use x64_insn::table::number_of;
-use x64_insn::{Alu, Base, Insn, Mem, Operand, Reg, Width};
+use x64_insn::{Alu, Base, Insn, Mem, Operand, Reg, Size, Width};
 
 /// An index that has a number, with a scale that has a field: the number of RSP stands for none.
 fn is_index(index: Option<(Reg, u8)>) -> bool

@@ -19,6 +19,10 @@ mod types;
 pub use answer::{Answer, alu_answer, one_answer};
 pub use bus::Bus;
 pub use effects::effect;
+pub use jz_words::{
+    Size, Word, add_carry, and, fits_four_bytes, has_bit, mul_signed, mul_wide, or, parity,
+    reading, residue, rol, ror, sar, shl, shr, sub_borrow, swap_bytes, xor,
+};
 pub use laws::{
     add_shows_its_sum, bad_address_is_an_invalid_byte, conditions_stand_at_their_numbers,
     faults_change_nothing, operations_stand_at_their_numbers, registers_stand_at_their_numbers,
@@ -38,4 +42,3 @@ pub use types::{
     Alu, Base, Cond, Count, FaultKind, Flag, FlagVal, Insn, Mem, One, Operand, Place, Reg, Shift,
     State, StepLeak, Wide, Width,
 };
-pub use jz_words::{Size, Word, add_carry, and, fits_four_bytes, has_bit, mul_signed, mul_wide, or, parity, reading, residue, rol, ror, sar, shl, shr, sub_borrow, swap_bytes, xor};

@@ -1,8 +1,7 @@
 //! The memory of a machine behind a bus.
 
 use jz_leak::MemMap;
-use x64_insn::Size;
-use x64_insn::Bus;
+use x64_insn::{Bus, Size};
 
 /// The memory of a machine, as an instruction sees it.
 #[derive(Drop)]

@@ -6,12 +6,10 @@ ghost use Rattle.x64_machine.specs.MachineRuns.{base_of, code_of, config_of, las
 
 use crate::bus::MemBus;
 use crate::step::Step;
-use jz_leak::Seq;
-use jz_leak::MemMap;
-use x64_insn::Size;
+use jz_leak::{MemMap, Seq};
 use std::alloc::{AllocError, Global};
 use x64_decode::{Decoded, decode};
-use x64_insn::{Bus, FaultKind, Insn, Reg, State, StepLeak, effect};
+use x64_insn::{Bus, FaultKind, Insn, Reg, Size, State, StepLeak, effect};
 
 /// A machine that runs the code from a base address on. The code stands apart from the memory.
 #[derive(Drop)]

@@ -1,8 +1,7 @@
 //! The text of an instruction: its name, then its parts in their order, each behind a space.
 
-use x64_insn::Size;
 use std::alloc::AllocError;
-use x64_insn::{Base, Cond, Count, Insn, Mem, Operand, Reg, Width};
+use x64_insn::{Base, Cond, Count, Insn, Mem, Operand, Reg, Size, Width};
 
 const REGS: [&str; 16] = [
     "rax", "rcx", "rdx", "rbx", "rsp", "rbp", "rsi", "rdi", "r8", "r9", "r10", "r11", "r12", "r13",

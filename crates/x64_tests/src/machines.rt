@@ -3,9 +3,8 @@
 use crate::numbers::{bytes, hexadecimal};
 use crate::spellings::write_decoded;
 use jz_leak::MemMap;
-use x64_insn::Size;
 use std::alloc::{AllocError, Global};
-use x64_insn::{FlagVal, State, StepLeak};
+use x64_insn::{FlagVal, Size, State, StepLeak};
 use x64_machine::{Machine, Step};
 
 /// What a column says: RAX, RCX, RDX, RBX and the eight bytes at RSI, and the flags.

@@ -3,9 +3,9 @@
 use crate::insns::write_insn;
 use crate::numbers::bytes;
 use std::alloc::{AllocError, Global};
-use x64_machine::{Decoded, decode};
 use x64_encode::{encode, has_spelling};
 use x64_insn::Insn;
+use x64_machine::{Decoded, decode};
 
 /// Whether fewer bytes are no instruction yet.
 fn begins(spelling: &[u8]) -> bool {

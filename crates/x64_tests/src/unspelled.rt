@@ -2,11 +2,10 @@
 
 use crate::machines::{BASE, write_answer};
 use jz_leak::MemMap;
-use x64_insn::Size;
 use std::alloc::{AllocError, Global};
 use x64_encode::has_spelling;
 use x64_insn::{
-    Alu, Base, Cond, FlagVal, Insn, Mem, One, Operand, Reg, State, Wide, Width, effect,
+    Alu, Base, Cond, FlagVal, Insn, Mem, One, Operand, Reg, Size, State, Wide, Width, effect,
 };
 use x64_machine::{MemBus, Step};
 

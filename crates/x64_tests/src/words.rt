@@ -3,11 +3,11 @@
 ghost use Rattle.std.specs.Prelude.{◌≡◌, ◌<◌};
 
 use crate::numbers::hexadecimal;
+use std::alloc::{AllocError, Global};
 use x64_insn::{
     Size, Word, add_carry, and, has_bit, mul_signed, mul_wide, or, parity, residue, rol, ror, sar,
     shl, shr, sub_borrow, swap_bytes, xor,
 };
-use std::alloc::{AllocError, Global};
 
 fn size(text: &str) -> Size {
     match text {

@@ -36,9 +36,8 @@ use Rattle.jz_interp.proofs.running.+run.Goals as goal
 pub run_block-run_statement-requires : goal.run_block-run_statement-requires
 run_block-run_statement-requires t c =
     let x : weight c.stmt-item.result ≤ weights c.args.stmts.now =
-        weights_at c.args.stmts.now c.loop-stmt.stmt-index c.stmt-item.result (search rules) (search rules) in
+    weights_at c.args.stmts.now c.loop-stmt.stmt-index c.stmt-item.result (search rules) (search rules) in
     (omega (arith, x, c.decreases), tt)
-
 
 pub run_block-returns-in_err-more : goal.run_block-returns-in_err-more
 run_block-returns-in_err-more t c =
@@ -115,7 +114,6 @@ run_statement-returns-in_ok-unset_all-in-Mark t c =
     mark_leads (callees_in c.args.code.now c.args.depth) c.args.stmt.now c.in-Mark.vars c.args.fuel (state_of c.args.state.now) _ _ c.in-Mark.is
     (ap (λ v. let x : State = record { store = v; memory = c.args.state.now.memory } in x) c.in_ok-unset_all-in-Mark.ensures) (search rules)
 
-
 pub run_if-returns-in_err-answer : goal.run_if-returns-in_err-answer
 run_if-returns-in_err-answer t c =
     passed_on c.from_residual.result c.in_err-answer.field-0
@@ -146,7 +144,6 @@ pub run_body-returns-in_ok-ran-in-Some : goal.run_body-returns-in_ok-ran-in-Some
 run_body-returns-in_ok-ran-in-Some t c =
     subst (λ y. Leads source (body_piece (callees_in c.args.code.now c.args.depth) y) c.args.fuel (state_of c.args.state.now) (seen_outcome (Ok c.in_ok-ran-in-Some.ran) (state_of c.run_block.new.state)))
     (sym c.in-Some.is) c.in_ok-ran-in-Some.ensures
-
 
 pub run_test-returns-in_err-more : goal.run_test-returns-in_err-more
 run_test-returns-in_err-more t c =
@@ -180,7 +177,6 @@ run_test-returns-in-End t c =
     test_body_over (condition_of c.args.test) (body_piece (callees_in c.args.code.now c.args.depth) c.args.body.now) c.args.prologue c.args.fuel (state_of c.args.state.now) c.new-numbers.result c.truth_in.new.out c.new-numbers.ensures (truth_is c.truth_in.new.out c.in_ok-more.more true _ (search rules) c.in_ok-more.ensures) (search rules) c.in-End.items c.in-End.left (state_of c.run_body.new.state) c.turn-in-End.result
     (as_end _ _ _ _ (state_of c.run_body.new.state) c.in_ok-items.field-0 c.in-End.items c.in_ok-items.ensures c.in-End.is) c.turn-in-End.ensures
 
-
 pub run_turn-returns-in_err-items : goal.run_turn-returns-in_err-items
 run_turn-returns-in_err-items t c =
     passed_on c.from_residual.result c.in_err-items.field-0
@@ -204,7 +200,6 @@ run_turn-returns-in_ok-end-in-End t c =
     turn_tested (block (callees_in c.args.code.now c.args.depth) c.args.prologue.now) (condition_of c.args.test) (inner_body (callees_in c.args.code.now c.args.depth) c.args.body.now) c.args.fuel (state_of c.args.state.now) c.in-End.items c.in-End.left (state_of c.run_block.new.state) _
     (as_end _ _ _ _ (state_of c.run_block.new.state) c.in_ok-items.field-0 c.in-End.items c.in_ok-items.ensures c.in-End.is) c.in_ok-end-in-End.ensures
 
-
 pub run_while-returns-in_err-cut_turn : goal.run_while-returns-in_err-cut_turn
 run_while-returns-in_err-cut_turn t c =
     passed_on c.from_residual.result c.in_err-cut_turn.field-0
@@ -222,7 +217,6 @@ run_while-returns-in-Last t c =
 pub run_while-loop-turns-preserved : goal.run_while-loop-turns-preserved
 run_while-loop-turns-preserved t c =
     while_more (not (is_some c.args.body.now)) (inner_block (callees_in c.args.code.now c.args.depth) c.args.prologue.now) (condition_of c.args.test) (inner_body (callees_in c.args.code.now c.args.depth) c.args.body.now) c.args.fuel (state_of c.args.state.now) c.loop-turns.turns c.loop-turns.left (state_of c.loop-turns.state) c.loop-turns.invariant c.in-More.one_more (state_of c.run_turn.new.state) c.in-More.still _ (turn_as (inner_block (callees_in c.args.code.now c.args.depth) c.args.prologue.now) (condition_of c.args.test) (inner_body (callees_in c.args.code.now c.args.depth) c.args.body.now) c.loop-turns.left (state_of c.loop-turns.state) (state_of c.run_turn.new.state) c.in_ok-cut_turn.field-0 _ c.in_ok-cut_turn.ensures c.in-More.is) (search rules)
-
 
 pub run_rounds-returns-in_err-items : goal.run_rounds-returns-in_err-items
 run_rounds-returns-in_err-items t c =
@@ -242,7 +236,6 @@ run_rounds-loop-value-preserved t c =
 
 pub run_rounds-returns : goal.run_rounds-returns
 run_rounds-returns t c = rounds_end c.args.counter.now (block (callees_in c.args.code.now c.args.depth) c.args.body.now) (values_left c.args.values) c.args.fuel (state_of c.args.state.now) c.loop-value.leaks c.loop-value.left (state_of c.loop-value.state) (values_left c.loop-value.values) c.loop-value.invariant c.in_default.ensures
-
 
 pub run_for-returns-in_err-values : goal.run_for-returns-in_err-values
 run_for-returns-in_err-values t c =
@@ -265,7 +258,6 @@ run_for-returns-in-End t c =
     for_ends (counter_of c.args.counter) (block (callees_in c.args.code.now c.args.depth) c.args.body.now) c.args.fuel (state_of c.args.state.now) c.new-numbers.result c.counter_values.new.out c.new-numbers.ensures (values_left c.in_ok-values.values) c.in_ok-values.ensures c.in-End.leaks c.in-End.left (state_of c.run_rounds.new.state) _ _ (rounds_as c.args.counter.counter.now (inner_block (callees_in c.args.code.now c.args.depth) c.args.body.now) (values_left c.in_ok-values.values) c.args.fuel (state_of c.args.state.now) (state_of c.run_rounds.new.state) c.in_ok-leaks.field-0 _ c.in_ok-leaks.ensures c.in-End.is)
     (ap (λ v. let x : State = record { store = v; memory = c.run_rounds.new.state.memory } in x) (c.in_ok-set-in-End.ensures ∙ ap (put (store_of c.run_rounds.new.state.store) (key_of (ref_of c.args.counter.counter.now))) c.value_of-before.ensures)) c.in_ok-leaked-in-End.ensures
 
-
 pub run_call-run_callee-requires : goal.run_call-run_callee-requires
 run_call-run_callee-requires t c =
     let x = one_deeper c.args.code.now.funs.now c.args.depth c.args.assignment.op c.args.named.name.now c.args.assignment.cond.now c.in-Some.callee.now (sym c.callee_of.ensures ∙ ap option_copied c.in-Some.is) in (omega (arith, x, c.decreases), tt)
@@ -285,7 +277,6 @@ pub run_call-returns-in_ok-ran-in-Some : goal.run_call-returns-in_ok-ran-in-Some
 run_call-returns-in_ok-ran-in-Some t c =
     call_of_some c.args.code.now.funs.now c.args.depth c.args.assignment.op c.args.named.name.now c.args.assignment.cond.now c.args.assignment.to.now c.args.named.args.now c.args.named.span c.args.fuel (state_of c.args.state.now) c.in-Some.callee.now _ (sym c.callee_of.ensures ∙ ap option_copied c.in-Some.is) c.in_ok-ran-in-Some.ensures
 
-
 pub run_callee-returns-in_err-inner : goal.run_callee-returns-in_err-inner
 run_callee-returns-in_err-inner t c =
     passed_on c.from_residual.result c.in_err-inner.field-0
@@ -302,7 +293,6 @@ pub run_callee-returns-in-Cut : goal.run_callee-returns-in-Cut
 run_callee-returns-in-Cut t c =
     callee_cut (call_of c.args.call) (block (callees_in c.args.code.now c.args.depth) c.args.call.callee.now.body) c.args.fuel (state_of c.args.state.now) c.new-before.result c.enter.new.out c.new-before.ensures (store_of c.in_ok-inner.inner) c.in_ok-inner.ensures (let x : State = record { store = store_of c.in_ok-inner.inner; memory = c.args.state.now.memory } in x) refl c.in-Cut.items _ c.new.result c.new.ensures c.in_ok-call_until_cut-in-Cut.ensures
     (as_cut _ _ _ (state_of c.run_block.new.state) c.in_ok-items.field-0 c.in-Cut.items c.in_ok-items.ensures c.in-Cut.is)
-
 
 pub run_callee-returns-in_err-leave-in-End : goal.run_callee-returns-in_err-leave-in-End
 run_callee-returns-in_err-leave-in-End t c =
