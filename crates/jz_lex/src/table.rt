@@ -2,7 +2,7 @@
 
 ghost use Rattle.std.specs.Prelude.{◌≡◌, ◌≤◌, IsTrue, length, map, option_map};
 ghost use Rattle.jz_lex.specs.LexingWords.{begins, heads, in_word};
-ghost use Rattle.jz_lex.specs.LexingFront.{fits, first_of};
+ghost use Rattle.jz_lex.specs.InnerFront.{fits, first_of};
 
 use super::bytes::in_word;
 
