@@ -37,8 +37,10 @@ module _ (register : List ℕ → Reg) where
 
   -- `d = e` is MOV, `d op= e` the operation
   abbrev pub assignment_insn : Lval → Option BinOp → Rhs → Insn
-  assignment_insn (lval.Var x) None (rhs.Value e) = insn.Mov S64 (operand.Reg (register x.name)) (operand_of e)
-  assignment_insn (lval.Var x) (Some o) (rhs.Value e) = insn.Alu (alu_of o) S64 (operand.Reg (register x.name)) (operand_of e)
+  assignment_insn (lval.Var x) None (rhs.Value e) =
+      insn.Mov S64 (operand.Reg (register x.name)) (operand_of e)
+  assignment_insn (lval.Var x) (Some o) (rhs.Value e) =
+      insn.Alu (alu_of o) S64 (operand.Reg (register x.name)) (operand_of e)
 
   -- an assignment with another number of left sides than one means nothing, and has none
   abbrev pub kind_insns : StmtKind → List Insn

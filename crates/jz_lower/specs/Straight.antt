@@ -47,7 +47,8 @@ SetWords (s ∷ ss) = SetsWord s.kind × SetWords ss
 -- bits
 abbrev pub FitsImmediate : Option BinOp → Rhs → Type 0
 FitsImmediate None r = Unit {0}
-FitsImmediate (Some o) (rhs.Value (expr.Num i at)) = fits_bytes 4 (signed S64 (residue S64 i)) ≡ true
+FitsImmediate (Some o) (rhs.Value (expr.Num i at)) =
+    fits_bytes 4 (signed S64 (residue S64 i)) ≡ true
 FitsImmediate (Some o) (rhs.Value (expr.Var x)) = Unit {0}
 
 abbrev pub KindFits : StmtKind → Type 0
