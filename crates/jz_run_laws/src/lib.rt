@@ -1,7 +1,6 @@
-//! Laws of the runs of the whole language.
-//! Values keep their kinds: what a variable holds in a run is of the kind that is declared of it.
-//! There is no code here.
-//! One size in each place: what evaluation takes, what typing finds, and what the judgement says.
+//! Laws of the runs of the whole language; there is no code here. What a variable holds is of the
+//! kind that is declared of it. How deep calls may be makes no difference. The size of a value is
+//! one: what evaluation takes, what typing finds, and what the judgement says.
 #![tactic(auto)]
 
 mod kind_laws;

@@ -1,4 +1,4 @@
--- Sums are joined_sum in any grouping.
+-- Sums are joined in any grouping.
 use Rattle.std.proofs.Common.{◌≡◌, ℕ, Bool, true, false, ◌&&◌, refl, ap, ◌∙◌, arith}
 use Rattle.std.proofs.lemmas.Bool.Decides.{nat_tests}
 use Rattle.jz_select.specs.declared.class.Sum.{Sum}

@@ -88,7 +88,7 @@ abbrev pub bin_scaled : BinOp → Look → Look → Bool
 bin_scaled op.Mul a b = (a.reg && b.inline) || (a.inline && b.reg)
 bin_scaled _ a b = false
 
--- sums are added term by term; only an inline expression is taken_sum away
+-- sums are added term by term; only an inline expression is taken away
 abbrev pub bin_sum : BinOp → Look → Look → Sum
 bin_sum op.Add a b = joined_sum b.sum a.sum
 bin_sum op.Sub a b = joined_sum (taken_sum b.inline) a.sum

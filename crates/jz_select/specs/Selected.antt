@@ -115,7 +115,7 @@ pattern_named (Some n) = Some (pattern.Intrinsic n)
 unfoldable pub pattern_chosen : Shape → Option Pattern
 pattern_chosen s = option_or (first_of table s) (pattern_named (intrinsic_of s))
 
--- the answers with which it is hardest tell which row is pattern_selected
+-- the answers with which it is hardest tell which row is selected
 unfoldable pub pattern_selected : StmtKind → Option Pattern
 pattern_selected k = pattern_chosen (shape_of hardest k)
 

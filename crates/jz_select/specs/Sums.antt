@@ -25,7 +25,7 @@ term inline reg scaled =
     else if scaled then sum_of 0 1 true
     else sum_of 0 0 false
 
--- one term that is taken_sum away
+-- one term that is taken away
 abbrev pub taken_sum : Bool → Sum
 taken_sum inline = sum_of 0 0 inline
 

@@ -1,7 +1,8 @@
 //! What an operand is, in the words of the table.
 
 ghost use Rattle.std.specs.Prelude.{◌≡◌};
-ghost use Rattle.jz_select.specs.Sums.{joined_sum, capped_count as capped_of, is_address as is_address_of};
+ghost use Rattle.jz_select.specs.Sums.{joined_sum, capped_count as capped_of};
+ghost use Rattle.jz_select.specs.Sums.{is_address as is_address_of};
 ghost use Rattle.jz_select.specs.Sums.{is_sum as is_sum_of, is_index as is_index_of};
 
 use jz_words::Size;
@@ -71,7 +72,8 @@ impl Sum {
     #[tactic(auto, using(crate::proofs::Joins::joins))]
     pub fn join(self, other: Sum) -> Sum
         ensures is { result ≡ joined_sum self other }
-        ensures before { (rest : Sum) → joined_sum result rest ≡ joined_sum self (joined_sum other rest) }
+        ensures before { (rest : Sum) →
+            joined_sum result rest ≡ joined_sum self (joined_sum other rest) }
     {
         Sum {
             plain: capped(self.plain, other.plain),

@@ -3,7 +3,8 @@
 ghost use Rattle.std.specs.Prelude.{◌≡◌, is_some};
 ghost use Rattle.jz_integers.specs.Integers.{written_number as written};
 ghost use Rattle.jz_tree.specs.declared.expr.Expr.{Expr};
-ghost use Rattle.jz_select.specs.Trees.{named_variable, names_eq, cell_eq, operator_number, bool_eq, tree_of};
+ghost use Rattle.jz_select.specs.Trees.{named_variable, names_eq, cell_eq, operator_number};
+ghost use Rattle.jz_select.specs.Trees.{bool_eq, tree_of};
 ghost use Rattle.jz_select.specs.Trees.{tree_eq, index_of};
 ghost use Rattle.jz_select.specs.InnerLayers.{indices_eq};
 ghost use Rattle.jz_select.specs.Places.{is_number};

@@ -5,7 +5,8 @@ ghost use Rattle.std.specs.Option.{option_copied};
 ghost use Rattle.jz_tree.specs.declared.expr.Expr.TheViews.{out-Expr};
 ghost use Rattle.jz_integers.specs.Integers.{written_number as number_of};
 ghost use Rattle.jz_type_names.specs.Kinds.{known_of};
-ghost use Rattle.jz_select.specs.Operands.{var_class, class_if, cell_of, mem_of, mask_of, masked_class};
+ghost use Rattle.jz_select.specs.Operands.{var_class, class_if, cell_of, mem_of, mask_of};
+ghost use Rattle.jz_select.specs.Operands.{masked_class};
 ghost use Rattle.jz_select.specs.Operands.{is_byte, register_layer, class_of, dest_of, operand_of};
 ghost use Rattle.jz_select.specs.Hardest.{hardest};
 

@@ -2,7 +2,8 @@
 
 ghost use Rattle.std.specs.Prelude.{◌≡◌, true};
 ghost use Rattle.jz_select.specs.Trees.{Tree, tree_eq};
-ghost use Rattle.jz_select.specs.Selected.{HasOneRow, IsCopied, IsSelected, pattern_copied, pattern_selected};
+ghost use Rattle.jz_select.specs.Selected.{HasOneRow, IsCopied, IsSelected, pattern_copied};
+ghost use Rattle.jz_select.specs.Selected.{pattern_selected};
 
 use crate::pattern::Pattern;
 use crate::rows::choose;

@@ -1,4 +1,4 @@
--- ArrayCopy: where an array would have to be copied_places.
+-- ArrayCopy: where an array would have to be copied.
 use Rattle.std.specs.Prelude.{ℕ, ◌+◌, Bool, false, not, ◌&&◌, ◌||◌, nat_eq, if◌then◌else◌, List, [], ◌∷◌, ◌++◌, map, flat_map, slice_get, unwrap_or, Option, Some, None, option_to_list}
 use Rattle.std.specs.List.{list_any, zip}
 use Rattle.std.specs.Str.{bytes_eq}
@@ -56,7 +56,7 @@ abbrev pub not_passed_as : Option Var → Option Var → List Span
 not_passed_as v None = []
 not_passed_as v (Some w) = unless (is_one v w) (span_of_var w)
 
--- an array among the left sides is the one that was passed and is given_results back there
+-- an array among the left sides is the one that was passed and is given back there
 abbrev pub not_passed : List Expr → Given → List Span
 not_passed args r = not_passed_as (passed_as args r.0) (whole_array r.1)
 
@@ -65,7 +65,7 @@ abbrev pub gets_back : List Expr → Given → Option ℕ
 gets_back args r = if list_any (is_one (passed_as args r.0)) (whole_left r.1) then r.0 else None
 
 -- ---- calls: arguments
--- the numbers of the parameters that are given_results back to the arrays that were passed
+-- the numbers of the parameters that are given back to the arrays that were passed
 abbrev pub numbers_back : List Expr → List Given → List ℕ
 numbers_back args rs = flat_map (λ r. option_to_list (gets_back args r)) rs
 
@@ -115,7 +115,7 @@ copied_by_call None to args = []
 copied_by_call (Some g) to args =
     flat_map (not_passed args) (given_results g to) ++ wrong_arguments g to args
 
--- no array is assigned, and none is given_results to an intrinsic
+-- no array is assigned, and none is given to an intrinsic
 abbrev pub copied_places : Option Callee → Layer → List Span
 copied_places callee (StmtKind-F.Assign to op (rhs.Call n args at) cond) = copied_by_call callee to args
 copied_places callee (StmtKind-F.Assign to op (rhs.Intrinsic n args at) cond) = flat_map array_left to ++ flat_map array_arg args

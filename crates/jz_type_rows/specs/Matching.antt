@@ -46,7 +46,7 @@ needs_row (StmtKind-F.For i from down to b) = false
 needs_row (StmtKind-F.Mark vs) = false
 
 -- ---- rows
--- a row of the tables is pattern_selected: one that matches whichever way comparisons of indices go, of an
+-- a row of the tables is selected: one that matches whichever way comparisons of indices go, of an
 -- `if` or `while` its condition
 abbrev pub has_row : StmtKind → Bool
 has_row k = is_some (pattern_selected k)

@@ -74,19 +74,11 @@ fn is_written(names: &Names, param: &Param) -> bool
     is_array(known(&param.var)) && names.has(&param.var.name)
 }
 
-/// An empty list that has room for so many items.
-fn with_room<T>(alloc: Global, room: usize) -> Result<Seq<T>, AllocError>
-    ensures { IfOk result (λ list. list ≡ []) }
-{
-    let items = Vec::with_capacity(alloc, room)?;
-    Ok(Seq::from_vec(items))
-}
-
 fn written(alloc: Global, names: &Names, params: &Seq<Param>) -> Result<Seq<bool>, AllocError>
     ensures { (ns : List (List ℕ)) → HasNames names.now ns
         → IfOk result (λ w. w ≡ map (is_written ns) params.now) }
 {
-    let mut list = with_room(alloc, params.len())?;
+    let mut list = Seq::new(alloc);
     for param in params.as_slice() {
         list.push(is_written(names, param))?;
     }
@@ -111,7 +103,7 @@ fn returned(
     ensures { (ns : List (List ℕ)) → HasPlaces places.now ns
         → IfOk result (λ r. r ≡ map (place_among ns) vars.now) }
 {
-    let mut list = with_room(alloc, vars.len())?;
+    let mut list = Seq::new(alloc);
     for var in vars.as_slice() {
         list.push(place(places, &var.name))?;
     }
@@ -137,24 +129,28 @@ fn of_callee(alloc: Global, var: &Var) -> Result<Var, AllocError>
     })
 }
 
+fn entered_by(alloc: Global, param: &Param) -> Result<Lval, AllocError>
+    ensures { IfOk result (λ to. to ≡ entered_by param.now) }
+{
+    Ok(Lval::Var(of_callee(alloc, &param.var)?))
+}
+
 fn entered(alloc: Global, params: &Seq<Param>) -> Result<Seq<Lval>, AllocError>
     ensures { IfOk result (λ to. to ≡ map entered_by params.now) }
 {
-    let mut list = with_room(alloc, params.len())?;
-    for param in params.as_slice() {
-        list.push(Lval::Var(of_callee(alloc, &param.var)?))?;
-    }
-    Ok(list)
+    params.try_map(alloc, |param| entered_by(alloc, param))
+}
+
+fn left_by(alloc: Global, var: &Var) -> Result<Expr, AllocError>
+    ensures { IfOk result (λ e. e ≡ left_by var.now) }
+{
+    Ok(Expr::Var(of_callee(alloc, var)?))
 }
 
 fn left(alloc: Global, vars: &Seq<Var>) -> Result<Seq<Expr>, AllocError>
     ensures { IfOk result (λ es. es ≡ map left_by vars.now) }
 {
-    let mut list = with_room(alloc, vars.len())?;
-    for var in vars.as_slice() {
-        list.push(Expr::Var(of_callee(alloc, var)?))?;
-    }
-    Ok(list)
+    vars.try_map(alloc, |var| left_by(alloc, var))
 }
 
 impl Callee {

@@ -10,8 +10,10 @@ ghost use Rattle.jz_type_rows.specs.InnerPairs.{pair_of};
 ghost use Rattle.jz_type_rows.specs.InnerPassing.{passed_of};
 ghost use Rattle.jz_type_rows.specs.InnerTables.{HasNumbers};
 ghost use Rattle.jz_type_rows.specs.Copies.{passed_as, is_one, not_passed, gets_back, numbers_back};
-ghost use Rattle.jz_type_rows.specs.Copies.{is_written_at, passed_at, passed_from, not_back, given_results};
-ghost use Rattle.jz_type_rows.specs.Copies.{passed_wrongly, wrong_arguments, copied_by_call, copied_places};
+ghost use Rattle.jz_type_rows.specs.Copies.{is_written_at, passed_at, passed_from, not_back};
+ghost use Rattle.jz_type_rows.specs.Copies.{given_results};
+ghost use Rattle.jz_type_rows.specs.Copies.{passed_wrongly, wrong_arguments, copied_by_call};
+ghost use Rattle.jz_type_rows.specs.Copies.{copied_places};
 ghost use Rattle.jz_type_rows.specs.Copies.{array_arg, array_left};
 
 use crate::arrays::{array_args, array_lefts};

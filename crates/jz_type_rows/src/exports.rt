@@ -4,7 +4,8 @@ ghost use Rattle.std.specs.Prelude.{◌≡◌};
 ghost use Rattle.std.specs.List.{list_all};
 ghost use Rattle.jz_type_names.specs.Order.{earliest, first_in};
 ghost use Rattle.jz_type_rows.specs.Exports.{is_exported, is_word_param, is_word_result, has_shape};
-ghost use Rattle.jz_type_rows.specs.Exports.{misshapen_places, is_precondition, annotated_by, annotated_places};
+ghost use Rattle.jz_type_rows.specs.Exports.{misshapen_places, is_precondition, annotated_by};
+ghost use Rattle.jz_type_rows.specs.Exports.{annotated_places};
 
 use jz_tree::{Fun, FunKind, Note, Param, Ret, Seq, Span};
 use jz_type_names::{declaration, earlier_of, is_register_word, known, unless};

@@ -8,7 +8,8 @@ ghost use Rattle.jz_type_names.specs.Order.{earliest};
 ghost use Rattle.jz_type_names.specs.Parts.{layer_of};
 ghost use Rattle.jz_type_rows.specs.InnerPairs.{pair_of};
 ghost use Rattle.jz_type_rows.specs.Matching.{is_set_inline, may_be_inline, sets_inline, needs_row};
-ghost use Rattle.jz_type_rows.specs.Matching.{has_row, has_copy, is_word_left, is_word_value, is_skip};
+ghost use Rattle.jz_type_rows.specs.Matching.{has_row, has_copy, is_word_left, is_word_value};
+ghost use Rattle.jz_type_rows.specs.Matching.{is_skip};
 ghost use Rattle.jz_type_rows.specs.Matching.{enters, leaves, has_copies_of_call, has_copies};
 ghost use Rattle.jz_type_rows.specs.Matching.{unmatched_places};
 

@@ -1,5 +1,5 @@
-//! Where variables may be declared, set and read.
-//! Which functions reach themselves by their calls, and ranks of the functions where none does.
+//! Where variables may be declared, set and read; which functions reach themselves by their calls,
+//! and ranks of the functions where none does.
 #![tactic(auto)]
 
 mod asked;

@@ -4,7 +4,8 @@ ghost use Rattle.std.specs.Prelude.{◌≡◌, map};
 ghost use Rattle.jz_type_names.specs.Scopes.{name_of};
 ghost use Rattle.jz_type_names.specs.Lent.{these};
 ghost use Rattle.jz_type_storage.specs.Paths.{reading, reading_expr, reading_all, reading_right};
-ghost use Rattle.jz_type_storage.specs.Paths.{reading_condition, reading_lefts, reading_left, reading_old};
+ghost use Rattle.jz_type_storage.specs.Paths.{reading_condition, reading_lefts, reading_left};
+ghost use Rattle.jz_type_storage.specs.Paths.{reading_old};
 ghost use Rattle.jz_type_storage.specs.InnerSurely.{missing};
 ghost use Rattle.jz_type_storage.specs.InnerWalks.{members, unset_read, FindsUnset};
 

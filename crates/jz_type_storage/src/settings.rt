@@ -6,7 +6,8 @@ ghost use Rattle.std.specs.List.{list_any};
 ghost use Rattle.std.specs.Str.{bytes_eq};
 ghost use Rattle.jz_type_names.specs.Order.{earliest};
 ghost use Rattle.jz_type_storage.specs.Settings.{around, may_set, wrongly_set_in};
-ghost use Rattle.jz_type_storage.specs.InnerFirstSet.{first_left, first_lefts, first_set_all, first_set_kind};
+ghost use Rattle.jz_type_storage.specs.InnerFirstSet.{first_left, first_lefts, first_set_all};
+ghost use Rattle.jz_type_storage.specs.InnerFirstSet.{first_set_kind};
 
 use jz_tree::{Fun, Lval, Seq, Span, Stmt, StmtKind, Text, Var};
 use jz_type_names::{earlier_of, is_inline, is_inline_int, known, unless};

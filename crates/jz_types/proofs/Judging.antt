@@ -49,8 +49,8 @@ all_asked p t d r h k tells = record {
   recursive = first_recursive (resolved_program p) r tells;
   unmatched = found (unmatched_in (resolved_program p)) d.unmatched k.unmatched;
   copied = found (in_statements (copied_by (resolved_program p).funs) (resolved_program p)) d.copied k.copied;
-  annotated_places = found (in_functions annotated_places p) t.annotated h.annotated;
-  misshapen_places = found (in_functions misshapen_places p) t.misshapen h.misshapen;
+  annotated = found (in_functions annotated_places p) t.annotated h.annotated;
+  misshapen = found (in_functions misshapen_places p) t.misshapen h.misshapen;
   indexed = found (in_statements indexed_by (resolved_program p)) d.indexed k.indexed;
 }
 

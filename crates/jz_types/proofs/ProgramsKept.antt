@@ -1,4 +1,4 @@
--- In a program that is resolved_program no name is unknown and none repeated_places, where none was.
+-- In a program that is resolved no name is unknown and none repeated, where none was.
 use Rattle.std.proofs.Common.{◌≡◌, ℕ, ℤ, Bool, true, false, List, [], ◌∷◌, ◌++◌, Option, Some, None, map, flat_map, refl, sym, ap, ap₂, ◌∙◌, subst, cond}
 use Rattle.std.proofs.Math.Path.{fun_ext}
 use Rattle.std.proofs.lemmas.List.{map-append}
@@ -120,7 +120,7 @@ module _ (p : Program) where
   functions_kept : (m : List ℕ) → function_named m (resolved_program p).funs ≡ option_map H (function_named m p.funs)
   functions_kept m = find_kept (λ (f : Fun). f.name) H (λ f. refl) m p.funs
 
-  -- in the resolved_program program nothing is unknown in these statements
+  -- in the resolved program nothing is unknown in these statements
   abbrev pub KnownIn : Fun → Stmt → Type 0
   KnownIn f s = unknown_where (or_values (constant_place (resolved_program p).consts) (variable_place f)) (variable_place f) (λ m. function_named m (resolved_program p).funs) (layer_of s) ≡ []
 

@@ -24,8 +24,8 @@ pub record AreOfText (p : Program) (t : OfText) : Type 0 where
   pub unknown : t.unknown ≡ earliest (unknown_in p)
   pub repeated : t.repeated ≡ earliest (repeated_in p)
   pub mismatched : t.mismatched ≡ earliest (mismatched_as_read (length_of p.consts) p)
-  pub annotated_places : t.annotated ≡ earliest (in_functions annotated_places p)
-  pub misshapen_places : t.misshapen ≡ earliest (in_functions misshapen_places p)
+  pub annotated : t.annotated ≡ earliest (in_functions annotated_places p)
+  pub misshapen : t.misshapen ≡ earliest (in_functions misshapen_places p)
 
 pub record AreOfDeclared (q : Program) (d : OfDeclared) : Type 0 where
   pub mismatched : d.mismatched ≡ earliest (mismatched_declared q)
@@ -45,7 +45,7 @@ firsts_of t d r = record {
   recursive = recursive_of r;
   unmatched = d.unmatched;
   copied = d.copied;
-  annotated_places = t.annotated;
-  misshapen_places = t.misshapen;
+  annotated = t.annotated;
+  misshapen = t.misshapen;
   indexed = d.indexed;
 }

@@ -24,6 +24,6 @@ returns c =
       mismatched = c.earlier_of-3.ensures.is ∙ ap₂ earlier (c.constants_fault-mismatched.ensures ∙ ap (first_in constant_wrong) c.as_slice.ensures) within.mismatched
           ∙ as_read_whole p (value_with (values_in c.in_ok-table.table)) constants c.in_ok-constants.ensures
           ∙ ap (λ v. earliest (mismatched_as_read (value_with v) p)) c.in_ok-table.ensures.values;
-      annotated_places = within.annotated ∙ first_over annotated_places p.funs;
-      misshapen_places = within.misshapen ∙ first_over misshapen_places p.funs;
+      annotated = within.annotated ∙ first_over annotated_places p.funs;
+      misshapen = within.misshapen ∙ first_over misshapen_places p.funs;
     }
