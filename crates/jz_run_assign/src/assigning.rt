@@ -9,7 +9,7 @@ ghost use Rattle.jz_meaning.specs.Values.{own_size};
 ghost use Rattle.jz_meaning.specs.Assignments as assignments;
 ghost use Rattle.jz_run_assign.specs.Answers.{meant_results, GivesResults};
 ghost use Rattle.jz_run_assign.specs.Rights.{right_side, IsCarry};
-ghost use Rattle.jz_run_assign.specs.Parts.{one_value, results_written, right_assigned, value_assigned};
+ghost use Rattle.jz_run_assign.specs.Parts.{one_value, results_chosen, results_written, right_assigned, value_assigned};
 
 use crate::left::{left_size, left_sizes, missing, write_all};
 use crate::operands::truth_in;
@@ -152,8 +152,7 @@ fn where_conditioned(
     out: &mut Seq<u64>,
 ) -> Result<Seq<Option<Value>>, Failure<Stuck>>
     ensures { GivesResults result out.old out.new
-        (assignments.conditioned assignment.to.now assignment.cond.now assignment.span
-        (meant_results values) (state_of state.now)) }
+        (results_chosen assignment.entry (meant_results values) (state_of state.now)) }
 {
     match assignment.cond {
         None => Ok(values),

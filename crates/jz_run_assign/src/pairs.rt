@@ -5,7 +5,7 @@ ghost use Rattle.jz_tree.specs.declared.expr.Expr.TheViews.{out-Expr};
 ghost use Rattle.jz_words.specs.declared.size.Size.{Size};
 ghost use Rattle.jz_words.specs.Sizes.{modulus};
 ghost use Rattle.jz_meaning.specs.Attempts.{did, numbers_first};
-ghost use Rattle.jz_meaning.specs.States.{State};
+ghost use Rattle.jz_meaning.specs.States as states;
 ghost use Rattle.jz_meaning.specs.Stores.{state_of};
 ghost use Rattle.jz_meaning.specs.Assignments as assignments;
 ghost use Rattle.jz_run_assign.specs.Answers.{pair_in, GivesBits, GivesResults, GivesSilently};
@@ -41,7 +41,7 @@ enum Pair<'a> {
 
 /// `left op flag` with two results, where the left operand is the sum or difference of two.
 fn with_flag<'a>(op: BinOp, left: &'a Expr, flag: &'a Expr, span: Span) -> Result<Pair<'a>, Stuck>
-    ensures { (s : Size) (st : State) → results_or s st result ≡ assignments.with_three op
+    ensures { (s : Size) (st : states.State) → results_or s st result ≡ assignments.with_three op
         (out-Expr left.now) left.now flag.now span s st }
 {
     match left {
@@ -70,7 +70,7 @@ fn with_flag<'a>(op: BinOp, left: &'a Expr, flag: &'a Expr, span: Span) -> Resul
 }
 
 fn pair_of_expr(e: &Expr, span: Span) -> Result<Pair<'_>, Stuck>
-    ensures { (s : Size) (st : State) → results_or s st result ≡ assignments.two_of (out-Expr e.now)
+    ensures { (s : Size) (st : states.State) → results_or s st result ≡ assignments.two_of (out-Expr e.now)
         span (Some s) st }
 {
     match e {
@@ -100,7 +100,7 @@ fn pair_of_expr(e: &Expr, span: Span) -> Result<Pair<'_>, Stuck>
 /// The operation that a right side is; stuck for Init where it has not two results.
 fn pair_of<'a>(right: Right<'a>, span: Span) -> Result<Pair<'a>, Stuck>
     requires { IsCarry right }
-    ensures { (s : Size) (st : State) → results_or s st result ≡ assignments.two_of
+    ensures { (s : Size) (st : states.State) → results_or s st result ≡ assignments.two_of
         (out-Expr (right_side right.entry)) span (Some s) st }
 {
     match right {
