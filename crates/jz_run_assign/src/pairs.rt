@@ -9,8 +9,8 @@ ghost use Rattle.jz_meaning.specs.States as states;
 ghost use Rattle.jz_meaning.specs.Stores.{state_of};
 ghost use Rattle.jz_meaning.specs.Assignments as assignments;
 ghost use Rattle.jz_run_assign.specs.Answers.{pair_in, GivesBits, GivesResults, GivesSilently};
-ghost use Rattle.jz_run_assign.specs.Rights.{operand_of, right_side, IsCarry};
-ghost use Rattle.jz_run_assign.specs.Pairs.{two_from, three_from, results_of_pair, results_or};
+ghost use Rattle.jz_run_assign.specs.InnerRights.{operand_of, right_side, IsCarry};
+ghost use Rattle.jz_run_assign.specs.InnerPairs.{two_from, three_from, results_of_pair, results_or};
 
 use crate::left::missing;
 use crate::operands::{truth_in, word_at, word_in};
