@@ -29,7 +29,8 @@ fn same_size(a: Size, b: Size) -> bool
     a.bits() == b.bits()
 }
 
-/// The value in the place of a word of a size: a whole number is taken modulo 2 to the size, and a word has to have that size.
+/// The value in the place of a word of a size: a whole number is taken modulo 2 to the size, and a
+/// word has to have that size.
 pub fn word_of(size: Size, value: Value) -> Option<Word>
     ensures bits { option_map (λ w. w.bits) result ≡ operators.word_of size (as_value value) }
     ensures size { IfSome result (λ w. w.size ≡ size) }
@@ -68,7 +69,8 @@ fn show(high: u64, a: Word, b: Word, out: &mut Seq<u64>) -> Result<(), AllocErro
 
 fn quotient(span: Span, a: Word, b: Word, out: &mut Seq<u64>) -> Result<Value, Failure<Stuck>>
     requires { a.size ≡ b.size }
-    ensures { Evaluates result out.old out.new (operators.on_words op.Div span a.size a.bits b.bits) }
+    ensures { Evaluates result out.old out.new
+        (operators.on_words op.Div span a.size a.bits b.bits) }
 {
     if b.bits() == 0 {
         return Err(Failure::Refused(no_quotient(span)));
@@ -79,7 +81,8 @@ fn quotient(span: Span, a: Word, b: Word, out: &mut Seq<u64>) -> Result<Value, F
 
 fn remainder(span: Span, a: Word, b: Word, out: &mut Seq<u64>) -> Result<Value, Failure<Stuck>>
     requires { a.size ≡ b.size }
-    ensures { Evaluates result out.old out.new (operators.on_words op.Rem span a.size a.bits b.bits) }
+    ensures { Evaluates result out.old out.new
+        (operators.on_words op.Rem span a.size a.bits b.bits) }
 {
     if b.bits() == 0 {
         return Err(Failure::Refused(no_quotient(span)));
@@ -126,7 +129,8 @@ fn signed_quotient(
     out: &mut Seq<u64>,
 ) -> Result<Value, Failure<Stuck>>
     requires { a.size ≡ b.size }
-    ensures { Evaluates result out.old out.new (operators.on_words op.DivS span a.size a.bits b.bits) }
+    ensures { Evaluates result out.old out.new
+        (operators.on_words op.DivS span a.size a.bits b.bits) }
 {
     if b.bits() == 0 || is_least_by_minus_one(a, b) {
         return Err(Failure::Refused(no_quotient(span)));
@@ -142,7 +146,8 @@ fn signed_remainder(
     out: &mut Seq<u64>,
 ) -> Result<Value, Failure<Stuck>>
     requires { a.size ≡ b.size }
-    ensures { Evaluates result out.old out.new (operators.on_words op.RemS span a.size a.bits b.bits) }
+    ensures { Evaluates result out.old out.new
+        (operators.on_words op.RemS span a.size a.bits b.bits) }
 {
     if b.bits() == 0 || is_least_by_minus_one(a, b) {
         return Err(Failure::Refused(no_quotient(span)));
@@ -367,7 +372,8 @@ fn combined(
     y: Value,
     out: &mut Seq<u64>,
 ) -> Result<Value, Failure<Stuck>>
-    ensures { Evaluates result out.old out.new (operators.combined op span (as_value x) (as_value y)) }
+    ensures { Evaluates result out.old out.new
+        (operators.combined op span (as_value x) (as_value y)) }
 {
     match x {
         Value::Word(a) => beside_word(op, span, a, y, out),
@@ -403,7 +409,8 @@ fn beside_word(
     y: Value,
     out: &mut Seq<u64>,
 ) -> Result<Value, Failure<Stuck>>
-    ensures { Evaluates result out.old out.new (operators.combined op span (states.word a.size a.bits) (as_value y)) }
+    ensures { Evaluates result out.old out.new
+        (operators.combined op span (states.word a.size a.bits) (as_value y)) }
 {
     match y {
         Value::Word(b) => {
@@ -419,7 +426,8 @@ fn beside_word(
 }
 
 fn shifted_by(op: BinOp, a: Word, count: Option<u128>) -> Option<Value>
-    ensures { option_map as_value result ≡ option_and_then (operators.shifted_word op a.size a.bits) count }
+    ensures { option_map as_value result ≡ option_and_then (operators.shifted_word op a.size a.bits)
+        count }
 {
     match count {
         None => None,
@@ -429,7 +437,8 @@ fn shifted_by(op: BinOp, a: Word, count: Option<u128>) -> Option<Value>
 
 #[tactic(auto, unfolding(crate::specs::Operators::shifted))]
 fn shifted_integer(op: BinOp, wanted: Option<Size>, a: i128, y: Value) -> Option<Value>
-    ensures { option_map as_value result ≡ operators.shifted op wanted (states.integer a) (as_value y) }
+    ensures { option_map as_value result ≡ operators.shifted op wanted (states.integer a)
+        (as_value y) }
 {
     match y {
         Value::Word(count) => match wanted {
@@ -452,9 +461,10 @@ fn shifted(op: BinOp, wanted: Option<Size>, x: Value, y: Value) -> Option<Value>
     }
 }
 
-/// The operation on two values where a word of a size is wanted. The three words of a division are appended to `out`: the high
-/// word, the low word and the divisor. Stuck for Divide where a divisor is 0 or a quotient has no room in the word, and for Init
-/// where typing excludes the operation or whole numbers have no value.
+/// The operation on two values where a word of a size is wanted. The three words of a division are
+/// appended to `out`: the high word, the low word and the divisor. Stuck for Divide where a divisor
+/// is 0 or a quotient has no room in the word, and for Init where typing excludes the operation or
+/// whole numbers have no value.
 #[tactic(auto, unfolding(crate::specs::Operators::binary))]
 pub fn binary(
     op: BinOp,
@@ -464,7 +474,8 @@ pub fn binary(
     y: Value,
     out: &mut Seq<u64>,
 ) -> Result<Value, Failure<Stuck>>
-    ensures { Evaluates result out.old out.new (operators.binary op span wanted (as_value x) (as_value y)) }
+    ensures { Evaluates result out.old out.new
+        (operators.binary op span wanted (as_value x) (as_value y)) }
 {
     if is_shift(op) {
         initialized(span, shifted(op, wanted, x, y))
@@ -512,8 +523,8 @@ pub fn inverted_value(value: Value) -> Value
     }
 }
 
-/// The word of that size that a word becomes: cut off, or with zeros in front, or copies of its sign where `signed`. None of what
-/// is no word.
+/// The word of that size that a word becomes: cut off, or with zeros in front, or copies of its
+/// sign where `signed`. None of what is no word.
 #[tactic(auto, unfolding(crate::specs::Operators::cast))]
 pub fn cast(size: Size, signed: bool, value: Value) -> Option<Value>
     ensures { option_map as_value result ≡ operators.cast size signed (as_value value) }

@@ -64,7 +64,8 @@ pub(crate) fn missing(span: Span) -> Stuck
 
 /// The value that is there; else stuck for Init.
 pub fn defined(span: Span, value: Option<Value>) -> Result<Value, Stuck>
-    ensures { (ns : List ℕ) → seen ns result ≡ numbers_first ns (part.defined span (option_map as_value value)) }
+    ensures { (ns : List ℕ) → seen ns result ≡ numbers_first ns
+        (part.defined span (option_map as_value value)) }
 {
     match value {
         None => Err(missing(span)),
@@ -74,7 +75,8 @@ pub fn defined(span: Span, value: Option<Value>) -> Result<Value, Stuck>
 
 /// The same as the answer of a call that takes memory.
 pub(crate) fn initialized(span: Span, value: Option<Value>) -> Result<Value, Failure<Stuck>>
-    ensures { (ns : List ℕ) → Evaluates result ns ns (part.defined span (option_map as_value value)) }
+    ensures { (ns : List ℕ) → Evaluates result ns ns
+        (part.defined span (option_map as_value value)) }
 {
     match value {
         None => Err(Failure::Refused(missing(span))),

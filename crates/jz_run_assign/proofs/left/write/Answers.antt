@@ -8,7 +8,7 @@ use Rattle.jz_meaning.specs.States.{as_value}
 use Rattle.jz_meaning.specs.Stores.{state_of}
 use Rattle.jz_meaning.specs.Values.{access_of, store_at}
 use Rattle.jz_meaning.proofs.AttemptLemmas.{handed_on}
-use Rattle.jz_run_assign.specs.Parts as parts
+use Rattle.jz_run_assign.specs.InnerParts as parts
 use Rattle.jz_run_assign.proofs.Writing.{cell_written, store_written}
 use Rattle.jz_run_assign.proofs.left.write.Goals as goal
 
