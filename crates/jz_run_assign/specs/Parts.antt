@@ -27,10 +27,14 @@ cell_written x at v s =
 abbrev pub one_value : Expr → Option Size → State → Evaluation Results
 one_value e size s = and_then (evaluated e size s) (λ v. went [] (Some v ∷ []))
 
--- the results, or under a condition what is chosen, are written
+-- the results, or under a condition what is chosen
+abbrev pub results_chosen : Assignment → Results → State → Evaluation Results
+results_chosen a = conditioned a.to.now a.cond.now a.span
+
+-- these are written
 abbrev pub results_written : Assignment → Option Size → Results → State → Evaluation State
 results_written a size vs s =
-    and_then (conditioned a.to.now a.cond.now a.span vs s) (λ ws. all_written a.span size a.to.now ws s)
+    and_then (results_chosen a vs s) (λ ws. all_written a.span size a.to.now ws s)
 
 -- this is the whole right side
 abbrev pub right_assigned : Assignment → Expr → State → Evaluation State
