@@ -18,5 +18,6 @@ IsFirstHolder ops Live places variable place holder =
 
 -- places for all, or the first variable that is left and why
 abbrev pub Allocated : List Op → List Kind → List Place → (ℕ → ℕ → Type 0) → Allocation → Type 0
-Allocated ops kinds in_use Live (V.Places places) = FirstFit ops kinds in_use Live (placed places.items)
+Allocated ops kinds in_use Live (V.Places places) =
+    FirstFit ops kinds in_use Live (placed places.items)
 Allocated ops kinds in_use Live (V.NoPlace refusal) = Explained ops kinds in_use Live refusal

@@ -13,15 +13,9 @@ use Rattle.jz_first.specs.declared.tree.Ret.{Ret}
 use Rattle.jz_first.specs.declared.tree.Decl.{Decl}
 use Rattle.jz_first.specs.declared.tree.Ty.TheVariants.{Word}
 use Rattle.jz_first.specs.declared.tree.Var.{Var}
-use Rattle.jz_first.specs.declared.tree.Expr.{Expr}
-use Rattle.jz_first.specs.declared.tree.Expr.TheVariants as expr
-use Rattle.jz_first.specs.declared.tree.Lval.{Lval}
-use Rattle.jz_first.specs.declared.tree.Lval.TheVariants as lval
-use Rattle.jz_first.specs.declared.tree.Rhs.{Rhs}
-use Rattle.jz_first.specs.declared.tree.Rhs.TheVariants as rhs
 use Rattle.jz_first.specs.declared.tree.Stmt.{Stmt}
 use Rattle.jz_first.specs.declared.tree.StmtKind.{StmtKind}
-use Rattle.jz_first.specs.declared.tree.StmtKind.TheVariants as kind
+use Rattle.jz_first.specs.Uses.{kind_uses}
 use Rattle.jz_runs.specs.Form.{Form}
 use Rattle.jz_runs.specs.Form.TheVariants as form
 use Rattle.jz_runs.specs.Out.{Out}
@@ -49,7 +43,8 @@ step_bound c n = c.insns * (n + 1)
 
 -- The source ends within n turns: the bytes end within the bound, with its results and memory, and
 -- show the transformer applied to what it leaked.
-pub record MatchesEnd (c : Compiled) (words : List ℕ) (rsp0 base : ℕ) (s : Config) (n : ℕ) (r : Returned) (l : Leak) : Type 0 where
+pub record MatchesEnd (c : Compiled) (words : List ℕ) (rsp0 base : ℕ) (s : Config) (n : ℕ)
+    (r : Returned) (l : Leak) : Type 0 where
   pub fits : Fits c.tr l
   pub steps : ℕ
   pub within : steps ≤ step_bound c n
@@ -77,9 +72,14 @@ Matches c words rsp0 base s n (Stuck w) = ⊥
 -- Every run of the source on an input that meets the preconditions, from every start of the bytes
 -- on this input; and for each n each such input of a function of the program has a run.
 pub record CarriesOver (p : Program) (f : Fun) (c : Compiled) : Type 0 where
-  pub matches : (words : List ℕ) (memory : Memory) (n : ℕ) (o : FunOutcome) → IsRun p f words memory n o → MeetsPreconditions c words memory
-      → (rsp0 base : ℕ) (s : Config) → IsStart c words memory rsp0 base s → Matches c words rsp0 base s n o
-  pub has_run : Contains p.funs f → (words : List ℕ) (memory : Memory) (n : ℕ) → MeetsPreconditions c words memory
+  pub matches :
+      (words : List ℕ) (memory : Memory) (n : ℕ) (o : FunOutcome) → IsRun p f words memory n o
+      → MeetsPreconditions c words memory
+      → (rsp0 base : ℕ) (s : Config) → IsStart c words memory rsp0 base s
+      → Matches c words rsp0 base s n o
+  pub has_run :
+      Contains p.funs f → (words : List ℕ) (memory : Memory) (n : ℕ)
+      → MeetsPreconditions c words memory
       → (o : FunOutcome) × IsRun p f words memory n o
 
 -- ---- the lines of the listing
@@ -92,13 +92,15 @@ IsLineOf name (Some d) r a = (a.name ≡ name) × (Word a.size ≡ d.ty) × (a.r
 -- a line for each parameter, in the order of the text and of the registers
 abbrev pub AreArgumentLines : List Reg → List Param → List Arg → Type 0
 AreArgumentLines rs [] [] = ⊤
-AreArgumentLines (r ∷ rs) (p ∷ ps) (a ∷ args) = IsLineOf p.var.name p.var.decl r a × AreArgumentLines rs ps args
+AreArgumentLines (r ∷ rs) (p ∷ ps) (a ∷ args) =
+    IsLineOf p.var.name p.var.decl r a × AreArgumentLines rs ps args
 AreArgumentLines _ _ _ = ⊥
 
 -- a line for each result, with the declared type
 abbrev pub AreResultLines : List Reg → List Var → List Ret → List Arg → Type 0
 AreResultLines rs [] [] [] = ⊤
-AreResultLines (r ∷ rs) (v ∷ vs) (t ∷ ts) (a ∷ args) = IsLineOf v.name (Some t.decl) r a × AreResultLines rs vs ts args
+AreResultLines (r ∷ rs) (v ∷ vs) (t ∷ ts) (a ∷ args) =
+    IsLineOf v.name (Some t.decl) r a × AreResultLines rs vs ts args
 AreResultLines _ _ _ _ = ⊥
 
 -- the preconditions that a function declares; no text that is read can declare one
@@ -110,33 +112,26 @@ declared_preconditions f = []
 -- the bytes are spellings of the instructions, one after another
 abbrev pub AreSpelled : List Insn → List ℕ → Type 0
 AreSpelled [] code = code ≡ []
-AreSpelled (i ∷ is) code = (bytes : List ℕ) × (rest : List ℕ) × (code ≡ bytes ++ rest) × Spells bytes i × AreSpelled is rest
+AreSpelled (i ∷ is) code =
+    (bytes : List ℕ)
+    × (rest : List ℕ)
+    × (code ≡ bytes ++ rest)
+    × Spells bytes i
+    × AreSpelled is rest
 
 -- ---- what a transformer may show of the frame
 
--- the variables that a statement names
-abbrev pub expression_names : Expr → List (List ℕ)
-expression_names (expr.Num i at) = []
-expression_names (expr.Var x) = x.name ∷ []
-
--- the variable of a left side
-abbrev pub left_name : Lval → List ℕ
-left_name (lval.Var x) = x.name
-
--- those of a right side
-abbrev pub right_names : Rhs → List (List ℕ)
-right_names (rhs.Value e) = expression_names e
-
--- those of a statement
+-- the names of the variables that a statement uses
 abbrev pub kind_names : StmtKind → List (List ℕ)
-kind_names (kind.Assign to op r) = map left_name to ++ right_names r
+kind_names k = map (λ v. v.name) (kind_uses k)
 
 -- an offset from the stack pointer at entry lies in the place of a stack variable with one of these
 -- names
 abbrev pub LiesInPlace : Fun → ℕ → List (List ℕ) → ℤ → Type 0
 LiesInPlace f frame names offset =
     (q : Place) × Contains (layout_of f) q × Contains names q.of.name
-    × (from_entry frame q.offset ≤ℤ offset) × (offset <ℤ from_entry frame (q.offset + q.of.count * bytes_of q.of.cell))
+    × (from_entry frame q.offset ≤ℤ offset)
+    × (offset <ℤ from_entry frame (q.offset + q.of.count * bytes_of q.of.cell))
 
 -- a form that counts from the stack pointer does so from a place of such a variable
 abbrev pub FormStaysIn : Fun → ℕ → List (List ℕ) → Form → Type 0
@@ -150,7 +145,9 @@ abbrev pub OutStaysIn : Fun → ℕ → List (List ℕ) → Out → Type 0
 OutStaysIn f frame names (out.Branch taken) = ⊤
 OutStaysIn f frame names (out.Addr address) = FormStaysIn f frame names address
 OutStaysIn f frame names (out.Div high low divisor) =
-    FormStaysIn f frame names high × FormStaysIn f frame names low × FormStaysIn f frame names divisor
+    FormStaysIn f frame names high
+    × FormStaysIn f frame names low
+    × FormStaysIn f frame names divisor
 
 -- and each event of a list
 abbrev pub OutsStayIn : Fun → ℕ → List (List ℕ) → List Out → Type 0
@@ -160,7 +157,8 @@ OutsStayIn f frame names outs = All (OutStaysIn f frame names) outs
 -- names
 abbrev pub CasesStayIn : Fun → ℕ → List Stmt → List Case → Type 0
 CasesStayIn f frame [] [] = ⊤
-CasesStayIn f frame (s ∷ ss) (Op outs ∷ cases) = OutsStayIn f frame (kind_names s.kind) outs × CasesStayIn f frame ss cases
+CasesStayIn f frame (s ∷ ss) (Op outs ∷ cases) =
+    OutsStayIn f frame (kind_names s.kind) outs × CasesStayIn f frame ss cases
 CasesStayIn f frame _ _ = ⊥
 
 -- the access to a slot of the frame

@@ -65,7 +65,8 @@ ends_at end s = begins_at end s + s.count * bytes_of s.cell
 -- stack variables one above the other, each at the next multiple of its cells' size
 abbrev pub places_from : ℕ → List StackVariable → List Place
 places_from end [] = []
-places_from end (s ∷ ss) = record { of = s; offset = begins_at end s } ∷ places_from (ends_at end s) ss
+places_from end (s ∷ ss) =
+    record { of = s; offset = begins_at end s } ∷ places_from (ends_at end s) ss
 
 -- where the last of them ends
 abbrev pub end_from : ℕ → List StackVariable → ℕ

@@ -4,9 +4,9 @@ use Rattle.jz_grammar.proofs.LexingWords.{if_false}
 use Rattle.jz_grammar.specs.Span.{Span}
 use Rattle.jz_grammar.specs.Token.{Token}
 use Rattle.jz_grammar.specs.Kinds.{Kind, word, sign, identifier, number, span_of, is_in, has}
-use Rattle.jz_grammar.specs.Reading.{Answer, Reader, ◌>>=◌, through, follow, depend, pick, many_by}
+use Rattle.jz_grammar.specs.InnerReading.{Answer, Reader, ◌>>=◌, through, follow, depend, pick, many_by}
 use Rattle.jz_grammar.specs.Grammar.{Lang, token, ◌▸◌, ◌⊕◌, ◌⇒◌, never, each, each_by, at_most, then_by, maybe}
-use Rattle.jz_grammar.specs.Laws.{Shape, IsReader, HasPhrase, one_shape, full, many_shape}
+use Rattle.jz_grammar.proofs.Laws.{Shape, IsReader, HasPhrase, one_shape, full, many_shape}
 use Rattle.jz_grammar.proofs.Basics.{disjoint_nil, all_in}
 use Rattle.jz_grammar.proofs.Combine.{has_nil, follow_reads, map_reads, pick_reads, optional_reads, leaf_reads, reads_as, shaped}
 use Rattle.jz_grammar.proofs.Depend.{depend_reads}
@@ -23,10 +23,11 @@ use Rattle.jz_first.specs.declared.function.Body.{Body}
 use Rattle.jz_first.specs.declared.statement.Item.{Item}
 use Rattle.jz_first.specs.declared.statement.Item.TheVariants.{Declares, Does}
 use Rattle.jz_grammar.specs.Tokens.{name_of, number_of_token}
-use Rattle.jz_first.specs.Trees.{number_expr, assignments, operation_of, register_word, declared_of, param_of, used_of, assign_statement, vars_in, stmts_in, body_of, joined_lists, or_empty, fun_of}
+use Rattle.jz_first.specs.Trees.{number_expr, assignments, operation_of, register_word, declared_of, param_of, used_of, assign_statement, vars_in, stmts_in, body_of, fun_of}
+use Rattle.jz_grammar.specs.Parts.{joined_lists, or_empty}
 use Rattle.jz_first.specs.Grammar as g
 use Rattle.jz_first.specs.Grammar.{most_names}
-use Rattle.jz_first.specs.Readers as r
+use Rattle.jz_first.specs.InnerReaders as r
 
 -- ---- the grammar, where n names are left
 module _ (d : ℕ) where

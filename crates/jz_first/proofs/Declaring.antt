@@ -16,7 +16,8 @@ use Rattle.jz_grammar.specs.Grammar.{Lang}
 use Rattle.jz_first.specs.declared.function.Body.{Body}
 use Rattle.jz_first.specs.declared.statement.Item.{Item}
 use Rattle.jz_first.specs.declared.statement.Item.TheVariants.{Declares, Does}
-use Rattle.jz_first.specs.Trees.{register_word, declared_of, param_of, used_of, assign_statement, vars_in, stmts_in, body_of, joined_lists, or_empty, fun_of, program_of}
+use Rattle.jz_first.specs.Trees.{register_word, declared_of, param_of, used_of, assign_statement, vars_in, stmts_in, body_of, fun_of, program_of}
+use Rattle.jz_grammar.specs.Parts.{joined_lists, or_empty}
 use Rattle.jz_first.specs.Grammar as g
 use Rattle.jz_first.specs.Deriving.{DerivesProgram}
 use Rattle.jz_first.specs.Derived.{DeclaresWords, HasNames}

@@ -3,7 +3,8 @@ use Rattle.std.proofs.Common.{◌≡◌, ℕ, Bool, true, false, ◌&&◌, ◌||
 use Rattle.std.specs.Prelude.{if◌then◌else◌, nat_lt, nat_eq}
 use Rattle.std.proofs.lemmas.Bool.Decides.{nat_tests}
 use Rattle.jz_first.specs.declared.fault.TypeFault.{TypeFault}
-use Rattle.jz_first.specs.Faults.{rule_number, precedes, earlier, first_of}
+use Rattle.jz_first.specs.Faults.{rule_number}
+use Rattle.jz_first.specs.InnerFaults.{precedes, earlier, first_of}
 
 -- by lines, columns and numbers
 abbrev lower : ℕ → ℕ → ℕ → ℕ → ℕ → ℕ → Bool

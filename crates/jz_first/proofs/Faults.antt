@@ -7,9 +7,9 @@ use Rattle.jz_grammar.specs.Token.{Token}
 use Rattle.jz_grammar.specs.TokenKind.TheVariants.{End}
 use Rattle.jz_grammar.specs.Causes.{Cause, Unexpected}
 use Rattle.jz_grammar.specs.Kinds.{token_kind, member, is_in}
-use Rattle.jz_grammar.specs.Reading.{final}
+use Rattle.jz_grammar.specs.InnerReading.{final}
 use Rattle.jz_grammar.specs.Grammar.{Marked, plain}
-use Rattle.jz_grammar.specs.Laws.{Begins}
+use Rattle.jz_grammar.specs.Deriving.{Begins}
 use Rattle.jz_grammar.proofs.Basics.{plain_append}
 use Rattle.jz_grammar.proofs.Combine.{has_nil}
 use Rattle.jz_grammar.proofs.Exact.{compare}
@@ -19,11 +19,11 @@ use Rattle.jz_first.specs.declared.tree.Program.{Program}
 use Rattle.jz_grammar.specs.declared.fault.SyntaxFault.{SyntaxFault}
 use Rattle.jz_grammar.specs.declared.fault.SyntaxKind.TheVariants as kind
 use Rattle.jz_grammar.specs.Places.{span_at, span_or_start, IsFaultAt}
-use Rattle.jz_grammar.specs.Gave.{numbered_answer}
+use Rattle.jz_grammar.specs.InnerGave.{numbered_answer}
 use Rattle.jz_first.specs.Deriving.{DerivesProgram, BeginsProgram, IsStoppedAt, IsUnexpected}
 use Rattle.jz_first.specs.Grammar as g
-use Rattle.jz_first.specs.Readers as r
-use Rattle.jz_first.proofs.Program.{program_shape, program_law, kinds, all_kinds, steady_function, steady_program}
+use Rattle.jz_first.specs.InnerReaders as r
+use Rattle.jz_first.proofs.ProgramLaws.{program_shape, program_law, kinds, all_kinds, steady_function, steady_program}
 
 -- ---- what was read, and what is left
 pub read_done : (n : ℕ) (ts now : List Token) (p : Program) → r.program ts ≡ Ok (p, now) → length now ≡ 0 → numbered_answer n (final (r.program ts)) ≡ Ok p

@@ -5,7 +5,8 @@ use Rattle.std.proofs.lemmas.Bool.Decides.{nat_tests}
 use Rattle.std.proofs.lemmas.List.Elements.{Contains-append_left, Contains-append_right, Contains-append_cases, Contains-push, Contains-push_cases}
 use Rattle.jz_grammar.specs.Span.{Span}
 use Rattle.jz_first.specs.declared.fault.TypeFault.{TypeFault}
-use Rattle.jz_first.specs.Faults.{rule_number, Before, IsToldBefore, IsFirst, precedes, earlier, first_of}
+use Rattle.jz_first.specs.Faults.{rule_number, Before, IsToldBefore, IsFirst}
+use Rattle.jz_first.specs.InnerFaults.{precedes, earlier, first_of}
 use Rattle.jz_first.proofs.Earliest.{precedes_self, precedes_not}
 use Rattle.jz_first.proofs.NameLemmas.{same_fault}
 

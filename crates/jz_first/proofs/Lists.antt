@@ -3,7 +3,7 @@ use Rattle.std.proofs.Common.{◌≡◌, ℕ, zero, suc, ◌-◌, ◌<◌, List,
 use Rattle.jz_grammar.specs.Token.{Token}
 use Rattle.jz_grammar.specs.Causes.{Cause}
 use Rattle.jz_grammar.specs.Kinds.{Kind, token_kind, word, sign, is_in, has}
-use Rattle.jz_grammar.specs.Reading.{Answer, through, many_by}
+use Rattle.jz_grammar.specs.InnerReading.{Answer, through, many_by}
 use Rattle.jz_grammar.proofs.Basics.{member_append}
 use Rattle.jz_grammar.proofs.Combine.{shorter, has_nil}
 use Rattle.jz_grammar.proofs.Several.{many_by_next, many_by_wrong, many_by_done, item_shorter}
@@ -15,8 +15,9 @@ use Rattle.jz_first.specs.declared.tree.Var.{Var}
 use Rattle.jz_first.specs.declared.tree.Stmt.{Stmt}
 use Rattle.jz_first.specs.declared.statement.Item.{Item}
 use Rattle.jz_first.specs.declared.statement.Item.TheVariants.{Declares, Does}
-use Rattle.jz_first.specs.Trees.{vars_in, stmts_in, joined_lists}
-use Rattle.jz_first.specs.Readers as r
+use Rattle.jz_first.specs.Trees.{vars_in, stmts_in}
+use Rattle.jz_grammar.specs.Parts.{joined_lists}
+use Rattle.jz_first.specs.InnerReaders as r
 use Rattle.jz_first.proofs.Counted.{next_group_law, next_rtype_law, item_law, next_used_law, counted_law, starts_groups, starts_items, all_starts, exports}
 
 -- ---- choices of tokens

@@ -11,7 +11,8 @@ use Rattle.jz_grammar.specs.Span.{Span}
 use Rattle.jz_first.specs.declared.fault.TypeRule.{TypeRule}
 use Rattle.jz_first.specs.declared.fault.TypeRule.TheVariants.{Unknown, Duplicate, Mismatch, ExportShape}
 use Rattle.jz_first.specs.declared.fault.TypeFault.{TypeFault}
-use Rattle.jz_first.specs.Faults.{rule_number, precedes, earlier, first_of}
+use Rattle.jz_first.specs.Faults.{rule_number}
+use Rattle.jz_first.specs.InnerFaults.{precedes, earlier, first_of}
 use Rattle.jz_first.specs.Rules.{Name, fault_at, second_places, repetition_faults}
 use Rattle.jz_first.proofs.Earliest.{earlier-assoc, earlier-none, first_of-append}
 

@@ -8,7 +8,7 @@ use Rattle.jz_grammar.specs.TokenKind.TheVariants as kind
 use Rattle.jz_grammar.specs.Kinds.{identifier, token_kind, member, is_in}
 use Rattle.jz_grammar.specs.Grammar.{Marked, Lang, plain, ◌▸◌, ◌⊕◌, ◌⇒◌, each, maybe}
 use Rattle.jz_grammar.specs.Tokens.{name_in, name_of}
-use Rattle.jz_first.specs.Trees.{or_empty}
+use Rattle.jz_grammar.specs.Parts.{or_empty}
 use Rattle.jz_first.specs.Grammar as g
 
 module _ (N : List ℕ → Type 0) where

@@ -118,7 +118,7 @@ pub faults_same : (p : Program) → faults_of (resolved_program p) ≡ faults_of
 faults_same p =
     simp (over_mapped unknown_in unknown_same p.funs, names_mapped p.funs, over_mapped repeated_in (λ f. refl) p.funs, over_mapped count_faults miscounted_same p.funs, over_mapped shape_faults (λ f. refl) p.funs)
 
--- a program that is the resolved_program one of a typed program
+-- a program that is the resolved one of a typed program
 pub typed_resolved : (p q : Program) → q ≡ resolved_program p → faults_of p ≡ [] → faults_of q ≡ []
 typed_resolved p q e h = ap faults_of e ∙ (faults_same p ∙ h)
 

@@ -1,7 +1,7 @@
 -- Counting the names that are left is the same as asking for at most nine.
 use Rattle.std.proofs.Common.{inl, inr, ⊎_elim, ℕ, zero, suc, ◌+◌, ◌-◌, ◌<◌, ◌≤◌, List, [], ◌∷◌, length, Option, sym, ap, subst, arith, length-append}
 use Rattle.jz_grammar.specs.Grammar.{Marked, Lang, each, each_by, at_most, maybe}
-use Rattle.jz_grammar.specs.Laws.{IsReader, full}
+use Rattle.jz_grammar.proofs.Laws.{IsReader, full}
 use Rattle.jz_grammar.proofs.Combine.{at_most_each, each_at_most, same_reads}
 use Rattle.jz_first.specs.declared.tree.Fun.{Fun}
 use Rattle.jz_first.specs.declared.tree.Param.{Param}
@@ -9,10 +9,11 @@ use Rattle.jz_first.specs.declared.tree.Var.{Var}
 use Rattle.jz_first.specs.declared.function.Body.{Body}
 use Rattle.jz_first.specs.declared.statement.Item.{Item}
 use Rattle.jz_first.specs.declared.statement.Item.TheVariants.{Declares, Does}
-use Rattle.jz_first.specs.Trees.{vars_in, joined_lists, or_empty}
+use Rattle.jz_first.specs.Trees.{vars_in}
+use Rattle.jz_grammar.specs.Parts.{joined_lists, or_empty}
 use Rattle.jz_first.specs.Grammar as g
 use Rattle.jz_first.specs.Grammar.{most_names}
-use Rattle.jz_first.specs.Readers as r
+use Rattle.jz_first.specs.InnerReaders as r
 use Rattle.jz_first.proofs.Counted as c
 use Rattle.jz_first.proofs.Counted.{exports, counted_law}
 

@@ -14,13 +14,13 @@ use Rattle.jz_first.specs.declared.tree.Stmt.{Stmt}
 use Rattle.jz_first.specs.declared.fault.TypeRule.TheVariants.{Unknown}
 use Rattle.jz_first.specs.declared.fault.TypeFault.{TypeFault}
 use Rattle.jz_first.specs.declared.scope.Scope.{Scope}
-use Rattle.jz_first.specs.Faults.{earlier, first_of}
-use Rattle.jz_first.specs.Joining.{first_in}
+use Rattle.jz_first.specs.InnerFaults.{earlier, first_of}
+use Rattle.jz_first.specs.InnerJoining.{first_in}
 use Rattle.jz_first.specs.Rules.{fault_at, is_known, unknown_in, repetition_faults, repeated_in, name_of_fun, count_faults, shape_faults, faults_of}
-use Rattle.jz_first.specs.Scopes.{IsScope, declared_of, stands_above, has_above, unknown_by}
+use Rattle.jz_first.specs.InnerScopes.{IsScope, declared_of, stands_above, has_above, unknown_by}
 use Rattle.jz_first.specs.Uses.{left_side_uses, right_side_uses, kind_uses, body_uses, uses_of}
 use Rattle.jz_first.specs.Variables.{variables_of}
-use Rattle.jz_first.specs.Declared.{variable_named, is_declared_above}
+use Rattle.jz_first.specs.VariableDeclarations.{variable_named, is_declared_above}
 use Rattle.jz_first.proofs.Earliest.{first_of-append, earlier-assoc}
 
 -- the first of several lists is that of all of them

@@ -3,7 +3,7 @@
 use Rattle.std.specs.Prelude.{◌≡◌, ◌-◌, List, [], ◌∷◌, ◌++◌, length}
 use Rattle.jz_grammar.specs.Span.{Span}
 use Rattle.jz_grammar.specs.Token.{Token}
-use Rattle.jz_grammar.specs.Laws.{Derives}
+use Rattle.jz_grammar.specs.Deriving.{Derives}
 use Rattle.jz_first.specs.declared.tree.Program.{Program}
 use Rattle.jz_grammar.specs.declared.fault.SyntaxKind.TheVariants.{Unexpected}
 use Rattle.jz_grammar.specs.declared.fault.SyntaxFault.{SyntaxFault}

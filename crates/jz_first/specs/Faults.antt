@@ -27,20 +27,3 @@ IsToldBefore f g = Before f.span g.span ⊎ ((f.span ≡ g.span) × (rule_number
 -- f is one of the faults, and is told before each of them
 abbrev pub IsFirst : List TypeFault → TypeFault → Type 0
 IsFirst fs f = Contains fs f × ((g : TypeFault) → Contains fs g → IsToldBefore f g)
-
--- f has to be told before g
-abbrev pub precedes : TypeFault → TypeFault → Bool
-precedes f g =
-    is_before f.span g.span
-    || (nat_eq f.span.line g.span.line && nat_eq f.span.col g.span.col && nat_lt (rule_number f.rule) (rule_number g.rule))
-
--- the one of two that is told, if there is one
-abbrev pub earlier : Option TypeFault → Option TypeFault → Option TypeFault
-earlier None g = g
-earlier (Some f) None = Some f
-earlier (Some f) (Some g) = if precedes g f then Some g else Some f
-
--- the one of several that is told, if there is one
-abbrev pub first_of : List TypeFault → Option TypeFault
-first_of [] = None
-first_of (f ∷ fs) = earlier (Some f) (first_of fs)

@@ -16,7 +16,8 @@ use Rattle.jz_first.specs.declared.function.Body.{Body}
 use Rattle.jz_first.specs.declared.statement.Item.{Item}
 use Rattle.jz_first.specs.declared.statement.Item.TheVariants.{Declares, Does}
 use Rattle.jz_grammar.specs.Tokens.{name_of, number_of_token}
-use Rattle.jz_first.specs.Trees.{number_expr, assignments, operation_of, register_word, declared_of, param_of, used_of, assign_statement, body_of, joined_lists, or_empty, fun_of, program_of}
+use Rattle.jz_first.specs.Trees.{number_expr, assignments, operation_of, register_word, declared_of, param_of, used_of, assign_statement, body_of, fun_of, program_of}
+use Rattle.jz_grammar.specs.Parts.{joined_lists, or_empty}
 
 -- at most so many names are declared in a function
 abbrev pub most_names : ℕ
@@ -63,7 +64,7 @@ module _ (d : ℕ) where
   groups = (group ▸ each (comma group)) ⇒ (λ p. p.0 ++ joined_lists p.1)
 
   abbrev pub params : Lang (List Param)
-  params = (the (codes "(") ▸ maybe groups ▸ the (codes ")")) ⇒ (λ p. or_empty p.1.0)
+  params = (the (codes "(") ▸ maybe groups ▸ the (codes ")")) ⇒ (λ (_, (gs, _)). or_empty gs)
 
   -- rtype = "reg" "u64"
   abbrev pub rtype : Lang Ret
@@ -84,7 +85,7 @@ module _ (d : ℕ) where
   decl_vars = (declared ▸ each next_declared) ⇒ (λ p. p.0 ∷ p.1)
 
   abbrev pub decl : Lang (List Var)
-  decl = (reg_u64 ▸ decl_vars ▸ the (codes ";")) ⇒ (λ p. p.1.0)
+  decl = (reg_u64 ▸ decl_vars ▸ the (codes ";")) ⇒ (λ (_, (vars, _)). vars)
 
   -- o = ID | NUM
   abbrev pub operand : Lang Expr
@@ -92,7 +93,7 @@ module _ (d : ℕ) where
 
   -- stmt = ID aop o ";"      aop one of = += -= ^=
   abbrev pub stmt : Lang Stmt
-  stmt = (used ▸ (token assignments d ⇒ operation_of) ▸ operand ▸ the (codes ";")) ⇒ (λ p. assign_statement p.0 p.1.0 p.1.1.0)
+  stmt = (used ▸ (token assignments d ⇒ operation_of) ▸ operand ▸ the (codes ";")) ⇒ (λ (to, (op, (from, _))). assign_statement to op from)
 
   -- decl | stmt
   abbrev pub item : Lang Item
@@ -103,20 +104,20 @@ module _ (d : ℕ) where
   variables = (used ▸ each (comma used)) ⇒ (λ p. p.0 ∷ p.1)
 
   abbrev pub names : Lang (List Var)
-  names = variables ⊕ ((the (codes "(") ▸ variables ▸ the (codes ")")) ⇒ (λ p. p.1.0))
+  names = variables ⊕ ((the (codes "(") ▸ variables ▸ the (codes ")")) ⇒ (λ (_, (vars, _)). vars))
 
   -- [ "return" [ names ] ";" ]
   abbrev pub ending : Lang (List Var)
-  ending = maybe ((key (codes "return") ▸ maybe names ▸ the (codes ";")) ⇒ (λ p. or_empty p.1.0)) ⇒ or_empty
+  ending = maybe ((key (codes "return") ▸ maybe names ▸ the (codes ";")) ⇒ (λ (_, (vars, _)). or_empty vars)) ⇒ or_empty
 
   -- "{" { decl | stmt } [ "return" [ names ] ";" ] "}"
   abbrev pub body : Lang Body
-  body = (the (codes "{") ▸ each item ▸ ending ▸ the (codes "}")) ⇒ (λ p. body_of p.1.0 p.1.1.0)
+  body = (the (codes "{") ▸ each item ▸ ending ▸ the (codes "}")) ⇒ (λ (_, (items, (result, _))). body_of items result)
 
   -- fun = "export" "fn" ID "(" [ group { "," group } ] ")" [ "->" rtype { "," rtype } ]
   --       "{" { decl | stmt } [ "return" [ names ] ";" ] "}"
   abbrev pub function : Lang Fun
-  function = (key (codes "export") ▸ key (codes "fn") ▸ name ▸ params ▸ results ▸ body) ⇒ (λ p. fun_of p.1.1.0 p.1.1.1.0 p.1.1.1.1.0 p.1.1.1.1.1)
+  function = (key (codes "export") ▸ key (codes "fn") ▸ name ▸ params ▸ results ▸ body) ⇒ (λ (_, (_, (id, (ps, (rets, inner))))). fun_of id ps rets inner)
 
   -- of the parameters and variables of a function there are at most nine
   abbrev pub small_function : Lang Fun

@@ -2,17 +2,17 @@ pub mod Variables
 pub mod Assignments
 pub mod Trees
 pub mod Grammar
-pub mod Readers
+pub mod InnerReaders
 pub mod Deriving
 pub mod Reading
 pub mod Derived
 pub mod Faults
-pub mod Declared
+pub mod VariableDeclarations
 pub mod Uses
 pub mod Rules
 pub mod Resolving
-pub mod Scopes
-pub mod Joining
+pub mod InnerScopes
+pub mod InnerJoining
 pub mod TypedPrograms
 pub use Rattle.jz_grammar.specs.Ct
 pub use Rattle.jz_grammar.specs.Failure
@@ -22,3 +22,4 @@ pub use Rattle.jz_grammar.specs.Size
 pub use Rattle.jz_grammar.specs.Sizes
 pub use Rattle.jz_grammar.specs.Span
 pub use Rattle.jz_grammar.specs.Words
+pub mod InnerFaults

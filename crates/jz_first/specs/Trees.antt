@@ -75,14 +75,6 @@ stmts_in is = filter_map done_by is
 abbrev pub body_of : List Item → List Var → Body
 body_of is result = record { vars = vars_in is; stmts = stmts_in is; result = result }
 
--- the items of all lists
-abbrev pub joined_lists : {A : Type 0} → List (List A) → List A
-joined_lists xss = flat_map (λ xs. xs) xss
-
-abbrev pub or_empty : {A : Type 0} → Option (List A) → List A
-or_empty None = []
-or_empty (Some xs) = xs
-
 abbrev pub fun_of : List ℕ × Span → List Param → List Ret → Body → Fun
 fun_of name params rets body = record {
   name = name.0;

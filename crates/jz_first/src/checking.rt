@@ -2,7 +2,7 @@
 
 ghost use Rattle.std.specs.Prelude.{◌≡◌, IfOk, IfErr};
 ghost use Rattle.jz_grammar.specs.Failures.{IfRefused};
-ghost use Rattle.jz_first.specs.Faults.{first_of};
+ghost use Rattle.jz_first.specs.InnerFaults.{first_of};
 ghost use Rattle.jz_first.specs.Resolving.{resolved_program};
 ghost use Rattle.jz_first.specs.Rules.{faults_of, IsTyped, IsFirstTypeFault};
 

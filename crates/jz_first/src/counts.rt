@@ -1,8 +1,8 @@
 //! Functions with other numbers of parameters and results than they may have.
 
 ghost use Rattle.std.specs.Prelude.{◌≡◌};
-ghost use Rattle.jz_first.specs.Faults.{first_of};
-ghost use Rattle.jz_first.specs.Joining.{first_in};
+ghost use Rattle.jz_first.specs.InnerFaults.{first_of};
+ghost use Rattle.jz_first.specs.InnerJoining.{first_in};
 ghost use Rattle.jz_first.specs.Rules.{count_faults, shape_faults};
 
 use crate::fault::{TypeFault, TypeRule, earlier_of};

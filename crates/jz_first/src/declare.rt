@@ -2,8 +2,8 @@
 
 ghost use Rattle.std.specs.Prelude.{◌≡◌, ◌-◌};
 ghost use Rattle.jz_grammar.specs.Kinds.{has};
-ghost use Rattle.jz_grammar.specs.Gave.{Gave};
-ghost use Rattle.jz_first.specs.Readers.{variable_declared, param, reg_u64, params_more, group, group_starts, next_group, groups_more, groups, params, rtype, next_rtype, rtypes_more, results, next_declared, declared_starts, declared_more, decl};
+ghost use Rattle.jz_grammar.specs.InnerGave.{Gave};
+ghost use Rattle.jz_first.specs.InnerReaders.{variable_declared, param, reg_u64, params_more, group, group_starts, next_group, groups_more, groups, params, rtype, next_rtype, rtypes_more, results, next_declared, declared_starts, declared_more, decl};
 
 use crate::{Decl, Param, Ret, Storage, Ty, Var};
 use jz_grammar::{Cursor, Seq, Size, Stop};
@@ -17,7 +17,7 @@ const REGISTER_WORD: Decl = Decl {
     ty: Ty::Word(Size::S64),
 };
 
-#[tactic(auto, unfolding(crate::specs::Readers::variable_declared))]
+#[tactic(auto, unfolding(crate::specs::InnerReaders::variable_declared))]
 fn declared(alloc: Global, c: &mut Cursor) -> Result<Var, Stop>
     ensures { Gave result c.new (variable_declared c.old) }
 {
@@ -29,7 +29,7 @@ fn declared(alloc: Global, c: &mut Cursor) -> Result<Var, Stop>
     })
 }
 
-#[tactic(auto, unfolding(crate::specs::Readers::param))]
+#[tactic(auto, unfolding(crate::specs::InnerReaders::param))]
 fn param(alloc: Global, c: &mut Cursor) -> Result<Param, Stop>
     ensures { Gave result c.new (param c.old) }
 {
@@ -37,7 +37,7 @@ fn param(alloc: Global, c: &mut Cursor) -> Result<Param, Stop>
     Ok(Param { var })
 }
 
-#[tactic(auto, unfolding(crate::specs::Readers::reg_u64))]
+#[tactic(auto, unfolding(crate::specs::InnerReaders::reg_u64))]
 fn reg_u64(c: &mut Cursor) -> Result<Decl, Stop>
     ensures { Gave result c.new (reg_u64 c.old) }
 {
@@ -67,7 +67,7 @@ fn params_more(
 }
 
 /// A group of at most `room` parameters after its first.
-#[tactic(auto, unfolding(crate::specs::Readers::group))]
+#[tactic(auto, unfolding(crate::specs::InnerReaders::group))]
 fn group(alloc: Global, c: &mut Cursor, room: usize) -> Result<Seq<Param>, Stop>
     ensures { Gave result c.new (group room c.old) }
 {
@@ -86,7 +86,7 @@ fn begins_group(c: &Cursor, left: usize) -> bool
     left > 0 && c.is_sign(",")
 }
 
-#[tactic(auto, unfolding(crate::specs::Readers::next_group))]
+#[tactic(auto, unfolding(crate::specs::InnerReaders::next_group))]
 fn next_group(alloc: Global, c: &mut Cursor, left: usize) -> Result<Seq<Param>, Stop>
     ensures { Gave result c.new (next_group left c.old) }
 {
@@ -114,7 +114,7 @@ fn groups_more(
     Ok(out)
 }
 
-#[tactic(auto, unfolding(crate::specs::Readers::groups))]
+#[tactic(auto, unfolding(crate::specs::InnerReaders::groups))]
 fn groups(alloc: Global, c: &mut Cursor) -> Result<Seq<Param>, Stop>
     ensures { Gave result c.new (groups c.old) }
 {
@@ -124,7 +124,7 @@ fn groups(alloc: Global, c: &mut Cursor) -> Result<Seq<Param>, Stop>
 }
 
 /// The parameters and their parentheses.
-#[tactic(auto, unfolding(crate::specs::Readers::params))]
+#[tactic(auto, unfolding(crate::specs::InnerReaders::params))]
 pub fn params(alloc: Global, c: &mut Cursor) -> Result<Seq<Param>, Stop>
     ensures { Gave result c.new (params c.old) }
 {
@@ -138,7 +138,7 @@ pub fn params(alloc: Global, c: &mut Cursor) -> Result<Seq<Param>, Stop>
     Ok(out)
 }
 
-#[tactic(auto, unfolding(crate::specs::Readers::rtype))]
+#[tactic(auto, unfolding(crate::specs::InnerReaders::rtype))]
 fn rtype(c: &mut Cursor) -> Result<Ret, Stop>
     ensures { Gave result c.new (rtype c.old) }
 {
@@ -146,7 +146,7 @@ fn rtype(c: &mut Cursor) -> Result<Ret, Stop>
     Ok(Ret { decl })
 }
 
-#[tactic(auto, unfolding(crate::specs::Readers::next_rtype))]
+#[tactic(auto, unfolding(crate::specs::InnerReaders::next_rtype))]
 fn next_rtype(c: &mut Cursor) -> Result<Ret, Stop>
     ensures { Gave result c.new (next_rtype c.old) }
 {
@@ -167,7 +167,7 @@ fn rtypes_more(c: &mut Cursor, first: Seq<Ret>) -> Result<Seq<Ret>, Stop>
 }
 
 /// The result types and the arrow before them, or none.
-#[tactic(auto, unfolding(crate::specs::Readers::results))]
+#[tactic(auto, unfolding(crate::specs::InnerReaders::results))]
 pub fn results(alloc: Global, c: &mut Cursor) -> Result<Seq<Ret>, Stop>
     ensures { Gave result c.new (results c.old) }
 {
@@ -181,7 +181,7 @@ pub fn results(alloc: Global, c: &mut Cursor) -> Result<Seq<Ret>, Stop>
     rtypes_more(c, out)
 }
 
-#[tactic(auto, unfolding(crate::specs::Readers::next_declared))]
+#[tactic(auto, unfolding(crate::specs::InnerReaders::next_declared))]
 fn next_declared(alloc: Global, c: &mut Cursor) -> Result<Var, Stop>
     ensures { Gave result c.new (next_declared c.old) }
 {
@@ -219,7 +219,7 @@ fn declared_more(
 }
 
 /// A declaration of at most `room` variables after its first.
-#[tactic(auto, unfolding(crate::specs::Readers::decl))]
+#[tactic(auto, unfolding(crate::specs::InnerReaders::decl))]
 pub fn decl(alloc: Global, c: &mut Cursor, room: usize) -> Result<Seq<Var>, Stop>
     ensures { Gave result c.new (decl room c.old) }
 {

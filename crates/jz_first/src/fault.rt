@@ -2,7 +2,8 @@
 
 ghost use Rattle.std.specs.Prelude.{◌≡◌, Option};
 ghost use Rattle.jz_first.specs.declared.fault.TypeFault.{TypeFault};
-ghost use Rattle.jz_first.specs.Faults.{rule_number, is_before, precedes, earlier};
+ghost use Rattle.jz_first.specs.Faults.{rule_number, is_before};
+ghost use Rattle.jz_first.specs.InnerFaults.{precedes, earlier};
 
 use jz_grammar::Span;
 

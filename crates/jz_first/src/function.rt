@@ -2,8 +2,8 @@
 
 ghost use Rattle.std.specs.Prelude.{◌≡◌, []};
 ghost use Rattle.jz_grammar.specs.Kinds.{has};
-ghost use Rattle.jz_grammar.specs.Gave.{Gave};
-ghost use Rattle.jz_first.specs.Readers.{next_used, used_more, variables, name_starts, names, variables_returned, ending, body, function, functions_more, program};
+ghost use Rattle.jz_grammar.specs.InnerGave.{Gave};
+ghost use Rattle.jz_first.specs.InnerReaders.{next_used, used_more, variables, name_starts, names, variables_returned, ending, body, function, functions_more, program};
 
 use crate::declare::{MOST_NAMES, params, results};
 use crate::statement::{items, used};
@@ -19,7 +19,7 @@ pub struct Body {
     pub result: Seq<Var>,
 }
 
-#[tactic(auto, unfolding(crate::specs::Readers::next_used))]
+#[tactic(auto, unfolding(crate::specs::InnerReaders::next_used))]
 fn next_used(alloc: Global, c: &mut Cursor) -> Result<Var, Stop>
     ensures { Gave result c.new (next_used c.old) }
 {
@@ -39,7 +39,7 @@ fn used_more(alloc: Global, c: &mut Cursor, first: Seq<Var>) -> Result<Seq<Var>,
     Ok(out)
 }
 
-#[tactic(auto, unfolding(crate::specs::Readers::variables))]
+#[tactic(auto, unfolding(crate::specs::InnerReaders::variables))]
 fn variables(alloc: Global, c: &mut Cursor) -> Result<Seq<Var>, Stop>
     ensures { Gave result c.new (variables c.old) }
 {
@@ -49,7 +49,7 @@ fn variables(alloc: Global, c: &mut Cursor) -> Result<Seq<Var>, Stop>
     used_more(alloc, c, out)
 }
 
-#[tactic(auto, unfolding(crate::specs::Readers::names))]
+#[tactic(auto, unfolding(crate::specs::InnerReaders::names))]
 fn names(alloc: Global, c: &mut Cursor) -> Result<Seq<Var>, Stop>
     ensures { Gave result c.new (names c.old) }
 {
@@ -69,7 +69,7 @@ fn begins_names(c: &Cursor) -> bool
     c.is_identifier() || c.is_sign("(")
 }
 
-#[tactic(auto, unfolding(crate::specs::Readers::variables_returned))]
+#[tactic(auto, unfolding(crate::specs::InnerReaders::variables_returned))]
 fn returned(alloc: Global, c: &mut Cursor) -> Result<Seq<Var>, Stop>
     ensures { Gave result c.new (variables_returned c.old) }
 {
@@ -84,7 +84,7 @@ fn returned(alloc: Global, c: &mut Cursor) -> Result<Seq<Var>, Stop>
 }
 
 /// The variables that are returned, or none where nothing is.
-#[tactic(auto, unfolding(crate::specs::Readers::ending))]
+#[tactic(auto, unfolding(crate::specs::InnerReaders::ending))]
 fn ending(alloc: Global, c: &mut Cursor) -> Result<Seq<Var>, Stop>
     ensures { Gave result c.new (ending c.old) }
 {
@@ -95,7 +95,7 @@ fn ending(alloc: Global, c: &mut Cursor) -> Result<Seq<Var>, Stop>
 }
 
 /// The body of a function, where `room` names are left.
-#[tactic(auto, unfolding(crate::specs::Readers::body))]
+#[tactic(auto, unfolding(crate::specs::InnerReaders::body))]
 fn block(alloc: Global, c: &mut Cursor, room: usize) -> Result<Body, Stop>
     ensures { Gave result c.new (body room c.old) }
 {
@@ -110,7 +110,7 @@ fn block(alloc: Global, c: &mut Cursor, room: usize) -> Result<Body, Stop>
     })
 }
 
-#[tactic(auto, unfolding(crate::specs::Readers::function))]
+#[tactic(auto, unfolding(crate::specs::InnerReaders::function))]
 fn function(alloc: Global, c: &mut Cursor) -> Result<Fun, Stop>
     ensures { Gave result c.new (function c.old) }
 {
@@ -150,7 +150,7 @@ fn functions(alloc: Global, c: &mut Cursor) -> Result<Seq<Fun>, Stop>
 }
 
 /// A whole program, with the end of the text.
-#[tactic(auto, unfolding(crate::specs::Readers::program))]
+#[tactic(auto, unfolding(crate::specs::InnerReaders::program))]
 pub fn program(alloc: Global, c: &mut Cursor) -> Result<Program, Stop>
     ensures { Gave result c.new (program c.old) }
 {

@@ -1,10 +1,10 @@
 //! Names that stand twice.
 
 ghost use Rattle.std.specs.Prelude.{◌≡◌, [], ◌∷◌, ◌++◌, List, IfOk, OnOk, map};
-ghost use Rattle.jz_first.specs.Faults.{first_of};
-ghost use Rattle.jz_first.specs.Joining.{first_in};
+ghost use Rattle.jz_first.specs.InnerFaults.{first_of};
+ghost use Rattle.jz_first.specs.InnerJoining.{first_in};
 ghost use Rattle.jz_first.specs.Rules.{Name, name_of, name_of_fun, repetition_faults, repeated_in};
-ghost use Rattle.jz_first.specs.Scopes.{IsNames};
+ghost use Rattle.jz_first.specs.InnerScopes.{IsNames};
 
 use crate::fault::{TypeFault, TypeRule, earlier_of};
 use crate::{Fun, Program, Var};

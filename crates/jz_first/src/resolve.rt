@@ -2,7 +2,7 @@
 
 ghost use Rattle.std.specs.Prelude.{◌≡◌, IfOk, map};
 ghost use Rattle.jz_first.specs.Resolving.{resolved_var, resolved_expr, resolved_lval, resolved_rhs, resolved_kind, resolved_stmt, resolved_fun, resolved_program};
-ghost use Rattle.jz_first.specs.Scopes.{decls_of};
+ghost use Rattle.jz_first.specs.InnerScopes.{decls_of};
 
 use crate::scope::Scope;
 use crate::{Expr, Fun, Lval, Program, Rhs, Stmt, StmtKind, Var};

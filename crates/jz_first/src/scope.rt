@@ -3,7 +3,7 @@
 ghost use Rattle.std.specs.Prelude.{◌≡◌, [], ◌∷◌, ◌++◌, List, IfOk, OnOk};
 ghost use Rattle.jz_first.specs.declared.tree.Var.{Var};
 ghost use Rattle.jz_first.specs.Variables.{variables_of};
-ghost use Rattle.jz_first.specs.Scopes.{IsScope, has_above, decls_of};
+ghost use Rattle.jz_first.specs.InnerScopes.{IsScope, has_above, decls_of};
 
 use crate::fault::is_before;
 use crate::{Decl, Fun, Param, Var};

@@ -2,9 +2,9 @@
 
 ghost use Rattle.std.specs.Prelude.{◌≡◌, [], IfOk};
 ghost use Rattle.jz_grammar.specs.Kinds.{has};
-ghost use Rattle.jz_grammar.specs.Gave.{Gave};
+ghost use Rattle.jz_grammar.specs.InnerGave.{Gave};
 ghost use Rattle.jz_first.specs.Trees.{assign_statement};
-ghost use Rattle.jz_first.specs.Readers.{variable_used, operand, stmt, decl_starts, item, item_starts, items_more};
+ghost use Rattle.jz_first.specs.InnerReaders.{variable_used, operand, stmt, decl_starts, item, item_starts, items_more};
 
 use crate::declare::decl;
 use crate::operation::operation;
@@ -19,7 +19,7 @@ pub enum Item {
     Does(Stmt),
 }
 
-#[tactic(auto, unfolding(crate::specs::Readers::variable_used))]
+#[tactic(auto, unfolding(crate::specs::InnerReaders::variable_used))]
 pub fn used(alloc: Global, c: &mut Cursor) -> Result<Var, Stop>
     ensures { Gave result c.new (variable_used c.old) }
 {
@@ -31,7 +31,7 @@ pub fn used(alloc: Global, c: &mut Cursor) -> Result<Var, Stop>
     })
 }
 
-#[tactic(auto, unfolding(crate::specs::Readers::operand))]
+#[tactic(auto, unfolding(crate::specs::InnerReaders::operand))]
 fn operand(alloc: Global, c: &mut Cursor) -> Result<Expr, Stop>
     ensures { Gave result c.new (operand c.old) }
 {
@@ -57,7 +57,7 @@ fn assigned(alloc: Global, to: Var, op: Option<BinOp>, from: Expr) -> Result<Stm
     Ok(Stmt { span, kind })
 }
 
-#[tactic(auto, unfolding(crate::specs::Readers::stmt))]
+#[tactic(auto, unfolding(crate::specs::InnerReaders::stmt))]
 fn stmt(alloc: Global, c: &mut Cursor) -> Result<Stmt, Stop>
     ensures { Gave result c.new (stmt c.old) }
 {
@@ -76,7 +76,7 @@ fn begins_decl(c: &Cursor, left: usize) -> bool
     left > 0 && c.is_word("reg")
 }
 
-#[tactic(auto, unfolding(crate::specs::Readers::item))]
+#[tactic(auto, unfolding(crate::specs::InnerReaders::item))]
 fn next_item(alloc: Global, c: &mut Cursor, left: usize) -> Result<Item, Stop>
     ensures { Gave result c.new (item left c.old) }
 {

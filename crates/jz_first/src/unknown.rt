@@ -3,10 +3,10 @@
 
 ghost use Rattle.std.specs.Prelude.{◌≡◌, [], ◌∷◌, ◌++◌, IfOk};
 ghost use Rattle.std.specs.List.{flat_map};
-ghost use Rattle.jz_first.specs.Faults.{first_of};
-ghost use Rattle.jz_first.specs.Joining.{first_in};
+ghost use Rattle.jz_first.specs.InnerFaults.{first_of};
+ghost use Rattle.jz_first.specs.InnerJoining.{first_in};
 ghost use Rattle.jz_first.specs.Rules.{unknown_in};
-ghost use Rattle.jz_first.specs.Scopes.{unknown_by};
+ghost use Rattle.jz_first.specs.InnerScopes.{unknown_by};
 ghost use Rattle.jz_first.specs.Uses.{expression_uses, left_side_uses, right_side_uses, kind_uses, uses_of};
 
 use crate::fault::{TypeFault, TypeRule, earlier_of};
@@ -15,7 +15,7 @@ use crate::{Expr, Fun, Lval, Program, Rhs, Stmt, StmtKind, Var};
 use jz_grammar::Seq;
 use std::alloc::{AllocError, Global};
 
-#[tactic(auto, unfolding(crate::specs::Scopes::unknown_by))]
+#[tactic(auto, unfolding(crate::specs::InnerScopes::unknown_by))]
 fn in_var(scope: &Scope, var: &Var) -> Option<TypeFault>
     ensures { result ≡ first_of (unknown_by scope.now (var.now ∷ [])) }
 {
@@ -39,7 +39,7 @@ fn in_vars(scope: &Scope, vars: &Seq<Var>) -> Option<TypeFault>
     first
 }
 
-#[tactic(auto, unfolding(crate::specs::Scopes::unknown_by))]
+#[tactic(auto, unfolding(crate::specs::InnerScopes::unknown_by))]
 fn in_expr(scope: &Scope, expr: &Expr) -> Option<TypeFault>
     ensures { result ≡ first_of (unknown_by scope.now (expression_uses expr.now)) }
 {

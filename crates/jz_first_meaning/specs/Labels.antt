@@ -54,7 +54,8 @@ left_labelled (lval.Var x) l labels = with_value_at labels (key_of x) l
 -- the labels behind a statement; an assignment with another number of left sides than one means
 -- nothing, and changes none
 abbrev pub labels_after : StmtKind → Labels → Labels
-labels_after (kind.Assign (d ∷ []) op r) labels = left_labelled d (assigned_label d op r labels) labels
+labels_after (kind.Assign (d ∷ []) op r) labels =
+    left_labelled d (assigned_label d op r labels) labels
 labels_after (kind.Assign _ op r) labels = labels
 
 -- a parameter is secret: no text that is read can label one public

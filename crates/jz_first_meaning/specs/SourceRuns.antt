@@ -48,14 +48,16 @@ abbrev pub as_declared : Option Decl → Span → ℤ → Evaluation Value
 as_declared None at i = stuck_at at Init
 as_declared (Some d) at i = went [] (of_type d.ty i)
 
--- what a variable holds of a value that is assigned_state to it: a word
+-- what a variable holds of a value that is assigned to it: a word
 abbrev pub held_value : Var → Value → Evaluation Value
 held_value x (word size a) = went [] (word size a)
 held_value x (integer i) = as_declared x.decl x.span i
 
--- the left side, written_state: a variable gets the value
+-- the left side, written: a variable gets the value
 abbrev pub written_state : Lval → Value → State → Evaluation State
-written_state (lval.Var x) v s = and_then (held_value x v) (λ w. went [] (record s { store = with_value_at s.store (key_of x) (Some w) }))
+written_state (lval.Var x) v s =
+    and_then (held_value x v)
+    (λ w. went [] (record s { store = with_value_at s.store (key_of x) (Some w) }))
 
 -- the value that the left side has before
 abbrev pub left_value : Lval → State → Evaluation Value
@@ -75,13 +77,15 @@ operation Sub size a b = residue size (pos a -ℤ pos b)
 -- number on the left it means nothing
 abbrev pub combined_value : BinOp → Span → Value → Value → Evaluation Value
 combined_value o at (word size a) (word other b) = went [] (word size (operation o size a b))
-combined_value o at (word size a) (integer i) = went [] (word size (operation o size a (residue size i)))
+combined_value o at (word size a) (integer i) =
+    went [] (word size (operation o size a (residue size i)))
 combined_value o at (integer i) b = stuck_at at Init
 
--- the value that is assigned_state: `d op= e` is `d = d op e`
+-- the value that is assigned: `d op= e` is `d = d op e`
 abbrev pub assigned_value : Lval → Option BinOp → Rhs → Span → State → Evaluation Value
 assigned_value d None r at s = right_value r s
-assigned_value d (Some o) r at s = and_then (left_value d s) (λ a. and_then (right_value r s) (λ b. combined_value o at a b))
+assigned_value d (Some o) r at s =
+    and_then (left_value d s) (λ a. and_then (right_value r s) (λ b. combined_value o at a b))
 
 -- the value, and then the left side; with another number of left sides than one it means nothing
 abbrev pub assigned_state : List Lval → Option BinOp → Rhs → Span → State → Evaluation State
@@ -132,11 +136,15 @@ argument (Some d) w = Some (value_of_type d.ty w)
 abbrev pub with_arguments : List Param → List ℕ → Store → Store
 with_arguments [] ws store = store
 with_arguments (p ∷ ps) [] store = store
-with_arguments (p ∷ ps) (w ∷ ws) store = with_arguments ps ws (with_value_at store (key_of p.var) (argument p.var.decl w))
+with_arguments (p ∷ ps) (w ∷ ws) store =
+    with_arguments ps ws (with_value_at store (key_of p.var) (argument p.var.decl w))
 
 -- where a function begins: no other variable has a value
 abbrev pub entry_state : Fun → List ℕ → Memory → State
-entry_state f words memory = record { store = with_arguments f.params words empty_store; memory = memory }
+entry_state f words memory = record {
+  store = with_arguments f.params words empty_store;
+  memory = memory;
+}
 
 -- the bits of a word; a variable holds no other value
 abbrev pub word_of : Span → Value → Evaluation ℕ
@@ -146,7 +154,9 @@ word_of at (integer i) = stuck_at at Init
 -- the words of the variables that are returned, in their order
 abbrev pub result_words : List Var → Store → Evaluation (List ℕ)
 result_words [] store = went [] []
-result_words (x ∷ xs) store = and_then (variable_value x store) (λ v. and_then (word_of x.span v) (λ w. and_then (result_words xs store) (λ ws. went [] (w ∷ ws))))
+result_words (x ∷ xs) store =
+    and_then (variable_value x store) (λ v. and_then (word_of x.span v)
+    (λ w. and_then (result_words xs store) (λ ws. went [] (w ∷ ws))))
 
 -- what a function gives
 pub record Returned : Type 0 where
@@ -187,7 +197,8 @@ pub record IsInput (p : Program) (f : Fun) (words : List ℕ) : Type 0 where
   pub arguments : AreArguments f.params words
 
 -- the run of a program's function on argument words and a memory, with n true tests of `while` left
-pub record IsRun (p : Program) (f : Fun) (words : List ℕ) (memory : Memory) (n : ℕ) (o : FunOutcome) : Type 0 where
+pub record IsRun (p : Program) (f : Fun) (words : List ℕ) (memory : Memory) (n : ℕ) (o : FunOutcome)
+    : Type 0 where
   pub input : IsInput p f words
   pub out : Outcome State Why Leak
   pub goes : Goes source (block f.body done) n (entry_state f words memory) out

@@ -24,7 +24,9 @@ run_statements (x ∷ xs) s = and_then (run_statement x.kind x.span s) (run_stat
 
 -- the words that a function returns
 abbrev pub words_returned : Fun → List ℕ → Memory → Evaluation (List ℕ)
-words_returned f words memory = and_then (run_statements f.body (entry_state f words memory)) (λ s. result_words f.result s.store)
+words_returned f words memory =
+    and_then (run_statements f.body (entry_state f words memory))
+    (λ s. result_words f.result s.store)
 
 -- an item without numbers for each statement
 abbrev pub plain_leak : List Stmt → Leak
@@ -33,9 +35,11 @@ plain_leak (x ∷ xs) = ran [] (plain_leak xs)
 
 -- what a run comes to: the words, the memory as it was, and each of the n turns left
 abbrev pub straight_outcome : Fun → List ℕ → Memory → ℕ → FunOutcome
-straight_outcome f words memory n = outcome_of_words memory n (plain_leak f.body) (words_returned f words memory)
+straight_outcome f words memory n =
+    outcome_of_words memory n (plain_leak f.body) (words_returned f words memory)
 
 -- it ended, with some words, the memory as it was, each of the n turns left, and an item for each statement
 abbrev pub EndsPlainly : Fun → Memory → ℕ → FunOutcome → Type 0
 EndsPlainly f memory n o =
-    (returned : List ℕ) × (o ≡ End (record { words = returned; memory = memory }) n (plain_leak f.body))
+    (returned : List ℕ)
+    × (o ≡ End (record { words = returned; memory = memory }) n (plain_leak f.body))

@@ -11,7 +11,8 @@ ghost use Rattle.jz_first_meaning.specs.StraightRuns.{straight_outcome};
 
 /// How many numbers an expression leaks depends on the expression alone.
 pub fn numbers_of_an_expression()
-    ensures { (e : Expr) (s t : State) (v w : Value) → expression_value e s ≡ Ok v → expression_value e t ≡ Ok w
+    ensures { (e : Expr) (s t : State) (v w : Value)
+        → expression_value e s ≡ Ok v → expression_value e t ≡ Ok w
         → length (numbers_of e s) ≡ length (numbers_of e t) }
 {}
 

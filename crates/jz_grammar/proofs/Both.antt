@@ -5,9 +5,10 @@ use Rattle.jz_lex.proofs.LexingWords.{by_cases, if_false, if_true, true_false}
 use Rattle.jz_lex.specs.declared.token.Token.{Token}
 use Rattle.jz_grammar.specs.Causes.{Cause, TooDeep}
 use Rattle.jz_grammar.specs.Kinds.{Kind, disjoint, is_in, has}
-use Rattle.jz_grammar.specs.Reading.{Answer, Reader, ◌>>=◌, through, one, follow, has_both, pick_both}
+use Rattle.jz_grammar.specs.InnerReading.{Answer, Reader, ◌>>=◌, through, one, follow, has_both, pick_both}
 use Rattle.jz_grammar.specs.Grammar.{Marked, Lang, plain, token, ◌▸◌, ◌⊕◌, ◌⇒◌}
-use Rattle.jz_grammar.specs.Laws.{Shape, head_of, First, outcome, Found, Stopped, IsReader, plus, HasPhrase, full, Second}
+use Rattle.jz_grammar.proofs.Laws.{Shape, head_of, First, outcome, Found, Stopped, IsReader, HasPhrase, full, Second}
+use Rattle.jz_grammar.specs.Deriving.{plus}
 use Rattle.jz_grammar.proofs.Basics.{in_left, in_right, has_append, in_apart, has_same, head_append, outcome_within, disjoint_nil, cancel, plain_length, bind_err, ok_same, ok_err, err_ok, through_err}
 use Rattle.jz_grammar.proofs.Combine.{one_is, one_reads, follow_reads, map_reads, not_empty, shorter}
 

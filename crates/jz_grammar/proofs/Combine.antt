@@ -5,9 +5,10 @@ use Rattle.jz_lex.specs.declared.token.Token.{Token}
 use Rattle.jz_lex.specs.Span.{Span}
 use Rattle.jz_grammar.specs.Causes.{Cause, Unexpected, TooDeep}
 use Rattle.jz_grammar.specs.Kinds.{Kind, same, disjoint, is_in, has}
-use Rattle.jz_grammar.specs.Reading.{Answer, Reader, ◌>>=◌, through, one, nothing, follow, pick, nest, many_at, many, leaf, opening, inside, optional}
+use Rattle.jz_grammar.specs.InnerReading.{Answer, Reader, ◌>>=◌, through, one, nothing, follow, pick, nest, many_at, many, leaf, opening, inside, optional}
 use Rattle.jz_grammar.specs.Grammar.{Marked, Lang, plain, token, empty, ◌▸◌, ◌⊕◌, ◌⇒◌, nested_phrase, each, at_most, opens, maybe}
-use Rattle.jz_grammar.specs.Laws.{Shape, head_of, First, outcome, Next, Begun, Found, Stopped, IsReader, plus, HasPhrase, one_shape, empty_shape, both, either, full, many_shape}
+use Rattle.jz_grammar.proofs.Laws.{Shape, head_of, First, outcome, Next, Begun, Found, Stopped, IsReader, HasPhrase, one_shape, empty_shape, both, either, full, many_shape}
+use Rattle.jz_grammar.specs.Deriving.{plus}
 use Rattle.jz_grammar.proofs.Basics.{all_in, in_more, has_fewer, in_left, in_right, has_append, in_apart, has_same, head_append, plain_append, plain_rest, within_append, outcome_within, outcome_through, outcome_append, next_more, plus_le, has_join, disjoint_nil, cancel, plain_length, bind_ok, bind_err, ok_same, err_same, ok_err, err_ok, through_err}
 
 -- ---- one token
@@ -244,8 +245,8 @@ pick_reads {A} {f = f} {g = g} {l = l} {m = m} {s = s} {r = r} F G full apart = 
         (λ c. let q = G.stop ts rest k (sym (right ts c) ∙ h) in
         record { pre = q.pre; splits = q.splits; stays = λ other n. right _ (heads q.pre ts rest other q.splits n ∙ c) ∙ q.stays other n; begins = λ e i. let b = q.begins e i in (b.0, b.1, b.2, inr b.3, b.4, b.5, b.6) })
 
--- ---- nested_phrase
--- where nothing more may be nested_phrase, the opening token is refused
+-- ---- nested
+-- where nothing more may be nested, the opening token is refused
 nest_zero_reads : {A : Type 0} (ks : List Kind) (example : Token) → is_in ks example ≡ true → (inner : ℕ → Reader A) (lang : ℕ → Lang A) → HasPhrase lang → (s : Shape) → IsReader (nest ks inner zero) (λ e. nested_phrase ks lang (plus zero e)) (both (one_shape ks) s)
 nest_zero_reads {A} ks example passes inner lang some s = record { first = first; again = again; found = found; stop = stop }
   where

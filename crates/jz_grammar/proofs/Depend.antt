@@ -4,9 +4,9 @@ use Rattle.jz_lex.proofs.LexingWords.{by_cases}
 use Rattle.jz_lex.specs.declared.token.Token.{Token}
 use Rattle.jz_grammar.specs.Causes.{Cause}
 use Rattle.jz_grammar.specs.Kinds.{disjoint, has}
-use Rattle.jz_grammar.specs.Reading.{Answer, Reader, ◌>>=◌, depend}
+use Rattle.jz_grammar.specs.InnerReading.{Answer, Reader, ◌>>=◌, depend}
 use Rattle.jz_grammar.specs.Grammar.{Marked, Lang, plain, then_by}
-use Rattle.jz_grammar.specs.Laws.{Shape, head_of, First, outcome, Found, Stopped, IsReader, HasPhrase, both}
+use Rattle.jz_grammar.proofs.Laws.{Shape, head_of, First, outcome, Found, Stopped, IsReader, HasPhrase, both}
 use Rattle.jz_grammar.proofs.Basics.{in_left, in_right, has_append, in_apart, head_append, plain_append, plain_rest, within_append, outcome_append, next_more, bind_ok, bind_err, ok_same, ok_err}
 
 pub depend_reads : {A B : Type 0} {f : Reader A} {g : A → Reader B} {l : ℕ → Lang A} {m : A → ℕ → Lang B} {s r : Shape} → IsReader f l s → ((a : A) → IsReader (g a) (m a) r) → ((a : A) → HasPhrase (m a)) → disjoint r.starts s.goes ≡ true → IsReader (depend f g) (λ e. then_by (l e) (λ a. m a e)) (both s r)

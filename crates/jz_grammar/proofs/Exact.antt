@@ -5,9 +5,10 @@ use Rattle.jz_lex.proofs.LexingWords.{by_cases, if_false, if_true}
 use Rattle.jz_lex.specs.declared.token.Token.{Token}
 use Rattle.jz_grammar.specs.Causes.{Cause, Unexpected, TooDeep}
 use Rattle.jz_grammar.specs.Kinds.{has}
-use Rattle.jz_grammar.specs.Reading.{Answer, Reader, final}
+use Rattle.jz_grammar.specs.InnerReading.{Answer, Reader, final}
 use Rattle.jz_grammar.specs.Grammar.{Marked, Lang, plain, Within}
-use Rattle.jz_grammar.specs.Laws.{Shape, outcome, Next, Begun, IsReader, plus, Derives, Begins, BeginsWithin, IsRefused}
+use Rattle.jz_grammar.proofs.Laws.{Shape, outcome, Next, Begun, IsReader}
+use Rattle.jz_grammar.specs.Deriving.{plus, Derives, Begins, BeginsWithin, IsRefused}
 use Rattle.jz_grammar.proofs.Basics.{plain_append, plain_rest, outcome_within, plain_length, ok_same, err_same, ok_err}
 use Rattle.jz_grammar.proofs.Both.{outcome_rest}
 

@@ -15,3 +15,4 @@ pub use Rattle.jz_lex.proofs.LexingWords
 pub use Rattle.jz_lex.proofs.Lists
 pub use Rattle.jz_lex.proofs.Residues
 pub use Rattle.jz_lex.proofs.Texts
+pub mod Laws

@@ -5,9 +5,10 @@ use Rattle.jz_lex.specs.declared.token.Token.{Token}
 use Rattle.jz_lex.specs.declared.token.TokenKind.TheVariants as kind
 use Rattle.jz_lex.specs.Size.TheVariants.{S64}
 use Rattle.jz_grammar.specs.Kinds.{Kind, identifier, word, number, cast, string, sign, end, is_in}
-use Rattle.jz_grammar.specs.Reading.{leaf}
+use Rattle.jz_grammar.specs.InnerReading.{leaf}
 use Rattle.jz_grammar.specs.Grammar.{Lang, token, ◌▸◌, ◌⊕◌, ◌⇒◌, each, maybe, then_by, each_by}
-use Rattle.jz_grammar.specs.Laws.{IsReader, HasPhrase, plus, one_shape}
+use Rattle.jz_grammar.proofs.Laws.{IsReader, HasPhrase, one_shape}
+use Rattle.jz_grammar.specs.Deriving.{plus}
 use Rattle.jz_grammar.proofs.Basics.{same_self}
 use Rattle.jz_grammar.proofs.Combine.{leaf_reads}
 

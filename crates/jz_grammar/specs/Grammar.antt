@@ -1,11 +1,11 @@
 -- Grammars: which lists of tokens stand for which values. A token of a list is marked with how much
--- could still be nested_phrase at it.
+-- could still be nested at it.
 use Rattle.std.specs.Prelude.{◌≡◌, ◌≤◌, ◌⊎◌, ℕ, zero, suc, List, [], ◌∷◌, ◌++◌, map, true, Option, Some, None}
 use Rattle.jz_lex.specs.declared.token.Token.{Token}
 use Rattle.jz_lex.specs.Span.{Span}
 use Rattle.jz_grammar.specs.Kinds.{Kind, is_in}
 
--- a token, and how much may still be nested_phrase at it
+-- a token, and how much may still be nested at it
 abbrev pub Marked : Type 0
 Marked = Token × ℕ
 
@@ -44,7 +44,7 @@ only holds l xs a = l xs a × holds a
 abbrev pub never : {A : Type 0} → Lang A
 never xs a = ⊥
 
--- a token, and what is nested_phrase in it, of what may still be nested_phrase
+-- a token, and what is nested in it, of what may still be nested
 abbrev pub nested_phrase : {A : Type 0} → List Kind → (ℕ → Lang A) → ℕ → Lang (Token × A)
 nested_phrase ks inner zero = never
 nested_phrase ks inner (suc d) = token ks d ▸ inner d
@@ -72,12 +72,12 @@ each_by l after s xs (a ∷ as') = (ys : List Marked) × (zs : List Marked) × l
 abbrev pub plain : List Marked → List Token
 plain xs = map (λ x. x.0) xs
 
--- nothing at these tokens is nested_phrase too deep, where e could still be nested_phrase at the limit
+-- nothing at these tokens is nested too deep, where e could still be nested at the limit
 abbrev pub Within : ℕ → List Marked → Type 0
 Within e [] = Unit {0}
 Within e (x ∷ xs) = (e ≤ x.1) × Within e xs
 
--- where a token stands, and what is nested_phrase in it
+-- where a token stands, and what is nested in it
 abbrev pub opens : {A : Type 0} → List Kind → (ℕ → Lang A) → ℕ → Lang (Span × A)
 opens ks inner d = nested_phrase ks inner d ⇒ (λ p. (p.0.span, p.1))
 

@@ -1,11 +1,12 @@
 pub mod Causes
 pub mod Kinds
-pub mod Reading
+pub mod InnerReading
 pub mod Grammar
-pub mod Laws
 pub mod Places
 pub mod Tokens
-pub mod Gave
+pub mod InnerGave
+pub mod InnerTokens
+pub mod Parts
 pub use Rattle.jz_lex.specs.Ct
 pub use Rattle.jz_lex.specs.Failure
 pub use Rattle.jz_lex.specs.Failures
@@ -22,3 +23,4 @@ pub use Rattle.jz_lex.specs.declared.token.LexFault
 pub use Rattle.jz_lex.specs.declared.token.LexKind
 pub use Rattle.jz_lex.specs.declared.token.Token
 pub use Rattle.jz_lex.specs.declared.token.TokenKind
+pub mod Deriving

@@ -52,7 +52,7 @@ pub fn counter_values(
     Ok(Values { down, next, end })
 }
 
-// The value behind this one, if this one is a value of the counter.
+/// The value behind this one, if this one is a value of the counter.
 fn behind(down: bool, value: i128, end: i128) -> Option<i128>
     ensures { MatchOption result (values_between down value end ≡ [])
         (λ next. values_between down value end ≡ value ∷ values_between down next end) }

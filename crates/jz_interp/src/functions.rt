@@ -16,9 +16,10 @@ use jz_run_assign::{set, value_of};
 use jz_tree::{Failure, Fun, Param, Seq, Var, Word};
 use std::alloc::AllocError;
 
-// The parameters have the argument words.
+/// The parameters have the argument words.
 fn give_words(params: &Seq<Param>, words: &Seq<Word>, store: &mut Store) -> Result<(), AllocError>
-    ensures { let given = runs.with_arguments params.now (values_of words.now) (store_of store.old) in
+    ensures { let values = values_of words.now in
+        let given = runs.with_arguments params.now values (store_of store.old) in
         OnOk result (store_of store.new ≡ given) }
 {
     for (i, param) in params.as_slice().iter().enumerate() {
@@ -30,7 +31,7 @@ fn give_words(params: &Seq<Param>, words: &Seq<Word>, store: &mut Store) -> Resu
     Ok(())
 }
 
-// The word of a variable that is returned.
+/// The word of a variable that is returned.
 fn result_word(var: &Var, store: &Store) -> Result<Word, Stuck>
     ensures { word_seen result ≡ runs.result_word var.now (store_of store.now) }
 {
@@ -44,7 +45,7 @@ fn result_word(var: &Var, store: &Store) -> Result<Word, Stuck>
     }
 }
 
-// The words of the variables that are returned.
+/// The words of the variables that are returned.
 fn result_words(vars: &Seq<Var>, store: &Store) -> Result<Seq<Word>, Failure<Stuck>>
     ensures { let words = runs.result_words vars.now (store_of store.now) in
         IfAnswered result (λ r. words_seen r ≡ words) }
@@ -57,7 +58,7 @@ fn result_words(vars: &Seq<Var>, store: &Store) -> Result<Seq<Word>, Failure<Stu
     Ok(words)
 }
 
-// The run of its body, and the words that it returns.
+/// The run of its body, and the words that it returns.
 fn run_body_of(
     code: &Code<'_>,
     function: &Fun,
@@ -65,7 +66,8 @@ fn run_body_of(
     memory: MemMap,
     fuel: u64,
 ) -> Result<Outcome, Failure<Stuck>>
-    ensures { let run = BodyShows code.now.funs.now function.now (values_of words.now) memory fuel in
+    ensures { let funs = code.now.funs.now in
+        let run = BodyShows funs function.now (values_of words.now) memory fuel in
         IfAnswered result (λ r. run (outcome_of r)) }
 {
     let mut store = Store::new(code.alloc);
@@ -89,7 +91,8 @@ pub fn run_function(
     memory: MemMap,
     fuel: u64,
 ) -> Result<Outcome, AllocError>
-    ensures { let run = BodyShows code.now.funs.now function.now (values_of words.now) memory fuel in
+    ensures { let funs = code.now.funs.now in
+        let run = BodyShows funs function.now (values_of words.now) memory fuel in
         IfOk result run }
 {
     match run_body_of(code, function, words, memory, fuel) {

@@ -1,4 +1,4 @@
--- The walk over what is shown_walk of a leak that fits a transformer is what the transformer makes of the leak.
+-- The walk over what is shown of a leak that fits a transformer is what the transformer makes of the leak.
 use Rattle.std.proofs.Common.{◌≡◌, ℕ, Bool, true, false, if◌then◌else◌, List, [], ◌∷◌, ◌++◌, refl, sym, ap, ◌∙◌, append_assoc, append-nil}
 use Rattle.std.specs.Prelude.{map}
 use Rattle.jz_leak.specs.declared.event.Event.{Event}
@@ -195,7 +195,7 @@ mutual
   rounds_applied (round_cut a) rsp0 (t ∷ ts) h = last_made _ _ (tree_made a rsp0 t true h.0 (items_applied a rsp0 t.cases h.1))
 
 -- ---- what `apply` meets
--- the walk over a body, where what is shown_walk is a leak that fits
+-- the walk over a body, where what is shown is a leak that fits
 body_applied : (tr : Transformer) (leak : ShownLeak) (rsp0 : ℕ) (l : Leak) → shown_of l ≡ leak → Fits tr l → leak_walk rsp0 leak tr.body ≡ made (body_events l rsp0 tr.body.cases) (is_cut l)
 body_applied tr leak rsp0 l e f = ap (λ x. leak_walk rsp0 x tr.body) (sym e) ∙ leak_walk_is rsp0 (items_of l) tr.body ∙ items_applied l rsp0 tr.body.cases f.body
 

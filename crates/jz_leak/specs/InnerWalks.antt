@@ -26,7 +26,7 @@ pub record Walk : Type 0 where
 abbrev pub done : Walk
 done = record { events = []; reach = End }
 
--- nothing was shown_walk, and nothing follows
+-- nothing was shown, and nothing follows
 abbrev pub stopped_walk : Walk
 stopped_walk = record { events = []; reach = Stop }
 
@@ -74,7 +74,8 @@ module _ (rsp0 : ℕ) where
       })
   layer_walk (Item-F.For rounds) (Case-F.For trs) = walk_in_step rounds trs
   layer_walk (Item-F.Call ns callee ms) (Case-F.Call arguments body results) =
-      (shown_walk (events_for ns rsp0 arguments) ▹ callee body) ▹ shown_walk (events_for ms rsp0 results)
+      (shown_walk (events_for ns rsp0 arguments) ▹ callee body)
+      ▹ shown_walk (events_for ms rsp0 results)
   layer_walk _ _ = stopped_walk
 
   abbrev pub item_step : Item-F (Case → Walk) (Tr → Walk) (Loop → Walk) → Case → Walk

@@ -26,14 +26,46 @@ abbrev mutual
   items_of (called_cut ns b) = item.Call ns (record { items = items_of b }) [] ∷ []
 
   pub turns_of : Turns → List Turn
-  turns_of (left p ns) = record { prologue = record { items = items_of p }; numbers = ns; more = false; body = record { items = [] } } ∷ []
+  turns_of (left p ns) =
+      record {
+        prologue = record { items = items_of p };
+        numbers = ns;
+        more = false;
+        body = record { items = [] };
+      }
+      ∷ []
   turns_of (turn p ns b ts) =
-      record { prologue = record { items = items_of p }; numbers = ns; more = true; body = record { items = items_of b } } ∷ turns_of ts
-  turns_of (prologue_cut p) = record { prologue = record { items = items_of p }; numbers = []; more = false; body = record { items = [] } } ∷ []
+      record {
+        prologue = record { items = items_of p };
+        numbers = ns;
+        more = true;
+        body = record { items = items_of b };
+      }
+      ∷ turns_of ts
+  turns_of (prologue_cut p) =
+      record {
+        prologue = record { items = items_of p };
+        numbers = [];
+        more = false;
+        body = record { items = [] };
+      }
+      ∷ []
   turns_of (wanted p ns) =
-      record { prologue = record { items = items_of p }; numbers = ns; more = true; body = record { items = item.Cut ∷ [] } } ∷ []
+      record {
+        prologue = record { items = items_of p };
+        numbers = ns;
+        more = true;
+        body = record { items = item.Cut ∷ [] };
+      }
+      ∷ []
   turns_of (body_cut p ns b) =
-      record { prologue = record { items = items_of p }; numbers = ns; more = true; body = record { items = items_of b } } ∷ []
+      record {
+        prologue = record { items = items_of p };
+        numbers = ns;
+        more = true;
+        body = record { items = items_of b };
+      }
+      ∷ []
 
   pub rounds_of : Rounds → List ShownLeak
   rounds_of no_round = []
@@ -50,4 +82,5 @@ ShowsFitting tr shown = (l : Leak) × (shown_of l ≡ shown) × Fits tr l
 
 -- where what is shown is a leak that fits the transformer, these are the events that it gives of it
 abbrev pub AreEventsOf : Transformer → ShownLeak → ℕ → List Event → Type 0
-AreEventsOf tr shown rsp0 events = (l : Leak) → shown_of l ≡ shown → Fits tr l → events ≡ apply_of tr l rsp0
+AreEventsOf tr shown rsp0 events =
+    (l : Leak) → shown_of l ≡ shown → Fits tr l → events ≡ apply_of tr l rsp0

@@ -100,7 +100,8 @@ impl MemMap {
     /// nothing.
     pub fn store(&mut self, addr: u64, size: Size, value: u64) -> bool
         ensures valid { result ≡ all_valid self.old addr (bytes_of size) }
-        ensures bytes { self.new ≡ (if result then stored self.old addr (bytes_of size) value else self.old) }
+        ensures bytes { self.new ≡ (if result
+            then stored self.old addr (bytes_of size) value else self.old) }
     {
         let count = byte_count(size);
         if !self.are_valid(addr, count) {

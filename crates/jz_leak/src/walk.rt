@@ -84,7 +84,8 @@ fn emit(
     numbers: &Seq<u64>,
     outs: &Seq<Out>,
 ) -> Result<(), AllocError>
-    ensures { OnOk result (events.new.items ≡ events.old.items ++ events_for numbers.now rsp outs.now) }
+    ensures { OnOk result (events.new.items
+        ≡ events.old.items ++ events_for numbers.now rsp outs.now) }
 {
     for out in outs.as_slice() {
         events.push(event(numbers.as_slice(), rsp, *out))?;

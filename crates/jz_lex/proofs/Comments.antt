@@ -6,7 +6,7 @@ use Rattle.std.specs.List.{take_while}
 use Rattle.std.proofs.lemmas.Bool.{and_parts, or_left, or_right}
 use Rattle.jz_lex.specs.LexingWords.{begins, heads}
 use Rattle.jz_lex.specs.Lexing.{is_blank, in_line, IsLineComment, IsBlockComment, IsSkipped, begins_comment, HasNone}
-use Rattle.jz_lex.specs.LexingFront.{before_end, IsFront}
+use Rattle.jz_lex.specs.InnerFront.{before_end, IsFront}
 use Rattle.jz_lex.specs.declared.token.LexKind.TheVariants.{OpenComment}
 use Rattle.jz_lex.specs.declared.front.Front.TheVariants as front
 use Rattle.jz_lex.proofs.LexingWords.{by_cases, true_false, if_true, if_false, begins_split, begins_self, behind, behind_ends, run, while_true, same_run, beginning, cut, eq_is, le_is}

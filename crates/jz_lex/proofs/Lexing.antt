@@ -2,7 +2,7 @@
 use Rattle.std.proofs.Common.{◌≡◌, ℕ, ◌<◌, ◌≤◌, List, [], ◌∷◌, ◌++◌, length, true, false, refl, sym, ap, ap₂, ◌∙◌, subst, arith, length-append}
 use Rattle.jz_lex.specs.LexingWords.{is_lexeme, kind_of_word}
 use Rattle.jz_lex.specs.Lexing.{begins_comment, IsSkipped, Longest, is_no_number, Part, Skipped, Lexeme, first_place, after, UpTo, IsLexed, HasNoToken}
-use Rattle.jz_lex.specs.LexingFront.{shape_of, IsFront}
+use Rattle.jz_lex.specs.InnerFront.{shape_of, IsFront}
 use Rattle.jz_io.specs.declared.span.Span.{Span}
 use Rattle.jz_lex.specs.declared.token.Token.{Token}
 use Rattle.jz_lex.specs.declared.token.TokenKind.TheVariants as kind

@@ -9,7 +9,7 @@ use Rattle.std.specs.Char.{is_ascii_alphabetic}
 use Rattle.std.proofs.lemmas.Bool.{and_parts, or_left, or_right}
 use Rattle.jz_lex.specs.LexingWords.{keywords, casts, signs, suffixed_signs, is_among, heads, begins_word, in_word, is_digit, is_word, is_numeral, in_string, inner, is_string, is_sign, is_lexeme, value_of_numeral, word_kind, cast_kind, kind_of_word}
 use Rattle.jz_lex.specs.Lexing.{is_blank, begins_comment, Longest, is_no_number, HasNone}
-use Rattle.jz_lex.specs.LexingFront.{kept_number, first_of, sign_of, string_length, numeral_length, shape_of, IsFront}
+use Rattle.jz_lex.specs.InnerFront.{kept_number, first_of, sign_of, string_length, numeral_length, shape_of, IsFront}
 use Rattle.jz_lex.specs.declared.token.TokenKind.{TokenKind}
 use Rattle.jz_lex.specs.declared.token.TokenKind.TheVariants.{Ident, Keyword, Num, Cast, Str, Sign}
 use Rattle.jz_words.specs.declared.size.Size.{Size}

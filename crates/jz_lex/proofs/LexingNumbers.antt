@@ -7,7 +7,7 @@ use Rattle.std.proofs.lemmas.Int.Digits.{number_after_ge}
 use Rattle.std.proofs.Math.Seq.{drop-length}
 use Rattle.std.proofs.lemmas.Bool.{lt-ltb, le-ltb}
 use Rattle.jz_lex.specs.LexingWords.{digits_number}
-use Rattle.jz_lex.specs.LexingFront.{wide_number}
+use Rattle.jz_lex.specs.InnerFront.{wide_number}
 
 -- the number that these bytes write behind the digits of n
 unfoldable pub rest_value : ℕ → ℕ → List ℕ → ℕ

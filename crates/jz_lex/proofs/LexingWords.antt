@@ -8,7 +8,7 @@ use Rattle.std.proofs.lemmas.Slice.Eq.{bytes_eq-Decides}
 use Rattle.std.proofs.lemmas.Bool.{and_parts, or_left, or_right}
 use Rattle.jz_lex.specs.LexingWords.{casts, signs, suffixed_signs, is_among, begins, heads, begins_word, in_word, is_digit, in_decimal, is_hex_digit, in_hexadecimal, is_word, is_decimal, is_hexadecimal, is_numeral, in_string, inner, is_string, is_sign, is_lexeme}
 use Rattle.jz_lex.specs.Lexing.{is_blank, Longest}
-use Rattle.jz_lex.specs.LexingFront.{fits, first_of, longer, sign_of, numeral_length}
+use Rattle.jz_lex.specs.InnerFront.{fits, first_of, longer, sign_of, numeral_length}
 
 -- ---- tests
 pub by_cases : (P : Type 0) (b : Bool) → (b ≡ true → P) → (b ≡ false → P) → P

@@ -1,6 +1,6 @@
 pub mod LexingWords
 pub mod Lexing
-pub mod LexingFront
+pub mod InnerFront
 pub mod Identifiers
 pub use Rattle.jz_data.specs.Failures
 pub use Rattle.jz_data.specs.Laws

@@ -3,7 +3,7 @@
 ghost use Rattle.std.specs.Prelude.{◌≡◌, ◌≤◌, ◌+◌, IfSome, length};
 ghost use Rattle.std.specs.List.{take_while};
 ghost use Rattle.jz_lex.specs.Lexing.{in_line};
-ghost use Rattle.jz_lex.specs.LexingFront.{before_end};
+ghost use Rattle.jz_lex.specs.InnerFront.{before_end};
 
 use super::table::begins;
 

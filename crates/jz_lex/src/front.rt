@@ -4,7 +4,7 @@ ghost use Rattle.std.specs.Prelude.{◌≡◌, ◌<◌, ◌+◌, true, false, le
 ghost use Rattle.std.specs.Char.{is_ascii_alphabetic};
 ghost use Rattle.jz_lex.specs.Lexing.{is_blank, begins_comment};
 ghost use Rattle.jz_lex.specs.LexingWords.{begins, heads, begins_word, is_digit, casts};
-ghost use Rattle.jz_lex.specs.LexingFront.{first_of, numeral_length, IsFront};
+ghost use Rattle.jz_lex.specs.InnerFront.{first_of, numeral_length, IsFront};
 
 use super::bytes::{
     begins_word, decimal_length, hexadecimal_length, is_blank, is_digit, is_hex_digit, word_length,
@@ -35,7 +35,7 @@ pub(super) enum Front {
     NoToken(LexKind),
 }
 
-#[tactic(auto, unfolding(crate::specs::LexingFront::numeral_length))]
+#[tactic(auto, unfolding(crate::specs::InnerFront::numeral_length))]
 fn numeral_length(text: &[u8]) -> usize
     requires { heads is_digit text.now ≡ true }
     ensures { result ≡ numeral_length text.now }

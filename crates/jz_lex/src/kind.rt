@@ -3,7 +3,7 @@
 ghost use Rattle.std.specs.Prelude.{◌≡◌, ◌≤◌, [], true, length, IfOk};
 ghost use Rattle.std.specs.Str.{IsAscii};
 ghost use Rattle.jz_lex.specs.LexingWords.{keywords, is_among, inner, is_lexeme, cast_kind, kind_of_word};
-ghost use Rattle.jz_lex.specs.LexingFront.{shape_of};
+ghost use Rattle.jz_lex.specs.InnerFront.{shape_of};
 
 use super::front::Shape;
 use super::table::begins;

@@ -28,7 +28,8 @@ pub fn one_fault()
 /// Among the tokens of a text its end is the last one, and no other.
 pub fn end_stands_last()
     ensures { (text : List ℕ) (tokens : List Token) → IsLexed text tokens →
-        (before : List Token) × (e : Span) × (tokens ≡ before ++ record { kind = kind.End; span = e } ∷ [])
+        (before : List Token) × (e : Span)
+        × (tokens ≡ before ++ record { kind = kind.End; span = e } ∷ [])
         × All (λ t. t.kind ≡ kind.End → ⊥) before }
 {}
 
@@ -45,7 +46,8 @@ pub fn identifiers_have_word_bytes()
 /// The place behind bytes of a text: its line is one more than their line feeds, and its column one
 /// more than the bytes behind the last of these.
 pub fn places_count_line_feeds()
-    ensures line { (bytes : List ℕ) → (after first_place bytes).line ≡ 1 + count_by (λ b. b == 10) bytes }
+    ensures line { (bytes : List ℕ)
+        → (after first_place bytes).line ≡ 1 + count_by (λ b. b == 10) bytes }
     ensures column { (bytes : List ℕ)
         → (after first_place bytes).col ≡ 1 + suffix_len (λ b. not (b == 10)) bytes }
 {}

@@ -2,7 +2,7 @@
 
 ghost use Rattle.std.specs.Prelude.{◌≡◌, ◌≤◌, ◌<◌, ◌+◌, ◌*◌, ◌^◌, SomeIff};
 ghost use Rattle.jz_lex.specs.LexingWords.{value_of_numeral, digits_number};
-ghost use Rattle.jz_lex.specs.LexingFront.{kept_number, wide_number};
+ghost use Rattle.jz_lex.specs.InnerFront.{kept_number, wide_number};
 
 /// The number that a numeral writes, if it is at most 2^127 - 1.
 #[tactic(auto, unfolding(crate::specs::LexingWords::value_of_numeral))]

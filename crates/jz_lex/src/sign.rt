@@ -2,7 +2,7 @@
 
 ghost use Rattle.std.specs.Prelude.{◌≡◌, length, option_map, true, false};
 ghost use Rattle.jz_lex.specs.LexingWords.{casts, signs, suffixed_signs};
-ghost use Rattle.jz_lex.specs.LexingFront.{first_of, sign_of};
+ghost use Rattle.jz_lex.specs.InnerFront.{first_of, sign_of};
 
 use super::table::first_length;
 

@@ -3,7 +3,7 @@
 ghost use Rattle.std.specs.Prelude.{◌≡◌, ◌≤◌, ◌<◌, ◌==◌, IsTrue, IfSome, length};
 ghost use Rattle.std.specs.List.{take_while};
 ghost use Rattle.jz_lex.specs.LexingWords.{heads, in_string};
-ghost use Rattle.jz_lex.specs.LexingFront.{string_length};
+ghost use Rattle.jz_lex.specs.InnerFront.{string_length};
 
 #[tactic(auto, unfolding(crate::specs::LexingWords::in_string))]
 fn in_string(byte: u8) -> bool
@@ -30,7 +30,7 @@ fn begins_with_quote(text: &[u8]) -> bool
 
 /// How long the string is whose quote stands before this text, without that quote; none if its line
 /// does not close it.
-#[tactic(auto, using(crate::proofs::LexingWords::run_within), unfolding(crate::specs::LexingFront::string_length))]
+#[tactic(auto, using(crate::proofs::LexingWords::run_within), unfolding(crate::specs::InnerFront::string_length))]
 pub(super) fn string_length(text: &[u8]) -> Option<usize>
     ensures value { result ≡ string_length text.now }
     ensures within { IfSome result (λ n. n ≤ length text.now) }

@@ -2,7 +2,7 @@
 
 ghost use Rattle.std.specs.Prelude.{◌≡◌, ◌≤◌, IsTrue, length, map, option_map};
 ghost use Rattle.jz_lex.specs.LexingWords.{begins, heads, in_word};
-ghost use Rattle.jz_lex.specs.LexingFront.{fits, first_of};
+ghost use Rattle.jz_lex.specs.InnerFront.{fits, first_of};
 
 use super::bytes::in_word;
 
@@ -31,7 +31,8 @@ fn fits(apart: bool, word: &str, text: &[u8]) -> bool
 /// How long the first of these words is that stands at the front of the text; if they are to stand
 /// apart, the text does not go on with a byte of a name behind it.
 pub(super) fn first_length(apart: bool, words: &[&str], text: &[u8]) -> Option<usize>
-    ensures { result ≡ option_map (λ w. length w) (first_of apart (map (λ w. w.now) words.now) text.now) }
+    ensures { result
+        ≡ option_map (λ w. length w) (first_of apart (map (λ w. w.now) words.now) text.now) }
 {
     for word in words {
         if fits(apart, word, text) {

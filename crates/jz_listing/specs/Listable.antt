@@ -23,7 +23,9 @@ use Rattle.jz_listing.specs.declared.compiled.Compiled.{Compiled}
 
 -- a letter, a digit or an underscore
 abbrev pub is_name_byte : ℕ → Bool
-is_name_byte c = (nat_le 48 c && nat_le c 57) || ((nat_le 65 c && nat_le c 90) || ((c == 95) || (nat_le 97 c && nat_le c 122)))
+is_name_byte c =
+    (nat_le 48 c && nat_le c 57)
+    || ((nat_le 65 c && nat_le c 90) || ((c == 95) || (nat_le 97 c && nat_le c 122)))
 
 -- of these and brackets, as `a[3]`
 abbrev pub is_variable_byte : ℕ → Bool
@@ -66,10 +68,13 @@ parts_fit = list_all (λ fits. fits)
 
 abbrev pub case_layer_fits : Case-F Bool Bool → Bool
 case_layer_fits (Case-F.Op outs) = outs_fit outs
-case_layer_fits (Case-F.If test then_outs then_tr else_outs else_tr) = outs_fit test && (outs_fit then_outs && (then_tr && (outs_fit else_outs && else_tr)))
-case_layer_fits (Case-F.While prologue test more_outs body leave_outs) = prologue && (outs_fit test && (outs_fit more_outs && (body && outs_fit leave_outs)))
+case_layer_fits (Case-F.If test then_outs then_tr else_outs else_tr) =
+    outs_fit test && (outs_fit then_outs && (then_tr && (outs_fit else_outs && else_tr)))
+case_layer_fits (Case-F.While prologue test more_outs body leave_outs) =
+    prologue && (outs_fit test && (outs_fit more_outs && (body && outs_fit leave_outs)))
 case_layer_fits (Case-F.For trs) = parts_fit trs
-case_layer_fits (Case-F.Call arguments body results) = outs_fit arguments && (body && outs_fit results)
+case_layer_fits (Case-F.Call arguments body results) =
+    outs_fit arguments && (body && outs_fit results)
 
 abbrev pub tr_layer_fits : Tr-F Bool Bool → Bool
 tr_layer_fits t = parts_fit t.cases
@@ -91,8 +96,10 @@ IsListableArg a = IsName a.name
 -- a precondition over names, its numbers of 64 bits; a region without a variable has the factor 0,
 -- as its line shows none
 abbrev pub IsListablePre : Pre → Type 0
-IsListablePre (pre.Region pointer factor None constant) = IsName pointer × (factor ≡ 0) × (constant < 2 ^ 64)
-IsListablePre (pre.Region pointer factor (Some variable) constant) = IsName pointer × (factor < 2 ^ 64) × IsName variable × (constant < 2 ^ 64)
+IsListablePre (pre.Region pointer factor None constant) =
+    IsName pointer × (factor ≡ 0) × (constant < 2 ^ 64)
+IsListablePre (pre.Region pointer factor (Some variable) constant) =
+    IsName pointer × (factor < 2 ^ 64) × IsName variable × (constant < 2 ^ 64)
 IsListablePre (pre.Range name low high) = IsName name × (low < 2 ^ 64) × (high < 2 ^ 64)
 IsListablePre (pre.Align pointer multiple) = IsName pointer × (multiple < 2 ^ 64)
 

@@ -57,12 +57,15 @@ ret_line a = codes "ret " ++ arg_text a
 -- how many bytes a region has
 abbrev pub extent_text : ℕ → Option (List ℕ) → ℕ → List ℕ
 extent_text factor None constant = decimal constant
-extent_text factor (Some variable) constant = decimal factor ++ codes "*" ++ variable ++ codes "+" ++ decimal constant
+extent_text factor (Some variable) constant =
+    decimal factor ++ codes "*" ++ variable ++ codes "+" ++ decimal constant
 
 -- what a precondition asks
 abbrev pub pre_text : Pre → List ℕ
-pre_text (pre.Region pointer factor variable constant) = codes "region " ++ pointer ++ codes " " ++ extent_text factor variable constant
-pre_text (pre.Range name low high) = codes "range " ++ name ++ codes " " ++ decimal low ++ codes ".." ++ decimal high
+pre_text (pre.Region pointer factor variable constant) =
+    codes "region " ++ pointer ++ codes " " ++ extent_text factor variable constant
+pre_text (pre.Range name low high) =
+    codes "range " ++ name ++ codes " " ++ decimal low ++ codes ".." ++ decimal high
 pre_text (pre.Align pointer multiple) = codes "align " ++ pointer ++ codes " " ++ decimal multiple
 
 -- its line
@@ -88,7 +91,8 @@ kind_text kind.Divide = codes "Divide"
 
 abbrev pub ct_text : Ct → List ℕ
 ct_text ct.Yes = codes "yes"
-ct_text (ct.No span kind var) = codes "no " ++ span_text span ++ codes " " ++ kind_text kind ++ codes " " ++ var
+ct_text (ct.No span kind var) =
+    codes "no " ++ span_text span ++ codes " " ++ kind_text kind ++ codes " " ++ var
 
 -- what a caller has to know of a function
 abbrev pub interface_text : Compiled → List ℕ
@@ -100,15 +104,18 @@ interface_text c =
 
 -- its frame
 abbrev pub frame_text : Compiled → List ℕ
-frame_text c = codes "frame " ++ decimal c.frame ++ codes "\nsaved" ++ saved_text c.saved ++ codes "\n"
+frame_text c =
+    codes "frame " ++ decimal c.frame ++ codes "\nsaved" ++ saved_text c.saved ++ codes "\n"
 
 -- its code
 abbrev pub code_text : Compiled → List ℕ
-code_text c = codes "insns " ++ decimal c.insns ++ codes "\ncode " ++ encode_lower c.code ++ codes "\n"
+code_text c =
+    codes "insns " ++ decimal c.insns ++ codes "\ncode " ++ encode_lower c.code ++ codes "\n"
 
 -- its leakage
 abbrev pub leakage_text : Compiled → List ℕ
-leakage_text c = codes "tr " ++ transformer_text c.tr ++ codes "\nct " ++ ct_text c.ct ++ codes "\nend\n"
+leakage_text c =
+    codes "tr " ++ transformer_text c.tr ++ codes "\nct " ++ ct_text c.ct ++ codes "\nend\n"
 
 -- the part of the listing for one function
 abbrev pub compiled_text : Compiled → List ℕ

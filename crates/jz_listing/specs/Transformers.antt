@@ -20,12 +20,14 @@ abbrev pub form_text : Form → List ℕ
 form_text (Num n) = decimal n
 form_text (Leaked i) = codes "$" ++ decimal i
 form_text (Frame o) = codes "@" ++ signed_decimal o
-form_text (Indexed o s i) = codes "@" ++ signed_decimal o ++ codes "+" ++ decimal s ++ codes "*$" ++ decimal i
+form_text (Indexed o s i) =
+    codes "@" ++ signed_decimal o ++ codes "+" ++ decimal s ++ codes "*$" ++ decimal i
 
 abbrev pub out_text : Out → List ℕ
 out_text (out.Branch taken) = if taken then codes "b1" else codes "b0"
 out_text (out.Addr a) = codes "a:" ++ form_text a
-out_text (out.Div a b c) = codes "d:" ++ form_text a ++ codes ":" ++ form_text b ++ codes ":" ++ form_text c
+out_text (out.Div a b c) =
+    codes "d:" ++ form_text a ++ codes ":" ++ form_text b ++ codes ":" ++ form_text c
 
 -- a list of events
 unfoldable pub outs_text : List Out → List ℕ
@@ -56,15 +58,19 @@ for_text trs = codes "for(" ++ spaced_pieces trs ++ codes ")"
 
 -- a call
 abbrev pub call_text : List Out → List ℕ → List Out → List ℕ
-call_text arguments body results = codes "call(" ++ outs_text arguments ++ codes " " ++ body ++ spaced_outs_text results ++ codes ")"
+call_text arguments body results =
+    codes "call(" ++ outs_text arguments ++ codes " " ++ body ++ spaced_outs_text results
+    ++ codes ")"
 
 -- a case, by the texts of its trees
 abbrev pub case_layer_text : Case-F (List ℕ) (List ℕ) → List ℕ
 case_layer_text (Case-F.Op outs) = op_text outs
 case_layer_text (Case-F.If test then_outs then_tr else_outs else_tr) =
-    codes "if(" ++ outs_text test ++ arm_text then_outs then_tr ++ arm_text else_outs else_tr ++ codes ")"
+    codes "if(" ++ outs_text test ++ arm_text then_outs then_tr ++ arm_text else_outs else_tr
+    ++ codes ")"
 case_layer_text (Case-F.While prologue test more_outs body leave_outs) =
-    codes "while(" ++ prologue ++ spaced_outs_text test ++ arm_text more_outs body ++ spaced_outs_text leave_outs ++ codes ")"
+    codes "while(" ++ prologue ++ spaced_outs_text test ++ arm_text more_outs body
+    ++ spaced_outs_text leave_outs ++ codes ")"
 case_layer_text (Case-F.For trs) = for_text trs
 case_layer_text (Case-F.Call arguments body results) = call_text arguments body results
 
@@ -80,7 +86,8 @@ tr_text = fold-Tr (List ℕ) (List ℕ) case_layer_text tr_layer_text
 
 -- the transformer of a function: before, body, after
 abbrev pub transformer_text : Transformer → List ℕ
-transformer_text t = outs_text t.before ++ codes " " ++ tr_text t.body ++ codes " " ++ outs_text t.after
+transformer_text t =
+    outs_text t.before ++ codes " " ++ tr_text t.body ++ codes " " ++ outs_text t.after
 
 -- what stands before a piece: a space, but nothing before the first
 abbrev pub separator : ℕ → List ℕ

@@ -1,5 +1,5 @@
--- What private contracts alone say: what is live in code with branches and loops, from the back, for
--- one variable.
+-- What private contracts alone say: what is live in code with branches and loops, from the back,
+-- for one variable.
 use Rattle.std.specs.Prelude.{◌≡◌, ℕ, ◌+◌, List, [], ◌∷◌, ◌++◌, Bool, false, not, ◌&&◌, ◌||◌, Option, Some, None, map, reverse}
 use Rattle.jz_bits.specs.Has.{has, HasExactly}
 use Rattle.jz_ir.specs.declared.code.Op.{Op}

@@ -35,7 +35,8 @@ ReadsAssigned d (Some o) r n = IsLeft d n ⊎ ReadsRight r n
 
 -- what the statement reads, or does not write while it is read behind it
 abbrev pub LivesThrough : StmtKind → (List ℕ → Type 0) → List ℕ → Type 0
-LivesThrough (kind.Assign (d ∷ []) o r) behind n = ReadsAssigned d o r n ⊎ ((IsLeft d n → ⊥) × behind n)
+LivesThrough (kind.Assign (d ∷ []) o r) behind n =
+    ReadsAssigned d o r n ⊎ ((IsLeft d n → ⊥) × behind n)
 LivesThrough (kind.Assign ds o r) behind n = behind n
 
 -- the name is read in the statements or returned behind them, before it is written
@@ -46,7 +47,8 @@ LivesBefore (s ∷ ss) xs n = LivesThrough s.kind (LivesBefore ss xs) n
 module _ (register : List ℕ → Reg) where
   -- what is written stands in another register than all that lives behind
   abbrev pub KeepsApart : StmtKind → (List ℕ → Type 0) → Type 0
-  KeepsApart (kind.Assign (lval.Var x ∷ []) o r) behind = (n : List ℕ) → x.name ≢ n → behind n → register n ≢ register x.name
+  KeepsApart (kind.Assign (lval.Var x ∷ []) o r) behind =
+      (n : List ℕ) → x.name ≢ n → behind n → register n ≢ register x.name
   KeepsApart (kind.Assign ds o r) behind = Unit {0}
 
   abbrev pub KeepApart : List Stmt → List Var → Type 0

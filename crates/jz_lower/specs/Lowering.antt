@@ -1,8 +1,7 @@
 -- The instructions of statements, by the registers in which variables stand.
 use Rattle.std.specs.Prelude.{ℕ, List, [], ◌∷◌, ◌++◌, Option, Some, None}
 use Rattle.jz_first.specs.Size.TheVariants.{S64}
-use Rattle.jz_first.specs.Sizes.{signed}
-use Rattle.jz_first.specs.Words.{residue}
+use Rattle.x64_insn.specs.Readings.{reading_of}
 use Rattle.x64_insn.specs.declared.types.Reg.{Reg}
 use Rattle.x64_insn.specs.declared.types.Alu.{Alu}
 use Rattle.x64_insn.specs.declared.types.Alu.TheVariants as alu
@@ -32,13 +31,15 @@ alu_of op.Sub = alu.Sub
 module _ (register : List ℕ → Reg) where
   -- a number as the signed reading of its 64 bits, a variable as its register
   abbrev pub operand_of : Expr → Operand
-  operand_of (expr.Num i at) = operand.Imm (signed S64 (residue S64 i))
+  operand_of (expr.Num i at) = operand.Imm (reading_of S64 i)
   operand_of (expr.Var x) = operand.Reg (register x.name)
 
   -- `d = e` is MOV, `d op= e` the operation
   abbrev pub assignment_insn : Lval → Option BinOp → Rhs → Insn
-  assignment_insn (lval.Var x) None (rhs.Value e) = insn.Mov S64 (operand.Reg (register x.name)) (operand_of e)
-  assignment_insn (lval.Var x) (Some o) (rhs.Value e) = insn.Alu (alu_of o) S64 (operand.Reg (register x.name)) (operand_of e)
+  assignment_insn (lval.Var x) None (rhs.Value e) =
+      insn.Mov S64 (operand.Reg (register x.name)) (operand_of e)
+  assignment_insn (lval.Var x) (Some o) (rhs.Value e) =
+      insn.Alu (alu_of o) S64 (operand.Reg (register x.name)) (operand_of e)
 
   -- an assignment with another number of left sides than one means nothing, and has none
   abbrev pub kind_insns : StmtKind → List Insn

@@ -38,11 +38,14 @@ number_in vs n = position_or_len (λ v. bytes_eq n v.name) vs
 -- 3.2.1)
 abbrev pub given_places : List Place
 given_places =
-    place.Reg reg.Rax ∷ place.Reg reg.Rcx ∷ place.Reg reg.Rdx ∷ place.Reg reg.Rsi ∷ place.Reg reg.Rdi
+    place.Reg reg.Rax ∷ place.Reg reg.Rcx ∷ place.Reg reg.Rdx ∷ place.Reg reg.Rsi
+    ∷ place.Reg reg.Rdi
     ∷ place.Reg reg.R8 ∷ place.Reg reg.R9 ∷ place.Reg reg.R10 ∷ place.Reg reg.R11 ∷ []
 
 abbrev pub all_flags : List Place
-all_flags = place.Flag flag.Cf ∷ place.Flag flag.Of ∷ place.Flag flag.Sf ∷ place.Flag flag.Pf ∷ place.Flag flag.Zf ∷ []
+all_flags =
+    place.Flag flag.Cf ∷ place.Flag flag.Of ∷ place.Flag flag.Sf ∷ place.Flag flag.Pf
+    ∷ place.Flag flag.Zf ∷ []
 
 -- an instruction of arithmetic or of bits writes each flag, a move none (Intel SDM vol. 2, ADD,
 -- SUB, XOR and MOV)
@@ -124,7 +127,11 @@ operations_of f =
 
 -- each variable is a word
 abbrev pub code_of : Fun → Code
-code_of f = record { ops = operations_of f; kinds = replicate (length (variables_of f)) Word; in_use = given_places }
+code_of f = record {
+  ops = operations_of f;
+  kinds = replicate (length (variables_of f)) Word;
+  in_use = given_places;
+}
 
 -- ---- where each name stands, by the places of the variables
 abbrev pub reg_of : Place → Reg

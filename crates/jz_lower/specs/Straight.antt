@@ -1,9 +1,7 @@
 -- Functions over words of 64 bits whose statements each set one variable.
 use Rattle.std.specs.Prelude.{◌≡◌, true, List, [], ◌∷◌, length, Option, Some, None}
 use Rattle.jz_first.specs.Size.TheVariants.{S64}
-use Rattle.jz_first.specs.Sizes.{signed}
-use Rattle.jz_first.specs.Words.{residue}
-use Rattle.x64_insn.specs.Chosen.{fits_bytes}
+use Rattle.x64_insn.specs.Readings.{fits_bytes, reading_of}
 use Rattle.jz_first.specs.declared.tree.Fun.{Fun}
 use Rattle.jz_first.specs.declared.tree.Param.{Param}
 use Rattle.jz_first.specs.declared.tree.Ret.{Ret}
@@ -47,7 +45,8 @@ SetWords (s ∷ ss) = SetsWord s.kind × SetWords ss
 -- bits
 abbrev pub FitsImmediate : Option BinOp → Rhs → Type 0
 FitsImmediate None r = Unit {0}
-FitsImmediate (Some o) (rhs.Value (expr.Num i at)) = fits_bytes 4 (signed S64 (residue S64 i)) ≡ true
+FitsImmediate (Some o) (rhs.Value (expr.Num i at)) =
+    fits_bytes 4 (reading_of S64 i) ≡ true
 FitsImmediate (Some o) (rhs.Value (expr.Var x)) = Unit {0}
 
 abbrev pub KindFits : StmtKind → Type 0

@@ -1,9 +1,6 @@
 //! The instructions of statements.
 
 ghost use Rattle.std.specs.Prelude.{◌≡◌, ◌<◌, ◌^◌, IfOk, length};
-ghost use Rattle.jz_first.specs.Size.TheVariants.{S64};
-ghost use Rattle.jz_first.specs.Sizes.{signed};
-ghost use Rattle.jz_first.specs.Words.{residue};
 ghost use Rattle.jz_first.specs.Variables.{variables_of};
 ghost use Rattle.jz_lower.specs.Lowering.{alu_of, assignment_insn, insns_of, kind_insns, operand_of};
 ghost use Rattle.jz_lower.specs.InnerNumbers.{IsFor};
@@ -13,7 +10,7 @@ ghost use Rattle.jz_lower.specs.Operations.{register_of};
 use crate::numbers::Numbers;
 use jz_first::{BinOp, Expr, Fun, Lval, Rhs, Seq, Size, StmtKind, Text};
 use std::alloc::{AllocError, Global};
-use x64_insn::{Alu, Insn, Operand, Place, Reg};
+use x64_insn::{Alu, Insn, Operand, Place, Reg, reading};
 
 /// Where the variables of a function stand.
 #[derive(Drop)]
@@ -32,17 +29,8 @@ fn alu_of(op: BinOp) -> Alu
     }
 }
 
-// The signed reading of the number's 64 bits.
-#[tactic(auto, unfolding(jz_first::specs::Sizes::signed))]
-fn signed(number: i128) -> i64
-    ensures { result ≡ signed S64 (residue S64 number) }
-{
-    let low = number.rem_euclid(1 << 64);
-    (low as u64).cast_signed()
-}
-
 impl Registers<'_> {
-    // The register of the variable of that name. RAX stands for a name that no variable has.
+    /// The register of the variable of that name. RAX stands for a name that no variable has.
     fn register(&self, name: &Text) -> Reg
         ensures { IsFor self.now.numbers result (λ vs. register_by self.now vs name.now) }
     {
@@ -57,7 +45,7 @@ impl Registers<'_> {
             (λ vs. operand_of (register_by self.now vs) expr.now) }
     {
         match expr {
-            Expr::Num(number, _) => Operand::Imm(signed(*number)),
+            Expr::Num(number, _) => Operand::Imm(reading(Size::S64, *number) as i64),
             Expr::Var(var) => Operand::Reg(self.register(&var.name)),
         }
     }
@@ -76,7 +64,7 @@ impl Registers<'_> {
         }
     }
 
-    // An assignment with another number of left sides than one has none.
+    /// An assignment with another number of left sides than one has none.
     fn instruction(&self, kind: &StmtKind) -> Option<Insn>
         ensures { IsFor self.now.numbers (insns_in result)
             (λ vs. kind_insns (register_by self.now vs) kind.now) }

@@ -13,7 +13,7 @@ use crate::access::{cell, load, variable};
 use crate::left::{LeftSide, Waiting, left_side, own_size};
 use crate::operators::{binary, cast, inverted_value, is_settled, is_shift, negated_value};
 use crate::state::State;
-use crate::value::{Stuck, Value, defined};
+use crate::value::{Stuck, Value, defined, missing};
 use jz_tree::{BinOp, Expr, Failure, Seq};
 use x64_insn::Size;
 
@@ -117,8 +117,10 @@ fn evaluate_single(
         } => {
             let own = own_size(operand.get());
             let value = evaluate_settled(operand.get(), own, state, out)?;
-            let word = defined(*span, cast(*size, *signed, value))?;
-            Ok(word)
+            match cast(*size, *signed, value) {
+                None => Err(Failure::Refused(missing(*span))),
+                Some(word) => Ok(word),
+            }
         }
         Expr::Bin(_, _, _, _) => unreachable!(),
     }

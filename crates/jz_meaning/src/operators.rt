@@ -12,7 +12,7 @@ ghost use Rattle.jz_meaning.specs.States.{as_value};
 ghost use Rattle.jz_meaning.specs.declared.value.Why.TheVariants as why;
 ghost use Rattle.jz_meaning.specs.States as states;
 
-use crate::value::{Stuck, Value, Why, defined};
+use crate::value::{Stuck, Value, Why, initialized, missing};
 use jz_integers::{Constant, inverted, negated, on_integers};
 use jz_tree::{BinOp, Failure, Seq, Span};
 use std::alloc::AllocError;
@@ -213,7 +213,10 @@ fn on_words(
         BinOp::Rem => remainder(span, a, b, out),
         BinOp::DivS => signed_quotient(span, a, b, out),
         BinOp::RemS => signed_remainder(span, a, b, out),
-        _ => Ok(defined(span, plain(op, a, b))?),
+        _ => match plain(op, a, b) {
+            None => Err(Failure::Refused(missing(span))),
+            Some(value) => Ok(value),
+        },
     }
 }
 
@@ -370,13 +373,13 @@ fn combined(
         Value::Word(a) => beside_word(op, span, a, y, out),
         Value::Int(a) => match y {
             Value::Word(b) => on_words(op, span, residue(b.size(), a), b, out),
-            Value::Int(b) => Ok(defined(span, of_constant(on_integers(op, a, b)))?),
-            Value::Bool(_) => Ok(defined(span, None)?),
+            Value::Int(b) => initialized(span, of_constant(on_integers(op, a, b))),
+            Value::Bool(_) => initialized(span, None),
         },
         Value::Bool(_) => match y {
-            Value::Word(_) => Ok(defined(span, None)?),
-            Value::Int(_) => Ok(defined(span, None)?),
-            Value::Bool(b) => Ok(defined(span, joined(op, b))?),
+            Value::Word(_) => initialized(span, None),
+            Value::Int(_) => initialized(span, None),
+            Value::Bool(b) => initialized(span, joined(op, b)),
         },
     }
 }
@@ -407,11 +410,11 @@ fn beside_word(
             if same_size(a.size(), b.size()) {
                 on_words(op, span, a, b, out)
             } else {
-                Ok(defined(span, None)?)
+                initialized(span, None)
             }
         }
         Value::Int(b) => on_words(op, span, a, residue(a.size(), b), out),
-        Value::Bool(flag) => Ok(defined(span, by_flag(op, a, flag))?),
+        Value::Bool(flag) => initialized(span, by_flag(op, a, flag)),
     }
 }
 
@@ -464,7 +467,7 @@ pub fn binary(
     ensures { Evaluates result out.old out.new (operators.binary op span wanted (as_value x) (as_value y)) }
 {
     if is_shift(op) {
-        Ok(defined(span, shifted(op, wanted, x, y))?)
+        initialized(span, shifted(op, wanted, x, y))
     } else {
         combined(op, span, x, y, out)
     }

@@ -3,9 +3,10 @@ use Rattle.std.proofs.Common.{◌≡◌, ℕ, List, [], ◌∷◌, ◌++◌, Opt
 use Rattle.jz_tree.specs.Span.{Span}
 use Rattle.jz_grammar.specs.Token.{Token}
 use Rattle.jz_grammar.specs.Kinds.{Kind, word, sign, span_of, is_in}
-use Rattle.jz_grammar.specs.Reading.{Answer, Reader, ◌>>=◌, through, follow, many}
+use Rattle.jz_grammar.specs.InnerReading.{Answer, Reader, ◌>>=◌, through, follow, many}
 use Rattle.jz_grammar.specs.Grammar.{Lang, ◌▸◌, ◌⊕◌, ◌⇒◌, each, opens, maybe}
-use Rattle.jz_grammar.specs.Laws.{IsReader, HasPhrase, Shape, full, plus}
+use Rattle.jz_grammar.proofs.Laws.{IsReader, HasPhrase, Shape, full}
+use Rattle.jz_grammar.specs.Deriving.{plus}
 use Rattle.jz_grammar.proofs.Basics.{disjoint_nil}
 use Rattle.jz_grammar.proofs.Combine.{follow_reads, map_reads, pick_reads, inside_reads, optional_reads, many_reads, leaf_reads, reads_as, shaped}
 use Rattle.jz_grammar.proofs.Opening.{HasPhraseAnyway, some_opens}
@@ -20,9 +21,10 @@ use Rattle.jz_parse_expr.specs.Table.{the, key, name, index}
 use Rattle.jz_parse_expr.proofs.Laws.{index_reads}
 use Rattle.jz_parse.specs.NotesTable.{notes}
 use Rattle.jz_parse.proofs.NoteLemmas.{notes_reads, some_notes}
-use Rattle.jz_parse.specs.Trees.{type_of, decl_of, params_all, declared_all, ret_of, joined_lists, or_empty}
+use Rattle.jz_parse.specs.Trees.{type_of, decl_of, params_all, declared_all, ret_of}
+use Rattle.jz_grammar.specs.Parts.{joined_lists, or_empty}
 use Rattle.jz_parse.specs.Grammar as g
-use Rattle.jz_parse.specs.Readers as r
+use Rattle.jz_parse.specs.InnerReaders as r
 
 -- ---- one token
 pub some_the : (s : List ℕ) → HasPhrase (the s)

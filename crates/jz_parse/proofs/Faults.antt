@@ -6,9 +6,10 @@ use Rattle.jz_tree.specs.Span.{Span}
 use Rattle.jz_grammar.specs.Token.{Token}
 use Rattle.jz_grammar.specs.Causes.{Cause}
 use Rattle.jz_grammar.specs.Causes as cause
-use Rattle.jz_grammar.specs.Reading.{Answer, final}
+use Rattle.jz_grammar.specs.InnerReading.{Answer, final}
 use Rattle.jz_grammar.specs.Grammar.{Marked}
-use Rattle.jz_grammar.specs.Laws.{Next, Derives, BeginsWithin, IsRefused}
+use Rattle.jz_grammar.proofs.Laws.{Next}
+use Rattle.jz_grammar.specs.Deriving.{Derives, BeginsWithin, IsRefused}
 use Rattle.jz_grammar.proofs.Combine.{has_nil}
 use Rattle.jz_grammar.proofs.Exact as x
 use Rattle.jz_grammar.proofs.Exact.{compare}
@@ -16,11 +17,11 @@ use Rattle.jz_tree.specs.declared.program.Program.{Program}
 use Rattle.jz_grammar.specs.declared.fault.SyntaxKind.{SyntaxKind}
 use Rattle.jz_grammar.specs.declared.fault.SyntaxKind.TheVariants.{Unexpected, TooDeep}
 use Rattle.jz_grammar.specs.declared.fault.SyntaxFault.{SyntaxFault}
-use Rattle.jz_grammar.specs.Gave.{cause_of, numbered_answer}
+use Rattle.jz_grammar.specs.InnerGave.{cause_of, numbered_answer}
 use Rattle.jz_grammar.specs.Places.{span_at, span_or_start, IsFaultAt}
 use Rattle.jz_parse.specs.Deriving.{IsStoppedAt, IsFaultWithin}
 use Rattle.jz_parse.specs.Grammar as g
-use Rattle.jz_parse.specs.Readers as r
+use Rattle.jz_parse.specs.InnerReaders as r
 use Rattle.jz_parse.proofs.FunctionLaws.{program_shape, program_law}
 
 -- ---- what was read, and what is left

@@ -3,7 +3,8 @@ use Rattle.std.proofs.Common.{ℕ, List, [], ◌∷◌, ◌++◌, Option, None, 
 use Rattle.jz_tree.specs.Span.{Span}
 use Rattle.jz_grammar.specs.Kinds.{Kind, word, sign, end, span_of}
 use Rattle.jz_grammar.specs.Grammar.{Lang, token, ◌▸◌, ◌⇒◌, each, opens, maybe}
-use Rattle.jz_grammar.specs.Laws.{IsReader, HasPhrase, Shape, full, plus}
+use Rattle.jz_grammar.proofs.Laws.{IsReader, HasPhrase, Shape, full}
+use Rattle.jz_grammar.specs.Deriving.{plus}
 use Rattle.jz_grammar.proofs.Combine.{follow_reads, map_reads, pick_reads, inside_reads, optional_reads, many_reads, shaped}
 use Rattle.jz_grammar.proofs.Opening.{HasPhraseAnyway, some_opens}
 use Rattle.jz_grammar.proofs.Samples.{sign_token, sign_in, end_token, end_in, sign_reads, word_reads, identifier_reads, end_reads, some_leaf, some_then, some_map, some_left, some_each, some_maybe, up}
@@ -20,14 +21,15 @@ use Rattle.jz_parse.specs.declared.function.Body.{Body}
 use Rattle.jz_parse_expr.specs.Table.{the, key, name, expr}
 use Rattle.jz_parse_expr.specs.Trees.{used_of}
 use Rattle.jz_parse_expr.proofs.Laws.{expr_reads, some_expr}
-use Rattle.jz_parse.specs.StmtReaders.{stmt_goes}
+use Rattle.jz_parse.specs.InnerStmtReaders.{stmt_goes}
 use Rattle.jz_parse.proofs.NoteLemmas.{notes_reads}
 use Rattle.jz_parse.proofs.StmtReads.{stmt_reads}
 use Rattle.jz_parse.specs.declared.function.Item.TheVariants.{Declares, Does}
 use Rattle.jz_parse.specs.declared.program.Part.TheVariants.{Constant, Function}
-use Rattle.jz_parse.specs.Trees.{or_empty, vars_in, stmts_in, body_of, fun_of, const_of, consts_in, funs_in, program_of}
+use Rattle.jz_parse.specs.Trees.{vars_in, stmts_in, body_of, fun_of, const_of, consts_in, funs_in, program_of}
+use Rattle.jz_grammar.specs.Parts.{or_empty}
 use Rattle.jz_parse.specs.Grammar as g
-use Rattle.jz_parse.specs.Readers as r
+use Rattle.jz_parse.specs.InnerReaders as r
 use Rattle.jz_parse.proofs.DeclareLaws.{some_the, some_key, some_name, any_the, comma_law, params_law, some_params, results_law, some_results, decl_law}
 
 -- ---- declarations and statements

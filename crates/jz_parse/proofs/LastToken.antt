@@ -5,7 +5,7 @@ use Rattle.jz_grammar.specs.Token.{Token}
 use Rattle.jz_grammar.specs.TokenKind.TheVariants.{End}
 use Rattle.jz_grammar.specs.Kinds.{token_kind, end, member, is_in}
 use Rattle.jz_grammar.specs.Grammar.{Marked, plain, Within}
-use Rattle.jz_grammar.specs.Laws.{Derives, plus}
+use Rattle.jz_grammar.specs.Deriving.{Derives, plus}
 use Rattle.jz_grammar.proofs.Basics.{outcome_within}
 use Rattle.jz_grammar.proofs.Combine.{has_nil}
 use Rattle.jz_grammar.proofs.Exact as x
@@ -13,7 +13,7 @@ use Rattle.jz_tree.specs.declared.program.Program.{Program}
 use Rattle.jz_grammar.specs.declared.fault.SyntaxFault.{SyntaxFault}
 use Rattle.jz_parse.specs.Deriving.{IsStoppedAt, IsFaultWithin}
 use Rattle.jz_parse.specs.Grammar as g
-use Rattle.jz_parse.specs.Readers as r
+use Rattle.jz_parse.specs.InnerReaders as r
 use Rattle.jz_parse.proofs.Endless.{NoEnd, parts}
 use Rattle.jz_parse.proofs.FunctionLaws.{program_shape, program_law}
 

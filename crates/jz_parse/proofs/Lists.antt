@@ -4,9 +4,9 @@ use Rattle.jz_tree.specs.Span.{Span}
 use Rattle.jz_grammar.specs.Token.{Token}
 use Rattle.jz_grammar.specs.Causes.{Cause}
 use Rattle.jz_grammar.specs.Kinds.{Kind, token_kind, word, sign, is_in, has}
-use Rattle.jz_grammar.specs.Reading.{Answer, Reader, ◌>>=◌, through, many}
+use Rattle.jz_grammar.specs.InnerReading.{Answer, Reader, ◌>>=◌, through, many}
 use Rattle.jz_grammar.specs.Grammar.{Lang}
-use Rattle.jz_grammar.specs.Laws.{IsReader, full}
+use Rattle.jz_grammar.proofs.Laws.{IsReader, full}
 use Rattle.jz_grammar.proofs.Basics.{member_append}
 use Rattle.jz_grammar.proofs.Combine.{shorter, many_next, many_done}
 use Rattle.jz_grammar.proofs.Samples.{identifier_reads}
@@ -18,14 +18,15 @@ use Rattle.jz_tree.specs.declared.program.Fun.{Fun}
 use Rattle.jz_tree.specs.declared.program.Param.{Param}
 use Rattle.jz_tree.specs.declared.program.Ret.{Ret}
 use Rattle.jz_tree.specs.declared.stmt.Stmt.{Stmt}
-use Rattle.jz_parse_expr.specs.Readers.{name}
-use Rattle.jz_parse.specs.StmtReaders.{stmt_starts, stmt_goes}
+use Rattle.jz_grammar.specs.InnerTokens.{name}
+use Rattle.jz_parse.specs.InnerStmtReaders.{stmt_starts, stmt_goes}
 use Rattle.jz_parse.specs.declared.function.Item.{Item}
 use Rattle.jz_parse.specs.declared.function.Item.TheVariants.{Declares, Does}
 use Rattle.jz_parse.specs.declared.program.Part.{Part}
 use Rattle.jz_parse.specs.declared.program.Part.TheVariants.{Constant, Function}
-use Rattle.jz_parse.specs.Trees.{joined_lists, vars_in, stmts_in, consts_in, funs_in}
-use Rattle.jz_parse.specs.Readers as r
+use Rattle.jz_parse.specs.Trees.{vars_in, stmts_in, consts_in, funs_in}
+use Rattle.jz_grammar.specs.Parts.{joined_lists}
+use Rattle.jz_parse.specs.InnerReaders as r
 use Rattle.jz_parse.proofs.DeclareLaws.{brackets, next_group_law, next_rtype_law, next_name_law}
 use Rattle.jz_parse.proofs.FunctionLaws.{item_law, next_used_law, part_law}
 

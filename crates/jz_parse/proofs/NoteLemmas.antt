@@ -4,9 +4,10 @@ use Rattle.jz_tree.specs.Span.{Span}
 use Rattle.jz_grammar.specs.Token.{Token}
 use Rattle.jz_grammar.specs.Causes.{Cause}
 use Rattle.jz_grammar.specs.Kinds.{Kind, identifier, number, string, sign, span_of, has}
-use Rattle.jz_grammar.specs.Reading.{Answer, ◌>>=◌, through, many}
+use Rattle.jz_grammar.specs.InnerReading.{Answer, ◌>>=◌, through, many}
 use Rattle.jz_grammar.specs.Grammar.{Lang, token, ◌▸◌, ◌⊕◌, ◌⇒◌, each, opens, maybe}
-use Rattle.jz_grammar.specs.Laws.{IsReader, HasPhrase, full, plus}
+use Rattle.jz_grammar.proofs.Laws.{IsReader, HasPhrase, full}
+use Rattle.jz_grammar.specs.Deriving.{plus}
 use Rattle.jz_grammar.proofs.Combine.{follow_reads, map_reads, pick_reads, inside_reads, optional_reads, many_reads, many_next, many_done, shaped, shorter}
 use Rattle.jz_grammar.proofs.Depend.{depend_reads}
 use Rattle.jz_grammar.proofs.Samples.{sign_token, sign_in, sign_reads, identifier_reads, number_reads, string_reads, some_sign, some_identifier, some_then, some_map, some_left, some_each, some_maybe, up}
@@ -17,7 +18,7 @@ use Rattle.jz_tree.specs.declared.program.NoteValue.TheVariants as value
 use Rattle.jz_grammar.specs.Tokens.{name_of, number_of_token, string_of}
 use Rattle.jz_parse.specs.NotesTable as g
 use Rattle.jz_parse.specs.NotesTable.{note_of, all_notes}
-use Rattle.jz_parse.specs.NotesReaders as r
+use Rattle.jz_parse.specs.InnerNotesReaders as r
 
 -- ---- values and entries
 abbrev value_starts : List Kind

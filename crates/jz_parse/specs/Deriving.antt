@@ -2,12 +2,12 @@
 use Rattle.std.specs.Prelude.{◌≡◌, ◌-◌, ℕ, List, [], ◌∷◌, ◌++◌, length}
 use Rattle.jz_tree.specs.Span.{Span}
 use Rattle.jz_grammar.specs.Token.{Token}
-use Rattle.jz_grammar.specs.Laws.{Derives, BeginsWithin, IsRefused}
+use Rattle.jz_grammar.specs.Deriving.{Derives, BeginsWithin, IsRefused}
 use Rattle.jz_tree.specs.declared.program.Program.{Program}
 use Rattle.jz_grammar.specs.declared.fault.SyntaxKind.{SyntaxKind}
 use Rattle.jz_grammar.specs.declared.fault.SyntaxKind.TheVariants.{Unexpected}
 use Rattle.jz_grammar.specs.declared.fault.SyntaxFault.{SyntaxFault}
-use Rattle.jz_grammar.specs.Gave.{cause_of}
+use Rattle.jz_grammar.specs.InnerGave.{cause_of}
 use Rattle.jz_grammar.specs.Places.{span_at}
 use Rattle.jz_parse.specs.Grammar.{program}
 

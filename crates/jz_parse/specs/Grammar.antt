@@ -26,11 +26,9 @@ use Rattle.jz_parse.specs.declared.function.Item.{Item}
 use Rattle.jz_parse.specs.declared.function.Item.TheVariants.{Declares, Does}
 use Rattle.jz_parse.specs.declared.program.Part.{Part}
 use Rattle.jz_parse.specs.declared.program.Part.TheVariants.{Constant, Function}
-use Rattle.jz_parse.specs.Trees.{type_of, decl_of, declared_all, params_all, ret_of, joined_lists, or_empty, vars_in, stmts_in, body_of, fun_of, const_of, consts_in, funs_in, program_of}
-
--- "," and what l is
-abbrev pub comma : {A : Type 0} → (ℕ → Lang A) → ℕ → Lang A
-comma l d = (the (codes ",") d ▸ l d) ⇒ (λ p. p.1)
+use Rattle.jz_parse.specs.Trees.{type_of, decl_of, declared_all, params_all, ret_of, vars_in, stmts_in, body_of, fun_of, const_of, consts_in, funs_in, program_of}
+use Rattle.jz_grammar.specs.Parts.{joined_lists, or_empty}
+use Rattle.jz_parse.specs.Table.{comma}
 
 -- storage = "reg" | "stack" | "inline"
 abbrev pub storage : ℕ → Lang Storage
@@ -53,7 +51,7 @@ name_list d = (name d ▸ each (name d)) ⇒ (λ p. p.0 ∷ p.1)
 
 -- group = { annot } storage type ID { ID }
 abbrev pub group : ℕ → Lang (List Param)
-group d = (notes d ▸ declaration d ▸ name_list d) ⇒ (λ p. params_all p.0 p.1.0 p.1.1)
+group d = (notes d ▸ declaration d ▸ name_list d) ⇒ (λ (ns, (t, xs)). params_all ns t xs)
 
 -- group { "," group }
 abbrev pub groups : ℕ → Lang (List Param)
@@ -61,7 +59,7 @@ groups d = (group d ▸ each (comma group d)) ⇒ (λ p. p.0 ++ joined_lists p.1
 
 -- "(" [ group { "," group } ] ")"
 abbrev pub params : ℕ → Lang (List Param)
-params d = opens (sign (codes "(") ∷ []) (λ b. maybe (groups b) ▸ the (codes ")") b) d ⇒ (λ p. or_empty p.1.0)
+params d = opens (sign (codes "(") ∷ []) (λ b. maybe (groups b) ▸ the (codes ")") b) d ⇒ (λ (_, (gs, _)). or_empty gs)
 
 -- rtype = { annot } storage type
 abbrev pub rtype : ℕ → Lang Ret
@@ -82,7 +80,7 @@ abbrev pub declared_names : ℕ → Lang (List (List ℕ × Span))
 declared_names d = (name d ▸ each (next_name d)) ⇒ (λ p. p.0 ∷ p.1)
 
 abbrev pub decl : ℕ → Lang (List Var)
-decl d = (declaration d ▸ declared_names d ▸ the (codes ";") d) ⇒ (λ p. declared_all p.0 p.1.0)
+decl d = (declaration d ▸ declared_names d ▸ the (codes ";") d) ⇒ (λ (t, (xs, _)). declared_all t xs)
 
 -- { decl | stmt }
 abbrev pub item : ℕ → Lang Item
@@ -99,21 +97,21 @@ abbrev pub variables : ℕ → Lang (List Var)
 variables d = (variable_used d ▸ each (comma variable_used d)) ⇒ (λ p. p.0 ∷ p.1)
 
 abbrev pub variables_enclosed : ℕ → Lang (List Var)
-variables_enclosed d = opens (sign (codes "(") ∷ []) (λ b. variables b ▸ the (codes ")") b) d ⇒ (λ p. p.1.0)
+variables_enclosed d = opens (sign (codes "(") ∷ []) (λ b. variables b ▸ the (codes ")") b) d ⇒ (λ (_, (vars, _)). vars)
 
 abbrev pub names : ℕ → Lang (List Var)
 names d = variables d ⊕ variables_enclosed d
 
 -- [ "return" [ names ] ";" ]
 abbrev pub variables_returned : ℕ → Lang (List Var)
-variables_returned d = (key (codes "return") d ▸ maybe (names d) ▸ the (codes ";") d) ⇒ (λ p. or_empty p.1.0)
+variables_returned d = (key (codes "return") d ▸ maybe (names d) ▸ the (codes ";") d) ⇒ (λ (_, (vars, _)). or_empty vars)
 
 abbrev pub ending : ℕ → Lang (List Var)
 ending d = maybe (variables_returned d) ⇒ or_empty
 
 -- "{" { decl | stmt } [ "return" [ names ] ";" ] "}"
 abbrev pub body : ℕ → Lang Body
-body d = opens (sign (codes "{") ∷ []) (λ b. items b ▸ ending b ▸ the (codes "}") b) d ⇒ (λ p. body_of p.1.0 p.1.1.0)
+body d = opens (sign (codes "{") ∷ []) (λ b. items b ▸ ending b ▸ the (codes "}") b) d ⇒ (λ (_, (is, (result, _))). body_of is result)
 
 -- "inline" | "export"
 abbrev pub kind : ℕ → Lang FunKind
@@ -124,11 +122,11 @@ kind d = (key (codes "inline") d ⇒ (λ s. fun_kind.Inline)) ⊕ (key (codes "e
 --       "{" { decl | stmt } [ "return" [ names ] ";" ] "}"
 abbrev pub function : ℕ → Lang Fun
 function d = (notes d ▸ kind d ▸ key (codes "fn") d ▸ name d ▸ params d ▸ results d ▸ body d)
-    ⇒ (λ p. fun_of p.0 p.1.0 p.1.1.1.0 p.1.1.1.1.0 p.1.1.1.1.1.0 p.1.1.1.1.1.1)
+    ⇒ (λ (ns, (sort, (_, (id, (ps, (rets, inner)))))). fun_of ns sort id ps rets inner)
 
 -- param = "param" "int" ID "=" expr ";"
 abbrev pub constant : ℕ → Lang Const
-constant d = (key (codes "param") d ▸ key (codes "int") d ▸ name d ▸ the (codes "=") d ▸ expr d ▸ the (codes ";") d) ⇒ (λ p. const_of p.1.1.0 p.1.1.1.1.0)
+constant d = (key (codes "param") d ▸ key (codes "int") d ▸ name d ▸ the (codes "=") d ▸ expr d ▸ the (codes ";") d) ⇒ (λ (_, (_, (id, (_, (value, _))))). const_of id value)
 
 -- { param | fun }
 abbrev pub part : ℕ → Lang Part

@@ -1,10 +1,10 @@
 pub mod Trees
 pub mod Grammar
-pub mod Readers
+pub mod InnerReaders
 pub mod Deriving
 pub mod Reading
 pub mod NotesTable
-pub mod NotesReaders
+pub mod InnerNotesReaders
 pub mod StmtTrees
 pub mod Table
-pub mod StmtReaders
+pub mod InnerStmtReaders

@@ -65,9 +65,6 @@ unfoldable pub operation_of : Token → Option BinOp
 operation_of t = first_of (number_operation t) (bit_operation t)
 
 -- ---- parts of statements
-abbrev pub or_empty : {A : Type 0} → Option (List A) → List A
-or_empty None = []
-or_empty (Some xs) = xs
 
 -- a call, by its name and where that stands; an intrinsic, by where its "#" stands
 abbrev pub call_of : (List ℕ × Span) × List Expr → Rhs

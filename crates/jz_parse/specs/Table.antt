@@ -13,7 +13,8 @@ use Rattle.jz_tree.specs.declared.stmt.Rhs.TheVariants.{Value}
 use Rattle.jz_tree.specs.declared.stmt.Stmt.{Stmt}
 use Rattle.jz_tree.specs.declared.stmt.StmtKind.{StmtKind}
 use Rattle.jz_parse_expr.specs.Table.{the, key, name, expr, index, access}
-use Rattle.jz_parse.specs.StmtTrees.{assignments, operation_of, or_empty, call_of, intrinsic_of, name_lval, span_of_lval, assign_statement, call_statement, if_statement, while_statement, for_statement, stmt_of}
+use Rattle.jz_parse.specs.StmtTrees.{assignments, operation_of, call_of, intrinsic_of, name_lval, span_of_lval, assign_statement, call_statement, if_statement, while_statement, for_statement, stmt_of}
+use Rattle.jz_grammar.specs.Parts.{or_empty}
 use Rattle.jz_parse.specs.NotesTable.{notes}
 
 -- "," and what l is
@@ -26,7 +27,7 @@ args d = (expr d ▸ each (comma expr d)) ⇒ (λ p. p.0 ∷ p.1)
 
 -- "(" [ args ] ")"
 abbrev pub call_args : ℕ → Lang (List Expr)
-call_args d = opens (sign (codes "(") ∷ []) (λ b. maybe (args b) ▸ the (codes ")") b) d ⇒ (λ p. or_empty p.1.0)
+call_args d = opens (sign (codes "(") ∷ []) (λ b. maybe (args b) ▸ the (codes ")") b) d ⇒ (λ (_, (es, _)). or_empty es)
 
 -- rhs = expr | ID "(" [ args ] ")" | "#" ID "(" [ args ] ")"
 abbrev pub rhs : ℕ → Lang Rhs
@@ -53,11 +54,11 @@ condition d = maybe ((key (codes "if") d ▸ expr d) ⇒ (λ p. p.1))
 -- assign = lval { "," lval } aop rhs [ "if" expr ] ";"
 abbrev pub assign : ℕ → Lang (Span × StmtKind)
 assign d = (lval d ▸ each (comma lval d) ▸ operation d ▸ rhs d ▸ condition d ▸ the (codes ";") d)
-    ⇒ (λ p. assign_statement (span_of_lval p.0) (p.0 ∷ p.1.0) p.1.1.0 p.1.1.1.0 p.1.1.1.1.0)
+    ⇒ (λ (to, (tos, (op, (from, (cond, _))))). assign_statement (span_of_lval to) (to ∷ tos) op from cond)
 
 -- call = ID "(" [ args ] ")" ";"
 abbrev pub call : ℕ → Lang (Span × StmtKind)
-call d = (name d ▸ call_args d ▸ the (codes ";") d) ⇒ (λ p. call_statement (p.0, p.1.0))
+call d = (name d ▸ call_args d ▸ the (codes ";") d) ⇒ (λ (id, (es, _)). call_statement (id, es))
 
 -- what may stand nested: what follows an "if", and statements
 pub record Low : Type 1 where
@@ -66,7 +67,7 @@ pub record Low : Type 1 where
 
 -- block = "{" { stmt } "}"
 abbrev pub block : (ℕ → Low) → ℕ → Lang (List Stmt)
-block low d = opens (sign (codes "{") ∷ []) (λ b. each (low b).stmts ▸ the (codes "}") b) d ⇒ (λ p. p.1.0)
+block low d = opens (sign (codes "{") ∷ []) (λ b. each (low b).stmts ▸ the (codes "}") b) d ⇒ (λ (_, (inner, _)). inner)
 
 -- "else" ( if | block )      an "else if" is open from its "if"
 abbrev pub else_arm : (ℕ → Low) → ℕ → Lang (List Stmt)
@@ -76,14 +77,14 @@ else_arm low d = (key (codes "else") d
 
 -- if = "if" expr block [ "else" ( if | block ) ]
 abbrev pub if_rest : (ℕ → Low) → ℕ → Lang (Expr × (List Stmt × List Stmt))
-if_rest low d = (expr d ▸ block low d ▸ maybe (else_arm low d)) ⇒ (λ p. (p.0, (p.1.0, or_empty p.1.1)))
+if_rest low d = (expr d ▸ block low d ▸ maybe (else_arm low d)) ⇒ (λ (cond, (arm, other)). (cond, (arm, or_empty other)))
 
 abbrev pub if_form : (ℕ → Low) → ℕ → Lang (Span × StmtKind)
 if_form low d = (key (codes "if") d ▸ if_rest low d) ⇒ (λ p. if_statement p.0 p.1)
 
 -- "(" expr ")"
 abbrev pub test : ℕ → Lang Expr
-test d = opens (sign (codes "(") ∷ []) (λ b. expr b ▸ the (codes ")") b) d ⇒ (λ p. p.1.0)
+test d = opens (sign (codes "(") ∷ []) (λ b. expr b ▸ the (codes ")") b) d ⇒ (λ (_, (cond, _)). cond)
 
 -- block | [ ";" ]
 abbrev pub body : (ℕ → Low) → ℕ → Lang (Option (List Stmt))
@@ -92,7 +93,7 @@ body low d = (block low d ⇒ (λ b. Some b)) ⊕ (maybe (the (codes ";") d) ⇒
 -- "while" [ block ] "(" expr ")" ( block | [ ";" ] )
 abbrev pub while : (ℕ → Low) → ℕ → Lang (Span × StmtKind)
 while low d = (key (codes "while") d ▸ (maybe (block low d) ⇒ or_empty) ▸ test d ▸ body low d)
-    ⇒ (λ p. while_statement p.0 p.1.0 p.1.1.0 p.1.1.1)
+    ⇒ (λ (span, (before, (cond, inner))). while_statement span before cond inner)
 
 -- "to" | "downto"
 abbrev pub direction : ℕ → Lang Bool
@@ -101,7 +102,7 @@ direction d = (key (codes "to") d ⇒ (λ p. false)) ⊕ (key (codes "downto") d
 -- "for" ID "=" expr ( "to" | "downto" ) expr block
 abbrev pub for : (ℕ → Low) → ℕ → Lang (Span × StmtKind)
 for low d = (key (codes "for") d ▸ name d ▸ the (codes "=") d ▸ expr d ▸ direction d ▸ expr d ▸ block low d)
-    ⇒ (λ p. for_statement p.0 p.1.0 p.1.1.1.0 p.1.1.1.1.0 p.1.1.1.1.1.0 p.1.1.1.1.1.1)
+    ⇒ (λ (span, (counter, (_, (from, (down, (to, inner)))))). for_statement span counter from down to inner)
 
 -- stmt = { annot } ( assign | call | if | while | for )
 abbrev pub stmt_in : (ℕ → Low) → ℕ → Lang Stmt

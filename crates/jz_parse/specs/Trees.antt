@@ -51,12 +51,6 @@ abbrev pub params_all : List Note → Decl → List (List ℕ × Span) → List 
 params_all notes t ns = map (param_of notes t) ns
 
 -- ---- functions
-abbrev pub joined_lists : {A : Type 0} → List (List A) → List A
-joined_lists xss = flat_map (λ xs. xs) xss
-
-abbrev pub or_empty : {A : Type 0} → Option (List A) → List A
-or_empty None = []
-or_empty (Some xs) = xs
 
 -- the variables that are declared, and the statements, each in the order of the text
 abbrev pub declared_by : Item → List Var

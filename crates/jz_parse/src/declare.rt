@@ -2,9 +2,9 @@
 
 ghost use Rattle.std.specs.Prelude.{◌≡◌, IfOk};
 ghost use Rattle.jz_grammar.specs.Kinds.{has};
-ghost use Rattle.jz_grammar.specs.Gave.{Gave};
+ghost use Rattle.jz_grammar.specs.InnerGave.{Gave};
 ghost use Rattle.jz_parse.specs.Trees.{declared_of, declared_all, param_of, params_all};
-ghost use Rattle.jz_parse.specs.Readers.{storages, storage, word_or_array, value_type, declaration, names_more, name_list, group, next_group, groups_more, groups, group_starts, params, rtype, next_rtype, rtypes_more, arrow_types, results, next_name, next_starts, declared_more, declared_names, decl};
+ghost use Rattle.jz_parse.specs.InnerReaders.{storages, storage, word_or_array, value_type, declaration, names_more, name_list, group, next_group, groups_more, groups, group_starts, params, rtype, next_rtype, rtypes_more, arrow_types, results, next_name, next_starts, declared_more, declared_names, decl};
 
 use crate::notes;
 use jz_grammar::{Cursor, Stop};
@@ -15,7 +15,7 @@ use std::alloc::{AllocError, Global};
 /// A name and its place.
 type Name = (Text, Span);
 
-#[tactic(auto, unfolding(crate::specs::Readers::storage))]
+#[tactic(auto, unfolding(crate::specs::InnerReaders::storage))]
 fn storage(c: &mut Cursor) -> Result<Storage, Stop>
     ensures { Gave result c.new (storage c.old) }
 {
@@ -39,7 +39,7 @@ pub fn begins_storage(c: &Cursor) -> bool
     c.is_word("reg") || c.is_word("stack") || c.is_word("inline")
 }
 
-#[tactic(auto, unfolding(crate::specs::Readers::word_or_array))]
+#[tactic(auto, unfolding(crate::specs::InnerReaders::word_or_array))]
 fn word_or_array(alloc: Global, c: &mut Cursor, depth: u32) -> Result<Ty, Stop>
     ensures { Gave result c.new (word_or_array depth c.old) }
 {
@@ -51,7 +51,7 @@ fn word_or_array(alloc: Global, c: &mut Cursor, depth: u32) -> Result<Ty, Stop>
     Ok(Ty::Word(size))
 }
 
-#[tactic(auto, unfolding(crate::specs::Readers::value_type))]
+#[tactic(auto, unfolding(crate::specs::InnerReaders::value_type))]
 fn value_type(alloc: Global, c: &mut Cursor, depth: u32) -> Result<Ty, Stop>
     ensures { Gave result c.new (value_type depth c.old) }
 {
@@ -67,7 +67,7 @@ fn value_type(alloc: Global, c: &mut Cursor, depth: u32) -> Result<Ty, Stop>
     Ok(ty)
 }
 
-#[tactic(auto, unfolding(crate::specs::Readers::declaration))]
+#[tactic(auto, unfolding(crate::specs::InnerReaders::declaration))]
 fn declaration(alloc: Global, c: &mut Cursor, depth: u32) -> Result<Decl, Stop>
     ensures { Gave result c.new (declaration depth c.old) }
 {
@@ -89,7 +89,7 @@ fn names_more(alloc: Global, c: &mut Cursor, first: Seq<Name>) -> Result<Seq<Nam
 }
 
 /// One name and more.
-#[tactic(auto, unfolding(crate::specs::Readers::name_list))]
+#[tactic(auto, unfolding(crate::specs::InnerReaders::name_list))]
 fn name_list(alloc: Global, c: &mut Cursor) -> Result<Seq<Name>, Stop>
     ensures { Gave result c.new (name_list c.old) }
 {
@@ -141,7 +141,7 @@ fn vars_of(alloc: Global, decl: &Decl, names: Seq<Name>) -> Result<Seq<Var>, All
     names.into_try_map(alloc, |name| declared(alloc, decl, name))
 }
 
-#[tactic(auto, unfolding(crate::specs::Readers::group))]
+#[tactic(auto, unfolding(crate::specs::InnerReaders::group))]
 fn group(alloc: Global, c: &mut Cursor, depth: u32) -> Result<Seq<Param>, Stop>
     ensures { Gave result c.new (group depth c.old) }
 {
@@ -152,7 +152,7 @@ fn group(alloc: Global, c: &mut Cursor, depth: u32) -> Result<Seq<Param>, Stop>
     Ok(params)
 }
 
-#[tactic(auto, unfolding(crate::specs::Readers::next_group))]
+#[tactic(auto, unfolding(crate::specs::InnerReaders::next_group))]
 fn next_group(alloc: Global, c: &mut Cursor, depth: u32) -> Result<Seq<Param>, Stop>
     ensures { Gave result c.new (next_group depth c.old) }
 {
@@ -178,7 +178,7 @@ fn groups_more(
     Ok(out)
 }
 
-#[tactic(auto, unfolding(crate::specs::Readers::groups))]
+#[tactic(auto, unfolding(crate::specs::InnerReaders::groups))]
 fn groups(alloc: Global, c: &mut Cursor, depth: u32) -> Result<Seq<Param>, Stop>
     ensures { Gave result c.new (groups depth c.old) }
 {
@@ -195,7 +195,7 @@ fn begins_group(c: &Cursor) -> bool
 }
 
 /// The parameters and their parentheses.
-#[tactic(auto, unfolding(crate::specs::Readers::params))]
+#[tactic(auto, unfolding(crate::specs::InnerReaders::params))]
 pub fn params(alloc: Global, c: &mut Cursor, depth: u32) -> Result<Seq<Param>, Stop>
     ensures { Gave result c.new (params depth c.old) }
 {
@@ -209,7 +209,7 @@ pub fn params(alloc: Global, c: &mut Cursor, depth: u32) -> Result<Seq<Param>, S
     Ok(out)
 }
 
-#[tactic(auto, unfolding(crate::specs::Readers::rtype))]
+#[tactic(auto, unfolding(crate::specs::InnerReaders::rtype))]
 fn rtype(alloc: Global, c: &mut Cursor, depth: u32) -> Result<Ret, Stop>
     ensures { Gave result c.new (rtype depth c.old) }
 {
@@ -218,7 +218,7 @@ fn rtype(alloc: Global, c: &mut Cursor, depth: u32) -> Result<Ret, Stop>
     Ok(Ret { notes, decl })
 }
 
-#[tactic(auto, unfolding(crate::specs::Readers::next_rtype))]
+#[tactic(auto, unfolding(crate::specs::InnerReaders::next_rtype))]
 fn next_rtype(alloc: Global, c: &mut Cursor, depth: u32) -> Result<Ret, Stop>
     ensures { Gave result c.new (next_rtype depth c.old) }
 {
@@ -240,7 +240,7 @@ fn rtypes_more(alloc: Global, c: &mut Cursor, depth: u32, first: Seq<Ret>) -> Re
 }
 
 /// The result types behind an arrow.
-#[tactic(auto, unfolding(crate::specs::Readers::arrow_types))]
+#[tactic(auto, unfolding(crate::specs::InnerReaders::arrow_types))]
 fn arrow_types(alloc: Global, c: &mut Cursor, depth: u32) -> Result<Seq<Ret>, Stop>
     ensures { Gave result c.new (arrow_types depth c.old) }
 {
@@ -252,7 +252,7 @@ fn arrow_types(alloc: Global, c: &mut Cursor, depth: u32) -> Result<Seq<Ret>, St
 }
 
 /// The result types and the arrow before them, or none.
-#[tactic(auto, unfolding(crate::specs::Readers::results))]
+#[tactic(auto, unfolding(crate::specs::InnerReaders::results))]
 pub fn results(alloc: Global, c: &mut Cursor, depth: u32) -> Result<Seq<Ret>, Stop>
     ensures { Gave result c.new (results depth c.old) }
 {
@@ -263,7 +263,7 @@ pub fn results(alloc: Global, c: &mut Cursor, depth: u32) -> Result<Seq<Ret>, St
     Ok(Seq::new(alloc))
 }
 
-#[tactic(auto, unfolding(crate::specs::Readers::next_name))]
+#[tactic(auto, unfolding(crate::specs::InnerReaders::next_name))]
 fn next_name(alloc: Global, c: &mut Cursor) -> Result<Name, Stop>
     ensures { Gave result c.new (next_name c.old) }
 {
@@ -294,7 +294,7 @@ fn declared_more(alloc: Global, c: &mut Cursor, first: Seq<Name>) -> Result<Seq<
 }
 
 /// One name and more, with commas between them or none.
-#[tactic(auto, unfolding(crate::specs::Readers::declared_names))]
+#[tactic(auto, unfolding(crate::specs::InnerReaders::declared_names))]
 fn declared_names(alloc: Global, c: &mut Cursor) -> Result<Seq<Name>, Stop>
     ensures { Gave result c.new (declared_names c.old) }
 {
@@ -305,7 +305,7 @@ fn declared_names(alloc: Global, c: &mut Cursor) -> Result<Seq<Name>, Stop>
 }
 
 /// The variables of a declaration.
-#[tactic(auto, unfolding(crate::specs::Readers::decl))]
+#[tactic(auto, unfolding(crate::specs::InnerReaders::decl))]
 pub fn decl(alloc: Global, c: &mut Cursor, depth: u32) -> Result<Seq<Var>, Stop>
     ensures { Gave result c.new (decl depth c.old) }
 {

@@ -2,8 +2,8 @@
 
 ghost use Rattle.std.specs.Prelude.{◌≡◌, []};
 ghost use Rattle.jz_grammar.specs.Kinds.{has};
-ghost use Rattle.jz_grammar.specs.Gave.{Gave};
-ghost use Rattle.jz_parse.specs.Readers.{item, item_starts, items_more, variable_used, next_used, used_more, variables, variables_enclosed, names, names_starts, variables_returned, ending, body, kind, function};
+ghost use Rattle.jz_grammar.specs.InnerGave.{Gave};
+ghost use Rattle.jz_parse.specs.InnerReaders.{item, item_starts, items_more, variable_used, next_used, used_more, variables, variables_enclosed, names, names_starts, variables_returned, ending, body, kind, function};
 
 use crate::declare::{begins_storage, decl, params, results};
 use crate::{begins_stmt, notes, stmt};
@@ -26,7 +26,7 @@ pub struct Body {
     pub result: Seq<Var>,
 }
 
-#[tactic(auto, unfolding(crate::specs::Readers::item))]
+#[tactic(auto, unfolding(crate::specs::InnerReaders::item))]
 fn next_item(alloc: Global, c: &mut Cursor, depth: u32) -> Result<Item, Stop>
     ensures { Gave result c.new (item depth c.old) }
 {
@@ -62,7 +62,7 @@ fn items(alloc: Global, c: &mut Cursor, depth: u32) -> Result<(Seq<Var>, Seq<Stm
 }
 
 /// A variable where it is used.
-#[tactic(auto, unfolding(crate::specs::Readers::variable_used))]
+#[tactic(auto, unfolding(crate::specs::InnerReaders::variable_used))]
 fn used(alloc: Global, c: &mut Cursor) -> Result<Var, Stop>
     ensures { Gave result c.new (variable_used c.old) }
 {
@@ -76,7 +76,7 @@ fn used(alloc: Global, c: &mut Cursor) -> Result<Var, Stop>
     })
 }
 
-#[tactic(auto, unfolding(crate::specs::Readers::next_used))]
+#[tactic(auto, unfolding(crate::specs::InnerReaders::next_used))]
 fn next_used(alloc: Global, c: &mut Cursor) -> Result<Var, Stop>
     ensures { Gave result c.new (next_used c.old) }
 {
@@ -97,7 +97,7 @@ fn used_more(alloc: Global, c: &mut Cursor, first: Seq<Var>) -> Result<Seq<Var>,
     Ok(out)
 }
 
-#[tactic(auto, unfolding(crate::specs::Readers::variables))]
+#[tactic(auto, unfolding(crate::specs::InnerReaders::variables))]
 fn variables(alloc: Global, c: &mut Cursor) -> Result<Seq<Var>, Stop>
     ensures { Gave result c.new (variables c.old) }
 {
@@ -108,7 +108,7 @@ fn variables(alloc: Global, c: &mut Cursor) -> Result<Seq<Var>, Stop>
 }
 
 /// Variables in parentheses.
-#[tactic(auto, unfolding(crate::specs::Readers::variables_enclosed))]
+#[tactic(auto, unfolding(crate::specs::InnerReaders::variables_enclosed))]
 fn enclosed(alloc: Global, c: &mut Cursor, depth: u32) -> Result<Seq<Var>, Stop>
     ensures { Gave result c.new (variables_enclosed depth c.old) }
 {
@@ -118,7 +118,7 @@ fn enclosed(alloc: Global, c: &mut Cursor, depth: u32) -> Result<Seq<Var>, Stop>
     Ok(out)
 }
 
-#[tactic(auto, unfolding(crate::specs::Readers::names))]
+#[tactic(auto, unfolding(crate::specs::InnerReaders::names))]
 fn names(alloc: Global, c: &mut Cursor, depth: u32) -> Result<Seq<Var>, Stop>
     ensures { Gave result c.new (names depth c.old) }
 {
@@ -137,7 +137,7 @@ fn begins_names(c: &Cursor) -> bool
     c.is_identifier() || c.is_sign("(")
 }
 
-#[tactic(auto, unfolding(crate::specs::Readers::variables_returned))]
+#[tactic(auto, unfolding(crate::specs::InnerReaders::variables_returned))]
 fn returned(alloc: Global, c: &mut Cursor, depth: u32) -> Result<Seq<Var>, Stop>
     ensures { Gave result c.new (variables_returned depth c.old) }
 {
@@ -152,7 +152,7 @@ fn returned(alloc: Global, c: &mut Cursor, depth: u32) -> Result<Seq<Var>, Stop>
 }
 
 /// The variables that are returned, or none where nothing is.
-#[tactic(auto, unfolding(crate::specs::Readers::ending))]
+#[tactic(auto, unfolding(crate::specs::InnerReaders::ending))]
 fn ending(alloc: Global, c: &mut Cursor, depth: u32) -> Result<Seq<Var>, Stop>
     ensures { Gave result c.new (ending depth c.old) }
 {
@@ -164,7 +164,7 @@ fn ending(alloc: Global, c: &mut Cursor, depth: u32) -> Result<Seq<Var>, Stop>
 }
 
 /// The braces of a function and what stands between them.
-#[tactic(auto, unfolding(crate::specs::Readers::body))]
+#[tactic(auto, unfolding(crate::specs::InnerReaders::body))]
 fn block(alloc: Global, c: &mut Cursor, depth: u32) -> Result<Body, Stop>
     ensures { Gave result c.new (body depth c.old) }
 {
@@ -179,7 +179,7 @@ fn block(alloc: Global, c: &mut Cursor, depth: u32) -> Result<Body, Stop>
     })
 }
 
-#[tactic(auto, unfolding(crate::specs::Readers::kind))]
+#[tactic(auto, unfolding(crate::specs::InnerReaders::kind))]
 fn kind(c: &mut Cursor) -> Result<FunKind, Stop>
     ensures { Gave result c.new (kind c.old) }
 {
@@ -191,7 +191,7 @@ fn kind(c: &mut Cursor) -> Result<FunKind, Stop>
     Ok(FunKind::Export)
 }
 
-#[tactic(auto, unfolding(crate::specs::Readers::function))]
+#[tactic(auto, unfolding(crate::specs::InnerReaders::function))]
 pub fn function(alloc: Global, c: &mut Cursor, depth: u32) -> Result<Fun, Stop>
     ensures { Gave result c.new (function depth c.old) }
 {

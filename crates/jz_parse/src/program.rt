@@ -2,8 +2,8 @@
 
 ghost use Rattle.std.specs.Prelude.{◌≡◌, []};
 ghost use Rattle.jz_grammar.specs.Kinds.{has};
-ghost use Rattle.jz_grammar.specs.Gave.{Gave};
-ghost use Rattle.jz_parse.specs.Readers.{constant, part, part_starts, parts_more, program};
+ghost use Rattle.jz_grammar.specs.InnerGave.{Gave};
+ghost use Rattle.jz_parse.specs.InnerReaders.{constant, part, part_starts, parts_more, program};
 
 use crate::function::function;
 use jz_grammar::{Cursor, Stop};
@@ -18,7 +18,7 @@ pub enum Part {
     Function(Fun),
 }
 
-#[tactic(auto, unfolding(crate::specs::Readers::constant))]
+#[tactic(auto, unfolding(crate::specs::InnerReaders::constant))]
 fn constant(alloc: Global, c: &mut Cursor, depth: u32) -> Result<Const, Stop>
     ensures { Gave result c.new (constant depth c.old) }
 {
@@ -31,7 +31,7 @@ fn constant(alloc: Global, c: &mut Cursor, depth: u32) -> Result<Const, Stop>
     Ok(Const { name, value, span })
 }
 
-#[tactic(auto, unfolding(crate::specs::Readers::part))]
+#[tactic(auto, unfolding(crate::specs::InnerReaders::part))]
 fn next_part(alloc: Global, c: &mut Cursor, depth: u32) -> Result<Part, Stop>
     ensures { Gave result c.new (part depth c.old) }
 {
@@ -67,7 +67,7 @@ fn parts(alloc: Global, c: &mut Cursor, depth: u32) -> Result<(Seq<Const>, Seq<F
 }
 
 /// A whole program, with the end of the text.
-#[tactic(auto, unfolding(crate::specs::Readers::program))]
+#[tactic(auto, unfolding(crate::specs::InnerReaders::program))]
 pub fn program(alloc: Global, c: &mut Cursor, depth: u32) -> Result<Program, Stop>
     ensures { Gave result c.new (program depth c.old) }
 {

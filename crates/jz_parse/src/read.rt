@@ -5,9 +5,9 @@ ghost use Rattle.jz_tree.specs.Failures.{IfRefused};
 ghost use Rattle.jz_tree.specs.Laws.{AtMostOne, NeverBoth};
 ghost use Rattle.jz_grammar.specs.Token.{Token};
 ghost use Rattle.jz_grammar.specs.TokenKind.TheVariants.{End};
-ghost use Rattle.jz_grammar.specs.Reading.{final};
-ghost use Rattle.jz_grammar.specs.Gave.{numbered_answer, IsNumbered};
-ghost use Rattle.jz_parse.specs.Readers.{program};
+ghost use Rattle.jz_grammar.specs.InnerReading.{final};
+ghost use Rattle.jz_grammar.specs.InnerGave.{numbered_answer, IsNumbered};
+ghost use Rattle.jz_parse.specs.InnerReaders.{program};
 ghost use Rattle.jz_parse.specs.Deriving.{DerivesProgram, IsSyntaxFault};
 ghost use Rattle.jz_parse.specs.Reading.{Reads};
 

@@ -3,7 +3,8 @@ use Rattle.std.proofs.Common.{◌≡◌, inl, ℕ, zero, suc, ◌≤◌, List, [
 use Rattle.jz_grammar.specs.Token.{Token}
 use Rattle.jz_grammar.specs.Kinds.{Kind, word, sign, span_of, disjoint, is_in, has}
 use Rattle.jz_grammar.specs.Grammar.{Marked, token, ◌▸◌, ◌⇒◌}
-use Rattle.jz_grammar.specs.Laws.{Shape, First, IsReader, HasPhrase, plus, full, one_shape, many_shape, both}
+use Rattle.jz_grammar.proofs.Laws.{Shape, First, IsReader, HasPhrase, full, one_shape, many_shape, both}
+use Rattle.jz_grammar.specs.Deriving.{plus}
 use Rattle.jz_grammar.proofs.Basics.{disjoint_nil, has_append, has_join}
 use Rattle.jz_grammar.proofs.Combine.{leaf_reads, follow_reads, map_reads, many_reads, reshape, shaped}
 use Rattle.jz_grammar.proofs.Opening.{HasPhraseAnyway}
@@ -12,7 +13,7 @@ use Rattle.jz_grammar.specs.Tokens.{number_of_token, word_types, size_of_token}
 use Rattle.jz_parse_expr.specs.Operators.{ops_of, op_of}
 use Rattle.jz_parse_expr.specs.Trees.{number_expr, chain}
 use Rattle.jz_parse_expr.specs.Table as g
-use Rattle.jz_parse_expr.specs.Readers as r
+use Rattle.jz_parse_expr.specs.InnerReaders as r
 
 -- ---- one token
 pub the_reads : (s : List ℕ) (d : ℕ) → IsReader (r.the s) (λ e. g.the s (plus d e)) (one_shape (sign s ∷ []))

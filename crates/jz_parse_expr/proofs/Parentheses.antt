@@ -4,14 +4,15 @@ use Rattle.jz_tree.specs.Span.{Span}
 use Rattle.jz_tree.specs.Size.{Size}
 use Rattle.jz_grammar.specs.Kinds.{Kind, sign, cast}
 use Rattle.jz_grammar.specs.Grammar.{Marked, Lang, token, ◌▸◌, ◌⊕◌, ◌⇒◌, opens}
-use Rattle.jz_grammar.specs.Laws.{IsReader, HasPhrase, plus, full}
+use Rattle.jz_grammar.proofs.Laws.{IsReader, HasPhrase, full}
+use Rattle.jz_grammar.specs.Deriving.{plus}
 use Rattle.jz_grammar.proofs.Combine.{follow_reads, map_reads, pick_reads, inside_reads, same_reads, shaped}
 use Rattle.jz_grammar.proofs.Samples.{sign_token, sign_in, cast_reads, some_then, some_map, some_left, up}
 use Rattle.jz_grammar.specs.Tokens.{word_types, cast_of}
 use Rattle.jz_tree.specs.declared.expr.Expr.{Expr}
 use Rattle.jz_parse_expr.specs.Trees.{load_expr, cast_expr, Group, At, As, Plain, group_expr}
 use Rattle.jz_parse_expr.specs.Table as g
-use Rattle.jz_parse_expr.specs.Readers as r
+use Rattle.jz_parse_expr.specs.InnerReaders as r
 use Rattle.jz_parse_expr.proofs.Levels.{Unary, unary_goes, the_reads, some_the, word_type_reads, some_word_type, some_unary, some_closed, expr_of_reads}
 
 abbrev paren : List Kind

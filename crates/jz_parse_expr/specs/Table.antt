@@ -37,16 +37,16 @@ expr_at unary d = levels unary level_count d
 
 -- "[" expr "]"
 abbrev pub bracket : (ℕ → Lang (Span × Expr)) → ℕ → Lang Expr
-bracket low d = opens (sign (codes "[") ∷ []) (λ b. expr_at (low b) b ▸ the (codes "]") b) d ⇒ (λ p. p.1.0.1)
+bracket low d = opens (sign (codes "[") ∷ []) (λ b. expr_at (low b) b ▸ the (codes "]") b) d ⇒ (λ (_, ((_, at), _)). at)
 
 -- "(" wtype ")" "[" expr "]"      the parentheses are closed where the bracket stands
 abbrev pub cast_access : (ℕ → Lang (Span × Expr)) → ℕ → Lang (Span × (Option Size × Expr))
-cast_access low d = (opens (sign (codes "(") ∷ []) (λ b. word_type b ▸ the (codes ")") b) d ▸ bracket low d) ⇒ (λ p. (p.0.0, (Some p.0.1.0, p.1)))
+cast_access low d = (opens (sign (codes "(") ∷ []) (λ b. word_type b ▸ the (codes ")") b) d ▸ bracket low d) ⇒ (λ ((span, (size, _)), at). (span, (Some size, at)))
 
 -- "[" [ ":" wtype ] expr "]"
 abbrev pub plain_access : (ℕ → Lang (Span × Expr)) → ℕ → Lang (Span × (Option Size × Expr))
 plain_access low d = opens (sign (codes "[") ∷ []) (λ b. maybe ((the (codes ":") b ▸ word_type b) ⇒ (λ p. p.1)) ▸ expr_at (low b) b ▸ the (codes "]") b) d
-    ⇒ (λ p. (p.0, (p.1.0, p.1.1.0.1)))
+    ⇒ (λ (span, (size, ((_, at), _))). (span, (size, at)))
 
 -- unary = NUM | ID [ "[" expr "]" ] | "true" | "false" | "-" unary | "!" unary | "[" [ ":" wtype ]
 -- expr "]"
@@ -62,8 +62,8 @@ unary_of low d =
     ⊕ (opens (sign (codes "!") ∷ []) low d ⇒ not_expr)
     ⊕ (plain_access low d ⇒ load_expr)
     ⊕ (cast_access low d ⇒ load_expr)
-    ⊕ (opens (sign (codes "(") ∷ []) (λ b. (token (cast ∷ []) b ⇒ cast_of) ▸ the (codes ")") b ▸ low b) d ⇒ (λ p. cast_expr p.0 p.1.0 p.1.1.1.1))
-    ⊕ (opens (sign (codes "(") ∷ []) (λ b. expr_at (low b) b ▸ the (codes ")") b) d ⇒ (λ p. (p.0, p.1.0.1)))
+    ⊕ (opens (sign (codes "(") ∷ []) (λ b. (token (cast ∷ []) b ⇒ cast_of) ▸ the (codes ")") b ▸ low b) d ⇒ (λ (span, (size, (_, (_, e)))). cast_expr span size e))
+    ⊕ (opens (sign (codes "(") ∷ []) (λ b. expr_at (low b) b ▸ the (codes ")") b) d ⇒ (λ (span, ((_, e), _)). (span, e)))
 
 -- with at most d nested
 abbrev pub unary : ℕ → Lang (Span × Expr)

@@ -22,6 +22,12 @@ fn copy_param(param: &Param) -> Result<Param, AllocError>
     Ok(Param { var })
 }
 
+fn copy_ret(ret: &Ret) -> Result<Ret, AllocError>
+    ensures { IfOk result (λ c. c ≡ ret.now) }
+{
+    Ok(Ret { decl: ret.decl })
+}
+
 fn copy_expr(expr: &Expr) -> Result<Expr, AllocError>
     ensures { IfOk result (λ c. c ≡ expr.now) }
 {
@@ -79,7 +85,7 @@ pub(crate) fn copy_fun(alloc: Global, fun: &Fun) -> Result<Fun, AllocError>
         name: fun.name.clone()?,
         span: fun.span,
         params: fun.params.try_map(alloc, copy_param)?,
-        rets: fun.rets.try_map(alloc, |ret| Ok(Ret { decl: ret.decl }))?,
+        rets: fun.rets.try_map(alloc, copy_ret)?,
         vars: fun.vars.try_map(alloc, copy_var)?,
         body: fun.body.try_map(alloc, |stmt| copy_stmt(alloc, stmt))?,
         result: fun.result.try_map(alloc, copy_var)?,

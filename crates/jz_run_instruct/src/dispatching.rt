@@ -3,7 +3,8 @@
 ghost use Rattle.jz_meaning.specs.Stores.{state_of};
 ghost use Rattle.jz_meaning.specs.Intrinsics as intrinsics;
 ghost use Rattle.jz_run_assign.specs.Answers.{GivesResults};
-ghost use Rattle.jz_run_instruct.specs.Rows.{shift_flags, one_word_results, two_word_results, row_results};
+ghost use Rattle.jz_run_instruct.specs.Rows.{shift_flags, row_results};
+ghost use Rattle.jz_run_instruct.specs.Rows.{one_word_results, two_word_results};
 
 use crate::operands::{
     with_carry, with_condition, with_count, with_division, with_one, with_two, words_in,
@@ -57,7 +58,8 @@ fn of_carry(
     state: &State,
     out: &mut Seq<u64>,
 ) -> Result<Results, Failure<Stuck>>
-    ensures { let meaning = intrinsics.of_carry (intrinsics.alu_results op size) span size operands.now in
+    ensures { let sum = intrinsics.alu_results op size in
+        let meaning = intrinsics.of_carry sum span size operands.now in
         GivesResults result out.old out.new (meaning (state_of state.now)) }
 {
     match operands {

@@ -48,7 +48,8 @@ pub(crate) fn with_one(
     state: &State,
     out: &mut Seq<u64>,
 ) -> Result<Results, Failure<Stuck>>
-    ensures { let meaning = intrinsics.of_one (one_word_results row size) span size (operand.now ∷ []) in
+    ensures { let results = one_word_results row size in
+        let meaning = intrinsics.of_one results span size (operand.now ∷ []) in
         GivesResults result out.old out.new (meaning (state_of state.now)) }
 {
     let word = word_in(span, size, operand, state, out)?;
@@ -66,7 +67,8 @@ pub(crate) fn with_two(
     state: &State,
     out: &mut Seq<u64>,
 ) -> Result<Results, Failure<Stuck>>
-    ensures { let meaning = intrinsics.of_two (two_word_results row size) span size (a.now ∷ b.now ∷ []) in
+    ensures { let results = two_word_results row size in
+        let meaning = intrinsics.of_two results span size (a.now ∷ b.now ∷ []) in
         GivesResults result out.old out.new (meaning (state_of state.now)) }
 {
     let (a, b) = words_in(span, size, a, b, state, out)?;
@@ -94,7 +96,7 @@ pub(crate) fn with_carry(
     Ok(results)
 }
 
-// The word is known, and the count is not: it is a byte, or known when the text is compiled.
+/// The word is known, and the count is not: it is a byte, or known when the text is compiled.
 fn by_count(
     kind: Shift,
     span: Span,
@@ -103,7 +105,8 @@ fn by_count(
     state: &State,
     out: &mut Seq<u64>,
 ) -> Result<Results, Failure<Stuck>>
-    ensures { let shifted = intrinsics.shift_results (shift_flags kind) kind span word.size word.bits in
+    ensures { let flags = shift_flags kind in
+        let shifted = intrinsics.shift_results flags kind span word.size word.bits in
         let count = evaluated count.now (Some size.S8) (state_of state.now) in
         GivesResults result out.old out.new (and_then count shifted) }
 {
@@ -131,7 +134,7 @@ pub(crate) fn with_count(
     Ok(results)
 }
 
-// High and low word are known, and the divisor is not.
+/// High and low word are known, and the divisor is not.
 fn by_divisor(
     span: Span,
     high: Word,

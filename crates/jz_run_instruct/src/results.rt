@@ -36,7 +36,8 @@ fn add(results: &mut Results, value: Option<Value>) -> Result<(), AllocError>
 
 fn add_word(results: &mut Results, size: Size, bits: u64) -> Result<(), AllocError>
     requires { bits < modulus size }
-    ensures { OnOk result (meant_results results.new ≡ meant_results results.old ++ Some (word size bits) ∷ []) }
+    ensures { let added = Some (word size bits) ∷ [] in
+        OnOk result (meant_results results.new ≡ meant_results results.old ++ added) }
 {
     add(results, Some(Value::Word(Word::new(size, bits))))
 }
@@ -52,7 +53,8 @@ fn add_flags(results: &mut Results, flags: &[FlagVal]) -> Result<(), AllocError>
 }
 
 fn add_set(results: &mut Results, sets: Sets, flags: [FlagVal; 5]) -> Result<(), AllocError>
-    ensures { OnOk result (meant_results results.new ≡ meant_results results.old ++ flags_set_by sets flags) }
+    ensures { let added = flags_set_by sets flags in
+        OnOk result (meant_results results.new ≡ meant_results results.old ++ added) }
 {
     match sets {
         Sets::Nothing => Ok(()),
@@ -86,7 +88,8 @@ pub(crate) fn before_value(
     answer: Answer,
 ) -> Result<Results, AllocError>
     requires { answer.value < modulus size }
-    ensures { let results = intrinsics.before_value (flags_set_by sets answer.flags) size answer.value in
+    ensures { let flags = flags_set_by sets answer.flags in
+        let results = intrinsics.before_value flags size answer.value in
         IfOk result (λ vs. meant_results vs ≡ results) }
 {
     let mut results = flags_set(alloc, sets, answer.flags)?;

@@ -8,7 +8,7 @@ use jz_run_assign::left_sizes;
 use jz_tree::{Expr, Instance, Intrinsic, Lval, Seq};
 use x64_insn::Size;
 
-// The size of the first operand that has one.
+/// The size of the first operand that has one.
 fn first_size(operands: &[Expr]) -> Option<Size>
     ensures { result ≡ intrinsics.first_size operands.now }
 {

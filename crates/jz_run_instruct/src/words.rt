@@ -46,7 +46,8 @@ pub(crate) fn of_sum(
     c: bool,
 ) -> Result<Results, AllocError>
     requires { a.size ≡ b.size }
-    ensures { IfOk result (λ vs. meant_results vs ≡ intrinsics.alu_results op a.size a.bits b.bits c) }
+    ensures { let sum = intrinsics.alu_results op a.size a.bits b.bits c in
+        IfOk result (λ vs. meant_results vs ≡ sum) }
 {
     let answer = alu_answer(op, a, b, c);
     before_value(alloc, Sets::All, a.size(), answer)
@@ -54,22 +55,24 @@ pub(crate) fn of_sum(
 
 fn of_low_product(alloc: Global, a: Word, b: Word) -> Result<Results, AllocError>
     requires { a.size ≡ b.size }
-    ensures { IfOk result (λ vs. meant_results vs ≡ intrinsics.low_product_results a.size a.bits b.bits) }
+    ensures { let product = intrinsics.low_product_results a.size a.bits b.bits in
+        IfOk result (λ vs. meant_results vs ≡ product) }
 {
     let answer = low_product_answer(a, b);
     before_value(alloc, Sets::All, a.size(), answer)
 }
 
-// The high word before the low one.
+/// The high word before the low one.
 fn of_product(alloc: Global, a: Word, b: Word) -> Result<Results, AllocError>
     requires { a.size ≡ b.size }
-    ensures { IfOk result (λ vs. meant_results vs ≡ intrinsics.product_results a.size a.bits b.bits) }
+    ensures { let product = intrinsics.product_results a.size a.bits b.bits in
+        IfOk result (λ vs. meant_results vs ≡ product) }
 {
     let answer = product_answer(a, b);
     before_both(alloc, answer.flags, a.size(), answer.high, answer.low)
 }
 
-// The flags alone.
+/// The flags alone.
 fn of_comparison(alloc: Global, op: Alu, a: Word, b: Word) -> Result<Results, AllocError>
     requires { a.size ≡ b.size }
     ensures { let answer = alu_answered op a.size a.bits b.bits false in
@@ -97,7 +100,7 @@ pub(crate) fn of_words(
     }
 }
 
-// The bits of a count that a shift regards.
+/// The bits of a count that a shift regards.
 fn masked(size: Size, count: u128) -> u32
     ensures value { result ≡ shifts.masked size count }
     ensures below { result < 64 }
@@ -122,7 +125,7 @@ fn shifted(kind: Shift, a: Word, count: u32) -> Word
     }
 }
 
-// A count that is known when the text is compiled: 0 changes nothing, and sets no flag.
+/// A count that is known when the text is compiled: 0 changes nothing, and sets no flag.
 fn by_constant(alloc: Global, kind: Shift, a: Word, count: u128) -> Result<Results, AllocError>
     ensures { let count = shifts.masked a.size count in
         let answer = shifts.shift_answer kind a.size a.bits count no_flags in
@@ -134,7 +137,7 @@ fn by_constant(alloc: Global, kind: Shift, a: Word, count: u128) -> Result<Resul
     before_value(alloc, set_by_shift(kind), a.size(), answer)
 }
 
-// A count of the run, which may be 0: no flag is known afterwards.
+/// A count of the run, which may be 0: no flag is known afterwards.
 fn by_byte(alloc: Global, kind: Shift, a: Word, count: u128) -> Result<Results, AllocError>
     ensures { let value = shifts.shifted kind a.size a.bits (shifts.masked a.size count) in
         let results = intrinsics.before_value (shift_flags kind no_flags) a.size value in
@@ -175,7 +178,7 @@ pub(crate) fn of_shift(
     }
 }
 
-// The numbers that a division shows.
+/// The numbers that a division shows.
 fn show(high: Word, low: Word, divisor: Word, out: &mut Seq<u64>) -> Result<(), AllocError>
     ensures { OnOk result (out.new ≡ out.old ++ (high.bits ∷ low.bits ∷ divisor.bits ∷ [])) }
 {
@@ -185,7 +188,7 @@ fn show(high: Word, low: Word, divisor: Word, out: &mut Seq<u64>) -> Result<(), 
     Ok(())
 }
 
-// Stuck for Divide.
+/// Stuck for Divide.
 fn no_quotient(span: Span) -> Stuck
     ensures { result ≡ record { span = span; why = why.Divide } }
 {
@@ -221,7 +224,7 @@ pub(crate) fn of_division(
     }
 }
 
-// A flag as a number.
+/// A flag as a number.
 fn carried(c: bool) -> u64
     ensures { result ≡ carried_as c }
 {

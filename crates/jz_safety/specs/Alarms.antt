@@ -30,7 +30,9 @@ body_alarms set (s ∷ ss) = alarms_at set (conditions_of s) ++ body_alarms (fac
 
 -- the alarms of a function: those of its statements, and then those of its return
 abbrev pub alarms_of : Fun → List Alarm
-alarms_of f = body_alarms (entry_facts f) f.body ++ alarms_at (facts_at_end (entry_facts f) f.body) (result_conditions f.result)
+alarms_of f =
+    body_alarms (entry_facts f) f.body
+    ++ alarms_at (facts_at_end (entry_facts f) f.body) (result_conditions f.result)
 
 -- it is the first of the list
 abbrev pub IsFirst : List Alarm → Alarm → Type 0

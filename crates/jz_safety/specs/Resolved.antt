@@ -10,7 +10,12 @@ use Rattle.jz_first.specs.declared.tree.StmtKind.TheVariants as kind
 
 -- an assignment to one variable, which has its declaration
 abbrev pub AssignsToDeclared : Stmt → Type 0
-AssignsToDeclared s = (x : Var) × (o : Option BinOp) × (r : Rhs) × (s.kind ≡ kind.Assign (lval.Var x ∷ []) o r) × IsSome x.decl
+AssignsToDeclared s =
+    (x : Var)
+    × (o : Option BinOp)
+    × (r : Rhs)
+    × (s.kind ≡ kind.Assign (lval.Var x ∷ []) o r)
+    × IsSome x.decl
 
 -- each statement of the function is one
 abbrev pub IsResolved : Fun → Type 0

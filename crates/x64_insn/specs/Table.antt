@@ -147,7 +147,8 @@ b_of rex = rex_bits rex % 2
 
 -- REX.W gives 64 bits, the prefix 66 gives 16, and without both operands have 32 (2.2.1.2)
 abbrev pub prefixed_size : Option ℕ → Option ℕ → Size
-prefixed_size operand_size rex = if has_w rex then S64 else if is_some operand_size then S16 else S32
+prefixed_size operand_size rex =
+    if has_w rex then S64 else if is_some operand_size then S16 else S32
 
 -- the size of a row's operands by its prefixes
 abbrev pub size_by : Operands → Option ℕ → Option ℕ → Size
@@ -295,7 +296,8 @@ immediate_length row.AluRmImm8 operand_size rex field = 1
 immediate_length (row.MovRmImm operands) operand_size rex field =
     immediate_by (size_by operands operand_size rex)
 immediate_length row.MovRegImm64 operand_size rex field = 8
-immediate_length row.ImulRmImm operand_size rex field = immediate_by (prefixed_size operand_size rex)
+immediate_length row.ImulRmImm operand_size rex field =
+    immediate_by (prefixed_size operand_size rex)
 immediate_length row.ImulRmImm8 operand_size rex field = 1
 immediate_length (row.ShiftImm operands) operand_size rex field = 1
 -- TEST alone

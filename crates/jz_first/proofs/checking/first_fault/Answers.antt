@@ -1,5 +1,5 @@
 use Rattle.std.proofs.Common.{◌∙◌, ap}
-use Rattle.jz_first.specs.Faults.{earlier}
+use Rattle.jz_first.specs.InnerFaults.{earlier}
 use Rattle.jz_first.proofs.UnknownLemmas.{all_faults}
 use Rattle.jz_first.proofs.checking.first_fault.Goals as goal
 

@@ -1,6 +1,6 @@
 use Rattle.std.proofs.Common.{◌≡◌, drop}
-use Rattle.jz_first.specs.Faults.{earlier}
-use Rattle.jz_first.specs.Joining.{first_in}
+use Rattle.jz_first.specs.InnerFaults.{earlier}
+use Rattle.jz_first.specs.InnerJoining.{first_in}
 use Rattle.jz_first.specs.Rules.{count_faults}
 use Rattle.jz_first.proofs.counts.miscounted_funs.Given as goal
 

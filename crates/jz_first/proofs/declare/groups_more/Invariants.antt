@@ -1,5 +1,5 @@
 use Rattle.std.proofs.Common.{◌≡◌, length}
-use Rattle.jz_first.specs.Readers.{groups_more}
+use Rattle.jz_first.specs.InnerReaders.{groups_more}
 use Rattle.jz_first.proofs.declare.groups_more.Given as goal
 
 abbrev pub invariant-loop-alloc : goal.invariant-loop-alloc

@@ -1,5 +1,5 @@
 use Rattle.std.proofs.Common.{◌≡◌}
-use Rattle.jz_first.specs.Readers.{params_more}
+use Rattle.jz_first.specs.InnerReaders.{params_more}
 use Rattle.jz_first.proofs.declare.params_more.Given as goal
 
 abbrev pub invariant-loop-left : goal.invariant-loop-left

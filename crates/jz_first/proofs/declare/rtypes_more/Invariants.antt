@@ -1,5 +1,5 @@
 use Rattle.std.proofs.Common.{◌≡◌, length}
-use Rattle.jz_first.specs.Readers.{rtypes_more}
+use Rattle.jz_first.specs.InnerReaders.{rtypes_more}
 use Rattle.jz_first.proofs.declare.rtypes_more.Given as goal
 
 abbrev pub invariant-loop-c : goal.invariant-loop-c

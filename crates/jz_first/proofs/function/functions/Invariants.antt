@@ -1,5 +1,5 @@
 use Rattle.std.proofs.Common.{◌≡◌, [], length}
-use Rattle.jz_first.specs.Readers.{functions_more}
+use Rattle.jz_first.specs.InnerReaders.{functions_more}
 use Rattle.jz_first.proofs.function.functions.Given as goal
 
 abbrev pub invariant-loop-alloc : goal.invariant-loop-alloc

@@ -1,5 +1,5 @@
 use Rattle.std.proofs.Common.{◌≡◌, length}
-use Rattle.jz_first.specs.Readers.{used_more}
+use Rattle.jz_first.specs.InnerReaders.{used_more}
 use Rattle.jz_first.proofs.function.used_more.Given as goal
 
 abbrev pub invariant-loop-alloc : goal.invariant-loop-alloc

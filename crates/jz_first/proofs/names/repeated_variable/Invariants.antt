@@ -1,6 +1,6 @@
 use Rattle.std.proofs.Common.{map, take}
 use Rattle.jz_first.specs.Rules.{name_of}
-use Rattle.jz_first.specs.Scopes.{IsNames}
+use Rattle.jz_first.specs.InnerScopes.{IsNames}
 use Rattle.jz_first.proofs.names.repeated_variable.Given as goal
 
 abbrev pub invariant-loop-param : goal.invariant-loop-param

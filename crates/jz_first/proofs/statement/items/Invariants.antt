@@ -1,5 +1,5 @@
 use Rattle.std.proofs.Common.{◌≡◌, [], length}
-use Rattle.jz_first.specs.Readers.{items_more}
+use Rattle.jz_first.specs.InnerReaders.{items_more}
 use Rattle.jz_first.proofs.statement.items.Given as goal
 
 abbrev pub invariant-loop-alloc : goal.invariant-loop-alloc

@@ -1,5 +1,5 @@
 use Rattle.std.proofs.Common.{ap₂, ◌∙◌}
-use Rattle.jz_first.specs.Faults.{earlier}
+use Rattle.jz_first.specs.InnerFaults.{earlier}
 use Rattle.jz_first.proofs.UnknownLemmas.{fun_unknown}
 use Rattle.jz_first.proofs.unknown.in_fun.Goals as goal
 

@@ -1,7 +1,7 @@
 use Rattle.std.proofs.Common.{◌≡◌, drop, [], ◌∷◌}
-use Rattle.jz_first.specs.Faults.{earlier}
-use Rattle.jz_first.specs.Joining.{first_in}
-use Rattle.jz_first.specs.Scopes.{unknown_by}
+use Rattle.jz_first.specs.InnerFaults.{earlier}
+use Rattle.jz_first.specs.InnerJoining.{first_in}
+use Rattle.jz_first.specs.InnerScopes.{unknown_by}
 use Rattle.jz_first.proofs.unknown.in_vars.Given as goal
 
 abbrev pub invariant-loop-var : goal.invariant-loop-var

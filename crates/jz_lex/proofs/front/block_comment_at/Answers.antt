@@ -1,5 +1,5 @@
 use Rattle.std.proofs.Common.{◌∙◌, sym, ap}
-use Rattle.jz_lex.specs.LexingFront.{before_end}
+use Rattle.jz_lex.specs.InnerFront.{before_end}
 use Rattle.jz_lex.proofs.Comments.{all_left, block_part, open_part}
 use Rattle.jz_lex.proofs.front.block_comment_at.Goals as goal
 

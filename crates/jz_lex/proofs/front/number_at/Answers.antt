@@ -1,6 +1,6 @@
 use Rattle.std.proofs.Common.{◌≤◌, ◌∙◌, sym, subst, length}
 use Rattle.jz_lex.specs.LexingWords.{value_of_numeral}
-use Rattle.jz_lex.specs.LexingFront.{IsFront}
+use Rattle.jz_lex.specs.InnerFront.{IsFront}
 use Rattle.jz_lex.specs.declared.front.Shape.TheVariants as shape
 use Rattle.jz_lex.specs.declared.front.Front.TheVariants as front
 use Rattle.jz_lex.proofs.LexingFront.{split_is, kept_signed, letter_part, large_part, number_part, number_fits}

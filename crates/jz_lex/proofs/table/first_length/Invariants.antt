@@ -1,5 +1,5 @@
 use Rattle.std.proofs.Common.{◌≡◌, map, drop}
-use Rattle.jz_lex.specs.LexingFront.{first_of}
+use Rattle.jz_lex.specs.InnerFront.{first_of}
 use Rattle.jz_lex.proofs.table.first_length.Given as goal
 
 abbrev pub invariant-loop-word : goal.invariant-loop-word

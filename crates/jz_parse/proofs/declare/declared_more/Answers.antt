@@ -1,5 +1,5 @@
 use Rattle.std.proofs.Common.{sym, ap, ◌∙◌}
-use Rattle.jz_parse.specs.Readers.{declared_more}
+use Rattle.jz_parse.specs.InnerReaders.{declared_more}
 use Rattle.jz_parse.proofs.Lists.{declared_next}
 use Rattle.jz_parse.proofs.declare.declared_more.Goals as goal
 

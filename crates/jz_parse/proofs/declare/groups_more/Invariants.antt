@@ -1,5 +1,5 @@
 use Rattle.std.proofs.Common.{◌≡◌, length}
-use Rattle.jz_parse.specs.Readers.{groups_more}
+use Rattle.jz_parse.specs.InnerReaders.{groups_more}
 use Rattle.jz_parse.proofs.declare.groups_more.Given as goal
 
 abbrev pub invariant-loop-alloc : goal.invariant-loop-alloc

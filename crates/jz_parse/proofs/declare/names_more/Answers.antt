@@ -1,5 +1,5 @@
 use Rattle.std.proofs.Common.{sym, ap, ◌∙◌}
-use Rattle.jz_parse.specs.Readers.{names_more}
+use Rattle.jz_parse.specs.InnerReaders.{names_more}
 use Rattle.jz_parse.proofs.Lists.{names_next}
 use Rattle.jz_parse.proofs.declare.names_more.Goals as goal
 

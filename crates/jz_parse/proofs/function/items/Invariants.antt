@@ -1,5 +1,5 @@
 use Rattle.std.proofs.Common.{◌≡◌, [], length}
-use Rattle.jz_parse.specs.Readers.{items_more}
+use Rattle.jz_parse.specs.InnerReaders.{items_more}
 use Rattle.jz_parse.proofs.function.items.Given as goal
 
 abbrev pub invariant-loop-alloc : goal.invariant-loop-alloc

@@ -1,5 +1,5 @@
 use Rattle.std.proofs.Common.{◌≡◌, length}
-use Rattle.jz_parse.specs.Readers.{used_more}
+use Rattle.jz_parse.specs.InnerReaders.{used_more}
 use Rattle.jz_parse.proofs.function.used_more.Given as goal
 
 abbrev pub invariant-loop-alloc : goal.invariant-loop-alloc

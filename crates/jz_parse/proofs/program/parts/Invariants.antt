@@ -1,5 +1,5 @@
 use Rattle.std.proofs.Common.{◌≡◌, [], length}
-use Rattle.jz_parse.specs.Readers.{parts_more}
+use Rattle.jz_parse.specs.InnerReaders.{parts_more}
 use Rattle.jz_parse.proofs.program.parts.Given as goal
 
 abbrev pub invariant-loop-alloc : goal.invariant-loop-alloc

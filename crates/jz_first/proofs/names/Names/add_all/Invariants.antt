@@ -1,6 +1,6 @@
 use Rattle.std.proofs.Common.{List, map, take, ◌++◌}
 use Rattle.jz_first.specs.Rules.{Name, name_of}
-use Rattle.jz_first.specs.Scopes.{IsNames}
+use Rattle.jz_first.specs.InnerScopes.{IsNames}
 use Rattle.jz_first.proofs.names.Names.add_all.Given as goal
 
 abbrev pub invariant-loop-var : goal.invariant-loop-var

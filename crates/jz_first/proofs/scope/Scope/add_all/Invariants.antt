@@ -1,6 +1,6 @@
 use Rattle.std.proofs.Common.{List, take, ◌++◌}
 use Rattle.jz_first.specs.declared.tree.Var.{Var}
-use Rattle.jz_first.specs.Scopes.{IsScope}
+use Rattle.jz_first.specs.InnerScopes.{IsScope}
 use Rattle.jz_first.proofs.scope.Scope.add_all.Given as goal
 
 abbrev pub invariant-loop-var : goal.invariant-loop-var

@@ -1,5 +1,5 @@
 use Rattle.std.proofs.Common.{map, take}
-use Rattle.jz_first.specs.Scopes.{IsScope}
+use Rattle.jz_first.specs.InnerScopes.{IsScope}
 use Rattle.jz_first.proofs.scope.Scope.of.Given as goal
 
 abbrev pub invariant-loop-param : goal.invariant-loop-param

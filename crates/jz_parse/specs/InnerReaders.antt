@@ -2,7 +2,7 @@
 use Rattle.std.specs.Prelude.{ℕ, List, [], ◌∷◌, ◌++◌, codes}
 use Rattle.jz_tree.specs.Span.{Span}
 use Rattle.jz_grammar.specs.Kinds.{Kind, word, sign, identifier, end, span_of}
-use Rattle.jz_grammar.specs.Reading.{Reader, ◌>>=◌, through, follow, pick, many, leaf, inside, optional, more_of}
+use Rattle.jz_grammar.specs.InnerReading.{Reader, ◌>>=◌, through, follow, pick, many, leaf, inside, optional, more_of}
 use Rattle.jz_tree.specs.declared.expr.Decl.{Decl}
 use Rattle.jz_tree.specs.declared.expr.Storage.{Storage}
 use Rattle.jz_tree.specs.declared.expr.Storage.TheVariants as place
@@ -18,15 +18,18 @@ use Rattle.jz_tree.specs.declared.program.Program.{Program}
 use Rattle.jz_tree.specs.declared.program.Ret.{Ret}
 use Rattle.jz_tree.specs.declared.stmt.Stmt.{Stmt}
 use Rattle.jz_parse_expr.specs.Trees.{used_of}
-use Rattle.jz_parse_expr.specs.Readers.{the, key, name, word_type, index, expr}
-use Rattle.jz_parse.specs.NotesReaders.{notes}
-use Rattle.jz_parse.specs.StmtReaders.{stmt, stmt_starts}
+use Rattle.jz_parse_expr.specs.InnerReaders.{word_type, index, expr}
+use Rattle.jz_grammar.specs.InnerTokens.{the, key, name}
+use Rattle.jz_parse.specs.InnerNotesReaders.{notes}
+use Rattle.jz_parse.specs.InnerStmtReaders.{stmt, stmt_starts}
 use Rattle.jz_parse.specs.declared.function.Body.{Body}
 use Rattle.jz_parse.specs.declared.function.Item.{Item}
 use Rattle.jz_parse.specs.declared.function.Item.TheVariants.{Declares, Does}
 use Rattle.jz_parse.specs.declared.program.Part.{Part}
 use Rattle.jz_parse.specs.declared.program.Part.TheVariants.{Constant, Function}
-use Rattle.jz_parse.specs.Trees.{type_of, decl_of, declared_all, params_all, ret_of, joined_lists, or_empty, vars_in, stmts_in, body_of, fun_of, const_of, consts_in, funs_in, program_of}
+use Rattle.jz_parse.specs.Trees.{type_of, decl_of, declared_all, params_all, ret_of, vars_in, stmts_in, body_of, fun_of, const_of, consts_in, funs_in, program_of}
+use Rattle.jz_grammar.specs.Parts.{joined_lists, or_empty}
+use Rattle.jz_grammar.specs.InnerTokens.{ids, commas, comma, one_and}
 
 -- ---- the tokens that decide
 abbrev pub keyword : List ℕ → List Kind
@@ -35,21 +38,8 @@ keyword s = word s ∷ []
 abbrev pub mark : List ℕ → List Kind
 mark s = sign s ∷ []
 
-abbrev pub ids : List Kind
-ids = identifier ∷ []
-
-abbrev pub commas : List Kind
-commas = mark (codes ",")
-
 abbrev pub storages : List Kind
 storages = word (codes "reg") ∷ word (codes "stack") ∷ word (codes "inline") ∷ []
-
--- one, and what follows it, behind it
-abbrev pub one_and : {A : Type 0} → Reader A → (List A → Reader (List A)) → Reader (List A)
-one_and first more ts = first ts >>= λ x. more (x.0 ∷ []) x.1
-
-abbrev pub comma : {A : Type 0} → Reader A → Reader A
-comma f ts = through (λ p. p.1) (follow (the (codes ",")) f ts)
 
 -- ---- declarations
 unfoldable pub storage : Reader Storage
@@ -74,7 +64,7 @@ name_list ts = one_and name names_more ts
 
 -- ---- parameters
 unfoldable pub group : ℕ → Reader (List Param)
-group d ts = through (λ p. params_all p.0 p.1.0 p.1.1) (follow (notes d) (follow (declaration d) name_list) ts)
+group d ts = through (λ (ns, (t, xs)). params_all ns t xs) (follow (notes d) (follow (declaration d) name_list) ts)
 
 unfoldable pub next_group : ℕ → Reader (List Param)
 next_group d ts = comma (group d) ts
@@ -89,7 +79,7 @@ abbrev pub group_starts : List Kind
 group_starts = sign (codes "#") ∷ storages
 
 unfoldable pub params : ℕ → Reader (List Param)
-params d ts = through (λ p. or_empty p.1.0) (inside (mark (codes "(")) (λ b. follow (optional group_starts (groups b)) (the (codes ")"))) d ts)
+params d ts = through (λ (_, (gs, _)). or_empty gs) (inside (mark (codes "(")) (λ b. follow (optional group_starts (groups b)) (the (codes ")"))) d ts)
 
 -- ---- results
 unfoldable pub rtype : ℕ → Reader Ret
@@ -121,7 +111,7 @@ unfoldable pub declared_names : Reader (List (List ℕ × Span))
 declared_names ts = one_and name declared_more ts
 
 unfoldable pub decl : ℕ → Reader (List Var)
-decl d ts = through (λ p. declared_all p.0 p.1.0) (follow (declaration d) (follow declared_names (the (codes ";"))) ts)
+decl d ts = through (λ (t, (xs, _)). declared_all t xs) (follow (declaration d) (follow declared_names (the (codes ";"))) ts)
 
 -- ---- declarations and statements
 unfoldable pub item : ℕ → Reader Item
@@ -133,7 +123,7 @@ item_starts = storages ++ stmt_starts
 unfoldable pub items_more : ℕ → List Var → List Stmt → Reader (List Var × List Stmt)
 items_more d vars stmts ts = through (λ is. (vars ++ vars_in is, stmts ++ stmts_in is)) (many item_starts (item d) ts)
 
--- ---- variables_returned variables
+-- ---- returned variables
 unfoldable pub variable_used : Reader Var
 variable_used ts = through used_of (name ts)
 
@@ -147,7 +137,7 @@ unfoldable pub variables : Reader (List Var)
 variables ts = one_and variable_used used_more ts
 
 unfoldable pub variables_enclosed : ℕ → Reader (List Var)
-variables_enclosed d ts = through (λ p. p.1.0) (inside (mark (codes "(")) (λ b. follow variables (the (codes ")"))) d ts)
+variables_enclosed d ts = through (λ (_, (vars, _)). vars) (inside (mark (codes "(")) (λ b. follow variables (the (codes ")"))) d ts)
 
 unfoldable pub names : ℕ → Reader (List Var)
 names d = pick ids variables (variables_enclosed d)
@@ -156,25 +146,25 @@ abbrev pub names_starts : List Kind
 names_starts = identifier ∷ sign (codes "(") ∷ []
 
 unfoldable pub variables_returned : ℕ → Reader (List Var)
-variables_returned d ts = through (λ p. or_empty p.1.0) (follow (key (codes "return")) (follow (optional names_starts (names d)) (the (codes ";"))) ts)
+variables_returned d ts = through (λ (_, (vars, _)). or_empty vars) (follow (key (codes "return")) (follow (optional names_starts (names d)) (the (codes ";"))) ts)
 
 unfoldable pub ending : ℕ → Reader (List Var)
 ending d ts = through or_empty (optional (keyword (codes "return")) (variables_returned d) ts)
 
 -- ---- functions
 unfoldable pub body : ℕ → Reader Body
-body d ts = through (λ p. body_of p.1.0 p.1.1.0) (inside (mark (codes "{")) (λ b. follow (items_more b [] []) (follow (ending b) (the (codes "}")))) d ts)
+body d ts = through (λ (_, (items, (result, _))). body_of items result) (inside (mark (codes "{")) (λ b. follow (items_more b [] []) (follow (ending b) (the (codes "}")))) d ts)
 
 unfoldable pub kind : Reader FunKind
 kind = pick (keyword (codes "inline")) (λ ts. through (λ s. fun_kind.Inline) (key (codes "inline") ts)) (λ ts. through (λ s. fun_kind.Export) (key (codes "export") ts))
 
 unfoldable pub function : ℕ → Reader Fun
-function d ts = through (λ p. fun_of p.0 p.1.0 p.1.1.1.0 p.1.1.1.1.0 p.1.1.1.1.1.0 p.1.1.1.1.1.1)
+function d ts = through (λ (ns, (sort, (_, (id, (ps, (rets, inner)))))). fun_of ns sort id ps rets inner)
     (follow (notes d) (follow kind (follow (key (codes "fn")) (follow name (follow (params d) (follow (results d) (body d)))))) ts)
 
 -- ---- programs
 unfoldable pub constant : ℕ → Reader Const
-constant d ts = through (λ p. const_of p.1.1.0 p.1.1.1.1.0)
+constant d ts = through (λ (_, (_, (id, (_, (value, _))))). const_of id value)
     (follow (key (codes "param")) (follow (key (codes "int")) (follow name (follow (the (codes "=")) (follow (expr d) (the (codes ";")))))) ts)
 
 unfoldable pub part : ℕ → Reader Part

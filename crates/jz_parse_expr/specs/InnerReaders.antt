@@ -4,13 +4,14 @@ use Rattle.jz_tree.specs.Span.{Span}
 use Rattle.jz_tree.specs.Size.{Size}
 use Rattle.jz_grammar.specs.Causes.{Unexpected}
 use Rattle.jz_grammar.specs.Kinds.{Kind, word, sign, identifier, number, cast, span_of}
-use Rattle.jz_grammar.specs.Reading.{Reader, through, follow, pick, many, leaf, inside, optional}
+use Rattle.jz_grammar.specs.InnerReading.{Reader, through, follow, pick, many, leaf, inside, optional}
 use Rattle.jz_grammar.specs.Tokens.{name_of, number_of_token, cast_of, word_types, size_of_token}
 use Rattle.jz_tree.specs.declared.expr.Expr.{Expr}
 use Rattle.jz_tree.specs.declared.expr.Access.{Access}
 use Rattle.jz_tree.specs.declared.expr.BinOp.{BinOp}
 use Rattle.jz_parse_expr.specs.Operators.{ops_of, op_of, operators, level_count}
 use Rattle.jz_parse_expr.specs.Trees.{number_expr, bool_expr, name_expr, neg_expr, not_expr, access_of, load_expr, chain, Group, At, As, Plain, group_expr}
+use Rattle.jz_grammar.specs.InnerTokens.{key, the, name}
 
 -- the signs that begin an expression, the tokens that do, those that go on with one, and those that
 -- begin an access
@@ -27,14 +28,6 @@ abbrev pub access_starts : List Kind
 access_starts = sign (codes "(") ∷ sign (codes "[") ∷ []
 
 -- ---- one token
-abbrev pub the : List ℕ → Reader Span
-the s = leaf (sign s ∷ []) span_of
-
-abbrev pub key : List ℕ → Reader Span
-key s = leaf (word s ∷ []) span_of
-
-abbrev pub name : Reader (List ℕ × Span)
-name = leaf (identifier ∷ []) name_of
 
 abbrev pub word_type : Reader Size
 word_type = leaf word_types size_of_token
@@ -57,28 +50,28 @@ expr_of unary ts = levels unary level_count ts
 
 -- ---- brackets
 unfoldable pub bracket : (ℕ → Reader (Span × Expr)) → ℕ → Reader Expr
-bracket low d ts = through (λ p. p.1.0.1) (inside (sign (codes "[") ∷ []) (λ b. follow (expr_of (low b)) (the (codes "]"))) d ts)
+bracket low d ts = through (λ (_, ((_, at), _)). at) (inside (sign (codes "[") ∷ []) (λ b. follow (expr_of (low b)) (the (codes "]"))) d ts)
 
 -- the size in parentheses behind their "(", and the address; the bracket is open where the
 -- parentheses were
 unfoldable pub sized_rest : Reader (Span × Expr) → Reader (Size × Expr)
-sized_rest unary ts = through (λ p. (p.0, p.1.1.1.0.1)) (follow word_type (follow (the (codes ")")) (follow (the (codes "[")) (follow (expr_of unary) (the (codes "]"))))) ts)
+sized_rest unary ts = through (λ (size, (_, (_, ((_, at), _)))). (size, at)) (follow word_type (follow (the (codes ")")) (follow (the (codes "[")) (follow (expr_of unary) (the (codes "]"))))) ts)
 
 unfoldable pub cast_access : (ℕ → Reader (Span × Expr)) → ℕ → Reader (Span × (Option Size × Expr))
-cast_access low d ts = through (λ p. (p.0, (Some p.1.0, p.1.1))) (inside (sign (codes "(") ∷ []) (λ b. sized_rest (low b)) d ts)
+cast_access low d ts = through (λ (span, (size, at)). (span, (Some size, at))) (inside (sign (codes "(") ∷ []) (λ b. sized_rest (low b)) d ts)
 
 unfoldable pub size_mark : Reader Size
 size_mark ts = through (λ p. p.1) (follow (the (codes ":")) word_type ts)
 
 unfoldable pub plain_access : (ℕ → Reader (Span × Expr)) → ℕ → Reader (Span × (Option Size × Expr))
-plain_access low d ts = through (λ p. (p.0, (p.1.0, p.1.1.0.1))) (inside (sign (codes "[") ∷ []) (λ b. follow (optional (sign (codes ":") ∷ []) size_mark) (follow (expr_of (low b)) (the (codes "]")))) d ts)
+plain_access low d ts = through (λ (span, (size, ((_, at), _))). (span, (size, at))) (inside (sign (codes "[") ∷ []) (λ b. follow (optional (sign (codes ":") ∷ []) size_mark) (follow (expr_of (low b)) (the (codes "]")))) d ts)
 
 -- ---- parentheses
 unfoldable pub cast_rest : Reader (Span × Expr) → Reader Group
-cast_rest unary ts = through (λ p. As p.0 p.1.1.1) (follow (leaf (cast ∷ []) cast_of) (follow (the (codes ")")) unary) ts)
+cast_rest unary ts = through (λ (size, (_, (_, e))). As size e) (follow (leaf (cast ∷ []) cast_of) (follow (the (codes ")")) unary) ts)
 
 unfoldable pub plain_rest : Reader (Span × Expr) → Reader Group
-plain_rest unary ts = through (λ p. Plain p.0.1) (follow (expr_of unary) (the (codes ")")) ts)
+plain_rest unary ts = through (λ ((_, e), _). Plain e) (follow (expr_of unary) (the (codes ")")) ts)
 
 unfoldable pub group : Reader (Span × Expr) → Reader Group
 group unary = pick word_types (λ ts. through (λ p. At p.0 p.1) (sized_rest unary ts)) (pick (cast ∷ []) (cast_rest unary) (plain_rest unary))

@@ -3,7 +3,7 @@ use Rattle.std.specs.Prelude.{◌≡◌, ◌<◌, ℕ, zero, suc, List, [], ◌�
 use Rattle.jz_lex.specs.declared.token.Token.{Token}
 use Rattle.jz_grammar.specs.Causes.{Cause, Unexpected, TooDeep}
 use Rattle.jz_grammar.specs.Kinds.{Kind, is_in, has}
-use Rattle.jz_grammar.specs.Reading.{Answer, Reader}
+use Rattle.jz_grammar.specs.InnerReading.{Answer, Reader}
 use Rattle.jz_grammar.specs.Grammar.{Marked, Lang, plain, Within}
 
 -- how phrases begin, which tokens after one would go on with it, and whether the empty one is there
@@ -63,11 +63,6 @@ pub record IsReader {A : Type 0} (read : Reader A) (lang : ℕ → Lang A) (s : 
   pub found : (ts rest : List Token) (a : A) → read ts ≡ Ok (a, rest) → Found read lang ts a rest
   pub stop : (ts rest : List Token) (k : Cause) → read ts ≡ Err (k, rest) → Stopped read lang ts k rest
 
--- a more than b; it computes by a
-abbrev pub plus : ℕ → ℕ → ℕ
-plus zero e = e
-plus (suc d) e = suc (plus d e)
-
 -- the shape of one token of these kinds
 abbrev pub one_shape : List Kind → Shape
 one_shape ks = record { starts = ks; goes = []; empties = false }
@@ -101,21 +96,3 @@ HasPhrase {A} lang = (e : ℕ) → 0 < e → (xs : List Marked) × (a : A) × la
 pub record Second {A : Type 0} (ks ls : List Kind) (read : Reader A) (lang : ℕ → Lang A) : Type 0 where
   pub next : (e : ℕ) (x y : Marked) (xs : List Marked) (a : A) → lang e (x ∷ y ∷ xs) a → is_in ks x.0 ≡ true → is_in ls y.0 ≡ false
   pub takes : (t : Token) (ts : List Token) (k : Cause) → is_in ks t ≡ true → read (t ∷ ts) ≡ Err (k, t ∷ ts) → ⊥
-
--- ---- the whole
--- the tokens are a text's, with nothing nested deeper than the limit
-abbrev pub Derives : {A : Type 0} → (ℕ → Lang A) → ℕ → List Token → A → Type 0
-Derives lang limit ts a = (xs : List Marked) × lang limit xs a × (plain xs ≡ ts)
-
--- the tokens begin a text
-abbrev pub Begins : {A : Type 0} → (ℕ → Lang A) → ℕ → List Token → Type 0
-Begins {A} lang limit ts = (e : ℕ) × (xs : List Marked) × (ys : List Marked) × (a : A) × lang (plus limit e) (xs ++ ys) a × (plain xs ≡ ts)
-
--- and nothing at them is nested deeper than the limit
-abbrev pub BeginsWithin : {A : Type 0} → (ℕ → Lang A) → ℕ → List Token → Type 0
-BeginsWithin {A} lang limit ts = (e : ℕ) × (xs : List Marked) × (ys : List Marked) × (a : A) × lang (plus limit e) (xs ++ ys) a × (plain xs ≡ ts) × Within e xs
-
--- the token t after pre is the first wrong one
-abbrev pub IsRefused : {A : Type 0} → (ℕ → Lang A) → ℕ → Cause → List Token → Token → Type 0
-IsRefused lang limit Unexpected pre t = BeginsWithin lang limit pre × (Begins lang limit (pre ++ t ∷ []) → ⊥)
-IsRefused lang limit TooDeep pre t = BeginsWithin lang limit pre × Begins lang limit (pre ++ t ∷ []) × (BeginsWithin lang limit (pre ++ t ∷ []) → ⊥)

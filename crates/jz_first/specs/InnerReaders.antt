@@ -2,7 +2,7 @@
 use Rattle.std.specs.Prelude.{ℕ, zero, suc, ◌-◌, List, [], ◌∷◌, ◌++◌, length, codes}
 use Rattle.jz_grammar.specs.Span.{Span}
 use Rattle.jz_grammar.specs.Kinds.{Kind, word, sign, identifier, number, end, span_of}
-use Rattle.jz_grammar.specs.Reading.{Reader, ◌>>=◌, through, follow, depend, pick, many_by, leaf, optional, more_of, few_of}
+use Rattle.jz_grammar.specs.InnerReading.{Reader, ◌>>=◌, through, follow, depend, pick, many_by, leaf, optional, more_of, few_of}
 use Rattle.jz_first.specs.declared.tree.Program.{Program}
 use Rattle.jz_first.specs.declared.tree.Fun.{Fun}
 use Rattle.jz_first.specs.declared.tree.Param.{Param}
@@ -16,17 +16,10 @@ use Rattle.jz_first.specs.declared.function.Body.{Body}
 use Rattle.jz_first.specs.declared.statement.Item.{Item}
 use Rattle.jz_first.specs.declared.statement.Item.TheVariants.{Declares, Does}
 use Rattle.jz_grammar.specs.Tokens.{name_of, number_of_token}
-use Rattle.jz_first.specs.Trees.{number_expr, assignments, operation_of, register_word, declared_of, param_of, used_of, assign_statement, vars_in, stmts_in, joined_lists, or_empty, fun_of, program_of}
+use Rattle.jz_first.specs.Trees.{number_expr, assignments, operation_of, register_word, declared_of, param_of, used_of, assign_statement, vars_in, stmts_in, fun_of, program_of}
+use Rattle.jz_grammar.specs.Parts.{joined_lists, or_empty}
 use Rattle.jz_first.specs.Grammar.{most_names}
-
-abbrev pub key : List ℕ → Reader Span
-key s = leaf (word s ∷ []) span_of
-
-abbrev pub the : List ℕ → Reader Span
-the s = leaf (sign s ∷ []) span_of
-
-abbrev pub name : Reader (List ℕ × Span)
-name = leaf (identifier ∷ []) name_of
+use Rattle.jz_grammar.specs.InnerTokens.{key, the, name, ids, commas, comma, one_and}
 
 unfoldable pub variable_declared : Reader Var
 variable_declared ts = through declared_of (name ts)
@@ -36,20 +29,6 @@ param ts = through param_of (variable_declared ts)
 
 unfoldable pub variable_used : Reader Var
 variable_used ts = through used_of (name ts)
-
--- the tokens that may go on
-abbrev pub ids : List Kind
-ids = identifier ∷ []
-
-abbrev pub commas : List Kind
-commas = sign (codes ",") ∷ []
-
-abbrev pub comma : {A : Type 0} → Reader A → Reader A
-comma f ts = through (λ p. p.1) (follow (the (codes ",")) f ts)
-
--- one, and what follows it, behind it
-abbrev pub one_and : {A : Type 0} → Reader A → (List A → Reader (List A)) → Reader (List A)
-one_and first more ts = first ts >>= λ x. more (x.0 ∷ []) x.1
 
 unfoldable pub reg_u64 : Reader Decl
 reg_u64 ts = through (λ p. register_word) (follow (key (codes "reg")) (key (codes "u64")) ts)
@@ -80,7 +59,7 @@ unfoldable pub groups : Reader (List Param)
 groups ts = group (most_names - 1) ts >>= λ x. groups_more (most_names - length x.0) x.0 x.1
 
 unfoldable pub params : Reader (List Param)
-params ts = through (λ p. or_empty p.1.0) (follow (the (codes "(")) (follow (optional (word (codes "reg") ∷ []) groups) (the (codes ")"))) ts)
+params ts = through (λ (_, (gs, _)). or_empty gs) (follow (the (codes "(")) (follow (optional (word (codes "reg") ∷ []) groups) (the (codes ")"))) ts)
 
 -- ---- results
 unfoldable pub rtype : Reader Ret
@@ -107,13 +86,13 @@ declared_more n out ts = few_of n declared_starts next_declared out ts
 
 -- a declaration of at most n names after its first
 unfoldable pub decl : ℕ → Reader (List Var)
-decl n ts = through (λ p. p.1.0) (follow reg_u64 (follow (one_and variable_declared (declared_more n)) (the (codes ";"))) ts)
+decl n ts = through (λ (_, (vars, _)). vars) (follow reg_u64 (follow (one_and variable_declared (declared_more n)) (the (codes ";"))) ts)
 
 unfoldable pub operand : Reader Expr
 operand = pick ids (λ ts. through expr.Var (variable_used ts)) (λ ts. through number_expr (leaf (number ∷ []) number_of_token ts))
 
 unfoldable pub stmt : Reader Stmt
-stmt ts = through (λ p. assign_statement p.0 p.1.0 p.1.1.0) (follow variable_used (follow (leaf assignments operation_of) (follow operand (the (codes ";")))) ts)
+stmt ts = through (λ (to, (op, (from, _))). assign_statement to op from) (follow variable_used (follow (leaf assignments operation_of) (follow operand (the (codes ";")))) ts)
 
 -- a declaration or statement, where so many names are left
 abbrev pub decl_starts : ℕ → List Kind
@@ -144,26 +123,26 @@ unfoldable pub variables : Reader (List Var)
 variables ts = one_and variable_used used_more ts
 
 unfoldable pub names : Reader (List Var)
-names = pick ids variables (λ ts. through (λ p. p.1.0) (follow (the (codes "(")) (follow variables (the (codes ")"))) ts))
+names = pick ids variables (λ ts. through (λ (_, (vars, _)). vars) (follow (the (codes "(")) (follow variables (the (codes ")"))) ts))
 
 abbrev pub name_starts : List Kind
 name_starts = identifier ∷ sign (codes "(") ∷ []
 
 unfoldable pub variables_returned : Reader (List Var)
-variables_returned ts = through (λ p. or_empty p.1.0) (follow (key (codes "return")) (follow (optional name_starts names) (the (codes ";"))) ts)
+variables_returned ts = through (λ (_, (vars, _)). or_empty vars) (follow (key (codes "return")) (follow (optional name_starts names) (the (codes ";"))) ts)
 
 unfoldable pub ending : Reader (List Var)
 ending ts = through or_empty (optional (word (codes "return") ∷ []) variables_returned ts)
 
 unfoldable pub body : ℕ → Reader Body
-body n ts = through (λ p. record { vars = p.1.0.0; stmts = p.1.0.1; result = p.1.1.0 }) (follow (the (codes "{")) (follow (items_more n [] []) (follow ending (the (codes "}")))) ts)
+body n ts = through (λ (_, ((vars, stmts), (result, _))). record { vars = vars; stmts = stmts; result = result }) (follow (the (codes "{")) (follow (items_more n [] []) (follow ending (the (codes "}")))) ts)
 
 -- what follows the parameters
 abbrev pub after_params : List Param → Reader (List Ret × Body)
 after_params ps = follow results (body (most_names - length ps))
 
 unfoldable pub function : Reader Fun
-function ts = through (λ p. fun_of p.1.1.0 p.1.1.1.0 p.1.1.1.1.0 p.1.1.1.1.1) (follow (key (codes "export")) (follow (key (codes "fn")) (follow name (depend params after_params))) ts)
+function ts = through (λ (_, (_, (id, (ps, (rets, inner))))). fun_of id ps rets inner) (follow (key (codes "export")) (follow (key (codes "fn")) (follow name (depend params after_params))) ts)
 
 unfoldable pub functions_more : List Fun → Reader (List Fun)
 functions_more out ts = more_of (word (codes "export") ∷ []) function out ts

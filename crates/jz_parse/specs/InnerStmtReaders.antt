@@ -4,7 +4,7 @@ use Rattle.std.specs.Prelude.{ℕ, zero, suc, List, [], ◌∷◌, Bool, true, f
 use Rattle.jz_tree.specs.Span.{Span}
 use Rattle.jz_grammar.specs.Causes.{Unexpected}
 use Rattle.jz_grammar.specs.Kinds.{Kind, sign, word, identifier}
-use Rattle.jz_grammar.specs.Reading.{Reader, ◌>>=◌, through, follow, pick, pick_both, many, leaf, inside, optional, more_of}
+use Rattle.jz_grammar.specs.InnerReading.{Reader, ◌>>=◌, through, follow, pick, pick_both, many, leaf, inside, optional, more_of}
 use Rattle.jz_tree.specs.declared.expr.Expr.{Expr}
 use Rattle.jz_tree.specs.declared.expr.BinOp.{BinOp}
 use Rattle.jz_tree.specs.declared.stmt.Lval.{Lval}
@@ -13,16 +13,16 @@ use Rattle.jz_tree.specs.declared.stmt.Rhs.{Rhs}
 use Rattle.jz_tree.specs.declared.stmt.Rhs.TheVariants.{Value}
 use Rattle.jz_tree.specs.declared.stmt.Stmt.{Stmt}
 use Rattle.jz_tree.specs.declared.stmt.StmtKind.{StmtKind}
-use Rattle.jz_parse_expr.specs.Readers.{the, key, name, expr, index, access, expr_starts}
-use Rattle.jz_parse.specs.StmtTrees.{assignments, operation_of, or_empty, call_of, intrinsic_of, name_lval, span_of_lval, assign_statement, call_statement, if_statement, while_statement, for_statement, stmt_of}
-use Rattle.jz_parse.specs.NotesReaders.{notes}
+use Rattle.jz_parse_expr.specs.InnerReaders.{expr, index, access, expr_starts}
+use Rattle.jz_grammar.specs.InnerTokens.{the, key, name}
+use Rattle.jz_parse.specs.StmtTrees.{assignments, operation_of, call_of, intrinsic_of, name_lval, span_of_lval, assign_statement, call_statement, if_statement, while_statement, for_statement, stmt_of}
+use Rattle.jz_grammar.specs.Parts.{or_empty}
+use Rattle.jz_parse.specs.InnerNotesReaders.{notes}
+use Rattle.jz_grammar.specs.InnerTokens.{commas, comma}
 
 -- ---- the tokens that decide
 abbrev pub names : List Kind
 names = identifier ∷ []
-
-abbrev pub commas : List Kind
-commas = sign (codes ",") ∷ []
 
 abbrev pub parens : List Kind
 parens = sign (codes "(") ∷ []
@@ -47,8 +47,6 @@ abbrev pub stmt_goes : List Kind
 stmt_goes = word (codes "else") ∷ sign (codes "{") ∷ sign (codes ";") ∷ []
 
 -- ---- right sides
-abbrev pub comma : {A : Type 0} → Reader A → Reader A
-comma f ts = through (λ p. p.1) (follow (the (codes ",")) f ts)
 
 unfoldable pub next_arg : ℕ → Reader Expr
 next_arg d ts = comma (expr d) ts
@@ -60,7 +58,7 @@ unfoldable pub args : ℕ → Reader (List Expr)
 args d ts = expr d ts >>= λ x. args_more d (x.0 ∷ []) x.1
 
 unfoldable pub call_args : ℕ → Reader (List Expr)
-call_args d ts = through (λ p. or_empty p.1.0) (inside parens (λ b. follow (optional expr_starts (args b)) (the (codes ")"))) d ts)
+call_args d ts = through (λ (_, (es, _)). or_empty es) (inside parens (λ b. follow (optional expr_starts (args b)) (the (codes ")"))) d ts)
 
 unfoldable pub intrinsic : ℕ → Reader Rhs
 intrinsic d ts = through intrinsic_of (follow (the (codes "#")) (follow name (call_args d)) ts)
@@ -100,7 +98,7 @@ assign d ts =
     Ok (assign_statement (span_of_lval first.0) to.0 y.0.0 y.0.1.0 y.0.1.1.0, y.1)
 
 unfoldable pub call : ℕ → Reader (Span × StmtKind)
-call d ts = through (λ p. call_statement (p.0, p.1.0)) (follow name (follow (call_args d) (the (codes ";"))) ts)
+call d ts = through (λ (id, (es, _)). call_statement (id, es)) (follow name (follow (call_args d) (the (codes ";"))) ts)
 
 unfoldable pub simple : ℕ → Reader (Span × StmtKind)
 simple d = pick_both names parens (call d) (assign d)
@@ -111,7 +109,7 @@ pub record Low : Type 0 where
   pub stmts : Reader Stmt
 
 unfoldable pub block : (ℕ → Low) → ℕ → Reader (List Stmt)
-block low d ts = through (λ p. p.1.0) (inside braces (λ b. follow (many stmt_starts (low b).stmts) (the (codes "}"))) d ts)
+block low d ts = through (λ (_, (inner, _)). inner) (inside braces (λ b. follow (many stmt_starts (low b).stmts) (the (codes "}"))) d ts)
 
 unfoldable pub else_body : (ℕ → Low) → ℕ → Reader (List Stmt)
 else_body low d = pick (word (codes "if") ∷ []) (λ ts. through (λ p. stmt_of [] (if_statement p.0 p.1) ∷ []) (inside (word (codes "if") ∷ []) (λ b. (low b).ifs) d ts)) (block low d)
@@ -120,13 +118,13 @@ unfoldable pub else_arm : (ℕ → Low) → ℕ → Reader (List Stmt)
 else_arm low d ts = through (λ p. p.1) (follow (key (codes "else")) (else_body low d) ts)
 
 unfoldable pub if_rest : (ℕ → Low) → ℕ → Reader (Expr × (List Stmt × List Stmt))
-if_rest low d ts = through (λ p. (p.0, (p.1.0, or_empty p.1.1))) (follow (expr d) (follow (block low d) (optional (word (codes "else") ∷ []) (else_arm low d))) ts)
+if_rest low d ts = through (λ (cond, (arm, other)). (cond, (arm, or_empty other))) (follow (expr d) (follow (block low d) (optional (word (codes "else") ∷ []) (else_arm low d))) ts)
 
 unfoldable pub if_form : (ℕ → Low) → ℕ → Reader (Span × StmtKind)
 if_form low d ts = through (λ p. if_statement p.0 p.1) (follow (key (codes "if")) (if_rest low d) ts)
 
 unfoldable pub loop_condition : ℕ → Reader Expr
-loop_condition d ts = through (λ p. p.1.0) (inside parens (λ b. follow (expr b) (the (codes ")"))) d ts)
+loop_condition d ts = through (λ (_, (cond, _)). cond) (inside parens (λ b. follow (expr b) (the (codes ")"))) d ts)
 
 unfoldable pub prologue : (ℕ → Low) → ℕ → Reader (List Stmt)
 prologue low d ts = through or_empty (optional braces (block low d) ts)
@@ -135,13 +133,13 @@ unfoldable pub body : (ℕ → Low) → ℕ → Reader (Option (List Stmt))
 body low d = pick braces (λ ts. through (λ b. Some b) (block low d ts)) (λ ts. through (λ p. None) (optional (sign (codes ";") ∷ []) (the (codes ";")) ts))
 
 unfoldable pub while_form : (ℕ → Low) → ℕ → Reader (Span × StmtKind)
-while_form low d ts = through (λ p. while_statement p.0 p.1.0 p.1.1.0 p.1.1.1) (follow (key (codes "while")) (follow (prologue low d) (follow (loop_condition d) (body low d))) ts)
+while_form low d ts = through (λ (span, (before, (cond, inner))). while_statement span before cond inner) (follow (key (codes "while")) (follow (prologue low d) (follow (loop_condition d) (body low d))) ts)
 
 unfoldable pub direction : Reader Bool
 direction = pick (word (codes "to") ∷ []) (λ ts. through (λ p. false) (key (codes "to") ts)) (λ ts. through (λ p. true) (key (codes "downto") ts))
 
 unfoldable pub for_form : (ℕ → Low) → ℕ → Reader (Span × StmtKind)
-for_form low d ts = through (λ p. for_statement p.0 p.1.0 p.1.1.1.0 p.1.1.1.1.0 p.1.1.1.1.1.0 p.1.1.1.1.1.1)
+for_form low d ts = through (λ (span, (counter, (_, (from, (down, (to, inner)))))). for_statement span counter from down to inner)
     (follow (key (codes "for")) (follow name (follow (the (codes "=")) (follow (expr d) (follow direction (follow (expr d) (block low d)))))) ts)
 
 unfoldable pub form : (ℕ → Low) → ℕ → Reader (Span × StmtKind)

@@ -1,19 +1,20 @@
 -- The whole program: what is read of it, and what its tokens are.
 use Rattle.std.proofs.Common.{◌≡◌, ℕ, ◌+◌, ◌≤◌, List, [], ◌∷◌, ◌++◌, length, Ok, Err, refl, codes}
 use Rattle.jz_grammar.specs.Kinds.{Kind, word, sign, identifier, number, end, span_of}
-use Rattle.jz_grammar.specs.Reading.{Answer, through, many}
+use Rattle.jz_grammar.specs.InnerReading.{Answer, through, many}
 use Rattle.jz_grammar.specs.Grammar.{Lang, each}
-use Rattle.jz_grammar.specs.Laws.{Shape, IsReader, full, many_shape}
+use Rattle.jz_grammar.proofs.Laws.{Shape, IsReader, full, many_shape}
 use Rattle.jz_grammar.proofs.Combine.{follow_reads, map_reads, many_reads, reads_as}
 use Rattle.jz_grammar.proofs.Samples.{end_reads, end_token, end_in, some_leaf}
 use Rattle.jz_grammar.proofs.Steady.{IsSteady, steady_leaf, steady_then, steady_or, steady_map, steady_only, steady_each, steady_maybe, steady_more}
 use Rattle.jz_first.specs.declared.tree.Expr.TheVariants as expr
 use Rattle.jz_first.specs.declared.statement.Item.TheVariants.{Declares, Does}
 use Rattle.jz_grammar.specs.Tokens.{name_of, number_of_token}
-use Rattle.jz_first.specs.Trees.{number_expr, assignments, operation_of, register_word, declared_of, param_of, used_of, assign_statement, body_of, joined_lists, or_empty, fun_of, program_of}
+use Rattle.jz_first.specs.Trees.{number_expr, assignments, operation_of, register_word, declared_of, param_of, used_of, assign_statement, body_of, fun_of, program_of}
+use Rattle.jz_grammar.specs.Parts.{joined_lists, or_empty}
 use Rattle.jz_first.specs.Grammar as g
 use Rattle.jz_first.specs.Grammar.{most_names}
-use Rattle.jz_first.specs.Readers as r
+use Rattle.jz_first.specs.InnerReaders as r
 use Rattle.jz_first.proofs.Counted.{exports}
 use Rattle.jz_first.proofs.Same.{function_law}
 

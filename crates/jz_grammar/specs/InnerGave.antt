@@ -5,7 +5,7 @@ use Rattle.jz_lex.specs.Failure.TheVariants.{Refused, OutOfMemory}
 use Rattle.jz_lex.specs.declared.token.Token.{Token}
 use Rattle.jz_grammar.specs.Causes.{Cause}
 use Rattle.jz_grammar.specs.Causes as cause
-use Rattle.jz_grammar.specs.Reading.{Answer}
+use Rattle.jz_grammar.specs.InnerReading.{Answer}
 use Rattle.jz_grammar.specs.declared.fault.SyntaxKind.{SyntaxKind}
 use Rattle.jz_grammar.specs.declared.fault.SyntaxKind.TheVariants.{Unexpected, TooDeep}
 
