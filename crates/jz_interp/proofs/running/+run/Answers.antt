@@ -43,7 +43,7 @@ run_block-run_statement-requires t c =
 
 pub run_block-returns-in_err-more : goal.run_block-returns-in_err-more
 run_block-returns-in_err-more t c =
-    handed_on c.from_residual.result c.in_err-more.field-0
+    handed_on c.from_residual.result c.in_err-more.field-0.0
     (PieceGoes (statement_tree (callees_in c.args.code.now c.args.depth) c.stmt-item.result) c.loop-stmt.left (state_of c.loop-stmt.state) (state_of c.run_statement.new.state))
     (PieceGoes (block (callees_in c.args.code.now c.args.depth) c.args.stmts.now) c.args.fuel (state_of c.args.state.now) (state_of c.run_statement.new.state))
     c.from_residual.ensures.1 c.in_err-more.ensures
@@ -62,7 +62,7 @@ run_block-loop-stmt-preserved t c =
 pub run_statement-returns-in_err-ran-in-Assign : goal.run_statement-returns-in_err-ran-in-Assign
 run_statement-returns-in_err-ran-in-Assign t c =
     let f = statement_tree (callees_in c.args.code.now c.args.depth) c.args.stmt.now in let u = state_of c.run_assign.new.state in
-    handed_on c.from_residual-in_err-ran-in-Assign.result c.in_err-ran-in-Assign.field-0
+    handed_on c.from_residual-in_err-ran-in-Assign.result c.in_err-ran-in-Assign.field-0.0
     (PieceGoes _ c.args.fuel (state_of c.args.state.now) u) (PieceGoes f c.args.fuel (state_of c.args.state.now) u)
     c.from_residual-in_err-ran-in-Assign.ensures.1 c.in_err-ran-in-Assign.ensures
     (λ k h. subst (λ g. PieceGoes g c.args.fuel (state_of c.args.state.now) u (Err k)) (sym (assign_is (callees_in c.args.code.now c.args.depth) c.args.stmt.now c.in-Assign.to c.in-Assign.op c.in-Assign.rhs c.in-Assign.cond c.in-Assign.is)) h)
@@ -75,7 +75,7 @@ run_statement-returns-in_ok-ran-in-Assign t c =
 pub run_statement-returns-in_err-ran-in-If : goal.run_statement-returns-in_err-ran-in-If
 run_statement-returns-in_err-ran-in-If t c =
     let f = statement_tree (callees_in c.args.code.now c.args.depth) c.args.stmt.now in let u = state_of c.run_if.new.state in
-    handed_on c.from_residual-in_err-ran-in-If.result c.in_err-ran-in-If.field-0
+    handed_on c.from_residual-in_err-ran-in-If.result c.in_err-ran-in-If.field-0.0
     (PieceGoes _ c.args.fuel (state_of c.args.state.now) u) (PieceGoes f c.args.fuel (state_of c.args.state.now) u)
     c.from_residual-in_err-ran-in-If.ensures.1 c.in_err-ran-in-If.ensures
     (λ k h. subst (λ g. PieceGoes g c.args.fuel (state_of c.args.state.now) u (Err k)) (sym (if_is (callees_in c.args.code.now c.args.depth) c.args.stmt.now c.in-If.cond c.in-If.holds c.in-If.other c.in-If.is)) h)
@@ -88,7 +88,7 @@ run_statement-returns-in_ok-ran-in-If t c =
 pub run_statement-returns-in_err-ran-in-While : goal.run_statement-returns-in_err-ran-in-While
 run_statement-returns-in_err-ran-in-While t c =
     let f = statement_tree (callees_in c.args.code.now c.args.depth) c.args.stmt.now in let u = state_of c.run_while.new.state in
-    handed_on c.from_residual-in_err-ran-in-While.result c.in_err-ran-in-While.field-0
+    handed_on c.from_residual-in_err-ran-in-While.result c.in_err-ran-in-While.field-0.0
     (PieceGoes _ c.args.fuel (state_of c.args.state.now) u) (PieceGoes f c.args.fuel (state_of c.args.state.now) u)
     c.from_residual-in_err-ran-in-While.ensures.1 c.in_err-ran-in-While.ensures
     (λ k h. subst (λ g. PieceGoes g c.args.fuel (state_of c.args.state.now) u (Err k)) (sym (while_is (callees_in c.args.code.now c.args.depth) c.args.stmt.now c.in-While.prologue c.in-While.cond c.in-While.body c.in-While.is)) h)
@@ -101,7 +101,7 @@ run_statement-returns-in_ok-ran-in-While t c =
 pub run_statement-returns-in_err-ran-in-For : goal.run_statement-returns-in_err-ran-in-For
 run_statement-returns-in_err-ran-in-For t c =
     let f = statement_tree (callees_in c.args.code.now c.args.depth) c.args.stmt.now in let u = state_of c.run_for.new.state in
-    handed_on c.from_residual-in_err-ran-in-For.result c.in_err-ran-in-For.field-0
+    handed_on c.from_residual-in_err-ran-in-For.result c.in_err-ran-in-For.field-0.0
     (PieceGoes _ c.args.fuel (state_of c.args.state.now) u) (PieceGoes f c.args.fuel (state_of c.args.state.now) u)
     c.from_residual-in_err-ran-in-For.ensures.1 c.in_err-ran-in-For.ensures
     (λ k h. subst (λ g. PieceGoes g c.args.fuel (state_of c.args.state.now) u (Err k)) (sym (for_is (callees_in c.args.code.now c.args.depth) c.args.stmt.now c.in-For.counter c.in-For.from c.in-For.down c.in-For.to c.in-For.body c.in-For.is)) h)
@@ -118,14 +118,14 @@ run_statement-returns-in_ok-unset_all-in-Mark t c =
 
 pub run_if-returns-in_err-answer : goal.run_if-returns-in_err-answer
 run_if-returns-in_err-answer t c =
-    handed_on c.from_residual.result c.in_err-answer.field-0
+    handed_on c.from_residual.result c.in_err-answer.field-0.0
     (NumbersGo c.new-numbers.result c.truth_in.new.out (tests (condition_of c.args.test) (state_of c.args.state.now)))
     (PieceGoes (choose (condition_of c.args.test) (inner_block (callees_in c.args.code.now c.args.depth) c.args.holds.now) (inner_block (callees_in c.args.code.now c.args.depth) c.args.other.now)) c.args.fuel (state_of c.args.state.now) (state_of c.args.state.now))
     c.from_residual.ensures.1 c.in_err-answer.ensures (if_fails (callees_in c.args.code.now c.args.depth) (condition_of c.args.test) c.args.holds.now c.args.other.now c.args.fuel (state_of c.args.state.now) c.new-numbers.result c.truth_in.new.out c.new-numbers.ensures)
 
 pub run_if-returns-in_err-ran : goal.run_if-returns-in_err-ran
 run_if-returns-in_err-ran t c =
-    handed_on c.from_residual-in_err-ran.result c.in_err-ran.field-0
+    handed_on c.from_residual-in_err-ran.result c.in_err-ran.field-0.0
     (PieceGoes (block (callees_in c.args.code.now c.args.depth) c.arm.result.now) c.args.fuel (state_of c.args.state.now) (state_of c.run_block.new.state))
     (PieceGoes (choose (condition_of c.args.test) (inner_block (callees_in c.args.code.now c.args.depth) c.args.holds.now) (inner_block (callees_in c.args.code.now c.args.depth) c.args.other.now)) c.args.fuel (state_of c.args.state.now) (state_of c.run_block.new.state))
     c.from_residual-in_err-ran.ensures.1 c.in_err-ran.ensures
@@ -138,7 +138,7 @@ run_if-returns t c =
 
 pub run_body-returns-in_err-ran-in-Some : goal.run_body-returns-in_err-ran-in-Some
 run_body-returns-in_err-ran-in-Some t c =
-    handed_on c.from_residual.result c.in_err-ran-in-Some.field-0
+    handed_on c.from_residual.result c.in_err-ran-in-Some.field-0.0
     (PieceGoes (block (callees_in c.args.code.now c.args.depth) c.in-Some.stmts.now) c.args.fuel (state_of c.args.state.now) (state_of c.run_block.new.state))
     (PieceGoes (body_piece (callees_in c.args.code.now c.args.depth) c.args.body.now) c.args.fuel (state_of c.args.state.now) (state_of c.run_block.new.state))
     c.from_residual.ensures.1 c.in_err-ran-in-Some.ensures
@@ -151,7 +151,7 @@ run_body-returns-in_ok-ran-in-Some t c =
 
 pub run_test-returns-in_err-more : goal.run_test-returns-in_err-more
 run_test-returns-in_err-more t c =
-    handed_on c.from_residual.result c.in_err-more.field-0
+    handed_on c.from_residual.result c.in_err-more.field-0.0
     (NumbersGo c.new-numbers.result c.truth_in.new.out (tests (condition_of c.args.test) (state_of c.args.state.now)))
     (TestGoes c.args.prologue (condition_of c.args.test) (inner_body (callees_in c.args.code.now c.args.depth) c.args.body.now) c.args.fuel (state_of c.args.state.now) (state_of c.args.state.now))
     c.from_residual.ensures.1 c.in_err-more.ensures (test_stuck (condition_of c.args.test) (body_piece (callees_in c.args.code.now c.args.depth) c.args.body.now) c.args.prologue c.args.fuel (state_of c.args.state.now) c.new-numbers.result c.truth_in.new.out c.new-numbers.ensures)
@@ -167,7 +167,7 @@ run_test-returns-then-fuel-eq0 t c =
 
 pub run_test-returns-in_err-items : goal.run_test-returns-in_err-items
 run_test-returns-in_err-items t c =
-    handed_on c.from_residual-in_err-items.result c.in_err-items.field-0
+    handed_on c.from_residual-in_err-items.result c.in_err-items.field-0.0
     (PieceGoes (body_piece (callees_in c.args.code.now c.args.depth) c.args.body.now) (c.args.fuel - 1) (state_of c.args.state.now) (state_of c.run_body.new.state))
     (TestGoes c.args.prologue (condition_of c.args.test) (inner_body (callees_in c.args.code.now c.args.depth) c.args.body.now) c.args.fuel (state_of c.args.state.now) (state_of c.run_body.new.state))
     c.from_residual-in_err-items.ensures.1 c.in_err-items.ensures
@@ -185,7 +185,7 @@ run_test-returns-in-End t c =
 
 pub run_turn-returns-in_err-items : goal.run_turn-returns-in_err-items
 run_turn-returns-in_err-items t c =
-    handed_on c.from_residual.result c.in_err-items.field-0
+    handed_on c.from_residual.result c.in_err-items.field-0.0
     (PieceGoes (block (callees_in c.args.code.now c.args.depth) c.args.prologue.now) c.args.fuel (state_of c.args.state.now) (state_of c.run_block.new.state))
     (TurnGoes (inner_block (callees_in c.args.code.now c.args.depth) c.args.prologue.now) (condition_of c.args.test) (inner_body (callees_in c.args.code.now c.args.depth) c.args.body.now) c.args.fuel (state_of c.args.state.now) (state_of c.run_block.new.state))
     c.from_residual.ensures.1 c.in_err-items.ensures (turn_stuck (block (callees_in c.args.code.now c.args.depth) c.args.prologue.now) (condition_of c.args.test) (inner_body (callees_in c.args.code.now c.args.depth) c.args.body.now) c.args.fuel (state_of c.args.state.now))
@@ -197,7 +197,7 @@ run_turn-returns-in-Cut t c =
 
 pub run_turn-returns-in_err-end-in-End : goal.run_turn-returns-in_err-end-in-End
 run_turn-returns-in_err-end-in-End t c =
-    handed_on c.from_residual-in_err-end-in-End.result c.in_err-end-in-End.field-0
+    handed_on c.from_residual-in_err-end-in-End.result c.in_err-end-in-End.field-0.0
     (TestGoes c.in-End.items (condition_of c.args.test) (inner_body (callees_in c.args.code.now c.args.depth) c.args.body.now) c.in-End.left (state_of c.run_block.new.state) (state_of c.run_test.new.state))
     (TurnGoes (inner_block (callees_in c.args.code.now c.args.depth) c.args.prologue.now) (condition_of c.args.test) (inner_body (callees_in c.args.code.now c.args.depth) c.args.body.now) c.args.fuel (state_of c.args.state.now) (state_of c.run_test.new.state))
     c.from_residual-in_err-end-in-End.ensures.1 c.in_err-end-in-End.ensures
@@ -210,7 +210,7 @@ run_turn-returns-in_ok-end-in-End t c =
 
 pub run_while-returns-in_err-cut_turn : goal.run_while-returns-in_err-cut_turn
 run_while-returns-in_err-cut_turn t c =
-    handed_on c.from_residual.result c.in_err-cut_turn.field-0
+    handed_on c.from_residual.result c.in_err-cut_turn.field-0.0
     (TurnGoes (inner_block (callees_in c.args.code.now c.args.depth) c.args.prologue.now) (condition_of c.args.test) (inner_body (callees_in c.args.code.now c.args.depth) c.args.body.now) c.loop-turns.left (state_of c.loop-turns.state) (state_of c.run_turn.new.state))
     (PieceGoes (while_tree (callees_in c.args.code.now c.args.depth) c.args.prologue.now (condition_of c.args.test) c.args.body.now) c.args.fuel (state_of c.args.state.now) (state_of c.run_turn.new.state))
     c.from_residual.ensures.1 c.in_err-cut_turn.ensures (while_stuck (not (is_some c.args.body.now)) (inner_block (callees_in c.args.code.now c.args.depth) c.args.prologue.now) (condition_of c.args.test) (inner_body (callees_in c.args.code.now c.args.depth) c.args.body.now) c.args.fuel (state_of c.args.state.now) c.loop-turns.turns c.loop-turns.left (state_of c.loop-turns.state) c.loop-turns.invariant)
@@ -229,7 +229,7 @@ run_while-loop-turns-preserved t c =
 
 pub run_rounds-returns-in_err-items : goal.run_rounds-returns-in_err-items
 run_rounds-returns-in_err-items t c =
-    handed_on c.from_residual-in_err-items.result c.in_err-items.field-0
+    handed_on c.from_residual-in_err-items.result c.in_err-items.field-0.0
     (PieceGoes (block (callees_in c.args.code.now c.args.depth) c.args.body.now) c.loop-value.left (let x : State = record { store = store_of c.set.new.store; memory = c.loop-value.state.memory } in x) (state_of c.run_block.new.state))
     (RoundsGo c.args.counter.now (inner_block (callees_in c.args.code.now c.args.depth) c.args.body.now) (values_left c.args.values) c.args.fuel (state_of c.args.state.now) (state_of c.run_block.new.state))
     c.from_residual-in_err-items.ensures.1 c.in_err-items.ensures (rounds_stuck c.args.counter.now (block (callees_in c.args.code.now c.args.depth) c.args.body.now) (values_left c.args.values) c.args.fuel (state_of c.args.state.now) c.loop-value.leaks c.loop-value.left (state_of c.loop-value.state) (values_left c.loop-value.values) c.loop-value.invariant c.in-Some.value (values_left c.take.new.self) c.in-Some.ensures (let x : State = record { store = store_of c.set.new.store; memory = c.loop-value.state.memory } in x) (ap (λ v. let x : State = record { store = v; memory = c.loop-value.state.memory } in x) (c.in_ok-set.ensures ∙ ap (λ z. put (store_of c.loop-value.state.store) (key_of (ref_of c.args.counter.now)) (Some (integer z))) (to_z-of_z w128 c.in-Some.value (search rules)))))
@@ -249,14 +249,14 @@ run_rounds-returns t c = rounds_end c.args.counter.now (block (callees_in c.args
 
 pub run_for-returns-in_err-values : goal.run_for-returns-in_err-values
 run_for-returns-in_err-values t c =
-    handed_on c.from_residual.result c.in_err-values.field-0
+    handed_on c.from_residual.result c.in_err-values.field-0.0
     (λ r. evaluated_values c.counter_values.new.out r ≡ numbers_first c.new-numbers.result (counts (counter_of c.args.counter) (state_of c.args.state.now)))
     (PieceGoes (each (counter_of c.args.counter) (inner_block (callees_in c.args.code.now c.args.depth) c.args.body.now)) c.args.fuel (state_of c.args.state.now) (state_of c.args.state.now))
     c.from_residual.ensures.1 c.in_err-values.ensures (for_fails (counter_of c.args.counter) (block (callees_in c.args.code.now c.args.depth) c.args.body.now) c.args.fuel (state_of c.args.state.now) c.new-numbers.result c.counter_values.new.out c.new-numbers.ensures)
 
 pub run_for-returns-in_err-leaks : goal.run_for-returns-in_err-leaks
 run_for-returns-in_err-leaks t c =
-    handed_on c.from_residual-in_err-leaks.result c.in_err-leaks.field-0
+    handed_on c.from_residual-in_err-leaks.result c.in_err-leaks.field-0.0
     (RoundsGo c.args.counter.counter.now (inner_block (callees_in c.args.code.now c.args.depth) c.args.body.now) (values_left c.in_ok-values.values) c.args.fuel (state_of c.args.state.now) (state_of c.run_rounds.new.state))
     (PieceGoes (each (counter_of c.args.counter) (inner_block (callees_in c.args.code.now c.args.depth) c.args.body.now)) c.args.fuel (state_of c.args.state.now) (state_of c.run_rounds.new.state))
     c.from_residual-in_err-leaks.ensures.1 c.in_err-leaks.ensures (for_stuck (counter_of c.args.counter) (block (callees_in c.args.code.now c.args.depth) c.args.body.now) c.args.fuel (state_of c.args.state.now) c.new-numbers.result c.counter_values.new.out c.new-numbers.ensures (values_left c.in_ok-values.values) c.in_ok-values.ensures)
@@ -280,7 +280,7 @@ run_call-returns-in-None t c =
 
 pub run_call-returns-in_err-ran-in-Some : goal.run_call-returns-in_err-ran-in-Some
 run_call-returns-in_err-ran-in-Some t c =
-    handed_on c.from_residual.result c.in_err-ran-in-Some.field-0
+    handed_on c.from_residual.result c.in_err-ran-in-Some.field-0.0
     (PieceGoes (call (record { to = c.args.assignment.to.now; callee = c.in-Some.callee.now; args = c.args.named.args.now; at = c.args.named.span }) (inner_block (callees_in c.args.code.now (c.args.depth - 1)) c.in-Some.callee.now.body)) c.args.fuel (state_of c.args.state.now) (state_of c.run_callee.new.state))
     (PieceGoes (named_call_tree (callees_in c.args.code.now c.args.depth) c.args.assignment c.args.named) c.args.fuel (state_of c.args.state.now) (state_of c.run_callee.new.state))
     c.from_residual.ensures.1 c.in_err-ran-in-Some.ensures
@@ -292,14 +292,14 @@ run_call-returns-in_ok-ran-in-Some t c =
 
 pub run_callee-returns-in_err-inner : goal.run_callee-returns-in_err-inner
 run_callee-returns-in_err-inner t c =
-    handed_on c.from_residual.result c.in_err-inner.field-0
+    handed_on c.from_residual.result c.in_err-inner.field-0.0
     (λ r. entered_store c.enter.new.out r ≡ numbers_first c.new-before.result (arguments_of (call_of c.args.call) (state_of c.args.state.now)))
     (PieceGoes (call (call_of c.args.call) (inner_block (callees_in c.args.code.now c.args.depth) c.args.call.callee.now.body)) c.args.fuel (state_of c.args.state.now) (state_of c.args.state.now))
     c.from_residual.ensures.1 c.in_err-inner.ensures (not_entered (call_of c.args.call) (block (callees_in c.args.code.now c.args.depth) c.args.call.callee.now.body) c.args.fuel (state_of c.args.state.now) c.new-before.result c.enter.new.out c.new-before.ensures)
 
 pub run_callee-returns-in_err-items : goal.run_callee-returns-in_err-items
 run_callee-returns-in_err-items t c =
-    handed_on c.from_residual-in_err-items.result c.in_err-items.field-0
+    handed_on c.from_residual-in_err-items.result c.in_err-items.field-0.0
     (PieceGoes (block (callees_in c.args.code.now c.args.depth) c.args.call.callee.now.body) c.args.fuel (let x : State = record { store = store_of c.replace-outer.new.dest; memory = c.args.state.now.memory } in x) (state_of c.run_block.new.state))
     (PieceGoes (call (call_of c.args.call) (inner_block (callees_in c.args.code.now c.args.depth) c.args.call.callee.now.body)) c.args.fuel (state_of c.args.state.now) (state_of c.run_block.new.state))
     c.from_residual-in_err-items.ensures.1 c.in_err-items.ensures (callee_stuck (call_of c.args.call) (block (callees_in c.args.code.now c.args.depth) c.args.call.callee.now.body) c.args.fuel (state_of c.args.state.now) c.new-before.result c.enter.new.out c.new-before.ensures (store_of c.in_ok-inner.inner) c.in_ok-inner.ensures (let x : State = record { store = store_of c.replace-outer.new.dest; memory = c.args.state.now.memory } in x) (ap (λ v. let x : State = record { store = store_of v; memory = c.args.state.now.memory } in x) c.replace-outer.ensures.after))
@@ -311,7 +311,7 @@ run_callee-returns-in-Cut t c =
 
 pub run_callee-returns-in_err-leave-in-End : goal.run_callee-returns-in_err-leave-in-End
 run_callee-returns-in_err-leave-in-End t c =
-    handed_on c.from_residual-in_err-leave-in-End.result c.in_err-leave-in-End.field-0
+    handed_on c.from_residual-in_err-leave-in-End.result c.in_err-leave-in-End.field-0.0
     (λ r. changed c.leave.new.out (state_of c.leave.new.state) r ≡ numbers_first c.new-after.result (leaves (call_of c.args.call) (let x : State = record { store = store_of c.replace-inner.new.dest; memory = c.run_block.new.state.memory } in x) (let x : State = record { store = store_of c.replace-inner.result; memory = c.run_block.new.state.memory } in x)))
     (PieceGoes (call (call_of c.args.call) (inner_block (callees_in c.args.code.now c.args.depth) c.args.call.callee.now.body)) c.args.fuel (state_of c.args.state.now) (state_of c.leave.new.state))
     c.from_residual-in_err-leave-in-End.ensures.1 c.in_err-leave-in-End.ensures

@@ -12,7 +12,7 @@ pub returns-in_err-instruct : goal.returns-in_err-instruct
 returns-in_err-instruct c =
     let o = instruction c.args.to.now c.args.named.name.now c.args.named.args.now c.args.named.span in
     let s = state_of c.args.state.now in let t = state_of c.instruct.new.state in
-    handed_on c.from_residual.result c.in_err-instruct.field-0
+    handed_on c.from_residual.result c.in_err-instruct.field-0.0
     (λ r. changed c.instruct.new.out t r ≡ numbers_first c.new-numbers.result (does o s))
     (PieceGoes (op o) c.args.fuel s t) c.from_residual.ensures.1 c.in_err-instruct.ensures
     (operation_stuck o c.args.fuel s c.new-numbers.result c.new-numbers.ensures)

@@ -13,7 +13,7 @@ pub returns-in_err-assign : goal.returns-in_err-assign
 returns-in_err-assign c =
     let o = value_assignment c.args.assignment c.args.value.now in
     let s = state_of c.args.state.now in let t = state_of c.assign.new.state in
-    handed_on c.from_residual.result c.in_err-assign.field-0
+    handed_on c.from_residual.result c.in_err-assign.field-0.0
     (λ r. changed c.assign.new.out t r ≡ numbers_first c.new-numbers.result (does o s))
     (PieceGoes (op o) c.args.fuel s t) c.from_residual.ensures.1 c.in_err-assign.ensures
     (operation_stuck o c.args.fuel s c.new-numbers.result c.new-numbers.ensures)
