@@ -4,7 +4,7 @@ ghost use Rattle.std.specs.Prelude.{◌≡◌, ◌<◌, ℕ, List, Some, option_
 ghost use Rattle.std.specs.Option.{option_or};
 ghost use Rattle.x64_insn.specs.Memory.{all_valid};
 ghost use Rattle.x64_insn.specs.Sizes.{bytes_of, modulus};
-ghost use Rattle.jz_meaning.specs.Accesses as accesses;
+ghost use Rattle.jz_meaning.specs.InnerAccesses as accesses;
 ghost use Rattle.jz_meaning.specs.Attempts.{did, seen, numbers_first, Gives, Evaluates, Changes};
 ghost use Rattle.jz_meaning.specs.Operators as operators;
 ghost use Rattle.jz_meaning.specs.States.{as_value};
@@ -95,7 +95,8 @@ fn stuck(span: Span, why: Why) -> Stuck
 
 /// The bits of a value in the place of a word of a size.
 fn bits_at(span: Span, size: Size, value: Value) -> Result<u64, Stuck>
-    ensures { (ns : List ℕ) → did ns result ≡ numbers_first ns (operators.word_at span size (as_value value)) }
+    ensures { (ns : List ℕ) → did ns result ≡ numbers_first ns
+        (operators.word_at span size (as_value value)) }
 {
     match word_of(size, value) {
         None => Err(stuck(span, Why::Init)),
@@ -128,8 +129,8 @@ fn var_span(var: &Var) -> Span
     var.span
 }
 
-/// The index of a cell, which is appended to `out`. Stuck for Bounds where it is past the cells, and for Init where typing excludes
-/// it.
+/// The index of a cell, which is appended to `out`. Stuck for Bounds where it is past the cells,
+/// and for Init where typing excludes it.
 pub fn index(var: &Var, value: Value, out: &mut Seq<u64>) -> Result<u64, Failure<Stuck>>
     ensures { Gives result out.old out.new (values.index_at (ref_of var.now) (as_value value)) }
 {
@@ -150,7 +151,8 @@ fn cell_to_u64(cell: Option<u32>) -> Option<u64>
 
 /// The value of a variable. Stuck for Init where it has none.
 pub fn variable(var: &Var, store: &Store) -> Result<Value, Stuck>
-    ensures { (ns : List ℕ) → seen ns result ≡ numbers_first ns (values.variable_value (ref_of var.now) (store_of store.now)) }
+    ensures { (ns : List ℕ) → seen ns result ≡ numbers_first ns
+        (values.variable_value (ref_of var.now) (store_of store.now)) }
 {
     defined(
         var.span,
@@ -158,14 +160,16 @@ pub fn variable(var: &Var, store: &Store) -> Result<Value, Stuck>
     )
 }
 
-/// The value of a cell, whose index is appended to `out`. Stuck as its index is, and for Init where it has no value.
+/// The value of a cell, whose index is appended to `out`. Stuck as its index is, and for Init where
+/// it has no value.
 pub fn cell(
     var: &Var,
     value: Value,
     store: &Store,
     out: &mut Seq<u64>,
 ) -> Result<Value, Failure<Stuck>>
-    ensures { Evaluates result out.old out.new (values.cell_value (ref_of var.now) (as_value value) (store_of store.now)) }
+    ensures { Evaluates result out.old out.new
+        (values.cell_value (ref_of var.now) (as_value value) (store_of store.now)) }
 {
     let index = index(var, value, out)?;
     let value = defined(var_span(var), store.get(&var.name, var.copy, Some(index)))?;
@@ -187,7 +191,8 @@ fn aligned(
     out: &mut Seq<u64>,
 ) -> Result<Value, Failure<Stuck>>
     requires { bits < modulus size }
-    ensures { Evaluates result out.old out.new (accesses.load_bits (access_of access.now) size address bits) }
+    ensures { Evaluates result out.old out.new
+        (accesses.load_bits (access_of access.now) size address bits) }
 {
     if access.unaligned || is_aligned(size, address) {
         out.push(address)?;
@@ -204,7 +209,8 @@ fn load_word(
     memory: &MemMap,
     out: &mut Seq<u64>,
 ) -> Result<Value, Failure<Stuck>>
-    ensures { Evaluates result out.old out.new (accesses.load_word (access_of access.now) size address memory.now) }
+    ensures { Evaluates result out.old out.new
+        (accesses.load_word (access_of access.now) size address memory.now) }
 {
     match size {
         None => Err(Failure::Refused(stuck(access.span, Why::Init))),
@@ -227,8 +233,9 @@ fn access_size(access: &Access, wanted: Option<Size>) -> Option<Size>
     access.size.or(wanted)
 }
 
-/// What memory holds where an access has this address, which is appended to `out`; `wanted` is the size of the other side. Stuck
-/// for Address where a byte is not valid, then for Align, and for Init where the access has no size.
+/// What memory holds where an access has this address, which is appended to `out`; `wanted` is the
+/// size of the other side. Stuck for Address where a byte is not valid, then for Align, and for
+/// Init where the access has no size.
 pub fn load(
     access: &Access,
     wanted: Option<Size>,
@@ -236,7 +243,8 @@ pub fn load(
     memory: &MemMap,
     out: &mut Seq<u64>,
 ) -> Result<Value, Failure<Stuck>>
-    ensures { Evaluates result out.old out.new (values.load_at (access_of access.now) wanted (as_value address) memory.now) }
+    ensures { Evaluates result out.old out.new
+        (values.load_at (access_of access.now) wanted (as_value address) memory.now) }
 {
     let address = bits_at(access_span(access), Size::S64, address)?;
     let value = load_word(access, access_size(access, wanted), address, memory, out)?;
@@ -259,7 +267,8 @@ fn store_bits(
     memory: &mut MemMap,
     out: &mut Seq<u64>,
 ) -> Result<(), Failure<Stuck>>
-    ensures { Changes result out.old out.new memory.new (accesses.store_bits (access_of access.now) size address bits memory.old) }
+    ensures { Changes result out.old out.new memory.new
+        (accesses.store_bits (access_of access.now) size address bits memory.old) }
 {
     if !is_valid(memory, address, size) {
         return Err(Failure::Refused(stuck(access.span, Why::Address)));
@@ -280,7 +289,9 @@ fn store_word(
     memory: &mut MemMap,
     out: &mut Seq<u64>,
 ) -> Result<(), Failure<Stuck>>
-    ensures { Changes result out.old out.new memory.new (accesses.store_word (access_of access.now) (Some size) address (Some (as_value value)) memory.old) }
+    ensures { Changes result out.old out.new memory.new
+        (accesses.store_word (access_of access.now) (Some size) address (Some (as_value value))
+        memory.old) }
 {
     let bits = bits_at(access_span(access), size, value)?;
     store_bits(access, size, address, bits, memory, out)?;
@@ -295,7 +306,9 @@ fn store_value(
     memory: &mut MemMap,
     out: &mut Seq<u64>,
 ) -> Result<(), Failure<Stuck>>
-    ensures { Changes result out.old out.new memory.new (accesses.store_word (access_of access.now) size address (option_map as_value value) memory.old) }
+    ensures { Changes result out.old out.new memory.new
+        (accesses.store_word (access_of access.now) size address (option_map as_value value)
+        memory.old) }
 {
     match size {
         None => Err(Failure::Refused(stuck(access.span, Why::Init))),
@@ -309,8 +322,9 @@ fn store_value(
     }
 }
 
-/// Writes a value where an access has this address, which is appended to `out`; `wanted` is the size of the other side. Stuck for
-/// Init where there is no size or no word to write, then for Address where a byte is not valid, then for Align.
+/// Writes a value where an access has this address, which is appended to `out`; `wanted` is the
+/// size of the other side. Stuck for Init where there is no size or no word to write, then for
+/// Address where a byte is not valid, then for Align.
 pub fn write(
     access: &Access,
     wanted: Option<Size>,
@@ -319,7 +333,9 @@ pub fn write(
     memory: &mut MemMap,
     out: &mut Seq<u64>,
 ) -> Result<(), Failure<Stuck>>
-    ensures { Changes result out.old out.new memory.new (values.store_at (access_of access.now) wanted (as_value address) (option_map as_value value) memory.old) }
+    ensures { Changes result out.old out.new memory.new
+        (values.store_at (access_of access.now) wanted (as_value address)
+        (option_map as_value value) memory.old) }
 {
     let address = bits_at(access_span(access), Size::S64, address)?;
     let size = access_size(access, wanted);

@@ -3,7 +3,7 @@
 ghost use Rattle.std.specs.Prelude.{◌≡◌};
 ghost use Rattle.jz_tree.specs.Failures.{IfAnswered};
 ghost use Rattle.jz_meaning.specs.Attempts.{Evaluates, value_seen};
-ghost use Rattle.jz_meaning.specs.Evaluating.{IsDetermined, IsSingle, go_on};
+ghost use Rattle.jz_meaning.specs.InnerEvaluating.{IsDetermined, IsSingle, go_on};
 ghost use Rattle.jz_meaning.specs.States.{as_value};
 ghost use Rattle.jz_meaning.specs.Stores.{state_of};
 ghost use Rattle.jz_meaning.specs.Values as values;
@@ -13,7 +13,7 @@ use crate::access::{cell, load, variable};
 use crate::left::{LeftSide, Waiting, left_side, own_size};
 use crate::operators::{binary, cast, inverted_value, is_settled, is_shift, negated_value};
 use crate::state::State;
-use crate::value::{Stuck, Value, defined};
+use crate::value::{Stuck, Value, defined, missing};
 use jz_tree::{BinOp, Expr, Failure, Seq};
 use x64_insn::Size;
 
@@ -55,8 +55,10 @@ fn finish(
     state: &State,
     out: &mut Seq<u64>,
 ) -> Result<Value, Failure<Stuck>>
-    requires { IsDetermined (values.right_wanted operation.op operation.wanted) operation.right.now }
-    ensures { Evaluates result out.old out.new (go_on operation.entry (state_of state.now) (as_value left)) }
+    requires { IsDetermined (values.right_wanted operation.op operation.wanted)
+        operation.right.now }
+    ensures { Evaluates result out.old out.new
+        (go_on operation.entry (state_of state.now) (as_value left)) }
 {
     let Waiting {
         op,
@@ -117,15 +119,18 @@ fn evaluate_single(
         } => {
             let own = own_size(operand.get());
             let value = evaluate_settled(operand.get(), own, state, out)?;
-            let word = defined(*span, cast(*size, *signed, value))?;
-            Ok(word)
+            match cast(*size, *signed, value) {
+                None => Err(Failure::Refused(missing(*span))),
+                Some(word) => Ok(word),
+            }
         }
         Expr::Bin(_, _, _, _) => unreachable!(),
     }
 }
 
-/// The value of an expression where a word of a size is wanted. Its numbers are appended to `out`: from left to right the index of
-/// each access to an array, the address of each access to memory, and the high word, the low word and the divisor of each division.
+/// The value of an expression where a word of a size is wanted. Its numbers are appended to `out`:
+/// from left to right the index of each access to an array, the address of each access to memory,
+/// and the high word, the low word and the divisor of each division.
 pub fn evaluate(
     e: &Expr,
     wanted: Option<Size>,

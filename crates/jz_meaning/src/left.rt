@@ -1,8 +1,9 @@
-//! Expressions by their left side, which may be as long as a text, and the sizes that are wanted of operands.
+//! Expressions by their left side, which may be as long as a text, and the sizes that are wanted of
+//! operands.
 
 ghost use Rattle.std.specs.Prelude.{◌≡◌, IfOk};
 ghost use Rattle.std.specs.Option.{option_or};
-ghost use Rattle.jz_meaning.specs.Evaluating.{IsDetermined, IsSingle, IsLeftSide};
+ghost use Rattle.jz_meaning.specs.InnerEvaluating.{IsDetermined, IsSingle, IsLeftSide};
 ghost use Rattle.jz_meaning.specs.Operators.{is_shift};
 ghost use Rattle.jz_meaning.specs.Values as values;
 ghost use Rattle.std.specs.Prelude.{if◌then◌else◌};
@@ -23,7 +24,8 @@ pub struct Waiting<'a> {
     pub wanted: Option<Size>,
 }
 
-/// The operations of a left side from the outermost, and the operand where it ends, with the size that is wanted of it.
+/// The operations of a left side from the outermost, and the operand where it ends, with the size
+/// that is wanted of it.
 #[derive(Drop)]
 pub struct LeftSide<'a> {
     pub waiting: Vec<Waiting<'a>>,
@@ -47,7 +49,8 @@ pub fn gives_word(op: BinOp) -> bool
 /// What stands at the right of a left operand without a size.
 #[cycle(sizes)]
 fn size_behind(op: BinOp, right: &Expr, found: Option<Size>) -> Option<Size>
-    ensures { result ≡ (if is_shift op then found else option_or (values.own_size right.now) found) }
+    ensures { result ≡ (if is_shift op then found else option_or (values.own_size right.now)
+        found) }
 {
     if is_shift(op) {
         found
@@ -98,7 +101,8 @@ pub fn own_size(e: &Expr) -> Option<Size>
 
 /// What is wanted of both operands where this size is wanted of the whole.
 fn left_wanted(op: BinOp, wanted: Option<Size>, left: &Expr, right: &Expr) -> Option<Size>
-    ensures { result ≡ (if values.gives_word op then wanted else option_or (values.own_size left.now) (values.own_size right.now)) }
+    ensures { result ≡ (if values.gives_word op then wanted else option_or
+        (values.own_size left.now) (values.own_size right.now)) }
 {
     if gives_word(op) {
         return wanted;
@@ -116,7 +120,8 @@ pub fn left_side<'a>(
     wanted: Option<Size>,
 ) -> Result<LeftSide<'a>, AllocError>
     requires { IsDetermined wanted e.now }
-    ensures parts { IfOk result (λ side. IsLeftSide wanted e.now side.waiting.items side.first.now side.wanted) }
+    ensures parts { IfOk result (λ side. IsLeftSide wanted e.now side.waiting.items side.first.now
+        side.wanted) }
     ensures single { IfOk result (λ side. IsSingle side.first.now) }
 {
     let mut waiting = Vec::new(alloc);

@@ -12,7 +12,7 @@ ghost use Rattle.jz_meaning.specs.States.{as_value};
 ghost use Rattle.jz_meaning.specs.declared.value.Why.TheVariants as why;
 ghost use Rattle.jz_meaning.specs.States as states;
 
-use crate::value::{Stuck, Value, Why, defined};
+use crate::value::{Stuck, Value, Why, initialized, missing};
 use jz_integers::{Constant, inverted, negated, on_integers};
 use jz_tree::{BinOp, Failure, Seq, Span};
 use std::alloc::AllocError;
@@ -29,7 +29,8 @@ fn same_size(a: Size, b: Size) -> bool
     a.bits() == b.bits()
 }
 
-/// The value in the place of a word of a size: a whole number is taken modulo 2 to the size, and a word has to have that size.
+/// The value in the place of a word of a size: a whole number is taken modulo 2 to the size, and a
+/// word has to have that size.
 pub fn word_of(size: Size, value: Value) -> Option<Word>
     ensures bits { option_map (λ w. w.bits) result ≡ operators.word_of size (as_value value) }
     ensures size { IfSome result (λ w. w.size ≡ size) }
@@ -68,7 +69,8 @@ fn show(high: u64, a: Word, b: Word, out: &mut Seq<u64>) -> Result<(), AllocErro
 
 fn quotient(span: Span, a: Word, b: Word, out: &mut Seq<u64>) -> Result<Value, Failure<Stuck>>
     requires { a.size ≡ b.size }
-    ensures { Evaluates result out.old out.new (operators.on_words op.Div span a.size a.bits b.bits) }
+    ensures { Evaluates result out.old out.new
+        (operators.on_words op.Div span a.size a.bits b.bits) }
 {
     if b.bits() == 0 {
         return Err(Failure::Refused(no_quotient(span)));
@@ -79,7 +81,8 @@ fn quotient(span: Span, a: Word, b: Word, out: &mut Seq<u64>) -> Result<Value, F
 
 fn remainder(span: Span, a: Word, b: Word, out: &mut Seq<u64>) -> Result<Value, Failure<Stuck>>
     requires { a.size ≡ b.size }
-    ensures { Evaluates result out.old out.new (operators.on_words op.Rem span a.size a.bits b.bits) }
+    ensures { Evaluates result out.old out.new
+        (operators.on_words op.Rem span a.size a.bits b.bits) }
 {
     if b.bits() == 0 {
         return Err(Failure::Refused(no_quotient(span)));
@@ -126,7 +129,8 @@ fn signed_quotient(
     out: &mut Seq<u64>,
 ) -> Result<Value, Failure<Stuck>>
     requires { a.size ≡ b.size }
-    ensures { Evaluates result out.old out.new (operators.on_words op.DivS span a.size a.bits b.bits) }
+    ensures { Evaluates result out.old out.new
+        (operators.on_words op.DivS span a.size a.bits b.bits) }
 {
     if b.bits() == 0 || is_least_by_minus_one(a, b) {
         return Err(Failure::Refused(no_quotient(span)));
@@ -142,7 +146,8 @@ fn signed_remainder(
     out: &mut Seq<u64>,
 ) -> Result<Value, Failure<Stuck>>
     requires { a.size ≡ b.size }
-    ensures { Evaluates result out.old out.new (operators.on_words op.RemS span a.size a.bits b.bits) }
+    ensures { Evaluates result out.old out.new
+        (operators.on_words op.RemS span a.size a.bits b.bits) }
 {
     if b.bits() == 0 || is_least_by_minus_one(a, b) {
         return Err(Failure::Refused(no_quotient(span)));
@@ -213,7 +218,10 @@ fn on_words(
         BinOp::Rem => remainder(span, a, b, out),
         BinOp::DivS => signed_quotient(span, a, b, out),
         BinOp::RemS => signed_remainder(span, a, b, out),
-        _ => Ok(defined(span, plain(op, a, b))?),
+        _ => match plain(op, a, b) {
+            None => Err(Failure::Refused(missing(span))),
+            Some(value) => Ok(value),
+        },
     }
 }
 
@@ -364,19 +372,20 @@ fn combined(
     y: Value,
     out: &mut Seq<u64>,
 ) -> Result<Value, Failure<Stuck>>
-    ensures { Evaluates result out.old out.new (operators.combined op span (as_value x) (as_value y)) }
+    ensures { Evaluates result out.old out.new
+        (operators.combined op span (as_value x) (as_value y)) }
 {
     match x {
         Value::Word(a) => beside_word(op, span, a, y, out),
         Value::Int(a) => match y {
             Value::Word(b) => on_words(op, span, residue(b.size(), a), b, out),
-            Value::Int(b) => Ok(defined(span, of_constant(on_integers(op, a, b)))?),
-            Value::Bool(_) => Ok(defined(span, None)?),
+            Value::Int(b) => initialized(span, of_constant(on_integers(op, a, b))),
+            Value::Bool(_) => initialized(span, None),
         },
         Value::Bool(_) => match y {
-            Value::Word(_) => Ok(defined(span, None)?),
-            Value::Int(_) => Ok(defined(span, None)?),
-            Value::Bool(b) => Ok(defined(span, joined(op, b))?),
+            Value::Word(_) => initialized(span, None),
+            Value::Int(_) => initialized(span, None),
+            Value::Bool(b) => initialized(span, joined(op, b)),
         },
     }
 }
@@ -400,23 +409,25 @@ fn beside_word(
     y: Value,
     out: &mut Seq<u64>,
 ) -> Result<Value, Failure<Stuck>>
-    ensures { Evaluates result out.old out.new (operators.combined op span (states.word a.size a.bits) (as_value y)) }
+    ensures { Evaluates result out.old out.new
+        (operators.combined op span (states.word a.size a.bits) (as_value y)) }
 {
     match y {
         Value::Word(b) => {
             if same_size(a.size(), b.size()) {
                 on_words(op, span, a, b, out)
             } else {
-                Ok(defined(span, None)?)
+                initialized(span, None)
             }
         }
         Value::Int(b) => on_words(op, span, a, residue(a.size(), b), out),
-        Value::Bool(flag) => Ok(defined(span, by_flag(op, a, flag))?),
+        Value::Bool(flag) => initialized(span, by_flag(op, a, flag)),
     }
 }
 
 fn shifted_by(op: BinOp, a: Word, count: Option<u128>) -> Option<Value>
-    ensures { option_map as_value result ≡ option_and_then (operators.shifted_word op a.size a.bits) count }
+    ensures { option_map as_value result ≡ option_and_then (operators.shifted_word op a.size a.bits)
+        count }
 {
     match count {
         None => None,
@@ -426,7 +437,8 @@ fn shifted_by(op: BinOp, a: Word, count: Option<u128>) -> Option<Value>
 
 #[tactic(auto, unfolding(crate::specs::Operators::shifted))]
 fn shifted_integer(op: BinOp, wanted: Option<Size>, a: i128, y: Value) -> Option<Value>
-    ensures { option_map as_value result ≡ operators.shifted op wanted (states.integer a) (as_value y) }
+    ensures { option_map as_value result ≡ operators.shifted op wanted (states.integer a)
+        (as_value y) }
 {
     match y {
         Value::Word(count) => match wanted {
@@ -449,9 +461,10 @@ fn shifted(op: BinOp, wanted: Option<Size>, x: Value, y: Value) -> Option<Value>
     }
 }
 
-/// The operation on two values where a word of a size is wanted. The three words of a division are appended to `out`: the high
-/// word, the low word and the divisor. Stuck for Divide where a divisor is 0 or a quotient has no room in the word, and for Init
-/// where typing excludes the operation or whole numbers have no value.
+/// The operation on two values where a word of a size is wanted. The three words of a division are
+/// appended to `out`: the high word, the low word and the divisor. Stuck for Divide where a divisor
+/// is 0 or a quotient has no room in the word, and for Init where typing excludes the operation or
+/// whole numbers have no value.
 #[tactic(auto, unfolding(crate::specs::Operators::binary))]
 pub fn binary(
     op: BinOp,
@@ -461,10 +474,11 @@ pub fn binary(
     y: Value,
     out: &mut Seq<u64>,
 ) -> Result<Value, Failure<Stuck>>
-    ensures { Evaluates result out.old out.new (operators.binary op span wanted (as_value x) (as_value y)) }
+    ensures { Evaluates result out.old out.new
+        (operators.binary op span wanted (as_value x) (as_value y)) }
 {
     if is_shift(op) {
-        Ok(defined(span, shifted(op, wanted, x, y))?)
+        initialized(span, shifted(op, wanted, x, y))
     } else {
         combined(op, span, x, y, out)
     }
@@ -509,8 +523,8 @@ pub fn inverted_value(value: Value) -> Value
     }
 }
 
-/// The word of that size that a word becomes: cut off, or with zeros in front, or copies of its sign where `signed`. None of what
-/// is no word.
+/// The word of that size that a word becomes: cut off, or with zeros in front, or copies of its
+/// sign where `signed`. None of what is no word.
 #[tactic(auto, unfolding(crate::specs::Operators::cast))]
 pub fn cast(size: Size, signed: bool, value: Value) -> Option<Value>
     ensures { option_map as_value result ≡ operators.cast size signed (as_value value) }

@@ -45,7 +45,8 @@ impl Store {
 
     /// The value of a variable or of a cell.
     pub fn get(&self, name: &Text, copy: u32, cell: Option<u64>) -> Option<Value>
-        ensures { option_map as_value result ≡ store_of self.now (record { name = name.now; copy = copy; cell = cell }) }
+        ensures { option_map as_value result ≡ store_of self.now
+            (record { name = name.now; copy = copy; cell = cell }) }
     {
         match self.names.get(name) {
             None => None,
@@ -58,7 +59,8 @@ impl Store {
     /// Places of a name that had none.
     fn begin(&mut self, name: &Text, place: Place, value: Option<Value>) -> Result<(), AllocError>
         requires { get bytes_eq self.old.names name.now ≡ None }
-        ensures { OnOk result (store_of self.new ≡ states.put (store_of self.old) (key_of name.now place) (option_map as_value value)) }
+        ensures { OnOk result (store_of self.new ≡ states.put (store_of self.old)
+            (key_of name.now place) (option_map as_value value)) }
     {
         let mut places = IndexMap::new(self.alloc);
         places.insert(place, value)?;
@@ -74,7 +76,8 @@ impl Store {
         cell: Option<u64>,
         value: Option<Value>,
     ) -> Result<(), AllocError>
-        ensures { OnOk result (store_of self.new ≡ states.put (store_of self.old) (record { name = name.now; copy = copy; cell = cell }) (option_map as_value value)) }
+        ensures { OnOk result (store_of self.new ≡ states.put (store_of self.old)
+            (record { name = name.now; copy = copy; cell = cell }) (option_map as_value value)) }
     {
         let place = Place { copy, cell };
         match self.names.get_mut(name) {
@@ -88,7 +91,8 @@ impl Store {
     }
     /// Takes away what a variable or a cell has.
     pub fn unset(&mut self, name: &Text, copy: u32, cell: Option<u64>)
-        ensures { store_of self.new ≡ states.put (store_of self.old) (record { name = name.now; copy = copy; cell = cell }) None }
+        ensures { store_of self.new ≡ states.put (store_of self.old)
+            (record { name = name.now; copy = copy; cell = cell }) None }
     {
         match self.names.get_mut(name) {
             None => {}

@@ -2,8 +2,9 @@
 
 ghost use Rattle.std.specs.Prelude.{◌≡◌, ℕ, List, option_map};
 ghost use Rattle.jz_meaning.specs.Attempts as part;
-ghost use Rattle.jz_meaning.specs.Attempts.{seen, numbers_first};
+ghost use Rattle.jz_meaning.specs.Attempts.{seen, numbers_first, Evaluates};
 ghost use Rattle.jz_meaning.specs.States.{as_value};
+ghost use Rattle.jz_meaning.specs.declared.value.Why.TheVariants.{Init};
 
 use jz_tree::{Failure, Span};
 use x64_insn::Word;
@@ -51,15 +52,34 @@ impl From<Stuck> for Failure<Stuck> {
     }
 }
 
+/// Stuck for Init: what is read has no value, or none of the sort that is wanted.
+pub(crate) fn missing(span: Span) -> Stuck
+    ensures { result ≡ record { span = span; why = Init } }
+{
+    Stuck {
+        span,
+        why: Why::Init,
+    }
+}
+
 /// The value that is there; else stuck for Init.
 pub fn defined(span: Span, value: Option<Value>) -> Result<Value, Stuck>
-    ensures { (ns : List ℕ) → seen ns result ≡ numbers_first ns (part.defined span (option_map as_value value)) }
+    ensures { (ns : List ℕ) → seen ns result ≡ numbers_first ns
+        (part.defined span (option_map as_value value)) }
 {
     match value {
-        None => Err(Stuck {
-            span,
-            why: Why::Init,
-        }),
+        None => Err(missing(span)),
+        Some(value) => Ok(value),
+    }
+}
+
+/// The same as the answer of a call that takes memory.
+pub(crate) fn initialized(span: Span, value: Option<Value>) -> Result<Value, Failure<Stuck>>
+    ensures { (ns : List ℕ) → Evaluates result ns ns
+        (part.defined span (option_map as_value value)) }
+{
+    match value {
+        None => Err(Failure::Refused(missing(span))),
         Some(value) => Ok(value),
     }
 }

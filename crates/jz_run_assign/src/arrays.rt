@@ -7,7 +7,7 @@ ghost use Rattle.jz_meaning.specs.States as states;
 ghost use Rattle.jz_meaning.specs.Stores.{store_of};
 ghost use Rattle.jz_meaning.specs.Statements as statements;
 ghost use Rattle.jz_meaning.specs.Values.{cell_key, ref_of};
-ghost use Rattle.jz_run_assign.specs.Calls.{array_passed, array_back};
+ghost use Rattle.jz_run_assign.specs.InnerCalls.{array_passed, array_back};
 
 use crate::missing;
 use jz_meaning::{Kind, Store, Stuck, kind_of};
@@ -21,7 +21,8 @@ fn copy_cell(
     source: &Store,
     store: &mut Store,
 ) -> Result<(), AllocError>
-    ensures { OnOk result (store_of store.new ≡ states.put (store_of store.old) (cell_key (ref_of to.now) cell) (store_of source.now (cell_key (ref_of from.now) cell))) }
+    ensures { OnOk result (store_of store.new ≡ states.put (store_of store.old)
+        (cell_key (ref_of to.now) cell) (store_of source.now (cell_key (ref_of from.now) cell))) }
 {
     let value = source.get(&from.name, from.copy, Some(cell));
     store.put(&to.name, to.copy, Some(cell), value)
@@ -35,7 +36,8 @@ fn copy_cells(
     source: &Store,
     store: &mut Store,
 ) -> Result<(), AllocError>
-    ensures { OnOk result (store_of store.new ≡ statements.copied cells (ref_of to.now) (ref_of from.now) (store_of source.now) (store_of store.old)) }
+    ensures { OnOk result (store_of store.new ≡ statements.copied cells (ref_of to.now)
+        (ref_of from.now) (store_of source.now) (store_of store.old)) }
 {
     if cells > u64::MAX as u128 {
         return Err(AllocError);
@@ -63,8 +65,8 @@ fn variable_of(arg: &Expr) -> Option<&Var>
     }
 }
 
-/// An array that is passed: the first cells of the parameter are those of the variable that the argument is. Stuck for Init where it is
-/// none.
+/// An array that is passed: the first cells of the parameter are those of the variable that the
+/// argument is. Stuck for Init where it is none.
 pub(crate) fn pass_array(
     span: Span,
     cells: u128,
@@ -73,7 +75,8 @@ pub(crate) fn pass_array(
     outer: &Store,
     inner: &mut Store,
 ) -> Result<(), Failure<Stuck>>
-    ensures { ChangesSilently result (store_of inner.new) (array_passed span cells param.now arg.now (store_of outer.now) (store_of inner.old)) }
+    ensures { ChangesSilently result (store_of inner.new)
+        (array_passed span cells param.now arg.now (store_of outer.now) (store_of inner.old)) }
 {
     match variable_of(arg) {
         None => Err(Failure::Refused(missing(span))),
@@ -84,14 +87,16 @@ pub(crate) fn pass_array(
     }
 }
 
-/// The end of a call for one parameter: where it is an array, the cells of the variable that the argument is are those of the parameter.
+/// The end of a call for one parameter: where it is an array, the cells of the variable that the
+/// argument is are those of the parameter.
 pub(crate) fn give_array_back(
     param: &Var,
     arg: &Expr,
     inner: &Store,
     outer: &mut Store,
 ) -> Result<(), AllocError>
-    ensures { OnOk result (store_of outer.new ≡ array_back param.now arg.now (store_of inner.now) (store_of outer.old)) }
+    ensures { OnOk result (store_of outer.new ≡ array_back param.now arg.now (store_of inner.now)
+        (store_of outer.old)) }
 {
     match kind_of(param) {
         Kind::Array(_, cells) => match variable_of(arg) {

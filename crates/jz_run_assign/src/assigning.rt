@@ -7,9 +7,9 @@ ghost use Rattle.jz_meaning.specs.States.{as_value};
 ghost use Rattle.jz_meaning.specs.Stores.{state_of};
 ghost use Rattle.jz_meaning.specs.Values.{own_size};
 ghost use Rattle.jz_meaning.specs.Assignments as assignments;
-ghost use Rattle.jz_run_assign.specs.Answers.{meant_results, GivesResults};
-ghost use Rattle.jz_run_assign.specs.Rights.{right_side, IsCarry};
-ghost use Rattle.jz_run_assign.specs.Parts.{one_value, results_written, right_assigned, value_assigned};
+ghost use Rattle.jz_run_assign.specs.Answers.{meant_results, GivesResults, value_assigned};
+ghost use Rattle.jz_run_assign.specs.InnerRights.{right_side, IsCarry};
+ghost use Rattle.jz_run_assign.specs.InnerParts.{one_value, results_chosen, results_written, right_assigned};
 
 use crate::left::{left_size, left_sizes, missing, write_all};
 use crate::operands::truth_in;
@@ -21,7 +21,8 @@ use jz_tree::{BinOp, Expr, Failure, Lval, Seq, Span};
 use jz_words::Size;
 use std::alloc::{AllocError, Global};
 
-/// An assignment but for its right side: `to = ..` or `to op= ..`, and with a condition only where that holds.
+/// An assignment but for its right side: `to = ..` or `to op= ..`, and with a condition only where
+/// that holds.
 #[derive(Clone, Copy)]
 pub struct Assignment<'a> {
     pub to: &'a Seq<Lval>,
@@ -36,7 +37,8 @@ fn one_result(
     state: &State,
     out: &mut Seq<u64>,
 ) -> Result<Seq<Option<Value>>, Failure<Stuck>>
-    ensures { GivesResults result out.old out.new (one_value (right_side right.entry) size (state_of state.now)) }
+    ensures { GivesResults result out.old out.new
+        (one_value (right_side right.entry) size (state_of state.now)) }
 {
     let value = right_value(right, size, state, out)?;
     let results = Seq::from_slice(out.allocator(), &[Some(value)])?;
@@ -53,7 +55,8 @@ fn results_of(
     out: &mut Seq<u64>,
 ) -> Result<Seq<Option<Value>>, Failure<Stuck>>
     requires { IsCarry right }
-    ensures { GivesResults result out.old out.new (assignments.results_of to.now (right_side right.entry) span size (state_of state.now)) }
+    ensures { GivesResults result out.old out.new
+        (assignments.results_of to.now (right_side right.entry) span size (state_of state.now)) }
 {
     match to.as_slice() {
         [] => Err(Failure::Refused(missing(span))),
@@ -75,7 +78,8 @@ fn old_of(
     state: &State,
     out: &mut Seq<u64>,
 ) -> Result<Value, Failure<Stuck>>
-    ensures { Evaluates result out.old out.new (assignments.old_value (left.now ∷ []) span (state_of state.now)) }
+    ensures { Evaluates result out.old out.new
+        (assignments.old_value (left.now ∷ []) span (state_of state.now)) }
 {
     match place_of(left) {
         None => Err(Failure::Refused(missing(span))),
@@ -93,7 +97,8 @@ fn old_value(
     state: &State,
     out: &mut Seq<u64>,
 ) -> Result<Value, Failure<Stuck>>
-    ensures { Evaluates result out.old out.new (assignments.old_value to.now span (state_of state.now)) }
+    ensures { Evaluates result out.old out.new
+        (assignments.old_value to.now span (state_of state.now)) }
 {
     match to.as_slice() {
         [] => Err(Failure::Refused(missing(span))),
@@ -111,7 +116,8 @@ fn chosen(
     values: Seq<Option<Value>>,
     old: Value,
 ) -> Result<Seq<Option<Value>>, AllocError>
-    ensures { IfOk result (λ vs. meant_results vs ≡ assignments.chosen holds (meant_results values) (as_value old)) }
+    ensures { IfOk result (λ vs. meant_results vs ≡ assignments.chosen holds (meant_results values)
+        (as_value old)) }
 {
     if holds {
         Ok(values)
@@ -129,7 +135,9 @@ fn conditioned(
     state: &State,
     out: &mut Seq<u64>,
 ) -> Result<Seq<Option<Value>>, Failure<Stuck>>
-    ensures { GivesResults result out.old out.new (assignments.conditioned to.now (Some cond.now) span (meant_results values) (state_of state.now)) }
+    ensures { GivesResults result out.old out.new
+        (assignments.conditioned to.now (Some cond.now) span (meant_results values)
+        (state_of state.now)) }
 {
     let holds = truth_in(span, cond, state, out)?;
     let old = old_value(to, span, state, out)?;
@@ -143,7 +151,8 @@ fn where_conditioned(
     state: &State,
     out: &mut Seq<u64>,
 ) -> Result<Seq<Option<Value>>, Failure<Stuck>>
-    ensures { GivesResults result out.old out.new (assignments.conditioned assignment.to.now assignment.cond.now assignment.span (meant_results values) (state_of state.now)) }
+    ensures { GivesResults result out.old out.new
+        (results_chosen assignment.entry (meant_results values) (state_of state.now)) }
 {
     match assignment.cond {
         None => Ok(values),
@@ -156,7 +165,8 @@ fn where_conditioned(
 
 /// The size of an assignment: that of its left sides, or else of its right side.
 fn assigned_size(to: &Seq<Lval>, right: Right<'_>) -> Option<Size>
-    ensures { result ≡ option_or (assignments.left_sizes to.now) (own_size (right_side right.entry)) }
+    ensures { result ≡ option_or (assignments.left_sizes to.now)
+        (own_size (right_side right.entry)) }
 {
     left_sizes(to).or(right_size(right))
 }
@@ -169,7 +179,8 @@ fn write_results(
     state: &mut State,
     out: &mut Seq<u64>,
 ) -> Result<(), Failure<Stuck>>
-    ensures { Changes result out.old out.new (state_of state.new) (results_written assignment.entry size (meant_results values) (state_of state.old)) }
+    ensures { Changes result out.old out.new (state_of state.new)
+        (results_written assignment.entry size (meant_results values) (state_of state.old)) }
 {
     let values = where_conditioned(assignment, values, state, out)?;
     let Assignment {
@@ -189,7 +200,8 @@ fn assign_right(
     out: &mut Seq<u64>,
 ) -> Result<(), Failure<Stuck>>
     requires { IsCarry right }
-    ensures { Changes result out.old out.new (state_of state.new) (right_assigned assignment.entry (right_side right.entry) (state_of state.old)) }
+    ensures { Changes result out.old out.new (state_of state.new)
+        (right_assigned assignment.entry (right_side right.entry) (state_of state.old)) }
 {
     let size = assigned_size(assignment.to, right);
     let values = results_of(assignment.to, right, assignment.span, size, state, out)?;
@@ -204,7 +216,8 @@ pub fn assign(
     state: &mut State,
     out: &mut Seq<u64>,
 ) -> Result<(), Failure<Stuck>>
-    ensures { Changes result out.old out.new (state_of state.new) (value_assigned assignment.entry value.now (state_of state.old)) }
+    ensures { Changes result out.old out.new (state_of state.new)
+        (value_assigned assignment.entry value.now (state_of state.old)) }
 {
     match right_of(assignment.to, assignment.op, value) {
         None => Err(Failure::Refused(missing(assignment.span))),

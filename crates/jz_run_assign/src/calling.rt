@@ -1,12 +1,13 @@
-//! Calls of inline functions. A call has fresh variables of its own; its array parameters are the caller's arrays.
+//! Calls of inline functions. A call has fresh variables of its own; its array parameters are the
+//! caller's arrays.
 
 ghost use Rattle.std.specs.Prelude.{◌≡◌, OnOk};
 ghost use Rattle.jz_tree.specs.Failures.{IfAnswered};
 ghost use Rattle.jz_meaning.specs.Attempts.{Changes, numbers_first};
 ghost use Rattle.jz_meaning.specs.Stores.{state_of, store_of};
 ghost use Rattle.jz_meaning.specs.Statements as statements;
-ghost use Rattle.jz_run_assign.specs.Passings.{entered_store};
-ghost use Rattle.jz_run_assign.specs.Calls.{value_passed, argument_passed, entered_by, value_given, result_given, left_by};
+ghost use Rattle.jz_run_assign.specs.Passings.{entered_store, entered_by, left_by};
+ghost use Rattle.jz_run_assign.specs.InnerCalls.{value_passed, argument_passed, value_given, result_given};
 
 use crate::arrays::{give_array_back, pass_array};
 use crate::{held, missing, set, write};
@@ -14,7 +15,8 @@ use jz_meaning::{Kind, State, Store, Stuck, evaluate, kind_of, size_of, variable
 use jz_tree::{Expr, Failure, Fun, Lval, Param, Seq, Span, Var};
 use std::alloc::AllocError;
 
-/// A call of an inline function: the left sides of its results, the callee, the arguments and where it stands.
+/// A call of an inline function: the left sides of its results, the callee, the arguments and where
+/// it stands.
 #[derive(Clone, Copy)]
 pub struct Call<'a> {
     pub to: &'a Seq<Lval>,
@@ -32,7 +34,8 @@ fn pass_value(
     inner: &mut Store,
     out: &mut Seq<u64>,
 ) -> Result<(), Failure<Stuck>>
-    ensures { Changes result out.old out.new (store_of inner.new) (value_passed kind param.now arg.now (state_of state.now) (store_of inner.old)) }
+    ensures { Changes result out.old out.new (store_of inner.new)
+        (value_passed kind param.now arg.now (state_of state.now) (store_of inner.old)) }
 {
     let value = evaluate(arg, size_of(kind), state, out)?;
     let value = held(param.span, kind, value)?;
@@ -48,7 +51,8 @@ fn pass(
     inner: &mut Store,
     out: &mut Seq<u64>,
 ) -> Result<(), Failure<Stuck>>
-    ensures { Changes result out.old out.new (store_of inner.new) (argument_passed span param.now arg.now (state_of state.now) (store_of inner.old)) }
+    ensures { Changes result out.old out.new (store_of inner.new)
+        (argument_passed span param.now arg.now (state_of state.now) (store_of inner.old)) }
 {
     let kind = kind_of(param);
     match kind {
@@ -72,7 +76,8 @@ fn pass_all(
     inner: &mut Store,
     out: &mut Seq<u64>,
 ) -> Result<(), Failure<Stuck>>
-    ensures { Changes result out.old out.new (store_of inner.new) (statements.all_passed span params.now args.now (state_of state.now) (store_of inner.old)) }
+    ensures { Changes result out.old out.new (store_of inner.new)
+        (statements.all_passed span params.now args.now (state_of state.now) (store_of inner.old)) }
 {
     for (i, param) in params.as_slice().iter().enumerate() {
         match args.get(i) {
@@ -86,11 +91,13 @@ fn pass_all(
     Ok(())
 }
 
-/// The variables of a callee as it begins: each parameter has its argument, which is evaluated among the caller's variables, and nothing
-/// else has a value. The numbers of the arguments are appended to `out`. Stuck as the first argument that is, and for Init at the call
-/// where they are not as many as the parameters.
+/// The variables of a callee as it begins: each parameter has its argument, which is evaluated
+/// among the caller's variables, and nothing else has a value. The numbers of the arguments are
+/// appended to `out`. Stuck as the first argument that is, and for Init at the call where they are
+/// not as many as the parameters.
 pub fn enter(call: Call<'_>, state: &State, out: &mut Seq<u64>) -> Result<Store, Failure<Stuck>>
-    ensures { IfAnswered result (λ r. entered_store out.new r ≡ numbers_first out.old (entered_by call.entry (state_of state.now))) }
+    ensures { IfAnswered result (λ r. entered_store out.new r ≡ numbers_first out.old
+        (entered_by call.entry (state_of state.now))) }
 {
     let mut inner = Store::new(out.allocator());
     pass_all(
@@ -110,7 +117,8 @@ fn give_arrays_back(
     inner: &Store,
     outer: &mut Store,
 ) -> Result<(), AllocError>
-    ensures { OnOk result (store_of outer.new ≡ statements.arrays_back params.now args.now (store_of inner.now) (store_of outer.old)) }
+    ensures { OnOk result (store_of outer.new ≡ statements.arrays_back params.now args.now
+        (store_of inner.now) (store_of outer.old)) }
 {
     for (i, param) in params.as_slice().iter().enumerate() {
         match args.get(i) {
@@ -130,7 +138,8 @@ fn give_value(
     state: &mut State,
     out: &mut Seq<u64>,
 ) -> Result<(), Failure<Stuck>>
-    ensures { Changes result out.old out.new (state_of state.new) (value_given kind to.now from.now (store_of inner.now) (state_of state.old)) }
+    ensures { Changes result out.old out.new (state_of state.new)
+        (value_given kind to.now from.now (store_of inner.now) (state_of state.old)) }
 {
     let value = variable(from, inner)?;
     write(size_of(kind), to, Some(value), state, out)?;
@@ -144,7 +153,8 @@ fn give(
     state: &mut State,
     out: &mut Seq<u64>,
 ) -> Result<(), Failure<Stuck>>
-    ensures { Changes result out.old out.new (state_of state.new) (result_given to.now from.now (store_of inner.now) (state_of state.old)) }
+    ensures { Changes result out.old out.new (state_of state.new)
+        (result_given to.now from.now (store_of inner.now) (state_of state.old)) }
 {
     let kind = kind_of(from);
     match to {
@@ -168,7 +178,8 @@ fn give_all(
     state: &mut State,
     out: &mut Seq<u64>,
 ) -> Result<(), Failure<Stuck>>
-    ensures { Changes result out.old out.new (state_of state.new) (statements.all_given span to.now results.now (store_of inner.now) (state_of state.old)) }
+    ensures { Changes result out.old out.new (state_of state.new)
+        (statements.all_given span to.now results.now (store_of inner.now) (state_of state.old)) }
 {
     for (i, left) in to.as_slice().iter().enumerate() {
         match results.get(i) {
@@ -182,16 +193,19 @@ fn give_all(
     Ok(())
 }
 
-/// The end of a call: the caller's arrays that were passed have the cells of the callee's, and each result is read just before its left side
-/// is evaluated and written. `inner` are the callee's variables at its end, and `state` the caller's with the memory then. The numbers of the
-/// left sides are appended to `out`. Stuck for Init at the call where the results are not as many as the left sides.
+/// The end of a call: the caller's arrays that were passed have the cells of the callee's, and each
+/// result is read just before its left side is evaluated and written. `inner` are the callee's
+/// variables at its end, and `state` the caller's with the memory then. The numbers of the left
+/// sides are appended to `out`. Stuck for Init at the call where the results are not as many as the
+/// left sides.
 pub fn leave(
     call: Call<'_>,
     inner: &Store,
     state: &mut State,
     out: &mut Seq<u64>,
 ) -> Result<(), Failure<Stuck>>
-    ensures { Changes result out.old out.new (state_of state.new) (left_by call.entry (store_of inner.now) (state_of state.old)) }
+    ensures { Changes result out.old out.new (state_of state.new)
+        (left_by call.entry (store_of inner.now) (state_of state.old)) }
 {
     let Call {
         to,

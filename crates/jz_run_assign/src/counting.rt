@@ -12,7 +12,8 @@ use jz_tree::{Expr, Failure, Seq, Span};
 
 /// A value as a whole number.
 fn number_at(span: Span, value: Value) -> Result<i128, Stuck>
-    ensures { (ns : List ℕ) → did ns result ≡ numbers_first ns (statements.number_at span (as_value value)) }
+    ensures { (ns : List ℕ) → did ns result ≡ numbers_first ns
+        (statements.number_at span (as_value value)) }
 {
     match value {
         Value::Int(number) => Ok(number),

@@ -11,14 +11,16 @@ use jz_tree::{Seq, Var};
 use std::alloc::AllocError;
 
 fn unset_cell(cell: u64, var: &Var, store: &mut Store)
-    ensures { store_of store.new ≡ states.put (store_of store.old) (cell_key (ref_of var.now) cell) None }
+    ensures { store_of store.new ≡ states.put (store_of store.old) (cell_key (ref_of var.now) cell)
+        None }
 {
     store.unset(&var.name, var.copy, Some(cell));
 }
 
 /// The first cells. No memory has room for more of them than a u64 can count.
 fn unset_cells(cells: u128, var: &Var, store: &mut Store) -> Result<(), AllocError>
-    ensures { OnOk result (store_of store.new ≡ statements.no_cells cells (ref_of var.now) (store_of store.old)) }
+    ensures { OnOk result (store_of store.new ≡ statements.no_cells cells (ref_of var.now)
+        (store_of store.old)) }
 {
     if cells > u64::MAX as u128 {
         return Err(AllocError);
@@ -30,7 +32,8 @@ fn unset_cells(cells: u128, var: &Var, store: &mut Store) -> Result<(), AllocErr
 }
 
 fn unset(var: &Var, store: &mut Store) -> Result<(), AllocError>
-    ensures { OnOk result (store_of store.new ≡ statements.without (ref_of var.now).kind (ref_of var.now) (store_of store.old)) }
+    ensures { OnOk result (store_of store.new ≡ statements.without (ref_of var.now).kind
+        (ref_of var.now) (store_of store.old)) }
 {
     match kind_of(var) {
         Kind::Array(_, cells) => unset_cells(cells, var, store),
@@ -41,9 +44,11 @@ fn unset(var: &Var, store: &mut Store) -> Result<(), AllocError>
     }
 }
 
-/// Takes away the values of variables, those of all cells of an array. Fails where an array has more cells than a u64 can count.
+/// Takes away the values of variables, those of all cells of an array. Fails where an array has
+/// more cells than a u64 can count.
 pub fn unset_all(vars: &Seq<Var>, store: &mut Store) -> Result<(), AllocError>
-    ensures { OnOk result (store_of store.new ≡ statements.all_unset vars.now (store_of store.old)) }
+    ensures { OnOk result (store_of store.new ≡ statements.all_unset vars.now
+        (store_of store.old)) }
 {
     for var in vars.as_slice() {
         unset(var, store)?;

@@ -7,7 +7,7 @@ ghost use Rattle.jz_meaning.specs.Stores.{state_of, store_of};
 ghost use Rattle.jz_meaning.specs.Values.{ref_of, cell_key};
 ghost use Rattle.jz_meaning.specs.Assignments as assignments;
 ghost use Rattle.jz_meaning.specs.declared.value.Why.TheVariants.{Init};
-ghost use Rattle.jz_run_assign.specs.Parts.{variable_written, cell_written};
+ghost use Rattle.jz_run_assign.specs.InnerParts.{variable_written, cell_written};
 
 use crate::variables::set;
 use jz_meaning::{
@@ -17,7 +17,8 @@ use jz_tree::{Failure, Lval, Seq, Span, Var};
 use jz_words::Size;
 use std::alloc::AllocError;
 
-/// Stuck at that place for Init: a variable, cell or operand has no value of the sort that is wanted.
+/// Stuck at that place for Init: a variable, cell or operand has no value of the sort that is
+/// wanted.
 pub fn missing(span: Span) -> Stuck
     ensures { result ≡ record { span = span; why = Init } }
 {
@@ -54,7 +55,8 @@ pub fn left_sizes(to: &Seq<Lval>) -> Option<Size>
 
 /// What a word of a size holds of a value.
 fn word_held(span: Span, size: Size, value: Value) -> Result<Value, Stuck>
-    ensures { (ns : List ℕ) → seen ns result ≡ numbers_first ns (assignments.word_value span size (as_value value)) }
+    ensures { (ns : List ℕ) → seen ns result ≡ numbers_first ns
+        (assignments.word_value span size (as_value value)) }
 {
     match word_of(size, value) {
         None => Err(missing(span)),
@@ -64,7 +66,8 @@ fn word_held(span: Span, size: Size, value: Value) -> Result<Value, Stuck>
 
 /// What a variable of this kind holds of a value; stuck for Init where it holds none.
 pub fn held(span: Span, kind: Kind, value: Value) -> Result<Value, Stuck>
-    ensures { (ns : List ℕ) → seen ns result ≡ numbers_first ns (assignments.held span kind (as_value value)) }
+    ensures { (ns : List ℕ) → seen ns result ≡ numbers_first ns
+        (assignments.held span kind (as_value value)) }
 {
     match kind {
         Kind::Word(size) => word_held(span, size, value),
@@ -90,13 +93,15 @@ fn var_span(var: &Var) -> Span
 }
 
 fn put_cell(var: &Var, index: u64, value: Value, store: &mut Store) -> Result<(), AllocError>
-    ensures { OnOk result (store_of store.new ≡ put (store_of store.old) (cell_key (ref_of var.now) index) (Some (as_value value))) }
+    ensures { OnOk result (store_of store.new ≡ put (store_of store.old)
+        (cell_key (ref_of var.now) index) (Some (as_value value))) }
 {
     store.put(&var.name, var.copy, Some(index), Some(value))
 }
 
 fn write_variable(var: &Var, value: Option<Value>, state: &mut State) -> Result<(), Failure<Stuck>>
-    ensures { ChangesSilently result (state_of state.new) (variable_written var.now (option_map as_value value) (state_of state.old)) }
+    ensures { ChangesSilently result (state_of state.new)
+        (variable_written var.now (option_map as_value value) (state_of state.old)) }
 {
     match value {
         None => {
@@ -119,7 +124,9 @@ fn write_cell(
     value: Option<Value>,
     state: &mut State,
 ) -> Result<(), Failure<Stuck>>
-    ensures { ChangesSilently result (state_of state.new) (assignments.in_cell (ref_of var.now) index size (option_map as_value value) (state_of state.old)) }
+    ensures { ChangesSilently result (state_of state.new)
+        (assignments.in_cell (ref_of var.now) index size (option_map as_value value)
+        (state_of state.old)) }
 {
     match size {
         None => Err(Failure::Refused(missing(var.span))),
@@ -142,15 +149,16 @@ fn write_at(
     state: &mut State,
     out: &mut Seq<u64>,
 ) -> Result<(), Failure<Stuck>>
-    ensures { Changes result out.old out.new (state_of state.new) (cell_written var.now (as_value at) (option_map as_value value) (state_of state.old)) }
+    ensures { Changes result out.old out.new (state_of state.new)
+        (cell_written var.now (as_value at) (option_map as_value value) (state_of state.old)) }
 {
     let index = index(var, at, out)?;
     write_cell(var, index, size_of(kind_of(var)), value, state)?;
     Ok(())
 }
 
-/// Writes a value to a left side, or takes away what it has; an index or address is evaluated first and appended to `out`. `size` is the
-/// size of the other side.
+/// Writes a value to a left side, or takes away what it has; an index or address is evaluated first
+/// and appended to `out`. `size` is the size of the other side.
 pub fn write(
     size: Option<Size>,
     to: &Lval,
@@ -158,7 +166,8 @@ pub fn write(
     state: &mut State,
     out: &mut Seq<u64>,
 ) -> Result<(), Failure<Stuck>>
-    ensures { Changes result out.old out.new (state_of state.new) (assignments.written size to.now (option_map as_value value) (state_of state.old)) }
+    ensures { Changes result out.old out.new (state_of state.new)
+        (assignments.written size to.now (option_map as_value value) (state_of state.old)) }
 {
     match to {
         Lval::Skip(_) => Ok(()),
@@ -179,8 +188,8 @@ pub fn write(
     }
 }
 
-/// Writes values to left sides from left to right, each before the next is evaluated; stuck for Init at `span` where they are not as
-/// many.
+/// Writes values to left sides from left to right, each before the next is evaluated; stuck for
+/// Init at `span` where they are not as many.
 pub fn write_all(
     span: Span,
     size: Option<Size>,
@@ -189,7 +198,9 @@ pub fn write_all(
     state: &mut State,
     out: &mut Seq<u64>,
 ) -> Result<(), Failure<Stuck>>
-    ensures { Changes result out.old out.new (state_of state.new) (assignments.all_written span size to.now (map (option_map as_value) values.now) (state_of state.old)) }
+    ensures { Changes result out.old out.new (state_of state.new)
+        (assignments.all_written span size to.now (map (option_map as_value) values.now)
+        (state_of state.old)) }
 {
     for (left, value) in to.as_slice().iter().zip(values.iter()) {
         write(size, left, *value, state, out)?;

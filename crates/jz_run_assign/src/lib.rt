@@ -1,5 +1,6 @@
-//! Assignments: the right side, and then the left sides from left to right, each written before the next is evaluated.
-//! What goes into a call and comes out of it, the variables that the head of a copied body unsets, and the bounds of a `for`.
+//! Assignments: the right side, and then the left sides from left to right, each written before the
+//! next is evaluated. What goes into a call and comes out of it, the variables that the head of a
+//! copied body unsets, and the bounds of a `for`.
 #![tactic(auto)]
 
 mod arrays;

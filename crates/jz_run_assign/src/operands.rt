@@ -15,7 +15,8 @@ use jz_words::{Size, Word};
 
 /// The value in the place of a word of a size.
 pub(crate) fn word_at(span: Span, size: Size, value: Value) -> Result<Word, Stuck>
-    ensures bits { (ns : List ℕ) → did ns (bits_in result) ≡ numbers_first ns (operators.word_at span size (as_value value)) }
+    ensures bits { (ns : List ℕ) → did ns (bits_in result) ≡ numbers_first ns
+        (operators.word_at span size (as_value value)) }
     ensures size { IfOk result (λ w. w.size ≡ size) }
 {
     match word_of(size, value) {
@@ -25,7 +26,8 @@ pub(crate) fn word_at(span: Span, size: Size, value: Value) -> Result<Word, Stuc
 }
 
 fn truth(span: Span, value: Value) -> Result<bool, Stuck>
-    ensures { (ns : List ℕ) → did ns result ≡ numbers_first ns (assignments.truth span (as_value value)) }
+    ensures { (ns : List ℕ) → did ns result ≡ numbers_first ns
+        (assignments.truth span (as_value value)) }
 {
     match value {
         Value::Bool(truth) => Ok(truth),
@@ -42,7 +44,8 @@ pub fn word_in(
     state: &State,
     out: &mut Seq<u64>,
 ) -> Result<Word, Failure<Stuck>>
-    ensures bits { GivesBits result out.old out.new (assignments.word_in span size e.now (state_of state.now)) }
+    ensures bits { GivesBits result out.old out.new
+        (assignments.word_in span size e.now (state_of state.now)) }
     ensures size { IfOk result (λ w. w.size ≡ size) }
 {
     let value = evaluate(e, Some(size), state, out)?;

@@ -5,12 +5,12 @@ ghost use Rattle.jz_tree.specs.declared.expr.Expr.TheViews.{out-Expr};
 ghost use Rattle.jz_words.specs.declared.size.Size.{Size};
 ghost use Rattle.jz_words.specs.Sizes.{modulus};
 ghost use Rattle.jz_meaning.specs.Attempts.{did, numbers_first};
-ghost use Rattle.jz_meaning.specs.States.{State};
+ghost use Rattle.jz_meaning.specs.States as states;
 ghost use Rattle.jz_meaning.specs.Stores.{state_of};
 ghost use Rattle.jz_meaning.specs.Assignments as assignments;
 ghost use Rattle.jz_run_assign.specs.Answers.{pair_in, GivesBits, GivesResults, GivesSilently};
-ghost use Rattle.jz_run_assign.specs.Rights.{operand_of, right_side, IsCarry};
-ghost use Rattle.jz_run_assign.specs.Pairs.{two_from, three_from, results_of_pair, results_or};
+ghost use Rattle.jz_run_assign.specs.InnerRights.{operand_of, right_side, IsCarry};
+ghost use Rattle.jz_run_assign.specs.InnerPairs.{two_from, three_from, results_of_pair, results_or};
 
 use crate::left::missing;
 use crate::operands::{truth_in, word_at, word_in};
@@ -41,7 +41,8 @@ enum Pair<'a> {
 
 /// `left op flag` with two results, where the left operand is the sum or difference of two.
 fn with_flag<'a>(op: BinOp, left: &'a Expr, flag: &'a Expr, span: Span) -> Result<Pair<'a>, Stuck>
-    ensures { (s : Size) (st : State) → results_or s st result ≡ assignments.with_three op (out-Expr left.now) left.now flag.now span s st }
+    ensures { (s : Size) (st : states.State) → results_or s st result ≡ assignments.with_three op
+        (out-Expr left.now) left.now flag.now span s st }
 {
     match left {
         Expr::Bin(inner, left, right, _) => {
@@ -69,7 +70,9 @@ fn with_flag<'a>(op: BinOp, left: &'a Expr, flag: &'a Expr, span: Span) -> Resul
 }
 
 fn pair_of_expr(e: &Expr, span: Span) -> Result<Pair<'_>, Stuck>
-    ensures { (s : Size) (st : State) → results_or s st result ≡ assignments.two_of (out-Expr e.now) span (Some s) st }
+    ensures { (s : Size) (st : states.State) → results_or s st result ≡ assignments.two_of
+        (out-Expr e.now)
+        span (Some s) st }
 {
     match e {
         Expr::Bin(op, left, right, inner) => {
@@ -98,7 +101,8 @@ fn pair_of_expr(e: &Expr, span: Span) -> Result<Pair<'_>, Stuck>
 /// The operation that a right side is; stuck for Init where it has not two results.
 fn pair_of<'a>(right: Right<'a>, span: Span) -> Result<Pair<'a>, Stuck>
     requires { IsCarry right }
-    ensures { (s : Size) (st : State) → results_or s st result ≡ assignments.two_of (out-Expr (right_side right.entry)) span (Some s) st }
+    ensures { (s : Size) (st : states.State) → results_or s st result ≡ assignments.two_of
+        (out-Expr (right_side right.entry)) span (Some s) st }
 {
     match right {
         Right::Plain(e) => pair_of_expr(e, span),
@@ -157,7 +161,8 @@ fn low_word(a: Word, b: Word) -> Word
 /// The results in the order of their left sides.
 fn two_values(op: BinOp, span: Span, a: Word, b: Word, flag: bool) -> Result<(Value, Value), Stuck>
     requires { a.size ≡ b.size }
-    ensures { (ns : List ℕ) → did ns (pair_in result) ≡ numbers_first ns (assignments.two_results op span a.size a.bits b.bits flag) }
+    ensures { (ns : List ℕ) → did ns (pair_in result) ≡ numbers_first ns
+        (assignments.two_results op span a.size a.bits b.bits flag) }
 {
     match op {
         BinOp::Add => {
@@ -197,7 +202,8 @@ fn operand_word(
     state: &State,
     out: &mut Seq<u64>,
 ) -> Result<Word, Failure<Stuck>>
-    ensures bits { GivesBits result out.old out.new (assignments.word_in span size (operand_of from.entry) (state_of state.now)) }
+    ensures bits { GivesBits result out.old out.new
+        (assignments.word_in span size (operand_of from.entry) (state_of state.now)) }
     ensures size { IfOk result (λ w. w.size ≡ size) }
 {
     let value = operand(from, Some(size), state, out)?;
@@ -215,7 +221,8 @@ fn of_three(
     state: &State,
     out: &mut Seq<u64>,
 ) -> Result<Seq<Option<Value>>, Failure<Stuck>>
-    ensures { GivesResults result out.old out.new (three_from op span left.size left.bits right.now flag.now (state_of state.now)) }
+    ensures { GivesResults result out.old out.new
+        (three_from op span left.size left.bits right.now flag.now (state_of state.now)) }
 {
     let right = word_in(span, left.size(), right, state, out)?;
     let flag = truth_in(span, flag, state, out)?;
@@ -232,7 +239,8 @@ fn of_two(
     state: &State,
     out: &mut Seq<u64>,
 ) -> Result<Seq<Option<Value>>, Failure<Stuck>>
-    ensures { GivesResults result out.old out.new (two_from op span left.size left.bits right.now (state_of state.now)) }
+    ensures { GivesResults result out.old out.new
+        (two_from op span left.size left.bits right.now (state_of state.now)) }
 {
     let right = word_in(span, left.size(), right, state, out)?;
     let results = two_results(out.allocator(), op, span, left, right, false)?;
@@ -245,7 +253,8 @@ fn of_pair(
     state: &State,
     out: &mut Seq<u64>,
 ) -> Result<Seq<Option<Value>>, Failure<Stuck>>
-    ensures { GivesResults result out.old out.new (results_of_pair pair.entry size (state_of state.now)) }
+    ensures { GivesResults result out.old out.new
+        (results_of_pair pair.entry size (state_of state.now)) }
 {
     match pair {
         Pair::Two {
@@ -281,7 +290,8 @@ pub(crate) fn pair_results(
     out: &mut Seq<u64>,
 ) -> Result<Seq<Option<Value>>, Failure<Stuck>>
     requires { IsCarry right }
-    ensures { GivesResults result out.old out.new (assignments.two_of (out-Expr (right_side right.entry)) span size (state_of state.now)) }
+    ensures { GivesResults result out.old out.new
+        (assignments.two_of (out-Expr (right_side right.entry)) span size (state_of state.now)) }
 {
     match size {
         None => Err(Failure::Refused(missing(span))),

@@ -6,7 +6,7 @@ ghost use Rattle.jz_meaning.specs.States.{as_value};
 ghost use Rattle.jz_meaning.specs.Stores.{state_of};
 ghost use Rattle.jz_meaning.specs.Values as values;
 ghost use Rattle.jz_meaning.specs.Values.{evaluated};
-ghost use Rattle.jz_run_assign.specs.Rights.{read_of, operand_of, right_side};
+ghost use Rattle.jz_run_assign.specs.InnerRights.{read_of, operand_of, right_side};
 
 use crate::right::{Operand, Place, Right, left_wanted, place_size, update_size};
 use jz_meaning::{
@@ -22,7 +22,8 @@ pub(crate) fn read(
     state: &State,
     out: &mut Seq<u64>,
 ) -> Result<Value, Failure<Stuck>>
-    ensures { Evaluates result out.old out.new (evaluated (read_of place.entry) wanted (state_of state.now)) }
+    ensures { Evaluates result out.old out.new
+        (evaluated (read_of place.entry) wanted (state_of state.now)) }
 {
     match place {
         Place::Variable(var) => {
@@ -49,7 +50,8 @@ pub(crate) fn operand(
     state: &State,
     out: &mut Seq<u64>,
 ) -> Result<Value, Failure<Stuck>>
-    ensures { Evaluates result out.old out.new (evaluated (operand_of operand.entry) wanted (state_of state.now)) }
+    ensures { Evaluates result out.old out.new
+        (evaluated (operand_of operand.entry) wanted (state_of state.now)) }
 {
     match operand {
         Operand::Value(e) => evaluate(e, wanted, state, out),
@@ -67,7 +69,9 @@ fn with_right(
     state: &State,
     out: &mut Seq<u64>,
 ) -> Result<Value, Failure<Stuck>>
-    ensures { Evaluates result out.old out.new (values.with_right op (evaluated right.now) span wanted (state_of state.now) (as_value left)) }
+    ensures { Evaluates result out.old out.new
+        (values.with_right op (evaluated right.now) span wanted (state_of state.now)
+        (as_value left)) }
 {
     if is_settled(op, left) {
         return Ok(left);
@@ -87,7 +91,8 @@ fn update(
     state: &State,
     out: &mut Seq<u64>,
 ) -> Result<Value, Failure<Stuck>>
-    ensures { Evaluates result out.old out.new (evaluated (expr.Bin op (read_of left.entry) right.now span) wanted (state_of state.now)) }
+    ensures { Evaluates result out.old out.new
+        (evaluated (expr.Bin op (read_of left.entry) right.now span) wanted (state_of state.now)) }
 {
     let inner = left_wanted(op, wanted, place_size(left), own_size(right));
     let left = read(left, inner, state, out)?;
@@ -102,7 +107,8 @@ pub(crate) fn right_value(
     state: &State,
     out: &mut Seq<u64>,
 ) -> Result<Value, Failure<Stuck>>
-    ensures { Evaluates result out.old out.new (evaluated (right_side right.entry) wanted (state_of state.now)) }
+    ensures { Evaluates result out.old out.new
+        (evaluated (right_side right.entry) wanted (state_of state.now)) }
 {
     match right {
         Right::Plain(e) => evaluate(e, wanted, state, out),

@@ -5,7 +5,7 @@ ghost use Rattle.std.specs.Option.{option_copied};
 ghost use Rattle.jz_tree.specs.declared.expr.Expr.TheViews.{out-Expr};
 ghost use Rattle.jz_meaning.specs.Values as values;
 ghost use Rattle.jz_meaning.specs.Assignments as assignments;
-ghost use Rattle.jz_run_assign.specs.Rights.{read_of, right_side, IsCarry};
+ghost use Rattle.jz_run_assign.specs.InnerRights.{read_of, right_side, IsCarry};
 
 use jz_meaning::{Kind, gives_word, is_shift, kind_of, own_size, size_of};
 use jz_tree::{Access, BinOp, Expr, Lval, Seq, Span, Var};
@@ -110,7 +110,8 @@ pub(crate) fn carries(op: BinOp, other: BinOp) -> bool
 /// Whether the flag is the carry of a sum, or the borrow of a difference.
 fn is_carry(op: BinOp, other: BinOp, flag: &Expr) -> bool
     ensures value { result ≡ (assignments.carries op other && assignments.is_flag flag.now) }
-    ensures turned { IsTrue result → (assignments.carries other op ≡ true) × (assignments.is_flag flag.now ≡ true) }
+    ensures turned { IsTrue result → (assignments.carries other op ≡ true)
+        × (assignments.is_flag flag.now ≡ true) }
 {
     carries(op, other) && is_flag(flag)
 }
@@ -118,7 +119,8 @@ fn is_carry(op: BinOp, other: BinOp, flag: &Expr) -> bool
 ghost use Rattle.std.specs.Prelude.{◌&&◌, IsTrue, true};
 
 fn updated<'a>(op: BinOp, left: Place<'a>, e: &'a Expr, span: Span) -> Right<'a>
-    ensures side { right_side result ≡ assignments.updated_layer op (read_of left.entry) e.now span (out-Expr e.now) }
+    ensures side { right_side result ≡ assignments.updated_layer op (read_of left.entry) e.now span
+        (out-Expr e.now) }
     ensures carry { IsCarry result }
 {
     let update = Right::Update {
@@ -161,7 +163,8 @@ fn last_left(to: &Seq<Lval>) -> Option<&Lval>
 }
 
 fn right_from<'a>(left: &'a Lval, op: BinOp, value: &'a Expr) -> Option<Right<'a>>
-    ensures side { option_map right_side result ≡ assignments.updated (assignments.as_expr left.now) op value.now (assignments.left_span left.now) }
+    ensures side { option_map right_side result ≡ assignments.updated (assignments.as_expr left.now)
+        op value.now (assignments.left_span left.now) }
     ensures carry { IfSome result IsCarry }
 {
     match place_of(left) {
@@ -170,13 +173,15 @@ fn right_from<'a>(left: &'a Lval, op: BinOp, value: &'a Expr) -> Option<Right<'a
     }
 }
 
-/// The right side of an assignment. None where an operation reads `_`, or there is no left side to read.
+/// The right side of an assignment. None where an operation reads `_`, or there is no left side to
+/// read.
 pub(crate) fn right_of<'a>(
     to: &'a Seq<Lval>,
     op: Option<BinOp>,
     value: &'a Expr,
 ) -> Option<Right<'a>>
-    ensures side { option_map right_side result ≡ assignments.whole_of (assignments.last_left to.now) op value.now }
+    ensures side { option_map right_side result ≡ assignments.whole_of
+        (assignments.last_left to.now) op value.now }
     ensures carry { IfSome result IsCarry }
 {
     match op {
@@ -227,7 +232,8 @@ pub(crate) fn place_size(place: Place<'_>) -> Option<Size>
 
 /// The size that `left op right` has by itself.
 pub(crate) fn update_size(op: BinOp, left: Place<'_>, right: &Expr) -> Option<Size>
-    ensures { result ≡ values.size_of_operation op (values.own_size (read_of left.entry)) (values.own_size right.now) }
+    ensures { result ≡ values.size_of_operation op (values.own_size (read_of left.entry))
+        (values.own_size right.now) }
 {
     size_of_operation(op, place_size(left), own_size(right))
 }

@@ -28,7 +28,8 @@ pub fn value_of(var: &Var, store: &Store) -> Option<Value>
 
 /// Gives a variable a value, or takes away what it has.
 pub fn set(var: &Var, value: Option<Value>, store: &mut Store) -> Result<(), AllocError>
-    ensures { OnOk result (store_of store.new ≡ put (store_of store.old) (key_of (ref_of var.now)) (option_map as_value value)) }
+    ensures { OnOk result (store_of store.new ≡ put (store_of store.old) (key_of (ref_of var.now))
+        (option_map as_value value)) }
 {
     store.put(&var.name, var.copy, cell_of(var), value)
 }

@@ -1,10 +1,11 @@
-//! The operators at the edges of each size. What is wanted was computed with Python's integers, as Rust's own operations give it.
+//! The operators at the edges of each size. What is wanted was computed with Python's integers, as
+//! Rust's own operations give it.
 
 use Edge::{Last, Least, Most, Number, Width};
 use Part::{Byte, Truth, Whole};
 use Wanted::{Divide, Flag, Is};
 use jz_meaning::{Store, Stuck, Value, Why, binary, cast, inverted_value, negated_value};
-use jz_tree::{BinOp, Seq, Span, Text};
+use jz_tree::{BinOp, Failure, Seq, Span, Text};
 use jz_words::{Size, Word, residue};
 use std::alloc::{AllocError, Global};
 use std::process::Abort;
@@ -132,28 +133,28 @@ fn word(size: Size, edge: Edge) -> Word {
     }
 }
 
-fn answer(size: Size, wanted: Wanted) -> Result<Value, Stuck> {
+fn answer(size: Size, wanted: Wanted) -> Result<Value, Failure<Stuck>> {
     match wanted {
         Is(edge) => Ok(Value::Word(word(size, edge))),
         Flag(flag) => Ok(Value::Bool(flag)),
-        Divide => Err(Stuck {
+        Divide => Err(Failure::Refused(Stuck {
             span: AT,
             why: Why::Divide,
-        }),
+        })),
     }
 }
 
-fn is_answered(alloc: Global, size: Size, row: Row) -> Result<bool, Fail> {
+fn is_answered(alloc: Global, size: Size, row: Row) -> bool {
     let (op, a, b, wanted) = row;
     let mut out = Seq::new(alloc);
     let x = Value::Word(word(size, a));
     let y = Value::Word(word(size, b));
-    Ok(binary(op, AT, None, x, y, &mut out)? == answer(size, wanted))
+    binary(op, AT, None, x, y, &mut out) == answer(size, wanted)
 }
 
 fn answer_rows(rt: &impl Abort, alloc: Global, size: Size, rows: &[Row]) -> Result<(), Fail> {
     for (i, row) in rows.iter().enumerate() {
-        assert!(rt; is_answered(alloc, size, *row)?, "row {i}");
+        assert!(rt; is_answered(alloc, size, *row), "row {i}");
     }
     Ok(())
 }
@@ -202,16 +203,16 @@ fn value(part: Part) -> Value {
     }
 }
 
-fn is_mixed(alloc: Global, row: Mixed) -> Result<bool, Fail> {
+fn is_mixed(alloc: Global, row: Mixed) -> bool {
     let (op, x, y, wanted) = row;
     let mut out = Seq::new(alloc);
-    let got = binary(op, AT, Some(Size::S8), value(x), value(y), &mut out)?;
-    Ok(got.ok() == wanted.map(value))
+    let got = binary(op, AT, Some(Size::S8), value(x), value(y), &mut out);
+    got.ok() == wanted.map(value)
 }
 
 fn answer_all_mixed(rt: &impl Abort, alloc: Global, rows: &[Mixed]) -> Result<(), Fail> {
     for (i, row) in rows.iter().enumerate() {
-        assert!(rt; is_mixed(alloc, *row)?, "row {i}");
+        assert!(rt; is_mixed(alloc, *row), "row {i}");
     }
     Ok(())
 }
@@ -224,7 +225,7 @@ fn values_side_by_side(rt: HostRuntime) -> Result<(), Fail> {
 #[test]
 fn numbers_and_values_alone(rt: HostRuntime) -> Result<(), Fail> {
     let mut out = Seq::new(rt.alloc());
-    let got = binary(BinOp::DivS, AT, None, byte(249), byte(2), &mut out)?;
+    let got = binary(BinOp::DivS, AT, None, byte(249), byte(2), &mut out);
     assert!(rt; got.ok() == Some(byte(253)));
     assert!(rt; out.as_slice() == [255, 249, 2].as_slice());
     assert!(rt; negated_value(byte(1)) == Some(byte(255)));

@@ -1,6 +1,7 @@
-//! Small functions, one a line, with what their runs come to by the rules of the language.
-//! A line has the text, the arguments, the memory from address 16 on, the turns, and the outcome: `end`, the results, the memory and the
-//! leak; `cut` and the leak; or `stuck`, the place and the reason. The last function of a text is run.
+//! Small functions, one a line, with what their runs come to by the rules of the language. A line
+//! has the text, the arguments, the memory from address 16 on, the turns, and the outcome: `end`,
+//! the results, the memory and the leak; `cut` and the leak; or `stuck`, the place and the reason.
+//! The last function of a text is run.
 
 use jz_interp::{Input, Outcome, interpret, takes};
 use jz_lex::lex;
@@ -25,14 +26,14 @@ export fn f(reg u32 x) -> reg u32 { reg u32 r; r = x; r <<r= 8; r = -r; r = !r; 
 export fn f(reg u8 b) -> reg u64, reg u64 { reg u64 r s; r = (64u)b; s = (64s)b; return r, s; } => 200 =>  => 10 => end 200 18446744073709551560 ;  ; op[] op[]
 ";
 
-// The operand is read, then the condition, then the old value.
+/// The operand is read, then the condition, then the old value.
 const CONDITIONAL: &str = "\
 export fn f(reg u64 x y) -> reg u64 { stack u64[3] s; reg u64 r; s[0] = x; s[2] = y; r = 7; r = s[x] if s[y] == y; return r; } => 0 2 =>  => 10 => end 0 ;  ; op[0] op[2] op[] op[0,2]
 export fn f(reg u64 x y) -> reg u64 { stack u64[3] s; reg u64 r; s[0] = x; s[2] = x; r = 7; r = s[x] if s[y] == y; return r; } => 0 2 =>  => 10 => end 7 ;  ; op[0] op[2] op[] op[0,2]
 export fn f(reg u64 x y) -> reg u64 { reg u64 r; r = x if x == y; return r; } => 1 1 =>  => 10 => stuck 1:50 Init
 ";
 
-// The right side comes before the left sides, and these come from the left.
+/// The right side comes before the left sides, and these come from the left.
 const ORDER: &str = "\
 export fn f(reg u64 j) -> reg u64 { stack u64[3] s; reg u64[2] a; reg u64 r; s[1] = j; a[0] = s[j]; r = a[0]; return r; } => 1 =>  => 10 => end 1 ;  ; op[1] op[1,0] op[0]
 export fn f(reg u64 i) -> reg u64 { stack u64[3] s; reg u64 r; s[1] = 5; s[i] += i; r = s[i]; return r; } => 1 =>  => 10 => end 6 ;  ; op[1] op[1,1] op[1]

@@ -1,9 +1,9 @@
-//! Where an expression is stuck, why, and what it has leaked until then. Expressions are built by hand, and what is wanted follows
-//! from the rules of values.
+//! Where an expression is stuck, why, and what it has leaked until then. Expressions are built by
+//! hand, and what is wanted follows from the rules of values.
 
 use Part::{Cell, Memory, Quotient, Unaligned, Unset};
 use Wanted::{At, Is};
-use jz_meaning::{MemMap, Store, Stuck, Value, Why, evaluate, value_of, write};
+use jz_meaning::{MemMap, State, Store, Stuck, Value, Why, evaluate, value_of, write};
 use jz_tree::{Access, BinOp, Boxed, Decl, Expr, Failure, Seq, Span, Storage, Text, Ty, Var};
 use jz_words::{Size, Word};
 use std::alloc::{AllocError, Global};
@@ -35,7 +35,7 @@ enum Wanted {
 /// The index at the left, what stands at the right, what comes out, and the numbers until then.
 type Row = (i128, Part, Wanted, &'static [u64]);
 
-// Of four cells 1, 2 and 3 are 7, 9 and 0. The bytes at 0x1000 to 0x100b are 1 to 12.
+/// Of four cells 1, 2 and 3 are 7, 9 and 0. The bytes at 0x1000 to 0x100b are 1 to 12.
 static ROWS: [Row; 17] = [
     (1, Cell(2), Is(16), &[1, 2]),
     (1, Cell(4), At(12, Why::Bounds), &[1]),
@@ -144,68 +144,49 @@ fn cells(alloc: Global) -> Result<Store, AllocError> {
     Ok(store)
 }
 
+fn state(alloc: Global) -> Result<State, AllocError> {
+    let store = cells(alloc)?;
+    let memory = bytes(alloc)?;
+    Ok(State { store, memory })
+}
+
 fn bytes(alloc: Global) -> Result<MemMap, AllocError> {
     let mut mem = MemMap::new(alloc);
     mem.add(0x1000, &[1, 2, 3, 4, 5, 6, 7, 8, 9, 10, 11, 12])?;
     Ok(mem)
 }
 
-fn answer(wanted: Wanted) -> Result<Value, Stuck> {
+/// What is wanted of an expression.
+type Answer = Result<Value, Failure<Stuck>>;
+
+fn answer(wanted: Wanted) -> Answer {
     match wanted {
         Is(bits) => Ok(word(bits)),
-        At(col, why) => Err(Stuck {
+        At(col, why) => Err(Failure::Refused(Stuck {
             span: column(col),
             why,
-        }),
+        })),
     }
 }
 
-// Whether an expression has this value, beside what it leaks.
-fn is_value(
-    alloc: Global,
-    e: &Expr,
-    store: &Store,
-    mem: &MemMap,
-    wanted: Result<Value, Stuck>,
-) -> bool {
-    match value_of(alloc, e, store, mem) {
-        Ok(value) => wanted == Ok(value),
-        Err(Failure::Refused(stuck)) => wanted == Err(stuck),
-        Err(Failure::OutOfMemory) => false,
-    }
-}
-
-// Whether an expression comes to this over the cells and the bytes, and leaks these numbers until then.
+/// Whether an expression comes to this over the cells and the bytes, and leaks these numbers until
+/// then.
 fn comes_to(
     alloc: Global,
     e: &Expr,
     size: Option<Size>,
-    wanted: Result<Value, Stuck>,
+    wanted: Answer,
     numbers: &[u64],
 ) -> Result<bool, AllocError> {
-    let store = cells(alloc)?;
-    let mem = bytes(alloc)?;
-    leaks(alloc, e, size, &store, &mem, wanted, numbers)
-}
-
-fn leaks(
-    alloc: Global,
-    e: &Expr,
-    size: Option<Size>,
-    store: &Store,
-    mem: &MemMap,
-    wanted: Result<Value, Stuck>,
-    numbers: &[u64],
-) -> Result<bool, AllocError> {
+    let state = state(alloc)?;
     let mut out = Seq::new(alloc);
-    let got = evaluate(alloc, e, size, store, mem, &mut out)?;
-    Ok(got == wanted && out.as_slice() == numbers)
+    Ok(evaluate(e, size, &state, &mut out) == wanted && out.as_slice() == numbers)
 }
 
-fn has_value(alloc: Global, e: &Expr, wanted: Result<Value, Stuck>) -> Result<bool, AllocError> {
-    let store = cells(alloc)?;
-    let mem = bytes(alloc)?;
-    Ok(is_value(alloc, e, &store, &mem, wanted))
+/// Whether an expression has this value, beside what it leaks.
+fn has_value(alloc: Global, e: &Expr, wanted: Answer) -> Result<bool, AllocError> {
+    let state = state(alloc)?;
+    Ok(value_of(e, &state) == wanted)
 }
 
 fn is_answered(alloc: Global, row: Row) -> Result<bool, AllocError> {
@@ -229,7 +210,7 @@ fn sums_with_a_stuck_part(rt: HostRuntime) -> Result<(), Fail> {
 
 const NO_VALUE: Wanted = At(12, Why::Init);
 
-// An access whose size nothing gives.
+/// An access whose size nothing gives.
 #[test]
 fn an_access_without_a_size(rt: HostRuntime) -> Result<(), Fail> {
     let alloc = rt.alloc();
@@ -238,7 +219,7 @@ fn an_access_without_a_size(rt: HostRuntime) -> Result<(), Fail> {
     Ok(())
 }
 
-// An access whose size the other side gives.
+/// An access whose size the other side gives.
 #[test]
 fn an_access_of_the_wanted_size(rt: HostRuntime) -> Result<(), Fail> {
     let alloc = rt.alloc();
@@ -257,7 +238,7 @@ fn a_quotient_of_whole_numbers(rt: HostRuntime) -> Result<(), Fail> {
     Ok(())
 }
 
-// `true` with an operator before what has no value.
+/// `true` with an operator before what has no value.
 fn before_unset(alloc: Global, op: BinOp) -> Result<Expr, AllocError> {
     operation(alloc, op, Expr::Bool(true, column(4)), unset(alloc)?, 4)
 }
@@ -278,13 +259,14 @@ fn a_part_that_is_asked(rt: HostRuntime) -> Result<(), Fail> {
     Ok(())
 }
 
-// A word of 32 bits is written at an address: what comes out, what stands at 0x1000 then, and the numbers.
+/// A word of 32 bits is written at an address: what comes out, what stands at 0x1000 then, and the
+/// numbers.
 fn is_written(
     rt: &impl Abort,
     alloc: Global,
     address: u64,
     given: Option<Value>,
-    wanted: Result<(), Stuck>,
+    wanted: Result<(), Failure<Stuck>>,
     after: u64,
 ) -> Result<(), Fail> {
     let mut mem = bytes(alloc)?;
@@ -297,21 +279,21 @@ fn is_written(
         given,
         &mut mem,
         &mut out,
-    )?;
+    );
     assert!(rt; got == wanted, "{address:x}");
     assert_eq!(rt; mem.load(0x1000, Size::S64), Some(after), "{address:x}");
     assert_eq!(rt; out.len(), usize::from(wanted.is_ok()), "{address:x}");
     Ok(())
 }
 
-fn stuck(why: Why) -> Result<(), Stuck> {
-    Err(Stuck {
+fn stuck(why: Why) -> Result<(), Failure<Stuck>> {
+    Err(Failure::Refused(Stuck {
         span: column(12),
         why,
-    })
+    }))
 }
 
-// Without a word to write Init comes first, then Address, then Align.
+/// Without a word to write Init comes first, then Address, then Align.
 #[test]
 fn words_that_are_written(rt: HostRuntime) -> Result<(), Fail> {
     let alloc = rt.alloc();
