@@ -6,11 +6,9 @@ ghost use Rattle.jz_run_assign.specs.Answers.{GivesResults};
 ghost use Rattle.jz_run_instruct.specs.Rows.{shift_flags, row_results};
 ghost use Rattle.jz_run_instruct.specs.Rows.{one_word_results, two_word_results};
 
-use crate::operands::{
-    with_carry, with_condition, with_count, with_division, with_one, with_two, words_in,
-};
+use crate::operands::{with_carry, with_condition, with_count, with_division, with_one, with_two};
 use crate::results::Results;
-use crate::rows::{OneWord, Row, TwoWords, row_of};
+use crate::rows::{OneWord, Row, SizedOp, TwoWords, row_of};
 use jz_meaning::{State, Stuck};
 use jz_run_assign::missing;
 use jz_tree::{Expr, Failure, Intrinsic, Seq, Span};
@@ -63,11 +61,7 @@ fn of_carry(
         GivesResults result out.old out.new (meaning (state_of state.now)) }
 {
     match operands {
-        [a, b, c] => {
-            let (a, b) = words_in(span, size, a, b, state, out)?;
-            let results = with_carry(op, span, a, b, c, state, out)?;
-            Ok(results)
-        }
+        [a, b, c] => with_carry(SizedOp { op, span, size }, a, b, c, state, out),
         _ => Err(Failure::Refused(missing(span))),
     }
 }

@@ -13,7 +13,7 @@ ghost use Rattle.jz_run_instruct.specs.Answers.{both_words, GivesWords};
 ghost use Rattle.jz_run_instruct.specs.Rows.{shift_flags, one_word_results, two_word_results};
 
 use crate::results::Results;
-use crate::rows::{OneWord, TwoWords};
+use crate::rows::{OneWord, SizedOp, TwoWords};
 use crate::words::{of_division, of_shift, of_sum, of_truth, of_word, of_words};
 use jz_meaning::{State, Stuck, evaluate};
 use jz_run_assign::{truth_in, word_in};
@@ -21,7 +21,7 @@ use jz_tree::{Expr, Failure, Seq, Span};
 use x64_insn::{Alu, Shift, Size, Word};
 
 /// The words of two operands.
-pub(crate) fn words_in(
+fn words_in(
     span: Span,
     size: Size,
     a: &Expr,
@@ -76,8 +76,8 @@ pub(crate) fn with_two(
     Ok(results)
 }
 
-/// An operation on two words and a carry: the words are known, and the carry is not.
-pub(crate) fn with_carry(
+/// Two words are known, and the flag is not.
+fn with_flag(
     op: Alu,
     span: Span,
     a: Word,
@@ -96,6 +96,26 @@ pub(crate) fn with_carry(
     Ok(results)
 }
 
+/// An operation on two words and a carry.
+pub(crate) fn with_carry(
+    operation: SizedOp,
+    a: &Expr,
+    b: &Expr,
+    c: &Expr,
+    state: &State,
+    out: &mut Seq<u64>,
+) -> Result<Results, Failure<Stuck>>
+    ensures { let sum = intrinsics.alu_results operation.op operation.size in
+        let operands = a.now ∷ b.now ∷ c.now ∷ [] in
+        let meaning = intrinsics.of_carry sum operation.span operation.size operands in
+        GivesResults result out.old out.new (meaning (state_of state.now)) }
+{
+    let SizedOp { op, span, size } = operation;
+    let (a, b) = words_in(span, size, a, b, state, out)?;
+    let results = with_flag(op, span, a, b, c, state, out)?;
+    Ok(results)
+}
+
 /// The word is known, and the count is not: it is a byte, or known when the text is compiled.
 fn by_count(
     kind: Shift,
@@ -111,7 +131,7 @@ fn by_count(
         GivesResults result out.old out.new (and_then count shifted) }
 {
     let count = evaluate(count, Some(Size::S8), state, out)?;
-    let results = of_shift(out.allocator(), kind, span, word, count)?;
+    let results = of_shift(kind, span, word, count, out)?;
     Ok(results)
 }
 

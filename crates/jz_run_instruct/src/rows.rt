@@ -9,8 +9,8 @@ ghost use Rattle.jz_meaning.specs.Intrinsics as intrinsics;
 ghost use Rattle.x64_insn.specs.declared.types.FlagVal.{FlagVal};
 ghost use Rattle.jz_run_instruct.specs.Rows.{shift_flags, row_results, flags_set_by};
 
-use jz_tree::Intrinsic;
-use x64_insn::{Alu, One, Shift};
+use jz_tree::{Intrinsic, Span};
+use x64_insn::{Alu, One, Shift, Size};
 
 /// Which of OF, CF, SF, PF, ZF an instruction sets.
 #[derive(Clone, Copy)]
@@ -40,6 +40,14 @@ pub(crate) enum TwoWords {
     LowProduct,
     /// Both words of the unsigned product.
     Product,
+}
+
+/// An operation at words of a size, and where the instruction stands.
+#[derive(Clone, Copy)]
+pub(crate) struct SizedOp {
+    pub(crate) op: Alu,
+    pub(crate) span: Span,
+    pub(crate) size: Size,
 }
 
 /// An instruction by what it takes.

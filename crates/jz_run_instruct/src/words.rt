@@ -1,6 +1,6 @@
 //! What instructions leave of words that are known.
 
-ghost use Rattle.std.specs.Prelude.{◌≡◌, ◌<◌, ℕ, false, List, [], ◌∷◌, ◌++◌, Some, IfOk, OnOk};
+ghost use Rattle.std.specs.Prelude.{◌≡◌, ◌<◌, false, [], ◌∷◌, ◌++◌, Some, IfOk, OnOk};
 ghost use Rattle.x64_insn.specs.Words.{carried as carried_as};
 ghost use Rattle.x64_insn.specs.Size.TheVariants as size;
 ghost use Rattle.x64_insn.specs.Answers.{alu_answer as alu_answered};
@@ -151,20 +151,20 @@ fn by_byte(alloc: Global, kind: Shift, a: Word, count: u128) -> Result<Results, 
     before_value(alloc, set_by_shift(kind), value.size(), answer)
 }
 
-/// A shift or a rotation of a word.
+/// A shift or a rotation of a word. No number is appended to `out`.
 pub(crate) fn of_shift(
-    alloc: Global,
     kind: Shift,
     span: Span,
     a: Word,
     count: Value,
+    out: &Seq<u64>,
 ) -> Result<Results, Failure<Stuck>>
     ensures { let shifted = intrinsics.shift_results (shift_flags kind) kind span a.size a.bits in
-        (ns : List ℕ) → GivesResults result ns ns (shifted (as_value count)) }
+        GivesResults result out.now out.now (shifted (as_value count)) }
 {
     match count {
         Value::Word(count) => {
-            let results = by_byte(alloc, kind, a, u128::from(count.bits()))?;
+            let results = by_byte(out.allocator(), kind, a, u128::from(count.bits()))?;
             Ok(results)
         }
         Value::Bool(_) => Err(Failure::Refused(missing(span))),
@@ -172,7 +172,7 @@ pub(crate) fn of_shift(
             if count < 0 {
                 return Err(Failure::Refused(missing(span)));
             }
-            let results = by_constant(alloc, kind, a, count as u128)?;
+            let results = by_constant(out.allocator(), kind, a, count as u128)?;
             Ok(results)
         }
     }
