@@ -37,9 +37,6 @@ GivesBits result before now e = IfAnswered result (λ r. did now (bits_in r) ≡
 abbrev pub GivesResults : Result (List (Option code.Value)) (Failure Stuck) → List ℕ → List ℕ → Evaluation Results → Type 0
 GivesResults result before now e = IfAnswered result (λ r. did now (results_in r) ≡ numbers_first before e)
 
-abbrev pub GivesSilently : Result (List (Option code.Value)) (Failure Stuck) → Evaluation Results → Type 0
-GivesSilently result e = (ns : List ℕ) → GivesResults result ns ns e
-
 -- an assignment of this value
 abbrev pub value_assigned : Assignment → Expr → State → Evaluation State
 value_assigned a e = assigned a.to.now a.op e a.cond.now a.span
