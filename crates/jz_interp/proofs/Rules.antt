@@ -1,10 +1,7 @@
 -- The rules as the code meets them.
 use Rattle.std.proofs.Common.{◌≡◌, ℕ, zero, suc, ◌+◌, ◌-◌, ◌<◌, ◌≤◌, Bool, true, false, List, [], ◌∷◌, ◌++◌, drop, length, get_or, Option, Some, None, refl, sym, ap, ◌∙◌, subst, arith, append-nil}
-use Rattle.std.specs.Prelude.{ℤ, if◌then◌else◌, not, is_some, Result, Ok, Err, IsErrAnd}
+use Rattle.std.specs.Prelude.{ℤ, if◌then◌else◌, Result, Ok, Err}
 use Rattle.std.proofs.lemmas.List.{drop_all}
-use Rattle.jz_tree.specs.Failure.{Failure}
-use Rattle.jz_tree.specs.Failure.TheVariants.{Refused, OutOfMemory}
-use Rattle.jz_tree.specs.Failures.{IfAnswered}
 use Rattle.jz_tree.specs.Span.{Span}
 use Rattle.jz_meaning.specs.Leak as shown_leak
 use Rattle.jz_meaning.specs.Item.{Item}
@@ -19,10 +16,13 @@ use Rattle.jz_tree.specs.declared.stmt.StmtKind.TheVariants as kind
 use Rattle.jz_tree.specs.declared.program.Fun.{Fun}
 use Rattle.jz_meaning.specs.Trees.{done, op, choose, loop, each, call}
 use Rattle.jz_meaning.specs.Rules.{stuck, went, Outcome, End, Cut, Stuck}
+use Rattle.jz_tree.specs.Memory.{Memory}
+use Rattle.jz_meaning.specs.declared.store.Store as code_store
 use Rattle.jz_meaning.specs.declared.value.Why.TheVariants.{Init}
 use Rattle.jz_meaning.specs.declared.value.Stuck as why
 use Rattle.jz_meaning.specs.Attempts.{Evaluation, numbers_first, and_then, did, changed}
 use Rattle.jz_meaning.specs.States.{integer, Store, empty_store, State}
+use Rattle.jz_meaning.specs.Stores.{store_of}
 use Rattle.jz_meaning.specs.Values.{key_of, ref_of}
 use Rattle.jz_meaning.specs.Assignments.{with_value}
 use Rattle.jz_meaning.specs.Statements.{Block, Operation, instruction, meaningless, unset}
@@ -51,16 +51,6 @@ as_cut f n s t r is h e = subst (λ x. Leads source f n s (seen_outcome (Ok x) t
 
 pub turn_as : (p : Block) (c : Condition) (b : Block) (n : ℕ) (s t : State) (r q : TurnEnd) → IsTurn source p c b n s (turn_seen (Ok r) t) → r ≡ q → IsTurn source p c b n s (turn_seen (Ok q) t)
 turn_as p c b n s t r q h e = subst (λ x. IsTurn source p c b n s (turn_seen (Ok x) t)) e h
-
--- ---- a failure that is passed on: where the call was stuck, the caller is
-
-pub passed_on : {A B E : Type 0} (r : Result B (Failure E)) (e : Failure E) (P : Result A E → Type 0) (Q : Result B E → Type 0) → IsErrAnd r (λ v. v ≡ e) → IfAnswered (Err e) P → ((k : E) → P (Err k) → Q (Err k)) → IfAnswered r Q
-passed_on (Ok x) e P Q h p go = absurd h
-passed_on (Err v) e P Q h p go = subst (λ y. IfAnswered (Err y) Q) (sym h) (refused e p)
-  where
-    refused : (y : Failure E) → IfAnswered (Err y) P → IfAnswered (Err y) Q
-    refused (Refused k) q = go k q
-    refused OutOfMemory q = tt
 
 -- an answer and its numbers, behind those before, as the definition gives them
 abbrev pub NumbersGo : {A : Type 0} → List ℕ → List ℕ → Evaluation A → Result A why.Stuck → Type 0
@@ -313,6 +303,12 @@ module _ (fs : List Fun) (d : ℕ) (o : Option BinOp) (name : List ℕ) (c : Opt
 
 inside : {A B : Type 0} (g : A → B) (x : Evaluation A) (ns : List ℕ) (v : A) → x ≡ went ns v → and_then x (λ y. went [] (g y)) ≡ went ns (g v)
 inside g x ns v e = ap (λ z. and_then z (λ y. went [] (g y))) e ∙ ap (λ ms. went ms (g v)) (append-nil ns)
+
+-- the same stores by other names; the memory of the caller before the call is not asked
+pub same_leave : (c : Call) (d r o i : code_store.Store) (m n : Memory) → d ≡ o → r ≡ i → leaves c (record { store = store_of d; memory = n }) (record { store = store_of r; memory = n }) ≡ leaves c (record { store = store_of o; memory = m }) (record { store = store_of i; memory = n })
+same_leave c d r o i m n e f =
+    ap (λ x. leaves c (record { store = store_of x; memory = n }) (record { store = store_of r; memory = n })) e
+    ∙ ap (λ x. leaves c (record { store = store_of o; memory = m }) (record { store = store_of x; memory = n })) f
 
 module _ (call_here : Call) (fb : Block → Block) (n : ℕ) (s : State) (none ns : List ℕ) (q : none ≡ []) where
   abbrev arguments : Evaluation Store

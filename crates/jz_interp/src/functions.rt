@@ -77,8 +77,7 @@ fn run_body_of(
         Ran::Cut(items) => Ok(Outcome::Cut(Leak { items })),
         Ran::End(_, items) => {
             let words = result_words(&function.result, &state.store)?;
-            let State { store: _, memory } = state;
-            Ok(Outcome::End(words, memory, Leak { items }))
+            Ok(Outcome::End(words, state.memory, Leak { items }))
         }
     }
 }

@@ -348,16 +348,14 @@ fn run_call(
         let piece = named_call_tree callees assignment.entry named.entry in
         RunsPiece result fuel state.old state.new piece }
 {
-    let Assignment { to, op, cond, .. } = assignment;
-    let Named { name, args, span } = named;
-    match callee_of(code, depth, op, name, cond) {
-        None => Err(Failure::Refused(missing(span))),
+    match callee_of(code, depth, assignment.op, named.name, assignment.cond) {
+        None => Err(Failure::Refused(missing(named.span))),
         Some(callee) => {
             let call = Call {
-                to,
+                to: assignment.to,
                 callee,
-                args,
-                span,
+                args: named.args,
+                span: named.span,
             };
             let ran = run_callee(code, depth - 1, call, state, fuel)?;
             Ok(ran)

@@ -70,7 +70,8 @@ fn with_flag<'a>(op: BinOp, left: &'a Expr, flag: &'a Expr, span: Span) -> Resul
 }
 
 fn pair_of_expr(e: &Expr, span: Span) -> Result<Pair<'_>, Stuck>
-    ensures { (s : Size) (st : states.State) → results_or s st result ≡ assignments.two_of (out-Expr e.now)
+    ensures { (s : Size) (st : states.State) → results_or s st result ≡ assignments.two_of
+        (out-Expr e.now)
         span (Some s) st }
 {
     match e {

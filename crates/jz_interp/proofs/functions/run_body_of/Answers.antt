@@ -5,13 +5,14 @@ use Rattle.jz_meaning.specs.Runs.{block, callees_of, with_arguments, result_word
 use Rattle.jz_interp.specs.Outcomes.{values_of}
 use Rattle.jz_interp.specs.Ends.{PieceGoes}
 use Rattle.jz_interp.specs.Answers.{words_seen, outcome_of, BodyShows}
-use Rattle.jz_interp.proofs.Rules.{passed_on, as_end, as_cut}
+use Rattle.jz_meaning.proofs.AttemptLemmas.{handed_on}
+use Rattle.jz_interp.proofs.Rules.{as_end, as_cut}
 use Rattle.jz_interp.proofs.Starts.{body_stuck, body_cut, results_are_stuck, body_ends}
 use Rattle.jz_interp.proofs.functions.run_body_of.Goals as goal
 
 pub returns-in_err-items : goal.returns-in_err-items
 returns-in_err-items c =
-    passed_on c.from_residual-in_err-items.result c.in_err-items.field-0
+    handed_on c.from_residual-in_err-items.result c.in_err-items.field-0.0
     (PieceGoes (block (callees_of c.args.code.now.funs.now c.len.result) c.args.function.now.body) c.args.fuel (let x : State = record { store = store_of c.give_words.new.store; memory = c.args.memory } in x) (state_of c.run_block.new.state))
     (λ r. BodyShows c.args.code.now.funs.now c.args.function.now (values_of c.args.words.now) c.args.memory c.args.fuel (outcome_of r))
     c.from_residual-in_err-items.ensures.1 c.in_err-items.ensures
@@ -26,7 +27,7 @@ returns-in-Cut c =
 
 pub returns-in_err-words-in-End : goal.returns-in_err-words-in-End
 returns-in_err-words-in-End c =
-    passed_on c.from_residual-in_err-words-in-End.result c.in_err-words-in-End.field-0
+    handed_on c.from_residual-in_err-words-in-End.result c.in_err-words-in-End.field-0.0
     (λ r. words_seen r ≡ result_words c.args.function.now.result (store_of c.run_block.new.state.store))
     (λ r. BodyShows c.args.code.now.funs.now c.args.function.now (values_of c.args.words.now) c.args.memory c.args.fuel (outcome_of r))
     c.from_residual-in_err-words-in-End.ensures.1 c.in_err-words-in-End.ensures

@@ -3,6 +3,7 @@ use Rattle.std.specs.Prelude.{◌≡◌, ◌-◌, true, false, not, is_some, Som
 use Rattle.std.specs.Option.{option_copied}
 use Rattle.std.specs.Int.{w128}
 use Rattle.std.proofs.lemmas.Int.{to_z-of_z}
+use Rattle.jz_meaning.specs.Trees.{done, choose, each, call, loop}
 use Rattle.jz_meaning.specs.Attempts.{did, changed, numbers_first}
 use Rattle.jz_meaning.specs.States.{State, put, integer}
 use Rattle.jz_meaning.specs.Stores.{state_of, store_of}
@@ -18,7 +19,8 @@ use Rattle.jz_interp.specs.Ends.{seen_outcome, turn_seen, rounds_seen}
 use Rattle.jz_interp.specs.Ends.{PieceGoes, TurnGoes, TestGoes, RoundsGo}
 use Rattle.jz_interp.proofs.Falls.{weights_at, one_deeper}
 use Rattle.jz_interp.proofs.Pieces.{assign_is, if_is, while_is, for_is}
-use Rattle.jz_interp.proofs.Rules.{passed_on, NumbersGo, arguments_of}
+use Rattle.jz_meaning.proofs.AttemptLemmas.{handed_on}
+use Rattle.jz_interp.proofs.Rules.{NumbersGo, arguments_of}
 use Rattle.jz_interp.proofs.Rules.{as_end, as_cut, turn_as, rounds_as}
 use Rattle.jz_interp.proofs.Rules.{block_stuck, block_cut, block_goes, mark_leads}
 use Rattle.jz_interp.proofs.Rules.{if_fails, arm_stuck, if_goes, truth_is}
@@ -29,7 +31,7 @@ use Rattle.jz_interp.proofs.Rules.{while_stuck, while_cut, while_left, while_mor
 use Rattle.jz_interp.proofs.Rules.{rounds_end, rounds_stuck, rounds_cut, rounds_more}
 use Rattle.jz_interp.proofs.Rules.{for_fails, for_stuck, for_cut, for_ends}
 use Rattle.jz_interp.proofs.Rules.{call_of_none, call_of_some}
-use Rattle.jz_interp.proofs.Rules.{not_entered, callee_stuck, callee_cut, not_left, callee_ended}
+use Rattle.jz_interp.proofs.Rules.{not_entered, callee_stuck, callee_cut, not_left, callee_ended, same_leave}
 use Rattle.jz_interp.proofs.Weights.{weight, weights}
 use Rattle.jz_interp.proofs.running.+run.Goals as goal
 
@@ -41,7 +43,7 @@ run_block-run_statement-requires t c =
 
 pub run_block-returns-in_err-more : goal.run_block-returns-in_err-more
 run_block-returns-in_err-more t c =
-    passed_on c.from_residual.result c.in_err-more.field-0
+    handed_on c.from_residual.result c.in_err-more.field-0.0
     (PieceGoes (statement_tree (callees_in c.args.code.now c.args.depth) c.stmt-item.result) c.loop-stmt.left (state_of c.loop-stmt.state) (state_of c.run_statement.new.state))
     (PieceGoes (block (callees_in c.args.code.now c.args.depth) c.args.stmts.now) c.args.fuel (state_of c.args.state.now) (state_of c.run_statement.new.state))
     c.from_residual.ensures.1 c.in_err-more.ensures
@@ -60,7 +62,7 @@ run_block-loop-stmt-preserved t c =
 pub run_statement-returns-in_err-ran-in-Assign : goal.run_statement-returns-in_err-ran-in-Assign
 run_statement-returns-in_err-ran-in-Assign t c =
     let f = statement_tree (callees_in c.args.code.now c.args.depth) c.args.stmt.now in let u = state_of c.run_assign.new.state in
-    passed_on c.from_residual-in_err-ran-in-Assign.result c.in_err-ran-in-Assign.field-0
+    handed_on c.from_residual-in_err-ran-in-Assign.result c.in_err-ran-in-Assign.field-0.0
     (PieceGoes _ c.args.fuel (state_of c.args.state.now) u) (PieceGoes f c.args.fuel (state_of c.args.state.now) u)
     c.from_residual-in_err-ran-in-Assign.ensures.1 c.in_err-ran-in-Assign.ensures
     (λ k h. subst (λ g. PieceGoes g c.args.fuel (state_of c.args.state.now) u (Err k)) (sym (assign_is (callees_in c.args.code.now c.args.depth) c.args.stmt.now c.in-Assign.to c.in-Assign.op c.in-Assign.rhs c.in-Assign.cond c.in-Assign.is)) h)
@@ -73,7 +75,7 @@ run_statement-returns-in_ok-ran-in-Assign t c =
 pub run_statement-returns-in_err-ran-in-If : goal.run_statement-returns-in_err-ran-in-If
 run_statement-returns-in_err-ran-in-If t c =
     let f = statement_tree (callees_in c.args.code.now c.args.depth) c.args.stmt.now in let u = state_of c.run_if.new.state in
-    passed_on c.from_residual-in_err-ran-in-If.result c.in_err-ran-in-If.field-0
+    handed_on c.from_residual-in_err-ran-in-If.result c.in_err-ran-in-If.field-0.0
     (PieceGoes _ c.args.fuel (state_of c.args.state.now) u) (PieceGoes f c.args.fuel (state_of c.args.state.now) u)
     c.from_residual-in_err-ran-in-If.ensures.1 c.in_err-ran-in-If.ensures
     (λ k h. subst (λ g. PieceGoes g c.args.fuel (state_of c.args.state.now) u (Err k)) (sym (if_is (callees_in c.args.code.now c.args.depth) c.args.stmt.now c.in-If.cond c.in-If.holds c.in-If.other c.in-If.is)) h)
@@ -86,7 +88,7 @@ run_statement-returns-in_ok-ran-in-If t c =
 pub run_statement-returns-in_err-ran-in-While : goal.run_statement-returns-in_err-ran-in-While
 run_statement-returns-in_err-ran-in-While t c =
     let f = statement_tree (callees_in c.args.code.now c.args.depth) c.args.stmt.now in let u = state_of c.run_while.new.state in
-    passed_on c.from_residual-in_err-ran-in-While.result c.in_err-ran-in-While.field-0
+    handed_on c.from_residual-in_err-ran-in-While.result c.in_err-ran-in-While.field-0.0
     (PieceGoes _ c.args.fuel (state_of c.args.state.now) u) (PieceGoes f c.args.fuel (state_of c.args.state.now) u)
     c.from_residual-in_err-ran-in-While.ensures.1 c.in_err-ran-in-While.ensures
     (λ k h. subst (λ g. PieceGoes g c.args.fuel (state_of c.args.state.now) u (Err k)) (sym (while_is (callees_in c.args.code.now c.args.depth) c.args.stmt.now c.in-While.prologue c.in-While.cond c.in-While.body c.in-While.is)) h)
@@ -99,7 +101,7 @@ run_statement-returns-in_ok-ran-in-While t c =
 pub run_statement-returns-in_err-ran-in-For : goal.run_statement-returns-in_err-ran-in-For
 run_statement-returns-in_err-ran-in-For t c =
     let f = statement_tree (callees_in c.args.code.now c.args.depth) c.args.stmt.now in let u = state_of c.run_for.new.state in
-    passed_on c.from_residual-in_err-ran-in-For.result c.in_err-ran-in-For.field-0
+    handed_on c.from_residual-in_err-ran-in-For.result c.in_err-ran-in-For.field-0.0
     (PieceGoes _ c.args.fuel (state_of c.args.state.now) u) (PieceGoes f c.args.fuel (state_of c.args.state.now) u)
     c.from_residual-in_err-ran-in-For.ensures.1 c.in_err-ran-in-For.ensures
     (λ k h. subst (λ g. PieceGoes g c.args.fuel (state_of c.args.state.now) u (Err k)) (sym (for_is (callees_in c.args.code.now c.args.depth) c.args.stmt.now c.in-For.counter c.in-For.from c.in-For.down c.in-For.to c.in-For.body c.in-For.is)) h)
@@ -116,14 +118,16 @@ run_statement-returns-in_ok-unset_all-in-Mark t c =
 
 pub run_if-returns-in_err-answer : goal.run_if-returns-in_err-answer
 run_if-returns-in_err-answer t c =
-    passed_on c.from_residual.result c.in_err-answer.field-0
-    (NumbersGo c.new-numbers.result c.truth_in.new.out (tests (condition_of c.args.test) (state_of c.args.state.now))) _
+    handed_on c.from_residual.result c.in_err-answer.field-0.0
+    (NumbersGo c.new-numbers.result c.truth_in.new.out (tests (condition_of c.args.test) (state_of c.args.state.now)))
+    (PieceGoes (choose (condition_of c.args.test) (inner_block (callees_in c.args.code.now c.args.depth) c.args.holds.now) (inner_block (callees_in c.args.code.now c.args.depth) c.args.other.now)) c.args.fuel (state_of c.args.state.now) (state_of c.args.state.now))
     c.from_residual.ensures.1 c.in_err-answer.ensures (if_fails (callees_in c.args.code.now c.args.depth) (condition_of c.args.test) c.args.holds.now c.args.other.now c.args.fuel (state_of c.args.state.now) c.new-numbers.result c.truth_in.new.out c.new-numbers.ensures)
 
 pub run_if-returns-in_err-ran : goal.run_if-returns-in_err-ran
 run_if-returns-in_err-ran t c =
-    passed_on c.from_residual-in_err-ran.result c.in_err-ran.field-0
-    (PieceGoes (block (callees_in c.args.code.now c.args.depth) c.arm.result.now) c.args.fuel (state_of c.args.state.now) (state_of c.run_block.new.state)) _
+    handed_on c.from_residual-in_err-ran.result c.in_err-ran.field-0.0
+    (PieceGoes (block (callees_in c.args.code.now c.args.depth) c.arm.result.now) c.args.fuel (state_of c.args.state.now) (state_of c.run_block.new.state))
+    (PieceGoes (choose (condition_of c.args.test) (inner_block (callees_in c.args.code.now c.args.depth) c.args.holds.now) (inner_block (callees_in c.args.code.now c.args.depth) c.args.other.now)) c.args.fuel (state_of c.args.state.now) (state_of c.run_block.new.state))
     c.from_residual-in_err-ran.ensures.1 c.in_err-ran.ensures
     (arm_stuck (callees_in c.args.code.now c.args.depth) (condition_of c.args.test) c.args.holds.now c.args.other.now c.args.fuel (state_of c.args.state.now) c.new-numbers.result c.truth_in.new.out c.new-numbers.ensures c.in_ok-answer.answer c.arm.result.now c.in_ok-answer.ensures c.arm.ensures)
 
@@ -134,7 +138,7 @@ run_if-returns t c =
 
 pub run_body-returns-in_err-ran-in-Some : goal.run_body-returns-in_err-ran-in-Some
 run_body-returns-in_err-ran-in-Some t c =
-    passed_on c.from_residual.result c.in_err-ran-in-Some.field-0
+    handed_on c.from_residual.result c.in_err-ran-in-Some.field-0.0
     (PieceGoes (block (callees_in c.args.code.now c.args.depth) c.in-Some.stmts.now) c.args.fuel (state_of c.args.state.now) (state_of c.run_block.new.state))
     (PieceGoes (body_piece (callees_in c.args.code.now c.args.depth) c.args.body.now) c.args.fuel (state_of c.args.state.now) (state_of c.run_block.new.state))
     c.from_residual.ensures.1 c.in_err-ran-in-Some.ensures
@@ -147,8 +151,9 @@ run_body-returns-in_ok-ran-in-Some t c =
 
 pub run_test-returns-in_err-more : goal.run_test-returns-in_err-more
 run_test-returns-in_err-more t c =
-    passed_on c.from_residual.result c.in_err-more.field-0
-    (NumbersGo c.new-numbers.result c.truth_in.new.out (tests (condition_of c.args.test) (state_of c.args.state.now))) _
+    handed_on c.from_residual.result c.in_err-more.field-0.0
+    (NumbersGo c.new-numbers.result c.truth_in.new.out (tests (condition_of c.args.test) (state_of c.args.state.now)))
+    (TestGoes c.args.prologue (condition_of c.args.test) (inner_body (callees_in c.args.code.now c.args.depth) c.args.body.now) c.args.fuel (state_of c.args.state.now) (state_of c.args.state.now))
     c.from_residual.ensures.1 c.in_err-more.ensures (test_stuck (condition_of c.args.test) (body_piece (callees_in c.args.code.now c.args.depth) c.args.body.now) c.args.prologue c.args.fuel (state_of c.args.state.now) c.new-numbers.result c.truth_in.new.out c.new-numbers.ensures)
 
 pub run_test-returns-then-not-more : goal.run_test-returns-then-not-more
@@ -162,8 +167,9 @@ run_test-returns-then-fuel-eq0 t c =
 
 pub run_test-returns-in_err-items : goal.run_test-returns-in_err-items
 run_test-returns-in_err-items t c =
-    passed_on c.from_residual-in_err-items.result c.in_err-items.field-0
-    (PieceGoes (body_piece (callees_in c.args.code.now c.args.depth) c.args.body.now) (c.args.fuel - 1) (state_of c.args.state.now) (state_of c.run_body.new.state)) _
+    handed_on c.from_residual-in_err-items.result c.in_err-items.field-0.0
+    (PieceGoes (body_piece (callees_in c.args.code.now c.args.depth) c.args.body.now) (c.args.fuel - 1) (state_of c.args.state.now) (state_of c.run_body.new.state))
+    (TestGoes c.args.prologue (condition_of c.args.test) (inner_body (callees_in c.args.code.now c.args.depth) c.args.body.now) c.args.fuel (state_of c.args.state.now) (state_of c.run_body.new.state))
     c.from_residual-in_err-items.ensures.1 c.in_err-items.ensures
     (test_body_stuck (condition_of c.args.test) (body_piece (callees_in c.args.code.now c.args.depth) c.args.body.now) c.args.prologue c.args.fuel (state_of c.args.state.now) c.new-numbers.result c.truth_in.new.out c.new-numbers.ensures (truth_is c.truth_in.new.out c.in_ok-more.more true _ (search rules) c.in_ok-more.ensures) (search rules))
 
@@ -179,8 +185,9 @@ run_test-returns-in-End t c =
 
 pub run_turn-returns-in_err-items : goal.run_turn-returns-in_err-items
 run_turn-returns-in_err-items t c =
-    passed_on c.from_residual.result c.in_err-items.field-0
-    (PieceGoes (block (callees_in c.args.code.now c.args.depth) c.args.prologue.now) c.args.fuel (state_of c.args.state.now) (state_of c.run_block.new.state)) _
+    handed_on c.from_residual.result c.in_err-items.field-0.0
+    (PieceGoes (block (callees_in c.args.code.now c.args.depth) c.args.prologue.now) c.args.fuel (state_of c.args.state.now) (state_of c.run_block.new.state))
+    (TurnGoes (inner_block (callees_in c.args.code.now c.args.depth) c.args.prologue.now) (condition_of c.args.test) (inner_body (callees_in c.args.code.now c.args.depth) c.args.body.now) c.args.fuel (state_of c.args.state.now) (state_of c.run_block.new.state))
     c.from_residual.ensures.1 c.in_err-items.ensures (turn_stuck (block (callees_in c.args.code.now c.args.depth) c.args.prologue.now) (condition_of c.args.test) (inner_body (callees_in c.args.code.now c.args.depth) c.args.body.now) c.args.fuel (state_of c.args.state.now))
 
 pub run_turn-returns-in-Cut : goal.run_turn-returns-in-Cut
@@ -190,8 +197,9 @@ run_turn-returns-in-Cut t c =
 
 pub run_turn-returns-in_err-end-in-End : goal.run_turn-returns-in_err-end-in-End
 run_turn-returns-in_err-end-in-End t c =
-    passed_on c.from_residual-in_err-end-in-End.result c.in_err-end-in-End.field-0
-    (TestGoes c.in-End.items (condition_of c.args.test) (inner_body (callees_in c.args.code.now c.args.depth) c.args.body.now) c.in-End.left (state_of c.run_block.new.state) (state_of c.run_test.new.state)) _
+    handed_on c.from_residual-in_err-end-in-End.result c.in_err-end-in-End.field-0.0
+    (TestGoes c.in-End.items (condition_of c.args.test) (inner_body (callees_in c.args.code.now c.args.depth) c.args.body.now) c.in-End.left (state_of c.run_block.new.state) (state_of c.run_test.new.state))
+    (TurnGoes (inner_block (callees_in c.args.code.now c.args.depth) c.args.prologue.now) (condition_of c.args.test) (inner_body (callees_in c.args.code.now c.args.depth) c.args.body.now) c.args.fuel (state_of c.args.state.now) (state_of c.run_test.new.state))
     c.from_residual-in_err-end-in-End.ensures.1 c.in_err-end-in-End.ensures
     (λ k h. turn_tested (block (callees_in c.args.code.now c.args.depth) c.args.prologue.now) (condition_of c.args.test) (inner_body (callees_in c.args.code.now c.args.depth) c.args.body.now) c.args.fuel (state_of c.args.state.now) c.in-End.items c.in-End.left (state_of c.run_block.new.state) _ (as_end _ _ _ _ (state_of c.run_block.new.state) c.in_ok-items.field-0 c.in-End.items c.in_ok-items.ensures c.in-End.is) h)
 
@@ -202,8 +210,9 @@ run_turn-returns-in_ok-end-in-End t c =
 
 pub run_while-returns-in_err-cut_turn : goal.run_while-returns-in_err-cut_turn
 run_while-returns-in_err-cut_turn t c =
-    passed_on c.from_residual.result c.in_err-cut_turn.field-0
-    (TurnGoes (inner_block (callees_in c.args.code.now c.args.depth) c.args.prologue.now) (condition_of c.args.test) (inner_body (callees_in c.args.code.now c.args.depth) c.args.body.now) c.loop-turns.left (state_of c.loop-turns.state) (state_of c.run_turn.new.state)) _
+    handed_on c.from_residual.result c.in_err-cut_turn.field-0.0
+    (TurnGoes (inner_block (callees_in c.args.code.now c.args.depth) c.args.prologue.now) (condition_of c.args.test) (inner_body (callees_in c.args.code.now c.args.depth) c.args.body.now) c.loop-turns.left (state_of c.loop-turns.state) (state_of c.run_turn.new.state))
+    (PieceGoes (while_tree (callees_in c.args.code.now c.args.depth) c.args.prologue.now (condition_of c.args.test) c.args.body.now) c.args.fuel (state_of c.args.state.now) (state_of c.run_turn.new.state))
     c.from_residual.ensures.1 c.in_err-cut_turn.ensures (while_stuck (not (is_some c.args.body.now)) (inner_block (callees_in c.args.code.now c.args.depth) c.args.prologue.now) (condition_of c.args.test) (inner_body (callees_in c.args.code.now c.args.depth) c.args.body.now) c.args.fuel (state_of c.args.state.now) c.loop-turns.turns c.loop-turns.left (state_of c.loop-turns.state) c.loop-turns.invariant)
 
 pub run_while-returns-in-Cut : goal.run_while-returns-in-Cut
@@ -220,8 +229,9 @@ run_while-loop-turns-preserved t c =
 
 pub run_rounds-returns-in_err-items : goal.run_rounds-returns-in_err-items
 run_rounds-returns-in_err-items t c =
-    passed_on c.from_residual-in_err-items.result c.in_err-items.field-0
-    (PieceGoes (block (callees_in c.args.code.now c.args.depth) c.args.body.now) c.loop-value.left (let x : State = record { store = store_of c.set.new.store; memory = c.loop-value.state.memory } in x) (state_of c.run_block.new.state)) _
+    handed_on c.from_residual-in_err-items.result c.in_err-items.field-0.0
+    (PieceGoes (block (callees_in c.args.code.now c.args.depth) c.args.body.now) c.loop-value.left (let x : State = record { store = store_of c.set.new.store; memory = c.loop-value.state.memory } in x) (state_of c.run_block.new.state))
+    (RoundsGo c.args.counter.now (inner_block (callees_in c.args.code.now c.args.depth) c.args.body.now) (values_left c.args.values) c.args.fuel (state_of c.args.state.now) (state_of c.run_block.new.state))
     c.from_residual-in_err-items.ensures.1 c.in_err-items.ensures (rounds_stuck c.args.counter.now (block (callees_in c.args.code.now c.args.depth) c.args.body.now) (values_left c.args.values) c.args.fuel (state_of c.args.state.now) c.loop-value.leaks c.loop-value.left (state_of c.loop-value.state) (values_left c.loop-value.values) c.loop-value.invariant c.in-Some.value (values_left c.take.new.self) c.in-Some.ensures (let x : State = record { store = store_of c.set.new.store; memory = c.loop-value.state.memory } in x) (ap (λ v. let x : State = record { store = v; memory = c.loop-value.state.memory } in x) (c.in_ok-set.ensures ∙ ap (λ z. put (store_of c.loop-value.state.store) (key_of (ref_of c.args.counter.now)) (Some (integer z))) (to_z-of_z w128 c.in-Some.value (search rules)))))
 
 pub run_rounds-returns-in-Cut : goal.run_rounds-returns-in-Cut
@@ -239,14 +249,16 @@ run_rounds-returns t c = rounds_end c.args.counter.now (block (callees_in c.args
 
 pub run_for-returns-in_err-values : goal.run_for-returns-in_err-values
 run_for-returns-in_err-values t c =
-    passed_on c.from_residual.result c.in_err-values.field-0
-    (λ r. evaluated_values c.counter_values.new.out r ≡ numbers_first c.new-numbers.result (counts (counter_of c.args.counter) (state_of c.args.state.now))) _
+    handed_on c.from_residual.result c.in_err-values.field-0.0
+    (λ r. evaluated_values c.counter_values.new.out r ≡ numbers_first c.new-numbers.result (counts (counter_of c.args.counter) (state_of c.args.state.now)))
+    (PieceGoes (each (counter_of c.args.counter) (inner_block (callees_in c.args.code.now c.args.depth) c.args.body.now)) c.args.fuel (state_of c.args.state.now) (state_of c.args.state.now))
     c.from_residual.ensures.1 c.in_err-values.ensures (for_fails (counter_of c.args.counter) (block (callees_in c.args.code.now c.args.depth) c.args.body.now) c.args.fuel (state_of c.args.state.now) c.new-numbers.result c.counter_values.new.out c.new-numbers.ensures)
 
 pub run_for-returns-in_err-leaks : goal.run_for-returns-in_err-leaks
 run_for-returns-in_err-leaks t c =
-    passed_on c.from_residual-in_err-leaks.result c.in_err-leaks.field-0
-    (RoundsGo c.args.counter.counter.now (inner_block (callees_in c.args.code.now c.args.depth) c.args.body.now) (values_left c.in_ok-values.values) c.args.fuel (state_of c.args.state.now) (state_of c.run_rounds.new.state)) _
+    handed_on c.from_residual-in_err-leaks.result c.in_err-leaks.field-0.0
+    (RoundsGo c.args.counter.counter.now (inner_block (callees_in c.args.code.now c.args.depth) c.args.body.now) (values_left c.in_ok-values.values) c.args.fuel (state_of c.args.state.now) (state_of c.run_rounds.new.state))
+    (PieceGoes (each (counter_of c.args.counter) (inner_block (callees_in c.args.code.now c.args.depth) c.args.body.now)) c.args.fuel (state_of c.args.state.now) (state_of c.run_rounds.new.state))
     c.from_residual-in_err-leaks.ensures.1 c.in_err-leaks.ensures (for_stuck (counter_of c.args.counter) (block (callees_in c.args.code.now c.args.depth) c.args.body.now) c.args.fuel (state_of c.args.state.now) c.new-numbers.result c.counter_values.new.out c.new-numbers.ensures (values_left c.in_ok-values.values) c.in_ok-values.ensures)
 
 pub run_for-returns-in-Cut : goal.run_for-returns-in-Cut
@@ -268,8 +280,9 @@ run_call-returns-in-None t c =
 
 pub run_call-returns-in_err-ran-in-Some : goal.run_call-returns-in_err-ran-in-Some
 run_call-returns-in_err-ran-in-Some t c =
-    passed_on c.from_residual.result c.in_err-ran-in-Some.field-0
-    (PieceGoes _ c.args.fuel (state_of c.args.state.now) (state_of c.run_callee.new.state)) _
+    handed_on c.from_residual.result c.in_err-ran-in-Some.field-0.0
+    (PieceGoes (call (record { to = c.args.assignment.to.now; callee = c.in-Some.callee.now; args = c.args.named.args.now; at = c.args.named.span }) (inner_block (callees_in c.args.code.now (c.args.depth - 1)) c.in-Some.callee.now.body)) c.args.fuel (state_of c.args.state.now) (state_of c.run_callee.new.state))
+    (PieceGoes (named_call_tree (callees_in c.args.code.now c.args.depth) c.args.assignment c.args.named) c.args.fuel (state_of c.args.state.now) (state_of c.run_callee.new.state))
     c.from_residual.ensures.1 c.in_err-ran-in-Some.ensures
     (λ k h. call_of_some c.args.code.now.funs.now c.args.depth c.args.assignment.op c.args.named.name.now c.args.assignment.cond.now c.args.assignment.to.now c.args.named.args.now c.args.named.span c.args.fuel (state_of c.args.state.now) c.in-Some.callee.now _ (sym c.callee_of.ensures ∙ ap option_copied c.in-Some.is) h)
 
@@ -279,27 +292,31 @@ run_call-returns-in_ok-ran-in-Some t c =
 
 pub run_callee-returns-in_err-inner : goal.run_callee-returns-in_err-inner
 run_callee-returns-in_err-inner t c =
-    passed_on c.from_residual.result c.in_err-inner.field-0
-    (λ r. entered_store c.enter.new.out r ≡ numbers_first c.new-before.result (arguments_of (call_of c.args.call) (state_of c.args.state.now))) _
+    handed_on c.from_residual.result c.in_err-inner.field-0.0
+    (λ r. entered_store c.enter.new.out r ≡ numbers_first c.new-before.result (arguments_of (call_of c.args.call) (state_of c.args.state.now)))
+    (PieceGoes (call (call_of c.args.call) (inner_block (callees_in c.args.code.now c.args.depth) c.args.call.callee.now.body)) c.args.fuel (state_of c.args.state.now) (state_of c.args.state.now))
     c.from_residual.ensures.1 c.in_err-inner.ensures (not_entered (call_of c.args.call) (block (callees_in c.args.code.now c.args.depth) c.args.call.callee.now.body) c.args.fuel (state_of c.args.state.now) c.new-before.result c.enter.new.out c.new-before.ensures)
 
 pub run_callee-returns-in_err-items : goal.run_callee-returns-in_err-items
 run_callee-returns-in_err-items t c =
-    passed_on c.from_residual-in_err-items.result c.in_err-items.field-0
-    (PieceGoes (block (callees_in c.args.code.now c.args.depth) c.args.call.callee.now.body) c.args.fuel (let x : State = record { store = store_of c.in_ok-inner.inner; memory = c.args.state.now.memory } in x) (state_of c.run_block.new.state)) _
-    c.from_residual-in_err-items.ensures.1 c.in_err-items.ensures (callee_stuck (call_of c.args.call) (block (callees_in c.args.code.now c.args.depth) c.args.call.callee.now.body) c.args.fuel (state_of c.args.state.now) c.new-before.result c.enter.new.out c.new-before.ensures (store_of c.in_ok-inner.inner) c.in_ok-inner.ensures (let x : State = record { store = store_of c.in_ok-inner.inner; memory = c.args.state.now.memory } in x) refl)
+    handed_on c.from_residual-in_err-items.result c.in_err-items.field-0.0
+    (PieceGoes (block (callees_in c.args.code.now c.args.depth) c.args.call.callee.now.body) c.args.fuel (let x : State = record { store = store_of c.replace-outer.new.dest; memory = c.args.state.now.memory } in x) (state_of c.run_block.new.state))
+    (PieceGoes (call (call_of c.args.call) (inner_block (callees_in c.args.code.now c.args.depth) c.args.call.callee.now.body)) c.args.fuel (state_of c.args.state.now) (state_of c.run_block.new.state))
+    c.from_residual-in_err-items.ensures.1 c.in_err-items.ensures (callee_stuck (call_of c.args.call) (block (callees_in c.args.code.now c.args.depth) c.args.call.callee.now.body) c.args.fuel (state_of c.args.state.now) c.new-before.result c.enter.new.out c.new-before.ensures (store_of c.in_ok-inner.inner) c.in_ok-inner.ensures (let x : State = record { store = store_of c.replace-outer.new.dest; memory = c.args.state.now.memory } in x) (ap (λ v. let x : State = record { store = store_of v; memory = c.args.state.now.memory } in x) c.replace-outer.ensures.after))
 
 pub run_callee-returns-in-Cut : goal.run_callee-returns-in-Cut
 run_callee-returns-in-Cut t c =
-    callee_cut (call_of c.args.call) (block (callees_in c.args.code.now c.args.depth) c.args.call.callee.now.body) c.args.fuel (state_of c.args.state.now) c.new-before.result c.enter.new.out c.new-before.ensures (store_of c.in_ok-inner.inner) c.in_ok-inner.ensures (let x : State = record { store = store_of c.in_ok-inner.inner; memory = c.args.state.now.memory } in x) refl c.in-Cut.items _ c.new.result c.new.ensures c.in_ok-call_until_cut-in-Cut.ensures
+    callee_cut (call_of c.args.call) (block (callees_in c.args.code.now c.args.depth) c.args.call.callee.now.body) c.args.fuel (state_of c.args.state.now) c.new-before.result c.enter.new.out c.new-before.ensures (store_of c.in_ok-inner.inner) c.in_ok-inner.ensures (let x : State = record { store = store_of c.replace-outer.new.dest; memory = c.args.state.now.memory } in x) (ap (λ v. let x : State = record { store = store_of v; memory = c.args.state.now.memory } in x) c.replace-outer.ensures.after) c.in-Cut.items _ c.new.result c.new.ensures c.in_ok-call_until_cut-in-Cut.ensures
     (as_cut _ _ _ (state_of c.run_block.new.state) c.in_ok-items.field-0 c.in-Cut.items c.in_ok-items.ensures c.in-Cut.is)
 
 pub run_callee-returns-in_err-leave-in-End : goal.run_callee-returns-in_err-leave-in-End
 run_callee-returns-in_err-leave-in-End t c =
-    passed_on c.from_residual-in_err-leave-in-End.result c.in_err-leave-in-End.field-0
-    (λ r. changed c.leave.new.out (state_of c.leave.new.state) r ≡ numbers_first c.new-after.result (leaves (call_of c.args.call) (state_of c.args.state.now) (state_of c.run_block.new.state))) _
-    c.from_residual-in_err-leave-in-End.ensures.1 c.in_err-leave-in-End.ensures (not_left (call_of c.args.call) (block (callees_in c.args.code.now c.args.depth) c.args.call.callee.now.body) c.args.fuel (state_of c.args.state.now) c.new-before.result c.enter.new.out c.new-before.ensures (store_of c.in_ok-inner.inner) c.in_ok-inner.ensures (let x : State = record { store = store_of c.in_ok-inner.inner; memory = c.args.state.now.memory } in x) refl c.in-End.items c.in-End.left (state_of c.run_block.new.state) (as_end _ _ _ _ (state_of c.run_block.new.state) c.in_ok-items.field-0 c.in-End.items c.in_ok-items.ensures c.in-End.is) c.new-after.result c.new-after.ensures)
+    handed_on c.from_residual-in_err-leave-in-End.result c.in_err-leave-in-End.field-0.0
+    (λ r. changed c.leave.new.out (state_of c.leave.new.state) r ≡ numbers_first c.new-after.result (leaves (call_of c.args.call) (let x : State = record { store = store_of c.replace-inner.new.dest; memory = c.run_block.new.state.memory } in x) (let x : State = record { store = store_of c.replace-inner.result; memory = c.run_block.new.state.memory } in x)))
+    (PieceGoes (call (call_of c.args.call) (inner_block (callees_in c.args.code.now c.args.depth) c.args.call.callee.now.body)) c.args.fuel (state_of c.args.state.now) (state_of c.leave.new.state))
+    c.from_residual-in_err-leave-in-End.ensures.1 c.in_err-leave-in-End.ensures
+    (λ k h. not_left (call_of c.args.call) (block (callees_in c.args.code.now c.args.depth) c.args.call.callee.now.body) c.args.fuel (state_of c.args.state.now) c.new-before.result c.enter.new.out c.new-before.ensures (store_of c.in_ok-inner.inner) c.in_ok-inner.ensures (let x : State = record { store = store_of c.replace-outer.new.dest; memory = c.args.state.now.memory } in x) (ap (λ v. let x : State = record { store = store_of v; memory = c.args.state.now.memory } in x) c.replace-outer.ensures.after) c.in-End.items c.in-End.left (state_of c.run_block.new.state) (as_end _ _ _ _ (state_of c.run_block.new.state) c.in_ok-items.field-0 c.in-End.items c.in_ok-items.ensures c.in-End.is) c.new-after.result c.new-after.ensures k (h ∙ ap (numbers_first c.new-after.result) (same_leave (call_of c.args.call) c.replace-inner.new.dest c.replace-inner.result c.args.state.now.store c.run_block.new.state.store c.args.state.now.memory c.run_block.new.state.memory (c.replace-inner.ensures.after ∙ c.replace-outer.ensures.value) c.replace-inner.ensures.value)))
 
 pub run_callee-returns-in-End : goal.run_callee-returns-in-End
 run_callee-returns-in-End t c =
-    callee_ended (call_of c.args.call) (block (callees_in c.args.code.now c.args.depth) c.args.call.callee.now.body) c.args.fuel (state_of c.args.state.now) c.new-before.result c.enter.new.out c.new-before.ensures (store_of c.in_ok-inner.inner) c.in_ok-inner.ensures (let x : State = record { store = store_of c.in_ok-inner.inner; memory = c.args.state.now.memory } in x) refl c.in-End.items c.in-End.left (state_of c.run_block.new.state) (as_end _ _ _ _ (state_of c.run_block.new.state) c.in_ok-items.field-0 c.in-End.items c.in_ok-items.ensures c.in-End.is) c.new-after.result c.new-after.ensures (state_of c.leave.new.state) c.leave.new.out _ c.in_ok-leave-in-End.ensures c.in_ok-leaked-in-End.ensures
+    callee_ended (call_of c.args.call) (block (callees_in c.args.code.now c.args.depth) c.args.call.callee.now.body) c.args.fuel (state_of c.args.state.now) c.new-before.result c.enter.new.out c.new-before.ensures (store_of c.in_ok-inner.inner) c.in_ok-inner.ensures (let x : State = record { store = store_of c.replace-outer.new.dest; memory = c.args.state.now.memory } in x) (ap (λ v. let x : State = record { store = store_of v; memory = c.args.state.now.memory } in x) c.replace-outer.ensures.after) c.in-End.items c.in-End.left (state_of c.run_block.new.state) (as_end _ _ _ _ (state_of c.run_block.new.state) c.in_ok-items.field-0 c.in-End.items c.in_ok-items.ensures c.in-End.is) c.new-after.result c.new-after.ensures (state_of c.leave.new.state) c.leave.new.out _ (c.in_ok-leave-in-End.ensures ∙ ap (numbers_first c.new-after.result) (same_leave (call_of c.args.call) c.replace-inner.new.dest c.replace-inner.result c.args.state.now.store c.run_block.new.state.store c.args.state.now.memory c.run_block.new.state.memory (c.replace-inner.ensures.after ∙ c.replace-outer.ensures.value) c.replace-inner.ensures.value)) c.in_ok-leaked-in-End.ensures

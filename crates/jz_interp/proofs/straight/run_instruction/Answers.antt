@@ -3,7 +3,8 @@ use Rattle.jz_meaning.specs.Stores.{state_of}
 use Rattle.jz_meaning.specs.Statements.{instruction}
 use Rattle.jz_interp.specs.Parts.{named_instruction_tree}
 use Rattle.jz_interp.specs.Ends.{PieceGoes}
-use Rattle.jz_interp.proofs.Rules.{passed_on, instruction_operates, instruction_conditioned, instruction_plain}
+use Rattle.jz_meaning.proofs.AttemptLemmas.{handed_on}
+use Rattle.jz_interp.proofs.Rules.{instruction_operates, instruction_conditioned, instruction_plain}
 use Rattle.jz_interp.proofs.straight.run_instruction.Goals as goal
 
 pub returns-in-Some : goal.returns-in-Some

@@ -4,14 +4,15 @@ use Rattle.jz_meaning.specs.Attempts.{changed, numbers_first}
 use Rattle.jz_meaning.specs.Stores.{state_of}
 use Rattle.jz_meaning.specs.Statements.{instruction, does}
 use Rattle.jz_interp.specs.Ends.{PieceGoes}
-use Rattle.jz_interp.proofs.Rules.{passed_on, operation_stuck, operation_leads}
+use Rattle.jz_meaning.proofs.AttemptLemmas.{handed_on}
+use Rattle.jz_interp.proofs.Rules.{operation_stuck, operation_leads}
 use Rattle.jz_interp.proofs.straight.run_plain_instruction.Goals as goal
 
 pub returns-in_err-instruct : goal.returns-in_err-instruct
 returns-in_err-instruct c =
     let o = instruction c.args.to.now c.args.named.name.now c.args.named.args.now c.args.named.span in
     let s = state_of c.args.state.now in let t = state_of c.instruct.new.state in
-    passed_on c.from_residual.result c.in_err-instruct.field-0
+    handed_on c.from_residual.result c.in_err-instruct.field-0.0
     (λ r. changed c.instruct.new.out t r ≡ numbers_first c.new-numbers.result (does o s))
     (PieceGoes (op o) c.args.fuel s t) c.from_residual.ensures.1 c.in_err-instruct.ensures
     (operation_stuck o c.args.fuel s c.new-numbers.result c.new-numbers.ensures)

@@ -11,7 +11,7 @@ use Rattle.jz_run_instruct.proofs.instructing.instruct_by.Goals as goal
 
 pub returns-in_err-results : goal.returns-in_err-results
 returns-in_err-results c =
-    handed_on c.from_residual.result c.in_err-results.field-0
+    handed_on c.from_residual.result c.in_err-results.field-0.0
     (λ r. did c.results_of.new.out (results_in r) ≡ numbers_first c.args.out.now (sized_results c.args.instance.name c.args.span c.intrinsic_size-size.result c.as_slice-operands.result.now (state_of c.args.state.now)))
     (λ r. changed c.results_of.new.out (state_of c.args.state.now) r ≡ numbers_first c.args.out.now (instruction_done (Some c.args.instance) c.args.to.now c.args.operands.now c.args.span (state_of c.args.state.now)))
     c.from_residual.ensures.1 c.in_err-results.ensures
@@ -22,7 +22,7 @@ returns-in_err-results c =
 
 pub returns-in_err-write_all : goal.returns-in_err-write_all
 returns-in_err-write_all c =
-    handed_on c.from_residual-in_err-write_all.result c.in_err-write_all.field-0
+    handed_on c.from_residual-in_err-write_all.result c.in_err-write_all.field-0.0
     (λ r. changed c.write_all.new.out (state_of c.write_all.new.state) r ≡ numbers_first c.results_of.new.out (all_written c.args.span c.intrinsic_size-size.result c.args.to.now (meant_results c.as_slice.result.now) (state_of c.args.state.now)))
     (λ r. changed c.write_all.new.out (state_of c.write_all.new.state) r ≡ numbers_first c.args.out.now (instruction_done (Some c.args.instance) c.args.to.now c.args.operands.now c.args.span (state_of c.args.state.now)))
     c.from_residual-in_err-write_all.ensures.1 c.in_err-write_all.ensures
