@@ -1,11 +1,13 @@
 -- Where nothing is wrong, and what fits a place.
-use Rattle.std.proofs.Common.{◌≡◌, Bool, true, false, not, List, [], ◌∷◌, ◌++◌, Option, Some, None, refl, ap₂, subst}
+use Rattle.std.proofs.Common.{◌≡◌, true, false, not, List, [], ◌∷◌, ◌++◌, Option, Some, None, refl, ap₂, subst}
 use Rattle.std.specs.Prelude.{if◌then◌else◌}
 use Rattle.std.proofs.lemmas.Bool.{false≢true}
 use Rattle.jz_tree.specs.Span.{Span}
 use Rattle.jz_tree.specs.Size.{Size}
 use Rattle.jz_tree.specs.Size.TheVariants as sizes
+use Rattle.jz_type_names.specs.Order.{unless}
 use Rattle.jz_type_names.specs.Kinds.{same_size}
+use Rattle.jz_type_names.proofs.Empty.{one_not}
 use Rattle.jz_type_sizes.specs.Wants.{fits_int, fits_truth, fits_word, or_size}
 use Rattle.jz_judgement.specs.Places.{Place, integer, truth, word, stated, unsized, IsTruth, TakesNumber, TakesWord}
 use Rattle.jz_judgement.specs.Agreement.{want_of}
