@@ -85,18 +85,24 @@ reply_due wish told reply p =
     subst (λ (s : Status). Due wish told s reply.text reply.made) (sym ok) due
 
 -- ---- what a run leaves
-pub reply_runs : (run : Run) (reply : Reply) → Performs run.wish run.source (Ok reply) → Writes reply.status reply.text reply.made run.sink run.done → Runs run
-reply_runs run reply p w = record {
+pub reply_runs : (run : Run) (reply : Reply) (text : List ℕ) → text ≡ reply.text → Performs run.wish run.source (Ok reply)
+    → Writes reply.status text reply.made run.sink run.done → Runs run
+reply_runs run reply text same p w = record {
   due = reply.status;
   text = reply.text;
   made = reply.made;
   is_due = reply_due run.wish run.source reply p;
-  wrote = w;
+  wrote = subst (λ (t : List ℕ). Writes reply.status t reply.made run.sink run.done) same w;
 }
 
 pub memory_runs : (run : Run) → WritesNoMemory run.sink run.done → Runs run
 memory_runs run w = record { due = status.Memory; text = codes "out of memory\n"; made = []; is_due = (refl, refl); wrote = w }
 
-pub refusal_runs : (run : Run) (r : Refusal) → Performs run.wish run.source (Err r) → WritesRefusal r run.sink run.done → Runs run
+refusal_runs : (run : Run) (r : Refusal) → Performs run.wish run.source (Err r) → WritesRefusal r run.sink run.done → Runs run
 refusal_runs run r p (inl w) = record { due = status_of r; text = line_of r; made = []; is_due = refusal_due run.wish run.source r p; wrote = w }
 refusal_runs run r p (inr w) = memory_runs run w
+
+pub failure_runs : (run : Run) (e : Failure Refusal) (r : Refusal) → e ≡ failure.Refused r → IfAnswered {A = Reply} (Err e) (Performs run.wish run.source)
+    → WritesRefusal r run.sink run.done → Runs run
+failure_runs run e r is p w =
+    refusal_runs run r (subst (λ (f : Failure Refusal). IfAnswered {A = Reply} (Err f) (Performs run.wish run.source)) is p) w

@@ -1,6 +1,6 @@
 -- What the refusals of stages say of those that they become.
 use Rattle.std.proofs.Common.{◌≡◌, ℕ, List, sym, subst}
-use Rattle.std.specs.Prelude.{All, Result, Ok, Err, IfErr}
+use Rattle.std.specs.Prelude.{All, Result, Ok, Err, IfOk, IfErr}
 use Rattle.jz_first.specs.Failure.{Failure}
 use Rattle.jz_first.specs.Failure.TheVariants as failure
 use Rattle.jz_first.specs.Failures.{IfRefused}
@@ -34,6 +34,10 @@ stage_refuses Says Becomes P (Err (failure.Refused fault)) (failure.Refused r) s
 stage_refuses Says Becomes P (Err failure.OutOfMemory) (failure.Refused r) says becomes from = absurd from
 stage_refuses Says Becomes P (Ok x) (failure.Refused r) says becomes from = absurd from
 stage_refuses Says Becomes P answer failure.OutOfMemory says becomes from = tt
+
+-- what a stage says of its value
+pub ok_says : {A E : Type 0} (P : A → Type 0) (answer : Result A E) (x : A) → answer ≡ Ok x → IfOk answer P → P x
+ok_says {A} {E} P answer x is says = subst (λ (r : Result A E). IfOk r P) is says
 
 -- ---- reading
 pub lexer_refuses : (text : List ℕ) (f : LexFault) (r : Refusal) → HasNoToken text f → r ≡ Lex f → ReadingRefuses text r

@@ -89,8 +89,8 @@ fn push_events(events: &mut Vec<Event>, leak: StepLeak) -> Result<(), AllocError
 /// Up to so many steps, to the end of the code.
 fn run_to_end(alloc: Global, machine: &mut Machine, limit: u64) -> Result<Finish, AllocError>
     requires { (config_of machine.old).ended ≡ false }
-    ensures { IfOk result (Finishes (code_of machine.old) (base_of machine.old) (config_of machine.old)
-        limit (config_of machine.new)) }
+    ensures { IfOk result (Finishes (code_of machine.old) (base_of machine.old)
+        (config_of machine.old) limit (config_of machine.new)) }
 {
     let mut events = Vec::new(alloc);
     for made in 0..limit {

@@ -188,7 +188,8 @@ fn write_each_need(line: &mut Vec<u8>, needs: &Seq<Needed>) -> Result<(), AllocE
 }
 
 fn write_needs(line: &mut Vec<u8>, needs: &Seq<Needed>) -> Result<(), AllocError>
-    ensures { OnOk result (line.new.items ≡ line.old.items ++ texts_or_dash (map need_text needs.now)) }
+    ensures { OnOk result (line.new.items
+        ≡ line.old.items ++ texts_or_dash (map need_text needs.now)) }
 {
     if needs.is_empty() {
         line.extend_from_slice(b" -")
@@ -198,7 +199,8 @@ fn write_needs(line: &mut Vec<u8>, needs: &Seq<Needed>) -> Result<(), AllocError
 }
 
 fn write_each_holder(line: &mut Vec<u8>, holders: &Seq<Holder>) -> Result<(), AllocError>
-    ensures { OnOk result (line.new.items ≡ line.old.items ++ concat (map holder_text holders.now)) }
+    ensures { OnOk result (line.new.items
+        ≡ line.old.items ++ concat (map holder_text holders.now)) }
 {
     for holder in holders.as_slice() {
         write_holder(line, holder)?;

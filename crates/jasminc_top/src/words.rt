@@ -108,7 +108,8 @@ fn run_request<'a>(
     fun: &'a str,
     items: &[String],
 ) -> Result<Option<Request<'a>>, AllocError>
-    ensures { IfOk result (λ r. option_map wanted_of r ≡ run_of file.now fun.now (texts_of items.now)) }
+    ensures { IfOk result (λ r. option_map wanted_of r
+        ≡ run_of file.now fun.now (texts_of items.now)) }
 {
     match numbers(alloc, items)? {
         None => Ok(None),

@@ -13,15 +13,9 @@ use Rattle.jz_first.specs.declared.tree.Ret.{Ret}
 use Rattle.jz_first.specs.declared.tree.Decl.{Decl}
 use Rattle.jz_first.specs.declared.tree.Ty.TheVariants.{Word}
 use Rattle.jz_first.specs.declared.tree.Var.{Var}
-use Rattle.jz_first.specs.declared.tree.Expr.{Expr}
-use Rattle.jz_first.specs.declared.tree.Expr.TheVariants as expr
-use Rattle.jz_first.specs.declared.tree.Lval.{Lval}
-use Rattle.jz_first.specs.declared.tree.Lval.TheVariants as lval
-use Rattle.jz_first.specs.declared.tree.Rhs.{Rhs}
-use Rattle.jz_first.specs.declared.tree.Rhs.TheVariants as rhs
 use Rattle.jz_first.specs.declared.tree.Stmt.{Stmt}
 use Rattle.jz_first.specs.declared.tree.StmtKind.{StmtKind}
-use Rattle.jz_first.specs.declared.tree.StmtKind.TheVariants as kind
+use Rattle.jz_first.specs.Uses.{kind_uses}
 use Rattle.jz_runs.specs.Form.{Form}
 use Rattle.jz_runs.specs.Form.TheVariants as form
 use Rattle.jz_runs.specs.Out.{Out}
@@ -127,22 +121,9 @@ AreSpelled (i ∷ is) code =
 
 -- ---- what a transformer may show of the frame
 
--- the variables that a statement names
-abbrev pub expression_names : Expr → List (List ℕ)
-expression_names (expr.Num i at) = []
-expression_names (expr.Var x) = x.name ∷ []
-
--- the variable of a left side
-abbrev pub left_name : Lval → List ℕ
-left_name (lval.Var x) = x.name
-
--- those of a right side
-abbrev pub right_names : Rhs → List (List ℕ)
-right_names (rhs.Value e) = expression_names e
-
--- those of a statement
+-- the names of the variables that a statement uses
 abbrev pub kind_names : StmtKind → List (List ℕ)
-kind_names (kind.Assign to op r) = map left_name to ++ right_names r
+kind_names k = map (λ v. v.name) (kind_uses k)
 
 -- an offset from the stack pointer at entry lies in the place of a stack variable with one of these
 -- names

@@ -23,7 +23,7 @@ use Rattle.jz_grammar.specs.InnerGave.{numbered_answer}
 use Rattle.jz_first.specs.Deriving.{DerivesProgram, BeginsProgram, IsStoppedAt, IsUnexpected}
 use Rattle.jz_first.specs.Grammar as g
 use Rattle.jz_first.specs.InnerReaders as r
-use Rattle.jz_first.proofs.Program.{program_shape, program_law, kinds, all_kinds, steady_function, steady_program}
+use Rattle.jz_first.proofs.ProgramLaws.{program_shape, program_law, kinds, all_kinds, steady_function, steady_program}
 
 -- ---- what was read, and what is left
 pub read_done : (n : ℕ) (ts now : List Token) (p : Program) → r.program ts ≡ Ok (p, now) → length now ≡ 0 → numbered_answer n (final (r.program ts)) ≡ Ok p

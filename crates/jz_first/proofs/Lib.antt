@@ -1,7 +1,7 @@
 pub mod Counted
 pub mod Lists
 pub mod Same
-pub mod Program
+pub mod ProgramLaws
 pub mod Faults
 pub mod Phrases
 pub mod Declaring

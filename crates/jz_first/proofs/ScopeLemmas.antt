@@ -6,7 +6,7 @@ use Rattle.std.specs.Str.{bytes_eq}
 use Rattle.jz_grammar.proofs.Texts.{bytes_eq-sym, bytes_eq-true}
 use Rattle.jz_first.specs.declared.tree.Var.{Var}
 use Rattle.jz_first.specs.declared.scope.Declared.{Declared}
-use Rattle.jz_first.specs.Declared.{variable_named}
+use Rattle.jz_first.specs.VariableDeclarations.{variable_named}
 use Rattle.jz_first.specs.InnerScopes.{declared_of}
 
 or_own : Option Var → Bool → Var → Option Var

@@ -21,7 +21,7 @@ use Rattle.jz_first.specs.Rules.{Name, name_of, name_of_fun, fault_at, is_known,
 use Rattle.jz_first.specs.TypedPrograms.{HaveDifferentNames, HasDeclaration, HaveDeclarations, HasCounts, HaveCounts}
 use Rattle.jz_first.specs.Uses.{uses_of}
 use Rattle.jz_first.specs.Variables.{variables_of}
-use Rattle.jz_first.specs.Declared.{variable_named, is_declared_above, declaration_of}
+use Rattle.jz_first.specs.VariableDeclarations.{variable_named, is_declared_above, declaration_of}
 use Rattle.jz_first.proofs.FirstLemmas.{contains_head, contains_tail}
 use Rattle.jz_first.proofs.ResolvedLemmas.{uses_resolved}
 

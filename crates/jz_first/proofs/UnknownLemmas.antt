@@ -20,7 +20,7 @@ use Rattle.jz_first.specs.Rules.{fault_at, is_known, unknown_in, repetition_faul
 use Rattle.jz_first.specs.InnerScopes.{IsScope, declared_of, stands_above, has_above, unknown_by}
 use Rattle.jz_first.specs.Uses.{left_side_uses, right_side_uses, kind_uses, body_uses, uses_of}
 use Rattle.jz_first.specs.Variables.{variables_of}
-use Rattle.jz_first.specs.Declared.{variable_named, is_declared_above}
+use Rattle.jz_first.specs.VariableDeclarations.{variable_named, is_declared_above}
 use Rattle.jz_first.proofs.Earliest.{first_of-append, earlier-assoc}
 
 -- the first of several lists is that of all of them

@@ -13,7 +13,7 @@ use Rattle.jz_first.specs.declared.scope.Scope.{Scope}
 use Rattle.jz_first.specs.declared.names.Names.{Names}
 use Rattle.jz_first.specs.Faults.{is_before}
 use Rattle.jz_first.specs.InnerFaults.{first_of}
-use Rattle.jz_first.specs.Declared.{variable_named}
+use Rattle.jz_first.specs.VariableDeclarations.{variable_named}
 use Rattle.jz_first.specs.Rules.{Name, unknown_among, repetition_faults}
 
 -- what a table keeps of a variable

@@ -7,7 +7,7 @@ pub mod Deriving
 pub mod Reading
 pub mod Derived
 pub mod Faults
-pub mod Declared
+pub mod VariableDeclarations
 pub mod Uses
 pub mod Rules
 pub mod Resolving

@@ -14,7 +14,7 @@ use Rattle.jz_first.specs.declared.tree.Stmt.{Stmt}
 use Rattle.jz_first.specs.declared.tree.StmtKind.{StmtKind}
 use Rattle.jz_first.specs.declared.tree.StmtKind.TheVariants.{Assign}
 use Rattle.jz_first.specs.Variables.{variables_of}
-use Rattle.jz_first.specs.Declared.{variable_named, declaration_of}
+use Rattle.jz_first.specs.VariableDeclarations.{variable_named, declaration_of}
 
 module _ (declarations : List ℕ → Option Decl) where
   abbrev pub resolved_var : Var → Var

@@ -11,7 +11,7 @@ use Rattle.jz_first.specs.declared.fault.TypeRule.TheVariants.{Unknown, Duplicat
 use Rattle.jz_first.specs.declared.fault.TypeFault.{TypeFault}
 use Rattle.jz_first.specs.Faults.{IsFirst}
 use Rattle.jz_first.specs.Variables.{variables_of}
-use Rattle.jz_first.specs.Declared.{variable_named, is_declared_above}
+use Rattle.jz_first.specs.VariableDeclarations.{variable_named, is_declared_above}
 use Rattle.jz_first.specs.Uses.{uses_of}
 
 abbrev pub fault_at : TypeRule → Span → TypeFault

@@ -26,7 +26,8 @@ pub fn typed_or_a_fault()
 
 /// Declarations that are there stay.
 pub fn resolved_once()
-    ensures { (program : Program) → resolved_program (resolved_program program) ≡ resolved_program program }
+    ensures { (program : Program)
+        → resolved_program (resolved_program program) ≡ resolved_program program }
 {}
 
 /// Typing does not look at the declarations of the variables that are used.

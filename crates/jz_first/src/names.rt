@@ -84,7 +84,8 @@ pub(crate) fn repeated_function(
     alloc: Global,
     program: &Program,
 ) -> Result<Option<TypeFault>, AllocError>
-    ensures { IfOk result (λ f. f ≡ first_of (repetition_faults (map name_of_fun program.now.funs))) }
+    ensures { IfOk result (λ f.
+        f ≡ first_of (repetition_faults (map name_of_fun program.now.funs))) }
 {
     let mut names = Names::new(alloc);
     for fun in program.funs.as_slice() {

@@ -55,7 +55,8 @@ impl Scope {
 
     /// Adds a variable that stands behind those that are there.
     fn add(&mut self, var: &Var) -> Result<(), AllocError>
-        ensures { (vs : List Var) → IsScope self.old vs → OnOk result (IsScope self.new (vs ++ var.now ∷ [])) }
+        ensures { (vs : List Var) → IsScope self.old vs
+            → OnOk result (IsScope self.new (vs ++ var.now ∷ [])) }
     {
         if !self.variables.contains_key(&var.name) {
             let declared = Declared {
@@ -68,7 +69,8 @@ impl Scope {
     }
 
     fn add_all(&mut self, vars: &Seq<Var>) -> Result<(), AllocError>
-        ensures { (vs : List Var) → IsScope self.old vs → OnOk result (IsScope self.new (vs ++ vars.now)) }
+        ensures { (vs : List Var) → IsScope self.old vs
+            → OnOk result (IsScope self.new (vs ++ vars.now)) }
     {
         for var in vars.as_slice() {
             self.add(var)?;

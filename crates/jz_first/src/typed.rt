@@ -13,7 +13,7 @@ use crate::Program;
 pub struct Typed {
     pub(crate) program: Program,
     pub ghost typed: { IsTyped program },
-    pub ghost declared: { resolved program ≡ program },
+    pub ghost declared: { resolved_program program ≡ program },
 }
 
 impl Typed {

@@ -1,4 +1,5 @@
 //! What the operators give on whole numbers of 128 bits.
+
 ghost use Rattle.std.specs.Prelude.{◌≡◌, ◌<◌, ◌^◌, pos, ◌+ℤ◌, ◌-ℤ◌, ◌*ℤ◌};
 ghost use Rattle.jz_integers.specs.Integers as numbers;
 ghost use Rattle.jz_integers.specs.Integers.{in_range, count_of, with_count};
@@ -46,11 +47,10 @@ fn count(b: i128) -> Option<u32>
     }
 }
 
-// Of the numbers other than 0 only -1 stays within 128 bits times 2 to the 127, which itself does
-// not.
 fn shifted_to_the_sign(a: i128) -> Option<i128>
     ensures { result ≡ numbers.shifted_left a 127 }
 {
+    // 2 to the 127 has no 128 bits, and of the numbers other than 0 only -1 times it does.
     match a {
         0 => Some(0),
         -1 => Some(i128::MIN),

@@ -1,4 +1,5 @@
 //! The values of inline expressions.
+
 ghost use Rattle.std.specs.Prelude.{◌≡◌, IfOk};
 ghost use Rattle.jz_integers.specs.Integers as values;
 ghost use Rattle.jz_integers.specs.InnerLeftSides.{IsSingle, value_after};

@@ -1,4 +1,5 @@
 //! What holds of operations on whole numbers, whatever the code.
+
 ghost use Rattle.std.specs.Prelude.{true, false, ◌+ℤ◌, ◌-ℤ◌, ◌*ℤ◌};
 ghost use Rattle.jz_tree.specs.declared.expr.BinOp.TheVariants as operation;
 ghost use Rattle.jz_integers.specs.Laws.{IsExact, ShiftsLeft, ShiftsRight, Divides, LeavesLess, KeepsTheSign, StandTogether, IsSettledBy};

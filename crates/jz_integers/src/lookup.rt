@@ -1,4 +1,5 @@
 //! Where the numbers of inline variables and constants come from.
+
 ghost use Rattle.std.specs.Prelude.{◌≡◌, None};
 ghost use Rattle.jz_integers.specs.Integers.{KnownNumbers};
 

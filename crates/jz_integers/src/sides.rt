@@ -1,4 +1,5 @@
 //! Expressions by their left side, which may be as long as a text.
+
 ghost use Rattle.std.specs.Prelude.{◌≡◌, IfOk};
 ghost use Rattle.jz_integers.specs.InnerLeftSides.{on_left, IsSingle};
 

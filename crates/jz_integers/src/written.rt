@@ -1,4 +1,5 @@
 //! The numbers that expressions without variables are, found without memory.
+
 ghost use Rattle.std.specs.Prelude.{◌≡◌, ◌<◌, ◌^◌, ◌-◌};
 ghost use Rattle.jz_integers.specs.Integers as values;
 ghost use Rattle.jz_integers.specs.Integers.{plain_value};

@@ -18,7 +18,8 @@ use Rattle.jz_judgement.specs.Places.{word, unsized}
 use Rattle.jz_judgement.specs.HasType.{Term, Says}
 use Rattle.jz_judgement.specs.Lefts as lefts
 use Rattle.jz_judgement.specs.Lefts.{Wants, Leaves, Holds, Takes, IsFlag, IsProduct, value_term, Values}
-use Rattle.jz_judgement.proofs.Nothing.{one_not, none_not, both, joined, passed, passes, no_sizes, neither_size}
+use Rattle.jz_judgement.proofs.Nothing.{none_not, no_sizes, neither_size}
+use Rattle.jz_type_names.proofs.Empty.{one_not, both, joined, passed, passes}
 use Rattle.jz_judgement.proofs.Operations.{if_true, if_false}
 use Rattle.jz_judgement.proofs.LeftSides.{Valued, valued, single_holds, single_right}
 use Rattle.jz_judgement.proofs.Holding.{wants_size, leaves_size, holds_word, word_holds, holds_size, holds_wants, holds_none, none_holds, flag, flag_so}

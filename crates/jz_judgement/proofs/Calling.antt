@@ -43,7 +43,8 @@ use Rattle.jz_judgement.specs.Lefts.{Holds, Leaves, IsSound, IsFlag, Values}
 use Rattle.jz_judgement.specs.WellTyped as well
 use Rattle.jz_judgement.specs.WellTyped.{InPairs, none, next, PassedAs, PassedBy, Passed, IsSkip, GivenAs, Given, Calls, role_place, Operand, Output, Instructs, RightSide, Condition, WellTyped, Returned, WellTypedIn, IsWellTyped}
 use Rattle.jz_judgement.specs.Agreement.{want_of}
-use Rattle.jz_judgement.proofs.Nothing.{none_not, both, joined, passed, passes, neither_size}
+use Rattle.jz_judgement.proofs.Nothing.{none_not, neither_size}
+use Rattle.jz_type_names.proofs.Empty.{both, joined, passed, passes}
 use Rattle.jz_judgement.proofs.Expressions.{judged_of}
 use Rattle.jz_judgement.proofs.Operations.{if_true}
 use Rattle.jz_judgement.proofs.Holding.{holds_word, word_holds, holds_none, none_holds, sound, sound_so, flag, flag_so, holds_some, some_holds}

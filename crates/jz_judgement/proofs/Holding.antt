@@ -20,7 +20,8 @@ use Rattle.jz_judgement.specs.Places.{Place, integer, truth, word, index, unsize
 use Rattle.jz_judgement.specs.HasType.{value, HasType}
 use Rattle.jz_judgement.specs.Lefts as lefts
 use Rattle.jz_judgement.specs.Lefts.{IsBool, Wants, Leaves, Holds, IsSound, IsFlag}
-use Rattle.jz_judgement.proofs.Nothing.{one_not, none_not, both, size_same, same_self}
+use Rattle.jz_judgement.proofs.Nothing.{none_not, size_same, same_self}
+use Rattle.jz_type_names.proofs.Empty.{one_not, both}
 use Rattle.jz_judgement.proofs.Variables.{array_sized, sized_array, word_sized}
 use Rattle.jz_judgement.proofs.Expressions.{judged_of}
 use Rattle.jz_judgement.proofs.LeftKinds as sorts

@@ -20,7 +20,8 @@ use Rattle.jz_judgement.specs.Places.{Place, integer, truth, word, stated, index
 use Rattle.jz_judgement.specs.HasType as judged
 use Rattle.jz_judgement.specs.HasType.{Layer, AccessLayer, Term, value, left, result, Says, LayerSays, OperandSays, is_known, HasType, Types, Accesses, Operates}
 use Rattle.jz_judgement.specs.Agreement.{want_of}
-use Rattle.jz_judgement.proofs.Nothing.{one_not, some_not, none_not, same_some, both, joined, passed, passes, number_goes, number_fits, number_no_truth, word_goes, word_fits, truth_goes, is_truth, size_same, no_bool, no_bool_so}
+use Rattle.jz_judgement.proofs.Nothing.{some_not, none_not, same_some, number_goes, number_fits, number_no_truth, word_goes, word_fits, truth_goes, is_truth, size_same, no_bool, no_bool_so}
+use Rattle.jz_type_names.proofs.Empty.{one_not, both, joined, passed, passes}
 use Rattle.jz_judgement.proofs.Variables.{known_goes, known_fits, cell_goes, array_sized, sized_array, word_sized, sized_word, known_one, cell_one, known_stated, cell_stated, known_whole, known_free, known_any, inline_size, known_bool, bool_size, known_number}
 use Rattle.jz_judgement.proofs.Agreeing.{IsRight, Agrees, IsApart, SaysItself}
 use Rattle.jz_judgement.proofs.Operations.{operation_agrees, operation_apart, operation_says}

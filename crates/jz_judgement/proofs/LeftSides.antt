@@ -26,7 +26,8 @@ use Rattle.jz_judgement.specs.HasType.{Term, value, left, result, Says, OperandS
 use Rattle.jz_judgement.specs.Lefts as lefts
 use Rattle.jz_judgement.specs.Lefts.{IsBool, Wants, Leaves, Holds, Own, Takes, IsSound, IsFlag, value_term}
 use Rattle.jz_judgement.specs.Agreement.{want_of}
-use Rattle.jz_judgement.proofs.Nothing.{one_not, none_not, both, joined, passed, passes, number_goes, number_fits, same_self}
+use Rattle.jz_judgement.proofs.Nothing.{none_not, number_goes, number_fits, same_self}
+use Rattle.jz_type_names.proofs.Empty.{one_not, both, joined, passed, passes}
 use Rattle.jz_judgement.proofs.Variables.{array_sized, sized_array, word_sized, sized_word}
 use Rattle.jz_judgement.proofs.Agreeing.{Agrees, IsApart}
 use Rattle.jz_judgement.proofs.Operations.{operation_agrees, operation_apart, if_true, if_false}

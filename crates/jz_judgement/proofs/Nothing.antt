@@ -5,16 +5,12 @@ use Rattle.std.proofs.lemmas.Bool.{false≢true}
 use Rattle.jz_tree.specs.Span.{Span}
 use Rattle.jz_tree.specs.Size.{Size}
 use Rattle.jz_tree.specs.Size.TheVariants as sizes
-use Rattle.jz_type_names.specs.Order.{unless}
 use Rattle.jz_type_names.specs.Kinds.{same_size}
 use Rattle.jz_type_sizes.specs.Wants.{fits_int, fits_truth, fits_word, or_size}
 use Rattle.jz_judgement.specs.Places.{Place, integer, truth, word, stated, unsized, IsTruth, TakesNumber, TakesWord}
 use Rattle.jz_judgement.specs.Agreement.{want_of}
 
 -- ---- lists and tests
-pub one_not : {A : Type 0} (x : A) (xs : List A) → (x ∷ xs) ≡ [] → ⊥
-one_not x xs e = cc
-
 pub some_not : {A : Type 0} (a : A) → Some a ≡ None → ⊥
 some_not a e = cc
 
@@ -23,21 +19,6 @@ none_not a e = cc
 
 pub same_some : {A : Type 0} (a b : A) → Some a ≡ Some b → a ≡ b
 same_some a b e = cc
-
-pub both : (xs ys : List Span) → xs ++ ys ≡ [] → (xs ≡ []) × (ys ≡ [])
-both [] ys e = (refl, e)
-both (x ∷ xs) ys e = absurd (one_not x (xs ++ ys) e)
-
-pub joined : (xs ys : List Span) → xs ≡ [] → ys ≡ [] → xs ++ ys ≡ []
-joined xs ys p q = ap₂ (λ a b. a ++ b) p q
-
-pub passed : (b : Bool) (at : Span) → unless b at ≡ [] → b ≡ true
-passed true at e = refl
-passed false at e = absurd (one_not at [] e)
-
-pub passes : (b : Bool) (at : Span) → b ≡ true → unless b at ≡ []
-passes true at e = refl
-passes false at e = absurd (false≢true e)
 
 -- ---- sizes
 pub size_same : (y z : Size) → same_size y z ≡ true → y ≡ z

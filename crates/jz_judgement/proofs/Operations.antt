@@ -18,7 +18,8 @@ use Rattle.jz_type_sizes.specs.Typings.{Typing, bin_typing}
 use Rattle.jz_judgement.specs.Places.{Place, integer, truth, word, stated, unsized, TakesNumber, TakesCarry, count_place, IsSum}
 use Rattle.jz_judgement.specs.HasType.{Term, Says, OperandSays, first, second, shifted, is_known, Admits, HasType, Operates, arithmetic, carry, shift, integers, words, logic}
 use Rattle.jz_judgement.specs.Agreement.{want_of}
-use Rattle.jz_judgement.proofs.Nothing.{one_not, none_not, both, joined, neither_size, no_sizes, is_truth, no_bool, no_bool_so, a_bool}
+use Rattle.jz_judgement.proofs.Nothing.{none_not, neither_size, no_sizes, is_truth, no_bool, no_bool_so, a_bool}
+use Rattle.jz_type_names.proofs.Empty.{one_not, both, joined}
 use Rattle.jz_judgement.proofs.Agreeing.{IsRight, Agrees, IsApart, SaysItself}
 
 -- ---- tests

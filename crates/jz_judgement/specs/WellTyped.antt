@@ -138,7 +138,8 @@ Returned r v = is_declared r.decl v ≡ true
 
 abbrev pub WellTypedIn : Named → Fun → Type 0
 WellTypedIn named f =
-    InPairs Returned f.rets f.result × All (λ s. WellTyped named (layer_of s)) (statements_of f.body)
+    InPairs Returned f.rets f.result
+    × All (λ s. WellTyped named (layer_of s)) (statements_of f.body)
 
 -- each variable has its declaration
 abbrev pub IsWellTyped : Program → Type 0

@@ -53,7 +53,7 @@ fn write_out(text: &mut Vec<u8>, out: Out) -> Result<(), AllocError>
     }
 }
 
-// A space before each piece but the first.
+/// A space before each piece but the first.
 fn write_separator(text: &mut Vec<u8>, i: usize) -> Result<(), AllocError>
     ensures { OnOk result (text.new.items ≡ text.old.items ++ separator i) }
 {
@@ -128,7 +128,7 @@ fn write_op(text: &mut Vec<u8>, outs: &Seq<Out>) -> Result<(), AllocError>
     write_outs(text, outs)
 }
 
-// An `if` up to its arms.
+/// An `if` up to its arms.
 fn write_if_head(text: &mut Vec<u8>, test: &Seq<Out>) -> Result<(), AllocError>
     ensures { OnOk result (text.new.items ≡ text.old.items ++ if_head_text test.now) }
 {
@@ -136,7 +136,7 @@ fn write_if_head(text: &mut Vec<u8>, test: &Seq<Out>) -> Result<(), AllocError>
     write_outs(text, test)
 }
 
-// A `while` up to what its answers show.
+/// A `while` up to what its answers show.
 #[cycle(write)]
 fn write_while_head(text: &mut Vec<u8>, prologue: &Tr, test: &Seq<Out>) -> Result<(), AllocError>
     ensures { OnOk result (text.new.items ≡ text.old.items
@@ -177,7 +177,7 @@ fn write_call(
     text.extend_from_slice(b")")
 }
 
-// A list of events and a tree, with a space before each.
+/// A list of events and a tree, with a space before each.
 #[cycle(write)]
 fn write_arm(text: &mut Vec<u8>, outs: &Seq<Out>, tr: &Tr) -> Result<(), AllocError>
     ensures { OnOk result (text.new.items ≡ text.old.items ++ arm_text outs.now (tr_text tr.now)) }
@@ -199,7 +199,7 @@ fn write_tr(text: &mut Vec<u8>, tr: &Tr) -> Result<(), AllocError>
     text.extend_from_slice(b"}")
 }
 
-// The transformer of a function: its three parts.
+/// The transformer of a function: its three parts.
 pub fn write_transformer(text: &mut Vec<u8>, tr: &Transformer) -> Result<(), AllocError>
     ensures { OnOk result (text.new.items ≡ text.old.items ++ transformer_text tr.now) }
 {

@@ -15,8 +15,8 @@ use jz_ir::{Code, Kind, Need, Op};
 use std::alloc::{AllocError, Global};
 use x64_insn::{Flag, Place, Reg};
 
-// The registers that a function need not preserve, but for the stack pointer (System V AMD64 ABI,
-// 3.2.1).
+/// The registers that a function need not preserve, but for the stack pointer (System V AMD64 ABI,
+/// 3.2.1).
 const GIVEN_PLACES: [Place; 9] = [
     Place::Reg(Reg::Rax),
     Place::Reg(Reg::Rcx),
@@ -72,7 +72,7 @@ fn written(alloc: Global, numbers: &Numbers, to: &[Lval]) -> Result<Seq<u32>, Al
     Ok(writes)
 }
 
-// `d op= e` reads d too.
+/// `d op= e` reads d too.
 fn read_assigned(
     alloc: Global,
     numbers: &Numbers,
@@ -92,7 +92,7 @@ fn read_assigned(
     }
 }
 
-// An operation writes each flag, a move none.
+/// An operation writes each flag, a move none.
 fn flags_of(alloc: Global, op: Option<BinOp>) -> Result<Seq<Place>, AllocError>
     ensures { IfOk result (λ flags. flags ≡ flags_of op) }
 {
@@ -126,7 +126,7 @@ fn need_of(numbers: &Numbers, register: Reg, var: &Var) -> Need
     }
 }
 
-// The entry writes the parameter.
+/// The entry writes the parameter.
 fn entry_op(alloc: Global, numbers: &Numbers, register: Reg, var: &Var) -> Result<Op, AllocError>
     ensures { GivesFor numbers.now result (λ vs. entry_op vs register var.now) }
 {
@@ -139,7 +139,7 @@ fn entry_op(alloc: Global, numbers: &Numbers, register: Reg, var: &Var) -> Resul
     })
 }
 
-// The return reads the variable.
+/// The return reads the variable.
 fn return_op(alloc: Global, numbers: &Numbers, register: Reg, var: &Var) -> Result<Op, AllocError>
     ensures { GivesFor numbers.now result (λ vs. return_op vs register var.now) }
 {
@@ -199,7 +199,7 @@ fn all_operations(alloc: Global, numbers: &Numbers, fun: &Fun) -> Result<Seq<Op>
     Ok(ops)
 }
 
-// Each variable is a word.
+/// Each variable is a word.
 fn words(alloc: Global, count: usize) -> Result<Seq<Kind>, AllocError>
     ensures { IfOk result (λ kinds. kinds ≡ replicate count kind.Word) }
 {

@@ -30,7 +30,7 @@ fn alu_of(op: BinOp) -> Alu
 }
 
 impl Registers<'_> {
-    // The register of the variable of that name. RAX stands for a name that no variable has.
+    /// The register of the variable of that name. RAX stands for a name that no variable has.
     fn register(&self, name: &Text) -> Reg
         ensures { IsFor self.now.numbers result (λ vs. register_by self.now vs name.now) }
     {
@@ -64,7 +64,7 @@ impl Registers<'_> {
         }
     }
 
-    // An assignment with another number of left sides than one has none.
+    /// An assignment with another number of left sides than one has none.
     fn instruction(&self, kind: &StmtKind) -> Option<Insn>
         ensures { IsFor self.now.numbers (insns_in result)
             (λ vs. kind_insns (register_by self.now vs) kind.now) }

@@ -21,7 +21,7 @@ use Rattle.jz_meaning.specs.States.{Value, State}
 use Rattle.jz_meaning.specs.Operators.{is_shift}
 use Rattle.jz_meaning.specs.Values.{gives_word, size_of_operation, left_wanted, right_wanted, run_binary, own_size, evaluated, ref_of, access_of, cell_value, load_at, expr_step, ty_step, access_step, decl_step, var_step}
 use Rattle.jz_meaning.proofs.AttemptLemmas.{first_then, gone_then}
-use Rattle.jz_meaning.specs.Evaluating.{IsDetermined, go_on, gone_on, on_left, AllDetermined, IsLeftSide}
+use Rattle.jz_meaning.specs.InnerEvaluating.{IsDetermined, go_on, gone_on, on_left, AllDetermined, IsLeftSide}
 
 -- ---- sizes that are wanted
 

@@ -1,8 +1,8 @@
-pub mod Accesses
+pub mod InnerAccesses
 pub mod Assignments
 pub mod Attempts
 pub mod CutLaws
-pub mod Evaluating
+pub mod InnerEvaluating
 pub mod Intrinsics
 pub mod Operators
 pub mod Runs

@@ -4,7 +4,7 @@ ghost use Rattle.std.specs.Prelude.{◌≡◌, ◌<◌, ℕ, List, Some, option_
 ghost use Rattle.std.specs.Option.{option_or};
 ghost use Rattle.x64_insn.specs.Memory.{all_valid};
 ghost use Rattle.x64_insn.specs.Sizes.{bytes_of, modulus};
-ghost use Rattle.jz_meaning.specs.Accesses as accesses;
+ghost use Rattle.jz_meaning.specs.InnerAccesses as accesses;
 ghost use Rattle.jz_meaning.specs.Attempts.{did, seen, numbers_first, Gives, Evaluates, Changes};
 ghost use Rattle.jz_meaning.specs.Operators as operators;
 ghost use Rattle.jz_meaning.specs.States.{as_value};

@@ -3,7 +3,7 @@
 
 ghost use Rattle.std.specs.Prelude.{◌≡◌, IfOk};
 ghost use Rattle.std.specs.Option.{option_or};
-ghost use Rattle.jz_meaning.specs.Evaluating.{IsDetermined, IsSingle, IsLeftSide};
+ghost use Rattle.jz_meaning.specs.InnerEvaluating.{IsDetermined, IsSingle, IsLeftSide};
 ghost use Rattle.jz_meaning.specs.Operators.{is_shift};
 ghost use Rattle.jz_meaning.specs.Values as values;
 ghost use Rattle.std.specs.Prelude.{if◌then◌else◌};

@@ -26,7 +26,8 @@ fn read_whole(
     tokens: &Tokens,
     depth: u32,
 ) -> Result<Program, Failure<(SyntaxKind, usize)>>
-    ensures { IsNumbered (numbered_answer (length tokens.now) (final (program depth tokens.now))) result }
+    ensures { IsNumbered
+        (numbered_answer (length tokens.now) (final (program depth tokens.now))) result }
 {
     let mut c = Cursor::new(tokens.as_slice());
     match program(alloc, &mut c, depth) {

@@ -173,7 +173,8 @@ fn sized_rest(alloc: Global, c: &mut Cursor, depth: u32) -> Result<(Size, Expr),
 #[cycle(expressions)]
 #[tactic(auto, unfolding(crate::specs::InnerReaders::cast_rest))]
 fn cast_rest(alloc: Global, c: &mut Cursor, depth: u32, span: Span) -> Result<(Span, Expr), Stop>
-    ensures { Gave result c.new (through (λ group. group_expr span group) (cast_rest (unary depth) c.old)) }
+    ensures { Gave result c.new
+        (through (λ group. group_expr span group) (cast_rest (unary depth) c.old)) }
 {
     let (size, signed) = c.cast()?;
     let _close = c.sign(")")?;
@@ -193,7 +194,8 @@ fn cast_rest(alloc: Global, c: &mut Cursor, depth: u32, span: Span) -> Result<(S
 #[cycle(expressions)]
 #[tactic(auto, unfolding(crate::specs::InnerReaders::plain_rest))]
 fn plain_rest(alloc: Global, c: &mut Cursor, depth: u32, span: Span) -> Result<(Span, Expr), Stop>
-    ensures { Gave result c.new (through (λ group. group_expr span group) (plain_rest (unary depth) c.old)) }
+    ensures { Gave result c.new
+        (through (λ group. group_expr span group) (plain_rest (unary depth) c.old)) }
 {
     let (_from, e) = spanned(alloc, c, depth)?;
     let _close = c.sign(")")?;

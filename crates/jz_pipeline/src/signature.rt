@@ -24,7 +24,8 @@ fn line(var: &Var, reg: Reg) -> Result<Arg, AllocError>
 
 /// The lines of the parameters.
 pub(crate) fn arguments(alloc: Global, params: &[Param]) -> Result<Seq<Arg>, AllocError>
-    ensures { IfOk result (λ lines. lines ≡ lines_of argument_registers (map variable_of params.now)) }
+    ensures { IfOk result (λ lines. lines
+        ≡ lines_of argument_registers (map variable_of params.now)) }
 {
     let mut lines = Seq::new(alloc);
     for (i, param) in params.iter().enumerate() {

@@ -1,4 +1,4 @@
--- What is resolved_program stands where it stood.
+-- What is resolved stands where it stood.
 use Rattle.std.proofs.Common.{◌≡◌, ℕ, ℤ, List, [], ◌∷◌, ◌++◌, Option, Some, None, map, refl, sym, ap, ap₂, ◌∙◌, subst}
 use Rattle.std.proofs.lemmas.List.{map-append}
 use Rattle.std.specs.Prelude.{pos}
@@ -25,20 +25,8 @@ use Rattle.jz_type_names.specs.Parts.{span_layer, span_of, nested_statements, ne
 use Rattle.jz_resolve.specs.Resolving.{number_or, expr_step, var_step, resolved_expr, resolved_access, resolved_var, kind_step, resolved_kind, resolved_stmt}
 use Rattle.jz_resolve.specs.Numbering.{values_of, declaration_in, number_in}
 use Rattle.jz_type_names.specs.Scopes.{function_name}
+use Rattle.jz_type_names.proofs.NestedLaws.{in_kind, pair, pairs, opened, in_stmt}
 use Rattle.jz_resolve.specs.Programs.{counted_fun, resolved_whole, resolved_program}
-
-in_kind : StmtKind → List Stmt
-in_kind = para-StmtKind (List Stmt) (List Stmt) nested_step (λ s. roll-Stmt (record { notes = s.notes; span = s.span; kind = s.kind.0 }) ∷ s.kind.1)
-
-pair : Stmt → Stmt × List Stmt
-pair s = (s, statements_in s)
-
-pairs : StmtKind-F StmtKind Stmt → StmtKind-F (StmtKind × List Stmt) (Stmt × List Stmt)
-pairs k = map-StmtKind _ _ _ _ (λ y. (y, in_kind y)) pair k
-
-opened : (x : StmtKind-F StmtKind Stmt) → in_kind (roll-StmtKind x) ≡ nested_step (pairs x)
-unfolding in_kind pairs pair
-opened x = para-roll-StmtKind (List Stmt) (List Stmt) nested_step (λ s. roll-Stmt (record { notes = s.notes; span = s.span; kind = s.kind.0 }) ∷ s.kind.1) x
 
 module _ (d : List ℕ → Option Decl) (n : Name → Option (Option ℤ)) where
   abbrev R : Stmt → Stmt
@@ -60,7 +48,6 @@ module _ (d : List ℕ → Option Decl) (n : Name → Option (Option ℤ)) where
   firsts ss = map (λ e. e.0) ss
 
   rows : (ss : List ((s : Stmt) × StmtLaw s)) → nested_statements (map pair (map R (firsts ss))) ≡ map R (nested_statements (map pair (firsts ss)))
-  unfolding pair
   rows [] = refl
   rows (s ∷ ss) = ap₂ (λ x y. x ++ y) s.1 (rows ss) ∙ sym (map-append R (statements_in s.0) (nested_statements (map pair (firsts ss))))
 
@@ -85,10 +72,6 @@ module _ (d : List ℕ → Option Decl) (n : Name → Option (Option ℤ)) where
 
   stmt_is : (x : Stmt-F StmtKind Stmt) → R (roll-Stmt x) ≡ roll-Stmt (map-Stmt _ _ StmtKind Stmt (resolved_kind d n) R x)
   stmt_is x = fold-roll-Stmt _ _ (kind_step d n) roll-Stmt x
-
-  in_stmt : (x : Stmt-F StmtKind Stmt) → statements_in (roll-Stmt x) ≡ roll-Stmt x ∷ in_kind x.kind
-  unfolding in_kind
-  in_stmt x = para-roll-Stmt (List Stmt) (List Stmt) nested_step (λ s. roll-Stmt (record { notes = s.notes; span = s.span; kind = s.kind.0 }) ∷ s.kind.1) x
 
   stmt_case : (y : Stmt-F ((k : StmtKind) × KindLaw k) ((s : Stmt) × StmtLaw s)) → StmtLaw (roll-Stmt (map-Stmt _ _ StmtKind Stmt (λ e. e.0) (λ e. e.0) y))
   stmt_case y =

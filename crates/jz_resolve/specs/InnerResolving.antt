@@ -7,12 +7,10 @@ use Rattle.jz_tree.specs.declared.expr.Var.{Var}
 use Rattle.jz_tree.specs.declared.stmt.Lval.{Lval}
 use Rattle.jz_tree.specs.declared.stmt.Rhs.{Rhs}
 use Rattle.jz_tree.specs.declared.stmt.StmtKind.{StmtKind}
-use Rattle.jz_tree.specs.declared.stmt.StmtKind.TheViews.{roll-Stmt}
-use Rattle.jz_tree.specs.declared.stmt.StmtKind.TheFolds.{fold-StmtKind}
 use Rattle.jz_type_names.specs.Scopes.{name_of}
 use Rattle.jz_resolve.specs.declared.expressions.Step.{Step}
 use Rattle.jz_resolve.specs.declared.expressions.Side.{Side}
-use Rattle.jz_resolve.specs.Resolving.{KnownNames, resolved_access, resolved_lval, resolved_rhs, kind_step, number_or, var_with}
+use Rattle.jz_resolve.specs.Resolving.{KnownNames, resolved_access, resolved_lval, resolved_rhs, resolved_kind, number_or, var_with}
 
 abbrev pub access_with : KnownNames → Access → Access
 access_with k = resolved_access k.declaration k.number
@@ -24,7 +22,7 @@ abbrev pub rhs_with : KnownNames → Rhs → Rhs
 rhs_with k = resolved_rhs k.declaration k.number
 
 abbrev pub kind_with : KnownNames → StmtKind → StmtKind
-kind_with k = fold-StmtKind _ _ (kind_step k.declaration k.number) roll-Stmt
+kind_with k = resolved_kind k.declaration k.number
 
 -- a name that stands in an expression: a constant's as what stands for it, any other as a variable
 abbrev pub name_with : KnownNames → Var → Expr

@@ -20,7 +20,7 @@ use Rattle.jz_tree.specs.declared.stmt.Stmt.{Stmt}
 use Rattle.jz_tree.specs.declared.stmt.StmtKind.{StmtKind}
 use Rattle.jz_tree.specs.declared.stmt.StmtKind.TheOpen.{StmtKind-F}
 use Rattle.jz_tree.specs.declared.stmt.StmtKind.TheViews.{roll-Stmt, roll-StmtKind}
-use Rattle.jz_tree.specs.declared.stmt.StmtKind.TheFolds.{fold-Stmt}
+use Rattle.jz_tree.specs.declared.stmt.StmtKind.TheFolds.{fold-Stmt, fold-StmtKind}
 use Rattle.jz_type_names.specs.Scopes.{Name, name_of}
 
 -- what stands for a constant: its number; for one that has none a division by zero, which has none
@@ -77,6 +77,9 @@ module _ (declaration : List ℕ → Option Decl) (number : Name → Option (Opt
 
   abbrev pub resolved_stmt : Stmt → Stmt
   resolved_stmt = fold-Stmt _ _ kind_step roll-Stmt
+
+  abbrev pub resolved_kind : StmtKind → StmtKind
+  resolved_kind = fold-StmtKind _ _ kind_step roll-Stmt
 
 -- ---- with all that is known of names as one value
 -- what is declared of each name, and of each that is a constant's where it stands its number, if

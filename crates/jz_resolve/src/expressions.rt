@@ -1,4 +1,5 @@
 //! Expressions whose variables have their declarations, and whose constants are numbers.
+
 ghost use Rattle.std.specs.Prelude.{◌≡◌, IfOk, OnOk};
 ghost use Rattle.jz_resolve.specs.Resolving.{expr_with, var_with, number_at};
 ghost use Rattle.jz_resolve.specs.InnerResolving.{access_with, name_with, whole_of};

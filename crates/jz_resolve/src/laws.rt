@@ -1,4 +1,5 @@
 //! What stays of a program that is resolved.
+
 ghost use Rattle.std.specs.Prelude.{◌≡◌, map};
 ghost use Rattle.jz_type_names.specs.Parts.{span_of, statements_in};
 ghost use Rattle.jz_resolve.specs.Resolving.{KnownNames, expr_with, stmt_with};
@@ -21,5 +22,6 @@ pub fn statement_stays(s: &Stmt)
 /// The functions keep their names and places, and their statements stand where they stood.
 pub fn functions_stay(program: &Program)
     ensures names { function_names (resolved_program program.now) ≡ function_names program.now }
-    ensures statements { all_statement_places (resolved_program program.now) ≡ all_statement_places program.now }
+    ensures statements { all_statement_places (resolved_program program.now)
+        ≡ all_statement_places program.now }
 {}

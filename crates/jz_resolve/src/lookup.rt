@@ -1,4 +1,5 @@
 //! Where declarations and the numbers of constants come from.
+
 ghost use Rattle.std.specs.Prelude.{◌≡◌, IfOk};
 ghost use Rattle.jz_resolve.specs.Resolving.{KnownNames};
 

@@ -1,4 +1,5 @@
 //! Programs whose variables have their declarations, whose lengths and constants are numbers.
+
 ghost use Rattle.std.specs.Prelude.{◌≡◌, IfOk, OnOk, [], map, option_map};
 ghost use Rattle.jz_resolve.specs.Programs.{counted_by, counted_ty, counted_decl, counted_var, counted_param, counted_ret, counted_fun, resolved_program};
 ghost use Rattle.jz_resolve.specs.Resolving.{stmt_with, var_with};
@@ -84,11 +85,7 @@ fn count_vars(
 ) -> Result<Seq<Var>, AllocError>
     ensures { IfOk result (λ r. r ≡ map (counted_var (values_in constants.now)) vars) }
 {
-    let mut done = Seq::new(alloc);
-    for var in vars.into_vec() {
-        done.push(count_var(alloc, constants, var)?)?;
-    }
-    Ok(done)
+    vars.into_try_map(alloc, |var| count_var(alloc, constants, var))
 }
 
 fn count_param(alloc: Global, constants: &ConstantTable, param: Param) -> Result<Param, AllocError>
@@ -106,11 +103,7 @@ fn count_params(
 ) -> Result<Seq<Param>, AllocError>
     ensures { IfOk result (λ r. r ≡ map (counted_param (values_in constants.now)) params) }
 {
-    let mut done = Seq::new(alloc);
-    for param in params.into_vec() {
-        done.push(count_param(alloc, constants, param)?)?;
-    }
-    Ok(done)
+    params.into_try_map(alloc, |param| count_param(alloc, constants, param))
 }
 
 fn count_ret(alloc: Global, constants: &ConstantTable, ret: Ret) -> Result<Ret, AllocError>
@@ -128,11 +121,7 @@ fn count_rets(
 ) -> Result<Seq<Ret>, AllocError>
     ensures { IfOk result (λ r. r ≡ map (counted_ret (values_in constants.now)) rets) }
 {
-    let mut done = Seq::new(alloc);
-    for ret in rets.into_vec() {
-        done.push(count_ret(alloc, constants, ret)?)?;
-    }
-    Ok(done)
+    rets.into_try_map(alloc, |ret| count_ret(alloc, constants, ret))
 }
 
 fn count_fun(alloc: Global, constants: &ConstantTable, fun: Fun) -> Result<Fun, AllocError>
@@ -173,7 +162,8 @@ fn resolve_parts(
     body: &mut Seq<Stmt>,
     returned: &mut Seq<Var>,
 ) -> Result<(), AllocError>
-    ensures body { OnOk result (body.new ≡ map (stmt_with (names_of_fun constants.now head.now)) body.old) }
+    ensures body { OnOk result
+        (body.new ≡ map (stmt_with (names_of_fun constants.now head.now)) body.old) }
     ensures returned { OnOk result
         (returned.new ≡ map (var_with (names_of_fun constants.now head.now)) returned.old) }
 {
@@ -229,11 +219,7 @@ fn resolve_funs(
 ) -> Result<Seq<Fun>, AllocError>
     ensures { IfOk result (λ r. r ≡ map (whole_by constants.now) funs) }
 {
-    let mut done = Seq::new(alloc);
-    for fun in funs.into_vec() {
-        done.push(resolve_whole(alloc, constants, fun)?)?;
-    }
-    Ok(done)
+    funs.into_try_map(alloc, |fun| resolve_whole(alloc, constants, fun))
 }
 
 fn resolve_const(

@@ -1,4 +1,5 @@
 //! The variables of a function by their names.
+
 ghost use Rattle.std.specs.Prelude.{◌≡◌, IfOk, []};
 ghost use Rattle.jz_type_names.specs.Scopes.{variables_of};
 ghost use Rattle.jz_resolve.specs.InnerTables.{declared_by, place_by, is_constant_by, number_by, known_by, IsScope};

@@ -1,5 +1,6 @@
 //! Statements whose variables have their declarations, and whose constants are numbers, changed
 //! where they stand.
+
 ghost use Rattle.std.specs.Prelude.{◌≡◌, OnOk, map, option_map};
 ghost use Rattle.jz_resolve.specs.Resolving.{expr_with, var_with, stmt_with};
 ghost use Rattle.jz_resolve.specs.InnerResolving.{lval_with, rhs_with, kind_with};

@@ -1,4 +1,5 @@
 //! The numbers of constants.
+
 ghost use Rattle.std.specs.Prelude.{◌≡◌, option_map, IfOk, OnOk};
 ghost use Rattle.jz_type_names.specs.Scopes.{constant_place};
 ghost use Rattle.jz_type_names.specs.Names.{stands_above};
@@ -66,7 +67,8 @@ impl ConstantTable {
     }
 
     fn put_value(&mut self, name: &Text, number: i128) -> Result<(), AllocError>
-        ensures values { OnOk result (values_in self.new ≡ with_number (values_in self.old) name.now number) }
+        ensures values { OnOk result
+            (values_in self.new ≡ with_number (values_in self.old) name.now number) }
         ensures places { OnOk result (self.new.places ≡ self.old.places) }
     {
         self.values.add(name, number)?;

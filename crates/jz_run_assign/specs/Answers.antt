@@ -3,11 +3,13 @@ use Rattle.std.specs.Prelude.{◌≡◌, ℕ, List, [], ◌∷◌, map, Option, 
 use Rattle.jz_tree.specs.Failure.{Failure}
 use Rattle.jz_tree.specs.Failures.{IfAnswered}
 use Rattle.jz_words.specs.declared.word.Word.{Word}
+use Rattle.jz_tree.specs.declared.expr.Expr.{Expr}
 use Rattle.jz_meaning.specs.declared.value.Stuck.{Stuck}
 use Rattle.jz_meaning.specs.declared.value.Value as code
 use Rattle.jz_meaning.specs.Attempts.{Evaluation, did, numbers_first}
-use Rattle.jz_meaning.specs.States.{as_value}
-use Rattle.jz_meaning.specs.Assignments.{Results}
+use Rattle.jz_meaning.specs.States.{as_value, State}
+use Rattle.jz_meaning.specs.Assignments.{Results, assigned}
+use Rattle.jz_run_assign.specs.declared.assigning.Assignment.{Assignment}
 
 -- the bits of a word
 abbrev pub bits_in : Result Word Stuck → Result ℕ Stuck
@@ -35,5 +37,6 @@ GivesBits result before now e = IfAnswered result (λ r. did now (bits_in r) ≡
 abbrev pub GivesResults : Result (List (Option code.Value)) (Failure Stuck) → List ℕ → List ℕ → Evaluation Results → Type 0
 GivesResults result before now e = IfAnswered result (λ r. did now (results_in r) ≡ numbers_first before e)
 
-abbrev pub GivesSilently : Result (List (Option code.Value)) (Failure Stuck) → Evaluation Results → Type 0
-GivesSilently result e = (ns : List ℕ) → GivesResults result ns ns e
+-- an assignment of this value
+abbrev pub value_assigned : Assignment → Expr → State → Evaluation State
+value_assigned a e = assigned a.to.now a.op e a.cond.now a.span

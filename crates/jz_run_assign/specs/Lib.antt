@@ -1,6 +1,6 @@
 pub mod Answers
-pub mod Pairs
-pub mod Parts
-pub mod Rights
+pub mod InnerPairs
+pub mod InnerParts
+pub mod InnerRights
 pub mod Passings
-pub mod Calls
+pub mod InnerCalls

@@ -7,7 +7,7 @@ ghost use Rattle.jz_meaning.specs.States as states;
 ghost use Rattle.jz_meaning.specs.Stores.{store_of};
 ghost use Rattle.jz_meaning.specs.Statements as statements;
 ghost use Rattle.jz_meaning.specs.Values.{cell_key, ref_of};
-ghost use Rattle.jz_run_assign.specs.Calls.{array_passed, array_back};
+ghost use Rattle.jz_run_assign.specs.InnerCalls.{array_passed, array_back};
 
 use crate::missing;
 use jz_meaning::{Kind, Store, Stuck, kind_of};

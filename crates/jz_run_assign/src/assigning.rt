@@ -7,9 +7,9 @@ ghost use Rattle.jz_meaning.specs.States.{as_value};
 ghost use Rattle.jz_meaning.specs.Stores.{state_of};
 ghost use Rattle.jz_meaning.specs.Values.{own_size};
 ghost use Rattle.jz_meaning.specs.Assignments as assignments;
-ghost use Rattle.jz_run_assign.specs.Answers.{meant_results, GivesResults};
-ghost use Rattle.jz_run_assign.specs.Rights.{right_side, IsCarry};
-ghost use Rattle.jz_run_assign.specs.Parts.{one_value, results_chosen, results_written, right_assigned, value_assigned};
+ghost use Rattle.jz_run_assign.specs.Answers.{meant_results, GivesResults, value_assigned};
+ghost use Rattle.jz_run_assign.specs.InnerRights.{right_side, IsCarry};
+ghost use Rattle.jz_run_assign.specs.InnerParts.{one_value, results_chosen, results_written, right_assigned};
 
 use crate::left::{left_size, left_sizes, missing, write_all};
 use crate::operands::truth_in;

@@ -6,8 +6,8 @@ ghost use Rattle.jz_tree.specs.Failures.{IfAnswered};
 ghost use Rattle.jz_meaning.specs.Attempts.{Changes, numbers_first};
 ghost use Rattle.jz_meaning.specs.Stores.{state_of, store_of};
 ghost use Rattle.jz_meaning.specs.Statements as statements;
-ghost use Rattle.jz_run_assign.specs.Passings.{entered_store};
-ghost use Rattle.jz_run_assign.specs.Calls.{value_passed, argument_passed, entered_by, value_given, result_given, left_by};
+ghost use Rattle.jz_run_assign.specs.Passings.{entered_store, entered_by, left_by};
+ghost use Rattle.jz_run_assign.specs.InnerCalls.{value_passed, argument_passed, value_given, result_given};
 
 use crate::arrays::{give_array_back, pass_array};
 use crate::{held, missing, set, write};

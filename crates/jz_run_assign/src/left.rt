@@ -7,7 +7,7 @@ ghost use Rattle.jz_meaning.specs.Stores.{state_of, store_of};
 ghost use Rattle.jz_meaning.specs.Values.{ref_of, cell_key};
 ghost use Rattle.jz_meaning.specs.Assignments as assignments;
 ghost use Rattle.jz_meaning.specs.declared.value.Why.TheVariants.{Init};
-ghost use Rattle.jz_run_assign.specs.Parts.{variable_written, cell_written};
+ghost use Rattle.jz_run_assign.specs.InnerParts.{variable_written, cell_written};
 
 use crate::variables::set;
 use jz_meaning::{

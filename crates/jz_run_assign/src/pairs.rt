@@ -8,9 +8,9 @@ ghost use Rattle.jz_meaning.specs.Attempts.{did, numbers_first};
 ghost use Rattle.jz_meaning.specs.States as states;
 ghost use Rattle.jz_meaning.specs.Stores.{state_of};
 ghost use Rattle.jz_meaning.specs.Assignments as assignments;
-ghost use Rattle.jz_run_assign.specs.Answers.{pair_in, GivesBits, GivesResults, GivesSilently};
-ghost use Rattle.jz_run_assign.specs.Rights.{operand_of, right_side, IsCarry};
-ghost use Rattle.jz_run_assign.specs.Pairs.{two_from, three_from, results_of_pair, results_or};
+ghost use Rattle.jz_run_assign.specs.Answers.{pair_in, GivesBits, GivesResults};
+ghost use Rattle.jz_run_assign.specs.InnerRights.{operand_of, right_side, IsCarry};
+ghost use Rattle.jz_run_assign.specs.InnerPairs.{two_from, three_from, results_of_pair, results_or};
 
 use crate::left::missing;
 use crate::operands::{truth_in, word_at, word_in};
@@ -19,7 +19,6 @@ use crate::right::{Operand, Right, carries, is_flag};
 use jz_meaning::{State, Stuck, Value};
 use jz_tree::{BinOp, Expr, Failure, Seq, Span};
 use jz_words::{Size, Word, add_carry, mul_wide, sub_borrow};
-use std::alloc::Global;
 
 /// An operation with two results, `left op right` or `left op right op flag`.
 #[derive(Clone, Copy)]
@@ -70,7 +69,8 @@ fn with_flag<'a>(op: BinOp, left: &'a Expr, flag: &'a Expr, span: Span) -> Resul
 }
 
 fn pair_of_expr(e: &Expr, span: Span) -> Result<Pair<'_>, Stuck>
-    ensures { (s : Size) (st : states.State) → results_or s st result ≡ assignments.two_of (out-Expr e.now)
+    ensures { (s : Size) (st : states.State) → results_or s st result ≡ assignments.two_of
+        (out-Expr e.now)
         span (Some s) st }
 {
     match e {
@@ -178,18 +178,19 @@ fn two_values(op: BinOp, span: Span, a: Word, b: Word, flag: bool) -> Result<(Va
 }
 
 fn two_results(
-    alloc: Global,
     op: BinOp,
     span: Span,
     a: Word,
     b: Word,
     flag: bool,
+    out: &Seq<u64>,
 ) -> Result<Seq<Option<Value>>, Failure<Stuck>>
     requires { a.size ≡ b.size }
-    ensures { GivesSilently result (assignments.two_results op span a.size a.bits b.bits flag) }
+    ensures { GivesResults result out.now out.now
+        (assignments.two_results op span a.size a.bits b.bits flag) }
 {
     let (first, second) = two_values(op, span, a, b, flag)?;
-    let results = Seq::from_slice(alloc, &[Some(first), Some(second)])?;
+    let results = Seq::from_slice(out.allocator(), &[Some(first), Some(second)])?;
     Ok(results)
 }
 
@@ -225,7 +226,7 @@ fn of_three(
 {
     let right = word_in(span, left.size(), right, state, out)?;
     let flag = truth_in(span, flag, state, out)?;
-    let results = two_results(out.allocator(), op, span, left, right, flag)?;
+    let results = two_results(op, span, left, right, flag, out)?;
     Ok(results)
 }
 
@@ -242,7 +243,7 @@ fn of_two(
         (two_from op span left.size left.bits right.now (state_of state.now)) }
 {
     let right = word_in(span, left.size(), right, state, out)?;
-    let results = two_results(out.allocator(), op, span, left, right, false)?;
+    let results = two_results(op, span, left, right, false, out)?;
     Ok(results)
 }
 

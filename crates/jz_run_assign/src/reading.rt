@@ -6,7 +6,7 @@ ghost use Rattle.jz_meaning.specs.States.{as_value};
 ghost use Rattle.jz_meaning.specs.Stores.{state_of};
 ghost use Rattle.jz_meaning.specs.Values as values;
 ghost use Rattle.jz_meaning.specs.Values.{evaluated};
-ghost use Rattle.jz_run_assign.specs.Rights.{read_of, operand_of, right_side};
+ghost use Rattle.jz_run_assign.specs.InnerRights.{read_of, operand_of, right_side};
 
 use crate::right::{Operand, Place, Right, left_wanted, place_size, update_size};
 use jz_meaning::{

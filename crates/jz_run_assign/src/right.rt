@@ -5,7 +5,7 @@ ghost use Rattle.std.specs.Option.{option_copied};
 ghost use Rattle.jz_tree.specs.declared.expr.Expr.TheViews.{out-Expr};
 ghost use Rattle.jz_meaning.specs.Values as values;
 ghost use Rattle.jz_meaning.specs.Assignments as assignments;
-ghost use Rattle.jz_run_assign.specs.Rights.{read_of, right_side, IsCarry};
+ghost use Rattle.jz_run_assign.specs.InnerRights.{read_of, right_side, IsCarry};
 
 use jz_meaning::{Kind, gives_word, is_shift, kind_of, own_size, size_of};
 use jz_tree::{Access, BinOp, Expr, Lval, Seq, Span, Var};

@@ -17,7 +17,7 @@ use Rattle.jz_meaning.specs.Values.{size_of, Ref, key_of, cell_key, variable_val
 use Rattle.jz_meaning.specs.Assignments.{held, written}
 use Rattle.jz_meaning.specs.Statements.{copied, array_of, array_passed, passed, all_passed, array_back, arrays_back, given, all_given}
 use Rattle.jz_run_laws.specs.Kinds.{Kinds, kind_at, FitsSize, IsOfKind, HoldsKinds, IsOfKinds}
-use Rattle.jz_run_laws.specs.Declared.{LeftDeclared, ArrayDeclared, ArraysDeclared, ParamDeclared}
+use Rattle.jz_run_laws.specs.DeclaredKinds.{LeftDeclared, ArrayDeclared, ArraysDeclared, ParamDeclared}
 use Rattle.jz_run_laws.specs.Kept.{IfWent, CallsEnter, CallsLeave}
 use Rattle.jz_run_laws.proofs.Parts.{went_then, went_defined}
 use Rattle.jz_run_laws.proofs.Expressions.{StoreFits, value_fits}

@@ -11,7 +11,7 @@ use Rattle.jz_tree.specs.declared.expr.Expr.TheFolds.{fold-Ty, fold-roll-Var, ma
 use Rattle.jz_meaning.specs.declared.access.Kind.{Kind}
 use Rattle.jz_meaning.specs.Values.{Ref, MemoryAccess, Meaning, expr_step, ty_step, access_step, decl_step, var_step, kind_or, meaning_of, ref_of, access_of, declared_kind}
 use Rattle.jz_run_laws.specs.Kinds.{part_of}
-use Rattle.jz_run_laws.specs.Declared.{IsDeclared, kinds_of}
+use Rattle.jz_run_laws.specs.DeclaredKinds.{IsDeclared, kinds_of}
 use Rattle.jz_run_laws.specs.Kept.{DeclarationsGiveKinds}
 
 abbrev Layer : Type 0

@@ -17,7 +17,7 @@ use Rattle.jz_meaning.specs.Values.{key_of, variable_value, ref_of}
 use Rattle.jz_meaning.specs.Statements.{source}
 use Rattle.jz_meaning.specs.Runs.{FitsKind, with_arguments, only_word, result_word, result_words, outcome_of_words, outcome_of_body, entry_state, body_of}
 use Rattle.jz_run_laws.specs.Kinds.{Kinds, FitsSize, IsOfKind, HoldsKinds, HoldsBytes, IsOfKinds}
-use Rattle.jz_run_laws.specs.Declared.{OperationDeclared, CounterDeclared, ParamDeclared, CallDeclared}
+use Rattle.jz_run_laws.specs.DeclaredKinds.{OperationDeclared, CounterDeclared, ParamDeclared, CallDeclared}
 use Rattle.jz_run_laws.specs.Kept.{IfWent, AtEnd, IsReturned, BodiesKeep, EntriesKeep, FunctionsKeep}
 use Rattle.jz_run_laws.proofs.Parts.{went_then, went_defined}
 use Rattle.jz_run_laws.proofs.Runs.{Keeps, kept}

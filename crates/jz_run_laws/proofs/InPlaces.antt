@@ -39,7 +39,7 @@ use Rattle.jz_meaning.specs.Operators.{is_shift, is_settled, combined, shifted, 
 use Rattle.jz_meaning.specs.Operators as operators
 use Rattle.jz_meaning.specs.Values.{Ref, key_of, cell_key, in_cells, index_at, cell_value, MemoryAccess, is_aligned, accessed, load_word, address_at, load_at, gives_word, size_of_operation, left_wanted, right_wanted, with_right, run_binary, expr_step, ty_step, access_step, decl_step, var_step, ref_of, access_of, own_size, evaluated}
 use Rattle.jz_run_laws.specs.Kinds.{Kinds, kind_at, IsOfKind, IsOfKinds, HoldsKinds}
-use Rattle.jz_run_laws.specs.Declared.{IsDeclared}
+use Rattle.jz_run_laws.specs.DeclaredKinds.{IsDeclared}
 use Rattle.jz_run_laws.specs.Kept.{IfWent}
 use Rattle.jz_run_laws.proofs.Parts.{AnyOf, IfThere, went_then, went_any, went_defined, there_if}
 use Rattle.jz_run_laws.proofs.Stores.{cells_are_words}

@@ -27,7 +27,7 @@ use Rattle.jz_meaning.specs.Values.{evaluated}
 use Rattle.jz_meaning.specs.Assignments.{Results, word_in, bool_in, all_written}
 use Rattle.jz_meaning.specs.Intrinsics.{all_flags, first_two, all_but_carry, before_value, of_one, of_two, of_carry, shift_results, of_count, divided_by, division_results, of_division, of_condition, alu_results, one_results, low_product_results, product_results, no_results, intrinsic_results, intrinsic_size, sized_results, instruction_done}
 use Rattle.jz_run_laws.specs.Kinds.{Kinds, IsOfKinds}
-use Rattle.jz_run_laws.specs.Declared.{LeftDeclared}
+use Rattle.jz_run_laws.specs.DeclaredKinds.{LeftDeclared}
 use Rattle.jz_run_laws.specs.Kept.{IfWent}
 use Rattle.jz_run_laws.proofs.Parts.{AnyOf, IfThere, went_then, went_any}
 use Rattle.jz_run_laws.proofs.Bounds.{IsBelow, swapped_below, bit_below}

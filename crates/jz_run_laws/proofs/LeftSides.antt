@@ -16,7 +16,7 @@ use Rattle.jz_meaning.specs.Operators.{word_at}
 use Rattle.jz_meaning.specs.Values.{size_of, Ref, key_of, cell_key, in_cells, index_at, ref_of, access_of, evaluated, store_at}
 use Rattle.jz_meaning.specs.Assignments.{word_value, held, held_or_unset, with_value, in_cell, written, Results, all_written}
 use Rattle.jz_run_laws.specs.Kinds.{Kinds, kind_at, FitsSize, IsOfKind, HoldsBytes, IsOfKinds}
-use Rattle.jz_run_laws.specs.Declared.{LeftDeclared}
+use Rattle.jz_run_laws.specs.DeclaredKinds.{LeftDeclared}
 use Rattle.jz_run_laws.specs.Kept.{IfWent}
 use Rattle.jz_run_laws.proofs.Parts.{AnyOf, went_then, went_any}
 use Rattle.jz_run_laws.proofs.Bounds.{IsBelow}

@@ -19,7 +19,7 @@ use Rattle.jz_meaning.specs.States.{Value, word, boolean, State}
 use Rattle.jz_meaning.specs.Values.{own_size, evaluated}
 use Rattle.jz_meaning.specs.Assignments.{Results, left_size, left_sizes, as_expr, Layer, is_flag, carries, last_left, whole_of, two_results, word_in, bool_in, with_two, with_three, two_of, results_of, old_value, chosen, conditioned, all_written, assigned_whole, assigned}
 use Rattle.jz_run_laws.specs.Kinds.{Kinds, FitsSize, IsOfKinds}
-use Rattle.jz_run_laws.specs.Declared.{LeftDeclared}
+use Rattle.jz_run_laws.specs.DeclaredKinds.{LeftDeclared}
 use Rattle.jz_run_laws.specs.Kept.{IfWent}
 use Rattle.jz_run_laws.proofs.Parts.{AnyOf, went_then, went_any}
 use Rattle.jz_run_laws.proofs.Bounds.{IsBelow, cut_below, high_below}

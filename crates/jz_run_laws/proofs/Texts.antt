@@ -19,7 +19,7 @@ use Rattle.jz_type_names.specs.Parts.{layer_of, nested_statements, nested_step, 
 use Rattle.jz_meaning.specs.Statements.{Block}
 use Rattle.jz_meaning.specs.Runs.{Callee, Callees, in_order, call_tree, instruction_tree, assign_tree, kind_tree, statement_tree, block, with_tree, callees_of}
 use Rattle.jz_run_laws.specs.Kinds.{Kinds}
-use Rattle.jz_run_laws.specs.Declared.{LeftDeclared, ParamDeclared, BodyDeclared}
+use Rattle.jz_run_laws.specs.DeclaredKinds.{LeftDeclared, ParamDeclared, BodyDeclared}
 use Rattle.jz_run_laws.specs.Texts.{ArgumentsDeclared, RightDeclared, StatementDeclared, FunctionDeclared, TextsDeclare}
 use Rattle.jz_run_laws.proofs.Parts.{IfThere, there_is}
 

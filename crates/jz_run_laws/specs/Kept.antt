@@ -18,7 +18,7 @@ use Rattle.jz_meaning.specs.Statements.{Operation, Counter, Call, Block, does, q
 use Rattle.jz_meaning.specs.Runs.{Returned, FunOutcome, IsInput, entry_state, body_of, IsRun}
 use Rattle.jz_meaning.specs.Shapes.{HoldsSorts}
 use Rattle.jz_run_laws.specs.Kinds.{Kinds, FitsSize, HoldsKinds, HoldsBytes, IsOfKinds, sorts_of}
-use Rattle.jz_run_laws.specs.Declared.{kinds_of, IsDeclared, OperationDeclared, CounterDeclared, ParamDeclared, CallDeclared, BodyDeclared}
+use Rattle.jz_run_laws.specs.DeclaredKinds.{kinds_of, IsDeclared, OperationDeclared, CounterDeclared, ParamDeclared, CallDeclared, BodyDeclared}
 
 -- what is said of what a part gives, unless it is stuck
 abbrev pub IfWent : {W A : Type 0} → (A → Type 0) → Attempt W A → Type 0

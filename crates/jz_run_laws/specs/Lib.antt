@@ -1,7 +1,7 @@
 pub mod Depths
 pub mod Kinds
 pub mod Nodes
-pub mod Declared
+pub mod DeclaredKinds
 pub mod Kept
 pub mod Texts
 pub mod Counted

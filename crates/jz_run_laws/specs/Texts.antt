@@ -12,7 +12,7 @@ use Rattle.jz_meaning.specs.declared.access.Kind.TheVariants as kind
 use Rattle.jz_meaning.specs.Values.{key_of, ref_of}
 use Rattle.jz_meaning.specs.Runs.{body_of}
 use Rattle.jz_run_laws.specs.Kinds.{Kinds, kind_at}
-use Rattle.jz_run_laws.specs.Declared.{LeftDeclared, ArraysDeclared, ParamDeclared, BodyDeclared}
+use Rattle.jz_run_laws.specs.DeclaredKinds.{LeftDeclared, ArraysDeclared, ParamDeclared, BodyDeclared}
 
 -- the arguments of a call, where there is a function of that name
 abbrev pub ArgumentsDeclared : Kinds → Option Fun → List Expr → Type 0

@@ -8,7 +8,7 @@ use Rattle.jz_judgement.specs.HasType.{HasType, value}
 use Rattle.jz_meaning.specs.States.{Value, word, boolean, integer, State}
 use Rattle.jz_meaning.specs.Values.{evaluated, ref_of}
 use Rattle.jz_run_laws.specs.Kinds.{Kinds, IsOfKinds}
-use Rattle.jz_run_laws.specs.Declared.{IsDeclared}
+use Rattle.jz_run_laws.specs.DeclaredKinds.{IsDeclared}
 use Rattle.jz_run_laws.specs.Kept.{IfWent}
 use Rattle.jz_run_laws.specs.Counted.{Counted, Each}
 

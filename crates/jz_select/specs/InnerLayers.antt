@@ -1,7 +1,6 @@
 -- The same definitions by the outermost layer of an expression, as the code goes over it.
 use Rattle.std.specs.Prelude.{Bool, false, Option, Some, None, if◌then◌else◌, ◌&&◌, ◌||◌, ℕ, ℤ}
 use Rattle.jz_tree.specs.declared.expr.Expr.TheOpen.{Expr-F}
-use Rattle.jz_select.specs.declared.comparing.Index.{Index}
 use Rattle.jz_select.specs.Trees.{Named, named_variable, names_eq, Tree, index_of}
 use Rattle.jz_select.specs.Places.{Layer, Answers, same_index, touches}
 use Rattle.jz_tree.specs.declared.expr.Expr.TheViews.{out-Access}
@@ -12,10 +11,6 @@ use Rattle.jz_select.specs.Operands.{class_of, var_class}
 use Rattle.jz_select.specs.Rows.{is_flag}
 use Rattle.jz_select.specs.Shapes.{compares, has_flags}
 use Rattle.std.specs.Ordering.{int_eq}
-
-abbrev pub index_if : Option Index → Option Tree
-index_if None = None
-index_if (Some i) = Some (index_of i.at.now)
 
 -- whether a variable, or its cell with that index, stands in the expression
 abbrev pub touches_layer : Answers → Named → Option Tree → Layer → Bool

@@ -9,3 +9,4 @@ pub mod Hardest
 pub mod Selected
 pub mod Immediates
 pub mod InnerLayers
+pub mod InnerIndexes

@@ -11,7 +11,7 @@ ghost use Rattle.jz_select.specs.InnerLayers.{touches_layer};
 ghost use Rattle.jz_select.specs.Places.{one_or_apart as one_or_apart_is, var_layer_meets};
 ghost use Rattle.jz_select.specs.Places.{cell_layer_meets, store_layer_meets, meeting_of};
 ghost use Rattle.jz_select.specs.Hardest.{guess, cell_index as cell_index_of};
-ghost use Rattle.jz_select.specs.InnerLayers.{index_if};
+ghost use Rattle.jz_select.specs.InnerIndexes.{index_if};
 ghost use Rattle.jz_select.specs.Hardest.{first_index as first_index_of, in_memory as in_memory_is};
 ghost use Rattle.jz_select.specs.Hardest.{hardest};
 

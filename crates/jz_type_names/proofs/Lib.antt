@@ -3,8 +3,9 @@ pub mod Standing
 pub mod Firsts
 mod Stacks
 mod CellLaws
-mod NestedLaws
+pub mod NestedLaws
 pub mod Lists
+pub mod Empty
 pub mod TableLaws
 pub mod UnknownLaws
 pub mod RepeatedLaws

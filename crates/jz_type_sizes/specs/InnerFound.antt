@@ -78,7 +78,8 @@ found_step (Expr-F.Cell v i) =
 found_step (Expr-F.Load a) = a
 found_step (Expr-F.Neg a at) = record { form = neg_form a.form; first = neg_first a at }
 found_step (Expr-F.Not a at) = a
-found_step (Expr-F.Cast z s a at) = record { form = form_of_size (Some z); first = cast_first z a at }
+found_step (Expr-F.Cast z s a at) =
+    record { form = form_of_size (Some z); first = cast_first z a at }
 found_step (Expr-F.Bin o a b at) =
     record { form = bin_form (group_of o) a.form b.form; first = bin_first o a b at }
 

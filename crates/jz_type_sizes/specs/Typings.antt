@@ -79,7 +79,8 @@ typing_step (Expr-F.Cell v i) = cell_typing v.0 v.1 i
 typing_step (Expr-F.Load a) = a
 typing_step (Expr-F.Neg a at) = record { form = neg_form a.form; wrong = neg_wrong a at }
 typing_step (Expr-F.Not a at) = a
-typing_step (Expr-F.Cast z s a at) = record { form = form_of_size (Some z); wrong = cast_wrong z a at }
+typing_step (Expr-F.Cast z s a at) =
+    record { form = form_of_size (Some z); wrong = cast_wrong z a at }
 typing_step (Expr-F.Bin o a b at) = bin_typing o a b at
 
 abbrev pub typing : Expr → Typing

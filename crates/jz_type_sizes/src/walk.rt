@@ -27,7 +27,8 @@ fn compared(group: Group, a: &Expr, b: &Expr) -> Option<Size>
 /// Asks the left operand only where nothing is known of it, so that a long left side is not asked
 /// again at each operator.
 fn left_inline(whole: bool, a: &Expr, b: &Expr) -> bool
-    ensures { result ≡ left_inline_of whole (found_of a.now).form.inline (found_of b.now).form.inline }
+    ensures { result
+        ≡ left_inline_of whole (found_of a.now).form.inline (found_of b.now).form.inline }
 {
     if whole {
         return true;

@@ -2,7 +2,6 @@ pub mod Telling
 pub mod Joins
 pub mod Storing
 pub mod Judging
-pub mod Empty
 pub mod NamesKept
 pub mod StatementsKept
 pub mod ProgramsKept

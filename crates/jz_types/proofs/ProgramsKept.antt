@@ -29,7 +29,7 @@ use Rattle.jz_resolve.specs.Resolving.{resolved_stmt}
 use Rattle.jz_resolve.specs.Numbering.{Values, values_of, declaration_in, number_in}
 use Rattle.jz_resolve.specs.Programs.{counted_layer, counted_decl, counted_var, counted_param, counted_fun, resolved_whole, resolved_const, resolved_program}
 use Rattle.jz_resolve.proofs.Spans.{body_resolved}
-use Rattle.jz_types.proofs.Empty.{both, all_empty}
+use Rattle.jz_type_names.proofs.Empty.{both, all_empty}
 use Rattle.jz_types.proofs.StatementsKept.{layer_resolved, repeated_kept, unknown_kept}
 
 -- ---- the first of a name, in a list whose items keep their names

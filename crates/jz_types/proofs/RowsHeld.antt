@@ -34,7 +34,7 @@ use Rattle.jz_types.specs.Rows.{others, unmatched_at, unmatched_in_fun, unmatche
 use Rattle.jz_types.specs.Rules.{IsTyped}
 use Rattle.jz_types.specs.declared.fault.TypeRule.TheVariants.{Unknown, Duplicate, Mismatch, NoInstruction, ArrayCopy, RegIndex}
 use Rattle.jz_types.specs.Guarantees.{Enters, Leaves, HasCopies, HasRows}
-use Rattle.jz_types.proofs.Empty.{both, joined, passed, all_empty, no_member}
+use Rattle.jz_type_names.proofs.Empty.{both, joined, passed, all_empty, no_member}
 use Rattle.jz_types.proofs.ProgramsKept.{KnownIn, DifferentIn, all_known, all_different}
 
 -- ---- what the tests say

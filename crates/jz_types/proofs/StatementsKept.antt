@@ -32,7 +32,7 @@ use Rattle.jz_type_names.specs.Names.{name_layer, array_passed, arrays_beside, a
 use Rattle.jz_type_names.specs.Order.{unless}
 use Rattle.jz_resolve.specs.Resolving.{number_or, expr_step, var_step, resolved_expr, resolved_var, resolved_lval, resolved_rhs, kind_step, resolved_kind, resolved_stmt}
 use Rattle.jz_types.proofs.NamesKept.{All-both, var_kept, access_at, resolved_layer, keeps}
-use Rattle.jz_types.proofs.Empty.{both, joined, all_empty, empty_all}
+use Rattle.jz_type_names.proofs.Empty.{both, joined, all_empty, empty_all}
 
 module _ (d : List ℕ → Option Decl) (n : Name → Option (Option ℤ)) where
   abbrev RE : Expr → Expr

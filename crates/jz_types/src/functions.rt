@@ -67,8 +67,10 @@ pub(crate) fn text_of_functions(
     ensures mismatched { let value = value_with (values_in lengths.now.table) in
         let wrong = fun_lengths (place_in constants.now) value in
         IfOk result (λ t. t.mismatched ≡ first_in wrong program.now.funs) }
-    ensures annotated { IfOk result (λ t. t.annotated ≡ first_in annotated_places program.now.funs) }
-    ensures misshapen { IfOk result (λ t. t.misshapen ≡ first_in misshapen_places program.now.funs) }
+    ensures annotated { IfOk result
+        (λ t. t.annotated ≡ first_in annotated_places program.now.funs) }
+    ensures misshapen { IfOk result
+        (λ t. t.misshapen ≡ first_in misshapen_places program.now.funs) }
 {
     let mut first = OfText {
         unknown: None,

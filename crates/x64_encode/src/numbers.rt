@@ -4,7 +4,7 @@ ghost use Rattle.std.specs.Prelude.{◌≡◌, ◌<◌};
 ghost use Rattle.x64_insn.specs.Table.{immediate_by};
 ghost use Rattle.x64_insn.specs.Chosen.{alu_number, condition_number, fits_bytes, one_number, one_opcode, opcode_for, shift_number, wide_number};
 
-use x64_insn::{Alu, Cond, One, Shift, Size, Wide};
+use x64_insn::{Alu, Cond, One, Shift, Size, Wide, fits_four_bytes};
 
 /// Whether one byte holds a signed number.
 pub(super) fn fits_byte(value: i64) -> bool
@@ -20,13 +20,6 @@ fn fits_two_bytes(value: i64) -> bool
     (-0x8000..0x8000).contains(&value)
 }
 
-/// Whether four bytes hold a signed number.
-pub(super) fn fits_four_bytes(value: i64) -> bool
-    ensures { result ≡ fits_bytes 4 value }
-{
-    (-0x8000_0000..0x8000_0000).contains(&value)
-}
-
 /// Whether an immediate of the operands' size holds a signed number.
 pub(super) fn fits_immediate(size: Size, value: i64) -> bool
     ensures { result ≡ fits_bytes (immediate_by size) value }
@@ -34,7 +27,7 @@ pub(super) fn fits_immediate(size: Size, value: i64) -> bool
     match size {
         Size::S8 => fits_byte(value),
         Size::S16 => fits_two_bytes(value),
-        Size::S32 | Size::S64 => fits_four_bytes(value),
+        Size::S32 | Size::S64 => fits_four_bytes(i128::from(value)),
     }
 }
 

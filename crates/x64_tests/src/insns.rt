@@ -65,6 +65,10 @@ fn three(first: Part, second: Part, third: Part) -> [Part; 4] {
     [first, second, third, Part::Absent]
 }
 
+fn four(first: Part, second: Part, third: Part, fourth: Part) -> [Part; 4] {
+    [first, second, third, fourth]
+}
+
 /// The name of an instruction.
 fn name(insn: &Insn) -> &'static str {
     match insn {
@@ -96,39 +100,41 @@ fn parts(insn: &Insn) -> [Part; 4] {
             three(size_word(size), Part::Operand(to), Part::Operand(from))
         }
         Insn::Extend {
-            signed: _,
             to,
             from,
             reg,
             rm,
-        } => [
+            ..
+        } => four(
             size_word(to),
             size_word(from),
             reg_word(reg),
             Part::Operand(rm),
-        ],
+        ),
         Insn::Lea(reg, mem) => two(reg_word(reg), Part::Mem(mem)),
         Insn::One(_, size, rm) | Insn::Wide(_, size, rm) => {
             two(size_word(size), Part::Operand(rm))
         }
         Insn::Imul(size, reg, rm) => three(size_word(size), reg_word(reg), Part::Operand(rm)),
-        Insn::ImulBy(size, reg, rm, by) => [
-            size_word(size),
-            reg_word(reg),
-            Part::Operand(rm),
-            number(by),
-        ],
+        Insn::ImulBy(size, reg, rm, by) => {
+            four(
+                size_word(size),
+                reg_word(reg),
+                Part::Operand(rm),
+                number(by),
+            )
+        }
         Insn::Shift(_, size, rm, count) => {
             three(size_word(size), Part::Operand(rm), Part::Count(count))
         }
         Insn::Bswap(size, reg) => two(size_word(size), reg_word(reg)),
         Insn::Set(cond, rm) => two(cond_word(cond), Part::Operand(rm)),
-        Insn::Cmov(cond, size, reg, rm) => [
+        Insn::Cmov(cond, size, reg, rm) => four(
             cond_word(cond),
             size_word(size),
             reg_word(reg),
             Part::Operand(rm),
-        ],
+        ),
         Insn::Jcc(cond, width, disp) => three(cond_word(cond), width_word(width), number(disp)),
         Insn::Jmp(width, disp) => two(width_word(width), number(disp)),
         Insn::Call(disp) => two(number(disp), Part::Absent),

@@ -1,6 +1,6 @@
 use Rattle.std.proofs.Common.{◌≡◌, Some, ap, sym, ◌∙◌}
 use Rattle.jz_runs.specs.Rules.{stuck, went}
-use Rattle.jz_meaning.specs.Accesses as accesses
+use Rattle.jz_meaning.specs.InnerAccesses as accesses
 use Rattle.jz_meaning.specs.Attempts.{changed, numbers_first}
 use Rattle.jz_meaning.specs.Operators.{word_at}
 use Rattle.jz_meaning.specs.States.{as_value}

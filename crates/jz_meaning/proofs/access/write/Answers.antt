@@ -3,7 +3,7 @@ use Rattle.std.specs.Prelude.{option_map}
 use Rattle.std.specs.Option.{option_or}
 use Rattle.x64_insn.specs.Size.TheVariants.{S64}
 use Rattle.jz_runs.specs.Rules.{stuck, went}
-use Rattle.jz_meaning.specs.Accesses as accesses
+use Rattle.jz_meaning.specs.InnerAccesses as accesses
 use Rattle.jz_meaning.specs.Attempts.{changed, numbers_first}
 use Rattle.jz_meaning.specs.Operators.{word_at}
 use Rattle.jz_meaning.specs.States.{as_value}

@@ -6,7 +6,7 @@ use Rattle.jz_meaning.specs.Attempts.{seen, numbers_first}
 use Rattle.jz_meaning.specs.States.{as_value}
 use Rattle.jz_meaning.specs.Stores.{state_of}
 use Rattle.jz_meaning.specs.Values.{ref_of, cell_value, evaluated}
-use Rattle.jz_meaning.specs.Evaluating.{AllDetermined, go_on}
+use Rattle.jz_meaning.specs.InnerEvaluating.{AllDetermined, go_on}
 use Rattle.jz_meaning.proofs.AttemptLemmas.{handed_on}
 use Rattle.jz_meaning.proofs.LeftSideLemmas.{AllSmaller, parts_within, smaller_without_last, without_last, stuck_first, begun, next, next_stuck, cell_goes, load_goes}
 use Rattle.jz_meaning.proofs.evaluating.+evaluation.Goals as goal

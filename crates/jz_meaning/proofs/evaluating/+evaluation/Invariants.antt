@@ -5,7 +5,7 @@ use Rattle.jz_meaning.specs.Attempts.{numbers_first}
 use Rattle.jz_meaning.specs.States.{as_value}
 use Rattle.jz_meaning.specs.Values.{evaluated}
 use Rattle.jz_meaning.specs.Stores.{state_of}
-use Rattle.jz_meaning.specs.Evaluating.{gone_on, AllDetermined}
+use Rattle.jz_meaning.specs.InnerEvaluating.{gone_on, AllDetermined}
 use Rattle.jz_meaning.proofs.LeftSideLemmas.{AllSmaller}
 use Rattle.jz_meaning.proofs.evaluating.+evaluation.Given as goal
 

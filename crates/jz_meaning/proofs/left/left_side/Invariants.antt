@@ -1,4 +1,4 @@
-use Rattle.jz_meaning.specs.Evaluating.{IsLeftSide}
+use Rattle.jz_meaning.specs.InnerEvaluating.{IsLeftSide}
 use Rattle.jz_meaning.proofs.left.left_side.Given as goal
 
 abbrev pub invariant-loop-first : goal.invariant-loop-first

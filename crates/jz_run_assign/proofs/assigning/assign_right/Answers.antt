@@ -4,8 +4,8 @@ use Rattle.jz_meaning.specs.Attempts.{changed, numbers_first}
 use Rattle.jz_meaning.specs.Stores.{state_of}
 use Rattle.jz_meaning.proofs.AttemptLemmas.{handed_on}
 use Rattle.jz_run_assign.specs.Answers.{meant_results}
-use Rattle.jz_run_assign.specs.Parts.{results_written, right_assigned}
-use Rattle.jz_run_assign.specs.Rights.{right_side}
+use Rattle.jz_run_assign.specs.InnerParts.{results_written, right_assigned}
+use Rattle.jz_run_assign.specs.InnerRights.{right_side}
 use Rattle.jz_run_assign.proofs.Writing.{assigned_goes}
 use Rattle.jz_run_assign.proofs.assigning.assign_right.Goals as goal
 

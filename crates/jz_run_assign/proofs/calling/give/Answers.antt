@@ -4,7 +4,7 @@ use Rattle.jz_meaning.specs.Statements.{given}
 use Rattle.jz_meaning.specs.Stores.{state_of, store_of}
 use Rattle.jz_meaning.specs.Values.{ref_of}
 use Rattle.jz_meaning.proofs.AttemptLemmas.{handed_on}
-use Rattle.jz_run_assign.specs.Calls.{value_given, result_given}
+use Rattle.jz_run_assign.specs.InnerCalls.{value_given, result_given}
 use Rattle.jz_run_assign.proofs.GivenLemmas.{IsKept, IsScalar, given_read}
 use Rattle.jz_run_assign.proofs.calling.give.Goals as goal
 

@@ -6,7 +6,7 @@ use Rattle.jz_meaning.specs.States.{as_value}
 use Rattle.jz_meaning.specs.Stores.{state_of, store_of}
 use Rattle.jz_meaning.specs.Values.{ref_of, size_of, variable_value}
 use Rattle.jz_meaning.proofs.AttemptLemmas.{stuck_then, gone_then, handed_on, becomes_refusal}
-use Rattle.jz_run_assign.specs.Calls.{value_given}
+use Rattle.jz_run_assign.specs.InnerCalls.{value_given}
 use Rattle.jz_run_assign.proofs.calling.give_value.Goals as goal
 
 pub returns-in_err-value : goal.returns-in_err-value

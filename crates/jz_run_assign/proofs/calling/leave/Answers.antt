@@ -4,7 +4,7 @@ use Rattle.jz_meaning.specs.States.{Store, State}
 use Rattle.jz_meaning.specs.Statements.{all_given}
 use Rattle.jz_meaning.specs.Stores.{state_of, store_of}
 use Rattle.jz_meaning.proofs.AttemptLemmas.{handed_on}
-use Rattle.jz_run_assign.specs.Calls.{left_by}
+use Rattle.jz_run_assign.specs.Passings.{left_by}
 use Rattle.jz_run_assign.proofs.calling.leave.Goals as goal
 
 pub returns-in_err-give_all : goal.returns-in_err-give_all

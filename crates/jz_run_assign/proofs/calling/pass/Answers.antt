@@ -4,7 +4,7 @@ use Rattle.jz_meaning.specs.Statements.{passed}
 use Rattle.jz_meaning.specs.Stores.{state_of, store_of}
 use Rattle.jz_meaning.specs.Values.{ref_of}
 use Rattle.jz_meaning.proofs.AttemptLemmas.{handed_on}
-use Rattle.jz_run_assign.specs.Calls.{array_passed, value_passed, argument_passed}
+use Rattle.jz_run_assign.specs.InnerCalls.{array_passed, value_passed, argument_passed}
 use Rattle.jz_run_assign.proofs.GivenLemmas.{IsScalar, passed_value}
 use Rattle.jz_run_assign.proofs.calling.pass.Goals as goal
 

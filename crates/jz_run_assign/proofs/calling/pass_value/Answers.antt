@@ -6,7 +6,7 @@ use Rattle.jz_meaning.specs.States.{Store, as_value, put}
 use Rattle.jz_meaning.specs.Stores.{state_of, store_of}
 use Rattle.jz_meaning.specs.Values.{key_of, ref_of, size_of, evaluated}
 use Rattle.jz_meaning.proofs.AttemptLemmas.{becomes_refusal}
-use Rattle.jz_run_assign.specs.Calls.{value_passed}
+use Rattle.jz_run_assign.specs.InnerCalls.{value_passed}
 use Rattle.jz_run_assign.proofs.ValueLemmas.{second_stuck, all_gone, span_is}
 use Rattle.jz_run_assign.proofs.calling.pass_value.Goals as goal
 

@@ -8,7 +8,7 @@ use Rattle.jz_meaning.specs.States.{as_value}
 use Rattle.jz_meaning.specs.Stores.{state_of}
 use Rattle.jz_meaning.specs.Values.{access_of, store_at}
 use Rattle.jz_meaning.proofs.AttemptLemmas.{handed_on}
-use Rattle.jz_run_assign.specs.Parts as parts
+use Rattle.jz_run_assign.specs.InnerParts as parts
 use Rattle.jz_run_assign.proofs.Writing.{cell_written, store_written}
 use Rattle.jz_run_assign.proofs.left.write.Goals as goal
 
@@ -60,9 +60,9 @@ returns-in_err-write-in-Store c =
     let m = c.write.new.memory in
     handed_on c.from_residual-in_err-write-in-Store.result c.in_err-write-in-Store.field-0.0 (λ r. changed ks m r ≡ numbers_first ms (store_at (access_of a) c.args.size j v s.memory))
     (λ r. changed ks (record s { memory = m }) r ≡ numbers_first ns (written c.args.size c.args.to.now v s)) c.from_residual-in_err-write-in-Store.ensures.1 c.in_err-write-in-Store.ensures
-    (λ k h. store_written s ns ms ks c.args.to.now a c.get-in-Store.result.now c.args.size v j m (Err k) (sym c.in-Store.is) c.get-in-Store.ensures c.in_ok-address-in-Store.ensures h)
+    (λ k h. store_written {A = Unit {0}} s ns ms ks c.args.to.now a c.get-in-Store.result.now c.args.size v j m (Err k) (sym c.in-Store.is) c.get-in-Store.ensures c.in_ok-address-in-Store.ensures h)
 
 pub returns-in_ok-write-in-Store : goal.returns-in_ok-write-in-Store
 returns-in_ok-write-in-Store c =
     store_written (state_of c.args.state.now) c.args.out.now c.evaluate-in-Store.new.out c.write.new.out c.args.to.now c.in-Store.access c.get-in-Store.result.now c.args.size (option_map as_value c.args.value) (as_value c.in_ok-address-in-Store.address)
-    c.write.new.memory (Ok tt) (sym c.in-Store.is) c.get-in-Store.ensures c.in_ok-address-in-Store.ensures c.in_ok-write-in-Store.ensures
+    c.write.new.memory (Ok c.in_ok-write-in-Store.field-0) (sym c.in-Store.is) c.get-in-Store.ensures c.in_ok-address-in-Store.ensures c.in_ok-write-in-Store.ensures

@@ -7,7 +7,7 @@ use Rattle.jz_meaning.specs.States.{as_value}
 use Rattle.jz_meaning.specs.Stores.{state_of}
 use Rattle.jz_meaning.specs.Values.{size_of, ref_of, index_at}
 use Rattle.jz_meaning.proofs.AttemptLemmas.{gone_then, handed_on}
-use Rattle.jz_run_assign.specs.Parts.{cell_written}
+use Rattle.jz_run_assign.specs.InnerParts.{cell_written}
 use Rattle.jz_run_assign.proofs.left.write_at.Goals as goal
 
 pub returns-in_err-write_cell : goal.returns-in_err-write_cell

@@ -8,7 +8,7 @@ use Rattle.jz_meaning.specs.Stores.{state_of, store_of}
 use Rattle.jz_meaning.specs.Values.{ref_of}
 use Rattle.jz_meaning.specs.Assignments.{held}
 use Rattle.jz_meaning.proofs.AttemptLemmas.{becomes_refusal}
-use Rattle.jz_run_assign.specs.Parts.{variable_written}
+use Rattle.jz_run_assign.specs.InnerParts.{variable_written}
 use Rattle.jz_run_assign.proofs.Writing as writing
 use Rattle.jz_run_assign.proofs.Writing.{gives, gets_stuck}
 use Rattle.jz_run_assign.proofs.left.write_variable.Goals as goal

@@ -5,8 +5,8 @@ use Rattle.jz_meaning.specs.Stores.{state_of}
 use Rattle.jz_meaning.specs.Assignments.{word_in}
 use Rattle.jz_meaning.proofs.AttemptLemmas.{gone_then, handed_on}
 use Rattle.jz_run_assign.specs.Answers.{results_in}
-use Rattle.jz_run_assign.specs.Rights.{operand_of}
-use Rattle.jz_run_assign.specs.Pairs.{two_from, three_from, results_of_pair}
+use Rattle.jz_run_assign.specs.InnerRights.{operand_of}
+use Rattle.jz_run_assign.specs.InnerPairs.{two_from, three_from, results_of_pair}
 use Rattle.jz_run_assign.proofs.pairs.of_pair.Goals as goal
 
 pub returns-in_err-results-in-Two : goal.returns-in_err-results-in-Two

@@ -6,7 +6,7 @@ use Rattle.jz_meaning.specs.Stores.{state_of}
 use Rattle.jz_meaning.specs.Values.{ref_of, access_of, cell_value, load_at, evaluated}
 use Rattle.jz_meaning.proofs.AttemptLemmas.{handed_on}
 use Rattle.jz_meaning.proofs.LeftSideLemmas.{cell_goes, load_goes}
-use Rattle.jz_run_assign.specs.Rights.{read_of}
+use Rattle.jz_run_assign.specs.InnerRights.{read_of}
 use Rattle.jz_run_assign.proofs.reading.read.Goals as goal
 
 pub returns-in_err-value-in-Cell : goal.returns-in_err-value-in-Cell

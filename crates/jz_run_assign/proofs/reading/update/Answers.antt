@@ -6,7 +6,7 @@ use Rattle.jz_meaning.specs.States.{as_value}
 use Rattle.jz_meaning.specs.Stores.{state_of}
 use Rattle.jz_meaning.specs.Values.{left_wanted, own_size, evaluated, with_right}
 use Rattle.jz_meaning.proofs.AttemptLemmas.{handed_on}
-use Rattle.jz_run_assign.specs.Rights.{read_of}
+use Rattle.jz_run_assign.specs.InnerRights.{read_of}
 use Rattle.jz_run_assign.proofs.RightValues.{operation_goes}
 use Rattle.jz_run_assign.proofs.reading.update.Goals as goal
 

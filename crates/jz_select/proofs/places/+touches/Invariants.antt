@@ -3,7 +3,7 @@ use Rattle.jz_tree.specs.declared.expr.Expr.{size-Expr}
 use Rattle.jz_select.specs.Trees.{named_variable}
 use Rattle.jz_select.specs.Places.{touches}
 use Rattle.jz_select.specs.Hardest.{guess}
-use Rattle.jz_select.specs.InnerLayers.{index_if}
+use Rattle.jz_select.specs.InnerIndexes.{index_if}
 use Rattle.jz_select.proofs.places.+touches.Given as goal
 
 abbrev pub invariant-loop-cur : goal.invariant-loop-cur

@@ -11,7 +11,7 @@ use Rattle.jz_meaning.specs.States.{State}
 use Rattle.jz_meaning.specs.Assignments.{Results, word_in, bool_in, two_results}
 use Rattle.jz_run_assign.specs.declared.pairs.Pair.{Pair}
 use Rattle.jz_run_assign.specs.declared.pairs.Pair.TheVariants as pair
-use Rattle.jz_run_assign.specs.Rights.{operand_of}
+use Rattle.jz_run_assign.specs.InnerRights.{operand_of}
 
 -- the first operand is this word
 abbrev pub two_from : BinOp → Span → Size → ℕ → Expr → State → Evaluation Results

@@ -1,4 +1,4 @@
--- The parts of a call, as the code has them.
+-- The parts of a call, as private functions have them.
 use Rattle.std.specs.Prelude.{ℕ, [], Some}
 use Rattle.jz_tree.specs.Span.{Span}
 use Rattle.jz_tree.specs.declared.expr.Expr.{Expr}
@@ -8,12 +8,10 @@ use Rattle.jz_meaning.specs.Rules.{went}
 use Rattle.jz_meaning.specs.declared.access.Kind.{Kind}
 use Rattle.jz_meaning.specs.Assignments.{held, written}
 use Rattle.jz_meaning.specs.Attempts.{Evaluation, and_then}
-use Rattle.jz_meaning.specs.States.{Store, State, empty_store, put}
+use Rattle.jz_meaning.specs.States.{Store, State, put}
 use Rattle.jz_meaning.specs.Statements as statements
-use Rattle.jz_meaning.specs.Statements.{array_of, passed, given, leaves}
+use Rattle.jz_meaning.specs.Statements.{array_of, passed, given}
 use Rattle.jz_meaning.specs.Values.{size_of, ref_of, key_of, variable_value, evaluated}
-use Rattle.jz_run_assign.specs.declared.calling.Call.{Call}
-use Rattle.jz_run_assign.specs.Passings.{call_of}
 
 -- ---- arguments, of the caller's state and the callee's variables
 
@@ -28,10 +26,6 @@ value_passed k x e s inner =
 abbrev pub argument_passed : Span → Var → Expr → State → Store → Evaluation Store
 argument_passed at x e = passed at (ref_of x).kind (ref_of x) e
 
--- all of a call, where no other variable of the callee has a value
-abbrev pub entered_by : Call → State → Evaluation Store
-entered_by c s = statements.all_passed c.span c.callee.now.params c.args.now s empty_store
-
 -- ---- results, of the callee's variables and the caller's state
 
 abbrev pub array_back : Var → Expr → Store → Store → Store
@@ -43,7 +37,3 @@ value_given k d x inner s =
 
 abbrev pub result_given : Lval → Var → Store → State → Evaluation State
 result_given d x = given (ref_of x).kind (ref_of x) d
-
--- all of a call, with the memory at its end
-abbrev pub left_by : Call → Store → State → Evaluation State
-left_by c inner s = leaves (call_of c) s (record { store = inner; memory = s.memory })

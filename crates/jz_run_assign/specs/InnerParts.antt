@@ -1,4 +1,4 @@
--- The parts of an assignment, as the code has them.
+-- The parts of an assignment, as private functions have them.
 use Rattle.std.specs.Prelude.{[], ◌∷◌, Option, Some, None}
 use Rattle.jz_words.specs.declared.size.Size.{Size}
 use Rattle.jz_tree.specs.declared.expr.Expr.{Expr}
@@ -8,7 +8,7 @@ use Rattle.jz_meaning.specs.Rules.{went}
 use Rattle.jz_meaning.specs.Attempts.{Evaluation, and_then}
 use Rattle.jz_meaning.specs.States.{Value, State}
 use Rattle.jz_meaning.specs.Values.{size_of, ref_of, index_at, evaluated}
-use Rattle.jz_meaning.specs.Assignments.{Results, in_cell, written, conditioned, all_written, assigned_whole, assigned}
+use Rattle.jz_meaning.specs.Assignments.{Results, in_cell, written, conditioned, all_written, assigned_whole}
 use Rattle.jz_run_assign.specs.declared.assigning.Assignment.{Assignment}
 
 -- ---- left sides
@@ -39,7 +39,3 @@ results_written a size vs s =
 -- this is the whole right side
 abbrev pub right_assigned : Assignment → Expr → State → Evaluation State
 right_assigned a e = assigned_whole a.to.now (Some e) a.cond.now a.span
-
--- this is the value that the text assigns
-abbrev pub value_assigned : Assignment → Expr → State → Evaluation State
-value_assigned a e = assigned a.to.now a.op e a.cond.now a.span

@@ -1,11 +1,12 @@
 -- Lists of places that are empty.
 use Rattle.std.proofs.Common.{◌≡◌, Bool, true, false, List, [], ◌∷◌, ◌++◌, flat_map, refl, ap₂}
 use Rattle.std.specs.Prelude.{All, Contains}
+use Rattle.std.proofs.lemmas.Bool.{false≢true}
 use Rattle.std.proofs.lemmas.List.Elements.{All-nil, All-cons, All-head, All-tail, All-contains_itself}
 use Rattle.jz_tree.specs.Span.{Span}
 use Rattle.jz_type_names.specs.Order.{unless}
 
-one_not : (x : Span) (xs : List Span) → (x ∷ xs) ≡ [] → ⊥
+pub one_not : {A : Type 0} (x : A) (xs : List A) → (x ∷ xs) ≡ [] → ⊥
 one_not x xs e = cc
 
 pub both : (xs ys : List Span) → xs ++ ys ≡ [] → (xs ≡ []) × (ys ≡ [])
@@ -18,6 +19,10 @@ joined xs ys p q = ap₂ (λ a b. a ++ b) p q
 pub passed : (b : Bool) (at : Span) → unless b at ≡ [] → b ≡ true
 passed true at e = refl
 passed false at e = absurd (one_not at [] e)
+
+pub passes : (b : Bool) (at : Span) → b ≡ true → unless b at ≡ []
+passes true at e = refl
+passes false at e = absurd (false≢true e)
 
 pub all_empty : {A : Type 0} (f : A → List Span) (xs : List A) → flat_map f xs ≡ [] → All (λ x. f x ≡ []) xs
 all_empty f [] e = All-nil (λ x. f x ≡ [])
