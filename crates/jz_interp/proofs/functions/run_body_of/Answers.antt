@@ -35,8 +35,8 @@ returns-in_err-words-in-End c =
     (ap (λ v. let x : State = record { store = v; memory = c.args.memory } in x) (c.in_ok-give_words.ensures ∙ ap (with_arguments c.args.function.now.params (values_of c.args.words.now)) c.new-store.ensures))
     (state_of c.run_block.new.state) c.in-End.field-0 c.in-End.items (as_end _ _ _ _ (state_of c.run_block.new.state) c.in_ok-items.field-0 c.in-End.items c.in_ok-items.ensures c.in-End.is))
 
-pub returns-in-End : goal.returns-in-End
-returns-in-End c =
+pub returns-in_ok-words-in-End : goal.returns-in_ok-words-in-End
+returns-in_ok-words-in-End c =
     body_ends c.args.code.now.funs.now c.args.function.now (values_of c.args.words.now) c.args.memory c.args.fuel c.len.result (let x : State = record { store = store_of c.give_words.new.store; memory = c.args.memory } in x) c.len.ensures
     (ap (λ v. let x : State = record { store = v; memory = c.args.memory } in x) (c.in_ok-give_words.ensures ∙ ap (with_arguments c.args.function.now.params (values_of c.args.words.now)) c.new-store.ensures))
     (state_of c.run_block.new.state) c.in-End.field-0 c.in-End.items (as_end _ _ _ _ (state_of c.run_block.new.state) c.in_ok-items.field-0 c.in-End.items c.in_ok-items.ensures c.in-End.is)

@@ -4,6 +4,7 @@ use Rattle.std.specs.Option.{option_copied}
 use Rattle.std.specs.Int.{w128}
 use Rattle.std.proofs.lemmas.Int.{to_z-of_z}
 use Rattle.jz_meaning.specs.Trees.{done, choose, each, call, loop}
+use Rattle.jz_meaning.specs.Rules.{Stuck}
 use Rattle.jz_meaning.specs.Attempts.{did, changed, numbers_first}
 use Rattle.jz_meaning.specs.States.{State, put, integer}
 use Rattle.jz_meaning.specs.Stores.{state_of, store_of}
@@ -62,9 +63,9 @@ run_block-loop-stmt-preserved t c =
 pub run_statement-returns-in_err-ran-in-Assign : goal.run_statement-returns-in_err-ran-in-Assign
 run_statement-returns-in_err-ran-in-Assign t c =
     let f = statement_tree (callees_in c.args.code.now c.args.depth) c.args.stmt.now in let u = state_of c.run_assign.new.state in
-    handed_on c.from_residual-in_err-ran-in-Assign.result c.in_err-ran-in-Assign.field-0.0
+    handed_on c.from_residual.result c.in_err-ran-in-Assign.field-0.0
     (PieceGoes _ c.args.fuel (state_of c.args.state.now) u) (PieceGoes f c.args.fuel (state_of c.args.state.now) u)
-    c.from_residual-in_err-ran-in-Assign.ensures.1 c.in_err-ran-in-Assign.ensures
+    c.from_residual.ensures.1 c.in_err-ran-in-Assign.ensures
     (λ k h. subst (λ g. PieceGoes g c.args.fuel (state_of c.args.state.now) u (Err k)) (sym (assign_is (callees_in c.args.code.now c.args.depth) c.args.stmt.now c.in-Assign.to c.in-Assign.op c.in-Assign.rhs c.in-Assign.cond c.in-Assign.is)) h)
 
 pub run_statement-returns-in_ok-ran-in-Assign : goal.run_statement-returns-in_ok-ran-in-Assign
@@ -139,7 +140,7 @@ run_if-returns t c =
 pub run_body-returns-in_err-ran-in-Some : goal.run_body-returns-in_err-ran-in-Some
 run_body-returns-in_err-ran-in-Some t c =
     handed_on c.from_residual.result c.in_err-ran-in-Some.field-0.0
-    (PieceGoes (block (callees_in c.args.code.now c.args.depth) c.in-Some.stmts.now) c.args.fuel (state_of c.args.state.now) (state_of c.run_block.new.state))
+    (PieceGoes (block (callees_in c.args.code.now c.args.depth) c.in-Some.stmts) c.args.fuel (state_of c.args.state.now) (state_of c.run_block.new.state))
     (PieceGoes (body_piece (callees_in c.args.code.now c.args.depth) c.args.body.now) c.args.fuel (state_of c.args.state.now) (state_of c.run_block.new.state))
     c.from_residual.ensures.1 c.in_err-ran-in-Some.ensures
     (λ k h. subst (λ y. PieceGoes (body_piece (callees_in c.args.code.now c.args.depth) y) c.args.fuel (state_of c.args.state.now) (state_of c.run_block.new.state) (Err k)) (sym c.in-Some.is) h)
@@ -163,7 +164,7 @@ run_test-returns-then-not-more t c =
 
 pub run_test-returns-then-fuel-eq0 : goal.run_test-returns-then-fuel-eq0
 run_test-returns-then-fuel-eq0 t c =
-    test_wanted (condition_of c.args.test) (body_piece (callees_in c.args.code.now c.args.depth) c.args.body.now) c.args.prologue c.args.fuel (state_of c.args.state.now) c.new-numbers.result c.truth_in.new.out c.new-numbers.ensures (truth_is c.truth_in.new.out c.in_ok-more.more true _ (search rules) c.in_ok-more.ensures) (search rules) c.turn.result c.in_ok-wanted.wanted c.turn.ensures c.in_ok-wanted.ensures
+    test_wanted (condition_of c.args.test) (body_piece (callees_in c.args.code.now c.args.depth) c.args.body.now) c.args.prologue c.args.fuel (state_of c.args.state.now) c.new-numbers.result c.truth_in.new.out c.new-numbers.ensures (truth_is c.truth_in.new.out c.in_ok-more.more true _ (search rules) c.in_ok-more.ensures) (search rules) c.turn-then-fuel-eq0.result c.in_ok-wanted.wanted c.turn-then-fuel-eq0.ensures c.in_ok-wanted.ensures
 
 pub run_test-returns-in_err-items : goal.run_test-returns-in_err-items
 run_test-returns-in_err-items t c =
@@ -265,8 +266,8 @@ pub run_for-returns-in-Cut : goal.run_for-returns-in-Cut
 run_for-returns-in-Cut t c =
     for_cut (counter_of c.args.counter) (block (callees_in c.args.code.now c.args.depth) c.args.body.now) c.args.fuel (state_of c.args.state.now) c.new-numbers.result c.counter_values.new.out c.new-numbers.ensures (values_left c.in_ok-values.values) c.in_ok-values.ensures c.in-Cut.leaks _ (rounds_as c.args.counter.counter.now (inner_block (callees_in c.args.code.now c.args.depth) c.args.body.now) (values_left c.in_ok-values.values) c.args.fuel (state_of c.args.state.now) (state_of c.run_rounds.new.state) c.in_ok-leaks.field-0 _ c.in_ok-leaks.ensures c.in-Cut.is) c.in_ok-leaked-in-Cut.ensures
 
-pub run_for-returns-in-End : goal.run_for-returns-in-End
-run_for-returns-in-End t c =
+pub run_for-returns : goal.run_for-returns
+run_for-returns t c =
     for_ends (counter_of c.args.counter) (block (callees_in c.args.code.now c.args.depth) c.args.body.now) c.args.fuel (state_of c.args.state.now) c.new-numbers.result c.counter_values.new.out c.new-numbers.ensures (values_left c.in_ok-values.values) c.in_ok-values.ensures c.in-End.leaks c.in-End.left (state_of c.run_rounds.new.state) _ _ (rounds_as c.args.counter.counter.now (inner_block (callees_in c.args.code.now c.args.depth) c.args.body.now) (values_left c.in_ok-values.values) c.args.fuel (state_of c.args.state.now) (state_of c.run_rounds.new.state) c.in_ok-leaks.field-0 _ c.in_ok-leaks.ensures c.in-End.is)
     (ap (λ v. let x : State = record { store = v; memory = c.run_rounds.new.state.memory } in x) (c.in_ok-set-in-End.ensures ∙ ap (put (store_of c.run_rounds.new.state.store) (key_of (ref_of c.args.counter.counter.now))) c.value_of-before.ensures)) c.in_ok-leaked-in-End.ensures
 
@@ -284,11 +285,11 @@ run_call-returns-in_err-ran-in-Some t c =
     (PieceGoes (call (record { to = c.args.assignment.to.now; callee = c.in-Some.callee.now; args = c.args.named.args.now; at = c.args.named.span }) (inner_block (callees_in c.args.code.now (c.args.depth - 1)) c.in-Some.callee.now.body)) c.args.fuel (state_of c.args.state.now) (state_of c.run_callee.new.state))
     (PieceGoes (named_call_tree (callees_in c.args.code.now c.args.depth) c.args.assignment c.args.named) c.args.fuel (state_of c.args.state.now) (state_of c.run_callee.new.state))
     c.from_residual.ensures.1 c.in_err-ran-in-Some.ensures
-    (λ k h. call_of_some c.args.code.now.funs.now c.args.depth c.args.assignment.op c.args.named.name.now c.args.assignment.cond.now c.args.assignment.to.now c.args.named.args.now c.args.named.span c.args.fuel (state_of c.args.state.now) c.in-Some.callee.now _ (sym c.callee_of.ensures ∙ ap option_copied c.in-Some.is) h)
+    (λ k h. call_of_some c.args.code.now.funs.now c.args.depth c.args.assignment.op c.args.named.name.now c.args.assignment.cond.now c.args.assignment.to.now c.args.named.args.now c.args.named.span c.args.fuel (state_of c.args.state.now) c.in-Some.callee.now (Stuck k) (sym c.callee_of.ensures ∙ ap option_copied c.in-Some.is) h)
 
 pub run_call-returns-in_ok-ran-in-Some : goal.run_call-returns-in_ok-ran-in-Some
 run_call-returns-in_ok-ran-in-Some t c =
-    call_of_some c.args.code.now.funs.now c.args.depth c.args.assignment.op c.args.named.name.now c.args.assignment.cond.now c.args.assignment.to.now c.args.named.args.now c.args.named.span c.args.fuel (state_of c.args.state.now) c.in-Some.callee.now _ (sym c.callee_of.ensures ∙ ap option_copied c.in-Some.is) c.in_ok-ran-in-Some.ensures
+    call_of_some c.args.code.now.funs.now c.args.depth c.args.assignment.op c.args.named.name.now c.args.assignment.cond.now c.args.assignment.to.now c.args.named.args.now c.args.named.span c.args.fuel (state_of c.args.state.now) c.in-Some.callee.now (seen_outcome (Ok c.in_ok-ran-in-Some.ran) (state_of c.run_callee.new.state)) (sym c.callee_of.ensures ∙ ap option_copied c.in-Some.is) c.in_ok-ran-in-Some.ensures
 
 pub run_callee-returns-in_err-inner : goal.run_callee-returns-in_err-inner
 run_callee-returns-in_err-inner t c =
@@ -304,8 +305,8 @@ run_callee-returns-in_err-items t c =
     (PieceGoes (call (call_of c.args.call) (inner_block (callees_in c.args.code.now c.args.depth) c.args.call.callee.now.body)) c.args.fuel (state_of c.args.state.now) (state_of c.run_block.new.state))
     c.from_residual-in_err-items.ensures.1 c.in_err-items.ensures (callee_stuck (call_of c.args.call) (block (callees_in c.args.code.now c.args.depth) c.args.call.callee.now.body) c.args.fuel (state_of c.args.state.now) c.new-before.result c.enter.new.out c.new-before.ensures (store_of c.in_ok-inner.inner) c.in_ok-inner.ensures (let x : State = record { store = store_of c.replace-outer.new.dest; memory = c.args.state.now.memory } in x) (ap (λ v. let x : State = record { store = store_of v; memory = c.args.state.now.memory } in x) c.replace-outer.ensures.after))
 
-pub run_callee-returns-in-Cut : goal.run_callee-returns-in-Cut
-run_callee-returns-in-Cut t c =
+pub run_callee-returns-in_ok-call_until_cut-in-Cut : goal.run_callee-returns-in_ok-call_until_cut-in-Cut
+run_callee-returns-in_ok-call_until_cut-in-Cut t c =
     callee_cut (call_of c.args.call) (block (callees_in c.args.code.now c.args.depth) c.args.call.callee.now.body) c.args.fuel (state_of c.args.state.now) c.new-before.result c.enter.new.out c.new-before.ensures (store_of c.in_ok-inner.inner) c.in_ok-inner.ensures (let x : State = record { store = store_of c.replace-outer.new.dest; memory = c.args.state.now.memory } in x) (ap (λ v. let x : State = record { store = store_of v; memory = c.args.state.now.memory } in x) c.replace-outer.ensures.after) c.in-Cut.items _ c.new.result c.new.ensures c.in_ok-call_until_cut-in-Cut.ensures
     (as_cut _ _ _ (state_of c.run_block.new.state) c.in_ok-items.field-0 c.in-Cut.items c.in_ok-items.ensures c.in-Cut.is)
 
@@ -317,6 +318,6 @@ run_callee-returns-in_err-leave-in-End t c =
     c.from_residual-in_err-leave-in-End.ensures.1 c.in_err-leave-in-End.ensures
     (λ k h. not_left (call_of c.args.call) (block (callees_in c.args.code.now c.args.depth) c.args.call.callee.now.body) c.args.fuel (state_of c.args.state.now) c.new-before.result c.enter.new.out c.new-before.ensures (store_of c.in_ok-inner.inner) c.in_ok-inner.ensures (let x : State = record { store = store_of c.replace-outer.new.dest; memory = c.args.state.now.memory } in x) (ap (λ v. let x : State = record { store = store_of v; memory = c.args.state.now.memory } in x) c.replace-outer.ensures.after) c.in-End.items c.in-End.left (state_of c.run_block.new.state) (as_end _ _ _ _ (state_of c.run_block.new.state) c.in_ok-items.field-0 c.in-End.items c.in_ok-items.ensures c.in-End.is) c.new-after.result c.new-after.ensures k (h ∙ ap (numbers_first c.new-after.result) (same_leave (call_of c.args.call) c.replace-inner.new.dest c.replace-inner.result c.args.state.now.store c.run_block.new.state.store c.args.state.now.memory c.run_block.new.state.memory (c.replace-inner.ensures.after ∙ c.replace-outer.ensures.value) c.replace-inner.ensures.value)))
 
-pub run_callee-returns-in-End : goal.run_callee-returns-in-End
-run_callee-returns-in-End t c =
+pub run_callee-returns-in_ok-leaked-in-End : goal.run_callee-returns-in_ok-leaked-in-End
+run_callee-returns-in_ok-leaked-in-End t c =
     callee_ended (call_of c.args.call) (block (callees_in c.args.code.now c.args.depth) c.args.call.callee.now.body) c.args.fuel (state_of c.args.state.now) c.new-before.result c.enter.new.out c.new-before.ensures (store_of c.in_ok-inner.inner) c.in_ok-inner.ensures (let x : State = record { store = store_of c.replace-outer.new.dest; memory = c.args.state.now.memory } in x) (ap (λ v. let x : State = record { store = store_of v; memory = c.args.state.now.memory } in x) c.replace-outer.ensures.after) c.in-End.items c.in-End.left (state_of c.run_block.new.state) (as_end _ _ _ _ (state_of c.run_block.new.state) c.in_ok-items.field-0 c.in-End.items c.in_ok-items.ensures c.in-End.is) c.new-after.result c.new-after.ensures (state_of c.leave.new.state) c.leave.new.out _ (c.in_ok-leave-in-End.ensures ∙ ap (numbers_first c.new-after.result) (same_leave (call_of c.args.call) c.replace-inner.new.dest c.replace-inner.result c.args.state.now.store c.run_block.new.state.store c.args.state.now.memory c.run_block.new.state.memory (c.replace-inner.ensures.after ∙ c.replace-outer.ensures.value) c.replace-inner.ensures.value)) c.in_ok-leaked-in-End.ensures
