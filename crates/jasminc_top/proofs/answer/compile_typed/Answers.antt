@@ -46,7 +46,7 @@ compile_all-requires c =
     let within = ok_says (λ es. All IsWithinLimits p.funs) c.expand_all.result expanded c.in_ok-expanded.ensures.ok c.expand_all.ensures.within in
     let value = ok_says (λ ss. ss ≡ expanded) c.safe_all.result safes c.in_ok-safes.ensures.ok c.safe_all.ensures.value in
     let funs = ap functions_of value ∙ same in
-    all_of_map (λ e. e.fun) IsPlaceable safes (subst (All IsPlaceable) (sym funs) (all_placeable p typed p.funs (λ f h. h) within))
+    all_of_map (λ (e : Expanded). e.fun) IsPlaceable safes (subst (All IsPlaceable) (sym funs) (all_placeable p typed p.funs (λ f h. h) within))
 
 pub returns-in_err-made-clause-refused : goal.returns-in_err-made-clause-refused
 returns-in_err-made-clause-refused c =
