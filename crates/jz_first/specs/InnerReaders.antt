@@ -19,7 +19,7 @@ use Rattle.jz_grammar.specs.Tokens.{name_of, number_of_token}
 use Rattle.jz_first.specs.Trees.{number_expr, assignments, operation_of, register_word, declared_of, param_of, used_of, assign_statement, vars_in, stmts_in, fun_of, program_of}
 use Rattle.jz_grammar.specs.Parts.{joined_lists, or_empty}
 use Rattle.jz_first.specs.Grammar.{most_names}
-use Rattle.jz_grammar.specs.InnerTokens.{key, the, name, ids, commas, comma, one_and}
+pub use Rattle.jz_grammar.specs.InnerTokens.{key, the, name, ids, commas, comma, one_and}
 
 unfoldable pub variable_declared : Reader Var
 variable_declared ts = through declared_of (name ts)

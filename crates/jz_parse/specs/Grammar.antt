@@ -28,7 +28,7 @@ use Rattle.jz_parse.specs.declared.program.Part.{Part}
 use Rattle.jz_parse.specs.declared.program.Part.TheVariants.{Constant, Function}
 use Rattle.jz_parse.specs.Trees.{type_of, decl_of, declared_all, params_all, ret_of, vars_in, stmts_in, body_of, fun_of, const_of, consts_in, funs_in, program_of}
 use Rattle.jz_grammar.specs.Parts.{joined_lists, or_empty}
-use Rattle.jz_parse.specs.Table.{comma}
+pub use Rattle.jz_parse.specs.Table.{comma}
 
 -- storage = "reg" | "stack" | "inline"
 abbrev pub storage : ℕ → Lang Storage

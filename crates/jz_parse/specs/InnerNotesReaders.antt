@@ -8,7 +8,7 @@ use Rattle.jz_tree.specs.declared.program.NoteValue.{NoteValue}
 use Rattle.jz_tree.specs.declared.program.NoteValue.TheVariants as value
 use Rattle.jz_grammar.specs.Tokens.{name_of, number_of_token, string_of}
 use Rattle.jz_parse.specs.NotesTable.{note_of, all_notes}
-use Rattle.jz_grammar.specs.InnerTokens.{ids}
+pub use Rattle.jz_grammar.specs.InnerTokens.{ids}
 
 abbrev pub numbers : List Kind
 numbers = number ∷ []

@@ -14,11 +14,11 @@ use Rattle.jz_tree.specs.declared.stmt.Rhs.TheVariants.{Value}
 use Rattle.jz_tree.specs.declared.stmt.Stmt.{Stmt}
 use Rattle.jz_tree.specs.declared.stmt.StmtKind.{StmtKind}
 use Rattle.jz_parse_expr.specs.InnerReaders.{expr, index, access, expr_starts}
-use Rattle.jz_grammar.specs.InnerTokens.{the, key, name}
+pub use Rattle.jz_grammar.specs.InnerTokens.{the, key, name}
 use Rattle.jz_parse.specs.StmtTrees.{assignments, operation_of, call_of, intrinsic_of, name_lval, span_of_lval, assign_statement, call_statement, if_statement, while_statement, for_statement, stmt_of}
 use Rattle.jz_grammar.specs.Parts.{or_empty}
 use Rattle.jz_parse.specs.InnerNotesReaders.{notes}
-use Rattle.jz_grammar.specs.InnerTokens.{commas, comma}
+pub use Rattle.jz_grammar.specs.InnerTokens.{commas, comma}
 
 -- ---- the tokens that decide
 abbrev pub names : List Kind

@@ -11,7 +11,7 @@ use Rattle.jz_tree.specs.declared.expr.Access.{Access}
 use Rattle.jz_tree.specs.declared.expr.BinOp.{BinOp}
 use Rattle.jz_parse_expr.specs.Operators.{ops_of, op_of, operators, level_count}
 use Rattle.jz_parse_expr.specs.Trees.{number_expr, bool_expr, name_expr, neg_expr, not_expr, access_of, load_expr, chain, Group, At, As, Plain, group_expr}
-use Rattle.jz_grammar.specs.InnerTokens.{key, the, name}
+pub use Rattle.jz_grammar.specs.InnerTokens.{key, the, name}
 
 -- the signs that begin an expression, the tokens that do, those that go on with one, and those that
 -- begin an access
