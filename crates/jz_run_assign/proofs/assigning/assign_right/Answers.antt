@@ -1,5 +1,5 @@
 use Rattle.std.proofs.Common.{◌≡◌}
-use Rattle.jz_runs.specs.Rules.{stuck}
+use Rattle.jz_meaning.specs.Rules.{stuck}
 use Rattle.jz_meaning.specs.Attempts.{changed, numbers_first}
 use Rattle.jz_meaning.specs.Stores.{state_of}
 use Rattle.jz_meaning.proofs.AttemptLemmas.{handed_on}

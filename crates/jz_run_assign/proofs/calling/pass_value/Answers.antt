@@ -1,5 +1,5 @@
 use Rattle.std.proofs.Common.{◌≡◌, [], Some, ap, sym, ◌∙◌}
-use Rattle.jz_runs.specs.Rules.{stuck, went}
+use Rattle.jz_meaning.specs.Rules.{stuck, went}
 use Rattle.jz_meaning.specs.Assignments.{held}
 use Rattle.jz_meaning.specs.Attempts.{Evaluation, changed, numbers_first}
 use Rattle.jz_meaning.specs.States.{Store, as_value, put}

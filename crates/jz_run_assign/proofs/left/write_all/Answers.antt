@@ -3,7 +3,7 @@ use Rattle.std.specs.Prelude.{option_map}
 use Rattle.std.specs.Iterator.Adapters.{zip_first, zip_second}
 use Rattle.std.specs.Slice.Iter.{iter_rest}
 use Rattle.std.proofs.lemmas.Slice.Zip.{Zip-more, either_empty_from_Zip}
-use Rattle.jz_runs.specs.Rules.{stuck}
+use Rattle.jz_meaning.specs.Rules.{stuck}
 use Rattle.jz_meaning.specs.Assignments.{written, all_written}
 use Rattle.jz_meaning.specs.Attempts.{changed, numbers_first}
 use Rattle.jz_meaning.specs.States.{as_value}

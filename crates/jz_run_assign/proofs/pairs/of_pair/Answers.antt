@@ -1,5 +1,5 @@
 use Rattle.std.proofs.Common.{◌≡◌, ap, sym, ◌∙◌}
-use Rattle.jz_runs.specs.Rules.{stuck}
+use Rattle.jz_meaning.specs.Rules.{stuck}
 use Rattle.jz_meaning.specs.Attempts.{did, numbers_first}
 use Rattle.jz_meaning.specs.Stores.{state_of}
 use Rattle.jz_meaning.specs.Assignments.{word_in}

@@ -1,5 +1,5 @@
 use Rattle.std.proofs.Common.{◌≡◌, false, ap, ◌∙◌}
-use Rattle.jz_runs.specs.Rules.{stuck, went}
+use Rattle.jz_meaning.specs.Rules.{stuck, went}
 use Rattle.jz_meaning.specs.Assignments.{word_in, two_results}
 use Rattle.jz_meaning.specs.Attempts.{did, numbers_first}
 use Rattle.jz_meaning.specs.Stores.{state_of}
