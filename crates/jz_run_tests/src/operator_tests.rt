@@ -206,8 +206,11 @@ fn value(part: Part) -> Value {
 fn is_mixed(alloc: Global, row: Mixed) -> bool {
     let (op, x, y, wanted) = row;
     let mut out = Seq::new(alloc);
-    let got = binary(op, AT, Some(Size::S8), value(x), value(y), &mut out);
-    got.ok() == wanted.map(value)
+    match binary(op, AT, Some(Size::S8), value(x), value(y), &mut out) {
+        Ok(got) => wanted.map(value) == Some(got),
+        Err(Failure::Refused(_)) => wanted.is_none(),
+        Err(Failure::OutOfMemory) => false,
+    }
 }
 
 fn answer_all_mixed(rt: &impl Abort, alloc: Global, rows: &[Mixed]) -> Result<(), Fail> {
