@@ -13,7 +13,7 @@ use jz_tree::{BinOp, Boxed, Expr, Lval, Rhs, Seq, Span, StmtKind, Var};
 use std::alloc::Global;
 
 /// A further argument and the comma before it.
-#[tactic(auto, unfolding(crate::specs::InnerReaders::next_arg))]
+#[tactic(auto, unfolding(crate::specs::InnerStmtReaders::next_arg))]
 fn next_arg(alloc: Global, c: &mut Cursor, depth: u32) -> Result<Expr, Stop>
     ensures { Gave result c.new (next_arg depth c.old) }
 {
@@ -34,7 +34,7 @@ fn args_more(alloc: Global, c: &mut Cursor, depth: u32, first: Seq<Expr>) -> Res
     Ok(out)
 }
 
-#[tactic(auto, unfolding(crate::specs::InnerReaders::args))]
+#[tactic(auto, unfolding(crate::specs::InnerStmtReaders::args))]
 fn args(alloc: Global, c: &mut Cursor, depth: u32) -> Result<Seq<Expr>, Stop>
     ensures { Gave result c.new (args depth c.old) }
 {
@@ -45,7 +45,7 @@ fn args(alloc: Global, c: &mut Cursor, depth: u32) -> Result<Seq<Expr>, Stop>
 }
 
 /// The arguments of a call and the parentheses round them.
-#[tactic(auto, unfolding(crate::specs::InnerReaders::call_args))]
+#[tactic(auto, unfolding(crate::specs::InnerStmtReaders::call_args))]
 fn call_args(alloc: Global, c: &mut Cursor, depth: u32) -> Result<Seq<Expr>, Stop>
     ensures { Gave result c.new (call_args depth c.old) }
 {
@@ -59,7 +59,7 @@ fn call_args(alloc: Global, c: &mut Cursor, depth: u32) -> Result<Seq<Expr>, Sto
     Ok(out)
 }
 
-#[tactic(auto, unfolding(crate::specs::InnerReaders::intrinsic))]
+#[tactic(auto, unfolding(crate::specs::InnerStmtReaders::intrinsic))]
 fn intrinsic(alloc: Global, c: &mut Cursor, depth: u32) -> Result<Rhs, Stop>
     ensures { Gave result c.new (intrinsic depth c.old) }
 {
@@ -69,7 +69,7 @@ fn intrinsic(alloc: Global, c: &mut Cursor, depth: u32) -> Result<Rhs, Stop>
     Ok(Rhs::Intrinsic(name, out, span))
 }
 
-#[tactic(auto, unfolding(crate::specs::InnerReaders::call_value))]
+#[tactic(auto, unfolding(crate::specs::InnerStmtReaders::call_value))]
 fn call_value(alloc: Global, c: &mut Cursor, depth: u32) -> Result<Rhs, Stop>
     ensures { Gave result c.new (call_value depth c.old) }
 {
@@ -78,7 +78,7 @@ fn call_value(alloc: Global, c: &mut Cursor, depth: u32) -> Result<Rhs, Stop>
     Ok(Rhs::Call(name, out, span))
 }
 
-#[tactic(auto, unfolding(crate::specs::InnerReaders::rhs))]
+#[tactic(auto, unfolding(crate::specs::InnerStmtReaders::rhs))]
 fn rhs(alloc: Global, c: &mut Cursor, depth: u32) -> Result<Rhs, Stop>
     ensures { Gave result c.new (rhs depth c.old) }
 {
@@ -93,7 +93,7 @@ fn rhs(alloc: Global, c: &mut Cursor, depth: u32) -> Result<Rhs, Stop>
 }
 
 /// A variable, or the cell of an array.
-#[tactic(auto, unfolding(crate::specs::InnerReaders::left_side_named))]
+#[tactic(auto, unfolding(crate::specs::InnerStmtReaders::left_side_named))]
 fn named(alloc: Global, c: &mut Cursor, depth: u32) -> Result<Lval, Stop>
     ensures { Gave result c.new (left_side_named depth c.old) }
 {
@@ -113,7 +113,7 @@ fn named(alloc: Global, c: &mut Cursor, depth: u32) -> Result<Lval, Stop>
     Ok(Lval::Var(var))
 }
 
-#[tactic(auto, unfolding(crate::specs::InnerReaders::lval))]
+#[tactic(auto, unfolding(crate::specs::InnerStmtReaders::lval))]
 fn lval(alloc: Global, c: &mut Cursor, depth: u32) -> Result<Lval, Stop>
     ensures { Gave result c.new (lval depth c.old) }
 {
@@ -129,7 +129,7 @@ fn lval(alloc: Global, c: &mut Cursor, depth: u32) -> Result<Lval, Stop>
 }
 
 /// A further left side and the comma before it.
-#[tactic(auto, unfolding(crate::specs::InnerReaders::next_lval))]
+#[tactic(auto, unfolding(crate::specs::InnerStmtReaders::next_lval))]
 fn next_lval(alloc: Global, c: &mut Cursor, depth: u32) -> Result<Lval, Stop>
     ensures { Gave result c.new (next_lval depth c.old) }
 {
@@ -198,7 +198,7 @@ fn is_assignment(token: &Token) -> bool
         || is_shift_assignment(token)
 }
 
-#[tactic(auto, unfolding(crate::specs::Trees::number_operation))]
+#[tactic(auto, unfolding(crate::specs::StmtTrees::number_operation))]
 fn number_operation(token: &Token) -> Option<BinOp>
     ensures { result ≡ number_operation token.now }
 {
@@ -221,7 +221,7 @@ fn number_operation(token: &Token) -> Option<BinOp>
     }
 }
 
-#[tactic(auto, unfolding(crate::specs::Trees::bit_operation))]
+#[tactic(auto, unfolding(crate::specs::StmtTrees::bit_operation))]
 fn bit_operation(token: &Token) -> Option<BinOp>
     ensures { result ≡ bit_operation token.now }
 {
@@ -247,7 +247,7 @@ fn bit_operation(token: &Token) -> Option<BinOp>
 }
 
 /// The operation of an assignment, none where it only sets.
-#[tactic(auto, unfolding(crate::specs::Trees::operation_of))]
+#[tactic(auto, unfolding(crate::specs::StmtTrees::operation_of))]
 fn operation_of(token: &Token) -> Option<BinOp>
     ensures { result ≡ operation_of token.now }
 {
@@ -272,7 +272,7 @@ fn operation(c: &mut Cursor) -> Result<Option<BinOp>, Stop>
 }
 
 /// What stands behind an `if` after the right side.
-#[tactic(auto, unfolding(crate::specs::InnerReaders::condition))]
+#[tactic(auto, unfolding(crate::specs::InnerStmtReaders::condition))]
 fn condition(alloc: Global, c: &mut Cursor, depth: u32) -> Result<Option<Expr>, Stop>
     ensures { Gave result c.new (condition depth c.old) }
 {
@@ -296,7 +296,7 @@ fn span_of_lval(to: &Lval) -> Span
 }
 
 /// An assignment: where its first left side stands, and what it does.
-#[tactic(auto, unfolding(crate::specs::InnerReaders::assign, crate::specs::InnerReaders::set_to))]
+#[tactic(auto, unfolding(crate::specs::InnerStmtReaders::assign, crate::specs::InnerStmtReaders::set_to))]
 fn assign(alloc: Global, c: &mut Cursor, depth: u32) -> Result<(Span, StmtKind), Stop>
     ensures { Gave result c.new (assign depth c.old) }
 {
@@ -313,7 +313,7 @@ fn assign(alloc: Global, c: &mut Cursor, depth: u32) -> Result<(Span, StmtKind),
 }
 
 /// A call that sets nothing.
-#[tactic(auto, unfolding(crate::specs::InnerReaders::call))]
+#[tactic(auto, unfolding(crate::specs::InnerStmtReaders::call))]
 fn call(alloc: Global, c: &mut Cursor, depth: u32) -> Result<(Span, StmtKind), Stop>
     ensures { Gave result c.new (call depth c.old) }
 {
@@ -330,7 +330,7 @@ fn call(alloc: Global, c: &mut Cursor, depth: u32) -> Result<(Span, StmtKind), S
     Ok((span, kind))
 }
 
-#[tactic(auto, unfolding(crate::specs::InnerReaders::simple))]
+#[tactic(auto, unfolding(crate::specs::InnerStmtReaders::simple))]
 pub fn simple(alloc: Global, c: &mut Cursor, depth: u32) -> Result<(Span, StmtKind), Stop>
     ensures { Gave result c.new (simple depth c.old) }
 {

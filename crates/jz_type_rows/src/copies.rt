@@ -57,7 +57,7 @@ fn not_passed(args: &Seq<Expr>, number: Option<usize>, to: &Lval) -> Option<Span
 }
 
 fn not_passed_among(args: &Seq<Expr>, given: &[Pair<'_, Option<usize>, Lval>]) -> Option<Span>
-    ensures { result ≡ first_in (not_passed args.now) (map pair_of given_results.now) }
+    ensures { result ≡ first_in (not_passed args.now) (map pair_of given.now) }
 {
     let mut first = None;
     for pair in given {
@@ -93,7 +93,7 @@ fn numbers_back(
     args: &Seq<Expr>,
     given: &[Pair<'_, Option<usize>, Lval>],
 ) -> Result<Vec<usize>, AllocError>
-    ensures { IfOk result (λ ns. ns.items ≡ numbers_back args.now (map pair_of given_results.now)) }
+    ensures { IfOk result (λ ns. ns.items ≡ numbers_back args.now (map pair_of given.now)) }
 {
     let mut numbers = Vec::new(alloc);
     for pair in given {
