@@ -11,9 +11,9 @@ use Rattle.x64_insn.specs.Encoding.{spelling_of}
 use Rattle.jz_first.specs.declared.tree.BinOp.TheVariants.{Add}
 use Rattle.jz_first.specs.declared.tree.Expr.TheVariants as expr
 use Rattle.jz_first.specs.declared.tree.Rhs.TheVariants as rhs
-use Rattle.jz_runs.specs.Out.{Out}
-use Rattle.jz_runs.specs.Transformer.{Transformer}
-use Rattle.jz_runs.specs.Applying.{body_events}
+use Rattle.jz_leak.specs.declared.transformer.Out.{Out}
+use Rattle.jz_leak.specs.declared.transformer.Transformer.{Transformer}
+use Rattle.jz_leak.specs.Applying.{body_events}
 use Rattle.jz_first_meaning.specs.StraightRuns.{plain_leak}
 use Rattle.jz_safety.specs.Alarms.{HasNoAlarm}
 use Rattle.jz_safety.specs.Resolved.{IsResolved, AssignsToDeclared}

@@ -13,10 +13,10 @@ use Rattle.jz_first.specs.declared.tree.Decl.{Decl}
 use Rattle.jz_first.specs.declared.tree.Ty.{Ty}
 use Rattle.jz_first.specs.declared.tree.Var.{Var}
 use Rattle.jz_first.specs.declared.tree.Stmt.{Stmt}
-use Rattle.jz_runs.specs.Event.TheVariants as event
-use Rattle.jz_runs.specs.Form.TheVariants as form
-use Rattle.jz_runs.specs.Out.TheVariants as out
-use Rattle.jz_runs.specs.Applying.{apply_of, body_events, is_cut, Fits, OutFits, CasesFit}
+use Rattle.jz_leak.specs.declared.event.Event.TheVariants as event
+use Rattle.jz_leak.specs.declared.transformer.Form.TheVariants as form
+use Rattle.jz_leak.specs.declared.transformer.Out.TheVariants as out
+use Rattle.jz_leak.specs.Applying.{apply_of, body_events, is_cut, Fits, OutFits, CasesFit}
 use Rattle.jz_runs.specs.Rules.{went}
 use Rattle.jz_first_meaning.specs.SourceStates.{Value, word, key_of, Store, with_value_at}
 use Rattle.jz_first_meaning.specs.SourceValues.{Evaluation, and_then, variable_value}

@@ -15,8 +15,8 @@ use Rattle.x64_insn.specs.Rows.{reg_value, reg_word}
 use Rattle.jz_first.specs.declared.tree.Program.{Program}
 use Rattle.jz_first.specs.declared.tree.Fun.{Fun}
 use Rattle.jz_first.specs.declared.tree.Stmt.{Stmt}
-use Rattle.jz_runs.specs.Event.TheVariants as event
-use Rattle.jz_runs.specs.Applying.{apply_of}
+use Rattle.jz_leak.specs.declared.event.Event.TheVariants as event
+use Rattle.jz_leak.specs.Applying.{apply_of}
 use Rattle.jz_first_meaning.proofs.SomeLabels.{constant_time}
 use Rattle.jz_runs.specs.Rules.{stuck, went}
 use Rattle.jz_first_meaning.specs.SourceStates.{State, Value, empty_store}

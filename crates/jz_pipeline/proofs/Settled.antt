@@ -7,12 +7,12 @@ use Rattle.x64_insn.specs.declared.types.Reg.{Reg}
 use Rattle.jz_first.specs.declared.tree.Program.{Program}
 use Rattle.jz_first.specs.declared.tree.Fun.{Fun}
 use Rattle.jz_first.specs.declared.tree.Stmt.{Stmt}
-use Rattle.jz_runs.specs.Event.{Event}
-use Rattle.jz_runs.specs.Out.{Out}
-use Rattle.jz_runs.specs.Case.{Case}
-use Rattle.jz_runs.specs.Case.TheVariants as case
-use Rattle.jz_runs.specs.Transformer.{Transformer}
-use Rattle.jz_runs.specs.Applying.{event_of, events_for, body_events, last_events, apply_of}
+use Rattle.jz_leak.specs.declared.event.Event.{Event}
+use Rattle.jz_leak.specs.declared.transformer.Out.{Out}
+use Rattle.jz_leak.specs.declared.transformer.Case.{Case}
+use Rattle.jz_leak.specs.declared.transformer.Case.TheVariants as case
+use Rattle.jz_leak.specs.declared.transformer.Transformer.{Transformer}
+use Rattle.jz_leak.specs.Applying.{event_of, events_for, body_events, last_events, apply_of}
 use Rattle.jz_first_meaning.specs.SourceRuns.{FunOutcome, IsRun}
 use Rattle.jz_first_meaning.specs.StraightRuns.{plain_leak}
 use Rattle.jz_safety.specs.Alarms.{HasNoAlarm}

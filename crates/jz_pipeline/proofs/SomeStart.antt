@@ -15,7 +15,7 @@ use Rattle.x64_insn.specs.declared.types.State.{State}
 use Rattle.x64_insn.specs.Rows.{reg_value, reg_word}
 use Rattle.jz_first.specs.declared.tree.Fun.{Fun}
 use Rattle.jz_first.specs.declared.tree.Var.{Var}
-use Rattle.jz_runs.specs.Transformer.{Transformer}
+use Rattle.jz_leak.specs.declared.transformer.Transformer.{Transformer}
 use Rattle.jz_listing.specs.declared.compiled.Arg.{Arg}
 use Rattle.jz_listing.specs.declared.compiled.Compiled.{Compiled}
 use Rattle.x64_machine.specs.MachineRuns.{start_of}

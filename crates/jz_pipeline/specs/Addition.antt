@@ -22,11 +22,11 @@ use Rattle.jz_first.specs.declared.tree.Rhs.{Rhs}
 use Rattle.jz_first.specs.declared.tree.Rhs.TheVariants as rhs
 use Rattle.jz_first.specs.declared.tree.Stmt.{Stmt}
 use Rattle.jz_first.specs.declared.tree.StmtKind.TheVariants.{Assign}
-use Rattle.jz_runs.specs.Form.TheVariants.{Frame}
-use Rattle.jz_runs.specs.Out.{Out}
-use Rattle.jz_runs.specs.Out.TheVariants.{Addr}
-use Rattle.jz_runs.specs.Case.TheVariants.{Op}
-use Rattle.jz_runs.specs.Transformer.{Transformer}
+use Rattle.jz_leak.specs.declared.transformer.Form.TheVariants.{Frame}
+use Rattle.jz_leak.specs.declared.transformer.Out.{Out}
+use Rattle.jz_leak.specs.declared.transformer.Out.TheVariants.{Addr}
+use Rattle.jz_leak.specs.declared.transformer.Case.TheVariants.{Op}
+use Rattle.jz_leak.specs.declared.transformer.Transformer.{Transformer}
 use Rattle.jz_listing.specs.declared.compiled.Arg.{Arg}
 use Rattle.jz_listing.specs.declared.compiled.Compiled.{Compiled}
 

@@ -8,11 +8,11 @@ use Rattle.x64_insn.specs.declared.types.Insn.TheVariants as insn
 use Rattle.jz_first.specs.declared.tree.Fun.{Fun}
 use Rattle.jz_first.specs.declared.tree.Var.{Var}
 use Rattle.jz_first.specs.declared.tree.Stmt.{Stmt}
-use Rattle.jz_runs.specs.Form.TheVariants.{Frame}
-use Rattle.jz_runs.specs.Out.TheVariants as out
-use Rattle.jz_runs.specs.Case.{Case}
-use Rattle.jz_runs.specs.Case.TheVariants.{Op}
-use Rattle.jz_runs.specs.Transformer.{Transformer}
+use Rattle.jz_leak.specs.declared.transformer.Form.TheVariants.{Frame}
+use Rattle.jz_leak.specs.declared.transformer.Out.TheVariants as out
+use Rattle.jz_leak.specs.declared.transformer.Case.{Case}
+use Rattle.jz_leak.specs.declared.transformer.Case.TheVariants.{Op}
+use Rattle.jz_leak.specs.declared.transformer.Transformer.{Transformer}
 use Rattle.jz_listing.specs.declared.compiled.Arg.{Arg}
 use Rattle.jz_listing.specs.declared.compiled.Compiled.{Compiled}
 use Rattle.jz_correct.specs.Registers.{argument_registers, result_registers}

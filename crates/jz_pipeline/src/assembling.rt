@@ -7,7 +7,7 @@ ghost use Rattle.jz_pipeline.specs.Compiling.{straight_transformer};
 
 use jz_first::{Seq, Stmt};
 use jz_io::Bytes;
-use jz_runs::{Case, Form, Out, Tr, Transformer};
+use jz_leak::{Case, Form, Out, Tr, Transformer};
 use std::alloc::{AllocError, Global};
 use x64_encode::encode;
 use x64_insn::Insn;

@@ -14,9 +14,9 @@ ghost use Rattle.jz_safety.specs.Resolved.{IsResolved};
 ghost use Rattle.jz_correct.specs.Correctness.{IsCorrect};
 ghost use Rattle.jz_lower.specs.Straight.{IsStraight};
 ghost use Rattle.jz_lower.specs.Placing.{IsPlacing};
-ghost use Rattle.jz_runs.specs.Transformer.{Transformer};
+ghost use Rattle.jz_leak.specs.declared.transformer.Transformer.{Transformer};
 ghost use Rattle.jz_pipeline.specs.Compiling.{compiled_of, straight_transformer};
-ghost use Rattle.jz_runs.specs.Out.{Out};
+ghost use Rattle.jz_leak.specs.declared.transformer.Out.{Out};
 ghost use Rattle.jz_pipeline.specs.Addition.{addition, addition_alone, added_function, shows_more};
 ghost use Rattle.jz_pipeline.specs.Placed.{IsPlaceable};
 

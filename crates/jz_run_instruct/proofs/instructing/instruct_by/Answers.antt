@@ -16,9 +16,9 @@ returns-in_err-results c =
     (λ r. changed c.results_of.new.out (state_of c.args.state.now) r ≡ numbers_first c.args.out.now (instruction_done (Some c.args.instance) c.args.to.now c.args.operands.now c.args.span (state_of c.args.state.now)))
     c.from_residual.ensures.1 c.in_err-results.ensures
     (λ k h. results_refused c.args.out.now c.results_of.new.out c.args.span c.intrinsic_size-size.result
-        (intrinsic_size c.args.instance.name c.args.instance.size c.args.to.now c.args.operands.now) c.args.to.now (state_of c.args.state.now)
-        (λ z. sized_results c.args.instance.name c.args.span z c.args.operands.now (state_of c.args.state.now)) (search rules) k
-        (h ∙ ap (λ es. numbers_first c.args.out.now (sized_results c.args.instance.name c.args.span c.intrinsic_size-size.result es (state_of c.args.state.now))) c.as_slice-operands.ensures))
+    (intrinsic_size c.args.instance.name c.args.instance.size c.args.to.now c.args.operands.now) c.args.to.now (state_of c.args.state.now)
+    (λ z. sized_results c.args.instance.name c.args.span z c.args.operands.now (state_of c.args.state.now)) (search rules) k
+    (h ∙ ap (λ es. numbers_first c.args.out.now (sized_results c.args.instance.name c.args.span c.intrinsic_size-size.result es (state_of c.args.state.now))) c.as_slice-operands.ensures))
 
 pub returns-in_err-write_all : goal.returns-in_err-write_all
 returns-in_err-write_all c =
@@ -27,10 +27,10 @@ returns-in_err-write_all c =
     (λ r. changed c.write_all.new.out (state_of c.write_all.new.state) r ≡ numbers_first c.args.out.now (instruction_done (Some c.args.instance) c.args.to.now c.args.operands.now c.args.span (state_of c.args.state.now)))
     c.from_residual-in_err-write_all.ensures.1 c.in_err-write_all.ensures
     (λ k h. results_written c.args.out.now c.results_of.new.out c.args.span c.intrinsic_size-size.result
-        (intrinsic_size c.args.instance.name c.args.instance.size c.args.to.now c.args.operands.now) c.args.to.now (state_of c.args.state.now)
-        (λ z. sized_results c.args.instance.name c.args.span z c.args.operands.now (state_of c.args.state.now)) (search rules)
-        c.in_ok-results.results c.as_slice.result.now _ (search rules)
-        (c.in_ok-results.ensures ∙ ap (λ es. numbers_first c.args.out.now (sized_results c.args.instance.name c.args.span c.intrinsic_size-size.result es (state_of c.args.state.now))) c.as_slice-operands.ensures) h)
+    (intrinsic_size c.args.instance.name c.args.instance.size c.args.to.now c.args.operands.now) c.args.to.now (state_of c.args.state.now)
+    (λ z. sized_results c.args.instance.name c.args.span z c.args.operands.now (state_of c.args.state.now)) (search rules)
+    c.in_ok-results.results c.as_slice.result.now _ (search rules)
+    (c.in_ok-results.ensures ∙ ap (λ es. numbers_first c.args.out.now (sized_results c.args.instance.name c.args.span c.intrinsic_size-size.result es (state_of c.args.state.now))) c.as_slice-operands.ensures) h)
 
 pub returns : goal.returns
 returns c =
