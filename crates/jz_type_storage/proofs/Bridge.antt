@@ -12,7 +12,7 @@ use Rattle.jz_type_names.specs.Parts.{called_by, statements_of, layer_of}
 use Rattle.jz_type_storage.specs.Recursion.{callees, Calls, Reaches, calls, further, CallsAt}
 use Rattle.jz_type_storage.specs.Numbers.{number_named}
 use Rattle.jz_type_storage.specs.InnerNumbers.{called_number, numbers_by, numbers_called, graph_of, Has, row_of, IsClosed, Leads}
-use Rattle.jz_type_storage.specs.Numbers as by_number
+use Rattle.jz_type_storage.specs.InnerNumbers as by_number
 use Rattle.jz_type_storage.proofs.Naming.{At, named_by_function, named_by_number}
 
 -- ---- what a list of pieces contains

@@ -3,7 +3,7 @@ use Rattle.std.proofs.Common.{◌≡◌, ℕ, zero, suc, ◌+◌, ◌<◌, ◌�
 use Rattle.std.specs.Prelude.{count_by}
 use Rattle.std.proofs.lemmas.List.Sums.{sum_by-cons}
 use Rattle.std.proofs.Math.ListN.{get_or-eq_default}
-use Rattle.jz_type_storage.specs.Numbers.{directly, further}
+use Rattle.jz_type_storage.specs.InnerNumbers.{directly, further}
 use Rattle.jz_type_storage.specs.InnerNumbers.{Has, row_of, Leads, IsFound, Falls, Descends}
 
 within_or_not : (j k : ℕ) → (j < k) ⊎ (k ≤ j)

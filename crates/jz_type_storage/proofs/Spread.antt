@@ -5,7 +5,7 @@ use Rattle.std.proofs.lemmas.List.Sums.{sum_by-set}
 use Rattle.std.proofs.Math.ListN.{get_or-append}
 use Rattle.std.proofs.Math.Seq.{get_or-append_seam}
 use Rattle.std.proofs.lemmas.Grind.{get_or_default_zero}
-use Rattle.jz_type_storage.specs.Numbers.{directly, further}
+use Rattle.jz_type_storage.specs.InnerNumbers.{directly, further}
 use Rattle.jz_type_storage.specs.InnerNumbers.{Has, row_of, Leads, IsClosed, Consistent, VisitsAll, IsFound}
 
 has_left : (xs : List ℕ) (y j : ℕ) → Has xs j → Has (xs ++ y ∷ []) j

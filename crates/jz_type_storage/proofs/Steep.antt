@@ -10,7 +10,7 @@ use Rattle.jz_type_names.specs.Order.{here}
 use Rattle.jz_type_names.proofs.Standing.{AtLeast}
 use Rattle.jz_type_storage.specs.declared.fall.Candidate.{Candidate}
 use Rattle.jz_type_storage.specs.declared.recursion.Ranking.TheVariants.{Recursive}
-use Rattle.jz_type_storage.specs.Numbers.{directly, further}
+use Rattle.jz_type_storage.specs.InnerNumbers.{directly, further}
 use Rattle.jz_type_storage.specs.InnerNumbers.{Has, row_of, graph_of, numbers_called, Leads, Falls, Descends}
 use Rattle.jz_type_storage.specs.InnerCandidates.{IsCandidate, IsNoLater, IsSteep, Stands}
 use Rattle.jz_type_storage.specs.Recursion.{IsRecursive, Tells}
