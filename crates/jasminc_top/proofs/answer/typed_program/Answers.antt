@@ -50,5 +50,5 @@ returns-clause-program c =
       written = program;
       reads = reads_from text tokens program lexed derived;
       typed = ok_says (λ t. IsTyped program) c.check.result typed c.in_ok-typed.ensures.ok c.check.ensures.typed;
-      is = ok_says (λ t. t.program ≡ resolved_program program) c.check.result typed c.in_ok-typed.ensures.ok c.check.ensures.resolved;
+      is = ok_says (λ t. t.program ≡ resolved_program program) c.check.result typed c.in_ok-typed.ensures.ok c.check.ensures.resolved_program;
     }
