@@ -3,10 +3,10 @@ use Rattle.std.proofs.Common.{◌≡◌, ℕ, zero, suc, ◌+◌, ◌-◌, ◌<�
 use Rattle.std.specs.Prelude.{ℤ, if◌then◌else◌, Result, Ok, Err}
 use Rattle.std.proofs.lemmas.List.{drop_all}
 use Rattle.jz_tree.specs.Span.{Span}
-use Rattle.jz_meaning.specs.Leak as shown_leak
-use Rattle.jz_meaning.specs.Item.{Item}
-use Rattle.jz_meaning.specs.Item.TheVariants as item
-use Rattle.jz_meaning.specs.Turn.{Turn}
+use Rattle.jz_leak.specs.declared.leak.Leak as shown_leak
+use Rattle.jz_leak.specs.declared.leak.Item.{Item}
+use Rattle.jz_leak.specs.declared.leak.Item.TheVariants as item
+use Rattle.jz_leak.specs.declared.leak.Turn.{Turn}
 use Rattle.jz_tree.specs.declared.expr.BinOp.{BinOp}
 use Rattle.jz_tree.specs.declared.expr.Expr.{Expr}
 use Rattle.jz_tree.specs.declared.expr.Var.{Var}

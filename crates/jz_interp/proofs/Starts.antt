@@ -9,7 +9,7 @@ use Rattle.jz_tree.specs.declared.expr.Var.{Var}
 use Rattle.jz_tree.specs.declared.program.Program.{Program}
 use Rattle.jz_tree.specs.declared.program.Fun.{Fun}
 use Rattle.jz_tree.specs.declared.program.Param.{Param}
-use Rattle.jz_meaning.specs.Item.{Item}
+use Rattle.jz_leak.specs.declared.leak.Item.{Item}
 use Rattle.jz_meaning.specs.Trees.{done}
 use Rattle.jz_meaning.specs.Rules.{stuck, went, Outcome, End, Cut, Stuck}
 use Rattle.jz_meaning.specs.declared.value.Stuck as why

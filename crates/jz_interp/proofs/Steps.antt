@@ -1,12 +1,12 @@
 -- The rules of runs with the leak as it is shown, from the first statement on.
 use Rattle.std.proofs.Common.{◌≡◌, ℕ, zero, suc, ◌≤◌, Bool, true, false, List, [], ◌∷◌, ◌++◌, ℤ, refl, sym, ap, ◌∙◌, subst, arith, append_assoc, append-nil, if◌then◌else◌}
-use Rattle.jz_meaning.specs.Leak as shown_leak
-use Rattle.jz_meaning.specs.Item.{Item}
-use Rattle.jz_meaning.specs.Item.TheVariants as item
-use Rattle.jz_meaning.specs.Turn.{Turn}
-use Rattle.jz_meaning.specs.RunLeaks as leak
-use Rattle.jz_meaning.specs.RunLeaks.{Leak, Turns, Rounds}
-use Rattle.jz_meaning.specs.Shown.{items_of, turns_of, rounds_of}
+use Rattle.jz_leak.specs.declared.leak.Leak as shown_leak
+use Rattle.jz_leak.specs.declared.leak.Item.{Item}
+use Rattle.jz_leak.specs.declared.leak.Item.TheVariants as item
+use Rattle.jz_leak.specs.declared.leak.Turn.{Turn}
+use Rattle.jz_leak.specs.RunLeaks as leak
+use Rattle.jz_leak.specs.RunLeaks.{Leak, Turns, Rounds}
+use Rattle.jz_leak.specs.Shown.{items_of, turns_of, rounds_of}
 use Rattle.jz_meaning.specs.Trees.{Tree, done, op, quiet, choose, loop, each, call}
 use Rattle.jz_meaning.specs.Rules.{Attempt, stuck, went, Parts, Outcome, End, Cut, Stuck, after, Goes, finished, did, did_not, quieted, chosen, chosen_cut, chosen_stuck, chose_not, loop_left, loop_cut, loop_stuck, counted, counted_cut, counted_stuck, counted_not, call_ended, call_cut, call_stuck, entered_not, left_not, Loops, in_prologue, prologue_stuck, tested_not, leaves_loop, no_turn, in_body, body_stuck, more_turns, Counts, no_count, more_counts, count_cut, count_stuck}
 use Rattle.jz_meaning.proofs.Steady.{not_more}

@@ -3,7 +3,7 @@ use Rattle.std.specs.Prelude.{ℕ, List, [], ◌++◌, length, Result, Ok, Err}
 use Rattle.jz_tree.specs.Word as code_word
 use Rattle.jz_tree.specs.Memory.{Memory}
 use Rattle.jz_tree.specs.declared.program.Fun.{Fun}
-use Rattle.jz_meaning.specs.RunLeaks.{Leak}
+use Rattle.jz_leak.specs.RunLeaks.{Leak}
 use Rattle.jz_meaning.specs.Trees.{done}
 use Rattle.jz_meaning.specs.Rules.{stuck, went, Outcome, Goes}
 use Rattle.jz_meaning.specs.declared.value.Stuck as why

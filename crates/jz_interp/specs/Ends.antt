@@ -2,8 +2,8 @@
 use Rattle.std.specs.Prelude.{ℕ, ℤ, List, [], ◌∷◌, Result, Ok, Err}
 use Rattle.jz_tree.specs.Failure.{Failure}
 use Rattle.jz_tree.specs.Failures.{IfAnswered}
-use Rattle.jz_meaning.specs.Leak as shown_leak
-use Rattle.jz_meaning.specs.Item.{Item}
+use Rattle.jz_leak.specs.declared.leak.Leak as shown_leak
+use Rattle.jz_leak.specs.declared.leak.Item.{Item}
 use Rattle.jz_tree.specs.declared.expr.Var.{Var}
 use Rattle.jz_meaning.specs.Rules.{Outcome, End, Cut, Stuck}
 use Rattle.jz_meaning.specs.declared.value.Stuck as why

@@ -6,7 +6,7 @@ use Rattle.jz_tree.specs.Memory.{Memory}
 use Rattle.jz_tree.specs.declared.program.Program.{Program}
 use Rattle.jz_tree.specs.declared.program.Fun.{Fun}
 use Rattle.jz_tree.specs.declared.program.Param.{Param}
-use Rattle.jz_meaning.specs.Shown.{shown_of}
+use Rattle.jz_leak.specs.Shown.{shown_of}
 use Rattle.jz_meaning.specs.Rules.{End, Cut, Stuck}
 use Rattle.jz_meaning.specs.States.{Value, word}
 use Rattle.jz_meaning.specs.Values.{ref_of}

@@ -2,7 +2,7 @@
 use Rattle.std.specs.Prelude.{◌≡◌, ℕ, ℤ, List, Result, Ok, Err}
 use Rattle.jz_tree.specs.Failure.{Failure}
 use Rattle.jz_tree.specs.Failures.{IfAnswered}
-use Rattle.jz_meaning.specs.Leak as shown_leak
+use Rattle.jz_leak.specs.declared.leak.Leak as shown_leak
 use Rattle.jz_tree.specs.declared.expr.Var.{Var}
 use Rattle.jz_meaning.specs.Rules.{stuck, went, Outcome}
 use Rattle.jz_meaning.specs.declared.value.Stuck as why

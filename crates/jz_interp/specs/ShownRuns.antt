@@ -1,12 +1,12 @@
 -- Runs with what they leak as it is shown: of a body, of the turns of a `while`, of the rounds of a
 -- `for`, and of the statements of a body before whatever follows them.
 use Rattle.std.specs.Prelude.{◌≡◌, ◌<◌, ℕ, ℤ, Bool, List, [], ◌∷◌, ◌++◌}
-use Rattle.jz_meaning.specs.Leak as shown_leak
-use Rattle.jz_meaning.specs.Item.{Item}
-use Rattle.jz_meaning.specs.Item.TheVariants as item
-use Rattle.jz_meaning.specs.Turn.{Turn}
-use Rattle.jz_meaning.specs.RunLeaks.{Leak, Turns, Rounds}
-use Rattle.jz_meaning.specs.Shown.{items_of, turns_of, rounds_of}
+use Rattle.jz_leak.specs.declared.leak.Leak as shown_leak
+use Rattle.jz_leak.specs.declared.leak.Item.{Item}
+use Rattle.jz_leak.specs.declared.leak.Item.TheVariants as item
+use Rattle.jz_leak.specs.declared.leak.Turn.{Turn}
+use Rattle.jz_leak.specs.RunLeaks.{Leak, Turns, Rounds}
+use Rattle.jz_leak.specs.Shown.{items_of, turns_of, rounds_of}
 use Rattle.jz_meaning.specs.Trees.{Tree}
 use Rattle.jz_meaning.specs.Rules.{Attempt, stuck, went, Parts, Outcome, End, Cut, Stuck, after}
 use Rattle.jz_meaning.specs.Rules.{Goes, Loops, Counts}

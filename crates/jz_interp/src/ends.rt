@@ -1,11 +1,11 @@
 //! How parts of a run end.
 
 ghost use Rattle.std.specs.Prelude.{◌≡◌, [], ◌∷◌, IfOk};
-ghost use Rattle.jz_meaning.specs.Item.TheVariants as item;
+ghost use Rattle.jz_leak.specs.declared.leak.Item.TheVariants as item;
 ghost use Rattle.jz_interp.specs.ShownRuns.{leak_of, turn_of};
 ghost use Rattle.jz_interp.specs.Ends.{wrapped_run};
 
-use jz_meaning::{Item, Leak, Turn};
+use jz_leak::{Item, Leak, Turn};
 use jz_tree::Seq;
 use std::alloc::{AllocError, Global};
 

@@ -1,6 +1,7 @@
 //! What a run takes and what it comes to.
 
-use jz_meaning::{Leak, MemMap, Stuck};
+use jz_leak::{Leak, MemMap};
+use jz_meaning::Stuck;
 use jz_tree::{Seq, Word};
 
 /// The arguments of a function, one for each parameter and of its size, and the valid memory.
