@@ -1,6 +1,6 @@
 -- The statements of a body, and what stands in one statement itself: its expressions, the names
 -- that it reads, sets and calls.
-use Rattle.std.specs.Prelude.{List, [], ◌∷◌, ◌++◌, flat_map, map, Some, None, option_to_list}
+use Rattle.std.specs.Prelude.{Bool, true, false, List, [], ◌∷◌, ◌++◌, flat_map, map, Some, None, option_to_list}
 use Rattle.jz_tree.specs.Span.{Span}
 use Rattle.jz_tree.specs.declared.expr.Expr.{Expr}
 use Rattle.jz_tree.specs.declared.expr.Ty.{Ty}
@@ -146,6 +146,11 @@ read_by k = flat_map names_in (exprs_of k)
 -- the names in its expressions that stand before an index
 abbrev pub arrays_read_by : Layer → List Name
 arrays_read_by k = flat_map arrays_in (exprs_of k)
+
+-- `_`
+abbrev pub is_skip : Lval → Bool
+is_skip (lval.Skip at) = true
+is_skip _ = false
 
 -- the whole variables among the left sides
 abbrev pub whole_left : Lval → List Var

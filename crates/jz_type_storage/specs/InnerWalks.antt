@@ -16,12 +16,6 @@ use Rattle.jz_tree.specs.declared.stmt.StmtKind.TheFolds.{fold-StmtKind}
 unfoldable pub members : List (List ℕ) → Names
 members ks n = list_any (bytes_eq n) ks
 
-abbrev pub text_of : Var → List ℕ
-text_of v = (out-Var v).name
-
-abbrev pub text_of_param : Param → List ℕ
-text_of_param p = text_of p.var
-
 -- what an assignment does
 abbrev pub flow_of_assigned : Assigned → Flow
 flow_of_assigned a = assigning a.to.now a.op.now a.from.now a.cond.now
