@@ -15,8 +15,8 @@ use crate::walk::fault;
 use crate::wants::Want;
 use jz_tree::{Decl, Expr, Fun, FunKind, Lval, Param, Ret, Seq, Span, Var};
 use jz_type_names::{
-    Kind, declaration, earlier_of, is_array, is_skip, known, same_kind, same_storage, span_of, unless,
-    written_length,
+    Kind, declaration, earlier_of, is_array, is_skip, known, same_kind, same_storage, span_of,
+    unless, written_length,
 };
 
 fn same_length(a: Option<i128>, b: Option<i128>) -> bool
