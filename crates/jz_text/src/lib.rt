@@ -4,5 +4,5 @@
 mod numbers;
 mod registers;
 
-pub use numbers::{write_digits, write_number, write_span};
+pub use numbers::{write_digits, write_number, write_signed, write_span};
 pub use registers::reg_name;
