@@ -9,7 +9,7 @@ use crate::Constant;
 use crate::arithmetic::{inverted, negated, on_integers};
 use crate::lookup::Numbers;
 use crate::sides::{LeftSide, Waiting, left_side};
-use jz_tree::{BinOp, Expr};
+use jz_tree::{BinOp, Expr, joins};
 use std::alloc::{AllocError, Global};
 
 pub(super) fn minus(value: Option<Constant>) -> Option<Constant>
@@ -43,12 +43,6 @@ pub(super) fn is_settled(op: BinOp, left: Constant) -> bool
         (BinOp::OrElse, Constant::Bool(truth)) => truth,
         _ => false,
     }
-}
-
-fn joins(op: BinOp) -> bool
-    ensures { result ≡ values.joins op }
-{
-    matches!(op, BinOp::AndThen | BinOp::OrElse)
 }
 
 pub(super) fn on_both(op: BinOp, left: Constant, right: Constant) -> Option<Constant>

@@ -6,6 +6,7 @@ use Rattle.x64_insn.specs.Size.{Size}
 use Rattle.x64_insn.specs.Size.TheVariants.{S64}
 use Rattle.x64_insn.specs.Sizes.{modulus}
 use Rattle.x64_insn.specs.Words.{sum_of, carry_of, difference_of, borrow_of}
+use Rattle.jz_tree.specs.Operators.{carries}
 use Rattle.jz_tree.specs.declared.expr.BinOp.{BinOp}
 use Rattle.jz_tree.specs.declared.expr.BinOp.TheVariants as o
 use Rattle.jz_tree.specs.declared.expr.Expr.{Expr}
@@ -111,12 +112,6 @@ is_flag_layer _ = false
 
 abbrev pub is_flag : Expr → Bool
 is_flag e = is_flag_layer (out-Expr e)
-
--- `+` and `+`, or `-` and `-`
-abbrev pub carries : BinOp → BinOp → Bool
-carries o.Add o.Add = true
-carries o.Sub o.Sub = true
-carries _ _ = false
 
 -- `d op= e` is `d = d op e`; `d += e + c` and `d -= e - c` with a bool c are `d + e + c` and `d - e - c`
 abbrev pub updated_layer : BinOp → Expr → Expr → Span → Layer → Expr

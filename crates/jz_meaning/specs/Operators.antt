@@ -1,10 +1,11 @@
 -- What the operators give on words, on whole numbers and on flags. What typing excludes has no value.
-use Rattle.std.specs.Prelude.{ℕ, ◌-◌, ◌*◌, ◌/◌, ◌%◌, ◌==◌, nat_lt, nat_le, bit_and, bit_or, bit_xor, Bool, true, false, not, ◌&&◌, ◌||◌, [], ◌∷◌, Option, Some, None, option_map, if◌then◌else◌, ℤ, pos, int_lt, int_le, int_div, int_rem}
+use Rattle.std.specs.Prelude.{ℕ, ◌-◌, ◌*◌, ◌/◌, ◌%◌, ◌==◌, nat_lt, nat_le, bit_and, bit_or, bit_xor, Bool, false, not, ◌&&◌, ◌||◌, [], ◌∷◌, Option, Some, None, option_map, if◌then◌else◌, ℤ, pos, int_lt, int_le, int_div, int_rem}
 use Rattle.std.specs.Option.{option_and_then}
 use Rattle.jz_tree.specs.Span.{Span}
 use Rattle.x64_insn.specs.Size.{Size}
 use Rattle.x64_insn.specs.Sizes.{bits_of, modulus, half, signed}
 use Rattle.x64_insn.specs.Words.{sum_of, difference_of, residue, shl_of, shr_of, sar_of, rol_of, ror_of}
+use Rattle.jz_tree.specs.Operators.{is_shift, joins}
 use Rattle.jz_tree.specs.declared.expr.BinOp.{BinOp}
 use Rattle.jz_tree.specs.declared.expr.BinOp.TheVariants as o
 use Rattle.jz_integers.specs.declared.constant.Constant.{Constant}
@@ -101,20 +102,7 @@ by_flag _ s a c = None
 
 -- ---- values
 
-abbrev pub is_shift : BinOp → Bool
-is_shift o.Shl = true
-is_shift o.Shr = true
-is_shift o.Sar = true
-is_shift o.Rol = true
-is_shift o.Ror = true
-is_shift _ = false
-
 -- `&&` and `||`: the left part alone may give the answer, else the right one does
-abbrev pub joins : BinOp → Bool
-joins o.AndThen = true
-joins o.OrElse = true
-joins _ = false
-
 abbrev pub joined : BinOp → Bool → Option Value
 joined op right = if joins op then Some (boolean right) else None
 

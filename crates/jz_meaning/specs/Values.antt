@@ -15,6 +15,7 @@ use Rattle.jz_tree.specs.declared.expr.Var.{Var}
 use Rattle.jz_tree.specs.declared.expr.Access.{Access}
 use Rattle.jz_tree.specs.declared.expr.Expr.TheOpen.{Expr-F, Ty-F, Access-F, Decl-F, Var-F}
 use Rattle.jz_tree.specs.declared.expr.Expr.TheFolds.{fold-Expr, fold-Access, fold-Decl, fold-Var}
+use Rattle.jz_tree.specs.Operators.{is_shift}
 use Rattle.jz_meaning.specs.declared.access.Kind.{Kind}
 use Rattle.jz_meaning.specs.declared.access.Kind.TheVariants as kind
 use Rattle.jz_meaning.specs.declared.value.Stuck.{Stuck}
@@ -22,7 +23,7 @@ use Rattle.jz_meaning.specs.declared.value.Why.TheVariants.{Bounds, Address, Ali
 use Rattle.jz_runs.specs.Rules.{stuck, went}
 use Rattle.jz_meaning.specs.Attempts.{Evaluation, stuck_at, and_then, defined}
 use Rattle.jz_meaning.specs.States.{Value, word, boolean, integer, Key, Store, State}
-use Rattle.jz_meaning.specs.Operators.{word_at, is_shift, binary, is_settled, negated, inverted, cast}
+use Rattle.jz_meaning.specs.Operators.{word_at, binary, is_settled, negated, inverted, cast}
 
 -- ---- variables
 

@@ -18,7 +18,7 @@ pub use laws::{
     one_outcome, same_with_as_many_used, same_with_more_turns, some_outcome,
 };
 pub use left::{gives_word, own_size};
-pub use operators::{binary, cast, inverted_value, is_settled, is_shift, negated_value, word_of};
+pub use operators::{binary, cast, inverted_value, is_settled, negated_value, word_of};
 pub use state::State;
 pub use store::Store;
 pub use value::{Stuck, Value, Why, defined, missing};

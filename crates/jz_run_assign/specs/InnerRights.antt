@@ -2,7 +2,8 @@
 use Rattle.std.specs.Prelude.{◌≡◌, true}
 use Rattle.jz_tree.specs.declared.expr.Expr.{Expr}
 use Rattle.jz_tree.specs.declared.expr.Expr.TheVariants as expr
-use Rattle.jz_meaning.specs.Assignments.{carries, is_flag}
+use Rattle.jz_tree.specs.Operators.{carries}
+use Rattle.jz_meaning.specs.Assignments.{is_flag}
 use Rattle.jz_run_assign.specs.declared.right.Place.{Place}
 use Rattle.jz_run_assign.specs.declared.right.Place.TheVariants as place
 use Rattle.jz_run_assign.specs.declared.right.Operand.{Operand}

@@ -18,6 +18,7 @@ use Rattle.jz_tree.specs.declared.expr.Var.{Var}
 use Rattle.jz_tree.specs.declared.expr.Expr.TheOpen.{Expr-F}
 use Rattle.jz_tree.specs.declared.expr.Expr.TheViews.{out-roll-Expr, roll-Expr, out-Access}
 use Rattle.jz_tree.specs.declared.expr.Expr.TheFolds.{fold-roll-Expr, ind-Expr, map-Expr}
+use Rattle.jz_tree.specs.Operators.{is_shift}
 use Rattle.jz_type_names.specs.declared.kinds.Kind as known
 use Rattle.jz_type_names.specs.Kinds.{Known, known_of}
 use Rattle.jz_type_sizes.specs.declared.operators.Group.{Group}
@@ -35,7 +36,7 @@ use Rattle.jz_meaning.specs.declared.access.Kind.TheVariants as kind
 use Rattle.jz_meaning.specs.declared.value.Why.TheVariants.{Bounds, Align}
 use Rattle.jz_meaning.specs.Attempts.{Evaluation, stuck_at, and_then, defined}
 use Rattle.jz_meaning.specs.States.{Value, word, boolean, integer, Store, State}
-use Rattle.jz_meaning.specs.Operators.{is_shift, is_settled, combined, shifted, binary, negated, inverted, cast}
+use Rattle.jz_meaning.specs.Operators.{is_settled, combined, shifted, binary, negated, inverted, cast}
 use Rattle.jz_meaning.specs.Operators as operators
 use Rattle.jz_meaning.specs.Values.{Ref, key_of, cell_key, in_cells, index_at, cell_value, MemoryAccess, is_aligned, accessed, load_word, address_at, load_at, gives_word, size_of_operation, left_wanted, right_wanted, with_right, run_binary, expr_step, ty_step, access_step, decl_step, var_step, ref_of, access_of, own_size, evaluated}
 use Rattle.jz_run_laws.specs.Kinds.{Kinds, kind_at, IsOfKind, IsOfKinds, HoldsKinds}

@@ -16,6 +16,7 @@ use Rattle.jz_tree.specs.declared.expr.Expr.TheViews.{out-Expr, roll-Expr, roll-
 use Rattle.jz_tree.specs.declared.expr.Expr.TheFolds.{fold-roll-Expr}
 use Rattle.jz_tree.specs.declared.stmt.Lval.{Lval}
 use Rattle.jz_tree.specs.declared.stmt.Lval.TheVariants as lval
+use Rattle.jz_tree.specs.Operators.{carries}
 use Rattle.jz_type_names.specs.declared.kinds.Kind.{Kind}
 use Rattle.jz_type_names.specs.declared.kinds.Kind.TheVariants as kind
 use Rattle.jz_type_names.specs.Kinds.{Known, known_of, is_array}
@@ -31,7 +32,7 @@ use Rattle.jz_judgement.specs.Lefts.{IsSound, IsFlag, IsProduct, Wants, Leaves, 
 use Rattle.jz_judgement.proofs.Nothing.{none_not, same_some}
 use Rattle.jz_meaning.proofs.LeftSideLemmas.{or_assoc, size_bin}
 use Rattle.jz_meaning.specs.Values.{ref_of, own_size, size_of_operation, expr_step, ty_step, access_step, decl_step, var_step}
-use Rattle.jz_meaning.specs.Assignments.{left_size, left_sizes, left_span, as_expr, carries, is_flag, updated_layer, updated, last_left, whole_of}
+use Rattle.jz_meaning.specs.Assignments.{left_size, left_sizes, left_span, as_expr, is_flag, updated_layer, updated, last_left, whole_of}
 use Rattle.jz_run_laws.specs.Counted.{Counted}
 use Rattle.jz_run_laws.specs.Lefts.{IsCountedLeft, typed_lefts}
 use Rattle.jz_run_laws.proofs.SameKinds.{known_plain, known_cells}

@@ -6,6 +6,7 @@ mod copying;
 mod copying_statements;
 mod expr;
 mod intrinsic;
+mod operators;
 mod program;
 mod stmt;
 
@@ -16,5 +17,6 @@ pub use intrinsic::{Instance, Intrinsic, spelled};
 pub use jz_data::{Boxed, Failure, Seq, Text};
 pub use jz_io::Span;
 pub use jz_words::{Size, Word};
+pub use operators::{divides, is_shift, joins};
 pub use program::{Const, Fun, FunKind, Note, NoteValue, Param, Program, Ret};
 pub use stmt::{Lval, Rhs, Stmt, StmtKind};
