@@ -6,7 +6,7 @@ use Rattle.x64_insn.specs.Size.{Size}
 use Rattle.x64_insn.specs.Size.TheVariants.{S64}
 use Rattle.x64_insn.specs.Sizes.{modulus}
 use Rattle.x64_insn.specs.Words.{sum_of, carry_of, difference_of, borrow_of}
-use Rattle.jz_tree.specs.Operators.{carries}
+pub use Rattle.jz_tree.specs.Operators.{carries}
 use Rattle.jz_tree.specs.declared.expr.BinOp.{BinOp}
 use Rattle.jz_tree.specs.declared.expr.BinOp.TheVariants as o
 use Rattle.jz_tree.specs.declared.expr.Expr.{Expr}

@@ -5,7 +5,7 @@ use Rattle.jz_tree.specs.Span.{Span}
 use Rattle.x64_insn.specs.Size.{Size}
 use Rattle.x64_insn.specs.Sizes.{bits_of, modulus, half, signed}
 use Rattle.x64_insn.specs.Words.{sum_of, difference_of, residue, shl_of, shr_of, sar_of, rol_of, ror_of}
-use Rattle.jz_tree.specs.Operators.{is_shift, joins}
+pub use Rattle.jz_tree.specs.Operators.{is_shift, joins}
 use Rattle.jz_tree.specs.declared.expr.BinOp.{BinOp}
 use Rattle.jz_tree.specs.declared.expr.BinOp.TheVariants as o
 use Rattle.jz_integers.specs.declared.constant.Constant.{Constant}
