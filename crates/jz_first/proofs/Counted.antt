@@ -4,7 +4,7 @@ use Rattle.jz_grammar.proofs.LexingWords.{if_false}
 use Rattle.jz_grammar.specs.Span.{Span}
 use Rattle.jz_grammar.specs.Token.{Token}
 use Rattle.jz_grammar.specs.Kinds.{Kind, word, sign, identifier, number, span_of, is_in, has}
-use Rattle.jz_grammar.specs.InnerReading.{Answer, Reader, ◌>>=◌, through, follow, depend, pick, many_by}
+use Rattle.jz_grammar.specs.Readers.{Answer, Reader, ◌>>=◌, through, follow, depend, pick, many_by}
 use Rattle.jz_grammar.specs.Grammar.{Lang, token, ◌▸◌, ◌⊕◌, ◌⇒◌, never, each, each_by, at_most, then_by, maybe}
 use Rattle.jz_grammar.proofs.Laws.{Shape, IsReader, HasPhrase, one_shape, full, many_shape}
 use Rattle.jz_grammar.proofs.Basics.{disjoint_nil, all_in}

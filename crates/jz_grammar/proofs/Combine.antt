@@ -5,7 +5,7 @@ use Rattle.jz_lex.specs.declared.token.Token.{Token}
 use Rattle.jz_lex.specs.Span.{Span}
 use Rattle.jz_grammar.specs.Causes.{Cause, Unexpected, TooDeep}
 use Rattle.jz_grammar.specs.Kinds.{Kind, same, disjoint, is_in, has}
-use Rattle.jz_grammar.specs.InnerReading.{Answer, Reader, ◌>>=◌, through, one, nothing, follow, pick, nest, many_at, many, leaf, opening, inside, optional}
+use Rattle.jz_grammar.specs.Readers.{Answer, Reader, ◌>>=◌, through, one, nothing, follow, pick, nest, many_at, many, leaf, opening, inside, optional}
 use Rattle.jz_grammar.specs.Grammar.{Marked, Lang, plain, token, empty, ◌▸◌, ◌⊕◌, ◌⇒◌, nested_phrase, each, at_most, opens, maybe}
 use Rattle.jz_grammar.proofs.Laws.{Shape, head_of, First, outcome, Next, Begun, Found, Stopped, IsReader, HasPhrase, one_shape, empty_shape, both, either, full, many_shape}
 use Rattle.jz_grammar.specs.Deriving.{plus}

@@ -3,7 +3,7 @@ use Rattle.std.proofs.Common.{◌≡◌, ℕ, zero, suc, ◌-◌, List, [], ◌�
 use Rattle.jz_lex.specs.declared.token.Token.{Token}
 use Rattle.jz_grammar.specs.Causes.{Cause}
 use Rattle.jz_grammar.specs.Kinds.{Kind, disjoint, has}
-use Rattle.jz_grammar.specs.InnerReading.{Answer, Reader, ◌>>=◌, through, follow, many, many_at, more_of, few_of, listed_items, listed_few}
+use Rattle.jz_grammar.specs.Readers.{Answer, Reader, ◌>>=◌, through, follow, many, many_at, more_of, few_of, listed_items, listed_few}
 use Rattle.jz_grammar.specs.Grammar.{Lang, ◌▸◌, ◌⇒◌, each, at_most}
 use Rattle.jz_grammar.proofs.Laws.{IsReader, full, both, many_shape}
 use Rattle.jz_grammar.proofs.Combine.{many_next, many_done, many_reads, at_most_reads, some_at_most, follow_reads, map_reads, reads_as}
