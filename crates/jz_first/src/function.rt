@@ -12,7 +12,7 @@ use jz_grammar::{Cursor, Seq, Stop};
 use std::alloc::Global;
 
 /// What stands between the braces of a function.
-#[derive(Drop, PartialEq, Eq)]
+#[derive(Drop)]
 pub struct Body {
     pub vars: Seq<Var>,
     pub stmts: Seq<Stmt>,

@@ -13,7 +13,7 @@ use jz_grammar::{Cursor, Seq, Stop};
 use std::alloc::{AllocError, Global};
 
 /// A declaration of variables, or a statement.
-#[derive(Drop, PartialEq, Eq)]
+#[derive(Drop)]
 pub enum Item {
     Declares(Seq<Var>),
     Does(Stmt),

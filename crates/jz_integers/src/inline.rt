@@ -1,8 +1,9 @@
 //! The values of inline expressions.
 
 ghost use Rattle.std.specs.Prelude.{◌≡◌, IfOk};
+ghost use Rattle.jz_tree.specs.InnerSides.{IsSingle};
 ghost use Rattle.jz_integers.specs.Integers as values;
-ghost use Rattle.jz_integers.specs.InnerLeftSides.{IsSingle, value_after};
+ghost use Rattle.jz_integers.specs.InnerLeftSides.{value_after};
 
 use crate::Constant;
 use crate::arithmetic::{inverted, negated, on_integers};

@@ -17,8 +17,8 @@ use crate::ends::{Ran, RoundsEnd, TurnEnd, end_of_if, one, turn};
 use crate::parts::{Counter, Named, Test};
 use crate::straight::{run_instruction, run_value};
 use jz_leak::{Item, Leak};
-use jz_meaning::{State, Stuck, Value};
-use jz_run_assign::{Assignment, Call, enter, leave, missing, set, truth_in, unset_all, value_of};
+use jz_meaning::{State, Stuck, Value, missing};
+use jz_run_assign::{Assignment, Call, enter, leave, set, truth_in, unset_all, value_of};
 use jz_tree::{Failure, Rhs, Seq, Stmt, StmtKind, Var};
 use std::mem::replace;
 

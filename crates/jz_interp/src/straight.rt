@@ -8,8 +8,8 @@ ghost use Rattle.jz_interp.specs.Ends.{RunsPiece};
 use crate::ends::{Ran, one};
 use crate::parts::Named;
 use jz_leak::Item;
-use jz_meaning::{State, Stuck};
-use jz_run_assign::{Assignment, assign, missing};
+use jz_meaning::{State, Stuck, missing};
+use jz_run_assign::{Assignment, assign};
 use jz_run_instruct::instruct;
 use jz_tree::{Expr, Failure, Lval, Seq};
 

@@ -2,8 +2,9 @@
 
 ghost use Rattle.std.specs.Prelude.{◌≡◌};
 ghost use Rattle.jz_tree.specs.Failures.{IfAnswered};
+ghost use Rattle.jz_tree.specs.InnerSides.{IsSingle};
 ghost use Rattle.jz_meaning.specs.Attempts.{Evaluates, value_seen};
-ghost use Rattle.jz_meaning.specs.InnerEvaluating.{IsDetermined, IsSingle, go_on};
+ghost use Rattle.jz_meaning.specs.InnerEvaluating.{IsDetermined, go_on};
 ghost use Rattle.jz_meaning.specs.States.{as_value};
 ghost use Rattle.jz_meaning.specs.Stores.{state_of};
 ghost use Rattle.jz_meaning.specs.Values as values;

@@ -3,10 +3,11 @@
 
 ghost use Rattle.std.specs.Prelude.{◌≡◌, IfOk};
 ghost use Rattle.std.specs.Option.{option_or};
-ghost use Rattle.jz_meaning.specs.InnerEvaluating.{IsDetermined, IsSingle, IsLeftSide};
+ghost use Rattle.jz_meaning.specs.InnerEvaluating.{IsDetermined, IsLeftSide};
 ghost use Rattle.jz_meaning.specs.Operators.{is_shift};
 ghost use Rattle.jz_meaning.specs.Values as values;
 ghost use Rattle.std.specs.Prelude.{if◌then◌else◌};
+ghost use Rattle.jz_tree.specs.InnerSides.{IsSingle};
 
 use crate::access::{kind_of, size_of};
 use crate::operators::is_shift;

@@ -21,4 +21,4 @@ pub use left::{gives_word, own_size};
 pub use operators::{binary, cast, inverted_value, is_settled, is_shift, negated_value, word_of};
 pub use state::State;
 pub use store::Store;
-pub use value::{Stuck, Value, Why, defined};
+pub use value::{Stuck, Value, Why, defined, missing};

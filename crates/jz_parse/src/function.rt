@@ -12,14 +12,14 @@ use jz_tree::{Fun, FunKind, Seq, Stmt, Var};
 use std::alloc::Global;
 
 /// A declaration of variables, or a statement.
-#[derive(Drop, PartialEq, Eq)]
+#[derive(Drop)]
 pub enum Item {
     Declares(Seq<Var>),
     Does(Stmt),
 }
 
 /// What stands between the braces of a function.
-#[derive(Drop, PartialEq, Eq)]
+#[derive(Drop)]
 pub struct Body {
     pub vars: Seq<Var>,
     pub stmts: Seq<Stmt>,

@@ -12,7 +12,7 @@ use jz_tree::{Const, Fun, Program, Seq};
 use std::alloc::Global;
 
 /// A constant or a function.
-#[derive(Drop, PartialEq, Eq)]
+#[derive(Drop)]
 pub enum Part {
     Constant(Const),
     Function(Fun),

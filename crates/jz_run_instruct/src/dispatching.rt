@@ -9,8 +9,7 @@ ghost use Rattle.jz_run_instruct.specs.InnerRows.{one_word_results, two_word_res
 use crate::operands::{with_carry, with_condition, with_count, with_division, with_one, with_two};
 use crate::results::Results;
 use crate::rows::{OneWord, Row, SizedOp, TwoWords, row_of};
-use jz_meaning::{State, Stuck};
-use jz_run_assign::missing;
+use jz_meaning::{State, Stuck, missing};
 use jz_tree::{Expr, Failure, Intrinsic, Seq, Span};
 use x64_insn::{Alu, Shift, Size};
 

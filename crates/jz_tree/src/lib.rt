@@ -9,6 +9,7 @@ mod intrinsic;
 mod program;
 mod stmt;
 
+pub use copying::{LeftSide, LeftStep};
 pub use copying_statements::{copy_block, copy_exprs, copy_lvals, copy_notes, copy_vars};
 pub use expr::{Access, BinOp, Decl, Expr, Storage, Ty, Var};
 pub use intrinsic::{Instance, Intrinsic, spelled};
