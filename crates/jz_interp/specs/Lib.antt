@@ -4,4 +4,3 @@ pub mod Ends
 pub mod Outcomes
 pub mod Parts
 pub mod Rounds
-pub mod ShownRuns
