@@ -33,13 +33,13 @@ use Rattle.jz_meaning.specs.Statements.{Condition, Counter, Call, source, does, 
 use Rattle.jz_meaning.specs.Statements.{counts, begins, restores, enters, leaves}
 use Rattle.jz_meaning.specs.Statements.{all_passed, all_unset}
 use Rattle.jz_meaning.specs.Runs.{Callee, Callees, block, statement_tree, callees_of, call_tree, instruction_tree, with_tree}
-use Rattle.jz_interp.specs.Calls.{called_function}
-use Rattle.jz_interp.specs.Rounds.{RoundsOf}
+use Rattle.jz_interp.specs.InnerCalls.{called_function}
+use Rattle.jz_interp.specs.InnerRounds.{RoundsOf}
 use Rattle.jz_interp.specs.declared.ends.Ran.{Ran}
 use Rattle.jz_interp.specs.declared.ends.Ran.TheVariants as ran_as
 use Rattle.jz_interp.specs.declared.ends.TurnEnd.{TurnEnd}
 use Rattle.jz_interp.specs.declared.ends.RoundsEnd.{RoundsEnd}
-use Rattle.jz_interp.specs.Ends.{seen_outcome, turn_seen, rounds_seen, wrapped_run}
+use Rattle.jz_interp.specs.InnerEnds.{seen_outcome, turn_seen, rounds_seen, wrapped_run}
 use Rattle.jz_run_assign.proofs.RestLemmas.{rest_at}
 use Rattle.jz_interp.proofs.Pieces.{mark_is}
 

@@ -25,7 +25,7 @@ use Rattle.jz_meaning.specs.Runs.{block, callees_of, with_arguments, entry_state
 use Rattle.jz_interp.specs.declared.outcome.Outcome as code
 use Rattle.jz_interp.specs.declared.outcome.Outcome.TheVariants as outcome
 use Rattle.jz_interp.specs.Outcomes.{values_of, Takes, Shows, Interprets}
-use Rattle.jz_interp.specs.Answers.{values_first, BodyShows}
+use Rattle.jz_interp.specs.InnerAnswers.{values_first, BodyShows}
 use Rattle.jz_run_assign.proofs.RestLemmas.{rest_at, rest_some, rest_none}
 
 -- ---- arguments

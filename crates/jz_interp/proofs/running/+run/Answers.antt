@@ -14,11 +14,11 @@ use Rattle.jz_meaning.specs.Values.{key_of, ref_of}
 use Rattle.jz_meaning.specs.Statements.{source, tests, counts, leaves, enters}
 use Rattle.jz_meaning.specs.Runs.{block, statement_tree}
 use Rattle.jz_run_assign.specs.Passings.{call_of, entered_store}
-use Rattle.jz_interp.specs.Parts.{callees_in, condition_of, counter_of, inner_block}
-use Rattle.jz_interp.specs.Parts.{body_piece, inner_body, assignment_tree, named_call_tree, while_tree}
-use Rattle.jz_interp.specs.Rounds.{values_left, evaluated_values, RoundsOf}
-use Rattle.jz_interp.specs.Ends.{seen_outcome, turn_seen, rounds_seen}
-use Rattle.jz_interp.specs.Ends.{PieceGoes, TurnGoes, TestGoes, RoundsGo}
+use Rattle.jz_interp.specs.InnerParts.{callees_in, condition_of, counter_of, inner_block}
+use Rattle.jz_interp.specs.InnerParts.{body_piece, inner_body, assignment_tree, named_call_tree, while_tree}
+use Rattle.jz_interp.specs.InnerRounds.{values_left, evaluated_values, RoundsOf}
+use Rattle.jz_interp.specs.InnerEnds.{seen_outcome, turn_seen, rounds_seen}
+use Rattle.jz_interp.specs.InnerEnds.{PieceGoes, TurnGoes, TestGoes, RoundsGo}
 use Rattle.jz_interp.proofs.Falls.{weights_at, one_deeper}
 use Rattle.jz_interp.proofs.Pieces.{assign_is, if_is, while_is, for_is}
 use Rattle.jz_meaning.proofs.AttemptLemmas.{handed_on}

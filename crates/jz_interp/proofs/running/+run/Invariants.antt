@@ -4,8 +4,8 @@ use Rattle.jz_runs.specs.ShownRuns.{Passed, Turned}
 use Rattle.jz_meaning.specs.Stores.{state_of}
 use Rattle.jz_meaning.specs.Statements.{source}
 use Rattle.jz_meaning.specs.Runs.{block, callees_of}
-use Rattle.jz_interp.specs.Parts.{condition_of, inner_block, inner_body}
-use Rattle.jz_interp.specs.Rounds.{values_left}
+use Rattle.jz_interp.specs.InnerParts.{condition_of, inner_block, inner_body}
+use Rattle.jz_interp.specs.InnerRounds.{values_left}
 use Rattle.jz_interp.proofs.Rules.{CountedOf}
 use Rattle.jz_interp.proofs.Weights.{weight, weights, body_weight, level}
 use Rattle.jz_interp.proofs.running.+run.Given as goal

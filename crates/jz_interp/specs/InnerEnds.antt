@@ -15,7 +15,7 @@ use Rattle.jz_meaning.specs.declared.state.State as code
 use Rattle.jz_meaning.specs.States.{State}
 use Rattle.jz_meaning.specs.Stores.{state_of}
 use Rattle.jz_meaning.specs.Statements.{Block, Condition, source}
-use Rattle.jz_interp.specs.Rounds.{RoundsOf}
+use Rattle.jz_interp.specs.InnerRounds.{RoundsOf}
 use Rattle.jz_interp.specs.declared.ends.Ran.{Ran}
 use Rattle.jz_interp.specs.declared.ends.Ran.TheVariants as ran_as
 use Rattle.jz_interp.specs.declared.ends.TurnEnd.{TurnEnd}
