@@ -1,4 +1,5 @@
-//! Code that no text of the first language gives, and the places or the refusal that it has to come to.
+//! Code that no text of the first language gives, and the places or the refusal that it has to come
+//! to.
 
 use jz_alloc::{NoPlace, Places, allocate};
 use jz_io::Span;
@@ -73,8 +74,8 @@ const PF: Place = Place::Flag(Flag::Pf);
 
 const ZF: Place = Place::Flag(Flag::Zf);
 
-/// An operation: its line and column, what it reads and writes, the places that it writes besides, and what it needs, each
-/// need with its line and column.
+/// An operation: its line and column, what it reads and writes, the places that it writes besides,
+/// and what it needs, each need with its line and column.
 struct Step(
     u32,
     u32,
@@ -84,8 +85,8 @@ struct Step(
     &'static [(u32, Place, u32, u32)],
 );
 
-/// Code over words, and behind them over flags, with the places of its variables; or, where there are none, the variable
-/// without a place, what it needs, and who holds that.
+/// Code over words, and behind them over flags, with the places of its variables; or, where there
+/// are none, the variable without a place, what it needs, and who holds that.
 struct Row {
     steps: &'static [Step],
     words: u32,

@@ -2,7 +2,7 @@
 
 ghost use Rattle.std.specs.Prelude.{◌≡◌, []};
 ghost use Rattle.jz_grammar.specs.Kinds.{has};
-ghost use Rattle.jz_grammar.specs.InnerGave.{Gave};
+ghost use Rattle.jz_grammar.specs.Gave.{Gave};
 ghost use Rattle.jz_first.specs.InnerReaders.{next_used, used_more, variables, name_starts, names, variables_returned, ending, body, function, functions_more, program};
 
 use crate::declare::{MOST_NAMES, params, results};

@@ -2,8 +2,8 @@
 
 ghost use Rattle.jz_meaning.specs.Trees as tree;
 ghost use Rattle.jz_meaning.specs.Statements as statements;
-ghost use Rattle.jz_interp.specs.Parts.{value_assignment, named_instruction_tree};
-ghost use Rattle.jz_interp.specs.Ends.{RunsPiece};
+ghost use Rattle.jz_interp.specs.InnerParts.{value_assignment, named_instruction_tree};
+ghost use Rattle.jz_interp.specs.InnerEnds.{RunsPiece};
 
 use crate::ends::{Ran, one};
 use crate::parts::Named;

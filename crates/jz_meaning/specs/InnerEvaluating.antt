@@ -1,5 +1,5 @@
--- An expression by its left side, which may be as long as a text: the operations that wait for their left operand, and the operand
--- where it ends.
+-- An expression by its left side, which may be as long as a text: the operations that wait for
+-- their left operand, and the operand where it ends.
 use Rattle.std.specs.Prelude.{List, [], ◌∷◌, Option, ◌≡◌}
 use Rattle.std.specs.Option.{option_or}
 use Rattle.x64_insn.specs.Size.{Size}

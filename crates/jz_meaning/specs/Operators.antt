@@ -1,4 +1,5 @@
--- What the operators give on words, on whole numbers and on flags. What typing excludes has no value.
+-- What the operators give on words, on whole numbers and on flags. What typing excludes has no
+-- value.
 use Rattle.std.specs.Prelude.{ℕ, ◌-◌, ◌*◌, ◌/◌, ◌%◌, ◌==◌, nat_lt, nat_le, bit_and, bit_or, bit_xor, Bool, false, not, ◌&&◌, ◌||◌, [], ◌∷◌, Option, Some, None, option_map, if◌then◌else◌, ℤ, pos, int_lt, int_le, int_div, int_rem}
 use Rattle.std.specs.Option.{option_and_then}
 use Rattle.jz_tree.specs.Span.{Span}
@@ -127,7 +128,8 @@ count_of (word z n) = Some n
 count_of (integer (pos n)) = Some n
 count_of _ = None
 
--- what is shifted has the size that is wanted, whatever the size of the count; both may be whole numbers
+-- what is shifted has the size that is wanted, whatever the size of the count; both may be whole
+-- numbers
 unfoldable pub shifted : BinOp → Option Size → Value → Value → Option Value
 shifted op w (word s a) y = option_and_then (shifted_word op s a) (count_of y)
 shifted op w (integer i) (integer j) = option_map of_constant (on_integers op i j)

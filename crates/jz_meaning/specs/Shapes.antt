@@ -78,6 +78,7 @@ shape_step (Expr-F.Bin op a b at) = operation_shape op a b
 abbrev pub shape_of : Sorts → Expr → Shape
 shape_of sorts = fold-Expr _ _ _ _ _ shape_step (λ t. tt) (λ a. a.at) (λ d. tt) (λ x. sorts x.name x.copy)
 
--- integers that inline variables and constants have, by name and copy: a store has no other values there
+-- integers that inline variables and constants have, by name and copy: a store has no other values
+-- there
 abbrev pub HoldsIntegers : (List ℕ → ℕ → Option ℤ) → Store → Type 0
 HoldsIntegers numbers store = (k : Key) (i : ℤ) (v : Value) → numbers k.name k.copy ≡ Some i → store k ≡ Some v → v ≡ integer i

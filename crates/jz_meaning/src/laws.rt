@@ -16,6 +16,7 @@ ghost use Rattle.jz_runs.specs.Rules.{went, Goes};
 ghost use Rattle.jz_meaning.specs.States.{State, Value};
 ghost use Rattle.jz_meaning.specs.Operators.{of_constant};
 ghost use Rattle.jz_meaning.specs.Values.{evaluated};
+ghost use Rattle.jz_meaning.specs.CallLaws.{ArgumentsAreAssigned};
 ghost use Rattle.jz_meaning.specs.CutLaws.{BodiesHoldCuts, FunctionsHoldCuts};
 ghost use Rattle.jz_meaning.specs.Shapes.{Sorts, HoldsSorts, shape_of, HoldsIntegers};
 
@@ -76,4 +77,10 @@ pub fn same_with_as_many_used()
 pub fn a_leak_holds_a_cut_where_its_run_was_cut()
     ensures statements { BodiesHoldCuts }
     ensures functions { FunctionsHoldCuts }
+{}
+
+/// A call passes a value to a parameter as an assignment to the parameter writes it. So what the
+/// parameter cannot hold is stuck at the parameter's place.
+pub fn arguments_are_assigned()
+    ensures { ArgumentsAreAssigned }
 {}

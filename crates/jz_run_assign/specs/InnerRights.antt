@@ -1,4 +1,5 @@
--- Right sides as the code has them, without trees of their own: the expressions that they stand for.
+-- Right sides as the code has them, without trees of their own: the expressions that they stand
+-- for.
 use Rattle.std.specs.Prelude.{◌≡◌, true}
 use Rattle.jz_tree.specs.declared.expr.Expr.{Expr}
 use Rattle.jz_tree.specs.declared.expr.Expr.TheVariants as expr

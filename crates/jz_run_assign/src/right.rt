@@ -194,8 +194,6 @@ pub(crate) fn right_of<'a>(
     }
 }
 
-// ---- sizes
-
 fn size_of_operation(op: BinOp, left: Option<Size>, right: Option<Size>) -> Option<Size>
     ensures { result ≡ values.size_of_operation op left right }
 {

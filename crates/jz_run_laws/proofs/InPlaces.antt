@@ -45,11 +45,11 @@ use Rattle.jz_run_laws.specs.Kept.{IfWent}
 use Rattle.jz_run_laws.proofs.Parts.{AnyOf, IfThere, went_then, went_any, went_defined, there_if}
 use Rattle.jz_run_laws.proofs.Stores.{cells_are_words}
 use Rattle.jz_run_laws.specs.Counted as counted
-use Rattle.jz_run_laws.specs.Counted.{Counted, CountedLayer, Each, EachLayer}
+use Rattle.jz_run_laws.specs.Counted.{Counted, Each, EachLayer}
 use Rattle.jz_run_laws.specs.Values.{IsAt, IsWanted}
 use Rattle.jz_run_laws.proofs.SameKinds as same
 use Rattle.jz_run_laws.proofs.SameKinds.{SameKind, SameKnown}
-use Rattle.jz_run_laws.proofs.Sizes.{meant_layer, size_law, says_law, variable_law, access_law, types_of, each_of}
+use Rattle.jz_run_laws.proofs.Sizes.{CountedLayer, meant_layer, size_law, says_law, variable_law, access_law, types_of, each_of}
 use Rattle.jz_run_laws.proofs.OperatorsInPlaces.{word_at, number_at, arith_at, carry_at, shift_at, integers_at, words_at, logic_at, negated_at, inverted_at, cast_at, is_arith, is_compare, is_moved}
 use Rattle.jz_run_laws.proofs.Placed.{size_at, sum_group}
 

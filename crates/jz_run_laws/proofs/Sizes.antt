@@ -30,7 +30,7 @@ use Rattle.jz_judgement.proofs.Variables.{word_sized, array_sized}
 use Rattle.jz_meaning.specs.declared.access.Kind as meant
 use Rattle.jz_meaning.specs.Values.{Meaning, MemoryAccess, Ref, meaning_of, ref_of, access_of, declared_kind, own_size, size_of_operation, expr_step, ty_step, access_step, decl_step, var_step, array_kind}
 use Rattle.jz_run_laws.specs.Counted as counted
-use Rattle.jz_run_laws.specs.Counted.{TyLayer, is_count, counted_type, counted_decl, is_counted, Counted, CountedLayer, Each, EachLayer}
+use Rattle.jz_run_laws.specs.Counted.{TyLayer, is_count, counted_type, counted_decl, is_counted, IsCounted, Counted, Each, EachLayer}
 use Rattle.jz_run_laws.proofs.Placed.{operation_says}
 use Rattle.jz_run_laws.proofs.SameKinds as same
 use Rattle.jz_run_laws.proofs.SameKinds.{SameKind, SameKnown, known_one, known_cells}
@@ -141,6 +141,9 @@ literal_layer (Expr-F.Neg a at) = refl
 literal_layer (Expr-F.Not a at) = refl
 literal_layer (Expr-F.Cast z s a at) = refl
 literal_layer (Expr-F.Bin o a b at) = refl
+
+abbrev pub CountedLayer : Layer → Type 0
+CountedLayer = EachLayer IsCounted
 
 layer_size : (y : Proved) (p : Place) → CountedLayer (bare y) → Types (bare y) p → (meant_layer (bare y)).size ≡ (typed_layer (bare y)).form.size
 layer_size (Expr-F.Num n at) p c t = refl

@@ -4,16 +4,18 @@ use Rattle.jz_tree.specs.Failure.{Failure}
 use Rattle.jz_tree.specs.Failures.{IfAnswered}
 use Rattle.jz_leak.specs.declared.leak.Leak as shown_leak
 use Rattle.jz_leak.specs.declared.leak.Item.{Item}
+use Rattle.jz_leak.specs.declared.leak.Turn.{Turn}
 use Rattle.jz_tree.specs.declared.expr.Var.{Var}
+use Rattle.jz_runs.specs.Views.{items_view}
+use Rattle.jz_runs.specs.ShownRuns.{Leads, IsTurn, IsTested}
+use Rattle.jz_runs.specs.ShownRuns.{TurnOutcome, last, more, cut, stuck_in}
 use Rattle.jz_meaning.specs.Rules.{Outcome, End, Cut, Stuck}
 use Rattle.jz_meaning.specs.declared.value.Stuck as why
 use Rattle.jz_meaning.specs.declared.state.State as code
 use Rattle.jz_meaning.specs.States.{State}
 use Rattle.jz_meaning.specs.Stores.{state_of}
 use Rattle.jz_meaning.specs.Statements.{Block, Condition, source}
-use Rattle.jz_interp.specs.ShownRuns.{Leads, IsTurn, IsTested}
-use Rattle.jz_interp.specs.ShownRuns.{TurnOutcome, last, more, cut, stuck_in}
-use Rattle.jz_interp.specs.Rounds.{RoundsOf}
+use Rattle.jz_interp.specs.InnerRounds.{RoundsOf}
 use Rattle.jz_interp.specs.declared.ends.Ran.{Ran}
 use Rattle.jz_interp.specs.declared.ends.Ran.TheVariants as ran_as
 use Rattle.jz_interp.specs.declared.ends.TurnEnd.{TurnEnd}
@@ -28,10 +30,10 @@ seen_outcome (Ok (ran_as.Cut is)) s = Cut is
 seen_outcome (Err k) s = Stuck k
 
 -- the same of a turn, and of rounds
-abbrev pub turn_seen : Result TurnEnd why.Stuck → State → TurnOutcome State why.Stuck
-turn_seen (Ok (turn_as.Last n x)) s = last s n x
-turn_seen (Ok (turn_as.More n x)) s = more s n x
-turn_seen (Ok (turn_as.Cut x)) s = cut x
+abbrev pub turn_seen : Result TurnEnd why.Stuck → State → TurnOutcome State why.Stuck Turn
+turn_seen (Ok (turn_as.Last n x)) s = last s n (x ∷ [])
+turn_seen (Ok (turn_as.More n x)) s = more s n (x ∷ [])
+turn_seen (Ok (turn_as.Cut x)) s = cut (x ∷ [])
 turn_seen (Err k) s = stuck_in k
 
 abbrev pub rounds_seen :
@@ -50,15 +52,15 @@ wrapped_run f (ran_as.Cut is) = ran_as.Cut (f is ∷ [])
 -- turn from its test on, of all rounds
 
 abbrev pub PieceGoes : (Block → Block) → ℕ → State → State → Result Ran why.Stuck → Type 0
-PieceGoes piece n s t r = Leads source piece n s (seen_outcome r t)
+PieceGoes piece n s t r = Leads items_view source piece n s (seen_outcome r t)
 
 abbrev pub TurnGoes :
     Block → Condition → Block → ℕ → State → State → Result TurnEnd why.Stuck → Type 0
-TurnGoes p c b n s t r = IsTurn source p c b n s (turn_seen r t)
+TurnGoes p c b n s t r = IsTurn items_view source p c b n s (turn_seen r t)
 
 abbrev pub TestGoes :
     List Item → Condition → Block → ℕ → State → State → Result TurnEnd why.Stuck → Type 0
-TestGoes is c b n s t r = IsTested source c b is n s (turn_seen r t)
+TestGoes is c b n s t r = IsTested items_view source c b is n s (turn_seen r t)
 
 abbrev pub RoundsGo :
     Var → Block → List ℤ → ℕ → State → State → Result RoundsEnd why.Stuck → Type 0

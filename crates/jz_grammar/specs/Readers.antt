@@ -29,10 +29,6 @@ unfoldable pub one : List Kind → Reader Token
 one ks [] = Err (Unexpected, [])
 one ks (t ∷ ts) = if is_in ks t then Ok (t, ts) else Err (Unexpected, t ∷ ts)
 
--- no token
-abbrev pub nothing : {A : Type 0} → A → Reader A
-nothing a ts = Ok (a, ts)
-
 -- one after the other
 abbrev pub follow : {A B : Type 0} → Reader A → Reader B → Reader (A × B)
 follow f g ts = f ts >>= λ x. g x.1 >>= λ y. Ok ((x.0, y.0), y.1)
@@ -44,11 +40,6 @@ depend f g ts = f ts >>= λ x. g x.0 x.1 >>= λ y. Ok ((x.0, y.0), y.1)
 -- the first if such a token stands there, else the second
 abbrev pub pick : {A : Type 0} → List Kind → Reader A → Reader A → Reader A
 pick ks f g ts = if has ks ts then f ts else g ts
-
--- such a token, and what is nested in it; d is how much may still be nested
-abbrev pub nest : {A : Type 0} → List Kind → (ℕ → Reader A) → ℕ → Reader (Token × A)
-nest ks inner zero ts = one ks ts >>= λ x. Err (TooDeep, ts)
-nest ks inner (suc d) ts = follow (one ks) (inner d) ts
 
 -- as often as such a token stands there, at most n times
 abbrev pub many_at : {A : Type 0} → ℕ → List Kind → Reader A → Reader (List A)
@@ -104,10 +95,3 @@ more_of ks f out ts = through (λ as'. out ++ as') (many ks f ts)
 
 abbrev pub few_of : {A : Type 0} → ℕ → List Kind → Reader A → List A → Reader (List A)
 few_of n ks f out ts = through (λ as'. out ++ as') (many_at n ks f ts)
-
--- one and any number more, or one and at most n more
-abbrev pub listed_items : {A : Type 0} → List Kind → Reader A → Reader A → Reader (List A)
-listed_items ks first f ts = first ts >>= λ x. more_of ks f (x.0 ∷ []) x.1
-
-abbrev pub listed_few : {A : Type 0} → ℕ → List Kind → Reader A → Reader A → Reader (List A)
-listed_few n ks first f ts = first ts >>= λ x. few_of n ks f (x.0 ∷ []) x.1

@@ -3,7 +3,7 @@ use Rattle.std.specs.Prelude.{ℕ, List, [], ◌∷◌, codes}
 use Rattle.jz_lex.specs.Span.{Span}
 use Rattle.jz_grammar.specs.Kinds.{Kind, word, sign, identifier, span_of}
 use Rattle.jz_grammar.specs.Tokens.{name_of}
-use Rattle.jz_grammar.specs.InnerReading.{Reader, ◌>>=◌, through, follow, leaf}
+use Rattle.jz_grammar.specs.Readers.{Reader, ◌>>=◌, through, follow, leaf}
 
 -- a sign, a keyword, by where it stands
 abbrev pub the : List ℕ → Reader Span

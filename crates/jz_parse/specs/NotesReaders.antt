@@ -2,13 +2,13 @@
 use Rattle.std.specs.Prelude.{ℕ, List, [], ◌∷◌, ◌++◌, codes}
 use Rattle.jz_tree.specs.Span.{Span}
 use Rattle.jz_grammar.specs.Kinds.{Kind, identifier, number, string, sign, span_of}
-use Rattle.jz_grammar.specs.InnerReading.{Reader, ◌>>=◌, through, follow, depend, pick, many, leaf, inside, optional, more_of}
+use Rattle.jz_grammar.specs.Readers.{Reader, ◌>>=◌, through, follow, depend, pick, many, leaf, inside, optional, more_of}
 use Rattle.jz_tree.specs.declared.program.Note.{Note}
 use Rattle.jz_tree.specs.declared.program.NoteValue.{NoteValue}
 use Rattle.jz_tree.specs.declared.program.NoteValue.TheVariants as value
 use Rattle.jz_grammar.specs.Tokens.{name_of, number_of_token, string_of}
 use Rattle.jz_parse.specs.NotesTable.{note_of, all_notes}
-pub use Rattle.jz_grammar.specs.InnerTokens.{ids}
+pub use Rattle.jz_grammar.specs.TokenReaders.{ids}
 
 abbrev pub numbers : List Kind
 numbers = number ∷ []

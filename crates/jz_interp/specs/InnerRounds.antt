@@ -4,13 +4,14 @@ use Rattle.jz_tree.specs.Failure.{Failure}
 use Rattle.jz_tree.specs.Failures.{IfAnswered}
 use Rattle.jz_leak.specs.declared.leak.Leak as shown_leak
 use Rattle.jz_tree.specs.declared.expr.Var.{Var}
+use Rattle.jz_runs.specs.Views.{items_view}
+use Rattle.jz_runs.specs.ShownRuns.{RunsRounds}
 use Rattle.jz_meaning.specs.Rules.{stuck, went, Outcome}
 use Rattle.jz_meaning.specs.declared.value.Stuck as why
 use Rattle.jz_meaning.specs.Attempts.{Evaluation, numbers_first}
 use Rattle.jz_meaning.specs.States.{State}
 use Rattle.jz_meaning.specs.Statements.{Block, Counter, source, values_between}
 use Rattle.jz_interp.specs.declared.counters.Values.{Values}
-use Rattle.jz_interp.specs.ShownRuns.{RunsRounds}
 
 -- the values that are left, in their order
 abbrev pub values_left : Values → List ℤ
@@ -30,4 +31,4 @@ GivesValues result before now e =
 -- the rounds of each `for` with this counter
 pub record RoundsOf (x : Var) (b : Block) (js : List ℤ) (n : ℕ) (s : State)
     (o : Outcome State why.Stuck (List shown_leak.Leak)) : Type 0 where
-  pub so : (f : Counter) → f.counter ≡ x → RunsRounds source f b js n s o
+  pub so : (f : Counter) → f.counter ≡ x → RunsRounds items_view source f b js n s o

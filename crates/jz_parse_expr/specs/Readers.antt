@@ -4,14 +4,14 @@ use Rattle.jz_tree.specs.Span.{Span}
 use Rattle.jz_tree.specs.Size.{Size}
 use Rattle.jz_grammar.specs.Causes.{Unexpected}
 use Rattle.jz_grammar.specs.Kinds.{Kind, word, sign, identifier, number, cast, span_of}
-use Rattle.jz_grammar.specs.InnerReading.{Reader, through, follow, pick, many, leaf, inside, optional}
+use Rattle.jz_grammar.specs.Readers.{Reader, through, follow, pick, many, leaf, inside, optional}
 use Rattle.jz_grammar.specs.Tokens.{name_of, number_of_token, cast_of, word_types, size_of_token}
 use Rattle.jz_tree.specs.declared.expr.Expr.{Expr}
 use Rattle.jz_tree.specs.declared.expr.Access.{Access}
 use Rattle.jz_tree.specs.declared.expr.BinOp.{BinOp}
 use Rattle.jz_parse_expr.specs.Operators.{ops_of, op_of, operators, level_count}
 use Rattle.jz_parse_expr.specs.Trees.{number_expr, bool_expr, name_expr, neg_expr, not_expr, access_of, load_expr, chain, Group, At, As, Plain, group_expr}
-pub use Rattle.jz_grammar.specs.InnerTokens.{key, the, name}
+pub use Rattle.jz_grammar.specs.TokenReaders.{key, the, name}
 
 -- the signs that begin an expression, the tokens that do, those that go on with one, and those that
 -- begin an access

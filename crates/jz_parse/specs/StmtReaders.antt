@@ -4,7 +4,7 @@ use Rattle.std.specs.Prelude.{ℕ, zero, suc, List, [], ◌∷◌, Bool, true, f
 use Rattle.jz_tree.specs.Span.{Span}
 use Rattle.jz_grammar.specs.Causes.{Unexpected}
 use Rattle.jz_grammar.specs.Kinds.{Kind, sign, word, identifier}
-use Rattle.jz_grammar.specs.InnerReading.{Reader, ◌>>=◌, through, follow, pick, pick_both, many, leaf, inside, optional, more_of}
+use Rattle.jz_grammar.specs.Readers.{Reader, ◌>>=◌, through, follow, pick, pick_both, many, leaf, inside, optional, more_of}
 use Rattle.jz_tree.specs.declared.expr.Expr.{Expr}
 use Rattle.jz_tree.specs.declared.expr.BinOp.{BinOp}
 use Rattle.jz_tree.specs.declared.stmt.Lval.{Lval}
@@ -13,12 +13,12 @@ use Rattle.jz_tree.specs.declared.stmt.Rhs.{Rhs}
 use Rattle.jz_tree.specs.declared.stmt.Rhs.TheVariants.{Value}
 use Rattle.jz_tree.specs.declared.stmt.Stmt.{Stmt}
 use Rattle.jz_tree.specs.declared.stmt.StmtKind.{StmtKind}
-use Rattle.jz_parse_expr.specs.InnerReaders.{expr, index, access, expr_starts}
-pub use Rattle.jz_grammar.specs.InnerTokens.{the, key, name}
+use Rattle.jz_parse_expr.specs.Readers.{expr, index, access, expr_starts}
+pub use Rattle.jz_grammar.specs.TokenReaders.{the, key, name}
 use Rattle.jz_parse.specs.StmtTrees.{assignments, operation_of, call_of, intrinsic_of, name_lval, span_of_lval, assign_statement, call_statement, if_statement, while_statement, for_statement, stmt_of}
 use Rattle.jz_grammar.specs.Parts.{or_empty}
-use Rattle.jz_parse.specs.InnerNotesReaders.{notes}
-pub use Rattle.jz_grammar.specs.InnerTokens.{commas, comma}
+use Rattle.jz_parse.specs.NotesReaders.{notes}
+pub use Rattle.jz_grammar.specs.TokenReaders.{commas, comma}
 
 -- ---- the tokens that decide
 abbrev pub names : List Kind
