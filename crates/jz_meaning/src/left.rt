@@ -7,7 +7,7 @@ ghost use Rattle.jz_meaning.specs.InnerEvaluating.{IsDetermined, IsLeftSide};
 ghost use Rattle.jz_meaning.specs.Operators.{is_shift};
 ghost use Rattle.jz_meaning.specs.Values as values;
 ghost use Rattle.std.specs.Prelude.{if◌then◌else◌};
-ghost use Rattle.jz_tree.specs.InnerSides.{IsSingle};
+ghost use Rattle.jz_tree.specs.LeftSides.{IsSingle};
 
 use crate::access::{kind_of, size_of};
 use crate::operators::is_shift;

@@ -1,4 +1,4 @@
-pub mod InnerSides
+pub mod LeftSides
 pub mod Deciding
 pub mod Spellings
 pub use Rattle.jz_data.specs.Failures
