@@ -1,7 +1,7 @@
 //! The values of inline expressions.
 
 ghost use Rattle.std.specs.Prelude.{◌≡◌, IfOk};
-ghost use Rattle.jz_tree.specs.InnerSides.{IsSingle};
+ghost use Rattle.jz_tree.specs.LeftSides.{IsSingle};
 ghost use Rattle.jz_integers.specs.Integers as values;
 ghost use Rattle.jz_integers.specs.InnerLeftSides.{value_after};
 

@@ -2,7 +2,7 @@
 
 ghost use Rattle.std.specs.Prelude.{◌≡◌};
 ghost use Rattle.jz_tree.specs.Failures.{IfAnswered};
-ghost use Rattle.jz_tree.specs.InnerSides.{IsSingle};
+ghost use Rattle.jz_tree.specs.LeftSides.{IsSingle};
 ghost use Rattle.jz_meaning.specs.Attempts.{Evaluates, value_seen};
 ghost use Rattle.jz_meaning.specs.InnerEvaluating.{IsDetermined, go_on};
 ghost use Rattle.jz_meaning.specs.States.{as_value};

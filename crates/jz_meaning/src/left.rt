@@ -6,7 +6,7 @@ ghost use Rattle.std.specs.Option.{option_or};
 ghost use Rattle.jz_meaning.specs.InnerEvaluating.{IsDetermined, IsLeftSide};
 ghost use Rattle.jz_meaning.specs.Values as values;
 ghost use Rattle.std.specs.Prelude.{if◌then◌else◌};
-ghost use Rattle.jz_tree.specs.InnerSides.{IsSingle};
+ghost use Rattle.jz_tree.specs.LeftSides.{IsSingle};
 ghost use Rattle.jz_tree.specs.Operators.{is_shift};
 
 use crate::access::{kind_of, size_of};

@@ -1,6 +1,6 @@
 -- What private contracts say of the parts of expressions and statements that are resolved.
 use Rattle.jz_tree.specs.declared.expr.Expr.{Expr}
-use Rattle.jz_tree.specs.InnerSides.{on_left}
+use Rattle.jz_tree.specs.LeftSides.{on_left}
 use Rattle.jz_tree.specs.declared.copying.LeftSide.{LeftSide}
 use Rattle.jz_tree.specs.declared.expr.Access.{Access}
 use Rattle.jz_tree.specs.declared.expr.Var.{Var}

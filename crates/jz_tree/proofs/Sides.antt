@@ -6,7 +6,7 @@ use Rattle.jz_tree.specs.declared.expr.BinOp.{BinOp}
 use Rattle.jz_tree.specs.declared.expr.Expr.{Expr, size-Expr}
 use Rattle.jz_tree.specs.declared.expr.Expr.TheVariants.{Bin}
 use Rattle.jz_tree.specs.declared.expr.Expr.TheViews.{sized-Bin}
-use Rattle.jz_tree.specs.InnerSides.{on_left}
+use Rattle.jz_tree.specs.LeftSides.{on_left}
 
 pub last_step : (ss : List LeftStep) (s : LeftStep) (e : Expr) → on_left (ss ++ s ∷ []) e ≡ on_left ss (Bin s.op e s.right s.span)
 last_step [] s e = refl

@@ -1,4 +1,4 @@
-pub mod InnerSides
+pub mod LeftSides
 pub mod Deciding
 pub mod Operators
 pub mod Spellings

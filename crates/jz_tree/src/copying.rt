@@ -1,7 +1,7 @@
 //! Copies that equal what they copy, made by a loop down the left side of an expression.
 
 ghost use Rattle.std.specs.Prelude.{◌≡◌, IfOk};
-ghost use Rattle.jz_tree.specs.InnerSides.{on_left};
+ghost use Rattle.jz_tree.specs.LeftSides.{on_left};
 
 use crate::expr::{Access, BinOp, Decl, Expr, Ty, Var};
 use jz_data::Boxed;

@@ -1,5 +1,5 @@
 use Rattle.std.proofs.Common.{◌≡◌, length}
-use Rattle.jz_tree.specs.InnerSides.{on_left}
+use Rattle.jz_tree.specs.LeftSides.{on_left}
 use Rattle.jz_tree.proofs.copying.LeftSide.into_expr.Given as goal
 
 abbrev pub invariant-loop-op : goal.invariant-loop-op
