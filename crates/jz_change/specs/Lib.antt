@@ -1,0 +1,4 @@
+pub mod Changes
+pub mod Fitting
+pub mod Composing
+pub mod Views
