@@ -1,5 +1,6 @@
 pub mod Composition
 pub mod CutsKept
+mod Examples
 pub mod FlatEvents
 pub mod Forms
 pub mod Operations

@@ -39,7 +39,14 @@ enum Last {
     For(&'static [Body]),
 }
 
-/// The changes, one after another, the cases behind them, and the transformer.
+/// A change, the cases of the last pass behind it, and the transformer.
+struct Alone {
+    change: &'static [Shape],
+    last: &'static [Last],
+    tr: &'static str,
+}
+
+/// Two changes, one after another, the cases of the last pass behind them, and the transformer.
 struct Row {
     first: &'static [Shape],
     second: &'static [Shape],
@@ -103,49 +110,42 @@ const PASSED: Outs = &[Out::Branch(false)];
 
 const PASSED_AT_0: Outs = &[Out::Branch(false), Out::Addr(Form::Leaked(0))];
 
-static ALONE: [Row; 17] = [
-    Row {
-        first: &[Shape::Ops(SAME)],
-        second: &[],
+static ALONE: [Alone; 17] = [
+    Alone {
+        change: &[Shape::Ops(SAME)],
         last: &[Last::Op(AT_0)],
         tr: "op[a:$0]",
     },
-    Row {
-        first: &[Shape::Ops(&[]), Shape::Ops(SAME)],
-        second: &[],
+    Alone {
+        change: &[Shape::Ops(&[]), Shape::Ops(SAME)],
         last: &[Last::Op(AT_1)],
         tr: "op[] op[a:$1]",
     },
-    Row {
-        first: &[Shape::Ops(&[NTH_1, NINE_AND_FIRST])],
-        second: &[],
+    Alone {
+        change: &[Shape::Ops(&[NTH_1, NINE_AND_FIRST])],
         last: &[Last::Op(AT_0), Last::Op(AT_1_IN_FRAME)],
         tr: "op[a:$1 a:$0 a:@52]",
     },
-    Row {
-        first: &[Shape::Ops(&[NINE_AND_FIRST])],
-        second: &[],
+    Alone {
+        change: &[Shape::Ops(&[NINE_AND_FIRST])],
         last: &[Last::Op(DIVIDES)],
         tr: "op[d:9:0:$0]",
     },
-    Row {
-        first: &[Shape::Ops(&[WHOLE]), Shape::Ops(&[EIGHT])],
-        second: &[],
+    Alone {
+        change: &[Shape::Ops(&[WHOLE]), Shape::Ops(&[EIGHT])],
         last: &[Last::Op(FAR), Last::Op(NEAR)],
         tr: "op[a:@-9223372036854775808] op[a:@0 a:@24]",
     },
-    Row {
-        first: &[Shape::If(&[NTH_1], NTH_2, &[SAME], &[&[]])],
-        second: &[],
+    Alone {
+        change: &[Shape::If(&[NTH_1], NTH_2, &[SAME], &[&[]])],
         last: &[
             Last::Op(AT_0),
             Last::If(AT_0, PASSED_AT_0, &[AT_0], TAKEN, &[]),
         ],
         tr: "if([a:$1 a:$2] [b0 a:$2] {op[a:$0]} [b1] {op[]})",
     },
-    Row {
-        first: &[Shape::Arm(true, &[NTH_1], &[SAME, TWICE])],
-        second: &[],
+    Alone {
+        change: &[Shape::Arm(true, &[NTH_1], &[SAME, TWICE])],
         last: &[
             Last::Op(AT_0),
             Last::Op(AT_0),
@@ -154,45 +154,38 @@ static ALONE: [Row; 17] = [
         ],
         tr: "if([a:$1] [] {op[a:$0] op[a:7 a:8]} [] {})",
     },
-    Row {
-        first: &[Shape::Arm(false, &[], &[SAME]), Shape::Ops(SAME)],
-        second: &[],
+    Alone {
+        change: &[Shape::Arm(false, &[], &[SAME]), Shape::Ops(SAME)],
         last: &[Last::Op(AT_0), Last::Op(SIX)],
         tr: "if([] [] {} [] {op[a:$0]}) op[a:6]",
     },
-    Row {
-        first: &[Shape::While(&[SAME], &[NTH_1], FIVE, &[SAME])],
-        second: &[],
+    Alone {
+        change: &[Shape::While(&[SAME], &[NTH_1], FIVE, &[SAME])],
         last: &[Last::While(&[AT_0, AT_0], AT_0, TAKEN, &[AT_1], PASSED_AT_0)],
         tr: "while({op[a:$0]} [a:$1 a:5] [b1] {op[a:$1]} [b0 a:5])",
     },
-    Row {
-        first: &[Shape::Once(&[SAME], &[NTH_1]), Shape::Ops(SAME)],
-        second: &[],
+    Alone {
+        change: &[Shape::Once(&[SAME], &[NTH_1]), Shape::Ops(SAME)],
         last: &[Last::Op(AT_0), Last::Op(AT_0), Last::Op(SEVEN)],
         tr: "while({op[a:$0]} [a:$1] [] {} []) op[a:7]",
     },
-    Row {
-        first: &[Shape::Once(&[], &[])],
-        second: &[],
+    Alone {
+        change: &[Shape::Once(&[], &[])],
         last: &[],
         tr: "while({} [] [] {} [])",
     },
-    Row {
-        first: &[Shape::For(&[SAME])],
-        second: &[],
+    Alone {
+        change: &[Shape::For(&[SAME])],
         last: &[Last::For(&[&[SIX], &[SEVEN]])],
         tr: "for({op[a:6]} {op[a:7]})",
     },
-    Row {
-        first: &[Shape::For(&[SAME]), Shape::Ops(SAME)],
-        second: &[],
+    Alone {
+        change: &[Shape::For(&[SAME]), Shape::Ops(SAME)],
         last: &[Last::For(&[]), Last::Op(SIX)],
         tr: "for() op[a:6]",
     },
-    Row {
-        first: &[Shape::Unrolled(&[&[SAME], &[TWICE], &[]]), Shape::Ops(SAME)],
-        second: &[],
+    Alone {
+        change: &[Shape::Unrolled(&[&[SAME], &[TWICE], &[]]), Shape::Ops(SAME)],
         last: &[
             Last::Op(SIX),
             Last::Op(SEVEN),
@@ -201,18 +194,16 @@ static ALONE: [Row; 17] = [
         ],
         tr: "for({op[a:6]} {op[a:7 a:8]} {}) op[a:$0]",
     },
-    Row {
-        first: &[Shape::Unrolled(&[])],
-        second: &[],
+    Alone {
+        change: &[Shape::Unrolled(&[])],
         last: &[],
         tr: "for()",
     },
-    Row {
-        first: &[
+    Alone {
+        change: &[
             Shape::Opened(&[NTH_0, NTH_1], &[SAME], &[NTH_2]),
             Shape::Ops(SAME),
         ],
-        second: &[],
         last: &[
             Last::Op(AT_0),
             Last::Op(AT_0),
@@ -222,9 +213,8 @@ static ALONE: [Row; 17] = [
         ],
         tr: "call([a:$0 a:$1] {op[a:$0]} [a:$2]) op[a:6]",
     },
-    Row {
-        first: &[Shape::Opened(&[], &[], &[])],
-        second: &[],
+    Alone {
+        change: &[Shape::Opened(&[], &[], &[])],
         last: &[],
         tr: "call([] {} [])",
     },
@@ -476,8 +466,8 @@ fn expected(alloc: Global, tr: &str) -> Result<String, AllocError> {
 fn each_step_alone(rt: HostRuntime) -> Result<(), Fail> {
     let alloc = rt.alloc();
     for row in ALONE.iter() {
-        let first = change(alloc, row.first)?;
-        let flat = flatten(alloc, first, transformer(alloc, row.last)?)?;
+        let change = change(alloc, row.change)?;
+        let flat = flatten(alloc, change, transformer(alloc, row.last)?)?;
         let text = shown(alloc, flat)?;
         let wanted = expected(alloc, row.tr)?;
         assert_eq!(rt; text.as_slice(), wanted.as_bytes());
@@ -491,20 +481,6 @@ fn one_after_another(rt: HostRuntime) -> Result<(), Fail> {
     for row in COMPOSED.iter() {
         let both = compose(alloc, change(alloc, row.first)?, change(alloc, row.second)?)?;
         let flat = flatten(alloc, both, transformer(alloc, row.last)?)?;
-        let text = shown(alloc, flat)?;
-        let wanted = expected(alloc, row.tr)?;
-        assert_eq!(rt; text.as_slice(), wanted.as_bytes());
-    }
-    Ok(())
-}
-
-#[test]
-fn the_second_flattened_first(rt: HostRuntime) -> Result<(), Fail> {
-    let alloc = rt.alloc();
-    for row in COMPOSED.iter() {
-        let second = change(alloc, row.second)?;
-        let behind = flatten(alloc, second, transformer(alloc, row.last)?)?;
-        let flat = flatten(alloc, change(alloc, row.first)?, behind)?;
         let text = shown(alloc, flat)?;
         let wanted = expected(alloc, row.tr)?;
         assert_eq!(rt; text.as_slice(), wanted.as_bytes());
