@@ -7,3 +7,4 @@ pub mod Operations
 pub mod StepCases
 pub mod StepJoins
 pub mod StepViews
+pub mod Whole

@@ -466,8 +466,8 @@ fn expected(alloc: Global, tr: &str) -> Result<String, AllocError> {
 fn each_step_alone(rt: HostRuntime) -> Result<(), Fail> {
     let alloc = rt.alloc();
     for row in ALONE.iter() {
-        let change = change(alloc, row.change)?;
-        let flat = flatten(alloc, change, transformer(alloc, row.last)?)?;
+        let one = change(alloc, row.change)?;
+        let flat = flatten(alloc, one, transformer(alloc, row.last)?)?;
         let text = shown(alloc, flat)?;
         let wanted = expected(alloc, row.tr)?;
         assert_eq!(rt; text.as_slice(), wanted.as_bytes());
