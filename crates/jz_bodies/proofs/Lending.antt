@@ -19,10 +19,10 @@ use Rattle.jz_tree.specs.declared.program.Program.{Program}
 use Rattle.jz_type_names.specs.Kinds.{known_of}
 use Rattle.jz_type_names.specs.Kinds as names
 use Rattle.jz_type_names.specs.Order.{unless}
-use Rattle.jz_type_names.specs.Scopes.{variables_of}
+use Rattle.jz_type_names.specs.Scopes.{variables_of, text_of}
 use Rattle.jz_type_names.specs.Parts.{whole_left, left_vars}
 use Rattle.jz_type_names.proofs.Empty.{both, passed}
-use Rattle.jz_type_rows.specs.Callees.{text_of, names_set, is_written}
+use Rattle.jz_type_rows.specs.Callees.{names_set, is_written}
 use Rattle.jz_type_rows.specs.Copies as copies
 use Rattle.jz_type_rows.specs.Copies.{are_one, is_one, passed_as, gets_back, numbers_back, is_written_at, passed_at, passed_from, not_back, is_twice, passed_twice, span_of_var}
 use Rattle.jz_judgement.proofs.Nothing.{none_not, same_some}

@@ -17,6 +17,7 @@ use Rattle.jz_meaning.specs.Trees.{done}
 use Rattle.jz_type_names.specs.Scopes.{function_named}
 use Rattle.jz_type_names.specs.Parts.{Layer, layer_of, nested_statements, nested_step, statements_in, statements_of}
 use Rattle.jz_type_names.proofs.NestedLaws.{in_kind, pair, pairs, opened, in_stmt}
+use Rattle.jz_judgement.proofs.Nothing.{same_some}
 use Rattle.jz_texts.proofs.Lists.{parted}
 use Rattle.jz_meaning.specs.Statements.{Block}
 use Rattle.jz_meaning.specs.Runs.{Callee, Callees, in_order, call_tree, instruction_tree, assign_tree, kind_tree, statement_tree, block, with_tree, callees_of}
@@ -55,14 +56,6 @@ found_by P false x rest h k = k
 pub found : {X : Type 0} (P : X → Type 0) (test : X → Bool) (xs : List X) → All P xs → IfThere P (find test xs)
 found P test [] h = tt
 found P test (x ∷ xs) h = found_by P (test x) x (find test xs) (All-head P x xs h) (found P test xs (All-tail P x xs h))
-
-or_else : {A : Type 0} → A → Option A → A
-or_else d None = d
-or_else d (Some x) = x
-
-same_inside : {A : Type 0} (x y : A) → ◌≡◌ {A = Option A} (Some x) (Some y) → x ≡ y
-unfolding or_else
-same_inside x y e = ap (or_else x) e
 
 -- a function that can be called is one of the program, and its body is one
 pub record IsReady (scopes : Fun → Scope) (fs : List Fun) (n : List ℕ) (c : Callee) : Type 0 where
@@ -178,7 +171,7 @@ module _ (scopes : Fun → Scope) (fs : List Fun) (all : All (StatementsAre scop
   ready_by : (callees : Callees) → AreReady scopes fs callees → (n : List ℕ) (o : Option Fun) (c : Callee) → function_named n fs ≡ o → with_tree (λ ss. block callees ss done) o ≡ Some c → IsReady scopes fs n c
   ready_by callees ready n None c q e = absurd cc
   ready_by callees ready n (Some f) c q e =
-      subst (IsReady scopes fs n) (same_inside (record { of = f; body = block callees f.body done }) c e)
+      subst (IsReady scopes fs n) (same_some (record { of = f; body = block callees f.body done }) c e)
       (record { named = q; body = block_is scopes fs callees ready (scopes f) f.body (named n f q) done tt })
 
   callees_ready : (depth : ℕ) → AreReady scopes fs (callees_of fs depth)

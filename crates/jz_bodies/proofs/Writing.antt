@@ -18,9 +18,9 @@ use Rattle.jz_tree.specs.declared.program.Param.{Param}
 use Rattle.jz_tree.specs.declared.program.Program.{Program}
 use Rattle.jz_type_names.specs.Kinds.{Known, known_of, kind_of, is_array_kind, whole_array}
 use Rattle.jz_type_names.specs.Kinds as names
-use Rattle.jz_type_names.specs.Scopes.{variables_of}
+use Rattle.jz_type_names.specs.Scopes.{variables_of, text_of}
 use Rattle.jz_type_names.specs.Parts.{layer_of, statements_of, set_by, left_exprs, left_vars}
-use Rattle.jz_type_rows.specs.Callees.{text_of, set_in, names_set, is_written}
+use Rattle.jz_type_rows.specs.Callees.{set_in, names_set, is_written}
 use Rattle.jz_judgement.specs.Places.{Place, index, word, unsized, IsArrayOf}
 use Rattle.jz_judgement.specs.HasType as judged
 use Rattle.jz_judgement.specs.HasType.{Term, value, HasType}
