@@ -50,5 +50,5 @@ pub fn placed_operations_are_carried_out()
         → Agrees places (Holds frame slots end m0) (λ v. IsTrue (before v)) σ st m
         → step frame o σ ≡ Some d
         → IsCarriedOut places slots (Holds frame slots end m0) (λ v. IsTrue (behind v))
-            o σ st m next d }
+        o σ st m next d }
 {}

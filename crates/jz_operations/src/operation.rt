@@ -11,7 +11,8 @@ pub struct Pinned {
     pub span: Span,
 }
 
-/// An address in memory: base + scale * index + displacement, modulo 2^64. Base and index are words of 64 bits.
+/// An address in memory: base + scale * index + displacement, modulo 2^64. Base and index are words
+/// of 64 bits.
 #[derive(Clone, Copy)]
 pub struct Address {
     pub base: Option<u32>,
