@@ -18,7 +18,9 @@ use Rattle.jz_tree.specs.declared.stmt.StmtKind.TheFolds.{fold-StmtKind, fold-ro
 use Rattle.jz_meaning.specs.Trees.{done}
 use Rattle.jz_meaning.specs.Statements.{Block}
 use Rattle.jz_meaning.specs.Runs.{Callee, Callees, with_tree, callees_of, in_order, call_tree, instruction_tree, assign_tree, body_tree, kind_tree, statement_tree, block}
-use Rattle.jz_interp.specs.Calls.{called_function}
+use Rattle.jz_copies.specs.Called.{called_function}
+use Rattle.jz_interp.proofs.Falls.{body_at}
+use Rattle.jz_interp.proofs.Weights.{weights, level}
 use Rattle.jz_interp.proofs.Pieces.{assign_is, if_is, while_is, for_is, mark_is}
 use Rattle.jz_copies.specs.Counts.{depths_in}
 use Rattle.jz_copies.specs.InnerCounts.{piece_depths, block_depths, some_depths, callee_depths, named_depths, right_depths}
@@ -140,3 +142,10 @@ one_called fs (suc left) d None n None f e =
 pub nothing_left : (callees : Callees) (ss : List Stmt) (i d : ℕ) → length ss ≤ i → block_depths callees d (drop i ss) ≡ []
 unfolding depths_in
 nothing_left callees ss i d le = ap (block_depths callees d) (drop_all i ss le)
+
+-- what a call copies is less than what may be copied where calls are as deep as here
+pub one_deeper : (fs : List Fun) (left : ℕ) (o : Option BinOp) (n : List ℕ) (c : Option Expr) (f : Fun) → called_function fs left o n c ≡ Some f → level fs (left - 1) + weights f.body < level fs left
+one_deeper fs zero o n c f e = absurd cc
+one_deeper fs (suc left) None n None f e = let x = body_at n fs f e in let y : suc left - 1 ≡ left = omega arith in let h = ap (level fs) y in omega (arith, h, x)
+one_deeper fs (suc left) None n (Some c) f e = absurd cc
+one_deeper fs (suc left) (Some o) n c f e = absurd cc

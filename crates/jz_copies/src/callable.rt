@@ -3,7 +3,7 @@
 ghost use Rattle.std.specs.Prelude.{◌≡◌, IfOk};
 ghost use Rattle.std.specs.Option.{option_copied};
 ghost use Rattle.jz_type_names.specs.Tables.{IsFunctions};
-ghost use Rattle.jz_interp.specs.Calls.{called_function};
+ghost use Rattle.jz_copies.specs.Called.{called_function};
 
 use jz_tree::{BinOp, Expr, Fun, Seq, Text};
 use jz_type_names::Functions;

@@ -1,10 +1,10 @@
 use Rattle.std.proofs.Common.{ℕ, ◌+◌, ◌≤◌, List, ◌∷◌, drop, sym, ap, ◌∙◌, subst, rules, arith}
 use Rattle.std.specs.Option.{option_copied}
 use Rattle.jz_meaning.specs.Runs.{Callees, callees_of, statement_tree}
-use Rattle.jz_interp.proofs.Falls.{weights_at, one_deeper}
+use Rattle.jz_interp.proofs.Falls.{weights_at}
 use Rattle.jz_interp.proofs.Weights.{weight, weights}
 use Rattle.jz_copies.specs.InnerCounts.{piece_depths, block_depths, IsFurther, IsWalked}
-use Rattle.jz_copies.proofs.Depths.{from_here, nothing_left, assign_depths, if_depths, while_depths, for_depths, mark_depths}
+use Rattle.jz_copies.proofs.Depths.{one_deeper, from_here, nothing_left, assign_depths, if_depths, while_depths, for_depths, mark_depths}
 use Rattle.jz_copies.proofs.Walks.{walked_on, walked_none, all_left, next_left, left_stops, none_left, IsLeft}
 use Rattle.jz_copies.proofs.counting.+count.Goals as goal
 
