@@ -3,6 +3,7 @@ use Rattle.std.proofs.Common.{◌≡◌, Bool, true, false, not, ◌&&◌, ◌||
 use Rattle.std.specs.Prelude.{◌⊎◌, All}
 use Rattle.std.proofs.lemmas.Bool.{and_parts, false≢true}
 use Rattle.std.proofs.lemmas.List.Elements.{All-nil, All-cons, All-head, All-tail, All-append}
+use Rattle.jz_tree.specs.Operators.{carries, divides, is_shift, joins}
 use Rattle.jz_tree.specs.Span.{Span}
 use Rattle.jz_tree.specs.Size.{Size}
 use Rattle.jz_tree.specs.declared.expr.BinOp.{BinOp}
@@ -25,9 +26,8 @@ use Rattle.jz_select.specs.declared.shape.Shape.TheVariants as shapes
 use Rattle.jz_select.specs.Sums.{is_address, is_index}
 use Rattle.jz_select.specs.Look.{look_of, terms_of}
 use Rattle.jz_select.specs.Operands.{cell_of, class_of, dest_of}
-use Rattle.jz_select.specs.Rows.{is_r, is_i, is_rm, is_rmi, is_flag, is_skip, is_flag_result, is_pinned, may_lead, is_alone, adds, joins_bits, multiplies, divides, shifts, masks, p1, p2, p3, p4, p5, p6, p7, p8, p9, p10, p11, p12, p13}
-use Rattle.jz_select.specs.Shapes.{Asked, carries, itself, beside, value_layer, update_layer, assign_of, value_shape}
-use Rattle.jz_meaning.specs.Operators.{joins}
+use Rattle.jz_select.specs.Rows.{is_r, is_i, is_rm, is_rmi, is_flag, is_skip, is_flag_result, is_pinned, may_lead, is_alone, adds, joins_bits, multiplies, masks, p1, p2, p3, p4, p5, p6, p7, p8, p9, p10, p11, p12, p13}
+use Rattle.jz_select.specs.Shapes.{Asked, itself, beside, value_layer, update_layer, assign_of, value_shape}
 use Rattle.jz_meaning.specs.Shapes.{Sorts}
 use Rattle.jz_row_laws.proofs.Booleans.{or_left, or_right, or_parts}
 use Rattle.jz_row_laws.proofs.Fixed.{Layer, HasClass, no_if, no_cell, Fixed, FixedLayer, fixed_out, both_fixed, class_fixed, cell_fixed, mem_fixed}
@@ -181,14 +181,14 @@ module _ (d w : Class) where
 
   by_p9 : (p : BinOp) (a o : Operand) → p9 (A (values.Two p a o)) ≡ true → G (values.Two p a o)
   by_p9 p a o h =
-      let x = and_parts (shifts p) _ h in
+      let x = and_parts (is_shift p) _ h in
       let y = and_parts (is_i o.class) _ x.1 in
       let m = and_parts (is_rm d) _ y.1 in
       (inr (shift_join p x.0, (and_parts (is_rmi a.class) _ m.1).0, inl (i_class o.class y.0)), (fine_class d (rm_class d m.0), tt))
 
   by_p10 : (p : BinOp) (a o : Operand) → p10 (A (values.Two p a o)) ≡ true → G (values.Two p a o)
   by_p10 p a o h =
-      let x = and_parts (shifts p) _ h in
+      let x = and_parts (is_shift p) _ h in
       let y = and_parts (masks _ o.class) _ x.1 in
       let m = and_parts (is_rm d) _ y.1 in
       (inr (shift_join p x.0, (and_parts (is_rmi a.class) _ m.1).0, inr (masks_mask _ o.class y.0)), (fine_class d (rm_class d m.0), tt))

@@ -6,6 +6,7 @@ use Rattle.jz_integers.specs.Integers.{written_number}
 use Rattle.std.specs.List.{list_any}
 use Rattle.std.proofs.lemmas.Bool.{and_parts, false≢true}
 use Rattle.std.proofs.lemmas.List.Folds.{list_any-append}
+use Rattle.jz_tree.specs.Operators.{carries, divides, is_shift, joins}
 use Rattle.jz_tree.specs.Span.{Span}
 use Rattle.jz_tree.specs.Size.{Size}
 use Rattle.jz_tree.specs.declared.expr.BinOp.{BinOp}
@@ -30,11 +31,10 @@ use Rattle.jz_select.specs.declared.shape.Shape.TheVariants as shapes
 use Rattle.jz_select.specs.Sums.{is_address, is_index}
 use Rattle.jz_select.specs.Look.{look_of, terms_of, bin_inline}
 use Rattle.jz_select.specs.Operands.{inline_or, mask_of, is_byte, register_layer, masked_class, class_layer, class_of, dest_of}
-use Rattle.jz_select.specs.Rows.{is_r, is_m, is_i, is_rm, is_rmi, is_flag, adds, joins_bits, multiplies, divides, shifts, masks, p1, p2, p3, p4, p5, p6, p8, p9, p10, p11, p12, p13}
+use Rattle.jz_select.specs.Rows.{is_r, is_m, is_i, is_rm, is_rmi, is_flag, adds, joins_bits, multiplies, masks, p1, p2, p3, p4, p5, p6, p8, p9, p10, p11, p12, p13}
 use Rattle.jz_select.specs.Places.{Answers}
-use Rattle.jz_select.specs.Shapes.{Asked, whichever, carries, beside, carry_layer, two_beside, value_layer, assign_of, shape_of}
+use Rattle.jz_select.specs.Shapes.{Asked, whichever, beside, carry_layer, two_beside, value_layer, assign_of, shape_of}
 use Rattle.jz_select.specs.Selected.{Row, rows, FirstMatches, Tells, IsSelected, IsCopied}
-use Rattle.jz_meaning.specs.Operators.{joins}
 use Rattle.jz_meaning.specs.Shapes.{Sorts}
 use Rattle.jz_row_laws.proofs.Booleans.{or_parts, or_left, or_right}
 use Rattle.jz_row_laws.proofs.Fixed.{Layer, HasClass, no_if, no_cell, is_masked, Fixed, FixedLayer, both_fixed, fixed_out, class_layer_fixed, class_fixed, mask_fixed}
@@ -106,7 +106,7 @@ quotient_join op.AndThen e = absurd (false≢true e)
 quotient_join op.OrElse e = absurd (false≢true e)
 quotient_join p e = refl
 
-pub shift_join : (p : BinOp) → shifts p ≡ true → joins p ≡ false
+pub shift_join : (p : BinOp) → is_shift p ≡ true → joins p ≡ false
 shift_join op.AndThen e = absurd (false≢true e)
 shift_join op.OrElse e = absurd (false≢true e)
 shift_join p e = refl
@@ -154,13 +154,13 @@ module _ (d w : Class) where
 
   by_p9 : (p : BinOp) (a o : Operand) → p9 (S (values.Two p a o)) ≡ true → Fit w (values.Two p a o)
   by_p9 p a o h =
-      let x = and_parts (shifts p) _ h in
+      let x = and_parts (is_shift p) _ h in
       let y = and_parts (is_i o.class) _ x.1 in
       inr (shift_join p x.0, (and_parts (is_rmi a.class) _ (and_parts (is_rm d) _ y.1).1).0, inl (i_class o.class y.0))
 
   by_p10 : (p : BinOp) (a o : Operand) → p10 (S (values.Two p a o)) ≡ true → Fit w (values.Two p a o)
   by_p10 p a o h =
-      let x = and_parts (shifts p) _ h in
+      let x = and_parts (is_shift p) _ h in
       let y = and_parts (masks _ o.class) _ x.1 in
       inr (shift_join p x.0, (and_parts (is_rmi a.class) _ (and_parts (is_rm d) _ y.1).1).0, inr (masks_mask _ o.class y.0))
 

@@ -2,6 +2,7 @@
 use Rattle.std.proofs.Common.{◌≡◌, ℤ, ◌==◌, Bool, true, false, not, ◌&&◌, ◌||◌, Option, Some, None, refl, sym, ap, ◌∙◌, subst, inl, inr, if◌then◌else◌}
 use Rattle.std.specs.Prelude.{◌⊎◌, nat_le, option_map}
 use Rattle.std.proofs.lemmas.Bool.{and_parts, false≢true}
+use Rattle.jz_tree.specs.Operators.{joins}
 use Rattle.jz_tree.specs.Span.{Span}
 use Rattle.jz_tree.specs.Size.{Size}
 use Rattle.jz_tree.specs.declared.expr.BinOp.{BinOp}
@@ -32,7 +33,6 @@ use Rattle.jz_select.specs.Sums.{term, is_sum, is_address, is_index}
 use Rattle.jz_select.specs.Look.{Look, is_regs64, gives_number, bin_inline, bin_scaled, bin_sum, look_step, look_of, terms_of}
 use Rattle.jz_select.specs.Operands.{class_if, cell_at, cell_class, cell_of, mem_of, inline_or, mask_of, is_byte, register_layer, masked_class, class_layer, class_of}
 use Rattle.jz_select.specs.Rows.{is_rmi}
-use Rattle.jz_meaning.specs.Operators.{joins}
 use Rattle.jz_meaning.specs.Shapes.{Sort, Sorts, Shape, shape_step, shape_of}
 use Rattle.jz_row_laws.proofs.Booleans.{or_parts, or_left, or_right, and_both}
 

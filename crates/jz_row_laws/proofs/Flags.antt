@@ -1,6 +1,7 @@
 -- A condition that has an instruction.
 use Rattle.std.proofs.Common.{◌≡◌, Bool, true, false, refl, sym, ap, ◌∙◌, subst}
 use Rattle.std.proofs.lemmas.Bool.{and_parts, false≢true}
+use Rattle.jz_tree.specs.Operators.{joins}
 use Rattle.jz_tree.specs.declared.expr.BinOp.{BinOp}
 use Rattle.jz_tree.specs.declared.expr.BinOp.TheVariants as op
 use Rattle.jz_tree.specs.declared.expr.Expr.{Expr}
@@ -15,7 +16,6 @@ use Rattle.jz_select.specs.Look.{compares_values}
 use Rattle.jz_select.specs.Rows.{is_rm, is_rmi}
 use Rattle.jz_select.specs.Operands.{class_of}
 use Rattle.jz_select.specs.Shapes.{TestLayer, flags_step, has_flags}
-use Rattle.jz_meaning.specs.Operators.{joins}
 use Rattle.jz_meaning.specs.Shapes.{Sorts}
 use Rattle.jz_row_laws.proofs.Fixed.{Layer, Fixed, FixedLayer, shape_is, both_fixed, class_fixed}
 use Rattle.jz_row_laws.proofs.Copied.{rm_class}

@@ -2,12 +2,13 @@
 use Rattle.std.proofs.Common.{◌≡◌, Bool, true, false, ◌&&◌, ◌||◌, Some, None, refl, sym, ap, ◌∙◌, subst, inl, inr, if◌then◌else◌}
 use Rattle.std.specs.Prelude.{◌⊎◌}
 use Rattle.std.proofs.lemmas.Bool.{and_parts, false≢true}
+use Rattle.jz_tree.specs.Operators.{joins}
 use Rattle.jz_tree.specs.declared.expr.BinOp.{BinOp}
 use Rattle.jz_tree.specs.declared.expr.Expr.{Expr}
 use Rattle.jz_tree.specs.declared.expr.Expr.TheOpen.{Expr-F}
 use Rattle.jz_tree.specs.declared.expr.Expr.TheViews.{out-Expr, roll-out-Expr}
 use Rattle.jz_type_names.specs.Kinds.{Known, known_of, is_inline_int}
-use Rattle.jz_select.specs.Look.{Look, is_inline_var, joins, compares_values, gives_number, bin_inline, bin_condition, look_of}
+use Rattle.jz_select.specs.Look.{Look, is_inline_var, compares_values, gives_number, bin_inline, bin_condition, look_of}
 use Rattle.jz_row_laws.proofs.Booleans.{or_left, or_right, or_parts}
 use Rattle.jz_row_laws.proofs.Fixed.{Layer, var_looked, var_known, look_layer, look_is}
 

@@ -7,6 +7,7 @@ use Rattle.std.proofs.lemmas.Bool.{false≢true}
 use Rattle.std.proofs.lemmas.Bool.Decides.{nat_tests}
 use Rattle.std.proofs.lemmas.Slice.Eq.{bytes_eq-Decides}
 use Rattle.std.proofs.lemmas.List.Elements.{All-nil, All-cons, All-map, All-weaker}
+use Rattle.std.specs.Option.{option_or}
 use Rattle.jz_tree.specs.Span.{Span}
 use Rattle.jz_tree.proofs.Texts.{bytes_eq-true}
 use Rattle.jz_tree.specs.declared.expr.Expr.{Expr}
@@ -21,7 +22,7 @@ use Rattle.jz_tree.specs.declared.program.Fun.{Fun}
 use Rattle.jz_tree.specs.declared.program.Program.{Program}
 use Rattle.jz_tree.specs.declared.stmt.Stmt.{Stmt}
 use Rattle.jz_type_names.specs.Order.{is_before, Before, earlier}
-use Rattle.jz_type_names.specs.Scopes.{Name, name_of, PlacesByName, variables_of, variable_named, place_among, variable_place, constant_place, value_place, function_named, or_values, or_else}
+use Rattle.jz_type_names.specs.Scopes.{Name, name_of, PlacesByName, variables_of, variable_named, place_among, variable_place, constant_place, value_place, function_named, or_values}
 use Rattle.jz_type_names.specs.Parts.{layer_of, statements_of, read_by, arrays_read_by, set_by, called_by}
 use Rattle.jz_type_names.specs.Names.{stands_above, one_unknown, no_function, unknown_where, variables_wanted, arrays_passed, length_names, variables_outside, length_arrays, outside_where, unknown_in_constant, unknown_in_fun, unknown_in, named_before, decls_of, one_repeated, repeated_places, repeated_by, repeated_in_fun, top_names, repeated_in}
 use Rattle.jz_type_names.proofs.Empty.{both, passed, all_empty, no_member}
@@ -114,14 +115,14 @@ found_own (v ∷ vs) h =
     All-cons (λ w. variable_named (out-Var w).name (v ∷ vs) ≡ Some w) v vs (found_first v vs)
     (λ k d lt. found_next v vs _ (head k d lt) (rest k d lt))
 
-or_some : (o : Option Decl) (x : Option Decl) → is_some o ≡ true → o ≡ or_else o x
+or_some : (o : Option Decl) (x : Option Decl) → is_some o ≡ true → o ≡ option_or o x
 or_some None x h = absurd (false≢true h)
 or_some (Some d) x h = refl
 
 one_carried : (constants : PlacesByName) (vs : List Var) (v : Var) → variable_named (out-Var v).name vs ≡ Some v → HasDecl v → Carries (declaration_in constants vs) v
 one_carried constants vs v h k =
     let other = option_map (λ at. constant_decl) (constants (out-Var v).name) in
-    or_some (out-Var v).decl other k ∙ ap (λ o. or_else (option_and_then (λ u. (out-Var u).decl) o) other) (sym h)
+    or_some (out-Var v).decl other k ∙ ap (λ o. option_or (option_and_then (λ u. (out-Var u).decl) o) other) (sym h)
 
 pub own_carried : (constants : PlacesByName) (vs : List Var) → AllPairs AreApart vs → All HasDecl vs → All (Carries (declaration_in constants vs)) vs
 own_carried constants vs h k = λ i d lt. one_carried constants vs _ (found_own vs h i d lt) (k i d lt)

@@ -1,6 +1,7 @@
 -- The statements of a typed program declare what they write.
 use Rattle.std.proofs.Common.{◌≡◌, ℕ, List, [], ◌∷◌, ◌++◌, Bool, true, false, Option, Some, None, map, flat_map, find, cond, refl, sym, ap, ◌∙◌, subst}
 use Rattle.std.specs.Prelude.{All, is_some, option_map, option_and_then, option_to_list, if◌then◌else◌}
+use Rattle.std.specs.Option.{option_or}
 use Rattle.std.specs.Str.{bytes_eq}
 use Rattle.std.proofs.lemmas.Bool.{false≢true}
 use Rattle.std.proofs.lemmas.List.Elements.{All-nil, All-cons, All-head, All-tail, All-append, All-weaker}
@@ -27,7 +28,7 @@ use Rattle.jz_type_names.specs.declared.kinds.Kind as known
 use Rattle.jz_type_names.specs.declared.kinds.Kind.TheVariants as scope
 use Rattle.jz_type_names.specs.Kinds as names
 use Rattle.jz_type_names.specs.Kinds.{declared_of, known_of, kind_step, kind_of, is_inline_int, inline_int, is_array}
-use Rattle.jz_type_names.specs.Scopes.{variables_of, variable_named, constant_place, function_named, or_else}
+use Rattle.jz_type_names.specs.Scopes.{variables_of, variable_named, constant_place, function_named}
 use Rattle.jz_type_names.specs.Parts.{Layer, layer_of, statements_of, left_exprs, right_exprs, left_vars}
 use Rattle.jz_type_names.specs.Names.{var_decl, param_decl, ret_decls}
 use Rattle.jz_resolve.specs.Numbering.{constant_decl}
@@ -136,8 +137,8 @@ module _ (q : Program) (f : Fun) (text : IsTextFun f) (h : HasDeclarations q f) 
         carries = c;
         decl = own.decl;
         some =
-            c ∙ ap (λ o. or_else (option_and_then (λ u. (out-Var u).decl) o) (option_map (λ at. constant_decl) (constant_place q.consts (out-Var v).name))) n.1
-            ∙ ap (λ o. or_else o (option_map (λ at. constant_decl) (constant_place q.consts (out-Var v).name))) own.some;
+            c ∙ ap (λ o. option_or (option_and_then (λ u. (out-Var u).decl) o) (option_map (λ at. constant_decl) (constant_place q.consts (out-Var v).name))) n.1
+            ∙ ap (λ o. option_or o (option_map (λ at. constant_decl) (constant_place q.consts (out-Var v).name))) own.some;
         counted = own.counted;
       }
 

@@ -3,6 +3,7 @@ use Rattle.std.proofs.Common.{◌≡◌, ℕ, ◌+◌, ◌==◌, Bool, true, fal
 use Rattle.std.specs.Prelude.{All, option_map}
 use Rattle.std.proofs.lemmas.Bool.{and_parts, false≢true}
 use Rattle.std.proofs.lemmas.List.Elements.{All-head}
+use Rattle.jz_tree.specs.Operators.{joins, divides}
 use Rattle.jz_tree.specs.Size.{Size}
 use Rattle.jz_tree.specs.declared.expr.Storage.{Storage}
 use Rattle.jz_tree.specs.declared.expr.Storage.TheVariants as storage
@@ -27,8 +28,7 @@ use Rattle.jz_judgement.specs.Places.{integer, truth, KindGoes, Goes, IsWordOf, 
 use Rattle.jz_judgement.specs.HasType as judged
 use Rattle.jz_judgement.specs.HasType.{value, HasType, Types, Operates, Says, LayerSays, OperandSays}
 use Rattle.jz_meaning.specs.Values.{gives_word, declared_kind, kind_or}
-use Rattle.jz_meaning.specs.Operators.{joins}
-use Rattle.jz_meaning.specs.Shapes.{Sort, integers, flags, Sorts, both, divides, are_integers, own_count, Shape, operation_shape, shape_of}
+use Rattle.jz_meaning.specs.Shapes.{Sort, integers, flags, Sorts, both, are_integers, own_count, Shape, operation_shape, shape_of}
 use Rattle.jz_types.specs.Carried.{vars_in}
 use Rattle.jz_run_laws.specs.Kinds.{sorts_of, sort_of_kind}
 use Rattle.jz_run_laws.specs.DeclaredKinds.{kinds_of}

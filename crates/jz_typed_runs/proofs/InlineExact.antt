@@ -3,6 +3,7 @@ use Rattle.std.proofs.Common.{◌≡◌, [], Option, Some, None, Bool, true, fal
 use Rattle.std.specs.Prelude.{ℤ, not, All, option_map, if◌then◌else◌}
 use Rattle.std.specs.Option.{option_or}
 use Rattle.std.proofs.lemmas.List.Elements.{All-head}
+use Rattle.jz_tree.specs.Operators.{is_shift}
 use Rattle.jz_tree.specs.Span.{Span}
 use Rattle.jz_tree.specs.Size.{Size}
 use Rattle.jz_tree.specs.declared.expr.BinOp.{BinOp}
@@ -22,7 +23,7 @@ use Rattle.jz_integers.specs.declared.constant.Constant.TheVariants as constant
 use Rattle.jz_meaning.specs.Rules.{stuck, went}
 use Rattle.jz_meaning.specs.Attempts.{Evaluation, numbers_first, and_then, defined}
 use Rattle.jz_meaning.specs.States.{Value, boolean, integer, State}
-use Rattle.jz_meaning.specs.Operators.{of_constant, is_shift, is_settled, combined, shifted, binary, negated, inverted}
+use Rattle.jz_meaning.specs.Operators.{of_constant, is_settled, combined, shifted, binary, negated, inverted}
 use Rattle.jz_meaning.specs.Values.{Ref, key_of, Meaning, right_wanted, left_wanted, expr_step, ty_step, access_step, decl_step, var_step, ref_of, own_size, evaluated}
 use Rattle.jz_run_laws.proofs.Sizes.{meant_layer}
 use Rattle.jz_types.specs.Carried.{vars_in}

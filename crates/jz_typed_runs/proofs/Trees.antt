@@ -1,6 +1,7 @@
 -- The tree of a function's body declares what its statements do, and each call in it is of a function
 -- of the program.
 use Rattle.std.proofs.Common.{◌≡◌, ℕ, zero, suc, List, [], ◌∷◌, Option, Some, None, Bool, true, false, cond, map, length, find, bytes_eq, refl, sym, ap, subst}
+use Rattle.std.specs.Option.{unwrap_or}
 use Rattle.std.specs.Prelude.{All, Contains}
 use Rattle.std.proofs.lemmas.List.Elements.{All-head, All-tail, All-contains, All-contains_itself}
 use Rattle.jz_tree.specs.Span.{Span}
@@ -39,13 +40,8 @@ found : {X : Type 0} (P : X → Type 0) (test : X → Bool) (xs : List X) → Al
 found P test [] h = tt
 found P test (x ∷ xs) h = found_by P (test x) x (find test xs) (All-head P x xs h) (found P test xs (All-tail P x xs h))
 
-or_else : {A : Type 0} → A → Option A → A
-or_else d None = d
-or_else d (Some x) = x
-
 same_inside : {A : Type 0} (x y : A) → ◌≡◌ {A = Option A} (Some x) (Some y) → x ≡ y
-unfolding or_else
-same_inside x y e = ap (or_else x) e
+same_inside x y e = ap (λ o. unwrap_or o x) e
 
 -- ---- statements
 module _ (q : Program) where
