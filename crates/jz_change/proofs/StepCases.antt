@@ -16,7 +16,7 @@ use Rattle.jz_change.specs.declared.change.Step.{Step}
 use Rattle.jz_change.specs.declared.change.Step.TheVariants as step
 use Rattle.jz_change.specs.declared.change.Step.TheOpen.{Step-F}
 use Rattle.jz_change.specs.declared.change.Step.TheFolds.{fold-roll-Step}
-use Rattle.jz_change.specs.Flattening.{outs_by, first_outs, cases_behind, FlatCases, FlatRounds, tr_of, add_case, flat_arm, flat_if, flat_while, flat_once, flat_for, first_by, flat, flat_rounds}
+use Rattle.jz_change.specs.Flattening.{outs_by, first_outs, cases_behind, FlatCases, FlatRounds, tr_of, add_case, flat_arm, flat_if, flat_while, flat_for, first_by, flat, flat_rounds}
 use Rattle.jz_change.specs.Views.{layer_change, steps_change, then_step, change_of, steps_of, changes_of}
 use Rattle.jz_change.specs.InnerSteps.{GivesCase, cases_and, cases_before, trees_before}
 use Rattle.jz_change.proofs.StepViews.{begun}

@@ -1,5 +1,5 @@
 -- What each step makes of the steps of another change, and what the loops over steps keep.
-use Rattle.std.proofs.Common.{◌≡◌, ℕ, ◌+◌, ◌<◌, ◌≤◌, Bool, true, false, if◌then◌else◌, List, [], ◌∷◌, ◌++◌, map, refl, sym, ap, ◌∙◌, subst, drop, append_assoc, append-nil}
+use Rattle.std.proofs.Common.{◌≡◌, ℕ, ◌+◌, ◌<◌, ◌≤◌, Bool, true, false, if◌then◌else◌, List, [], ◌∷◌, ◌++◌, map, sym, ap, ◌∙◌, subst, drop}
 use Rattle.std.specs.Prelude.{length, slice_index_or}
 use Rattle.std.proofs.lemmas.List.{drop_all, drop_more}
 use Rattle.jz_change.specs.declared.change.Numbers.{Numbers}
@@ -11,7 +11,7 @@ use Rattle.jz_change.specs.declared.change.Step.TheViews.{out-Step, roll-Step, r
 use Rattle.jz_change.specs.declared.change.Step.TheFolds.{fold-roll-Step}
 use Rattle.jz_change.specs.Changes as model
 use Rattle.jz_change.specs.Composing.{numbers_by, all_by, behind, first_ops, JoinedChange, JoinedRounds, add_step, join_if, join_while, join_every, join_for, join_first, join, join_rounds}
-use Rattle.jz_change.specs.Views.{chain, changes_before, layer_change, steps_change, then_step, change_of, steps_of, changes_of}
+use Rattle.jz_change.specs.Views.{changes_before, layer_change, steps_change, then_step, change_of, steps_of, changes_of}
 use Rattle.jz_change.specs.InnerSteps.{GivesStep, steps_and, steps_before, rounds_before}
 use Rattle.jz_change.proofs.StepViews.{then_ops, then_if, then_arm, then_while, then_once, then_for, then_unrolled, then_opened, change_is, steps_append, changes_append, steps_at, begun}
 

@@ -1,5 +1,5 @@
-use Rattle.std.specs.Prelude.{length, slice_index_or, Bool, true, false}
-use Rattle.std.proofs.Common.{rules, arith, ◌+◌, ◌<◌, ◌≤◌, ◌≡◌, ◌++◌, map, [], drop, refl, sym, ap, ◌∙◌, subst}
+use Rattle.std.specs.Prelude.{length, slice_index_or, false}
+use Rattle.std.proofs.Common.{rules, arith, ◌+◌, ◌<◌, ◌≡◌, ◌++◌, map, drop, refl, sym, ap, ◌∙◌, subst}
 use Rattle.jz_change.specs.declared.change.Step.TheViews.{out-Step}
 use Rattle.jz_change.specs.Composing.{all_by, first_ops, join_every, join, join_rounds}
 use Rattle.jz_change.specs.Views.{change_of, changes_of, changes_before, steps_of}
