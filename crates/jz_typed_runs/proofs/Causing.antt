@@ -1,11 +1,10 @@
 -- Why an expression in its place is stuck.
-use Rattle.std.proofs.Common.{◌≡◌, ℕ, ℤ, ◌<◌, Bool, true, false, List, [], ◌∷◌, Option, Some, None, refl, sym, ap, ◌∙◌, subst, inl, inr, if◌then◌else◌, ltb-true}
-use Rattle.std.specs.Prelude.{nat_lt, ◌||◌, ◌⊎◌, Contains}
+use Rattle.std.proofs.Common.{◌≡◌, ℕ, ℤ, Bool, true, false, List, [], ◌∷◌, Option, Some, None, refl, sym, ap, ◌∙◌, subst, inl, inr, if◌then◌else◌, ltb-true}
+use Rattle.std.specs.Prelude.{nat_lt, ◌||◌, Contains}
 use Rattle.std.specs.Option.{option_or}
-use Rattle.jz_tree.specs.Operators.{is_shift}
 use Rattle.jz_tree.specs.Span.{Span}
 use Rattle.jz_tree.specs.Size.{Size}
-use Rattle.jz_tree.specs.Size.TheVariants.{S8, S64}
+use Rattle.jz_tree.specs.Size.TheVariants.{S64}
 use Rattle.jz_tree.specs.Sizes.{bytes_of}
 use Rattle.jz_tree.specs.Memory.{Memory, loaded}
 use Rattle.jz_tree.specs.declared.expr.BinOp.{BinOp}
@@ -21,22 +20,21 @@ use Rattle.jz_type_names.specs.Kinds.{known_of}
 use Rattle.jz_type_names.specs.declared.kinds.Kind as known
 use Rattle.jz_type_names.specs.Kinds.{Known}
 use Rattle.jz_type_sizes.specs.declared.operators.Group.TheVariants as group
-use Rattle.jz_type_sizes.specs.Operators.{group_of}
 use Rattle.jz_judgement.specs.Places.{Place, index, IsArrayOf, ArrayKind, count_place}
 use Rattle.jz_judgement.specs.Places as place
 use Rattle.jz_judgement.specs.HasType as judged
 use Rattle.jz_judgement.specs.HasType.{Layer, value, HasType, Types, Accesses, Operates, Says}
-use Rattle.jz_judgement.proofs.Nothing.{none_not, same_some}
+use Rattle.jz_judgement.proofs.Nothing.{none_not}
 use Rattle.jz_meaning.specs.declared.access.Kind as meant
 use Rattle.jz_meaning.specs.declared.access.Kind.TheVariants as kind
 use Rattle.jz_meaning.specs.declared.value.Stuck as code
 use Rattle.jz_meaning.specs.declared.value.Why.TheVariants.{Bounds, Address, Align, Init, Divide}
 use Rattle.jz_meaning.specs.Rules.{stuck, went}
 use Rattle.jz_meaning.specs.Attempts.{Evaluation, numbers_first, stuck_at, and_then, defined}
-use Rattle.jz_meaning.specs.States.{Value, word, boolean, integer, Store, State}
+use Rattle.jz_meaning.specs.States.{Value, word, boolean, integer, State}
 use Rattle.jz_meaning.specs.Operators.{is_settled, same_size, binary, negated, inverted, cast}
 use Rattle.jz_meaning.specs.Operators as operators
-use Rattle.jz_meaning.specs.Values.{Ref, Meaning, key_of, cell_key, in_cells, index_at, variable_value, cell_value, MemoryAccess, is_aligned, accessed, load_word, address_at, load_at, left_wanted, right_wanted, with_right, run_binary, expr_step, ty_step, access_step, decl_step, var_step, ref_of, access_of, meaning_of, declared_kind, own_size, evaluated}
+use Rattle.jz_meaning.specs.Values.{Ref, Meaning, key_of, cell_key, in_cells, index_at, cell_value, MemoryAccess, is_aligned, accessed, load_word, address_at, load_at, left_wanted, right_wanted, with_right, run_binary, expr_step, ty_step, access_step, decl_step, var_step, ref_of, access_of, own_size, evaluated}
 use Rattle.jz_run_laws.specs.Kinds.{Kinds, IsOfKinds}
 use Rattle.jz_run_laws.specs.DeclaredKinds.{IsDeclared}
 use Rattle.jz_run_laws.specs.Kept.{IfWent}

@@ -1,6 +1,6 @@
 -- What a function of a typed program returns is a word or an array, so that a result is stuck only
 -- where it holds nothing.
-use Rattle.std.proofs.Common.{◌≡◌, inl, inr, ℕ, ℤ, Bool, true, false, ◌&&◌, List, [], ◌∷◌, Option, Some, None, refl, sym, ap, ◌∙◌, subst}
+use Rattle.std.proofs.Common.{◌≡◌, inl, inr, ℕ, ℤ, true, ◌&&◌, List, [], ◌∷◌, Option, Some, None, refl, sym, ◌∙◌, subst}
 use Rattle.std.specs.Prelude.{◌⊎◌, All, Contains, pos, negsuc}
 use Rattle.std.proofs.lemmas.Bool.{false≢true, and_parts}
 use Rattle.std.proofs.lemmas.List.Elements.{All-nil, All-cons, All-head, All-tail, All-contains, All-contains_itself}
@@ -11,7 +11,7 @@ use Rattle.jz_tree.specs.declared.expr.Storage.{Storage}
 use Rattle.jz_tree.specs.declared.expr.Decl.{Decl}
 use Rattle.jz_tree.specs.declared.expr.Var.{Var}
 use Rattle.jz_tree.specs.declared.expr.Expr.TheOpen.{Ty-F}
-use Rattle.jz_tree.specs.declared.expr.Expr.TheViews.{out-Expr, out-Ty, out-Var}
+use Rattle.jz_tree.specs.declared.expr.Expr.TheViews.{out-Expr, out-Ty}
 use Rattle.jz_tree.specs.declared.program.Fun.{Fun}
 use Rattle.jz_tree.specs.declared.program.Ret.{Ret}
 use Rattle.jz_tree.specs.declared.program.Program.{Program}
@@ -34,7 +34,7 @@ use Rattle.jz_meaning.specs.States.{Value, word, boolean, integer, Store, State}
 use Rattle.jz_meaning.specs.Values.{key_of, array_kind, ref_of}
 use Rattle.jz_meaning.specs.Statements.{source}
 use Rattle.jz_meaning.specs.Runs.{only_word, result_word, result_words, entry_state, body_of, IsRun}
-use Rattle.jz_run_laws.specs.Kinds.{Kinds, kind_at, IsOfKind, HoldsKinds, HoldsBytes, IsOfKinds}
+use Rattle.jz_run_laws.specs.Kinds.{kind_at, IsOfKind, HoldsKinds, HoldsBytes, IsOfKinds}
 use Rattle.jz_run_laws.specs.DeclaredKinds.{kinds_of}
 use Rattle.jz_run_laws.specs.Texts.{FunctionDeclared}
 use Rattle.jz_run_laws.proofs.Functions.{bodies_keep, entries_keep}

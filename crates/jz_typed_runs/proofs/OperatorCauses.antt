@@ -1,5 +1,5 @@
 -- Operators on values in their places are stuck with a division, or where a number is an operand.
-use Rattle.std.proofs.Common.{◌≡◌, ℕ, ℤ, pos, negsuc, Bool, true, false, List, Option, Some, None, refl, sym, ap, ◌∙◌, subst, if◌then◌else◌, option_map}
+use Rattle.std.proofs.Common.{◌≡◌, ℕ, ℤ, pos, negsuc, Bool, true, false, List, Option, Some, None, refl, sym, ◌∙◌, subst, if◌then◌else◌, option_map}
 use Rattle.std.proofs.lemmas.Bool.{false≢true}
 use Rattle.std.specs.Prelude.{◌||◌, ◌==◌}
 use Rattle.jz_tree.specs.Operators.{joins, is_shift}
@@ -21,7 +21,7 @@ use Rattle.jz_meaning.specs.declared.value.Why.TheVariants.{Init, Divide}
 use Rattle.jz_meaning.specs.Rules.{stuck, went}
 use Rattle.jz_meaning.specs.Attempts.{Evaluation, stuck_at, defined}
 use Rattle.jz_meaning.specs.States.{Value, word, boolean, integer}
-use Rattle.jz_meaning.specs.Operators.{of_constant, same_size, is_least_by_minus_one, on_words, by_count, by_flag, shifted_word, joined, combined, shifted, binary, negated, cast}
+use Rattle.jz_meaning.specs.Operators.{of_constant, same_size, is_least_by_minus_one, on_words, by_flag, shifted_word, combined, shifted, binary, negated, cast}
 use Rattle.jz_run_laws.specs.Values.{IsAt}
 use Rattle.jz_run_laws.proofs.OperatorsInPlaces.{is_arith, is_compare, is_moved}
 
