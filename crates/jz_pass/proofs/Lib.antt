@@ -1,0 +1,6 @@
+pub mod Stretches
+pub mod Inlining
+pub mod Unrolling
+pub mod Along
+pub mod Then
+pub mod Bodies

@@ -1,0 +1,22 @@
+//! Languages, by the runs of their programs.
+
+ghost use Rattle.std.specs.Prelude.{ℕ};
+ghost use Rattle.jz_leak.specs.RunLeaks.{Leak};
+ghost use Rattle.jz_runs.specs.Rules.{Outcome};
+
+/// A language: its programs, and what their runs are.
+pub trait Lang {
+    type Program: Drop;
+
+    /// What a run begins with, what its end gives, and why one is stuck.
+    ghost Input: { Type 0 };
+    ghost Given: { Type 0 };
+    ghost Reason: { Type 0 };
+
+    /// The programs that passes take, and give.
+    ghost valid: { Self.Program → Type 0 };
+
+    /// The runs of a program: from an input, with so many true tests of `while` left, to an
+    /// outcome.
+    ghost runs: { Self.Program → Self.Input → ℕ → Outcome Self.Given Self.Reason Leak → Type 0 };
+}
