@@ -4,3 +4,5 @@ pub mod Unrolling
 pub mod Along
 pub mod Then
 pub mod Bodies
+pub mod Rewriting
+pub mod Refusing

@@ -1,5 +1,5 @@
 -- The parts of a shape as the code asks for them.
-use Rattle.std.specs.Prelude.{◌≡◌, List, [], ⊤}
+use Rattle.std.specs.Prelude.{◌≡◌, List, ⊤}
 use Rattle.jz_runs.specs.Trees.{Tree}
 use Rattle.jz_change.specs.declared.change.Numbers.{Numbers}
 use Rattle.jz_pass.specs.declared.form.Form.{Form}
@@ -16,17 +16,6 @@ form_of other = form.Other
 
 abbrev pub HasForm : {O T St : Type 0} → Shape O T St → Form → Type 0
 HasForm shape f = form_of shape ≡ f
-
--- the statements that stand first in it, and second
-abbrev pub first_part : {O T St : Type 0} → Shape O T St → List St
-first_part (either p a b) = a
-first_part (turns h q p b) = q
-first_part _ = []
-
-abbrev pub second_part : {O T St : Type 0} → Shape O T St → List St
-second_part (either p a b) = b
-second_part (turns h q p b) = b
-second_part _ = []
 
 -- what a rule makes of a statement, where its shape is one for it
 

@@ -38,13 +38,11 @@ pub record Keeps {O T F C S W X : Type 0} (M : Parts O T F C S W) (K : Copying O
   pub Within : X → ℕ → S → S → Type 0
   -- the variables of the naming are none of the copies from this number on
   pub Below : X → ℕ → Type 0
-
   pub within_none : (x : X) (c : ℕ) (t : S) → Within x c t t
   pub within_both :
       (x : X) (c : ℕ) (t t1 t2 : S) → Within x c t t1 → Within x c t1 t2 → Within x c t t2
   pub within_less : (x : X) (c d : ℕ) (t t1 : S) → c ≤ d → Within x d t t1 → Within x c t t1
   pub below_more : (x : X) (c d : ℕ) → c ≤ d → Below x c → Below x d
-
   pub op_same :
       (x : X) (c : ℕ) (o : O) (s t : S) → OpIn x o → Below x c → At x s t
       → Alike (λ s1 t1. At x s1 t1 × Within x c t t1) (M.does o s) (M.does (K.op_in x o) t)
@@ -67,7 +65,6 @@ pub record Keeps {O T F C S W X : Type 0} (M : Parts O T F C S W) (K : Copying O
       → At x s1 t1
       → At x (M.restores f s s1) (M.restores (K.counter_in x f) t t1)
       × Within x c t1 (M.restores (K.counter_in x f) t t1)
-
   pub callee_below :
       (x : X) (c : ℕ) (q : C) → CallIn x q → Below x c → Below (K.callee x c q) (suc c)
   pub callee_within :

@@ -1,5 +1,5 @@
 -- A rule for one statement, and what it makes of whole trees.
-use Rattle.std.specs.Prelude.{◌≡◌, ◌<◌, ℕ, max, Bool, List, [], ◌∷◌, map, Contains, ⊤}
+use Rattle.std.specs.Prelude.{◌≡◌, ◌<◌, ℕ, ◌+◌, Bool, List, [], ◌∷◌, map, Contains, ⊤}
 use Rattle.jz_runs.specs.Trees.{Tree, done, op, quiet, choose, loop}
 use Rattle.jz_change.specs.declared.change.Numbers.{Numbers}
 use Rattle.jz_change.specs.declared.change.Step.{Step}
@@ -50,6 +50,17 @@ pub data Shape (O T St : Type 0) : Type 0 where
   -- none of these
   other : Shape O T St
 
+-- the statements of an arm or of a prologue, and those of the other arm or of a body
+abbrev pub first_part : {O T St : Type 0} → Shape O T St → List St
+first_part (either p a b) = a
+first_part (turns h q p b) = q
+first_part _ = []
+
+abbrev pub second_part : {O T St : Type 0} → Shape O T St → List St
+second_part (either p a b) = b
+second_part (turns h q p b) = b
+second_part _ = []
+
 -- statements one after another, before what follows
 abbrev pub all_before : {St A : Type 0} → (St → A → A) → List St → A → A
 all_before before [] rest = rest
@@ -69,15 +80,15 @@ HasTree {O} {T} {F} {C} before (turns h q p b) tree =
     → tree rest ≡ loop h (all_before before q done) p (all_before before b done) rest
 HasTree before other tree = ⊤
 
--- the largest of the sizes
-abbrev pub largest : {St : Type 0} → (St → ℕ) → List St → ℕ
-largest size [] = 0
-largest size (s ∷ ss) = max (size s) (largest size ss)
+-- the sizes together
+abbrev pub sizes : {St : Type 0} → (St → ℕ) → List St → ℕ
+sizes size [] = 0
+sizes size (s ∷ ss) = size s + sizes size ss
 
 -- what stands in a statement is smaller than that
 abbrev pub IsAbove : {O T St : Type 0} → (St → ℕ) → Shape O T St → ℕ → Type 0
-IsAbove size (either p a b) n = (largest size a < n) × (largest size b < n)
-IsAbove size (turns h q p b) n = (largest size q < n) × (largest size b < n)
+IsAbove size (either p a b) n = (sizes size a < n) × (sizes size b < n)
+IsAbove size (turns h q p b) n = (sizes size q < n) × (sizes size b < n)
 IsAbove size _ n = ⊤
 
 -- ---- what statements become
@@ -106,7 +117,7 @@ module _ {O T O2 T2 F2 C2 St : Type 0} (R : Rewriting O T O2 T2)
         (rest : Tree O2 T2 F2 C2)
         → all_before before made rest
         ≡ in_turn operations
-            (choose test (all_before before a done) (all_before before b done) rest)
+        (choose test (all_before before a done) (all_before before b done) rest)
 
   -- a `while` with this prologue and body: one, with the operations of its test behind the prologue
   pub record WhileBecomes (h : Bool) (q : List St) (p : T) (b made : List St)
@@ -118,7 +129,7 @@ module _ {O T O2 T2 F2 C2 St : Type 0} (R : Rewriting O T O2 T2)
         (rest : Tree O2 T2 F2 C2)
         → all_before before made rest
         ≡ loop h (all_before before q (in_turn operations done)) test
-            (all_before before b done) rest
+        (all_before before b done) rest
 
 -- ---- what a list of statements becomes
 
@@ -131,25 +142,19 @@ module _ {O T F C O2 T2 F2 C2 St St2 : Type 0} (R : Rewriting O T O2 T2)
       (t : Tree O T F C) (rest u : Tree O2 T2 F2 C2) (k : Change)
       → Rewrites R t rest u k
       → Rewrites R (all_before before ss t) rest (all_before before2 made u)
-        (chain (map then_step steps) k)
+      (chain (map then_step steps) k)
 
 -- ---- refusals
 
 -- a statement stands in these, at any depth
 pub data StandsIn {O T St : Type 0} (shape : St → Shape O T St) (s : St) : List St → Type 0 where
   stands_here : {ss : List St} → Contains ss s → StandsIn shape s ss
-  in_then :
-      {ss a b : List St} {p : T} {x : St}
-      → Contains ss x → shape x ≡ either p a b → StandsIn shape s a → StandsIn shape s ss
-  in_else :
-      {ss a b : List St} {p : T} {x : St}
-      → Contains ss x → shape x ≡ either p a b → StandsIn shape s b → StandsIn shape s ss
-  in_prologue :
-      {ss q b : List St} {h : Bool} {p : T} {x : St}
-      → Contains ss x → shape x ≡ turns h q p b → StandsIn shape s q → StandsIn shape s ss
-  in_body :
-      {ss q b : List St} {h : Bool} {p : T} {x : St}
-      → Contains ss x → shape x ≡ turns h q p b → StandsIn shape s b → StandsIn shape s ss
+  stands_first :
+      {ss : List St} {x : St} → Contains ss x → StandsIn shape s (first_part (shape x))
+      → StandsIn shape s ss
+  stands_second :
+      {ss : List St} {x : St} → Contains ss x → StandsIn shape s (second_part (shape x))
+      → StandsIn shape s ss
 
 -- a statement that stands in these is refused with this cause
 abbrev pub RefusesOne :

@@ -101,7 +101,6 @@ pub record IsKnown {O T F C S W E O2 T2 F2 C2 U W2 : Type 0} (M : Parts O T F C 
   pub Exact : Type 0
   -- where nothing is owed each reason stands for each
   pub settles : (w : W) (w2 : W2) → Exact ⊎ Fails w w2
-
   pub less_so : (e0 e : E) (s : S) (t : U) → K.Less e0 e → Relates e s t → Relates e0 s t
   pub op_went :
       (o : O) (e e1 : E) (os : List O2) (is : List Numbers) (s s1 : S) (t : U) (ns : List ℕ)

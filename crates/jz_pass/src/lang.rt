@@ -10,7 +10,9 @@ pub trait Lang {
 
     /// What a run begins with, what its end gives, and why one is stuck.
     ghost Input: { Type 0 };
+
     ghost Given: { Type 0 };
+
     ghost Reason: { Type 0 };
 
     /// The programs that passes take, and give.

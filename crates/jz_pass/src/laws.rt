@@ -12,17 +12,24 @@ ghost use Rattle.jz_pass.specs.Unrolling.{Knowing, Unrolls, IsKnown};
 /// Trees whose calls become copies of what they call, and what each part of them keeps.
 pub trait CopiedTrees {
     ghost Operation: { Type 0 };
+
     ghost Test: { Type 0 };
+
     ghost Counter: { Type 0 };
+
     ghost Call: { Type 0 };
+
     ghost State: { Type 0 };
+
     ghost Reason: { Type 0 };
 
     /// What is known of a copy.
     ghost Naming: { Type 0 };
 
     ghost parts: { Parts Self.Operation Self.Test Self.Counter Self.Call Self.State Self.Reason };
+
     ghost copying: { Copying Self.Operation Self.Test Self.Counter Self.Call Self.Naming };
+
     ghost keeps: { Keeps Self.parts Self.copying };
 }
 
@@ -33,35 +40,48 @@ pub fn inlining_keeps_runs<C: CopiedTrees>()
         → IsOf C.copying C.keeps.OpIn C.keeps.TestIn C.keeps.CounterIn C.keeps.CallIn x b
         → C.keeps.Below x c
         → Carries (between_trees (C.keeps.At x) (C.keeps.At x))
-            (λ s n. Goes C.parts b n s)
-            (λ t n. Goes C.parts (inlined C.copying x c b done) n t)
-            (inlining C.copying x c b) }
+        (λ s n. Goes C.parts b n s)
+        (λ t n. Goes C.parts (inlined C.copying x c b done) n t)
+        (inlining C.copying x c b) }
 {}
 
 /// Trees of which each statement becomes others, by what is known of the parts.
 pub trait UnrolledTrees {
     ghost Operation: { Type 0 };
+
     ghost Test: { Type 0 };
+
     ghost Counter: { Type 0 };
+
     ghost Call: { Type 0 };
+
     ghost State: { Type 0 };
+
     ghost Reason: { Type 0 };
 
     ghost NewOperation: { Type 0 };
+
     ghost NewTest: { Type 0 };
+
     ghost NewCounter: { Type 0 };
+
     ghost NewCall: { Type 0 };
+
     ghost NewState: { Type 0 };
+
     ghost NewReason: { Type 0 };
 
     /// What is known at a place of the text.
     ghost Known: { Type 0 };
 
     ghost parts: { Parts Self.Operation Self.Test Self.Counter Self.Call Self.State Self.Reason };
+
     ghost new_parts: { Parts Self.NewOperation Self.NewTest Self.NewCounter Self.NewCall
         Self.NewState Self.NewReason };
+
     ghost knowing: { Knowing Self.Operation Self.Test Self.Counter Self.Known Self.NewOperation
         Self.NewTest };
+
     ghost known: { IsKnown Self.parts Self.new_parts Self.knowing };
 }
 
@@ -71,11 +91,11 @@ pub fn unrolling_keeps_runs<U: UnrolledTrees>()
         (u : Tree U.NewOperation U.NewTest U.NewCounter U.NewCall) (k : model.Change)
         → Unrolls U.knowing b e done u e1 k
         → Carries
-            (record {
-              Starts = U.known.Relates e;
-              Ends = U.known.Relates e1;
-              Fails = U.known.Fails;
-              Exact = U.known.Exact;
-            })
-            (λ s n. Goes U.parts b n s) (λ t n. Goes U.new_parts u n t) k }
+        (record {
+          Starts = U.known.Relates e;
+          Ends = U.known.Relates e1;
+          Fails = U.known.Fails;
+          Exact = U.known.Exact;
+        })
+        (λ s n. Goes U.parts b n s) (λ t n. Goes U.new_parts u n t) k }
 {}

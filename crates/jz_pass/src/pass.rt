@@ -22,6 +22,7 @@ pub struct Passed<T> {
 /// made of it, and where that is stuck the program is.
 pub trait Pass {
     type Src: Lang;
+
     type Dst: Lang;
     /// Why a program is refused.
     type Cause;
@@ -62,7 +63,9 @@ impl<P: Pass, Q: Pass<Src = P::Dst, Cause = P::Cause>> Then<P, Q> {
 
 impl<P: Pass, Q: Pass<Src = P::Dst, Cause = P::Cause>> Pass for Then<P, Q> {
     type Src = P::Src;
+
     type Dst = Q::Dst;
+
     type Cause = P::Cause;
 
     ghost relates = { λ it. both (P.relates it.first) (Q.relates it.second) };

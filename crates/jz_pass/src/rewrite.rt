@@ -34,6 +34,7 @@ pub struct Choice<T> {
 /// A rule for one statement, from one language to another.
 pub trait Local {
     type From: Syntax;
+
     type To: Syntax;
     /// Why a statement is refused.
     type Cause;
@@ -103,7 +104,9 @@ impl<L: Local> Rewrite<L> {
 
 impl<L: Local> Pass for Rewrite<L> {
     type Src = Body<L::From>;
+
     type Dst = Body<L::To>;
+
     type Cause = L::Cause;
 
     ghost relates = { λ it. record {

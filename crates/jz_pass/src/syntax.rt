@@ -4,8 +4,8 @@ ghost use Rattle.std.specs.Prelude.{◌≡◌, ℕ, IfOk};
 ghost use Rattle.jz_leak.specs.RunLeaks.{Leak};
 ghost use Rattle.jz_runs.specs.Trees.{Tree, done};
 ghost use Rattle.jz_runs.specs.Rules.{Parts, Goes};
-ghost use Rattle.jz_pass.specs.Rewriting.{Shape, all_before, HasTree, IsAbove};
-ghost use Rattle.jz_pass.specs.InnerForms.{HasForm, first_part, second_part};
+ghost use Rattle.jz_pass.specs.Rewriting.{Shape, all_before, HasTree, IsAbove, first_part, second_part};
+ghost use Rattle.jz_pass.specs.InnerForms.{HasForm};
 
 use crate::form::Form;
 use crate::lang::Lang;
@@ -17,10 +17,15 @@ pub trait Syntax {
     type Statement: Drop;
 
     ghost Operation: { Type 0 };
+
     ghost Test: { Type 0 };
+
     ghost Counter: { Type 0 };
+
     ghost Call: { Type 0 };
+
     ghost State: { Type 0 };
+
     ghost Reason: { Type 0 };
 
     ghost parts: { Parts Self.Operation Self.Test Self.Counter Self.Call Self.State Self.Reason };
@@ -61,7 +66,9 @@ impl<S: Syntax> Lang for Body<S> {
     type Program = Seq<S::Statement>;
 
     ghost Input = { S.State };
+
     ghost Given = { S.State };
+
     ghost Reason = { S.Reason };
 
     ghost valid = { λ p. Unit {0} };
