@@ -1,2 +1,8 @@
 pub mod Composition
+pub mod CutsKept
+pub mod FlatEvents
+pub mod Forms
 pub mod Operations
+pub mod StepCases
+pub mod StepJoins
+pub mod StepViews

@@ -11,9 +11,10 @@ abbrev pub chain : {A : Type 0} → List (A → A) → A → A
 chain [] r = r
 chain (f ∷ fs) r = f (chain fs r)
 
-abbrev pub changes_from : List model.Change → model.Changes
-changes_from [] = model.none
-changes_from (t ∷ ts) = model.more t (changes_from ts)
+-- changes before others
+abbrev pub changes_before : List model.Change → model.Changes → model.Changes
+changes_before [] rest = rest
+changes_before (t ∷ ts) rest = model.more t (changes_before ts rest)
 
 -- one step, its parts not opened, before what follows
 abbrev pub layer_change :
@@ -26,7 +27,7 @@ layer_change (Step-F.While prologue before test body) r =
     model.stays_while prologue before test body r
 layer_change (Step-F.Once prologue before) r = model.once prologue before r
 layer_change (Step-F.For body) r = model.stays_for body r
-layer_change (Step-F.Unrolled rounds) r = model.unrolled (changes_from rounds) r
+layer_change (Step-F.Unrolled rounds) r = model.unrolled (changes_before rounds model.none) r
 layer_change (Step-F.Opened arguments body results) r = model.opened arguments body results r
 
 abbrev pub steps_change : Change-F (model.Change → model.Change) model.Change → model.Change
@@ -44,4 +45,4 @@ abbrev pub steps_of : List Step → model.Change
 steps_of ss = chain (map then_step ss) model.ends
 
 abbrev pub changes_of : List Change → model.Changes
-changes_of cs = changes_from (map change_of cs)
+changes_of cs = changes_before (map change_of cs) model.none

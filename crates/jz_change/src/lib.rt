@@ -3,6 +3,13 @@
 #![tactic(auto)]
 
 mod change;
+mod composing;
+mod flattening;
+mod laws;
+mod numbers;
 
 pub use change::{Change, Number, Numbers, Step};
-pub use jz_data::Seq;
+pub use composing::compose;
+pub use flattening::flatten;
+pub use jz_leak::{Case, Form, Leak, Out, Seq, Tr, Transformer};
+pub use laws::{a_cut_stays_a_cut, changes_compose, changes_flatten};

@@ -7,7 +7,7 @@ use Rattle.jz_change.specs.declared.change.Step.{Step}
 use Rattle.jz_change.specs.declared.change.Step.TheVariants as step
 use Rattle.jz_change.specs.Changes.{Change, ends}
 use Rattle.jz_change.specs.Views.{chain, then_step}
-use Rattle.jz_change.proofs.Views.{change_is, then_ops, then_if, then_while}
+use Rattle.jz_change.proofs.StepViews.{steps_append, then_ops, then_if, then_while}
 use Rattle.jz_pass.specs.declared.form.Form.TheVariants as form
 use Rattle.jz_pass.specs.Operations.{in_turn}
 use Rattle.jz_pass.specs.Unrolling.{u_done, u_op, u_quiet, u_if, u_while}
@@ -19,10 +19,6 @@ use Rattle.jz_pass.specs.InnerForms.{form_of, OperationMade, QuietMade, ChoiceMa
 pub all_append : {St A : Type 0} (before : St → A → A) (xs ys : List St) (r : A) → all_before before (xs ++ ys) r ≡ all_before before xs (all_before before ys r)
 all_append before [] ys r = refl
 all_append before (x ∷ xs) ys r = ap (before x) (all_append before xs ys r)
-
-pub steps_append : (xs ys : List Step) (k : Change) → chain (map then_step (xs ++ ys)) k ≡ chain (map then_step xs) (chain (map then_step ys) k)
-steps_append [] ys k = refl
-steps_append (x ∷ xs) ys k = ap (then_step x) (steps_append xs ys k)
 
 module _ {O T F C O2 T2 F2 C2 St St2 : Type 0} (R : Rewriting O T O2 T2) (before : St → Tree O T F C → Tree O T F C) (before2 : St2 → Tree O2 T2 F2 C2 → Tree O2 T2 F2 C2) where
   abbrev To : List St → List St2 → List Step → Type 0

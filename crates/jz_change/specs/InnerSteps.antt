@@ -1,0 +1,43 @@
+-- What loops over steps keep.
+use Rattle.std.specs.Prelude.{ℕ, ◌≡◌, List, [], ◌∷◌, ◌++◌, map}
+use Rattle.jz_leak.specs.declared.transformer.Tr.{Tr}
+use Rattle.jz_leak.specs.declared.transformer.Case.{Case}
+use Rattle.jz_change.specs.declared.change.Change.{Change as CodeChange}
+use Rattle.jz_change.specs.declared.change.Step.{Step}
+use Rattle.jz_change.specs.Changes.{Change, Changes}
+use Rattle.jz_change.specs.Composing.{JoinedChange, JoinedRounds, add_step, join}
+use Rattle.jz_change.specs.Flattening.{FlatCases, FlatRounds, add_case, flat}
+use Rattle.jz_change.specs.Views.{chain, changes_before, then_step, change_of, steps_of}
+
+-- ---- cases
+
+-- what a step makes of the first cases, whatever follows
+abbrev pub GivesCase : Step → List Case → Case → List Case → Type 0
+GivesCase s b c b2 = (r : Change) → flat (then_step s r) b ≡ add_case c (flat r b2)
+
+abbrev pub cases_and : List Case → List Case → FlatCases
+cases_and cs b = record { cases = cs; rest = b }
+
+abbrev pub cases_before : List Case → FlatCases → FlatCases
+cases_before cs f = record { cases = cs ++ f.cases; rest = f.rest }
+
+abbrev pub trees_before : List Tr → FlatRounds → FlatRounds
+trees_before ts f = record { trs = ts ++ f.trs; rest = f.rest }
+
+-- ---- steps
+
+-- what a step makes of the first steps of another change, whatever follows
+abbrev pub GivesStep : Step → Change → Step → Change → Type 0
+GivesStep s b c b2 = (r : Change) → join (then_step s r) b ≡ add_step (then_step c) (join r b2)
+
+abbrev pub steps_and : List Step → Change → JoinedChange
+steps_and ss b = record { change = steps_of ss; rest = b }
+
+abbrev pub steps_before : List Step → JoinedChange → JoinedChange
+steps_before ss j = record { change = chain (map then_step ss) j.change; rest = j.rest }
+
+abbrev pub rounds_before : List CodeChange → JoinedRounds → JoinedRounds
+rounds_before cs j = record {
+  changes = changes_before (map change_of cs) j.changes;
+  rest = j.rest;
+}
