@@ -6,3 +6,5 @@ pub mod Then
 pub mod Bodies
 pub mod Rewriting
 pub mod Refusing
+pub mod Meeting
+pub mod CasesKept

@@ -1,8 +1,10 @@
 -- The cases of a program's leaks, whatever run has them: an item for each statement that leaks.
-use Rattle.std.specs.Prelude.{Bool, if◌then◌else◌, List, [], ◌∷◌}
+use Rattle.std.specs.Prelude.{ℕ, Bool, if◌then◌else◌, List, [], ◌∷◌}
 use Rattle.jz_runs.specs.Trees.{Tree, done, op, quiet, choose, loop, each, call}
 use Rattle.jz_change.specs.declared.change.Numbers.{Numbers}
 use Rattle.jz_change.specs.Changes.{Change, ends, ops, stays_if, arm, stays_while, once, stays_for, unrolled, opened, Changes, none, more}
+use Rattle.jz_pass.specs.Copying.{Copying}
+use Rattle.jz_pass.specs.Unrolling.{Knowing}
 
 pub data Cases : Type 0 where
   no_case : Cases
@@ -83,3 +85,26 @@ mutual
 -- the change is one of the cases X, and what it gives has the cases Y
 abbrev pub IsBetween : Cases → Cases → Change → Type 0
 IsBetween X Y k = Gives k X Y no_case
+
+-- ---- rules that have an item for each operation
+
+-- as many items as operations
+pub data AsMany {O : Type 0} : List O → List Numbers → Type 0 where
+  none_each : AsMany [] []
+  one_each :
+      {o : O} {os : List O} {i : Numbers} {is : List Numbers}
+      → AsMany os is → AsMany (o ∷ os) (i ∷ is)
+
+pub record HasItems {O T F E O2 T2 : Type 0} (K : Knowing O T F E O2 T2) : Type 0 where
+  pub ops :
+      (o : O) (e e1 : E) (os : List O2) (is : List Numbers) → K.Op o e os is e1 → AsMany os is
+  pub tests :
+      (p : T) (e : E) (os : List O2) (is : List Numbers) (p2 : T2) (i : Numbers)
+      → K.Test p e os is p2 i → AsMany os is
+  pub loop_tests :
+      (p : T) (e : E) (os : List O2) (is : List Numbers) (p2 : T2) (i : Numbers)
+      → K.LoopTest p e os is p2 i → AsMany os is
+
+pub record CallsHaveItems {O T F C X : Type 0} (K : Copying O T F C X) : Type 0 where
+  pub arguments : (x : X) (c : ℕ) (q : C) → AsMany (K.arguments x c q) (K.argument_items x q)
+  pub results : (x : X) (c : ℕ) (q : C) → AsMany (K.results x c q) (K.result_items x q)

@@ -3,6 +3,7 @@ pub mod Copying
 pub mod Keeping
 pub mod Unrolling
 pub mod Laws
+pub mod Cases
 pub mod Rewriting
 pub mod InnerForms
 pub use Rattle.jz_change.specs.Changes

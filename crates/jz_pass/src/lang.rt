@@ -3,6 +3,7 @@
 ghost use Rattle.std.specs.Prelude.{ℕ};
 ghost use Rattle.jz_leak.specs.RunLeaks.{Leak};
 ghost use Rattle.jz_runs.specs.Rules.{Outcome};
+ghost use Rattle.jz_pass.specs.Cases.{Cases};
 
 /// A language: its programs, and what their runs are.
 pub trait Lang {
@@ -17,6 +18,9 @@ pub trait Lang {
 
     /// The programs that passes take, and give.
     ghost valid: { Self.Program → Type 0 };
+
+    /// The cases of a program's leaks, whatever run has them.
+    ghost cases: { Self.Program → Cases };
 
     /// The runs of a program: from an input, with so many true tests of `while` left, to an
     /// outcome.

@@ -5,6 +5,7 @@ ghost use Rattle.jz_runs.specs.Trees.{Tree, done};
 ghost use Rattle.jz_runs.specs.Rules.{Parts, Goes};
 ghost use Rattle.jz_change.specs.Changes as model;
 ghost use Rattle.jz_pass.specs.Laws.{Carries, between_trees};
+ghost use Rattle.jz_pass.specs.Cases.{CallsHaveItems, HasItems, IsBetween, cases_of};
 ghost use Rattle.jz_pass.specs.Copying.{Copying, inlined, inlining};
 ghost use Rattle.jz_pass.specs.Keeping.{IsOf, Keeps};
 ghost use Rattle.jz_pass.specs.Unrolling.{Knowing, Unrolls, IsKnown};
@@ -31,17 +32,22 @@ pub trait CopiedTrees {
     ghost copying: { Copying Self.Operation Self.Test Self.Counter Self.Call Self.Naming };
 
     ghost keeps: { Keeps Self.parts Self.copying };
+
+    ghost items: { CallsHaveItems Self.copying };
 }
 
 /// A body and its copy, in which each call is a copy too, have the same runs: at an end the
 /// variables of the body stand in the state of all copies, and they are stuck alike.
 pub fn inlining_keeps_runs<C: CopiedTrees>()
-    ensures { (x : C.Naming) (c : ℕ) (b : Tree C.Operation C.Test C.Counter C.Call)
+    ensures runs { (x : C.Naming) (c : ℕ) (b : Tree C.Operation C.Test C.Counter C.Call)
         → IsOf C.copying C.keeps.OpIn C.keeps.TestIn C.keeps.CounterIn C.keeps.CallIn x b
         → C.keeps.Below x c
         → Carries (between_trees (C.keeps.At x) (C.keeps.At x))
         (λ s n. Goes C.parts b n s)
         (λ t n. Goes C.parts (inlined C.copying x c b done) n t)
+        (inlining C.copying x c b) }
+    ensures cases { (x : C.Naming) (c : ℕ) (b : Tree C.Operation C.Test C.Counter C.Call)
+        → IsBetween (cases_of b) (cases_of (inlined C.copying x c b done))
         (inlining C.copying x c b) }
 {}
 
@@ -83,11 +89,13 @@ pub trait UnrolledTrees {
         Self.NewTest };
 
     ghost known: { IsKnown Self.parts Self.new_parts Self.knowing };
+
+    ghost items: { HasItems Self.knowing };
 }
 
 /// A body has the runs of what its statements become.
 pub fn unrolling_keeps_runs<U: UnrolledTrees>()
-    ensures { (e e1 : U.Known) (b : Tree U.Operation U.Test U.Counter U.Call)
+    ensures runs { (e e1 : U.Known) (b : Tree U.Operation U.Test U.Counter U.Call)
         (u : Tree U.NewOperation U.NewTest U.NewCounter U.NewCall) (k : model.Change)
         → Unrolls U.knowing b e done u e1 k
         → Carries
@@ -98,4 +106,7 @@ pub fn unrolling_keeps_runs<U: UnrolledTrees>()
           Exact = U.known.Exact;
         })
         (λ s n. Goes U.parts b n s) (λ t n. Goes U.new_parts u n t) k }
+    ensures cases { (e e1 : U.Known) (b : Tree U.Operation U.Test U.Counter U.Call)
+        (u : Tree U.NewOperation U.NewTest U.NewCounter U.NewCall) (k : model.Change)
+        → Unrolls U.knowing b e done u e1 k → IsBetween (cases_of b) (cases_of u) k }
 {}

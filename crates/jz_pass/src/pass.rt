@@ -5,6 +5,7 @@ ghost use Rattle.jz_data.specs.Failures.{IfRefused};
 ghost use Rattle.jz_change.specs.Changes as model;
 ghost use Rattle.jz_change.specs.Views.{change_of};
 ghost use Rattle.jz_pass.specs.Laws.{Relating, Carries, both};
+ghost use Rattle.jz_pass.specs.Cases.{IsBetween};
 
 use crate::lang::Lang;
 use jz_change::{Change, compose};
@@ -28,7 +29,8 @@ pub trait Pass {
     type Cause;
 
     /// What of the one language stands for what of the other.
-    ghost relates: { Self → Relating Self.Src.Input Self.Dst.Input Self.Src.Given Self.Dst.Given Self.Src.Reason Self.Dst.Reason };
+    ghost relates: { Self → Relating Self.Src.Input Self.Dst.Input Self.Src.Given Self.Dst.Given
+        Self.Src.Reason Self.Dst.Reason };
 
     /// The programs that are refused, with the cause.
     ghost refuses: { Self → Self.Src.Program → Self.Cause → Type 0 };
@@ -42,6 +44,8 @@ pub trait Pass {
         ensures valid { IfOk result (λ r. Self.Dst.valid r.program) }
         ensures law { IfOk result (λ r. Carries (relates self.now) (Self.Src.runs p.now)
             (Self.Dst.runs r.program) (change_of r.change)) }
+        ensures cases { IfOk result (λ r. IsBetween (Self.Src.cases p.now)
+            (Self.Dst.cases r.program) (change_of r.change)) }
         ensures refused { IfErr result (λ e. IfRefused e (refuses self.now p.now)) };
 }
 

@@ -1,10 +1,11 @@
 //! A rule for one statement as a pass over lists of statements.
 
-ghost use Rattle.std.specs.Prelude.{◌≡◌, [], ◌∷◌, IfOk, IfErr, OnOk};
+ghost use Rattle.std.specs.Prelude.{◌≡◌, [], ◌∷◌, IfOk, IfErr};
 ghost use Rattle.jz_data.specs.Failures.{IfRefused};
-ghost use Rattle.jz_pass.specs.Laws.{Relating, Carries};
+ghost use Rattle.jz_pass.specs.Laws.{Relating};
 ghost use Rattle.jz_pass.specs.Unrolling.{IsKnown};
-ghost use Rattle.jz_pass.specs.Rewriting.{Rewriting, knowing_of, Shape, other, RewritesTo, RefusesOne};
+ghost use Rattle.jz_pass.specs.Cases.{HasItems};
+ghost use Rattle.jz_pass.specs.Rewriting.{Rewriting, knowing_of, other, RewritesTo, RefusesOne};
 ghost use Rattle.jz_pass.specs.InnerForms.{HasForm, OperationMade, QuietMade, ChoiceMade};
 ghost use Rattle.jz_pass.specs.declared.form.Form.TheVariants as form;
 
@@ -46,6 +47,9 @@ pub trait Local {
     /// The law on one statement.
     ghost known: { (it : Self) → IsKnown Self.From.parts Self.To.parts
         (knowing_of (rewriting it)) };
+
+    /// It has an item for each operation.
+    ghost items: { (it : Self) → HasItems (knowing_of {F = Self.From.Counter} (rewriting it)) };
 
     ghost refuses: { Self → Self.From.Statement → Self.Cause → Type 0 };
 

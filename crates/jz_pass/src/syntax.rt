@@ -5,6 +5,7 @@ ghost use Rattle.jz_leak.specs.RunLeaks.{Leak};
 ghost use Rattle.jz_runs.specs.Trees.{Tree, done};
 ghost use Rattle.jz_runs.specs.Rules.{Parts, Goes};
 ghost use Rattle.jz_pass.specs.Rewriting.{Shape, all_before, HasTree, IsAbove, first_part, second_part};
+ghost use Rattle.jz_pass.specs.Cases.{cases_of};
 ghost use Rattle.jz_pass.specs.InnerForms.{HasForm};
 
 use crate::form::Form;
@@ -72,6 +73,8 @@ impl<S: Syntax> Lang for Body<S> {
     ghost Reason = { S.Reason };
 
     ghost valid = { λ p. Unit {0} };
+
+    ghost cases = { λ p. cases_of (all_before S.before p done) };
 
     ghost runs = { λ p s n o. Goes S.parts (all_before S.before p done) n s o };
 }

@@ -11,6 +11,7 @@ use Rattle.jz_change.specs.Fitting.{HasNumber, HasThese}
 use Rattle.jz_pass.specs.Operations.{DoAll, do_none, do_one}
 use Rattle.jz_pass.specs.Unrolling.{IsKnown}
 use Rattle.jz_pass.specs.Rewriting.{knowing_of}
+use Rattle.jz_pass.specs.Cases.{AsMany, none_each, one_each, HasItems}
 use Rattle.jz_pass_tests.specs.Meaning.{small}
 use Rattle.jz_pass_tests.specs.Rules.{StaysTest, stays, InHalves, in_halves, halving, WithoutNothing, nothing, something, dropping}
 
@@ -85,3 +86,21 @@ dropping_known = record {
   set_so = λ f i e0 e is s t h r. absurd h;
   restore_so = λ f e e1 is s s1 t t1 h r r1. absurd h;
 }
+
+-- ---- an item for each operation
+
+halves_even : {k : ℕ} {os : List ℕ} {is : List Numbers} → InHalves k os is → AsMany os is
+halves_even in_halves = one_each (one_each none_each)
+
+nothing_even : {k : ℕ} {os : List ℕ} {is : List Numbers} → WithoutNothing k os is → AsMany os is
+nothing_even nothing = none_each
+nothing_even (something f) = one_each none_each
+
+tests_even : {p p2 : ℕ} {os : List ℕ} {is : List Numbers} {i : Numbers} → StaysTest p os is p2 i → AsMany os is
+tests_even stays = none_each
+
+pub halving_items : HasItems (knowing_of {F = ⊥} halving)
+halving_items = record { ops = λ o e e1 os is h. halves_even h; tests = λ p e os is p2 i h. tests_even h; loop_tests = λ p e os is p2 i h. tests_even h }
+
+pub dropping_items : HasItems (knowing_of {F = ⊥} dropping)
+dropping_items = record { ops = λ o e e1 os is h. nothing_even h; tests = λ p e os is p2 i h. tests_even h; loop_tests = λ p e os is p2 i h. tests_even h }

@@ -1,7 +1,7 @@
 //! Additions of nothing, which are left out.
 
 ghost use Rattle.jz_pass_tests.specs.Rules.{dropping};
-ghost use Rattle.jz_pass_tests.specs.Known.{dropping_known};
+ghost use Rattle.jz_pass_tests.specs.Known.{dropping_known, dropping_items};
 
 use crate::small::{Small, SmallLanguage, Unknown, same_choice};
 use jz_pass::{Choice, Failure, Local, Numbers, Operations, Seq};
@@ -19,6 +19,8 @@ impl Local for AddNothing {
     ghost rewriting = { λ it. dropping };
 
     ghost known = { λ it. dropping_known };
+
+    ghost items = { λ it. dropping_items };
 
     ghost refuses = { λ it s cause. ⊥ };
 

@@ -4,7 +4,7 @@ ghost use Rattle.std.specs.Prelude.{◌≡◌, [], ◌∷◌, IfOk};
 ghost use Rattle.jz_change.specs.declared.change.Number.TheVariants.{Fixed};
 ghost use Rattle.jz_change.specs.declared.change.Numbers.TheVariants.{These};
 ghost use Rattle.jz_pass_tests.specs.Rules.{halving};
-ghost use Rattle.jz_pass_tests.specs.Known.{halving_known};
+ghost use Rattle.jz_pass_tests.specs.Known.{halving_known, halving_items};
 
 use crate::small::{Small, SmallLanguage, Unknown, same_choice};
 use jz_change::Number;
@@ -23,6 +23,8 @@ impl Local for Halves {
     ghost rewriting = { λ it. halving };
 
     ghost known = { λ it. halving_known };
+
+    ghost items = { λ it. halving_items };
 
     ghost refuses = { λ it s cause. ⊥ };
 
