@@ -1,5 +1,5 @@
 -- What each step makes of cases, and what the loops over steps keep.
-use Rattle.std.proofs.Common.{◌≡◌, ℕ, ◌+◌, ◌<◌, ◌≤◌, Bool, List, [], ◌∷◌, ◌++◌, refl, sym, ap, ◌∙◌, drop, append_assoc, append-nil}
+use Rattle.std.proofs.Common.{◌≡◌, ℕ, ◌+◌, ◌<◌, ◌≤◌, Bool, List, [], ◌∷◌, ◌++◌, map, refl, sym, ap, ◌∙◌, drop, append_assoc, append-nil}
 use Rattle.std.specs.Prelude.{length, slice_index_or, nat_lt, false}
 use Rattle.std.proofs.lemmas.Bool.{ltb-false}
 use Rattle.std.proofs.lemmas.List.{drop_all, drop_more, drop-drop}
@@ -114,12 +114,30 @@ first_none f cs at h = ap (first_by f) (drop_all at cs (ltb-false at (length cs)
 pub first_some : (f : Layer → Case) (cs : List Case) (at : ℕ) (c : Case) → at < length cs → c ≡ slice_index_or cs at c → first_by f (drop at cs) ≡ f (out-Case c)
 first_some f cs at c lt h = ap (first_by f) (drop_more cs at c lt) ∙ ap (λ x. f (out-Case x)) (sym h)
 
-pub while_made : (p : Change) (before : List Numbers) (test : Numbers) (y : Change) (c1 : Case) (ptr : Tr) (t m : List Out) (btr : Tr) (lv : List Out) (cs b1 : List Case) (outs outs2 m2 : List Out) (left : Tr) (l2 : List Out)
-    → c1 ≡ case.While ptr t m btr lv → flat (change_of p) ptr.cases ≡ cases_and cs b1 → outs ≡ (first_outs before b1).outs → outs2 ≡ outs ++ outs_by test t → m2 ≡ outs_by test m
+pub if_made : (test : Numbers) (x y : Change) (c1 : Case) (t xo : List Out) (xt : Tr) (yo : List Out) (yt : Tr) (outs outs2 xo2 : List Out) (xl : Tr) (yo2 : List Out) (yl : Tr)
+    → c1 ≡ case.If t xo xt yo yt → outs2 ≡ outs ++ outs_by test t → xo2 ≡ outs_by test xo → xl ≡ tr_of (flat (change_of x) xt.cases).cases → yo2 ≡ outs_by test yo → yl ≡ tr_of (flat (change_of y) yt.cases).cases
+    → case.If outs2 xo2 xl yo2 yl ≡ flat_if outs test (flat (change_of x)) (flat (change_of y)) (out-Case c1)
+if_made test x y c1 t xo xt yo yt outs outs2 xo2 xl yo2 yl e f g h i j =
+    ap (λ o. case.If o xo2 xl yo2 yl) f
+    ∙ ap (λ o. case.If (outs ++ outs_by test t) o xl yo2 yl) g
+    ∙ ap (λ o. case.If (outs ++ outs_by test t) (outs_by test xo) o yo2 yl) h
+    ∙ ap (λ o. case.If (outs ++ outs_by test t) (outs_by test xo) (tr_of (flat (change_of x) xt.cases).cases) o yl) i
+    ∙ ap (λ o. case.If (outs ++ outs_by test t) (outs_by test xo) (tr_of (flat (change_of x) xt.cases).cases) (outs_by test yo) o) j
+    ∙ sym (case.rolls-If (outs ++ outs_by test t) (outs_by test xo) (tr_of (flat (change_of x) xt.cases).cases) (outs_by test yo) (tr_of (flat (change_of y) yt.cases).cases))
+    ∙ ap (flat_if outs test (flat (change_of x)) (flat (change_of y))) (sym (ap out-Case (e ∙ sym (case.rolls-If t xo xt yo yt)) ∙ out-roll-Case (Case-F.If t xo xt yo yt)))
+
+pub for_made : (y : Change) (c1 : Case) (trs ts : List Tr) → c1 ≡ case.For trs → ts ≡ map (λ t. tr_of (flat (change_of y) t.cases).cases) trs → case.For ts ≡ flat_for (flat (change_of y)) (out-Case c1)
+for_made y c1 trs ts e f =
+    ap case.For f
+    ∙ sym (case.rolls-For (map (λ t. tr_of (flat (change_of y) t.cases).cases) trs))
+    ∙ ap (flat_for (flat (change_of y))) (sym (ap out-Case (e ∙ sym (case.rolls-For trs)) ∙ out-roll-Case (Case-F.For trs)))
+
+pub while_made : (p : Change) (before : List Numbers) (test : Numbers) (y : Change) (c1 : Case) (ptr : Tr) (t m : List Out) (btr : Tr) (lv : List Out) (cs b1 : List Case) (outs2 m2 : List Out) (left : Tr) (l2 : List Out)
+    → c1 ≡ case.While ptr t m btr lv → flat (change_of p) ptr.cases ≡ cases_and cs b1 → outs2 ≡ (first_outs before b1).outs ++ outs_by test t → m2 ≡ outs_by test m
     → left ≡ tr_of (flat (change_of y) btr.cases).cases → l2 ≡ outs_by test lv
     → case.While (tr_of cs) outs2 m2 left l2 ≡ flat_while before test (flat (change_of p)) (flat (change_of y)) (out-Case c1)
-while_made p before test y c1 ptr t m btr lv cs b1 outs outs2 m2 left l2 e f g h i j k =
-    ap (λ x. case.While (tr_of cs) x m2 left l2) (h ∙ ap (λ x. x ++ outs_by test t) g)
+while_made p before test y c1 ptr t m btr lv cs b1 outs2 m2 left l2 e f h i j k =
+    ap (λ x. case.While (tr_of cs) x m2 left l2) h
     ∙ ap (λ x. case.While (tr_of cs) ((first_outs before b1).outs ++ outs_by test t) x left l2) i
     ∙ ap (λ x. case.While (tr_of cs) ((first_outs before b1).outs ++ outs_by test t) (outs_by test m) x l2) j
     ∙ ap (λ x. case.While (tr_of cs) ((first_outs before b1).outs ++ outs_by test t) (outs_by test m) (tr_of (flat (change_of y) btr.cases).cases) x) k

@@ -149,14 +149,14 @@ while_by p before test y b c b2 g h r =
     ∙ ap (λ o. add_step (then_step c) (join r o)) (sym h)
 
 pub while_while_joins : (p : Change) (before : List Numbers) (test : Numbers) (y : Change) (b : model.Change) (second : Step) (p2 : Change) (before2 : List Numbers) (test2 : Numbers) (y2 : Change) (b3 : model.Change)
-    (ss : List Step) (b4 : model.Change) (items items2 : List Numbers) (n : Numbers) (t : Change) (b2 : model.Change) → b ≡ then_step second b3 → second ≡ step.While p2 before2 test2 y2
-    → join (change_of p) (steps_of p2.steps) ≡ steps_and ss b4 → items ≡ (first_ops before b4).items → items2 ≡ items ++ all_by test before2 → n ≡ numbers_by test test2 → change_of t ≡ (join (change_of y) (steps_of y2.steps)).change → b2 ≡ behind b
+    (ss : List Step) (b4 : model.Change) (items2 : List Numbers) (n : Numbers) (t : Change) (b2 : model.Change) → b ≡ then_step second b3 → second ≡ step.While p2 before2 test2 y2
+    → join (change_of p) (steps_of p2.steps) ≡ steps_and ss b4 → items2 ≡ (first_ops before b4).items ++ all_by test before2 → n ≡ numbers_by test test2 → change_of t ≡ (join (change_of y) (steps_of y2.steps)).change → b2 ≡ behind b
     → GivesStep (step.While p before test y) b (step.While (of_steps ss) items2 n t) b2
-while_while_joins p before test y b second p2 before2 test2 y2 b3 ss b4 items items2 n t b2 h1 h2 h3 h4 h5 h6 h7 h8 =
+while_while_joins p before test y b second p2 before2 test2 y2 b3 ss b4 items2 n t b2 h1 h2 h3 h5 h6 h7 h8 =
     while_by p before test y b (step.While (of_steps ss) items2 n t) b2
     (λ r. then_while (of_steps ss) items2 n t r
     ∙ ap (λ o. model.stays_while o items2 n (change_of t) r) (change_is (of_steps ss))
-    ∙ ap (λ o. model.stays_while (steps_of ss) o n (change_of t) r) (h5 ∙ ap (λ o. o ++ all_by test before2) h4)
+    ∙ ap (λ o. model.stays_while (steps_of ss) o n (change_of t) r) h5
     ∙ ap (λ o. model.stays_while (steps_of ss) ((first_ops before b4).items ++ all_by test before2) o (change_of t) r) h6
     ∙ ap (λ o. model.stays_while (steps_of ss) ((first_ops before b4).items ++ all_by test before2) (numbers_by test test2) o r) (h7 ∙ ap (λ o. (join (change_of y) o).change) (sym (change_is y2)))
     ∙ ap (λ (o : JoinedChange). model.stays_while o.change ((first_ops before o.rest).items ++ all_by test before2) (numbers_by test test2) (join (change_of y) (change_of y2)).change r) (sym (ap (join (change_of p)) (change_is p2) ∙ h3))
@@ -164,14 +164,14 @@ while_while_joins p before test y b second p2 before2 test2 y2 b3 ss b4 items it
     h8
 
 pub while_once_joins : (p : Change) (before : List Numbers) (test : Numbers) (y : Change) (b : model.Change) (second : Step) (p2 : Change) (before2 : List Numbers) (b3 : model.Change)
-    (ss : List Step) (b4 : model.Change) (items items2 : List Numbers) (b2 : model.Change) → b ≡ then_step second b3 → second ≡ step.Once p2 before2
-    → join (change_of p) (steps_of p2.steps) ≡ steps_and ss b4 → items ≡ (first_ops before b4).items → items2 ≡ items ++ all_by test before2 → b2 ≡ behind b
+    (ss : List Step) (b4 : model.Change) (items2 : List Numbers) (b2 : model.Change) → b ≡ then_step second b3 → second ≡ step.Once p2 before2
+    → join (change_of p) (steps_of p2.steps) ≡ steps_and ss b4 → items2 ≡ (first_ops before b4).items ++ all_by test before2 → b2 ≡ behind b
     → GivesStep (step.While p before test y) b (step.Once (of_steps ss) items2) b2
-while_once_joins p before test y b second p2 before2 b3 ss b4 items items2 b2 h1 h2 h3 h4 h5 h6 =
+while_once_joins p before test y b second p2 before2 b3 ss b4 items2 b2 h1 h2 h3 h5 h6 =
     while_by p before test y b (step.Once (of_steps ss) items2) b2
     (λ r. then_once (of_steps ss) items2 r
     ∙ ap (λ o. model.once o items2 r) (change_is (of_steps ss))
-    ∙ ap (λ o. model.once (steps_of ss) o r) (h5 ∙ ap (λ o. o ++ all_by test before2) h4)
+    ∙ ap (λ o. model.once (steps_of ss) o r) h5
     ∙ ap (λ (o : JoinedChange). model.once o.change ((first_ops before o.rest).items ++ all_by test before2) r) (sym (ap (join (change_of p)) (change_is p2) ∙ h3))
     ∙ ap (λ o. join_while before test (join (change_of p)) (join (change_of y)) o r) (sym (h1 ∙ ap (λ s. then_step s b3) h2 ∙ then_once p2 before2 b3)))
     h6

@@ -1,5 +1,5 @@
 -- What loops over steps keep.
-use Rattle.std.specs.Prelude.{ℕ, ◌≡◌, List, [], ◌∷◌, ◌++◌, map}
+use Rattle.std.specs.Prelude.{ℕ, ◌≡◌, List, [], ◌∷◌, ◌++◌, map, drop}
 use Rattle.jz_leak.specs.declared.transformer.Tr.{Tr}
 use Rattle.jz_leak.specs.declared.transformer.Case.{Case}
 use Rattle.jz_change.specs.declared.change.Change.{Change as CodeChange}
@@ -41,3 +41,10 @@ rounds_before cs j = record {
   changes = changes_before (map change_of cs) j.changes;
   rest = j.rest;
 }
+
+-- the same of lists and places in them
+abbrev pub GivesCaseAt : Step → List Case → ℕ → Case → ℕ → Type 0
+GivesCaseAt s cs at c to = GivesCase s (drop at cs) c (drop to cs)
+
+abbrev pub GivesStepAt : Step → List Step → ℕ → Step → ℕ → Type 0
+GivesStepAt s ss at c to = GivesStep s (steps_of (drop at ss)) c (steps_of (drop to ss))

@@ -1,10 +1,10 @@
 //! Two changes one after another.
 
 ghost use Rattle.std.specs.Prelude.{◌≡◌, ◌++◌, [], IfOk, OnOk, drop};
-ghost use Rattle.jz_change.specs.declared.change.Step.TheVariants.{Ops};
-ghost use Rattle.jz_change.specs.Composing.{head_ops, first_ops, behind, join, join_every, join_rounds, compose_of, Composes};
+ghost use Rattle.jz_change.specs.declared.change.Step.{Step};
+ghost use Rattle.jz_change.specs.Composing.{all_by, head_ops, first_ops, behind, join, join_every, compose_of, Composes};
 ghost use Rattle.jz_change.specs.Views.{change_of, changes_of, steps_of};
-ghost use Rattle.jz_change.specs.InnerSteps.{GivesStep, steps_and};
+ghost use Rattle.jz_change.specs.InnerSteps.{GivesStepAt, steps_and};
 
 use crate::change::{Change, Numbers, Step};
 use crate::numbers::{numbers_by, push_all};
@@ -74,11 +74,15 @@ struct One {
     at: usize,
 }
 
-// The same of changes.
-#[derive(Drop)]
-struct Rounds {
-    parts: Seq<Change>,
-    at: usize,
+// Where the steps are of another kind.
+fn nothing(alloc: Global, at: usize) -> One
+    ensures step { result.step ≡ Step.Ops [] }
+    ensures at { result.at ≡ at }
+{
+    One {
+        step: Step::Ops(Seq::new(alloc)),
+        at,
+    }
 }
 
 // The steps of a change, one after another.
@@ -109,235 +113,296 @@ fn compose_change(alloc: Global, a: &Change, steps: &[Step]) -> Result<Change, A
     Ok(Change { steps: part.steps })
 }
 
-// Where the steps are of another kind.
-fn no_step(alloc: Global) -> Step
-    ensures { result ≡ Ops [] }
-{
-    Step::Ops(Seq::new(alloc))
-}
-
 // One step.
 #[cycle(compose)]
 fn compose_step(alloc: Global, step: &Step, steps: &[Step], at: usize) -> Result<One, AllocError>
-    ensures { IfOk result (λ o. GivesStep step.now (steps_of (drop at steps.now)) o.step
-        (steps_of (drop o.at steps.now))) }
+    ensures { IfOk result (λ o. GivesStepAt step.now steps.now at o.step o.at) }
 {
     match step {
-        Step::Ops(items) => {
-            let mut out = Vec::new(alloc);
-            let to = take(alloc, &mut out, items, steps, at)?;
-            Ok(One {
-                step: Step::Ops(Seq::from_vec(out)),
-                at: to,
-            })
-        }
+        Step::Ops(items) => compose_ops(alloc, items, steps, at),
         Step::If {
             before,
             test,
             then_part,
             else_part,
-        } => {
-            let mut out = Vec::new(alloc);
-            let to = take(alloc, &mut out, before, steps, at)?;
-            let to_next = next(steps, to);
-            match steps.get(to) {
-                None => Ok(One {
-                    step: no_step(alloc),
-                    at: to_next,
-                }),
-                Some(second) => match second {
-                    Step::If {
-                        before: before2,
-                        test: test2,
-                        then_part: then2,
-                        else_part: else2,
-                    } => {
-                        push_all(alloc, &mut out, test, before2)?;
-                        let numbers = numbers_by(alloc, test, test2)?;
-                        let then_left = compose_change(alloc, then_part, then2.steps.as_slice())?;
-                        let else_left = compose_change(alloc, else_part, else2.steps.as_slice())?;
-                        Ok(One {
-                            step: Step::If {
-                                before: Seq::from_vec(out),
-                                test: numbers,
-                                then_part: then_left,
-                                else_part: else_left,
-                            },
-                            at: to_next,
-                        })
-                    }
-                    Step::Arm {
-                        answer,
-                        before: before2,
-                        part: part2,
-                    } => {
-                        push_all(alloc, &mut out, test, before2)?;
-                        let inner = part2.steps.as_slice();
-                        let left = if *answer {
-                            compose_change(alloc, then_part, inner)?
-                        } else {
-                            compose_change(alloc, else_part, inner)?
-                        };
-                        Ok(One {
-                            step: Step::Arm {
-                                answer: *answer,
-                                before: Seq::from_vec(out),
-                                part: left,
-                            },
-                            at: to_next,
-                        })
-                    }
-                    _ => Ok(One {
-                        step: no_step(alloc),
-                        at: to_next,
-                    }),
-                },
-            }
-        }
+        } => compose_if(alloc, before, test, then_part, else_part, steps, at),
         Step::Arm {
             answer,
             before,
             part,
-        } => {
-            let mut out = Vec::new(alloc);
-            let to = take(alloc, &mut out, before, steps, at)?;
-            let left = compose_steps(alloc, part, steps, to)?;
-            Ok(One {
-                step: Step::Arm {
-                    answer: *answer,
-                    before: Seq::from_vec(out),
-                    part: Change { steps: left.steps },
-                },
-                at: left.at,
-            })
-        }
+        } => compose_arm(alloc, *answer, before, part, steps, at),
         Step::While {
             prologue,
             before,
             test,
             body,
-        } => {
-            let to_next = next(steps, at);
-            match steps.get(at) {
-                None => Ok(One {
-                    step: no_step(alloc),
-                    at: to_next,
-                }),
-                Some(second) => match second {
-                    Step::While {
-                        prologue: prologue2,
-                        before: before2,
-                        test: test2,
-                        body: body2,
-                    } => {
-                        let inner = prologue2.steps.as_slice();
-                        let part = compose_steps(alloc, prologue, inner, 0)?;
-                        let mut out = Vec::new(alloc);
-                        let _behind = take(alloc, &mut out, before, inner, part.at)?;
-                        push_all(alloc, &mut out, test, before2)?;
-                        let numbers = numbers_by(alloc, test, test2)?;
-                        let left = compose_change(alloc, body, body2.steps.as_slice())?;
-                        Ok(One {
-                            step: Step::While {
-                                prologue: Change { steps: part.steps },
-                                before: Seq::from_vec(out),
-                                test: numbers,
-                                body: left,
-                            },
-                            at: to_next,
-                        })
-                    }
-                    Step::Once {
-                        prologue: prologue2,
-                        before: before2,
-                    } => {
-                        let inner = prologue2.steps.as_slice();
-                        let part = compose_steps(alloc, prologue, inner, 0)?;
-                        let mut out = Vec::new(alloc);
-                        let _behind = take(alloc, &mut out, before, inner, part.at)?;
-                        push_all(alloc, &mut out, test, before2)?;
-                        Ok(One {
-                            step: Step::Once {
-                                prologue: Change { steps: part.steps },
-                                before: Seq::from_vec(out),
-                            },
-                            at: to_next,
-                        })
-                    }
-                    _ => Ok(One {
-                        step: no_step(alloc),
-                        at: to_next,
-                    }),
-                },
-            }
-        }
-        Step::Once { prologue, before } => {
-            let part = compose_steps(alloc, prologue, steps, at)?;
-            let mut out = Vec::new(alloc);
-            let to = take(alloc, &mut out, before, steps, part.at)?;
-            Ok(One {
-                step: Step::Once {
-                    prologue: Change { steps: part.steps },
-                    before: Seq::from_vec(out),
-                },
-                at: to,
-            })
-        }
-        Step::For(body) => {
-            let to_next = next(steps, at);
-            match steps.get(at) {
-                None => Ok(One {
-                    step: no_step(alloc),
-                    at: to_next,
-                }),
-                Some(second) => match second {
-                    Step::For(body2) => {
-                        let left = compose_change(alloc, body, body2.steps.as_slice())?;
-                        Ok(One {
-                            step: Step::For(left),
-                            at: to_next,
-                        })
-                    }
-                    Step::Unrolled(parts2) => {
-                        let parts = compose_every(alloc, body, parts2.as_slice())?;
-                        Ok(One {
-                            step: Step::Unrolled(parts),
-                            at: to_next,
-                        })
-                    }
-                    _ => Ok(One {
-                        step: no_step(alloc),
-                        at: to_next,
-                    }),
-                },
-            }
-        }
-        Step::Unrolled(parts) => {
-            let rounds = compose_rounds(alloc, parts, steps, at)?;
-            Ok(One {
-                step: Step::Unrolled(rounds.parts),
-                at: rounds.at,
-            })
-        }
+        } => compose_while(alloc, prologue, before, test, body, steps, at),
+        Step::Once { prologue, before } => compose_once(alloc, prologue, before, steps, at),
+        Step::For(body) => compose_for(alloc, body, steps, at),
+        Step::Unrolled(parts) => compose_unrolled(alloc, parts, steps, at),
         Step::Opened {
             arguments,
             body,
             results,
-        } => {
-            let mut first = Vec::new(alloc);
-            let from = take(alloc, &mut first, arguments, steps, at)?;
-            let part = compose_steps(alloc, body, steps, from)?;
-            let mut last = Vec::new(alloc);
-            let to = take(alloc, &mut last, results, steps, part.at)?;
-            Ok(One {
-                step: Step::Opened {
-                    arguments: Seq::from_vec(first),
-                    body: Change { steps: part.steps },
-                    results: Seq::from_vec(last),
-                },
-                at: to,
-            })
-        }
+        } => compose_opened(alloc, arguments, body, results, steps, at),
+    }
+}
+
+// An operation that becomes so many.
+fn compose_ops(
+    alloc: Global,
+    items: &Seq<Numbers>,
+    steps: &[Step],
+    at: usize,
+) -> Result<One, AllocError>
+    ensures { IfOk result (λ o. GivesStepAt (Step.Ops items.now) steps.now at o.step o.at) }
+{
+    let mut out = Vec::new(alloc);
+    let to = take(alloc, &mut out, items, steps, at)?;
+    Ok(One {
+        step: Step::Ops(Seq::from_vec(out)),
+        at: to,
+    })
+}
+
+// An `if` that stays: the other change keeps it or leaves one of its arms.
+#[cycle(compose)]
+fn compose_if(
+    alloc: Global,
+    before: &Seq<Numbers>,
+    test: &Numbers,
+    then_part: &Change,
+    else_part: &Change,
+    steps: &[Step],
+    at: usize,
+) -> Result<One, AllocError>
+    ensures { IfOk result (λ o. GivesStepAt
+        (Step.If before.now test.now then_part.now else_part.now) steps.now at o.step o.at) }
+{
+    let mut out = Vec::new(alloc);
+    let to = take(alloc, &mut out, before, steps, at)?;
+    let to_next = next(steps, to);
+    match steps.get(to) {
+        None => Ok(nothing(alloc, to_next)),
+        Some(second) => match second {
+            Step::If {
+                before: more,
+                test: numbers,
+                then_part: then_steps,
+                else_part: else_steps,
+            } => {
+                push_all(alloc, &mut out, test, more)?;
+                let both = numbers_by(alloc, test, numbers)?;
+                let then_left = compose_change(alloc, then_part, then_steps.steps.as_slice())?;
+                let else_left = compose_change(alloc, else_part, else_steps.steps.as_slice())?;
+                Ok(One {
+                    step: Step::If {
+                        before: Seq::from_vec(out),
+                        test: both,
+                        then_part: then_left,
+                        else_part: else_left,
+                    },
+                    at: to_next,
+                })
+            }
+            Step::Arm {
+                answer,
+                before: more,
+                part,
+            } => {
+                push_all(alloc, &mut out, test, more)?;
+                if *answer {
+                    let left = compose_change(alloc, then_part, part.steps.as_slice())?;
+                    Ok(arm_of(true, out, left, to_next))
+                } else {
+                    let left = compose_change(alloc, else_part, part.steps.as_slice())?;
+                    Ok(arm_of(false, out, left, to_next))
+                }
+            }
+            _ => Ok(nothing(alloc, to_next)),
+        },
+    }
+}
+
+// The arm of an answer.
+fn arm_of(answer: bool, before: Vec<Numbers>, part: Change, at: usize) -> One
+    ensures step { result.step ≡ Step.Arm answer before.items part }
+    ensures at { result.at ≡ at }
+{
+    One {
+        step: Step::Arm {
+            answer,
+            before: Seq::from_vec(before),
+            part,
+        },
+        at,
+    }
+}
+
+// An `if` of which an arm is left.
+#[cycle(compose)]
+fn compose_arm(
+    alloc: Global,
+    answer: bool,
+    before: &Seq<Numbers>,
+    part: &Change,
+    steps: &[Step],
+    at: usize,
+) -> Result<One, AllocError>
+    ensures { IfOk result (λ o. GivesStepAt
+        (Step.Arm answer before.now part.now) steps.now at o.step o.at) }
+{
+    let mut out = Vec::new(alloc);
+    let to = take(alloc, &mut out, before, steps, at)?;
+    let left = compose_steps(alloc, part, steps, to)?;
+    Ok(One {
+        step: Step::Arm {
+            answer,
+            before: Seq::from_vec(out),
+            part: Change { steps: left.steps },
+        },
+        at: left.at,
+    })
+}
+
+// A `while` that stays: the other change keeps it or leaves its prologue.
+#[cycle(compose)]
+fn compose_while(
+    alloc: Global,
+    prologue: &Change,
+    before: &Seq<Numbers>,
+    test: &Numbers,
+    body: &Change,
+    steps: &[Step],
+    at: usize,
+) -> Result<One, AllocError>
+    ensures { IfOk result (λ o. GivesStepAt
+        (Step.While prologue.now before.now test.now body.now) steps.now at o.step o.at) }
+{
+    let to_next = next(steps, at);
+    match steps.get(at) {
+        None => Ok(nothing(alloc, to_next)),
+        Some(second) => match second {
+            Step::While {
+                prologue: inner,
+                before: more,
+                test: numbers,
+                body: body_steps,
+            } => {
+                let part = compose_steps(alloc, prologue, inner.steps.as_slice(), 0)?;
+                let out = behind_prologue(
+                    alloc,
+                    before,
+                    test,
+                    more,
+                    inner.steps.as_slice(),
+                    part.at,
+                )?;
+                let both = numbers_by(alloc, test, numbers)?;
+                let left = compose_change(alloc, body, body_steps.steps.as_slice())?;
+                Ok(One {
+                    step: Step::While {
+                        prologue: Change { steps: part.steps },
+                        before: out,
+                        test: both,
+                        body: left,
+                    },
+                    at: to_next,
+                })
+            }
+            Step::Once {
+                prologue: inner,
+                before: more,
+            } => {
+                let part = compose_steps(alloc, prologue, inner.steps.as_slice(), 0)?;
+                let out = behind_prologue(
+                    alloc,
+                    before,
+                    test,
+                    more,
+                    inner.steps.as_slice(),
+                    part.at,
+                )?;
+                Ok(One {
+                    step: Step::Once {
+                        prologue: Change { steps: part.steps },
+                        before: out,
+                    },
+                    at: to_next,
+                })
+            }
+            _ => Ok(nothing(alloc, to_next)),
+        },
+    }
+}
+
+// What stands behind a prologue: operations of the first change, then those of the other one.
+fn behind_prologue(
+    alloc: Global,
+    before: &Seq<Numbers>,
+    test: &Numbers,
+    more: &Seq<Numbers>,
+    steps: &[Step],
+    at: usize,
+) -> Result<Seq<Numbers>, AllocError>
+    ensures { IfOk result (λ out. out
+        ≡ (first_ops before.now (steps_of (drop at steps.now))).items ++ all_by test.now more.now) }
+{
+    let mut out = Vec::new(alloc);
+    let _behind = take(alloc, &mut out, before, steps, at)?;
+    push_all(alloc, &mut out, test, more)?;
+    Ok(Seq::from_vec(out))
+}
+
+// A `while` of which the prologue is left.
+#[cycle(compose)]
+fn compose_once(
+    alloc: Global,
+    prologue: &Change,
+    before: &Seq<Numbers>,
+    steps: &[Step],
+    at: usize,
+) -> Result<One, AllocError>
+    ensures { IfOk result (λ o. GivesStepAt
+        (Step.Once prologue.now before.now) steps.now at o.step o.at) }
+{
+    let part = compose_steps(alloc, prologue, steps, at)?;
+    let mut out = Vec::new(alloc);
+    let to = take(alloc, &mut out, before, steps, part.at)?;
+    Ok(One {
+        step: Step::Once {
+            prologue: Change { steps: part.steps },
+            before: Seq::from_vec(out),
+        },
+        at: to,
+    })
+}
+
+// A `for` that stays: the other change keeps it or sets its rounds one after another.
+#[cycle(compose)]
+fn compose_for(alloc: Global, body: &Change, steps: &[Step], at: usize) -> Result<One, AllocError>
+    ensures { IfOk result (λ o. GivesStepAt (Step.For body.now) steps.now at o.step o.at) }
+{
+    let to_next = next(steps, at);
+    match steps.get(at) {
+        None => Ok(nothing(alloc, to_next)),
+        Some(second) => match second {
+            Step::For(inner) => {
+                let left = compose_change(alloc, body, inner.steps.as_slice())?;
+                Ok(One {
+                    step: Step::For(left),
+                    at: to_next,
+                })
+            }
+            Step::Unrolled(rounds) => {
+                let parts = compose_every(alloc, body, rounds.as_slice())?;
+                Ok(One {
+                    step: Step::Unrolled(parts),
+                    at: to_next,
+                })
+            }
+            _ => Ok(nothing(alloc, to_next)),
+        },
     }
 }
 
@@ -357,16 +422,13 @@ fn compose_every(alloc: Global, body: &Change, parts: &[Change]) -> Result<Seq<C
 
 // The rounds of a `for`, one after another.
 #[cycle(compose)]
-fn compose_rounds(
+fn compose_unrolled(
     alloc: Global,
     parts: &Seq<Change>,
     steps: &[Step],
     at: usize,
-) -> Result<Rounds, AllocError>
-    ensures changes { IfOk result (λ r. changes_of r.parts
-        ≡ (join_rounds (changes_of parts.now) (steps_of (drop at steps.now))).changes) }
-    ensures rest { IfOk result (λ r. steps_of (drop r.at steps.now)
-        ≡ (join_rounds (changes_of parts.now) (steps_of (drop at steps.now))).rest) }
+) -> Result<One, AllocError>
+    ensures { IfOk result (λ o. GivesStepAt (Step.Unrolled parts.now) steps.now at o.step o.at) }
 {
     let mut all = Seq::new(alloc);
     let mut now = at;
@@ -375,15 +437,42 @@ fn compose_rounds(
         all.push(Change { steps: made.steps })?;
         now = made.at;
     }
-    Ok(Rounds {
-        parts: all,
+    Ok(One {
+        step: Step::Unrolled(all),
         at: now,
     })
 }
 
-/// What two passes make of a leak, `a` first. Where the leaks that `a` gives do not fit `b`, no
-/// leak fits the result. The recursion is as deep as `a`, which is bounded by the nesting of the
-/// text.
+// A call.
+#[cycle(compose)]
+fn compose_opened(
+    alloc: Global,
+    arguments: &Seq<Numbers>,
+    body: &Change,
+    results: &Seq<Numbers>,
+    steps: &[Step],
+    at: usize,
+) -> Result<One, AllocError>
+    ensures { IfOk result (λ o. GivesStepAt
+        (Step.Opened arguments.now body.now results.now) steps.now at o.step o.at) }
+{
+    let mut first = Vec::new(alloc);
+    let from = take(alloc, &mut first, arguments, steps, at)?;
+    let part = compose_steps(alloc, body, steps, from)?;
+    let mut last = Vec::new(alloc);
+    let to = take(alloc, &mut last, results, steps, part.at)?;
+    Ok(One {
+        step: Step::Opened {
+            arguments: Seq::from_vec(first),
+            body: Change { steps: part.steps },
+            results: Seq::from_vec(last),
+        },
+        at: to,
+    })
+}
+
+/// What two passes make of a leak, `a` first. The recursion is as deep as `a`, which is bounded by
+/// the nesting of the text.
 pub fn compose(alloc: Global, a: Change, b: Change) -> Result<Change, AllocError>
     ensures is { IfOk result (λ c. change_of c ≡ compose_of (change_of a) (change_of b)) }
     ensures law { IfOk result (λ c. Composes (change_of a) (change_of b) (change_of c)) }

@@ -1,12 +1,14 @@
 //! The printed transformer of a change and of the last pass behind it.
 
-ghost use Rattle.std.specs.Prelude.{◌≡◌, ◌++◌, IfOk, OnOk, drop};
+ghost use Rattle.std.specs.Prelude.{◌≡◌, ◌++◌, [], IfOk, OnOk, map, drop};
 ghost use Rattle.jz_words.specs.declared.size.Size.TheVariants.{S64};
 ghost use Rattle.jz_words.specs.Sizes.{signed};
-ghost use Rattle.jz_leak.specs.declared.transformer.Case.TheViews.{out-Case, roll-Case};
-ghost use Rattle.jz_change.specs.Flattening.{indexed_form, form_by, out_by, outs_by, head_outs, cases_behind, first_outs, tr_of, flat_arm, flat_if, flat_while, flat_for, first_by, flat, flat_rounds, flatten_of, Flattens};
-ghost use Rattle.jz_change.specs.Views.{change_of, changes_of};
-ghost use Rattle.jz_change.specs.InnerSteps.{GivesCase, cases_and};
+ghost use Rattle.jz_leak.specs.declared.transformer.Case.{Case};
+ghost use Rattle.jz_leak.specs.declared.transformer.Case.TheViews.{roll-Case};
+ghost use Rattle.jz_change.specs.declared.change.Step.{Step};
+ghost use Rattle.jz_change.specs.Flattening.{indexed_form, form_by, out_by, outs_by, head_outs, cases_behind, first_outs, tr_of, flat_arm, flat, flatten_of, Flattens};
+ghost use Rattle.jz_change.specs.Views.{change_of};
+ghost use Rattle.jz_change.specs.InnerSteps.{GivesCaseAt, cases_and};
 
 use crate::change::{Change, Number, Numbers, Step};
 use crate::numbers::number_at;
@@ -100,7 +102,8 @@ fn push_case(
     cases: &[Case],
     at: usize,
 ) -> Result<(), AllocError>
-    ensures { OnOk result (outs.new.items ≡ outs.old.items ++ head_outs numbers.now (drop at cases.now)) }
+    ensures { OnOk result
+        (outs.new.items ≡ outs.old.items ++ head_outs numbers.now (drop at cases.now)) }
 {
     match cases.get(at) {
         None => Ok(()),
@@ -125,8 +128,10 @@ fn take(
     cases: &[Case],
     at: usize,
 ) -> Result<usize, AllocError>
-    ensures outs { IfOk result (λ to. outs.new.items ≡ outs.old.items ++ (first_outs items.now (drop at cases.now)).outs) }
-    ensures rest { IfOk result (λ to. (first_outs items.now (drop at cases.now)).rest ≡ drop to cases.now) }
+    ensures outs { IfOk result (λ to. outs.new.items
+        ≡ outs.old.items ++ (first_outs items.now (drop at cases.now)).outs) }
+    ensures rest { IfOk result (λ to.
+        (first_outs items.now (drop at cases.now)).rest ≡ drop to cases.now) }
 {
     let mut to = at;
     for numbers in items.as_slice() {
@@ -163,17 +168,22 @@ struct One {
     at: usize,
 }
 
-// The same of trees.
-#[derive(Drop)]
-struct Rounds {
-    trs: Seq<Tr>,
-    at: usize,
+// Where the cases are of another kind.
+fn nothing(alloc: Global, at: usize) -> One
+    ensures case { result.case ≡ Case.Op [] }
+    ensures at { result.at ≡ at }
+{
+    One {
+        case: Case::Op(Seq::new(alloc)),
+        at,
+    }
 }
 
 // The steps of a change, one after another.
 #[cycle(flat)]
-fn flat_change(alloc: Global, a: &Change, cases: &[Case], at: usize) -> Result<Part, AllocError>
-    ensures { IfOk result (λ p. flat (change_of a.now) (drop at cases.now) ≡ cases_and p.cases (drop p.at cases.now)) }
+fn flat_steps(alloc: Global, a: &Change, cases: &[Case], at: usize) -> Result<Part, AllocError>
+    ensures { IfOk result (λ p. flat (change_of a.now) (drop at cases.now)
+        ≡ cases_and p.cases (drop p.at cases.now)) }
 {
     let mut out = Seq::new(alloc);
     let mut now = at;
@@ -193,170 +203,134 @@ fn flat_change(alloc: Global, a: &Change, cases: &[Case], at: usize) -> Result<P
 fn flat_tr(alloc: Global, a: &Change, tr: &Tr) -> Result<Tr, AllocError>
     ensures { IfOk result (λ t. t ≡ tr_of (flat (change_of a.now) tr.now.cases).cases) }
 {
-    let part = flat_change(alloc, a, tr.cases.as_slice(), 0)?;
+    let part = flat_steps(alloc, a, tr.cases.as_slice(), 0)?;
     Ok(Tr { cases: part.cases })
 }
 
 // One step.
 #[cycle(flat)]
 fn flat_step(alloc: Global, step: &Step, cases: &[Case], at: usize) -> Result<One, AllocError>
-    ensures { IfOk result (λ o. GivesCase step.now (drop at cases.now) o.case (drop o.at cases.now)) }
+    ensures { IfOk result (λ o. GivesCaseAt step.now cases.now at o.case o.at) }
 {
     match step {
-        Step::Ops(items) => {
-            let mut outs = Vec::new(alloc);
-            let to = take(&mut outs, items, cases, at)?;
-            Ok(One {
-                case: Case::Op(Seq::from_vec(outs)),
-                at: to,
-            })
-        }
+        Step::Ops(items) => flat_ops(alloc, items, cases, at),
         Step::If {
             before,
             test,
             then_part,
             else_part,
-        } => {
-            let mut outs = Vec::new(alloc);
-            let to = take(&mut outs, before, cases, at)?;
-            let case = match cases.get(to) {
-                None => Case::Op(Seq::new(alloc)),
-                Some(case) => match case {
-                    Case::If {
-                        test: outs_of_test,
-                        then_outs,
-                        then_tr,
-                        else_outs,
-                        else_tr,
-                    } => {
-                        let then_left = flat_tr(alloc, then_part, then_tr)?;
-                        let else_left = flat_tr(alloc, else_part, else_tr)?;
-                        push_outs(&mut outs, test, outs_of_test)?;
-                        Case::If {
-                            test: Seq::from_vec(outs),
-                            then_outs: outs_by_numbers(alloc, test, then_outs)?,
-                            then_tr: then_left,
-                            else_outs: outs_by_numbers(alloc, test, else_outs)?,
-                            else_tr: else_left,
-                        }
-                    }
-                    _ => Case::Op(Seq::new(alloc)),
-                },
-            };
-            Ok(One {
-                case,
-                at: next(cases, to),
-            })
-        }
+        } => flat_if(alloc, before, test, then_part, else_part, cases, at),
         Step::Arm {
             answer,
             before,
             part,
-        } => {
-            let mut outs = Vec::new(alloc);
-            let to = take(&mut outs, before, cases, at)?;
-            let arm = flat_change(alloc, part, cases, to)?;
-            Ok(One {
-                case: flat_arm(alloc, *answer, outs, arm.cases),
-                at: arm.at,
-            })
-        }
+        } => flat_arm(alloc, *answer, before, part, cases, at),
         Step::While {
             prologue,
             before,
             test,
             body,
-        } => {
-            let case = match cases.get(at) {
-                None => Case::Op(Seq::new(alloc)),
-                Some(case) => match case {
-                    Case::While {
-                        prologue: prologue_tr,
-                        test: outs_of_test,
-                        more_outs,
-                        body: body_tr,
-                        leave_outs,
-                    } => {
-                        let inner = prologue_tr.cases.as_slice();
-                        let part = flat_change(alloc, prologue, inner, 0)?;
-                        let left = flat_tr(alloc, body, body_tr)?;
-                        let mut outs = Vec::new(alloc);
-                        let _behind = take(&mut outs, before, inner, part.at)?;
-                        push_outs(&mut outs, test, outs_of_test)?;
-                        Case::While {
-                            prologue: Tr { cases: part.cases },
-                            test: Seq::from_vec(outs),
-                            more_outs: outs_by_numbers(alloc, test, more_outs)?,
-                            body: left,
-                            leave_outs: outs_by_numbers(alloc, test, leave_outs)?,
-                        }
-                    }
-                    _ => Case::Op(Seq::new(alloc)),
-                },
-            };
-            Ok(One {
-                case,
-                at: next(cases, at),
-            })
-        }
-        Step::Once { prologue, before } => {
-            let part = flat_change(alloc, prologue, cases, at)?;
-            let mut outs = Vec::new(alloc);
-            let to = take(&mut outs, before, cases, part.at)?;
-            Ok(One {
-                case: Case::While {
-                    prologue: Tr { cases: part.cases },
-                    test: Seq::from_vec(outs),
-                    more_outs: Seq::new(alloc),
-                    body: Tr {
-                        cases: Seq::new(alloc),
-                    },
-                    leave_outs: Seq::new(alloc),
-                },
-                at: to,
-            })
-        }
-        Step::For(body) => {
-            let case = match cases.get(at) {
-                None => Case::Op(Seq::new(alloc)),
-                Some(case) => flat_for(alloc, body, case)?,
-            };
-            Ok(One {
-                case,
-                at: next(cases, at),
-            })
-        }
-        Step::Unrolled(parts) => {
-            let rounds = flat_rounds(alloc, parts, cases, at)?;
-            Ok(One {
-                case: Case::For(rounds.trs),
-                at: rounds.at,
-            })
-        }
+        } => flat_while(alloc, prologue, before, test, body, cases, at),
+        Step::Once { prologue, before } => flat_once(alloc, prologue, before, cases, at),
+        Step::For(body) => flat_for(alloc, body, cases, at),
+        Step::Unrolled(parts) => flat_unrolled(alloc, parts, cases, at),
         Step::Opened {
             arguments,
             body,
             results,
-        } => {
-            let mut first = Vec::new(alloc);
-            let from = take(&mut first, arguments, cases, at)?;
-            let part = flat_change(alloc, body, cases, from)?;
-            let mut last = Vec::new(alloc);
-            let to = take(&mut last, results, cases, part.at)?;
-            Ok(One {
-                case: Case::Call {
-                    arguments: Seq::from_vec(first),
-                    body: Tr { cases: part.cases },
-                    results: Seq::from_vec(last),
-                },
-                at: to,
-            })
-        }
+        } => flat_opened(alloc, arguments, body, results, cases, at),
     }
 }
 
-// An `if` of which an arm alone is left.
-fn flat_arm(alloc: Global, answer: bool, outs: Vec<Out>, cases: Seq<Case>) -> Case
+// An operation that becomes so many.
+fn flat_ops(
+    alloc: Global,
+    items: &Seq<Numbers>,
+    cases: &[Case],
+    at: usize,
+) -> Result<One, AllocError>
+    ensures { IfOk result (λ o. GivesCaseAt (Step.Ops items.now) cases.now at o.case o.at) }
+{
+    let mut outs = Vec::new(alloc);
+    let to = take(&mut outs, items, cases, at)?;
+    Ok(One {
+        case: Case::Op(Seq::from_vec(outs)),
+        at: to,
+    })
+}
+
+// An `if` that stays.
+#[cycle(flat)]
+fn flat_if(
+    alloc: Global,
+    before: &Seq<Numbers>,
+    test: &Numbers,
+    then_part: &Change,
+    else_part: &Change,
+    cases: &[Case],
+    at: usize,
+) -> Result<One, AllocError>
+    ensures { IfOk result (λ o. GivesCaseAt
+        (Step.If before.now test.now then_part.now else_part.now) cases.now at o.case o.at) }
+{
+    let mut outs = Vec::new(alloc);
+    let to = take(&mut outs, before, cases, at)?;
+    let to_next = next(cases, to);
+    match cases.get(to) {
+        None => Ok(nothing(alloc, to_next)),
+        Some(case) => match case {
+            Case::If {
+                test: test_outs,
+                then_outs,
+                then_tr,
+                else_outs,
+                else_tr,
+            } => {
+                push_outs(&mut outs, test, test_outs)?;
+                let then_shown = outs_by_numbers(alloc, test, then_outs)?;
+                let else_shown = outs_by_numbers(alloc, test, else_outs)?;
+                let then_left = flat_tr(alloc, then_part, then_tr)?;
+                let else_left = flat_tr(alloc, else_part, else_tr)?;
+                Ok(One {
+                    case: Case::If {
+                        test: Seq::from_vec(outs),
+                        then_outs: then_shown,
+                        then_tr: then_left,
+                        else_outs: else_shown,
+                        else_tr: else_left,
+                    },
+                    at: to_next,
+                })
+            }
+            _ => Ok(nothing(alloc, to_next)),
+        },
+    }
+}
+
+// An `if` of which an arm is left.
+#[cycle(flat)]
+fn flat_arm(
+    alloc: Global,
+    answer: bool,
+    before: &Seq<Numbers>,
+    part: &Change,
+    cases: &[Case],
+    at: usize,
+) -> Result<One, AllocError>
+    ensures { IfOk result (λ o. GivesCaseAt
+        (Step.Arm answer before.now part.now) cases.now at o.case o.at) }
+{
+    let mut outs = Vec::new(alloc);
+    let to = take(&mut outs, before, cases, at)?;
+    let left = flat_steps(alloc, part, cases, to)?;
+    Ok(One {
+        case: pruned(alloc, answer, outs, left.cases),
+        at: left.at,
+    })
+}
+
+// The case of an `if` of which an arm is left.
+fn pruned(alloc: Global, answer: bool, outs: Vec<Out>, cases: Seq<Case>) -> Case
     ensures { result ≡ roll-Case (flat_arm answer outs.items cases) }
 {
     let left = Tr { cases };
@@ -382,47 +356,188 @@ fn flat_arm(alloc: Global, answer: bool, outs: Vec<Out>, cases: Seq<Case>) -> Ca
     }
 }
 
-// A `for` that stays.
+// A `while` that stays.
 #[cycle(flat)]
-fn flat_for(alloc: Global, b: &Change, case: &Case) -> Result<Case, AllocError>
-    ensures { IfOk result (λ c. c ≡ flat_for (flat (change_of b.now)) (out-Case case.now)) }
+fn flat_while(
+    alloc: Global,
+    prologue: &Change,
+    before: &Seq<Numbers>,
+    test: &Numbers,
+    body: &Change,
+    cases: &[Case],
+    at: usize,
+) -> Result<One, AllocError>
+    ensures { IfOk result (λ o. GivesCaseAt
+        (Step.While prologue.now before.now test.now body.now) cases.now at o.case o.at) }
 {
-    match case {
-        Case::For(trs) => {
-            let mut out = Seq::new(alloc);
-            for tr in trs.as_slice() {
-                let made = flat_tr(alloc, b, tr)?;
-                out.push(made)?;
+    let to_next = next(cases, at);
+    match cases.get(at) {
+        None => Ok(nothing(alloc, to_next)),
+        Some(case) => match case {
+            Case::While {
+                prologue: inner,
+                test: test_outs,
+                more_outs,
+                body: body_tr,
+                leave_outs,
+            } => {
+                let part = flat_steps(alloc, prologue, inner.cases.as_slice(), 0)?;
+                let outs = behind_prologue(alloc, before, test, test_outs, inner, part.at)?;
+                let more_shown = outs_by_numbers(alloc, test, more_outs)?;
+                let leave_shown = outs_by_numbers(alloc, test, leave_outs)?;
+                let left = flat_tr(alloc, body, body_tr)?;
+                Ok(One {
+                    case: Case::While {
+                        prologue: Tr { cases: part.cases },
+                        test: outs,
+                        more_outs: more_shown,
+                        body: left,
+                        leave_outs: leave_shown,
+                    },
+                    at: to_next,
+                })
             }
-            Ok(Case::For(out))
-        }
-        _ => Ok(Case::Op(Seq::new(alloc))),
+            _ => Ok(nothing(alloc, to_next)),
+        },
     }
 }
 
-// The rounds of a `for` that became one after another.
+// What stands behind a prologue: the events of operations, then those of the condition.
+fn behind_prologue(
+    alloc: Global,
+    before: &Seq<Numbers>,
+    test: &Numbers,
+    test_outs: &Seq<Out>,
+    inner: &Tr,
+    at: usize,
+) -> Result<Seq<Out>, AllocError>
+    ensures { IfOk result (λ outs. outs
+        ≡ (first_outs before.now (drop at inner.now.cases)).outs ++ outs_by test.now test_outs.now) }
+{
+    let mut outs = Vec::new(alloc);
+    let _behind = take(&mut outs, before, inner.cases.as_slice(), at)?;
+    push_outs(&mut outs, test, test_outs)?;
+    Ok(Seq::from_vec(outs))
+}
+
+// A `while` of which the prologue is left.
 #[cycle(flat)]
-fn flat_rounds(
+fn flat_once(
+    alloc: Global,
+    prologue: &Change,
+    before: &Seq<Numbers>,
+    cases: &[Case],
+    at: usize,
+) -> Result<One, AllocError>
+    ensures { IfOk result (λ o. GivesCaseAt
+        (Step.Once prologue.now before.now) cases.now at o.case o.at) }
+{
+    let part = flat_steps(alloc, prologue, cases, at)?;
+    let mut outs = Vec::new(alloc);
+    let to = take(&mut outs, before, cases, part.at)?;
+    Ok(One {
+        case: Case::While {
+            prologue: Tr { cases: part.cases },
+            test: Seq::from_vec(outs),
+            more_outs: Seq::new(alloc),
+            body: Tr {
+                cases: Seq::new(alloc),
+            },
+            leave_outs: Seq::new(alloc),
+        },
+        at: to,
+    })
+}
+
+// A `for` that stays: a tree for each round.
+#[cycle(flat)]
+fn flat_for(alloc: Global, body: &Change, cases: &[Case], at: usize) -> Result<One, AllocError>
+    ensures { IfOk result (λ o. GivesCaseAt (Step.For body.now) cases.now at o.case o.at) }
+{
+    let to_next = next(cases, at);
+    match cases.get(at) {
+        None => Ok(nothing(alloc, to_next)),
+        Some(case) => match case {
+            Case::For(trs) => {
+                let left = flat_trees(alloc, body, trs)?;
+                Ok(One {
+                    case: Case::For(left),
+                    at: to_next,
+                })
+            }
+            _ => Ok(nothing(alloc, to_next)),
+        },
+    }
+}
+
+// One change and each of these trees.
+#[cycle(flat)]
+fn flat_trees(alloc: Global, body: &Change, trs: &Seq<Tr>) -> Result<Seq<Tr>, AllocError>
+    ensures { IfOk result (λ out. out
+        ≡ map (λ t. tr_of (flat (change_of body.now) t.cases).cases) trs.now) }
+{
+    let mut out = Seq::new(alloc);
+    for tr in trs.as_slice() {
+        let made = flat_tr(alloc, body, tr)?;
+        out.push(made)?;
+    }
+    Ok(out)
+}
+
+// The rounds of a `for`, one after another.
+#[cycle(flat)]
+fn flat_unrolled(
     alloc: Global,
     parts: &Seq<Change>,
     cases: &[Case],
     at: usize,
-) -> Result<Rounds, AllocError>
-    ensures trs { IfOk result (λ r. (flat_rounds (changes_of parts.now) (drop at cases.now)).trs ≡ r.trs) }
-    ensures rest { IfOk result (λ r. (flat_rounds (changes_of parts.now) (drop at cases.now)).rest ≡ drop r.at cases.now) }
+) -> Result<One, AllocError>
+    ensures { IfOk result (λ o. GivesCaseAt (Step.Unrolled parts.now) cases.now at o.case o.at) }
 {
     let mut trs = Seq::new(alloc);
     let mut now = at;
     for part in parts.as_slice() {
-        let made = flat_change(alloc, part, cases, now)?;
+        let made = flat_steps(alloc, part, cases, now)?;
         trs.push(Tr { cases: made.cases })?;
         now = made.at;
     }
-    Ok(Rounds { trs, at: now })
+    Ok(One {
+        case: Case::For(trs),
+        at: now,
+    })
 }
 
-/// The printed transformer of a function of which a change is made first, and this of that. The depth of the recursion is that of the
-/// change, which is bounded by the nesting of the text.
+// A call.
+#[cycle(flat)]
+fn flat_opened(
+    alloc: Global,
+    arguments: &Seq<Numbers>,
+    body: &Change,
+    results: &Seq<Numbers>,
+    cases: &[Case],
+    at: usize,
+) -> Result<One, AllocError>
+    ensures { IfOk result (λ o. GivesCaseAt
+        (Step.Opened arguments.now body.now results.now) cases.now at o.case o.at) }
+{
+    let mut first = Vec::new(alloc);
+    let from = take(&mut first, arguments, cases, at)?;
+    let part = flat_steps(alloc, body, cases, from)?;
+    let mut last = Vec::new(alloc);
+    let to = take(&mut last, results, cases, part.at)?;
+    Ok(One {
+        case: Case::Call {
+            arguments: Seq::from_vec(first),
+            body: Tr { cases: part.cases },
+            results: Seq::from_vec(last),
+        },
+        at: to,
+    })
+}
+
+/// The printed transformer of a function: what a change makes of its leaks, and then the last
+/// transformer shows. A `for` that stays gets a tree for each round, as the last one has. The
+/// recursion is as deep as the change, which is bounded by the nesting of the text.
 pub fn flatten(alloc: Global, a: Change, last: Transformer) -> Result<Transformer, AllocError>
     ensures is { IfOk result (λ t. t ≡ flatten_of (change_of a) last) }
     ensures law { IfOk result (λ t. Flattens (change_of a) last t) }

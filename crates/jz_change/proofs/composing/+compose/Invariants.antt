@@ -12,6 +12,6 @@ abbrev pub invariant-compose_every-loop-part : goal.invariant-compose_every-loop
 invariant-compose_every-loop-part l =
     join_every (join (change_of l.body)) (changes_of l.parts) ≡ changes_before (map change_of l.all) (join_every (join (change_of l.body)) (changes_of (drop l.part-index l.part-items)))
 
-abbrev pub invariant-compose_rounds-loop-part : goal.invariant-compose_rounds-loop-part
-invariant-compose_rounds-loop-part l =
+abbrev pub invariant-compose_unrolled-loop-part : goal.invariant-compose_unrolled-loop-part
+invariant-compose_unrolled-loop-part l =
     join_rounds (changes_of l.parts) (steps_of (drop l.at l.steps)) ≡ rounds_before l.all (join_rounds (changes_of (drop l.part-index l.part-items)) (steps_of (drop l.now l.steps)))
