@@ -13,7 +13,7 @@ refused_too OutOfMemory P Q f h = tt
 only : {St : Type 0} (s x : St) → Contains (s ∷ []) x → s ≡ x
 only {St} s x h = cases (Contains-push_cases [] s x h)
   where
-    cases : Contains ([] {A = St}) x ⊎ (s ≡ x) → s ≡ x
+    cases : Contains {X = St} [] x ⊎ (s ≡ x) → s ≡ x
     cases (inl k) = absurd (let lt = k.1 in omega (arith, lt))
     cases (inr e) = e
 
