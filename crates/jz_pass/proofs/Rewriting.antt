@@ -54,6 +54,10 @@ module _ {O T F C O2 T2 F2 C2 St St2 : Type 0} (R : Rewriting O T O2 T2) (before
   pub one_more : (ss : List St) (i : ℕ) (d s : St) (m m2 : List St2) (a b : List Step) → i < length ss → s ≡ get_or ss i d → To (take i ss) m a → To (s ∷ []) m2 b → To (take (i + 1) ss) (m ++ m2) (a ++ b)
   one_more ss i d s m m2 a b lt is f g = subst (λ xs. To xs (m ++ m2) (a ++ b)) (sym (take_more ss i d lt ∙ ap (λ x. take i ss ++ x ∷ []) (sym is))) (both_rewrite (take i ss) (s ∷ []) m m2 a b f g)
 
+  -- the tree of a whole list
+  pub whole_rewrites : (ss : List St) (made : List St2) (steps : List Step) → To ss made steps → Rewrites R (all_before before ss done) done (all_before before2 made done) (change_of (record { steps = steps }))
+  whole_rewrites ss made steps f = subst (Rewrites R (all_before before ss done) done (all_before before2 made done)) (sym (change_is (record { steps = steps }))) (alone ss made steps done f)
+
   -- ---- one statement
 
   pub op_rewrites : (s : St) (sh : Shape O T St) (made : List St2) (items : List Numbers) → form_of sh ≡ form.Operation → HasTree before sh (before s) → OperationMade R before2 sh made items → To (s ∷ []) made (step.Ops items ∷ [])
@@ -105,3 +109,6 @@ pub one_of_sizes : {St : Type 0} (size : St → ℕ) (ss : List St) (i : ℕ) (d
 one_of_sizes size [] i d lt = absurd (omega arith)
 one_of_sizes size (s ∷ ss) zero d lt = omega arith
 one_of_sizes size (s ∷ ss) (suc i) d lt = let r = one_of_sizes size ss i d (omega arith) in omega (arith, r)
+
+pub item_below : {St : Type 0} (size : St → ℕ) (ss : List St) (i : ℕ) (s : St) → i < length ss → s ≡ get_or ss i s → size s ≤ sizes size ss
+item_below size ss i s lt e = subst (λ x. size x ≤ sizes size ss) (sym e) (one_of_sizes size ss i s lt)

@@ -12,6 +12,7 @@ use Rattle.jz_pass.specs.Operations.{DoAll, do_none, do_one}
 use Rattle.jz_pass.specs.Unrolling.{IsKnown}
 use Rattle.jz_pass.specs.Rewriting.{knowing_of}
 use Rattle.jz_pass.specs.Cases.{AsMany, none_each, one_each, HasItems}
+use Rattle.jz_pass_tests.specs.declared.small.Unknown.{Unknown}
 use Rattle.jz_pass_tests.specs.Meaning.{small}
 use Rattle.jz_pass_tests.specs.Rules.{StaysTest, stays, InHalves, in_halves, halving, WithoutNothing, nothing, something, dropping}
 
@@ -22,7 +23,7 @@ fixed_there ns n = All-cons (HasNumber ns) (Fixed n) [] tt (All-nil (HasNumber n
 sum_so : {k s s1 : ℕ} {ns : List ℕ} → small.does k s ≡ went ns s1 → s1 ≡ s + k
 sum_so q = cc
 
-never_stuck : {k s : ℕ} {w : ⊤} {A : Type 0} → small.does k s ≡ stuck w → A
+never_stuck : {k s : ℕ} {w : Unknown} {A : Type 0} → small.does k s ≡ stuck w → A
 never_stuck q = absurd cc
 
 -- operations that come from one, of equal numbers to equal numbers
@@ -44,7 +45,7 @@ Tested ns os is p2 i z s t = (t1 : ℕ) × DoAll small ns os is t t1 × HasThese
 stays_went : {p s t : ℕ} {os ns : List ℕ} {is : List Numbers} {p2 : ℕ} {i : Numbers} {z : Bool} → StaysTest p os is p2 i → s ≡ t → small.tests p s ≡ went ns z → Tested ns os is p2 i z s t
 stays_went {p} {t} {ns} {z} stays e q = (t, do_none, tt, subst (λ x. small.tests p x ≡ went ns z) e q, e)
 
-test_never_stuck : {p s : ℕ} {w : ⊤} {A : Type 0} → small.tests p s ≡ stuck w → A
+test_never_stuck : {p s : ℕ} {w : Unknown} {A : Type 0} → small.tests p s ≡ stuck w → A
 test_never_stuck q = absurd cc
 
 pub halving_known : IsKnown small small (knowing_of halving)

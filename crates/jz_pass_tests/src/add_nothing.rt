@@ -1,10 +1,18 @@
 //! Additions of nothing, which are left out.
 
+ghost use Rattle.std.specs.Prelude.{ℕ};
+ghost use Rattle.jz_pass.specs.Rewriting.{by_rule, RefusesOne};
+ghost use Rattle.jz_pass_tests.specs.declared.small.Unknown.{Unknown};
+ghost use Rattle.jz_pass_tests.specs.Meaning.{small, then_small, shape_of, weight, has_tree, is_above};
 ghost use Rattle.jz_pass_tests.specs.Rules.{dropping};
 ghost use Rattle.jz_pass_tests.specs.Known.{dropping_known, dropping_items};
 
-use crate::small::{Small, SmallLanguage, Unknown, same_choice};
-use jz_pass::{Choice, Failure, Local, Numbers, Operations, Seq};
+use crate::small::{
+    Small, SmallLanguage, Unknown, first_of, form_of, same_choice, second_of,
+};
+use jz_pass::{
+    Choice, Failure, Form, Local, Numbers, Operations, Pass, Passed, Rewrite, Seq,
+};
 use std::alloc::Global;
 
 /// Where nothing is added no statement is left.
@@ -12,17 +20,46 @@ use std::alloc::Global;
 pub struct AddNothing;
 
 impl Local for AddNothing {
-    type From = SmallLanguage;
-    type To = SmallLanguage;
+    type From = Small;
+    type To = Small;
     type Cause = Unknown;
 
+    ghost Operation = { ℕ };
+    ghost Test = { ℕ };
+    ghost Counter = { ⊥ };
+    ghost Call = { ⊥ };
+    ghost State = { ℕ };
+    ghost Reason = { Unknown };
+
+    ghost NewOperation = { ℕ };
+    ghost NewTest = { ℕ };
+    ghost NewCounter = { ⊥ };
+    ghost NewCall = { ⊥ };
+    ghost NewState = { ℕ };
+    ghost NewReason = { Unknown };
+
+    ghost parts = { small };
+    ghost new_parts = { small };
+    ghost before = { then_small };
+    ghost new_before = { then_small };
+    ghost shape = { shape_of };
+    ghost size = { weight };
     ghost rewriting = { λ it. dropping };
-
     ghost known = { λ it. dropping_known };
-
     ghost items = { λ it. dropping_items };
-
     ghost refuses = { λ it s cause. ⊥ };
+
+    fn form(&self, s: &Small) -> Form {
+        form_of(s)
+    }
+
+    fn first<'a>(&self, s: &'a Small) -> &'a [Small] {
+        first_of(s)
+    }
+
+    fn second<'a>(&self, s: &'a Small) -> &'a [Small] {
+        second_of(s)
+    }
 
     fn operation(
         &self,
@@ -56,5 +93,28 @@ impl Local for AddNothing {
 
     fn refusal(&self, _s: &Small) -> Unknown {
         Unknown
+    }
+
+    ghost has_tree = { has_tree };
+
+    ghost is_above = { is_above };
+}
+
+impl Pass for AddNothing {
+    type Src = SmallLanguage;
+    type Dst = SmallLanguage;
+    type Cause = Unknown;
+
+    ghost relates = { λ it. by_rule dropping_known };
+
+    ghost refuses = { λ it p cause. RefusesOne shape_of (λ s e. ⊥) p cause };
+
+    fn run(
+        &self,
+        alloc: Global,
+        p: &Seq<Small>,
+    ) -> Result<Passed<Seq<Small>>, Failure<Unknown>> {
+        let rule = Rewrite::new(AddNothing);
+        rule.run(alloc, p)
     }
 }

@@ -1,14 +1,21 @@
 //! Numbers that are added by halves.
 
-ghost use Rattle.std.specs.Prelude.{◌≡◌, [], ◌∷◌, IfOk};
+ghost use Rattle.std.specs.Prelude.{◌≡◌, ℕ, [], ◌∷◌, IfOk};
 ghost use Rattle.jz_change.specs.declared.change.Number.TheVariants.{Fixed};
 ghost use Rattle.jz_change.specs.declared.change.Numbers.TheVariants.{These};
+ghost use Rattle.jz_pass.specs.Rewriting.{by_rule, RefusesOne};
+ghost use Rattle.jz_pass_tests.specs.declared.small.Unknown.{Unknown};
+ghost use Rattle.jz_pass_tests.specs.Meaning.{small, then_small, shape_of, weight, has_tree, is_above};
 ghost use Rattle.jz_pass_tests.specs.Rules.{halving};
 ghost use Rattle.jz_pass_tests.specs.Known.{halving_known, halving_items};
 
-use crate::small::{Small, SmallLanguage, Unknown, same_choice};
+use crate::small::{
+    Small, SmallLanguage, Unknown, first_of, form_of, same_choice, second_of,
+};
 use jz_change::Number;
-use jz_pass::{Choice, Failure, Local, Numbers, Operations, Seq};
+use jz_pass::{
+    Choice, Failure, Form, Local, Numbers, Operations, Pass, Passed, Rewrite, Seq,
+};
 use std::alloc::{AllocError, Global};
 
 /// What is added is added by halves.
@@ -16,17 +23,46 @@ use std::alloc::{AllocError, Global};
 pub struct Halves;
 
 impl Local for Halves {
-    type From = SmallLanguage;
-    type To = SmallLanguage;
+    type From = Small;
+    type To = Small;
     type Cause = Unknown;
 
+    ghost Operation = { ℕ };
+    ghost Test = { ℕ };
+    ghost Counter = { ⊥ };
+    ghost Call = { ⊥ };
+    ghost State = { ℕ };
+    ghost Reason = { Unknown };
+
+    ghost NewOperation = { ℕ };
+    ghost NewTest = { ℕ };
+    ghost NewCounter = { ⊥ };
+    ghost NewCall = { ⊥ };
+    ghost NewState = { ℕ };
+    ghost NewReason = { Unknown };
+
+    ghost parts = { small };
+    ghost new_parts = { small };
+    ghost before = { then_small };
+    ghost new_before = { then_small };
+    ghost shape = { shape_of };
+    ghost size = { weight };
     ghost rewriting = { λ it. halving };
-
     ghost known = { λ it. halving_known };
-
     ghost items = { λ it. halving_items };
-
     ghost refuses = { λ it s cause. ⊥ };
+
+    fn form(&self, s: &Small) -> Form {
+        form_of(s)
+    }
+
+    fn first<'a>(&self, s: &'a Small) -> &'a [Small] {
+        first_of(s)
+    }
+
+    fn second<'a>(&self, s: &'a Small) -> &'a [Small] {
+        second_of(s)
+    }
 
     fn operation(
         &self,
@@ -62,6 +98,29 @@ impl Local for Halves {
 
     fn refusal(&self, _s: &Small) -> Unknown {
         Unknown
+    }
+
+    ghost has_tree = { has_tree };
+
+    ghost is_above = { is_above };
+}
+
+impl Pass for Halves {
+    type Src = SmallLanguage;
+    type Dst = SmallLanguage;
+    type Cause = Unknown;
+
+    ghost relates = { λ it. by_rule halving_known };
+
+    ghost refuses = { λ it p cause. RefusesOne shape_of (λ s e. ⊥) p cause };
+
+    fn run(
+        &self,
+        alloc: Global,
+        p: &Seq<Small>,
+    ) -> Result<Passed<Seq<Small>>, Failure<Unknown>> {
+        let rule = Rewrite::new(Halves);
+        rule.run(alloc, p)
     }
 }
 

@@ -4,7 +4,7 @@ use crate::add_nothing::AddNothing;
 use crate::halves::Halves;
 use crate::small::Small;
 use jz_change::{Number, Step};
-use jz_pass::{Change, Failure, Numbers, Pass, Passed, Rewrite, Seq, Then};
+use jz_pass::{Change, Numbers, Pass, Passed, Seq, Then};
 use std::alloc::{AllocError, Global};
 use std::test::Fail;
 
@@ -186,7 +186,7 @@ fn halves_without_nothing(rt: HostRuntime) -> Result<(), Fail> {
     let alloc = rt.alloc();
     for row in ROWS.iter() {
         let program = program_of(alloc, row)?;
-        let passes = Then::new(Rewrite::new(Halves), Rewrite::new(AddNothing));
+        let passes = Then::new(Halves, AddNothing);
         match passes.run(alloc, &program) {
             Ok(Passed { program, change }) => {
                 assert_eq!(rt; statements_text(alloc, &program)?.as_str(), row.program);
