@@ -1,19 +1,23 @@
 //! Additions of nothing, which are left out.
 
-ghost use Rattle.std.specs.Prelude.{ℕ};
+ghost use Rattle.std.specs.Prelude.{◌≡◌, ℕ, [], ◌∷◌, IfOk, IfErr};
+ghost use Rattle.jz_data.specs.Failures.{IfRefused};
+ghost use Rattle.jz_pass.specs.InnerForms.{ChoiceMade};
 ghost use Rattle.jz_pass.specs.Rewriting.{by_rule, RefusesOne};
+ghost use Rattle.jz_change.specs.declared.change.Numbers.TheVariants.{Same};
 ghost use Rattle.jz_pass_tests.specs.declared.small.Unknown.{Unknown};
+ghost use Rattle.jz_pass_tests.specs.declared.small.Small.TheVariants.{Add};
 ghost use Rattle.jz_pass_tests.specs.Meaning.{small, then_small, shape_of, weight, has_tree, is_above};
 ghost use Rattle.jz_pass_tests.specs.Rules.{dropping};
 ghost use Rattle.jz_pass_tests.specs.Known.{dropping_known, dropping_items};
 
 use crate::small::{
-    Small, SmallLanguage, Unknown, first_of, form_of, same_choice, second_of,
+    Small, SmallLanguage, Unknown, first_of, form_of, no_operation, same_choice, second_of,
 };
 use jz_pass::{
     Choice, Failure, Form, Local, Numbers, Operations, Pass, Passed, Rewrite, Seq,
 };
-use std::alloc::Global;
+use std::alloc::{AllocError, Global};
 
 /// Where nothing is added no statement is left.
 #[derive(Drop)]
@@ -61,20 +65,22 @@ impl Local for AddNothing {
         second_of(s)
     }
 
+    #[tactic(auto, using(crate::proofs::Choices::nothing_made, crate::proofs::Choices::something_made))]
     fn operation(
         &self,
         alloc: Global,
         s: &Small,
     ) -> Result<Operations<Small>, Failure<Unknown>> {
-        let mut statements = Seq::new(alloc);
-        let mut items = Seq::new(alloc);
-        if let Small::Add(k) = s {
-            if *k != 0 {
-                statements.push(Small::Add(*k))?;
-                items.push(Numbers::Same)?;
+        match s {
+            Small::Add(k) => {
+                if *k == 0 {
+                    return Ok(no_operation(alloc));
+                }
+                Ok(same_addition(alloc, *k)?)
             }
+            Small::If(_, _, _) => Ok(no_operation(alloc)),
+            Small::While(_, _, _) => Ok(no_operation(alloc)),
         }
-        Ok(Operations { statements, items })
     }
 
     fn quiet(&self, alloc: Global, _s: &Small) -> Result<Seq<Small>, Failure<Unknown>> {
@@ -87,7 +93,11 @@ impl Local for AddNothing {
         s: &Small,
         first: Seq<Small>,
         second: Seq<Small>,
-    ) -> Result<Choice<Small>, Failure<Unknown>> {
+    ) -> Result<Choice<Small>, Failure<Unknown>>
+        ensures made { IfOk result (λ r. ChoiceMade dropping then_small (shape_of s.now) first second
+            r.statements r.items r.numbers) }
+        ensures refused { IfErr result (λ e. IfRefused e (λ cause. ⊥)) }
+    {
         Ok(same_choice(alloc, s, first, second)?)
     }
 
@@ -117,4 +127,16 @@ impl Pass for AddNothing {
         let rule = Rewrite::new(AddNothing);
         rule.run(alloc, p)
     }
+}
+
+/// The same addition.
+fn same_addition(alloc: Global, k: u64) -> Result<Operations<Small>, AllocError>
+    ensures statements { IfOk result (λ r. r.statements ≡ Add k ∷ []) }
+    ensures items { IfOk result (λ r. r.items ≡ Same ∷ []) }
+{
+    let mut statements = Seq::new(alloc);
+    statements.push(Small::Add(k))?;
+    let mut items = Seq::new(alloc);
+    items.push(Numbers::Same)?;
+    Ok(Operations { statements, items })
 }

@@ -1,16 +1,19 @@
 //! Numbers that are added by halves.
 
-ghost use Rattle.std.specs.Prelude.{◌≡◌, ℕ, [], ◌∷◌, IfOk};
+ghost use Rattle.std.specs.Prelude.{◌≡◌, ℕ, ◌-◌, ◌/◌, [], ◌∷◌, IfOk, IfErr};
 ghost use Rattle.jz_change.specs.declared.change.Number.TheVariants.{Fixed};
 ghost use Rattle.jz_change.specs.declared.change.Numbers.TheVariants.{These};
+ghost use Rattle.jz_data.specs.Failures.{IfRefused};
+ghost use Rattle.jz_pass.specs.InnerForms.{ChoiceMade};
 ghost use Rattle.jz_pass.specs.Rewriting.{by_rule, RefusesOne};
 ghost use Rattle.jz_pass_tests.specs.declared.small.Unknown.{Unknown};
+ghost use Rattle.jz_pass_tests.specs.declared.small.Small.TheVariants.{Add};
 ghost use Rattle.jz_pass_tests.specs.Meaning.{small, then_small, shape_of, weight, has_tree, is_above};
 ghost use Rattle.jz_pass_tests.specs.Rules.{halving};
 ghost use Rattle.jz_pass_tests.specs.Known.{halving_known, halving_items};
 
 use crate::small::{
-    Small, SmallLanguage, Unknown, first_of, form_of, same_choice, second_of,
+    Small, SmallLanguage, Unknown, first_of, form_of, no_operation, same_choice, second_of,
 };
 use jz_change::Number;
 use jz_pass::{
@@ -64,22 +67,17 @@ impl Local for Halves {
         second_of(s)
     }
 
+    #[tactic(auto, using(crate::proofs::Choices::halves_made))]
     fn operation(
         &self,
         alloc: Global,
         s: &Small,
     ) -> Result<Operations<Small>, Failure<Unknown>> {
-        let mut statements = Seq::new(alloc);
-        let mut items = Seq::new(alloc);
-        if let Small::Add(k) = s {
-            let half = *k / 2;
-            let rest = *k - half;
-            statements.push(Small::Add(half))?;
-            statements.push(Small::Add(rest))?;
-            items.push(fixed(alloc, half)?)?;
-            items.push(fixed(alloc, rest)?)?;
+        match s {
+            Small::Add(k) => Ok(halved(alloc, *k)?),
+            Small::If(_, _, _) => Ok(no_operation(alloc)),
+            Small::While(_, _, _) => Ok(no_operation(alloc)),
         }
-        Ok(Operations { statements, items })
     }
 
     fn quiet(&self, alloc: Global, _s: &Small) -> Result<Seq<Small>, Failure<Unknown>> {
@@ -92,7 +90,11 @@ impl Local for Halves {
         s: &Small,
         first: Seq<Small>,
         second: Seq<Small>,
-    ) -> Result<Choice<Small>, Failure<Unknown>> {
+    ) -> Result<Choice<Small>, Failure<Unknown>>
+        ensures made { IfOk result (λ r. ChoiceMade halving then_small (shape_of s.now) first second
+            r.statements r.items r.numbers) }
+        ensures refused { IfErr result (λ e. IfRefused e (λ cause. ⊥)) }
+    {
         Ok(same_choice(alloc, s, first, second)?)
     }
 
@@ -122,6 +124,23 @@ impl Pass for Halves {
         let rule = Rewrite::new(Halves);
         rule.run(alloc, p)
     }
+}
+
+/// Both halves.
+fn halved(alloc: Global, k: u64) -> Result<Operations<Small>, AllocError>
+    ensures statements { IfOk result (λ r. r.statements ≡ Add (k / 2) ∷ Add (k - k / 2) ∷ []) }
+    ensures items { IfOk result (λ r. r.items
+        ≡ These (Fixed (k / 2) ∷ []) ∷ These (Fixed (k - k / 2) ∷ []) ∷ []) }
+{
+    let half = k / 2;
+    let rest = k - half;
+    let mut statements = Seq::new(alloc);
+    statements.push(Small::Add(half))?;
+    statements.push(Small::Add(rest))?;
+    let mut items = Seq::new(alloc);
+    items.push(fixed(alloc, half)?)?;
+    items.push(fixed(alloc, rest)?)?;
+    Ok(Operations { statements, items })
 }
 
 /// One number, whatever an item has.

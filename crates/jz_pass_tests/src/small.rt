@@ -1,6 +1,6 @@
 //! A small language: a number, to which statements add, and which tests compare.
 
-ghost use Rattle.std.specs.Prelude.{◌≡◌, IfOk};
+ghost use Rattle.std.specs.Prelude.{◌≡◌, [], IfOk};
 ghost use Rattle.jz_runs.specs.Rules.{Goes};
 ghost use Rattle.jz_pass.specs.Cases.{cases_of};
 ghost use Rattle.jz_pass.specs.Rewriting.{first_part, second_part};
@@ -8,7 +8,7 @@ ghost use Rattle.jz_pass.specs.InnerForms.{HasForm};
 ghost use Rattle.jz_pass_tests.specs.Meaning.{small, tree_of, shape_of};
 ghost use Rattle.jz_pass_tests.specs.Kept.{KeepsTest};
 
-use jz_pass::{Choice, Form, Lang, Numbers, Seq};
+use jz_pass::{Choice, Form, Lang, Numbers, Operations, Seq};
 use std::alloc::{AllocError, Global};
 
 /// A statement.
@@ -74,6 +74,17 @@ pub fn second_of<'a>(s: &'a Small) -> &'a [Small]
         Small::Add(_) => &[],
         Small::If(_, _, else_arm) => else_arm.as_slice(),
         Small::While(_, _, body) => body.as_slice(),
+    }
+}
+
+/// No statement.
+pub fn no_operation(alloc: Global) -> Operations<Small>
+    ensures statements { result.statements ≡ [] }
+    ensures items { result.items ≡ [] }
+{
+    Operations {
+        statements: Seq::new(alloc),
+        items: Seq::new(alloc),
     }
 }
 
