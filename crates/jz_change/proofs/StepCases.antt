@@ -29,6 +29,10 @@ behind_is (c ∷ cs) = refl
 pub behind_drop : (cs : List Case) (n : ℕ) → drop (n + 1) cs ≡ cases_behind (drop n cs)
 behind_drop cs n = sym (drop-drop 1 n cs) ∙ behind_is (drop n cs)
 
+-- what was added to nothing
+pub begun : {A : Type 0} (new old xs : List A) → new ≡ old ++ xs → old ≡ [] → new ≡ xs
+begun new old xs e f = e ∙ ap (λ v. v ++ xs) f
+
 -- ---- steps
 
 pub ops_gives : (is : List Numbers) (b : List Case) (outs : List Out) (b2 : List Case) → outs ≡ (first_outs is b).outs → (first_outs is b).rest ≡ b2 → GivesCase (step.Ops is) b (case.Op outs) b2
@@ -144,6 +148,30 @@ while_made p before test y c1 ptr t m btr lv cs b1 outs2 m2 left l2 e f h i j k 
     ∙ sym (case.rolls-While (tr_of cs) ((first_outs before b1).outs ++ outs_by test t) (outs_by test m) (tr_of (flat (change_of y) btr.cases).cases) (outs_by test lv))
     ∙ ap (λ (x : FlatCases). roll-Case (Case-F.While (tr_of x.cases) ((first_outs before x.rest).outs ++ outs_by test t) (outs_by test m) (tr_of (flat (change_of y) btr.cases).cases) (outs_by test lv))) (sym f)
     ∙ ap (flat_while before test (flat (change_of p)) (flat (change_of y))) (sym (ap out-Case (e ∙ sym (case.rolls-While ptr t m btr lv)) ∙ out-roll-Case (Case-F.While ptr t m btr lv)))
+
+-- ---- steps and the first case, at places in a list
+
+pub if_some : (s : Step) (before : List Numbers) (test : Numbers) (x y : Change) (cs : List Case) (at to next : ℕ) (outs old : List Out) (c1 c : Case) → s ≡ step.If before test x y
+    → outs ≡ old ++ (first_outs before (drop at cs)).outs → old ≡ [] → (first_outs before (drop at cs)).rest ≡ drop to cs → to < length cs → c1 ≡ slice_index_or cs to c1
+    → c ≡ flat_if outs test (flat (change_of x)) (flat (change_of y)) (out-Case c1) → drop next cs ≡ cases_behind (drop to cs) → GivesCase s (drop at cs) c (drop next cs)
+if_some s before test x y cs at to next outs old c1 c e f g h lt is k n =
+    gives_at s (step.If before test x y) (drop at cs) (drop next cs) c e
+    (if_gives before test x y (drop at cs) c outs (drop to cs) (drop next cs) (begun outs old (first_outs before (drop at cs)).outs f g) h
+    (k ∙ sym (first_some (flat_if outs test (flat (change_of x)) (flat (change_of y))) cs to c1 lt is)) n)
+
+pub if_none : (s : Step) (before : List Numbers) (test : Numbers) (x y : Change) (cs : List Case) (at to next : ℕ) (outs old : List Out) (c : Case) → s ≡ step.If before test x y
+    → outs ≡ old ++ (first_outs before (drop at cs)).outs → old ≡ [] → (first_outs before (drop at cs)).rest ≡ drop to cs → nat_lt to (length cs) ≡ false
+    → c ≡ case.Op [] → drop next cs ≡ cases_behind (drop to cs) → GivesCase s (drop at cs) c (drop next cs)
+if_none s before test x y cs at to next outs old c e f g h none k n =
+    gives_at s (step.If before test x y) (drop at cs) (drop next cs) c e
+    (if_gives before test x y (drop at cs) c outs (drop to cs) (drop next cs) (begun outs old (first_outs before (drop at cs)).outs f g) h
+    (k ∙ sym (first_none (flat_if outs test (flat (change_of x)) (flat (change_of y))) cs to none)) n)
+
+pub while_some : (s : Step) (p : Change) (before : List Numbers) (test : Numbers) (y : Change) (cs : List Case) (at next : ℕ) (c1 c : Case) → s ≡ step.While p before test y → at < length cs → c1 ≡ slice_index_or cs at c1
+    → c ≡ flat_while before test (flat (change_of p)) (flat (change_of y)) (out-Case c1) → drop next cs ≡ cases_behind (drop at cs) → GivesCase s (drop at cs) c (drop next cs)
+while_some s p before test y cs at next c1 c e lt is k n =
+    gives_at s (step.While p before test y) (drop at cs) (drop next cs) c e
+    (while_gives p before test y (drop at cs) c (drop next cs) (k ∙ sym (first_some (flat_while before test (flat (change_of p)) (flat (change_of y))) cs at c1 lt is)) n)
 
 -- ---- loops
 -- one more step

@@ -22,15 +22,15 @@ abbrev of_steps : List Step → Change
 of_steps ss = record { steps = ss }
 
 -- a step, and what follows
-gives : {c : Step} {f : model.Change → model.Change} (r b2 : model.Change) → ((x : model.Change) → then_step c x ≡ f x) → add_step f (join r b2) ≡ add_step (then_step c) (join r b2)
-gives r b2 e = ap (λ x. pair x (join r b2).rest) (sym (e (join r b2).change))
+gives : {f : model.Change → model.Change} (c : Step) (r b2 : model.Change) → ((x : model.Change) → then_step c x ≡ f x) → add_step f (join r b2) ≡ add_step (then_step c) (join r b2)
+gives c r b2 e = ap (λ x. pair x (join r b2).rest) (sym (e (join r b2).change))
 
 pub ops_joins : (is : List Numbers) (b : model.Change) (items : List Numbers) (b2 : model.Change) → items ≡ (first_ops is b).items → (first_ops is b).rest ≡ b2 → GivesStep (step.Ops is) b (step.Ops items) b2
 ops_joins is b items b2 e f r =
     ap (λ s. join s b) (then_ops is r)
     ∙ ap (λ x. add_step (model.ops x) (join r (first_ops is b).rest)) (sym e)
     ∙ ap (λ x. add_step (model.ops items) (join r x)) f
-    ∙ gives r b2 (then_ops items)
+    ∙ gives (step.Ops items) r b2 (then_ops items)
 
 pub arm_joins : (z : Bool) (before : List Numbers) (a : Change) (b : model.Change) (items : List Numbers) (b1 : model.Change) (ss : List Step) (b2 : model.Change)
     → items ≡ (first_ops before b).items → (first_ops before b).rest ≡ b1 → join (change_of a) b1 ≡ steps_and ss b2 → GivesStep (step.Arm z before a) b (step.Arm z items (of_steps ss)) b2
@@ -40,7 +40,7 @@ arm_joins z before a b items b1 ss b2 e f g r =
     ∙ ap (λ x. add_step (model.arm z items (join (change_of a) x).change) (join r (join (change_of a) x).rest)) f
     ∙ ap (λ (x : JoinedChange). add_step (model.arm z items x.change) (join r x.rest)) g
     ∙ ap (λ x. add_step (model.arm z items x) (join r b2)) (sym (change_is (of_steps ss)))
-    ∙ gives r b2 (then_arm z items (of_steps ss))
+    ∙ gives (step.Arm z items (of_steps ss)) r b2 (then_arm z items (of_steps ss))
 
 pub once_joins : (p : Change) (before : List Numbers) (b : model.Change) (ss : List Step) (b1 : model.Change) (items : List Numbers) (b2 : model.Change)
     → join (change_of p) b ≡ steps_and ss b1 → items ≡ (first_ops before b1).items → (first_ops before b1).rest ≡ b2 → GivesStep (step.Once p before) b (step.Once (of_steps ss) items) b2
@@ -50,14 +50,14 @@ once_joins p before b ss b1 items b2 g e f r =
     ∙ ap (λ x. add_step (model.once (steps_of ss) x) (join r (first_ops before b1).rest)) (sym e)
     ∙ ap (λ x. add_step (model.once (steps_of ss) items) (join r x)) f
     ∙ ap (λ x. add_step (model.once x items) (join r b2)) (sym (change_is (of_steps ss)))
-    ∙ gives r b2 (then_once (of_steps ss) items)
+    ∙ gives (step.Once (of_steps ss) items) r b2 (then_once (of_steps ss) items)
 
 pub unrolled_joins : (ps : List Change) (b : model.Change) (qs : List Change) (b2 : model.Change) → changes_of qs ≡ (join_rounds (changes_of ps) b).changes → b2 ≡ (join_rounds (changes_of ps) b).rest → GivesStep (step.Unrolled ps) b (step.Unrolled qs) b2
 unrolled_joins ps b qs b2 e f r =
     ap (λ s. join s b) (then_unrolled ps r)
     ∙ ap (λ x. add_step (model.unrolled x) (join r (join_rounds (changes_of ps) b).rest)) (sym e)
     ∙ ap (λ x. add_step (model.unrolled (changes_of qs)) (join r x)) (sym f)
-    ∙ gives r b2 (then_unrolled qs)
+    ∙ gives (step.Unrolled qs) r b2 (then_unrolled qs)
 
 pub opened_joins : (xs : List Numbers) (p : Change) (ys : List Numbers) (b : model.Change) (first : List Numbers) (b1 : model.Change) (ss : List Step) (b3 : model.Change) (last : List Numbers) (b2 : model.Change)
     → first ≡ (first_ops xs b).items → (first_ops xs b).rest ≡ b1 → join (change_of p) b1 ≡ steps_and ss b3 → last ≡ (first_ops ys b3).items → (first_ops ys b3).rest ≡ b2
@@ -70,7 +70,7 @@ opened_joins xs p ys b first b1 ss b3 last b2 e f g h i r =
     ∙ ap (λ o. add_step (model.opened first (steps_of ss) o) (join r (first_ops ys b3).rest)) (sym h)
     ∙ ap (λ o. add_step (model.opened first (steps_of ss) last) (join r o)) i
     ∙ ap (λ o. add_step (model.opened first o last) (join r b2)) (sym (change_is (of_steps ss)))
-    ∙ gives r b2 (then_opened first (of_steps ss) last)
+    ∙ gives (step.Opened first (of_steps ss) last) r b2 (then_opened first (of_steps ss) last)
 
 -- ---- an `if` that stays
 

@@ -4,7 +4,7 @@ ghost use Rattle.std.specs.Prelude.{◌≡◌, ◌++◌, [], IfOk, OnOk, drop};
 ghost use Rattle.jz_change.specs.declared.change.Step.{Step};
 ghost use Rattle.jz_change.specs.Composing.{all_by, head_ops, first_ops, behind, join, join_every, compose_of, Composes};
 ghost use Rattle.jz_change.specs.Views.{change_of, changes_of, steps_of};
-ghost use Rattle.jz_change.specs.InnerSteps.{GivesStepAt, steps_and};
+ghost use Rattle.jz_change.specs.InnerSteps.{KeepsIf, KeepsWhile, GivesStepAt, steps_and};
 
 use crate::change::{Change, Numbers, Step};
 use crate::numbers::{numbers_by, push_all};
@@ -120,23 +120,13 @@ fn compose_step(alloc: Global, step: &Step, steps: &[Step], at: usize) -> Result
 {
     match step {
         Step::Ops(items) => compose_ops(alloc, items, steps, at),
-        Step::If {
-            before,
-            test,
-            then_part,
-            else_part,
-        } => compose_if(alloc, before, test, then_part, else_part, steps, at),
+        Step::If { .. } => compose_if(alloc, step, steps, at),
         Step::Arm {
             answer,
             before,
             part,
         } => compose_arm(alloc, *answer, before, part, steps, at),
-        Step::While {
-            prologue,
-            before,
-            test,
-            body,
-        } => compose_while(alloc, prologue, before, test, body, steps, at),
+        Step::While { .. } => compose_while(alloc, step, steps, at),
         Step::Once { prologue, before } => compose_once(alloc, prologue, before, steps, at),
         Step::For(body) => compose_for(alloc, body, steps, at),
         Step::Unrolled(parts) => compose_unrolled(alloc, parts, steps, at),
@@ -167,18 +157,18 @@ fn compose_ops(
 
 // An `if` that stays: the other change keeps it or leaves one of its arms.
 #[cycle(compose)]
-fn compose_if(
-    alloc: Global,
-    before: &Seq<Numbers>,
-    test: &Numbers,
-    then_part: &Change,
-    else_part: &Change,
-    steps: &[Step],
-    at: usize,
-) -> Result<One, AllocError>
-    ensures { IfOk result (λ o. GivesStepAt
-        (Step.If before.now test.now then_part.now else_part.now) steps.now at o.step o.at) }
+fn compose_if(alloc: Global, step: &Step, steps: &[Step], at: usize) -> Result<One, AllocError>
+    ensures { IfOk result (λ o. KeepsIf step.now → GivesStepAt step.now steps.now at o.step o.at) }
 {
+    let Step::If {
+        before,
+        test,
+        then_part,
+        else_part,
+    } = step
+    else {
+        return Ok(nothing(alloc, at));
+    };
     let mut out = Vec::new(alloc);
     let to = take(alloc, &mut out, before, steps, at)?;
     let to_next = next(steps, to);
@@ -267,18 +257,19 @@ fn compose_arm(
 
 // A `while` that stays: the other change keeps it or leaves its prologue.
 #[cycle(compose)]
-fn compose_while(
-    alloc: Global,
-    prologue: &Change,
-    before: &Seq<Numbers>,
-    test: &Numbers,
-    body: &Change,
-    steps: &[Step],
-    at: usize,
-) -> Result<One, AllocError>
-    ensures { IfOk result (λ o. GivesStepAt
-        (Step.While prologue.now before.now test.now body.now) steps.now at o.step o.at) }
+fn compose_while(alloc: Global, step: &Step, steps: &[Step], at: usize) -> Result<One, AllocError>
+    ensures { IfOk result (λ o. KeepsWhile step.now
+        → GivesStepAt step.now steps.now at o.step o.at) }
 {
+    let Step::While {
+        prologue,
+        before,
+        test,
+        body,
+    } = step
+    else {
+        return Ok(nothing(alloc, at));
+    };
     let to_next = next(steps, at);
     match steps.get(at) {
         None => Ok(nothing(alloc, to_next)),

@@ -8,7 +8,7 @@ ghost use Rattle.jz_leak.specs.declared.transformer.Case.TheViews.{roll-Case};
 ghost use Rattle.jz_change.specs.declared.change.Step.{Step};
 ghost use Rattle.jz_change.specs.Flattening.{indexed_form, form_by, out_by, outs_by, head_outs, cases_behind, first_outs, tr_of, flat_arm, flat, flatten_of, Flattens};
 ghost use Rattle.jz_change.specs.Views.{change_of};
-ghost use Rattle.jz_change.specs.InnerSteps.{GivesCaseAt, cases_and};
+ghost use Rattle.jz_change.specs.InnerSteps.{KeepsIf, KeepsWhile, GivesCaseAt, cases_and};
 
 use crate::change::{Change, Number, Numbers, Step};
 use crate::numbers::number_at;
@@ -214,23 +214,13 @@ fn flat_step(alloc: Global, step: &Step, cases: &[Case], at: usize) -> Result<On
 {
     match step {
         Step::Ops(items) => flat_ops(alloc, items, cases, at),
-        Step::If {
-            before,
-            test,
-            then_part,
-            else_part,
-        } => flat_if(alloc, before, test, then_part, else_part, cases, at),
+        Step::If { .. } => flat_if(alloc, step, cases, at),
         Step::Arm {
             answer,
             before,
             part,
         } => flat_arm(alloc, *answer, before, part, cases, at),
-        Step::While {
-            prologue,
-            before,
-            test,
-            body,
-        } => flat_while(alloc, prologue, before, test, body, cases, at),
+        Step::While { .. } => flat_while(alloc, step, cases, at),
         Step::Once { prologue, before } => flat_once(alloc, prologue, before, cases, at),
         Step::For(body) => flat_for(alloc, body, cases, at),
         Step::Unrolled(parts) => flat_unrolled(alloc, parts, cases, at),
@@ -261,18 +251,18 @@ fn flat_ops(
 
 // An `if` that stays.
 #[cycle(flat)]
-fn flat_if(
-    alloc: Global,
-    before: &Seq<Numbers>,
-    test: &Numbers,
-    then_part: &Change,
-    else_part: &Change,
-    cases: &[Case],
-    at: usize,
-) -> Result<One, AllocError>
-    ensures { IfOk result (λ o. GivesCaseAt
-        (Step.If before.now test.now then_part.now else_part.now) cases.now at o.case o.at) }
+fn flat_if(alloc: Global, step: &Step, cases: &[Case], at: usize) -> Result<One, AllocError>
+    ensures { IfOk result (λ o. KeepsIf step.now → GivesCaseAt step.now cases.now at o.case o.at) }
 {
+    let Step::If {
+        before,
+        test,
+        then_part,
+        else_part,
+    } = step
+    else {
+        return Ok(nothing(alloc, at));
+    };
     let mut outs = Vec::new(alloc);
     let to = take(&mut outs, before, cases, at)?;
     let to_next = next(cases, to);
@@ -358,18 +348,19 @@ fn pruned(alloc: Global, answer: bool, outs: Vec<Out>, cases: Seq<Case>) -> Case
 
 // A `while` that stays.
 #[cycle(flat)]
-fn flat_while(
-    alloc: Global,
-    prologue: &Change,
-    before: &Seq<Numbers>,
-    test: &Numbers,
-    body: &Change,
-    cases: &[Case],
-    at: usize,
-) -> Result<One, AllocError>
-    ensures { IfOk result (λ o. GivesCaseAt
-        (Step.While prologue.now before.now test.now body.now) cases.now at o.case o.at) }
+fn flat_while(alloc: Global, step: &Step, cases: &[Case], at: usize) -> Result<One, AllocError>
+    ensures { IfOk result (λ o. KeepsWhile step.now
+        → GivesCaseAt step.now cases.now at o.case o.at) }
 {
+    let Step::While {
+        prologue,
+        before,
+        test,
+        body,
+    } = step
+    else {
+        return Ok(nothing(alloc, at));
+    };
     let to_next = next(cases, at);
     match cases.get(at) {
         None => Ok(nothing(alloc, to_next)),
