@@ -1,5 +1,5 @@
 -- The tree of a body is a body where its statements are what the parts of one have to be.
-use Rattle.std.proofs.Common.{◌≡◌, ℕ, zero, suc, List, [], ◌∷◌, Option, Some, None, Bool, true, false, cond, map, All, find, bytes_eq, refl, sym, ap, subst}
+use Rattle.std.proofs.Common.{◌≡◌, ℕ, List, [], ◌∷◌, Option, Some, None, Bool, true, false, cond, map, All, find, refl, sym, ap, subst}
 use Rattle.std.proofs.lemmas.List.Elements.{All-head, All-tail}
 use Rattle.jz_tree.specs.Span.{Span}
 use Rattle.jz_tree.specs.declared.expr.BinOp.{BinOp}
@@ -13,32 +13,42 @@ use Rattle.jz_tree.specs.declared.stmt.StmtKind.TheOpen.{StmtKind-F, Stmt-F}
 use Rattle.jz_tree.specs.declared.stmt.StmtKind.TheViews.{out-StmtKind, out-roll-StmtKind, roll-Stmt, roll-StmtKind}
 use Rattle.jz_tree.specs.declared.stmt.StmtKind.TheFolds.{fold-StmtKind, fold-roll-Stmt, fold-roll-StmtKind, ind-Stmt, map-Stmt, map-StmtKind}
 use Rattle.jz_tree.specs.declared.program.Fun.{Fun}
-use Rattle.jz_meaning.specs.Trees.{done}
+use Rattle.jz_tree.specs.declared.program.Program.{Program}
+use Rattle.jz_meaning.specs.Trees.{done, op, quiet, choose, loop, each, call}
 use Rattle.jz_type_names.specs.Scopes.{function_named}
 use Rattle.jz_type_names.specs.Parts.{Layer, layer_of, nested_statements, nested_step, statements_in, statements_of}
 use Rattle.jz_type_names.proofs.NestedLaws.{in_kind, pair, pairs, opened, in_stmt}
-use Rattle.jz_judgement.proofs.Nothing.{same_some}
 use Rattle.jz_texts.proofs.Lists.{parted}
 use Rattle.jz_meaning.specs.Statements.{Block}
-use Rattle.jz_meaning.specs.Runs.{Callee, Callees, in_order, call_tree, instruction_tree, assign_tree, kind_tree, statement_tree, block, with_tree, callees_of}
-use Rattle.jz_run_laws.proofs.Parts.{IfThere, there_is}
+use Rattle.jz_meaning.specs.Runs.{Callees, in_order, call_tree, assign_tree, kind_tree, statement_tree, block, body_of}
+use Rattle.jz_run_laws.specs.Depths.{HasNoRecursion, with_own_tree, callees_in}
+use Rattle.jz_run_laws.proofs.Uncut.{whole_law}
+use Rattle.jz_run_laws.proofs.Parts.{IfThere}
 use Rattle.jz_bodies.specs.Scopes.{Scope, Reads, ReadsIf, AllRead, AllWritten}
 use Rattle.jz_bodies.specs.Calls.{IsCall}
-use Rattle.jz_bodies.specs.Bodies.{IsCounter, IsBody}
+use Rattle.jz_bodies.specs.Bodies.{IsOperation, IsTest, IsCounter, IsBody}
 
 -- ---- one statement, without those that stand in it
 
--- asked where there is neither an operation nor a condition
-abbrev pub WhenBare : Option BinOp → Option Expr → Type 0 → Type 0
-WhenBare None None T = T
-WhenBare None (Some c) T = Unit {0}
-WhenBare (Some o) c T = Unit {0}
+-- there is neither an operation nor a condition, and this
+abbrev pub IsBare : Option BinOp → Option Expr → Type 0 → Type 0
+IsBare None None T = T
+IsBare None (Some c) T = ⊥
+IsBare (Some o) c T = ⊥
 
-module _ (scopes : Fun → Scope) (fs : List Fun) (x : Scope) where
+-- P: what is known of each function
+module _ (q : Program) (scopes : Fun → Scope) (P : Fun → Type 0) (x : Scope) where
+  -- a call of one of the functions
+  pub record IsCallOf (to : List Lval) (n : List ℕ) (args : List Expr) (at : Span) : Type 0 where
+    pub callee : Fun
+    pub named : function_named n q.funs ≡ Some callee
+    pub known : P callee
+    pub is : IsCall x (scopes callee) (record { to = to; callee = callee; args = args; at = at })
+
   abbrev pub IsRight : List Lval → Option BinOp → Rhs → Option Expr → Type 0
   IsRight to o (rhs.Value e) c = AllWritten x to × Reads x e × ReadsIf x c
-  IsRight to o (rhs.Call n args at) c = WhenBare o c ((g : Fun) → function_named n fs ≡ Some g → IsCall x (scopes g) (record { to = to; callee = g; args = args; at = at }))
-  IsRight to o (rhs.Intrinsic n args at) c = WhenBare o c (AllWritten x to × AllRead x args)
+  IsRight to o (rhs.Call n args at) c = IsBare o c (IsCallOf to n args at)
+  IsRight to o (rhs.Intrinsic n args at) c = IsBare o c (AllWritten x to × AllRead x args)
 
   abbrev pub IsStatement : Layer → Type 0
   IsStatement (StmtKind-F.Assign to o r c) = IsRight to o r c
@@ -46,6 +56,16 @@ module _ (scopes : Fun → Scope) (fs : List Fun) (x : Scope) where
   IsStatement (StmtKind-F.While p c b) = Reads x c
   IsStatement (StmtKind-F.For i from down to b) = (at : Span) → IsCounter x (record { counter = i; from = from; down = down; to = to; at = at })
   IsStatement (StmtKind-F.Mark vs) = ⊥
+
+  -- a body of which each call holds the body of a function of which P is known
+  abbrev pub HoldsBodies : Block → Type 0
+  HoldsBodies done = Unit {0}
+  HoldsBodies (op o r) = IsOperation x o × HoldsBodies r
+  HoldsBodies (quiet o r) = ⊥
+  HoldsBodies (choose t a b r) = IsTest x t × HoldsBodies a × HoldsBodies b × HoldsBodies r
+  HoldsBodies (loop w p t b r) = IsTest x t × HoldsBodies p × HoldsBodies b × HoldsBodies r
+  HoldsBodies (each f b r) = IsCounter x f × HoldsBodies b × HoldsBodies r
+  HoldsBodies (call c b r) = IsCall x (scopes c.callee) c × P c.callee × (b ≡ body_of q c.callee) × HoldsBodies r
 
 -- ---- lists
 
@@ -57,21 +77,18 @@ pub found : {X : Type 0} (P : X → Type 0) (test : X → Bool) (xs : List X) �
 found P test [] h = tt
 found P test (x ∷ xs) h = found_by P (test x) x (find test xs) (All-head P x xs h) (found P test xs (All-tail P x xs h))
 
--- a function that can be called is one of the program, and its body is one
-pub record IsReady (scopes : Fun → Scope) (fs : List Fun) (n : List ℕ) (c : Callee) : Type 0 where
-  pub named : function_named n fs ≡ Some c.of
-  pub body : IsBody scopes (scopes c.of) c.body
+-- ---- statements
 
-abbrev AreReady : (Fun → Scope) → List Fun → Callees → Type 0
-AreReady scopes fs callees = (n : List ℕ) (c : Callee) → callees n ≡ Some c → IsReady scopes fs n c
+module _ (q : Program) (scopes : Fun → Scope) (P : Fun → Type 0) (x : Scope) where
+  abbrev callees : Callees
+  callees = callees_in q
 
-module _ (scopes : Fun → Scope) (fs : List Fun) (callees : Callees) (ready : AreReady scopes fs callees) (x : Scope) where
   abbrev Said : Stmt → Type 0
-  Said s = IsStatement scopes fs x (layer_of s)
+  Said s = IsStatement q scopes P x (layer_of s)
 
   -- before what is a body
   abbrev Before : (Block → Block) → Type 0
-  Before g = (r : Block) → IsBody scopes x r → IsBody scopes x (g r)
+  Before g = (r : Block) → HoldsBodies q scopes P x r → HoldsBodies q scopes P x (g r)
 
   abbrev kind_of : StmtKind → Span → Block → Block
   kind_of = fold-StmtKind _ _ (kind_tree callees) (λ s. s.kind s.span)
@@ -80,7 +97,7 @@ module _ (scopes : Fun → Scope) (fs : List Fun) (callees : Callees) (ready : A
   StmtLaw s = All Said (statements_in s) → Before (statement_tree callees s)
 
   abbrev KindLaw : StmtKind → Type 0
-  KindLaw k = All Said (in_kind k) → IsStatement scopes fs x (out-StmtKind k) → (at : Span) → Before (kind_of k at)
+  KindLaw k = All Said (in_kind k) → IsStatement q scopes P x (out-StmtKind k) → (at : Span) → Before (kind_of k at)
 
   abbrev Parts : Type 0
   Parts = StmtKind-F ((k : StmtKind) × KindLaw k) ((s : Stmt) × StmtLaw s)
@@ -101,26 +118,21 @@ module _ (scopes : Fun → Scope) (fs : List Fun) (callees : Callees) (ready : A
       s.1 p.0 (in_order (map (statement_tree callees) (firsts ss)) r) (rows ss p.1 r b)
 
   -- ---- assignments
-  called : (n : List ℕ) (f : Option Callee) (to : List Lval) (o : Option BinOp) (args : List Expr) (c : Option Expr) (at : Span) → callees n ≡ f → IsRight scopes fs x to o (rhs.Call n args at) c → Before (call_tree f to o args c at)
-  called n (Some f) to None args None at e h r b =
-      let i = ready n f e in
-      (h f.of i.named, i.body, b)
-  called n (Some f) to None args (Some c) at e h r b = (tt, b)
-  called n (Some f) to (Some o) args c at e h r b = (tt, b)
-  called n None to o args c at e h r b = (tt, b)
+  called : (to : List Lval) (n : List ℕ) (args : List Expr) (place at : Span) → IsCallOf q scopes P x to n args place → Before (call_tree (callees n) to None args None place)
+  called to n args place at h r b =
+      subst (λ o. HoldsBodies q scopes P x (call_tree o to None args None place r)) (sym (ap (with_own_tree q) h.named)) (h.is, h.known, refl, b)
 
-  instructed : (to : List Lval) (o : Option BinOp) (n : List ℕ) (args : List Expr) (place : Span) (c : Option Expr) (at : Span) → IsRight scopes fs x to o (rhs.Intrinsic n args place) c → Before (instruction_tree to o n args c at)
-  instructed to None n args place None at h r b = (h, b)
-  instructed to None n args place (Some c) at h r b = (tt, b)
-  instructed to (Some o) n args place c at h r b = (tt, b)
-
-  assigned : (to : List Lval) (o : Option BinOp) (from : Rhs) (c : Option Expr) (at : Span) → IsRight scopes fs x to o from c → Before (assign_tree callees to o from c at)
+  assigned : (to : List Lval) (o : Option BinOp) (from : Rhs) (c : Option Expr) (at : Span) → IsRight q scopes P x to o from c → Before (assign_tree callees to o from c at)
   assigned to o (rhs.Value e) c at h r b = (h, b)
-  assigned to o (rhs.Call n args place) c at h r b = called n (callees n) to o args c place refl h r b
-  assigned to o (rhs.Intrinsic n args place) c at h r b = instructed to o n args place c place h r b
+  assigned to None (rhs.Call n args place) None at h r b = called to n args place at h r b
+  assigned to None (rhs.Call n args place) (Some c) at h r b = absurd h
+  assigned to (Some o) (rhs.Call n args place) c at h r b = absurd h
+  assigned to None (rhs.Intrinsic n args place) None at h r b = (h, b)
+  assigned to None (rhs.Intrinsic n args place) (Some c) at h r b = absurd h
+  assigned to (Some o) (rhs.Intrinsic n args place) c at h r b = absurd h
 
   -- ---- layers
-  layer_law : (y : Parts) → All Said (nested_step (pairs (bare y))) → IsStatement scopes fs x (bare y) → (at : Span) → Before (kind_tree callees (mapped y) at)
+  layer_law : (y : Parts) → All Said (nested_step (pairs (bare y))) → IsStatement q scopes P x (bare y) → (at : Span) → Before (kind_tree callees (mapped y) at)
   unfolding pairs
   layer_law (StmtKind-F.Assign to o from c) h d at r b = assigned to o from c at d r b
   layer_law (StmtKind-F.If c y z) h d at r b =
@@ -137,7 +149,7 @@ module _ (scopes : Fun → Scope) (fs : List Fun) (callees : Callees) (ready : A
   kind_case y h d at =
       let z = bare y in
       subst (λ (f : Span → Block → Block). Before (f at)) (sym (fold-roll-StmtKind _ _ (kind_tree callees) (λ s. s.kind s.span) z))
-      (layer_law y (subst (All Said) (opened z) h) (subst (IsStatement scopes fs x) (out-roll-StmtKind z) d) at)
+      (layer_law y (subst (All Said) (opened z) h) (subst (IsStatement q scopes P x) (out-roll-StmtKind z) d) at)
 
   stmt_case : (y : Stmt-F ((k : StmtKind) × KindLaw k) ((s : Stmt) × StmtLaw s)) → StmtLaw (roll-Stmt (map-Stmt _ _ StmtKind Stmt (λ e. e.0) (λ e. e.0) y))
   stmt_case y h =
@@ -161,22 +173,23 @@ module _ (scopes : Fun → Scope) (fs : List Fun) (callees : Callees) (ready : A
 -- ---- functions
 
 -- the statements of a function
-abbrev pub StatementsAre : (Fun → Scope) → List Fun → Fun → Type 0
-StatementsAre scopes fs f = All (λ s. IsStatement scopes fs (scopes f) (layer_of s)) (statements_of f.body)
+abbrev pub StatementsAre : Program → (Fun → Scope) → (Fun → Type 0) → Fun → Type 0
+StatementsAre q scopes P f = All (λ s. IsStatement q scopes P (scopes f) (layer_of s)) (statements_of f.body)
 
-module _ (scopes : Fun → Scope) (fs : List Fun) (all : All (StatementsAre scopes fs) fs) where
-  named : (n : List ℕ) (f : Fun) → function_named n fs ≡ Some f → StatementsAre scopes fs f
-  named n f e = there_is (StatementsAre scopes fs) (function_named n fs) f e (found (StatementsAre scopes fs) (λ g. bytes_eq n g.name) fs all)
+module _ (q : Program) (scopes : Fun → Scope) (P : Fun → Type 0) (never : HasNoRecursion q) (statements : (f : Fun) → P f → StatementsAre q scopes P f) where
+  body_holds : (f : Fun) → P f → HoldsBodies q scopes P (scopes f) (body_of q f)
+  body_holds f k = subst (HoldsBodies q scopes P (scopes f)) (sym (whole_law q f never)) (block_is q scopes P (scopes f) f.body (statements f k) done tt)
 
-  ready_by : (callees : Callees) → AreReady scopes fs callees → (n : List ℕ) (o : Option Fun) (c : Callee) → function_named n fs ≡ o → with_tree (λ ss. block callees ss done) o ≡ Some c → IsReady scopes fs n c
-  ready_by callees ready n None c q e = absurd cc
-  ready_by callees ready n (Some f) c q e =
-      subst (IsReady scopes fs n) (same_some (record { of = f; body = block callees f.body done }) c e)
-      (record { named = q; body = block_is scopes fs callees ready (scopes f) f.body (named n f q) done tt })
+  -- down the tree, into the bodies that it holds
+  each_body : (t : Block) (x : Scope) → HoldsBodies q scopes P x t → IsBody scopes x t
+  each_body done x h = tt
+  each_body (op o r) x h = (h.0, each_body r x h.1)
+  each_body (quiet o r) x h = absurd h
+  each_body (choose t a b r) x h = (h.0, each_body a x h.1, each_body b x h.2, each_body r x h.3)
+  each_body (loop w p t b r) x h = (h.0, each_body p x h.1, each_body b x h.2, each_body r x h.3)
+  each_body (each f b r) x h = (h.0, each_body b x h.1, each_body r x h.2)
+  each_body (call c b r) x h =
+      (h.0, each_body b (scopes c.callee) (subst (HoldsBodies q scopes P (scopes c.callee)) (sym h.2) (body_holds c.callee h.1)), each_body r x h.3)
 
-  callees_ready : (depth : ℕ) → AreReady scopes fs (callees_of fs depth)
-  callees_ready zero n c e = absurd cc
-  callees_ready (suc depth) n c e = ready_by (callees_of fs depth) (callees_ready depth) n (function_named n fs) c refl e
-
-  pub body_is : (depth : ℕ) (f : Fun) → StatementsAre scopes fs f → IsBody scopes (scopes f) (block (callees_of fs depth) f.body done)
-  body_is depth f h = block_is scopes fs (callees_of fs depth) (callees_ready depth) (scopes f) f.body h done tt
+  pub body_is : (f : Fun) → P f → IsBody scopes (scopes f) (body_of q f)
+  body_is f k = each_body (body_of q f) (scopes f) (body_holds f k)

@@ -29,12 +29,14 @@ use Rattle.jz_tree.specs.declared.program.Program.{Program}
 use Rattle.jz_tree.specs.declared.intrinsic.Instance.{Instance}
 use Rattle.jz_tree.specs.Spellings.{spelled}
 use Rattle.jz_select.specs.Places.{Answers}
-use Rattle.jz_select.specs.Shapes.{whichever, kind_layer, named_shape}
+use Rattle.jz_select.specs.declared.shape.Shape as rowed
+use Rattle.jz_select.specs.declared.shape.Shape.TheVariants as shapes
+use Rattle.jz_select.specs.Shapes.{conditional, whichever, kind_layer, named_shape}
 use Rattle.jz_type_names.specs.declared.kinds.Kind as known
 use Rattle.jz_type_names.specs.declared.kinds.Kind.TheVariants as scope
 use Rattle.jz_type_names.specs.Kinds.{declared_of, known_of, kind_of, is_inline_int, inline_int, is_word_kind, is_register_word, is_array_kind, same_storage, same_kind, array_of, whole_array}
 use Rattle.jz_type_names.specs.Scopes.{variables_of, constant_place, function_named}
-use Rattle.jz_type_names.specs.Parts.{Layer, layer_of, statements_of, exprs_of, set_by, left_exprs, right_exprs, left_vars}
+use Rattle.jz_type_names.specs.Parts.{Layer, layer_of, statements_of, exprs_of, set_by, left_exprs, right_exprs, left_vars, called_by}
 use Rattle.jz_type_names.proofs.Empty.{both, passed, all_empty, no_member, one_not}
 use Rattle.jz_type_storage.specs.Declarations.{is_kept, is_passed, is_returned, unkept, unkept_by, unkept_param, unkept_ret, unkept_in, wrongly_kept}
 use Rattle.jz_type_storage.specs.Settings.{wrongly_set}
@@ -72,6 +74,8 @@ use Rattle.jz_meaning.specs.Runs.{IsInput, entry_state}
 use Rattle.jz_run_laws.specs.Kinds.{HoldsBytes, sort_of_kind}
 use Rattle.jz_run_laws.specs.DeclaredKinds.{kinds_of, ParamDeclared}
 use Rattle.jz_run_laws.proofs.Declarations.{declarations_give}
+use Rattle.jz_run_laws.specs.Depths.{HasNoRecursion}
+use Rattle.jz_run_laws.proofs.Uncut.{typed_law}
 use Rattle.jz_run_laws.proofs.Functions.{entries_keep}
 use Rattle.jz_run_laws.proofs.Stores.{kinds_sorted}
 use Rattle.jz_run_laws.proofs.Parts.{there_is}
@@ -86,6 +90,7 @@ use Rattle.jz_bodies.specs.Declared.{is_one, is_among, scopes_in}
 use Rattle.jz_bodies.specs.Typed.{IsTypedFunction, BodiesLaw}
 use Rattle.jz_bodies.proofs.Refs.{is_one-refl}
 use Rattle.jz_bodies.proofs.Owning.{owned, zero_copies, own_is, apart_is}
+use Rattle.jz_texts.specs.Declared as texts
 use Rattle.jz_bodies.proofs.Trees.{IsRight, IsStatement, StatementsAre, found, body_is}
 use Rattle.jz_bodies.proofs.Variables.{flat_parts, IsVariable, IsOwn, counted_variables, own_variable, used_variable, int_kind, known_is, plain_is, scope_is}
 use Rattle.jz_bodies.proofs.Reading.{reads, has_scalar}
@@ -176,6 +181,23 @@ module _ (q : Program) (f : Fun) (k : IsKnown q f) where
   rets_kept = All-weaker (λ r. unkept_ret f.span r ≡ []) (λ r. is_returned (declared_of r.decl) ≡ true) (λ r e. passed (is_returned (declared_of r.decl)) f.span e) f.rets (all_empty (unkept_ret f.span) f.rets kept_parts.1)
 
 -- ---- statements
+
+function_there : (o : Option Fun) → is_some o ≡ true → (g : Fun) × (o ≡ Some g)
+function_there None e = absurd (false≢true e)
+function_there (Some g) e = (g, refl)
+
+abbrev NoValue : Rhs → Type 0
+NoValue (rhs.Value e) = ⊥
+NoValue (rhs.Call n args at) = Unit {0}
+NoValue (rhs.Intrinsic n args at) = Unit {0}
+
+free_conditional : (to : List Lval) (o : Option BinOp) (r : Rhs) (c : Expr) → NoValue r → conditional to o r c ≡ shapes.Free
+free_conditional [] o r c n = refl
+free_conditional (d ∷ []) None (rhs.Value e) c n = absurd n
+free_conditional (d ∷ []) None (rhs.Call m args at) c n = refl
+free_conditional (d ∷ []) None (rhs.Intrinsic m args at) c n = refl
+free_conditional (d ∷ []) (Some o) r c n = refl
+free_conditional (d ∷ b ∷ ds) o r c n = refl
 
 inline_kind : (s : Storage) (k : known.Kind) → inline_int s k ≡ true → k ≡ scope.Int
 inline_kind storage.Inline scope.Int e = refl
@@ -322,30 +344,43 @@ module _ (q : Program) (all : All (IsKnown q) q.funs) (f : Fun) (k : IsKnown q f
       let d = parted E (flat_map left_exprs to) (right_exprs from) c.0 in
       (d.0, d.1, c.1, a.1)
 
+  no_row : {s : rowed.Shape} → s ≡ shapes.Free → (answers : Answers) × Matches s → ⊥
+  no_row e m = no_free (subst Matches e m.1)
+
   right_is : (to : List Lval) (o : Option BinOp) (from : Rhs) (cond : Option Expr) → RightSide (callee_from (among q.funs) from) to o from → typed.Condition cond → copied_by q.funs (StmtKind-F.Assign to o from cond) ≡ []
       → RowAt (StmtKind-F.Assign to o from cond) → HasCopies (callee_by q.funs (StmtKind-F.Assign to o from cond)) (StmtKind-F.Assign to o from cond)
-      → All V (used_by (StmtKind-F.Assign to o from cond)) → All (IsSet f) (flat_map left_vars to) → IsRight (scopes_in q) q.funs X to o from cond
-  right_is to o (rhs.Value e) cond h t n row copies used set =
+      → All V (used_by (StmtKind-F.Assign to o from cond)) → All (IsSet f) (flat_map left_vars to) → All (texts.IsFunction q) (called_by (StmtKind-F.Assign to o from cond)) → IsRight q (scopes_in q) (IsKnown q) X to o from cond
+  right_is to o (rhs.Value e) cond h t n row copies used set names =
       let p = assigned_parts to o (rhs.Value e) cond used in
       let u = lefts_used to p.0 p.3 set in
       (all_written q f own to u (values_are to o e h (parts_none to n)), value_reads to o e cond (value_type to o e h) row (All-head E e [] p.1), reads_if cond t p.2)
-  right_is to None (rhs.Call m args at) None h t n row copies used set =
+  right_is to None (rhs.Call m args at) None h t n row copies used set names =
       let p = assigned_parts to None (rhs.Call m args at) None used in
       let u = lefts_used to p.0 p.3 set in
-      λ g e.
+      let found = function_there (function_named m q.funs) (All-head (texts.IsFunction q) (m, at) [] names) in
+      let g = found.0 in
+      let e = found.1 in
+      let kg = known_named m g e in
       let callee : option_map callee_of (function_named m q.funs) ≡ Some (callee_of g) = ap (option_map callee_of) e in
       let both : HasCopies (Some (callee_of g)) (StmtKind-F.Assign to None (rhs.Call m args at) None) = subst (λ x. HasCopies x (StmtKind-F.Assign to None (rhs.Call m args at) None)) callee copies in
-      call_is g (known_named m g e) to args at u p.1 (subst (λ x. Calls x to args) e h) (subst (λ x. copied_by_call x to args ≡ []) callee n) both.0 both.1
-  right_is to None (rhs.Call m args at) (Some x) h t n row copies used set = tt
-  right_is to (Some o) (rhs.Call m args at) cond h t n row copies used set = tt
-  right_is to None (rhs.Intrinsic m args at) None h t n row copies used set =
+      record {
+        callee = g;
+        named = e;
+        known = kg;
+        is = call_is g kg to args at u p.1 (subst (λ x. Calls x to args) e h) (subst (λ x. copied_by_call x to args ≡ []) callee n) both.0 both.1;
+      }
+  right_is to None (rhs.Call m args at) (Some x) h t n row copies used set names = absurd (no_row (free_conditional to None (rhs.Call m args at) x tt) (row refl))
+  right_is to (Some o) (rhs.Call m args at) None h t n row copies used set names = absurd (no_free (row refl).1)
+  right_is to (Some o) (rhs.Call m args at) (Some x) h t n row copies used set names = absurd (no_row (free_conditional to (Some o) (rhs.Call m args at) x tt) (row refl))
+  right_is to None (rhs.Intrinsic m args at) None h t n row copies used set names =
       let p = assigned_parts to None (rhs.Intrinsic m args at) None used in
       let u = lefts_used to p.0 p.3 set in
       let none = both (flat_map array_left to) (flat_map array_arg args) n in
       let r = row refl in
       instructs_by (spelled m) to args r.0 h r.1 none.0 none.1 u p.1
-  right_is to None (rhs.Intrinsic m args at) (Some x) h t n row copies used set = tt
-  right_is to (Some o) (rhs.Intrinsic m args at) cond h t n row copies used set = tt
+  right_is to None (rhs.Intrinsic m args at) (Some x) h t n row copies used set names = absurd (no_row (free_conditional to None (rhs.Intrinsic m args at) x tt) (row refl))
+  right_is to (Some o) (rhs.Intrinsic m args at) None h t n row copies used set names = absurd (no_free (row refl).1)
+  right_is to (Some o) (rhs.Intrinsic m args at) (Some x) h t n row copies used set names = absurd (no_row (free_conditional to (Some o) (rhs.Intrinsic m args at) x tt) (row refl))
 
   -- the counter of a loop
   counter_is : (i : Var) → V i → is_inline_int (known_of i) ≡ true → (X.sets_scalar (ref_of i) ≡ true) × (X.sorts (ref_of i).name (ref_of i).copy ≡ integers)
@@ -356,26 +391,26 @@ module _ (q : Program) (all : All (IsKnown q) q.funs) (f : Fun) (k : IsKnown q f
       let is : (ref_of i).kind ≡ kind.Int = int_kind q f i h int in
       (sets_scalar q f own i h plain, h.sort ∙ ap sort_of_kind is)
 
-  statement_by : (x : Layer) → WellTyped (among q.funs) x → copied_by q.funs x ≡ [] → RowAt x → HasCopies (callee_by q.funs x) x → All V (used_by x) → All (IsSet f) (set_by x) → IsUnmarked x → IsStatement (scopes_in q) q.funs X x
-  statement_by (StmtKind-F.Assign to o from cond) (typed.assigned h t) n row copies used set m = right_is to o from cond h t n row copies used set
-  statement_by (StmtKind-F.If c a b) (typed.branch t) n row copies used set m = reads q f c truth t (All-head E c [] (flat_parts V vars_in (c ∷ []) (parted V (flat_map vars_in (c ∷ [])) [] used).0))
-  statement_by (StmtKind-F.While p c b) (typed.loop t) n row copies used set m = reads q f c truth t (All-head E c [] (flat_parts V vars_in (c ∷ []) (parted V (flat_map vars_in (c ∷ [])) [] used).0))
-  statement_by (StmtKind-F.For i from down to b) (typed.rounds e s t) n row copies used set m =
+  statement_by : (x : Layer) → WellTyped (among q.funs) x → copied_by q.funs x ≡ [] → RowAt x → HasCopies (callee_by q.funs x) x → All V (used_by x) → All (IsSet f) (set_by x) → IsUnmarked x → All (texts.IsFunction q) (called_by x) → IsStatement q (scopes_in q) (IsKnown q) X x
+  statement_by (StmtKind-F.Assign to o from cond) (typed.assigned h t) n row copies used set m names = right_is to o from cond h t n row copies used set names
+  statement_by (StmtKind-F.If c a b) (typed.branch t) n row copies used set m names = reads q f c truth t (All-head E c [] (flat_parts V vars_in (c ∷ []) (parted V (flat_map vars_in (c ∷ [])) [] used).0))
+  statement_by (StmtKind-F.While p c b) (typed.loop t) n row copies used set m names = reads q f c truth t (All-head E c [] (flat_parts V vars_in (c ∷ []) (parted V (flat_map vars_in (c ∷ [])) [] used).0))
+  statement_by (StmtKind-F.For i from down to b) (typed.rounds e s t) n row copies used set m names =
       let p = parted V (flat_map vars_in (from ∷ to ∷ [])) (i ∷ []) used in
       let es = flat_parts V vars_in (from ∷ to ∷ []) p.0 in
       let c = counter_is i (All-head V i [] p.1) e in
       λ at. (reads q f from integer s (All-head E from (to ∷ []) es), reads q f to integer t (All-head E to [] (All-tail E from (to ∷ []) es)), c.0, c.1)
-  statement_by (StmtKind-F.Mark vs) h n row copies used set m = absurd m
+  statement_by (StmtKind-F.Mark vs) h n row copies used set m names = absurd m
 
   statement_is : (s : Stmt) → WellTyped (among q.funs) (layer_of s) → copied_by q.funs (layer_of s) ≡ [] → HasRows q.funs s → All V (used_by (layer_of s)) → All (IsSet f) (set_by (layer_of s)) → IsUnmarked (layer_of s)
-      → IsStatement (scopes_in q) q.funs X (layer_of s)
-  statement_is s h n rows used set m = statement_by (layer_of s) h n (λ e. (let r = rows.0 e in selected_matches s.kind r.0 r.1)) rows.1 used set m
+      → All (texts.IsFunction q) (called_by (layer_of s)) → IsStatement q (scopes_in q) (IsKnown q) X (layer_of s)
+  statement_is s h n rows used set m names = statement_by (layer_of s) h n (λ e. (let r = rows.0 e in selected_matches s.kind r.0 r.1)) rows.1 used set m names
 
-  pub statements_are : StatementsAre (scopes_in q) q.funs f
+  pub statements_are : StatementsAre q (scopes_in q) (IsKnown q) f
   statements_are =
       let used = used_variables q f k in
       let set = all_set f in
-      λ i s l. statement_is (slice_index_or (statements_of f.body) i s) (k.well.1 i s l) (k.copied i s l) (k.rows i s l) (used i s l) (set i s l) (k.text.unmarked i s l)
+      λ i s l. statement_is (slice_index_or (statements_of f.body) i s) (k.well.1 i s l) (k.copied i s l) (k.rows i s l) (used i s l) (set i s l) (k.text.unmarked i s l) (k.names.called i s l)
 
 -- ---- what is given back
 
@@ -453,11 +488,11 @@ module _ (q : Program) (f : Fun) where
 
 -- ---- functions
 
-function_is : (q : Program) (all : All (IsKnown q) q.funs) (f : Fun) → IsKnown q f → ReturnsWords f → IsTypedFunction q f
-function_is q all f k w = record {
+function_is : (q : Program) → HasNoRecursion q → (all : All (IsKnown q) q.funs) (f : Fun) → IsKnown q f → ReturnsWords f → IsTypedFunction q f
+function_is q never all f k w = record {
   scope = scope_is q f (own_variables q f k);
   zero = zero_copies q f k.text.declared;
-  body = body_is (scopes_in q) q.funs (λ i g l. statements_are q all _ (all i g l)) (length q.funs) f (statements_are q all f k);
+  body = body_is q (scopes_in q) (IsKnown q) never (statements_are q all) f k;
   returned = λ x. returned_is q f f.rets f.result k.well.0 (w x) (returned_variables q f k);
   entered = entered_sorts q f k;
 }
@@ -466,4 +501,4 @@ pub bodies_law : BodiesLaw
 bodies_law q h text =
     let all = all_known q h text in
     let words = returns_words q h in
-    λ i f l. function_is q all _ (all i f l) (words i f l)
+    λ i f l. function_is q (typed_law q h) all _ (all i f l) (words i f l)

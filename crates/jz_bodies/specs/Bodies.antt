@@ -9,12 +9,12 @@ use Rattle.jz_meaning.specs.Statements.{Operation, assign, instruction, unset, m
 use Rattle.jz_bodies.specs.Scopes.{Scope, Reads, ReadsIf, AllRead, AllWritten}
 use Rattle.jz_bodies.specs.Calls.{IsCall}
 
--- what typing excludes does nothing
+-- an assignment or an instruction, and nothing that typing excludes
 abbrev pub IsOperation : Scope → Operation → Type 0
 IsOperation x (assign to o e c at) = AllWritten x to × Reads x e × ReadsIf x c
 IsOperation x (instruction to n args at) = AllWritten x to × AllRead x args
 IsOperation x (unset vs) = ⊥
-IsOperation x (meaningless at) = Unit {0}
+IsOperation x (meaningless at) = ⊥
 
 abbrev pub IsTest : Scope → Condition → Type 0
 IsTest x p = Reads x p.cond

@@ -16,9 +16,10 @@ use Rattle.jz_change.specs.declared.change.Step.{Step}
 use Rattle.jz_change.specs.declared.change.Step.TheVariants as step
 use Rattle.jz_change.specs.declared.change.Step.TheOpen.{Step-F}
 use Rattle.jz_change.specs.declared.change.Step.TheFolds.{fold-roll-Step}
-use Rattle.jz_change.specs.Flattening.{outs_by, first_outs, cases_behind, FlatCases, FlatRounds, tr_of, add_case, flat_arm, flat_if, flat_while, flat_once, flat_for, first_by, flat, flat_rounds}
+use Rattle.jz_change.specs.Flattening.{outs_by, first_outs, cases_behind, FlatCases, FlatRounds, tr_of, add_case, flat_arm, flat_if, flat_while, flat_for, first_by, flat, flat_rounds}
 use Rattle.jz_change.specs.Views.{layer_change, steps_change, then_step, change_of, steps_of, changes_of}
 use Rattle.jz_change.specs.InnerSteps.{GivesCase, cases_and, cases_before, trees_before}
+use Rattle.jz_change.proofs.StepViews.{begun}
 
 -- ---- what is left of cases
 
@@ -28,10 +29,6 @@ behind_is (c ∷ cs) = refl
 
 pub behind_drop : (cs : List Case) (n : ℕ) → drop (n + 1) cs ≡ cases_behind (drop n cs)
 behind_drop cs n = sym (drop-drop 1 n cs) ∙ behind_is (drop n cs)
-
--- what was added to nothing
-pub begun : {A : Type 0} (new old xs : List A) → new ≡ old ++ xs → old ≡ [] → new ≡ xs
-begun new old xs e f = e ∙ ap (λ v. v ++ xs) f
 
 -- ---- steps
 

@@ -1,5 +1,5 @@
 -- What each step makes of the steps of another change, and what the loops over steps keep.
-use Rattle.std.proofs.Common.{◌≡◌, ℕ, ◌+◌, ◌<◌, ◌≤◌, Bool, true, false, if◌then◌else◌, List, [], ◌∷◌, ◌++◌, map, refl, sym, ap, ◌∙◌, drop, append_assoc, append-nil}
+use Rattle.std.proofs.Common.{◌≡◌, ℕ, ◌+◌, ◌<◌, ◌≤◌, Bool, true, false, if◌then◌else◌, List, [], ◌∷◌, ◌++◌, map, sym, ap, ◌∙◌, subst, drop}
 use Rattle.std.specs.Prelude.{length, slice_index_or}
 use Rattle.std.proofs.lemmas.List.{drop_all, drop_more}
 use Rattle.jz_change.specs.declared.change.Numbers.{Numbers}
@@ -11,9 +11,9 @@ use Rattle.jz_change.specs.declared.change.Step.TheViews.{out-Step, roll-Step, r
 use Rattle.jz_change.specs.declared.change.Step.TheFolds.{fold-roll-Step}
 use Rattle.jz_change.specs.Changes as model
 use Rattle.jz_change.specs.Composing.{numbers_by, all_by, behind, first_ops, JoinedChange, JoinedRounds, add_step, join_if, join_while, join_every, join_for, join_first, join, join_rounds}
-use Rattle.jz_change.specs.Views.{chain, changes_before, layer_change, steps_change, then_step, change_of, steps_of, changes_of}
+use Rattle.jz_change.specs.Views.{changes_before, layer_change, steps_change, then_step, change_of, steps_of, changes_of}
 use Rattle.jz_change.specs.InnerSteps.{GivesStep, steps_and, steps_before, rounds_before}
-use Rattle.jz_change.proofs.StepViews.{then_ops, then_if, then_arm, then_while, then_once, then_for, then_unrolled, then_opened, change_is, steps_append, changes_append}
+use Rattle.jz_change.proofs.StepViews.{then_ops, then_if, then_arm, then_while, then_once, then_for, then_unrolled, then_opened, change_is, steps_append, changes_append, steps_at, begun}
 
 abbrev pair : model.Change → model.Change → JoinedChange
 pair c b = record { change = c; rest = b }
@@ -260,6 +260,71 @@ for_other_joins y b second b3 c b2 g k i h =
 
 pub joins_at : (s t : Step) (b : model.Change) (c : Step) (b2 : model.Change) → s ≡ t → GivesStep t b c b2 → GivesStep s b c b2
 joins_at s t b c b2 e g r = ap (λ x. join (then_step x r) b) e ∙ g r
+
+-- ---- steps and the first step of the other change, at places in a list
+
+pub if_arm_at : (s : Step) (before : List Numbers) (test : Numbers) (x y : Change) (steps : List Step) (at to next : ℕ) (items old items2 : List Numbers) (second : Step) (z : Bool) (before2 : List Numbers) (p2 t : Change) (c : Step)
+    → s ≡ step.If before test x y → items ≡ old ++ (first_ops before (steps_of (drop at steps))).items → old ≡ [] → (first_ops before (steps_of (drop at steps))).rest ≡ steps_of (drop to steps)
+    → to < length steps → second ≡ slice_index_or steps to second → second ≡ step.Arm z before2 p2 → items2 ≡ items ++ all_by test before2
+    → change_of t ≡ ((if z then join (change_of x) else join (change_of y)) (steps_of p2.steps)).change → c ≡ step.Arm z items2 t → steps_of (drop next steps) ≡ behind (steps_of (drop to steps))
+    → GivesStep s (steps_of (drop at steps)) c (steps_of (drop next steps))
+if_arm_at s before test x y steps at to next items old items2 second z before2 p2 t c e f g h lt is k l m n o =
+    let b = steps_of (drop at steps) in let b2 = steps_of (drop next steps) in
+    joins_at s (step.If before test x y) b c b2 e
+    (subst (λ v. GivesStep (step.If before test x y) b v b2) (sym n)
+    (if_arm_joins before test x y b items (steps_of (drop to steps)) second z before2 p2 (steps_of (drop (to + 1) steps)) items2 t b2 (begun items old (first_ops before b).items f g) h (steps_at steps to second lt is) k l m o))
+
+pub if_true_at : (s : Step) (before : List Numbers) (test : Numbers) (x y : Change) (steps : List Step) (at to next : ℕ) (items old items2 : List Numbers) (second : Step) (z : Bool) (before2 : List Numbers) (p2 t : Change) (ss : List Step) (c : Step)
+    → s ≡ step.If before test x y → items ≡ old ++ (first_ops before (steps_of (drop at steps))).items → old ≡ [] → (first_ops before (steps_of (drop at steps))).rest ≡ steps_of (drop to steps)
+    → to < length steps → second ≡ slice_index_or steps to second → second ≡ step.Arm z before2 p2 → items2 ≡ items ++ all_by test before2
+    → z ≡ true → ss ≡ p2.steps → change_of t ≡ (join (change_of x) (steps_of ss)).change → c ≡ step.Arm true items2 t → steps_of (drop next steps) ≡ behind (steps_of (drop to steps))
+    → GivesStep s (steps_of (drop at steps)) c (steps_of (drop next steps))
+if_true_at s before test x y steps at to next items old items2 second z before2 p2 t ss c e f g h lt is k l w q m n o =
+    if_arm_at s before test x y steps at to next items old items2 second true before2 p2 t c e f g h lt is (k ∙ ap (λ v. step.Arm v before2 p2) w) l (m ∙ ap (λ v. (join (change_of x) (steps_of v)).change) q) n o
+
+pub if_false_at : (s : Step) (before : List Numbers) (test : Numbers) (x y : Change) (steps : List Step) (at to next : ℕ) (items old items2 : List Numbers) (second : Step) (z : Bool) (before2 : List Numbers) (p2 t : Change) (ss : List Step) (c : Step)
+    → s ≡ step.If before test x y → items ≡ old ++ (first_ops before (steps_of (drop at steps))).items → old ≡ [] → (first_ops before (steps_of (drop at steps))).rest ≡ steps_of (drop to steps)
+    → to < length steps → second ≡ slice_index_or steps to second → second ≡ step.Arm z before2 p2 → items2 ≡ items ++ all_by test before2
+    → z ≡ false → ss ≡ p2.steps → change_of t ≡ (join (change_of y) (steps_of ss)).change → c ≡ step.Arm false items2 t → steps_of (drop next steps) ≡ behind (steps_of (drop to steps))
+    → GivesStep s (steps_of (drop at steps)) c (steps_of (drop next steps))
+if_false_at s before test x y steps at to next items old items2 second z before2 p2 t ss c e f g h lt is k l w q m n o =
+    if_arm_at s before test x y steps at to next items old items2 second false before2 p2 t c e f g h lt is (k ∙ ap (λ v. step.Arm v before2 p2) w) l (m ∙ ap (λ v. (join (change_of y) (steps_of v)).change) q) n o
+
+pub if_other_at : (s : Step) (before : List Numbers) (test : Numbers) (x y : Change) (steps : List Step) (at to next : ℕ) (items old : List Numbers) (second c : Step)
+    → s ≡ step.If before test x y → items ≡ old ++ (first_ops before (steps_of (drop at steps))).items → old ≡ [] → (first_ops before (steps_of (drop at steps))).rest ≡ steps_of (drop to steps)
+    → to < length steps → second ≡ slice_index_or steps to second → is_if (out-Step second) ≡ false → c ≡ step.Ops [] → steps_of (drop next steps) ≡ behind (steps_of (drop to steps))
+    → GivesStep s (steps_of (drop at steps)) c (steps_of (drop next steps))
+if_other_at s before test x y steps at to next items old second c e f g h lt is k l o =
+    let b = steps_of (drop at steps) in let b2 = steps_of (drop next steps) in
+    joins_at s (step.If before test x y) b c b2 e
+    (if_other_joins before test x y b items (steps_of (drop to steps)) second (steps_of (drop (to + 1) steps)) c b2 (begun items old (first_ops before b).items f g) h (steps_at steps to second lt is) k l o)
+
+pub while_while_at : (s : Step) (p : Change) (before : List Numbers) (test : Numbers) (y : Change) (steps : List Step) (at next : ℕ) (second : Step) (p2 : Change) (before2 : List Numbers) (test2 : Numbers) (y2 : Change)
+    (inner ss : List Step) (behind_it : ℕ) (items2 : List Numbers) (n : Numbers) (t : Change) (more : List Step) → s ≡ step.While p before test y → at < length steps → second ≡ slice_index_or steps at second → second ≡ step.While p2 before2 test2 y2
+    → inner ≡ p2.steps → join (change_of p) (steps_of inner) ≡ steps_and ss (steps_of (drop behind_it inner)) → items2 ≡ (first_ops before (steps_of (drop behind_it inner))).items ++ all_by test before2 → n ≡ numbers_by test test2
+    → more ≡ y2.steps → change_of t ≡ (join (change_of y) (steps_of more)).change → steps_of (drop next steps) ≡ behind (steps_of (drop at steps))
+    → GivesStep s (steps_of (drop at steps)) (step.While (of_steps ss) items2 n t) (steps_of (drop next steps))
+while_while_at s p before test y steps at next second p2 before2 test2 y2 inner ss behind_it items2 n t more e lt is k i g h j q m o =
+    let b = steps_of (drop at steps) in let b2 = steps_of (drop next steps) in let c = step.While (of_steps ss) items2 n t in
+    joins_at s (step.While p before test y) b c b2 e
+    (while_while_joins p before test y b second p2 before2 test2 y2 (steps_of (drop (at + 1) steps)) ss (steps_of (drop behind_it inner)) items2 n t b2 (steps_at steps at second lt is) k
+    (ap (λ v. join (change_of p) (steps_of v)) (sym i) ∙ g) h j (m ∙ ap (λ v. (join (change_of y) (steps_of v)).change) q) o)
+
+pub while_once_at : (s : Step) (p : Change) (before : List Numbers) (test : Numbers) (y : Change) (steps : List Step) (at next : ℕ) (second : Step) (p2 : Change) (before2 : List Numbers)
+    (inner ss : List Step) (behind_it : ℕ) (items2 : List Numbers) → s ≡ step.While p before test y → at < length steps → second ≡ slice_index_or steps at second → second ≡ step.Once p2 before2
+    → inner ≡ p2.steps → join (change_of p) (steps_of inner) ≡ steps_and ss (steps_of (drop behind_it inner)) → items2 ≡ (first_ops before (steps_of (drop behind_it inner))).items ++ all_by test before2
+    → steps_of (drop next steps) ≡ behind (steps_of (drop at steps))
+    → GivesStep s (steps_of (drop at steps)) (step.Once (of_steps ss) items2) (steps_of (drop next steps))
+while_once_at s p before test y steps at next second p2 before2 inner ss behind_it items2 e lt is k i g h o =
+    let b = steps_of (drop at steps) in let b2 = steps_of (drop next steps) in let c = step.Once (of_steps ss) items2 in
+    joins_at s (step.While p before test y) b c b2 e
+    (while_once_joins p before test y b second p2 before2 (steps_of (drop (at + 1) steps)) ss (steps_of (drop behind_it inner)) items2 b2 (steps_at steps at second lt is) k (ap (λ v. join (change_of p) (steps_of v)) (sym i) ∙ g) h o)
+
+pub while_other_at : (s : Step) (p : Change) (before : List Numbers) (test : Numbers) (y : Change) (steps : List Step) (at next : ℕ) (second c : Step) → s ≡ step.While p before test y
+    → at < length steps → second ≡ slice_index_or steps at second → is_while (out-Step second) ≡ false → c ≡ step.Ops [] → steps_of (drop next steps) ≡ behind (steps_of (drop at steps)) → GivesStep s (steps_of (drop at steps)) c (steps_of (drop next steps))
+while_other_at s p before test y steps at next second c e lt is k l o =
+    let b = steps_of (drop at steps) in let b2 = steps_of (drop next steps) in
+    joins_at s (step.While p before test y) b c b2 e (while_other_joins p before test y b second (steps_of (drop (at + 1) steps)) c b2 (steps_at steps at second lt is) k l o)
 
 -- ---- loops
 

@@ -1,5 +1,5 @@
 -- Which kind a step is of.
-use Rattle.std.proofs.Common.{◌≡◌, Bool, true, false, List, sym, ap, ◌∙◌}
+use Rattle.std.proofs.Common.{◌≡◌, List, sym, ap, ◌∙◌}
 use Rattle.jz_change.specs.declared.change.Numbers.{Numbers}
 use Rattle.jz_change.specs.declared.change.Change.{Change}
 use Rattle.jz_change.specs.declared.change.Step.{Step}

@@ -1,12 +1,12 @@
 -- What loops over steps keep.
-use Rattle.std.specs.Prelude.{ℕ, ◌≡◌, Bool, true, false, List, [], ◌∷◌, ◌++◌, map, drop}
+use Rattle.std.specs.Prelude.{ℕ, ◌≡◌, Bool, true, false, List, ◌++◌, map, drop}
 use Rattle.jz_leak.specs.declared.transformer.Tr.{Tr}
 use Rattle.jz_leak.specs.declared.transformer.Case.{Case}
 use Rattle.jz_change.specs.declared.change.Change.{Change as CodeChange}
 use Rattle.jz_change.specs.declared.change.Step.{Step}
 use Rattle.jz_change.specs.declared.change.Step.TheOpen.{Step-F}
 use Rattle.jz_change.specs.declared.change.Step.TheViews.{out-Step}
-use Rattle.jz_change.specs.Changes.{Change, Changes}
+use Rattle.jz_change.specs.Changes.{Change}
 use Rattle.jz_change.specs.Composing.{JoinedChange, JoinedRounds, add_step, join}
 use Rattle.jz_change.specs.Flattening.{FlatCases, FlatRounds, add_case, flat}
 use Rattle.jz_change.specs.Views.{chain, changes_before, then_step, change_of, steps_of}

@@ -11,7 +11,7 @@ use crate::numbers::{numbers_by, push_all};
 use jz_data::Seq;
 use std::alloc::{AllocError, Global};
 
-// Adds what the step at a place makes of an operation with these numbers.
+/// Adds what the step at a place makes of an operation with these numbers.
 fn push_head(
     alloc: Global,
     out: &mut Vec<Numbers>,
@@ -31,15 +31,15 @@ fn push_head(
     }
 }
 
-// The place behind a step, where there is one.
+/// The place behind a step, where there is one.
 fn next(steps: &[Step], at: usize) -> usize
     ensures { steps_of (drop result steps.now) ≡ behind (steps_of (drop at steps.now)) }
 {
     if at < steps.len() { at + 1 } else { at }
 }
 
-// Adds what the steps from a place on make of so many operations, and says where the steps behind
-// them begin.
+/// Adds what the steps from a place on make of so many operations, and says where the steps behind
+/// them begin.
 fn take(
     alloc: Global,
     out: &mut Vec<Numbers>,
@@ -60,21 +60,21 @@ fn take(
     Ok(to)
 }
 
-// Steps, and the place behind those that they were made of.
+/// Steps, and the place behind those that they were made of.
 #[derive(Drop)]
 struct Part {
     steps: Seq<Step>,
     at: usize,
 }
 
-// The same of one step.
+/// The same of one step.
 #[derive(Drop)]
 struct One {
     step: Step,
     at: usize,
 }
 
-// Where the steps are of another kind.
+/// Where the steps are of another kind.
 fn nothing(alloc: Global, at: usize) -> One
     ensures step { result.step ≡ Step.Ops [] }
     ensures at { result.at ≡ at }
@@ -85,7 +85,7 @@ fn nothing(alloc: Global, at: usize) -> One
     }
 }
 
-// The steps of a change, one after another.
+/// The steps of a change, one after another.
 #[cycle(compose)]
 fn compose_steps(alloc: Global, a: &Change, steps: &[Step], at: usize) -> Result<Part, AllocError>
     ensures { IfOk result (λ p. join (change_of a.now) (steps_of (drop at steps.now))
@@ -104,16 +104,17 @@ fn compose_steps(alloc: Global, a: &Change, steps: &[Step], at: usize) -> Result
     })
 }
 
-// A change and the steps of another one.
+/// A change and the steps of another one.
 #[cycle(compose)]
 fn compose_change(alloc: Global, a: &Change, steps: &[Step]) -> Result<Change, AllocError>
-    ensures { IfOk result (λ c. change_of c ≡ (join (change_of a.now) (steps_of steps.now)).change) }
+    ensures { IfOk result (λ c. change_of c
+        ≡ (join (change_of a.now) (steps_of steps.now)).change) }
 {
     let part = compose_steps(alloc, a, steps, 0)?;
     Ok(Change { steps: part.steps })
 }
 
-// One step.
+/// One step.
 #[cycle(compose)]
 fn compose_step(alloc: Global, step: &Step, steps: &[Step], at: usize) -> Result<One, AllocError>
     ensures { IfOk result (λ o. GivesStepAt step.now steps.now at o.step o.at) }
@@ -138,7 +139,7 @@ fn compose_step(alloc: Global, step: &Step, steps: &[Step], at: usize) -> Result
     }
 }
 
-// An operation that becomes so many.
+/// An operation that becomes so many.
 fn compose_ops(
     alloc: Global,
     items: &Seq<Numbers>,
@@ -155,7 +156,7 @@ fn compose_ops(
     })
 }
 
-// An `if` that stays: the other change keeps it or leaves one of its arms.
+/// An `if` that stays: the other change keeps it or leaves one of its arms.
 #[cycle(compose)]
 fn compose_if(alloc: Global, step: &Step, steps: &[Step], at: usize) -> Result<One, AllocError>
     ensures { IfOk result (λ o. KeepsIf step.now → GivesStepAt step.now steps.now at o.step o.at) }
@@ -214,7 +215,7 @@ fn compose_if(alloc: Global, step: &Step, steps: &[Step], at: usize) -> Result<O
     }
 }
 
-// The arm of an answer.
+/// The arm of an answer.
 fn arm_of(answer: bool, before: Vec<Numbers>, part: Change, at: usize) -> One
     ensures step { result.step ≡ Step.Arm answer before.items part }
     ensures at { result.at ≡ at }
@@ -229,7 +230,7 @@ fn arm_of(answer: bool, before: Vec<Numbers>, part: Change, at: usize) -> One
     }
 }
 
-// An `if` of which an arm is left.
+/// An `if` of which an arm is left.
 #[cycle(compose)]
 fn compose_arm(
     alloc: Global,
@@ -255,7 +256,7 @@ fn compose_arm(
     })
 }
 
-// A `while` that stays: the other change keeps it or leaves its prologue.
+/// A `while` that stays: the other change keeps it or leaves its prologue.
 #[cycle(compose)]
 fn compose_while(alloc: Global, step: &Step, steps: &[Step], at: usize) -> Result<One, AllocError>
     ensures { IfOk result (λ o. KeepsWhile step.now
@@ -327,7 +328,7 @@ fn compose_while(alloc: Global, step: &Step, steps: &[Step], at: usize) -> Resul
     }
 }
 
-// What stands behind a prologue: operations of the first change, then those of the other one.
+/// What stands behind a prologue: operations of the first change, then those of the other one.
 fn behind_prologue(
     alloc: Global,
     before: &Seq<Numbers>,
@@ -345,7 +346,7 @@ fn behind_prologue(
     Ok(Seq::from_vec(out))
 }
 
-// A `while` of which the prologue is left.
+/// A `while` of which the prologue is left.
 #[cycle(compose)]
 fn compose_once(
     alloc: Global,
@@ -369,7 +370,7 @@ fn compose_once(
     })
 }
 
-// A `for` that stays: the other change keeps it or sets its rounds one after another.
+/// A `for` that stays: the other change keeps it or sets its rounds one after another.
 #[cycle(compose)]
 fn compose_for(alloc: Global, body: &Change, steps: &[Step], at: usize) -> Result<One, AllocError>
     ensures { IfOk result (λ o. GivesStepAt (Step.For body.now) steps.now at o.step o.at) }
@@ -397,7 +398,7 @@ fn compose_for(alloc: Global, body: &Change, steps: &[Step], at: usize) -> Resul
     }
 }
 
-// One change for all rounds, and then one for each of them.
+/// One change for all rounds, and then one for each of them.
 #[cycle(compose)]
 fn compose_every(alloc: Global, body: &Change, parts: &[Change]) -> Result<Seq<Change>, AllocError>
     ensures { IfOk result (λ all. changes_of all
@@ -411,7 +412,7 @@ fn compose_every(alloc: Global, body: &Change, parts: &[Change]) -> Result<Seq<C
     Ok(all)
 }
 
-// The rounds of a `for`, one after another.
+/// The rounds of a `for`, one after another.
 #[cycle(compose)]
 fn compose_unrolled(
     alloc: Global,
@@ -434,7 +435,7 @@ fn compose_unrolled(
     })
 }
 
-// A call.
+/// A call.
 #[cycle(compose)]
 fn compose_opened(
     alloc: Global,

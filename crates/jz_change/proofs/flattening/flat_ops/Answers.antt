@@ -1,6 +1,7 @@
 use Rattle.std.proofs.Common.{drop, ◌∙◌}
 use Rattle.jz_change.specs.Flattening.{first_outs}
-use Rattle.jz_change.proofs.StepCases.{begun, ops_gives}
+use Rattle.jz_change.proofs.StepCases.{ops_gives}
+use Rattle.jz_change.proofs.StepViews.{begun}
 use Rattle.jz_change.proofs.flattening.flat_ops.Goals as goal
 
 pub returns : goal.returns
