@@ -8,7 +8,7 @@ ghost use Rattle.jz_change.specs.Views.{change_of};
 ghost use Rattle.jz_pass.specs.Laws.{Carries};
 ghost use Rattle.jz_pass.specs.Unrolling.{IsKnown};
 ghost use Rattle.jz_pass.specs.Cases.{HasItems, IsBetween, cases_of};
-ghost use Rattle.jz_pass.specs.Rewriting.{Rewriting, knowing_of, by_rule, Shape, other, all_before, HasTree, IsAbove, first_part, second_part, RewritesTo, RefusesOne};
+ghost use Rattle.jz_pass.specs.Rewriting.{Rewriting, knowing_of, by_rule, Shape, other, all_before, HasTree, IsAbove, first_part, second_part, Rewrites, RewritesTo, RefusesOne};
 ghost use Rattle.jz_pass.specs.InnerForms.{HasForm, OperationMade, QuietMade, ChoiceMade};
 ghost use Rattle.jz_pass.specs.declared.form.Form.TheVariants as form;
 
@@ -162,6 +162,9 @@ impl<L: Local> Rewrite<L> {
         alloc: Global,
         ss: &Seq<L::From>,
     ) -> Result<Passed<Seq<L::To>>, Failure<L::Cause>>
+        ensures made { IfOk result (λ r. Rewrites (L.rewriting self.now.local)
+            (all_before L.before ss.now done) done (all_before L.new_before r.program done)
+            (change_of r.change)) }
         ensures law { IfOk result (λ r. Carries (by_rule (L.known self.now.local))
             (λ s n. Goes L.parts (all_before L.before ss.now done) n s)
             (λ t n. Goes L.new_parts (all_before L.new_before r.program done) n t)

@@ -4,11 +4,12 @@ ghost use Rattle.std.specs.Prelude.{◌≡◌, ℕ, ◌-◌, ◌/◌, [], ◌∷
 ghost use Rattle.jz_change.specs.declared.change.Number.TheVariants.{Fixed};
 ghost use Rattle.jz_change.specs.declared.change.Numbers.TheVariants.{These};
 ghost use Rattle.jz_data.specs.Failures.{IfRefused};
+ghost use Rattle.jz_runs.specs.Trees.{done};
 ghost use Rattle.jz_pass.specs.InnerForms.{ChoiceMade};
-ghost use Rattle.jz_pass.specs.Rewriting.{by_rule, RefusesOne};
+ghost use Rattle.jz_pass.specs.Rewriting.{by_rule, Rewrites, RefusesOne};
 ghost use Rattle.jz_pass_tests.specs.declared.small.Unknown.{Unknown};
 ghost use Rattle.jz_pass_tests.specs.declared.small.Small.TheVariants.{Add};
-ghost use Rattle.jz_pass_tests.specs.Meaning.{small, then_small, shape_of, weight, has_tree, is_above};
+ghost use Rattle.jz_pass_tests.specs.Meaning.{small, then_small, tree_of, shape_of, weight, has_tree, is_above};
 ghost use Rattle.jz_pass_tests.specs.Rules.{halving};
 ghost use Rattle.jz_pass_tests.specs.Known.{halving_known, halving_items};
 
@@ -113,6 +114,8 @@ impl Pass for Halves {
     type Cause = Unknown;
 
     ghost relates = { λ it. by_rule halving_known };
+
+    ghost makes = { λ it p q k. Rewrites halving (tree_of p) done (tree_of q) k };
 
     ghost refuses = { λ it p cause. RefusesOne shape_of (λ s e. ⊥) p cause };
 

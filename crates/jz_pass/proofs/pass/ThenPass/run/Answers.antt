@@ -9,3 +9,6 @@ returns-clause-law g c = carries_both _ _ _ _ _ c.in_ok-change.ensures.law _ _ _
 
 pub returns-clause-cases : goal.returns-clause-cases
 returns-clause-cases g c = subst (IsBetween _ _) (sym c.in_ok-change.ensures.is) (between_both c.in_ok-middle.ensures.cases c.in_ok-program.ensures.cases)
+
+pub returns-clause-made : goal.returns-clause-made
+returns-clause-made g c = (_, _, _, c.in_ok-middle.ensures.made, c.in_ok-program.ensures.made, c.in_ok-change.ensures.is)

@@ -19,3 +19,8 @@ returns-clause-cases g c =
     let L = g.L.Local in let local = c.args.self.now.local in let ss = c.args.ss.now in let m = c.in_ok-statements.field-0.statements in let steps = c.in_ok-statements.field-0.steps in
     unrolled_cases (knowing_of (L.rewriting local)) (L.items local) no_case
     (whole_rewrites (L.rewriting local) L.before L.new_before ss m steps (subst (λ xs. RewritesTo (L.rewriting local) L.before L.new_before xs m steps) c.as_slice.ensures c.in_ok-statements.ensures.made))
+
+pub returns-clause-made : goal.returns-clause-made
+returns-clause-made g c =
+    let L = g.L.Local in let local = c.args.self.now.local in let ss = c.args.ss.now in let m = c.in_ok-statements.field-0.statements in let steps = c.in_ok-statements.field-0.steps in
+    whole_rewrites (L.rewriting local) L.before L.new_before ss m steps (subst (λ xs. RewritesTo (L.rewriting local) L.before L.new_before xs m steps) c.as_slice.ensures c.in_ok-statements.ensures.made)
