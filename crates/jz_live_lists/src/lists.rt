@@ -54,11 +54,7 @@ fn joined(alloc: Global, one: &Seq<u32>, other: &Seq<u32>) -> Result<Seq<u32>, A
 }
 
 /// Adds those of another list.
-pub(crate) fn add_all(
-    alloc: Global,
-    live: &mut Seq<u32>,
-    more: &Seq<u32>,
-) -> Result<(), AllocError>
+pub(crate) fn add_all(alloc: Global, live: &mut Seq<u32>, more: &Seq<u32>) -> Result<(), AllocError>
     ensures { OnOk result ((variable : ℕ)
         → among live.new variable ≡ (among live.old variable || among more.now variable)) }
 {

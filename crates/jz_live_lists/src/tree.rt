@@ -14,11 +14,7 @@ use std::alloc::{AllocError, Global};
 
 /// What is live before a block.
 #[cycle(before)]
-fn before_block(
-    alloc: Global,
-    nodes: &Seq<Node>,
-    behind: Seq<u32>,
-) -> Result<Seq<u32>, AllocError>
+fn before_block(alloc: Global, nodes: &Seq<Node>, behind: Seq<u32>) -> Result<Seq<u32>, AllocError>
     ensures { IfOk result (λ live. (variable : ℕ) → among live variable
         ≡ live_before variable (tree_of nodes.now) (among behind variable)) }
 {

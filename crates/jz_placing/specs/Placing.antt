@@ -142,7 +142,7 @@ module _ (places : ℕ → Place) where
   AreMet (loop q p c b r) rest behind =
       let B : ℕ → Bool = λ v. live_before v (flow seen_of test_of r rest) (behind v) in
       let H : ℕ → Bool = λ v. live_before v (flow seen_of test_of p ir.done)
-          (test_before v (test_of c) (live_before v (flow seen_of test_of b ir.done) false) (B v)) in
+      (test_before v (test_of c) (live_before v (flow seen_of test_of b ir.done) false) (B v)) in
       AreMet p ir.done
       (λ v. test_before v (test_of c) (live_before v (flow seen_of test_of b ir.done) (H v)) (B v))
       × IsMetTest c (λ v. live_before v (flow seen_of test_of b ir.done) (H v)) B
