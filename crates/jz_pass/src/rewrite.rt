@@ -44,17 +44,27 @@ pub trait Local {
     type Cause;
 
     ghost Operation: { Type 0 };
+
     ghost Test: { Type 0 };
+
     ghost Counter: { Type 0 };
+
     ghost Call: { Type 0 };
+
     ghost State: { Type 0 };
+
     ghost Reason: { Type 0 };
 
     ghost NewOperation: { Type 0 };
+
     ghost NewTest: { Type 0 };
+
     ghost NewCounter: { Type 0 };
+
     ghost NewCall: { Type 0 };
+
     ghost NewState: { Type 0 };
+
     ghost NewReason: { Type 0 };
 
     ghost parts: { Parts Self.Operation Self.Test Self.Counter Self.Call Self.State Self.Reason };
@@ -110,11 +120,7 @@ pub trait Local {
         ensures refused { IfErr result (λ e. IfRefused e (refuses self.now s.now)) };
 
     /// What an operation without a leak becomes.
-    fn quiet(
-        &self,
-        alloc: Global,
-        s: &Self::From,
-    ) -> Result<Seq<Self::To>, Failure<Self::Cause>>
+    fn quiet(&self, alloc: Global, s: &Self::From) -> Result<Seq<Self::To>, Failure<Self::Cause>>
         ensures made { IfOk result (λ r. QuietMade (rewriting self.now) new_before
             (shape s.now) r) }
         ensures refused { IfErr result (λ e. IfRefused e (refuses self.now s.now)) };

@@ -41,7 +41,7 @@ pub halves_made : (s : Small) (k : ℕ) (made : List Small) (items : List Number
 halves_made s k made items e m i =
     subst (λ x. OperationMade halving then_small x made items) (sym (shape_add s k e))
     (subst (λ x. OpBecomes halving then_small k x items) (sym m) (subst (λ x. OpBecomes halving then_small k (code.Add (k / 2) ∷ code.Add (k - k / 2) ∷ []) x) (sym i)
-        (record { operations = (k / 2) ∷ (k - k / 2) ∷ []; rule = in_halves; trees = λ rest. tree_add (k / 2) (then_small (code.Add (k - k / 2)) rest) ∙ ap (op (k / 2)) (tree_add (k - k / 2) rest) })))
+    (record { operations = (k / 2) ∷ (k - k / 2) ∷ []; rule = in_halves; trees = λ rest. tree_add (k / 2) (then_small (code.Add (k - k / 2)) rest) ∙ ap (op (k / 2)) (tree_add (k - k / 2) rest) })))
 
 pub nothing_made : (s : Small) (k : ℕ) (made : List Small) (items : List Numbers) → s ≡ code.Add k → k ≡ 0 → made ≡ [] → items ≡ [] → OperationMade dropping then_small (shape_of s) made items
 nothing_made s k made items e z m i =

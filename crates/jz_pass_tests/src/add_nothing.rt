@@ -15,9 +15,7 @@ ghost use Rattle.jz_pass_tests.specs.Known.{dropping_known, dropping_items};
 use crate::small::{
     Small, SmallLanguage, Unknown, first_of, form_of, no_operation, same_choice, second_of,
 };
-use jz_pass::{
-    Choice, Failure, Form, Local, Numbers, Operations, Pass, Passed, Rewrite, Seq,
-};
+use jz_pass::{Choice, Failure, Form, Local, Numbers, Operations, Pass, Passed, Rewrite, Seq};
 use std::alloc::{AllocError, Global};
 
 /// Where nothing is added no statement is left.
@@ -26,32 +24,53 @@ pub struct AddNothing;
 
 impl Local for AddNothing {
     type From = Small;
+
     type To = Small;
+
     type Cause = Unknown;
 
     ghost Operation = { ℕ };
+
     ghost Test = { ℕ };
+
     ghost Counter = { ⊥ };
+
     ghost Call = { ⊥ };
+
     ghost State = { ℕ };
+
     ghost Reason = { Unknown };
 
     ghost NewOperation = { ℕ };
+
     ghost NewTest = { ℕ };
+
     ghost NewCounter = { ⊥ };
+
     ghost NewCall = { ⊥ };
+
     ghost NewState = { ℕ };
+
     ghost NewReason = { Unknown };
 
     ghost parts = { small };
+
     ghost new_parts = { small };
+
     ghost before = { then_small };
+
     ghost new_before = { then_small };
+
     ghost shape = { shape_of };
+
     ghost size = { weight };
+
     ghost rewriting = { λ it. dropping };
+
     ghost known = { λ it. dropping_known };
+
     ghost items = { λ it. dropping_items };
+
     ghost refuses = { λ it s cause. ⊥ };
 
     fn form(&self, s: &Small) -> Form {
@@ -67,11 +86,7 @@ impl Local for AddNothing {
     }
 
     #[tactic(auto, using(crate::proofs::Choices::nothing_made, crate::proofs::Choices::something_made))]
-    fn operation(
-        &self,
-        alloc: Global,
-        s: &Small,
-    ) -> Result<Operations<Small>, Failure<Unknown>> {
+    fn operation(&self, alloc: Global, s: &Small) -> Result<Operations<Small>, Failure<Unknown>> {
         match s {
             Small::Add(k) => {
                 if *k == 0 {
@@ -113,7 +128,9 @@ impl Local for AddNothing {
 
 impl Pass for AddNothing {
     type Src = SmallLanguage;
+
     type Dst = SmallLanguage;
+
     type Cause = Unknown;
 
     ghost relates = { λ it. by_rule dropping_known };
@@ -122,11 +139,7 @@ impl Pass for AddNothing {
 
     ghost refuses = { λ it p cause. RefusesOne shape_of (λ s e. ⊥) p cause };
 
-    fn run(
-        &self,
-        alloc: Global,
-        p: &Seq<Small>,
-    ) -> Result<Passed<Seq<Small>>, Failure<Unknown>> {
+    fn run(&self, alloc: Global, p: &Seq<Small>) -> Result<Passed<Seq<Small>>, Failure<Unknown>> {
         let rule = Rewrite::new(AddNothing);
         rule.run(alloc, p)
     }

@@ -17,9 +17,7 @@ use crate::small::{
     Small, SmallLanguage, Unknown, first_of, form_of, no_operation, same_choice, second_of,
 };
 use jz_change::Number;
-use jz_pass::{
-    Choice, Failure, Form, Local, Numbers, Operations, Pass, Passed, Rewrite, Seq,
-};
+use jz_pass::{Choice, Failure, Form, Local, Numbers, Operations, Pass, Passed, Rewrite, Seq};
 use std::alloc::{AllocError, Global};
 
 /// What is added is added by halves.
@@ -28,32 +26,53 @@ pub struct Halves;
 
 impl Local for Halves {
     type From = Small;
+
     type To = Small;
+
     type Cause = Unknown;
 
     ghost Operation = { ℕ };
+
     ghost Test = { ℕ };
+
     ghost Counter = { ⊥ };
+
     ghost Call = { ⊥ };
+
     ghost State = { ℕ };
+
     ghost Reason = { Unknown };
 
     ghost NewOperation = { ℕ };
+
     ghost NewTest = { ℕ };
+
     ghost NewCounter = { ⊥ };
+
     ghost NewCall = { ⊥ };
+
     ghost NewState = { ℕ };
+
     ghost NewReason = { Unknown };
 
     ghost parts = { small };
+
     ghost new_parts = { small };
+
     ghost before = { then_small };
+
     ghost new_before = { then_small };
+
     ghost shape = { shape_of };
+
     ghost size = { weight };
+
     ghost rewriting = { λ it. halving };
+
     ghost known = { λ it. halving_known };
+
     ghost items = { λ it. halving_items };
+
     ghost refuses = { λ it s cause. ⊥ };
 
     fn form(&self, s: &Small) -> Form {
@@ -69,11 +88,7 @@ impl Local for Halves {
     }
 
     #[tactic(auto, using(crate::proofs::Choices::halves_made))]
-    fn operation(
-        &self,
-        alloc: Global,
-        s: &Small,
-    ) -> Result<Operations<Small>, Failure<Unknown>> {
+    fn operation(&self, alloc: Global, s: &Small) -> Result<Operations<Small>, Failure<Unknown>> {
         match s {
             Small::Add(k) => Ok(halved(alloc, *k)?),
             Small::If(_, _, _) => Ok(no_operation(alloc)),
@@ -110,7 +125,9 @@ impl Local for Halves {
 
 impl Pass for Halves {
     type Src = SmallLanguage;
+
     type Dst = SmallLanguage;
+
     type Cause = Unknown;
 
     ghost relates = { λ it. by_rule halving_known };
@@ -119,11 +136,7 @@ impl Pass for Halves {
 
     ghost refuses = { λ it p cause. RefusesOne shape_of (λ s e. ⊥) p cause };
 
-    fn run(
-        &self,
-        alloc: Global,
-        p: &Seq<Small>,
-    ) -> Result<Passed<Seq<Small>>, Failure<Unknown>> {
+    fn run(&self, alloc: Global, p: &Seq<Small>) -> Result<Passed<Seq<Small>>, Failure<Unknown>> {
         let rule = Rewrite::new(Halves);
         rule.run(alloc, p)
     }

@@ -93,12 +93,20 @@ fn statement_text(alloc: Global, s: &Small) -> Result<String, AllocError> {
         Small::If(bound, then_arm, else_arm) => {
             let then_text = statements_text(alloc, then_arm)?;
             let else_text = statements_text(alloc, else_arm)?;
-            format!(in alloc; "if {bound} {{{}}} {{{}}} ", then_text.as_str(), else_text.as_str())
+            format!(in alloc;
+                "if {bound} {{{}}} {{{}}} ",
+                then_text.as_str(),
+                else_text.as_str()
+            )
         }
         Small::While(prologue, bound, body) => {
             let prologue_text = statements_text(alloc, prologue)?;
             let body_text = statements_text(alloc, body)?;
-            format!(in alloc; "while {{{}}} {bound} {{{}}} ", prologue_text.as_str(), body_text.as_str())
+            format!(in alloc;
+                "while {{{}}} {bound} {{{}}} ",
+                prologue_text.as_str(),
+                body_text.as_str()
+            )
         }
     }
 }

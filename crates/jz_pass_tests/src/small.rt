@@ -33,8 +33,11 @@ pub struct Unknown;
 
 impl Lang for SmallLanguage {
     type Program = Seq<Small>;
+
     type Input = u64;
+
     type Given = u64;
+
     type Reason = Unknown;
 
     ghost valid = { λ p. Unit {0} };

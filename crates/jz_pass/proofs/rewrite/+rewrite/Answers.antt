@@ -25,7 +25,7 @@ rewrite_all-loop-s-preserved g t c =
     let L = g.L.Local in let R = L.rewriting c.args.local.now in let ss = c.args.ss.now in let i = c.loop-s.s-index in let s = c.s-item.result in let made = c.in_ok-made.made in
     subst (λ m. RewritesTo R L.before L.new_before (take (i + 1) ss) m c.append-in-loop-s.new.self) (sym c.in_ok-append.ensures.ok)
     (subst (λ steps. RewritesTo R L.before L.new_before (take (i + 1) ss) (c.loop-s.statements ++ made.statements) steps) (sym c.in_ok-append-2.ensures.ok)
-        (one_more R L.before L.new_before ss i s s c.loop-s.statements made.statements c.loop-s.steps made.steps (search rules) (search rules) c.loop-s.invariant c.in_ok-made.ensures.made))
+    (one_more R L.before L.new_before ss i s s c.loop-s.statements made.statements c.loop-s.steps made.steps (search rules) (search rules) c.loop-s.invariant c.in_ok-made.ensures.made))
 
 pub rewrite_if-returns-in_err-then_arm-clause-refused : goal.rewrite_if-returns-in_err-then_arm-clause-refused
 rewrite_if-returns-in_err-then_arm-clause-refused g t c =
@@ -51,8 +51,8 @@ rewrite_if-returns-clause-made g t c =
     let x = c.in_ok-then_arm.then_arm in let y = c.in_ok-else_arm.else_arm in
     subst (λ steps. RewritesTo R L.before L.new_before (s ∷ []) made.statements steps) (sym c.in_ok-steps.ensures)
     (if_rewrites R L.before L.new_before s (L.shape s) x.statements y.statements made.statements made.items made.numbers x.steps y.steps c.requires (g.met.L.Local.has_tree s)
-        (subst (λ ss. RewritesTo R L.before L.new_before ss x.statements x.steps) c.first.ensures c.in_ok-then_arm.ensures.made)
-        (subst (λ ss. RewritesTo R L.before L.new_before ss y.statements y.steps) c.second.ensures c.in_ok-else_arm.ensures.made) c.in_ok-made.ensures.made)
+    (subst (λ ss. RewritesTo R L.before L.new_before ss x.statements x.steps) c.first.ensures c.in_ok-then_arm.ensures.made)
+    (subst (λ ss. RewritesTo R L.before L.new_before ss y.statements y.steps) c.second.ensures c.in_ok-else_arm.ensures.made) c.in_ok-made.ensures.made)
 
 pub rewrite_one-returns-in-Operation-clause-refused : goal.rewrite_one-returns-in-Operation-clause-refused
 rewrite_one-returns-in-Operation-clause-refused g t c =
@@ -91,5 +91,5 @@ rewrite_while-returns-clause-made g t c =
     let x = c.in_ok-prologue.prologue in let y = c.in_ok-body.body in
     subst (λ steps. RewritesTo R L.before L.new_before (s ∷ []) made.statements steps) (sym c.in_ok-steps.ensures)
     (while_rewrites R L.before L.new_before s (L.shape s) x.statements y.statements made.statements made.items made.numbers x.steps y.steps c.requires (g.met.L.Local.has_tree s)
-        (subst (λ ss. RewritesTo R L.before L.new_before ss x.statements x.steps) c.first.ensures c.in_ok-prologue.ensures.made)
-        (subst (λ ss. RewritesTo R L.before L.new_before ss y.statements y.steps) c.second.ensures c.in_ok-body.ensures.made) c.in_ok-made.ensures.made)
+    (subst (λ ss. RewritesTo R L.before L.new_before ss x.statements x.steps) c.first.ensures c.in_ok-prologue.ensures.made)
+    (subst (λ ss. RewritesTo R L.before L.new_before ss y.statements y.steps) c.second.ensures c.in_ok-body.ensures.made) c.in_ok-made.ensures.made)
