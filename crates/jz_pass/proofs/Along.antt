@@ -1,8 +1,8 @@
 -- A copy depends on its naming alone, whatever else is known beside it.
-use Rattle.std.proofs.Common.{◌≡◌, ℕ, suc, ◌+◌, List, [], ◌∷◌, refl, sym, ap, ◌∙◌}
+use Rattle.std.proofs.Common.{◌≡◌, ℕ, suc, ◌+◌, [], ◌∷◌, refl, ap, ◌∙◌}
 use Rattle.jz_runs.specs.Trees.{Tree, done, op, quiet, choose, loop, each, call}
 use Rattle.jz_change.specs.declared.change.Numbers.TheVariants.{Same}
-use Rattle.jz_change.specs.Changes.{ends, ops, stays_if, stays_while, stays_for, opened}
+use Rattle.jz_change.specs.Changes.{ops, opened}
 use Rattle.jz_pass.specs.Operations.{in_turn}
 use Rattle.jz_pass.specs.Copying.{Copying, copies, inlined, inlining, along}
 

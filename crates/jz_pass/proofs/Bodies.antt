@@ -1,9 +1,9 @@
 -- Whole bodies: what inlining and unrolling keep, as the law of a pass.
-use Rattle.std.proofs.Common.{◌≡◌, ℕ, ◌⊎◌, inl, inr, refl, subst}
-use Rattle.jz_leak.specs.RunLeaks.{Leak, over}
+use Rattle.std.proofs.Common.{ℕ, inl, refl}
+use Rattle.jz_leak.specs.RunLeaks.{Leak}
 use Rattle.jz_runs.specs.Trees.{Tree, done}
-use Rattle.jz_runs.specs.Rules.{Parts, Outcome, End, Cut, Stuck, Goes, finished}
-use Rattle.jz_change.specs.Changes.{Change, map_before}
+use Rattle.jz_runs.specs.Rules.{Parts, Outcome, Goes, finished}
+use Rattle.jz_change.specs.Changes.{Change}
 use Rattle.jz_pass.specs.Laws.{Relating, between_trees, Follows, has_ended, was_cut, was_stuck, Carries}
 use Rattle.jz_pass.specs.Copying.{Copying, inlined, inlining}
 use Rattle.jz_pass.specs.Keeping.{IsOf, Keeps}

@@ -1,13 +1,12 @@
 -- What unrolling and inlining give has the cases of what they make.
-use Rattle.std.proofs.Common.{◌≡◌, ℕ, suc, ◌+◌, Bool, true, false, List, [], ◌∷◌, ℤ, refl, sym, subst, if◌then◌else◌}
+use Rattle.std.proofs.Common.{ℕ, suc, ◌+◌, Bool, true, false, List, ℤ, if◌then◌else◌}
 use Rattle.jz_runs.specs.Trees.{Tree, done, op, quiet, choose, loop, each, call}
 use Rattle.jz_change.specs.declared.change.Numbers.{Numbers}
-use Rattle.jz_change.specs.declared.change.Numbers.TheVariants.{Same}
 use Rattle.jz_change.specs.Changes.{Change, Changes}
 use Rattle.jz_pass.specs.Operations.{in_turn}
 use Rattle.jz_pass.specs.Copying.{Copying, copies, inlined, inlining}
 use Rattle.jz_pass.specs.Unrolling.{Knowing, Unrolls, u_done, u_op, u_quiet, u_if, u_arm, u_while, u_once, u_for, UnrollsEach, u_none, u_more}
-use Rattle.jz_pass.specs.Cases.{Cases, no_case, op_case, if_case, while_case, for_case, call_case, cases_before, cases_of, AreFirst, no_items, one_item, Gives, gives_none, gives_ops, gives_if, gives_arm, gives_while, gives_once, gives_for, gives_unrolled, gives_opened, GiveEach, give_none, give_more, AsMany, none_each, one_each, HasItems, CallsHaveItems}
+use Rattle.jz_pass.specs.Cases.{Cases, no_case, cases_before, cases_of, AreFirst, no_items, one_item, Gives, gives_none, gives_ops, gives_if, gives_arm, gives_while, gives_once, gives_for, gives_unrolled, gives_opened, GiveEach, give_none, give_more, AsMany, none_each, one_each, HasItems, CallsHaveItems}
 
 -- operations are their own first cases
 ops_first : {O T F C : Type 0} {os : List O} {is : List Numbers} (u : Tree O T F C) (Y : Cases) → AsMany os is → AreFirst is (cases_before (in_turn os u) Y) (cases_before u Y)

@@ -1,17 +1,15 @@
 -- Inlining keeps the runs.
-use Rattle.std.proofs.Common.{◌≡◌, ℕ, zero, suc, ◌+◌, ◌≤◌, Bool, true, false, List, [], ◌∷◌, ℤ, refl, sym, ap, ◌∙◌, subst, arith, if◌then◌else◌}
-use Rattle.jz_leak.specs.RunLeaks.{Leak, over, ran, chose, chose_cut, looped, looped_cut, each as each_leak, each_cut, called, called_cut, Turns, left, turn, prologue_cut, wanted, body_cut, Rounds, no_round, round, round_cut}
-use Rattle.jz_leak.specs.Applying.{is_cut, is_cut_in_turns, is_cut_in_rounds}
-use Rattle.jz_runs.specs.Trees.{Tree, done, op, quiet, choose, loop, each, call}
+use Rattle.std.proofs.Common.{◌≡◌, ℕ, suc, ◌+◌, ◌≤◌, Bool, true, false, List, [], ℤ, refl, sym, ◌∙◌, subst, arith}
+use Rattle.jz_leak.specs.RunLeaks.{Leak, over, ran, chose, looped, looped_cut, each as each_leak, each_cut, called, Turns, Rounds}
+use Rattle.jz_runs.specs.Trees.{Tree, done, op, quiet, choose, loop, each}
 use Rattle.jz_runs.specs.Rules.{Parts, Attempt, stuck, went, Outcome, End, Cut, Stuck, after, Goes, finished, did, did_not, quieted, chosen, chosen_cut, chosen_stuck, chose_not, loop_left, loop_cut, loop_stuck, counted, counted_cut, counted_stuck, counted_not, call_ended, call_cut, call_stuck, entered_not, left_not, Loops, in_prologue, prologue_stuck, tested_not, leaves_loop, no_turn, in_body, body_stuck, more_turns, Counts, no_count, more_counts, count_cut, count_stuck}
-use Rattle.jz_change.specs.declared.change.Numbers.{Numbers}
 use Rattle.jz_change.specs.declared.change.Numbers.TheVariants.{Same}
-use Rattle.jz_change.specs.Changes.{Change, ends, ops, stays_if, stays_while, stays_for, opened, operations, map_before, map_turns, map_each}
-use Rattle.jz_change.specs.Fitting.{LeakFits, fits_over, fits_ran, fits_if, fits_if_cut, fits_while, fits_while_cut, fits_for, fits_for_cut, fits_opened, fits_opened_cut, turns_left, turns_prologue_cut, turns_wanted, turns_body_cut, same_none, same_cut}
-use Rattle.jz_pass.specs.Operations.{in_turn, DoAll, OneFails}
+use Rattle.jz_change.specs.Changes.{Change, stays_while, stays_for, operations, map_before, map_turns, map_each}
+use Rattle.jz_change.specs.Fitting.{fits_over, fits_ran, fits_if, fits_if_cut, fits_while, fits_while_cut, fits_for, fits_for_cut, fits_opened, fits_opened_cut, turns_left, turns_prologue_cut, turns_wanted, turns_body_cut, same_none, same_cut}
+use Rattle.jz_pass.specs.Operations.{in_turn}
 use Rattle.jz_pass.specs.Copying.{Copying, copies, inlined, inlining}
 use Rattle.jz_pass.specs.Keeping.{Alike, both_stuck, both_went, IsOf, Keeps}
-use Rattle.jz_pass.proofs.Stretches.{after_none, none_there, same_there, Leads, Stops, leads_on, alone, all_there, ops_lead, ops_stop, quiet_leads, Matches, m_end, m_cut, m_stuck, Ended, ended, cut_so, stuck_so, weaken, goes_through, LoopMatches, l_end, l_cut, l_stuck, one_turn, EachMatches, c_end, c_cut, c_stuck, one_round}
+use Rattle.jz_pass.proofs.Stretches.{after_none, none_there, same_there, leads_on, alone, all_there, ops_lead, ops_stop, quiet_leads, Matches, m_end, m_cut, m_stuck, ended, cut_so, stuck_so, weaken, goes_through, LoopMatches, l_end, l_cut, l_stuck, one_turn, EachMatches, c_end, c_cut, c_stuck, one_round}
 
 -- what is alike, by what it is of the first
 abbrev Given : {W A B : Type 0} → (A → B → Type 0) → Attempt W A → Attempt W B → Type 0

@@ -1,9 +1,9 @@
 -- Two changes with the same cases between them: the composition goes from the first cases to the last.
-use Rattle.std.proofs.Common.{◌≡◌, Bool, true, false, List, [], ◌∷◌, ◌++◌, refl, sym, subst, if◌then◌else◌}
+use Rattle.std.proofs.Common.{◌≡◌, true, false, List, ◌++◌, refl, sym, subst}
 use Rattle.jz_change.specs.declared.change.Numbers.{Numbers}
-use Rattle.jz_change.specs.Changes.{Change, ends, ops, stays_if, arm, stays_while, once, stays_for, unrolled, opened, Changes, none, more}
-use Rattle.jz_change.specs.Composing.{all_by, numbers_by, behind, head_ops, first_ops, join_if, join_while, join_every, join_for, join, join_rounds, compose_of}
-use Rattle.jz_pass.specs.Cases.{Cases, no_case, op_case, if_case, while_case, for_case, call_case, AreFirst, no_items, one_item, Gives, gives_none, gives_ops, gives_if, gives_arm, gives_while, gives_once, gives_for, gives_unrolled, gives_opened, GiveEach, give_none, give_more, IsBetween}
+use Rattle.jz_change.specs.Changes.{Change, Changes}
+use Rattle.jz_change.specs.Composing.{all_by, behind, first_ops, join_if, join_every, join, join_rounds, compose_of}
+use Rattle.jz_pass.specs.Cases.{Cases, no_case, if_case, AreFirst, no_items, one_item, Gives, gives_none, gives_ops, gives_if, gives_arm, gives_while, gives_once, gives_for, gives_unrolled, gives_opened, GiveEach, give_none, give_more, IsBetween}
 
 first_on : {xs ys : List Numbers} {Y Y1 Y2 : Cases} → AreFirst xs Y Y1 → AreFirst ys Y1 Y2 → AreFirst (xs ++ ys) Y Y2
 first_on no_items h = h

@@ -1,9 +1,9 @@
 -- What a part of a tree does, whatever follows it.
-use Rattle.std.proofs.Common.{◌≡◌, ℕ, zero, suc, ◌+◌, Bool, true, false, List, [], ◌∷◌, ℤ, refl, sym, ap, ◌∙◌, subst, if◌then◌else◌}
-use Rattle.jz_leak.specs.RunLeaks.{Leak, over, ran, chose, chose_cut, looped, looped_cut, each as each_leak, each_cut, called, called_cut, Turns, left, turn, prologue_cut, wanted, body_cut, Rounds, no_round, round, round_cut}
+use Rattle.std.proofs.Common.{◌≡◌, ℕ, suc, true, false, List, [], ◌∷◌, ℤ, refl, sym, ◌∙◌, subst}
+use Rattle.jz_leak.specs.RunLeaks.{Leak, over, ran, Turns, turn, Rounds, round}
 use Rattle.jz_leak.specs.Applying.{is_cut, is_cut_in_turns, is_cut_in_rounds}
-use Rattle.jz_runs.specs.Trees.{Tree, done, op, quiet, choose, loop, each, call}
-use Rattle.jz_runs.specs.Rules.{Parts, Attempt, stuck, went, Outcome, End, Cut, Stuck, after, Goes, finished, did, did_not, quieted, chosen, chosen_cut, chosen_stuck, chose_not, loop_left, loop_cut, loop_stuck, counted, counted_cut, counted_stuck, counted_not, Loops, in_prologue, prologue_stuck, tested_not, leaves_loop, no_turn, in_body, body_stuck, more_turns, Counts, no_count, more_counts, count_cut, count_stuck}
+use Rattle.jz_runs.specs.Trees.{Tree, done, op, quiet, choose}
+use Rattle.jz_runs.specs.Rules.{Parts, went, Outcome, End, Cut, Stuck, after, Goes, finished, did, did_not, quieted, chose_not, Loops, prologue_stuck, tested_not, more_turns, Counts, more_counts}
 use Rattle.std.proofs.lemmas.List.Elements.{All-nil, All-cons}
 use Rattle.jz_change.specs.declared.change.Numbers.{Numbers}
 use Rattle.jz_change.specs.declared.change.Numbers.TheVariants.{Same}

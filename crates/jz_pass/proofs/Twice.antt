@@ -1,5 +1,5 @@
 -- One pass after another keeps what both keep.
-use Rattle.std.proofs.Common.{◌≡◌, ℕ, ◌⊎◌, inl, inr, refl, sym, ap, ◌∙◌, subst}
+use Rattle.std.proofs.Common.{◌≡◌, ℕ, ◌⊎◌, inl, inr, sym, subst}
 use Rattle.jz_leak.specs.RunLeaks.{Leak}
 use Rattle.jz_runs.specs.Trees.{Tree}
 use Rattle.jz_runs.specs.Rules.{Parts, Outcome, End, Cut, Stuck, Goes}

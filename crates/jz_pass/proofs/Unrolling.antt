@@ -1,15 +1,15 @@
 -- Statements of which each becomes others keep the runs: unrolling, pruning, rewriting.
-use Rattle.std.proofs.Common.{◌≡◌, ℕ, zero, suc, Bool, true, false, List, [], ◌∷◌, ℤ, refl, sym, ap, ◌∙◌, subst, if◌then◌else◌}
-use Rattle.jz_leak.specs.RunLeaks.{Leak, over, ran, chose, chose_cut, looped, looped_cut, each as each_leak, each_cut, called, called_cut, Turns, left, turn, prologue_cut, wanted, body_cut, Rounds, no_round, round, round_cut}
-use Rattle.jz_leak.specs.Applying.{is_cut, is_cut_in_turns, is_cut_in_rounds}
-use Rattle.jz_runs.specs.Trees.{Tree, done, op, quiet, choose, loop, each, call}
-use Rattle.jz_runs.specs.Rules.{Parts, Attempt, stuck, went, Outcome, End, Cut, Stuck, after, Goes, finished, did, did_not, quieted, chosen, chosen_cut, chosen_stuck, chose_not, loop_left, loop_cut, loop_stuck, counted, counted_cut, counted_stuck, counted_not, call_ended, call_cut, call_stuck, entered_not, left_not, Loops, in_prologue, prologue_stuck, tested_not, leaves_loop, no_turn, in_body, body_stuck, more_turns, Counts, no_count, more_counts, count_cut, count_stuck}
+use Rattle.std.proofs.Common.{◌≡◌, ℕ, Bool, true, false, List, [], ℤ, refl, sym, ◌∙◌, subst, if◌then◌else◌}
+use Rattle.jz_leak.specs.RunLeaks.{Leak, over, ran, chose, chose_cut, looped, looped_cut, each as each_leak, each_cut, Turns, left, prologue_cut, Rounds, round}
+use Rattle.jz_leak.specs.Applying.{is_cut, is_cut_in_rounds}
+use Rattle.jz_runs.specs.Trees.{Tree, done, quiet, choose, loop}
+use Rattle.jz_runs.specs.Rules.{Parts, stuck, went, Outcome, End, Cut, Stuck, after, Goes, finished, did, did_not, quieted, chosen, chosen_cut, chosen_stuck, chose_not, loop_left, loop_cut, loop_stuck, counted, counted_cut, counted_stuck, counted_not, call_ended, call_cut, call_stuck, entered_not, left_not, Loops, in_prologue, prologue_stuck, tested_not, leaves_loop, no_turn, in_body, body_stuck, more_turns, Counts, no_count, more_counts, count_cut, count_stuck}
 use Rattle.jz_change.specs.declared.change.Numbers.{Numbers}
-use Rattle.jz_change.specs.Changes.{numbers_in, Change, ends, ops, stays_if, arm, stays_while, once, unrolled, Changes, none, more, operations, map_before, map_turns, map_rounds}
-use Rattle.jz_change.specs.Fitting.{HasThese, HasAll, LeakFits, fits_over, fits_ran, fits_if, fits_if_cut, fits_arm, fits_arm_cut, fits_while, fits_while_cut, fits_once, fits_once_cut, fits_unrolled, fits_unrolled_cut, LeakTurnsFit, turns_left, turns_turn, turns_prologue_cut, turns_wanted, turns_body_cut, LeakOnceFits, once_left, once_cut, LeakRoundsFit, own_none, own_round, own_cut}
-use Rattle.jz_pass.specs.Operations.{in_turn, DoAll, OneFails, TestFails}
+use Rattle.jz_change.specs.Changes.{numbers_in, Change, stays_if, stays_while, once, unrolled, Changes, more, operations, map_before, map_turns, map_rounds}
+use Rattle.jz_change.specs.Fitting.{HasThese, LeakFits, fits_over, fits_ran, fits_if, fits_if_cut, fits_arm, fits_arm_cut, fits_while, fits_while_cut, fits_once, fits_once_cut, fits_unrolled, fits_unrolled_cut, turns_left, turns_prologue_cut, turns_wanted, turns_body_cut, once_left, once_cut, LeakRoundsFit, own_none, own_round, own_cut}
+use Rattle.jz_pass.specs.Operations.{in_turn, DoAll}
 use Rattle.jz_pass.specs.Unrolling.{Knowing, Unrolls, u_done, u_op, u_quiet, u_if, u_arm, u_while, u_once, u_for, UnrollsEach, u_none, u_more, IsKnown}
-use Rattle.jz_pass.proofs.Stretches.{after_twice, after_none, none_there, all_there, alone, ops_lead, ops_stop, test_stops, loop_stops, LoopMatches, l_end, l_cut, l_stuck, one_turn}
+use Rattle.jz_pass.proofs.Stretches.{after_twice, after_none, none_there, all_there, ops_lead, ops_stop, test_stops, loop_stops, LoopMatches, l_end, l_cut, l_stuck, one_turn}
 
 -- what is owed where something is stuck
 abbrev pub Shown : {W W2 : Type 0} → Type 0 → (W → W2 → Type 0) → (W2 → Type 0) → W → Type 0

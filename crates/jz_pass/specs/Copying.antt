@@ -69,7 +69,8 @@ module _ {O T F C X : Type 0} (K : Copying O T F C X) where
       (inlining x (suc c + copies b) r)
 
 -- the same with more known beside the naming
-module _ {O T F C N X : Type 0} (K : Copying O T F C N) (naming : X → N) (callee : X → ℕ → C → X) where
+module _ {O T F C N X : Type 0} (K : Copying O T F C N) (naming : X → N)
+    (callee : X → ℕ → C → X) where
   abbrev pub along : Copying O T F C X
   along = record {
     op_in = λ x. K.op_in (naming x);

@@ -1,6 +1,6 @@
 -- What the parts of a copied body keep: a relation between the variables of a copy and the state in
 -- which all copies have theirs.
-use Rattle.std.specs.Prelude.{ℕ, suc, ◌≤◌, ◌≡◌, List, [], ◌∷◌, ℤ, ⊤}
+use Rattle.std.specs.Prelude.{ℕ, suc, ◌≤◌, ◌≡◌, List, ℤ, ⊤}
 use Rattle.jz_runs.specs.Trees.{Tree, done, op, quiet, choose, loop, each, call}
 use Rattle.jz_runs.specs.Rules.{Parts, Attempt, stuck, went}
 use Rattle.jz_pass.specs.Operations.{DoAll, OneFails}

@@ -5,8 +5,8 @@ use Rattle.jz_runs.specs.Rules.{Outcome, End, Cut, Stuck}
 use Rattle.jz_change.specs.Changes.{Change, map_of}
 use Rattle.jz_change.specs.Fitting.{LeakFits}
 
--- the runs of a program: from an input, with so many true tests of `while` left, to an outcome; what
--- an end gives is a V, and why a run is stuck a W
+-- the runs of a program: from an input, with so many true tests of `while` left, to an outcome;
+-- what an end gives is a V, and why a run is stuck a W
 abbrev pub Runs : (I V W : Type 0) → Type 1
 Runs I V W = I → ℕ → Outcome V W Leak → Type 0
 
@@ -19,8 +19,9 @@ pub record Relating (I J V V2 W W2 : Type 0) : Type 1 where
   -- holds where stuck runs are shown too, as between trees; elsewhere nothing is owed of them
   pub Exact : Type 0
 
--- what follows of an outcome in the other language: an end there, with as many turns left, or a cut,
--- each with the leak that the change gives, for which it is one; or, where that is shown, stuck alike
+-- what follows of an outcome in the other language: an end there, with as many turns left, or a
+-- cut, each with the leak that the change gives of one that it is for; or, where that is shown, a
+-- run that is stuck alike
 pub data Follows {I J V V2 W W2 : Type 0} (R : Relating I J V V2 W W2) (k : Change)
     (Comes : Outcome V2 W2 Leak → Type 0) : Outcome V W Leak → Type 0 where
   has_ended :

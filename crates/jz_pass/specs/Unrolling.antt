@@ -1,7 +1,7 @@
 -- Statements of which each becomes others: operations and tests by a rule for each; loops that are
 -- unrolled; and arms and loops of which a constant test leaves a part.
-use Rattle.std.specs.Prelude.{ℕ, ◌≡◌, Bool, true, false, if◌then◌else◌, List, [], ◌∷◌, ℤ, ◌⊎◌}
-use Rattle.jz_runs.specs.Trees.{Tree, done, op, quiet, choose, loop, each, call}
+use Rattle.std.specs.Prelude.{ℕ, ◌≡◌, Bool, false, if◌then◌else◌, List, [], ◌∷◌, ℤ, ◌⊎◌}
+use Rattle.jz_runs.specs.Trees.{Tree, done, op, quiet, choose, loop, each}
 use Rattle.jz_runs.specs.Rules.{Parts, stuck, went}
 use Rattle.jz_change.specs.declared.change.Numbers.{Numbers}
 use Rattle.jz_change.specs.Changes.{numbers_in, Change, ends, ops, stays_if, arm, stays_while, once, unrolled, Changes, none, more}

@@ -54,8 +54,8 @@ pub trait Pass {
         ensures refused { IfErr result (λ e. IfRefused e (refuses self.now p.now)) };
 }
 
-/// One pass after another. Refused is what the first refuses, or what the second refuses of what the
-/// first makes.
+/// One pass after another. Refused is what the first refuses, or what the second refuses of what
+/// the first makes.
 #[derive(Drop)]
 pub struct Then<P, Q> {
     first: P,

@@ -1,6 +1,6 @@
-use Rattle.std.proofs.Common.{rules, ◌≡◌, ◌+◌, ◌*◌, ◌<◌, ◌≤◌, [], ◌∷◌, ◌++◌, take, subst, sym, arith}
+use Rattle.std.proofs.Common.{rules, ◌+◌, ◌*◌, ◌<◌, ◌≤◌, [], ◌∷◌, ◌++◌, take, subst, sym, arith}
 use Rattle.std.proofs.lemmas.List.Elements.{Contains-get_or}
-use Rattle.std.specs.Prelude.{Contains, get_or}
+use Rattle.std.specs.Prelude.{Contains}
 use Rattle.jz_pass.specs.Rewriting.{RewritesTo, RefusesOne, sizes}
 use Rattle.jz_pass.proofs.Rewriting.{one_more, if_rewrites, while_rewrites, item_below}
 use Rattle.jz_pass.proofs.Refusing.{passed_refused, err_refused, refused_here, refused_in, refused_in_first, refused_in_second}

@@ -1,5 +1,4 @@
 use Rattle.std.proofs.Common.{subst, sym, ◌∷◌, []}
-use Rattle.jz_change.specs.declared.change.Step.TheVariants as step
 use Rattle.jz_pass.specs.Rewriting.{RewritesTo}
 use Rattle.jz_pass.proofs.Rewriting.{op_rewrites}
 use Rattle.jz_pass.proofs.rewrite.rewrite_operation.Goals as goal
