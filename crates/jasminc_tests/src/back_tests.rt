@@ -1,11 +1,13 @@
-//! Texts of functions that show what the stages behind the reading do: limits, alarms, places and code.
+//! Texts of functions that show what the stages behind the reading do: limits, alarms, places and
+//! code.
 
 use crate::tests::{COMPILE, Row, answer_rows};
 use jasminc_top::Status;
 use std::test::Fail;
 
 static ROWS: [Row; 14] = [
-    // A fault of an earlier stage in a later function is told before one of a later stage in an earlier function.
+    // A fault of an earlier stage in a later function is told before one of a later stage in an
+    // earlier function.
     Row {
         words: COMPILE,
         text: b"export fn u() { reg u64 r t; r = t; } export fn d(reg u64 x x) { }",
@@ -27,7 +29,8 @@ static ROWS: [Row; 14] = [
         written: "syntax BadByte 1:74\n",
         made: 0,
     },
-    // s has to stand in RDX at the return, and is written while c, the third parameter, is still there.
+    // s has to stand in RDX at the return, and is written while c, the third parameter, is still
+    // there.
     Row {
         words: COMPILE,
         text: b"export fn h(reg u64 a, reg u64 b, reg u64 c) -> reg u64, reg u64 { reg u64 r s; r = a; s = b; s += c; return r, s; }",

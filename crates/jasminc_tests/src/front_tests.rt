@@ -1,4 +1,5 @@
-//! Texts for the readers, the typing and the alarms of the first language, with the answers that the rules give by hand.
+//! Texts for the readers, the typing and the alarms of the first language, with the answers that
+//! the rules give by hand.
 
 use crate::tests::{COMPILE, Row, answer_rows};
 use jasminc_top::Status;
@@ -181,7 +182,8 @@ static ROWS: [Row; 31] = [
         written: "type 9 ExportShape 1:11\n",
         made: 0,
     },
-    // The first of several faults: by line and column, and at one place the rule of the lowest number.
+    // The first of several faults: by line and column, and at one place the rule of the lowest
+    // number.
     Row {
         words: COMPILE,
         text: b"export fn f(reg u64 x) { return y; } export fn g(reg u64 x x) -> reg u64 { return z; }",
@@ -203,7 +205,8 @@ static ROWS: [Row; 31] = [
         written: "type 1 Unknown 1:41\n",
         made: 0,
     },
-    // Parameters and left sides have values, and nothing else has; an operation reads its left side first.
+    // Parameters and left sides have values, and nothing else has; an operation reads its left side
+    // first.
     Row {
         words: COMPILE,
         text: b"export fn u() -> reg u64 { reg u64 r t; r += t; return r; }",

@@ -1,5 +1,5 @@
-//! Tests of the call over all stages, and of the stages of the first language, by texts. They stand apart from what they test,
-//! since a crate with tests is proved twice.
+//! Tests of the call over all stages, and of the stages of the first language, by texts. They stand
+//! apart from what they test, since a crate with tests is proved twice.
 #![tactic(auto)]
 
 #[cfg(test)]

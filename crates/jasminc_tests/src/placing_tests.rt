@@ -1,4 +1,5 @@
-//! Code that no text of the first language gives, and the places or the refusal that it has to come to.
+//! Code that no text of the first language gives, and the places or the refusal that it has to come
+//! to.
 
 use jz_alloc::{NoPlace, Places, allocate};
 use jz_io::Span;
@@ -73,8 +74,8 @@ const PF: Place = Place::Flag(Flag::Pf);
 
 const ZF: Place = Place::Flag(Flag::Zf);
 
-/// An operation: its line and column, what it reads and writes, the places that it writes besides, and what it needs, each
-/// need with its line and column.
+/// An operation: its line and column, what it reads and writes, the places that it writes besides,
+/// and what it needs, each need with its line and column.
 struct Step(
     u32,
     u32,
@@ -84,8 +85,8 @@ struct Step(
     &'static [(u32, Place, u32, u32)],
 );
 
-/// Code over words, and behind them over flags, with the places of its variables; or, where there are none, the variable
-/// without a place, what it needs, and who holds that.
+/// Code over words, and behind them over flags, with the places of its variables; or, where there
+/// are none, the variable without a place, what it needs, and who holds that.
 struct Row {
     steps: &'static [Step],
     words: u32,
@@ -332,16 +333,13 @@ fn code(alloc: Global, row: &Row) -> Result<Code, AllocError> {
     })
 }
 
-fn placed(alloc: Global, code: &Code) -> Result<Result<Places, NoPlace>, AllocError> {
+/// The places of code that has fewer than 2^32 variables and no number beyond them.
+fn placed(alloc: Global, code: &Code) -> Result<Places, Failure<NoPlace>> {
     let count = code.kinds.len();
     if count >= 0x1_0000_0000 || !are_below(code.ops.as_slice(), count) {
-        return Err(AllocError);
+        return Err(Failure::OutOfMemory);
     }
-    match allocate(alloc, code) {
-        Ok(places) => Ok(Ok(places)),
-        Err(Failure::Refused(no_place)) => Ok(Err(no_place)),
-        Err(Failure::OutOfMemory) => Err(AllocError),
-    }
+    allocate(alloc, code)
 }
 
 /// Whether these are the needs of the row, in its order.
@@ -380,9 +378,10 @@ fn has_holders(row: &Row, no_place: &NoPlace) -> bool {
 fn places_each_code(rt: HostRuntime) -> Result<(), Fail> {
     let alloc = rt.alloc();
     for (i, row) in ROWS.iter().enumerate() {
-        match placed(alloc, &code(alloc, row)?)? {
+        match placed(alloc, &code(alloc, row)?) {
             Ok(places) => assert!(rt; places.as_slice() == row.places, "row {i}"),
-            Err(no_place) => {
+            Err(Failure::OutOfMemory) => panic!(rt; "no memory for row {i}"),
+            Err(Failure::Refused(no_place)) => {
                 assert!(rt; row.places.is_empty(), "row {i}");
                 assert_eq!(rt; no_place.variable, row.variable, "row {i}");
                 assert!(rt; has_needs(row, &no_place), "row {i}");

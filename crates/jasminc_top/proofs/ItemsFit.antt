@@ -5,7 +5,7 @@ use Rattle.std.specs.List.{list_any, starts_with}
 use Rattle.std.specs.Option.{option_map}
 use Rattle.std.specs.Str.{bytes_eq}
 use Rattle.jasminc_top.specs.Running.{ItemsFit}
-use Rattle.jasminc_top.specs.Words.{Wanted, compile, exec, is_option, is_numeral, numeral, has_leading_zero, decimal_number, numbers_of, run_of, command_of, wanted_command}
+use Rattle.jasminc_top.specs.Words.{Wanted, compile, exec, is_option, is_numeral, numeral, has_leading_zero, item_number, numbers_of, run_of, command_of, wanted_command}
 
 below : (z : Bool) (v n : ℕ) → z ≡ nat_lt v (2 ^ 64) → (if z then Some v else None) ≡ Some n → n < 2 ^ 64
 below true v n q e = let same : v ≡ n = cc in let lt : v < 2 ^ 64 = grind (arith, q) in subst (λ k. k < 2 ^ 64) same lt
@@ -23,7 +23,7 @@ picked true y a b n e h k = h e
 picked false true a b n e h k = cc
 picked false false a b n e h k = k e
 
-number_fits : (word : List ℕ) (n : ℕ) → decimal_number word ≡ Some n → n < 2 ^ 64
+number_fits : (word : List ℕ) (n : ℕ) → item_number word ≡ Some n → n < 2 ^ 64
 number_fits word n e = picked (starts_with ◌==◌ word (codes "0x")) (has_leading_zero word) _ _ n e (λ h. numeral_fits 16 (drop 2 word) n h) (λ h. numeral_fits 10 word n h)
 
 joined : (o : Option ℕ) (os : Option (List ℕ)) (ns : List ℕ) → option_and_then (λ n. option_and_then (λ ms. Some (n ∷ ms)) os) o ≡ Some ns
@@ -34,7 +34,7 @@ joined (Some n) (Some ms) ns e h hs = let same : n ∷ ms ≡ ns = cc in subst I
 
 numbers_fit : (words : List (List ℕ)) (ns : List ℕ) → numbers_of words ≡ Some ns → ItemsFit ns
 numbers_fit [] ns e = let same : [] ≡ ns = cc in subst ItemsFit same tt
-numbers_fit (word ∷ words) ns e = joined (decimal_number word) (numbers_of words) ns e (λ n h. number_fits word n h) (λ ms h. numbers_fit words ms h)
+numbers_fit (word ∷ words) ns e = joined (item_number word) (numbers_of words) ns e (λ n h. number_fits word n h) (λ ms h. numbers_fit words ms h)
 
 run_items : (file fun file2 fun2 : List ℕ) (o : Option (List ℕ)) (items : List ℕ) → option_map (exec file fun) o ≡ Some (exec file2 fun2 items) → o ≡ Some items
 run_items file fun file2 fun2 None items e = cc

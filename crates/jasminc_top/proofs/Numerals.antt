@@ -8,7 +8,7 @@ use Rattle.std.specs.Result.{result_ok}
 use Rattle.std.specs.Option.{option_and_then}
 use Rattle.std.specs.Char.{digit_value}
 use Rattle.std.specs.Str.Parse.{AllDigits, IsNumeral, digits_value, without_leading_plus, ParsesUnsigned}
-use Rattle.jasminc_top.specs.Words.{is_numeral, numeral, numbers_of, decimal_number}
+use Rattle.jasminc_top.specs.Words.{is_numeral, numeral, numbers_of, item_number}
 
 -- digits, as a test and as a fact
 pub digits_test : (base : ℕ) (ds : List ℕ) → AllDigits base ds → list_all (λ c. nat_lt (digit_value c) base) ds ≡ true
@@ -67,7 +67,7 @@ plus_numeral base (c ∷ cs) low high h =
     not_all false = refl
 
 -- one more word
-pub one_more : (word : List ℕ) (words : List (List ℕ)) (n : ℕ) → decimal_number word ≡ Some n
+pub one_more : (word : List ℕ) (words : List (List ℕ)) (n : ℕ) → item_number word ≡ Some n
     → numbers_of (word ∷ words) ≡ option_and_then (λ ns. Some (n ∷ ns)) (numbers_of words)
 one_more word words n h = rw h refl
 

@@ -25,7 +25,7 @@ use Rattle.jz_safety.specs.declared.alarm.Alarm.{Alarm}
 use Rattle.jz_alloc.specs.declared.needs.Needed.{Needed}
 use Rattle.jz_pipeline.specs.declared.unplaced.NoPlace.{NoPlace}
 use Rattle.jz_pipeline.specs.declared.unplaced.Holder.{Holder}
-use Rattle.jz_listing.specs.Listing.{reg_text, span_text}
+use Rattle.jz_text.specs.Texts.{reg_text, span_text}
 
 abbrev pub lex_name : LexKind → List ℕ
 lex_name BadByte = codes "BadByte"

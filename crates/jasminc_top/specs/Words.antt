@@ -41,8 +41,8 @@ has_leading_zero ds = false
 
 -- the number that a word is: decimal digits without a leading zero, or `0x` and hexadecimal digits
 -- of either case
-abbrev pub decimal_number : List ℕ → Option ℕ
-decimal_number word =
+abbrev pub item_number : List ℕ → Option ℕ
+item_number word =
     if starts_with ◌==◌ word (codes "0x") then numeral 16 (drop 2 word)
     else (if has_leading_zero word then None else numeral 10 word)
 
@@ -50,7 +50,7 @@ decimal_number word =
 abbrev pub numbers_of : List (List ℕ) → Option (List ℕ)
 numbers_of [] = Some []
 numbers_of (word ∷ words) =
-    option_and_then (λ n. option_and_then (λ ns. Some (n ∷ ns)) (numbers_of words)) (decimal_number word)
+    option_and_then (λ n. option_and_then (λ ns. Some (n ∷ ns)) (numbers_of words)) (item_number word)
 
 -- a run of a function on items, if each is a number
 abbrev pub run_of : List ℕ → List ℕ → List (List ℕ) → Option Wanted

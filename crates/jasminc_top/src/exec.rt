@@ -13,8 +13,9 @@ ghost use Rattle.jasminc_top.specs.Answers.{step_limit};
 use jz_first::{Seq, Size};
 use jz_io::Bytes;
 use jz_leak::{Event, Events, MemMap};
-use jz_listing::{Arg, Compiled, write_number};
+use jz_listing::{Arg, Compiled};
 use jz_lower::ARGUMENT_REGISTERS;
+use jz_text::{write_digits, write_number};
 use std::alloc::{AllocError, Global};
 use x64_insn::{FaultKind, FlagVal, Reg, State, StepLeak};
 use x64_machine::{Machine, Step};
@@ -114,9 +115,8 @@ fn run_to_end(alloc: Global, machine: &mut Machine, limit: u64) -> Result<Finish
 fn write_hexadecimal(alloc: Global, text: &mut Vec<u8>, bytes: &[u8]) -> Result<(), AllocError>
     ensures { OnOk result (text.new.items ≡ text.old.items ++ hexadecimal bytes.now) }
 {
-    let digits = hex::encode(alloc, bytes)?;
     text.extend_from_slice(b"0x")?;
-    text.extend_from_slice(digits.as_str().as_bytes())
+    write_digits(alloc, text, bytes)
 }
 
 fn write_quadword(alloc: Global, text: &mut Vec<u8>, number: u64) -> Result<(), AllocError>

@@ -13,9 +13,9 @@ use jz_first::{Seq, Text, TypeFault, TypeRule};
 use jz_first_meaning::Reason;
 use jz_grammar::{LexFault, LexKind, SyntaxFault, SyntaxKind};
 use jz_io::Span;
-use jz_listing::{reg_name, write_number, write_span};
 use jz_pipeline::{Holder, Limit, LimitKind, NoPlace};
 use jz_safety::Alarm;
+use jz_text::{reg_name, write_number, write_span};
 use std::alloc::AllocError;
 use x64_insn::{Flag, Place};
 

@@ -4,7 +4,7 @@ ghost use Rattle.std.specs.Prelude.{◌≡◌, ◌==◌, slice_index, ◌≤◌,
 ghost use Rattle.std.specs.List.{list_any};
 ghost use Rattle.std.specs.Option.{option_map};
 ghost use Rattle.jasminc_top.specs.Words.{wanted_command, wanted_of, command_of, run_of, texts_of, file_of};
-ghost use Rattle.jasminc_top.specs.Words.{is_option, numeral, has_leading_zero, decimal_number, numbers_of};
+ghost use Rattle.jasminc_top.specs.Words.{is_option, numeral, has_leading_zero, item_number, numbers_of};
 
 use jz_first::Seq;
 use std::alloc::{AllocError, Global};
@@ -65,7 +65,7 @@ fn has_leading_zero(word: &str) -> bool
 
 /// The number that a word is.
 fn number(word: &str) -> Option<u64>
-    ensures { result ≡ decimal_number word.now }
+    ensures { result ≡ item_number word.now }
 {
     if let Some(digits) = word.strip_prefix("0x") {
         return numeral(16, digits);

@@ -4,11 +4,11 @@ use Rattle.jz_grammar.proofs.LexingWords.{if_false}
 use Rattle.jz_grammar.specs.Span.{Span}
 use Rattle.jz_grammar.specs.Token.{Token}
 use Rattle.jz_grammar.specs.Kinds.{Kind, word, sign, identifier, number, span_of, is_in, has}
-use Rattle.jz_grammar.specs.InnerReading.{Answer, Reader, ◌>>=◌, through, follow, depend, pick, many_by}
-use Rattle.jz_grammar.specs.Grammar.{Lang, token, ◌▸◌, ◌⊕◌, ◌⇒◌, never, each, each_by, at_most, then_by, maybe}
+use Rattle.jz_grammar.specs.Readers.{Answer, Reader, ◌>>=◌, through, follow, depend, pick, many_by}
+use Rattle.jz_grammar.specs.Grammar.{Lang, token, ◌▸◌, ◌⊕◌, ◌⇒◌, never, each, then_by, maybe}
 use Rattle.jz_grammar.proofs.Laws.{Shape, IsReader, HasPhrase, one_shape, full, many_shape}
 use Rattle.jz_grammar.proofs.Basics.{disjoint_nil, all_in}
-use Rattle.jz_grammar.proofs.Combine.{has_nil, follow_reads, map_reads, pick_reads, optional_reads, leaf_reads, reads_as, shaped}
+use Rattle.jz_grammar.proofs.Combine.{at_most, each_by, has_nil, follow_reads, map_reads, pick_reads, optional_reads, leaf_reads, reads_as, shaped}
 use Rattle.jz_grammar.proofs.Depend.{depend_reads}
 use Rattle.jz_grammar.proofs.Several.{IsItem, many_by_reads}
 use Rattle.jz_grammar.proofs.Steps.{listed_reads, listed_few_reads}

@@ -7,7 +7,7 @@ use Rattle.jz_grammar.specs.Token.{Token}
 use Rattle.jz_grammar.specs.TokenKind.TheVariants.{End}
 use Rattle.jz_grammar.specs.Causes.{Cause, Unexpected}
 use Rattle.jz_grammar.specs.Kinds.{token_kind, member, is_in}
-use Rattle.jz_grammar.specs.InnerReading.{final}
+use Rattle.jz_grammar.specs.Readers.{final}
 use Rattle.jz_grammar.specs.Grammar.{Marked, plain}
 use Rattle.jz_grammar.specs.Deriving.{Begins}
 use Rattle.jz_grammar.proofs.Basics.{plain_append}
@@ -19,7 +19,7 @@ use Rattle.jz_first.specs.declared.tree.Program.{Program}
 use Rattle.jz_grammar.specs.declared.fault.SyntaxFault.{SyntaxFault}
 use Rattle.jz_grammar.specs.declared.fault.SyntaxKind.TheVariants as kind
 use Rattle.jz_grammar.specs.Places.{span_at, span_or_start, IsFaultAt}
-use Rattle.jz_grammar.specs.InnerGave.{numbered_answer}
+use Rattle.jz_grammar.specs.InnerNumbered.{numbered_answer}
 use Rattle.jz_first.specs.Deriving.{DerivesProgram, BeginsProgram, IsStoppedAt, IsUnexpected}
 use Rattle.jz_first.specs.Grammar as g
 use Rattle.jz_first.specs.InnerReaders as r

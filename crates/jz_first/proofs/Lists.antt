@@ -3,7 +3,7 @@ use Rattle.std.proofs.Common.{◌≡◌, ℕ, zero, suc, ◌-◌, ◌<◌, List,
 use Rattle.jz_grammar.specs.Token.{Token}
 use Rattle.jz_grammar.specs.Causes.{Cause}
 use Rattle.jz_grammar.specs.Kinds.{Kind, token_kind, word, sign, is_in, has}
-use Rattle.jz_grammar.specs.InnerReading.{Answer, through, many_by}
+use Rattle.jz_grammar.specs.Readers.{Answer, through, many_by}
 use Rattle.jz_grammar.proofs.Basics.{member_append}
 use Rattle.jz_grammar.proofs.Combine.{shorter, has_nil}
 use Rattle.jz_grammar.proofs.Several.{many_by_next, many_by_wrong, many_by_done, item_shorter}

@@ -1,7 +1,7 @@
 -- The whole program: what is read of it, and what its tokens are.
 use Rattle.std.proofs.Common.{◌≡◌, ℕ, ◌+◌, ◌≤◌, List, [], ◌∷◌, ◌++◌, length, Ok, Err, refl, codes}
 use Rattle.jz_grammar.specs.Kinds.{Kind, word, sign, identifier, number, end, span_of}
-use Rattle.jz_grammar.specs.InnerReading.{Answer, through, many}
+use Rattle.jz_grammar.specs.Readers.{Answer, through, many}
 use Rattle.jz_grammar.specs.Grammar.{Lang, each}
 use Rattle.jz_grammar.proofs.Laws.{Shape, IsReader, full, many_shape}
 use Rattle.jz_grammar.proofs.Combine.{follow_reads, map_reads, many_reads, reads_as}

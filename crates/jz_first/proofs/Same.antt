@@ -1,8 +1,8 @@
 -- Counting the names that are left is the same as asking for at most nine.
 use Rattle.std.proofs.Common.{inl, inr, ⊎_elim, ℕ, zero, suc, ◌+◌, ◌-◌, ◌<◌, ◌≤◌, List, [], ◌∷◌, length, Option, sym, ap, subst, arith, length-append}
-use Rattle.jz_grammar.specs.Grammar.{Marked, Lang, each, each_by, at_most, maybe}
+use Rattle.jz_grammar.specs.Grammar.{Marked, Lang, each, maybe}
 use Rattle.jz_grammar.proofs.Laws.{IsReader, full}
-use Rattle.jz_grammar.proofs.Combine.{at_most_each, each_at_most, same_reads}
+use Rattle.jz_grammar.proofs.Combine.{at_most, each_by, at_most_each, each_at_most, same_reads}
 use Rattle.jz_first.specs.declared.tree.Fun.{Fun}
 use Rattle.jz_first.specs.declared.tree.Param.{Param}
 use Rattle.jz_first.specs.declared.tree.Var.{Var}

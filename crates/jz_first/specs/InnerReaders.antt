@@ -2,7 +2,7 @@
 use Rattle.std.specs.Prelude.{ℕ, zero, suc, ◌-◌, List, [], ◌∷◌, ◌++◌, length, codes}
 use Rattle.jz_grammar.specs.Span.{Span}
 use Rattle.jz_grammar.specs.Kinds.{Kind, word, sign, identifier, number, end, span_of}
-use Rattle.jz_grammar.specs.InnerReading.{Reader, ◌>>=◌, through, follow, depend, pick, many_by, leaf, optional, more_of, few_of}
+use Rattle.jz_grammar.specs.Readers.{Reader, ◌>>=◌, through, follow, depend, pick, many_by, leaf, optional, more_of, few_of}
 use Rattle.jz_first.specs.declared.tree.Program.{Program}
 use Rattle.jz_first.specs.declared.tree.Fun.{Fun}
 use Rattle.jz_first.specs.declared.tree.Param.{Param}
@@ -19,7 +19,7 @@ use Rattle.jz_grammar.specs.Tokens.{name_of, number_of_token}
 use Rattle.jz_first.specs.Trees.{number_expr, assignments, operation_of, register_word, declared_of, param_of, used_of, assign_statement, vars_in, stmts_in, fun_of, program_of}
 use Rattle.jz_grammar.specs.Parts.{joined_lists, or_empty}
 use Rattle.jz_first.specs.Grammar.{most_names}
-pub use Rattle.jz_grammar.specs.InnerTokens.{key, the, name, ids, commas, comma, one_and}
+pub use Rattle.jz_grammar.specs.TokenReaders.{key, the, name, ids, commas, comma, one_and}
 
 unfoldable pub variable_declared : Reader Var
 variable_declared ts = through declared_of (name ts)

@@ -2,7 +2,7 @@
 
 ghost use Rattle.std.specs.Prelude.{◌≡◌, ◌-◌};
 ghost use Rattle.jz_grammar.specs.Kinds.{has};
-ghost use Rattle.jz_grammar.specs.InnerGave.{Gave};
+ghost use Rattle.jz_grammar.specs.Gave.{Gave};
 ghost use Rattle.jz_first.specs.InnerReaders.{variable_declared, param, reg_u64, params_more, group, group_starts, next_group, groups_more, groups, params, rtype, next_rtype, rtypes_more, results, next_declared, declared_starts, declared_more, decl};
 
 use crate::{Decl, Param, Ret, Storage, Ty, Var};

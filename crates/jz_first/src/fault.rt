@@ -8,7 +8,7 @@ ghost use Rattle.jz_first.specs.InnerFaults.{precedes, earlier};
 use jz_grammar::Span;
 
 /// A rule of typing.
-#[derive(Clone, Copy, PartialEq, Eq)]
+#[derive(Clone, Copy)]
 pub enum TypeRule {
     /// A variable is declared above its use.
     Unknown,
@@ -35,7 +35,7 @@ impl TypeRule {
 }
 
 /// A rule that fails, and where.
-#[derive(Clone, Copy, PartialEq, Eq)]
+#[derive(Clone, Copy)]
 pub struct TypeFault {
     pub rule: TypeRule,
     pub span: Span,

@@ -2,7 +2,7 @@
 
 ghost use Rattle.std.specs.Prelude.{◌≡◌, []};
 ghost use Rattle.jz_grammar.specs.Kinds.{has};
-ghost use Rattle.jz_grammar.specs.InnerGave.{Gave};
+ghost use Rattle.jz_grammar.specs.Gave.{Gave};
 ghost use Rattle.jz_first.specs.InnerReaders.{next_used, used_more, variables, name_starts, names, variables_returned, ending, body, function, functions_more, program};
 
 use crate::declare::{MOST_NAMES, params, results};
@@ -12,7 +12,7 @@ use jz_grammar::{Cursor, Seq, Stop};
 use std::alloc::Global;
 
 /// What stands between the braces of a function.
-#[derive(Drop, PartialEq, Eq)]
+#[derive(Drop)]
 pub struct Body {
     pub vars: Seq<Var>,
     pub stmts: Seq<Stmt>,

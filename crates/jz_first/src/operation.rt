@@ -2,8 +2,8 @@
 
 ghost use Rattle.std.specs.Prelude.{◌≡◌};
 ghost use Rattle.jz_grammar.specs.Kinds.{is_in};
-ghost use Rattle.jz_grammar.specs.InnerReading.{leaf};
-ghost use Rattle.jz_grammar.specs.InnerGave.{Gave};
+ghost use Rattle.jz_grammar.specs.Readers.{leaf};
+ghost use Rattle.jz_grammar.specs.Gave.{Gave};
 ghost use Rattle.jz_first.specs.Trees.{assignments, operation_of};
 
 use crate::BinOp;
@@ -32,7 +32,7 @@ fn operation_of(token: &Token) -> Option<BinOp>
 }
 
 /// The operation of an assignment, or none.
-#[tactic(auto, unfolding(jz_grammar::specs::InnerReading::one))]
+#[tactic(auto, unfolding(jz_grammar::specs::Readers::one))]
 pub fn operation(c: &mut Cursor) -> Result<Option<BinOp>, Stop>
     ensures { Gave result c.new (leaf assignments operation_of c.old) }
 {

@@ -5,8 +5,8 @@ ghost use Rattle.jz_grammar.specs.Failures.{IfRefused};
 ghost use Rattle.jz_grammar.specs.DataLaws.{AtMostOne, NeverBoth};
 ghost use Rattle.jz_grammar.specs.TokenKind.TheVariants.{End};
 ghost use Rattle.jz_grammar.specs.Token.{Token};
-ghost use Rattle.jz_grammar.specs.InnerReading.{final};
-ghost use Rattle.jz_grammar.specs.InnerGave.{numbered_answer, IsNumbered};
+ghost use Rattle.jz_grammar.specs.Readers.{final};
+ghost use Rattle.jz_grammar.specs.InnerNumbered.{numbered_answer, IsNumbered};
 ghost use Rattle.jz_first.specs.InnerReaders.{program};
 ghost use Rattle.jz_first.specs.Deriving.{DerivesProgram, IsUnexpected};
 

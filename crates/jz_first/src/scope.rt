@@ -12,7 +12,7 @@ use jz_grammar::{Seq, Span, Text};
 use std::alloc::{AllocError, Global};
 
 /// A variable where it is declared.
-#[derive(Clone, Copy, PartialEq, Eq)]
+#[derive(Clone, Copy)]
 pub(crate) struct Declared {
     decl: Option<Decl>,
     span: Span,

@@ -2,7 +2,7 @@
 
 ghost use Rattle.std.specs.Prelude.{◌≡◌, [], IfOk};
 ghost use Rattle.jz_grammar.specs.Kinds.{has};
-ghost use Rattle.jz_grammar.specs.InnerGave.{Gave};
+ghost use Rattle.jz_grammar.specs.Gave.{Gave};
 ghost use Rattle.jz_first.specs.Trees.{assign_statement};
 ghost use Rattle.jz_first.specs.InnerReaders.{variable_used, operand, stmt, decl_starts, item, item_starts, items_more};
 
@@ -13,7 +13,7 @@ use jz_grammar::{Cursor, Seq, Stop};
 use std::alloc::{AllocError, Global};
 
 /// A declaration of variables, or a statement.
-#[derive(Drop, PartialEq, Eq)]
+#[derive(Drop)]
 pub enum Item {
     Declares(Seq<Var>),
     Does(Stmt),

@@ -38,7 +38,8 @@ abbrev pub straight_outcome : Fun → List ℕ → Memory → ℕ → FunOutcome
 straight_outcome f words memory n =
     outcome_of_words memory n (plain_leak f.body) (words_returned f words memory)
 
--- it ended, with some words, the memory as it was, each of the n turns left, and an item for each statement
+-- it ended, with some words, the memory as it was, each of the n turns left, and an item for each
+-- statement
 abbrev pub EndsPlainly : Fun → Memory → ℕ → FunOutcome → Type 0
 EndsPlainly f memory n o =
     (returned : List ℕ)

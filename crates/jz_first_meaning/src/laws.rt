@@ -5,7 +5,8 @@ ghost use Rattle.jz_first.specs.Memory.{Memory};
 ghost use Rattle.jz_first.specs.declared.tree.Program.{Program};
 ghost use Rattle.jz_first.specs.declared.tree.Fun.{Fun};
 ghost use Rattle.jz_runs.specs.Rules.{Goes};
-ghost use Rattle.jz_runs.specs.Laws.{AtLeastOne, AtMostOne, StaysWithMore};
+ghost use Rattle.jz_runs.specs.Laws.{AtLeastOne, StaysWithMore};
+ghost use Rattle.jz_runs.specs.DataLaws.{AtMostOne};
 ghost use Rattle.jz_first_meaning.specs.SourceStates.{State};
 ghost use Rattle.jz_first_meaning.specs.SourceRuns.{Block, source, IsInput, IsRun};
 

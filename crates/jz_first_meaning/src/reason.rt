@@ -1,7 +1,7 @@
 //! Why a run may be stuck, and what an alarm is about.
 
 /// Why a run is stuck, and the kind of an alarm: at one place the first of these counts.
-#[derive(Clone, Copy, PartialEq, Eq)]
+#[derive(Clone, Copy)]
 pub enum Reason {
     /// An index past its array.
     Bounds,

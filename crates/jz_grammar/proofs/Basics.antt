@@ -7,7 +7,7 @@ use Rattle.jz_lex.specs.declared.token.Token.{Token}
 pub use Rattle.jz_lex.proofs.LexingWords.{by_cases, true_false, if_true, if_false}
 use Rattle.jz_grammar.specs.Causes.{Cause, Unexpected, TooDeep}
 use Rattle.jz_grammar.specs.Kinds.{Kind, identifier, word, number, cast, string, sign, end, token_kind, same, member, disjoint, is_in, has}
-use Rattle.jz_grammar.specs.InnerReading.{Answer, ◌>>=◌, through}
+use Rattle.jz_grammar.specs.Readers.{Answer, ◌>>=◌, through}
 use Rattle.jz_grammar.specs.Grammar.{Marked, plain, Within}
 use Rattle.jz_grammar.proofs.Laws.{head_of, outcome, Next}
 use Rattle.jz_grammar.specs.Deriving.{plus}

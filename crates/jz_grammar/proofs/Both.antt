@@ -5,7 +5,7 @@ use Rattle.jz_lex.proofs.LexingWords.{by_cases, if_false, if_true, true_false}
 use Rattle.jz_lex.specs.declared.token.Token.{Token}
 use Rattle.jz_grammar.specs.Causes.{Cause, TooDeep}
 use Rattle.jz_grammar.specs.Kinds.{Kind, disjoint, is_in, has}
-use Rattle.jz_grammar.specs.InnerReading.{Answer, Reader, ◌>>=◌, through, one, follow, has_both, pick_both}
+use Rattle.jz_grammar.specs.Readers.{Answer, Reader, ◌>>=◌, through, one, follow, has_both, pick_both}
 use Rattle.jz_grammar.specs.Grammar.{Marked, Lang, plain, token, ◌▸◌, ◌⊕◌, ◌⇒◌}
 use Rattle.jz_grammar.proofs.Laws.{Shape, head_of, First, outcome, Found, Stopped, IsReader, HasPhrase, full, Second}
 use Rattle.jz_grammar.specs.Deriving.{plus}

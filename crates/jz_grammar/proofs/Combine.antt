@@ -5,11 +5,31 @@ use Rattle.jz_lex.specs.declared.token.Token.{Token}
 use Rattle.jz_lex.specs.Span.{Span}
 use Rattle.jz_grammar.specs.Causes.{Cause, Unexpected, TooDeep}
 use Rattle.jz_grammar.specs.Kinds.{Kind, same, disjoint, is_in, has}
-use Rattle.jz_grammar.specs.InnerReading.{Answer, Reader, ◌>>=◌, through, one, nothing, follow, pick, nest, many_at, many, leaf, opening, inside, optional}
-use Rattle.jz_grammar.specs.Grammar.{Marked, Lang, plain, token, empty, ◌▸◌, ◌⊕◌, ◌⇒◌, nested_phrase, each, at_most, opens, maybe}
+use Rattle.jz_grammar.specs.Readers.{Answer, Reader, ◌>>=◌, through, one, follow, pick, many_at, many, leaf, opening, inside, optional}
+use Rattle.jz_grammar.specs.Grammar.{Marked, Lang, plain, token, empty, ◌▸◌, ◌⊕◌, ◌⇒◌, nested_phrase, each, opens, maybe}
 use Rattle.jz_grammar.proofs.Laws.{Shape, head_of, First, outcome, Next, Begun, Found, Stopped, IsReader, HasPhrase, one_shape, empty_shape, both, either, full, many_shape}
 use Rattle.jz_grammar.specs.Deriving.{plus}
 use Rattle.jz_grammar.proofs.Basics.{all_in, in_more, has_fewer, in_left, in_right, has_append, in_apart, has_same, head_append, plain_append, plain_rest, within_append, outcome_within, outcome_through, outcome_append, next_more, plus_le, has_join, disjoint_nil, cancel, plain_length, bind_ok, bind_err, ok_same, err_same, ok_err, err_ok, through_err}
+
+-- ---- forms that readers and grammars come to
+-- no token
+abbrev pub nothing : {A : Type 0} → A → Reader A
+nothing a ts = Ok (a, ts)
+
+-- such a token, and what is nested in it; d is how much may still be nested
+abbrev pub nest : {A : Type 0} → List Kind → (ℕ → Reader A) → ℕ → Reader (Token × A)
+nest ks inner zero ts = one ks ts >>= λ x. Err (TooDeep, ts)
+nest ks inner (suc d) ts = follow (one ks) (inner d) ts
+
+-- at most so many, one after the other
+abbrev pub at_most : {A : Type 0} → ℕ → Lang A → Lang (List A)
+at_most zero l = empty []
+at_most (suc n) l = ((l ▸ at_most n l) ⇒ (λ p. p.0 ∷ p.1)) ⊕ empty []
+
+-- any number, one after the other, where what is left from the ones before decides what each may be
+abbrev pub each_by : {S A : Type 0} → (S → Lang A) → (S → A → S) → S → Lang (List A)
+each_by l after s xs [] = xs ≡ []
+each_by l after s xs (a ∷ as') = (ys : List Marked) × (zs : List Marked) × l s ys a × each_by l after (after s a) zs as' × (xs ≡ ys ++ zs)
 
 -- ---- one token
 one_ok : (ks : List Kind) (ts : List Token) (x : Token × List Token) → one ks ts ≡ Ok x → (ts ≡ x.0 ∷ x.1) × (is_in ks x.0 ≡ true)

@@ -4,7 +4,7 @@ use Rattle.jz_lex.proofs.LexingWords.{by_cases}
 use Rattle.jz_lex.specs.declared.token.Token.{Token}
 use Rattle.jz_grammar.specs.Causes.{Cause}
 use Rattle.jz_grammar.specs.Kinds.{disjoint, has}
-use Rattle.jz_grammar.specs.InnerReading.{Answer, Reader, ◌>>=◌, depend}
+use Rattle.jz_grammar.specs.Readers.{Answer, Reader, ◌>>=◌, depend}
 use Rattle.jz_grammar.specs.Grammar.{Marked, Lang, plain, then_by}
 use Rattle.jz_grammar.proofs.Laws.{Shape, head_of, First, outcome, Found, Stopped, IsReader, HasPhrase, both}
 use Rattle.jz_grammar.proofs.Basics.{in_left, in_right, has_append, in_apart, head_append, plain_append, plain_rest, within_append, outcome_append, next_more, bind_ok, bind_err, ok_same, ok_err}

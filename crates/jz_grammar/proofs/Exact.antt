@@ -5,7 +5,7 @@ use Rattle.jz_lex.proofs.LexingWords.{by_cases, if_false, if_true}
 use Rattle.jz_lex.specs.declared.token.Token.{Token}
 use Rattle.jz_grammar.specs.Causes.{Cause, Unexpected, TooDeep}
 use Rattle.jz_grammar.specs.Kinds.{has}
-use Rattle.jz_grammar.specs.InnerReading.{Answer, Reader, final}
+use Rattle.jz_grammar.specs.Readers.{Answer, Reader, final}
 use Rattle.jz_grammar.specs.Grammar.{Marked, Lang, plain, Within}
 use Rattle.jz_grammar.proofs.Laws.{Shape, outcome, Next, Begun, IsReader}
 use Rattle.jz_grammar.specs.Deriving.{plus, Derives, Begins, BeginsWithin, IsRefused}

@@ -3,7 +3,7 @@ use Rattle.std.specs.Prelude.{◌≡◌, ◌<◌, ℕ, zero, suc, List, [], ◌�
 use Rattle.jz_lex.specs.declared.token.Token.{Token}
 use Rattle.jz_grammar.specs.Causes.{Cause, Unexpected, TooDeep}
 use Rattle.jz_grammar.specs.Kinds.{Kind, is_in, has}
-use Rattle.jz_grammar.specs.InnerReading.{Answer, Reader}
+use Rattle.jz_grammar.specs.Readers.{Answer, Reader}
 use Rattle.jz_grammar.specs.Grammar.{Marked, Lang, plain, Within}
 
 -- how phrases begin, which tokens after one would go on with it, and whether the empty one is there

@@ -4,7 +4,7 @@ use Rattle.jz_lex.specs.Span.{Span}
 use Rattle.jz_lex.specs.declared.token.Token.{Token}
 use Rattle.jz_grammar.specs.Causes.{Cause, Unexpected, TooDeep}
 use Rattle.jz_grammar.specs.Kinds.{Kind, is_in, has, span_of}
-use Rattle.jz_grammar.specs.InnerReading.{Answer, Reader, ◌>>=◌, through, one, leaf, follow, opening, inside, pick_both}
+use Rattle.jz_grammar.specs.Readers.{Answer, Reader, ◌>>=◌, through, one, leaf, follow, opening, inside, pick_both}
 use Rattle.jz_grammar.specs.Grammar.{Marked, Lang, opens}
 use Rattle.jz_grammar.proofs.Laws.{HasPhrase}
 use Rattle.jz_grammar.proofs.Combine.{one_is, one_not}

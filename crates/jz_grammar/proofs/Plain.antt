@@ -3,7 +3,7 @@ use Rattle.std.proofs.Common.{◌≡◌, ℕ, ◌≤◌, List, [], ◌∷◌, �
 use Rattle.jz_lex.specs.declared.token.Token.{Token}
 use Rattle.jz_grammar.specs.Causes.{Cause, Unexpected, TooDeep}
 use Rattle.jz_grammar.specs.Kinds.{Kind, has}
-use Rattle.jz_grammar.specs.InnerReading.{Reader, final}
+use Rattle.jz_grammar.specs.Readers.{Reader, final}
 use Rattle.jz_grammar.specs.Grammar.{Marked, Lang, plain, Within}
 use Rattle.jz_grammar.proofs.Laws.{Shape, IsReader, Next}
 use Rattle.jz_grammar.specs.Deriving.{Derives, Begins, BeginsWithin, IsRefused}

@@ -5,12 +5,12 @@ use Rattle.jz_lex.specs.declared.token.Token.{Token}
 use Rattle.jz_lex.specs.declared.token.TokenKind.TheVariants as kind
 use Rattle.jz_lex.specs.Size.TheVariants.{S64}
 use Rattle.jz_grammar.specs.Kinds.{Kind, identifier, word, number, cast, string, sign, end, is_in}
-use Rattle.jz_grammar.specs.InnerReading.{leaf}
-use Rattle.jz_grammar.specs.Grammar.{Lang, token, ◌▸◌, ◌⊕◌, ◌⇒◌, each, maybe, then_by, each_by}
+use Rattle.jz_grammar.specs.Readers.{leaf}
+use Rattle.jz_grammar.specs.Grammar.{Lang, token, ◌▸◌, ◌⊕◌, ◌⇒◌, each, maybe, then_by}
 use Rattle.jz_grammar.proofs.Laws.{IsReader, HasPhrase, one_shape}
 use Rattle.jz_grammar.specs.Deriving.{plus}
 use Rattle.jz_grammar.proofs.Basics.{same_self}
-use Rattle.jz_grammar.proofs.Combine.{leaf_reads}
+use Rattle.jz_grammar.proofs.Combine.{each_by, leaf_reads}
 
 abbrev at_start : Span
 at_start = record { line = 1; col = 1 }

@@ -4,11 +4,11 @@ use Rattle.jz_lex.proofs.LexingWords.{by_cases, true_false}
 use Rattle.jz_lex.specs.declared.token.Token.{Token}
 use Rattle.jz_grammar.specs.Causes.{Cause}
 use Rattle.jz_grammar.specs.Kinds.{Kind, disjoint, is_in, has}
-use Rattle.jz_grammar.specs.InnerReading.{Answer, Reader, ◌>>=◌, through, depend, many_by_at, many_by}
-use Rattle.jz_grammar.specs.Grammar.{Marked, Lang, plain, empty, ◌⊕◌, ◌⇒◌, then_by, each_by}
+use Rattle.jz_grammar.specs.Readers.{Answer, Reader, ◌>>=◌, through, depend, many_by_at, many_by}
+use Rattle.jz_grammar.specs.Grammar.{Marked, Lang, plain, empty, ◌⊕◌, ◌⇒◌, then_by}
 use Rattle.jz_grammar.proofs.Laws.{First, outcome, Found, Stopped, IsReader, HasPhrase, empty_shape, both, either, full, many_shape}
 use Rattle.jz_grammar.proofs.Basics.{all_in, in_more, has_fewer, has_append, has_join, cancel, plain_length}
-use Rattle.jz_grammar.proofs.Combine.{has_nil, no_kind, nothing_reads, map_reads, pick_reads, reshape, same_reads, reads_as, not_empty, shorter}
+use Rattle.jz_grammar.proofs.Combine.{each_by, has_nil, no_kind, nothing_reads, map_reads, pick_reads, reshape, same_reads, reads_as, not_empty, shorter}
 use Rattle.jz_grammar.proofs.Depend.{depend_reads}
 
 abbrev pub at_most_by : {S A : Type 0} → ℕ → (S → Lang A) → (S → A → S) → S → Lang (List A)

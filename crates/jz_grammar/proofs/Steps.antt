@@ -3,10 +3,10 @@ use Rattle.std.proofs.Common.{◌≡◌, ℕ, zero, suc, ◌-◌, List, [], ◌�
 use Rattle.jz_lex.specs.declared.token.Token.{Token}
 use Rattle.jz_grammar.specs.Causes.{Cause}
 use Rattle.jz_grammar.specs.Kinds.{Kind, disjoint, has}
-use Rattle.jz_grammar.specs.InnerReading.{Answer, Reader, ◌>>=◌, through, follow, many, many_at, more_of, few_of, listed_items, listed_few}
-use Rattle.jz_grammar.specs.Grammar.{Lang, ◌▸◌, ◌⇒◌, each, at_most}
+use Rattle.jz_grammar.specs.Readers.{Answer, Reader, ◌>>=◌, through, follow, many, many_at, more_of, few_of}
+use Rattle.jz_grammar.specs.Grammar.{Lang, ◌▸◌, ◌⇒◌, each}
 use Rattle.jz_grammar.proofs.Laws.{IsReader, full, both, many_shape}
-use Rattle.jz_grammar.proofs.Combine.{many_next, many_done, many_reads, at_most_reads, some_at_most, follow_reads, map_reads, reads_as}
+use Rattle.jz_grammar.proofs.Combine.{at_most, many_next, many_done, many_reads, at_most_reads, some_at_most, follow_reads, map_reads, reads_as}
 
 module _ {A : Type 0} {f : Reader A} {l : ℕ → Lang A} (ks go : List Kind) (F : IsReader f l (full ks go)) where
   pub more_done : (out : List A) (ts : List Token) → has ks ts ≡ false → more_of ks f out ts ≡ Ok (out, ts)
@@ -56,6 +56,13 @@ module _ {A : Type 0} (f : Reader A) (ks : List Kind) where
   few_wrong (suc n) out ts us k m h e = rw h (ap (λ z. through {A = List A} (λ ps. out ++ ps) (through {A = A × List A} (λ w. w.0 ∷ w.1) (z >>= λ x. many_at n ks f x.1 >>= λ y. Ok ((x.0, y.0), y.1)))) e)
 
 -- ---- whole lists
+-- one and any number more, or one and at most n more
+abbrev pub listed_items : {A : Type 0} → List Kind → Reader A → Reader A → Reader (List A)
+listed_items ks first f ts = first ts >>= λ x. more_of ks f (x.0 ∷ []) x.1
+
+abbrev pub listed_few : {A : Type 0} → ℕ → List Kind → Reader A → Reader A → Reader (List A)
+listed_few n ks first f ts = first ts >>= λ x. few_of n ks f (x.0 ∷ []) x.1
+
 put_first : {A : Type 0} (a : A) (w : Answer (List A)) → through {A = A × List A} (λ p. p.0 ∷ p.1) (w >>= λ y. Ok ((a, y.0), y.1)) ≡ through (λ ps. (a ∷ []) ++ ps) w
 put_first a (Ok y) = refl
 put_first a (Err e) = refl

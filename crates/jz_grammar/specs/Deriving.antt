@@ -3,7 +3,6 @@ use Rattle.std.specs.Prelude.{◌≡◌, ◌<◌, ℕ, zero, suc, List, [], ◌�
 use Rattle.jz_lex.specs.declared.token.Token.{Token}
 use Rattle.jz_grammar.specs.Causes.{Cause, Unexpected, TooDeep}
 use Rattle.jz_grammar.specs.Kinds.{Kind, is_in, has}
-use Rattle.jz_grammar.specs.InnerReading.{Answer, Reader}
 use Rattle.jz_grammar.specs.Grammar.{Marked, Lang, plain, Within}
 
 -- a more than b; it computes by a

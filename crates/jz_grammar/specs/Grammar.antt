@@ -58,16 +58,6 @@ abbrev pub each : {A : Type 0} → Lang A → Lang (List A)
 each l xs [] = xs ≡ []
 each l xs (a ∷ as') = (ys : List Marked) × (zs : List Marked) × l ys a × each l zs as' × (xs ≡ ys ++ zs)
 
--- at most so many, one after the other
-abbrev pub at_most : {A : Type 0} → ℕ → Lang A → Lang (List A)
-at_most zero l = empty []
-at_most (suc n) l = ((l ▸ at_most n l) ⇒ (λ p. p.0 ∷ p.1)) ⊕ empty []
-
--- any number, one after the other, where what is left from the ones before decides what each may be
-abbrev pub each_by : {S A : Type 0} → (S → Lang A) → (S → A → S) → S → Lang (List A)
-each_by l after s xs [] = xs ≡ []
-each_by l after s xs (a ∷ as') = (ys : List Marked) × (zs : List Marked) × l s ys a × each_by l after (after s a) zs as' × (xs ≡ ys ++ zs)
-
 -- the tokens without their marks
 abbrev pub plain : List Marked → List Token
 plain xs = map (λ x. x.0) xs

@@ -1,11 +1,12 @@
 pub mod Causes
 pub mod Kinds
-pub mod InnerReading
+pub mod Readers
 pub mod Grammar
 pub mod Places
 pub mod Tokens
-pub mod InnerGave
-pub mod InnerTokens
+pub mod Gave
+pub mod InnerNumbered
+pub mod TokenReaders
 pub mod Parts
 pub use Rattle.jz_lex.specs.Ct
 pub use Rattle.jz_lex.specs.Failure

@@ -2,8 +2,8 @@
 
 ghost use Rattle.std.specs.Prelude.{◌≡◌, ◌<◌, [], ◌∷◌, length, drop, IfOk};
 ghost use Rattle.jz_grammar.specs.Kinds.{identifier, word, number, cast, string, sign, end, span_of, has};
-ghost use Rattle.jz_grammar.specs.InnerReading.{leaf, opening, has_both};
-ghost use Rattle.jz_grammar.specs.InnerGave.{Gave};
+ghost use Rattle.jz_grammar.specs.Readers.{leaf, opening, has_both};
+ghost use Rattle.jz_grammar.specs.Gave.{Gave};
 ghost use Rattle.jz_grammar.specs.Tokens.{name_of, number_of_token, cast_of, string_of, word_types, size_of_token};
 
 use crate::fault::SyntaxKind;
@@ -140,7 +140,7 @@ impl<'a> Cursor<'a> {
         }
     }
 
-    #[tactic(auto, unfolding(crate::specs::InnerReading::one))]
+    #[tactic(auto, unfolding(crate::specs::Readers::one))]
     pub fn word(&mut self, text: &str) -> Result<Span, Stop>
         ensures { Gave result self.new (leaf (word text.now ∷ []) span_of self.old) }
     {
@@ -153,7 +153,7 @@ impl<'a> Cursor<'a> {
         }
     }
 
-    #[tactic(auto, unfolding(crate::specs::InnerReading::one))]
+    #[tactic(auto, unfolding(crate::specs::Readers::one))]
     pub fn sign(&mut self, text: &str) -> Result<Span, Stop>
         ensures { Gave result self.new (leaf (sign text.now ∷ []) span_of self.old) }
     {
@@ -167,7 +167,7 @@ impl<'a> Cursor<'a> {
     }
 
     /// An identifier: its text and its place.
-    #[tactic(auto, unfolding(crate::specs::InnerReading::one))]
+    #[tactic(auto, unfolding(crate::specs::Readers::one))]
     pub fn name(&mut self, alloc: Global) -> Result<(Text, Span), Stop>
         ensures { Gave result self.new (leaf (identifier ∷ []) name_of self.old) }
     {
@@ -182,7 +182,7 @@ impl<'a> Cursor<'a> {
     }
 
     /// A number and its place.
-    #[tactic(auto, unfolding(crate::specs::InnerReading::one))]
+    #[tactic(auto, unfolding(crate::specs::Readers::one))]
     pub fn number(&mut self) -> Result<(i128, Span), Stop>
         ensures { Gave result self.new (leaf (number ∷ []) number_of_token self.old) }
     {
@@ -196,7 +196,7 @@ impl<'a> Cursor<'a> {
     }
 
     /// A cast: the size that it gives, and whether it extends the sign.
-    #[tactic(auto, unfolding(crate::specs::InnerReading::one))]
+    #[tactic(auto, unfolding(crate::specs::Readers::one))]
     pub fn cast(&mut self) -> Result<(Size, bool), Stop>
         ensures { Gave result self.new (leaf (cast ∷ []) cast_of self.old) }
     {
@@ -210,7 +210,7 @@ impl<'a> Cursor<'a> {
     }
 
     /// A string: the bytes between its quotes.
-    #[tactic(auto, unfolding(crate::specs::InnerReading::one))]
+    #[tactic(auto, unfolding(crate::specs::Readers::one))]
     pub fn string(&mut self, alloc: Global) -> Result<Seq<u8>, Stop>
         ensures { Gave result self.new (leaf (string ∷ []) string_of self.old) }
     {
@@ -225,7 +225,7 @@ impl<'a> Cursor<'a> {
     }
 
     /// The size of a word's type.
-    #[tactic(auto, unfolding(crate::specs::InnerReading::one))]
+    #[tactic(auto, unfolding(crate::specs::Readers::one))]
     pub fn word_type(&mut self) -> Result<Size, Stop>
         ensures { Gave result self.new (leaf word_types size_of_token self.old) }
     {
@@ -238,7 +238,7 @@ impl<'a> Cursor<'a> {
         }
     }
 
-    #[tactic(auto, unfolding(crate::specs::InnerReading::one))]
+    #[tactic(auto, unfolding(crate::specs::Readers::one))]
     pub fn end(&mut self) -> Result<Span, Stop>
         ensures { Gave result self.new (leaf (end ∷ []) span_of self.old) }
     {

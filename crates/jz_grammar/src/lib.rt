@@ -1,7 +1,6 @@
 //! Grammars and readers: which lists of tokens stand for which values, how tokens are read from the
-//! left, and what joins them. There is no code here; the crate of the parser gives the readers as
-//! functions.
-//! The tokens that are still to be read, what each one tells, and the faults of a list of tokens.
+//! left, and what joins them. The tokens that are still to be read, what each one tells, and the
+//! faults of a list of tokens.
 #![tactic(auto)]
 
 mod cursor;

@@ -14,14 +14,6 @@ abbrev pub on_left : List Waiting → Expr → Expr
 on_left [] e = e
 on_left (w ∷ ws) e = Bin w.op (on_left ws e) w.right.now w.span
 
-abbrev pub IsSingleLayer : {A B C D E : Type 0} → Expr-F A B C D E → Type 0
-IsSingleLayer (Expr-F.Bin op a b at) = ⊥
-IsSingleLayer _ = Unit {0}
-
--- it is no operation on two operands
-abbrev pub IsSingle : Expr → Type 0
-IsSingle e = IsSingleLayer (out-Expr e)
-
 abbrev pub left_layer : {B C D E : Type 0} → Expr → Expr-F Expr B C D E → Expr
 left_layer e (Expr-F.Bin op a b at) = a
 left_layer e _ = e

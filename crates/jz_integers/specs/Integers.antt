@@ -1,7 +1,8 @@
 -- What the operators give on whole numbers and on truths, and the value of an inline expression.
-use Rattle.std.specs.Prelude.{ℕ, ◌^◌, nat_lt, Bool, true, false, not, ◌||◌, List, Option, Some, None, option_map, if◌then◌else◌, ℤ, pos, negsuc, neg_ℤ, ◌+ℤ◌, ◌-ℤ◌, ◌*ℤ◌, int_lt, int_le, int_div, int_rem}
+use Rattle.std.specs.Prelude.{ℕ, ◌^◌, nat_lt, Bool, false, not, ◌||◌, List, Option, Some, None, option_map, if◌then◌else◌, ℤ, pos, negsuc, neg_ℤ, ◌+ℤ◌, ◌-ℤ◌, ◌*ℤ◌, int_lt, int_le, int_div, int_rem}
 use Rattle.std.specs.Ordering.{int_eq}
 use Rattle.std.specs.Int.{w128, int_bit_and, int_bit_or, int_bit_xor, int_bit_not, int_shr}
+use Rattle.jz_tree.specs.Operators.{joins}
 use Rattle.jz_tree.specs.declared.expr.BinOp.{BinOp}
 use Rattle.jz_tree.specs.declared.expr.BinOp.TheVariants as o
 use Rattle.jz_tree.specs.declared.expr.Expr.{Expr}
@@ -74,11 +75,6 @@ on_integers o.Ge i j = truth (int_le j i)
 on_integers _ i j = None
 
 -- ---- values
-
-abbrev pub joins : BinOp → Bool
-joins o.AndThen = true
-joins o.OrElse = true
-joins _ = false
 
 -- the left part alone gives the answer
 abbrev pub settles : BinOp → Bool → Bool

@@ -1,14 +1,15 @@
 //! The values of inline expressions.
 
 ghost use Rattle.std.specs.Prelude.{◌≡◌, IfOk};
+ghost use Rattle.jz_tree.specs.LeftSides.{IsSingle};
 ghost use Rattle.jz_integers.specs.Integers as values;
-ghost use Rattle.jz_integers.specs.InnerLeftSides.{IsSingle, value_after};
+ghost use Rattle.jz_integers.specs.InnerLeftSides.{value_after};
 
 use crate::Constant;
 use crate::arithmetic::{inverted, negated, on_integers};
 use crate::lookup::Numbers;
 use crate::sides::{LeftSide, Waiting, left_side};
-use jz_tree::{BinOp, Expr};
+use jz_tree::{BinOp, Expr, joins};
 use std::alloc::{AllocError, Global};
 
 pub(super) fn minus(value: Option<Constant>) -> Option<Constant>
@@ -42,12 +43,6 @@ pub(super) fn is_settled(op: BinOp, left: Constant) -> bool
         (BinOp::OrElse, Constant::Bool(truth)) => truth,
         _ => false,
     }
-}
-
-fn joins(op: BinOp) -> bool
-    ensures { result ≡ values.joins op }
-{
-    matches!(op, BinOp::AndThen | BinOp::OrElse)
 }
 
 pub(super) fn on_both(op: BinOp, left: Constant, right: Constant) -> Option<Constant>

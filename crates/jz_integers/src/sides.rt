@@ -1,7 +1,8 @@
 //! Expressions by their left side, which may be as long as a text.
 
 ghost use Rattle.std.specs.Prelude.{◌≡◌, IfOk};
-ghost use Rattle.jz_integers.specs.InnerLeftSides.{on_left, IsSingle};
+ghost use Rattle.jz_tree.specs.LeftSides.{IsSingle};
+ghost use Rattle.jz_integers.specs.InnerLeftSides.{on_left};
 
 use jz_tree::{BinOp, Expr, Span};
 use std::alloc::{AllocError, Global};

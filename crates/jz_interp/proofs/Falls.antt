@@ -14,7 +14,7 @@ use Rattle.jz_tree.specs.declared.stmt.StmtKind.TheVariants as kind
 use Rattle.jz_tree.specs.declared.stmt.StmtKind.TheOpen.{StmtKind-F}
 use Rattle.jz_tree.specs.declared.stmt.StmtKind.TheFolds.{fold-StmtKind, fold-roll-Stmt, fold-roll-StmtKind}
 use Rattle.jz_type_names.specs.Scopes.{function_named}
-use Rattle.jz_interp.specs.Calls.{called_function}
+use Rattle.jz_interp.specs.InnerCalls.{called_function}
 use Rattle.jz_interp.proofs.Weights.{kind_weight, weight, weights, body_weight, total, level}
 
 weight_kind : StmtKind → ℕ

@@ -4,6 +4,5 @@ pub mod Falls
 pub mod Pieces
 pub mod Rules
 pub mod Starts
-pub mod Steps
 pub mod Taken
 pub mod Weights

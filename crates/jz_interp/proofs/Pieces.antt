@@ -15,7 +15,7 @@ use Rattle.jz_tree.specs.declared.stmt.StmtKind.TheFolds.{fold-StmtKind, fold-ro
 use Rattle.jz_meaning.specs.Trees.{done, quiet, choose, loop, each}
 use Rattle.jz_meaning.specs.Statements.{Block, unset}
 use Rattle.jz_meaning.specs.Runs.{Callees, block, statement_tree, kind_tree, assign_tree}
-use Rattle.jz_interp.specs.Parts.{body_piece}
+use Rattle.jz_interp.specs.InnerParts.{body_piece}
 
 module _ (callees : Callees) where
   kind_piece : StmtKind → Span → Block → Block

@@ -10,6 +10,10 @@ use Rattle.jz_tree.specs.declared.program.Program.{Program}
 use Rattle.jz_tree.specs.declared.program.Fun.{Fun}
 use Rattle.jz_tree.specs.declared.program.Param.{Param}
 use Rattle.jz_leak.specs.declared.leak.Item.{Item}
+use Rattle.jz_runs.specs.Views.{leak_view, leak_of, items_view}
+use Rattle.jz_runs.specs.ShownRuns.{Runs, Leads}
+use Rattle.jz_runs.proofs.Items.{items_so}
+use Rattle.jz_runs.proofs.Shown.{ended, was_cut, was_stuck, runs_whole}
 use Rattle.jz_meaning.specs.Trees.{done}
 use Rattle.jz_meaning.specs.Rules.{stuck, went, Outcome, End, Cut, Stuck}
 use Rattle.jz_meaning.specs.declared.value.Stuck as why
@@ -18,13 +22,11 @@ use Rattle.jz_meaning.specs.States.{Value, word, Store, put, State}
 use Rattle.jz_meaning.specs.Values.{key_of, ref_of}
 use Rattle.jz_meaning.specs.Statements.{source}
 use Rattle.jz_meaning.specs.Runs.{block, callees_of, with_arguments, entry_state, result_word, result_words, outcome_of_words, outcome_of_body, IsInput}
-use Rattle.jz_interp.specs.ShownRuns.{leak_of, Runs, Leads}
 use Rattle.jz_interp.specs.declared.outcome.Outcome as code
 use Rattle.jz_interp.specs.declared.outcome.Outcome.TheVariants as outcome
 use Rattle.jz_interp.specs.Outcomes.{values_of, Takes, Shows, Interprets}
-use Rattle.jz_interp.specs.Answers.{values_first, BodyShows}
+use Rattle.jz_interp.specs.InnerAnswers.{values_first, BodyShows}
 use Rattle.jz_run_assign.proofs.RestLemmas.{rest_at, rest_some, rest_none}
-use Rattle.jz_interp.proofs.Steps.{ended, was_cut, was_stuck, runs_whole}
 
 -- ---- arguments
 
@@ -80,24 +82,24 @@ module _ (xs : List Var) (i : ℕ) (ws : List code_word.Word) (store : Store) (s
 -- ---- a function's body
 
 module _ (fs : List Fun) (f : Fun) (words : List Value) (memory : Memory) (n d : ℕ) (s : State) (id : d ≡ length fs) (is : s ≡ entry_state f words memory) where
-  body_runs : (o : Outcome State why.Stuck (List Item)) → Leads source (block (callees_of fs d) f.body) n s o → Runs source (block (callees_of fs (length fs)) f.body done) n (entry_state f words memory) o
+  body_runs : (o : Outcome State why.Stuck (List Item)) → Leads items_view source (block (callees_of fs d) f.body) n s o → Runs items_view source (block (callees_of fs (length fs)) f.body done) n (entry_state f words memory) o
   body_runs o h =
-      let r = subst (λ x. Leads source (block (callees_of fs x) f.body) n s o) id h in
-      let q = subst (λ x. Leads source (block (callees_of fs (length fs)) f.body) n x o) is r in
-      runs_whole source (block (callees_of fs (length fs)) f.body) n (entry_state f words memory) o q
+      let r = subst (λ x. Leads items_view source (block (callees_of fs x) f.body) n s o) id h in
+      let q = subst (λ x. Leads items_view source (block (callees_of fs (length fs)) f.body) n x o) is r in
+      runs_whole items_view source (block (callees_of fs (length fs)) f.body) n (entry_state f words memory) o q
 
-  pub body_stuck : (k : why.Stuck) → Leads source (block (callees_of fs d) f.body) n s (Stuck k) → BodyShows fs f words memory n (outcome.Stuck k)
-  body_stuck k h = let r = body_runs (Stuck k) h in record { out = r.out; goes = r.goes; shows = subst (λ o. Shows (outcome_of_body f.result o) (outcome.Stuck k)) (sym (was_stuck r.out k r.is)) refl }
+  pub body_stuck : (k : why.Stuck) → Leads items_view source (block (callees_of fs d) f.body) n s (Stuck k) → BodyShows fs f words memory n (outcome.Stuck k)
+  body_stuck k h = let r = body_runs (Stuck k) h in record { out = r.out; goes = r.goes; shows = subst (λ o. Shows (outcome_of_body f.result o) (outcome.Stuck k)) (sym (was_stuck (leak_view items_view) r.out k r.is)) refl }
 
-  pub body_cut : (items : List Item) → Leads source (block (callees_of fs d) f.body) n s (Cut items) → BodyShows fs f words memory n (outcome.Cut (record { items = items }))
+  pub body_cut : (items : List Item) → Leads items_view source (block (callees_of fs d) f.body) n s (Cut items) → BodyShows fs f words memory n (outcome.Cut (record { items = items }))
   body_cut items h =
-      let r = body_runs (Cut items) h in let x = was_cut r.out items r.is in
-      record { out = r.out; goes = r.goes; shows = subst (λ o. Shows (outcome_of_body f.result o) (outcome.Cut (record { items = items }))) (sym x.1) (ap leak_of x.2) }
+      let r = body_runs (Cut items) h in let x = was_cut (leak_view items_view) r.out items r.is in
+      record { out = r.out; goes = r.goes; shows = subst (λ o. Shows (outcome_of_body f.result o) (outcome.Cut (record { items = items }))) (sym x.1) (ap leak_of (sym (items_so x.0) ∙ x.2)) }
 
-  module _ (t : State) (m : ℕ) (items : List Item) (h : Leads source (block (callees_of fs d) f.body) n s (End t m items)) where
+  module _ (t : State) (m : ℕ) (items : List Item) (h : Leads items_view source (block (callees_of fs d) f.body) n s (End t m items)) where
     pub results_are_stuck : (k : why.Stuck) → stuck k ≡ result_words f.result t.store → BodyShows fs f words memory n (outcome.Stuck k)
     results_are_stuck k e =
-        let r = body_runs (End t m items) h in let x = ended r.out t m items r.is in
+        let r = body_runs (End t m items) h in let x = ended (leak_view items_view) r.out t m items r.is in
         record {
           out = r.out;
           goes = r.goes;
@@ -106,11 +108,11 @@ module _ (fs : List Fun) (f : Fun) (words : List Value) (memory : Memory) (n d :
 
     pub body_ends : (ws : List code_word.Word) → went [] (values_of ws) ≡ result_words f.result t.store → BodyShows fs f words memory n (outcome.End ws t.memory (record { items = items }))
     body_ends ws e =
-        let r = body_runs (End t m items) h in let x = ended r.out t m items r.is in
+        let r = body_runs (End t m items) h in let x = ended (leak_view items_view) r.out t m items r.is in
         record {
           out = r.out;
           goes = r.goes;
-          shows = subst (λ o. Shows (outcome_of_body f.result o) (outcome.End ws t.memory (record { items = items }))) (sym x.1) (subst (λ g. Shows (outcome_of_words t.memory m x.0 g) (outcome.End ws t.memory (record { items = items }))) e (refl, refl, ap leak_of x.2));
+          shows = subst (λ o. Shows (outcome_of_body f.result o) (outcome.End ws t.memory (record { items = items }))) (sym x.1) (subst (λ g. Shows (outcome_of_words t.memory m x.0 g) (outcome.End ws t.memory (record { items = items }))) e (refl, refl, ap leak_of (sym (items_so x.0) ∙ x.2)));
         }
 
 -- ---- the function at a place

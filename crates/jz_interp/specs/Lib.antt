@@ -1,7 +1,6 @@
-pub mod Answers
-pub mod Calls
-pub mod Ends
+pub mod InnerAnswers
+pub mod InnerCalls
+pub mod InnerEnds
+pub mod InnerParts
+pub mod InnerRounds
 pub mod Outcomes
-pub mod Parts
-pub mod Rounds
-pub mod ShownRuns

@@ -2,7 +2,7 @@
 
 ghost use Rattle.std.specs.Prelude.{◌≡◌, ◌-◌, if◌then◌else◌};
 ghost use Rattle.std.specs.Option.{option_copied};
-ghost use Rattle.jz_interp.specs.Calls.{called_function};
+ghost use Rattle.jz_interp.specs.InnerCalls.{called_function};
 
 use crate::code::Code;
 use jz_tree::{BinOp, Expr, Fun, Seq, Stmt, Text};

@@ -3,8 +3,8 @@
 ghost use Rattle.std.specs.Prelude.{◌≡◌, [], ◌∷◌, true, false, MatchOption};
 ghost use Rattle.jz_meaning.specs.Stores.{state_of};
 ghost use Rattle.jz_meaning.specs.Statements.{counts, values_between};
-ghost use Rattle.jz_interp.specs.Parts.{counter_of};
-ghost use Rattle.jz_interp.specs.Rounds.{values_left, GivesValues};
+ghost use Rattle.jz_interp.specs.InnerParts.{counter_of};
+ghost use Rattle.jz_interp.specs.InnerRounds.{values_left, GivesValues};
 
 use crate::parts::Counter;
 use jz_meaning::{State, Stuck};

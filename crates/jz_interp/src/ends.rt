@@ -2,8 +2,8 @@
 
 ghost use Rattle.std.specs.Prelude.{◌≡◌, [], ◌∷◌, IfOk};
 ghost use Rattle.jz_leak.specs.declared.leak.Item.TheVariants as item;
-ghost use Rattle.jz_interp.specs.ShownRuns.{leak_of, turn_of};
-ghost use Rattle.jz_interp.specs.Ends.{wrapped_run};
+ghost use Rattle.jz_runs.specs.Views.{leak_of, turn_of};
+ghost use Rattle.jz_interp.specs.InnerEnds.{wrapped_run};
 
 use jz_leak::{Item, Leak, Turn};
 use jz_tree::Seq;

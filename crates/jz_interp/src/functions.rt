@@ -5,7 +5,7 @@ ghost use Rattle.jz_tree.specs.Failures.{IfAnswered};
 ghost use Rattle.jz_meaning.specs.Stores.{store_of};
 ghost use Rattle.jz_meaning.specs.Runs as runs;
 ghost use Rattle.jz_interp.specs.Outcomes.{values_of};
-ghost use Rattle.jz_interp.specs.Answers.{word_seen, words_seen, outcome_of, BodyShows};
+ghost use Rattle.jz_interp.specs.InnerAnswers.{word_seen, words_seen, outcome_of, BodyShows};
 
 use crate::code::Code;
 use crate::ends::Ran;

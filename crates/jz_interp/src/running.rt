@@ -4,11 +4,11 @@
 ghost use Rattle.jz_meaning.specs.Trees as tree;
 ghost use Rattle.jz_meaning.specs.Runs.{block, statement_tree};
 ghost use Rattle.jz_run_assign.specs.Passings.{call_of};
-ghost use Rattle.jz_interp.specs.Parts.{callees_in, condition_of, counter_of};
-ghost use Rattle.jz_interp.specs.Parts.{assignment_tree, named_call_tree, while_tree};
-ghost use Rattle.jz_interp.specs.Parts.{inner_block, body_piece, inner_body};
-ghost use Rattle.jz_interp.specs.Rounds.{values_left};
-ghost use Rattle.jz_interp.specs.Ends.{RunsPiece, RunsTurn, RunsTest, RunsAllRounds};
+ghost use Rattle.jz_interp.specs.InnerParts.{callees_in, condition_of, counter_of};
+ghost use Rattle.jz_interp.specs.InnerParts.{assignment_tree, named_call_tree, while_tree};
+ghost use Rattle.jz_interp.specs.InnerParts.{inner_block, body_piece, inner_body};
+ghost use Rattle.jz_interp.specs.InnerRounds.{values_left};
+ghost use Rattle.jz_interp.specs.InnerEnds.{RunsPiece, RunsTurn, RunsTest, RunsAllRounds};
 
 use crate::arms::{arm, callee_of};
 use crate::code::Code;
@@ -17,8 +17,8 @@ use crate::ends::{Ran, RoundsEnd, TurnEnd, end_of_if, one, turn};
 use crate::parts::{Counter, Named, Test};
 use crate::straight::{run_instruction, run_value};
 use jz_leak::{Item, Leak};
-use jz_meaning::{State, Stuck, Value};
-use jz_run_assign::{Assignment, Call, enter, leave, missing, set, truth_in, unset_all, value_of};
+use jz_meaning::{State, Stuck, Value, missing};
+use jz_run_assign::{Assignment, Call, enter, leave, set, truth_in, unset_all, value_of};
 use jz_tree::{Failure, Rhs, Seq, Stmt, StmtKind, Var};
 use std::mem::replace;
 

@@ -2,14 +2,14 @@
 
 ghost use Rattle.jz_meaning.specs.Trees as tree;
 ghost use Rattle.jz_meaning.specs.Statements as statements;
-ghost use Rattle.jz_interp.specs.Parts.{value_assignment, named_instruction_tree};
-ghost use Rattle.jz_interp.specs.Ends.{RunsPiece};
+ghost use Rattle.jz_interp.specs.InnerParts.{value_assignment, named_instruction_tree};
+ghost use Rattle.jz_interp.specs.InnerEnds.{RunsPiece};
 
 use crate::ends::{Ran, one};
 use crate::parts::Named;
 use jz_leak::Item;
-use jz_meaning::{State, Stuck};
-use jz_run_assign::{Assignment, assign, missing};
+use jz_meaning::{State, Stuck, missing};
+use jz_run_assign::{Assignment, assign};
 use jz_run_instruct::instruct;
 use jz_tree::{Expr, Failure, Lval, Seq};
 

@@ -2,6 +2,7 @@
 use Rattle.std.proofs.Common.{◌≡◌, Bool, true, false, ◌&&◌, List, [], ◌∷◌, ◌++◌, ◌⊎◌, inl, inr, Option, Some, None, flat_map, refl, sym, ap, ◌∙◌, subst}
 use Rattle.std.specs.Prelude.{if◌then◌else◌, is_some}
 use Rattle.std.proofs.lemmas.Bool.{false≢true, and_parts, and_from}
+use Rattle.std.specs.Option.{option_or}
 use Rattle.jz_tree.specs.Span.{Span}
 use Rattle.jz_tree.specs.Size.{Size}
 use Rattle.jz_tree.specs.declared.expr.BinOp.{BinOp}
@@ -10,7 +11,7 @@ use Rattle.jz_tree.specs.declared.stmt.Lval.{Lval}
 use Rattle.jz_type_names.specs.Order.{unless}
 use Rattle.jz_type_names.specs.Parts.{span_of}
 use Rattle.jz_type_sizes.specs.declared.wants.Want.TheVariants as want
-use Rattle.jz_type_sizes.specs.Wants.{or_size, own_size}
+use Rattle.jz_type_sizes.specs.Wants.{own_size}
 use Rattle.jz_type_sizes.specs.Typings.{Typing}
 use Rattle.jz_type_sizes.specs.Sides.{left_form, within, any_size, takes}
 use Rattle.jz_type_sizes.specs.Values.{value_typing, single, is_product, product_size, product_of, with_flag, value_wrong}
@@ -36,11 +37,11 @@ module _ (h l : Lval) (t : Typing) (x : Term) (v : Valued t x) (at : Span) where
   who : (z : Size) → size ≡ Some z → Holds (word z) h → Holds (word z) l → Who z
   who z e hh hl = at_high (left_form h).size refl e
     where
-      at_low : (s : Option Size) → (left_form l).size ≡ s → or_size s t.form.size ≡ Some z → Who z
+      at_low : (s : Option Size) → (left_form l).size ≡ s → option_or s t.form.size ≡ Some z → Who z
       at_low None n e = inr (inr (v.agrees.says z e))
       at_low (Some y) n e = inr (inl (holds_wants z y l hl n))
 
-      at_high : (s : Option Size) → (left_form h).size ≡ s → or_size s (or_size (left_form l).size t.form.size) ≡ Some z → Who z
+      at_high : (s : Option Size) → (left_form h).size ≡ s → option_or s (option_or (left_form l).size t.form.size) ≡ Some z → Who z
       at_high None n e = at_low (left_form l).size refl e
       at_high (Some y) n e = inl (holds_wants z y h hh n)
 
@@ -56,11 +57,11 @@ module _ (h l : Lval) (t : Typing) (x : Term) (v : Valued t x) (at : Span) where
       at_value None r p q = absurd (nobody p q r w)
       at_value (Some y) r p q = ap (λ (u : Size). Some u) (v.agrees.one y z n r)
 
-      at_low : (s : Option Size) → (left_form l).size ≡ s → (left_form h).size ≡ None → or_size s t.form.size ≡ Some z
+      at_low : (s : Option Size) → (left_form l).size ≡ s → (left_form h).size ≡ None → option_or s t.form.size ≡ Some z
       at_low None q p = at_value t.form.size refl p q
       at_low (Some y) q p = ap (λ (u : Size). Some u) (holds_size z y l hl q)
 
-      at_high : (s : Option Size) → (left_form h).size ≡ s → or_size s (or_size (left_form l).size t.form.size) ≡ Some z
+      at_high : (s : Option Size) → (left_form h).size ≡ s → option_or s (option_or (left_form l).size t.form.size) ≡ Some z
       at_high None p = at_low (left_form l).size refl p
       at_high (Some y) p = ap (λ (u : Size). Some u) (holds_size z y h hh p)
 
@@ -88,7 +89,7 @@ module _ (h l : Lval) (t : Typing) (x : Term) (v : Valued t x) (at : Span) where
       let hl = holds_word z l f.1 f.4 in
       lefts.words z (who z e hh hl) hh hl (v.agrees.holds (word z) f.2)
   product_in None e f =
-      let n = neither_size (left_form h).size (or_size (left_form l).size t.form.size) e in
+      let n = neither_size (left_form h).size (option_or (left_form l).size t.form.size) e in
       let m = neither_size (left_form l).size t.form.size n.1 in
       lefts.numbers (holds_none h n.0 f.0 f.3) (holds_none l m.0 f.1 f.4) (v.agrees.holds unsized f.2)
 
@@ -105,7 +106,7 @@ module _ (h l : Lval) (t : Typing) (x : Term) (v : Valued t x) (at : Span) where
       let n = v.agrees.right unsized g in
       let a = none_holds h lh in
       let b = none_holds l ll in
-      let e = no_sizes (left_form h).size (or_size (left_form l).size t.form.size) (leaves_size h unsized lh) (no_sizes (left_form l).size t.form.size (leaves_size l unsized ll) (v.agrees.free n)) in
+      let e = no_sizes (left_form h).size (option_or (left_form l).size t.form.size) (leaves_size h unsized lh) (no_sizes (left_form l).size t.form.size (leaves_size l unsized ll) (v.agrees.free n)) in
       subst (λ s. product_of s h l t at ≡ []) (sym e) (whole None (a.0, b.0, n, a.1, b.1))
 
 -- ---- a flag and a value

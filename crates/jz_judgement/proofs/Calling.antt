@@ -3,6 +3,7 @@ use Rattle.std.proofs.Common.{◌≡◌, Bool, true, false, ◌&&◌, ◌||◌, 
 use Rattle.std.specs.Prelude.{if◌then◌else◌, is_some, is_none, nat_eq, All}
 use Rattle.std.proofs.lemmas.Bool.{false≢true, and_parts, and_from, eqb-true, eq-eqb}
 use Rattle.std.proofs.lemmas.List.Elements.{All-nil, All-cons, All-head, All-tail}
+use Rattle.std.specs.Option.{option_or}
 use Rattle.jz_tree.specs.Span.{Span}
 use Rattle.jz_tree.specs.Size.{Size}
 use Rattle.jz_tree.specs.Size.TheVariants as sizes
@@ -25,14 +26,13 @@ use Rattle.jz_type_names.specs.declared.kinds.Kind.TheVariants as kind
 use Rattle.jz_type_names.specs.Order.{unless}
 use Rattle.jz_type_names.specs.Kinds.{known_of, is_inline_int, kind_of, array_of, whole_array}
 use Rattle.jz_type_names.specs.Scopes.{name_of}
-use Rattle.jz_type_names.specs.Parts.{Layer, layer_of, span_of, statements_of}
+use Rattle.jz_type_names.specs.Parts.{Layer, layer_of, span_of, statements_of, is_skip}
 use Rattle.jz_type_sizes.specs.declared.signatures.Role.{Role}
 use Rattle.jz_type_sizes.specs.declared.signatures.Role.TheVariants as role
 use Rattle.jz_type_sizes.specs.declared.wants.Want.TheVariants as want
-use Rattle.jz_type_sizes.specs.Wants.{or_size}
 use Rattle.jz_type_sizes.specs.Firsts.{wrong_beside}
 use Rattle.jz_type_sizes.specs.Typings.{typing}
-use Rattle.jz_type_sizes.specs.Sides.{left_form, is_skip, within, any_size, takes}
+use Rattle.jz_type_sizes.specs.Sides.{left_form, within, any_size, takes}
 use Rattle.jz_type_sizes.specs.Signatures.{Signature, signature}
 use Rattle.jz_type_sizes.specs.Intrinsics.{role_want, role_size, value_size, result_size, argument_size, size_of_intrinsic, argument_wrong, result_wrong, none_more, are_counted, intrinsic_wrong}
 use Rattle.jz_type_sizes.specs.Calls.{is_declared, is_that_array, passed_as, passed_by, passed_wrong, takes_kind, takes_result, given_wrong, is_callee, fits_call, call_wrong, returned_one, none_beyond, returned_wrong}
@@ -259,7 +259,7 @@ outputs_hold z at (r ∷ rs) (d ∷ ds) n l e =
 
 no_result_size : (g : Signature) (to : List Lval) (args : List Expr) → size_of_intrinsic g to args ≡ None → result_size g.results to ≡ None
 no_result_size g to args e =
-    (neither_size (result_size g.results to) (argument_size g.arguments args) (neither_size g.size (or_size (result_size g.results to) (argument_size g.arguments args)) e).1).0
+    (neither_size (result_size g.results to) (argument_size g.arguments args) (neither_size g.size (option_or (result_size g.results to) (argument_size g.arguments args)) e).1).0
 
 pub instructs_hold : (g : Option Signature) (to : List Lval) (args : List Expr) (at : Span) → intrinsic_wrong g to args at ≡ [] → Instructs g to args
 instructs_hold None to args at h = well.unknown (all_hold (within any_size) IsSound (sound sizes.S8) to h)

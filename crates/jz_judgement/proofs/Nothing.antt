@@ -2,13 +2,14 @@
 use Rattle.std.proofs.Common.{◌≡◌, true, false, not, List, [], ◌∷◌, ◌++◌, Option, Some, None, refl, ap₂, subst}
 use Rattle.std.specs.Prelude.{if◌then◌else◌}
 use Rattle.std.proofs.lemmas.Bool.{false≢true}
+use Rattle.std.specs.Option.{option_or}
 use Rattle.jz_tree.specs.Span.{Span}
 use Rattle.jz_tree.specs.Size.{Size}
 use Rattle.jz_tree.specs.Size.TheVariants as sizes
 use Rattle.jz_type_names.specs.Order.{unless}
 use Rattle.jz_type_names.specs.Kinds.{same_size}
 use Rattle.jz_type_names.proofs.Empty.{one_not}
-use Rattle.jz_type_sizes.specs.Wants.{fits_int, fits_truth, fits_word, or_size}
+use Rattle.jz_type_sizes.specs.Wants.{fits_int, fits_truth, fits_word}
 use Rattle.jz_judgement.specs.Places.{Place, integer, truth, word, stated, unsized, IsTruth, TakesNumber, TakesWord}
 use Rattle.jz_judgement.specs.Agreement.{want_of}
 
@@ -39,12 +40,12 @@ same_self sizes.S64 = refl
 pub same_sizes : (y z : Size) → y ≡ z → same_size y z ≡ true
 same_sizes y z e = subst (λ x. same_size y x ≡ true) e (same_self y)
 
-pub neither_size : (a b : Option Size) → or_size a b ≡ None → (a ≡ None) × (b ≡ None)
+pub neither_size : (a b : Option Size) → option_or a b ≡ None → (a ≡ None) × (b ≡ None)
 neither_size None b e = (refl, e)
 neither_size (Some z) b e = absurd (some_not z e)
 
-pub no_sizes : (a b : Option Size) → a ≡ None → b ≡ None → or_size a b ≡ None
-no_sizes a b p q = ap₂ or_size p q
+pub no_sizes : (a b : Option Size) → a ≡ None → b ≡ None → option_or a b ≡ None
+no_sizes a b p q = ap₂ option_or p q
 
 -- ---- places
 pub number_goes : (p : Place) → fits_int (want_of p) ≡ true → TakesNumber p

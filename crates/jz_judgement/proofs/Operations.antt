@@ -2,6 +2,7 @@
 use Rattle.std.proofs.Common.{◌≡◌, Bool, true, false, ◌&&◌, List, [], ◌++◌, ◌⊎◌, inl, inr, Option, Some, None, refl, sym, ap, ap₂, ◌∙◌, subst}
 use Rattle.std.specs.Prelude.{if◌then◌else◌, is_some}
 use Rattle.std.proofs.lemmas.Bool.{false≢true, true≢false, and_parts, and_from, and_left, and_right}
+use Rattle.std.specs.Option.{option_or}
 use Rattle.jz_tree.specs.Span.{Span}
 use Rattle.jz_tree.specs.Size.{Size}
 use Rattle.jz_tree.specs.Size.TheVariants as sizes
@@ -12,7 +13,7 @@ use Rattle.jz_type_sizes.specs.declared.operators.Group.{Group}
 use Rattle.jz_type_sizes.specs.declared.operators.Group.TheVariants as group
 use Rattle.jz_type_sizes.specs.declared.wants.Want.{Want}
 use Rattle.jz_type_sizes.specs.declared.wants.Want.TheVariants as want
-use Rattle.jz_type_sizes.specs.Wants.{or_size, sized_want}
+use Rattle.jz_type_sizes.specs.Wants.{sized_want}
 use Rattle.jz_type_sizes.specs.Operators.{group_of, is_of_words, gives, stops, compared_size, group_size, is_test, word_or, left_of, right_of, is_word_place, takes_carry, count_want}
 use Rattle.jz_type_sizes.specs.Typings.{Typing, bin_typing}
 use Rattle.jz_judgement.specs.Places.{Place, integer, truth, word, stated, unsized, TakesNumber, TakesCarry, count_place, IsSum}
@@ -147,17 +148,17 @@ module _ (o : BinOp) (at : Span) (a b : Typing) (x y : Term) (ha : Agrees a (Has
       let plain = left_plain (want_of p) operands.1 in
       shift e parts.0 (admitted plain.0) (ha.holds p plain.1) (hb.holds (count_place p) (ap (λ w. b.wrong w) (sym (count_is p parts.0)) ∙ operands.0))
 
-  says_size : (z : Size) (s : Option Size) → a.form.size ≡ s → or_size s b.form.size ≡ Some z → Says x z ⊎ Says y z
+  says_size : (z : Size) (s : Option Size) → a.form.size ≡ s → option_or s b.form.size ≡ Some z → Says x z ⊎ Says y z
   says_size z None e h = inr (hb.says z h)
   says_size z (Some v) e h = inl (ha.says z (e ∙ h))
 
   compare_holds : group_of o ≡ group.Compare → (p : Place) → wrong_in group.Compare (want_of p) ≡ [] → Operates o x y p
   compare_holds e p h =
-      let s = or_size a.form.size b.form.size in
+      let s = option_or a.form.size b.form.size in
       let parts = a_bool p at (b.wrong (sized_want false s) ++ a.wrong (sized_want (is_of_words o && both_inline) s)) h in
       subst (λ q. Operates o x y q) (sym (is_truth p parts.0)) (at_size s refl parts.1)
     where
-      at_size : (s : Option Size) → or_size a.form.size b.form.size ≡ s → b.wrong (sized_want false s) ++ a.wrong (sized_want (is_of_words o && both_inline) s) ≡ [] → Operates o x y truth
+      at_size : (s : Option Size) → option_or a.form.size b.form.size ≡ s → b.wrong (sized_want false s) ++ a.wrong (sized_want (is_of_words o && both_inline) s) ≡ [] → Operates o x y truth
       at_size (Some z) c k =
           let operands = both (b.wrong (want.Word z)) (a.wrong (want.Word z)) k in
           words z e (says_size z a.form.size refl c) (ha.holds (word z) operands.1) (hb.holds (word z) operands.0)
@@ -186,7 +187,7 @@ module _ (o : BinOp) (at : Span) (a b : Typing) (x y : Term) (ha : Agrees a (Has
   in_group g p e h = subst (λ k. RightIn k p) (sym e) h
 
   -- a size that one says, where both are words of z
-  one_size : (z : Size) → Says x z ⊎ Says y z → a.wrong (want.Word z) ≡ [] → b.wrong (want.Word z) ≡ [] → or_size a.form.size b.form.size ≡ Some z
+  one_size : (z : Size) → Says x z ⊎ Says y z → a.wrong (want.Word z) ≡ [] → b.wrong (want.Word z) ≡ [] → option_or a.form.size b.form.size ≡ Some z
   one_size z s h k = at_left a.form.size refl
     where
       at_right : (c : Option Size) → b.form.size ≡ c → a.form.size ≡ None → c ≡ Some z
@@ -197,7 +198,7 @@ module _ (o : BinOp) (at : Span) (a b : Typing) (x y : Term) (ha : Agrees a (Has
           no_one (inl g) = false≢true (ap is_some (sym n) ∙ ha.said z g)
           no_one (inr g) = false≢true (ap is_some (sym e) ∙ hb.said z g)
 
-      at_left : (c : Option Size) → a.form.size ≡ c → or_size c b.form.size ≡ Some z
+      at_left : (c : Option Size) → a.form.size ≡ c → option_or c b.form.size ≡ Some z
       at_left (Some v) e = ap (λ (u : Size). Some u) (ha.one v z h e)
       at_left None e = at_right b.form.size refl e
 
@@ -243,15 +244,15 @@ module _ (o : BinOp) (at : Span) (a b : Typing) (x y : Term) (ha : Agrees a (Has
   says_in group.Shift e z h = shifted e (ha.says z h)
   says_in group.Arith e z h = at_left a.form.size refl h
     where
-      at_left : (s : Option Size) → a.form.size ≡ s → or_size s b.form.size ≡ Some z → OperandSays o x y z
+      at_left : (s : Option Size) → a.form.size ≡ s → option_or s b.form.size ≡ Some z → OperandSays o x y z
       at_left None k h = second e (hb.says z h)
       at_left (Some v) k h = first e (ha.says z (k ∙ h))
 
-  some_or : (s r : Option Size) → is_some s ≡ true → is_some (or_size s r) ≡ true
+  some_or : (s r : Option Size) → is_some s ≡ true → is_some (option_or s r) ≡ true
   some_or None r h = absurd (false≢true h)
   some_or (Some v) r h = refl
 
-  or_some : (s r : Option Size) → is_some r ≡ true → is_some (or_size s r) ≡ true
+  or_some : (s r : Option Size) → is_some r ≡ true → is_some (option_or s r) ≡ true
   or_some None r h = h
   or_some (Some v) r h = refl
 
@@ -275,7 +276,7 @@ module _ (o : BinOp) (at : Span) (a b : Typing) (x y : Term) (ha : Agrees a (Has
       at_test true c m n = absurd (none_not v (sym (vb.size (and_parts _ _ c).1) ∙ n))
       at_test false c m n = hb.one v z m n
 
-      at_left : (s : Option Size) → a.form.size ≡ s → or_size s b.form.size ≡ Some v → v ≡ z
+      at_left : (s : Option Size) → a.form.size ≡ s → option_or s b.form.size ≡ Some v → v ≡ z
       at_left None m n = at_test (takes_carry o (want.Word z) && b.form.truth) refl operands.0 n
       at_left (Some u) m n = ha.one v z (left_plain (want.Word z) operands.1).1 (m ∙ n)
 
@@ -294,7 +295,7 @@ module _ (o : BinOp) (at : Span) (a b : Typing) (x y : Term) (ha : Agrees a (Has
       at_test true c m n = absurd (none_not v (sym (vb.size (and_parts _ _ c).1) ∙ n))
       at_test false c m n = hb.stated v z m n
 
-      at_left : (s : Option Size) → a.form.size ≡ s → or_size s b.form.size ≡ Some v → v ≡ z
+      at_left : (s : Option Size) → a.form.size ≡ s → option_or s b.form.size ≡ Some v → v ≡ z
       at_left None m n = at_test (takes_carry o (want.Sized z) && b.form.truth) refl operands.0 n
       at_left (Some u) m n = ha.stated v z (left_plain (want.Sized z) operands.1).1 (m ∙ n)
 
@@ -357,7 +358,7 @@ module _ (o : BinOp) (at : Span) (a b : Typing) (x y : Term) (ha : Agrees a (Has
   number_in : (g : Group) (p : Place) → TakesNumber p → wrong_in g (want_of p) ≡ [] → is_test g ≡ false
   number_in group.Logic p n h = absurd (subst (λ q. TakesNumber q) (is_truth p (a_bool p at (b.wrong want.Truth ++ a.wrong want.Truth) h).0) n)
   number_in group.Compare p n h =
-      let s = or_size a.form.size b.form.size in
+      let s = option_or a.form.size b.form.size in
       absurd (subst (λ q. TakesNumber q) (is_truth p (a_bool p at (b.wrong (sized_want false s) ++ a.wrong (sized_want (is_of_words o && both_inline) s)) h).0) n)
   number_in group.Shift p n h = refl
   number_in group.Arith p n h = refl

@@ -32,22 +32,22 @@ pub struct LoopParts<'a> {
     pub leave_outs: &'a Seq<Out>,
 }
 
-// The leaked number at a place, from 0. A leak that fits has it; of another the answer is 0 where
-// there is none.
+/// The leaked number at a place, from 0. A leak that fits has it; of another the answer is 0 where
+/// there is none.
 fn leaked(numbers: &[u64], place: u64) -> u64
     ensures { result ≡ slice_index numbers.now place }
 {
     numbers.get(place as usize).copied().unwrap_or(0)
 }
 
-// An offset from an address, modulo 2^64.
+/// An offset from an address, modulo 2^64.
 fn moved(address: u64, offset: i64) -> u64
     ensures { result ≡ residue S64 (pos address +ℤ offset) }
 {
     address.wrapping_add_signed(offset)
 }
 
-// The number that a form stands for.
+/// The number that a form stands for.
 fn number(numbers: &[u64], rsp: u64, form: Form) -> u64
     ensures { result ≡ number_of numbers.now rsp form }
 {
@@ -62,7 +62,7 @@ fn number(numbers: &[u64], rsp: u64, form: Form) -> u64
     }
 }
 
-// The event that is shown, its forms by these numbers.
+/// The event that is shown, its forms by these numbers.
 fn event(numbers: &[u64], rsp: u64, out: Out) -> Event
     ensures { result ≡ event_of numbers.now rsp out }
 {
@@ -77,7 +77,7 @@ fn event(numbers: &[u64], rsp: u64, out: Out) -> Event
     }
 }
 
-// Adds the events of a list.
+/// Adds the events of a list.
 fn emit(
     events: &mut Vec<Event>,
     rsp: u64,
@@ -93,7 +93,7 @@ fn emit(
     Ok(())
 }
 
-// Adds the events of the items, each by its case, up to where the walk stops.
+/// Adds the events of the items, each by its case, up to where the walk stops.
 #[cycle(walk)]
 fn walk_leak(events: &mut Vec<Event>, rsp: u64, leak: &Leak, tr: &Tr) -> Result<Reach, AllocError>
     ensures { IfOk result (Adds events.old.items events.new.items
@@ -113,7 +113,7 @@ fn walk_leak(events: &mut Vec<Event>, rsp: u64, leak: &Leak, tr: &Tr) -> Result<
     Ok(Reach::End)
 }
 
-// Adds the events of an item by its case.
+/// Adds the events of an item by its case.
 #[cycle(walk)]
 fn walk_item(
     events: &mut Vec<Event>,
@@ -165,7 +165,7 @@ fn walk_item(
     }
 }
 
-// The events of an `if`: its condition's, and then the list and the arm of the answer.
+/// The events of an `if`: its condition's, and then the list and the arm of the answer.
 #[cycle(walk)]
 fn walk_choice(
     events: &mut Vec<Event>,
@@ -197,7 +197,7 @@ fn walk_choice(
     }
 }
 
-// The events of a call: its arguments', the callee's, and its results' where the callee ends.
+/// The events of a call: its arguments', the callee's, and its results' where the callee ends.
 #[cycle(walk)]
 fn walk_call(
     events: &mut Vec<Event>,
@@ -226,7 +226,7 @@ fn walk_call(
     }
 }
 
-// The events of a list, and then those of a leak.
+/// The events of a list, and then those of a leak.
 #[cycle(walk)]
 fn walk_arm(
     events: &mut Vec<Event>,
@@ -243,7 +243,7 @@ fn walk_arm(
     walk_leak(events, rsp, leak, tr)
 }
 
-// The events of a `for`: each round by its own tree.
+/// The events of a `for`: each round by its own tree.
 #[cycle(walk)]
 fn walk_rounds(
     events: &mut Vec<Event>,
@@ -268,7 +268,7 @@ fn walk_rounds(
     Ok(Reach::End)
 }
 
-// The events of a `while`: each turn by the same parts.
+/// The events of a `while`: each turn by the same parts.
 #[cycle(walk)]
 fn walk_turns(
     events: &mut Vec<Event>,
@@ -288,8 +288,8 @@ fn walk_turns(
     Ok(Reach::End)
 }
 
-// The events of a turn: the prologue's, the condition's, and then the list and the body of a turn
-// that is taken, or the list of leaving.
+/// The events of a turn: the prologue's, the condition's, and then the list and the body of a turn
+/// that is taken, or the list of leaving.
 #[cycle(walk)]
 fn walk_turn(
     events: &mut Vec<Event>,
@@ -320,7 +320,8 @@ fn walk_turn(
     }
 }
 
-// The events of the whole function; those behind the body are shown where the walk came to its end.
+/// The events of the whole function; those behind the body are shown where the walk came to its
+/// end.
 pub(crate) fn walk_transformer(
     alloc: Global,
     tr: &Transformer,

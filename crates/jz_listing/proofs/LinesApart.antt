@@ -5,6 +5,7 @@ use Rattle.std.specs.List.{concat, list_all}
 use Rattle.std.proofs.lemmas.Bool.{and_parts, and_from}
 use Rattle.std.proofs.lemmas.List.Elements.{All-head, All-tail}
 use Rattle.std.proofs.lemmas.List.Sums.{list_all-from_AllPass}
+use Rattle.jz_text.specs.Texts.{reg_text, span_text}
 use Rattle.hex.specs.Hex.{encode_lower, encode_with, lower_digits, decode_of}
 use Rattle.hex.proofs.HexLemmas.{decode_of-encode_lower}
 use Rattle.x64_insn.specs.Size.{Size}
@@ -21,7 +22,7 @@ use Rattle.jz_listing.specs.declared.compiled.Pre.{Pre}
 use Rattle.jz_listing.specs.declared.compiled.Pre.TheVariants as pre
 use Rattle.jz_listing.specs.declared.compiled.Compiled.{Compiled}
 use Rattle.jz_listing.specs.Transformers.{transformer_text}
-use Rattle.jz_listing.specs.Listing.{reg_text, size_text, arg_text, arg_line, ret_line, extent_text, pre_line, saved_reg_text, saved_text, span_text, kind_text, ct_text, interface_text, frame_text, code_text, leakage_text, compiled_text, listing_text}
+use Rattle.jz_listing.specs.Listing.{size_text, arg_text, arg_line, ret_line, extent_text, pre_line, saved_reg_text, saved_text, kind_text, ct_text, interface_text, frame_text, code_text, leakage_text, compiled_text, listing_text}
 use Rattle.jz_listing.specs.Listable.{is_name_byte, is_variable_byte, IsName, IsListableArg, IsListablePre, IsListableCt, IsListable, AreListable}
 use Rattle.jz_listing.proofs.Apart.{first, rest, without_front, spans, decimal_apart, lines_apart}
 use Rattle.jz_listing.proofs.TransformersApart.{transformer_apart}

@@ -8,33 +8,13 @@ use Rattle.jz_io.specs.declared.verdict.Ct.{Ct}
 use Rattle.jz_io.specs.declared.verdict.Ct.TheVariants as ct
 use Rattle.jz_io.specs.declared.verdict.CtKind.{CtKind}
 use Rattle.jz_io.specs.declared.verdict.CtKind.TheVariants as kind
-use Rattle.jz_io.specs.declared.span.Span.{Span}
 use Rattle.x64_insn.specs.declared.types.Reg.{Reg}
-use Rattle.x64_insn.specs.declared.types.Reg.TheVariants as reg
+use Rattle.jz_text.specs.Texts.{reg_text, span_text}
 use Rattle.jz_listing.specs.declared.compiled.Arg.{Arg}
 use Rattle.jz_listing.specs.declared.compiled.Pre.{Pre}
 use Rattle.jz_listing.specs.declared.compiled.Pre.TheVariants as pre
 use Rattle.jz_listing.specs.declared.compiled.Compiled.{Compiled}
 use Rattle.jz_listing.specs.Transformers.{transformer_text}
-
--- the name of a register's 64 bits
-abbrev pub reg_text : Reg → List ℕ
-reg_text reg.Rax = codes "rax"
-reg_text reg.Rcx = codes "rcx"
-reg_text reg.Rdx = codes "rdx"
-reg_text reg.Rbx = codes "rbx"
-reg_text reg.Rsp = codes "rsp"
-reg_text reg.Rbp = codes "rbp"
-reg_text reg.Rsi = codes "rsi"
-reg_text reg.Rdi = codes "rdi"
-reg_text reg.R8 = codes "r8"
-reg_text reg.R9 = codes "r9"
-reg_text reg.R10 = codes "r10"
-reg_text reg.R11 = codes "r11"
-reg_text reg.R12 = codes "r12"
-reg_text reg.R13 = codes "r13"
-reg_text reg.R14 = codes "r14"
-reg_text reg.R15 = codes "r15"
 
 abbrev pub size_text : Size → List ℕ
 size_text S8 = codes "u8"
@@ -79,10 +59,6 @@ saved_reg_text r = codes " " ++ reg_text r
 abbrev pub saved_text : List Reg → List ℕ
 saved_text [] = codes " -"
 saved_text (r ∷ rs) = concat (map saved_reg_text (r ∷ rs))
-
--- a line and a column
-unfoldable pub span_text : Span → List ℕ
-span_text s = decimal s.line ++ codes ":" ++ decimal s.col
 
 abbrev pub kind_text : CtKind → List ℕ
 kind_text kind.Branch = codes "Branch"

@@ -1,40 +1,16 @@
 //! The lines of a listing.
 
-ghost use Rattle.std.specs.Prelude.{◌≡◌, ◌++◌, ℕ, List, map, IfOk, OnOk, codes, decimal};
+ghost use Rattle.std.specs.Prelude.{◌≡◌, ◌++◌, ℕ, List, map, IfOk, OnOk, codes};
 ghost use Rattle.std.specs.List.{concat};
-ghost use Rattle.jz_listing.specs.Listing.{reg_text, size_text, arg_text, arg_line, ret_line, pre_text, pre_line, saved_text, span_text, kind_text, ct_text, extent_text, saved_reg_text, interface_text, frame_text, code_text, leakage_text, compiled_text, listing_text};
+ghost use Rattle.jz_listing.specs.Listing.{size_text, arg_text, arg_line, ret_line, pre_text, pre_line, saved_text, kind_text, ct_text, extent_text, saved_reg_text, interface_text, frame_text, code_text, leakage_text, compiled_text, listing_text};
 
 use super::compiled::{Arg, Compiled, Pre};
 use super::transformers::write_transformer;
-use itoa::Buffer;
-use jz_io::{Bytes, Ct, CtKind, Span};
+use jz_io::{Bytes, Ct, CtKind};
 use jz_leak::{Seq, Text};
+use jz_text::{reg_name, write_digits, write_number, write_span};
 use std::alloc::{AllocError, Global};
 use x64_insn::{Reg, Size};
-
-/// The name of a register's 64 bits, in lower case.
-pub fn reg_name(reg: Reg) -> &'static str
-    ensures { result.now ≡ reg_text reg }
-{
-    match reg {
-        Reg::Rax => "rax",
-        Reg::Rcx => "rcx",
-        Reg::Rdx => "rdx",
-        Reg::Rbx => "rbx",
-        Reg::Rsp => "rsp",
-        Reg::Rbp => "rbp",
-        Reg::Rsi => "rsi",
-        Reg::Rdi => "rdi",
-        Reg::R8 => "r8",
-        Reg::R9 => "r9",
-        Reg::R10 => "r10",
-        Reg::R11 => "r11",
-        Reg::R12 => "r12",
-        Reg::R13 => "r13",
-        Reg::R14 => "r14",
-        Reg::R15 => "r15",
-    }
-}
 
 fn size_name(size: Size) -> &'static str
     ensures { result.now ≡ size_text size }
@@ -55,24 +31,6 @@ fn kind_name(kind: CtKind) -> &'static str
         CtKind::Address => "Address",
         CtKind::Divide => "Divide",
     }
-}
-
-/// A number in decimal digits.
-pub fn write_number(text: &mut Vec<u8>, number: u64) -> Result<(), AllocError>
-    ensures { OnOk result (text.new.items ≡ text.old.items ++ decimal number) }
-{
-    let mut buffer = Buffer::new();
-    text.extend_from_slice(buffer.format(number).as_bytes())
-}
-
-/// A line and a column.
-#[tactic(auto, unfolding(crate::specs::Listing::span_text))]
-pub fn write_span(text: &mut Vec<u8>, span: Span) -> Result<(), AllocError>
-    ensures { OnOk result (text.new.items ≡ text.old.items ++ span_text span) }
-{
-    write_number(text, u64::from(span.line))?;
-    text.extend_from_slice(b":")?;
-    write_number(text, u64::from(span.col))
 }
 
 fn write_arg(text: &mut Vec<u8>, arg: &Arg) -> Result<(), AllocError>
@@ -244,11 +202,10 @@ fn write_frame(text: &mut Vec<u8>, fun: &Compiled) -> Result<(), AllocError>
 fn write_code(alloc: Global, text: &mut Vec<u8>, fun: &Compiled) -> Result<(), AllocError>
     ensures { OnOk result (text.new.items ≡ text.old.items ++ code_text fun.now) }
 {
-    let digits = hex::encode(alloc, fun.code.as_slice())?;
     text.extend_from_slice(b"insns ")?;
     write_number(text, fun.insns)?;
     text.extend_from_slice(b"\ncode ")?;
-    text.extend_from_slice(digits.as_str().as_bytes())?;
+    write_digits(alloc, text, fun.code.as_slice())?;
     text.extend_from_slice(b"\n")
 }
 

@@ -3,31 +3,30 @@
 ghost use Rattle.std.specs.Prelude.{◌≡◌, ◌++◌, ℕ, List, map, OnOk, codes};
 ghost use Rattle.jz_listing.specs.Transformers.{arm_text, call_text, case_text, for_text, form_text, if_head_text, op_text, out_text, outs_text, separator, spaced_outs_text, tr_text, transformer_text, while_head_text};
 
-use itoa::Buffer;
 use jz_leak::{Case, Form, Out, Seq, Tr, Transformer};
+use jz_text::{write_number, write_signed};
 use std::alloc::AllocError;
 
 fn write_form(text: &mut Vec<u8>, form: Form) -> Result<(), AllocError>
     ensures { OnOk result (text.new.items ≡ text.old.items ++ form_text form) }
 {
-    let mut buffer = Buffer::new();
     match form {
-        Form::Num(n) => text.extend_from_slice(buffer.format(n).as_bytes()),
+        Form::Num(n) => write_number(text, n),
         Form::Leaked(i) => {
             text.extend_from_slice(b"$")?;
-            text.extend_from_slice(buffer.format(i).as_bytes())
+            write_number(text, i)
         }
         Form::Frame(offset) => {
             text.extend_from_slice(b"@")?;
-            text.extend_from_slice(buffer.format(offset).as_bytes())
+            write_signed(text, offset)
         }
         Form::Indexed(offset, factor, i) => {
             text.extend_from_slice(b"@")?;
-            text.extend_from_slice(buffer.format(offset).as_bytes())?;
+            write_signed(text, offset)?;
             text.extend_from_slice(b"+")?;
-            text.extend_from_slice(buffer.format(factor).as_bytes())?;
+            write_number(text, factor)?;
             text.extend_from_slice(b"*$")?;
-            text.extend_from_slice(buffer.format(i).as_bytes())
+            write_number(text, i)
         }
     }
 }

@@ -13,6 +13,7 @@ use Rattle.jz_tree.specs.declared.expr.Var.{Var}
 use Rattle.jz_tree.specs.declared.expr.Expr.TheOpen.{Expr-F, Var-F}
 use Rattle.jz_tree.specs.declared.expr.Expr.TheViews.{roll-Expr, roll-Var}
 use Rattle.jz_tree.specs.declared.expr.Expr.TheFolds.{fold-Ty, fold-Decl, fold-Var, fold-roll-Expr, fold-roll-Var, ind-Expr, map-Expr}
+use Rattle.jz_tree.specs.Operators.{is_shift}
 use Rattle.jz_integers.specs.declared.constant.Constant.{Constant}
 use Rattle.jz_integers.specs.declared.constant.Constant.TheVariants as constant
 use Rattle.jz_integers.specs.Integers as numbers
@@ -21,7 +22,7 @@ use Rattle.jz_meaning.specs.declared.access.Kind.{Kind}
 use Rattle.jz_runs.specs.Rules.{went}
 use Rattle.jz_meaning.specs.Attempts.{Evaluation, and_then, defined}
 use Rattle.jz_meaning.specs.States.{Value, boolean, integer, Key, State}
-use Rattle.jz_meaning.specs.Operators.{of_constant, is_shift, joined, is_settled, combined, shifted, binary, negated, inverted}
+use Rattle.jz_meaning.specs.Operators.{of_constant, joined, is_settled, combined, shifted, binary, negated, inverted}
 use Rattle.jz_meaning.specs.Values.{Ref, key_of, MemoryAccess, Meaning, right_wanted, left_wanted, with_right, expr_step, ty_step, access_step, decl_step, var_step, meaning_of, ref_of, access_of, evaluated}
 use Rattle.jz_meaning.specs.Shapes.{HoldsIntegers}
 use Rattle.jz_meaning.proofs.ShapeLemmas.{Gives, gives_then, gives_defined, Any}

@@ -13,12 +13,12 @@ use Rattle.jz_tree.specs.declared.expr.Expr.TheVariants as expr
 use Rattle.jz_tree.specs.declared.expr.Expr.TheOpen.{Expr-F}
 use Rattle.jz_tree.specs.declared.expr.Expr.TheViews.{sized-Bin}
 use Rattle.jz_tree.specs.declared.expr.Expr.TheFolds.{fold-roll-Expr, fold-roll-Access}
+use Rattle.jz_tree.specs.Operators.{is_shift}
 use Rattle.jz_meaning.specs.declared.left.Waiting.{Waiting}
 use Rattle.jz_meaning.specs.declared.value.Stuck.{Stuck}
 use Rattle.jz_runs.specs.Rules.{stuck, went}
 use Rattle.jz_meaning.specs.Attempts.{Evaluation, numbers_first, and_then}
 use Rattle.jz_meaning.specs.States.{Value, State}
-use Rattle.jz_meaning.specs.Operators.{is_shift}
 use Rattle.jz_meaning.specs.Values.{gives_word, size_of_operation, left_wanted, right_wanted, run_binary, own_size, evaluated, ref_of, access_of, cell_value, load_at, expr_step, ty_step, access_step, decl_step, var_step}
 use Rattle.jz_meaning.proofs.AttemptLemmas.{first_then, gone_then}
 use Rattle.jz_meaning.specs.InnerEvaluating.{IsDetermined, go_on, gone_on, on_left, AllDetermined, IsLeftSide}

@@ -1,4 +1,5 @@
 pub mod AttemptLemmas
+pub mod CallLemmas
 pub mod Counts
 pub mod CutRuns
 pub mod InlineLemmas

@@ -20,6 +20,7 @@ use Rattle.jz_tree.specs.declared.expr.Var.{Var}
 use Rattle.jz_tree.specs.declared.expr.Expr.TheOpen.{Expr-F, Access-F, Var-F}
 use Rattle.jz_tree.specs.declared.expr.Expr.TheViews.{roll-Expr, roll-Access, roll-Var}
 use Rattle.jz_tree.specs.declared.expr.Expr.TheFolds.{fold-Ty, fold-Access, fold-Decl, fold-Var, fold-roll-Expr, fold-roll-Access, fold-roll-Var, ind-Expr, map-Expr, map-Access}
+use Rattle.jz_tree.specs.Operators.{joins}
 use Rattle.jz_integers.specs.Integers as numbers
 use Rattle.jz_integers.specs.Integers.{on_integers}
 use Rattle.jz_meaning.specs.declared.access.Kind.{Kind}
@@ -28,7 +29,7 @@ use Rattle.jz_meaning.specs.declared.value.Why.TheVariants.{Bounds, Align, Divid
 use Rattle.jz_runs.specs.Rules.{stuck, went}
 use Rattle.jz_meaning.specs.Attempts.{Evaluation, stuck_at, numbers_first, and_then, defined}
 use Rattle.jz_meaning.specs.States.{Value, word, boolean, integer, Store, State}
-use Rattle.jz_meaning.specs.Operators.{of_constant, same_size, plain, on_words, by_count, by_flag, joins, joined, is_settled, combined, shifted, binary, negated, inverted, cast, word_of}
+use Rattle.jz_meaning.specs.Operators.{of_constant, same_size, plain, on_words, by_count, by_flag, joined, is_settled, combined, shifted, binary, negated, inverted, cast, word_of}
 use Rattle.jz_meaning.specs.Values.{Ref, key_of, cell_key, in_cells, index_at, cell_value, MemoryAccess, is_aligned, accessed, load_word, load_at, Meaning, right_wanted, left_wanted, with_right, expr_step, ty_step, access_step, decl_step, var_step, meaning_of, ref_of, access_of, evaluated}
 use Rattle.jz_meaning.specs.Shapes.{Sort, words, flags, integers, sort_of, Sorts, HoldsSorts, both, sort_of_operation, own_count, Shape, operation_shape, shape_step, shape_of}
 

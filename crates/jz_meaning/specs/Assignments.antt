@@ -1,4 +1,5 @@
--- Assignments: the right side, and then the left sides from left to right, each written before the next is evaluated.
+-- Assignments: the right side, and then the left sides from left to right, each written before the
+-- next is evaluated.
 use Rattle.std.specs.Prelude.{ℕ, ◌*◌, ◌/◌, ◌%◌, Bool, true, false, ◌&&◌, List, [], ◌∷◌, Option, Some, None, Result, Ok, Err, if◌then◌else◌}
 use Rattle.std.specs.Option.{option_or}
 use Rattle.jz_tree.specs.Span.{Span}
@@ -6,6 +7,7 @@ use Rattle.x64_insn.specs.Size.{Size}
 use Rattle.x64_insn.specs.Size.TheVariants.{S64}
 use Rattle.x64_insn.specs.Sizes.{modulus}
 use Rattle.x64_insn.specs.Words.{sum_of, carry_of, difference_of, borrow_of}
+pub use Rattle.jz_tree.specs.Operators.{carries}
 use Rattle.jz_tree.specs.declared.expr.BinOp.{BinOp}
 use Rattle.jz_tree.specs.declared.expr.BinOp.TheVariants as o
 use Rattle.jz_tree.specs.declared.expr.Expr.{Expr}
@@ -30,7 +32,8 @@ use Rattle.jz_meaning.specs.Values.{size_of, Ref, key_of, cell_key, index_at, re
 
 -- ---- left sides
 
--- the size of a left side, where it has one by itself; of several, that of the first that has one: a flag and `_` have none
+-- the size of a left side, where it has one by itself; of several, that of the first that has one:
+-- a flag and `_` have none
 abbrev pub left_size : Lval → Option Size
 left_size (lval.Skip at) = None
 left_size (lval.Var x) = size_of (ref_of x).kind
@@ -41,7 +44,8 @@ abbrev pub left_sizes : List Lval → Option Size
 left_sizes [] = None
 left_sizes (d ∷ ds) = option_or (left_size d) (left_sizes ds)
 
--- what a variable of this declaration holds of a value: in the place of a word it is a word of that size
+-- what a variable of this declaration holds of a value: in the place of a word it is a word of that
+-- size
 abbrev pub word_value : Span → Size → Value → Evaluation Value
 word_value at s v = and_then (word_at at s v) (λ a. went [] (word s a))
 
@@ -64,7 +68,8 @@ abbrev pub in_cell : Ref → ℕ → Option Size → Option Value → State → 
 in_cell x i (Some z) (Some v) s = and_then (word_value x.span z v) (λ w. went [] (with_value s (cell_key x i) (Some w)))
 in_cell x i _ _ s = stuck_at x.span Init
 
--- a value is written to a left side, where the other side has this size; an index or address is evaluated first
+-- a value is written to a left side, where the other side has this size; an index or address is
+-- evaluated first
 abbrev pub written : Option Size → Lval → Option Value → State → Evaluation State
 written z (lval.Skip at) v s = went [] s
 written z (lval.Var x) v s = and_then (held_or_unset (ref_of x).span (ref_of x).kind v) (λ h. went [] (with_value s (key_of (ref_of x)) h))
@@ -112,13 +117,8 @@ is_flag_layer _ = false
 abbrev pub is_flag : Expr → Bool
 is_flag e = is_flag_layer (out-Expr e)
 
--- `+` and `+`, or `-` and `-`
-abbrev pub carries : BinOp → BinOp → Bool
-carries o.Add o.Add = true
-carries o.Sub o.Sub = true
-carries _ _ = false
-
--- `d op= e` is `d = d op e`; `d += e + c` and `d -= e - c` with a bool c are `d + e + c` and `d - e - c`
+-- `d op= e` is `d = d op e`; `d += e + c` and `d -= e - c` with a bool c are `d + e + c` and
+-- `d - e - c`
 abbrev pub updated_layer : BinOp → Expr → Expr → Span → Layer → Expr
 updated_layer op d e at (Expr-F.Bin p a c inner) =
     if carries op p && is_flag c then expr.Bin p (expr.Bin op d a at) c at else expr.Bin op d e at
@@ -139,7 +139,8 @@ whole_of d None e = Some e
 whole_of None (Some op) e = None
 whole_of (Some d) (Some op) e = updated (as_expr d) op e (left_span d)
 
--- ---- two results: a carry before a sum, a borrow before a difference, the high word of a product before the low one
+-- ---- two results: a carry before a sum, a borrow before a difference, the high word of a product
+-- before the low one
 abbrev pub two_results : BinOp → Span → Size → ℕ → ℕ → Bool → Evaluation Results
 two_results o.Add at s a b c = went [] (Some (boolean (carry_of s a b c)) ∷ Some (word s (sum_of s a b c)) ∷ [])
 two_results o.Sub at s a b c = went [] (Some (boolean (borrow_of a b c)) ∷ Some (word s (difference_of s a b c)) ∷ [])

@@ -1,4 +1,5 @@
--- The parts of a statement, one after another: each leaks numbers and gives something, or is stuck at a place for a reason.
+-- The parts of a statement, one after another: each leaks numbers and gives something, or is stuck
+-- at a place for a reason.
 use Rattle.std.specs.Prelude.{◌≡◌, ℕ, List, [], ◌++◌, Option, Some, None, Result, Ok, Err}
 use Rattle.jz_tree.specs.Failure.{Failure}
 use Rattle.jz_tree.specs.Failures.{IfAnswered}
@@ -46,7 +47,8 @@ abbrev pub value_seen : Result code.Value Stuck → Result Value Stuck
 value_seen (Ok x) = Ok (as_value x)
 value_seen (Err k) = Err k
 
--- what the code did to a thing, a memory or a whole state: the numbers that it has, and the thing as it is then
+-- what the code did to a thing, a memory or a whole state: the numbers that it has, and the thing
+-- as it is then
 abbrev pub changed : {A S : Type 0} → List ℕ → S → Result A Stuck → Evaluation S
 changed ns x (Ok u) = went ns x
 changed ns x (Err k) = stuck k

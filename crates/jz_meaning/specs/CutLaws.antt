@@ -12,7 +12,8 @@ use Rattle.jz_meaning.specs.States.{State, Value}
 use Rattle.jz_meaning.specs.Statements.{Block, source}
 use Rattle.jz_meaning.specs.Runs.{FunOutcome, IsRun}
 
--- an end has a leak no part of which is cut; a cut has one whose last part is, with all before it whole
+-- an end has a leak no part of which is cut; a cut has one whose last part is, with all before it
+-- whole
 abbrev pub HoldsItsCut : {S : Type 0} → Outcome S code.Stuck Leak → Type 0
 HoldsItsCut o = HoldsCut IsWhole IsBroken o
 

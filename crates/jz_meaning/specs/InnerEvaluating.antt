@@ -1,12 +1,10 @@
--- An expression by its left side, which may be as long as a text: the operations that wait for their left operand, and the operand
--- where it ends.
+-- An expression by its left side, which may be as long as a text: the operations that wait for
+-- their left operand, and the operand where it ends.
 use Rattle.std.specs.Prelude.{List, [], ◌∷◌, Option, ◌≡◌}
 use Rattle.std.specs.Option.{option_or}
 use Rattle.x64_insn.specs.Size.{Size}
 use Rattle.jz_tree.specs.declared.expr.Expr.{Expr}
 use Rattle.jz_tree.specs.declared.expr.Expr.TheVariants.{Bin}
-use Rattle.jz_tree.specs.declared.expr.Expr.TheViews.{out-Expr}
-use Rattle.jz_tree.specs.declared.expr.Expr.TheOpen.{Expr-F}
 use Rattle.jz_meaning.specs.declared.left.Waiting.{Waiting}
 use Rattle.jz_meaning.specs.Attempts.{Evaluation, and_then}
 use Rattle.jz_meaning.specs.States.{Value, State}
@@ -15,14 +13,6 @@ use Rattle.jz_meaning.specs.Values.{own_size, evaluated, with_right, right_wante
 -- nothing is wanted only where the expression has no size by itself; else what is wanted is settled
 abbrev pub IsDetermined : Option Size → Expr → Type 0
 IsDetermined wanted e = option_or wanted (own_size e) ≡ wanted
-
-abbrev pub IsSingleLayer : {A B C D E : Type 0} → Expr-F A B C D E → Type 0
-IsSingleLayer (Expr-F.Bin op a b at) = ⊥
-IsSingleLayer _ = Unit {0}
-
--- it is no operation on two operands
-abbrev pub IsSingle : Expr → Type 0
-IsSingle e = IsSingleLayer (out-Expr e)
 
 -- the operation, whose left operand has this value
 abbrev pub go_on : Waiting → State → Value → Evaluation Value

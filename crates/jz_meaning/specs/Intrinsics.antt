@@ -1,4 +1,5 @@
--- Intrinsics: what each instruction leaves of words, flags and value, by its own formulas. A flag that it leaves undefined is unset.
+-- Intrinsics: what each instruction leaves of words, flags and value, by its own formulas. A flag
+-- that it leaves undefined is unset.
 use Rattle.std.specs.Prelude.{ℕ, Bool, true, false, List, [], ◌∷◌, ◌++◌, map, drop, take, Option, Some, None, pos}
 use Rattle.std.specs.Option.{option_or}
 use Rattle.jz_tree.specs.Span.{Span}
@@ -83,7 +84,8 @@ abbrev pub divided_by : Span → Size → List ℕ → Option DoubleAnswer → E
 divided_by at z ns None = stuck_at at Divide
 divided_by at z ns (Some r) = went ns (all_flags r.flags ++ Some (word z r.low) ∷ Some (word z r.high) ∷ [])
 
--- the quotient before the remainder, where a word holds the quotient; a division shows the high word, the low word and the divisor
+-- the quotient before the remainder, where a word holds the quotient; a division shows the high
+-- word, the low word and the divisor
 abbrev pub division_results : Span → Size → ℕ → ℕ → ℕ → Evaluation Results
 division_results at z high low d = divided_by at z (high ∷ low ∷ d ∷ []) (quotient_answer z high low d)
 
@@ -142,7 +144,8 @@ intrinsic_results name.Mul at z = of_two (product_results z) at z
 intrinsic_results name.Div at z = of_division at z
 intrinsic_results name.Setcc at z = of_condition at
 
--- the size that the name says, or that of the value, or that of the first operand that has one; SETcc gives a byte, LEA a word of 64 bits
+-- the size that the name says, or that of the value, or that of the first operand that has one;
+-- SETcc gives a byte, LEA a word of 64 bits
 abbrev pub first_size : List Expr → Option Size
 first_size [] = None
 first_size (e ∷ es) = option_or (own_size e) (first_size es)

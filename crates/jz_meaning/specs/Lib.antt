@@ -1,6 +1,7 @@
 pub mod InnerAccesses
 pub mod Assignments
 pub mod Attempts
+pub mod CallLaws
 pub mod CutLaws
 pub mod InnerEvaluating
 pub mod Intrinsics

@@ -1,10 +1,12 @@
--- What the operators give on words, on whole numbers and on flags. What typing excludes has no value.
-use Rattle.std.specs.Prelude.{ℕ, ◌-◌, ◌*◌, ◌/◌, ◌%◌, ◌==◌, nat_lt, nat_le, bit_and, bit_or, bit_xor, Bool, true, false, not, ◌&&◌, ◌||◌, [], ◌∷◌, Option, Some, None, option_map, if◌then◌else◌, ℤ, pos, int_lt, int_le, int_div, int_rem}
+-- What the operators give on words, on whole numbers and on flags. What typing excludes has no
+-- value.
+use Rattle.std.specs.Prelude.{ℕ, ◌-◌, ◌*◌, ◌/◌, ◌%◌, ◌==◌, nat_lt, nat_le, bit_and, bit_or, bit_xor, Bool, false, not, ◌&&◌, ◌||◌, [], ◌∷◌, Option, Some, None, option_map, if◌then◌else◌, ℤ, pos, int_lt, int_le, int_div, int_rem}
 use Rattle.std.specs.Option.{option_and_then}
 use Rattle.jz_tree.specs.Span.{Span}
 use Rattle.x64_insn.specs.Size.{Size}
 use Rattle.x64_insn.specs.Sizes.{bits_of, modulus, half, signed}
 use Rattle.x64_insn.specs.Words.{sum_of, difference_of, residue, shl_of, shr_of, sar_of, rol_of, ror_of}
+pub use Rattle.jz_tree.specs.Operators.{is_shift, joins}
 use Rattle.jz_tree.specs.declared.expr.BinOp.{BinOp}
 use Rattle.jz_tree.specs.declared.expr.BinOp.TheVariants as o
 use Rattle.jz_integers.specs.declared.constant.Constant.{Constant}
@@ -101,20 +103,7 @@ by_flag _ s a c = None
 
 -- ---- values
 
-abbrev pub is_shift : BinOp → Bool
-is_shift o.Shl = true
-is_shift o.Shr = true
-is_shift o.Sar = true
-is_shift o.Rol = true
-is_shift o.Ror = true
-is_shift _ = false
-
 -- `&&` and `||`: the left part alone may give the answer, else the right one does
-abbrev pub joins : BinOp → Bool
-joins o.AndThen = true
-joins o.OrElse = true
-joins _ = false
-
 abbrev pub joined : BinOp → Bool → Option Value
 joined op right = if joins op then Some (boolean right) else None
 
@@ -139,7 +128,8 @@ count_of (word z n) = Some n
 count_of (integer (pos n)) = Some n
 count_of _ = None
 
--- what is shifted has the size that is wanted, whatever the size of the count; both may be whole numbers
+-- what is shifted has the size that is wanted, whatever the size of the count; both may be whole
+-- numbers
 unfoldable pub shifted : BinOp → Option Size → Value → Value → Option Value
 shifted op w (word s a) y = option_and_then (shifted_word op s a) (count_of y)
 shifted op w (integer i) (integer j) = option_map of_constant (on_integers op i j)

@@ -1,5 +1,6 @@
--- The run of a source function: what the statements of the text do, parameters in and results out. No register, no place in the frame and
--- no code is named. A body is seen as a tree in which each call holds the body that it calls.
+-- The run of a source function: what the statements of the text do, parameters in and results out.
+-- No register, no place in the frame and no code is named. A body is seen as a tree in which each
+-- call holds the body that it calls.
 use Rattle.std.specs.Prelude.{◌≡◌, ◌<◌, ℕ, zero, suc, not, is_some, Bool, List, [], ◌∷◌, map, length, Option, Some, None, Contains, if◌then◌else◌}
 use Rattle.std.specs.List.{AllZip}
 use Rattle.jz_tree.specs.Span.{Span}
@@ -63,7 +64,8 @@ abbrev pub body_tree : Option (List (Block → Block)) → Block
 body_tree None = done
 body_tree (Some b) = in_order b done
 
--- `while (c) { b }`, `while { p } (c) { b }` and `while { p } (c)`: an absent prologue or body has no statement
+-- `while (c) { b }`, `while { p } (c) { b }` and `while { p } (c)`: an absent prologue or body has
+-- no statement
 abbrev pub kind_tree : Callees → StmtKind-F (Span → Block → Block) (Block → Block) → Span → Block → Block
 kind_tree callees (StmtKind-F.Assign to o r c) at rest = assign_tree callees to o r c at rest
 kind_tree callees (StmtKind-F.If c a b) at rest = choose (record { cond = c; at = at }) (in_order a done) (in_order b done) rest
@@ -83,7 +85,8 @@ abbrev pub with_tree : (List Stmt → Block) → Option Fun → Option Callee
 with_tree tree None = None
 with_tree tree (Some f) = Some (record { of = f; body = tree f.body })
 
--- the functions that can be called where calls may be so deep; without recursion as many as there are functions are enough
+-- the functions that can be called where calls may be so deep; without recursion as many as there
+-- are functions are enough
 abbrev pub callees_of : List Fun → ℕ → Callees
 callees_of fs zero n = None
 callees_of fs (suc depth) n = with_tree (λ ss. block (callees_of fs depth) ss done) (function_named n fs)

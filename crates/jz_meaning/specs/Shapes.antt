@@ -1,12 +1,11 @@
 -- How many numbers an expression leaks, by its text and by what its variables may hold.
 use Rattle.std.specs.Prelude.{ℕ, ◌+◌, ◌==◌, Bool, true, false, not, ◌&&◌, ◌||◌, List, Option, Some, ◌≡◌, if◌then◌else◌, ℤ}
+use Rattle.jz_tree.specs.Operators.{joins, divides}
 use Rattle.jz_tree.specs.declared.expr.BinOp.{BinOp}
-use Rattle.jz_tree.specs.declared.expr.BinOp.TheVariants as o
 use Rattle.jz_tree.specs.declared.expr.Expr.{Expr}
 use Rattle.jz_tree.specs.declared.expr.Expr.TheOpen.{Expr-F}
 use Rattle.jz_tree.specs.declared.expr.Expr.TheFolds.{fold-Expr}
 use Rattle.jz_meaning.specs.States.{Value, word, boolean, integer, Key, Store}
-use Rattle.jz_meaning.specs.Operators.{joins}
 use Rattle.jz_meaning.specs.Values.{gives_word}
 
 -- what a value is, apart from which one
@@ -35,13 +34,6 @@ both _ _ = words
 -- an operation on two integers gives one
 abbrev pub sort_of_operation : BinOp → Sort → Sort → Sort
 sort_of_operation op a b = if gives_word op then both a b else flags
-
-abbrev pub divides : BinOp → Bool
-divides o.Div = true
-divides o.Rem = true
-divides o.DivS = true
-divides o.RemS = true
-divides _ = false
 
 abbrev pub are_integers : Sort → Sort → Bool
 are_integers integers integers = true
@@ -86,6 +78,7 @@ shape_step (Expr-F.Bin op a b at) = operation_shape op a b
 abbrev pub shape_of : Sorts → Expr → Shape
 shape_of sorts = fold-Expr _ _ _ _ _ shape_step (λ t. tt) (λ a. a.at) (λ d. tt) (λ x. sorts x.name x.copy)
 
--- integers that inline variables and constants have, by name and copy: a store has no other values there
+-- integers that inline variables and constants have, by name and copy: a store has no other values
+-- there
 abbrev pub HoldsIntegers : (List ℕ → ℕ → Option ℤ) → Store → Type 0
 HoldsIntegers numbers store = (k : Key) (i : ℤ) (v : Value) → numbers k.name k.copy ≡ Some i → store k ≡ Some v → v ≡ integer i

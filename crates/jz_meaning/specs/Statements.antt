@@ -1,5 +1,6 @@
--- What the parts of statements do: assignments and instructions, tests, counters of `for`, and calls. An argument is evaluated in the
--- caller's state; each call has fresh variables, and its array parameters are the caller's arrays.
+-- What the parts of statements do: assignments and instructions, tests, counters of `for`, and
+-- calls. An argument is evaluated in the caller's state; each call has fresh variables, and its
+-- array parameters are the caller's arrays.
 use Rattle.std.specs.Prelude.{ℕ, zero, suc, Bool, List, [], ◌∷◌, Option, Some, None, if◌then◌else◌, ℤ, pos, negsuc, ◌+ℤ◌, ◌-ℤ◌}
 use Rattle.jz_tree.specs.Span.{Span}
 use Rattle.jz_tree.specs.declared.expr.BinOp.{BinOp}
@@ -140,7 +141,8 @@ abbrev pub array_passed : Span → ℕ → Ref → Option Ref → Store → Stor
 array_passed at n p None outer inner = stuck_at at Init
 array_passed at n p (Some x) outer inner = went [] (copied n p x outer inner)
 
--- an argument is evaluated in the caller's state, and its parameter set among the callee's variables
+-- an argument is evaluated in the caller's state, and its parameter set among the callee's
+-- variables
 abbrev pub passed : Span → Kind → Ref → Expr → State → Store → Evaluation Store
 passed at (kind.Array z n) p e s inner = array_passed at n p (array_of e) s.store inner
 passed at k p e s inner = and_then (evaluated e (size_of k) s) (λ v. and_then (held p.span k v) (λ h. went [] (put inner (key_of p) (Some h))))
@@ -163,7 +165,8 @@ abbrev pub arrays_back : List Param → List Expr → Store → Store → Store
 arrays_back (p ∷ ps) (e ∷ es) inner outer = arrays_back ps es inner (array_back (ref_of p.var).kind (ref_of p.var) (array_of e) inner outer)
 arrays_back _ _ inner outer = outer
 
--- each result is read just before its left side; one that is dropped is not read, and one that is an array is the caller's already
+-- each result is read just before its left side; one that is dropped is not read, and one that is
+-- an array is the caller's already
 abbrev pub given : Kind → Ref → Lval → Store → State → Evaluation State
 given k x (lval.Skip at) inner s = went [] s
 given (kind.Array z n) x d inner s = went [] s

@@ -21,7 +21,8 @@ as_value (v.Word w) = word w.size w.bits
 as_value (v.Bool c) = boolean c
 as_value (v.Int i) = integer i
 
--- what can have a value: a variable, or one cell of an array; the copy tells the variables of copied bodies apart
+-- what can have a value: a variable, or one cell of an array; the copy tells the variables of
+-- copied bodies apart
 pub record Key : Type 0 where
   pub name : List ℕ
   pub copy : ℕ

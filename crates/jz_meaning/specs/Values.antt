@@ -1,5 +1,6 @@
--- The value of an expression and the numbers that it leaks, from left to right: the index of each access to an array, the address of
--- each access to memory, and the high word, the low word and the divisor of each division.
+-- The value of an expression and the numbers that it leaks, from left to right: the index of each
+-- access to an array, the address of each access to memory, and the high word, the low word and the
+-- divisor of each division.
 use Rattle.std.specs.Prelude.{ℕ, ◌%◌, ◌==◌, nat_lt, Bool, true, false, ◌||◌, List, [], ◌∷◌, Option, Some, None, Result, Ok, Err, if◌then◌else◌, ℤ, pos, negsuc}
 use Rattle.std.specs.Option.{option_or}
 use Rattle.jz_tree.specs.Span.{Span}
@@ -15,6 +16,7 @@ use Rattle.jz_tree.specs.declared.expr.Var.{Var}
 use Rattle.jz_tree.specs.declared.expr.Access.{Access}
 use Rattle.jz_tree.specs.declared.expr.Expr.TheOpen.{Expr-F, Ty-F, Access-F, Decl-F, Var-F}
 use Rattle.jz_tree.specs.declared.expr.Expr.TheFolds.{fold-Expr, fold-Access, fold-Decl, fold-Var}
+use Rattle.jz_tree.specs.Operators.{is_shift}
 use Rattle.jz_meaning.specs.declared.access.Kind.{Kind}
 use Rattle.jz_meaning.specs.declared.access.Kind.TheVariants as kind
 use Rattle.jz_meaning.specs.declared.value.Stuck.{Stuck}
@@ -22,7 +24,7 @@ use Rattle.jz_meaning.specs.declared.value.Why.TheVariants.{Bounds, Address, Ali
 use Rattle.jz_runs.specs.Rules.{stuck, went}
 use Rattle.jz_meaning.specs.Attempts.{Evaluation, stuck_at, and_then, defined}
 use Rattle.jz_meaning.specs.States.{Value, word, boolean, integer, Key, Store, State}
-use Rattle.jz_meaning.specs.Operators.{word_at, is_shift, binary, is_settled, negated, inverted, cast}
+use Rattle.jz_meaning.specs.Operators.{word_at, binary, is_settled, negated, inverted, cast}
 
 -- ---- variables
 
@@ -76,7 +78,8 @@ pub record MemoryAccess : Type 0 where
 abbrev pub is_aligned : Size → ℕ → Bool
 is_aligned s a = a % bytes_of s == 0
 
--- the address is leaked where each byte of the access is valid and the address is a multiple of the size
+-- the address is leaked where each byte of the access is valid and the address is a multiple of the
+-- size
 abbrev pub accessed : {A : Type 0} → Span → Bool → Size → ℕ → Option A → Evaluation A
 accessed at unaligned s a None = stuck_at at Address
 accessed at unaligned s a (Some x) = if unaligned || is_aligned s a then went (a ∷ []) x else stuck_at at Align
@@ -156,7 +159,8 @@ with_right op right at w s x =
 abbrev pub run_binary : BinOp → (Option Size → State → Evaluation Value) → (Option Size → State → Evaluation Value) → Span → Option Size → State → Evaluation Value
 run_binary op left right at w s = and_then (left w s) (with_right op right at w s)
 
--- the cases of an expression; of an operand with one sign or `!` before it the size that is wanted is that of the whole
+-- the cases of an expression; of an operand with one sign or `!` before it the size that is wanted
+-- is that of the whole
 abbrev pub expr_step : Expr-F Meaning Kind MemoryAccess Kind Ref → Meaning
 expr_step (Expr-F.Num i at) = record { size = None; literal = Some i; run = λ w s. went [] (integer i) }
 expr_step (Expr-F.Expr::Bool c at) = meaning None (λ w s. went [] (boolean c))

@@ -2,8 +2,9 @@
 
 ghost use Rattle.std.specs.Prelude.{◌≡◌};
 ghost use Rattle.jz_tree.specs.Failures.{IfAnswered};
+ghost use Rattle.jz_tree.specs.LeftSides.{IsSingle};
 ghost use Rattle.jz_meaning.specs.Attempts.{Evaluates, value_seen};
-ghost use Rattle.jz_meaning.specs.InnerEvaluating.{IsDetermined, IsSingle, go_on};
+ghost use Rattle.jz_meaning.specs.InnerEvaluating.{IsDetermined, go_on};
 ghost use Rattle.jz_meaning.specs.States.{as_value};
 ghost use Rattle.jz_meaning.specs.Stores.{state_of};
 ghost use Rattle.jz_meaning.specs.Values as values;
@@ -11,10 +12,10 @@ ghost use Rattle.jz_meaning.specs.Values.{evaluated};
 
 use crate::access::{cell, load, variable};
 use crate::left::{LeftSide, Waiting, left_side, own_size};
-use crate::operators::{binary, cast, inverted_value, is_settled, is_shift, negated_value};
+use crate::operators::{binary, cast, inverted_value, is_settled, negated_value};
 use crate::state::State;
 use crate::value::{Stuck, Value, defined, missing};
-use jz_tree::{BinOp, Expr, Failure, Seq};
+use jz_tree::{BinOp, Expr, Failure, Seq, is_shift};
 use x64_insn::Size;
 
 /// What is wanted of the right operand, beside what is of the left one: a count is a byte.

@@ -6,7 +6,8 @@ ghost use Rattle.x64_insn.specs.Size.{Size};
 ghost use Rattle.jz_tree.specs.declared.expr.Expr.{Expr};
 ghost use Rattle.jz_tree.specs.declared.program.Program.{Program};
 ghost use Rattle.jz_tree.specs.declared.program.Fun.{Fun};
-ghost use Rattle.jz_runs.specs.Laws.{AtLeastOne, AtMostOne, StaysWithMore, StaysWithAsMany};
+ghost use Rattle.jz_tree.specs.Laws.{AtMostOne};
+ghost use Rattle.jz_runs.specs.Laws.{AtLeastOne, StaysWithMore, StaysWithAsMany};
 ghost use Rattle.jz_meaning.specs.Statements.{Block, source};
 ghost use Rattle.jz_meaning.specs.Runs.{IsInput, IsRun};
 ghost use Rattle.jz_integers.specs.declared.constant.Constant.{Constant};
@@ -15,6 +16,7 @@ ghost use Rattle.jz_runs.specs.Rules.{went, Goes};
 ghost use Rattle.jz_meaning.specs.States.{State, Value};
 ghost use Rattle.jz_meaning.specs.Operators.{of_constant};
 ghost use Rattle.jz_meaning.specs.Values.{evaluated};
+ghost use Rattle.jz_meaning.specs.CallLaws.{ArgumentsAreAssigned};
 ghost use Rattle.jz_meaning.specs.CutLaws.{BodiesHoldCuts, FunctionsHoldCuts};
 ghost use Rattle.jz_meaning.specs.Shapes.{Sorts, HoldsSorts, shape_of, HoldsIntegers};
 
@@ -75,4 +77,10 @@ pub fn same_with_as_many_used()
 pub fn a_leak_holds_a_cut_where_its_run_was_cut()
     ensures statements { BodiesHoldCuts }
     ensures functions { FunctionsHoldCuts }
+{}
+
+/// A call passes a value to a parameter as an assignment to the parameter writes it. So what the
+/// parameter cannot hold is stuck at the parameter's place.
+pub fn arguments_are_assigned()
+    ensures { ArgumentsAreAssigned }
 {}

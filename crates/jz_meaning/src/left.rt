@@ -3,14 +3,14 @@
 
 ghost use Rattle.std.specs.Prelude.{◌≡◌, IfOk};
 ghost use Rattle.std.specs.Option.{option_or};
-ghost use Rattle.jz_meaning.specs.InnerEvaluating.{IsDetermined, IsSingle, IsLeftSide};
-ghost use Rattle.jz_meaning.specs.Operators.{is_shift};
+ghost use Rattle.jz_meaning.specs.InnerEvaluating.{IsDetermined, IsLeftSide};
 ghost use Rattle.jz_meaning.specs.Values as values;
 ghost use Rattle.std.specs.Prelude.{if◌then◌else◌};
+ghost use Rattle.jz_tree.specs.LeftSides.{IsSingle};
+ghost use Rattle.jz_tree.specs.Operators.{is_shift};
 
 use crate::access::{kind_of, size_of};
-use crate::operators::is_shift;
-use jz_tree::{BinOp, Expr, Span};
+use jz_tree::{BinOp, Expr, Span, is_shift};
 use std::alloc::{AllocError, Global};
 use x64_insn::Size;
 

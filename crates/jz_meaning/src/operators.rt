@@ -14,7 +14,7 @@ ghost use Rattle.jz_meaning.specs.States as states;
 
 use crate::value::{Stuck, Value, Why, initialized, missing};
 use jz_integers::{Constant, inverted, negated, on_integers};
-use jz_tree::{BinOp, Failure, Seq, Span};
+use jz_tree::{BinOp, Failure, Seq, Span, is_shift, joins};
 use std::alloc::AllocError;
 use x64_insn::{
     Size, Word, add_carry, and, mul_wide, or, residue, rol, ror, sar, shl, shr, sub_borrow, xor,
@@ -324,22 +324,6 @@ fn count_of(value: Value) -> Option<u128>
             }
         }
     }
-}
-
-/// Whether an operator shifts or rotates: its operands may differ in size.
-pub fn is_shift(op: BinOp) -> bool
-    ensures { result ≡ operators.is_shift op }
-{
-    matches!(
-        op,
-        BinOp::Shl | BinOp::Shr | BinOp::Sar | BinOp::Rol | BinOp::Ror
-    )
-}
-
-fn joins(op: BinOp) -> bool
-    ensures { result ≡ operators.joins op }
-{
-    matches!(op, BinOp::AndThen | BinOp::OrElse)
 }
 
 /// Whether the left operand alone gives the answer of `&&` or `||`.

@@ -52,8 +52,9 @@ impl From<Stuck> for Failure<Stuck> {
     }
 }
 
-/// Stuck for Init: what is read has no value, or none of the sort that is wanted.
-pub(crate) fn missing(span: Span) -> Stuck
+/// Stuck at that place for Init: a variable, cell or operand has no value of the sort that is
+/// wanted.
+pub fn missing(span: Span) -> Stuck
     ensures { result ≡ record { span = span; why = Init } }
 {
     Stuck {

@@ -3,7 +3,7 @@ use Rattle.std.proofs.Common.{◌≡◌, ℕ, List, [], ◌∷◌, ◌++◌, Opt
 use Rattle.jz_tree.specs.Span.{Span}
 use Rattle.jz_grammar.specs.Token.{Token}
 use Rattle.jz_grammar.specs.Kinds.{Kind, word, sign, span_of, is_in}
-use Rattle.jz_grammar.specs.InnerReading.{Answer, Reader, ◌>>=◌, through, follow, many}
+use Rattle.jz_grammar.specs.Readers.{Answer, Reader, ◌>>=◌, through, follow, many}
 use Rattle.jz_grammar.specs.Grammar.{Lang, ◌▸◌, ◌⊕◌, ◌⇒◌, each, opens, maybe}
 use Rattle.jz_grammar.proofs.Laws.{IsReader, HasPhrase, Shape, full}
 use Rattle.jz_grammar.specs.Deriving.{plus}

@@ -4,9 +4,9 @@ use Rattle.std.proofs.lemmas.Bool.{lt-ltb}
 use Rattle.jz_grammar.proofs.LexingWords.{if_false, if_true}
 use Rattle.jz_tree.specs.Span.{Span}
 use Rattle.jz_grammar.specs.Token.{Token}
-use Rattle.jz_grammar.specs.Causes.{Cause}
+use Rattle.jz_grammar.specs.Causes.{Cause, cause_of}
 use Rattle.jz_grammar.specs.Causes as cause
-use Rattle.jz_grammar.specs.InnerReading.{Answer, final}
+use Rattle.jz_grammar.specs.Readers.{Answer, final}
 use Rattle.jz_grammar.specs.Grammar.{Marked}
 use Rattle.jz_grammar.proofs.Laws.{Next}
 use Rattle.jz_grammar.specs.Deriving.{Derives, BeginsWithin, IsRefused}
@@ -17,7 +17,7 @@ use Rattle.jz_tree.specs.declared.program.Program.{Program}
 use Rattle.jz_grammar.specs.declared.fault.SyntaxKind.{SyntaxKind}
 use Rattle.jz_grammar.specs.declared.fault.SyntaxKind.TheVariants.{Unexpected, TooDeep}
 use Rattle.jz_grammar.specs.declared.fault.SyntaxFault.{SyntaxFault}
-use Rattle.jz_grammar.specs.InnerGave.{cause_of, numbered_answer}
+use Rattle.jz_grammar.specs.InnerNumbered.{numbered_answer}
 use Rattle.jz_grammar.specs.Places.{span_at, span_or_start, IsFaultAt}
 use Rattle.jz_parse.specs.Deriving.{IsStoppedAt, IsFaultWithin}
 use Rattle.jz_parse.specs.Grammar as g

@@ -21,7 +21,7 @@ use Rattle.jz_parse.specs.declared.function.Body.{Body}
 use Rattle.jz_parse_expr.specs.Table.{the, key, name, expr}
 use Rattle.jz_parse_expr.specs.Trees.{used_of}
 use Rattle.jz_parse_expr.proofs.Laws.{expr_reads, some_expr}
-use Rattle.jz_parse.specs.InnerStmtReaders.{stmt_goes}
+use Rattle.jz_parse.specs.StmtReaders.{stmt_goes}
 use Rattle.jz_parse.proofs.NoteLemmas.{notes_reads}
 use Rattle.jz_parse.proofs.StmtReads.{stmt_reads}
 use Rattle.jz_parse.specs.declared.function.Item.TheVariants.{Declares, Does}

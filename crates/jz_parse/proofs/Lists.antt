@@ -4,7 +4,7 @@ use Rattle.jz_tree.specs.Span.{Span}
 use Rattle.jz_grammar.specs.Token.{Token}
 use Rattle.jz_grammar.specs.Causes.{Cause}
 use Rattle.jz_grammar.specs.Kinds.{Kind, token_kind, word, sign, is_in, has}
-use Rattle.jz_grammar.specs.InnerReading.{Answer, Reader, ◌>>=◌, through, many}
+use Rattle.jz_grammar.specs.Readers.{Answer, Reader, ◌>>=◌, through, many}
 use Rattle.jz_grammar.specs.Grammar.{Lang}
 use Rattle.jz_grammar.proofs.Laws.{IsReader, full}
 use Rattle.jz_grammar.proofs.Basics.{member_append}
@@ -18,8 +18,8 @@ use Rattle.jz_tree.specs.declared.program.Fun.{Fun}
 use Rattle.jz_tree.specs.declared.program.Param.{Param}
 use Rattle.jz_tree.specs.declared.program.Ret.{Ret}
 use Rattle.jz_tree.specs.declared.stmt.Stmt.{Stmt}
-use Rattle.jz_grammar.specs.InnerTokens.{name}
-use Rattle.jz_parse.specs.InnerStmtReaders.{stmt_starts, stmt_goes}
+use Rattle.jz_grammar.specs.TokenReaders.{name}
+use Rattle.jz_parse.specs.StmtReaders.{stmt_starts, stmt_goes}
 use Rattle.jz_parse.specs.declared.function.Item.{Item}
 use Rattle.jz_parse.specs.declared.function.Item.TheVariants.{Declares, Does}
 use Rattle.jz_parse.specs.declared.program.Part.{Part}

@@ -4,7 +4,7 @@ use Rattle.jz_tree.specs.Span.{Span}
 use Rattle.jz_grammar.specs.Token.{Token}
 use Rattle.jz_grammar.specs.Causes.{Cause}
 use Rattle.jz_grammar.specs.Kinds.{Kind, identifier, number, string, sign, span_of, has}
-use Rattle.jz_grammar.specs.InnerReading.{Answer, ◌>>=◌, through, many}
+use Rattle.jz_grammar.specs.Readers.{Answer, ◌>>=◌, through, many}
 use Rattle.jz_grammar.specs.Grammar.{Lang, token, ◌▸◌, ◌⊕◌, ◌⇒◌, each, opens, maybe}
 use Rattle.jz_grammar.proofs.Laws.{IsReader, HasPhrase, full}
 use Rattle.jz_grammar.specs.Deriving.{plus}
@@ -18,7 +18,7 @@ use Rattle.jz_tree.specs.declared.program.NoteValue.TheVariants as value
 use Rattle.jz_grammar.specs.Tokens.{name_of, number_of_token, string_of}
 use Rattle.jz_parse.specs.NotesTable as g
 use Rattle.jz_parse.specs.NotesTable.{note_of, all_notes}
-use Rattle.jz_parse.specs.InnerNotesReaders as r
+use Rattle.jz_parse.specs.NotesReaders as r
 
 -- ---- values and entries
 abbrev value_starts : List Kind

@@ -3,7 +3,7 @@ use Rattle.std.proofs.Common.{◌≡◌, inl, inr, ⊎_elim, ℕ, zero, suc, Lis
 use Rattle.jz_tree.specs.Span.{Span}
 use Rattle.jz_grammar.specs.Token.{Token}
 use Rattle.jz_grammar.specs.Kinds.{Kind, sign, word, identifier, span_of, is_in, has}
-use Rattle.jz_grammar.specs.InnerReading.{Answer, Reader, ◌>>=◌, through, follow, pick_both, many, one, optional}
+use Rattle.jz_grammar.specs.Readers.{Answer, Reader, ◌>>=◌, through, follow, pick_both, many, one, optional}
 use Rattle.jz_grammar.specs.Grammar.{Marked, Lang, token, ◌▸◌, ◌⊕◌, ◌⇒◌, each, opens, maybe}
 use Rattle.jz_grammar.proofs.Laws.{Shape, IsReader, HasPhrase, Second, one_shape, full}
 use Rattle.jz_grammar.specs.Deriving.{plus}
@@ -22,14 +22,14 @@ use Rattle.jz_tree.specs.declared.stmt.Rhs.{Rhs}
 use Rattle.jz_tree.specs.declared.stmt.Rhs.TheVariants.{Value}
 use Rattle.jz_tree.specs.declared.stmt.StmtKind.{StmtKind}
 use Rattle.jz_parse_expr.specs.Table as t
-use Rattle.jz_parse_expr.specs.InnerReaders as q
+use Rattle.jz_parse_expr.specs.Readers as q
 use Rattle.jz_parse_expr.specs.Operators.{level_count}
 use Rattle.jz_parse_expr.proofs.Levels.{the_reads, key_reads, some_the}
 use Rattle.jz_parse_expr.proofs.Laws.{expr_reads, index_reads, access_reads, some_expr}
 use Rattle.jz_parse.specs.StmtTrees.{assignments, operation_of, call_of, intrinsic_of, name_lval, span_of_lval, assign_statement, call_statement}
 use Rattle.jz_grammar.specs.Parts.{or_empty}
 use Rattle.jz_parse.specs.Table as g
-use Rattle.jz_parse.specs.InnerStmtReaders as r
+use Rattle.jz_parse.specs.StmtReaders as r
 
 -- ---- one token
 pub name_reads : (d : ℕ) → IsReader q.name (λ e. t.name (plus d e)) (one_shape r.names)

@@ -3,16 +3,16 @@ use Rattle.std.proofs.Common.{◌≡◌, ℕ, ◌<◌, List, [], ◌∷◌, ◌+
 use Rattle.jz_grammar.specs.Token.{Token}
 use Rattle.jz_grammar.specs.Causes.{Cause}
 use Rattle.jz_grammar.specs.Kinds.{Kind, token_kind, is_in, has}
-use Rattle.jz_grammar.specs.InnerReading.{Answer, through, many}
+use Rattle.jz_grammar.specs.Readers.{Answer, through, many}
 use Rattle.jz_grammar.proofs.Combine.{shorter}
 use Rattle.jz_grammar.proofs.Basics.{member_append}
 use Rattle.jz_grammar.proofs.Steps.{more_done, more_next, more_wrong}
 use Rattle.jz_tree.specs.declared.expr.Expr.{Expr}
 use Rattle.jz_tree.specs.declared.stmt.Lval.{Lval}
 use Rattle.jz_tree.specs.declared.stmt.Stmt.{Stmt}
-use Rattle.jz_parse_expr.specs.InnerReaders as q
+use Rattle.jz_parse_expr.specs.Readers as q
 use Rattle.jz_parse.specs.StmtTrees.{sum_assignments, quotient_assignments, bit_assignments, shift_assignments, assignments}
-use Rattle.jz_parse.specs.InnerStmtReaders as r
+use Rattle.jz_parse.specs.StmtReaders as r
 use Rattle.jz_parse.proofs.Parts.{L, next_arg_law, next_lval_law}
 use Rattle.jz_parse.proofs.StmtReads.{stmt_reads}
 

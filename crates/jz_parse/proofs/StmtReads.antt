@@ -4,7 +4,7 @@ use Rattle.jz_tree.specs.Span.{Span}
 use Rattle.jz_grammar.specs.Token.{Token}
 use Rattle.jz_grammar.specs.Causes.{Unexpected}
 use Rattle.jz_grammar.specs.Kinds.{Kind, sign, word, identifier}
-use Rattle.jz_grammar.specs.InnerReading.{through, follow, pick, many, inside, optional}
+use Rattle.jz_grammar.specs.Readers.{through, follow, pick, many, inside, optional}
 use Rattle.jz_grammar.specs.Grammar.{Marked, Lang, ◌▸◌, ◌⊕◌, ◌⇒◌, each, opens, maybe}
 use Rattle.jz_grammar.proofs.Laws.{Shape, IsReader, HasPhrase, full}
 use Rattle.jz_grammar.specs.Deriving.{plus}
@@ -15,15 +15,15 @@ use Rattle.jz_tree.specs.declared.expr.Expr.{Expr}
 use Rattle.jz_tree.specs.declared.stmt.Stmt.{Stmt}
 use Rattle.jz_tree.specs.declared.stmt.StmtKind.{StmtKind}
 use Rattle.jz_parse_expr.specs.Table as t
-use Rattle.jz_parse_expr.specs.InnerReaders as q
+use Rattle.jz_parse_expr.specs.Readers as q
 use Rattle.jz_parse_expr.proofs.Levels.{the_reads, key_reads, some_the}
 use Rattle.jz_parse_expr.proofs.Laws.{expr_reads, some_expr}
 use Rattle.jz_parse.specs.StmtTrees.{if_statement, while_statement, for_statement, stmt_of}
 use Rattle.jz_grammar.specs.Parts.{or_empty}
 use Rattle.jz_parse.specs.NotesTable as n
-use Rattle.jz_parse.specs.InnerNotesReaders as m
+use Rattle.jz_parse.specs.NotesReaders as m
 use Rattle.jz_parse.specs.Table as g
-use Rattle.jz_parse.specs.InnerStmtReaders as r
+use Rattle.jz_parse.specs.StmtReaders as r
 use Rattle.jz_parse.proofs.NoteLemmas.{notes_reads, some_notes}
 use Rattle.jz_parse.proofs.Parts.{name_reads, some_key, some_name, any_the, any_then, any_each, any_expr, simple_law, some_assign}
 

@@ -7,7 +7,7 @@ use Rattle.jz_tree.specs.declared.program.Program.{Program}
 use Rattle.jz_grammar.specs.declared.fault.SyntaxKind.{SyntaxKind}
 use Rattle.jz_grammar.specs.declared.fault.SyntaxKind.TheVariants.{Unexpected}
 use Rattle.jz_grammar.specs.declared.fault.SyntaxFault.{SyntaxFault}
-use Rattle.jz_grammar.specs.InnerGave.{cause_of}
+use Rattle.jz_grammar.specs.Causes.{cause_of}
 use Rattle.jz_grammar.specs.Places.{span_at}
 use Rattle.jz_parse.specs.Grammar.{program}
 

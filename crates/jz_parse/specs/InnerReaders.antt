@@ -2,7 +2,7 @@
 use Rattle.std.specs.Prelude.{ℕ, List, [], ◌∷◌, ◌++◌, codes}
 use Rattle.jz_tree.specs.Span.{Span}
 use Rattle.jz_grammar.specs.Kinds.{Kind, word, sign, identifier, end, span_of}
-use Rattle.jz_grammar.specs.InnerReading.{Reader, ◌>>=◌, through, follow, pick, many, leaf, inside, optional, more_of}
+use Rattle.jz_grammar.specs.Readers.{Reader, ◌>>=◌, through, follow, pick, many, leaf, inside, optional, more_of}
 use Rattle.jz_tree.specs.declared.expr.Decl.{Decl}
 use Rattle.jz_tree.specs.declared.expr.Storage.{Storage}
 use Rattle.jz_tree.specs.declared.expr.Storage.TheVariants as place
@@ -18,10 +18,10 @@ use Rattle.jz_tree.specs.declared.program.Program.{Program}
 use Rattle.jz_tree.specs.declared.program.Ret.{Ret}
 use Rattle.jz_tree.specs.declared.stmt.Stmt.{Stmt}
 use Rattle.jz_parse_expr.specs.Trees.{used_of}
-use Rattle.jz_parse_expr.specs.InnerReaders.{word_type, index, expr}
-pub use Rattle.jz_grammar.specs.InnerTokens.{the, key, name}
-use Rattle.jz_parse.specs.InnerNotesReaders.{notes}
-use Rattle.jz_parse.specs.InnerStmtReaders.{stmt, stmt_starts}
+use Rattle.jz_parse_expr.specs.Readers.{word_type, index, expr}
+pub use Rattle.jz_grammar.specs.TokenReaders.{the, key, name}
+use Rattle.jz_parse.specs.NotesReaders.{notes}
+use Rattle.jz_parse.specs.StmtReaders.{stmt, stmt_starts}
 use Rattle.jz_parse.specs.declared.function.Body.{Body}
 use Rattle.jz_parse.specs.declared.function.Item.{Item}
 use Rattle.jz_parse.specs.declared.function.Item.TheVariants.{Declares, Does}
@@ -29,7 +29,7 @@ use Rattle.jz_parse.specs.declared.program.Part.{Part}
 use Rattle.jz_parse.specs.declared.program.Part.TheVariants.{Constant, Function}
 use Rattle.jz_parse.specs.Trees.{type_of, decl_of, declared_all, params_all, ret_of, vars_in, stmts_in, body_of, fun_of, const_of, consts_in, funs_in, program_of}
 use Rattle.jz_grammar.specs.Parts.{joined_lists, or_empty}
-pub use Rattle.jz_grammar.specs.InnerTokens.{ids, commas, comma, one_and}
+pub use Rattle.jz_grammar.specs.TokenReaders.{ids, commas, comma, one_and}
 
 -- ---- the tokens that decide
 abbrev pub keyword : List ℕ → List Kind

@@ -4,7 +4,7 @@ pub mod InnerReaders
 pub mod Deriving
 pub mod Reading
 pub mod NotesTable
-pub mod InnerNotesReaders
+pub mod NotesReaders
 pub mod StmtTrees
 pub mod Table
-pub mod InnerStmtReaders
+pub mod StmtReaders

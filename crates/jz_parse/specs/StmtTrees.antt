@@ -1,5 +1,6 @@
 -- The tree of a statement, from its parts.
 use Rattle.std.specs.Prelude.{ℕ, List, [], ◌∷◌, ◌++◌, Bool, Option, Some, None, codes, bytes_eq, if◌then◌else◌}
+use Rattle.std.specs.Option.{option_or}
 use Rattle.jz_tree.specs.Span.{Span}
 use Rattle.jz_grammar.specs.Token.{Token}
 use Rattle.jz_grammar.specs.Kinds.{Kind, sign}
@@ -57,12 +58,8 @@ bit_operation t =
     if bytes_eq (text_in t.kind) (codes "<<r=") then Some op.Rol else
     if bytes_eq (text_in t.kind) (codes ">>r=") then Some op.Ror else None
 
-abbrev pub first_of : {A : Type 0} → Option A → Option A → Option A
-first_of None b = b
-first_of (Some a) b = Some a
-
 unfoldable pub operation_of : Token → Option BinOp
-operation_of t = first_of (number_operation t) (bit_operation t)
+operation_of t = option_or (number_operation t) (bit_operation t)
 
 -- ---- parts of statements
 

@@ -1,13 +1,13 @@
 //! Reads annotations.
 
-ghost use Rattle.jz_grammar.specs.InnerGave.{Gave};
-ghost use Rattle.jz_parse.specs.InnerNotesReaders.{note_value, equal_value, entry, next_entry, entries_more, entry_list, notes_bracketed, entries, annotation, notes};
+ghost use Rattle.jz_grammar.specs.Gave.{Gave};
+ghost use Rattle.jz_parse.specs.NotesReaders.{note_value, equal_value, entry, next_entry, entries_more, entry_list, notes_bracketed, entries, annotation, notes};
 
 use jz_grammar::{Cursor, Stop};
 use jz_tree::{Note, NoteValue, Seq, Span};
 use std::alloc::Global;
 
-#[tactic(auto, unfolding(crate::specs::InnerNotesReaders::note_value))]
+#[tactic(auto, unfolding(crate::specs::NotesReaders::note_value))]
 fn note_value(alloc: Global, c: &mut Cursor) -> Result<NoteValue, Stop>
     ensures { Gave result c.new (note_value c.old) }
 {
@@ -23,7 +23,7 @@ fn note_value(alloc: Global, c: &mut Cursor) -> Result<NoteValue, Stop>
     Ok(NoteValue::Str(bytes))
 }
 
-#[tactic(auto, unfolding(crate::specs::InnerNotesReaders::equal_value))]
+#[tactic(auto, unfolding(crate::specs::NotesReaders::equal_value))]
 fn equal_value(alloc: Global, c: &mut Cursor) -> Result<NoteValue, Stop>
     ensures { Gave result c.new (equal_value c.old) }
 {
@@ -33,7 +33,7 @@ fn equal_value(alloc: Global, c: &mut Cursor) -> Result<NoteValue, Stop>
 }
 
 /// An entry of the annotation at this place.
-#[tactic(auto, unfolding(crate::specs::InnerNotesReaders::entry))]
+#[tactic(auto, unfolding(crate::specs::NotesReaders::entry))]
 fn entry(alloc: Global, c: &mut Cursor, span: Span) -> Result<Note, Stop>
     ensures { Gave result c.new (entry span c.old) }
 {
@@ -46,7 +46,7 @@ fn entry(alloc: Global, c: &mut Cursor, span: Span) -> Result<Note, Stop>
     Ok(Note { name, value, span })
 }
 
-#[tactic(auto, unfolding(crate::specs::InnerNotesReaders::next_entry))]
+#[tactic(auto, unfolding(crate::specs::NotesReaders::next_entry))]
 fn next_entry(alloc: Global, c: &mut Cursor, span: Span) -> Result<Note, Stop>
     ensures { Gave result c.new (next_entry span c.old) }
 {
@@ -72,7 +72,7 @@ fn entries_more(
     Ok(out)
 }
 
-#[tactic(auto, unfolding(crate::specs::InnerNotesReaders::entry_list))]
+#[tactic(auto, unfolding(crate::specs::NotesReaders::entry_list))]
 fn entry_list(alloc: Global, c: &mut Cursor, span: Span) -> Result<Seq<Note>, Stop>
     ensures { Gave result c.new (entry_list span c.old) }
 {
@@ -83,7 +83,7 @@ fn entry_list(alloc: Global, c: &mut Cursor, span: Span) -> Result<Seq<Note>, St
 }
 
 /// The entries in brackets.
-#[tactic(auto, unfolding(crate::specs::InnerNotesReaders::notes_bracketed))]
+#[tactic(auto, unfolding(crate::specs::NotesReaders::notes_bracketed))]
 fn bracketed(alloc: Global, c: &mut Cursor, depth: u32, span: Span) -> Result<Seq<Note>, Stop>
     ensures { Gave result c.new (notes_bracketed span depth c.old) }
 {
@@ -93,7 +93,7 @@ fn bracketed(alloc: Global, c: &mut Cursor, depth: u32, span: Span) -> Result<Se
     Ok(out)
 }
 
-#[tactic(auto, unfolding(crate::specs::InnerNotesReaders::entries))]
+#[tactic(auto, unfolding(crate::specs::NotesReaders::entries))]
 fn entries(alloc: Global, c: &mut Cursor, depth: u32, span: Span) -> Result<Seq<Note>, Stop>
     ensures { Gave result c.new (entries span depth c.old) }
 {
@@ -107,7 +107,7 @@ fn entries(alloc: Global, c: &mut Cursor, depth: u32, span: Span) -> Result<Seq<
     Ok(out)
 }
 
-#[tactic(auto, unfolding(crate::specs::InnerNotesReaders::annotation))]
+#[tactic(auto, unfolding(crate::specs::NotesReaders::annotation))]
 fn annotation(alloc: Global, c: &mut Cursor, depth: u32) -> Result<Seq<Note>, Stop>
     ensures { Gave result c.new (annotation depth c.old) }
 {
@@ -117,7 +117,7 @@ fn annotation(alloc: Global, c: &mut Cursor, depth: u32) -> Result<Seq<Note>, St
 }
 
 /// The notes of the annotations that stand there, each entry a note.
-#[tactic(auto, unfolding(crate::specs::InnerNotesReaders::notes), using(crate::proofs::NoteLemmas::notes_done, crate::proofs::NoteLemmas::notes_next, crate::proofs::NoteLemmas::notes_wrong, crate::proofs::NoteLemmas::notes_shorter))]
+#[tactic(auto, unfolding(crate::specs::NotesReaders::notes), using(crate::proofs::NoteLemmas::notes_done, crate::proofs::NoteLemmas::notes_next, crate::proofs::NoteLemmas::notes_wrong, crate::proofs::NoteLemmas::notes_shorter))]
 pub fn notes(alloc: Global, c: &mut Cursor, depth: u32) -> Result<Seq<Note>, Stop>
     ensures { Gave result c.new (notes depth c.old) }
 {

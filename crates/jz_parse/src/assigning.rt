@@ -2,10 +2,10 @@
 
 ghost use Rattle.std.specs.Prelude.{◌≡◌};
 ghost use Rattle.jz_grammar.specs.Kinds.{is_in};
-ghost use Rattle.jz_grammar.specs.InnerReading.{leaf};
-ghost use Rattle.jz_grammar.specs.InnerGave.{Gave};
+ghost use Rattle.jz_grammar.specs.Readers.{leaf};
+ghost use Rattle.jz_grammar.specs.Gave.{Gave};
 ghost use Rattle.jz_parse.specs.StmtTrees.{sum_assignments, quotient_assignments, bit_assignments, shift_assignments, assignments, number_operation, bit_operation, operation_of, span_of_lval};
-ghost use Rattle.jz_parse.specs.InnerStmtReaders.{next_arg, args_more, args, call_args, intrinsic, call_value, rhs, left_side_named, lval, next_lval, lvals_more, condition, assign, call, simple};
+ghost use Rattle.jz_parse.specs.StmtReaders.{next_arg, args_more, args, call_args, intrinsic, call_value, rhs, left_side_named, lval, next_lval, lvals_more, condition, assign, call, simple};
 
 use jz_grammar::{Cursor, Stop, Token, UNEXPECTED, has_text, is_sign};
 use jz_parse_expr::{access, begins_expr, expr, index};
@@ -13,7 +13,7 @@ use jz_tree::{BinOp, Boxed, Expr, Lval, Rhs, Seq, Span, StmtKind, Var};
 use std::alloc::Global;
 
 /// A further argument and the comma before it.
-#[tactic(auto, unfolding(crate::specs::InnerStmtReaders::next_arg))]
+#[tactic(auto, unfolding(crate::specs::StmtReaders::next_arg))]
 fn next_arg(alloc: Global, c: &mut Cursor, depth: u32) -> Result<Expr, Stop>
     ensures { Gave result c.new (next_arg depth c.old) }
 {
@@ -34,7 +34,7 @@ fn args_more(alloc: Global, c: &mut Cursor, depth: u32, first: Seq<Expr>) -> Res
     Ok(out)
 }
 
-#[tactic(auto, unfolding(crate::specs::InnerStmtReaders::args))]
+#[tactic(auto, unfolding(crate::specs::StmtReaders::args))]
 fn args(alloc: Global, c: &mut Cursor, depth: u32) -> Result<Seq<Expr>, Stop>
     ensures { Gave result c.new (args depth c.old) }
 {
@@ -45,7 +45,7 @@ fn args(alloc: Global, c: &mut Cursor, depth: u32) -> Result<Seq<Expr>, Stop>
 }
 
 /// The arguments of a call and the parentheses round them.
-#[tactic(auto, unfolding(crate::specs::InnerStmtReaders::call_args))]
+#[tactic(auto, unfolding(crate::specs::StmtReaders::call_args))]
 fn call_args(alloc: Global, c: &mut Cursor, depth: u32) -> Result<Seq<Expr>, Stop>
     ensures { Gave result c.new (call_args depth c.old) }
 {
@@ -59,7 +59,7 @@ fn call_args(alloc: Global, c: &mut Cursor, depth: u32) -> Result<Seq<Expr>, Sto
     Ok(out)
 }
 
-#[tactic(auto, unfolding(crate::specs::InnerStmtReaders::intrinsic))]
+#[tactic(auto, unfolding(crate::specs::StmtReaders::intrinsic))]
 fn intrinsic(alloc: Global, c: &mut Cursor, depth: u32) -> Result<Rhs, Stop>
     ensures { Gave result c.new (intrinsic depth c.old) }
 {
@@ -69,7 +69,7 @@ fn intrinsic(alloc: Global, c: &mut Cursor, depth: u32) -> Result<Rhs, Stop>
     Ok(Rhs::Intrinsic(name, out, span))
 }
 
-#[tactic(auto, unfolding(crate::specs::InnerStmtReaders::call_value))]
+#[tactic(auto, unfolding(crate::specs::StmtReaders::call_value))]
 fn call_value(alloc: Global, c: &mut Cursor, depth: u32) -> Result<Rhs, Stop>
     ensures { Gave result c.new (call_value depth c.old) }
 {
@@ -78,7 +78,7 @@ fn call_value(alloc: Global, c: &mut Cursor, depth: u32) -> Result<Rhs, Stop>
     Ok(Rhs::Call(name, out, span))
 }
 
-#[tactic(auto, unfolding(crate::specs::InnerStmtReaders::rhs))]
+#[tactic(auto, unfolding(crate::specs::StmtReaders::rhs))]
 fn rhs(alloc: Global, c: &mut Cursor, depth: u32) -> Result<Rhs, Stop>
     ensures { Gave result c.new (rhs depth c.old) }
 {
@@ -93,7 +93,7 @@ fn rhs(alloc: Global, c: &mut Cursor, depth: u32) -> Result<Rhs, Stop>
 }
 
 /// A variable, or the cell of an array.
-#[tactic(auto, unfolding(crate::specs::InnerStmtReaders::left_side_named))]
+#[tactic(auto, unfolding(crate::specs::StmtReaders::left_side_named))]
 fn named(alloc: Global, c: &mut Cursor, depth: u32) -> Result<Lval, Stop>
     ensures { Gave result c.new (left_side_named depth c.old) }
 {
@@ -113,7 +113,7 @@ fn named(alloc: Global, c: &mut Cursor, depth: u32) -> Result<Lval, Stop>
     Ok(Lval::Var(var))
 }
 
-#[tactic(auto, unfolding(crate::specs::InnerStmtReaders::lval))]
+#[tactic(auto, unfolding(crate::specs::StmtReaders::lval))]
 fn lval(alloc: Global, c: &mut Cursor, depth: u32) -> Result<Lval, Stop>
     ensures { Gave result c.new (lval depth c.old) }
 {
@@ -129,7 +129,7 @@ fn lval(alloc: Global, c: &mut Cursor, depth: u32) -> Result<Lval, Stop>
 }
 
 /// A further left side and the comma before it.
-#[tactic(auto, unfolding(crate::specs::InnerStmtReaders::next_lval))]
+#[tactic(auto, unfolding(crate::specs::StmtReaders::next_lval))]
 fn next_lval(alloc: Global, c: &mut Cursor, depth: u32) -> Result<Lval, Stop>
     ensures { Gave result c.new (next_lval depth c.old) }
 {
@@ -257,7 +257,7 @@ fn operation_of(token: &Token) -> Option<BinOp>
     }
 }
 
-#[tactic(auto, unfolding(jz_grammar::specs::InnerReading::one))]
+#[tactic(auto, unfolding(jz_grammar::specs::Readers::one))]
 fn operation(c: &mut Cursor) -> Result<Option<BinOp>, Stop>
     ensures { Gave result c.new (leaf assignments operation_of c.old) }
 {
@@ -272,7 +272,7 @@ fn operation(c: &mut Cursor) -> Result<Option<BinOp>, Stop>
 }
 
 /// What stands behind an `if` after the right side.
-#[tactic(auto, unfolding(crate::specs::InnerStmtReaders::condition))]
+#[tactic(auto, unfolding(crate::specs::StmtReaders::condition))]
 fn condition(alloc: Global, c: &mut Cursor, depth: u32) -> Result<Option<Expr>, Stop>
     ensures { Gave result c.new (condition depth c.old) }
 {
@@ -296,7 +296,7 @@ fn span_of_lval(to: &Lval) -> Span
 }
 
 /// An assignment: where its first left side stands, and what it does.
-#[tactic(auto, unfolding(crate::specs::InnerStmtReaders::assign, crate::specs::InnerStmtReaders::set_to))]
+#[tactic(auto, unfolding(crate::specs::StmtReaders::assign, crate::specs::StmtReaders::set_to))]
 fn assign(alloc: Global, c: &mut Cursor, depth: u32) -> Result<(Span, StmtKind), Stop>
     ensures { Gave result c.new (assign depth c.old) }
 {
@@ -313,7 +313,7 @@ fn assign(alloc: Global, c: &mut Cursor, depth: u32) -> Result<(Span, StmtKind),
 }
 
 /// A call that sets nothing.
-#[tactic(auto, unfolding(crate::specs::InnerStmtReaders::call))]
+#[tactic(auto, unfolding(crate::specs::StmtReaders::call))]
 fn call(alloc: Global, c: &mut Cursor, depth: u32) -> Result<(Span, StmtKind), Stop>
     ensures { Gave result c.new (call depth c.old) }
 {
@@ -330,7 +330,7 @@ fn call(alloc: Global, c: &mut Cursor, depth: u32) -> Result<(Span, StmtKind), S
     Ok((span, kind))
 }
 
-#[tactic(auto, unfolding(crate::specs::InnerStmtReaders::simple))]
+#[tactic(auto, unfolding(crate::specs::StmtReaders::simple))]
 pub fn simple(alloc: Global, c: &mut Cursor, depth: u32) -> Result<(Span, StmtKind), Stop>
     ensures { Gave result c.new (simple depth c.old) }
 {

@@ -2,7 +2,7 @@
 
 ghost use Rattle.std.specs.Prelude.{◌≡◌, IfOk};
 ghost use Rattle.jz_grammar.specs.Kinds.{has};
-ghost use Rattle.jz_grammar.specs.InnerGave.{Gave};
+ghost use Rattle.jz_grammar.specs.Gave.{Gave};
 ghost use Rattle.jz_parse.specs.Trees.{declared_of, declared_all, param_of, params_all};
 ghost use Rattle.jz_parse.specs.InnerReaders.{storages, storage, word_or_array, value_type, declaration, names_more, name_list, group, next_group, groups_more, groups, group_starts, params, rtype, next_rtype, rtypes_more, arrow_types, results, next_name, next_starts, declared_more, declared_names, decl};
 

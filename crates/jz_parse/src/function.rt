@@ -2,7 +2,7 @@
 
 ghost use Rattle.std.specs.Prelude.{◌≡◌, []};
 ghost use Rattle.jz_grammar.specs.Kinds.{has};
-ghost use Rattle.jz_grammar.specs.InnerGave.{Gave};
+ghost use Rattle.jz_grammar.specs.Gave.{Gave};
 ghost use Rattle.jz_parse.specs.InnerReaders.{item, item_starts, items_more, variable_used, next_used, used_more, variables, variables_enclosed, names, names_starts, variables_returned, ending, body, kind, function};
 
 use crate::declare::{begins_storage, decl, params, results};
@@ -12,14 +12,14 @@ use jz_tree::{Fun, FunKind, Seq, Stmt, Var};
 use std::alloc::Global;
 
 /// A declaration of variables, or a statement.
-#[derive(Drop, PartialEq, Eq)]
+#[derive(Drop)]
 pub enum Item {
     Declares(Seq<Var>),
     Does(Stmt),
 }
 
 /// What stands between the braces of a function.
-#[derive(Drop, PartialEq, Eq)]
+#[derive(Drop)]
 pub struct Body {
     pub vars: Seq<Var>,
     pub stmts: Seq<Stmt>,

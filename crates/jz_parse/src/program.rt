@@ -2,7 +2,7 @@
 
 ghost use Rattle.std.specs.Prelude.{◌≡◌, []};
 ghost use Rattle.jz_grammar.specs.Kinds.{has};
-ghost use Rattle.jz_grammar.specs.InnerGave.{Gave};
+ghost use Rattle.jz_grammar.specs.Gave.{Gave};
 ghost use Rattle.jz_parse.specs.InnerReaders.{constant, part, part_starts, parts_more, program};
 
 use crate::function::function;
@@ -12,7 +12,7 @@ use jz_tree::{Const, Fun, Program, Seq};
 use std::alloc::Global;
 
 /// A constant or a function.
-#[derive(Drop, PartialEq, Eq)]
+#[derive(Drop)]
 pub enum Part {
     Constant(Const),
     Function(Fun),

@@ -2,8 +2,8 @@
 
 ghost use Rattle.std.specs.Prelude.{◌≡◌, []};
 ghost use Rattle.jz_grammar.specs.Kinds.{has};
-ghost use Rattle.jz_grammar.specs.InnerGave.{Gave};
-ghost use Rattle.jz_parse.specs.InnerStmtReaders.{simple_starts, form_starts, stmt_starts, loop_condition, direction, block, else_body, else_arm, if_rest, if_form, prologue, body, while_form, for_form, form, stmt_in, stmt, stmts_more, nested_in};
+ghost use Rattle.jz_grammar.specs.Gave.{Gave};
+ghost use Rattle.jz_parse.specs.StmtReaders.{simple_starts, form_starts, stmt_starts, loop_condition, direction, block, else_body, else_arm, if_rest, if_form, prologue, body, while_form, for_form, form, stmt_in, stmt, stmts_more, nested_in};
 
 use crate::annotations::notes;
 use crate::assigning::simple;
@@ -38,7 +38,7 @@ pub fn begins_stmt(c: &Cursor) -> bool
 }
 
 /// A condition and the parentheses round it.
-#[tactic(auto, unfolding(crate::specs::InnerStmtReaders::loop_condition))]
+#[tactic(auto, unfolding(crate::specs::StmtReaders::loop_condition))]
 fn loop_condition(alloc: Global, c: &mut Cursor, depth: u32) -> Result<Expr, Stop>
     ensures { Gave result c.new (loop_condition depth c.old) }
 {
@@ -49,7 +49,7 @@ fn loop_condition(alloc: Global, c: &mut Cursor, depth: u32) -> Result<Expr, Sto
 }
 
 /// Whether a counter goes down.
-#[tactic(auto, unfolding(crate::specs::InnerStmtReaders::direction))]
+#[tactic(auto, unfolding(crate::specs::StmtReaders::direction))]
 fn direction(c: &mut Cursor) -> Result<bool, Stop>
     ensures { Gave result c.new (direction c.old) }
 {
@@ -70,7 +70,7 @@ pub fn stmt(alloc: Global, c: &mut Cursor, depth: u32) -> Result<Stmt, Stop>
 }
 
 #[cycle(statements)]
-#[tactic(auto, unfolding(crate::specs::InnerStmtReaders::stmt_in))]
+#[tactic(auto, unfolding(crate::specs::StmtReaders::stmt_in))]
 fn stmt_in(alloc: Global, c: &mut Cursor, depth: u32) -> Result<Stmt, Stop>
     ensures { Gave result c.new (stmt_in nested_in depth c.old) }
 {
@@ -81,7 +81,7 @@ fn stmt_in(alloc: Global, c: &mut Cursor, depth: u32) -> Result<Stmt, Stop>
 
 /// A statement without its annotations: where it stands, and what it does.
 #[cycle(statements)]
-#[tactic(auto, unfolding(crate::specs::InnerStmtReaders::form))]
+#[tactic(auto, unfolding(crate::specs::StmtReaders::form))]
 fn form(alloc: Global, c: &mut Cursor, depth: u32) -> Result<(Span, StmtKind), Stop>
     ensures { Gave result c.new (form nested_in depth c.old) }
 {
@@ -97,7 +97,7 @@ fn form(alloc: Global, c: &mut Cursor, depth: u32) -> Result<(Span, StmtKind), S
 }
 
 #[cycle(statements)]
-#[tactic(auto, unfolding(crate::specs::InnerStmtReaders::if_form))]
+#[tactic(auto, unfolding(crate::specs::StmtReaders::if_form))]
 fn if_form(alloc: Global, c: &mut Cursor, depth: u32) -> Result<(Span, StmtKind), Stop>
     ensures { Gave result c.new (if_form nested_in depth c.old) }
 {
@@ -108,7 +108,7 @@ fn if_form(alloc: Global, c: &mut Cursor, depth: u32) -> Result<(Span, StmtKind)
 }
 
 #[cycle(statements)]
-#[tactic(auto, unfolding(crate::specs::InnerStmtReaders::if_rest))]
+#[tactic(auto, unfolding(crate::specs::StmtReaders::if_rest))]
 fn if_rest(alloc: Global, c: &mut Cursor, depth: u32) -> Result<Arms, Stop>
     ensures { Gave result c.new (if_rest nested_in depth c.old) }
 {
@@ -122,7 +122,7 @@ fn if_rest(alloc: Global, c: &mut Cursor, depth: u32) -> Result<Arms, Stop>
 }
 
 #[cycle(statements)]
-#[tactic(auto, unfolding(crate::specs::InnerStmtReaders::else_arm))]
+#[tactic(auto, unfolding(crate::specs::StmtReaders::else_arm))]
 fn else_arm(alloc: Global, c: &mut Cursor, depth: u32) -> Result<Seq<Stmt>, Stop>
     ensures { Gave result c.new (else_arm nested_in depth c.old) }
 {
@@ -132,7 +132,7 @@ fn else_arm(alloc: Global, c: &mut Cursor, depth: u32) -> Result<Seq<Stmt>, Stop
 }
 
 #[cycle(statements)]
-#[tactic(auto, unfolding(crate::specs::InnerStmtReaders::else_body))]
+#[tactic(auto, unfolding(crate::specs::StmtReaders::else_body))]
 fn else_body(alloc: Global, c: &mut Cursor, depth: u32) -> Result<Seq<Stmt>, Stop>
     ensures { Gave result c.new (else_body nested_in depth c.old) }
 {
@@ -161,7 +161,7 @@ fn nested_if(alloc: Global, c: &mut Cursor, depth: u32) -> Result<Arms, Stop>
 
 /// The statements between braces.
 #[cycle(statements)]
-#[tactic(auto, unfolding(crate::specs::InnerStmtReaders::block), using(crate::proofs::StmtLists::stmts_ok, crate::proofs::StmtLists::stmts_err))]
+#[tactic(auto, unfolding(crate::specs::StmtReaders::block), using(crate::proofs::StmtLists::stmts_ok, crate::proofs::StmtLists::stmts_err))]
 fn block(alloc: Global, c: &mut Cursor, depth: u32) -> Result<Seq<Stmt>, Stop>
     ensures { Gave result c.new (block nested_in depth c.old) }
 {
@@ -185,7 +185,7 @@ fn stmts_more(alloc: Global, c: &mut Cursor, depth: u32) -> Result<Seq<Stmt>, St
 }
 
 #[cycle(statements)]
-#[tactic(auto, unfolding(crate::specs::InnerStmtReaders::while_form))]
+#[tactic(auto, unfolding(crate::specs::StmtReaders::while_form))]
 fn while_form(alloc: Global, c: &mut Cursor, depth: u32) -> Result<(Span, StmtKind), Stop>
     ensures { Gave result c.new (while_form nested_in depth c.old) }
 {
@@ -203,7 +203,7 @@ fn while_form(alloc: Global, c: &mut Cursor, depth: u32) -> Result<(Span, StmtKi
 
 /// What a loop does before each test.
 #[cycle(statements)]
-#[tactic(auto, unfolding(crate::specs::InnerStmtReaders::prologue))]
+#[tactic(auto, unfolding(crate::specs::StmtReaders::prologue))]
 fn prologue(alloc: Global, c: &mut Cursor, depth: u32) -> Result<Seq<Stmt>, Stop>
     ensures { Gave result c.new (prologue nested_in depth c.old) }
 {
@@ -216,7 +216,7 @@ fn prologue(alloc: Global, c: &mut Cursor, depth: u32) -> Result<Seq<Stmt>, Stop
 
 /// What a loop does behind each test, if it goes on there.
 #[cycle(statements)]
-#[tactic(auto, unfolding(crate::specs::InnerStmtReaders::body))]
+#[tactic(auto, unfolding(crate::specs::StmtReaders::body))]
 fn body(alloc: Global, c: &mut Cursor, depth: u32) -> Result<Option<Seq<Stmt>>, Stop>
     ensures { Gave result c.new (body nested_in depth c.old) }
 {
@@ -231,7 +231,7 @@ fn body(alloc: Global, c: &mut Cursor, depth: u32) -> Result<Option<Seq<Stmt>>, 
 }
 
 #[cycle(statements)]
-#[tactic(auto, unfolding(crate::specs::InnerStmtReaders::for_form))]
+#[tactic(auto, unfolding(crate::specs::StmtReaders::for_form))]
 fn for_form(alloc: Global, c: &mut Cursor, depth: u32) -> Result<(Span, StmtKind), Stop>
     ensures { Gave result c.new (for_form nested_in depth c.old) }
 {

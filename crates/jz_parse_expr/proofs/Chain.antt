@@ -4,7 +4,7 @@ use Rattle.jz_tree.specs.Span.{Span}
 use Rattle.jz_grammar.specs.Token.{Token}
 use Rattle.jz_grammar.specs.Causes.{Cause}
 use Rattle.jz_grammar.specs.Kinds.{Kind, number, identifier, word, token_kind, is_in, has}
-use Rattle.jz_grammar.specs.InnerReading.{Answer, Reader, ◌>>=◌, through, many, leaf}
+use Rattle.jz_grammar.specs.Readers.{Answer, Reader, ◌>>=◌, through, many, leaf}
 use Rattle.jz_grammar.proofs.Basics.{member_append}
 use Rattle.jz_grammar.proofs.Combine.{many_next, many_done, shorter}
 use Rattle.jz_tree.specs.declared.expr.Expr.{Expr}
@@ -12,7 +12,7 @@ use Rattle.jz_tree.specs.declared.expr.Expr.TheVariants as e
 use Rattle.jz_tree.specs.declared.expr.BinOp.{BinOp}
 use Rattle.jz_parse_expr.specs.Operators.{ops_of, op_of}
 use Rattle.jz_parse_expr.specs.Trees.{chain}
-use Rattle.jz_parse_expr.specs.InnerReaders as r
+use Rattle.jz_parse_expr.specs.Readers as r
 use Rattle.jz_parse_expr.proofs.Levels.{goes_of, item_reads}
 use Rattle.jz_parse_expr.proofs.Laws.{unary_reads}
 

@@ -4,7 +4,7 @@ use Rattle.jz_tree.specs.Span.{Span}
 use Rattle.jz_tree.specs.Size.{Size}
 use Rattle.jz_grammar.specs.Token.{Token}
 use Rattle.jz_grammar.specs.Kinds.{Kind, word, sign, identifier, number}
-use Rattle.jz_grammar.specs.InnerReading.{Reader, through, follow, pick, optional}
+use Rattle.jz_grammar.specs.Readers.{Reader, through, follow, pick, optional}
 use Rattle.jz_grammar.specs.Grammar.{Marked, Lang, token, ◌▸◌, ◌⊕◌, ◌⇒◌, opens, maybe}
 use Rattle.jz_grammar.proofs.Laws.{IsReader, HasPhrase, full}
 use Rattle.jz_grammar.specs.Deriving.{plus}
@@ -15,7 +15,7 @@ use Rattle.jz_grammar.specs.Tokens.{name_of, number_of_token}
 use Rattle.jz_tree.specs.declared.expr.Expr.{Expr}
 use Rattle.jz_parse_expr.specs.Trees.{number_expr, bool_expr, name_expr, neg_expr, not_expr, access_of, load_expr, Group, group_expr}
 use Rattle.jz_parse_expr.specs.Table as g
-use Rattle.jz_parse_expr.specs.InnerReaders as r
+use Rattle.jz_parse_expr.specs.Readers as r
 use Rattle.jz_parse_expr.proofs.Levels.{Unary, unary_goes, unary_shape, the_reads, some_the, key_reads, word_type_reads, some_word_type, some_unary, some_spanned, some_closed, any_closed, expr_of_reads}
 use Rattle.jz_parse_expr.proofs.Parentheses.{Below, three, cast_access_reads, group_form_reads}
 

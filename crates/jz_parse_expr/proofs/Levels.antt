@@ -13,7 +13,7 @@ use Rattle.jz_grammar.specs.Tokens.{number_of_token, word_types, size_of_token}
 use Rattle.jz_parse_expr.specs.Operators.{ops_of, op_of}
 use Rattle.jz_parse_expr.specs.Trees.{number_expr, chain}
 use Rattle.jz_parse_expr.specs.Table as g
-use Rattle.jz_parse_expr.specs.InnerReaders as r
+use Rattle.jz_parse_expr.specs.Readers as r
 
 -- ---- one token
 pub the_reads : (s : List ℕ) (d : ℕ) → IsReader (r.the s) (λ e. g.the s (plus d e)) (one_shape (sign s ∷ []))

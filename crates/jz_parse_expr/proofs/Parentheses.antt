@@ -12,7 +12,7 @@ use Rattle.jz_grammar.specs.Tokens.{word_types, cast_of}
 use Rattle.jz_tree.specs.declared.expr.Expr.{Expr}
 use Rattle.jz_parse_expr.specs.Trees.{load_expr, cast_expr, Group, At, As, Plain, group_expr}
 use Rattle.jz_parse_expr.specs.Table as g
-use Rattle.jz_parse_expr.specs.InnerReaders as r
+use Rattle.jz_parse_expr.specs.Readers as r
 use Rattle.jz_parse_expr.proofs.Levels.{Unary, unary_goes, the_reads, some_the, word_type_reads, some_word_type, some_unary, some_closed, expr_of_reads}
 
 abbrev paren : List Kind

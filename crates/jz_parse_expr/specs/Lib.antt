@@ -1,4 +1,4 @@
 pub mod Operators
 pub mod Trees
 pub mod Table
-pub mod InnerReaders
+pub mod Readers

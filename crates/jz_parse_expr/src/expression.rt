@@ -2,10 +2,10 @@
 
 ghost use Rattle.std.specs.Prelude.{◌≡◌, ◌≤◌, [], ◌∷◌, codes, IfOk};
 ghost use Rattle.jz_grammar.specs.Kinds.{sign, has};
-ghost use Rattle.jz_grammar.specs.InnerReading.{through, optional};
-ghost use Rattle.jz_grammar.specs.InnerGave.{Gave};
+ghost use Rattle.jz_grammar.specs.Readers.{through, optional};
+ghost use Rattle.jz_grammar.specs.Gave.{Gave};
 ghost use Rattle.jz_parse_expr.specs.Trees.{used_of, access_of, load_expr, group_expr};
-ghost use Rattle.jz_parse_expr.specs.InnerReaders.{expr_starts, signed_starts, expr, index, access, size_mark, unary, unary_of, signed_of, name_form, group_form, cast_rest, plain_rest, sized_rest, bracket, cast_access, plain_access, expr_of, levels, rest_of};
+ghost use Rattle.jz_parse_expr.specs.Readers.{expr_starts, signed_starts, expr, index, access, size_mark, unary, unary_of, signed_of, name_form, group_form, cast_rest, plain_rest, sized_rest, bracket, cast_access, plain_access, expr_of, levels, rest_of};
 
 use crate::operator::{begins_op, operator};
 use jz_grammar::{Cursor, Stop};
@@ -56,7 +56,7 @@ fn unary(alloc: Global, c: &mut Cursor, depth: u32) -> Result<(Span, Expr), Stop
 }
 
 #[cycle(expressions)]
-#[tactic(auto, unfolding(crate::specs::InnerReaders::unary_of, crate::specs::InnerReaders::number_form, crate::specs::InnerReaders::true_form, crate::specs::InnerReaders::false_form))]
+#[tactic(auto, unfolding(crate::specs::Readers::unary_of, crate::specs::Readers::number_form, crate::specs::Readers::true_form, crate::specs::Readers::false_form))]
 fn unary_form(alloc: Global, c: &mut Cursor, depth: u32) -> Result<(Span, Expr), Stop>
     ensures { Gave result c.new (unary_of unary depth c.old) }
 {
@@ -80,7 +80,7 @@ fn unary_form(alloc: Global, c: &mut Cursor, depth: u32) -> Result<(Span, Expr),
 
 /// The forms that begin with a sign.
 #[cycle(expressions)]
-#[tactic(auto, unfolding(crate::specs::InnerReaders::signed_of, crate::specs::InnerReaders::neg_form, crate::specs::InnerReaders::not_form, crate::specs::InnerReaders::load_form))]
+#[tactic(auto, unfolding(crate::specs::Readers::signed_of, crate::specs::Readers::neg_form, crate::specs::Readers::not_form, crate::specs::Readers::load_form))]
 fn signed_form(alloc: Global, c: &mut Cursor, depth: u32) -> Result<(Span, Expr), Stop>
     ensures { Gave result c.new (signed_of unary depth c.old) }
 {
@@ -102,7 +102,7 @@ fn signed_form(alloc: Global, c: &mut Cursor, depth: u32) -> Result<(Span, Expr)
 }
 
 #[cycle(expressions)]
-#[tactic(auto, unfolding(crate::specs::InnerReaders::name_form))]
+#[tactic(auto, unfolding(crate::specs::Readers::name_form))]
 fn name_form(alloc: Global, c: &mut Cursor, depth: u32) -> Result<(Span, Expr), Stop>
     ensures { Gave result c.new (name_form unary depth c.old) }
 {
@@ -117,7 +117,7 @@ fn name_form(alloc: Global, c: &mut Cursor, depth: u32) -> Result<(Span, Expr), 
 }
 
 #[cycle(expressions)]
-#[tactic(auto, unfolding(crate::specs::InnerReaders::bracket))]
+#[tactic(auto, unfolding(crate::specs::Readers::bracket))]
 fn bracket(alloc: Global, c: &mut Cursor, depth: u32) -> Result<Expr, Stop>
     ensures { Gave result c.new (bracket unary depth c.old) }
 {
@@ -128,7 +128,7 @@ fn bracket(alloc: Global, c: &mut Cursor, depth: u32) -> Result<Expr, Stop>
 }
 
 #[cycle(expressions)]
-#[tactic(auto, unfolding(crate::specs::InnerReaders::plain_access))]
+#[tactic(auto, unfolding(crate::specs::Readers::plain_access))]
 fn plain_access(alloc: Global, c: &mut Cursor, depth: u32) -> Result<AccessParts, Stop>
     ensures { Gave result c.new (plain_access unary depth c.old) }
 {
@@ -141,7 +141,7 @@ fn plain_access(alloc: Global, c: &mut Cursor, depth: u32) -> Result<AccessParts
 
 /// What stands in parentheses, and behind them in the forms of a size and of a cast.
 #[cycle(expressions)]
-#[tactic(auto, unfolding(crate::specs::InnerReaders::group_form, crate::specs::InnerReaders::group))]
+#[tactic(auto, unfolding(crate::specs::Readers::group_form, crate::specs::Readers::group))]
 fn group_form(alloc: Global, c: &mut Cursor, depth: u32) -> Result<(Span, Expr), Stop>
     ensures { Gave result c.new (group_form unary depth c.old) }
 {
@@ -158,7 +158,7 @@ fn group_form(alloc: Global, c: &mut Cursor, depth: u32) -> Result<(Span, Expr),
 
 /// A size behind its parenthesis, and the address in the bracket that follows.
 #[cycle(expressions)]
-#[tactic(auto, unfolding(crate::specs::InnerReaders::sized_rest))]
+#[tactic(auto, unfolding(crate::specs::Readers::sized_rest))]
 fn sized_rest(alloc: Global, c: &mut Cursor, depth: u32) -> Result<(Size, Expr), Stop>
     ensures { Gave result c.new (sized_rest (unary depth) c.old) }
 {
@@ -171,7 +171,7 @@ fn sized_rest(alloc: Global, c: &mut Cursor, depth: u32) -> Result<(Size, Expr),
 }
 
 #[cycle(expressions)]
-#[tactic(auto, unfolding(crate::specs::InnerReaders::cast_rest))]
+#[tactic(auto, unfolding(crate::specs::Readers::cast_rest))]
 fn cast_rest(alloc: Global, c: &mut Cursor, depth: u32, span: Span) -> Result<(Span, Expr), Stop>
     ensures { Gave result c.new
         (through (λ group. group_expr span group) (cast_rest (unary depth) c.old)) }
@@ -192,7 +192,7 @@ fn cast_rest(alloc: Global, c: &mut Cursor, depth: u32, span: Span) -> Result<(S
 }
 
 #[cycle(expressions)]
-#[tactic(auto, unfolding(crate::specs::InnerReaders::plain_rest))]
+#[tactic(auto, unfolding(crate::specs::Readers::plain_rest))]
 fn plain_rest(alloc: Global, c: &mut Cursor, depth: u32, span: Span) -> Result<(Span, Expr), Stop>
     ensures { Gave result c.new
         (through (λ group. group_expr span group) (plain_rest (unary depth) c.old)) }
@@ -204,7 +204,7 @@ fn plain_rest(alloc: Global, c: &mut Cursor, depth: u32, span: Span) -> Result<(
 
 /// An expression, and where its first token stands.
 #[cycle(expressions)]
-#[tactic(auto, unfolding(crate::specs::InnerReaders::expr_of))]
+#[tactic(auto, unfolding(crate::specs::Readers::expr_of))]
 fn spanned(alloc: Global, c: &mut Cursor, depth: u32) -> Result<(Span, Expr), Stop>
     ensures { Gave result c.new (expr_of (unary depth) c.old) }
 {
@@ -253,7 +253,7 @@ fn rest(
     Ok((span, left))
 }
 
-#[tactic(auto, unfolding(crate::specs::InnerReaders::size_mark))]
+#[tactic(auto, unfolding(crate::specs::Readers::size_mark))]
 fn size_mark(c: &mut Cursor) -> Result<Option<Size>, Stop>
     ensures { Gave result c.new (optional (sign (codes ":") ∷ []) size_mark c.old) }
 {
@@ -286,7 +286,7 @@ pub fn begins_expr(c: &Cursor) -> bool
 }
 
 /// An expression.
-#[tactic(auto, unfolding(crate::specs::InnerReaders::expr, crate::specs::InnerReaders::spanned_expression))]
+#[tactic(auto, unfolding(crate::specs::Readers::expr, crate::specs::Readers::spanned_expression))]
 pub fn expr(alloc: Global, c: &mut Cursor, depth: u32) -> Result<Expr, Stop>
     ensures { Gave result c.new (expr depth c.old) }
 {
@@ -295,7 +295,7 @@ pub fn expr(alloc: Global, c: &mut Cursor, depth: u32) -> Result<Expr, Stop>
 }
 
 /// An expression in brackets, as behind an array's name.
-#[tactic(auto, unfolding(crate::specs::InnerReaders::index))]
+#[tactic(auto, unfolding(crate::specs::Readers::index))]
 pub fn index(alloc: Global, c: &mut Cursor, depth: u32) -> Result<Expr, Stop>
     ensures { Gave result c.new (index depth c.old) }
 {
@@ -303,7 +303,7 @@ pub fn index(alloc: Global, c: &mut Cursor, depth: u32) -> Result<Expr, Stop>
     Ok(e)
 }
 
-#[tactic(auto, unfolding(crate::specs::InnerReaders::cast_access))]
+#[tactic(auto, unfolding(crate::specs::Readers::cast_access))]
 fn cast_access(alloc: Global, c: &mut Cursor, depth: u32) -> Result<AccessParts, Stop>
     ensures { Gave result c.new (cast_access unary depth c.old) }
 {
@@ -313,7 +313,7 @@ fn cast_access(alloc: Global, c: &mut Cursor, depth: u32) -> Result<AccessParts,
 }
 
 /// An access to memory.
-#[tactic(auto, unfolding(crate::specs::InnerReaders::access))]
+#[tactic(auto, unfolding(crate::specs::Readers::access))]
 pub fn access(alloc: Global, c: &mut Cursor, depth: u32) -> Result<Access, Stop>
     ensures { Gave result c.new (access depth c.old) }
 {

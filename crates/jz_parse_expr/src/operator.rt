@@ -2,8 +2,8 @@
 
 ghost use Rattle.std.specs.Prelude.{◌≡◌, []};
 ghost use Rattle.jz_grammar.specs.Kinds.{has, is_in};
-ghost use Rattle.jz_grammar.specs.InnerReading.{leaf};
-ghost use Rattle.jz_grammar.specs.InnerGave.{Gave};
+ghost use Rattle.jz_grammar.specs.Readers.{leaf};
+ghost use Rattle.jz_grammar.specs.Gave.{Gave};
 ghost use Rattle.jz_parse_expr.specs.Operators.{orders, ops_of, op_of, shift_of, comparison_of, joining_of};
 
 use jz_grammar::{Cursor, Stop, Token, UNEXPECTED, has_text, is_sign};
@@ -182,7 +182,7 @@ pub fn begins_op(c: &Cursor, level: u8) -> bool
 }
 
 /// An operator of this level.
-#[tactic(auto, unfolding(jz_grammar::specs::InnerReading::one))]
+#[tactic(auto, unfolding(jz_grammar::specs::Readers::one))]
 pub fn operator(c: &mut Cursor, level: u8) -> Result<BinOp, Stop>
     ensures { Gave result c.new (leaf (ops_of level) op_of c.old) }
 {

@@ -61,8 +61,8 @@ pub record IsUnplaced (f : Fun) (n : NoPlace) : Type 0 where
   pub is_evidence : IsEvidence (code_of f) (LiveIn (operations_of f)) evidence
   pub is : n ≡ refusal_of (variables_of f) evidence
 
--- ---- what is placed: a function of assignments to words with few enough parameters and results, each of whose variables is
--- declared, and under one name
+-- ---- what is placed: a function of assignments to words with few enough parameters and results,
+-- each of whose variables is declared, and under one name
 pub record IsPlaceable (f : Fun) : Type 0 where
   pub straight : IsStraight f
   pub counts : HasCounts f

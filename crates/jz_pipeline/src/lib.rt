@@ -19,7 +19,9 @@ pub use compiled_laws::{
 };
 pub use compiling::compile_fun;
 pub use expanding::expand;
-pub use laws::{placed_is_correct, read_functions_are_placeable};
+pub use laws::{
+    addition_is_told_apart, no_other_is_correct, placed_is_correct, read_functions_are_placeable,
+};
 pub use limit_laws::{limit_or_none, no_limit_within, one_first_limit};
 pub use limits::{Limit, LimitKind, has_field};
 pub use stages::{compile_all, expand_all, safe_all};

@@ -15,7 +15,7 @@ use x64_insn::{Size, fits_four_bytes, reading};
 const MOST_STATEMENTS: u64 = 65_536;
 
 /// Which limit is passed.
-#[derive(Clone, Copy, PartialEq, Eq)]
+#[derive(Clone, Copy)]
 pub enum LimitKind {
     /// The number of statements.
     Expand,
@@ -24,7 +24,7 @@ pub enum LimitKind {
 }
 
 /// A limit that a function passes. The place is the function's name, or the constant.
-#[derive(Drop, PartialEq, Eq)]
+#[derive(Drop)]
 pub struct Limit {
     pub kind: LimitKind,
     /// The name of the function.

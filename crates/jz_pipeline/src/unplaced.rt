@@ -6,7 +6,7 @@ use jz_io::Span;
 use x64_insn::Place;
 
 /// What has a place: a variable, or an operation that writes it beside its variables.
-#[derive(Drop, PartialEq, Eq)]
+#[derive(Drop)]
 pub struct Holder {
     pub place: Place,
     /// The variable's name; `None` is an operation.
@@ -16,7 +16,7 @@ pub struct Holder {
 
 /// The first variable without a place: its name, each of its needs, and what holds each place that
 /// meets them all.
-#[derive(Drop, PartialEq, Eq)]
+#[derive(Drop)]
 pub struct NoPlace {
     pub variable: Text,
     pub needs: Seq<Needed>,

@@ -1,4 +1,3 @@
-pub mod Sides
 pub mod Layers
 pub mod Naming
 pub mod Growing

@@ -1,15 +1,13 @@
 -- What private contracts say of the parts of expressions and statements that are resolved.
-use Rattle.std.specs.Prelude.{List, [], ◌∷◌}
 use Rattle.jz_tree.specs.declared.expr.Expr.{Expr}
-use Rattle.jz_tree.specs.declared.expr.Expr.TheVariants.{Bin}
+use Rattle.jz_tree.specs.LeftSides.{on_left}
+use Rattle.jz_tree.specs.declared.copying.LeftSide.{LeftSide}
 use Rattle.jz_tree.specs.declared.expr.Access.{Access}
 use Rattle.jz_tree.specs.declared.expr.Var.{Var}
 use Rattle.jz_tree.specs.declared.stmt.Lval.{Lval}
 use Rattle.jz_tree.specs.declared.stmt.Rhs.{Rhs}
 use Rattle.jz_tree.specs.declared.stmt.StmtKind.{StmtKind}
 use Rattle.jz_type_names.specs.Scopes.{name_of}
-use Rattle.jz_resolve.specs.declared.expressions.Step.{Step}
-use Rattle.jz_resolve.specs.declared.expressions.Side.{Side}
 use Rattle.jz_resolve.specs.Resolving.{KnownNames, resolved_access, resolved_lval, resolved_rhs, resolved_kind, number_or, var_with}
 
 abbrev pub access_with : KnownNames → Access → Access
@@ -29,11 +27,6 @@ abbrev pub name_with : KnownNames → Var → Expr
 name_with k v = number_or (k.number (name_of v)) (var_with k v)
 
 -- ---- expressions with a long left side
--- the expression that the operations make of what stands first, the outermost of them at the head
-abbrev pub on_left : List Step → Expr → Expr
-on_left [] e = e
-on_left (s ∷ ss) e = Bin s.op (on_left ss e) s.right s.span
-
 -- the expression that has this left side
-abbrev pub whole_of : Side → Expr
+abbrev pub whole_of : LeftSide → Expr
 whole_of s = on_left s.steps.items s.first

@@ -1,11 +1,12 @@
 -- What private contracts say of scopes, and of programs by a table of constants.
 use Rattle.std.specs.Prelude.{◌≡◌, ℕ, ℤ, Bool, List, Option, Some, None, option_map, option_and_then, if◌then◌else◌}
+use Rattle.std.specs.Option.{option_or}
 use Rattle.jz_tree.specs.declared.expr.Decl.{Decl}
 use Rattle.jz_tree.specs.declared.expr.Var.{Var}
 use Rattle.jz_tree.specs.declared.expr.Expr.TheViews.{out-Var}
 use Rattle.jz_tree.specs.declared.program.Const.{Const}
 use Rattle.jz_tree.specs.declared.program.Fun.{Fun}
-use Rattle.jz_type_names.specs.Scopes.{Name, PlacesByName, variables_of, or_else, or_named}
+use Rattle.jz_type_names.specs.Scopes.{Name, PlacesByName, variables_of, or_named}
 use Rattle.jz_type_names.specs.Names.{is_constant}
 use Rattle.jz_type_names.specs.Tables.{variable_in}
 use Rattle.jz_resolve.specs.declared.table.ConstantTable.{ConstantTable}
@@ -23,7 +24,7 @@ with_number known name n = or_named known name (Some n)
 -- ---- scopes
 abbrev pub declared_by : Scope → List ℕ → Option Decl
 declared_by s n =
-    or_else
+    option_or
     (option_and_then (λ v. (out-Var v).decl) (variable_in s.variables n))
     (option_map (λ at. constant_decl) (places_in s.constants.now n))
 

@@ -1,5 +1,6 @@
 -- The numbers of constants, and what is declared of a name in a function.
 use Rattle.std.specs.Prelude.{ℕ, ℤ, List, [], ◌∷◌, Option, Some, None, option_map, option_and_then, if◌then◌else◌}
+use Rattle.std.specs.Option.{option_or}
 use Rattle.jz_tree.specs.declared.expr.Storage.TheVariants as storage
 use Rattle.jz_tree.specs.declared.expr.Expr.{Expr}
 use Rattle.jz_tree.specs.declared.expr.Ty.TheVariants as ty
@@ -8,7 +9,7 @@ use Rattle.jz_tree.specs.declared.expr.Var.{Var}
 use Rattle.jz_tree.specs.declared.expr.Expr.TheViews.{out-Var, roll-Decl}
 use Rattle.jz_tree.specs.declared.program.Const.{Const}
 use Rattle.jz_integers.specs.Integers.{inline_value, the_number}
-use Rattle.jz_type_names.specs.Scopes.{Name, PlacesByName, variable_named, place_among, or_else, or_named}
+use Rattle.jz_type_names.specs.Scopes.{Name, PlacesByName, variable_named, place_among, or_named}
 use Rattle.jz_type_names.specs.Names.{is_constant}
 use Rattle.jz_resolve.specs.Resolving.{KnownNames}
 
@@ -48,7 +49,7 @@ constant_decl = roll-Decl (record { storage = storage.Inline; ty = ty.Int })
 -- the declaration of the first variable of that name, else that of a constant
 abbrev pub declaration_in : PlacesByName → List Var → List ℕ → Option Decl
 declaration_in places vs n =
-    or_else
+    option_or
     (option_and_then (λ v. (out-Var v).decl) (variable_named n vs))
     (option_map (λ at. constant_decl) (places n))
 

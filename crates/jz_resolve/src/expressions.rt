@@ -5,45 +5,8 @@ ghost use Rattle.jz_resolve.specs.Resolving.{expr_with, var_with, number_at};
 ghost use Rattle.jz_resolve.specs.InnerResolving.{access_with, name_with, whole_of};
 
 use crate::lookup::Lookup;
-use jz_tree::{Access, BinOp, Boxed, Expr, Span, Var};
+use jz_tree::{Access, BinOp, Boxed, Expr, LeftSide, LeftStep, Span, Var};
 use std::alloc::{AllocError, Global};
-
-/// An operation on the left side of an expression, without its first operand.
-#[derive(Drop)]
-struct Step {
-    op: BinOp,
-    right: Expr,
-    span: Span,
-}
-
-/// The left side of an expression: its operations from the outermost, and the operand where it
-/// ends.
-#[derive(Drop)]
-struct Side {
-    steps: Vec<Step>,
-    first: Expr,
-}
-
-impl Side {
-    #[tactic(auto, using(crate::proofs::Sides::last_step))]
-    fn into_expr(self, alloc: Global) -> Result<Expr, AllocError>
-        ensures { IfOk result (λ e. e ≡ whole_of self) }
-    {
-        let Side {
-            mut steps,
-            mut first,
-        } = self;
-        while let Some(Step { op, right, span }) = steps.pop() {
-            first = Expr::Bin(
-                op,
-                Boxed::new(alloc, first)?,
-                Boxed::new(alloc, right)?,
-                span,
-            );
-        }
-        Ok(first)
-    }
-}
 
 fn resolve_var<L: Lookup>(alloc: Global, names: &L, var: &Var) -> Result<Var, AllocError>
     ensures { IfOk result (λ r. r ≡ var_with (L.known names.now) var.now) }
@@ -117,13 +80,13 @@ pub(crate) fn resolve_expr<L: Lookup>(
 }
 
 #[cycle(resolve)]
-fn resolve_side<L: Lookup>(alloc: Global, names: &L, e: &Expr) -> Result<Side, AllocError>
+fn resolve_side<L: Lookup>(alloc: Global, names: &L, e: &Expr) -> Result<LeftSide, AllocError>
     ensures { IfOk result (λ side. whole_of side ≡ expr_with (L.known names.now) e.now) }
 {
     let mut steps = Vec::new(alloc);
     let mut rest = e;
     while let Expr::Bin(op, left, right, span) = rest {
-        steps.push(Step {
+        steps.push(LeftStep {
             op: *op,
             right: resolve_expr(alloc, names, right.get())?,
             span: *span,
@@ -131,7 +94,7 @@ fn resolve_side<L: Lookup>(alloc: Global, names: &L, e: &Expr) -> Result<Side, A
         rest = left.get();
     }
     let first = resolve_single(alloc, names, rest)?;
-    Ok(Side { steps, first })
+    Ok(LeftSide { steps, first })
 }
 
 #[cycle(resolve)]

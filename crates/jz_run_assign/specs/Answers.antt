@@ -29,7 +29,8 @@ abbrev pub pair_in : Result (code.Value × code.Value) Stuck → Result Results 
 pair_in (Ok p) = Ok (Some (as_value p.0) ∷ Some (as_value p.1) ∷ [])
 pair_in (Err k) = Err k
 
--- ---- what the code promises, as the `Gives` of all attempts: of a word its bits, and of results what left sides get
+-- ---- what the code promises, as the `Gives` of all attempts: of a word its bits, and of results
+-- what left sides get
 
 abbrev pub GivesBits : Result Word (Failure Stuck) → List ℕ → List ℕ → Evaluation ℕ → Type 0
 GivesBits result before now e = IfAnswered result (λ r. did now (bits_in r) ≡ numbers_first before e)

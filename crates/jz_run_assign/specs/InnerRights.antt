@@ -1,8 +1,10 @@
--- Right sides as the code has them, without trees of their own: the expressions that they stand for.
+-- Right sides as the code has them, without trees of their own: the expressions that they stand
+-- for.
 use Rattle.std.specs.Prelude.{◌≡◌, true}
 use Rattle.jz_tree.specs.declared.expr.Expr.{Expr}
 use Rattle.jz_tree.specs.declared.expr.Expr.TheVariants as expr
-use Rattle.jz_meaning.specs.Assignments.{carries, is_flag}
+use Rattle.jz_tree.specs.Operators.{carries}
+use Rattle.jz_meaning.specs.Assignments.{is_flag}
 use Rattle.jz_run_assign.specs.declared.right.Place.{Place}
 use Rattle.jz_run_assign.specs.declared.right.Place.TheVariants as place
 use Rattle.jz_run_assign.specs.declared.right.Operand.{Operand}

@@ -9,8 +9,7 @@ ghost use Rattle.jz_meaning.specs.Statements as statements;
 ghost use Rattle.jz_meaning.specs.Values.{cell_key, ref_of};
 ghost use Rattle.jz_run_assign.specs.InnerCalls.{array_passed, array_back};
 
-use crate::missing;
-use jz_meaning::{Kind, Store, Stuck, kind_of};
+use jz_meaning::{Kind, Store, Stuck, kind_of, missing};
 use jz_tree::{Expr, Failure, Span, Var};
 use std::alloc::AllocError;
 

@@ -11,12 +11,12 @@ ghost use Rattle.jz_run_assign.specs.Answers.{meant_results, GivesResults, value
 ghost use Rattle.jz_run_assign.specs.InnerRights.{right_side, IsCarry};
 ghost use Rattle.jz_run_assign.specs.InnerParts.{one_value, results_chosen, results_written, right_assigned};
 
-use crate::left::{left_size, left_sizes, missing, write_all};
+use crate::left::{left_size, left_sizes, write_all};
 use crate::operands::truth_in;
 use crate::pairs::pair_results;
 use crate::reading::{read, right_value};
 use crate::right::{Right, place_of, right_of, right_size};
-use jz_meaning::{State, Stuck, Value};
+use jz_meaning::{State, Stuck, Value, missing};
 use jz_tree::{BinOp, Expr, Failure, Lval, Seq, Span};
 use jz_words::Size;
 use std::alloc::{AllocError, Global};

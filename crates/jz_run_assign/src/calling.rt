@@ -10,8 +10,8 @@ ghost use Rattle.jz_run_assign.specs.Passings.{entered_store, entered_by, left_b
 ghost use Rattle.jz_run_assign.specs.InnerCalls.{value_passed, argument_passed, value_given, result_given};
 
 use crate::arrays::{give_array_back, pass_array};
-use crate::{held, missing, set, write};
-use jz_meaning::{Kind, State, Store, Stuck, evaluate, kind_of, size_of, variable};
+use crate::{held, set, write};
+use jz_meaning::{Kind, State, Store, Stuck, evaluate, kind_of, missing, size_of, variable};
 use jz_tree::{Expr, Failure, Fun, Lval, Param, Seq, Span, Var};
 use std::alloc::AllocError;
 

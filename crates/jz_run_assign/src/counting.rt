@@ -6,8 +6,7 @@ ghost use Rattle.jz_meaning.specs.States.{as_value};
 ghost use Rattle.jz_meaning.specs.Stores.{state_of};
 ghost use Rattle.jz_meaning.specs.Statements as statements;
 
-use crate::missing;
-use jz_meaning::{State, Stuck, Value, evaluate};
+use jz_meaning::{State, Stuck, Value, evaluate, missing};
 use jz_tree::{Expr, Failure, Seq, Span};
 
 /// A value as a whole number.

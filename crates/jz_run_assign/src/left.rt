@@ -6,27 +6,15 @@ ghost use Rattle.jz_meaning.specs.States.{as_value, put};
 ghost use Rattle.jz_meaning.specs.Stores.{state_of, store_of};
 ghost use Rattle.jz_meaning.specs.Values.{ref_of, cell_key};
 ghost use Rattle.jz_meaning.specs.Assignments as assignments;
-ghost use Rattle.jz_meaning.specs.declared.value.Why.TheVariants.{Init};
 ghost use Rattle.jz_run_assign.specs.InnerParts.{variable_written, cell_written};
 
 use crate::variables::set;
 use jz_meaning::{
-    Kind, State, Store, Stuck, Value, Why, evaluate, index, kind_of, size_of, word_of,
+    Kind, State, Store, Stuck, Value, evaluate, index, kind_of, missing, size_of, word_of,
 };
 use jz_tree::{Failure, Lval, Seq, Span, Var};
 use jz_words::Size;
 use std::alloc::AllocError;
-
-/// Stuck at that place for Init: a variable, cell or operand has no value of the sort that is
-/// wanted.
-pub fn missing(span: Span) -> Stuck
-    ensures { result ≡ record { span = span; why = Init } }
-{
-    Stuck {
-        span,
-        why: Why::Init,
-    }
-}
 
 /// The size of a left side, where it has one by itself.
 pub(crate) fn left_size(to: &Lval) -> Option<Size>

@@ -19,6 +19,6 @@ pub use assigning::{Assignment, assign};
 pub use calling::{Call, enter, leave};
 pub use counting::number_in;
 pub use entering::unset_all;
-pub use left::{held, left_sizes, missing, write, write_all};
+pub use left::{held, left_sizes, write, write_all};
 pub use operands::{truth_in, word_in};
 pub use variables::{set, unset, value_of};

@@ -8,8 +8,7 @@ ghost use Rattle.jz_meaning.specs.Stores.{state_of};
 ghost use Rattle.jz_meaning.specs.Assignments as assignments;
 ghost use Rattle.jz_run_assign.specs.Answers.{bits_in, GivesBits};
 
-use crate::left::missing;
-use jz_meaning::{State, Stuck, Value, evaluate, word_of};
+use jz_meaning::{State, Stuck, Value, evaluate, missing, word_of};
 use jz_tree::{Expr, Failure, Seq, Span};
 use jz_words::{Size, Word};
 

@@ -12,11 +12,10 @@ ghost use Rattle.jz_run_assign.specs.Answers.{pair_in, GivesBits, GivesResults};
 ghost use Rattle.jz_run_assign.specs.InnerRights.{operand_of, right_side, IsCarry};
 ghost use Rattle.jz_run_assign.specs.InnerPairs.{two_from, three_from, results_of_pair, results_or};
 
-use crate::left::missing;
 use crate::operands::{truth_in, word_at, word_in};
 use crate::reading::operand;
 use crate::right::{Operand, Right, carries, is_flag};
-use jz_meaning::{State, Stuck, Value};
+use jz_meaning::{State, Stuck, Value, missing};
 use jz_tree::{BinOp, Expr, Failure, Seq, Span};
 use jz_words::{Size, Word, add_carry, mul_wide, sub_borrow};
 

@@ -2,13 +2,14 @@
 
 ghost use Rattle.std.specs.Prelude.{◌≡◌, IfSome, None, option_map};
 ghost use Rattle.std.specs.Option.{option_copied};
+ghost use Rattle.jz_tree.specs.Operators as operators;
 ghost use Rattle.jz_tree.specs.declared.expr.Expr.TheViews.{out-Expr};
 ghost use Rattle.jz_meaning.specs.Values as values;
 ghost use Rattle.jz_meaning.specs.Assignments as assignments;
 ghost use Rattle.jz_run_assign.specs.InnerRights.{read_of, right_side, IsCarry};
 
-use jz_meaning::{Kind, gives_word, is_shift, kind_of, own_size, size_of};
-use jz_tree::{Access, BinOp, Expr, Lval, Seq, Span, Var};
+use jz_meaning::{Kind, gives_word, kind_of, own_size, size_of};
+use jz_tree::{Access, BinOp, Expr, Lval, Seq, Span, Var, is_shift};
 use jz_words::Size;
 
 /// A left side that is read.
@@ -97,8 +98,8 @@ pub(crate) fn is_flag(e: &Expr) -> bool
 
 /// Whether these are two sums, or two differences.
 pub(crate) fn carries(op: BinOp, other: BinOp) -> bool
-    ensures value { result ≡ assignments.carries op other }
-    ensures turned { result ≡ assignments.carries other op }
+    ensures value { result ≡ operators.carries op other }
+    ensures turned { result ≡ operators.carries other op }
 {
     match op {
         BinOp::Add => matches!(other, BinOp::Add),
@@ -109,8 +110,8 @@ pub(crate) fn carries(op: BinOp, other: BinOp) -> bool
 
 /// Whether the flag is the carry of a sum, or the borrow of a difference.
 fn is_carry(op: BinOp, other: BinOp, flag: &Expr) -> bool
-    ensures value { result ≡ (assignments.carries op other && assignments.is_flag flag.now) }
-    ensures turned { IsTrue result → (assignments.carries other op ≡ true)
+    ensures value { result ≡ (operators.carries op other && assignments.is_flag flag.now) }
+    ensures turned { IsTrue result → (operators.carries other op ≡ true)
         × (assignments.is_flag flag.now ≡ true) }
 {
     carries(op, other) && is_flag(flag)
@@ -192,8 +193,6 @@ pub(crate) fn right_of<'a>(
         },
     }
 }
-
-// ---- sizes
 
 fn size_of_operation(op: BinOp, left: Option<Size>, right: Option<Size>) -> Option<Size>
     ensures { result ≡ values.size_of_operation op left right }

@@ -1,2 +1,2 @@
-pub mod Answers
-pub mod Rows
+pub mod InnerAnswers
+pub mod InnerRows

@@ -3,14 +3,13 @@
 ghost use Rattle.jz_meaning.specs.Stores.{state_of};
 ghost use Rattle.jz_meaning.specs.Intrinsics as intrinsics;
 ghost use Rattle.jz_run_assign.specs.Answers.{GivesResults};
-ghost use Rattle.jz_run_instruct.specs.Rows.{shift_flags, row_results};
-ghost use Rattle.jz_run_instruct.specs.Rows.{one_word_results, two_word_results};
+ghost use Rattle.jz_run_instruct.specs.InnerRows.{shift_flags, row_results};
+ghost use Rattle.jz_run_instruct.specs.InnerRows.{one_word_results, two_word_results};
 
 use crate::operands::{with_carry, with_condition, with_count, with_division, with_one, with_two};
 use crate::results::Results;
 use crate::rows::{OneWord, Row, SizedOp, TwoWords, row_of};
-use jz_meaning::{State, Stuck};
-use jz_run_assign::missing;
+use jz_meaning::{State, Stuck, missing};
 use jz_tree::{Expr, Failure, Intrinsic, Seq, Span};
 use x64_insn::{Alu, Shift, Size};
 

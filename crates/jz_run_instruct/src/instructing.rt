@@ -8,8 +8,8 @@ ghost use Rattle.jz_meaning.specs.Intrinsics as intrinsics;
 
 use crate::dispatching::results_of;
 use crate::sizes::intrinsic_size;
-use jz_meaning::{State, Stuck};
-use jz_run_assign::{missing, write_all};
+use jz_meaning::{State, Stuck, missing};
+use jz_run_assign::write_all;
 use jz_tree::{Expr, Failure, Instance, Lval, Seq, Span, Text, spelled};
 
 fn instruct_by(

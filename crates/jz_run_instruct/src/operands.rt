@@ -9,8 +9,8 @@ ghost use Rattle.jz_meaning.specs.Values.{evaluated};
 ghost use Rattle.jz_meaning.specs.Assignments as assignments;
 ghost use Rattle.jz_meaning.specs.Intrinsics as intrinsics;
 ghost use Rattle.jz_run_assign.specs.Answers.{GivesResults};
-ghost use Rattle.jz_run_instruct.specs.Answers.{both_words, GivesWords};
-ghost use Rattle.jz_run_instruct.specs.Rows.{shift_flags, one_word_results, two_word_results};
+ghost use Rattle.jz_run_instruct.specs.InnerAnswers.{both_words, GivesWords};
+ghost use Rattle.jz_run_instruct.specs.InnerRows.{shift_flags, one_word_results, two_word_results};
 
 use crate::results::Results;
 use crate::rows::{OneWord, SizedOp, TwoWords};

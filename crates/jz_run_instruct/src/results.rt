@@ -5,7 +5,7 @@ ghost use Rattle.x64_insn.specs.Sizes.{modulus};
 ghost use Rattle.jz_meaning.specs.States.{as_value, word};
 ghost use Rattle.jz_meaning.specs.Intrinsics as intrinsics;
 ghost use Rattle.jz_run_assign.specs.Answers.{meant_results};
-ghost use Rattle.jz_run_instruct.specs.Rows.{flags_set_by};
+ghost use Rattle.jz_run_instruct.specs.InnerRows.{flags_set_by};
 
 use crate::rows::Sets;
 use jz_meaning::Value;

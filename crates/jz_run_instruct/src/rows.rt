@@ -7,7 +7,7 @@ ghost use Rattle.jz_tree.specs.declared.expr.Expr.{Expr};
 ghost use Rattle.jz_meaning.specs.States.{State};
 ghost use Rattle.jz_meaning.specs.Intrinsics as intrinsics;
 ghost use Rattle.x64_insn.specs.declared.types.FlagVal.{FlagVal};
-ghost use Rattle.jz_run_instruct.specs.Rows.{shift_flags, row_results, flags_set_by};
+ghost use Rattle.jz_run_instruct.specs.InnerRows.{shift_flags, row_results, flags_set_by};
 
 use jz_tree::{Intrinsic, Span};
 use x64_insn::{Alu, One, Shift, Size};

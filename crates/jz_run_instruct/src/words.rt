@@ -10,12 +10,11 @@ ghost use Rattle.jz_meaning.specs.declared.value.Why.TheVariants as why;
 ghost use Rattle.jz_meaning.specs.States.{as_value, word};
 ghost use Rattle.jz_meaning.specs.Intrinsics as intrinsics;
 ghost use Rattle.jz_run_assign.specs.Answers.{meant_results, GivesResults};
-ghost use Rattle.jz_run_instruct.specs.Rows.{shift_flags, one_word_results, two_word_results};
+ghost use Rattle.jz_run_instruct.specs.InnerRows.{shift_flags, one_word_results, two_word_results};
 
 use crate::results::{Results, alone, before_both, before_value, flags_set};
 use crate::rows::{OneWord, Sets, TwoWords, set_by_shift};
-use jz_meaning::{Stuck, Value, Why};
-use jz_run_assign::missing;
+use jz_meaning::{Stuck, Value, Why, missing};
 use jz_tree::{Failure, Seq, Span};
 use std::alloc::{AllocError, Global};
 use x64_insn::{

@@ -18,6 +18,7 @@ use Rattle.jz_tree.specs.declared.expr.Var.{Var}
 use Rattle.jz_tree.specs.declared.expr.Expr.TheOpen.{Expr-F}
 use Rattle.jz_tree.specs.declared.expr.Expr.TheViews.{out-roll-Expr, roll-Expr, out-Access}
 use Rattle.jz_tree.specs.declared.expr.Expr.TheFolds.{fold-roll-Expr, ind-Expr, map-Expr}
+use Rattle.jz_tree.specs.Operators.{is_shift}
 use Rattle.jz_type_names.specs.declared.kinds.Kind as known
 use Rattle.jz_type_names.specs.Kinds.{Known, known_of}
 use Rattle.jz_type_sizes.specs.declared.operators.Group.{Group}
@@ -35,7 +36,7 @@ use Rattle.jz_meaning.specs.declared.access.Kind.TheVariants as kind
 use Rattle.jz_meaning.specs.declared.value.Why.TheVariants.{Bounds, Align}
 use Rattle.jz_meaning.specs.Attempts.{Evaluation, stuck_at, and_then, defined}
 use Rattle.jz_meaning.specs.States.{Value, word, boolean, integer, Store, State}
-use Rattle.jz_meaning.specs.Operators.{is_shift, is_settled, combined, shifted, binary, negated, inverted, cast}
+use Rattle.jz_meaning.specs.Operators.{is_settled, combined, shifted, binary, negated, inverted, cast}
 use Rattle.jz_meaning.specs.Operators as operators
 use Rattle.jz_meaning.specs.Values.{Ref, key_of, cell_key, in_cells, index_at, cell_value, MemoryAccess, is_aligned, accessed, load_word, address_at, load_at, gives_word, size_of_operation, left_wanted, right_wanted, with_right, run_binary, expr_step, ty_step, access_step, decl_step, var_step, ref_of, access_of, own_size, evaluated}
 use Rattle.jz_run_laws.specs.Kinds.{Kinds, kind_at, IsOfKind, IsOfKinds, HoldsKinds}
@@ -44,11 +45,11 @@ use Rattle.jz_run_laws.specs.Kept.{IfWent}
 use Rattle.jz_run_laws.proofs.Parts.{AnyOf, IfThere, went_then, went_any, went_defined, there_if}
 use Rattle.jz_run_laws.proofs.Stores.{cells_are_words}
 use Rattle.jz_run_laws.specs.Counted as counted
-use Rattle.jz_run_laws.specs.Counted.{Counted, CountedLayer, Each, EachLayer}
+use Rattle.jz_run_laws.specs.Counted.{Counted, Each, EachLayer}
 use Rattle.jz_run_laws.specs.Values.{IsAt, IsWanted}
 use Rattle.jz_run_laws.proofs.SameKinds as same
 use Rattle.jz_run_laws.proofs.SameKinds.{SameKind, SameKnown}
-use Rattle.jz_run_laws.proofs.Sizes.{meant_layer, size_law, says_law, variable_law, access_law, types_of, each_of}
+use Rattle.jz_run_laws.proofs.Sizes.{CountedLayer, meant_layer, size_law, says_law, variable_law, access_law, types_of, each_of}
 use Rattle.jz_run_laws.proofs.OperatorsInPlaces.{word_at, number_at, arith_at, carry_at, shift_at, integers_at, words_at, logic_at, negated_at, inverted_at, cast_at, is_arith, is_compare, is_moved}
 use Rattle.jz_run_laws.proofs.Placed.{size_at, sum_group}
 

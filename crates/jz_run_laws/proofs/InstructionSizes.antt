@@ -12,7 +12,6 @@ use Rattle.jz_tree.specs.declared.intrinsic.Intrinsic.TheVariants as name
 use Rattle.jz_type_names.specs.Kinds.{array_of}
 use Rattle.jz_type_sizes.specs.declared.signatures.Role.{Role}
 use Rattle.jz_type_sizes.specs.declared.signatures.Role.TheVariants as role
-use Rattle.jz_type_sizes.specs.Wants.{or_size}
 use Rattle.jz_type_sizes.specs.Sides.{left_form}
 use Rattle.jz_type_sizes.specs.Typings.{typing}
 use Rattle.jz_type_sizes.specs.Worded.{is_worded}
@@ -57,11 +56,11 @@ ResultsLaw rs ds = (result_size rs ds ≡ typed_lefts ds) × All IsSound ds
 next_result : (z : Option Size) (r : Role) (rs : List Role) (d : Lval) (ds : List Lval) → are_results (r ∷ rs) ≡ true → Output z r d
     → (are_results rs ≡ true → ResultsLaw rs ds) → ResultsLaw (r ∷ rs) (d ∷ ds)
 next_result z role.Flag rs d ds k o f = (
-  (f k).0 ∙ sym (ap (λ s. or_size s (typed_lefts ds)) (flag_none d (flag_output z d o))),
+  (f k).0 ∙ sym (ap (λ s. option_or s (typed_lefts ds)) (flag_none d (flag_output z d o))),
   All-cons IsSound d ds (flag_sound d (flag_output z d o)) (f k).1,
 )
 next_result z role.Value rs d ds k o f = (
-  ap (or_size (left_form d).size) (f k).0,
+  ap (option_or (left_form d).size) (f k).0,
   All-cons IsSound d ds (value_output z d o) (f k).1,
 )
 next_result z role.Count rs d ds k o f = absurd (false≢true k)
@@ -218,7 +217,7 @@ plain_size name.Mul z to args h = refl
 plain_size name.Div z to args h = refl
 plain_size name.Setcc z to args h = absurd (false≢true h)
 
-joined : (z r a f : Option Size) (y : Size) → or_size z (or_size r a) ≡ Some y → (a ≡ Some y → f ≡ Some y) → option_or z (option_or r f) ≡ Some y
+joined : (z r a f : Option Size) (y : Size) → option_or z (option_or r a) ≡ Some y → (a ≡ Some y → f ≡ Some y) → option_or z (option_or r f) ≡ Some y
 joined None None a f y h k = k h
 joined None (Some r) a f y h k = h
 joined (Some z) r a f y h k = h

@@ -16,10 +16,11 @@ use Rattle.jz_tree.specs.declared.expr.Expr.TheViews.{out-Expr, roll-Expr, roll-
 use Rattle.jz_tree.specs.declared.expr.Expr.TheFolds.{fold-roll-Expr}
 use Rattle.jz_tree.specs.declared.stmt.Lval.{Lval}
 use Rattle.jz_tree.specs.declared.stmt.Lval.TheVariants as lval
+use Rattle.jz_tree.specs.Operators.{carries}
 use Rattle.jz_type_names.specs.declared.kinds.Kind.{Kind}
 use Rattle.jz_type_names.specs.declared.kinds.Kind.TheVariants as kind
 use Rattle.jz_type_names.specs.Kinds.{Known, known_of, is_array}
-use Rattle.jz_type_sizes.specs.Wants.{or_size, known_size, word_size}
+use Rattle.jz_type_sizes.specs.Wants.{known_size, word_size}
 use Rattle.jz_type_sizes.specs.Operators.{group_of, group_size}
 use Rattle.jz_type_sizes.specs.Sides.{left_form}
 use Rattle.jz_type_sizes.specs.Values.{value_typing}
@@ -31,11 +32,11 @@ use Rattle.jz_judgement.specs.Lefts.{IsSound, IsFlag, IsProduct, Wants, Leaves, 
 use Rattle.jz_judgement.proofs.Nothing.{none_not, same_some}
 use Rattle.jz_meaning.proofs.LeftSideLemmas.{or_assoc, size_bin}
 use Rattle.jz_meaning.specs.Values.{ref_of, own_size, size_of_operation, expr_step, ty_step, access_step, decl_step, var_step}
-use Rattle.jz_meaning.specs.Assignments.{left_size, left_sizes, left_span, as_expr, carries, is_flag, updated_layer, updated, last_left, whole_of}
+use Rattle.jz_meaning.specs.Assignments.{left_size, left_sizes, left_span, as_expr, is_flag, updated_layer, updated, last_left, whole_of}
 use Rattle.jz_run_laws.specs.Counted.{Counted}
 use Rattle.jz_run_laws.specs.Lefts.{IsCountedLeft, typed_lefts}
 use Rattle.jz_run_laws.proofs.SameKinds.{known_plain, known_cells}
-use Rattle.jz_run_laws.proofs.Sizes.{meant_layer, or_same, operation_size, right_type, size_law, variable_law, access_law}
+use Rattle.jz_run_laws.proofs.Sizes.{meant_layer, operation_size, right_type, size_law, variable_law, access_law}
 
 -- ---- one left side
 not_whole : (b : Bool) (v : Var) → (if b then Some v else None) ≡ None → b ≡ false
@@ -53,8 +54,7 @@ left_law (lval.Store a) c s = (access_law a).0 ∙ (access_law a).1
 pub lefts_law : (to : List Lval) → All IsCountedLeft to → All IsSound to → left_sizes to ≡ typed_lefts to
 lefts_law [] c s = refl
 lefts_law (d ∷ ds) c s =
-    or_same (left_size d) (left_sizes ds)
-    ∙ ap₂ or_size (left_law d (All-head IsCountedLeft d ds c) (All-head IsSound d ds s))
+    ap₂ option_or (left_law d (All-head IsCountedLeft d ds c) (All-head IsSound d ds s))
     (lefts_law ds (All-tail IsCountedLeft d ds c) (All-tail IsSound d ds s))
 
 -- ---- what is well typed has sound left sides
@@ -184,10 +184,9 @@ last_of P (x ∷ y ∷ ds) d e h = last_of P (y ∷ ds) d e (All-tail P x (y ∷
 
 pub assignment_law : (to : List Lval) (d : Lval) (o : Option BinOp) (e w : Expr) → last_left to ≡ Some d → whole_of (Some d) o e ≡ Some w
     → All IsCountedLeft to → Counted e → Values to o e
-    → option_or (left_sizes to) (own_size w) ≡ or_size (typed_lefts to) (value_typing o d e).form.size
+    → option_or (left_sizes to) (own_size w) ≡ option_or (typed_lefts to) (value_typing o d e).form.size
 assignment_law to d o e w last u c k v =
-    or_same (left_sizes to) (own_size w)
-    ∙ ap₂ or_size (lefts_law to c (sound_lefts to o e v))
+    ap₂ option_or (lefts_law to c (sound_lefts to o e v))
     (value_own d o e w (value_type to d o e last v).0 (last_of IsCountedLeft to d last c) (last_of IsSound to d last (sound_lefts to o e v))
     k u (value_type to d o e last v).1)
 

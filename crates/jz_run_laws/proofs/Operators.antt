@@ -8,6 +8,7 @@ use Rattle.jz_tree.specs.Words.{residue}
 use Rattle.jz_tree.proofs.Residues.{residue_below}
 use Rattle.jz_tree.specs.declared.expr.BinOp.{BinOp}
 use Rattle.jz_tree.specs.declared.expr.BinOp.TheVariants as o
+use Rattle.jz_tree.specs.Operators.{is_shift, joins}
 use Rattle.jz_integers.specs.declared.constant.Constant.{Constant}
 use Rattle.jz_integers.specs.declared.constant.Constant.TheVariants as constant
 use Rattle.jz_integers.specs.Integers as numbers
@@ -16,7 +17,7 @@ use Rattle.jz_meaning.specs.declared.value.Why.TheVariants.{Init, Divide}
 use Rattle.jz_meaning.specs.Rules.{went}
 use Rattle.jz_meaning.specs.Attempts.{stuck_at, defined}
 use Rattle.jz_meaning.specs.States.{Value, word, boolean, integer}
-use Rattle.jz_meaning.specs.Operators.{of_constant, same_size, is_least_by_minus_one, plain, on_words, by_count, shifted_word, by_flag, joins, joined, is_shift, combined, shifted, binary, negated, inverted, cast}
+use Rattle.jz_meaning.specs.Operators.{of_constant, same_size, is_least_by_minus_one, plain, on_words, by_count, shifted_word, by_flag, joined, combined, shifted, binary, negated, inverted, cast}
 use Rattle.jz_meaning.proofs.Widths.{equal_sizes}
 use Rattle.jz_run_laws.specs.Kinds.{FitsSize}
 use Rattle.jz_run_laws.specs.Kept.{IfWent}

@@ -7,6 +7,7 @@ use Rattle.jz_tree.specs.Size.{Size}
 use Rattle.jz_tree.specs.Words.{residue}
 use Rattle.jz_tree.specs.declared.expr.BinOp.{BinOp}
 use Rattle.jz_tree.specs.declared.expr.BinOp.TheVariants as o
+use Rattle.jz_tree.specs.Operators.{joins}
 use Rattle.jz_integers.specs.Integers as numbers
 use Rattle.jz_integers.specs.Integers.{on_integers}
 use Rattle.jz_type_sizes.specs.declared.operators.Group.{Group}
@@ -19,7 +20,7 @@ use Rattle.jz_judgement.proofs.Nothing.{some_not, same_some}
 use Rattle.jz_meaning.specs.declared.value.Why.TheVariants.{Init, Divide}
 use Rattle.jz_meaning.specs.Attempts.{stuck_at, defined}
 use Rattle.jz_meaning.specs.States.{Value, word, boolean, integer}
-use Rattle.jz_meaning.specs.Operators.{of_constant, same_size, is_least_by_minus_one, on_words, by_count, by_flag, joins, joined, combined, shifted, negated, inverted, cast}
+use Rattle.jz_meaning.specs.Operators.{of_constant, same_size, is_least_by_minus_one, on_words, by_count, by_flag, joined, combined, shifted, negated, inverted, cast}
 use Rattle.jz_run_laws.specs.Kept.{IfWent}
 use Rattle.jz_run_laws.proofs.Parts.{IfThere, went_defined}
 use Rattle.jz_run_laws.specs.Values.{IsAt, IsWanted}

@@ -1,5 +1,6 @@
 -- The size that a place asks for, which is that of what stands there.
 use Rattle.std.proofs.Common.{◌≡◌, Bool, Option, Some, None, refl, sym, ap, ◌∙◌, subst}
+use Rattle.std.specs.Option.{option_or}
 use Rattle.jz_tree.specs.Size.{Size}
 use Rattle.jz_tree.specs.declared.expr.Expr.{Expr}
 use Rattle.jz_tree.specs.declared.expr.BinOp.{BinOp}
@@ -7,7 +8,6 @@ use Rattle.jz_tree.specs.declared.expr.BinOp.TheVariants as op
 use Rattle.jz_type_sizes.specs.declared.operators.Group.{Group}
 use Rattle.jz_type_sizes.specs.declared.operators.Group.TheVariants as group
 use Rattle.jz_type_sizes.specs.Operators.{group_of, group_size}
-use Rattle.jz_type_sizes.specs.Wants.{or_size}
 use Rattle.jz_type_sizes.specs.Typings.{Typing, typing}
 use Rattle.jz_judgement.specs.Places.{Place, integer, truth, word, stated, unsized, IsSum}
 use Rattle.jz_judgement.specs.HasType as judged
@@ -43,14 +43,14 @@ no_logic : group.Logic ≡ group.Arith → ⊥
 no_logic e = cc
 
 -- where both are at one place the first that has a size has that of the second
-second_size : (p : Place) (a b : Option Size) (z : Size) → ((y : Size) → a ≡ Some y → place_size p ≡ Some y) → ((y : Size) → b ≡ Some y → place_size p ≡ Some y) → b ≡ Some z → or_size a b ≡ Some z
+second_size : (p : Place) (a b : Option Size) (z : Size) → ((y : Size) → a ≡ Some y → place_size p ≡ Some y) → ((y : Size) → b ≡ Some y → place_size p ≡ Some y) → b ≡ Some z → option_or a b ≡ Some z
 second_size p None b z f g e = e
 second_size p (Some y) b z f g e = sym (f y refl) ∙ g z e
 
 abbrev SaidOf : Expr → Size → Type 0
 SaidOf a z = (typing a).form.size ≡ Some z
 
-by_second : (o : BinOp) (a b : Expr) (p : Place) (z : Size) → group_of o ≡ group.Arith → Operates o (value a) (value b) p → SaidOf b z → or_size (typing a).form.size (typing b).form.size ≡ Some z
+by_second : (o : BinOp) (a b : Expr) (p : Place) (z : Size) → group_of o ≡ group.Arith → Operates o (value a) (value b) p → SaidOf b z → option_or (typing a).form.size (typing b).form.size ≡ Some z
 by_second o a b p z g (judged.arithmetic h t k x y) e = second_size p (typing a).form.size (typing b).form.size z (size_at a p x) (size_at b p y) e
 by_second o a b p z g (judged.carry s t x y) e = absurd (none_not z (size_at b truth y z e))
 by_second o a b p z g (judged.shift h t k x y) e = absurd (no_shift (sym h ∙ g))
@@ -58,7 +58,7 @@ by_second o a b p z g (judged.integers h k x y) e = absurd (no_compare (sym h �
 by_second o a b p z g (judged.words q h s x y) e = absurd (no_compare (sym h ∙ g))
 by_second o a b p z g (judged.logic h x y) e = absurd (no_logic (sym h ∙ g))
 
-first_size : (a b : Option Size) (z : Size) → a ≡ Some z → or_size a b ≡ Some z
+first_size : (a b : Option Size) (z : Size) → a ≡ Some z → option_or a b ≡ Some z
 first_size None b z e = absurd (none_not z e)
 first_size (Some y) b z e = e
 

@@ -12,12 +12,13 @@ use Rattle.jz_tree.specs.declared.expr.Expr.{Expr}
 use Rattle.jz_tree.specs.declared.expr.Expr.TheOpen.{Expr-F}
 use Rattle.jz_tree.specs.declared.expr.Expr.TheViews.{out-Expr}
 use Rattle.jz_tree.specs.declared.stmt.Lval.{Lval}
+use Rattle.jz_tree.specs.Operators.{carries}
 use Rattle.jz_meaning.specs.declared.value.Why.TheVariants.{Init}
 use Rattle.jz_meaning.specs.Rules.{went}
 use Rattle.jz_meaning.specs.Attempts.{Evaluation, stuck_at, and_then, defined}
 use Rattle.jz_meaning.specs.States.{Value, word, boolean, State}
 use Rattle.jz_meaning.specs.Values.{own_size, evaluated}
-use Rattle.jz_meaning.specs.Assignments.{Results, left_size, left_sizes, as_expr, Layer, is_flag, carries, last_left, whole_of, two_results, word_in, bool_in, with_two, with_three, two_of, results_of, old_value, chosen, conditioned, all_written, assigned_whole, assigned}
+use Rattle.jz_meaning.specs.Assignments.{Results, left_size, left_sizes, as_expr, Layer, is_flag, last_left, whole_of, two_results, word_in, bool_in, with_two, with_three, two_of, results_of, old_value, chosen, conditioned, all_written, assigned_whole, assigned}
 use Rattle.jz_run_laws.specs.Kinds.{Kinds, FitsSize, IsOfKinds}
 use Rattle.jz_run_laws.specs.DeclaredKinds.{LeftDeclared}
 use Rattle.jz_run_laws.specs.Kept.{IfWent}

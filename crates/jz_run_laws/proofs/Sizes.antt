@@ -2,7 +2,6 @@
 use Rattle.std.proofs.Common.{◌≡◌, Bool, true, Option, Some, None, refl, sym, ap, ap₂, ◌∙◌, subst}
 use Rattle.std.proofs.lemmas.Bool.{false≢true}
 use Rattle.std.specs.Prelude.{◌↔◌, ℤ, pos, negsuc, option_map}
-use Rattle.std.specs.Option.{option_or}
 use Rattle.jz_tree.specs.Span.{Span}
 use Rattle.jz_tree.specs.Size.{Size}
 use Rattle.jz_tree.specs.declared.expr.BinOp.{BinOp}
@@ -20,7 +19,7 @@ use Rattle.jz_type_names.specs.declared.kinds.Kind as known
 use Rattle.jz_type_names.specs.declared.kinds.Kind.TheVariants as scope
 use Rattle.jz_type_names.specs.declared.kinds.Declared.{Declared}
 use Rattle.jz_type_names.specs.Kinds.{Known, kind_step, declared_step, kind_of, declared_of, known_of, number_layer}
-use Rattle.jz_type_sizes.specs.Wants.{or_size, known_size, cell_size}
+use Rattle.jz_type_sizes.specs.Wants.{known_size, cell_size}
 use Rattle.jz_type_sizes.specs.Operators.{group_of, group_size}
 use Rattle.jz_type_sizes.specs.Typings.{Typing, typing, typing_of_access, typing_step, access_typing}
 use Rattle.jz_judgement.specs.Places.{Place, truth, integer, word, count_place}
@@ -31,16 +30,12 @@ use Rattle.jz_judgement.proofs.Variables.{word_sized, array_sized}
 use Rattle.jz_meaning.specs.declared.access.Kind as meant
 use Rattle.jz_meaning.specs.Values.{Meaning, MemoryAccess, Ref, meaning_of, ref_of, access_of, declared_kind, own_size, size_of_operation, expr_step, ty_step, access_step, decl_step, var_step, array_kind}
 use Rattle.jz_run_laws.specs.Counted as counted
-use Rattle.jz_run_laws.specs.Counted.{TyLayer, is_count, counted_type, counted_decl, is_counted, Counted, CountedLayer, Each, EachLayer}
+use Rattle.jz_run_laws.specs.Counted.{TyLayer, is_count, counted_type, counted_decl, is_counted, IsCounted, Counted, Each, EachLayer}
 use Rattle.jz_run_laws.proofs.Placed.{operation_says}
 use Rattle.jz_run_laws.proofs.SameKinds as same
 use Rattle.jz_run_laws.proofs.SameKinds.{SameKind, SameKnown, known_one, known_cells}
 
 -- ---- operators
-pub or_same : (a b : Option Size) → option_or a b ≡ or_size a b
-or_same None b = refl
-or_same (Some z) b = refl
-
 pub operation_size : (o : BinOp) (a b : Option Size) → size_of_operation o a b ≡ group_size (group_of o) a b
 operation_size op.OrElse a b = refl
 operation_size op.AndThen a b = refl
@@ -59,16 +54,16 @@ operation_size op.Shr a b = refl
 operation_size op.Sar a b = refl
 operation_size op.Rol a b = refl
 operation_size op.Ror a b = refl
-operation_size op.Or a b = or_same a b
-operation_size op.Xor a b = or_same a b
-operation_size op.And a b = or_same a b
-operation_size op.Add a b = or_same a b
-operation_size op.Sub a b = or_same a b
-operation_size op.Mul a b = or_same a b
-operation_size op.Div a b = or_same a b
-operation_size op.Rem a b = or_same a b
-operation_size op.DivS a b = or_same a b
-operation_size op.RemS a b = or_same a b
+operation_size op.Or a b = refl
+operation_size op.Xor a b = refl
+operation_size op.And a b = refl
+operation_size op.Add a b = refl
+operation_size op.Sub a b = refl
+operation_size op.Mul a b = refl
+operation_size op.Div a b = refl
+operation_size op.Rem a b = refl
+operation_size op.DivS a b = refl
+operation_size op.RemS a b = refl
 
 -- each operand has a type
 pub left_type : (o : BinOp) (a b : Term) (p : Place) → Operates o a b p → (q : Place) × HasType a q
@@ -146,6 +141,9 @@ literal_layer (Expr-F.Neg a at) = refl
 literal_layer (Expr-F.Not a at) = refl
 literal_layer (Expr-F.Cast z s a at) = refl
 literal_layer (Expr-F.Bin o a b at) = refl
+
+abbrev pub CountedLayer : Layer → Type 0
+CountedLayer = EachLayer IsCounted
 
 layer_size : (y : Proved) (p : Place) → CountedLayer (bare y) → Types (bare y) p → (meant_layer (bare y)).size ≡ (typed_layer (bare y)).form.size
 layer_size (Expr-F.Num n at) p c t = refl

@@ -2,6 +2,7 @@
 use Rattle.std.proofs.Common.{◌≡◌, Bool, true, false, ◌||◌, Option, Some, None, refl, sym, ap, ap₂, ◌∙◌, subst}
 use Rattle.std.proofs.lemmas.Bool.{true≢false}
 use Rattle.std.specs.Prelude.{is_some}
+use Rattle.std.specs.Option.{option_or}
 use Rattle.jz_tree.specs.Span.{Span}
 use Rattle.jz_tree.specs.Size.{Size}
 use Rattle.jz_tree.specs.declared.expr.Storage.{Storage}
@@ -18,7 +19,7 @@ use Rattle.jz_type_names.specs.declared.kinds.Declared.{Declared}
 use Rattle.jz_type_names.specs.Kinds.{Known, kind_step, declared_step}
 use Rattle.jz_type_sizes.specs.declared.operators.Group.{Group}
 use Rattle.jz_type_sizes.specs.declared.operators.Group.TheVariants as group
-use Rattle.jz_type_sizes.specs.Wants.{or_size, known_size, cell_size}
+use Rattle.jz_type_sizes.specs.Wants.{known_size, cell_size}
 use Rattle.jz_type_sizes.specs.Operators.{group_of, group_size}
 use Rattle.jz_type_sizes.specs.Typings.{Typing, typing, typing_of_access, typing_step, access_typing}
 use Rattle.jz_type_sizes.specs.Worded.{is_worded, worded_step, worded_group}
@@ -84,7 +85,7 @@ group_none : (g : Group) (a b : Bool) (x y : Option Size) → (a ≡ false → x
 group_none group.Logic a b x y f g h = refl
 group_none group.Compare a b x y f g h = refl
 group_none group.Shift a b x y f g h = f h
-group_none group.Arith a b x y f g h = ap₂ or_size (f (neither a b h).0) (g (neither a b h).1)
+group_none group.Arith a b x y f g h = ap₂ option_or (f (neither a b h).0) (g (neither a b h).1)
 
 layer_none : (y : Proved) → worded_layer (bare y) ≡ false → (typed_layer (bare y)).form.size ≡ None
 layer_none (Expr-F.Num n at) h = refl

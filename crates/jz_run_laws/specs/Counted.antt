@@ -58,6 +58,3 @@ mutual
 
 abbrev pub Counted : Expr → Type 0
 Counted = Each IsCounted
-
-abbrev pub CountedLayer : Layer → Type 0
-CountedLayer = EachLayer IsCounted

@@ -1,5 +1,5 @@
--- How deep calls may be. `callees_of` has none below its depth; where no function reaches itself, nothing
--- is cut off: each call holds the body of the function that it names, with all calls in it.
+-- How deep calls may be. `callees_of` has none below its depth; where no function reaches itself,
+-- nothing is cut off: each call holds the body of the function that it names, with all calls in it.
 use Rattle.std.specs.Prelude.{◌≡◌, ◌<◌, ◌≤◌, ℕ, List, length, Option, Some, None, slice_index_or}
 use Rattle.jz_tree.specs.Span.{Span}
 use Rattle.jz_tree.specs.declared.expr.Expr.{Expr}

@@ -10,7 +10,6 @@ use Rattle.jz_tree.specs.declared.intrinsic.Intrinsic.TheVariants as name
 use Rattle.jz_type_names.specs.Kinds.{array_of}
 use Rattle.jz_type_sizes.specs.Signatures.{signature_of}
 use Rattle.jz_type_sizes.specs.Intrinsics.{size_of_intrinsic}
-use Rattle.jz_type_sizes.specs.Wants.{or_size}
 use Rattle.jz_type_sizes.specs.Sides.{left_form}
 use Rattle.jz_type_sizes.specs.Values.{value_typing}
 use Rattle.jz_type_sizes.specs.Typings.{typing}
@@ -45,7 +44,7 @@ AssignmentSizes =
     → last_left to ≡ Some d → whole_of (Some d) o e ≡ Some w
     → All IsCountedLeft to → Counted e → Values to o e
     → option_or (left_sizes to) (own_size w)
-    ≡ or_size (typed_lefts to) (value_typing o d e).form.size
+    ≡ option_or (typed_lefts to) (value_typing o d e).form.size
 
 -- ---- intrinsics
 -- each but LEA and SETcc, which have a size of their own

@@ -5,7 +5,7 @@ use jz_first_meaning::Reason;
 
 /// A condition that the facts don't give: where it is asked, what would be wrong, and of which
 /// variable.
-#[derive(Drop, PartialEq, Eq)]
+#[derive(Drop)]
 pub struct Alarm {
     pub span: Span,
     pub kind: Reason,

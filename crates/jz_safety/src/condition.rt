@@ -47,13 +47,13 @@ fn left_conditions(
 ) -> Result<Seq<Condition>, AllocError>
     ensures { IfOk result (λ list. list ≡ left_conditions op to.now) }
 {
-    let mut list = Seq::new(alloc);
-    if op.is_some() {
-        for left_side in to.as_slice() {
-            list.push(left_condition(left_side)?)?;
+    match op {
+        None => Ok(Seq::new(alloc)),
+        Some(_) => {
+            let list = to.try_map(alloc, left_condition)?;
+            Ok(list)
         }
     }
-    Ok(list)
 }
 
 fn add_right_conditions(list: &mut Seq<Condition>, right_side: &Rhs) -> Result<(), AllocError>
@@ -82,9 +82,5 @@ pub fn conditions(alloc: Global, statement: &Stmt) -> Result<Seq<Condition>, All
 pub fn result_conditions(alloc: Global, returned: &Seq<Var>) -> Result<Seq<Condition>, AllocError>
     ensures { IfOk result (λ list. list ≡ result_conditions returned.now) }
 {
-    let mut list = Seq::new(alloc);
-    for var in returned.as_slice() {
-        list.push(read_of(var)?)?;
-    }
-    Ok(list)
+    returned.try_map(alloc, read_of)
 }

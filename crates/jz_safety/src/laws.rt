@@ -5,7 +5,7 @@ ghost use Rattle.jz_first.specs.declared.tree.Program.{Program};
 ghost use Rattle.jz_first.specs.declared.tree.Fun.{Fun};
 ghost use Rattle.jz_first.specs.Assignments.{AssignsToOne};
 ghost use Rattle.jz_runs.specs.Rules.{Stuck};
-ghost use Rattle.jz_runs.specs.Laws.{AtMostOne};
+ghost use Rattle.jz_runs.specs.DataLaws.{AtMostOne};
 ghost use Rattle.jz_first_meaning.specs.SourceStates.{Why};
 ghost use Rattle.jz_first_meaning.specs.SourceRuns.{EachRun};
 ghost use Rattle.jz_first_meaning.specs.StraightRuns.{EndsPlainly};

@@ -17,6 +17,7 @@ use Rattle.jz_tree.specs.declared.intrinsic.Intrinsic.{Intrinsic}
 use Rattle.jz_tree.specs.declared.intrinsic.Intrinsic.TheVariants as name
 use Rattle.jz_tree.specs.declared.intrinsic.Instance.{Instance}
 use Rattle.jz_tree.specs.Spellings.{spelled}
+use Rattle.jz_tree.specs.Operators.{divides, carries}
 use Rattle.jz_select.specs.declared.class.Class.{Class}
 use Rattle.jz_select.specs.declared.class.Class.TheVariants as class
 use Rattle.jz_select.specs.declared.class.Meeting.TheVariants as meeting
@@ -29,8 +30,8 @@ use Rattle.jz_select.specs.declared.shape.Shape.TheVariants as shapes
 use Rattle.jz_select.specs.declared.shaping.Flags.TheVariants as flags
 use Rattle.jz_select.specs.Places.{Layer, Answers}
 use Rattle.jz_select.specs.Operands.{class_of, dest_of, operand_of}
-use Rattle.jz_select.specs.Rows.{is_m, is_rm, is_rmi, is_flag, is_pinned, is_same, computes, changes, divides}
-use Rattle.jz_select.specs.Shapes.{Asked, whichever, itself, carries, five_lead, value_behind, conditional, beside, carry_layer, value_layer, update_layer, assign_of, value_shape, one_shape, two_shape, three_shape, product_shape, stand_apart, division_shape, intrinsic_shape, named_shape, rhs_shape, kind_layer, shape_of}
+use Rattle.jz_select.specs.Rows.{is_m, is_rm, is_rmi, is_flag, is_pinned, is_same, computes, changes}
+use Rattle.jz_select.specs.Shapes.{Asked, whichever, itself, five_lead, value_behind, conditional, beside, carry_layer, value_layer, update_layer, assign_of, value_shape, one_shape, two_shape, three_shape, product_shape, stand_apart, division_shape, intrinsic_shape, named_shape, rhs_shape, kind_layer, shape_of}
 use Rattle.jz_select.specs.Shapes as shaped
 use Rattle.jz_select.specs.Hardest.{guess, index_beside, hardest}
 use Rattle.std.specs.Option.{option_or}

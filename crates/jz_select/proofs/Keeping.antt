@@ -6,6 +6,7 @@ use Rattle.jz_tree.specs.declared.expr.BinOp.{BinOp}
 use Rattle.jz_tree.specs.declared.expr.BinOp.TheVariants as op
 use Rattle.jz_tree.specs.declared.intrinsic.Intrinsic.{Intrinsic}
 use Rattle.jz_tree.specs.declared.intrinsic.Intrinsic.TheVariants as name
+use Rattle.jz_tree.specs.Operators.{divides}
 use Rattle.jz_select.specs.declared.class.Class.{Class}
 use Rattle.jz_select.specs.declared.class.Class.TheVariants as class
 use Rattle.jz_select.specs.declared.class.Meeting.{Meeting}
@@ -16,7 +17,7 @@ use Rattle.jz_select.specs.declared.shape.Value.TheVariants as values
 use Rattle.jz_select.specs.declared.shape.Shape.{Shape}
 use Rattle.jz_select.specs.declared.shape.Shape.TheVariants as shapes
 use Rattle.std.specs.Option.{option_or}
-use Rattle.jz_select.specs.Rows.{is_rm, is_i, is_rmi, is_apart_from, computes, changes, sums, times, times_inline, is_product, is_quotient, shifts_inline, shifts_masked, masks, divides, swaps, is_wide, is_long, is_longest, class_size, is_r, is_skip, is_flag, is_pinned, may_lead, are_inline, product_size, one_fits, two_fits, three_fits, named_if}
+use Rattle.jz_select.specs.Rows.{is_rm, is_i, is_rmi, is_apart_from, computes, changes, sums, times, times_inline, is_product, is_quotient, shifts_inline, shifts_masked, masks, swaps, is_wide, is_long, is_longest, class_size, is_r, is_skip, is_flag, is_pinned, may_lead, are_inline, product_size, one_fits, two_fits, three_fits, named_if}
 use Rattle.jz_select.specs.Selected.{table, first_of, pattern_named}
 
 -- ---- tests

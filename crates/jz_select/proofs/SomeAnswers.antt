@@ -16,6 +16,7 @@ use Rattle.jz_tree.specs.declared.intrinsic.Intrinsic.{Intrinsic}
 use Rattle.jz_tree.specs.declared.intrinsic.Intrinsic.TheVariants as name
 use Rattle.jz_tree.specs.declared.intrinsic.Instance.{Instance}
 use Rattle.jz_tree.specs.Spellings.{spelled}
+use Rattle.jz_tree.specs.Operators.{carries}
 use Rattle.jz_select.specs.declared.class.Class.{Class}
 use Rattle.jz_select.specs.declared.class.Class.TheVariants as class
 use Rattle.jz_select.specs.declared.shape.Value.TheVariants as values
@@ -24,7 +25,7 @@ use Rattle.jz_select.specs.declared.shaping.Flags.TheVariants as flags
 use Rattle.jz_select.specs.Places.{Layer, Answers}
 use Rattle.jz_select.specs.Operands.{class_of, dest_of}
 use Rattle.jz_select.specs.Rows.{is_flag}
-use Rattle.jz_select.specs.Shapes.{Asked, whichever, first_of, carries, value_behind, beside, carry_layer, value_layer, update_layer, assign_of, value_shape, one_shape, two_shape, three_shape, product_shape, division_shape, intrinsic_shape, named_shape, rhs_shape, kind_layer, shape_of}
+use Rattle.jz_select.specs.Shapes.{Asked, whichever, first_of, value_behind, beside, carry_layer, value_layer, update_layer, assign_of, value_shape, one_shape, two_shape, three_shape, product_shape, division_shape, intrinsic_shape, named_shape, rhs_shape, kind_layer, shape_of}
 use Rattle.jz_select.specs.Hardest.{hardest}
 
 -- what is made with the hardest answers is made with some answers to each comparison

@@ -2,6 +2,7 @@
 -- register times a scale; and the terms of its sum.
 use Rattle.std.specs.Prelude.{Bool, true, false, ◌&&◌, ◌||◌, not, Some, None, if◌then◌else◌}
 use Rattle.jz_words.specs.declared.size.Size.TheVariants as sizes
+use Rattle.jz_tree.specs.Operators.{joins}
 use Rattle.jz_tree.specs.declared.expr.Storage.{Storage}
 use Rattle.jz_tree.specs.declared.expr.Storage.TheVariants as storage
 use Rattle.jz_tree.specs.declared.expr.BinOp.{BinOp}
@@ -46,12 +47,6 @@ is_regs64 (Some d) = regs64 d.storage d.kind
 
 abbrev pub looks : Bool → Bool → Bool → Bool → Look
 looks i c r s = record { inline = i; condition = c; reg = r; scaled = s; sum = term i r s }
-
--- of bools a bool
-abbrev pub joins : BinOp → Bool
-joins op.AndThen = true
-joins op.OrElse = true
-joins _ = false
 
 -- of numbers a bool
 abbrev pub compares_values : BinOp → Bool

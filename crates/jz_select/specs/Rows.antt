@@ -5,6 +5,7 @@ use Rattle.std.specs.Option.{option_or}
 use Rattle.jz_words.specs.declared.size.Size.{Size}
 use Rattle.jz_words.specs.declared.size.Size.TheVariants as sizes
 use Rattle.jz_words.specs.Sizes.{bits_of}
+use Rattle.jz_tree.specs.Operators.{is_shift, divides}
 use Rattle.jz_tree.specs.declared.expr.BinOp.{BinOp}
 use Rattle.jz_tree.specs.declared.expr.BinOp.TheVariants as op
 use Rattle.jz_select.specs.declared.class.Mask.{Mask}
@@ -118,21 +119,6 @@ joins_bits _ = false
 abbrev pub multiplies : BinOp → Bool
 multiplies op.Mul = true
 multiplies _ = false
-
-abbrev pub divides : BinOp → Bool
-divides op.Div = true
-divides op.Rem = true
-divides op.DivS = true
-divides op.RemS = true
-divides _ = false
-
-abbrev pub shifts : BinOp → Bool
-shifts op.Shl = true
-shifts op.Shr = true
-shifts op.Sar = true
-shifts op.Rol = true
-shifts op.Ror = true
-shifts _ = false
 
 -- the operands may be swapped
 abbrev pub swaps : BinOp → Bool
@@ -260,12 +246,12 @@ p8 _ = false
 
 -- P9 `d = a sh c`, c I
 abbrev pub p9 : Shape → Bool
-p9 (shapes.Assign None d w (values.Two p a o)) = shifts p && shifts_inline d a o
+p9 (shapes.Assign None d w (values.Two p a o)) = is_shift p && shifts_inline d a o
 p9 _ = false
 
 -- P10 `d = a sh (v & k)`, v a byte in a register
 abbrev pub p10 : Shape → Bool
-p10 (shapes.Assign None d w (values.Two p a o)) = shifts p && shifts_masked None d a o
+p10 (shapes.Assign None d w (values.Two p a o)) = is_shift p && shifts_masked None d a o
 p10 _ = false
 
 -- P11 `r = (tu)o`, o R or M, smaller

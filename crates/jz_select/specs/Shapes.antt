@@ -1,7 +1,7 @@
 -- A statement in the words of the table.
-use Rattle.std.specs.Prelude.{Bool, true, false, ◌&&◌, ◌||◌, not, List, [], ◌∷◌, Option, Some, None, if◌then◌else◌}
+use Rattle.std.specs.Prelude.{Bool, false, ◌&&◌, ◌||◌, not, List, [], ◌∷◌, Option, Some, None, if◌then◌else◌}
+use Rattle.jz_tree.specs.Operators.{divides, carries}
 use Rattle.jz_tree.specs.declared.expr.BinOp.{BinOp}
-use Rattle.jz_tree.specs.declared.expr.BinOp.TheVariants as op
 use Rattle.jz_tree.specs.declared.expr.Expr.{Expr}
 use Rattle.jz_tree.specs.declared.expr.Ty.{Ty}
 use Rattle.jz_tree.specs.declared.expr.Access.{Access}
@@ -36,7 +36,7 @@ use Rattle.jz_select.specs.Sums.{is_sum}
 use Rattle.jz_select.specs.Places.{Layer, Answers}
 use Rattle.jz_select.specs.Operands.{class_of, dest_of, operand_of, var_class}
 use Rattle.jz_tree.specs.Spellings.{spelled}
-use Rattle.jz_select.specs.Rows.{is_m, is_rm, is_rmi, is_flag, is_flag_result, is_apart, divides}
+use Rattle.jz_select.specs.Rows.{is_m, is_rm, is_rmi, is_flag, is_flag_result, is_apart}
 
 -- ---- operands
 -- which answers hold for an operand, by its destination and, but for a division, by the first
@@ -54,12 +54,6 @@ first_of o a = if divides o then None else Some a
 -- the destination as the first operand
 abbrev pub itself : Lval → Operand
 itself d = record { class = dest_of d; meeting = meeting.Same }
-
--- `e + c` after `a +`, `e - c` after `a -`
-abbrev pub carries : BinOp → BinOp → Bool
-carries op.Add op.Add = true
-carries op.Sub op.Sub = true
-carries _ _ = false
 
 -- ---- conditions
 -- `a cmp o`, a R or M, at most one M

@@ -3,13 +3,13 @@
 ghost use Rattle.std.specs.Prelude.{◌≡◌};
 ghost use Rattle.jz_type_names.specs.Kinds.{known_of};
 ghost use Rattle.jz_select.specs.Look.{look_of, is_inline_var, is_reg64};
-ghost use Rattle.jz_select.specs.Look.{is_regs64, terms_of, joins as joins_bools};
+ghost use Rattle.jz_select.specs.Look.{is_regs64, terms_of};
 ghost use Rattle.jz_select.specs.Look.{compares_values as compares_values_is};
 ghost use Rattle.jz_select.specs.Look.{gives_number as gives_number_is};
 ghost use Rattle.jz_select.specs.Sums.{term};
 
 use crate::class::Sum;
-use jz_tree::{BinOp, Expr, Storage, Var};
+use jz_tree::{BinOp, Expr, Storage, Var, joins};
 use jz_type_names::{Kind, known};
 use jz_words::Size;
 
@@ -39,12 +39,6 @@ fn is_words(v: &Var) -> bool
         None => false,
         Some(d) => matches!((d.storage, d.kind), (Storage::Reg, Kind::Array(Size::S64))),
     }
-}
-
-fn joins(op: BinOp) -> bool
-    ensures { result ≡ joins_bools op }
-{
-    matches!(op, BinOp::AndThen | BinOp::OrElse)
 }
 
 /// Whether it is a comparison.

@@ -4,7 +4,7 @@ ghost use Rattle.std.specs.Prelude.{◌≡◌, Some, None};
 ghost use Rattle.jz_select.specs.Rows.{is_r, is_m, is_i, is_rm, is_rmi, is_flag, is_skip};
 ghost use Rattle.jz_select.specs.Rows.{is_flag_result, is_pinned, is_same, is_apart, class_size};
 ghost use Rattle.jz_select.specs.Rows.{is_wide, is_long, is_longest, is_byte_size};
-ghost use Rattle.jz_select.specs.Rows.{is_below, divides as divides_is, swaps};
+ghost use Rattle.jz_select.specs.Rows.{is_below, swaps};
 ghost use Rattle.jz_select.specs.Rows.{computes as computes_is, changes as changes_is, are_inline};
 ghost use Rattle.jz_select.specs.Rows.{may_lead, times as times_is};
 ghost use Rattle.jz_select.specs.Rows.{times_inline as times_inline_is};
@@ -139,12 +139,6 @@ fn below(y: Option<Size>, z: Size) -> bool
         None => false,
         Some(y) => y.bits() < z.bits(),
     }
-}
-
-pub fn divides(op: BinOp) -> bool
-    ensures { result ≡ divides_is op }
-{
-    matches!(op, BinOp::Div | BinOp::Rem | BinOp::DivS | BinOp::RemS)
 }
 
 fn swapped(op: BinOp) -> bool

@@ -3,8 +3,9 @@
 ghost use Rattle.std.specs.Prelude.{◌≡◌};
 ghost use Rattle.std.specs.Option.{option_copied};
 ghost use Rattle.jz_tree.specs.declared.expr.Expr.TheViews.{out-Expr};
+ghost use Rattle.jz_tree.specs.Operators.{carries as carries_is};
 ghost use Rattle.jz_select.specs.Operands.{class_of, dest_of};
-ghost use Rattle.jz_select.specs.Shapes.{first_of as first_of_is, carries as carries_is};
+ghost use Rattle.jz_select.specs.Shapes.{first_of as first_of_is};
 ghost use Rattle.jz_select.specs.Shapes.{carry_layer, two_beside, value_layer, itself as itself_of};
 ghost use Rattle.jz_select.specs.Shapes.{update_layer, assign_of};
 ghost use Rattle.jz_select.specs.Shapes.{value_shape as value_shape_of, compares as compares_is};
@@ -28,9 +29,9 @@ ghost use Rattle.jz_select.specs.Hardest.{hardest};
 use crate::class::{Class, Meeting, Operand};
 use crate::look::{compares_values, inline_condition, sum};
 use crate::operand::{class, class_of_var, dest, operand};
-use crate::rows::{apart, divides, flag, flag_result, m, rm, rmi};
+use crate::rows::{apart, flag, flag_result, m, rm, rmi};
 use crate::shape::{Shape, Value};
-use jz_tree::{BinOp, Expr, Instance, Intrinsic, Lval, Rhs, Seq, StmtKind, spelled};
+use jz_tree::{BinOp, Expr, Instance, Intrinsic, Lval, Rhs, Seq, StmtKind, divides, spelled};
 
 /// How many flags an intrinsic gives before its values.
 #[derive(Clone, Copy)]

@@ -1,5 +1,6 @@
-pub mod InnerSides
+pub mod LeftSides
 pub mod Deciding
+pub mod Operators
 pub mod Spellings
 pub use Rattle.jz_data.specs.Failures
 pub use Rattle.jz_data.specs.Laws

@@ -1,7 +1,7 @@
 //! Copies that equal what they copy, made by a loop down the left side of an expression.
 
 ghost use Rattle.std.specs.Prelude.{◌≡◌, IfOk};
-ghost use Rattle.jz_tree.specs.InnerSides.{on_left};
+ghost use Rattle.jz_tree.specs.LeftSides.{on_left};
 
 use crate::expr::{Access, BinOp, Decl, Expr, Ty, Var};
 use jz_data::Boxed;
@@ -10,30 +10,31 @@ use std::alloc::{AllocError, Global};
 
 /// An operation on the left side of an expression, without its first operand.
 #[derive(Drop)]
-struct Step {
-    op: BinOp,
-    right: Expr,
-    span: Span,
+pub struct LeftStep {
+    pub op: BinOp,
+    pub right: Expr,
+    pub span: Span,
 }
 
 /// The left side of an expression: its operations from the outermost, and the operand where it
 /// ends.
 #[derive(Drop)]
-struct Side {
-    steps: Vec<Step>,
-    first: Expr,
+pub struct LeftSide {
+    pub steps: Vec<LeftStep>,
+    pub first: Expr,
 }
 
-impl Side {
+impl LeftSide {
+    /// The expression that has this left side.
     #[tactic(auto, using(crate::proofs::Sides::last_step))]
-    fn into_expr(self, alloc: Global) -> Result<Expr, AllocError>
+    pub fn into_expr(self, alloc: Global) -> Result<Expr, AllocError>
         ensures { IfOk result (λ e. e ≡ on_left self.steps.items self.first) }
     {
-        let Side {
+        let LeftSide {
             mut steps,
             mut first,
         } = self;
-        while let Some(Step { op, right, span }) = steps.pop() {
+        while let Some(LeftStep { op, right, span }) = steps.pop() {
             first = Expr::Bin(
                 op,
                 Boxed::new(alloc, first)?,
@@ -57,13 +58,13 @@ impl Expr {
     }
 
     #[cycle(copy)]
-    fn copy_side(&self, alloc: Global) -> Result<Side, AllocError>
+    fn copy_side(&self, alloc: Global) -> Result<LeftSide, AllocError>
         ensures { IfOk result (λ side. on_left side.steps.items side.first ≡ self.now) }
     {
         let mut steps = Vec::new(alloc);
         let mut rest = self;
         while let Expr::Bin(op, left, right, span) = rest {
-            steps.push(Step {
+            steps.push(LeftStep {
                 op: *op,
                 right: right.get().copy(alloc)?,
                 span: *span,
@@ -71,7 +72,7 @@ impl Expr {
             rest = left.get();
         }
         let first = rest.copy_single(alloc)?;
-        Ok(Side { steps, first })
+        Ok(LeftSide { steps, first })
     }
 
     #[cycle(copy)]

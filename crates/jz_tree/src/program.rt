@@ -6,21 +6,21 @@ use jz_data::{Seq, Text};
 use jz_io::Span;
 
 /// What a text says: its constants and its functions, each in their order.
-#[derive(Drop, PartialEq, Eq)]
+#[derive(Drop)]
 pub struct Program {
     pub consts: Seq<Const>,
     pub funs: Seq<Fun>,
 }
 
 /// A named number. Its span is that of its name.
-#[derive(Drop, PartialEq, Eq)]
+#[derive(Drop)]
 pub struct Const {
     pub name: Text,
     pub value: Expr,
     pub span: Span,
 }
 
-#[derive(Clone, Copy, PartialEq, Eq)]
+#[derive(Clone, Copy)]
 pub enum FunKind {
     /// Copied where it is called.
     Inline,
@@ -29,7 +29,7 @@ pub enum FunKind {
 }
 
 /// A function. Its span is that of its name.
-#[derive(Drop, PartialEq, Eq)]
+#[derive(Drop)]
 pub struct Fun {
     pub notes: Seq<Note>,
     pub kind: FunKind,
@@ -45,14 +45,14 @@ pub struct Fun {
 }
 
 /// A parameter of a function, with its declaration and the annotations of its group.
-#[derive(Drop, PartialEq, Eq)]
+#[derive(Drop)]
 pub struct Param {
     pub notes: Seq<Note>,
     pub var: Var,
 }
 
 /// A result that a function declares.
-#[derive(Drop, PartialEq, Eq)]
+#[derive(Drop)]
 pub struct Ret {
     pub notes: Seq<Note>,
     pub decl: Decl,

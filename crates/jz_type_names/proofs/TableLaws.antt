@@ -3,35 +3,36 @@ use Rattle.std.proofs.Common.{◌≡◌, ℕ, Bool, true, false, List, [], ◌�
 use Rattle.std.specs.Prelude.{if◌then◌else◌, is_some, option_map, find}
 use Rattle.std.specs.Str.{bytes_eq}
 use Rattle.std.proofs.Math.Path.{fun_ext}
+use Rattle.std.specs.Option.{option_or}
 use Rattle.jz_tree.proofs.Texts.{bytes_eq-sym, bytes_eq-true}
 use Rattle.jz_tree.specs.Span.{Span}
 use Rattle.jz_type_names.specs.Order.{earlier, earliest}
-use Rattle.jz_type_names.specs.Scopes.{Name, places_of, or_else, or_named}
+use Rattle.jz_type_names.specs.Scopes.{Name, places_of, or_named}
 use Rattle.jz_type_names.specs.Tables.{places_named}
 use Rattle.jz_type_names.proofs.Earliest.{earliest-append, earlier-none}
 
-or_nothing : {A : Type 0} (a : Option A) → or_else a None ≡ a
+or_nothing : {A : Type 0} (a : Option A) → option_or a None ≡ a
 or_nothing None = refl
 or_nothing (Some a) = refl
 
 module _ {A : Type 0} (old : List ℕ → Option A) (name : List ℕ) (a : A) where
   pub named_anew : (new : List ℕ → Option A) → old name ≡ None → ((q : List ℕ) → new q ≡ cond (bytes_eq name q) (Some a) (old q)) → new ≡ or_named old name (Some a)
   named_anew new free put =
-      let split : (q : List ℕ) (b : Bool) → bytes_eq q name ≡ b → cond b (Some a) (old q) ≡ or_else (old q) (if b then Some a else None) =
-      λ q b. elim b as (λ b. bytes_eq q name ≡ b → cond b (Some a) (old q) ≡ or_else (old q) (if b then Some a else None)) [
-        | true ↦ λ e. ap (λ o. or_else o (Some a)) (sym (ap old (bytes_eq-true q name e) ∙ free))
+      let split : (q : List ℕ) (b : Bool) → bytes_eq q name ≡ b → cond b (Some a) (old q) ≡ option_or (old q) (if b then Some a else None) =
+      λ q b. elim b as (λ b. bytes_eq q name ≡ b → cond b (Some a) (old q) ≡ option_or (old q) (if b then Some a else None)) [
+        | true ↦ λ e. ap (λ o. option_or o (Some a)) (sym (ap old (bytes_eq-true q name e) ∙ free))
         | false ↦ λ e. sym (or_nothing (old q))
       ]
       in fun_ext (λ q. put q ∙ ap (λ b. cond b (Some a) (old q)) (bytes_eq-sym name q) ∙ split q (bytes_eq q name) refl)
 
-  some_stays : (o w : Option A) → is_some o ≡ true → o ≡ or_else o w
+  some_stays : (o w : Option A) → is_some o ≡ true → o ≡ option_or o w
   some_stays None w h = cc
   some_stays (Some b) w h = refl
 
   pub named_before : is_some (old name) ≡ true → old ≡ or_named old name (Some a)
   named_before there =
-      let split : (q : List ℕ) (b : Bool) → bytes_eq q name ≡ b → old q ≡ or_else (old q) (if b then Some a else None) =
-      λ q b. elim b as (λ b. bytes_eq q name ≡ b → old q ≡ or_else (old q) (if b then Some a else None)) [
+      let split : (q : List ℕ) (b : Bool) → bytes_eq q name ≡ b → old q ≡ option_or (old q) (if b then Some a else None) =
+      λ q b. elim b as (λ b. bytes_eq q name ≡ b → old q ≡ option_or (old q) (if b then Some a else None)) [
         | true ↦ λ e. some_stays (old q) (Some a) (ap (λ m. is_some (old m)) (bytes_eq-true q name e) ∙ there)
         | false ↦ λ e. sym (or_nothing (old q))
       ]
@@ -47,16 +48,16 @@ module _ {X W : Type 0} (name : X → List ℕ) (value : X → W) where
   last_named (y ∷ xs) x n =
       elim (bytes_eq n (name y))
       as (λ b. option_map value (cond b (Some y) (find (λ x. bytes_eq n (name x)) (xs ++ x ∷ [])))
-      ≡ or_else (option_map value (cond b (Some y) (find (λ x. bytes_eq n (name x)) xs))) (if bytes_eq n (name x) then Some (value x) else None))
+      ≡ option_or (option_map value (cond b (Some y) (find (λ x. bytes_eq n (name x)) xs))) (if bytes_eq n (name x) then Some (value x) else None))
       [ true ↦ refl | false ↦ last_named xs x n ]
 
   pub table_more : (xs : List X) (x : X) (old new : List ℕ → Option W) → ((n : List ℕ) → old n ≡ named_in xs n) → new ≡ or_named old (name x) (Some (value x))
       → (n : List ℕ) → new n ≡ named_in (xs ++ x ∷ []) n
   table_more xs x old new held e n =
-      ap (λ t. t n) e ∙ (ap (λ o. or_else o (if bytes_eq n (name x) then Some (value x) else None)) (held n) ∙ sym (last_named xs x n))
+      ap (λ t. t n) e ∙ (ap (λ o. option_or o (if bytes_eq n (name x) then Some (value x) else None)) (held n) ∙ sym (last_named xs x n))
 
 -- ---- items that a table shows by references to them
-shown : {A B : Type 0} (show : A → B) (o : Option A) (b : Bool) (a : A) → option_map show (or_else o (if b then Some a else None)) ≡ or_else (option_map show o) (if b then Some (show a) else None)
+shown : {A B : Type 0} (show : A → B) (o : Option A) (b : Bool) (a : A) → option_map show (option_or o (if b then Some a else None)) ≡ option_or (option_map show o) (if b then Some (show a) else None)
 shown show None true a = refl
 shown show None false a = refl
 shown show (Some w) b a = refl

@@ -1,6 +1,6 @@
 -- The statements of a body, and what stands in one statement itself: its expressions, the names
 -- that it reads, sets and calls.
-use Rattle.std.specs.Prelude.{List, [], ◌∷◌, ◌++◌, flat_map, map, Some, None, option_to_list}
+use Rattle.std.specs.Prelude.{Bool, true, false, List, [], ◌∷◌, ◌++◌, flat_map, map, Some, None, option_to_list}
 use Rattle.jz_tree.specs.Span.{Span}
 use Rattle.jz_tree.specs.declared.expr.Expr.{Expr}
 use Rattle.jz_tree.specs.declared.expr.Ty.{Ty}
@@ -37,16 +37,20 @@ span_layer (Expr-F.Bin op a b at) = at
 abbrev pub span_of : Expr → Span
 span_of e = span_layer (out-Expr e)
 
+-- what stands for the variables of an expression, in the order of the text
+abbrev pub leaves_step : {V : Type 0} → Expr-F (List V) (Unit {0}) (List V) (Unit {0}) V → List V
+leaves_step (Expr-F.Num n at) = []
+leaves_step (Expr-F.Expr::Bool b at) = []
+leaves_step (Expr-F.Var v) = v ∷ []
+leaves_step (Expr-F.Cell v at) = v ∷ at
+leaves_step (Expr-F.Load a) = a
+leaves_step (Expr-F.Neg a at) = a
+leaves_step (Expr-F.Not a at) = a
+leaves_step (Expr-F.Cast size signed a at) = a
+leaves_step (Expr-F.Bin op a b at) = a ++ b
+
 abbrev pub names_step : Expr-F (List Name) (Unit {0}) (List Name) (Unit {0}) Name → List Name
-names_step (Expr-F.Num n at) = []
-names_step (Expr-F.Expr::Bool b at) = []
-names_step (Expr-F.Var v) = v ∷ []
-names_step (Expr-F.Cell v at) = v ∷ at
-names_step (Expr-F.Load a) = a
-names_step (Expr-F.Neg a at) = a
-names_step (Expr-F.Not a at) = a
-names_step (Expr-F.Cast size signed a at) = a
-names_step (Expr-F.Bin op a b at) = a ++ b
+names_step x = leaves_step x
 
 -- the names in an expression
 abbrev pub names_in : Expr → List Name
@@ -146,6 +150,11 @@ read_by k = flat_map names_in (exprs_of k)
 -- the names in its expressions that stand before an index
 abbrev pub arrays_read_by : Layer → List Name
 arrays_read_by k = flat_map arrays_in (exprs_of k)
+
+-- `_`
+abbrev pub is_skip : Lval → Bool
+is_skip (lval.Skip at) = true
+is_skip _ = false
 
 -- the whole variables among the left sides
 abbrev pub whole_left : Lval → List Var

@@ -1,11 +1,13 @@
 -- The names that a program declares.
-use Rattle.std.specs.Prelude.{ℕ, List, ◌++◌, map, find, Option, Some, None, option_map, if◌then◌else◌}
+use Rattle.std.specs.Prelude.{ℕ, List, ◌++◌, map, find, Option, None, option_map, if◌then◌else◌}
 use Rattle.std.specs.Str.{bytes_eq}
+use Rattle.std.specs.Option.{option_or}
 use Rattle.jz_tree.specs.Span.{Span}
 use Rattle.jz_tree.specs.declared.expr.Var.{Var}
 use Rattle.jz_tree.specs.declared.expr.Expr.TheViews.{out-Var}
 use Rattle.jz_tree.specs.declared.program.Const.{Const}
 use Rattle.jz_tree.specs.declared.program.Fun.{Fun}
+use Rattle.jz_tree.specs.declared.program.Param.{Param}
 use Rattle.jz_type_names.specs.Order.{earlier}
 
 -- a name where it stands
@@ -14,6 +16,13 @@ Name = List ℕ × Span
 
 abbrev pub name_of : Var → Name
 name_of v = ((out-Var v).name, (out-Var v).span)
+
+-- the same without its place, also of a parameter
+abbrev pub text_of : Var → List ℕ
+text_of v = (out-Var v).name
+
+abbrev pub text_of_param : Param → List ℕ
+text_of_param p = text_of p.var
 
 -- the name of a constant, and that of a function, where it is declared
 abbrev pub constant_name : Const → Name
@@ -39,13 +48,9 @@ constant_named n cs = find (λ c. bytes_eq n c.name) cs
 abbrev pub function_named : List ℕ → List Fun → Option Fun
 function_named n fs = find (λ f. bytes_eq n f.name) fs
 
-abbrev pub or_else : {A : Type 0} → Option A → Option A → Option A
-or_else None b = b
-or_else (Some a) b = Some a
-
 -- what is known, and else this of the name
 abbrev pub or_named : {A : Type 0} → (List ℕ → Option A) → List ℕ → Option A → List ℕ → Option A
-or_named known name a n = or_else (known n) (if bytes_eq n name then a else None)
+or_named known name a n = option_or (known n) (if bytes_eq n name then a else None)
 
 -- where each name is declared, if it is
 abbrev pub PlacesByName : Type 0

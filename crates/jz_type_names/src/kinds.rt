@@ -7,7 +7,7 @@ ghost use Rattle.jz_type_names.specs.Kinds.{kind_of, declared_of, known_of, writ
 use jz_tree::{Decl, Expr, Lval, Size, Storage, Ty, Var};
 
 /// The type of a variable, without the length of an array.
-#[derive(Clone, Copy, PartialEq, Eq)]
+#[derive(Clone, Copy)]
 pub enum Kind {
     Int,
     /// A bool.
@@ -19,7 +19,7 @@ pub enum Kind {
 }
 
 /// What is declared of a variable.
-#[derive(Clone, Copy, PartialEq, Eq)]
+#[derive(Clone, Copy)]
 pub struct Declared {
     pub storage: Storage,
     pub kind: Kind,

@@ -1,7 +1,7 @@
 //! What stands in one statement, without the statements in it, in the order of the text.
 
 ghost use Rattle.std.specs.Prelude.{◌≡◌, IfOk, OnOk, flat_map, option_to_list};
-ghost use Rattle.jz_type_names.specs.Parts.{layer_of, exprs_of, right_exprs, left_exprs, left_vars, left_cells, whole_left, names_in, read_by, set_by, wholly_set_by, called_by, cells_set};
+ghost use Rattle.jz_type_names.specs.Parts.{layer_of, exprs_of, right_exprs, left_exprs, left_vars, left_cells, whole_left, names_in, read_by, set_by, wholly_set_by, called_by, cells_set, is_skip};
 ghost use Rattle.jz_type_names.specs.Lent.{these, this, paired_lists, call_of, var_names};
 ghost use Rattle.jz_type_names.specs.InnerLists.{Gains, GainsVars, GainsCells};
 
@@ -29,6 +29,13 @@ fn left_var(to: &Lval) -> Option<&Var>
         Lval::Cell(var, _) => Some(var),
         Lval::Store(_) => None,
     }
+}
+
+/// Whether a left side takes nothing: `_`.
+pub fn is_skip(to: &Lval) -> bool
+    ensures { result ≡ is_skip to.now }
+{
+    matches!(to, Lval::Skip(_))
 }
 
 /// The variable that a left side sets as a whole.

@@ -21,7 +21,9 @@ pub use kinds::{
     is_register_word, is_word, known, same_kind, same_size, same_storage, whole_array,
     written_length,
 };
-pub use layers::{called_by, cells_set, exprs_of, read_by, set_by, whole_var, wholly_set_by};
+pub use layers::{
+    called_by, cells_set, exprs_of, is_skip, read_by, set_by, whole_var, wholly_set_by,
+};
 pub use order::{earlier_of, is_before, sooner, unless};
 pub use repeats::{repeated_at_top, repeated_in_fun, repeated_of};
 pub use tables::{ByName, Functions, Places, Variables};

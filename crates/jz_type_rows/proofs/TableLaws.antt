@@ -2,11 +2,11 @@
 use Rattle.std.proofs.Common.{◌≡◌, ℕ, ◌+◌, Bool, true, false, ◌||◌, List, [], ◌∷◌, ◌++◌, length, Option, Some, None, refl, sym, ap, ◌∙◌, cond, arith}
 use Rattle.std.specs.Prelude.{if◌then◌else◌, nat_eq}
 use Rattle.std.proofs.lemmas.Bool.Decides.{nat_tests}
-use Rattle.std.specs.Option.{option_map}
+use Rattle.std.specs.Option.{option_map, option_or}
 use Rattle.std.specs.List.{list_any}
 use Rattle.std.specs.Str.{bytes_eq}
 use Rattle.indexmap.specs.IndexSet.{insert_key}
-use Rattle.jz_type_names.specs.Scopes.{or_else, or_named}
+use Rattle.jz_type_names.specs.Scopes.{or_named}
 use Rattle.jz_type_rows.specs.Callees.{index_where}
 
 -- ---- sets
@@ -40,12 +40,12 @@ pub nat_eq-true : (a b : ℕ) → nat_eq a b ≡ true → a ≡ b
 nat_eq-true a b h = grind (arith, nat_tests)
 
 -- ---- first places
-shifted : (o : Option ℕ) (b : Bool) (n k : ℕ) → k ≡ n + 1 → option_map (λ i. i + 1) (or_else o (if b then Some n else None)) ≡ or_else (option_map (λ i. i + 1) o) (if b then Some k else None)
+shifted : (o : Option ℕ) (b : Bool) (n k : ℕ) → k ≡ n + 1 → option_map (λ i. i + 1) (option_or o (if b then Some n else None)) ≡ option_or (option_map (λ i. i + 1) o) (if b then Some k else None)
 shifted None true n k e = ap Some (sym e)
 shifted None false n k e = refl
 shifted (Some i) b n k e = refl
 
-place-push : {A : Type 0} (test : A → Bool) (xs : List A) (x : A) → index_where test (xs ++ x ∷ []) ≡ or_else (index_where test xs) (if test x then Some (length xs) else None)
+place-push : {A : Type 0} (test : A → Bool) (xs : List A) (x : A) → index_where test (xs ++ x ∷ []) ≡ option_or (index_where test xs) (if test x then Some (length xs) else None)
 place-push test [] x =
     let first : Option ℕ = Some 0
     in let none : Option ℕ = None
@@ -53,12 +53,12 @@ place-push test [] x =
 place-push test (y ∷ xs) x =
     let first : Option ℕ = Some 0
     in elim (test y)
-    as (λ b. cond b first (option_map (λ i. i + 1) (index_where test (xs ++ x ∷ []))) ≡ or_else (cond b first (option_map (λ i. i + 1) (index_where test xs))) (if test x then Some (length (y ∷ xs)) else None))
+    as (λ b. cond b first (option_map (λ i. i + 1) (index_where test (xs ++ x ∷ []))) ≡ option_or (cond b first (option_map (λ i. i + 1) (index_where test xs))) (if test x then Some (length (y ∷ xs)) else None))
     [ true ↦ refl | false ↦ ap (option_map (λ i. i + 1)) (place-push test xs x) ∙ shifted (index_where test xs) (test x) (length xs) (length (y ∷ xs)) (omega arith) ]
 
 pub places_more : (ns : List (List ℕ)) (m : List ℕ) (old new : List ℕ → Option ℕ) (at : ℕ) → at ≡ length ns → ((n : List ℕ) → old n ≡ index_where (bytes_eq n) ns)
     → new ≡ or_named old m (Some at) → (n : List ℕ) → new n ≡ index_where (bytes_eq n) (ns ++ m ∷ [])
 places_more ns m old new at long held e n =
     ap (λ t. t n) e
-    ∙ (ap (λ o. or_else o (if bytes_eq n m then Some at else None)) (held n)
-    ∙ (ap (λ k. or_else (index_where (bytes_eq n) ns) (if bytes_eq n m then Some k else None)) long ∙ sym (place-push (bytes_eq n) ns m)))
+    ∙ (ap (λ o. option_or o (if bytes_eq n m then Some at else None)) (held n)
+    ∙ (ap (λ k. option_or (index_where (bytes_eq n) ns) (if bytes_eq n m then Some k else None)) long ∙ sym (place-push (bytes_eq n) ns m)))

@@ -6,9 +6,9 @@ use Rattle.std.proofs.lemmas.List.{map_more}
 use Rattle.jz_tree.specs.Span.{Span}
 use Rattle.jz_type_names.specs.Order.{unless, earlier, earliest}
 use Rattle.jz_type_names.proofs.Earliest.{earliest-append}
+use Rattle.jz_type_names.specs.Scopes.{text_of}
 use Rattle.jz_type_rows.specs.declared.copies.Argument.{Argument}
 use Rattle.jz_type_rows.specs.declared.twice.Seen.{Seen}
-use Rattle.jz_type_rows.specs.Callees.{text_of}
 use Rattle.jz_type_rows.specs.Copies.{Passed, span_of_var, is_written_at, is_twice, passed_twice}
 use Rattle.jz_type_rows.specs.InnerPassing.{passed_of}
 use Rattle.jz_type_rows.specs.InnerTables.{HasSeen, names_passed, written_among}

@@ -13,7 +13,7 @@ use Rattle.jz_tree.specs.declared.stmt.Lval.{Lval}
 use Rattle.jz_tree.specs.declared.stmt.Lval.TheVariants as lval
 use Rattle.jz_tree.specs.declared.stmt.Rhs.TheVariants as rhs
 use Rattle.jz_tree.specs.declared.stmt.StmtKind.TheOpen.{StmtKind-F}
-use Rattle.jz_type_names.specs.Scopes.{function_named}
+use Rattle.jz_type_names.specs.Scopes.{function_named, text_of, text_of_param}
 use Rattle.jz_type_names.specs.Parts.{Layer, layer_of, statements_of, set_by}
 use Rattle.jz_type_names.specs.Kinds.{known_of, is_array}
 use Rattle.jz_type_rows.specs.declared.callee.Callee.{Callee}
@@ -23,19 +23,13 @@ abbrev pub index_where : {A : Type 0} → (A → Bool) → List A → Option ℕ
 index_where test [] = None
 index_where test (a ∷ as') = if test a then Some 0 else option_map (λ n. n + 1) (index_where test as')
 
-abbrev pub text_of : Var → List ℕ
-text_of v = (out-Var v).name
-
-abbrev pub name_of_param : Param → List ℕ
-name_of_param p = text_of p.var
-
 -- the first place of the name of a variable
 abbrev pub place_among : List (List ℕ) → Var → Option ℕ
 place_among names v = index_where (bytes_eq (text_of v)) names
 
 -- the number of the parameter that a variable of the function is, if it is one
 abbrev pub param_of : Fun → Var → Option ℕ
-param_of g = place_among (map name_of_param g.params)
+param_of g = place_among (map text_of_param g.params)
 
 -- the variables that statements set, as a whole or a cell, those that stand in them among them
 abbrev pub set_in : List Stmt → List Var
@@ -46,7 +40,7 @@ names_set g = map text_of (set_in g.body)
 
 -- the parameter is an array that the function writes
 abbrev pub is_written : List (List ℕ) → Param → Bool
-is_written names p = is_array (known_of p.var) && list_any (bytes_eq (name_of_param p)) names
+is_written names p = is_array (known_of p.var) && list_any (bytes_eq (text_of_param p)) names
 
 -- a variable of the callee, which is none of the caller's whatever its name
 abbrev pub of_callee : Var → Var

@@ -13,9 +13,10 @@ use Rattle.jz_tree.specs.declared.program.Fun.{Fun}
 use Rattle.jz_type_names.specs.Order.{unless}
 use Rattle.jz_type_names.specs.Parts.{Layer, whole_left}
 use Rattle.jz_type_names.specs.Kinds.{array_of, whole_array}
+use Rattle.jz_type_names.specs.Scopes.{text_of}
 use Rattle.jz_type_rows.specs.declared.callee.Callee.{Callee}
 use Rattle.jz_type_rows.specs.Exports.{is_exported}
-use Rattle.jz_type_rows.specs.Callees.{text_of, callee_by}
+use Rattle.jz_type_rows.specs.Callees.{callee_by}
 
 abbrev pub span_of_var : Var → Span
 span_of_var v = (out-Var v).span

@@ -4,10 +4,11 @@ use Rattle.std.specs.List.{list_any}
 use Rattle.std.specs.Str.{bytes_eq}
 use Rattle.jz_type_names.specs.declared.tables.ByName.{ByName}
 use Rattle.jz_type_names.specs.Tables.{item_in}
+use Rattle.jz_type_names.specs.Scopes.{text_of}
 use Rattle.jz_type_rows.specs.declared.tables.Names.{Names}
 use Rattle.jz_type_rows.specs.declared.tables.Numbers.{Numbers}
 use Rattle.jz_type_rows.specs.declared.twice.Seen.{Seen}
-use Rattle.jz_type_rows.specs.Callees.{index_where, text_of}
+use Rattle.jz_type_rows.specs.Callees.{index_where}
 use Rattle.jz_type_rows.specs.Copies.{Passed, is_written_at}
 
 -- the set has these names

@@ -17,7 +17,7 @@ use Rattle.jz_tree.specs.declared.stmt.StmtKind.{StmtKind}
 use Rattle.jz_tree.specs.declared.stmt.StmtKind.TheOpen.{StmtKind-F}
 use Rattle.jz_select.specs.Selected.{pattern_selected, pattern_copied}
 use Rattle.jz_type_names.specs.Order.{unless}
-use Rattle.jz_type_names.specs.Parts.{Layer, layer_of}
+use Rattle.jz_type_names.specs.Parts.{Layer, layer_of, is_skip}
 use Rattle.jz_type_names.specs.Kinds.{known_of, is_inline_int, is_inline, is_word}
 use Rattle.jz_type_rows.specs.declared.callee.Callee.{Callee}
 
@@ -66,10 +66,6 @@ word_layer _ = false
 
 abbrev pub is_word_value : Expr → Bool
 is_word_value e = word_layer (out-Expr e)
-
-abbrev pub is_skip : Lval → Bool
-is_skip (lval.Skip at) = true
-is_skip _ = false
 
 -- a parameter becomes the argument
 abbrev pub enters : Lval × Expr → Bool

@@ -5,7 +5,8 @@ ghost use Rattle.std.specs.Option.{option_copied};
 ghost use Rattle.jz_tree.specs.declared.program.Fun.{Fun};
 ghost use Rattle.jz_type_names.specs.Lent.{these};
 ghost use Rattle.jz_type_names.specs.Parts.{layer_of, set_by};
-ghost use Rattle.jz_type_rows.specs.Callees.{place_among, text_of, name_of_param, set_in};
+ghost use Rattle.jz_type_names.specs.Scopes.{text_of, text_of_param};
+ghost use Rattle.jz_type_rows.specs.Callees.{place_among, set_in};
 ghost use Rattle.jz_type_rows.specs.Callees.{names_set, is_written, of_callee, entered_by, left_by};
 ghost use Rattle.jz_type_rows.specs.Callees.{callee_of, callee_by};
 ghost use Rattle.jz_type_rows.specs.Tables.{HasCallees};
@@ -86,7 +87,7 @@ fn written(alloc: Global, names: &Names, params: &Seq<Param>) -> Result<Seq<bool
 }
 
 fn places_of(alloc: Global, params: &Seq<Param>) -> Result<ByName<usize>, AllocError>
-    ensures { IfOk result (λ t. HasPlaces t (map name_of_param params.now)) }
+    ensures { IfOk result (λ t. HasPlaces t (map text_of_param params.now)) }
 {
     let mut places = ByName::new(alloc);
     for (number, param) in params.as_slice().iter().enumerate() {

@@ -9,7 +9,6 @@ ghost use Rattle.jz_type_names.specs.Parts.{layer_of};
 ghost use Rattle.jz_type_rows.specs.InnerPairs.{pair_of};
 ghost use Rattle.jz_type_rows.specs.Matching.{is_set_inline, may_be_inline, sets_inline, needs_row};
 ghost use Rattle.jz_type_rows.specs.Matching.{has_row, has_copy, is_word_left, is_word_value};
-ghost use Rattle.jz_type_rows.specs.Matching.{is_skip};
 ghost use Rattle.jz_type_rows.specs.Matching.{enters, leaves, has_copies_of_call, has_copies};
 ghost use Rattle.jz_type_rows.specs.Matching.{unmatched_places};
 
@@ -17,7 +16,7 @@ use crate::callee::Callee;
 use crate::pairs::{Pair, pairs};
 use jz_select::{select, select_copy};
 use jz_tree::{Expr, Lval, Rhs, Seq, Span, Stmt, StmtKind};
-use jz_type_names::{is_inline, is_inline_int, is_word, known, unless};
+use jz_type_names::{is_inline, is_inline_int, is_skip, is_word, known, unless};
 use std::alloc::{AllocError, Global};
 
 fn is_set_inline(to: &Lval) -> bool
@@ -101,12 +100,6 @@ fn is_word_value(e: &Expr) -> bool
         Expr::Var(var) => is_word(known(var)),
         _ => false,
     }
-}
-
-fn is_skip(to: &Lval) -> bool
-    ensures { result ≡ is_skip to.now }
-{
-    matches!(to, Lval::Skip(_))
 }
 
 fn enters(to: &Lval, arg: &Expr) -> bool

@@ -14,14 +14,14 @@ use Rattle.jz_tree.specs.declared.program.Param.{Param}
 use Rattle.jz_tree.specs.declared.program.Ret.{Ret}
 use Rattle.jz_type_names.specs.Order.{unless}
 use Rattle.jz_type_names.specs.Scopes.{name_of}
-use Rattle.jz_type_names.specs.Parts.{span_of}
+use Rattle.jz_type_names.specs.Parts.{span_of, is_skip}
 use Rattle.jz_type_names.specs.declared.kinds.Kind.{Kind}
 use Rattle.jz_type_names.specs.declared.kinds.Kind.TheVariants as kind
 use Rattle.jz_type_names.specs.Kinds.{kind_of, written_length, same_storage, same_kind, array_of, whole_array}
 use Rattle.jz_type_sizes.specs.declared.wants.Want.TheVariants as want
 use Rattle.jz_type_sizes.specs.Typings.{typing}
 use Rattle.jz_type_sizes.specs.Firsts.{wrong_beside}
-use Rattle.jz_type_sizes.specs.Sides.{is_skip, within, any_size, takes}
+use Rattle.jz_type_sizes.specs.Sides.{within, any_size, takes}
 use Rattle.jz_type_sizes.specs.Intrinsics.{none_more}
 
 -- ---- equal declarations

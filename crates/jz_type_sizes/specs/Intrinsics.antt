@@ -1,5 +1,6 @@
 -- Statements that name an instruction.
 use Rattle.std.specs.Prelude.{Bool, true, false, ◌&&◌, nat_eq, is_some, if◌then◌else◌, List, [], ◌∷◌, ◌++◌, length, flat_map, Option, Some, None}
+use Rattle.std.specs.Option.{option_or}
 use Rattle.jz_tree.specs.Span.{Span}
 use Rattle.jz_tree.specs.Size.{Size}
 use Rattle.jz_tree.specs.Size.TheVariants as sizes
@@ -11,7 +12,7 @@ use Rattle.jz_type_sizes.specs.declared.signatures.Role.{Role}
 use Rattle.jz_type_sizes.specs.declared.signatures.Role.TheVariants as role
 use Rattle.jz_type_sizes.specs.declared.wants.Want.{Want}
 use Rattle.jz_type_sizes.specs.declared.wants.Want.TheVariants as want
-use Rattle.jz_type_sizes.specs.Wants.{or_size, own_size, index_want}
+use Rattle.jz_type_sizes.specs.Wants.{own_size, index_want}
 use Rattle.jz_type_sizes.specs.Typings.{typing}
 use Rattle.jz_type_sizes.specs.Worded.{is_worded}
 use Rattle.jz_type_sizes.specs.Firsts.{wrong_beside}
@@ -35,7 +36,7 @@ value_size _ z = None
 abbrev pub result_size : List Role → List Lval → Option Size
 result_size rs [] = None
 result_size [] (d ∷ ds) = None
-result_size (r ∷ rs) (d ∷ ds) = or_size (value_size r (left_form d).size) (result_size rs ds)
+result_size (r ∷ rs) (d ∷ ds) = option_or (value_size r (left_form d).size) (result_size rs ds)
 
 abbrev pub is_value : Role → Bool
 is_value role.Value = true
@@ -52,7 +53,7 @@ argument_size (r ∷ rs) (e ∷ es) =
 -- a word
 abbrev pub size_of_intrinsic : Signature → List Lval → List Expr → Option Size
 size_of_intrinsic g to args =
-    or_size g.size (or_size (result_size g.results to) (argument_size g.arguments args))
+    option_or g.size (option_or (result_size g.results to) (argument_size g.arguments args))
 
 -- of an array another rule speaks
 abbrev pub argument_wrong : Option Size → Role → Expr → List Span

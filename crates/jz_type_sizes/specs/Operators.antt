@@ -1,5 +1,6 @@
 -- What an operator gives, and what it wants of its operands.
 use Rattle.std.specs.Prelude.{Bool, true, false, not, ◌&&◌, if◌then◌else◌, Option, None}
+use Rattle.std.specs.Option.{option_or}
 use Rattle.jz_tree.specs.Size.{Size}
 use Rattle.jz_tree.specs.Size.TheVariants as sizes
 use Rattle.jz_tree.specs.declared.expr.BinOp.{BinOp}
@@ -9,7 +10,7 @@ use Rattle.jz_type_sizes.specs.declared.operators.Group.TheVariants as group
 use Rattle.jz_type_sizes.specs.declared.wants.Want.{Want}
 use Rattle.jz_type_sizes.specs.declared.wants.Want.TheVariants as want
 use Rattle.jz_type_sizes.specs.declared.wants.Form.{Form}
-use Rattle.jz_type_sizes.specs.Wants.{fits_truth, or_size, sized_want}
+use Rattle.jz_type_sizes.specs.Wants.{fits_truth, sized_want}
 
 abbrev pub group_of : BinOp → Group
 group_of op.OrElse = group.Logic
@@ -61,12 +62,12 @@ stops group.Arith w = fits_truth w
 
 -- the size that the operands of a comparison share, that of the left one where it has one
 abbrev pub compared_size : Group → Option Size → Option Size → Option Size
-compared_size group.Compare a b = or_size a b
+compared_size group.Compare a b = option_or a b
 compared_size _ a b = None
 
 abbrev pub group_size : Group → Option Size → Option Size → Option Size
 group_size group.Shift a b = a
-group_size group.Arith a b = or_size a b
+group_size group.Arith a b = option_or a b
 group_size _ a b = None
 
 abbrev pub is_test : Group → Bool

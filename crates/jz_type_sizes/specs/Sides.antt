@@ -9,15 +9,12 @@ use Rattle.jz_tree.specs.declared.stmt.Lval.TheVariants as lval
 use Rattle.jz_type_names.specs.Order.{unless}
 use Rattle.jz_type_names.specs.Scopes.{name_of}
 use Rattle.jz_type_names.specs.Kinds.{known_of, is_array, same_size}
+use Rattle.jz_type_names.specs.Parts.{is_skip}
 use Rattle.jz_type_sizes.specs.declared.wants.Want.{Want}
 use Rattle.jz_type_sizes.specs.declared.wants.Want.TheVariants as want
 use Rattle.jz_type_sizes.specs.declared.wants.Form.{Form}
 use Rattle.jz_type_sizes.specs.Wants.{fits_known, fits_access, cell_size, sized_want, index_want, no_form, form_of_size, var_form, own_want}
 use Rattle.jz_type_sizes.specs.Typings.{Typing, typing, cell_wrong}
-
-abbrev pub is_skip : Lval → Bool
-is_skip (lval.Skip at) = true
-is_skip _ = false
 
 -- `_` is nothing by itself
 abbrev pub left_form : Lval → Form

@@ -1,5 +1,6 @@
 -- Values that are assigned.
 use Rattle.std.specs.Prelude.{Bool, true, false, ◌&&◌, if◌then◌else◌, List, [], ◌∷◌, ◌++◌, flat_map, Option, Some, None}
+use Rattle.std.specs.Option.{option_or}
 use Rattle.jz_tree.specs.Span.{Span}
 use Rattle.jz_tree.specs.Size.{Size}
 use Rattle.jz_tree.specs.declared.expr.BinOp.{BinOp}
@@ -11,7 +12,7 @@ use Rattle.jz_tree.specs.declared.stmt.Lval.{Lval}
 use Rattle.jz_type_names.specs.Order.{unless}
 use Rattle.jz_type_names.specs.Parts.{span_of}
 use Rattle.jz_type_sizes.specs.declared.wants.Want.TheVariants as want
-use Rattle.jz_type_sizes.specs.Wants.{or_size, own_size}
+use Rattle.jz_type_sizes.specs.Wants.{own_size}
 use Rattle.jz_type_sizes.specs.Typings.{Typing, typing, bin_typing}
 use Rattle.jz_type_sizes.specs.Sides.{left_form, left_wrong, left_typing, left_span, set_want, within, any_size, takes}
 
@@ -38,7 +39,7 @@ is_product (Some o) e = is_mul o
 -- the high and the low word of a product have one size: that of the high one, else of the low one,
 -- else of the operands
 abbrev pub product_size : Lval → Lval → Typing → Option Size
-product_size h l t = or_size (left_form h).size (or_size (left_form l).size t.form.size)
+product_size h l t = option_or (left_form h).size (option_or (left_form l).size t.form.size)
 
 abbrev pub product_of : Option Size → Lval → Lval → Typing → Span → List Span
 product_of z h l t at =

@@ -73,10 +73,6 @@ abbrev pub known_truth : Known → Bool
 known_truth None = false
 known_truth (Some d) = is_truth d.kind
 
-abbrev pub or_size : Option Size → Option Size → Option Size
-or_size None b = b
-or_size (Some z) b = Some z
-
 -- what the operand of a cast wants: a word that says its size itself, and nothing in it that leaves
 -- its size to the place
 abbrev pub cast_want : Option Size → Want

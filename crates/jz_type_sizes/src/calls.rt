@@ -9,14 +9,14 @@ ghost use Rattle.jz_type_sizes.specs.Sides.{within, any_size};
 ghost use Rattle.jz_type_sizes.specs.Intrinsics.{none_more};
 ghost use Rattle.jz_type_sizes.specs.Calls.{same_length, same_decl, is_declared, is_that_array, passed_as, passed_wrong, takes_kind, takes_result, given_wrong, is_callee, fits_call, call_wrong, returned_one, none_beyond, returned_wrong};
 
-use crate::sides::{is_skip, takes, within_any};
+use crate::sides::{takes, within_any};
 use crate::values::within_all;
 use crate::walk::fault;
 use crate::wants::Want;
 use jz_tree::{Decl, Expr, Fun, FunKind, Lval, Param, Ret, Seq, Span, Var};
 use jz_type_names::{
-    Kind, declaration, earlier_of, is_array, known, same_kind, same_storage, span_of, unless,
-    written_length,
+    Kind, declaration, earlier_of, is_array, is_skip, known, same_kind, same_storage, span_of,
+    unless, written_length,
 };
 
 fn same_length(a: Option<i128>, b: Option<i128>) -> bool

@@ -1,8 +1,8 @@
 //! What expressions are by themselves.
 
 ghost use Rattle.std.specs.Prelude.{◌≡◌, Option};
+ghost use Rattle.std.specs.Option.{option_or};
 ghost use Rattle.jz_tree.specs.Size.{Size};
-ghost use Rattle.jz_type_sizes.specs.Wants.{or_size};
 ghost use Rattle.jz_type_sizes.specs.InnerFound.{found_of};
 ghost use Rattle.jz_type_sizes.specs.Worded.{is_worded};
 
@@ -14,8 +14,8 @@ use jz_type_names::{is_inline_int, known};
 /// The size, or where there is none the other's.
 #[tactic(auto, using(crate::proofs::OrSizes::or_sizes))]
 pub(crate) fn or(a: Option<Size>, b: Option<Size>) -> Option<Size>
-    ensures is { result ≡ or_size a b }
-    ensures after { (s : Option Size) → or_size s result ≡ or_size (or_size s a) b }
+    ensures is { result ≡ option_or a b }
+    ensures after { (s : Option Size) → option_or s result ≡ option_or (option_or s a) b }
 {
     match a {
         None => b,

@@ -3,14 +3,14 @@
 ghost use Rattle.std.specs.Prelude.{◌≡◌};
 ghost use Rattle.jz_type_names.specs.Order.{earliest};
 ghost use Rattle.jz_type_sizes.specs.Wants.{own_want, form_of_size};
-ghost use Rattle.jz_type_sizes.specs.Sides.{left_form, left_wrong, left_span, set_want, within, any_size, is_skip, has_size, takes_form, takes, takes_word};
+ghost use Rattle.jz_type_sizes.specs.Sides.{left_form, left_wrong, left_span, set_want, within, any_size, has_size, takes_form, takes, takes_word};
 
 use crate::walk::fault;
 use crate::wants::{
     Form, Want, cell_size, fits_access, fits_cell, fits_known, known_size, known_truth, own_size,
 };
 use jz_tree::{Lval, Size, Span};
-use jz_type_names::{earlier_of, is_array, is_inline_int, known, same_size, unless};
+use jz_type_names::{earlier_of, is_array, is_inline_int, is_skip, known, same_size, unless};
 
 fn of_size(size: Option<Size>) -> Form
     ensures { result ≡ form_of_size size }
@@ -128,13 +128,6 @@ fn takes_form(want: Want, to: Form) -> bool
         Want::Word(size) => takes_word(Some(size), to),
         Want::Int | Want::AnyWord | Want::Sized(_) | Want::Unsized => takes_word(None, to),
     }
-}
-
-/// Whether `_`.
-pub(crate) fn is_skip(to: &Lval) -> bool
-    ensures { result ≡ is_skip to.now }
-{
-    matches!(to, Lval::Skip(_))
 }
 
 /// Whether what the place wants may go there.

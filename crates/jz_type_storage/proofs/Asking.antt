@@ -12,7 +12,7 @@ use Rattle.jz_type_names.specs.Scopes.{variable_named}
 use Rattle.jz_type_names.specs.Kinds.{known_of, is_inline_int}
 use Rattle.jz_type_names.specs.Order.{IsEarliest}
 use Rattle.jz_type_storage.specs.Paths.{flow_of_all, has_to_be_set, IsReadUnset}
-use Rattle.jz_type_storage.specs.InnerSurely.{Names, none_set, first}
+use Rattle.jz_type_storage.specs.InnerSurely.{Names, first}
 use Rattle.jz_type_storage.specs.InnerWalks.{members}
 use Rattle.jz_type_names.proofs.Firsts.{same_wrong}
 use Rattle.jz_type_storage.proofs.Agree.{Misses, agree}
@@ -51,6 +51,9 @@ asked_is f params own all p o a = fun_ext (λ n.
     (ap not (ap (λ (s : Names). s n) p ∙ (ap (λ ks. members ks n) (param_names f.params) ∙ named_member n ps)) ∙ not_some (variable_named n ps))))))
 
 -- ---- one function
+abbrev none_set : Names
+none_set n = false
+
 true_is : (b : Bool) → IsTrue b → b ≡ true
 true_is b h = h
 

@@ -6,10 +6,10 @@ use Rattle.std.proofs.Math.Seq.{get_or-append_seam}
 use Rattle.jz_tree.specs.Span.{Span}
 use Rattle.jz_tree.specs.declared.program.Fun.{Fun}
 use Rattle.jz_type_names.specs.Order.{earlier, earliest, unless, IsEarliest, nowhere, here}
-use Rattle.jz_type_storage.specs.InnerNumbers.{IsClosed, Leads, IsFound, Falls}
+use Rattle.jz_type_storage.specs.InnerNumbers.{IsClosed, Leads, IsFound}
 use Rattle.jz_type_storage.proofs.Naming.{At}
 use Rattle.jz_type_storage.proofs.Spread.{mark_is}
-use Rattle.jz_type_storage.proofs.Falling.{caller_within, fewer_reached, reached_below}
+use Rattle.jz_type_storage.proofs.Falling.{Falls, caller_within, fewer_reached, reached_below}
 use Rattle.jz_type_storage.proofs.Cyclic.{Cyclic, cyclic_none, cyclic_more}
 
 -- so many functions are reached

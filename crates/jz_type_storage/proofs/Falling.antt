@@ -4,7 +4,8 @@ use Rattle.std.specs.Prelude.{count_by}
 use Rattle.std.proofs.lemmas.List.Sums.{sum_by-cons}
 use Rattle.std.proofs.Math.ListN.{get_or-eq_default}
 use Rattle.jz_type_storage.specs.InnerNumbers.{directly, further}
-use Rattle.jz_type_storage.specs.InnerNumbers.{Has, row_of, Leads, IsFound, Falls, Descends}
+use Rattle.jz_type_storage.specs.InnerNumbers.{Has, row_of, Leads, IsFound, Descends}
+use Rattle.jz_type_storage.specs.Numbers.{AreBelow}
 
 within_or_not : (j k : ℕ) → (j < k) ⊎ (k ≤ j)
 within_or_not j k = grind arith
@@ -16,6 +17,12 @@ caller_within g i j h =
       | inl lt ↦ lt
       | inr le ↦ absurd (let none : length (row_of g i) ≡ 0 = ap length (get_or-eq_default g [] le) in omega (arith, h.1, none))
     ]
+
+-- a rank for each function, below the number of functions, and each call is of a function of lower rank
+pub record Falls (g : List (List ℕ)) (ranks : List ℕ) : Type 0 where
+  pub same : length ranks ≡ length g
+  pub below : AreBelow ranks (length g)
+  pub falls : (i j : ℕ) → Has (row_of g i) j → get_or ranks j 0 < get_or ranks i 0
 
 ranks_fall : (g : List (List ℕ)) (ranks : List ℕ) → Falls g ranks → (i j : ℕ) → Leads g i j → get_or ranks j 0 < get_or ranks i 0
 ranks_fall g ranks f i j (directly h) = f.falls i j h

@@ -9,11 +9,11 @@ use Rattle.jz_type_names.specs.Order.{IsEarliest, nowhere}
 use Rattle.jz_type_storage.specs.Recursion.{IsRanked, IsRecursive, Tells}
 use Rattle.jz_type_storage.specs.declared.fall.Candidate.{Candidate}
 use Rattle.jz_type_storage.specs.declared.recursion.Ranking.TheVariants.{Ranked, Recursive}
-use Rattle.jz_type_storage.specs.InnerNumbers.{graph_of, numbers_called, Falls, Descends}
+use Rattle.jz_type_storage.specs.InnerNumbers.{graph_of, numbers_called, Descends}
 use Rattle.jz_type_storage.specs.InnerCandidates.{IsCandidate}
 use Rattle.jz_type_storage.proofs.Naming.{At}
 use Rattle.jz_type_storage.proofs.Bridge.{closed, called_at, calls_at, cycle_up}
-use Rattle.jz_type_storage.proofs.Falling.{caller_within, no_cycle}
+use Rattle.jz_type_storage.proofs.Falling.{Falls, caller_within, no_cycle}
 use Rattle.jz_type_storage.proofs.Cyclic.{cyclic_all}
 use Rattle.jz_type_storage.proofs.Steep.{all_fall}
 use Rattle.jz_type_storage.proofs.Each.{Each, each_falls}

@@ -11,12 +11,12 @@ use Rattle.jz_type_names.proofs.Standing.{AtLeast}
 use Rattle.jz_type_storage.specs.declared.fall.Candidate.{Candidate}
 use Rattle.jz_type_storage.specs.declared.recursion.Ranking.TheVariants.{Recursive}
 use Rattle.jz_type_storage.specs.InnerNumbers.{directly, further}
-use Rattle.jz_type_storage.specs.InnerNumbers.{Has, row_of, graph_of, numbers_called, Leads, Falls, Descends}
+use Rattle.jz_type_storage.specs.InnerNumbers.{Has, row_of, graph_of, numbers_called, Leads, Descends}
 use Rattle.jz_type_storage.specs.InnerCandidates.{IsCandidate, IsNoLater, IsSteep, Stands}
 use Rattle.jz_type_storage.specs.Recursion.{IsRecursive, Tells}
 use Rattle.jz_type_storage.proofs.Naming.{At}
 use Rattle.jz_type_storage.proofs.Bridge.{at_same, stands, found, cycle_down, cycle_up}
-use Rattle.jz_type_storage.proofs.Falling.{caller_within}
+use Rattle.jz_type_storage.proofs.Falling.{Falls, caller_within}
 
 steep_falls : (g : List (List ℕ)) (ranks : List ℕ) → Descends g ranks → (i j : ℕ) → IsSteep g ranks i → Leads g i j → get_or ranks j 0 < get_or ranks i 0
 steep_falls g ranks d i j s (directly h) = s j h

@@ -65,13 +65,6 @@ abbrev pub AreCalledBelow : List ℕ → ℕ → List ℕ → Type 0
 AreCalledBelow ranks limit called =
     (k : ℕ) → k < length called → slice_index_or ranks (slice_index_or called k 0) 0 < limit
 
--- a rank for each function, below the number of functions, and each call is of a function of lower
--- rank
-pub record Falls (g : List (List ℕ)) (ranks : List ℕ) : Type 0 where
-  pub same : length ranks ≡ length g
-  pub below : AreBelow ranks (length g)
-  pub falls : (i j : ℕ) → Has (row_of g i) j → slice_index_or ranks j 0 < slice_index_or ranks i 0
-
 -- a rank for each function, below the number of functions, and no call is of a function of higher
 -- rank
 pub record Descends (g : List (List ℕ)) (ranks : List ℕ) : Type 0 where

@@ -1,6 +1,6 @@
 -- What is surely set after a flow, and the earliest read of what is not surely set before it, by
 -- sets.
-use Rattle.std.specs.Prelude.{ℕ, Bool, false, not, ◌&&◌, ◌||◌, if◌then◌else◌, List, Option, Some, None}
+use Rattle.std.specs.Prelude.{ℕ, Bool, not, ◌&&◌, ◌||◌, if◌then◌else◌, List, Option, Some, None}
 use Rattle.std.specs.Str.{bytes_eq}
 use Rattle.jz_tree.specs.Span.{Span}
 use Rattle.jz_type_names.specs.Scopes.{Name}
@@ -10,9 +10,6 @@ use Rattle.jz_type_storage.specs.Paths.{Event, Reads, Sets, Flow, Skip, Does, Th
 -- a set of names, as a test
 abbrev pub Names : Type 0
 Names = List ℕ → Bool
-
-abbrev pub none_set : Names
-none_set n = false
 
 abbrev pub having : List ℕ → Names → Names
 having m s n = s n || bytes_eq n m

@@ -3,9 +3,6 @@ use Rattle.std.specs.Prelude.{ℕ, ◌≤◌, ◌≡◌, List, ◌++◌, length,
 use Rattle.std.specs.List.{list_any}
 use Rattle.std.specs.Str.{bytes_eq}
 use Rattle.jz_tree.specs.Span.{Span}
-use Rattle.jz_tree.specs.declared.expr.Var.{Var}
-use Rattle.jz_tree.specs.declared.expr.Expr.TheViews.{out-Var}
-use Rattle.jz_tree.specs.declared.program.Param.{Param}
 use Rattle.jz_type_storage.specs.declared.walk.Assigned.{Assigned}
 use Rattle.jz_type_storage.specs.Paths.{Flow, assigning, flow_step}
 use Rattle.jz_type_storage.specs.InnerSurely.{Names, having, both, put, after, first}
@@ -15,12 +12,6 @@ use Rattle.jz_tree.specs.declared.stmt.StmtKind.TheFolds.{fold-StmtKind}
 -- the names in a list
 unfoldable pub members : List (List ℕ) → Names
 members ks n = list_any (bytes_eq n) ks
-
-abbrev pub text_of : Var → List ℕ
-text_of v = (out-Var v).name
-
-abbrev pub text_of_param : Param → List ℕ
-text_of_param p = text_of p.var
 
 -- what an assignment does
 abbrev pub flow_of_assigned : Assigned → Flow

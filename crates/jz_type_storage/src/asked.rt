@@ -2,8 +2,9 @@
 
 ghost use Rattle.std.specs.Prelude.{◌≡◌, IfOk, map, filter, not};
 ghost use Rattle.jz_type_names.specs.Order.{IsEarliest};
+ghost use Rattle.jz_type_names.specs.Scopes.{text_of, text_of_param};
 ghost use Rattle.jz_type_storage.specs.Paths.{inline_vars, has_to_be_set, IsReadUnset};
-ghost use Rattle.jz_type_storage.specs.InnerWalks.{members, text_of, text_of_param};
+ghost use Rattle.jz_type_storage.specs.InnerWalks.{members};
 
 use crate::sets::{add_all, has};
 use crate::walk::walk_all;

@@ -1,4 +1,5 @@
-//! Operations on whole numbers, most at the ends of 128 bits, as Rust's checked operations answer them.
+//! Operations on whole numbers, most at the ends of 128 bits, as Rust's checked operations answer
+//! them.
 use jz_integers::Constant::{self, Bool, Int};
 use jz_integers::{NoNumbers, inline_value, on_integers, written_number};
 use jz_io::Span;

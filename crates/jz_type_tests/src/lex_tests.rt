@@ -224,24 +224,20 @@ fn repeated(
     alloc: Global,
     piece: &[u8],
     times: usize,
-) -> Result<Result<usize, LexFault>, AllocError> {
+) -> Result<usize, Failure<LexFault>> {
     let mut text = Vec::new(alloc);
     for _ in 0..times {
         text.extend_from_slice(piece)?;
     }
     assert!(rt; text.len() == 1_048_576);
-    match lex(alloc, text.as_slice()) {
-        Ok(tokens) => Ok(Ok(tokens.len())),
-        Err(Failure::Refused(fault)) => Ok(Err(fault)),
-        Err(Failure::OutOfMemory) => Err(AllocError),
-    }
+    Ok(lex(alloc, text.as_slice())?.len())
 }
 
-fn open_at(col: u32) -> Result<usize, LexFault> {
-    Err(LexFault {
+fn open_at(col: u32) -> Result<usize, Failure<LexFault>> {
+    Err(Failure::Refused(LexFault {
         kind: LexKind::OpenComment,
         span: Span { line: 1, col },
-    })
+    }))
 }
 
 #[test]
@@ -255,7 +251,7 @@ fn takes_long_texts(rt: HostRuntime) -> Result<(), Fail> {
         // Three of them are a comment and a sign.
         (b"/*".as_slice(), 524_288, open_at(1_048_573)),
     ] {
-        assert!(rt; repeated(&rt, alloc, piece, times)? == want);
+        assert!(rt; repeated(&rt, alloc, piece, times) == want);
     }
     Ok(())
 }

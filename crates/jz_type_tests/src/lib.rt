@@ -1,5 +1,5 @@
-//! Tests of the whole language, from the outside and its tokens to typing, by texts and by tables. They stand apart from what they
-//! test, since a crate with tests is proved twice.
+//! Tests of the whole language, from the outside and its tokens to typing, by texts and by tables.
+//! They stand apart from what they test, since a crate with tests is proved twice.
 #![tactic(auto)]
 
 #[cfg(test)]

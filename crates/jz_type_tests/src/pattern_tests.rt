@@ -1,5 +1,5 @@
-//! Statements and the rows that they match. A row has the results, a sign, and the operands, each before its operator:
-//! `r1 r2 8 * + []` is `[r1 + r2 * 8]`, `t r1 @` is `t[r1]`.
+//! Statements and the rows that they match. A row has the results, a sign, and the operands, each
+//! before its operator: `r1 r2 8 * + []` is `[r1 + r2 * 8]`, `t r1 @` is `t[r1]`.
 
 use crate::names::intrinsic_name;
 use jz_io::Span;
@@ -33,8 +33,9 @@ fn operation(word: &str) -> Option<BinOp> {
     }
 }
 
-/// What the first letter of a name declares: `r`, `w`, `h` and `b` are registers of 64 to 8 bits, `s` and `z` stack words
-/// of 64 and 8 bits, `g` an array in registers, `t` one in the frame, `i` is inline, and `c` a flag.
+/// What the first letter of a name declares: `r`, `w`, `h` and `b` are registers of 64 to 8 bits,
+/// `s` and `z` stack words of 64 and 8 bits, `g` an array in registers, `t` one in the frame, `i`
+/// is inline, and `c` a flag.
 fn declared(alloc: Global, name: &str) -> Result<Decl, AllocError> {
     let length = Boxed::new(alloc, Expr::Num(4, HERE))?;
     let (storage, ty) = match name.as_bytes().first() {
@@ -207,7 +208,8 @@ fn assignment(
     Ok(selected(alloc, kind))
 }
 
-/// What it is, as the tables write it: the row's number, an intrinsic, `condition`, or `-` for nothing.
+/// What it is, as the tables write it: the row's number, an intrinsic, `condition`, or `-` for
+/// nothing.
 fn told(alloc: Global, found: Option<Pattern>) -> Result<String, AllocError> {
     match found {
         None => String::from_str(alloc, "-"),

@@ -1,4 +1,5 @@
-//! Single statements, and what typing tells of each: what breaks one rule alone beside what just keeps it.
+//! Single statements, and what typing tells of each: what breaks one rule alone beside what just
+//! keeps it.
 
 use crate::typing_tests::{row_is, rows_are};
 use std::alloc::Global;

@@ -8,7 +8,8 @@ use std::alloc::{AllocError, Global};
 use std::process::Abort;
 use std::test::Fail;
 
-/// A line has a text, in which `~` ends a line, and what is told of it: `typed`, or the line of its first fault.
+/// A line has a text, in which `~` ends a line, and what is told of it: `typed`, or the line of its
+/// first fault.
 const NAMES: &str = "\
 export fn f(reg u64 x) -> reg u64 { reg u64 r; r = y; return r; } => type 1 Unknown 1:52
 export fn f(reg u64 x) -> reg u64 { reg u64 r; r = s; reg u64 s; s = x; return r; } => type 1 Unknown 1:52

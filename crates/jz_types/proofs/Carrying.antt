@@ -2,6 +2,7 @@
 use Rattle.std.proofs.Common.{◌≡◌, ℕ, ℤ, List, [], ◌∷◌, ◌++◌, Option, Some, None, map, flat_map, refl, sym, ap, ap₂, ◌∙◌, subst, cond}
 use Rattle.std.specs.Prelude.{pos, All, option_map, option_and_then}
 use Rattle.std.proofs.lemmas.List.Elements.{All-nil, All-cons, All-append, All-map, All-weaker}
+use Rattle.std.specs.Option.{option_or}
 use Rattle.jz_tree.specs.declared.expr.BinOp.TheVariants as op
 use Rattle.jz_tree.specs.declared.expr.Expr.{Expr}
 use Rattle.jz_tree.specs.declared.expr.Expr.TheVariants as expr
@@ -18,7 +19,7 @@ use Rattle.jz_tree.specs.declared.stmt.Stmt.{Stmt}
 use Rattle.jz_tree.specs.declared.stmt.StmtKind.TheOpen.{StmtKind-F}
 use Rattle.jz_tree.specs.declared.program.Fun.{Fun}
 use Rattle.jz_tree.specs.declared.program.Program.{Program}
-use Rattle.jz_type_names.specs.Scopes.{Name, name_of, PlacesByName, variables_of, variable_named, constant_place, or_else}
+use Rattle.jz_type_names.specs.Scopes.{Name, name_of, PlacesByName, variables_of, variable_named, constant_place}
 use Rattle.jz_type_names.specs.Kinds.{declared_of}
 use Rattle.jz_type_names.specs.Parts.{Layer, layer_of, exprs_of, left_vars, set_by, statements_of}
 use Rattle.jz_resolve.specs.Resolving.{number_or, expr_step, var_step, resolved_expr, resolved_access, resolved_var, resolved_lval, resolved_stmt}
@@ -193,7 +194,7 @@ module _ (p : Program) where
   carrying = every (λ f. EachUsed (Carries (D f)) (resolved_of p f)) fun_carries p.funs
 
   -- ---- by the text
-  or_known : (a b c : Option Decl) → option_map declared_of a ≡ option_map declared_of b → option_map declared_of (or_else a c) ≡ option_map declared_of (or_else b c)
+  or_known : (a b c : Option Decl) → option_map declared_of a ≡ option_map declared_of b → option_map declared_of (option_or a c) ≡ option_map declared_of (option_or b c)
   or_known None None c e = refl
   or_known None (Some y) c e = absurd (none_not (declared_of y) e)
     where

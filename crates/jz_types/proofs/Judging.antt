@@ -22,11 +22,10 @@ use Rattle.jz_types.specs.declared.fault.TypeRule.TheVariants.{Recursion}
 use Rattle.jz_types.specs.declared.fault.TypeFault.{TypeFault}
 use Rattle.jz_types.specs.declared.functions.OfText.{OfText}
 use Rattle.jz_types.specs.declared.functions.OfDeclared.{OfDeclared}
-use Rattle.jz_types.specs.Faults.{AreFirst}
 use Rattle.jz_types.specs.InnerFaults.{first_told}
 use Rattle.jz_types.specs.Rules.{Breaks, IsTyped, IsFirstTypeFault}
 use Rattle.jz_types.specs.InnerAsking.{AreOfText, AreOfDeclared, firsts_of}
-use Rattle.jz_types.proofs.Telling.{told_first}
+use Rattle.jz_types.proofs.Telling.{AreFirst, told_first}
 use Rattle.jz_types.proofs.Storing.{first_misplaced}
 
 found : (xs : List Span) (o : Option Span) → o ≡ earliest xs → IsEarliest (λ at. Contains xs at) o

@@ -18,7 +18,7 @@ use Rattle.jz_select.specs.Selected.{IsSelected, IsCopied, pattern_selected, pat
 use Rattle.jz_select.proofs.FirstRow.{is_selected, is_copied}
 use Rattle.jz_type_names.specs.Order.{earliest}
 use Rattle.jz_type_names.specs.Scopes.{constant_place, variable_place, or_values}
-use Rattle.jz_type_names.specs.Parts.{Layer, layer_of, statements_of}
+use Rattle.jz_type_names.specs.Parts.{Layer, layer_of, statements_of, is_skip}
 use Rattle.jz_type_names.specs.Names.{unknown_where, repeated_by, unknown_in, repeated_in}
 use Rattle.jz_resolve.specs.Numbering.{length_of}
 use Rattle.jz_resolve.specs.Programs.{resolved_program}
@@ -29,7 +29,7 @@ use Rattle.jz_type_rows.specs.Callees.{callee_by}
 use Rattle.jz_type_rows.specs.Copies as copies
 use Rattle.jz_type_rows.specs.Indexes.{indexed_by}
 use Rattle.jz_type_rows.specs.Programs.{of_statement, in_body, in_statements}
-use Rattle.jz_type_rows.specs.Matching.{needs_row, has_row, has_copy, is_word_left, is_word_value, is_skip, enters, leaves, has_copies, has_rows, unmatched_places}
+use Rattle.jz_type_rows.specs.Matching.{needs_row, has_row, has_copy, is_word_left, is_word_value, enters, leaves, has_copies, has_rows, unmatched_places}
 use Rattle.jz_types.specs.Rows.{others, unmatched_at, unmatched_in_fun, unmatched_in}
 use Rattle.jz_types.specs.Rules.{IsTyped}
 use Rattle.jz_types.specs.declared.fault.TypeRule.TheVariants.{Unknown, Duplicate, Mismatch, NoInstruction, ArrayCopy, RegIndex}

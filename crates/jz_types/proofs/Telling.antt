@@ -9,8 +9,21 @@ use Rattle.jz_types.specs.declared.fault.TypeRule.{TypeRule}
 use Rattle.jz_types.specs.declared.fault.TypeRule.TheVariants.{Unknown, Duplicate, Mismatch, Storage, Recursion, NoInstruction, ArrayCopy, BadAnnotation, ExportShape, RegIndex}
 use Rattle.jz_types.specs.declared.fault.TypeFault.{TypeFault}
 use Rattle.jz_types.specs.declared.fault.Firsts.{Firsts}
-use Rattle.jz_types.specs.Faults.{rule_number, IsToldBefore, IsTold, AreFirst}
+use Rattle.jz_types.specs.Faults.{rule_number, IsToldBefore, IsTold}
 use Rattle.jz_types.specs.InnerFaults.{told_of, first_told}
+
+-- at these places the rules fail first
+pub record AreFirst (Fails : TypeRule → Span → Type 0) (p : Firsts) : Type 0 where
+  pub unknown : IsEarliest (Fails Unknown) p.unknown
+  pub repeated : IsEarliest (Fails Duplicate) p.repeated
+  pub mismatched : IsEarliest (Fails Mismatch) p.mismatched
+  pub misplaced : IsEarliest (Fails Storage) p.misplaced
+  pub recursive : IsEarliest (Fails Recursion) p.recursive
+  pub unmatched : IsEarliest (Fails NoInstruction) p.unmatched
+  pub copied : IsEarliest (Fails ArrayCopy) p.copied
+  pub annotated : IsEarliest (Fails BadAnnotation) p.annotated
+  pub misshapen : IsEarliest (Fails ExportShape) p.misshapen
+  pub indexed : IsEarliest (Fails RegIndex) p.indexed
 
 -- ---- rules differ in their numbers
 abbrev rule_of : ℕ → TypeRule

@@ -1,5 +1,5 @@
 -- Variables and the declarations that they carry.
-use Rattle.std.specs.Prelude.{◌≡◌, ℕ, List, [], ◌∷◌, ◌++◌, flat_map, All, Option, option_map}
+use Rattle.std.specs.Prelude.{◌≡◌, ℕ, List, ◌++◌, flat_map, All, Option, option_map}
 use Rattle.jz_tree.specs.declared.expr.Expr.{Expr}
 use Rattle.jz_tree.specs.declared.expr.Ty.{Ty}
 use Rattle.jz_tree.specs.declared.expr.Access.{Access}
@@ -7,26 +7,20 @@ use Rattle.jz_tree.specs.declared.expr.Decl.{Decl}
 use Rattle.jz_tree.specs.declared.expr.Var.{Var}
 use Rattle.jz_tree.specs.declared.expr.Expr.TheOpen.{Expr-F}
 use Rattle.jz_tree.specs.declared.expr.Expr.TheViews.{out-Var}
-use Rattle.jz_tree.specs.declared.expr.Expr.TheFolds.{para-Expr}
+use Rattle.jz_tree.specs.declared.expr.Expr.TheFolds.{para-Expr, map-Expr}
 use Rattle.jz_tree.specs.declared.program.Fun.{Fun}
 use Rattle.jz_tree.specs.declared.program.Program.{Program}
 use Rattle.jz_type_names.specs.Scopes.{variables_of, constant_place}
 use Rattle.jz_type_names.specs.Kinds.{Known, declared_of, known_of}
-use Rattle.jz_type_names.specs.Parts.{Layer, layer_of, exprs_of, set_by, statements_of}
+use Rattle.jz_type_names.specs.Parts.{Layer, layer_of, exprs_of, set_by, statements_of, leaves_step}
 use Rattle.jz_resolve.specs.Numbering.{values_of, declaration_in}
 use Rattle.jz_resolve.specs.Programs.{resolved_whole}
 
 abbrev pub vars_step : Expr-F (Expr × List Var) (Ty × Unit {0}) (Access × List Var)
     (Decl × Unit {0}) (Var × Unit {0}) → List Var
-vars_step (Expr-F.Num n at) = []
-vars_step (Expr-F.Expr::Bool b at) = []
-vars_step (Expr-F.Var v) = v.0 ∷ []
-vars_step (Expr-F.Cell v i) = v.0 ∷ i.1
-vars_step (Expr-F.Load a) = a.1
-vars_step (Expr-F.Neg a at) = a.1
-vars_step (Expr-F.Not a at) = a.1
-vars_step (Expr-F.Cast z s a at) = a.1
-vars_step (Expr-F.Bin o a b at) = a.1 ++ b.1
+vars_step x =
+    leaves_step (map-Expr _ _ _ _ _ (List Var) (Unit {0}) (List Var) (Unit {0}) Var
+    (λ e. e.1) (λ t. t.1) (λ a. a.1) (λ d. d.1) (λ v. v.0) x)
 
 -- the variables in an expression, also those before an index
 abbrev pub vars_in : Expr → List Var

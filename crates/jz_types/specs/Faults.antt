@@ -1,11 +1,10 @@
 -- Faults of typing, and which of several is told.
 use Rattle.std.specs.Prelude.{ℕ, ◌≡◌, ◌≤◌, ◌⊎◌}
 use Rattle.jz_tree.specs.Span.{Span}
-use Rattle.jz_type_names.specs.Order.{Before, IsEarliest}
+use Rattle.jz_type_names.specs.Order.{Before}
 use Rattle.jz_types.specs.declared.fault.TypeRule.{TypeRule}
 use Rattle.jz_types.specs.declared.fault.TypeRule.TheVariants.{Unknown, Duplicate, Mismatch, Storage, Recursion, NoInstruction, ArrayCopy, BadAnnotation, ExportShape, RegIndex}
 use Rattle.jz_types.specs.declared.fault.TypeFault.{TypeFault}
-use Rattle.jz_types.specs.declared.fault.Firsts.{Firsts}
 
 -- the number of a rule
 abbrev pub rule_number : TypeRule → ℕ
@@ -28,16 +27,3 @@ IsToldBefore f rule at = Before f.span at ⊎ ((f.span ≡ at) × (rule_number f
 pub record IsTold (Fails : TypeRule → Span → Type 0) (f : TypeFault) : Type 0 where
   pub fails : Fails f.rule f.span
   pub first : (rule : TypeRule) (at : Span) → Fails rule at → IsToldBefore f rule at
-
--- at these places the rules fail first
-pub record AreFirst (Fails : TypeRule → Span → Type 0) (p : Firsts) : Type 0 where
-  pub unknown : IsEarliest (Fails Unknown) p.unknown
-  pub repeated : IsEarliest (Fails Duplicate) p.repeated
-  pub mismatched : IsEarliest (Fails Mismatch) p.mismatched
-  pub misplaced : IsEarliest (Fails Storage) p.misplaced
-  pub recursive : IsEarliest (Fails Recursion) p.recursive
-  pub unmatched : IsEarliest (Fails NoInstruction) p.unmatched
-  pub copied : IsEarliest (Fails ArrayCopy) p.copied
-  pub annotated : IsEarliest (Fails BadAnnotation) p.annotated
-  pub misshapen : IsEarliest (Fails ExportShape) p.misshapen
-  pub indexed : IsEarliest (Fails RegIndex) p.indexed

@@ -10,10 +10,10 @@ use Rattle.jz_tree.specs.declared.program.Fun.{Fun}
 use Rattle.jz_tree.specs.declared.program.Program.{Program}
 use Rattle.jz_select.specs.declared.pattern.Pattern.{Pattern}
 use Rattle.jz_select.specs.Selected.{IsSelected, IsCopied}
-use Rattle.jz_type_names.specs.Parts.{Layer, layer_of, statements_of}
+use Rattle.jz_type_names.specs.Parts.{Layer, layer_of, statements_of, is_skip}
 use Rattle.jz_type_rows.specs.declared.callee.Callee.{Callee}
 use Rattle.jz_type_rows.specs.Callees.{callee_by}
-use Rattle.jz_type_rows.specs.Matching.{needs_row, is_word_left, is_word_value, is_skip}
+use Rattle.jz_type_rows.specs.Matching.{needs_row, is_word_left, is_word_value}
 use Rattle.jz_types.specs.Rules.{IsTyped}
 use Rattle.jz_resolve.specs.Programs.{resolved_program}
 

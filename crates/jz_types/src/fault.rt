@@ -8,7 +8,7 @@ use jz_tree::Span;
 use jz_type_names::is_before;
 
 /// A rule of typing.
-#[derive(Clone, Copy, Debug, PartialEq, Eq)]
+#[derive(Clone, Copy, Debug)]
 pub enum TypeRule {
     /// A variable or constant is declared above its use, a function anywhere.
     Unknown,
@@ -55,7 +55,7 @@ impl TypeRule {
 }
 
 /// A rule that fails, and where.
-#[derive(Clone, Copy, PartialEq, Eq)]
+#[derive(Clone, Copy)]
 pub struct TypeFault {
     pub rule: TypeRule,
     pub span: Span,

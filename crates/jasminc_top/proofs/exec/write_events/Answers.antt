@@ -1,7 +1,7 @@
 use Rattle.std.proofs.Common.{arith, ap, length, refl, get_or, false}
+use Rattle.jz_text.proofs.NextLines.{next_line}
 use Rattle.jz_leak.specs.declared.event.Event.TheVariants as event
 use Rattle.jasminc_top.specs.Running.{event_line}
-use Rattle.jz_listing.proofs.Spaces.{next_line}
 use Rattle.jasminc_top.proofs.exec.write_events.Goals as goal
 
 pub loop-event-preserved : goal.loop-event-preserved

@@ -1,6 +1,6 @@
 use Rattle.std.proofs.Common.{arith, ap, length}
+use Rattle.jz_text.proofs.NextLines.{next_line}
 use Rattle.jasminc_top.specs.Lines.{holder_text}
-use Rattle.jz_listing.proofs.Spaces.{next_line}
 use Rattle.jasminc_top.proofs.lines.write_each_holder.Goals as goal
 
 pub loop-holder-preserved : goal.loop-holder-preserved

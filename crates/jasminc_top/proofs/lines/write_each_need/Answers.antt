@@ -1,9 +1,9 @@
 use Rattle.std.proofs.Common.{arith, ap, length, refl, get_or}
+use Rattle.jz_text.proofs.NextLines.{next_line}
 use Rattle.x64_insn.specs.declared.types.Reg.TheVariants.{Rax}
 use Rattle.x64_insn.specs.declared.types.Place.TheVariants.{Reg}
 use Rattle.jz_alloc.specs.declared.needs.Needed.{Needed}
 use Rattle.jasminc_top.specs.Lines.{need_text}
-use Rattle.jz_listing.proofs.Spaces.{next_line}
 use Rattle.jasminc_top.proofs.lines.write_each_need.Goals as goal
 
 abbrev no_need : Needed

@@ -1,4 +1,4 @@
-use Rattle.jz_grammar.specs.InnerGave.{cause_of}
+use Rattle.jz_grammar.specs.Causes.{cause_of}
 use Rattle.jz_first.proofs.Faults.{unexpected_law}
 use Rattle.jz_first.proofs.read.parse_first.Goals as goal
 

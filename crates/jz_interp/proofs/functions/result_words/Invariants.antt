@@ -2,7 +2,7 @@ use Rattle.std.proofs.Common.{◌≡◌, drop}
 use Rattle.jz_meaning.specs.Stores.{store_of}
 use Rattle.jz_meaning.specs.Runs.{result_words}
 use Rattle.jz_interp.specs.Outcomes.{values_of}
-use Rattle.jz_interp.specs.Answers.{values_first}
+use Rattle.jz_interp.specs.InnerAnswers.{values_first}
 use Rattle.jz_interp.proofs.functions.result_words.Given as goal
 
 abbrev pub invariant-loop-var : goal.invariant-loop-var

@@ -3,8 +3,8 @@ use Rattle.jz_meaning.specs.States.{State}
 use Rattle.jz_meaning.specs.Stores.{state_of, store_of}
 use Rattle.jz_meaning.specs.Runs.{block, callees_of, with_arguments, result_words}
 use Rattle.jz_interp.specs.Outcomes.{values_of}
-use Rattle.jz_interp.specs.Ends.{PieceGoes}
-use Rattle.jz_interp.specs.Answers.{words_seen, outcome_of, BodyShows}
+use Rattle.jz_interp.specs.InnerEnds.{PieceGoes}
+use Rattle.jz_interp.specs.InnerAnswers.{words_seen, outcome_of, BodyShows}
 use Rattle.jz_meaning.proofs.AttemptLemmas.{handed_on}
 use Rattle.jz_interp.proofs.Rules.{as_end, as_cut}
 use Rattle.jz_interp.proofs.Starts.{body_stuck, body_cut, results_are_stuck, body_ends}

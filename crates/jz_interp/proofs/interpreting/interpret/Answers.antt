@@ -1,6 +1,6 @@
 use Rattle.std.proofs.Common.{ap, ◌∙◌, subst}
 use Rattle.jz_interp.specs.Outcomes.{values_of}
-use Rattle.jz_interp.specs.Answers.{BodyShows}
+use Rattle.jz_interp.specs.InnerAnswers.{BodyShows}
 use Rattle.jz_interp.proofs.Starts.{found_at, interprets}
 use Rattle.jz_interp.proofs.interpreting.interpret.Goals as goal
 

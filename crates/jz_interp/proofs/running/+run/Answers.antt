@@ -3,6 +3,8 @@ use Rattle.std.specs.Prelude.{◌≡◌, ◌-◌, true, false, not, is_some, Som
 use Rattle.std.specs.Option.{option_copied}
 use Rattle.std.specs.Int.{w128}
 use Rattle.std.proofs.lemmas.Int.{to_z-of_z}
+use Rattle.jz_runs.specs.Views.{items_view}
+use Rattle.jz_runs.specs.ShownRuns.{Leads}
 use Rattle.jz_meaning.specs.Trees.{done, choose, each, call, loop}
 use Rattle.jz_meaning.specs.Rules.{Stuck}
 use Rattle.jz_meaning.specs.Attempts.{did, changed, numbers_first}
@@ -12,12 +14,11 @@ use Rattle.jz_meaning.specs.Values.{key_of, ref_of}
 use Rattle.jz_meaning.specs.Statements.{source, tests, counts, leaves, enters}
 use Rattle.jz_meaning.specs.Runs.{block, statement_tree}
 use Rattle.jz_run_assign.specs.Passings.{call_of, entered_store}
-use Rattle.jz_interp.specs.Parts.{callees_in, condition_of, counter_of, inner_block}
-use Rattle.jz_interp.specs.Parts.{body_piece, inner_body, assignment_tree, named_call_tree, while_tree}
-use Rattle.jz_interp.specs.Rounds.{values_left, evaluated_values, RoundsOf}
-use Rattle.jz_interp.specs.ShownRuns.{Leads, IsTurn, IsTested}
-use Rattle.jz_interp.specs.Ends.{seen_outcome, turn_seen, rounds_seen}
-use Rattle.jz_interp.specs.Ends.{PieceGoes, TurnGoes, TestGoes, RoundsGo}
+use Rattle.jz_interp.specs.InnerParts.{callees_in, condition_of, counter_of, inner_block}
+use Rattle.jz_interp.specs.InnerParts.{body_piece, inner_body, assignment_tree, named_call_tree, while_tree}
+use Rattle.jz_interp.specs.InnerRounds.{values_left, evaluated_values, RoundsOf}
+use Rattle.jz_interp.specs.InnerEnds.{seen_outcome, turn_seen, rounds_seen}
+use Rattle.jz_interp.specs.InnerEnds.{PieceGoes, TurnGoes, TestGoes, RoundsGo}
 use Rattle.jz_interp.proofs.Falls.{weights_at, one_deeper}
 use Rattle.jz_interp.proofs.Pieces.{assign_is, if_is, while_is, for_is}
 use Rattle.jz_meaning.proofs.AttemptLemmas.{handed_on}
@@ -70,7 +71,7 @@ run_statement-returns-in_err-ran-in-Assign t c =
 
 pub run_statement-returns-in_ok-ran-in-Assign : goal.run_statement-returns-in_ok-ran-in-Assign
 run_statement-returns-in_ok-ran-in-Assign t c =
-    subst (λ f. Leads source f c.args.fuel (state_of c.args.state.now) (seen_outcome (Ok c.in_ok-ran-in-Assign.ran) (state_of c.run_assign.new.state)))
+    subst (λ f. Leads items_view source f c.args.fuel (state_of c.args.state.now) (seen_outcome (Ok c.in_ok-ran-in-Assign.ran) (state_of c.run_assign.new.state)))
     (sym (assign_is (callees_in c.args.code.now c.args.depth) c.args.stmt.now c.in-Assign.to c.in-Assign.op c.in-Assign.rhs c.in-Assign.cond c.in-Assign.is)) c.in_ok-ran-in-Assign.ensures
 
 pub run_statement-returns-in_err-ran-in-If : goal.run_statement-returns-in_err-ran-in-If
@@ -83,7 +84,7 @@ run_statement-returns-in_err-ran-in-If t c =
 
 pub run_statement-returns-in_ok-ran-in-If : goal.run_statement-returns-in_ok-ran-in-If
 run_statement-returns-in_ok-ran-in-If t c =
-    subst (λ f. Leads source f c.args.fuel (state_of c.args.state.now) (seen_outcome (Ok c.in_ok-ran-in-If.ran) (state_of c.run_if.new.state)))
+    subst (λ f. Leads items_view source f c.args.fuel (state_of c.args.state.now) (seen_outcome (Ok c.in_ok-ran-in-If.ran) (state_of c.run_if.new.state)))
     (sym (if_is (callees_in c.args.code.now c.args.depth) c.args.stmt.now c.in-If.cond c.in-If.holds c.in-If.other c.in-If.is)) c.in_ok-ran-in-If.ensures
 
 pub run_statement-returns-in_err-ran-in-While : goal.run_statement-returns-in_err-ran-in-While
@@ -96,7 +97,7 @@ run_statement-returns-in_err-ran-in-While t c =
 
 pub run_statement-returns-in_ok-ran-in-While : goal.run_statement-returns-in_ok-ran-in-While
 run_statement-returns-in_ok-ran-in-While t c =
-    subst (λ f. Leads source f c.args.fuel (state_of c.args.state.now) (seen_outcome (Ok c.in_ok-ran-in-While.ran) (state_of c.run_while.new.state)))
+    subst (λ f. Leads items_view source f c.args.fuel (state_of c.args.state.now) (seen_outcome (Ok c.in_ok-ran-in-While.ran) (state_of c.run_while.new.state)))
     (sym (while_is (callees_in c.args.code.now c.args.depth) c.args.stmt.now c.in-While.prologue c.in-While.cond c.in-While.body c.in-While.is)) c.in_ok-ran-in-While.ensures
 
 pub run_statement-returns-in_err-ran-in-For : goal.run_statement-returns-in_err-ran-in-For
@@ -109,7 +110,7 @@ run_statement-returns-in_err-ran-in-For t c =
 
 pub run_statement-returns-in_ok-ran-in-For : goal.run_statement-returns-in_ok-ran-in-For
 run_statement-returns-in_ok-ran-in-For t c =
-    subst (λ f. Leads source f c.args.fuel (state_of c.args.state.now) (seen_outcome (Ok c.in_ok-ran-in-For.ran) (state_of c.run_for.new.state)))
+    subst (λ f. Leads items_view source f c.args.fuel (state_of c.args.state.now) (seen_outcome (Ok c.in_ok-ran-in-For.ran) (state_of c.run_for.new.state)))
     (sym (for_is (callees_in c.args.code.now c.args.depth) c.args.stmt.now c.in-For.counter c.in-For.from c.in-For.down c.in-For.to c.in-For.body c.in-For.is)) c.in_ok-ran-in-For.ensures
 
 pub run_statement-returns-in_ok-unset_all-in-Mark : goal.run_statement-returns-in_ok-unset_all-in-Mark
@@ -147,7 +148,7 @@ run_body-returns-in_err-ran-in-Some t c =
 
 pub run_body-returns-in_ok-ran-in-Some : goal.run_body-returns-in_ok-ran-in-Some
 run_body-returns-in_ok-ran-in-Some t c =
-    subst (λ y. Leads source (body_piece (callees_in c.args.code.now c.args.depth) y) c.args.fuel (state_of c.args.state.now) (seen_outcome (Ok c.in_ok-ran-in-Some.ran) (state_of c.run_block.new.state)))
+    subst (λ y. Leads items_view source (body_piece (callees_in c.args.code.now c.args.depth) y) c.args.fuel (state_of c.args.state.now) (seen_outcome (Ok c.in_ok-ran-in-Some.ran) (state_of c.run_block.new.state)))
     (sym c.in-Some.is) c.in_ok-ran-in-Some.ensures
 
 pub run_test-returns-in_err-more : goal.run_test-returns-in_err-more

@@ -1,10 +1,11 @@
 use Rattle.std.proofs.Common.{◌+◌, ◌*◌, drop, length}
+use Rattle.jz_runs.specs.Views.{items_view}
+use Rattle.jz_runs.specs.ShownRuns.{Passed, Turned}
 use Rattle.jz_meaning.specs.Stores.{state_of}
 use Rattle.jz_meaning.specs.Statements.{source}
 use Rattle.jz_meaning.specs.Runs.{block, callees_of}
-use Rattle.jz_interp.specs.Parts.{condition_of, inner_block, inner_body}
-use Rattle.jz_interp.specs.ShownRuns.{Passed, Turned}
-use Rattle.jz_interp.specs.Rounds.{values_left}
+use Rattle.jz_interp.specs.InnerParts.{condition_of, inner_block, inner_body}
+use Rattle.jz_interp.specs.InnerRounds.{values_left}
 use Rattle.jz_interp.proofs.Rules.{CountedOf}
 use Rattle.jz_interp.proofs.Weights.{weight, weights, body_weight, level}
 use Rattle.jz_interp.proofs.running.+run.Given as goal
@@ -47,11 +48,11 @@ decreases-run_for l = 6 * (level l.code.now.funs.now l.depth + weights l.body.no
 
 abbrev pub invariant-run_block-loop-stmt : goal.invariant-run_block-loop-stmt
 invariant-run_block-loop-stmt l =
-    Passed source (block (callees_of l.code.funs.now l.depth) l.stmts) (block (callees_of l.code.funs.now l.depth) (drop l.stmt-index l.stmts)) l.fuel (state_of l.fn.state) l.items l.left (state_of l.state)
+    Passed items_view source (block (callees_of l.code.funs.now l.depth) l.stmts) (block (callees_of l.code.funs.now l.depth) (drop l.stmt-index l.stmts)) l.fuel (state_of l.fn.state) l.items l.left (state_of l.state)
 
 abbrev pub invariant-run_while-loop-turns : goal.invariant-run_while-loop-turns
 invariant-run_while-loop-turns l =
-    Turned source (inner_block (callees_of l.code.funs.now l.depth) l.prologue) (condition_of l.test) (inner_body (callees_of l.code.funs.now l.depth) l.body) l.fuel (state_of l.fn.state) l.turns l.left (state_of l.state)
+    Turned items_view source (inner_block (callees_of l.code.funs.now l.depth) l.prologue) (condition_of l.test) (inner_body (callees_of l.code.funs.now l.depth) l.body) l.fuel (state_of l.fn.state) l.turns l.left (state_of l.state)
 
 abbrev pub decreases-run_while-loop-turns : goal.decreases-run_while-loop-turns
 decreases-run_while-loop-turns l = l.left

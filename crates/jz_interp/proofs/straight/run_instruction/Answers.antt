@@ -1,8 +1,8 @@
 use Rattle.jz_meaning.specs.Trees.{op}
 use Rattle.jz_meaning.specs.Stores.{state_of}
 use Rattle.jz_meaning.specs.Statements.{instruction}
-use Rattle.jz_interp.specs.Parts.{named_instruction_tree}
-use Rattle.jz_interp.specs.Ends.{PieceGoes}
+use Rattle.jz_interp.specs.InnerParts.{named_instruction_tree}
+use Rattle.jz_interp.specs.InnerEnds.{PieceGoes}
 use Rattle.jz_meaning.proofs.AttemptLemmas.{handed_on}
 use Rattle.jz_interp.proofs.Rules.{instruction_operates, instruction_conditioned, instruction_plain}
 use Rattle.jz_interp.proofs.straight.run_instruction.Goals as goal

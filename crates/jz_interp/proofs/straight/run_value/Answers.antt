@@ -3,8 +3,8 @@ use Rattle.jz_meaning.specs.Trees.{op}
 use Rattle.jz_meaning.specs.Attempts.{changed, numbers_first}
 use Rattle.jz_meaning.specs.Stores.{state_of}
 use Rattle.jz_meaning.specs.Statements.{does}
-use Rattle.jz_interp.specs.Parts.{value_assignment}
-use Rattle.jz_interp.specs.Ends.{PieceGoes}
+use Rattle.jz_interp.specs.InnerParts.{value_assignment}
+use Rattle.jz_interp.specs.InnerEnds.{PieceGoes}
 use Rattle.jz_meaning.proofs.AttemptLemmas.{handed_on}
 use Rattle.jz_interp.proofs.Rules.{operation_stuck, operation_leads}
 use Rattle.jz_interp.proofs.straight.run_value.Goals as goal

@@ -1,7 +1,7 @@
 use Rattle.std.proofs.Common.{arith, refl}
 use Rattle.std.specs.Prelude.{codes}
+use Rattle.jz_text.proofs.NextLines.{next_line}
 use Rattle.jz_listing.specs.Listing.{compiled_text}
-use Rattle.jz_listing.proofs.Spaces.{next_line}
 use Rattle.jz_listing.proofs.lines.listing.Goals as goal
 
 pub loop-fun-preserved : goal.loop-fun-preserved

@@ -1,6 +1,6 @@
 use Rattle.std.proofs.Common.{arith, ap, length}
+use Rattle.jz_text.proofs.NextLines.{next_line}
 use Rattle.jz_listing.specs.Listing.{pre_line}
-use Rattle.jz_listing.proofs.Spaces.{next_line}
 use Rattle.jz_listing.proofs.lines.write_preconditions.Goals as goal
 
 pub loop-one-preserved : goal.loop-one-preserved

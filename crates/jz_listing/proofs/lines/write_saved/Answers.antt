@@ -1,7 +1,7 @@
 use Rattle.std.proofs.Common.{arith, ap, length, refl, get_or}
+use Rattle.jz_text.proofs.NextLines.{next_line}
 use Rattle.x64_insn.specs.declared.types.Reg.TheVariants as reg
 use Rattle.jz_listing.specs.Listing.{saved_reg_text}
-use Rattle.jz_listing.proofs.Spaces.{next_line}
 use Rattle.jz_listing.proofs.lines.write_saved.Goals as goal
 
 pub loop-reg-preserved : goal.loop-reg-preserved

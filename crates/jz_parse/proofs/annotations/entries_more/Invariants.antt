@@ -1,5 +1,5 @@
 use Rattle.std.proofs.Common.{◌≡◌, length}
-use Rattle.jz_parse.specs.InnerNotesReaders.{entries_more}
+use Rattle.jz_parse.specs.NotesReaders.{entries_more}
 use Rattle.jz_parse.proofs.annotations.entries_more.Given as goal
 
 abbrev pub invariant-loop-alloc : goal.invariant-loop-alloc

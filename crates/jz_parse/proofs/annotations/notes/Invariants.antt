@@ -1,5 +1,5 @@
 use Rattle.std.proofs.Common.{◌≡◌, [], length}
-use Rattle.jz_parse.specs.InnerNotesReaders.{notes_more}
+use Rattle.jz_parse.specs.NotesReaders.{notes_more}
 use Rattle.jz_parse.proofs.annotations.notes.Given as goal
 
 abbrev pub invariant-loop-alloc : goal.invariant-loop-alloc

@@ -1,5 +1,5 @@
 use Rattle.std.proofs.Common.{◌≡◌, length}
-use Rattle.jz_parse.specs.InnerStmtReaders.{args_more}
+use Rattle.jz_parse.specs.StmtReaders.{args_more}
 use Rattle.jz_parse.proofs.assigning.args_more.Given as goal
 
 abbrev pub invariant-loop-alloc : goal.invariant-loop-alloc

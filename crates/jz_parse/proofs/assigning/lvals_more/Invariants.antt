@@ -1,5 +1,5 @@
 use Rattle.std.proofs.Common.{◌≡◌, length}
-use Rattle.jz_parse.specs.InnerStmtReaders.{lvals_more}
+use Rattle.jz_parse.specs.StmtReaders.{lvals_more}
 use Rattle.jz_parse.proofs.assigning.lvals_more.Given as goal
 
 abbrev pub invariant-loop-alloc : goal.invariant-loop-alloc

@@ -1,5 +1,5 @@
 use Rattle.std.proofs.Common.{subst}
-use Rattle.jz_grammar.specs.InnerGave.{Gave}
+use Rattle.jz_grammar.specs.Gave.{Gave}
 use Rattle.jz_parse.proofs.StmtReads.{stmts_is, ifs_is}
 use Rattle.jz_parse.proofs.statement.+statements.Goals as goal
 

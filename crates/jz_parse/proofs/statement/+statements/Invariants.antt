@@ -1,5 +1,5 @@
 use Rattle.std.proofs.Common.{◌≡◌, ◌+◌, ◌*◌, [], length}
-use Rattle.jz_parse.specs.InnerStmtReaders.{stmts_more}
+use Rattle.jz_parse.specs.StmtReaders.{stmts_more}
 use Rattle.jz_parse.proofs.statement.+statements.Given as goal
 
 abbrev pub decreases-stmt : goal.decreases-stmt

@@ -1,5 +1,5 @@
 use Rattle.std.proofs.Common.{subst}
-use Rattle.jz_grammar.specs.InnerGave.{Gave}
+use Rattle.jz_grammar.specs.Gave.{Gave}
 use Rattle.jz_parse_expr.proofs.Laws.{unary_is}
 use Rattle.jz_parse_expr.proofs.expression.+expressions.Goals as goal
 

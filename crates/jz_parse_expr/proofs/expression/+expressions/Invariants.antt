@@ -1,5 +1,5 @@
 use Rattle.std.proofs.Common.{◌≡◌, ◌+◌, ◌*◌, length}
-use Rattle.jz_parse_expr.specs.InnerReaders.{rest_of, levels, unary}
+use Rattle.jz_parse_expr.specs.Readers.{rest_of, levels, unary}
 use Rattle.jz_parse_expr.proofs.expression.+expressions.Given as goal
 
 abbrev pub decreases-unary : goal.decreases-unary

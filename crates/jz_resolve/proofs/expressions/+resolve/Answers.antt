@@ -2,8 +2,8 @@ use Rattle.std.proofs.Common.{◌≡◌, ◌∙◌, ap, sym, arith}
 use Rattle.jz_tree.specs.declared.expr.Expr.{size-Expr}
 use Rattle.jz_tree.specs.declared.expr.Expr.TheVariants.{Bin}
 use Rattle.jz_resolve.specs.Resolving.{resolved_expr}
-use Rattle.jz_resolve.specs.InnerResolving.{on_left}
-use Rattle.jz_resolve.proofs.Sides.{last_step, left_smaller}
+use Rattle.jz_tree.specs.LeftSides.{on_left}
+use Rattle.jz_tree.proofs.Sides.{last_step, left_smaller}
 use Rattle.jz_resolve.proofs.Layers.{bin_resolved}
 use Rattle.jz_resolve.proofs.expressions.+resolve.Goals as goal
 

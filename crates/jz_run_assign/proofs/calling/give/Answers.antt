@@ -5,7 +5,8 @@ use Rattle.jz_meaning.specs.Stores.{state_of, store_of}
 use Rattle.jz_meaning.specs.Values.{ref_of}
 use Rattle.jz_meaning.proofs.AttemptLemmas.{handed_on}
 use Rattle.jz_run_assign.specs.InnerCalls.{value_given, result_given}
-use Rattle.jz_run_assign.proofs.GivenLemmas.{IsKept, IsScalar, given_read}
+use Rattle.jz_meaning.specs.CallLaws.{IsScalar}
+use Rattle.jz_run_assign.proofs.GivenLemmas.{IsKept, given_read}
 use Rattle.jz_run_assign.proofs.calling.give.Goals as goal
 
 pub returns-in_err-give_value-in-Undeclared : goal.returns-in_err-give_value-in-Undeclared

@@ -5,7 +5,8 @@ use Rattle.jz_meaning.specs.Stores.{state_of, store_of}
 use Rattle.jz_meaning.specs.Values.{ref_of}
 use Rattle.jz_meaning.proofs.AttemptLemmas.{handed_on}
 use Rattle.jz_run_assign.specs.InnerCalls.{array_passed, value_passed, argument_passed}
-use Rattle.jz_run_assign.proofs.GivenLemmas.{IsScalar, passed_value}
+use Rattle.jz_meaning.specs.CallLaws.{IsScalar}
+use Rattle.jz_meaning.proofs.CallLemmas.{passed_value}
 use Rattle.jz_run_assign.proofs.calling.pass.Goals as goal
 
 pub returns-in_err-pass_array-in-Array : goal.returns-in_err-pass_array-in-Array

@@ -1,7 +1,7 @@
 use Rattle.std.proofs.Common.{◌≡◌, ◌∙◌, ap, sym, arith}
 use Rattle.jz_tree.specs.declared.expr.Expr.{size-Expr}
 use Rattle.jz_tree.specs.declared.expr.Expr.TheVariants.{Bin}
-use Rattle.jz_tree.specs.InnerSides.{on_left}
+use Rattle.jz_tree.specs.LeftSides.{on_left}
 use Rattle.jz_tree.proofs.Sides.{last_step, left_smaller}
 use Rattle.jz_tree.proofs.expr.+copy.Goals as goal
 

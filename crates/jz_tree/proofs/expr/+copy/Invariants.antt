@@ -1,6 +1,6 @@
 use Rattle.std.proofs.Common.{◌≡◌, ◌≤◌}
 use Rattle.jz_tree.specs.declared.expr.Expr.{size-Expr}
-use Rattle.jz_tree.specs.InnerSides.{on_left}
+use Rattle.jz_tree.specs.LeftSides.{on_left}
 use Rattle.jz_tree.proofs.expr.+copy.Given as goal
 
 abbrev pub invariant-Expr::copy_side-loop-rest : goal.invariant-Expr::copy_side-loop-rest

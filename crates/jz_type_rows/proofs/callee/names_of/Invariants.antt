@@ -1,6 +1,6 @@
 use Rattle.std.proofs.Common.{map, take}
 use Rattle.jz_type_names.specs.Lent.{these}
-use Rattle.jz_type_rows.specs.Callees.{text_of}
+use Rattle.jz_type_names.specs.Scopes.{text_of}
 use Rattle.jz_type_rows.specs.InnerTables.{HasNames}
 use Rattle.jz_type_rows.proofs.callee.names_of.Given as goal
 

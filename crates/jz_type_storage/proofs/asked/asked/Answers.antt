@@ -1,6 +1,7 @@
 use Rattle.std.proofs.Common.{◌≡◌, rules, not, map, filter, ap, ◌∙◌}
+use Rattle.jz_type_names.specs.Scopes.{text_of, text_of_param}
 use Rattle.jz_type_storage.specs.Paths.{inline_vars}
-use Rattle.jz_type_storage.specs.InnerWalks.{members, text_of, text_of_param}
+use Rattle.jz_type_storage.specs.InnerWalks.{members}
 use Rattle.jz_type_storage.proofs.Asking.{asked_is}
 use Rattle.jz_type_storage.proofs.asked.asked.Goals as goal
 

@@ -1,5 +1,5 @@
 use Rattle.std.proofs.Common.{◌≡◌, ◌++◌, drop, map}
-use Rattle.jz_type_storage.specs.InnerWalks.{text_of_param}
+use Rattle.jz_type_names.specs.Scopes.{text_of_param}
 use Rattle.jz_type_storage.proofs.asked.param_names.Given as goal
 
 abbrev pub invariant-loop-param : goal.invariant-loop-param

@@ -1,0 +1,9 @@
+pub mod Refs
+pub mod Owning
+pub mod Variables
+pub mod Reading
+pub mod Writing
+pub mod Lending
+pub mod Passing
+pub mod Trees
+pub mod Whole

@@ -1,0 +1,5 @@
+pub mod Names
+pub mod Widths
+pub mod Calls
+pub mod Functions
+pub mod Statements

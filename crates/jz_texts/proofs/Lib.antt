@@ -1,0 +1,10 @@
+pub mod Lists
+pub mod Ordered
+pub mod Standing
+pub mod Variables
+pub mod Plain
+pub mod Reading
+pub mod Resolved
+pub mod Naming
+pub mod Lengths
+pub mod Declaring

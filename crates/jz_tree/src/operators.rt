@@ -1,0 +1,30 @@
+//! Sorts of operators of two operands.
+
+ghost use Rattle.std.specs.Prelude.{◌≡◌};
+ghost use Rattle.jz_tree.specs.Operators as operators;
+
+use crate::expr::BinOp;
+
+/// Whether it is `&&` or `||`.
+pub fn joins(op: BinOp) -> bool
+    ensures { result ≡ operators.joins op }
+{
+    matches!(op, BinOp::AndThen | BinOp::OrElse)
+}
+
+/// Whether it shifts or rotates: its operands may differ in size.
+pub fn is_shift(op: BinOp) -> bool
+    ensures { result ≡ operators.is_shift op }
+{
+    matches!(
+        op,
+        BinOp::Shl | BinOp::Shr | BinOp::Sar | BinOp::Rol | BinOp::Ror
+    )
+}
+
+/// Whether it gives a quotient or a remainder.
+pub fn divides(op: BinOp) -> bool
+    ensures { result ≡ operators.divides op }
+{
+    matches!(op, BinOp::Div | BinOp::Rem | BinOp::DivS | BinOp::RemS)
+}
