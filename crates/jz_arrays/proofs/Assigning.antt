@@ -1,6 +1,6 @@
 -- Assignments whose cells are scalars.
-use Rattle.std.proofs.Common.{◌≡◌, ℕ, zero, suc, ◌+◌, ◌<◌, ◌^◌, List, [], ◌∷◌, ◌++◌, map, length, Option, Some, None, Bool, true, false, refl, ap, sym, ◌∙◌, subst, arith, append-nil, append_assoc, length-append}
-use Rattle.std.specs.Prelude.{nat_lt, if◌then◌else◌, ◌&&◌, ℤ, pos, option_map}
+use Rattle.std.proofs.Common.{◌≡◌, ℕ, suc, ◌+◌, ◌<◌, ◌^◌, List, [], ◌∷◌, ◌++◌, map, length, Option, Some, None, Bool, true, false, refl, ap, sym, ◌∙◌, subst, arith, append-nil, append_assoc, length-append}
+use Rattle.std.specs.Prelude.{nat_lt, if◌then◌else◌, ◌&&◌, pos, option_map}
 use Rattle.std.specs.Option.{option_or}
 use Rattle.std.proofs.lemmas.Bool.{and_parts}
 use Rattle.jz_tree.specs.Span.{Span}
@@ -12,8 +12,7 @@ use Rattle.jz_tree.specs.declared.expr.Expr.{Expr}
 use Rattle.jz_tree.specs.declared.expr.Expr.TheVariants as expr
 use Rattle.jz_tree.specs.declared.expr.Var.{Var}
 use Rattle.jz_tree.specs.declared.expr.Expr.TheOpen.{Expr-F}
-use Rattle.jz_tree.specs.declared.expr.Expr.TheViews.{roll-Expr, out-Expr, out-roll-Expr, roll-out-Expr}
-use Rattle.jz_meaning.specs.declared.access.Kind.{Kind}
+use Rattle.jz_tree.specs.declared.expr.Expr.TheViews.{out-Expr, out-roll-Expr, roll-out-Expr}
 use Rattle.jz_meaning.specs.declared.access.Kind.TheVariants as kind
 use Rattle.jz_meaning.specs.declared.value.Why.TheVariants.{Bounds, Init}
 use Rattle.jz_runs.specs.Rules.{stuck, went}
@@ -21,19 +20,21 @@ use Rattle.jz_meaning.specs.Attempts.{Evaluation, stuck_at, numbers_first, and_t
 use Rattle.jz_meaning.specs.States.{Value, word, boolean, integer, State}
 use Rattle.jz_meaning.specs.Operators.{word_at, word_of}
 use Rattle.jz_tree.specs.Memory.{Memory}
+use Rattle.jz_tree.specs.declared.intrinsic.Instance.{Instance}
+use Rattle.jz_meaning.specs.Intrinsics.{intrinsic_size, sized_results}
 use Rattle.jz_meaning.specs.Values.{MemoryAccess, store_word, store_at, access_of, size_of, Ref, key_of, cell_key, in_cells, index_at, ref_of, own_size, evaluated}
 use Rattle.jz_tree.specs.declared.stmt.Lval.{Lval}
 use Rattle.jz_tree.specs.declared.stmt.Lval.TheVariants as lval
 use Rattle.jz_tree.specs.Words.{residue}
-use Rattle.jz_meaning.specs.Assignments.{word_value, held, held_or_unset, with_value, in_cell, written, all_written, results_of, as_expr, left_span, left_size, left_sizes, last_left, whole_of, updated_layer, updated, old_value, chosen, conditioned, assigned_whole, assigned, is_bool, is_flag_layer, is_flag, carries, Results, two_results, word_in, bool_in, truth, with_two, with_three, two_of}
+use Rattle.jz_meaning.specs.Assignments.{word_value, held_or_unset, with_value, in_cell, written, all_written, results_of, as_expr, left_span, left_size, left_sizes, last_left, whole_of, updated_layer, updated, old_value, chosen, conditioned, assigned_whole, assigned, is_bool, is_flag_layer, is_flag, carries, Results, two_results, word_in, bool_in, truth, with_two, with_three, two_of}
 use Rattle.jz_meaning.specs.Shapes.{Sort, Sorts, HoldsSorts, Shape, shape_of, divides, own_count}
-use Rattle.jz_arrays.proofs.Layers.{Layer}
-use Rattle.jz_arrays.specs.Cells.{is_left_in_range, scalar, cell_or, is_scalar, size_at, index_in, with_scalars, Mask, numbers_kept, all_kept, mask_of, is_below, is_in_range, is_access_in_range, access_mask, left_or, left_with_scalars, left_mask, lefts_mask, access_with_scalars, mask_if, old_mask, condition_mask, assign_mask}
-use Rattle.jz_arrays.specs.Arrays.{IsRead, FixedLeft, whole_old, IsGiven, AreGiven}
+use Rattle.jz_unroll.proofs.Layers.{Layer}
+use Rattle.jz_arrays.specs.Cells.{is_left_in_range, scalar, cell_or, is_scalar, size_at, index_in, with_scalars, Mask, numbers_kept, all_kept, mask_of, is_below, is_in_range, access_mask, left_or, left_with_scalars, left_mask, lefts_mask, access_with_scalars, mask_if, old_mask, condition_mask, assign_mask}
+use Rattle.jz_arrays.specs.Arrays.{IsRead, FixedLeft, whole_old}
 use Rattle.jz_arrays.specs.ScalarLaws.{IsThinned}
-use Rattle.jz_arrays.proofs.Reading.{thin_then, thin_plain, thin_same, of_defined, rolled, in_is, mask_layer, mask_is, range_layer, range_is, shape_layer, shape_is, scalar_is, scalars_so, below_is, kind_size, constant_index, kept_both, shape_access, access_kept, size_kept}
-use Rattle.jz_arrays.proofs.PartNumbers.{none_first, then_then, then_went}
-use Rattle.jz_arrays.proofs.PartNumbers.{index_numbers, in_cell_numbers, var_numbers, store_numbers}
+use Rattle.jz_arrays.proofs.Reading.{thin_then, thin_plain, thin_same, of_defined, rolled, in_is, mask_layer, mask_is, range_layer, range_is, shape_layer, shape_is, scalar_is, scalars_so, below_is, kind_size, constant_index, kept_both, access_kept, size_kept}
+use Rattle.jz_unroll.proofs.PartNumbers.{none_first, then_then, then_went}
+use Rattle.jz_unroll.proofs.PartNumbers.{index_numbers, in_cell_numbers, var_numbers, store_numbers}
 
 two_numbers : (op : BinOp) (a b : Sort) (at : Span) (s : Size) (x y : ℕ) (c : Bool) (ns : List ℕ) (vs : Results) → two_results op at s x y c ≡ went ns vs → length ns ≡ own_count op a b
 two_numbers o.OrElse a b at s x y c ns vs e = absurd cc
@@ -338,7 +339,20 @@ AllSome [] = Unit {0}
 AllSome (None ∷ vs) = ⊥
 AllSome (Some v ∷ vs) = AllSome vs
 
-some_given : (ds : List Lval) (vs : Results) → AllSome vs → AreGiven ds vs
+-- a cell gets a value; a flag that is undefined is none
+abbrev pub IsGiven : Lval → Option Value → Type 0
+IsGiven (lval.Cell v i) None = ⊥
+IsGiven _ _ = Unit {0}
+
+abbrev pub AreGiven : List Lval → Results → Type 0
+AreGiven (d ∷ ds) (v ∷ vs) = IsGiven d v × AreGiven ds vs
+AreGiven _ _ = Unit {0}
+
+abbrev pub results_given : Option Instance → List Lval → List Expr → Span → State → Evaluation Results
+results_given None to args at s = stuck_at at Init
+results_given (Some i) to args at s = sized_results i.name at (intrinsic_size i.name i.size to args) args s
+
+pub some_given : (ds : List Lval) (vs : Results) → AllSome vs → AreGiven ds vs
 some_given [] vs a = tt
 some_given (d ∷ ds) [] a = tt
 some_given (d ∷ ds) (None ∷ vs) a = absurd a

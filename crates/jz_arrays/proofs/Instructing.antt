@@ -1,6 +1,6 @@
 -- Instructions whose cells are scalars.
-use Rattle.std.proofs.Common.{◌≡◌, ℕ, List, [], ◌∷◌, ◌++◌, map, length, Option, Some, None, Bool, true, false, refl, ap, sym, ◌∙◌, subst, append-nil, append_assoc}
-use Rattle.std.specs.Prelude.{All}
+use Rattle.std.proofs.Common.{◌≡◌, ℕ, List, [], ◌∷◌, ◌++◌, map, Option, Some, None, Bool, refl, ap, sym, ◌∙◌, subst, append-nil, append_assoc}
+use Rattle.std.specs.Prelude.{All, take}
 use Rattle.std.specs.Option.{option_or}
 use Rattle.std.proofs.lemmas.List.Elements.{All-head, All-tail}
 use Rattle.jz_tree.specs.Span.{Span}
@@ -16,19 +16,20 @@ use Rattle.jz_tree.specs.declared.stmt.Lval.{Lval}
 use Rattle.jz_tree.specs.declared.intrinsic.Intrinsic.{Intrinsic}
 use Rattle.jz_tree.specs.declared.intrinsic.Intrinsic.TheVariants as name
 use Rattle.jz_tree.specs.declared.intrinsic.Instance.{Instance}
-use Rattle.jz_runs.specs.Rules.{stuck, went}
+use Rattle.jz_runs.specs.Rules.{went}
 use Rattle.jz_meaning.specs.Attempts.{Evaluation, and_then}
 use Rattle.jz_meaning.specs.States.{Value, word, boolean, integer, State}
 use Rattle.std.specs.Prelude.{pos, negsuc}
-use Rattle.jz_meaning.specs.Values.{own_size, evaluated}
+use Rattle.jz_meaning.specs.Values.{evaluated}
 use Rattle.jz_meaning.specs.Assignments.{Results, left_sizes, word_in, bool_in, all_written}
 use Rattle.jz_meaning.specs.Intrinsics.{all_flags, first_two, of_one, of_two, of_carry, of_count, shift_results, divided_by, division_results, of_division, of_condition, intrinsic_results, first_size, intrinsic_size, sized_results, instruction_done}
-use Rattle.jz_meaning.specs.Shapes.{Sorts, HoldsSorts, shape_of}
-use Rattle.jz_arrays.specs.Cells.{with_scalars, left_with_scalars, Mask, all_kept, mask_of, is_in_range, lefts_mask, args_mask, own_numbers, own_mask, instruction_mask}
-use Rattle.jz_arrays.specs.Arrays.{IsRead, AreGiven, results_given}
+use Rattle.jz_meaning.specs.Shapes.{Sorts, HoldsSorts}
+use Rattle.jz_arrays.specs.Cells.{with_scalars, left_with_scalars, Mask, all_kept, mask_of, lefts_mask, args_mask, own_numbers, instruction_mask}
+use Rattle.jz_arrays.specs.Arrays.{IsRead, flags_before, IsNoCell}
 use Rattle.jz_arrays.specs.ScalarLaws.{IsThinned}
-use Rattle.jz_arrays.proofs.Reading.{thin_then, thin_same, scalars_so, size_kept}
+use Rattle.jz_arrays.proofs.Reading.{thin_then, scalars_so, size_kept}
 use Rattle.jz_arrays.proofs.Assigning.{AreLeft, word_thin, bool_thin, thin_if, all_thin, ws_sizes}
+use Rattle.jz_arrays.proofs.GivenWords.{given_so}
 
 pub thin_as : {A : Type 0} (m k : Mask) (g h : Evaluation A) → m ≡ k → IsThinned m g h → IsThinned k g h
 thin_as m k g h e t = subst (λ x. IsThinned x g h) e t
@@ -178,7 +179,7 @@ module _ (sorts : Sorts) (s : State) (holds : HoldsSorts sorts s.store) where
   all_read (e ∷ es) h = (All-head (λ y. IsRead sorts (Some y)) e es h, all_read es (All-tail (λ y. IsRead sorts (Some y)) e es h))
 
   -- an instruction whose cells are scalars: the same state, and of its numbers those that are left
-  pub instruction_thin : (i : Option Instance) (to : List Lval) (es : List Expr) (at : Span) → AreLeft sorts to → All (λ e. IsRead sorts (Some e)) es → ((ns : List ℕ) (vs : Results) → results_given i to es at s ≡ went ns vs → AreGiven to vs)
+  pub instruction_thin : (i : Option Instance) (to : List Lval) (es : List Expr) (at : Span) → AreLeft sorts to → All (λ e. IsRead sorts (Some e)) es → All IsNoCell (take (flags_before i) to)
       → IsThinned (instruction_mask sorts i to es) (instruction_done i to es at s) (instruction_done i (map left_with_scalars to) (map with_scalars es) at s)
   instruction_thin None to es at l r given = refl
   instruction_thin (Some i) to es at l r given =
@@ -186,4 +187,4 @@ module _ (sorts : Sorts) (s : State) (holds : HoldsSorts sorts s.store) where
       let f = λ (y : Option Size). IsThinned (instruction_mask sorts (Some i) to es) (instruction_done (Some i) to es at s) (and_then (sized_results i.name at y (In es) s) (λ vs. all_written at y (map left_with_scalars to) vs s)) in
       subst f (sym (instruction_size i.name i.size to es l (all_read es r)))
       (thin_if sorts (M es ++ all_kept (own_numbers i.name)) (lefts_mask sorts to) (sized_results i.name at z es s) (sized_results i.name at z (In es) s) (λ vs. all_written at z to vs s) (λ vs. all_written at z (map left_with_scalars to) vs s)
-      (sized_thin i.name at z es (all_read es r)) (λ ns vs q. all_thin sorts at s z to vs holds l (given ns vs q)))
+      (sized_thin i.name at z es (all_read es r)) (λ ns vs q. all_thin sorts at s z to vs holds l (given_so (Some i) to es at s ns vs given q)))

@@ -1,5 +1,5 @@
 -- Register arrays as scalars keep the runs.
-use Rattle.std.proofs.Common.{◌≡◌, ℕ, zero, suc, ◌+◌, ◌<◌, ◌≤◌, List, [], ◌∷◌, ◌++◌, map, length, Option, Some, None, Bool, true, false, refl, ap, sym, ◌∙◌, subst, arith, ℤ, append_assoc, length-append, inl}
+use Rattle.std.proofs.Common.{◌≡◌, ℕ, suc, ◌+◌, ◌≤◌, List, [], ◌∷◌, ◌++◌, map, length, Option, Some, Bool, true, false, refl, ap, sym, ◌∙◌, subst, arith, append_assoc, length-append, inl}
 use Rattle.std.specs.Prelude.{slice_index, option_map, All, ⊤}
 use Rattle.std.proofs.lemmas.List.Elements.{All-nil, All-cons, All-head, All-tail}
 use Rattle.jz_tree.specs.Span.{Span}
@@ -12,10 +12,9 @@ use Rattle.jz_runs.specs.Rules.{stuck, went}
 use Rattle.jz_meaning.specs.declared.value.Stuck.{Stuck}
 use Rattle.jz_meaning.specs.Attempts.{Evaluation}
 use Rattle.jz_meaning.specs.States.{State}
-use Rattle.jz_meaning.specs.Shapes.{HoldsSorts}
 use Rattle.jz_meaning.specs.Assignments.{bool_in, assigned}
 use Rattle.jz_meaning.specs.Intrinsics.{instruction_done}
-use Rattle.jz_meaning.specs.Statements.{Operation, assign, Condition, Counter, Call, does, source, quiets}
+use Rattle.jz_meaning.specs.Statements.{Operation, Condition, does, source, quiets}
 use Rattle.jz_run_laws.specs.Kinds.{Kinds, IsOfKinds, sorts_of}
 use Rattle.jz_run_laws.specs.DeclaredKinds.{LeftDeclared}
 use Rattle.jz_run_laws.specs.Kept.{IfWent}
@@ -23,7 +22,6 @@ use Rattle.jz_run_laws.proofs.Stores.{kinds_sorted}
 use Rattle.jz_run_laws.proofs.RightSides.{assigned_keeps}
 use Rattle.jz_run_laws.proofs.Instructions.{instruction_keeps}
 use Rattle.jz_run_laws.proofs.Nodes.{marks_keep}
-use Rattle.jz_change.specs.declared.change.Number.{Number}
 use Rattle.jz_change.specs.declared.change.Number.TheVariants.{Nth}
 use Rattle.jz_change.specs.declared.change.Numbers.{Numbers}
 use Rattle.jz_change.specs.Changes.{number_in, numbers_in}
@@ -94,7 +92,7 @@ module _ (kinds : Kinds) where
       → IsThinned (instruction_mask (sorts_of kinds) i to args) (instruction_done i to args at s) (instruction_done i (map left_with_scalars to) (map with_scalars args) at t)
   instructed_thin i to args at s t h r =
       subst (λ y. IsThinned (instruction_mask (sorts_of kinds) i to args) (instruction_done i to args at s) (instruction_done i (map left_with_scalars to) (map with_scalars args) at y)) r.one
-      (instruction_thin (sorts_of kinds) s (kinds_sorted kinds s.store r.held.variables) i to args at (all_left to h.lefts) h.operands (λ ns vs q. h.given at s ns vs r.held q))
+      (instruction_thin (sorts_of kinds) s (kinds_sorted kinds s.store r.held.variables) i to args at (all_left to h.lefts) h.operands h.flags)
 
   pub op_went : (o : Operation) (os : List Operation) (is : List Numbers) (s s1 t : State) (ns : List ℕ) → ArraysOp kinds o os is → IsOneState kinds s t → does o s ≡ went ns s1 → (t1 : State) × DoAll source ns os is t t1 × IsOneState kinds s1 t1
   op_went o os is s s1 t ns (assigns {to} {op} {e} {c} {at} i) r q =

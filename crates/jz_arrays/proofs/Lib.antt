@@ -1,7 +1,6 @@
-pub mod Layers
-pub mod PartNumbers
 pub mod Reading
 pub mod Assigning
+pub mod GivenWords
 pub mod Instructing
 pub mod Sorted
 pub mod Keeping

@@ -1,6 +1,6 @@
 -- An expression whose cells are scalars has the same value, and of its numbers those that are left.
-use Rattle.std.proofs.Common.{◌≡◌, ℕ, zero, suc, ◌+◌, ◌<◌, ◌^◌, List, [], ◌∷◌, ◌++◌, length, Option, Some, None, Bool, true, false, refl, ap, sym, ◌∙◌, subst, arith, append-nil, append_assoc, length-append}
-use Rattle.std.specs.Prelude.{nat_lt, if◌then◌else◌, ◌&&◌, ℤ, pos, negsuc, option_map}
+use Rattle.std.proofs.Common.{◌≡◌, ℕ, zero, suc, ◌+◌, ◌<◌, ◌^◌, List, [], ◌∷◌, ◌++◌, length, Option, Some, None, Bool, true, false, refl, ap, sym, ◌∙◌, subst, arith, append-nil, length-append}
+use Rattle.std.specs.Prelude.{nat_lt, if◌then◌else◌, ◌&&◌, ℤ, pos, negsuc}
 use Rattle.std.specs.Option.{option_or}
 use Rattle.std.proofs.lemmas.Bool.{and_parts}
 use Rattle.std.proofs.lemmas.Bool.Decides.{nat_tests}
@@ -8,15 +8,13 @@ use Rattle.jz_tree.specs.Span.{Span}
 use Rattle.jz_tree.specs.Size.{Size}
 use Rattle.jz_tree.specs.Size.TheVariants.{S64}
 use Rattle.jz_tree.specs.Words.{residue}
-use Rattle.jz_tree.specs.declared.expr.BinOp.{BinOp}
 use Rattle.jz_tree.specs.declared.expr.Expr.{Expr}
 use Rattle.jz_tree.specs.declared.expr.Ty.{Ty}
 use Rattle.jz_tree.specs.declared.expr.Access.{Access}
 use Rattle.jz_tree.specs.declared.expr.Decl.{Decl}
 use Rattle.jz_tree.specs.declared.expr.Var.{Var}
-use Rattle.jz_tree.specs.declared.expr.Storage.{Storage}
-use Rattle.jz_tree.specs.declared.expr.Expr.TheOpen.{Expr-F, Ty-F, Access-F, Var-F, Decl-F}
-use Rattle.jz_tree.specs.declared.expr.Expr.TheViews.{roll-Expr, roll-Access, roll-Var, roll-Ty, roll-Decl, out-Expr, out-Ty, out-Var, out-roll-Expr, roll-out-Expr, roll-out-Ty, roll-out-Var, out-Access, roll-out-Access}
+use Rattle.jz_tree.specs.declared.expr.Expr.TheOpen.{Expr-F, Ty-F, Access-F}
+use Rattle.jz_tree.specs.declared.expr.Expr.TheViews.{roll-Expr, roll-Access, roll-Ty, out-Expr, out-Ty, out-Var, roll-out-Expr, roll-out-Ty, roll-out-Var, out-Access, roll-out-Access}
 use Rattle.jz_tree.specs.declared.expr.Expr.TheFolds.{fold-Access, fold-Var, fold-roll-Access, fold-roll-Expr, fold-roll-Ty, fold-roll-Decl, para-roll-Expr, para-roll-Access, ind-Expr, map-Expr, map-Access, map-Var}
 use Rattle.jz_meaning.specs.declared.access.Kind.{Kind}
 use Rattle.jz_meaning.specs.declared.access.Kind.TheVariants as kind
@@ -24,16 +22,16 @@ use Rattle.jz_meaning.specs.declared.value.Why.TheVariants.{Bounds}
 use Rattle.jz_runs.specs.Rules.{stuck, went}
 use Rattle.jz_meaning.specs.Attempts.{Evaluation, stuck_at, numbers_first, and_then, defined}
 use Rattle.jz_meaning.specs.States.{Value, word, integer, Store, State}
-use Rattle.jz_meaning.specs.Operators.{word_at, word_of, is_settled, binary, negated, inverted, cast}
-use Rattle.jz_meaning.specs.Values.{size_of, Ref, key_of, cell_key, in_cells, index_at, cell_value, MemoryAccess, accessed, load_word, load_at, variable_value, Meaning, right_wanted, left_wanted, with_right, run_binary, expr_step as meaning_step, ty_step, access_step as meaning_access, decl_step, var_step, array_kind, kind_or, meaning_of, ref_of, access_of, declared_kind, own_size, evaluated}
-use Rattle.jz_meaning.specs.Shapes.{Sort, Sorts, HoldsSorts, Shape, shape_step, operation_shape, shape_of, own_count}
+use Rattle.jz_meaning.specs.Operators.{word_of, is_settled, binary, negated, inverted, cast}
+use Rattle.jz_meaning.specs.Values.{size_of, Ref, key_of, cell_key, in_cells, index_at, cell_value, MemoryAccess, accessed, load_word, load_at, variable_value, Meaning, right_wanted, left_wanted, run_binary, expr_step as meaning_step, ty_step, access_step as meaning_access, decl_step, var_step, array_kind, meaning_of, ref_of, access_of, own_size, evaluated}
+use Rattle.jz_meaning.specs.Shapes.{Sort, Sorts, HoldsSorts, Shape, shape_step, shape_of, own_count}
 use Rattle.jz_meaning.proofs.ShapeLemmas.{counted}
 use Rattle.jz_tree.specs.declared.expr.Ty.TheVariants as ty
 use Rattle.jz_tree.specs.Sizes.{bytes_of}
 use Rattle.jz_tree.specs.Memory.{Memory, loaded}
-use Rattle.jz_arrays.proofs.PartNumbers.{none_first, then_went}
-use Rattle.jz_arrays.proofs.PartNumbers.{index_numbers, accessed_numbers, no_numbers}
-use Rattle.jz_arrays.proofs.Layers.{Layer, meaning_layer, meaning_is, access_is, access_layer, ref_rolled, kind_of_ty, kind_of_decl}
+use Rattle.jz_unroll.proofs.PartNumbers.{none_first, then_went}
+use Rattle.jz_unroll.proofs.PartNumbers.{index_numbers, accessed_numbers, no_numbers}
+use Rattle.jz_unroll.proofs.Layers.{Layer, meaning_layer, meaning_is, access_is, ref_rolled, kind_of_ty, kind_of_decl}
 use Rattle.jz_arrays.specs.ScalarLaws.{IsThinned}
 use Rattle.jz_arrays.specs.Cells.{is_register, cells_of_ty, cells_of_decl, constant_layer, scalar, cell_or, is_scalar, size_at, index_in, expr_step, access_step, with_scalars, access_with_scalars, Mask, numbers_kept, all_kept, mask_step, mask_of, access_mask, is_below, range_step, is_in_range, is_access_in_range}
 

@@ -10,21 +10,21 @@ use Rattle.jz_tree.specs.Size.TheVariants.{S64}
 use Rattle.jz_tree.specs.Memory.{Memory}
 use Rattle.jz_tree.specs.declared.stmt.Lval.{Lval}
 use Rattle.jz_tree.specs.declared.stmt.Lval.TheVariants as lval
-use Rattle.jz_runs.specs.Rules.{stuck, went}
+use Rattle.jz_runs.specs.Rules.{went}
 use Rattle.jz_meaning.specs.declared.access.Kind.{Kind}
 use Rattle.jz_meaning.specs.declared.access.Kind.TheVariants as kind
 use Rattle.jz_meaning.specs.declared.value.Why.TheVariants.{Bounds}
 use Rattle.jz_meaning.specs.Attempts.{Evaluation, stuck_at, and_then}
-use Rattle.jz_meaning.specs.States.{Value, word, boolean, integer, Key, Store, State, same_cell, same_key, put}
+use Rattle.jz_meaning.specs.States.{Value, word, boolean, integer, Key, Store, State, same_key, put}
 use Rattle.jz_meaning.specs.Operators.{word_at}
 use Rattle.jz_meaning.specs.Values.{size_of, Ref, key_of, cell_key, in_cells, index_at, ref_of, access_of, evaluated, store_at}
 use Rattle.jz_meaning.specs.Assignments.{word_value, held, held_or_unset, with_value, in_cell, written}
 use Rattle.jz_meaning.specs.Shapes.{words, flags, integers, sort_of, Sorts, HoldsSorts}
-use Rattle.jz_run_laws.specs.Kinds.{Kinds, cell_of, part_of, kind_at, sort_of_kind, sorts_of}
+use Rattle.jz_run_laws.specs.Kinds.{Kinds, part_of, kind_at, sort_of_kind, sorts_of}
 use Rattle.jz_run_laws.specs.DeclaredKinds.{LeftDeclared}
 use Rattle.jz_run_laws.specs.Kept.{IfWent}
 use Rattle.jz_run_laws.proofs.Parts.{AnyOf, IfThere, there_if, there_is, went_then, went_any}
-use Rattle.jz_arrays.proofs.PartNumbers.{then_then}
+use Rattle.jz_unroll.proofs.PartNumbers.{then_then}
 
 -- what a variable of a kind may hold, by its sort alone
 abbrev IsHeld : Kind → Value → Type 0

@@ -1,22 +1,20 @@
 -- Register arrays as scalars, statement by statement. A mark stays: it unsets an array's cells,
 -- which are its scalars.
-use Rattle.std.specs.Prelude.{◌≡◌, ℕ, zero, suc, true, false, List, [], ◌∷◌, map, All, Option, Some, None, option_map}
+use Rattle.std.specs.Prelude.{◌≡◌, ℕ, suc, true, false, List, [], ◌∷◌, map, take, All, Option, Some, None, option_map}
 use Rattle.jz_tree.specs.Span.{Span}
 use Rattle.jz_tree.specs.declared.expr.BinOp.{BinOp}
 use Rattle.jz_tree.specs.declared.expr.Expr.{Expr}
 use Rattle.jz_tree.specs.declared.expr.Access.{Access}
 use Rattle.jz_tree.specs.declared.expr.Expr.TheFolds.{fold-Access}
 use Rattle.jz_tree.specs.Spellings.{spelled}
+use Rattle.jz_tree.specs.declared.intrinsic.Intrinsic.{Intrinsic}
+use Rattle.jz_tree.specs.declared.intrinsic.Intrinsic.TheVariants as name
 use Rattle.jz_tree.specs.declared.intrinsic.Instance.{Instance}
 use Rattle.jz_tree.specs.declared.stmt.Lval.{Lval}
 use Rattle.jz_tree.specs.declared.stmt.Lval.TheVariants as lval
-use Rattle.jz_runs.specs.Rules.{went}
-use Rattle.jz_meaning.specs.declared.value.Why.TheVariants.{Init}
-use Rattle.jz_meaning.specs.Attempts.{Evaluation, stuck_at}
-use Rattle.jz_meaning.specs.Assignments.{as_expr, last_left, whole_of, Results}
-use Rattle.jz_meaning.specs.Intrinsics.{intrinsic_size, sized_results}
+use Rattle.jz_meaning.specs.Assignments.{as_expr, last_left, whole_of}
 use Rattle.jz_meaning.specs.Shapes.{Sorts, Shape, shape_step, shape_of}
-use Rattle.jz_meaning.specs.States.{Value, State}
+use Rattle.jz_meaning.specs.States.{State}
 use Rattle.jz_meaning.specs.Statements.{Operation, assign, instruction, Condition}
 use Rattle.jz_run_laws.specs.Kinds.{Kinds, IsOfKinds, sorts_of}
 use Rattle.jz_run_laws.specs.DeclaredKinds.{LeftDeclared}
@@ -72,28 +70,32 @@ pub record IsAssign (kinds : Kinds) (to : List Lval) (op : Option BinOp) (e : Ex
   pub condition : IsRead (sorts_of kinds) c
   pub old : IsRead (sorts_of kinds) (whole_old to)
 
--- a cell gets a value; a flag that an instruction leaves undefined is none
-abbrev pub IsGiven : Lval → Option Value → Type 0
-IsGiven (lval.Cell v i) None = ⊥
-IsGiven _ _ = Unit {0}
+-- how many flags an instruction gives before its words
+abbrev pub flags_in_front : Intrinsic → ℕ
+flags_in_front name.Not = 0
+flags_in_front name.Bswap = 0
+flags_in_front name.Lea = 0
+flags_in_front name.Setcc = 0
+flags_in_front name.Rol = 2
+flags_in_front name.Ror = 2
+flags_in_front name.Inc = 4
+flags_in_front name.Dec = 4
+flags_in_front _ = 5
 
-abbrev pub AreGiven : List Lval → Results → Type 0
-AreGiven (d ∷ ds) (v ∷ vs) = IsGiven d v × AreGiven ds vs
-AreGiven _ _ = Unit {0}
+abbrev pub flags_before : Option Instance → ℕ
+flags_before None = 0
+flags_before (Some i) = flags_in_front i.name
 
-abbrev pub results_given :
-    Option Instance → List Lval → List Expr → Span → State → Evaluation Results
-results_given None to args at s = stuck_at at Init
-results_given (Some i) to args at s =
-    sized_results i.name at (intrinsic_size i.name i.size to args) args s
+abbrev pub IsNoCell : Lval → Type 0
+IsNoCell (lval.Cell v i) = ⊥
+IsNoCell _ = Unit {0}
 
+-- no flag goes to a cell: one that the instruction leaves undefined would be stuck there
 pub record IsInstruction (kinds : Kinds) (i : Option Instance) (to : List Lval) (args : List Expr)
     : Type 0 where
   pub lefts : All (IsLeft kinds) to
   pub operands : All (λ e. IsRead (sorts_of kinds) (Some e)) args
-  pub given :
-      (at : Span) (s : State) (ns : List ℕ) (vs : Results)
-      → IsOfKinds kinds s → results_given i to args at s ≡ went ns vs → AreGiven to vs
+  pub flags : All IsNoCell (take (flags_before i) to)
 
 -- ---- what statements become
 
@@ -105,7 +107,6 @@ module _ (kinds : Kinds) where
         → ArraysOp (assign to op e c at)
         (assign (map left_with_scalars to) op (with_scalars e) (option_map with_scalars c) at ∷ [])
         (numbers_left (assign_mask (sorts_of kinds) to op e c) ∷ [])
-
     instructs :
         {to : List Lval} {n : List ℕ} {args : List Expr} {at : Span}
         → IsInstruction kinds (spelled n) to args

@@ -1,6 +1,6 @@
 -- What stays where cells are scalars: values and states; and of the leaked numbers those that are
 -- left.
-use Rattle.std.specs.Prelude.{◌≡◌, List, length, Option, true}
+use Rattle.std.specs.Prelude.{◌≡◌, length, Option, true}
 use Rattle.jz_tree.specs.Size.{Size}
 use Rattle.jz_tree.specs.declared.expr.Expr.{Expr}
 use Rattle.jz_runs.specs.Trees.{done}

@@ -1,12 +1,11 @@
 -- An expression whose inline parts are their values has the value and the numbers that it had.
-use Rattle.std.proofs.Common.{◌≡◌, ℕ, List, [], ◌∷◌, Option, Some, None, Bool, true, false, refl, ap, sym, ◌∙◌, subst}
-use Rattle.std.specs.Prelude.{ℤ, ◌&&◌, not, option_map, is_none, is_some, if◌then◌else◌}
+use Rattle.std.proofs.Common.{◌≡◌, [], Option, Some, None, Bool, true, false, refl, ap, sym, ◌∙◌, subst}
+use Rattle.std.specs.Prelude.{◌&&◌, not, is_none, is_some, if◌then◌else◌}
 use Rattle.std.specs.Option.{option_or}
 use Rattle.std.proofs.lemmas.Bool.{and_parts}
 use Rattle.jz_tree.specs.Span.{Span}
 use Rattle.jz_tree.specs.Size.{Size}
 use Rattle.jz_tree.specs.Size.TheVariants.{S64}
-use Rattle.jz_tree.specs.declared.expr.BinOp.{BinOp}
 use Rattle.jz_tree.specs.declared.expr.Expr.{Expr}
 use Rattle.jz_tree.specs.declared.expr.Expr.TheVariants as expr
 use Rattle.jz_tree.specs.declared.expr.Ty.{Ty}
@@ -15,17 +14,17 @@ use Rattle.jz_tree.specs.declared.expr.Decl.{Decl}
 use Rattle.jz_tree.specs.declared.expr.Var.{Var}
 use Rattle.jz_tree.specs.declared.expr.Expr.TheOpen.{Expr-F, Access-F}
 use Rattle.jz_tree.specs.declared.expr.Expr.TheViews.{roll-Expr, roll-Access}
-use Rattle.jz_tree.specs.declared.expr.Expr.TheFolds.{para-Expr, para-Access, para-roll-Expr, para-roll-Access, ind-Expr, map-Expr, map-Access}
+use Rattle.jz_tree.specs.declared.expr.Expr.TheFolds.{para-roll-Expr, para-roll-Access, ind-Expr, map-Expr, map-Access}
 use Rattle.jz_type_names.specs.Kinds.{is_inline}
 use Rattle.jz_type_names.specs.Parts.{span_of}
 use Rattle.jz_integers.specs.Integers.{inline_value}
 use Rattle.jz_integers.specs.declared.constant.Constant.{Constant}
 use Rattle.jz_integers.specs.declared.constant.Constant.TheVariants as constant
-use Rattle.jz_runs.specs.Rules.{stuck, went}
+use Rattle.jz_runs.specs.Rules.{went}
 use Rattle.jz_meaning.specs.Attempts.{Evaluation, and_then, defined}
-use Rattle.jz_meaning.specs.States.{Value, boolean, integer, State}
-use Rattle.jz_meaning.specs.Operators.{of_constant, is_settled, binary, negated, inverted, cast}
-use Rattle.jz_meaning.specs.Values.{Ref, key_of, cell_key, index_at, cell_value, MemoryAccess, load_at, Meaning, right_wanted, left_wanted, with_right, run_binary, ref_of, access_of, own_size, evaluated}
+use Rattle.jz_meaning.specs.States.{Value, State}
+use Rattle.jz_meaning.specs.Operators.{is_settled, binary, negated, inverted, cast}
+use Rattle.jz_meaning.specs.Values.{index_at, cell_value, MemoryAccess, load_at, Meaning, right_wanted, left_wanted, with_right, run_binary, ref_of, access_of, own_size, evaluated}
 use Rattle.jz_unroll.specs.Values.{Integers, is_int, constant_expr, has_no_cell, values_step, access_step, with_values, access_with_values, is_known, known_step, has_values, access_has_values}
 use Rattle.jz_unroll.specs.ValueLaws.{HoldsKnown, DiffersInline}
 use Rattle.jz_unroll.proofs.Layers.{Layer, meaning_layer, meaning_is, access_is}
