@@ -23,10 +23,10 @@ taken : {is : List Numbers} {b : Change} {Y Y2 Z Z2 : Cases} → AreFirst is Y Y
 taken no_items h = record { mid = _; first = no_items; rest = h }
 taken (one_item {i} g) (gives_ops k h) = let r = taken g h in record { mid = r.mid; first = first_on (first_by i k) r.first; rest = r.rest }
 
-record Joined (a b : Change) (X Y2 Z Z2 : Cases) : Type 0 where
-  mid : Cases
-  made : Gives (join a b).change X Z mid
-  rest : Gives (join a b).rest Y2 mid Z2
+pub record Joined (a b : Change) (X Y2 Z Z2 : Cases) : Type 0 where
+  pub mid : Cases
+  pub made : Gives (join a b).change X Z mid
+  pub rest : Gives (join a b).rest Y2 mid Z2
 
 -- of what nothing is left
 at_end : {b : Change} {Z Z2 : Cases} → Gives b no_case Z Z2 → Z ≡ Z2
@@ -51,8 +51,8 @@ if_joined {i} g (gives_arm {z = true} k k1 k3) ca cb cr = let s = cr _ _ _ k3 in
 if_joined {i} g (gives_arm {z = false} k k1 k3) ca cb cr = let s = cr _ _ _ k3 in record { mid = s.mid; made = gives_arm (first_on g (first_by i k)) (whole (cb _ _ _ k1)) s.made; rest = s.rest }
 
 -- what stands behind the prologue of a `while`
-behind_prologue : {pre pre2 : List Numbers} {b : Change} {i : Numbers} {P1 Z Z1 Z2 : Cases} → AreFirst pre P1 no_case → Gives b P1 Z Z1 → AreFirst pre2 Z1 Z2 → AreFirst ((first_ops pre b).items ++ all_by i pre2) Z Z2
-behind_prologue {pre2} {i} {Z2} g h k = let t = taken g h in first_on t.first (subst (λ y. AreFirst (all_by i pre2) y Z2) (sym (at_end t.rest)) (first_by i k))
+behind_prologue : {pre pre2 : List Numbers} {b : Change} {P1 Z Z1 Z2 : Cases} (i : Numbers) → AreFirst pre P1 no_case → Gives b P1 Z Z1 → AreFirst pre2 Z1 Z2 → AreFirst ((first_ops pre b).items ++ all_by i pre2) Z Z2
+behind_prologue {pre2} {Z2} i g h k = let t = taken g h in first_on t.first (subst (λ y. AreFirst (all_by i pre2) y Z2) (sym (at_end t.rest)) (first_by i k))
 
 -- one change, and then each of these
 every : {tb : Change} {ts : Changes} {XB B Z Z2 : Cases} → Meets tb XB B no_case → GiveEach ts B Z Z2 → GiveEach (join_every (join tb) ts) XB Z Z2
@@ -74,10 +74,10 @@ mutual
   joined (gives_arm g a1 a) h = let t = taken g h in let r1 = joined a1 t.rest in let r = joined a r1.rest in record { mid = r.mid; made = gives_arm t.first r1.made r.made; rest = r.rest }
   joined (gives_while {i} a1 g a2 a) (gives_while k1 k k2 h) =
       let r1 = joined a1 k1 in let r = joined a h in
-      record { mid = r.mid; made = gives_while r1.made (behind_prologue {i = i} g r1.rest k) (whole (joined a2 k2)) r.made; rest = r.rest }
+      record { mid = r.mid; made = gives_while r1.made (behind_prologue i g r1.rest k) (whole (joined a2 k2)) r.made; rest = r.rest }
   joined (gives_while {i} a1 g a2 a) (gives_once k1 k h) =
       let r1 = joined a1 k1 in let r = joined a h in
-      record { mid = r.mid; made = gives_once r1.made (behind_prologue {i = i} g r1.rest k) r.made; rest = r.rest }
+      record { mid = r.mid; made = gives_once r1.made (behind_prologue i g r1.rest k) r.made; rest = r.rest }
   joined (gives_once a1 g a) h =
       let r1 = joined a1 h in let t = taken g r1.rest in let r = joined a t.rest in record { mid = r.mid; made = gives_once r1.made t.first r.made; rest = r.rest }
   joined (gives_for a1 a) (gives_for k h) = let r = joined a h in record { mid = r.mid; made = gives_for (whole (joined a1 k)) r.made; rest = r.rest }

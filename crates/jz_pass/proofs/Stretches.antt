@@ -61,15 +61,15 @@ module _ {O T F C S W : Type 0} (N : Parts O T F C S W) where
   all_there {all} (do_one {i} {is} h d more) = All-cons (HasThese all) i is h (all_there more)
 
   -- operations of which one is stuck, or the test behind them, of an `if` or of a `while` whose prologue goes so far
-  pub test_stops : {w : W} {os : List O} {p : T} {a b r : Tree O T F C} {s : S} {n : ℕ} → TestFails N w os p s → Goes N (in_turn os (choose p a b r)) n s (Stuck w)
-  test_stops (fails_at_test q) = chose_not q
-  test_stops (fails_before d) = did_not d
-  test_stops (fails_behind d f) = did d (test_stops f)
+  pub test_stops : {w : W} {os : List O} {p : T} {s : S} {n : ℕ} (a b r : Tree O T F C) → TestFails N w os p s → Goes N (in_turn os (choose p a b r)) n s (Stuck w)
+  test_stops a b r (fails_at_test q) = chose_not q
+  test_stops a b r (fails_before d) = did_not d
+  test_stops a b r (fails_behind d f) = did d (test_stops a b r f)
 
   pub loop_stops : {w : W} {os : List O} {p : T} {q b : Tree O T F C} {s s1 : S} {n m : ℕ} (A : Leak → Leak) → TestFails N w os p s1 → ((v : Outcome S W Leak) → Goes N (in_turn os done) m s1 v → Goes N q n s (after A v)) → Loops N q p b n s (Stuck w)
-  loop_stops {m} {s1} A (fails_at_test q) go = tested_not (go (End s1 m over) finished) q
+  loop_stops {s1} {m} A (fails_at_test q) go = tested_not (go (End s1 m over) finished) q
   loop_stops {w} A (fails_before d) go = prologue_stuck (go (Stuck w) (did_not d))
-  loop_stops {n} {s} {q} A (fails_behind {ns} d f) go = loop_stops (λ l. A (ran ns l)) f (λ v run. subst (Goes N q n s) (after_twice A (ran ns) v) (go (after (ran ns) v) (did d run)))
+  loop_stops {q} {s} {n} A (fails_behind {ns} d f) go = loop_stops (λ l. A (ran ns l)) f (λ v run. subst (Goes N q n s) (after_twice A (ran ns) v) (go (after (ran ns) v) (did d run)))
 
   pub quiet_leads : (o : O) {n : ℕ} {s : S} → Leads (quiet o) n s (λ l. l) n (N.quiets o s)
   quiet_leads o {n} {s} rest w run = subst (Goes N (quiet o rest) n s) (sym (after_none w)) (quieted run)

@@ -88,31 +88,31 @@ module _ {O T F C S W E O2 T2 F2 C2 U W2 : Type 0} (M : Parts O T F C S W) (N : 
   same_values {ns} {is} {js} f e s t x a q = let b : went ns js ≡ went [] is = sym q ∙ L.values_so f e is s t x a in cc
 
   -- behind the prologue of a loop stand the operations of its test
-  behind_ops : {q : Made} {os : List O2} {is : List Numbers} {n m : ℕ} {t t1 t2 : U} {tq : Change} {ns : List ℕ} (l : Leak) → ((v : Outcome U W2 Leak) → Goes N (in_turn os done) m t1 v → Goes N q n t (after (map_before l tq) v)) → DoAll N ns os is t1 t2 →
+  behind_ops : {q : Made} {os : List O2} {is : List Numbers} {n m : ℕ} {t t1 t2 : U} {ns : List ℕ} (tq : Change) (l : Leak) → ((v : Outcome U W2 Leak) → Goes N (in_turn os done) m t1 v → Goes N q n t (after (map_before l tq) v)) → DoAll N ns os is t1 t2 →
       Goes N q n t (End t2 m (map_before l tq (operations is ns over)))
-  behind_ops {m} {t2} {is} {ns} l go d = go (End t2 m (operations is ns over)) (ops_lead N d done (End t2 m over) finished)
+  behind_ops {is} {m} {t2} {ns} tq l go d = go (End t2 m (operations is ns over)) (ops_lead N d done (End t2 m over) finished)
 
   -- an `if` that stays one, by its arm: that went through, is cut, is stuck
-  if_through : {os : List O2} {is : List Numbers} {p2 : T2} {i : Numbers} {a2 b2 u rest : Made} {n m : ℕ} {t t1 : U} {ta tb k : Change} {ns : List ℕ} {l : Leak} {P Q : S → U → Type 0} {x : S} {w : Outcome S W Leak} (z : Bool) →
+  if_through : {os : List O2} {is : List Numbers} {p2 : T2} {i : Numbers} {rest : Made} {n m : ℕ} {t t1 : U} {ta tb k : Change} {ns : List ℕ} {l : Leak} {P Q : S → U → Type 0} {x : S} {w : Outcome S W Leak} (z : Bool) (a2 b2 u : Made) →
       DoAll N ns os is t t1 → HasThese ns i → N.tests p2 t1 ≡ went (numbers_in i ns) z → Does done (if z then a2 else b2) n (N.settled p2 t1) (if z then ta else tb) P (End x m l) →
       ((t2 : U) → P x t2 → Does rest u m t2 k Q w) → Does rest (in_turn os (choose p2 a2 b2 u)) n t (stays_if is i ta tb k) Q (after (chose ns z l) w)
-  if_through {os} {is} {p2} {i} {a2} {b2} {u} {n} {t} {ta} {tb} {ns} {l} z d these test j h =
+  if_through {os} {is} {p2} {i} {n} {t} {ta} {tb} {ns} {l} z a2 b2 u d these test j h =
       let e = ended N L.Exact L.Fails j in
       through N L.Exact L.Fails (λ next. operations is ns (chose (numbers_in i ns) z (map_before l (if z then ta else tb) over) next)) (chose ns z l)
       (λ v run. subst (Goes N (in_turn os (choose p2 a2 b2 u)) n t) (after_twice (operations is ns) (chose (numbers_in i ns) z (map_before l (if z then ta else tb) over)) v) (ops_lead N d (choose p2 a2 b2 u) _ (chosen test (e.on _ finished) run)))
       (λ m2 next. refl) (λ m2 f. fits_if (all_there N d) these e.whole e.fits f) (λ m2. refl) (h e.at e.relates)
 
-  if_cut : {os : List O2} {is : List Numbers} {p2 : T2} {i : Numbers} {a2 b2 u rest : Made} {n : ℕ} {t t1 : U} {ta tb k : Change} {ns : List ℕ} {l : Leak} {P Q : S → U → Type 0} (z : Bool) →
+  if_cut : {os : List O2} {is : List Numbers} {p2 : T2} {i : Numbers} {rest : Made} {n : ℕ} {t t1 : U} {ta tb k : Change} {ns : List ℕ} {l : Leak} {P Q : S → U → Type 0} (z : Bool) (a2 b2 u : Made) →
       DoAll N ns os is t t1 → HasThese ns i → N.tests p2 t1 ≡ went (numbers_in i ns) z → Does done (if z then a2 else b2) n (N.settled p2 t1) (if z then ta else tb) P (Cut l) →
       Does rest (in_turn os (choose p2 a2 b2 u)) n t (stays_if is i ta tb k) Q (Cut (chose_cut ns z l))
-  if_cut {os} {is} {p2} {i} {a2} {b2} {u} {ta} {tb} {ns} {l} z d these test j =
+  if_cut {is} {p2} {i} {ta} {tb} {ns} {l} z a2 b2 u d these test j =
       let e = cut_so N L.Exact L.Fails j in
       p_cut (fits_if_cut (all_there N d) these e.1 e.0) refl (ops_lead N d (choose p2 a2 b2 u) (Cut (chose_cut (numbers_in i ns) z (map_before l (if z then ta else tb) over))) (chosen_cut test e.2))
 
-  if_stuck : {os : List O2} {is : List Numbers} {p2 : T2} {i : Numbers} {a2 b2 u rest : Made} {n : ℕ} {t t1 : U} {ta tb k : Change} {ns : List ℕ} {o : W} {P Q : S → U → Type 0} (z : Bool) →
+  if_stuck : {os : List O2} {is : List Numbers} {p2 : T2} {i : Numbers} {rest : Made} {n : ℕ} {t t1 : U} {ta tb k : Change} {ns : List ℕ} {o : W} {P Q : S → U → Type 0} (z : Bool) (a2 b2 u : Made) →
       DoAll N ns os is t t1 → N.tests p2 t1 ≡ went (numbers_in i ns) z → Does done (if z then a2 else b2) n (N.settled p2 t1) (if z then ta else tb) P (Stuck o) →
       Does rest (in_turn os (choose p2 a2 b2 u)) n t (stays_if is i ta tb k) Q (Stuck o)
-  if_stuck {os} {p2} {a2} {b2} {u} z d test j = p_stuck (λ x. let y = stuck_so N L.Exact L.Fails j x in (y.0, y.1, ops_lead N d (choose p2 a2 b2 u) (Stuck y.0) (chosen_stuck test y.2)))
+  if_stuck {p2} z a2 b2 u d test j = p_stuck (λ x. let y = stuck_so N L.Exact L.Fails j x in (y.0, y.1, ops_lead N d (choose p2 a2 b2 u) (Stuck y.0) (chosen_stuck test y.2)))
 
   mutual
     pub passes : {b : Tree O T F C} {n : ℕ} {s : S} {w : Outcome S W Leak} → Goes M b n s w → {e e1 : E} {rest u : Made} {k : Change} → Unrolls K b e rest u e1 k → (t : U) → L.Relates e s t → Does rest u n t k (L.Relates e1) w
@@ -127,21 +127,21 @@ module _ {O T F C S W E O2 T2 F2 C2 U W2 : Type 0} (M : Parts O T F C S W) (N : 
         quietly n (p_end t1 p f wh run) = p_end t1 p f wh (λ w r. quieted (run w r))
         quietly n (p_cut f wh run) = p_cut f wh (quieted run)
         quietly n (p_stuck run) = p_stuck (λ x. let z = run x in (z.0, z.1, quieted z.2))
-    passes {s} (chosen {c = p} {ns} {z = true} {l} q g h) {e} (u_if {ea} {e0} {os} {is} {p2} {i = it} {ta} {tb} x ia ib la lb i) t a =
+    passes {s} (chosen {c = p} {ns} {z = true} {l} q g h) {e} (u_if {ea} {e0} {u} {a2} {b2} {os} {is} {p2} {i = it} {ta} {tb} x ia ib la lb i) t a =
         let y = L.test_went p e os is p2 it s t ns true x a q in
-        if_through true y.1 y.2 y.3 (passes g ia (N.settled p2 y.0) y.4) (λ t2 a2. passes h i t2 (L.less_so e0 ea _ t2 la a2))
-    passes {s} (chosen {c = p} {ns} {z = false} {l} q g h) {e} (u_if {eb} {e0} {os} {is} {p2} {i = it} {ta} {tb} x ia ib la lb i) t a =
+        if_through true a2 b2 u y.1 y.2 y.3 (passes g ia (N.settled p2 y.0) y.4) (λ t2 r. passes h i t2 (L.less_so e0 ea _ t2 la r))
+    passes {s} (chosen {c = p} {ns} {z = false} {l} q g h) {e} (u_if {eb} {e0} {u} {a2} {b2} {os} {is} {p2} {i = it} {ta} {tb} x ia ib la lb i) t a =
         let y = L.test_went p e os is p2 it s t ns false x a q in
-        if_through false y.1 y.2 y.3 (passes g ib (N.settled p2 y.0) y.4) (λ t2 a2. passes h i t2 (L.less_so e0 eb _ t2 lb a2))
-    passes {s} (chosen_cut {c = p} {ns} {z = true} q g) {e} (u_if {os} {is} {p2} {i = it} x ia ib la lb i) t a =
-        let y = L.test_went p e os is p2 it s t ns true x a q in if_cut true y.1 y.2 y.3 (passes g ia (N.settled p2 y.0) y.4)
-    passes {s} (chosen_cut {c = p} {ns} {z = false} q g) {e} (u_if {os} {is} {p2} {i = it} x ia ib la lb i) t a =
-        let y = L.test_went p e os is p2 it s t ns false x a q in if_cut false y.1 y.2 y.3 (passes g ib (N.settled p2 y.0) y.4)
-    passes {s} (chosen_stuck {c = p} {ns} {z = true} q g) {e} (u_if {os} {is} {p2} {i = it} x ia ib la lb i) t a =
-        let y = L.test_went p e os is p2 it s t ns true x a q in if_stuck true y.1 y.3 (passes g ia (N.settled p2 y.0) y.4)
-    passes {s} (chosen_stuck {c = p} {ns} {z = false} q g) {e} (u_if {os} {is} {p2} {i = it} x ia ib la lb i) t a =
-        let y = L.test_went p e os is p2 it s t ns false x a q in if_stuck false y.1 y.3 (passes g ib (N.settled p2 y.0) y.4)
-    passes {s} (chose_not {c = p} {w} q) {e} (u_if {os} {is} {p2} {i = it} x ia ib la lb i) t a = p_stuck (λ d. let y = L.test_stuck p e os is p2 it s t w d x a q in (y.0, y.1, test_stops N y.2))
+        if_through false a2 b2 u y.1 y.2 y.3 (passes g ib (N.settled p2 y.0) y.4) (λ t2 r. passes h i t2 (L.less_so e0 eb _ t2 lb r))
+    passes {s} (chosen_cut {c = p} {ns} {z = true} q g) {e} (u_if {u} {a2} {b2} {os} {is} {p2} {i = it} x ia ib la lb i) t a =
+        let y = L.test_went p e os is p2 it s t ns true x a q in if_cut true a2 b2 u y.1 y.2 y.3 (passes g ia (N.settled p2 y.0) y.4)
+    passes {s} (chosen_cut {c = p} {ns} {z = false} q g) {e} (u_if {u} {a2} {b2} {os} {is} {p2} {i = it} x ia ib la lb i) t a =
+        let y = L.test_went p e os is p2 it s t ns false x a q in if_cut false a2 b2 u y.1 y.2 y.3 (passes g ib (N.settled p2 y.0) y.4)
+    passes {s} (chosen_stuck {c = p} {ns} {z = true} q g) {e} (u_if {u} {a2} {b2} {os} {is} {p2} {i = it} x ia ib la lb i) t a =
+        let y = L.test_went p e os is p2 it s t ns true x a q in if_stuck true a2 b2 u y.1 y.3 (passes g ia (N.settled p2 y.0) y.4)
+    passes {s} (chosen_stuck {c = p} {ns} {z = false} q g) {e} (u_if {u} {a2} {b2} {os} {is} {p2} {i = it} x ia ib la lb i) t a =
+        let y = L.test_went p e os is p2 it s t ns false x a q in if_stuck false a2 b2 u y.1 y.3 (passes g ib (N.settled p2 y.0) y.4)
+    passes {s} (chose_not {c = p} {w} q) {e} (u_if {u} {a2} {b2} {os} {is} {p2} {i = it} x ia ib la lb i) t a = p_stuck (λ d. let y = L.test_stuck p e os is p2 it s t w d x a q in (y.0, y.1, test_stops N _ _ _ y.2))
     passes {s} (chosen {c = p} {ns} {z = true} {l} q g h) {e} (u_arm {z = true} {ta} x ia i) t a =
         let j = ended N L.Exact L.Fails (passes g ia t (L.constant_so p e true s t x a).1) in through N L.Exact L.Fails (map_before l ta) (chose ns true l) j.on (λ m next. refl) (λ m f. fits_arm (none_there ns) j.whole j.fits f) (λ m. refl) (passes h i j.at j.relates)
     passes {s} (chosen {c = p} {ns} {z = false} {l} q g h) {e} (u_arm {z = false} {ta} x ia i) t a =
@@ -209,29 +209,29 @@ module _ {O T F C S W E O2 T2 F2 C2 U W2 : Type 0} (M : Parts O T F C S W) (N : 
     loops {p} (tested_not {s1} {l} {w} g q) {e} {os} {is} {p2} {it} {tq} x iq ib lb t a =
         let j = ended N L.Exact L.Fails (passes g iq t a) in
         l_stuck (λ d. let y = L.loop_test_stuck p e os is p2 it s1 j.at w d x j.relates q in (y.0, y.1, loop_stops N (map_before l tq) y.2 j.on))
-    loops {p} (leaves_loop {s1} {ns} {l} g q) {e} {os} {is} {p2} {it} x iq ib lb t a =
+    loops {p} (leaves_loop {s1} {ns} {l} g q) {e} {os} {is} {p2} {it} {tq} x iq ib lb t a =
         let j = ended N L.Exact L.Fails (passes g iq t a) in
         let y = L.loop_test_went p e os is p2 it s1 j.at ns false x j.relates q in
-        l_end (N.settled p2 y.0) y.4 (turns_left (all_there N y.1) y.2 j.whole j.fits) refl (leaves_loop (behind_ops l j.on y.1) y.3)
-    loops {p} (no_turn {s1} {ns} {l} g q) {e} {os} {is} {p2} {it} x iq ib lb t a =
+        l_end (N.settled p2 y.0) y.4 (turns_left (all_there N y.1) y.2 j.whole j.fits) refl (leaves_loop (behind_ops tq l j.on y.1) y.3)
+    loops {p} (no_turn {s1} {ns} {l} g q) {e} {os} {is} {p2} {it} {tq} x iq ib lb t a =
         let j = ended N L.Exact L.Fails (passes g iq t a) in
         let y = L.loop_test_went p e os is p2 it s1 j.at ns true x j.relates q in
-        l_cut (turns_wanted (all_there N y.1) y.2 j.whole j.fits) refl (no_turn (behind_ops l j.on y.1) y.3)
-    loops {p} (in_body {s1} {ns} {l} g q h) {e} {os} {is} {p2} {it} x iq ib lb t a =
+        l_cut (turns_wanted (all_there N y.1) y.2 j.whole j.fits) refl (no_turn (behind_ops tq l j.on y.1) y.3)
+    loops {p} (in_body {s1} {ns} {l} g q h) {e} {os} {is} {p2} {it} {tq} x iq ib lb t a =
         let j = ended N L.Exact L.Fails (passes g iq t a) in
         let y = L.loop_test_went p e os is p2 it s1 j.at ns true x j.relates q in
         let k = cut_so N L.Exact L.Fails (passes h ib (N.settled p2 y.0) y.4) in
-        l_cut (turns_body_cut (all_there N y.1) y.2 j.whole j.fits k.1 k.0) refl (in_body (behind_ops l j.on y.1) y.3 k.2)
-    loops {p} (body_stuck {s1} {ns} {l} g q h) {e} {os} {is} {p2} {it} x iq ib lb t a =
+        l_cut (turns_body_cut (all_there N y.1) y.2 j.whole j.fits k.1 k.0) refl (in_body (behind_ops tq l j.on y.1) y.3 k.2)
+    loops {p} (body_stuck {s1} {ns} {l} g q h) {e} {os} {is} {p2} {it} {tq} x iq ib lb t a =
         let j = ended N L.Exact L.Fails (passes g iq t a) in
         let y = L.loop_test_went p e os is p2 it s1 j.at ns true x j.relates q in
         let k = stuck_so N L.Exact L.Fails (passes h ib (N.settled p2 y.0) y.4) in
-        l_stuck (λ d. let z = k d in (z.0, z.1, body_stuck (behind_ops l j.on y.1) y.3 z.2))
-    loops {p} (more_turns {s1} {s2} {ns} {l} {lb = l2} g q h k) {e0} {e} {eb} {os} {is} {p2} {it} x iq ib lb t a =
+        l_stuck (λ d. let z = k d in (z.0, z.1, body_stuck (behind_ops tq l j.on y.1) y.3 z.2))
+    loops {p} (more_turns {s1} {s2} {ns} {l} {lb = l2} g q h k) {e0} {e} {eb} {os} {is} {p2} {it} {tq} x iq ib lb t a =
         let j = ended N L.Exact L.Fails (passes g iq t a) in
         let y = L.loop_test_went p e os is p2 it s1 j.at ns true x j.relates q in
         let i = ended N L.Exact L.Fails (passes h ib (N.settled p2 y.0) y.4) in
-        let first = behind_ops l j.on y.1 in let second = i.on _ finished in
+        let first = behind_ops tq l j.on y.1 in let second = i.on _ finished in
         one_turn N ns l l2 (all_there N y.1) y.2 j.fits j.whole i.fits i.whole first y.3 second (λ v z r. r) (λ o s d. let z = s d in (z.0, z.1, more_turns first y.3 second z.2)) (loops k x iq ib lb i.at (L.less_so e0 eb s2 i.at lb i.relates))
 
     once_passes : {q b : Tree O T F C} {p : T} {n : ℕ} {s : S} {w : Outcome S W Turns} → Loops M q p b n s w → {e e1 : E} {mid v : Made} {tq : Change} → Unrolls K q e mid v e1 tq → K.Constant p e1 false → (t : U) → L.Relates e s t → OncePasses mid v n t tq (L.Relates e1) w

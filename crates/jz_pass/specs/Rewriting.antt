@@ -1,12 +1,14 @@
 -- A rule for one statement, and what it makes of whole trees.
 use Rattle.std.specs.Prelude.{◌≡◌, ◌<◌, ℕ, ◌+◌, Bool, List, [], ◌∷◌, map, Contains, ⊤}
 use Rattle.jz_runs.specs.Trees.{Tree, done, op, quiet, choose, loop}
+use Rattle.jz_runs.specs.Rules.{Parts}
 use Rattle.jz_change.specs.declared.change.Numbers.{Numbers}
 use Rattle.jz_change.specs.declared.change.Step.{Step}
 use Rattle.jz_change.specs.Changes.{Change}
 use Rattle.jz_change.specs.Views.{chain, then_step}
 use Rattle.jz_pass.specs.Operations.{in_turn}
-use Rattle.jz_pass.specs.Unrolling.{Knowing, Unrolls}
+use Rattle.jz_pass.specs.Laws.{Relating}
+use Rattle.jz_pass.specs.Unrolling.{Knowing, Unrolls, IsKnown, unrolled_to}
 
 -- ---- what a rule says
 
@@ -31,6 +33,12 @@ knowing_of R = record {
   set = λ f i e. e;
   restore = λ f e e1. e;
 }
+
+-- what stands for what by a rule
+abbrev pub by_rule :
+    {O T F C S W O2 T2 F2 C2 U W2 : Type 0} {M : Parts O T F C S W} {N : Parts O2 T2 F2 C2 U W2}
+    {R : Rewriting O T O2 T2} → IsKnown M N (knowing_of R) → Relating S U S U W W2
+by_rule L = unrolled_to L tt tt
 
 -- a tree before what follows: what it becomes together with that, and what it makes of a leak
 abbrev pub Rewrites :

@@ -6,6 +6,7 @@ use Rattle.jz_runs.specs.Rules.{Parts, stuck, went}
 use Rattle.jz_change.specs.declared.change.Numbers.{Numbers}
 use Rattle.jz_change.specs.Changes.{numbers_in, Change, ends, ops, stays_if, arm, stays_while, once, unrolled, Changes, none, more}
 use Rattle.jz_change.specs.Fitting.{HasThese}
+use Rattle.jz_pass.specs.Laws.{Relating}
 use Rattle.jz_pass.specs.Operations.{in_turn, DoAll, OneFails, TestFails}
 
 -- what parts become where E is known, and what is known behind them
@@ -155,3 +156,14 @@ pub record IsKnown {O T F C S W E O2 T2 F2 C2 U W2 : Type 0} (M : Parts O T F C 
       (f : F) (e e1 : E) (is : List ℤ) (s s1 : S) (t t1 : U) → K.Values f e is
       → Relates e s t → Relates e1 s1 t1
       → Relates (K.restore f e e1) (M.restores f s s1) t1
+
+-- what stands for what, where e is known before a body and e1 behind it
+abbrev pub unrolled_to :
+    {O T F C S W E O2 T2 F2 C2 U W2 : Type 0} {M : Parts O T F C S W} {N : Parts O2 T2 F2 C2 U W2}
+    {K : Knowing O T F E O2 T2} → IsKnown M N K → E → E → Relating S U S U W W2
+unrolled_to L e e1 = record {
+  Starts = L.Relates e;
+  Ends = L.Relates e1;
+  Fails = L.Fails;
+  Exact = L.Exact;
+}

@@ -5,16 +5,16 @@ ghost use Rattle.jz_leak.specs.RunLeaks.{Leak};
 ghost use Rattle.jz_runs.specs.Rules.{Outcome};
 ghost use Rattle.jz_pass.specs.Cases.{Cases};
 
-/// A language: its programs, and what their runs are.
+/// A language: its programs, and what their runs are. Of the types of inputs, of what ends give and
+/// of why runs are stuck it counts alone what contracts see of their values.
 pub trait Lang {
     type Program: Drop;
-
-    /// What a run begins with, what its end gives, and why one is stuck.
-    ghost Input: { Type 0 };
-
-    ghost Given: { Type 0 };
-
-    ghost Reason: { Type 0 };
+    /// What a run begins with.
+    type Input;
+    /// What the end of a run gives.
+    type Given;
+    /// Why a run is stuck.
+    type Reason;
 
     /// The programs that passes take, and give.
     ghost valid: { Self.Program → Type 0 };

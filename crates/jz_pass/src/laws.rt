@@ -8,7 +8,7 @@ ghost use Rattle.jz_pass.specs.Laws.{Carries, between_trees};
 ghost use Rattle.jz_pass.specs.Cases.{CallsHaveItems, HasItems, IsBetween, cases_of};
 ghost use Rattle.jz_pass.specs.Copying.{Copying, inlined, inlining};
 ghost use Rattle.jz_pass.specs.Keeping.{IsOf, Keeps};
-ghost use Rattle.jz_pass.specs.Unrolling.{Knowing, Unrolls, IsKnown};
+ghost use Rattle.jz_pass.specs.Unrolling.{Knowing, Unrolls, IsKnown, unrolled_to};
 
 /// Trees whose calls become copies of what they call, and what each part of them keeps.
 pub trait CopiedTrees {
@@ -98,13 +98,7 @@ pub fn unrolling_keeps_runs<U: UnrolledTrees>()
     ensures runs { (e e1 : U.Known) (b : Tree U.Operation U.Test U.Counter U.Call)
         (u : Tree U.NewOperation U.NewTest U.NewCounter U.NewCall) (k : model.Change)
         → Unrolls U.knowing b e done u e1 k
-        → Carries
-        (record {
-          Starts = U.known.Relates e;
-          Ends = U.known.Relates e1;
-          Fails = U.known.Fails;
-          Exact = U.known.Exact;
-        })
+        → Carries (unrolled_to U.known e e1)
         (λ s n. Goes U.parts b n s) (λ t n. Goes U.new_parts u n t) k }
     ensures cases { (e e1 : U.Known) (b : Tree U.Operation U.Test U.Counter U.Call)
         (u : Tree U.NewOperation U.NewTest U.NewCounter U.NewCall) (k : model.Change)

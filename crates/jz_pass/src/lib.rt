@@ -1,5 +1,5 @@
 //! Passes from language to language, each with its law: what the runs of a program say of the runs
-//! of what the pass makes of it. One pass after another; a rule for one statement as a pass.
+//! of what the pass makes of it. One pass after another; a rule for one statement, for whole trees.
 #![tactic(auto)]
 
 mod form;
@@ -7,7 +7,6 @@ mod lang;
 mod laws;
 mod pass;
 mod rewrite;
-mod syntax;
 
 pub use form::Form;
 pub use jz_change::{Change, Numbers, Step};
@@ -16,4 +15,3 @@ pub use lang::Lang;
 pub use laws::{CopiedTrees, UnrolledTrees, inlining_keeps_runs, unrolling_keeps_runs};
 pub use pass::{Pass, Passed, Then};
 pub use rewrite::{Choice, Local, Operations, Rewrite};
-pub use syntax::{Body, Syntax};

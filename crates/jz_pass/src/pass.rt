@@ -3,6 +3,7 @@
 ghost use Rattle.std.specs.Prelude.{◌≡◌, IfOk, IfErr, ◌⊎◌};
 ghost use Rattle.jz_data.specs.Failures.{IfRefused};
 ghost use Rattle.jz_change.specs.Changes as model;
+ghost use Rattle.jz_change.specs.Composing.{compose_of};
 ghost use Rattle.jz_change.specs.Views.{change_of};
 ghost use Rattle.jz_pass.specs.Laws.{Relating, Carries, both};
 ghost use Rattle.jz_pass.specs.Cases.{IsBetween};
@@ -32,6 +33,9 @@ pub trait Pass {
     ghost relates: { Self → Relating Self.Src.Input Self.Dst.Input Self.Src.Given Self.Dst.Given
         Self.Src.Reason Self.Dst.Reason };
 
+    /// What is made of a program, with its change.
+    ghost makes: { Self → Self.Src.Program → Self.Dst.Program → model.Change → Type 0 };
+
     /// The programs that are refused, with the cause.
     ghost refuses: { Self → Self.Src.Program → Self.Cause → Type 0 };
 
@@ -41,6 +45,7 @@ pub trait Pass {
         p: &<Self::Src as Lang>::Program,
     ) -> Result<Passed<<Self::Dst as Lang>::Program>, Failure<Self::Cause>>
         requires { Self.Src.valid p.now }
+        ensures made { IfOk result (λ r. makes self.now p.now r.program (change_of r.change)) }
         ensures valid { IfOk result (λ r. Self.Dst.valid r.program) }
         ensures law { IfOk result (λ r. Carries (relates self.now) (Self.Src.runs p.now)
             (Self.Dst.runs r.program) (change_of r.change)) }
@@ -49,7 +54,8 @@ pub trait Pass {
         ensures refused { IfErr result (λ e. IfRefused e (refuses self.now p.now)) };
 }
 
-/// One pass after another.
+/// One pass after another. Refused is what the first refuses, or what the second refuses of what the
+/// first makes.
 #[derive(Drop)]
 pub struct Then<P, Q> {
     first: P,
@@ -74,10 +80,11 @@ impl<P: Pass, Q: Pass<Src = P::Dst, Cause = P::Cause>> Pass for Then<P, Q> {
 
     ghost relates = { λ it. both (P.relates it.first) (Q.relates it.second) };
 
+    ghost makes = { λ it p q k. (m : _) × (a : model.Change) × (b : model.Change)
+        × P.makes it.first p m a × Q.makes it.second m q b × (k ≡ compose_of a b) };
+
     ghost refuses = { λ it p e. P.refuses it.first p e
-        ⊎ ((q : _) × (k : model.Change) × P.Dst.valid q
-        × Carries (P.relates it.first) (P.Src.runs p) (P.Dst.runs q) k
-        × Q.refuses it.second q e) };
+        ⊎ ((m : _) × (a : model.Change) × P.makes it.first p m a × Q.refuses it.second m e) };
 
     fn run(
         &self,

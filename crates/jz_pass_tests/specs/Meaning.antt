@@ -4,13 +4,14 @@ use Rattle.std.proofs.Common.{refl, sym, ap, ◌∙◌, subst, arith}
 use Rattle.jz_runs.specs.Trees.{Tree, done, op, choose, loop}
 use Rattle.jz_runs.specs.Rules.{Parts, went}
 use Rattle.jz_pass.specs.Rewriting.{Shape, one, either, turns, all_before, HasTree, sizes, IsAbove}
+use Rattle.jz_pass_tests.specs.declared.small.Unknown.{Unknown}
 use Rattle.jz_pass_tests.specs.declared.small.Small.{Small}
 use Rattle.jz_pass_tests.specs.declared.small.Small.TheOpen.{Small-F}
 use Rattle.jz_pass_tests.specs.declared.small.Small.TheViews.{out-Small, roll-out-Small}
 use Rattle.jz_pass_tests.specs.declared.small.Small.TheFolds.{fold-Small, fold-roll-Small, map-Small}
 
 -- the state is the number; adding leaks what is added, a test the number
-abbrev pub small : Parts ℕ ℕ ⊥ ⊥ ℕ ⊤
+abbrev pub small : Parts ℕ ℕ ⊥ ⊥ ℕ Unknown
 small = record {
   does = λ k s. went (k ∷ []) (s + k);
   quiets = λ k s. s;
@@ -60,6 +61,10 @@ layer_weight (Small-F.While q p b) = 1 + add_all q + add_all b
 -- how many statements stand in it, with itself
 abbrev pub weight : Small → ℕ
 weight = fold-Small _ layer_weight
+
+-- the tree of a list of statements
+abbrev pub tree_of : List Small → Block
+tree_of ss = all_before then_small ss done
 
 -- ---- that these go together
 

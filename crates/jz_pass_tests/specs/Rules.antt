@@ -14,8 +14,8 @@ pub data StaysTest : ℕ → List ℕ → List Numbers → ℕ → Numbers → T
 pub data InHalves : ℕ → List ℕ → List Numbers → Type 0 where
   in_halves :
       {k : ℕ}
-      → InHalves k (k / 2 ∷ k - k / 2 ∷ [])
-        (These (Fixed (k / 2) ∷ []) ∷ These (Fixed (k - k / 2) ∷ []) ∷ [])
+      → InHalves k ((k / 2) ∷ (k - k / 2) ∷ [])
+      (These (Fixed (k / 2) ∷ []) ∷ These (Fixed (k - k / 2) ∷ []) ∷ [])
 
 abbrev pub halving : Rewriting ℕ ℕ ℕ ℕ
 halving = record {

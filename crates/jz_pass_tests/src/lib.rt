@@ -8,7 +8,9 @@ mod small;
 
 pub use add_nothing::AddNothing;
 pub use halves::Halves;
-pub use small::{Small, SmallLanguage, Unknown};
+pub use small::{
+    Small, SmallLanguage, Unknown, first_of, form_of, no_operation, same_choice, second_of,
+};
 
 #[cfg(test)]
 mod pass_tests;

@@ -4,7 +4,7 @@ use crate::add_nothing::AddNothing;
 use crate::halves::Halves;
 use crate::small::Small;
 use jz_change::{Number, Step};
-use jz_pass::{Change, Failure, Numbers, Pass, Passed, Rewrite, Seq, Then};
+use jz_pass::{Change, Numbers, Pass, Passed, Seq, Then};
 use std::alloc::{AllocError, Global};
 use std::test::Fail;
 
@@ -93,12 +93,20 @@ fn statement_text(alloc: Global, s: &Small) -> Result<String, AllocError> {
         Small::If(bound, then_arm, else_arm) => {
             let then_text = statements_text(alloc, then_arm)?;
             let else_text = statements_text(alloc, else_arm)?;
-            format!(in alloc; "if {bound} {{{}}} {{{}}} ", then_text.as_str(), else_text.as_str())
+            format!(in alloc;
+                "if {bound} {{{}}} {{{}}} ",
+                then_text.as_str(),
+                else_text.as_str()
+            )
         }
         Small::While(prologue, bound, body) => {
             let prologue_text = statements_text(alloc, prologue)?;
             let body_text = statements_text(alloc, body)?;
-            format!(in alloc; "while {{{}}} {bound} {{{}}} ", prologue_text.as_str(), body_text.as_str())
+            format!(in alloc;
+                "while {{{}}} {bound} {{{}}} ",
+                prologue_text.as_str(),
+                body_text.as_str()
+            )
         }
     }
 }
@@ -186,7 +194,7 @@ fn halves_without_nothing(rt: HostRuntime) -> Result<(), Fail> {
     let alloc = rt.alloc();
     for row in ROWS.iter() {
         let program = program_of(alloc, row)?;
-        let passes = Then::new(Rewrite::new(Halves), Rewrite::new(AddNothing));
+        let passes = Then::new(Halves, AddNothing);
         match passes.run(alloc, &program) {
             Ok(Passed { program, change }) => {
                 assert_eq!(rt; statements_text(alloc, &program)?.as_str(), row.program);

@@ -1,10 +1,14 @@
 //! A small language: a number, to which statements add, and which tests compare.
 
-ghost use Rattle.std.specs.Prelude.{ℕ, IfOk, ⊤};
-ghost use Rattle.jz_pass_tests.specs.Meaning.{small, then_small, shape_of, weight, has_tree, is_above};
+ghost use Rattle.std.specs.Prelude.{◌≡◌, [], IfOk};
+ghost use Rattle.jz_runs.specs.Rules.{Goes};
+ghost use Rattle.jz_pass.specs.Cases.{cases_of};
+ghost use Rattle.jz_pass.specs.Rewriting.{first_part, second_part};
+ghost use Rattle.jz_pass.specs.InnerForms.{HasForm};
+ghost use Rattle.jz_pass_tests.specs.Meaning.{small, tree_of, shape_of};
 ghost use Rattle.jz_pass_tests.specs.Kept.{KeepsTest};
 
-use jz_pass::{Choice, Failure, Form, Numbers, Seq, Syntax};
+use jz_pass::{Choice, Form, Lang, Numbers, Operations, Seq};
 use std::alloc::{AllocError, Global};
 
 /// A statement.
@@ -27,48 +31,64 @@ pub struct SmallLanguage;
 #[derive(Drop)]
 pub struct Unknown;
 
-impl Syntax for SmallLanguage {
-    type Statement = Small;
+impl Lang for SmallLanguage {
+    type Program = Seq<Small>;
 
-    ghost Operation = { ℕ };
-    ghost Test = { ℕ };
-    ghost Counter = { ⊥ };
-    ghost Call = { ⊥ };
-    ghost State = { ℕ };
-    ghost Reason = { ⊤ };
+    type Input = u64;
 
-    ghost parts = { small };
-    ghost before = { then_small };
-    ghost shape = { shape_of };
-    ghost size = { weight };
+    type Given = u64;
 
-    fn form(s: &Small) -> Form {
-        match s {
-            Small::Add(_) => Form::Operation,
-            Small::If(_, _, _) => Form::If,
-            Small::While(_, _, _) => Form::While,
-        }
+    type Reason = Unknown;
+
+    ghost valid = { λ p. Unit {0} };
+
+    ghost cases = { λ p. cases_of (tree_of p) };
+
+    ghost runs = { λ p s n o. Goes small (tree_of p) n s o };
+}
+
+/// The kind of a statement.
+pub fn form_of(s: &Small) -> Form
+    ensures { HasForm (shape_of s.now) result }
+{
+    match s {
+        Small::Add(_) => Form::Operation,
+        Small::If(_, _, _) => Form::If,
+        Small::While(_, _, _) => Form::While,
     }
+}
 
-    fn first<'a>(s: &'a Small) -> &'a [Small] {
-        match s {
-            Small::Add(_) => &[],
-            Small::If(_, then_arm, _) => then_arm.as_slice(),
-            Small::While(prologue, _, _) => prologue.as_slice(),
-        }
+/// The first arm, or the prologue.
+pub fn first_of<'a>(s: &'a Small) -> &'a [Small]
+    ensures { result.now ≡ first_part (shape_of s.now) }
+{
+    match s {
+        Small::Add(_) => &[],
+        Small::If(_, then_arm, _) => then_arm.as_slice(),
+        Small::While(prologue, _, _) => prologue.as_slice(),
     }
+}
 
-    fn second<'a>(s: &'a Small) -> &'a [Small] {
-        match s {
-            Small::Add(_) => &[],
-            Small::If(_, _, else_arm) => else_arm.as_slice(),
-            Small::While(_, _, body) => body.as_slice(),
-        }
+/// The other arm, or the body.
+pub fn second_of<'a>(s: &'a Small) -> &'a [Small]
+    ensures { result.now ≡ second_part (shape_of s.now) }
+{
+    match s {
+        Small::Add(_) => &[],
+        Small::If(_, _, else_arm) => else_arm.as_slice(),
+        Small::While(_, _, body) => body.as_slice(),
     }
+}
 
-    ghost has_tree = { has_tree };
-
-    ghost is_above = { is_above };
+/// No statement.
+pub fn no_operation(alloc: Global) -> Operations<Small>
+    ensures statements { result.statements ≡ [] }
+    ensures items { result.items ≡ [] }
+{
+    Operations {
+        statements: Seq::new(alloc),
+        items: Seq::new(alloc),
+    }
 }
 
 /// Tests stay as they are.

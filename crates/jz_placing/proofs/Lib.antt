@@ -1,0 +1,6 @@
+pub mod Runs
+pub mod Holding
+pub mod Numbers
+pub mod Machine
+pub mod Law
+pub mod Allocated
