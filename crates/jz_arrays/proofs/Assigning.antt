@@ -20,14 +20,15 @@ use Rattle.jz_meaning.specs.Attempts.{Evaluation, stuck_at, numbers_first, and_t
 use Rattle.jz_meaning.specs.States.{Value, word, boolean, integer, State}
 use Rattle.jz_meaning.specs.Operators.{word_at, word_of}
 use Rattle.jz_tree.specs.Memory.{Memory}
+use Rattle.jz_tree.specs.Operators.{divides, carries}
 use Rattle.jz_tree.specs.declared.intrinsic.Instance.{Instance}
 use Rattle.jz_meaning.specs.Intrinsics.{intrinsic_size, sized_results}
 use Rattle.jz_meaning.specs.Values.{MemoryAccess, store_word, store_at, access_of, size_of, Ref, key_of, cell_key, in_cells, index_at, ref_of, own_size, evaluated}
 use Rattle.jz_tree.specs.declared.stmt.Lval.{Lval}
 use Rattle.jz_tree.specs.declared.stmt.Lval.TheVariants as lval
 use Rattle.jz_tree.specs.Words.{residue}
-use Rattle.jz_meaning.specs.Assignments.{word_value, held_or_unset, with_value, in_cell, written, all_written, results_of, as_expr, left_span, left_size, left_sizes, last_left, whole_of, updated_layer, updated, old_value, chosen, conditioned, assigned_whole, assigned, is_bool, is_flag_layer, is_flag, carries, Results, two_results, word_in, bool_in, truth, with_two, with_three, two_of}
-use Rattle.jz_meaning.specs.Shapes.{Sort, Sorts, HoldsSorts, Shape, shape_of, divides, own_count}
+use Rattle.jz_meaning.specs.Assignments.{word_value, held_or_unset, with_value, in_cell, written, all_written, results_of, as_expr, left_span, left_size, left_sizes, last_left, whole_of, updated_layer, updated, old_value, chosen, conditioned, assigned_whole, assigned, is_bool, is_flag_layer, is_flag, Results, two_results, word_in, bool_in, truth, with_two, with_three, two_of}
+use Rattle.jz_meaning.specs.Shapes.{Sort, Sorts, HoldsSorts, Shape, shape_of, own_count}
 use Rattle.jz_unroll.proofs.Layers.{Layer}
 use Rattle.jz_arrays.specs.Cells.{is_left_in_range, scalar, cell_or, is_scalar, size_at, index_in, with_scalars, Mask, numbers_kept, all_kept, mask_of, is_below, is_in_range, access_mask, left_or, left_with_scalars, left_mask, lefts_mask, access_with_scalars, mask_if, old_mask, condition_mask, assign_mask}
 use Rattle.jz_arrays.specs.Arrays.{IsRead, FixedLeft, whole_old}
@@ -177,7 +178,6 @@ truth_none at (word s a) ns b e = absurd cc
 truth_none at (integer i) ns b e = absurd cc
 
 module _ (sorts : Sorts) (s : State) (holds : HoldsSorts sorts s.store) where
-
   pub word_thin : (at : Span) (z : Size) (e : Expr) → is_in_range e ≡ true → (shape_of sorts e).fixed ≡ true → IsThinned (mask_of sorts e) (word_in at z e s) (word_in at z (with_scalars e) s)
   word_thin at z e ok f = thin_plain (mask_of sorts e) (evaluated e (Some z) s) (evaluated (with_scalars e) (Some z) s) (word_at at z) (λ v ns b q. of_defined at (word_of z v) ns b q) (scalars_so sorts s holds e (Some z) ok f)
 
@@ -213,21 +213,29 @@ module _ (sorts : Sorts) (s : State) (holds : HoldsSorts sorts s.store) where
     where
       own1 : ℕ
       own1 = own_count p (shape_of sorts a).sort (shape_of sorts b).sort
+
       own : ℕ
       own = own_count op k (shape_of sorts c).sort
+
       M : Mask
       M = (mask_of sorts a ++ (mask_of sorts b ++ all_kept own1)) ++ (mask_of sorts c ++ all_kept own)
+
       both : (is_in_range a ≡ true) × (is_in_range b ≡ true)
       both = and_parts (is_in_range a) _ ox
+
       F : Expr → Expr → Expr → Evaluation Results
       F u v w = and_then (word_in at z u s) (λ x. and_then (word_in at z v s) (λ y. and_then (bool_in at w s) (two_results op at z x y)))
+
       plain : carries op p ≡ true → M ≡ mask_of sorts a ++ (mask_of sorts b ++ (mask_of sorts c ++ all_kept own))
       plain q = ap (λ n. (mask_of sorts a ++ (mask_of sorts b ++ all_kept n)) ++ (mask_of sorts c ++ all_kept own)) (own_none p (shape_of sorts a).sort (shape_of sorts b).sort (carries_plain op p q))
           ∙ ap (λ n. (mask_of sorts a ++ n) ++ (mask_of sorts c ++ all_kept own)) (append-nil (mask_of sorts b)) ∙ append_assoc (mask_of sorts a) (mask_of sorts b) (mask_of sorts c ++ all_kept own)
+
       fa : (shape_of sorts a).fixed ≡ true
       fa = (and_parts (shape_of sorts a).fixed _ fx).0
+
       fb : (shape_of sorts b).fixed ≡ true
       fb = (and_parts (shape_of sorts b).fixed _ (and_parts (shape_of sorts a).fixed _ fx).1).0
+
       by_test : (t : Bool) → carries op p ≡ t → IsThinned M (if carries op p then F a b c else stuck_at at Init) (if carries op p then F (with_scalars a) (with_scalars b) (with_scalars c) else stuck_at at Init)
       by_test false q = subst (λ t. IsThinned M (if t then F a b c else stuck_at at Init) (if t then F (with_scalars a) (with_scalars b) (with_scalars c) else stuck_at at Init)) (sym q) refl
       by_test true q =
@@ -260,12 +268,16 @@ module _ (sorts : Sorts) (s : State) (holds : HoldsSorts sorts s.store) where
     where
       M : Mask
       M = mask_of sorts a ++ (mask_of sorts b ++ all_kept (own_count op (shape_of sorts a).sort (shape_of sorts b).sort))
+
       ok2 : (is_in_range a ≡ true) × (is_in_range b ≡ true)
       ok2 = and_parts (is_in_range a) _ ok
+
       fa : (shape_of sorts a).fixed ≡ true
       fa = (and_parts (shape_of sorts a).fixed _ f).0
+
       fb : (shape_of sorts b).fixed ≡ true
       fb = (and_parts (shape_of sorts b).fixed _ (and_parts (shape_of sorts a).fixed _ f).1).0
+
       three : IsThinned M (with_three op (out-Expr a) a b inner z s) (with_three op (out-Expr (with_scalars a)) (with_scalars a) (with_scalars b) inner z s)
       three =
           let m : mask_of sorts a ≡ mask_layer sorts (out-Expr a) = ap (mask_of sorts) (sym (roll-out-Expr a)) ∙ mask_is sorts (out-Expr a) in
@@ -274,6 +286,7 @@ module _ (sorts : Sorts) (s : State) (holds : HoldsSorts sorts s.store) where
           subst (λ y. IsThinned M (with_three op (out-Expr a) a b inner z s) (with_three op y (with_scalars a) (with_scalars b) inner z s)) (sym (out_is a))
           (subst (λ y. IsThinned (y ++ (mask_of sorts b ++ all_kept (own_count op (shape_of sorts a).sort (shape_of sorts b).sort))) (with_three op (out-Expr a) a b inner z s) (with_three op (out-Expr (rolled (out-Expr a))) (with_scalars a) (with_scalars b) inner z s)) (sym m)
           (with_three_thin op (out-Expr a) a b inner z r h ok2.1 fb (shape_of sorts a).sort))
+
       by_flag : (t : Bool) → IsThinned M (if t then with_three op (out-Expr a) a b inner z s else with_two op a b inner z s) (if t then with_three op (out-Expr (with_scalars a)) (with_scalars a) (with_scalars b) inner z s else with_two op (with_scalars a) (with_scalars b) inner z s)
       by_flag true = three
       by_flag false = with_two_thin op a b inner z ok2.0 ok2.1 fa fb
@@ -306,19 +319,21 @@ module _ (sorts : Sorts) (s : State) (holds : HoldsSorts sorts s.store) where
       let b = below_is r.kind n below in
       let same : z ≡ b.0 = kind_size v z b.0 b.1 sz b.2 in
       let cell : written w (lval.Cell v i) (Some u) s ≡ numbers_first (n ∷ []) (and_then (word_value r.span z u) (λ h. went [] (with_value s (cell_key r n) (Some h))))
-          = ap (λ g. and_then g (λ j. and_then (index_at r j) (λ m. in_cell r m (size_of r.kind) (Some u) s))) (constant_index i n (out-Expr i) (roll-out-Expr i) ix (Some S64) s) ∙ none_first _
-          ∙ ap (λ g. and_then g (λ m. in_cell r m (size_of r.kind) (Some u) s)) (index_is r b.0 b.1 n b.2 b.3 b.4)
-          ∙ ap (λ k. numbers_first (n ∷ []) (in_cell r n (size_of k) (Some u) s)) b.2 ∙ ap (λ k. numbers_first (n ∷ []) (in_cell r n (Some k) (Some u) s)) (sym same) in
+      = ap (λ g. and_then g (λ j. and_then (index_at r j) (λ m. in_cell r m (size_of r.kind) (Some u) s))) (constant_index i n (out-Expr i) (roll-out-Expr i) ix (Some S64) s) ∙ none_first _
+      ∙ ap (λ g. and_then g (λ m. in_cell r m (size_of r.kind) (Some u) s)) (index_is r b.0 b.1 n b.2 b.3 b.4)
+      ∙ ap (λ k. numbers_first (n ∷ []) (in_cell r n (size_of k) (Some u) s)) b.2 ∙ ap (λ k. numbers_first (n ∷ []) (in_cell r n (Some k) (Some u) s)) (sym same) in
       let var : written w (lval.Var (scalar v z n)) (Some u) s ≡ and_then (word_value r.span z u) (λ h. went [] (with_value s (cell_key r n) (Some h)))
-          = ap (λ (p : Ref). and_then (held_or_unset p.span p.kind (Some u)) (λ h. went [] (with_value s (key_of p) h))) (scalar_is v z n) ∙ held_twice r z n (word_value r.span z u) in
+      = ap (λ (p : Ref). and_then (held_or_unset p.span p.kind (Some u)) (λ h. went [] (with_value s (key_of p) h))) (scalar_is v z n) ∙ held_twice r z n (word_value r.span z u) in
       subst (λ g. IsThinned (false ∷ []) g (written w (lval.Var (scalar v z n)) (Some u) s)) (sym cell) (subst (λ g. IsThinned (false ∷ []) (numbers_first (n ∷ []) (and_then (word_value r.span z u) (λ h. went [] (with_value s (cell_key r n) (Some h))))) g) (sym var) (dropped (word_of z u)))
     where
       held_twice : (r : Ref) (z : Size) (n : ℕ) (g : Evaluation Value) → and_then (and_then g (λ h. went [] (Some h))) (λ h. went [] (with_value s (cell_key r n) h)) ≡ and_then g (λ h. went [] (with_value s (cell_key r n) (Some h)))
       held_twice r z n g = then_then g (λ h. went [] (Some h)) (λ h. went [] (with_value s (cell_key r n) h))
+
       index_is : (r : Ref) (z : Size) (m n : ℕ) → r.kind ≡ kind.Array z m → nat_lt n m ≡ true → n < 2 ^ 64 → index_at r (integer (pos n)) ≡ went (n ∷ []) n
       index_is r z m n k lt small =
           let e : residue S64 (pos n) ≡ n = omega (arith, small) in
           ap (λ i. and_then (went [] i) (in_cells r.span r.kind)) e ∙ ap (λ c. and_then (went [] n) (in_cells r.span c)) k ∙ ap (λ b. numbers_first [] (if b then went (n ∷ []) n else stuck_at r.span Bounds)) lt
+
       dropped : (o : Option ℕ) → IsThinned (false ∷ []) (numbers_first (n ∷ []) (and_then (and_then (defined (ref_of v).span o) (λ a. went [] (word z a))) (λ h. went [] (with_value s (cell_key (ref_of v) n) (Some h))))) (and_then (and_then (defined (ref_of v).span o) (λ a. went [] (word z a))) (λ h. went [] (with_value s (cell_key (ref_of v) n) (Some h))))
       dropped None = refl
       dropped (Some a) = (refl, refl)
@@ -330,6 +345,7 @@ never_stored p z n m ns m1 e = by_address (word_of S64 n) e
     by_size : (y : Option Size) (a : ℕ) (ms : List ℕ) → numbers_first ms (store_word p.span p.unaligned y a None m) ≡ went ns m1 → ⊥
     by_size None a ms q = absurd cc
     by_size (Some y) a ms q = absurd cc
+
     by_address : (o : Option ℕ) → and_then (defined p.span o) (λ a. store_word p.span p.unaligned (option_or p.size z) a None m) ≡ went ns m1 → ⊥
     by_address None q = absurd cc
     by_address (Some a) q = by_size (option_or p.size z) a [] q
@@ -379,12 +395,14 @@ module _ (sorts : Sorts) where
     where
       r : Ref
       r = ref_of v
+
       stays : is_in_range i ≡ true → IsThinned (mask_of sorts i ++ true ∷ []) (written w (lval.Cell v i) (Some u) s) (written w (lval.Cell v (with_scalars i)) (Some u) s)
       stays k = thin_then (mask_of sorts i) (true ∷ []) (evaluated i (Some S64) s) (evaluated (with_scalars i) (Some S64) s) (λ j. and_then (index_at r j) (λ n. in_cell r n (size_of r.kind) (Some u) s)) (λ j. and_then (index_at r j) (λ n. in_cell r n (size_of r.kind) (Some u) s)) (scalars_so sorts s holds i (Some S64) k f)
           (λ j. thin_same 1 (and_then (index_at r j) (λ n. in_cell r n (size_of r.kind) (Some u) s)) (λ ns b e.
           let t = then_went (index_at r j) (λ n. in_cell r n (size_of r.kind) (Some u) s) ns b e in
           let a = index_numbers r j t.0 t.1 t.3 in let c = in_cell_numbers r t.1 (size_of r.kind) (Some u) s t.2 b t.4 in
           omega (arith, a, c, length-append t.0 t.2, ap length t.5)))
+
       by_scalar : (z : Option Size) (n : Option ℕ) → size_at v ≡ z → index_in i ≡ n → (if is_scalar z n then is_below (ref_of v).kind n else is_in_range i) ≡ true → IsThinned (if is_scalar z n then false ∷ [] else mask_of sorts i ++ true ∷ []) (written w (lval.Cell v i) (Some u) s) (written w (left_or v i z n) (Some u) s)
       by_scalar (Some z) (Some n) q1 q2 k = scalar_written sorts s holds v i z n w u q1 q2 k
       by_scalar None n q1 q2 k = stays k
@@ -644,6 +662,7 @@ module _ (sorts : Sorts) (s : State) (holds : HoldsSorts sorts s.store) where
     where
       rest : Mask
       rest = condition_mask sorts to c ++ lefts_mask sorts to
+
       by_whole : (k : Option Expr) → IsRead sorts k → IsThinned (mask_if sorts k ++ rest) (assigned_whole to k c at s) (assigned_whole (map left_with_scalars to) (option_map with_scalars k) (option_map with_scalars c) at s)
       by_whole None r = refl
       by_whole (Some w) r =

@@ -90,8 +90,10 @@ shift_five k z a n = by_test (n == 0)
   where
     kept : Answer
     kept = record { value = a; flags = no_flags }
+
     set : Answer
     set = record { value = shifted k z a n; flags = shift_flags k z a n no_flags }
+
     by_test : (b : Bool) → length (if◌then◌else◌ {A = Answer} b kept set).flags ≡ 5
     by_test true = refl
     by_test false = set_five k z a n
@@ -110,6 +112,7 @@ quotient_five z h l d r e = by_tests (d == 0) (nat_lt (double_word z h l / d) (m
   where
     n : ℕ
     n = double_word z h l
+
     by_tests : (b c : Bool) → (if b then None else if c then Some (record { high = n % d; low = n / d; flags = no_flags }) else None) ≡ Some r → length r.flags ≡ 5
     by_tests true c q = absurd cc
     by_tests false true q = let w : record { high = n % d; low = n / d; flags = no_flags } ≡ r = cc in ap (λ (x : DoubleAnswer). length x.flags) (sym w)

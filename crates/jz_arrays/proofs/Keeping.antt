@@ -99,7 +99,6 @@ module _ (kinds : Kinds) where
       let m = assign_mask (sorts_of kinds) to op e c in
       let g = thin_went m (assigned to op e c at s) (assigned (map left_with_scalars to) op (with_scalars e) (option_map with_scalars c) at t) ns s1 (assign_thin to op e c at s t i r) q in
       (s1, do_one g.0 g.1 do_none, record { one = refl; held = went_so (IsOfKinds kinds) (assigned to op e c at s) ns s1 (assigned_keeps kinds to op e c at s (all_declared to i.lefts) r.held) q })
-
   op_went o os is s s1 t ns (instructs {to} {n} {args} {at} i) r q =
       let m = instruction_mask (sorts_of kinds) (spelled n) to args in
       let g = thin_went m (instruction_done (spelled n) to args at s) (instruction_done (spelled n) (map left_with_scalars to) (map with_scalars args) at t) ns s1 (instructed_thin (spelled n) to args at s t i r) q in
@@ -109,7 +108,6 @@ module _ (kinds : Kinds) where
   op_stuck o os is s t w (assigns {to} {op} {e} {c} {at} i) r q =
       let m = assign_mask (sorts_of kinds) to op e c in
       (w, refl, fails_here (thin_stuck m (assigned to op e c at s) (assigned (map left_with_scalars to) op (with_scalars e) (option_map with_scalars c) at t) w (assign_thin to op e c at s t i r) q))
-
   op_stuck o os is s t w (instructs {to} {n} {args} {at} i) r q =
       let m = instruction_mask (sorts_of kinds) (spelled n) to args in
       (w, refl, fails_here (thin_stuck m (instruction_done (spelled n) to args at s) (instruction_done (spelled n) (map left_with_scalars to) (map with_scalars args) at t) w (instructed_thin (spelled n) to args at s t i r) q))

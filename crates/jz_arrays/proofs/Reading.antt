@@ -77,9 +77,10 @@ thin_plain {B} m (went ns a) g' f n t = by_rest (f a) refl
     by_rest (stuck w) q = subst (λ y. IsThinned m (numbers_first ns y) (and_then g' f)) (sym q) (ap (λ y. and_then y f) t.1 ∙ ap (numbers_first (numbers_kept m ns)) q)
     by_rest (went ms b) q =
         let z = n a ms b q in
-        subst (λ y. IsThinned m (numbers_first ns y) (and_then g' f)) (sym q)
-        (ap length (ap (λ l. ns ++ l) z ∙ append-nil ns) ∙ t.0,
-        ap (λ y. and_then y f) t.1 ∙ ap (numbers_first (numbers_kept m ns)) q ∙ ap (λ l. went l b) (ap (λ l. numbers_kept m ns ++ l) z ∙ append-nil (numbers_kept m ns) ∙ ap (numbers_kept m) (sym (append-nil ns) ∙ ap (λ l. ns ++ l) (sym z))))
+        subst (λ y. IsThinned m (numbers_first ns y) (and_then g' f)) (sym q) (
+          ap length (ap (λ l. ns ++ l) z ∙ append-nil ns) ∙ t.0,
+          ap (λ y. and_then y f) t.1 ∙ ap (numbers_first (numbers_kept m ns)) q ∙ ap (λ l. went l b) (ap (λ l. numbers_kept m ns ++ l) z ∙ append-nil (numbers_kept m ns) ∙ ap (numbers_kept m) (sym (append-nil ns) ∙ ap (λ l. ns ++ l) (sym z))),
+        )
 
 pub thin_same : {A : Type 0} (n : ℕ) (g : Evaluation A) → ((ns : List ℕ) (a : A) → g ≡ went ns a → length ns ≡ n) → IsThinned (all_kept n) g g
 thin_same n (stuck w) h = refl
@@ -95,8 +96,10 @@ thin_bin ma mb own (went na va) ga' gb gb' bin settled ta tb total =
   where
     M : Mask
     M = ma ++ (mb ++ all_kept own)
+
     len : length M ≡ length ma + (length mb + own)
     len = omega (arith, length-append ma (mb ++ all_kept own), length-append mb (all_kept own), length_all own)
+
     by_test : (b : Bool) → settled va ≡ b → IsThinned M (numbers_first na (if settled va then went [] va else and_then gb (bin va))) (numbers_first (numbers_kept ma na) (if settled va then went [] va else and_then gb' (bin va)))
     by_test true q =
         let whole = total (na ++ []) va (ap (λ b. numbers_first na (if b then went [] va else and_then gb (bin va))) q) in
@@ -106,6 +109,7 @@ thin_bin ma mb own (went na va) ga' gb gb' bin settled ta tb total =
       where
         goes : (y : Evaluation Value) → gb ≡ y → and_then (went na va) (λ x. if settled x then went [] x else and_then gb (bin x)) ≡ numbers_first na (and_then y (bin va))
         goes y e = ap (λ b. numbers_first na (if b then went [] va else and_then gb (bin va))) q ∙ ap (λ z. numbers_first na (and_then z (bin va))) e
+
         by_right : (y : Evaluation Value) → gb ≡ y → IsThinned mb y gb' → IsThinned M (numbers_first na (and_then gb (bin va))) (numbers_first (numbers_kept ma na) (and_then gb' (bin va)))
         by_right (stuck w) e t = subst (λ z. IsThinned M (numbers_first na (and_then z (bin va))) (numbers_first (numbers_kept ma na) (and_then gb' (bin va)))) (sym e) (ap (λ z. numbers_first (numbers_kept ma na) (and_then z (bin va))) t)
         by_right (went nb vb) e t =
@@ -117,9 +121,10 @@ thin_bin ma mb own (went na va) ga' gb gb' bin settled ta tb total =
             by_op (went nc vc) o =
                 let whole = total (na ++ (nb ++ nc)) vc (goes (went nb vb) e ∙ ap (λ r. numbers_first na (numbers_first nb r)) o) in
                 let own_len : length nc ≡ own = omega (arith, whole, ta.0, t.0, length-append na (nb ++ nc), length-append nb nc) in
-                subst (λ r. IsThinned M (numbers_first na (numbers_first nb r)) (numbers_first (numbers_kept ma na) (numbers_first (numbers_kept mb nb) r))) (sym o)
-                (whole ∙ sym len,
-                ap (λ l. went l vc) (ap (λ l. numbers_kept ma na ++ (numbers_kept mb nb ++ l)) (sym (kept_all own nc own_len)) ∙ ap (λ l. numbers_kept ma na ++ l) (sym (kept_both mb (all_kept own) nb nc t.0)) ∙ sym (kept_both ma (mb ++ all_kept own) na (nb ++ nc) ta.0)))
+                subst (λ r. IsThinned M (numbers_first na (numbers_first nb r)) (numbers_first (numbers_kept ma na) (numbers_first (numbers_kept mb nb) r))) (sym o) (
+                  whole ∙ sym len,
+                  ap (λ l. went l vc) (ap (λ l. numbers_kept ma na ++ (numbers_kept mb nb ++ l)) (sym (kept_all own nc own_len)) ∙ ap (λ l. numbers_kept ma na ++ l) (sym (kept_both mb (all_kept own) nb nc t.0)) ∙ sym (kept_both ma (mb ++ all_kept own) na (nb ++ nc) ta.0)),
+                )
 
 -- ---- layers
 
@@ -189,15 +194,18 @@ kind_size v z z0 n e k = by_decl (out-Var v).decl e (sym (ap (λ (r : Ref). r.ki
     by_option None s q = absurd cc
     by_option (Some (pos m)) s q = cc
     by_option (Some (negsuc m)) s q = absurd cc
+
     by_layer : (y : Ty-F Expr Ty Access Decl Var) → cells_of_ty y ≡ Some z → kind_of_ty (roll-Ty y) ≡ kind.Array z0 n → z ≡ z0
     by_layer (Ty-F.Array s m) q r =
         let a : s ≡ z = cc in sym a ∙ by_option (meaning_of m).literal s (sym (fold-roll-Ty _ _ _ _ _ meaning_step ty_step meaning_access decl_step var_step (Ty-F.Array s m)) ∙ r)
     by_layer Ty-F.Int q r = absurd cc
     by_layer Ty-F.Ty::Bool q r = absurd cc
     by_layer (Ty-F.Word s) q r = absurd cc
+
     by_storage : (b : Bool) (t : Ty) → (if b then cells_of_ty (out-Ty t) else None) ≡ Some z → kind_of_ty t ≡ kind.Array z0 n → z ≡ z0
     by_storage true t q r = by_layer (out-Ty t) q (ap kind_of_ty (roll-out-Ty t) ∙ r)
     by_storage false t q r = absurd cc
+
     by_decl : (d : Option Decl) → cells_of_decl d ≡ Some z → (var_step (map-Var _ _ _ _ _ Meaning Kind MemoryAccess Kind Ref meaning_of kind_of_ty access_of kind_of_decl ref_of (record { name = []; copy = 0; cell = None; decl = d; span = (out-Var v).span }))).kind ≡ kind.Array z0 n → z ≡ z0
     by_decl None q r = absurd cc
     by_decl (Some d) q r = by_storage (is_register d.storage) d.ty q (sym (fold-roll-Decl _ _ _ _ _ meaning_step ty_step meaning_access decl_step var_step (record { storage = d.storage; ty = d.ty })) ∙ r)
@@ -250,9 +258,9 @@ scalar_thin v i z n w s sz ix below =
     let r = ref_of v in
     let b = below_is r.kind n below in
     let left : evaluated (roll-Expr (Expr-F.Cell v i)) w s ≡ numbers_first (n ∷ []) (defined r.span (s.store (cell_key r n)))
-        = ap (λ (p : Meaning). p.run w s) (meaning_is (Expr-F.Cell v i)) ∙ ap (λ g. and_then g (λ u. cell_value r u s.store)) (constant_index i n (out-Expr i) (roll-out-Expr i) ix (Some S64) s) ∙ none_first _ ∙ cell_at r b.0 b.1 n s.store b.2 b.3 b.4 in
+    = ap (λ (p : Meaning). p.run w s) (meaning_is (Expr-F.Cell v i)) ∙ ap (λ g. and_then g (λ u. cell_value r u s.store)) (constant_index i n (out-Expr i) (roll-out-Expr i) ix (Some S64) s) ∙ none_first _ ∙ cell_at r b.0 b.1 n s.store b.2 b.3 b.4 in
     let right : evaluated (roll-Expr (Expr-F.Var (scalar v z n))) w s ≡ defined r.span (s.store (cell_key r n))
-        = ap (λ (p : Meaning). p.run w s) (meaning_is (Expr-F.Var (scalar v z n))) ∙ ap (λ (p : Ref). defined p.span (s.store (key_of p))) (scalar_is v z n) in
+    = ap (λ (p : Meaning). p.run w s) (meaning_is (Expr-F.Var (scalar v z n))) ∙ ap (λ (p : Ref). defined p.span (s.store (key_of p))) (scalar_is v z n) in
     subst (λ g. IsThinned (false ∷ []) g (evaluated (roll-Expr (Expr-F.Var (scalar v z n))) w s)) (sym left) (subst (IsThinned (false ∷ []) (numbers_first (n ∷ []) (defined r.span (s.store (cell_key r n))))) (sym right) (thin_defined r.span n (s.store (cell_key r n))))
 
 scalar_size : (v : Var) (i : Expr) (z : Size) (n : ℕ) → size_at v ≡ Some z → is_below (ref_of v).kind (Some n) ≡ true → own_size (roll-Expr (Expr-F.Var (scalar v z n))) ≡ own_size (roll-Expr (Expr-F.Cell v i))
@@ -394,72 +402,87 @@ module _ (sorts : Sorts) where
         by_scalar : (z : Option Size) (n : Option ℕ) → size_at v.0 ≡ z → index_in i.0 ≡ n → (if is_scalar z n then is_below (ref_of v.0).kind n else is_in_range i.0) ≡ true →
             (own_size (cell_or v.0 (with_scalars i.0) z n) ≡ (meaning_layer (Expr-F.Cell v.0 i.0)).size) × ((shape_of sorts i.0).fixed ≡ true → (w : Option Size) → IsThinned (if is_scalar z n then false ∷ [] else mask_of sorts i.0 ++ true ∷ []) ((meaning_layer (Expr-F.Cell v.0 i.0)).run w s) (evaluated (cell_or v.0 (with_scalars i.0) z n) w s))
         by_scalar (Some z) (Some n) q1 q2 r = (scalar_size v.0 i.0 z n q1 r ∙ ap (λ (p : Meaning). p.size) (meaning_is (Expr-F.Cell v.0 i.0)), λ f w. subst (λ g. IsThinned (false ∷ []) g (evaluated (roll-Expr (Expr-F.Var (scalar v.0 z n))) w s)) (ap (λ (p : Meaning). p.run w s) (meaning_is (Expr-F.Cell v.0 i.0))) (scalar_thin v.0 i.0 z n w s q1 q2 r))
-        by_scalar None n q1 q2 r = (ap (λ (p : Meaning). p.size) (meaning_is (Expr-F.Cell v.0 (with_scalars i.0))), λ f w. subst (IsThinned (mask_of sorts i.0 ++ true ∷ []) ((meaning_layer (Expr-F.Cell v.0 i.0)).run w s)) (sym (ap (λ (p : Meaning). p.run w s) (meaning_is (Expr-F.Cell v.0 (with_scalars i.0)))))
-            (thin_then (mask_of sorts i.0) (true ∷ []) (evaluated i.0 (Some S64) s) (evaluated (with_scalars i.0) (Some S64) s) (λ u. cell_value (ref_of v.0) u s.store) (λ u. cell_value (ref_of v.0) u s.store) ((i.1.1 r).1 f (Some S64)) (λ u. thin_same 1 (cell_value (ref_of v.0) u s.store) (λ ns b e. cell_numbers (ref_of v.0) u s.store ns b e))))
-        by_scalar (Some z) None q1 q2 r = (ap (λ (p : Meaning). p.size) (meaning_is (Expr-F.Cell v.0 (with_scalars i.0))), λ f w. subst (IsThinned (mask_of sorts i.0 ++ true ∷ []) ((meaning_layer (Expr-F.Cell v.0 i.0)).run w s)) (sym (ap (λ (p : Meaning). p.run w s) (meaning_is (Expr-F.Cell v.0 (with_scalars i.0)))))
-            (thin_then (mask_of sorts i.0) (true ∷ []) (evaluated i.0 (Some S64) s) (evaluated (with_scalars i.0) (Some S64) s) (λ u. cell_value (ref_of v.0) u s.store) (λ u. cell_value (ref_of v.0) u s.store) ((i.1.1 r).1 f (Some S64)) (λ u. thin_same 1 (cell_value (ref_of v.0) u s.store) (λ ns b e. cell_numbers (ref_of v.0) u s.store ns b e))))
+        by_scalar None n q1 q2 r = (
+          ap (λ (p : Meaning). p.size) (meaning_is (Expr-F.Cell v.0 (with_scalars i.0))),
+          λ f w. subst (IsThinned (mask_of sorts i.0 ++ true ∷ []) ((meaning_layer (Expr-F.Cell v.0 i.0)).run w s)) (sym (ap (λ (p : Meaning). p.run w s) (meaning_is (Expr-F.Cell v.0 (with_scalars i.0)))))
+              (thin_then (mask_of sorts i.0) (true ∷ []) (evaluated i.0 (Some S64) s) (evaluated (with_scalars i.0) (Some S64) s) (λ u. cell_value (ref_of v.0) u s.store) (λ u. cell_value (ref_of v.0) u s.store) ((i.1.1 r).1 f (Some S64)) (λ u. thin_same 1 (cell_value (ref_of v.0) u s.store) (λ ns b e. cell_numbers (ref_of v.0) u s.store ns b e))),
+        )
+        by_scalar (Some z) None q1 q2 r = (
+          ap (λ (p : Meaning). p.size) (meaning_is (Expr-F.Cell v.0 (with_scalars i.0))),
+          λ f w. subst (IsThinned (mask_of sorts i.0 ++ true ∷ []) ((meaning_layer (Expr-F.Cell v.0 i.0)).run w s)) (sym (ap (λ (p : Meaning). p.run w s) (meaning_is (Expr-F.Cell v.0 (with_scalars i.0)))))
+              (thin_then (mask_of sorts i.0) (true ∷ []) (evaluated i.0 (Some S64) s) (evaluated (with_scalars i.0) (Some S64) s) (λ u. cell_value (ref_of v.0) u s.store) (λ u. cell_value (ref_of v.0) u s.store) ((i.1.1 r).1 f (Some S64)) (λ u. thin_same 1 (cell_value (ref_of v.0) u s.store) (λ ns b e. cell_numbers (ref_of v.0) u s.store ns b e))),
+        )
     value_law (Expr-F.Load a) ok =
         let l = a.1.1 ok in
-        let p = access_of a.0 in
-        (ap (λ (m : Meaning). m.size) (meaning_is (Expr-F.Load (access_with_scalars a.0))) ∙ ap (λ (m : MemoryAccess). m.size) l.1,
-        λ f w. subst (IsThinned (access_mask sorts a.0 ++ true ∷ []) (and_then (p.at s) (λ v. load_at p w v s.memory)))
-        (sym (ap (λ (m : Meaning). m.run w s) (meaning_is (Expr-F.Load (access_with_scalars a.0))) ∙ ap (λ (m : MemoryAccess). and_then (m.at s) (λ v. load_at m w v s.memory)) l.1))
-        (thin_then (access_mask sorts a.0) (true ∷ []) (p.at s) (l.0 s) (λ v. load_at p w v s.memory) (λ v. load_at p w v s.memory) (l.2 f) (λ v. thin_same 1 (load_at p w v s.memory) (λ ns b e. load_numbers p w v s.memory ns b e))))
+        let p = access_of a.0 in (
+          ap (λ (m : Meaning). m.size) (meaning_is (Expr-F.Load (access_with_scalars a.0))) ∙ ap (λ (m : MemoryAccess). m.size) l.1,
+          λ f w. subst (IsThinned (access_mask sorts a.0 ++ true ∷ []) (and_then (p.at s) (λ v. load_at p w v s.memory)))
+              (sym (ap (λ (m : Meaning). m.run w s) (meaning_is (Expr-F.Load (access_with_scalars a.0))) ∙ ap (λ (m : MemoryAccess). and_then (m.at s) (λ v. load_at m w v s.memory)) l.1))
+              (thin_then (access_mask sorts a.0) (true ∷ []) (p.at s) (l.0 s) (λ v. load_at p w v s.memory) (λ v. load_at p w v s.memory) (l.2 f) (λ v. thin_same 1 (load_at p w v s.memory) (λ ns b e. load_numbers p w v s.memory ns b e))),
+        )
     value_law (Expr-F.Neg e at) ok =
-        let l = e.1.1 ok in
-        (ap (λ (m : Meaning). m.size) (meaning_is (Expr-F.Neg (with_scalars e.0) at)) ∙ l.0,
-        λ f w. subst (IsThinned (mask_of sorts e.0) (and_then (evaluated e.0 (option_or w (own_size e.0)) s) (λ v. defined at (negated v))))
-        (sym (ap (λ (m : Meaning). m.run w s) (meaning_is (Expr-F.Neg (with_scalars e.0) at)) ∙ ap (λ z. and_then (evaluated (with_scalars e.0) (option_or w z) s) (λ v. defined at (negated v))) l.0))
-        (thin_plain (mask_of sorts e.0) (evaluated e.0 (option_or w (own_size e.0)) s) (evaluated (with_scalars e.0) (option_or w (own_size e.0)) s) (λ v. defined at (negated v)) (λ v ns b q. of_defined at (negated v) ns b q) (l.1 f (option_or w (own_size e.0)))))
+        let l = e.1.1 ok in (
+          ap (λ (m : Meaning). m.size) (meaning_is (Expr-F.Neg (with_scalars e.0) at)) ∙ l.0,
+          λ f w. subst (IsThinned (mask_of sorts e.0) (and_then (evaluated e.0 (option_or w (own_size e.0)) s) (λ v. defined at (negated v))))
+              (sym (ap (λ (m : Meaning). m.run w s) (meaning_is (Expr-F.Neg (with_scalars e.0) at)) ∙ ap (λ z. and_then (evaluated (with_scalars e.0) (option_or w z) s) (λ v. defined at (negated v))) l.0))
+              (thin_plain (mask_of sorts e.0) (evaluated e.0 (option_or w (own_size e.0)) s) (evaluated (with_scalars e.0) (option_or w (own_size e.0)) s) (λ v. defined at (negated v)) (λ v ns b q. of_defined at (negated v) ns b q) (l.1 f (option_or w (own_size e.0)))),
+        )
     value_law (Expr-F.Not e at) ok =
-        let l = e.1.1 ok in
-        (ap (λ (m : Meaning). m.size) (meaning_is (Expr-F.Not (with_scalars e.0) at)) ∙ l.0,
-        λ f w. subst (IsThinned (mask_of sorts e.0) (and_then (evaluated e.0 (option_or w (own_size e.0)) s) (λ v. went [] (inverted v))))
-        (sym (ap (λ (m : Meaning). m.run w s) (meaning_is (Expr-F.Not (with_scalars e.0) at)) ∙ ap (λ z. and_then (evaluated (with_scalars e.0) (option_or w z) s) (λ v. went [] (inverted v))) l.0))
-        (thin_plain (mask_of sorts e.0) (evaluated e.0 (option_or w (own_size e.0)) s) (evaluated (with_scalars e.0) (option_or w (own_size e.0)) s) (λ v. went [] (inverted v)) (λ v ns b q. cc) (l.1 f (option_or w (own_size e.0)))))
+        let l = e.1.1 ok in (
+          ap (λ (m : Meaning). m.size) (meaning_is (Expr-F.Not (with_scalars e.0) at)) ∙ l.0,
+          λ f w. subst (IsThinned (mask_of sorts e.0) (and_then (evaluated e.0 (option_or w (own_size e.0)) s) (λ v. went [] (inverted v))))
+              (sym (ap (λ (m : Meaning). m.run w s) (meaning_is (Expr-F.Not (with_scalars e.0) at)) ∙ ap (λ z. and_then (evaluated (with_scalars e.0) (option_or w z) s) (λ v. went [] (inverted v))) l.0))
+              (thin_plain (mask_of sorts e.0) (evaluated e.0 (option_or w (own_size e.0)) s) (evaluated (with_scalars e.0) (option_or w (own_size e.0)) s) (λ v. went [] (inverted v)) (λ v ns b q. cc) (l.1 f (option_or w (own_size e.0)))),
+        )
     value_law (Expr-F.Cast z sign e at) ok =
-        let l = e.1.1 ok in
-        (ap (λ (m : Meaning). m.size) (meaning_is (Expr-F.Cast z sign (with_scalars e.0) at)),
-        λ f w. subst (IsThinned (mask_of sorts e.0) (and_then (evaluated e.0 (own_size e.0) s) (λ v. defined at (cast z sign v))))
-        (sym (ap (λ (m : Meaning). m.run w s) (meaning_is (Expr-F.Cast z sign (with_scalars e.0) at)) ∙ ap (λ y. and_then (evaluated (with_scalars e.0) y s) (λ v. defined at (cast z sign v))) l.0))
-        (thin_plain (mask_of sorts e.0) (evaluated e.0 (own_size e.0) s) (evaluated (with_scalars e.0) (own_size e.0) s) (λ v. defined at (cast z sign v)) (λ v ns b q. of_defined at (cast z sign v) ns b q) (l.1 f (own_size e.0))))
+        let l = e.1.1 ok in (
+          ap (λ (m : Meaning). m.size) (meaning_is (Expr-F.Cast z sign (with_scalars e.0) at)),
+          λ f w. subst (IsThinned (mask_of sorts e.0) (and_then (evaluated e.0 (own_size e.0) s) (λ v. defined at (cast z sign v))))
+              (sym (ap (λ (m : Meaning). m.run w s) (meaning_is (Expr-F.Cast z sign (with_scalars e.0) at)) ∙ ap (λ y. and_then (evaluated (with_scalars e.0) y s) (λ v. defined at (cast z sign v))) l.0))
+              (thin_plain (mask_of sorts e.0) (evaluated e.0 (own_size e.0) s) (evaluated (with_scalars e.0) (own_size e.0) s) (λ v. defined at (cast z sign v)) (λ v ns b q. of_defined at (cast z sign v) ns b q) (l.1 f (own_size e.0))),
+        )
     value_law (Expr-F.Bin op a b at) ok =
         let both = and_parts (is_in_range a.0) _ ok in
         let l = a.1.1 both.0 in let r = b.1.1 both.1 in
-        let own = own_count op (shape_of sorts a.0).sort (shape_of sorts b.0).sort in
-        (ap (λ (m : Meaning). m.size) (meaning_is (Expr-F.Bin op (with_scalars a.0) (with_scalars b.0) at)) ∙ (let p = l.0 in let q = r.0 in rw (p, q)),
-        λ f w. let z = left_wanted op w (own_size a.0) (own_size b.0) in
-        let fa = and_parts (shape_of sorts a.0).fixed _ f in let fb = and_parts (shape_of sorts b.0).fixed _ fa.1 in
-        subst (IsThinned (mask_of sorts a.0 ++ (mask_of sorts b.0 ++ all_kept own)) (run_binary op (evaluated a.0) (evaluated b.0) at z s))
-        (sym (ap (λ (m : Meaning). m.run w s) (meaning_is (Expr-F.Bin op (with_scalars a.0) (with_scalars b.0) at))
-        ∙ ap (λ p. run_binary op (evaluated (with_scalars a.0)) (evaluated (with_scalars b.0)) at (left_wanted op w p (own_size (with_scalars b.0))) s) l.0
-        ∙ ap (λ p. run_binary op (evaluated (with_scalars a.0)) (evaluated (with_scalars b.0)) at (left_wanted op w (own_size a.0) p) s) r.0))
-        (thin_bin (mask_of sorts a.0) (mask_of sorts b.0) own (evaluated a.0 z s) (evaluated (with_scalars a.0) z s) (evaluated b.0 (right_wanted op z) s) (evaluated (with_scalars b.0) (right_wanted op z) s) (binary op at z) (is_settled op) (l.1 fa.0 z) (r.1 fb.0 (right_wanted op z))
-        (λ ns v e. let total = counted sorts (roll-Expr (Expr-F.Bin op a.0 b.0 at)) w s ns v holds (ap (λ (h : Shape). h.fixed) (shape_is (Expr-F.Bin op a.0 b.0 at)) ∙ f) (ap (λ (m : Meaning). m.run w s) (meaning_is (Expr-F.Bin op a.0 b.0 at)) ∙ e) in
-        let count = ap (λ (h : Shape). h.count) (shape_is (Expr-F.Bin op a.0 b.0 at)) in omega (arith, total, count, a.1.0, b.1.0))))
+        let own = own_count op (shape_of sorts a.0).sort (shape_of sorts b.0).sort in (
+          ap (λ (m : Meaning). m.size) (meaning_is (Expr-F.Bin op (with_scalars a.0) (with_scalars b.0) at)) ∙ (let p = l.0 in let q = r.0 in rw (p, q)),
+          λ f w. let z = left_wanted op w (own_size a.0) (own_size b.0) in
+              let fa = and_parts (shape_of sorts a.0).fixed _ f in let fb = and_parts (shape_of sorts b.0).fixed _ fa.1 in
+              subst (IsThinned (mask_of sorts a.0 ++ (mask_of sorts b.0 ++ all_kept own)) (run_binary op (evaluated a.0) (evaluated b.0) at z s))
+              (sym (ap (λ (m : Meaning). m.run w s) (meaning_is (Expr-F.Bin op (with_scalars a.0) (with_scalars b.0) at))
+              ∙ ap (λ p. run_binary op (evaluated (with_scalars a.0)) (evaluated (with_scalars b.0)) at (left_wanted op w p (own_size (with_scalars b.0))) s) l.0
+              ∙ ap (λ p. run_binary op (evaluated (with_scalars a.0)) (evaluated (with_scalars b.0)) at (left_wanted op w (own_size a.0) p) s) r.0))
+              (thin_bin (mask_of sorts a.0) (mask_of sorts b.0) own (evaluated a.0 z s) (evaluated (with_scalars a.0) z s) (evaluated b.0 (right_wanted op z) s) (evaluated (with_scalars b.0) (right_wanted op z) s) (binary op at z) (is_settled op) (l.1 fa.0 z) (r.1 fb.0 (right_wanted op z))
+              (λ ns v e. let total = counted sorts (roll-Expr (Expr-F.Bin op a.0 b.0 at)) w s ns v holds (ap (λ (h : Shape). h.fixed) (shape_is (Expr-F.Bin op a.0 b.0 at)) ∙ f) (ap (λ (m : Meaning). m.run w s) (meaning_is (Expr-F.Bin op a.0 b.0 at)) ∙ e) in
+              let count = ap (λ (h : Shape). h.count) (shape_is (Expr-F.Bin op a.0 b.0 at)) in omega (arith, total, count, a.1.0, b.1.0))),
+        )
 
     expr_case : (y : Known) → ExprLaw (roll-Expr (bare y))
     expr_case y =
-        let x = bare y in
-        (ap length (mask_is x) ∙ length_law y ∙ ap (λ (h : Shape). h.count) (sym (shape_is x)),
-        λ ok. let v = value_law y (sym (range_is x) ∙ ok) in
-        (ap own_size (in_is x) ∙ v.0 ∙ ap (λ (m : Meaning). m.size) (sym (meaning_is x)),
-        λ f w. subst (λ m. IsThinned m (evaluated (roll-Expr x) w s) (evaluated (with_scalars (roll-Expr x)) w s)) (sym (mask_is x))
-        (subst (λ g. IsThinned (mask_layer x) g (evaluated (with_scalars (roll-Expr x)) w s)) (sym (ap (λ (m : Meaning). m.run w s) (meaning_is x)))
-        (subst (λ e. IsThinned (mask_layer x) ((meaning_layer x).run w s) (evaluated e w s)) (sym (in_is x)) (v.1 (sym (ap (λ (h : Shape). h.fixed) (shape_is x)) ∙ f) w)))))
+        let x = bare y in (
+          ap length (mask_is x) ∙ length_law y ∙ ap (λ (h : Shape). h.count) (sym (shape_is x)),
+          λ ok. let v = value_law y (sym (range_is x) ∙ ok) in (
+            ap own_size (in_is x) ∙ v.0 ∙ ap (λ (m : Meaning). m.size) (sym (meaning_is x)),
+            λ f w. subst (λ m. IsThinned m (evaluated (roll-Expr x) w s) (evaluated (with_scalars (roll-Expr x)) w s)) (sym (mask_is x))
+                (subst (λ g. IsThinned (mask_layer x) g (evaluated (with_scalars (roll-Expr x)) w s)) (sym (ap (λ (m : Meaning). m.run w s) (meaning_is x)))
+                (subst (λ e. IsThinned (mask_layer x) ((meaning_layer x).run w s) (evaluated e w s)) (sym (in_is x)) (v.1 (sym (ap (λ (h : Shape). h.fixed) (shape_is x)) ∙ f) w))),
+          ),
+        )
 
     access_case : (y : Access-F ((e : Expr) × ExprLaw e) ((t : Ty) × Any t) ((a : Access) × AccessLaw a) ((d : Decl) × Any d) ((v : Var) × Any v)) → AccessLaw (roll-Access (map-Access _ _ _ _ _ _ _ _ _ _ (λ e. e.0) (λ e. e.0) (λ e. e.0) (λ e. e.0) (λ e. e.0) y))
     access_case y =
         let x = map-Access _ _ _ _ _ Expr Ty Access Decl Var (λ e. e.0) (λ e. e.0) (λ e. e.0) (λ e. e.0) (λ e. e.0) y in
         let sh = fold-roll-Access _ _ _ _ _ shape_step (λ t. tt) (λ a. a.at) (λ d. tt) (λ v. sorts v.name v.copy) x in
         let n = access_is x in
-        let m = ap access_of (access_in_is x) ∙ access_is (record { size = x.size; at = with_scalars x.at; unaligned = x.unaligned; span = x.span }) in
-        (ap length (access_mask_is x) ∙ y.at.1.0 ∙ ap (λ (h : Shape). h.count) (sym sh),
-        λ ok. let l = y.at.1.1 (sym (access_range_is x) ∙ ok) in
-        (evaluated (with_scalars y.at.0) (Some S64),
-        m ∙ ap (λ (p : MemoryAccess). record { size = p.size; at = evaluated (with_scalars y.at.0) (Some S64); unaligned = p.unaligned; span = p.span }) (sym n),
-        λ f. subst (λ k. IsThinned k ((access_of (roll-Access x)).at s) (evaluated (with_scalars y.at.0) (Some S64) s)) (sym (access_mask_is x))
-        (subst (λ g. IsThinned (mask_of sorts y.at.0) g (evaluated (with_scalars y.at.0) (Some S64) s)) (sym (ap (λ (p : MemoryAccess). p.at s) n)) (l.1 (sym (ap (λ (h : Shape). h.fixed) sh) ∙ f) (Some S64)))))
+        let m = ap access_of (access_in_is x) ∙ access_is (record { size = x.size; at = with_scalars x.at; unaligned = x.unaligned; span = x.span }) in (
+          ap length (access_mask_is x) ∙ y.at.1.0 ∙ ap (λ (h : Shape). h.count) (sym sh),
+          λ ok. let l = y.at.1.1 (sym (access_range_is x) ∙ ok) in (
+            evaluated (with_scalars y.at.0) (Some S64),
+            m ∙ ap (λ (p : MemoryAccess). record { size = p.size; at = evaluated (with_scalars y.at.0) (Some S64); unaligned = p.unaligned; span = p.span }) (sym n),
+            λ f. subst (λ k. IsThinned k ((access_of (roll-Access x)).at s) (evaluated (with_scalars y.at.0) (Some S64) s)) (sym (access_mask_is x))
+                (subst (λ g. IsThinned (mask_of sorts y.at.0) g (evaluated (with_scalars y.at.0) (Some S64) s)) (sym (ap (λ (p : MemoryAccess). p.at s) n)) (l.1 (sym (ap (λ (h : Shape). h.fixed) sh) ∙ f) (Some S64))),
+          ),
+        )
 
     laws : (e : Expr) → ExprLaw e
     laws =
@@ -484,12 +507,14 @@ module _ (sorts : Sorts) (s : State) (holds : HoldsSorts sorts s.store) where
     where
       x : Access-F Expr Ty Access Decl Var
       x = out-Access a
+
       rolled_access : is_access_in_range (roll-Access x) ≡ true → (at : State → Evaluation Value) × (access_of (access_with_scalars (roll-Access x)) ≡ record { size = (access_of (roll-Access x)).size; at = at; unaligned = (access_of (roll-Access x)).unaligned; span = (access_of (roll-Access x)).span }) × ((shape_access sorts (roll-Access x)).fixed ≡ true → IsThinned (access_mask sorts (roll-Access x)) ((access_of (roll-Access x)).at s) (at s))
       rolled_access ok =
           let sh = fold-roll-Access _ _ _ _ _ shape_step (λ t. tt) (λ a. a.at) (λ d. tt) (λ v. sorts v.name v.copy) x in
           let n = access_is x in
-          let m = ap access_of (access_in_is x) ∙ access_is (record { size = x.size; at = with_scalars x.at; unaligned = x.unaligned; span = x.span }) in
-          (evaluated (with_scalars x.at) (Some S64),
-          m ∙ ap (λ (p : MemoryAccess). record { size = p.size; at = evaluated (with_scalars x.at) (Some S64); unaligned = p.unaligned; span = p.span }) (sym n),
-          λ f. subst (λ k. IsThinned k ((access_of (roll-Access x)).at s) (evaluated (with_scalars x.at) (Some S64) s)) (sym (access_mask_is sorts x))
-          (subst (λ g. IsThinned (mask_of sorts x.at) g (evaluated (with_scalars x.at) (Some S64) s)) (sym (ap (λ (p : MemoryAccess). p.at s) n)) (scalars_so sorts s holds x.at (Some S64) (sym (access_range_is x) ∙ ok) (sym (ap (λ (h : Shape). h.fixed) sh) ∙ f))))
+          let m = ap access_of (access_in_is x) ∙ access_is (record { size = x.size; at = with_scalars x.at; unaligned = x.unaligned; span = x.span }) in (
+            evaluated (with_scalars x.at) (Some S64),
+            m ∙ ap (λ (p : MemoryAccess). record { size = p.size; at = evaluated (with_scalars x.at) (Some S64); unaligned = p.unaligned; span = p.span }) (sym n),
+            λ f. subst (λ k. IsThinned k ((access_of (roll-Access x)).at s) (evaluated (with_scalars x.at) (Some S64) s)) (sym (access_mask_is sorts x))
+                (subst (λ g. IsThinned (mask_of sorts x.at) g (evaluated (with_scalars x.at) (Some S64) s)) (sym (ap (λ (p : MemoryAccess). p.at s) n)) (scalars_so sorts s holds x.at (Some S64) (sym (access_range_is x) ∙ ok) (sym (ap (λ (h : Shape). h.fixed) sh) ∙ f))),
+          )

@@ -4,6 +4,7 @@ use Rattle.std.specs.Prelude.{ℤ, ◌&&◌, not, option_map, is_none, if◌then
 use Rattle.std.specs.Option.{option_or}
 use Rattle.std.proofs.lemmas.Bool.{and_parts}
 use Rattle.jz_tree.specs.Span.{Span}
+use Rattle.jz_tree.specs.Operators.{is_shift}
 use Rattle.jz_tree.specs.Size.{Size}
 use Rattle.jz_tree.specs.declared.expr.BinOp.{BinOp}
 use Rattle.jz_tree.specs.declared.expr.BinOp.TheVariants as o
@@ -22,7 +23,7 @@ use Rattle.jz_integers.specs.declared.constant.Constant.TheVariants as constant
 use Rattle.jz_runs.specs.Rules.{went}
 use Rattle.jz_meaning.specs.Attempts.{Evaluation, and_then, defined}
 use Rattle.jz_meaning.specs.States.{Value, boolean, integer, State}
-use Rattle.jz_meaning.specs.Operators.{of_constant, is_shift, joined, is_settled, combined, shifted, binary, negated, inverted}
+use Rattle.jz_meaning.specs.Operators.{of_constant, joined, is_settled, combined, shifted, binary, negated, inverted}
 use Rattle.jz_meaning.specs.Values.{Ref, key_of, Meaning, right_wanted, left_wanted, with_right, ref_of, own_size, evaluated}
 use Rattle.jz_unroll.specs.Values.{Integers, cells_step, has_no_cell}
 use Rattle.jz_unroll.specs.ValueLaws.{HoldsKnown}

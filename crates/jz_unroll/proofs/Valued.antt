@@ -110,9 +110,10 @@ module _ (e : Integers) where
         let l = i.1 ok in let r = ref_of v.0 in
         (refl, λ w. ap (λ g. and_then g (λ u. cell_value r u t.store)) (l.1 (Some S64)) ∙ ap (and_then (evaluated i.0 (Some S64) s)) (λ j u. and_then (index_at r u) (λ n. defined r.span (differs.cells r n j))))
     parts_law (Expr-F.Load a) ok =
-        let l = a.1 ok in let p = access_of a.0 in
-        (ap (λ (m : MemoryAccess). m.size) l.1,
-        λ w. ap (λ (m : MemoryAccess). and_then (m.at t) (λ v. load_at m w v t.memory)) l.1 ∙ ap (λ g. and_then g (λ v. load_at p w v t.memory)) l.2 ∙ ap (λ m. and_then (p.at s) (λ v. load_at p w v m)) differs.memory)
+        let l = a.1 ok in let p = access_of a.0 in (
+          ap (λ (m : MemoryAccess). m.size) l.1,
+          λ w. ap (λ (m : MemoryAccess). and_then (m.at t) (λ v. load_at m w v t.memory)) l.1 ∙ ap (λ g. and_then g (λ v. load_at p w v t.memory)) l.2 ∙ ap (λ m. and_then (p.at s) (λ v. load_at p w v m)) differs.memory,
+        )
     parts_law (Expr-F.Neg x at) ok =
         let l = x.1 ok in (l.0, λ w. ap (λ z. and_then (evaluated (with_values e x.0) (option_or w z) t) (λ v. defined at (negated v))) l.0 ∙ ap (λ g. and_then g (λ v. defined at (negated v))) (l.1 (option_or w (own_size x.0))))
     parts_law (Expr-F.Not x at) ok =
@@ -121,29 +122,32 @@ module _ (e : Integers) where
         let l = x.1 ok in (refl, λ w. ap (λ y. and_then (evaluated (with_values e x.0) y t) (λ v. defined at (cast z sign v))) l.0 ∙ ap (λ g. and_then g (λ v. defined at (cast z sign v))) (l.1 (own_size x.0)))
     parts_law (Expr-F.Bin op a b at) ok =
         let both = and_parts (has_values e a.0) _ ok in
-        let l = a.1 both.0 in let r = b.1 both.1 in
-        ((let p = l.0 in let q = r.0 in rw (p, q)),
-        λ w. let z = left_wanted op w (own_size a.0) (own_size b.0) in
-        ap (λ p. run_binary op (evaluated (with_values e a.0)) (evaluated (with_values e b.0)) at (left_wanted op w p (own_size (with_values e b.0))) t) l.0
-        ∙ ap (λ p. run_binary op (evaluated (with_values e a.0)) (evaluated (with_values e b.0)) at (left_wanted op w (own_size a.0) p) t) r.0
-        ∙ ap (λ g. and_then g (with_right op (evaluated (with_values e b.0)) at z t)) (l.1 z)
-        ∙ ap (and_then (evaluated a.0 z s)) (λ i v. ap (λ g. if is_settled op v then went [] v else and_then g (λ y. binary op at z v y)) (r.1 (right_wanted op z)) i))
+        let l = a.1 both.0 in let r = b.1 both.1 in (
+          (let p = l.0 in let q = r.0 in rw (p, q)),
+          λ w. let z = left_wanted op w (own_size a.0) (own_size b.0) in
+              ap (λ p. run_binary op (evaluated (with_values e a.0)) (evaluated (with_values e b.0)) at (left_wanted op w p (own_size (with_values e b.0))) t) l.0
+              ∙ ap (λ p. run_binary op (evaluated (with_values e a.0)) (evaluated (with_values e b.0)) at (left_wanted op w (own_size a.0) p) t) r.0
+              ∙ ap (λ g. and_then g (with_right op (evaluated (with_values e b.0)) at z t)) (l.1 z)
+              ∙ ap (and_then (evaluated a.0 z s)) (λ i v. ap (λ g. if is_settled op v then went [] v else and_then g (λ y. binary op at z v y)) (r.1 (right_wanted op z)) i),
+        )
 
     -- an inline part
     constant_law : (x : Expr) (at : Span) (c : Option Constant) → inline_value e x ≡ c → is_known e x ≡ true → (own_size (constant_expr at x c) ≡ own_size x) × ((w : Option Size) → evaluated (constant_expr at x c) w t ≡ evaluated x w s)
     constant_law x at None q ok = absurd (let p = and_parts (has_no_cell x) _ ok in let r = and_parts (is_some (inline_value e x)) _ p.1 in let y : is_some (inline_value e x) ≡ false = ap is_some q in cc)
     constant_law x at (Some (constant.Int i)) q ok =
-        let p = and_parts (has_no_cell x) _ ok in let r = and_parts (is_some (inline_value e x)) _ p.1 in
-        (ap (λ k. own_size k) (sym (expr.rolls-Num i at)) ∙ ap (λ (m : Meaning). m.size) (meaning_is (Expr-F.Num i at)) ∙ no_size (own_size x) r.1,
-        λ w. ap (λ k. evaluated k w t) (sym (expr.rolls-Num i at)) ∙ ap (λ (m : Meaning). m.run w t) (meaning_is (Expr-F.Num i at)) ∙ sym (inline_exact e s exactly x p.0 (constant.Int i) q w))
+        let p = and_parts (has_no_cell x) _ ok in let r = and_parts (is_some (inline_value e x)) _ p.1 in (
+          ap (λ k. own_size k) (sym (expr.rolls-Num i at)) ∙ ap (λ (m : Meaning). m.size) (meaning_is (Expr-F.Num i at)) ∙ no_size (own_size x) r.1,
+          λ w. ap (λ k. evaluated k w t) (sym (expr.rolls-Num i at)) ∙ ap (λ (m : Meaning). m.run w t) (meaning_is (Expr-F.Num i at)) ∙ sym (inline_exact e s exactly x p.0 (constant.Int i) q w),
+        )
       where
         no_size : (z : Option Size) → is_none z ≡ true → None ≡ z
         no_size None k = refl
         no_size (Some z) k = absurd cc
     constant_law x at (Some (constant.Bool b)) q ok =
-        let p = and_parts (has_no_cell x) _ ok in let r = and_parts (is_some (inline_value e x)) _ p.1 in
-        (ap (λ k. own_size k) (sym (expr.rolls-Bool b at)) ∙ ap (λ (m : Meaning). m.size) (meaning_is (Expr-F.Expr::Bool b at)) ∙ no_size (own_size x) r.1,
-        λ w. ap (λ k. evaluated k w t) (sym (expr.rolls-Bool b at)) ∙ ap (λ (m : Meaning). m.run w t) (meaning_is (Expr-F.Expr::Bool b at)) ∙ sym (inline_exact e s exactly x p.0 (constant.Bool b) q w))
+        let p = and_parts (has_no_cell x) _ ok in let r = and_parts (is_some (inline_value e x)) _ p.1 in (
+          ap (λ k. own_size k) (sym (expr.rolls-Bool b at)) ∙ ap (λ (m : Meaning). m.size) (meaning_is (Expr-F.Expr::Bool b at)) ∙ no_size (own_size x) r.1,
+          λ w. ap (λ k. evaluated k w t) (sym (expr.rolls-Bool b at)) ∙ ap (λ (m : Meaning). m.run w t) (meaning_is (Expr-F.Expr::Bool b at)) ∙ sym (inline_exact e s exactly x p.0 (constant.Bool b) q w),
+        )
       where
         no_size : (z : Option Size) → is_none z ≡ true → None ≡ z
         no_size None k = refl
@@ -156,6 +160,7 @@ module _ (e : Integers) where
       where
         x : Layer
         x = bare y
+
         by_inline : (b : Bool) → is_inline (roll-Expr x) ≡ b → (if is_inline (roll-Expr x) then is_known e (roll-Expr x) else parts_layer x) ≡ true → (own_size (values_layer x) ≡ own_size (roll-Expr x)) × ((w : Option Size) → evaluated (values_layer x) w t ≡ evaluated (roll-Expr x) w s)
         by_inline true q k =
             let l = constant_law (roll-Expr x) (span_of (roll-Expr x)) (inline_value e (roll-Expr x)) refl (ap (λ b. if b then is_known e (roll-Expr x) else parts_layer x) (sym q) ∙ k) in
@@ -163,19 +168,21 @@ module _ (e : Integers) where
             (ap own_size f ∙ l.0, λ w. ap (λ k. evaluated k w t) f ∙ l.1 w)
         by_inline false q k =
             let l = parts_law y (ap (λ b. if b then is_known e (roll-Expr x) else parts_layer x) (sym q) ∙ k) in
-            let f : values_layer x ≡ roll-Expr (parts_in x) = ap (λ b. if b then constant_expr (span_of (roll-Expr x)) (roll-Expr x) (inline_value e (roll-Expr x)) else roll-Expr (parts_in x)) q in
-            (ap own_size f ∙ ap (λ (m : Meaning). m.size) (meaning_is (parts_in x)) ∙ l.0 ∙ ap (λ (m : Meaning). m.size) (sym (meaning_is x)),
-            λ w. ap (λ k. evaluated k w t) f ∙ ap (λ (m : Meaning). m.run w t) (meaning_is (parts_in x)) ∙ l.1 w ∙ ap (λ (m : Meaning). m.run w s) (sym (meaning_is x)))
+            let f : values_layer x ≡ roll-Expr (parts_in x) = ap (λ b. if b then constant_expr (span_of (roll-Expr x)) (roll-Expr x) (inline_value e (roll-Expr x)) else roll-Expr (parts_in x)) q in (
+              ap own_size f ∙ ap (λ (m : Meaning). m.size) (meaning_is (parts_in x)) ∙ l.0 ∙ ap (λ (m : Meaning). m.size) (sym (meaning_is x)),
+              λ w. ap (λ k. evaluated k w t) f ∙ ap (λ (m : Meaning). m.run w t) (meaning_is (parts_in x)) ∙ l.1 w ∙ ap (λ (m : Meaning). m.run w s) (sym (meaning_is x)),
+            )
 
     access_case : (y : Access-F ((x : Expr) × ExprLaw x) ((z : Ty) × Any z) ((a : Access) × AccessLaw a) ((d : Decl) × Any d) ((v : Var) × Any v)) → AccessLaw (roll-Access (map-Access _ _ _ _ _ _ _ _ _ _ (λ x. x.0) (λ x. x.0) (λ x. x.0) (λ x. x.0) (λ x. x.0) y))
     access_case y ok =
         let x = map-Access _ _ _ _ _ Expr Ty Access Decl Var (λ x. x.0) (λ x. x.0) (λ x. x.0) (λ x. x.0) (λ x. x.0) y in
         let n = access_is x in
         let m = ap access_of (access_values_is x) ∙ access_is (record { size = x.size; at = with_values e x.at; unaligned = x.unaligned; span = x.span }) in
-        let l = y.at.1 (sym (access_known_is x) ∙ ok) in
-        (evaluated (with_values e y.at.0) (Some S64),
-        m ∙ ap (λ (p : MemoryAccess). record { size = p.size; at = evaluated (with_values e y.at.0) (Some S64); unaligned = p.unaligned; span = p.span }) (sym n),
-        l.1 (Some S64) ∙ ap (λ (p : MemoryAccess). p.at s) (sym n))
+        let l = y.at.1 (sym (access_known_is x) ∙ ok) in (
+          evaluated (with_values e y.at.0) (Some S64),
+          m ∙ ap (λ (p : MemoryAccess). record { size = p.size; at = evaluated (with_values e y.at.0) (Some S64); unaligned = p.unaligned; span = p.span }) (sym n),
+          l.1 (Some S64) ∙ ap (λ (p : MemoryAccess). p.at s) (sym n),
+        )
 
     -- where each inline part has a value, and the states differ in inline variables alone
     pub values_so : (x : Expr) → ExprLaw x
