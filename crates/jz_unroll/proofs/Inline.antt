@@ -17,7 +17,7 @@ use Rattle.jz_tree.specs.declared.expr.Expr.TheOpen.{Expr-F}
 use Rattle.jz_tree.specs.declared.expr.Expr.TheViews.{roll-Expr, out-Var, roll-out-Var}
 use Rattle.jz_tree.specs.declared.expr.Expr.TheFolds.{fold-Var, fold-roll-Expr, fold-roll-Var, para-Access, para-roll-Expr, ind-Expr, map-Expr}
 use Rattle.jz_integers.specs.Integers as numbers
-use Rattle.jz_integers.specs.Integers.{inline_value, value_step}
+use Rattle.jz_integers.specs.Integers.{KnownNumbers, inline_value, value_step}
 use Rattle.jz_integers.specs.declared.constant.Constant.{Constant}
 use Rattle.jz_integers.specs.declared.constant.Constant.TheVariants as constant
 use Rattle.jz_runs.specs.Rules.{went}
@@ -25,7 +25,7 @@ use Rattle.jz_meaning.specs.Attempts.{Evaluation, and_then, defined}
 use Rattle.jz_meaning.specs.States.{Value, boolean, integer, State}
 use Rattle.jz_meaning.specs.Operators.{of_constant, joined, is_settled, combined, shifted, binary, negated, inverted}
 use Rattle.jz_meaning.specs.Values.{Ref, key_of, Meaning, right_wanted, left_wanted, with_right, ref_of, own_size, evaluated}
-use Rattle.jz_unroll.specs.Values.{Integers, cells_step, has_no_cell}
+use Rattle.jz_unroll.specs.Values.{cells_step, has_no_cell}
 use Rattle.jz_unroll.specs.ValueLaws.{HoldsKnown}
 use Rattle.jz_unroll.proofs.Layers.{Layer, meaning_layer, meaning_is, ref_rolled}
 use Rattle.jz_unroll.proofs.PartNumbers.{none_first}
@@ -163,7 +163,7 @@ cells_step_is (Expr-F.Bin o a c at) = refl
 cells_is : (x : Layer) → has_no_cell (roll-Expr x) ≡ cells_layer x
 cells_is x = para-roll-Expr Bool (Unit {0}) Bool (Unit {0}) (Unit {0}) cells_step (λ t. tt) (λ a. a.at.1) (λ d. tt) (λ v. tt) x ∙ cells_step_is x
 
-module _ (known : Integers) (s : State) (exactly : HoldsKnown known s) where
+module _ (known : KnownNumbers) (s : State) (exactly : HoldsKnown known s) where
   abbrev Law : Expr → Type 0
   Law e = has_no_cell e ≡ true → (c : Constant) → inline_value known e ≡ Some c → (w : Option Size) → evaluated e w s ≡ went [] (of_constant c)
 

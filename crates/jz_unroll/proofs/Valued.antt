@@ -17,7 +17,7 @@ use Rattle.jz_tree.specs.declared.expr.Expr.TheViews.{roll-Expr, roll-Access}
 use Rattle.jz_tree.specs.declared.expr.Expr.TheFolds.{para-roll-Expr, para-roll-Access, ind-Expr, map-Expr, map-Access}
 use Rattle.jz_type_names.specs.Kinds.{is_inline}
 use Rattle.jz_type_names.specs.Parts.{span_of}
-use Rattle.jz_integers.specs.Integers.{inline_value}
+use Rattle.jz_integers.specs.Integers.{KnownNumbers, inline_value}
 use Rattle.jz_integers.specs.declared.constant.Constant.{Constant}
 use Rattle.jz_integers.specs.declared.constant.Constant.TheVariants as constant
 use Rattle.jz_runs.specs.Rules.{went}
@@ -25,12 +25,12 @@ use Rattle.jz_meaning.specs.Attempts.{Evaluation, and_then, defined}
 use Rattle.jz_meaning.specs.States.{Value, State}
 use Rattle.jz_meaning.specs.Operators.{is_settled, binary, negated, inverted, cast}
 use Rattle.jz_meaning.specs.Values.{index_at, cell_value, MemoryAccess, load_at, Meaning, right_wanted, left_wanted, with_right, run_binary, ref_of, access_of, own_size, evaluated}
-use Rattle.jz_unroll.specs.Values.{Integers, is_int, constant_expr, has_no_cell, values_step, access_step, with_values, access_with_values, is_known, known_step, has_values, access_has_values}
+use Rattle.jz_unroll.specs.Values.{is_int, constant_expr, has_no_cell, values_step, access_step, with_values, access_with_values, is_known, known_step, has_values, access_has_values}
 use Rattle.jz_unroll.specs.ValueLaws.{HoldsKnown, DiffersInline}
 use Rattle.jz_unroll.proofs.Layers.{Layer, meaning_layer, meaning_is, access_is}
 use Rattle.jz_unroll.proofs.Inline.{inline_exact}
 
-module _ (e : Integers) where
+module _ (e : KnownNumbers) where
   abbrev parts_in : Layer → Layer
   parts_in x = map-Expr _ _ _ _ _ Expr Ty Access Decl Var (with_values e) (λ t. t) (access_with_values e) (λ d. d) (λ v. v) x
 

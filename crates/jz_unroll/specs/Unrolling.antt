@@ -10,7 +10,7 @@ use Rattle.jz_tree.specs.declared.expr.Var.{Var}
 use Rattle.jz_tree.specs.declared.stmt.Lval.TheVariants as lval
 use Rattle.jz_type_names.specs.Kinds.{is_inline}
 use Rattle.jz_type_names.specs.Parts.{span_of}
-use Rattle.jz_integers.specs.Integers.{inline_value}
+use Rattle.jz_integers.specs.Integers.{KnownNumbers, inline_value}
 use Rattle.jz_integers.specs.declared.constant.Constant.{Constant}
 use Rattle.jz_integers.specs.declared.constant.Constant.TheVariants as constant
 use Rattle.jz_meaning.specs.Assignments.{whole_of}
@@ -19,10 +19,10 @@ use Rattle.jz_meaning.specs.Values.{ref_of}
 use Rattle.jz_change.specs.declared.change.Numbers.{Numbers}
 use Rattle.jz_change.specs.declared.change.Numbers.TheVariants.{Same}
 use Rattle.jz_pass.specs.Unrolling.{Knowing}
-use Rattle.jz_unroll.specs.Values.{Integers, is_int, with_values, operation_with_values}
+use Rattle.jz_unroll.specs.Values.{is_int, with_values, operation_with_values}
 
-abbrev pub with_integer : Integers → Var → Option ℤ → Integers
-with_integer e v i n c =
+abbrev pub with_number : KnownNumbers → Var → Option ℤ → KnownNumbers
+with_number e v i n c =
     if bytes_eq (ref_of v).name n && (ref_of v).copy == c then i else e n c
 
 -- ---- parts
@@ -34,60 +34,60 @@ inline_target (assign (lval.Var v ∷ []) o x c at) =
 inline_target _ = None
 
 -- an absent condition is true
-abbrev pub condition_value : Integers → Option Expr → Option Constant
+abbrev pub condition_value : KnownNumbers → Option Expr → Option Constant
 condition_value e None = Some (constant.Bool true)
 condition_value e (Some c) = inline_value e c
 
-abbrev pub all_unknown : Integers → List Var → Integers
+abbrev pub all_unknown : KnownNumbers → List Var → KnownNumbers
 all_unknown e [] = e
-all_unknown e (v ∷ vs) = all_unknown (with_integer e v None) vs
+all_unknown e (v ∷ vs) = all_unknown (with_number e v None) vs
 
-pub data UnrollsOp : Operation → Integers → List Operation → List Numbers → Integers → Type 0 where
+pub data UnrollsOp : Operation → KnownNumbers → List Operation → List Numbers → KnownNumbers → Type 0 where
   stays :
-      {o : Operation} {e : Integers}
+      {o : Operation} {e : KnownNumbers}
       → inline_target o ≡ None
       → UnrollsOp o e (operation_with_values e o ∷ []) (Same ∷ []) e
   -- it vanishes; where its condition is false the old value stays
   vanishes :
-      {v : Var} {o : Option BinOp} {x y : Expr} {c : Option Expr} {at : Span} {e : Integers}
+      {v : Var} {o : Option BinOp} {x y : Expr} {c : Option Expr} {at : Span} {e : KnownNumbers}
       {i : ℤ} {b : Bool}
       → is_int (ref_of v).kind ≡ true → whole_of (Some (lval.Var v)) o x ≡ Some y
       → inline_value e y ≡ Some (constant.Int i)
       → condition_value e c ≡ Some (constant.Bool b)
       → UnrollsOp (assign (lval.Var v ∷ []) o x c at) e [] []
-      (if b then with_integer e v (Some i) else e)
+      (if b then with_number e v (Some i) else e)
 
-pub data UnrollsMark : Operation → Integers → Operation → Integers → Type 0 where
+pub data UnrollsMark : Operation → KnownNumbers → Operation → KnownNumbers → Type 0 where
   marked :
-      {vs : List Var} {e : Integers}
+      {vs : List Var} {e : KnownNumbers}
       → UnrollsMark (unset vs) e (unset (filter (λ v. not (is_int (ref_of v).kind)) vs))
       (all_unknown e vs)
 
 pub data UnrollsTest :
-    Condition → Integers → List Operation → List Numbers → Condition → Numbers → Type 0 where
+    Condition → KnownNumbers → List Operation → List Numbers → Condition → Numbers → Type 0 where
   tested :
-      {p : Condition} {e : Integers}
+      {p : Condition} {e : KnownNumbers}
       → is_inline p.cond ≡ false
       → UnrollsTest p e [] [] (record { cond = with_values e p.cond; at = p.at }) Same
 
 pub data UnrollsLoopTest :
-    Condition → Integers → List Operation → List Numbers → Condition → Numbers → Type 0 where
+    Condition → KnownNumbers → List Operation → List Numbers → Condition → Numbers → Type 0 where
   loops :
-      {p : Condition} {e : Integers}
+      {p : Condition} {e : KnownNumbers}
       → is_inline p.cond ≡ false
       → UnrollsLoopTest p e [] [] (record { cond = with_values e p.cond; at = p.at }) Same
   -- one that is always true stays
   always :
-      {p : Condition} {e : Integers}
+      {p : Condition} {e : KnownNumbers}
       → is_inline p.cond ≡ true → inline_value e p.cond ≡ Some (constant.Bool true)
       → UnrollsLoopTest p e [] []
       (record { cond = expr.Bool true (span_of p.cond); at = p.at }) Same
 
-abbrev pub IsConstant : Condition → Integers → Bool → Type 0
+abbrev pub IsConstant : Condition → KnownNumbers → Bool → Type 0
 IsConstant p e z =
     (is_inline p.cond ≡ true) × (inline_value e p.cond ≡ Some (constant.Bool z))
 
-abbrev pub HasValues : Counter → Integers → List ℤ → Type 0
+abbrev pub HasValues : Counter → KnownNumbers → List ℤ → Type 0
 HasValues f e is =
     (a : ℤ)
     × (b : ℤ)
@@ -95,10 +95,10 @@ HasValues f e is =
     × (inline_value e f.to ≡ Some (constant.Int b))
     × (is ≡ values_between f.down a b)
 
-abbrev pub KnowsLess : Integers → Integers → Type 0
+abbrev pub KnowsLess : KnownNumbers → KnownNumbers → Type 0
 KnowsLess e0 e = (n : List ℕ) (c : ℕ) (i : ℤ) → e0 n c ≡ Some i → e n c ≡ Some i
 
-abbrev pub unrolling : Knowing Operation Condition Counter Integers Operation Condition
+abbrev pub unrolling : Knowing Operation Condition Counter KnownNumbers Operation Condition
 unrolling = record {
   Op = UnrollsOp;
   Quiet = UnrollsMark;
@@ -107,7 +107,7 @@ unrolling = record {
   Constant = IsConstant;
   Values = HasValues;
   Less = KnowsLess;
-  set = λ f i e. with_integer e f.counter (Some i);
+  set = λ f i e. with_number e f.counter (Some i);
   restore = λ f e e1.
-      with_integer e1 f.counter (e (ref_of f.counter).name (ref_of f.counter).copy);
+      with_number e1 f.counter (e (ref_of f.counter).name (ref_of f.counter).copy);
 }

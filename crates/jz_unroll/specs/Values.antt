@@ -1,5 +1,5 @@
 -- Inline expressions become their values: the largest of them, wherever they stand.
-use Rattle.std.specs.Prelude.{ℕ, ℤ, ◌&&◌, Bool, true, false, not, is_none, is_some, if◌then◌else◌, List, map, Option, Some, None, option_map}
+use Rattle.std.specs.Prelude.{◌&&◌, Bool, true, false, not, is_none, is_some, if◌then◌else◌, map, Option, Some, None, option_map}
 use Rattle.jz_tree.specs.Span.{Span}
 use Rattle.jz_tree.specs.declared.expr.Expr.{Expr}
 use Rattle.jz_tree.specs.declared.expr.Expr.TheVariants as expr
@@ -14,17 +14,13 @@ use Rattle.jz_tree.specs.declared.stmt.Lval.{Lval}
 use Rattle.jz_tree.specs.declared.stmt.Lval.TheVariants as lval
 use Rattle.jz_type_names.specs.Kinds.{is_inline}
 use Rattle.jz_type_names.specs.Parts.{span_of}
-use Rattle.jz_integers.specs.Integers.{inline_value}
+use Rattle.jz_integers.specs.Integers.{KnownNumbers, inline_value}
 use Rattle.jz_integers.specs.declared.constant.Constant.{Constant}
 use Rattle.jz_integers.specs.declared.constant.Constant.TheVariants as constant
 use Rattle.jz_meaning.specs.declared.access.Kind.{Kind}
 use Rattle.jz_meaning.specs.declared.access.Kind.TheVariants as kind
 use Rattle.jz_meaning.specs.Statements.{Operation, assign, instruction}
 use Rattle.jz_meaning.specs.Values.{ref_of, own_size}
-
--- the values of inline variables that are known, by name and copy
-abbrev pub Integers : Type 0
-Integers = List ℕ → ℕ → Option ℤ
 
 abbrev pub is_int : Kind → Bool
 is_int kind.Int = true
@@ -65,7 +61,7 @@ has_no_cell =
     para-Expr Bool (Unit {0}) Bool (Unit {0}) (Unit {0}) cells_step (λ t. tt) (λ a. a.at.1)
     (λ d. tt) (λ v. tt)
 
-module _ (e : Integers) where
+module _ (e : KnownNumbers) where
   -- ---- expressions with values
 
   abbrev pub parts_expr : Beside Expr Access → Expr
