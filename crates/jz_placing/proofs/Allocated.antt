@@ -6,7 +6,7 @@ use Rattle.jz_ir.specs.declared.code.Need.{Need}
 use Rattle.jz_ir.proofs.Numbers.{one_place}
 use Rattle.std.proofs.lemmas.List.{get_or-map, length-map}
 use Rattle.std.proofs.lemmas.Bool.{eq-eqb, eqb-true, or_cases, and_parts, not_from_true, both_ways}
-use Rattle.std.proofs.lemmas.List.Elements.{All-nil, All-cons, All-head, All-tail, All-from_get_or}
+use Rattle.std.proofs.lemmas.List.Elements.{All-head, All-tail, All-from_get_or}
 use Rattle.x64_insn.specs.declared.types.Place.{Place}
 use Rattle.jz_runs.specs.Trees.{done, op, quiet, choose, loop, each, call}
 use Rattle.jz_ir.specs.declared.code.Op.{Op}
@@ -26,23 +26,15 @@ use Rattle.jz_operations.specs.Standing as standing
 use Rattle.jz_placing.specs.Flow.{asked_op, flow, then_ops}
 use Rattle.jz_placing.specs.Variables.{Asked, always, asks, Body, test_of}
 use Rattle.jz_placing.specs.Placing.{IsMet, IsMetTest, AreMet, Suits, SuitsTest, AreSuited}
-
--- ---- each part of a list
-front_of : {X : Type 0} (Q : X → Type 0) (xs ys : List X) → All Q (xs ++ ys) → All Q xs
-front_of Q [] ys a = All-nil Q
-front_of Q (x ∷ xs) ys a = All-cons Q x xs (All-head Q x (xs ++ ys) a) (front_of Q xs ys (All-tail Q x (xs ++ ys) a))
-
-back_of : {X : Type 0} (Q : X → Type 0) (xs ys : List X) → All Q (xs ++ ys) → All Q ys
-back_of Q [] ys a = a
-back_of Q (x ∷ xs) ys a = back_of Q xs ys (All-tail Q x (xs ++ ys) a)
+use Rattle.jz_placing.proofs.Fronts.{front_of, back_of}
 
 -- ---- what a placing does at one operation
 module _ (places : List Place) where
-  -- what an operation writes stands apart from what is live behind it, and what is live across it is kept from its fixed writes
   -- each need of the operation is met
   abbrev pub NeedsMet : Op → Type 0
   NeedsMet x = All (λ n. place_at places n.variable ≡ n.place) x.needs
 
+  -- what an operation writes stands apart from what is live behind it, and what is live across it is kept from its fixed writes
   pub record IsPlacedAt (st : List Frame) : Type 0 where
     pub needs : NeedsMet (op_of st)
     pub apart : (u v : ℕ) → u ≢ v → IsTrue (among (op_of st).writes u) → IsLiveAfter Step v st → place_at places u ≢ place_at places v

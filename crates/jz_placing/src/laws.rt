@@ -5,7 +5,7 @@ ghost use Rattle.jz_words.specs.Memory.{Memory};
 ghost use Rattle.x64_insn.specs.declared.types.Place.{Place};
 ghost use Rattle.jz_ir.specs.declared.code.Op.{Op};
 ghost use Rattle.jz_ir.specs.declared.code.Code.{Code};
-ghost use Rattle.jz_ir.specs.Places.{place_at, IsPlacing, IsWithin};
+ghost use Rattle.jz_ir.specs.Places.{place_at, all_of, FirstFit, IsPlacing, IsWithin};
 ghost use Rattle.jz_ir.specs.Tree as ir;
 ghost use Rattle.jz_leak.specs.RunLeaks.{Leak};
 ghost use Rattle.jz_live.specs.Lives.{live_before};
@@ -19,6 +19,14 @@ ghost use Rattle.jz_placing.specs.Variables.{Body, variables, test_of};
 ghost use Rattle.jz_placing.specs.Flow.{flow, then_ops};
 ghost use Rattle.jz_placing.specs.Following.{Follows};
 ghost use Rattle.jz_placing.specs.Placing.{code_of, leak_of, AreMet, AreSuited, StandsBeside};
+
+/// In code with branches and loops too, the places of first fit keep apart what conflicts.
+pub fn first_fit_is_a_placing()
+    ensures { (t : ir.Tree) (code : Code) (places : List Place) → IsWithin code
+        → code.ops ≡ ir.ops_of t
+        → FirstFit code.ops code.kinds code.in_use (ir.LiveInTree t) (all_of places)
+        → IsPlacing code (ir.LiveInTree t) places }
+{}
 
 /// Places that are allocated by liveness along paths, over the entry, the body and the return, meet
 /// what is asked of each operation of the body.

@@ -3,4 +3,4 @@
 
 mod laws;
 
-pub use laws::{allocated_places_are_met, placing_keeps_runs};
+pub use laws::{allocated_places_are_met, first_fit_is_a_placing, placing_keeps_runs};
