@@ -13,3 +13,4 @@ pub mod Ending
 pub mod Wanted
 pub mod OperatorCauses
 pub mod Causing
+pub mod ReachedCauses

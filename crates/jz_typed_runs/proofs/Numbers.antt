@@ -144,7 +144,7 @@ module _ (q : Program) (h : IsTypedText q) where
       λ i d lt. fun_fixed (slice_index_or q.funs i d) (typed i d lt) (rows i d lt) (names i d lt).called (kept_used q (slice_index_or q.funs i d) (h.text i d lt) (names i d lt)).0
 
 -- the state of the function that does something
-own_kinds : (q : Program) (g : Fun) (p : SourcePart) (s : State) → KeepsKinds q g p s → IsOfKinds (kinds_in q g) s
+pub own_kinds : (q : Program) (g : Fun) (p : SourcePart) (s : State) → KeepsKinds q g p s → IsOfKinds (kinds_in q g) s
 own_kinds q g (operation o) s k = k
 own_kinds q g (test c) s k = k
 own_kinds q g (bounds f) s k = k

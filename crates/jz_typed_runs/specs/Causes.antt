@@ -9,6 +9,10 @@ use Rattle.jz_tree.specs.declared.expr.Access.{Access}
 use Rattle.jz_tree.specs.declared.expr.Var.{Var}
 use Rattle.jz_tree.specs.declared.expr.Expr.TheOpen.{Expr-F}
 use Rattle.jz_tree.specs.declared.expr.Expr.TheViews.{out-Expr, out-Access}
+use Rattle.jz_tree.specs.Memory.{Memory}
+use Rattle.jz_tree.specs.declared.program.Fun.{Fun}
+use Rattle.jz_tree.specs.declared.program.Program.{Program}
+use Rattle.jz_types.specs.Carried.{vars_in}
 use Rattle.jz_judgement.specs.HasType.{Layer, HasType, value}
 use Rattle.jz_judgement.specs.Places.{Place}
 use Rattle.jz_meaning.specs.declared.access.Kind.{Kind}
@@ -16,12 +20,14 @@ use Rattle.jz_meaning.specs.declared.access.Kind.TheVariants as kind
 use Rattle.jz_meaning.specs.declared.value.Stuck as code
 use Rattle.jz_meaning.specs.declared.value.Why.TheVariants.{Init}
 use Rattle.jz_meaning.specs.Rules.{stuck, went}
-use Rattle.jz_meaning.specs.States.{integer, Store, State}
+use Rattle.jz_meaning.specs.States.{Value, integer, Store, State}
 use Rattle.jz_meaning.specs.Values.{key_of, cell_key, ref_of, evaluated}
 use Rattle.jz_run_laws.specs.Kinds.{Kinds, IsOfKinds}
 use Rattle.jz_run_laws.specs.DeclaredKinds.{IsDeclared}
 use Rattle.jz_run_laws.specs.Counted.{Counted, Each}
 use Rattle.jz_run_laws.specs.Values.{IsWanted}
+use Rattle.jz_typed_runs.specs.TypedTexts.{IsTypedText}
+use Rattle.jz_typed_runs.specs.Runs.{SourcePart, RunComes, StandsIn}
 
 -- ---- variables
 abbrev pub IsCell : Kind → ℕ → Type 0
@@ -87,3 +93,13 @@ CauseLaw =
     (w : code.Stuck) → IsOfKinds kinds s → Counted e
     → Each (λ v. IsDeclared kinds (ref_of v)) e → Each (Contains vs) e
     → HasType (value e) p → IsWanted p z → evaluated e z s ≡ stuck w → IsCaused vs (out-Expr e) s w
+
+-- an expression of a statement, at a place where typing admits it and at the size that is wanted
+-- there, in any state in which the run does something of that function
+abbrev pub ReachedCauseLaw : Type 0
+ReachedCauseLaw =
+    (q : Program) (f : Fun) (words : List Value) (memory : Memory) (n : ℕ) (g : Fun)
+    (p : SourcePart) (s : State) (e : Expr) (at : Place) (z : Option Size) (w : code.Stuck)
+    → IsTypedText q → RunComes q f words memory n g p s → StandsIn g e
+    → HasType (value e) at → IsWanted at z → evaluated e z s ≡ stuck w
+    → IsCaused (vars_in e) (out-Expr e) s w

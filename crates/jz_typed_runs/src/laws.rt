@@ -3,7 +3,7 @@
 ghost use Rattle.jz_typed_runs.specs.TypedTexts.{DeclaredLaw};
 ghost use Rattle.jz_typed_runs.specs.InlineValues.{InlineLaw};
 ghost use Rattle.jz_typed_runs.specs.Stuck.{StuckLaw, UnsetLaw};
-ghost use Rattle.jz_typed_runs.specs.Causes.{CauseLaw};
+ghost use Rattle.jz_typed_runs.specs.Causes.{CauseLaw, ReachedCauseLaw};
 ghost use Rattle.jz_typed_runs.specs.Runs.{ReachedLaw, EndsLaw, NumbersLaw};
 
 /// Each statement of a typed program that comes of a text carries what is declared.
@@ -41,7 +41,8 @@ pub fn inline_values_are_never_stuck()
 
 /// Where an expression that typing admits is stuck for want of a value, a variable or a cell of it
 /// holds nothing, at the place that is told, or an operation at that place has a number as an
-/// operand.
+/// operand; so of each expression of a typed program, in every state that a run reaches.
 pub fn stuck_expressions_lack_a_value()
-    ensures { CauseLaw }
+    ensures causes { CauseLaw }
+    ensures reached { ReachedCauseLaw }
 {}
