@@ -1,10 +1,10 @@
 -- A leak that fits a change, and whose change fits another, fits their composition, and this makes of it what one change makes of what
 -- the other makes of it.
-use Rattle.std.proofs.Common.{◌≡◌, ℕ, Bool, true, false, if◌then◌else◌, List, [], ◌∷◌, ◌++◌, refl, sym, ap, ◌∙◌}
-use Rattle.jz_leak.specs.RunLeaks.{Leak, over, ran, chose, chose_cut, looped, looped_cut, each, each_cut, called, called_cut, Turns, left, turn, prologue_cut, wanted, body_cut, Rounds, no_round, round, round_cut}
+use Rattle.std.proofs.Common.{◌≡◌, ℕ, Bool, true, false, if◌then◌else◌, List, ◌++◌, refl, sym, ap, ◌∙◌}
+use Rattle.jz_leak.specs.RunLeaks.{Leak, over, chose, chose_cut, looped, looped_cut, each, each_cut, Turns, prologue_cut, Rounds, round_cut}
 use Rattle.jz_leak.specs.Applying.{is_cut, is_cut_in_turns, is_cut_in_rounds}
 use Rattle.jz_change.specs.declared.change.Numbers.{Numbers}
-use Rattle.jz_change.specs.Changes.{numbers_in, Change, Changes, stays_if, operations, map_before, map_turns, map_once, map_each, map_rounds, map_of}
+use Rattle.jz_change.specs.Changes.{numbers_in, Change, Changes, operations, map_before, map_turns, map_once, map_each, map_rounds, map_of}
 use Rattle.jz_change.specs.Fitting.{HasThese, HasAll, LeakFits, fits_over, fits_ran, fits_if, fits_if_cut, fits_arm, fits_arm_cut, fits_while, fits_while_cut, fits_once, fits_once_cut, fits_for, fits_for_cut, fits_unrolled, fits_unrolled_cut, fits_opened, fits_opened_cut, LeakTurnsFit, turns_left, turns_turn, turns_prologue_cut, turns_wanted, turns_body_cut, LeakOnceFits, once_left, once_cut, LeakEachFits, same_none, same_round, same_cut, LeakRoundsFit, own_none, own_round, own_cut}
 use Rattle.jz_change.specs.Composing.{numbers_by, all_by, first_ops, JoinedChange, JoinedRounds, join_if, join_every, join_first, join, join_rounds, compose_of, Composes}
 use Rattle.jz_change.proofs.Operations.{numbers_so, both_so, these_there, both_there, ops_taken}
@@ -76,7 +76,9 @@ if_joins ns i xs z a a1 l k k2 ja jb jr t u w arms next (fits_if {pre} {i = j} {
     record {
       fits = fits_if (both_there ns xs i pre t u g) (these_there ns i j u t2) w p.fits s.fits;
       more_fits = s.more_fits;
-      maps = λ y. both_so xs pre i ns _ ∙ ap (operations (xs ++ all_by i pre) ns) (let e = numbers_so i j ns in let d = p.maps in let x = s.maps y in rw (e, d, x));
+      maps = λ y.
+          both_so xs pre i ns (chose (numbers_in j (numbers_in i ns)) z (map_before a1 (if z then ta else tb) over) (map_before k2 r y))
+          ∙ ap (operations (xs ++ all_by i pre) ns) (let e = numbers_so i j ns in let d = p.maps in let x = s.maps y in rw (e, d, x));
     }
 if_joins ns i xs z a a1 l k k2 ja jb jr t u w arms next (fits_arm {pre} {ta} {r} g w2 f f2) =
     let p = arms ta f in let s = next r f2 in

@@ -1,5 +1,5 @@
 -- Worked examples of what a change makes of a leak: each step, and a cut in each place.
-use Rattle.std.specs.Prelude.{ℕ, ◌≡◌, refl, true, false, List, [], ◌∷◌}
+use Rattle.std.specs.Prelude.{ℕ, ◌≡◌, refl, true, false, [], ◌∷◌}
 use Rattle.jz_leak.specs.RunLeaks.{Leak, over, ran, chose, chose_cut, looped, looped_cut, each, each_cut, called, called_cut, left, turn, prologue_cut, wanted, body_cut, no_round, round, round_cut}
 use Rattle.jz_change.specs.declared.change.Number.TheVariants.{Fixed, Nth}
 use Rattle.jz_change.specs.declared.change.Numbers.{Numbers}

@@ -14,8 +14,8 @@ use Rattle.jz_leak.specs.declared.transformer.Case.TheViews.{out-Case, roll-Case
 use Rattle.jz_leak.specs.RunLeaks.{Leak, over, chose, chose_cut, looped, looped_cut, each, each_cut, Turns, left, prologue_cut, Rounds}
 use Rattle.jz_leak.specs.Applying.{Layer, Loop, events_for, is_cut, is_cut_in_turns, is_cut_in_rounds, if_events, while_events, for_events, call_events, begun_call_events, head_events, body_events, turns_events, rounds_events, last_events, OutFits, OutsFit, IfFits, WhileFits, ForFits, CallFits, BegunCallFits, HeadFits, CasesFit, TurnsFit, RoundsFit}
 use Rattle.jz_change.specs.declared.change.Numbers.{Numbers}
-use Rattle.jz_change.specs.Changes.{numbers_in, Change, stays_if, Changes, operations, map_before, map_turns, map_once, map_each, map_rounds, map_of}
-use Rattle.jz_change.specs.Fitting.{HasThese, HasAll, LeakFits, fits_over, fits_ran, fits_if, fits_if_cut, fits_arm, fits_arm_cut, fits_while, fits_while_cut, fits_once, fits_once_cut, fits_for, fits_for_cut, fits_unrolled, fits_unrolled_cut, fits_opened, fits_opened_cut, LeakTurnsFit, turns_left, turns_turn, turns_prologue_cut, turns_wanted, turns_body_cut, LeakOnceFits, once_left, once_cut, LeakEachFits, same_none, same_round, same_cut, LeakRoundsFit, own_none, own_round, own_cut}
+use Rattle.jz_change.specs.Changes.{numbers_in, Change, stays_if, Changes, operations, map_before, map_turns, map_each, map_rounds, map_of}
+use Rattle.jz_change.specs.Fitting.{HasThese, HasAll, LeakFits, fits_over, fits_ran, fits_if, fits_if_cut, fits_arm, fits_arm_cut, fits_while, fits_while_cut, fits_once, fits_once_cut, fits_for, fits_for_cut, fits_unrolled, fits_unrolled_cut, fits_opened, fits_opened_cut, LeakTurnsFit, turns_left, turns_turn, turns_prologue_cut, turns_wanted, turns_body_cut, once_left, once_cut, LeakEachFits, same_none, same_round, same_cut, LeakRoundsFit, own_none, own_round, own_cut}
 use Rattle.jz_change.specs.Flattening.{outs_by, FrontOuts, first_outs, FlatCases, FlatRounds, tr_of, flat_arm, flat_if, flat_while, flat_once, flat_for, flat_first, flat, flat_rounds, flatten_of, Flattens}
 use Rattle.jz_change.proofs.CutsKept.{map_cut}
 use Rattle.jz_change.proofs.Forms.{events_sub, events_both, outs_there, outs_both}

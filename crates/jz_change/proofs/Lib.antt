@@ -1,10 +1,11 @@
+mod Examples
 pub mod Composition
 pub mod CutsKept
-mod Examples
 pub mod FlatEvents
 pub mod Forms
 pub mod Operations
 pub mod StepCases
 pub mod StepJoins
+pub mod StepKinds
 pub mod StepViews
 pub mod Whole

@@ -8,7 +8,7 @@ use Rattle.jz_change.specs.declared.change.Number.{Number}
 use Rattle.jz_change.specs.declared.change.Number.TheVariants.{Fixed, Nth}
 use Rattle.jz_change.specs.declared.change.Numbers.{Numbers}
 use Rattle.jz_change.specs.declared.change.Numbers.TheVariants.{Same, These}
-use Rattle.jz_change.specs.Changes.{number_in, numbers_in, Change, ops, operations, map_before}
+use Rattle.jz_change.specs.Changes.{number_in, numbers_in, Change, operations, map_before}
 use Rattle.jz_change.specs.Fitting.{HasNumber, HasThese, HasAll, LeakFits, fits_ran}
 use Rattle.jz_change.specs.Composing.{number_by, numbers_by, all_by, FrontOps, first_ops}
 

@@ -16,9 +16,10 @@ use Rattle.jz_change.specs.declared.change.Step.{Step}
 use Rattle.jz_change.specs.declared.change.Step.TheVariants as step
 use Rattle.jz_change.specs.declared.change.Step.TheOpen.{Step-F}
 use Rattle.jz_change.specs.declared.change.Step.TheFolds.{fold-roll-Step}
-use Rattle.jz_change.specs.Flattening.{outs_by, first_outs, cases_behind, FlatCases, FlatRounds, tr_of, add_case, flat_arm, flat_if, flat_while, flat_once, flat_for, first_by, flat, flat_rounds}
+use Rattle.jz_change.specs.Flattening.{outs_by, first_outs, cases_behind, FlatCases, FlatRounds, tr_of, add_case, flat_arm, flat_if, flat_while, flat_for, first_by, flat, flat_rounds}
 use Rattle.jz_change.specs.Views.{layer_change, steps_change, then_step, change_of, steps_of, changes_of}
 use Rattle.jz_change.specs.InnerSteps.{GivesCase, cases_and, cases_before, trees_before}
+use Rattle.jz_change.proofs.StepViews.{begun}
 
 -- ---- what is left of cases
 
@@ -144,6 +145,30 @@ while_made p before test y c1 ptr t m btr lv cs b1 outs2 m2 left l2 e f h i j k 
     ∙ sym (case.rolls-While (tr_of cs) ((first_outs before b1).outs ++ outs_by test t) (outs_by test m) (tr_of (flat (change_of y) btr.cases).cases) (outs_by test lv))
     ∙ ap (λ (x : FlatCases). roll-Case (Case-F.While (tr_of x.cases) ((first_outs before x.rest).outs ++ outs_by test t) (outs_by test m) (tr_of (flat (change_of y) btr.cases).cases) (outs_by test lv))) (sym f)
     ∙ ap (flat_while before test (flat (change_of p)) (flat (change_of y))) (sym (ap out-Case (e ∙ sym (case.rolls-While ptr t m btr lv)) ∙ out-roll-Case (Case-F.While ptr t m btr lv)))
+
+-- ---- steps and the first case, at places in a list
+
+pub if_some : (s : Step) (before : List Numbers) (test : Numbers) (x y : Change) (cs : List Case) (at to next : ℕ) (outs old : List Out) (c1 c : Case) → s ≡ step.If before test x y
+    → outs ≡ old ++ (first_outs before (drop at cs)).outs → old ≡ [] → (first_outs before (drop at cs)).rest ≡ drop to cs → to < length cs → c1 ≡ slice_index_or cs to c1
+    → c ≡ flat_if outs test (flat (change_of x)) (flat (change_of y)) (out-Case c1) → drop next cs ≡ cases_behind (drop to cs) → GivesCase s (drop at cs) c (drop next cs)
+if_some s before test x y cs at to next outs old c1 c e f g h lt is k n =
+    gives_at s (step.If before test x y) (drop at cs) (drop next cs) c e
+    (if_gives before test x y (drop at cs) c outs (drop to cs) (drop next cs) (begun outs old (first_outs before (drop at cs)).outs f g) h
+    (k ∙ sym (first_some (flat_if outs test (flat (change_of x)) (flat (change_of y))) cs to c1 lt is)) n)
+
+pub if_none : (s : Step) (before : List Numbers) (test : Numbers) (x y : Change) (cs : List Case) (at to next : ℕ) (outs old : List Out) (c : Case) → s ≡ step.If before test x y
+    → outs ≡ old ++ (first_outs before (drop at cs)).outs → old ≡ [] → (first_outs before (drop at cs)).rest ≡ drop to cs → nat_lt to (length cs) ≡ false
+    → c ≡ case.Op [] → drop next cs ≡ cases_behind (drop to cs) → GivesCase s (drop at cs) c (drop next cs)
+if_none s before test x y cs at to next outs old c e f g h none k n =
+    gives_at s (step.If before test x y) (drop at cs) (drop next cs) c e
+    (if_gives before test x y (drop at cs) c outs (drop to cs) (drop next cs) (begun outs old (first_outs before (drop at cs)).outs f g) h
+    (k ∙ sym (first_none (flat_if outs test (flat (change_of x)) (flat (change_of y))) cs to none)) n)
+
+pub while_some : (s : Step) (p : Change) (before : List Numbers) (test : Numbers) (y : Change) (cs : List Case) (at next : ℕ) (c1 c : Case) → s ≡ step.While p before test y → at < length cs → c1 ≡ slice_index_or cs at c1
+    → c ≡ flat_while before test (flat (change_of p)) (flat (change_of y)) (out-Case c1) → drop next cs ≡ cases_behind (drop at cs) → GivesCase s (drop at cs) c (drop next cs)
+while_some s p before test y cs at next c1 c e lt is k n =
+    gives_at s (step.While p before test y) (drop at cs) (drop next cs) c e
+    (while_gives p before test y (drop at cs) c (drop next cs) (k ∙ sym (first_some (flat_while before test (flat (change_of p)) (flat (change_of y))) cs at c1 lt is)) n)
 
 -- ---- loops
 -- one more step

@@ -1,5 +1,5 @@
 -- What each step makes of the steps of another change, and what the loops over steps keep.
-use Rattle.std.proofs.Common.{◌≡◌, ℕ, ◌+◌, ◌<◌, ◌≤◌, Bool, true, false, if◌then◌else◌, List, [], ◌∷◌, ◌++◌, map, refl, sym, ap, ◌∙◌, drop, append_assoc, append-nil}
+use Rattle.std.proofs.Common.{◌≡◌, ℕ, ◌+◌, ◌<◌, ◌≤◌, Bool, true, false, if◌then◌else◌, List, [], ◌∷◌, ◌++◌, map, sym, ap, ◌∙◌, subst, drop}
 use Rattle.std.specs.Prelude.{length, slice_index_or}
 use Rattle.std.proofs.lemmas.List.{drop_all, drop_more}
 use Rattle.jz_change.specs.declared.change.Numbers.{Numbers}
@@ -11,9 +11,9 @@ use Rattle.jz_change.specs.declared.change.Step.TheViews.{out-Step, roll-Step, r
 use Rattle.jz_change.specs.declared.change.Step.TheFolds.{fold-roll-Step}
 use Rattle.jz_change.specs.Changes as model
 use Rattle.jz_change.specs.Composing.{numbers_by, all_by, behind, first_ops, JoinedChange, JoinedRounds, add_step, join_if, join_while, join_every, join_for, join_first, join, join_rounds}
-use Rattle.jz_change.specs.Views.{chain, changes_before, layer_change, steps_change, then_step, change_of, steps_of, changes_of}
+use Rattle.jz_change.specs.Views.{changes_before, layer_change, steps_change, then_step, change_of, steps_of, changes_of}
 use Rattle.jz_change.specs.InnerSteps.{GivesStep, steps_and, steps_before, rounds_before}
-use Rattle.jz_change.proofs.StepViews.{then_ops, then_if, then_arm, then_while, then_once, then_for, then_unrolled, then_opened, change_is, steps_append, changes_append}
+use Rattle.jz_change.proofs.StepViews.{then_ops, then_if, then_arm, then_while, then_once, then_for, then_unrolled, then_opened, change_is, steps_append, changes_append, steps_at, begun}
 
 abbrev pair : model.Change → model.Change → JoinedChange
 pair c b = record { change = c; rest = b }
@@ -22,15 +22,15 @@ abbrev of_steps : List Step → Change
 of_steps ss = record { steps = ss }
 
 -- a step, and what follows
-gives : {c : Step} {f : model.Change → model.Change} (r b2 : model.Change) → ((x : model.Change) → then_step c x ≡ f x) → add_step f (join r b2) ≡ add_step (then_step c) (join r b2)
-gives r b2 e = ap (λ x. pair x (join r b2).rest) (sym (e (join r b2).change))
+gives : {f : model.Change → model.Change} (c : Step) (r b2 : model.Change) → ((x : model.Change) → then_step c x ≡ f x) → add_step f (join r b2) ≡ add_step (then_step c) (join r b2)
+gives c r b2 e = ap (λ x. pair x (join r b2).rest) (sym (e (join r b2).change))
 
 pub ops_joins : (is : List Numbers) (b : model.Change) (items : List Numbers) (b2 : model.Change) → items ≡ (first_ops is b).items → (first_ops is b).rest ≡ b2 → GivesStep (step.Ops is) b (step.Ops items) b2
 ops_joins is b items b2 e f r =
     ap (λ s. join s b) (then_ops is r)
     ∙ ap (λ x. add_step (model.ops x) (join r (first_ops is b).rest)) (sym e)
     ∙ ap (λ x. add_step (model.ops items) (join r x)) f
-    ∙ gives r b2 (then_ops items)
+    ∙ gives (step.Ops items) r b2 (then_ops items)
 
 pub arm_joins : (z : Bool) (before : List Numbers) (a : Change) (b : model.Change) (items : List Numbers) (b1 : model.Change) (ss : List Step) (b2 : model.Change)
     → items ≡ (first_ops before b).items → (first_ops before b).rest ≡ b1 → join (change_of a) b1 ≡ steps_and ss b2 → GivesStep (step.Arm z before a) b (step.Arm z items (of_steps ss)) b2
@@ -40,7 +40,7 @@ arm_joins z before a b items b1 ss b2 e f g r =
     ∙ ap (λ x. add_step (model.arm z items (join (change_of a) x).change) (join r (join (change_of a) x).rest)) f
     ∙ ap (λ (x : JoinedChange). add_step (model.arm z items x.change) (join r x.rest)) g
     ∙ ap (λ x. add_step (model.arm z items x) (join r b2)) (sym (change_is (of_steps ss)))
-    ∙ gives r b2 (then_arm z items (of_steps ss))
+    ∙ gives (step.Arm z items (of_steps ss)) r b2 (then_arm z items (of_steps ss))
 
 pub once_joins : (p : Change) (before : List Numbers) (b : model.Change) (ss : List Step) (b1 : model.Change) (items : List Numbers) (b2 : model.Change)
     → join (change_of p) b ≡ steps_and ss b1 → items ≡ (first_ops before b1).items → (first_ops before b1).rest ≡ b2 → GivesStep (step.Once p before) b (step.Once (of_steps ss) items) b2
@@ -50,14 +50,14 @@ once_joins p before b ss b1 items b2 g e f r =
     ∙ ap (λ x. add_step (model.once (steps_of ss) x) (join r (first_ops before b1).rest)) (sym e)
     ∙ ap (λ x. add_step (model.once (steps_of ss) items) (join r x)) f
     ∙ ap (λ x. add_step (model.once x items) (join r b2)) (sym (change_is (of_steps ss)))
-    ∙ gives r b2 (then_once (of_steps ss) items)
+    ∙ gives (step.Once (of_steps ss) items) r b2 (then_once (of_steps ss) items)
 
 pub unrolled_joins : (ps : List Change) (b : model.Change) (qs : List Change) (b2 : model.Change) → changes_of qs ≡ (join_rounds (changes_of ps) b).changes → b2 ≡ (join_rounds (changes_of ps) b).rest → GivesStep (step.Unrolled ps) b (step.Unrolled qs) b2
 unrolled_joins ps b qs b2 e f r =
     ap (λ s. join s b) (then_unrolled ps r)
     ∙ ap (λ x. add_step (model.unrolled x) (join r (join_rounds (changes_of ps) b).rest)) (sym e)
     ∙ ap (λ x. add_step (model.unrolled (changes_of qs)) (join r x)) (sym f)
-    ∙ gives r b2 (then_unrolled qs)
+    ∙ gives (step.Unrolled qs) r b2 (then_unrolled qs)
 
 pub opened_joins : (xs : List Numbers) (p : Change) (ys : List Numbers) (b : model.Change) (first : List Numbers) (b1 : model.Change) (ss : List Step) (b3 : model.Change) (last : List Numbers) (b2 : model.Change)
     → first ≡ (first_ops xs b).items → (first_ops xs b).rest ≡ b1 → join (change_of p) b1 ≡ steps_and ss b3 → last ≡ (first_ops ys b3).items → (first_ops ys b3).rest ≡ b2
@@ -70,7 +70,7 @@ opened_joins xs p ys b first b1 ss b3 last b2 e f g h i r =
     ∙ ap (λ o. add_step (model.opened first (steps_of ss) o) (join r (first_ops ys b3).rest)) (sym h)
     ∙ ap (λ o. add_step (model.opened first (steps_of ss) last) (join r o)) i
     ∙ ap (λ o. add_step (model.opened first o last) (join r b2)) (sym (change_is (of_steps ss)))
-    ∙ gives r b2 (then_opened first (of_steps ss) last)
+    ∙ gives (step.Opened first (of_steps ss) last) r b2 (then_opened first (of_steps ss) last)
 
 -- ---- an `if` that stays
 
@@ -260,6 +260,71 @@ for_other_joins y b second b3 c b2 g k i h =
 
 pub joins_at : (s t : Step) (b : model.Change) (c : Step) (b2 : model.Change) → s ≡ t → GivesStep t b c b2 → GivesStep s b c b2
 joins_at s t b c b2 e g r = ap (λ x. join (then_step x r) b) e ∙ g r
+
+-- ---- steps and the first step of the other change, at places in a list
+
+pub if_arm_at : (s : Step) (before : List Numbers) (test : Numbers) (x y : Change) (steps : List Step) (at to next : ℕ) (items old items2 : List Numbers) (second : Step) (z : Bool) (before2 : List Numbers) (p2 t : Change) (c : Step)
+    → s ≡ step.If before test x y → items ≡ old ++ (first_ops before (steps_of (drop at steps))).items → old ≡ [] → (first_ops before (steps_of (drop at steps))).rest ≡ steps_of (drop to steps)
+    → to < length steps → second ≡ slice_index_or steps to second → second ≡ step.Arm z before2 p2 → items2 ≡ items ++ all_by test before2
+    → change_of t ≡ ((if z then join (change_of x) else join (change_of y)) (steps_of p2.steps)).change → c ≡ step.Arm z items2 t → steps_of (drop next steps) ≡ behind (steps_of (drop to steps))
+    → GivesStep s (steps_of (drop at steps)) c (steps_of (drop next steps))
+if_arm_at s before test x y steps at to next items old items2 second z before2 p2 t c e f g h lt is k l m n o =
+    let b = steps_of (drop at steps) in let b2 = steps_of (drop next steps) in
+    joins_at s (step.If before test x y) b c b2 e
+    (subst (λ v. GivesStep (step.If before test x y) b v b2) (sym n)
+    (if_arm_joins before test x y b items (steps_of (drop to steps)) second z before2 p2 (steps_of (drop (to + 1) steps)) items2 t b2 (begun items old (first_ops before b).items f g) h (steps_at steps to second lt is) k l m o))
+
+pub if_true_at : (s : Step) (before : List Numbers) (test : Numbers) (x y : Change) (steps : List Step) (at to next : ℕ) (items old items2 : List Numbers) (second : Step) (z : Bool) (before2 : List Numbers) (p2 t : Change) (ss : List Step) (c : Step)
+    → s ≡ step.If before test x y → items ≡ old ++ (first_ops before (steps_of (drop at steps))).items → old ≡ [] → (first_ops before (steps_of (drop at steps))).rest ≡ steps_of (drop to steps)
+    → to < length steps → second ≡ slice_index_or steps to second → second ≡ step.Arm z before2 p2 → items2 ≡ items ++ all_by test before2
+    → z ≡ true → ss ≡ p2.steps → change_of t ≡ (join (change_of x) (steps_of ss)).change → c ≡ step.Arm true items2 t → steps_of (drop next steps) ≡ behind (steps_of (drop to steps))
+    → GivesStep s (steps_of (drop at steps)) c (steps_of (drop next steps))
+if_true_at s before test x y steps at to next items old items2 second z before2 p2 t ss c e f g h lt is k l w q m n o =
+    if_arm_at s before test x y steps at to next items old items2 second true before2 p2 t c e f g h lt is (k ∙ ap (λ v. step.Arm v before2 p2) w) l (m ∙ ap (λ v. (join (change_of x) (steps_of v)).change) q) n o
+
+pub if_false_at : (s : Step) (before : List Numbers) (test : Numbers) (x y : Change) (steps : List Step) (at to next : ℕ) (items old items2 : List Numbers) (second : Step) (z : Bool) (before2 : List Numbers) (p2 t : Change) (ss : List Step) (c : Step)
+    → s ≡ step.If before test x y → items ≡ old ++ (first_ops before (steps_of (drop at steps))).items → old ≡ [] → (first_ops before (steps_of (drop at steps))).rest ≡ steps_of (drop to steps)
+    → to < length steps → second ≡ slice_index_or steps to second → second ≡ step.Arm z before2 p2 → items2 ≡ items ++ all_by test before2
+    → z ≡ false → ss ≡ p2.steps → change_of t ≡ (join (change_of y) (steps_of ss)).change → c ≡ step.Arm false items2 t → steps_of (drop next steps) ≡ behind (steps_of (drop to steps))
+    → GivesStep s (steps_of (drop at steps)) c (steps_of (drop next steps))
+if_false_at s before test x y steps at to next items old items2 second z before2 p2 t ss c e f g h lt is k l w q m n o =
+    if_arm_at s before test x y steps at to next items old items2 second false before2 p2 t c e f g h lt is (k ∙ ap (λ v. step.Arm v before2 p2) w) l (m ∙ ap (λ v. (join (change_of y) (steps_of v)).change) q) n o
+
+pub if_other_at : (s : Step) (before : List Numbers) (test : Numbers) (x y : Change) (steps : List Step) (at to next : ℕ) (items old : List Numbers) (second c : Step)
+    → s ≡ step.If before test x y → items ≡ old ++ (first_ops before (steps_of (drop at steps))).items → old ≡ [] → (first_ops before (steps_of (drop at steps))).rest ≡ steps_of (drop to steps)
+    → to < length steps → second ≡ slice_index_or steps to second → is_if (out-Step second) ≡ false → c ≡ step.Ops [] → steps_of (drop next steps) ≡ behind (steps_of (drop to steps))
+    → GivesStep s (steps_of (drop at steps)) c (steps_of (drop next steps))
+if_other_at s before test x y steps at to next items old second c e f g h lt is k l o =
+    let b = steps_of (drop at steps) in let b2 = steps_of (drop next steps) in
+    joins_at s (step.If before test x y) b c b2 e
+    (if_other_joins before test x y b items (steps_of (drop to steps)) second (steps_of (drop (to + 1) steps)) c b2 (begun items old (first_ops before b).items f g) h (steps_at steps to second lt is) k l o)
+
+pub while_while_at : (s : Step) (p : Change) (before : List Numbers) (test : Numbers) (y : Change) (steps : List Step) (at next : ℕ) (second : Step) (p2 : Change) (before2 : List Numbers) (test2 : Numbers) (y2 : Change)
+    (inner ss : List Step) (behind_it : ℕ) (items2 : List Numbers) (n : Numbers) (t : Change) (more : List Step) → s ≡ step.While p before test y → at < length steps → second ≡ slice_index_or steps at second → second ≡ step.While p2 before2 test2 y2
+    → inner ≡ p2.steps → join (change_of p) (steps_of inner) ≡ steps_and ss (steps_of (drop behind_it inner)) → items2 ≡ (first_ops before (steps_of (drop behind_it inner))).items ++ all_by test before2 → n ≡ numbers_by test test2
+    → more ≡ y2.steps → change_of t ≡ (join (change_of y) (steps_of more)).change → steps_of (drop next steps) ≡ behind (steps_of (drop at steps))
+    → GivesStep s (steps_of (drop at steps)) (step.While (of_steps ss) items2 n t) (steps_of (drop next steps))
+while_while_at s p before test y steps at next second p2 before2 test2 y2 inner ss behind_it items2 n t more e lt is k i g h j q m o =
+    let b = steps_of (drop at steps) in let b2 = steps_of (drop next steps) in let c = step.While (of_steps ss) items2 n t in
+    joins_at s (step.While p before test y) b c b2 e
+    (while_while_joins p before test y b second p2 before2 test2 y2 (steps_of (drop (at + 1) steps)) ss (steps_of (drop behind_it inner)) items2 n t b2 (steps_at steps at second lt is) k
+    (ap (λ v. join (change_of p) (steps_of v)) (sym i) ∙ g) h j (m ∙ ap (λ v. (join (change_of y) (steps_of v)).change) q) o)
+
+pub while_once_at : (s : Step) (p : Change) (before : List Numbers) (test : Numbers) (y : Change) (steps : List Step) (at next : ℕ) (second : Step) (p2 : Change) (before2 : List Numbers)
+    (inner ss : List Step) (behind_it : ℕ) (items2 : List Numbers) → s ≡ step.While p before test y → at < length steps → second ≡ slice_index_or steps at second → second ≡ step.Once p2 before2
+    → inner ≡ p2.steps → join (change_of p) (steps_of inner) ≡ steps_and ss (steps_of (drop behind_it inner)) → items2 ≡ (first_ops before (steps_of (drop behind_it inner))).items ++ all_by test before2
+    → steps_of (drop next steps) ≡ behind (steps_of (drop at steps))
+    → GivesStep s (steps_of (drop at steps)) (step.Once (of_steps ss) items2) (steps_of (drop next steps))
+while_once_at s p before test y steps at next second p2 before2 inner ss behind_it items2 e lt is k i g h o =
+    let b = steps_of (drop at steps) in let b2 = steps_of (drop next steps) in let c = step.Once (of_steps ss) items2 in
+    joins_at s (step.While p before test y) b c b2 e
+    (while_once_joins p before test y b second p2 before2 (steps_of (drop (at + 1) steps)) ss (steps_of (drop behind_it inner)) items2 b2 (steps_at steps at second lt is) k (ap (λ v. join (change_of p) (steps_of v)) (sym i) ∙ g) h o)
+
+pub while_other_at : (s : Step) (p : Change) (before : List Numbers) (test : Numbers) (y : Change) (steps : List Step) (at next : ℕ) (second c : Step) → s ≡ step.While p before test y
+    → at < length steps → second ≡ slice_index_or steps at second → is_while (out-Step second) ≡ false → c ≡ step.Ops [] → steps_of (drop next steps) ≡ behind (steps_of (drop at steps)) → GivesStep s (steps_of (drop at steps)) c (steps_of (drop next steps))
+while_other_at s p before test y steps at next second c e lt is k l o =
+    let b = steps_of (drop at steps) in let b2 = steps_of (drop next steps) in
+    joins_at s (step.While p before test y) b c b2 e (while_other_joins p before test y b second (steps_of (drop (at + 1) steps)) c b2 (steps_at steps at second lt is) k l o)
 
 -- ---- loops
 

@@ -13,6 +13,10 @@ use Rattle.jz_change.specs.Changes as model
 use Rattle.jz_change.specs.Composing.{all_by, behind, head_ops}
 use Rattle.jz_change.specs.Views.{chain, changes_before, layer_change, steps_change, then_step, change_of, steps_of, changes_of}
 
+-- what was added to nothing
+pub begun : {A : Type 0} (new old xs : List A) → new ≡ old ++ xs → old ≡ [] → new ≡ xs
+begun new old xs e f = e ∙ ap (λ v. v ++ xs) f
+
 -- ---- one step before what follows
 
 pub then_ops : (is : List Numbers) (r : model.Change) → then_step (step.Ops is) r ≡ model.ops is r

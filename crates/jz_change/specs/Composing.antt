@@ -1,6 +1,6 @@
 -- Two changes one after another. Where nothing fits, what stands there may be anything, as no leak
 -- reaches it.
-use Rattle.std.specs.Prelude.{ℕ, ◌≡◌, Bool, if◌then◌else◌, List, [], ◌∷◌, ◌++◌, map, slice_index_or}
+use Rattle.std.specs.Prelude.{◌≡◌, if◌then◌else◌, List, [], ◌∷◌, ◌++◌, map, slice_index_or}
 use Rattle.jz_leak.specs.RunLeaks.{Leak}
 use Rattle.jz_change.specs.declared.change.Number.{Number}
 use Rattle.jz_change.specs.declared.change.Number.TheVariants.{Fixed, Nth}

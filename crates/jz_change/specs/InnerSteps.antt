@@ -1,13 +1,33 @@
 -- What loops over steps keep.
-use Rattle.std.specs.Prelude.{ℕ, ◌≡◌, List, [], ◌∷◌, ◌++◌, map, drop}
+use Rattle.std.specs.Prelude.{ℕ, ◌≡◌, Bool, true, false, List, ◌++◌, map, drop}
 use Rattle.jz_leak.specs.declared.transformer.Tr.{Tr}
 use Rattle.jz_leak.specs.declared.transformer.Case.{Case}
 use Rattle.jz_change.specs.declared.change.Change.{Change as CodeChange}
 use Rattle.jz_change.specs.declared.change.Step.{Step}
-use Rattle.jz_change.specs.Changes.{Change, Changes}
+use Rattle.jz_change.specs.declared.change.Step.TheOpen.{Step-F}
+use Rattle.jz_change.specs.declared.change.Step.TheViews.{out-Step}
+use Rattle.jz_change.specs.Changes.{Change}
 use Rattle.jz_change.specs.Composing.{JoinedChange, JoinedRounds, add_step, join}
 use Rattle.jz_change.specs.Flattening.{FlatCases, FlatRounds, add_case, flat}
 use Rattle.jz_change.specs.Views.{chain, changes_before, then_step, change_of, steps_of}
+
+-- ---- kinds of steps
+
+abbrev pub keeps_if : Step-F Step CodeChange → Bool
+keeps_if (Step-F.If before test then_part else_part) = true
+keeps_if _ = false
+
+-- an `if` stays one
+abbrev pub KeepsIf : Step → Type 0
+KeepsIf s = keeps_if (out-Step s) ≡ true
+
+abbrev pub keeps_while : Step-F Step CodeChange → Bool
+keeps_while (Step-F.While prologue before test body) = true
+keeps_while _ = false
+
+-- a `while` stays one
+abbrev pub KeepsWhile : Step → Type 0
+KeepsWhile s = keeps_while (out-Step s) ≡ true
 
 -- ---- cases
 

@@ -4,14 +4,14 @@ ghost use Rattle.std.specs.Prelude.{◌≡◌, ◌++◌, [], IfOk, OnOk, drop};
 ghost use Rattle.jz_change.specs.declared.change.Step.{Step};
 ghost use Rattle.jz_change.specs.Composing.{all_by, head_ops, first_ops, behind, join, join_every, compose_of, Composes};
 ghost use Rattle.jz_change.specs.Views.{change_of, changes_of, steps_of};
-ghost use Rattle.jz_change.specs.InnerSteps.{GivesStepAt, steps_and};
+ghost use Rattle.jz_change.specs.InnerSteps.{KeepsIf, KeepsWhile, GivesStepAt, steps_and};
 
 use crate::change::{Change, Numbers, Step};
 use crate::numbers::{numbers_by, push_all};
 use jz_data::Seq;
 use std::alloc::{AllocError, Global};
 
-// Adds what the step at a place makes of an operation with these numbers.
+/// Adds what the step at a place makes of an operation with these numbers.
 fn push_head(
     alloc: Global,
     out: &mut Vec<Numbers>,
@@ -31,15 +31,15 @@ fn push_head(
     }
 }
 
-// The place behind a step, where there is one.
+/// The place behind a step, where there is one.
 fn next(steps: &[Step], at: usize) -> usize
     ensures { steps_of (drop result steps.now) ≡ behind (steps_of (drop at steps.now)) }
 {
     if at < steps.len() { at + 1 } else { at }
 }
 
-// Adds what the steps from a place on make of so many operations, and says where the steps behind
-// them begin.
+/// Adds what the steps from a place on make of so many operations, and says where the steps behind
+/// them begin.
 fn take(
     alloc: Global,
     out: &mut Vec<Numbers>,
@@ -60,21 +60,21 @@ fn take(
     Ok(to)
 }
 
-// Steps, and the place behind those that they were made of.
+/// Steps, and the place behind those that they were made of.
 #[derive(Drop)]
 struct Part {
     steps: Seq<Step>,
     at: usize,
 }
 
-// The same of one step.
+/// The same of one step.
 #[derive(Drop)]
 struct One {
     step: Step,
     at: usize,
 }
 
-// Where the steps are of another kind.
+/// Where the steps are of another kind.
 fn nothing(alloc: Global, at: usize) -> One
     ensures step { result.step ≡ Step.Ops [] }
     ensures at { result.at ≡ at }
@@ -85,7 +85,7 @@ fn nothing(alloc: Global, at: usize) -> One
     }
 }
 
-// The steps of a change, one after another.
+/// The steps of a change, one after another.
 #[cycle(compose)]
 fn compose_steps(alloc: Global, a: &Change, steps: &[Step], at: usize) -> Result<Part, AllocError>
     ensures { IfOk result (λ p. join (change_of a.now) (steps_of (drop at steps.now))
@@ -104,39 +104,30 @@ fn compose_steps(alloc: Global, a: &Change, steps: &[Step], at: usize) -> Result
     })
 }
 
-// A change and the steps of another one.
+/// A change and the steps of another one.
 #[cycle(compose)]
 fn compose_change(alloc: Global, a: &Change, steps: &[Step]) -> Result<Change, AllocError>
-    ensures { IfOk result (λ c. change_of c ≡ (join (change_of a.now) (steps_of steps.now)).change) }
+    ensures { IfOk result (λ c. change_of c
+        ≡ (join (change_of a.now) (steps_of steps.now)).change) }
 {
     let part = compose_steps(alloc, a, steps, 0)?;
     Ok(Change { steps: part.steps })
 }
 
-// One step.
+/// One step.
 #[cycle(compose)]
 fn compose_step(alloc: Global, step: &Step, steps: &[Step], at: usize) -> Result<One, AllocError>
     ensures { IfOk result (λ o. GivesStepAt step.now steps.now at o.step o.at) }
 {
     match step {
         Step::Ops(items) => compose_ops(alloc, items, steps, at),
-        Step::If {
-            before,
-            test,
-            then_part,
-            else_part,
-        } => compose_if(alloc, before, test, then_part, else_part, steps, at),
+        Step::If { .. } => compose_if(alloc, step, steps, at),
         Step::Arm {
             answer,
             before,
             part,
         } => compose_arm(alloc, *answer, before, part, steps, at),
-        Step::While {
-            prologue,
-            before,
-            test,
-            body,
-        } => compose_while(alloc, prologue, before, test, body, steps, at),
+        Step::While { .. } => compose_while(alloc, step, steps, at),
         Step::Once { prologue, before } => compose_once(alloc, prologue, before, steps, at),
         Step::For(body) => compose_for(alloc, body, steps, at),
         Step::Unrolled(parts) => compose_unrolled(alloc, parts, steps, at),
@@ -148,7 +139,7 @@ fn compose_step(alloc: Global, step: &Step, steps: &[Step], at: usize) -> Result
     }
 }
 
-// An operation that becomes so many.
+/// An operation that becomes so many.
 fn compose_ops(
     alloc: Global,
     items: &Seq<Numbers>,
@@ -165,20 +156,20 @@ fn compose_ops(
     })
 }
 
-// An `if` that stays: the other change keeps it or leaves one of its arms.
+/// An `if` that stays: the other change keeps it or leaves one of its arms.
 #[cycle(compose)]
-fn compose_if(
-    alloc: Global,
-    before: &Seq<Numbers>,
-    test: &Numbers,
-    then_part: &Change,
-    else_part: &Change,
-    steps: &[Step],
-    at: usize,
-) -> Result<One, AllocError>
-    ensures { IfOk result (λ o. GivesStepAt
-        (Step.If before.now test.now then_part.now else_part.now) steps.now at o.step o.at) }
+fn compose_if(alloc: Global, step: &Step, steps: &[Step], at: usize) -> Result<One, AllocError>
+    ensures { IfOk result (λ o. KeepsIf step.now → GivesStepAt step.now steps.now at o.step o.at) }
 {
+    let Step::If {
+        before,
+        test,
+        then_part,
+        else_part,
+    } = step
+    else {
+        return Ok(nothing(alloc, at));
+    };
     let mut out = Vec::new(alloc);
     let to = take(alloc, &mut out, before, steps, at)?;
     let to_next = next(steps, to);
@@ -224,7 +215,7 @@ fn compose_if(
     }
 }
 
-// The arm of an answer.
+/// The arm of an answer.
 fn arm_of(answer: bool, before: Vec<Numbers>, part: Change, at: usize) -> One
     ensures step { result.step ≡ Step.Arm answer before.items part }
     ensures at { result.at ≡ at }
@@ -239,7 +230,7 @@ fn arm_of(answer: bool, before: Vec<Numbers>, part: Change, at: usize) -> One
     }
 }
 
-// An `if` of which an arm is left.
+/// An `if` of which an arm is left.
 #[cycle(compose)]
 fn compose_arm(
     alloc: Global,
@@ -265,20 +256,21 @@ fn compose_arm(
     })
 }
 
-// A `while` that stays: the other change keeps it or leaves its prologue.
+/// A `while` that stays: the other change keeps it or leaves its prologue.
 #[cycle(compose)]
-fn compose_while(
-    alloc: Global,
-    prologue: &Change,
-    before: &Seq<Numbers>,
-    test: &Numbers,
-    body: &Change,
-    steps: &[Step],
-    at: usize,
-) -> Result<One, AllocError>
-    ensures { IfOk result (λ o. GivesStepAt
-        (Step.While prologue.now before.now test.now body.now) steps.now at o.step o.at) }
+fn compose_while(alloc: Global, step: &Step, steps: &[Step], at: usize) -> Result<One, AllocError>
+    ensures { IfOk result (λ o. KeepsWhile step.now
+        → GivesStepAt step.now steps.now at o.step o.at) }
 {
+    let Step::While {
+        prologue,
+        before,
+        test,
+        body,
+    } = step
+    else {
+        return Ok(nothing(alloc, at));
+    };
     let to_next = next(steps, at);
     match steps.get(at) {
         None => Ok(nothing(alloc, to_next)),
@@ -336,7 +328,7 @@ fn compose_while(
     }
 }
 
-// What stands behind a prologue: operations of the first change, then those of the other one.
+/// What stands behind a prologue: operations of the first change, then those of the other one.
 fn behind_prologue(
     alloc: Global,
     before: &Seq<Numbers>,
@@ -354,7 +346,7 @@ fn behind_prologue(
     Ok(Seq::from_vec(out))
 }
 
-// A `while` of which the prologue is left.
+/// A `while` of which the prologue is left.
 #[cycle(compose)]
 fn compose_once(
     alloc: Global,
@@ -378,7 +370,7 @@ fn compose_once(
     })
 }
 
-// A `for` that stays: the other change keeps it or sets its rounds one after another.
+/// A `for` that stays: the other change keeps it or sets its rounds one after another.
 #[cycle(compose)]
 fn compose_for(alloc: Global, body: &Change, steps: &[Step], at: usize) -> Result<One, AllocError>
     ensures { IfOk result (λ o. GivesStepAt (Step.For body.now) steps.now at o.step o.at) }
@@ -406,7 +398,7 @@ fn compose_for(alloc: Global, body: &Change, steps: &[Step], at: usize) -> Resul
     }
 }
 
-// One change for all rounds, and then one for each of them.
+/// One change for all rounds, and then one for each of them.
 #[cycle(compose)]
 fn compose_every(alloc: Global, body: &Change, parts: &[Change]) -> Result<Seq<Change>, AllocError>
     ensures { IfOk result (λ all. changes_of all
@@ -420,7 +412,7 @@ fn compose_every(alloc: Global, body: &Change, parts: &[Change]) -> Result<Seq<C
     Ok(all)
 }
 
-// The rounds of a `for`, one after another.
+/// The rounds of a `for`, one after another.
 #[cycle(compose)]
 fn compose_unrolled(
     alloc: Global,
@@ -443,7 +435,7 @@ fn compose_unrolled(
     })
 }
 
-// A call.
+/// A call.
 #[cycle(compose)]
 fn compose_opened(
     alloc: Global,

@@ -8,7 +8,7 @@ ghost use Rattle.jz_leak.specs.declared.transformer.Case.TheViews.{roll-Case};
 ghost use Rattle.jz_change.specs.declared.change.Step.{Step};
 ghost use Rattle.jz_change.specs.Flattening.{indexed_form, form_by, out_by, outs_by, head_outs, cases_behind, first_outs, tr_of, flat_arm, flat, flatten_of, Flattens};
 ghost use Rattle.jz_change.specs.Views.{change_of};
-ghost use Rattle.jz_change.specs.InnerSteps.{GivesCaseAt, cases_and};
+ghost use Rattle.jz_change.specs.InnerSteps.{KeepsIf, KeepsWhile, GivesCaseAt, cases_and};
 
 use crate::change::{Change, Number, Numbers, Step};
 use crate::numbers::number_at;
@@ -16,7 +16,7 @@ use jz_data::Seq;
 use jz_leak::{Case, Form, Out, Tr, Transformer};
 use std::alloc::{AllocError, Global};
 
-// A word as a signed number.
+/// A word as a signed number.
 #[tactic(auto, unfolding(jz_words::specs::Sizes::signed))]
 fn signed_of(word: u64) -> i64
     ensures { result ≡ signed S64 word }
@@ -28,7 +28,7 @@ fn signed_of(word: u64) -> i64
     }
 }
 
-// A scaled number: one that is known moves the offset.
+/// A scaled number: one that is known moves the offset.
 fn indexed_form(offset: i64, factor: u64, number: Number) -> Form
     ensures { result ≡ indexed_form offset factor number }
 {
@@ -41,7 +41,7 @@ fn indexed_form(offset: i64, factor: u64, number: Number) -> Form
     }
 }
 
-// A form by the numbers of an item that has these.
+/// A form by the numbers of an item that has these.
 fn form_by(numbers: &[Number], form: Form) -> Form
     ensures { result ≡ form_by numbers.now form }
 {
@@ -60,7 +60,7 @@ fn form_by(numbers: &[Number], form: Form) -> Form
     }
 }
 
-// An event by the same.
+/// An event by the same.
 fn out_by(numbers: &[Number], out: Out) -> Out
     ensures { result ≡ out_by numbers.now out }
 {
@@ -75,7 +75,7 @@ fn out_by(numbers: &[Number], out: Out) -> Out
     }
 }
 
-// Adds events, each by the numbers of an item.
+/// Adds events, each by the numbers of an item.
 fn push_outs(outs: &mut Vec<Out>, numbers: &Numbers, more: &Seq<Out>) -> Result<(), AllocError>
     ensures { OnOk result (outs.new.items ≡ outs.old.items ++ outs_by numbers.now more.now) }
 {
@@ -95,7 +95,7 @@ fn push_outs(outs: &mut Vec<Out>, numbers: &Numbers, more: &Seq<Out>) -> Result<
     }
 }
 
-// Adds the events of the case at a place, if it is one of an operation.
+/// Adds the events of the case at a place, if it is one of an operation.
 fn push_case(
     outs: &mut Vec<Out>,
     numbers: &Numbers,
@@ -114,14 +114,14 @@ fn push_case(
     }
 }
 
-// The place behind a case, where there is one.
+/// The place behind a case, where there is one.
 fn next(cases: &[Case], at: usize) -> usize
     ensures { drop result cases.now ≡ cases_behind (drop at cases.now) }
 {
     if at < cases.len() { at + 1 } else { at }
 }
 
-// Takes the cases of so many operations, adds their events, and says where the cases behind them begin.
+/// Takes the cases of so many operations, adds their events, and says where the cases behind them begin.
 fn take(
     outs: &mut Vec<Out>,
     items: &Seq<Numbers>,
@@ -141,7 +141,7 @@ fn take(
     Ok(to)
 }
 
-// Events by the numbers of an item.
+/// Events by the numbers of an item.
 fn outs_by_numbers(
     alloc: Global,
     numbers: &Numbers,
@@ -154,21 +154,21 @@ fn outs_by_numbers(
     Ok(Seq::from_vec(outs))
 }
 
-// Cases, and the place behind those that they were made of.
+/// Cases, and the place behind those that they were made of.
 #[derive(Drop)]
 struct Part {
     cases: Seq<Case>,
     at: usize,
 }
 
-// The same of one case.
+/// The same of one case.
 #[derive(Drop)]
 struct One {
     case: Case,
     at: usize,
 }
 
-// Where the cases are of another kind.
+/// Where the cases are of another kind.
 fn nothing(alloc: Global, at: usize) -> One
     ensures case { result.case ≡ Case.Op [] }
     ensures at { result.at ≡ at }
@@ -179,7 +179,7 @@ fn nothing(alloc: Global, at: usize) -> One
     }
 }
 
-// The steps of a change, one after another.
+/// The steps of a change, one after another.
 #[cycle(flat)]
 fn flat_steps(alloc: Global, a: &Change, cases: &[Case], at: usize) -> Result<Part, AllocError>
     ensures { IfOk result (λ p. flat (change_of a.now) (drop at cases.now)
@@ -198,7 +198,7 @@ fn flat_steps(alloc: Global, a: &Change, cases: &[Case], at: usize) -> Result<Pa
     })
 }
 
-// A change and a tree of its own.
+/// A change and a tree of its own.
 #[cycle(flat)]
 fn flat_tr(alloc: Global, a: &Change, tr: &Tr) -> Result<Tr, AllocError>
     ensures { IfOk result (λ t. t ≡ tr_of (flat (change_of a.now) tr.now.cases).cases) }
@@ -207,30 +207,20 @@ fn flat_tr(alloc: Global, a: &Change, tr: &Tr) -> Result<Tr, AllocError>
     Ok(Tr { cases: part.cases })
 }
 
-// One step.
+/// One step.
 #[cycle(flat)]
 fn flat_step(alloc: Global, step: &Step, cases: &[Case], at: usize) -> Result<One, AllocError>
     ensures { IfOk result (λ o. GivesCaseAt step.now cases.now at o.case o.at) }
 {
     match step {
         Step::Ops(items) => flat_ops(alloc, items, cases, at),
-        Step::If {
-            before,
-            test,
-            then_part,
-            else_part,
-        } => flat_if(alloc, before, test, then_part, else_part, cases, at),
+        Step::If { .. } => flat_if(alloc, step, cases, at),
         Step::Arm {
             answer,
             before,
             part,
         } => flat_arm(alloc, *answer, before, part, cases, at),
-        Step::While {
-            prologue,
-            before,
-            test,
-            body,
-        } => flat_while(alloc, prologue, before, test, body, cases, at),
+        Step::While { .. } => flat_while(alloc, step, cases, at),
         Step::Once { prologue, before } => flat_once(alloc, prologue, before, cases, at),
         Step::For(body) => flat_for(alloc, body, cases, at),
         Step::Unrolled(parts) => flat_unrolled(alloc, parts, cases, at),
@@ -242,7 +232,7 @@ fn flat_step(alloc: Global, step: &Step, cases: &[Case], at: usize) -> Result<On
     }
 }
 
-// An operation that becomes so many.
+/// An operation that becomes so many.
 fn flat_ops(
     alloc: Global,
     items: &Seq<Numbers>,
@@ -259,20 +249,20 @@ fn flat_ops(
     })
 }
 
-// An `if` that stays.
+/// An `if` that stays.
 #[cycle(flat)]
-fn flat_if(
-    alloc: Global,
-    before: &Seq<Numbers>,
-    test: &Numbers,
-    then_part: &Change,
-    else_part: &Change,
-    cases: &[Case],
-    at: usize,
-) -> Result<One, AllocError>
-    ensures { IfOk result (λ o. GivesCaseAt
-        (Step.If before.now test.now then_part.now else_part.now) cases.now at o.case o.at) }
+fn flat_if(alloc: Global, step: &Step, cases: &[Case], at: usize) -> Result<One, AllocError>
+    ensures { IfOk result (λ o. KeepsIf step.now → GivesCaseAt step.now cases.now at o.case o.at) }
 {
+    let Step::If {
+        before,
+        test,
+        then_part,
+        else_part,
+    } = step
+    else {
+        return Ok(nothing(alloc, at));
+    };
     let mut outs = Vec::new(alloc);
     let to = take(&mut outs, before, cases, at)?;
     let to_next = next(cases, to);
@@ -307,7 +297,7 @@ fn flat_if(
     }
 }
 
-// An `if` of which an arm is left.
+/// An `if` of which an arm is left.
 #[cycle(flat)]
 fn flat_arm(
     alloc: Global,
@@ -329,7 +319,7 @@ fn flat_arm(
     })
 }
 
-// The case of an `if` of which an arm is left.
+/// The case of an `if` of which an arm is left.
 fn pruned(alloc: Global, answer: bool, outs: Vec<Out>, cases: Seq<Case>) -> Case
     ensures { result ≡ roll-Case (flat_arm answer outs.items cases) }
 {
@@ -356,20 +346,21 @@ fn pruned(alloc: Global, answer: bool, outs: Vec<Out>, cases: Seq<Case>) -> Case
     }
 }
 
-// A `while` that stays.
+/// A `while` that stays.
 #[cycle(flat)]
-fn flat_while(
-    alloc: Global,
-    prologue: &Change,
-    before: &Seq<Numbers>,
-    test: &Numbers,
-    body: &Change,
-    cases: &[Case],
-    at: usize,
-) -> Result<One, AllocError>
-    ensures { IfOk result (λ o. GivesCaseAt
-        (Step.While prologue.now before.now test.now body.now) cases.now at o.case o.at) }
+fn flat_while(alloc: Global, step: &Step, cases: &[Case], at: usize) -> Result<One, AllocError>
+    ensures { IfOk result (λ o. KeepsWhile step.now
+        → GivesCaseAt step.now cases.now at o.case o.at) }
 {
+    let Step::While {
+        prologue,
+        before,
+        test,
+        body,
+    } = step
+    else {
+        return Ok(nothing(alloc, at));
+    };
     let to_next = next(cases, at);
     match cases.get(at) {
         None => Ok(nothing(alloc, to_next)),
@@ -402,7 +393,7 @@ fn flat_while(
     }
 }
 
-// What stands behind a prologue: the events of operations, then those of the condition.
+/// What stands behind a prologue: the events of operations, then those of the condition.
 fn behind_prologue(
     alloc: Global,
     before: &Seq<Numbers>,
@@ -420,7 +411,7 @@ fn behind_prologue(
     Ok(Seq::from_vec(outs))
 }
 
-// A `while` of which the prologue is left.
+/// A `while` of which the prologue is left.
 #[cycle(flat)]
 fn flat_once(
     alloc: Global,
@@ -449,7 +440,7 @@ fn flat_once(
     })
 }
 
-// A `for` that stays: a tree for each round.
+/// A `for` that stays: a tree for each round.
 #[cycle(flat)]
 fn flat_for(alloc: Global, body: &Change, cases: &[Case], at: usize) -> Result<One, AllocError>
     ensures { IfOk result (λ o. GivesCaseAt (Step.For body.now) cases.now at o.case o.at) }
@@ -470,7 +461,7 @@ fn flat_for(alloc: Global, body: &Change, cases: &[Case], at: usize) -> Result<O
     }
 }
 
-// One change and each of these trees.
+/// One change and each of these trees.
 #[cycle(flat)]
 fn flat_trees(alloc: Global, body: &Change, trs: &Seq<Tr>) -> Result<Seq<Tr>, AllocError>
     ensures { IfOk result (λ out. out
@@ -484,7 +475,7 @@ fn flat_trees(alloc: Global, body: &Change, trs: &Seq<Tr>) -> Result<Seq<Tr>, Al
     Ok(out)
 }
 
-// The rounds of a `for`, one after another.
+/// The rounds of a `for`, one after another.
 #[cycle(flat)]
 fn flat_unrolled(
     alloc: Global,
@@ -507,7 +498,7 @@ fn flat_unrolled(
     })
 }
 
-// A call.
+/// A call.
 #[cycle(flat)]
 fn flat_opened(
     alloc: Global,

@@ -8,7 +8,7 @@ use crate::change::{Number, Numbers};
 use jz_data::Seq;
 use std::alloc::{AllocError, Global};
 
-// The number at a place, from 0; 0 where there is none.
+/// The number at a place, from 0; 0 where there is none.
 pub(crate) fn number_at(numbers: &[Number], place: u64) -> Number
     ensures { result ≡ slice_index_or numbers.now place (Fixed 0) }
 {
@@ -18,7 +18,7 @@ pub(crate) fn number_at(numbers: &[Number], place: u64) -> Number
         .unwrap_or(Number::Fixed(0))
 }
 
-// A number of an item that has these.
+/// A number of an item that has these.
 fn number_by(numbers: &[Number], number: Number) -> Number
     ensures { result ≡ number_by numbers.now number }
 {
@@ -28,7 +28,7 @@ fn number_by(numbers: &[Number], number: Number) -> Number
     }
 }
 
-// And of several.
+/// And of several.
 fn these_by(alloc: Global, numbers: &[Number], these: &[Number]) -> Result<Seq<Number>, AllocError>
     ensures { IfOk result (λ all. all ≡ map (number_by numbers.now) these.now) }
 {
@@ -39,7 +39,7 @@ fn these_by(alloc: Global, numbers: &[Number], these: &[Number]) -> Result<Seq<N
     Ok(Seq::from_vec(all))
 }
 
-// A copy.
+/// A copy.
 fn copied(alloc: Global, numbers: &Numbers) -> Result<Numbers, AllocError>
     ensures { IfOk result (λ copy. copy ≡ numbers.now) }
 {
@@ -52,7 +52,7 @@ fn copied(alloc: Global, numbers: &Numbers) -> Result<Numbers, AllocError>
     }
 }
 
-// The numbers of an item, by those of an item between.
+/// The numbers of an item, by those of an item between.
 pub(crate) fn numbers_by(
     alloc: Global,
     first: &Numbers,
@@ -75,7 +75,7 @@ pub(crate) fn numbers_by(
     }
 }
 
-// Adds those of so many items.
+/// Adds those of so many items.
 pub(crate) fn push_all(
     alloc: Global,
     out: &mut Vec<Numbers>,

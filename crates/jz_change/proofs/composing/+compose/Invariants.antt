@@ -10,7 +10,7 @@ invariant-compose_steps-loop-step l =
 
 abbrev pub invariant-compose_every-loop-part : goal.invariant-compose_every-loop-part
 invariant-compose_every-loop-part l =
-    join_every (join (change_of l.body)) (changes_of l.parts) ≡ changes_before (map change_of l.all) (join_every (join (change_of l.body)) (changes_of (drop l.part-index l.part-items)))
+    join_every (join (change_of l.body)) (changes_of l.parts) ≡ changes_before (map change_of l.all) (join_every (join (change_of l.body)) (changes_of (drop l.part-index l.parts)))
 
 abbrev pub invariant-compose_unrolled-loop-part : goal.invariant-compose_unrolled-loop-part
 invariant-compose_unrolled-loop-part l =

@@ -1,0 +1,10 @@
+pub mod Stretches
+pub mod Inlining
+pub mod Unrolling
+pub mod Along
+pub mod Twice
+pub mod Bodies
+pub mod Rewriting
+pub mod Refusing
+pub mod Meeting
+pub mod CasesKept

@@ -1,0 +1,13 @@
+pub mod Operations
+pub mod Copying
+pub mod Keeping
+pub mod Unrolling
+pub mod Laws
+pub mod Cases
+pub mod Rewriting
+pub mod InnerForms
+pub use Rattle.jz_change.specs.Changes
+pub use Rattle.jz_change.specs.Fitting
+pub use Rattle.jz_change.specs.Views
+pub use Rattle.jz_change.specs.declared.change.Number
+pub use Rattle.jz_change.specs.declared.change.Numbers

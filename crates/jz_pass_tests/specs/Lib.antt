@@ -1,0 +1,4 @@
+pub mod Meaning
+pub mod Rules
+pub mod Known
+pub mod Kept
