@@ -65,12 +65,12 @@ returned_apart storage.Reg z h = refl
 returned_apart storage.Stack z h = refl
 returned_apart storage.Inline z h = absurd (false≢true h)
 
-no_truth_returned : (s : Storage) → may_return s scope.Truth ≡ true → ⊥
+pub no_truth_returned : (s : Storage) → may_return s scope.Truth ≡ true → ⊥
 no_truth_returned storage.Reg h = false≢true h
 no_truth_returned storage.Stack h = false≢true h
 no_truth_returned storage.Inline h = false≢true h
 
-no_int_returned : (s : Storage) → may_return s scope.Int ≡ true → ⊥
+pub no_int_returned : (s : Storage) → may_return s scope.Int ≡ true → ⊥
 no_int_returned storage.Reg h = false≢true h
 no_int_returned storage.Stack h = false≢true h
 no_int_returned storage.Inline h = false≢true h

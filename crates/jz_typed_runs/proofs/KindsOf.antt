@@ -24,7 +24,7 @@ use Rattle.jz_run_laws.specs.Counted.{is_count, counted_type}
 use Rattle.jz_run_laws.proofs.Sizes.{expression_law}
 use Rattle.jz_texts.specs.Declared.{IsCountedDecl}
 
-abbrev TyLayer : Type 0
+abbrev pub TyLayer : Type 0
 TyLayer = Ty-F Expr Ty Access Decl Var
 
 abbrev VarLayer : Type 0

@@ -9,3 +9,7 @@ pub mod Fixing
 pub mod Numbers
 pub mod InlineExact
 pub mod Stopping
+pub mod Ending
+pub mod Wanted
+pub mod OperatorCauses
+pub mod Causing

@@ -55,7 +55,7 @@ rows_of : (q : Program) → IsTypedProgram q → All (λ f. All (HasRows q.funs)
 rows_of q h = subst (λ z. All (λ f. All (HasRows z.funs) (statements_of f.body)) z.funs) (sym h.same) (rows_held h.source h.typed)
 
 -- ---- what a call knows of its callee
-record IsCallee (q : Program) (g : Fun) : Type 0 where
+pub record IsCallee (q : Program) (g : Fun) : Type 0 where
   pub params : All (λ p. IsKept (declared_in q g) p.var) g.params
   pub results : All (IsKept (declared_in q g)) g.result
   pub passed : All (λ p. unkept_param p ≡ []) g.params
@@ -74,7 +74,7 @@ module _ (q : Program) (h : IsTypedText q) where
       let b = both (flat_map (unkept is_kept) g.vars) (flat_map (unkept_ret g.span) g.rets) a.1 in
       record { params = p; results = r; passed = all_empty unkept_param g.params a.0; returned = all_empty (unkept_ret g.span) g.rets b.1; well = w }
 
-  callees : All (IsCallee q) q.funs
+  pub callees : All (IsCallee q) q.funs
   callees =
       let names = declarations_law q h.typed h.text in
       let typed = well_typed_law q h.typed in

@@ -3,3 +3,4 @@ pub mod Reached
 pub mod Runs
 pub mod InlineValues
 pub mod Stuck
+pub mod Causes

@@ -1,15 +1,19 @@
 -- Where a run is stuck.
-use Rattle.std.specs.Prelude.{◌≡◌, ◌⊎◌, ℕ, List}
+use Rattle.std.specs.Prelude.{◌≡◌, ◌⊎◌, ℕ, List, None, Contains}
 use Rattle.jz_tree.specs.Memory.{Memory}
+use Rattle.jz_tree.specs.declared.expr.Var.{Var}
 use Rattle.jz_tree.specs.declared.program.Fun.{Fun}
 use Rattle.jz_tree.specs.declared.program.Program.{Program}
 use Rattle.jz_meaning.specs.RunLeaks.{Leak}
 use Rattle.jz_meaning.specs.Rules.{Parts, stuck, End, Stuck, Goes}
 use Rattle.jz_meaning.specs.declared.value.Stuck as code
+use Rattle.jz_meaning.specs.declared.value.Why.TheVariants.{Init}
 use Rattle.jz_meaning.specs.States.{Value, State}
+use Rattle.jz_meaning.specs.Values.{key_of, ref_of}
 use Rattle.jz_meaning.specs.Statements.{source}
 use Rattle.jz_meaning.specs.Runs.{result_words, entry_state, body_of, IsRun}
 use Rattle.jz_run_laws.specs.Kinds.{HoldsBytes}
+use Rattle.jz_typed_runs.specs.TypedTexts.{IsTypedText}
 use Rattle.jz_typed_runs.specs.Reached.{Part, operation, test, bounds, arguments, results}
 use Rattle.jz_typed_runs.specs.Runs.{SourcePart, RunComes}
 
@@ -44,3 +48,21 @@ StuckLaw =
     (q : Program) (f : Fun) (words : List Value) (memory : Memory) (n : ℕ) (w : code.Stuck)
     → HoldsBytes memory → IsRun q f words memory n (Stuck w)
     → StopsAt q f words memory n w ⊎ StopsBehind q f words memory n w
+
+-- its body ends, and a variable that it returns holds nothing then; an array has no value itself
+pub record EndsUnset (q : Program) (f : Fun) (words : List Value) (memory : Memory) (n : ℕ)
+    (w : code.Stuck) : Type 0 where
+  pub state : State
+  pub left : ℕ
+  pub leak : Leak
+  pub goes : Goes source (body_of q f) n (entry_state f words memory) (End state left leak)
+  pub variable : Var
+  pub of_result : Contains f.result variable
+  pub unset : state.store (key_of (ref_of variable)) ≡ None
+  pub told : w ≡ record { span = (ref_of variable).span; why = Init }
+
+abbrev pub UnsetLaw : Type 0
+UnsetLaw =
+    (q : Program) (f : Fun) (words : List Value) (memory : Memory) (n : ℕ) (w : code.Stuck)
+    → IsTypedText q → HoldsBytes memory → IsRun q f words memory n (Stuck w)
+    → StopsAt q f words memory n w ⊎ EndsUnset q f words memory n w

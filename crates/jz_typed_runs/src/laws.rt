@@ -2,7 +2,8 @@
 
 ghost use Rattle.jz_typed_runs.specs.TypedTexts.{DeclaredLaw};
 ghost use Rattle.jz_typed_runs.specs.InlineValues.{InlineLaw};
-ghost use Rattle.jz_typed_runs.specs.Stuck.{StuckLaw};
+ghost use Rattle.jz_typed_runs.specs.Stuck.{StuckLaw, UnsetLaw};
+ghost use Rattle.jz_typed_runs.specs.Causes.{CauseLaw};
 ghost use Rattle.jz_typed_runs.specs.Runs.{ReachedLaw, EndsLaw, NumbersLaw};
 
 /// Each statement of a typed program that comes of a text carries what is declared.
@@ -19,9 +20,11 @@ pub fn runs_of_typed_programs_keep_kinds()
 {}
 
 /// A run that is stuck comes to a part that is stuck for that reason in the state that it has
-/// there, or ends and what it returns is.
+/// there, or ends and what it returns is; in a typed program, since a variable that it returns
+/// holds nothing.
 pub fn stuck_runs_stop_at_a_part()
-    ensures { StuckLaw }
+    ensures parts { StuckLaw }
+    ensures unset { UnsetLaw }
 {}
 
 /// How many numbers an expression of a typed program leaks is a number of its text, in every state
@@ -34,4 +37,11 @@ pub fn numbers_depend_on_the_text()
 /// nothing and has that value.
 pub fn inline_values_are_never_stuck()
     ensures { InlineLaw }
+{}
+
+/// Where an expression that typing admits is stuck for want of a value, a variable or a cell of it
+/// holds nothing, at the place that is told, or an operation at that place has a number as an
+/// operand.
+pub fn stuck_expressions_lack_a_value()
+    ensures { CauseLaw }
 {}

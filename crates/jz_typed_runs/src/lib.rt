@@ -7,5 +7,5 @@ mod laws;
 
 pub use laws::{
     inline_values_are_never_stuck, numbers_depend_on_the_text, runs_of_typed_programs_keep_kinds,
-    stuck_runs_stop_at_a_part, typed_texts_are_declared,
+    stuck_expressions_lack_a_value, stuck_runs_stop_at_a_part, typed_texts_are_declared,
 };
