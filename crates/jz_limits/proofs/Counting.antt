@@ -1,15 +1,12 @@
 -- Counts of loops.
-use Rattle.std.proofs.Common.{◌≡◌, ℕ, suc, ◌+◌, ◌*◌, ℤ, List, [], ◌∷◌, ◌++◌, length, Option, Some, None, refl, sym, ap, ap₂, ◌∙◌, arith, zero-add}
+use Rattle.std.proofs.Common.{◌≡◌, ℕ, suc, ◌+◌, ◌*◌, List, [], ◌∷◌, ◌++◌, length, Some, refl, sym, ap, ap₂, ◌∙◌, arith, zero-add}
 use Rattle.std.proofs.lemmas.List.{append-nil}
 use Rattle.std.proofs.Math.Nat.{zero-mul, suc-mul, mul-one}
-use Rattle.jz_tree.specs.declared.expr.Var.{Var}
-use Rattle.jz_integers.specs.Integers.{KnownNumbers}
 use Rattle.jz_meaning.specs.Trees.{done}
-use Rattle.jz_meaning.specs.Statements.{Counter}
-use Rattle.jz_limits.specs.Limits.{Limit, Step, one, passing, count_of}
+use Rattle.jz_limits.specs.Limits.{Limit, count_of}
 use Rattle.jz_limits.specs.Values.{with_number, number_in}
 use Rattle.jz_limits.specs.Asked.{widths}
-use Rattle.jz_limits.specs.Walks.{Walk, limits, rounds, counted_values, loop_walk, walk, silent}
+use Rattle.jz_limits.specs.Walks.{limits, rounds, counted_values, walk}
 use Rattle.jz_limits.specs.LimitLaws.{TurnsCount, EmptyLoops}
 use Rattle.jz_limits.proofs.First.{count-append}
 

@@ -1,5 +1,5 @@
 -- The first limit of an expansion, of all that is met in expanded order.
-use Rattle.std.specs.Prelude.{ℕ, suc, ◌≡◌, ◌≤◌, ◌<◌, List, [], ◌∷◌, ◌++◌, All}
+use Rattle.std.specs.Prelude.{ℕ, suc, ◌≡◌, ◌≤◌, List, [], ◌∷◌, ◌++◌, All}
 use Rattle.jz_tree.specs.Span.{Span}
 
 -- too many statements; an inline expression without a value; an index of a register array outside

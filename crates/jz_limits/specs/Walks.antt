@@ -1,7 +1,7 @@
 -- What is met when a function is gone through in expanded order: each call's body stands in the place
 -- of the call, with the copies of its arguments before it and those of its results behind it; each
 -- turn of a `for` stands for itself; of a constant test the arm that is taken.
-use Rattle.std.specs.Prelude.{ℕ, ℤ, ◌+◌, ◌-◌, ◌==◌, Bool, true, false, is_some, if◌then◌else◌, List, [], ◌∷◌, ◌++◌, map, replicate, length, Option, Some, None}
+use Rattle.std.specs.Prelude.{ℤ, ◌+◌, ◌-◌, Bool, true, false, if◌then◌else◌, List, [], ◌∷◌, ◌++◌, map, replicate, length, Option, Some, None}
 use Rattle.jz_tree.specs.Span.{Span}
 use Rattle.jz_tree.specs.declared.expr.Expr.{Expr}
 use Rattle.jz_tree.specs.declared.expr.Expr.TheVariants as expr
@@ -12,19 +12,17 @@ use Rattle.jz_tree.specs.declared.program.Fun.{Fun}
 use Rattle.jz_tree.specs.declared.program.Param.{Param}
 use Rattle.jz_tree.specs.declared.program.Program.{Program}
 use Rattle.jz_integers.specs.Integers.{KnownNumbers, inline_value}
-use Rattle.jz_integers.specs.declared.constant.Constant.{Constant}
-use Rattle.jz_integers.specs.declared.constant.Constant.TheVariants as constant
 use Rattle.jz_type_names.specs.Kinds.{is_inline}
 use Rattle.jz_type_names.specs.Parts.{span_of}
 use Rattle.jz_meaning.specs.Trees.{done, op, quiet, choose, loop, each, call}
 use Rattle.jz_meaning.specs.declared.access.Kind.{Kind}
 use Rattle.jz_meaning.specs.declared.access.Kind.TheVariants as kind
 use Rattle.jz_meaning.specs.Values.{ref_of}
-use Rattle.jz_meaning.specs.Statements.{Operation, assign, Condition, Counter, Call, Block, values_between}
+use Rattle.jz_meaning.specs.Statements.{Operation, assign, Counter, Call, Block, values_between}
 use Rattle.jz_meaning.specs.Runs.{body_of}
 use Rattle.jz_limits.specs.Limits.{Limit, InlineWidth, Step, one, passing}
-use Rattle.jz_limits.specs.Values.{no_numbers, with_number, number_of, number_in, truth_of, set_to, inline_target, known_after, is_int}
-use Rattle.jz_limits.specs.Asked.{asked, asked_condition, unless, widths}
+use Rattle.jz_limits.specs.Values.{no_numbers, with_number, number_of, number_in, truth_of, known_after, is_int}
+use Rattle.jz_limits.specs.Asked.{asked, asked_condition, widths}
 
 -- what is met, and what is known of inline variables at the end
 pub record Walk : Type 0 where
@@ -77,8 +75,8 @@ abbrev pub turns : Expr → KnownNumbers → Walk → Walk → Walk
 turns c e p b =
     if is_inline c
     then kept e p (λ e.
-        behind (constant_steps (span_of c) (truth_of (inline_value e c)))
-        (taken (truth_of (inline_value e c)) (kept e b silent) (silent e) (silent e)))
+    behind (constant_steps (span_of c) (truth_of (inline_value e c)))
+    (taken (truth_of (inline_value e c)) (kept e b silent) (silent e) (silent e)))
     else record { steps = p.steps ++ limits (asked_condition e c) ++ b.steps; known = e }
 
 -- ---- `for`
