@@ -1,5 +1,5 @@
--- What one statement has that passes a limit, where the values of inline variables are known: inline
--- expressions without a value, then indexes of register arrays outside their cells, then
+-- What one statement has that passes a limit, where the values of inline variables are known:
+-- inline expressions without a value, then indexes of register arrays outside their cells, then
 -- immediates, displacements, scales and counts that have no field; of one kind in the order of the
 -- text.
 use Rattle.std.specs.Prelude.{ℤ, pos, Bool, true, false, not, ◌&&◌, ◌||◌, is_some, int_lt, int_le, ◌+ℤ◌, ◌-ℤ◌, ◌*ℤ◌, if◌then◌else◌, List, [], ◌∷◌, ◌++◌, flat_map, Option, Some, None, option_to_list}

@@ -1,6 +1,6 @@
--- What is met when a function is gone through in expanded order: each call's body stands in the place
--- of the call, with the copies of its arguments before it and those of its results behind it; each
--- turn of a `for` stands for itself; of a constant test the arm that is taken.
+-- What is met when a function is gone through in expanded order: each call's body stands in the
+-- place of the call, with the copies of its arguments before it and those of its results behind it;
+-- each turn of a `for` stands for itself; of a constant test the arm that is taken.
 use Rattle.std.specs.Prelude.{ℤ, ◌+◌, ◌-◌, Bool, true, false, if◌then◌else◌, List, [], ◌∷◌, ◌++◌, map, replicate, length, Option, Some, None}
 use Rattle.jz_tree.specs.Span.{Span}
 use Rattle.jz_tree.specs.declared.expr.Expr.{Expr}
