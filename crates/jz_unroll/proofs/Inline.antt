@@ -23,8 +23,8 @@ use Rattle.jz_integers.specs.declared.constant.Constant.TheVariants as constant
 use Rattle.jz_runs.specs.Rules.{went}
 use Rattle.jz_meaning.specs.Attempts.{Evaluation, and_then, defined}
 use Rattle.jz_meaning.specs.States.{Value, boolean, integer, State}
-use Rattle.jz_meaning.specs.Operators.{of_constant, joined, is_settled, combined, shifted, binary, negated, inverted}
-use Rattle.jz_meaning.specs.Values.{Ref, key_of, Meaning, right_wanted, left_wanted, with_right, ref_of, own_size, evaluated}
+use Rattle.jz_meaning.specs.Operators.{of_constant, is_settled, combined, shifted, binary, negated, inverted}
+use Rattle.jz_meaning.specs.Values.{Ref, key_of, Meaning, right_wanted, left_wanted, ref_of, own_size, evaluated}
 use Rattle.jz_unroll.specs.Values.{cells_step, has_no_cell}
 use Rattle.jz_unroll.specs.ValueLaws.{HoldsKnown}
 use Rattle.jz_unroll.proofs.Layers.{Layer, meaning_layer, meaning_is, ref_rolled}
