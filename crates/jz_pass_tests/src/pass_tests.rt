@@ -31,7 +31,7 @@ static ROWS: [Row; 3] = [
         prologue: &[2],
         limit: 9,
         body: &[1],
-        program: "1 2 2 if 5 {} {1 2} while {1 1} 9 {1} ",
+        program: "1 2 2 if 5 {} {1 2 } while {1 1 } 9 {1 } ",
         change: "op(1 ) op(2 2 ) if $ {op() } {op(1 2 ) } while {op(1 1 ) } $ {op(1 ) } ",
     },
     Row {
