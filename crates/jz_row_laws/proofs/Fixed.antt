@@ -320,7 +320,7 @@ module _ (sorts : Sorts) where
   no_settled true o b y n e = no_bool b n e
   no_settled false o b None n e = none_not (constant.Int n) e
   no_settled false o b (Some (constant.Int j)) n e = none_not (constant.Int n) e
-  no_settled false o b (Some (constant.Bool c)) n e = no_truth (integers.joins o) c n e
+  no_settled false o b (Some (constant.Bool c)) n e = no_truth (joins o) c n e
 
   joined_of : (o : BinOp) (x y : Option Constant) (n : ℤ) → joined o x y ≡ Some (constant.Int n) → (joins o ≡ false) × ((i : ℤ) × (x ≡ Some (constant.Int i))) × ((j : ℤ) × (y ≡ Some (constant.Int j)))
   joined_of o None y n e = absurd (none_not (constant.Int n) e)

@@ -1,4 +1,5 @@
-//! What the rows of the pattern table say of the expressions that match them; there is no code here.
+//! What the rows of the pattern table say of the expressions that match them; there is no code
+//! here.
 #![tactic(auto)]
 
 mod laws;

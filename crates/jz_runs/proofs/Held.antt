@@ -1,5 +1,5 @@
 -- A leak holds a cut exactly where its run was cut, at each depth.
-use Rattle.std.proofs.Common.{ℕ, List, ℤ}
+use Rattle.std.proofs.Common.{ℕ, Bool, List, ℤ}
 use Rattle.jz_runs.specs.Trees.{Tree}
 use Rattle.jz_leak.specs.RunLeaks as leak
 use Rattle.jz_leak.specs.RunLeaks.{Leak, Turns, Rounds}

@@ -1,6 +1,9 @@
 -- The view of items shows what `items_of` does.
-use Rattle.std.proofs.Common.{◌≡◌, [], ◌∷◌, true, false, refl, ap, ap₂}
+use Rattle.std.proofs.Common.{◌≡◌, List, [], ◌∷◌, true, false, refl, ap, ap₂}
+use Rattle.jz_leak.specs.declared.leak.Leak.{Leak as ShownLeak}
+use Rattle.jz_leak.specs.declared.leak.Item.{Item}
 use Rattle.jz_leak.specs.declared.leak.Item.TheVariants as item
+use Rattle.jz_leak.specs.declared.leak.Turn.{Turn}
 use Rattle.jz_leak.specs.RunLeaks.{Leak, over, ran, chose, chose_cut, looped, looped_cut, each, each_cut, called, called_cut, Turns, left, turn, prologue_cut, wanted, body_cut, Rounds, no_round, round, round_cut}
 use Rattle.jz_leak.specs.Shown.{items_of, turns_of, rounds_of}
 use Rattle.jz_runs.specs.Views.{leak_view, turns_view, rounds_view, leak_of, turn_of, items_view}

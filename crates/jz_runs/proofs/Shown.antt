@@ -5,7 +5,7 @@ use Rattle.jz_leak.specs.RunLeaks.{Leak, Turns, Rounds}
 use Rattle.jz_runs.specs.Trees.{Tree, done, op, quiet, choose, loop, each, call}
 use Rattle.jz_runs.specs.Rules.{Attempt, stuck, went, Parts, Outcome, End, Cut, Stuck, after, Goes, finished, did, did_not, quieted, chosen, chosen_cut, chosen_stuck, chose_not, loop_left, loop_cut, loop_stuck, counted, counted_cut, counted_stuck, counted_not, call_ended, call_cut, call_stuck, entered_not, left_not, Loops, in_prologue, prologue_stuck, tested_not, leaves_loop, no_turn, in_body, body_stuck, more_turns, Counts, no_count, more_counts, count_cut, count_stuck}
 use Rattle.jz_runs.specs.Views.{View, leak_view, turns_view, rounds_view}
-use Rattle.jz_runs.specs.ShownRuns.{before, finished_outcome, call_left_outcome, call_outcome, Runs, RunsTurns, RunsRounds, Leads, last, more, cut, stuck_in, IsTurn, IsTested, Passed, Turned, Counted}
+use Rattle.jz_runs.specs.ShownRuns.{before, finished_outcome, call_left_outcome, call_outcome, Runs, RunsTurns, RunsRounds, Leads, TurnOutcome, last, more, cut, stuck_in, IsTurn, IsTested, Passed, Turned, Counted}
 use Rattle.jz_runs.proofs.Steady.{not_more}
 
 -- a statement more is its list in front of what is shown

@@ -1,0 +1,3 @@
+pub mod InnerColumns
+pub mod InnerOps
+pub mod Lists

@@ -1,0 +1,11 @@
+pub mod KindsOf
+pub mod Declaring
+pub mod Reaching
+pub mod Trees
+pub mod Runs
+pub mod Inline
+pub mod Calling
+pub mod Fixing
+pub mod Numbers
+pub mod InlineExact
+pub mod Stopping

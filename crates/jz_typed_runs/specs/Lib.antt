@@ -1,0 +1,5 @@
+pub mod TypedTexts
+pub mod Reached
+pub mod Runs
+pub mod InlineValues
+pub mod Stuck

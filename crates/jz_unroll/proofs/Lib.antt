@@ -1,0 +1,4 @@
+pub mod Layers
+pub mod PartNumbers
+pub mod Inline
+pub mod Valued
