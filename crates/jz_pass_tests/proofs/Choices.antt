@@ -58,6 +58,7 @@ module _ (R : Rewriting ℕ ℕ ℕ ℕ) (stays : (p : ℕ) → R.Test p [] [] p
   kept (Small-F.Add k) a b = tt
   kept (Small-F.If p x y) a b = record { operations = []; test = p; rule = stays p; trees = tree_if p a b }
   kept (Small-F.While x p y) a b = record { operations = []; test = p; rule = stays p; trees = tree_while a p b }
+  kept Small-F.Mark a b = tt
 
   pub keeps_test : (s : Small) (a b made : List Small) (items : List Numbers) (numbers : Numbers) → KeepsTest s a b made items numbers → ChoiceMade R then_small (shape_of s) a b made items numbers
   keeps_test s a b made items numbers h =
