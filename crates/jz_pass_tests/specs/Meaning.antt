@@ -1,6 +1,6 @@
 -- What the statements of the small language do.
-use Rattle.std.specs.Prelude.{◌≡◌, ◌<◌, ℕ, ◌+◌, nat_lt, Bool, false, List, [], ◌∷◌, map, ⊤}
-use Rattle.std.proofs.Common.{refl, sym, ap, ◌∙◌, subst, arith}
+use Rattle.std.specs.Prelude.{◌≡◌, ℕ, ◌+◌, nat_lt, false, List, [], ◌∷◌, map}
+use Rattle.std.proofs.Common.{refl, sym, ap, ◌∙◌, arith}
 use Rattle.jz_runs.specs.Trees.{Tree, done, op, quiet, choose, loop}
 use Rattle.jz_runs.specs.Rules.{Parts, went}
 use Rattle.jz_pass.specs.Rewriting.{Shape, one, either, turns, other, all_before, HasTree, sizes, IsAbove}
