@@ -4,7 +4,7 @@ use Rattle.jz_runs.specs.Trees.{done, op, choose, loop}
 use Rattle.jz_change.specs.declared.change.Numbers.{Numbers}
 use Rattle.jz_change.specs.declared.change.Numbers.TheVariants.{Same, These}
 use Rattle.jz_change.specs.declared.change.Number.TheVariants.{Fixed}
-use Rattle.jz_pass.specs.Rewriting.{Rewriting, one, either, turns, all_before, HasTree, OpBecomes}
+use Rattle.jz_pass.specs.Rewriting.{Rewriting, one, all_before, HasTree, OpBecomes}
 use Rattle.jz_pass.specs.InnerForms.{OperationMade, ChoiceMade}
 use Rattle.jz_pass_tests.specs.declared.small.Small.{Small}
 use Rattle.jz_pass_tests.specs.declared.small.Small.TheVariants as code
@@ -58,6 +58,7 @@ module _ (R : Rewriting ℕ ℕ ℕ ℕ) (stays : (p : ℕ) → R.Test p [] [] p
   kept (Small-F.Add k) a b = tt
   kept (Small-F.If p x y) a b = record { operations = []; test = p; rule = stays p; trees = tree_if p a b }
   kept (Small-F.While x p y) a b = record { operations = []; test = p; rule = stays p; trees = tree_while a p b }
+  kept Small-F.Mark a b = tt
 
   pub keeps_test : (s : Small) (a b made : List Small) (items : List Numbers) (numbers : Numbers) → KeepsTest s a b made items numbers → ChoiceMade R then_small (shape_of s) a b made items numbers
   keeps_test s a b made items numbers h =

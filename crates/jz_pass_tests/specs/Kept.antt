@@ -1,5 +1,5 @@
 -- A test that stays as it is, with other parts.
-use Rattle.std.specs.Prelude.{◌≡◌, ℕ, List, [], ◌∷◌}
+use Rattle.std.specs.Prelude.{◌≡◌, List, [], ◌∷◌}
 use Rattle.jz_change.specs.declared.change.Numbers.{Numbers}
 use Rattle.jz_change.specs.declared.change.Numbers.TheVariants.{Same}
 use Rattle.jz_pass_tests.specs.declared.small.Small.{Small}
@@ -11,6 +11,7 @@ abbrev pub layer_with : Small-F Small → List Small → List Small → Small
 layer_with (Small-F.Add k) a b = code.Add k
 layer_with (Small-F.If p x y) a b = code.If p a b
 layer_with (Small-F.While x p y) a b = code.While a p b
+layer_with Small-F.Mark a b = code.Mark
 
 -- the statement with other parts, and a test with the same numbers
 pub record KeepsTest (s : Small) (first second made : List Small) (items : List Numbers)

@@ -1,6 +1,6 @@
 -- The law of each rule on one statement.
 use Rattle.std.specs.Prelude.{◌≡◌, ℕ, ◌+◌, ◌-◌, ◌/◌, Bool, List, [], ◌∷◌, ⊤}
-use Rattle.std.proofs.Common.{refl, sym, subst, arith, inl}
+use Rattle.std.proofs.Common.{refl, subst, arith, inl}
 use Rattle.std.proofs.lemmas.List.Elements.{All-nil, All-cons}
 use Rattle.jz_runs.specs.Rules.{stuck, went}
 use Rattle.jz_change.specs.declared.change.Number.TheVariants.{Fixed}

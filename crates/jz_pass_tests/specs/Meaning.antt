@@ -1,9 +1,9 @@
 -- What the statements of the small language do.
-use Rattle.std.specs.Prelude.{◌≡◌, ◌<◌, ℕ, ◌+◌, nat_lt, Bool, false, List, [], ◌∷◌, map, ⊤}
-use Rattle.std.proofs.Common.{refl, sym, ap, ◌∙◌, subst, arith}
-use Rattle.jz_runs.specs.Trees.{Tree, done, op, choose, loop}
+use Rattle.std.specs.Prelude.{◌≡◌, ℕ, ◌+◌, nat_lt, false, List, [], ◌∷◌, map}
+use Rattle.std.proofs.Common.{refl, sym, ap, ◌∙◌, arith}
+use Rattle.jz_runs.specs.Trees.{Tree, done, op, quiet, choose, loop}
 use Rattle.jz_runs.specs.Rules.{Parts, went}
-use Rattle.jz_pass.specs.Rewriting.{Shape, one, either, turns, all_before, HasTree, sizes, IsAbove}
+use Rattle.jz_pass.specs.Rewriting.{Shape, one, either, turns, other, all_before, HasTree, sizes, IsAbove}
 use Rattle.jz_pass_tests.specs.declared.small.Unknown.{Unknown}
 use Rattle.jz_pass_tests.specs.declared.small.Small.{Small}
 use Rattle.jz_pass_tests.specs.declared.small.Small.TheOpen.{Small-F}
@@ -35,6 +35,7 @@ abbrev pub layer_tree : Small-F (Block → Block) → Block → Block
 layer_tree (Small-F.Add k) rest = op k rest
 layer_tree (Small-F.If p a b) rest = choose p (in_order a done) (in_order b done) rest
 layer_tree (Small-F.While q p b) rest = loop false (in_order q done) p (in_order b done) rest
+layer_tree Small-F.Mark rest = quiet 0 rest
 
 -- the tree of a statement, before what follows
 abbrev pub then_small : Small → Block → Block
@@ -44,6 +45,7 @@ abbrev pub layer_shape : Small-F Small → Shape ℕ ℕ Small
 layer_shape (Small-F.Add k) = one k
 layer_shape (Small-F.If p a b) = either p a b
 layer_shape (Small-F.While q p b) = turns false q p b
+layer_shape Small-F.Mark = other
 
 -- what stands in a statement
 abbrev pub shape_of : Small → Shape ℕ ℕ Small
@@ -57,6 +59,7 @@ abbrev pub layer_weight : Small-F ℕ → ℕ
 layer_weight (Small-F.Add k) = 1
 layer_weight (Small-F.If p a b) = 1 + add_all a + add_all b
 layer_weight (Small-F.While q p b) = 1 + add_all q + add_all b
+layer_weight Small-F.Mark = 1
 
 -- how many statements stand in it, with itself
 abbrev pub weight : Small → ℕ
@@ -86,6 +89,7 @@ layer_has : (x : Small-F Small) (tree : Block → Block) → ((rest : Block) →
 layer_has (Small-F.Add k) tree h = h
 layer_has (Small-F.If p a b) tree h = λ rest. h rest ∙ ap (λ x. choose p x (in_order (map then_small b) done) rest) (in_order_is a done) ∙ ap (λ x. choose p (all_before then_small a done) x rest) (in_order_is b done)
 layer_has (Small-F.While q p b) tree h = λ rest. h rest ∙ ap (λ x. loop false x p (in_order (map then_small b) done) rest) (in_order_is q done) ∙ ap (λ x. loop false (all_before then_small q done) p x rest) (in_order_is b done)
+layer_has Small-F.Mark tree h = tt
 
 pub has_tree : (s : Small) → HasTree then_small (shape_of s) (then_small s)
 has_tree s = layer_has (out-Small s) (then_small s) (then_is s)
@@ -94,6 +98,7 @@ layer_above : (x : Small-F Small) (n : ℕ) → n ≡ layer_weight (map-Small _ 
 layer_above (Small-F.Add k) n e = tt
 layer_above (Small-F.If p a b) n e = let x = add_all_is a in let y = add_all_is b in (omega arith, omega arith)
 layer_above (Small-F.While q p b) n e = let x = add_all_is q in let y = add_all_is b in (omega arith, omega arith)
+layer_above Small-F.Mark n e = tt
 
 pub is_above : (s : Small) → IsAbove weight (shape_of s) (weight s)
 is_above s = layer_above (out-Small s) (weight s) (weight_is s)

@@ -4,7 +4,7 @@ ghost use Rattle.std.specs.Prelude.{◌≡◌, ℕ, [], ◌∷◌, IfOk, IfErr};
 ghost use Rattle.jz_data.specs.Failures.{IfRefused};
 ghost use Rattle.jz_runs.specs.Trees.{done};
 ghost use Rattle.jz_pass.specs.InnerForms.{ChoiceMade};
-ghost use Rattle.jz_pass.specs.Rewriting.{by_rule, Rewrites, RefusesOne};
+ghost use Rattle.jz_pass.specs.Rewriting.{by_rule, other, Rewrites, RefusesOne};
 ghost use Rattle.jz_change.specs.declared.change.Numbers.TheVariants.{Same};
 ghost use Rattle.jz_pass_tests.specs.declared.small.Unknown.{Unknown};
 ghost use Rattle.jz_pass_tests.specs.declared.small.Small.TheVariants.{Add};
@@ -71,7 +71,7 @@ impl Local for AddNothing {
 
     ghost items = { λ it. dropping_items };
 
-    ghost refuses = { λ it s cause. ⊥ };
+    ghost refuses = { λ it s cause. shape_of s ≡ other };
 
     fn form(&self, s: &Small) -> Form {
         form_of(s)
@@ -96,6 +96,7 @@ impl Local for AddNothing {
             }
             Small::If(_, _, _) => Ok(no_operation(alloc)),
             Small::While(_, _, _) => Ok(no_operation(alloc)),
+            Small::Mark => Ok(no_operation(alloc)),
         }
     }
 
@@ -112,7 +113,7 @@ impl Local for AddNothing {
     ) -> Result<Choice<Small>, Failure<Unknown>>
         ensures made { IfOk result (λ r. ChoiceMade dropping then_small (shape_of s.now) first second
             r.statements r.items r.numbers) }
-        ensures refused { IfErr result (λ e. IfRefused e (λ cause. ⊥)) }
+        ensures refused { IfErr result (λ e. IfRefused e (λ cause. shape_of s.now ≡ other)) }
     {
         Ok(same_choice(alloc, s, first, second)?)
     }
@@ -137,7 +138,7 @@ impl Pass for AddNothing {
 
     ghost makes = { λ it p q k. Rewrites dropping (tree_of p) done (tree_of q) k };
 
-    ghost refuses = { λ it p cause. RefusesOne shape_of (λ s e. ⊥) p cause };
+    ghost refuses = { λ it p cause. RefusesOne shape_of (λ s e. shape_of s ≡ other) p cause };
 
     fn run(&self, alloc: Global, p: &Seq<Small>) -> Result<Passed<Seq<Small>>, Failure<Unknown>> {
         let rule = Rewrite::new(AddNothing);

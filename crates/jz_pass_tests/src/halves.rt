@@ -6,7 +6,7 @@ ghost use Rattle.jz_change.specs.declared.change.Numbers.TheVariants.{These};
 ghost use Rattle.jz_data.specs.Failures.{IfRefused};
 ghost use Rattle.jz_runs.specs.Trees.{done};
 ghost use Rattle.jz_pass.specs.InnerForms.{ChoiceMade};
-ghost use Rattle.jz_pass.specs.Rewriting.{by_rule, Rewrites, RefusesOne};
+ghost use Rattle.jz_pass.specs.Rewriting.{by_rule, other, Rewrites, RefusesOne};
 ghost use Rattle.jz_pass_tests.specs.declared.small.Unknown.{Unknown};
 ghost use Rattle.jz_pass_tests.specs.declared.small.Small.TheVariants.{Add};
 ghost use Rattle.jz_pass_tests.specs.Meaning.{small, then_small, tree_of, shape_of, weight, has_tree, is_above};
@@ -73,7 +73,7 @@ impl Local for Halves {
 
     ghost items = { λ it. halving_items };
 
-    ghost refuses = { λ it s cause. ⊥ };
+    ghost refuses = { λ it s cause. shape_of s ≡ other };
 
     fn form(&self, s: &Small) -> Form {
         form_of(s)
@@ -93,6 +93,7 @@ impl Local for Halves {
             Small::Add(k) => Ok(halved(alloc, *k)?),
             Small::If(_, _, _) => Ok(no_operation(alloc)),
             Small::While(_, _, _) => Ok(no_operation(alloc)),
+            Small::Mark => Ok(no_operation(alloc)),
         }
     }
 
@@ -109,7 +110,7 @@ impl Local for Halves {
     ) -> Result<Choice<Small>, Failure<Unknown>>
         ensures made { IfOk result (λ r. ChoiceMade halving then_small (shape_of s.now) first second
             r.statements r.items r.numbers) }
-        ensures refused { IfErr result (λ e. IfRefused e (λ cause. ⊥)) }
+        ensures refused { IfErr result (λ e. IfRefused e (λ cause. shape_of s.now ≡ other)) }
     {
         Ok(same_choice(alloc, s, first, second)?)
     }
@@ -134,7 +135,7 @@ impl Pass for Halves {
 
     ghost makes = { λ it p q k. Rewrites halving (tree_of p) done (tree_of q) k };
 
-    ghost refuses = { λ it p cause. RefusesOne shape_of (λ s e. ⊥) p cause };
+    ghost refuses = { λ it p cause. RefusesOne shape_of (λ s e. shape_of s ≡ other) p cause };
 
     fn run(&self, alloc: Global, p: &Seq<Small>) -> Result<Passed<Seq<Small>>, Failure<Unknown>> {
         let rule = Rewrite::new(Halves);

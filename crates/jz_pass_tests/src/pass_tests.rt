@@ -4,7 +4,7 @@ use crate::add_nothing::AddNothing;
 use crate::halves::Halves;
 use crate::small::Small;
 use jz_change::{Number, Step};
-use jz_pass::{Change, Numbers, Pass, Passed, Seq, Then};
+use jz_pass::{Change, Failure, Numbers, Pass, Passed, Seq, Then};
 use std::alloc::{AllocError, Global};
 use std::test::Fail;
 
@@ -31,7 +31,7 @@ static ROWS: [Row; 3] = [
         prologue: &[2],
         limit: 9,
         body: &[1],
-        program: "1 2 2 if 5 {} {1 2} while {1 1} 9 {1} ",
+        program: "1 2 2 if 5 {} {1 2 } while {1 1 } 9 {1 } ",
         change: "op(1 ) op(2 2 ) if $ {op() } {op(1 2 ) } while {op(1 1 ) } $ {op(1 ) } ",
     },
     Row {
@@ -90,6 +90,7 @@ fn statements_text(alloc: Global, ss: &Seq<Small>) -> Result<String, AllocError>
 fn statement_text(alloc: Global, s: &Small) -> Result<String, AllocError> {
     match s {
         Small::Add(number) => format!(in alloc; "{number} "),
+        Small::Mark => String::from_str(alloc, "mark "),
         Small::If(bound, then_arm, else_arm) => {
             let then_text = statements_text(alloc, then_arm)?;
             let else_text = statements_text(alloc, else_arm)?;
@@ -203,5 +204,21 @@ fn halves_without_nothing(rt: HostRuntime) -> Result<(), Fail> {
             Err(_) => assert!(rt; false),
         }
     }
+    Ok(())
+}
+
+#[test]
+fn a_mark_is_refused(rt: HostRuntime) -> Result<(), Fail> {
+    let alloc = rt.alloc();
+    let mut arm = additions(alloc, &[1])?;
+    arm.push(Small::Mark)?;
+    let mut program = additions(alloc, &[2])?;
+    program.push(Small::If(3, Seq::new(alloc), arm))?;
+    let passes = Then::new(Halves, AddNothing);
+    let refused = match passes.run(alloc, &program) {
+        Err(Failure::Refused(_)) => true,
+        _ => false,
+    };
+    assert!(rt; refused);
     Ok(())
 }

@@ -21,13 +21,15 @@ pub enum Small {
     If(u64, Seq<Small>, Seq<Small>),
     /// While the number is below the bound behind the prologue.
     While(Seq<Small>, u64, Seq<Small>),
+    /// Does nothing. No rule knows it.
+    Mark,
 }
 
 /// The language of lists of these.
 #[derive(Drop)]
 pub struct SmallLanguage;
 
-/// Why a statement is refused: there is no such reason.
+/// Why a statement is refused: no rule knows it.
 #[derive(Drop)]
 pub struct Unknown;
 
@@ -55,6 +57,7 @@ pub fn form_of(s: &Small) -> Form
         Small::Add(_) => Form::Operation,
         Small::If(_, _, _) => Form::If,
         Small::While(_, _, _) => Form::While,
+        Small::Mark => Form::Other,
     }
 }
 
@@ -66,6 +69,7 @@ pub fn first_of<'a>(s: &'a Small) -> &'a [Small]
         Small::Add(_) => &[],
         Small::If(_, then_arm, _) => then_arm.as_slice(),
         Small::While(prologue, _, _) => prologue.as_slice(),
+        Small::Mark => &[],
     }
 }
 
@@ -77,6 +81,7 @@ pub fn second_of<'a>(s: &'a Small) -> &'a [Small]
         Small::Add(_) => &[],
         Small::If(_, _, else_arm) => else_arm.as_slice(),
         Small::While(_, _, body) => body.as_slice(),
+        Small::Mark => &[],
     }
 }
 
@@ -104,6 +109,7 @@ pub fn same_choice(
         Small::Add(k) => Small::Add(*k),
         Small::If(bound, _, _) => Small::If(*bound, first, second),
         Small::While(_, bound, _) => Small::While(first, *bound, second),
+        Small::Mark => Small::Mark,
     };
     let mut statements = Seq::new(alloc);
     statements.push(statement)?;

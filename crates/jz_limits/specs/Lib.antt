@@ -1,0 +1,5 @@
+pub mod Limits
+pub mod Values
+pub mod Asked
+pub mod Walks
+pub mod LimitLaws
