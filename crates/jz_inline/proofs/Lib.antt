@@ -12,3 +12,5 @@ pub mod Keeping
 pub mod Functions
 mod Examples
 pub mod Made
+pub mod Renaming
+pub mod Passed

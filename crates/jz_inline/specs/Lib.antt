@@ -3,3 +3,4 @@ pub mod Widths
 pub mod Calls
 pub mod Functions
 pub mod Statements
+pub mod CopiedNames
