@@ -14,3 +14,4 @@ mod Examples
 pub mod Made
 pub mod Renaming
 pub mod Passed
+pub mod Counting

@@ -15,7 +15,7 @@ use Rattle.jz_bodies.specs.Scopes.{Scope, is_over, is_access_over, IsScope}
 use Rattle.jz_inline.specs.Widths.{Shapes, sort_declared, declared_step, declared_shape, width}
 use Rattle.jz_inline.proofs.Reading.{Layer, over_layer, over_is, access_over_is}
 
-abbrev declared_access : Access → Shape
+abbrev pub declared_access : Access → Shape
 declared_access = para-Access Shape (Unit {0}) Shape (Unit {0}) (Unit {0}) declared_step (λ t. tt) (λ a. a.at.1) (λ d. tt) (λ v. tt)
 
 abbrev declared_layer : Layer → Shape
@@ -38,7 +38,7 @@ layer_is (Expr-F.Bin o a c at) = refl
 pub declared_is : (y : Layer) → declared_shape (roll-Expr y) ≡ declared_layer y
 declared_is y = para-roll-Expr Shape (Unit {0}) Shape (Unit {0}) (Unit {0}) declared_step (λ t. tt) (λ a. a.at.1) (λ d. tt) (λ v. tt) y ∙ layer_is y
 
-access_is : (y : Access-F Expr Ty Access Decl Var) → declared_access (roll-Access y) ≡ declared_shape y.at
+pub access_is : (y : Access-F Expr Ty Access Decl Var) → declared_access (roll-Access y) ≡ declared_shape y.at
 access_is y = para-roll-Access Shape (Unit {0}) Shape (Unit {0}) (Unit {0}) declared_step (λ t. tt) (λ a. a.at.1) (λ d. tt) (λ v. tt) y
 
 module _ (x : Scope) (h : IsScope x) where

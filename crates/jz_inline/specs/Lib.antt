@@ -4,3 +4,4 @@ pub mod Calls
 pub mod Functions
 pub mod Statements
 pub mod CopiedNames
+pub mod InnerWidths
