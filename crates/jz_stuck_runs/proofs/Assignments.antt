@@ -238,7 +238,13 @@ module _ (declared : List ℕ → Option Decl) (c d : Lval) (o : Option BinOp) (
   pair_size w is v = assignment_law (c ∷ d ∷ []) d o e w refl is two_counted (counted_of declared e k) v
 
 -- ---- whether it is a product
-layer_mul : (p : BinOp) (a b : Expr) (at : Span) → product_layer (Expr-F.Bin p a b at) ≡ multiplies p
+abbrev Outer : Type 0
+Outer = Expr-F Expr Ty Access Decl Var
+
+abbrev is_product_layer : Outer → Bool
+is_product_layer x = product_layer x
+
+layer_mul : (p : BinOp) (a b : Expr) (at : Span) → is_product_layer (Expr-F.Bin p a b at) ≡ multiplies p
 layer_mul op.Mul a b at = refl
 layer_mul p a b at = refl
 
@@ -262,7 +268,7 @@ chosen_mul : (b : Bool) (p q : BinOp) (r e a c : Expr) (at : Span) → (carries 
 chosen_mul true p q r e a c at g = bin_mul q (expr.Bin p r a at) c at ∙ carries_mul p q (and_parts (carries p q) (is_flag c) g).0
 chosen_mul false p q r e a c at g = bin_mul p r e at ∙ mul_is p
 
-updated_mul : (p : BinOp) (r e : Expr) (at : Span) (x : Expr-F Expr Ty Access Decl Var) → product_layer (out-Expr (updated_layer p r e at x)) ≡ is_mul p
+updated_mul : (p : BinOp) (r e : Expr) (at : Span) (x : Outer) → product_layer (out-Expr (updated_layer p r e at x)) ≡ is_mul p
 updated_mul p r e at (Expr-F.Bin q a c inner) = chosen_mul (carries p q && is_flag c) p q r e a c at refl
 updated_mul p r e at (Expr-F.Num n i) = bin_mul p r e at ∙ mul_is p
 updated_mul p r e at (Expr-F.Expr::Bool b i) = bin_mul p r e at ∙ mul_is p
@@ -337,11 +343,11 @@ module _ (declared : List ℕ → Option Decl) (s : State) (h : IsOfKinds (kinds
   abbrev T : List Lval
   T = c ∷ d ∷ []
 
-  abbrev W : code.Stuck → Type 0
-  W = LacksValue (operation (assign T o e None at)) s
+  abbrev V : code.Stuck → Type 0
+  V = LacksValue (operation (assign T o e None at)) s
 
   pair_done : (b : Bool) (w : Expr) (z : Size) (v : PairOf w z) (kw : HasKept declared w) → whole_of (Some d) o e ≡ Some w → option_or (left_sizes T) (own_size w) ≡ Some z → product_of declared s h w z kw v ≡ b
-      → ((ws : Results) → ResultAt b z ws → AreFine declared (option_or (left_sizes T) (own_size w)) T ws × ResultsFit ws) → IfStuck (Lacks W) (assigned T o e None at s)
+      → ((ws : Results) → ResultAt b z ws → AreFine declared (option_or (left_sizes T) (own_size w)) T ws × ResultsFit ws) → IfStuck (Lacks V) (assigned T o e None at s)
   pair_done b w z v kw is size p done =
       let Z = option_or (left_sizes T) (own_size w) in
       finish declared s h T o e None at w is (ResultAt b z) (ResultAt b z) f
@@ -363,7 +369,7 @@ module _ (declared : List ℕ → Option Decl) (s : State) (h : IsOfKinds (kinds
       by_left (lval.Cell v i) (Some p) row is = by_read (as_expr (lval.Cell v i)) (lval.Cell v i) p _ refl is
       by_left (lval.Store a) (Some p) row is = by_read (as_expr (lval.Store a)) (lval.Store a) p _ refl is
 
-  flag_fine : (w : Expr) → whole_of (Some d) o e ≡ Some w → PairRowOf c d o e → is_product o e ≡ false → IsFlag c → Takes d (value_term o d e) → IfStuck (Lacks W) (assigned T o e None at s)
+  flag_fine : (w : Expr) → whole_of (Some d) o e ≡ Some w → PairRowOf c d o e → is_product o e ≡ false → IsFlag c → Takes d (value_term o d e) → IfStuck (Lacks V) (assigned T o e None at s)
   flag_fine w is row n g t =
       let x = word_to declared o d e ld (row_rm c d o e row n) t in
       let z = x.size in
@@ -381,7 +387,7 @@ module _ (declared : List ℕ → Option Decl) (s : State) (h : IsOfKinds (kinds
   says_one z (inr (inl g)) t = inr (inl (wants_size d z g))
   says_one z (inr (inr y)) t = inr (inr (sized_term o d e z t y))
 
-  product_fine : (w : Expr) → whole_of (Some d) o e ≡ Some w → PairRowOf c d o e → is_product o e ≡ true → IsProduct c d (value_term o d e) → IfStuck (Lacks W) (assigned T o e None at s)
+  product_fine : (w : Expr) → whole_of (Some d) o e ≡ Some w → PairRowOf c d o e → is_product o e ≡ true → IsProduct c d (value_term o d e) → IfStuck (Lacks V) (assigned T o e None at s)
   product_fine w is row n (lefts.numbers a b t) = absurd (no_numbers declared c d o e w ld row n is a b t)
   product_fine w is row n (lefts.words z y a b t) =
       let kw = (whole_is declared d o e w (place.word z) ld k is t).kept in
@@ -392,10 +398,10 @@ module _ (declared : List ℕ → Option Decl) (s : State) (h : IsOfKinds (kinds
       pair_done true w z v kw is size (of_pair declared s h w z kw v ∙ whole_mul d o e w is ∙ n)
       (λ ws q. (product_done declared c d z (option_or (left_sizes T) (own_size w)) lc ld size ws a b q.0, q.1))
 
-  pub two_fine : Values T o e → RowOf T o e None → IfStuck (Lacks W) (assigned T o e None at s)
+  pub two_fine : Values T o e → RowOf T o e None → IfStuck (Lacks V) (assigned T o e None at s)
   two_fine v row = by_whole (whole_of (Some d) o e) refl v (pair_row declared c d o e lc ld k row)
     where
-      by_whole : (x : Option Expr) → whole_of (Some d) o e ≡ x → Values T o e → PairRowOf c d o e → IfStuck (Lacks W) (assigned T o e None at s)
+      by_whole : (x : Option Expr) → whole_of (Some d) o e ≡ x → Values T o e → PairRowOf c d o e → IfStuck (Lacks V) (assigned T o e None at s)
       by_whole None is v r = absurd (no_pair row is)
       by_whole (Some w) is (lefts.product n p) r = product_fine w is r n p
       by_whole (Some w) is (lefts.flagged n g t) r = flag_fine w is r n g t

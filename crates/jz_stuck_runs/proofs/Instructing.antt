@@ -280,6 +280,20 @@ byte_output : (z : Option Size) (d : Lval) → Output z role.Byte d → Holds (p
 byte_output None d f = f
 byte_output (Some z) d f = f
 
+bytes : (z : Option Size) {ds : List Lval} → InPairs (Output z) (role.Byte ∷ []) ds → InPairs (Output (Some S8)) (role.Byte ∷ []) ds
+bytes z (well.next {b = d} f well.none) = well.next (byte_output z d f) well.none
+
+-- the one left side, and the one operand
+record IsOne {A : Type 0} (xs : List A) : Type 0 where
+  pub item : A
+  pub is : xs ≡ item ∷ []
+
+one_left : (z : Option Size) (r : Role) {ds : List Lval} → InPairs (Output z) (r ∷ []) ds → IsOne ds
+one_left z r (well.next {b = d} f well.none) = record { item = d; is = refl }
+
+one_operand : (z : Option Size) (r : Role) {es : List Expr} → InPairs (Typed z) (r ∷ []) es → IsOne es
+one_operand z r (well.next {b = e} f well.none) = record { item = e; is = refl }
+
 -- ---- one instruction
 module _ (declared : List ℕ → Option Decl) (s : State) (h : IsOfKinds (kinds_of declared) s) (to : List Lval) (n : List ℕ) (args : List Expr) (at : Span)
     (left : All (IsLeft declared) to) (kept : All (HasKept declared) args) (plain : All IsNoArray args) (lefts : All (LeftDeclared (kinds_of declared)) to) where
@@ -323,22 +337,24 @@ module _ (declared : List ℕ → Option Decl) (s : State) (h : IsOfKinds (kinds
   abbrev IsFineAt : Intrinsic → Option Size → Type 0
   IsFineAt m z = IfStuck (Lacks W) (and_then (sized_results m at (intrinsic_size m z to args) args s) (λ vs. all_written at (intrinsic_size m z to args) to vs s))
 
-  lea_fine : (asked : Asked) (i : Instance) (z o : Option Size) → Tells name.Lea i.size → size_of_intrinsic (signature_of name.Lea i.size) to args ≡ o → InPairs (Output o) (role.Value ∷ []) to → InPairs (Typed o) (role.Address ∷ []) args
-      → Matches (address_shape i (value_behind flags.Zero to) args) → IsFineAt name.Lea i.size
-  lea_fine asked i z o tell e (well.next {b = d} v well.none) (well.next {b = a} t well.none) m =
-      let fits = named_fits name.Lea (is_r (dest_of d) && (is_longest (option_or i.size (class_size (dest_of d))) && is_sum (terms_of a))) m in
+  lea_fine : (asked : Asked) (i : Instance) (o : Option Size) (d : Lval) (a : Expr) → to ≡ d ∷ [] → args ≡ a ∷ [] → Tells name.Lea i.size → size_of_intrinsic (signature_of name.Lea i.size) to args ≡ o → InPairs (Output o) (role.Value ∷ []) to
+      → InPairs (Typed o) (role.Address ∷ []) args → Matches (address_shape i (value_behind flags.Zero to) args) → IsFineAt name.Lea i.size
+  lea_fine asked i o d a one alone tell e outs ins m =
+      let row : Matches (address_shape i (value_behind flags.Zero (d ∷ [])) (a ∷ [])) = subst (λ x. Matches (address_shape i (value_behind flags.Zero (d ∷ [])) x)) alone (subst (λ x. Matches (address_shape i (value_behind flags.Zero x) args)) one m) in
+      let fits = named_fits name.Lea (is_r (dest_of d) && (is_longest (option_or i.size (class_size (dest_of d))) && is_sum (terms_of a))) row in
       let long = (and_parts (is_longest (option_or i.size (class_size (dest_of d)))) _ (and_parts (is_r (dest_of d)) _ fits).1).0 in
-      let size : o ≡ Some S64 = sym e ∙ lea_size i.size d None long in
-      let out : Output (Some S64) role.Value d = subst (λ x. Output x role.Value d) size v in
+      let told : size_of_intrinsic (signature_of name.Lea i.size) (d ∷ []) args ≡ o = subst (λ x. size_of_intrinsic (signature_of name.Lea i.size) x args ≡ o) one e in
+      let size : o ≡ Some S64 = sym told ∙ lea_size i.size d (argument_size (role.Address ∷ []) args) long in
+      let out : InPairs (Output (Some S64)) (role.Value ∷ []) to = subst (λ x. InPairs (Output x) (role.Value ∷ []) to) size outs in
       finish name.Lea i.size tell S64 (AreOf S64 (role.Value ∷ [])) refl
-      (address_stuck declared s h to n at (λ a. before_value [] S64 a) o args kept (well.next {b = a} t well.none))
+      (address_stuck declared s h to n at (λ a. before_value [] S64 a) o args kept ins)
       (given_of name.Lea at S64 args s)
-      (λ vs q. results_written declared (Some S64) S64 vs (well.next out well.none) left (refl, tt) q)
+      (λ vs q. results_written declared (Some S64) S64 vs out left (refl, tt) q)
 
   set_fine : (z o : Option Size) → Tells name.Setcc z → InPairs (Output o) (role.Byte ∷ []) to → InPairs (Typed o) (role.Condition ∷ []) args → IsFineAt name.Setcc z
-  set_fine z o tell (well.next {b = d} v well.none) ins =
+  set_fine z o tell outs ins =
       finish name.Setcc z tell S8 (AreOf S8 (role.Byte ∷ [])) refl (condition_stuck declared s h to n at o args kept ins) (given_of name.Setcc at S8 args s)
-      (λ vs q. results_written declared (Some S8) S8 {rs = role.Byte ∷ []} {ds = d ∷ []} vs (well.next (byte_output o d v) well.none) left (refl, tt) q)
+      (λ vs q. results_written declared (Some S8) S8 vs (bytes o outs) left (refl, tt) q)
 
   by_size : (asked : Asked) (m : Intrinsic) (i : Instance) (o : Option Size) → takes_size m ≡ true → size_of_intrinsic (signature_of m i.size) to args ≡ o → InPairs (Output o) (results_of m) to → InPairs (Typed o) (operands_of m) args
       → Matches (intrinsic_shape asked m i to args) → o ≡ None → ⊥
@@ -348,7 +364,7 @@ module _ (declared : List ℕ → Option Decl) (s : State) (h : IsOfKinds (kinds
 
   by_name : (asked : Asked) (m : Intrinsic) (i : Instance) (o : Option Size) → Tells m i.size → Instructs (Some (signature_of m i.size)) to args → size_of_intrinsic (signature_of m i.size) to args ≡ o → InPairs (Output o) (results_of m) to
       → InPairs (Typed o) (operands_of m) args → Matches (intrinsic_shape asked m i to args) → IsFineAt m i.size
-  by_name asked name.Lea i o tell g e outs ins r = lea_fine asked i i.size o tell e outs ins r
+  by_name asked name.Lea i o tell g e outs ins r = lea_fine asked i o (one_left o role.Value outs).item (one_operand o role.Address ins).item (one_left o role.Value outs).is (one_operand o role.Address ins).is tell e outs ins r
   by_name asked name.Setcc i o tell g e outs ins r = set_fine i.size o tell outs ins
   by_name asked name.Add i o tell g e outs ins r = plain_fine name.Add i.size tell refl (λ y. refl) g o e outs ins (by_size asked name.Add i o refl e outs ins r)
   by_name asked name.Sub i o tell g e outs ins r = plain_fine name.Sub i.size tell refl (λ y. refl) g o e outs ins (by_size asked name.Sub i o refl e outs ins r)

@@ -255,7 +255,7 @@ module _ (declared : List ℕ → Option Decl) (s : State) (h : IsOfKinds (kinds
       sym (ap (λ l. with_three p l a c at z s) ia ∙ ap (λ b. if b then three_operands p x y c at else stuck_at at Init) g)
 
   -- of what it is the product
-  pub product_of : PairOf w z → Bool
+  abbrev pub product_of : PairOf w z → Bool
   product_of (two p a b at is e t x y) = multiplies p
   product_of (three p r a x y c at inner is e ia g tx ty tc) = multiplies p
 
@@ -280,10 +280,10 @@ module _ (declared : List ℕ → Option Decl) (s : State) (h : IsOfKinds (kinds
 -- ---- what the left sides get
 module _ (declared : List ℕ → Option Decl) (c d : Lval) (z : Size) (w : Option Size) (lc : IsLeft declared c) (ld : IsLeft declared d) (is : w ≡ Some z) where
   pub sum_done : (ws : Results) → IsFlag c → Holds (place.word z) d → SumAt z ws → AreFine declared w (c ∷ d ∷ []) ws
-  sum_done (Some (boolean g) ∷ Some (word y a) ∷ []) f m q = (λ t i. fine_flag declared t i c w g lc f, λ t i. fine_holds declared t i d (place.word z) w (word y a) ld m is q, tt)
-  sum_done vs f m q = absurd q
+  sum_done (Some (boolean g) ∷ Some (word y a) ∷ []) n m q = (λ t i. fine_flag declared t i c w g lc n, (λ t i. fine_holds declared t i d (place.word z) w (word y a) ld m is q, tt))
+  sum_done vs n m q = absurd q
 
   pub product_done : (ws : Results) → Holds (place.word z) c → Holds (place.word z) d → ProductAt z ws → AreFine declared w (c ∷ d ∷ []) ws
-  product_done (Some (word x a) ∷ Some (word y b) ∷ []) f m q =
-      (λ t i. fine_holds declared t i c (place.word z) w (word x a) lc f is q.0, λ t i. fine_holds declared t i d (place.word z) w (word y b) ld m is q.1, tt)
-  product_done vs f m q = absurd q
+  product_done (Some (word x a) ∷ Some (word y b) ∷ []) n m q =
+      (λ t i. fine_holds declared t i c (place.word z) w (word x a) lc n is q.0, (λ t i. fine_holds declared t i d (place.word z) w (word y b) ld m is q.1, tt))
+  product_done vs n m q = absurd q

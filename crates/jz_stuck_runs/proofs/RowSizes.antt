@@ -102,6 +102,7 @@ access_rm a (judged.sized z e t x) = t
 
 layer_rm : (x : Layer) → is_rm (class_layer x) ≡ true → Types x unsized → ⊥
 layer_rm (Expr-F.Num n at) e t = false≢true e
+layer_rm (Expr-F.Expr::Bool b at) e t = false≢true e
 layer_rm (Expr-F.Var v) e (judged.variable g) = word_rm (known_of v) e g
 layer_rm (Expr-F.Cell v i) e (judged.cell z a t x) = t
 layer_rm (Expr-F.Load a) e (judged.load x) = access_rm (out-Access a) x
@@ -192,20 +193,20 @@ three_rm n d a o c h = absurd (false≢true h)
 
 -- ---- behind so many flags
 pub data IsBehind : Flags → List Lval → Lval → Type 0 where
-  none : {d : Lval} → IsBehind flags.Zero (d ∷ []) d
-  two : {a b d : Lval} → IsBehind flags.Two (a ∷ b ∷ d ∷ []) d
-  four : {a b c g d : Lval} → IsBehind flags.Four (a ∷ b ∷ c ∷ g ∷ d ∷ []) d
-  five : {a b c g k d : Lval} → IsBehind flags.Five (a ∷ b ∷ c ∷ g ∷ k ∷ d ∷ []) d
+  behind_none : {d : Lval} → IsBehind flags.Zero (d ∷ []) d
+  behind_two : {a b d : Lval} → IsBehind flags.Two (a ∷ b ∷ d ∷ []) d
+  behind_four : {a b c g d : Lval} → IsBehind flags.Four (a ∷ b ∷ c ∷ g ∷ d ∷ []) d
+  behind_five : {a b c g k d : Lval} → IsBehind flags.Five (a ∷ b ∷ c ∷ g ∷ k ∷ d ∷ []) d
 
 lead_of : (b : Bool) (d : Lval) (F : Option Lval → rowed.Shape) → F None ≡ shapes.Free → Matches (F (if_lead b d)) → Matches (F (Some d))
 lead_of true d F n m = m
 lead_of false d F n m = absurd (no_free (subst Matches n m))
 
 pub behind : (f : Flags) (to : List Lval) (d : Lval) (F : Option Lval → rowed.Shape) → F None ≡ shapes.Free → IsBehind f to d → Matches (F (value_behind f to)) → Matches (F (Some d))
-behind f to d F n none m = m
-behind f to d F n (two {a} {b}) m = lead_of (two_lead a b) d F n m
-behind f to d F n (four {a} {b} {c} {g}) m = lead_of (four_lead a b c g) d F n m
-behind f to d F n (five {a} {b} {c} {g} {k}) m = lead_of (five_lead a b c g k) d F n m
+behind f to d F n behind_none m = m
+behind f to d F n (behind_two {a} {b}) m = lead_of (two_lead a b) d F n m
+behind f to d F n (behind_four {a} {b} {c} {g}) m = lead_of (four_lead a b c g) d F n m
+behind f to d F n (behind_five {a} {b} {c} {g} {k}) m = lead_of (five_lead a b c g k) d F n m
 
 if_five : (b : Bool) (s : rowed.Shape) → Matches (if b then s else shapes.Free) → Matches s
 if_five true s m = m
@@ -223,16 +224,16 @@ record Last (f : Flags) (to : List Lval) : Type 0 where
   pub leaves : Leaves left unsized
 
 last_none : (to : List Lval) → InPairs (Output None) (role.Value ∷ []) to → Last flags.Zero to
-last_none to (well.next {b = d} v well.none) = record { left = d; behind = none; leaves = v }
+last_none to (well.next {b = d} v well.none) = record { left = d; behind = behind_none; leaves = v }
 
 last_two : (to : List Lval) → InPairs (Output None) (role.Flag ∷ role.Flag ∷ role.Value ∷ []) to → Last flags.Two to
-last_two to (well.next a (well.next b (well.next {b = d} v well.none))) = record { left = d; behind = two; leaves = v }
+last_two to (well.next a (well.next b (well.next {b = d} v well.none))) = record { left = d; behind = behind_two; leaves = v }
 
 last_four : (to : List Lval) → InPairs (Output None) (four ++ role.Value ∷ []) to → Last flags.Four to
-last_four to (well.next a (well.next b (well.next c (well.next g (well.next {b = d} v well.none))))) = record { left = d; behind = four; leaves = v }
+last_four to (well.next a (well.next b (well.next c (well.next g (well.next {b = d} v well.none))))) = record { left = d; behind = behind_four; leaves = v }
 
 last_five : (to : List Lval) → InPairs (Output None) (five ++ role.Value ∷ []) to → Last flags.Five to
-last_five to (well.next a (well.next b (well.next c (well.next g (well.next k (well.next {b = d} v well.none)))))) = record { left = d; behind = five; leaves = v }
+last_five to (well.next a (well.next b (well.next c (well.next g (well.next k (well.next {b = d} v well.none)))))) = record { left = d; behind = behind_five; leaves = v }
 
 module _ (asked : Asked) (i : Instance) (to : List Lval) where
   one_sized : (f : Flags) (args : List Expr) (r : Role) → Last f to → InPairs (Typed None) (r ∷ []) args → Matches (one_shape asked i (value_behind f to) args) → ⊥
