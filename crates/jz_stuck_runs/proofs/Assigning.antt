@@ -1,8 +1,8 @@
 -- An assignment to one left side, and what all assignments have in common.
-use Rattle.std.proofs.Common.{◌≡◌, ℕ, Bool, true, false, not, ◌&&◌, ◌||◌, List, [], ◌∷◌, Option, Some, None, refl, sym, ap, ◌∙◌, subst, inl, inr, if◌then◌else◌}
-use Rattle.std.specs.Prelude.{◌⊎◌, All, is_some}
+use Rattle.std.proofs.Common.{◌≡◌, ℕ, Bool, true, false, List, [], ◌∷◌, Option, Some, None, refl, sym, ap, ◌∙◌, subst, inl, inr}
+use Rattle.std.specs.Prelude.{All, is_some}
 use Rattle.std.specs.Option.{option_or}
-use Rattle.std.proofs.lemmas.Bool.{false≢true, and_parts}
+use Rattle.std.proofs.lemmas.Bool.{false≢true}
 use Rattle.std.proofs.lemmas.List.Elements.{All-nil, All-cons, All-head}
 use Rattle.jz_tree.specs.Span.{Span}
 use Rattle.jz_tree.specs.Size.{Size}
@@ -38,7 +38,7 @@ use Rattle.jz_meaning.specs.Statements.{assign}
 use Rattle.jz_run_laws.specs.Kinds.{FitsSize, IsOfKinds}
 use Rattle.jz_run_laws.specs.DeclaredKinds.{kinds_of, LeftDeclared}
 use Rattle.jz_run_laws.specs.Kept.{IfWent}
-use Rattle.jz_run_laws.specs.Lefts.{IsCountedLeft, typed_lefts}
+use Rattle.jz_run_laws.specs.Lefts.{IsCountedLeft}
 use Rattle.jz_run_laws.specs.Values.{IsAt, IsWanted}
 use Rattle.jz_run_laws.proofs.Parts.{AnyOf, went_then, went_any}
 use Rattle.jz_run_laws.proofs.Expressions.{value_fits}
@@ -56,7 +56,7 @@ use Rattle.jz_stuck_runs.proofs.Expressions.{Kept, HasKept, counted_of, at_place
 use Rattle.jz_stuck_runs.proofs.Statements.{InlineNumber}
 use Rattle.jz_stuck_runs.proofs.LeftKinds.{number_unsized}
 use Rattle.jz_stuck_runs.proofs.LeftSides.{IsLeft, whole_none, declared_number, counted_left, fine_holds, AreFine, LaterLacks, all_fine}
-use Rattle.jz_stuck_runs.proofs.Updates.{typed_as, read_kept, IsWhole, whole_is}
+use Rattle.jz_stuck_runs.proofs.Updates.{typed_as, read_kept, whole_is}
 
 -- ---- what is common
 module _ (declared : List ℕ → Option Decl) (s : State) (h : IsOfKinds (kinds_of declared) s) (to : List Lval) (o : Option BinOp) (e : Expr) (cond : Option Expr) (at : Span) where

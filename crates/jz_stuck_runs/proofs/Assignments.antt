@@ -46,7 +46,6 @@ use Rattle.jz_judgement.specs.WellTyped as well
 use Rattle.jz_judgement.proofs.Nothing.{none_not, some_not, same_some}
 use Rattle.jz_judgement.proofs.Holding.{wants_size, leaves_size}
 use Rattle.jz_meaning.specs.declared.value.Stuck as code
-use Rattle.jz_meaning.specs.Rules.{stuck, went}
 use Rattle.jz_meaning.specs.States.{State}
 use Rattle.jz_meaning.specs.Values.{own_size}
 use Rattle.jz_meaning.specs.Assignments.{left_sizes, as_expr, left_span, is_flag, updated_layer, updated, whole_of, Results, results_of, assigned}
@@ -69,7 +68,7 @@ use Rattle.jz_stuck_runs.proofs.Statements.{InlineNumber}
 use Rattle.jz_stuck_runs.proofs.LeftSides.{IsLeft, whole_none, declared_number, counted_left, AreFine}
 use Rattle.jz_stuck_runs.proofs.Updates.{out_bin, parts_of, read_operates, whole_is}
 use Rattle.jz_stuck_runs.proofs.Classes.{rmi_no_truth}
-use Rattle.jz_stuck_runs.proofs.Assigning.{finish, sized_term, ReadsBack, IsPlaced, placed, one_assigned, one_chosen, reads_word, reads_number}
+use Rattle.jz_stuck_runs.proofs.Assigning.{finish, sized_term, ReadsBack, placed, one_assigned, one_chosen, reads_word, reads_number}
 use Rattle.jz_stuck_runs.proofs.RowPairs.{PairRow, UpdateRow, value_row, update_row, no_skip, no_skip_behind}
 use Rattle.jz_stuck_runs.proofs.RowPairs as rows
 use Rattle.jz_stuck_runs.proofs.Pairs as pairs

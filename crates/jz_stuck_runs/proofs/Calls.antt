@@ -1,45 +1,39 @@
 -- Arguments and results of calls.
-use Rattle.std.proofs.Common.{◌≡◌, ℕ, ℤ, Bool, true, false, ◌&&◌, List, [], ◌∷◌, Option, Some, None, map, flat_map, refl, sym, ap, ◌∙◌, subst, inl, inr, pos}
+use Rattle.std.proofs.Common.{◌≡◌, ℕ, true, ◌&&◌, List, [], ◌∷◌, Option, Some, None, refl, sym, ap, ◌∙◌, subst, inl, inr, pos}
 use Rattle.std.specs.Prelude.{◌⊎◌, All, Contains}
 use Rattle.std.proofs.lemmas.Bool.{false≢true, and_parts}
-use Rattle.std.proofs.lemmas.List.Elements.{All-nil, All-cons, All-head, All-tail}
+use Rattle.std.proofs.lemmas.List.Elements.{All-head, All-tail}
 use Rattle.jz_tree.specs.Span.{Span}
 use Rattle.jz_tree.specs.Size.{Size}
-use Rattle.jz_tree.specs.declared.expr.Storage.{Storage}
 use Rattle.jz_tree.specs.declared.expr.Expr.{Expr}
 use Rattle.jz_tree.specs.declared.expr.Decl.{Decl}
 use Rattle.jz_tree.specs.declared.expr.Var.{Var}
 use Rattle.jz_tree.specs.declared.expr.Expr.TheOpen.{Ty-F}
-use Rattle.jz_tree.specs.declared.expr.Expr.TheViews.{out-Expr, out-Ty, out-Var}
+use Rattle.jz_tree.specs.declared.expr.Expr.TheViews.{out-Expr, out-Ty}
 use Rattle.jz_tree.specs.declared.stmt.Lval.{Lval}
 use Rattle.jz_tree.specs.declared.stmt.Lval.TheVariants as lval
-use Rattle.jz_tree.specs.declared.program.Fun.{Fun}
 use Rattle.jz_tree.specs.declared.program.Param.{Param}
 use Rattle.jz_tree.specs.declared.program.Ret.{Ret}
 use Rattle.jz_type_names.specs.declared.kinds.Kind as known
 use Rattle.jz_type_names.specs.declared.kinds.Kind.TheVariants as scope
 use Rattle.jz_type_names.specs.Kinds.{kind_step, kind_of, number_layer, length_written, written_length, same_storage, same_kind, declared_of, whole_array}
 use Rattle.jz_type_names.specs.Kinds as names
-use Rattle.jz_type_names.specs.Parts.{left_exprs, left_vars}
-use Rattle.jz_type_names.proofs.Empty.{passed}
-use Rattle.jz_type_storage.specs.Declarations.{may_return, is_returned, unkept_ret}
+use Rattle.jz_type_storage.specs.Declarations.{may_return}
 use Rattle.jz_type_sizes.specs.Calls.{same_length, agrees}
 use Rattle.jz_judgement.specs.Places as place
-use Rattle.jz_judgement.specs.HasType.{value, HasType}
 use Rattle.jz_judgement.specs.Lefts.{Holds}
-use Rattle.jz_judgement.specs.WellTyped as well
-use Rattle.jz_judgement.specs.WellTyped.{InPairs, none, next, PassedAs, PassedBy, Passed, IsSkip, GivenAs, Given, Returned, Calls}
-use Rattle.jz_judgement.proofs.Nothing.{size_same, none_not}
+use Rattle.jz_judgement.specs.WellTyped.{InPairs, none, next, PassedAs, PassedBy, Passed, GivenAs, Given, Returned}
+use Rattle.jz_judgement.proofs.Nothing.{size_same}
 use Rattle.jz_meaning.specs.declared.access.Kind as meant
 use Rattle.jz_meaning.specs.declared.access.Kind.TheVariants as kind
 use Rattle.jz_meaning.specs.declared.value.Stuck as code
 use Rattle.jz_meaning.specs.declared.value.Why.TheVariants.{Init}
-use Rattle.jz_meaning.specs.Rules.{stuck, went}
-use Rattle.jz_meaning.specs.Attempts.{Evaluation, and_then, defined}
+use Rattle.jz_meaning.specs.Rules.{went}
+use Rattle.jz_meaning.specs.Attempts.{and_then, defined}
 use Rattle.jz_meaning.specs.States.{Value, word, boolean, integer, Store, put, State}
-use Rattle.jz_meaning.specs.Values.{size_of, Ref, key_of, variable_value, array_kind, ref_of, evaluated}
+use Rattle.jz_meaning.specs.Values.{size_of, Ref, key_of, variable_value, array_kind, ref_of}
 use Rattle.jz_meaning.specs.Assignments.{held, written}
-use Rattle.jz_meaning.specs.Statements.{array_of, array_layer, array_passed, passed as pass, all_passed, given, all_given}
+use Rattle.jz_meaning.specs.Statements.{array_layer, array_passed, passed as pass, all_passed, given, all_given}
 use Rattle.jz_run_laws.specs.Kinds.{kind_at, FitsSize, IsOfKind, HoldsKinds, IsOfKinds}
 use Rattle.jz_run_laws.specs.DeclaredKinds.{kinds_of, LeftDeclared}
 use Rattle.jz_run_laws.specs.Kept.{IfWent}
@@ -57,7 +51,7 @@ use Rattle.jz_typed_runs.proofs.Causing.{stuck_first, stuck_then}
 use Rattle.jz_stuck_runs.specs.Parts.{IsGiven, gives, gives_later}
 use Rattle.jz_stuck_runs.specs.Lacking.{IsLacking}
 use Rattle.jz_stuck_runs.proofs.Steps.{Lacks, weaker, stuck_any, first_in, later_in}
-use Rattle.jz_stuck_runs.proofs.Expressions.{Kept, HasKept, after}
+use Rattle.jz_stuck_runs.proofs.Expressions.{HasKept, after}
 use Rattle.jz_stuck_runs.proofs.LeftSides.{IsLeft, LeftLacks, held_word, held_bool, held_number, fine_holds}
 
 -- ---- declarations of arrays

@@ -1,8 +1,7 @@
 -- The class of an operand against its type: a register, memory or an inline integer is no truth, and
 -- a flag is what a run takes for one.
-use Rattle.std.proofs.Common.{◌≡◌, ℤ, Bool, true, false, not, ◌&&◌, Option, Some, None, refl, sym, ap, ◌∙◌, subst, if◌then◌else◌}
+use Rattle.std.proofs.Common.{◌≡◌, ℤ, Bool, true, false, Option, Some, None, refl, sym, ap, ◌∙◌, subst, if◌then◌else◌}
 use Rattle.std.proofs.lemmas.Bool.{false≢true, and_parts}
-use Rattle.jz_tree.specs.Operators.{joins}
 use Rattle.jz_tree.specs.declared.expr.Storage.{Storage}
 use Rattle.jz_tree.specs.declared.expr.Storage.TheVariants as storage
 use Rattle.jz_tree.specs.declared.expr.BinOp.{BinOp}
@@ -18,21 +17,18 @@ use Rattle.jz_tree.specs.declared.expr.Expr.TheFolds.{ind-Expr, map-Expr}
 use Rattle.jz_integers.specs.Integers.{written_number}
 use Rattle.jz_type_names.specs.declared.kinds.Kind as known
 use Rattle.jz_type_names.specs.declared.kinds.Kind.TheVariants as scope
-use Rattle.jz_type_names.specs.declared.kinds.Declared.{Declared}
-use Rattle.jz_type_names.specs.Kinds.{Known, known_of, is_inline_int}
-use Rattle.jz_type_sizes.specs.declared.operators.Group.{Group}
+use Rattle.jz_type_names.specs.Kinds.{Known, known_of}
 use Rattle.jz_type_sizes.specs.declared.operators.Group.TheVariants as group
 use Rattle.jz_type_sizes.specs.Operators.{group_of}
 use Rattle.jz_select.specs.declared.class.Class.{Class}
 use Rattle.jz_select.specs.declared.class.Class.TheVariants as class
 use Rattle.jz_select.specs.declared.class.Mask.TheVariants as mask
 use Rattle.jz_select.specs.Sums.{is_address, is_index}
-use Rattle.jz_select.specs.Look.{look_of, terms_of, is_inline_var, compares_values, gives_number, bin_inline}
+use Rattle.jz_select.specs.Look.{look_of, terms_of, is_inline_var, gives_number, bin_inline}
 use Rattle.jz_select.specs.Operands.{class_at, var_class, class_if, inline_or, mask_of, is_byte, register_layer, masked_class, class_layer, class_of}
 use Rattle.jz_select.specs.Rows as rows
 use Rattle.jz_select.specs.Rows.{is_rmi}
-use Rattle.jz_judgement.specs.Places.{Place, truth, TakesNumber, TakesWord, KindGoes, Goes}
-use Rattle.jz_judgement.specs.Places as place
+use Rattle.jz_judgement.specs.Places.{truth, KindGoes, Goes}
 use Rattle.jz_judgement.specs.HasType as judged
 use Rattle.jz_judgement.specs.HasType.{Layer, value, HasType, Types, Accesses, Operates}
 use Rattle.jz_meaning.specs.declared.access.Kind as meant
@@ -44,7 +40,7 @@ use Rattle.jz_run_laws.proofs.SameKinds as same
 use Rattle.jz_run_laws.proofs.SameKinds.{SameKind, SameKnown}
 use Rattle.jz_run_laws.proofs.Sizes.{CountedLayer, types_of, each_of, variable_law}
 use Rattle.jz_run_laws.proofs.Parts.{AnyOf}
-use Rattle.jz_row_laws.proofs.Fixed.{look_layer, look_is, var_looked, var_known, no_if, no_cell}
+use Rattle.jz_row_laws.proofs.Fixed.{look_layer, look_is, var_known, no_if, no_cell}
 
 -- ---- inline integers
 var_truth : (k : Known) → is_inline_var k ≡ true → Goes k truth → ⊥

@@ -1,6 +1,6 @@
 -- Expressions in their places: each is stuck for want of a value of its own, or has a value of its
 -- place.
-use Rattle.std.proofs.Common.{◌≡◌, ℕ, List, [], ◌∷◌, Option, Some, None, refl}
+use Rattle.std.proofs.Common.{◌≡◌, ℕ, List, Option, Some, None, refl}
 use Rattle.std.specs.Prelude.{All, Contains}
 use Rattle.std.proofs.lemmas.List.Elements.{All-contains_itself}
 use Rattle.jz_tree.specs.Span.{Span}

@@ -1,6 +1,6 @@
 -- What instructions compute fits its size. These lemmas are those of jz_run_laws/proofs/Instructions,
 -- where they are not `pub`.
-use Rattle.std.proofs.Common.{◌<◌, ℕ, List, ◌∷◌, [], Bool, false, Option, Some, None, All, pos, negsuc}
+use Rattle.std.proofs.Common.{◌<◌, ℕ, List, ◌∷◌, [], Bool, false, Option, Some, None, pos, negsuc}
 use Rattle.jz_tree.specs.Span.{Span}
 use Rattle.jz_tree.specs.Size.{Size}
 use Rattle.jz_tree.specs.Size.TheVariants.{S8, S64}
@@ -23,8 +23,8 @@ use Rattle.jz_meaning.specs.Rules.{went}
 use Rattle.jz_meaning.specs.Attempts.{and_then}
 use Rattle.jz_meaning.specs.States.{Value, word, boolean, integer, State}
 use Rattle.jz_meaning.specs.Values.{evaluated}
-use Rattle.jz_meaning.specs.Assignments.{Results, word_in, bool_in, all_written}
-use Rattle.jz_meaning.specs.Intrinsics.{all_flags, first_two, all_but_carry, before_value, of_one, of_two, of_carry, shift_results, of_count, divided_by, division_results, of_division, of_condition, alu_results, one_results, low_product_results, product_results, no_results, intrinsic_results, intrinsic_size, sized_results, instruction_done}
+use Rattle.jz_meaning.specs.Assignments.{Results, word_in, bool_in}
+use Rattle.jz_meaning.specs.Intrinsics.{all_flags, first_two, all_but_carry, before_value, of_one, of_two, of_carry, shift_results, of_count, divided_by, division_results, of_division, of_condition, alu_results, one_results, low_product_results, product_results, no_results, intrinsic_results, sized_results}
 use Rattle.jz_run_laws.specs.Kept.{IfWent}
 use Rattle.jz_run_laws.proofs.Parts.{AnyOf, IfThere, went_then, went_any}
 use Rattle.jz_run_laws.proofs.Bounds.{IsBelow, swapped_below, bit_below}

@@ -1,9 +1,9 @@
 -- Instructions that statements name.
-use Rattle.std.proofs.Common.{◌≡◌, ℕ, Bool, true, false, List, [], ◌∷◌, ◌++◌, Option, Some, None, refl, sym, ap, ◌∙◌, subst, inl, inr, pos, negsuc}
-use Rattle.std.specs.Prelude.{◌⊎◌, ◌&&◌, All, Contains, is_some, option_map}
+use Rattle.std.proofs.Common.{◌≡◌, ℕ, Bool, true, false, List, [], ◌∷◌, Option, Some, None, refl, sym, ap, ◌∙◌, subst, inl, inr, pos, negsuc}
+use Rattle.std.specs.Prelude.{◌&&◌, All, Contains, is_some, option_map}
 use Rattle.std.specs.Option.{option_or}
 use Rattle.std.proofs.lemmas.Bool.{false≢true, and_parts}
-use Rattle.std.proofs.lemmas.List.Elements.{All-nil, All-cons, All-head, All-tail}
+use Rattle.std.proofs.lemmas.List.Elements.{All-head, All-tail}
 use Rattle.jz_tree.specs.Span.{Span}
 use Rattle.jz_tree.specs.Size.{Size}
 use Rattle.jz_tree.specs.Size.TheVariants.{S8, S64}
@@ -42,8 +42,8 @@ use Rattle.jz_judgement.specs.WellTyped as well
 use Rattle.jz_judgement.specs.WellTyped.{InPairs, Output, Operand, role_place, Instructs}
 use Rattle.jz_judgement.proofs.Nothing.{some_not, neither_size}
 use Rattle.jz_meaning.specs.declared.value.Stuck as code
-use Rattle.jz_meaning.specs.Rules.{stuck, went}
-use Rattle.jz_meaning.specs.Attempts.{Evaluation, and_then}
+use Rattle.jz_meaning.specs.Rules.{went}
+use Rattle.jz_meaning.specs.Attempts.{and_then}
 use Rattle.jz_meaning.specs.States.{Value, word, boolean, integer, State}
 use Rattle.jz_meaning.specs.Operators.{word_at}
 use Rattle.jz_meaning.specs.Values.{evaluated}

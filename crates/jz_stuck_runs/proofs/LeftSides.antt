@@ -1,6 +1,6 @@
 -- What is written to a left side of its type is stuck for want of a value only where its index or
 -- address is.
-use Rattle.std.proofs.Common.{◌≡◌, ℕ, Bool, true, false, ◌||◌, List, [], ◌∷◌, Option, Some, None, map, refl, sym, ap, ◌∙◌, subst, inl, inr, if◌then◌else◌}
+use Rattle.std.proofs.Common.{◌≡◌, ℕ, Bool, true, false, ◌||◌, List, [], ◌∷◌, Option, Some, None, refl, sym, ap, ◌∙◌, subst, inl, inr, if◌then◌else◌}
 use Rattle.std.specs.Prelude.{nat_lt, All, Contains}
 use Rattle.std.specs.Option.{option_or}
 use Rattle.std.proofs.lemmas.Bool.{false≢true}
@@ -13,7 +13,7 @@ use Rattle.jz_tree.specs.declared.expr.Expr.{Expr}
 use Rattle.jz_tree.specs.declared.expr.Access.{Access}
 use Rattle.jz_tree.specs.declared.expr.Decl.{Decl}
 use Rattle.jz_tree.specs.declared.expr.Var.{Var}
-use Rattle.jz_tree.specs.declared.expr.Expr.TheViews.{out-Access, out-Var}
+use Rattle.jz_tree.specs.declared.expr.Expr.TheViews.{out-Access}
 use Rattle.jz_tree.specs.declared.stmt.Lval.{Lval}
 use Rattle.jz_tree.specs.declared.stmt.Lval.TheVariants as lval
 use Rattle.jz_type_names.specs.Kinds.{Known, declared_of, known_of, is_array, is_inline_int, whole_array}
@@ -23,29 +23,25 @@ use Rattle.jz_judgement.specs.Places as place
 use Rattle.jz_judgement.specs.HasType.{value, HasType}
 use Rattle.jz_judgement.specs.Lefts as lefts
 use Rattle.jz_judgement.specs.Lefts.{IsNumber, Wants, Leaves, Holds, IsSound, IsFlag}
-use Rattle.jz_judgement.proofs.Nothing.{none_not}
 use Rattle.jz_meaning.specs.declared.access.Kind as meant
 use Rattle.jz_meaning.specs.declared.access.Kind.TheVariants as kind
 use Rattle.jz_meaning.specs.declared.value.Stuck as code
-use Rattle.jz_meaning.specs.declared.value.Why.TheVariants.{Bounds, Address, Align, Init}
-use Rattle.jz_meaning.specs.Rules.{stuck, went}
+use Rattle.jz_meaning.specs.declared.value.Why.TheVariants.{Bounds, Align}
+use Rattle.jz_meaning.specs.Rules.{went}
 use Rattle.jz_meaning.specs.Attempts.{Evaluation, stuck_at, and_then}
 use Rattle.jz_meaning.specs.States.{Value, word, boolean, integer, State}
 use Rattle.jz_meaning.specs.Operators.{word_at}
-use Rattle.jz_meaning.specs.Values.{size_of, Ref, key_of, cell_key, in_cells, index_at, MemoryAccess, is_aligned, accessed, address_at, after_store, store_word, store_at, ref_of, access_of, evaluated}
+use Rattle.jz_meaning.specs.Values.{size_of, key_of, cell_key, in_cells, index_at, MemoryAccess, is_aligned, accessed, address_at, after_store, store_word, store_at, ref_of, access_of}
 use Rattle.jz_meaning.specs.Assignments.{left_size, word_value, held, held_or_unset, with_value, in_cell, written, Results, all_written}
 use Rattle.jz_run_laws.specs.Kinds.{IsOfKinds}
 use Rattle.jz_run_laws.specs.DeclaredKinds.{kinds_of, LeftDeclared}
-use Rattle.jz_run_laws.specs.Kept.{IfWent}
 use Rattle.jz_run_laws.specs.Lefts.{CountedParts, IsCountedLeft}
 use Rattle.jz_run_laws.specs.Values.{IsAt, IsWanted}
-use Rattle.jz_run_laws.proofs.Parts.{AnyOf, went_any}
 use Rattle.jz_run_laws.proofs.Operators.{MayFit}
 use Rattle.jz_run_laws.proofs.LeftSides.{written_keeps}
 use Rattle.jz_run_laws.proofs.RightSides.{ResultsFit}
 use Rattle.jz_run_laws.proofs.SameKinds.{SameKnown}
 use Rattle.jz_run_laws.proofs.Sizes.{variable_law, access_law}
-use Rattle.jz_typed_runs.proofs.Declaring.{IsKept}
 use Rattle.jz_typed_runs.proofs.OperatorCauses.{IfStuck}
 use Rattle.jz_typed_runs.proofs.Causing.{stuck_then, bounds_not, address_not, align_not, array_known, access_run}
 use Rattle.jz_typed_runs.proofs.ReachedCauses.{kept_counted}

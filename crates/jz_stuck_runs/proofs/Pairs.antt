@@ -1,9 +1,8 @@
 -- Assignments to two left sides: a flag and a value, or both words of a product.
-use Rattle.std.proofs.Common.{◌≡◌, ◌<◌, ◌*◌, ◌/◌, ◌%◌, ℕ, Bool, true, false, ◌&&◌, List, [], ◌∷◌, Option, Some, None, refl, sym, ap, ◌∙◌, subst, inl, inr, if◌then◌else◌}
+use Rattle.std.proofs.Common.{◌≡◌, ◌<◌, ◌*◌, ℕ, Bool, true, false, ◌&&◌, List, [], ◌∷◌, Option, Some, refl, sym, ap, ◌∙◌, subst, inl, inr, if◌then◌else◌}
 use Rattle.std.specs.Prelude.{◌⊎◌, All, Contains}
-use Rattle.std.specs.Option.{option_or}
-use Rattle.std.proofs.lemmas.Bool.{false≢true, and_parts, and_from}
-use Rattle.std.proofs.lemmas.List.Elements.{All-nil, All-cons, All-head, All-tail, All-contains, All-contains_itself}
+use Rattle.std.proofs.lemmas.Bool.{false≢true, and_parts}
+use Rattle.std.proofs.lemmas.List.Elements.{All-contains, All-contains_itself}
 use Rattle.jz_tree.specs.Operators.{carries}
 use Rattle.jz_tree.specs.Span.{Span}
 use Rattle.jz_tree.specs.Size.{Size}
@@ -17,7 +16,6 @@ use Rattle.jz_tree.specs.declared.expr.Var.{Var}
 use Rattle.jz_tree.specs.declared.expr.Expr.TheOpen.{Expr-F}
 use Rattle.jz_tree.specs.declared.expr.Expr.TheViews.{out-Expr, roll-out-Expr}
 use Rattle.jz_tree.specs.declared.stmt.Lval.{Lval}
-use Rattle.jz_type_sizes.specs.declared.operators.Group.{Group}
 use Rattle.jz_type_sizes.specs.declared.operators.Group.TheVariants as group
 use Rattle.jz_type_sizes.specs.Operators.{group_of}
 use Rattle.jz_select.specs.declared.class.Class.{Class}
@@ -31,11 +29,10 @@ use Rattle.jz_judgement.specs.Lefts.{Holds, IsFlag}
 use Rattle.jz_types.specs.Carried.{vars_in}
 use Rattle.jz_meaning.specs.declared.value.Stuck as code
 use Rattle.jz_meaning.specs.declared.value.Why.TheVariants.{Init}
-use Rattle.jz_meaning.specs.Rules.{stuck, went}
 use Rattle.jz_meaning.specs.Attempts.{Evaluation, stuck_at, and_then}
-use Rattle.jz_meaning.specs.States.{Value, word, boolean, integer, State}
+use Rattle.jz_meaning.specs.States.{word, boolean, State}
 use Rattle.jz_meaning.specs.Assignments.{is_flag, updated_layer, Results, two_results, word_in, bool_in, with_two, with_three, two_of, results_of}
-use Rattle.jz_run_laws.specs.Kinds.{FitsSize, IsOfKinds}
+use Rattle.jz_run_laws.specs.Kinds.{IsOfKinds}
 use Rattle.jz_run_laws.specs.DeclaredKinds.{kinds_of}
 use Rattle.jz_run_laws.specs.Kept.{IfWent}
 use Rattle.jz_run_laws.proofs.Bounds.{IsBelow, cut_below, high_below}
@@ -51,9 +48,9 @@ use Rattle.jz_typed_runs.specs.Causes as causes
 use Rattle.jz_typed_runs.proofs.OperatorCauses.{IfStuck}
 use Rattle.jz_stuck_runs.specs.Lacking.{IsLacking}
 use Rattle.jz_stuck_runs.proofs.Steps.{Lacks, stuck_any}
-use Rattle.jz_stuck_runs.proofs.Expressions.{Kept, HasKept, counted_of, word_fine, bool_fine}
+use Rattle.jz_stuck_runs.proofs.Expressions.{HasKept, counted_of, word_fine, bool_fine}
 use Rattle.jz_stuck_runs.proofs.LeftSides.{IsLeft, fine_holds, fine_flag, AreFine}
-use Rattle.jz_stuck_runs.proofs.Updates.{out_bin, no_number, flag_truth, AreSums, sums, IsCarried, carried_by, sum_typed, parts_of, both_kept}
+use Rattle.jz_stuck_runs.proofs.Updates.{out_bin, flag_truth, sums, carried_by, sum_typed, parts_of, both_kept}
 use Rattle.jz_stuck_runs.proofs.Classes.{rmi_no_truth, class_flag}
 use Rattle.jz_stuck_runs.proofs.RowPairs.{IsProductRow, PairRow, UpdateRow}
 use Rattle.jz_stuck_runs.proofs.RowPairs as rows

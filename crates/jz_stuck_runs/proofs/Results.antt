@@ -1,6 +1,5 @@
 -- What each instruction gives its left sides, by their roles: flags, a word of its size, a byte.
-use Rattle.std.proofs.Common.{◌≡◌, ◌==◌, ℕ, Bool, true, false, List, [], ◌∷◌, ◌++◌, Option, Some, None, map, refl, if◌then◌else◌, pos, negsuc}
-use Rattle.std.specs.Prelude.{take, drop}
+use Rattle.std.proofs.Common.{◌≡◌, ◌==◌, ℕ, Bool, true, false, List, [], ◌∷◌, ◌++◌, Option, Some, None, refl, if◌then◌else◌, pos, negsuc}
 use Rattle.jz_tree.specs.Span.{Span}
 use Rattle.jz_tree.specs.Size.{Size}
 use Rattle.jz_tree.specs.Size.TheVariants.{S8, S64}
@@ -15,16 +14,16 @@ use Rattle.x64_insn.specs.declared.types.Shift.TheVariants as shift
 use Rattle.x64_insn.specs.declared.answer.Answer.{Answer}
 use Rattle.x64_insn.specs.declared.products.DoubleAnswer.{DoubleAnswer}
 use Rattle.x64_insn.specs.Answers.{flags_of, sum_answer, difference_answer, and_answer, or_answer, xor_answer, alu_answer, one_answer}
-use Rattle.x64_insn.specs.Shifts.{masked, shifted, keeps_result_flags, shift_flags, shift_answer}
-use Rattle.x64_insn.specs.Products.{double_word, no_flags, product_answer, low_product_answer, quotient_answer}
+use Rattle.x64_insn.specs.Shifts.{masked, shifted, shift_flags, shift_answer}
+use Rattle.x64_insn.specs.Products.{no_flags, product_answer, low_product_answer, quotient_answer}
 use Rattle.jz_tree.specs.declared.expr.Expr.{Expr}
 use Rattle.jz_tree.specs.declared.intrinsic.Intrinsic.{Intrinsic}
 use Rattle.jz_tree.specs.declared.intrinsic.Intrinsic.TheVariants as name
 use Rattle.jz_type_sizes.specs.declared.signatures.Role.{Role}
 use Rattle.jz_type_sizes.specs.declared.signatures.Role.TheVariants as role
 use Rattle.jz_type_sizes.specs.Signatures.{five, four, results_of}
-use Rattle.jz_meaning.specs.Rules.{stuck, went}
-use Rattle.jz_meaning.specs.Attempts.{Evaluation, and_then}
+use Rattle.jz_meaning.specs.Rules.{went}
+use Rattle.jz_meaning.specs.Attempts.{and_then}
 use Rattle.jz_meaning.specs.States.{Value, word, boolean, integer, State}
 use Rattle.jz_meaning.specs.Values.{evaluated}
 use Rattle.jz_meaning.specs.Assignments.{Results, word_in, bool_in}

@@ -1,5 +1,5 @@
 -- What the rows of the pattern table ask of two left sides, and of `_ op= e`.
-use Rattle.std.proofs.Common.{◌≡◌, Bool, true, false, not, ◌&&◌, ◌||◌, List, [], ◌∷◌, Option, Some, None, refl, sym, ap, ◌∙◌, subst, inl, inr, if◌then◌else◌}
+use Rattle.std.proofs.Common.{◌≡◌, Bool, true, false, not, ◌&&◌, ◌||◌, Some, None, refl, inl, inr, if◌then◌else◌}
 use Rattle.std.specs.Prelude.{◌⊎◌}
 use Rattle.std.proofs.lemmas.Bool.{false≢true, and_parts}
 use Rattle.jz_tree.specs.Operators.{carries}
@@ -18,7 +18,7 @@ use Rattle.jz_select.specs.declared.shape.Value.TheVariants as values
 use Rattle.jz_select.specs.declared.shape.Shape as rowed
 use Rattle.jz_select.specs.declared.shape.Shape.TheVariants as shapes
 use Rattle.jz_select.specs.Operands.{class_of, dest_of}
-use Rattle.jz_select.specs.Rows.{is_r, is_i, is_rm, is_rmi, is_flag, is_pinned, is_long, may_lead, is_alone, are_inline, adds, joins_bits, multiplies, computes, product_size, p2, p3, p4, p5, p6, p7, p8, p9, p10, p11, p12, p13}
+use Rattle.jz_select.specs.Rows.{is_i, is_rm, is_rmi, is_flag, is_pinned, is_long, may_lead, are_inline, adds, joins_bits, multiplies, product_size, p2, p3, p5, p6, p7, p8, p9, p10}
 use Rattle.jz_select.specs.Shapes.{Asked, itself, beside, first_of, carry_layer, value_layer, update_layer, assign_of}
 use Rattle.jz_judgement.specs.HasType.{Layer}
 use Rattle.jz_row_laws.proofs.Booleans.{or_parts}

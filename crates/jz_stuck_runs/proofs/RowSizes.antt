@@ -1,20 +1,16 @@
 -- An instruction that has a row has a size, unless it is LEA or SETcc, which have one of their own.
-use Rattle.std.proofs.Common.{◌≡◌, ℕ, Bool, true, false, not, ◌&&◌, ◌||◌, List, [], ◌∷◌, ◌++◌, Option, Some, None, refl, sym, ap, ◌∙◌, subst, inl, inr, if◌then◌else◌}
-use Rattle.std.specs.Prelude.{◌⊎◌, All, is_some}
+use Rattle.std.proofs.Common.{◌≡◌, Bool, true, false, ◌&&◌, ◌||◌, List, [], ◌∷◌, ◌++◌, Option, Some, None, refl, sym, ◌∙◌, subst, inl, inr, if◌then◌else◌}
+use Rattle.std.specs.Prelude.{◌⊎◌}
 use Rattle.std.specs.List.{list_any}
 use Rattle.std.specs.Option.{option_or}
 use Rattle.std.proofs.lemmas.Bool.{false≢true, and_parts}
-use Rattle.std.proofs.lemmas.List.Elements.{All-head, All-tail}
 use Rattle.jz_tree.specs.Size.{Size}
 use Rattle.jz_tree.specs.declared.expr.Storage.{Storage}
 use Rattle.jz_tree.specs.declared.expr.Storage.TheVariants as storage
-use Rattle.jz_tree.specs.declared.expr.BinOp.{BinOp}
 use Rattle.jz_tree.specs.declared.expr.Expr.{Expr}
-use Rattle.jz_tree.specs.declared.expr.Decl.{Decl}
 use Rattle.jz_tree.specs.declared.expr.Expr.TheOpen.{Expr-F}
 use Rattle.jz_tree.specs.declared.expr.Expr.TheViews.{out-Expr, out-Access}
 use Rattle.jz_tree.specs.declared.stmt.Lval.{Lval}
-use Rattle.jz_tree.specs.declared.stmt.Lval.TheVariants as lval
 use Rattle.jz_tree.specs.declared.intrinsic.Intrinsic.{Intrinsic}
 use Rattle.jz_tree.specs.declared.intrinsic.Intrinsic.TheVariants as name
 use Rattle.jz_tree.specs.declared.intrinsic.Instance.{Instance}
@@ -24,7 +20,6 @@ use Rattle.jz_type_names.specs.Kinds.{Known, known_of, is_array, is_array_kind}
 use Rattle.jz_type_sizes.specs.declared.signatures.Role.{Role}
 use Rattle.jz_type_sizes.specs.declared.signatures.Role.TheVariants as role
 use Rattle.jz_type_sizes.specs.Signatures.{five, four, operands_of, results_of}
-use Rattle.jz_type_sizes.specs.Sides.{left_form}
 use Rattle.jz_select.specs.declared.class.Class.{Class}
 use Rattle.jz_select.specs.declared.class.Class.TheVariants as class
 use Rattle.jz_select.specs.declared.class.Operand.{Operand}
@@ -34,10 +29,10 @@ use Rattle.jz_select.specs.declared.shaping.Flags.{Flags}
 use Rattle.jz_select.specs.declared.shaping.Flags.TheVariants as flags
 use Rattle.jz_select.specs.Look.{look_of, bin_inline}
 use Rattle.jz_select.specs.Operands.{class_at, var_class, inline_or, masked_class, class_layer, class_of, dest_of}
-use Rattle.jz_select.specs.Rows.{is_r, is_i, is_m, is_rm, is_rmi, is_flag, is_pinned, is_wide, is_long, is_longest, class_size, changes, computes, times, times_inline, shifts_inline, shifts_masked, masks, one_fits, two_fits, three_fits, product_size, is_product, division_size, divides_long, named_if}
+use Rattle.jz_select.specs.Rows.{is_r, is_i, is_m, is_rm, is_rmi, is_flag, is_pinned, is_long, class_size, changes, computes, times, times_inline, shifts_inline, shifts_masked, masks, one_fits, two_fits, three_fits, product_size, is_product, division_size, divides_long, named_if}
 use Rattle.jz_select.specs.Selected.{is_named, intrinsics}
 use Rattle.jz_select.specs.Shapes.{Asked, two_lead, four_lead, five_lead, if_lead, value_behind, compare_shape, beside, one_shape, two_shape, three_shape, product_shape, stand_apart, division_shape, intrinsic_shape}
-use Rattle.jz_judgement.specs.Places.{Place, unsized, KindGoes, Goes}
+use Rattle.jz_judgement.specs.Places.{unsized, KindGoes, Goes}
 use Rattle.jz_judgement.specs.HasType as judged
 use Rattle.jz_judgement.specs.HasType.{Layer, value, HasType, Types, Accesses}
 use Rattle.jz_judgement.specs.Lefts as lefts

@@ -1,23 +1,22 @@
 -- What typing gives of each statement of a function.
-use Rattle.std.proofs.Common.{◌≡◌, ℕ, Bool, true, false, List, [], ◌∷◌, ◌++◌, Option, Some, None, map, flat_map, bytes_eq, refl, sym, ap, ◌∙◌, subst}
-use Rattle.std.specs.Prelude.{All, Contains, is_some, option_map, option_and_then, slice_index_or}
+use Rattle.std.proofs.Common.{◌≡◌, Bool, true, List, [], ◌++◌, Option, Some, None, map, flat_map, bytes_eq, refl, sym, ap, ◌∙◌, subst}
+use Rattle.std.specs.Prelude.{All, is_some, option_map, option_and_then, slice_index_or}
 use Rattle.std.specs.Option.{option_or}
 use Rattle.std.proofs.lemmas.Bool.{false≢true}
-use Rattle.std.proofs.lemmas.List.Elements.{All-append, All-map, All-weaker, All-contains, All-contains_itself}
+use Rattle.std.proofs.lemmas.List.Elements.{All-append, All-map, All-weaker}
 use Rattle.jz_tree.specs.declared.expr.Storage.{Storage}
 use Rattle.jz_tree.specs.declared.expr.Storage.TheVariants as storage
 use Rattle.jz_tree.specs.declared.expr.Decl.{Decl}
 use Rattle.jz_tree.specs.declared.expr.Var.{Var}
 use Rattle.jz_tree.specs.declared.expr.Expr.TheViews.{out-Var}
-use Rattle.jz_tree.specs.declared.stmt.Stmt.{Stmt}
 use Rattle.jz_tree.specs.declared.program.Fun.{Fun}
 use Rattle.jz_tree.specs.declared.program.Param.{Param}
 use Rattle.jz_tree.specs.declared.program.Program.{Program}
 use Rattle.jz_type_names.specs.declared.kinds.Kind as known
 use Rattle.jz_type_names.specs.declared.kinds.Kind.TheVariants as scope
 use Rattle.jz_type_names.specs.declared.kinds.Declared.{Declared}
-use Rattle.jz_type_names.specs.Kinds.{Known, declared_of, known_of, kind_of, is_inline_int, inline_int}
-use Rattle.jz_type_names.specs.Scopes.{variables_of, variable_named, constant_place}
+use Rattle.jz_type_names.specs.Kinds.{Known, declared_of, known_of, is_inline_int, inline_int}
+use Rattle.jz_type_names.specs.Scopes.{variables_of, constant_place}
 use Rattle.jz_type_names.specs.Parts.{Layer, layer_of, statements_of, called_by}
 use Rattle.jz_type_names.proofs.Empty.{both, passed, all_empty}
 use Rattle.jz_resolve.specs.Numbering.{constant_decl}
@@ -30,7 +29,6 @@ use Rattle.jz_type_rows.specs.Matching.{needs_row}
 use Rattle.jz_judgement.specs.Lefts.{NumberKind, IsNumber}
 use Rattle.jz_judgement.specs.WellTyped.{WellTyped}
 use Rattle.jz_types.specs.Carried.{used_by, Carries, declared_in}
-use Rattle.jz_types.specs.Guarantees.{HasRows}
 use Rattle.jz_run_laws.specs.Texts.{StatementDeclared, FunctionDeclared}
 use Rattle.jz_row_laws.proofs.Copied.{Matches, selected_matches}
 use Rattle.jz_texts.specs.Texts.{HasDecl, IsUnmarked}

@@ -19,7 +19,7 @@ use Rattle.jz_tree.specs.declared.program.Fun.{Fun}
 use Rattle.jz_tree.specs.declared.program.Program.{Program}
 use Rattle.jz_meaning.specs.Trees.{done, op, quiet, choose, loop, each, call}
 use Rattle.jz_type_names.specs.Scopes.{function_named}
-use Rattle.jz_type_names.specs.Parts.{Layer, layer_of, nested_statements, nested_step, statements_in, statements_of, left_exprs, left_vars, called_by, exprs_of}
+use Rattle.jz_type_names.specs.Parts.{Layer, layer_of, nested_statements, nested_step, statements_in, statements_of, left_exprs, left_vars, exprs_of}
 use Rattle.jz_type_names.proofs.NestedLaws.{in_kind, pair, pairs, opened, in_stmt}
 use Rattle.jz_select.specs.Places.{Answers}
 use Rattle.jz_select.specs.declared.shape.Shape as rowed

@@ -1,9 +1,8 @@
 -- Each part of a run of a typed program, and each run.
-use Rattle.std.proofs.Common.{◌≡◌, ℕ, ℤ, Bool, true, false, List, [], ◌∷◌, ◌++◌, Option, Some, None, flat_map, refl, sym, ap, subst, inl, inr}
-use Rattle.std.specs.Prelude.{◌⊎◌, All, Contains, option_to_list}
+use Rattle.std.proofs.Common.{◌≡◌, ℕ, true, List, [], ◌∷◌, Option, Some, None, flat_map, refl, inl, inr}
+use Rattle.std.specs.Prelude.{◌⊎◌, All}
 use Rattle.std.proofs.lemmas.List.Elements.{All-nil, All-head, All-weaker, All-contains}
 use Rattle.jz_tree.specs.Span.{Span}
-use Rattle.jz_tree.specs.Memory.{Memory}
 use Rattle.jz_tree.specs.Spellings.{spelled}
 use Rattle.jz_tree.specs.declared.expr.BinOp.{BinOp}
 use Rattle.jz_tree.specs.declared.expr.Expr.{Expr}
@@ -27,24 +26,20 @@ use Rattle.jz_judgement.specs.WellTyped.{WellTyped, Calls}
 use Rattle.jz_types.specs.Carried.{declared_in}
 use Rattle.jz_meaning.specs.declared.value.Stuck as code
 use Rattle.jz_meaning.specs.declared.value.Why.TheVariants.{Init}
-use Rattle.jz_meaning.specs.Rules.{stuck, went, Stuck}
-use Rattle.jz_meaning.specs.Attempts.{Evaluation, and_then}
-use Rattle.jz_meaning.specs.States.{Value, empty_store, Store, State}
-use Rattle.jz_meaning.specs.Assignments.{bool_in}
-use Rattle.jz_meaning.specs.Statements.{Operation, assign, instruction, unset, meaningless, Condition, Counter, Call, does, tests, counts, number_in, values_between, all_passed, all_given, enters, leaves, source}
-use Rattle.jz_meaning.specs.Runs.{IsRun}
-use Rattle.jz_run_laws.specs.Kinds.{HoldsBytes, IsOfKinds}
-use Rattle.jz_run_laws.specs.DeclaredKinds.{kinds_of, LeftDeclared, ParamDeclared, CallDeclared}
-use Rattle.jz_run_laws.specs.Kept.{IfWent}
+use Rattle.jz_meaning.specs.Rules.{went}
+use Rattle.jz_meaning.specs.Attempts.{and_then}
+use Rattle.jz_meaning.specs.States.{empty_store, State}
+use Rattle.jz_meaning.specs.Statements.{Operation, assign, instruction, unset, meaningless, Condition, Counter, Call, does, tests, counts, number_in, values_between, all_passed, enters, leaves, source}
+use Rattle.jz_run_laws.specs.Kinds.{IsOfKinds}
+use Rattle.jz_run_laws.specs.DeclaredKinds.{LeftDeclared, ParamDeclared}
 use Rattle.jz_run_laws.specs.OneSize.{IsNoArray}
 use Rattle.jz_run_laws.proofs.Calls.{calls_leave}
 use Rattle.jz_run_laws.proofs.Uncut.{typed_law}
 use Rattle.jz_bodies.proofs.Variables.{flat_parts}
 use Rattle.jz_typed_runs.specs.TypedTexts.{IsTypedText, kinds_in}
 use Rattle.jz_typed_runs.specs.Reached.{operation, test, bounds, arguments, results}
-use Rattle.jz_typed_runs.specs.Runs.{SourcePart, KeepsKinds, RunComes}
+use Rattle.jz_typed_runs.specs.Runs.{SourcePart, KeepsKinds}
 use Rattle.jz_typed_runs.specs.Stuck.{IsStuckAt, StopsAt, EndsUnset}
-use Rattle.jz_typed_runs.proofs.Declaring.{IsKept}
 use Rattle.jz_typed_runs.proofs.OperatorCauses.{IfStuck}
 use Rattle.jz_typed_runs.proofs.Causing.{is_stuck}
 use Rattle.jz_typed_runs.proofs.Ending.{unset_law}
@@ -58,7 +53,7 @@ use Rattle.jz_stuck_runs.proofs.Steps.{Lacks, weaker, stuck_any}
 use Rattle.jz_stuck_runs.proofs.Expressions.{Kept, HasKept, bool_fine, number_fine}
 use Rattle.jz_stuck_runs.proofs.Statements.{InlineNumber, IsGood, AreGood, IsReady, all_ready}
 use Rattle.jz_stuck_runs.proofs.LeftSides.{IsLeft}
-use Rattle.jz_stuck_runs.proofs.Trees.{HasParts, OperationOf, TestOf, CounterOf, CallOf, PartOf, assign_parts, holds, part_of}
+use Rattle.jz_stuck_runs.proofs.Trees.{OperationOf, TestOf, CounterOf, CallOf, PartOf, assign_parts, holds, part_of}
 use Rattle.jz_stuck_runs.proofs.Calls.{OneLacks, all_passed_fine, Missing, OneMissing, all_given_fine}
 use Rattle.jz_stuck_runs.proofs.Assignments.{assigned_fine}
 use Rattle.jz_stuck_runs.proofs.Instructing.{instructed_fine}

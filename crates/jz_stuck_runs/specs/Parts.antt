@@ -14,9 +14,11 @@ use Rattle.jz_type_names.specs.Parts.{left_exprs}
 use Rattle.jz_meaning.specs.Rules.{went}
 use Rattle.jz_meaning.specs.States.{Value, Store, State}
 use Rattle.jz_meaning.specs.Values.{ref_of, own_size}
-use Rattle.jz_meaning.specs.Assignments.{Results, left_sizes, written, as_expr, last_left, whole_of, results_of, conditioned}
+use Rattle.jz_meaning.specs.Assignments.{Results, left_sizes, written, as_expr}
+use Rattle.jz_meaning.specs.Assignments.{last_left, whole_of, results_of, conditioned}
 use Rattle.jz_meaning.specs.Intrinsics.{intrinsic_size, sized_results}
-use Rattle.jz_meaning.specs.Statements.{Operation, assign, instruction, unset, meaningless, Condition, Counter, Call, arrays_back, given}
+use Rattle.jz_meaning.specs.Statements.{Operation, assign, instruction, unset, meaningless}
+use Rattle.jz_meaning.specs.Statements.{Condition, Counter, Call, arrays_back, given}
 use Rattle.jz_typed_runs.specs.Reached.{operation, test, bounds, arguments, results}
 use Rattle.jz_typed_runs.specs.Runs.{SourcePart}
 
