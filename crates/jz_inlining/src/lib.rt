@@ -1,0 +1,15 @@
+//! A function whose calls are copies of what they call, with what that makes of its leaks.
+#![tactic(auto)]
+
+mod copier;
+mod copying;
+mod frame;
+mod inlining;
+mod numbers;
+mod parts;
+mod passing;
+mod plain;
+mod whole;
+
+pub use inlining::{Inlined, inline};
+pub use jz_copies::CopyLimit;
