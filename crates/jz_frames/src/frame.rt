@@ -120,7 +120,13 @@ fn push_frame(
     for stmt in stmts.as_slice() {
         declared = push_call(walk, left, names, fun.vars.as_slice(), declared, stmt, out)?;
     }
-    push_rest(walk.alloc, names, fun.vars.as_slice(), declared, &mut out.vars)
+    push_rest(
+        walk.alloc,
+        names,
+        fun.vars.as_slice(),
+        declared,
+        &mut out.vars,
+    )
 }
 
 /// The variables that stand before a call, and what it brings, if the statement is one. Gives the

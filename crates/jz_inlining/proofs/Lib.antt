@@ -4,3 +4,5 @@ pub mod Adding
 pub mod Calling
 pub mod InStep
 pub mod Bounds
+pub mod Kept
+pub mod Pushed

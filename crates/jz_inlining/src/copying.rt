@@ -55,7 +55,13 @@ fn copy_statement(
     match &stmt.kind {
         StmtKind::Assign { to, op, rhs, cond } => {
             let op = *op;
-            let assignment = Assignment { notes, span, to, op, cond };
+            let assignment = Assignment {
+                notes,
+                span,
+                to,
+                op,
+                cond,
+            };
             let steps = copy_assign(copier, left, names, assignment, rhs, out)?;
             Ok(steps)
         }
@@ -81,7 +87,14 @@ fn copy_statement(
             body,
         } => {
             let down = *down;
-            let counter = Counter { notes, span, counter, from, down, to };
+            let counter = Counter {
+                notes,
+                span,
+                counter,
+                from,
+                down,
+                to,
+            };
             let steps = copy_for(copier, left, names, counter, body, out)?;
             Ok(steps)
         }
@@ -101,8 +114,7 @@ fn copy_assign(
     rhs: &Rhs,
     out: &mut Copied,
 ) -> Result<Seq<Step>, AllocError>
-    requires few {
-        Fits out.old.next (assignment_piece (funs_in copier.now left) assignment.entry rhs.now) }
+    requires few { Fits out.old.next (assignment_piece (funs_in copier.now left) assignment.entry rhs.now) }
     ensures { let piece = assignment_piece (funs_in copier.now left) assignment.entry rhs.now in
         IfOk result (Adds piece (names_of names.now) out.old out.new) }
 {
@@ -116,7 +128,10 @@ fn copy_assign(
             Ok(steps)
         }
         Rhs::Call(name, args, span) => {
-            match copier.callable.called(left, assignment.op, name, assignment.cond) {
+            match copier
+                .callable
+                .called(left, assignment.op, name, assignment.cond)
+            {
                 None => {
                     let steps = copy_plain(copier, names, assignment, rhs, out)?;
                     Ok(steps)
@@ -124,7 +139,12 @@ fn copy_assign(
                 Some(callee) => {
                     let to = assignment.to;
                     let span = *span;
-                    let call = Call { to, callee, args, span };
+                    let call = Call {
+                        to,
+                        callee,
+                        args,
+                        span,
+                    };
                     let steps = copy_call(copier, left - 1, names, call, out)?;
                     Ok(steps)
                 }
@@ -157,7 +177,7 @@ fn copy_call(
 
 /// A body that stands in a statement.
 #[cycle(copy)]
-fn copy_body(
+pub(crate) fn copy_body(
     copier: &Copier<'_>,
     left: usize,
     names: &NamesInCopy,
@@ -237,8 +257,7 @@ fn copy_until(
     prologue: &Seq<Stmt>,
     out: &mut Copied,
 ) -> Result<Seq<Step>, AllocError>
-    requires few {
-        Fits out.old.next (until_of test.entry (block_in copier.now left prologue.now)) }
+    requires few { Fits out.old.next (until_of test.entry (block_in copier.now left prologue.now)) }
     ensures { let piece = until_of test.entry (block_in copier.now left prologue.now) in
         IfOk result (Adds piece (names_of names.now) out.old out.new) }
 {

@@ -3,7 +3,6 @@
 
 mod copier;
 mod copying;
-mod frame;
 mod inlining;
 mod numbers;
 mod parts;
@@ -11,5 +10,5 @@ mod passing;
 mod plain;
 mod whole;
 
-pub use inlining::{Inlined, inline};
-pub use jz_copies::CopyLimit;
+pub use inlining::{Inlined, inline, is_export};
+pub use jz_copies::{CopyLimit, Extent};

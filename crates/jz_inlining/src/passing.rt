@@ -16,7 +16,7 @@ ghost use Rattle.jz_inlining.specs.InnerCopies.{argument_items_of, result_items_
 use crate::copier::Copied;
 use crate::numbers::{items_of_arguments, items_of_results};
 use crate::parts::Call;
-use crate::plain::one_step;
+use crate::plain::{one_step, vars_in_copy};
 use jz_change::{Change, Step};
 use jz_inline::{NamesInCopy, expr_in_copy, is_array, lval_in_copy};
 use jz_tree::{Expr, Lval, Param, Rhs, Seq, Span, Stmt, StmtKind, Var};
@@ -177,10 +177,7 @@ fn push_mark(
     ensures { OnOk result
         (out.new ≡ out.old ++ mark_of (names_of inner.now) call.entry ∷ []) }
 {
-    let vars = call
-        .callee
-        .vars
-        .try_map(alloc, |var| inner.variable(alloc, var))?;
+    let vars = vars_in_copy(alloc, inner, &call.callee.vars)?;
     out.push(Stmt {
         notes: Seq::new(alloc),
         span: call_place(call.to, call.span),

@@ -1,6 +1,7 @@
 //! Single statements and single steps.
 
-ghost use Rattle.std.specs.Prelude.{◌≡◌, ◌++◌, ◌∷◌, [], IfOk, OnOk};
+ghost use Rattle.std.specs.Prelude.{◌≡◌, ◌++◌, ◌∷◌, [], map, IfOk, OnOk};
+ghost use Rattle.jz_inline.specs.Names.{var_in};
 ghost use Rattle.jz_inline.specs.CopiedNames.{names_of};
 ghost use Rattle.jz_inline.specs.Statements.{statement, kept, right_in};
 ghost use Rattle.jz_inlining.specs.InnerCopies.{Adds, plain_of};
@@ -9,7 +10,7 @@ use crate::copier::{Copied, Copier};
 use crate::parts::Assignment;
 use jz_change::{Numbers, Step};
 use jz_inline::{NamesInCopy, condition_in_copy, expr_in_copy, exprs_in_copy, lvals_in_copy};
-use jz_tree::{Note, Rhs, Seq, Span, Stmt, StmtKind, copy_notes};
+use jz_tree::{Note, Rhs, Seq, Span, Stmt, StmtKind, Var, copy_notes};
 use std::alloc::{AllocError, Global};
 
 /// One statement more, with the annotations of another.
@@ -45,6 +46,17 @@ fn kept_step(alloc: Global) -> Result<Seq<Step>, AllocError>
     Ok(steps)
 }
 
+/// Variables in the copy.
+pub(crate) fn vars_in_copy(
+    alloc: Global,
+    names: &NamesInCopy,
+    vars: &Seq<Var>,
+) -> Result<Seq<Var>, AllocError>
+    ensures { IfOk result (λ copy. copy ≡ map (var_in (names_of names.now)) vars.now) }
+{
+    vars.try_map(alloc, |var| names.variable(alloc, var))
+}
+
 fn right_in_copy(alloc: Global, names: &NamesInCopy, rhs: &Rhs) -> Result<Rhs, AllocError>
     ensures { IfOk result (λ copy. copy ≡ right_in (names_of names.now) rhs.now) }
 {
@@ -78,7 +90,13 @@ pub(crate) fn copy_plain(
     let cond = condition_in_copy(alloc, names, assignment.cond)?;
     let op = assignment.op;
     let kind = StmtKind::Assign { to, op, rhs, cond };
-    push_statement(alloc, assignment.notes, assignment.span, kind, &mut out.stmts)?;
+    push_statement(
+        alloc,
+        assignment.notes,
+        assignment.span,
+        kind,
+        &mut out.stmts,
+    )?;
     let steps = kept_step(alloc)?;
     Ok(steps)
 }

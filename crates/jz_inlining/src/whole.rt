@@ -11,7 +11,7 @@ ghost use Rattle.jz_inlining.specs.InnerCopies.{Adds, mark_piece};
 
 use crate::copier::{Body, Copied};
 use crate::parts::{Counter, Test};
-use crate::plain::{one_step, push_statement};
+use crate::plain::{one_step, push_statement, vars_in_copy};
 use jz_change::{Change, Numbers, Step};
 use jz_inline::{NamesInCopy, expr_in_copy};
 use jz_tree::{Note, Seq, Span, StmtKind, Var};
@@ -29,7 +29,7 @@ pub(crate) fn copy_mark(
     ensures { let piece = mark_piece notes.now span vars.now in
         IfOk result (Adds piece (names_of names.now) out.old out.new) }
 {
-    let vars = vars.try_map(alloc, |var| names.variable(alloc, var))?;
+    let vars = vars_in_copy(alloc, names, vars)?;
     push_statement(alloc, notes, span, StmtKind::Mark(vars), &mut out.stmts)?;
     Ok(Seq::new(alloc))
 }
@@ -128,8 +128,7 @@ pub(crate) fn finish_turns(
         let made = statement test.entry.notes.now test.entry.span whole in
         OnOk result (out.new.stmts ≡ out.old.stmts ++ made ∷ []) }
     ensures next { OnOk result (out.new.next ≡ body.next) }
-    ensures steps {
-        let made = step.While (all_steps prologue.steps) [] Same (all_steps body.steps) in
+    ensures steps { let made = step.While (all_steps prologue.steps) [] Same (all_steps body.steps) in
         IfOk result (λ steps. steps ≡ made ∷ []) }
 {
     let cond = expr_in_copy(alloc, names, test.cond)?;
@@ -174,8 +173,7 @@ pub(crate) fn finish_for(
         let made = statement counter.entry.notes.now counter.entry.span (by body.stmts) in
         OnOk result (out.new.stmts ≡ out.old.stmts ++ made ∷ []) }
     ensures next { OnOk result (out.new.next ≡ body.next) }
-    ensures steps {
-        IfOk result (λ steps. steps ≡ step.For (all_steps body.steps) ∷ []) }
+    ensures steps { IfOk result (λ steps. steps ≡ step.For (all_steps body.steps) ∷ []) }
 {
     let variable = names.variable(alloc, counter.counter)?;
     let from = expr_in_copy(alloc, names, counter.from)?;

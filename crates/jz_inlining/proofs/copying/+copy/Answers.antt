@@ -105,9 +105,10 @@ copy_assign-copy_call-requires t c =
     let fs = c.args.copier.now.callable.funs.now in
     let a = c.args.assignment in
     let found = sym c.called.ensures ∙ ap option_copied c.in-Some.is in
-    let x = one_deeper fs c.args.left a.op c.in-Call.name a.cond.now c.in-Some.callee.now found in
-    (omega (arith, x, c.decreases),
-     subst (Fits c.args.out.now.next) (ap (assignment_piece (funs_in c.args.copier.now c.args.left) a) c.in-Call.is ∙ called_is fs c.args.left a.notes.now a.span a.to.now a.op c.in-Call.name c.in-Call.args a.cond.now c.in-Call.span c.in-Some.callee.now found) c.requires.few)
+    let x = one_deeper fs c.args.left a.op c.in-Call.name a.cond.now c.in-Some.callee.now found in (
+      omega (arith, x, c.decreases),
+      subst (Fits c.args.out.now.next) (ap (assignment_piece (funs_in c.args.copier.now c.args.left) a) c.in-Call.is ∙ called_is fs c.args.left a.notes.now a.span a.to.now a.op c.in-Call.name c.in-Call.args a.cond.now c.in-Call.span c.in-Some.callee.now found) c.requires.few,
+    )
 
 pub copy_assign-returns-in_ok-steps-in-Some : goal.copy_assign-returns-in_ok-steps-in-Some
 copy_assign-returns-in_ok-steps-in-Some t c =
@@ -121,9 +122,10 @@ pub copy_call-begin_call-requires : goal.copy_call-begin_call-requires
 copy_call-begin_call-requires t c = number_fits c.args.out.now.next (block_in c.args.copier.now c.args.left c.args.call.callee.now.body).copies c.requires.few
 
 pub copy_call-copy_block-requires : goal.copy_call-copy_block-requires
-copy_call-copy_block-requires t c =
-    (omega (arith, c.decreases),
-     body_fits c.args.out.now.next c.begin_call.new.out.next (block_in c.args.copier.now c.args.left c.args.call.callee.now.body).copies c.in_ok-begin_call.ensures.next c.requires.few)
+copy_call-copy_block-requires t c = (
+  omega (arith, c.decreases),
+  body_fits c.args.out.now.next c.begin_call.new.out.next (block_in c.args.copier.now c.args.left c.args.call.callee.now.body).copies c.in_ok-begin_call.ensures.next c.requires.few,
+)
 
 pub copy_call-returns : goal.copy_call-returns
 copy_call-returns t c =
@@ -153,15 +155,17 @@ copy_if-returns t c =
     c.in_ok-then_body.ensures c.in_ok-else_body.ensures c.in_ok-steps.ensures.stmts c.in_ok-steps.ensures.next c.in_ok-steps.ensures.steps
 
 pub copy_while-copy_until-requires : goal.copy_while-copy_until-requires
-copy_while-copy_until-requires t c =
-    (omega (arith, c.decreases),
-     subst (λ b. Fits c.args.out.now.next (while_of (funs_in c.args.copier.now c.args.left) c.args.test (block_in c.args.copier.now c.args.left c.args.prologue.now) b)) c.in-None.is c.requires.few)
+copy_while-copy_until-requires t c = (
+  omega (arith, c.decreases),
+  subst (λ b. Fits c.args.out.now.next (while_of (funs_in c.args.copier.now c.args.left) c.args.test (block_in c.args.copier.now c.args.left c.args.prologue.now) b)) c.in-None.is c.requires.few,
+)
 
 pub copy_while-copy_turns-requires : goal.copy_while-copy_turns-requires
 copy_while-copy_turns-requires t c =
-    let x = ap body_weight c.in-Some.is in
-    (omega (arith, x, c.decreases),
-     subst (λ b. Fits c.args.out.now.next (while_of (funs_in c.args.copier.now c.args.left) c.args.test (block_in c.args.copier.now c.args.left c.args.prologue.now) b)) c.in-Some.is c.requires.few)
+    let x = ap body_weight c.in-Some.is in (
+      omega (arith, x, c.decreases),
+      subst (λ b. Fits c.args.out.now.next (while_of (funs_in c.args.copier.now c.args.left) c.args.test (block_in c.args.copier.now c.args.left c.args.prologue.now) b)) c.in-Some.is c.requires.few,
+    )
 
 pub copy_while-returns-in_ok-steps-in-None : goal.copy_while-returns-in_ok-steps-in-None
 copy_while-returns-in_ok-steps-in-None t c =
