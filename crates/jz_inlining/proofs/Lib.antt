@@ -1,8 +1,6 @@
-pub mod Kinds
+pub mod Pieces
 pub mod Blocks
 pub mod Adding
 pub mod Calling
 pub mod InStep
-pub mod Bounds
-pub mod Kept
 pub mod Pushed

@@ -1,3 +1,2 @@
-pub mod Inlined
 pub mod InnerCopies
 pub mod InnerItems

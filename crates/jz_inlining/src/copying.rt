@@ -114,7 +114,7 @@ fn copy_assign(
     rhs: &Rhs,
     out: &mut Copied,
 ) -> Result<Seq<Step>, AllocError>
-    requires few { Fits out.old.next (assignment_piece (funs_in copier.now left) assignment.entry rhs.now) }
+    requires few { Fits out.old.next (assignment_piece (funs_in copier.now left) assignment rhs.now) }
     ensures { let piece = assignment_piece (funs_in copier.now left) assignment.entry rhs.now in
         IfOk result (Adds piece (names_of names.now) out.old out.new) }
 {
@@ -162,7 +162,7 @@ fn copy_call(
     call: Call<'_>,
     out: &mut Copied,
 ) -> Result<Seq<Step>, AllocError>
-    requires few { Fits out.old.next (called_piece (funs_in copier.now left) call.entry) }
+    requires few { Fits out.old.next (called_piece (funs_in copier.now left) call) }
     ensures { let piece = called_piece (funs_in copier.now left) call.entry in
         IfOk result (Adds piece (names_of names.now) out.old out.new) }
 {
@@ -208,7 +208,7 @@ fn copy_if(
     out: &mut Copied,
 ) -> Result<Seq<Step>, AllocError>
     requires few { let pieces = block_in copier.now left in
-        Fits out.old.next (if_of test.entry (pieces holds.now) (pieces other.now)) }
+        Fits out.old.next (if_of test (pieces holds.now) (pieces other.now)) }
     ensures { let pieces = block_in copier.now left in
         let piece = if_of test.entry (pieces holds.now) (pieces other.now) in
         IfOk result (Adds piece (names_of names.now) out.old out.new) }
@@ -231,7 +231,7 @@ fn copy_while(
     out: &mut Copied,
 ) -> Result<Seq<Step>, AllocError>
     requires few { let before = block_in copier.now left prologue.now in
-        Fits out.old.next (while_of (funs_in copier.now left) test.entry before body.now) }
+        Fits out.old.next (while_of (funs_in copier.now left) test before body.now) }
     ensures { let before = block_in copier.now left prologue.now in
         let piece = while_of (funs_in copier.now left) test.entry before body.now in
         IfOk result (Adds piece (names_of names.now) out.old out.new) }
@@ -257,7 +257,7 @@ fn copy_until(
     prologue: &Seq<Stmt>,
     out: &mut Copied,
 ) -> Result<Seq<Step>, AllocError>
-    requires few { Fits out.old.next (until_of test.entry (block_in copier.now left prologue.now)) }
+    requires few { Fits out.old.next (until_of test (block_in copier.now left prologue.now)) }
     ensures { let piece = until_of test.entry (block_in copier.now left prologue.now) in
         IfOk result (Adds piece (names_of names.now) out.old out.new) }
 {
@@ -277,7 +277,7 @@ fn copy_turns(
     out: &mut Copied,
 ) -> Result<Seq<Step>, AllocError>
     requires few { let pieces = block_in copier.now left in
-        Fits out.old.next (turns_of test.entry (pieces prologue.now) (pieces body.now)) }
+        Fits out.old.next (turns_of test (pieces prologue.now) (pieces body.now)) }
     ensures { let pieces = block_in copier.now left in
         let piece = turns_of test.entry (pieces prologue.now) (pieces body.now) in
         IfOk result (Adds piece (names_of names.now) out.old out.new) }
@@ -297,7 +297,7 @@ fn copy_for(
     body: &Seq<Stmt>,
     out: &mut Copied,
 ) -> Result<Seq<Step>, AllocError>
-    requires few { Fits out.old.next (for_of counter.entry (block_in copier.now left body.now)) }
+    requires few { Fits out.old.next (for_of counter (block_in copier.now left body.now)) }
     ensures { let piece = for_of counter.entry (block_in copier.now left body.now) in
         IfOk result (Adds piece (names_of names.now) out.old out.new) }
 {

@@ -8,7 +8,7 @@ use Rattle.jz_inline.specs.CopiedNames.{names_of}
 use Rattle.jz_inline.specs.Statements.{CopiedFuns, body_piece}
 use Rattle.jz_inlining.specs.InnerCopies.{Adds, Fits, funs_in, block_in, assignment_piece, called_piece, while_of}
 use Rattle.jz_inlining.specs.declared.copier.Copied.{Copied}
-use Rattle.jz_inlining.proofs.Kinds.{assign_is, if_is, while_is, for_is, mark_is, called_is, plain_value, plain_intrinsic, plain_called}
+use Rattle.jz_inlining.proofs.Pieces.{assign_is, if_is, while_is, for_is, mark_is, called_is, plain_value, plain_intrinsic, plain_called}
 use Rattle.jz_inlining.proofs.Blocks.{begun, fits, one_more, none_left}
 use Rattle.jz_inlining.proofs.Adding.{left_fits, right_fits, if_adds, turns_adds, until_adds, for_adds, alone}
 use Rattle.jz_inlining.proofs.Calling.{number_fits, body_fits, call_adds}
@@ -119,7 +119,7 @@ copy_assign-returns-in_ok-steps-in-Some t c =
     (sym (ap (assignment_piece (funs_in c.args.copier.now c.args.left) a) c.in-Call.is ∙ called_is fs c.args.left a.notes.now a.span a.to.now a.op c.in-Call.name c.in-Call.args a.cond.now c.in-Call.span c.in-Some.callee.now found)) c.in_ok-steps-in-Some.ensures
 
 pub copy_call-begin_call-requires : goal.copy_call-begin_call-requires
-copy_call-begin_call-requires t c = number_fits c.args.out.now.next (block_in c.args.copier.now c.args.left c.args.call.callee.now.body).copies c.requires.few
+copy_call-begin_call-requires t c = record { few = number_fits c.args.out.now.next (block_in c.args.copier.now c.args.left c.args.call.callee.now.body).copies c.requires.few }
 
 pub copy_call-copy_block-requires : goal.copy_call-copy_block-requires
 copy_call-copy_block-requires t c = (
