@@ -1,5 +1,5 @@
 -- What becomes of a whole function keeps its runs.
-use Rattle.std.proofs.Common.{◌≡◌, ℕ, ◌+◌, ◌≤◌, ◌<◌, length, get_or, Some, true, refl, sym, ap, ◌∙◌, subst, arith}
+use Rattle.std.proofs.Common.{◌≡◌, ℕ, Some, true, refl, sym, ap, ◌∙◌, subst}
 use Rattle.std.specs.Prelude.{slice_get, None, false, ◌↔◌, IsTrue}
 use Rattle.std.proofs.lemmas.Option.{slice_get_within, get_or_from_slice_get}
 use Rattle.jz_tree.specs.declared.program.Fun.{Fun}
@@ -7,17 +7,15 @@ use Rattle.jz_tree.specs.declared.program.Program.{Program}
 use Rattle.jz_runs.specs.RunLeaks.{Leak}
 use Rattle.jz_runs.specs.Trees.{done}
 use Rattle.jz_runs.specs.Rules.{Outcome, Stuck}
-use Rattle.jz_meaning.specs.declared.value.Stuck as code
 use Rattle.jz_meaning.specs.Statements.{Block}
-use Rattle.jz_meaning.specs.Runs.{Returned, FunOutcome, block}
+use Rattle.jz_meaning.specs.Runs.{block}
 use Rattle.jz_type_rows.specs.Exports.{is_exported}
 use Rattle.jz_change.specs.Changes.{Change}
-use Rattle.jz_change.specs.Views.{change_of}
 use Rattle.jz_pass.specs.Laws.{Runs, Relating, Follows, has_ended, was_cut, was_stuck, Carries}
 use Rattle.jz_bodies.specs.Typed.{IsTypedFunction}
 use Rattle.jz_bodies.specs.Declared.{scopes_in}
 use Rattle.jz_bodies.proofs.Whole.{bodies_law}
-use Rattle.jz_inline.specs.Functions.{Given, IsBodyRun, runs_of, body_runs, alike, inlined_body, inlining_of}
+use Rattle.jz_inline.specs.Functions.{runs_of, body_runs, alike, inlining_of}
 use Rattle.jz_inline.specs.Statements.{no_callees, inlined_statements}
 use Rattle.jz_inline.proofs.Functions.{carries}
 use Rattle.jz_inline.proofs.Made.{inlined_is}

@@ -1,4 +1,4 @@
-use Rattle.std.proofs.Common.{◌≡◌, ◌∙◌, ap, sym}
+use Rattle.std.proofs.Common.{◌∙◌, ap, sym}
 use Rattle.jz_tree.specs.declared.program.Fun.{Fun}
 use Rattle.jz_change.specs.Views.{steps_of}
 use Rattle.jz_change.proofs.StepViews.{change_is}
