@@ -12,7 +12,7 @@ use Rattle.jz_pass.specs.declared.form.Form.TheVariants as form
 use Rattle.jz_pass.specs.Operations.{in_turn}
 use Rattle.jz_pass.specs.Unrolling.{u_done, u_op, u_quiet, u_if, u_while}
 use Rattle.jz_pass.specs.Rewriting.{Rewriting, Rewrites, Shape, one, hidden, either, turns, other, all_before, HasTree, sizes, IsAbove, first_part, second_part, RewritesTo}
-use Rattle.jz_pass.specs.InnerForms.{form_of, OperationMade, QuietMade, ChoiceMade}
+use Rattle.jz_pass.specs.Forms.{form_of, OperationMade, QuietMade, ChoiceMade}
 
 -- lists in two parts, before what follows
 

@@ -3,7 +3,7 @@
 ghost use Rattle.std.specs.Prelude.{◌≡◌, ℕ, [], ◌∷◌, IfOk, IfErr};
 ghost use Rattle.jz_data.specs.Failures.{IfRefused};
 ghost use Rattle.jz_runs.specs.Trees.{done};
-ghost use Rattle.jz_pass.specs.InnerForms.{ChoiceMade};
+ghost use Rattle.jz_pass.specs.Forms.{ChoiceMade};
 ghost use Rattle.jz_pass.specs.Rewriting.{by_rule, other, Rewrites, RefusesOne};
 ghost use Rattle.jz_change.specs.declared.change.Numbers.TheVariants.{Same};
 ghost use Rattle.jz_pass_tests.specs.declared.small.Unknown.{Unknown};
