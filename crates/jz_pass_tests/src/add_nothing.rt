@@ -111,8 +111,8 @@ impl Local for AddNothing {
         first: Seq<Small>,
         second: Seq<Small>,
     ) -> Result<Choice<Small>, Failure<Unknown>>
-        ensures made { IfOk result (λ r. ChoiceMade dropping then_small (shape_of s.now) first second
-            r.statements r.items r.numbers) }
+        ensures made { IfOk result (λ r. ChoiceMade dropping then_small (shape_of s.now)
+            first second r.statements r.items r.numbers) }
         ensures refused { IfErr result (λ e. IfRefused e (λ cause. shape_of s.now ≡ other)) }
     {
         Ok(same_choice(alloc, s, first, second)?)
