@@ -1,0 +1,2 @@
+pub mod InnerCopies
+pub mod InnerItems
