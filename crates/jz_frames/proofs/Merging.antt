@@ -1,16 +1,14 @@
 -- Variables with what calls bring between them, one call after another.
-use Rattle.std.proofs.Common.{◌≡◌, ℕ, zero, suc, ◌+◌, Bool, true, false, if◌then◌else◌, List, [], ◌∷◌, ◌++◌, length, drop, map, refl, sym, ap, ap₂, ◌∙◌, subst, arith, append-nil, append_assoc, drop-drop}
-use Rattle.jz_tree.specs.Span.{Span}
+use Rattle.std.proofs.Common.{◌≡◌, ℕ, zero, suc, ◌+◌, ◌≤◌, Bool, true, false, if◌then◌else◌, List, [], ◌∷◌, ◌++◌, length, drop, map, refl, sym, ap, ap₂, ◌∙◌, arith, append_assoc}
 use Rattle.jz_tree.specs.declared.expr.Var.{Var}
 use Rattle.jz_tree.specs.declared.expr.Expr.TheViews.{out-Var}
 use Rattle.jz_tree.specs.declared.program.Fun.{Fun}
 use Rattle.jz_type_names.specs.Order.{is_before}
-use Rattle.jz_type_names.specs.Parts.{statements_of}
 use Rattle.jz_inline.specs.Names.{Names, var_in}
 use Rattle.jz_inline.specs.Calls.{callee_names}
 use Rattle.jz_frames.specs.declared.frame.Frame.{Frame}
-use Rattle.jz_frames.specs.Frames.{Called, Group, all_in, behind, merged, groups, own_params, frame_in, copies_in, calls_in}
-use Rattle.jz_frames.specs.InnerFrames.{ahead, calls_from, groups_in, all_copies, needed, IsGrown, Brings}
+use Rattle.jz_frames.specs.Frames.{Called, Group, behind, merged, groups, own_params, frame_in, copies_in, calls_in}
+use Rattle.jz_frames.specs.InnerFrames.{ahead, groups_in, all_copies, needed, IsGrown, Brings}
 
 -- ---- lists
 

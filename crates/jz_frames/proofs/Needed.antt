@@ -42,6 +42,7 @@ total callees (s ∷ ss) = own_copies callees (layer_of s) + total callees ss
 
 module _ (callees : CopiedFuns) where
   total_both : (ss ts : List Stmt) → total callees (ss ++ ts) ≡ total callees ss + total callees ts
+  unfolding total
   total_both [] ts = omega arith
   total_both (s ∷ ss) ts = omega (arith, total_both ss ts)
 
@@ -64,6 +65,7 @@ module _ (callees : CopiedFuns) where
   firsts ss = map (λ e. e.0) ss
 
   rows : (ss : List ((s : Stmt) × StmtLaw s)) → (all_pieces (map (statement_piece callees) (firsts ss))).copies ≡ total callees (nested_statements (map pair (firsts ss)))
+  unfolding total
   rows [] = refl
   rows (s ∷ ss) =
       ap₂ (λ m n. m + n) s.1 (rows ss) ∙ sym (total_both (statements_in s.0) (nested_statements (map pair (firsts ss))))
@@ -84,16 +86,19 @@ module _ (callees : CopiedFuns) where
   abbrev mapped : Kinds → StmtKind-F (List Note → Span → Piece) Piece
   mapped y = map-StmtKind _ _ (List Note → Span → Piece) Piece kind_piece (statement_piece callees) (bare y)
 
+  added : (m n : ℕ) → m ≡ n → m ≡ 0 + n
+  added m n e = omega (arith, e)
+
   layer_law : (y : Kinds) (notes : List Note) (at : Span)
       → (kind_made callees (mapped y) notes at).copies ≡ own_copies callees (bare y) + total callees (nested_step (pairs (bare y)))
   unfolding pairs own_copies right_copies total
   layer_law (StmtKind-F.Assign to o (rhs.Value e) c) notes at = refl
   layer_law (StmtKind-F.Assign to o (rhs.Call n args place) c) notes at = call_law (callees n) notes at to o n args c place
   layer_law (StmtKind-F.Assign to o (rhs.Intrinsic n args place) c) notes at = refl
-  layer_law (StmtKind-F.If c a b) notes at = both a b
-  layer_law (StmtKind-F.While p c None) notes at = rows p
-  layer_law (StmtKind-F.While p c (Some b)) notes at = both p b
-  layer_law (StmtKind-F.For i from down to b) notes at = rows b
+  layer_law (StmtKind-F.If c a b) notes at = added _ _ (both a b)
+  layer_law (StmtKind-F.While p c None) notes at = added _ _ (rows p)
+  layer_law (StmtKind-F.While p c (Some b)) notes at = added _ _ (both p b)
+  layer_law (StmtKind-F.For i from down to b) notes at = added _ _ (rows b)
   layer_law (StmtKind-F.Mark vs) notes at = refl
 
   kind_case : (y : Kinds) → KindLaw (roll-StmtKind (bare y))
@@ -117,6 +122,7 @@ module _ (callees : CopiedFuns) where
       (λ x y is. subst (λ z. StmtLaw (roll-Stmt z)) is (stmt_case y))
 
   body_copies : (ss : List Stmt) → (body_piece callees ss).copies ≡ total callees (statements_of ss)
+  unfolding total
   body_copies [] = refl
   body_copies (s ∷ ss) = ap₂ (λ m n. m + n) (stmt_copies s) (body_copies ss) ∙ sym (total_both (statements_in s) (statements_of ss))
 

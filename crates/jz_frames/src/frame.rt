@@ -32,20 +32,20 @@ struct Walk<'a> {
 
 /// A call, with the place of the name.
 #[derive(Clone, Copy)]
-struct CallHere<'a> {
+struct CallHere<'a, 'b> {
     of: &'a Fun,
-    args: &'a Seq<Expr>,
+    args: &'b Seq<Expr>,
     span: Span,
 }
 
 /// The call that a right side is, if it is one.
-fn right_call<'a>(
+fn right_call<'a, 'b>(
     walk: &Walk<'a>,
     left: usize,
     op: Option<BinOp>,
-    rhs: &'a Rhs,
+    rhs: &'b Rhs,
     cond: &Option<Expr>,
-) -> Option<CallHere<'a>>
+) -> Option<CallHere<'a, 'b>>
     ensures { let funs = walk.now.callable.funs.now in
         right_called funs left op rhs.now cond.now ≡ here_of result }
 {
@@ -64,7 +64,7 @@ fn right_call<'a>(
 }
 
 /// The call that a statement is, if it is one.
-fn call_here<'a>(walk: &Walk<'a>, left: usize, stmt: &'a Stmt) -> Option<CallHere<'a>>
+fn call_here<'a, 'b>(walk: &Walk<'a>, left: usize, stmt: &'b Stmt) -> Option<CallHere<'a, 'b>>
     ensures { let funs = walk.now.callable.funs.now in
         layer_called funs left (layer_of stmt.now) ≡ here_of result }
 {
@@ -109,13 +109,14 @@ fn push_before(
         let more = map (var_in (names_of names.now)) before in
         IfOk result (λ next. (out.new ≡ out.old ++ more) × (next ≡ from + length before)) }
 {
-    let mut at = from;
-    while at < vars.len() && !is_before(place, vars[at].span) {
+    for at in from..vars.len() {
+        if is_before(place, vars[at].span) {
+            return Ok(at);
+        }
         let copy = names.variable(alloc, &vars[at])?;
         out.push(copy)?;
-        at += 1;
     }
-    Ok(at)
+    Ok(vars.len().max(from))
 }
 
 /// The parameters that are no arrays.
@@ -163,7 +164,7 @@ fn push_frame(
     fun: &Fun,
     out: &mut Frame,
 ) -> Result<(), AllocError>
-    requires few { out.next + copies_in walk.now.callable.funs.now left fun.now ≤ last_number }
+    requires few { out.now.next + copies_in walk.now.callable.funs.now left fun.now ≤ last_number }
     ensures { let funs = walk.now.callable.funs.now in
         let more = frame_in funs left (names_of names.now) out.old.next fun.now in
         OnOk result (IsGrown out.old out.new more (copies_in funs left fun.now)) }
@@ -172,7 +173,14 @@ fn push_frame(
     for stmt in statements(walk.alloc, &fun.body)? {
         declared = push_call(walk, left, names, fun.vars.as_slice(), declared, stmt, out)?;
     }
-    push_rest(walk.alloc, names, fun.vars.as_slice(), declared, &mut out.vars)
+    push_rest(
+        walk.alloc,
+        names,
+        fun.vars.as_slice(),
+        declared,
+        &mut out.vars,
+    )?;
+    Ok(())
 }
 
 /// The variables that stand before a call, and what it brings, if the statement is one. Gives the
@@ -188,7 +196,7 @@ fn push_call(
     out: &mut Frame,
 ) -> Result<usize, AllocError>
     requires few { let funs = walk.now.callable.funs.now in
-        out.next + needed funs left (layer_called funs left (layer_of stmt.now)) ≤ last_number }
+        out.now.next + needed funs left (layer_called funs left (layer_of stmt.now)) ≤ last_number }
     ensures { let funs = walk.now.callable.funs.now in
         let here = layer_called funs left (layer_of stmt.now) in
         let own = names_of names.now in

@@ -39,7 +39,7 @@ use Rattle.jz_bodies.specs.Calls.{is_array}
 use Rattle.jz_inline.specs.Names.{Names, var_in, expr_in, lval_in}
 use Rattle.jz_inline.specs.Calls.{callee_names, call_place, argument_ops, result_op, result_ops, argument_items, result_items, inline_calls}
 use Rattle.jz_inline.specs.Functions.{own_names, inlined_body, inlining_of}
-use Rattle.jz_inline.specs.Statements.{statement, Piece, all_pieces, kept, all_steps, set_statement, argument_statements, result_statement, result_statements, CopiedFun, CopiedFuns, call_made, right_in, plain_assignment, call_piece, assign_piece, kind_made, statement_piece, body_piece, with_piece, copied_funs, no_callees, inlined_statements, inlining_steps}
+use Rattle.jz_inline.specs.Statements.{statement, Piece, all_pieces, kept, all_steps, set_statement, argument_statements, result_statement, result_statements, CopiedFun, CopiedFuns, call_made, call_piece, assign_piece, kind_made, statement_piece, body_piece, with_piece, copied_funs, no_callees, inlined_statements, inlining_steps}
 
 pub block_both : (callees : Callees) (xs ys : List Stmt) (r : Block) → block callees (xs ++ ys) r ≡ block callees xs (block callees ys r)
 block_both callees [] ys r = refl
