@@ -15,7 +15,7 @@ ghost use Rattle.jasminc_top.specs.Answers.{IsSafeOne, After, Performs};
 
 use crate::refusal::{Refusal, Status};
 use crate::stage::as_refusal;
-use jasminc_exec::{Ran, exec_text, items_fit};
+use jasminc_exec::{Ran, exec_text, items_are_words};
 use jasminc_words::{Call, Request, request_of};
 use jz_first::{Failure, Fun, Seq, Text, Typed, check, parse_first};
 use jz_grammar::lex;
@@ -160,7 +160,7 @@ fn exec_reply(alloc: Global, call: &Call<'_>, text: &[u8]) -> Result<Reply, Fail
     if items.len() != function.params.len() {
         return Err(Failure::Refused(Refusal::Items));
     }
-    items_fit(items);
+    items_are_words(items);
     Ok(run_reply(alloc, made, call)?)
 }
 
