@@ -4,8 +4,7 @@ use Rattle.std.specs.Prelude.{◌⊎◌, All, nat_le}
 use Rattle.std.proofs.lemmas.Bool.Decides.{nat_tests}
 use Rattle.std.proofs.lemmas.List.Elements.{All-nil, All-cons, All-head, All-tail, All-append}
 use Rattle.std.proofs.lemmas.List.{append-nil, append_assoc}
-use Rattle.jz_limits.specs.Limits.{Limit, Step, one, passing, most_statements, count_of, Passes, IsWithin, IsFirstLimit}
-use Rattle.jz_limits.specs.declared.limit.Limit.TheVariants.{Expand}
+use Rattle.jz_limits.specs.Limits.{Limit, Expand, Step, one, passing, most_statements, count_of, Passes, IsWithin, IsFirstLimit}
 use Rattle.jz_limits.specs.LimitLaws.{WithinOrFirst, OneFirst, NoneWithin}
 
 zero_first : (n : ℕ) → n ≡ 0 + n

@@ -40,8 +40,7 @@ use Rattle.jz_meaning.specs.Values.{ref_of, own_size}
 use Rattle.jz_meaning.specs.Assignments.{left_sizes, last_left, whole_of}
 use Rattle.jz_meaning.specs.Intrinsics.{intrinsic_size}
 use Rattle.jz_meaning.specs.Statements.{Operation, assign, instruction, unset, meaningless}
-use Rattle.jz_limits.specs.Limits.{Limit}
-use Rattle.jz_limits.specs.declared.limit.Limit.TheVariants.{InlineWidth, IndexRange, ImmRange}
+use Rattle.jz_limits.specs.Limits.{Limit, InlineWidth, IndexRange, ImmRange}
 use Rattle.jz_limits.specs.Values.{number_in, inline_target}
 
 -- ---- expressions with something of each part

@@ -20,8 +20,7 @@ use Rattle.jz_meaning.specs.declared.access.Kind.TheVariants as kind
 use Rattle.jz_meaning.specs.Values.{ref_of}
 use Rattle.jz_meaning.specs.Statements.{Operation, assign, Counter, Call, Block, values_between}
 use Rattle.jz_meaning.specs.Runs.{body_of}
-use Rattle.jz_limits.specs.Limits.{Limit, Step, one, passing}
-use Rattle.jz_limits.specs.declared.limit.Limit.TheVariants.{InlineWidth}
+use Rattle.jz_limits.specs.Limits.{Limit, InlineWidth, Step, one, passing}
 use Rattle.jz_limits.specs.Values.{no_numbers, with_number, number_of, number_in, truth_of, known_after, is_int}
 use Rattle.jz_limits.specs.Asked.{asked, asked_condition, widths}
 

@@ -3,7 +3,5 @@
 #![tactic(auto)]
 
 mod laws;
-mod limit;
 
 pub use laws::{counts_of_loops, first_limits};
-pub use limit::Limit;
