@@ -16,8 +16,8 @@ pub record KeepsPromises (run : Run) : Type 0 where
   -- What `exec` prints at Ok is the run of a correct function on the machine, from a start on the
   -- items.
   pub executes : run.done.status ≡ status.Ok → Executes run.wish run.source run.sink run.done.made
-  -- What `exec` prints at OutOfFuel is such a run up to as many steps as it may take, and it is still
-  -- running there. With 1,000,000 steps or more none is cut.
+  -- What `exec` prints at OutOfFuel is such a run up to as many steps as it may take, and it is
+  -- still running there. With 1,000,000 steps or more none is cut.
   pub cut : run.done.status ≡ status.OutOfFuel → IsCut run.wish run.source run.sink run.done.made
   -- The status of a refusal comes only with its cause, and that of a write fault with one.
   pub comes_only : (r : Refusal)
