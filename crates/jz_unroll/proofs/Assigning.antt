@@ -1,6 +1,6 @@
 -- Assignments whose inline parts are their values.
 use Rattle.std.proofs.Common.{◌≡◌, List, [], ◌∷◌, map, Option, Some, None, Bool, true, false, refl, ap, sym, ◌∙◌, subst}
-use Rattle.std.specs.Prelude.{ℕ, ◌&&◌, ◌||◌, not, is_some, option_map, if◌then◌else◌}
+use Rattle.std.specs.Prelude.{ℕ, ◌&&◌, ◌||◌, not, option_map, if◌then◌else◌}
 use Rattle.std.specs.List.{list_all}
 use Rattle.std.specs.Option.{option_or}
 use Rattle.std.proofs.lemmas.Bool.{and_parts}
@@ -16,19 +16,19 @@ use Rattle.jz_tree.specs.declared.expr.Expr.TheViews.{out-Expr}
 use Rattle.jz_tree.specs.declared.stmt.Lval.{Lval}
 use Rattle.jz_tree.specs.declared.stmt.Lval.TheVariants as lval
 use Rattle.jz_type_names.specs.Kinds.{is_inline}
-use Rattle.jz_integers.specs.Integers.{KnownNumbers, inline_value}
+use Rattle.jz_integers.specs.Integers.{KnownNumbers}
 use Rattle.jz_runs.specs.Rules.{stuck, went}
 use Rattle.jz_meaning.specs.declared.value.Why.TheVariants.{Init}
 use Rattle.jz_meaning.specs.Attempts.{Evaluation, stuck_at, numbers_first, and_then, defined}
 use Rattle.jz_meaning.specs.States.{Value, State}
 use Rattle.jz_meaning.specs.Operators.{word_at}
-use Rattle.jz_meaning.specs.Values.{Ref, key_of, cell_key, size_of, index_at, MemoryAccess, store_at, ref_of, access_of, own_size, evaluated}
+use Rattle.jz_meaning.specs.Values.{key_of, cell_key, size_of, index_at, MemoryAccess, store_at, ref_of, access_of, own_size, evaluated}
 use Rattle.jz_meaning.specs.Assignments.{left_size, left_sizes, word_value, held_or_unset, with_value, in_cell, written, Results, all_written, as_expr, left_span, last_left, whole_of, updated_layer, updated, two_results, word_in, bool_in, truth, with_two, with_three, two_of, results_of, old_value, chosen, conditioned, assigned_whole, assigned, is_flag}
-use Rattle.jz_unroll.specs.Values.{with_values, left_with_values, access_with_values, InlineNames, is_inline_var, has_values, left_has_values, if_has_values, splits, is_split}
+use Rattle.jz_unroll.specs.Values.{with_values, left_with_values, InlineNames, is_inline_var, has_values, left_has_values, if_has_values, splits, is_split}
 use Rattle.jz_unroll.specs.ValueLaws.{StandsFor}
 use Rattle.jz_unroll.proofs.Layers.{Layer}
 use Rattle.jz_unroll.proofs.Standing.{put_stands}
-use Rattle.jz_unroll.proofs.Parts.{not_true, out_plain, flag_so, updated_so, updated_plain, inline_some, plain_known, left_read, IsReadLeft, IfReadLeft, left_as_expr, last_values, last_known, IfKnown, whole_known}
+use Rattle.jz_unroll.proofs.Parts.{not_true, out_plain, flag_so, updated_so, updated_plain, inline_some, plain_known, left_read, IfReadLeft, left_as_expr, last_values, last_known, IfKnown, whole_known}
 use Rattle.jz_unroll.proofs.Valued.{parts_in, parts_layer, values_so, access_so}
 
 -- ---- both are stuck alike, or go on to states that stand for each other with the same numbers

@@ -25,7 +25,7 @@ use Rattle.jz_type_names.specs.Kinds.{Known, kind_step, kind_of, declared_of, kn
 use Rattle.jz_meaning.specs.declared.access.Kind.{Kind}
 use Rattle.jz_meaning.specs.declared.access.Kind.TheVariants as kind
 use Rattle.jz_meaning.specs.Assignments.{is_bool, is_flag_layer, is_flag}
-use Rattle.jz_meaning.specs.Values.{Ref, MemoryAccess, Meaning, size_of, gives_word, size_of_operation, kind_or, expr_step as meaning_step, ty_step, access_step as meaning_access, decl_step, var_step, meaning_of, ref_of, access_of, own_size}
+use Rattle.jz_meaning.specs.Values.{Ref, MemoryAccess, Meaning, size_of, gives_word, kind_or, expr_step as meaning_step, ty_step, access_step as meaning_access, decl_step, var_step, meaning_of, ref_of, access_of, own_size}
 use Rattle.jz_unroll.proofs.Layers.{Layer, kind_of_ty, kind_of_decl, meaning_layer, meaning_is, ref_rolled}
 
 -- ---- what typing sees of a layer

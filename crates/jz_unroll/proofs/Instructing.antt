@@ -17,7 +17,7 @@ use Rattle.jz_tree.specs.declared.intrinsic.Intrinsic.TheVariants as name
 use Rattle.jz_tree.specs.declared.intrinsic.Instance.{Instance}
 use Rattle.jz_integers.specs.Integers.{KnownNumbers}
 use Rattle.jz_runs.specs.Rules.{went}
-use Rattle.jz_meaning.specs.Attempts.{Evaluation, and_then}
+use Rattle.jz_meaning.specs.Attempts.{and_then}
 use Rattle.x64_insn.specs.Words.{carried}
 use Rattle.jz_meaning.specs.States.{word, State}
 use Rattle.jz_meaning.specs.Values.{own_size, evaluated}

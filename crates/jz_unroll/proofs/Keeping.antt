@@ -1,5 +1,5 @@
 -- Unrolling keeps the runs.
-use Rattle.std.proofs.Common.{◌≡◌, ℕ, List, [], ◌∷◌, map, Option, Some, None, Bool, true, false, refl, ap, sym, ◌∙◌, subst, inl, eqb-true}
+use Rattle.std.proofs.Common.{◌≡◌, ℕ, List, [], ◌∷◌, Option, Some, None, Bool, true, false, refl, ap, sym, ◌∙◌, subst, inl, eqb-true}
 use Rattle.std.specs.Prelude.{ℤ, ◌==◌, ◌&&◌, is_some, if◌then◌else◌, ⊤}
 use Rattle.std.specs.Str.{bytes_eq}
 use Rattle.std.specs.List.{list_all}
@@ -17,7 +17,7 @@ use Rattle.jz_tree.specs.declared.expr.Expr.TheOpen.{Expr-F}
 use Rattle.jz_tree.specs.declared.stmt.Lval.{Lval}
 use Rattle.jz_tree.specs.declared.stmt.Lval.TheVariants as lval
 use Rattle.jz_type_names.specs.Parts.{span_of}
-use Rattle.jz_integers.specs.Integers.{KnownNumbers, inline_value}
+use Rattle.jz_integers.specs.Integers.{KnownNumbers}
 use Rattle.jz_integers.specs.declared.constant.Constant.{Constant}
 use Rattle.jz_integers.specs.declared.constant.Constant.TheVariants as constant
 use Rattle.jz_runs.specs.Rules.{stuck, went}
@@ -26,19 +26,18 @@ use Rattle.jz_meaning.specs.declared.access.Kind.TheVariants as kind
 use Rattle.jz_meaning.specs.declared.value.Stuck.{Stuck}
 use Rattle.jz_meaning.specs.Attempts.{Evaluation, numbers_first, and_then, defined}
 use Rattle.jz_meaning.specs.Operators.{of_constant}
-use Rattle.jz_meaning.specs.States.{Value, boolean, integer, State}
+use Rattle.jz_meaning.specs.States.{Value, integer, State}
 use Rattle.jz_meaning.specs.Values.{key_of, Meaning, ref_of, own_size, evaluated}
 use Rattle.jz_meaning.specs.Assignments.{with_value, Results, all_written, held, left_size, left_sizes, whole_of, bool_in, truth, old_value, conditioned, chosen, assigned_whole, assigned}
-use Rattle.jz_meaning.specs.Statements.{Operation, assign, instruction, unset, meaningless, Condition, Counter, does, number_at, number_in, values_between, counts, begins, restores, source, quiets}
+use Rattle.jz_meaning.specs.Statements.{Operation, assign, instruction, unset, meaningless, Condition, Counter, does, number_at, number_in, values_between, counts, restores, source, quiets}
 use Rattle.jz_change.specs.declared.change.Numbers.{Numbers}
-use Rattle.jz_change.specs.declared.change.Numbers.TheVariants.{Same}
 use Rattle.jz_change.specs.Changes.{numbers_in}
 use Rattle.jz_change.specs.Fitting.{HasThese}
 use Rattle.jz_pass.specs.Cases.{AsMany, none_each, one_each, HasItems}
 use Rattle.jz_pass.specs.Operations.{DoAll, do_none, do_one, OneFails, fails_here, TestFails, fails_at_test}
 use Rattle.jz_pass.specs.Unrolling.{IsKnown}
-use Rattle.jz_unroll.specs.Values.{is_int, with_values, left_with_values, operation_with_values, InlineNames, is_inline_var, has_values, left_has_values, if_has_values, operation_has_values}
-use Rattle.jz_unroll.specs.Unrolling.{with_number, number_of, HasValue, ConditionIs, IsInlineInt, UnrollsOp, stays, vanishes, UnrollsMark, marked, UnrollsTest, tested, UnrollsLoopTest, loops, always, HasValues, IsConstant, KnowsLess, unrolling}
+use Rattle.jz_unroll.specs.Values.{is_int, with_values, operation_with_values, InlineNames, has_values, left_has_values, if_has_values, operation_has_values}
+use Rattle.jz_unroll.specs.Unrolling.{with_number, number_of, HasValue, ConditionIs, IsInlineInt, UnrollsOp, stays, vanishes, UnrollsMark, marked, UnrollsTest, tested, UnrollsLoopTest, loops, always, HasValues, unrolling}
 use Rattle.jz_unroll.specs.ValueLaws.{StandsFor}
 use Rattle.jz_unroll.proofs.Layers.{meaning_is}
 use Rattle.jz_unroll.proofs.Inline.{inline_exact}

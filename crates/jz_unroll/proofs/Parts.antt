@@ -23,7 +23,7 @@ use Rattle.jz_meaning.specs.Assignments.{as_expr, left_span, last_left, whole_of
 use Rattle.jz_unroll.specs.Values.{constant_expr, has_no_cell, with_values, access_with_values, left_with_values, InlineNames, is_inline_var, is_known, has_values, left_has_values}
 use Rattle.jz_unroll.proofs.Layers.{Layer}
 use Rattle.jz_unroll.proofs.InlineParts.{inline_layer, inline_is, inline_out, inline_var, inline_bin, no_flag}
-use Rattle.jz_unroll.proofs.Valued.{parts_in, values_layer, values_is, parts_layer, known_is}
+use Rattle.jz_unroll.proofs.Valued.{parts_in, values_is, parts_layer, known_is}
 
 pub not_true : (b : Bool) → not b ≡ true → b ≡ false
 not_true true q = absurd cc

@@ -1,6 +1,6 @@
 -- What stands for each other where inline variables are set, unset and left alone.
-use Rattle.std.proofs.Common.{◌≡◌, ℕ, zero, suc, List, [], ◌∷◌, Option, Some, None, Bool, true, false, refl, ap, sym, ◌∙◌, subst, eqb-true}
-use Rattle.std.specs.Prelude.{ℤ, ◌==◌, ◌&&◌, not, is_none, filter, option_map, if◌then◌else◌}
+use Rattle.std.proofs.Common.{◌≡◌, ℕ, zero, suc, List, [], ◌∷◌, Option, Some, None, Bool, true, false, refl, ap, sym, ◌∙◌, eqb-true}
+use Rattle.std.specs.Prelude.{ℤ, ◌==◌, ◌&&◌, not, is_none, if◌then◌else◌}
 use Rattle.std.specs.Str.{bytes_eq}
 use Rattle.std.proofs.lemmas.Bool.{and_parts}
 use Rattle.jz_tree.proofs.Texts.{bytes_eq-true}
@@ -14,7 +14,7 @@ use Rattle.jz_meaning.specs.Statements.{no_cells, without, all_unset}
 use Rattle.jz_meaning.specs.Values.{Ref, key_of, cell_key, ref_of}
 use Rattle.jz_unroll.specs.Values.{InlineNames, is_inline_var}
 use Rattle.jz_unroll.specs.Unrolling.{with_number, all_unknown, marked_vars, KnowsLess}
-use Rattle.jz_unroll.specs.ValueLaws.{HoldsKnown, DiffersInline, KnowsInline, StandsFor}
+use Rattle.jz_unroll.specs.ValueLaws.{HoldsKnown, KnowsInline, StandsFor}
 
 -- ---- keys
 
