@@ -1,0 +1,5 @@
+pub mod Elements
+pub mod Seating
+pub mod Counting
+pub mod Holders
+pub mod Searching

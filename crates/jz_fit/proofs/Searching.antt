@@ -1,0 +1,101 @@
+-- Where a need stands among needs in order.
+use Rattle.std.proofs.Common.{◌≡◌, ℕ, zero, suc, ◌+◌, ◌<◌, ◌≤◌, ◌⊎◌, inl, inr, Bool, true, false, List, [], ◌∷◌, ◌++◌, IsTrue, length, get_or, take, drop, nat_eq, nat_lt, refl, sym, ap, ◌∙◌, subst, arith}
+use Rattle.std.specs.Prelude.{if◌then◌else◌}
+use Rattle.std.specs.List.{All, AllPairs}
+use Rattle.std.proofs.lemmas.Bool.{lt-ltb, ltb-true}
+use Rattle.std.proofs.lemmas.Bool.Decides.{eqb_tells}
+use Rattle.std.proofs.lemmas.List.Kept.{AllPairs-cons}
+use Rattle.std.proofs.lemmas.List.Elements.{All-nil, All-cons, All-weaker}
+use Rattle.jz_ir.specs.declared.code.Need.{Need}
+use Rattle.jz_ir.specs.Order.{number_of}
+use Rattle.jz_alloc.specs.declared.needs.Needed.{Needed}
+use Rattle.jz_alloc.specs.Needs.{need_before, needed_by}
+use Rattle.jz_alloc.specs.InnerNeeds.{insert_need, add_needs}
+use Rattle.jz_fit.specs.InnerAnswers.{Ascend}
+
+-- ---- what is before stays before
+abbrev Lexical : (l c p l' c' p' : ℕ) → Type 0
+Lexical l c p l' c' p' = (l < l') ⊎ ((l ≡ l') × ((c < c') ⊎ ((c ≡ c') × (p < p'))))
+
+abbrev lexical : (l c p l' c' p' : ℕ) → Bool
+lexical l c p l' c' p' = if nat_eq l l' then (if nat_eq c c' then nat_lt p p' else nat_lt c c') else nat_lt l l'
+
+to_lexical : (l c p l' c' p' : ℕ) → IsTrue (lexical l c p l' c' p') → Lexical l c p l' c' p'
+to_lexical l c p l' c' p' h = elim (eqb_tells l l') [
+  | inl x ↦ elim (eqb_tells c c') [
+    | inl y ↦ (let e = rw (x.1, y.1) at h in inr (x.0, inr (y.0, ltb-true p p' e)))
+    | inr y ↦ (let e = rw (x.1, y.1) at h in inr (x.0, inl (ltb-true c c' e)))
+  ]
+  | inr x ↦ (let e = rw x.1 at h in inl (ltb-true l l' e))
+]
+
+unequal : (x y : ℕ) → x < y → nat_eq x y ≡ false
+unequal x y l = elim (eqb_tells x y) [ inl p ↦ absurd (omega (arith, p.1, l)) | inr p ↦ p.0 ]
+
+equal : (x y : ℕ) → x ≡ y → nat_eq x y ≡ true
+equal x y e = elim (eqb_tells x y) [ inl p ↦ p.0 | inr p ↦ absurd (p.1 e) ]
+
+from_lexical : (l c p l' c' p' : ℕ) → Lexical l c p l' c' p' → IsTrue (lexical l c p l' c' p')
+from_lexical l c p l' c' p' (inl x) = rw (unequal l l' x) (lt-ltb l l' x)
+from_lexical l c p l' c' p' (inr (e, inl x)) = rw (equal l l' e, unequal c c' x) (lt-ltb c c' x)
+from_lexical l c p l' c' p' (inr (e, inr (f, x))) = rw (equal l l' e, equal c c' f) (lt-ltb p p' x)
+
+lexical_on : {l c p l' c' p' l2 c2 p2 : ℕ} → Lexical l c p l' c' p' → Lexical l' c' p' l2 c2 p2 → Lexical l c p l2 c2 p2
+lexical_on (inl x) (inl y) = inl (omega (arith, x, y))
+lexical_on (inl x) (inr y) = inl (omega (arith, x, y.0))
+lexical_on (inr x) (inl y) = inl (omega (arith, x.0, y))
+lexical_on (inr (e, inl x)) (inr (f, inl y)) = inr (e ∙ f, inl (omega (arith, x, y)))
+lexical_on (inr (e, inl x)) (inr (f, inr y)) = inr (e ∙ f, inl (omega (arith, x, y.0)))
+lexical_on (inr (e, inr x)) (inr (f, inl y)) = inr (e ∙ f, inl (omega (arith, x.0, y)))
+lexical_on (inr (e, inr x)) (inr (f, inr y)) = inr (e ∙ f, inr (x.0 ∙ y.0, omega (arith, x.1, y.1)))
+
+before_on : (a b c : Needed) → IsTrue (need_before a b) → IsTrue (need_before b c) → IsTrue (need_before a c)
+before_on a b c h k = from_lexical _ _ _ _ _ _ (lexical_on (to_lexical a.span.line a.span.col (number_of a.place) b.span.line b.span.col (number_of b.place) h) (to_lexical b.span.line b.span.col (number_of b.place) c.span.line c.span.col (number_of c.place) k))
+
+-- ---- lists in order
+abbrev Before : Needed → Needed → Type 0
+Before a b = IsTrue (need_before a b)
+
+pub nothing_ascends : Ascend []
+nothing_ascends i j d l k = absurd (omega (arith, k))
+
+rest_ascends : (x : Needed) (xs : List Needed) → Ascend (x ∷ xs) → Ascend xs
+rest_ascends x xs a i j d l k = a (suc i) (suc j) d (omega (arith, l)) (omega (arith, k))
+
+first_before : (x : Needed) (xs : List Needed) → Ascend (x ∷ xs) → All (Before x) xs
+first_before x xs a i d l = a 0 (suc i) d (omega arith) (omega (arith, l))
+
+insert_all : (P : Needed → Type 0) (n : Needed) (xs : List Needed) → P n → All P xs → All P (insert_need n xs)
+insert_all P n [] h a = All-cons P n [] h (All-nil P)
+insert_all P n (x ∷ xs) h a = go (need_before x n) (need_before n x) (insert_all P n xs h (λ i d l. a (suc i) d (omega arith)))
+  where
+    go : (b c : Bool) → All P (insert_need n xs) → All P (if b then x ∷ insert_need n xs else (if c then n ∷ (x ∷ xs) else x ∷ xs))
+    go true c r = All-cons P x (insert_need n xs) (a 0 x (omega arith)) r
+    go false true r = All-cons P n (x ∷ xs) h a
+    go false false r = a
+
+pub insert_ascends : (n : Needed) (xs : List Needed) → Ascend xs → Ascend (insert_need n xs)
+insert_ascends n [] a = AllPairs-cons Before n [] (All-nil (Before n)) nothing_ascends
+insert_ascends n (x ∷ xs) a = go (need_before x n) (need_before n x) refl refl (insert_ascends n xs (rest_ascends x xs a))
+  where
+    go : (b c : Bool) → need_before x n ≡ b → need_before n x ≡ c → Ascend (insert_need n xs) → Ascend (if b then x ∷ insert_need n xs else (if c then n ∷ (x ∷ xs) else x ∷ xs))
+    go true c e f k = AllPairs-cons Before x (insert_need n xs) (insert_all (Before x) n xs e (first_before x xs a)) k
+    go false true e f k = AllPairs-cons Before n (x ∷ xs) (All-cons (Before n) x xs f (All-weaker (Before x) (Before n) (λ m h. before_on n x m f h) xs (first_before x xs a))) a
+    go false false e f k = a
+
+-- ---- behind one that stands before the need
+pub behind : (n : Needed) (xs : List Needed) (m : ℕ) (y : Needed) → Ascend xs → m < length xs → y ≡ get_or xs m y → IsTrue (need_before y n) → insert_need n xs ≡ take (m + 1) xs ++ insert_need n (drop (m + 1) xs)
+behind n [] m y a lt e h = absurd (omega (arith, lt))
+behind n (x ∷ xs) zero y a lt e h = let t : need_before x n ≡ true = subst (λ z. IsTrue (need_before z n)) e h in rw t refl
+behind n (x ∷ xs) (suc m) y a lt e h =
+    let t : need_before x n ≡ true = before_on x y n (subst (λ z. Before x z) (sym e) (first_before x xs a m y (omega (arith, lt)))) h in
+    rw t (ap (λ z. x ∷ z) (behind n xs m y (rest_ascends x xs a) (omega (arith, lt)) e h))
+
+-- ---- needs of one operation after another
+pub adds_ascend : (v : ℕ) (ks : List Need) (ns : List Needed) → Ascend ns → Ascend (add_needs v ks ns)
+adds_ascend v [] ns a = a
+adds_ascend v (k ∷ ks) ns a = adds_ascend v ks _ (go (nat_eq k.variable v))
+  where
+    go : (b : Bool) → Ascend (if b then insert_need (needed_by k) ns else ns)
+    go true = insert_ascends (needed_by k) ns a
+    go false = a

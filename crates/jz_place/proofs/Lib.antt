@@ -1,0 +1,4 @@
+pub mod Bodies
+pub mod Flows
+pub mod Codes
+pub mod Sorted

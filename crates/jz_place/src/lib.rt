@@ -1,0 +1,15 @@
+//! Bodies of operations over variables: what the placing of variables sees of them, and their
+//! instructions where each variable has a place.
+#![tactic(auto)]
+
+mod flow;
+mod laws;
+mod place;
+mod placed;
+mod tree;
+
+pub use flow::branching;
+pub use laws::sorted_bodies_are_suited;
+pub use place::place;
+pub use placed::{PlacedNode, PlacedTest};
+pub use tree::{Ir, Node, Passed, Test};
