@@ -40,25 +40,41 @@ module _ (places : List (Option ℕ)) (q : ℕ) where
     | inl b ↦ h w b s
     | inr e ↦ n (subst (λ y. SeatIs places y q) (sym e) s)
   ]
-  seated_same front x (Some u) n h = (in_front front x u h.0, h.1, λ w l a s. elim (in_last front x w a) [
-    | inl b ↦ h.2 w l b s
-    | inr e ↦ n (subst (λ y. SeatIs places y q) (sym e) s)
-  ])
+  seated_same front x (Some u) n h = (
+    in_front front x u h.0,
+    h.1,
+    λ w l a s. elim (in_last front x w a) [
+      | inl b ↦ h.2 w l b s
+      | inr e ↦ n (subst (λ y. SeatIs places y q) (sym e) s)
+    ],
+  )
 
   -- one more that has it
   pub seated_more : (front : List ℕ) (x : ℕ) (first : Option ℕ) (r : ℕ) → SeatIs places x q → IsEarlier first x r → IsFirstSeated front places q first → IsFirstSeated (front ++ x ∷ []) places q (Some r)
-  seated_more front x None r s e h = subst (λ y. IsFirstSeated (front ++ x ∷ []) places q (Some y)) (sym e) (at_last front x, s, λ w l a t. elim (in_last front x w a) [
-    | inl b ↦ h w b t
-    | inr g ↦ omega (arith, g, l)
-  ])
-  seated_more front x (Some u) r s (inl (lt, e)) h = subst (λ y. IsFirstSeated (front ++ x ∷ []) places q (Some y)) (sym e) (in_front front x u h.0, h.1, λ w l a t. elim (in_last front x w a) [
-    | inl b ↦ h.2 w l b t
-    | inr g ↦ omega (arith, g, l, lt)
-  ])
-  seated_more front x (Some u) r s (inr (le, e)) h = subst (λ y. IsFirstSeated (front ++ x ∷ []) places q (Some y)) (sym e) (at_last front x, s, λ w l a t. elim (in_last front x w a) [
-    | inl b ↦ h.2 w (omega (arith, l, le)) b t
-    | inr g ↦ omega (arith, g, l)
-  ])
+  seated_more front x None r s e h = subst (λ y. IsFirstSeated (front ++ x ∷ []) places q (Some y)) (sym e) (
+    at_last front x,
+    s,
+    λ w l a t. elim (in_last front x w a) [
+      | inl b ↦ h w b t
+      | inr g ↦ omega (arith, g, l)
+    ],
+  )
+  seated_more front x (Some u) r s (inl (lt, e)) h = subst (λ y. IsFirstSeated (front ++ x ∷ []) places q (Some y)) (sym e) (
+    in_front front x u h.0,
+    h.1,
+    λ w l a t. elim (in_last front x w a) [
+      | inl b ↦ h.2 w l b t
+      | inr g ↦ omega (arith, g, l, lt)
+    ],
+  )
+  seated_more front x (Some u) r s (inr (le, e)) h = subst (λ y. IsFirstSeated (front ++ x ∷ []) places q (Some y)) (sym e) (
+    at_last front x,
+    s,
+    λ w l a t. elim (in_last front x w a) [
+      | inl b ↦ h.2 w (omega (arith, l, le)) b t
+      | inr g ↦ omega (arith, g, l)
+    ],
+  )
 
 -- ---- who keeps the variable at one operation
 module _ (op : Op) (after : List ℕ) (places : List (Option ℕ)) (v q : ℕ) where
@@ -97,28 +113,40 @@ module _ (op : Op) (after : List ℕ) (places : List (Option ℕ)) (v q : ℕ) w
   who None None u h g e = absurd cc
   who None (Some y) u h g e =
       let s : y ≡ u = cc in
-      subst (λ x. WhoAt op after places v q (Some (Some x))) s (by_beside y g, λ w l (t, d). elim d [
-        | inl p ↦ first_if (among after v) op.writes y w g l p.0 t
-        | inr p ↦ none_behind w h p.0 p.1 t
-      ])
+      subst (λ x. WhoAt op after places v q (Some (Some x))) s (
+        by_beside y g,
+        λ w l (t, d). elim d [
+          | inl p ↦ first_if (among after v) op.writes y w g l p.0 t
+          | inr p ↦ none_behind w h p.0 p.1 t
+        ],
+      )
   who (Some x) None u h g (w, e, f) =
       let s : x ≡ u = cc in
-      subst (λ z. WhoAt op after places v q (Some (Some z))) s (by_behind x h, λ w l (t, d). elim d [
-        | inl p ↦ none_beside w g p.1 p.0 t
-        | inr p ↦ first_if (among op.writes v) after x w h l p.1 t
-      ])
+      subst (λ z. WhoAt op after places v q (Some (Some z))) s (
+        by_behind x h,
+        λ w l (t, d). elim d [
+          | inl p ↦ none_beside w g p.1 p.0 t
+          | inr p ↦ first_if (among op.writes v) after x w h l p.1 t
+        ],
+      )
   who (Some x) (Some y) u h g (w, e, inl (lt, f)) =
       let s : y ≡ u = cc in
-      subst (λ z. WhoAt op after places v q (Some (Some z))) s (by_beside y g, λ w l (t, d). elim d [
-        | inl p ↦ first_if (among after v) op.writes y w g l p.0 t
-        | inr p ↦ first_if (among op.writes v) after x w h (omega (arith, l, lt)) p.1 t
-      ])
+      subst (λ z. WhoAt op after places v q (Some (Some z))) s (
+        by_beside y g,
+        λ w l (t, d). elim d [
+          | inl p ↦ first_if (among after v) op.writes y w g l p.0 t
+          | inr p ↦ first_if (among op.writes v) after x w h (omega (arith, l, lt)) p.1 t
+        ],
+      )
   who (Some x) (Some y) u h g (w, e, inr (le, f)) =
       let s : x ≡ u = cc in
-      subst (λ z. WhoAt op after places v q (Some (Some z))) s (by_behind x h, λ w l (t, d). elim d [
-        | inl p ↦ first_if (among after v) op.writes y w g (omega (arith, l, le)) p.0 t
-        | inr p ↦ first_if (among op.writes v) after x w h l p.1 t
-      ])
+      subst (λ z. WhoAt op after places v q (Some (Some z))) s (
+        by_behind x h,
+        λ w l (t, d). elim d [
+          | inl p ↦ first_if (among after v) op.writes y w g (omega (arith, l, le)) p.0 t
+          | inr p ↦ first_if (among op.writes v) after x w h l p.1 t
+        ],
+      )
 
   -- by what the code computed
   pub who_is : (wb lb : Bool) (a b : Option ℕ) (u : ℕ) → wb ≡ among op.writes v → lb ≡ among after v → IsSeatedIf wb after places q a → IsSeatedIf lb op.writes places q b → IsLower a b (Some u) → WhoAt op after places v q (Some (Some u))

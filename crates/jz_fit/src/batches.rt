@@ -41,10 +41,7 @@ pub(crate) fn reaches_of(
     ops: &[Op],
     count: usize,
 ) -> Result<Vec<Reach>, AllocError> {
-    let none = Reach {
-        first: 0,
-        end: 0,
-    };
+    let none = Reach { first: 0, end: 0 };
     let mut reaches = vec![in alloc; none; count]?;
     for i in 0..ops.len() {
         reach_more(&mut reaches, &ops[i].reads, i);

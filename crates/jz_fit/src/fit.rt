@@ -101,11 +101,7 @@ fn place_batch(
 
 /// Places the variables of the order. They are taken in batches of which few are live at once, so
 /// that the lists of what is live stay short.
-pub(crate) fn place_all(
-    alloc: Global,
-    table: &Table<'_>,
-    order: &[u32],
-) -> Result<Fit, AllocError>
+pub(crate) fn place_all(alloc: Global, table: &Table<'_>, order: &[u32]) -> Result<Fit, AllocError>
     requires table { IsTable table.now }
     requires order { All (λ v. v < length table.now.code.now.kinds) order.now }
     requires distinct { IsDistinct order.now }

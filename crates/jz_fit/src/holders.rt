@@ -35,23 +35,12 @@ fn earlier(first: Option<u32>, variable: u32) -> u32
 {
     match first {
         None => variable,
-        Some(other) => {
-            if other < variable {
-                other
-            } else {
-                variable
-            }
-        }
+        Some(other) => { if other < variable { other } else { variable } }
     }
 }
 
 /// The first declared that has the place, where one variable comes behind those that were asked.
-fn next_seated(
-    first: Option<u32>,
-    variable: u32,
-    places: &[Option<u8>],
-    place: u8,
-) -> Option<u32>
+fn next_seated(first: Option<u32>, variable: u32, places: &[Option<u8>], place: u8) -> Option<u32>
     ensures { (front : List ℕ) → IsFirstSeated front places.now place first
         → IsFirstSeated (front ++ variable ∷ []) places.now place result }
 {
@@ -74,12 +63,7 @@ fn first_seated(variables: &Seq<u32>, places: &[Option<u8>], place: u8) -> Optio
 }
 
 /// The first declared of the variables that have the place, where that is asked.
-fn seated_if(
-    asked: bool,
-    variables: &Seq<u32>,
-    places: &[Option<u8>],
-    place: u8,
-) -> Option<u32>
+fn seated_if(asked: bool, variables: &Seq<u32>, places: &[Option<u8>], place: u8) -> Option<u32>
     ensures { IsSeatedIf asked variables.now places.now place result }
 {
     if !asked {

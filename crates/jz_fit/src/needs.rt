@@ -75,11 +75,7 @@ fn add_all(needs: &mut Vec<Needed>, all: &Seq<Need>, variable: u32) -> Result<()
 }
 
 /// Each need of a variable once, in the order of the text.
-pub(crate) fn needs_of(
-    alloc: Global,
-    ops: &[Op],
-    variable: u32,
-) -> Result<Seq<Needed>, AllocError>
+pub(crate) fn needs_of(alloc: Global, ops: &[Op], variable: u32) -> Result<Seq<Needed>, AllocError>
     ensures { IfOk result (λ needs. needs ≡ need_list variable ops.now []) }
 {
     let mut needs = Vec::new(alloc);

@@ -158,13 +158,7 @@ fn add_to_row(
 }
 
 /// Gives the variable the place.
-pub(crate) fn take_seat(
-    seats: &mut Seats,
-    spots: &Spots,
-    variable: usize,
-    place: u8,
-    count: usize,
-)
+pub(crate) fn take_seat(seats: &mut Seats, spots: &Spots, variable: usize, place: u8, count: usize)
     requires variable { variable < length seats.old.places.items }
     requires lists { HasLists (length seats.old.places.items) spots.now }
     requires rows { HasRows seats.old }

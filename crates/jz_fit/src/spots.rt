@@ -51,11 +51,7 @@ fn empty_lists(alloc: Global, count: usize) -> Result<Vec<Seq<usize>>, AllocErro
 }
 
 /// For each variable the operations that write it.
-fn write_lists(
-    alloc: Global,
-    ops: &[Op],
-    count: usize,
-) -> Result<Vec<Seq<usize>>, AllocError>
+fn write_lists(alloc: Global, ops: &[Op], count: usize) -> Result<Vec<Seq<usize>>, AllocError>
     requires { All (Below count) ops.now }
     ensures rows { IfOk result (λ lists. length lists.items ≡ count) }
     ensures tells { IfOk result (λ lists. (v i : ℕ) → v < count → among (list_at lists.items v) i
@@ -127,11 +123,7 @@ fn cross_lists(
 {
     let mut lists = empty_lists(alloc, count)?;
     for i in 0..ops.len() {
-        add_spot(
-            &mut lists,
-            &across(alloc, &after[i], &ops[i].writes)?,
-            i,
-        )?;
+        add_spot(&mut lists, &across(alloc, &after[i], &ops[i].writes)?, i)?;
     }
     Ok(lists)
 }

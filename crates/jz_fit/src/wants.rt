@@ -85,11 +85,7 @@ fn add_needs(wants: &mut Vec<Wanted>, needs: &Seq<Need>)
 }
 
 /// What the needs of each variable leave it.
-pub(crate) fn wants_of(
-    alloc: Global,
-    ops: &[Op],
-    count: usize,
-) -> Result<Vec<Wanted>, AllocError>
+pub(crate) fn wants_of(alloc: Global, ops: &[Op], count: usize) -> Result<Vec<Wanted>, AllocError>
     requires { All (Below count) ops.now }
     ensures count { IfOk result (λ wants. length wants.items ≡ count) }
     ensures fits { IfOk result (λ wants. (v q : ℕ) → v < count

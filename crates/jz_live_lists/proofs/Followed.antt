@@ -151,9 +151,7 @@ live_only f t i v lt = go (has f v) refl
   where
     lt' : i < length (states (only_tree f t) [])
     lt' = omega (arith, count_only f t, lt)
-
     here = live_is v t i lt
-
     there = live_is v (only_tree f t) i lt'
 
     nowhere : has f v ≡ false → get_or (live_after_each v (only_tree f t) false) i false ≡ false

@@ -40,11 +40,7 @@ fn narrow_op(alloc: Global, op: &Op, followed: &Bits) -> Result<Op, AllocError>
     })
 }
 
-fn narrow_test(
-    alloc: Global,
-    test: &Option<Op>,
-    followed: &Bits,
-) -> Result<Option<Op>, AllocError>
+fn narrow_test(alloc: Global, test: &Option<Op>, followed: &Bits) -> Result<Option<Op>, AllocError>
     ensures { IfOk result (λ made. made ≡ only_test followed.now test.now) }
 {
     match test {
@@ -58,11 +54,7 @@ fn narrow_test(
 
 /// The block with what it reads and writes of the followed variables.
 #[cycle(narrow)]
-fn narrow_block(
-    alloc: Global,
-    nodes: &Seq<Node>,
-    followed: &Bits,
-) -> Result<Seq<Node>, AllocError>
+fn narrow_block(alloc: Global, nodes: &Seq<Node>, followed: &Bits) -> Result<Seq<Node>, AllocError>
     ensures { IfOk result (λ made. tree_of made ≡ only_tree followed.now (tree_of nodes.now)) }
 {
     let mut made = Seq::new(alloc);

@@ -1,5 +1,5 @@
 -- Bodies one behind another.
-use Rattle.std.proofs.Common.{◌≡◌, ℕ, zero, suc, ◌+◌, ◌≤◌, ◌<◌, List, [], ◌∷◌, ◌++◌, length, get_or, take, refl, sym, ap, ◌∙◌, subst, arith}
+use Rattle.std.proofs.Common.{◌≡◌, ℕ, zero, suc, ◌+◌, ◌≤◌, ◌<◌, Bool, List, [], ◌∷◌, ◌++◌, length, get_or, take, refl, sym, ap, ◌∙◌, subst, arith}
 use Rattle.std.proofs.lemmas.List.{take_more}
 use Rattle.jz_runs.specs.Trees.{Tree, done, op, quiet, choose, loop, each, call}
 use Rattle.jz_operations.specs.declared.operation.Operation.{Operation}
@@ -60,7 +60,7 @@ do_is o = ap (λ z. then_body z done) (sym (rolls-Do o)) ∙ ap (λ f. f done) (
 pub if_is : (t : Test) (a b : List Node) → then_body (If t a b) done ≡ choose (asked_of t) (body_of a) (body_of b) done
 if_is t a b = ap (λ z. then_body z done) (sym (rolls-If t a b)) ∙ ap (λ f. f done) (fold-roll-Node _ node_step (Node-F.If t a b))
 
-pub while_is : (q : _) (p : List Node) (t : Test) (b : List Node) → then_body (While q p t b) done ≡ loop q (body_of p) (asked_of t) (body_of b) done
+pub while_is : (q : Bool) (p : List Node) (t : Test) (b : List Node) → then_body (While q p t b) done ≡ loop q (body_of p) (asked_of t) (body_of b) done
 while_is q p t b = ap (λ z. then_body z done) (sym (rolls-While q p t b)) ∙ ap (λ f. f done) (fold-roll-Node _ node_step (Node-F.While q p t b))
 
 -- ---- how many parts there are
@@ -86,3 +86,9 @@ pub size_at : (ns : List Node) (i : ℕ) (n : Node) → i < length ns → n ≡ 
 size_at [] i n lt e = absurd (omega arith)
 size_at (x ∷ ns) zero n lt e = subst (λ z. size (then_body z done) ≤ size (body_of (x ∷ ns))) (sym e) (omega (arith, ap size (node_all x (body_of ns)), size_all (then_body x done) (body_of ns)))
 size_at (x ∷ ns) (suc i) n lt e = omega (arith, size_at ns i n (omega arith) e, ap size (node_all x (body_of ns)), size_all (then_body x done) (body_of ns))
+
+pub if_size : (t : Test) (a b : List Node) (n : Node) → n ≡ If t a b → size (then_body n done) ≡ 1 + size (body_of a) + size (body_of b) + 0
+if_size t a b n is = ap size (ap (λ z. then_body z done) is ∙ if_is t a b)
+
+pub while_size : (q : Bool) (p : List Node) (t : Test) (b : List Node) (n : Node) → n ≡ While q p t b → size (then_body n done) ≡ 1 + size (body_of p) + size (body_of b) + 0
+while_size q p t b n is = ap size (ap (λ z. then_body z done) is ∙ while_is q p t b)

@@ -1,10 +1,11 @@
 -- The instructions of bodies.
-use Rattle.std.proofs.Common.{◌≡◌, ℕ, zero, suc, ◌+◌, ◌<◌, List, [], ◌∷◌, ◌++◌, length, get_or, take, refl, sym, ap, ◌∙◌, subst, arith}
+use Rattle.std.proofs.Common.{◌≡◌, ℕ, zero, suc, ◌+◌, ◌<◌, Bool, List, [], ◌∷◌, ◌++◌, length, get_or, take, refl, sym, ap, ◌∙◌, subst, arith}
 use Rattle.x64_insn.specs.declared.types.Place.{Place}
 use Rattle.x64_insn.specs.declared.types.Insn.{Insn}
 use Rattle.jz_runs.specs.Trees.{done, op, quiet, choose, loop, each, call}
 use Rattle.jz_operations.specs.declared.operation.Operation.{Operation}
-use Rattle.jz_operations.specs.Insns.{insn_of}
+use Rattle.jz_operations.specs.Rows.{accesses}
+use Rattle.jz_operations.specs.Insns.{AllFit, insn_of}
 use Rattle.jz_placing.specs.Instructions.{Code}
 use Rattle.jz_placing.specs.Variables.{Body}
 use Rattle.jz_placing.specs.Placing.{test_for, code_of}
@@ -46,7 +47,7 @@ do_is i = ap (λ z. then_code z done) (sym (rolls-Do i)) ∙ ap (λ f. f done) (
 if_is : (t : PlacedTest) (a b : List PlacedNode) → then_code (If t a b) done ≡ choose (test_in t) (code_in a) (code_in b) done
 if_is t a b = ap (λ z. then_code z done) (sym (rolls-If t a b)) ∙ ap (λ f. f done) (fold-roll-PlacedNode _ node_step (PlacedNode-F.If t a b))
 
-while_is : (q : _) (p : List PlacedNode) (t : PlacedTest) (b : List PlacedNode) → then_code (While q p t b) done ≡ loop q (code_in p) (test_in t) (code_in b) done
+while_is : (q : Bool) (p : List PlacedNode) (t : PlacedTest) (b : List PlacedNode) → then_code (While q p t b) done ≡ loop q (code_in p) (test_in t) (code_in b) done
 while_is q p t b = ap (λ z. then_code z done) (sym (rolls-While q p t b)) ∙ ap (λ f. f done) (fold-roll-PlacedNode _ node_step (PlacedNode-F.While q p t b))
 
 module _ (places : ℕ → Place) (slots : ℕ → ℕ) where
@@ -76,7 +77,7 @@ module _ (places : ℕ → Place) (slots : ℕ → ℕ) where
       if_is x a' b' ∙ ap (λ y. choose y (code_in a') (code_in b') done) e1 ∙ ap (λ y. choose (test_for places slots (asked_of t)) y (code_in b') done) e2 ∙ ap (λ y. choose (test_for places slots (asked_of t)) (put (body_of a)) y done) e3
       ∙ ap put (sym (ap (λ z. then_body z done) is ∙ body.if_is t a b))
 
-  pub while_placed : (q : _) (p : List Node) (t : Test) (b : List Node) (p' : List PlacedNode) (x : PlacedTest) (b' : List PlacedNode) (n : Node) → n ≡ over.While q p t b → code_in p' ≡ put (body_of p) → test_in x ≡ test_for places slots (asked_of t) → code_in b' ≡ put (body_of b) → then_code (While q p' x b') done ≡ put (then_body n done)
+  pub while_placed : (q : Bool) (p : List Node) (t : Test) (b : List Node) (p' : List PlacedNode) (x : PlacedTest) (b' : List PlacedNode) (n : Node) → n ≡ over.While q p t b → code_in p' ≡ put (body_of p) → test_in x ≡ test_for places slots (asked_of t) → code_in b' ≡ put (body_of b) → then_code (While q p' x b') done ≡ put (then_body n done)
   while_placed q p t b p' x b' n is e1 e2 e3 =
       while_is q p' x b' ∙ ap (λ y. loop q y (test_in x) (code_in b') done) e1 ∙ ap (λ y. loop q (put (body_of p)) y (code_in b') done) e2 ∙ ap (λ y. loop q (put (body_of p)) (test_for places slots (asked_of t)) y done) e3
       ∙ ap put (sym (ap (λ z. then_body z done) is ∙ body.while_is q p t b))
@@ -95,3 +96,13 @@ pub fits_at : (slots : ℕ → ℕ) (ns : List Node) (i : ℕ) (n : Node) → i 
 fits_at slots [] i n lt e f = absurd (omega arith)
 fits_at slots (x ∷ ns) zero n lt e f = subst (λ z. BodyFits slots (then_body z done)) (sym e) (fits_all slots (then_body x done) (body_of ns) (subst (BodyFits slots) (body.node_all x (body_of ns)) f)).0
 fits_at slots (x ∷ ns) (suc i) n lt e f = fits_at slots ns i n (omega arith) e (fits_all slots (then_body x done) (body_of ns) (subst (BodyFits slots) (body.node_all x (body_of ns)) f)).1
+
+-- the parts of a node
+pub do_fits : (slots : ℕ → ℕ) (o : Operation) (n : Node) → n ≡ over.Do o → BodyFits slots (then_body n done) → AllFit slots (accesses o.action)
+do_fits slots o n is f = (subst (BodyFits slots) (ap (λ z. then_body z done) is ∙ body.do_is o) f).0
+
+pub if_fits : (slots : ℕ → ℕ) (t : Test) (a b : List Node) (n : Node) → n ≡ over.If t a b → BodyFits slots (then_body n done) → TestFits slots (asked_of t) × BodyFits slots (body_of a) × BodyFits slots (body_of b)
+if_fits slots t a b n is f = let z = subst (BodyFits slots) (ap (λ x. then_body x done) is ∙ body.if_is t a b) f in (z.0, z.1, z.2)
+
+pub while_fits : (slots : ℕ → ℕ) (q : Bool) (p : List Node) (t : Test) (b : List Node) (n : Node) → n ≡ over.While q p t b → BodyFits slots (then_body n done) → BodyFits slots (body_of p) × TestFits slots (asked_of t) × BodyFits slots (body_of b)
+while_fits slots q p t b n is f = let z = subst (BodyFits slots) (ap (λ x. then_body x done) is ∙ body.while_is q p t b) f in (z.0, z.1, z.2)

@@ -1,5 +1,5 @@
 -- What is seen of bodies.
-use Rattle.std.proofs.Common.{◌≡◌, ℕ, ◌+◌, ◌<◌, List, [], ◌∷◌, ◌++◌, Option, Some, None, map, length, get_or, take, refl, sym, ap, ◌∙◌, append_assoc}
+use Rattle.std.proofs.Common.{◌≡◌, ℕ, ◌+◌, ◌<◌, Bool, List, [], ◌∷◌, ◌++◌, Option, Some, None, map, length, get_or, take, refl, sym, ap, ◌∙◌, append_assoc}
 use Rattle.jz_ir.specs.declared.code.Op.{Op}
 use Rattle.jz_ir.specs.declared.code.Node.{Node}
 use Rattle.jz_ir.specs.declared.code.Node.TheOpen.{Node-F}
@@ -64,7 +64,7 @@ if_seen t a b x a' b' n is e1 e2 e3 =
     if_is x a' b' ∙ ap (λ y. ir.choose y (tree_of a') (tree_of b') ir.done) e1 ∙ ap (λ y. ir.choose (asked_op (test_of (asked_of t))) y (tree_of b') ir.done) e2 ∙ ap (λ y. ir.choose (asked_op (test_of (asked_of t))) (stream (body_of a) ir.done) y ir.done) e3
     ∙ ap (λ s. stream s ir.done) (sym (ap (λ z. then_body z done) is ∙ body.if_is t a b))
 
-pub while_seen : (q : _) (p : List over.Node) (t : Test) (b : List over.Node) (p' : List Node) (x : Option Op) (b' : List Node) (n : over.Node) → n ≡ over_node.While q p t b → tree_of p' ≡ stream (body_of p) ir.done → x ≡ test_of (asked_of t) → tree_of b' ≡ stream (body_of b) ir.done → then_tree (node.While p' x b') ir.done ≡ stream (then_body n done) ir.done
+pub while_seen : (q : Bool) (p : List over.Node) (t : Test) (b : List over.Node) (p' : List Node) (x : Option Op) (b' : List Node) (n : over.Node) → n ≡ over_node.While q p t b → tree_of p' ≡ stream (body_of p) ir.done → x ≡ test_of (asked_of t) → tree_of b' ≡ stream (body_of b) ir.done → then_tree (node.While p' x b') ir.done ≡ stream (then_body n done) ir.done
 while_seen q p t b p' x b' n is e1 e2 e3 =
     while_is p' x b' ∙ ap (λ y. ir.loop y x (tree_of b') ir.done) e1 ∙ ap (λ y. ir.loop (stream (body_of p) ir.done) y (tree_of b') ir.done) e2 ∙ ap (λ y. ir.loop (stream (body_of p) ir.done) (test_of (asked_of t)) y ir.done) e3
     ∙ ap (λ s. stream s ir.done) (sym (ap (λ z. then_body z done) is ∙ body.while_is q p t b))

@@ -2,3 +2,4 @@ pub mod Bodies
 pub mod Flows
 pub mod Codes
 pub mod Sorted
+pub mod Allocated

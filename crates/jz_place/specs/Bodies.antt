@@ -2,6 +2,7 @@
 use Rattle.std.specs.Prelude.{ℕ, List, [], ◌∷◌, map}
 use Rattle.x64_insn.specs.declared.types.Place.TheVariants as place
 use Rattle.jz_ir.specs.declared.code.Code.{Code}
+use Rattle.jz_ir.specs.declared.code.Need.{Need}
 use Rattle.jz_ir.specs.declared.code.Op.{Op}
 use Rattle.jz_ir.specs.Tree as ir
 use Rattle.jz_runs.specs.Trees.{done, op, choose, loop}
@@ -37,17 +38,20 @@ abbrev pub body_of : List Node → Body
 body_of ns = in_order (map then_body ns)
 
 -- ---- what is seen of it: the entry writes the parameters, and the return reads the results
+abbrev pub need_by : Passed → Need
+need_by p = record {
+  variable = p.variable.variable;
+  place = place.Reg p.reg;
+  span = p.variable.span;
+}
+
 abbrev pub entry_op : Passed → Op
 entry_op p = record {
   span = p.variable.span;
   reads = [];
   writes = p.variable.variable ∷ [];
   fixed = [];
-  needs = record {
-    variable = p.variable.variable;
-    place = place.Reg p.reg;
-    span = p.variable.span;
-  } ∷ [];
+  needs = need_by p ∷ [];
 }
 
 abbrev pub return_op : Passed → Op
@@ -56,11 +60,7 @@ return_op p = record {
   reads = p.variable.variable ∷ [];
   writes = [];
   fixed = [];
-  needs = record {
-    variable = p.variable.variable;
-    place = place.Reg p.reg;
-    span = p.variable.span;
-  } ∷ [];
+  needs = need_by p ∷ [];
 }
 
 abbrev pub returns_of : Ir → ir.Tree

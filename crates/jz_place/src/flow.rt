@@ -7,7 +7,8 @@ ghost use Rattle.jz_runs.specs.Trees as body;
 ghost use Rattle.jz_operations.specs.Reading.{flag_read, seen_of};
 ghost use Rattle.jz_placing.specs.Flow.{asked_op, flow};
 ghost use Rattle.jz_placing.specs.Variables.{test_seen, test_of};
-ghost use Rattle.jz_place.specs.Bodies.{asked_of, then_body, body_of, entry_op, return_op, whole_of};
+ghost use Rattle.jz_place.specs.Bodies.{asked_of, then_body, body_of, need_by};
+ghost use Rattle.jz_place.specs.Bodies.{entry_op, return_op, whole_of};
 
 use crate::tree::{Ir, Node, Passed, Test};
 use jz_data::Seq;
@@ -131,7 +132,9 @@ fn seen_node(alloc: Global, node: &Node) -> Result<jz_ir::Node, AllocError>
     }
 }
 
-fn need_of(passed: Passed) -> Need {
+fn need_of(passed: Passed) -> Need
+    ensures { result ≡ need_by passed }
+{
     Need {
         variable: passed.variable.variable,
         place: Place::Reg(passed.reg),
@@ -159,13 +162,13 @@ fn returning(alloc: Global, passed: Passed) -> Result<Op, AllocError>
     ensures { IfOk result (λ op. op ≡ return_op passed) }
 {
     let reads = Seq::from_slice(alloc, &[passed.variable.variable])?;
-    let needs = Seq::from_slice(alloc, &[need_of(passed)])?;
+    let wanted = Seq::from_slice(alloc, &[need_of(passed)])?;
     Ok(Op {
         span: passed.variable.span,
         reads,
         writes: Seq::new(alloc),
         fixed: Seq::new(alloc),
-        needs,
+        needs: wanted,
     })
 }
 

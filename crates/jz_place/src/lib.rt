@@ -2,12 +2,14 @@
 //! instructions where each variable has a place.
 #![tactic(auto)]
 
+mod allocation;
 mod flow;
 mod laws;
 mod place;
 mod placed;
 mod tree;
 
+pub use allocation::places_of;
 pub use flow::branching;
 pub use laws::sorted_bodies_are_suited;
 pub use place::place;

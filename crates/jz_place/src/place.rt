@@ -48,11 +48,7 @@ fn place_block(
 }
 
 #[cycle(place)]
-fn place_node(
-    alloc: Global,
-    places: &Places<'_>,
-    node: &Node,
-) -> Result<PlacedNode, AllocError>
+fn place_node(alloc: Global, places: &Places<'_>, node: &Node) -> Result<PlacedNode, AllocError>
     requires { BodyFits (slots_in places.now) (then_body node.now done) }
     ensures { IfOk result (λ made. then_code made done
         ≡ code_of (places_in places.now) (slots_in places.now) (then_body node.now done)) }
@@ -76,11 +72,7 @@ fn place_node(
 
 /// The instructions of the body: each variable is its place, and each cell of a stack variable one
 /// of the frame. With places that meet the rule of placing, the instructions do what the body does.
-pub fn place(
-    alloc: Global,
-    ir: &Ir,
-    places: &Places<'_>,
-) -> Result<Seq<PlacedNode>, AllocError>
+pub fn place(alloc: Global, ir: &Ir, places: &Places<'_>) -> Result<Seq<PlacedNode>, AllocError>
     requires { BodyFits (slots_in places.now) (body_of ir.now.body) }
     ensures code { IfOk result (λ placed. code_in placed
         ≡ code_of (places_in places.now) (slots_in places.now) (body_of ir.now.body)) }

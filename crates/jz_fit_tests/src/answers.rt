@@ -1,0 +1,163 @@
+//! The answer of a row.
+
+ghost use Rattle.std.specs.Prelude.{◌<◌, ◌^◌, length};
+ghost use Rattle.jz_ir.specs.Places.{IsWithin};
+ghost use Rattle.jz_fit.specs.Branches.{code_of};
+
+use crate::names::{PLACES, letter_of, name_of};
+use crate::reading::code_of;
+use jz_alloc::{Holder, Needed, NoPlace};
+use jz_data::{Failure, Seq};
+use jz_fit::{Branching, allocate};
+use jz_ir::{Kind, are_below};
+use jz_live_lists::{flat_ops, live};
+use std::alloc::{AllocError, Global};
+use x64_insn::Place;
+
+fn kinds_of(alloc: Global, letters: &[u8]) -> Result<Seq<Kind>, AllocError> {
+    let mut kinds = Seq::new(alloc);
+    for letter in letters {
+        if letter.is_ascii_uppercase() {
+            kinds.push(Kind::Flag)?;
+        } else {
+            kinds.push(Kind::Word)?;
+        }
+    }
+    Ok(kinds)
+}
+
+fn all_places(alloc: Global) -> Result<Seq<Place>, AllocError> {
+    let mut places = Seq::new(alloc);
+    for (_, place) in PLACES {
+        places.push(place)?;
+    }
+    Ok(places)
+}
+
+fn is_among(variables: &Seq<u32>, variable: u32) -> bool {
+    for other in variables.as_slice() {
+        if *other == variable {
+            return true;
+        }
+    }
+    false
+}
+
+/// The letters of what is live, in the order of declaration.
+fn add_letters(text: &mut String, letters: &[u8], row: &Seq<u32>) -> Result<(), AllocError> {
+    text.push(' ')?;
+    if row.is_empty() {
+        text.push('-')?;
+    }
+    let mut number: u32 = 0;
+    for letter in letters {
+        if is_among(row, number) {
+            text.push(char::from(*letter))?;
+        }
+        number = number.saturating_add(1);
+    }
+    Ok(())
+}
+
+fn add_live(text: &mut String, letters: &[u8], rows: &[Seq<u32>]) -> Result<(), AllocError> {
+    text.push_str(" live")?;
+    for row in rows {
+        add_letters(text, letters, row)?;
+    }
+    text.push(';')
+}
+
+fn add_places(text: &mut String, places: &Seq<Place>) -> Result<(), AllocError> {
+    text.push_str(" at")?;
+    for place in places.as_slice() {
+        text.push(' ')?;
+        text.push_str(name_of(*place))?;
+    }
+    Ok(())
+}
+
+fn add_needs(alloc: Global, text: &mut String, needs: &Seq<Needed>) -> Result<(), AllocError> {
+    text.push_str(" needs")?;
+    if needs.is_empty() {
+        text.push_str(" -")?;
+    }
+    for Needed { place, span } in needs.as_slice() {
+        let name = name_of(*place);
+        let line = span.line;
+        text.push_str(format!(in alloc; " {name}#{line}")?.as_str())?;
+    }
+    Ok(())
+}
+
+fn add_holders(
+    alloc: Global,
+    text: &mut String,
+    letters: &[u8],
+    holders: &Seq<Holder>,
+) -> Result<(), AllocError> {
+    text.push_str(" held")?;
+    if holders.is_empty() {
+        text.push_str(" -")?;
+    }
+    for Holder {
+        place,
+        variable,
+        span,
+    } in holders.as_slice() {
+        let name = name_of(*place);
+        let line = span.line;
+        let who = match *variable {
+            Some(number) => letter_of(letters, number),
+            None => '*',
+        };
+        text.push_str(format!(in alloc; " {name}={who}#{line}")?.as_str())?;
+    }
+    Ok(())
+}
+
+fn add_refusal(
+    alloc: Global,
+    text: &mut String,
+    letters: &[u8],
+    refusal: &NoPlace,
+) -> Result<(), AllocError> {
+    text.push_str(" no ")?;
+    text.push(letter_of(letters, refusal.variable))?;
+    add_needs(alloc, text, &refusal.needs)?;
+    add_holders(alloc, text, letters, &refusal.holders)
+}
+
+fn add_answer(
+    alloc: Global,
+    text: &mut String,
+    letters: &[u8],
+    code: &Branching,
+) -> Result<(), AllocError>
+    requires within { IsWithin (code_of code.now) }
+    requires count { length code.now.kinds < 2 ^ 32 }
+{
+    match allocate(alloc, code) {
+        Ok(places) => add_places(text, &places),
+        Err(Failure::Refused(refusal)) => add_refusal(alloc, text, letters, &refusal),
+        Err(Failure::OutOfMemory) => Err(AllocError),
+    }
+}
+
+/// Each word behind a space.
+pub fn answer(alloc: Global, question: &str) -> Result<String, AllocError> {
+    let (names, rest) = question.split_once(' ').unwrap_or((question, ""));
+    let letters = names.strip_prefix("vars:").unwrap_or("").as_bytes();
+    let code = Branching {
+        nodes: code_of(alloc, letters, rest)?,
+        kinds: kinds_of(alloc, letters)?,
+        in_use: all_places(alloc)?,
+    };
+    let mut text = String::new(alloc);
+    add_live(&mut text, letters, live(alloc, &code.nodes)?.as_slice())?;
+    let ops = flat_ops(alloc, &code.nodes)?;
+    let is_small = code.kinds.len() < 64;
+    if is_small && are_below(ops.as_slice(), code.kinds.len()) {
+        add_answer(alloc, &mut text, letters, &code)?;
+    }
+    Ok(text)
+}
