@@ -1,5 +1,5 @@
 pub mod Elements
 pub mod Seating
 pub mod Counting
-pub mod Holders
+pub mod HolderLemmas
 pub mod Searching

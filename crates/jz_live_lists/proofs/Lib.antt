@@ -1,3 +1,3 @@
 pub mod Whole
 pub mod Trees
-pub mod Followed
+pub mod FollowedLemmas

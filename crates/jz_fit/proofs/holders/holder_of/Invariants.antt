@@ -1,5 +1,5 @@
 use Rattle.jz_fit.specs.Branches.{LiveAt}
-use Rattle.jz_fit.proofs.Holders.{NoneBefore}
+use Rattle.jz_fit.proofs.HolderLemmas.{NoneBefore}
 use Rattle.jz_fit.proofs.holders.holder_of.Given as goal
 
 abbrev pub invariant-loop-i : goal.invariant-loop-i

@@ -2,7 +2,7 @@ use Rattle.std.proofs.Common.{◌≡◌, ◌∙◌, ap, ◌+◌, ◌*◌, ◌<�
 use Rattle.jz_ir.specs.Tree.{then_tree, tree_of, done}
 use Rattle.jz_live.specs.Lives.{size}
 use Rattle.jz_live.proofs.Nodes.{size_at}
-use Rattle.jz_live_lists.proofs.Followed.{one_more, if_only, while_only}
+use Rattle.jz_live_lists.proofs.FollowedLemmas.{one_more, if_only, while_only}
 use Rattle.jz_live_lists.proofs.followed.+narrow.Goals as goal
 
 pub narrow_block-narrow_node-requires : goal.narrow_block-narrow_node-requires

@@ -1,5 +1,5 @@
 use Rattle.jz_ir.specs.Tree.{tree_of}
-use Rattle.jz_live_lists.proofs.Followed.{rows_count, rows_exact}
+use Rattle.jz_live_lists.proofs.FollowedLemmas.{rows_count, rows_exact}
 use Rattle.jz_live_lists.proofs.followed.live_of.Goals as goal
 
 pub returns-clause-rows : goal.returns-clause-rows

@@ -24,25 +24,19 @@ use Rattle.jz_live_lists.proofs.Trees.{ops_are}
 -- ---- one variable among those that are kept
 among_kept : (f xs : List ℕ) (v : ℕ) → has f v ≡ true → among (filter (has f) xs) v ≡ among xs v
 among_kept f [] v h = refl
-among_kept f (x ∷ xs) v h = go (has f x) refl
+among_kept f (x ∷ xs) v h = go (among_kept f xs v h) (has f x) refl
   where
-    rest : among (filter (has f) xs) v ≡ among xs v
-    rest = among_kept f xs v h
-
-    go : (b : Bool) → has f x ≡ b → among (cond b (x ∷ filter (has f) xs) (filter (has f) xs)) v ≡ (nat_eq x v || among xs v)
-    go true e = ap (λ y. nat_eq x v || y) rest
-    go false e = rest ∙ sym (ap (λ y. y || among xs v) (false_from_ne_true (nat_eq x v) (λ t. true≢false (sym (subst (λ y. has f y ≡ true) (sym (eqb-true x v t)) h) ∙ e))))
+    go : among (filter (has f) xs) v ≡ among xs v → (b : Bool) → has f x ≡ b → among (cond b (x ∷ filter (has f) xs) (filter (has f) xs)) v ≡ (nat_eq x v || among xs v)
+    go rest true e = ap (λ y. nat_eq x v || y) rest
+    go rest false e = rest ∙ sym (ap (λ y. y || among xs v) (false_from_ne_true (nat_eq x v) (λ t. true≢false (sym (subst (λ y. has f y ≡ true) (sym (eqb-true x v t)) h) ∙ e))))
 
 none_kept : (f xs : List ℕ) (v : ℕ) → has f v ≡ false → among (filter (has f) xs) v ≡ false
 none_kept f [] v h = refl
-none_kept f (x ∷ xs) v h = go (has f x) refl
+none_kept f (x ∷ xs) v h = go (none_kept f xs v h) (has f x) refl
   where
-    rest : among (filter (has f) xs) v ≡ false
-    rest = none_kept f xs v h
-
-    go : (b : Bool) → has f x ≡ b → among (cond b (x ∷ filter (has f) xs) (filter (has f) xs)) v ≡ false
-    go true e = ap (λ y. y || among (filter (has f) xs) v) (false_from_ne_true (nat_eq x v) (λ t. true≢false (sym e ∙ subst (λ y. has f y ≡ false) (sym (eqb-true x v t)) h))) ∙ rest
-    go false e = rest
+    go : among (filter (has f) xs) v ≡ false → (b : Bool) → has f x ≡ b → among (cond b (x ∷ filter (has f) xs) (filter (has f) xs)) v ≡ false
+    go rest true e = ap (λ y. y || among (filter (has f) xs) v) (false_from_ne_true (nat_eq x v) (λ t. true≢false (sym e ∙ subst (λ y. has f y ≡ false) (sym (eqb-true x v t)) h))) ∙ rest
+    go rest false e = rest
 
 -- ---- liveness of a variable that is followed
 module _ (f : List ℕ) (v : ℕ) (h : has f v ≡ true) where
@@ -146,22 +140,28 @@ live_is v t i lt =
     let h = All-get_or IsHead (states t []) i [] lt (heads t []) in
     (λ a. after_sound v h (sym e ∙ a), λ a. e ∙ after_complete v h a)
 
+nowhere : (f : List ℕ) (v : ℕ) → has f v ≡ false → (t : Tree) (i : ℕ) → i < length (states (only_tree f t) []) → get_or (live_after_each v (only_tree f t) false) i false ≡ false
+nowhere f v e t i lt =
+    let c : length (states (only_tree f t) []) ≡ length (live_after_each v (only_tree f t) false) = sym (length-map (states (only_tree f t) []) (after_at v)) ∙ ap length (afters_are v (only_tree f t) []) in
+    All-get_or (λ b. b ≡ false) (live_after_each v (only_tree f t) false) i false (omega (arith, lt, c)) (afters_none f v e t false refl)
+
 pub live_only : (f : List ℕ) (t : Tree) (i v : ℕ) → i < length (states t []) → LiveInTree (only_tree f t) i v ↔ FollowedLive f t i v
 live_only f t i v lt = go (has f v) refl
   where
-    lt' : i < length (states (only_tree f t) [])
-    lt' = omega (arith, count_only f t, lt)
-    here = live_is v t i lt
-    there = live_is v (only_tree f t) i lt'
+    below : i < length (states (only_tree f t) [])
+    below = omega (arith, count_only f t, lt)
 
-    nowhere : has f v ≡ false → get_or (live_after_each v (only_tree f t) false) i false ≡ false
-    nowhere e = All-get_or (λ b. b ≡ false) (live_after_each v (only_tree f t) false) i false (omega (arith, lt', sym (length-map (states (only_tree f t) []) (after_at v)) ∙ ap length (afters_are v (only_tree f t) []))) (afters_none f v e (only_tree f t) false refl)
+    here : IsTrue (get_or (live_after_each v t false) i false) ↔ LiveInTree t i v
+    here = live_is v t i lt
+
+    there : IsTrue (get_or (live_after_each v (only_tree f t) false) i false) ↔ LiveInTree (only_tree f t) i v
+    there = live_is v (only_tree f t) i below
 
     go : (b : Bool) → has f v ≡ b → LiveInTree (only_tree f t) i v ↔ FollowedLive f t i v
     go true e =
         let same : get_or (live_after_each v (only_tree f t) false) i false ≡ get_or (live_after_each v t false) i false = ap (λ x. get_or x i false) (afters_kept f v e t false false refl) in
         (λ l. (e, here.0 (sym same ∙ there.1 l)), λ l. there.0 (same ∙ here.1 l.1))
-    go false e = (λ l. absurd (true≢false (sym (there.1 l) ∙ nowhere e)), λ l. absurd (true≢false (sym l.0 ∙ e)))
+    go false e = (λ l. absurd (true≢false (sym (there.1 l) ∙ nowhere f v e t i below)), λ l. absurd (true≢false (sym l.0 ∙ e)))
 
 -- ---- nodes
 -- a tree, and another behind it
