@@ -36,7 +36,7 @@ at_last xs x = last_among xs x x ∙ or_right (among xs x) (nat_eq x x || false)
 module _ (places : List (Option ℕ)) (q : ℕ) where
   -- one more that has not the place
   pub seated_same : (front : List ℕ) (x : ℕ) (first : Option ℕ) → (SeatIs places x q → ⊥) → IsFirstSeated front places q first → IsFirstSeated (front ++ x ∷ []) places q first
-  seated_same front x None n h w a s = elim (in_last front x w a) [
+  seated_same front x None n h = λ w a s. elim (in_last front x w a) [
     | inl b ↦ h w b s
     | inr e ↦ n (subst (λ y. SeatIs places y q) (sym e) s)
   ]
@@ -189,6 +189,10 @@ module _ (ops : List Op) (Live : ℕ → ℕ → Type 0) (after : List (List ℕ
 
   pub no_fixed : WhoAt (op_at ops i) (list_at after i) places v q None → TakenAt ops Live i v q → ⊥
   no_fixed h x = h.1 (fixed_here x)
+
+-- the same by equal parts
+pub who_moved : (o o' : Op) (a a' : List ℕ) (places : List (Option ℕ)) (v q : ℕ) (x : Option (Option ℕ)) → o ≡ o' → a ≡ a' → WhoAt o a places v q x → WhoAt o' a' places v q x
+who_moved o o' a a' places v q x e f h = subst (λ z. WhoAt z a' places v q x) e (subst (λ z. WhoAt o z places v q x) f h)
 
 -- what holds before the operation i, and behind it
 module _ (ops : List Op) (Live : ℕ → ℕ → Type 0) (places : List (Option ℕ)) (v q : ℕ) where

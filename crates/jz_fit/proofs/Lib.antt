@@ -3,3 +3,4 @@ pub mod Seating
 pub mod Counting
 pub mod HolderLemmas
 pub mod Searching
+pub mod Ordering

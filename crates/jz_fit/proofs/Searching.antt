@@ -1,5 +1,5 @@
 -- Where a need stands among needs in order.
-use Rattle.std.proofs.Common.{◌≡◌, ℕ, zero, suc, ◌+◌, ◌<◌, ◌≤◌, ◌⊎◌, inl, inr, Bool, true, false, List, [], ◌∷◌, ◌++◌, IsTrue, length, get_or, take, drop, nat_eq, nat_lt, refl, sym, ap, ◌∙◌, subst, arith}
+use Rattle.std.proofs.Common.{◌≡◌, ◌≢◌, ℕ, zero, suc, ◌+◌, ◌<◌, ◌≤◌, ◌⊎◌, inl, inr, Bool, true, false, List, [], ◌∷◌, ◌++◌, IsTrue, length, get_or, take, drop, nat_eq, nat_lt, refl, sym, ap, ◌∙◌, subst, arith, add-one, drop-cons}
 use Rattle.std.specs.Prelude.{if◌then◌else◌}
 use Rattle.std.specs.List.{All, AllPairs}
 use Rattle.std.proofs.lemmas.Bool.{lt-ltb, ltb-true}
@@ -7,10 +7,11 @@ use Rattle.std.proofs.lemmas.Bool.Decides.{eqb_tells}
 use Rattle.std.proofs.lemmas.List.Kept.{AllPairs-cons}
 use Rattle.std.proofs.lemmas.List.Elements.{All-nil, All-cons, All-weaker}
 use Rattle.jz_ir.specs.declared.code.Need.{Need}
+use Rattle.jz_ir.specs.declared.code.Op.{Op}
 use Rattle.jz_ir.specs.Order.{number_of}
 use Rattle.jz_alloc.specs.declared.needs.Needed.{Needed}
 use Rattle.jz_alloc.specs.Needs.{need_before, needed_by}
-use Rattle.jz_alloc.specs.InnerNeeds.{insert_need, add_needs}
+use Rattle.jz_alloc.specs.InnerNeeds.{insert_need, add_needs, need_list}
 use Rattle.jz_fit.specs.InnerAnswers.{Ascend}
 
 -- ---- what is before stays before
@@ -20,9 +21,12 @@ Lexical l c p l' c' p' = (l < l') ⊎ ((l ≡ l') × ((c < c') ⊎ ((c ≡ c') �
 abbrev lexical : (l c p l' c' p' : ℕ) → Bool
 lexical l c p l' c' p' = if nat_eq l l' then (if nat_eq c c' then nat_lt p p' else nat_lt c c') else nat_lt l l'
 
+tells : (x y : ℕ) → ((x ≡ y) × (nat_eq x y ≡ true)) ⊎ ((x ≢ y) × (nat_eq x y ≡ false))
+tells x y = elim (eqb_tells x y) [ inl p ↦ inl (p.1, p.0) | inr p ↦ inr (p.1, p.0) ]
+
 to_lexical : (l c p l' c' p' : ℕ) → IsTrue (lexical l c p l' c' p') → Lexical l c p l' c' p'
-to_lexical l c p l' c' p' h = elim (eqb_tells l l') [
-  | inl x ↦ elim (eqb_tells c c') [
+to_lexical l c p l' c' p' h = elim (tells l l') [
+  | inl x ↦ elim (tells c c') [
     | inl y ↦ (let e = rw (x.1, y.1) at h in inr (x.0, inr (y.0, ltb-true p p' e)))
     | inr y ↦ (let e = rw (x.1, y.1) at h in inr (x.0, inl (ltb-true c c' e)))
   ]
@@ -30,10 +34,10 @@ to_lexical l c p l' c' p' h = elim (eqb_tells l l') [
 ]
 
 unequal : (x y : ℕ) → x < y → nat_eq x y ≡ false
-unequal x y l = elim (eqb_tells x y) [ inl p ↦ absurd (omega (arith, p.1, l)) | inr p ↦ p.0 ]
+unequal x y l = elim (tells x y) [ inl p ↦ absurd (omega (arith, p.0, l)) | inr p ↦ p.1 ]
 
 equal : (x y : ℕ) → x ≡ y → nat_eq x y ≡ true
-equal x y e = elim (eqb_tells x y) [ inl p ↦ p.0 | inr p ↦ absurd (p.1 e) ]
+equal x y e = elim (tells x y) [ inl p ↦ p.1 | inr p ↦ absurd (p.0 e) ]
 
 from_lexical : (l c p l' c' p' : ℕ) → Lexical l c p l' c' p' → IsTrue (lexical l c p l' c' p')
 from_lexical l c p l' c' p' (inl x) = rw (unequal l l' x) (lt-ltb l l' x)
@@ -84,12 +88,16 @@ insert_ascends n (x ∷ xs) a = go (need_before x n) (need_before n x) refl refl
     go false false e f k = a
 
 -- ---- behind one that stands before the need
-pub behind : (n : Needed) (xs : List Needed) (m : ℕ) (y : Needed) → Ascend xs → m < length xs → y ≡ get_or xs m y → IsTrue (need_before y n) → insert_need n xs ≡ take (m + 1) xs ++ insert_need n (drop (m + 1) xs)
-behind n [] m y a lt e h = absurd (omega (arith, lt))
-behind n (x ∷ xs) zero y a lt e h = let t : need_before x n ≡ true = subst (λ z. IsTrue (need_before z n)) e h in rw t refl
-behind n (x ∷ xs) (suc m) y a lt e h =
+past : (n : Needed) (xs : List Needed) (m : ℕ) (y : Needed) → Ascend xs → m < length xs → y ≡ get_or xs m y → IsTrue (need_before y n) → insert_need n xs ≡ take (suc m) xs ++ insert_need n (drop (suc m) xs)
+past n [] m y a lt e h = absurd (omega (arith, lt))
+past n (x ∷ xs) zero y a lt e h = let t : need_before x n ≡ true = subst (λ z. IsTrue (need_before z n)) e h in rw t refl
+past n (x ∷ xs) (suc m) y a lt e h =
     let t : need_before x n ≡ true = before_on x y n (subst (λ z. Before x z) (sym e) (first_before x xs a m y (omega (arith, lt)))) h in
-    rw t (ap (λ z. x ∷ z) (behind n xs m y (rest_ascends x xs a) (omega (arith, lt)) e h))
+    let r : x ∷ insert_need n xs ≡ x ∷ (take (suc m) xs ++ insert_need n (drop (suc m) xs)) = ap (λ z. x ∷ z) (past n xs m y (rest_ascends x xs a) (omega (arith, lt)) e h) in
+    rw t r
+
+pub behind : (n : Needed) (xs : List Needed) (m : ℕ) (y : Needed) → Ascend xs → m < length xs → y ≡ get_or xs m y → IsTrue (need_before y n) → insert_need n xs ≡ take (m + 1) xs ++ insert_need n (drop (m + 1) xs)
+behind n xs m y a lt e h = subst (λ k. insert_need n xs ≡ take k xs ++ insert_need n (drop k xs)) (sym (add-one m)) (past n xs m y a lt e h)
 
 -- ---- needs of one operation after another
 pub adds_ascend : (v : ℕ) (ks : List Need) (ns : List Needed) → Ascend ns → Ascend (add_needs v ks ns)
@@ -99,3 +107,26 @@ adds_ascend v (k ∷ ks) ns a = adds_ascend v ks _ (go (nat_eq k.variable v))
     go : (b : Bool) → Ascend (if b then insert_need (needed_by k) ns else ns)
     go true = insert_ascends (needed_by k) ns a
     go false = a
+
+-- one need more
+pub more_needs : (v : ℕ) (ks : List Need) (i : ℕ) (d : Need) (old new all : List Needed) → i < length ks → add_needs v (drop i ks) old ≡ all → new ≡ (if nat_eq (get_or ks i d).variable v then insert_need (needed_by (get_or ks i d)) old else old) → add_needs v (drop (i + 1) ks) new ≡ all
+more_needs v ks i d old new all lt h e =
+    ap (add_needs v (drop (i + 1) ks)) e ∙ ap (λ k. add_needs v (get_or ks i d ∷ drop k ks) old) (add-one i) ∙ ap (λ z. add_needs v z old) (sym (drop-cons ks i d lt)) ∙ h
+
+-- the needs of one operation more
+pub more_ops : (v : ℕ) (ops : List Op) (i : ℕ) (o : Op) (old new all : List Needed) → i < length ops → o ≡ get_or ops i o → need_list v (drop i ops) old ≡ all → new ≡ add_needs v o.needs old → need_list v (drop (i + 1) ops) new ≡ all
+more_ops v ops i o old new all lt is h e =
+    ap (need_list v (drop (i + 1) ops)) (e ∙ ap (λ (x : Op). add_needs v x.needs old) is) ∙ ap (λ k. need_list v (get_or ops i o ∷ drop k ops) old) (add-one i) ∙ ap (λ z. need_list v z old) (sym (drop-cons ops i o lt)) ∙ h
+
+-- a need of the variable, and one of another
+pub need_taken : (v : ℕ) (ks : List Need) (i : ℕ) (d : Need) (old new all : List Needed) → i < length ks → add_needs v (drop i ks) old ≡ all → Ascend old → nat_eq (get_or ks i d).variable v ≡ true → new ≡ insert_need (needed_by (get_or ks i d)) old → (add_needs v (drop (i + 1) ks) new ≡ all) × Ascend new
+need_taken v ks i d old new all lt h a t e = (
+  more_needs v ks i d old new all lt h (e ∙ sym (ap (λ b. if b then insert_need (needed_by (get_or ks i d)) old else old) t)),
+  subst Ascend (sym e) (insert_ascends (needed_by (get_or ks i d)) old a),
+)
+
+pub need_left : (v : ℕ) (ks : List Need) (i : ℕ) (d : Need) (old new all : List Needed) → i < length ks → add_needs v (drop i ks) old ≡ all → Ascend old → nat_eq (get_or ks i d).variable v ≡ false → new ≡ old → (add_needs v (drop (i + 1) ks) new ≡ all) × Ascend new
+need_left v ks i d old new all lt h a t e = (
+  more_needs v ks i d old new all lt h (e ∙ sym (ap (λ b. if b then insert_need (needed_by (get_or ks i d)) old else old) t)),
+  subst Ascend (sym e) a,
+)
