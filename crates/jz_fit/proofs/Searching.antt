@@ -118,15 +118,18 @@ pub more_ops : (v : ℕ) (ops : List Op) (i : ℕ) (o : Op) (old new all : List 
 more_ops v ops i o old new all lt is h e =
     ap (need_list v (drop (i + 1) ops)) (e ∙ ap (λ (x : Op). add_needs v x.needs old) is) ∙ ap (λ k. need_list v (get_or ops i o ∷ drop k ops) old) (add-one i) ∙ ap (λ z. need_list v z old) (sym (drop-cons ops i o lt)) ∙ h
 
+other : (x y : ℕ) → (x ≡ y → ⊥) → nat_eq x y ≡ false
+other x y t = elim (tells x y) [ inl p ↦ absurd (t p.0) | inr p ↦ p.1 ]
+
 -- a need of the variable, and one of another
-pub need_taken : (v : ℕ) (ks : List Need) (i : ℕ) (d : Need) (old new all : List Needed) → i < length ks → add_needs v (drop i ks) old ≡ all → Ascend old → nat_eq (get_or ks i d).variable v ≡ true → new ≡ insert_need (needed_by (get_or ks i d)) old → (add_needs v (drop (i + 1) ks) new ≡ all) × Ascend new
+pub need_taken : (v : ℕ) (ks : List Need) (i : ℕ) (d : Need) (old new all : List Needed) → i < length ks → add_needs v (drop i ks) old ≡ all → Ascend old → (get_or ks i d).variable ≡ v → new ≡ insert_need (needed_by (get_or ks i d)) old → (add_needs v (drop (i + 1) ks) new ≡ all) × Ascend new
 need_taken v ks i d old new all lt h a t e = (
-  more_needs v ks i d old new all lt h (e ∙ sym (ap (λ b. if b then insert_need (needed_by (get_or ks i d)) old else old) t)),
+  more_needs v ks i d old new all lt h (e ∙ sym (ap (λ b. if b then insert_need (needed_by (get_or ks i d)) old else old) (equal (get_or ks i d).variable v t))),
   subst Ascend (sym e) (insert_ascends (needed_by (get_or ks i d)) old a),
 )
 
-pub need_left : (v : ℕ) (ks : List Need) (i : ℕ) (d : Need) (old new all : List Needed) → i < length ks → add_needs v (drop i ks) old ≡ all → Ascend old → nat_eq (get_or ks i d).variable v ≡ false → new ≡ old → (add_needs v (drop (i + 1) ks) new ≡ all) × Ascend new
+pub need_left : (v : ℕ) (ks : List Need) (i : ℕ) (d : Need) (old new all : List Needed) → i < length ks → add_needs v (drop i ks) old ≡ all → Ascend old → ((get_or ks i d).variable ≡ v → ⊥) → new ≡ old → (add_needs v (drop (i + 1) ks) new ≡ all) × Ascend new
 need_left v ks i d old new all lt h a t e = (
-  more_needs v ks i d old new all lt h (e ∙ sym (ap (λ b. if b then insert_need (needed_by (get_or ks i d)) old else old) t)),
+  more_needs v ks i d old new all lt h (e ∙ sym (ap (λ b. if b then insert_need (needed_by (get_or ks i d)) old else old) (other (get_or ks i d).variable v t))),
   subst Ascend (sym e) a,
 )

@@ -143,6 +143,24 @@ fn add_answer(
     }
 }
 
+/// The places, or why there are none, where the code names no other variables.
+fn add_checked(
+    alloc: Global,
+    text: &mut String,
+    letters: &[u8],
+    code: &Branching,
+) -> Result<(), AllocError> {
+    let ops = flat_ops(alloc, &code.nodes)?;
+    let count = code.kinds.len();
+    if count >= 64 {
+        return Ok(());
+    }
+    if !are_below(ops.as_slice(), count) {
+        return Ok(());
+    }
+    add_answer(alloc, text, letters, code)
+}
+
 /// Each word behind a space.
 pub fn answer(alloc: Global, question: &str) -> Result<String, AllocError> {
     let (names, rest) = question.split_once(' ').unwrap_or((question, ""));
@@ -153,11 +171,8 @@ pub fn answer(alloc: Global, question: &str) -> Result<String, AllocError> {
         in_use: all_places(alloc)?,
     };
     let mut text = String::new(alloc);
-    add_live(&mut text, letters, live(alloc, &code.nodes)?.as_slice())?;
-    let ops = flat_ops(alloc, &code.nodes)?;
-    let is_small = code.kinds.len() < 64;
-    if is_small && are_below(ops.as_slice(), code.kinds.len()) {
-        add_answer(alloc, &mut text, letters, &code)?;
-    }
+    let rows = live(alloc, &code.nodes)?;
+    add_live(&mut text, letters, rows.as_slice())?;
+    add_checked(alloc, &mut text, letters, &code)?;
     Ok(text)
 }

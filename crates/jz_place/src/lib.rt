@@ -5,13 +5,13 @@
 mod allocation;
 mod flow;
 mod laws;
-mod place;
 mod placed;
+mod placing;
 mod tree;
 
 pub use allocation::places_of;
 pub use flow::branching;
 pub use laws::sorted_bodies_are_suited;
-pub use place::place;
 pub use placed::{PlacedNode, PlacedTest};
+pub use placing::place;
 pub use tree::{Ir, Node, Passed, Test};

@@ -42,8 +42,10 @@ loop-k-preserved c =
     let lt : c.loop-k.k < length c.args.order.now = omega (arith, c.loop-k-test.true, c.requires.to) in
     let o = c.in-Some.ensures in
     let next = put t.ops t.code.now.kinds t.code.now.in_use (LiveAt t.code.now) c.args.order.now c.loop-k.k c.loop-k.seats.places.items c.loop-k.seats.written.items c.loop-k.seats.live.items c.loop-k.invariant.2
-        t.fixed.items c.requires.table.fixed_are (list_at s.writes.items v) (list_at s.lives.items v) (list_at s.crosses.items v) v lt (get_or_default c.args.order.now c.loop-k.k 0 v lt)
-        (c.requires.counts c.loop-k.k c.loop-k.invariant.0 c.loop-k-test.true)
-        c.in-Some.place c.take_seat.new.seats.written.items c.take_seat.new.seats.live.items c.requires.distinct (c.requires.order c.loop-k.k 0 lt) o.0 o.1 o.2 c.take_seat.ensures.written c.take_seat.ensures.live in
-    (omega (arith, c.loop-k.invariant.0), omega (arith, c.loop-k-test.true),
-    subst (λ ps. Seating t.ops t.code.now.kinds t.code.now.in_use (LiveAt t.code.now) c.args.order.now (c.loop-k.k + 1) ps c.take_seat.new.seats.written.items c.take_seat.new.seats.live.items) (sym c.take_seat.ensures.places) next)
+    t.fixed.items c.requires.table.fixed_are (list_at s.writes.items v) (list_at s.lives.items v) (list_at s.crosses.items v) v lt (get_or_default c.args.order.now c.loop-k.k 0 v lt)
+    (c.requires.counts c.loop-k.k c.loop-k.invariant.0 c.loop-k-test.true)
+    c.in-Some.place c.take_seat.new.seats.written.items c.take_seat.new.seats.live.items c.requires.distinct (c.requires.order c.loop-k.k 0 lt) o.0 o.1 o.2 c.take_seat.ensures.written c.take_seat.ensures.live in (
+      omega (arith, c.loop-k.invariant.0),
+      omega (arith, c.loop-k-test.true),
+      subst (λ ps. Seating t.ops t.code.now.kinds t.code.now.in_use (LiveAt t.code.now) c.args.order.now (c.loop-k.k + 1) ps c.take_seat.new.seats.written.items c.take_seat.new.seats.live.items) (sym c.take_seat.ensures.places) next,
+    )

@@ -16,9 +16,11 @@ returns-in-Some c =
     let o : c.index-ops-i.result ≡ op_at t.ops c.loop-i.i = c.index-ops-i.is ∙ get_or_default c.as_slice-ops.result.now c.loop-i.i c.index-ops-i.result no_op ls ∙ ap (λ xs. op_at xs c.loop-i.i) c.as_slice-ops.ensures in
     let a : c.index-after-i.result ≡ list_at c.args.after.now c.loop-i.i = c.index-after-i.is ∙ get_or_default c.args.after.now c.loop-i.i c.index-after-i.result [] la in
     let s = ap (λ (x : Op). x.span) (get_or_default c.as_slice-ops.result.now c.loop-i.i c.index-ops-i-in-Some.result no_op ls ∙ ap (λ xs. op_at xs c.loop-i.i) c.as_slice-ops.ensures) in
-    let w = who_moved c.index-ops-i.result (op_at t.ops c.loop-i.i) c.index-after-i.result (list_at c.args.after.now c.loop-i.i) c.args.places.now c.args.variable c.args.place (Some c.in-Some.holder) o a c.in-Some.ensures in
-    (c.place_of.ensures, holder t.ops (LiveAt t.code.now) c.args.places.now c.args.variable c.args.place c.loop-i.i _ c.in-Some.holder lt s c.loop-i.invariant
-    (held_there t.ops (LiveAt t.code.now) c.args.after.now c.args.places.now c.args.variable c.args.place c.requires.tells.own c.requires.tells.others c.loop-i.i lt c.in-Some.holder w))
+    let w = who_moved c.index-ops-i.result (op_at t.ops c.loop-i.i) c.index-after-i.result (list_at c.args.after.now c.loop-i.i) c.args.places.now c.args.variable c.args.place (Some c.in-Some.holder) o a c.in-Some.ensures in (
+      c.place_of.ensures,
+      holder t.ops (LiveAt t.code.now) c.args.places.now c.args.variable c.args.place c.loop-i.i _ c.in-Some.holder lt s c.loop-i.invariant
+          (held_there t.ops (LiveAt t.code.now) c.args.after.now c.args.places.now c.args.variable c.args.place c.requires.tells.own c.requires.tells.others c.loop-i.i lt c.in-Some.holder w),
+    )
 
 pub loop-i-preserved : goal.loop-i-preserved
 loop-i-preserved c =

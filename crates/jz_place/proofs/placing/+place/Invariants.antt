@@ -5,7 +5,7 @@ use Rattle.jz_placing.specs.Placing.{code_of}
 use Rattle.jz_place.specs.Bodies.{then_body, body_of}
 use Rattle.jz_place.specs.Codes.{code_in}
 use Rattle.jz_place.proofs.Bodies.{size}
-use Rattle.jz_place.proofs.place.+place.Given as goal
+use Rattle.jz_place.proofs.placing.+place.Given as goal
 
 abbrev pub invariant-place_block-loop-i : goal.invariant-place_block-loop-i
 invariant-place_block-loop-i l = code_in l.made ≡ code_of (places_in l.places) (slots_in l.places) (body_of (take l.i l.nodes))

@@ -4,7 +4,7 @@ use Rattle.jz_operations.specs.Insns.{places_in, slots_in}
 use Rattle.jz_place.specs.Bodies.{then_body, body_of}
 use Rattle.jz_place.proofs.Bodies.{size, size_at}
 use Rattle.jz_place.proofs.Codes.{one_more, fits_at}
-use Rattle.jz_place.proofs.place.+place.Goals as goal
+use Rattle.jz_place.proofs.placing.+place.Goals as goal
 
 pub place_block-place_node-requires : goal.place_block-place_node-requires
 place_block-place_node-requires t c =

@@ -7,7 +7,7 @@ use Rattle.jz_placing.proofs.Law.{places_law}
 use Rattle.jz_place.specs.Bodies.{body_of, entry_op, return_op, returns_of, seen_code, LiveInWhole}
 use Rattle.jz_place.specs.Laws.{KeepsRuns}
 use Rattle.jz_place.proofs.Sorted.{suited}
-use Rattle.jz_place.proofs.place.place.Goals as goal
+use Rattle.jz_place.proofs.placing.place.Goals as goal
 
 pub returns-clause-runs : goal.returns-clause-runs
 returns-clause-runs c = λ good.
