@@ -1,5 +1,0 @@
-pub mod Bodies
-pub mod Flows
-pub mod Codes
-pub mod Sorted
-pub mod Allocated

@@ -1,4 +1,0 @@
-pub mod Bodies
-pub mod Codes
-pub mod Sorts
-pub mod Laws
