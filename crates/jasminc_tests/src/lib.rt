@@ -18,3 +18,5 @@ mod placing_tests;
 mod refusal_tests;
 #[cfg(test)]
 mod tests;
+#[cfg(test)]
+mod word_tests;

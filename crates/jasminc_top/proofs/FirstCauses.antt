@@ -22,7 +22,7 @@ use Rattle.jasminc_top.specs.declared.refusal.Refusal.TheVariants.{Lex, Parse, T
 use Rattle.jasminc_top.specs.declared.refusal.Status.{Status}
 use Rattle.jasminc_top.specs.declared.refusal.Status.TheVariants as status
 use Rattle.jasminc_top.specs.declared.answer.Reply.{Reply}
-use Rattle.jasminc_top.specs.Words.{Wanted, compile, exec}
+use Rattle.jasminc_words.specs.Wanted.{Called, Wanted, compile, exec}
 use Rattle.jasminc_top.specs.Refusals.{stage_of, all_stages}
 use Rattle.jasminc_top.specs.Making.{TypesAs, AreMade}
 use Rattle.jasminc_top.specs.Answers.{source_limit, function_named, Cause, TextCause, ExecCause, FailsTyping, HasFirst, HasNoFunction, HasOtherItems, Clear, IsFirstCause, ReadingRefuses, MakingRefuses, RunsOne, IsDone, After}
@@ -176,15 +176,17 @@ pub making_fails : (file text : List ℕ) (p : Program) (e : Failure Refusal) �
 making_fails file text p e short t h =
     fails_after (Some (compile file)) text e (answered (MakingRefuses p.funs) (IsFirstCause (TextCause text)) e (λ r. making_first text p r short t) h)
 
-pub exec_reading_fails : (file fun items text : List ℕ) (e : Failure Refusal) → length text ≤ source_limit → IfRefused e (ReadingRefuses text)
-    → IfAnswered {A = Reply} (Err e) (After (Some (exec file fun items)) text)
-exec_reading_fails file fun items text e short h =
-    fails_after (Some (exec file fun items)) text e (answered (ReadingRefuses text) (IsFirstCause (ExecCause fun items text)) e (λ r. exec_reading_first text fun items r short) h)
+pub exec_reading_fails : (call : Called) (text : List ℕ) (e : Failure Refusal) → length text ≤ source_limit → IfRefused e (ReadingRefuses text)
+    → IfAnswered {A = Reply} (Err e) (After (Some (exec call)) text)
+exec_reading_fails call text e short h =
+    fails_after (Some (exec call)) text e
+    (answered (ReadingRefuses text) (IsFirstCause (ExecCause call.fun call.items text)) e (λ r. exec_reading_first text call.fun call.items r short) h)
 
-pub exec_making_fails : (file fun items text : List ℕ) (p : Program) (f : Fun) (e : Failure Refusal) → length text ≤ source_limit → TypesAs text p → function_named fun p.funs ≡ Some f
-    → IfRefused e (MakingRefuses p.funs) → IfAnswered {A = Reply} (Err e) (After (Some (exec file fun items)) text)
-exec_making_fails file fun items text p f e short t found h =
-    fails_after (Some (exec file fun items)) text e (answered (MakingRefuses p.funs) (IsFirstCause (ExecCause fun items text)) e (λ r. exec_making_first text fun items p f r short t found) h)
+pub exec_making_fails : (call : Called) (text : List ℕ) (p : Program) (f : Fun) (e : Failure Refusal) → length text ≤ source_limit → TypesAs text p → function_named call.fun p.funs ≡ Some f
+    → IfRefused e (MakingRefuses p.funs) → IfAnswered {A = Reply} (Err e) (After (Some (exec call)) text)
+exec_making_fails call text p f e short t found h =
+    fails_after (Some (exec call)) text e
+    (answered (MakingRefuses p.funs) (IsFirstCause (ExecCause call.fun call.items text)) e (λ r. exec_making_first text call.fun call.items p f r short t found) h)
 
 -- ---- items
 pub items_first : (text fun items : List ℕ) (p : Program) (f : Fun) (made : List Compiled) → length text ≤ source_limit → TypesAs text p → AreMade p.funs made
@@ -210,15 +212,15 @@ listing_done file text p output made short t m o = record {
   gives = record { program = p; makes = record { types = t; are_made = m }; output_is = o; ok = refl };
 }
 
-pub run_done : (file fun items text : List ℕ) (p : Program) (f : Fun) (s : Status) (output : List ℕ) (made : List Compiled) → length text ≤ source_limit → TypesAs text p → AreMade p.funs made
-    → function_named fun p.funs ≡ Some f → length items ≡ length f.params → RunsOne fun items s output made → IsDone (Some (exec file fun items)) text s output made
-run_done file fun items text p f s output made short t m found count run = record {
-  command = exec file fun items;
+pub run_done : (call : Called) (text : List ℕ) (p : Program) (f : Fun) (s : Status) (output : List ℕ) (made : List Compiled) → length text ≤ source_limit → TypesAs text p → AreMade p.funs made
+    → function_named call.fun p.funs ≡ Some f → length call.items ≡ length f.params → RunsOne call s output made → IsDone (Some (exec call)) text s output made
+run_done call text p f s output made short t m found count run = record {
+  command = exec call;
   is = refl;
-  clear = clear_run text fun items all_stages (record {
+  clear = clear_run text call.fun call.items all_stages (record {
     texts = excludes_all text p all_stages made short t m;
-    named = λ name lt. has_function text fun name p f t found;
-    counted = λ lt. has_items text fun items p f t found count;
+    named = λ name lt. has_function text call.fun name p f t found;
+    counted = λ lt. has_items text call.fun call.items p f t found count;
   });
   gives = record { program = p; makes = record { types = t; are_made = m }; run = run };
 }

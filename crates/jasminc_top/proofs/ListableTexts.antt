@@ -33,7 +33,7 @@ use Rattle.jz_lower.specs.Operations.{register_of}
 use Rattle.jz_pipeline.specs.Compiling.{lines_of, silent_case, straight_transformer, code_insns, compiled_of}
 use Rattle.jasminc_top.specs.Making.{TypesAs, AreMade, Makes}
 use Rattle.jasminc_top.proofs.ByteCodes.{code_bytes}
-use Rattle.jasminc_top.proofs.StartLaws.{insns_few}
+use Rattle.jasminc_exec.proofs.StartLaws.{insns_few}
 
 -- ---- names
 is_name : (w : List ℕ) → IsIdentifier w → IsName w

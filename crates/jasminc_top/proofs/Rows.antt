@@ -4,14 +4,16 @@ use Rattle.std.specs.Prelude.{⊤, ◌≢◌}
 use Rattle.jz_io.specs.Causes.{Rose}
 use Rattle.jz_io.specs.Telling.{Telling, text_of, IsWhole}
 use Rattle.jz_listing.specs.declared.compiled.Compiled.{Compiled}
-use Rattle.jasminc_top.specs.Words.{Wanted, compile, exec, file_of}
+use Rattle.jasminc_words.specs.Wanted.{Wanted, compile, exec, file_of}
 use Rattle.jasminc_top.specs.declared.refusal.Status.{Status}
 use Rattle.jasminc_top.specs.declared.refusal.Status.TheVariants as status
 use Rattle.jasminc_top.specs.declared.refusal.Refusal.{Refusal}
 use Rattle.jasminc_top.specs.declared.refusal.Refusal.TheVariants.{Usage, ReadFault, Source, Lex, Parse, Typing, NoFunction, Limit, Alarm, NoPlace, Items}
 use Rattle.jasminc_top.specs.Refusals.{status_of, stage_of}
 use Rattle.jasminc_top.specs.Told.{SourceTold}
-use Rattle.jasminc_top.specs.Answers.{Cause, HasText, IsDue, IsUsage, IsNoCommand, IsQuiet, Gives, Faulted}
+use Rattle.jasminc_exec.specs.declared.exec.Ran.{Ran}
+use Rattle.jasminc_exec.specs.declared.exec.Ran.TheVariants as ran
+use Rattle.jasminc_top.specs.Answers.{Cause, HasText, IsDue, IsUsage, IsNoCommand, IsQuiet, IsToldBy, IsResult, Gives, Faulted}
 use Rattle.jasminc_top.specs.Runs.{Run, Due, Runs, ReadsAll, Refuses, Completes, IsFree, IsGiven, IsEarlier, Tells, IsCaused, ComesOnly, IsTooLong}
 
 bounded : (r : Refusal) → stage_of r < 10
@@ -88,6 +90,7 @@ run_completes run h = elim h.wrote [
 -- a status of no refusal
 abbrev IsOther : Status → Type 0
 IsOther status.Ok = ⊤
+IsOther status.OutOfFuel = ⊤
 IsOther status.Memory = ⊤
 IsOther status.WriteFault = ⊤
 IsOther s = ⊥
@@ -96,18 +99,18 @@ no_other : (r : Refusal) → IsOther (status_of r) → ⊥
 no_other Usage h = h
 no_other r h = h
 
-never_refused : (r : Refusal) (s : Status) → IsOther s → s ≡ status_of r → ⊥
+pub never_refused : (r : Refusal) (s : Status) → IsOther s → s ≡ status_of r → ⊥
 never_refused r s h e = no_other r (subst IsOther e h)
 
 -- the words of a command and a fault of reading are no causes in a text
 pub never_usage : (wish : Wanted) (text : List ℕ) → Cause (Some wish) text Usage → ⊥
 never_usage (compile file) text c = c
-never_usage (exec file fun items) text c = c
+never_usage (exec call) text c = c
 
 pub never_read_fault : (wish : Option Wanted) (text : List ℕ) → Cause wish text ReadFault → ⊥
 never_read_fault None text c = cc
 never_read_fault (Some (compile file)) text c = c
-never_read_fault (Some (exec file fun items)) text c = c
+never_read_fault (Some (exec call)) text c = c
 
 usage_caused : (wish : Option Wanted) (text : List ℕ) → Cause wish text Usage → wish ≡ None
 usage_caused None text c = refl
@@ -118,19 +121,25 @@ caused wish told text Usage h c = usage_caused wish text c
 caused wish told text ReadFault h c = absurd (never_read_fault wish text c)
 caused wish told text r h c = (text, h, c)
 
--- a command that gives something ends at Ok
-pub gives_ok : (wish : Wanted) (text : List ℕ) (s : Status) (output : List ℕ) (made : List Compiled) → Gives wish text s output made → s ≡ status.Ok
-gives_ok (compile file) text s output made g = g.ok
-gives_ok (exec file fun items) text s output made g = g.run.ok
+-- what a command gives has a status of its own
+told_result : (ran : Ran) (s : Status) (output : List ℕ) → IsToldBy ran s output → IsResult s
+told_result (ran.Ended text) s output t = subst IsResult (sym t.0) tt
+told_result (ran.Cut text) s output t = subst IsResult (sym t.0) tt
 
-ok_never_refused : (r : Refusal) (s : Status) → s ≡ status.Ok → s ≡ status_of r → ⊥
-ok_never_refused r s ok e = never_refused r status.Ok tt (sym ok ∙ e)
+pub gives_result : (wish : Wanted) (text : List ℕ) (s : Status) (output : List ℕ) (made : List Compiled) → Gives wish text s output made → IsResult s
+gives_result (compile file) text s output made g = subst IsResult (sym g.ok) tt
+gives_result (exec call) text s output made g = told_result g.run.ran s output g.run.told
+
+result_other : (s : Status) → IsResult s → IsOther s
+result_other status.Ok r = tt
+result_other status.OutOfFuel r = tt
+result_other s r = absurd r
 
 due_comes : (wish : Option Wanted) (told : SourceTold) (s : Status) (output : List ℕ) (made : List Compiled) (r : Refusal)
     → IsDue wish told s output made → s ≡ status_of r → ComesOnly wish told s
 due_comes wish told s output made r d e = elim d.answers [
   | inl x ↦ record { refusal = x.refusal; status = x.status; cause = caused wish told d.text x.refusal d.has x.cause }
-  | inr x ↦ absurd (ok_never_refused r s (gives_ok x.command d.text s output made x.gives) e)
+  | inr x ↦ absurd (never_refused r s (result_other s (gives_result x.command d.text s output made x.gives)) e)
 ]
 
 comes : (wish : Option Wanted) (told : SourceTold) (s : Status) (text : List ℕ) (made : List Compiled) (r : Refusal)
@@ -210,20 +219,27 @@ run_sink_quiet run h = elim h.wrote [
 ]
 
 -- ---- what was made
-due_made : (wish : Option Wanted) (told : SourceTold) (s : Status) (output : List ℕ) (made : List Compiled) → IsDue wish told s output made → (s ≡ status.Ok → ⊥) → made ≡ []
-due_made wish told s output made d other = elim d.answers [
+no_result : (s : Status) → (s ≡ status.Ok → ⊥) → (s ≡ status.OutOfFuel → ⊥) → IsResult s → ⊥
+no_result status.Ok ok cut r = ok refl
+no_result status.OutOfFuel ok cut r = cut refl
+no_result s ok cut r = r
+
+due_made : (wish : Option Wanted) (told : SourceTold) (s : Status) (output : List ℕ) (made : List Compiled) → IsDue wish told s output made
+    → (s ≡ status.Ok → ⊥) → (s ≡ status.OutOfFuel → ⊥) → made ≡ []
+due_made wish told s output made d ok cut = elim d.answers [
   | inl x ↦ x.none
-  | inr x ↦ absurd (other (gives_ok x.command d.text s output made x.gives))
+  | inr x ↦ absurd (no_result s ok cut (gives_result x.command d.text s output made x.gives))
 ]
 
-none_made : (wish : Option Wanted) (told : SourceTold) (s : Status) (text : List ℕ) (made : List Compiled) → Due wish told s text made → (s ≡ status.Ok → ⊥) → made ≡ []
-none_made wish told status.ReadFault text made d other = d.1
-none_made wish told status.Memory text made d other = d.1
-none_made wish told status.WriteFault text made d other = absurd d
-none_made wish told s text made d other = due_made wish told s text made d.0 other
+none_made : (wish : Option Wanted) (told : SourceTold) (s : Status) (text : List ℕ) (made : List Compiled) → Due wish told s text made
+    → (s ≡ status.Ok → ⊥) → (s ≡ status.OutOfFuel → ⊥) → made ≡ []
+none_made wish told status.ReadFault text made d ok cut = d.1
+none_made wish told status.Memory text made d ok cut = d.1
+none_made wish told status.WriteFault text made d ok cut = absurd d
+none_made wish told s text made d ok cut = due_made wish told s text made d.0 ok cut
 
-pub run_made : (run : Run) → Runs run → run.done.status ≢ status.Ok → run.done.made ≡ []
-run_made run h other = elim h.wrote [
-  | inl x ↦ x.1 ∙ none_made run.wish run.source h.due h.text h.made h.is_due (λ e. other (x.0 ∙ e))
+pub run_made : (run : Run) → Runs run → run.done.status ≢ status.Ok → run.done.status ≢ status.OutOfFuel → run.done.made ≡ []
+run_made run h ok cut = elim h.wrote [
+  | inl x ↦ x.1 ∙ none_made run.wish run.source h.due h.text h.made h.is_due (λ e. ok (x.0 ∙ e)) (λ e. cut (x.0 ∙ e))
   | inr x ↦ x.1
 ]

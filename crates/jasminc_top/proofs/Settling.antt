@@ -12,12 +12,12 @@ use Rattle.jasminc_top.specs.declared.refusal.Status.{Status}
 use Rattle.jasminc_top.specs.declared.refusal.Status.TheVariants as status
 use Rattle.jasminc_top.specs.declared.refusal.Refusal.{Refusal}
 use Rattle.jasminc_top.specs.declared.refusal.Refusal.TheVariants.{Usage, ReadFault, Source}
-use Rattle.jasminc_top.specs.Words.{Wanted, compile, exec, file_of}
+use Rattle.jasminc_words.specs.Wanted.{Wanted, compile, exec, file_of}
 use Rattle.jasminc_top.specs.Refusals.{status_of, line_of, stage_of}
 use Rattle.jasminc_top.specs.Told.{SourceTold, SinkTold}
-use Rattle.jasminc_top.specs.Answers.{source_limit, Cause, Clear, IsUsage, IsFirstCause, HasText, HasFile, IsQuiet, FileRefuses, IsDone, After, Performs}
+use Rattle.jasminc_top.specs.Answers.{source_limit, Cause, Clear, IsUsage, IsFirstCause, HasText, HasFile, IsDue, IsQuiet, IsResult, FileRefuses, After, Performs}
 use Rattle.jasminc_top.specs.Runs.{Run, Due, Runs, Writes, WritesRefusal, WritesNoMemory}
-use Rattle.jasminc_top.proofs.Rows.{never_usage, never_read_fault, gives_ok}
+use Rattle.jasminc_top.proofs.Rows.{never_usage, never_read_fault, gives_result}
 
 -- ---- a text that was read settles the answer
 pub settled : (wish : Option Wanted) (told : SourceTold) (text : List ℕ) (answer : Result Reply (Failure Refusal)) → HasText wish told.files text
@@ -30,7 +30,7 @@ settled wish told text (Err failure.OutOfMemory) has whole quiet a = tt
 -- ---- a file that was not read
 long_cause : (wish : Wanted) (text : List ℕ) → source_limit < length text → Cause (Some wish) text Source
 long_cause (compile file) text long = long
-long_cause (exec file fun items) text long = long
+long_cause (exec call) text long = long
 
 clear_file : (wish : Wanted) (text : List ℕ) → Clear (Cause (Some wish) text) 1
 clear_file wish text Usage lt c = never_usage wish text c
@@ -77,12 +77,17 @@ refusal_due wish told r p = (
   p.quiet,
 )
 
+result_due : (wish : Option Wanted) (told : SourceTold) (s : Status) (output : List ℕ) (made : List Compiled) → IsResult s → IsDue wish told s output made → IsQuiet told
+    → Due wish told s output made
+result_due wish told status.Ok output made r due quiet = (due, quiet)
+result_due wish told status.OutOfFuel output made r due quiet = (due, quiet)
+result_due wish told s output made r due quiet = absurd r
+
 pub reply_due : (wish : Option Wanted) (told : SourceTold) (reply : Reply) → Performs wish told (Ok reply) → Due wish told reply.status reply.text reply.made
 reply_due wish told reply p =
-    let ok = gives_ok p.after.command p.text reply.status reply.text reply.made p.after.gives in
-    let done = subst (λ (s : Status). IsDone wish p.text s reply.text reply.made) ok p.after in
-    let due : Due wish told status.Ok reply.text reply.made = (record { text = p.text; has = p.has; answers = inr done; read = p.read }, p.quiet) in
-    subst (λ (s : Status). Due wish told s reply.text reply.made) (sym ok) due
+    result_due wish told reply.status reply.text reply.made
+    (gives_result p.after.command p.text reply.status reply.text reply.made p.after.gives)
+    (record { text = p.text; has = p.has; answers = inr p.after; read = p.read }) p.quiet
 
 -- ---- what a run leaves
 pub reply_runs : (run : Run) (reply : Reply) (text : List ℕ) → text ≡ reply.text → Performs run.wish run.source (Ok reply)

@@ -15,10 +15,12 @@ use Rattle.jz_pipeline.specs.Placed.{IsUnplaced}
 use Rattle.jz_pipeline.specs.Stages.{IsFirstRefusal, FirstLimit, FirstAlarm, FirstUnplaced}
 use Rattle.jz_listing.specs.Listing.{listing_text}
 use Rattle.jz_listing.specs.declared.compiled.Compiled.{Compiled}
-use Rattle.jasminc_top.specs.Words.{Wanted, compile, exec, file_of}
+use Rattle.jasminc_words.specs.Wanted.{Called, Wanted, compile, exec, file_of}
+use Rattle.jasminc_exec.specs.Running.{IsSafe, RunsTo}
+use Rattle.jasminc_exec.specs.declared.exec.Ran.{Ran}
+use Rattle.jasminc_exec.specs.declared.exec.Ran.TheVariants as ran
 use Rattle.jasminc_top.specs.Refusals.{status_of, line_of, stage_of, all_stages}
 use Rattle.jasminc_top.specs.Making.{TypesAs, Makes}
-use Rattle.jasminc_top.specs.Running.{EndsWithin, RunsTo}
 use Rattle.jasminc_top.specs.Told.{SourceTold}
 use Rattle.jasminc_top.specs.declared.refusal.Status.{Status}
 use Rattle.jasminc_top.specs.declared.refusal.Status.TheVariants as status
@@ -31,10 +33,6 @@ use Rattle.jasminc_top.specs.declared.answer.Reply.{Reply}
 -- the longest text that is read
 abbrev pub source_limit : ℕ
 source_limit = 1048576
-
--- how many steps a run may take
-abbrev pub step_limit : ℕ
-step_limit = 1000000
 
 -- the first function with this name
 abbrev pub function_named : List ℕ → List Fun → Option Fun
@@ -99,7 +97,7 @@ IsUsage r = r ≡ Usage
 abbrev pub Cause : Option Wanted → List ℕ → Refusal → Type 0
 Cause None text = IsUsage
 Cause (Some (compile file)) text = TextCause text
-Cause (Some (exec file fun items)) text = ExecCause fun items text
+Cause (Some (exec call)) text = ExecCause call.fun call.items text
 
 -- no stage before this one has a cause
 abbrev pub Clear : (Refusal → Type 0) → ℕ → Type 0
@@ -120,29 +118,41 @@ pub record GivesListing (text : List ℕ) (s : Status) (output : List ℕ) (made
   pub output_is : output ≡ listing_text made
   pub ok : s ≡ status.Ok
 
--- one of the functions that were made, and its run on the items
-pub record RunsOne (fun items : List ℕ) (s : Status) (output : List ℕ) (made : List Compiled)
-    : Type 0 where
-  pub compiled : Compiled
-  pub found : compiled_named fun made ≡ Some compiled
-  pub runs : RunsTo compiled items step_limit output
-  pub ok : s ≡ status.Ok
+-- what is told of a run is an answer with this status
+abbrev pub IsToldBy : Ran → Status → List ℕ → Type 0
+IsToldBy (ran.Ended text) s output = (s ≡ status.Ok) × (output ≡ text)
+IsToldBy (ran.Cut text) s output = (s ≡ status.OutOfFuel) × (output ≡ text)
 
--- the function of that name was made, and its run on the items ends within the limit
-abbrev pub EndsWithinLimit : List Compiled → List ℕ → List ℕ → Type 0
-EndsWithinLimit made fun items =
-    (c : Compiled) × (compiled_named fun made ≡ Some c) × EndsWithin c items step_limit
+-- one of the functions that were made, and its run on the items, with at most so many steps
+pub record RunsOne (call : Called) (s : Status) (output : List ℕ) (made : List Compiled) : Type 0
+  where
+    pub compiled : Compiled
+    pub found : compiled_named call.fun made ≡ Some compiled
+    pub ran : Ran
+    pub runs : RunsTo compiled call.items call.fuel ran
+    pub told : IsToldBy ran s output
 
--- the functions of the text's program, and the run of one of them on the items
-pub record GivesRun (text fun items : List ℕ) (s : Status) (output : List ℕ) (made : List Compiled)
-    : Type 0 where
+-- the function of that name was made, and no step of its run on the items faults
+abbrev pub IsSafeOne : List Compiled → List ℕ → List ℕ → Type 0
+IsSafeOne made fun items =
+    (c : Compiled) × (compiled_named fun made ≡ Some c) × IsSafe c items
+
+-- the functions of the text's program, and the run of one of them
+pub record GivesRun (text : List ℕ) (call : Called) (s : Status) (output : List ℕ)
+    (made : List Compiled) : Type 0 where
   pub program : Program
   pub makes : Makes text program made
-  pub run : RunsOne fun items s output made
+  pub run : RunsOne call s output made
 
 abbrev pub Gives : Wanted → List ℕ → Status → List ℕ → List Compiled → Type 0
 Gives (compile file) text s output made = GivesListing text s output made
-Gives (exec file fun items) text s output made = GivesRun text fun items s output made
+Gives (exec call) text s output made = GivesRun text call s output made
+
+-- the statuses of what a command gives
+abbrev pub IsResult : Status → Type 0
+IsResult status.Ok = ⊤
+IsResult status.OutOfFuel = ⊤
+IsResult s = ⊥
 
 -- ---- what is due
 

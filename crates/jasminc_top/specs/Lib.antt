@@ -1,8 +1,6 @@
-pub mod Words
 pub mod Lines
 pub mod Refusals
 pub mod Making
-pub mod Running
 pub mod Told
 pub mod Stage
 pub mod Answers

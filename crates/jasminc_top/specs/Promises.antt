@@ -4,7 +4,7 @@ use Rattle.jz_io.specs.Causes.{Rose}
 use Rattle.jasminc_top.specs.Refusals.{status_of}
 use Rattle.jasminc_top.specs.Answers.{IsQuiet}
 use Rattle.jasminc_top.specs.Runs.{Run, Runs, ComesOnly, Refuses, Completes, ReadsAll, IsFree}
-use Rattle.jasminc_top.specs.Headline.{Compiles, Executes}
+use Rattle.jasminc_top.specs.Headline.{Compiles, Executes, IsCut}
 use Rattle.jasminc_top.specs.declared.refusal.Refusal.{Refusal}
 use Rattle.jasminc_top.specs.declared.refusal.Status.TheVariants as status
 
@@ -16,6 +16,9 @@ pub record KeepsPromises (run : Run) : Type 0 where
   -- What `exec` prints at Ok is the run of a correct function on the machine, from a start on the
   -- items.
   pub executes : run.done.status ≡ status.Ok → Executes run.wish run.source run.sink run.done.made
+  -- What `exec` prints at OutOfFuel is such a run up to as many steps as it may take, and it is
+  -- still running there. With 1,000,000 steps or more none is cut.
+  pub cut : run.done.status ≡ status.OutOfFuel → IsCut run.wish run.source run.sink run.done.made
   -- The status of a refusal comes only with its cause, and that of a write fault with one.
   pub comes_only : (r : Refusal)
       → run.done.status ≡ status_of r → ComesOnly run.wish run.source run.done.status
@@ -30,5 +33,5 @@ pub record KeepsPromises (run : Run) : Type 0 where
   -- Where a count of faults rose, the status says so.
   pub source_quiet : IsFree run.done.status ⊎ IsQuiet run.source
   pub sink_quiet : (run.done.status ≡ status.WriteFault) ⊎ (run.sink.faults_after ≡ run.sink.faults)
-  -- What was made is told at Ok alone.
-  pub made : run.done.status ≢ status.Ok → run.done.made ≡ []
+  -- What was made is told at Ok and OutOfFuel alone.
+  pub made : run.done.status ≢ status.Ok → run.done.status ≢ status.OutOfFuel → run.done.made ≡ []

@@ -5,7 +5,7 @@ use Rattle.jz_io.specs.Causes.{Rose}
 use Rattle.jz_io.specs.Telling.{Telling, text_of, IsWhole}
 use Rattle.jz_io.specs.Written.{WritesPrefix}
 use Rattle.jz_listing.specs.declared.compiled.Compiled.{Compiled}
-use Rattle.jasminc_top.specs.Words.{Wanted, file_of}
+use Rattle.jasminc_words.specs.Wanted.{Wanted, file_of}
 use Rattle.jasminc_top.specs.Refusals.{status_of, line_of, stage_of}
 use Rattle.jasminc_top.specs.Told.{SourceTold, SinkTold}
 use Rattle.jasminc_top.specs.Answers.{IsDue, Faulted, HasText, Gives, Cause, IsQuiet}

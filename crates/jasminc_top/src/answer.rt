@@ -4,18 +4,19 @@ ghost use Rattle.std.specs.Prelude.{◌≡◌, ◌≤◌, All, Some, IfOk, IfErr
 ghost use Rattle.std.specs.Option.{option_copied};
 ghost use Rattle.jz_first.specs.Failures.{IfRefused, IfAnswered};
 ghost use Rattle.jz_io.specs.Telling.{IsWhole};
-ghost use Rattle.jasminc_top.specs.Words.{texts_of, wanted_command, wanted_of, compile, exec};
+ghost use Rattle.jasminc_words.specs.Wanted.{compile, exec, texts_of, called_of, wanted_of};
+ghost use Rattle.jasminc_words.specs.Wanted.{wanted_command};
 ghost use Rattle.jasminc_top.specs.Making.{TypesAs, IsWritten, AreMade};
 ghost use Rattle.jasminc_top.specs.Told.{source_told};
 ghost use Rattle.jasminc_top.specs.Answers.{source_limit, function_named, compiled_named};
 ghost use Rattle.jasminc_top.specs.Answers.{IsShortFile, IsLongFile, IsReadFault, FileRefuses};
 ghost use Rattle.jasminc_top.specs.Answers.{ReadingRefuses, MakingRefuses, RunsOne};
-ghost use Rattle.jasminc_top.specs.Answers.{EndsWithinLimit, After, Performs};
+ghost use Rattle.jasminc_top.specs.Answers.{IsSafeOne, After, Performs};
 
-use crate::exec::exec_text;
 use crate::refusal::{Refusal, Status};
 use crate::stage::as_refusal;
-use crate::words::{Request, request_of};
+use jasminc_exec::{Ran, exec_text, items_are_words};
+use jasminc_words::{Call, Request, request_of};
 use jz_first::{Failure, Fun, Seq, Text, Typed, check, parse_first};
 use jz_grammar::lex;
 use jz_io::{Bytes, ReadRefused, Source, read_all};
@@ -119,49 +120,48 @@ fn compiled_named<'a>(made: &'a [Compiled], name: &str) -> Option<&'a Compiled>
     made.iter().find(|compiled| compiled.name.as_str() == name)
 }
 
-/// The run of one of the functions that were made on items.
-fn run_reply(
-    alloc: Global,
-    made: Seq<Compiled>,
-    fun: &str,
-    items: &[u64],
-) -> Result<Reply, AllocError>
-    requires { EndsWithinLimit made fun.now items.now }
-    ensures runs { IfOk result (λ r. RunsOne fun.now items.now r.status r.text r.made) }
+/// The run of one of the functions that were made.
+fn run_reply(alloc: Global, made: Seq<Compiled>, call: &Call<'_>) -> Result<Reply, AllocError>
+    requires { IsSafeOne made call.now.fun.now call.now.items }
+    ensures runs { let call = called_of call.now
+        in IfOk result (λ r. RunsOne call r.status r.text r.made) }
     ensures made { IfOk result (λ r. r.made ≡ made) }
 {
-    let Some(compiled) = compiled_named(made.as_slice(), fun) else {
+    let Some(compiled) = compiled_named(made.as_slice(), call.fun) else {
         unreachable!()
     };
-    let text = exec_text(alloc, compiled, items)?;
-    Ok(Reply {
-        status: Status::Ok,
-        text,
-        made,
-    })
+    let ran = exec_text(alloc, compiled, call.items.as_slice(), call.fuel)?;
+    match ran {
+        Ran::Ended(text) => Ok(Reply {
+            status: Status::Ok,
+            text,
+            made,
+        }),
+        Ran::Cut(text) => Ok(Reply {
+            status: Status::OutOfFuel,
+            text,
+            made,
+        }),
+    }
 }
 
-/// The run of a text's function on items.
-fn exec_reply(
-    alloc: Global,
-    file: &str,
-    fun: &str,
-    items: &[u64],
-    text: &[u8],
-) -> Result<Reply, Failure<Refusal>>
+/// The run of a text's function.
+fn exec_reply(alloc: Global, call: &Call<'_>, text: &[u8]) -> Result<Reply, Failure<Refusal>>
     requires { length text.now ≤ source_limit }
-    ensures { IfAnswered result (After (Some (exec file.now fun.now items.now)) text.now) }
+    ensures { IfAnswered result (After (Some (exec (called_of call.now))) text.now) }
 {
     let typed = typed_program(alloc, text)?;
-    let Some(function) = function_named(typed.program().funs.as_slice(), fun) else {
-        let name = Text::from_string(String::from_str(alloc, fun)?);
+    let Some(function) = function_named(typed.program().funs.as_slice(), call.fun) else {
+        let name = Text::from_string(String::from_str(alloc, call.fun)?);
         return Err(Failure::Refused(Refusal::NoFunction(name)));
     };
     let made = compile_typed(alloc, &typed)?;
+    let items = call.items.as_slice();
     if items.len() != function.params.len() {
         return Err(Failure::Refused(Refusal::Items));
     }
-    Ok(run_reply(alloc, made, fun, items)?)
+    items_are_words(items);
+    Ok(run_reply(alloc, made, call)?)
 }
 
 /// A request, from the reading on.
@@ -176,9 +176,7 @@ fn perform<S: Source>(
     let text = file_text(alloc, src, request.file())?;
     match request {
         Request::Compile { file } => compile_text(alloc, file, text.as_slice()),
-        Request::Exec { file, fun, items } => {
-            exec_reply(alloc, file, fun, items.as_slice(), text.as_slice())
-        }
+        Request::Exec(call) => exec_reply(alloc, &call, text.as_slice()),
     }
 }
 

@@ -3,14 +3,10 @@
 
 mod answer;
 pub mod correctness;
-mod exec;
 mod lines;
 mod refusal;
 mod run;
 mod stage;
-mod starts;
-mod words;
 
 pub use refusal::{Refusal, Status};
 pub use run::{Done, jasminc_run};
-pub use starts::exec_is_a_start;

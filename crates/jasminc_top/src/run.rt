@@ -1,7 +1,7 @@
 //! The call over all stages.
 
 ghost use Rattle.std.specs.Prelude.{[], codes};
-ghost use Rattle.jasminc_top.specs.Words.{texts_of, wanted_command};
+ghost use Rattle.jasminc_words.specs.Wanted.{texts_of, wanted_command};
 ghost use Rattle.jasminc_top.specs.Told.{source_told, sink_told};
 ghost use Rattle.jasminc_top.specs.Runs.{Writes, WritesNoMemory, WritesRefusal};
 ghost use Rattle.jasminc_top.specs.Promises.{KeepsPromises};
@@ -13,8 +13,8 @@ use jz_io::{Sink, Source, write_all};
 use jz_listing::Compiled;
 use std::alloc::Global;
 
-/// How a command ended, and what this call compiled: at Ok each export function in the text's
-/// order, else nothing.
+/// How a command ended, and what this call compiled: at Ok and OutOfFuel each export function in
+/// the text's order, else nothing.
 #[derive(Drop)]
 pub struct Done {
     pub status: Status,

@@ -1,0 +1,136 @@
+//! The words of the command line, by tables: which are a command, and how long a run may be.
+
+use crate::tests::{NO_FAULTS, Row, SUM, answer_rows, run};
+use jasminc_top::Status;
+use std::alloc::{AllocError, Global};
+use std::test::Fail;
+
+/// Command lines over a file add.jazz, and how they end: as a command, as one that names another
+/// file, or as none.
+static LINES: [(&str, Status); 32] = [
+    ("jasminc", Status::Usage),
+    ("jasminc add.jazz", Status::Usage),
+    ("jasminc run add.jazz", Status::Usage),
+    ("jasminc Compile add.jazz", Status::Usage),
+    ("jasminc comp add.jazz", Status::Usage),
+    ("jasminc help", Status::Usage),
+    ("jasminc help compile", Status::Usage),
+    ("jasminc --help", Status::Usage),
+    ("jasminc -h", Status::Usage),
+    ("jasminc --version", Status::Usage),
+    ("jasminc compile --help", Status::Usage),
+    ("jasminc exec -h add.jazz add 2 3", Status::Usage),
+    ("jasminc compile add.jazz add.jazz", Status::Usage),
+    ("jasminc compile --fuel 5 add.jazz", Status::Usage),
+    ("jasminc --fuel 5 exec add.jazz add 2 3", Status::Usage),
+    ("jasminc exec add.jazz add 2 3 --fuel", Status::Usage),
+    ("jasminc exec add.jazz add 2 3 --fuel -1", Status::Usage),
+    ("jasminc exec add.jazz add 2 3 --fuel five", Status::Usage),
+    ("jasminc exec add.jazz add 2 3 --fuel 007", Status::Usage),
+    ("jasminc exec add.jazz add 2 3 --fuel=", Status::Usage),
+    (
+        "jasminc exec add.jazz add 2 3 --fuel 5 --fuel 5",
+        Status::Usage,
+    ),
+    (
+        "jasminc exec add.jazz add 2 3 --fuel 18446744073709551616",
+        Status::Usage,
+    ),
+    ("jasminc exec add.jazz add 2 -3", Status::Usage),
+    ("jasminc -- compile add.jazz", Status::Usage),
+    ("jasminc compile --", Status::Usage),
+    ("jasminc compile -- --all", Status::ReadFault),
+    ("jasminc compile -", Status::ReadFault),
+    ("jasminc compile -- add.jazz", Status::Ok),
+    ("jasminc exec add.jazz add -- 2 3", Status::Ok),
+    ("jasminc exec --fuel=0x5 add.jazz add 2 3", Status::Ok),
+    ("jasminc exec add.jazz --fuel 5 add 2 3", Status::Ok),
+    ("jasminc exec add.jazz add 2 --fuel 5 3", Status::Ok),
+];
+
+/// How a command line ends.
+fn end_of(alloc: Global, line: &str) -> Result<Status, AllocError> {
+    let mut words = Vec::new(alloc);
+    for word in line.split(' ') {
+        words.push(word)?;
+    }
+    let ran = run(alloc, words.as_slice(), SUM, &NO_FAULTS)?;
+    Ok(ran.status)
+}
+
+#[test]
+fn which_words_are_a_command(rt: HostRuntime) -> Result<(), Fail> {
+    for (line, status) in LINES.iter() {
+        let ended = end_of(rt.alloc(), line)?;
+        assert!(rt; ended == *status, "{line}");
+    }
+    Ok(())
+}
+
+#[test]
+fn no_words_are_no_command(rt: HostRuntime) -> Result<(), Fail> {
+    let ran = run(rt.alloc(), &[], SUM, &NO_FAULTS)?;
+    assert!(rt; ran.status == Status::Usage);
+    assert_eq!(rt;
+        ran.written.as_slice(),
+        b"usage: jasminc COMMAND ARGS\n".as_slice()
+    );
+    Ok(())
+}
+
+/// Runs with so many steps. The function has three instructions, of which the last shows an event.
+static RUNS: [Row; 5] = [
+    Row {
+        words: &[
+            "jasminc", "exec", "add.jazz", "add", "2", "3", "--fuel", "0",
+        ],
+        text: SUM,
+        status: Status::OutOfFuel,
+        written: "cut 0\n",
+        made: 1,
+    },
+    Row {
+        words: &["jasminc", "exec", "--fuel=0x2", "add.jazz", "add", "2", "3"],
+        text: SUM,
+        status: Status::OutOfFuel,
+        written: "cut 2\n",
+        made: 1,
+    },
+    Row {
+        words: &[
+            "jasminc", "exec", "add.jazz", "--fuel", "3", "add", "2", "3",
+        ],
+        text: SUM,
+        status: Status::Ok,
+        written: "addr 0x00007fffffff0008\nend 3\nresult r 0x0000000000000005\n",
+        made: 1,
+    },
+    Row {
+        words: &[
+            "jasminc",
+            "exec",
+            "add.jazz",
+            "add",
+            "2",
+            "3",
+            "--fuel",
+            "18446744073709551615",
+        ],
+        text: SUM,
+        status: Status::Ok,
+        written: "addr 0x00007fffffff0008\nend 3\nresult r 0x0000000000000005\n",
+        made: 1,
+    },
+    Row {
+        words: &["jasminc", "exec", "add.jazz", "add", "2", "--fuel", "0"],
+        text: SUM,
+        status: Status::Precondition,
+        written: "precondition items\n",
+        made: 0,
+    },
+];
+
+#[test]
+fn runs_are_cut_after_so_many_steps(rt: HostRuntime) -> Result<(), Fail> {
+    answer_rows(&rt, rt.alloc(), &RUNS)
+}

@@ -1,0 +1,4 @@
+pub mod Adding
+pub mod Numerals
+pub mod NumbersFit
+mod WordExamples

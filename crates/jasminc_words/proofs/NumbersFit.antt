@@ -1,0 +1,93 @@
+-- The numbers of a command are words of 64 bits.
+use Rattle.std.proofs.Common.{◌≡◌, ℕ, ◌<◌, ◌^◌, Bool, true, false, ◌&&◌, nat_lt, if◌then◌else◌, List, [], ◌∷◌, drop, codes, Option, Some, None, refl, arith, subst, lit<}
+use Rattle.std.specs.Prelude.{◌==◌, option_and_then, unwrap_or}
+use Rattle.std.specs.List.{starts_with}
+use Rattle.std.specs.Option.{option_map}
+use Rattle.std.specs.Str.{bytes_eq}
+use Rattle.clap.specs.Words.{Row, Text, first_of, all_of, fault_of, subcommand_of}
+use Rattle.jasminc_words.specs.Commands.{jasminc_app}
+use Rattle.jasminc_words.specs.Numbers.{ItemsFit, is_numeral, numeral, has_leading_zero, number_of_word, numbers_of}
+use Rattle.jasminc_words.specs.Wanted.{Called, Wanted, compile, exec, HasFit, HasNumbers, number_or, fuel_in, items_in, call_of, call_in, compile_in, named, wanted_in, none_or, wanted_command}
+
+-- ---- numbers
+below : (z : Bool) (v n : ℕ) → z ≡ nat_lt v (2 ^ 64) → (if z then Some v else None) ≡ Some n → n < 2 ^ 64
+below true v n q e = let same : v ≡ n = cc in let lt : v < 2 ^ 64 = grind (arith, q) in subst (λ k. k < 2 ^ 64) same lt
+below false v n q e = cc
+
+chosen : (a : Bool) (v n : ℕ) → (if a && nat_lt v (2 ^ 64) then Some v else None) ≡ Some n → n < 2 ^ 64
+chosen false v n e = cc
+chosen true v n e = below (nat_lt v (2 ^ 64)) v n refl e
+
+numeral_fits : (base : ℕ) (digits : List ℕ) (n : ℕ) → numeral base digits ≡ Some n → n < 2 ^ 64
+numeral_fits base digits n e = chosen (is_numeral base digits) _ n e
+
+picked : (z y : Bool) (a b : Option ℕ) (n : ℕ) → (if z then a else (if y then None else b)) ≡ Some n → (a ≡ Some n → n < 2 ^ 64) → (b ≡ Some n → n < 2 ^ 64) → n < 2 ^ 64
+picked true y a b n e h k = h e
+picked false true a b n e h k = cc
+picked false false a b n e h k = k e
+
+word_fits : (word : List ℕ) (n : ℕ) → number_of_word word ≡ Some n → n < 2 ^ 64
+word_fits word n e = picked (starts_with ◌==◌ word (codes "0x")) (has_leading_zero word) _ _ n e (λ h. numeral_fits 16 (drop 2 word) n h) (λ h. numeral_fits 10 word n h)
+
+joined : (o : Option ℕ) (os : Option (List ℕ)) (ns : List ℕ) → option_and_then (λ n. option_and_then (λ ms. Some (n ∷ ms)) os) o ≡ Some ns
+    → ((n : ℕ) → o ≡ Some n → n < 2 ^ 64) → ((ms : List ℕ) → os ≡ Some ms → ItemsFit ms) → ItemsFit ns
+joined None os ns e h hs = cc
+joined (Some n) None ns e h hs = cc
+joined (Some n) (Some ms) ns e h hs = let same : n ∷ ms ≡ ns = cc in subst ItemsFit same (h n refl, hs ms refl)
+
+items_fit : (words : List (List ℕ)) (ns : List ℕ) → numbers_of words ≡ Some ns → ItemsFit ns
+items_fit [] ns e = let same : [] ≡ ns = cc in subst ItemsFit same tt
+items_fit (word ∷ words) ns e = joined (number_of_word word) (numbers_of words) ns e (λ n h. word_fits word n h) (λ ms h. items_fit words ms h)
+
+fuel_fits : (o : Option Text) (n : ℕ) → number_or 1000000 o ≡ Some n → n < 2 ^ 64
+fuel_fits None n e = let same : 1000000 ≡ n = cc in subst (λ k. k < 2 ^ 64) same (lit< tt)
+fuel_fits (Some word) n e = word_fits word n e
+
+-- ---- a run
+called_fits : (file fun : Option Text) (fuel : Option ℕ) (items : Option (List ℕ)) (call : Called) → call_of file fun fuel items ≡ Some call
+    → ((n : ℕ) → fuel ≡ Some n → n < 2 ^ 64) → ((ns : List ℕ) → items ≡ Some ns → ItemsFit ns) → HasFit call
+called_fits None fun fuel items call e h k = cc
+called_fits (Some file) None fuel items call e h k = cc
+called_fits (Some file) (Some fun) None items call e h k = cc
+called_fits (Some file) (Some fun) (Some n) None call e h k = cc
+called_fits (Some file) (Some fun) (Some n) (Some ns) call e h k =
+    let made : Called = record { file = file; fun = fun; items = ns; fuel = n } in
+    let same : made ≡ call = cc in
+    let fits : HasFit made = (k ns refl, h n refl) in
+    subst HasFit same fits
+
+call_fits : (rows : List Row) (call : Called) → call_in rows ≡ Some call → HasFit call
+call_fits rows call e =
+    called_fits (first_of (codes "FILE") rows) (first_of (codes "FUN") rows) (fuel_in rows) (items_in rows) call e
+    (fuel_fits (first_of (codes "fuel") rows)) (items_fit (unwrap_or (all_of (codes "ITEM") rows) []))
+
+-- ---- a command
+compile_fits : (file : Option Text) (wish : Wanted) → option_map compile file ≡ Some wish → HasNumbers wish
+compile_fits None wish e = cc
+compile_fits (Some file) wish e = let same : compile file ≡ wish = cc in subst HasNumbers same tt
+
+exec_fits : (o : Option Called) (wish : Wanted) → option_map exec o ≡ Some wish → ((call : Called) → o ≡ Some call → HasFit call) → HasNumbers wish
+exec_fits None wish e h = cc
+exec_fits (Some call) wish e h = let same : exec call ≡ wish = cc in subst HasNumbers same (h call refl)
+
+by_name : (a b : Bool) (file : Option Text) (o : Option Called) (wish : Wanted)
+    → (if a then option_map compile file else (if b then option_map exec o else None)) ≡ Some wish
+    → ((call : Called) → o ≡ Some call → HasFit call) → HasNumbers wish
+by_name true b file o wish e h = compile_fits file wish e
+by_name false true file o wish e h = exec_fits o wish e h
+by_name false false file o wish e h = cc
+
+rows_fit : (rows : Option (Text × List Row)) (wish : Wanted) → wanted_in rows ≡ Some wish → HasNumbers wish
+rows_fit None wish e = cc
+rows_fit (Some p) wish e =
+    by_name (bytes_eq p.0 (codes "compile")) (bytes_eq p.0 (codes "exec")) (first_of (codes "FILE") p.1) (call_in p.1) wish e
+    (λ call h. call_fits p.1 call h)
+
+no_faults : {X : Type 0} (faults : List X) (o : Option Wanted) (wish : Wanted) → none_or faults o ≡ Some wish → o ≡ Some wish
+no_faults [] o wish e = e
+no_faults (x ∷ xs) o wish e = cc
+
+pub words_fit : (words : List (List ℕ)) (wish : Wanted) → wanted_command words ≡ Some wish → HasNumbers wish
+unfolding wanted_command
+words_fit words wish e =
+    rows_fit (subcommand_of jasminc_app words) wish (no_faults (fault_of jasminc_app words) (wanted_in (subcommand_of jasminc_app words)) wish e)

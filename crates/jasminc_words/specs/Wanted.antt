@@ -1,0 +1,96 @@
+-- What the words of a command line ask for.
+use Rattle.std.specs.Prelude.{ℕ, ◌<◌, ◌^◌, if◌then◌else◌, List, [], ◌∷◌, map, Option, Some, None, ⊤}
+use Rattle.std.specs.Prelude.{unwrap_or, String, string_bytes, codes}
+use Rattle.std.specs.Option.{option_and_then, option_map}
+use Rattle.std.specs.Str.{bytes_eq}
+use Rattle.std.specs.declared.alloc.Global.{Global}
+use Rattle.clap.specs.Words.{Row, Text, first_of, all_of, fault_of, subcommand_of}
+use Rattle.jasminc_words.specs.Commands.{jasminc_app}
+use Rattle.jasminc_words.specs.Numbers.{ItemsFit, number_of_word, numbers_of}
+use Rattle.jasminc_words.specs.declared.request.Call.{Call}
+use Rattle.jasminc_words.specs.declared.request.Request.{Request}
+use Rattle.jasminc_words.specs.declared.request.Request.TheVariants as request
+
+-- a function of a file, what it is run on, and how long: steps of the machine, or turns of loops
+pub record Called : Type 0 where
+  pub file : List ℕ
+  pub fun : List ℕ
+  pub items : List ℕ
+  pub fuel : ℕ
+
+-- a command; its file, or what it runs
+pub data Wanted : Type 0 where
+  compile : List ℕ → Wanted
+  exec : Called → Wanted
+
+abbrev pub file_of : Wanted → List ℕ
+file_of (compile file) = file
+file_of (exec call) = call.file
+
+abbrev pub texts_of : List (String Global) → List (List ℕ)
+texts_of words = map string_bytes words
+
+-- ---- requests of the code
+abbrev pub called_of : Call → Called
+called_of c = record { file = c.file.now; fun = c.fun.now; items = c.items; fuel = c.fuel }
+
+abbrev pub wanted_of : Request → Wanted
+wanted_of (request.Compile file) = compile file.now
+wanted_of (request.Exec call) = exec (called_of call)
+
+-- ---- what matches ask for
+-- without `--fuel`
+abbrev pub default_fuel : ℕ
+default_fuel = 1000000
+
+abbrev pub number_or : ℕ → Option Text → Option ℕ
+number_or n None = Some n
+number_or n (Some word) = number_of_word word
+
+abbrev pub fuel_in : List Row → Option ℕ
+fuel_in rows = number_or default_fuel (first_of (codes "fuel") rows)
+
+abbrev pub items_in : List Row → Option (List ℕ)
+items_in rows = numbers_of (unwrap_or (all_of (codes "ITEM") rows) [])
+
+abbrev pub call_of : Option Text → Option Text → Option ℕ → Option (List ℕ) → Option Called
+call_of (Some file) (Some fun) (Some fuel) (Some items) =
+    Some (record { file = file; fun = fun; items = items; fuel = fuel })
+call_of file fun fuel items = None
+
+abbrev pub call_in : List Row → Option Called
+call_in rows =
+    call_of (first_of (codes "FILE") rows) (first_of (codes "FUN") rows) (fuel_in rows)
+    (items_in rows)
+
+abbrev pub compile_in : List Row → Option Wanted
+compile_in rows = option_map compile (first_of (codes "FILE") rows)
+
+-- by the name of the subcommand
+abbrev pub named : Text → List Row → Option Wanted
+named name rows =
+    if bytes_eq name (codes "compile") then compile_in rows
+    else (if bytes_eq name (codes "exec") then option_map exec (call_in rows) else None)
+
+abbrev pub wanted_in : Option (Text × List Row) → Option Wanted
+wanted_in rows = option_and_then (λ p. named p.0 p.1) rows
+
+-- nothing where there are faults
+abbrev pub none_or : {X Y : Type 0} → List X → Option Y → Option Y
+none_or [] y = y
+none_or (x ∷ xs) y = None
+
+-- The command that all the words are, the program's name first. They are one where no step of
+-- `clap`'s parse fails, and the numbers among them are numbers.
+unfoldable pub wanted_command : List (List ℕ) → Option Wanted
+wanted_command words =
+    none_or (fault_of jasminc_app words) (wanted_in (subcommand_of jasminc_app words))
+
+-- ---- what holds of each command
+abbrev pub HasFit : Called → Type 0
+HasFit call = ItemsFit call.items × (call.fuel < 2 ^ 64)
+
+-- its numbers are words of 64 bits
+abbrev pub HasNumbers : Wanted → Type 0
+HasNumbers (compile file) = ⊤
+HasNumbers (exec call) = HasFit call

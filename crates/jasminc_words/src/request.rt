@@ -1,0 +1,150 @@
+//! What words ask for.
+
+ghost use Rattle.std.specs.Prelude.{◌≡◌, IfOk, map};
+ghost use Rattle.std.specs.Option.{option_map};
+ghost use Rattle.clap.specs.Words.{rows_of, found_of, first_of, all_of, subcommand_rows_of};
+ghost use Rattle.jasminc_words.specs.Wanted.{exec, file_of, texts_of, called_of, wanted_of};
+ghost use Rattle.jasminc_words.specs.Wanted.{fuel_in, items_in, call_in, compile_in, wanted_in};
+ghost use Rattle.jasminc_words.specs.Wanted.{wanted_command};
+
+use crate::command::{Taken, matches_of};
+use crate::number::{number, numbers};
+use clap::ArgMatches;
+use jz_data::Seq;
+use std::alloc::{AllocError, Global};
+
+const DEFAULT_FUEL: u64 = 1_000_000;
+
+/// A function of a file, what it is run on, and how long.
+#[derive(Drop)]
+pub struct Call<'a> {
+    pub file: &'a str,
+    pub fun: &'a str,
+    pub items: Seq<u64>,
+    /// How many steps of the machine, or how many turns of loops.
+    pub fuel: u64,
+}
+
+/// A command of the program.
+#[derive(Drop)]
+pub enum Request<'a> {
+    Compile { file: &'a str },
+    /// A run of the compiled bytes.
+    Exec(Call<'a>),
+}
+
+impl<'a> Request<'a> {
+    /// The file that the command reads.
+    pub fn file(&self) -> &'a str
+        ensures { result.now ≡ file_of (wanted_of self.now) }
+    {
+        match self {
+            Request::Compile { file } => file,
+            Request::Exec(call) => call.file,
+        }
+    }
+}
+
+/// The value of an argument.
+fn value<'a>(inner: &ArgMatches<'a>, id: &str) -> Option<&'a str>
+    ensures { option_map (λ s. s.now) result ≡ first_of id.now (rows_of (found_of inner.now)) }
+{
+    inner.get_str(id)
+}
+
+/// The values of an argument.
+fn values<'m, 'a>(inner: &'m ArgMatches<'a>, id: &str) -> Option<&'m [&'a str]>
+    ensures { option_map (λ s. map (λ v. v.now) s.now) result
+        ≡ all_of id.now (rows_of (found_of inner.now)) }
+{
+    inner.get_strs(id)
+}
+
+/// How long a run may be, if the word that says it is a number.
+fn fuel_in(inner: &ArgMatches<'_>) -> Option<u64>
+    ensures { result ≡ fuel_in (rows_of (found_of inner.now)) }
+{
+    match value(inner, "fuel") {
+        None => Some(DEFAULT_FUEL),
+        Some(word) => number(word),
+    }
+}
+
+/// The items, if each is a number.
+fn items_in(alloc: Global, inner: &ArgMatches<'_>) -> Result<Option<Seq<u64>>, AllocError>
+    ensures { IfOk result (λ items. items ≡ items_in (rows_of (found_of inner.now))) }
+{
+    match values(inner, "ITEM") {
+        None => Ok(Some(Seq::new(alloc))),
+        Some(words) => numbers(alloc, words),
+    }
+}
+
+fn call_in<'a>(alloc: Global, inner: &ArgMatches<'a>) -> Result<Option<Call<'a>>, AllocError>
+    ensures { IfOk result (λ call. option_map called_of call
+        ≡ call_in (rows_of (found_of inner.now))) }
+{
+    let Some(file) = value(inner, "FILE") else {
+        return Ok(None);
+    };
+    let Some(fun) = value(inner, "FUN") else {
+        return Ok(None);
+    };
+    let Some(fuel) = fuel_in(inner) else {
+        return Ok(None);
+    };
+    match items_in(alloc, inner)? {
+        None => Ok(None),
+        Some(items) => Ok(Some(Call {
+            file,
+            fun,
+            items,
+            fuel,
+        })),
+    }
+}
+
+fn compile_request<'a>(inner: &ArgMatches<'a>) -> Option<Request<'a>>
+    ensures { option_map wanted_of result ≡ compile_in (rows_of (found_of inner.now)) }
+{
+    let file = value(inner, "FILE")?;
+    Some(Request::Compile { file })
+}
+
+fn exec_request<'a>(
+    alloc: Global,
+    inner: &ArgMatches<'a>,
+) -> Result<Option<Request<'a>>, AllocError>
+    ensures { IfOk result (λ request. option_map wanted_of request
+        ≡ option_map exec (call_in (rows_of (found_of inner.now)))) }
+{
+    match call_in(alloc, inner)? {
+        None => Ok(None),
+        Some(call) => Ok(Some(Request::Exec(call))),
+    }
+}
+
+/// What matches ask for.
+fn asked<'a>(alloc: Global, matches: &ArgMatches<'a>) -> Result<Option<Request<'a>>, AllocError>
+    ensures { IfOk result (λ request. option_map wanted_of request
+        ≡ wanted_in (subcommand_rows_of matches.now)) }
+{
+    match matches.subcommand() {
+        Some(("compile", inner)) => Ok(compile_request(inner)),
+        Some(("exec", inner)) => exec_request(alloc, inner),
+        _ => Ok(None),
+    }
+}
+
+/// The command that all the words are, the program's name first; none where `clap` has no matches
+/// for them, or where a number among them is none.
+pub fn request_of<'a>(alloc: Global, words: &'a [String]) -> Result<Option<Request<'a>>, AllocError>
+    ensures { IfOk result (λ request. option_map wanted_of request
+        ≡ wanted_command (texts_of words.now)) }
+{
+    match matches_of(alloc, words) {
+        Taken::Matches(matches) => asked(alloc, &matches),
+        Taken::Refused => Ok(None),
+        Taken::OutOfMemory => Err(AllocError),
+    }
+}
