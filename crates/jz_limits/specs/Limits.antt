@@ -1,12 +1,7 @@
 -- The first limit of an expansion, of all that is met in expanded order.
 use Rattle.std.specs.Prelude.{ℕ, suc, ◌≡◌, ◌≤◌, List, [], ◌∷◌, ◌++◌, All}
-use Rattle.jz_tree.specs.Span.{Span}
-
--- too many statements; an inline expression without a value; an index of a register array outside
--- its cells; an immediate, displacement, scale or count that has no field
-pub data Limit : Type 0 where
-  Expand : Limit
-  InlineWidth IndexRange ImmRange : Span → Limit
+pub use Rattle.jz_limits.specs.declared.limit.Limit.{Limit}
+use Rattle.jz_limits.specs.declared.limit.Limit.TheVariants.{Expand}
 
 -- what is met: one more statement, or something that passes a limit of its own
 pub data Step : Type 0 where
