@@ -13,7 +13,7 @@ use Rattle.jz_limits.specs.Asked.{set_value}
 use Rattle.jz_limits.specs.Values.{with_number, holds_in, inline_target, chosen, set_to, first_left, known_after}
 use Rattle.jz_first_limit.specs.InnerStraight.{is_true}
 
-abbrev set_if : KnownNumbers → Var → Option BinOp → Expr → Bool → KnownNumbers
+abbrev pub set_if : KnownNumbers → Var → Option BinOp → Expr → Bool → KnownNumbers
 set_if e v o x b = if b then with_number e v (the_number (set_value e v o x)) else e
 
 set_by : (e : KnownNumbers) (v : Var) (o : Option BinOp) (x : Expr) (c : Option Expr) (t : Option Bool) → holds_in e c ≡ t → set_to e (Some v) (whole_of (first_left (Some v)) o x) c ≡ set_if e v o x (is_true t)

@@ -4,7 +4,8 @@ use Rattle.std.specs.Prelude.{nat_le, replicate}
 use Rattle.std.proofs.lemmas.Bool.Decides.{nat_tests}
 use Rattle.jz_integers.specs.Integers.{KnownNumbers}
 use Rattle.jz_meaning.specs.Statements.{Operation}
-use Rattle.jz_limits.specs.Limits.{Limit, Step, one, passing, most_statements, count_of}
+use Rattle.jz_limits.specs.declared.limit.Limit.{Limit}
+use Rattle.jz_limits.specs.Limits.{Step, one, passing, most_statements, count_of}
 use Rattle.jz_limits.specs.declared.limit.Limit.TheVariants.{Expand}
 use Rattle.jz_limits.specs.InnerFirst.{first_from}
 use Rattle.jz_limits.specs.InnerLooked.{first}
@@ -192,6 +193,10 @@ none_left n m all left k h e =
     (record { none = here.steps; count = omega (arith, here.count); few = here.few }, here.known)
 
 -- ---- operations
+
+pub knows_same : (r : Met) (e : KnownNumbers) → Knows r e e
+knows_same (Within m) e = refl
+knows_same (Passed l) e = tt
 
 pub operation_met : (n : ℕ) (o : Operation) (e k : KnownNumbers) (r : Met) → MeetsSteps n (one ∷ limits (asked e o)) r → Knows r k (known_after e o) → Meets n (operation_walk o e) r k
 operation_met n o e k r h g = (h, g)

@@ -5,7 +5,8 @@ use Rattle.jz_tree.specs.declared.expr.Expr.{Expr}
 use Rattle.jz_integers.specs.Integers.{KnownNumbers, inline_value}
 use Rattle.jz_type_names.specs.Kinds.{is_inline}
 use Rattle.jz_type_names.specs.Parts.{span_of}
-use Rattle.jz_limits.specs.Limits.{Limit, passing}
+use Rattle.jz_limits.specs.declared.limit.Limit.{Limit}
+use Rattle.jz_limits.specs.Limits.{passing}
 use Rattle.jz_limits.specs.declared.limit.Limit.TheVariants.{InlineWidth}
 use Rattle.jz_limits.specs.InnerLooked.{first}
 use Rattle.jz_limits.specs.Asked.{asked_condition}
@@ -50,7 +51,7 @@ module _ (c : Expr) (a b : KnownNumbers → Walk) (e : KnownNumbers) where
   neither_met n l k (inl h) =
       subst (λ w. Meets n w (Passed l) k) (sym (arms_false h.0)) (limits_stop n (asked_condition e c) (followed (a e) b) l k (sym h.1))
   neither_met n l k (inr h) =
-      subst (λ w. Meets n w (Passed l) k) (sym (arms_true None h.0 h.1.0)) (ap (λ (m : Limit). Some m) (sym h.1.1), tt)
+      subst (λ w. Meets n w (Passed l) k) (sym (arms_true None h.0 h.1)) (ap (λ (m : Limit). Some m) (sym h.2), tt)
 
 -- nothing is behind the body of a `while`
 pub body_met : (c : Expr) (b : KnownNumbers → Walk) (e : KnownNumbers) (n : ℕ) (r : Met) (k : KnownNumbers) → IsTest e c arm.Both → Meets n (b e) r k → Meets n (arms c b silent e) r k

@@ -10,7 +10,8 @@ use Rattle.jz_type_names.specs.Parts.{span_of}
 use Rattle.jz_meaning.specs.Trees.{done}
 use Rattle.jz_meaning.specs.Statements.{Block, values_between}
 use Rattle.jz_meaning.specs.Runs.{Callees, block}
-use Rattle.jz_limits.specs.Limits.{Limit, Step, most_statements, count_of}
+use Rattle.jz_limits.specs.declared.limit.Limit.{Limit}
+use Rattle.jz_limits.specs.Limits.{Step, most_statements, count_of}
 use Rattle.jz_limits.specs.declared.limit.Limit.TheVariants.{InlineWidth}
 use Rattle.jz_limits.specs.InnerFirst.{first_from}
 use Rattle.jz_limits.specs.InnerLooked.{first}

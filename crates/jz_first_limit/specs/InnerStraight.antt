@@ -5,7 +5,8 @@ use Rattle.jz_tree.specs.declared.expr.BinOp.{BinOp}
 use Rattle.jz_tree.specs.declared.expr.Expr.{Expr}
 use Rattle.jz_tree.specs.declared.stmt.Lval.{Lval}
 use Rattle.jz_meaning.specs.Statements.{Operation, instruction, meaningless}
-use Rattle.jz_limits.specs.Limits.{Limit, one}
+use Rattle.jz_limits.specs.declared.limit.Limit.{Limit}
+use Rattle.jz_limits.specs.Limits.{one}
 use Rattle.jz_limits.specs.InnerLooked.{first}
 use Rattle.jz_limits.specs.Walks.{limits}
 use Rattle.jz_first_limit.specs.declared.met.Met.{Met}

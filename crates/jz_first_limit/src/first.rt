@@ -5,7 +5,7 @@ ghost use Rattle.jz_limits.specs.InnerFirst.{first_from};
 ghost use Rattle.jz_limits.specs.Walks.{steps_of};
 ghost use Rattle.jz_first_limit.specs.FirstLimits.{IsFirst};
 
-use crate::meeting::{Walker, meet_block};
+use crate::meeting::meet_block;
 use crate::met::Met;
 use jz_copies::{Callable, CopyLimit, copied_extent};
 use jz_limits::{Known, Limit};
@@ -19,11 +19,7 @@ fn first_in_order(alloc: Global, program: &Program, fun: &Fun) -> Result<Option<
 {
     let callable = Callable::of(alloc, &program.funs)?;
     let mut known = Known::new(alloc);
-    let walker = Walker {
-        alloc,
-        callable: &callable,
-    };
-    match meet_block(walker, callable.funs.len(), &fun.body, 0, &mut known)? {
+    match meet_block(&callable, callable.funs.len(), &fun.body, 0, &mut known)? {
         Met::Within(_) => Ok(None),
         Met::Passed(limit) => Ok(Some(limit)),
     }

@@ -13,7 +13,7 @@ ghost use Rattle.jz_limits.specs.Walks.{loop_walk, rounds, test_and_body, turns}
 ghost use Rattle.jz_limits.specs.Values.{with_number};
 ghost use Rattle.jz_first_limit.specs.InnerMet.{Meets, block_walk, body_walk};
 ghost use Rattle.jz_first_limit.specs.InnerMet.{piece_walk, values_left};
-ghost use Rattle.jz_first_limit.specs.InnerWalker.{callees_of_walker, counter_at};
+ghost use Rattle.jz_first_limit.specs.InnerWalker.{callees_in, counter_at};
 
 use crate::met::{Met, one_more, past_the_eighth};
 use crate::passing::{ask_arguments, ask_results, pass_numbers};
@@ -21,34 +21,27 @@ use crate::straight::{Assigning, meet_instruction, meet_value};
 use crate::testing::{Arms, test};
 use crate::turns::{Counter, Values, ask_bounds, turns_of};
 use jz_copies::Callable;
-use jz_limits::{Known, Limit};
+use jz_limits::Known;
 use jz_tree::{Expr, Fun, Lval, Rhs, Seq, Stmt, StmtKind, Text, Var};
-use std::alloc::{AllocError, Global};
-
-/// What a walk takes its memory from, and what can be called in it.
-#[derive(Clone, Copy)]
-pub struct Walker<'a> {
-    pub alloc: Global,
-    pub callable: &'a Callable<'a>,
-}
+use std::alloc::AllocError;
 
 /// Statements in their order, where calls may be so deep.
 #[cycle(meet)]
 pub fn meet_block(
-    walker: Walker<'_>,
+    callable: &Callable<'_>,
     left: usize,
     stmts: &Seq<Stmt>,
     count: usize,
     known: &mut Known,
 ) -> Result<Met, AllocError>
     requires { count ≤ most_statements }
-    ensures { let callees = callees_of_walker walker.entry left in
+    ensures { let callees = callees_in callable.now left in
         let walk = block_walk callees stmts.now (numbers_of known.old) in
         IfOk result (λ r. Meets count walk r (numbers_of known.new)) }
 {
     let mut met = count;
     for stmt in stmts.as_slice() {
-        match meet_statement(walker, left, stmt, met, known)? {
+        match meet_statement(callable, left, stmt, met, known)? {
             Met::Passed(limit) => return Ok(Met::Passed(limit)),
             Met::Within(more) => met = more,
         }
@@ -58,14 +51,14 @@ pub fn meet_block(
 
 #[cycle(meet)]
 fn meet_statement(
-    walker: Walker<'_>,
+    callable: &Callable<'_>,
     left: usize,
     stmt: &Stmt,
     count: usize,
     known: &mut Known,
 ) -> Result<Met, AllocError>
     requires { count ≤ most_statements }
-    ensures { let callees = callees_of_walker walker.entry left in
+    ensures { let callees = callees_in callable.now left in
         let walk = piece_walk (statement_tree callees stmt.now) (numbers_of known.old) in
         IfOk result (λ r. Meets count walk r (numbers_of known.new)) }
 {
@@ -73,11 +66,11 @@ fn meet_statement(
         StmtKind::Assign { to, op, rhs, cond } => {
             let op = *op;
             let assigning = Assigning { to, op, cond };
-            let met = meet_assign(walker, left, assigning, rhs, count, known)?;
+            let met = meet_assign(callable, left, assigning, rhs, count, known)?;
             Ok(met)
         }
         StmtKind::If(cond, holds, other) => {
-            let met = meet_if(walker, left, cond, holds, other, count, known)?;
+            let met = meet_if(callable, left, cond, holds, other, count, known)?;
             Ok(met)
         }
         StmtKind::While {
@@ -85,7 +78,7 @@ fn meet_statement(
             cond,
             body,
         } => {
-            let met = meet_while(walker, left, prologue, cond, body, count, known)?;
+            let met = meet_while(callable, left, prologue, cond, body, count, known)?;
             Ok(met)
         }
         StmtKind::For {
@@ -102,7 +95,7 @@ fn meet_statement(
                 down,
                 to,
             };
-            let met = meet_for(walker, left, counter, body, count, known)?;
+            let met = meet_for(callable, left, counter, body, count, known)?;
             Ok(met)
         }
         StmtKind::Mark(_) => Ok(Met::Within(count)),
@@ -111,7 +104,7 @@ fn meet_statement(
 
 #[cycle(meet)]
 fn meet_assign(
-    walker: Walker<'_>,
+    callable: &Callable<'_>,
     left: usize,
     assigning: Assigning<'_>,
     rhs: &Rhs,
@@ -119,24 +112,31 @@ fn meet_assign(
     known: &mut Known,
 ) -> Result<Met, AllocError>
     requires { count ≤ most_statements }
-    ensures { let callees = callees_of_walker walker.entry left in
+    ensures { let callees = callees_in callable.now left in
         let e = numbers_of known.old in
         (at : Place) →
-        let to = assigning.to.entry in
-        let tree = assign_tree callees to assigning.op rhs.now assigning.cond.entry at in
+        let to = assigning.entry.to.now in
+        let tree = assign_tree callees to assigning.entry.op rhs.now assigning.entry.cond.now at in
         IfOk result (λ r. Meets count (piece_walk tree e) r (numbers_of known.new)) }
 {
     match rhs {
         Rhs::Value(value) => {
-            let met = meet_value(walker.alloc, assigning, value, count, known)?;
+            let met = meet_value(callable.funs.allocator(), assigning, value, count, known)?;
             Ok(met)
         }
         Rhs::Call(name, args, _) => {
-            let met = meet_call(walker, left, assigning, name, args, count, known)?;
+            let met = meet_call(callable, left, assigning, name, args, count, known)?;
             Ok(met)
         }
         Rhs::Intrinsic(name, args, _) => {
-            let met = meet_instruction(walker.alloc, assigning, name, args, count, known)?;
+            let met = meet_instruction(
+                callable.funs.allocator(),
+                assigning,
+                name,
+                args,
+                count,
+                known,
+            )?;
             Ok(met)
         }
     }
@@ -144,7 +144,7 @@ fn meet_assign(
 
 #[cycle(meet)]
 fn meet_call(
-    walker: Walker<'_>,
+    callable: &Callable<'_>,
     left: usize,
     assigning: Assigning<'_>,
     name: &Text,
@@ -153,21 +153,18 @@ fn meet_call(
     known: &Known,
 ) -> Result<Met, AllocError>
     requires { count ≤ most_statements }
-    ensures { let callees = callees_of_walker walker.entry left in
+    ensures { let callees = callees_in callable.now left in
         let e = numbers_of known.now in
         (at : Place) →
-        let to = assigning.to.entry in
+        let to = assigning.entry.to.now in
         let called = callees name.now in
-        let tree = call_tree called to assigning.op args.now assigning.cond.entry at in
+        let tree = call_tree called to assigning.entry.op args.now assigning.entry.cond.now at in
         IfOk result (λ r. Meets count (piece_walk tree e) r e) }
 {
-    match walker
-        .callable
-        .called(left, assigning.op, name, assigning.cond)
-    {
+    match callable.called(left, assigning.op, name, assigning.cond) {
         None => Ok(one_more(count)),
         Some(fun) => {
-            let met = meet_callee(walker, left - 1, assigning.to, fun, args, count, known)?;
+            let met = meet_callee(callable, left - 1, assigning.to, fun, args, count, known)?;
             Ok(met)
         }
     }
@@ -176,7 +173,7 @@ fn meet_call(
 /// A call, in whose body calls may be so deep.
 #[cycle(meet)]
 fn meet_callee(
-    walker: Walker<'_>,
+    callable: &Callable<'_>,
     left: usize,
     to: &Seq<Lval>,
     fun: &Fun,
@@ -185,18 +182,20 @@ fn meet_callee(
     known: &Known,
 ) -> Result<Met, AllocError>
     requires { count ≤ most_statements }
-    ensures { let body = block_walk (callees_of_walker walker.entry left) fun.now.body in
+    ensures { let body = block_walk (callees_in callable.now left) fun.now.body in
         let e = numbers_of known.now in
         (at : Place) →
         let call : Called = record { to = to.now; callee = fun.now; args = args.now; at = at } in
         IfOk result (λ r. Meets count (call_walk call body e) r e) }
 {
+    let given = args.len();
+    let results = to.len();
     match one_more(count) {
         Met::Passed(limit) => Ok(Met::Passed(limit)),
-        Met::Within(count) => match past_the_eighth(count, args.len(), to.len()) {
+        Met::Within(count) => match past_the_eighth(count, given, results) {
             Met::Passed(limit) => Ok(Met::Passed(limit)),
             Met::Within(count) => {
-                let met = meet_copies(walker, left, to, fun, args, count, known)?;
+                let met = meet_copies(callable, left, to, fun, args, count, known)?;
                 Ok(met)
             }
         },
@@ -206,7 +205,7 @@ fn meet_callee(
 /// What a call copies, without its own count.
 #[cycle(meet)]
 fn meet_copies(
-    walker: Walker<'_>,
+    callable: &Callable<'_>,
     left: usize,
     to: &Seq<Lval>,
     fun: &Fun,
@@ -215,21 +214,27 @@ fn meet_copies(
     known: &Known,
 ) -> Result<Met, AllocError>
     requires { count ≤ most_statements }
-    ensures { let body = block_walk (callees_of_walker walker.entry left) fun.now.body in
+    ensures { let body = block_walk (callees_in callable.now left) fun.now.body in
         let e = numbers_of known.now in
         (at : Place) →
         let call : Called = record { to = to.now; callee = fun.now; args = args.now; at = at } in
         IfOk result (λ r. Meets count (callee_walk call body e) r e) }
 {
-    match ask_arguments(walker.alloc, known, &fun.params, args)? {
+    match ask_arguments(callable.funs.allocator(), known, &fun.params, args)? {
         Some(limit) => Ok(Met::Passed(limit)),
         None => {
-            let mut inner = Known::new(walker.alloc);
-            pass_numbers(walker.alloc, known, &fun.params, args, &mut inner)?;
-            match meet_block(walker, left, &fun.body, count, &mut inner)? {
+            let mut inner = Known::new(callable.funs.allocator());
+            pass_numbers(
+                callable.funs.allocator(),
+                known,
+                &fun.params,
+                args,
+                &mut inner,
+            )?;
+            match meet_block(callable, left, &fun.body, count, &mut inner)? {
                 Met::Passed(limit) => Ok(Met::Passed(limit)),
                 Met::Within(count) => {
-                    match ask_results(walker.alloc, known, to, &fun.result)? {
+                    match ask_results(callable.funs.allocator(), known, to, &fun.result)? {
                         Some(limit) => Ok(Met::Passed(limit)),
                         None => Ok(Met::Within(count)),
                     }
@@ -242,20 +247,20 @@ fn meet_copies(
 /// A body that may be absent.
 #[cycle(meet)]
 fn meet_body(
-    walker: Walker<'_>,
+    callable: &Callable<'_>,
     left: usize,
     body: &Option<Seq<Stmt>>,
     count: usize,
     known: &mut Known,
 ) -> Result<Met, AllocError>
     requires { count ≤ most_statements }
-    ensures { let walk = body_walk (callees_of_walker walker.entry left) body.now in
+    ensures { let walk = body_walk (callees_in callable.now left) body.now in
         IfOk result (λ r. Meets count (walk (numbers_of known.old)) r (numbers_of known.new)) }
 {
     match body {
         None => Ok(Met::Within(count)),
         Some(stmts) => {
-            let met = meet_block(walker, left, stmts, count, known)?;
+            let met = meet_block(callable, left, stmts, count, known)?;
             Ok(met)
         }
     }
@@ -263,7 +268,7 @@ fn meet_body(
 
 #[cycle(meet)]
 fn meet_if(
-    walker: Walker<'_>,
+    callable: &Callable<'_>,
     left: usize,
     cond: &Expr,
     holds: &Seq<Stmt>,
@@ -272,7 +277,7 @@ fn meet_if(
     known: &mut Known,
 ) -> Result<Met, AllocError>
     requires { count ≤ most_statements }
-    ensures { let callees = callees_of_walker walker.entry left in
+    ensures { let callees = callees_in callable.now left in
         let both = arms cond.now (block_walk callees holds.now) (block_walk callees other.now) in
         let walk = behind (one ∷ []) (both (numbers_of known.old)) in
         IfOk result (λ r. Meets count walk r (numbers_of known.new)) }
@@ -280,7 +285,7 @@ fn meet_if(
     match one_more(count) {
         Met::Passed(limit) => Ok(Met::Passed(limit)),
         Met::Within(count) => {
-            let met = meet_arms(walker, left, cond, holds, other, count, known)?;
+            let met = meet_arms(callable, left, cond, holds, other, count, known)?;
             Ok(met)
         }
     }
@@ -289,7 +294,7 @@ fn meet_if(
 /// The arms of an `if` that its test takes.
 #[cycle(meet)]
 fn meet_arms(
-    walker: Walker<'_>,
+    callable: &Callable<'_>,
     left: usize,
     cond: &Expr,
     holds: &Seq<Stmt>,
@@ -298,25 +303,25 @@ fn meet_arms(
     known: &mut Known,
 ) -> Result<Met, AllocError>
     requires { count ≤ most_statements }
-    ensures { let callees = callees_of_walker walker.entry left in
+    ensures { let callees = callees_in callable.now left in
         let both = arms cond.now (block_walk callees holds.now) (block_walk callees other.now) in
         let walk = both (numbers_of known.old) in
         IfOk result (λ r. Meets count walk r (numbers_of known.new)) }
 {
-    match test(walker.alloc, known, cond)? {
+    match test(callable.funs.allocator(), known, cond)? {
         Arms::Neither(limit) => Ok(Met::Passed(limit)),
         Arms::First => {
-            let met = meet_block(walker, left, holds, count, known)?;
+            let met = meet_block(callable, left, holds, count, known)?;
             Ok(met)
         }
         Arms::Second => {
-            let met = meet_block(walker, left, other, count, known)?;
+            let met = meet_block(callable, left, other, count, known)?;
             Ok(met)
         }
-        Arms::Both => match meet_block(walker, left, holds, count, known)? {
+        Arms::Both => match meet_block(callable, left, holds, count, known)? {
             Met::Passed(limit) => Ok(Met::Passed(limit)),
             Met::Within(count) => {
-                let met = meet_block(walker, left, other, count, known)?;
+                let met = meet_block(callable, left, other, count, known)?;
                 Ok(met)
             }
         },
@@ -325,7 +330,7 @@ fn meet_arms(
 
 #[cycle(meet)]
 fn meet_while(
-    walker: Walker<'_>,
+    callable: &Callable<'_>,
     left: usize,
     prologue: &Seq<Stmt>,
     cond: &Expr,
@@ -334,17 +339,17 @@ fn meet_while(
     known: &mut Known,
 ) -> Result<Met, AllocError>
     requires { count ≤ most_statements }
-    ensures { let callees = callees_of_walker walker.entry left in
+    ensures { let callees = callees_in callable.now left in
         let all = turns cond.now (block_walk callees prologue.now) (body_walk callees body.now) in
         let walk = behind (one ∷ []) (all (numbers_of known.old)) in
         IfOk result (λ r. Meets count walk r (numbers_of known.new)) }
 {
     match one_more(count) {
         Met::Passed(limit) => Ok(Met::Passed(limit)),
-        Met::Within(count) => match meet_block(walker, left, prologue, count, known)? {
+        Met::Within(count) => match meet_block(callable, left, prologue, count, known)? {
             Met::Passed(limit) => Ok(Met::Passed(limit)),
             Met::Within(count) => {
-                let met = meet_turn_end(walker, left, cond, body, count, known)?;
+                let met = meet_turn_end(callable, left, cond, body, count, known)?;
                 Ok(met)
             }
         },
@@ -354,7 +359,7 @@ fn meet_while(
 /// The test of a `while` and its body.
 #[cycle(meet)]
 fn meet_turn_end(
-    walker: Walker<'_>,
+    callable: &Callable<'_>,
     left: usize,
     cond: &Expr,
     body: &Option<Seq<Stmt>>,
@@ -362,19 +367,19 @@ fn meet_turn_end(
     known: &mut Known,
 ) -> Result<Met, AllocError>
     requires { count ≤ most_statements }
-    ensures { let body = body_walk (callees_of_walker walker.entry left) body.now in
+    ensures { let body = body_walk (callees_in callable.now left) body.now in
         let walk = test_and_body cond.now body (numbers_of known.old) in
         IfOk result (λ r. Meets count walk r (numbers_of known.new)) }
 {
-    match test(walker.alloc, known, cond)? {
+    match test(callable.funs.allocator(), known, cond)? {
         Arms::Neither(limit) => Ok(Met::Passed(limit)),
         Arms::First => {
-            let met = meet_body(walker, left, body, count, known)?;
+            let met = meet_body(callable, left, body, count, known)?;
             Ok(met)
         }
         Arms::Second => Ok(Met::Within(count)),
         Arms::Both => {
-            let met = meet_body(walker, left, body, count, known)?;
+            let met = meet_body(callable, left, body, count, known)?;
             Ok(met)
         }
     }
@@ -382,7 +387,7 @@ fn meet_turn_end(
 
 #[cycle(meet)]
 fn meet_for(
-    walker: Walker<'_>,
+    callable: &Callable<'_>,
     left: usize,
     counter: Counter<'_>,
     body: &Seq<Stmt>,
@@ -390,18 +395,18 @@ fn meet_for(
     known: &mut Known,
 ) -> Result<Met, AllocError>
     requires { count ≤ most_statements }
-    ensures { let body = block_walk (callees_of_walker walker.entry left) body.now in
+    ensures { let body = block_walk (callees_in callable.now left) body.now in
         let e = numbers_of known.old in
         (at : Place) →
-        let walk = loop_walk (counter_at counter at) body e in
+        let walk = loop_walk (counter_at counter.entry at) body e in
         IfOk result (λ r. Meets count walk r (numbers_of known.new)) }
 {
-    match ask_bounds(walker.alloc, known, counter)? {
+    match ask_bounds(callable.funs.allocator(), known, counter)? {
         Some(limit) => Ok(Met::Passed(limit)),
         None => {
-            let values = turns_of(walker.alloc, known, counter)?;
+            let values = turns_of(callable.funs.allocator(), known, counter)?;
             let before = known.of(counter.counter);
-            match meet_rounds(walker, left, counter.counter, values, body, count, known)? {
+            match meet_rounds(callable, left, counter.counter, values, body, count, known)? {
                 Met::Passed(limit) => Ok(Met::Passed(limit)),
                 Met::Within(count) => {
                     known.set(counter.counter, before)?;
@@ -415,7 +420,7 @@ fn meet_for(
 /// A round for each of these values of the counter.
 #[cycle(meet)]
 fn meet_rounds(
-    walker: Walker<'_>,
+    callable: &Callable<'_>,
     left: usize,
     counter: &Var,
     values: Values,
@@ -424,14 +429,14 @@ fn meet_rounds(
     known: &mut Known,
 ) -> Result<Met, AllocError>
     requires { count ≤ most_statements }
-    ensures { let body = block_walk (callees_of_walker walker.entry left) body.now in
+    ensures { let body = block_walk (callees_in callable.now left) body.now in
         let walk = rounds counter.now body (values_left values) (numbers_of known.old) in
         IfOk result (λ r. Meets count walk r (numbers_of known.new)) }
 {
     let mut met = count;
     let mut values = values;
     while let Some(value) = values.take() {
-        match meet_round(walker, left, counter, value, body, met, known)? {
+        match meet_round(callable, left, counter, value, body, met, known)? {
             Met::Passed(limit) => return Ok(Met::Passed(limit)),
             Met::Within(more) => met = more,
         }
@@ -442,7 +447,7 @@ fn meet_rounds(
 /// One round, which counts one.
 #[cycle(meet)]
 fn meet_round(
-    walker: Walker<'_>,
+    callable: &Callable<'_>,
     left: usize,
     counter: &Var,
     value: i128,
@@ -451,7 +456,7 @@ fn meet_round(
     known: &mut Known,
 ) -> Result<Met, AllocError>
     requires { count ≤ most_statements }
-    ensures { let body = block_walk (callees_of_walker walker.entry left) body.now in
+    ensures { let body = block_walk (callees_in callable.now left) body.now in
         let set = with_number (numbers_of known.old) counter.now (Some value) in
         let walk = behind (one ∷ []) (body set) in
         IfOk result (λ r. Meets count walk r (numbers_of known.new)) }
@@ -460,7 +465,7 @@ fn meet_round(
         Met::Passed(limit) => Ok(Met::Passed(limit)),
         Met::Within(count) => {
             known.set(counter, Some(value))?;
-            let met = meet_block(walker, left, body, count, known)?;
+            let met = meet_block(callable, left, body, count, known)?;
             Ok(met)
         }
     }

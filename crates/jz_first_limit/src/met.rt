@@ -1,6 +1,6 @@
 //! How far a walk has come: how many statements it has met, or the limit that it passes.
 
-ghost use Rattle.std.specs.Prelude.{◌≤◌, ◌+◌, ◌-◌, ◌∷◌, [], replicate};
+ghost use Rattle.std.specs.Prelude.{◌≡◌, ◌≤◌, ◌<◌, ◌+◌, ◌-◌, ◌∷◌, [], replicate, MatchOption};
 ghost use Rattle.jz_limits.specs.Limits.{most_statements, one};
 ghost use Rattle.jz_first_limit.specs.InnerMet.{MeetsSteps};
 
@@ -28,21 +28,31 @@ pub fn one_more(count: usize) -> Met
     }
 }
 
+/// A sum of statements, where there may be so many.
+fn sum_within(count: usize, more: usize) -> Option<usize>
+    requires { count ≤ most_statements }
+    ensures { MatchOption result (most_statements < count + more)
+        (λ sum. (sum ≡ count + more) × (sum ≤ most_statements)) }
+{
+    if more > MOST_STATEMENTS - count {
+        None
+    } else {
+        Some(count + more)
+    }
+}
+
 /// So many more.
-#[tactic(auto, using(crate::proofs::Steps::all_one))]
 pub fn several_more(count: usize, more: usize) -> Met
     requires { count ≤ most_statements }
     ensures { MeetsSteps count (replicate more one) result }
 {
-    if more > MOST_STATEMENTS - count {
-        Met::Passed(Limit::Expand)
-    } else {
-        Met::Within(count + more)
+    match sum_within(count, more) {
+        None => Met::Passed(Limit::Expand),
+        Some(sum) => Met::Within(sum),
     }
 }
 
 /// One more for each argument and result past the eighth, counted together.
-#[tactic(auto, using(crate::proofs::Steps::eight_then))]
 pub fn past_the_eighth(count: usize, args: usize, results: usize) -> Met
     requires { count ≤ most_statements }
     ensures { MeetsSteps count (replicate ((args + results) - 8) one) result }

@@ -6,7 +6,7 @@ ghost use Rattle.jz_limits.specs.InnerKnown.{numbers_of};
 ghost use Rattle.jz_limits.specs.InnerLooked.{first};
 ghost use Rattle.jz_limits.specs.Walks as walks;
 ghost use Rattle.jz_limits.specs.Walks.{argument_limits, one_argument, one_result, result_limits};
-ghost use Rattle.jz_limits.specs.Walks.{with_argument, with_arguments};
+ghost use Rattle.jz_limits.specs.Walks.{given_limits, with_argument, with_arguments};
 ghost use Rattle.jz_meaning.specs.Values.{ref_of};
 
 use jz_integers::inline_value;
@@ -81,7 +81,8 @@ fn pass_one(
 {
     if is_int(param) {
         let value = inline_value(alloc, known, arg)?;
-        inner.set(param, the_number(value))
+        inner.set(param, the_number(value))?;
+        Ok(())
     } else {
         Ok(())
     }
@@ -108,7 +109,26 @@ pub fn pass_numbers(
     Ok(())
 }
 
-/// The first limit of one result; an array is not copied, and neither is what is dropped.
+/// The first limit of a result that is no array; what is dropped is not copied.
+fn ask_given(
+    alloc: Global,
+    known: &Known,
+    left: &Lval,
+    var: &Var,
+) -> Result<Option<Limit>, AllocError>
+    ensures { (at : Place) →
+        let limits = given_limits (numbers_of known.now) at left.now var.now in
+        IfOk result (λ found. found ≡ first limits) }
+{
+    match left {
+        Lval::Skip(_) => Ok(None),
+        Lval::Var(_) => ask_result(alloc, known, left, var),
+        Lval::Cell(_, _) => ask_result(alloc, known, left, var),
+        Lval::Store(_) => ask_result(alloc, known, left, var),
+    }
+}
+
+/// The first limit of one result; an array is not copied.
 fn ask_one_result(
     alloc: Global,
     known: &Known,
@@ -120,13 +140,9 @@ fn ask_one_result(
         IfOk result (λ found. found ≡ first limits) }
 {
     if is_array(var) {
-        return Ok(None);
-    }
-    match left {
-        Lval::Skip(_) => Ok(None),
-        Lval::Var(_) => ask_result(alloc, known, left, var),
-        Lval::Cell(_, _) => ask_result(alloc, known, left, var),
-        Lval::Store(_) => ask_result(alloc, known, left, var),
+        Ok(None)
+    } else {
+        ask_given(alloc, known, left, var)
     }
 }
 

@@ -64,7 +64,7 @@ fn update(
     known: &mut Known,
 ) -> Result<(), AllocError>
     ensures { (at : Place) →
-        let done = assign assigning.to.entry assigning.op value.now assigning.cond.entry at in
+        let done = assign assigning.entry.to.now assigning.entry.op value.now assigning.entry.cond.now at in
         OnOk result (numbers_of known.new ≡ known_after (numbers_of known.old) done) }
 {
     match inline_target(assigning.to) {
@@ -73,7 +73,8 @@ fn update(
             let holds = holds(alloc, known, assigning.cond)?;
             let set = value_set(alloc, known, var, assigning.op, value)?;
             if holds {
-                known.set(var, the_number(set))
+                known.set(var, the_number(set))?;
+                Ok(())
             } else {
                 Ok(())
             }
@@ -91,7 +92,7 @@ pub fn meet_value(
 ) -> Result<Met, AllocError>
     requires { count ≤ most_statements }
     ensures { (at : Place) →
-        let done = assign assigning.to.entry assigning.op value.now assigning.cond.entry at in
+        let done = assign assigning.entry.to.now assigning.entry.op value.now assigning.entry.cond.now at in
         let walk = operation_walk done (numbers_of known.old) in
         IfOk result (λ r. Meets count walk r (numbers_of known.new)) }
 {
@@ -118,8 +119,8 @@ pub fn meet_instruction(
     requires { count ≤ most_statements }
     ensures { let e = numbers_of known.now in
         (at : Place) →
-        let to = assigning.to.entry in
-        let done = instructed_of to assigning.op name.now args.now assigning.cond.entry at in
+        let to = assigning.entry.to.now in
+        let done = instructed_of to assigning.entry.op name.now args.now assigning.entry.cond.now at in
         IfOk result (λ r. Meets count (operation_walk done e) r e) }
 {
     match assigning.op {

@@ -92,9 +92,9 @@ fn between(down: bool, from: Option<i128>, to: Option<i128>) -> Values
 
 /// The values that the counter takes; none where a bound has no value.
 pub fn turns_of(alloc: Global, known: &Known, counter: Counter<'_>) -> Result<Values, AllocError>
-    ensures { let from = number_in (numbers_of known.now) counter.from.entry in
-        let to = number_in (numbers_of known.now) counter.to.entry in
-        IfOk result (λ values. values_left values ≡ counted_values counter.down from to) }
+    ensures { let from = number_in (numbers_of known.now) counter.entry.from.now in
+        let to = number_in (numbers_of known.now) counter.entry.to.now in
+        IfOk result (λ values. values_left values ≡ counted_values counter.entry.down from to) }
 {
     let from = inline_value(alloc, known, counter.from)?;
     let to = inline_value(alloc, known, counter.to)?;
@@ -108,8 +108,8 @@ pub fn ask_bounds(
     known: &Known,
     counter: Counter<'_>,
 ) -> Result<Option<Limit>, AllocError>
-    ensures { let from = widths (numbers_of known.now) counter.from.entry in
-        let to = widths (numbers_of known.now) counter.to.entry in
+    ensures { let from = widths (numbers_of known.now) counter.entry.from.now in
+        let to = widths (numbers_of known.now) counter.entry.to.now in
         IfOk result (λ found. found ≡ first (from ++ to)) }
 {
     let from = ask_bound(alloc, known, counter.from)?;
