@@ -1,5 +1,5 @@
 -- Two lists in step: what each pair gives, one after another, and where the next pair begins.
-use Rattle.std.proofs.Common.{◌≡◌, ℕ, ◌+◌, ◌<◌, ◌≤◌, List, [], ◌∷◌, ◌++◌, length, get_or, drop, Bool, true, false, Option, Some, None, refl, sym, ap, ◌∙◌, append_assoc, append-nil}
+use Rattle.std.proofs.Common.{◌≡◌, ℕ, ◌+◌, ◌<◌, ◌≤◌, List, [], ◌∷◌, ◌++◌, length, get_or, drop, Bool, true, false, Some, None, refl, sym, ap, ◌∙◌, append_assoc, append-nil}
 use Rattle.std.specs.Prelude.{if◌then◌else◌, not, slice_get}
 use Rattle.jz_tree.specs.Span.{Span}
 use Rattle.jz_tree.specs.declared.expr.Expr.{Expr}
@@ -19,7 +19,7 @@ use Rattle.jz_inline.specs.Calls as calls
 use Rattle.jz_inline.specs.Calls.{from, argument_items, result_items}
 use Rattle.jz_inline.specs.Statements.{set_statement, argument_statements, result_statement, result_statements}
 use Rattle.jz_inline.proofs.Passed.{at_item, at_got, at_end, at_none}
-use Rattle.jz_inlining.specs.InnerCopies.{one_argument, is_copied, one_result}
+use Rattle.jz_inlining.specs.InnerCopies.{one_argument, one_result}
 use Rattle.jz_inlining.specs.InnerItems.{argument_item, behind_argument, result_item, behind_result}
 
 -- what is given of two lists from a number on: that of the first pair, and then of the others

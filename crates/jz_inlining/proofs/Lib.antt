@@ -4,3 +4,4 @@ pub mod Adding
 pub mod Calling
 pub mod InStep
 pub mod Pushed
+pub mod Kept

@@ -14,7 +14,6 @@ use Rattle.jz_tree.specs.declared.stmt.StmtKind.TheOpen.{StmtKind-F}
 use Rattle.jz_tree.specs.declared.stmt.StmtKind.TheFolds.{fold-StmtKind, fold-roll-Stmt, fold-roll-StmtKind}
 use Rattle.jz_tree.specs.declared.program.Fun.{Fun}
 use Rattle.jz_tree.specs.declared.program.Note.{Note}
-use Rattle.jz_type_names.specs.Scopes.{function_named}
 use Rattle.jz_copies.specs.Called.{called_function}
 use Rattle.jz_inline.specs.Names.{var_in, expr_in}
 use Rattle.jz_inline.specs.Statements.{Piece, CopiedFun, CopiedFuns, plain_assignment, copied_piece, call_piece, assign_piece, if_piece, for_piece, kind_made, statement_piece, body_piece, with_piece, copied_funs}

@@ -1,5 +1,5 @@
 -- What the code adds to the statements that it has copied.
-use Rattle.std.specs.Prelude.{ℕ, suc, ◌+◌, ◌≤◌, ◌≡◌, Bool, false, not, if◌then◌else◌, List, [], ◌∷◌, ◌++◌, map, Option, Some, None}
+use Rattle.std.specs.Prelude.{ℕ, ◌+◌, ◌≤◌, ◌≡◌, Bool, false, not, if◌then◌else◌, List, [], ◌∷◌, ◌++◌, map, Option, Some, None}
 use Rattle.jz_tree.specs.Span.{Span}
 use Rattle.jz_tree.specs.declared.expr.Expr.{Expr}
 use Rattle.jz_tree.specs.declared.expr.Expr.TheVariants as expr
@@ -16,7 +16,7 @@ use Rattle.jz_change.specs.declared.change.Numbers.{Numbers}
 use Rattle.jz_change.specs.declared.change.Step.{Step}
 use Rattle.jz_bodies.specs.Calls.{is_array}
 use Rattle.jz_inline.specs.Names.{Names, var_in, expr_in, lval_in}
-use Rattle.jz_inline.specs.Calls.{callee_names, call_place, argument_items, result_items}
+use Rattle.jz_inline.specs.Calls.{call_place, argument_items, result_items}
 use Rattle.jz_inline.specs.Statements.{Piece, statement, set_statement, CopiedFuns, copied_funs, argument_statements, result_statements, plain_piece, plain_assignment, copied_piece, assign_piece, if_piece, while_piece, until_piece, for_piece, body_piece}
 use Rattle.jz_inlining.specs.declared.copier.Copier.{Copier}
 use Rattle.jz_inlining.specs.declared.copier.Copied.{Copied}

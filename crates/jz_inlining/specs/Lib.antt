@@ -1,2 +1,3 @@
+pub mod Inlined
 pub mod InnerCopies
 pub mod InnerItems

@@ -3,10 +3,12 @@
 
 mod copier;
 mod copying;
+mod inlining;
 mod numbers;
 mod parts;
 mod passing;
 mod plain;
 mod whole;
 
+pub use inlining::{Inlined, inline, is_export};
 pub use jz_copies::{CopyLimit, Extent};

@@ -1,4 +1,4 @@
-use Rattle.std.proofs.Common.{rules, ◌≤◌, ◌+◌, ◌-◌, ◌∙◌, refl, ap, sym, subst, arith}
+use Rattle.std.proofs.Common.{rules, ◌≤◌, ◌∙◌, refl, ap, sym, subst, arith}
 use Rattle.std.specs.Option.{option_copied}
 use Rattle.jz_tree.specs.declared.stmt.StmtKind.TheVariants as kind
 use Rattle.jz_interp.proofs.Falls.{weights_at, weight_if, weight_assign, weight_for, weight_while, one_deeper}
@@ -6,7 +6,7 @@ use Rattle.jz_interp.proofs.Weights.{weight, weights, body_weight}
 use Rattle.jz_inline.specs.Names.{var_in, expr_in}
 use Rattle.jz_inline.specs.CopiedNames.{names_of}
 use Rattle.jz_inline.specs.Statements.{CopiedFuns, body_piece}
-use Rattle.jz_inlining.specs.InnerCopies.{Adds, Fits, funs_in, block_in, assignment_piece, called_piece, while_of}
+use Rattle.jz_inlining.specs.InnerCopies.{Adds, Fits, funs_in, block_in, assignment_piece, while_of}
 use Rattle.jz_inlining.specs.declared.copier.Copied.{Copied}
 use Rattle.jz_inlining.proofs.Pieces.{assign_is, if_is, while_is, for_is, mark_is, called_is, plain_value, plain_intrinsic, plain_called}
 use Rattle.jz_inlining.proofs.Blocks.{begun, fits, one_more, none_left}
