@@ -85,7 +85,7 @@ operand_typed : (z : Option Size) (r : Role) (e : Expr) → Operand z r e → Is
 operand_typed z r e (inl a) n = absurd (no_array (is_some (array_of e)) a (ap is_some n))
 operand_typed z r e (inr t) n = t
 
-operands_typed : (z : Option Size) {rs : List Role} {es : List Expr} → InPairs (Operand z) rs es → All IsNoArray es → InPairs (Typed z) rs es
+pub operands_typed : (z : Option Size) {rs : List Role} {es : List Expr} → InPairs (Operand z) rs es → All IsNoArray es → InPairs (Typed z) rs es
 operands_typed z well.none n = well.none
 operands_typed z (well.next {a = r} {b = e} {as' = rs} {bs = es} t ts) n =
     well.next (operand_typed z r e t (All-head IsNoArray e es n)) (operands_typed z ts (All-tail IsNoArray e es n))
@@ -272,7 +272,7 @@ longest : (o : Option Size) → is_longest o ≡ true → o ≡ Some S64
 longest (Some S64) e = refl
 longest o e = absurd (false≢true e)
 
-lea_size : (z : Option Size) (d : Lval) (rest : Option Size) → is_longest (option_or z (class_size (dest_of d))) ≡ true → option_or z (option_or (option_or (left_form d).size None) rest) ≡ Some S64
+pub lea_size : (z : Option Size) (d : Lval) (rest : Option Size) → is_longest (option_or z (class_size (dest_of d))) ≡ true → option_or z (option_or (option_or (left_form d).size None) rest) ≡ Some S64
 lea_size (Some y) d rest e = longest (Some y) e
 lea_size None d rest e = ap (λ x. option_or (option_or x None) rest) (result_law d S64 (longest (class_size (dest_of d)) e))
 

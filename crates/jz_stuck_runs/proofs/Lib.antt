@@ -16,3 +16,4 @@ pub mod Fitting
 pub mod RowSizes
 pub mod Instructing
 pub mod Whole
+pub mod Sizes

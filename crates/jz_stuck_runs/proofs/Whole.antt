@@ -58,12 +58,12 @@ use Rattle.jz_stuck_runs.proofs.Calls.{OneLacks, all_passed_fine, Missing, OneMi
 use Rattle.jz_stuck_runs.proofs.Assignments.{assigned_fine}
 use Rattle.jz_stuck_runs.proofs.Instructing.{instructed_fine}
 
-no_array_there : (o : Option Var) → place_of_array o ≡ [] → o ≡ None
+pub no_array_there : (o : Option Var) → place_of_array o ≡ [] → o ≡ None
 no_array_there None e = refl
 no_array_there (Some v) e = absurd (one_not _ [] e)
 
 -- left sides that are no arrays as a whole
-lefts_are : (q : Program) (f : Fun) (to : List Lval) → All (HasKept (declared_in q f)) (flat_map left_exprs to) → All (Kept (declared_in q f)) (flat_map left_vars to) → All InlineNumber (flat_map left_vars to)
+pub lefts_are : (q : Program) (f : Fun) (to : List Lval) → All (HasKept (declared_in q f)) (flat_map left_exprs to) → All (Kept (declared_in q f)) (flat_map left_vars to) → All InlineNumber (flat_map left_vars to)
     → All (λ d. whole_array d ≡ None → IsLeft (declared_in q f) d) to
 lefts_are q f to e v n =
     let a = flat_parts (HasKept (declared_in q f)) left_exprs to e in
@@ -71,10 +71,10 @@ lefts_are q f to e v n =
     let c = flat_parts InlineNumber left_vars to n in
     λ i d lt p. record { vars = b i d lt; exprs = a i d lt; inline = c i d lt; part = p }
 
-plain_lefts : (to : List Lval) → flat_map array_left to ≡ [] → All (λ d. whole_array d ≡ None) to
+pub plain_lefts : (to : List Lval) → flat_map array_left to ≡ [] → All (λ d. whole_array d ≡ None) to
 plain_lefts to e = All-weaker (λ d. array_left d ≡ []) (λ d. whole_array d ≡ None) (λ d h. no_array_there (whole_array d) h) to (all_empty array_left to e)
 
-with_parts : (declared : List ℕ → Option Decl) (to : List Lval) → All (λ d. whole_array d ≡ None → IsLeft declared d) to → All (λ d. whole_array d ≡ None) to → All (IsLeft declared) to
+pub with_parts : (declared : List ℕ → Option Decl) (to : List Lval) → All (λ d. whole_array d ≡ None → IsLeft declared d) to → All (λ d. whole_array d ≡ None) to → All (IsLeft declared) to
 with_parts declared to a b = λ i d lt. a i d lt (b i d lt)
 
 module _ (q : Program) (f : Fun) (s : State) (h : IsOfKinds (kinds_in q f) s) where

@@ -1,6 +1,7 @@
-//! A run of a typed program that is stuck for want of a value.
+//! A run of a typed program that is stuck for want of a value; and the sizes of instructions.
 
 ghost use Rattle.jz_stuck_runs.specs.Lacking.{PartLaw, RunLaw};
+ghost use Rattle.jz_stuck_runs.specs.Sizes.{SizeLaw};
 
 /// A part of a statement that is stuck so evaluates an expression that has the reason in it: a
 /// variable or a cell of it holds nothing at the place that is told, in the state in which it is
@@ -10,4 +11,10 @@ ghost use Rattle.jz_stuck_runs.specs.Lacking.{PartLaw, RunLaw};
 pub fn stuck_runs_lack_a_value()
     ensures parts { PartLaw }
     ensures runs { RunLaw }
+{}
+
+/// Typing finds a size for each instruction that a typed program names, and it is done at that
+/// size; SETcc gives a byte.
+pub fn instructions_have_a_size()
+    ensures { SizeLaw }
 {}
