@@ -65,15 +65,15 @@ bare_words = set-words (replicate 16 0) 4 return_slot (λ i. let e = zeros 16 i 
 
 -- ---- the run of a machine that stands there
 module _ (c : Compiled) (items : List ℕ) (machine : Machine) (h : IsLoaded c items machine) where
-  abbrev there : {P : List ℕ → ℕ → Config → Type 0} → P (code_of machine) (base_of machine) (config_of machine) → P c.code code_base (exec_start items h.memory)
-  there {P} p =
+  there : (P : List ℕ → ℕ → Config → Type 0) → P (code_of machine) (base_of machine) (config_of machine) → P c.code code_base (exec_start items h.memory)
+  there P p =
       subst (λ (d : Config). P c.code code_base d) h.config_is (subst (λ b. P c.code b (config_of machine)) h.base_is
       (subst (λ bs. P bs (base_of machine) (config_of machine)) h.code_is p))
 
   -- no step faults
   pub not_faulted : (fuel : ℕ) (now : Config) (f : FaultKind) → IsSafe c items → Finishes (code_of machine) (base_of machine) (config_of machine) fuel now (finish.Faulted f) → ⊥
   not_faulted fuel now f safe fin =
-      let fault = there {P = λ code base start. Finishes code base start fuel now (finish.Faulted f)} fin in
+      let fault = there (λ code base start. Finishes code base start fuel now (finish.Faulted f)) fin in
       safe h.memory h.is_start fault.0 f fault.3
 
   -- it ended, and its text tells it
@@ -81,7 +81,7 @@ module _ (c : Compiled) (items : List ℕ) (machine : Machine) (h : IsLoaded c i
       → Finishes (code_of machine) (base_of machine) (config_of machine) fuel now (finish.Ended k events)
       → output ≡ run_text c now.state events k → RunsTo c items fuel (ran.Ended output)
   ended_run fuel k now events output fin text =
-      let end = there {P = λ code base start. Finishes code base start fuel now (finish.Ended k events)} fin in
+      let end = there (λ code base start. Finishes code base start fuel now (finish.Ended k events)) fin in
       record {
         memory = h.memory;
         is_start = h.is_start;
@@ -99,7 +99,7 @@ module _ (c : Compiled) (items : List ℕ) (machine : Machine) (h : IsLoaded c i
       → Finishes (code_of machine) (base_of machine) (config_of machine) fuel now (finish.Cut events)
       → output ≡ cut_text events fuel → RunsTo c items fuel (ran.Cut output)
   cut_run fuel now events output fin text =
-      let cut = there {P = λ code base start. Finishes code base start fuel now (finish.Cut events)} fin in
+      let cut = there (λ code base start. Finishes code base start fuel now (finish.Cut events)) fin in
       record {
         memory = h.memory;
         is_start = h.is_start;

@@ -6,4 +6,4 @@ mod exec;
 mod starts;
 
 pub use exec::{Ran, exec_text};
-pub use starts::{exec_is_a_start, items_fit};
+pub use starts::{exec_is_a_start, items_are_words};

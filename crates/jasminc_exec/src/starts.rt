@@ -11,7 +11,7 @@ ghost use Rattle.jasminc_exec.specs.Running.{ItemsFit, IsStartMemory};
 ghost use Rattle.jasminc_exec.specs.Running.{code_base, return_slot, exec_start};
 
 /// Items are words of 64 bits.
-pub fn items_fit(items: &[u64])
+pub fn items_are_words(items: &[u64])
     ensures { ItemsFit items.now }
 {}
 

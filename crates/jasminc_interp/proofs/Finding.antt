@@ -28,8 +28,8 @@ module _ (name : List ℕ) (funs : List Fun) (i : ℕ) (so : export_named name f
 -- what is found has the name
 pub named_has : (name : List ℕ) (funs : List Fun) (f : Fun) → export_named name funs ≡ Some f → has_name name f ≡ true
 named_has name [] f e = cc
-named_has name (g ∷ gs) f e = by_test (has_name name g) refl e
+named_has name (g ∷ gs) f e = by_test (has_name name g) refl e (named_has name gs f)
   where
-    by_test : (b : Bool) → has_name name g ≡ b → (if b then Some g else export_named name gs) ≡ Some f → has_name name f ≡ true
-    by_test true q k = let same : g ≡ f = cc in subst (λ (h : Fun). has_name name h ≡ true) same q
-    by_test false q k = named_has name gs f k
+    by_test : (b : Bool) → has_name name g ≡ b → (if b then Some g else export_named name gs) ≡ Some f → (export_named name gs ≡ Some f → has_name name f ≡ true) → has_name name f ≡ true
+    by_test true q k later = let same : g ≡ f = cc in subst (λ (h : Fun). has_name name h ≡ true) same q
+    by_test false q k later = later k

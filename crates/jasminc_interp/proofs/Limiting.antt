@@ -1,9 +1,9 @@
 -- The first export function that passes a limit, as far as a loop has come.
-use Rattle.std.proofs.Common.{◌≡◌, ℕ, suc, ◌+◌, ◌<◌, List, [], ◌∷◌, ◌++◌, length, get_or, take, drop, true, refl, sym, ap, ◌∙◌, subst, arith, inl, inr}
+use Rattle.std.proofs.Common.{◌≡◌, ℕ, suc, ◌+◌, ◌<◌, ◌≤◌, List, [], ◌∷◌, ◌++◌, length, get_or, take, drop, true, refl, sym, ap, ◌∙◌, subst, arith, inl, inr}
 use Rattle.std.specs.Prelude.{All, Some, slice_get}
 use Rattle.std.proofs.Math.Seq.{split_at}
 use Rattle.std.proofs.lemmas.List.Elements.{All-push, All-contains, Contains-append_right, Contains-append_left}
-use Rattle.std.proofs.lemmas.List.{take_more}
+use Rattle.std.proofs.lemmas.List.{take_more, take_all}
 use Rattle.jz_tree.specs.declared.program.Fun.{Fun}
 use Rattle.jz_tree.specs.declared.program.Program.{Program}
 use Rattle.jz_type_rows.specs.Exports.{is_exported}
@@ -32,6 +32,10 @@ module _ (p : Program) (i : ℕ) (f : Fun) (lt : i < length p.funs) (ix : f ≡ 
     named = is;
     passes = passes;
   }
+
+-- all have been seen
+pub all_within : (p : Program) (i : ℕ) → length p.funs ≤ i → All (WithinIfExported p) (take i p.funs) → All (WithinIfExported p) p.funs
+all_within p i le h = subst (All (WithinIfExported p)) (take_all i p.funs le) h
 
 within_passes_none : (p : Program) (f : Fun) (l : Limit) → IsWithinLimits p f → PassesFirst p f l → ⊥
 within_passes_none p f l w (inl x) = let most = w.0 in let more = x.0 in absurd (omega (arith, most, more))

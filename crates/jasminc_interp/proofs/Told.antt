@@ -49,7 +49,7 @@ module _ (xs : List Var) (n : ℕ) (o : Outcome) (text : List ℕ) where
   told_stuck stuck e is out h = stuck_of stuck is out (subst (Shows out) e h)
 
 -- ---- the run at a place
-same_fun : (f g : Fun) (o : Option Fun) → o ≡ Some f → o ≡ Some g → f ≡ g
+pub same_fun : (f g : Fun) (o : Option Fun) → o ≡ Some f → o ≡ Some g → f ≡ g
 same_fun f g o p q = cc
 
 pub told_run : (p : Program) (place : ℕ) (items : List ℕ) (words : List code_word.Word) (memory : Memory) (n : ℕ) (o : Outcome) (x : Ran) (f : Fun)

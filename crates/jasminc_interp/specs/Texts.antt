@@ -6,6 +6,10 @@ use Rattle.jz_resolve.specs.Programs.{resolved_program}
 use Rattle.jz_types.specs.Rules.{IsTyped, IsFirstTypeFault}
 use Rattle.jz_types.specs.declared.fault.TypeFault.{TypeFault}
 
+-- the longest text that is read
+abbrev pub source_limit : ℕ
+source_limit = 1048576
+
 -- The text reads as a program in which no rule of typing fails; this is that program, each variable
 -- that is used with its declaration.
 pub record TypesAs (text : List ℕ) (program : Program) : Type 0 where

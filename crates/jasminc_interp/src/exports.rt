@@ -1,6 +1,6 @@
 //! Export functions by their names.
 
-ghost use Rattle.std.specs.Prelude.{◌≡◌, None, IfSome};
+ghost use Rattle.std.specs.Prelude.{◌≡◌, ◌<◌, None, Some, IfSome, length, slice_get};
 ghost use Rattle.jz_type_rows.specs.Exports.{is_exported};
 ghost use Rattle.jasminc_interp.specs.Exports.{has_name, export_named, IsFoundAt};
 
@@ -32,4 +32,12 @@ pub fn place_of(funs: &Seq<Fun>, name: &str) -> Option<usize>
         }
     }
     None
+}
+
+/// The function at a place.
+pub fn function_at(funs: &Seq<Fun>, place: usize) -> &Fun
+    requires { place < length funs.now }
+    ensures { slice_get funs.now place ≡ Some result.now }
+{
+    &funs.as_slice()[place]
 }

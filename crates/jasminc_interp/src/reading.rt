@@ -1,8 +1,8 @@
 //! The typed program of a text.
 
-ghost use Rattle.std.specs.Prelude.{IfOk, IfErr};
+ghost use Rattle.std.specs.Prelude.{◌≤◌, IfOk, IfErr, length};
 ghost use Rattle.jz_tree.specs.Failures.{IfRefused};
-ghost use Rattle.jasminc_interp.specs.Texts.{TypesAs};
+ghost use Rattle.jasminc_interp.specs.Texts.{source_limit, TypesAs};
 ghost use Rattle.jasminc_interp.specs.Causes.{ReadingRefuses};
 
 use crate::refused::Refused;
@@ -15,6 +15,7 @@ use std::alloc::Global;
 
 /// The typed program of a text in the whole language.
 pub fn typed_program(alloc: Global, text: &[u8]) -> Result<Typed, Failure<Refused>>
+    requires { length text.now ≤ source_limit }
     ensures program { IfOk result (λ typed. TypesAs text.now typed.program) }
     ensures refused { IfErr result (λ e. IfRefused e (ReadingRefuses text.now)) }
 {

@@ -1,9 +1,11 @@
 //! From a text to the text of a run.
 
+ghost use Rattle.std.specs.Prelude.{◌≤◌, length};
 ghost use Rattle.jz_tree.specs.Failures.{IfAnswered};
+ghost use Rattle.jasminc_interp.specs.Texts.{source_limit};
 ghost use Rattle.jasminc_interp.specs.Answers.{Answers};
 
-use crate::exports::place_of;
+use crate::exports::{function_at, place_of};
 use crate::limits::within_limits;
 use crate::reading::typed_program;
 use crate::refused::Refused;
@@ -22,15 +24,17 @@ pub fn interp_text(
     items: &Seq<u64>,
     fuel: u64,
 ) -> Result<Ran, Failure<Refused>>
+    requires { length text.now ≤ source_limit }
     ensures { IfAnswered result (Answers text.now fun.now items.now fuel) }
 {
     let typed = typed_program(alloc, text)?;
-    let Some(place) = place_of(&typed.program().funs, fun) else {
+    let tree = typed.program();
+    let Some(place) = place_of(&tree.funs, fun) else {
         let name = Text::from_string(String::from_str(alloc, fun)?);
         return Err(Failure::Refused(Refused::NoFunction(name)));
     };
-    as_refused(within_limits(alloc, typed.program()), Refused::Limit)?;
-    let function = &typed.program().funs.as_slice()[place];
+    as_refused(within_limits(alloc, tree), Refused::Limit)?;
+    let function = function_at(&tree.funs, place);
     if items.len() != function.params.len() {
         return Err(Failure::Refused(Refused::Items));
     }

@@ -3,6 +3,7 @@
 ghost use Rattle.std.specs.Prelude.{◌≡◌, ◌++◌, IfOk, OnOk};
 ghost use Rattle.jz_meaning.specs.Runs.{FunOutcome};
 ghost use Rattle.jz_interp.specs.Outcomes.{values_of, Shows};
+ghost use Rattle.jasminc_lines.specs.Lines.{cut_line};
 ghost use Rattle.jasminc_interp.specs.Telling.{why_name, stuck_line, results_text, end_text};
 ghost use Rattle.jasminc_interp.specs.Telling.{Tells};
 
@@ -78,6 +79,22 @@ fn end_text(alloc: Global, results: &Seq<Var>, words: &Seq<Word>) -> Result<Byte
     Ok(Bytes::from_vec(text))
 }
 
+fn cut_text(alloc: Global, fuel: u64) -> Result<Bytes, AllocError>
+    ensures { IfOk result (λ text. text ≡ cut_line fuel) }
+{
+    let mut text = Vec::new(alloc);
+    write_cut(&mut text, fuel)?;
+    Ok(Bytes::from_vec(text))
+}
+
+fn stuck_text(alloc: Global, stuck: Stuck) -> Result<Bytes, AllocError>
+    ensures { IfOk result (λ text. text ≡ stuck_line stuck) }
+{
+    let mut text = Vec::new(alloc);
+    write_stuck(&mut text, stuck)?;
+    Ok(Bytes::from_vec(text))
+}
+
 /// The text of what a run with so many turns came to.
 pub fn tell(
     alloc: Global,
@@ -94,14 +111,12 @@ pub fn tell(
             Ok(Ran::Ended(text))
         }
         Outcome::Cut(_) => {
-            let mut text = Vec::new(alloc);
-            write_cut(&mut text, fuel)?;
-            Ok(Ran::Cut(Bytes::from_vec(text)))
+            let text = cut_text(alloc, fuel)?;
+            Ok(Ran::Cut(text))
         }
         Outcome::Stuck(stuck) => {
-            let mut text = Vec::new(alloc);
-            write_stuck(&mut text, *stuck)?;
-            Ok(Ran::Stuck(Bytes::from_vec(text)))
+            let text = stuck_text(alloc, *stuck)?;
+            Ok(Ran::Stuck(text))
         }
     }
 }

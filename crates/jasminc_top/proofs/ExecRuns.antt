@@ -110,6 +110,7 @@ module _ (call : Called) (text : List ℕ) (told : SourceTold) (sink : SinkTold)
       (same_compiled r.compiled that (compiled_named call.fun made) r.found (code_there text call.fun call.items made p f makes found many fit)) r.runs
 
   run_by : (x : Ran) → RunsTo that call.items call.fuel x → IsToldBy x status.Ok output → PrintsRun call told sink made
+  unfolding starts
   run_by (ran.Ended written) r t = record {
     started = starts r.memory r.is_start;
     steps = r.told.steps;
@@ -126,6 +127,7 @@ module _ (call : Called) (text : List ℕ) (told : SourceTold) (sink : SinkTold)
       let still = r.told.still e.0.0 (omega (arith, e.0.1, h)) in cc
 
   cut_by : (x : Ran) → RunsTo that call.items call.fuel x → IsToldBy x status.OutOfFuel output → PrintsCut call told sink made
+  unfolding starts
   cut_by (ran.Ended written) r t = absurd (cut_not_ended t.0)
   cut_by (ran.Cut written) r t = record {
     started = starts r.memory r.is_start;

@@ -16,7 +16,7 @@ ghost use Rattle.jasminc_top.specs.Answers.{IsSafeOne, IsToldAs, After, Performs
 
 use crate::refusal::{Refusal, Status};
 use crate::stage::as_refusal;
-use jasminc_exec::{Ran, exec_text, items_fit};
+use jasminc_exec::{Ran, exec_text, items_are_words};
 use jasminc_interp as source;
 use jasminc_interp::interp_text;
 use jasminc_words::{Call, Request, request_of};
@@ -163,7 +163,7 @@ fn exec_reply(alloc: Global, call: &Call<'_>, text: &[u8]) -> Result<Reply, Fail
     if items.len() != function.params.len() {
         return Err(Failure::Refused(Refusal::Items));
     }
-    items_fit(items);
+    items_are_words(items);
     Ok(run_reply(alloc, made, call)?)
 }
 

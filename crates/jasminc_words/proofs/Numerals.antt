@@ -1,5 +1,6 @@
 -- Numbers among the words.
-use Rattle.std.proofs.Common.{◌≡◌, ℕ, suc, ◌^◌, ◌<◌, ◌≤◌, Bool, true, false, List, [], ◌∷◌, ◌++◌, length, refl, ap, arith, Option, Some, None, Result, Ok, Err, if◌then◌else◌}
+use Rattle.std.proofs.Common.{◌≡◌, ℕ, suc, ◌+◌, ◌^◌, ◌<◌, ◌≤◌, Bool, true, false, List, [], ◌∷◌, ◌++◌, map, drop, get_or, length, refl, sym, ap, ◌∙◌, append_assoc, arith, Option, Some, None, Result, Ok, Err, if◌then◌else◌}
+use Rattle.std.proofs.lemmas.List.{drop_more}
 use Rattle.std.specs.Prelude.{slice_index, ◌==◌, ◌&&◌, nat_lt, not}
 use Rattle.std.proofs.lemmas.Bool.{and_parts, ltb-true}
 use Rattle.std.proofs.lemmas.Bool.Decides.{nat_tests}
@@ -74,3 +75,15 @@ one_more word words n h = rw h refl
 -- numbers, and those of the words that are left
 abbrev pub ahead : List ℕ → Option (List ℕ) → Option (List ℕ)
 ahead ns rest = option_and_then (λ ms. Some (ns ++ ms)) rest
+
+more_ahead : (ns : List ℕ) (n : ℕ) (rest : Option (List ℕ)) → ahead ns (option_and_then (λ ms. Some (n ∷ ms)) rest) ≡ ahead (ns ++ n ∷ []) rest
+more_ahead ns n None = refl
+more_ahead ns n (Some ms) = ap Some (sym (append_assoc ns (n ∷ []) ms))
+
+-- one more, as a loop goes over words that are seen by a function
+pub next_number : {W : Type 0} (v : W → List ℕ) (words : List W) (i : ℕ) (w d : W) (n : ℕ) (ns ms : List ℕ) (whole : Option (List ℕ)) → i < length words → w ≡ get_or words i d
+    → number_of_word (v w) ≡ Some n → whole ≡ ahead ns (numbers_of (map v (drop i words))) → ms ≡ ns ++ n ∷ [] → whole ≡ ahead ms (numbers_of (map v (drop (i + 1) words)))
+next_number v words i w d n ns ms whole lt is e so more =
+    let rest = numbers_of (map v (drop (i + 1) words)) in
+    let first = ap (λ l. numbers_of (map v l)) (drop_more words i d lt) ∙ ap (λ x. numbers_of (v x ∷ map v (drop (i + 1) words))) (sym is) ∙ one_more (v w) (map v (drop (i + 1) words)) n e in
+    so ∙ ap (ahead ns) first ∙ more_ahead ns n rest ∙ ap (λ l. ahead l rest) (sym more)

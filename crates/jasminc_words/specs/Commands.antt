@@ -1,10 +1,11 @@
 -- The program's command with its subcommands, as `clap` sees it.
 use Rattle.std.specs.Prelude.{◌≡◌, true, false, Some, codes}
 use Rattle.clap.specs.Lexer.{usize_max}
-use Rattle.clap.specs.Words.{App, Rule, Text, app_of, fields_of, new_app, new_rule, rule_of}
+use Rattle.clap.specs.Words.{App, Rule, Text, app_of, new_app, new_rule, rule_of}
 use Rattle.clap.specs.Words.{with_rule, with_subcommand}
 use Rattle.clap.specs.declared.builder.arg.Arg.{Arg}
 use Rattle.clap.specs.declared.builder.command.Command.{Command}
+use Rattle.clap.specs.declared.builder.command.Command.TheViews.{out-Command}
 use Rattle.clap.specs.declared.builder.action.ArgAction.TheVariants.{Set, Append}
 
 -- the argument is this one, and of its own command alone
@@ -14,7 +15,7 @@ pub record IsArg (rule : Rule) (a : Arg) : Type 0 where
 
 pub record IsCommand (app : App) (c : Command) : Type 0 where
   pub app_is : app_of c ≡ app
-  pub local : (fields_of c).has_globals ≡ false
+  pub local : (out-Command c).has_globals ≡ false
 
 -- ---- arguments
 -- a word that has to be there

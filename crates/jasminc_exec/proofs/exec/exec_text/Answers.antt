@@ -10,16 +10,16 @@ returns-in-Ended c =
     let machine = c.in_ok-machine.machine in
     let now = config_of c.run_to_end.new.machine in
     let P : Finish → Type 0 = λ f. Finishes (code_of machine) (base_of machine) (config_of machine) c.args.fuel now f in
-    ended_run c.args.compiled.now c.args.items.now machine c.in_ok-machine.ensures c.args.fuel c.in-Ended.steps now c.in-Ended.events c.in_ok-text.text
-    (subst P c.in-Ended.is c.in_ok-finish.ensures) c.in_ok-text.ensures
+    ended_run c.args.compiled.now c.args.items.now machine c.in_ok-machine.ensures c.args.fuel c.in-Ended.steps now c.in-Ended.events c.in_ok-text-in-Ended.text
+    (subst P c.in-Ended.is c.in_ok-finish.ensures) c.in_ok-text-in-Ended.ensures
 
 pub returns-in-Cut : goal.returns-in-Cut
 returns-in-Cut c =
     let machine = c.in_ok-machine.machine in
     let now = config_of c.run_to_end.new.machine in
     let P : Finish → Type 0 = λ f. Finishes (code_of machine) (base_of machine) (config_of machine) c.args.fuel now f in
-    cut_run c.args.compiled.now c.args.items.now machine c.in_ok-machine.ensures c.args.fuel now c.in-Cut.events c.in_ok-text-2.text
-    (subst P c.in-Cut.is c.in_ok-finish.ensures) c.in_ok-text-2.ensures
+    cut_run c.args.compiled.now c.args.items.now machine c.in_ok-machine.ensures c.args.fuel now c.in-Cut.events c.in_ok-text-in-Cut.text
+    (subst P c.in-Cut.is c.in_ok-finish.ensures) c.in_ok-text-in-Cut.ensures
 
 pub unreachable-requires : goal.unreachable-requires
 unreachable-requires c =

@@ -21,7 +21,7 @@ loop-i-preserved c =
     (pair_more c.args.params.now c.args.items.now c.loop-i.i c.param-item.result c.in-Some.item.now (search rules) (search rules)
     (sym c.get.ensures.value ∙ ap option_copied c.in-Some.is))
     c.loop-i.invariant
-    (ap values_of c.in_ok-push.ensures.ok ∙ map-append (λ w. word w.size w.bits) c.loop-i.words (made ∷ [])
+    (ap values_of c.in_ok-push-in-Some.ensures.ok ∙ map-append (λ w. word w.size w.bits) c.loop-i.words (made ∷ [])
     ∙ ap (λ v. values_of c.loop-i.words ++ v ∷ []) c.argument.ensures)
 
 pub returns : goal.returns

@@ -53,7 +53,7 @@ run_reply-requires c =
     let found = sym (c.function_named.ensures ∙ ap (function_named fun) (c.as_slice.ensures ∙ ap (λ p. p.funs) c.program.ensures)) ∙ ap option_copied c.in-Some.is in
     let same = ap length c.as_slice-items.ensures in
     safe_one c.args.text.now fun c.args.call.now.items c.in_ok-made.made program c.in-Some.function.now (record { types = c.in_ok-typed.ensures.program; are_made = c.in_ok-made.ensures.made }) found
-    (sym same ∙ c.if-items-len.false ∙ c.len.ensures) (subst ItemsFit c.as_slice-items.ensures c.items_fit.ensures)
+    (sym same ∙ c.if-items-len.false ∙ c.len.ensures) (subst ItemsFit c.as_slice-items.ensures c.items_are_words.ensures)
 
 pub returns : goal.returns
 returns c =
