@@ -184,7 +184,8 @@ insns_few register (s ∷ ss) =
 within : (k s n : ℕ) → k ≤ s * (0 + 1) → s ≡ n → n ≤ 65537 → k ≤ 1000000
 within k s n a e b = omega (arith, a, e, b)
 
--- started on items the code of a correct function without an alarm ends within the limit, and no step faults
+-- started on items the code of a correct function without an alarm ends within the limit, and no
+-- step faults
 pub ends_within : (register : List ℕ → Reg) (p : Program) (f : Fun) (items : List ℕ) → Contains p.funs f → ItemsFit items → length items ≡ length f.params → length f.params ≤ 6 → length f.body ≤ 65536
     → IsResolved f → HasNoAlarm f → IsCorrect p f (compiled_of register f) → EndsWithin (compiled_of register f) items 1000000
 ends_within register p f items among fit count few small resolved safe correct m h =

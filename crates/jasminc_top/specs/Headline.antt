@@ -68,7 +68,8 @@ pub record PrintsRun (call : Called) (told : SourceTold) (sink : SinkTold) (made
   pub ends :
       EndsAfter started.compiled.code code_base (exec_start call.items started.memory) steps
   pub wrote :
-      let ran = steps_of started.compiled.code code_base (exec_start call.items started.memory) steps in
+      let start = exec_start call.items started.memory in
+      let ran = steps_of started.compiled.code code_base start steps in
       Appends sink.bytes sink.bytes_after
       (run_text started.compiled ran.after.state ran.events steps)
 

@@ -32,7 +32,8 @@ number_of_word word =
 abbrev pub numbers_of : List (List ℕ) → Option (List ℕ)
 numbers_of [] = Some []
 numbers_of (word ∷ words) =
-    option_and_then (λ n. option_and_then (λ ns. Some (n ∷ ns)) (numbers_of words)) (number_of_word word)
+    option_and_then (λ n. option_and_then (λ ns. Some (n ∷ ns)) (numbers_of words))
+    (number_of_word word)
 
 -- each item is a word of 64 bits
 abbrev pub ItemsFit : List ℕ → Type 0

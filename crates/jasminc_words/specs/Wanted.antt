@@ -63,7 +63,8 @@ call_of file fun fuel items = None
 
 abbrev pub call_in : List Row → Option Called
 call_in rows =
-    call_of (first_of (codes "FILE") rows) (first_of (codes "FUN") rows) (fuel_in rows) (items_in rows)
+    call_of (first_of (codes "FILE") rows) (first_of (codes "FUN") rows) (fuel_in rows)
+    (items_in rows)
 
 abbrev pub compile_in : List Row → Option Wanted
 compile_in rows = option_map compile (first_of (codes "FILE") rows)

@@ -1,5 +1,5 @@
-//! The words of a command line: which of them are a command, and what they ask for. They are read by
-//! one command of `clap` with a level of subcommands; numbers among them are read here.
+//! The words of a command line: which of them are a command, and what they ask for. They are read
+//! by one command of `clap` with a level of subcommands; numbers among them are read here.
 #![tactic(auto)]
 
 mod command;

@@ -1,7 +1,8 @@
 //! Numbers among words.
 
 ghost use Rattle.std.specs.Prelude.{◌≡◌, ◌==◌, slice_index, ◌≤◌, IfOk, map};
-ghost use Rattle.jasminc_words.specs.Numbers.{numeral, has_leading_zero, number_of_word, numbers_of};
+ghost use Rattle.jasminc_words.specs.Numbers.{numeral, has_leading_zero, number_of_word};
+ghost use Rattle.jasminc_words.specs.Numbers.{numbers_of};
 
 use jz_data::Seq;
 use std::alloc::{AllocError, Global};

@@ -28,6 +28,7 @@ turns_count v body n (i ∷ is) e h =
     ∙ (one_behind n (length is * (1 + n)) ∙ sym (suc-mul (length is) (1 + n)))
 
 pub empty_loops : EmptyLoops
+unfolding walk
 empty_loops f e =
     let bounds = limits (widths e f.from ++ widths e f.to) in
     let values = counted_values f.down (number_in e f.from) (number_in e f.to) in

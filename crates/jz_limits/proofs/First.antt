@@ -6,6 +6,7 @@ use Rattle.std.proofs.lemmas.List.Elements.{All-nil, All-cons, All-head, All-tai
 use Rattle.std.proofs.lemmas.List.{append-nil, append_assoc}
 use Rattle.jz_limits.specs.Limits.{Limit, Step, one, passing, most_statements, count_of, Passes, IsWithin, IsFirstLimit}
 use Rattle.jz_limits.specs.declared.limit.Limit.TheVariants.{Expand}
+use Rattle.jz_limits.specs.InnerFirst.{first_from}
 use Rattle.jz_limits.specs.LimitLaws.{WithinOrFirst, OneFirst, NoneWithin}
 
 zero_first : (n : ℕ) → n ≡ 0 + n
@@ -53,16 +54,10 @@ within_or_first steps = found_from [] steps (record { few = omega arith; none = 
 
 -- ---- there is one at most
 
-first_from : ℕ → List Step → Option Limit
-first_from n [] = None
-first_from n (passing l ∷ steps) = Some l
-first_from n (one ∷ steps) = if nat_le most_statements n then Some Expand else first_from (suc n) steps
-
 not_one : (l : Limit) → passing l ≡ one → ⊥
 not_one l e = cc
 
 past : (n : ℕ) (before rest : List Step) → AllOne before → n + count_of before ≤ most_statements → first_from n (before ++ rest) ≡ first_from (n + count_of before) rest
-unfolding first_from
 past n [] rest a le = (let e : n ≡ n + 0 = omega arith in ap (λ k. first_from k rest) e)
 past n (passing l ∷ before) rest a le = absurd (not_one l (All-head (λ step. step ≡ one) (passing l) before a))
 past n (one ∷ before) rest a le =
@@ -72,13 +67,12 @@ past n (one ∷ before) rest a le =
     ∙ (past (suc n) before rest (All-tail (λ step. step ≡ one) one before a) (omega (arith, le)) ∙ ap (λ k. first_from k rest) one_on)
 
 passed_here : (n : ℕ) (here : Step) (after : List Step) (limit : Limit) → Passes n here limit → first_from n (here ∷ after) ≡ Some limit
-unfolding first_from
 passed_here n one after limit h =
     let test : nat_le most_statements n ≡ true = grind (arith, nat_tests, h.0) in
     ap (λ b. if b then Some Expand else first_from (suc n) after) test ∙ ap (λ l. Some l) (sym h.1)
 passed_here n (passing m) after limit h = ap (λ l. Some l) (sym h)
 
-first_is : (steps : List Step) (limit : Limit) → IsFirstLimit steps limit → first_from 0 steps ≡ Some limit
+pub first_is : (steps : List Step) (limit : Limit) → IsFirstLimit steps limit → first_from 0 steps ≡ Some limit
 first_is steps limit h =
     let same = zero_first (count_of h.before) in
     let few = subst (λ n. n ≤ most_statements) same h.within.few in
@@ -86,8 +80,7 @@ first_is steps limit h =
     ap (first_from 0) h.parts
     ∙ (past 0 h.before (h.here ∷ h.after) h.within.none few ∙ passed_here (0 + count_of h.before) h.here h.after limit passes)
 
-none_is : (steps : List Step) → IsWithin steps → first_from 0 steps ≡ None
-unfolding first_from
+pub none_is : (steps : List Step) → IsWithin steps → first_from 0 steps ≡ None
 none_is steps h = ap (first_from 0) (sym (append-nil steps)) ∙ past 0 steps [] h.none (subst (λ n. n ≤ most_statements) (zero_first (count_of steps)) h.few)
 
 same_limit : (a b : Limit) → Some a ≡ Some b → a ≡ b
@@ -101,3 +94,18 @@ one_first steps a b h g = same_limit a b (sym (first_is steps a h) ∙ first_is 
 
 pub none_within : NoneWithin
 none_within steps limit h g = no_limit limit (sym (none_is steps h) ∙ first_is steps limit g)
+
+-- what is found from the front is the first limit, and where nothing is found all is within them
+pub found_first : (steps : List Step) (limit : Limit) → first_from 0 steps ≡ Some limit → IsFirstLimit steps limit
+found_first steps limit e = by_found (within_or_first steps)
+  where
+    by_found : IsWithin steps ⊎ ((l : Limit) × IsFirstLimit steps l) → IsFirstLimit steps limit
+    by_found (inl h) = absurd (no_limit limit (sym (none_is steps h) ∙ e))
+    by_found (inr h) = subst (IsFirstLimit steps) (same_limit h.0 limit (sym (first_is steps h.0 h.1) ∙ e)) h.1
+
+pub found_none : (steps : List Step) → first_from 0 steps ≡ None → IsWithin steps
+found_none steps e = by_found (within_or_first steps)
+  where
+    by_found : IsWithin steps ⊎ ((l : Limit) × IsFirstLimit steps l) → IsWithin steps
+    by_found (inl h) = h
+    by_found (inr h) = absurd (no_limit h.0 (sym e ∙ first_is steps h.0 h.1))

@@ -1,2 +1,9 @@
 pub mod First
 pub mod Counting
+pub mod Sides
+pub mod Sums
+pub mod Layers
+pub mod Compared
+pub mod Setting
+pub mod Knowing
+pub mod PartLemmas

@@ -3,3 +3,7 @@ pub mod Values
 pub mod Asked
 pub mod Walks
 pub mod LimitLaws
+pub mod InnerFirst
+pub mod InnerKnown
+pub mod InnerLooked
+pub mod InnerSets

@@ -28,9 +28,14 @@ abbrev pub is_int : Kind → Bool
 is_int kind.Int = true
 is_int _ = false
 
+-- the inline variable that a left side is
+abbrev pub only_int : Lval → Option Var
+only_int (lval.Var v) = if is_int (ref_of v).kind then Some v else None
+only_int _ = None
+
 -- the inline variable that is set, where nothing else is
 abbrev pub inline_target : List Lval → Option Var
-inline_target (lval.Var v ∷ []) = if is_int (ref_of v).kind then Some v else None
+inline_target (d ∷ []) = only_int d
 inline_target _ = None
 
 -- the number of an inline expression, if it has one

@@ -1,6 +1,8 @@
 -- What is met when a function is gone through in expanded order: each call's body stands in the
 -- place of the call, with the copies of its arguments before it and those of its results behind it;
--- each turn of a `for` stands for itself; of a constant test the arm that is taken.
+-- each turn of a `for` stands for itself; of a constant test the arm that is taken. What is known of
+-- inline variables goes along; by the rules of typing no arm of an `if` that stays, and no `while`,
+-- sets any.
 use Rattle.std.specs.Prelude.{ℤ, ◌+◌, ◌-◌, Bool, true, false, if◌then◌else◌, List, [], ◌∷◌, ◌++◌, map, replicate, length, Option, Some, None}
 use Rattle.jz_tree.specs.Span.{Span}
 use Rattle.jz_tree.specs.declared.expr.Expr.{Expr}
@@ -41,10 +43,6 @@ behind steps w = record { steps = steps ++ w.steps; known = w.known }
 abbrev pub followed : Walk → (KnownNumbers → Walk) → Walk
 followed w rest = behind w.steps (rest w.known)
 
--- the same, where nothing that is known changes in it
-abbrev pub kept : KnownNumbers → Walk → (KnownNumbers → Walk) → Walk
-kept e w rest = behind w.steps (rest e)
-
 abbrev pub silent : KnownNumbers → Walk
 silent e = record { steps = []; known = e }
 
@@ -64,21 +62,22 @@ taken (Some true) a b e = a
 taken (Some false) a b e = b
 
 -- both arms, or of a constant test the one that it takes
-abbrev pub arms : Expr → KnownNumbers → Walk → Walk → Walk
-arms c e a b =
+abbrev pub arms :
+    Expr → (KnownNumbers → Walk) → (KnownNumbers → Walk) → KnownNumbers → Walk
+arms c a b e =
     if is_inline c
     then behind (constant_steps (span_of c) (truth_of (inline_value e c)))
-    (taken (truth_of (inline_value e c)) a b (silent e))
-    else record { steps = limits (asked_condition e c) ++ a.steps ++ b.steps; known = e }
+    (taken (truth_of (inline_value e c)) (a e) (b e) (silent e))
+    else behind (limits (asked_condition e c)) (followed (a e) b)
 
--- the prologue, the test and the body; of a constant test that is false the prologue alone
-abbrev pub turns : Expr → KnownNumbers → Walk → Walk → Walk
-turns c e p b =
-    if is_inline c
-    then kept e p (λ e.
-    behind (constant_steps (span_of c) (truth_of (inline_value e c)))
-    (taken (truth_of (inline_value e c)) (kept e b silent) (silent e) (silent e)))
-    else record { steps = p.steps ++ limits (asked_condition e c) ++ b.steps; known = e }
+-- the test and the body; of a constant test that is false nothing else
+abbrev pub test_and_body : Expr → (KnownNumbers → Walk) → KnownNumbers → Walk
+test_and_body c b e = arms c b silent e
+
+-- the prologue before them
+abbrev pub turns :
+    Expr → (KnownNumbers → Walk) → (KnownNumbers → Walk) → KnownNumbers → Walk
+turns c p b e = followed (p e) (test_and_body c b)
 
 -- ---- `for`
 -- one for each turn, which sets the counter
@@ -111,52 +110,56 @@ is_array _ = false
 abbrev pub copied_to : Lval → Expr → Span → Operation
 copied_to d x at = assign (d ∷ []) None x None at
 
--- the limits of what is copied to parameters that are no arrays; a copy has no count
-abbrev pub argument_steps : KnownNumbers → Span → List Param → List Expr → List Step
-argument_steps e at (p ∷ ps) (x ∷ xs) =
-    if is_array (ref_of p.var).kind then argument_steps e at ps xs
-    else (limits (asked e (copied_to (lval.Var p.var) x at)) ++ argument_steps e at ps xs)
-argument_steps e at _ _ = []
+-- the limits of what is copied to a parameter, where that is no array; a copy has no count
+abbrev pub one_argument : KnownNumbers → Span → Var → Expr → List Limit
+one_argument e at p x =
+    if is_array (ref_of p).kind then [] else asked e (copied_to (lval.Var p) x at)
+
+abbrev pub argument_limits : KnownNumbers → Span → List Param → List Expr → List Limit
+argument_limits e at (p ∷ ps) (x ∷ xs) = one_argument e at p.var x ++ argument_limits e at ps xs
+argument_limits e at _ _ = []
 
 -- the inline variables of the callee; e: of the caller
+abbrev pub with_argument : KnownNumbers → Var → Expr → KnownNumbers → KnownNumbers
+with_argument e p x inner =
+    if is_int (ref_of p).kind then with_number inner p (number_in e x) else inner
+
 abbrev pub with_arguments : KnownNumbers → List Param → List Expr → KnownNumbers → KnownNumbers
 with_arguments e (p ∷ ps) (x ∷ xs) inner =
-    with_arguments e ps xs
-    (if is_int (ref_of p.var).kind then with_number inner p.var (number_in e x) else inner)
+    with_arguments e ps xs (with_argument e p.var x inner)
 with_arguments e _ _ inner = inner
 
-abbrev pub dropped_or : Lval → List Step → List Step
-dropped_or (lval.Skip at) steps = []
-dropped_or d steps = steps
+-- of what is copied from a result, where that is no array and is not dropped
+abbrev pub given_limits : KnownNumbers → Span → Lval → Var → List Limit
+given_limits e at (lval.Skip s) v = []
+given_limits e at d v = asked e (copied_to d (expr.Var v) at)
 
--- and of what is copied from results that are no arrays and are not dropped
-abbrev pub result_steps : KnownNumbers → Span → List Lval → List Var → List Step
-result_steps e at (d ∷ ds) (v ∷ vs) =
-    (if is_array (ref_of v).kind then []
-    else dropped_or d (limits (asked e (copied_to d (expr.Var v) at))))
-    ++ result_steps e at ds vs
-result_steps e at _ _ = []
+abbrev pub one_result : KnownNumbers → Span → Lval → Var → List Limit
+one_result e at d v = if is_array (ref_of v).kind then [] else given_limits e at d v
+
+abbrev pub result_limits : KnownNumbers → Span → List Lval → List Var → List Limit
+result_limits e at (d ∷ ds) (v ∷ vs) = one_result e at d v ++ result_limits e at ds vs
+result_limits e at _ _ = []
 
 -- the callee has inline variables of its own, and gives none back
+abbrev pub callee_walk : Call → (KnownNumbers → Walk) → KnownNumbers → Walk
+callee_walk q body e =
+    behind (limits (argument_limits e q.at q.callee.params q.args))
+    (behind (body (with_arguments e q.callee.params q.args no_numbers)).steps
+    (behind (limits (result_limits e q.at q.to q.callee.result)) (silent e)))
+
 abbrev pub call_walk : Call → (KnownNumbers → Walk) → KnownNumbers → Walk
-call_walk q body e = record {
-  steps =
-      one ∷ (more_than_eight q
-      ++ (argument_steps e q.at q.callee.params q.args
-      ++ ((body (with_arguments e q.callee.params q.args no_numbers)).steps
-      ++ result_steps e q.at q.to q.callee.result)));
-  known = e;
-}
+call_walk q body e = behind (one ∷ []) (behind (more_than_eight q) (callee_walk q body e))
 
 -- ---- bodies
-abbrev pub walk : Block → KnownNumbers → Walk
+unfoldable pub walk : Block → KnownNumbers → Walk
 walk done e = silent e
 walk (op o r) e = followed (operation_walk o e) (walk r)
 walk (quiet o r) e = walk r e
 walk (choose t a b r) e =
-    followed (behind (one ∷ []) (arms t.cond e (walk a e) (walk b e))) (walk r)
+    followed (behind (one ∷ []) (arms t.cond (walk a) (walk b) e)) (walk r)
 walk (loop q p t b r) e =
-    followed (behind (one ∷ []) (turns t.cond e (walk p e) (walk b e))) (walk r)
+    followed (behind (one ∷ []) (turns t.cond (walk p) (walk b) e)) (walk r)
 walk (each f b r) e = followed (loop_walk f (walk b) e) (walk r)
 walk (call q b r) e = followed (call_walk q (walk b) e) (walk r)
 

@@ -1,16 +1,16 @@
-//! Limits of expansion.
+//! The limits of an expansion.
 
 use jz_tree::Span;
 
-/// What a function's expansion passes.
+/// A limit that an expansion passes.
 #[derive(Clone, Copy)]
 pub enum Limit {
-    /// More statements than there may be.
+    /// There are too many statements.
     Expand,
-    /// An inline expression without a value.
+    /// An inline expression has no value.
     InlineWidth(Span),
-    /// An index of a register array outside its cells.
+    /// An index of a register array is outside its cells.
     IndexRange(Span),
-    /// An immediate, displacement, scale or count that has no field.
+    /// An immediate, a displacement, a scale or a count has no field.
     ImmRange(Span),
 }
