@@ -1,5 +1,5 @@
-//! The lines that tell why a function of a text in the whole language is not run, without their line
-//! feeds.
+//! The lines that tell why a function of a text in the whole language is not run, without their
+//! line feeds.
 
 ghost use Rattle.std.specs.Prelude.{◌≡◌, ◌++◌, OnOk};
 ghost use Rattle.jasminc_top.specs.InterpLines.{rule_name, type_line, limit_text, refused_text};
