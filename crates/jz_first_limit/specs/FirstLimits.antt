@@ -3,7 +3,8 @@ use Rattle.std.specs.Prelude.{◌≡◌, ◌≤◌, ◌<◌, ◌⊎◌, Option, 
 use Rattle.jz_tree.specs.declared.program.Fun.{Fun}
 use Rattle.jz_tree.specs.declared.program.Program.{Program}
 use Rattle.jz_copies.specs.Counts.{copied_count}
-use Rattle.jz_limits.specs.Limits.{Limit, most_statements, IsWithin, IsFirstLimit}
+use Rattle.jz_limits.specs.declared.limit.Limit.{Limit}
+use Rattle.jz_limits.specs.Limits.{most_statements, IsWithin, IsFirstLimit}
 use Rattle.jz_limits.specs.declared.limit.Limit.TheVariants.{Expand}
 use Rattle.jz_limits.specs.Walks.{steps_of}
 
