@@ -42,8 +42,8 @@ returns-in_err-as_refused c =
     (stage_refuses (HasLimit tree) _ (IsLimit p) c.within_limits.result _ c.within_limits.ensures.refused
     (λ l r says becomes. let is : r ≡ Limit l = search rules in (l, is, subst (λ (q : Program). HasLimit q l) c.program-tree.ensures says)) c.in_err-as_refused.ensures.refused))
 
-pub function_at-requires : goal.function_at-requires
-function_at-requires c = slice_get_within c.program-tree.result.now.funs c.in-Some.place c.in-Some.ensures.found.function c.in-Some.ensures.found.there
+pub function_at-function-requires : goal.function_at-function-requires
+function_at-function-requires c = slice_get_within c.program-tree.result.now.funs c.in-Some.place c.in-Some.ensures.found.function c.in-Some.ensures.found.there
 
 pub returns-then-len : goal.returns-then-len
 returns-then-len c =
