@@ -16,18 +16,18 @@ use Rattle.jasminc_exec.specs.declared.exec.Ran.TheVariants as ran
 use Rattle.jasminc_interp.specs.declared.telling.Ran as source
 use Rattle.jasminc_interp.specs.declared.telling.Ran.TheVariants as source_ran
 use Rattle.jasminc_interp.specs.declared.refused.Refused.{Refused}
-use Rattle.jasminc_interp.specs.declared.refused.Refused.TheVariants as refused
+use Rattle.jasminc_interp.specs.declared.refused.Refused.TheVariants as refusing
 use Rattle.jasminc_interp.specs.Causes as interp_causes
 use Rattle.jasminc_top.specs.Answers.{Cause, HasText, IsDue, IsUsage, IsNoCommand, IsQuiet, IsToldBy, IsToldAs, IsResult, Gives, Faulted}
 use Rattle.jasminc_top.specs.Runs.{Run, Due, Runs, ReadsAll, Refuses, Completes, IsFree, IsGiven, IsEarlier, Tells, IsCaused, ComesOnly, IsTooLong}
 
 run_bounded : (r : Refused) → interp_causes.stage_of r < 10
-run_bounded (refused.Lex fault) = omega arith
-run_bounded (refused.Parse fault) = omega arith
-run_bounded (refused.Typing fault) = omega arith
-run_bounded (refused.NoFunction name) = omega arith
-run_bounded (refused.Limit l) = omega arith
-run_bounded refused.Items = omega arith
+run_bounded (refusing.Lex fault) = omega arith
+run_bounded (refusing.Parse fault) = omega arith
+run_bounded (refusing.Typing fault) = omega arith
+run_bounded (refusing.NoFunction name) = omega arith
+run_bounded (refusing.Limit l) = omega arith
+run_bounded refusing.Items = omega arith
 
 bounded : (r : Refusal) → stage_of r < 10
 bounded Usage = omega arith
@@ -111,12 +111,12 @@ IsOther status.WriteFault = ⊤
 IsOther s = ⊥
 
 no_other_run : (r : Refused) → IsOther (status_of_refused r) → ⊥
-no_other_run (refused.Lex fault) h = h
-no_other_run (refused.Parse fault) h = h
-no_other_run (refused.Typing fault) h = h
-no_other_run (refused.NoFunction name) h = h
-no_other_run (refused.Limit l) h = h
-no_other_run refused.Items h = h
+no_other_run (refusing.Lex fault) h = h
+no_other_run (refusing.Parse fault) h = h
+no_other_run (refusing.Typing fault) h = h
+no_other_run (refusing.NoFunction name) h = h
+no_other_run (refusing.Limit l) h = h
+no_other_run refusing.Items h = h
 
 no_other : (r : Refusal) → IsOther (status_of r) → ⊥
 no_other Usage h = h

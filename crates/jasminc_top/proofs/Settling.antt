@@ -15,6 +15,7 @@ use Rattle.jasminc_top.specs.declared.refusal.Refusal.TheVariants.{Usage, ReadFa
 use Rattle.jasminc_words.specs.Wanted.{Wanted, compile, exec, interp, file_of}
 use Rattle.jasminc_interp.specs.declared.refused.Refused.{Refused}
 use Rattle.jasminc_interp.specs.declared.refused.Refused.TheVariants as refused
+use Rattle.jasminc_interp.specs.Causes as interp_causes
 use Rattle.jasminc_top.specs.Refusals.{status_of_refused, status_of, line_of, stage_of}
 use Rattle.jasminc_top.specs.Told.{SourceTold, SinkTold}
 use Rattle.jasminc_top.specs.Answers.{source_limit, Cause, Clear, IsUsage, IsFirstCause, HasText, HasFile, IsDue, IsQuiet, IsResult, FileRefuses, After, Performs}
@@ -35,8 +36,17 @@ long_cause (compile file) text long = long
 long_cause (exec call) text long = long
 long_cause (interp call) text long = long
 
+run_late : (r : Refused) → 1 ≤ interp_causes.stage_of r
+run_late (refused.Lex fault) = omega arith
+run_late (refused.Parse fault) = omega arith
+run_late (refused.Typing fault) = omega arith
+run_late (refused.NoFunction name) = omega arith
+run_late (refused.Limit l) = omega arith
+run_late refused.Items = omega arith
+
 clear_file : (wish : Wanted) (text : List ℕ) → Clear (Cause (Some wish) text) 1
 clear_file wish text Usage lt c = never_usage wish text c
+clear_file wish text (Interp r) lt c = let late = run_late r in absurd (omega (arith, lt, late))
 clear_file wish text r lt c = absurd (omega (arith, lt))
 
 pub file_refused : (wish : Wanted) (told : SourceTold) (r : Refusal) → FileRefuses (file_of wish) told r → Performs (Some wish) told (Err r)

@@ -30,15 +30,22 @@ type_line f =
     codes "type " ++ decimal (rule_number f.rule) ++ codes " " ++ rule_name f.rule
     ++ codes " " ++ span_text f.span
 
+unfoldable pub limit_name : Limit → List ℕ
+limit_name limit.Expand = codes "Expand"
+limit_name (limit.InlineWidth at) = codes "InlineWidth"
+limit_name (limit.IndexRange at) = codes "IndexRange"
+limit_name (limit.ImmRange at) = codes "ImmRange"
+
 -- too many statements by the function's name, all else by its place
-abbrev pub limit_by : List ℕ → Limit → List ℕ
-limit_by fun limit.Expand = codes "limit Expand " ++ fun
-limit_by fun (limit.InlineWidth at) = codes "limit InlineWidth " ++ span_text at
-limit_by fun (limit.IndexRange at) = codes "limit IndexRange " ++ span_text at
-limit_by fun (limit.ImmRange at) = codes "limit ImmRange " ++ span_text at
+abbrev pub limit_subject : List ℕ → Limit → List ℕ
+limit_subject fun limit.Expand = fun
+limit_subject fun (limit.InlineWidth at) = span_text at
+limit_subject fun (limit.IndexRange at) = span_text at
+limit_subject fun (limit.ImmRange at) = span_text at
 
 abbrev pub limit_text : FunLimit → List ℕ
-limit_text l = limit_by l.fun l.limit
+limit_text l =
+    codes "limit " ++ limit_name l.limit ++ codes " " ++ limit_subject l.fun l.limit
 
 abbrev pub refused_text : Refused → List ℕ
 refused_text (refused.Lex fault) = lexer_line fault

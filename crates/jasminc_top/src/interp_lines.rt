@@ -2,10 +2,12 @@
 //! line feeds.
 
 ghost use Rattle.std.specs.Prelude.{◌≡◌, ◌++◌, OnOk};
-ghost use Rattle.jasminc_top.specs.InterpLines.{rule_name, type_line, limit_text, refused_text};
+ghost use Rattle.jasminc_top.specs.InterpLines.{rule_name, type_line, limit_name, limit_subject};
+ghost use Rattle.jasminc_top.specs.InterpLines.{limit_text, refused_text};
 
 use crate::lines::{write_lex_fault, write_syntax_fault};
 use jasminc_interp::{FunLimit, Refused};
+use jz_first::Text;
 use jz_first_limit::Limit;
 use jz_text::{write_number, write_span};
 use jz_types::{TypeFault, TypeRule};
@@ -40,28 +42,37 @@ fn write_typing(line: &mut Vec<u8>, fault: TypeFault) -> Result<(), AllocError>
     write_span(line, fault.span)
 }
 
-/// A limit: by the function where it has too many statements, else by the place.
+#[tactic(auto, unfolding(crate::specs::InterpLines::limit_name))]
+fn limit_name(limit: Limit) -> &'static str
+    ensures { result.now ≡ limit_name limit }
+{
+    match limit {
+        Limit::Expand => "Expand",
+        Limit::InlineWidth(_) => "InlineWidth",
+        Limit::IndexRange(_) => "IndexRange",
+        Limit::ImmRange(_) => "ImmRange",
+    }
+}
+
+/// What passes a limit: the function where it has too many statements, else the place.
+fn write_subject(line: &mut Vec<u8>, fun: &Text, limit: Limit) -> Result<(), AllocError>
+    ensures { OnOk result (line.new.items ≡ line.old.items ++ limit_subject fun.now limit) }
+{
+    match limit {
+        Limit::Expand => line.extend_from_slice(fun.as_str().as_bytes()),
+        Limit::InlineWidth(span) => write_span(line, span),
+        Limit::IndexRange(span) => write_span(line, span),
+        Limit::ImmRange(span) => write_span(line, span),
+    }
+}
+
 fn write_fun_limit(line: &mut Vec<u8>, passed: &FunLimit) -> Result<(), AllocError>
     ensures { OnOk result (line.new.items ≡ line.old.items ++ limit_text passed.now) }
 {
-    match passed.limit {
-        Limit::Expand => {
-            line.extend_from_slice(b"limit Expand ")?;
-            line.extend_from_slice(passed.fun.as_str().as_bytes())
-        }
-        Limit::InlineWidth(span) => {
-            line.extend_from_slice(b"limit InlineWidth ")?;
-            write_span(line, span)
-        }
-        Limit::IndexRange(span) => {
-            line.extend_from_slice(b"limit IndexRange ")?;
-            write_span(line, span)
-        }
-        Limit::ImmRange(span) => {
-            line.extend_from_slice(b"limit ImmRange ")?;
-            write_span(line, span)
-        }
-    }
+    line.extend_from_slice(b"limit ")?;
+    line.extend_from_slice(limit_name(passed.limit).as_bytes())?;
+    line.extend_from_slice(b" ")?;
+    write_subject(line, &passed.fun, passed.limit)
 }
 
 pub fn write_refused(line: &mut Vec<u8>, refused: &Refused) -> Result<(), AllocError>
