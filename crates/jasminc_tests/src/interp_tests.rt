@@ -202,14 +202,14 @@ static RUNS: [Row; 37] = [
         words: &["jasminc", "interp", "add.jazz", "cell", "2"],
         text: b"export fn cell(reg u64 i) -> reg u64 { stack u64[2] s; reg u64 r; s[0] = 5; s[1] = 6; r = s[i]; return r; }",
         status: Status::Stuck,
-        written: "stuck 1:99 Bounds\n",
+        written: "stuck 1:91 Bounds\n",
         made: 0,
     },
     Row {
         words: &["jasminc", "interp", "add.jazz", "load", "16"],
         text: b"export fn load(reg u64 p) -> reg u64 { reg u64 r; r = [p]; return r; }",
         status: Status::Stuck,
-        written: "stuck 1:58 Address\n",
+        written: "stuck 1:55 Address\n",
         made: 0,
     },
     Row {

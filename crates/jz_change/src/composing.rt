@@ -91,7 +91,7 @@ fn compose_steps(alloc: Global, a: &Change, steps: &[Step], at: usize) -> Result
     ensures { IfOk result (λ p. join (change_of a.now) (steps_of (drop at steps.now))
         ≡ steps_and p.steps (steps_of (drop p.at steps.now))) }
 {
-    let mut out = Seq::new(alloc);
+    let mut out = Vec::with_capacity(alloc, a.steps.len())?;
     let mut now = at;
     for step in a.steps.as_slice() {
         let one = compose_step(alloc, step, steps, now)?;
@@ -99,7 +99,7 @@ fn compose_steps(alloc: Global, a: &Change, steps: &[Step], at: usize) -> Result
         now = one.at;
     }
     Ok(Part {
-        steps: out,
+        steps: Seq::from_vec(out),
         at: now,
     })
 }
@@ -404,12 +404,12 @@ fn compose_every(alloc: Global, body: &Change, parts: &[Change]) -> Result<Seq<C
     ensures { IfOk result (λ all. changes_of all
         ≡ join_every (join (change_of body.now)) (changes_of parts.now)) }
 {
-    let mut all = Seq::new(alloc);
+    let mut all = Vec::with_capacity(alloc, parts.len())?;
     for part in parts {
         let made = compose_change(alloc, body, part.steps.as_slice())?;
         all.push(made)?;
     }
-    Ok(all)
+    Ok(Seq::from_vec(all))
 }
 
 /// The rounds of a `for`, one after another.
@@ -422,7 +422,7 @@ fn compose_unrolled(
 ) -> Result<One, AllocError>
     ensures { IfOk result (λ o. GivesStepAt (Step.Unrolled parts.now) steps.now at o.step o.at) }
 {
-    let mut all = Seq::new(alloc);
+    let mut all = Vec::with_capacity(alloc, parts.len())?;
     let mut now = at;
     for part in parts.as_slice() {
         let made = compose_steps(alloc, part, steps, now)?;
@@ -430,7 +430,7 @@ fn compose_unrolled(
         now = made.at;
     }
     Ok(One {
-        step: Step::Unrolled(all),
+        step: Step::Unrolled(Seq::from_vec(all)),
         at: now,
     })
 }

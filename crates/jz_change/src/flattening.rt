@@ -11,7 +11,7 @@ ghost use Rattle.jz_change.specs.Views.{change_of};
 ghost use Rattle.jz_change.specs.InnerSteps.{KeepsIf, KeepsWhile, GivesCaseAt, cases_and};
 
 use crate::change::{Change, Number, Numbers, Step};
-use crate::numbers::number_at;
+use crate::numbers::{make_room, number_at};
 use jz_data::Seq;
 use jz_leak::{Case, Form, Out, Tr, Transformer};
 use std::alloc::{AllocError, Global};
@@ -79,6 +79,7 @@ fn out_by(numbers: &[Number], out: Out) -> Out
 fn push_outs(outs: &mut Vec<Out>, numbers: &Numbers, more: &Seq<Out>) -> Result<(), AllocError>
     ensures { OnOk result (outs.new.items ≡ outs.old.items ++ outs_by numbers.now more.now) }
 {
+    make_room(outs, more.len())?;
     match numbers {
         Numbers::Same => {
             for out in more.as_slice() {
@@ -121,7 +122,8 @@ fn next(cases: &[Case], at: usize) -> usize
     if at < cases.len() { at + 1 } else { at }
 }
 
-/// Takes the cases of so many operations, adds their events, and says where the cases behind them begin.
+/// Takes the cases of so many operations, adds their events, and says where the cases behind them
+/// begin.
 fn take(
     outs: &mut Vec<Out>,
     items: &Seq<Numbers>,
@@ -185,7 +187,7 @@ fn flat_steps(alloc: Global, a: &Change, cases: &[Case], at: usize) -> Result<Pa
     ensures { IfOk result (λ p. flat (change_of a.now) (drop at cases.now)
         ≡ cases_and p.cases (drop p.at cases.now)) }
 {
-    let mut out = Seq::new(alloc);
+    let mut out = Vec::with_capacity(alloc, a.steps.len())?;
     let mut now = at;
     for step in a.steps.as_slice() {
         let one = flat_step(alloc, step, cases, now)?;
@@ -193,7 +195,7 @@ fn flat_steps(alloc: Global, a: &Change, cases: &[Case], at: usize) -> Result<Pa
         now = one.at;
     }
     Ok(Part {
-        cases: out,
+        cases: Seq::from_vec(out),
         at: now,
     })
 }
@@ -403,7 +405,8 @@ fn behind_prologue(
     at: usize,
 ) -> Result<Seq<Out>, AllocError>
     ensures { IfOk result (λ outs. outs
-        ≡ (first_outs before.now (drop at inner.now.cases)).outs ++ outs_by test.now test_outs.now) }
+        ≡ (first_outs before.now (drop at inner.now.cases)).outs
+        ++ outs_by test.now test_outs.now) }
 {
     let mut outs = Vec::new(alloc);
     let _behind = take(&mut outs, before, inner.cases.as_slice(), at)?;
@@ -467,12 +470,12 @@ fn flat_trees(alloc: Global, body: &Change, trs: &Seq<Tr>) -> Result<Seq<Tr>, Al
     ensures { IfOk result (λ out. out
         ≡ map (λ t. tr_of (flat (change_of body.now) t.cases).cases) trs.now) }
 {
-    let mut out = Seq::new(alloc);
+    let mut out = Vec::with_capacity(alloc, trs.len())?;
     for tr in trs.as_slice() {
         let made = flat_tr(alloc, body, tr)?;
         out.push(made)?;
     }
-    Ok(out)
+    Ok(Seq::from_vec(out))
 }
 
 /// The rounds of a `for`, one after another.
@@ -485,7 +488,7 @@ fn flat_unrolled(
 ) -> Result<One, AllocError>
     ensures { IfOk result (λ o. GivesCaseAt (Step.Unrolled parts.now) cases.now at o.case o.at) }
 {
-    let mut trs = Seq::new(alloc);
+    let mut trs = Vec::with_capacity(alloc, parts.len())?;
     let mut now = at;
     for part in parts.as_slice() {
         let made = flat_steps(alloc, part, cases, now)?;
@@ -493,7 +496,7 @@ fn flat_unrolled(
         now = made.at;
     }
     Ok(One {
-        case: Case::For(trs),
+        case: Case::For(Seq::from_vec(trs)),
         at: now,
     })
 }

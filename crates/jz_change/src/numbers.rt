@@ -28,11 +28,21 @@ fn number_by(numbers: &[Number], number: Number) -> Number
     }
 }
 
+/// Gives an empty list just the room that it needs for so many; a longer one grows as it is filled.
+pub(crate) fn make_room<T>(list: &mut Vec<T>, count: usize) -> Result<(), AllocError>
+    ensures { list.new.items ≡ list.old.items }
+{
+    if list.is_empty() {
+        list.reserve_exact(count)?;
+    }
+    Ok(())
+}
+
 /// And of several.
 fn these_by(alloc: Global, numbers: &[Number], these: &[Number]) -> Result<Seq<Number>, AllocError>
     ensures { IfOk result (λ all. all ≡ map (number_by numbers.now) these.now) }
 {
-    let mut all = Vec::new(alloc);
+    let mut all = Vec::with_capacity(alloc, these.len())?;
     for one in these {
         all.push(number_by(numbers, *one))?;
     }
@@ -84,6 +94,7 @@ pub(crate) fn push_all(
 ) -> Result<(), AllocError>
     ensures { OnOk result (out.new.items ≡ out.old.items ++ all_by first.now more.now) }
 {
+    make_room(out, more.len())?;
     for one in more.as_slice() {
         let made = numbers_by(alloc, first, one)?;
         out.push(made)?;

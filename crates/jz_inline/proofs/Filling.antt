@@ -27,7 +27,7 @@ use Rattle.jz_bodies.specs.Scopes.{Scope, a_scalar, Has, Sets, Reads}
 use Rattle.jz_bodies.specs.Calls.{is_array, IsLent, lent_here, lent_later, PlaceOf, itself, its_cell, OneHas, AreApart, params_of, vars_of, IsArgument, of_array, of_value, AreArguments, IsCall}
 use Rattle.jz_inline.specs.Names.{Names, var_in, expr_in}
 use Rattle.jz_inline.proofs.Copies.{ScopeCopy, key_in, ref_in, Agrees, IsBelow, Stands, Within, callee_copy}
-use Rattle.jz_inline.specs.Calls.{callee_names, set_one, argument_ops, from, argument_items}
+use Rattle.jz_inline.specs.Calls.{callee_names, set_one, call_place, argument_ops, from, argument_items}
 use Rattle.jz_inline.specs.Widths.{width}
 use Rattle.jz_inline.proofs.Widths.{same_width}
 use Rattle.jz_inline.proofs.Reading.{ref_so, value_so}
@@ -243,17 +243,17 @@ module _ (scopes : Fun → Scope) (x : ScopeCopy) (c : ℕ) (q : Call) (below : 
 
   pub record Passed (D : Key → Type 0) (ps : List Param) (es : List Expr) (all : List ℕ) (i : ℕ) (t : State) (end : Store) : Type 0 where
     pub to : State
-    pub go : DoAll source all (argument_ops x.names In q.at ps es) (argument_items i ps es) t to
+    pub go : DoAll source all (argument_ops x.names In (call_place q.to q.at) ps es) (argument_items i ps es) t to
     pub filled : Filled (Done D (params_of ps)) end to
 
   abbrev Lends : List Param → List Expr → Type 0
   Lends ps es = (r y : Ref) → IsLent ps es r y → IsLent q.callee.params q.args r y
 
   -- a copy of an argument that is no array
-  op_is : (p : Param) (e : Expr) (t : State) → Agrees x s t → is_array (ref_of p.var).kind ≡ false → Reads x.scope e → does (set_one (lval.Var (var_in In p.var)) (expr_in x.names e) q.at) t ≡ and_then (value_for (ref_of p.var) e s) (λ h. went [] (with_value t (key_in In (key_of (ref_of p.var))) (Some h)))
+  op_is : (p : Param) (e : Expr) (t : State) → Agrees x s t → is_array (ref_of p.var).kind ≡ false → Reads x.scope e → does (set_one (lval.Var (var_in In p.var)) (expr_in x.names e) (call_place q.to q.at)) t ≡ and_then (value_for (ref_of p.var) e s) (λ h. went [] (with_value t (key_in In (key_of (ref_of p.var))) (Some h)))
   op_is p e t a na rd =
       let r = ref_so In p.var in
-      set_var (var_in In p.var) (expr_in x.names e) q.at t (ap (λ (v : Ref). is_array v.kind) r ∙ na)
+      set_var (var_in In p.var) (expr_in x.names e) (call_place q.to q.at) t (ap (λ (v : Ref). is_array v.kind) r ∙ na)
       ∙ ap (λ (v : Ref). and_then (value_for v (expr_in x.names e) t) (λ h. went [] (with_value t (key_of v) (Some h)))) r
       ∙ ap (λ y. and_then (and_then y (held (ref_of p.var).span (ref_of p.var).kind)) (λ h. went [] (with_value t (key_in In (key_of (ref_of p.var))) (Some h)))) (value_so x s t a e rd (size_of (ref_of p.var).kind))
 
@@ -276,7 +276,7 @@ module _ (scopes : Fun → Scope) (x : ScopeCopy) (c : ℕ) (q : Call) (below : 
           let m = next (copied n r y s.store store) t ns pre i (filled_array r y z n f lent kd) two q1 q2 in
           record {
             to = m.to;
-            go = subst (λ b. DoAll source all (if b then argument_ops x.names In q.at ps es else (set_one (lval.Var (var_in In p.var)) (expr_in x.names e) q.at ∷ argument_ops x.names In q.at ps es)) (if b then argument_items i ps es else (These (from i (width e)) ∷ argument_items (i + width e) ps es)) t m.to) (sym ia) m.go;
+            go = subst (λ b. DoAll source all (if b then argument_ops x.names In (call_place q.to q.at) ps es else (set_one (lval.Var (var_in In p.var)) (expr_in x.names e) (call_place q.to q.at) ∷ argument_ops x.names In (call_place q.to q.at) ps es)) (if b then argument_items i ps es else (These (from i (width e)) ∷ argument_items (i + width e) ps es)) t m.to) (sym ia) m.go;
             filled = m.filled;
           }
       by_argument next (of_value na nc rd fixed sets sort) =
@@ -290,19 +290,19 @@ module _ (scopes : Fun → Scope) (x : ScopeCopy) (c : ℕ) (q : Call) (below : 
           let nums : cut.0 ≡ v.0 = v.5 ∙ ap (λ b. v.0 ++ b) none ∙ append-nil v.0 in
           let q3 : all ≡ pre ++ (v.0 ++ (cut.2 ++ post)) = q1 ∙ ap (λ b. pre ++ (b ++ post)) (cut.5 ∙ ap (λ b. b ++ cut.2) nums) ∙ ap (λ b. pre ++ b) (append_assoc v.0 cut.2 post) in
           let here : numbers_in (These (from i (width e))) all ≡ v.0 = subst (λ b. map (number_in all) (from i b) ≡ v.0) w (from_so i all pre v.0 (cut.2 ++ post) q2 q3) in
-          let done1 : does (set_one (lval.Var (var_in In p.var)) (expr_in x.names e) q.at) t ≡ went (numbers_in (These (from i (width e))) all) t2
+          let done1 : does (set_one (lval.Var (var_in In p.var)) (expr_in x.names e) (call_place q.to q.at)) t ≡ went (numbers_in (These (from i (width e))) all) t2
           = op_is p e t (agrees_still f) na rd ∙ ap (λ b. and_then b (λ h. went [] (with_value t (key_in In (key_of r)) (Some h)))) v.3 ∙ ap (λ b. went b t2) (append-nil v.0 ∙ sym here) in
           let there : HasThese all (These (from i (width e))) = from_within all i (width e) (omega (arith, q2, w, ap length q3, length-append pre (v.0 ++ (cut.2 ++ post)), length-append v.0 (cut.2 ++ post))) in
           let f2 = filled_value r h f na nc sets (value_sort r e s v.0 h (G.sorts r.name r.copy) sort v.3) in
           let m = next (put store (key_of r) (Some h)) t2 cut.2 (pre ++ v.0) (i + width e) f2 (ap (all_passed q.at ps es s) (sym st2) ∙ cut.4) (q3 ∙ sym (append_assoc pre v.0 (cut.2 ++ post))) (omega (arith, q2, w, length-append pre v.0)) in
           record {
             to = m.to;
-            go = subst (λ b. DoAll source all (if b then argument_ops x.names In q.at ps es else (set_one (lval.Var (var_in In p.var)) (expr_in x.names e) q.at ∷ argument_ops x.names In q.at ps es)) (if b then argument_items i ps es else (These (from i (width e)) ∷ argument_items (i + width e) ps es)) t m.to) (sym na) (do_one there done1 m.go);
+            go = subst (λ b. DoAll source all (if b then argument_ops x.names In (call_place q.to q.at) ps es else (set_one (lval.Var (var_in In p.var)) (expr_in x.names e) (call_place q.to q.at) ∷ argument_ops x.names In (call_place q.to q.at) ps es)) (if b then argument_items i ps es else (These (from i (width e)) ∷ argument_items (i + width e) ps es)) t m.to) (sym na) (do_one there done1 m.go);
             filled = m.filled;
           }
 
   -- an argument that is stuck
-  pub passes_not : {D : Key → Type 0} (ps : List Param) (es : List Expr) → AreArguments x.scope G ps es → Lends ps es → (store : Store) (t : State) (w : Stuck) → Filled D store t → all_passed q.at ps es s store ≡ stuck w → OneFails source w (argument_ops x.names In q.at ps es) t
+  pub passes_not : {D : Key → Type 0} (ps : List Param) (es : List Expr) → AreArguments x.scope G ps es → Lends ps es → (store : Store) (t : State) (w : Stuck) → Filled D store t → all_passed q.at ps es s store ≡ stuck w → OneFails source w (argument_ops x.names In (call_place q.to q.at) ps es) t
   passes_not [] [] a l store t w f e = absurd cc
   passes_not [] (e ∷ es) a l store t w f e1 = elim a [ ]
   passes_not (p ∷ ps) [] a l store t w f e = elim a [ ]
@@ -311,22 +311,22 @@ module _ (scopes : Fun → Scope) (x : ScopeCopy) (c : ℕ) (q : Call) (below : 
       r : Ref
       r = ref_of p.var
 
-      by_argument : ((store2 : Store) (t2 : State) → Filled (More D (ref_of p.var)) store2 t2 → all_passed q.at ps es s store2 ≡ stuck w → OneFails source w (argument_ops x.names In q.at ps es) t2) → IsArgument x.scope G r e → OneFails source w (argument_ops x.names In q.at (p ∷ ps) (e ∷ es)) t
+      by_argument : ((store2 : Store) (t2 : State) → Filled (More D (ref_of p.var)) store2 t2 → all_passed q.at ps es s store2 ≡ stuck w → OneFails source w (argument_ops x.names In (call_place q.to q.at) ps es) t2) → IsArgument x.scope G r e → OneFails source w (argument_ops x.names In (call_place q.to q.at) (p ∷ ps) (e ∷ es)) t
       by_argument next (of_array {y} {z} {n} kd ao yk ha s1 s2 hr) =
           let ia : is_array r.kind ≡ true = ap is_array kd in
           let lent = l r y (lent_here ia ao) in
           let one : passed q.at r.kind r e s store ≡ went [] (copied n r y s.store store) = ap (λ k. passed q.at k r e s store) kd ∙ ap (λ o. array_passed q.at n r o s.store store) ao in
           let two : all_passed q.at ps es s (copied n r y s.store store) ≡ stuck w = sym (none_first _) ∙ ap (λ v. and_then v (all_passed q.at ps es s)) (sym one) ∙ e1 in
           let m = next (copied n r y s.store store) t (filled_array r y z n f lent kd) two in
-          subst (λ b. OneFails source w (if b then argument_ops x.names In q.at ps es else (set_one (lval.Var (var_in In p.var)) (expr_in x.names e) q.at ∷ argument_ops x.names In q.at ps es)) t) (sym ia) m
+          subst (λ b. OneFails source w (if b then argument_ops x.names In (call_place q.to q.at) ps es else (set_one (lval.Var (var_in In p.var)) (expr_in x.names e) (call_place q.to q.at) ∷ argument_ops x.names In (call_place q.to q.at) ps es)) t) (sym ia) m
       by_argument next (of_value na nc rd fixed sets sort) =
-          subst (λ b. OneFails source w (if b then argument_ops x.names In q.at ps es else (set_one (lval.Var (var_in In p.var)) (expr_in x.names e) q.at ∷ argument_ops x.names In q.at ps es)) t) (sym na)
+          subst (λ b. OneFails source w (if b then argument_ops x.names In (call_place q.to q.at) ps es else (set_one (lval.Var (var_in In p.var)) (expr_in x.names e) (call_place q.to q.at) ∷ argument_ops x.names In (call_place q.to q.at) ps es)) t) (sym na)
           (by_value (value_for r e s) refl)
         where
-          start : does (set_one (lval.Var (var_in In p.var)) (expr_in x.names e) q.at) t ≡ and_then (value_for r e s) (λ h. went [] (with_value t (key_in In (key_of r)) (Some h)))
+          start : does (set_one (lval.Var (var_in In p.var)) (expr_in x.names e) (call_place q.to q.at)) t ≡ and_then (value_for r e s) (λ h. went [] (with_value t (key_in In (key_of r)) (Some h)))
           start = op_is p e t (agrees_still f) na rd
 
-          by_value : (v : Evaluation Value) → value_for r e s ≡ v → OneFails source w (set_one (lval.Var (var_in In p.var)) (expr_in x.names e) q.at ∷ argument_ops x.names In q.at ps es) t
+          by_value : (v : Evaluation Value) → value_for r e s ≡ v → OneFails source w (set_one (lval.Var (var_in In p.var)) (expr_in x.names e) (call_place q.to q.at) ∷ argument_ops x.names In (call_place q.to q.at) ps es) t
           by_value (stuck k) d =
               let z : and_then (and_then (value_for r e s) (λ h. went [] (put store (key_of r) (Some h)))) (all_passed q.at ps es s) ≡ stuck w = ap (λ b. and_then b (all_passed q.at ps es s)) (sym (passed_value q.at r e s store na)) ∙ e1 in
               let z2 : stuck k ≡ stuck w = ap (λ b. and_then (and_then b (λ h. went [] (put store (key_of r) (Some h)))) (all_passed q.at ps es s)) (sym d) ∙ z in
@@ -394,7 +394,7 @@ module _ (scopes : Fun → Scope) (x : ScopeCopy) (c : ℕ) (q : Call) (below : 
   apart_both (r ∷ rs) qs k h (inr o) p = apart_both rs qs k h.1 o p
 
   pub entered : (s1 : State) (ns : List ℕ) → enters q s ≡ went ns s1 →
-      (t1 : State) × DoAll source ns (argument_ops x.names In q.at q.callee.params q.args) (argument_items 0 q.callee.params q.args) t0 t1
+      (t1 : State) × DoAll source ns (argument_ops x.names In (call_place q.to q.at) q.callee.params q.args) (argument_items 0 q.callee.params q.args) t0 t1
       × Stands (callee_copy scopes x c q) s1 (quiets (unset (map (var_in In) q.callee.vars)) t1) × Within (callee_copy scopes x c q) (suc c) t0 (quiets (unset (map (var_in In) q.callee.vars)) t1)
   entered s1 ns e =
       let p = then_went (all_passed q.at q.callee.params q.args s empty_store) (λ store. went [] (record { store = store; memory = s.memory })) ns s1 e in
@@ -434,12 +434,12 @@ module _ (scopes : Fun → Scope) (x : ScopeCopy) (c : ℕ) (q : Call) (below : 
           by_mark (inl (a, b)) = let z = var_image q.callee.vars k a in absurd (out z.0 (is.own z.0 z.1) z.2)
           by_mark (inr (n, b)) = b ∙ f.within k lt out
 
-  pub entered_not : (w : Stuck) → enters q s ≡ stuck w → OneFails source w (argument_ops x.names In q.at q.callee.params q.args) t0
+  pub entered_not : (w : Stuck) → enters q s ≡ stuck w → OneFails source w (argument_ops x.names In (call_place q.to q.at) q.callee.params q.args) t0
   entered_not w e = by_part (then_stuck (all_passed q.at q.callee.params q.args s empty_store) ended_in w e)
     where
       ended_in : Store → Evaluation State
       ended_in a = went [] (record { store = a; memory = s.memory })
 
-      by_part : (all_passed q.at q.callee.params q.args s empty_store ≡ stuck w) ⊎ ((ms : List ℕ) × (a : Store) × (all_passed q.at q.callee.params q.args s empty_store ≡ went ms a) × (ended_in a ≡ stuck w)) → OneFails source w (argument_ops x.names In q.at q.callee.params q.args) t0
+      by_part : (all_passed q.at q.callee.params q.args s empty_store ≡ stuck w) ⊎ ((ms : List ℕ) × (a : Store) × (all_passed q.at q.callee.params q.args s empty_store ≡ went ms a) × (ended_in a ≡ stuck w)) → OneFails source w (argument_ops x.names In (call_place q.to q.at) q.callee.params q.args) t0
       by_part (inl p) = passes_not {D = Nothing} q.callee.params q.args is.arguments (λ r y l. l) empty_store t0 w start p
       by_part (inr (ms, a, p, z)) = let y : went [] (record { store = a; memory = s.memory }) ≡ stuck w = z in absurd cc

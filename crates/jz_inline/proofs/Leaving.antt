@@ -39,7 +39,7 @@ use Rattle.jz_bodies.specs.Scopes.{is_over, is_access_over, Scope, a_scalar, a_c
 use Rattle.jz_bodies.specs.Calls.{is_array, IsLent, lent_here, lent_later, IsFixed, IsResult, AreResults, IsCall}
 use Rattle.jz_inline.specs.Names.{Names, var_in, lval_in}
 use Rattle.jz_inline.proofs.Copies.{ScopeCopy, key_in, ref_in, IsBelow, Stands, Within, callee_copy}
-use Rattle.jz_inline.specs.Calls.{callee_names, set_one, result_op, result_ops, from, result_item, result_items}
+use Rattle.jz_inline.specs.Calls.{callee_names, set_one, call_place, result_op, result_ops, from, result_item, result_items}
 use Rattle.jz_inline.specs.Widths.{width, left_width}
 use Rattle.jz_inline.proofs.Widths.{same_width}
 use Rattle.jz_inline.proofs.Reading.{ref_so, meaning_is, access_is, access_over_is}
@@ -367,11 +367,11 @@ module _ (scopes : Fun → Scope) (x : ScopeCopy) (c : ℕ) (q : Call) (below : 
           })
 
   abbrev Result : List Lval → List Var → List ℕ → ℕ → State → State → Type 0
-  Result ds vs all i tc s3 = (t3 : State) × DoAll source all (result_ops x.names In q.at ds vs) (result_items i ds vs) tc t3 × Giving s3 t3
+  Result ds vs all i tc s3 = (t3 : State) × DoAll source all (result_ops x.names In (call_place q.to q.at) ds vs) (result_items i ds vs) tc t3 × Giving s3 t3
 
-  op_so : (sc tc : State) (d : Lval) (v : Var) → Giving sc tc → (ref_of v).cell ≡ None → G.has_scalar (ref_of v) ≡ true → does (set_one (lval_in x.names d) (expr.Var (var_in In v)) q.at) tc ≡ and_then (variable_value (ref_of v) s2.store) (λ u. written (size_of (ref_of v).kind) (lval_in x.names d) (Some u) tc)
+  op_so : (sc tc : State) (d : Lval) (v : Var) → Giving sc tc → (ref_of v).cell ≡ None → G.has_scalar (ref_of v) ≡ true → does (set_one (lval_in x.names d) (expr.Var (var_in In v)) (call_place q.to q.at)) tc ≡ and_then (variable_value (ref_of v) s2.store) (λ u. written (size_of (ref_of v).kind) (lval_in x.names d) (Some u) tc)
   op_so sc tc d v f nc has =
-      set_from (lval_in x.names d) (var_in In v) q.at tc
+      set_from (lval_in x.names d) (var_in In v) (call_place q.to q.at) tc
       ∙ ap (λ (r : Ref). and_then (variable_value r tc.store) (λ u. written (size_of r.kind) (lval_in x.names d) (Some u) tc)) (ref_so In v)
       ∙ ap (λ y. and_then y (λ u. written (size_of (ref_of v).kind) (lval_in x.names d) (Some u) tc)) (variable_so sc tc v f nc has)
 
@@ -396,16 +396,16 @@ module _ (scopes : Fun → Scope) (x : ScopeCopy) (c : ℕ) (q : Call) (below : 
       Rest tc2 i2 = Result ds vs all i2 tc2 s3
 
       none_here : ((sc2 tc2 : State) (ns2 pre2 : List ℕ) (i2 : ℕ) → Giving sc2 tc2 → all_given q.at ds vs s2.store sc2 ≡ went ns2 s3 → all ≡ pre2 ++ (ns2 ++ post) → i2 ≡ length pre2 → Result ds vs all i2 tc2 s3) →
-          given r.kind r d s2.store sc ≡ went [] sc → result_op x.names In q.at d v (result_ops x.names In q.at ds vs) ≡ result_ops x.names In q.at ds vs → result_item i d v (λ j. result_items j ds vs) ≡ result_items i ds vs → Result (d ∷ ds) (v ∷ vs) all i tc s3
+          given r.kind r d s2.store sc ≡ went [] sc → result_op x.names In (call_place q.to q.at) d v (result_ops x.names In (call_place q.to q.at) ds vs) ≡ result_ops x.names In (call_place q.to q.at) ds vs → result_item i d v (λ j. result_items j ds vs) ≡ result_items i ds vs → Result (d ∷ ds) (v ∷ vs) all i tc s3
       none_here next g1 o1 i1 =
           let m = next sc tc ns pre i f (sym (none_first _) ∙ ap (λ y. and_then y (all_given q.at ds vs s2.store)) (sym g1) ∙ e) q1 q2 in
-          (m.0, subst (λ os. DoAll source all os (result_item i d v (λ j. result_items j ds vs)) tc m.0) (sym o1) (subst (λ js. DoAll source all (result_ops x.names In q.at ds vs) js tc m.0) (sym i1) m.1), m.2)
+          (m.0, subst (λ os. DoAll source all os (result_item i d v (λ j. result_items j ds vs)) tc m.0) (sym o1) (subst (λ js. DoAll source all (result_ops x.names In (call_place q.to q.at) ds vs) js tc m.0) (sym i1) m.1), m.2)
 
       by_result : ((sc2 tc2 : State) (ns2 pre2 : List ℕ) (i2 : ℕ) → Giving sc2 tc2 → all_given q.at ds vs s2.store sc2 ≡ went ns2 s3 → all ≡ pre2 ++ (ns2 ++ post) → i2 ≡ length pre2 → Result ds vs all i2 tc2 s3) →
           IsResult x.scope G d v → NotSkip d ⊎ ((at : Span) × (d ≡ lval.Skip at)) → Result (d ∷ ds) (v ∷ vs) all i tc s3
-      by_result next (inl ar) sk = none_here next (given_array r d s2.store sc ar) (no_op x.names In q.at d v _ ar) (no_item i d v _ ar)
+      by_result next (inl ar) sk = none_here next (given_array r d s2.store sc ar) (no_op x.names In (call_place q.to q.at) d v _ ar) (no_item i d v _ ar)
       by_result next (inr b) (inr (at, is_skipped)) =
-          none_here next (ap (λ y. given r.kind r y s2.store sc) is_skipped ∙ skipped r.kind) (ap (λ y. result_op x.names In q.at y v (result_ops x.names In q.at ds vs)) is_skipped) (ap (λ y. result_item i y v (λ j. result_items j ds vs)) is_skipped)
+          none_here next (ap (λ y. given r.kind r y s2.store sc) is_skipped ∙ skipped r.kind) (ap (λ y. result_op x.names In (call_place q.to q.at) y v (result_ops x.names In (call_place q.to q.at) ds vs)) is_skipped) (ap (λ y. result_item i y v (λ j. result_items j ds vs)) is_skipped)
         where
           skipped : (k : Kind) → given k r (lval.Skip at) s2.store sc ≡ went [] sc
           skipped kind.Undeclared = refl
@@ -422,17 +422,17 @@ module _ (scopes : Fun → Scope) (x : ScopeCopy) (c : ℕ) (q : Call) (below : 
           let len = left_numbers x.scope G (size_of r.kind) d val.1 sc val.2 cut.1 below.scope f.stands.sorted b.3 b.4 val.4 in
           let q3 : all ≡ pre ++ (val.2 ++ (cut.2 ++ post)) = q1 ∙ ap (λ l. pre ++ (l ++ post)) (cut.5 ∙ ap (λ l. l ++ cut.2) nums) ∙ ap (λ l. pre ++ l) (append_assoc val.2 cut.2 post) in
           let here : numbers_in (These (from i (left_width d))) all ≡ val.2 = subst (λ l. map (number_in all) (from i l) ≡ val.2) len (from_so i all pre val.2 (cut.2 ++ post) q2 q3) in
-          let done1 : does (set_one (lval_in x.names d) (expr.Var (var_in In v)) q.at) tc ≡ went (numbers_in (These (from i (left_width d))) all) w.0
+          let done1 : does (set_one (lval_in x.names d) (expr.Var (var_in In v)) (call_place q.to q.at)) tc ≡ went (numbers_in (These (from i (left_width d))) all) w.0
           = op_so sc tc d v f b.1 b.2 ∙ ap (λ y. and_then y (λ u. written (size_of r.kind) (lval_in x.names d) (Some u) tc)) (val.3 ∙ ap (λ l. went l val.1) none) ∙ none_first _ ∙ w.1 ∙ ap (λ l. went l w.0) (sym here) in
           let there : HasThese all (These (from i (left_width d))) = from_within all i (left_width d) (omega (arith, q2, len, ap length q3, length-append pre (val.2 ++ (cut.2 ++ post)), length-append val.2 (cut.2 ++ post))) in
           let m = next cut.1 w.0 cut.2 (pre ++ val.2) (i + left_width d) w.2 cut.4 (q3 ∙ sym (append_assoc pre val.2 (cut.2 ++ post))) (omega (arith, q2, len, length-append pre val.2)) in (
             m.0,
-            subst (λ os. DoAll source all os (result_item i d v (λ j. result_items j ds vs)) tc m.0) (sym (one_op x.names In q.at d v (result_ops x.names In q.at ds vs) b.0 ns0))
-                (subst (λ js. DoAll source all (set_one (lval_in x.names d) (expr.Var (var_in In v)) q.at ∷ result_ops x.names In q.at ds vs) js tc m.0) (sym (one_item i d v (λ j. result_items j ds vs) b.0 ns0)) (do_one there done1 m.1)),
+            subst (λ os. DoAll source all os (result_item i d v (λ j. result_items j ds vs)) tc m.0) (sym (one_op x.names In (call_place q.to q.at) d v (result_ops x.names In (call_place q.to q.at) ds vs) b.0 ns0))
+                (subst (λ js. DoAll source all (set_one (lval_in x.names d) (expr.Var (var_in In v)) (call_place q.to q.at) ∷ result_ops x.names In (call_place q.to q.at) ds vs) js tc m.0) (sym (one_item i d v (λ j. result_items j ds vs) b.0 ns0)) (do_one there done1 m.1)),
             m.2,
           )
 
-  gives_not : (ds : List Lval) (vs : List Var) → AreResults x.scope G ds vs → (sc tc : State) (w : Stuck) → Giving sc tc → all_given q.at ds vs s2.store sc ≡ stuck w → OneFails source w (result_ops x.names In q.at ds vs) tc
+  gives_not : (ds : List Lval) (vs : List Var) → AreResults x.scope G ds vs → (sc tc : State) (w : Stuck) → Giving sc tc → all_given q.at ds vs s2.store sc ≡ stuck w → OneFails source w (result_ops x.names In (call_place q.to q.at) ds vs) tc
   gives_not [] [] a sc tc w f e = absurd cc
   gives_not [] (v ∷ vs) a sc tc w f e = elim a [ ]
   gives_not (d ∷ ds) [] a sc tc w f e = elim a [ ]
@@ -441,15 +441,15 @@ module _ (scopes : Fun → Scope) (x : ScopeCopy) (c : ℕ) (q : Call) (below : 
       r : Ref
       r = ref_of v
 
-      none_here : ((sc2 tc2 : State) → Giving sc2 tc2 → all_given q.at ds vs s2.store sc2 ≡ stuck w → OneFails source w (result_ops x.names In q.at ds vs) tc2) →
-          given r.kind r d s2.store sc ≡ went [] sc → result_op x.names In q.at d v (result_ops x.names In q.at ds vs) ≡ result_ops x.names In q.at ds vs → OneFails source w (result_ops x.names In q.at (d ∷ ds) (v ∷ vs)) tc
+      none_here : ((sc2 tc2 : State) → Giving sc2 tc2 → all_given q.at ds vs s2.store sc2 ≡ stuck w → OneFails source w (result_ops x.names In (call_place q.to q.at) ds vs) tc2) →
+          given r.kind r d s2.store sc ≡ went [] sc → result_op x.names In (call_place q.to q.at) d v (result_ops x.names In (call_place q.to q.at) ds vs) ≡ result_ops x.names In (call_place q.to q.at) ds vs → OneFails source w (result_ops x.names In (call_place q.to q.at) (d ∷ ds) (v ∷ vs)) tc
       none_here next g1 o1 = subst (λ os. OneFails source w os tc) (sym o1) (next sc tc f (sym (none_first _) ∙ ap (λ y. and_then y (all_given q.at ds vs s2.store)) (sym g1) ∙ e))
 
-      by_result : ((sc2 tc2 : State) → Giving sc2 tc2 → all_given q.at ds vs s2.store sc2 ≡ stuck w → OneFails source w (result_ops x.names In q.at ds vs) tc2) →
-          IsResult x.scope G d v → NotSkip d ⊎ ((at : Span) × (d ≡ lval.Skip at)) → OneFails source w (result_ops x.names In q.at (d ∷ ds) (v ∷ vs)) tc
-      by_result next (inl ar) sk = none_here next (given_array r d s2.store sc ar) (no_op x.names In q.at d v _ ar)
+      by_result : ((sc2 tc2 : State) → Giving sc2 tc2 → all_given q.at ds vs s2.store sc2 ≡ stuck w → OneFails source w (result_ops x.names In (call_place q.to q.at) ds vs) tc2) →
+          IsResult x.scope G d v → NotSkip d ⊎ ((at : Span) × (d ≡ lval.Skip at)) → OneFails source w (result_ops x.names In (call_place q.to q.at) (d ∷ ds) (v ∷ vs)) tc
+      by_result next (inl ar) sk = none_here next (given_array r d s2.store sc ar) (no_op x.names In (call_place q.to q.at) d v _ ar)
       by_result next (inr b) (inr (at, is_skipped)) =
-          none_here next (ap (λ y. given r.kind r y s2.store sc) is_skipped ∙ skipped r.kind) (ap (λ y. result_op x.names In q.at y v (result_ops x.names In q.at ds vs)) is_skipped)
+          none_here next (ap (λ y. given r.kind r y s2.store sc) is_skipped ∙ skipped r.kind) (ap (λ y. result_op x.names In (call_place q.to q.at) y v (result_ops x.names In (call_place q.to q.at) ds vs)) is_skipped)
         where
           skipped : (k : Kind) → given k r (lval.Skip at) s2.store sc ≡ went [] sc
           skipped kind.Undeclared = refl
@@ -458,18 +458,18 @@ module _ (scopes : Fun → Scope) (x : ScopeCopy) (c : ℕ) (q : Call) (below : 
           skipped (kind.Word z) = refl
           skipped (kind.Array z n) = refl
       by_result next (inr b) (inl ns0) =
-          subst (λ os. OneFails source w os tc) (sym (one_op x.names In q.at d v (result_ops x.names In q.at ds vs) b.0 ns0)) (by_value (variable_value r s2.store) refl)
+          subst (λ os. OneFails source w os tc) (sym (one_op x.names In (call_place q.to q.at) d v (result_ops x.names In (call_place q.to q.at) ds vs) b.0 ns0)) (by_value (variable_value r s2.store) refl)
         where
           whole : and_then (and_then (variable_value r s2.store) (λ u. written (size_of r.kind) d (Some u) sc)) (all_given q.at ds vs s2.store) ≡ stuck w
           whole = ap (λ y. and_then y (all_given q.at ds vs s2.store)) (sym (given_set r d s2.store sc b.0 ns0)) ∙ e
 
-          start : does (set_one (lval_in x.names d) (expr.Var (var_in In v)) q.at) tc ≡ and_then (variable_value r s2.store) (λ u. written (size_of r.kind) (lval_in x.names d) (Some u) tc)
+          start : does (set_one (lval_in x.names d) (expr.Var (var_in In v)) (call_place q.to q.at)) tc ≡ and_then (variable_value r s2.store) (λ u. written (size_of r.kind) (lval_in x.names d) (Some u) tc)
           start = op_so sc tc d v f b.1 b.2
 
           Goal : Type 0
-          Goal = OneFails source w (set_one (lval_in x.names d) (expr.Var (var_in In v)) q.at ∷ result_ops x.names In q.at ds vs) tc
+          Goal = OneFails source w (set_one (lval_in x.names d) (expr.Var (var_in In v)) (call_place q.to q.at) ∷ result_ops x.names In (call_place q.to q.at) ds vs) tc
 
-          by_write : (ns : List ℕ) (u : Value) (y : Evaluation State) → variable_value r s2.store ≡ went ns u → written (size_of r.kind) d (Some u) sc ≡ y → Told (λ s4 t4. Giving s4 t4) y (written (size_of r.kind) (lval_in x.names d) (Some u) tc) → OneFails source w (set_one (lval_in x.names d) (expr.Var (var_in In v)) q.at ∷ result_ops x.names In q.at ds vs) tc
+          by_write : (ns : List ℕ) (u : Value) (y : Evaluation State) → variable_value r s2.store ≡ went ns u → written (size_of r.kind) d (Some u) sc ≡ y → Told (λ s4 t4. Giving s4 t4) y (written (size_of r.kind) (lval_in x.names d) (Some u) tc) → OneFails source w (set_one (lval_in x.names d) (expr.Var (var_in In v)) (call_place q.to q.at) ∷ result_ops x.names In (call_place q.to q.at) ds vs) tc
           by_write ns u (stuck k) g1 g2 t4 =
               let z : stuck k ≡ stuck w = ap (λ y. and_then (numbers_first ns y) (all_given q.at ds vs s2.store)) (sym g2) ∙ ap (λ y. and_then (and_then y (λ u. written (size_of r.kind) d (Some u) sc)) (all_given q.at ds vs s2.store)) (sym g1) ∙ whole in
               fails_here (start ∙ ap (λ y. and_then y (λ u. written (size_of r.kind) (lval_in x.names d) (Some u) tc)) g1 ∙ ap (numbers_first ns) t4 ∙ z)
@@ -477,7 +477,7 @@ module _ (scopes : Fun → Scope) (x : ScopeCopy) (c : ℕ) (q : Call) (below : 
               let z : numbers_first (ns ++ ms) (all_given q.at ds vs s2.store s4) ≡ stuck w = ap (λ y. and_then (numbers_first ns y) (all_given q.at ds vs s2.store)) (sym g2) ∙ ap (λ y. and_then (and_then y (λ u. written (size_of r.kind) d (Some u) sc)) (all_given q.at ds vs s2.store)) (sym g1) ∙ whole in
               fails_later (start ∙ ap (λ y. and_then y (λ u. written (size_of r.kind) (lval_in x.names d) (Some u) tc)) g1 ∙ ap (numbers_first ns) t4.1) (next s4 t4.0 t4.2 (first_stuck (ns ++ ms) _ w z))
 
-          by_value : (y : Evaluation Value) → variable_value r s2.store ≡ y → OneFails source w (set_one (lval_in x.names d) (expr.Var (var_in In v)) q.at ∷ result_ops x.names In q.at ds vs) tc
+          by_value : (y : Evaluation Value) → variable_value r s2.store ≡ y → OneFails source w (set_one (lval_in x.names d) (expr.Var (var_in In v)) (call_place q.to q.at) ∷ result_ops x.names In (call_place q.to q.at) ds vs) tc
           by_value (stuck k) g1 =
               let z : stuck k ≡ stuck w = ap (λ y. and_then (and_then y (λ u. written (size_of r.kind) d (Some u) sc)) (all_given q.at ds vs s2.store)) (sym g1) ∙ whole in
               fails_here (start ∙ ap (λ y. and_then y (λ u. written (size_of r.kind) (lval_in x.names d) (Some u) tc)) g1 ∙ z)
@@ -487,8 +487,8 @@ module _ (scopes : Fun → Scope) (x : ScopeCopy) (c : ℕ) (q : Call) (below : 
   first = record { stands = stands_back; kept = λ k e. refl; within = λ k lt out. refl }
 
   pub left : (s3 : State) (ns : List ℕ) → leaves q s s2 ≡ went ns s3 →
-      (t3 : State) × DoAll source ns (result_ops x.names In q.at q.to q.callee.result) (result_items 0 q.to q.callee.result) t2 t3 × Stands x s3 t3 × Within x c t2 t3
+      (t3 : State) × DoAll source ns (result_ops x.names In (call_place q.to q.at) q.to q.callee.result) (result_items 0 q.to q.callee.result) t2 t3 × Stands x s3 t3 × Within x c t2 t3
   left s3 ns e = let m = gives q.to q.callee.result is.results back t2 s3 ns ns [] [] 0 first e (sym (append-nil ns)) refl in (m.0, m.1, m.2.stands, m.2.within)
 
-  pub left_not : (w : Stuck) → leaves q s s2 ≡ stuck w → OneFails source w (result_ops x.names In q.at q.to q.callee.result) t2
+  pub left_not : (w : Stuck) → leaves q s s2 ≡ stuck w → OneFails source w (result_ops x.names In (call_place q.to q.at) q.to q.callee.result) t2
   left_not w e = gives_not q.to q.callee.result is.results back t2 w first e

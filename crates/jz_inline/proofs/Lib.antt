@@ -15,3 +15,4 @@ pub mod Made
 pub mod Renaming
 pub mod Passed
 pub mod Counting
+pub mod Capping

@@ -11,6 +11,7 @@ use Rattle.jz_tree.specs.declared.stmt.Lval.{Lval}
 use Rattle.jz_tree.specs.declared.stmt.Lval.TheVariants as lval
 use Rattle.jz_tree.specs.declared.program.Param.{Param}
 use Rattle.jz_meaning.specs.Values.{Ref, ref_of}
+use Rattle.jz_meaning.specs.Assignments.{left_span}
 use Rattle.jz_meaning.specs.Statements.{Operation, assign, unset, Condition, Counter, Call, array_of}
 use Rattle.jz_change.specs.declared.change.Number.{Number}
 use Rattle.jz_change.specs.declared.change.Number.TheVariants.{Nth}
@@ -39,6 +40,11 @@ callee_names names j _ _ n = (n, j)
 
 abbrev pub set_one : Lval → Expr → Span → Operation
 set_one d e at = assign (d ∷ []) None e None at
+
+-- the place of a call's statement: that of its first left side, or of the name where nothing is set
+abbrev pub call_place : List Lval → Span → Span
+call_place [] at = at
+call_place (d ∷ ds) at = left_span d
 
 -- a copy for each argument that is no array
 abbrev pub argument_ops : Names → Names → Span → List Param → List Expr → List Operation
@@ -100,10 +106,12 @@ inline_calls =
       counter_in = counter_in;
       callee = names_of_callee;
       arguments = λ names j q.
-          argument_ops names (names_of_callee names j q) q.at q.callee.params q.args;
+          argument_ops names (names_of_callee names j q) (call_place q.to q.at) q.callee.params
+          q.args;
       mark = λ names j q. unset (map (var_in (names_of_callee names j q)) q.callee.vars);
       results = λ names j q.
-          result_ops names (names_of_callee names j q) q.at q.to q.callee.result;
+          result_ops names (names_of_callee names j q) (call_place q.to q.at) q.to
+          q.callee.result;
       argument_items = λ names q. argument_items 0 q.callee.params q.args;
       result_items = λ names q. result_items 0 q.to q.callee.result;
     }

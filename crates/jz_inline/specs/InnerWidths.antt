@@ -4,6 +4,7 @@ use Rattle.jz_tree.specs.declared.expr.BinOp.{BinOp}
 use Rattle.jz_tree.specs.Operators.{divides}
 use Rattle.jz_meaning.specs.Values.{gives_word}
 use Rattle.jz_meaning.specs.Shapes.{Sort, words, flags, integers, Shape}
+use Rattle.jz_inline.specs.Widths.{capped}
 use Rattle.jz_inline.specs.declared.leaked.Counted.{Counted}
 use Rattle.jz_inline.specs.declared.leaked.Operand.{Operand}
 
@@ -14,7 +15,7 @@ is_whole flags = false
 
 -- what the code knows of a shape
 abbrev pub counted_of : Shape → Counted
-counted_of s = record { whole = is_whole s.sort; count = s.count }
+counted_of s = record { whole = is_whole s.sort; count = capped s.count }
 
 -- a division shows three numbers, but none where both operands are whole numbers
 abbrev pub count_of_operation : BinOp → Bool → ℕ
@@ -24,7 +25,7 @@ abbrev pub counted_operation : BinOp → Counted → Counted → Counted
 counted_operation op a b =
     record {
       whole = gives_word op && (a.whole && b.whole);
-      count = a.count + (b.count + count_of_operation op (a.whole && b.whole));
+      count = capped (a.count + capped (b.count + count_of_operation op (a.whole && b.whole)));
     }
 
 -- operations on what stands first, the outermost of them at the head

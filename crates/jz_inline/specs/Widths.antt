@@ -1,5 +1,5 @@
 -- How many numbers an expression leaks, by its text and by what its variables are declared to be.
-use Rattle.std.specs.Prelude.{ℕ, ◌+◌}
+use Rattle.std.specs.Prelude.{ℕ, ◌+◌, ◌-◌, ◌^◌, min}
 use Rattle.jz_tree.specs.declared.expr.Expr.{Expr}
 use Rattle.jz_tree.specs.declared.expr.Ty.{Ty}
 use Rattle.jz_tree.specs.declared.expr.Access.{Access}
@@ -35,6 +35,10 @@ declared_shape =
 
 abbrev pub width : Expr → ℕ
 width e = (declared_shape e).count
+
+-- a count as far as 64 bits have one
+abbrev pub capped : ℕ → ℕ
+capped n = min n (2 ^ 64 - 1)
 
 -- of an index or an address on the left, with the access itself
 abbrev pub left_width : Lval → ℕ

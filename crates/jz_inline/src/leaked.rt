@@ -4,7 +4,7 @@ ghost use Rattle.std.specs.Prelude.{◌≡◌, ◌+◌, IfOk};
 ghost use Rattle.jz_meaning.specs.Values.{ref_of};
 ghost use Rattle.jz_run_laws.specs.Kinds.{sort_of_kind};
 ghost use Rattle.jz_inline.specs.Widths as widths;
-ghost use Rattle.jz_inline.specs.Widths.{declared_shape};
+ghost use Rattle.jz_inline.specs.Widths.{capped, declared_shape};
 ghost use Rattle.jz_inline.specs.InnerWidths.{is_whole, counted_of, count_of_operation};
 ghost use Rattle.jz_inline.specs.InnerWidths.{counted_operation, counted_left};
 
@@ -13,7 +13,7 @@ use jz_tree::{BinOp, Expr, Lval, Var, divides};
 use std::alloc::{AllocError, Global};
 
 /// Whether an expression is a whole number that is known when the text is compiled, and how many
-/// numbers it leaks.
+/// numbers it leaks, as far as a u64 counts.
 #[derive(Clone, Copy)]
 struct Counted {
     whole: bool,
@@ -35,14 +35,10 @@ struct Side {
     first: Counted,
 }
 
-/// A sum. No memory has room for more numbers than a u64 can count.
-fn sum(one: u64, other: u64) -> Result<u64, AllocError>
-    ensures { IfOk result (λ n. n ≡ one + other) }
+fn sum(one: u64, other: u64) -> u64
+    ensures { result ≡ capped (one + other) }
 {
-    match one.checked_add(other) {
-        None => Err(AllocError),
-        Some(n) => Ok(n),
-    }
+    one.saturating_add(other)
 }
 
 fn own_count(op: BinOp, both_whole: bool) -> u64
@@ -55,16 +51,15 @@ fn own_count(op: BinOp, both_whole: bool) -> u64
     }
 }
 
-fn operation(op: BinOp, left: Counted, right: Counted) -> Result<Counted, AllocError>
-    ensures { IfOk result (λ c. c ≡ counted_operation op left right) }
+fn operation(op: BinOp, left: Counted, right: Counted) -> Counted
+    ensures { result ≡ counted_operation op left right }
 {
     let both = left.whole && right.whole;
-    let behind = sum(right.count, own_count(op, both))?;
-    let count = sum(left.count, behind)?;
-    Ok(Counted {
+    let behind = sum(right.count, own_count(op, both));
+    Counted {
         whole: gives_word(op) && both,
-        count,
-    })
+        count: sum(left.count, behind),
+    }
 }
 
 fn is_int(var: &Var) -> bool
@@ -80,17 +75,17 @@ fn is_int(var: &Var) -> bool
 }
 
 #[tactic(auto, using(crate::proofs::Counting::last_operand))]
-fn joined(side: Side) -> Result<Counted, AllocError>
-    ensures { IfOk result (λ c. c ≡ counted_left side.operands.items side.first) }
+fn joined(side: Side) -> Counted
+    ensures { result ≡ counted_left side.operands.items side.first }
 {
     let Side {
         mut operands,
         mut first,
     } = side;
     while let Some(Operand { op, right }) = operands.pop() {
-        first = operation(op, first, right)?;
+        first = operation(op, first, right);
     }
-    Ok(first)
+    first
 }
 
 #[cycle(count)]
@@ -98,8 +93,7 @@ fn count_numbers(alloc: Global, expr: &Expr) -> Result<Counted, AllocError>
     ensures { IfOk result (λ c. c ≡ counted_of (declared_shape expr.now)) }
 {
     let side = count_side(alloc, expr)?;
-    let whole = joined(side)?;
-    Ok(whole)
+    Ok(joined(side))
 }
 
 #[cycle(count)]
@@ -123,11 +117,14 @@ fn count_side(alloc: Global, expr: &Expr) -> Result<Side, AllocError>
 /// An expression with one access more.
 #[cycle(count)]
 fn accessed(alloc: Global, whole: bool, at: &Expr) -> Result<Counted, AllocError>
-    ensures { IfOk result (λ c. (c.whole ≡ whole) × (c.count ≡ (declared_shape at.now).count + 1)) }
+    ensures { let count = capped ((declared_shape at.now).count + 1) in
+        IfOk result (λ c. (c.whole ≡ whole) × (c.count ≡ count)) }
 {
     let place = count_numbers(alloc, at)?;
-    let count = sum(place.count, 1)?;
-    Ok(Counted { whole, count })
+    Ok(Counted {
+        whole,
+        count: sum(place.count, 1),
+    })
 }
 
 #[cycle(count)]
@@ -178,23 +175,23 @@ fn count_single(alloc: Global, expr: &Expr) -> Result<Counted, AllocError>
         Expr::Bin(op, left, right, _) => {
             let first = count_numbers(alloc, left.get())?;
             let second = count_numbers(alloc, right.get())?;
-            let both = operation(*op, first, second)?;
-            Ok(both)
+            Ok(operation(*op, first, second))
         }
     }
 }
 
-/// How many numbers an expression leaks.
+/// How many numbers an expression leaks, as far as a u64 counts.
 pub fn width(alloc: Global, expr: &Expr) -> Result<u64, AllocError>
-    ensures { IfOk result (λ n. n ≡ widths.width expr.now) }
+    ensures { IfOk result (λ n. n ≡ capped (widths.width expr.now)) }
 {
     let whole = count_numbers(alloc, expr)?;
     Ok(whole.count)
 }
 
-/// How many an index or an address on the left leaks, with the access itself.
+/// How many an index or an address on the left leaks, with the access itself, as far as a u64
+/// counts.
 pub fn left_width(alloc: Global, lval: &Lval) -> Result<u64, AllocError>
-    ensures { IfOk result (λ n. n ≡ widths.left_width lval.now) }
+    ensures { IfOk result (λ n. n ≡ capped (widths.left_width lval.now)) }
 {
     match lval {
         Lval::Skip(_) => Ok(0),

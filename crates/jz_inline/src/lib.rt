@@ -11,4 +11,4 @@ pub use expressions::{
 };
 pub use laws::{runs_stay, statements_are_the_body};
 pub use leaked::{left_width, width};
-pub use names::{NamesInCopy, Renamed};
+pub use names::{NamesInCopy, Renamed, is_array};

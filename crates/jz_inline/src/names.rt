@@ -29,7 +29,8 @@ pub struct NamesInCopy {
     copy: u32,
 }
 
-fn is_array(var: &Var) -> bool
+/// Whether a variable is an array, which is never copied.
+pub fn is_array(var: &Var) -> bool
     ensures { result ≡ calls.is_array (ref_of var.now).kind }
 {
     match kind_of(var) {

@@ -1,3 +1,4 @@
 pub mod InnerColumns
 pub mod InnerOps
 pub mod Lists
+pub mod Followed

@@ -3,8 +3,10 @@
 #![tactic(auto)]
 
 mod flat;
+mod followed;
 mod lists;
 mod tree;
 
 pub use flat::flat_ops;
+pub use followed::live_of;
 pub use tree::live;

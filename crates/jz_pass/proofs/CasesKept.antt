@@ -25,7 +25,7 @@ module _ {O T F C E O2 T2 F2 C2 : Type 0} (K : Knowing O T F E O2 T2) (L : HasIt
     unrolled_cases Y (u_quiet h i) = unrolled_cases Y i
     unrolled_cases Y (u_if {p} {e} {u} {a2} {b2} {os} {is} {p2} {i = it} x ia ib la lb i) = gives_if (ops_first (choose p2 a2 b2 u) Y (L.tests p e os is p2 it x)) (unrolled_cases no_case ia) (unrolled_cases no_case ib) (unrolled_cases Y i)
     unrolled_cases Y (u_arm {a} {b} {z} x ia i) = gives_arm no_items (arm_cases z a b (unrolled_cases Y ia)) (unrolled_cases Y i)
-    unrolled_cases Y (u_while {p} {eq} {os} {is} {p2} {i = it} le x iq ib lb i) = gives_while (unrolled_cases no_case iq) (ops_first done no_case (L.loop_tests p eq os is p2 it x)) (unrolled_cases no_case ib) (unrolled_cases Y i)
+    unrolled_cases Y (u_while {p} {eq} {os} {is} {p2} {i = it} le x iq ib lb lr i) = gives_while (unrolled_cases no_case iq) (ops_first done no_case (L.loop_tests p eq os is p2 it x)) (unrolled_cases no_case ib) (unrolled_cases Y i)
     unrolled_cases Y (u_once iq x i) = gives_once (unrolled_cases Y iq) no_items (unrolled_cases Y i)
     unrolled_cases Y (u_for x ir i) = gives_unrolled (rounds_cases Y ir) (unrolled_cases Y i)
 

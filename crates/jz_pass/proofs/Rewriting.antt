@@ -12,7 +12,7 @@ use Rattle.jz_pass.specs.declared.form.Form.TheVariants as form
 use Rattle.jz_pass.specs.Operations.{in_turn}
 use Rattle.jz_pass.specs.Unrolling.{u_done, u_op, u_quiet, u_if, u_while}
 use Rattle.jz_pass.specs.Rewriting.{Rewriting, Rewrites, Shape, one, hidden, either, turns, other, all_before, HasTree, sizes, IsAbove, first_part, second_part, RewritesTo}
-use Rattle.jz_pass.specs.InnerForms.{form_of, OperationMade, QuietMade, ChoiceMade}
+use Rattle.jz_pass.specs.Forms.{form_of, OperationMade, QuietMade, ChoiceMade}
 
 -- lists in two parts, before what follows
 
@@ -86,7 +86,7 @@ module _ {O T F C O2 T2 F2 C2 St St2 : Type 0} (R : Rewriting O T O2 T2) (before
   pub while_rewrites : (s : St) (sh : Shape O T St) (q2 b2 made : List St2) (items : List Numbers) (numbers : Numbers) (tq tb : List Step) → form_of sh ≡ form.While → HasTree before sh (before s) → To (first_part sh) q2 tq → To (second_part sh) b2 tb → ChoiceMade R before2 sh q2 b2 made items numbers →
       To (s ∷ []) made (step.While (record { steps = tq }) items numbers (record { steps = tb }) ∷ [])
   while_rewrites s (turns q x p y) q2 b2 made items numbers tq tb e tree f g b = λ t rest u k h.
-      at_trees (tree t) (b.trees u) (while_step tq items numbers tb k) (u_while tt b.rule (alone x q2 tq (in_turn b.operations done) f) (alone y b2 tb done g) tt h)
+      at_trees (tree t) (b.trees u) (while_step tq items numbers tb k) (u_while tt b.rule (alone x q2 tq (in_turn b.operations done) f) (alone y b2 tb done g) tt tt h)
   while_rewrites s (one o) q2 b2 made items numbers tq tb e tree f g b = absurd cc
   while_rewrites s (hidden o) q2 b2 made items numbers tq tb e tree f g b = absurd cc
   while_rewrites s (either p x y) q2 b2 made items numbers tq tb e tree f g b = absurd cc

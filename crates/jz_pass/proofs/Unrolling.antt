@@ -157,16 +157,16 @@ module _ {O T F C S W E O2 T2 F2 C2 U W2 : Type 0} (M : Parts O T F C S W) (N : 
     passes {s} (chosen_stuck {c = p} {z = true} q g) {e} (u_arm {z = false} x ia i) t a = absurd (let b = clash p s q (L.constant_so p e false s t x a).0 in cc)
     passes {s} (chosen_stuck {c = p} {z = false} q g) {e} (u_arm {z = true} x ia i) t a = absurd (let b = clash p s q (L.constant_so p e true s t x a).0 in cc)
     passes {s} (chose_not {c = p} {w} q) {e} (u_arm {z} x ia i) t a = absurd (not_stuck p s q (L.constant_so p e z s t x a).0)
-    passes {s} (loop_left {q = h0} {ts} g h) {e} (u_while {e0} {is} {tq} {tb} le x iq ib lb i) t a = looped_on h0 (loops g x iq ib lb t (L.less_so e0 e s t le a)) (λ t1 a1. passes h i t1 a1)
+    passes {s} (loop_left {q = h0} {ts} g h) {e} (u_while {e0} {eq} {e3} {is} {tq} {tb} le x iq ib lb lr i) t a = looped_on h0 (loops g x iq ib lb t (L.less_so e0 e s t le a)) (λ t1 a1. passes h i t1 (L.less_so e3 eq _ t1 lr a1))
       where
         looped_on : {q2 b2 rest u : Made} {p2 : T2} {n m : ℕ} {t : U} {tq tb k : Change} {is : List Numbers} {it : Numbers} {ts : Turns} {s1 : S} {P Q : S → U → Type 0} {Fate : W → Type 0} {w : Outcome S W Leak} (h0 : Bool) → LoopMatches N q2 p2 b2 n t tq is it tb P Fate (End s1 m ts) →
             ((t1 : U) → P s1 t1 → Does rest u m t1 k Q w) → Does rest (loop h0 q2 p2 b2 u) n t (stays_while tq is it tb k) Q (after (looped ts) w)
         looped_on {tq} {tb} {is} {it} {ts} h0 (l_end t1 r ft wh run) f = through N L.Exact L.Fails (looped (map_turns ts tq is it tb)) (looped ts) (λ w y. loop_left run y) (λ l next. refl) (λ l ff. fits_while wh ft ff) (λ l. refl) (f t1 r)
-    passes {s} (loop_cut g) {e} (u_while {e0} le x iq ib lb i) t a = halted (loops g x iq ib lb t (L.less_so e0 e s t le a))
+    passes {s} (loop_cut g) {e} (u_while {e0} le x iq ib lb lr i) t a = halted (loops g x iq ib lb t (L.less_so e0 e s t le a))
       where
         halted : {q2 b2 rest u : Made} {h0 : Bool} {p2 : T2} {n : ℕ} {t : U} {tq tb k : Change} {is : List Numbers} {it : Numbers} {ts : Turns} {P Q : S → U → Type 0} {Fate : W → Type 0} → LoopMatches N q2 p2 b2 n t tq is it tb P Fate (Cut ts) → Does rest (loop h0 q2 p2 b2 u) n t (stays_while tq is it tb k) Q (Cut (looped_cut ts))
         halted (l_cut ft wh run) = p_cut (fits_while_cut wh ft) refl (loop_cut run)
-    passes {s} (loop_stuck g) {e} (u_while {e0} le x iq ib lb i) t a = failed (loops g x iq ib lb t (L.less_so e0 e s t le a))
+    passes {s} (loop_stuck g) {e} (u_while {e0} le x iq ib lb lr i) t a = failed (loops g x iq ib lb t (L.less_so e0 e s t le a))
       where
         failed : {q2 b2 rest u : Made} {h0 : Bool} {p2 : T2} {n : ℕ} {t : U} {tq tb k : Change} {is : List Numbers} {it : Numbers} {o : W} {P Q : S → U → Type 0} → LoopMatches N q2 p2 b2 n t tq is it tb P (Shows (λ e. Loops N q2 p2 b2 n t (Stuck e))) (Stuck o) → Does rest (loop h0 q2 p2 b2 u) n t (stays_while tq is it tb k) Q (Stuck o)
         failed (l_stuck run) = p_stuck (λ x. let z = run x in (z.0, z.1, loop_stuck z.2))

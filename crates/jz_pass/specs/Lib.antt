@@ -5,7 +5,7 @@ pub mod Unrolling
 pub mod Laws
 pub mod Cases
 pub mod Rewriting
-pub mod InnerForms
+pub mod Forms
 pub use Rattle.jz_change.specs.Changes
 pub use Rattle.jz_change.specs.Fitting
 pub use Rattle.jz_change.specs.Views

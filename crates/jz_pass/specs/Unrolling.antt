@@ -59,13 +59,14 @@ module _ {O T F C E O2 T2 F2 C2 : Type 0} (K : Knowing O T F E O2 T2) where
           {ta k : Change}
           → K.Constant p e z → Unrolls (if z then a else b) e u v e1 ta
           → Unrolls r e1 rest u e2 k → Unrolls (choose p a b r) e rest v e2 (arm z [] ta k)
-      -- e0 is known before each prologue, behind which the operations of the test stand
+      -- e0 is known before each prologue, behind which the operations of the test stand; behind the
+      -- loop no more is known than behind its prologue
       u_while :
-          {h : Bool} {q : Tree O T F C} {p : T} {b r : Tree O T F C} {e e0 eq eb e2 : E}
+          {h : Bool} {q : Tree O T F C} {p : T} {b r : Tree O T F C} {e e0 eq eb e3 e2 : E}
           {rest u q2 b2 : Tree O2 T2 F2 C2} {os : List O2} {is : List Numbers} {p2 : T2}
           {i : Numbers} {tq tb k : Change}
           → K.Less e0 e → K.LoopTest p eq os is p2 i → Unrolls q e0 (in_turn os done) q2 eq tq
-          → Unrolls b eq done b2 eb tb → K.Less e0 eb → Unrolls r eq rest u e2 k
+          → Unrolls b eq done b2 eb tb → K.Less e0 eb → K.Less e3 eq → Unrolls r e3 rest u e2 k
           → Unrolls (loop h q p b r) e rest (loop h q2 p2 b2 u) e2 (stays_while tq is i tb k)
       -- false at once: the prologue is left
       u_once :

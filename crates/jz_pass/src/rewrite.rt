@@ -9,7 +9,7 @@ ghost use Rattle.jz_pass.specs.Laws.{Carries};
 ghost use Rattle.jz_pass.specs.Unrolling.{IsKnown};
 ghost use Rattle.jz_pass.specs.Cases.{HasItems, IsBetween, cases_of};
 ghost use Rattle.jz_pass.specs.Rewriting.{Rewriting, knowing_of, by_rule, Shape, other, all_before, HasTree, IsAbove, first_part, second_part, Rewrites, RewritesTo, RefusesOne};
-ghost use Rattle.jz_pass.specs.InnerForms.{HasForm, OperationMade, QuietMade, ChoiceMade};
+ghost use Rattle.jz_pass.specs.Forms.{HasForm, OperationMade, QuietMade, ChoiceMade};
 ghost use Rattle.jz_pass.specs.declared.form.Form.TheVariants as form;
 
 use crate::form::Form;

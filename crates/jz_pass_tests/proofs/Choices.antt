@@ -5,7 +5,7 @@ use Rattle.jz_change.specs.declared.change.Numbers.{Numbers}
 use Rattle.jz_change.specs.declared.change.Numbers.TheVariants.{Same, These}
 use Rattle.jz_change.specs.declared.change.Number.TheVariants.{Fixed}
 use Rattle.jz_pass.specs.Rewriting.{Rewriting, one, all_before, HasTree, OpBecomes}
-use Rattle.jz_pass.specs.InnerForms.{OperationMade, ChoiceMade}
+use Rattle.jz_pass.specs.Forms.{OperationMade, ChoiceMade}
 use Rattle.jz_pass_tests.specs.declared.small.Small.{Small}
 use Rattle.jz_pass_tests.specs.declared.small.Small.TheVariants as code
 use Rattle.jz_pass_tests.specs.declared.small.Small.TheOpen.{Small-F}

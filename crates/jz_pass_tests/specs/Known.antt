@@ -30,20 +30,36 @@ never_stuck k s q = absurd cc
 abbrev Went : List ℕ → List ℕ → List Numbers → ℕ → ℕ → Type 0
 Went ns os is s1 t = (t1 : ℕ) × DoAll small ns os is t t1 × (s1 ≡ t1)
 
-halves_went : {k s s1 t : ℕ} {os ns : List ℕ} {is : List Numbers} → InHalves k os is → s ≡ t → small.does k s ≡ went ns s1 → Went ns os is s1 t
+halves_went :
+    {k s s1 t : ℕ} {os ns : List ℕ} {is : List Numbers}
+    → InHalves k os is → s ≡ t → small.does k s ≡ went ns s1 → Went ns os is s1 t
 halves_went {k} {s} {s1} {t} {ns} in_halves e q =
-    let r : s1 ≡ s + k = sum_so k s q in
-    (t + k / 2 + (k - k / 2), do_one (fixed_there ns (k / 2)) refl (do_one (fixed_there ns (k - k / 2)) refl do_none), omega arith)
+    let r : s1 ≡ s + k = sum_so k s q in (
+      t + k / 2 + (k - k / 2),
+      do_one (fixed_there ns (k / 2)) refl (do_one (fixed_there ns (k - k / 2)) refl do_none),
+      omega arith,
+    )
 
-nothing_went : {k s s1 t : ℕ} {os ns : List ℕ} {is : List Numbers} → WithoutNothing k os is → s ≡ t → small.does k s ≡ went ns s1 → Went ns os is s1 t
-nothing_went {s} {s1} {t} nothing e q = let r : s1 ≡ s + 0 = sum_so 0 s q in (t, do_none, omega arith)
-nothing_went {k} {s1} {ns} (something f) e q = (s1, do_one tt (subst (λ x. small.does k x ≡ went ns s1) e q) do_none, refl)
+nothing_went :
+    {k s s1 t : ℕ} {os ns : List ℕ} {is : List Numbers}
+    → WithoutNothing k os is → s ≡ t → small.does k s ≡ went ns s1 → Went ns os is s1 t
+nothing_went {s} {s1} {t} nothing e q =
+    let r : s1 ≡ s + 0 = sum_so 0 s q in
+    (t, do_none, omega arith)
+nothing_went {k} {s1} {ns} (something f) e q =
+    (s1, do_one tt (subst (λ x. small.does k x ≡ went ns s1) e q) do_none, refl)
 
 abbrev Tested : List ℕ → List ℕ → List Numbers → ℕ → Numbers → Bool → ℕ → ℕ → Type 0
-Tested ns os is p2 i z s t = (t1 : ℕ) × DoAll small ns os is t t1 × HasThese ns i × (small.tests p2 t1 ≡ went (numbers_in i ns) z) × (s ≡ t1)
+Tested ns os is p2 i z s t =
+    (t1 : ℕ) × DoAll small ns os is t t1 × HasThese ns i
+    × (small.tests p2 t1 ≡ went (numbers_in i ns) z) × (s ≡ t1)
 
-stays_went : {p s t : ℕ} {os ns : List ℕ} {is : List Numbers} {p2 : ℕ} {i : Numbers} {z : Bool} → StaysTest p os is p2 i → s ≡ t → small.tests p s ≡ went ns z → Tested ns os is p2 i z s t
-stays_went {p} {t} {ns} {z} stays e q = (t, do_none, tt, subst (λ x. small.tests p x ≡ went ns z) e q, e)
+stays_went :
+    {p s t : ℕ} {os ns : List ℕ} {is : List Numbers} {p2 : ℕ} {i : Numbers} {z : Bool}
+    → StaysTest p os is p2 i → s ≡ t → small.tests p s ≡ went ns z
+    → Tested ns os is p2 i z s t
+stays_went {p} {t} {ns} {z} stays e q =
+    (t, do_none, tt, subst (λ x. small.tests p x ≡ went ns z) e q, e)
 
 test_never_stuck : (p s : ℕ) {w : Unknown} {A : Type 0} → small.tests p s ≡ stuck w → A
 test_never_stuck p s q = absurd cc
@@ -93,15 +109,26 @@ dropping_known = record {
 halves_even : {k : ℕ} {os : List ℕ} {is : List Numbers} → InHalves k os is → AsMany os is
 halves_even in_halves = one_each (one_each none_each)
 
-nothing_even : {k : ℕ} {os : List ℕ} {is : List Numbers} → WithoutNothing k os is → AsMany os is
+nothing_even :
+    {k : ℕ} {os : List ℕ} {is : List Numbers} → WithoutNothing k os is → AsMany os is
 nothing_even nothing = none_each
 nothing_even (something f) = one_each none_each
 
-tests_even : {p p2 : ℕ} {os : List ℕ} {is : List Numbers} {i : Numbers} → StaysTest p os is p2 i → AsMany os is
+tests_even :
+    {p p2 : ℕ} {os : List ℕ} {is : List Numbers} {i : Numbers}
+    → StaysTest p os is p2 i → AsMany os is
 tests_even stays = none_each
 
 pub halving_items : HasItems (knowing_of {F = ⊥} halving)
-halving_items = record { ops = λ o e e1 os is h. halves_even h; tests = λ p e os is p2 i h. tests_even h; loop_tests = λ p e os is p2 i h. tests_even h }
+halving_items = record {
+  ops = λ o e e1 os is h. halves_even h;
+  tests = λ p e os is p2 i h. tests_even h;
+  loop_tests = λ p e os is p2 i h. tests_even h;
+}
 
 pub dropping_items : HasItems (knowing_of {F = ⊥} dropping)
-dropping_items = record { ops = λ o e e1 os is h. nothing_even h; tests = λ p e os is p2 i h. tests_even h; loop_tests = λ p e os is p2 i h. tests_even h }
+dropping_items = record {
+  ops = λ o e e1 os is h. nothing_even h;
+  tests = λ p e os is p2 i h. tests_even h;
+  loop_tests = λ p e os is p2 i h. tests_even h;
+}

@@ -71,7 +71,9 @@ tree_of ss = all_before then_small ss done
 
 -- ---- that these go together
 
-in_order_is : (ss : List Small) (rest : Block) → in_order (map then_small ss) rest ≡ all_before then_small ss rest
+in_order_is :
+    (ss : List Small) (rest : Block)
+    → in_order (map then_small ss) rest ≡ all_before then_small ss rest
 in_order_is [] rest = refl
 in_order_is (s ∷ ss) rest = ap (then_small s) (in_order_is ss rest)
 
@@ -79,25 +81,44 @@ add_all_is : (ss : List Small) → add_all (map weight ss) ≡ sizes weight ss
 add_all_is [] = refl
 add_all_is (s ∷ ss) = ap (λ n. weight s + n) (add_all_is ss)
 
-then_is : (s : Small) (rest : Block) → then_small s rest ≡ layer_tree (map-Small _ _ then_small (out-Small s)) rest
-then_is s rest = ap (λ z. then_small z rest) (sym (roll-out-Small s)) ∙ ap (λ f. f rest) (fold-roll-Small _ layer_tree (out-Small s))
+then_is :
+    (s : Small) (rest : Block)
+    → then_small s rest ≡ layer_tree (map-Small _ _ then_small (out-Small s)) rest
+then_is s rest =
+    ap (λ z. then_small z rest) (sym (roll-out-Small s))
+    ∙ ap (λ f. f rest) (fold-roll-Small _ layer_tree (out-Small s))
 
 weight_is : (s : Small) → weight s ≡ layer_weight (map-Small _ _ weight (out-Small s))
 weight_is s = ap weight (sym (roll-out-Small s)) ∙ fold-roll-Small _ layer_weight (out-Small s)
 
-layer_has : (x : Small-F Small) (tree : Block → Block) → ((rest : Block) → tree rest ≡ layer_tree (map-Small _ _ then_small x) rest) → HasTree then_small (layer_shape x) tree
+layer_has :
+    (x : Small-F Small) (tree : Block → Block)
+    → ((rest : Block) → tree rest ≡ layer_tree (map-Small _ _ then_small x) rest)
+    → HasTree then_small (layer_shape x) tree
 layer_has (Small-F.Add k) tree h = h
-layer_has (Small-F.If p a b) tree h = λ rest. h rest ∙ ap (λ x. choose p x (in_order (map then_small b) done) rest) (in_order_is a done) ∙ ap (λ x. choose p (all_before then_small a done) x rest) (in_order_is b done)
-layer_has (Small-F.While q p b) tree h = λ rest. h rest ∙ ap (λ x. loop false x p (in_order (map then_small b) done) rest) (in_order_is q done) ∙ ap (λ x. loop false (all_before then_small q done) p x rest) (in_order_is b done)
+layer_has (Small-F.If p a b) tree h = λ rest.
+    h rest
+    ∙ ap (λ x. choose p x (in_order (map then_small b) done) rest) (in_order_is a done)
+    ∙ ap (λ x. choose p (all_before then_small a done) x rest) (in_order_is b done)
+layer_has (Small-F.While q p b) tree h = λ rest.
+    h rest
+    ∙ ap (λ x. loop false x p (in_order (map then_small b) done) rest) (in_order_is q done)
+    ∙ ap (λ x. loop false (all_before then_small q done) p x rest) (in_order_is b done)
 layer_has Small-F.Mark tree h = tt
 
 pub has_tree : (s : Small) → HasTree then_small (shape_of s) (then_small s)
 has_tree s = layer_has (out-Small s) (then_small s) (then_is s)
 
-layer_above : (x : Small-F Small) (n : ℕ) → n ≡ layer_weight (map-Small _ _ weight x) → IsAbove weight (layer_shape x) n
+layer_above :
+    (x : Small-F Small) (n : ℕ) → n ≡ layer_weight (map-Small _ _ weight x)
+    → IsAbove weight (layer_shape x) n
 layer_above (Small-F.Add k) n e = tt
-layer_above (Small-F.If p a b) n e = let x = add_all_is a in let y = add_all_is b in (omega arith, omega arith)
-layer_above (Small-F.While q p b) n e = let x = add_all_is q in let y = add_all_is b in (omega arith, omega arith)
+layer_above (Small-F.If p a b) n e =
+    let x = add_all_is a in let y = add_all_is b in
+    (omega arith, omega arith)
+layer_above (Small-F.While q p b) n e =
+    let x = add_all_is q in let y = add_all_is b in
+    (omega arith, omega arith)
 layer_above Small-F.Mark n e = tt
 
 pub is_above : (s : Small) → IsAbove weight (shape_of s) (weight s)

@@ -3,7 +3,7 @@
 ghost use Rattle.std.specs.Prelude.{◌≡◌, ℕ, [], ◌∷◌, IfOk, IfErr};
 ghost use Rattle.jz_data.specs.Failures.{IfRefused};
 ghost use Rattle.jz_runs.specs.Trees.{done};
-ghost use Rattle.jz_pass.specs.InnerForms.{ChoiceMade};
+ghost use Rattle.jz_pass.specs.Forms.{ChoiceMade};
 ghost use Rattle.jz_pass.specs.Rewriting.{by_rule, other, Rewrites, RefusesOne};
 ghost use Rattle.jz_change.specs.declared.change.Numbers.TheVariants.{Same};
 ghost use Rattle.jz_pass_tests.specs.declared.small.Unknown.{Unknown};
@@ -111,8 +111,8 @@ impl Local for AddNothing {
         first: Seq<Small>,
         second: Seq<Small>,
     ) -> Result<Choice<Small>, Failure<Unknown>>
-        ensures made { IfOk result (λ r. ChoiceMade dropping then_small (shape_of s.now) first second
-            r.statements r.items r.numbers) }
+        ensures made { IfOk result (λ r. ChoiceMade dropping then_small (shape_of s.now)
+            first second r.statements r.items r.numbers) }
         ensures refused { IfErr result (λ e. IfRefused e (λ cause. shape_of s.now ≡ other)) }
     {
         Ok(same_choice(alloc, s, first, second)?)

@@ -5,7 +5,7 @@ ghost use Rattle.jz_change.specs.declared.change.Number.TheVariants.{Fixed};
 ghost use Rattle.jz_change.specs.declared.change.Numbers.TheVariants.{These};
 ghost use Rattle.jz_data.specs.Failures.{IfRefused};
 ghost use Rattle.jz_runs.specs.Trees.{done};
-ghost use Rattle.jz_pass.specs.InnerForms.{ChoiceMade};
+ghost use Rattle.jz_pass.specs.Forms.{ChoiceMade};
 ghost use Rattle.jz_pass.specs.Rewriting.{by_rule, other, Rewrites, RefusesOne};
 ghost use Rattle.jz_pass_tests.specs.declared.small.Unknown.{Unknown};
 ghost use Rattle.jz_pass_tests.specs.declared.small.Small.TheVariants.{Add};

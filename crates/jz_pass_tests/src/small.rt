@@ -4,7 +4,7 @@ ghost use Rattle.std.specs.Prelude.{◌≡◌, [], IfOk};
 ghost use Rattle.jz_runs.specs.Rules.{Goes};
 ghost use Rattle.jz_pass.specs.Cases.{cases_of};
 ghost use Rattle.jz_pass.specs.Rewriting.{first_part, second_part};
-ghost use Rattle.jz_pass.specs.InnerForms.{HasForm};
+ghost use Rattle.jz_pass.specs.Forms.{HasForm};
 ghost use Rattle.jz_pass_tests.specs.Meaning.{small, tree_of, shape_of};
 ghost use Rattle.jz_pass_tests.specs.Kept.{KeepsTest};
 

@@ -54,43 +54,43 @@ use Rattle.jz_typed_runs.proofs.OperatorCauses.{IfStuck, size_fits, is_logic, ar
 use Rattle.jz_typed_runs.proofs.Wanted.{facts_of, still_wanted, own_unsized, own_truth, plain_right, shift_right, left_of_word, no_size, moved_size, either_says, left_of_words}
 
 -- ---- one after another
-stuck_first : {A : Type 0} (C : code.Stuck → Type 0) (ns : List ℕ) (g : Evaluation A) → IfStuck C g → IfStuck C (numbers_first ns g)
+pub stuck_first : {A : Type 0} (C : code.Stuck → Type 0) (ns : List ℕ) (g : Evaluation A) → IfStuck C g → IfStuck C (numbers_first ns g)
 stuck_first C ns (stuck w) h = h
 stuck_first C ns (went ms x) h = tt
 
-stuck_then : {A B : Type 0} (C : code.Stuck → Type 0) (P : A → Type 0) (g : Evaluation A) (f : A → Evaluation B) → IfStuck C g → IfWent P g
+pub stuck_then : {A B : Type 0} (C : code.Stuck → Type 0) (P : A → Type 0) (g : Evaluation A) (f : A → Evaluation B) → IfStuck C g → IfWent P g
     → ((ns : List ℕ) (x : A) → g ≡ went ns x → P x → IfStuck C (f x)) → IfStuck C (and_then g f)
 stuck_then C P (stuck w) f h p k = h
 stuck_then C P (went ns x) f h p k = stuck_first C ns (f x) (k ns x refl p)
 
-is_stuck : {A : Type 0} (C : code.Stuck → Type 0) (g : Evaluation A) (w : code.Stuck) → g ≡ stuck w → IfStuck C g → C w
+pub is_stuck : {A : Type 0} (C : code.Stuck → Type 0) (g : Evaluation A) (w : code.Stuck) → g ≡ stuck w → IfStuck C g → C w
 is_stuck C g w e h = subst (IfStuck C) e h
 
-bounds_not : Bounds ≡ Init → ⊥
+pub bounds_not : Bounds ≡ Init → ⊥
 bounds_not e = cc
 
-address_not : Address ≡ Init → ⊥
+pub address_not : Address ≡ Init → ⊥
 address_not e = cc
 
-align_not : Align ≡ Init → ⊥
+pub align_not : Align ≡ Init → ⊥
 align_not e = cc
 
-divide_not : Divide ≡ Init → ⊥
+pub divide_not : Divide ≡ Init → ⊥
 divide_not e = cc
 
 -- ---- the kind of an array
-array_kind : (k : known.Kind) (m : meant.Kind) (z : Size) → SameKind k m → ArrayKind z k → (n : ℕ) × (m ≡ kind.Array z n)
+pub array_kind : (k : known.Kind) (m : meant.Kind) (z : Size) → SameKind k m → ArrayKind z k → (n : ℕ) × (m ≡ kind.Array z n)
 array_kind k m z same.int g = absurd g
 array_kind k m z same.bool g = absurd g
 array_kind k m z (same.word y) g = absurd g
 array_kind k m z (same.array y n) g = (n, ap (λ x. kind.Array x n) g)
 
-array_known : (k : Known) (m : meant.Kind) (z : Size) → SameKnown k m → IsArrayOf z k → (n : ℕ) × (m ≡ kind.Array z n)
+pub array_known : (k : Known) (m : meant.Kind) (z : Size) → SameKnown k m → IsArrayOf z k → (n : ℕ) × (m ≡ kind.Array z n)
 array_known None m z e g = absurd g
 array_known (Some d) m z e g = array_kind d.kind m z e g
 
 -- ---- where an access is
-access_run : (a : Access) → (access_of a).at ≡ evaluated (out-Access a).at (Some S64)
+pub access_run : (a : Access) → (access_of a).at ≡ evaluated (out-Access a).at (Some S64)
 access_run a =
     ap (λ x. (access_of x).at) (sym (roll-out-Access a))
     ∙ ap (λ x. x.at) (fold-roll-Access Meaning meant.Kind MemoryAccess meant.Kind Ref expr_step ty_step access_step decl_step var_step (out-Access a))

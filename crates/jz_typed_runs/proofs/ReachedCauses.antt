@@ -33,7 +33,7 @@ use Rattle.jz_typed_runs.proofs.Causing.{cause_law}
 
 -- ---- what holds of the variables of an expression
 module _ (P : Var → Type 0) where
-  abbrev Of : Expr → Type 0
+  abbrev pub Of : Expr → Type 0
   Of e = All P (vars_in e) → Each P e
 
   abbrev OfAccess : Access → Type 0
@@ -72,7 +72,7 @@ module _ (P : Var → Type 0) where
   access_case : (y : ProvedAccess) → OfAccess (roll-Access (bare_access y))
   access_case y = subst (λ (x : Access-F Expr Ty Access Decl Var). Of x.at) (sym (out-roll-Access (bare_access y))) y.at.1
 
-  each_by : (e : Expr) → Of e
+  pub each_by : (e : Expr) → Of e
   each_by =
       ind-Expr Of (λ t. AnyOf t) OfAccess (λ d. AnyOf d) (λ x. AnyOf x)
       (λ x y is. subst (λ z. Of (roll-Expr z)) is (expr_case y))
@@ -81,14 +81,14 @@ module _ (P : Var → Type 0) where
       (λ x y is. tt)
       (λ x y is. tt)
 
-  flat_all : (xs : List Expr) → All P (flat_map vars_in xs) → All (λ e. All P (vars_in e)) xs
+  pub flat_all : (xs : List Expr) → All P (flat_map vars_in xs) → All (λ e. All P (vars_in e)) xs
   flat_all [] h = All-nil (λ e. All P (vars_in e))
   flat_all (x ∷ xs) h =
       let t = parted P (vars_in x) (flat_map vars_in xs) h in
       All-cons (λ e. All P (vars_in e)) x xs t.0 (flat_all xs t.1)
 
 -- ---- variables that carry their declarations
-kept_counted : (declared : List ℕ → Option Decl) (v : Var) → IsKept declared v → IsCounted v
+pub kept_counted : (declared : List ℕ → Option Decl) (v : Var) → IsKept declared v → IsCounted v
 kept_counted declared v k = ap counted_decl k.some ∙ counted_so k.decl k.counted
 
 abbrev KeptOf : Program → Fun → Type 0

@@ -135,10 +135,10 @@ settled_so o.RemS (constant.Bool b) = refl
 
 -- ---- variables that are no cells
 
-abbrev access_no_cell : Access → Bool
+abbrev pub access_no_cell : Access → Bool
 access_no_cell = para-Access Bool (Unit {0}) Bool (Unit {0}) (Unit {0}) cells_step (λ t. tt) (λ a. a.at.1) (λ d. tt) (λ v. tt)
 
-abbrev cells_layer : Layer → Bool
+abbrev pub cells_layer : Layer → Bool
 cells_layer (Expr-F.Num n at) = true
 cells_layer (Expr-F.Expr::Bool b at) = true
 cells_layer (Expr-F.Var v) = is_none (ref_of v).cell
@@ -160,7 +160,7 @@ cells_step_is (Expr-F.Not a at) = refl
 cells_step_is (Expr-F.Cast z s a at) = refl
 cells_step_is (Expr-F.Bin o a c at) = refl
 
-cells_is : (x : Layer) → has_no_cell (roll-Expr x) ≡ cells_layer x
+pub cells_is : (x : Layer) → has_no_cell (roll-Expr x) ≡ cells_layer x
 cells_is x = para-roll-Expr Bool (Unit {0}) Bool (Unit {0}) (Unit {0}) cells_step (λ t. tt) (λ a. a.at.1) (λ d. tt) (λ v. tt) x ∙ cells_step_is x
 
 module _ (known : KnownNumbers) (s : State) (exactly : HoldsKnown known s) where

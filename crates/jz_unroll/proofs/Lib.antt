@@ -1,4 +1,10 @@
 pub mod Layers
 pub mod PartNumbers
 pub mod Inline
+pub mod InlineParts
 pub mod Valued
+pub mod Parts
+pub mod Standing
+pub mod Assigning
+pub mod Instructing
+pub mod Keeping

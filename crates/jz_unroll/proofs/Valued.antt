@@ -1,6 +1,6 @@
 -- An expression whose inline parts are their values has the value and the numbers that it had.
 use Rattle.std.proofs.Common.{◌≡◌, [], Option, Some, None, Bool, true, false, refl, ap, sym, ◌∙◌, subst}
-use Rattle.std.specs.Prelude.{◌&&◌, not, is_none, is_some, if◌then◌else◌}
+use Rattle.std.specs.Prelude.{◌&&◌, not, is_some, if◌then◌else◌}
 use Rattle.std.specs.Option.{option_or}
 use Rattle.std.proofs.lemmas.Bool.{and_parts}
 use Rattle.jz_tree.specs.Span.{Span}
@@ -14,7 +14,7 @@ use Rattle.jz_tree.specs.declared.expr.Decl.{Decl}
 use Rattle.jz_tree.specs.declared.expr.Var.{Var}
 use Rattle.jz_tree.specs.declared.expr.Expr.TheOpen.{Expr-F, Access-F}
 use Rattle.jz_tree.specs.declared.expr.Expr.TheViews.{roll-Expr, roll-Access}
-use Rattle.jz_tree.specs.declared.expr.Expr.TheFolds.{para-roll-Expr, para-roll-Access, ind-Expr, map-Expr, map-Access}
+use Rattle.jz_tree.specs.declared.expr.Expr.TheFolds.{para-roll-Expr, para-roll-Access, ind-Expr, ind-Access, map-Expr, map-Access}
 use Rattle.jz_type_names.specs.Kinds.{is_inline}
 use Rattle.jz_type_names.specs.Parts.{span_of}
 use Rattle.jz_integers.specs.Integers.{KnownNumbers, inline_value}
@@ -24,17 +24,18 @@ use Rattle.jz_runs.specs.Rules.{went}
 use Rattle.jz_meaning.specs.Attempts.{Evaluation, and_then, defined}
 use Rattle.jz_meaning.specs.States.{Value, State}
 use Rattle.jz_meaning.specs.Operators.{is_settled, binary, negated, inverted, cast}
-use Rattle.jz_meaning.specs.Values.{index_at, cell_value, MemoryAccess, load_at, Meaning, right_wanted, left_wanted, with_right, run_binary, ref_of, access_of, own_size, evaluated}
-use Rattle.jz_unroll.specs.Values.{is_int, constant_expr, has_no_cell, values_step, access_step, with_values, access_with_values, is_known, known_step, has_values, access_has_values}
+use Rattle.jz_meaning.specs.Values.{key_of, cell_key, index_at, cell_value, MemoryAccess, load_at, Meaning, right_wanted, left_wanted, with_right, run_binary, ref_of, access_of, own_size, evaluated}
+use Rattle.jz_unroll.specs.Values.{constant_expr, has_no_cell, values_step, access_step, with_values, access_with_values, InlineNames, is_inline_var, is_known, known_step, has_values, access_has_values}
 use Rattle.jz_unroll.specs.ValueLaws.{HoldsKnown, DiffersInline}
 use Rattle.jz_unroll.proofs.Layers.{Layer, meaning_layer, meaning_is, access_is}
 use Rattle.jz_unroll.proofs.Inline.{inline_exact}
+use Rattle.jz_unroll.proofs.InlineParts.{no_size}
 
 module _ (e : KnownNumbers) where
-  abbrev parts_in : Layer → Layer
+  abbrev pub parts_in : Layer → Layer
   parts_in x = map-Expr _ _ _ _ _ Expr Ty Access Decl Var (with_values e) (λ t. t) (access_with_values e) (λ d. d) (λ v. v) x
 
-  abbrev values_layer : Layer → Expr
+  abbrev pub values_layer : Layer → Expr
   values_layer x = if is_inline (roll-Expr x) then constant_expr (span_of (roll-Expr x)) (roll-Expr x) (inline_value e (roll-Expr x)) else roll-Expr (parts_in x)
 
   step_is : (x : Layer) → values_step e (map-Expr _ _ _ _ _ _ _ _ _ _ (λ y. (y, with_values e y)) (λ y. (y, tt)) (λ y. (y, access_with_values e y)) (λ y. (y, tt)) (λ y. (y, tt)) x) ≡ values_layer x
@@ -51,21 +52,22 @@ module _ (e : KnownNumbers) where
   pub values_is : (x : Layer) → with_values e (roll-Expr x) ≡ values_layer x
   values_is x = para-roll-Expr Expr (Unit {0}) Access (Unit {0}) (Unit {0}) (values_step e) (λ t. tt) (access_step e) (λ d. tt) (λ v. tt) x ∙ step_is x
 
-  access_values_is : (x : Access-F Expr Ty Access Decl Var) → access_with_values e (roll-Access x) ≡ roll-Access (record { size = x.size; at = with_values e x.at; unaligned = x.unaligned; span = x.span })
+  pub access_values_is : (x : Access-F Expr Ty Access Decl Var) → access_with_values e (roll-Access x) ≡ roll-Access (record { size = x.size; at = with_values e x.at; unaligned = x.unaligned; span = x.span })
   access_values_is x = para-roll-Access Expr (Unit {0}) Access (Unit {0}) (Unit {0}) (values_step e) (λ t. tt) (access_step e) (λ d. tt) (λ v. tt) x
 
-  abbrev parts_layer : Layer → Bool
+module _ (names : InlineNames) (e : KnownNumbers) where
+  abbrev pub parts_layer : Layer → Bool
   parts_layer (Expr-F.Num n at) = true
   parts_layer (Expr-F.Expr::Bool b at) = true
-  parts_layer (Expr-F.Var v) = not (is_int (ref_of v).kind)
-  parts_layer (Expr-F.Cell v i) = has_values e i
-  parts_layer (Expr-F.Load a) = access_has_values e a
-  parts_layer (Expr-F.Neg a at) = has_values e a
-  parts_layer (Expr-F.Not a at) = has_values e a
-  parts_layer (Expr-F.Cast z s a at) = has_values e a
-  parts_layer (Expr-F.Bin o a b at) = has_values e a && has_values e b
+  parts_layer (Expr-F.Var v) = not (is_inline_var names v)
+  parts_layer (Expr-F.Cell v i) = not (is_inline_var names v) && has_values names e i
+  parts_layer (Expr-F.Load a) = access_has_values names e a
+  parts_layer (Expr-F.Neg a at) = has_values names e a
+  parts_layer (Expr-F.Not a at) = has_values names e a
+  parts_layer (Expr-F.Cast z s a at) = has_values names e a
+  parts_layer (Expr-F.Bin o a b at) = has_values names e a && has_values names e b
 
-  known_step_is : (x : Layer) → known_step e (map-Expr _ _ _ _ _ _ _ _ _ _ (λ y. (y, has_values e y)) (λ y. (y, tt)) (λ y. (y, access_has_values e y)) (λ y. (y, tt)) (λ y. (y, tt)) x) ≡ (if is_inline (roll-Expr x) then is_known e (roll-Expr x) else parts_layer x)
+  known_step_is : (x : Layer) → known_step names e (map-Expr _ _ _ _ _ _ _ _ _ _ (λ y. (y, has_values names e y)) (λ y. (y, tt)) (λ y. (y, access_has_values names e y)) (λ y. (y, tt)) (λ y. (y, tt)) x) ≡ (if is_inline (roll-Expr x) then is_known names e (roll-Expr x) else parts_layer x)
   known_step_is (Expr-F.Num n at) = refl
   known_step_is (Expr-F.Expr::Bool c at) = refl
   known_step_is (Expr-F.Var v) = refl
@@ -76,18 +78,18 @@ module _ (e : KnownNumbers) where
   known_step_is (Expr-F.Cast z s a at) = refl
   known_step_is (Expr-F.Bin o a b at) = refl
 
-  known_is : (x : Layer) → has_values e (roll-Expr x) ≡ (if is_inline (roll-Expr x) then is_known e (roll-Expr x) else parts_layer x)
-  known_is x = para-roll-Expr Bool (Unit {0}) Bool (Unit {0}) (Unit {0}) (known_step e) (λ t. tt) (λ a. a.at.1) (λ d. tt) (λ v. tt) x ∙ known_step_is x
+  pub known_is : (x : Layer) → has_values names e (roll-Expr x) ≡ (if is_inline (roll-Expr x) then is_known names e (roll-Expr x) else parts_layer x)
+  known_is x = para-roll-Expr Bool (Unit {0}) Bool (Unit {0}) (Unit {0}) (known_step names e) (λ t. tt) (λ a. a.at.1) (λ d. tt) (λ v. tt) x ∙ known_step_is x
 
-  access_known_is : (x : Access-F Expr Ty Access Decl Var) → access_has_values e (roll-Access x) ≡ has_values e x.at
-  access_known_is x = para-roll-Access Bool (Unit {0}) Bool (Unit {0}) (Unit {0}) (known_step e) (λ t. tt) (λ a. a.at.1) (λ d. tt) (λ v. tt) x
+  pub access_known_is : (x : Access-F Expr Ty Access Decl Var) → access_has_values names e (roll-Access x) ≡ has_values names e x.at
+  access_known_is x = para-roll-Access Bool (Unit {0}) Bool (Unit {0}) (Unit {0}) (known_step names e) (λ t. tt) (λ a. a.at.1) (λ d. tt) (λ v. tt) x
 
-  module _ (s t : State) (exactly : HoldsKnown e s) (differs : DiffersInline s t) where
+  module _ (s t : State) (exactly : HoldsKnown e s) (differs : DiffersInline names s t) where
     abbrev ExprLaw : Expr → Type 0
-    ExprLaw x = has_values e x ≡ true → (own_size (with_values e x) ≡ own_size x) × ((w : Option Size) → evaluated (with_values e x) w t ≡ evaluated x w s)
+    ExprLaw x = has_values names e x ≡ true → (own_size (with_values e x) ≡ own_size x) × ((w : Option Size) → evaluated (with_values e x) w t ≡ evaluated x w s)
 
     abbrev AccessLaw : Access → Type 0
-    AccessLaw a = access_has_values e a ≡ true → (at : State → Evaluation Value) × (access_of (access_with_values e a) ≡ record { size = (access_of a).size; at = at; unaligned = (access_of a).unaligned; span = (access_of a).span }) × (at t ≡ (access_of a).at s)
+    AccessLaw a = access_has_values names e a ≡ true → (at : State → Evaluation Value) × (access_of (access_with_values e a) ≡ record { size = (access_of a).size; at = at; unaligned = (access_of a).unaligned; span = (access_of a).span }) × (at t ≡ (access_of a).at s)
 
     abbrev Any : {A : Type 0} → A → Type 0
     Any y = Unit {0}
@@ -102,13 +104,13 @@ module _ (e : KnownNumbers) where
     not_false true q = absurd cc
     not_false false q = refl
 
-    parts_law : (y : Known) → parts_layer (bare y) ≡ true → ((meaning_layer (parts_in (bare y))).size ≡ (meaning_layer (bare y)).size) × ((w : Option Size) → (meaning_layer (parts_in (bare y))).run w t ≡ (meaning_layer (bare y)).run w s)
+    parts_law : (y : Known) → parts_layer (bare y) ≡ true → ((meaning_layer (parts_in e (bare y))).size ≡ (meaning_layer (bare y)).size) × ((w : Option Size) → (meaning_layer (parts_in e (bare y))).run w t ≡ (meaning_layer (bare y)).run w s)
     parts_law (Expr-F.Num i at) ok = (refl, λ w. refl)
     parts_law (Expr-F.Expr::Bool c at) ok = (refl, λ w. refl)
-    parts_law (Expr-F.Var v) ok = (refl, λ w. ap (defined (ref_of v.0).span) (differs.variables (ref_of v.0) (not_false _ ok)))
+    parts_law (Expr-F.Var v) ok = (refl, λ w. ap (defined (ref_of v.0).span) (differs.variables (key_of (ref_of v.0)) (not_false _ ok)))
     parts_law (Expr-F.Cell v i) ok =
-        let l = i.1 ok in let r = ref_of v.0 in
-        (refl, λ w. ap (λ g. and_then g (λ u. cell_value r u t.store)) (l.1 (Some S64)) ∙ ap (and_then (evaluated i.0 (Some S64) s)) (λ j u. and_then (index_at r u) (λ n. defined r.span (differs.cells r n j))))
+        let q = and_parts (not (is_inline_var names v.0)) _ ok in let l = i.1 q.1 in let r = ref_of v.0 in
+        (refl, λ w. ap (λ g. and_then g (λ u. cell_value r u t.store)) (l.1 (Some S64)) ∙ ap (and_then (evaluated i.0 (Some S64) s)) (λ j u. and_then (index_at r u) (λ n. defined r.span (differs.variables (cell_key r n) (not_false _ q.0) j))))
     parts_law (Expr-F.Load a) ok =
         let l = a.1 ok in let p = access_of a.0 in (
           ap (λ (m : MemoryAccess). m.size) l.1,
@@ -121,7 +123,7 @@ module _ (e : KnownNumbers) where
     parts_law (Expr-F.Cast z sign x at) ok =
         let l = x.1 ok in (refl, λ w. ap (λ y. and_then (evaluated (with_values e x.0) y t) (λ v. defined at (cast z sign v))) l.0 ∙ ap (λ g. and_then g (λ v. defined at (cast z sign v))) (l.1 (own_size x.0)))
     parts_law (Expr-F.Bin op a b at) ok =
-        let both = and_parts (has_values e a.0) _ ok in
+        let both = and_parts (has_values names e a.0) _ ok in
         let l = a.1 both.0 in let r = b.1 both.1 in (
           (let p = l.0 in let q = r.0 in rw (p, q)),
           λ w. let z = left_wanted op w (own_size a.0) (own_size b.0) in
@@ -132,52 +134,44 @@ module _ (e : KnownNumbers) where
         )
 
     -- an inline part
-    constant_law : (x : Expr) (at : Span) (c : Option Constant) → inline_value e x ≡ c → is_known e x ≡ true → (own_size (constant_expr at x c) ≡ own_size x) × ((w : Option Size) → evaluated (constant_expr at x c) w t ≡ evaluated x w s)
-    constant_law x at None q ok = absurd (let p = and_parts (has_no_cell x) _ ok in let r = and_parts (is_some (inline_value e x)) _ p.1 in let y : is_some (inline_value e x) ≡ false = ap is_some q in cc)
-    constant_law x at (Some (constant.Int i)) q ok =
-        let p = and_parts (has_no_cell x) _ ok in let r = and_parts (is_some (inline_value e x)) _ p.1 in (
-          ap (λ k. own_size k) (sym (expr.rolls-Num i at)) ∙ ap (λ (m : Meaning). m.size) (meaning_is (Expr-F.Num i at)) ∙ no_size (own_size x) r.1,
+    constant_law : (x : Expr) (at : Span) (c : Option Constant) → inline_value e x ≡ c → is_inline x ≡ true → is_known names e x ≡ true → (own_size (constant_expr at x c) ≡ own_size x) × ((w : Option Size) → evaluated (constant_expr at x c) w t ≡ evaluated x w s)
+    constant_law x at None q inline ok = absurd (let p = and_parts (has_no_cell x) _ ok in let y : is_some (inline_value e x) ≡ false = ap is_some q in cc)
+    constant_law x at (Some (constant.Int i)) q inline ok =
+        let p = and_parts (has_no_cell x) _ ok in (
+          ap (λ k. own_size k) (sym (expr.rolls-Num i at)) ∙ ap (λ (m : Meaning). m.size) (meaning_is (Expr-F.Num i at)) ∙ sym (no_size x inline),
           λ w. ap (λ k. evaluated k w t) (sym (expr.rolls-Num i at)) ∙ ap (λ (m : Meaning). m.run w t) (meaning_is (Expr-F.Num i at)) ∙ sym (inline_exact e s exactly x p.0 (constant.Int i) q w),
         )
-      where
-        no_size : (z : Option Size) → is_none z ≡ true → None ≡ z
-        no_size None k = refl
-        no_size (Some z) k = absurd cc
-    constant_law x at (Some (constant.Bool b)) q ok =
-        let p = and_parts (has_no_cell x) _ ok in let r = and_parts (is_some (inline_value e x)) _ p.1 in (
-          ap (λ k. own_size k) (sym (expr.rolls-Bool b at)) ∙ ap (λ (m : Meaning). m.size) (meaning_is (Expr-F.Expr::Bool b at)) ∙ no_size (own_size x) r.1,
+    constant_law x at (Some (constant.Bool b)) q inline ok =
+        let p = and_parts (has_no_cell x) _ ok in (
+          ap (λ k. own_size k) (sym (expr.rolls-Bool b at)) ∙ ap (λ (m : Meaning). m.size) (meaning_is (Expr-F.Expr::Bool b at)) ∙ sym (no_size x inline),
           λ w. ap (λ k. evaluated k w t) (sym (expr.rolls-Bool b at)) ∙ ap (λ (m : Meaning). m.run w t) (meaning_is (Expr-F.Expr::Bool b at)) ∙ sym (inline_exact e s exactly x p.0 (constant.Bool b) q w),
         )
-      where
-        no_size : (z : Option Size) → is_none z ≡ true → None ≡ z
-        no_size None k = refl
-        no_size (Some z) k = absurd cc
 
     expr_case : (y : Known) → ExprLaw (roll-Expr (bare y))
     expr_case y ok =
         let z = by_inline (is_inline (roll-Expr x)) refl (sym (known_is x) ∙ ok) in
-        (ap own_size (values_is x) ∙ z.0, λ w. ap (λ k. evaluated k w t) (values_is x) ∙ z.1 w)
+        (ap own_size (values_is e x) ∙ z.0, λ w. ap (λ k. evaluated k w t) (values_is e x) ∙ z.1 w)
       where
         x : Layer
         x = bare y
 
-        by_inline : (b : Bool) → is_inline (roll-Expr x) ≡ b → (if is_inline (roll-Expr x) then is_known e (roll-Expr x) else parts_layer x) ≡ true → (own_size (values_layer x) ≡ own_size (roll-Expr x)) × ((w : Option Size) → evaluated (values_layer x) w t ≡ evaluated (roll-Expr x) w s)
+        by_inline : (b : Bool) → is_inline (roll-Expr x) ≡ b → (if is_inline (roll-Expr x) then is_known names e (roll-Expr x) else parts_layer x) ≡ true → (own_size (values_layer e x) ≡ own_size (roll-Expr x)) × ((w : Option Size) → evaluated (values_layer e x) w t ≡ evaluated (roll-Expr x) w s)
         by_inline true q k =
-            let l = constant_law (roll-Expr x) (span_of (roll-Expr x)) (inline_value e (roll-Expr x)) refl (ap (λ b. if b then is_known e (roll-Expr x) else parts_layer x) (sym q) ∙ k) in
-            let f : values_layer x ≡ constant_expr (span_of (roll-Expr x)) (roll-Expr x) (inline_value e (roll-Expr x)) = ap (λ b. if b then constant_expr (span_of (roll-Expr x)) (roll-Expr x) (inline_value e (roll-Expr x)) else roll-Expr (parts_in x)) q in
+            let l = constant_law (roll-Expr x) (span_of (roll-Expr x)) (inline_value e (roll-Expr x)) refl q (ap (λ b. if b then is_known names e (roll-Expr x) else parts_layer x) (sym q) ∙ k) in
+            let f : values_layer e x ≡ constant_expr (span_of (roll-Expr x)) (roll-Expr x) (inline_value e (roll-Expr x)) = ap (λ b. if b then constant_expr (span_of (roll-Expr x)) (roll-Expr x) (inline_value e (roll-Expr x)) else roll-Expr (parts_in e x)) q in
             (ap own_size f ∙ l.0, λ w. ap (λ k. evaluated k w t) f ∙ l.1 w)
         by_inline false q k =
-            let l = parts_law y (ap (λ b. if b then is_known e (roll-Expr x) else parts_layer x) (sym q) ∙ k) in
-            let f : values_layer x ≡ roll-Expr (parts_in x) = ap (λ b. if b then constant_expr (span_of (roll-Expr x)) (roll-Expr x) (inline_value e (roll-Expr x)) else roll-Expr (parts_in x)) q in (
-              ap own_size f ∙ ap (λ (m : Meaning). m.size) (meaning_is (parts_in x)) ∙ l.0 ∙ ap (λ (m : Meaning). m.size) (sym (meaning_is x)),
-              λ w. ap (λ k. evaluated k w t) f ∙ ap (λ (m : Meaning). m.run w t) (meaning_is (parts_in x)) ∙ l.1 w ∙ ap (λ (m : Meaning). m.run w s) (sym (meaning_is x)),
+            let l = parts_law y (ap (λ b. if b then is_known names e (roll-Expr x) else parts_layer x) (sym q) ∙ k) in
+            let f : values_layer e x ≡ roll-Expr (parts_in e x) = ap (λ b. if b then constant_expr (span_of (roll-Expr x)) (roll-Expr x) (inline_value e (roll-Expr x)) else roll-Expr (parts_in e x)) q in (
+              ap own_size f ∙ ap (λ (m : Meaning). m.size) (meaning_is (parts_in e x)) ∙ l.0 ∙ ap (λ (m : Meaning). m.size) (sym (meaning_is x)),
+              λ w. ap (λ k. evaluated k w t) f ∙ ap (λ (m : Meaning). m.run w t) (meaning_is (parts_in e x)) ∙ l.1 w ∙ ap (λ (m : Meaning). m.run w s) (sym (meaning_is x)),
             )
 
     access_case : (y : Access-F ((x : Expr) × ExprLaw x) ((z : Ty) × Any z) ((a : Access) × AccessLaw a) ((d : Decl) × Any d) ((v : Var) × Any v)) → AccessLaw (roll-Access (map-Access _ _ _ _ _ _ _ _ _ _ (λ x. x.0) (λ x. x.0) (λ x. x.0) (λ x. x.0) (λ x. x.0) y))
     access_case y ok =
         let x = map-Access _ _ _ _ _ Expr Ty Access Decl Var (λ x. x.0) (λ x. x.0) (λ x. x.0) (λ x. x.0) (λ x. x.0) y in
         let n = access_is x in
-        let m = ap access_of (access_values_is x) ∙ access_is (record { size = x.size; at = with_values e x.at; unaligned = x.unaligned; span = x.span }) in
+        let m = ap access_of (access_values_is e x) ∙ access_is (record { size = x.size; at = with_values e x.at; unaligned = x.unaligned; span = x.span }) in
         let l = y.at.1 (sym (access_known_is x) ∙ ok) in (
           evaluated (with_values e y.at.0) (Some S64),
           m ∙ ap (λ (p : MemoryAccess). record { size = p.size; at = evaluated (with_values e y.at.0) (Some S64); unaligned = p.unaligned; span = p.span }) (sym n),
@@ -188,6 +182,15 @@ module _ (e : KnownNumbers) where
     pub values_so : (x : Expr) → ExprLaw x
     values_so =
         ind-Expr ExprLaw Any AccessLaw Any Any
+        (λ z y is. subst (λ k. ExprLaw (roll-Expr k)) is (expr_case y))
+        (λ z y is. tt)
+        (λ z y is. subst (λ k. AccessLaw (roll-Access k)) is (access_case y))
+        (λ z y is. tt)
+        (λ z y is. tt)
+
+    pub access_so : (a : Access) → AccessLaw a
+    access_so =
+        ind-Access ExprLaw Any AccessLaw Any Any
         (λ z y is. subst (λ k. ExprLaw (roll-Expr k)) is (expr_case y))
         (λ z y is. tt)
         (λ z y is. subst (λ k. AccessLaw (roll-Access k)) is (access_case y))

@@ -1,5 +1,6 @@
 -- Inline expressions become their values: the largest of them, wherever they stand.
-use Rattle.std.specs.Prelude.{◌&&◌, Bool, true, false, not, is_none, is_some, if◌then◌else◌, map, Option, Some, None, option_map}
+use Rattle.std.specs.Prelude.{ℕ, ◌&&◌, ◌||◌, Bool, true, false, not, is_none, is_some, if◌then◌else◌, List, [], ◌∷◌, map, Option, Some, None, option_map}
+use Rattle.std.specs.List.{list_all}
 use Rattle.jz_tree.specs.Span.{Span}
 use Rattle.jz_tree.specs.declared.expr.Expr.{Expr}
 use Rattle.jz_tree.specs.declared.expr.Expr.TheVariants as expr
@@ -8,7 +9,7 @@ use Rattle.jz_tree.specs.declared.expr.Access.{Access}
 use Rattle.jz_tree.specs.declared.expr.Decl.{Decl}
 use Rattle.jz_tree.specs.declared.expr.Var.{Var}
 use Rattle.jz_tree.specs.declared.expr.Expr.TheOpen.{Expr-F, Access-F}
-use Rattle.jz_tree.specs.declared.expr.Expr.TheViews.{roll-Expr, roll-Access}
+use Rattle.jz_tree.specs.declared.expr.Expr.TheViews.{out-Expr, roll-Expr, roll-Access}
 use Rattle.jz_tree.specs.declared.expr.Expr.TheFolds.{para-Expr, para-Access, map-Expr}
 use Rattle.jz_tree.specs.declared.stmt.Lval.{Lval}
 use Rattle.jz_tree.specs.declared.stmt.Lval.TheVariants as lval
@@ -19,8 +20,9 @@ use Rattle.jz_integers.specs.declared.constant.Constant.{Constant}
 use Rattle.jz_integers.specs.declared.constant.Constant.TheVariants as constant
 use Rattle.jz_meaning.specs.declared.access.Kind.{Kind}
 use Rattle.jz_meaning.specs.declared.access.Kind.TheVariants as kind
+use Rattle.jz_meaning.specs.Assignments.{last_left, whole_of, Layer, is_flag}
 use Rattle.jz_meaning.specs.Statements.{Operation, assign, instruction}
-use Rattle.jz_meaning.specs.Values.{ref_of, own_size}
+use Rattle.jz_meaning.specs.Values.{ref_of}
 
 abbrev pub is_int : Kind → Bool
 is_int kind.Int = true
@@ -107,18 +109,37 @@ module _ (e : KnownNumbers) where
       instruction (map left_with_values to) n (map with_values args) at
   operation_with_values o = o
 
-  -- ---- where each of them has a value
+-- ---- where each of them has a value
 
-  -- an inline expression has one, and no size of its own
+-- which variables are inline, by name and copy
+abbrev pub InlineNames : Type 0
+InlineNames = List ℕ → ℕ → Bool
+
+abbrev pub is_inline_var : InlineNames → Var → Bool
+is_inline_var names v = names (ref_of v).name (ref_of v).copy
+
+-- behind a flag that is added, or taken away, there is no inline sum
+abbrev pub splits : Layer → Bool
+splits (Expr-F.Bin o a b at) = not (is_flag b) || not (is_inline a)
+splits _ = true
+
+-- of an operation with several results the operands stand in the text
+abbrev pub is_split : List Lval → Option Expr → Bool
+is_split (d ∷ []) x = true
+is_split to None = true
+is_split to (Some x) = not (is_inline x) && splits (out-Expr x)
+
+module _ (names : InlineNames) (e : KnownNumbers) where
+  -- an inline expression has one
   abbrev pub is_known : Expr → Bool
-  is_known x = has_no_cell x && (is_some (inline_value e x) && is_none (own_size x))
+  is_known x = has_no_cell x && is_some (inline_value e x)
 
   -- else no variable is inline, and all parts have values
   abbrev pub parts_known : Beside Bool Bool → Bool
   parts_known (Expr-F.Num n at) = true
   parts_known (Expr-F.Expr::Bool b at) = true
-  parts_known (Expr-F.Var v) = not (is_int (ref_of v.0).kind)
-  parts_known (Expr-F.Cell v i) = i.1
+  parts_known (Expr-F.Var v) = not (is_inline_var names v.0)
+  parts_known (Expr-F.Cell v i) = not (is_inline_var names v.0) && i.1
   parts_known (Expr-F.Load a) = a.1
   parts_known (Expr-F.Neg a at) = a.1
   parts_known (Expr-F.Not a at) = a.1
@@ -138,3 +159,24 @@ module _ (e : KnownNumbers) where
   access_has_values =
       para-Access Bool (Unit {0}) Bool (Unit {0}) (Unit {0}) known_step (λ t. tt) (λ a. a.at.1)
       (λ d. tt) (λ v. tt)
+
+  -- ---- statements that stay
+
+  -- a left side is no inline variable, and its index or address has values
+  abbrev pub left_has_values : Lval → Bool
+  left_has_values (lval.Skip at) = true
+  left_has_values (lval.Var v) = not (is_inline_var names v) && not (is_inline (expr.Var v))
+  left_has_values (lval.Cell v i) = not (is_inline_var names v) && has_values i
+  left_has_values (lval.Store a) = access_has_values a
+
+  abbrev pub if_has_values : Option Expr → Bool
+  if_has_values None = true
+  if_has_values (Some x) = has_values x
+
+  abbrev pub operation_has_values : Operation → Bool
+  operation_has_values (assign to o x c at) =
+      list_all left_has_values to
+      && (has_values x && (if_has_values c && is_split to (whole_of (last_left to) o x)))
+  operation_has_values (instruction to n args at) =
+      list_all left_has_values to && list_all has_values args
+  operation_has_values o = true

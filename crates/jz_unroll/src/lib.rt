@@ -3,4 +3,4 @@
 
 mod laws;
 
-pub use laws::inline_expressions_are_values;
+pub use laws::{inline_expressions_are_values, unrolled_bodies_keep_runs};

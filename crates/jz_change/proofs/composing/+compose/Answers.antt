@@ -65,8 +65,8 @@ compose_every-loop-part-preserved t c =
     let a = change_of c.args.body.now in
     let ps = c.args.parts.now in
     let i = c.loop-part.part-index in
-    every_more a c.loop-part.all ps i c.part-item.result c.in_ok-made.made c.loop-part-test.true c.part-item.is c.loop-part.invariant (c.in_ok-made.ensures ∙ ap (λ v. (join a (steps_of v)).change) c.as_slice.ensures)
-    ∙ ap (λ o. changes_before (map change_of o) (join_every (join a) (changes_of (drop (i + 1) ps)))) (sym c.in_ok-push.ensures.ok)
+    every_more a c.loop-part.all.items ps i c.part-item.result c.in_ok-made.made c.loop-part-test.true c.part-item.is c.loop-part.invariant (c.in_ok-made.ensures ∙ ap (λ v. (join a (steps_of v)).change) c.as_slice.ensures)
+    ∙ ap (λ o. changes_before (map change_of o) (join_every (join a) (changes_of (drop (i + 1) ps)))) (sym c.in_ok-push.ensures.items)
 
 pub compose_steps-loop-step-preserved : goal.compose_steps-loop-step-preserved
 compose_steps-loop-step-preserved t c =
@@ -74,8 +74,8 @@ compose_steps-loop-step-preserved t c =
     let i = c.loop-step.step-index in
     let b = steps_of (drop c.loop-step.now c.args.steps.now) in
     let b2 = steps_of (drop c.in_ok-one.one.at c.args.steps.now) in
-    step_more c.loop-step.out ss i c.step-item.result b c.in_ok-one.one.step b2 c.loop-step-test.true c.step-item.is c.loop-step.invariant c.in_ok-one.ensures
-    ∙ ap (λ o. steps_before o (join (steps_of (drop (i + 1) ss)) b2)) (sym c.in_ok-push.ensures.ok)
+    step_more c.loop-step.out.items ss i c.step-item.result b c.in_ok-one.one.step b2 c.loop-step-test.true c.step-item.is c.loop-step.invariant c.in_ok-one.ensures
+    ∙ ap (λ o. steps_before o (join (steps_of (drop (i + 1) ss)) b2)) (sym c.in_ok-push.ensures.items)
 
 pub compose_unrolled-loop-part-preserved : goal.compose_unrolled-loop-part-preserved
 compose_unrolled-loop-part-preserved t c =
@@ -83,16 +83,16 @@ compose_unrolled-loop-part-preserved t c =
     let i = c.loop-part.part-index in
     let b = steps_of (drop c.loop-part.now c.args.steps.now) in
     let b2 = steps_of (drop c.in_ok-made.made.at c.args.steps.now) in
-    round_more c.loop-part.all ps i c.part-item.result b c.in_ok-made.made.steps b2 c.loop-part-test.true c.part-item.is c.loop-part.invariant c.in_ok-made.ensures
-    ∙ ap (λ o. rounds_before o (join_rounds (changes_of (drop (i + 1) ps)) b2)) (sym c.in_ok-push.ensures.ok)
+    round_more c.loop-part.all.items ps i c.part-item.result b c.in_ok-made.made.steps b2 c.loop-part-test.true c.part-item.is c.loop-part.invariant c.in_ok-made.ensures
+    ∙ ap (λ o. rounds_before o (join_rounds (changes_of (drop (i + 1) ps)) b2)) (sym c.in_ok-push.ensures.items)
 
 pub compose_unrolled-returns : goal.compose_unrolled-returns
 compose_unrolled-returns t c =
     let ps = c.as_slice-part-items.result.now in
     let b = steps_of (drop c.args.at c.args.steps.now) in
     let b2 = steps_of (drop c.loop-part.now c.args.steps.now) in
-    let d = round_done c.loop-part.all ps c.loop-part.part-index b2 (omega (arith, c.loop-part-test.false)) c.loop-part.invariant in
-    unrolled_joins c.args.parts.now b c.loop-part.all b2 d.0 d.1
+    let d = round_done c.loop-part.all.items ps c.loop-part.part-index b2 (omega (arith, c.loop-part-test.false)) c.loop-part.invariant in
+    unrolled_joins c.args.parts.now b c.from_vec.result b2 (ap changes_of c.from_vec.ensures ∙ d.0) d.1
 
 pub compose_while-returns-in_ok-left-in-While-second : goal.compose_while-returns-in_ok-left-in-While-second
 compose_while-returns-in_ok-left-in-While-second t c = λ kept.

@@ -1,0 +1,5 @@
+pub mod Bounds
+pub mod Merging
+pub mod Needed
+pub mod Pushing
+pub mod Here

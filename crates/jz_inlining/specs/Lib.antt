@@ -1,0 +1,3 @@
+pub mod Inlined
+pub mod InnerCopies
+pub mod InnerItems
