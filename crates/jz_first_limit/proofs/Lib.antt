@@ -1,0 +1,6 @@
+pub mod Steps
+pub mod Trees
+pub mod TestArms
+pub mod Answering
+pub mod Copied
+pub mod Setting

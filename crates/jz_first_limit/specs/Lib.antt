@@ -1,0 +1,4 @@
+pub mod FirstLimits
+pub mod InnerMet
+pub mod InnerStraight
+pub mod InnerWalker
