@@ -1,5 +1,5 @@
 -- A run that is printed is that of a correct function, from a start.
-use Rattle.std.proofs.Common.{◌≡◌, ◌∙◌, ℕ, List, length, Option, Some, None, refl, sym, ap, subst, inl, inr, arith}
+use Rattle.std.proofs.Common.{◌≡◌, ◌∙◌, ℕ, List, length, Option, Some, None, refl, sym, subst, inl, inr, arith}
 use Rattle.std.specs.Io.KnownBytes.{Appends}
 use Rattle.jz_first.specs.declared.tree.Program.{Program}
 use Rattle.jz_first.specs.declared.tree.Fun.{Fun}
@@ -9,10 +9,9 @@ use Rattle.jasminc_words.proofs.NumbersFit.{words_fit}
 use Rattle.jasminc_exec.specs.Running.{ItemsFit}
 use Rattle.jasminc_top.specs.declared.refusal.Status.{Status}
 use Rattle.jasminc_top.specs.declared.refusal.Status.TheVariants as status
-use Rattle.jasminc_top.specs.declared.refusal.Refusal.{Refusal}
 use Rattle.jasminc_top.specs.declared.refusal.Refusal.TheVariants.{NoFunction, Items}
 use Rattle.jasminc_top.specs.Making.{TypesAs}
-use Rattle.jasminc_top.specs.Refusals.{status_of, all_stages}
+use Rattle.jasminc_top.specs.Refusals.{all_stages}
 use Rattle.jasminc_top.specs.Told.{SourceTold, SinkTold}
 use Rattle.jasminc_top.specs.Answers.{HasFile, IsDue, IsDone, IsToldBy, Gives, GivesRun, ExecCause, Clear, function_named}
 use Rattle.jasminc_top.specs.Runs.{Run, Due, Runs}

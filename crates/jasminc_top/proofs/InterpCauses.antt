@@ -1,6 +1,6 @@
 -- Which cause of a run of the source is the first, and when none stands.
 use Rattle.std.proofs.Common.{◌≡◌, ℕ, ◌≤◌, List, [], length, arith, Some, refl, sym, subst}
-use Rattle.std.specs.Prelude.{Result, Ok, Err, IfOk, IfErr}
+use Rattle.std.specs.Prelude.{Result, Ok, Err, IfErr}
 use Rattle.jz_first.specs.Failure.{Failure}
 use Rattle.jz_first.specs.Failure.TheVariants as failure
 use Rattle.jz_first.specs.Failures.{IfRefused, IfAnswered}
@@ -14,7 +14,7 @@ use Rattle.jasminc_top.specs.declared.refusal.Status.{Status}
 use Rattle.jasminc_top.specs.declared.refusal.Refusal.{Refusal}
 use Rattle.jasminc_top.specs.declared.refusal.Refusal.TheVariants.{Usage, ReadFault, Source, Lex, Parse, Typing, NoFunction, Limit, Alarm, NoPlace, Items, Interp}
 use Rattle.jasminc_top.specs.declared.answer.Reply.{Reply}
-use Rattle.jasminc_top.specs.Refusals.{stage_of, all_stages}
+use Rattle.jasminc_top.specs.Refusals.{all_stages}
 use Rattle.jasminc_top.specs.Stage.{ComesFrom}
 use Rattle.jasminc_top.specs.Answers.{source_limit, InterpCause, Clear, IsFirstCause, IsToldAs, IsDone, After}
 use Rattle.jasminc_top.proofs.Stopping.{stage_refuses}

@@ -8,7 +8,7 @@ use Rattle.jasminc_words.specs.Wanted.{Wanted, compile, exec, interp, file_of}
 use Rattle.jasminc_top.specs.declared.refusal.Status.{Status}
 use Rattle.jasminc_top.specs.declared.refusal.Status.TheVariants as status
 use Rattle.jasminc_top.specs.declared.refusal.Refusal.{Refusal}
-use Rattle.jasminc_top.specs.declared.refusal.Refusal.TheVariants.{Usage, ReadFault, Source, Lex, Parse, Typing, NoFunction, Limit, Alarm, NoPlace, Items, Interp}
+use Rattle.jasminc_top.specs.declared.refusal.Refusal.TheVariants.{Usage, ReadFault, Interp}
 use Rattle.jasminc_top.specs.Refusals.{status_of_refused, status_of, stage_of}
 use Rattle.jasminc_top.specs.Told.{SourceTold}
 use Rattle.jasminc_exec.specs.declared.exec.Ran.{Ran}
@@ -18,7 +18,7 @@ use Rattle.jasminc_interp.specs.declared.telling.Ran.TheVariants as source_ran
 use Rattle.jasminc_interp.specs.declared.refused.Refused.{Refused}
 use Rattle.jasminc_interp.specs.declared.refused.Refused.TheVariants as refusing
 use Rattle.jasminc_interp.specs.Causes as interp_causes
-use Rattle.jasminc_top.specs.Answers.{Cause, HasText, IsDue, IsUsage, IsNoCommand, IsQuiet, IsToldBy, IsToldAs, IsResult, Gives, Faulted}
+use Rattle.jasminc_top.specs.Answers.{Cause, HasText, IsDue, IsUsage, IsNoCommand, IsQuiet, IsToldBy, IsToldAs, IsResult, Gives}
 use Rattle.jasminc_top.specs.Runs.{Run, Due, Runs, ReadsAll, Refuses, Completes, IsFree, IsGiven, IsEarlier, Tells, IsCaused, ComesOnly, IsTooLong}
 
 run_bounded : (r : Refused) → interp_causes.stage_of r < 10

@@ -1,5 +1,5 @@
 -- What the answer of all stages is, and what is due by it.
-use Rattle.std.proofs.Common.{◌≡◌, ℕ, ◌<◌, ◌≤◌, List, [], length, refl, sym, subst, arith, inl, inr, Option, Some, None}
+use Rattle.std.proofs.Common.{◌≡◌, ℕ, ◌<◌, ◌≤◌, List, [], length, refl, subst, arith, inl, inr, Option, Some, None}
 use Rattle.std.specs.Prelude.{Result, Ok, Err, codes}
 use Rattle.jz_first.specs.Failure.{Failure}
 use Rattle.jz_first.specs.Failure.TheVariants as failure
@@ -7,7 +7,6 @@ use Rattle.jz_first.specs.Failures.{IfRefused, IfAnswered}
 use Rattle.jz_io.specs.Telling.{IsWhole}
 use Rattle.jz_listing.specs.declared.compiled.Compiled.{Compiled}
 use Rattle.jasminc_top.specs.declared.answer.Reply.{Reply}
-use Rattle.jasminc_top.specs.declared.run.Done.{Done}
 use Rattle.jasminc_top.specs.declared.refusal.Status.{Status}
 use Rattle.jasminc_top.specs.declared.refusal.Status.TheVariants as status
 use Rattle.jasminc_top.specs.declared.refusal.Refusal.{Refusal}
@@ -16,9 +15,9 @@ use Rattle.jasminc_words.specs.Wanted.{Wanted, compile, exec, interp, file_of}
 use Rattle.jasminc_interp.specs.declared.refused.Refused.{Refused}
 use Rattle.jasminc_interp.specs.declared.refused.Refused.TheVariants as refused
 use Rattle.jasminc_interp.specs.Causes as interp_causes
-use Rattle.jasminc_top.specs.Refusals.{status_of_refused, status_of, line_of, stage_of}
-use Rattle.jasminc_top.specs.Told.{SourceTold, SinkTold}
-use Rattle.jasminc_top.specs.Answers.{source_limit, Cause, Clear, IsUsage, IsFirstCause, HasText, HasFile, IsDue, IsQuiet, IsResult, FileRefuses, After, Performs}
+use Rattle.jasminc_top.specs.Refusals.{status_of_refused, status_of, line_of}
+use Rattle.jasminc_top.specs.Told.{SourceTold}
+use Rattle.jasminc_top.specs.Answers.{source_limit, Cause, Clear, HasText, IsDue, IsQuiet, IsResult, FileRefuses, After, Performs}
 use Rattle.jasminc_top.specs.Runs.{Run, Due, Runs, IsFree, Writes, WritesRefusal, WritesNoMemory}
 use Rattle.jasminc_top.proofs.Rows.{never_usage, never_read_fault, gives_result}
 
