@@ -1,7 +1,6 @@
 -- Which cause is the first, and when none stands.
-use Rattle.std.proofs.Common.{◌≡◌, ℕ, ◌<◌, ◌≤◌, List, length, ◌∙◌, arith, Option, Some, None, subst, ap, refl, sym}
-use Rattle.std.specs.Prelude.{All, Err, slice_get}
-use Rattle.std.proofs.lemmas.Bool.{and_parts}
+use Rattle.std.proofs.Common.{◌≡◌, ℕ, ◌<◌, List, length, ◌∙◌, arith, Some, None, subst, ap, refl, sym}
+use Rattle.std.specs.Prelude.{All, Err}
 use Rattle.jz_tree.specs.Failure.{Failure}
 use Rattle.jz_tree.specs.Failure.TheVariants as failure
 use Rattle.jz_tree.specs.Failures.{IfRefused, IfAnswered}
@@ -17,7 +16,7 @@ use Rattle.jasminc_interp.specs.declared.refused.Refused.TheVariants.{Lex, Parse
 use Rattle.jasminc_interp.specs.declared.telling.Ran.{Ran}
 use Rattle.jasminc_interp.specs.Texts.{TypesAs, FailsTyping}
 use Rattle.jasminc_interp.specs.Exports.{export_named, WithinIfExported, HasLimit}
-use Rattle.jasminc_interp.specs.Runs.{RunsAt, RunsOn}
+use Rattle.jasminc_interp.specs.Runs.{RunsOn}
 use Rattle.jasminc_interp.specs.Causes.{HasNoExport, PassesLimit, HasOtherItems, Cause, ReadingRefuses, stage_of, Clear, IsFirstCause}
 use Rattle.jasminc_interp.specs.Answers.{all_stages, Answers, IsDone}
 use Rattle.jasminc_interp.proofs.Causing.{reads_no_lex, reads_no_parse, fails_no_lex, types_one, types_no_fault}

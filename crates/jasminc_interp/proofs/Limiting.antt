@@ -1,12 +1,11 @@
 -- The first export function that passes a limit, as far as a loop has come.
-use Rattle.std.proofs.Common.{◌≡◌, ℕ, suc, ◌+◌, ◌<◌, ◌≤◌, List, [], ◌∷◌, ◌++◌, length, get_or, take, drop, true, refl, sym, ap, ◌∙◌, subst, arith, inl, inr}
-use Rattle.std.specs.Prelude.{All, Some, slice_get}
+use Rattle.std.proofs.Common.{◌≡◌, ℕ, suc, ◌+◌, ◌<◌, ◌≤◌, List, [], ◌∷◌, ◌++◌, length, get_or, take, drop, refl, sym, ap, ◌∙◌, subst, arith, inl, inr}
+use Rattle.std.specs.Prelude.{All}
 use Rattle.std.proofs.Math.Seq.{split_at}
 use Rattle.std.proofs.lemmas.List.Elements.{All-push, All-contains, Contains-append_right, Contains-append_left}
 use Rattle.std.proofs.lemmas.List.{take_more, take_all}
 use Rattle.jz_tree.specs.declared.program.Fun.{Fun}
 use Rattle.jz_tree.specs.declared.program.Program.{Program}
-use Rattle.jz_type_rows.specs.Exports.{is_exported}
 use Rattle.jz_limits.specs.declared.limit.Limit.{Limit}
 use Rattle.jz_first_limit.specs.FirstLimits.{IsWithinLimits, PassesFirst}
 use Rattle.jz_limits.proofs.First.{none_within}

@@ -1,5 +1,5 @@
 -- The parameters of an export function are words, and items are arguments of them.
-use Rattle.std.proofs.Common.{◌≡◌, ℕ, ◌%◌, ◌<◌, ◌^◌, Bool, true, false, not, ◌&&◌, ◌||◌, List, [], ◌∷◌, length, Option, Some, None, map, refl, sym, ap, ◌∙◌, subst, arith}
+use Rattle.std.proofs.Common.{◌≡◌, ℕ, ◌%◌, ◌<◌, Bool, true, false, not, ◌&&◌, ◌||◌, List, [], ◌∷◌, length, Option, Some, None, refl, sym, ap, ◌∙◌, subst, arith}
 use Rattle.std.specs.Prelude.{All, Contains, option_map, nat_le, slice_get}
 use Rattle.std.specs.List.{list_all, AllZip}
 use Rattle.std.proofs.lemmas.Bool.{and_parts, false≢true}
@@ -21,7 +21,6 @@ use Rattle.jz_tree.specs.declared.program.Fun.{Fun}
 use Rattle.jz_tree.specs.declared.program.Param.{Param}
 use Rattle.jz_tree.specs.declared.program.Program.{Program}
 use Rattle.jz_type_names.specs.declared.kinds.Kind as known
-use Rattle.jz_type_names.specs.declared.kinds.Kind.TheVariants as scope
 use Rattle.jz_type_names.specs.Kinds.{Known, declared_of, known_of, kind_of, kind_step, is_word_kind, is_register_word, same_storage}
 use Rattle.jz_type_names.specs.Scopes.{constant_place}
 use Rattle.jz_type_names.proofs.Empty.{passed, all_empty, no_member}
@@ -35,10 +34,9 @@ use Rattle.jz_types.specs.declared.fault.TypeRule.TheVariants as rule
 use Rattle.jz_types.proofs.ProgramsKept.{decl_known, var_out}
 use Rattle.jz_meaning.specs.declared.access.Kind as meant
 use Rattle.jz_meaning.specs.declared.access.Kind.TheVariants as kind
-use Rattle.jz_meaning.specs.States.{Value, word}
 use Rattle.jz_meaning.specs.Values.{ref_of}
 use Rattle.jz_meaning.specs.Runs.{FitsKind}
-use Rattle.jz_run_laws.specs.Counted.{TyLayer, counted_type, counted_decl, is_counted}
+use Rattle.jz_run_laws.specs.Counted.{TyLayer, counted_type, counted_decl}
 use Rattle.jz_run_laws.proofs.SameKinds as same
 use Rattle.jz_run_laws.proofs.SameKinds.{SameKind, SameKnown}
 use Rattle.jz_run_laws.proofs.Sizes.{variable_law}

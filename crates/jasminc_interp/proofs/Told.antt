@@ -19,7 +19,7 @@ use Rattle.jasminc_lines.specs.Lines.{cut_line}
 use Rattle.jasminc_interp.specs.declared.telling.Ran.{Ran}
 use Rattle.jasminc_interp.specs.declared.telling.Ran.TheVariants as ran
 use Rattle.jasminc_interp.specs.Telling.{stuck_line, end_text, Tells}
-use Rattle.jasminc_interp.specs.Runs.{argument_values, RunsOn, RunsAt, IsRunnable}
+use Rattle.jasminc_interp.specs.Runs.{argument_values, RunsAt}
 
 module _ (xs : List Var) (n : ℕ) (o : Outcome) (text : List ℕ) where
   end_of : (words : List code_word.Word) (memory : Memory) (leak : shown.Leak) → text ≡ end_text xs (values_of words) → (out : FunOutcome) → Shows out (outcome.End words memory leak)

@@ -1,6 +1,5 @@
 -- Why a function of a text is not run: the table of causes.
-use Rattle.std.specs.Prelude.{◌≡◌, ◌<◌, ℕ, List, length, Option, Some, None}
-use Rattle.jz_grammar.specs.LexFault.{LexFault}
+use Rattle.std.specs.Prelude.{◌≡◌, ◌<◌, ℕ, List, length, Some, None}
 use Rattle.jz_tree.specs.declared.program.Fun.{Fun}
 use Rattle.jz_tree.specs.declared.program.Program.{Program}
 use Rattle.jz_parse.specs.Reading.{LexFails, ParseFails}

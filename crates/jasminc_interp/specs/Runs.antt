@@ -1,5 +1,5 @@
 -- Runs of the functions of a program on items.
-use Rattle.std.specs.Prelude.{◌≡◌, ℕ, ◌%◌, Bool, true, List, length, map, Some, slice_get}
+use Rattle.std.specs.Prelude.{◌≡◌, ℕ, ◌%◌, true, List, length, map, Some, slice_get}
 use Rattle.std.specs.List.{zip}
 use Rattle.std.specs.FinMap as map_of
 use Rattle.jz_tree.specs.Size.TheVariants as sizes

@@ -7,7 +7,7 @@ use Rattle.std.specs.Str.{bytes_eq}
 use Rattle.clap.specs.Words.{Row, Text, first_of, all_of, fault_of, subcommand_of}
 use Rattle.jasminc_words.specs.Commands.{jasminc_app}
 use Rattle.jasminc_words.specs.Numbers.{ItemsFit, is_numeral, numeral, has_leading_zero, number_of_word, numbers_of}
-use Rattle.jasminc_words.specs.Wanted.{Called, Wanted, compile, exec, interp, HasFit, HasNumbers, number_or, fuel_in, items_in, call_of, call_in, compile_in, named, wanted_in, none_or, wanted_command}
+use Rattle.jasminc_words.specs.Wanted.{Called, Wanted, compile, exec, interp, HasFit, HasNumbers, number_or, fuel_in, items_in, call_of, call_in, wanted_in, none_or, wanted_command}
 
 -- ---- numbers
 below : (z : Bool) (v n : ℕ) → z ≡ nat_lt v (2 ^ 64) → (if z then Some v else None) ≡ Some n → n < 2 ^ 64

@@ -1,5 +1,5 @@
 -- Words that are commands, and words that are none.
-use Rattle.std.proofs.Common.{◌≡◌, List, [], ◌∷◌, ℕ, Some, None, refl, codes}
+use Rattle.std.proofs.Common.{◌≡◌, [], ◌∷◌, Some, None, refl, codes}
 use Rattle.clap.proofs.OnLiterals.{clap_on_literals}
 use Rattle.jasminc_words.specs.Wanted.{compile, exec, interp, wanted_command}
 

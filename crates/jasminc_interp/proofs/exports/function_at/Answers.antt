@@ -1,4 +1,4 @@
-use Rattle.std.proofs.Common.{◌∙◌, sym, ap, get_or, length, refl}
+use Rattle.std.proofs.Common.{◌∙◌, ap, get_or, length, refl}
 use Rattle.std.proofs.lemmas.Option.{slice_get_read}
 use Rattle.jasminc_interp.proofs.exports.function_at.Goals as goal
 

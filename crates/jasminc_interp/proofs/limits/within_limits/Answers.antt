@@ -1,4 +1,4 @@
-use Rattle.std.proofs.Common.{◌∙◌, arith, ap, length, get_or, rules, sym}
+use Rattle.std.proofs.Common.{◌∙◌, arith, ap, length, get_or, rules}
 use Rattle.jasminc_interp.proofs.Limiting.{one_more, limit_here, all_within}
 use Rattle.jasminc_interp.proofs.limits.within_limits.Goals as goal
 
