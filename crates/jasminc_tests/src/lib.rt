@@ -9,6 +9,8 @@ mod call_tests;
 #[cfg(test)]
 mod front_tests;
 #[cfg(test)]
+mod interp_tests;
+#[cfg(test)]
 mod language_tests;
 #[cfg(test)]
 mod live_tests;

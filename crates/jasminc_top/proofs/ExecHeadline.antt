@@ -1,24 +1,26 @@
 -- A run that is printed is that of a correct function, from a start.
-use Rattle.std.proofs.Common.{◌≡◌, ◌∙◌, ℕ, List, length, Option, Some, None, refl, sym, ap, subst, inl, inr, arith}
+use Rattle.std.proofs.Common.{◌≡◌, ◌∙◌, ℕ, List, length, Option, Some, None, refl, sym, subst, inl, inr, arith}
 use Rattle.std.specs.Io.KnownBytes.{Appends}
 use Rattle.jz_first.specs.declared.tree.Program.{Program}
 use Rattle.jz_first.specs.declared.tree.Fun.{Fun}
 use Rattle.jz_listing.specs.declared.compiled.Compiled.{Compiled}
-use Rattle.jasminc_words.specs.Wanted.{Called, Wanted, compile, exec, wanted_command}
+use Rattle.jasminc_words.specs.Wanted.{Called, Wanted, compile, exec, interp, wanted_command}
 use Rattle.jasminc_words.proofs.NumbersFit.{words_fit}
 use Rattle.jasminc_exec.specs.Running.{ItemsFit}
 use Rattle.jasminc_top.specs.declared.refusal.Status.{Status}
 use Rattle.jasminc_top.specs.declared.refusal.Status.TheVariants as status
-use Rattle.jasminc_top.specs.declared.refusal.Refusal.{Refusal}
 use Rattle.jasminc_top.specs.declared.refusal.Refusal.TheVariants.{NoFunction, Items}
 use Rattle.jasminc_top.specs.Making.{TypesAs}
-use Rattle.jasminc_top.specs.Refusals.{status_of, all_stages}
+use Rattle.jasminc_top.specs.Refusals.{all_stages}
 use Rattle.jasminc_top.specs.Told.{SourceTold, SinkTold}
-use Rattle.jasminc_top.specs.Answers.{HasFile, IsDue, IsDone, Gives, GivesRun, ExecCause, Clear, function_named}
+use Rattle.jasminc_top.specs.Answers.{HasFile, IsDue, IsDone, IsToldBy, Gives, GivesRun, ExecCause, Clear, function_named}
 use Rattle.jasminc_top.specs.Runs.{Run, Due, Runs}
-use Rattle.jasminc_top.specs.Headline.{PrintsRun, PrintsCut, Executes, IsCut}
+use Rattle.jasminc_top.specs.Headline.{PrintsRun, PrintsCut, Executes, IsStuck, IsCut}
+use Rattle.jasminc_exec.specs.declared.exec.Ran.{Ran}
+use Rattle.jasminc_exec.specs.declared.exec.Ran.TheVariants as ran
 use Rattle.jasminc_top.proofs.Rows.{never_refused}
 use Rattle.jasminc_top.proofs.Headline.{same_command}
+use Rattle.jasminc_top.proofs.InterpHeadline.{prints_outcome, result_given}
 use Rattle.jasminc_top.proofs.ExecRuns.{run_printed, cut_printed}
 
 -- ---- no cause stands
@@ -108,6 +110,7 @@ executes_wish : (wish : Option Wanted) (told : SourceTold) (sink : SinkTold) (ma
 executes_wish None told sink made prints = tt
 executes_wish (Some (compile file)) told sink made prints = tt
 executes_wish (Some (exec call)) told sink made prints = prints call refl
+executes_wish (Some (interp call)) told sink made prints = tt
 
 items_fit : (words : List (List ℕ)) (wish : Option Wanted) (call : Called) → wish ≡ wanted_command words → wish ≡ Some (exec call) → ItemsFit call.items
 items_fit words wish call wished is = (words_fit words (exec call) (sym wished ∙ is)).0
@@ -118,30 +121,37 @@ pub run_executes : (words : List (List ℕ)) (run : Run) → run.wish ≡ wanted
 run_executes words run wished r ok =
     executes_wish run.wish run.source run.sink run.done.made (λ call is. prints_run call run (items_fit words run.wish call wished is) r is ok)
 
--- nothing but a run of `exec` is cut
-cut_given : (wish : Wanted) (text : List ℕ) (output : List ℕ) (made : List Compiled) → Gives wish text status.OutOfFuel output made → (call : Called) × (wish ≡ exec call)
-cut_given (compile file) text output made g = let e : status.OutOfFuel ≡ status.Ok = g.ok in cc
-cut_given (exec call) text output made g = (call, refl)
+-- nothing but a run is cut
+not_cut : status.OutOfFuel ≡ status.Ok → ⊥
+not_cut e = cc
 
-due_cuts : (wish : Option Wanted) (told : SourceTold) (output : List ℕ) (made : List Compiled) → IsDue wish told status.OutOfFuel output made
-    → (call : Called) × (wish ≡ Some (exec call))
-due_cuts wish told output made d = elim d.answers [
-  | inl x ↦ absurd (never_refused x.refusal status.OutOfFuel tt x.status)
-  | inr x ↦ let c = cut_given x.command d.text output made x.gives in (c.0, x.is ∙ ap Some c.1)
-]
-
-cuts : (run : Run) → Runs run → run.done.status ≡ status.OutOfFuel → (call : Called) × (run.wish ≡ Some (exec call))
-cuts run r cut = elim r.wrote [
-  | inl w ↦
-      let e : status.OutOfFuel ≡ r.due = sym cut ∙ w.0 in
-      let due = subst (λ (s : Status). Due run.wish run.source s r.text r.made) (sym e) r.is_due in
-      due_cuts run.wish run.source r.text r.made due.0
-  | inr w ↦ let e : status.OutOfFuel ≡ status.WriteFault = sym cut ∙ w.0 in cc
-]
+cut_by : (words : List (List ℕ)) (run : Run) (command : Wanted) (text output : List ℕ) (made : List Compiled) → run.wish ≡ wanted_command words → Runs run
+    → run.done.status ≡ status.OutOfFuel → run.wish ≡ Some command → Gives command text status.OutOfFuel output made → IsCut (Some command) run.source run.sink run.done.made
+cut_by words run (compile file) text output made wished r cut is g = absurd (not_cut g.ok)
+cut_by words run (exec call) text output made wished r cut is g = prints_cut call run (items_fit words run.wish call wished is) r is cut
+cut_by words run (interp call) text output made wished r cut is g = prints_outcome call run status.OutOfFuel tt r is cut
 
 pub run_cut : (words : List (List ℕ)) (run : Run) → run.wish ≡ wanted_command words → Runs run → run.done.status ≡ status.OutOfFuel
     → IsCut run.wish run.source run.sink run.done.made
 run_cut words run wished r cut =
-    let c = cuts run r cut in
-    let printed = prints_cut c.0 run (items_fit words run.wish c.0 wished c.1) r c.1 cut in
-    subst (λ (wish : Option Wanted). IsCut wish run.source run.sink run.done.made) (sym c.1) printed
+    let g = result_given run status.OutOfFuel tt r cut in
+    subst (λ (wish : Option Wanted). IsCut wish run.source run.sink run.done.made) (sym g.is) (cut_by words run g.command g.text g.output g.made wished r cut g.is g.gives)
+
+-- and nothing but a run of the source is stuck
+not_stuck : status.Stuck ≡ status.Ok → ⊥
+not_stuck e = cc
+
+not_stuck_run : (x : Ran) (output : List ℕ) → IsToldBy x status.Stuck output → ⊥
+not_stuck_run (ran.Ended text) output t = let e : status.Stuck ≡ status.Ok = t.0 in cc
+not_stuck_run (ran.Cut text) output t = let e : status.Stuck ≡ status.OutOfFuel = t.0 in cc
+
+stuck_by : (run : Run) (command : Wanted) (text output : List ℕ) (made : List Compiled) → Runs run
+    → run.done.status ≡ status.Stuck → run.wish ≡ Some command → Gives command text status.Stuck output made → IsStuck (Some command) run.source run.sink
+stuck_by run (compile file) text output made r stuck is g = absurd (not_stuck g.ok)
+stuck_by run (exec call) text output made r stuck is g = absurd (not_stuck_run g.run.ran output g.run.told)
+stuck_by run (interp call) text output made r stuck is g = prints_outcome call run status.Stuck tt r is stuck
+
+pub run_stuck : (run : Run) → Runs run → run.done.status ≡ status.Stuck → IsStuck run.wish run.source run.sink
+run_stuck run r stuck =
+    let g = result_given run status.Stuck tt r stuck in
+    subst (λ (wish : Option Wanted). IsStuck wish run.source run.sink) (sym g.is) (stuck_by run g.command g.text g.output g.made r stuck g.is g.gives)

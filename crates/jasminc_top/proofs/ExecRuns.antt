@@ -1,6 +1,5 @@
 -- Runs of a function that a text has, on the machine.
-use Rattle.std.proofs.Common.{◌≡◌, ◌∙◌, ℕ, ◌<◌, ◌≤◌, List, length, Option, Some, sym, ap, subst, arith}
-use Rattle.std.specs.FinMap as map_of
+use Rattle.std.proofs.Common.{◌≡◌, ◌∙◌, ℕ, ◌<◌, ◌≤◌, List, length, Option, Some, ap, subst, arith}
 use Rattle.std.specs.Io.KnownBytes.{Appends}
 use Rattle.x64_insn.specs.declared.types.Reg.{Reg}
 use Rattle.jz_first.specs.Memory.{Memory}
@@ -17,7 +16,6 @@ use Rattle.jasminc_exec.specs.Running.{ItemsFit, IsStartMemory, EndsWithin, Runs
 use Rattle.jasminc_exec.specs.declared.exec.Ran.{Ran}
 use Rattle.jasminc_exec.specs.declared.exec.Ran.TheVariants as ran
 use Rattle.jasminc_exec.proofs.StartLaws.{exec_starts, words_meet, ends_within, safe_run}
-use Rattle.jasminc_top.specs.declared.refusal.Status.{Status}
 use Rattle.jasminc_top.specs.declared.refusal.Status.TheVariants as status
 use Rattle.jasminc_top.specs.Making.{Makes}
 use Rattle.jasminc_top.specs.Told.{SourceTold, SinkTold}

@@ -2,31 +2,15 @@
 use Rattle.std.proofs.Common.{◌≡◌, ◌∙◌, ℕ, List, Option, Some, None, refl, sym, subst, inl, inr}
 use Rattle.std.specs.Io.KnownBytes.{Appends}
 use Rattle.jz_listing.specs.declared.compiled.Compiled.{Compiled}
-use Rattle.jasminc_words.specs.Wanted.{Wanted, compile, exec}
+use Rattle.jasminc_words.specs.Wanted.{Wanted, compile, exec, interp}
 use Rattle.jasminc_top.specs.declared.refusal.Status.{Status}
 use Rattle.jasminc_top.specs.declared.refusal.Status.TheVariants as status
-use Rattle.jasminc_top.specs.declared.refusal.Refusal.{Refusal}
-use Rattle.jasminc_top.specs.declared.refusal.Refusal.TheVariants.{Usage, ReadFault, Source, Lex, Parse, Typing, NoFunction, Limit, Alarm, NoPlace, Items}
-use Rattle.jasminc_top.specs.Refusals.{status_of}
 use Rattle.jasminc_top.specs.Told.{SourceTold, SinkTold}
 use Rattle.jasminc_top.specs.Answers.{IsDue, IsDone, Gives, GivesListing}
 use Rattle.jasminc_top.specs.Runs.{Run, Due, Runs}
 use Rattle.jasminc_top.specs.Headline.{PrintsCorrect, Compiles}
+use Rattle.jasminc_top.proofs.Rows.{never_refused}
 use Rattle.jasminc_top.proofs.TypedTexts.{text_correct}
-
--- no refusal has the status of success
-pub never_ok : (r : Refusal) → status.Ok ≡ status_of r → ⊥
-never_ok Usage e = cc
-never_ok ReadFault e = cc
-never_ok Source e = cc
-never_ok (Lex fault) e = cc
-never_ok (Parse fault) e = cc
-never_ok (Typing fault) e = cc
-never_ok (NoFunction name) e = cc
-never_ok (Limit limit) e = cc
-never_ok (Alarm alarm) e = cc
-never_ok (NoPlace refusal) e = cc
-never_ok Items e = cc
 
 pub same_command : (a b : Wanted) → Some a ≡ Some b → a ≡ b
 same_command a b e = cc
@@ -37,7 +21,7 @@ listing_of file text output made x = subst (λ (w : Wanted). Gives w text status
 printed : (file : List ℕ) (told : SourceTold) (sink : SinkTold) (output : List ℕ) (made : List Compiled)
     → IsDue (Some (compile file)) told status.Ok output made → Appends sink.bytes sink.bytes_after output → PrintsCorrect file told sink made
 printed file told sink output made d wrote = elim d.answers [
-  | inl x ↦ absurd (never_ok x.refusal x.status)
+  | inl x ↦ absurd (never_refused x.refusal status.Ok tt x.status)
   | inr x ↦
       let g = listing_of file d.text output made x in
       record {
@@ -71,6 +55,7 @@ compiles_wish : (wish : Option Wanted) (told : SourceTold) (sink : SinkTold) (ma
 compiles_wish None told sink made prints = tt
 compiles_wish (Some (compile file)) told sink made prints = prints file refl
 compiles_wish (Some (exec call)) told sink made prints = tt
+compiles_wish (Some (interp call)) told sink made prints = tt
 
 pub run_compiles : (run : Run) → Runs run → run.done.status ≡ status.Ok → Compiles run.wish run.source run.sink run.done.made
 run_compiles run r ok = compiles_wish run.wish run.source run.sink run.done.made (λ file is. prints_file file run r is ok)

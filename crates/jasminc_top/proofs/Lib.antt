@@ -9,6 +9,8 @@ pub mod ListableTexts
 pub mod Rows
 pub mod Settling
 pub mod Headline
+pub mod InterpCauses
+pub mod InterpHeadline
 pub mod ExecRuns
 pub mod ExecHeadline
 pub mod Promises

@@ -5,13 +5,16 @@ use Rattle.jasminc_top.specs.Runs.{Run, Runs}
 use Rattle.jasminc_top.specs.Promises.{KeepsPromises}
 use Rattle.jasminc_top.proofs.Rows.{run_refused, run_completes, run_comes, run_write_fault, run_reads, run_source_quiet, run_sink_quiet, run_made}
 use Rattle.jasminc_top.proofs.Headline.{run_compiles}
-use Rattle.jasminc_top.proofs.ExecHeadline.{run_executes, run_cut}
+use Rattle.jasminc_top.proofs.InterpHeadline.{run_interprets}
+use Rattle.jasminc_top.proofs.ExecHeadline.{run_executes, run_cut, run_stuck}
 
 pub keeps_promises : (words : List (List ℕ)) (run : Run) → run.wish ≡ wanted_command words → Runs run → KeepsPromises run
 keeps_promises words run wished r = record {
   runs = r;
   compiles = run_compiles run r;
   executes = run_executes words run wished r;
+  interprets = run_interprets run r;
+  stuck = run_stuck run r;
   cut = run_cut words run wished r;
   comes_only = run_comes run r;
   write_fault = run_write_fault run r;

@@ -4,20 +4,34 @@ use Rattle.std.specs.Prelude.{⊤, ◌≢◌}
 use Rattle.jz_io.specs.Causes.{Rose}
 use Rattle.jz_io.specs.Telling.{Telling, text_of, IsWhole}
 use Rattle.jz_listing.specs.declared.compiled.Compiled.{Compiled}
-use Rattle.jasminc_words.specs.Wanted.{Wanted, compile, exec, file_of}
+use Rattle.jasminc_words.specs.Wanted.{Wanted, compile, exec, interp, file_of}
 use Rattle.jasminc_top.specs.declared.refusal.Status.{Status}
 use Rattle.jasminc_top.specs.declared.refusal.Status.TheVariants as status
 use Rattle.jasminc_top.specs.declared.refusal.Refusal.{Refusal}
-use Rattle.jasminc_top.specs.declared.refusal.Refusal.TheVariants.{Usage, ReadFault, Source, Lex, Parse, Typing, NoFunction, Limit, Alarm, NoPlace, Items}
-use Rattle.jasminc_top.specs.Refusals.{status_of, stage_of}
+use Rattle.jasminc_top.specs.declared.refusal.Refusal.TheVariants.{Usage, ReadFault, Interp}
+use Rattle.jasminc_top.specs.Refusals.{status_of_refused, status_of, stage_of}
 use Rattle.jasminc_top.specs.Told.{SourceTold}
 use Rattle.jasminc_exec.specs.declared.exec.Ran.{Ran}
 use Rattle.jasminc_exec.specs.declared.exec.Ran.TheVariants as ran
-use Rattle.jasminc_top.specs.Answers.{Cause, HasText, IsDue, IsUsage, IsNoCommand, IsQuiet, IsToldBy, IsResult, Gives, Faulted}
+use Rattle.jasminc_interp.specs.declared.telling.Ran as source
+use Rattle.jasminc_interp.specs.declared.telling.Ran.TheVariants as source_ran
+use Rattle.jasminc_interp.specs.declared.refused.Refused.{Refused}
+use Rattle.jasminc_interp.specs.declared.refused.Refused.TheVariants as refusing
+use Rattle.jasminc_interp.specs.Causes as interp_causes
+use Rattle.jasminc_top.specs.Answers.{Cause, HasText, IsDue, IsUsage, IsNoCommand, IsQuiet, IsToldBy, IsToldAs, IsResult, Gives}
 use Rattle.jasminc_top.specs.Runs.{Run, Due, Runs, ReadsAll, Refuses, Completes, IsFree, IsGiven, IsEarlier, Tells, IsCaused, ComesOnly, IsTooLong}
+
+run_bounded : (r : Refused) → interp_causes.stage_of r < 10
+run_bounded (refusing.Lex fault) = omega arith
+run_bounded (refusing.Parse fault) = omega arith
+run_bounded (refusing.Typing fault) = omega arith
+run_bounded (refusing.NoFunction name) = omega arith
+run_bounded (refusing.Limit l) = omega arith
+run_bounded refusing.Items = omega arith
 
 bounded : (r : Refusal) → stage_of r < 10
 bounded Usage = omega arith
+bounded (Interp r) = run_bounded r
 bounded _ = omega arith
 
 same_text : (a b : List ℕ) (o : Option (List ℕ)) → o ≡ Some a → o ≡ Some b → a ≡ b
@@ -91,12 +105,22 @@ run_completes run h = elim h.wrote [
 abbrev IsOther : Status → Type 0
 IsOther status.Ok = ⊤
 IsOther status.OutOfFuel = ⊤
+IsOther status.Stuck = ⊤
 IsOther status.Memory = ⊤
 IsOther status.WriteFault = ⊤
 IsOther s = ⊥
 
+no_other_run : (r : Refused) → IsOther (status_of_refused r) → ⊥
+no_other_run (refusing.Lex fault) h = h
+no_other_run (refusing.Parse fault) h = h
+no_other_run (refusing.Typing fault) h = h
+no_other_run (refusing.NoFunction name) h = h
+no_other_run (refusing.Limit l) h = h
+no_other_run refusing.Items h = h
+
 no_other : (r : Refusal) → IsOther (status_of r) → ⊥
 no_other Usage h = h
+no_other (Interp r) h = no_other_run r h
 no_other r h = h
 
 pub never_refused : (r : Refusal) (s : Status) → IsOther s → s ≡ status_of r → ⊥
@@ -106,11 +130,13 @@ never_refused r s h e = no_other r (subst IsOther e h)
 pub never_usage : (wish : Wanted) (text : List ℕ) → Cause (Some wish) text Usage → ⊥
 never_usage (compile file) text c = c
 never_usage (exec call) text c = c
+never_usage (interp call) text c = c
 
 pub never_read_fault : (wish : Option Wanted) (text : List ℕ) → Cause wish text ReadFault → ⊥
 never_read_fault None text c = cc
 never_read_fault (Some (compile file)) text c = c
 never_read_fault (Some (exec call)) text c = c
+never_read_fault (Some (interp call)) text c = c
 
 usage_caused : (wish : Option Wanted) (text : List ℕ) → Cause wish text Usage → wish ≡ None
 usage_caused None text c = refl
@@ -126,13 +152,20 @@ told_result : (ran : Ran) (s : Status) (output : List ℕ) → IsToldBy ran s ou
 told_result (ran.Ended text) s output t = subst IsResult (sym t.0) tt
 told_result (ran.Cut text) s output t = subst IsResult (sym t.0) tt
 
+outcome_result : (x : source.Ran) (s : Status) (output : List ℕ) → IsToldAs x s output → IsResult s
+outcome_result (source_ran.Ended text) s output t = subst IsResult (sym t.0) tt
+outcome_result (source_ran.Cut text) s output t = subst IsResult (sym t.0) tt
+outcome_result (source_ran.Stuck text) s output t = subst IsResult (sym t.0) tt
+
 pub gives_result : (wish : Wanted) (text : List ℕ) (s : Status) (output : List ℕ) (made : List Compiled) → Gives wish text s output made → IsResult s
 gives_result (compile file) text s output made g = subst IsResult (sym g.ok) tt
 gives_result (exec call) text s output made g = told_result g.run.ran s output g.run.told
+gives_result (interp call) text s output made g = outcome_result g.ran s output g.told
 
-result_other : (s : Status) → IsResult s → IsOther s
+pub result_other : (s : Status) → IsResult s → IsOther s
 result_other status.Ok r = tt
 result_other status.OutOfFuel r = tt
+result_other status.Stuck r = tt
 result_other s r = absurd r
 
 due_comes : (wish : Option Wanted) (told : SourceTold) (s : Status) (output : List ℕ) (made : List Compiled) (r : Refusal)
@@ -219,16 +252,21 @@ run_sink_quiet run h = elim h.wrote [
 ]
 
 -- ---- what was made
-no_result : (s : Status) → (s ≡ status.Ok → ⊥) → (s ≡ status.OutOfFuel → ⊥) → IsResult s → ⊥
-no_result status.Ok ok cut r = ok refl
-no_result status.OutOfFuel ok cut r = cut refl
-no_result s ok cut r = r
+run_made_at : (x : Ran) (s : Status) (output : List ℕ) → (s ≡ status.Ok → ⊥) → (s ≡ status.OutOfFuel → ⊥) → IsToldBy x s output → ⊥
+run_made_at (ran.Ended text) s output ok cut t = ok t.0
+run_made_at (ran.Cut text) s output ok cut t = cut t.0
+
+gives_none : (wish : Wanted) (text : List ℕ) (s : Status) (output : List ℕ) (made : List Compiled) → (s ≡ status.Ok → ⊥) → (s ≡ status.OutOfFuel → ⊥)
+    → Gives wish text s output made → made ≡ []
+gives_none (compile file) text s output made ok cut g = absurd (ok g.ok)
+gives_none (exec call) text s output made ok cut g = absurd (run_made_at g.run.ran s output ok cut g.run.told)
+gives_none (interp call) text s output made ok cut g = g.none
 
 due_made : (wish : Option Wanted) (told : SourceTold) (s : Status) (output : List ℕ) (made : List Compiled) → IsDue wish told s output made
     → (s ≡ status.Ok → ⊥) → (s ≡ status.OutOfFuel → ⊥) → made ≡ []
 due_made wish told s output made d ok cut = elim d.answers [
   | inl x ↦ x.none
-  | inr x ↦ absurd (no_result s ok cut (gives_result x.command d.text s output made x.gives))
+  | inr x ↦ gives_none x.command d.text s output made ok cut x.gives
 ]
 
 none_made : (wish : Option Wanted) (told : SourceTold) (s : Status) (text : List ℕ) (made : List Compiled) → Due wish told s text made

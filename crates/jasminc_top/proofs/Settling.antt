@@ -1,5 +1,5 @@
 -- What the answer of all stages is, and what is due by it.
-use Rattle.std.proofs.Common.{◌≡◌, ℕ, ◌<◌, ◌≤◌, List, [], length, refl, sym, subst, arith, inl, inr, Option, Some, None}
+use Rattle.std.proofs.Common.{◌≡◌, ℕ, ◌<◌, ◌≤◌, List, [], length, refl, subst, arith, inl, inr, Option, Some, None}
 use Rattle.std.specs.Prelude.{Result, Ok, Err, codes}
 use Rattle.jz_first.specs.Failure.{Failure}
 use Rattle.jz_first.specs.Failure.TheVariants as failure
@@ -7,16 +7,18 @@ use Rattle.jz_first.specs.Failures.{IfRefused, IfAnswered}
 use Rattle.jz_io.specs.Telling.{IsWhole}
 use Rattle.jz_listing.specs.declared.compiled.Compiled.{Compiled}
 use Rattle.jasminc_top.specs.declared.answer.Reply.{Reply}
-use Rattle.jasminc_top.specs.declared.run.Done.{Done}
 use Rattle.jasminc_top.specs.declared.refusal.Status.{Status}
 use Rattle.jasminc_top.specs.declared.refusal.Status.TheVariants as status
 use Rattle.jasminc_top.specs.declared.refusal.Refusal.{Refusal}
-use Rattle.jasminc_top.specs.declared.refusal.Refusal.TheVariants.{Usage, ReadFault, Source}
-use Rattle.jasminc_words.specs.Wanted.{Wanted, compile, exec, file_of}
-use Rattle.jasminc_top.specs.Refusals.{status_of, line_of, stage_of}
-use Rattle.jasminc_top.specs.Told.{SourceTold, SinkTold}
-use Rattle.jasminc_top.specs.Answers.{source_limit, Cause, Clear, IsUsage, IsFirstCause, HasText, HasFile, IsDue, IsQuiet, IsResult, FileRefuses, After, Performs}
-use Rattle.jasminc_top.specs.Runs.{Run, Due, Runs, Writes, WritesRefusal, WritesNoMemory}
+use Rattle.jasminc_top.specs.declared.refusal.Refusal.TheVariants.{Usage, ReadFault, Source, Interp}
+use Rattle.jasminc_words.specs.Wanted.{Wanted, compile, exec, interp, file_of}
+use Rattle.jasminc_interp.specs.declared.refused.Refused.{Refused}
+use Rattle.jasminc_interp.specs.declared.refused.Refused.TheVariants as refused
+use Rattle.jasminc_interp.specs.Causes as interp_causes
+use Rattle.jasminc_top.specs.Refusals.{status_of_refused, status_of, line_of}
+use Rattle.jasminc_top.specs.Told.{SourceTold}
+use Rattle.jasminc_top.specs.Answers.{source_limit, Cause, Clear, HasText, IsDue, IsQuiet, IsResult, FileRefuses, After, Performs}
+use Rattle.jasminc_top.specs.Runs.{Run, Due, Runs, IsFree, Writes, WritesRefusal, WritesNoMemory}
 use Rattle.jasminc_top.proofs.Rows.{never_usage, never_read_fault, gives_result}
 
 -- ---- a text that was read settles the answer
@@ -31,9 +33,19 @@ settled wish told text (Err failure.OutOfMemory) has whole quiet a = tt
 long_cause : (wish : Wanted) (text : List ℕ) → source_limit < length text → Cause (Some wish) text Source
 long_cause (compile file) text long = long
 long_cause (exec call) text long = long
+long_cause (interp call) text long = long
+
+run_late : (r : Refused) → 1 ≤ interp_causes.stage_of r
+run_late (refused.Lex fault) = omega arith
+run_late (refused.Parse fault) = omega arith
+run_late (refused.Typing fault) = omega arith
+run_late (refused.NoFunction name) = omega arith
+run_late (refused.Limit l) = omega arith
+run_late refused.Items = omega arith
 
 clear_file : (wish : Wanted) (text : List ℕ) → Clear (Cause (Some wish) text) 1
 clear_file wish text Usage lt c = never_usage wish text c
+clear_file wish text (Interp r) lt c = let late = run_late r in absurd (omega (arith, lt, late))
 clear_file wish text r lt c = absurd (omega (arith, lt))
 
 pub file_refused : (wish : Wanted) (told : SourceTold) (r : Refusal) → FileRefuses (file_of wish) told r → Performs (Some wish) told (Err r)
@@ -65,8 +77,33 @@ no_command_settles told quiet = record {
 }
 
 -- ---- what is due by an answer
+-- at a status that is not free it is what the text asks for
+plain_due : (wish : Option Wanted) (told : SourceTold) (s : Status) (output : List ℕ) (made : List Compiled) → (IsFree s → ⊥) → IsDue wish told s output made → IsQuiet told
+    → Due wish told s output made
+plain_due wish told status.ReadFault output made bound due quiet = absurd (bound tt)
+plain_due wish told status.Memory output made bound due quiet = absurd (bound tt)
+plain_due wish told status.WriteFault output made bound due quiet = absurd (bound tt)
+plain_due wish told s output made bound due quiet = (due, quiet)
+
+run_bound : (r : Refused) → IsFree (status_of_refused r) → ⊥
+run_bound (refused.Lex fault) h = h
+run_bound (refused.Parse fault) h = h
+run_bound (refused.Typing fault) h = h
+run_bound (refused.NoFunction name) h = h
+run_bound (refused.Limit l) h = h
+run_bound refused.Items h = h
+
 refusal_due : (wish : Option Wanted) (told : SourceTold) (r : Refusal) → Performs wish told (Err r) → Due wish told (status_of r) (line_of r) []
 refusal_due wish told ReadFault p = (refl, refl, p)
+refusal_due wish told (Interp r) p =
+    plain_due wish told (status_of_refused r) (line_of (Interp r)) [] (run_bound r)
+    (record {
+      text = p.text;
+      has = p.has;
+      answers = inl (record { refusal = Interp r; cause = p.after.cause; first = p.after.first; status = refl; line = refl; none = refl });
+      read = p.read;
+    })
+    p.quiet
 refusal_due wish told r p = (
   record {
     text = p.text;
@@ -81,6 +118,7 @@ result_due : (wish : Option Wanted) (told : SourceTold) (s : Status) (output : L
     → Due wish told s output made
 result_due wish told status.Ok output made r due quiet = (due, quiet)
 result_due wish told status.OutOfFuel output made r due quiet = (due, quiet)
+result_due wish told status.Stuck output made r due quiet = (due, quiet)
 result_due wish told s output made r due quiet = absurd r
 
 pub reply_due : (wish : Option Wanted) (told : SourceTold) (reply : Reply) → Performs wish told (Ok reply) → Due wish told reply.status reply.text reply.made

@@ -15,7 +15,11 @@ use Rattle.jz_pipeline.specs.Placed.{IsUnplaced}
 use Rattle.jz_pipeline.specs.Stages.{IsFirstRefusal, FirstLimit, FirstAlarm, FirstUnplaced}
 use Rattle.jz_listing.specs.Listing.{listing_text}
 use Rattle.jz_listing.specs.declared.compiled.Compiled.{Compiled}
-use Rattle.jasminc_words.specs.Wanted.{Called, Wanted, compile, exec, file_of}
+use Rattle.jasminc_words.specs.Wanted.{Called, Wanted, compile, exec, interp, file_of}
+use Rattle.jasminc_interp.specs.Causes as runs
+use Rattle.jasminc_interp.specs.Answers as answers
+use Rattle.jasminc_interp.specs.declared.telling.Ran as source
+use Rattle.jasminc_interp.specs.declared.telling.Ran.TheVariants as source_ran
 use Rattle.jasminc_exec.specs.Running.{IsSafe, RunsTo}
 use Rattle.jasminc_exec.specs.declared.exec.Ran.{Ran}
 use Rattle.jasminc_exec.specs.declared.exec.Ran.TheVariants as ran
@@ -28,6 +32,7 @@ use Rattle.jasminc_top.specs.declared.refusal.Refusal.{Refusal}
 use Rattle.jasminc_top.specs.declared.refusal.Refusal.TheVariants.{Usage, ReadFault, Source}
 use Rattle.jasminc_top.specs.declared.refusal.Refusal.TheVariants.{Lex, Parse, Typing, NoFunction}
 use Rattle.jasminc_top.specs.declared.refusal.Refusal.TheVariants.{Limit, Alarm, NoPlace, Items}
+use Rattle.jasminc_top.specs.declared.refusal.Refusal.TheVariants.{Interp}
 use Rattle.jasminc_top.specs.declared.answer.Reply.{Reply}
 
 -- the longest text that is read
@@ -89,6 +94,12 @@ ExecCause fun items text (NoFunction name) = HasNoFunction text fun name
 ExecCause fun items text Items = HasOtherItems text fun items
 ExecCause fun items text r = TextCause text r
 
+-- why a function of a text in the whole language is not run
+abbrev pub InterpCause : Called → List ℕ → Refusal → Type 0
+InterpCause call text Source = source_limit < length text
+InterpCause call text (Interp r) = runs.Cause text call.fun call.items r
+InterpCause call text r = ⊥
+
 -- words that are no command have one cause, whatever the text
 abbrev pub IsUsage : Refusal → Type 0
 IsUsage r = r ≡ Usage
@@ -98,6 +109,7 @@ abbrev pub Cause : Option Wanted → List ℕ → Refusal → Type 0
 Cause None text = IsUsage
 Cause (Some (compile file)) text = TextCause text
 Cause (Some (exec call)) text = ExecCause call.fun call.items text
+Cause (Some (interp call)) text = InterpCause call text
 
 -- no stage before this one has a cause
 abbrev pub Clear : (Refusal → Type 0) → ℕ → Type 0
@@ -144,14 +156,30 @@ pub record GivesRun (text : List ℕ) (call : Called) (s : Status) (output : Lis
   pub makes : Makes text program made
   pub run : RunsOne call s output made
 
+-- what is told of a run of the source is an answer with this status
+abbrev pub IsToldAs : source.Ran → Status → List ℕ → Type 0
+IsToldAs (source_ran.Ended text) s output = (s ≡ status.Ok) × (output ≡ text)
+IsToldAs (source_ran.Cut text) s output = (s ≡ status.OutOfFuel) × (output ≡ text)
+IsToldAs (source_ran.Stuck text) s output = (s ≡ status.Stuck) × (output ≡ text)
+
+-- the run of an export function of the text's program, in the whole language; nothing is made
+pub record GivesOutcome (text : List ℕ) (call : Called) (s : Status) (output : List ℕ)
+    (made : List Compiled) : Type 0 where
+  pub ran : source.Ran
+  pub gives : answers.Gives text call.fun call.items call.fuel ran
+  pub told : IsToldAs ran s output
+  pub none : made ≡ []
+
 abbrev pub Gives : Wanted → List ℕ → Status → List ℕ → List Compiled → Type 0
 Gives (compile file) text s output made = GivesListing text s output made
 Gives (exec call) text s output made = GivesRun text call s output made
+Gives (interp call) text s output made = GivesOutcome text call s output made
 
 -- the statuses of what a command gives
 abbrev pub IsResult : Status → Type 0
 IsResult status.Ok = ⊤
 IsResult status.OutOfFuel = ⊤
+IsResult status.Stuck = ⊤
 IsResult s = ⊥
 
 -- ---- what is due

@@ -11,12 +11,16 @@ use Rattle.jz_correct.specs.Ends.{EndsAfter}
 use Rattle.jz_correct.specs.Starts.{MeetsPreconditions, IsStart}
 use Rattle.jz_correct.specs.Correctness.{IsCorrect, AreCorrect}
 use Rattle.x64_machine.specs.Steps.{steps_of}
-use Rattle.jasminc_words.specs.Wanted.{Called, Wanted, compile, exec}
+use Rattle.jasminc_words.specs.Wanted.{Called, Wanted, compile, exec, interp}
+use Rattle.jasminc_interp.specs.Answers as answers
+use Rattle.jasminc_interp.specs.declared.telling.Ran as source
 use Rattle.jasminc_top.specs.Making.{TypesAs}
 use Rattle.jasminc_exec.specs.Running.{code_base, return_slot, IsStartMemory, exec_start}
 use Rattle.jasminc_exec.specs.Running.{RunsStill, run_text, cut_text}
 use Rattle.jasminc_top.specs.Told.{SourceTold, SinkTold}
-use Rattle.jasminc_top.specs.Answers.{HasFile, function_named, compiled_named}
+use Rattle.jasminc_top.specs.Answers.{HasFile, function_named, compiled_named, IsToldAs}
+use Rattle.jasminc_top.specs.declared.refusal.Status.{Status}
+use Rattle.jasminc_top.specs.declared.refusal.Status.TheVariants as status
 
 -- The file's text reads as a program that is typed, what is made has a correct function for each of
 -- its functions, in the order of the text, and their listing was written and nothing else.
@@ -34,6 +38,7 @@ abbrev pub Compiles : Option Wanted → SourceTold → SinkTold → List Compile
 Compiles None told sink made = ⊤
 Compiles (Some (compile file)) told sink made = PrintsCorrect file told sink made
 Compiles (Some (exec call)) told sink made = ⊤
+Compiles (Some (interp call)) told sink made = ⊤
 
 -- The function of that name is compiled correctly, the items meet its preconditions, and `exec`
 -- starts it at a start on these items and a memory of the return slot alone.
@@ -86,9 +91,39 @@ abbrev pub Executes : Option Wanted → SourceTold → SinkTold → List Compile
 Executes None told sink made = ⊤
 Executes (Some (compile file)) told sink made = ⊤
 Executes (Some (exec call)) told sink made = PrintsRun call told sink made
+Executes (Some (interp call)) told sink made = ⊤
 
--- the same where a run was cut, as no run of another command is
+-- The file's text reads as a program in the whole language that is typed, its export functions are
+-- within the limits of expansion, and what was written is what this status tells of the run of the
+-- export function of that name on the items, with at most so many true tests of `while`; and
+-- nothing else.
+pub record PrintsOutcome (call : Called) (told : SourceTold) (sink : SinkTold) (s : Status) : Type 0
+  where
+    pub text : List ℕ
+    pub has : HasFile call.file told.files text
+    pub ran : source.Ran
+    pub gives : answers.IsDone text call.fun call.items call.fuel ran
+    pub output : List ℕ
+    pub tells : IsToldAs ran s output
+    pub wrote : Appends sink.bytes sink.bytes_after output
+
+-- the same of a command that succeeds; it speaks of `interp` alone
+abbrev pub Interprets : Option Wanted → SourceTold → SinkTold → Type 0
+Interprets None told sink = ⊤
+Interprets (Some (compile file)) told sink = ⊤
+Interprets (Some (exec call)) told sink = ⊤
+Interprets (Some (interp call)) told sink = PrintsOutcome call told sink status.Ok
+
+-- a run that is stuck, as none but one of `interp` is
+abbrev pub IsStuck : Option Wanted → SourceTold → SinkTold → Type 0
+IsStuck None told sink = ⊥
+IsStuck (Some (compile file)) told sink = ⊥
+IsStuck (Some (exec call)) told sink = ⊥
+IsStuck (Some (interp call)) told sink = PrintsOutcome call told sink status.Stuck
+
+-- a run that was cut, as none but one of `exec` and `interp` is
 abbrev pub IsCut : Option Wanted → SourceTold → SinkTold → List Compiled → Type 0
 IsCut None told sink made = ⊥
 IsCut (Some (compile file)) told sink made = ⊥
 IsCut (Some (exec call)) told sink made = PrintsCut call told sink made
+IsCut (Some (interp call)) told sink made = PrintsOutcome call told sink status.OutOfFuel

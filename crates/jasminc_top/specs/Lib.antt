@@ -1,4 +1,5 @@
 pub mod Lines
+pub mod InterpLines
 pub mod Refusals
 pub mod Making
 pub mod Told

@@ -4,7 +4,7 @@ use Rattle.jz_io.specs.Causes.{Rose}
 use Rattle.jasminc_top.specs.Refusals.{status_of}
 use Rattle.jasminc_top.specs.Answers.{IsQuiet}
 use Rattle.jasminc_top.specs.Runs.{Run, Runs, ComesOnly, Refuses, Completes, ReadsAll, IsFree}
-use Rattle.jasminc_top.specs.Headline.{Compiles, Executes, IsCut}
+use Rattle.jasminc_top.specs.Headline.{Compiles, Executes, Interprets, IsStuck, IsCut}
 use Rattle.jasminc_top.specs.declared.refusal.Refusal.{Refusal}
 use Rattle.jasminc_top.specs.declared.refusal.Status.TheVariants as status
 
@@ -16,8 +16,13 @@ pub record KeepsPromises (run : Run) : Type 0 where
   -- What `exec` prints at Ok is the run of a correct function on the machine, from a start on the
   -- items.
   pub executes : run.done.status ≡ status.Ok → Executes run.wish run.source run.sink run.done.made
-  -- What `exec` prints at OutOfFuel is such a run up to as many steps as it may take, and it is
-  -- still running there. With 1,000,000 steps or more none is cut.
+  -- What `interp` prints at Ok is the end of the source run with as many turns as it may take; at
+  -- Stuck it is where that run is stuck and why, and no other command ends so.
+  pub interprets : run.done.status ≡ status.Ok → Interprets run.wish run.source run.sink
+  pub stuck : run.done.status ≡ status.Stuck → IsStuck run.wish run.source run.sink
+  -- What `exec` prints at OutOfFuel is a run up to as many steps as it may take, and it is still
+  -- running there; with 1,000,000 steps or more none is cut. What `interp` prints there is that the
+  -- source run is cut at as many turns as it may take. No other command ends so.
   pub cut : run.done.status ≡ status.OutOfFuel → IsCut run.wish run.source run.sink run.done.made
   -- The status of a refusal comes only with its cause, and that of a write fault with one.
   pub comes_only : (r : Refusal)

@@ -6,8 +6,21 @@ use Rattle.jasminc_top.specs.declared.refusal.Refusal.{Refusal}
 use Rattle.jasminc_top.specs.declared.refusal.Refusal.TheVariants.{Usage, ReadFault, Source}
 use Rattle.jasminc_top.specs.declared.refusal.Refusal.TheVariants.{Lex, Parse, Typing, NoFunction}
 use Rattle.jasminc_top.specs.declared.refusal.Refusal.TheVariants.{Limit, Alarm, NoPlace, Items}
+use Rattle.jasminc_top.specs.declared.refusal.Refusal.TheVariants.{Interp}
+use Rattle.jasminc_interp.specs.declared.refused.Refused.{Refused}
+use Rattle.jasminc_interp.specs.declared.refused.Refused.TheVariants as refused
+use Rattle.jasminc_interp.specs.Causes as interp
+use Rattle.jasminc_top.specs.InterpLines.{refused_text}
 use Rattle.jasminc_top.specs.Lines.{lexer_line, parser_line, type_line}
 use Rattle.jasminc_top.specs.Lines.{limit_line, alarm_line, no_place_line}
+
+abbrev pub status_of_refused : Refused → Status
+status_of_refused (refused.Lex fault) = status.Syntax
+status_of_refused (refused.Parse fault) = status.Syntax
+status_of_refused (refused.Typing fault) = status.Typing
+status_of_refused (refused.NoFunction name) = status.NoFunction
+status_of_refused (refused.Limit l) = status.Limit
+status_of_refused refused.Items = status.Precondition
 
 abbrev pub status_of : Refusal → Status
 status_of Usage = status.Usage
@@ -21,6 +34,7 @@ status_of (Limit limit) = status.Limit
 status_of (Alarm alarm) = status.Alarm
 status_of (NoPlace refusal) = status.NoPlace
 status_of Items = status.Precondition
+status_of (Interp r) = status_of_refused r
 
 -- the line without its line feed
 abbrev pub cause_text : Refusal → List ℕ
@@ -35,6 +49,7 @@ cause_text (Limit limit) = limit_line limit
 cause_text (Alarm alarm) = alarm_line alarm
 cause_text (NoPlace refusal) = no_place_line refusal
 cause_text Items = codes "precondition items"
+cause_text (Interp r) = refused_text r
 
 abbrev pub line_of : Refusal → List ℕ
 line_of r = cause_text r ++ codes "\n"
@@ -53,6 +68,7 @@ stage_of (Limit limit) = 6
 stage_of (Alarm alarm) = 7
 stage_of (NoPlace refusal) = 8
 stage_of Items = 9
+stage_of (Interp r) = interp.stage_of r
 
 -- one past the last stage
 abbrev pub all_stages : ℕ

@@ -1,21 +1,24 @@
 //! From the words and the source to what is due: a reply, or a refusal.
 
-ghost use Rattle.std.specs.Prelude.{◌≡◌, ◌≤◌, All, Some, IfOk, IfErr, OnOk, IsErrOf, length};
+ghost use Rattle.std.specs.Prelude.{◌≡◌, ◌≤◌, [], All, Some, IfOk, IfErr, OnOk, IsErrOf, length};
 ghost use Rattle.std.specs.Option.{option_copied};
 ghost use Rattle.jz_first.specs.Failures.{IfRefused, IfAnswered};
 ghost use Rattle.jz_io.specs.Telling.{IsWhole};
-ghost use Rattle.jasminc_words.specs.Wanted.{compile, exec, texts_of, called_of, wanted_of};
+ghost use Rattle.jasminc_words.specs.Wanted.{compile, exec, interp, texts_of};
+ghost use Rattle.jasminc_words.specs.Wanted.{called_of, wanted_of};
 ghost use Rattle.jasminc_words.specs.Wanted.{wanted_command};
 ghost use Rattle.jasminc_top.specs.Making.{TypesAs, IsWritten, AreMade};
 ghost use Rattle.jasminc_top.specs.Told.{source_told};
 ghost use Rattle.jasminc_top.specs.Answers.{source_limit, function_named, compiled_named};
 ghost use Rattle.jasminc_top.specs.Answers.{IsShortFile, IsLongFile, IsReadFault, FileRefuses};
 ghost use Rattle.jasminc_top.specs.Answers.{ReadingRefuses, MakingRefuses, RunsOne};
-ghost use Rattle.jasminc_top.specs.Answers.{IsSafeOne, After, Performs};
+ghost use Rattle.jasminc_top.specs.Answers.{IsSafeOne, IsToldAs, After, Performs};
 
 use crate::refusal::{Refusal, Status};
 use crate::stage::as_refusal;
 use jasminc_exec::{Ran, exec_text, items_are_words};
+use jasminc_interp as source;
+use jasminc_interp::interp_text;
 use jasminc_words::{Call, Request, request_of};
 use jz_first::{Failure, Fun, Seq, Text, Typed, check, parse_first};
 use jz_grammar::lex;
@@ -164,6 +167,33 @@ fn exec_reply(alloc: Global, call: &Call<'_>, text: &[u8]) -> Result<Reply, Fail
     Ok(run_reply(alloc, made, call)?)
 }
 
+/// What a run of the source is told by. Nothing was made for it.
+fn outcome_reply(alloc: Global, ran: source::Ran) -> Reply
+    ensures told { IsToldAs ran result.status result.text }
+    ensures none { result.made ≡ [] }
+{
+    let (status, text) = match ran {
+        source::Ran::Ended(text) => (Status::Ok, text),
+        source::Ran::Cut(text) => (Status::OutOfFuel, text),
+        source::Ran::Stuck(text) => (Status::Stuck, text),
+    };
+    Reply {
+        status,
+        text,
+        made: Seq::new(alloc),
+    }
+}
+
+/// The run of a function of a text in the whole language.
+fn interp_reply(alloc: Global, call: &Call<'_>, text: &[u8]) -> Result<Reply, Failure<Refusal>>
+    requires { length text.now ≤ source_limit }
+    ensures { IfAnswered result (After (Some (interp (called_of call.now))) text.now) }
+{
+    let answer = interp_text(alloc, text, call.fun, &call.items, call.fuel);
+    let ran = as_refusal(answer, Refusal::Interp)?;
+    Ok(outcome_reply(alloc, ran))
+}
+
 /// A request, from the reading on.
 fn perform<S: Source>(
     alloc: Global,
@@ -177,6 +207,7 @@ fn perform<S: Source>(
     match request {
         Request::Compile { file } => compile_text(alloc, file, text.as_slice()),
         Request::Exec(call) => exec_reply(alloc, &call, text.as_slice()),
+        Request::Interp(call) => interp_reply(alloc, &call, text.as_slice()),
     }
 }
 

@@ -3,6 +3,7 @@
 
 mod answer;
 pub mod correctness;
+mod interp_lines;
 mod lines;
 mod refusal;
 mod run;

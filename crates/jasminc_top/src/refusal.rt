@@ -1,11 +1,13 @@
 //! The statuses of the program, and the answers other than Ok with their lines.
 
 ghost use Rattle.std.specs.Prelude.{◌≡◌, ◌++◌, IfOk, OnOk, codes, decimal};
-ghost use Rattle.jasminc_top.specs.Refusals.{status_of, cause_text, line_of};
+ghost use Rattle.jasminc_top.specs.Refusals.{status_of_refused, status_of, cause_text, line_of};
 
+use crate::interp_lines::write_refused;
 use crate::lines::{
     write_alarm, write_lex_fault, write_limit, write_no_place, write_syntax_fault, write_type_fault,
 };
+use jasminc_interp::Refused;
 use jz_first::{Text, TypeFault};
 use jz_grammar::{LexFault, SyntaxFault};
 use jz_pipeline::{Limit, NoPlace};
@@ -58,6 +60,21 @@ pub enum Refusal {
     NoPlace(NoPlace),
     /// There is another number of items than of parameters.
     Items,
+    /// A function of a text in the whole language is not run.
+    Interp(Refused),
+}
+
+/// The status of a function that is not run.
+fn status_of_refused(refused: &Refused) -> Status
+    ensures { result ≡ status_of_refused refused.now }
+{
+    match refused {
+        Refused::Lex(_) | Refused::Parse(_) => Status::Syntax,
+        Refused::Typing(_) => Status::Typing,
+        Refused::NoFunction(_) => Status::NoFunction,
+        Refused::Limit(_) => Status::Limit,
+        Refused::Items => Status::Precondition,
+    }
 }
 
 impl Refusal {
@@ -75,6 +92,7 @@ impl Refusal {
             Refusal::Alarm(_) => Status::Alarm,
             Refusal::NoPlace(_) => Status::NoPlace,
             Refusal::Items => Status::Precondition,
+            Refusal::Interp(refused) => status_of_refused(refused),
         }
     }
 
@@ -97,6 +115,7 @@ impl Refusal {
             Refusal::Alarm(alarm) => write_alarm(line, alarm),
             Refusal::NoPlace(refusal) => write_no_place(line, refusal),
             Refusal::Items => line.extend_from_slice(b"precondition items"),
+            Refusal::Interp(refused) => write_refused(line, refused),
         }
     }
 

@@ -1,7 +1,7 @@
 -- Words that are commands, and words that are none.
-use Rattle.std.proofs.Common.{◌≡◌, List, [], ◌∷◌, ℕ, Some, None, refl, codes}
+use Rattle.std.proofs.Common.{◌≡◌, [], ◌∷◌, Some, None, refl, codes}
 use Rattle.clap.proofs.OnLiterals.{clap_on_literals}
-use Rattle.jasminc_words.specs.Wanted.{compile, exec, wanted_command}
+use Rattle.jasminc_words.specs.Wanted.{compile, exec, interp, wanted_command}
 
 pub a_file : wanted_command (codes "jasminc" ∷ codes "compile" ∷ codes "a" ∷ []) ≡ Some (compile (codes "a"))
 unfolding wanted_command clap_on_literals
@@ -15,8 +15,8 @@ pub no_words : wanted_command [] ≡ None
 unfolding wanted_command clap_on_literals
 no_words = refl
 
-pub a_run : wanted_command (codes "jasminc" ∷ codes "exec" ∷ codes "a" ∷ codes "f" ∷ codes "2" ∷ codes "0x0B" ∷ codes "--fuel" ∷ codes "5" ∷ [])
-    ≡ Some (exec (record { file = codes "a"; fun = codes "f"; items = 2 ∷ 11 ∷ []; fuel = 5 }))
+pub a_run : wanted_command (codes "jasminc" ∷ codes "interp" ∷ codes "a" ∷ codes "f" ∷ codes "2" ∷ codes "0x0B" ∷ codes "--fuel" ∷ codes "5" ∷ [])
+    ≡ Some (interp (record { file = codes "a"; fun = codes "f"; items = 2 ∷ 11 ∷ []; fuel = 5 }))
 unfolding wanted_command clap_on_literals
 a_run = refl
 

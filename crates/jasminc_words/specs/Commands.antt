@@ -56,4 +56,5 @@ bare_app = let a = new_app (codes "jasminc") in record a {
 
 abbrev pub jasminc_app : App
 jasminc_app =
-    with_subcommand (with_subcommand bare_app compile_app.top) (run_app (codes "exec")).top
+    with_subcommand (with_subcommand (with_subcommand bare_app compile_app.top)
+    (run_app (codes "exec")).top) (run_app (codes "interp")).top

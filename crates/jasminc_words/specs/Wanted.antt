@@ -22,10 +22,12 @@ pub record Called : Type 0 where
 pub data Wanted : Type 0 where
   compile : List ℕ → Wanted
   exec : Called → Wanted
+  interp : Called → Wanted
 
 abbrev pub file_of : Wanted → List ℕ
 file_of (compile file) = file
 file_of (exec call) = call.file
+file_of (interp call) = call.file
 
 abbrev pub texts_of : List (String Global) → List (List ℕ)
 texts_of words = map string_bytes words
@@ -37,6 +39,7 @@ called_of c = record { file = c.file.now; fun = c.fun.now; items = c.items; fuel
 abbrev pub wanted_of : Request → Wanted
 wanted_of (request.Compile file) = compile file.now
 wanted_of (request.Exec call) = exec (called_of call)
+wanted_of (request.Interp call) = interp (called_of call)
 
 -- ---- what matches ask for
 -- without `--fuel`
@@ -70,7 +73,8 @@ compile_in rows = option_map compile (first_of (codes "FILE") rows)
 abbrev pub named : Text → List Row → Option Wanted
 named name rows =
     if bytes_eq name (codes "compile") then compile_in rows
-    else (if bytes_eq name (codes "exec") then option_map exec (call_in rows) else None)
+    else (if bytes_eq name (codes "exec") then option_map exec (call_in rows)
+    else (if bytes_eq name (codes "interp") then option_map interp (call_in rows) else None))
 
 abbrev pub wanted_in : Option (Text × List Row) → Option Wanted
 wanted_in rows = option_and_then (λ p. named p.0 p.1) rows
@@ -94,3 +98,4 @@ HasFit call = ItemsFit call.items × (call.fuel < 2 ^ 64)
 abbrev pub HasNumbers : Wanted → Type 0
 HasNumbers (compile file) = ⊤
 HasNumbers (exec call) = HasFit call
+HasNumbers (interp call) = HasFit call

@@ -71,7 +71,8 @@ fn jasminc<'a>(alloc: Global) -> Result<Command<'a>, AllocError>
 {
     let top = bare(alloc);
     let with_compile = top.subcommand(compile(alloc)?)?;
-    with_compile.subcommand(run(alloc, "exec")?)
+    let with_exec = with_compile.subcommand(run(alloc, "exec")?)?;
+    with_exec.subcommand(run(alloc, "interp")?)
 }
 
 /// There are matches exactly where no step of the command's parse fails.

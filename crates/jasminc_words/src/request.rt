@@ -3,7 +3,7 @@
 ghost use Rattle.std.specs.Prelude.{◌≡◌, IfOk, map};
 ghost use Rattle.std.specs.Option.{option_map};
 ghost use Rattle.clap.specs.Words.{rows_of, found_of, first_of, all_of, subcommand_rows_of};
-ghost use Rattle.jasminc_words.specs.Wanted.{exec, file_of, texts_of, called_of, wanted_of};
+ghost use Rattle.jasminc_words.specs.Wanted.{exec, interp, file_of, texts_of, called_of, wanted_of};
 ghost use Rattle.jasminc_words.specs.Wanted.{fuel_in, items_in, call_in, compile_in, wanted_in};
 ghost use Rattle.jasminc_words.specs.Wanted.{wanted_command};
 
@@ -31,6 +31,8 @@ pub enum Request<'a> {
     Compile { file: &'a str },
     /// A run of the compiled bytes.
     Exec(Call<'a>),
+    /// A run of the source.
+    Interp(Call<'a>),
 }
 
 impl<'a> Request<'a> {
@@ -41,6 +43,7 @@ impl<'a> Request<'a> {
         match self {
             Request::Compile { file } => file,
             Request::Exec(call) => call.file,
+            Request::Interp(call) => call.file,
         }
     }
 }
@@ -124,6 +127,19 @@ fn exec_request<'a>(
     }
 }
 
+fn interp_request<'a>(
+    alloc: Global,
+    inner: &ArgMatches<'a>,
+) -> Result<Option<Request<'a>>, AllocError>
+    ensures { IfOk result (λ request. option_map wanted_of request
+        ≡ option_map interp (call_in (rows_of (found_of inner.now)))) }
+{
+    match call_in(alloc, inner)? {
+        None => Ok(None),
+        Some(call) => Ok(Some(Request::Interp(call))),
+    }
+}
+
 /// What matches ask for.
 fn asked<'a>(alloc: Global, matches: &ArgMatches<'a>) -> Result<Option<Request<'a>>, AllocError>
     ensures { IfOk result (λ request. option_map wanted_of request
@@ -132,6 +148,7 @@ fn asked<'a>(alloc: Global, matches: &ArgMatches<'a>) -> Result<Option<Request<'
     match matches.subcommand() {
         Some(("compile", inner)) => Ok(compile_request(inner)),
         Some(("exec", inner)) => exec_request(alloc, inner),
+        Some(("interp", inner)) => interp_request(alloc, inner),
         _ => Ok(None),
     }
 }

@@ -7,4 +7,5 @@ use Rattle.jasminc_words.proofs.command.jasminc.Goals as goal
 pub returns : goal.returns
 returns c =
     let one = adds bare_app compile_app _ _ _ c.bare-top.ensures c.in_ok-compile.ensures c.in_ok-with_compile.ensures in
-    IfOk-weaker c.subcommand-2.result _ _ (λ r h. adds _ (run_app (codes "exec")) _ _ r one c.in_ok-run.ensures h) c.subcommand-2.ensures
+    let two = adds _ (run_app (codes "exec")) _ _ _ one c.in_ok-run.ensures c.in_ok-with_exec.ensures in
+    IfOk-weaker c.subcommand-3.result _ _ (λ r h. adds _ (run_app (codes "interp")) _ _ r two c.in_ok-run-2.ensures h) c.subcommand-3.ensures

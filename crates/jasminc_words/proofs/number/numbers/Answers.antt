@@ -1,4 +1,4 @@
-use Rattle.std.proofs.Common.{◌∙◌, sym, refl, rules, arith}
+use Rattle.std.proofs.Common.{◌∙◌, sym, refl, rules}
 use Rattle.jasminc_words.proofs.Numerals.{next_number}
 use Rattle.jasminc_words.proofs.number.numbers.Goals as goal
 

@@ -1,0 +1,177 @@
+-- Which cause is the first, and when none stands.
+use Rattle.std.proofs.Common.{◌≡◌, ℕ, ◌<◌, List, length, ◌∙◌, arith, Some, None, subst, ap, refl, sym}
+use Rattle.std.specs.Prelude.{All, Err}
+use Rattle.jz_tree.specs.Failure.{Failure}
+use Rattle.jz_tree.specs.Failure.TheVariants as failure
+use Rattle.jz_tree.specs.Failures.{IfRefused, IfAnswered}
+use Rattle.jz_tree.specs.declared.program.Fun.{Fun}
+use Rattle.jz_tree.specs.declared.program.Program.{Program}
+use Rattle.jz_grammar.specs.LexFault.{LexFault}
+use Rattle.jz_grammar.specs.declared.fault.SyntaxFault.{SyntaxFault}
+use Rattle.jz_parse.specs.Reading.{LexFails, ParseFails}
+use Rattle.jz_types.specs.declared.fault.TypeFault.{TypeFault}
+use Rattle.jasminc_interp.specs.declared.refused.FunLimit.{FunLimit}
+use Rattle.jasminc_interp.specs.declared.refused.Refused.{Refused}
+use Rattle.jasminc_interp.specs.declared.refused.Refused.TheVariants.{Lex, Parse, Typing, NoFunction, Limit, Items}
+use Rattle.jasminc_interp.specs.declared.telling.Ran.{Ran}
+use Rattle.jasminc_interp.specs.Texts.{TypesAs, FailsTyping}
+use Rattle.jasminc_interp.specs.Exports.{export_named, WithinIfExported, HasLimit}
+use Rattle.jasminc_interp.specs.Runs.{RunsOn}
+use Rattle.jasminc_interp.specs.Causes.{HasNoExport, PassesLimit, HasOtherItems, Cause, ReadingRefuses, stage_of, Clear, IsFirstCause}
+use Rattle.jasminc_interp.specs.Answers.{all_stages, Answers, IsDone}
+use Rattle.jasminc_interp.proofs.Causing.{reads_no_lex, reads_no_parse, fails_no_lex, types_one, types_no_fault}
+use Rattle.jasminc_interp.proofs.Limiting.{none_passes}
+use Rattle.jasminc_interp.proofs.Told.{same_fun}
+
+-- ---- what excludes the causes before a stage
+pub record Excludes (text fun items : List ℕ) (n : ℕ) : Type 0 where
+  pub lexer : (f : LexFault) → 2 < n → LexFails text f → ⊥
+  pub parser : (f : SyntaxFault) → 3 < n → ParseFails text f → ⊥
+  pub typing : (f : TypeFault) → 4 < n → FailsTyping text f → ⊥
+  pub named : (name : List ℕ) → 5 < n → HasNoExport text fun name → ⊥
+  pub limits : (l : FunLimit) → 6 < n → PassesLimit text l → ⊥
+  pub counted : 9 < n → HasOtherItems text fun items → ⊥
+
+cleared : (text fun items : List ℕ) (n : ℕ) → Excludes text fun items n → Clear text fun items n
+cleared text fun items n e (Lex f) lt c = e.lexer f lt c
+cleared text fun items n e (Parse f) lt c = e.parser f lt c
+cleared text fun items n e (Typing f) lt c = e.typing f lt c
+cleared text fun items n e (NoFunction name) lt c = e.named name lt c
+cleared text fun items n e (Limit l) lt c = e.limits l lt c
+cleared text fun items n e Items lt c = e.counted lt c
+
+first_with : (text fun items : List ℕ) (r : Refused) → Cause text fun items r → Excludes text fun items (stage_of r) → IsFirstCause text fun items r
+first_with text fun items r c e = record { cause = c; first = cleared text fun items (stage_of r) e }
+
+module _ (text fun items : List ℕ) where
+  -- ---- a text without a typed program
+  before_lexer : Excludes text fun items 2
+  before_lexer = record {
+    lexer = λ f lt c. absurd (omega (arith, lt));
+    parser = λ f lt c. absurd (omega (arith, lt));
+    typing = λ f lt c. absurd (omega (arith, lt));
+    named = λ name lt c. absurd (omega (arith, lt));
+    limits = λ l lt c. absurd (omega (arith, lt));
+    counted = λ lt c. absurd (omega (arith, lt));
+  }
+
+  before_parser : (g : SyntaxFault) → ParseFails text g → Excludes text fun items 3
+  before_parser g h = record {
+    lexer = λ f lt c. fails_no_lex text g f h c;
+    parser = λ f lt c. absurd (omega (arith, lt));
+    typing = λ f lt c. absurd (omega (arith, lt));
+    named = λ name lt c. absurd (omega (arith, lt));
+    limits = λ l lt c. absurd (omega (arith, lt));
+    counted = λ lt c. absurd (omega (arith, lt));
+  }
+
+  before_typing : (g : TypeFault) → FailsTyping text g → Excludes text fun items 4
+  before_typing g h = record {
+    lexer = λ f lt c. reads_no_lex text h.program f h.reads c;
+    parser = λ f lt c. reads_no_parse text h.program f h.reads c;
+    typing = λ f lt c. absurd (omega (arith, lt));
+    named = λ name lt c. absurd (omega (arith, lt));
+    limits = λ l lt c. absurd (omega (arith, lt));
+    counted = λ lt c. absurd (omega (arith, lt));
+  }
+
+  reading_first : (r : Refused) → ReadingRefuses text r → IsFirstCause text fun items r
+  reading_first (Lex f) c = first_with text fun items (Lex f) c before_lexer
+  reading_first (Parse f) c = first_with text fun items (Parse f) c (before_parser f c)
+  reading_first (Typing f) c = first_with text fun items (Typing f) c (before_typing f c)
+  reading_first r c = absurd c
+
+  -- ---- a typed text
+  module _ (p : Program) (t : TypesAs text p) where
+    before_names : Excludes text fun items 5
+    before_names = record {
+      lexer = λ f lt c. reads_no_lex text t.written f t.reads c;
+      parser = λ f lt c. reads_no_parse text t.written f t.reads c;
+      typing = λ f lt c. types_no_fault text p f t c;
+      named = λ name lt c. absurd (omega (arith, lt));
+      limits = λ l lt c. absurd (omega (arith, lt));
+      counted = λ lt c. absurd (omega (arith, lt));
+    }
+
+    pub function_first : export_named fun p.funs ≡ None → IsFirstCause text fun items (NoFunction fun)
+    function_first none = first_with text fun items (NoFunction fun) (record { program = p; types = t; none = none; named = refl }) before_names
+
+    -- ---- with the function
+    module _ (f : Fun) (found : export_named fun p.funs ≡ Some f) where
+      has_function : (name : List ℕ) → HasNoExport text fun name → ⊥
+      has_function name h =
+          let same = types_one text p h.program t h.types in
+          let none : export_named fun p.funs ≡ None = ap (λ (q : Program). export_named fun q.funs) same ∙ h.none in cc
+
+      before_limits : Excludes text fun items 6
+      before_limits = record {
+        lexer = λ f lt c. reads_no_lex text t.written f t.reads c;
+        parser = λ f lt c. reads_no_parse text t.written f t.reads c;
+        typing = λ f lt c. types_no_fault text p f t c;
+        named = λ name lt c. has_function name c;
+        limits = λ l lt c. absurd (omega (arith, lt));
+        counted = λ lt c. absurd (omega (arith, lt));
+      }
+
+      limit_first : (l : FunLimit) → HasLimit p l → IsFirstCause text fun items (Limit l)
+      limit_first l h = first_with text fun items (Limit l) (record { program = p; types = t; limit = h }) before_limits
+
+      -- ---- within the limits
+      module _ (within : All (WithinIfExported p) p.funs) where
+        no_limit : (l : FunLimit) → PassesLimit text l → ⊥
+        no_limit l h = none_passes p l within (subst (λ (q : Program). HasLimit q l) (types_one text h.program p h.types t) h.limit)
+
+        before_items : Excludes text fun items 9
+        before_items = record {
+          lexer = λ f lt c. reads_no_lex text t.written f t.reads c;
+          parser = λ f lt c. reads_no_parse text t.written f t.reads c;
+          typing = λ f lt c. types_no_fault text p f t c;
+          named = λ name lt c. has_function name c;
+          limits = λ l lt c. no_limit l c;
+          counted = λ lt c. absurd (omega (arith, lt));
+        }
+
+        pub items_first : (length items ≡ length f.params → ⊥) → IsFirstCause text fun items Items
+        items_first differ =
+            first_with text fun items Items (record { program = p; types = t; function = f; found = found; differ = differ }) before_items
+
+        has_items : length items ≡ length f.params → HasOtherItems text fun items → ⊥
+        has_items many h =
+            let same = types_one text p h.program t h.types in
+            let both : export_named fun p.funs ≡ Some h.function = ap (λ (q : Program). export_named fun q.funs) same ∙ h.found in
+            let one = same_fun f h.function (export_named fun p.funs) found both in
+            h.differ (many ∙ ap (λ (g : Fun). length g.params) one)
+
+        before_all : length items ≡ length f.params → Excludes text fun items all_stages
+        before_all many = record {
+          lexer = λ f lt c. reads_no_lex text t.written f t.reads c;
+          parser = λ f lt c. reads_no_parse text t.written f t.reads c;
+          typing = λ f lt c. types_no_fault text p f t c;
+          named = λ name lt c. has_function name c;
+          limits = λ l lt c. no_limit l c;
+          counted = λ lt c. has_items many c;
+        }
+
+        pub run_done : (fuel : ℕ) (x : Ran) → length items ≡ length f.params → RunsOn p f items fuel x → IsDone text fun items fuel x
+        run_done fuel x many runs = record {
+          clear = cleared text fun items all_stages (before_all many);
+          gives = record { program = p; types = t; function = f; found = found; runs = runs };
+        }
+
+-- ---- the same of failures
+answered : (text fun items : List ℕ) (fuel : ℕ) (P : Refused → Type 0) (e : Failure Refused) → ((r : Refused) → P r → IsFirstCause text fun items r) → IfRefused e P
+    → IfAnswered {A = Ran} (Err e) (Answers text fun items fuel)
+answered text fun items fuel P (failure.Refused r) f h = f r h
+answered text fun items fuel P failure.OutOfMemory f h = tt
+
+pub reading_fails : (text fun items : List ℕ) (fuel : ℕ) (e : Failure Refused) → IfRefused e (ReadingRefuses text) → IfAnswered {A = Ran} (Err e) (Answers text fun items fuel)
+reading_fails text fun items fuel e h = answered text fun items fuel (ReadingRefuses text) e (reading_first text fun items) h
+
+-- a limit, as a refusal
+abbrev pub IsLimit : Program → Refused → Type 0
+IsLimit p r = (l : FunLimit) × (r ≡ Limit l) × HasLimit p l
+
+pub limits_fail : (text fun items : List ℕ) (fuel : ℕ) (p : Program) (f : Fun) (e : Failure Refused) → TypesAs text p → export_named fun p.funs ≡ Some f → IfRefused e (IsLimit p)
+    → IfAnswered {A = Ran} (Err e) (Answers text fun items fuel)
+limits_fail text fun items fuel p f e t found h =
+    answered text fun items fuel (IsLimit p) e (λ r k. subst (IsFirstCause text fun items) (sym k.1) (limit_first text fun items p t f found k.0 k.2)) h

@@ -1,0 +1,148 @@
+-- The parameters of an export function are words, and items are arguments of them.
+use Rattle.std.proofs.Common.{◌≡◌, ℕ, ◌%◌, ◌<◌, Bool, true, false, not, ◌&&◌, ◌||◌, List, [], ◌∷◌, length, Option, Some, None, refl, sym, ap, ◌∙◌, subst, arith}
+use Rattle.std.specs.Prelude.{All, Contains, option_map, nat_le, slice_get}
+use Rattle.std.specs.List.{list_all, AllZip}
+use Rattle.std.proofs.lemmas.Bool.{and_parts, false≢true}
+use Rattle.std.proofs.lemmas.List.Elements.{All-nil, All-cons, All-head, All-tail, All-map, All-weaker, All-contains, Contains-get_or}
+use Rattle.std.proofs.lemmas.Option.{slice_get_within, get_or_from_slice_get}
+use Rattle.jz_tree.specs.Size.{Size}
+use Rattle.jz_tree.specs.Size.TheVariants.{S8, S16, S32, S64}
+use Rattle.jz_tree.specs.Sizes.{modulus}
+use Rattle.jz_tree.specs.Word as code_word
+use Rattle.jz_tree.specs.declared.expr.Storage.TheVariants as storage
+use Rattle.jz_tree.specs.declared.expr.Expr.{Expr}
+use Rattle.jz_tree.specs.declared.expr.Ty.{Ty}
+use Rattle.jz_tree.specs.declared.expr.Access.{Access}
+use Rattle.jz_tree.specs.declared.expr.Decl.{Decl}
+use Rattle.jz_tree.specs.declared.expr.Var.{Var}
+use Rattle.jz_tree.specs.declared.expr.Expr.TheOpen.{Ty-F, Var-F}
+use Rattle.jz_tree.specs.declared.expr.Expr.TheViews.{out-Ty, out-Var}
+use Rattle.jz_tree.specs.declared.program.Fun.{Fun}
+use Rattle.jz_tree.specs.declared.program.Param.{Param}
+use Rattle.jz_tree.specs.declared.program.Program.{Program}
+use Rattle.jz_type_names.specs.declared.kinds.Kind as known
+use Rattle.jz_type_names.specs.Kinds.{Known, declared_of, known_of, kind_of, kind_step, is_word_kind, is_register_word, same_storage}
+use Rattle.jz_type_names.specs.Scopes.{constant_place}
+use Rattle.jz_type_names.proofs.Empty.{passed, all_empty, no_member}
+use Rattle.jz_type_rows.specs.Exports.{is_exported, has_shape, is_word_param, is_word_result, misshapen_places}
+use Rattle.jz_type_rows.specs.Programs.{in_functions}
+use Rattle.jz_resolve.specs.Numbering.{values_of}
+use Rattle.jz_resolve.specs.Numbering as numbering
+use Rattle.jz_resolve.specs.Programs.{counted_var, counted_param, resolved_whole, resolved_program}
+use Rattle.jz_types.specs.TypedPrograms.{IsTypedProgram}
+use Rattle.jz_types.specs.declared.fault.TypeRule.TheVariants as rule
+use Rattle.jz_types.proofs.ProgramsKept.{decl_known, var_out}
+use Rattle.jz_meaning.specs.declared.access.Kind as meant
+use Rattle.jz_meaning.specs.declared.access.Kind.TheVariants as kind
+use Rattle.jz_meaning.specs.Values.{ref_of}
+use Rattle.jz_meaning.specs.Runs.{FitsKind}
+use Rattle.jz_run_laws.specs.Counted.{TyLayer, counted_type, counted_decl}
+use Rattle.jz_run_laws.proofs.SameKinds as same
+use Rattle.jz_run_laws.proofs.SameKinds.{SameKind, SameKnown}
+use Rattle.jz_run_laws.proofs.Sizes.{variable_law}
+use Rattle.jz_interp.specs.Outcomes as outcomes
+use Rattle.jz_interp.specs.Outcomes.{Takes}
+use Rattle.jasminc_interp.specs.Runs.{argument, argument_values, IsRunnable}
+
+-- ---- a word in a register is a word
+counted_layer : (x : TyLayer) → is_word_kind (kind_step x) ≡ true → counted_type x ≡ true
+counted_layer Ty-F.Int e = refl
+counted_layer Ty-F.Ty::Bool e = refl
+counted_layer (Ty-F.Word z) e = refl
+counted_layer (Ty-F.Array z n) e = absurd (false≢true e)
+
+counted_word : (d : Option Decl) → is_register_word (option_map declared_of d) ≡ true → counted_decl d ≡ true
+counted_word None e = refl
+counted_word (Some d) e = counted_layer (out-Ty d.ty) (and_parts (same_storage d.storage storage.Reg) (is_word_kind (kind_of d.ty)) e).1
+
+same_word : (k : known.Kind) (m : meant.Kind) → SameKind k m → is_word_kind k ≡ true → (z : Size) × (m ≡ kind.Word z)
+same_word k m same.int e = absurd (false≢true e)
+same_word k m same.bool e = absurd (false≢true e)
+same_word k m (same.word z) e = (z, refl)
+same_word k m (same.array z n) e = absurd (false≢true e)
+
+known_word : (k : Known) (m : meant.Kind) → SameKnown k m → is_register_word k ≡ true → (z : Size) × (m ≡ kind.Word z)
+known_word None m s e = absurd (false≢true e)
+known_word (Some d) m s e = same_word d.kind m s (and_parts (same_storage d.storage storage.Reg) (is_word_kind d.kind) e).1
+
+word_kind : (v : Var) → is_register_word (known_of v) ≡ true → (z : Size) × ((ref_of v).kind ≡ kind.Word z)
+word_kind v e = known_word (known_of v) (ref_of v).kind ((variable_law v).1 (counted_word (out-Var v).decl e)) e
+
+-- ---- the parameters of export functions
+abbrev IsWord : Param → Type 0
+IsWord p = is_word_param p ≡ true
+
+abbrev TakesWords : Fun → Type 0
+TakesWords f = is_exported f.kind ≡ true → All IsWord f.params
+
+each_so : {A : Type 0} (test : A → Bool) (xs : List A) → list_all test xs ≡ true → All (λ x. test x ≡ true) xs
+each_so test [] e = All-nil (λ x. test x ≡ true)
+each_so test (x ∷ xs) e = let p = and_parts (test x) (list_all test xs) e in All-cons (λ y. test y ≡ true) x xs p.0 (each_so test xs p.1)
+
+not_or : (a b : Bool) → (not a || b) ≡ true → a ≡ true → b ≡ true
+not_or true b e f = e
+not_or false b e f = absurd (false≢true f)
+
+shape_words : (f : Fun) → misshapen_places f ≡ [] → TakesWords f
+shape_words f e x =
+    let shape = not_or (is_exported f.kind) (has_shape f) (passed (not (is_exported f.kind) || has_shape f) f.span e) x in
+    let three = (and_parts (nat_le (length f.params) 6 && nat_le (length f.rets) 2 && list_all is_word_param f.params) (list_all is_word_result f.rets) shape).0 in
+    each_so is_word_param f.params (and_parts (nat_le (length f.params) 6 && nat_le (length f.rets) 2) (list_all is_word_param f.params) three).1
+
+module _ (p : Program) where
+  abbrev values : numbering.Values
+  values = values_of p.consts
+
+  var_known : (v : Var) → known_of (counted_var values v) ≡ known_of v
+  var_known v = ap (λ (y : Var-F Expr Ty Access Decl Var). option_map declared_of y.decl) (var_out values v) ∙ decl_known values (out-Var v).decl
+
+  counted_words : (q : Param) → IsWord q → IsWord (counted_param values q)
+  counted_words q e = ap is_register_word (var_known q.var) ∙ e
+
+  resolved_words : (f : Fun) → TakesWords f → TakesWords (resolved_whole (constant_place p.consts) values f)
+  resolved_words f h x = All-map IsWord (counted_param values) f.params (All-weaker IsWord (λ q. IsWord (counted_param values q)) counted_words f.params (h x))
+
+  all_words : in_functions misshapen_places p ≡ [] → All TakesWords (resolved_program p).funs
+  all_words e =
+      All-map TakesWords (resolved_whole (constant_place p.consts) values) p.funs
+      (All-weaker (λ f. misshapen_places f ≡ []) (λ f. TakesWords (resolved_whole (constant_place p.consts) values f)) (λ f h. resolved_words f (shape_words f h)) p.funs (all_empty misshapen_places p.funs e))
+
+takes_words : (q : Program) → IsTypedProgram q → All TakesWords q.funs
+takes_words q h =
+    subst (λ z. All TakesWords z.funs) (sym h.same)
+    (all_words h.source (no_member (in_functions misshapen_places h.source) (λ at c. h.typed rule.ExportShape at c)))
+
+-- ---- items are arguments
+fewer : (z : Size) (n : ℕ) → n % modulus z < modulus z
+fewer S8 n = omega arith
+fewer S16 n = omega arith
+fewer S32 n = omega arith
+fewer S64 n = omega arith
+
+one_fits : (k : meant.Kind) (n : ℕ) → (z : Size) × (k ≡ kind.Word z) → FitsKind k (argument k n)
+one_fits k n w = subst (λ m. FitsKind m (argument m n)) (sym w.1) (refl, fewer w.0 n)
+
+all_fit : (ps : List Param) (ns : List ℕ) → All IsWord ps → length ns ≡ length ps → AllZip (λ q v. FitsKind (ref_of q.var).kind v) ps (argument_values ps ns)
+all_fit [] [] w e = tt
+all_fit [] (n ∷ ns) w e = absurd (omega (arith, e))
+all_fit (p ∷ ps) [] w e = absurd (omega (arith, e))
+all_fit (p ∷ ps) (n ∷ ns) w e =
+    (one_fits (ref_of p.var).kind n (word_kind p.var (All-head IsWord p ps w)), all_fit ps ns (All-tail IsWord p ps w) (omega (arith, e)))
+
+contained : (fs : List Fun) (place : ℕ) (f : Fun) → slice_get fs place ≡ Some f → Contains fs f
+contained fs place f e = subst (Contains fs) (get_or_from_slice_get fs place f f e) (Contains-get_or fs place f (slice_get_within fs place f e))
+
+-- what `interpret` asks of its input
+pub takes_items : (p : Program) (place : ℕ) (items : List ℕ) (words : List code_word.Word) (h : IsRunnable p place items)
+    → outcomes.values_of words ≡ argument_values h.function.params items → Takes p place words
+takes_items p place items words h is =
+    let among = contained p.funs place h.function h.there in
+    let word_params = All-contains TakesWords p.funs h.function (takes_words p h.typed) among h.exported in
+    record {
+      function = h.function;
+      there = h.there;
+      input = record {
+        of_program = among;
+        arguments = subst (λ vs. AllZip (λ q v. FitsKind (ref_of q.var).kind v) h.function.params vs) (sym is) (all_fit h.function.params items word_params h.many);
+      };
+    }

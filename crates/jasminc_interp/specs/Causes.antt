@@ -1,0 +1,67 @@
+-- Why a function of a text is not run: the table of causes.
+use Rattle.std.specs.Prelude.{◌≡◌, ◌<◌, ℕ, List, length, Some, None}
+use Rattle.jz_tree.specs.declared.program.Fun.{Fun}
+use Rattle.jz_tree.specs.declared.program.Program.{Program}
+use Rattle.jz_parse.specs.Reading.{LexFails, ParseFails}
+use Rattle.jasminc_interp.specs.declared.refused.FunLimit.{FunLimit}
+use Rattle.jasminc_interp.specs.declared.refused.Refused.{Refused}
+use Rattle.jasminc_interp.specs.declared.refused.Refused.TheVariants.{Lex, Parse, Typing}
+use Rattle.jasminc_interp.specs.declared.refused.Refused.TheVariants.{NoFunction, Limit, Items}
+use Rattle.jasminc_interp.specs.Texts.{TypesAs, FailsTyping}
+use Rattle.jasminc_interp.specs.Exports.{export_named, HasLimit}
+
+-- no export function of the text's program has the name
+pub record HasNoExport (text fun name : List ℕ) : Type 0 where
+  pub program : Program
+  pub types : TypesAs text program
+  pub none : export_named fun program.funs ≡ None
+  pub named : name ≡ fun
+
+-- an export function of the text's program passes a limit, and the first that does passes this one
+pub record PassesLimit (text : List ℕ) (l : FunLimit) : Type 0 where
+  pub program : Program
+  pub types : TypesAs text program
+  pub limit : HasLimit program l
+
+-- the function has another number of parameters than there are items
+pub record HasOtherItems (text fun items : List ℕ) : Type 0 where
+  pub program : Program
+  pub types : TypesAs text program
+  pub function : Fun
+  pub found : export_named fun program.funs ≡ Some function
+  pub differ : length items ≡ length function.params → ⊥
+
+abbrev pub Cause : List ℕ → List ℕ → List ℕ → Refused → Type 0
+Cause text fun items (Lex fault) = LexFails text fault
+Cause text fun items (Parse fault) = ParseFails text fault
+Cause text fun items (Typing fault) = FailsTyping text fault
+Cause text fun items (NoFunction name) = HasNoExport text fun name
+Cause text fun items (Limit l) = PassesLimit text l
+Cause text fun items Items = HasOtherItems text fun items
+
+-- why a text has no typed program
+abbrev pub ReadingRefuses : List ℕ → Refused → Type 0
+ReadingRefuses text (Lex fault) = LexFails text fault
+ReadingRefuses text (Parse fault) = ParseFails text fault
+ReadingRefuses text (Typing fault) = FailsTyping text fault
+ReadingRefuses text r = ⊥
+
+-- the stages in their order, by their numbers among those of all commands: lexer, parser, typing,
+-- function name, limits, items
+abbrev pub stage_of : Refused → ℕ
+stage_of (Lex fault) = 2
+stage_of (Parse fault) = 3
+stage_of (Typing fault) = 4
+stage_of (NoFunction name) = 5
+stage_of (Limit l) = 6
+stage_of Items = 9
+
+-- no stage before this one has a cause
+abbrev pub Clear : List ℕ → List ℕ → List ℕ → ℕ → Type 0
+Clear text fun items stage =
+    (r : Refused) → stage_of r < stage → Cause text fun items r → ⊥
+
+-- the first cause
+pub record IsFirstCause (text fun items : List ℕ) (r : Refused) : Type 0 where
+  pub cause : Cause text fun items r
+  pub first : Clear text fun items (stage_of r)

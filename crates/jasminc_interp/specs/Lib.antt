@@ -1,0 +1,7 @@
+pub mod Stage
+pub mod Texts
+pub mod Exports
+pub mod Telling
+pub mod Runs
+pub mod Causes
+pub mod Answers
