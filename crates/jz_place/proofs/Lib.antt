@@ -1,0 +1,5 @@
+pub mod Bodies
+pub mod Flows
+pub mod Codes
+pub mod Sorted
+pub mod Allocated

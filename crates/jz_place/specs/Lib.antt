@@ -1,0 +1,4 @@
+pub mod Bodies
+pub mod Codes
+pub mod Sorts
+pub mod Laws
