@@ -1,0 +1,9 @@
+pub mod ReaderLaws
+pub mod Leaves
+pub mod Lists
+pub mod Pieces
+pub mod LineLaws
+pub mod Levels
+pub mod TreeReads
+pub mod TreeTexts
+pub mod Trees
