@@ -219,8 +219,8 @@ static ROWS: [Row; 22] = [
     Row {
         words: &["jasminc", "interp", "add.jazz", "add", "2", "3"],
         text: SUM,
-        status: Status::Usage,
-        written: "usage: jasminc COMMAND ARGS\n",
+        status: Status::Ok,
+        written: "end\nresult r 0x0000000000000005\n",
         made: 0,
     },
     Row {
