@@ -1,0 +1,3 @@
+pub mod Homes
+pub mod InnerSums
+pub mod InnerRows
