@@ -1,12 +1,13 @@
 -- Each operation has its item.
 use Rattle.std.proofs.Common.{◌≡◌, Bool, true, false, List, [], ◌∷◌, Some, None, refl, sym, subst}
-use Rattle.std.specs.Prelude.{◌&&◌, if◌then◌else◌}
+use Rattle.std.specs.Prelude.{not, ◌&&◌, if◌then◌else◌}
 use Rattle.jz_io.specs.declared.span.Span.{Span}
 use Rattle.jz_words.specs.declared.size.Size.{Size}
 use Rattle.jz_tree.specs.declared.expr.Expr.{Expr}
 use Rattle.jz_tree.specs.declared.stmt.Lval.{Lval}
 use Rattle.jz_meaning.specs.Statements.{Operation}
 use Rattle.jz_operations.specs.declared.operation.Arg.{Arg}
+use Rattle.jz_operations.specs.declared.operation.Arg.TheVariants as arg
 use Rattle.jz_operations.specs.declared.operation.Action.{Action}
 use Rattle.jz_operations.specs.declared.operation.Action.TheVariants as action
 use Rattle.jz_operations.specs.declared.operation.Operation.{Operation as Made}
@@ -15,9 +16,11 @@ use Rattle.jz_change.specs.declared.change.Number.{Number}
 use Rattle.jz_change.specs.declared.change.Numbers.{Numbers}
 use Rattle.jz_pass.specs.Cases.{AsMany, none_each, one_each, HasItems}
 use Rattle.jz_homes.specs.Homes.{Homes}
+use Rattle.jz_homes.specs.Operands.{count_of}
 use Rattle.jz_row_operations.specs.Codes.{no_flag, lasting}
-use Rattle.jz_row_operations.specs.Table.{same_arg, is_free, brought, behind}
-use Rattle.jz_row_operations.specs.Lowering.{both_shown, HasRow, moves, sums, carries, signs, times, times_by, shifts, shifts_by, extends, lowest, Lowers, sets, sets_if, lowering}
+use Rattle.jz_row_operations.specs.Rows.{commutes, alu_of, carry_alu, shift_of}
+use Rattle.jz_row_operations.specs.Table.{same_arg, is_imm, is_free, brought, behind, nothing}
+use Rattle.jz_row_operations.specs.Lowering.{numbers_from, both_shown, HasRow, moves, sums, carries, signs, times, times_by, shifts, shifts_by, extends, lowest, Lowers, sets, sets_if, lowering}
 
 way_many : (s1 s2 s3 : Bool) (f : Arg → Action) (z : Size) (b x y : Arg) (acts : List Action) (at : Span) (xs ys : List Number)
     → behind f (if s1 then Some ([], y) else if s2 then Some ([], x) else if s3 then Some (action.Mov z b x ∷ [], y) else None) ≡ Some acts → AsMany (lasting at no_flag acts) (both_shown s1 s2 xs ys)
@@ -31,13 +34,14 @@ brought_many swaps f z b x y acts at xs ys e = way_many (same_arg b x) (swaps &&
 
 row_many : {home : Homes} {z : Size} {d : Lval} {e : Expr} {acts : List Action} {items : List Numbers} (at : Span) → HasRow home z d e acts items → AsMany (lasting at no_flag acts) items
 row_many at (moves ia id) = one_each none_each
-row_many at (sums {acts = acts} there h ia ic id nn e) = brought_many _ _ _ _ _ _ acts at _ _ e
-row_many at (carries {acts = acts} f c inner there h ia ic id nn isf span e) = brought_many _ _ _ _ _ _ acts at _ _ e
-row_many at (signs {acts = acts} sign ia id ni e) = brought_many false _ _ _ _ _ acts at _ _ e
-row_many at (times {acts = acts} there wide ia ic id ni e) = brought_many _ _ _ _ _ _ acts at _ _ e
+row_many {z = z} at (sums {o} {x = x} {y = y} {b = b} {p = p} {q = q} {acts = acts} there h ia ic id nn e) = brought_many (commutes o) (λ u. action.Alu (alu_of o) z b u None) z b x y acts at (numbers_from p 0) (numbers_from q (count_of p)) e
+row_many {z = z} at (carries {o} {x = x} {y = y} {b = b} {p = p} {q = q} {acts = acts} f c inner there h ia ic id nn isf span e) =
+    brought_many (commutes o) (λ u. action.Alu (carry_alu o) z b u (Some c)) z b x y acts at (numbers_from p 0) (numbers_from q (count_of p)) e
+row_many {z = z} at (signs {o} {x = x} {b = b} {p = p} {acts = acts} sign ia id ni e) = brought_many false (λ u. action.One o z b) z b x nothing acts at (numbers_from p 0) [] e
+row_many {z = z} at (times {x = x} {y = y} {m = m} {p = p} {q = q} {acts = acts} there wide ia ic id ni e) = brought_many (not (is_imm x)) (action.Imul z m) z (arg.Var m) x y acts at (numbers_from p 0) (numbers_from q (count_of p)) e
 row_many at (times_by there wide ia ic id ni) = one_each none_each
-row_many at (shifts {acts = acts} n there where' h below ia id ni e) = brought_many false _ _ _ _ _ acts at _ _ e
-row_many at (shifts_by {acts = acts} v c where' inner there h isv span ia id e) = brought_many false _ _ _ _ _ acts at _ _ e
+row_many {z = z} at (shifts {o} {x = x} {b = b} {p = p} {acts = acts} n there where' h below ia id ni e) = brought_many false (λ u. action.Shift (shift_of o) z b n) z b x nothing acts at (numbers_from p 0) [] e
+row_many {z = z} at (shifts_by {o} {x = x} {b = b} {p = p} {acts = acts} v c where' inner there h isv span ia id e) = brought_many false (λ u. action.ShiftBy (shift_of o) z b c) z b x (arg.Var c.variable) acts at (numbers_from p 0) [] e
 row_many at (extends sign there own smaller ia ni id) = one_each none_each
 row_many at (lowest there own le ia id) = one_each none_each
 

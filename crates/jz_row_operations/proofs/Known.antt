@@ -58,7 +58,7 @@ unset_less : (xs : List Var) (store : Store) (k : Key) (v : Value) → all_unset
 unset_less [] store k v e = e
 unset_less (x ∷ xs) store k v e = without_less (ref_of x).kind (ref_of x) store k v (unset_less xs (without (ref_of x).kind (ref_of x) store) k v e)
 
-marks_keep : (home : Homes) (o : Operation) (s : State) (σ : over.State) → IsRelated home s σ → IsRelated home (quiets o s) σ
+pub marks_keep : (home : Homes) (o : Operation) (s : State) (σ : over.State) → IsRelated home s σ → IsRelated home (quiets o s) σ
 marks_keep home (unset xs) s σ h = record { holds = λ k x v e f. h.holds k x v e (unset_less xs s.store k v f); memory = h.memory; bytes = h.bytes }
 marks_keep home (assign to o e c at) s σ h = h
 marks_keep home (instruction to n args at) s σ h = h
@@ -93,8 +93,8 @@ module _ (frame : Frame) (home : Homes) (homing : IsHoming frame home) where
       subst (λ x. IsItem x (condition_shown p q 0) (shown_of p f ++ shown_of q g)) (sym (e ∙ ap (λ x. f ++ x) (sym (append_nil g))))
       (item (both_placed (first_placed p f (g ++ []) h) (placed_behind f (0 + count_of p) (omega (arith, l)) q g [] k)))
 
-  test_goes : (c : Condition) (a : Asked) (i : Numbers) (s : State) (σ : over.State) (ns : List ℕ) (z : Bool) → LowersTest home c a i → IsRelated home s σ → bool_in c.at c.cond s ≡ went ns z → TestGoes a i s σ ns z
-  test_goes c a i s σ ns z (tests {compare} {k} {p} {q} h) related run =
+  pub test_goes : (c : Condition) (a : Asked) (i : Numbers) (s : State) (σ : over.State) (ns : List ℕ) (z : Bool) → LowersTest home c a i → IsRelated home s σ → bool_in c.at c.cond s ≡ went ns z → TestGoes a i s σ ns z
+  test_goes c a i s σ ns z (tests {compare} {c = k} {p} {q} h) related run =
       let u = compared_goes frame home homing s σ related c.at ns z h run in
       let t = u.tests in
       let it = condition_item p q u.first u.second ns u.numbers u.counted_left u.counted_right in
@@ -104,23 +104,23 @@ module _ (frame : Frame) (home : Homes) (homing : IsHoming frame home) where
         agrees = subst (IsRelated home s) (sym (settled_by frame compare (condition.Cc k) t.done σ t.steps)) t.agrees';
       }
 
-  loop_test_goes : (c : Condition) (a : Asked) (i : Numbers) (s : State) (σ : over.State) (ns : List ℕ) (z : Bool) → LowersLoopTest home c a i → IsRelated home s σ → bool_in c.at c.cond s ≡ went ns z → TestGoes a i s σ ns z
+  pub loop_test_goes : (c : Condition) (a : Asked) (i : Numbers) (s : State) (σ : over.State) (ns : List ℕ) (z : Bool) → LowersLoopTest home c a i → IsRelated home s σ → bool_in c.at c.cond s ≡ went ns z → TestGoes a i s σ ns z
   loop_test_goes c a i s σ ns z (tests_each h) related run = test_goes c a i s σ ns z h related run
   loop_test_goes c a i s σ ns z (never_false here e) related run =
       let k = never_false_is here c.at c.cond s ns z e run in
       record { has = All-nil (HasNumber ns); answers = ap (went []) (sym k.1); agrees = related }
 
   -- ---- operations
-  op_goes : (o : Operation) (os : List Made) (items : List Numbers) (s t : State) (σ : over.State) (ns : List ℕ) → Lowers home o os items → IsRelated home s σ → statements.does o s ≡ went ns t
+  pub op_goes : (o : Operation) (os : List Made) (items : List Numbers) (s t : State) (σ : over.State) (ns : List ℕ) → Lowers home o os items → IsRelated home s σ → statements.does o s ≡ went ns t
       → (τ : over.State) × DoAll (variables frame) ns os items σ τ × IsRelated home t τ
-  op_goes o os items s t σ ns (sets {at = at} whole size row once) related run =
-      let g = sets_goes frame home homing s σ related at t ns whole size row run in
+  op_goes o os items s t σ ns (sets {o = p} {e = e} {at = at} whole size row once) related run =
+      let g = sets_goes frame home homing s σ related p e at t ns whole size row run in
       (g.goes.ran.state, does_all frame ns os items σ g.goes.ran g.goes.goes (subst (AreItems ns items) (sym g.goes.shows) g.are), g.goes.agrees)
-  op_goes o os items s t σ ns (sets_if {at = at} z wide kind' h ie ni cmp) related run =
-      let g = sets_if_goes frame home homing s σ related at z t ns kind' h ie cmp run in
+  op_goes o os items s t σ ns (sets_if {x} {at = at} z wide kind' h ie ni cmp) related run =
+      let g = sets_if_goes frame home homing s σ related x at z t ns kind' h ie cmp run in
       (g.goes.ran.state, does_all frame ns os items σ g.goes.ran g.goes.goes (subst (AreItems ns items) (sym g.goes.shows) g.are), g.goes.agrees)
 
-  no_operations : (ns : List ℕ) (os : List Made) (items : List Numbers) (σ : over.State) → os ≡ [] → items ≡ [] → DoAll (variables frame) ns os items σ σ
+  pub no_operations : (ns : List ℕ) (os : List Made) (items : List Numbers) (σ : over.State) → os ≡ [] → items ≡ [] → DoAll (variables frame) ns os items σ σ
   no_operations ns os items σ e f = subst (λ x. DoAll (variables frame) ns x items σ σ) (sym e) (subst (λ y. DoAll (variables frame) ns [] y σ σ) (sym f) do_none)
 
   abbrev pub lowering_known : IsKnown source (variables frame) (lowering home)

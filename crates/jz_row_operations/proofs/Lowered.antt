@@ -181,9 +181,9 @@ module _ (frame : Frame) (home : Homes) (homing : IsHoming frame home) (s : Stat
       }
 
   -- ---- `d = e` and `d op= e`
-  pub sets_goes : {d : Lval} {o : Option BinOp} {e w : Expr} {z : Size} {acts : List Action} {items : List Numbers} (at : Span) (t : State) (ns : List ℕ) → whole_of (Some d) o e ≡ Some w → option_or (left_sizes (d ∷ [])) (own_size w) ≡ Some z
+  pub sets_goes : {d : Lval} (o : Option BinOp) (e : Expr) {w : Expr} {z : Size} {acts : List Action} {items : List Numbers} (at : Span) (t : State) (ns : List ℕ) → whole_of (Some d) o e ≡ Some w → option_or (left_sizes (d ∷ [])) (own_size w) ≡ Some z
       → HasRow home z d w acts items → assigned (d ∷ []) o e None at s ≡ went ns t → Goes (lasting at no_flag acts) items t ns
-  sets_goes {d} at t ns whole size row run = row_goes at at t ns row size (ap (λ x. assigned_whole (d ∷ []) x None at s) (sym whole) ∙ run)
+  sets_goes {d} o e at t ns whole size row run = row_goes at at t ns row size (ap (λ x. assigned_whole (d ∷ []) x None at s) (sym whole) ∙ run)
 
   -- ---- comparisons
   pub record Compared (o : Operation) (c : Cond) (p q : Leaks) (ns : List ℕ) (answer : Bool) : Type 0 where
@@ -220,10 +220,10 @@ module _ (frame : Frame) (home : Homes) (homing : IsHoming frame home) (s : Stat
   all_four : (a b f g c ns : List ℕ) → ns ≡ a ++ (b ++ c) → b ≡ f ++ g → ns ≡ a ++ (f ++ (g ++ c))
   all_four a b f g c ns h k = h ∙ ap (λ l. a ++ (l ++ c)) k ∙ ap (λ l. a ++ l) (append_assoc f g c)
 
-  pub sets_if_goes : {x : Var} {e k : Expr} {y : Arg} {compare : Operation} {c : Cond} {m : ℕ} {p q r : Leaks} (at : Span) (z : Size) (t : State) (ns : List ℕ) → (ref_of x).kind ≡ kind.Word z → home (key_of (ref_of x)) ≡ Some (in_register m z)
+  pub sets_if_goes : (x : Var) {e k : Expr} {y : Arg} {compare : Operation} {c : Cond} {m : ℕ} {p q r : Leaks} (at : Span) (z : Size) (t : State) (ns : List ℕ) → (ref_of x).kind ≡ kind.Word z → home (key_of (ref_of x)) ≡ Some (in_register m z)
       → IsArg home z e y p → IsCompared home at k compare c q r → assigned (lval.Var x ∷ []) None e (Some k) at s ≡ went ns t
       → Goes (compare ∷ plain at (action.Cmov (condition.Cc c) z m y) ∷ []) (condition_shown q r (count_of p) ∷ Rattle.jz_change.specs.declared.change.Numbers.TheVariants.These (numbers_from p 0) ∷ []) t ns
-  sets_if_goes {x} {e} {k} {y} {compare} {c} {m} {p} {q} {r} at z t ns kind' h ie cmp run =
+  sets_if_goes x {e} {k} {y} {compare} {c} {m} {p} {q} {r} at z t ns kind' h ie cmp run =
       let w = conditional_parts frame home homing s σ related z x e k at t ns kind' (sized x e z kind') run in
       let u = compared_goes at w.second w.answer cmp w.asks in
       let v = conditional_steps frame home homing s σ related x m k (condition.Cc c) at at t ns kind' h ie w u.tests.done.state u.tests.vars u.tests.cells u.tests.memory u.tests.says'' in

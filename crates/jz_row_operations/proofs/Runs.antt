@@ -38,8 +38,10 @@ first_ran ns (Some r) ran e = let k = same_some _ ran e in record { rest = r; ra
 module _ (frame : Frame) (all : List ℕ) where
   nothing_done : (items : List Numbers) (σ : State) → AreItems all items [] → DoAll (variables frame) all [] items σ σ
   nothing_done [] σ no_items = do_none
+  nothing_done (_ ∷ _) σ x3 = elim x3 [ ]
 
   one_more : (o : Operation) (os : List Operation) (items : List Numbers) (σ : State) (d : Done) (rest : Ran) → step frame o σ ≡ Some d → ((is : List Numbers) → AreItems all is rest.shown → DoAll (variables frame) all os is d.state rest.state) → AreItems all items (numbers_of d ∷ rest.shown) → DoAll (variables frame) all (o ∷ os) items σ rest.state
+  one_more o os [] σ d rest e more x3 = elim x3 [ ]
   one_more o os (i ∷ is) σ d rest e more (more_items h k) = do_one h.has (ap by_step e ∙ ap (λ ns. went ns d.state) (sym h.gives)) (more is k)
 
   pub does_all : (os : List Operation) (items : List Numbers) (σ : State) (ran : Ran) → runs frame os σ ≡ Some ran → AreItems all items ran.shown → DoAll (variables frame) all os items σ ran.state
