@@ -1,6 +1,6 @@
 -- Operands of a statement and of an operation: what the source evaluates to is what the operation reads, and the numbers are those that it shows.
 use Rattle.std.proofs.Common.{◌≡◌, ℕ, zero, suc, ◌+◌, ◌*◌, ◌%◌, ◌^◌, ◌<◌, Bool, true, false, List, [], ◌∷◌, ◌++◌, Option, Some, None, refl, sym, ap, ◌∙◌, subst, arith, ℤ, pos, negsuc, ◌+ℤ◌, ◌-ℤ◌}
-use Rattle.std.specs.Prelude.{nat_lt, nat_le, is_some, ◌||◌, if◌then◌else◌}
+use Rattle.std.specs.Prelude.{nat_lt, nat_le, ◌||◌, if◌then◌else◌}
 use Rattle.std.specs.Option.{option_or, option_to_list, option_and_then}
 use Rattle.std.specs.FinMap.{get}
 use Rattle.std.proofs.lemmas.Bool.{eq-eqb, ltb-true, le-leb}
@@ -35,7 +35,7 @@ use Rattle.jz_homes.specs.Homes.{Homes, IsHoming, in_register, in_cell, IsRelate
 use Rattle.jz_homes.specs.Sums.{Sum, IsSum, total_in, IsAddress, of_base, of_both, of_swapped, IsIndex, constant, variable}
 use Rattle.jz_homes.specs.Operands.{AreCells, Leaks, silent, told, shown_of, cell_leaks, IsCounted, IsArg, a_word, a_number, a_scalar, a_cell, a_load}
 use Rattle.jz_homes.specs.Laws.{IsRead}
-use Rattle.jz_homes.proofs.Parts.{Then, access_size, both_went, went_same, defined_went, evaluated_num, evaluated_var, evaluated_cell, evaluated_load}
+use Rattle.jz_homes.proofs.Parts.{access_size, both_went, went_same, defined_went, evaluated_num, evaluated_var, evaluated_cell, evaluated_load}
 use Rattle.jz_homes.proofs.SumValues.{residue_add, StandsFor, stands_word, stands_number, sum_is}
 
 -- ---- words of a size

@@ -1,5 +1,5 @@
 -- What an operand shows, where it is found.
-use Rattle.std.proofs.Common.{◌≡◌, ℕ, List, [], ◌∷◌, Option, Some, None, refl, ap, sym, ◌∙◌}
+use Rattle.std.proofs.Common.{◌≡◌, ℕ, List, [], ◌∷◌, Option, Some, None, refl, ap}
 use Rattle.std.specs.Option.{option_to_list}
 use Rattle.jz_words.specs.declared.size.Size.{Size}
 use Rattle.jz_operations.specs.declared.operation.Arg.{Arg}

@@ -1,6 +1,6 @@
 -- What is owed of an operand and of a destination: the operation reads and writes what the source
 -- does, and shows of the numbers that the source leaks those that it says.
-use Rattle.std.specs.Prelude.{◌≡◌, ◌<◌, ℕ, List, Option, Some}
+use Rattle.std.specs.Prelude.{◌≡◌, ◌<◌, ℕ, List, Some}
 use Rattle.jz_words.specs.declared.size.Size.{Size}
 use Rattle.jz_words.specs.Sizes.{modulus}
 use Rattle.jz_tree.specs.declared.expr.Expr.{Expr}

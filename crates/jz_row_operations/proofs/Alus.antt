@@ -21,7 +21,7 @@ use Rattle.jz_operations.proofs.OwnVariables.{SameIn, same_left, value_same, sam
 use Rattle.jz_homes.proofs.Shown.{shown, read_shown, shown_same}
 use Rattle.jz_homes.proofs.Writing.{WritesAs}
 use Rattle.jz_homes.specs.Homes.{Homes, IsHoming, IsRelated}
-use Rattle.jz_homes.specs.Operands.{IsCounted, Leaks, shown_of}
+use Rattle.jz_homes.specs.Operands.{Leaks, shown_of}
 use Rattle.jz_row_operations.specs.Codes.{plain}
 use Rattle.jz_row_operations.proofs.Moves.{append_nil}
 use Rattle.jz_row_operations.specs.Rows.{IsSumOp, alu_of, commutes, IsCarryOp, carry_alu}

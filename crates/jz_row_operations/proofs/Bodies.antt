@@ -1,26 +1,20 @@
 -- Bodies over variables carry the runs of bodies.
-use Rattle.std.proofs.Common.{◌≡◌, ℕ, inr, refl, sym, ap, ◌∙◌, subst}
-use Rattle.std.specs.Prelude.{⊤}
+use Rattle.std.proofs.Common.{inr, refl, sym, ap, ◌∙◌, subst}
 use Rattle.jz_leak.specs.RunLeaks.{Leak}
-use Rattle.jz_runs.specs.Trees.{done}
 use Rattle.jz_runs.specs.Rules.{Outcome, Goes}
-use Rattle.jz_meaning.specs.declared.value.Stuck.{Stuck}
-use Rattle.jz_meaning.specs.States as source
 use Rattle.jz_meaning.specs.Statements.{Block}
 use Rattle.jz_meaning.specs.Statements as statements
-use Rattle.jz_operations.specs.Values.{State}
 use Rattle.jz_operations.specs.Rows.{Frame}
 use Rattle.jz_placing.specs.Variables.{Body, variables}
 use Rattle.jz_change.specs.Changes.{Change}
-use Rattle.jz_pass.specs.Unrolling.{Unrolls, unrolled_to}
 use Rattle.jz_pass.specs.Laws.{Relating, Follows, has_ended, was_cut, was_stuck, Carries}
 use Rattle.jz_pass.specs.Cases.{IsBetween, no_case, cases_of, Gives}
 use Rattle.jz_pass.proofs.Bodies.{unrolling_carries}
 use Rattle.jz_pass.proofs.CasesKept.{unrolled_cases}
 use Rattle.jz_pass.proofs.Twice.{body_both_ways}
-use Rattle.jz_homes.specs.Homes.{Homes, IsHoming, IsRelated}
+use Rattle.jz_homes.specs.Homes.{Homes, IsHoming}
 use Rattle.jz_row_operations.specs.Lowering.{lowering}
-use Rattle.jz_row_operations.specs.Bodies.{without_marks, IsLowered, beside}
+use Rattle.jz_row_operations.specs.Bodies.{IsLowered, beside}
 use Rattle.jz_row_operations.proofs.Known.{lowering_known}
 use Rattle.jz_row_operations.proofs.HasItems.{lowering_items}
 use Rattle.jz_row_operations.proofs.Marks.{unmarked, same_cases}

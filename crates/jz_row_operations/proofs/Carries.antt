@@ -8,7 +8,6 @@ use Rattle.jz_words.specs.declared.size.Size.TheVariants.{S8, S16, S32, S64}
 use Rattle.jz_words.specs.Sizes.{modulus}
 use Rattle.jz_words.specs.Words.{carried, sum_of, difference_of}
 use Rattle.jz_words.proofs.Residues.{some_words}
-use Rattle.x64_insn.specs.declared.types.Alu.{Alu}
 use Rattle.x64_insn.specs.declared.types.Alu.TheVariants as alu
 use Rattle.x64_insn.specs.Answers.{alu_answer, sum_answer, difference_answer}
 use Rattle.jz_tree.specs.declared.expr.BinOp.{BinOp}
@@ -23,16 +22,13 @@ use Rattle.jz_meaning.specs.States.{Value, word, boolean, State}
 use Rattle.jz_meaning.specs.Operators.{word_of, combined}
 use Rattle.jz_meaning.specs.Values.{key_of, ref_of, own_size}
 use Rattle.jz_meaning.specs.Assignments.{left_sizes, results_of, conditioned, all_written, assigned}
-use Rattle.jz_operations.specs.declared.operation.Pinned.{Pinned}
 use Rattle.jz_operations.specs.declared.operation.Arg.{Arg}
-use Rattle.jz_operations.specs.declared.operation.Action.TheVariants as action
 use Rattle.jz_operations.specs.Values as over
 use Rattle.jz_operations.specs.Values.{set_var}
 use Rattle.jz_operations.specs.Rows.{Frame, truth, value_of}
 use Rattle.jz_homes.specs.Homes.{Homes, IsHoming, in_flag, IsRelated}
 use Rattle.jz_homes.specs.Operands.{Leaks, IsCounted, IsArg, IsDest, shown_of}
 use Rattle.jz_homes.proofs.Shown.{shown}
-use Rattle.jz_row_operations.specs.Codes.{plain}
 use Rattle.jz_row_operations.specs.Rows.{NotBothImm, IsSumOp, alu_of, commutes, IsCarryOp, carry_alu}
 use Rattle.jz_homes.proofs.Parts.{went_same, defined_went, evaluated_var}
 use Rattle.jz_homes.proofs.Reading.{operand_read, word_itself}

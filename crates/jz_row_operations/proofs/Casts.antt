@@ -1,6 +1,6 @@
 -- `r = (tu)o`, `r = (ts)o` and `r = (tu)a`: extensions, and moves of the lowest bits.
 use Rattle.std.proofs.Common.{◌≡◌, ℕ, ◌%◌, ◌<◌, ◌≤◌, Bool, true, false, List, [], ◌∷◌, ◌++◌, Option, Some, None, refl, sym, ap, ◌∙◌, subst, arith}
-use Rattle.std.specs.Prelude.{nat_le, option_map, if◌then◌else◌}
+use Rattle.std.specs.Prelude.{nat_le, if◌then◌else◌}
 use Rattle.std.specs.Option.{option_or}
 use Rattle.std.proofs.lemmas.Bool.{le-leb}
 use Rattle.std.proofs.lemmas.Nat.{mod_below}
@@ -15,26 +15,24 @@ use Rattle.jz_tree.specs.declared.expr.Expr.{Expr}
 use Rattle.jz_tree.specs.declared.expr.Expr.TheVariants as expr
 use Rattle.jz_tree.specs.declared.expr.Expr.TheOpen.{Expr-F}
 use Rattle.jz_tree.specs.declared.expr.Expr.TheFolds.{fold-roll-Expr}
-use Rattle.jz_tree.specs.declared.expr.Var.{Var}
 use Rattle.jz_tree.specs.declared.stmt.Lval.{Lval}
 use Rattle.jz_runs.specs.Rules.{went}
 use Rattle.jz_meaning.specs.Attempts.{and_then, defined}
-use Rattle.jz_meaning.specs.States.{Value, word, boolean, State}
+use Rattle.jz_meaning.specs.States.{Value, word, State}
 use Rattle.jz_meaning.specs.Operators.{word_of, cast}
-use Rattle.jz_meaning.specs.Values.{key_of, ref_of, own_size, evaluated, expr_step, ty_step, access_step, decl_step, var_step}
-use Rattle.jz_meaning.specs.Assignments.{left_sizes, results_of, conditioned, all_written, truth, bool_in, assigned}
+use Rattle.jz_meaning.specs.Values.{own_size, evaluated, expr_step, ty_step, access_step, decl_step, var_step}
+use Rattle.jz_meaning.specs.Assignments.{left_sizes, results_of, conditioned, all_written, assigned}
 use Rattle.jz_operations.specs.declared.operation.Arg.{Arg}
 use Rattle.jz_operations.specs.declared.operation.Arg.TheVariants as arg
-use Rattle.jz_operations.specs.declared.operation.Condition.TheVariants as condition
 use Rattle.jz_operations.specs.declared.operation.Action.TheVariants as action
 use Rattle.jz_operations.specs.Values as over
-use Rattle.jz_operations.specs.Rows.{Frame, narrowed, denied, holds_in, value_of, put, moved, Done, step, with_flags}
+use Rattle.jz_operations.specs.Rows.{Frame, narrowed, value_of, moved, step, with_flags}
 use Rattle.jz_operations.proofs.Somes.{read_word}
 use Rattle.jz_homes.proofs.Shown.{shown, read_shown}
-use Rattle.jz_homes.specs.Homes.{Homes, IsHoming, in_flag, IsRelated}
+use Rattle.jz_homes.specs.Homes.{Homes, IsHoming, IsRelated}
 use Rattle.jz_homes.specs.Operands.{IsCounted, Leaks, IsArg, IsDest, shown_of}
 use Rattle.jz_row_operations.specs.Codes.{plain}
-use Rattle.jz_homes.proofs.Parts.{both_went, went_same, defined_went, evaluated_var}
+use Rattle.jz_homes.proofs.Parts.{both_went, went_same}
 use Rattle.jz_homes.proofs.Reading.{FormOf, operand_read, word_itself}
 use Rattle.jz_homes.proofs.Writing.{WritesAs, dest_written, related_same}
 use Rattle.jz_row_operations.proofs.Moves.{one_left, append_nil, StepsAs, move_by}

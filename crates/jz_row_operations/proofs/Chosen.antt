@@ -19,7 +19,7 @@ use Rattle.jz_operations.proofs.Somes.{same_some}
 use Rattle.jz_homes.specs.Homes.{Home, Homes, IsHoming, IsRelated, in_register, in_flag}
 use Rattle.jz_tree.specs.declared.stmt.Lval.{Lval}
 use Rattle.jz_meaning.specs.Values.{key_of, ref_of}
-use Rattle.jz_homes.specs.Operands.{IsCounted, Leaks, shown_of, IsDest, to_word, to_scalar, to_cell, to_memory}
+use Rattle.jz_homes.specs.Operands.{Leaks, shown_of, IsDest, to_word, to_scalar, to_cell, to_memory}
 use Rattle.jz_row_operations.specs.Codes.{plain, lasting}
 use Rattle.jz_row_operations.proofs.Items.{shown_in}
 use Rattle.jz_row_operations.specs.Table.{same_arg, is_free, behind, brought}

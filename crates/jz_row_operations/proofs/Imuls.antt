@@ -1,5 +1,5 @@
 -- `r = a * o` by IMUL, in place, swapped or copied first; `r = a * c` by IMUL with a number.
-use Rattle.std.proofs.Common.{◌≡◌, ℕ, ◌*◌, ◌%◌, ◌<◌, Bool, List, [], ◌∷◌, ◌++◌, Some, None, refl, sym, ap, ◌∙◌, subst, arith, ℤ}
+use Rattle.std.proofs.Common.{◌≡◌, ℕ, ◌*◌, ◌%◌, ◌<◌, List, [], ◌∷◌, ◌++◌, Some, None, refl, sym, ap, ◌∙◌, subst, arith, ℤ}
 use Rattle.std.specs.Option.{option_or}
 use Rattle.jz_io.specs.declared.span.Span.{Span}
 use Rattle.jz_words.specs.declared.size.Size.{Size}
@@ -28,7 +28,7 @@ use Rattle.jz_operations.proofs.Somes.{same_some}
 use Rattle.jz_operations.proofs.OwnVariables.{value_same, same_right}
 use Rattle.jz_homes.proofs.Shown.{shown, read_shown, shown_same}
 use Rattle.jz_homes.specs.Homes.{Homes, IsHoming, IsRelated}
-use Rattle.jz_homes.specs.Operands.{IsCounted, Leaks, IsArg, IsDest, shown_of}
+use Rattle.jz_homes.specs.Operands.{Leaks, IsArg, IsDest, shown_of}
 use Rattle.jz_row_operations.specs.Codes.{plain, no_flag}
 use Rattle.jz_homes.proofs.Parts.{went_same, evaluated_bin}
 use Rattle.jz_homes.proofs.Reading.{FormOf}

@@ -1,6 +1,6 @@
 -- The operations of statements do what the statements do.
 use Rattle.std.proofs.Common.{◌≡◌, ℕ, zero, suc, ◌+◌, Bool, true, false, List, [], ◌∷◌, ◌++◌, Option, Some, None, refl, sym, ap, ◌∙◌, subst, arith, inr}
-use Rattle.std.specs.Prelude.{All, ⊤}
+use Rattle.std.specs.Prelude.{⊤}
 use Rattle.std.proofs.lemmas.List.Elements.{All-nil}
 use Rattle.jz_io.specs.declared.span.Span.{Span}
 use Rattle.jz_tree.specs.declared.expr.Expr.{Expr}
@@ -8,7 +8,7 @@ use Rattle.jz_tree.specs.declared.expr.Expr.TheVariants as expr
 use Rattle.jz_tree.specs.declared.expr.Expr.TheOpen.{Expr-F}
 use Rattle.jz_tree.specs.declared.expr.Expr.TheFolds.{fold-roll-Expr}
 use Rattle.jz_tree.specs.declared.expr.Var.{Var}
-use Rattle.jz_runs.specs.Rules.{stuck, went}
+use Rattle.jz_runs.specs.Rules.{went}
 use Rattle.jz_meaning.specs.declared.access.Kind.{Kind}
 use Rattle.jz_meaning.specs.declared.access.Kind.TheVariants as kind
 use Rattle.jz_meaning.specs.Attempts.{Evaluation, and_then}
@@ -22,21 +22,20 @@ use Rattle.jz_operations.specs.declared.operation.Condition.TheVariants as condi
 use Rattle.jz_operations.specs.declared.operation.Operation.{Operation as Made}
 use Rattle.jz_operations.specs.Values as over
 use Rattle.jz_operations.specs.Rows.{Frame, Done, step, holds_in}
-use Rattle.jz_placing.specs.Variables.{Asked, always, asks, numbers_of, by_step, state_behind, tests as asked, settled, variables}
+use Rattle.jz_placing.specs.Variables.{Asked, asks, numbers_of, tests as asked, settled, variables}
 use Rattle.jz_change.specs.declared.change.Numbers.{Numbers}
-use Rattle.jz_change.specs.declared.change.Numbers.TheVariants.{These}
-use Rattle.jz_change.specs.Changes.{number_in, numbers_in}
+use Rattle.jz_change.specs.Changes.{numbers_in}
 use Rattle.jz_change.specs.Fitting.{HasNumber, HasThese}
 use Rattle.jz_pass.specs.Operations.{DoAll, do_none}
 use Rattle.jz_pass.specs.Unrolling.{IsKnown}
-use Rattle.jz_homes.specs.Homes.{Home, Homes, IsHoming, Holds, IsRelated}
+use Rattle.jz_homes.specs.Homes.{Homes, IsHoming, IsRelated}
 use Rattle.jz_homes.specs.Operands.{Leaks, shown_of, count_of, IsCounted}
-use Rattle.jz_homes.proofs.Parts.{both_went, went_same}
+use Rattle.jz_homes.proofs.Parts.{went_same}
 use Rattle.jz_row_operations.specs.Lowering.{Lowers, sets, sets_if, LowersTest, tests, LowersLoopTest, tests_each, never_false, condition_shown, lowering}
 use Rattle.jz_row_operations.proofs.Items.{IsItem, AreItems, item, both_placed, first_placed, placed_behind, counted_length}
 use Rattle.jz_row_operations.proofs.Runs.{does_all}
 use Rattle.jz_row_operations.proofs.Moves.{append_nil}
-use Rattle.jz_row_operations.proofs.Lowered.{Goes, sets_goes, sets_if_goes, Compared, compared_goes}
+use Rattle.jz_row_operations.proofs.Lowered.{sets_goes, sets_if_goes, compared_goes}
 
 -- ---- marks: what is unset may still be there
 put_less : (b : Bool) (store : Store) (key k : Key) (v : Value) → same_key key k ≡ b → put store key None k ≡ Some v → store k ≡ Some v

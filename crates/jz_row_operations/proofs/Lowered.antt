@@ -1,6 +1,6 @@
 -- Each statement's operations go through, and show the numbers that are said.
-use Rattle.std.proofs.Common.{◌≡◌, ℕ, ◌+◌, ◌<◌, ◌≤◌, Bool, true, false, List, [], ◌∷◌, ◌++◌, Option, Some, None, refl, sym, ap, ◌∙◌, subst, arith, append_assoc}
-use Rattle.std.specs.Prelude.{not, ◌&&◌, All}
+use Rattle.std.proofs.Common.{◌≡◌, ℕ, Bool, false, List, [], ◌∷◌, ◌++◌, Option, Some, None, refl, sym, ap, ◌∙◌, subst, append_assoc}
+use Rattle.std.specs.Prelude.{not, ◌&&◌}
 use Rattle.std.specs.Option.{option_or}
 use Rattle.jz_io.specs.declared.span.Span.{Span}
 use Rattle.jz_words.specs.declared.size.Size.{Size}
@@ -27,17 +27,16 @@ use Rattle.jz_operations.specs.Reading.{is_var, found_by}
 use Rattle.jz_placing.specs.Variables.{numbers_of}
 use Rattle.jz_change.specs.declared.change.Numbers.{Numbers}
 use Rattle.jz_homes.specs.Homes.{Homes, IsHoming, in_register, IsRelated}
-use Rattle.jz_homes.specs.Operands.{Leaks, silent, shown_of, count_of, IsCounted, IsArg, IsDest}
+use Rattle.jz_homes.specs.Operands.{Leaks, silent, shown_of, count_of, IsCounted, IsArg}
 use Rattle.jz_homes.proofs.Reading.{FormOf}
 use Rattle.jz_row_operations.specs.Codes.{no_flag, plain, lasting}
 use Rattle.jz_row_operations.specs.Rows.{NotImm, NotBothImm, commutes, alu_of, carry_alu, shift_of, opposite}
 use Rattle.jz_row_operations.specs.Table.{same_arg, is_imm, nothing}
 use Rattle.jz_row_operations.specs.Lowering.{numbers_from, HasRow, moves, sums, carries, signs, times, times_by as times_number, shifts, shifts_by, extends, lowest, IsCompared, compares, denies, condition_shown}
-use Rattle.jz_row_operations.proofs.Items.{AreItems, item, more_items, no_items, one_item, nothing_placed, both_placed, first_placed, next_placed, third_placed, placed_behind, counted_length, shown_in, row_items, at_numbers}
-use Rattle.jz_row_operations.proofs.Runs.{Ran, runs}
+use Rattle.jz_row_operations.proofs.Items.{AreItems, item, more_items, one_item, nothing_placed, both_placed, first_placed, next_placed, third_placed, shown_in, row_items, at_numbers}
+use Rattle.jz_row_operations.proofs.Runs.{runs}
 use Rattle.jz_row_operations.proofs.Moves.{append_nil, StepsAs, move_steps}
-use Rattle.jz_row_operations.proofs.Sums.{RunsAs, Parts, parts, no_name}
-use Rattle.jz_row_operations.proofs.Brought.{Row}
+use Rattle.jz_row_operations.proofs.Sums.{RunsAs, parts, no_name}
 use Rattle.jz_row_operations.proofs.Chosen.{with_none, brought_goes, away_from_none, away_from_flag}
 use Rattle.jz_row_operations.proofs.Alus.{sum_row, sum_row_swapped, carry_row, carry_row_swapped}
 use Rattle.jz_row_operations.proofs.Carries.{carry_parts}

@@ -1,5 +1,5 @@
 -- `d = -a`, `d = !a`: NEG and NOT.
-use Rattle.std.proofs.Common.{◌≡◌, ℕ, ◌<◌, Bool, List, [], ◌∷◌, ◌++◌, Some, None, refl, sym, ap, ◌∙◌, arith, ℤ}
+use Rattle.std.proofs.Common.{◌≡◌, ℕ, ◌<◌, List, [], ◌∷◌, ◌++◌, Some, None, refl, sym, ap, ◌∙◌, arith, ℤ}
 use Rattle.std.specs.Option.{option_or}
 use Rattle.std.proofs.lemmas.Nat.{mod_below}
 use Rattle.jz_io.specs.declared.span.Span.{Span}
@@ -29,7 +29,7 @@ use Rattle.jz_operations.specs.Values as over
 use Rattle.jz_operations.specs.Rows.{Frame}
 use Rattle.jz_homes.proofs.Shown.{shown, read_shown}
 use Rattle.jz_homes.specs.Homes.{Homes, IsHoming, IsRelated}
-use Rattle.jz_homes.specs.Operands.{IsCounted, Leaks, IsArg, IsDest}
+use Rattle.jz_homes.specs.Operands.{Leaks, IsArg, IsDest}
 use Rattle.jz_row_operations.specs.Codes.{plain}
 use Rattle.jz_row_operations.specs.Rows.{NotImm, IsSign, a_minus, a_not}
 use Rattle.jz_homes.proofs.Parts.{went_same}

@@ -40,7 +40,7 @@ use Rattle.x64_insn.specs.Answers.{alu_answer, and_answer}
 use Rattle.jz_operations.specs.Rows.{Frame, narrowed}
 use Rattle.jz_homes.proofs.Shown.{shown, read_shown}
 use Rattle.jz_homes.specs.Homes.{Homes, IsHoming, in_register, IsRelated}
-use Rattle.jz_homes.specs.Operands.{IsCounted, Leaks, IsArg, a_word, a_number, IsDest}
+use Rattle.jz_homes.specs.Operands.{Leaks, IsArg, a_word, a_number, IsDest}
 use Rattle.jz_row_operations.specs.Codes.{plain}
 use Rattle.jz_row_operations.specs.Rows.{NotImm, mask_of, IsShiftOp, shift_of}
 use Rattle.jz_homes.proofs.Parts.{both_went, went_same, defined_went, evaluated_num, evaluated_var, evaluated_bin}

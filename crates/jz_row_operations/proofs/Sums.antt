@@ -12,7 +12,6 @@ use Rattle.jz_words.specs.Words.{residue}
 use Rattle.jz_words.proofs.Residues.{some_words}
 use Rattle.x64_insn.specs.declared.types.FlagVal.{FlagVal}
 use Rattle.x64_insn.specs.Answers.{alu_answer, sum_answer, difference_answer, and_answer, or_answer, xor_answer}
-use Rattle.x64_insn.specs.Products.{no_flags}
 use Rattle.jz_tree.specs.declared.expr.BinOp.{BinOp}
 use Rattle.jz_tree.specs.declared.expr.BinOp.TheVariants as o
 use Rattle.jz_tree.specs.declared.expr.Expr.{Expr}
@@ -27,15 +26,13 @@ use Rattle.jz_meaning.specs.Assignments.{left_sizes, results_of, conditioned, al
 use Rattle.jz_operations.specs.declared.operation.Pinned.{Pinned}
 use Rattle.jz_operations.specs.declared.operation.Arg.{Arg}
 use Rattle.jz_operations.specs.declared.operation.Arg.TheVariants as arg
-use Rattle.jz_operations.specs.declared.operation.Action.TheVariants as action
 use Rattle.jz_operations.specs.declared.operation.Operation.{Operation}
 use Rattle.jz_operations.specs.Values as over
 use Rattle.jz_operations.specs.Values.{set_var}
 use Rattle.jz_operations.specs.Rows.{Frame, if_some, value_of, put, Done, step, with_flags, set_flags, all_five}
-use Rattle.jz_operations.specs.Reading.{is_var, found_by}
 use Rattle.jz_operations.proofs.Somes.{same_some}
-use Rattle.jz_operations.proofs.OwnVariables.{SameIn, LeftSame, value_same, same_right}
-use Rattle.jz_homes.proofs.Shown.{shown, shown_same}
+use Rattle.jz_operations.proofs.OwnVariables.{SameIn, LeftSame}
+use Rattle.jz_homes.proofs.Shown.{shown}
 use Rattle.jz_homes.specs.Homes.{Homes, IsHoming, IsRelated}
 use Rattle.jz_homes.specs.Operands.{Leaks, IsArg, a_word, a_number, a_scalar, a_cell, a_load, IsDest, shown_of, IsCounted}
 use Rattle.jz_row_operations.specs.Codes.{plain}
@@ -43,8 +40,8 @@ use Rattle.jz_row_operations.proofs.Runs.{Ran, runs}
 use Rattle.jz_row_operations.specs.Rows.{NotBothImm, alu_of, IsSumOp, commutes}
 use Rattle.jz_homes.proofs.Parts.{both_went, went_same, evaluated_bin}
 use Rattle.jz_homes.proofs.Reading.{FormOf, ReadsAs, operand_read, narrowed_itself}
-use Rattle.jz_homes.proofs.Writing.{WritesAs, dest_written, related_same, set_same, set_other}
-use Rattle.jz_row_operations.proofs.Moves.{one_left, append_nil, move_by}
+use Rattle.jz_homes.proofs.Writing.{WritesAs, dest_written, related_same, set_other}
+use Rattle.jz_row_operations.proofs.Moves.{one_left, append_nil}
 
 -- ---- words of a size
 size_is : (z y : Size) → same_size z y ≡ true → z ≡ y
