@@ -191,7 +191,7 @@ module _ (home : Homes) (kinds : List Kind) (are : AreKinds home kinds) where
 
   pub bodies_sorted : {e e1 : ⊤} {b : Block} {rest u : Body} {k : Change} → Unrolls (lowering home) b e rest u e1 k → AreSorted kinds (without_marks rest) → AreSorted kinds (without_marks u)
   bodies_sorted u_done h = h
-  bodies_sorted (u_op {os = os} {u = u} l r) h = turn_sorted os u (lowers_sorted _ os _ l) (bodies_sorted r h)
+  bodies_sorted (u_op {u = u} {os = os} l r) h = turn_sorted os u (lowers_sorted _ os _ l) (bodies_sorted r h)
   bodies_sorted (u_quiet l r) h = bodies_sorted r h
   bodies_sorted (u_if {p = p} {u = u} {a2 = a2} {b2 = b2} {os = os} {p2 = p2} {i = i} l x y ea eb r) h =
       let t = test_sorted p p2 i l.2 in
