@@ -1,0 +1,4 @@
+pub mod Laying
+pub mod Framed
+pub mod InnerFrames
+pub use Rattle.jz_correct.specs.Frames
