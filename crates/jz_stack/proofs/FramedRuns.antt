@@ -17,7 +17,8 @@ use Rattle.jz_placing.specs.Instructions.{Machine, Code, instructions}
 use Rattle.jz_linear.specs.Plain.{IsPlain, IsPlainCode}
 use Rattle.jz_stack.specs.Framed.{then_tree, join, save, load, saves, loads, down, up, framed}
 use Rattle.jz_stack.proofs.Joined.{joined, after_both}
-use Rattle.jz_stack.proofs.Prologue.{rsp_of, Moved, goes_down, goes_up, saved_memory, AreSaved, slots_leak, saves_go, restored, NoneIsRsp, loads_go}
+use Rattle.jz_stack.proofs.Prologue.{rsp_of, Moved, goes_down, goes_up, saved_memory, AreSaved, slots_leak, saves_go, restored, loads_go}
+use Rattle.jz_stack.specs.FrameRuns.{NoneIsRsp}
 
 -- what a frame asks of a state at entry
 pub record HasRoom (size at : ℕ) (saved : List Reg) (rsp0 : ℕ) (s0 : Machine) : Type 0 where

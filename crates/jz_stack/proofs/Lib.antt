@@ -8,5 +8,6 @@ pub mod Keeping
 pub mod PlainRuns
 pub mod Starting
 pub mod NodeFrames
+pub mod FrameLaw
 mod Examples
 mod RowExamples

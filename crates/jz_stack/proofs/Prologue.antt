@@ -25,6 +25,7 @@ use Rattle.jz_placing.specs.Instructions.{Machine, by_effect, does, Code, instru
 use Rattle.jz_linear.specs.Plain.{state_at}
 use Rattle.jz_stack.specs.Framed.{then_tree, join, slot_of, save, load, saves, loads, down, up, framed}
 use Rattle.jz_operations.proofs.Bytes.{all_valid_from, valid_stored, stored_outside, loaded_same, loaded_stored}
+use Rattle.jz_stack.specs.FrameRuns.{NoneIsRsp, Among, NotAmong}
 use Rattle.jz_stack.proofs.Joined.{after_both}
 
 abbrev pub rsp_of : Machine → ℕ
@@ -145,11 +146,6 @@ abbrev pub restored : List Reg → List ℕ → List ℕ → List ℕ
 restored [] old regs = regs
 restored (r ∷ rs) old regs = restored rs old (slice_set regs (number_of r) (slice_index old (number_of r) % 2 ^ 64))
 
--- none is the stack pointer
-abbrev pub NoneIsRsp : List Reg → Type 0
-NoneIsRsp [] = Unit {0}
-NoneIsRsp (r ∷ rs) = (number_of r ≢ 4) × NoneIsRsp rs
-
 other_place : (regs : List ℕ) (k v : ℕ) → k ≢ 4 → slice_index (slice_set regs k v) 4 ≡ slice_index regs 4
 other_place regs k v ne = get_or-set_other regs k 4 v 0 (λ e. ne (sym e))
 
@@ -184,10 +180,6 @@ keeps_old (r ∷ rs) old regs k lt e =
     (⊎_elim (λ same. subst (λ j. slice_index (slice_set regs j (slice_index old j % 2 ^ 64)) k ≡ slice_index old k % 2 ^ 64) same (get_or-set_same regs k (slice_index old k % 2 ^ 64) 0 lt))
     (λ ne. get_or-set_other regs (number_of r) k (slice_index old (number_of r) % 2 ^ 64) 0 ne ∙ e) (is_or_not k (number_of r)))
 
-abbrev pub Among : List Reg → Reg → Type 0
-Among [] r = ⊥
-Among (q ∷ rs) r = (q ≡ r) ⊎ Among rs r
-
 -- a saved register is as it was
 pub comes_back : (rs : List Reg) (old regs : List ℕ) (r : Reg) → number_of r < length regs → Among rs r → slice_index (restored rs old regs) (number_of r) ≡ slice_index old (number_of r) % 2 ^ 64
 comes_back [] old regs r lt h = absurd h
@@ -201,10 +193,6 @@ comes_back (q ∷ rs) old regs r lt h =
     omega_length xs k v j lt = omega (arith, lt, length-set xs k v)
 
 -- and one that is not is as the body left it
-abbrev pub NotAmong : List Reg → Reg → Type 0
-NotAmong [] r = Unit {0}
-NotAmong (q ∷ rs) r = (number_of q ≢ number_of r) × NotAmong rs r
-
 pub stays_as_it_is : (rs : List Reg) (old regs : List ℕ) (r : Reg) → NotAmong rs r → slice_index (restored rs old regs) (number_of r) ≡ slice_index regs (number_of r)
 stays_as_it_is [] old regs r h = refl
 stays_as_it_is (q ∷ rs) old regs r h =

@@ -10,7 +10,7 @@ use Rattle.jz_placing.specs.Instructions.{Machine}
 use Rattle.x64_assemble.specs.Assembling.{Wide, offset_of}
 use Rattle.x64_assemble.proofs.LineSteps.{config_in}
 use Rattle.jz_operations.proofs.Bytes.{loaded_first, none_loaded}
-use Rattle.jz_stack.proofs.Prologue.{NoneIsRsp}
+use Rattle.jz_stack.specs.FrameRuns.{NoneIsRsp}
 use Rattle.jz_stack.proofs.FramedRuns.{HasRoom}
 
 abbrev pub machine_in : Config → Machine

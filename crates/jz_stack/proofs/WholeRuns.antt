@@ -31,7 +31,8 @@ use Rattle.x64_assemble.proofs.LineRunsOn.{returned, CanReturn}
 use Rattle.x64_assemble.proofs.TreeRuns as tree
 use Rattle.x64_assemble.proofs.Spellable.{linear_spellable, widths_of_lines}
 use Rattle.jz_stack.specs.Framed.{framed, slot_outs, framed_tr}
-use Rattle.jz_stack.proofs.Prologue.{rsp_of, AreSaved, are_saved, stay_saved, restored, Among, NotAmong, comes_back, stays_as_it_is}
+use Rattle.jz_stack.specs.FrameRuns.{Among, NotAmong}
+use Rattle.jz_stack.proofs.Prologue.{rsp_of, AreSaved, are_saved, stay_saved, restored, comes_back, stays_as_it_is}
 use Rattle.jz_stack.proofs.FramedRuns.{HasRoom, entered, entered_regs, around, Undone, framed_end, framed_cut, framed_plain}
 use Rattle.jz_stack.proofs.FramedEvents.{end_shown, cut_shown}
 
@@ -47,11 +48,11 @@ stuck_cut e = cc
 same_end : {a b : Machine} {k j : ℕ} {d e : Leak} → ◌≡◌ {A = Outcome Machine FaultKind Leak} (End a k d) (End b j e) → b ≡ a
 same_end e = cc
 
-slots_fit : (size at : ℕ) (saved : List Reg) → OutsFit [] (slot_outs size at saved)
+pub slots_fit : (size at : ℕ) (saved : List Reg) → OutsFit [] (slot_outs size at saved)
 slots_fit size at [] = All-nil (OutFits [])
 slots_fit size at (r ∷ rs) = All-cons (OutFits []) _ (slot_outs size (at + 8) rs) tt (slots_fit size (at + 8) rs)
 
-last_fits : (os : List Out) → OutsFit [] os → (size at : ℕ) (saved : List Reg) → os ≡ slot_outs size at saved → OutsFit [] (slot_outs size at saved ++ out.Addr (form.Frame (pos 0)) ∷ [])
+pub last_fits : (os : List Out) → OutsFit [] os → (size at : ℕ) (saved : List Reg) → os ≡ slot_outs size at saved → OutsFit [] (slot_outs size at saved ++ out.Addr (form.Frame (pos 0)) ∷ [])
 last_fits os h size at [] e = All-cons (OutFits []) _ [] tt (All-nil (OutFits []))
 last_fits os h size at (r ∷ rs) e = All-cons (OutFits []) _ _ tt (last_fits (slot_outs size (at + 8) rs) (slots_fit size (at + 8) rs) size (at + 8) rs refl)
 

@@ -25,6 +25,12 @@ no_offset : (ws : List Wide) → offset_of ws 0 ≡ 0
 no_offset [] = refl
 no_offset (w ∷ ws) = refl
 
+-- entered at its first byte
+pub config_first : (ws : List Wide) (base rsp0 target : ℕ) (s0 : Machine) → config_in ws base rsp0 (Some target) 0 s0 ≡ entered_at base rsp0 target s0
+config_first ws base rsp0 target s0 =
+    let e : base + offset_of ws 0 ≡ base = omega (arith, no_offset ws) in
+    ap (λ r. record { state = state_at s0 r; memory = s0.memory; ended = false; entry_rsp = rsp0; entry_return = Some target }) e
+
 same_target : (a b : ℕ) → ◌≡◌ {A = Option ℕ} (Some a) (Some b) → b ≡ a
 same_target a b e = cc
 
@@ -42,8 +48,7 @@ module _ (t : Code) (ok : IsPlainCode t) (short : total (linear_of t) < 2 ^ 31) 
   start = config_in ws base rsp0 (Some target) 0 s0
 
   start_is : start ≡ entered_at base rsp0 target s0
-  start_is = let e : base + offset_of ws 0 ≡ base = omega (arith, no_offset ws) in
-      ap (λ r. record { state = state_at s0 r; memory = s0.memory; ended = false; entry_rsp = rsp0; entry_return = Some target }) e
+  start_is = config_first ws base rsp0 target s0
 
   are : AreSpellable (insns_of_lines (linear_of t))
   are = linear_spellable t ok short
