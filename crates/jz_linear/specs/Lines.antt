@@ -48,6 +48,16 @@ labels_in (loop q p c b r) = 2 + labels_in p + labels_in b + labels_in r
 labels_in (each f b r) = 0
 labels_in (call c b r) = 0
 
+-- how many operations, branches and loops it has
+abbrev pub parts_in : Code → ℕ
+parts_in done = 0
+parts_in (op i r) = 1 + parts_in r
+parts_in (quiet i r) = parts_in r
+parts_in (choose c a b r) = 1 + parts_in a + parts_in b + parts_in r
+parts_in (loop q p c b r) = 1 + parts_in p + parts_in b + parts_in r
+parts_in (each f b r) = 0
+parts_in (call c b r) = 0
+
 -- it has no instruction
 abbrev pub is_empty : Code → Bool
 is_empty done = true

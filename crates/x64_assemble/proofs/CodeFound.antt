@@ -151,7 +151,7 @@ are_ready ls o n a lt =
     lines_ready (table_from ls 0 []) ls (λ l s. let e = found_first ls l o s in let h = offset_below (all_wide ls) (place_of ls l) in omega (arith, e, h, lt)) ls 0 n a (omega (arith, lt))
 
 -- ---- one line on
-total_more : (x : Line) (ls : List Line) → total (x ∷ ls) ≡ bytes_in x + total ls
+pub total_more : (x : Line) (ls : List Line) → total (x ∷ ls) ≡ bytes_in x + total ls
 total_more (line.Label l) ls = omega arith
 total_more (line.Insn i) ls = omega arith
 total_more (line.Jcc c l) ls = omega arith

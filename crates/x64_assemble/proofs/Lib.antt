@@ -6,3 +6,4 @@ pub mod Grown
 pub mod CodeFound
 pub mod Named
 pub mod CodeLaw
+pub mod Short

@@ -85,7 +85,7 @@ tree_spelled (loop q p c b r) n is =
 tree_spelled (each f b r) n is = absurd f
 tree_spelled (call c b r) n is = absurd c
 
-ret_spelled : is_spelled insn.Ret ≡ true
+pub ret_spelled : is_spelled insn.Ret ≡ true
 unfolding is_spelled
 ret_spelled = refl
 
