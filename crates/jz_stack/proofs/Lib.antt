@@ -9,5 +9,6 @@ pub mod PlainRuns
 pub mod Starting
 pub mod NodeFrames
 pub mod FrameLaw
+pub mod SavedAll
 mod Examples
 mod RowExamples

@@ -133,6 +133,9 @@ pub fn with_frame(alloc: Global, body: Seq<PlacedNode>, end: u32) -> Result<Fram
     ensures size { IfOk result (λ made. made.size ≡ frame_size (frame_end end made.saved)) }
     ensures code { IfOk result (λ made. code_in made.body
         ≡ framing.framed made.size (rounded_up 8 end) made.saved (code_in body)) }
+    // The frame names no other preserved register than the body.
+    ensures named { IfOk result
+        (λ made. made.saved ≡ saved_of (insns_in (code_in made.body))) }
 {
     let saved = saved(alloc, &body)?;
     let size = frame_size(frame_end(end, saved.as_slice()));
