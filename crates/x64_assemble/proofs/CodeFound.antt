@@ -1,5 +1,5 @@
 -- What the code finds are the bytes of the lines.
-use Rattle.std.proofs.Common.{◌≡◌, ◌≢◌, ℕ, zero, suc, ◌+◌, ◌-◌, ◌^◌, ◌<◌, ◌≤◌, ⊎_elim, true, false, List, [], ◌∷◌, ◌++◌, length, replicate, refl, sym, ap, ◌∙◌, subst, arith, pos, ◌-ℤ◌, if◌then◌else◌, ◌==◌, length-append, get_or, drop, append_assoc}
+use Rattle.std.proofs.Common.{◌≡◌, ◌≢◌, ℕ, zero, suc, ◌+◌, ◌-◌, ◌^◌, ◌<◌, ◌≤◌, ⊎_elim, true, false, List, [], ◌∷◌, ◌++◌, length, replicate, refl, sym, ap, ◌∙◌, subst, arith, ℤ, pos, ◌-ℤ◌, if◌then◌else◌, ◌==◌, length-append, get_or, drop, append_assoc}
 use Rattle.std.specs.Prelude.{slice_index}
 use Rattle.std.proofs.lemmas.Bool.Decides.{nat_tests}
 use Rattle.std.proofs.lemmas.List.{drop_more, get_or-set_other, get_or-set_same, length-set}
@@ -208,3 +208,30 @@ module _ (ls : List Line) (k : ℕ) (x : Line) (lt : k < length ls) (is : x ≡ 
             ∙ append_assoc old code (code_from table (length old + bytes_in x) (drop (k + 1) ls)) ∙ ap (λ y. old ++ code_from table (length old) y) (sym one_off) ∙ h.0,
         subst (λ n. AreReady table n (drop (k + 1) ls)) (sym long) (subst (AreReady table (length old)) one_off h.1).1,
       )
+
+-- ---- jumps
+pub jcc_ready : (t : List ℕ) (at : ℕ) (x : Line) (c : Cond) (l target next : ℕ) (d : ℤ) → x ≡ line.Jcc c l → IsReady t at x → target ≡ slice_index t l → next ≡ at + 6 → d ≡ pos target -ℤ pos next → is_spelled (insn.Jcc c Rel32 d) ≡ true
+jcc_ready t at x c l target next d is ready a b e =
+    let r = subst (IsReady t at) is ready in
+    ap (λ y. is_spelled (insn.Jcc c Rel32 y)) e ∙ jcc_spelled c target next (omega (arith, a, r.0)) (omega (arith, b, r.1))
+
+pub jmp_ready : (t : List ℕ) (at : ℕ) (x : Line) (l target next : ℕ) (d : ℤ) → x ≡ line.Jmp l → IsReady t at x → target ≡ slice_index t l → next ≡ at + 5 → d ≡ pos target -ℤ pos next → is_spelled (insn.Jmp Rel32 d) ≡ true
+jmp_ready t at x l target next d is ready a b e =
+    let r = subst (IsReady t at) is ready in
+    ap (λ y. is_spelled (insn.Jmp Rel32 y)) e ∙ jmp_spelled target next (omega (arith, a, r.0)) (omega (arith, b, r.1))
+
+pub call_ready : (t : List ℕ) (at : ℕ) (x : Line) (l target next : ℕ) (d : ℤ) → x ≡ line.Call l → IsReady t at x → target ≡ slice_index t l → next ≡ at + 5 → d ≡ pos target -ℤ pos next → is_spelled (insn.Call d) ≡ true
+call_ready t at x l target next d is ready a b e =
+    let r = subst (IsReady t at) is ready in
+    ap (λ y. is_spelled (insn.Call y)) e ∙ call_spelled target next (omega (arith, a, r.0)) (omega (arith, b, r.1))
+
+-- ---- the whole
+module _ (ls ms : List Line) (t u : List ℕ) (o : Once ls) (n : Named ls ls) (e : ms ≡ ls) (f : u ≡ table_from ms 0 []) (g : t ≡ u) where
+  same_table : t ≡ table_from ls 0 []
+  same_table = g ∙ f ∙ ap (λ x. table_from x 0 []) e
+
+  pub ready_as : AllSpelled ls → total ls < 2 ^ 31 → AreReady t 0 ms
+  ready_as a lt = subst (λ x. AreReady t 0 x) (sym e) (subst (λ x. AreReady x 0 ls) (sym same_table) (are_ready ls o n a lt))
+
+  pub bytes_as : (b r : List ℕ) → b ≡ code_from t 0 ms → r ≡ b → r ≡ bytes_of_lines ls
+  bytes_as b r h k = k ∙ h ∙ ap (λ x. code_from t 0 x) e ∙ ap (λ x. code_from x 0 ls) same_table ∙ code_is ls o n

@@ -10,7 +10,7 @@ use Rattle.x64_insn.specs.declared.types.Width.{Width}
 use Rattle.x64_insn.specs.declared.types.Width.TheVariants.{Rel8, Rel32}
 use Rattle.x64_insn.specs.declared.table.Row.{Row}
 use Rattle.x64_insn.specs.declared.table.Row.TheVariants as row
-use Rattle.x64_insn.specs.Table.{immediate_by, width_length, immediate_length}
+use Rattle.x64_insn.specs.Table.{reg_field, immediate_by, width_length, immediate_length}
 use Rattle.x64_insn.specs.Encoding.{Fields, spelling_of, displacement_length, AreFields, Spells}
 use Rattle.x64_insn.specs.Chosen.{chosen_bytes, is_spelled}
 use Rattle.x64_insn.proofs.ChosenSpelling.{chosen_spells}
@@ -60,8 +60,8 @@ if_first true s = wider (immediate_by s) (by_size s)
 if_first false s = omega arith
 
 immediate_short : (r : Row) (operand_size rex : Option ℕ) (field : ℕ) → immediate_length r operand_size rex field ≤ 8
-immediate_short (row.AluRmReg o) p x f = omega arith
-immediate_short (row.AluRegRm o) p x f = omega arith
+immediate_short (row.AluRmReg a o) p x f = omega arith
+immediate_short (row.AluRegRm a o) p x f = omega arith
 immediate_short (row.AluRmImm o) p x f = wider _ (by_size _)
 immediate_short row.AluRmImm8 p x f = omega arith
 immediate_short (row.MovRmReg o) p x f = omega arith
@@ -102,7 +102,7 @@ fields_short f are =
     let s = option_short f.sib in
     let d = displacement_short f.modrm f.sib in
     let d1 = are.displacement.0 in
-    let i = immediate_short are.row f.operand_size f.rex _ in
+    let i = immediate_short are.row f.operand_size f.rex (reg_field (unwrap_or f.modrm 0)) in
     let i1 = are.immediate.0 in
     omega (arith, all, a, b, c, m, s, d, d1, i, i1)
 
