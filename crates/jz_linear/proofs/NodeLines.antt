@@ -1,5 +1,5 @@
 -- The lines of a body, part by part.
-use Rattle.std.proofs.Common.{◌≡◌, ◌≢◌, ℕ, ◌+◌, ◌^◌, ◌<◌, Bool, true, false, List, [], ◌∷◌, ◌++◌, length, get_or, drop, refl, sym, ap, ◌∙◌, subst, arith, append_assoc, append-nil}
+use Rattle.std.proofs.Common.{◌≡◌, ◌≢◌, ℕ, zero, suc, ◌+◌, ◌^◌, ◌<◌, ◌≤◌, Bool, true, false, List, [], ◌∷◌, ◌++◌, length, get_or, drop, refl, sym, ap, ◌∙◌, subst, arith, append_assoc, append-nil}
 use Rattle.std.proofs.lemmas.List.{drop_more}
 use Rattle.x64_insn.specs.declared.types.Insn.{Insn}
 use Rattle.x64_insn.specs.declared.types.Cond.{Cond}
@@ -14,7 +14,7 @@ use Rattle.jz_place.specs.declared.placed.PlacedNode.TheViews.{out-PlacedNode, r
 use Rattle.jz_place.specs.Codes.{test_in, in_order, node_step, then_code, code_in}
 use Rattle.jz_linear.specs.declared.line.Line.{Line}
 use Rattle.jz_linear.specs.declared.line.Line.TheVariants as line
-use Rattle.jz_linear.specs.Lines.{negated, labels_in, is_empty, test_lines, else_lines, choice_lines, jump_lines, turn_lines, loop_lines, lines_of}
+use Rattle.jz_linear.specs.Lines.{negated, labels_in, parts_in, is_empty, test_lines, else_lines, choice_lines, jump_lines, turn_lines, loop_lines, lines_of}
 use Rattle.jz_linear.specs.InnerLines.{Adds, head_lines}
 
 -- ---- one behind another
@@ -78,6 +78,34 @@ if_is t a b = ap (λ z. then_code z done) (sym (rolls-If t a b)) ∙ ap (λ f. f
 
 pub while_is : (q : Bool) (p : List PlacedNode) (t : PlacedTest) (b : List PlacedNode) → then_code (While q p t b) done ≡ loop q (code_in p) (test_in t) (code_in b) done
 while_is q p t b = ap (λ z. then_code z done) (sym (rolls-While q p t b)) ∙ ap (λ f. f done) (fold-roll-PlacedNode _ node_step (PlacedNode-F.While q p t b))
+
+-- ---- how many parts
+layer_parts : (x : PlacedNode-F (Code → Code)) (r : Code) → parts_in (node_step x r) ≡ parts_in (node_step x done) + parts_in r
+layer_parts (PlacedNode-F.Do i) r = omega arith
+layer_parts (PlacedNode-F.If t a b) r = omega arith
+layer_parts (PlacedNode-F.While q p t b) r = omega arith
+
+node_parts : (n : PlacedNode) (r : Code) → parts_in (then_code n r) ≡ parts_in (then_code n done) + parts_in r
+node_parts n r =
+    ap parts_in (then_is n r) ∙ layer_parts (map-PlacedNode _ _ then_code (out-PlacedNode n)) r
+    ∙ ap (λ t. parts_in t + parts_in r) (sym (then_is n done))
+
+pub parts_at : (ns : List PlacedNode) (k : ℕ) (n : PlacedNode) → k < length ns → n ≡ get_or ns k n → parts_in (then_code n done) ≤ parts_in (code_in ns)
+parts_at [] k n lt is = absurd (omega (arith, lt))
+parts_at (x ∷ ns) zero n lt is =
+    let e = node_parts x (code_in ns) in
+    let same : parts_in (then_code n done) ≡ parts_in (then_code x done) = ap (λ y. parts_in (then_code y done)) is in
+    omega (arith, e, same)
+parts_at (x ∷ ns) (suc k) n lt is =
+    let e = node_parts x (code_in ns) in
+    let h = parts_at ns k n (omega (arith, lt)) is in
+    omega (arith, e, h)
+
+pub if_parts : (t : PlacedTest) (a b : List PlacedNode) (n : PlacedNode) → n ≡ If t a b → parts_in (then_code n done) ≡ 1 + parts_in (code_in a) + parts_in (code_in b)
+if_parts t a b n is = ap (λ z. parts_in (then_code z done)) is ∙ ap parts_in (if_is t a b) ∙ omega arith
+
+pub while_parts : (q : Bool) (p : List PlacedNode) (t : PlacedTest) (b : List PlacedNode) (n : PlacedNode) → n ≡ While q p t b → parts_in (then_code n done) ≡ 1 + parts_in (code_in p) + parts_in (code_in b)
+while_parts q p t b n is = ap (λ z. parts_in (then_code z done)) is ∙ ap parts_in (while_is q p t b) ∙ omega arith
 
 -- ---- one node on
 -- what is left behind one more node
@@ -170,6 +198,12 @@ pub no_else : (ns : List PlacedNode) (label first : ℕ) (l0 l1 : List Line) →
 no_else ns label first l0 l1 is e =
     let zero_on : first ≡ first + 0 = omega arith in
     subst (λ (x : List PlacedNode). Adds l0 l1 (else_lines label (is_empty (code_in x)) (lines_of (code_in x) first)) (first + labels_in (code_in x)) first) (sym is) (e, zero_on)
+
+pub some_if_not : (ns : List PlacedNode) (b : Bool) → (ns ≡ [] → b ≡ true) → b ≡ false → ns ≢ []
+some_if_not ns b h f e = clash (h e) f
+  where
+    clash : b ≡ true → b ≡ false → ⊥
+    clash t f = cc
 
 pub else_adds : (ns : List PlacedNode) (label first next : ℕ) (l0 l1 l2 l3 l4 : List Line) → ns ≢ [] → l1 ≡ l0 ++ line.Jmp (label + 1) ∷ [] → l2 ≡ l1 ++ line.Label label ∷ []
     → Adds l2 l3 (lines_of (code_in ns) first) (first + labels_in (code_in ns)) next → l4 ≡ l3 ++ line.Label (label + 1) ∷ []

@@ -1,6 +1,7 @@
 -- A function with its frame does what its body does.
-use Rattle.std.proofs.Common.{◌≡◌, ◌≢◌, ℕ, zero, suc, ◌+◌, ◌-◌, ◌*◌, ◌^◌, ◌<◌, ◌≤◌, ◌⊎◌, ⊎_elim, false, List, [], ◌∷◌, length, refl, sym, ap, ◌∙◌, subst, arith}
+use Rattle.std.proofs.Common.{◌≡◌, ◌≢◌, ℕ, zero, suc, ◌+◌, ◌-◌, ◌*◌, ◌^◌, ◌<◌, ◌≤◌, ◌⊎◌, ⊎_elim, false, List, [], ◌∷◌, length, refl, sym, ap, ◌∙◌, subst, arith, ◌==◌}
 use Rattle.std.specs.Prelude.{Some, slice_index, slice_set}
+use Rattle.std.proofs.lemmas.Bool.Decides.{nat_tests}
 use Rattle.std.proofs.lemmas.List.{set-get_or}
 use Rattle.x64_insn.specs.declared.types.Reg.{Reg}
 use Rattle.x64_insn.specs.Table.{number_of}
@@ -24,6 +25,9 @@ use Rattle.jz_stack.proofs.Keeping.{begun_memory}
 use Rattle.jz_stack.proofs.WholeRuns as whole
 use Rattle.jz_stack.proofs.PlainRuns as plain
 
+not_zero : (k : ℕ) → (suc k == 0) ≡ false
+not_zero k = grind (arith, nat_tests)
+
 among_none : (rs : List Reg) (r : Reg) → NoneIsRsp rs → Among rs r → number_of r ≢ 4
 among_none [] r h a = absurd a
 among_none (q ∷ rs) r h a = ⊎_elim (λ e. subst (λ x. number_of x ≢ 4) e h.0) (λ b. among_none rs r h.1 b) a
@@ -46,7 +50,7 @@ module _ (k at : ℕ) (saved : List Reg) (is : IsShape (record { size = suc k; a
 
   has : frame.HasRoom (suc k) at saved rsp0 s0
   has = record {
-    some = refl;
+    some = not_zero k;
     stack = room.stack;
     above = room.below;
     below = let a = room.above in omega (arith, a);

@@ -1,6 +1,7 @@
 -- The parts of a frame as they are built.
-use Rattle.std.proofs.Common.{◌≡◌, ℕ, ◌+◌, ◌*◌, ◌^◌, ◌<◌, ◌≤◌, Bool, true, false, ◌||◌, List, [], ◌∷◌, ◌++◌, length, get_or, drop, refl, sym, ap, ◌∙◌, subst, arith, append_assoc, append-nil, cond}
+use Rattle.std.proofs.Common.{◌≡◌, ℕ, ◌+◌, ◌*◌, ◌^◌, ◌<◌, ◌≤◌, Bool, true, false, ◌||◌, List, [], ◌∷◌, ◌++◌, length, get_or, drop, refl, sym, ap, ◌∙◌, subst, arith, append_assoc, append-nil, cond, ◌≢◌, ◌==◌, if◌then◌else◌}
 use Rattle.std.specs.List.{list_any, filter}
+use Rattle.std.proofs.lemmas.Bool.Decides.{nat_tests}
 use Rattle.std.proofs.lemmas.List.{drop_more}
 use Rattle.std.proofs.lemmas.List.Folds.{list_any-append}
 use Rattle.x64_insn.specs.declared.types.Reg.{Reg}
@@ -18,7 +19,7 @@ use Rattle.jz_place.specs.Codes.{test_in, in_order, node_step, then_code, code_i
 use Rattle.jz_linear.proofs.NodeLines.{then_is, do_is, if_is, while_is}
 use Rattle.jz_correct.specs.Frames.{names}
 use Rattle.jz_stack.specs.Laying.{begins_at, ends_at, offsets_from, end_from}
-use Rattle.jz_stack.specs.Framed.{then_tree, test_insns, insns_in, saves, loads, save, load}
+use Rattle.jz_stack.specs.Framed.{then_tree, test_insns, insns_in, saves, loads, save, load, down, up, framed}
 use Rattle.jz_stack.specs.InnerFrames.{save_nodes, load_nodes}
 use Rattle.jz_stack.proofs.Laid.{end_above}
 
@@ -198,13 +199,26 @@ loads_code : (rs : List Reg) (at : ℕ) (ms : List PlacedNode) → code_in (load
 loads_code [] at ms = refl
 loads_code (r ∷ rs) at ms = do_front (load r at) (code_in (load_nodes (at + 8) rs ++ ms)) ∙ ap (op (load r at)) (loads_code rs (at + 8) ms)
 
-pub around_code : (down up : Insn) (at : ℕ) (rs : List Reg) (body n1 n2 n3 n4 n5 : List PlacedNode) → n1 ≡ [] ++ Do down ∷ [] → n2 ≡ n1 ++ save_nodes at rs → n3 ≡ n2 ++ body → n4 ≡ n3 ++ load_nodes at rs → n5 ≡ n4 ++ Do up ∷ []
-    → code_in n5 ≡ op down (saves at rs (then_tree (code_in body) (loads at rs (op up done))))
-around_code down up at rs body n1 n2 n3 n4 n5 a b c d e =
-    let last = load_nodes at rs ++ Do up ∷ [] in
-    let all : n5 ≡ Do down ∷ (save_nodes at rs ++ (body ++ last)) =
-    e ∙ ap (λ x. x ++ Do up ∷ []) d ∙ append_assoc n3 (load_nodes at rs) (Do up ∷ []) ∙ ap (λ x. x ++ last) c ∙ append_assoc n2 body last ∙ ap (λ x. x ++ (body ++ last)) b
-    ∙ append_assoc n1 (save_nodes at rs) (body ++ last) ∙ ap (λ x. x ++ (save_nodes at rs ++ (body ++ last))) a in
-    ap code_in all ∙ do_front down (code_in (save_nodes at rs ++ (body ++ last))) ∙ ap (op down) (saves_code rs at (body ++ last))
-    ∙ ap (λ x. op down (saves at rs x)) (block_tree body last)
-    ∙ ap (λ x. op down (saves at rs (then_tree (code_in body) x))) (loads_code rs at (Do up ∷ []) ∙ ap (loads at rs) (do_front up done))
+framed_some : (size at : ℕ) (rs : List Reg) (body : Code) → size ≢ 0 → framed size at rs body ≡ op (down size) (saves at rs (then_tree body (loads at rs (op (up size) done))))
+framed_some size at rs body ne =
+    let e : (size == 0) ≡ false = grind (arith, nat_tests, ne) in
+    ap (λ b. if b then body else op (down size) (saves at rs (then_tree body (loads at rs (op (up size) done))))) e
+
+around_insns : (first last : Insn) (at : ℕ) (rs : List Reg) (body n1 n2 n3 n4 n5 : List PlacedNode) → n1 ≡ [] ++ Do first ∷ [] → n2 ≡ n1 ++ save_nodes at rs → n3 ≡ n2 ++ body → n4 ≡ n3 ++ load_nodes at rs → n5 ≡ n4 ++ Do last ∷ []
+    → code_in n5 ≡ op first (saves at rs (then_tree (code_in body) (loads at rs (op last done))))
+around_insns first last at rs body n1 n2 n3 n4 n5 a b c d e =
+    let tail = load_nodes at rs ++ Do last ∷ [] in
+    let all : n5 ≡ Do first ∷ (save_nodes at rs ++ (body ++ tail)) =
+    e ∙ ap (λ x. x ++ Do last ∷ []) d ∙ append_assoc n3 (load_nodes at rs) (Do last ∷ []) ∙ ap (λ x. x ++ tail) c ∙ append_assoc n2 body tail ∙ ap (λ x. x ++ (body ++ tail)) b
+    ∙ append_assoc n1 (save_nodes at rs) (body ++ tail) ∙ ap (λ x. x ++ (save_nodes at rs ++ (body ++ tail))) a in
+    ap code_in all ∙ do_front first (code_in (save_nodes at rs ++ (body ++ tail))) ∙ ap (op first) (saves_code rs at (body ++ tail))
+    ∙ ap (λ x. op first (saves at rs x)) (block_tree body tail)
+    ∙ ap (λ x. op first (saves at rs (then_tree (code_in body) x))) (loads_code rs at (Do last ∷ []) ∙ ap (loads at rs) (do_front last done))
+
+pub around_code : (size at : ℕ) (rs : List Reg) (first last : Insn) (body n0 n1 n2 n3 n4 n5 : List PlacedNode) → size ≢ 0 → first ≡ down size → last ≡ up size → n0 ≡ [] → n1 ≡ n0 ++ Do first ∷ [] → n2 ≡ n1 ++ save_nodes at rs → n3 ≡ n2 ++ body
+    → n4 ≡ n3 ++ load_nodes at rs → n5 ≡ n4 ++ Do last ∷ [] → code_in n5 ≡ framed size at rs (code_in body)
+around_code size at rs first last body n0 n1 n2 n3 n4 n5 ne f l z a b c d e =
+    around_insns first last at rs body n1 n2 n3 n4 n5 (a ∙ ap (λ x. x ++ Do first ∷ []) z) b c d e
+    ∙ ap (λ x. op x (saves at rs (then_tree (code_in body) (loads at rs (op last done))))) f
+    ∙ ap (λ x. op (down size) (saves at rs (then_tree (code_in body) (loads at rs (op x done))))) l
+    ∙ sym (framed_some size at rs (code_in body) ne)

@@ -10,6 +10,8 @@ use Rattle.x64_insn.specs.Table.{number_of}
 use Rattle.x64_insn.proofs.Registers.{same_register}
 use Rattle.jz_runs.specs.Trees.{done, op, quiet, choose, loop, each, call}
 use Rattle.jz_placing.specs.Instructions.{Code}
+use Rattle.jz_place.specs.declared.placed.PlacedNode.{PlacedNode}
+use Rattle.jz_place.specs.Codes.{code_in}
 use Rattle.jz_correct.specs.Frames.{is_reg, names, preserved_registers, saved_of}
 use Rattle.jz_stack.specs.Framed.{then_tree, test_insns, insns_in, save, load, saves, loads, down, up, framed}
 use Rattle.jz_stack.proofs.NodeFrames.{any_names}
@@ -94,17 +96,18 @@ module _ (r : Reg) (ne : number_of r ≢ 4) where
 same_reg : (q r : Reg) → is_reg q r ≡ true → q ≡ r
 same_reg q r h = same_register q r (grind (arith, nat_tests, h))
 
-any_saved : (p : Reg → Bool) (rs : List Reg) (r : Reg) → list_any (λ q. is_reg q r) (filter p rs) ≡ true → p r ≡ true
-any_saved p [] r h = absurd cc
-any_saved p (q ∷ rs) r h = by_test (p q) refl h
-  where
-    here : (b : Bool) → (b || list_any (λ q. is_reg q r) (filter p rs)) ≡ true → is_reg q r ≡ b → p q ≡ true → p r ≡ true
-    here true e is t = subst (λ x. p x ≡ true) (same_reg q r is) t
-    here false e is t = any_saved p rs r e
+module _ (p : Reg → Bool) (r : Reg) where
+  saved_here : (q : Reg) (rest : Bool) → (rest ≡ true → p r ≡ true) → (b : Bool) → (b || rest) ≡ true → is_reg q r ≡ b → p q ≡ true → p r ≡ true
+  saved_here q rest more true e is t = subst (λ x. p x ≡ true) (same_reg q r is) t
+  saved_here q rest more false e is t = more e
 
-    by_test : (b : Bool) → p q ≡ b → list_any (λ q. is_reg q r) (cond b (q ∷ filter p rs) (filter p rs)) ≡ true → p r ≡ true
-    by_test true t e = here (is_reg q r) e refl t
-    by_test false t e = any_saved p rs r e
+  saved_by : (q : Reg) (rs : List Reg) → (list_any (λ x. is_reg x r) (filter p rs) ≡ true → p r ≡ true) → (b : Bool) → p q ≡ b → list_any (λ x. is_reg x r) (cond b (q ∷ filter p rs) (filter p rs)) ≡ true → p r ≡ true
+  saved_by q rs more true t e = saved_here q (list_any (λ x. is_reg x r) (filter p rs)) more (is_reg q r) e refl t
+  saved_by q rs more false t e = more e
+
+  any_saved : (rs : List Reg) → list_any (λ x. is_reg x r) (filter p rs) ≡ true → p r ≡ true
+  any_saved [] h = absurd cc
+  any_saved (q ∷ rs) h = saved_by q rs (λ e. any_saved rs e) (p q) refl h
 
 -- a test of registers that agrees on those that are not the stack pointer
 filter_as : (p q : Reg → Bool) → ((r : Reg) → number_of r ≢ 4 → q r ≡ p r) → filter q preserved_registers ≡ filter p preserved_registers
@@ -128,8 +131,12 @@ saved_all size at body = by_size (size == 0)
 
     agrees : (r : Reg) → number_of r ≢ 4 → any_names r around ≡ any_names r body
     agrees r ne = around_named r ne size at (saved_of (insns_in body)) body
-        ∙ absorbed r ne (list_any (λ q. is_reg q r) (saved_of (insns_in body))) (any_names r body) (λ h. any_saved (λ x. any_names x body) preserved_registers r h)
+        ∙ absorbed r ne (list_any (λ q. is_reg q r) (saved_of (insns_in body))) (any_names r body) (λ h. any_saved (λ x. any_names x body) r preserved_registers h)
 
     by_size : (b : Bool) → saved_of (insns_in (cond b body around)) ≡ saved_of (insns_in body)
     by_size true = refl
     by_size false = filter_as (λ r. any_names r body) (λ r. any_names r around) agrees
+
+pub named_all : (size at : ℕ) (saved sliced : List Reg) (body made : List PlacedNode) → saved ≡ saved_of (insns_in (code_in body)) → sliced ≡ saved → code_in made ≡ framed size at sliced (code_in body) → saved ≡ saved_of (insns_in (code_in made))
+named_all size at saved sliced body made e s code =
+    e ∙ sym (saved_all size at (code_in body)) ∙ ap (λ x. saved_of (insns_in (framed size at x (code_in body)))) (sym (s ∙ e)) ∙ ap (λ t. saved_of (insns_in t)) (sym code)
