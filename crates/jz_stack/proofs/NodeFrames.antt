@@ -4,6 +4,7 @@ use Rattle.std.specs.List.{list_any, filter}
 use Rattle.std.proofs.lemmas.Bool.Decides.{nat_tests}
 use Rattle.std.proofs.lemmas.List.{drop_more}
 use Rattle.std.proofs.lemmas.List.Folds.{list_any-append}
+use Rattle.jz_words.specs.Sizes.{bytes_of}
 use Rattle.x64_insn.specs.declared.types.Reg.{Reg}
 use Rattle.x64_insn.specs.declared.types.Insn.{Insn}
 use Rattle.jz_runs.specs.Trees.{done, op, quiet, choose, loop, each, call}
@@ -42,11 +43,11 @@ module _ (ss : List Stacked) (k : ℕ) (s : Stacked) (lt : k < length ss) (is : 
     le,
   )
 
-  pub past_limit : (end next : ℕ) (offsets : List ℕ) → IsLaidOut ss k end offsets → next ≡ ends_at end s → 65536 < next → 65536 < end_from 0 ss
-  past_limit end next offsets h n lt =
+  pub past_limit : (end at more : ℕ) (offsets : List ℕ) → IsLaidOut ss k end offsets → at ≡ begins_at end s → more ≡ s.count * bytes_of s.size → 65536 < at + more → 65536 < end_from 0 ss
+  past_limit end at more offsets h a m lt =
       let last : end_from (ends_at end s) (drop (k + 1) ss) ≡ end_from 0 ss = ap (end_from end) (sym one_off) ∙ h.1 in
       let above = end_above (drop (k + 1) ss) (ends_at end s) in
-      omega (arith, n, lt, last, above)
+      omega (arith, a, m, lt, last, above)
 
 -- ---- which registers are named
 layer_insns : (x : PlacedNode-F (Code → Code)) (r : Code) → insns_in (node_step x r) ≡ insns_in (node_step x done) ++ insns_in r
