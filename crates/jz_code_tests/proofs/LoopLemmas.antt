@@ -1,7 +1,6 @@
 -- The small loop as nodes, and that its lines become bytes.
 use Rattle.std.proofs.Common.{◌≡◌, ℕ, ◌+◌, ◌*◌, ◌^◌, ◌<◌, false, List, [], ◌∷◌, refl, sym, ap, ◌∙◌, subst, arith}
 use Rattle.std.specs.Prelude.{Some}
-use Rattle.jz_words.specs.Readings.{fits_bytes}
 use Rattle.x64_insn.specs.declared.types.Reg.TheVariants as reg
 use Rattle.x64_insn.specs.declared.types.Cond.TheVariants as cond
 use Rattle.x64_insn.specs.Chosen.{is_spelled}
@@ -30,15 +29,15 @@ loop_is p b ns ep eb en =
     ∙ ap (λ x. loop false (op (add_one reg.Rax) done) (if_holds (Some compare) cond.B) x done) (ap code_in eb ∙ do_is (add_one reg.Rdi))
 
 plain_rax : IsPlain (add_one reg.Rax)
-unfolding is_spelled fits_bytes
+unfolding is_spelled
 plain_rax = (refl, refl)
 
 plain_rdi : IsPlain (add_one reg.Rdi)
-unfolding is_spelled fits_bytes
+unfolding is_spelled
 plain_rdi = (refl, refl)
 
 plain_compare : IsPlain compare
-unfolding is_spelled fits_bytes
+unfolding is_spelled
 plain_compare = (refl, refl)
 
 plain : IsPlainCode small_loop

@@ -66,6 +66,6 @@ fn a_loop_becomes_its_bytes(rt: HostRuntime) -> Result<(), Fail> {
     let bytes = bytes_of(alloc, &nodes)?;
     let wanted =
         b"\x48\x83\xc0\x01\x48\x39\xf7\x0f\x83\x09\x00\x00\x00\x48\x83\xc7\x01\xe9\xea\xff\xff\xff\xc3";
-    assert!(rt; bytes.as_slice() == wanted);
+    assert!(rt; bytes.as_slice() == wanted.as_slice());
     Ok(())
 }

@@ -133,10 +133,10 @@ fn saves_what_a_body_names(rt: HostRuntime) -> Result<(), Fail> {
     let from = Operand::Reg(Reg::Rbx);
     nodes.push(PlacedNode::Do(Insn::Alu(Alu::Add, Size::S64, to, from)))?;
     let found = saved(alloc, &nodes)?;
-    assert!(rt; found.as_slice() == [Reg::Rbx, Reg::R12]);
+    assert!(rt; found.as_slice() == [Reg::Rbx, Reg::R12].as_slice());
     let made = with_frame(alloc, nodes, 9)?;
     assert_eq!(rt; made.size, 40);
-    assert!(rt; made.saved.as_slice() == [Reg::Rbx, Reg::R12]);
+    assert!(rt; made.saved.as_slice() == [Reg::Rbx, Reg::R12].as_slice());
     assert_eq!(rt; made.body.len(), 8);
     Ok(())
 }

@@ -1,5 +1,5 @@
 -- The leaks of a tree fit its cases; and a leak is cut exactly where its run is.
-use Rattle.std.proofs.Common.{◌≡◌, ℕ, Bool, true, false, List, [], refl, sym, ◌∙◌, subst, if◌then◌else◌}
+use Rattle.std.proofs.Common.{◌≡◌, ℕ, Bool, true, false, List, [], sym, subst, if◌then◌else◌}
 use Rattle.std.specs.Prelude.{Some, None, not}
 use Rattle.std.proofs.lemmas.List.Elements.{All-nil, All-cons}
 use Rattle.x64_insn.specs.declared.types.Insn.{Insn}

@@ -1,24 +1,23 @@
 -- A function with its frame does what its body does.
-use Rattle.std.proofs.Common.{◌≡◌, ◌≢◌, ℕ, zero, suc, ◌+◌, ◌-◌, ◌*◌, ◌^◌, ◌<◌, ◌≤◌, ◌⊎◌, ⊎_elim, false, List, [], ◌∷◌, length, refl, sym, ap, ◌∙◌, subst, arith, ◌==◌}
-use Rattle.std.specs.Prelude.{Some, slice_index, slice_set}
+use Rattle.std.proofs.Common.{◌≡◌, ◌≢◌, ℕ, zero, suc, ◌+◌, ◌-◌, ◌*◌, ◌^◌, ◌<◌, ◌≤◌, ⊎_elim, false, List, [], ◌∷◌, length, refl, sym, ap, ◌∙◌, subst, arith, ◌==◌}
+use Rattle.std.specs.Prelude.{slice_index, slice_set}
 use Rattle.std.proofs.lemmas.Bool.Decides.{nat_tests}
 use Rattle.std.proofs.lemmas.List.{set-get_or}
 use Rattle.x64_insn.specs.declared.types.Reg.{Reg}
 use Rattle.x64_insn.specs.Table.{number_of}
 use Rattle.jz_leak.specs.RunLeaks.{Leak}
-use Rattle.jz_leak.specs.Applying.{Fits}
 use Rattle.jz_runs.specs.Rules.{End, Cut, Goes}
-use Rattle.x64_machine.specs.Steps.{Config, steps_of}
+use Rattle.x64_machine.specs.Steps.{steps_of}
 use Rattle.jz_placing.specs.Instructions.{Machine, Code, instructions}
 use Rattle.jz_linear.specs.Plain.{IsPlainCode}
-use Rattle.jz_linear.specs.Lines.{linear_of, cases_of}
+use Rattle.jz_linear.specs.Lines.{linear_of}
 use Rattle.jz_linear.specs.LineRuns.{place_of}
 use Rattle.jz_linear.proofs.Fitting.{fits}
 use Rattle.x64_assemble.specs.Assembling.{Wide, all_wide, total, target_in}
-use Rattle.x64_assemble.specs.CodeRuns.{Going, EndsAt, NeverFaults, entered_at}
+use Rattle.x64_assemble.specs.CodeRuns.{Going, EndsAt, NeverFaults}
 use Rattle.x64_assemble.proofs.CodeLaw.{config_first}
 use Rattle.x64_assemble.proofs.Spellable.{insns_counted}
-use Rattle.jz_stack.specs.Framed.{framed, framed_tr}
+use Rattle.jz_stack.specs.Framed.{framed}
 use Rattle.jz_stack.specs.FrameRuns.{Shape, NoneIsRsp, Among, IsShape, HasRoom, IsBegun, BodyKeeps, code_of, insns_of, events_of, FunctionEnds, FunctionRuns, FunctionDoes}
 use Rattle.jz_stack.proofs.FramedRuns as frame
 use Rattle.jz_stack.proofs.Keeping.{begun_memory}

@@ -1,29 +1,26 @@
 -- The instructions round a body: the stack pointer down and up, registers saved and loaded.
-use Rattle.std.proofs.Common.{◌≡◌, ◌≢◌, ℕ, zero, suc, ◌+◌, ◌-◌, ◌*◌, ◌%◌, ◌^◌, ◌<◌, ◌≤◌, ◌⊎◌, inl, inr, ⊎_elim, Bool, true, false, List, [], ◌∷◌, ◌++◌, length, refl, sym, ap, ◌∙◌, subst, arith, if◌then◌else◌, ◌==◌}
-use Rattle.std.specs.Prelude.{Option, Some, None, is_some, Ok, pos, slice_index, slice_set, ◌+ℤ◌}
+use Rattle.std.proofs.Common.{◌≡◌, ◌≢◌, ℕ, ◌+◌, ◌-◌, ◌*◌, ◌%◌, ◌^◌, ◌<◌, ◌≤◌, ◌⊎◌, inl, inr, ⊎_elim, true, false, List, [], ◌∷◌, length, refl, sym, ap, ◌∙◌, subst, arith}
+use Rattle.std.specs.Prelude.{Some, is_some, pos, slice_index, slice_set}
 use Rattle.std.specs.FinMap.{get}
 use Rattle.std.proofs.lemmas.List.{get_or-set_other, get_or-set_same, length-set}
 use Rattle.jz_words.specs.declared.size.Size.TheVariants.{S64}
-use Rattle.jz_words.specs.Words.{residue}
 use Rattle.jz_words.specs.Memory.{Memory, loaded, all_valid, stored}
 use Rattle.x64_insn.specs.declared.types.Reg.{Reg}
 use Rattle.x64_insn.specs.declared.types.Reg.TheVariants as reg
 use Rattle.x64_insn.specs.declared.types.Alu.TheVariants as alu
 use Rattle.x64_insn.specs.declared.types.Operand.TheVariants as operand
 use Rattle.x64_insn.specs.declared.types.Insn.{Insn}
-use Rattle.x64_insn.specs.declared.types.Insn.TheVariants as insn
 use Rattle.x64_insn.specs.declared.types.FaultKind.{FaultKind}
 use Rattle.x64_insn.specs.Answers.{sum_answer, difference_answer, flags_of}
 use Rattle.x64_insn.specs.Table.{number_of}
-use Rattle.x64_insn.specs.Rows.{After, effect_of, address_of, operand_value, address_event, mov_row, put_row}
+use Rattle.x64_insn.specs.Rows.{address_of, operand_value, mov_row, put_row}
 use Rattle.x64_insn.proofs.PlainRows.{operation_step}
 use Rattle.jz_leak.specs.RunLeaks as leak
 use Rattle.jz_leak.specs.RunLeaks.{Leak}
-use Rattle.jz_runs.specs.Trees.{Tree, done, op}
-use Rattle.jz_runs.specs.Rules.{Attempt, stuck, went, Outcome, End, Cut, Stuck, after, Goes, finished, did}
+use Rattle.jz_runs.specs.Rules.{went, Outcome, End, Cut, Stuck, after, Goes, did}
 use Rattle.jz_placing.specs.Instructions.{Machine, by_effect, does, Code, instructions}
 use Rattle.jz_linear.specs.Plain.{state_at}
-use Rattle.jz_stack.specs.Framed.{then_tree, join, slot_of, save, load, saves, loads, down, up, framed}
+use Rattle.jz_stack.specs.Framed.{slot_of, save, load, saves, loads, down, up}
 use Rattle.jz_operations.proofs.Bytes.{all_valid_from, valid_stored, stored_outside, loaded_same, loaded_stored}
 use Rattle.jz_stack.specs.FrameRuns.{NoneIsRsp, Among, NotAmong}
 use Rattle.jz_stack.proofs.Joined.{after_both}

@@ -1,6 +1,6 @@
 -- A body with its frame: the stack pointer goes down, preserved registers are saved, and behind the
 -- body all is undone.
-use Rattle.std.specs.Prelude.{ℕ, ◌+◌, ◌==◌, pos, ◌-ℤ◌, List, [], ◌∷◌, ◌++◌, Option, Some, None, if◌then◌else◌}
+use Rattle.std.specs.Prelude.{ℕ, ◌+◌, ◌==◌, pos, ◌-ℤ◌, List, [], ◌∷◌, ◌++◌, Some, None, if◌then◌else◌}
 use Rattle.jz_words.specs.declared.size.Size.TheVariants.{S64}
 use Rattle.x64_insn.specs.declared.types.Reg.{Reg}
 use Rattle.x64_insn.specs.declared.types.Reg.TheVariants as reg

@@ -1,5 +1,5 @@
 -- The bytes of a tree do what the tree does.
-use Rattle.std.proofs.Common.{◌≡◌, ℕ, ◌+◌, ◌*◌, ◌%◌, ◌^◌, ◌<◌, ◌≤◌, true, false, List, [], ◌∷◌, ◌++◌, length, refl, sym, ap, ◌∙◌, subst, arith}
+use Rattle.std.proofs.Common.{◌≡◌, ℕ, ◌+◌, ◌*◌, ◌%◌, ◌^◌, ◌<◌, ◌≤◌, true, false, List, [], ◌∷◌, ◌++◌, length, refl, sym, ap, subst, arith}
 use Rattle.std.specs.Prelude.{Option, Some, slice_index}
 use Rattle.jz_words.specs.declared.size.Size.TheVariants.{S64}
 use Rattle.x64_insn.specs.declared.types.Reg.TheVariants as reg
@@ -9,7 +9,7 @@ use Rattle.jz_leak.specs.declared.event.Event.TheVariants as event
 use Rattle.jz_leak.specs.RunLeaks.{Leak}
 use Rattle.jz_leak.specs.Applying.{body_events}
 use Rattle.jz_runs.specs.Rules.{End, Cut, Goes}
-use Rattle.x64_machine.specs.Steps.{Config, Ran, steps_of}
+use Rattle.x64_machine.specs.Steps.{Config, steps_of}
 use Rattle.jz_placing.specs.Instructions.{Machine, Code, instructions}
 use Rattle.jz_linear.specs.Plain.{state_at, IsPlainCode}
 use Rattle.jz_linear.specs.Lines.{linear_of, cases_of}

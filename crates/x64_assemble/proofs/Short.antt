@@ -1,5 +1,5 @@
 -- How many bytes the lines of a tree have.
-use Rattle.std.proofs.Common.{◌≡◌, ℕ, ◌+◌, ◌*◌, ◌≤◌, Bool, true, false, List, [], ◌∷◌, ◌++◌, length, refl, sym, ap, ◌∙◌, arith, length-append, if◌then◌else◌}
+use Rattle.std.proofs.Common.{◌≡◌, ℕ, ◌+◌, ◌*◌, ◌≤◌, Bool, true, false, List, [], ◌∷◌, ◌++◌, length, ap, arith, length-append, if◌then◌else◌}
 use Rattle.std.specs.Prelude.{Option, Some, None, unwrap_or}
 use Rattle.std.specs.Option.{option_to_list}
 use Rattle.jz_words.specs.declared.size.Size.{Size}
@@ -11,7 +11,7 @@ use Rattle.x64_insn.specs.declared.types.Width.TheVariants.{Rel8, Rel32}
 use Rattle.x64_insn.specs.declared.table.Row.{Row}
 use Rattle.x64_insn.specs.declared.table.Row.TheVariants as row
 use Rattle.x64_insn.specs.Table.{reg_field, immediate_by, width_length, immediate_length}
-use Rattle.x64_insn.specs.Encoding.{Fields, spelling_of, displacement_length, AreFields, Spells}
+use Rattle.x64_insn.specs.Encoding.{Fields, spelling_of, displacement_length, AreFields}
 use Rattle.x64_insn.specs.Chosen.{chosen_bytes, is_spelled}
 use Rattle.x64_insn.proofs.ChosenSpelling.{chosen_spells}
 use Rattle.jz_runs.specs.Trees.{done, op, quiet, choose, loop, each, call}
@@ -21,7 +21,6 @@ use Rattle.jz_linear.specs.declared.line.Line.TheVariants as line
 use Rattle.jz_linear.specs.Plain.{IsPlainTest, IsPlainCode}
 use Rattle.jz_linear.specs.Lines.{negated, labels_in, parts_in, is_empty, test_lines, else_lines, choice_lines, jump_lines, turn_lines, loop_lines, lines_of, linear_of}
 use Rattle.x64_assemble.specs.Assembling.{total}
-use Rattle.x64_assemble.specs.InnerTables.{bytes_in}
 use Rattle.x64_assemble.proofs.CodeFound.{total_more}
 use Rattle.x64_assemble.proofs.Spellable.{ret_spelled}
 

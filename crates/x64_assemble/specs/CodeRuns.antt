@@ -1,5 +1,5 @@
 -- What a run of the machine over bytes comes to, and the run of a tree whose bytes they are.
-use Rattle.std.specs.Prelude.{◌≡◌, ◌≢◌, ℕ, suc, ◌+◌, ◌*◌, ◌%◌, ◌^◌, ◌<◌, ◌≤◌, true, false, List, [], ◌∷◌, ◌++◌, Option, Some, slice_index}
+use Rattle.std.specs.Prelude.{◌≡◌, ◌≢◌, ℕ, suc, ◌+◌, ◌*◌, ◌%◌, ◌^◌, ◌<◌, ◌≤◌, true, false, List, [], ◌∷◌, ◌++◌, Some, slice_index}
 use Rattle.jz_words.specs.Memory.{loaded}
 use Rattle.jz_words.specs.declared.size.Size.TheVariants.{S64}
 use Rattle.x64_insn.specs.declared.types.FaultKind.{FaultKind}

@@ -1,4 +1,4 @@
-use Rattle.std.proofs.Common.{◌≡◌, ◌+◌, ◌*◌, ◌++◌}
+use Rattle.std.proofs.Common.{◌+◌, ◌*◌, ◌++◌}
 use Rattle.jz_runs.specs.Trees.{done}
 use Rattle.jz_place.specs.Codes.{then_code, code_in}
 use Rattle.jz_linear.specs.Lines.{labels_in, parts_in, lines_of}
