@@ -1,0 +1,12 @@
+use Rattle.std.proofs.Common.{refl, sym, subst}
+use Rattle.jz_unrolling.specs.Numbers.{SetsIf}
+use Rattle.jz_unrolling.proofs.statements.set_if.Goals as goal
+
+pub returns-then-not-set : goal.returns-then-not-set
+returns-then-not-set c =
+    let k = c.args.known.now in
+    subst (λ b. SetsIf b k k c.args.var.now c.args.number) (sym c.if-not-set.true) refl
+
+pub returns-in_ok-set : goal.returns-in_ok-set
+returns-in_ok-set c =
+    subst (λ b. SetsIf b c.args.known.now c.set.new.self c.args.var.now c.args.number) (sym c.if-not-set.false) c.in_ok-set.ensures
