@@ -86,7 +86,7 @@ unroll_if-returns-in_ok-steps-in-Always t c =
     let steps = c.in_ok-steps-in-Always.steps in
     subst (λ q. AddsStep names (branch_of b at) k new out out2 (step.Arm z q (record { steps = steps }))) (sym c.new.ensures)
     (form.arm_adds names b.cond.now at c.in-Always.field-1 z b.yes.now b.no.now c.taken-arm.result.now k new out out2 steps
-    (subst (λ i. IsTest names (numbers_in k) b.cond.now i) c.in-Always.is c.in_ok-test_of.ensures) c.taken-arm.ensures c.in_ok-steps-in-Always.ensures)
+    (subst (λ i. IsTest names (numbers_in k) b.cond.now i) c.in-Always.is c.in_ok-answer.ensures) c.taken-arm.ensures c.in_ok-steps-in-Always.ensures)
 
 pub unroll_one-returns-in_ok-step-in-For : goal.unroll_one-returns-in_ok-step-in-For
 unroll_one-returns-in_ok-step-in-For t c =
