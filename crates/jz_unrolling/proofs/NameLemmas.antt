@@ -1,15 +1,22 @@
 -- The names of inline variables, one declaration after another.
-use Rattle.std.proofs.Common.{◌≡◌, ℕ, List, [], ◌∷◌, ◌++◌, Option, Some, None, Bool, true, false, refl, ap, sym, ◌∙◌}
+use Rattle.std.proofs.Common.{◌≡◌, ℕ, ◌<◌, ◌+◌, List, [], ◌∷◌, ◌++◌, map, length, take, drop, get_or, Option, Some, None, Bool, true, false, refl, ap, sym, ◌∙◌, append_assoc}
 use Rattle.std.specs.Prelude.{◌==◌, ◌&&◌, ◌||◌, is_some, if◌then◌else◌}
 use Rattle.std.specs.List.{list_any}
 use Rattle.std.specs.Str.{bytes_eq}
+use Rattle.std.proofs.lemmas.List.{take_more, drop_more, map-append}
 use Rattle.jz_tree.specs.declared.expr.Expr.TheViews.{out-Var}
 use Rattle.jz_tree.specs.declared.expr.Var.{Var}
+use Rattle.jz_tree.specs.declared.program.Param.{Param}
 use Rattle.jz_type_names.specs.Kinds.{known_of, is_inline_int}
+use Rattle.jz_integers.specs.Integers.{KnownNumbers}
 use Rattle.jz_meaning.specs.States.{Value, put}
 use Rattle.jz_meaning.specs.Stores.{store_of}
+use Rattle.jz_meaning.specs.Values.{ref_of}
+use Rattle.jz_unroll.specs.Unrolling.{all_unknown}
 use Rattle.jz_unrolling.specs.declared.inline_vars.InlineVars.{InlineVars}
 use Rattle.jz_unrolling.specs.InlineNames.{is_inline_named, inline_names, AreInline}
+use Rattle.jz_unrolling.specs.Numbers.{with_number_at}
+use Rattle.jz_unrolling.proofs.PartLemmas.{ref_name, ref_copy}
 
 or_none : (a : Bool) → (a || false) ≡ a
 or_none true = refl
@@ -53,3 +60,21 @@ same_inline t vs v inline h = record { names = h.names ∙ (λ k n c. at n c k) 
         sym (or_none (inline_names vs n c))
         ∙ ap (λ b. inline_names vs n c || (b && (bytes_eq (out-Var v).name n && (out-Var v).copy == c))) (sym inline)
         ∙ sym (any_last (is_inline_named n c) vs v)
+
+-- ---- one item more
+
+abbrev pub vars_of : List Param → List Var
+vars_of ps = map (λ (p : Param). p.var) ps
+
+pub params_more : (ps : List Param) (i : ℕ) (p : Param) → i < length ps → p ≡ get_or ps i p → vars_of (take (i + 1) ps) ≡ vars_of (take i ps) ++ p.var ∷ []
+params_more ps i p lt is = ap vars_of (take_more ps i p lt ∙ ap (λ q. take i ps ++ q ∷ []) (sym is)) ∙ map-append (λ (q : Param). q.var) (take i ps) (p ∷ [])
+
+pub vars_more : (us vs : List Var) (i : ℕ) (v : Var) → i < length vs → v ≡ get_or vs i v → (us ++ take i vs) ++ v ∷ [] ≡ us ++ take (i + 1) vs
+vars_more us vs i v lt is = append_assoc us (take i vs) (v ∷ []) ∙ ap (λ xs. us ++ xs) (sym (take_more vs i v lt ∙ ap (λ q. take i vs ++ q ∷ []) (sym is)))
+
+-- one variable of which nothing is known
+pub unknown_more : (e next : KnownNumbers) (vs : List Var) (i : ℕ) (v : Var) → i < length vs → v ≡ get_or vs i v → next ≡ with_number_at e (out-Var v).name (out-Var v).copy None → all_unknown next (drop (i + 1) vs) ≡ all_unknown e (drop i vs)
+unknown_more e next vs i v lt is q =
+    ap (λ k. all_unknown k (drop (i + 1) vs))
+    (q ∙ ap (λ n. with_number_at e n (out-Var v).copy None) (sym (ref_name v)) ∙ ap (λ d. with_number_at e (ref_of v).name d None) (sym (ref_copy v)))
+    ∙ ap (all_unknown e) (sym (drop_more vs i v lt ∙ ap (λ y. y ∷ drop (i + 1) vs) (sym is)))
