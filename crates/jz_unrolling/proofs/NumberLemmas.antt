@@ -113,7 +113,7 @@ restored_same old start end new outer kept o none n w r = record { changed = r.c
 
 pub restored_less : (e : KnownNumbers) (end new : Known) (outer : List Changed) (kept : Bool) → undone end.changed.items (numbers_in end) ≡ e → IsRestored end new outer kept → kept ≡ true → KnowsLess e (numbers_in end)
 restored_less e end new outer kept back r k =
-    kept_less e (numbers_in end) end.changed.items back (subst (λ x. all_kept x (ends_of (numbers_in end) end.changed.items) ≡ true) (r.numbers ∙ back) (r.ends k))
+    kept_less e (numbers_in end) end.changed.items back (subst (λ x. all_kept x (ends_of (numbers_in end) end.changed.items) ≡ true) (r.numbers ∙ back) (sym r.ends ∙ k))
 
 pub less_then : (a b c : KnownNumbers) → KnowsLess a b → KnowsLess b c → KnowsLess a c
 less_then a b c f g = λ n d i q. g n d i (f n d i q)

@@ -70,6 +70,4 @@ all_kept e xs = list_all (λ x. is_kept (e x.name x.copy) x.old) xs
 pub record IsRestored (old new : Known) (outer : List Changed) (kept : Bool) : Type 0 where
   pub changed : new.changed.items ≡ outer
   pub numbers : numbers_in new ≡ undone old.changed.items (numbers_in old)
-  pub ends :
-      kept ≡ true
-      → all_kept (numbers_in new) (ends_of (numbers_in old) old.changed.items) ≡ true
+  pub ends : kept ≡ all_kept (numbers_in new) (ends_of (numbers_in old) old.changed.items)
