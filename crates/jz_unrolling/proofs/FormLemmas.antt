@@ -21,7 +21,7 @@ use Rattle.jz_change.specs.declared.change.Numbers.TheVariants.{Same}
 use Rattle.jz_change.specs.declared.change.Step.{Step}
 use Rattle.jz_change.specs.declared.change.Step.TheVariants as step
 use Rattle.jz_unroll.specs.Values.{InlineNames}
-use Rattle.jz_unroll.specs.Unrolling.{with_number, number_of, HasValue, HasValues, UnrollsTest, tested, UnrollsLoopTest, loops, always, KnowsLess}
+use Rattle.jz_unroll.specs.Unrolling.{with_number, number_of, HasValue, HasValues, UnrollsTest, tested, UnrollsLoopTest, loops, always, IsConstant, KnowsLess}
 use Rattle.jz_unrolling.specs.declared.conditions.Test.TheVariants.{Always, Asked}
 use Rattle.jz_unrolling.specs.declared.known.Changed.{Changed}
 use Rattle.jz_unrolling.specs.declared.known.Known.{Known}
@@ -89,15 +89,15 @@ module _ (names : InlineNames) where
 
   -- ---- `while`
 
-  pub once_adds : (h0 : Bool) (c : Expr) (at at1 : Span) (q : List Stmt) (b : Block) (old start end new : Known) (outer : List Changed) (out out2 statements : List Stmt) (steps : List Step) → IsTest names (numbers_in end) c (Always false at1) → outer ≡ old.changed.items → start.changed.items ≡ [] → numbers_in start ≡ numbers_in old
+  pub once_adds : (h0 : Bool) (c : Expr) (at : Span) (q : List Stmt) (b : Block) (old start end new : Known) (outer : List Changed) (out out2 statements : List Stmt) (steps : List Step) → IsConstant (record { cond = c; at = at }) (numbers_in end) false → outer ≡ old.changed.items → start.changed.items ≡ [] → numbers_in start ≡ numbers_in old
       → Adds names (block no_callees q) start end [] statements steps → new.changed.items ≡ outer ++ end.changed.items → numbers_in new ≡ numbers_in end → out2 ≡ out ++ statements
       → AddsStep names (loop h0 (block no_callees q done) (record { cond = c; at = at }) b) old new out out2 (step.Once (record { steps = steps }) [])
-  once_adds h0 c at at1 q b old start end new outer out out2 statements steps test o none n h ch m add = record {
+  once_adds h0 c at q b old start end new outer out out2 statements steps test o none n h ch m add = record {
     made = statements;
     added = add;
     becomes =
         subst (λ x. Becomes names (loop h0 (block no_callees q done) (record { cond = c; at = at }) b) (numbers_in old) statements x (step.Once (record { steps = steps }) [] ∷ [])) (sym m)
-        (once_becomes names h0 c at b (block no_callees q) (numbers_in old) (numbers_in end) statements steps (test.0, test.1)
+        (once_becomes names h0 c at b (block no_callees q) (numbers_in old) (numbers_in end) statements steps test
         (subst (λ x. Becomes names (block no_callees q) x statements (numbers_in end) steps) n
         (subst (λ l. Becomes names (block no_callees q) (numbers_in start) l (numbers_in end) steps) (sym h.added) h.becomes)));
     went = joined_went old start end new outer o none n h.went ch m;
@@ -108,6 +108,9 @@ module _ (names : InlineNames) where
 
   pub true_test : (e : KnownNumbers) (c : Expr) (at at1 : Span) → IsTest names e c (Always true at1) → UnrollsLoopTest names (record { cond = c; at = at }) e [] [] (record { cond = expr.Bool true at1; at = at }) Same
   true_test e c at at1 t = subst (λ x. UnrollsLoopTest names (record { cond = c; at = at }) e [] [] (record { cond = expr.Bool true x; at = at }) Same) (sym t.2) (always t.0 t.1)
+
+  pub false_test : (e : KnownNumbers) (c : Expr) (at at1 : Span) → IsTest names e c (Always false at1) → IsConstant (record { cond = c; at = at }) e false
+  false_test e c at at1 t = (t.0, t.1)
 
   pub head_so : (q : List Stmt) (c : Expr) (at : Span) (old start end : Known) (head : Head) → start.changed.items ≡ [] → numbers_in start ≡ numbers_in old → Adds names (block no_callees q) start end [] head.prologue.statements head.prologue.steps
       → UnrollsLoopTest names (record { cond = c; at = at }) (numbers_in end) [] [] (record { cond = head.cond; at = at }) Same

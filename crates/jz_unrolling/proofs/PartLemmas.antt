@@ -27,7 +27,7 @@ use Rattle.jz_unroll.proofs.Valued.{parts_in, parts_layer, access_values_is, acc
 use Rattle.jz_unrolling.specs.declared.expressions.Waiting.{Waiting}
 use Rattle.jz_unrolling.specs.declared.parts.Part.{Part}
 use Rattle.jz_unrolling.specs.declared.parts.Part.TheVariants.{Inline, Plain}
-use Rattle.jz_unrolling.specs.Parts.{on_left, IsValued, IsInlinePart, IsPlainPart, IsPart}
+use Rattle.jz_unrolling.specs.Parts.{on_left, written_at, IsValued, IsInlinePart, IsPlainPart, IsPart}
 
 -- ---- left sides
 
@@ -170,6 +170,10 @@ module _ (names : InlineNames) (e : KnownNumbers) where
     copy = ap (expr.Bool b) p.place ∙ sym (inline_whole e x p.inline ∙ ap (constant_expr (span_of x) x) (sym p.value));
     known = inline_known names e x p.inline p.whole (some_there (inline_value e x) (constant.Bool b) p.value);
   }
+
+  pub constant_valued : (x : Expr) (k : Constant) (at : Span) → IsInlinePart names e x (Some k) at → IsValued names e x (written_at at k)
+  constant_valued x (constant.Int n) at p = number_valued x n at p
+  constant_valued x (constant.Bool b) at p = truth_valued x b at p
 
   -- ---- numbers and truths
 

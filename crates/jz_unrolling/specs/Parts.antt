@@ -3,7 +3,8 @@ use Rattle.std.specs.Prelude.{ℤ, ◌≡◌, true, false, List, [], ◌∷◌, 
 use Rattle.jz_tree.specs.Span.{Span}
 use Rattle.jz_tree.specs.declared.expr.BinOp.{BinOp}
 use Rattle.jz_tree.specs.declared.expr.Expr.{Expr}
-use Rattle.jz_tree.specs.declared.expr.Expr.TheVariants.{Bin}
+use Rattle.jz_tree.specs.declared.expr.Expr.TheVariants.{Bin, Num}
+use Rattle.jz_tree.specs.declared.expr.Expr.TheVariants as expr
 use Rattle.jz_tree.specs.declared.expr.Var.{Var}
 use Rattle.jz_tree.specs.declared.expr.Expr.TheViews.{out-Var}
 use Rattle.jz_tree.specs.declared.stmt.Lval.{Lval}
@@ -26,6 +27,11 @@ use Rattle.jz_unrolling.specs.declared.parts.Part.TheVariants.{Inline, Plain}
 abbrev pub on_left : List Waiting → Expr → Expr
 on_left [] x = x
 on_left (w ∷ ws) x = Bin w.op (on_left ws x) w.right.now w.span
+
+-- a constant as it stands in a text
+abbrev pub written_at : Span → Constant → Expr
+written_at at (constant.Int i) = Num i at
+written_at at (constant.Bool b) = expr.Bool b at
 
 module _ (names : InlineNames) (e : KnownNumbers) where
   -- an expression by itself

@@ -1,5 +1,5 @@
 -- What statements become, before whatever follows, with the steps of the change.
-use Rattle.std.specs.Prelude.{ℤ, ◌≡◌, Bool, not, is_some, List, [], ◌∷◌, ◌++◌, map, Option, Some, None}
+use Rattle.std.specs.Prelude.{ℤ, ◌≡◌, Bool, false, not, is_some, List, [], ◌∷◌, ◌++◌, map, Option, Some, None}
 use Rattle.jz_tree.specs.Span.{Span}
 use Rattle.jz_tree.specs.declared.expr.Expr.{Expr}
 use Rattle.jz_tree.specs.declared.expr.Var.{Var}
@@ -18,13 +18,15 @@ use Rattle.jz_change.specs.declared.change.Step.{Step}
 use Rattle.jz_change.specs.declared.change.Step.TheVariants as step
 use Rattle.jz_pass.specs.Unrolling.{Unrolls}
 use Rattle.jz_unroll.specs.Values.{InlineNames}
-use Rattle.jz_unroll.specs.Unrolling.{HasValue, IsInlineInt, KnowsLess, UnrollsLoopTest, unrolling}
+use Rattle.jz_unroll.specs.Unrolling.{HasValue, IsInlineInt, IsConstant, KnowsLess, UnrollsLoopTest, unrolling}
 use Rattle.jz_unrolling.specs.declared.known.Changed.{Changed}
 use Rattle.jz_unrolling.specs.declared.known.Known.{Known}
 use Rattle.jz_unrolling.specs.declared.settings.Setting.{Setting}
 use Rattle.jz_unrolling.specs.declared.statements.Apart.{Apart}
 use Rattle.jz_unrolling.specs.declared.statements.Branch.{Branch}
 use Rattle.jz_unrolling.specs.declared.statements.Head.{Head}
+use Rattle.jz_unrolling.specs.declared.statements.LoopTest.{LoopTest}
+use Rattle.jz_unrolling.specs.declared.statements.LoopTest.TheVariants.{Once, Asks}
 use Rattle.jz_unrolling.specs.declared.statements.Rounds.{Rounds}
 use Rattle.jz_unrolling.specs.declared.statements.Turn.{Turn}
 use Rattle.jz_unrolling.specs.declared.statements.Turns.{Turns}
@@ -119,6 +121,13 @@ module _ (names : InlineNames) where
         made.steps
     pub less : KnowsLess (numbers_in old) behind
     pub same : IsSame old new
+
+  -- false at once, or a test that stays
+  abbrev pub IsLoopTest : KnownNumbers → Expr → Span → LoopTest → Type 0
+  IsLoopTest e c at Once = IsConstant (record { cond = c; at = at }) e false
+  IsLoopTest e c at (Asks y) =
+      UnrollsLoopTest names (record { cond = c; at = at }) e [] []
+      (record { cond = y; at = at }) Same
 
   -- behind a prologue: what it has become, and the test; e is known before it
   pub record IsHead (e : KnownNumbers) (old : Known) (q : List Stmt) (c : Expr) (at : Span)

@@ -1,11 +1,11 @@
 //! What an expression becomes, as long as it is a part of another one.
 
-ghost use Rattle.std.specs.Prelude.{IfOk};
+ghost use Rattle.std.specs.Prelude.{◌≡◌, IfOk};
 ghost use Rattle.jz_integers.specs.Integers.{KnownNumbers};
 ghost use Rattle.jz_tree.specs.declared.expr.Expr.{Expr as Tree};
 ghost use Rattle.jz_tree.specs.declared.expr.Expr.TheVariants as expr;
 ghost use Rattle.jz_unroll.specs.Values.{InlineNames};
-ghost use Rattle.jz_unrolling.specs.Parts.{IsPart, IsValued};
+ghost use Rattle.jz_unrolling.specs.Parts.{IsPart, IsValued, written_at};
 
 use crate::constants::joined;
 use jz_integers::Constant;
@@ -28,10 +28,21 @@ impl Part {
     {
         match self {
             Part::Plain(expr) => Ok(expr),
-            Part::Inline(None, span) => Err(Failure::Refused(span)),
-            Part::Inline(Some(Constant::Int(n)), span) => Ok(Expr::Num(n, span)),
-            Part::Inline(Some(Constant::Bool(truth)), span) => Ok(Expr::Bool(truth, span)),
+            Part::Inline(value, span) => match value {
+                None => Err(Failure::Refused(span)),
+                Some(constant) => Ok(written(constant, span)),
+            },
         }
+    }
+}
+
+/// A constant as it stands in a text.
+fn written(constant: Constant, span: Span) -> Expr
+    ensures { result ≡ written_at span constant }
+{
+    match constant {
+        Constant::Int(n) => Expr::Num(n, span),
+        Constant::Bool(truth) => Expr::Bool(truth, span),
     }
 }
 

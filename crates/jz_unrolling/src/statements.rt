@@ -15,6 +15,10 @@ ghost use Rattle.jz_unrolling.specs.declared.conditions.Test.TheVariants.{Asked}
 ghost use Rattle.jz_unrolling.specs.Steps.{no_callees, setting_of, branch_of, turns_of};
 ghost use Rattle.jz_unrolling.specs.Steps.{one_item, step_list};
 ghost use Rattle.jz_unrolling.specs.Steps.{Adds, AddsOne, AddsStep, IsApart, IsTurn, EndsLoop};
+ghost use Rattle.jz_unrolling.specs.Steps.{IsLoopTest};
+ghost use Rattle.jz_tree.specs.declared.expr.Expr.{Expr as Tree};
+ghost use Rattle.jz_integers.specs.Integers.{KnownNumbers};
+ghost use Rattle.jz_unroll.specs.Values.{InlineNames};
 ghost use Rattle.jz_unrolling.specs.Steps.{HasRounds, AddsRounds};
 
 use crate::conditions::{Test, test_of};
@@ -277,13 +281,14 @@ fn unroll_instruction(
     };
     let to = lefts_with_values(&values, named.to)?;
     let args = all_with_values(&values, named.args)?;
+    let name = named.name.clone()?;
     out.push(Stmt {
         notes: copy_notes(unroller.alloc, &stmt.notes)?,
         span: stmt.span,
         kind: StmtKind::Assign {
             to,
             op: None,
-            rhs: Rhs::Intrinsic(named.name.clone()?, args, named.at),
+            rhs: Rhs::Intrinsic(name, args, named.at),
             cond: None,
         },
     })?;
@@ -447,8 +452,8 @@ fn unroll_while(
     };
     let test = test_of(&values, turns.cond)?;
     let prologue = Apart { statements, steps };
-    match test {
-        Test::Always(false, _) => {
+    match loop_test(test) {
+        LoopTest::Once => {
             let Apart { statements, steps } = prologue;
             known.join(outer)?;
             out.append(statements)?;
@@ -457,16 +462,7 @@ fn unroll_while(
                 before: Seq::new(unroller.alloc),
             })
         }
-        Test::Always(true, span) => {
-            let head = Head {
-                outer,
-                prologue,
-                cond: Expr::Bool(true, span),
-            };
-            let step = unroll_body(unroller, known, stmt, head, turns.body, out)?;
-            Ok(step)
-        }
-        Test::Asked(cond) => {
+        LoopTest::Asks(cond) => {
             let head = Head {
                 outer,
                 prologue,
@@ -474,6 +470,31 @@ fn unroll_while(
             };
             let step = unroll_body(unroller, known, stmt, head, turns.body, out)?;
             Ok(step)
+        }
+    }
+}
+
+/// What a `while` with a test is.
+#[derive(Drop)]
+enum LoopTest {
+    /// Its prologue alone.
+    Once,
+    /// A loop with this test.
+    Asks(Expr),
+}
+
+fn loop_test(test: Test) -> LoopTest
+    ensures { (names : InlineNames) (e : KnownNumbers) (cond : Tree) (at : Place)
+        → IsTest names e cond test → IsLoopTest names e cond at result }
+{
+    match test {
+        Test::Asked(cond) => LoopTest::Asks(cond),
+        Test::Always(answer, span) => {
+            if answer {
+                LoopTest::Asks(Expr::Bool(true, span))
+            } else {
+                LoopTest::Once
+            }
         }
     }
 }

@@ -1,28 +1,27 @@
-use Rattle.std.proofs.Common.{◌≡◌, List, ◌∷◌, [], ◌++◌, ◌+◌, take, if◌then◌else◌, true, false, Some, None, refl, arith, rules, ap, sym, subst, ◌∙◌}
+use Rattle.std.proofs.Common.{◌≡◌, List, ◌∷◌, [], ◌++◌, ◌+◌, take, if◌then◌else◌, true, false, Some, None, refl, arith, rules, ap, sym, subst, ◌∙◌, to_z, of_z}
 use Rattle.std.specs.Prelude.{not, is_some}
 use Rattle.std.specs.Int.{w128}
 use Rattle.std.proofs.lemmas.Int.{to_z-of_z}
 use Rattle.jz_interp.specs.InnerParts.{body_piece}
 use Rattle.jz_tree.specs.Span.{Span}
-use Rattle.jz_tree.specs.declared.expr.Expr.TheVariants as expr
 use Rattle.jz_tree.specs.declared.stmt.Stmt.{Stmt}
 use Rattle.jz_tree.specs.declared.stmt.StmtKind.TheVariants as kind
 use Rattle.jz_meaning.specs.Runs.{block, statement_tree}
 use Rattle.jz_meaning.specs.Trees.{each, done}
+use Rattle.jz_meaning.specs.Statements.{values_between}
 use Rattle.jz_interp.proofs.Falls.{weights_at}
 use Rattle.jz_interp.proofs.Pieces.{for_is}
 use Rattle.jz_change.specs.declared.change.Numbers.TheVariants.{Same}
 use Rattle.jz_change.specs.declared.change.Change.{Change}
 use Rattle.jz_change.specs.declared.change.Step.{Step}
 use Rattle.jz_change.specs.declared.change.Step.TheVariants as step
-use Rattle.jz_unrolling.specs.declared.conditions.Test.TheVariants.{Always, Asked}
 use Rattle.jz_unrolling.specs.declared.statements.Apart.{Apart}
 use Rattle.jz_unrolling.specs.declared.statements.Head.{Head}
 use Rattle.jz_unroll.specs.Unrolling.{IsInlineInt}
 use Rattle.jz_unrolling.specs.InlineNames.{names_in}
 use Rattle.jz_unrolling.specs.Numbers.{numbers_in}
 use Rattle.jz_unrolling.specs.Parts.{IsTest}
-use Rattle.jz_unrolling.specs.Steps.{no_callees, Adds, AddsStep, IsTurn, IsLoop, loop_of, branch_of, turns_of, for_of, step_list, list_or}
+use Rattle.jz_unrolling.specs.Steps.{no_callees, Adds, AddsStep, IsTurn, IsLoop, IsLoopTest, loop_of, branch_of, turns_of, for_of, step_list, list_or}
 use Rattle.jz_unrolling.proofs.AddLemmas.{adds_next, adds_as}
 use Rattle.jz_unrolling.proofs.FormLemmas as form
 use Rattle.jz_unrolling.proofs.PartLemmas.{ref_name, ref_copy}
@@ -107,8 +106,9 @@ unroll_rounds-loop-next-init t c =
     let names = names_in c.args.unroller.now.vars.now in
     let r = c.args.rounds.now in
     let k = c.args.known.now in
-    subst (λ l. form.IsRounding names r c.args.body.now k k c.args.out.now c.args.out.now l _) (sym c.new-changes.ensures)
-    (form.rounds_begin names r c.args.body.now k c.args.out.now _ (to_z-of_z w128 r.first (search rules)))
+    let first = to_z w128 (of_z w128 r.first) in
+    subst (λ l. form.IsRounding names r c.args.body.now k k c.args.out.now c.args.out.now l first) (sym c.new-changes.ensures)
+    (form.rounds_begin names r c.args.body.now k c.args.out.now first (to_z-of_z w128 r.first (search rules)))
 
 pub unroll_rounds-loop-next-preserved : goal.unroll_rounds-loop-next-preserved
 unroll_rounds-loop-next-preserved t c =
@@ -118,14 +118,16 @@ unroll_rounds-loop-next-preserved t c =
     subst (λ at. form.IsRounding names r c.args.body.now k c.unroll_all.new.known c.args.out.now c.unroll_all.new.out c.push.new.self at) (sym (to_z-of_z w128 c.in-Some.next (search rules)))
     (subst (λ l. form.IsRounding names r c.args.body.now k c.unroll_all.new.known c.args.out.now c.unroll_all.new.out l c.in-Some.next) (sym c.in_ok-push.ensures.ok)
     (form.rounds_next names r c.args.body.now k c.loop-next.known c.set.new.self c.unroll_all.new.known c.args.out.now c.loop-next.out c.unroll_all.new.out c.loop-next.changes c.loop-next.at c.in-Some.next c.in_ok-steps.steps _ _
-    c.in-Some.ensures (sym (ref_name r.counter.now)) (sym (ref_copy r.counter.now)) c.in_ok-set.ensures c.in_ok-steps.ensures c.loop-next.invariant))
+    (subst (λ b. values_between r.down c.loop-next.at b ≡ c.loop-next.at ∷ values_between r.down c.in-Some.next b) (to_z-of_z w128 r.bound (search rules)) c.in-Some.ensures)
+    (sym (ref_name r.counter.now)) (sym (ref_copy r.counter.now)) c.in_ok-set.ensures c.in_ok-steps.ensures c.loop-next.invariant))
 
 pub unroll_rounds-returns : goal.unroll_rounds-returns
 unroll_rounds-returns t c =
     let names = names_in c.args.unroller.now.vars.now in
     let r = c.args.rounds.now in
     form.rounds_add names r c.args.body.now c.args.known.now c.loop-next.known c.set-2.new.self c.args.out.now c.loop-next.out c.loop-next.changes c.loop-next.at _ _ c.number-old.result
-    c.in_default.ensures (sym (ref_name r.counter.now)) (sym (ref_copy r.counter.now)) c.number-old.ensures c.in_ok-set-2.ensures c.loop-next.invariant
+    (subst (λ b. values_between r.down c.loop-next.at b ≡ []) (to_z-of_z w128 r.bound (search rules)) c.in_default.ensures)
+    (sym (ref_name r.counter.now)) (sym (ref_copy r.counter.now)) c.number-old.ensures c.in_ok-set-2.ensures c.loop-next.invariant
 
 pub unroll_turn-returns-in-None : goal.unroll_turn-returns-in-None
 unroll_turn-returns-in-None t c =
@@ -134,50 +136,32 @@ unroll_turn-returns-in-None t c =
     subst (λ l. IsTurn names c.args.body.now k k (record { body = None; steps = l })) (sym c.new.ensures)
     (subst (λ b. IsTurn names b k k (record { body = None; steps = [] })) (sym c.in-None.is) (form.turn_none names k))
 
-pub unroll_while-returns-in_ok-step-in-Always-true-default : goal.unroll_while-returns-in_ok-step-in-Always-true-default
-unroll_while-returns-in_ok-step-in-Always-true-default t c =
+pub unroll_while-returns-in_ok-append-in-Once : goal.unroll_while-returns-in_ok-append-in-Once
+unroll_while-returns-in_ok-append-in-Once t c =
     let names = names_in c.args.unroller.now.vars.now in
     let s = c.args.turns.now in
     let at = c.args.stmt.now.span in
     let start = c.enter-outer.new.self in
     let end = c.unroll_all.new.known in
-    let i = c.in-Always-true-default in
-    let head : Head = record { outer = c.enter-outer.result; prologue = record { statements = c.unroll_all.new.out; steps = c.in_ok-steps.steps }; cond = expr.Bool true i.span } in
-    form.loop_adds names (turns_of s at) c.args.known.now c.unroll_body.new.known c.enter-outer.result.items c.args.out.now c.unroll_body.new.out c.in_ok-step-in-Always-true-default.step
-    (ap (λ l. l.items) c.enter-outer.ensures.outer)
-    (c.in_ok-step-in-Always-true-default.ensures (numbers_in c.args.known.now) s.prologue.now s.cond.now
-    (form.head_so names s.prologue.now s.cond.now at c.args.known.now start end head c.enter-outer.ensures.fresh c.enter-outer.ensures.numbers
-    (subst (λ l. Adds names (block no_callees s.prologue.now) start end l c.unroll_all.new.out c.in_ok-steps.steps) c.new-statements.ensures c.in_ok-steps.ensures)
-    (form.true_test names (numbers_in end) s.cond.now at i.span
-    (subst (λ z. IsTest names (numbers_in end) s.cond.now (Always z i.span)) i.field-0-is (subst (λ k. IsTest names (numbers_in end) s.cond.now k) i.is c.in_ok-test.ensures)))))
-
-pub unroll_while-returns-in_ok-append-in-Always-false-default : goal.unroll_while-returns-in_ok-append-in-Always-false-default
-unroll_while-returns-in_ok-append-in-Always-false-default t c =
-    let names = names_in c.args.unroller.now.vars.now in
-    let s = c.args.turns.now in
-    let at = c.args.stmt.now.span in
-    let start = c.enter-outer.new.self in
-    let end = c.unroll_all.new.known in
-    let i = c.in-Always-false-default in
     subst (λ q. AddsStep names (turns_of s at) c.args.known.now c.join.new.self c.args.out.now c.append.new.self (step.Once (record { steps = c.in_ok-steps.steps }) q)) (sym c.new.ensures)
-    (form.once_adds names (not (is_some s.body.now)) s.cond.now at i.field-1 s.prologue.now (body_piece no_callees s.body.now done) c.args.known.now start end c.join.new.self c.enter-outer.result.items
+    (form.once_adds names (not (is_some s.body.now)) s.cond.now at s.prologue.now (body_piece no_callees s.body.now done) c.args.known.now start end c.join.new.self c.enter-outer.result.items
     c.args.out.now c.append.new.self c.unroll_all.new.out c.in_ok-steps.steps
-    (subst (λ z. IsTest names (numbers_in end) s.cond.now (Always z i.field-1)) i.field-0-is (subst (λ k. IsTest names (numbers_in end) s.cond.now k) i.is c.in_ok-test.ensures))
+    (subst (λ k. IsLoopTest names (numbers_in end) s.cond.now at k) c.in-Once.is (c.loop_test.ensures names (numbers_in end) s.cond.now at c.in_ok-test.ensures))
     (ap (λ l. l.items) c.enter-outer.ensures.outer) c.enter-outer.ensures.fresh c.enter-outer.ensures.numbers
     (subst (λ l. Adds names (block no_callees s.prologue.now) start end l c.unroll_all.new.out c.in_ok-steps.steps) c.new-statements.ensures c.in_ok-steps.ensures)
-    c.in_ok-join-in-Always-false-default.ensures.changed c.in_ok-join-in-Always-false-default.ensures.numbers c.in_ok-append-in-Always-false-default.ensures.ok)
+    c.in_ok-join-in-Once.ensures.changed c.in_ok-join-in-Once.ensures.numbers c.in_ok-append-in-Once.ensures.ok)
 
-pub unroll_while-returns-in_ok-step-in-Asked : goal.unroll_while-returns-in_ok-step-in-Asked
-unroll_while-returns-in_ok-step-in-Asked t c =
+pub unroll_while-returns-in_ok-step-in-Asks : goal.unroll_while-returns-in_ok-step-in-Asks
+unroll_while-returns-in_ok-step-in-Asks t c =
     let names = names_in c.args.unroller.now.vars.now in
     let s = c.args.turns.now in
     let at = c.args.stmt.now.span in
     let start = c.enter-outer.new.self in
     let end = c.unroll_all.new.known in
-    let head : Head = record { outer = c.enter-outer.result; prologue = record { statements = c.unroll_all.new.out; steps = c.in_ok-steps.steps }; cond = c.in-Asked.cond } in
-    form.loop_adds names (turns_of s at) c.args.known.now c.unroll_body-in-Asked.new.known c.enter-outer.result.items c.args.out.now c.unroll_body-in-Asked.new.out c.in_ok-step-in-Asked.step
+    let head : Head = record { outer = c.enter-outer.result; prologue = record { statements = c.unroll_all.new.out; steps = c.in_ok-steps.steps }; cond = c.in-Asks.cond } in
+    form.loop_adds names (turns_of s at) c.args.known.now c.unroll_body.new.known c.enter-outer.result.items c.args.out.now c.unroll_body.new.out c.in_ok-step-in-Asks.step
     (ap (λ l. l.items) c.enter-outer.ensures.outer)
-    (c.in_ok-step-in-Asked.ensures (numbers_in c.args.known.now) s.prologue.now s.cond.now
+    (c.in_ok-step-in-Asks.ensures (numbers_in c.args.known.now) s.prologue.now s.cond.now
     (form.head_so names s.prologue.now s.cond.now at c.args.known.now start end head c.enter-outer.ensures.fresh c.enter-outer.ensures.numbers
     (subst (λ l. Adds names (block no_callees s.prologue.now) start end l c.unroll_all.new.out c.in_ok-steps.steps) c.new-statements.ensures c.in_ok-steps.ensures)
-    (form.asked_test names (numbers_in end) s.cond.now c.in-Asked.cond at (subst (λ k. IsTest names (numbers_in end) s.cond.now k) c.in-Asked.is c.in_ok-test.ensures))))
+    (subst (λ k. IsLoopTest names (numbers_in end) s.cond.now at k) c.in-Asks.is (c.loop_test.ensures names (numbers_in end) s.cond.now at c.in_ok-test.ensures))))

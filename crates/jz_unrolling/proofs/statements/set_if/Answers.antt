@@ -7,6 +7,6 @@ returns-then-not-set c =
     let k = c.args.known.now in
     subst (λ b. SetsIf b k k c.args.var.now c.args.number) (sym c.if-not-set.true) refl
 
-pub returns-in_ok-set : goal.returns-in_ok-set
-returns-in_ok-set c =
+pub returns : goal.returns
+returns c =
     subst (λ b. SetsIf b c.args.known.now c.set.new.self c.args.var.now c.args.number) (sym c.if-not-set.false) c.in_ok-set.ensures

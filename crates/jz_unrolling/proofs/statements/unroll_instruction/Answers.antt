@@ -14,6 +14,6 @@ returns c =
     let i = c.args.named.now in
     subst (λ s. Adds names (op (instruction i.to.now i.name.now i.args.now i.at)) c.args.known.now c.args.known.now c.args.out.now c.push.new.self (s ∷ [])) (sym c.in_ok-step.ensures)
     (instruction_adds names i.to.now c.in_ok-to.to i.name.now i.args.now c.in_ok-args.args i.at c.args.known.now c.args.out.now c.push.new.self
-    (record { notes = c.in_ok-copy_notes.field-0; span = c.args.stmt.now.span; kind = kind.Assign c.in_ok-to.to None (rhs.Intrinsic c.in_ok-clone.field-0 c.in_ok-args.args i.at) None })
-    (ap (λ n. kind.Assign c.in_ok-to.to None (rhs.Intrinsic n c.in_ok-args.args i.at) None) (sym c.in_ok-clone.ensures.cases))
+    (record { notes = c.in_ok-copy_notes.field-0; span = c.args.stmt.now.span; kind = kind.Assign c.in_ok-to.to None (rhs.Intrinsic c.in_ok-name.name c.in_ok-args.args i.at) None })
+    (ap (λ n. kind.Assign c.in_ok-to.to None (rhs.Intrinsic n c.in_ok-args.args i.at) None) (sym c.in_ok-name.ensures.cases))
     c.in_ok-to.ensures.copy c.in_ok-args.ensures.copy c.in_ok-to.ensures.known c.in_ok-args.ensures.known c.in_ok-push.ensures.ok)
