@@ -115,18 +115,20 @@ unroll_rounds-loop-next-preserved t c =
     let names = names_in c.args.unroller.now.vars.now in
     let r = c.args.rounds.now in
     let k = c.args.known.now in
+    let i = to_z w128 c.loop-next.at-bits in
     subst (λ at. form.IsRounding names r c.args.body.now k c.unroll_all.new.known c.args.out.now c.unroll_all.new.out c.push.new.self at) (sym (to_z-of_z w128 c.in-Some.next (search rules)))
     (subst (λ l. form.IsRounding names r c.args.body.now k c.unroll_all.new.known c.args.out.now c.unroll_all.new.out l c.in-Some.next) (sym c.in_ok-push.ensures.ok)
-    (form.rounds_next names r c.args.body.now k c.loop-next.known c.set.new.self c.unroll_all.new.known c.args.out.now c.loop-next.out c.unroll_all.new.out c.loop-next.changes c.loop-next.at c.in-Some.next c.in_ok-steps.steps _ _
-    (subst (λ b. values_between r.down c.loop-next.at b ≡ c.loop-next.at ∷ values_between r.down c.in-Some.next b) (to_z-of_z w128 r.bound (search rules)) c.in-Some.ensures)
+    (form.rounds_next names r c.args.body.now k c.loop-next.known c.set.new.self c.unroll_all.new.known c.args.out.now c.loop-next.out c.unroll_all.new.out c.loop-next.changes i c.in-Some.next c.in_ok-steps.steps _ _
+    (subst (λ b. values_between r.down i b ≡ i ∷ values_between r.down c.in-Some.next b) (to_z-of_z w128 r.bound (search rules)) c.in-Some.ensures)
     (sym (ref_name r.counter.now)) (sym (ref_copy r.counter.now)) c.in_ok-set.ensures c.in_ok-steps.ensures c.loop-next.invariant))
 
 pub unroll_rounds-returns : goal.unroll_rounds-returns
 unroll_rounds-returns t c =
     let names = names_in c.args.unroller.now.vars.now in
     let r = c.args.rounds.now in
-    form.rounds_add names r c.args.body.now c.args.known.now c.loop-next.known c.set-2.new.self c.args.out.now c.loop-next.out c.loop-next.changes c.loop-next.at _ _ c.number-old.result
-    (subst (λ b. values_between r.down c.loop-next.at b ≡ []) (to_z-of_z w128 r.bound (search rules)) c.in_default.ensures)
+    let i = to_z w128 c.loop-next.at-bits in
+    form.rounds_add names r c.args.body.now c.args.known.now c.loop-next.known c.set-2.new.self c.args.out.now c.loop-next.out c.loop-next.changes i _ _ c.number-old.result
+    (subst (λ b. values_between r.down i b ≡ []) (to_z-of_z w128 r.bound (search rules)) c.in_default.ensures)
     (sym (ref_name r.counter.now)) (sym (ref_copy r.counter.now)) c.number-old.ensures c.in_ok-set-2.ensures c.loop-next.invariant
 
 pub unroll_turn-returns-in-None : goal.unroll_turn-returns-in-None
