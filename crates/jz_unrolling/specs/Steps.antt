@@ -79,7 +79,8 @@ for_of r from to at body =
 
 module _ (names : InlineNames) where
   -- a piece of a tree, where e is known, becomes these statements; e1 is known behind it
-  abbrev pub Becomes : (Block → Block) → KnownNumbers → List Stmt → KnownNumbers → List Step → Type 0
+  abbrev pub Becomes :
+      (Block → Block) → KnownNumbers → List Stmt → KnownNumbers → List Step → Type 0
   Becomes piece e made e1 steps =
       (t rest u : Block) (e2 : KnownNumbers) (k : model.Change)
       → Unrolls (unrolling names) t e1 rest u e2 k

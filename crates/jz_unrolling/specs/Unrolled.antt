@@ -40,9 +40,9 @@ GivesPlain f = list_all (λ v. not (is_inline_var (inline_names (variables_of f)
 
 -- ---- runs
 
--- on each input, for each number of true tests of `while`: a run of the one is followed by one of the
--- other, with the same results and memory and the changed leak, and the one is stuck where the other
--- is, for the same reason
+-- on each input, for each number of true tests of `while`: a run of the one is followed by one of
+-- the other, with the same results and memory and the changed leak, and the one is stuck where the
+-- other is, for the same reason
 abbrev pub KeepsRuns : Fun → Fun → Change → Type 0
 KeepsRuns f g k =
     Carries alike_always (body_runs (plain_body f) f) (body_runs (plain_body g) g) k

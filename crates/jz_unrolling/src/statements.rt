@@ -401,8 +401,8 @@ fn unroll_arms(
     })
 }
 
-/// Statements by themselves. Behind them the same is known as before them. Refused where they change
-/// what is known before them.
+/// Statements by themselves. Behind them the same is known as before them. Refused where they
+/// change what is known before them.
 #[cycle(unroll)]
 fn unroll_apart(
     unroller: &Unroller<'_>,
@@ -499,7 +499,8 @@ fn loop_test(test: Test) -> LoopTest
     }
 }
 
-/// The begin of a `while` that stays: the changes before it, what its prologue has become, the test.
+/// The begin of a `while` that stays: the changes before it, what its prologue has become, and the
+/// test.
 #[derive(Drop)]
 struct Head {
     outer: Vec<Changed>,
