@@ -12,8 +12,5 @@ mod parts;
 mod settings;
 mod statements;
 
-pub use expressions::{Values, left_with_values, with_values};
-pub use inline_vars::InlineVars;
-pub use jz_pass::{Change, Failure, Passed, Seq, Step};
-pub use known::{Changed, Known};
 pub use functions::unroll;
+pub use jz_pass::{Change, Failure, Passed, Seq, Step};

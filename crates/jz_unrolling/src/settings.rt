@@ -75,7 +75,11 @@ fn updated(
 {
     match op {
         None => value,
-        Some(op) => joined(op, constant_of(values.known.number(&var.name, var.copy)), value),
+        Some(op) => joined(
+            op,
+            constant_of(values.known.number(&var.name, var.copy)),
+            value,
+        ),
     }
 }
 
