@@ -1,5 +1,5 @@
 -- Branches and loops behind statements that are there.
-use Rattle.std.proofs.Common.{◌≡◌, ℕ, List, [], ◌∷◌, ◌++◌, map, Option, Some, None, Bool, true, false, refl, ap, sym, ◌∙◌, subst, append-nil, append_assoc}
+use Rattle.std.proofs.Common.{◌≡◌, ℕ, List, [], ◌∷◌, ◌++◌, Option, Some, None, Bool, true, false, refl, ap, sym, ◌∙◌, subst, append-nil, append_assoc}
 use Rattle.std.specs.Prelude.{ℤ, not, is_some, if◌then◌else◌}
 use Rattle.jz_tree.specs.Span.{Span}
 use Rattle.jz_tree.specs.declared.expr.Expr.{Expr}
@@ -7,10 +7,7 @@ use Rattle.jz_tree.specs.declared.expr.Expr.TheVariants as expr
 use Rattle.jz_tree.specs.declared.expr.Var.{Var}
 use Rattle.jz_tree.specs.declared.stmt.Stmt.{Stmt}
 use Rattle.jz_tree.specs.declared.stmt.StmtKind.TheVariants as kind
-use Rattle.jz_type_names.specs.Kinds.{is_inline}
-use Rattle.jz_type_names.specs.Parts.{span_of}
 use Rattle.jz_integers.specs.Integers.{KnownNumbers}
-use Rattle.jz_integers.specs.declared.constant.Constant.TheVariants as constant
 use Rattle.jz_meaning.specs.Trees.{done, choose, loop, each}
 use Rattle.jz_meaning.specs.Runs.{block}
 use Rattle.jz_meaning.specs.Statements.{Counter, Block, values_between}
@@ -21,7 +18,7 @@ use Rattle.jz_change.specs.declared.change.Numbers.TheVariants.{Same}
 use Rattle.jz_change.specs.declared.change.Step.{Step}
 use Rattle.jz_change.specs.declared.change.Step.TheVariants as step
 use Rattle.jz_unroll.specs.Values.{InlineNames}
-use Rattle.jz_unroll.specs.Unrolling.{with_number, number_of, HasValue, HasValues, UnrollsTest, tested, UnrollsLoopTest, loops, always, IsConstant, KnowsLess}
+use Rattle.jz_unroll.specs.Unrolling.{with_number, number_of, HasValues, UnrollsTest, tested, UnrollsLoopTest, loops, always, IsConstant, KnowsLess}
 use Rattle.jz_unrolling.specs.declared.conditions.Test.TheVariants.{Always, Asked}
 use Rattle.jz_unrolling.specs.declared.known.Changed.{Changed}
 use Rattle.jz_unrolling.specs.declared.known.Known.{Known}
@@ -31,7 +28,7 @@ use Rattle.jz_unrolling.specs.declared.statements.Rounds.{Rounds}
 use Rattle.jz_unrolling.specs.declared.statements.Turn.{Turn}
 use Rattle.jz_unrolling.specs.Numbers.{numbers_in, with_number_at, undone, Sets, Went, IsRestored}
 use Rattle.jz_unrolling.specs.Parts.{IsTest}
-use Rattle.jz_unrolling.specs.Steps.{no_callees, Becomes, Adds, AddsStep, IsSame, IsApart, list_or, IsTurn, IsHead, loop_of, IsLoop, HasRounds, for_of}
+use Rattle.jz_unrolling.specs.Steps.{no_callees, Becomes, Adds, AddsStep, IsSame, IsApart, IsTurn, IsHead, loop_of, IsLoop, HasRounds, for_of}
 use Rattle.jz_unrolling.proofs.Becoming.{if_becomes, arm_becomes, while_becomes, once_becomes, nothing_becomes}
 use Rattle.jz_unrolling.proofs.NumberLemmas.{went_none, went_set, went_then, went_same, part_back, restored_same, restored_less, less_then, joined_went}
 use Rattle.jz_unrolling.proofs.RoundLemmas.{RoundsSo, no_rounds, one_round, all_rounds}
