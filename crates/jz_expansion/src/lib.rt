@@ -1,9 +1,0 @@
-//! The expansion of an export function: one function without calls, loops that count, inline
-//! variables and register arrays, with what that makes of a leak; or the first limit.
-#![tactic(auto)]
-
-mod expanded;
-mod expanding;
-
-pub use expanded::{Expanded, Refusal};
-pub use expanding::expand;
