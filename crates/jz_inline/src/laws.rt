@@ -11,10 +11,10 @@ ghost use Rattle.jz_bodies.specs.Typed.{IsTypedFunction};
 ghost use Rattle.jz_inline.specs.Functions.{alike, runs_of, body_runs, inlined_body, inlining_of};
 ghost use Rattle.jz_inline.specs.Statements.{inlined_statements, no_callees};
 
-/// Each run of an export function is one of the function whose calls are copies of what they call, and the
-/// other way round: with as many true tests of `while` left both end, with the same results and the
-/// same memory, or both are cut, with the leak that the change makes of the function's, or both are
-/// stuck, at the same place for the same reason.
+/// Each run of an export function is one of the function whose calls are copies of what they call,
+/// and the other way round: with as many true tests of `while` left both end, with the same results
+/// and the same memory, or both are cut, with the leak that the change makes of the function's, or
+/// both are stuck, at the same place for the same reason.
 pub fn runs_stay()
     ensures { (p : Program) (f : Fun)
         → IsTypedFunction p f → is_exported f.kind ≡ true

@@ -44,9 +44,9 @@ pub record IsInlined (p : Program) (place : ℕ) (r : Inlined) : Type 0 where
 abbrev pub plain_runs : Fun → Runs Given Returned Stuck
 plain_runs g = body_runs (block no_callees g.body done) g
 
--- of a typed program that comes of a text: for each number of true tests of `while`, each run of the
--- export function is followed by one of what it becomes, with the same results and memory and the
--- changed leak, and the one is stuck where the other is, for the same reason
+-- of a typed program that comes of a text: for each number of true tests of `while`, each run of
+-- the export function is followed by one of what it becomes, with the same results and memory and
+-- the changed leak, and the one is stuck where the other is, for the same reason
 abbrev pub KeepsRuns : Program → ℕ → Inlined → Type 0
 KeepsRuns p place r =
     (f : Fun) → slice_get p.funs place ≡ Some f → is_exported f.kind ≡ true → IsTypedProgram p

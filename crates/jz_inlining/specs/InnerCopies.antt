@@ -86,7 +86,8 @@ abbrev pub Fits : ℕ → Piece → Type 0
 Fits next p = next + p.copies ≤ last_number
 
 -- the statements of the piece are behind those before, and these are its steps
-pub record Adds (p : Piece) (names : Names) (before after : Copied) (made : List Step) : Type 0 where
+pub record Adds (p : Piece) (names : Names) (before after : Copied)
+    (made : List Step) : Type 0 where
   pub stmts : after.stmts ≡ before.stmts ++ p.made names before.next
   pub next : after.next ≡ before.next + p.copies
   pub steps : made ≡ p.steps

@@ -114,7 +114,8 @@ fn copy_assign(
     rhs: &Rhs,
     out: &mut Copied,
 ) -> Result<Seq<Step>, AllocError>
-    requires few { Fits out.old.next (assignment_piece (funs_in copier.now left) assignment rhs.now) }
+    requires few { Fits out.old.next
+        (assignment_piece (funs_in copier.now left) assignment rhs.now) }
     ensures { let piece = assignment_piece (funs_in copier.now left) assignment.entry rhs.now in
         IfOk result (Adds piece (names_of names.now) out.old out.new) }
 {

@@ -195,7 +195,8 @@ pub(crate) fn begin_call(
     out: &mut Copied,
 ) -> Result<(), AllocError>
     requires few { out.old.next < last_number }
-    ensures stmts { let before = arguments_of (names_of outer.now) (names_of inner.now) call.entry in
+    ensures stmts { let before =
+        arguments_of (names_of outer.now) (names_of inner.now) call.entry in
         let mark = mark_of (names_of inner.now) call.entry in
         OnOk result (out.new.stmts ≡ out.old.stmts ++ (before ++ mark ∷ [])) }
     ensures next { OnOk result (out.new.next ≡ out.old.next + 1) }

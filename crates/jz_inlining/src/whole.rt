@@ -128,7 +128,8 @@ pub(crate) fn finish_turns(
         let made = statement test.entry.notes.now test.entry.span whole in
         OnOk result (out.new.stmts ≡ out.old.stmts ++ made ∷ []) }
     ensures next { OnOk result (out.new.next ≡ body.next) }
-    ensures steps { let made = step.While (all_steps prologue.steps) [] Same (all_steps body.steps) in
+    ensures steps { let made =
+        step.While (all_steps prologue.steps) [] Same (all_steps body.steps) in
         IfOk result (λ steps. steps ≡ made ∷ []) }
 {
     let cond = expr_in_copy(alloc, names, test.cond)?;

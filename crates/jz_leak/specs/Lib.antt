@@ -6,3 +6,4 @@ pub mod Applying
 pub mod Shown
 pub mod InnerWalks
 pub mod InnerSegments
+pub mod InnerSizes
