@@ -14,7 +14,7 @@ use Rattle.jz_tree.specs.declared.stmt.Lval.TheVariants as lval
 use Rattle.jz_arrays.specs.Cells.{scalar, size_at, cell_in, cell_or, left_or, with_scalars, access_with_scalars}
 use Rattle.jz_arrays.proofs.Reading.{in_is, access_in_is}
 use Rattle.jz_scalars.specs.declared.cells.RegisterCell.{RegisterCell}
-use Rattle.jz_scalars.specs.InnerCells.{register_cell, access_in}
+use Rattle.jz_scalars.specs.InnerCells.{register_cell}
 
 pub in_num : (n : ℤ) (at : Span) → with_scalars (expr.Num n at) ≡ expr.Num n at
 in_num n at = ap with_scalars (sym (expr.rolls-Num n at)) ∙ in_is (Expr-F.Num n at) ∙ expr.rolls-Num n at
@@ -25,7 +25,7 @@ in_bool c at = ap with_scalars (sym (expr.rolls-Bool c at)) ∙ in_is (Expr-F.Ex
 pub in_var : (v : Var) → with_scalars (expr.Var v) ≡ expr.Var v
 in_var v = ap with_scalars (sym (expr.rolls-Var v)) ∙ in_is (Expr-F.Var v) ∙ expr.rolls-Var v
 
-pub in_cell : (v : Var) (i : Expr) → with_scalars (expr.Cell v i) ≡ access_in v i
+pub in_cell : (v : Var) (i : Expr) → with_scalars (expr.Cell v i) ≡ cell_or v (with_scalars i) (size_at v) (cell_in v i)
 in_cell v i = ap with_scalars (sym (expr.rolls-Cell v i)) ∙ in_is (Expr-F.Cell v i)
 
 pub in_load : (a : Access) → with_scalars (expr.Load a) ≡ expr.Load (access_with_scalars a)

@@ -4,7 +4,9 @@ use Rattle.jz_tree.specs.declared.stmt.Stmt.{Stmt}
 use Rattle.jz_change.specs.declared.change.Number.{Number}
 use Rattle.jz_change.specs.declared.change.Number.TheVariants.{Nth}
 use Rattle.jz_change.specs.declared.change.Step.{Step}
-use Rattle.jz_inline.proofs.Passed.{at_item, at_end}
+use Rattle.std.specs.Prelude.{slice_get, Some, None}
+use Rattle.std.proofs.lemmas.List.{drop-drop}
+use Rattle.jz_inline.proofs.Passed.{at_item, at_got, at_end, at_none}
 use Rattle.jz_arrays.specs.Cells.{Mask}
 use Rattle.jz_arrays.specs.Arrays.{places}
 use Rattle.jz_scalars.specs.Scalars.{statement_made, block_made}
@@ -28,11 +30,15 @@ one_place : (i : ℕ) (b : Bool) (m : Mask) → places i (b ∷ m) ≡ places i 
 one_place i true m = let e : suc i ≡ i + 1 = omega arith in ap (λ j. Nth i ∷ places j m) e
 one_place i false m = let e : suc i ≡ i + 1 = omega arith in ap (λ j. places j m) e
 
-pub next_place : (m : Mask) (i : ℕ) (b : Bool) (start out out2 : List Number) → i < length m → b ≡ get_or m i b → out ++ places i (drop i m) ≡ start → out2 ≡ out ++ places i (b ∷ []) → out2 ++ places (i + 1) (drop (i + 1) m) ≡ start
-next_place m i b start out out2 lt is left e =
+pub some_place : (m : Mask) (i : ℕ) (b : Bool) (out out2 : List Number) → slice_get m i ≡ Some b → out2 ≡ out ++ places i (b ∷ []) → out2 ++ places (i + 1) (drop (i + 1) m) ≡ out ++ places i (drop i m)
+some_place m i b out out2 there e =
     ap (λ l. l ++ places (i + 1) (drop (i + 1) m)) e ∙ append_assoc out (places i (b ∷ [])) (places (i + 1) (drop (i + 1) m))
     ∙ ap (λ l. out ++ l) (sym (one_place i b (drop (i + 1) m)))
-    ∙ ap (λ l. out ++ places i l) (sym (at_item m i b lt is)) ∙ left
+    ∙ ap (λ l. out ++ places i l) (sym (at_got m i b there))
+
+pub no_place : (m : Mask) (i : ℕ) (out : List Number) → slice_get m i ≡ None → out ++ places (i + 1) (drop (i + 1) m) ≡ out ++ places i (drop i m)
+no_place m i out none =
+    ap (λ l. out ++ places (i + 1) l) (sym (drop-drop 1 i m) ∙ ap (drop 1) (at_none m i none)) ∙ ap (λ l. out ++ places i l) (sym (at_none m i none))
 
 pub last_place : (m : Mask) (i : ℕ) (start out : List Number) → length m ≤ i → out ++ places i (drop i m) ≡ start → out ≡ start
 last_place m i start out past left = sym (append-nil out) ∙ ap (λ l. out ++ places i l) (sym (at_end m i past)) ∙ left

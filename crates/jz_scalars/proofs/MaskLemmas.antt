@@ -16,14 +16,12 @@ use Rattle.jz_tree.specs.declared.expr.Expr.TheViews.{out-Expr, out-Access, roll
 use Rattle.jz_tree.specs.declared.stmt.Lval.{Lval}
 use Rattle.jz_tree.specs.declared.stmt.Lval.TheVariants as lval
 use Rattle.jz_meaning.specs.Assignments.{as_expr, left_span, is_flag, is_flag_layer, updated_layer, updated, whole_of}
-use Rattle.jz_meaning.specs.Shapes.{Sort, words, flags, integers, Shape, operation_shape, own_count}
+use Rattle.jz_meaning.specs.Shapes.{Sort, words, flags, integers, Shape, operation_shape, sort_of_operation, own_count}
 use Rattle.jz_meaning.specs.Values.{gives_word}
 use Rattle.jz_unroll.proofs.Layers.{Layer}
 use Rattle.jz_inline.specs.Widths.{sort_declared, declared_shape}
 use Rattle.jz_inline.specs.InnerWidths.{is_whole, count_of_operation}
-use Rattle.jz_inline.specs.declared.leaked.Counted.{Counted}
 use Rattle.jz_inline.proofs.Widths.{declared_is}
-use Rattle.jz_inline.proofs.Counting.{counted_both}
 use Rattle.jz_arrays.specs.Cells.{is_scalar, Mask, all_kept, mask_of, access_mask, left_mask, mask_if}
 use Rattle.jz_arrays.proofs.Reading.{mask_layer, mask_is, access_mask_is}
 use Rattle.jz_arrays.proofs.Assigning.{carries_plain}
@@ -55,7 +53,7 @@ of_bool c at = ap masked_of (sym (expr.rolls-Bool c at)) ∙ both (roll-Expr (Ex
 pub of_var : (v : Var) → masked_of (expr.Var v) ≡ masked_as (is_whole (sort_declared v)) []
 of_var v = ap masked_of (sym (expr.rolls-Var v)) ∙ both (roll-Expr (Expr-F.Var v)) _ _ (declared_is (Expr-F.Var v)) (mask_is declared_sort (Expr-F.Var v))
 
-pub of_cell : (v : Var) (i : Expr) → masked_of (expr.Cell v i) ≡ masked_cell_of v i
+pub of_cell : (v : Var) (i : Expr) → masked_of (expr.Cell v i) ≡ masked_cell_of v i (masked_of i)
 of_cell v i = ap masked_of (sym (expr.rolls-Cell v i)) ∙ both (roll-Expr (Expr-F.Cell v i)) _ _ (declared_is (Expr-F.Cell v i)) (mask_is declared_sort (Expr-F.Cell v i))
 
 access_out : (a : Access) → access_mask declared_sort a ≡ mask_of declared_sort (out-Access a).at
@@ -82,8 +80,16 @@ own_is op integers words = refl
 own_is op integers flags = refl
 own_is op integers integers = refl
 
+whole_by : (g : Bool) (op : BinOp) (a b : Sort) → gives_word op ≡ g → is_whole (sort_of_operation op a b) ≡ (g && (is_whole a && is_whole b))
+whole_by true op words b e = rw (e) refl
+whole_by true op flags b e = rw (e) refl
+whole_by true op integers words e = rw (e) refl
+whole_by true op integers flags e = rw (e) refl
+whole_by true op integers integers e = rw (e) refl
+whole_by false op a b e = rw (e) refl
+
 whole_is : (op : BinOp) (a b : Shape) → is_whole (operation_shape op a b).sort ≡ (gives_word op && (is_whole a.sort && is_whole b.sort))
-whole_is op a b = ap (λ (c : Counted). c.whole) (counted_both op a b)
+whole_is op a b = whole_by (gives_word op) op a.sort b.sort refl
 
 pub of_bin : (op : BinOp) (a b : Expr) (at : Span) → masked_of (expr.Bin op a b at) ≡ masked_operation op (masked_of a) (masked_of b)
 of_bin op a b at =
@@ -108,11 +114,11 @@ read_is : (e : Option Expr) → read_mask (option_map masked_of e) ≡ mask_if d
 read_is None = refl
 read_is (Some e) = refl
 
-pub left_none : (d : Lval) → option_map masked_of (as_expr d) ≡ None → left_mask declared_sort d ≡ []
-left_none d e = left_read declared_sort d ∙ sym (read_is (as_expr d)) ∙ ap read_mask e
+pub read_none : (d : Lval) → option_map masked_of (as_expr d) ≡ None → mask_if declared_sort (as_expr d) ≡ []
+read_none d e = sym (read_is (as_expr d)) ∙ ap read_mask e
 
-pub left_some : (d : Lval) (m : Masked) → option_map masked_of (as_expr d) ≡ Some m → left_mask declared_sort d ≡ m.mask
-left_some d m e = left_read declared_sort d ∙ sym (read_is (as_expr d)) ∙ ap read_mask e
+pub read_some : (d : Lval) (m : Masked) → option_map masked_of (as_expr d) ≡ Some m → mask_if declared_sort (as_expr d) ≡ m.mask
+read_some d m e = sym (read_is (as_expr d)) ∙ ap read_mask e
 
 -- ---- operations on left sides
 
@@ -178,13 +184,13 @@ W op a b = count_of_operation op (is_whole (declared_sort a) && is_whole (declar
 bin_mask : (op : BinOp) (a b : Expr) (at : Span) → M (expr.Bin op a b at) ≡ M a ++ (M b ++ all_kept (W op a b))
 bin_mask op a b at = ap (λ (m : Masked). m.mask) (of_bin op a b at)
 
-with_flag : (op p : BinOp) (x a c : Expr) (at inner : Span) → carries op p ≡ true → is_flag c ≡ true → M (expr.Bin p (expr.Bin op x a at) c inner) ≡ M x ++ (M (expr.Bin p a c inner) ++ all_kept (W op x (expr.Bin p a c inner)))
+with_flag : (op p : BinOp) (x a c : Expr) (at inner : Span) → carries op p ≡ true → is_flag c ≡ true → M (expr.Bin p (expr.Bin op x a at) c at) ≡ M x ++ (M (expr.Bin p a c inner) ++ all_kept (W op x (expr.Bin p a c inner)))
 with_flag op p x a c at inner both flag =
     let n1 : W op x a ≡ 0 = none_own op (is_whole (declared_sort x) && is_whole (declared_sort a)) (first_plain op p both) in
     let n2 : W p (expr.Bin op x a at) c ≡ 0 = none_own p (is_whole (declared_sort (expr.Bin op x a at)) && is_whole (declared_sort c)) (carries_plain op p both) in
     let n3 : W p a c ≡ 0 = none_own p (is_whole (declared_sort a) && is_whole (declared_sort c)) (carries_plain op p both) in
     let n4 : W op x (expr.Bin p a c inner) ≡ 0 = none_own op (is_whole (declared_sort x) && is_whole (declared_sort (expr.Bin p a c inner))) (first_plain op p both) in
-    bin_mask p (expr.Bin op x a at) c inner
+    bin_mask p (expr.Bin op x a at) c at
     ∙ ap (λ k. k ++ (M c ++ all_kept (W p (expr.Bin op x a at) c))) (bin_mask op x a at)
     ∙ ap (λ n. (M x ++ (M a ++ all_kept n)) ++ (M c ++ all_kept (W p (expr.Bin op x a at) c))) n1
     ∙ ap (λ n. (M x ++ (M a ++ [])) ++ (M c ++ all_kept n)) n2
@@ -195,7 +201,7 @@ with_flag op p x a c at inner both flag =
 
 -- what an operation makes of a left side
 updated_bin : (op p : BinOp) (x a c : Expr) (at inner : Span) (t : Bool) → (carries op p && is_flag c) ≡ t →
-    M (if t then expr.Bin p (expr.Bin op x a at) c inner else expr.Bin op x (expr.Bin p a c inner) at) ≡ M x ++ (M (expr.Bin p a c inner) ++ all_kept (W op x (expr.Bin p a c inner)))
+    M (if t then expr.Bin p (expr.Bin op x a at) c at else expr.Bin op x (expr.Bin p a c inner) at) ≡ M x ++ (M (expr.Bin p a c inner) ++ all_kept (W op x (expr.Bin p a c inner)))
 updated_bin op p x a c at inner true q = let k = and_parts (carries op p) (is_flag c) q in with_flag op p x a c at inner k.0 k.1
 updated_bin op p x a c at inner false q = bin_mask op x (expr.Bin p a c inner) at
 
@@ -210,7 +216,7 @@ updated_mask op x e at (Expr-F.Not a p) q = bin_mask op x e at
 updated_mask op x e at (Expr-F.Cast z s a p) q = bin_mask op x e at
 updated_mask op x e at (Expr-F.Bin p a c inner) q =
     let r : expr.Bin p a c inner ≡ e = sym (expr.rolls-Bin p a c inner) ∙ q in
-    ap (λ k. M (if carries op p && is_flag c then expr.Bin p (expr.Bin op x a at) c inner else expr.Bin op x k at)) (sym r)
+    ap (λ k. M (if carries op p && is_flag c then expr.Bin p (expr.Bin op x a at) c at else expr.Bin op x k at)) (sym r)
     ∙ updated_bin op p x a c at inner (carries op p && is_flag c) refl
     ∙ ap (λ k. M x ++ (M k ++ all_kept (W op x k))) r
 
@@ -239,12 +245,12 @@ update_none (lval.Store a) op e q = absurd cc
 -- ---- cells
 
 -- an access that becomes a scalar, and one that stays
-pub cell_dropped : (v : Var) (i : Expr) (z : Option Size) (n : Option ℕ) (c : RegisterCell) → register_cell z n ≡ Some c → masked_as (is_whole (sort_declared v)) (if is_scalar z n then false ∷ [] else mask_of declared_sort i ++ true ∷ []) ≡ masked_as (is_whole (sort_declared v)) (false ∷ [])
-cell_dropped v i None n c e = absurd cc
-cell_dropped v i (Some z) None c e = absurd cc
-cell_dropped v i (Some z) (Some n) c e = refl
+pub cell_dropped : (w : Bool) (m : Mask) (z : Option Size) (n : Option ℕ) (c : RegisterCell) → register_cell z n ≡ Some c → masked_as w (if is_scalar z n then false ∷ [] else m ++ true ∷ []) ≡ masked_as w (false ∷ [])
+cell_dropped w m None n c e = absurd cc
+cell_dropped w m (Some z) None c e = absurd cc
+cell_dropped w m (Some z) (Some n) c e = refl
 
-pub cell_kept : (v : Var) (i : Expr) (z : Option Size) (n : Option ℕ) → register_cell z n ≡ None → masked_as (is_whole (sort_declared v)) (if is_scalar z n then false ∷ [] else mask_of declared_sort i ++ true ∷ []) ≡ masked_access (is_whole (sort_declared v)) i
-cell_kept v i None n e = refl
-cell_kept v i (Some z) None e = refl
-cell_kept v i (Some z) (Some n) e = absurd cc
+pub cell_kept : (w : Bool) (m : Mask) (z : Option Size) (n : Option ℕ) → register_cell z n ≡ None → masked_as w (if is_scalar z n then false ∷ [] else m ++ true ∷ []) ≡ masked_as w (m ++ true ∷ [])
+cell_kept w m None n e = refl
+cell_kept w m (Some z) None e = refl
+cell_kept w m (Some z) (Some n) e = absurd cc

@@ -20,13 +20,13 @@ masked_of e = record { whole = is_whole (declared_sort e); mask = mask_of declar
 abbrev pub masked_access : Bool → Expr → Masked
 masked_access whole at = record { whole = whole; mask = mask_of declared_sort at ++ true ∷ [] }
 
-abbrev pub masked_cell_of : Var → Expr → Masked
-masked_cell_of v i =
+-- the cell of an array at a place that has this mask
+abbrev pub masked_cell_of : Var → Expr → Masked → Masked
+masked_cell_of v i place =
     record {
       whole = is_whole (sort_declared v);
       mask =
-          if is_scalar (size_at v) (cell_in v i) then false ∷ []
-          else mask_of declared_sort i ++ true ∷ [];
+          if is_scalar (size_at v) (cell_in v i) then false ∷ [] else place.mask ++ true ∷ [];
     }
 
 abbrev pub masked_operation : BinOp → Masked → Masked → Masked

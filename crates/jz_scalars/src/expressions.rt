@@ -3,11 +3,25 @@
 ghost use Rattle.std.specs.Prelude.{◌≡◌, IfOk, map, option_map};
 ghost use Rattle.jz_tree.specs.LeftSides.{on_left};
 ghost use Rattle.jz_arrays.specs.Cells as cells;
-ghost use Rattle.jz_scalars.specs.InnerCells.{access_in};
 
 use crate::cells::{register_cell, scalar};
 use jz_tree::{Access, Boxed, Expr, LeftSide, LeftStep, Seq, Var};
 use std::alloc::{AllocError, Global};
+
+/// The cell of an array at a place: a scalar, or a cell at this index.
+fn cell_or(alloc: Global, array: &Var, at: &Expr, index: Boxed<Expr>) -> Result<Expr, AllocError>
+    ensures { let size = cells.size_at array.now in
+        let number = cells.cell_in array.now at.now in
+        IfOk result (λ made. made ≡ cells.cell_or array.now index size number) }
+{
+    match register_cell(array, at) {
+        Some(cell) => Ok(Expr::Var(scalar(alloc, array, cell)?)),
+        None => {
+            let array = array.copy(alloc)?;
+            Ok(Expr::Cell(array, index))
+        }
+    }
+}
 
 /// An expression with scalars.
 #[cycle(scalars)]
@@ -58,7 +72,8 @@ fn single_with_scalars(alloc: Global, expr: &Expr) -> Result<Expr, AllocError>
         Expr::Bool(truth, span) => Ok(Expr::Bool(*truth, *span)),
         Expr::Var(var) => Ok(Expr::Var(var.copy(alloc)?)),
         Expr::Cell(array, at) => {
-            let cell = cell_with_scalars(alloc, array, at)?;
+            let index = boxed_with_scalars(alloc, at)?;
+            let cell = cell_or(alloc, array, at.get(), index)?;
             Ok(cell)
         }
         Expr::Load(access) => Ok(Expr::Load(access_with_scalars(alloc, access)?)),
@@ -78,20 +93,6 @@ fn single_with_scalars(alloc: Global, expr: &Expr) -> Result<Expr, AllocError>
         Expr::Bin(op, left, right, span) => {
             let first = boxed_with_scalars(alloc, left)?;
             Ok(Expr::Bin(*op, first, boxed_with_scalars(alloc, right)?, *span))
-        }
-    }
-}
-
-/// The cell of an array: a scalar, or a cell whose index has scalars.
-#[cycle(scalars)]
-fn cell_with_scalars(alloc: Global, array: &Var, at: &Boxed<Expr>) -> Result<Expr, AllocError>
-    ensures { IfOk result (λ made. made ≡ access_in array.now at.now) }
-{
-    match register_cell(array, at.get()) {
-        Some(cell) => Ok(Expr::Var(scalar(alloc, array, cell)?)),
-        None => {
-            let array = array.copy(alloc)?;
-            Ok(Expr::Cell(array, boxed_with_scalars(alloc, at)?))
         }
     }
 }

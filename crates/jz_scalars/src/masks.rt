@@ -110,7 +110,7 @@ fn joined(side: Side) -> Result<Masked, AllocError>
 
 /// An expression with its mask.
 #[cycle(mask)]
-pub(crate) fn masked(alloc: Global, expr: &Expr) -> Result<Masked, AllocError>
+pub(crate) fn with_mask(alloc: Global, expr: &Expr) -> Result<Masked, AllocError>
     ensures { IfOk result (λ made. made ≡ masked_of expr.now) }
 {
     let side = masked_side(alloc, expr)?;
@@ -128,7 +128,7 @@ fn masked_side(alloc: Global, expr: &Expr) -> Result<Side, AllocError>
     while let Expr::Bin(op, left, right, _) = rest {
         operands.push(Operand {
             op: *op,
-            right: masked(alloc, right.get())?,
+            right: with_mask(alloc, right.get())?,
         })?;
         rest = left.get();
     }
@@ -141,7 +141,7 @@ fn masked_side(alloc: Global, expr: &Expr) -> Result<Side, AllocError>
 fn masked_at(alloc: Global, whole: bool, at: &Expr) -> Result<Masked, AllocError>
     ensures { IfOk result (λ made. made ≡ masked_access whole at.now) }
 {
-    let place = masked(alloc, at)?;
+    let place = with_mask(alloc, at)?;
     let Masked { whole: _, mut mask } = place;
     mask.push(true)?;
     Ok(Masked { whole, mask })
@@ -156,10 +156,10 @@ fn dropped(alloc: Global) -> Result<Seq<bool>, AllocError>
     Ok(mask)
 }
 
-/// The cell of an array, whose index is dropped where it becomes a scalar.
-#[cycle(mask)]
-fn masked_cell(alloc: Global, array: &Var, at: &Expr) -> Result<Masked, AllocError>
-    ensures { IfOk result (λ made. made ≡ masked_cell_of array.now at.now) }
+/// The cell of an array at a place that has this mask: where it becomes a scalar its index is
+/// dropped.
+fn masked_cell(alloc: Global, array: &Var, at: &Expr, place: Masked) -> Result<Masked, AllocError>
+    ensures { IfOk result (λ made. made ≡ masked_cell_of array.now at.now place) }
 {
     let whole = is_int(array);
     match register_cell(array, at) {
@@ -168,8 +168,9 @@ fn masked_cell(alloc: Global, array: &Var, at: &Expr) -> Result<Masked, AllocErr
             Ok(Masked { whole, mask })
         }
         None => {
-            let cell = masked_at(alloc, whole, at)?;
-            Ok(cell)
+            let Masked { whole: _, mut mask } = place;
+            mask.push(true)?;
+            Ok(Masked { whole, mask })
         }
     }
 }
@@ -192,7 +193,8 @@ fn masked_single(alloc: Global, expr: &Expr) -> Result<Masked, AllocError>
             mask: Seq::new(alloc),
         }),
         Expr::Cell(array, at) => {
-            let cell = masked_cell(alloc, array, at.get())?;
+            let place = with_mask(alloc, at.get())?;
+            let cell = masked_cell(alloc, array, at.get(), place)?;
             Ok(cell)
         }
         Expr::Load(access) => {
@@ -200,11 +202,11 @@ fn masked_single(alloc: Global, expr: &Expr) -> Result<Masked, AllocError>
             Ok(loaded)
         }
         Expr::Neg(e, _) => {
-            let inner = masked(alloc, e.get())?;
+            let inner = with_mask(alloc, e.get())?;
             Ok(inner)
         }
         Expr::Not(e, _) => {
-            let inner = masked(alloc, e.get())?;
+            let inner = with_mask(alloc, e.get())?;
             Ok(inner)
         }
         Expr::Cast {
@@ -213,13 +215,13 @@ fn masked_single(alloc: Global, expr: &Expr) -> Result<Masked, AllocError>
             e,
             span: _,
         } => {
-            let inner = masked(alloc, e.get())?;
+            let inner = with_mask(alloc, e.get())?;
             let Masked { whole: _, mask } = inner;
             Ok(Masked { whole: false, mask })
         }
         Expr::Bin(op, left, right, _) => {
-            let first = masked(alloc, left.get())?;
-            let second = masked(alloc, right.get())?;
+            let first = with_mask(alloc, left.get())?;
+            let second = with_mask(alloc, right.get())?;
             let made = operation(*op, first, second)?;
             Ok(made)
         }
@@ -237,7 +239,8 @@ pub(crate) fn masked_to(alloc: Global, to: &Lval) -> Result<Option<Masked>, Allo
             mask: Seq::new(alloc),
         })),
         Lval::Cell(array, at) => {
-            let cell = masked_cell(alloc, array, at.get())?;
+            let place = with_mask(alloc, at.get())?;
+            let cell = masked_cell(alloc, array, at.get(), place)?;
             Ok(Some(cell))
         }
         Lval::Store(access) => {
@@ -248,11 +251,7 @@ pub(crate) fn masked_to(alloc: Global, to: &Lval) -> Result<Option<Masked>, Allo
 }
 
 /// The mask of what an operation makes of a left side and a value.
-pub(crate) fn updated_mask(
-    op: BinOp,
-    left: Masked,
-    value: Masked,
-) -> Result<Seq<bool>, AllocError>
+pub(crate) fn updated_mask(op: BinOp, left: Masked, value: Masked) -> Result<Seq<bool>, AllocError>
     ensures { IfOk result (λ mask. mask ≡ (masked_operation op left value).mask) }
 {
     let made = operation(op, left, value)?;
@@ -261,14 +260,10 @@ pub(crate) fn updated_mask(
 }
 
 /// An expression's mask behind others.
-pub(crate) fn push_mask(
-    alloc: Global,
-    expr: &Expr,
-    out: &mut Seq<bool>,
-) -> Result<(), AllocError>
+pub(crate) fn push_mask(alloc: Global, expr: &Expr, out: &mut Seq<bool>) -> Result<(), AllocError>
     ensures { OnOk result (out.new ≡ out.old ++ mask_of declared_sort expr.now) }
 {
-    let made = masked(alloc, expr)?;
+    let made = with_mask(alloc, expr)?;
     let Masked { whole: _, mask } = made;
     out.append(mask)?;
     Ok(())

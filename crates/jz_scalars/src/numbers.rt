@@ -1,26 +1,41 @@
 //! The numbers of a statement that are left.
 
-ghost use Rattle.std.specs.Prelude.{◌≡◌, ◌++◌, ◌∷◌, [], Some, IfOk, OnOk};
+ghost use Rattle.std.specs.Prelude.{◌≡◌, ◌+◌, ◌++◌, ◌∷◌, [], drop, Some, IfOk, OnOk};
 ghost use Rattle.jz_tree.specs.Spellings as spellings;
-ghost use Rattle.jz_meaning.specs.Assignments.{last_left, whole_of};
+ghost use Rattle.jz_meaning.specs.Assignments.{as_expr, last_left, whole_of};
 ghost use Rattle.jz_arrays.specs.Cells as cells;
 ghost use Rattle.jz_arrays.specs.Arrays as arrays;
 ghost use Rattle.jz_scalars.specs.Scalars.{declared_sort, right_mask};
 ghost use Rattle.jz_scalars.specs.InnerMasks as masks;
 
-use crate::masks::{Masked, masked, masked_to, push_mask, push_three, updated_mask};
+use crate::masks::{Masked, masked_to, push_mask, push_three, updated_mask, with_mask};
 use jz_change::{Number, Numbers};
 use jz_tree::{BinOp, Expr, Instance, Intrinsic, Lval, Rhs, Seq, spelled};
 use std::alloc::{AllocError, Global};
 
 /// The number at a place, where it is left.
-fn push_number(place: u64, left: bool, out: &mut Seq<Number>) -> Result<(), AllocError>
+fn push_number(place: usize, left: bool, out: &mut Seq<Number>) -> Result<(), AllocError>
     ensures { OnOk result (out.new ≡ out.old ++ arrays.places place (left ∷ [])) }
 {
     if left {
-        out.push(Number::Nth(place))?;
+        out.push(Number::Nth(place as u64))?;
     }
     Ok(())
+}
+
+/// With it and the places behind it there is what was there with those from it on.
+fn push_place(mask: &Seq<bool>, place: usize, out: &mut Seq<Number>) -> Result<(), AllocError>
+    ensures { let behind = arrays.places (place + 1) (drop (place + 1) mask.now) in
+        let from = arrays.places place (drop place mask.now) in
+        OnOk result (out.new ++ behind ≡ out.old ++ from) }
+{
+    match mask.get(place) {
+        None => Ok(()),
+        Some(left) => {
+            push_number(place, *left, out)?;
+            Ok(())
+        }
+    }
 }
 
 /// The places of the numbers that are left.
@@ -28,25 +43,36 @@ fn numbers_left(alloc: Global, mask: &Seq<bool>) -> Result<Numbers, AllocError>
     ensures { IfOk result (λ numbers. numbers ≡ arrays.numbers_left mask.now) }
 {
     let mut numbers = Seq::new(alloc);
-    for (place, left) in mask.as_slice().iter().enumerate() {
-        push_number(place as u64, *left, &mut numbers)?;
+    for place in 0..mask.len() {
+        push_place(mask, place, &mut numbers)?;
     }
     Ok(Numbers::These(numbers))
 }
 
 // ---- left sides
 
-fn push_left(alloc: Global, to: &Lval, out: &mut Seq<bool>) -> Result<(), AllocError>
-    ensures { OnOk result (out.new ≡ out.old ++ cells.left_mask declared_sort to.now) }
+/// What a left side leaks where it is read.
+fn push_read(alloc: Global, to: &Lval, out: &mut Seq<bool>) -> Result<(), AllocError>
+    ensures { let mask = cells.mask_if declared_sort (as_expr to.now) in
+        OnOk result (out.new ≡ out.old ++ mask) }
 {
-    let made = masked_to(alloc, to)?;
-    match made {
+    let read = masked_to(alloc, to)?;
+    match read {
         None => Ok(()),
-        Some(Masked { whole: _, mask }) => {
+        Some(read) => {
+            let Masked { whole: _, mask } = read;
             out.append(mask)?;
             Ok(())
         }
     }
+}
+
+/// What it leaks where it is written is the same.
+fn push_left(alloc: Global, to: &Lval, out: &mut Seq<bool>) -> Result<(), AllocError>
+    ensures { OnOk result (out.new ≡ out.old ++ cells.left_mask declared_sort to.now) }
+{
+    push_read(alloc, to, out)?;
+    Ok(())
 }
 
 fn push_lefts(alloc: Global, to: &Seq<Lval>, out: &mut Seq<bool>) -> Result<(), AllocError>
@@ -65,7 +91,7 @@ fn push_old(alloc: Global, to: &Seq<Lval>, out: &mut Seq<bool>) -> Result<(), Al
     match to.as_slice() {
         [] => Ok(()),
         [left] => {
-            push_left(alloc, left, out)?;
+            push_read(alloc, left, out)?;
             Ok(())
         }
         [_, _, ..] => Ok(()),
@@ -94,12 +120,7 @@ fn push_condition(
 // ---- right sides
 
 /// What an operation makes of a left side and a value. `_` is not read.
-fn update_mask(
-    alloc: Global,
-    to: &Lval,
-    op: BinOp,
-    value: &Expr,
-) -> Result<Seq<bool>, AllocError>
+fn update_mask(alloc: Global, to: &Lval, op: BinOp, value: &Expr) -> Result<Seq<bool>, AllocError>
     ensures { let whole = whole_of (Some to.now) (Some op) value.now in
         IfOk result (λ mask. mask ≡ cells.mask_if declared_sort whole) }
 {
@@ -107,7 +128,7 @@ fn update_mask(
     match read {
         None => Ok(Seq::new(alloc)),
         Some(left) => {
-            let value = masked(alloc, value)?;
+            let value = with_mask(alloc, value)?;
             let mask = updated_mask(op, left, value)?;
             Ok(mask)
         }

@@ -102,11 +102,7 @@ pub(crate) fn made_if(
 }
 
 /// A loop that ends with its test.
-pub(crate) fn made_until(
-    alloc: Global,
-    prologue: Made,
-    cond: &Expr,
-) -> Result<MadeKind, AllocError>
+pub(crate) fn made_until(alloc: Global, prologue: Made, cond: &Expr) -> Result<MadeKind, AllocError>
     ensures { IfOk result (λ made. made ≡ scalars.made_until prologue cond.now) }
 {
     let test = test_numbers(alloc, cond)?;

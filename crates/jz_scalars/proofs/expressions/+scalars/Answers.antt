@@ -5,9 +5,8 @@ use Rattle.jz_tree.specs.declared.expr.Expr.TheVariants as expr
 use Rattle.jz_tree.specs.declared.expr.Expr.TheViews.{roll-Access}
 use Rattle.jz_tree.specs.LeftSides.{on_left}
 use Rattle.jz_tree.proofs.Sides.{last_step, left_smaller}
-use Rattle.jz_arrays.specs.Cells.{size_at, cell_in, with_scalars}
-use Rattle.jz_scalars.specs.InnerCells.{register_cell, access_in}
-use Rattle.jz_scalars.proofs.Forms.{in_num, in_bool, in_var, in_cell, in_load, in_neg, in_not, in_cast, in_bin, in_access, scalar_access, cell_access}
+use Rattle.jz_arrays.specs.Cells.{size_at, cell_in, cell_or, with_scalars}
+use Rattle.jz_scalars.proofs.Forms.{in_num, in_bool, in_var, in_cell, in_load, in_neg, in_not, in_cast, in_bin, in_access}
 use Rattle.jz_scalars.proofs.expressions.+scalars.Goals as goal
 
 pub side_with_scalars-loop-rest-preserved : goal.side_with_scalars-loop-rest-preserved
@@ -39,7 +38,12 @@ pub single_with_scalars-returns-in_ok-copy-in-Var : goal.single_with_scalars-ret
 single_with_scalars-returns-in_ok-copy-in-Var t c = ap expr.Var c.in_ok-copy-in-Var.ensures ∙ sym (ap with_scalars c.in-Var.is ∙ in_var c.in-Var.var)
 
 pub single_with_scalars-returns-in_ok-cell-in-Cell : goal.single_with_scalars-returns-in_ok-cell-in-Cell
-single_with_scalars-returns-in_ok-cell-in-Cell t c = c.in_ok-cell-in-Cell.ensures ∙ sym (ap with_scalars c.in-Cell.is ∙ in_cell c.in-Cell.array c.in-Cell.at)
+single_with_scalars-returns-in_ok-cell-in-Cell t c =
+    let v = c.in-Cell.array in
+    c.in_ok-cell-in-Cell.ensures
+    ∙ ap (λ e. cell_or v e (size_at v) (cell_in v c.get.result.now)) c.in_ok-index-in-Cell.ensures
+    ∙ ap (λ i. cell_or v (with_scalars c.in-Cell.at) (size_at v) (cell_in v i)) c.get.ensures
+    ∙ sym (ap with_scalars c.in-Cell.is ∙ in_cell c.in-Cell.array c.in-Cell.at)
 
 pub single_with_scalars-returns-in_ok-access_with_scalars-in-Load : goal.single_with_scalars-returns-in_ok-access_with_scalars-in-Load
 single_with_scalars-returns-in_ok-access_with_scalars-in-Load t c = ap expr.Load c.in_ok-access_with_scalars-in-Load.ensures ∙ sym (ap with_scalars c.in-Load.is ∙ in_load c.in-Load.access)
@@ -62,18 +66,3 @@ single_with_scalars-returns-in_ok-boxed_with_scalars-in-Bin t c =
     ap (λ e. Bin c.in-Bin.op e c.in_ok-boxed_with_scalars-in-Bin.field-0 c.in-Bin.span) c.in_ok-first-in-Bin.ensures
     ∙ ap (λ e. Bin c.in-Bin.op (with_scalars c.in-Bin.left) e c.in-Bin.span) c.in_ok-boxed_with_scalars-in-Bin.ensures
     ∙ sym (ap with_scalars c.in-Bin.is ∙ in_bin c.in-Bin.op c.in-Bin.left c.in-Bin.right c.in-Bin.span)
-
-pub cell_with_scalars-returns-in_ok-scalar-in-Some : goal.cell_with_scalars-returns-in_ok-scalar-in-Some
-cell_with_scalars-returns-in_ok-scalar-in-Some t c =
-    let v = c.args.array.now in
-    let i = c.args.at.now in
-    ap expr.Var c.in_ok-scalar-in-Some.ensures
-    ∙ sym (scalar_access v (with_scalars i) (size_at v) (cell_in v i) c.in-Some.cell (ap (λ j. register_cell (size_at v) (cell_in v j)) (sym c.get.ensures) ∙ sym c.register_cell.ensures ∙ c.in-Some.is))
-
-pub cell_with_scalars-returns-in_ok-boxed_with_scalars-in-None : goal.cell_with_scalars-returns-in_ok-boxed_with_scalars-in-None
-cell_with_scalars-returns-in_ok-boxed_with_scalars-in-None t c =
-    let v = c.args.array.now in
-    let i = c.args.at.now in
-    ap (λ w. expr.Cell w c.in_ok-boxed_with_scalars-in-None.field-0) c.in_ok-array-in-None.ensures
-    ∙ ap (expr.Cell v) c.in_ok-boxed_with_scalars-in-None.ensures
-    ∙ sym (cell_access v (with_scalars i) (size_at v) (cell_in v i) (ap (λ j. register_cell (size_at v) (cell_in v j)) (sym c.get.ensures) ∙ sym c.register_cell.ensures ∙ c.in-None.is))

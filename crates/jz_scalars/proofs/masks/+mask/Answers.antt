@@ -2,12 +2,9 @@ use Rattle.std.proofs.Common.{◌≡◌, ◌∙◌, ◌++◌, ◌∷◌, [], tru
 use Rattle.jz_tree.specs.declared.expr.Expr.{size-Expr}
 use Rattle.jz_tree.specs.declared.expr.Expr.TheVariants.{Bin}
 use Rattle.jz_tree.proofs.Sides.{left_smaller}
-use Rattle.jz_arrays.specs.Cells.{size_at, cell_in}
-use Rattle.jz_inline.specs.Widths.{sort_declared}
-use Rattle.jz_inline.specs.InnerWidths.{is_whole}
 use Rattle.jz_scalars.specs.declared.masks.Masked.{Masked}
 use Rattle.jz_scalars.specs.InnerMasks.{masked_of, masked_access, masked_cell_of, masked_operation, masked_left}
-use Rattle.jz_scalars.proofs.MaskLemmas.{masked_as, last_operand, of_num, of_bool, of_var, of_cell, of_load, of_neg, of_not, of_cast, of_bin, cell_dropped, cell_kept}
+use Rattle.jz_scalars.proofs.MaskLemmas.{masked_as, last_operand, of_num, of_bool, of_var, of_cell, of_load, of_neg, of_not, of_cast, of_bin}
 use Rattle.jz_scalars.proofs.masks.+mask.Goals as goal
 
 pub masked_side-loop-rest-preserved : goal.masked_side-loop-rest-preserved
@@ -15,8 +12,8 @@ masked_side-loop-rest-preserved t c =
     let whole : Bin c.in-Bin.op c.get-rest.result.now c.get.result.now c.in-Bin.field-3 ≡ c.loop-rest.rest.now =
     rw (c.get-rest.ensures, c.get.ensures) (sym c.in-Bin.is) in (
       ap (λ steps. masked_left steps (masked_of c.get-rest.result.now)) c.in_ok-push.ensures.items
-          ∙ last_operand c.loop-rest.operands.items (record { op = c.in-Bin.op; right = c.in_ok-masked.field-0 }) (masked_of c.get-rest.result.now)
-          ∙ ap (λ r. masked_left c.loop-rest.operands.items (masked_operation c.in-Bin.op (masked_of c.get-rest.result.now) r)) c.in_ok-masked.ensures
+          ∙ last_operand c.loop-rest.operands.items (record { op = c.in-Bin.op; right = c.in_ok-with_mask.field-0 }) (masked_of c.get-rest.result.now)
+          ∙ ap (λ r. masked_left c.loop-rest.operands.items (masked_operation c.in-Bin.op (masked_of c.get-rest.result.now) r)) c.in_ok-with_mask.ensures
           ∙ ap (masked_left c.loop-rest.operands.items) (sym (of_bin c.in-Bin.op c.get-rest.result.now c.get.result.now c.in-Bin.field-3) ∙ ap masked_of whole)
           ∙ c.loop-rest.invariant.0,
       omega (arith, left_smaller c.in-Bin.op c.get-rest.result.now c.get.result.now c.in-Bin.field-3, ap size-Expr whole, c.loop-rest.invariant.1),
@@ -34,7 +31,11 @@ masked_single-returns-in-Var t c =
 
 pub masked_single-returns-in_ok-cell-in-Cell : goal.masked_single-returns-in_ok-cell-in-Cell
 masked_single-returns-in_ok-cell-in-Cell t c =
-    c.in_ok-cell-in-Cell.ensures ∙ ap (masked_cell_of c.in-Cell.array) c.get.ensures ∙ sym (ap masked_of c.in-Cell.is ∙ of_cell c.in-Cell.array c.in-Cell.at)
+    let v = c.in-Cell.array in
+    c.in_ok-cell-in-Cell.ensures
+    ∙ ap (masked_cell_of v c.get-in-Cell.result.now) (c.in_ok-place-in-Cell.ensures ∙ ap masked_of c.get.ensures)
+    ∙ ap (λ i. masked_cell_of v i (masked_of c.in-Cell.at)) c.get-in-Cell.ensures
+    ∙ sym (ap masked_of c.in-Cell.is ∙ of_cell c.in-Cell.array c.in-Cell.at)
 
 pub masked_single-returns-in_ok-loaded-in-Load : goal.masked_single-returns-in_ok-loaded-in-Load
 masked_single-returns-in_ok-loaded-in-Load t c =
@@ -64,17 +65,3 @@ masked_single-returns-in_ok-made-in-Bin t c =
 pub masked_at-returns : goal.masked_at-returns
 masked_at-returns t c =
     ap (masked_as c.args.whole) (c.in_ok-push.ensures.ok ∙ ap (λ (m : Masked). m.mask ++ true ∷ []) c.in_ok-place.ensures)
-
-pub masked_cell-returns-in_ok-mask-in-Some : goal.masked_cell-returns-in_ok-mask-in-Some
-masked_cell-returns-in_ok-mask-in-Some t c =
-    let v = c.args.array.now in
-    let i = c.args.at.now in
-    ap (masked_as c.is_int-whole.result) c.in_ok-mask-in-Some.ensures ∙ ap (λ w. masked_as w (false ∷ [])) c.is_int-whole.ensures
-    ∙ sym (cell_dropped v i (size_at v) (cell_in v i) _ (sym c.register_cell.ensures ∙ c.in-Some.is))
-
-pub masked_cell-returns-in_ok-cell-in-None : goal.masked_cell-returns-in_ok-cell-in-None
-masked_cell-returns-in_ok-cell-in-None t c =
-    let v = c.args.array.now in
-    let i = c.args.at.now in
-    c.in_ok-cell-in-None.ensures ∙ ap (λ w. masked_access w i) c.is_int-whole.ensures
-    ∙ sym (cell_kept v i (size_at v) (cell_in v i) (sym c.register_cell.ensures ∙ c.in-None.is))

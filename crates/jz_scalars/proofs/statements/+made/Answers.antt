@@ -6,7 +6,7 @@ use Rattle.jz_scalars.specs.declared.made.MadeOne.{MadeOne}
 use Rattle.jz_scalars.specs.declared.made.Made.{Made}
 use Rattle.jz_scalars.specs.Scalars.{made_if, made_until, made_turns, made_for, kind_made, block_made}
 use Rattle.jz_scalars.proofs.Loops.{begun, one_more, ended_stmts, ended_steps}
-use Rattle.jz_scalars.proofs.Statements.{one_of, statement_is, assign_is, if_is, until_is, turns_is, for_is, mark_is}
+use Rattle.jz_scalars.proofs.StatementForms.{one_of, statement_is, assign_is, if_is, until_is, turns_is, for_is, mark_is}
 use Rattle.jz_scalars.proofs.statements.+made.Goals as goal
 
 -- ---- statements in their order
