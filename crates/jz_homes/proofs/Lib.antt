@@ -1,0 +1,5 @@
+pub mod Shown
+pub mod Parts
+pub mod SumValues
+pub mod Reading
+pub mod Writing

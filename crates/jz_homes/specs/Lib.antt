@@ -1,0 +1,4 @@
+pub mod Homes
+pub mod Sums
+pub mod Operands
+pub mod Laws

@@ -1,0 +1,5 @@
+pub mod Codes
+pub mod Rows
+pub mod Table
+pub mod Lowering
+pub mod Bodies
