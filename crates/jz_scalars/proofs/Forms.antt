@@ -9,7 +9,6 @@ use Rattle.jz_tree.specs.declared.expr.Access.{Access}
 use Rattle.jz_tree.specs.declared.expr.Var.{Var}
 use Rattle.jz_tree.specs.declared.expr.Expr.TheOpen.{Expr-F}
 use Rattle.jz_tree.specs.declared.expr.Expr.TheViews.{roll-Access, out-Access, roll-out-Access}
-use Rattle.jz_tree.specs.declared.stmt.Lval.{Lval}
 use Rattle.jz_tree.specs.declared.stmt.Lval.TheVariants as lval
 use Rattle.jz_arrays.specs.Cells.{scalar, size_at, cell_in, cell_or, left_or, with_scalars, access_with_scalars}
 use Rattle.jz_arrays.proofs.Reading.{in_is, access_in_is}

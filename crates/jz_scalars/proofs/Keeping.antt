@@ -1,5 +1,5 @@
 -- A function whose cells are scalars keeps the runs.
-use Rattle.std.proofs.Common.{◌≡◌, refl, sym, ap, ◌∙◌, subst}
+use Rattle.std.proofs.Common.{refl, sym, ap, subst}
 use Rattle.jz_tree.specs.declared.program.Fun.{Fun}
 use Rattle.jz_runs.specs.Trees.{done}
 use Rattle.jz_runs.specs.Rules.{Goes}
@@ -9,11 +9,10 @@ use Rattle.jz_meaning.specs.States.{State}
 use Rattle.jz_meaning.specs.Statements.{source}
 use Rattle.jz_run_laws.specs.Kinds.{Kinds}
 use Rattle.jz_change.specs.Changes.{Change}
-use Rattle.jz_pass.specs.Cases.{IsBetween, cases_of}
 use Rattle.jz_pass.specs.Laws.{Carries, between_trees}
 use Rattle.jz_pass.specs.Rewriting.{Rewrites, knowing_of}
 use Rattle.jz_pass.proofs.Bodies.{unrolling_carries}
-use Rattle.jz_inline.specs.Functions.{Given, body_runs}
+use Rattle.jz_inline.specs.Functions.{body_runs}
 use Rattle.jz_function_runs.specs.FunctionRuns.{plain_body, alike_where}
 use Rattle.jz_function_runs.proofs.Carrying.{functions_carry}
 use Rattle.jz_arrays.specs.Arrays.{arrays, IsOneState}

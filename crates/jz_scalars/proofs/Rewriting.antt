@@ -1,5 +1,5 @@
 -- What statements become is what the rule of register arrays says, where they are ready.
-use Rattle.std.proofs.Common.{◌≡◌, Bool, true, false, List, [], ◌∷◌, ◌++◌, map, Option, Some, None, refl, sym, ap, ◌∙◌, subst}
+use Rattle.std.proofs.Common.{◌≡◌, Bool, true, false, List, [], ◌∷◌, map, Option, Some, None, refl, sym, ap, ◌∙◌, subst}
 use Rattle.std.specs.Prelude.{option_map}
 use Rattle.jz_tree.specs.Span.{Span}
 use Rattle.jz_tree.specs.Spellings.{spelled}
@@ -20,18 +20,18 @@ use Rattle.jz_runs.specs.Trees.{done, op, quiet, choose, loop, each}
 use Rattle.jz_meaning.specs.Statements.{Operation, assign, instruction, unset, meaningless, Condition, Counter, Block}
 use Rattle.jz_meaning.specs.Runs.{in_order, assign_tree, kind_tree, statement_tree, block}
 use Rattle.jz_interp.proofs.Pieces.{assign_is, if_is, while_is, for_is, mark_is}
-use Rattle.jz_run_laws.specs.Kinds.{Kinds, sorts_of}
+use Rattle.jz_run_laws.specs.Kinds.{Kinds}
 use Rattle.jz_change.specs.declared.change.Numbers.{Numbers}
 use Rattle.jz_change.specs.declared.change.Step.{Step}
 use Rattle.jz_change.specs.declared.change.Step.TheVariants as step
 use Rattle.jz_change.specs.Changes as model
 use Rattle.jz_change.specs.Views.{chain, then_step, change_of, steps_of}
 use Rattle.jz_change.proofs.StepViews.{then_ops, then_if, then_while, then_for, change_is, steps_append}
-use Rattle.jz_pass.specs.Unrolling.{Unrolls, u_done, u_op, u_quiet, u_if, u_while}
+use Rattle.jz_pass.specs.Unrolling.{u_done, u_op, u_quiet, u_if, u_while}
 use Rattle.jz_pass.specs.Rewriting.{Rewrites}
 use Rattle.jz_pass.specs.Cases.{IsBetween, cases_of, op_case, no_items, one_item, gives_none, gives_ops, gives_if, gives_while, gives_for}
 use Rattle.jz_inline.specs.Statements.{no_callees, statement, all_steps}
-use Rattle.jz_arrays.specs.Cells.{sort_in, with_scalars, left_with_scalars, mask_of, assign_mask, instruction_mask}
+use Rattle.jz_arrays.specs.Cells.{with_scalars, left_with_scalars, mask_of, assign_mask, instruction_mask}
 use Rattle.jz_arrays.specs.Arrays.{numbers_left, ArraysOp, assigns, instructs, ArraysTest, tests, arrays}
 use Rattle.jz_scalars.specs.declared.made.MadeKind.{MadeKind}
 use Rattle.jz_scalars.specs.declared.made.MadeOne.{MadeOne}

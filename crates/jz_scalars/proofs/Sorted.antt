@@ -1,5 +1,5 @@
 -- Where variables hold what they are declared to hold, the numbers that are left are the same by the declarations as by the kinds.
-use Rattle.std.proofs.Common.{◌≡◌, ℕ, Bool, true, false, List, [], ◌∷◌, ◌++◌, Option, Some, None, refl, ap, sym, ◌∙◌, subst, arith}
+use Rattle.std.proofs.Common.{◌≡◌, Bool, true, false, List, [], ◌∷◌, ◌++◌, Option, Some, None, refl, ap, sym, ◌∙◌, subst, arith}
 use Rattle.std.specs.Prelude.{if◌then◌else◌, All}
 use Rattle.std.proofs.lemmas.Bool.{and_parts}
 use Rattle.std.proofs.lemmas.List.Elements.{All-head, All-tail}
@@ -17,13 +17,13 @@ use Rattle.jz_tree.specs.declared.stmt.Lval.{Lval}
 use Rattle.jz_tree.specs.Span.{Span}
 use Rattle.jz_meaning.specs.Assignments.{as_expr, last_left, whole_of}
 use Rattle.jz_meaning.specs.Shapes.{Sort, words, flags, integers, Shape, own_count}
-use Rattle.jz_meaning.specs.Values.{Ref, ref_of}
+use Rattle.jz_meaning.specs.Values.{ref_of}
 use Rattle.jz_run_laws.specs.Kinds.{Kinds, sort_of_kind, sorts_of}
 use Rattle.jz_bodies.specs.Scopes.{Scope, IsScope, is_over, is_access_over}
 use Rattle.jz_inline.proofs.Reading.{over_layer, over_is, access_over_is}
 use Rattle.jz_inline.proofs.Widths.{declared_is, same_width}
 use Rattle.jz_unroll.proofs.Layers.{Layer}
-use Rattle.jz_arrays.specs.Cells.{sort_in, size_at, cell_in, is_scalar, Mask, all_kept, mask_of, access_mask, left_mask, lefts_mask, mask_if, old_mask, condition_mask, args_mask, own_mask, instruction_mask, assign_mask}
+use Rattle.jz_arrays.specs.Cells.{sort_in, size_at, cell_in, is_scalar, all_kept, mask_of, access_mask, left_mask, lefts_mask, mask_if, old_mask, condition_mask, args_mask, own_mask, instruction_mask, assign_mask}
 use Rattle.jz_arrays.proofs.Reading.{mask_layer, mask_is, access_mask_is, shape_is}
 use Rattle.jz_scalars.specs.Scalars.{declared_sort}
 use Rattle.jz_scalars.specs.Ready.{same_sort, is_sorted, AreSorted, AreLeftSorted}

@@ -1,12 +1,11 @@
 -- What a statement of each form becomes.
-use Rattle.std.proofs.Common.{◌≡◌, Bool, List, Option, Some, None, refl, sym, ap, ◌∙◌}
+use Rattle.std.proofs.Common.{◌≡◌, Bool, List, Option, Some, None, sym, ap, ◌∙◌}
 use Rattle.jz_tree.specs.declared.expr.BinOp.{BinOp}
 use Rattle.jz_tree.specs.declared.expr.Expr.{Expr}
 use Rattle.jz_tree.specs.declared.expr.Var.{Var}
 use Rattle.jz_tree.specs.declared.stmt.Lval.{Lval}
 use Rattle.jz_tree.specs.declared.stmt.Rhs.{Rhs}
 use Rattle.jz_tree.specs.declared.stmt.Stmt.{Stmt}
-use Rattle.jz_tree.specs.declared.stmt.StmtKind.{StmtKind}
 use Rattle.jz_tree.specs.declared.stmt.StmtKind.TheVariants as kind
 use Rattle.jz_tree.specs.declared.stmt.StmtKind.TheOpen.{StmtKind-F}
 use Rattle.jz_tree.specs.declared.stmt.StmtKind.TheViews.{roll-Stmt}

@@ -8,7 +8,7 @@ use Rattle.jz_tree.specs.declared.stmt.Lval.{Lval}
 use Rattle.jz_runs.specs.Trees.{done, op, quiet, choose, loop, each, call}
 use Rattle.jz_meaning.specs.Assignments.{as_expr, last_left, whole_of}
 use Rattle.jz_meaning.specs.Shapes.{Sort, words, flags, integers}
-use Rattle.jz_meaning.specs.Statements.{Operation, assign, instruction, unset, meaningless, Condition, Block}
+use Rattle.jz_meaning.specs.Statements.{Operation, assign, instruction, Condition, Block}
 use Rattle.jz_meaning.specs.Values.{Ref}
 use Rattle.jz_run_laws.specs.Kinds.{Kinds, sort_of_kind, sorts_of}
 use Rattle.jz_bodies.specs.Scopes.{is_over}

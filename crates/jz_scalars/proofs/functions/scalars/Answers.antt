@@ -4,7 +4,6 @@ use Rattle.jz_change.specs.Views.{steps_of}
 use Rattle.jz_change.proofs.StepViews.{change_is}
 use Rattle.jz_inline.specs.Statements.{all_steps}
 use Rattle.jz_scalars.specs.declared.made.Made.{Made}
-use Rattle.jz_scalars.specs.Functions.{IsScalars}
 use Rattle.jz_scalars.proofs.Keeping.{keeps_runs, keeps_cases}
 use Rattle.jz_scalars.proofs.functions.scalars.Goals as goal
 

@@ -1,6 +1,6 @@
 use Rattle.std.proofs.Common.{◌∙◌, ap, sym}
 use Rattle.jz_tree.specs.declared.stmt.Lval.TheVariants as lval
-use Rattle.jz_arrays.specs.Cells.{size_at, cell_in, with_scalars}
+use Rattle.jz_arrays.specs.Cells.{size_at, cell_in}
 use Rattle.jz_scalars.specs.InnerCells.{register_cell}
 use Rattle.jz_scalars.proofs.Forms.{scalar_left, cell_left}
 use Rattle.jz_scalars.proofs.lefts.left_cell.Goals as goal

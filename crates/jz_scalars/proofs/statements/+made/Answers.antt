@@ -1,9 +1,7 @@
-use Rattle.std.proofs.Common.{rules, Some, None, ◌∷◌, [], ◌++◌, ◌∙◌, ap, sym}
+use Rattle.std.proofs.Common.{rules, ◌∷◌, [], ◌++◌, ◌∙◌, ap, sym}
 use Rattle.jz_tree.specs.declared.stmt.StmtKind.TheViews.{roll-Stmt}
 use Rattle.jz_tree.specs.declared.stmt.StmtKind.TheVariants as kind
-use Rattle.jz_scalars.specs.declared.made.MadeKind.{MadeKind}
 use Rattle.jz_scalars.specs.declared.made.MadeOne.{MadeOne}
-use Rattle.jz_scalars.specs.declared.made.Made.{Made}
 use Rattle.jz_scalars.specs.Scalars.{made_if, made_until, made_turns, made_for, kind_made, block_made}
 use Rattle.jz_scalars.proofs.Loops.{begun, one_more, ended_stmts, ended_steps}
 use Rattle.jz_scalars.proofs.StatementForms.{one_of, statement_is, assign_is, if_is, until_is, turns_is, for_is, mark_is}
