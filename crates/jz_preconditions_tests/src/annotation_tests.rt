@@ -115,6 +115,15 @@ const VALUES: &str = "\
 #[region=\"p: 8\"]~#[range=\"p: 0xffffffffffffffff..0xffffffffffffffff\"]~#[range=\"len: 1..7\"]~#[align=\"len: 8\"] => 3:1
 ";
 
+const OTHERS: &str = "\
+#[size=\"8\"]~#fast~#[regions=\"p: 8\", Range=8] => 
+#[region=\"p: 8*len\"]~#[range=\"len: 0..1024\"]~#[align=\"p: 8\"] => region p 8*len+0, range len 0..1024, align p 8
+#[align=\"p: 8\", region=\"p: 8*len\"]~#[size=\"8\", range=\"len: 0..1024\"] => align p 8, region p 8*len+0, range len 0..1024
+#[range=\"len: 9..1\"]~#[region=\"q: 8\"] => 1:1
+#[size=\"8\", region=\"q: 8\"]~#[range=\"len: 9..1\"] => 1:1
+  #[range=\"len: 9..1\"] => 1:3
+";
+
 const FUNCTION: &str = "\nexport fn f(reg u64 p len, reg u8 b, stack u64 s) { }\n";
 
 fn with_lines(alloc: Global, annotations: &str) -> Result<String, AllocError> {
@@ -218,4 +227,9 @@ fn alignments_have_their_shape(rt: HostRuntime) -> Result<(), Fail> {
 #[test]
 fn parameters_have_values(rt: HostRuntime) -> Result<(), Fail> {
     rows_are(&rt, rt.alloc(), VALUES)
+}
+
+#[test]
+fn the_first_is_told(rt: HostRuntime) -> Result<(), Fail> {
+    rows_are(&rt, rt.alloc(), OTHERS)
 }
