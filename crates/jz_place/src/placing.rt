@@ -7,7 +7,7 @@ ghost use Rattle.jz_operations.specs.Insns.{AllFit, insn_of, places_in, slots_in
 ghost use Rattle.jz_placing.specs.Placing.{code_of, test_for};
 ghost use Rattle.jz_place.specs.Bodies.{asked_of, then_body, body_of};
 ghost use Rattle.jz_place.specs.Codes.{test_in, then_code, code_in, TestFits, BodyFits};
-ghost use Rattle.jz_place.specs.Laws.{AreGood, KeepsRuns};
+ghost use Rattle.jz_place.specs.Laws.{AreGood, HasNoOtherRuns, KeepsRuns};
 
 use crate::placed::{PlacedNode, PlacedTest};
 use crate::tree::{Ir, Node, Test};
@@ -71,13 +71,16 @@ fn place_node(alloc: Global, places: &Places<'_>, node: &Node) -> Result<PlacedN
 }
 
 /// The instructions of the body: each variable is its place, and each cell of a stack variable one
-/// of the frame. With places that meet the rule of placing, the instructions do what the body does.
+/// of the frame. With places that meet the rule of placing, the instructions do what the body does,
+/// and nothing else.
 pub fn place(alloc: Global, ir: &Ir, places: &Places<'_>) -> Result<Seq<PlacedNode>, AllocError>
     requires { BodyFits (slots_in places.now) (body_of ir.now.body) }
     ensures code { IfOk result (λ placed. code_in placed
         ≡ code_of (places_in places.now) (slots_in places.now) (body_of ir.now.body)) }
     ensures runs { IfOk result (λ placed. AreGood ir.now places.now.places.now
         → KeepsRuns ir.now (places_in places.now) (slots_in places.now) (code_in placed)) }
+    ensures only { IfOk result (λ placed. AreGood ir.now places.now.places.now
+        → HasNoOtherRuns ir.now (places_in places.now) (slots_in places.now) (code_in placed)) }
 {
     let placed = place_block(alloc, places, &ir.body)?;
     Ok(placed)
