@@ -1,8 +1,8 @@
 -- Operations of statements are what the placing of variables asks.
 use Rattle.std.proofs.Common.{◌≡◌, ℕ, ◌<◌, Bool, true, false, List, [], ◌∷◌, ◌++◌, length, Option, Some, None, refl, sym, ap, ◌∙◌, subst}
-use Rattle.std.specs.Prelude.{nat_eq, not, ◌||◌, ◌&&◌, IsTrue, IsFalse, slice_index_or, if◌then◌else◌, All, ⊤}
+use Rattle.std.specs.Prelude.{nat_eq, not, ◌&&◌, IsTrue, slice_index_or, if◌then◌else◌, All, ⊤}
 use Rattle.std.proofs.lemmas.Bool.{eqb-true}
-use Rattle.std.proofs.lemmas.List.Elements.{All-nil, All-cons, All-head, All-tail}
+use Rattle.std.proofs.lemmas.List.Elements.{All-head, All-tail}
 use Rattle.jz_io.specs.declared.span.Span.{Span}
 use Rattle.jz_words.specs.declared.size.Size.{Size}
 use Rattle.x64_insn.specs.declared.types.Flag.{Flag}
@@ -14,7 +14,7 @@ use Rattle.jz_tree.specs.declared.expr.BinOp.{BinOp}
 use Rattle.jz_tree.specs.declared.expr.BinOp.TheVariants as o
 use Rattle.jz_tree.specs.declared.expr.Expr.{Expr}
 use Rattle.jz_tree.specs.declared.stmt.Lval.{Lval}
-use Rattle.jz_runs.specs.Trees.{Tree, done, op, quiet, choose, loop}
+use Rattle.jz_runs.specs.Trees.{done, choose}
 use Rattle.jz_meaning.specs.Statements.{Condition, Block}
 use Rattle.jz_meaning.specs.Statements as statements
 use Rattle.jz_meaning.specs.States.{Key}
@@ -31,9 +31,9 @@ use Rattle.jz_operations.specs.declared.operation.Action.{Action}
 use Rattle.jz_operations.specs.declared.operation.Action.TheVariants as action
 use Rattle.jz_operations.specs.declared.operation.Operation.{Operation}
 use Rattle.jz_operations.specs.Rows.{Output, outputs, changes, flags_of}
-use Rattle.jz_operations.specs.Reading.{is_var, written_in, left_at, left_in, five_flags, flag_left, flags_left, fixed_of}
+use Rattle.jz_operations.specs.Reading.{written_in, left_in, five_flags, flag_left, flags_left, fixed_of}
 use Rattle.jz_operations.proofs.Somes.{same_some}
-use Rattle.jz_placing.specs.Variables.{Asked, always, asks, Body}
+use Rattle.jz_placing.specs.Variables.{Asked, Body}
 use Rattle.jz_placing.specs.Placing.{HasOneAccess, Asks}
 use Rattle.jz_change.specs.Changes.{Change}
 use Rattle.jz_change.specs.declared.change.Numbers.{Numbers}
