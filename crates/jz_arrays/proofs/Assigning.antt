@@ -30,10 +30,10 @@ use Rattle.jz_tree.specs.Words.{residue}
 use Rattle.jz_meaning.specs.Assignments.{word_value, held_or_unset, with_value, in_cell, written, all_written, results_of, as_expr, left_span, left_size, left_sizes, last_left, whole_of, updated_layer, updated, old_value, chosen, conditioned, assigned_whole, assigned, is_bool, is_flag_layer, is_flag, Results, two_results, word_in, bool_in, truth, with_two, with_three, two_of}
 use Rattle.jz_meaning.specs.Shapes.{Sort, Sorts, HoldsSorts, Shape, shape_of, own_count}
 use Rattle.jz_unroll.proofs.Layers.{Layer}
-use Rattle.jz_arrays.specs.Cells.{is_left_in_range, scalar, cell_or, is_scalar, size_at, index_in, with_scalars, Mask, numbers_kept, all_kept, mask_of, is_below, is_in_range, access_mask, left_or, left_with_scalars, left_mask, lefts_mask, access_with_scalars, mask_if, old_mask, condition_mask, assign_mask}
+use Rattle.jz_arrays.specs.Cells.{sort_in, scalar, cell_or, is_scalar, size_at, index_in, cell_in, with_scalars, Mask, numbers_kept, all_kept, mask_of, is_below, access_mask, left_or, left_with_scalars, left_mask, lefts_mask, access_with_scalars, mask_if, old_mask, condition_mask, assign_mask}
 use Rattle.jz_arrays.specs.Arrays.{IsRead, FixedLeft, whole_old}
 use Rattle.jz_arrays.specs.ScalarLaws.{IsThinned}
-use Rattle.jz_arrays.proofs.Reading.{thin_then, thin_plain, thin_same, of_defined, rolled, in_is, mask_layer, mask_is, range_layer, range_is, shape_layer, shape_is, scalar_is, scalars_so, below_is, kind_size, constant_index, kept_both, access_kept, size_kept}
+use Rattle.jz_arrays.proofs.Reading.{thin_then, thin_plain, thin_same, of_defined, rolled, in_is, mask_layer, mask_is, shape_layer, shape_is, scalar_is, scalars_so, below_is, cell_is, kind_size, constant_index, kept_both, access_kept, size_kept}
 use Rattle.jz_unroll.proofs.PartNumbers.{none_first, then_then, then_went}
 use Rattle.jz_unroll.proofs.PartNumbers.{index_numbers, in_cell_numbers, var_numbers, store_numbers}
 
@@ -66,7 +66,7 @@ two_numbers o.Rem a b at s x y c ns vs e = absurd cc
 two_numbers o.DivS a b at s x y c ns vs e = absurd cc
 two_numbers o.RemS a b at s x y c ns vs e = absurd cc
 
-carries_plain : (op p : BinOp) → carries op p ≡ true → divides p ≡ false
+pub carries_plain : (op p : BinOp) → carries op p ≡ true → divides p ≡ false
 carries_plain o.OrElse p e = absurd cc
 carries_plain o.AndThen p e = absurd cc
 carries_plain o.Or p e = absurd cc
@@ -154,7 +154,7 @@ flag_layer : (x : Layer) → is_flag_layer (out-Expr (rolled x)) ≡ is_flag_lay
 flag_layer (Expr-F.Num n at) = ap is_flag_layer (out-roll-Expr _)
 flag_layer (Expr-F.Expr::Bool c at) = ap is_flag_layer (out-roll-Expr _)
 flag_layer (Expr-F.Var v) = ap is_flag_layer (out-roll-Expr _)
-flag_layer (Expr-F.Cell v i) = by_scalar (size_at v) (index_in i)
+flag_layer (Expr-F.Cell v i) = by_scalar (size_at v) (cell_in v i)
   where
     by_scalar : (z : Option Size) (n : Option ℕ) → is_flag_layer (out-Expr (cell_or v (with_scalars i) z n)) ≡ false
     by_scalar (Some z) (Some n) = ap is_flag_layer (out-roll-Expr _) ∙ ap (λ (r : Ref). is_bool r.kind) (scalar_is v z n)
@@ -178,37 +178,37 @@ truth_none at (word s a) ns b e = absurd cc
 truth_none at (integer i) ns b e = absurd cc
 
 module _ (sorts : Sorts) (s : State) (holds : HoldsSorts sorts s.store) where
-  pub word_thin : (at : Span) (z : Size) (e : Expr) → is_in_range e ≡ true → (shape_of sorts e).fixed ≡ true → IsThinned (mask_of sorts e) (word_in at z e s) (word_in at z (with_scalars e) s)
-  word_thin at z e ok f = thin_plain (mask_of sorts e) (evaluated e (Some z) s) (evaluated (with_scalars e) (Some z) s) (word_at at z) (λ v ns b q. of_defined at (word_of z v) ns b q) (scalars_so sorts s holds e (Some z) ok f)
+  pub word_thin : (at : Span) (z : Size) (e : Expr) → (shape_of sorts e).fixed ≡ true → IsThinned (mask_of (sort_in sorts) e) (word_in at z e s) (word_in at z (with_scalars e) s)
+  word_thin at z e f = thin_plain (mask_of (sort_in sorts) e) (evaluated e (Some z) s) (evaluated (with_scalars e) (Some z) s) (word_at at z) (λ v ns b q. of_defined at (word_of z v) ns b q) (scalars_so sorts s holds e (Some z) f)
 
-  pub bool_thin : (at : Span) (e : Expr) → is_in_range e ≡ true → (shape_of sorts e).fixed ≡ true → IsThinned (mask_of sorts e) (bool_in at e s) (bool_in at (with_scalars e) s)
-  bool_thin at e ok f = thin_plain (mask_of sorts e) (evaluated e None s) (evaluated (with_scalars e) None s) (truth at) (λ v ns b q. truth_none at v ns b q) (scalars_so sorts s holds e None ok f)
+  pub bool_thin : (at : Span) (e : Expr) → (shape_of sorts e).fixed ≡ true → IsThinned (mask_of (sort_in sorts) e) (bool_in at e s) (bool_in at (with_scalars e) s)
+  bool_thin at e f = thin_plain (mask_of (sort_in sorts) e) (evaluated e None s) (evaluated (with_scalars e) None s) (truth at) (λ v ns b q. truth_none at v ns b q) (scalars_so sorts s holds e None f)
 
-  with_two_thin : (op : BinOp) (a b : Expr) (at : Span) (z : Size) → is_in_range a ≡ true → is_in_range b ≡ true → (shape_of sorts a).fixed ≡ true → (shape_of sorts b).fixed ≡ true →
-      IsThinned (mask_of sorts a ++ (mask_of sorts b ++ all_kept (own_count op (shape_of sorts a).sort (shape_of sorts b).sort))) (with_two op a b at z s) (with_two op (with_scalars a) (with_scalars b) at z s)
-  with_two_thin op a b at z oa ob fa fb =
+  with_two_thin : (op : BinOp) (a b : Expr) (at : Span) (z : Size) → (shape_of sorts a).fixed ≡ true → (shape_of sorts b).fixed ≡ true →
+      IsThinned (mask_of (sort_in sorts) a ++ (mask_of (sort_in sorts) b ++ all_kept (own_count op (shape_of sorts a).sort (shape_of sorts b).sort))) (with_two op a b at z s) (with_two op (with_scalars a) (with_scalars b) at z s)
+  with_two_thin op a b at z fa fb =
       let own = own_count op (shape_of sorts a).sort (shape_of sorts b).sort in
-      thin_then (mask_of sorts a) (mask_of sorts b ++ all_kept own) (word_in at z a s) (word_in at z (with_scalars a) s) (λ x. and_then (word_in at z b s) (λ y. two_results op at z x y false)) (λ x. and_then (word_in at z (with_scalars b) s) (λ y. two_results op at z x y false)) (word_thin at z a oa fa)
-      (λ x. thin_then (mask_of sorts b) (all_kept own) (word_in at z b s) (word_in at z (with_scalars b) s) (λ y. two_results op at z x y false) (λ y. two_results op at z x y false) (word_thin at z b ob fb)
+      thin_then (mask_of (sort_in sorts) a) (mask_of (sort_in sorts) b ++ all_kept own) (word_in at z a s) (word_in at z (with_scalars a) s) (λ x. and_then (word_in at z b s) (λ y. two_results op at z x y false)) (λ x. and_then (word_in at z (with_scalars b) s) (λ y. two_results op at z x y false)) (word_thin at z a fa)
+      (λ x. thin_then (mask_of (sort_in sorts) b) (all_kept own) (word_in at z b s) (word_in at z (with_scalars b) s) (λ y. two_results op at z x y false) (λ y. two_results op at z x y false) (word_thin at z b fb)
       (λ y. thin_same own (two_results op at z x y false) (λ ns vs e. two_numbers op (shape_of sorts a).sort (shape_of sorts b).sort at z x y false ns vs e)))
 
   -- the operands of the left part have the mask of that part
-  with_three_thin : (op : BinOp) (x : Layer) (l c : Expr) (at : Span) (z : Size) → range_layer x ≡ true → (shape_layer sorts x).fixed ≡ true → is_in_range c ≡ true → (shape_of sorts c).fixed ≡ true → (k : Sort) →
-      IsThinned (mask_layer sorts x ++ (mask_of sorts c ++ all_kept (own_count op k (shape_of sorts c).sort))) (with_three op x l c at z s) (with_three op (out-Expr (rolled x)) (with_scalars l) (with_scalars c) at z s)
-  with_three_thin op (Expr-F.Num n p) l c at z ox fx oc fc k = ap (λ y. with_three op y (with_scalars l) (with_scalars c) at z s) (out-roll-Expr _)
-  with_three_thin op (Expr-F.Expr::Bool b p) l c at z ox fx oc fc k = ap (λ y. with_three op y (with_scalars l) (with_scalars c) at z s) (out-roll-Expr _)
-  with_three_thin op (Expr-F.Var v) l c at z ox fx oc fc k = ap (λ y. with_three op y (with_scalars l) (with_scalars c) at z s) (out-roll-Expr _)
-  with_three_thin op (Expr-F.Cell v i) l c at z ox fx oc fc k = by_scalar (size_at v) (index_in i)
+  with_three_thin : (op : BinOp) (x : Layer) (l c : Expr) (at : Span) (z : Size) → (shape_layer sorts x).fixed ≡ true → (shape_of sorts c).fixed ≡ true → (k : Sort) →
+      IsThinned (mask_layer (sort_in sorts) x ++ (mask_of (sort_in sorts) c ++ all_kept (own_count op k (shape_of sorts c).sort))) (with_three op x l c at z s) (with_three op (out-Expr (rolled x)) (with_scalars l) (with_scalars c) at z s)
+  with_three_thin op (Expr-F.Num n p) l c at z fx fc k = ap (λ y. with_three op y (with_scalars l) (with_scalars c) at z s) (out-roll-Expr _)
+  with_three_thin op (Expr-F.Expr::Bool b p) l c at z fx fc k = ap (λ y. with_three op y (with_scalars l) (with_scalars c) at z s) (out-roll-Expr _)
+  with_three_thin op (Expr-F.Var v) l c at z fx fc k = ap (λ y. with_three op y (with_scalars l) (with_scalars c) at z s) (out-roll-Expr _)
+  with_three_thin op (Expr-F.Cell v i) l c at z fx fc k = by_scalar (size_at v) (cell_in v i)
     where
       by_scalar : (y : Option Size) (n : Option ℕ) → with_three op (out-Expr (cell_or v (with_scalars i) y n)) (with_scalars l) (with_scalars c) at z s ≡ stuck_at at Init
       by_scalar (Some y) (Some n) = ap (λ y. with_three op y (with_scalars l) (with_scalars c) at z s) (out-roll-Expr _)
       by_scalar None n = ap (λ y. with_three op y (with_scalars l) (with_scalars c) at z s) (out-roll-Expr _)
       by_scalar (Some y) None = ap (λ y. with_three op y (with_scalars l) (with_scalars c) at z s) (out-roll-Expr _)
-  with_three_thin op (Expr-F.Load a) l c at z ox fx oc fc k = ap (λ y. with_three op y (with_scalars l) (with_scalars c) at z s) (out-roll-Expr _)
-  with_three_thin op (Expr-F.Neg a p) l c at z ox fx oc fc k = ap (λ y. with_three op y (with_scalars l) (with_scalars c) at z s) (out-roll-Expr _)
-  with_three_thin op (Expr-F.Not a p) l c at z ox fx oc fc k = ap (λ y. with_three op y (with_scalars l) (with_scalars c) at z s) (out-roll-Expr _)
-  with_three_thin op (Expr-F.Cast y w a p) l c at z ox fx oc fc k = ap (λ y. with_three op y (with_scalars l) (with_scalars c) at z s) (out-roll-Expr _)
-  with_three_thin op (Expr-F.Bin p a b inner) l c at z ox fx oc fc k =
+  with_three_thin op (Expr-F.Load a) l c at z fx fc k = ap (λ y. with_three op y (with_scalars l) (with_scalars c) at z s) (out-roll-Expr _)
+  with_three_thin op (Expr-F.Neg a p) l c at z fx fc k = ap (λ y. with_three op y (with_scalars l) (with_scalars c) at z s) (out-roll-Expr _)
+  with_three_thin op (Expr-F.Not a p) l c at z fx fc k = ap (λ y. with_three op y (with_scalars l) (with_scalars c) at z s) (out-roll-Expr _)
+  with_three_thin op (Expr-F.Cast y w a p) l c at z fx fc k = ap (λ y. with_three op y (with_scalars l) (with_scalars c) at z s) (out-roll-Expr _)
+  with_three_thin op (Expr-F.Bin p a b inner) l c at z fx fc k =
       subst (λ y. IsThinned M (with_three op (Expr-F.Bin p a b inner) l c at z s) (with_three op y (with_scalars l) (with_scalars c) at z s)) (sym (out-roll-Expr (Expr-F.Bin p (with_scalars a) (with_scalars b) inner))) (by_test (carries op p) refl)
     where
       own1 : ℕ
@@ -218,17 +218,14 @@ module _ (sorts : Sorts) (s : State) (holds : HoldsSorts sorts s.store) where
       own = own_count op k (shape_of sorts c).sort
 
       M : Mask
-      M = (mask_of sorts a ++ (mask_of sorts b ++ all_kept own1)) ++ (mask_of sorts c ++ all_kept own)
-
-      both : (is_in_range a ≡ true) × (is_in_range b ≡ true)
-      both = and_parts (is_in_range a) _ ox
+      M = (mask_of (sort_in sorts) a ++ (mask_of (sort_in sorts) b ++ all_kept own1)) ++ (mask_of (sort_in sorts) c ++ all_kept own)
 
       F : Expr → Expr → Expr → Evaluation Results
       F u v w = and_then (word_in at z u s) (λ x. and_then (word_in at z v s) (λ y. and_then (bool_in at w s) (two_results op at z x y)))
 
-      plain : carries op p ≡ true → M ≡ mask_of sorts a ++ (mask_of sorts b ++ (mask_of sorts c ++ all_kept own))
-      plain q = ap (λ n. (mask_of sorts a ++ (mask_of sorts b ++ all_kept n)) ++ (mask_of sorts c ++ all_kept own)) (own_none p (shape_of sorts a).sort (shape_of sorts b).sort (carries_plain op p q))
-          ∙ ap (λ n. (mask_of sorts a ++ n) ++ (mask_of sorts c ++ all_kept own)) (append-nil (mask_of sorts b)) ∙ append_assoc (mask_of sorts a) (mask_of sorts b) (mask_of sorts c ++ all_kept own)
+      plain : carries op p ≡ true → M ≡ mask_of (sort_in sorts) a ++ (mask_of (sort_in sorts) b ++ (mask_of (sort_in sorts) c ++ all_kept own))
+      plain q = ap (λ n. (mask_of (sort_in sorts) a ++ (mask_of (sort_in sorts) b ++ all_kept n)) ++ (mask_of (sort_in sorts) c ++ all_kept own)) (own_none p (shape_of sorts a).sort (shape_of sorts b).sort (carries_plain op p q))
+          ∙ ap (λ n. (mask_of (sort_in sorts) a ++ n) ++ (mask_of (sort_in sorts) c ++ all_kept own)) (append-nil (mask_of (sort_in sorts) b)) ∙ append_assoc (mask_of (sort_in sorts) a) (mask_of (sort_in sorts) b) (mask_of (sort_in sorts) c ++ all_kept own)
 
       fa : (shape_of sorts a).fixed ≡ true
       fa = (and_parts (shape_of sorts a).fixed _ fx).0
@@ -241,36 +238,33 @@ module _ (sorts : Sorts) (s : State) (holds : HoldsSorts sorts s.store) where
       by_test true q =
           subst (λ t. IsThinned M (if t then F a b c else stuck_at at Init) (if t then F (with_scalars a) (with_scalars b) (with_scalars c) else stuck_at at Init)) (sym q)
           (subst (λ m. IsThinned m (F a b c) (F (with_scalars a) (with_scalars b) (with_scalars c))) (sym (plain q))
-          (thin_then (mask_of sorts a) (mask_of sorts b ++ (mask_of sorts c ++ all_kept own)) (word_in at z a s) (word_in at z (with_scalars a) s) (λ x. and_then (word_in at z b s) (λ y. and_then (bool_in at c s) (two_results op at z x y))) (λ x. and_then (word_in at z (with_scalars b) s) (λ y. and_then (bool_in at (with_scalars c) s) (two_results op at z x y))) (word_thin at z a both.0 fa)
-          (λ x. thin_then (mask_of sorts b) (mask_of sorts c ++ all_kept own) (word_in at z b s) (word_in at z (with_scalars b) s) (λ y. and_then (bool_in at c s) (two_results op at z x y)) (λ y. and_then (bool_in at (with_scalars c) s) (two_results op at z x y)) (word_thin at z b both.1 fb)
-          (λ y. thin_then (mask_of sorts c) (all_kept own) (bool_in at c s) (bool_in at (with_scalars c) s) (two_results op at z x y) (two_results op at z x y) (bool_thin at c oc fc)
+          (thin_then (mask_of (sort_in sorts) a) (mask_of (sort_in sorts) b ++ (mask_of (sort_in sorts) c ++ all_kept own)) (word_in at z a s) (word_in at z (with_scalars a) s) (λ x. and_then (word_in at z b s) (λ y. and_then (bool_in at c s) (two_results op at z x y))) (λ x. and_then (word_in at z (with_scalars b) s) (λ y. and_then (bool_in at (with_scalars c) s) (two_results op at z x y))) (word_thin at z a fa)
+          (λ x. thin_then (mask_of (sort_in sorts) b) (mask_of (sort_in sorts) c ++ all_kept own) (word_in at z b s) (word_in at z (with_scalars b) s) (λ y. and_then (bool_in at c s) (two_results op at z x y)) (λ y. and_then (bool_in at (with_scalars c) s) (two_results op at z x y)) (word_thin at z b fb)
+          (λ y. thin_then (mask_of (sort_in sorts) c) (all_kept own) (bool_in at c s) (bool_in at (with_scalars c) s) (two_results op at z x y) (two_results op at z x y) (bool_thin at c fc)
           (λ t. thin_same own (two_results op at z x y t) (λ ns vs e. two_numbers op k (shape_of sorts c).sort at z x y t ns vs e))))))
 
   -- two results
-  two_thin : (x : Layer) (at : Span) (z : Option Size) → range_layer x ≡ true → (shape_layer sorts x).fixed ≡ true → IsThinned (mask_layer sorts x) (two_of x at z s) (two_of (out-Expr (rolled x)) at z s)
-  two_thin (Expr-F.Num n p) at z ok f = ap (λ y. two_of y at z s) (out-roll-Expr _)
-  two_thin (Expr-F.Expr::Bool b p) at z ok f = ap (λ y. two_of y at z s) (out-roll-Expr _)
-  two_thin (Expr-F.Var v) at z ok f = ap (λ y. two_of y at z s) (out-roll-Expr _)
-  two_thin (Expr-F.Cell v i) at z ok f = by_scalar (size_at v) (index_in i)
+  two_thin : (x : Layer) (at : Span) (z : Option Size) → (shape_layer sorts x).fixed ≡ true → IsThinned (mask_layer (sort_in sorts) x) (two_of x at z s) (two_of (out-Expr (rolled x)) at z s)
+  two_thin (Expr-F.Num n p) at z f = ap (λ y. two_of y at z s) (out-roll-Expr _)
+  two_thin (Expr-F.Expr::Bool b p) at z f = ap (λ y. two_of y at z s) (out-roll-Expr _)
+  two_thin (Expr-F.Var v) at z f = ap (λ y. two_of y at z s) (out-roll-Expr _)
+  two_thin (Expr-F.Cell v i) at z f = by_scalar (size_at v) (cell_in v i)
     where
       by_scalar : (y : Option Size) (n : Option ℕ) → two_of (out-Expr (cell_or v (with_scalars i) y n)) at z s ≡ stuck_at at Init
       by_scalar (Some y) (Some n) = ap (λ y. two_of y at z s) (out-roll-Expr _)
       by_scalar None n = ap (λ y. two_of y at z s) (out-roll-Expr _)
       by_scalar (Some y) None = ap (λ y. two_of y at z s) (out-roll-Expr _)
-  two_thin (Expr-F.Load a) at z ok f = ap (λ y. two_of y at z s) (out-roll-Expr _)
-  two_thin (Expr-F.Neg a p) at z ok f = ap (λ y. two_of y at z s) (out-roll-Expr _)
-  two_thin (Expr-F.Not a p) at z ok f = ap (λ y. two_of y at z s) (out-roll-Expr _)
-  two_thin (Expr-F.Cast y w a p) at z ok f = ap (λ y. two_of y at z s) (out-roll-Expr _)
-  two_thin (Expr-F.Bin op a b inner) at None ok f = ap (λ y. two_of y at None s) (out-roll-Expr _)
-  two_thin (Expr-F.Bin op a b inner) at (Some z) ok f =
+  two_thin (Expr-F.Load a) at z f = ap (λ y. two_of y at z s) (out-roll-Expr _)
+  two_thin (Expr-F.Neg a p) at z f = ap (λ y. two_of y at z s) (out-roll-Expr _)
+  two_thin (Expr-F.Not a p) at z f = ap (λ y. two_of y at z s) (out-roll-Expr _)
+  two_thin (Expr-F.Cast y w a p) at z f = ap (λ y. two_of y at z s) (out-roll-Expr _)
+  two_thin (Expr-F.Bin op a b inner) at None f = ap (λ y. two_of y at None s) (out-roll-Expr _)
+  two_thin (Expr-F.Bin op a b inner) at (Some z) f =
       subst (λ y. IsThinned M (two_of (Expr-F.Bin op a b inner) at (Some z) s) (two_of y at (Some z) s)) (sym (out-roll-Expr (Expr-F.Bin op (with_scalars a) (with_scalars b) inner)))
       (subst (λ t. IsThinned M (if is_flag b then with_three op (out-Expr a) a b inner z s else with_two op a b inner z s) (if t then with_three op (out-Expr (with_scalars a)) (with_scalars a) (with_scalars b) inner z s else with_two op (with_scalars a) (with_scalars b) inner z s)) (sym (flag_so b)) (by_flag (is_flag b)))
     where
       M : Mask
-      M = mask_of sorts a ++ (mask_of sorts b ++ all_kept (own_count op (shape_of sorts a).sort (shape_of sorts b).sort))
-
-      ok2 : (is_in_range a ≡ true) × (is_in_range b ≡ true)
-      ok2 = and_parts (is_in_range a) _ ok
+      M = mask_of (sort_in sorts) a ++ (mask_of (sort_in sorts) b ++ all_kept (own_count op (shape_of sorts a).sort (shape_of sorts b).sort))
 
       fa : (shape_of sorts a).fixed ≡ true
       fa = (and_parts (shape_of sorts a).fixed _ f).0
@@ -280,39 +274,37 @@ module _ (sorts : Sorts) (s : State) (holds : HoldsSorts sorts s.store) where
 
       three : IsThinned M (with_three op (out-Expr a) a b inner z s) (with_three op (out-Expr (with_scalars a)) (with_scalars a) (with_scalars b) inner z s)
       three =
-          let m : mask_of sorts a ≡ mask_layer sorts (out-Expr a) = ap (mask_of sorts) (sym (roll-out-Expr a)) ∙ mask_is sorts (out-Expr a) in
-          let r : range_layer (out-Expr a) ≡ true = sym (range_is (out-Expr a)) ∙ ap is_in_range (roll-out-Expr a) ∙ ok2.0 in
+          let m : mask_of (sort_in sorts) a ≡ mask_layer (sort_in sorts) (out-Expr a) = ap (mask_of (sort_in sorts)) (sym (roll-out-Expr a)) ∙ mask_is (sort_in sorts) (out-Expr a) in
           let h : (shape_layer sorts (out-Expr a)).fixed ≡ true = ap (λ (k : Shape). k.fixed) (sym (shape_is sorts (out-Expr a))) ∙ ap (λ e. (shape_of sorts e).fixed) (roll-out-Expr a) ∙ fa in
           subst (λ y. IsThinned M (with_three op (out-Expr a) a b inner z s) (with_three op y (with_scalars a) (with_scalars b) inner z s)) (sym (out_is a))
-          (subst (λ y. IsThinned (y ++ (mask_of sorts b ++ all_kept (own_count op (shape_of sorts a).sort (shape_of sorts b).sort))) (with_three op (out-Expr a) a b inner z s) (with_three op (out-Expr (rolled (out-Expr a))) (with_scalars a) (with_scalars b) inner z s)) (sym m)
-          (with_three_thin op (out-Expr a) a b inner z r h ok2.1 fb (shape_of sorts a).sort))
+          (subst (λ y. IsThinned (y ++ (mask_of (sort_in sorts) b ++ all_kept (own_count op (shape_of sorts a).sort (shape_of sorts b).sort))) (with_three op (out-Expr a) a b inner z s) (with_three op (out-Expr (rolled (out-Expr a))) (with_scalars a) (with_scalars b) inner z s)) (sym m)
+          (with_three_thin op (out-Expr a) a b inner z h fb (shape_of sorts a).sort))
 
       by_flag : (t : Bool) → IsThinned M (if t then with_three op (out-Expr a) a b inner z s else with_two op a b inner z s) (if t then with_three op (out-Expr (with_scalars a)) (with_scalars a) (with_scalars b) inner z s else with_two op (with_scalars a) (with_scalars b) inner z s)
       by_flag true = three
-      by_flag false = with_two_thin op a b inner z ok2.0 ok2.1 fa fb
+      by_flag false = with_two_thin op a b inner z fa fb
 
   -- the right side, by the number of left sides
-  pub results_thin : (to to2 : List Lval) (e : Expr) (at : Span) (z : Option Size) → length to ≡ length to2 → is_in_range e ≡ true → (shape_of sorts e).fixed ≡ true → IsThinned (mask_of sorts e) (results_of to e at z s) (results_of to2 (with_scalars e) at z s)
-  results_thin [] [] e at z q ok f = refl
-  results_thin [] (d ∷ ds) e at z q ok f = absurd cc
-  results_thin (d ∷ ds) [] e at z q ok f = absurd cc
-  results_thin (d ∷ []) (d2 ∷ []) e at z q ok f = thin_plain (mask_of sorts e) (evaluated e z s) (evaluated (with_scalars e) z s) (λ v. went [] (Some v ∷ [])) (λ v ns b q. cc) (scalars_so sorts s holds e z ok f)
-  results_thin (d ∷ []) (d2 ∷ g2 ∷ ds) e at z q ok f = absurd cc
-  results_thin (d ∷ g ∷ ds) (d2 ∷ []) e at z q ok f = absurd cc
-  results_thin (d ∷ g ∷ []) (d2 ∷ g2 ∷ []) e at z q ok f =
-      let m : mask_of sorts e ≡ mask_layer sorts (out-Expr e) = ap (mask_of sorts) (sym (roll-out-Expr e)) ∙ mask_is sorts (out-Expr e) in
-      let r : range_layer (out-Expr e) ≡ true = sym (range_is (out-Expr e)) ∙ ap is_in_range (roll-out-Expr e) ∙ ok in
+  pub results_thin : (to to2 : List Lval) (e : Expr) (at : Span) (z : Option Size) → length to ≡ length to2 → (shape_of sorts e).fixed ≡ true → IsThinned (mask_of (sort_in sorts) e) (results_of to e at z s) (results_of to2 (with_scalars e) at z s)
+  results_thin [] [] e at z q f = refl
+  results_thin [] (d ∷ ds) e at z q f = absurd cc
+  results_thin (d ∷ ds) [] e at z q f = absurd cc
+  results_thin (d ∷ []) (d2 ∷ []) e at z q f = thin_plain (mask_of (sort_in sorts) e) (evaluated e z s) (evaluated (with_scalars e) z s) (λ v. went [] (Some v ∷ [])) (λ v ns b q. cc) (scalars_so sorts s holds e z f)
+  results_thin (d ∷ []) (d2 ∷ g2 ∷ ds) e at z q f = absurd cc
+  results_thin (d ∷ g ∷ ds) (d2 ∷ []) e at z q f = absurd cc
+  results_thin (d ∷ g ∷ []) (d2 ∷ g2 ∷ []) e at z q f =
+      let m : mask_of (sort_in sorts) e ≡ mask_layer (sort_in sorts) (out-Expr e) = ap (mask_of (sort_in sorts)) (sym (roll-out-Expr e)) ∙ mask_is (sort_in sorts) (out-Expr e) in
       let h : (shape_layer sorts (out-Expr e)).fixed ≡ true = ap (λ (k : Shape). k.fixed) (sym (shape_is sorts (out-Expr e))) ∙ ap (λ y. (shape_of sorts y).fixed) (roll-out-Expr e) ∙ f in
-      subst (λ y. IsThinned (mask_of sorts e) (two_of (out-Expr e) at z s) (two_of y at z s)) (sym (out_is e)) (subst (λ y. IsThinned y (two_of (out-Expr e) at z s) (two_of (out-Expr (rolled (out-Expr e))) at z s)) (sym m) (two_thin (out-Expr e) at z r h))
-  results_thin (d ∷ g ∷ []) (d2 ∷ g2 ∷ c ∷ ds) e at z q ok f = absurd (omega (arith, q))
-  results_thin (d ∷ g ∷ c ∷ ds) (d2 ∷ g2 ∷ []) e at z q ok f = absurd (omega (arith, q))
-  results_thin (d ∷ g ∷ c ∷ ds) (d2 ∷ g2 ∷ c2 ∷ ds2) e at z q ok f = refl
+      subst (λ y. IsThinned (mask_of (sort_in sorts) e) (two_of (out-Expr e) at z s) (two_of y at z s)) (sym (out_is e)) (subst (λ y. IsThinned y (two_of (out-Expr e) at z s) (two_of (out-Expr (rolled (out-Expr e))) at z s)) (sym m) (two_thin (out-Expr e) at z h))
+  results_thin (d ∷ g ∷ []) (d2 ∷ g2 ∷ c ∷ ds) e at z q f = absurd (omega (arith, q))
+  results_thin (d ∷ g ∷ c ∷ ds) (d2 ∷ g2 ∷ []) e at z q f = absurd (omega (arith, q))
+  results_thin (d ∷ g ∷ c ∷ ds) (d2 ∷ g2 ∷ c2 ∷ ds2) e at z q f = refl
 
 -- ---- left sides
 
 module _ (sorts : Sorts) (s : State) (holds : HoldsSorts sorts s.store) where
   -- a value is written to a cell that became a scalar as to the cell
-  scalar_written : (v : Var) (i : Expr) (z : Size) (n : ℕ) (w : Option Size) (u : Value) → size_at v ≡ Some z → index_in i ≡ Some n → is_below (ref_of v).kind (Some n) ≡ true →
+  scalar_written : (v : Var) (i : Expr) (z : Size) (n : ℕ) (w : Option Size) (u : Value) → size_at v ≡ Some z → index_in i ≡ Some n → is_below (ref_of v).kind n ≡ true →
       IsThinned (false ∷ []) (written w (lval.Cell v i) (Some u) s) (written w (lval.Var (scalar v z n)) (Some u) s)
   scalar_written v i z n w u sz ix below =
       let r = ref_of v in
@@ -380,7 +372,6 @@ some_given (lval.Store y ∷ ds) (Some v ∷ vs) a = (tt, some_given ds vs a)
 module _ (sorts : Sorts) where
   -- what is asked of a left side, and that writing it keeps sorts
   pub record IsSortedLeft (d : Lval) : Type 0 where
-    pub range : is_left_in_range d ≡ true
     pub fixed : FixedLeft sorts d
     pub keeps : (z : Option Size) (v : Option Value) (s t : State) (ns : List ℕ) → HoldsSorts sorts s.store → written z d v s ≡ went ns t → HoldsSorts sorts t.store
 
@@ -388,44 +379,44 @@ module _ (sorts : Sorts) where
   AreLeft [] = Unit {0}
   AreLeft (d ∷ ds) = IsSortedLeft d × AreLeft ds
 
-  left_thin : (s : State) → HoldsSorts sorts s.store → (w : Option Size) (d : Lval) (u : Value) → is_left_in_range d ≡ true → FixedLeft sorts d → IsThinned (left_mask sorts d) (written w d (Some u) s) (written w (left_with_scalars d) (Some u) s)
-  left_thin s holds w (lval.Skip at) u ok f = (refl, refl)
-  left_thin s holds w (lval.Var v) u ok f = thin_same 0 (written w (lval.Var v) (Some u) s) (λ ns b e. var_numbers (ref_of v) u s ns b e)
-  left_thin s holds w (lval.Cell v i) u ok f = by_scalar (size_at v) (index_in i) refl refl ok
+  left_thin : (s : State) → HoldsSorts sorts s.store → (w : Option Size) (d : Lval) (u : Value) → FixedLeft sorts d → IsThinned (left_mask (sort_in sorts) d) (written w d (Some u) s) (written w (left_with_scalars d) (Some u) s)
+  left_thin s holds w (lval.Skip at) u f = (refl, refl)
+  left_thin s holds w (lval.Var v) u f = thin_same 0 (written w (lval.Var v) (Some u) s) (λ ns b e. var_numbers (ref_of v) u s ns b e)
+  left_thin s holds w (lval.Cell v i) u f = by_scalar (size_at v) (cell_in v i) refl refl
     where
       r : Ref
       r = ref_of v
 
-      stays : is_in_range i ≡ true → IsThinned (mask_of sorts i ++ true ∷ []) (written w (lval.Cell v i) (Some u) s) (written w (lval.Cell v (with_scalars i)) (Some u) s)
-      stays k = thin_then (mask_of sorts i) (true ∷ []) (evaluated i (Some S64) s) (evaluated (with_scalars i) (Some S64) s) (λ j. and_then (index_at r j) (λ n. in_cell r n (size_of r.kind) (Some u) s)) (λ j. and_then (index_at r j) (λ n. in_cell r n (size_of r.kind) (Some u) s)) (scalars_so sorts s holds i (Some S64) k f)
+      stays : IsThinned (mask_of (sort_in sorts) i ++ true ∷ []) (written w (lval.Cell v i) (Some u) s) (written w (lval.Cell v (with_scalars i)) (Some u) s)
+      stays = thin_then (mask_of (sort_in sorts) i) (true ∷ []) (evaluated i (Some S64) s) (evaluated (with_scalars i) (Some S64) s) (λ j. and_then (index_at r j) (λ n. in_cell r n (size_of r.kind) (Some u) s)) (λ j. and_then (index_at r j) (λ n. in_cell r n (size_of r.kind) (Some u) s)) (scalars_so sorts s holds i (Some S64) f)
           (λ j. thin_same 1 (and_then (index_at r j) (λ n. in_cell r n (size_of r.kind) (Some u) s)) (λ ns b e.
           let t = then_went (index_at r j) (λ n. in_cell r n (size_of r.kind) (Some u) s) ns b e in
           let a = index_numbers r j t.0 t.1 t.3 in let c = in_cell_numbers r t.1 (size_of r.kind) (Some u) s t.2 b t.4 in
           omega (arith, a, c, length-append t.0 t.2, ap length t.5)))
 
-      by_scalar : (z : Option Size) (n : Option ℕ) → size_at v ≡ z → index_in i ≡ n → (if is_scalar z n then is_below (ref_of v).kind n else is_in_range i) ≡ true → IsThinned (if is_scalar z n then false ∷ [] else mask_of sorts i ++ true ∷ []) (written w (lval.Cell v i) (Some u) s) (written w (left_or v i z n) (Some u) s)
-      by_scalar (Some z) (Some n) q1 q2 k = scalar_written sorts s holds v i z n w u q1 q2 k
-      by_scalar None n q1 q2 k = stays k
-      by_scalar (Some z) None q1 q2 k = stays k
-  left_thin s holds w (lval.Store a) u ok f =
-      let p = access_of a in let l = access_kept sorts s holds a ok in
-      subst (λ (m : MemoryAccess). IsThinned (access_mask sorts a ++ true ∷ []) (written w (lval.Store a) (Some u) s) (and_then (m.at s) (λ n. and_then (store_at m w n (Some u) s.memory) (λ m. went [] (record s { memory = m }))))) (sym l.1)
-      (thin_then (access_mask sorts a) (true ∷ []) (p.at s) (l.0 s) (λ n. and_then (store_at p w n (Some u) s.memory) (λ m. went [] (record s { memory = m }))) (λ n. and_then (store_at p w n (Some u) s.memory) (λ m. went [] (record s { memory = m }))) (l.2 f)
+      by_scalar : (z : Option Size) (n : Option ℕ) → size_at v ≡ z → cell_in v i ≡ n → IsThinned (if is_scalar z n then false ∷ [] else mask_of (sort_in sorts) i ++ true ∷ []) (written w (lval.Cell v i) (Some u) s) (written w (left_or v i z n) (Some u) s)
+      by_scalar (Some z) (Some n) q1 q2 = let c = cell_is v i n q2 in scalar_written sorts s holds v i z n w u q1 c.0 c.1
+      by_scalar None n q1 q2 = stays
+      by_scalar (Some z) None q1 q2 = stays
+  left_thin s holds w (lval.Store a) u f =
+      let p = access_of a in let l = access_kept sorts s holds a in
+      subst (λ (m : MemoryAccess). IsThinned (access_mask (sort_in sorts) a ++ true ∷ []) (written w (lval.Store a) (Some u) s) (and_then (m.at s) (λ n. and_then (store_at m w n (Some u) s.memory) (λ m. went [] (record s { memory = m }))))) (sym l.1)
+      (thin_then (access_mask (sort_in sorts) a) (true ∷ []) (p.at s) (l.0 s) (λ n. and_then (store_at p w n (Some u) s.memory) (λ m. went [] (record s { memory = m }))) (λ n. and_then (store_at p w n (Some u) s.memory) (λ m. went [] (record s { memory = m }))) (l.2 f)
       (λ n. thin_same 1 (and_then (store_at p w n (Some u) s.memory) (λ m. went [] (record s { memory = m }))) (λ ns b e.
       let t = then_went (store_at p w n (Some u) s.memory) (λ m. went [] (record s { memory = m })) ns b e in
       let c1 = store_numbers p w n u s.memory t.0 t.1 t.3 in let c2 : t.2 ≡ [] = (let k = t.4 in cc) in
       omega (arith, c1, ap length c2, length-append t.0 t.2, ap length t.5))))
 
   -- a left side with or without a value; a cell has one
-  given_thin : (s : State) → HoldsSorts sorts s.store → (w : Option Size) (d : Lval) (v : Option Value) → is_left_in_range d ≡ true → FixedLeft sorts d → IsGiven d v → IsThinned (left_mask sorts d) (written w d v s) (written w (left_with_scalars d) v s)
-  given_thin s holds w d (Some u) ok f g = left_thin s holds w d u ok f
-  given_thin s holds w (lval.Skip at) None ok f g = (refl, refl)
-  given_thin s holds w (lval.Var v) None ok f g = (refl, refl)
-  given_thin s holds w (lval.Cell v i) None ok f g = absurd g
-  given_thin s holds w (lval.Store a) None ok f g =
-      let p = access_of a in let l = access_kept sorts s holds a ok in
-      subst (λ (m : MemoryAccess). IsThinned (access_mask sorts a ++ true ∷ []) (written w (lval.Store a) None s) (and_then (m.at s) (λ n. and_then (store_at m w n None s.memory) (λ m. went [] (record s { memory = m }))))) (sym l.1)
-      (thin_then (access_mask sorts a) (true ∷ []) (p.at s) (l.0 s) (λ n. and_then (store_at p w n None s.memory) (λ m. went [] (record s { memory = m }))) (λ n. and_then (store_at p w n None s.memory) (λ m. went [] (record s { memory = m }))) (l.2 f)
+  given_thin : (s : State) → HoldsSorts sorts s.store → (w : Option Size) (d : Lval) (v : Option Value) → FixedLeft sorts d → IsGiven d v → IsThinned (left_mask (sort_in sorts) d) (written w d v s) (written w (left_with_scalars d) v s)
+  given_thin s holds w d (Some u) f g = left_thin s holds w d u f
+  given_thin s holds w (lval.Skip at) None f g = (refl, refl)
+  given_thin s holds w (lval.Var v) None f g = (refl, refl)
+  given_thin s holds w (lval.Cell v i) None f g = absurd g
+  given_thin s holds w (lval.Store a) None f g =
+      let p = access_of a in let l = access_kept sorts s holds a in
+      subst (λ (m : MemoryAccess). IsThinned (access_mask (sort_in sorts) a ++ true ∷ []) (written w (lval.Store a) None s) (and_then (m.at s) (λ n. and_then (store_at m w n None s.memory) (λ m. went [] (record s { memory = m }))))) (sym l.1)
+      (thin_then (access_mask (sort_in sorts) a) (true ∷ []) (p.at s) (l.0 s) (λ n. and_then (store_at p w n None s.memory) (λ m. went [] (record s { memory = m }))) (λ n. and_then (store_at p w n None s.memory) (λ m. went [] (record s { memory = m }))) (l.2 f)
       (λ n. thin_same 1 (and_then (store_at p w n None s.memory) (λ m. went [] (record s { memory = m }))) (λ ns b e.
       let t = then_went (store_at p w n None s.memory) (λ m. went [] (record s { memory = m })) ns b e in
       absurd (never_stored p w n s.memory t.0 t.1 t.3))))
@@ -440,12 +431,12 @@ module _ (sorts : Sorts) where
       by_rest (stuck w) r' u = ap (numbers_first (numbers_kept m ns)) u
       by_rest (went ms b) r' u = (omega (arith, t.0, u.0, length-append ns ms, length-append m k), ap (numbers_first (numbers_kept m ns)) u.1 ∙ ap (λ l. went l b) (sym (kept_both m k ns ms t.0)))
 
-  pub all_thin : (at : Span) (s : State) (z : Option Size) (ds : List Lval) (vs : Results) → HoldsSorts sorts s.store → AreLeft ds → AreGiven ds vs → IsThinned (lefts_mask sorts ds) (all_written at z ds vs s) (all_written at z (map left_with_scalars ds) vs s)
+  pub all_thin : (at : Span) (s : State) (z : Option Size) (ds : List Lval) (vs : Results) → HoldsSorts sorts s.store → AreLeft ds → AreGiven ds vs → IsThinned (lefts_mask (sort_in sorts) ds) (all_written at z ds vs s) (all_written at z (map left_with_scalars ds) vs s)
   all_thin at s z [] [] holds l a = (refl, refl)
   all_thin at s z [] (v ∷ vs) holds l a = refl
   all_thin at s z (d ∷ ds) [] holds l a = refl
   all_thin at s z (d ∷ ds) (v ∷ vs) holds l a =
-      thin_if (left_mask sorts d) (lefts_mask sorts ds) (written z d v s) (written z (left_with_scalars d) v s) (λ t. all_written at z ds vs t) (λ t. all_written at z (map left_with_scalars ds) vs t) (given_thin s holds z d v l.0.range l.0.fixed a.0)
+      thin_if (left_mask (sort_in sorts) d) (lefts_mask (sort_in sorts) ds) (written z d v s) (written z (left_with_scalars d) v s) (λ t. all_written at z ds vs t) (λ t. all_written at z (map left_with_scalars ds) vs t) (given_thin s holds z d v l.0.fixed a.0)
       (λ ns t e. all_thin at t z ds vs (l.0.keeps z v s t ns holds e) l.1 a.1)
 
 -- ---- whole assignments
@@ -459,7 +450,7 @@ ws_bin op a b at = ap with_scalars (sym (expr.rolls-Bin op a b at)) ∙ in_is (E
 ws_left : (d : Lval) → as_expr (left_with_scalars d) ≡ option_map with_scalars (as_expr d)
 ws_left (lval.Skip at) = refl
 ws_left (lval.Var v) = ap Some (sym (ws_var v))
-ws_left (lval.Cell v i) = by_scalar (size_at v) (index_in i) ∙ ap Some (sym (ap with_scalars (sym (expr.rolls-Cell v i)) ∙ in_is (Expr-F.Cell v i)))
+ws_left (lval.Cell v i) = by_scalar (size_at v) (cell_in v i) ∙ ap Some (sym (ap with_scalars (sym (expr.rolls-Cell v i)) ∙ in_is (Expr-F.Cell v i)))
   where
     by_scalar : (z : Option Size) (n : Option ℕ) → as_expr (left_or v i z n) ≡ Some (cell_or v (with_scalars i) z n)
     by_scalar (Some z) (Some n) = ap Some (sym (expr.rolls-Var (scalar v z n)))
@@ -480,7 +471,7 @@ ws_updated : (op : BinOp) (d e : Expr) (at : Span) (x : Layer) → updated_layer
 ws_updated op d e at (Expr-F.Num n p) = ap (updated_layer op (with_scalars d) (with_scalars e) at) (out-roll-Expr _) ∙ sym (ws_bin op d e at)
 ws_updated op d e at (Expr-F.Expr::Bool c p) = ap (updated_layer op (with_scalars d) (with_scalars e) at) (out-roll-Expr _) ∙ sym (ws_bin op d e at)
 ws_updated op d e at (Expr-F.Var v) = ap (updated_layer op (with_scalars d) (with_scalars e) at) (out-roll-Expr _) ∙ sym (ws_bin op d e at)
-ws_updated op d e at (Expr-F.Cell v i) = by_scalar (size_at v) (index_in i) ∙ sym (ws_bin op d e at)
+ws_updated op d e at (Expr-F.Cell v i) = by_scalar (size_at v) (cell_in v i) ∙ sym (ws_bin op d e at)
   where
     by_scalar : (z : Option Size) (n : Option ℕ) → updated_layer op (with_scalars d) (with_scalars e) at (out-Expr (cell_or v (with_scalars i) z n)) ≡ expr.Bin op (with_scalars d) (with_scalars e) at
     by_scalar (Some z) (Some n) = ap (updated_layer op (with_scalars d) (with_scalars e) at) (out-roll-Expr _)
@@ -586,90 +577,85 @@ module _ (sorts : Sorts) (s : State) (holds : HoldsSorts sorts s.store) where
       by_choice true old = a
       by_choice false old = tt
 
-  ws_span : (d : Lval) → is_left_in_range d ≡ true → left_span (left_with_scalars d) ≡ left_span d
-  ws_span (lval.Skip at) ok = refl
-  ws_span (lval.Var v) ok = refl
-  ws_span (lval.Cell v i) ok = by_scalar (size_at v) (index_in i)
+  ws_span : (d : Lval) → left_span (left_with_scalars d) ≡ left_span d
+  ws_span (lval.Skip at) = refl
+  ws_span (lval.Var v) = refl
+  ws_span (lval.Cell v i) = by_scalar (size_at v) (cell_in v i)
     where
       by_scalar : (z : Option Size) (n : Option ℕ) → left_span (left_or v i z n) ≡ (ref_of v).span
       by_scalar (Some z) (Some n) = ap (λ (r : Ref). r.span) (scalar_is v z n)
       by_scalar None n = refl
       by_scalar (Some z) None = refl
-  ws_span (lval.Store a) ok = ap (λ (p : MemoryAccess). p.span) (access_kept sorts s holds a ok).1
+  ws_span (lval.Store a) = ap (λ (p : MemoryAccess). p.span) (access_kept sorts s holds a).1
 
-  ws_size : (d : Lval) → is_left_in_range d ≡ true → left_size (left_with_scalars d) ≡ left_size d
-  ws_size (lval.Skip at) ok = refl
-  ws_size (lval.Var v) ok = refl
-  ws_size (lval.Cell v i) ok = by_scalar (size_at v) (index_in i) refl refl ok
+  ws_size : (d : Lval) → left_size (left_with_scalars d) ≡ left_size d
+  ws_size (lval.Skip at) = refl
+  ws_size (lval.Var v) = refl
+  ws_size (lval.Cell v i) = by_scalar (size_at v) (cell_in v i) refl refl
     where
-      by_scalar : (z : Option Size) (n : Option ℕ) → size_at v ≡ z → index_in i ≡ n → (if is_scalar z n then is_below (ref_of v).kind n else is_in_range i) ≡ true → left_size (left_or v i z n) ≡ size_of (ref_of v).kind
-      by_scalar (Some z) (Some n) q1 q2 k = let b = below_is (ref_of v).kind n k in ap (λ (r : Ref). size_of r.kind) (scalar_is v z n) ∙ ap Some (kind_size v z b.0 b.1 q1 b.2) ∙ ap size_of (sym b.2)
-      by_scalar None n q1 q2 k = refl
-      by_scalar (Some z) None q1 q2 k = refl
-  ws_size (lval.Store a) ok = ap (λ (p : MemoryAccess). p.size) (access_kept sorts s holds a ok).1
+      by_scalar : (z : Option Size) (n : Option ℕ) → size_at v ≡ z → cell_in v i ≡ n → left_size (left_or v i z n) ≡ size_of (ref_of v).kind
+      by_scalar (Some z) (Some n) q1 q2 = let b = below_is (ref_of v).kind n (cell_is v i n q2).1 in ap (λ (r : Ref). size_of r.kind) (scalar_is v z n) ∙ ap Some (kind_size v z b.0 b.1 q1 b.2) ∙ ap size_of (sym b.2)
+      by_scalar None n q1 q2 = refl
+      by_scalar (Some z) None q1 q2 = refl
+  ws_size (lval.Store a) = ap (λ (p : MemoryAccess). p.size) (access_kept sorts s holds a).1
 
-  pub ws_sizes : (ds : List Lval) → AreLeft sorts ds → left_sizes (map left_with_scalars ds) ≡ left_sizes ds
-  ws_sizes [] l = refl
-  ws_sizes (d ∷ ds) l = let p = ws_size d l.0.range in let q = ws_sizes ds l.1 in rw (p, q)
+  pub ws_sizes : (ds : List Lval) → left_sizes (map left_with_scalars ds) ≡ left_sizes ds
+  ws_sizes [] = refl
+  ws_sizes (d ∷ ds) = let p = ws_size d in let q = ws_sizes ds in rw (p, q)
 
-  ws_whole_last : (d : Option Lval) (op : Option BinOp) (e : Expr) → ((f : Lval) → d ≡ Some f → is_left_in_range f ≡ true) → whole_of (option_map left_with_scalars d) op (with_scalars e) ≡ option_map with_scalars (whole_of d op e)
-  ws_whole_last None None e h = refl
-  ws_whole_last (Some d) None e h = refl
-  ws_whole_last None (Some op) e h = refl
-  ws_whole_last (Some d) (Some op) e h =
-      ap (λ k. updated k op (with_scalars e) (left_span (left_with_scalars d))) (ws_left d) ∙ ap (updated (option_map with_scalars (as_expr d)) op (with_scalars e)) (ws_span d (h d refl)) ∙ by_expr (as_expr d)
+  ws_whole_last : (d : Option Lval) (op : Option BinOp) (e : Expr) → whole_of (option_map left_with_scalars d) op (with_scalars e) ≡ option_map with_scalars (whole_of d op e)
+  ws_whole_last None None e = refl
+  ws_whole_last (Some d) None e = refl
+  ws_whole_last None (Some op) e = refl
+  ws_whole_last (Some d) (Some op) e =
+      ap (λ k. updated k op (with_scalars e) (left_span (left_with_scalars d))) (ws_left d) ∙ ap (updated (option_map with_scalars (as_expr d)) op (with_scalars e)) (ws_span d) ∙ by_expr (as_expr d)
     where
       by_expr : (a : Option Expr) → updated (option_map with_scalars a) op (with_scalars e) (left_span d) ≡ option_map with_scalars (updated a op e (left_span d))
       by_expr None = refl
       by_expr (Some a) = ap Some (ap (updated_layer op (with_scalars a) (with_scalars e) (left_span d)) (out_is e) ∙ ws_updated op a e (left_span d) (out-Expr e))
 
-  last_range : (ds : List Lval) → AreLeft sorts ds → (f : Lval) → last_left ds ≡ Some f → is_left_in_range f ≡ true
-  last_range [] l f e = absurd cc
-  last_range (d ∷ []) l f e = let q : d ≡ f = cc in subst (λ k. is_left_in_range k ≡ true) q l.0.range
-  last_range (d ∷ g ∷ ds) l f e = last_range (g ∷ ds) l.1 f e
-
-  ws_whole : (to : List Lval) (op : Option BinOp) (e : Expr) → AreLeft sorts to → whole_of (last_left (map left_with_scalars to)) op (with_scalars e) ≡ option_map with_scalars (whole_of (last_left to) op e)
-  ws_whole to op e l = ap (λ d. whole_of d op (with_scalars e)) (ws_last to) ∙ ws_whole_last (last_left to) op e (last_range to l)
+  ws_whole : (to : List Lval) (op : Option BinOp) (e : Expr) → whole_of (last_left (map left_with_scalars to)) op (with_scalars e) ≡ option_map with_scalars (whole_of (last_left to) op e)
+  ws_whole to op e = ap (λ d. whole_of d op (with_scalars e)) (ws_last to) ∙ ws_whole_last (last_left to) op e
 
   length_same : (ds : List Lval) → length ds ≡ length (map left_with_scalars ds)
   length_same [] = refl
   length_same (d ∷ ds) = ap suc (length_same ds)
 
-  old_thin : (to : List Lval) (at : Span) → AreLeft sorts to → IsRead sorts (whole_old to) → IsThinned (old_mask sorts to) (old_value to at s) (old_value (map left_with_scalars to) at s)
-  old_thin [] at l r = refl
-  old_thin (d ∷ f ∷ ds) at l r = refl
-  old_thin (d ∷ []) at l r =
-      subst (λ k. IsThinned (mask_if sorts (as_expr d)) (and_then (defined at (as_expr d)) (λ e. evaluated e (left_size d) s)) (and_then (defined at k) (λ e. evaluated e (left_size (left_with_scalars d)) s))) (sym (ws_left d))
-      (subst (λ z. IsThinned (mask_if sorts (as_expr d)) (and_then (defined at (as_expr d)) (λ e. evaluated e (left_size d) s)) (and_then (defined at (option_map with_scalars (as_expr d))) (λ e. evaluated e z s))) (sym (ws_size d l.0.range)) (by_expr (as_expr d) r))
+  old_thin : (to : List Lval) (at : Span) → IsRead sorts (whole_old to) → IsThinned (old_mask (sort_in sorts) to) (old_value to at s) (old_value (map left_with_scalars to) at s)
+  old_thin [] at r = refl
+  old_thin (d ∷ f ∷ ds) at r = refl
+  old_thin (d ∷ []) at r =
+      subst (λ k. IsThinned (mask_if (sort_in sorts) (as_expr d)) (and_then (defined at (as_expr d)) (λ e. evaluated e (left_size d) s)) (and_then (defined at k) (λ e. evaluated e (left_size (left_with_scalars d)) s))) (sym (ws_left d))
+      (subst (λ z. IsThinned (mask_if (sort_in sorts) (as_expr d)) (and_then (defined at (as_expr d)) (λ e. evaluated e (left_size d) s)) (and_then (defined at (option_map with_scalars (as_expr d))) (λ e. evaluated e z s))) (sym (ws_size d)) (by_expr (as_expr d) r))
     where
-      by_expr : (a : Option Expr) → IsRead sorts a → IsThinned (mask_if sorts a) (and_then (defined at a) (λ e. evaluated e (left_size d) s)) (and_then (defined at (option_map with_scalars a)) (λ e. evaluated e (left_size d) s))
+      by_expr : (a : Option Expr) → IsRead sorts a → IsThinned (mask_if (sort_in sorts) a) (and_then (defined at a) (λ e. evaluated e (left_size d) s)) (and_then (defined at (option_map with_scalars a)) (λ e. evaluated e (left_size d) s))
       by_expr None r = refl
       by_expr (Some e) r =
-          subst (λ g. IsThinned (mask_of sorts e) g (and_then (went [] (with_scalars e)) (λ e. evaluated e (left_size d) s))) (sym (none_first (evaluated e (left_size d) s)))
-          (subst (IsThinned (mask_of sorts e) (evaluated e (left_size d) s)) (sym (none_first (evaluated (with_scalars e) (left_size d) s))) (scalars_so sorts s holds e (left_size d) r.0 r.1))
+          subst (λ g. IsThinned (mask_of (sort_in sorts) e) g (and_then (went [] (with_scalars e)) (λ e. evaluated e (left_size d) s))) (sym (none_first (evaluated e (left_size d) s)))
+          (subst (IsThinned (mask_of (sort_in sorts) e) (evaluated e (left_size d) s)) (sym (none_first (evaluated (with_scalars e) (left_size d) s))) (scalars_so sorts s holds e (left_size d) r))
 
-  conditioned_thin : (to : List Lval) (c : Option Expr) (at : Span) (vs : Results) → AreLeft sorts to → IsRead sorts c → IsRead sorts (whole_old to) → IsThinned (condition_mask sorts to c) (conditioned to c at vs s) (conditioned (map left_with_scalars to) (option_map with_scalars c) at vs s)
-  conditioned_thin to None at vs l r ro = (refl, refl)
-  conditioned_thin to (Some c) at vs l r ro =
-      thin_then (mask_of sorts c) (old_mask sorts to) (bool_in at c s) (bool_in at (with_scalars c) s) (λ b. and_then (old_value to at s) (λ old. went [] (chosen b vs old))) (λ b. and_then (old_value (map left_with_scalars to) at s) (λ old. went [] (chosen b vs old))) (bool_thin sorts s holds at c r.0 r.1)
-      (λ b. thin_plain (old_mask sorts to) (old_value to at s) (old_value (map left_with_scalars to) at s) (λ old. went [] (chosen b vs old)) (λ v ns k q. cc) (old_thin to at l ro))
+  conditioned_thin : (to : List Lval) (c : Option Expr) (at : Span) (vs : Results) → IsRead sorts c → IsRead sorts (whole_old to) → IsThinned (condition_mask (sort_in sorts) to c) (conditioned to c at vs s) (conditioned (map left_with_scalars to) (option_map with_scalars c) at vs s)
+  conditioned_thin to None at vs r ro = (refl, refl)
+  conditioned_thin to (Some c) at vs r ro =
+      thin_then (mask_of (sort_in sorts) c) (old_mask (sort_in sorts) to) (bool_in at c s) (bool_in at (with_scalars c) s) (λ b. and_then (old_value to at s) (λ old. went [] (chosen b vs old))) (λ b. and_then (old_value (map left_with_scalars to) at s) (λ old. went [] (chosen b vs old))) (bool_thin sorts s holds at c r)
+      (λ b. thin_plain (old_mask (sort_in sorts) to) (old_value to at s) (old_value (map left_with_scalars to) at s) (λ old. went [] (chosen b vs old)) (λ v ns k q. cc) (old_thin to at ro))
 
   -- an assignment whose cells are scalars: the same state, and of its numbers those that are numbers_kept; or stuck alike
   pub assigned_thin : (to : List Lval) (op : Option BinOp) (e : Expr) (c : Option Expr) (at : Span) → AreLeft sorts to → IsRead sorts (whole_of (last_left to) op e) → IsRead sorts c → IsRead sorts (whole_old to) →
-      IsThinned (assign_mask sorts to op e c) (assigned to op e c at s) (assigned (map left_with_scalars to) op (with_scalars e) (option_map with_scalars c) at s)
+      IsThinned (assign_mask (sort_in sorts) to op e c) (assigned to op e c at s) (assigned (map left_with_scalars to) op (with_scalars e) (option_map with_scalars c) at s)
   assigned_thin to op e c at l re rc ro =
-      subst (λ k. IsThinned (assign_mask sorts to op e c) (assigned to op e c at s) (assigned_whole (map left_with_scalars to) k (option_map with_scalars c) at s)) (sym (ws_whole to op e l)) (by_whole (whole_of (last_left to) op e) re)
+      subst (λ k. IsThinned (assign_mask (sort_in sorts) to op e c) (assigned to op e c at s) (assigned_whole (map left_with_scalars to) k (option_map with_scalars c) at s)) (sym (ws_whole to op e)) (by_whole (whole_of (last_left to) op e) re)
     where
       rest : Mask
-      rest = condition_mask sorts to c ++ lefts_mask sorts to
+      rest = condition_mask (sort_in sorts) to c ++ lefts_mask (sort_in sorts) to
 
-      by_whole : (k : Option Expr) → IsRead sorts k → IsThinned (mask_if sorts k ++ rest) (assigned_whole to k c at s) (assigned_whole (map left_with_scalars to) (option_map with_scalars k) (option_map with_scalars c) at s)
+      by_whole : (k : Option Expr) → IsRead sorts k → IsThinned (mask_if (sort_in sorts) k ++ rest) (assigned_whole to k c at s) (assigned_whole (map left_with_scalars to) (option_map with_scalars k) (option_map with_scalars c) at s)
       by_whole None r = refl
       by_whole (Some w) r =
           let z = option_or (left_sizes to) (own_size w) in
-          let z2 : option_or (left_sizes (map left_with_scalars to)) (own_size (with_scalars w)) ≡ z = (let p = ws_sizes to l in let q = size_kept sorts s holds w r.0 in rw (p, q)) in
-          subst (λ y. IsThinned (mask_of sorts w ++ rest) (assigned_whole to (Some w) c at s) (and_then (results_of (map left_with_scalars to) (with_scalars w) at y s) (λ vs. and_then (conditioned (map left_with_scalars to) (option_map with_scalars c) at vs s) (λ us. all_written at y (map left_with_scalars to) us s)))) (sym z2)
-          (thin_if sorts (mask_of sorts w) rest (results_of to w at z s) (results_of (map left_with_scalars to) (with_scalars w) at z s) (λ vs. and_then (conditioned to c at vs s) (λ us. all_written at z to us s)) (λ vs. and_then (conditioned (map left_with_scalars to) (option_map with_scalars c) at vs s) (λ us. all_written at z (map left_with_scalars to) us s))
-          (results_thin sorts s holds to (map left_with_scalars to) w at z (length_same to) r.0 r.1)
-          (λ ns vs q. thin_if sorts (condition_mask sorts to c) (lefts_mask sorts to) (conditioned to c at vs s) (conditioned (map left_with_scalars to) (option_map with_scalars c) at vs s) (λ us. all_written at z to us s) (λ us. all_written at z (map left_with_scalars to) us s) (conditioned_thin to c at vs l rc ro)
+          let z2 : option_or (left_sizes (map left_with_scalars to)) (own_size (with_scalars w)) ≡ z = (let p = ws_sizes to in let q = size_kept sorts s holds w in rw (p, q)) in
+          subst (λ y. IsThinned (mask_of (sort_in sorts) w ++ rest) (assigned_whole to (Some w) c at s) (and_then (results_of (map left_with_scalars to) (with_scalars w) at y s) (λ vs. and_then (conditioned (map left_with_scalars to) (option_map with_scalars c) at vs s) (λ us. all_written at y (map left_with_scalars to) us s)))) (sym z2)
+          (thin_if sorts (mask_of (sort_in sorts) w) rest (results_of to w at z s) (results_of (map left_with_scalars to) (with_scalars w) at z s) (λ vs. and_then (conditioned to c at vs s) (λ us. all_written at z to us s)) (λ vs. and_then (conditioned (map left_with_scalars to) (option_map with_scalars c) at vs s) (λ us. all_written at z (map left_with_scalars to) us s))
+          (results_thin sorts s holds to (map left_with_scalars to) w at z (length_same to) r)
+          (λ ns vs q. thin_if sorts (condition_mask (sort_in sorts) to c) (lefts_mask (sort_in sorts) to) (conditioned to c at vs s) (conditioned (map left_with_scalars to) (option_map with_scalars c) at vs s) (λ us. all_written at z to us s) (λ us. all_written at z (map left_with_scalars to) us s) (conditioned_thin to c at vs rc ro)
           (λ ms us q2. all_thin sorts at s z to us holds l (some_given to us (conditioned_some to c at vs us ms (results_some to w at z vs ns q) q2)))))

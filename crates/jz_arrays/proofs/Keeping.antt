@@ -29,7 +29,7 @@ use Rattle.jz_change.specs.Fitting.{HasNumber, HasThese}
 use Rattle.jz_pass.specs.Operations.{DoAll, do_none, do_one, OneFails, fails_here, TestFails, fails_at_test}
 use Rattle.jz_pass.specs.Unrolling.{IsKnown}
 use Rattle.jz_pass.specs.Rewriting.{knowing_of}
-use Rattle.jz_arrays.specs.Cells.{with_scalars, left_with_scalars, Mask, numbers_kept, mask_of, instruction_mask, assign_mask}
+use Rattle.jz_arrays.specs.Cells.{sort_in, with_scalars, left_with_scalars, Mask, numbers_kept, mask_of, instruction_mask, assign_mask}
 use Rattle.jz_arrays.specs.Arrays.{places, numbers_left, IsRead, IsLeft, IsAssign, IsInstruction, ArraysOp, assigns, instructs, ArraysTest, tests, arrays, IsOneState}
 use Rattle.jz_arrays.specs.ScalarLaws.{IsThinned}
 use Rattle.jz_arrays.proofs.Assigning.{AreLeft, bool_thin, assigned_thin}
@@ -76,56 +76,56 @@ module _ (kinds : Kinds) where
   all_left [] h = tt
   all_left (d ∷ ds) h =
       let l = All-head (IsLeft kinds) d ds h in
-      (record { range = l.range; fixed = l.fixed; keeps = λ z v s t ns held q. written_sorted kinds z d v s t ns l.declared held q }, all_left ds (All-tail (IsLeft kinds) d ds h))
+      (record { fixed = l.fixed; keeps = λ z v s t ns held q. written_sorted kinds z d v s t ns l.declared held q }, all_left ds (All-tail (IsLeft kinds) d ds h))
 
   all_declared : (to : List Lval) → All (IsLeft kinds) to → All (LeftDeclared kinds) to
   all_declared [] h = All-nil (LeftDeclared kinds)
   all_declared (d ∷ ds) h = All-cons (LeftDeclared kinds) d ds (All-head (IsLeft kinds) d ds h).declared (all_declared ds (All-tail (IsLeft kinds) d ds h))
 
   assign_thin : (to : List Lval) (op : Option BinOp) (e : Expr) (c : Option Expr) (at : Span) (s t : State) → IsAssign kinds to op e c → IsOneState kinds s t
-      → IsThinned (assign_mask (sorts_of kinds) to op e c) (assigned to op e c at s) (assigned (map left_with_scalars to) op (with_scalars e) (option_map with_scalars c) at t)
+      → IsThinned (assign_mask (sort_in (sorts_of kinds)) to op e c) (assigned to op e c at s) (assigned (map left_with_scalars to) op (with_scalars e) (option_map with_scalars c) at t)
   assign_thin to op e c at s t i r =
-      subst (λ y. IsThinned (assign_mask (sorts_of kinds) to op e c) (assigned to op e c at s) (assigned (map left_with_scalars to) op (with_scalars e) (option_map with_scalars c) at y)) r.one
+      subst (λ y. IsThinned (assign_mask (sort_in (sorts_of kinds)) to op e c) (assigned to op e c at s) (assigned (map left_with_scalars to) op (with_scalars e) (option_map with_scalars c) at y)) r.one
       (assigned_thin (sorts_of kinds) s (kinds_sorted kinds s.store r.held.variables) to op e c at (all_left to i.lefts) i.whole i.condition i.old)
 
   instructed_thin : (i : Option Instance) (to : List Lval) (args : List Expr) (at : Span) (s t : State) → IsInstruction kinds i to args → IsOneState kinds s t
-      → IsThinned (instruction_mask (sorts_of kinds) i to args) (instruction_done i to args at s) (instruction_done i (map left_with_scalars to) (map with_scalars args) at t)
+      → IsThinned (instruction_mask (sort_in (sorts_of kinds)) i to args) (instruction_done i to args at s) (instruction_done i (map left_with_scalars to) (map with_scalars args) at t)
   instructed_thin i to args at s t h r =
-      subst (λ y. IsThinned (instruction_mask (sorts_of kinds) i to args) (instruction_done i to args at s) (instruction_done i (map left_with_scalars to) (map with_scalars args) at y)) r.one
+      subst (λ y. IsThinned (instruction_mask (sort_in (sorts_of kinds)) i to args) (instruction_done i to args at s) (instruction_done i (map left_with_scalars to) (map with_scalars args) at y)) r.one
       (instruction_thin (sorts_of kinds) s (kinds_sorted kinds s.store r.held.variables) i to args at (all_left to h.lefts) h.operands h.flags)
 
   pub op_went : (o : Operation) (os : List Operation) (is : List Numbers) (s s1 t : State) (ns : List ℕ) → ArraysOp kinds o os is → IsOneState kinds s t → does o s ≡ went ns s1 → (t1 : State) × DoAll source ns os is t t1 × IsOneState kinds s1 t1
   op_went o os is s s1 t ns (assigns {to} {op} {e} {c} {at} i) r q =
-      let m = assign_mask (sorts_of kinds) to op e c in
+      let m = assign_mask (sort_in (sorts_of kinds)) to op e c in
       let g = thin_went m (assigned to op e c at s) (assigned (map left_with_scalars to) op (with_scalars e) (option_map with_scalars c) at t) ns s1 (assign_thin to op e c at s t i r) q in
       (s1, do_one g.0 g.1 do_none, record { one = refl; held = went_so (IsOfKinds kinds) (assigned to op e c at s) ns s1 (assigned_keeps kinds to op e c at s (all_declared to i.lefts) r.held) q })
   op_went o os is s s1 t ns (instructs {to} {n} {args} {at} i) r q =
-      let m = instruction_mask (sorts_of kinds) (spelled n) to args in
+      let m = instruction_mask (sort_in (sorts_of kinds)) (spelled n) to args in
       let g = thin_went m (instruction_done (spelled n) to args at s) (instruction_done (spelled n) (map left_with_scalars to) (map with_scalars args) at t) ns s1 (instructed_thin (spelled n) to args at s t i r) q in
       (s1, do_one g.0 g.1 do_none, record { one = refl; held = went_so (IsOfKinds kinds) (instruction_done (spelled n) to args at s) ns s1 (instruction_keeps kinds (spelled n) to args at s (all_declared to i.lefts) r.held) q })
 
   pub op_stuck : (o : Operation) (os : List Operation) (is : List Numbers) (s t : State) (w : Stuck) → ArraysOp kinds o os is → IsOneState kinds s t → does o s ≡ stuck w → (w2 : Stuck) × (w ≡ w2) × OneFails source w2 os t
   op_stuck o os is s t w (assigns {to} {op} {e} {c} {at} i) r q =
-      let m = assign_mask (sorts_of kinds) to op e c in
+      let m = assign_mask (sort_in (sorts_of kinds)) to op e c in
       (w, refl, fails_here (thin_stuck m (assigned to op e c at s) (assigned (map left_with_scalars to) op (with_scalars e) (option_map with_scalars c) at t) w (assign_thin to op e c at s t i r) q))
   op_stuck o os is s t w (instructs {to} {n} {args} {at} i) r q =
-      let m = instruction_mask (sorts_of kinds) (spelled n) to args in
+      let m = instruction_mask (sort_in (sorts_of kinds)) (spelled n) to args in
       (w, refl, fails_here (thin_stuck m (instruction_done (spelled n) to args at s) (instruction_done (spelled n) (map left_with_scalars to) (map with_scalars args) at t) w (instructed_thin (spelled n) to args at s t i r) q))
 
-  condition_thin : (p : Condition) (s t : State) → IsOneState kinds s t → IsRead (sorts_of kinds) (Some p.cond) → IsThinned (mask_of (sorts_of kinds) p.cond) (bool_in p.at p.cond s) (bool_in p.at (with_scalars p.cond) t)
+  condition_thin : (p : Condition) (s t : State) → IsOneState kinds s t → IsRead (sorts_of kinds) (Some p.cond) → IsThinned (mask_of (sort_in (sorts_of kinds)) p.cond) (bool_in p.at p.cond s) (bool_in p.at (with_scalars p.cond) t)
   condition_thin p s t r k =
-      subst (λ y. IsThinned (mask_of (sorts_of kinds) p.cond) (bool_in p.at p.cond s) (bool_in p.at (with_scalars p.cond) y)) r.one
-      (bool_thin (sorts_of kinds) s (kinds_sorted kinds s.store r.held.variables) p.at p.cond k.0 k.1)
+      subst (λ y. IsThinned (mask_of (sort_in (sorts_of kinds)) p.cond) (bool_in p.at p.cond s) (bool_in p.at (with_scalars p.cond) y)) r.one
+      (bool_thin (sorts_of kinds) s (kinds_sorted kinds s.store r.held.variables) p.at p.cond k)
 
   pub test_went : (p : Condition) (os : List Operation) (is : List Numbers) (p2 : Condition) (i : Numbers) (s t : State) (ns : List ℕ) (z : Bool) → ArraysTest kinds p os is p2 i → IsOneState kinds s t → bool_in p.at p.cond s ≡ went ns z
       → (t1 : State) × DoAll source ns os is t t1 × HasThese ns i × (bool_in p2.at p2.cond t1 ≡ went (numbers_in i ns) z) × IsOneState kinds s t1
   test_went p os is p2 i s t ns z (tests k) r q =
-      let g = thin_went (mask_of (sorts_of kinds) p.cond) (bool_in p.at p.cond s) (bool_in p.at (with_scalars p.cond) t) ns z (condition_thin p s t r k) q in
+      let g = thin_went (mask_of (sort_in (sorts_of kinds)) p.cond) (bool_in p.at p.cond s) (bool_in p.at (with_scalars p.cond) t) ns z (condition_thin p s t r k) q in
       (t, do_none, g.0, g.1, r)
 
   pub test_stuck : (p : Condition) (os : List Operation) (is : List Numbers) (p2 : Condition) (i : Numbers) (s t : State) (w : Stuck) → ArraysTest kinds p os is p2 i → IsOneState kinds s t → bool_in p.at p.cond s ≡ stuck w → (w2 : Stuck) × (w ≡ w2) × TestFails source w2 os p2 t
   test_stuck p os is p2 i s t w (tests k) r q =
-      (w, refl, fails_at_test (thin_stuck (mask_of (sorts_of kinds) p.cond) (bool_in p.at p.cond s) (bool_in p.at (with_scalars p.cond) t) w (condition_thin p s t r k) q))
+      (w, refl, fails_at_test (thin_stuck (mask_of (sort_in (sorts_of kinds)) p.cond) (bool_in p.at p.cond s) (bool_in p.at (with_scalars p.cond) t) w (condition_thin p s t r k) q))
 
   abbrev pub arrays_known : IsKnown source source (knowing_of (arrays kinds))
   arrays_known = record {

@@ -1,6 +1,6 @@
 -- An expression whose cells are scalars has the same value, and of its numbers those that are left.
 use Rattle.std.proofs.Common.{◌≡◌, ℕ, zero, suc, ◌+◌, ◌<◌, ◌^◌, List, [], ◌∷◌, ◌++◌, length, Option, Some, None, Bool, true, false, refl, ap, sym, ◌∙◌, subst, arith, append-nil, length-append}
-use Rattle.std.specs.Prelude.{nat_lt, if◌then◌else◌, ◌&&◌, ℤ, pos, negsuc}
+use Rattle.std.specs.Prelude.{nat_lt, if◌then◌else◌, ℤ, pos, negsuc}
 use Rattle.std.specs.Option.{option_or}
 use Rattle.std.proofs.lemmas.Bool.{and_parts}
 use Rattle.std.proofs.lemmas.Bool.Decides.{nat_tests}
@@ -33,7 +33,7 @@ use Rattle.jz_unroll.proofs.PartNumbers.{none_first, then_went}
 use Rattle.jz_unroll.proofs.PartNumbers.{index_numbers, accessed_numbers, no_numbers}
 use Rattle.jz_unroll.proofs.Layers.{Layer, meaning_layer, meaning_is, access_is, ref_rolled, kind_of_ty, kind_of_decl}
 use Rattle.jz_arrays.specs.ScalarLaws.{IsThinned}
-use Rattle.jz_arrays.specs.Cells.{is_register, cells_of_ty, cells_of_decl, constant_layer, scalar, cell_or, is_scalar, size_at, index_in, expr_step, access_step, with_scalars, access_with_scalars, Mask, numbers_kept, all_kept, mask_step, mask_of, access_mask, is_below, range_step, is_in_range, is_access_in_range}
+use Rattle.jz_arrays.specs.Cells.{sort_in, is_register, cells_of_ty, cells_of_decl, constant_layer, is_below, number_below, cell_in, scalar, cell_or, is_scalar, size_at, index_in, expr_step, access_step, with_scalars, access_with_scalars, Mask, numbers_kept, all_kept, mask_step, mask_of, access_mask}
 
 -- ---- masks
 
@@ -132,7 +132,7 @@ abbrev pub rolled : Layer → Expr
 rolled (Expr-F.Num n at) = roll-Expr (Expr-F.Num n at)
 rolled (Expr-F.Expr::Bool b at) = roll-Expr (Expr-F.Expr::Bool b at)
 rolled (Expr-F.Var v) = roll-Expr (Expr-F.Var v)
-rolled (Expr-F.Cell v i) = cell_or v (with_scalars i) (size_at v) (index_in i)
+rolled (Expr-F.Cell v i) = cell_or v (with_scalars i) (size_at v) (cell_in v i)
 rolled (Expr-F.Load a) = roll-Expr (Expr-F.Load (access_with_scalars a))
 rolled (Expr-F.Neg a at) = roll-Expr (Expr-F.Neg (with_scalars a) at)
 rolled (Expr-F.Not a at) = roll-Expr (Expr-F.Not (with_scalars a) at)
@@ -153,36 +153,8 @@ step_is (Expr-F.Bin o a c at) = refl
 pub in_is : (x : Layer) → with_scalars (roll-Expr x) ≡ rolled x
 in_is x = para-roll-Expr Expr (Unit {0}) Access (Unit {0}) (Unit {0}) expr_step (λ t. tt) access_step (λ d. tt) (λ v. tt) x ∙ step_is x
 
-access_in_is : (x : Access-F Expr Ty Access Decl Var) → access_with_scalars (roll-Access x) ≡ roll-Access (record { size = x.size; at = with_scalars x.at; unaligned = x.unaligned; span = x.span })
+pub access_in_is : (x : Access-F Expr Ty Access Decl Var) → access_with_scalars (roll-Access x) ≡ roll-Access (record { size = x.size; at = with_scalars x.at; unaligned = x.unaligned; span = x.span })
 access_in_is x = para-roll-Access Expr (Unit {0}) Access (Unit {0}) (Unit {0}) expr_step (λ t. tt) access_step (λ d. tt) (λ v. tt) x
-
-abbrev pub range_layer : Layer → Bool
-range_layer (Expr-F.Num n at) = true
-range_layer (Expr-F.Expr::Bool b at) = true
-range_layer (Expr-F.Var v) = true
-range_layer (Expr-F.Cell v i) = if is_scalar (size_at v) (index_in i) then is_below (ref_of v).kind (index_in i) else is_in_range i
-range_layer (Expr-F.Load a) = is_access_in_range a
-range_layer (Expr-F.Neg a at) = is_in_range a
-range_layer (Expr-F.Not a at) = is_in_range a
-range_layer (Expr-F.Cast z s a at) = is_in_range a
-range_layer (Expr-F.Bin o a b at) = is_in_range a && is_in_range b
-
-range_step_is : (x : Layer) → range_step (map-Expr _ _ _ _ _ _ _ _ _ _ (λ y. (y, is_in_range y)) (λ y. (y, tt)) (λ y. (y, is_access_in_range y)) (λ y. (y, tt)) (λ y. (y, tt)) x) ≡ range_layer x
-range_step_is (Expr-F.Num n at) = refl
-range_step_is (Expr-F.Expr::Bool c at) = refl
-range_step_is (Expr-F.Var v) = refl
-range_step_is (Expr-F.Cell v e) = refl
-range_step_is (Expr-F.Load a) = refl
-range_step_is (Expr-F.Neg a at) = refl
-range_step_is (Expr-F.Not a at) = refl
-range_step_is (Expr-F.Cast z s a at) = refl
-range_step_is (Expr-F.Bin o a c at) = refl
-
-pub range_is : (x : Layer) → is_in_range (roll-Expr x) ≡ range_layer x
-range_is x = para-roll-Expr Bool (Unit {0}) Bool (Unit {0}) (Unit {0}) range_step (λ t. tt) (λ a. a.at.1) (λ d. tt) (λ v. tt) x ∙ range_step_is x
-
-access_range_is : (x : Access-F Expr Ty Access Decl Var) → is_access_in_range (roll-Access x) ≡ is_in_range x.at
-access_range_is x = para-roll-Access Bool (Unit {0}) Bool (Unit {0}) (Unit {0}) range_step (λ t. tt) (λ a. a.at.1) (λ d. tt) (λ v. tt) x
 
 -- ---- a cell that becomes a scalar
 
@@ -219,13 +191,28 @@ scalar_is v z n =
     word_kind : kind_of_ty (ty.Word z) ≡ kind.Word z
     word_kind = ap kind_of_ty (sym (ty.rolls-Word z)) ∙ fold-roll-Ty _ _ _ _ _ meaning_step ty_step meaning_access decl_step var_step (Ty-F.Word z)
 
--- what it means for the index to be one of the cells
-pub below_is : (k : Kind) (n : ℕ) → is_below k (Some n) ≡ true → (z : Size) × (m : ℕ) × (k ≡ kind.Array z m) × (nat_lt n m ≡ true) × (n < 2 ^ 64)
+-- what it means that the array has the cell
+pub below_is : (k : Kind) (n : ℕ) → is_below k n ≡ true → (z : Size) × (m : ℕ) × (k ≡ kind.Array z m) × (nat_lt n m ≡ true) × (n < 2 ^ 64)
 below_is kind.Undeclared n e = absurd cc
 below_is kind.Int n e = absurd cc
 below_is kind.Bool n e = absurd cc
 below_is (kind.Word z) n e = absurd cc
-below_is (kind.Array z m) n e = let p = and_parts (nat_lt n m) _ e in (z, m, refl, p.0, grind (arith, nat_tests, p.1))
+below_is (kind.Array z m) n e =
+    let p = and_parts (nat_lt n m) _ e in
+    let few : n < 2 ^ 32 = grind (arith, nat_tests, p.1) in
+    (z, m, refl, p.0, omega (arith, few))
+
+number_is : (k : Kind) (o : Option ℕ) (n : ℕ) → number_below k o ≡ Some n → (o ≡ Some n) × (is_below k n ≡ true)
+number_is k None n e = absurd cc
+number_is k (Some m) n e = by_test (is_below k m) refl e
+  where
+    by_test : (b : Bool) → is_below k m ≡ b → (if b then Some m else None) ≡ Some n → (Some m ≡ Some n) × (is_below k n ≡ true)
+    by_test true q r = let s : m ≡ n = cc in (ap Some s, ap (is_below k) (sym s) ∙ q)
+    by_test false q r = absurd cc
+
+-- a cell that becomes a scalar has a constant index, and the array has it
+pub cell_is : (v : Var) (i : Expr) (n : ℕ) → cell_in v i ≡ Some n → (index_in i ≡ Some n) × (is_below (ref_of v).kind n ≡ true)
+cell_is v i n e = number_is (ref_of v).kind (index_in i) n e
 
 -- the value of the cell at a constant index
 cell_at : (r : Ref) (z : Size) (m n : ℕ) (store : Store) → r.kind ≡ kind.Array z m → nat_lt n m ≡ true → n < 2 ^ 64 → cell_value r (integer (pos n)) store ≡ numbers_first (n ∷ []) (defined r.span (store (cell_key r n)))
@@ -252,7 +239,7 @@ thin_defined at n None = refl
 thin_defined at n (Some v) = (refl, refl)
 
 -- the cell has in the array the value of the scalar, and its index is dropped
-pub scalar_thin : (v : Var) (i : Expr) (z : Size) (n : ℕ) (w : Option Size) (s : State) → size_at v ≡ Some z → index_in i ≡ Some n → is_below (ref_of v).kind (Some n) ≡ true →
+pub scalar_thin : (v : Var) (i : Expr) (z : Size) (n : ℕ) (w : Option Size) (s : State) → size_at v ≡ Some z → index_in i ≡ Some n → is_below (ref_of v).kind n ≡ true →
     IsThinned (false ∷ []) (evaluated (roll-Expr (Expr-F.Cell v i)) w s) (evaluated (roll-Expr (Expr-F.Var (scalar v z n))) w s)
 scalar_thin v i z n w s sz ix below =
     let r = ref_of v in
@@ -263,7 +250,7 @@ scalar_thin v i z n w s sz ix below =
     = ap (λ (p : Meaning). p.run w s) (meaning_is (Expr-F.Var (scalar v z n))) ∙ ap (λ (p : Ref). defined p.span (s.store (key_of p))) (scalar_is v z n) in
     subst (λ g. IsThinned (false ∷ []) g (evaluated (roll-Expr (Expr-F.Var (scalar v z n))) w s)) (sym left) (subst (IsThinned (false ∷ []) (numbers_first (n ∷ []) (defined r.span (s.store (cell_key r n))))) (sym right) (thin_defined r.span n (s.store (cell_key r n))))
 
-scalar_size : (v : Var) (i : Expr) (z : Size) (n : ℕ) → size_at v ≡ Some z → is_below (ref_of v).kind (Some n) ≡ true → own_size (roll-Expr (Expr-F.Var (scalar v z n))) ≡ own_size (roll-Expr (Expr-F.Cell v i))
+scalar_size : (v : Var) (i : Expr) (z : Size) (n : ℕ) → size_at v ≡ Some z → is_below (ref_of v).kind n ≡ true → own_size (roll-Expr (Expr-F.Var (scalar v z n))) ≡ own_size (roll-Expr (Expr-F.Cell v i))
 scalar_size v i z n sz below =
     let b = below_is (ref_of v).kind n below in
     ap (λ (p : Meaning). p.size) (meaning_is (Expr-F.Var (scalar v z n))) ∙ ap (λ (p : Ref). size_of p.kind) (scalar_is v z n) ∙ ap Some (kind_size v z b.0 b.1 sz b.2) ∙ ap size_of (sym b.2) ∙ sym (ap (λ (p : Meaning). p.size) (meaning_is (Expr-F.Cell v i)))
@@ -296,6 +283,35 @@ cell_numbers r v store ns u e =
     no_more None ms q = absurd cc
     no_more (Some y) ms q = let k : ms ≡ [] = cc in ap length k
 
+module _ (sort : Expr → Sort) where
+  abbrev pub mask_layer : Layer → Mask
+  mask_layer (Expr-F.Num n at) = []
+  mask_layer (Expr-F.Expr::Bool b at) = []
+  mask_layer (Expr-F.Var v) = []
+  mask_layer (Expr-F.Cell v i) = if is_scalar (size_at v) (cell_in v i) then false ∷ [] else mask_of sort i ++ true ∷ []
+  mask_layer (Expr-F.Load a) = access_mask sort a ++ true ∷ []
+  mask_layer (Expr-F.Neg a at) = mask_of sort a
+  mask_layer (Expr-F.Not a at) = mask_of sort a
+  mask_layer (Expr-F.Cast z s a at) = mask_of sort a
+  mask_layer (Expr-F.Bin o a b at) = mask_of sort a ++ (mask_of sort b ++ all_kept (own_count o (sort a) (sort b)))
+
+  mask_step_is : (x : Layer) → mask_step sort (map-Expr _ _ _ _ _ _ _ _ _ _ (λ y. (y, mask_of sort y)) (λ y. (y, tt)) (λ y. (y, access_mask sort y)) (λ y. (y, tt)) (λ y. (y, tt)) x) ≡ mask_layer x
+  mask_step_is (Expr-F.Num n at) = refl
+  mask_step_is (Expr-F.Expr::Bool c at) = refl
+  mask_step_is (Expr-F.Var v) = refl
+  mask_step_is (Expr-F.Cell v e) = refl
+  mask_step_is (Expr-F.Load a) = refl
+  mask_step_is (Expr-F.Neg a at) = refl
+  mask_step_is (Expr-F.Not a at) = refl
+  mask_step_is (Expr-F.Cast z s a at) = refl
+  mask_step_is (Expr-F.Bin o a c at) = refl
+
+  pub mask_is : (x : Layer) → mask_of sort (roll-Expr x) ≡ mask_layer x
+  mask_is x = para-roll-Expr Mask (Unit {0}) Mask (Unit {0}) (Unit {0}) (mask_step sort) (λ t. tt) (λ a. a.at.1) (λ d. tt) (λ v. tt) x ∙ mask_step_is x
+
+  pub access_mask_is : (x : Access-F Expr Ty Access Decl Var) → access_mask sort (roll-Access x) ≡ mask_of sort x.at
+  access_mask_is x = para-roll-Access Mask (Unit {0}) Mask (Unit {0}) (Unit {0}) (mask_step sort) (λ t. tt) (λ a. a.at.1) (λ d. tt) (λ v. tt) x
+
 module _ (sorts : Sorts) where
   abbrev pub shape_access : Access → Shape
   shape_access = fold-Access _ _ _ _ _ shape_step (λ t. tt) (λ a. a.at) (λ d. tt) (λ v. sorts v.name v.copy)
@@ -308,34 +324,6 @@ module _ (sorts : Sorts) where
 
   pub shape_is : (x : Layer) → shape_of sorts (roll-Expr x) ≡ shape_layer x
   shape_is x = fold-roll-Expr _ _ _ _ _ shape_step (λ t. tt) (λ a. a.at) (λ d. tt) (λ v. sorts v.name v.copy) x
-
-  abbrev pub mask_layer : Layer → Mask
-  mask_layer (Expr-F.Num n at) = []
-  mask_layer (Expr-F.Expr::Bool b at) = []
-  mask_layer (Expr-F.Var v) = []
-  mask_layer (Expr-F.Cell v i) = if is_scalar (size_at v) (index_in i) then false ∷ [] else mask_of sorts i ++ true ∷ []
-  mask_layer (Expr-F.Load a) = access_mask sorts a ++ true ∷ []
-  mask_layer (Expr-F.Neg a at) = mask_of sorts a
-  mask_layer (Expr-F.Not a at) = mask_of sorts a
-  mask_layer (Expr-F.Cast z s a at) = mask_of sorts a
-  mask_layer (Expr-F.Bin o a b at) = mask_of sorts a ++ (mask_of sorts b ++ all_kept (own_count o (shape_of sorts a).sort (shape_of sorts b).sort))
-
-  mask_step_is : (x : Layer) → mask_step sorts (map-Expr _ _ _ _ _ _ _ _ _ _ (λ y. (y, mask_of sorts y)) (λ y. (y, tt)) (λ y. (y, access_mask sorts y)) (λ y. (y, tt)) (λ y. (y, tt)) x) ≡ mask_layer x
-  mask_step_is (Expr-F.Num n at) = refl
-  mask_step_is (Expr-F.Expr::Bool c at) = refl
-  mask_step_is (Expr-F.Var v) = refl
-  mask_step_is (Expr-F.Cell v e) = refl
-  mask_step_is (Expr-F.Load a) = refl
-  mask_step_is (Expr-F.Neg a at) = refl
-  mask_step_is (Expr-F.Not a at) = refl
-  mask_step_is (Expr-F.Cast z s a at) = refl
-  mask_step_is (Expr-F.Bin o a c at) = refl
-
-  pub mask_is : (x : Layer) → mask_of sorts (roll-Expr x) ≡ mask_layer x
-  mask_is x = para-roll-Expr Mask (Unit {0}) Mask (Unit {0}) (Unit {0}) (mask_step sorts) (λ t. tt) (λ a. a.at.1) (λ d. tt) (λ v. tt) x ∙ mask_step_is x
-
-  access_mask_is : (x : Access-F Expr Ty Access Decl Var) → access_mask sorts (roll-Access x) ≡ mask_of sorts x.at
-  access_mask_is x = para-roll-Access Mask (Unit {0}) Mask (Unit {0}) (Unit {0}) (mask_step sorts) (λ t. tt) (λ a. a.at.1) (λ d. tt) (λ v. tt) x
 
   constant_shape : (i : Expr) (n : ℕ) (y : Layer) → roll-Expr y ≡ i → constant_layer y ≡ Some n → (shape_of sorts i).count ≡ 0
   constant_shape i n (Expr-F.Num (pos m) at) q e = ap (λ k. (shape_of sorts k).count) (sym q) ∙ ap (λ (h : Shape). h.count) (shape_is (Expr-F.Num (pos m) at))
@@ -353,13 +341,17 @@ module _ (sorts : Sorts) where
     abbrev Any : {A : Type 0} → A → Type 0
     Any y = Unit {0}
 
+    abbrev ValueLaw : Expr → Type 0
+    ValueLaw e = (own_size (with_scalars e) ≡ own_size e) × ((shape_of sorts e).fixed ≡ true → (w : Option Size) → IsThinned (mask_of (sort_in sorts) e) (evaluated e w s) (evaluated (with_scalars e) w s))
+
     abbrev ExprLaw : Expr → Type 0
-    ExprLaw e = (length (mask_of sorts e) ≡ (shape_of sorts e).count)
-        × (is_in_range e ≡ true → (own_size (with_scalars e) ≡ own_size e) × ((shape_of sorts e).fixed ≡ true → (w : Option Size) → IsThinned (mask_of sorts e) (evaluated e w s) (evaluated (with_scalars e) w s)))
+    ExprLaw e = (length (mask_of (sort_in sorts) e) ≡ (shape_of sorts e).count) × ValueLaw e
+
+    abbrev PlaceLaw : Access → Type 0
+    PlaceLaw a = (at : State → Evaluation Value) × (access_of (access_with_scalars a) ≡ record { size = (access_of a).size; at = at; unaligned = (access_of a).unaligned; span = (access_of a).span }) × ((shape_access a).fixed ≡ true → IsThinned (access_mask (sort_in sorts) a) ((access_of a).at s) (at s))
 
     abbrev AccessLaw : Access → Type 0
-    AccessLaw a = (length (access_mask sorts a) ≡ (shape_access a).count)
-        × (is_access_in_range a ≡ true → (at : State → Evaluation Value) × (access_of (access_with_scalars a) ≡ record { size = (access_of a).size; at = at; unaligned = (access_of a).unaligned; span = (access_of a).span }) × ((shape_access a).fixed ≡ true → IsThinned (access_mask sorts a) ((access_of a).at s) (at s)))
+    AccessLaw a = (length (access_mask (sort_in sorts) a) ≡ (shape_access a).count) × PlaceLaw a
 
     abbrev Known : Type 0
     Known = Expr-F ((e : Expr) × ExprLaw e) ((t : Ty) × Any t) ((a : Access) × AccessLaw a) ((d : Decl) × Any d) ((v : Var) × Any v)
@@ -367,92 +359,91 @@ module _ (sorts : Sorts) where
     abbrev bare : Known → Layer
     bare y = map-Expr _ _ _ _ _ _ _ _ _ _ (λ e. e.0) (λ e. e.0) (λ e. e.0) (λ e. e.0) (λ e. e.0) y
 
-    length_law : (y : Known) → length (mask_layer (bare y)) ≡ (shape_layer (bare y)).count
+    length_law : (y : Known) → length (mask_layer (sort_in sorts) (bare y)) ≡ (shape_layer (bare y)).count
     length_law (Expr-F.Num i at) = refl
     length_law (Expr-F.Expr::Bool c at) = refl
     length_law (Expr-F.Var v) = refl
-    length_law (Expr-F.Cell v i) = by_scalar (size_at v.0) (index_in i.0) refl
+    length_law (Expr-F.Cell v i) = by_scalar (size_at v.0) (cell_in v.0 i.0) refl
       where
-        by_scalar : (z : Option Size) (n : Option ℕ) → index_in i.0 ≡ n → length (if is_scalar z n then false ∷ [] else mask_of sorts i.0 ++ true ∷ []) ≡ (shape_of sorts i.0).count + 1
-        by_scalar (Some z) (Some n) q = omega (arith, constant_shape i.0 n (out-Expr i.0) (roll-out-Expr i.0) q)
-        by_scalar None n q = omega (arith, length-append (mask_of sorts i.0) (true ∷ []), i.1.0)
-        by_scalar (Some z) None q = omega (arith, length-append (mask_of sorts i.0) (true ∷ []), i.1.0)
-    length_law (Expr-F.Load a) = omega (arith, length-append (access_mask sorts a.0) (true ∷ []), a.1.0)
+        by_scalar : (z : Option Size) (n : Option ℕ) → cell_in v.0 i.0 ≡ n → length (if is_scalar z n then false ∷ [] else mask_of (sort_in sorts) i.0 ++ true ∷ []) ≡ (shape_of sorts i.0).count + 1
+        by_scalar (Some z) (Some n) q = omega (arith, constant_shape i.0 n (out-Expr i.0) (roll-out-Expr i.0) (cell_is v.0 i.0 n q).0)
+        by_scalar None n q = omega (arith, length-append (mask_of (sort_in sorts) i.0) (true ∷ []), i.1.0)
+        by_scalar (Some z) None q = omega (arith, length-append (mask_of (sort_in sorts) i.0) (true ∷ []), i.1.0)
+    length_law (Expr-F.Load a) = omega (arith, length-append (access_mask (sort_in sorts) a.0) (true ∷ []), a.1.0)
     length_law (Expr-F.Neg e at) = e.1.0
     length_law (Expr-F.Not e at) = e.1.0
     length_law (Expr-F.Cast z sign e at) = e.1.0
     length_law (Expr-F.Bin op a b at) =
         let own = own_count op (shape_of sorts a.0).sort (shape_of sorts b.0).sort in
-        omega (arith, length-append (mask_of sorts a.0) (mask_of sorts b.0 ++ all_kept own), length-append (mask_of sorts b.0) (all_kept own), length_all own, a.1.0, b.1.0)
+        omega (arith, length-append (mask_of (sort_in sorts) a.0) (mask_of (sort_in sorts) b.0 ++ all_kept own), length-append (mask_of (sort_in sorts) b.0) (all_kept own), length_all own, a.1.0, b.1.0)
 
     -- the size, and the value with the numbers that are left
     Good : Layer → Expr → Type 0
-    Good x e = (own_size e ≡ own_size (roll-Expr x)) × ((shape_layer x).fixed ≡ true → (w : Option Size) → IsThinned (mask_layer x) ((meaning_layer x).run w s) (evaluated e w s))
+    Good x e = (own_size e ≡ own_size (roll-Expr x)) × ((shape_layer x).fixed ≡ true → (w : Option Size) → IsThinned (mask_layer (sort_in sorts) x) ((meaning_layer x).run w s) (evaluated e w s))
 
-    value_law : (y : Known) → range_layer (bare y) ≡ true → (own_size (rolled (bare y)) ≡ (meaning_layer (bare y)).size) × ((shape_layer (bare y)).fixed ≡ true → (w : Option Size) → IsThinned (mask_layer (bare y)) ((meaning_layer (bare y)).run w s) (evaluated (rolled (bare y)) w s))
-    value_law (Expr-F.Num i at) ok = (ap (λ (p : Meaning). p.size) (meaning_is (Expr-F.Num i at)), λ f w. (refl, ap (λ (p : Meaning). p.run w s) (meaning_is (Expr-F.Num i at))))
-    value_law (Expr-F.Expr::Bool c at) ok = (ap (λ (p : Meaning). p.size) (meaning_is (Expr-F.Expr::Bool c at)), λ f w. (refl, ap (λ (p : Meaning). p.run w s) (meaning_is (Expr-F.Expr::Bool c at))))
-    value_law (Expr-F.Var v) ok = (ap (λ (p : Meaning). p.size) (meaning_is (Expr-F.Var v.0)), λ f w. subst (IsThinned [] (variable_value (ref_of v.0) s.store)) (sym (ap (λ (p : Meaning). p.run w s) (meaning_is (Expr-F.Var v.0)))) (plain (s.store (key_of (ref_of v.0)))))
+    value_law : (y : Known) → (own_size (rolled (bare y)) ≡ (meaning_layer (bare y)).size) × ((shape_layer (bare y)).fixed ≡ true → (w : Option Size) → IsThinned (mask_layer (sort_in sorts) (bare y)) ((meaning_layer (bare y)).run w s) (evaluated (rolled (bare y)) w s))
+    value_law (Expr-F.Num i at) = (ap (λ (p : Meaning). p.size) (meaning_is (Expr-F.Num i at)), λ f w. (refl, ap (λ (p : Meaning). p.run w s) (meaning_is (Expr-F.Num i at))))
+    value_law (Expr-F.Expr::Bool c at) = (ap (λ (p : Meaning). p.size) (meaning_is (Expr-F.Expr::Bool c at)), λ f w. (refl, ap (λ (p : Meaning). p.run w s) (meaning_is (Expr-F.Expr::Bool c at))))
+    value_law (Expr-F.Var v) = (ap (λ (p : Meaning). p.size) (meaning_is (Expr-F.Var v.0)), λ f w. subst (IsThinned [] (variable_value (ref_of v.0) s.store)) (sym (ap (λ (p : Meaning). p.run w s) (meaning_is (Expr-F.Var v.0)))) (plain (s.store (key_of (ref_of v.0)))))
       where
         plain : (o : Option Value) → IsThinned [] (defined (ref_of v.0).span o) (defined (ref_of v.0).span o)
         plain None = refl
         plain (Some u) = (refl, refl)
-    value_law (Expr-F.Cell v i) ok = by_scalar (size_at v.0) (index_in i.0) refl refl ok
+    value_law (Expr-F.Cell v i) = by_scalar (size_at v.0) (cell_in v.0 i.0) refl refl
       where
-        by_scalar : (z : Option Size) (n : Option ℕ) → size_at v.0 ≡ z → index_in i.0 ≡ n → (if is_scalar z n then is_below (ref_of v.0).kind n else is_in_range i.0) ≡ true →
-            (own_size (cell_or v.0 (with_scalars i.0) z n) ≡ (meaning_layer (Expr-F.Cell v.0 i.0)).size) × ((shape_of sorts i.0).fixed ≡ true → (w : Option Size) → IsThinned (if is_scalar z n then false ∷ [] else mask_of sorts i.0 ++ true ∷ []) ((meaning_layer (Expr-F.Cell v.0 i.0)).run w s) (evaluated (cell_or v.0 (with_scalars i.0) z n) w s))
-        by_scalar (Some z) (Some n) q1 q2 r = (scalar_size v.0 i.0 z n q1 r ∙ ap (λ (p : Meaning). p.size) (meaning_is (Expr-F.Cell v.0 i.0)), λ f w. subst (λ g. IsThinned (false ∷ []) g (evaluated (roll-Expr (Expr-F.Var (scalar v.0 z n))) w s)) (ap (λ (p : Meaning). p.run w s) (meaning_is (Expr-F.Cell v.0 i.0))) (scalar_thin v.0 i.0 z n w s q1 q2 r))
-        by_scalar None n q1 q2 r = (
+        by_scalar : (z : Option Size) (n : Option ℕ) → size_at v.0 ≡ z → cell_in v.0 i.0 ≡ n →
+            (own_size (cell_or v.0 (with_scalars i.0) z n) ≡ (meaning_layer (Expr-F.Cell v.0 i.0)).size) × ((shape_of sorts i.0).fixed ≡ true → (w : Option Size) → IsThinned (if is_scalar z n then false ∷ [] else mask_of (sort_in sorts) i.0 ++ true ∷ []) ((meaning_layer (Expr-F.Cell v.0 i.0)).run w s) (evaluated (cell_or v.0 (with_scalars i.0) z n) w s))
+        by_scalar (Some z) (Some n) q1 q2 = let r = cell_is v.0 i.0 n q2 in (scalar_size v.0 i.0 z n q1 r.1 ∙ ap (λ (p : Meaning). p.size) (meaning_is (Expr-F.Cell v.0 i.0)), λ f w. subst (λ g. IsThinned (false ∷ []) g (evaluated (roll-Expr (Expr-F.Var (scalar v.0 z n))) w s)) (ap (λ (p : Meaning). p.run w s) (meaning_is (Expr-F.Cell v.0 i.0))) (scalar_thin v.0 i.0 z n w s q1 r.0 r.1))
+        by_scalar None n q1 q2 = (
           ap (λ (p : Meaning). p.size) (meaning_is (Expr-F.Cell v.0 (with_scalars i.0))),
-          λ f w. subst (IsThinned (mask_of sorts i.0 ++ true ∷ []) ((meaning_layer (Expr-F.Cell v.0 i.0)).run w s)) (sym (ap (λ (p : Meaning). p.run w s) (meaning_is (Expr-F.Cell v.0 (with_scalars i.0)))))
-              (thin_then (mask_of sorts i.0) (true ∷ []) (evaluated i.0 (Some S64) s) (evaluated (with_scalars i.0) (Some S64) s) (λ u. cell_value (ref_of v.0) u s.store) (λ u. cell_value (ref_of v.0) u s.store) ((i.1.1 r).1 f (Some S64)) (λ u. thin_same 1 (cell_value (ref_of v.0) u s.store) (λ ns b e. cell_numbers (ref_of v.0) u s.store ns b e))),
+          λ f w. subst (IsThinned (mask_of (sort_in sorts) i.0 ++ true ∷ []) ((meaning_layer (Expr-F.Cell v.0 i.0)).run w s)) (sym (ap (λ (p : Meaning). p.run w s) (meaning_is (Expr-F.Cell v.0 (with_scalars i.0)))))
+              (thin_then (mask_of (sort_in sorts) i.0) (true ∷ []) (evaluated i.0 (Some S64) s) (evaluated (with_scalars i.0) (Some S64) s) (λ u. cell_value (ref_of v.0) u s.store) (λ u. cell_value (ref_of v.0) u s.store) (i.1.1.1 f (Some S64)) (λ u. thin_same 1 (cell_value (ref_of v.0) u s.store) (λ ns b e. cell_numbers (ref_of v.0) u s.store ns b e))),
         )
-        by_scalar (Some z) None q1 q2 r = (
+        by_scalar (Some z) None q1 q2 = (
           ap (λ (p : Meaning). p.size) (meaning_is (Expr-F.Cell v.0 (with_scalars i.0))),
-          λ f w. subst (IsThinned (mask_of sorts i.0 ++ true ∷ []) ((meaning_layer (Expr-F.Cell v.0 i.0)).run w s)) (sym (ap (λ (p : Meaning). p.run w s) (meaning_is (Expr-F.Cell v.0 (with_scalars i.0)))))
-              (thin_then (mask_of sorts i.0) (true ∷ []) (evaluated i.0 (Some S64) s) (evaluated (with_scalars i.0) (Some S64) s) (λ u. cell_value (ref_of v.0) u s.store) (λ u. cell_value (ref_of v.0) u s.store) ((i.1.1 r).1 f (Some S64)) (λ u. thin_same 1 (cell_value (ref_of v.0) u s.store) (λ ns b e. cell_numbers (ref_of v.0) u s.store ns b e))),
+          λ f w. subst (IsThinned (mask_of (sort_in sorts) i.0 ++ true ∷ []) ((meaning_layer (Expr-F.Cell v.0 i.0)).run w s)) (sym (ap (λ (p : Meaning). p.run w s) (meaning_is (Expr-F.Cell v.0 (with_scalars i.0)))))
+              (thin_then (mask_of (sort_in sorts) i.0) (true ∷ []) (evaluated i.0 (Some S64) s) (evaluated (with_scalars i.0) (Some S64) s) (λ u. cell_value (ref_of v.0) u s.store) (λ u. cell_value (ref_of v.0) u s.store) (i.1.1.1 f (Some S64)) (λ u. thin_same 1 (cell_value (ref_of v.0) u s.store) (λ ns b e. cell_numbers (ref_of v.0) u s.store ns b e))),
         )
-    value_law (Expr-F.Load a) ok =
-        let l = a.1.1 ok in
+    value_law (Expr-F.Load a) =
+        let l = a.1.1 in
         let p = access_of a.0 in (
           ap (λ (m : Meaning). m.size) (meaning_is (Expr-F.Load (access_with_scalars a.0))) ∙ ap (λ (m : MemoryAccess). m.size) l.1,
-          λ f w. subst (IsThinned (access_mask sorts a.0 ++ true ∷ []) (and_then (p.at s) (λ v. load_at p w v s.memory)))
+          λ f w. subst (IsThinned (access_mask (sort_in sorts) a.0 ++ true ∷ []) (and_then (p.at s) (λ v. load_at p w v s.memory)))
               (sym (ap (λ (m : Meaning). m.run w s) (meaning_is (Expr-F.Load (access_with_scalars a.0))) ∙ ap (λ (m : MemoryAccess). and_then (m.at s) (λ v. load_at m w v s.memory)) l.1))
-              (thin_then (access_mask sorts a.0) (true ∷ []) (p.at s) (l.0 s) (λ v. load_at p w v s.memory) (λ v. load_at p w v s.memory) (l.2 f) (λ v. thin_same 1 (load_at p w v s.memory) (λ ns b e. load_numbers p w v s.memory ns b e))),
+              (thin_then (access_mask (sort_in sorts) a.0) (true ∷ []) (p.at s) (l.0 s) (λ v. load_at p w v s.memory) (λ v. load_at p w v s.memory) (l.2 f) (λ v. thin_same 1 (load_at p w v s.memory) (λ ns b e. load_numbers p w v s.memory ns b e))),
         )
-    value_law (Expr-F.Neg e at) ok =
-        let l = e.1.1 ok in (
+    value_law (Expr-F.Neg e at) =
+        let l = e.1.1 in (
           ap (λ (m : Meaning). m.size) (meaning_is (Expr-F.Neg (with_scalars e.0) at)) ∙ l.0,
-          λ f w. subst (IsThinned (mask_of sorts e.0) (and_then (evaluated e.0 (option_or w (own_size e.0)) s) (λ v. defined at (negated v))))
+          λ f w. subst (IsThinned (mask_of (sort_in sorts) e.0) (and_then (evaluated e.0 (option_or w (own_size e.0)) s) (λ v. defined at (negated v))))
               (sym (ap (λ (m : Meaning). m.run w s) (meaning_is (Expr-F.Neg (with_scalars e.0) at)) ∙ ap (λ z. and_then (evaluated (with_scalars e.0) (option_or w z) s) (λ v. defined at (negated v))) l.0))
-              (thin_plain (mask_of sorts e.0) (evaluated e.0 (option_or w (own_size e.0)) s) (evaluated (with_scalars e.0) (option_or w (own_size e.0)) s) (λ v. defined at (negated v)) (λ v ns b q. of_defined at (negated v) ns b q) (l.1 f (option_or w (own_size e.0)))),
+              (thin_plain (mask_of (sort_in sorts) e.0) (evaluated e.0 (option_or w (own_size e.0)) s) (evaluated (with_scalars e.0) (option_or w (own_size e.0)) s) (λ v. defined at (negated v)) (λ v ns b q. of_defined at (negated v) ns b q) (l.1 f (option_or w (own_size e.0)))),
         )
-    value_law (Expr-F.Not e at) ok =
-        let l = e.1.1 ok in (
+    value_law (Expr-F.Not e at) =
+        let l = e.1.1 in (
           ap (λ (m : Meaning). m.size) (meaning_is (Expr-F.Not (with_scalars e.0) at)) ∙ l.0,
-          λ f w. subst (IsThinned (mask_of sorts e.0) (and_then (evaluated e.0 (option_or w (own_size e.0)) s) (λ v. went [] (inverted v))))
+          λ f w. subst (IsThinned (mask_of (sort_in sorts) e.0) (and_then (evaluated e.0 (option_or w (own_size e.0)) s) (λ v. went [] (inverted v))))
               (sym (ap (λ (m : Meaning). m.run w s) (meaning_is (Expr-F.Not (with_scalars e.0) at)) ∙ ap (λ z. and_then (evaluated (with_scalars e.0) (option_or w z) s) (λ v. went [] (inverted v))) l.0))
-              (thin_plain (mask_of sorts e.0) (evaluated e.0 (option_or w (own_size e.0)) s) (evaluated (with_scalars e.0) (option_or w (own_size e.0)) s) (λ v. went [] (inverted v)) (λ v ns b q. cc) (l.1 f (option_or w (own_size e.0)))),
+              (thin_plain (mask_of (sort_in sorts) e.0) (evaluated e.0 (option_or w (own_size e.0)) s) (evaluated (with_scalars e.0) (option_or w (own_size e.0)) s) (λ v. went [] (inverted v)) (λ v ns b q. cc) (l.1 f (option_or w (own_size e.0)))),
         )
-    value_law (Expr-F.Cast z sign e at) ok =
-        let l = e.1.1 ok in (
+    value_law (Expr-F.Cast z sign e at) =
+        let l = e.1.1 in (
           ap (λ (m : Meaning). m.size) (meaning_is (Expr-F.Cast z sign (with_scalars e.0) at)),
-          λ f w. subst (IsThinned (mask_of sorts e.0) (and_then (evaluated e.0 (own_size e.0) s) (λ v. defined at (cast z sign v))))
+          λ f w. subst (IsThinned (mask_of (sort_in sorts) e.0) (and_then (evaluated e.0 (own_size e.0) s) (λ v. defined at (cast z sign v))))
               (sym (ap (λ (m : Meaning). m.run w s) (meaning_is (Expr-F.Cast z sign (with_scalars e.0) at)) ∙ ap (λ y. and_then (evaluated (with_scalars e.0) y s) (λ v. defined at (cast z sign v))) l.0))
-              (thin_plain (mask_of sorts e.0) (evaluated e.0 (own_size e.0) s) (evaluated (with_scalars e.0) (own_size e.0) s) (λ v. defined at (cast z sign v)) (λ v ns b q. of_defined at (cast z sign v) ns b q) (l.1 f (own_size e.0))),
+              (thin_plain (mask_of (sort_in sorts) e.0) (evaluated e.0 (own_size e.0) s) (evaluated (with_scalars e.0) (own_size e.0) s) (λ v. defined at (cast z sign v)) (λ v ns b q. of_defined at (cast z sign v) ns b q) (l.1 f (own_size e.0))),
         )
-    value_law (Expr-F.Bin op a b at) ok =
-        let both = and_parts (is_in_range a.0) _ ok in
-        let l = a.1.1 both.0 in let r = b.1.1 both.1 in
+    value_law (Expr-F.Bin op a b at) =
+        let l = a.1.1 in let r = b.1.1 in
         let own = own_count op (shape_of sorts a.0).sort (shape_of sorts b.0).sort in (
           ap (λ (m : Meaning). m.size) (meaning_is (Expr-F.Bin op (with_scalars a.0) (with_scalars b.0) at)) ∙ (let p = l.0 in let q = r.0 in rw (p, q)),
           λ f w. let z = left_wanted op w (own_size a.0) (own_size b.0) in
               let fa = and_parts (shape_of sorts a.0).fixed _ f in let fb = and_parts (shape_of sorts b.0).fixed _ fa.1 in
-              subst (IsThinned (mask_of sorts a.0 ++ (mask_of sorts b.0 ++ all_kept own)) (run_binary op (evaluated a.0) (evaluated b.0) at z s))
+              subst (IsThinned (mask_of (sort_in sorts) a.0 ++ (mask_of (sort_in sorts) b.0 ++ all_kept own)) (run_binary op (evaluated a.0) (evaluated b.0) at z s))
               (sym (ap (λ (m : Meaning). m.run w s) (meaning_is (Expr-F.Bin op (with_scalars a.0) (with_scalars b.0) at))
               ∙ ap (λ p. run_binary op (evaluated (with_scalars a.0)) (evaluated (with_scalars b.0)) at (left_wanted op w p (own_size (with_scalars b.0))) s) l.0
               ∙ ap (λ p. run_binary op (evaluated (with_scalars a.0)) (evaluated (with_scalars b.0)) at (left_wanted op w (own_size a.0) p) s) r.0))
-              (thin_bin (mask_of sorts a.0) (mask_of sorts b.0) own (evaluated a.0 z s) (evaluated (with_scalars a.0) z s) (evaluated b.0 (right_wanted op z) s) (evaluated (with_scalars b.0) (right_wanted op z) s) (binary op at z) (is_settled op) (l.1 fa.0 z) (r.1 fb.0 (right_wanted op z))
+              (thin_bin (mask_of (sort_in sorts) a.0) (mask_of (sort_in sorts) b.0) own (evaluated a.0 z s) (evaluated (with_scalars a.0) z s) (evaluated b.0 (right_wanted op z) s) (evaluated (with_scalars b.0) (right_wanted op z) s) (binary op at z) (is_settled op) (l.1 fa.0 z) (r.1 fb.0 (right_wanted op z))
               (λ ns v e. let total = counted sorts (roll-Expr (Expr-F.Bin op a.0 b.0 at)) w s ns v holds (ap (λ (h : Shape). h.fixed) (shape_is (Expr-F.Bin op a.0 b.0 at)) ∙ f) (ap (λ (m : Meaning). m.run w s) (meaning_is (Expr-F.Bin op a.0 b.0 at)) ∙ e) in
               let count = ap (λ (h : Shape). h.count) (shape_is (Expr-F.Bin op a.0 b.0 at)) in omega (arith, total, count, a.1.0, b.1.0))),
         )
@@ -460,12 +451,12 @@ module _ (sorts : Sorts) where
     expr_case : (y : Known) → ExprLaw (roll-Expr (bare y))
     expr_case y =
         let x = bare y in (
-          ap length (mask_is x) ∙ length_law y ∙ ap (λ (h : Shape). h.count) (sym (shape_is x)),
-          λ ok. let v = value_law y (sym (range_is x) ∙ ok) in (
+          ap length (mask_is (sort_in sorts) x) ∙ length_law y ∙ ap (λ (h : Shape). h.count) (sym (shape_is x)),
+          let v = value_law y in (
             ap own_size (in_is x) ∙ v.0 ∙ ap (λ (m : Meaning). m.size) (sym (meaning_is x)),
-            λ f w. subst (λ m. IsThinned m (evaluated (roll-Expr x) w s) (evaluated (with_scalars (roll-Expr x)) w s)) (sym (mask_is x))
-                (subst (λ g. IsThinned (mask_layer x) g (evaluated (with_scalars (roll-Expr x)) w s)) (sym (ap (λ (m : Meaning). m.run w s) (meaning_is x)))
-                (subst (λ e. IsThinned (mask_layer x) ((meaning_layer x).run w s) (evaluated e w s)) (sym (in_is x)) (v.1 (sym (ap (λ (h : Shape). h.fixed) (shape_is x)) ∙ f) w))),
+            λ f w. subst (λ m. IsThinned m (evaluated (roll-Expr x) w s) (evaluated (with_scalars (roll-Expr x)) w s)) (sym (mask_is (sort_in sorts) x))
+                (subst (λ g. IsThinned (mask_layer (sort_in sorts) x) g (evaluated (with_scalars (roll-Expr x)) w s)) (sym (ap (λ (m : Meaning). m.run w s) (meaning_is x)))
+                (subst (λ e. IsThinned (mask_layer (sort_in sorts) x) ((meaning_layer x).run w s) (evaluated e w s)) (sym (in_is x)) (v.1 (sym (ap (λ (h : Shape). h.fixed) (shape_is x)) ∙ f) w))),
           ),
         )
 
@@ -475,12 +466,12 @@ module _ (sorts : Sorts) where
         let sh = fold-roll-Access _ _ _ _ _ shape_step (λ t. tt) (λ a. a.at) (λ d. tt) (λ v. sorts v.name v.copy) x in
         let n = access_is x in
         let m = ap access_of (access_in_is x) ∙ access_is (record { size = x.size; at = with_scalars x.at; unaligned = x.unaligned; span = x.span }) in (
-          ap length (access_mask_is x) ∙ y.at.1.0 ∙ ap (λ (h : Shape). h.count) (sym sh),
-          λ ok. let l = y.at.1.1 (sym (access_range_is x) ∙ ok) in (
+          ap length (access_mask_is (sort_in sorts) x) ∙ y.at.1.0 ∙ ap (λ (h : Shape). h.count) (sym sh),
+          let l = y.at.1.1 in (
             evaluated (with_scalars y.at.0) (Some S64),
             m ∙ ap (λ (p : MemoryAccess). record { size = p.size; at = evaluated (with_scalars y.at.0) (Some S64); unaligned = p.unaligned; span = p.span }) (sym n),
-            λ f. subst (λ k. IsThinned k ((access_of (roll-Access x)).at s) (evaluated (with_scalars y.at.0) (Some S64) s)) (sym (access_mask_is x))
-                (subst (λ g. IsThinned (mask_of sorts y.at.0) g (evaluated (with_scalars y.at.0) (Some S64) s)) (sym (ap (λ (p : MemoryAccess). p.at s) n)) (l.1 (sym (ap (λ (h : Shape). h.fixed) sh) ∙ f) (Some S64))),
+            λ f. subst (λ k. IsThinned k ((access_of (roll-Access x)).at s) (evaluated (with_scalars y.at.0) (Some S64) s)) (sym (access_mask_is (sort_in sorts) x))
+                (subst (λ g. IsThinned (mask_of (sort_in sorts) y.at.0) g (evaluated (with_scalars y.at.0) (Some S64) s)) (sym (ap (λ (p : MemoryAccess). p.at s) n)) (l.1 (sym (ap (λ (h : Shape). h.fixed) sh) ∙ f) (Some S64))),
           ),
         )
 
@@ -493,28 +484,28 @@ module _ (sorts : Sorts) where
         (λ z y is. tt)
         (λ z y is. tt)
 
-    -- an expression in which each index that becomes a scalar's is one of the array's cells
-    pub scalars_so : (e : Expr) (w : Option Size) → is_in_range e ≡ true → (shape_of sorts e).fixed ≡ true → IsThinned (mask_of sorts e) (evaluated e w s) (evaluated (with_scalars e) w s)
-    scalars_so e w ok fixed = ((laws e).1 ok).1 fixed w
+    -- an expression of which it is fixed how many numbers it leaks
+    pub scalars_so : (e : Expr) (w : Option Size) → (shape_of sorts e).fixed ≡ true → IsThinned (mask_of (sort_in sorts) e) (evaluated e w s) (evaluated (with_scalars e) w s)
+    scalars_so e w fixed = (laws e).1.1 fixed w
 
 module _ (sorts : Sorts) (s : State) (holds : HoldsSorts sorts s.store) where
-  pub size_kept : (e : Expr) → is_in_range e ≡ true → own_size (with_scalars e) ≡ own_size e
-  size_kept e ok = ((laws sorts s holds e).1 ok).0
+  pub size_kept : (e : Expr) → own_size (with_scalars e) ≡ own_size e
+  size_kept e = (laws sorts s holds e).1.0
 
   -- an address
-  pub access_kept : (a : Access) → is_access_in_range a ≡ true → (at : State → Evaluation Value) × (access_of (access_with_scalars a) ≡ record { size = (access_of a).size; at = at; unaligned = (access_of a).unaligned; span = (access_of a).span }) × ((shape_access sorts a).fixed ≡ true → IsThinned (access_mask sorts a) ((access_of a).at s) (at s))
-  access_kept a = subst (λ b. is_access_in_range b ≡ true → (at : State → Evaluation Value) × (access_of (access_with_scalars b) ≡ record { size = (access_of b).size; at = at; unaligned = (access_of b).unaligned; span = (access_of b).span }) × ((shape_access sorts b).fixed ≡ true → IsThinned (access_mask sorts b) ((access_of b).at s) (at s))) (roll-out-Access a) rolled_access
+  pub access_kept : (a : Access) → (at : State → Evaluation Value) × (access_of (access_with_scalars a) ≡ record { size = (access_of a).size; at = at; unaligned = (access_of a).unaligned; span = (access_of a).span }) × ((shape_access sorts a).fixed ≡ true → IsThinned (access_mask (sort_in sorts) a) ((access_of a).at s) (at s))
+  access_kept a = subst (λ b. (at : State → Evaluation Value) × (access_of (access_with_scalars b) ≡ record { size = (access_of b).size; at = at; unaligned = (access_of b).unaligned; span = (access_of b).span }) × ((shape_access sorts b).fixed ≡ true → IsThinned (access_mask (sort_in sorts) b) ((access_of b).at s) (at s))) (roll-out-Access a) rolled_access
     where
       x : Access-F Expr Ty Access Decl Var
       x = out-Access a
 
-      rolled_access : is_access_in_range (roll-Access x) ≡ true → (at : State → Evaluation Value) × (access_of (access_with_scalars (roll-Access x)) ≡ record { size = (access_of (roll-Access x)).size; at = at; unaligned = (access_of (roll-Access x)).unaligned; span = (access_of (roll-Access x)).span }) × ((shape_access sorts (roll-Access x)).fixed ≡ true → IsThinned (access_mask sorts (roll-Access x)) ((access_of (roll-Access x)).at s) (at s))
-      rolled_access ok =
+      rolled_access : (at : State → Evaluation Value) × (access_of (access_with_scalars (roll-Access x)) ≡ record { size = (access_of (roll-Access x)).size; at = at; unaligned = (access_of (roll-Access x)).unaligned; span = (access_of (roll-Access x)).span }) × ((shape_access sorts (roll-Access x)).fixed ≡ true → IsThinned (access_mask (sort_in sorts) (roll-Access x)) ((access_of (roll-Access x)).at s) (at s))
+      rolled_access =
           let sh = fold-roll-Access _ _ _ _ _ shape_step (λ t. tt) (λ a. a.at) (λ d. tt) (λ v. sorts v.name v.copy) x in
           let n = access_is x in
           let m = ap access_of (access_in_is x) ∙ access_is (record { size = x.size; at = with_scalars x.at; unaligned = x.unaligned; span = x.span }) in (
             evaluated (with_scalars x.at) (Some S64),
             m ∙ ap (λ (p : MemoryAccess). record { size = p.size; at = evaluated (with_scalars x.at) (Some S64); unaligned = p.unaligned; span = p.span }) (sym n),
-            λ f. subst (λ k. IsThinned k ((access_of (roll-Access x)).at s) (evaluated (with_scalars x.at) (Some S64) s)) (sym (access_mask_is sorts x))
-                (subst (λ g. IsThinned (mask_of sorts x.at) g (evaluated (with_scalars x.at) (Some S64) s)) (sym (ap (λ (p : MemoryAccess). p.at s) n)) (scalars_so sorts s holds x.at (Some S64) (sym (access_range_is x) ∙ ok) (sym (ap (λ (h : Shape). h.fixed) sh) ∙ f))),
+            λ f. subst (λ k. IsThinned k ((access_of (roll-Access x)).at s) (evaluated (with_scalars x.at) (Some S64) s)) (sym (access_mask_is (sort_in sorts) x))
+                (subst (λ g. IsThinned (mask_of (sort_in sorts) x.at) g (evaluated (with_scalars x.at) (Some S64) s)) (sym (ap (λ (p : MemoryAccess). p.at s) n)) (scalars_so sorts s holds x.at (Some S64) (sym (ap (λ (h : Shape). h.fixed) sh) ∙ f))),
           )

@@ -23,7 +23,7 @@ use Rattle.jz_change.specs.declared.change.Number.TheVariants.{Nth}
 use Rattle.jz_change.specs.declared.change.Numbers.{Numbers}
 use Rattle.jz_change.specs.declared.change.Numbers.TheVariants.{These}
 use Rattle.jz_pass.specs.Rewriting.{Rewriting}
-use Rattle.jz_arrays.specs.Cells.{with_scalars, left_with_scalars, is_in_range, is_left_in_range}
+use Rattle.jz_arrays.specs.Cells.{sort_in, with_scalars, left_with_scalars}
 use Rattle.jz_arrays.specs.Cells.{Mask, mask_of, instruction_mask, assign_mask}
 
 -- the places of the numbers that are left, from this one on
@@ -38,10 +38,10 @@ numbers_left m = These (places 0 m)
 -- ---- what is asked of statements
 
 module _ (sorts : Sorts) where
-  -- an expression that is read: its indices are cells, and how many numbers it leaks is fixed
+  -- of an expression that is read it is fixed how many numbers it leaks
   abbrev pub IsRead : Option Expr → Type 0
   IsRead None = Unit {0}
-  IsRead (Some e) = (is_in_range e ≡ true) × ((shape_of sorts e).fixed ≡ true)
+  IsRead (Some e) = (shape_of sorts e).fixed ≡ true
 
   abbrev pub access_shape : Access → Shape
   access_shape =
@@ -52,10 +52,9 @@ module _ (sorts : Sorts) where
   FixedLeft (lval.Store a) = (access_shape a).fixed ≡ true
   FixedLeft _ = Unit {0}
 
--- a left side carries what is declared of it, and so do its indices
+-- a left side carries what is declared of it
 pub record IsLeft (kinds : Kinds) (d : Lval) : Type 0 where
   pub declared : LeftDeclared kinds d
-  pub range : is_left_in_range d ≡ true
   pub fixed : FixedLeft (sorts_of kinds) d
 
 -- the old value of a conditional assignment
@@ -106,20 +105,20 @@ module _ (kinds : Kinds) where
         → IsAssign kinds to op e c
         → ArraysOp (assign to op e c at)
         (assign (map left_with_scalars to) op (with_scalars e) (option_map with_scalars c) at ∷ [])
-        (numbers_left (assign_mask (sorts_of kinds) to op e c) ∷ [])
+        (numbers_left (assign_mask (sort_in (sorts_of kinds)) to op e c) ∷ [])
     instructs :
         {to : List Lval} {n : List ℕ} {args : List Expr} {at : Span}
         → IsInstruction kinds (spelled n) to args
         → ArraysOp (instruction to n args at)
         (instruction (map left_with_scalars to) n (map with_scalars args) at ∷ [])
-        (numbers_left (instruction_mask (sorts_of kinds) (spelled n) to args) ∷ [])
+        (numbers_left (instruction_mask (sort_in (sorts_of kinds)) (spelled n) to args) ∷ [])
 
   pub data ArraysTest :
       Condition → List Operation → List Numbers → Condition → Numbers → Type 0 where
     tests :
         {p : Condition} → IsRead (sorts_of kinds) (Some p.cond)
         → ArraysTest p [] [] (record { cond = with_scalars p.cond; at = p.at })
-        (numbers_left (mask_of (sorts_of kinds) p.cond))
+        (numbers_left (mask_of (sort_in (sorts_of kinds)) p.cond))
 
   abbrev pub arrays : Rewriting Operation Condition Operation Condition
   arrays =

@@ -23,7 +23,7 @@ use Rattle.jz_meaning.specs.declared.access.Kind.{Kind}
 use Rattle.jz_meaning.specs.declared.access.Kind.TheVariants as kind
 use Rattle.jz_meaning.specs.Values.{ref_of}
 use Rattle.jz_meaning.specs.Assignments.{as_expr, last_left, whole_of}
-use Rattle.jz_meaning.specs.Shapes.{Sorts, shape_of, own_count}
+use Rattle.jz_meaning.specs.Shapes.{Sort, Sorts, shape_of, own_count}
 
 -- ---- which cells become scalars
 
@@ -51,7 +51,20 @@ constant_layer _ = None
 abbrev pub index_in : Expr → Option ℕ
 index_in i = constant_layer (out-Expr i)
 
--- whether it becomes one
+-- whether the array has a cell of that number, and 32 bits hold it
+abbrev pub is_below : Kind → ℕ → Bool
+is_below (kind.Array z n) i = nat_lt i n && nat_lt i (2 ^ 32)
+is_below _ i = false
+
+abbrev pub number_below : Kind → Option ℕ → Option ℕ
+number_below k None = None
+number_below k (Some i) = if is_below k i then Some i else None
+
+-- the number of the cell, where the index is constant; what is no cell stays as it is
+abbrev pub cell_in : Var → Expr → Option ℕ
+cell_in v i = number_below (ref_of v).kind (index_in i)
+
+-- whether it becomes a scalar
 abbrev pub is_scalar : Option Size → Option ℕ → Bool
 is_scalar (Some z) (Some n) = true
 is_scalar _ _ = false
@@ -77,7 +90,7 @@ abbrev pub expr_step :
 expr_step (Expr-F.Num n at) = roll-Expr (Expr-F.Num n at)
 expr_step (Expr-F.Expr::Bool b at) = roll-Expr (Expr-F.Expr::Bool b at)
 expr_step (Expr-F.Var v) = roll-Expr (Expr-F.Var v.0)
-expr_step (Expr-F.Cell v i) = cell_or v.0 i.1 (size_at v.0) (index_in i.0)
+expr_step (Expr-F.Cell v i) = cell_or v.0 i.1 (size_at v.0) (cell_in v.0 i.0)
 expr_step (Expr-F.Load a) = roll-Expr (Expr-F.Load a.1)
 expr_step (Expr-F.Neg a at) = roll-Expr (Expr-F.Neg a.1 at)
 expr_step (Expr-F.Not a at) = roll-Expr (Expr-F.Not a.1 at)
@@ -115,8 +128,12 @@ abbrev pub all_kept : ℕ → Mask
 all_kept zero = []
 all_kept (suc n) = true ∷ all_kept n
 
--- of an expression
-module _ (sorts : Sorts) where
+-- what an expression is where the variables hold these sorts
+abbrev pub sort_in : Sorts → Expr → Sort
+sort_in sorts e = (shape_of sorts e).sort
+
+-- of an expression, by what each expression is
+module _ (sort : Expr → Sort) where
   abbrev pub mask_step :
       Expr-F (Expr × Mask) (Ty × Unit {0}) (Access × Mask) (Decl × Unit {0}) (Var × Unit {0})
       → Mask
@@ -124,14 +141,13 @@ module _ (sorts : Sorts) where
   mask_step (Expr-F.Expr::Bool b at) = []
   mask_step (Expr-F.Var v) = []
   mask_step (Expr-F.Cell v i) =
-      if is_scalar (size_at v.0) (index_in i.0) then false ∷ [] else i.1 ++ true ∷ []
+      if is_scalar (size_at v.0) (cell_in v.0 i.0) then false ∷ [] else i.1 ++ true ∷ []
   mask_step (Expr-F.Load a) = a.1 ++ true ∷ []
   mask_step (Expr-F.Neg a at) = a.1
   mask_step (Expr-F.Not a at) = a.1
   mask_step (Expr-F.Cast z s a at) = a.1
   mask_step (Expr-F.Bin o a b at) =
-      a.1
-      ++ (b.1 ++ all_kept (own_count o (shape_of sorts a.0).sort (shape_of sorts b.0).sort))
+      a.1 ++ (b.1 ++ all_kept (own_count o (sort a.0) (sort b.0)))
 
   abbrev pub mask_of : Expr → Mask
   mask_of =
@@ -143,37 +159,6 @@ module _ (sorts : Sorts) where
       para-Access Mask (Unit {0}) Mask (Unit {0}) (Unit {0}) mask_step (λ t. tt) (λ a. a.at.1)
       (λ d. tt) (λ v. tt)
 
--- ---- each index that becomes a scalar's is one of the array's cells
-
-abbrev pub is_below : Kind → Option ℕ → Bool
-is_below (kind.Array z n) (Some i) = nat_lt i n && nat_lt i (2 ^ 64)
-is_below _ _ = false
-
-abbrev pub range_step :
-    Expr-F (Expr × Bool) (Ty × Unit {0}) (Access × Bool) (Decl × Unit {0}) (Var × Unit {0})
-    → Bool
-range_step (Expr-F.Num n at) = true
-range_step (Expr-F.Expr::Bool b at) = true
-range_step (Expr-F.Var v) = true
-range_step (Expr-F.Cell v i) =
-    if is_scalar (size_at v.0) (index_in i.0) then is_below (ref_of v.0).kind (index_in i.0)
-    else i.1
-range_step (Expr-F.Load a) = a.1
-range_step (Expr-F.Neg a at) = a.1
-range_step (Expr-F.Not a at) = a.1
-range_step (Expr-F.Cast z s a at) = a.1
-range_step (Expr-F.Bin o a b at) = a.1 && b.1
-
-abbrev pub is_in_range : Expr → Bool
-is_in_range =
-    para-Expr Bool (Unit {0}) Bool (Unit {0}) (Unit {0}) range_step (λ t. tt) (λ a. a.at.1)
-    (λ d. tt) (λ v. tt)
-
-abbrev pub is_access_in_range : Access → Bool
-is_access_in_range =
-    para-Access Bool (Unit {0}) Bool (Unit {0}) (Unit {0}) range_step (λ t. tt) (λ a. a.at.1)
-    (λ d. tt) (λ v. tt)
-
 -- ---- left sides
 
 abbrev pub left_or : Var → Expr → Option Size → Option ℕ → Lval
@@ -183,15 +168,8 @@ left_or v i _ _ = lval.Cell v (with_scalars i)
 abbrev pub left_with_scalars : Lval → Lval
 left_with_scalars (lval.Skip at) = lval.Skip at
 left_with_scalars (lval.Var v) = lval.Var v
-left_with_scalars (lval.Cell v i) = left_or v i (size_at v) (index_in i)
+left_with_scalars (lval.Cell v i) = left_or v i (size_at v) (cell_in v i)
 left_with_scalars (lval.Store a) = lval.Store (access_with_scalars a)
-
-abbrev pub is_left_in_range : Lval → Bool
-is_left_in_range (lval.Cell v i) =
-    if is_scalar (size_at v) (index_in i) then is_below (ref_of v).kind (index_in i)
-    else is_in_range i
-is_left_in_range (lval.Store a) = is_access_in_range a
-is_left_in_range _ = true
 
 -- ---- which of the numbers of a statement are left
 
@@ -200,13 +178,13 @@ abbrev pub own_numbers : Intrinsic → ℕ
 own_numbers name.Div = 3
 own_numbers _ = 0
 
-module _ (sorts : Sorts) where
+module _ (sort : Expr → Sort) where
   abbrev pub left_mask : Lval → Mask
   left_mask (lval.Skip at) = []
   left_mask (lval.Var v) = []
   left_mask (lval.Cell v i) =
-      if is_scalar (size_at v) (index_in i) then false ∷ [] else mask_of sorts i ++ true ∷ []
-  left_mask (lval.Store a) = access_mask sorts a ++ true ∷ []
+      if is_scalar (size_at v) (cell_in v i) then false ∷ [] else mask_of sort i ++ true ∷ []
+  left_mask (lval.Store a) = access_mask sort a ++ true ∷ []
 
   abbrev pub lefts_mask : List Lval → Mask
   lefts_mask [] = []
@@ -214,7 +192,7 @@ module _ (sorts : Sorts) where
 
   abbrev pub mask_if : Option Expr → Mask
   mask_if None = []
-  mask_if (Some e) = mask_of sorts e
+  mask_if (Some e) = mask_of sort e
 
   -- behind a condition the old value is read
   abbrev pub old_mask : List Lval → Mask
@@ -223,11 +201,11 @@ module _ (sorts : Sorts) where
 
   abbrev pub condition_mask : List Lval → Option Expr → Mask
   condition_mask to None = []
-  condition_mask to (Some c) = mask_of sorts c ++ old_mask to
+  condition_mask to (Some c) = mask_of sort c ++ old_mask to
 
   abbrev pub args_mask : List Expr → Mask
   args_mask [] = []
-  args_mask (e ∷ es) = mask_of sorts e ++ args_mask es
+  args_mask (e ∷ es) = mask_of sort e ++ args_mask es
 
   abbrev pub own_mask : Option Instance → Mask
   own_mask None = []

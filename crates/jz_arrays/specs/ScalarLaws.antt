@@ -14,7 +14,7 @@ use Rattle.jz_run_laws.specs.Kinds.{Kinds, IsOfKinds, sorts_of}
 use Rattle.jz_change.specs.Changes.{Change}
 use Rattle.jz_pass.specs.Laws.{Carries, between_trees}
 use Rattle.jz_pass.specs.Rewriting.{Rewrites}
-use Rattle.jz_arrays.specs.Cells.{Mask, numbers_kept, mask_of, with_scalars, is_in_range}
+use Rattle.jz_arrays.specs.Cells.{sort_in, Mask, numbers_kept, mask_of, with_scalars}
 use Rattle.jz_arrays.specs.Arrays.{arrays, IsOneState}
 
 -- both are stuck alike, or have the same value, and of the numbers those that are left
@@ -22,12 +22,13 @@ abbrev pub IsThinned : {A : Type 0} → Mask → Evaluation A → Evaluation A �
 IsThinned m (stuck w) h = h ≡ stuck w
 IsThinned m (went ns a) h = (length ns ≡ length m) × (h ≡ went (numbers_kept m ns) a)
 
--- of an expression whose indices are cells, in a state of the declared kinds
+-- of an expression in a state of the declared kinds
 abbrev pub ExpressionsStay : Type 0
 ExpressionsStay =
     (kinds : Kinds) (e : Expr) (w : Option Size) (s : State)
-    → IsOfKinds kinds s → is_in_range e ≡ true → (shape_of (sorts_of kinds) e).fixed ≡ true
-    → IsThinned (mask_of (sorts_of kinds) e) (evaluated e w s) (evaluated (with_scalars e) w s)
+    → IsOfKinds kinds s → (shape_of (sorts_of kinds) e).fixed ≡ true
+    → IsThinned (mask_of (sort_in (sorts_of kinds)) e) (evaluated e w s)
+    (evaluated (with_scalars e) w s)
 
 -- of a body and what its statements become, from one state of the declared kinds
 abbrev pub BodiesStay : Type 0

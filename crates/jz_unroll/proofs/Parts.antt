@@ -101,7 +101,7 @@ module _ (e : KnownNumbers) where
   -- ---- `d op= x`
 
   -- of an inline right side it is one operation
-  inline_updated : (op : BinOp) (d x : Expr) (at : Span) (y : Layer) → inline_layer y ≡ true → updated_layer op d x at y ≡ expr.Bin op d x at
+  pub inline_updated : (op : BinOp) (d x : Expr) (at : Span) (y : Layer) → inline_layer y ≡ true → updated_layer op d x at y ≡ expr.Bin op d x at
   inline_updated op d x at (Expr-F.Num n p) q = refl
   inline_updated op d x at (Expr-F.Expr::Bool b p) q = refl
   inline_updated op d x at (Expr-F.Var v) q = refl

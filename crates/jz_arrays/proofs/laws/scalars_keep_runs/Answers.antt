@@ -9,7 +9,7 @@ use Rattle.jz_arrays.proofs.Keeping.{arrays_known}
 use Rattle.jz_arrays.proofs.laws.scalars_keep_runs.Goals as goal
 
 pub returns-clause-expressions : goal.returns-clause-expressions
-returns-clause-expressions c = λ kinds e w s h range fixed. scalars_so (sorts_of kinds) s (kinds_sorted kinds s.store h.variables) e w range fixed
+returns-clause-expressions c = λ kinds e w s h fixed. scalars_so (sorts_of kinds) s (kinds_sorted kinds s.store h.variables) e w fixed
 
 pub returns-clause-bodies : goal.returns-clause-bodies
 returns-clause-bodies c = λ kinds b u k h. unrolling_carries source source (knowing_of (arrays kinds)) (arrays_known kinds) tt tt b u k h

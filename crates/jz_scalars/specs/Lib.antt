@@ -1,0 +1,5 @@
+pub mod Scalars
+pub mod Ready
+pub mod Functions
+pub mod InnerCells
+pub mod InnerMasks

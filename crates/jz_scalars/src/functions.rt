@@ -1,0 +1,69 @@
+//! The pass over a function.
+
+ghost use Rattle.std.specs.Prelude.{◌≡◌, IfOk};
+ghost use Rattle.jz_change.specs.Views.{change_of};
+ghost use Rattle.jz_scalars.specs.Functions.{IsScalars, KeepsRuns, KeepsCases};
+
+use crate::made::Made;
+use crate::statements::made_block;
+use jz_change::Change;
+use jz_pass::Passed;
+use jz_tree::{Fun, Param, Ret, Seq, Stmt, copy_notes, copy_vars};
+use std::alloc::{AllocError, Global};
+
+fn copy_ret(alloc: Global, ret: &Ret) -> Result<Ret, AllocError>
+    ensures { IfOk result (λ copy. copy ≡ ret.now) }
+{
+    Ok(Ret {
+        notes: copy_notes(alloc, &ret.notes)?,
+        decl: ret.decl.copy(alloc)?,
+    })
+}
+
+fn copy_rets(alloc: Global, rets: &Seq<Ret>) -> Result<Seq<Ret>, AllocError>
+    ensures { IfOk result (λ copy. copy ≡ rets.now) }
+{
+    rets.try_map(alloc, |ret| copy_ret(alloc, ret))
+}
+
+fn copy_params(alloc: Global, params: &Seq<Param>) -> Result<Seq<Param>, AllocError>
+    ensures { IfOk result (λ copy. copy ≡ params.now) }
+{
+    params.try_map(alloc, |param| param.copy(alloc))
+}
+
+/// The function with another body.
+fn with_body(alloc: Global, fun: &Fun, body: Seq<Stmt>) -> Result<Fun, AllocError>
+    ensures { IfOk result (λ g. g ≡ record fun.now { body = body }) }
+{
+    Ok(Fun {
+        notes: copy_notes(alloc, &fun.notes)?,
+        kind: fun.kind,
+        name: fun.name.clone()?,
+        span: fun.span,
+        params: copy_params(alloc, &fun.params)?,
+        rets: copy_rets(alloc, &fun.rets)?,
+        vars: copy_vars(alloc, &fun.vars)?,
+        body,
+        result: copy_vars(alloc, &fun.result)?,
+    })
+}
+
+/// The function with a scalar in the place of each cell of a register array at a constant index.
+/// A cell that the array does not have stays as it is, and so does one of an array in the frame.
+/// The declaration of an array stands for those of its scalars. The stack grows with the nesting of
+/// the text.
+pub fn scalars(alloc: Global, fun: &Fun) -> Result<Passed<Fun>, AllocError>
+    ensures made { IfOk result
+        (λ passed. IsScalars fun.now passed.program (change_of passed.change)) }
+    ensures law { IfOk result
+        (λ passed. KeepsRuns fun.now passed.program (change_of passed.change)) }
+    ensures cases { IfOk result
+        (λ passed. KeepsCases fun.now passed.program (change_of passed.change)) }
+{
+    let made = made_block(alloc, &fun.body)?;
+    let Made { stmts, steps } = made;
+    let program = with_body(alloc, fun, stmts)?;
+    let change = Change { steps };
+    Ok(Passed { program, change })
+}

@@ -1,0 +1,9 @@
+pub mod PartLemmas
+pub mod NumberLemmas
+pub mod Becoming
+pub mod RoundLemmas
+pub mod AddLemmas
+pub mod FormLemmas
+pub mod NameLemmas
+pub mod SettingLemmas
+pub mod FunctionLemmas

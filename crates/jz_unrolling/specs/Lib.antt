@@ -1,0 +1,5 @@
+pub mod InlineNames
+pub mod Numbers
+pub mod Parts
+pub mod Steps
+pub mod Unrolled

@@ -1,0 +1,176 @@
+-- What statements become, before whatever follows, with the steps of the change.
+use Rattle.std.specs.Prelude.{◌≡◌, Bool, false, not, is_some, List, [], ◌∷◌, ◌++◌, map, Option, Some, None}
+use Rattle.jz_tree.specs.Span.{Span}
+use Rattle.jz_tree.specs.declared.expr.Expr.{Expr}
+use Rattle.jz_tree.specs.declared.expr.Var.{Var}
+use Rattle.jz_tree.specs.declared.stmt.Stmt.{Stmt}
+use Rattle.jz_integers.specs.Integers.{KnownNumbers}
+use Rattle.jz_integers.specs.declared.constant.Constant.TheVariants as constant
+use Rattle.jz_meaning.specs.Trees.{done, choose, loop, each}
+use Rattle.jz_meaning.specs.Runs.{block}
+use Rattle.jz_meaning.specs.Statements.{Operation, assign, Block}
+use Rattle.jz_interp.specs.InnerParts.{body_piece}
+pub use Rattle.jz_inline.specs.Statements.{no_callees}
+use Rattle.jz_change.specs.Changes as model
+use Rattle.jz_change.specs.Views.{chain, then_step}
+use Rattle.jz_change.specs.declared.change.Numbers.TheVariants.{Same}
+use Rattle.jz_change.specs.declared.change.Step.{Step}
+use Rattle.jz_change.specs.declared.change.Step.TheVariants as step
+use Rattle.jz_pass.specs.Unrolling.{Unrolls}
+use Rattle.jz_unroll.specs.Values.{InlineNames}
+use Rattle.jz_unroll.specs.Unrolling.{HasValue, IsInlineInt, IsConstant, KnowsLess, UnrollsLoopTest, unrolling}
+use Rattle.jz_unrolling.specs.declared.known.Changed.{Changed}
+use Rattle.jz_unrolling.specs.declared.known.Known.{Known}
+use Rattle.jz_unrolling.specs.declared.settings.Setting.{Setting}
+use Rattle.jz_unrolling.specs.declared.statements.Apart.{Apart}
+use Rattle.jz_unrolling.specs.declared.statements.Branch.{Branch}
+use Rattle.jz_unrolling.specs.declared.statements.Head.{Head}
+use Rattle.jz_unrolling.specs.declared.statements.LoopTest.{LoopTest}
+use Rattle.jz_unrolling.specs.declared.statements.LoopTest.TheVariants.{Once, Asks}
+use Rattle.jz_unrolling.specs.declared.statements.Rounds.{Rounds}
+use Rattle.jz_unrolling.specs.declared.statements.Turn.{Turn}
+use Rattle.jz_unrolling.specs.declared.statements.Turns.{Turns}
+use Rattle.jz_unrolling.specs.Numbers.{numbers_in, undone, Went}
+
+-- ---- trees of statements
+
+abbrev pub setting_of : Setting → Span → Operation
+setting_of s at = assign s.to.now s.op s.value.now s.cond.now at
+
+abbrev pub branch_of : Branch → Span → Block → Block
+branch_of b at =
+    choose (record { cond = b.cond.now; at = at }) (block no_callees b.yes.now done)
+    (block no_callees b.no.now done)
+
+abbrev pub turns_of : Turns → Span → Block → Block
+turns_of t at =
+    loop (not (is_some t.body.now)) (block no_callees t.prologue.now done)
+    (record { cond = t.cond.now; at = at }) (body_piece no_callees t.body.now done)
+
+-- ---- what they become
+
+-- one item, all of whose numbers stay
+abbrev pub one_item : Step
+one_item = step.Ops (Same ∷ [])
+
+abbrev pub step_list : Option Step → List Step
+step_list None = []
+step_list (Some s) = s ∷ []
+
+-- the same is known before and behind
+pub record IsSame (old new : Known) : Type 0 where
+  pub changed : new.changed.items ≡ old.changed.items
+  pub numbers : numbers_in new ≡ numbers_in old
+
+abbrev pub list_or : Option (List Stmt) → List Stmt
+list_or None = []
+list_or (Some ss) = ss
+
+abbrev pub loop_of : List Stmt → Expr → Option (List Stmt) → Span → Block → Block
+loop_of q c body at =
+    loop (not (is_some body)) (block no_callees q done) (record { cond = c; at = at })
+    (body_piece no_callees body done)
+
+abbrev pub for_of : Rounds → Expr → Expr → Span → List Stmt → Block → Block
+for_of r from to at body =
+    each
+    (record { counter = r.counter.now; from = from; down = r.down; to = to; at = at })
+    (block no_callees body done)
+
+module _ (names : InlineNames) where
+  -- a piece of a tree, where e is known, becomes these statements; e1 is known behind it
+  abbrev pub Becomes :
+      (Block → Block) → KnownNumbers → List Stmt → KnownNumbers → List Step → Type 0
+  Becomes piece e made e1 steps =
+      (t rest u : Block) (e2 : KnownNumbers) (k : model.Change)
+      → Unrolls (unrolling names) t e1 rest u e2 k
+      → Unrolls (unrolling names) (piece t) e rest (block no_callees made u) e2
+      (chain (map then_step steps) k)
+
+  -- behind what is there
+  pub record Adds (piece : Block → Block) (old new : Known) (before behind : List Stmt)
+      (steps : List Step) : Type 0 where
+    pub made : List Stmt
+    pub added : behind ≡ before ++ made
+    pub becomes : Becomes piece (numbers_in old) made (numbers_in new) steps
+    pub went : Went old new
+
+  abbrev pub AddsStep :
+      (Block → Block) → Known → Known → List Stmt → List Stmt → Step → Type 0
+  AddsStep piece old new before behind s = Adds piece old new before behind (s ∷ [])
+
+  abbrev pub AddsOne :
+      (Block → Block) → Known → Known → List Stmt → List Stmt → Option Step → Type 0
+  AddsOne piece old new before behind s = Adds piece old new before behind (step_list s)
+
+  -- by themselves; what is known before them is known behind them too
+  pub record IsApart (ss : List Stmt) (old new : Known) (made : Apart) : Type 0 where
+    pub behind : KnownNumbers
+    pub becomes :
+        Becomes (block no_callees ss) (numbers_in old) made.statements behind made.steps
+    pub less : KnowsLess (numbers_in old) behind
+    pub same : IsSame old new
+
+  -- ---- `while`
+
+  -- a body, where there is one; what is known before it is known behind it too
+  pub record IsTurn (body : Option (List Stmt)) (old new : Known) (made : Turn) : Type 0 where
+    pub there : is_some made.body ≡ is_some body
+    pub behind : KnownNumbers
+    pub becomes :
+        Becomes (body_piece no_callees body) (numbers_in old) (list_or made.body) behind
+        made.steps
+    pub less : KnowsLess (numbers_in old) behind
+    pub same : IsSame old new
+
+  -- false at once, or a test that stays
+  abbrev pub IsLoopTest : KnownNumbers → Expr → Span → LoopTest → Type 0
+  IsLoopTest e c at Once = IsConstant (record { cond = c; at = at }) e false
+  IsLoopTest e c at (Asks y) =
+      UnrollsLoopTest names (record { cond = c; at = at }) e [] []
+      (record { cond = y; at = at }) Same
+
+  -- behind a prologue: what it has become, and the test; e is known before it
+  pub record IsHead (e : KnownNumbers) (old : Known) (q : List Stmt) (c : Expr) (at : Span)
+      (head : Head) : Type 0 where
+    pub becomes :
+        Becomes (block no_callees q) e head.prologue.statements (numbers_in old)
+        head.prologue.steps
+    pub back : undone old.changed.items (numbers_in old) ≡ e
+    pub test :
+        UnrollsLoopTest names (record { cond = c; at = at }) (numbers_in old) [] []
+        (record { cond = head.cond; at = at }) Same
+
+  -- a whole loop, behind which the same is known as before it
+  pub record IsLoop (piece : Block → Block) (e : KnownNumbers) (new : Known)
+      (outer : List Changed) (before after : List Stmt) (s : Step) : Type 0 where
+    pub made : List Stmt
+    pub added : after ≡ before ++ made
+    pub becomes : Becomes piece e made e (s ∷ [])
+    pub numbers : numbers_in new ≡ e
+    pub changed : new.changed.items ≡ outer
+
+  abbrev pub EndsLoop :
+      Head → Option (List Stmt) → Span → Known → Known → List Stmt → List Stmt → Step → Type 0
+  EndsLoop head body at old new before behind s =
+      (e : KnownNumbers) (q : List Stmt) (c : Expr)
+      → IsHead e old q c at head
+      → IsLoop (loop_of q c body at) e new head.outer.items before behind s
+
+  -- ---- rounds
+
+  pub record HasRounds (e : KnownNumbers) (r : Rounds) (counter : Var) (from : Expr)
+      (down : Bool) (to : Expr) : Type 0 where
+    pub same : r.counter.now ≡ counter
+    pub way : r.down ≡ down
+    pub inline : IsInlineInt names counter
+    pub first : HasValue e from (constant.Int r.first)
+    pub bound : HasValue e to (constant.Int r.bound)
+
+  -- with bounds that have these values it is a whole loop
+  abbrev pub AddsRounds :
+      Rounds → List Stmt → Known → Known → List Stmt → List Stmt → Step → Type 0
+  AddsRounds r body old new before behind s =
+      (from to : Expr) (at : Span)
+      → HasRounds (numbers_in old) r r.counter.now from r.down to
+      → AddsStep (for_of r from to at body) old new before behind s

@@ -1,0 +1,157 @@
+//! What sets one inline variable, and what sets others.
+
+ghost use Rattle.std.specs.Prelude.{◌≡◌, ◌∷◌, [], true, IfOk, IfSome};
+ghost use Rattle.jz_tree.specs.declared.stmt.Lval.TheVariants as lval;
+ghost use Rattle.jz_tree.specs.declared.expr.Expr.TheViews.{out-Expr};
+ghost use Rattle.jz_meaning.specs.Assignments as assignments;
+ghost use Rattle.jz_unroll.specs.Values as inlined;
+ghost use Rattle.jz_unroll.specs.Unrolling.{ConditionIs, IsInlineInt};
+ghost use Rattle.jz_unrolling.specs.InlineNames.{names_in};
+ghost use Rattle.jz_unrolling.specs.Numbers.{numbers_in};
+ghost use Rattle.jz_unrolling.specs.Parts.{updated_value, HasWhole, StandsApart};
+
+use crate::conditions::{Test, test_of};
+use crate::constants::{constant_of, joined};
+use crate::expressions::{Values, part_of};
+use crate::inline_vars::InlineVars;
+use crate::parts::Part;
+use jz_integers::Constant;
+use jz_meaning::{Kind, kind_of};
+use jz_tree::{BinOp, Expr, Failure, Lval, Seq, Span, Var};
+use jz_type_names::is_inline;
+
+/// An assignment: `to = value`, with an operation `to = to op value`, where `cond` holds.
+#[derive(Clone, Copy)]
+pub(crate) struct Setting<'a> {
+    pub to: &'a Seq<Lval>,
+    pub op: Option<BinOp>,
+    pub value: &'a Expr,
+    pub cond: &'a Option<Expr>,
+}
+
+/// The inline variable that is set, where nothing else is.
+pub(crate) fn inline_target<'a>(vars: &InlineVars, to: &'a Seq<Lval>) -> Option<&'a Var>
+    ensures { IfSome result (λ var. to.now ≡ lval.Var var.now ∷ []) }
+{
+    if to.len() != 1 {
+        return None;
+    }
+    match to.get(0) {
+        Some(Lval::Var(var)) => {
+            if vars.has(&var.name, var.copy) {
+                Some(var)
+            } else {
+                None
+            }
+        }
+        _ => None,
+    }
+}
+
+/// Whether it is an inline variable as a whole, and an integer.
+pub(crate) fn is_inline_number(vars: &InlineVars, var: &Var) -> bool
+    ensures { result ≡ true → IsInlineInt (names_in vars.now) var.now }
+{
+    if var.cell.is_some() {
+        return false;
+    }
+    match kind_of(var) {
+        Kind::Int => vars.has(&var.name, var.copy),
+        Kind::Undeclared => false,
+        Kind::Bool => false,
+        Kind::Word(_) => false,
+        Kind::Array(_, _) => false,
+    }
+}
+
+/// A value, or that of an operation on the variable and it.
+fn updated(
+    values: &Values<'_>,
+    var: &Var,
+    op: Option<BinOp>,
+    value: Option<Constant>,
+) -> Option<Constant>
+    ensures { result ≡ updated_value (numbers_in values.now.known.now) var.now op value }
+{
+    match op {
+        None => value,
+        Some(op) => joined(
+            op,
+            constant_of(values.known.number(&var.name, var.copy)),
+            value,
+        ),
+    }
+}
+
+/// The number that an inline variable gets, of an operation with what it has. Refused where there
+/// is none.
+pub(crate) fn new_number(
+    values: &Values<'_>,
+    var: &Var,
+    op: Option<BinOp>,
+    value: &Expr,
+) -> Result<i128, Failure<Span>>
+    requires { IsInlineInt (names_in values.now.vars.now) var.now }
+    ensures { IfOk result (λ n. HasWhole (numbers_in values.now.known.now) var.now op value.now n) }
+{
+    let number = match part_of(values, value)? {
+        Part::Plain(_) => return Err(Failure::Refused(var.span)),
+        Part::Inline(number, _) => number,
+    };
+    match updated(values, var, op, number) {
+        Some(Constant::Int(n)) => Ok(n),
+        Some(Constant::Bool(_)) => Err(Failure::Refused(var.span)),
+        None => Err(Failure::Refused(var.span)),
+    }
+}
+
+/// Whether the new number counts. Behind a condition the old one has to be there.
+pub(crate) fn is_set(
+    values: &Values<'_>,
+    var: &Var,
+    cond: &Option<Expr>,
+) -> Result<bool, Failure<Span>>
+    ensures { IfOk result (ConditionIs (numbers_in values.now.known.now) var.now cond.now) }
+{
+    match cond {
+        None => Ok(true),
+        Some(cond) => match test_of(values, cond)? {
+            Test::Asked(_) => Err(Failure::Refused(var.span)),
+            Test::Always(answer, _) => {
+                if values.known.number(&var.name, var.copy).is_none() {
+                    return Err(Failure::Refused(var.span));
+                }
+                Ok(answer)
+            }
+        },
+    }
+}
+
+fn is_flag(expr: &Expr) -> bool
+    ensures { result ≡ assignments.is_flag expr.now }
+{
+    match expr {
+        Expr::Var(var) => matches!(kind_of(var), Kind::Bool),
+        _ => false,
+    }
+}
+
+fn splits(expr: &Expr) -> bool
+    ensures { result ≡ inlined.splits (out-Expr expr.now) }
+{
+    match expr {
+        Expr::Bin(_, left, right, _) => !is_flag(right.get()) || !is_inline(left.get()),
+        _ => true,
+    }
+}
+
+/// Whether, of an operation with several results, the operands stand in the text. The operation of
+/// `op=` has the left side as an operand.
+pub(crate) fn stands_apart(to: &Seq<Lval>, op: Option<BinOp>, value: &Expr) -> bool
+    ensures { result ≡ true → StandsApart to.now op value.now }
+{
+    match op {
+        Some(_) => true,
+        None => to.len() == 1 || (!is_inline(value) && splits(value)),
+    }
+}
