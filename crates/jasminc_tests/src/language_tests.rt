@@ -4,13 +4,13 @@ use crate::tests::{COMPILE, Row, answer_rows};
 use jasminc_top::Status;
 use std::test::Fail;
 
-const EXCHANGE: &[u8] =
+pub(crate) const EXCHANGE: &[u8] =
     b"export fn exchange(reg u64 x, reg u64 y) -> reg u64, reg u64 {\n  reg u64 a b;\n  a = x;\n  b = y;\n  a ^= b;\n  b ^= a;\n  a ^= b;\n  return a, b;\n}\n";
 
-const MIX: &[u8] =
+pub(crate) const MIX: &[u8] =
     b"export fn mix(reg u64 a, reg u64 b, reg u64 c, reg u64 d) -> reg u64 {\n  reg u64 r k;\n  r = a;\n  r += b;\n  k = 0x9e3779b97f4a7c15;\n  r ^= k;\n  c -= d;\n  r += c;\n  r ^= 0x5bd1e995;\n  return r;\n}\n";
 
-const SUM_AND_DIFFERENCE: &[u8] =
+pub(crate) const SUM_AND_DIFFERENCE: &[u8] =
     b"export fn sum_and_difference(reg u64 x, reg u64 y) -> reg u64, reg u64 {\n  reg u64 sum difference;\n  sum = x;\n  sum += y;\n  difference = x;\n  difference -= y;\n  return sum, difference;\n}\n";
 
 const TWO: &[u8] =

@@ -7,6 +7,8 @@ mod back_tests;
 #[cfg(test)]
 mod call_tests;
 #[cfg(test)]
+mod disasm_tests;
+#[cfg(test)]
 mod front_tests;
 #[cfg(test)]
 mod interp_tests;

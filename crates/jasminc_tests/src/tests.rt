@@ -26,9 +26,9 @@ pub(crate) struct Ran {
 
 /// The calls of the source and of the sink that fail, and how many bytes the sink takes.
 pub(crate) struct Faults {
-    source: &'static [u64],
-    sink: &'static [u64],
-    room: usize,
+    pub source: &'static [u64],
+    pub sink: &'static [u64],
+    pub room: usize,
 }
 
 pub(crate) const NO_FAULTS: Faults = Faults {

@@ -7,7 +7,7 @@ use std::test::Fail;
 
 /// Command lines over a file add.jazz, and how they end: as a command, as one that names another
 /// file, or as none.
-static LINES: [(&str, Status); 32] = [
+static LINES: [(&str, Status); 40] = [
     ("jasminc", Status::Usage),
     ("jasminc add.jazz", Status::Usage),
     ("jasminc run add.jazz", Status::Usage),
@@ -46,6 +46,14 @@ static LINES: [(&str, Status); 32] = [
     ("jasminc exec --fuel=0x5 add.jazz add 2 3", Status::Ok),
     ("jasminc exec add.jazz --fuel 5 add 2 3", Status::Ok),
     ("jasminc exec add.jazz add 2 --fuel 5 3", Status::Ok),
+    ("jasminc disasm", Status::Usage),
+    ("jasminc Disasm add.jazz", Status::Usage),
+    ("jasminc disasm add.jazz add.jazz", Status::Usage),
+    ("jasminc disasm --fuel 5 add.jazz", Status::Usage),
+    ("jasminc disasm --all add.jazz", Status::Usage),
+    ("jasminc disasm -- --all", Status::ReadFault),
+    ("jasminc disasm other.txt", Status::ReadFault),
+    ("jasminc disasm add.jazz", Status::Syntax),
 ];
 
 /// How a command line ends.

@@ -12,7 +12,7 @@ use Rattle.jasminc_interp.specs.declared.refused.Refused.{Refused}
 use Rattle.jasminc_interp.specs.declared.telling.Ran as source
 use Rattle.jasminc_top.specs.declared.refusal.Status.{Status}
 use Rattle.jasminc_top.specs.declared.refusal.Refusal.{Refusal}
-use Rattle.jasminc_top.specs.declared.refusal.Refusal.TheVariants.{Usage, ReadFault, Source, Lex, Parse, Typing, NoFunction, Limit, Alarm, NoPlace, Items, Interp}
+use Rattle.jasminc_top.specs.declared.refusal.Refusal.TheVariants.{Usage, ReadFault, Source, Lex, Parse, Typing, NoFunction, Limit, Alarm, NoPlace, Items, Interp, Disasm}
 use Rattle.jasminc_top.specs.declared.answer.Reply.{Reply}
 use Rattle.jasminc_top.specs.Refusals.{all_stages}
 use Rattle.jasminc_top.specs.Stage.{ComesFrom}
@@ -32,6 +32,7 @@ cleared call text n short clear (Alarm a) lt c = c
 cleared call text n short clear (NoPlace r) lt c = c
 cleared call text n short clear Items lt c = c
 cleared call text n short clear (Interp r) lt c = clear r lt c
+cleared call text n short clear (Disasm f) lt c = c
 
 first_cause : (call : Called) (text : List ℕ) → length text ≤ source_limit → (r : Refused) → runs.IsFirstCause text call.fun call.items r
     → IsFirstCause (InterpCause call text) (Interp r)

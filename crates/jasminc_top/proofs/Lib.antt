@@ -14,3 +14,5 @@ pub mod InterpHeadline
 pub mod ExecRuns
 pub mod ExecHeadline
 pub mod Promises
+pub mod DisasmCauses
+pub mod DisasmHeadline

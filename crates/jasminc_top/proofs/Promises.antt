@@ -7,6 +7,7 @@ use Rattle.jasminc_top.proofs.Rows.{run_refused, run_completes, run_comes, run_w
 use Rattle.jasminc_top.proofs.Headline.{run_compiles}
 use Rattle.jasminc_top.proofs.InterpHeadline.{run_interprets}
 use Rattle.jasminc_top.proofs.ExecHeadline.{run_executes, run_cut, run_stuck}
+use Rattle.jasminc_top.proofs.DisasmHeadline.{run_disassembles}
 
 pub keeps_promises : (words : List (List ℕ)) (run : Run) → run.wish ≡ wanted_command words → Runs run → KeepsPromises run
 keeps_promises words run wished r = record {
@@ -16,6 +17,7 @@ keeps_promises words run wished r = record {
   interprets = run_interprets run r;
   stuck = run_stuck run r;
   cut = run_cut words run wished r;
+  disassembles = run_disassembles run r;
   comes_only = run_comes run r;
   write_fault = run_write_fault run r;
   refused = run_refused run r;

@@ -10,12 +10,14 @@ use Rattle.jasminc_top.specs.declared.answer.Reply.{Reply}
 use Rattle.jasminc_top.specs.declared.refusal.Status.{Status}
 use Rattle.jasminc_top.specs.declared.refusal.Status.TheVariants as status
 use Rattle.jasminc_top.specs.declared.refusal.Refusal.{Refusal}
-use Rattle.jasminc_top.specs.declared.refusal.Refusal.TheVariants.{Usage, ReadFault, Source, Interp}
-use Rattle.jasminc_words.specs.Wanted.{Wanted, compile, exec, interp, file_of}
+use Rattle.jasminc_top.specs.declared.refusal.Refusal.TheVariants.{Usage, ReadFault, Source, Interp, Disasm}
+use Rattle.jasminc_words.specs.Wanted.{Wanted, compile, exec, interp, disasm, file_of}
 use Rattle.jasminc_interp.specs.declared.refused.Refused.{Refused}
 use Rattle.jasminc_interp.specs.declared.refused.Refused.TheVariants as refused
 use Rattle.jasminc_interp.specs.Causes as interp_causes
-use Rattle.jasminc_top.specs.Refusals.{status_of_refused, status_of, line_of}
+use Rattle.jz_disasm_text.specs.declared.Fault.{Fault}
+use Rattle.jz_disasm_text.specs.declared.Fault.TheVariants as fault
+use Rattle.jasminc_top.specs.Refusals.{status_of_refused, status_of_fault, status_of, line_of}
 use Rattle.jasminc_top.specs.Told.{SourceTold}
 use Rattle.jasminc_top.specs.Answers.{source_limit, Cause, Clear, HasText, IsDue, IsQuiet, IsResult, FileRefuses, After, Performs}
 use Rattle.jasminc_top.specs.Runs.{Run, Due, Runs, IsFree, Writes, WritesRefusal, WritesNoMemory}
@@ -34,6 +36,7 @@ long_cause : (wish : Wanted) (text : List ℕ) → source_limit < length text �
 long_cause (compile file) text long = long
 long_cause (exec call) text long = long
 long_cause (interp call) text long = long
+long_cause (disasm file) text long = long
 
 run_late : (r : Refused) → 1 ≤ interp_causes.stage_of r
 run_late (refused.Lex fault) = omega arith
@@ -93,6 +96,11 @@ run_bound (refused.NoFunction name) h = h
 run_bound (refused.Limit l) h = h
 run_bound refused.Items h = h
 
+fault_bound : (f : Fault) → IsFree (status_of_fault f) → ⊥
+fault_bound (fault.BadListing line) h = h
+fault_bound (fault.BadHex offset) h = h
+fault_bound (fault.Undecodable gap) h = h
+
 refusal_due : (wish : Option Wanted) (told : SourceTold) (r : Refusal) → Performs wish told (Err r) → Due wish told (status_of r) (line_of r) []
 refusal_due wish told ReadFault p = (refl, refl, p)
 refusal_due wish told (Interp r) p =
@@ -101,6 +109,15 @@ refusal_due wish told (Interp r) p =
       text = p.text;
       has = p.has;
       answers = inl (record { refusal = Interp r; cause = p.after.cause; first = p.after.first; status = refl; line = refl; none = refl });
+      read = p.read;
+    })
+    p.quiet
+refusal_due wish told (Disasm f) p =
+    plain_due wish told (status_of_fault f) (line_of (Disasm f)) [] (fault_bound f)
+    (record {
+      text = p.text;
+      has = p.has;
+      answers = inl (record { refusal = Disasm f; cause = p.after.cause; first = p.after.first; status = refl; line = refl; none = refl });
       read = p.read;
     })
     p.quiet

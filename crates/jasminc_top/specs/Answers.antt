@@ -15,7 +15,8 @@ use Rattle.jz_pipeline.specs.Placed.{IsUnplaced}
 use Rattle.jz_pipeline.specs.Stages.{IsFirstRefusal, FirstLimit, FirstAlarm, FirstUnplaced}
 use Rattle.jz_listing.specs.Listing.{listing_text}
 use Rattle.jz_listing.specs.declared.compiled.Compiled.{Compiled}
-use Rattle.jasminc_words.specs.Wanted.{Called, Wanted, compile, exec, interp, file_of}
+use Rattle.jz_disasm_text.specs.Shown.{FailsAs, Shows}
+use Rattle.jasminc_words.specs.Wanted.{Called, Wanted, compile, exec, interp, disasm, file_of}
 use Rattle.jasminc_interp.specs.Causes as runs
 use Rattle.jasminc_interp.specs.Answers as answers
 use Rattle.jasminc_interp.specs.declared.telling.Ran as source
@@ -32,7 +33,7 @@ use Rattle.jasminc_top.specs.declared.refusal.Refusal.{Refusal}
 use Rattle.jasminc_top.specs.declared.refusal.Refusal.TheVariants.{Usage, ReadFault, Source}
 use Rattle.jasminc_top.specs.declared.refusal.Refusal.TheVariants.{Lex, Parse, Typing, NoFunction}
 use Rattle.jasminc_top.specs.declared.refusal.Refusal.TheVariants.{Limit, Alarm, NoPlace, Items}
-use Rattle.jasminc_top.specs.declared.refusal.Refusal.TheVariants.{Interp}
+use Rattle.jasminc_top.specs.declared.refusal.Refusal.TheVariants.{Interp, Disasm}
 use Rattle.jasminc_top.specs.declared.answer.Reply.{Reply}
 
 -- the longest text that is read
@@ -100,6 +101,12 @@ InterpCause call text Source = source_limit < length text
 InterpCause call text (Interp r) = runs.Cause text call.fun call.items r
 InterpCause call text r = ⊥
 
+-- why a text is not disassembled
+abbrev pub DisasmCause : List ℕ → Refusal → Type 0
+DisasmCause text Source = source_limit < length text
+DisasmCause text (Disasm fault) = FailsAs text fault
+DisasmCause text r = ⊥
+
 -- words that are no command have one cause, whatever the text
 abbrev pub IsUsage : Refusal → Type 0
 IsUsage r = r ≡ Usage
@@ -110,6 +117,7 @@ Cause None text = IsUsage
 Cause (Some (compile file)) text = TextCause text
 Cause (Some (exec call)) text = ExecCause call.fun call.items text
 Cause (Some (interp call)) text = InterpCause call text
+Cause (Some (disasm file)) text = DisasmCause text
 
 -- no stage before this one has a cause
 abbrev pub Clear : (Refusal → Type 0) → ℕ → Type 0
@@ -170,10 +178,18 @@ pub record GivesOutcome (text : List ℕ) (call : Called) (s : Status) (output :
   pub told : IsToldAs ran s output
   pub none : made ≡ []
 
+-- the disassembly of the text; nothing is made
+pub record GivesDisassembly (text : List ℕ) (s : Status) (output : List ℕ) (made : List Compiled)
+    : Type 0 where
+  pub shows : Shows text (Ok output)
+  pub ok : s ≡ status.Ok
+  pub none : made ≡ []
+
 abbrev pub Gives : Wanted → List ℕ → Status → List ℕ → List Compiled → Type 0
 Gives (compile file) text s output made = GivesListing text s output made
 Gives (exec call) text s output made = GivesRun text call s output made
 Gives (interp call) text s output made = GivesOutcome text call s output made
+Gives (disasm file) text s output made = GivesDisassembly text s output made
 
 -- the statuses of what a command gives
 abbrev pub IsResult : Status → Type 0

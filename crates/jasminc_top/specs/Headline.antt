@@ -1,5 +1,5 @@
--- What the program promises of a listing and of a run that it prints.
-use Rattle.std.specs.Prelude.{◌≡◌, ◌<◌, ◌≤◌, List, ℕ, Option, Some, None, ⊤}
+-- What the program promises of a listing, of a run and of a disassembly that it prints.
+use Rattle.std.specs.Prelude.{◌≡◌, ◌<◌, ◌≤◌, List, ℕ, Option, Some, None, Ok, ⊤}
 use Rattle.std.specs.Io.KnownBytes.{Appends}
 use Rattle.std.specs.FinMap as map_of
 use Rattle.jz_first.specs.Memory.{Memory}
@@ -11,7 +11,8 @@ use Rattle.jz_correct.specs.Ends.{EndsAfter}
 use Rattle.jz_correct.specs.Starts.{MeetsPreconditions, IsStart}
 use Rattle.jz_correct.specs.Correctness.{IsCorrect, AreCorrect}
 use Rattle.x64_machine.specs.Steps.{steps_of}
-use Rattle.jasminc_words.specs.Wanted.{Called, Wanted, compile, exec, interp}
+use Rattle.jz_disasm_text.specs.Shown.{Shows}
+use Rattle.jasminc_words.specs.Wanted.{Called, Wanted, compile, exec, interp, disasm}
 use Rattle.jasminc_interp.specs.Answers as answers
 use Rattle.jasminc_interp.specs.declared.telling.Ran as source
 use Rattle.jasminc_top.specs.Making.{TypesAs}
@@ -39,6 +40,7 @@ Compiles None told sink made = ⊤
 Compiles (Some (compile file)) told sink made = PrintsCorrect file told sink made
 Compiles (Some (exec call)) told sink made = ⊤
 Compiles (Some (interp call)) told sink made = ⊤
+Compiles (Some (disasm file)) told sink made = ⊤
 
 -- The function of that name is compiled correctly, the items meet its preconditions, and `exec`
 -- starts it at a start on these items and a memory of the return slot alone.
@@ -92,6 +94,7 @@ Executes None told sink made = ⊤
 Executes (Some (compile file)) told sink made = ⊤
 Executes (Some (exec call)) told sink made = PrintsRun call told sink made
 Executes (Some (interp call)) told sink made = ⊤
+Executes (Some (disasm file)) told sink made = ⊤
 
 -- The file's text reads as a program in the whole language that is typed, its export functions are
 -- within the limits of expansion, and what was written is what this status tells of the run of the
@@ -113,6 +116,7 @@ Interprets None told sink = ⊤
 Interprets (Some (compile file)) told sink = ⊤
 Interprets (Some (exec call)) told sink = ⊤
 Interprets (Some (interp call)) told sink = PrintsOutcome call told sink status.Ok
+Interprets (Some (disasm file)) told sink = ⊤
 
 -- a run that is stuck, as none but one of `interp` is
 abbrev pub IsStuck : Option Wanted → SourceTold → SinkTold → Type 0
@@ -120,6 +124,7 @@ IsStuck None told sink = ⊥
 IsStuck (Some (compile file)) told sink = ⊥
 IsStuck (Some (exec call)) told sink = ⊥
 IsStuck (Some (interp call)) told sink = PrintsOutcome call told sink status.Stuck
+IsStuck (Some (disasm file)) told sink = ⊥
 
 -- a run that was cut, as none but one of `exec` and `interp` is
 abbrev pub IsCut : Option Wanted → SourceTold → SinkTold → List Compiled → Type 0
@@ -127,3 +132,21 @@ IsCut None told sink made = ⊥
 IsCut (Some (compile file)) told sink made = ⊥
 IsCut (Some (exec call)) told sink made = PrintsCut call told sink made
 IsCut (Some (interp call)) told sink made = PrintsOutcome call told sink status.OutOfFuel
+IsCut (Some (disasm file)) told sink made = ⊥
+
+-- What was written is the disassembly of the file's text: of each function of the listing that it
+-- is, or of the bytes of which it is the hexadecimal text; and nothing else.
+pub record PrintsDisassembly (file : List ℕ) (told : SourceTold) (sink : SinkTold) : Type 0 where
+  pub text : List ℕ
+  pub has : HasFile file told.files text
+  pub output : List ℕ
+  pub shows : Shows text (Ok output)
+  pub wrote : Appends sink.bytes sink.bytes_after output
+
+-- the same of a command; it speaks of `disasm` alone
+abbrev pub Disassembles : Option Wanted → SourceTold → SinkTold → Type 0
+Disassembles None told sink = ⊤
+Disassembles (Some (compile file)) told sink = ⊤
+Disassembles (Some (exec call)) told sink = ⊤
+Disassembles (Some (interp call)) told sink = ⊤
+Disassembles (Some (disasm file)) told sink = PrintsDisassembly file told sink

@@ -1,5 +1,6 @@
 pub mod Lines
 pub mod InterpLines
+pub mod DisasmLines
 pub mod Refusals
 pub mod Making
 pub mod Told

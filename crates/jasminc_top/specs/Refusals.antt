@@ -6,11 +6,14 @@ use Rattle.jasminc_top.specs.declared.refusal.Refusal.{Refusal}
 use Rattle.jasminc_top.specs.declared.refusal.Refusal.TheVariants.{Usage, ReadFault, Source}
 use Rattle.jasminc_top.specs.declared.refusal.Refusal.TheVariants.{Lex, Parse, Typing, NoFunction}
 use Rattle.jasminc_top.specs.declared.refusal.Refusal.TheVariants.{Limit, Alarm, NoPlace, Items}
-use Rattle.jasminc_top.specs.declared.refusal.Refusal.TheVariants.{Interp}
+use Rattle.jasminc_top.specs.declared.refusal.Refusal.TheVariants.{Interp, Disasm}
 use Rattle.jasminc_interp.specs.declared.refused.Refused.{Refused}
 use Rattle.jasminc_interp.specs.declared.refused.Refused.TheVariants as refused
 use Rattle.jasminc_interp.specs.Causes as interp
+use Rattle.jz_disasm_text.specs.declared.Fault.{Fault}
+use Rattle.jz_disasm_text.specs.declared.Fault.TheVariants as fault
 use Rattle.jasminc_top.specs.InterpLines.{refused_text}
+use Rattle.jasminc_top.specs.DisasmLines.{fault_text}
 use Rattle.jasminc_top.specs.Lines.{lexer_line, parser_line, type_line}
 use Rattle.jasminc_top.specs.Lines.{limit_line, alarm_line, no_place_line}
 
@@ -21,6 +24,11 @@ status_of_refused (refused.Typing fault) = status.Typing
 status_of_refused (refused.NoFunction name) = status.NoFunction
 status_of_refused (refused.Limit l) = status.Limit
 status_of_refused refused.Items = status.Precondition
+
+abbrev pub status_of_fault : Fault → Status
+status_of_fault (fault.BadListing line) = status.Syntax
+status_of_fault (fault.BadHex offset) = status.Syntax
+status_of_fault (fault.Undecodable gap) = status.Undecodable
 
 abbrev pub status_of : Refusal → Status
 status_of Usage = status.Usage
@@ -35,6 +43,7 @@ status_of (Alarm alarm) = status.Alarm
 status_of (NoPlace refusal) = status.NoPlace
 status_of Items = status.Precondition
 status_of (Interp r) = status_of_refused r
+status_of (Disasm f) = status_of_fault f
 
 -- the line without its line feed
 abbrev pub cause_text : Refusal → List ℕ
@@ -50,12 +59,13 @@ cause_text (Alarm alarm) = alarm_line alarm
 cause_text (NoPlace refusal) = no_place_line refusal
 cause_text Items = codes "precondition items"
 cause_text (Interp r) = refused_text r
+cause_text (Disasm f) = fault_text f
 
 abbrev pub line_of : Refusal → List ℕ
 line_of r = cause_text r ++ codes "\n"
 
 -- the stages in their order: words, file, lexer, parser, typing, function name, limits, safety,
--- places, items
+-- places, items; a text has at most one reason to have no disassembly, right after the file
 abbrev pub stage_of : Refusal → ℕ
 stage_of Usage = 0
 stage_of ReadFault = 1
@@ -69,6 +79,7 @@ stage_of (Alarm alarm) = 7
 stage_of (NoPlace refusal) = 8
 stage_of Items = 9
 stage_of (Interp r) = interp.stage_of r
+stage_of (Disasm f) = 2
 
 -- one past the last stage
 abbrev pub all_stages : ℕ

@@ -4,7 +4,7 @@ ghost use Rattle.std.specs.Prelude.{◌≡◌, ◌≤◌, [], All, Some, IfOk, I
 ghost use Rattle.std.specs.Option.{option_copied};
 ghost use Rattle.jz_first.specs.Failures.{IfRefused, IfAnswered};
 ghost use Rattle.jz_io.specs.Telling.{IsWhole};
-ghost use Rattle.jasminc_words.specs.Wanted.{compile, exec, interp, texts_of};
+ghost use Rattle.jasminc_words.specs.Wanted.{compile, exec, interp, disasm, texts_of};
 ghost use Rattle.jasminc_words.specs.Wanted.{called_of, wanted_of};
 ghost use Rattle.jasminc_words.specs.Wanted.{wanted_command};
 ghost use Rattle.jasminc_top.specs.Making.{TypesAs, IsWritten, AreMade};
@@ -20,6 +20,7 @@ use jasminc_exec::{Ran, exec_text, items_are_words};
 use jasminc_interp as source;
 use jasminc_interp::interp_text;
 use jasminc_words::{Call, Request, request_of};
+use jz_disasm_text::disasm_text;
 use jz_first::{Failure, Fun, Seq, Text, Typed, check, parse_first};
 use jz_grammar::lex;
 use jz_io::{Bytes, ReadRefused, Source, read_all};
@@ -194,6 +195,20 @@ fn interp_reply(alloc: Global, call: &Call<'_>, text: &[u8]) -> Result<Reply, Fa
     Ok(outcome_reply(alloc, ran))
 }
 
+/// The disassembly of a text. Nothing is made for it.
+fn disasm_reply(alloc: Global, file: &str, text: &[u8]) -> Result<Reply, Failure<Refusal>>
+    requires { length text.now ≤ source_limit }
+    ensures { IfAnswered result (After (Some (disasm file.now)) text.now) }
+{
+    let answer = disasm_text(alloc, text);
+    let lines = as_refusal(answer, Refusal::Disasm)?;
+    Ok(Reply {
+        status: Status::Ok,
+        text: lines,
+        made: Seq::new(alloc),
+    })
+}
+
 /// A request, from the reading on.
 fn perform<S: Source>(
     alloc: Global,
@@ -208,6 +223,7 @@ fn perform<S: Source>(
         Request::Compile { file } => compile_text(alloc, file, text.as_slice()),
         Request::Exec(call) => exec_reply(alloc, &call, text.as_slice()),
         Request::Interp(call) => interp_reply(alloc, &call, text.as_slice()),
+        Request::Disasm { file } => disasm_reply(alloc, file, text.as_slice()),
     }
 }
 

@@ -3,6 +3,7 @@
 
 mod answer;
 pub mod correctness;
+mod disasm_lines;
 mod interp_lines;
 mod lines;
 mod refusal;

@@ -1,13 +1,16 @@
 //! The statuses of the program, and the answers other than Ok with their lines.
 
 ghost use Rattle.std.specs.Prelude.{◌≡◌, ◌++◌, IfOk, OnOk, codes, decimal};
-ghost use Rattle.jasminc_top.specs.Refusals.{status_of_refused, status_of, cause_text, line_of};
+ghost use Rattle.jasminc_top.specs.Refusals.{status_of_refused, status_of_fault, status_of};
+ghost use Rattle.jasminc_top.specs.Refusals.{cause_text, line_of};
 
+use crate::disasm_lines::write_disasm_fault;
 use crate::interp_lines::write_refused;
 use crate::lines::{
     write_alarm, write_lex_fault, write_limit, write_no_place, write_syntax_fault, write_type_fault,
 };
 use jasminc_interp::Refused;
+use jz_disasm_text::Fault;
 use jz_first::{Text, TypeFault};
 use jz_grammar::{LexFault, SyntaxFault};
 use jz_pipeline::{Limit, NoPlace};
@@ -62,6 +65,8 @@ pub enum Refusal {
     Items,
     /// A function of a text in the whole language is not run.
     Interp(Refused),
+    /// A text has no disassembly.
+    Disasm(Fault),
 }
 
 /// The status of a function that is not run.
@@ -74,6 +79,16 @@ fn status_of_refused(refused: &Refused) -> Status
         Refused::NoFunction(_) => Status::NoFunction,
         Refused::Limit(_) => Status::Limit,
         Refused::Items => Status::Precondition,
+    }
+}
+
+/// The status of a text without a disassembly.
+fn status_of_fault(fault: Fault) -> Status
+    ensures { result ≡ status_of_fault fault }
+{
+    match fault {
+        Fault::BadListing(_) | Fault::BadHex(_) => Status::Syntax,
+        Fault::Undecodable(_) => Status::Undecodable,
     }
 }
 
@@ -93,6 +108,7 @@ impl Refusal {
             Refusal::NoPlace(_) => Status::NoPlace,
             Refusal::Items => Status::Precondition,
             Refusal::Interp(refused) => status_of_refused(refused),
+            Refusal::Disasm(fault) => status_of_fault(*fault),
         }
     }
 
@@ -116,6 +132,7 @@ impl Refusal {
             Refusal::NoPlace(refusal) => write_no_place(line, refusal),
             Refusal::Items => line.extend_from_slice(b"precondition items"),
             Refusal::Interp(refused) => write_refused(line, refused),
+            Refusal::Disasm(fault) => write_disasm_fault(line, *fault),
         }
     }
 

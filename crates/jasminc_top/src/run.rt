@@ -13,8 +13,8 @@ use jz_io::{Sink, Source, write_all};
 use jz_listing::Compiled;
 use std::alloc::Global;
 
-/// How a command ended, and what this call compiled: at Ok and OutOfFuel each export function in
-/// the text's order, else nothing.
+/// How a command ended, and what this call compiled: in `compile` and `exec` at Ok and OutOfFuel
+/// each export function in the text's order, else nothing.
 #[derive(Drop)]
 pub struct Done {
     pub status: Status,

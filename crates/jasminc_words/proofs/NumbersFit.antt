@@ -7,7 +7,7 @@ use Rattle.std.specs.Str.{bytes_eq}
 use Rattle.clap.specs.Words.{Row, Text, first_of, all_of, fault_of, subcommand_of}
 use Rattle.jasminc_words.specs.Commands.{jasminc_app}
 use Rattle.jasminc_words.specs.Numbers.{ItemsFit, is_numeral, numeral, has_leading_zero, number_of_word, numbers_of}
-use Rattle.jasminc_words.specs.Wanted.{Called, Wanted, compile, exec, interp, HasFit, HasNumbers, number_or, fuel_in, items_in, call_of, call_in, wanted_in, none_or, wanted_command}
+use Rattle.jasminc_words.specs.Wanted.{Called, Wanted, compile, exec, interp, disasm, HasFit, HasNumbers, number_or, fuel_in, items_in, call_of, call_in, wanted_in, none_or, wanted_command}
 
 -- ---- numbers
 below : (z : Bool) (v n : ℕ) → z ≡ nat_lt v (2 ^ 64) → (if z then Some v else None) ≡ Some n → n < 2 ^ 64
@@ -74,18 +74,23 @@ interp_fits : (o : Option Called) (wish : Wanted) → option_map interp o ≡ So
 interp_fits None wish e h = cc
 interp_fits (Some call) wish e h = let same : interp call ≡ wish = cc in subst HasNumbers same (h call refl)
 
-by_name : (a b d : Bool) (file : Option Text) (o : Option Called) (wish : Wanted)
-    → (if a then option_map compile file else (if b then option_map exec o else (if d then option_map interp o else None))) ≡ Some wish
+disasm_fits : (file : Option Text) (wish : Wanted) → option_map disasm file ≡ Some wish → HasNumbers wish
+disasm_fits None wish e = cc
+disasm_fits (Some file) wish e = let same : disasm file ≡ wish = cc in subst HasNumbers same tt
+
+by_name : (a b d f : Bool) (file : Option Text) (o : Option Called) (wish : Wanted)
+    → (if a then option_map compile file else (if b then option_map exec o else (if d then option_map interp o else (if f then option_map disasm file else None)))) ≡ Some wish
     → ((call : Called) → o ≡ Some call → HasFit call) → HasNumbers wish
-by_name true b d file o wish e h = compile_fits file wish e
-by_name false true d file o wish e h = exec_fits o wish e h
-by_name false false true file o wish e h = interp_fits o wish e h
-by_name false false false file o wish e h = cc
+by_name true b d f file o wish e h = compile_fits file wish e
+by_name false true d f file o wish e h = exec_fits o wish e h
+by_name false false true f file o wish e h = interp_fits o wish e h
+by_name false false false true file o wish e h = disasm_fits file wish e
+by_name false false false false file o wish e h = cc
 
 rows_fit : (rows : Option (Text × List Row)) (wish : Wanted) → wanted_in rows ≡ Some wish → HasNumbers wish
 rows_fit None wish e = cc
 rows_fit (Some p) wish e =
-    by_name (bytes_eq p.0 (codes "compile")) (bytes_eq p.0 (codes "exec")) (bytes_eq p.0 (codes "interp")) (first_of (codes "FILE") p.1) (call_in p.1) wish e
+    by_name (bytes_eq p.0 (codes "compile")) (bytes_eq p.0 (codes "exec")) (bytes_eq p.0 (codes "interp")) (bytes_eq p.0 (codes "disasm")) (first_of (codes "FILE") p.1) (call_in p.1) wish e
     (λ call h. call_fits p.1 call h)
 
 no_faults : {X : Type 0} (faults : List X) (o : Option Wanted) (wish : Wanted) → none_or faults o ≡ Some wish → o ≡ Some wish

@@ -1,11 +1,15 @@
 -- Words that are commands, and words that are none.
 use Rattle.std.proofs.Common.{◌≡◌, [], ◌∷◌, Some, None, refl, codes}
 use Rattle.clap.proofs.OnLiterals.{clap_on_literals}
-use Rattle.jasminc_words.specs.Wanted.{compile, exec, interp, wanted_command}
+use Rattle.jasminc_words.specs.Wanted.{compile, exec, interp, disasm, wanted_command}
 
 pub a_file : wanted_command (codes "jasminc" ∷ codes "compile" ∷ codes "a" ∷ []) ≡ Some (compile (codes "a"))
 unfolding wanted_command clap_on_literals
 a_file = refl
+
+pub a_listing : wanted_command (codes "jasminc" ∷ codes "disasm" ∷ codes "a" ∷ []) ≡ Some (disasm (codes "a"))
+unfolding wanted_command clap_on_literals
+a_listing = refl
 
 pub no_file : wanted_command (codes "jasminc" ∷ codes "compile" ∷ []) ≡ None
 unfolding wanted_command clap_on_literals

@@ -34,9 +34,9 @@ abbrev pub fuel_rule : Rule
 fuel_rule = record (new_rule (codes "fuel")) { long = Some (codes "fuel"); action = Some Set }
 
 -- ---- commands
--- `compile FILE`
-abbrev pub compile_app : App
-compile_app = with_rule (new_app (codes "compile")) (required_rule (codes "FILE"))
+-- the name, then `FILE`
+abbrev pub file_app : Text → App
+file_app name = with_rule (new_app name) (required_rule (codes "FILE"))
 
 -- the name, then `FILE FUN ITEM..`, and `--fuel N` among them
 abbrev pub run_app : Text → App
@@ -56,5 +56,6 @@ bare_app = let a = new_app (codes "jasminc") in record a {
 
 abbrev pub jasminc_app : App
 jasminc_app =
-    with_subcommand (with_subcommand (with_subcommand bare_app compile_app.top)
-    (run_app (codes "exec")).top) (run_app (codes "interp")).top
+    with_subcommand (with_subcommand (with_subcommand (with_subcommand bare_app
+    (file_app (codes "compile")).top) (run_app (codes "exec")).top) (run_app (codes "interp")).top)
+    (file_app (codes "disasm")).top

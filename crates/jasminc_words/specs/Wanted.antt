@@ -23,11 +23,13 @@ pub data Wanted : Type 0 where
   compile : List ℕ → Wanted
   exec : Called → Wanted
   interp : Called → Wanted
+  disasm : List ℕ → Wanted
 
 abbrev pub file_of : Wanted → List ℕ
 file_of (compile file) = file
 file_of (exec call) = call.file
 file_of (interp call) = call.file
+file_of (disasm file) = file
 
 abbrev pub texts_of : List (String Global) → List (List ℕ)
 texts_of words = map string_bytes words
@@ -40,6 +42,7 @@ abbrev pub wanted_of : Request → Wanted
 wanted_of (request.Compile file) = compile file.now
 wanted_of (request.Exec call) = exec (called_of call)
 wanted_of (request.Interp call) = interp (called_of call)
+wanted_of (request.Disasm file) = disasm file.now
 
 -- ---- what matches ask for
 -- without `--fuel`
@@ -66,15 +69,16 @@ call_in rows =
     call_of (first_of (codes "FILE") rows) (first_of (codes "FUN") rows) (fuel_in rows)
     (items_in rows)
 
-abbrev pub compile_in : List Row → Option Wanted
-compile_in rows = option_map compile (first_of (codes "FILE") rows)
+abbrev pub file_in : List Row → Option Text
+file_in rows = first_of (codes "FILE") rows
 
 -- by the name of the subcommand
 abbrev pub named : Text → List Row → Option Wanted
 named name rows =
-    if bytes_eq name (codes "compile") then compile_in rows
+    if bytes_eq name (codes "compile") then option_map compile (file_in rows)
     else (if bytes_eq name (codes "exec") then option_map exec (call_in rows)
-    else (if bytes_eq name (codes "interp") then option_map interp (call_in rows) else None))
+    else (if bytes_eq name (codes "interp") then option_map interp (call_in rows)
+    else (if bytes_eq name (codes "disasm") then option_map disasm (file_in rows) else None)))
 
 abbrev pub wanted_in : Option (Text × List Row) → Option Wanted
 wanted_in rows = option_and_then (λ p. named p.0 p.1) rows
@@ -99,3 +103,4 @@ abbrev pub HasNumbers : Wanted → Type 0
 HasNumbers (compile file) = ⊤
 HasNumbers (exec call) = HasFit call
 HasNumbers (interp call) = HasFit call
+HasNumbers (disasm file) = ⊤

@@ -3,7 +3,7 @@
 ghost use Rattle.std.specs.Prelude.{◌≡◌, [], IfOk};
 ghost use Rattle.clap.specs.Words.{subcommand_rows_of};
 ghost use Rattle.jasminc_words.specs.Commands.{IsArg, IsCommand, required_rule, items_rule};
-ghost use Rattle.jasminc_words.specs.Commands.{fuel_rule, compile_app, run_app, bare_app};
+ghost use Rattle.jasminc_words.specs.Commands.{fuel_rule, file_app, run_app, bare_app};
 ghost use Rattle.jasminc_words.specs.Commands.{jasminc_app};
 ghost use Rattle.jasminc_words.specs.Wanted.{texts_of};
 ghost use Rattle.jasminc_words.specs.Matching.{Matches};
@@ -40,10 +40,11 @@ fn fuel<'a>(alloc: Global) -> Arg<'a>
     Arg::new(alloc, "fuel").long("fuel").action(ArgAction::Set)
 }
 
-fn compile<'a>(alloc: Global) -> Result<Command<'a>, AllocError>
-    ensures { IfOk result (IsCommand compile_app) }
+/// A command that reads a file.
+fn of_file<'a>(alloc: Global, name: &'a str) -> Result<Command<'a>, AllocError>
+    ensures { IfOk result (IsCommand (file_app name.entry.now)) }
 {
-    Command::new(alloc, "compile").arg(required(alloc, "FILE"))
+    Command::new(alloc, name).arg(required(alloc, "FILE"))
 }
 
 /// A command that runs a function.
@@ -70,9 +71,10 @@ fn jasminc<'a>(alloc: Global) -> Result<Command<'a>, AllocError>
     ensures { IfOk result (IsCommand jasminc_app) }
 {
     let top = bare(alloc);
-    let with_compile = top.subcommand(compile(alloc)?)?;
+    let with_compile = top.subcommand(of_file(alloc, "compile")?)?;
     let with_exec = with_compile.subcommand(run(alloc, "exec")?)?;
-    with_exec.subcommand(run(alloc, "interp")?)
+    let with_interp = with_exec.subcommand(run(alloc, "interp")?)?;
+    with_interp.subcommand(of_file(alloc, "disasm")?)
 }
 
 /// There are matches exactly where no step of the command's parse fails.

@@ -3,9 +3,9 @@
 ghost use Rattle.std.specs.Prelude.{◌≡◌, IfOk, map};
 ghost use Rattle.std.specs.Option.{option_map};
 ghost use Rattle.clap.specs.Words.{rows_of, found_of, first_of, all_of, subcommand_rows_of};
-ghost use Rattle.jasminc_words.specs.Wanted.{exec, interp, file_of, texts_of, called_of, wanted_of};
-ghost use Rattle.jasminc_words.specs.Wanted.{fuel_in, items_in, call_in, compile_in, wanted_in};
-ghost use Rattle.jasminc_words.specs.Wanted.{wanted_command};
+ghost use Rattle.jasminc_words.specs.Wanted.{compile, exec, interp, disasm, file_of, texts_of};
+ghost use Rattle.jasminc_words.specs.Wanted.{called_of, wanted_of, fuel_in, items_in, call_in};
+ghost use Rattle.jasminc_words.specs.Wanted.{file_in, wanted_in, wanted_command};
 
 use crate::command::{Taken, matches_of};
 use crate::number::{number, numbers};
@@ -33,6 +33,7 @@ pub enum Request<'a> {
     Exec(Call<'a>),
     /// A run of the source.
     Interp(Call<'a>),
+    Disasm { file: &'a str },
 }
 
 impl<'a> Request<'a> {
@@ -41,7 +42,7 @@ impl<'a> Request<'a> {
         ensures { result.now ≡ file_of (wanted_of self.now) }
     {
         match self {
-            Request::Compile { file } => file,
+            Request::Compile { file } | Request::Disasm { file } => file,
             Request::Exec(call) => call.file,
             Request::Interp(call) => call.file,
         }
@@ -108,7 +109,8 @@ fn call_in<'a>(alloc: Global, inner: &ArgMatches<'a>) -> Result<Option<Call<'a>>
 }
 
 fn compile_request<'a>(inner: &ArgMatches<'a>) -> Option<Request<'a>>
-    ensures { option_map wanted_of result ≡ compile_in (rows_of (found_of inner.now)) }
+    ensures { option_map wanted_of result
+        ≡ option_map compile (file_in (rows_of (found_of inner.now))) }
 {
     let file = value(inner, "FILE")?;
     Some(Request::Compile { file })
@@ -140,6 +142,14 @@ fn interp_request<'a>(
     }
 }
 
+fn disasm_request<'a>(inner: &ArgMatches<'a>) -> Option<Request<'a>>
+    ensures { option_map wanted_of result
+        ≡ option_map disasm (file_in (rows_of (found_of inner.now))) }
+{
+    let file = value(inner, "FILE")?;
+    Some(Request::Disasm { file })
+}
+
 /// What matches ask for.
 fn asked<'a>(alloc: Global, matches: &ArgMatches<'a>) -> Result<Option<Request<'a>>, AllocError>
     ensures { IfOk result (λ request. option_map wanted_of request
@@ -149,6 +159,7 @@ fn asked<'a>(alloc: Global, matches: &ArgMatches<'a>) -> Result<Option<Request<'
         Some(("compile", inner)) => Ok(compile_request(inner)),
         Some(("exec", inner)) => exec_request(alloc, inner),
         Some(("interp", inner)) => interp_request(alloc, inner),
+        Some(("disasm", inner)) => Ok(disasm_request(inner)),
         _ => Ok(None),
     }
 }

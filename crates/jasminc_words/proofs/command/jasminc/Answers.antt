@@ -1,11 +1,12 @@
 use Rattle.std.proofs.Common.{codes}
 use Rattle.std.proofs.lemmas.Result.{IfOk-weaker}
-use Rattle.jasminc_words.specs.Commands.{bare_app, compile_app, run_app}
+use Rattle.jasminc_words.specs.Commands.{bare_app, file_app, run_app}
 use Rattle.jasminc_words.proofs.Adding.{adds}
 use Rattle.jasminc_words.proofs.command.jasminc.Goals as goal
 
 pub returns : goal.returns
 returns c =
-    let one = adds bare_app compile_app _ _ _ c.bare-top.ensures c.in_ok-compile.ensures c.in_ok-with_compile.ensures in
+    let one = adds bare_app (file_app (codes "compile")) _ _ _ c.bare-top.ensures c.in_ok-of_file.ensures c.in_ok-with_compile.ensures in
     let two = adds _ (run_app (codes "exec")) _ _ _ one c.in_ok-run.ensures c.in_ok-with_exec.ensures in
-    IfOk-weaker c.subcommand-3.result _ _ (λ r h. adds _ (run_app (codes "interp")) _ _ r two c.in_ok-run-2.ensures h) c.subcommand-3.ensures
+    let three = adds _ (run_app (codes "interp")) _ _ _ two c.in_ok-run-2.ensures c.in_ok-with_interp.ensures in
+    IfOk-weaker c.subcommand-4.result _ _ (λ r h. adds _ (file_app (codes "disasm")) _ _ r three c.in_ok-of_file-2.ensures h) c.subcommand-4.ensures

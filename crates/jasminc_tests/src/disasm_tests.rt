@@ -1,0 +1,363 @@
+//! Disassembly by the command `disasm`, of hexadecimal text and of listings, with the answers that
+//! the rules give by hand.
+
+use crate::language_tests::{EXCHANGE, MIX, SUM_AND_DIFFERENCE};
+use crate::tests::{COMPILE, Faults, NO_FAULTS, Row, SUM, answer_rows, run};
+use jasminc_top::Status;
+use std::alloc::{AllocError, Global};
+use std::test::Fail;
+
+const DISASM: &[&str] = &["jasminc", "disasm", "add.jazz"];
+
+static ROWS: [Row; 31] = [
+    Row {
+        words: DISASM,
+        text: b"488b",
+        status: Status::Undecodable,
+        written: "undecodable 0 Truncated\n",
+        made: 0,
+    },
+    Row {
+        words: DISASM,
+        text: b"06",
+        status: Status::Undecodable,
+        written: "undecodable 0 Unknown\n",
+        made: 0,
+    },
+    Row {
+        words: DISASM,
+        text: b"498b0424",
+        status: Status::Ok,
+        written: "00000000 498b0424 mov.64 rax, [r12]\n",
+        made: 0,
+    },
+    Row {
+        words: DISASM,
+        text: b"418b4500",
+        status: Status::Ok,
+        written: "00000000 418b4500 mov.32 eax, [r13]\n",
+        made: 0,
+    },
+    Row {
+        words: DISASM,
+        text: b"48f",
+        status: Status::Syntax,
+        written: "syntax BadHex 3\n",
+        made: 0,
+    },
+    Row {
+        words: DISASM,
+        text: b"48 89\tF8\r\n48 01 f0\nC3\n",
+        status: Status::Ok,
+        written: "00000000 4889f8 mov.64 rax, rdi\n00000003 4801f0 add.64 rax, rsi\n00000006 c3 ret\n",
+        made: 0,
+    },
+    Row {
+        words: DISASM,
+        text: b"",
+        status: Status::Ok,
+        written: "",
+        made: 0,
+    },
+    Row {
+        words: DISASM,
+        text: b" \t\r\n",
+        status: Status::Ok,
+        written: "",
+        made: 0,
+    },
+    Row {
+        words: DISASM,
+        text: b"4",
+        status: Status::Syntax,
+        written: "syntax BadHex 1\n",
+        made: 0,
+    },
+    Row {
+        words: DISASM,
+        text: b"48 f\n ",
+        status: Status::Syntax,
+        written: "syntax BadHex 4\n",
+        made: 0,
+    },
+    Row {
+        words: DISASM,
+        text: b"48g",
+        status: Status::Syntax,
+        written: "syntax BadHex 2\n",
+        made: 0,
+    },
+    Row {
+        words: DISASM,
+        text: b"4g8",
+        status: Status::Syntax,
+        written: "syntax BadHex 1\n",
+        made: 0,
+    },
+    Row {
+        words: DISASM,
+        text: b"0x48",
+        status: Status::Syntax,
+        written: "syntax BadHex 1\n",
+        made: 0,
+    },
+    Row {
+        words: DISASM,
+        text: b"48\x0b89f8",
+        status: Status::Syntax,
+        written: "syntax BadHex 2\n",
+        made: 0,
+    },
+    Row {
+        words: DISASM,
+        text: b"06 4g",
+        status: Status::Syntax,
+        written: "syntax BadHex 4\n",
+        made: 0,
+    },
+    Row {
+        words: DISASM,
+        text: b"4889f806",
+        status: Status::Undecodable,
+        written: "undecodable 3 Unknown\n",
+        made: 0,
+    },
+    Row {
+        words: DISASM,
+        text: b"4889f8488b",
+        status: Status::Undecodable,
+        written: "undecodable 3 Truncated\n",
+        made: 0,
+    },
+    Row {
+        words: DISASM,
+        text: b"Jasmin-listing 1\n",
+        status: Status::Syntax,
+        written: "syntax BadHex 0\n",
+        made: 0,
+    },
+    Row {
+        words: DISASM,
+        text: b" jasmin-listing 1\n",
+        status: Status::Syntax,
+        written: "syntax BadHex 1\n",
+        made: 0,
+    },
+    Row {
+        words: DISASM,
+        text: b"jasmin-listing 1\nfn add\narg x u64 rdi\narg y u64 rsi\nret r u64 rax\nframe 0\nsaved -\ninsns 3\ncode 4889f84801f0c3\ntr [] {op[] op[]} [a:@0]\nct yes\nend\n",
+        status: Status::Ok,
+        written: "fn add\n00000000 4889f8 mov.64 rax, rdi\n00000003 4801f0 add.64 rax, rsi\n00000006 c3 ret\n",
+        made: 0,
+    },
+    Row {
+        words: DISASM,
+        text: b"jasmin-listing 1\n",
+        status: Status::Ok,
+        written: "",
+        made: 0,
+    },
+    Row {
+        words: DISASM,
+        text: b"jasmin-listing 1",
+        status: Status::Syntax,
+        written: "syntax BadListing 1\n",
+        made: 0,
+    },
+    Row {
+        words: DISASM,
+        text: b"jasmin-listing 2\n",
+        status: Status::Syntax,
+        written: "syntax BadListing 1\n",
+        made: 0,
+    },
+    Row {
+        words: DISASM,
+        text: b"jasmin-listing 1\r\n",
+        status: Status::Syntax,
+        written: "syntax BadListing 1\n",
+        made: 0,
+    },
+    Row {
+        words: DISASM,
+        text: b"jasmin-listing 1\n\n",
+        status: Status::Syntax,
+        written: "syntax BadListing 2\n",
+        made: 0,
+    },
+    Row {
+        words: DISASM,
+        text: b"jasmin-listing 1\nfn one\nret r u64 rax\nframe 0\nsaved -\ninsns 2\ncode 48c7c001000000c3\ntr [] {op[]} [a:@0]\nct yes\nend\nfn take\narg x u64 rdi\narg y u64 rsi\nret r u64 rax\nframe 0\nsaved -\ninsns 3\ncode 4889f04829f8c3\ntr [] {op[] op[]} [a:@0]\nct yes\nend\n",
+        status: Status::Ok,
+        written: "fn one\n00000000 48c7c001000000 mov.64 rax, 1\n00000007 c3 ret\nfn take\n00000000 4889f0 mov.64 rax, rsi\n00000003 4829f8 sub.64 rax, rdi\n00000006 c3 ret\n",
+        made: 0,
+    },
+    Row {
+        words: DISASM,
+        text: b"jasmin-listing 1\nfn one\nret r u64 rax\nframe 0\nsaved -\ninsns 2\ncode 48c7c001000000c3\ntr [] {op[]} [a:@0]\nct yes\nend\nfn take\narg x u64 rdi\narg y u64 rsi\nret r u64 rax\nframe 0\nsaved -\ninsns 3\ncode 4889f006c3\ntr [] {op[] op[]} [a:@0]\nct yes\nend\n",
+        status: Status::Undecodable,
+        written: "undecodable 3 Unknown\n",
+        made: 0,
+    },
+    Row {
+        words: DISASM,
+        text: b"jasmin-listing 1\nfn one\nret r u64 rax\nframe 0\nsaved -\ninsns 2\ncode 48c7c0010000\ntr [] {op[]} [a:@0]\nct yes\nend\nfn take\narg x u64 rdi\narg y u64 rsi\nret r u64 rax\nframe 0\nsaved -\ninsns 3\ncode 4889f04829f8c3\ntr [] {op[] op[]} [a:@0]\nct yes\nend\n",
+        status: Status::Undecodable,
+        written: "undecodable 0 Truncated\n",
+        made: 0,
+    },
+    Row {
+        words: DISASM,
+        text: b"jasmin-listing 1\nfn one\nret r u64 rax\nframe 0\nsaved -\ninsns 2\ncode 06\ntr [] {op[]} [a:@0]\nct yes\nend\nfn take\narg x u64 rdi\narg y u64 rsi\nret r u64 rax\nframe 0\nsaved -\ninsns 3\ncode 4889f04829f8c3\ntr [] {op[] op[]} [a:@0]\nct maybe\nend\n",
+        status: Status::Syntax,
+        written: "syntax BadListing 20\n",
+        made: 0,
+    },
+    Row {
+        words: DISASM,
+        text: b"jasmin-listing 1\nfn one\nret r u64 rax\nframe 0\nsaved -\ninsns 2\ncode \ntr [] {op[]} [a:@0]\nct yes\nend\n",
+        status: Status::Ok,
+        written: "fn one\n",
+        made: 0,
+    },
+    Row {
+        words: DISASM,
+        text: b"jasmin-listing 1\nfn one\nret r u64 rax\nframe 0\nsaved -\ninsns 7\ncode 48c7c001000000c3\ntr [] {op[]} [a:@0]\nct yes\nend\n",
+        status: Status::Ok,
+        written: "fn one\n00000000 48c7c001000000 mov.64 rax, 1\n00000007 c3 ret\n",
+        made: 0,
+    },
+];
+
+#[test]
+fn texts_are_disassembled(rt: HostRuntime) -> Result<(), Fail> {
+    answer_rows(&rt, rt.alloc(), &ROWS)
+}
+
+/// The listing of `add`, and how many of its first bytes are a file, with the answer.
+const LISTING: &[u8] =
+    b"jasmin-listing 1\nfn add\narg x u64 rdi\narg y u64 rsi\nret r u64 rax\nframe 0\nsaved -\ninsns 3\ncode 4889f84801f0c3\ntr [] {op[] op[]} [a:@0]\nct yes\nend\n";
+
+static CUTS: [(usize, Status, &str); 8] = [
+    (0, Status::Ok, ""),
+    (13, Status::Syntax, "syntax BadHex 0\n"),
+    (14, Status::Syntax, "syntax BadListing 1\n"),
+    (17, Status::Ok, ""),
+    (22, Status::Syntax, "syntax BadListing 2\n"),
+    (110, Status::Syntax, "syntax BadListing 10\n"),
+    (145, Status::Syntax, "syntax BadListing 12\n"),
+    (
+        149,
+        Status::Ok,
+        "fn add\n00000000 4889f8 mov.64 rax, rdi\n00000003 4801f0 add.64 rax, rsi\n00000006 c3 ret\n",
+    ),
+];
+
+#[test]
+fn listings_are_cut(rt: HostRuntime) -> Result<(), Fail> {
+    for (length, status, written) in CUTS.iter() {
+        let text = LISTING.get(..*length).ok_or("a shorter listing")?;
+        let ran = run(rt.alloc(), DISASM, text, &NO_FAULTS)?;
+        assert!(rt; ran.status == *status, "{length}");
+        assert_eq!(rt; ran.written.as_slice(), written.as_bytes(), "{length}");
+    }
+    Ok(())
+}
+
+/// The examples that compile today, and their lines.
+static COMPILED: [(&[u8], &str); 4] = [
+    (
+        SUM,
+        "fn add\n00000000 4889f8 mov.64 rax, rdi\n00000003 4801f0 add.64 rax, rsi\n00000006 c3 ret\n",
+    ),
+    (
+        EXCHANGE,
+        "fn exchange\n00000000 4889f8 mov.64 rax, rdi\n00000003 4889f2 mov.64 rdx, rsi\n00000006 4831d0 xor.64 rax, rdx\n00000009 4831c2 xor.64 rdx, rax\n0000000c 4831d0 xor.64 rax, rdx\n0000000f c3 ret\n",
+    ),
+    (
+        MIX,
+        "fn mix\n00000000 4889f8 mov.64 rax, rdi\n00000003 4801f0 add.64 rax, rsi\n00000006 48be157c4a7fb979379e mov.64 rsi, -7046029254386353131\n00000010 4831f0 xor.64 rax, rsi\n00000013 4829ca sub.64 rdx, rcx\n00000016 4801d0 add.64 rax, rdx\n00000019 4881f095e9d15b xor.64 rax, 1540483477\n00000020 c3 ret\n",
+    ),
+    (
+        SUM_AND_DIFFERENCE,
+        "fn sum_and_difference\n00000000 4889f8 mov.64 rax, rdi\n00000003 4801f0 add.64 rax, rsi\n00000006 4889fa mov.64 rdx, rdi\n00000009 4829f2 sub.64 rdx, rsi\n0000000c c3 ret\n",
+    ),
+];
+
+#[test]
+fn what_is_compiled_is_disassembled(rt: HostRuntime) -> Result<(), Fail> {
+    for (i, (text, lines)) in COMPILED.iter().enumerate() {
+        let listed = run(rt.alloc(), COMPILE, text, &NO_FAULTS)?;
+        assert!(rt; listed.status == Status::Ok, "{i}");
+        let shown = run(rt.alloc(), DISASM, listed.written.as_slice(), &NO_FAULTS)?;
+        assert!(rt; shown.status == Status::Ok, "{i}");
+        assert_eq!(rt; shown.written.as_slice(), lines.as_bytes(), "{i}");
+    }
+    Ok(())
+}
+
+#[test]
+fn a_text_is_read_up_to_the_limit(rt: HostRuntime) -> Result<(), Fail> {
+    let alloc = rt.alloc();
+    for (length, status, written) in [
+        (1_048_576, Status::Ok, ""),
+        (1_048_577, Status::Limit, "limit Source\n"),
+    ] {
+        let text = vec![in alloc; b' '; length]?;
+        let ran = run(alloc, DISASM, text.as_slice(), &NO_FAULTS)?;
+        assert!(rt; ran.status == status);
+        assert_eq!(rt; ran.written.as_slice(), written.as_bytes());
+    }
+    Ok(())
+}
+
+#[test]
+fn a_fault_of_writing_is_told(rt: HostRuntime) -> Result<(), Fail> {
+    let faults = Faults {
+        source: &[],
+        sink: &[],
+        room: 10,
+    };
+    let ran = run(rt.alloc(), DISASM, b"c3", &faults)?;
+    assert!(rt; ran.status == Status::WriteFault);
+    assert_eq!(rt; ran.written.as_slice(), b"00000000 c".as_slice());
+    assert_eq!(rt; ran.sink_faults, 1);
+    Ok(())
+}
+
+/// A listing whose transformer nests so many times a beginning and an end.
+fn nested(alloc: Global, depth: usize, begin: &[u8], end: &[u8]) -> Result<Vec<u8>, AllocError> {
+    let mut text = Vec::from_slice(alloc, b"jasmin-listing 1\nfn f\nframe 0\n")?;
+    text.extend_from_slice(b"saved -\ninsns 1\ncode c3\ntr [] ")?;
+    for _ in 0..depth {
+        text.extend_from_slice(begin)?;
+    }
+    text.extend_from_slice(b"{}")?;
+    for _ in 0..depth {
+        text.extend_from_slice(end)?;
+    }
+    text.extend_from_slice(b" []\nct yes\nend\n")?;
+    Ok(text)
+}
+
+#[test]
+fn a_listing_nests_as_deep_as_it_is_long(rt: HostRuntime) -> Result<(), Fail> {
+    let alloc = rt.alloc();
+    for (depth, begin, end) in [
+        (70_000, b"{call([] ".as_slice(), b" [])}".as_slice()),
+        (100_000, b"{for(".as_slice(), b")}".as_slice()),
+        (50_000, b"{if([] [] {} [] ".as_slice(), b")}".as_slice()),
+        (40_000, b"{while(".as_slice(), b" [] [] {} [])}".as_slice()),
+        (40_000, b"{while({} [] [] ".as_slice(), b" [])}".as_slice()),
+    ] {
+        let text = nested(alloc, depth, begin, end)?;
+        let ran = run(alloc, DISASM, text.as_slice(), &NO_FAULTS)?;
+        assert!(rt; ran.status == Status::Ok, "{depth}");
+        assert_eq!(rt;
+            ran.written.as_slice(),
+            b"fn f\n00000000 c3 ret\n".as_slice(),
+            "{depth}"
+        );
+    }
+    Ok(())
+}
