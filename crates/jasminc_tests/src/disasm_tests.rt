@@ -311,14 +311,16 @@ fn a_text_is_read_up_to_the_limit(rt: HostRuntime) -> Result<(), Fail> {
     Ok(())
 }
 
+/// A sink with room for ten bytes.
+const TEN_BYTES: Faults = Faults {
+    source: &[],
+    sink: &[],
+    room: 10,
+};
+
 #[test]
 fn a_fault_of_writing_is_told(rt: HostRuntime) -> Result<(), Fail> {
-    let faults = Faults {
-        source: &[],
-        sink: &[],
-        room: 10,
-    };
-    let ran = run(rt.alloc(), DISASM, b"c3", &faults)?;
+    let ran = run(rt.alloc(), DISASM, b"c3", &TEN_BYTES)?;
     assert!(rt; ran.status == Status::WriteFault);
     assert_eq!(rt; ran.written.as_slice(), b"00000000 c".as_slice());
     assert_eq!(rt; ran.sink_faults, 1);
