@@ -247,7 +247,7 @@ static CUTS: [(usize, Status, &str); 8] = [
     (110, Status::Syntax, "syntax BadListing 10\n"),
     (145, Status::Syntax, "syntax BadListing 12\n"),
     (
-        149,
+        146,
         Status::Ok,
         "fn add\n00000000 4889f8 mov.64 rax, rdi\n00000003 4801f0 add.64 rax, rsi\n00000006 c3 ret\n",
     ),
