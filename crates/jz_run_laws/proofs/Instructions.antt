@@ -136,7 +136,7 @@ computed name.Mul at z args s h = two_operands (product_results z) at z args s h
 computed name.Div at z args s h = division_operands at z args s h
 computed name.Setcc at z args s h = condition_operand at args s
 
-sized_fit : (i : Intrinsic) (at : Span) (z : Option Size) (args : List Expr) (s : State) → StateFits s → IfWent ResultsFit (sized_results i at z args s)
+pub sized_fit : (i : Intrinsic) (at : Span) (z : Option Size) (args : List Expr) (s : State) → StateFits s → IfWent ResultsFit (sized_results i at z args s)
 sized_fit i at None args s h = tt
 sized_fit i at (Some z) args s h = computed i at z args s h
 

@@ -47,7 +47,7 @@ number_at (place.word y) i h = tt
 number_at (place.stated y) i h = tt
 number_at place.unsized i h = tt
 
-no_bool : (p : Place) (c : Bool) → TakesNumber p → IsAt p (boolean c) → ⊥
+pub no_bool : (p : Place) (c : Bool) → TakesNumber p → IsAt p (boolean c) → ⊥
 no_bool place.integer c k h = h
 no_bool place.truth c k h = k
 no_bool (place.word y) c k h = h

@@ -74,7 +74,7 @@ use Rattle.jz_stuck_runs.proofs.Expressions.{HasKept, counted_of, after, word_fi
 use Rattle.jz_stuck_runs.proofs.LeftSides.{IsLeft, counted_left, fine_holds, fine_flag, fine_unset, IsFine, AreFine, LaterLacks, all_fine}
 use Rattle.jz_stuck_runs.proofs.Assigning.{both_went}
 use Rattle.jz_stuck_runs.proofs.Results.{ResultOf, AreOf, value_size, given_of}
-use Rattle.jz_stuck_runs.proofs.Fitting.{sized_fit}
+use Rattle.jz_run_laws.proofs.Instructions.{sized_fit}
 use Rattle.jz_stuck_runs.proofs.RowSizes.{Typed, named_fits, sized}
 
 -- ---- operands

@@ -12,7 +12,6 @@ pub mod RowPairs
 pub mod Pairs
 pub mod Assignments
 pub mod Results
-pub mod Fitting
 pub mod RowSizes
 pub mod Instructing
 pub mod Whole

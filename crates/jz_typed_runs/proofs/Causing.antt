@@ -50,8 +50,8 @@ use Rattle.jz_run_laws.proofs.OperatorsInPlaces.{is_arith, is_compare, is_moved}
 use Rattle.jz_run_laws.proofs.InPlaces.{in_place}
 use Rattle.jz_typed_runs.specs.Causes.{IsCell, ReadsUnset, IsPart, StandsWithin, itself, in_part, Computes, HasNumber, HasNoValue, IsCaused, CauseLaw}
 use Rattle.jz_typed_runs.specs.Causes as causes
-use Rattle.jz_typed_runs.proofs.OperatorCauses.{IfStuck, size_fits, is_logic, arith_fine, carry_fine, shift_fine, integers_fine, words_compare, logic_fine, plain_fine, moved_fine, negated_fine, cast_fine}
-use Rattle.jz_typed_runs.proofs.Wanted.{facts_of, still_wanted, own_unsized, own_truth, plain_right, shift_right, left_of_word, no_size, moved_size, either_says, left_of_words}
+use Rattle.jz_typed_runs.proofs.OperatorCauses.{IfStuck, size_fits, arith_fine, carry_fine, shift_fine, integers_fine, words_compare, logic_fine, plain_fine, moved_fine, negated_fine, cast_fine}
+use Rattle.jz_run_laws.proofs.InPlaces.{facts_of, is_logic, still_wanted, own_unsized, own_truth, plain_right, shift_right, left_of_word, no_size, moved_size, either_says, left_of_words}
 
 -- ---- one after another
 pub stuck_first : {A : Type 0} (C : code.Stuck → Type 0) (ns : List ℕ) (g : Evaluation A) → IfStuck C g → IfStuck C (numbers_first ns g)

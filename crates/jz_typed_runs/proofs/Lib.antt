@@ -10,7 +10,6 @@ pub mod Numbers
 pub mod InlineExact
 pub mod Stopping
 pub mod Ending
-pub mod Wanted
 pub mod OperatorCauses
 pub mod Causing
 pub mod ReachedCauses

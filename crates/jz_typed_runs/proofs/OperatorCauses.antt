@@ -11,8 +11,6 @@ use Rattle.jz_tree.specs.declared.expr.BinOp.{BinOp}
 use Rattle.jz_tree.specs.declared.expr.BinOp.TheVariants as o
 use Rattle.jz_integers.specs.Integers as numbers
 use Rattle.jz_integers.specs.Integers.{on_integers}
-use Rattle.jz_type_sizes.specs.declared.operators.Group.{Group}
-use Rattle.jz_type_sizes.specs.declared.operators.Group.TheVariants as group
 use Rattle.jz_type_sizes.specs.Operators.{group_of}
 use Rattle.jz_judgement.specs.Places.{Place, TakesNumber, TakesCarry, IsSum, count_place}
 use Rattle.jz_judgement.specs.Places as place
@@ -23,7 +21,8 @@ use Rattle.jz_meaning.specs.Attempts.{Evaluation, stuck_at, defined}
 use Rattle.jz_meaning.specs.States.{Value, word, boolean, integer}
 use Rattle.jz_meaning.specs.Operators.{of_constant, same_size, is_least_by_minus_one, on_words, by_flag, shifted_word, combined, shifted, binary, negated, cast}
 use Rattle.jz_run_laws.specs.Values.{IsAt}
-use Rattle.jz_run_laws.proofs.OperatorsInPlaces.{is_arith, is_compare, is_moved}
+use Rattle.jz_run_laws.proofs.OperatorsInPlaces.{no_bool, is_arith, is_compare, is_moved}
+use Rattle.jz_run_laws.proofs.InPlaces.{is_logic}
 
 -- what is said of why something is stuck
 abbrev pub IfStuck : {A : Type 0} → (code.Stuck → Type 0) → Evaluation A → Type 0
@@ -47,13 +46,6 @@ same_at (place.word q) s z a b x y = size_fits s z (y ∙ sym x)
 same_at (place.stated q) s z a b x y = size_fits s z (y ∙ sym x)
 same_at place.unsized s z a b x y = absurd x
 
-pub no_bool : (p : Place) (c : Bool) → TakesNumber p → IsAt p (boolean c) → ⊥
-no_bool place.integer c k h = h
-no_bool place.truth c k h = k
-no_bool (place.word y) c k h = h
-no_bool (place.stated y) c k h = h
-no_bool place.unsized c k h = h
-
 no_carried : (p : Place) (c : Bool) → TakesCarry p → IsAt p (boolean c) → ⊥
 no_carried place.integer c k h = h
 no_carried place.truth c k h = k
@@ -67,10 +59,6 @@ no_count place.truth c h = h
 no_count (place.word y) c h = h
 no_count (place.stated y) c h = h
 no_count place.unsized c h = h
-
-abbrev pub is_logic : Group → Bool
-is_logic group.Logic = true
-is_logic _ = false
 
 logic_joins : (op : BinOp) → is_logic (group_of op) ≡ true → joins op ≡ true
 logic_joins o.OrElse g = refl
