@@ -1,17 +1,16 @@
 -- BadAnnotation and ExportShape: what stands before an export function, and its parameters and
 -- results.
-use Rattle.std.specs.Prelude.{Bool, true, false, not, ◌&&◌, ◌||◌, nat_le, if◌then◌else◌, List, [], length, flat_map, codes, Some}
+use Rattle.std.specs.Prelude.{Bool, true, false, not, ◌&&◌, ◌||◌, nat_le, if◌then◌else◌, List, [], length, Some}
 use Rattle.std.specs.List.{list_all}
-use Rattle.std.specs.Str.{bytes_eq}
 use Rattle.jz_tree.specs.Span.{Span}
 use Rattle.jz_tree.specs.declared.program.FunKind.{FunKind}
 use Rattle.jz_tree.specs.declared.program.FunKind.TheVariants as kind
 use Rattle.jz_tree.specs.declared.program.Fun.{Fun}
-use Rattle.jz_tree.specs.declared.program.Note.{Note}
 use Rattle.jz_tree.specs.declared.program.Param.{Param}
 use Rattle.jz_tree.specs.declared.program.Ret.{Ret}
 use Rattle.jz_type_names.specs.Order.{unless}
 use Rattle.jz_type_names.specs.Kinds.{declared_of, known_of, is_register_word}
+use Rattle.jz_preconditions.specs.Refusals.{refused_places}
 
 abbrev pub is_exported : FunKind → Bool
 is_exported kind.Inline = false
@@ -32,12 +31,6 @@ has_shape f =
 abbrev pub misshapen_places : Fun → List Span
 misshapen_places f = unless (not (is_exported f.kind) || has_shape f) f.span
 
--- ---- BadAnnotation: no entry before an export function is a precondition
-abbrev pub is_precondition : Note → Bool
-is_precondition n = bytes_eq n.name (codes "region") || bytes_eq n.name (codes "range") || bytes_eq n.name (codes "align")
-
-abbrev pub annotated_by : Note → List Span
-annotated_by n = unless (not (is_precondition n)) n.span
-
+-- ---- BadAnnotation: a precondition before an export function that is refused
 abbrev pub annotated_places : Fun → List Span
-annotated_places f = if is_exported f.kind then flat_map annotated_by f.notes else []
+annotated_places f = if is_exported f.kind then refused_places f else []

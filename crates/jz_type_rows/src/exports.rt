@@ -2,13 +2,14 @@
 
 ghost use Rattle.std.specs.Prelude.{◌≡◌};
 ghost use Rattle.std.specs.List.{list_all};
-ghost use Rattle.jz_type_names.specs.Order.{earliest, first_in};
+ghost use Rattle.jz_type_names.specs.Order.{earliest, FindsEarliest};
 ghost use Rattle.jz_type_rows.specs.Exports.{is_exported, is_word_param, is_word_result, has_shape};
-ghost use Rattle.jz_type_rows.specs.Exports.{misshapen_places, is_precondition, annotated_by};
-ghost use Rattle.jz_type_rows.specs.Exports.{annotated_places};
+ghost use Rattle.jz_type_rows.specs.Exports.{misshapen_places, annotated_places};
 
-use jz_tree::{Fun, FunKind, Note, Param, Ret, Seq, Span};
-use jz_type_names::{declaration, earlier_of, is_register_word, known, unless};
+use jz_preconditions::refused;
+use jz_tree::{Fun, FunKind, Param, Ret, Seq, Span};
+use jz_type_names::{declaration, is_register_word, known, unless};
+use std::alloc::{AllocError, Global};
 
 pub(crate) fn is_exported(kind: FunKind) -> bool
     ensures { result ≡ is_exported kind }
@@ -58,37 +59,15 @@ pub fn misshapen(fun: &Fun) -> Option<Span>
     unless(!is_exported(fun.kind) || has_shape(fun), fun.span)
 }
 
-fn is_precondition(note: &Note) -> bool
-    ensures { result ≡ is_precondition note.now }
-{
-    let name = note.name.as_str();
-    name == "region" || name == "range" || name == "align"
-}
-
-fn annotated_by(note: &Note) -> Option<Span>
-    ensures { result ≡ earliest (annotated_by note.now) }
-{
-    unless(!is_precondition(note), note.span)
-}
-
-fn annotated_among(notes: &Seq<Note>) -> Option<Span>
-    ensures { result ≡ first_in annotated_by notes.now }
-{
-    let mut first = None;
-    for note in notes.as_slice() {
-        first = earlier_of(first, annotated_by(note));
-    }
-    first
-}
-
-/// The first entry before an export function that is a precondition; no entry is read as one yet.
-#[tactic(auto, using(jz_type_names::proofs::Earliest::joining))]
-pub fn annotated(fun: &Fun) -> Option<Span>
-    ensures { result ≡ earliest (annotated_places fun.now) }
+/// The first annotation before an export function that is refused: one that is no precondition in
+/// its shape, or asks what no argument can meet.
+pub fn annotated(alloc: Global, fun: &Fun) -> Result<Option<Span>, AllocError>
+    ensures { FindsEarliest result (annotated_places fun.now) }
 {
     if is_exported(fun.kind) {
-        annotated_among(&fun.notes)
+        let first = refused(alloc, fun)?;
+        Ok(first)
     } else {
-        None
+        Ok(None)
     }
 }

@@ -110,12 +110,14 @@ export fn p1(stack u64 x) { }~export fn p2(stack u64 x) { } => type 9 ExportShap
 export fn f(reg u64 a b c d e g h) { f(a, b, c, d, e, g, h); } => type 5 Recursion 1:11
 export fn t3(reg u64 a b c) -> reg u64, reg u64, reg u64 { return a, b, c; } => type 9 ExportShape 1:11
 export fn m7(reg u64 a b c d e g h) -> reg u64 { } => type 3 Mismatch 1:11
-#[region=\"p: 8\"]~export fn f(reg u64 p) { } => type 8 BadAnnotation 1:1
-#[range=\"x: 0..1\"]~#[align=\"x: 8\"]~export fn f(reg u64 x) { } => type 8 BadAnnotation 1:1
-#[size=\"8\"]~#[align=\"x: 8\"]~export fn f(reg u64 x) { } => type 8 BadAnnotation 2:1
+#[region=\"p: 8\"]~export fn f(reg u64 p) { } => typed
+#[range=\"x: 1..7\"]~#[align=\"x: 8\"]~export fn f(reg u64 x) { } => type 8 BadAnnotation 1:1
+#[size=\"8\"]~#[align=\"x: 3\"]~export fn f(reg u64 x) { } => type 8 BadAnnotation 2:1
+#[range=\"y: 9..1\"]~export fn f(reg u64 y) { } => type 8 BadAnnotation 1:1
+#[region=\"p: 8*len\"]~#[range=\"len: 0..1024\"]~#[align=\"p: 8\"]~export fn f(reg u64 p len) { } => typed
 #[region=\"p: 8\"]~inline fn f(reg u64 p) { } => typed
 #[regions=\"p: 8\"]~export fn f(reg u64 p) { } => typed
-inline fn g(reg u64 x x) { }~#[range=\"x: 0..1\"]~export fn f(reg u64 x) { } => type 2 Duplicate 1:23
+inline fn g(reg u64 x x) { }~#[range=\"x: 9..1\"]~export fn f(reg u64 x) { } => type 2 Duplicate 1:23
 inline fn f(reg u64[4] a, reg u64 i) { reg u64 r; r = a[i]; } => type 10 RegIndex 1:57
 inline fn f(reg u64[4] a, reg u64 i j) -> reg u64[4] { a[i] = a[j]; return a; } => type 10 RegIndex 1:58
 inline fn f(reg u64[4] a, reg u64 i) -> reg u64[4] { if i == 0 { a[1 + i] = 2; } return a; } => type 10 RegIndex 1:68

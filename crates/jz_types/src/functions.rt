@@ -83,11 +83,12 @@ pub(crate) fn text_of_functions(
         let unknown = unknown_in_fun(alloc, constants, functions, fun)?;
         let repeated = repeated_in_fun(alloc, fun)?;
         let mismatched = lengths_fault(alloc, lengths, constants, fun)?;
+        let annotated = annotated(alloc, fun)?;
         first = OfText {
             unknown: earlier_of(first.unknown, unknown),
             repeated: earlier_of(first.repeated, repeated),
             mismatched: earlier_of(first.mismatched, mismatched),
-            annotated: earlier_of(first.annotated, annotated(fun)),
+            annotated: earlier_of(first.annotated, annotated),
             misshapen: earlier_of(first.misshapen, misshapen(fun)),
         };
     }

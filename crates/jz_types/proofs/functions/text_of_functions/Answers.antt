@@ -24,6 +24,6 @@ loop-fun-preserved c =
       first_more (unknown_with places functions) funs i fun first.unknown _ _ _ within is c.in_ok-unknown.ensures c.earlier_of.ensures.is held.0,
       first_more repeated_in_fun funs i fun first.repeated _ _ _ within is c.in_ok-repeated.ensures c.earlier_of-in-loop-fun.ensures.is held.1,
       first_more (fun_lengths places length) funs i fun first.mismatched _ _ _ within is c.in_ok-mismatched.ensures c.earlier_of-in-loop-fun-2.ensures.is held.2,
-      first_more annotated_places funs i fun first.annotated _ _ _ within is c.annotated.ensures c.earlier_of-in-loop-fun-3.ensures.is held.3,
+      first_more annotated_places funs i fun first.annotated _ _ _ within is c.in_ok-annotated.ensures c.earlier_of-in-loop-fun-3.ensures.is held.3,
       first_more misshapen_places funs i fun first.misshapen _ _ _ within is c.misshapen.ensures c.earlier_of-in-loop-fun-4.ensures.is held.4,
     )
