@@ -1,8 +1,8 @@
 -- What is added behind statements that are there, form by form.
-use Rattle.std.proofs.Common.{◌≡◌, ℕ, List, [], ◌∷◌, ◌++◌, map, length, take, get_or, ◌<◌, ◌+◌, Option, Some, None, Bool, true, false, refl, ap, sym, ◌∙◌, subst, append-nil, append_assoc}
-use Rattle.std.specs.Prelude.{ℤ, ◌&&◌, ◌||◌, not, option_map, if◌then◌else◌}
+use Rattle.std.proofs.Common.{◌≡◌, ℕ, List, [], ◌∷◌, ◌++◌, map, length, take, get_or, ◌<◌, ◌+◌, Option, Some, None, Bool, true, false, refl, ap, sym, ◌∙◌, subst, arith, append-nil, append_assoc}
+use Rattle.std.specs.Prelude.{ℤ, ◌&&◌, ◌||◌, not, is_some, option_map, if◌then◌else◌}
 use Rattle.std.specs.List.{list_all}
-use Rattle.std.proofs.lemmas.Bool.{and_from}
+use Rattle.std.proofs.lemmas.Bool.{and_parts, and_from}
 use Rattle.jz_tree.specs.Span.{Span}
 use Rattle.jz_tree.specs.Operators.{carries}
 use Rattle.jz_tree.specs.declared.expr.BinOp.{BinOp}
@@ -18,24 +18,26 @@ use Rattle.jz_tree.specs.declared.stmt.Stmt.{Stmt}
 use Rattle.jz_tree.specs.declared.stmt.StmtKind.TheVariants as kind
 use Rattle.jz_type_names.specs.Kinds.{is_inline}
 use Rattle.jz_integers.specs.Integers.{KnownNumbers}
-use Rattle.jz_meaning.specs.Trees.{op, quiet}
+use Rattle.jz_meaning.specs.Trees.{done, op, quiet, choose, loop, each}
 use Rattle.jz_meaning.specs.Assignments.{as_expr, last_left, left_span, whole_of, updated, updated_layer, is_flag, Layer}
 use Rattle.jz_meaning.specs.Runs.{block, statement_tree}
 use Rattle.jz_meaning.specs.Statements.{Operation, assign, instruction, unset, Block}
 use Rattle.jz_meaning.specs.Values.{ref_of}
+use Rattle.jz_interp.specs.InnerParts.{body_piece}
 use Rattle.jz_interp.proofs.Pieces.{assign_is}
 use Rattle.jz_change.specs.declared.change.Numbers.TheVariants.{Same}
 use Rattle.jz_change.specs.declared.change.Step.{Step}
 use Rattle.jz_change.specs.declared.change.Step.TheVariants as step
 use Rattle.jz_unroll.specs.Values.{with_values, left_with_values, operation_with_values, InlineNames, has_values, left_has_values, if_has_values, splits, is_split, operation_has_values}
-use Rattle.jz_unroll.specs.Unrolling.{all_unknown, ConditionIs, IsInlineInt, UnrollsOp, stays, vanishes, marked_vars, marked}
+use Rattle.jz_unroll.specs.Unrolling.{with_number, all_unknown, ConditionIs, IsInlineInt, UnrollsOp, stays, vanishes, marked_vars, marked, unrolling}
 use Rattle.jz_unroll.proofs.InlineParts.{inline_bin}
 use Rattle.jz_unroll.proofs.Parts.{and_first_false, left_read, IfReadLeft, last_known}
 use Rattle.jz_unrolling.specs.declared.known.Known.{Known}
 use Rattle.jz_unrolling.specs.Numbers.{numbers_in, with_number_at, Sets, SetsIf, Went}
 use Rattle.jz_unrolling.specs.Parts.{HasWhole, StandsApart}
-use Rattle.jz_unrolling.specs.Steps.{no_callees, one_item, Becomes, Adds, AddsStep}
+use Rattle.jz_unrolling.specs.Steps.{no_callees, one_item, Becomes, FitsOn, Adds, AddsStep, step_list, AddsOne}
 use Rattle.jz_unrolling.proofs.Becoming.{block_append, nothing_becomes, both_become, op_becomes, gone_becomes, mark_becomes}
+use Rattle.jz_unrolling.proofs.FitLemmas.{on_both, stays_on, gone_on, mark_on}
 use Rattle.jz_unrolling.proofs.NumberLemmas.{went_none, went_set, went_then}
 use Rattle.jz_unrolling.proofs.PartLemmas.{ref_name, ref_copy}
 use Rattle.std.proofs.lemmas.List.{take_more}
@@ -44,13 +46,14 @@ module _ (names : InlineNames) where
   -- ---- one after another
 
   pub adds_none : (k : Known) (out : List Stmt) → Adds names (block no_callees []) k k out out []
-  adds_none k out = record { made = []; added = sym (append-nil out); becomes = nothing_becomes names (numbers_in k); went = went_none k }
+  adds_none k out = record { made = []; added = sym (append-nil out); becomes = nothing_becomes names (numbers_in k); only = λ t e2 h. h; went = went_none k }
 
   pub adds_both : (f g : Block → Block) (a b c : Known) (o1 o2 o3 : List Stmt) (xs ys : List Step) → Adds names f a b o1 o2 xs → Adds names g b c o2 o3 ys → Adds names (λ t. f (g t)) a c o1 o3 (xs ++ ys)
   adds_both f g a b c o1 o2 o3 xs ys p q = record {
     made = p.made ++ q.made;
     added = q.added ∙ ap (λ l. l ++ q.made) p.added ∙ append_assoc o1 p.made q.made;
     becomes = both_become names f g (numbers_in a) (numbers_in b) (numbers_in c) p.made q.made xs ys p.becomes q.becomes;
+    only = on_both names f g (numbers_in a) (numbers_in b) (numbers_in c) p.only q.only;
     went = went_then a b c p.went q.went;
   }
 
@@ -82,6 +85,7 @@ module _ (names : InlineNames) where
     made = s ∷ [];
     added = add;
     becomes = op_becomes names o o2 (numbers_in k) s (subst (λ x. UnrollsOp names o (numbers_in k) (x ∷ []) (Same ∷ []) (numbers_in k)) (sym q) (stays ok)) tree;
+    only = stays_on names o (numbers_in k) ok;
     went = went_none k;
   }
 
@@ -159,20 +163,24 @@ module _ (names : InlineNames) where
 
   -- ---- what vanishes
 
-  gone_adds : (o : Operation) (old new : Known) (out : List Stmt) → UnrollsOp names o (numbers_in old) [] [] (numbers_in new) → Went old new → AddsStep names (op o) old new out out (step.Ops [])
-  gone_adds o old new out rule w = record { made = []; added = sym (append-nil out); becomes = gone_becomes names o (numbers_in old) (numbers_in new) rule; went = w }
+  gone_adds : (o : Operation) (old new : Known) (out : List Stmt) → UnrollsOp names o (numbers_in old) [] [] (numbers_in new) → FitsOn names (op o) (numbers_in old) (numbers_in new) → Went old new → AddsStep names (op o) old new out out (step.Ops [])
+  gone_adds o old new out rule only w = record { made = []; added = sym (append-nil out); becomes = gone_becomes names o (numbers_in old) (numbers_in new) rule; only = only; went = w }
 
   pub set_adds : (v : Var) (o : Option BinOp) (x : Expr) (c : Option Expr) (at : Span) (n : ℤ) (old new : Known) (out : List Stmt) (m : List ℕ) (d : ℕ) → IsInlineInt names v → HasWhole (numbers_in old) v o x n → ConditionIs (numbers_in old) v c true → m ≡ (ref_of v).name → d ≡ (ref_of v).copy → Sets old new m d (Some n)
       → AddsStep names (op (assign (lval.Var v ∷ []) o x c at)) old new out out (step.Ops [])
   set_adds v o x c at n old new out m d inline whole cond p q sets =
+      let e = numbers_in old in
+      let is : numbers_in new ≡ with_number e v (Some n) = sets.numbers ∙ ap (λ y. with_number_at e y d (Some n)) p ∙ ap (λ y. with_number_at e (ref_of v).name y (Some n)) q in
       gone_adds (assign (lval.Var v ∷ []) o x c at) old new out
-      (subst (λ e. UnrollsOp names (assign (lval.Var v ∷ []) o x c at) (numbers_in old) [] [] e) (sym (sets.numbers ∙ ap (λ y. with_number_at (numbers_in old) y d (Some n)) p ∙ ap (λ y. with_number_at (numbers_in old) (ref_of v).name y (Some n)) q)) (vanishes true inline whole.1 whole.2 cond))
+      (subst (λ k. UnrollsOp names (assign (lval.Var v ∷ []) o x c at) e [] [] k) (sym is) (vanishes true inline whole.1 whole.2 cond))
+      (gone_on names v o x c at e (numbers_in new) n true inline.named whole cond (sym is))
       (went_set old new m d (Some n) sets)
 
   pub unset_adds : (v : Var) (o : Option BinOp) (x : Expr) (c : Option Expr) (at : Span) (n : ℤ) (old : Known) (out : List Stmt) → IsInlineInt names v → HasWhole (numbers_in old) v o x n → ConditionIs (numbers_in old) v c false
       → AddsStep names (op (assign (lval.Var v ∷ []) o x c at)) old old out out (step.Ops [])
   unset_adds v o x c at n old out inline whole cond =
-      gone_adds (assign (lval.Var v ∷ []) o x c at) old old out (vanishes false inline whole.1 whole.2 cond) (went_none old)
+      gone_adds (assign (lval.Var v ∷ []) o x c at) old old out (vanishes false inline whole.1 whole.2 cond)
+      (gone_on names v o x c at (numbers_in old) (numbers_in old) n false inline.named whole cond refl) (went_none old)
 
   pub number_adds : (v : Var) (o : Option BinOp) (x : Expr) (c : Option Expr) (at : Span) (n : ℤ) (old new : Known) (out : List Stmt) (b : Bool) → IsInlineInt names v → HasWhole (numbers_in old) v o x n → ConditionIs (numbers_in old) v c b → SetsIf b old new v n
       → AddsStep names (op (assign (lval.Var v ∷ []) o x c at)) old new out out (step.Ops [])
@@ -191,5 +199,6 @@ module _ (names : InlineNames) where
     becomes =
         subst (λ e. Becomes names (quiet (unset vs)) (numbers_in old) (s ∷ []) e []) (sym q)
         (mark_becomes names vs (marked_vars names vs) (numbers_in old) (all_unknown (numbers_in old) vs) s marked (is ∙ ap kind.Mark p));
+    only = subst (λ e. FitsOn names (quiet (unset vs)) (numbers_in old) e) (sym q) (mark_on names vs (numbers_in old));
     went = w;
   }

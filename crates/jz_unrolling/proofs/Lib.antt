@@ -1,6 +1,8 @@
 pub mod PartLemmas
 pub mod NumberLemmas
 pub mod Becoming
+pub mod FitLemmas
+pub mod RefusalLemmas
 pub mod RoundLemmas
 pub mod AddLemmas
 pub mod FormLemmas

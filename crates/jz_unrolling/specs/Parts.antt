@@ -1,5 +1,5 @@
 -- What an expression and its parts become.
-use Rattle.std.specs.Prelude.{ℤ, ◌≡◌, true, false, List, [], ◌∷◌, Option, Some, None, ⊤}
+use Rattle.std.specs.Prelude.{ℤ, ◌≡◌, ◌&&◌, Bool, true, false, is_none, List, [], ◌∷◌, Option, Some, None, ⊤}
 use Rattle.jz_tree.specs.Span.{Span}
 use Rattle.jz_tree.specs.declared.expr.BinOp.{BinOp}
 use Rattle.jz_tree.specs.declared.expr.Expr.{Expr}
@@ -15,7 +15,8 @@ use Rattle.jz_integers.specs.Integers.{KnownNumbers, number, joined, inline_valu
 use Rattle.jz_integers.specs.declared.constant.Constant.{Constant}
 use Rattle.jz_integers.specs.declared.constant.Constant.TheVariants as constant
 use Rattle.jz_meaning.specs.Assignments.{whole_of}
-use Rattle.jz_unroll.specs.Values.{InlineNames, has_no_cell, with_values, has_values, is_split}
+use Rattle.jz_meaning.specs.Values.{ref_of}
+use Rattle.jz_unroll.specs.Values.{InlineNames, is_inline_var, is_int, has_no_cell, with_values, has_values, is_split}
 use Rattle.jz_unroll.specs.Unrolling.{HasValue}
 use Rattle.jz_unrolling.specs.declared.conditions.Test.{Test}
 use Rattle.jz_unrolling.specs.declared.conditions.Test.TheVariants.{Always, Asked}
@@ -57,6 +58,11 @@ module _ (names : InlineNames) (e : KnownNumbers) where
   IsTest x (Always z at) =
       (is_inline x ≡ true) × HasValue e x (constant.Bool z) × (at ≡ span_of x)
   IsTest x (Asked y) = IsPlainPart x y
+
+-- an inline variable as a whole, and an integer
+abbrev pub is_number : InlineNames → Var → Bool
+is_number names v =
+    is_none (ref_of v).cell && (is_int (ref_of v).kind && is_inline_var names v)
 
 -- a value, or that of an operation on the variable and it
 abbrev pub updated_value :

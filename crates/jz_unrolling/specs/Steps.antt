@@ -1,5 +1,5 @@
 -- What statements become, before whatever follows, with the steps of the change.
-use Rattle.std.specs.Prelude.{◌≡◌, Bool, false, not, is_some, List, [], ◌∷◌, ◌++◌, map, Option, Some, None}
+use Rattle.std.specs.Prelude.{ℤ, ◌≡◌, Bool, false, not, is_some, List, [], ◌∷◌, ◌++◌, map, Option, Some, None}
 use Rattle.jz_tree.specs.Span.{Span}
 use Rattle.jz_tree.specs.declared.expr.Expr.{Expr}
 use Rattle.jz_tree.specs.declared.expr.Var.{Var}
@@ -30,6 +30,7 @@ use Rattle.jz_unrolling.specs.declared.statements.LoopTest.TheVariants.{Once, As
 use Rattle.jz_unrolling.specs.declared.statements.Rounds.{Rounds}
 use Rattle.jz_unrolling.specs.declared.statements.Turn.{Turn}
 use Rattle.jz_unrolling.specs.declared.statements.Turns.{Turns}
+use Rattle.jz_unrolling.specs.Fits.{Fits, FitsEach}
 use Rattle.jz_unrolling.specs.Numbers.{numbers_in, undone, Went}
 
 -- ---- trees of statements
@@ -79,13 +80,17 @@ for_of r from to at body =
 
 module _ (names : InlineNames) where
   -- a piece of a tree, where e is known, becomes these statements; e1 is known behind it
-  abbrev pub Becomes :
-      (Block → Block) → KnownNumbers → List Stmt → KnownNumbers → List Step → Type 0
+  abbrev pub Becomes : (Block → Block) → KnownNumbers → List Stmt → KnownNumbers → List Step → Type 0
   Becomes piece e made e1 steps =
       (t rest u : Block) (e2 : KnownNumbers) (k : model.Change)
       → Unrolls (unrolling names) t e1 rest u e2 k
       → Unrolls (unrolling names) (piece t) e rest (block no_callees made u) e2
       (chain (map then_step steps) k)
+
+  -- what fits, with this piece in front, fits behind it, where e1 is known
+  abbrev pub FitsOn : (Block → Block) → KnownNumbers → KnownNumbers → Type 0
+  FitsOn piece e e1 =
+      (t : Block) (e2 : KnownNumbers) → Fits names (piece t) e e2 → Fits names t e1 e2
 
   -- behind what is there
   pub record Adds (piece : Block → Block) (old new : Known) (before behind : List Stmt)
@@ -93,6 +98,7 @@ module _ (names : InlineNames) where
     pub made : List Stmt
     pub added : behind ≡ before ++ made
     pub becomes : Becomes piece (numbers_in old) made (numbers_in new) steps
+    pub only : FitsOn piece (numbers_in old) (numbers_in new)
     pub went : Went old new
 
   abbrev pub AddsStep :
@@ -108,6 +114,7 @@ module _ (names : InlineNames) where
     pub behind : KnownNumbers
     pub becomes :
         Becomes (block no_callees ss) (numbers_in old) made.statements behind made.steps
+    pub only : FitsOn (block no_callees ss) (numbers_in old) behind
     pub less : KnowsLess (numbers_in old) behind
     pub same : IsSame old new
 
@@ -120,6 +127,7 @@ module _ (names : InlineNames) where
     pub becomes :
         Becomes (body_piece no_callees body) (numbers_in old) (list_or made.body) behind
         made.steps
+    pub only : FitsOn (body_piece no_callees body) (numbers_in old) behind
     pub less : KnowsLess (numbers_in old) behind
     pub same : IsSame old new
 
@@ -136,6 +144,7 @@ module _ (names : InlineNames) where
     pub becomes :
         Becomes (block no_callees q) e head.prologue.statements (numbers_in old)
         head.prologue.steps
+    pub only : FitsOn (block no_callees q) e (numbers_in old)
     pub back : undone old.changed.items (numbers_in old) ≡ e
     pub test :
         UnrollsLoopTest names (record { cond = c; at = at }) (numbers_in old) [] []
@@ -147,6 +156,7 @@ module _ (names : InlineNames) where
     pub made : List Stmt
     pub added : after ≡ before ++ made
     pub becomes : Becomes piece e made e (s ∷ [])
+    pub only : FitsOn piece e e
     pub numbers : numbers_in new ≡ e
     pub changed : new.changed.items ≡ outer
 

@@ -1,9 +1,10 @@
 //! Conditions, of which those that are inline have one answer.
 
-ghost use Rattle.std.specs.Prelude.{IfOk};
+ghost use Rattle.jz_tree.specs.Failures.{IfAnswered};
 ghost use Rattle.jz_unrolling.specs.InlineNames.{names_in};
 ghost use Rattle.jz_unrolling.specs.Numbers.{numbers_in};
 ghost use Rattle.jz_unrolling.specs.Parts.{IsTest};
+ghost use Rattle.jz_unrolling.specs.Refusals.{OrElse, NeverTests};
 
 use crate::expressions::{Values, part_of};
 use crate::parts::Part;
@@ -21,8 +22,9 @@ pub(crate) enum Test {
 
 /// The condition as it is where these numbers are known. Refused where it has no answer.
 pub(crate) fn test_of(values: &Values<'_>, cond: &Expr) -> Result<Test, Failure<Span>>
-    ensures { IfOk result (λ test. IsTest (names_in values.now.vars.now)
-        (numbers_in values.now.known.now) cond.now test) }
+    ensures { let names = names_in values.now.vars.now in
+        let e = numbers_in values.now.known.now in
+        IfAnswered result (OrElse (IsTest names e cond.now) (NeverTests names e cond.now)) }
 {
     match part_of(values, cond)? {
         Part::Inline(Some(Constant::Bool(answer)), span) => Ok(Test::Always(answer, span)),

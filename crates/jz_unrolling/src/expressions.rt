@@ -14,7 +14,9 @@ ghost use Rattle.jz_unroll.specs.Values.{InlineNames, is_inline_var, if_has_valu
 ghost use Rattle.jz_unroll.specs.Unrolling.{HasValue};
 ghost use Rattle.jz_unrolling.specs.InlineNames.{names_in};
 ghost use Rattle.jz_unrolling.specs.Numbers.{numbers_in};
+ghost use Rattle.jz_tree.specs.Failures.{IfAnswered};
 ghost use Rattle.jz_unrolling.specs.Parts.{on_left, IsPart, IsValued};
+ghost use Rattle.jz_unrolling.specs.Refusals.{OrElse, is_part, NeverNumber};
 
 use crate::constants::{constant_of, minus, opposite};
 use crate::inline_vars::InlineVars;
@@ -69,8 +71,10 @@ fn left_side<'a>(alloc: Global, expr: &'a Expr) -> Result<Side<'a>, AllocError>
 /// and where what is inline and what is not are mixed up.
 #[cycle(part)]
 pub(crate) fn part_of(values: &Values<'_>, expr: &Expr) -> Result<Part, Failure<Span>>
-    ensures { IfOk result (λ part. IsPart (names_in values.now.vars.now)
-        (numbers_in values.now.known.now) expr.now part) }
+    ensures { let names = names_in values.now.vars.now in
+        let e = numbers_in values.now.known.now in
+        IfAnswered result (OrElse (IsPart names e expr.now)
+            (is_part names e expr.now ≡ false)) }
 {
     let Side { mut waiting, first } = left_side(values.alloc, expr)?;
     let mut part = single_part(values, first)?;
@@ -84,8 +88,10 @@ pub(crate) fn part_of(values: &Values<'_>, expr: &Expr) -> Result<Part, Failure<
 #[cycle(part)]
 fn single_part(values: &Values<'_>, expr: &Expr) -> Result<Part, Failure<Span>>
     requires { IsSingle expr.now }
-    ensures { IfOk result (λ part. IsPart (names_in values.now.vars.now)
-        (numbers_in values.now.known.now) expr.now part) }
+    ensures { let names = names_in values.now.vars.now in
+        let e = numbers_in values.now.known.now in
+        IfAnswered result (OrElse (IsPart names e expr.now)
+            (is_part names e expr.now ≡ false)) }
 {
     match expr {
         Expr::Num(n, span) => Ok(Part::Inline(Some(Constant::Int(*n)), *span)),
@@ -133,8 +139,10 @@ fn single_part(values: &Values<'_>, expr: &Expr) -> Result<Part, Failure<Span>>
 
 #[cycle(part)]
 fn boxed_with_values(values: &Values<'_>, expr: &Boxed<Expr>) -> Result<Boxed<Expr>, Failure<Span>>
-    ensures { IfOk result (λ y. IsValued (names_in values.now.vars.now)
-        (numbers_in values.now.known.now) expr.now y) }
+    ensures { let names = names_in values.now.vars.now in
+        let e = numbers_in values.now.known.now in
+        IfAnswered result (OrElse (IsValued names e expr.now)
+            (has_values names e expr.now ≡ false)) }
 {
     let part = part_of(values, expr.get())?;
     let whole = part.into_expr()?;
@@ -146,8 +154,9 @@ fn boxed_with_values(values: &Values<'_>, expr: &Boxed<Expr>) -> Result<Boxed<Ex
 fn access_of(values: &Values<'_>, access: &Access) -> Result<Access, Failure<Span>>
     ensures copy { IfOk result (λ y. y ≡ access_with_values (numbers_in values.now.known.now)
         access.now) }
-    ensures known { IfOk result (λ y. access_has_values (names_in values.now.vars.now)
-        (numbers_in values.now.known.now) access.now ≡ true) }
+    ensures known { let names = names_in values.now.vars.now in
+        let has = access_has_values names (numbers_in values.now.known.now) access.now in
+        IfAnswered result (OrElse (λ y. has ≡ true) (has ≡ false)) }
 {
     let at = boxed_with_values(values, &access.at)?;
     Ok(Access {
@@ -159,8 +168,10 @@ fn access_of(values: &Values<'_>, access: &Access) -> Result<Access, Failure<Spa
 }
 
 fn variable_part(values: &Values<'_>, var: &Var) -> Result<Part, Failure<Span>>
-    ensures { IfOk result (λ part. IsPart (names_in values.now.vars.now)
-        (numbers_in values.now.known.now) (expr.Var var.now) part) }
+    ensures { let names = names_in values.now.vars.now in
+        let e = numbers_in values.now.known.now in
+        IfAnswered result (OrElse (IsPart names e (expr.Var var.now))
+            (is_part names e (expr.Var var.now) ≡ false)) }
 {
     if !is_inline_int(known(var)) {
         let var = plain_variable(values, var)?;
@@ -178,8 +189,8 @@ fn variable_part(values: &Values<'_>, var: &Var) -> Result<Part, Failure<Span>>
 /// A variable that is not inline.
 fn plain_variable(values: &Values<'_>, var: &Var) -> Result<Var, Failure<Span>>
     ensures copy { IfOk result (λ copy. copy ≡ var.now) }
-    ensures plain { IfOk result (λ copy. is_inline_var (names_in values.now.vars.now) var.now
-        ≡ false) }
+    ensures plain { let inline = is_inline_var (names_in values.now.vars.now) var.now in
+        IfAnswered result (OrElse (λ copy. inline ≡ false) (inline ≡ true)) }
 {
     if values.vars.has(&var.name, var.copy) {
         return Err(Failure::Refused(var.span));
@@ -188,7 +199,7 @@ fn plain_variable(values: &Values<'_>, var: &Var) -> Result<Var, Failure<Span>>
     Ok(copy)
 }
 
-fn negated_part(alloc: Global, operand: Part, span: Span) -> Result<Part, Failure<Span>>
+fn negated_part(alloc: Global, operand: Part, span: Span) -> Result<Part, AllocError>
     ensures { (names : InlineNames) (e : KnownNumbers) (x : Tree) → IsPart names e x operand
         → IfOk result (IsPart names e (expr.Neg x span)) }
 {
@@ -201,7 +212,7 @@ fn negated_part(alloc: Global, operand: Part, span: Span) -> Result<Part, Failur
     }
 }
 
-fn inverted_part(alloc: Global, operand: Part, span: Span) -> Result<Part, Failure<Span>>
+fn inverted_part(alloc: Global, operand: Part, span: Span) -> Result<Part, AllocError>
     ensures { (names : InlineNames) (e : KnownNumbers) (x : Tree) → IsPart names e x operand
         → IfOk result (IsPart names e (expr.Not x span)) }
 {
@@ -216,8 +227,10 @@ fn inverted_part(alloc: Global, operand: Part, span: Span) -> Result<Part, Failu
 
 /// An expression whose inline parts are their values. Refused where one has none.
 pub fn with_values(values: &Values<'_>, expr: &Expr) -> Result<Expr, Failure<Span>>
-    ensures { IfOk result (λ y. IsValued (names_in values.now.vars.now)
-        (numbers_in values.now.known.now) expr.now y) }
+    ensures { let names = names_in values.now.vars.now in
+        let e = numbers_in values.now.known.now in
+        IfAnswered result (OrElse (IsValued names e expr.now)
+            (has_values names e expr.now ≡ false)) }
 {
     let part = part_of(values, expr)?;
     let whole = part.into_expr()?;
@@ -229,8 +242,9 @@ pub fn with_values(values: &Values<'_>, expr: &Expr) -> Result<Expr, Failure<Spa
 pub fn left_with_values(values: &Values<'_>, lval: &Lval) -> Result<Lval, Failure<Span>>
     ensures copy { IfOk result (λ y. y ≡ left_values_of (numbers_in values.now.known.now)
         lval.now) }
-    ensures known { IfOk result (λ y. left_has_values (names_in values.now.vars.now)
-        (numbers_in values.now.known.now) lval.now ≡ true) }
+    ensures known { let names = names_in values.now.vars.now in
+        let has = left_has_values names (numbers_in values.now.known.now) lval.now in
+        IfAnswered result (OrElse (λ y. has ≡ true) (has ≡ false)) }
 {
     match lval {
         Lval::Skip(span) => Ok(Lval::Skip(*span)),
@@ -260,8 +274,10 @@ pub(crate) fn lefts_with_values(
 ) -> Result<Seq<Lval>, Failure<Span>>
     ensures copy { IfOk result (λ ys. ys ≡ map (left_values_of (numbers_in values.now.known.now))
         lvals.now) }
-    ensures known { IfOk result (λ ys. list_all (left_has_values (names_in values.now.vars.now)
-        (numbers_in values.now.known.now)) lvals.now ≡ true) }
+    ensures known { let has = left_has_values (names_in values.now.vars.now)
+            (numbers_in values.now.known.now) in
+        let all = list_all has lvals.now in
+        IfAnswered result (OrElse (λ ys. all ≡ true) (all ≡ false)) }
 {
     let mut lefts = Seq::new(values.alloc);
     for lval in lvals.as_slice() {
@@ -278,8 +294,10 @@ pub(crate) fn all_with_values(
 ) -> Result<Seq<Expr>, Failure<Span>>
     ensures copy { IfOk result (λ ys. ys ≡ map (values_of (numbers_in values.now.known.now))
         exprs.now) }
-    ensures known { IfOk result (λ ys. list_all (has_values (names_in values.now.vars.now)
-        (numbers_in values.now.known.now)) exprs.now ≡ true) }
+    ensures known { let has = has_values (names_in values.now.vars.now)
+            (numbers_in values.now.known.now) in
+        let all = list_all has exprs.now in
+        IfAnswered result (OrElse (λ ys. all ≡ true) (all ≡ false)) }
 {
     let mut all = Seq::new(values.alloc);
     for expr in exprs.as_slice() {
@@ -296,8 +314,9 @@ pub(crate) fn condition_with_values(
 ) -> Result<Option<Expr>, Failure<Span>>
     ensures copy { IfOk result (λ y. y ≡ option_map (values_of (numbers_in values.now.known.now))
         cond.now) }
-    ensures known { IfOk result (λ y. if_has_values (names_in values.now.vars.now)
-        (numbers_in values.now.known.now) cond.now ≡ true) }
+    ensures known { let names = names_in values.now.vars.now in
+        let has = if_has_values names (numbers_in values.now.known.now) cond.now in
+        IfAnswered result (OrElse (λ y. has ≡ true) (has ≡ false)) }
 {
     match cond {
         None => Ok(None),
@@ -310,8 +329,9 @@ pub(crate) fn condition_with_values(
 
 /// The number that an inline expression is. Refused where it is none.
 pub(crate) fn number_of(values: &Values<'_>, expr: &Expr) -> Result<i128, Failure<Span>>
-    ensures { IfOk result (λ n. HasValue (numbers_in values.now.known.now) expr.now
-        (constant.Int n)) }
+    ensures { let e = numbers_in values.now.known.now in
+        IfAnswered result (OrElse (λ n. HasValue e expr.now (constant.Int n))
+            (NeverNumber e expr.now)) }
 {
     match part_of(values, expr)? {
         Part::Inline(Some(Constant::Int(n)), _) => Ok(n),

@@ -109,8 +109,8 @@ impl Known {
         replace(&mut self.changed, Vec::new(self.alloc))
     }
 
-    /// Ends a part: its changes are taken back. Whether what was known before it is known at its
-    /// end too.
+    /// Ends a part: its changes are taken back. Whether what was known before it is known at its end
+    /// too.
     pub fn leave(&mut self, outer: Vec<Changed>) -> Result<bool, AllocError>
         ensures { IfOk result (λ kept. IsRestored self.old self.new outer.items kept) }
     {

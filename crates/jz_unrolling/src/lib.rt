@@ -12,5 +12,8 @@ mod parts;
 mod settings;
 mod statements;
 
-pub use functions::unroll;
+pub use expressions::{Values, left_with_values, with_values};
+pub use inline_vars::InlineVars;
 pub use jz_pass::{Change, Failure, Passed, Seq, Step};
+pub use known::{Changed, Known};
+pub use functions::unroll;

@@ -1,11 +1,13 @@
 //! What an expression becomes, as long as it is a part of another one.
 
-ghost use Rattle.std.specs.Prelude.{◌≡◌, IfOk};
+ghost use Rattle.std.specs.Prelude.{◌≡◌, false};
+ghost use Rattle.jz_tree.specs.Failures.{IfAnswered};
 ghost use Rattle.jz_integers.specs.Integers.{KnownNumbers};
 ghost use Rattle.jz_tree.specs.declared.expr.Expr.{Expr as Tree};
 ghost use Rattle.jz_tree.specs.declared.expr.Expr.TheVariants as expr;
-ghost use Rattle.jz_unroll.specs.Values.{InlineNames};
+ghost use Rattle.jz_unroll.specs.Values.{InlineNames, has_values};
 ghost use Rattle.jz_unrolling.specs.Parts.{IsPart, IsValued, written_at};
+ghost use Rattle.jz_unrolling.specs.Refusals.{OrElse, is_part};
 
 use crate::constants::joined;
 use jz_integers::Constant;
@@ -24,7 +26,7 @@ impl Part {
     /// The part as an expression by itself. Refused where it is inline and has no value.
     pub(crate) fn into_expr(self) -> Result<Expr, Failure<Span>>
         ensures { (names : InlineNames) (e : KnownNumbers) (x : Tree) → IsPart names e x self
-            → IfOk result (λ y. IsValued names e x y) }
+            → IfAnswered result (OrElse (IsValued names e x) (has_values names e x ≡ false)) }
     {
         match self {
             Part::Plain(expr) => Ok(expr),
@@ -55,7 +57,9 @@ pub(crate) fn join(
     span: Span,
 ) -> Result<Part, Failure<Span>>
     ensures { (names : InlineNames) (e : KnownNumbers) (x y : Tree) → IsPart names e x left
-        → IsPart names e y right → IfOk result (IsPart names e (expr.Bin op x y span)) }
+        → IsPart names e y right
+        → IfAnswered result (OrElse (IsPart names e (expr.Bin op x y span))
+            (is_part names e (expr.Bin op x y span) ≡ false)) }
 {
     match left {
         Part::Inline(a, at) => match right {

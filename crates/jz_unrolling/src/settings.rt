@@ -1,14 +1,17 @@
 //! What sets one inline variable, and what sets others.
 
-ghost use Rattle.std.specs.Prelude.{◌≡◌, ◌∷◌, [], true, IfOk, IfSome};
-ghost use Rattle.jz_tree.specs.declared.stmt.Lval.TheVariants as lval;
+ghost use Rattle.std.specs.Prelude.{◌≡◌, ◌↔◌, true, MatchOption};
+ghost use Rattle.jz_tree.specs.Failures.{IfAnswered};
 ghost use Rattle.jz_tree.specs.declared.expr.Expr.TheViews.{out-Expr};
 ghost use Rattle.jz_meaning.specs.Assignments as assignments;
 ghost use Rattle.jz_unroll.specs.Values as inlined;
+ghost use Rattle.jz_meaning.specs.Values.{ref_of};
+ghost use Rattle.jz_unroll.specs.Values.{is_int};
 ghost use Rattle.jz_unroll.specs.Unrolling.{ConditionIs, IsInlineInt};
 ghost use Rattle.jz_unrolling.specs.InlineNames.{names_in};
 ghost use Rattle.jz_unrolling.specs.Numbers.{numbers_in};
-ghost use Rattle.jz_unrolling.specs.Parts.{updated_value, HasWhole, StandsApart};
+ghost use Rattle.jz_unrolling.specs.Parts.{is_number, updated_value, HasWhole, StandsApart};
+ghost use Rattle.jz_unrolling.specs.Refusals.{OrElse, SetsNoInline, SetsOne, NeverWhole, NeverIf};
 
 use crate::conditions::{Test, test_of};
 use crate::constants::{constant_of, joined};
@@ -31,12 +34,17 @@ pub(crate) struct Setting<'a> {
 
 /// The inline variable that is set, where nothing else is.
 pub(crate) fn inline_target<'a>(vars: &InlineVars, to: &'a Seq<Lval>) -> Option<&'a Var>
-    ensures { IfSome result (λ var. to.now ≡ lval.Var var.now ∷ []) }
+    ensures { let names = names_in vars.now in
+        MatchOption result (SetsNoInline names to.now) (λ var. SetsOne names to.now var.now) }
 {
     if to.len() != 1 {
         return None;
     }
     match to.get(0) {
+        None => None,
+        Some(Lval::Skip(_)) => None,
+        Some(Lval::Cell(_, _)) => None,
+        Some(Lval::Store(_)) => None,
         Some(Lval::Var(var)) => {
             if vars.has(&var.name, var.copy) {
                 Some(var)
@@ -44,24 +52,20 @@ pub(crate) fn inline_target<'a>(vars: &InlineVars, to: &'a Seq<Lval>) -> Option<
                 None
             }
         }
-        _ => None,
     }
+}
+
+fn is_integer(var: &Var) -> bool
+    ensures { result ≡ is_int (ref_of var.now).kind }
+{
+    matches!(kind_of(var), Kind::Int)
 }
 
 /// Whether it is an inline variable as a whole, and an integer.
 pub(crate) fn is_inline_number(vars: &InlineVars, var: &Var) -> bool
-    ensures { result ≡ true → IsInlineInt (names_in vars.now) var.now }
+    ensures { result ≡ is_number (names_in vars.now) var.now }
 {
-    if var.cell.is_some() {
-        return false;
-    }
-    match kind_of(var) {
-        Kind::Int => vars.has(&var.name, var.copy),
-        Kind::Undeclared => false,
-        Kind::Bool => false,
-        Kind::Word(_) => false,
-        Kind::Array(_, _) => false,
-    }
+    var.cell.is_none() && (is_integer(var) && vars.has(&var.name, var.copy))
 }
 
 /// A value, or that of an operation on the variable and it.
@@ -75,11 +79,7 @@ fn updated(
 {
     match op {
         None => value,
-        Some(op) => joined(
-            op,
-            constant_of(values.known.number(&var.name, var.copy)),
-            value,
-        ),
+        Some(op) => joined(op, constant_of(values.known.number(&var.name, var.copy)), value),
     }
 }
 
@@ -92,7 +92,9 @@ pub(crate) fn new_number(
     value: &Expr,
 ) -> Result<i128, Failure<Span>>
     requires { IsInlineInt (names_in values.now.vars.now) var.now }
-    ensures { IfOk result (λ n. HasWhole (numbers_in values.now.known.now) var.now op value.now n) }
+    ensures { let e = numbers_in values.now.known.now in
+        IfAnswered result (OrElse (HasWhole e var.now op value.now)
+            (NeverWhole e var.now op value.now)) }
 {
     let number = match part_of(values, value)? {
         Part::Plain(_) => return Err(Failure::Refused(var.span)),
@@ -111,7 +113,8 @@ pub(crate) fn is_set(
     var: &Var,
     cond: &Option<Expr>,
 ) -> Result<bool, Failure<Span>>
-    ensures { IfOk result (ConditionIs (numbers_in values.now.known.now) var.now cond.now) }
+    ensures { let e = numbers_in values.now.known.now in
+        IfAnswered result (OrElse (ConditionIs e var.now cond.now) (NeverIf e var.now cond.now)) }
 {
     match cond {
         None => Ok(true),
@@ -148,7 +151,7 @@ fn splits(expr: &Expr) -> bool
 /// Whether, of an operation with several results, the operands stand in the text. The operation of
 /// `op=` has the left side as an operand.
 pub(crate) fn stands_apart(to: &Seq<Lval>, op: Option<BinOp>, value: &Expr) -> bool
-    ensures { result ≡ true → StandsApart to.now op value.now }
+    ensures { result ≡ true ↔ StandsApart to.now op value.now }
 {
     match op {
         Some(_) => true,

@@ -2,7 +2,6 @@
 
 ghost use Rattle.std.specs.Prelude.{◌≡◌, ◌∷◌, ◌++◌, [], List, true, false};
 ghost use Rattle.std.specs.Prelude.{IfOk, OnOk, MatchOption, if◌then◌else◌};
-ghost use Rattle.jz_tree.specs.declared.stmt.Lval.TheVariants as lval;
 ghost use Rattle.jz_tree.specs.Span.{Span as Place};
 ghost use Rattle.jz_tree.specs.declared.stmt.Stmt.{Stmt as Statement};
 ghost use Rattle.jz_meaning.specs.Trees.{op as op_node, quiet};
@@ -10,7 +9,11 @@ ghost use Rattle.jz_meaning.specs.Statements.{instruction, unset, values_between
 ghost use Rattle.jz_meaning.specs.Runs.{block, statement_tree};
 ghost use Rattle.jz_unrolling.specs.InlineNames.{names_in};
 ghost use Rattle.jz_unrolling.specs.Numbers.{numbers_in, SetsIf};
+ghost use Rattle.jz_tree.specs.Failures.{IfAnswered};
+ghost use Rattle.jz_unroll.specs.Values.{operation_has_values};
 ghost use Rattle.jz_unrolling.specs.Parts.{IsTest};
+ghost use Rattle.jz_unrolling.specs.Refusals.{OrElse, NeverFits, NeverKeeps, NeverTurns, NeverEnds};
+ghost use Rattle.jz_unrolling.specs.Refusals.{NeverCounts, NeverRounds, SetsOne};
 ghost use Rattle.jz_unrolling.specs.declared.conditions.Test.TheVariants.{Asked};
 ghost use Rattle.jz_unrolling.specs.Steps.{no_callees, setting_of, branch_of, turns_of};
 ghost use Rattle.jz_unrolling.specs.Steps.{one_item, step_list};
@@ -55,8 +58,10 @@ pub(crate) fn unroll_all(
     stmts: &Seq<Stmt>,
     out: &mut Seq<Stmt>,
 ) -> Result<Seq<Step>, Failure<Span>>
-    ensures { IfOk result (Adds (names_in unroller.now.vars.now) (block no_callees stmts.now)
-        known.old known.new out.old out.new) }
+    ensures { let names = names_in unroller.now.vars.now in
+        let piece = block no_callees stmts.now in
+        IfAnswered result (OrElse (Adds names piece known.old known.new out.old out.new)
+            (NeverFits names piece (numbers_in known.old))) }
 {
     let mut steps = Seq::new(unroller.alloc);
     for stmt in stmts.as_slice() {
@@ -85,8 +90,10 @@ fn unroll_one(
     stmt: &Stmt,
     out: &mut Seq<Stmt>,
 ) -> Result<Option<Step>, Failure<Span>>
-    ensures { IfOk result (AddsOne (names_in unroller.now.vars.now)
-        (statement_tree no_callees stmt.now) known.old known.new out.old out.new) }
+    ensures { let names = names_in unroller.now.vars.now in
+        let piece = statement_tree no_callees stmt.now in
+        IfAnswered result (OrElse (AddsOne names piece known.old known.new out.old out.new)
+            (NeverFits names piece (numbers_in known.old))) }
 {
     match &stmt.kind {
         StmtKind::Assign { to, op, rhs, cond } => match rhs {
@@ -167,8 +174,10 @@ fn unroll_setting(
     setting: &Setting<'_>,
     out: &mut Seq<Stmt>,
 ) -> Result<Step, Failure<Span>>
-    ensures { IfOk result (AddsStep (names_in unroller.now.vars.now) (op_node (setting_of
-        setting.now stmt.now.span)) known.old known.new out.old out.new) }
+    ensures { let names = names_in unroller.now.vars.now in
+        let piece = op_node (setting_of setting.now stmt.now.span) in
+        IfAnswered result (OrElse (AddsStep names piece known.old known.new out.old out.new)
+            (NeverFits names piece (numbers_in known.old))) }
 {
     match inline_target(unroller.vars, setting.to) {
         Some(var) => {
@@ -200,10 +209,12 @@ fn unroll_number(
     var: &Var,
     setting: &Setting<'_>,
 ) -> Result<Step, Failure<Span>>
-    requires { setting.now.to.now ≡ lval.Var var.now ∷ [] }
-    ensures { IfOk result (λ step. (at : Place) (out : List Statement)
-        → AddsStep (names_in unroller.now.vars.now) (op_node (setting_of setting.now at))
-        known.old known.new out out step) }
+    requires { SetsOne (names_in unroller.now.vars.now) setting.now.to.now var.now }
+    ensures { let names = names_in unroller.now.vars.now in
+        IfAnswered result (OrElse (λ step. (at : Place) (out : List Statement)
+            → AddsStep names (op_node (setting_of setting.now at)) known.old known.new out out step)
+            ((at : Place)
+            → NeverFits names (op_node (setting_of setting.now at)) (numbers_in known.old))) }
 {
     if !is_inline_number(unroller.vars, var) {
         return Err(Failure::Refused(var.span));
@@ -226,8 +237,11 @@ fn unroll_plain(
     setting: &Setting<'_>,
     out: &mut Seq<Stmt>,
 ) -> Result<Step, Failure<Span>>
-    ensures { IfOk result (AddsStep (names_in unroller.now.vars.now) (op_node (setting_of
-        setting.now stmt.now.span)) known.now known.now out.old out.new) }
+    ensures { let names = names_in unroller.now.vars.now in
+        let set = setting_of setting.now stmt.now.span in
+        let e = numbers_in known.now in
+        IfAnswered result (OrElse (AddsStep names (op_node set) known.now known.now out.old out.new)
+            (operation_has_values names e set ≡ false)) }
 {
     let values = Values {
         alloc: unroller.alloc,
@@ -270,9 +284,12 @@ fn unroll_instruction(
     named: &Named<'_>,
     out: &mut Seq<Stmt>,
 ) -> Result<Step, Failure<Span>>
-    ensures { IfOk result (AddsStep (names_in unroller.now.vars.now) (op_node (instruction
-        named.now.to.now named.now.name.now named.now.args.now named.now.at))
-        known.now known.now out.old out.new) }
+    ensures { let names = names_in unroller.now.vars.now in
+        let done = instruction named.now.to.now named.now.name.now named.now.args.now named.now.at in
+        let e = numbers_in known.now in
+        IfAnswered result
+            (OrElse (AddsStep names (op_node done) known.now known.now out.old out.new)
+            (operation_has_values names e done ≡ false)) }
 {
     let values = Values {
         alloc: unroller.alloc,
@@ -303,7 +320,7 @@ fn unroll_mark(
     stmt: &Stmt,
     vars: &Seq<Var>,
     out: &mut Seq<Stmt>,
-) -> Result<(), Failure<Span>>
+) -> Result<(), AllocError>
     ensures { OnOk result (Adds (names_in unroller.now.vars.now) (quiet (unset vars.now))
         known.old known.new out.old out.new []) }
 {
@@ -339,8 +356,10 @@ fn unroll_if(
     branch: &Branch<'_>,
     out: &mut Seq<Stmt>,
 ) -> Result<Step, Failure<Span>>
-    ensures { IfOk result (AddsStep (names_in unroller.now.vars.now) (branch_of branch.now
-        stmt.now.span) known.old known.new out.old out.new) }
+    ensures { let names = names_in unroller.now.vars.now in
+        let piece = branch_of branch.now stmt.now.span in
+        IfAnswered result (OrElse (AddsStep names piece known.old known.new out.old out.new)
+            (NeverFits names piece (numbers_in known.old))) }
 {
     let values = Values {
         alloc: unroller.alloc,
@@ -375,8 +394,10 @@ fn unroll_arms(
 ) -> Result<Step, Failure<Span>>
     requires { IsTest (names_in unroller.now.vars.now) (numbers_in known.old) branch.now.cond.now
         (Asked cond) }
-    ensures { IfOk result (AddsStep (names_in unroller.now.vars.now) (branch_of branch.now
-        stmt.now.span) known.old known.new out.old out.new) }
+    ensures { let names = names_in unroller.now.vars.now in
+        let piece = branch_of branch.now stmt.now.span in
+        IfAnswered result (OrElse (AddsStep names piece known.old known.new out.old out.new)
+            (NeverFits names piece (numbers_in known.old))) }
 {
     let yes = unroll_apart(unroller, known, stmt.span, branch.yes)?;
     let no = unroll_apart(unroller, known, stmt.span, branch.no)?;
@@ -401,8 +422,8 @@ fn unroll_arms(
     })
 }
 
-/// Statements by themselves. Behind them the same is known as before them. Refused where they
-/// change what is known before them.
+/// Statements by themselves. Behind them the same is known as before them. Refused where they change
+/// what is known before them.
 #[cycle(unroll)]
 fn unroll_apart(
     unroller: &Unroller<'_>,
@@ -410,8 +431,9 @@ fn unroll_apart(
     at: Span,
     stmts: &Seq<Stmt>,
 ) -> Result<Apart, Failure<Span>>
-    ensures { IfOk result (IsApart (names_in unroller.now.vars.now) stmts.now known.old
-        known.new) }
+    ensures { let names = names_in unroller.now.vars.now in
+        IfAnswered result (OrElse (IsApart names stmts.now known.old known.new)
+            (NeverKeeps names stmts.now (numbers_in known.old))) }
 {
     let outer = known.enter();
     let mut statements = Seq::new(unroller.alloc);
@@ -439,8 +461,10 @@ fn unroll_while(
     turns: &Turns<'_>,
     out: &mut Seq<Stmt>,
 ) -> Result<Step, Failure<Span>>
-    ensures { IfOk result (AddsStep (names_in unroller.now.vars.now) (turns_of turns.now
-        stmt.now.span) known.old known.new out.old out.new) }
+    ensures { let names = names_in unroller.now.vars.now in
+        let piece = turns_of turns.now stmt.now.span in
+        IfAnswered result (OrElse (AddsStep names piece known.old known.new out.old out.new)
+            (NeverFits names piece (numbers_in known.old))) }
 {
     let outer = known.enter();
     let mut statements = Seq::new(unroller.alloc);
@@ -499,8 +523,7 @@ fn loop_test(test: Test) -> LoopTest
     }
 }
 
-/// The begin of a `while` that stays: the changes before it, what its prologue has become, and the
-/// test.
+/// The begin of a `while` that stays: the changes before it, what its prologue has become, the test.
 #[derive(Drop)]
 struct Head {
     outer: Vec<Changed>,
@@ -517,8 +540,11 @@ fn unroll_body(
     body: &Option<Seq<Stmt>>,
     out: &mut Seq<Stmt>,
 ) -> Result<Step, Failure<Span>>
-    ensures { IfOk result (EndsLoop (names_in unroller.now.vars.now) head body.now stmt.now.span
-        known.old known.new out.old out.new) }
+    ensures { let names = names_in unroller.now.vars.now in
+        let at = stmt.now.span in
+        IfAnswered result
+            (OrElse (EndsLoop names head body.now at known.old known.new out.old out.new)
+            (NeverEnds names head body.now at known.old)) }
 {
     let Head {
         outer,
@@ -568,7 +594,9 @@ fn unroll_turn(
     at: Span,
     body: &Option<Seq<Stmt>>,
 ) -> Result<Turn, Failure<Span>>
-    ensures { IfOk result (IsTurn (names_in unroller.now.vars.now) body.now known.old known.new) }
+    ensures { let names = names_in unroller.now.vars.now in
+        IfAnswered result (OrElse (IsTurn names body.now known.old known.new)
+            (NeverTurns names body.now (numbers_in known.old))) }
 {
     match body {
         None => Ok(Turn {
@@ -604,8 +632,11 @@ fn rounds_of<'a>(
     down: bool,
     to: &Expr,
 ) -> Result<Rounds<'a>, Failure<Span>>
-    ensures { IfOk result (λ rounds. HasRounds (names_in unroller.now.vars.now)
-        (numbers_in known.now) rounds counter.now from.now down to.now) }
+    ensures { let names = names_in unroller.now.vars.now in
+        let e = numbers_in known.now in
+        IfAnswered result
+            (OrElse (λ rounds. HasRounds names e rounds counter.now from.now down to.now)
+            (NeverCounts names e counter.now from.now down to.now)) }
 {
     if !is_inline_number(unroller.vars, counter) {
         return Err(Failure::Refused(counter.span));
@@ -634,8 +665,11 @@ fn unroll_rounds(
     body: &Seq<Stmt>,
     out: &mut Seq<Stmt>,
 ) -> Result<Step, Failure<Span>>
-    ensures { IfOk result (AddsRounds (names_in unroller.now.vars.now) rounds.now body.now
-        known.old known.new out.old out.new) }
+    ensures { let names = names_in unroller.now.vars.now in
+        let all = rounds.now in
+        IfAnswered result
+            (OrElse (AddsRounds names all body.now known.old known.new out.old out.new)
+            (NeverRounds names all body.now known.old)) }
 {
     let counter = rounds.counter;
     let old = known.number(&counter.name, counter.copy);

@@ -1,6 +1,7 @@
-use Rattle.std.proofs.Common.{◌∙◌, ap, sym, subst, rules, Some}
+use Rattle.std.proofs.Common.{◌≡◌, ◌∙◌, ap, sym, subst, rules, Some}
 use Rattle.std.specs.Int.{w128}
 use Rattle.std.proofs.lemmas.Int.{to_z-of_z}
+use Rattle.jz_integers.specs.declared.constant.Constant.TheVariants as constant
 use Rattle.jz_unrolling.specs.InlineNames.{names_in}
 use Rattle.jz_unrolling.specs.Numbers.{numbers_in}
 use Rattle.jz_unrolling.specs.Parts.{HasWhole, IsPart}

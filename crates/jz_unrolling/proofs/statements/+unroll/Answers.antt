@@ -1,8 +1,10 @@
-use Rattle.std.proofs.Common.{◌≡◌, ◌∷◌, [], ◌+◌, take, None, refl, arith, rules, ap, sym, subst, ◌∙◌, to_z, of_z}
+use Rattle.std.proofs.Common.{◌≡◌, List, ◌∷◌, [], ◌++◌, ◌+◌, take, if◌then◌else◌, true, false, Some, None, refl, arith, rules, ap, sym, subst, ◌∙◌, to_z, of_z}
 use Rattle.std.specs.Prelude.{not, is_some}
 use Rattle.std.specs.Int.{w128}
 use Rattle.std.proofs.lemmas.Int.{to_z-of_z}
 use Rattle.jz_interp.specs.InnerParts.{body_piece}
+use Rattle.jz_tree.specs.Span.{Span}
+use Rattle.jz_tree.specs.declared.stmt.Stmt.{Stmt}
 use Rattle.jz_tree.specs.declared.stmt.StmtKind.TheVariants as kind
 use Rattle.jz_meaning.specs.Runs.{block, statement_tree}
 use Rattle.jz_meaning.specs.Trees.{each, done}
@@ -10,13 +12,16 @@ use Rattle.jz_meaning.specs.Statements.{values_between}
 use Rattle.jz_interp.proofs.Falls.{weights_at}
 use Rattle.jz_interp.proofs.Pieces.{for_is}
 use Rattle.jz_change.specs.declared.change.Numbers.TheVariants.{Same}
+use Rattle.jz_change.specs.declared.change.Change.{Change}
+use Rattle.jz_change.specs.declared.change.Step.{Step}
 use Rattle.jz_change.specs.declared.change.Step.TheVariants as step
+use Rattle.jz_unrolling.specs.declared.statements.Apart.{Apart}
 use Rattle.jz_unrolling.specs.declared.statements.Head.{Head}
 use Rattle.jz_unroll.specs.Unrolling.{IsInlineInt}
 use Rattle.jz_unrolling.specs.InlineNames.{names_in}
 use Rattle.jz_unrolling.specs.Numbers.{numbers_in}
 use Rattle.jz_unrolling.specs.Parts.{IsTest}
-use Rattle.jz_unrolling.specs.Steps.{no_callees, Adds, AddsStep, IsTurn, IsLoop, IsLoopTest, loop_of, branch_of, turns_of, for_of, step_list}
+use Rattle.jz_unrolling.specs.Steps.{no_callees, Adds, AddsStep, IsTurn, IsLoop, IsLoopTest, loop_of, branch_of, turns_of, for_of, step_list, list_or}
 use Rattle.jz_unrolling.proofs.AddLemmas.{adds_next, adds_as}
 use Rattle.jz_unrolling.proofs.FormLemmas as form
 use Rattle.jz_unrolling.proofs.PartLemmas.{ref_name, ref_copy}

@@ -1,6 +1,7 @@
-use Rattle.std.proofs.Common.{[], rules, sym, subst}
+use Rattle.std.proofs.Common.{◌∷◌, [], rules, sym, subst, ◌∙◌}
 use Rattle.std.specs.Int.{w128}
 use Rattle.std.proofs.lemmas.Int.{to_z-of_z}
+use Rattle.jz_tree.specs.declared.stmt.Lval.TheVariants as lval
 use Rattle.jz_runs.specs.Trees.{op}
 use Rattle.jz_meaning.specs.Statements.{assign}
 use Rattle.jz_change.specs.declared.change.Step.TheVariants as step
@@ -8,6 +9,7 @@ use Rattle.jz_unrolling.specs.InlineNames.{names_in}
 use Rattle.jz_unrolling.specs.Numbers.{SetsIf}
 use Rattle.jz_unrolling.specs.Steps.{AddsStep}
 use Rattle.jz_unrolling.proofs.AddLemmas.{number_adds}
+use Rattle.jz_unrolling.proofs.SettingLemmas.{number_is}
 use Rattle.jz_unrolling.proofs.statements.unroll_number.Goals as goal
 
 pub returns : goal.returns
@@ -18,6 +20,6 @@ returns c =
     let k = c.args.known.now in
     let new = c.set_if.new.known in
     subst (λ q. AddsStep names (op (assign s.to.now s.op s.value.now s.cond.now at)) k new out out (step.Ops q)) (sym c.new.ensures)
-    (subst (λ to. AddsStep names (op (assign to s.op s.value.now s.cond.now at)) k new out out (step.Ops [])) (sym c.requires)
-    (number_adds names c.args.var.now s.op s.value.now s.cond.now at c.in_ok-number.number k new out c.in_ok-set.set (c.is_inline_number.ensures c.if-not-is_inline_number.false) c.in_ok-number.ensures c.in_ok-set.ensures
+    (subst (λ to. AddsStep names (op (assign to s.op s.value.now s.cond.now at)) k new out out (step.Ops [])) (sym c.requires.0)
+    (number_adds names c.args.var.now s.op s.value.now s.cond.now at c.in_ok-number.number k new out c.in_ok-set.set (number_is names c.args.var.now (sym c.is_inline_number.ensures ∙ c.if-not-is_inline_number.false)) c.in_ok-number.ensures c.in_ok-set.ensures
     (subst (λ m. SetsIf c.in_ok-set.set k new c.args.var.now m) (to_z-of_z w128 c.in_ok-number.number (search rules)) c.in_ok-set_if.ensures)))

@@ -16,4 +16,4 @@ returns c =
     (plain_adds names s.to.now c.in_ok-to.to s.op s.value.now c.in_ok-value.value s.cond.now c.in_ok-cond.cond c.args.stmt.now.span k c.args.out.now c.push.new.self
     (record { notes = c.in_ok-copy_notes.field-0; span = c.args.stmt.now.span; kind = kind.Assign c.in_ok-to.to s.op (rhs.Value c.in_ok-value.value) c.in_ok-cond.cond })
     refl refl c.in_ok-to.ensures.copy c.in_ok-value.ensures.copy c.in_ok-cond.ensures.copy c.in_ok-to.ensures.known c.in_ok-value.ensures.known c.in_ok-cond.ensures.known
-    (c.stands_apart.ensures c.if-not-stands_apart.false) c.in_ok-push.ensures.ok)
+    (c.stands_apart.ensures.0 c.if-not-stands_apart.false) c.in_ok-push.ensures.ok)
