@@ -32,14 +32,14 @@ use Rattle.jz_unroll.specs.Values.{with_values, left_with_values, operation_with
 use Rattle.jz_unroll.specs.Unrolling.{with_number, all_unknown, ConditionIs, IsInlineInt, UnrollsOp, stays, vanishes, marked_vars, marked, unrolling}
 use Rattle.jz_unroll.proofs.InlineParts.{inline_bin}
 use Rattle.jz_unroll.proofs.Parts.{and_first_false, left_read, IfReadLeft, last_known}
-use Rattle.jz_unrolling.specs.declared.known.Known.{Known}
-use Rattle.jz_unrolling.specs.Numbers.{numbers_in, with_number_at, Sets, SetsIf, Went}
-use Rattle.jz_unrolling.specs.Parts.{HasWhole, StandsApart}
+use Rattle.jz_unrolling_values.specs.declared.known.Known.{Known}
+use Rattle.jz_unrolling_values.specs.Numbers.{numbers_in, with_number_at, Sets, SetsIf, Went}
+use Rattle.jz_unrolling_values.specs.Parts.{HasWhole, StandsApart}
 use Rattle.jz_unrolling.specs.Steps.{no_callees, one_item, Becomes, FitsOn, Adds, AddsStep, step_list, AddsOne}
 use Rattle.jz_unrolling.proofs.Becoming.{block_append, nothing_becomes, both_become, op_becomes, gone_becomes, mark_becomes}
 use Rattle.jz_unrolling.proofs.FitLemmas.{on_both, stays_on, gone_on, mark_on}
-use Rattle.jz_unrolling.proofs.NumberLemmas.{went_none, went_set, went_then}
-use Rattle.jz_unrolling.proofs.PartLemmas.{ref_name, ref_copy}
+use Rattle.jz_unrolling_values.proofs.NumberLemmas.{went_none, went_set, went_then}
+use Rattle.jz_unrolling_values.proofs.PartLemmas.{ref_name, ref_copy}
 use Rattle.std.proofs.lemmas.List.{take_more}
 
 module _ (names : InlineNames) where

@@ -24,10 +24,10 @@ use Rattle.jz_change.specs.declared.change.Numbers.{Numbers}
 use Rattle.jz_unroll.specs.Values.{InlineNames, is_inline_var, left_has_values, operation_has_values}
 use Rattle.jz_unroll.specs.Unrolling.{with_number, number_of, all_unknown, HasValue, ConditionIs, IsInlineInt, UnrollsOp, stays, vanishes, UnrollsMark, marked, UnrollsTest, tested, UnrollsLoopTest, loops, always, HasValues, IsConstant, KnowsLess}
 use Rattle.jz_unroll.proofs.Parts.{not_true}
-use Rattle.jz_unrolling.specs.declared.known.Changed.{Changed}
-use Rattle.jz_unrolling.specs.Fits.{IsInlineIf, SetsInline, IsPlainOp, Fits, fits_done, fits_op, fits_quiet, fits_if, fits_arm, fits_while, fits_once, fits_for, FitsEach, fits_none, fits_more}
-use Rattle.jz_unrolling.specs.Numbers.{ends_of, is_kept, all_kept}
-use Rattle.jz_unrolling.specs.Parts.{HasWhole}
+use Rattle.jz_unrolling_values.specs.declared.known.Changed.{Changed}
+use Rattle.jz_unrolling_values.specs.Parts.{IsInlineIf, HasWhole}
+use Rattle.jz_unrolling.specs.Fits.{SetsInline, IsPlainOp, Fits, fits_done, fits_op, fits_quiet, fits_if, fits_arm, fits_while, fits_once, fits_for, FitsEach, fits_none, fits_more}
+use Rattle.jz_unrolling_values.specs.Numbers.{ends_of, is_kept, all_kept}
 use Rattle.jz_unrolling.specs.Refusals.{NeverFits}
 use Rattle.jz_unrolling.specs.Steps.{no_callees, FitsOn}
 use Rattle.jz_unrolling.proofs.Becoming.{block_append}

@@ -23,21 +23,22 @@ use Rattle.jz_change.specs.declared.change.Step.{Step}
 use Rattle.jz_change.specs.declared.change.Step.TheVariants as step
 use Rattle.jz_unroll.specs.Values.{InlineNames, with_values}
 use Rattle.jz_unroll.specs.Unrolling.{with_number, number_of, HasValue, HasValues, UnrollsTest, tested, UnrollsLoopTest, loops, always, IsConstant, KnowsLess}
-use Rattle.jz_unrolling.specs.declared.conditions.Test.TheVariants.{Always, Asked}
-use Rattle.jz_unrolling.specs.declared.known.Changed.{Changed}
-use Rattle.jz_unrolling.specs.declared.known.Known.{Known}
+use Rattle.jz_unrolling_values.specs.declared.conditions.Test.TheVariants.{Always, Asked}
+use Rattle.jz_unrolling_values.specs.declared.known.Changed.{Changed}
+use Rattle.jz_unrolling_values.specs.declared.known.Known.{Known}
 use Rattle.jz_unrolling.specs.declared.statements.Apart.{Apart}
 use Rattle.jz_unrolling.specs.declared.statements.Head.{Head}
 use Rattle.jz_unrolling.specs.declared.statements.Rounds.{Rounds}
 use Rattle.jz_unrolling.specs.declared.statements.Turn.{Turn}
 use Rattle.jz_unrolling.specs.Fits.{Fits, FitsEach}
-use Rattle.jz_unrolling.specs.Numbers.{numbers_in, with_number_at, undone, ends_of, all_kept, Sets, Went, IsRestored}
-use Rattle.jz_unrolling.specs.Parts.{IsTest}
-use Rattle.jz_unrolling.specs.Refusals.{NeverFits, NeverKeeps, NeverTurns, NeverTests, NeverEnds, NeverRounds, NeverCounts}
-use Rattle.jz_unrolling.specs.Steps.{no_callees, Becomes, FitsOn, Adds, AddsStep, IsSame, IsApart, list_or, IsTurn, IsHead, loop_of, IsLoop, HasRounds, for_of}
+use Rattle.jz_unrolling_values.specs.Numbers.{numbers_in, with_number_at, undone, ends_of, all_kept, Sets, Went, IsRestored, IsSame}
+use Rattle.jz_unrolling_values.specs.Parts.{IsTest}
+use Rattle.jz_unrolling_values.specs.Refusals.{NeverTests}
+use Rattle.jz_unrolling.specs.Refusals.{NeverFits, NeverKeeps, NeverTurns, NeverEnds, NeverRounds, NeverCounts}
+use Rattle.jz_unrolling.specs.Steps.{no_callees, Becomes, FitsOn, Adds, AddsStep, IsApart, list_or, IsTurn, IsHead, loop_of, IsLoop, HasRounds, for_of}
 use Rattle.jz_unrolling.proofs.Becoming.{if_becomes, arm_becomes, while_becomes, once_becomes, nothing_becomes}
 use Rattle.jz_unrolling.proofs.FitLemmas.{ends_at, if_on, arm_on, once_on, loop_on, test_not_false, same_values, rounds_on, last_round, next_round, round_never, test_never, loop_never, rounds_never, not_kept}
-use Rattle.jz_unrolling.proofs.NumberLemmas.{went_none, went_set, went_then, went_same, part_back, restored_same, restored_less, less_then, joined_went}
+use Rattle.jz_unrolling_values.proofs.NumberLemmas.{went_none, went_set, went_then, went_same, part_back, restored_same, restored_less, less_then, joined_went}
 use Rattle.jz_unrolling.proofs.RoundLemmas.{RoundsSo, no_rounds, one_round, all_rounds}
 
 module _ (names : InlineNames) where

@@ -1,11 +1,6 @@
-pub mod PartLemmas
-pub mod NumberLemmas
 pub mod Becoming
 pub mod FitLemmas
-pub mod RefusalLemmas
 pub mod RoundLemmas
 pub mod AddLemmas
 pub mod FormLemmas
-pub mod NameLemmas
-pub mod SettingLemmas
 pub mod FunctionLemmas

@@ -11,13 +11,10 @@ use Rattle.jz_meaning.specs.Trees.{done, op, quiet, choose, loop, each}
 use Rattle.jz_meaning.specs.Statements.{Operation, assign, instruction, unset, meaningless, Condition, Counter, Block}
 use Rattle.jz_change.specs.declared.change.Numbers.{Numbers}
 use Rattle.jz_unroll.specs.Values.{InlineNames, is_inline_var}
+use Rattle.jz_unrolling_values.specs.Parts.{IsInlineIf}
 use Rattle.jz_unroll.specs.Unrolling.{with_number, number_of, UnrollsOp, UnrollsMark, UnrollsTest, UnrollsLoopTest, HasValues, IsConstant, KnowsLess}
 
 -- ---- operations
-
-abbrev pub IsInlineIf : Option Expr → Type 0
-IsInlineIf None = ⊤
-IsInlineIf (Some c) = is_inline c ≡ true
 
 -- what sets one inline variable is inline, and so is its condition
 abbrev pub SetsInline : InlineNames → List Lval → Expr → Option Expr → Type 0

@@ -1,6 +1,3 @@
-pub mod InlineNames
-pub mod Numbers
-pub mod Parts
 pub mod Fits
 pub mod Steps
 pub mod Refusals

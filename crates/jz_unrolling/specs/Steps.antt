@@ -19,9 +19,9 @@ use Rattle.jz_change.specs.declared.change.Step.TheVariants as step
 use Rattle.jz_pass.specs.Unrolling.{Unrolls}
 use Rattle.jz_unroll.specs.Values.{InlineNames}
 use Rattle.jz_unroll.specs.Unrolling.{HasValue, IsInlineInt, IsConstant, KnowsLess, UnrollsLoopTest, unrolling}
-use Rattle.jz_unrolling.specs.declared.known.Changed.{Changed}
-use Rattle.jz_unrolling.specs.declared.known.Known.{Known}
-use Rattle.jz_unrolling.specs.declared.settings.Setting.{Setting}
+use Rattle.jz_unrolling_values.specs.declared.known.Changed.{Changed}
+use Rattle.jz_unrolling_values.specs.declared.known.Known.{Known}
+use Rattle.jz_unrolling.specs.declared.statements.Setting.{Setting}
 use Rattle.jz_unrolling.specs.declared.statements.Apart.{Apart}
 use Rattle.jz_unrolling.specs.declared.statements.Branch.{Branch}
 use Rattle.jz_unrolling.specs.declared.statements.Head.{Head}
@@ -31,7 +31,7 @@ use Rattle.jz_unrolling.specs.declared.statements.Rounds.{Rounds}
 use Rattle.jz_unrolling.specs.declared.statements.Turn.{Turn}
 use Rattle.jz_unrolling.specs.declared.statements.Turns.{Turns}
 use Rattle.jz_unrolling.specs.Fits.{Fits, FitsEach}
-use Rattle.jz_unrolling.specs.Numbers.{numbers_in, undone, Went}
+use Rattle.jz_unrolling_values.specs.Numbers.{numbers_in, changes_in, undone, Went, IsSame}
 
 -- ---- trees of statements
 
@@ -57,11 +57,6 @@ one_item = step.Ops (Same ∷ [])
 abbrev pub step_list : Option Step → List Step
 step_list None = []
 step_list (Some s) = s ∷ []
-
--- the same is known before and behind
-pub record IsSame (old new : Known) : Type 0 where
-  pub changed : new.changed.items ≡ old.changed.items
-  pub numbers : numbers_in new ≡ numbers_in old
 
 abbrev pub list_or : Option (List Stmt) → List Stmt
 list_or None = []
@@ -145,7 +140,7 @@ module _ (names : InlineNames) where
         Becomes (block no_callees q) e head.prologue.statements (numbers_in old)
         head.prologue.steps
     pub only : FitsOn (block no_callees q) e (numbers_in old)
-    pub back : undone old.changed.items (numbers_in old) ≡ e
+    pub back : undone (changes_in old) (numbers_in old) ≡ e
     pub test :
         UnrollsLoopTest names (record { cond = c; at = at }) (numbers_in old) [] []
         (record { cond = head.cond; at = at }) Same
@@ -158,7 +153,7 @@ module _ (names : InlineNames) where
     pub becomes : Becomes piece e made e (s ∷ [])
     pub only : FitsOn piece e e
     pub numbers : numbers_in new ≡ e
-    pub changed : new.changed.items ≡ outer
+    pub changed : changes_in new ≡ outer
 
   abbrev pub EndsLoop :
       Head → Option (List Stmt) → Span → Known → Known → List Stmt → List Stmt → Step → Type 0

@@ -14,8 +14,8 @@ use Rattle.jz_unroll.specs.Values.{is_inline_var}
 use Rattle.jz_unroll.specs.Unrolling.{marked_vars, unrolling}
 use Rattle.jz_function_runs.specs.FunctionRuns.{plain_body, alike_always}
 use Rattle.jz_unrolling.specs.Fits.{Fits}
-use Rattle.jz_unrolling.specs.InlineNames.{inline_names}
-use Rattle.jz_unrolling.specs.Numbers.{no_numbers}
+use Rattle.jz_unrolling_values.specs.InlineNames.{inline_names}
+use Rattle.jz_unrolling_values.specs.Numbers.{no_numbers}
 
 -- the body is unrolled, where the variables that are declared as inline integers are inline
 pub record IsUnrolled (f g : Fun) (k : Change) : Type 0 where

@@ -6,16 +6,15 @@ ghost use Rattle.std.specs.List.{list_all};
 ghost use Rattle.jz_change.specs.Views.{change_of};
 ghost use Rattle.jz_unroll.specs.Unrolling.{marked_vars};
 ghost use Rattle.jz_unroll.specs.Values.{is_inline_var};
-ghost use Rattle.jz_unrolling.specs.InlineNames.{names_in};
+ghost use Rattle.jz_unrolling_values.specs.InlineNames.{names_in};
 ghost use Rattle.jz_unrolling.specs.Unrolled.{IsUnrolled, IsUnrollable, KeepsHead, GivesPlain};
-ghost use Rattle.jz_unrolling.specs.Refusals.{OrElse};
+ghost use Rattle.jz_unrolling_values.specs.Refusals.{OrElse};
 ghost use Rattle.jz_unrolling.specs.Unrolled.{KeepsRuns, KeepsCases};
 
-use crate::inline_vars::InlineVars;
-use crate::known::Known;
 use crate::statements::{Unroller, unroll_all};
 use jz_pass::{Change, Passed};
 use jz_tree::{Failure, Fun, Param, Ret, Seq, Span, Stmt, Var, copy_notes, copy_vars};
+use jz_unrolling_values::{InlineVars, Known};
 use std::alloc::{AllocError, Global};
 
 fn copy_rets(alloc: Global, rets: &Seq<Ret>) -> Result<Seq<Ret>, AllocError>

@@ -7,14 +7,16 @@ ghost use Rattle.jz_tree.specs.declared.stmt.Stmt.{Stmt as Statement};
 ghost use Rattle.jz_meaning.specs.Trees.{op as op_node, quiet};
 ghost use Rattle.jz_meaning.specs.Statements.{instruction, unset, values_between};
 ghost use Rattle.jz_meaning.specs.Runs.{block, statement_tree};
-ghost use Rattle.jz_unrolling.specs.InlineNames.{names_in};
-ghost use Rattle.jz_unrolling.specs.Numbers.{numbers_in, SetsIf};
+ghost use Rattle.jz_unrolling_values.specs.InlineNames.{names_in};
+ghost use Rattle.jz_unrolling_values.specs.Numbers.{numbers_in, SetsIf};
 ghost use Rattle.jz_tree.specs.Failures.{IfAnswered};
 ghost use Rattle.jz_unroll.specs.Values.{operation_has_values};
-ghost use Rattle.jz_unrolling.specs.Parts.{IsTest};
-ghost use Rattle.jz_unrolling.specs.Refusals.{OrElse, NeverFits, NeverKeeps, NeverTurns, NeverEnds};
-ghost use Rattle.jz_unrolling.specs.Refusals.{NeverCounts, NeverRounds, SetsOne};
-ghost use Rattle.jz_unrolling.specs.declared.conditions.Test.TheVariants.{Asked};
+ghost use Rattle.jz_unrolling_values.specs.Parts.{IsTest};
+ghost use Rattle.jz_unrolling_values.specs.Refusals.{OrElse};
+ghost use Rattle.jz_unrolling.specs.Refusals.{NeverFits, NeverKeeps, NeverTurns, NeverEnds};
+ghost use Rattle.jz_unrolling_values.specs.Refusals.{SetsOne};
+ghost use Rattle.jz_unrolling.specs.Refusals.{NeverCounts, NeverRounds};
+ghost use Rattle.jz_unrolling_values.specs.declared.conditions.Test.TheVariants.{Asked};
 ghost use Rattle.jz_unrolling.specs.Steps.{no_callees, setting_of, branch_of, turns_of};
 ghost use Rattle.jz_unrolling.specs.Steps.{one_item, step_list};
 ghost use Rattle.jz_unrolling.specs.Steps.{Adds, AddsOne, AddsStep, IsApart, IsTurn, EndsLoop};
@@ -24,15 +26,13 @@ ghost use Rattle.jz_integers.specs.Integers.{KnownNumbers};
 ghost use Rattle.jz_unroll.specs.Values.{InlineNames};
 ghost use Rattle.jz_unrolling.specs.Steps.{HasRounds, AddsRounds};
 
-use crate::conditions::{Test, test_of};
-use crate::expressions::{
-    Values, all_with_values, condition_with_values, lefts_with_values, number_of, with_values,
-};
-use crate::inline_vars::InlineVars;
-use crate::known::{Changed, Known};
-use crate::settings::{Setting, inline_target, is_inline_number, is_set, new_number, stands_apart};
 use jz_change::{Change, Numbers, Step};
 use jz_tree::{BinOp, Expr, Failure, Lval, Rhs, Seq, Span, Stmt, StmtKind, Text, Var, copy_notes};
+use jz_unrolling_values::{
+    Changed, InlineVars, Known, Test, Values, all_with_values, condition_with_values, inline_target,
+    is_inline_number, is_set, lefts_with_values, new_number, number_of, stands_apart, test_of,
+    with_values,
+};
 use std::alloc::{AllocError, Global};
 
 /// What is the same for all statements.
@@ -40,6 +40,15 @@ use std::alloc::{AllocError, Global};
 pub(crate) struct Unroller<'a> {
     pub alloc: Global,
     pub vars: &'a InlineVars,
+}
+
+/// An assignment: `to = value`, with an operation `to = to op value`, where `cond` holds.
+#[derive(Clone, Copy)]
+struct Setting<'a> {
+    to: &'a Seq<Lval>,
+    op: Option<BinOp>,
+    value: &'a Expr,
+    cond: &'a Option<Expr>,
 }
 
 /// Statements by themselves, and the steps of the change.

@@ -10,8 +10,8 @@ use Rattle.jz_change.proofs.StepViews.{change_is}
 use Rattle.jz_pass.specs.Unrolling.{Unrolls}
 use Rattle.jz_unroll.specs.Unrolling.{marked_vars, unrolling}
 use Rattle.jz_unroll.specs.Values.{is_inline_var}
-use Rattle.jz_unrolling.specs.InlineNames.{names_in, inline_names}
-use Rattle.jz_unrolling.specs.Numbers.{no_numbers, numbers_in}
+use Rattle.jz_unrolling_values.specs.InlineNames.{names_in, inline_names}
+use Rattle.jz_unrolling_values.specs.Numbers.{no_numbers, numbers_in}
 use Rattle.jz_unrolling.specs.Steps.{no_callees, Adds, Becomes}
 use Rattle.jz_unrolling.specs.Unrolled.{IsUnrolled, KeepsHead}
 use Rattle.jz_unrolling.proofs.Becoming.{alone}

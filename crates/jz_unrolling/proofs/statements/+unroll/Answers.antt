@@ -18,13 +18,13 @@ use Rattle.jz_change.specs.declared.change.Step.TheVariants as step
 use Rattle.jz_unrolling.specs.declared.statements.Apart.{Apart}
 use Rattle.jz_unrolling.specs.declared.statements.Head.{Head}
 use Rattle.jz_unroll.specs.Unrolling.{IsInlineInt}
-use Rattle.jz_unrolling.specs.InlineNames.{names_in}
-use Rattle.jz_unrolling.specs.Numbers.{numbers_in}
-use Rattle.jz_unrolling.specs.Parts.{IsTest}
+use Rattle.jz_unrolling_values.specs.InlineNames.{names_in}
+use Rattle.jz_unrolling_values.specs.Numbers.{numbers_in}
+use Rattle.jz_unrolling_values.specs.Parts.{IsTest}
 use Rattle.jz_unrolling.specs.Steps.{no_callees, Adds, AddsStep, IsTurn, IsLoop, IsLoopTest, loop_of, branch_of, turns_of, for_of, step_list, list_or}
 use Rattle.jz_unrolling.proofs.AddLemmas.{adds_next, adds_as}
 use Rattle.jz_unrolling.proofs.FormLemmas as form
-use Rattle.jz_unrolling.proofs.PartLemmas.{ref_name, ref_copy}
+use Rattle.jz_unrolling_values.proofs.PartLemmas.{ref_name, ref_copy}
 use Rattle.jz_unrolling.proofs.statements.+unroll.Goals as goal
 
 pub unroll_all-unroll_one-requires : goal.unroll_all-unroll_one-requires
@@ -44,7 +44,7 @@ pub unroll_apart-returns : goal.unroll_apart-returns
 unroll_apart-returns t c =
     let names = names_in c.args.unroller.now.vars.now in
     form.apart_so names c.args.stmts.now c.args.known.now c.enter-outer.new.self c.unroll_all.new.known c.leave.new.self c.enter-outer.result.items c.in_ok-kept.kept c.unroll_all.new.out c.in_ok-steps.steps
-    (ap (λ l. l.items) c.enter-outer.ensures.outer) c.enter-outer.ensures.fresh c.enter-outer.ensures.numbers
+    c.enter-outer.ensures.outer c.enter-outer.ensures.fresh c.enter-outer.ensures.numbers
     (subst (λ l. Adds names (block no_callees c.args.stmts.now) c.enter-outer.new.self c.unroll_all.new.known l c.unroll_all.new.out c.in_ok-steps.steps) c.new-statements.ensures c.in_ok-steps.ensures)
     c.in_ok-kept.ensures c.if-not-kept.false
 
@@ -149,7 +149,7 @@ unroll_while-returns-in_ok-append-in-Once t c =
     (form.once_adds names (not (is_some s.body.now)) s.cond.now at s.prologue.now (body_piece no_callees s.body.now done) c.args.known.now start end c.join.new.self c.enter-outer.result.items
     c.args.out.now c.append.new.self c.unroll_all.new.out c.in_ok-steps.steps
     (subst (λ k. IsLoopTest names (numbers_in end) s.cond.now at k) c.in-Once.is (c.loop_test.ensures names (numbers_in end) s.cond.now at c.in_ok-test.ensures))
-    (ap (λ l. l.items) c.enter-outer.ensures.outer) c.enter-outer.ensures.fresh c.enter-outer.ensures.numbers
+    c.enter-outer.ensures.outer c.enter-outer.ensures.fresh c.enter-outer.ensures.numbers
     (subst (λ l. Adds names (block no_callees s.prologue.now) start end l c.unroll_all.new.out c.in_ok-steps.steps) c.new-statements.ensures c.in_ok-steps.ensures)
     c.in_ok-join-in-Once.ensures.changed c.in_ok-join-in-Once.ensures.numbers c.in_ok-append-in-Once.ensures.ok)
 
@@ -162,7 +162,7 @@ unroll_while-returns-in_ok-step-in-Asks t c =
     let end = c.unroll_all.new.known in
     let head : Head = record { outer = c.enter-outer.result; prologue = record { statements = c.unroll_all.new.out; steps = c.in_ok-steps.steps }; cond = c.in-Asks.cond } in
     form.loop_adds names (turns_of s at) c.args.known.now c.unroll_body.new.known c.enter-outer.result.items c.args.out.now c.unroll_body.new.out c.in_ok-step-in-Asks.step
-    (ap (λ l. l.items) c.enter-outer.ensures.outer)
+    c.enter-outer.ensures.outer
     (c.in_ok-step-in-Asks.ensures (numbers_in c.args.known.now) s.prologue.now s.cond.now
     (form.head_so names s.prologue.now s.cond.now at c.args.known.now start end head c.enter-outer.ensures.fresh c.enter-outer.ensures.numbers
     (subst (λ l. Adds names (block no_callees s.prologue.now) start end l c.unroll_all.new.out c.in_ok-steps.steps) c.new-statements.ensures c.in_ok-steps.ensures)

@@ -2,7 +2,7 @@ use Rattle.std.proofs.Common.{◌+◌, ◌*◌, take, length}
 use Rattle.jz_meaning.specs.Runs.{block}
 use Rattle.jz_meaning.specs.Statements.{values_between}
 use Rattle.jz_interp.proofs.Weights.{weight, weights, body_weight}
-use Rattle.jz_unrolling.specs.InlineNames.{names_in}
+use Rattle.jz_unrolling_values.specs.InlineNames.{names_in}
 use Rattle.jz_unrolling.specs.Steps.{no_callees, Adds}
 use Rattle.jz_unrolling.proofs.FormLemmas.{IsRounding}
 use Rattle.jz_unrolling.proofs.statements.+unroll.Given as goal

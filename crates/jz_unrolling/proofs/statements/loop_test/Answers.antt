@@ -1,6 +1,6 @@
 use Rattle.std.proofs.Common.{subst}
-use Rattle.jz_unrolling.specs.declared.conditions.Test.TheVariants.{Always}
-use Rattle.jz_unrolling.specs.Parts.{IsTest}
+use Rattle.jz_unrolling_values.specs.declared.conditions.Test.TheVariants.{Always}
+use Rattle.jz_unrolling_values.specs.Parts.{IsTest}
 use Rattle.jz_unrolling.proofs.FormLemmas.{asked_test, true_test, false_test}
 use Rattle.jz_unrolling.proofs.statements.loop_test.Goals as goal
 

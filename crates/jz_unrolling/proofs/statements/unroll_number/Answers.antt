@@ -5,11 +5,11 @@ use Rattle.jz_tree.specs.declared.stmt.Lval.TheVariants as lval
 use Rattle.jz_runs.specs.Trees.{op}
 use Rattle.jz_meaning.specs.Statements.{assign}
 use Rattle.jz_change.specs.declared.change.Step.TheVariants as step
-use Rattle.jz_unrolling.specs.InlineNames.{names_in}
-use Rattle.jz_unrolling.specs.Numbers.{SetsIf}
+use Rattle.jz_unrolling_values.specs.InlineNames.{names_in}
+use Rattle.jz_unrolling_values.specs.Numbers.{SetsIf}
 use Rattle.jz_unrolling.specs.Steps.{AddsStep}
 use Rattle.jz_unrolling.proofs.AddLemmas.{number_adds}
-use Rattle.jz_unrolling.proofs.SettingLemmas.{number_is}
+use Rattle.jz_unrolling_values.proofs.SettingLemmas.{number_is}
 use Rattle.jz_unrolling.proofs.statements.unroll_number.Goals as goal
 
 pub returns : goal.returns

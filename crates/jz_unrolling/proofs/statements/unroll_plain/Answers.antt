@@ -2,7 +2,7 @@ use Rattle.std.proofs.Common.{◌∷◌, [], refl, sym, subst}
 use Rattle.jz_tree.specs.declared.stmt.StmtKind.TheVariants as kind
 use Rattle.jz_tree.specs.declared.stmt.Rhs.TheVariants as rhs
 use Rattle.jz_runs.specs.Trees.{op}
-use Rattle.jz_unrolling.specs.InlineNames.{names_in}
+use Rattle.jz_unrolling_values.specs.InlineNames.{names_in}
 use Rattle.jz_unrolling.specs.Steps.{Adds, setting_of}
 use Rattle.jz_unrolling.proofs.AddLemmas.{plain_adds}
 use Rattle.jz_unrolling.proofs.statements.unroll_plain.Goals as goal

@@ -1,0 +1,19 @@
+use Rattle.std.proofs.Common.{◌≡◌, ◌∙◌, ap, sym, subst, rules, Some}
+use Rattle.std.specs.Int.{w128}
+use Rattle.std.proofs.lemmas.Int.{to_z-of_z}
+use Rattle.jz_integers.specs.declared.constant.Constant.TheVariants as constant
+use Rattle.jz_unrolling_values.specs.InlineNames.{names_in}
+use Rattle.jz_unrolling_values.specs.Numbers.{numbers_in}
+use Rattle.jz_unrolling_values.specs.Parts.{HasWhole, IsPart}
+use Rattle.jz_unrolling_values.proofs.SettingLemmas.{whole_so}
+use Rattle.jz_unrolling_values.proofs.settings.new_number.Goals as goal
+
+pub returns-in-Some-Int : goal.returns-in-Some-Int
+returns-in-Some-Int c =
+    let names = names_in c.args.values.now.vars.now in
+    let e = numbers_in c.args.values.now.known.now in
+    let n = c.in-Some-Int.n in
+    subst (λ i. HasWhole e c.args.var.now c.args.op c.args.value.now i) (sym (to_z-of_z w128 n (search rules)))
+    (whole_so names e c.args.var.now c.args.op c.args.value.now n c.in-Inline.number c.in-Inline.field-1 c.requires.whole
+    (subst (λ k. IsPart names e c.args.value.now k) c.in-Inline.is c.in_ok-part_of.ensures)
+    (sym c.updated.ensures ∙ c.in-Some-Int.is ∙ ap Some c.in-Some-Int.field-0-is))
