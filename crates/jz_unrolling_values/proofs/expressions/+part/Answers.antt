@@ -1,4 +1,4 @@
-use Rattle.std.proofs.Common.{arith, rules, ap, sym, subst, ◌∙◌, Some, to_z, of_z}
+use Rattle.std.proofs.Common.{arith, rules, ap, sym, subst, ◌∙◌, Some, to_z, of_z, ◌≡◌, false, true}
 use Rattle.std.specs.Int.{w128}
 use Rattle.std.proofs.lemmas.Int.{to_z-of_z}
 use Rattle.jz_tree.specs.declared.expr.Expr.TheVariants as expr
@@ -8,6 +8,9 @@ use Rattle.jz_unrolling_values.specs.InlineNames.{names_in}
 use Rattle.jz_unrolling_values.specs.Numbers.{numbers_in}
 use Rattle.jz_unrolling_values.specs.Parts.{IsValued, IsInlinePart, IsPlainPart, IsPart}
 use Rattle.jz_unrolling_values.proofs.PartLemmas.{first_within, last_within, begins, goes_on, access_values, access_known, num_part, bool_part, cell_part, load_part, cast_part}
+use Rattle.jz_unrolling_values.proofs.RefusalLemmas.{handed, side_no_part, way_no_part, right_no_part, cell_no_array, cell_no_index, load_no_part, neg_no_part, not_no_part, cast_no_part, no_values}
+use Rattle.jz_unrolling_values.specs.Refusals.{is_part}
+use Rattle.jz_unroll.specs.Values.{has_values}
 use Rattle.jz_unrolling_values.proofs.expressions.+part.Goals as goal
 
 pub boxed_with_values-returns : goal.boxed_with_values-returns
@@ -109,3 +112,108 @@ single_part-returns-in_ok-e-in-Cast t c =
     let inner = c.in_ok-e-in-Cast in
     subst (λ x. IsPlainPart names e x (expr.Cast i.size i.signed inner.e i.span)) (sym i.is)
     (cast_part names e i.size i.signed i.e inner.e i.span inner.ensures)
+
+-- ---- refusals
+
+pub part_of-returns-in_err-part : goal.part_of-returns-in_err-part
+part_of-returns-in_err-part t c =
+    let names = names_in c.args.values.now.vars.now in
+    let e = numbers_in c.args.values.now.known.now in
+    let side = c.in_ok-waiting.field-0 in
+    handed c.from_residual-in_err-part.result c.in_err-part.field-0.0 c.from_residual-in_err-part.ensures.1 c.in_err-part.ensures
+    (λ no. subst (λ y. is_part names e y ≡ false) c.in_ok-waiting.ensures.whole (side_no_part names e side.waiting.items side.first.now no))
+
+pub part_of-returns-in_err-right : goal.part_of-returns-in_err-right
+part_of-returns-in_err-right t c =
+    let names = names_in c.args.values.now.vars.now in
+    let e = numbers_in c.args.values.now.known.now in
+    let w = c.in-Some.field-0 in
+    let way = c.loop-op.invariant in
+    handed c.from_residual-in_err-right.result c.in_err-right.field-0.0 c.from_residual-in_err-right.ensures.1 c.in_err-right.ensures
+    (λ no. way_no_part names e c.args.expr.now c.loop-op.waiting.items c.pop.new.self.items w c.loop-op.part c.in-Some.ensures.items way
+    (right_no_part names e w.op way.reached w.right.now w.span no))
+
+pub part_of-returns-in_err-part-2 : goal.part_of-returns-in_err-part-2
+part_of-returns-in_err-part-2 t c =
+    let names = names_in c.args.values.now.vars.now in
+    let e = numbers_in c.args.values.now.known.now in
+    let w = c.in-Some.field-0 in
+    let way = c.loop-op.invariant in
+    handed c.from_residual-in_err-part-2.result c.in_err-part-2.field-0.0 c.from_residual-in_err-part-2.ensures.1
+    (c.in_err-part-2.ensures names e way.reached w.right.now way.so c.in_ok-right.ensures)
+    (λ no. way_no_part names e c.args.expr.now c.loop-op.waiting.items c.pop.new.self.items w c.loop-op.part c.in-Some.ensures.items way no)
+
+pub boxed_with_values-returns-in_err-part : goal.boxed_with_values-returns-in_err-part
+boxed_with_values-returns-in_err-part t c =
+    let names = names_in c.args.values.now.vars.now in
+    let e = numbers_in c.args.values.now.known.now in
+    handed c.from_residual.result c.in_err-part.field-0.0 c.from_residual.ensures.1 c.in_err-part.ensures
+    (λ no. no_values names e c.args.expr.now (subst (λ k. is_part names e k ≡ false) c.get.ensures no))
+
+pub boxed_with_values-returns-in_err-whole : goal.boxed_with_values-returns-in_err-whole
+boxed_with_values-returns-in_err-whole t c =
+    let names = names_in c.args.values.now.vars.now in
+    let e = numbers_in c.args.values.now.known.now in
+    handed c.from_residual-in_err-whole.result c.in_err-whole.field-0.0 c.from_residual-in_err-whole.ensures.1
+    (c.in_err-whole.ensures names e c.args.expr.now (subst (λ k. IsPart names e k c.in_ok-part.part) c.get.ensures c.in_ok-part.ensures))
+    (λ no. no)
+
+pub access_of-returns-in_err-at-clause-known : goal.access_of-returns-in_err-at-clause-known
+access_of-returns-in_err-at-clause-known t c =
+    handed c.from_residual.result c.in_err-at.field-0.0 c.from_residual.ensures.1 c.in_err-at.ensures
+    (λ no. access_known (names_in c.args.values.now.vars.now) (numbers_in c.args.values.now.known.now) c.args.access.now ∙ no)
+
+pub single_part-returns-in_err-part : goal.single_part-returns-in_err-part
+single_part-returns-in_err-part t c =
+    let names = names_in c.args.values.now.vars.now in
+    let e = numbers_in c.args.values.now.known.now in
+    handed c.from_residual.result c.in_err-part.field-0.0 c.from_residual.ensures.1 c.in_err-part.ensures
+    (λ no. subst (λ x. is_part names e x ≡ false) (sym c.in-Var.is) no)
+
+pub single_part-returns-in_err-array-in-Cell : goal.single_part-returns-in_err-array-in-Cell
+single_part-returns-in_err-array-in-Cell t c =
+    let names = names_in c.args.values.now.vars.now in
+    let e = numbers_in c.args.values.now.known.now in
+    let i = c.in-Cell in
+    handed c.from_residual-in_err-array-in-Cell.result c.in_err-array-in-Cell.field-0.0 c.from_residual-in_err-array-in-Cell.ensures.1 c.in_err-array-in-Cell.ensures.plain
+    (λ no. subst (λ x. is_part names e x ≡ false) (sym i.is) (cell_no_array names e i.var i.at no))
+
+pub single_part-returns-in_err-at-in-Cell : goal.single_part-returns-in_err-at-in-Cell
+single_part-returns-in_err-at-in-Cell t c =
+    let names = names_in c.args.values.now.vars.now in
+    let e = numbers_in c.args.values.now.known.now in
+    let i = c.in-Cell in
+    handed c.from_residual-in_err-at-in-Cell.result c.in_err-at-in-Cell.field-0.0 c.from_residual-in_err-at-in-Cell.ensures.1 c.in_err-at-in-Cell.ensures
+    (λ no. subst (λ x. is_part names e x ≡ false) (sym i.is) (cell_no_index names e i.var i.at no))
+
+pub single_part-returns-in_err-access-in-Load : goal.single_part-returns-in_err-access-in-Load
+single_part-returns-in_err-access-in-Load t c =
+    let names = names_in c.args.values.now.vars.now in
+    let e = numbers_in c.args.values.now.known.now in
+    let i = c.in-Load in
+    handed c.from_residual-in_err-access-in-Load.result c.in_err-access-in-Load.field-0.0 c.from_residual-in_err-access-in-Load.ensures.1 c.in_err-access-in-Load.ensures.known
+    (λ no. subst (λ x. is_part names e x ≡ false) (sym i.is) (load_no_part names e i.access no))
+
+pub single_part-returns-in_err-operand-in-Neg : goal.single_part-returns-in_err-operand-in-Neg
+single_part-returns-in_err-operand-in-Neg t c =
+    let names = names_in c.args.values.now.vars.now in
+    let e = numbers_in c.args.values.now.known.now in
+    let i = c.in-Neg in
+    handed c.from_residual-in_err-operand-in-Neg.result c.in_err-operand-in-Neg.field-0.0 c.from_residual-in_err-operand-in-Neg.ensures.1 c.in_err-operand-in-Neg.ensures
+    (λ no. subst (λ x. is_part names e x ≡ false) (sym i.is) (neg_no_part names e i.e i.span (subst (λ k. is_part names e k ≡ false) c.get.ensures no)))
+
+pub single_part-returns-in_err-operand-in-Not : goal.single_part-returns-in_err-operand-in-Not
+single_part-returns-in_err-operand-in-Not t c =
+    let names = names_in c.args.values.now.vars.now in
+    let e = numbers_in c.args.values.now.known.now in
+    let i = c.in-Not in
+    handed c.from_residual-in_err-operand-in-Not.result c.in_err-operand-in-Not.field-0.0 c.from_residual-in_err-operand-in-Not.ensures.1 c.in_err-operand-in-Not.ensures
+    (λ no. subst (λ x. is_part names e x ≡ false) (sym i.is) (not_no_part names e i.e i.span (subst (λ k. is_part names e k ≡ false) c.get-in-Not.ensures no)))
+
+pub single_part-returns-in_err-e-in-Cast : goal.single_part-returns-in_err-e-in-Cast
+single_part-returns-in_err-e-in-Cast t c =
+    let names = names_in c.args.values.now.vars.now in
+    let e = numbers_in c.args.values.now.known.now in
+    let i = c.in-Cast in
+    handed c.from_residual-in_err-e-in-Cast.result c.in_err-e-in-Cast.field-0.0 c.from_residual-in_err-e-in-Cast.ensures.1 c.in_err-e-in-Cast.ensures
+    (λ no. subst (λ x. is_part names e x ≡ false) (sym i.is) (cast_no_part names e i.size i.signed i.e i.span no))

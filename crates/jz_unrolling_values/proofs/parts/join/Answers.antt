@@ -2,6 +2,7 @@ use Rattle.std.proofs.Common.{ap, sym, subst, ◌∙◌}
 use Rattle.jz_tree.specs.declared.expr.Expr.TheVariants as expr
 use Rattle.jz_unrolling_values.specs.Parts.{IsInlinePart, IsPlainPart, IsPart}
 use Rattle.jz_unrolling_values.proofs.PartLemmas.{both_inline, plain_left, plain_right}
+use Rattle.jz_unrolling_values.proofs.RefusalLemmas.{handed, left_no_value, right_no_value}
 use Rattle.jz_unrolling_values.proofs.parts.join.Goals as goal
 
 pub returns-in-Inline-right : goal.returns-in-Inline-right
@@ -29,3 +30,17 @@ returns-in_ok-right-in-Plain-2 c =
     (plain_left names e c.args.op x y c.in-Plain.left c.in_ok-right-in-Plain.right c.args.span
     (subst (λ k. IsPart names e x k) c.in-Plain.is p)
     (c.in_ok-right-in-Plain.ensures names e y q))
+
+pub returns-in_err-left-in-Plain-right : goal.returns-in_err-left-in-Plain-right
+returns-in_err-left-in-Plain-right c =
+    λ names e x y p q.
+    handed c.from_residual.result c.in_err-left-in-Plain-right.field-0.0 c.from_residual.ensures.1
+    (c.in_err-left-in-Plain-right.ensures names e x (subst (λ k. IsPart names e x k) c.in-Inline.is p))
+    (left_no_value names e c.args.op x y c.args.span (subst (λ k. IsPart names e y k) c.in-Plain-right.is q).plain)
+
+pub returns-in_err-right-in-Plain : goal.returns-in_err-right-in-Plain
+returns-in_err-right-in-Plain c =
+    λ names e x y p q.
+    handed c.from_residual-in_err-right-in-Plain.result c.in_err-right-in-Plain.field-0.0 c.from_residual-in_err-right-in-Plain.ensures.1
+    (c.in_err-right-in-Plain.ensures names e y q)
+    (right_no_value names e c.args.op x y c.args.span (subst (λ k. IsPart names e x k) c.in-Plain.is p).plain)

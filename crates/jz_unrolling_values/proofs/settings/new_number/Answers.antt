@@ -5,7 +5,8 @@ use Rattle.jz_integers.specs.declared.constant.Constant.TheVariants as constant
 use Rattle.jz_unrolling_values.specs.InlineNames.{names_in}
 use Rattle.jz_unrolling_values.specs.Numbers.{numbers_in}
 use Rattle.jz_unrolling_values.specs.Parts.{HasWhole, IsPart}
-use Rattle.jz_unrolling_values.proofs.SettingLemmas.{whole_so}
+use Rattle.jz_unrolling_values.proofs.SettingLemmas.{whole_so, part_no_whole, plain_no_whole, other_no_whole}
+use Rattle.jz_unrolling_values.proofs.RefusalLemmas.{handed}
 use Rattle.jz_unrolling_values.proofs.settings.new_number.Goals as goal
 
 pub returns-in-Some-Int : goal.returns-in-Some-Int
@@ -17,3 +18,8 @@ returns-in-Some-Int c =
     (whole_so names e c.args.var.now c.args.op c.args.value.now n c.in-Inline.number c.in-Inline.field-1 c.requires.whole
     (subst (λ k. IsPart names e c.args.value.now k) c.in-Inline.is c.in_ok-part_of.ensures)
     (sym c.updated.ensures ∙ c.in-Some-Int.is ∙ ap Some c.in-Some-Int.field-0-is))
+
+pub returns-in_err-part_of : goal.returns-in_err-part_of
+returns-in_err-part_of c =
+    handed c.from_residual.result c.in_err-part_of.field-0.0 c.from_residual.ensures.1 c.in_err-part_of.ensures
+    (part_no_whole (names_in c.args.values.now.vars.now) (numbers_in c.args.values.now.known.now) c.args.var.now c.args.op c.args.value.now)
