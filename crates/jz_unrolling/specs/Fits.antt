@@ -1,6 +1,6 @@
 -- Which trees can be unrolled, where this is known, and what is known behind them: what is asked for
--- has a value, and no arm of an `if` that stays, and no part of a `while` that stays, changes what is
--- known before it.
+-- has a value. Behind an `if` that stays nothing is known of what its arms set, and before a `while`
+-- that stays nothing of what it sets.
 use Rattle.std.specs.Prelude.{ℤ, ◌≡◌, Bool, true, false, if◌then◌else◌, List, [], ◌∷◌, Option, Some, None, ⊤}
 use Rattle.jz_tree.specs.declared.expr.Expr.{Expr}
 use Rattle.jz_tree.specs.declared.stmt.Lval.{Lval}
@@ -12,7 +12,8 @@ use Rattle.jz_meaning.specs.Statements.{Operation, assign, instruction, unset, m
 use Rattle.jz_change.specs.declared.change.Numbers.{Numbers}
 use Rattle.jz_unroll.specs.Values.{InlineNames, is_inline_var}
 use Rattle.jz_unrolling_values.specs.Parts.{IsInlineIf}
-use Rattle.jz_unroll.specs.Unrolling.{with_number, number_of, UnrollsOp, UnrollsMark, UnrollsTest, UnrollsLoopTest, HasValues, IsConstant, KnowsLess}
+use Rattle.jz_unrolling.specs.Forgetting.{forgotten}
+use Rattle.jz_unroll.specs.Unrolling.{with_number, number_of, UnrollsOp, UnrollsMark, UnrollsTest, UnrollsLoopTest, HasValues, IsConstant}
 
 -- ---- operations
 
@@ -46,7 +47,7 @@ module _ (names : InlineNames) where
           {p p2 : Condition} {a b r : Block} {e ea eb e2 : KnownNumbers} {os : List Operation}
           {is : List Numbers} {i : Numbers}
           → UnrollsTest names p e os is p2 i → Fits a e ea → Fits b e eb
-          → KnowsLess e ea → KnowsLess e eb → Fits r e e2 → Fits (choose p a b r) e e2
+          → Fits r (forgotten names b (forgotten names a e)) e2 → Fits (choose p a b r) e e2
       fits_arm :
           {p : Condition} {a b r : Block} {e e1 e2 : KnownNumbers} (z : Bool)
           → IsConstant p e z → Fits (if z then a else b) e e1 → Fits r e1 e2
@@ -54,11 +55,14 @@ module _ (names : InlineNames) where
       fits_while :
           {h : Bool} {p p2 : Condition} {q b r : Block} {e eq eb e2 : KnownNumbers}
           {os : List Operation} {is : List Numbers} {i : Numbers}
-          → Fits q e eq → UnrollsLoopTest names p eq os is p2 i → KnowsLess e eq
-          → Fits b eq eb → KnowsLess eq eb → Fits r e e2 → Fits (loop h q p b r) e e2
+          → (IsConstant p e false → ⊥) → Fits q (forgotten names b (forgotten names q e)) eq
+          → UnrollsLoopTest names p eq os is p2 i → Fits b eq eb
+          → Fits r (forgotten names b (forgotten names q e)) e2 → Fits (loop h q p b r) e e2
+      -- false before it and behind its prologue
       fits_once :
           {h : Bool} {p : Condition} {q b r : Block} {e eq e2 : KnownNumbers}
-          → Fits q e eq → IsConstant p eq false → Fits r eq e2 → Fits (loop h q p b r) e e2
+          → IsConstant p e false → Fits q e eq → IsConstant p eq false → Fits r eq e2
+          → Fits (loop h q p b r) e e2
       fits_for :
           {f : Counter} {b r : Block} {e e1 e2 : KnownNumbers} {is : List ℤ}
           → is_inline f.from ≡ true → is_inline f.to ≡ true → HasValues names f e is

@@ -1,3 +1,4 @@
+pub mod Forgetting
 pub mod Fits
 pub mod Steps
 pub mod Refusals

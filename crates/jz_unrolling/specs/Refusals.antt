@@ -1,5 +1,5 @@
 -- When a piece of a tree is refused.
-use Rattle.std.specs.Prelude.{ℤ, ◌≡◌, Bool, true, List, Option}
+use Rattle.std.specs.Prelude.{ℤ, ◌≡◌, Bool, true, List}
 use Rattle.jz_tree.specs.Span.{Span}
 use Rattle.jz_tree.specs.declared.expr.Expr.{Expr}
 use Rattle.jz_tree.specs.declared.expr.Var.{Var}
@@ -9,36 +9,30 @@ use Rattle.jz_integers.specs.Integers.{KnownNumbers}
 use Rattle.jz_interp.specs.InnerParts.{body_piece}
 use Rattle.jz_meaning.specs.Trees.{done}
 use Rattle.jz_meaning.specs.Runs.{block}
-use Rattle.jz_meaning.specs.Statements.{Block}
+use Rattle.jz_meaning.specs.Statements.{Operation, Condition, Block}
+use Rattle.jz_change.specs.declared.change.Numbers.{Numbers}
 use Rattle.jz_unroll.specs.Values.{InlineNames}
-use Rattle.jz_unroll.specs.Unrolling.{HasValues, KnowsLess}
+use Rattle.jz_unroll.specs.Unrolling.{HasValues, UnrollsLoopTest}
 use Rattle.jz_unrolling_values.specs.declared.known.Known.{Known}
 use Rattle.jz_unrolling_values.specs.Numbers.{numbers_in}
-use Rattle.jz_unrolling.specs.declared.statements.Head.{Head}
 use Rattle.jz_unrolling.specs.declared.statements.Rounds.{Rounds}
+use Rattle.jz_unrolling.specs.declared.statements.Turns.{Turns}
 use Rattle.jz_unrolling.specs.Fits.{Fits}
-use Rattle.jz_unrolling.specs.Steps.{no_callees, IsHead, HasRounds, loop_of, for_of}
+use Rattle.jz_unrolling.specs.Steps.{no_callees, HasRounds, for_of}
 
 module _ (names : InlineNames) where
   -- a piece of a tree, before whatever follows, does not fit
   abbrev pub NeverFits : (Block → Block) → KnownNumbers → Type 0
   NeverFits piece e = (t : Block) (e2 : KnownNumbers) → Fits names (piece t) e e2 → ⊥
 
-  -- statements by themselves do not fit, or change what is known before them
-  abbrev pub NeverKeeps : List Stmt → KnownNumbers → Type 0
-  NeverKeeps ss e =
-      (e1 : KnownNumbers) → Fits names (block no_callees ss done) e e1 → KnowsLess e e1 → ⊥
-
-  -- so of the body of a `while`, where there is one
-  abbrev pub NeverTurns : Option (List Stmt) → KnownNumbers → Type 0
-  NeverTurns body e =
-      (e1 : KnownNumbers) → Fits names (body_piece no_callees body done) e e1 → KnowsLess e e1 → ⊥
-
-  -- of a `while` behind such a head
-  abbrev pub NeverEnds : Head → Option (List Stmt) → Span → Known → Type 0
-  NeverEnds head body at old =
-      (e : KnownNumbers) (q : List Stmt) (c : Expr)
-      → IsHead names e old q c at head → NeverFits (loop_of q c body at) e
+  -- a prologue does not fit, or behind it the test or the body
+  abbrev pub NeverTurns : Turns → KnownNumbers → Type 0
+  NeverTurns t e =
+      (eq eb : KnownNumbers) (at : Span) (p : Condition) (os : List Operation) (is : List Numbers)
+      (i : Numbers)
+      → Fits names (block no_callees t.prologue.now done) e eq
+      → UnrollsLoopTest names (record { cond = t.cond.now; at = at }) eq os is p i
+      → Fits names (body_piece no_callees t.body.now done) eq eb → ⊥
 
   -- bounds that are inline, of an inline counter, have no numbers
   abbrev pub NeverCounts : KnownNumbers → Var → Expr → Bool → Expr → Type 0

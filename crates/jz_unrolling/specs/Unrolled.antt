@@ -39,8 +39,7 @@ pub record KeepsHead (f g : Fun) : Type 0 where
 abbrev pub GivesPlain : Fun → Type 0
 GivesPlain f = list_all (λ v. not (is_inline_var (inline_names (variables_of f)) v)) f.result ≡ true
 
--- what is asked for has a value, and no arm of an `if` that stays, and no part of a `while` that
--- stays, changes what is known before it
+-- what is asked for has a value
 pub record IsUnrollable (f : Fun) : Type 0 where
   pub behind : KnownNumbers
   pub fits : Fits (inline_names (variables_of f)) (plain_body f) no_numbers behind

@@ -2,6 +2,7 @@
 //! expressions become their values; and what that makes of a leak.
 #![tactic(auto)]
 
+mod forgetting;
 mod functions;
 mod statements;
 

@@ -1,16 +1,14 @@
 -- Numbers that are known, changes of them, and the way back.
-use Rattle.std.proofs.Common.{◌≡◌, ℕ, List, [], ◌∷◌, ◌++◌, Option, Some, None, Bool, true, false, refl, ap, sym, ◌∙◌, subst, append-nil, append_assoc, eqb-true, inl, inr}
-use Rattle.std.specs.Prelude.{ℤ, ◌==◌, ◌&&◌, ◌⊎◌, if◌then◌else◌}
+use Rattle.std.proofs.Common.{◌≡◌, ℕ, List, [], ◌∷◌, ◌++◌, Option, Some, None, Bool, true, false, refl, ap, sym, ◌∙◌, subst, append-nil, append_assoc, eqb-true}
+use Rattle.std.specs.Prelude.{ℤ, ◌==◌, ◌&&◌, if◌then◌else◌}
 use Rattle.std.specs.Str.{bytes_eq}
 use Rattle.std.proofs.lemmas.Bool.{and_parts}
-use Rattle.std.proofs.lemmas.Bool.Decides.{Decides-int_eq}
 use Rattle.jz_tree.proofs.Texts.{bytes_eq-true}
 use Rattle.jz_integers.specs.Integers.{KnownNumbers}
 use Rattle.jz_meaning.specs.States.{Value, Key, Store, put}
-use Rattle.jz_unroll.specs.Unrolling.{KnowsLess}
 use Rattle.jz_unrolling_values.specs.declared.known.Changed.{Changed}
 use Rattle.jz_unrolling_values.specs.declared.known.Known.{Known}
-use Rattle.jz_unrolling_values.specs.Numbers.{whole_number, held, numbers_in, with_number_at, undone, Sets, Went, ends_of, is_kept, all_kept, IsRestored, IsSame}
+use Rattle.jz_unrolling_values.specs.Numbers.{whole_number, held, numbers_in, with_number_at, undone, Sets, Went, IsRestored, IsSame}
 
 -- ---- one number
 
@@ -69,60 +67,12 @@ went_same a c h = record { changes = []; changed = h.changed ∙ sym (append-nil
 
 -- ---- back
 
-ends_more : (e : KnownNumbers) (x : Changed) (xs : List Changed) → ends_of e (x ∷ xs) ≡ record { name = x.name; copy = x.copy; old = e x.name x.copy } ∷ ends_of e xs
-ends_more e x xs = refl
-
-kept_some : (i : ℤ) (p q : Option ℤ) → p ≡ Some i → is_kept p q ≡ true → q ≡ Some i
-kept_some i None q e k = absurd cc
-kept_some i (Some j) None e k = absurd cc
-kept_some i (Some j) (Some l) e k =
-    let x : j ≡ i = cc in
-    ap Some (sym ((Decides-int_eq j l).0 k) ∙ x)
-
--- what was known is known at the end, or was not changed
-kept_or_same : (a b : KnownNumbers) (xs : List Changed) (n : List ℕ) (c : ℕ) (i : ℤ) → all_kept a (ends_of b xs) ≡ true → a n c ≡ Some i → (b n c ≡ Some i) ⊎ ((e : KnownNumbers) → undone xs e n c ≡ e n c)
-kept_or_same a b [] n c i f q = inr (λ e. refl)
-kept_or_same a b (x ∷ xs) n c i f q = by_test (kept_or_same a b xs n c i (and_parts (is_kept (a x.name x.copy) (b x.name x.copy)) _ f).1 q) (bytes_eq x.name n && x.copy == c) refl
-  where
-    p : (is_kept (a x.name x.copy) (b x.name x.copy) ≡ true) × (all_kept a (ends_of b xs) ≡ true)
-    p = and_parts (is_kept (a x.name x.copy) (b x.name x.copy)) _ f
-
-    later : (bytes_eq x.name n && x.copy == c) ≡ false → (b n c ≡ Some i) ⊎ ((e : KnownNumbers) → undone xs e n c ≡ e n c) → (b n c ≡ Some i) ⊎ ((e : KnownNumbers) → undone (x ∷ xs) e n c ≡ e n c)
-    later t (inl r) = inl r
-    later t (inr r) = inr (λ e. ap (λ (z : Bool). if z then x.old else undone xs e n c) t ∙ r e)
-
-    by_test : (b n c ≡ Some i) ⊎ ((e : KnownNumbers) → undone xs e n c ≡ e n c) → (t : Bool) → (bytes_eq x.name n && x.copy == c) ≡ t → (b n c ≡ Some i) ⊎ ((e : KnownNumbers) → undone (x ∷ xs) e n c ≡ e n c)
-    by_test r true t = inl (sym (same_number b x.name n x.copy c t) ∙ kept_some i (a x.name x.copy) (b x.name x.copy) (same_number a x.name n x.copy c t ∙ q) p.0)
-    by_test r false t = later t r
-
--- of changes that are taken back
-pub kept_less : (a b : KnownNumbers) (xs : List Changed) → undone xs b ≡ a → all_kept a (ends_of b xs) ≡ true → KnowsLess a b
-kept_less a b xs back f = λ n c i q. by_cases n c i q (kept_or_same a b xs n c i f q)
-  where
-    by_cases : (n : List ℕ) (c : ℕ) (i : ℤ) → a n c ≡ Some i → (b n c ≡ Some i) ⊎ ((e : KnownNumbers) → undone xs e n c ≡ e n c) → b n c ≡ Some i
-    by_cases n c i q (inl r) = r
-    by_cases n c i q (inr r) = sym (r b) ∙ ap (λ (k : KnownNumbers). k n c) back ∙ q
-
 -- a part from its begin to its end, and the way back
 pub part_back : (start end : Known) → start.changed.items ≡ [] → Went start end → undone end.changed.items (numbers_in end) ≡ numbers_in start
 part_back start end none w = ap (λ l. undone l (numbers_in end)) (w.changed ∙ ap (λ l. l ++ w.changes) none) ∙ w.numbers
 
-pub restored_same : (old start end new : Known) (outer : List Changed) (kept : Bool) → outer ≡ old.changed.items → start.changed.items ≡ [] → numbers_in start ≡ numbers_in old → Went start end → IsRestored end new outer kept → IsSame old new
-restored_same old start end new outer kept o none n w r = record { changed = r.changed ∙ o; numbers = r.numbers ∙ part_back start end none w ∙ n }
-
-pub restored_less : (e : KnownNumbers) (end new : Known) (outer : List Changed) (kept : Bool) → undone end.changed.items (numbers_in end) ≡ e → IsRestored end new outer kept → kept ≡ true → KnowsLess e (numbers_in end)
-restored_less e end new outer kept back r k =
-    kept_less e (numbers_in end) end.changed.items back (subst (λ x. all_kept x (ends_of (numbers_in end) end.changed.items) ≡ true) (r.numbers ∙ back) (sym r.ends ∙ k))
-
-pub less_then : (a b c : KnownNumbers) → KnowsLess a b → KnowsLess b c → KnowsLess a c
-less_then a b c f g = λ n d i q. g n d i (f n d i q)
-
-pub joined_went : (old start end new : Known) (outer : List Changed) → outer ≡ old.changed.items → start.changed.items ≡ [] → numbers_in start ≡ numbers_in old → Went start end → new.changed.items ≡ outer ++ end.changed.items → numbers_in new ≡ numbers_in end → Went old new
-joined_went old start end new outer o none n w c m = record {
-  changes = end.changed.items;
-  changed = c ∙ ap (λ l. l ++ end.changed.items) o;
-  numbers = ap (undone end.changed.items) m ∙ part_back start end none w ∙ n;
-}
+pub restored_same : (old start end new : Known) (outer : List Changed) → outer ≡ old.changed.items → start.changed.items ≡ [] → numbers_in start ≡ numbers_in old → Went start end → IsRestored end new outer → IsSame old new
+restored_same old start end new outer o none n w r = record { changed = r.changed ∙ o; numbers = r.numbers ∙ part_back start end none w ∙ n }
 
 -- ---- entries that are taken from the end
 

@@ -1,7 +1,5 @@
 -- The numbers of inline variables that are known, and how they change.
-use Rattle.std.specs.Prelude.{ℕ, ℤ, ◌≡◌, ◌==◌, ◌&&◌, Bool, true, false, if◌then◌else◌, List, [], ◌∷◌, ◌++◌, map, Option, Some, None}
-use Rattle.std.specs.List.{list_all}
-use Rattle.std.specs.Ordering.{int_eq}
+use Rattle.std.specs.Prelude.{ℕ, ℤ, ◌≡◌, ◌==◌, ◌&&◌, Bool, true, false, if◌then◌else◌, List, [], ◌∷◌, ◌++◌, Option, Some, None}
 use Rattle.std.specs.Str.{bytes_eq}
 use Rattle.jz_tree.specs.declared.expr.Var.{Var}
 use Rattle.jz_tree.specs.declared.expr.Expr.TheViews.{out-Var}
@@ -57,24 +55,10 @@ pub record Went (old new : Known) : Type 0 where
   pub changed : changes_in new ≡ changes_in old ++ changes
   pub numbers : undone changes (numbers_in new) ≡ numbers_in old
 
--- what they changed, each with the number that it has where e is known
-abbrev pub ends_of : KnownNumbers → List Changed → List Changed
-ends_of e xs = map (λ x. record { name = x.name; copy = x.copy; old = e x.name x.copy }) xs
-
--- nothing was known, or the number that it has at the end
-abbrev pub is_kept : Option ℤ → Option ℤ → Bool
-is_kept None end = true
-is_kept (Some i) None = false
-is_kept (Some i) (Some j) = int_eq i j
-
-abbrev pub all_kept : KnownNumbers → List Changed → Bool
-all_kept e xs = list_all (λ x. is_kept (e x.name x.copy) x.old) xs
-
--- all changes are taken back, and whether what is known then was known at the end too
-pub record IsRestored (old new : Known) (outer : List Changed) (kept : Bool) : Type 0 where
+-- all changes are taken back
+pub record IsRestored (old new : Known) (outer : List Changed) : Type 0 where
   pub changed : changes_in new ≡ outer
   pub numbers : numbers_in new ≡ undone (changes_in old) (numbers_in old)
-  pub ends : kept ≡ all_kept (numbers_in new) (ends_of (numbers_in old) (changes_in old))
 
 -- the same is known before and behind
 pub record IsSame (old new : Known) : Type 0 where

@@ -15,9 +15,10 @@ use Rattle.jz_integers.specs.Integers.{KnownNumbers, number, joined, inline_valu
 use Rattle.jz_integers.specs.declared.constant.Constant.{Constant}
 use Rattle.jz_integers.specs.declared.constant.Constant.TheVariants as constant
 use Rattle.jz_meaning.specs.Assignments.{whole_of}
+use Rattle.jz_change.specs.declared.change.Numbers.TheVariants.{Same}
 use Rattle.jz_meaning.specs.Values.{ref_of}
 use Rattle.jz_unroll.specs.Values.{InlineNames, is_inline_var, is_int, has_no_cell, with_values, has_values, is_split}
-use Rattle.jz_unroll.specs.Unrolling.{HasValue}
+use Rattle.jz_unroll.specs.Unrolling.{HasValue, UnrollsLoopTest}
 use Rattle.jz_unrolling_values.specs.declared.conditions.Test.{Test}
 use Rattle.jz_unrolling_values.specs.declared.conditions.Test.TheVariants.{Always, Asked}
 use Rattle.jz_unrolling_values.specs.declared.expressions.Waiting.{Waiting}
@@ -58,6 +59,17 @@ module _ (names : InlineNames) (e : KnownNumbers) where
   IsTest x (Always z at) =
       (is_inline x ≡ true) × HasValue e x (constant.Bool z) × (at ≡ span_of x)
   IsTest x (Asked y) = IsPlainPart x y
+
+  -- the test of a `while` that stays
+  abbrev pub IsLoopTest : Expr → Expr → Type 0
+  IsLoopTest x y =
+      (at : Span)
+      → UnrollsLoopTest names (record { cond = x; at = at }) e [] []
+      (record { cond = y; at = at }) Same
+
+-- an inline condition that is false
+abbrev pub IsNever : KnownNumbers → Expr → Type 0
+IsNever e x = (is_inline x ≡ true) × HasValue e x (constant.Bool false)
 
 -- an inline variable as a whole, and an integer
 abbrev pub is_number : InlineNames → Var → Bool

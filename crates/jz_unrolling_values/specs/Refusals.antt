@@ -9,8 +9,10 @@ use Rattle.jz_tree.specs.declared.stmt.Lval.TheVariants as lval
 use Rattle.jz_type_names.specs.Kinds.{is_inline}
 use Rattle.jz_integers.specs.Integers.{KnownNumbers}
 use Rattle.jz_integers.specs.declared.constant.Constant.TheVariants as constant
+use Rattle.jz_meaning.specs.Statements.{Operation, Condition}
+use Rattle.jz_change.specs.declared.change.Numbers.{Numbers}
 use Rattle.jz_unroll.specs.Values.{InlineNames, is_inline_var, has_no_cell, has_values}
-use Rattle.jz_unroll.specs.Unrolling.{HasValue, ConditionIs}
+use Rattle.jz_unroll.specs.Unrolling.{HasValue, ConditionIs, UnrollsLoopTest}
 use Rattle.jz_unrolling_values.specs.declared.conditions.Test.{Test}
 use Rattle.jz_unrolling_values.specs.Parts.{IsTest, HasWhole, IsInlineIf}
 
@@ -27,6 +29,12 @@ module _ (names : InlineNames) where
   -- a condition that is inline has no answer, and any other one a part without a value
   abbrev pub NeverTests : KnownNumbers → Expr → Type 0
   NeverTests e c = (test : Test) → IsTest names e c test → ⊥
+
+  -- a `while` with this condition does not stay
+  abbrev pub NeverLoops : KnownNumbers → Expr → Type 0
+  NeverLoops e c =
+      (at : Span) (p : Condition) (os : List Operation) (is : List Numbers) (i : Numbers)
+      → UnrollsLoopTest names (record { cond = c; at = at }) e os is p i → ⊥
 
 -- ---- numbers
 

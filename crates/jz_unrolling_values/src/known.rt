@@ -1,11 +1,10 @@
 //! The numbers of inline variables, as they are known where a statement stands.
 
-ghost use Rattle.std.specs.Prelude.{◌≡◌, ◌++◌, [], IfOk, OnOk, option_map};
+ghost use Rattle.std.specs.Prelude.{◌≡◌, [], OnOk, option_map};
 ghost use Rattle.jz_meaning.specs.States.{as_value};
 ghost use Rattle.jz_unroll.specs.Unrolling.{all_unknown};
-ghost use Rattle.jz_unrolling_values.specs.Numbers as numbers;
 ghost use Rattle.jz_unrolling_values.specs.Numbers.{no_numbers, numbers_in, changes_in, with_number_at};
-ghost use Rattle.jz_unrolling_values.specs.Numbers.{held, ends_of, all_kept};
+ghost use Rattle.jz_unrolling_values.specs.Numbers.{held};
 ghost use Rattle.jz_unrolling_values.specs.Numbers.{Sets, Went, IsRestored};
 
 use jz_meaning::{Store, Value};
@@ -109,69 +108,14 @@ impl Known {
         replace(&mut self.changed, Vec::new(self.alloc))
     }
 
-    /// Ends a part: its changes are taken back. Whether what was known before it is known at its end
-    /// too.
-    pub fn leave(&mut self, outer: Vec<Changed>) -> Result<bool, AllocError>
-        ensures { IfOk result (λ kept. IsRestored self.old self.new outer.items kept) }
+    /// Ends a part: its changes are taken back.
+    pub fn leave(&mut self, outer: Vec<Changed>) -> Result<(), AllocError>
+        ensures { OnOk result (IsRestored self.old self.new outer.items) }
     {
-        let ends = self.ends()?;
         while let Some(entry) = self.changed.pop() {
             self.put(&entry.name, entry.copy, entry.old)?;
         }
         self.changed = outer;
-        let kept = self.are_kept(&ends);
-        Ok(kept)
-    }
-
-    /// Ends a part whose changes stay.
-    pub fn join(&mut self, outer: Vec<Changed>) -> Result<(), AllocError>
-        ensures changed { OnOk result (changes_in self.new
-            ≡ outer.items ++ changes_in self.old) }
-        ensures numbers { OnOk result (numbers_in self.new ≡ numbers_in self.old) }
-    {
-        let mut inner = replace(&mut self.changed, outer);
-        self.changed.append(&mut inner)?;
         Ok(())
-    }
-
-    /// What has been changed, each with the number that it has now.
-    fn ends(&self) -> Result<Vec<Changed>, AllocError>
-        ensures { IfOk result (λ ends. ends.items
-            ≡ ends_of (numbers_in self.now) (changes_in self.now)) }
-    {
-        let mut ends = Vec::new(self.alloc);
-        for entry in self.changed.as_slice() {
-            let now = self.number(&entry.name, entry.copy);
-            ends.push(Changed {
-                name: entry.name.clone()?,
-                copy: entry.copy,
-                old: now,
-            })?;
-        }
-        Ok(ends)
-    }
-
-    fn are_kept(&self, ends: &Vec<Changed>) -> bool
-        ensures { result ≡ all_kept (numbers_in self.now) ends.now.items }
-    {
-        for entry in ends.as_slice() {
-            if !is_kept(self.number(&entry.name, entry.copy), entry.old) {
-                return false;
-            }
-        }
-        true
-    }
-}
-
-/// Whether nothing was known, or this number, which it is at the end.
-fn is_kept(number: Option<i128>, end: Option<i128>) -> bool
-    ensures { result ≡ numbers.is_kept number end }
-{
-    match number {
-        None => true,
-        Some(number) => match end {
-            None => false,
-            Some(end) => number == end,
-        },
     }
 }

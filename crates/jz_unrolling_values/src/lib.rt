@@ -10,7 +10,7 @@ mod known;
 mod parts;
 mod settings;
 
-pub use conditions::{Test, test_of};
+pub use conditions::{Test, is_never, loop_test, test_of};
 pub use expressions::{
     Values, all_with_values, condition_with_values, lefts_with_values, number_of, with_values,
 };
