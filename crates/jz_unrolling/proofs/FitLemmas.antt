@@ -4,7 +4,6 @@ use Rattle.std.specs.Prelude.{ℤ, ◌&&◌, not, is_some, if◌then◌else◌}
 use Rattle.std.specs.List.{list_all}
 use Rattle.std.proofs.lemmas.Bool.{and_parts}
 use Rattle.std.proofs.lemmas.List.{drop_more, take-append-drop}
-use Rattle.std.proofs.lemmas.Bool.Decides.{Decides-int_eq}
 use Rattle.jz_tree.specs.Span.{Span}
 use Rattle.jz_tree.specs.declared.expr.BinOp.{BinOp}
 use Rattle.jz_tree.specs.declared.expr.Expr.{Expr}
@@ -22,12 +21,11 @@ use Rattle.jz_meaning.specs.Runs.{block, statement_tree}
 use Rattle.jz_meaning.specs.Statements.{Operation, assign, instruction, unset, meaningless, Condition, Counter, Block, values_between}
 use Rattle.jz_change.specs.declared.change.Numbers.{Numbers}
 use Rattle.jz_unroll.specs.Values.{InlineNames, is_inline_var, left_has_values, operation_has_values}
-use Rattle.jz_unroll.specs.Unrolling.{with_number, number_of, all_unknown, HasValue, ConditionIs, IsInlineInt, UnrollsOp, stays, vanishes, UnrollsMark, marked, UnrollsTest, tested, UnrollsLoopTest, loops, always, HasValues, IsConstant, KnowsLess}
+use Rattle.jz_unroll.specs.Unrolling.{with_number, number_of, all_unknown, HasValue, ConditionIs, IsInlineInt, UnrollsOp, stays, vanishes, UnrollsMark, marked, UnrollsTest, tested, UnrollsLoopTest, loops, always, HasValues, IsConstant}
 use Rattle.jz_unroll.proofs.Parts.{not_true}
-use Rattle.jz_unrolling_values.specs.declared.known.Changed.{Changed}
 use Rattle.jz_unrolling_values.specs.Parts.{IsInlineIf, HasWhole}
+use Rattle.jz_unrolling.specs.Forgetting.{forgotten}
 use Rattle.jz_unrolling.specs.Fits.{SetsInline, IsPlainOp, Fits, fits_done, fits_op, fits_quiet, fits_if, fits_arm, fits_while, fits_once, fits_for, FitsEach, fits_none, fits_more}
-use Rattle.jz_unrolling_values.specs.Numbers.{ends_of, is_kept, all_kept}
 use Rattle.jz_unrolling.specs.Refusals.{NeverFits}
 use Rattle.jz_unrolling.specs.Steps.{no_callees, FitsOn}
 use Rattle.jz_unrolling.proofs.Becoming.{block_append}
@@ -106,18 +104,18 @@ module _ (names : InlineNames) where
   not_constant : (p p2 : Condition) (e : KnownNumbers) (os : List Operation) (is : List Numbers) (i : Numbers) (z : Bool) → UnrollsTest names p e os is p2 i → IsConstant p e z → ⊥
   not_constant p p2 e os is i z (tested plain known) c = let q : true ≡ false = sym c.0 ∙ plain in absurd cc
 
-  pub if_on : (c : Expr) (at : Span) (a b : Block) (e : KnownNumbers) → is_inline c ≡ false → FitsOn names (choose (record { cond = c; at = at }) a b) e e
+  pub if_on : (c : Expr) (at : Span) (a b : Block) (e : KnownNumbers) → is_inline c ≡ false → FitsOn names (choose (record { cond = c; at = at }) a b) e (forgotten names b (forgotten names a e))
   if_on c at a b e plain = λ t e2 h. next t e2 h
     where
-      next : (t : Block) (e2 : KnownNumbers) → Fits names (choose (record { cond = c; at = at }) a b t) e e2 → Fits names t e e2
-      next t e2 (fits_if test fa fb la lb h) = h
+      next : (t : Block) (e2 : KnownNumbers) → Fits names (choose (record { cond = c; at = at }) a b t) e e2 → Fits names t (forgotten names b (forgotten names a e)) e2
+      next t e2 (fits_if test fa fb h) = h
       next t e2 (fits_arm z const fa h) = let q : true ≡ false = sym const.0 ∙ plain in absurd cc
 
   pub arm_on : (c : Expr) (at : Span) (z : Bool) (a b : Block) (f : Block → Block) (e e1 : KnownNumbers) → IsConstant (record { cond = c; at = at }) e z → f done ≡ (if z then a else b) → FitsOn names f e e1 → FitsOn names (choose (record { cond = c; at = at }) a b) e e1
   arm_on c at z a b f e e1 constant0 is on = λ t e2 h. next t e2 h
     where
       next : (t : Block) (e2 : KnownNumbers) → Fits names (choose (record { cond = c; at = at }) a b t) e e2 → Fits names t e1 e2
-      next t e2 (fits_if {p2} {os} {is = js} {i} test fa fb la lb h) = absurd (not_constant (record { cond = c; at = at }) p2 e os js i z test constant0)
+      next t e2 (fits_if {p2} {os} {is = js} {i} test fa fb h) = absurd (not_constant (record { cond = c; at = at }) p2 e os js i z test constant0)
       next t e2 (fits_arm {e1 = k} y const fa h) =
           let same : y ≡ z = same_truth e c y z const.1 constant0.1 in
           let arm : Fits names (f done) e k = subst (λ l. Fits names l e k) (ap (λ d. if d then a else b) same ∙ sym is) fa in
@@ -125,24 +123,19 @@ module _ (names : InlineNames) where
 
   -- ---- `while`
 
-  pub test_not_false : (p p2 : Condition) (e : KnownNumbers) (os : List Operation) (is : List Numbers) (i : Numbers) → UnrollsLoopTest names p e os is p2 i → IsConstant p e false → ⊥
-  test_not_false p p2 e os is i (loops plain known) c = let q : true ≡ false = sym c.0 ∙ plain in absurd cc
-  test_not_false p p2 e os is i (always inline value) c = let q : true ≡ false = same_truth e p.cond true false value c.1 in absurd cc
-
-  pub once_on : (h0 : Bool) (c : Expr) (at : Span) (b : Block) (f : Block → Block) (e e1 : KnownNumbers) → IsConstant (record { cond = c; at = at }) e1 false → FitsOn names f e e1 → FitsOn names (loop h0 (f done) (record { cond = c; at = at }) b) e e1
+  pub once_on : (h0 : Bool) (c : Expr) (at : Span) (b : Block) (f : Block → Block) (e e1 : KnownNumbers) → IsConstant (record { cond = c; at = at }) e false → FitsOn names f e e1 → FitsOn names (loop h0 (f done) (record { cond = c; at = at }) b) e e1
   once_on h0 c at b f e e1 constant0 on = λ t e2 h. next t e2 h
     where
       next : (t : Block) (e2 : KnownNumbers) → Fits names (loop h0 (f done) (record { cond = c; at = at }) b t) e e2 → Fits names t e1 e2
-      next t e2 (fits_while {p2} {eq} {os} {is} {i} fq test l1 fb l2 h) =
-          absurd (test_not_false (record { cond = c; at = at }) p2 eq os is i test (subst (λ k. IsConstant (record { cond = c; at = at }) k false) (sym (ends_at f e e1 eq on fq)) constant0))
-      next t e2 (fits_once {eq} fq const h) = moved t eq e1 e2 (ends_at f e e1 eq on fq) h
+      next t e2 (fits_while never fq test fb h) = absurd (never constant0)
+      next t e2 (fits_once {eq} first fq const h) = moved t eq e1 e2 (ends_at f e e1 eq on fq) h
 
-  pub loop_on : (h0 : Bool) (q : Block) (p p2 : Condition) (b : Block) (e eq : KnownNumbers) (os : List Operation) (is : List Numbers) (i : Numbers) → ((k : KnownNumbers) → Fits names q e k → k ≡ eq) → UnrollsLoopTest names p eq os is p2 i → FitsOn names (loop h0 q p b) e e
-  loop_on h0 q p p2 b e eq os is i ends test = λ t e2 h. next t e2 h
+  pub loop_on : (h0 : Bool) (q : Block) (p : Condition) (b : Block) (e : KnownNumbers) → (IsConstant p e false → ⊥) → FitsOn names (loop h0 q p b) e (forgotten names b (forgotten names q e))
+  loop_on h0 q p b e never = λ t e2 h. next t e2 h
     where
-      next : (t : Block) (e2 : KnownNumbers) → Fits names (loop h0 q p b t) e e2 → Fits names t e e2
-      next t e2 (fits_while fq test2 l1 fb l2 h) = h
-      next t e2 (fits_once {eq = k} fq const h) = absurd (test_not_false p p2 eq os is i test (subst (λ j. IsConstant p j false) (ends k fq) const))
+      next : (t : Block) (e2 : KnownNumbers) → Fits names (loop h0 q p b t) e e2 → Fits names t (forgotten names b (forgotten names q e)) e2
+      next t e2 (fits_while other fq test fb h) = h
+      next t e2 (fits_once first fq const h) = absurd (never first)
 
   -- ---- `for`
 
@@ -217,17 +210,17 @@ module _ (names : InlineNames) where
   arm_never c at z a b f e constant0 is no = λ t e2 h. next t e2 h
     where
       next : (t : Block) (e2 : KnownNumbers) → Fits names (choose (record { cond = c; at = at }) a b t) e e2 → ⊥
-      next t e2 (fits_if {p2} {os} {is = js} {i} test fa fb la lb h) = not_constant (record { cond = c; at = at }) p2 e os js i z test constant0
+      next t e2 (fits_if {p2} {os} {is = js} {i} test fa fb h) = not_constant (record { cond = c; at = at }) p2 e os js i z test constant0
       next t e2 (fits_arm {e1 = k} y const fa h) =
           let same : y ≡ z = same_truth e c y z const.1 constant0.1 in
           no done k (subst (λ l. Fits names l e k) (ap (λ d. if d then a else b) same ∙ sym is) fa)
 
   -- arms that stay
-  pub arms_never : (c : Expr) (at : Span) (a b : Block) (e : KnownNumbers) → is_inline c ≡ false → ((ea eb : KnownNumbers) → Fits names a e ea → Fits names b e eb → KnowsLess e ea → KnowsLess e eb → ⊥) → NeverFits names (choose (record { cond = c; at = at }) a b) e
+  pub arms_never : (c : Expr) (at : Span) (a b : Block) (e : KnownNumbers) → is_inline c ≡ false → ((ea eb : KnownNumbers) → Fits names a e ea → Fits names b e eb → ⊥) → NeverFits names (choose (record { cond = c; at = at }) a b) e
   arms_never c at a b e plain no = λ t e2 h. next t e2 h
     where
       next : (t : Block) (e2 : KnownNumbers) → Fits names (choose (record { cond = c; at = at }) a b t) e e2 → ⊥
-      next t e2 (fits_if {ea} {eb} test fa fb la lb h) = no ea eb fa fb la lb
+      next t e2 (fits_if {ea} {eb} test fa fb h) = no ea eb fa fb
       next t e2 (fits_arm z const fa h) = let q : true ≡ false = sym const.0 ∙ plain in absurd cc
 
   -- a test that is neither
@@ -235,17 +228,25 @@ module _ (names : InlineNames) where
   test_never c at a b e no none = λ t e2 h. next t e2 h
     where
       next : (t : Block) (e2 : KnownNumbers) → Fits names (choose (record { cond = c; at = at }) a b t) e e2 → ⊥
-      next t e2 (fits_if {p2} {os} {is} {i} test fa fb la lb h) = no p2 os is i test
+      next t e2 (fits_if {p2} {os} {is} {i} test fa fb h) = no p2 os is i test
       next t e2 (fits_arm z const fa h) = none z const
 
-  -- a prologue, or what stands behind it
-  pub loop_never : (h0 : Bool) (q : Block) (p : Condition) (b : Block) (e : KnownNumbers) → ((eq eb : KnownNumbers) (p2 : Condition) (os : List Operation) (is : List Numbers) (i : Numbers) → Fits names q e eq → UnrollsLoopTest names p eq os is p2 i → KnowsLess e eq → Fits names b eq eb → KnowsLess eq eb → ⊥)
-      → ((eq : KnownNumbers) → Fits names q e eq → IsConstant p eq false → ⊥) → NeverFits names (loop h0 q p b) e
-  loop_never h0 q p b e no none = λ t e2 h. next t e2 h
+  -- of a `while` that stays a part, or the test
+  pub loop_never : (h0 : Bool) (q : Block) (p : Condition) (b : Block) (e : KnownNumbers) → (IsConstant p e false → ⊥)
+      → ((eq eb : KnownNumbers) (p2 : Condition) (os : List Operation) (is : List Numbers) (i : Numbers) → Fits names q (forgotten names b (forgotten names q e)) eq → UnrollsLoopTest names p eq os is p2 i → Fits names b eq eb → ⊥) → NeverFits names (loop h0 q p b) e
+  loop_never h0 q p b e never no = λ t e2 h. next t e2 h
     where
       next : (t : Block) (e2 : KnownNumbers) → Fits names (loop h0 q p b t) e e2 → ⊥
-      next t e2 (fits_while {p2} {eq} {eb} {os} {is} {i} fq test l1 fb l2 h) = no eq eb p2 os is i fq test l1 fb l2
-      next t e2 (fits_once {eq} fq const h) = none eq fq const
+      next t e2 (fits_while {p2} {eq} {eb} {os} {is} {i} other fq test fb h) = no eq eb p2 os is i fq test fb
+      next t e2 (fits_once first fq const h) = never first
+
+  -- of one that is false at once the prologue, or it is not false behind that
+  pub once_never : (h0 : Bool) (q : Block) (p : Condition) (b : Block) (e : KnownNumbers) → IsConstant p e false → ((eq : KnownNumbers) → Fits names q e eq → IsConstant p eq false → ⊥) → NeverFits names (loop h0 q p b) e
+  once_never h0 q p b e first no = λ t e2 h. next t e2 h
+    where
+      next : (t : Block) (e2 : KnownNumbers) → Fits names (loop h0 q p b t) e e2 → ⊥
+      next t e2 (fits_while other fq test fb h) = other first
+      next t e2 (fits_once {eq} again fq const h) = no eq fq const
 
   pub rounds_never : (f : Counter) (b : Block) (e : KnownNumbers) → ((is : List ℤ) (k : KnownNumbers) → is_inline f.from ≡ true → is_inline f.to ≡ true → HasValues names f e is → FitsEach names f b is e k → ⊥) → NeverFits names (each f b) e
   rounds_never f b e no = λ t e2 h. next t e2 h
@@ -256,16 +257,6 @@ module _ (names : InlineNames) where
   pub round_never : (f : Counter) (g : Block → Block) (i : ℤ) (is : List ℤ) (e k : KnownNumbers) → NeverFits names g (with_number e f.counter (Some i)) → FitsEach names f (g done) (i ∷ is) e k → ⊥
   round_never f g i is e k no (fits_more {e1 = m} fb h) = no done m fb
 
--- ---- what is kept
-
-pub not_kept : (a b : KnownNumbers) (xs : List Changed) → all_kept a (ends_of b xs) ≡ false → KnowsLess a b → ⊥
-not_kept a b [] no less = let q : true ≡ false = no in absurd cc
-not_kept a b (x ∷ xs) no less = by_test (is_kept (a x.name x.copy) (b x.name x.copy)) refl
-  where
-    kept : (p q : Option ℤ) → ((i : ℤ) → p ≡ Some i → q ≡ Some i) → is_kept p q ≡ true
-    kept None q f = refl
-    kept (Some i) q f = ap (is_kept (Some i)) (f i refl) ∙ (Decides-int_eq i i).1 refl
-
-    by_test : (t : Bool) → is_kept (a x.name x.copy) (b x.name x.copy) ≡ t → ⊥
-    by_test true p = not_kept a b xs (sym (ap (λ t. t && all_kept a (ends_of b xs)) p) ∙ no) less
-    by_test false p = let q : true ≡ false = sym (kept (a x.name x.copy) (b x.name x.copy) (less x.name x.copy)) ∙ p in absurd cc
+  -- the same piece in other words
+  pub never_as : (f g : Block → Block) (e : KnownNumbers) → f ≡ g → NeverFits names g e → NeverFits names f e
+  never_as f g e q no = subst (λ p. NeverFits names p e) (sym q) no

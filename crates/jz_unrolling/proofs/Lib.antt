@@ -1,4 +1,6 @@
 pub mod Becoming
+pub mod ForgetLemmas
+pub mod SpareLemmas
 pub mod FitLemmas
 pub mod RoundLemmas
 pub mod AddLemmas

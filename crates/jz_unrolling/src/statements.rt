@@ -475,7 +475,8 @@ fn unroll_while(
         vars: unroller.vars,
         known: &*known,
     };
-    if is_never(&values, turns.cond)? {
+    let never = is_never(&values, turns.cond)?;
+    if never {
         let step = unroll_once(unroller, known, stmt.span, turns, out)?;
         return Ok(step);
     }
@@ -504,7 +505,8 @@ fn unroll_once(
         vars: unroller.vars,
         known: &*known,
     };
-    if !is_never(&values, turns.cond)? {
+    let never = is_never(&values, turns.cond)?;
+    if !never {
         return Err(Failure::Refused(at));
     }
     Ok(Step::Once {
@@ -530,11 +532,12 @@ fn unroll_turns(
 {
     forget_set(unroller.vars, known, turns.prologue)?;
     forget_body(unroller.vars, known, turns.body)?;
+    let made = unroll_loop(unroller, known, turns)?;
     let Loop {
         prologue,
         cond,
         turn,
-    } = unroll_loop(unroller, known, turns)?;
+    } = made;
     let Apart { statements, steps } = prologue;
     let Turn { body, steps: turn } = turn;
     out.push(Stmt {

@@ -27,7 +27,7 @@ picked_number false b x y = refl
 pub put_number : (store : Store) (n : List ℕ) (c : ℕ) (v : Option Value) → (λ m d. whole_number (put store (whole_key n c) v (whole_key m d))) ≡ with_number_at (λ m d. whole_number (store (whole_key m d))) n c (whole_number v)
 put_number store n c v = λ i m d. picked_number (bytes_eq n m) (c == d) v (store (whole_key m d)) i
 
-same_number : (e : KnownNumbers) (n m : List ℕ) (c d : ℕ) → (bytes_eq n m && c == d) ≡ true → e n c ≡ e m d
+pub same_number : (e : KnownNumbers) (n m : List ℕ) (c d : ℕ) → (bytes_eq n m && c == d) ≡ true → e n c ≡ e m d
 same_number e n m c d p =
     let q = and_parts (bytes_eq n m) _ p in
     ap (λ x. e x c) (bytes_eq-true n m q.0) ∙ ap (e m) (eqb-true c d q.1)

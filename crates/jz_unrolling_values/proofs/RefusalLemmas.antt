@@ -1,12 +1,12 @@
 -- When an expression is refused, layer by layer.
 use Rattle.std.proofs.Common.{◌≡◌, ℕ, List, [], ◌∷◌, ◌++◌, map, length, take, drop, get_or, ◌<◌, ◌+◌, Option, Some, None, Bool, true, false, refl, ap, sym, ◌∙◌, subst, Result, Ok, Err, IsErrAnd}
-use Rattle.std.specs.Prelude.{ℤ, ◌&&◌, not, is_none, is_some, if◌then◌else◌}
+use Rattle.std.specs.Prelude.{ℤ, ◌↔◌, ◌&&◌, not, is_none, is_some, if◌then◌else◌, IfErr}
 use Rattle.std.specs.List.{list_all}
 use Rattle.std.proofs.lemmas.Bool.{and_parts, and_from}
 use Rattle.std.proofs.lemmas.List.{drop_more, take-append-drop}
 use Rattle.jz_tree.specs.Failure.{Failure}
 use Rattle.jz_tree.specs.Failure.TheVariants.{Refused, OutOfMemory}
-use Rattle.jz_tree.specs.Failures.{IfAnswered}
+use Rattle.jz_tree.specs.Failures.{IfAnswered, IfRefused}
 use Rattle.jz_tree.specs.Size.{Size}
 use Rattle.jz_tree.specs.Span.{Span}
 use Rattle.jz_tree.specs.declared.expr.BinOp.{BinOp}
@@ -24,7 +24,11 @@ use Rattle.jz_integers.specs.declared.constant.Constant.TheVariants as constant
 use Rattle.jz_meaning.specs.Assignments.{whole_of}
 use Rattle.jz_meaning.specs.Values.{ref_of}
 use Rattle.jz_unroll.specs.Values.{has_no_cell, with_values, InlineNames, is_inline_var, is_int, is_known, has_values, access_has_values, left_has_values}
-use Rattle.jz_unroll.specs.Unrolling.{HasValue, IsInlineInt}
+use Rattle.jz_unroll.specs.Unrolling.{HasValue, IsInlineInt, UnrollsLoopTest, loops, always}
+use Rattle.jz_meaning.specs.Statements.{Operation, Condition}
+use Rattle.jz_change.specs.declared.change.Numbers.{Numbers}
+use Rattle.jz_change.specs.declared.change.Numbers.TheVariants.{Same}
+use Rattle.jz_type_names.specs.Parts.{span_of}
 use Rattle.jz_unroll.proofs.Layers.{Layer}
 use Rattle.jz_unroll.proofs.Inline.{cells_layer, cells_is}
 use Rattle.jz_unroll.proofs.InlineParts.{inline_layer, inline_is}
@@ -32,8 +36,9 @@ use Rattle.jz_unroll.proofs.Valued.{parts_layer, known_is}
 use Rattle.jz_unrolling_values.specs.declared.conditions.Test.TheVariants.{Always, Asked}
 use Rattle.jz_unrolling_values.specs.declared.expressions.Waiting.{Waiting}
 use Rattle.jz_unrolling_values.specs.declared.parts.Part.{Part}
-use Rattle.jz_unrolling_values.specs.Parts.{on_left, IsInlinePart, IsPlainPart, IsTest, updated_value, HasWhole}
-use Rattle.jz_unrolling_values.specs.Refusals.{OrElse, is_part, NeverTests, NeverWhole, NeverNumber}
+use Rattle.jz_unrolling_values.specs.declared.conditions.Test.{Test}
+use Rattle.jz_unrolling_values.specs.Parts.{on_left, IsInlinePart, IsPlainPart, IsTest, IsLoopTest, IsNever, updated_value, HasWhole}
+use Rattle.jz_unrolling_values.specs.Refusals.{OrElse, is_part, NeverTests, NeverLoops, NeverWhole, NeverNumber}
 use Rattle.jz_unrolling_values.proofs.PartLemmas.{ref_cell, last_waiting, IsOnTheWay}
 
 -- ---- refusals that are handed on
@@ -45,6 +50,15 @@ cause OutOfMemory h f = tt
 pub handed : {A B : Type 0} {P : A → Type 0} {Q : B → Type 0} {p q : Type 0} (r : Result B (Failure Span)) (e : Failure Span) → IsErrAnd r (λ v. v ≡ e) → IfAnswered (Err e) (OrElse P p) → (p → q) → IfAnswered r (OrElse Q q)
 handed (Ok x) e is h f = absurd is
 handed {P} {p} (Err v) e is h f = cause v (subst (λ w. IfAnswered (Err w) (OrElse P p)) (sym is) h) f
+
+-- where no more is said than why it is refused
+refused_cause : {A : Type 0} {P : A → Type 0} {p q : Type 0} (v : Failure Span) → IfAnswered (Err v) (OrElse P p) → (p → q) → IfRefused v (λ at. q)
+refused_cause (Refused at) h f = f h
+refused_cause OutOfMemory h f = tt
+
+pub handed_refusal : {A B : Type 0} {P : A → Type 0} {p q : Type 0} (r : Result B (Failure Span)) (e : Failure Span) → IsErrAnd r (λ v. v ≡ e) → IfAnswered (Err e) (OrElse P p) → (p → q) → IfErr r (λ failure. IfRefused failure (λ at. q))
+handed_refusal (Ok x) e is h f = absurd is
+handed_refusal {P} {p} (Err v) e is h f = refused_cause v (subst (λ w. IfAnswered (Err w) (OrElse P p)) (sym is) h) f
 
 -- ---- truths
 
@@ -176,7 +190,7 @@ module _ (names : InlineNames) (e : KnownNumbers) where
 
   -- ---- what is never inline
 
-  not_so : (b : Bool) → b ≡ true → not b ≡ false
+  pub not_so : (b : Bool) → b ≡ true → not b ≡ false
   not_so true q = refl
   not_so false q = absurd cc
 
@@ -236,3 +250,40 @@ module _ (names : InlineNames) (e : KnownNumbers) where
 
   pub other_no_number : (x : Expr) (found : Option Constant) (at : Span) → IsInlinePart names e x found at → ((n : ℤ) → found ≡ Some (constant.Int n) → ⊥) → NeverNumber e x
   other_no_number x found at p no = λ n i h. no n (p.value ∙ h.1)
+
+  -- ---- tests of a `while`
+
+  pub asked_test : (c y : Expr) → IsPlainPart names e c y → IsLoopTest names e c y
+  asked_test c y p = λ at. subst (λ x. UnrollsLoopTest names (record { cond = c; at = at }) e [] [] (record { cond = x; at = at }) Same) (sym p.valued.copy) (loops p.plain p.valued.known)
+
+  pub true_test : (c : Expr) (at1 : Span) → IsTest names e c (Always true at1) → IsLoopTest names e c (expr.Bool true at1)
+  true_test c at1 t = λ at. subst (λ x. UnrollsLoopTest names (record { cond = c; at = at }) e [] [] (record { cond = expr.Bool true x; at = at }) Same) (sym t.2) (always t.0 t.1)
+
+  loop_tests : (c : Expr) (p : Condition) (p2 : Condition) (os : List Operation) (is : List Numbers) (i : Numbers) → p.cond ≡ c → UnrollsLoopTest names p e os is p2 i → (test : Test) × IsTest names e c test × (IsNever e c → ⊥)
+  loop_tests c p p2 os is i q (loops plain known) =
+      (Asked (with_values e p.cond),
+      subst (λ x. IsTest names e x (Asked (with_values e p.cond))) q (record { plain = plain; valued = record { copy = refl; known = known } }),
+      λ n. no_true (is_inline c) n.0 (ap is_inline (sym q) ∙ plain))
+  loop_tests c p p2 os is i q (always inline value) =
+      (Always true (span_of p.cond),
+      subst (λ x. IsTest names e x (Always true (span_of p.cond))) q (inline, value, refl),
+      λ n. let v : Some (constant.Bool true) ≡ Some (constant.Bool false) = sym value.1 ∙ ap (inline_value e) q ∙ n.1.1 in absurd cc)
+
+  pub no_test_loops : (c : Expr) → NeverTests names e c → NeverLoops names e c
+  no_test_loops c no = λ at p os is i test. let t = loop_tests c (record { cond = c; at = at }) p os is i refl test in no t.0 t.1
+
+  pub false_never_loops : (c : Expr) (at1 : Span) → IsTest names e c (Always false at1) → NeverLoops names e c
+  false_never_loops c at1 t = λ at p os is i test. (loop_tests c (record { cond = c; at = at }) p os is i refl test).2 (t.0, t.1)
+
+  -- ---- inline and false
+
+  pub not_never_asked : (c y : Expr) → IsTest names e c (Asked y) → IsNever e c → ⊥
+  not_never_asked c y p n = no_true (is_inline c) n.0 p.plain
+
+  pub not_never_untested : (c : Expr) → NeverTests names e c → IsNever e c → ⊥
+  not_never_untested c no n = no (Always false (span_of c)) (n.0, n.1, refl)
+
+  -- what is always so is false where it is not true
+  pub never_so : (c : Expr) (z : Bool) (at : Span) → IsTest names e c (Always z at) → (not z ≡ true) ↔ IsNever e c
+  never_so c true at t = (λ q. let w : false ≡ true = q in absurd cc, λ n. let v : Some (constant.Bool true) ≡ Some (constant.Bool false) = sym t.1.1 ∙ n.1.1 in absurd cc)
+  never_so c false at t = (λ q. (t.0, t.1), λ n. refl)
