@@ -1,0 +1,20 @@
+use Rattle.std.proofs.Common.{◌≡◌, ◌∙◌, sym, ap}
+use Rattle.jz_unrolling_values.specs.InlineNames.{names_in}
+use Rattle.jz_unrolling_values.specs.Numbers.{numbers_in}
+use Rattle.jz_unrolling_values.proofs.RefusalLemmas.{handed}
+use Rattle.jz_unrolling_values.proofs.SettingLemmas.{number_is, no_number}
+use Rattle.jz_unrolling.proofs.statements.rounds_of.Goals as goal
+
+pub returns-then-not-is_inline_number : goal.returns-then-not-is_inline_number
+returns-then-not-is_inline_number c =
+    λ at is i j values. no_number (names_in c.args.unroller.now.vars.now) c.args.counter.now (sym c.is_inline_number.ensures ∙ c.if-not-is_inline_number.true) values.counter
+
+pub returns-in_err-first : goal.returns-in_err-first
+returns-in_err-first c =
+    handed c.from_residual.result c.in_err-first.field-0.0 c.from_residual.ensures.1 c.in_err-first.ensures
+    (λ no at is i j values. no values.first i values.from)
+
+pub returns-in_err-bound : goal.returns-in_err-bound
+returns-in_err-bound c =
+    handed c.from_residual-in_err-bound.result c.in_err-bound.field-0.0 c.from_residual-in_err-bound.ensures.1 c.in_err-bound.ensures
+    (λ no at is i j values. no values.bound j values.to)
