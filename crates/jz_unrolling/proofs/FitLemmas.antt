@@ -172,34 +172,34 @@ module _ (names : InlineNames) where
   call_never at e = op_never (meaningless at) e (λ os is k plain rule. plain)
 
   instruction_no : (to : List Lval) (n : List ℕ) (es : List Expr) (at : Span) (e k : KnownNumbers) (os : List Operation) (is : List Numbers) → operation_has_values names e (instruction to n es at) ≡ false → UnrollsOp names (instruction to n es at) e os is k → ⊥
-  instruction_no to n es at e k os is no (stays ok) = let q : true ≡ false = sym ok ∙ no in absurd cc
+  instruction_no to n es at e k os is fails (stays ok) = let q : true ≡ false = sym ok ∙ fails in absurd cc
 
   pub instruction_never : (to : List Lval) (n : List ℕ) (es : List Expr) (at : Span) (e : KnownNumbers) → operation_has_values names e (instruction to n es at) ≡ false → NeverFits names (op (instruction to n es at)) e
-  instruction_never to n es at e no = op_never (instruction to n es at) e (λ os is k plain rule. instruction_no to n es at e k os is no rule)
+  instruction_never to n es at e fails = op_never (instruction to n es at) e (λ os is k plain rule. instruction_no to n es at e k os is fails rule)
 
   plain_no : (to : List Lval) (o : Option BinOp) (x : Expr) (c : Option Expr) (at : Span) (e k : KnownNumbers) (os : List Operation) (is : List Numbers) → ((v : Var) → to ≡ lval.Var v ∷ [] → is_inline_var names v ≡ false) → operation_has_values names e (assign to o x c at) ≡ false → UnrollsOp names (assign to o x c at) e os is k → ⊥
-  plain_no to o x c at e k os is apart no (stays ok) = let q : true ≡ false = sym ok ∙ no in absurd cc
-  plain_no to o x c at e k os is apart no (vanishes {v} b inline whole value cond) = let q : true ≡ false = sym inline.named ∙ apart v refl in absurd cc
+  plain_no to o x c at e k os is apart fails (stays ok) = let q : true ≡ false = sym ok ∙ fails in absurd cc
+  plain_no to o x c at e k os is apart fails (vanishes {v} b inline whole value cond) = let q : true ≡ false = sym inline.named ∙ apart v refl in absurd cc
 
   pub plain_never : (to : List Lval) (o : Option BinOp) (x : Expr) (c : Option Expr) (at : Span) (e : KnownNumbers) → ((v : Var) → to ≡ lval.Var v ∷ [] → is_inline_var names v ≡ false) → operation_has_values names e (assign to o x c at) ≡ false → NeverFits names (op (assign to o x c at)) e
-  plain_never to o x c at e apart no = op_never (assign to o x c at) e (λ os is k plain rule. plain_no to o x c at e k os is apart no rule)
+  plain_never to o x c at e apart fails = op_never (assign to o x c at) e (λ os is k plain rule. plain_no to o x c at e k os is apart fails rule)
 
   -- of what sets one inline variable: no number, or no condition
   number_no : (v : Var) (o : Option BinOp) (x : Expr) (c : Option Expr) (at : Span) (e k : KnownNumbers) (os : List Operation) (is : List Numbers) → is_inline_var names v ≡ true → ((n : ℤ) (b : Bool) → IsInlineInt names v → is_inline x ≡ true → IsInlineIf c → HasWhole e v o x n → ConditionIs e v c b → ⊥) → SetsInline names (lval.Var v ∷ []) x c
       → UnrollsOp names (assign (lval.Var v ∷ []) o x c at) e os is k → ⊥
-  number_no v o x c at e k os is inline no sets (stays ok) = no_stay v o x c at e inline ok
-  number_no v o x c at e k os is inline no sets (vanishes {y} {i} b int whole value cond) = no i b int (sets inline).0 (sets inline).1 (y, whole, value) cond
+  number_no v o x c at e k os is inline fails sets (stays ok) = no_stay v o x c at e inline ok
+  number_no v o x c at e k os is inline fails sets (vanishes {y} {i} b int whole value cond) = fails i b int (sets inline).0 (sets inline).1 (y, whole, value) cond
 
   pub number_never : (v : Var) (o : Option BinOp) (x : Expr) (c : Option Expr) (at : Span) (e : KnownNumbers) → is_inline_var names v ≡ true → ((n : ℤ) (b : Bool) → IsInlineInt names v → is_inline x ≡ true → IsInlineIf c → HasWhole e v o x n → ConditionIs e v c b → ⊥) → NeverFits names (op (assign (lval.Var v ∷ []) o x c at)) e
-  number_never v o x c at e inline no = op_never (assign (lval.Var v ∷ []) o x c at) e (λ os is k plain rule. number_no v o x c at e k os is inline no plain rule)
+  number_never v o x c at e inline fails = op_never (assign (lval.Var v ∷ []) o x c at) e (λ os is k plain rule. number_no v o x c at e k os is inline fails plain rule)
 
   -- what stands behind what fits
   pub behind_never : (f g : Block → Block) (e e1 : KnownNumbers) → FitsOn names f e e1 → NeverFits names g e1 → NeverFits names (λ t. f (g t)) e
-  behind_never f g e e1 on no = λ t e2 h. no t e2 (on (g t) e2 h)
+  behind_never f g e e1 on fails = λ t e2 h. fails t e2 (on (g t) e2 h)
 
   pub at_never : (ss : List Stmt) (i : ℕ) (s : Stmt) (e e1 : KnownNumbers) → i < length ss → s ≡ get_or ss i s → FitsOn names (block no_callees (take i ss)) e e1 → NeverFits names (statement_tree no_callees s) e1 → NeverFits names (block no_callees ss) e
-  at_never ss i s e e1 lt is on no = λ t e2 h.
-      behind_never (block no_callees (take i ss)) (statement_tree no_callees s) e e1 on no (block no_callees (drop (i + 1) ss) t) e2
+  at_never ss i s e e1 lt is on fails = λ t e2 h.
+      behind_never (block no_callees (take i ss)) (statement_tree no_callees s) e e1 on fails (block no_callees (drop (i + 1) ss) t) e2
       (subst (λ l. Fits names l e e2) (ap (λ xs. block no_callees xs t) whole ∙ block_append (take i ss) (s ∷ drop (i + 1) ss) t) h)
     where
       whole : ss ≡ take i ss ++ s ∷ drop (i + 1) ss
@@ -207,56 +207,56 @@ module _ (names : InlineNames) where
 
   -- an arm that is taken
   pub arm_never : (c : Expr) (at : Span) (z : Bool) (a b : Block) (f : Block → Block) (e : KnownNumbers) → IsConstant (record { cond = c; at = at }) e z → f done ≡ (if z then a else b) → NeverFits names f e → NeverFits names (choose (record { cond = c; at = at }) a b) e
-  arm_never c at z a b f e constant0 is no = λ t e2 h. next t e2 h
+  arm_never c at z a b f e constant0 is fails = λ t e2 h. next t e2 h
     where
       next : (t : Block) (e2 : KnownNumbers) → Fits names (choose (record { cond = c; at = at }) a b t) e e2 → ⊥
       next t e2 (fits_if {p2} {os} {is = js} {i} test fa fb h) = not_constant (record { cond = c; at = at }) p2 e os js i z test constant0
       next t e2 (fits_arm {e1 = k} y const fa h) =
           let same : y ≡ z = same_truth e c y z const.1 constant0.1 in
-          no done k (subst (λ l. Fits names l e k) (ap (λ d. if d then a else b) same ∙ sym is) fa)
+          fails done k (subst (λ l. Fits names l e k) (ap (λ d. if d then a else b) same ∙ sym is) fa)
 
   -- arms that stay
   pub arms_never : (c : Expr) (at : Span) (a b : Block) (e : KnownNumbers) → is_inline c ≡ false → ((ea eb : KnownNumbers) → Fits names a e ea → Fits names b e eb → ⊥) → NeverFits names (choose (record { cond = c; at = at }) a b) e
-  arms_never c at a b e plain no = λ t e2 h. next t e2 h
+  arms_never c at a b e plain fails = λ t e2 h. next t e2 h
     where
       next : (t : Block) (e2 : KnownNumbers) → Fits names (choose (record { cond = c; at = at }) a b t) e e2 → ⊥
-      next t e2 (fits_if {ea} {eb} test fa fb h) = no ea eb fa fb
+      next t e2 (fits_if {ea} {eb} test fa fb h) = fails ea eb fa fb
       next t e2 (fits_arm z const fa h) = let q : true ≡ false = sym const.0 ∙ plain in absurd cc
 
   -- a test that is neither
   pub test_never : (c : Expr) (at : Span) (a b : Block) (e : KnownNumbers) → ((p2 : Condition) (os : List Operation) (is : List Numbers) (i : Numbers) → UnrollsTest names (record { cond = c; at = at }) e os is p2 i → ⊥) → ((z : Bool) → IsConstant (record { cond = c; at = at }) e z → ⊥) → NeverFits names (choose (record { cond = c; at = at }) a b) e
-  test_never c at a b e no none = λ t e2 h. next t e2 h
+  test_never c at a b e fails none = λ t e2 h. next t e2 h
     where
       next : (t : Block) (e2 : KnownNumbers) → Fits names (choose (record { cond = c; at = at }) a b t) e e2 → ⊥
-      next t e2 (fits_if {p2} {os} {is} {i} test fa fb h) = no p2 os is i test
+      next t e2 (fits_if {p2} {os} {is} {i} test fa fb h) = fails p2 os is i test
       next t e2 (fits_arm z const fa h) = none z const
 
   -- of a `while` that stays a part, or the test
   pub loop_never : (h0 : Bool) (q : Block) (p : Condition) (b : Block) (e : KnownNumbers) → (IsConstant p e false → ⊥)
       → ((eq eb : KnownNumbers) (p2 : Condition) (os : List Operation) (is : List Numbers) (i : Numbers) → Fits names q (forgotten names b (forgotten names q e)) eq → UnrollsLoopTest names p eq os is p2 i → Fits names b eq eb → ⊥) → NeverFits names (loop h0 q p b) e
-  loop_never h0 q p b e never no = λ t e2 h. next t e2 h
+  loop_never h0 q p b e never fails = λ t e2 h. next t e2 h
     where
       next : (t : Block) (e2 : KnownNumbers) → Fits names (loop h0 q p b t) e e2 → ⊥
-      next t e2 (fits_while {p2} {eq} {eb} {os} {is} {i} other fq test fb h) = no eq eb p2 os is i fq test fb
+      next t e2 (fits_while {p2} {eq} {eb} {os} {is} {i} other fq test fb h) = fails eq eb p2 os is i fq test fb
       next t e2 (fits_once first fq const h) = never first
 
   -- of one that is false at once the prologue, or it is not false behind that
   pub once_never : (h0 : Bool) (q : Block) (p : Condition) (b : Block) (e : KnownNumbers) → IsConstant p e false → ((eq : KnownNumbers) → Fits names q e eq → IsConstant p eq false → ⊥) → NeverFits names (loop h0 q p b) e
-  once_never h0 q p b e first no = λ t e2 h. next t e2 h
+  once_never h0 q p b e first fails = λ t e2 h. next t e2 h
     where
       next : (t : Block) (e2 : KnownNumbers) → Fits names (loop h0 q p b t) e e2 → ⊥
       next t e2 (fits_while other fq test fb h) = other first
-      next t e2 (fits_once {eq} again fq const h) = no eq fq const
+      next t e2 (fits_once {eq} again fq const h) = fails eq fq const
 
   pub rounds_never : (f : Counter) (b : Block) (e : KnownNumbers) → ((is : List ℤ) (k : KnownNumbers) → is_inline f.from ≡ true → is_inline f.to ≡ true → HasValues names f e is → FitsEach names f b is e k → ⊥) → NeverFits names (each f b) e
-  rounds_never f b e no = λ t e2 h. next t e2 h
+  rounds_never f b e fails = λ t e2 h. next t e2 h
     where
       next : (t : Block) (e2 : KnownNumbers) → Fits names (each f b t) e e2 → ⊥
-      next t e2 (fits_for {e1 = k} {is} i j values fb h) = no is k i j values fb
+      next t e2 (fits_for {e1 = k} {is} i j values fb h) = fails is k i j values fb
 
   pub round_never : (f : Counter) (g : Block → Block) (i : ℤ) (is : List ℤ) (e k : KnownNumbers) → NeverFits names g (with_number e f.counter (Some i)) → FitsEach names f (g done) (i ∷ is) e k → ⊥
-  round_never f g i is e k no (fits_more {e1 = m} fb h) = no done m fb
+  round_never f g i is e k fails (fits_more {e1 = m} fb h) = fails done m fb
 
   -- the same piece in other words
   pub never_as : (f g : Block → Block) (e : KnownNumbers) → f ≡ g → NeverFits names g e → NeverFits names f e
-  never_as f g e q no = subst (λ p. NeverFits names p e) (sym q) no
+  never_as f g e q fails = subst (λ p. NeverFits names p e) (sym q) fails

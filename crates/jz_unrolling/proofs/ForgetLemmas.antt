@@ -184,12 +184,12 @@ module _ (names : InlineNames) where
       ∙ ap (λ l. forgotten names (block no_callees l done) (numbers_in a)) (sym (drop_more ss i s lt ∙ ap (λ y. y ∷ drop (i + 1) ss) (sym is)))
 
   pub no_target : (to : List Lval) (e : KnownNumbers) → ((v : Var) → to ≡ lval.Var v ∷ [] → is_inline_var names v ≡ false) → e ≡ forgotten_left names to e
-  no_target [] e no = refl
-  no_target (lval.Var v ∷ []) e no = sym (ap (λ z. if z then with_number e v None else e) (no v refl))
-  no_target (lval.Var v ∷ d ∷ ds) e no = refl
-  no_target (lval.Skip s ∷ ds) e no = refl
-  no_target (lval.Cell v x ∷ ds) e no = refl
-  no_target (lval.Store x ∷ ds) e no = refl
+  no_target [] e fails = refl
+  no_target (lval.Var v ∷ []) e fails = sym (ap (λ z. if z then with_number e v None else e) (fails v refl))
+  no_target (lval.Var v ∷ d ∷ ds) e fails = refl
+  no_target (lval.Skip s ∷ ds) e fails = refl
+  no_target (lval.Cell v x ∷ ds) e fails = refl
+  no_target (lval.Store x ∷ ds) e fails = refl
 
   pub one_target : (to : List Lval) (v : Var) (old new : Known) → to ≡ lval.Var v ∷ [] → is_inline_var names v ≡ true → Sets old new (out-Var v).name (out-Var v).copy None → numbers_in new ≡ forgotten_left names to (numbers_in old)
   one_target to v old new is inline h =

@@ -253,18 +253,18 @@ module _ (names : InlineNames) where
   -- ---- what does not fit
 
   pub apart_never : (ss : List Stmt) (old start : Known) → numbers_in start ≡ numbers_in old → NeverFits names (block no_callees ss) (numbers_in start) → NeverFits names (block no_callees ss) (numbers_in old)
-  apart_never ss old start n no = subst (λ x. NeverFits names (block no_callees ss) x) n no
+  apart_never ss old start n fails = subst (λ x. NeverFits names (block no_callees ss) x) n fails
 
   pub if_test_never : (c : Expr) (at : Span) (a b : Block) (e : KnownNumbers) → NeverTests names e c → NeverFits names (choose (record { cond = c; at = at }) a b) e
-  if_test_never c at a b e no = test_never names c at a b e tests (λ z const. no (Always z (span_of c)) (const.0, const.1, refl))
+  if_test_never c at a b e fails = test_never names c at a b e tests (λ z const. fails (Always z (span_of c)) (const.0, const.1, refl))
     where
       tests : (p2 : Condition) (os : List Operation) (is : List Numbers) (i : Numbers) → UnrollsTest names (record { cond = c; at = at }) e os is p2 i → ⊥
-      tests p2 os is i (tested plain known) = no (Asked (with_values e c)) (record { plain = plain; valued = record { copy = refl; known = known } })
+      tests p2 os is i (tested plain known) = fails (Asked (with_values e c)) (record { plain = plain; valued = record { copy = refl; known = known } })
 
   pub arm_stops : (c : Expr) (at at1 : Span) (z : Bool) (holds fails arm : List Stmt) (e : KnownNumbers) → IsTest names e c (Always z at1) → arm ≡ (if z then holds else fails) → NeverFits names (block no_callees arm) e
       → NeverFits names (choose (record { cond = c; at = at }) (block no_callees holds done) (block no_callees fails done)) e
-  arm_stops c at at1 z holds fails arm e test q no =
-      arm_never names c at z (block no_callees holds done) (block no_callees fails done) (block no_callees arm) e (test.0, test.1) (ap (λ l. block no_callees l done) q ∙ picked z) no
+  arm_stops c at at1 z holds fails arm e test q fails =
+      arm_never names c at z (block no_callees holds done) (block no_callees fails done) (block no_callees arm) e (test.0, test.1) (ap (λ l. block no_callees l done) q ∙ picked z) fails
     where
       picked : (b : Bool) → block no_callees (if b then holds else fails) done ≡ (if b then block no_callees holds done else block no_callees fails done)
       picked true = refl
@@ -272,60 +272,60 @@ module _ (names : InlineNames) where
 
   -- of two arms the first, or the second
   pub first_never : (c : Expr) (at : Span) (f g : Block → Block) (e : KnownNumbers) → is_inline c ≡ false → NeverFits names f e → NeverFits names (choose (record { cond = c; at = at }) (f done) (g done)) e
-  first_never c at f g e plain no = arms_never names c at (f done) (g done) e plain (λ ea eb fa fb. no done ea fa)
+  first_never c at f g e plain fails = arms_never names c at (f done) (g done) e plain (λ ea eb fa fb. fails done ea fa)
 
   pub second_never : (c : Expr) (at : Span) (f g : Block → Block) (e : KnownNumbers) (k k1 : Known) → e ≡ numbers_in k → IsSame k k1 → is_inline c ≡ false → NeverFits names g (numbers_in k1) → NeverFits names (choose (record { cond = c; at = at }) (f done) (g done)) e
-  second_never c at f g e k k1 q same plain no =
-      arms_never names c at (f done) (g done) e plain (λ ea eb fa fb. no done eb (subst (λ x. Fits names (g done) x eb) (q ∙ sym same.numbers) fb))
+  second_never c at f g e k k1 q same plain fails =
+      arms_never names c at (f done) (g done) e plain (λ ea eb fa fb. fails done eb (subst (λ x. Fits names (g done) x eb) (q ∙ sym same.numbers) fb))
 
   -- of a `while` that is false at once
   pub prologue_never : (h0 : Bool) (f : Block → Block) (c : Expr) (at : Span) (b : Block) (e : KnownNumbers) → IsNever e c → NeverFits names f e → NeverFits names (loop h0 (f done) (record { cond = c; at = at }) b) e
-  prologue_never h0 f c at b e first no = once_never names h0 (f done) (record { cond = c; at = at }) b e (first.0, first.1) (λ eq fq const. no done eq fq)
+  prologue_never h0 f c at b e first fails = once_never names h0 (f done) (record { cond = c; at = at }) b e (first.0, first.1) (λ eq fq const. fails done eq fq)
 
   pub then_true_never : (h0 : Bool) (f : Block → Block) (c : Expr) (at : Span) (b : Block) (e e1 : KnownNumbers) → IsNever e c → FitsOn names f e e1 → (IsNever e1 c → ⊥) → NeverFits names (loop h0 (f done) (record { cond = c; at = at }) b) e
-  then_true_never h0 f c at b e e1 first on no =
+  then_true_never h0 f c at b e e1 first on fails =
       once_never names h0 (f done) (record { cond = c; at = at }) b e (first.0, first.1)
       (λ eq fq const.
       let ends : eq ≡ e1 = ends_at names f e e1 eq on fq in
       let last : IsNever e1 c = subst (λ x. IsNever x c) ends (const.0, const.1) in
-      no last)
+      fails last)
 
   -- of one that stays
   pub turns_never : (t : Turns) (at : Span) (k k1 k2 : Known) → (IsNever (numbers_in k) t.cond.now → ⊥) → Forgets names (block no_callees t.prologue.now) k k1 → Forgets names (body_piece no_callees t.body.now) k1 k2 → NeverTurns names t (numbers_in k2)
       → NeverFits names (turns_of t at) (numbers_in k)
-  turns_never t at k k1 k2 never forget1 forget2 no =
+  turns_never t at k k1 k2 never forget1 forget2 fails =
       let f = block no_callees t.prologue.now in
       let g = body_piece no_callees t.body.now in
       let before : forgotten names (g done) (forgotten names (f done) (numbers_in k)) ≡ numbers_in k2 = sym (forget2.numbers ∙ ap (forgotten names (g done)) forget1.numbers) in
       loop_never names (not (is_some t.body.now)) (f done) (record { cond = t.cond.now; at = at }) (g done) (numbers_in k) (λ c. never (c.0, c.1))
-      (λ eq eb p2 os is i fq test fb. no eq eb at p2 os is i (subst (λ x. Fits names (f done) x eq) before fq) test fb)
+      (λ eq eb p2 os is i fq test fb. fails eq eb at p2 os is i (subst (λ x. Fits names (f done) x eq) before fq) test fb)
 
   pub loop_prologue_never : (t : Turns) (old start : Known) → numbers_in start ≡ numbers_in old → NeverFits names (block no_callees t.prologue.now) (numbers_in start) → NeverTurns names t (numbers_in old)
-  loop_prologue_never t old start n no = λ eq eb at p os is i fq test fb. no done eq (subst (λ x. Fits names (block no_callees t.prologue.now done) x eq) (sym n) fq)
+  loop_prologue_never t old start n fails = λ eq eb at p os is i fq test fb. fails done eq (subst (λ x. Fits names (block no_callees t.prologue.now done) x eq) (sym n) fq)
 
   loop_ends : (t : Turns) (old start end : Known) (eq : KnownNumbers) → numbers_in start ≡ numbers_in old → FitsOn names (block no_callees t.prologue.now) (numbers_in start) (numbers_in end) → Fits names (block no_callees t.prologue.now done) (numbers_in old) eq → eq ≡ numbers_in end
   loop_ends t old start end eq n on fq = ends_at names (block no_callees t.prologue.now) (numbers_in start) (numbers_in end) eq on (subst (λ x. Fits names (block no_callees t.prologue.now done) x eq) (sym n) fq)
 
   pub loop_test_never : (t : Turns) (old start end : Known) → numbers_in start ≡ numbers_in old → FitsOn names (block no_callees t.prologue.now) (numbers_in start) (numbers_in end) → NeverLoops names (numbers_in end) t.cond.now → NeverTurns names t (numbers_in old)
-  loop_test_never t old start end n on no = λ eq eb at p os is i fq test fb.
-      no at p os is i (subst (λ x. UnrollsLoopTest names (record { cond = t.cond.now; at = at }) x os is p i) (loop_ends t old start end eq n on fq) test)
+  loop_test_never t old start end n on fails = λ eq eb at p os is i fq test fb.
+      fails at p os is i (subst (λ x. UnrollsLoopTest names (record { cond = t.cond.now; at = at }) x os is p i) (loop_ends t old start end eq n on fq) test)
 
   pub loop_body_never : (t : Turns) (old start end : Known) → numbers_in start ≡ numbers_in old → FitsOn names (block no_callees t.prologue.now) (numbers_in start) (numbers_in end) → NeverFits names (body_piece no_callees t.body.now) (numbers_in end) → NeverTurns names t (numbers_in old)
-  loop_body_never t old start end n on no = λ eq eb at p os is i fq test fb.
-      no done eb (subst (λ x. Fits names (body_piece no_callees t.body.now done) x eb) (loop_ends t old start end eq n on fq) fb)
+  loop_body_never t old start end n on fails = λ eq eb at p os is i fq test fb.
+      fails done eb (subst (λ x. Fits names (body_piece no_callees t.body.now done) x eb) (loop_ends t old start end eq n on fq) fb)
 
   pub rounds_stop : (r : Rounds) (body : List Stmt) (old now set : Known) (o1 o2 : List Stmt) (changes : List Change) (at behind : ℤ) (m : List ℕ) (d : ℕ) → values_between r.down at r.bound ≡ at ∷ values_between r.down behind r.bound → m ≡ (ref_of r.counter.now).name → d ≡ (ref_of r.counter.now).copy → Sets now set m d (Some at) → NeverFits names (block no_callees body) (numbers_in set)
       → IsRounding r body old now o1 o2 changes at → NeverRounds names r body old
-  rounds_stop r body old now set o1 o2 changes at behind m d vs p q sets no way = λ from to place h.
+  rounds_stop r body old now set o1 o2 changes at behind m d vs p q sets fails way = λ from to place h.
       let f : Counter = record { counter = r.counter.now; from = from; down = r.down; to = to; at = place } in
       rounds_never names f (block no_callees body done) (numbers_in old)
       (λ is k i j values fb.
       round_never names f (block no_callees body) at (values_between r.down behind r.bound) (numbers_in now) k
-      (subst (λ e. NeverFits names (block no_callees body) e) (number_so f r.counter.now now set m d (Some at) refl p q sets) no)
+      (subst (λ e. NeverFits names (block no_callees body) e) (number_so f r.counter.now now set m d (Some at) refl p q sets) fails)
       (subst (λ l. FitsEach names f (block no_callees body done) l (numbers_in now) k) vs
       (way.only f refl k (subst (λ l. FitsEach names f (block no_callees body done) l (numbers_in old) k) (same_values names f (numbers_in old) is r.first r.bound values h.first h.bound) fb))))
 
   pub for_never : (counter : Var) (from : Expr) (down : Bool) (to : Expr) (at : Span) (body : List Stmt) (e : KnownNumbers) → NeverCounts names e counter from down to → NeverFits names (each (record { counter = counter; from = from; down = down; to = to; at = at }) (block no_callees body done)) e
-  for_never counter from down to at body e no =
+  for_never counter from down to at body e fails =
       let f : Counter = record { counter = counter; from = from; down = down; to = to; at = at } in
-      rounds_never names f (block no_callees body done) e (λ is k i j values fb. no at is i j values)
+      rounds_never names f (block no_callees body done) e (λ is k i j values fb. fails at is i j values)

@@ -43,22 +43,22 @@ use Rattle.jz_unrolling_values.proofs.PartLemmas.{ref_cell, last_waiting, IsOnTh
 
 -- ---- refusals that are handed on
 
-cause : {A B : Type 0} {P : A → Type 0} {Q : B → Type 0} {p q : Type 0} (v : Failure Span) → IfAnswered (Err v) (OrElse P p) → (p → q) → IfAnswered (Err v) (OrElse Q q)
-cause (Refused at) h f = f h
-cause OutOfMemory h f = tt
+cause : {A B : Type 0} (P : A → Type 0) (Q : B → Type 0) {p q : Type 0} (v : Failure Span) → IfAnswered (Err v) (OrElse P p) → (p → q) → IfAnswered (Err v) (OrElse Q q)
+cause P Q (Refused at) h f = f h
+cause P Q OutOfMemory h f = tt
 
-pub handed : {A B : Type 0} {P : A → Type 0} {Q : B → Type 0} {p q : Type 0} (r : Result B (Failure Span)) (e : Failure Span) → IsErrAnd r (λ v. v ≡ e) → IfAnswered (Err e) (OrElse P p) → (p → q) → IfAnswered r (OrElse Q q)
-handed (Ok x) e is h f = absurd is
-handed {P} {p} (Err v) e is h f = cause v (subst (λ w. IfAnswered (Err w) (OrElse P p)) (sym is) h) f
+pub handed : {A B : Type 0} (P : A → Type 0) (Q : B → Type 0) {p q : Type 0} (r : Result B (Failure Span)) (e : Failure Span) → IsErrAnd r (λ v. v ≡ e) → IfAnswered (Err e) (OrElse P p) → (p → q) → IfAnswered r (OrElse Q q)
+handed P Q (Ok x) e is h f = absurd is
+handed P Q {p} (Err v) e is h f = cause P Q v (subst (λ w. IfAnswered (Err w) (OrElse P p)) (sym is) h) f
 
 -- where no more is said than why it is refused
-refused_cause : {A : Type 0} {P : A → Type 0} {p q : Type 0} (v : Failure Span) → IfAnswered (Err v) (OrElse P p) → (p → q) → IfRefused v (λ at. q)
-refused_cause (Refused at) h f = f h
-refused_cause OutOfMemory h f = tt
+refused_cause : {A : Type 0} (P : A → Type 0) {p q : Type 0} (v : Failure Span) → IfAnswered (Err v) (OrElse P p) → (p → q) → IfRefused v (λ at. q)
+refused_cause P (Refused at) h f = f h
+refused_cause P OutOfMemory h f = tt
 
-pub handed_refusal : {A B : Type 0} {P : A → Type 0} {p q : Type 0} (r : Result B (Failure Span)) (e : Failure Span) → IsErrAnd r (λ v. v ≡ e) → IfAnswered (Err e) (OrElse P p) → (p → q) → IfErr r (λ failure. IfRefused failure (λ at. q))
-handed_refusal (Ok x) e is h f = absurd is
-handed_refusal {P} {p} (Err v) e is h f = refused_cause v (subst (λ w. IfAnswered (Err w) (OrElse P p)) (sym is) h) f
+pub handed_refusal : {A B : Type 0} (P : A → Type 0) {p q : Type 0} (r : Result B (Failure Span)) (e : Failure Span) → IsErrAnd r (λ v. v ≡ e) → IfAnswered (Err e) (OrElse P p) → (p → q) → IfErr r (λ failure. IfRefused failure (λ at. q))
+handed_refusal P (Ok x) e is h f = absurd is
+handed_refusal P {p} (Err v) e is h f = refused_cause P v (subst (λ w. IfAnswered (Err w) (OrElse P p)) (sym is) h) f
 
 -- ---- truths
 
@@ -76,13 +76,13 @@ both_cases false P f g = g refl
 
 -- one that fails among all
 pub some_fails : {A : Type 0} (f : A → Bool) (xs : List A) (i : ℕ) (x : A) → i < length xs → x ≡ get_or xs i x → f x ≡ false → list_all f xs ≡ false
-some_fails {A} f xs i x lt is no = ap (list_all f) whole ∙ in_front (take i xs)
+some_fails {A} f xs i x lt is fails = ap (list_all f) whole ∙ in_front (take i xs)
   where
     whole : xs ≡ take i xs ++ x ∷ drop (i + 1) xs
     whole = sym (take-append-drop i xs) ∙ ap (λ l. take i xs ++ l) (drop_more xs i x lt ∙ ap (λ y. y ∷ drop (i + 1) xs) (sym is))
 
     in_front : (ys : List A) → list_all f (ys ++ x ∷ drop (i + 1) xs) ≡ false
-    in_front [] = and_left (f x) _ no
+    in_front [] = and_left (f x) _ fails
     in_front (y ∷ ys) = and_right (f y) _ (in_front ys)
 
 -- ---- expressions
@@ -124,10 +124,10 @@ module _ (names : InlineNames) (e : KnownNumbers) where
 
   -- what is no part has no values
   pub no_values : (x : Expr) → is_part names e x ≡ false → has_values names e x ≡ false
-  no_values x no =
+  no_values x fails =
       both_cases (is_inline x) (has_values names e x ≡ false)
-      (λ q. inline_values x q ∙ and_left (has_no_cell x) (is_some (inline_value e x)) (sym (inline_part_is x q) ∙ no))
-      (λ q. sym (plain_part_is x q) ∙ no)
+      (λ q. inline_values x q ∙ and_left (has_no_cell x) (is_some (inline_value e x)) (sym (inline_part_is x q) ∙ fails))
+      (λ q. sym (plain_part_is x q) ∙ fails)
 
   -- an inline part without a value has none
   pub none_known : (x : Expr) (found : Option Constant) (at : Span) → IsInlinePart names e x found at → found ≡ None → has_values names e x ≡ false
@@ -143,50 +143,50 @@ module _ (names : InlineNames) (e : KnownNumbers) where
   two a b c d false f g = g refl
 
   pub left_no_part : (op : BinOp) (x y : Expr) (at : Span) → is_part names e x ≡ false → is_part names e (expr.Bin op x y at) ≡ false
-  left_no_part op x y at no =
+  left_no_part op x y at fails =
       bin_is op x y at
       ∙ two true true (has_no_cell x && has_no_cell y) (has_values names e x && has_values names e y) (is_inline x && is_inline y)
-      (λ q. and_left (has_no_cell x) (has_no_cell y) (sym (inline_part_is x (and_parts (is_inline x) (is_inline y) q).0) ∙ no))
-      (λ q. and_left (has_values names e x) (has_values names e y) (no_values x no))
+      (λ q. and_left (has_no_cell x) (has_no_cell y) (sym (inline_part_is x (and_parts (is_inline x) (is_inline y) q).0) ∙ fails))
+      (λ q. and_left (has_values names e x) (has_values names e y) (no_values x fails))
 
   pub right_no_part : (op : BinOp) (x y : Expr) (at : Span) → is_part names e y ≡ false → is_part names e (expr.Bin op x y at) ≡ false
-  right_no_part op x y at no =
+  right_no_part op x y at fails =
       bin_is op x y at
       ∙ two true true (has_no_cell x && has_no_cell y) (has_values names e x && has_values names e y) (is_inline x && is_inline y)
-      (λ q. and_right (has_no_cell x) (has_no_cell y) (sym (inline_part_is y (and_parts (is_inline x) (is_inline y) q).1) ∙ no))
-      (λ q. and_right (has_values names e x) (has_values names e y) (no_values y no))
+      (λ q. and_right (has_no_cell x) (has_no_cell y) (sym (inline_part_is y (and_parts (is_inline x) (is_inline y) q).1) ∙ fails))
+      (λ q. and_right (has_values names e x) (has_values names e y) (no_values y fails))
 
   -- an inline operand without a value, beside one that is not inline
   pub left_no_value : (op : BinOp) (x y : Expr) (at : Span) → is_inline y ≡ false → has_values names e x ≡ false → is_part names e (expr.Bin op x y at) ≡ false
-  left_no_value op x y at plain no =
+  left_no_value op x y at plain fails =
       bin_is op x y at
       ∙ two true true (has_no_cell x && has_no_cell y) (has_values names e x && has_values names e y) (is_inline x && is_inline y)
       (λ q. let z : true ≡ false = sym (and_parts (is_inline x) (is_inline y) q).1 ∙ plain in absurd cc)
-      (λ q. and_left (has_values names e x) (has_values names e y) no)
+      (λ q. and_left (has_values names e x) (has_values names e y) fails)
 
   pub right_no_value : (op : BinOp) (x y : Expr) (at : Span) → is_inline x ≡ false → has_values names e y ≡ false → is_part names e (expr.Bin op x y at) ≡ false
-  right_no_value op x y at plain no =
+  right_no_value op x y at plain fails =
       bin_is op x y at
       ∙ two true true (has_no_cell x && has_no_cell y) (has_values names e x && has_values names e y) (is_inline x && is_inline y)
       (λ q. let z : true ≡ false = sym (and_parts (is_inline x) (is_inline y) q).0 ∙ plain in absurd cc)
-      (λ q. and_right (has_values names e x) (has_values names e y) no)
+      (λ q. and_right (has_values names e x) (has_values names e y) fails)
 
   -- what stands on the left at the bottom
   pub side_no_part : (ws : List Waiting) (x : Expr) → is_part names e x ≡ false → is_part names e (on_left ws x) ≡ false
-  side_no_part [] x no = no
-  side_no_part (w ∷ ws) x no = left_no_part w.op (on_left ws x) w.right.now w.span (side_no_part ws x no)
+  side_no_part [] x fails = fails
+  side_no_part (w ∷ ws) x fails = left_no_part w.op (on_left ws x) w.right.now w.span (side_no_part ws x fails)
 
   -- an operation on the way up
   pub way_no_part : (x : Expr) (ws us : List Waiting) (w : Waiting) (part : Part) → ws ≡ us ++ w ∷ [] → (way : IsOnTheWay names e x ws part) → is_part names e (expr.Bin w.op way.reached w.right.now w.span) ≡ false → is_part names e x ≡ false
-  way_no_part x ws us w part last way no =
+  way_no_part x ws us w part last way fails =
       subst (λ y. is_part names e y ≡ false) (sym (last_waiting us w way.reached) ∙ ap (λ l. on_left l way.reached) (sym last) ∙ way.under)
-      (side_no_part us (expr.Bin w.op way.reached w.right.now w.span) no)
+      (side_no_part us (expr.Bin w.op way.reached w.right.now w.span) fails)
 
   pub neg_no_part : (x : Expr) (at : Span) → is_part names e x ≡ false → is_part names e (expr.Neg x at) ≡ false
-  neg_no_part x at no = ap P (sym (expr.rolls-Neg x at)) ∙ part_is (Expr-F.Neg x at) ∙ no
+  neg_no_part x at fails = ap P (sym (expr.rolls-Neg x at)) ∙ part_is (Expr-F.Neg x at) ∙ fails
 
   pub not_no_part : (x : Expr) (at : Span) → is_part names e x ≡ false → is_part names e (expr.Not x at) ≡ false
-  not_no_part x at no = ap P (sym (expr.rolls-Not x at)) ∙ part_is (Expr-F.Not x at) ∙ no
+  not_no_part x at fails = ap P (sym (expr.rolls-Not x at)) ∙ part_is (Expr-F.Not x at) ∙ fails
 
   -- ---- what is never inline
 
@@ -235,21 +235,21 @@ module _ (names : InlineNames) (e : KnownNumbers) where
   no_true b p q = let z : true ≡ false = sym p ∙ q in absurd cc
 
   pub part_no_test : (c : Expr) → is_part names e c ≡ false → NeverTests names e c
-  part_no_test c no (Always z at) h = no_true (has_no_cell c) h.1.0 (sym (inline_part_is c h.0) ∙ no)
-  part_no_test c no (Asked y) h = no_true (has_values names e c) h.valued.known (sym (plain_part_is c h.plain) ∙ no)
+  part_no_test c fails (Always z at) h = no_true (has_no_cell c) h.1.0 (sym (inline_part_is c h.0) ∙ fails)
+  part_no_test c fails (Asked y) h = no_true (has_values names e c) h.valued.known (sym (plain_part_is c h.plain) ∙ fails)
 
   pub number_no_test : (c : Expr) (found : Option Constant) (at : Span) → IsInlinePart names e c found at → ((b : Bool) → found ≡ Some (constant.Bool b) → ⊥) → NeverTests names e c
-  number_no_test c found at p no (Always z k) h = no z (p.value ∙ h.1.1)
-  number_no_test c found at p no (Asked y) h = no_true (is_inline c) p.inline h.plain
+  number_no_test c found at p fails (Always z k) h = fails z (p.value ∙ h.1.1)
+  number_no_test c found at p fails (Asked y) h = no_true (is_inline c) p.inline h.plain
 
   pub part_no_number : (x : Expr) → is_part names e x ≡ false → NeverNumber e x
-  part_no_number x no = λ n i h. no_true (has_no_cell x) h.0 (sym (inline_part_is x i) ∙ no)
+  part_no_number x fails = λ n i h. no_true (has_no_cell x) h.0 (sym (inline_part_is x i) ∙ fails)
 
   pub plain_no_number : (x y : Expr) → IsPlainPart names e x y → NeverNumber e x
   plain_no_number x y p = λ n i h. no_true (is_inline x) i p.plain
 
   pub other_no_number : (x : Expr) (found : Option Constant) (at : Span) → IsInlinePart names e x found at → ((n : ℤ) → found ≡ Some (constant.Int n) → ⊥) → NeverNumber e x
-  other_no_number x found at p no = λ n i h. no n (p.value ∙ h.1)
+  other_no_number x found at p fails = λ n i h. fails n (p.value ∙ h.1)
 
   -- ---- tests of a `while`
 
@@ -270,7 +270,7 @@ module _ (names : InlineNames) (e : KnownNumbers) where
       λ n. let v : Some (constant.Bool true) ≡ Some (constant.Bool false) = sym value.1 ∙ ap (inline_value e) q ∙ n.1.1 in absurd cc)
 
   pub no_test_loops : (c : Expr) → NeverTests names e c → NeverLoops names e c
-  no_test_loops c no = λ at p os is i test. let t = loop_tests c (record { cond = c; at = at }) p os is i refl test in no t.0 t.1
+  no_test_loops c fails = λ at p os is i test. let t = loop_tests c (record { cond = c; at = at }) p os is i refl test in fails t.0 t.1
 
   pub false_never_loops : (c : Expr) (at1 : Span) → IsTest names e c (Always false at1) → NeverLoops names e c
   false_never_loops c at1 t = λ at p os is i test. (loop_tests c (record { cond = c; at = at }) p os is i refl test).2 (t.0, t.1)
@@ -281,7 +281,7 @@ module _ (names : InlineNames) (e : KnownNumbers) where
   not_never_asked c y p n = no_true (is_inline c) n.0 p.plain
 
   pub not_never_untested : (c : Expr) → NeverTests names e c → IsNever e c → ⊥
-  not_never_untested c no n = no (Always false (span_of c)) (n.0, n.1, refl)
+  not_never_untested c fails n = fails (Always false (span_of c)) (n.0, n.1, refl)
 
   -- what is always so is false where it is not true
   pub never_so : (c : Expr) (z : Bool) (at : Span) → IsTest names e c (Always z at) → (not z ≡ true) ↔ IsNever e c

@@ -22,8 +22,10 @@ use Rattle.jz_unroll.proofs.Inline.{cells_is}
 use Rattle.jz_unroll.proofs.InlineParts.{inline_is}
 use Rattle.jz_unroll.proofs.Parts.{inline_updated}
 use Rattle.jz_unrolling_values.specs.Parts.{updated_value, HasWhole, IsInlinePart, IsPlainPart, is_number}
-use Rattle.jz_unrolling_values.specs.Refusals.{is_part, NeverWhole}
-use Rattle.jz_unrolling_values.proofs.PartLemmas.{found_is}
+use Rattle.jz_type_names.specs.Parts.{span_of}
+use Rattle.jz_unrolling_values.specs.declared.conditions.Test.TheVariants.{Always}
+use Rattle.jz_unrolling_values.specs.Refusals.{is_part, NeverTests, NeverWhole, NeverIf}
+use Rattle.jz_unrolling_values.proofs.PartLemmas.{found_is, ref_name, ref_copy}
 use Rattle.jz_unrolling_values.proofs.RefusalLemmas.{inline_part_is}
 
 pub one_left : (xs : List Lval) (x y : Lval) → length xs ≡ 1 → Some x ≡ slice_get xs 0 → x ≡ y → xs ≡ y ∷ []
@@ -76,13 +78,13 @@ module _ (names : InlineNames) (e : KnownNumbers) where
       ap (λ j. joined o j (inline_value e x)) (sym (read_value v)) ∙ sym (both_value o (expr.Var v) x place) ∙ ap (inline_value e) is ∙ h.2.1)
 
   pub part_no_whole : (v : Var) (o : Option BinOp) (x : Expr) → is_part names e x ≡ false → NeverWhole e v o x
-  part_no_whole v o x no = λ n i h. let z : true ≡ false = sym (whole_value v o x n i h).0 ∙ sym (inline_part_is names e x i) ∙ no in absurd cc
+  part_no_whole v o x fails = λ n i h. let z : true ≡ false = sym (whole_value v o x n i h).0 ∙ sym (inline_part_is names e x i) ∙ fails in absurd cc
 
   pub plain_no_whole : (v : Var) (o : Option BinOp) (x y : Expr) → IsPlainPart names e x y → NeverWhole e v o x
   plain_no_whole v o x y p = λ n i h. let z : true ≡ false = sym i ∙ p.plain in absurd cc
 
   pub other_no_whole : (v : Var) (o : Option BinOp) (x : Expr) (found : Option Constant) (at : Span) → IsInlinePart names e x found at → ((n : ℤ) → updated_value e v o found ≡ Some (constant.Int n) → ⊥) → NeverWhole e v o x
-  other_no_whole v o x found at p no = λ n i h. no n (ap (updated_value e v o) p.value ∙ (whole_value v o x n i h).1)
+  other_no_whole v o x found at p fails = λ n i h. fails n (ap (updated_value e v o) p.value ∙ (whole_value v o x n i h).1)
 
   -- ---- inline variables that are integers
 
@@ -96,3 +98,16 @@ module _ (names : InlineNames) (e : KnownNumbers) where
   no_number v q h =
       let z : true ≡ false = sym (and_from (is_none (ref_of v).cell) _ h.whole (and_from (is_int (ref_of v).kind) (is_inline_var names v) h.int h.named)) ∙ q in
       absurd cc
+
+  pub never_if : (v : Var) (c : Expr) → NeverTests names e c → NeverIf e v (Some c)
+  never_if v c fails = λ b inline cond. fails (Always b (span_of c)) (inline, cond.0, refl)
+
+pub named_inline : (names : InlineNames) (v : Var) → names (out-Var v).name (out-Var v).copy ≡ true → is_inline_var names v ≡ true
+named_inline names v q = ap (λ n. names n (ref_of v).copy) (ref_name v) ∙ ap (names (out-Var v).name) (ref_copy v) ∙ q
+
+-- a truth is no number
+pub truth_no_number : (x : Option Constant) (b : Bool) (n : ℤ) → x ≡ Some (constant.Bool b) → x ≡ Some (constant.Int n) → ⊥
+truth_no_number x b n p q = let r : Some (constant.Bool b) ≡ Some (constant.Int n) = sym p ∙ q in absurd cc
+
+pub none_no_number : (x : Option Constant) (n : ℤ) → x ≡ None → x ≡ Some (constant.Int n) → ⊥
+none_no_number x n p q = absurd cc

@@ -71,19 +71,19 @@ returns-clause-plain c =
 pub returns-in_err-ask_results-clause-refused : goal.returns-in_err-ask_results-clause-refused
 returns-in_err-ask_results-clause-refused c =
     let f : Fun = c.args.fun.now in
-    handed_refusal c.from_residual-in_err-ask_results.result c.in_err-ask_results.field-0.0 c.from_residual-in_err-ask_results.ensures.1 c.in_err-ask_results.ensures
-    (λ no u.
-    let q : true ≡ false = sym u.plain ∙ subst (λ n. list_all (λ v. not (is_inline_var n v)) f.result ≡ false) c.in_ok-vars.ensures.names no in
+    handed_refusal _ c.from_residual-in_err-ask_results.result c.in_err-ask_results.field-0.0 c.from_residual-in_err-ask_results.ensures.1 c.in_err-ask_results.ensures
+    (λ fails u.
+    let q : true ≡ false = sym u.plain ∙ subst (λ n. list_all (λ v. not (is_inline_var n v)) f.result ≡ false) c.in_ok-vars.ensures.names fails in
     absurd cc)
 
 pub returns-in_err-steps-clause-refused : goal.returns-in_err-steps-clause-refused
 returns-in_err-steps-clause-refused c =
     let f : Fun = c.args.fun.now in
     let names = inline_names (variables_of f) in
-    handed_refusal c.from_residual-in_err-steps.result c.in_err-steps.field-0.0 c.from_residual-in_err-steps.ensures.1 c.in_err-steps.ensures
-    (λ no u.
+    handed_refusal _ c.from_residual-in_err-steps.result c.in_err-steps.field-0.0 c.from_residual-in_err-steps.ensures.1 c.in_err-steps.ensures
+    (λ fails u.
     let never : NeverFits names (block no_callees f.body) no_numbers =
     subst (λ e. NeverFits names (block no_callees f.body) e) c.new-known.ensures.numbers
-    (subst (λ n. NeverFits n (block no_callees f.body) (numbers_in c.new-known.result)) c.in_ok-vars.ensures.names no)
+    (subst (λ n. NeverFits n (block no_callees f.body) (numbers_in c.new-known.result)) c.in_ok-vars.ensures.names fails)
     in
     never done u.behind u.fits)

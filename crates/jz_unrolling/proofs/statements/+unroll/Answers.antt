@@ -49,7 +49,7 @@ unroll_all-loop-stmt-preserved t c =
 pub unroll_all-returns-in_err-step : goal.unroll_all-returns-in_err-step
 unroll_all-returns-in_err-step t c =
     let names = names_in c.args.unroller.now.vars.now in
-    handed c.from_residual.result c.in_err-step.field-0.0 c.from_residual.ensures.1 c.in_err-step.ensures
+    handed _ _ c.from_residual.result c.in_err-step.field-0.0 c.from_residual.ensures.1 c.in_err-step.ensures
     (at_never names c.args.stmts.now c.loop-stmt.stmt-index c.stmt-item.result (numbers_in c.args.known.now) (numbers_in c.loop-stmt.known) (search rules) (search rules) c.loop-stmt.invariant.only)
 
 -- ---- parts by themselves
@@ -64,7 +64,7 @@ unroll_apart-returns t c =
 pub unroll_apart-returns-in_err-steps : goal.unroll_apart-returns-in_err-steps
 unroll_apart-returns-in_err-steps t c =
     let names = names_in c.args.unroller.now.vars.now in
-    handed c.from_residual.result c.in_err-steps.field-0.0 c.from_residual.ensures.1 c.in_err-steps.ensures
+    handed _ _ c.from_residual.result c.in_err-steps.field-0.0 c.from_residual.ensures.1 c.in_err-steps.ensures
     (form.apart_never names c.args.stmts.now c.args.known.now c.enter-outer.new.self c.enter-outer.ensures.numbers)
 
 -- ---- `if`
@@ -75,24 +75,24 @@ unroll_arms-returns t c =
     let b = c.args.branch.now in
     let at = c.args.stmt.now.span in
     let yes = c.in_ok-yes.yes in
-    let no = c.in_ok-no.no in
-    subst (λ q. AddsStep names (branch_of b at) c.args.known.now c.forget_set-2.new.known c.args.out.now c.push.new.self (step.If q Same (record { steps = yes.steps }) (record { steps = no.steps }))) (sym c.new.ensures)
+    let fails = c.in_ok-no.no in
+    subst (λ q. AddsStep names (branch_of b at) c.args.known.now c.forget_set-2.new.known c.args.out.now c.push.new.self (step.If q Same (record { steps = yes.steps }) (record { steps = fails.steps }))) (sym c.new.ensures)
     (form.arms_add names b.cond.now c.args.cond at b.yes.now b.no.now c.args.known.now c.unroll_apart.new.known c.unroll_apart-2.new.known c.forget_set.new.known c.forget_set-2.new.known c.args.out.now c.push.new.self
-    (record { notes = c.in_ok-copy_notes.field-0; span = at; kind = kind.If c.args.cond yes.statements no.statements }) yes no
+    (record { notes = c.in_ok-copy_notes.field-0; span = at; kind = kind.If c.args.cond yes.statements fails.statements }) yes fails
     c.requires c.in_ok-yes.ensures.0 c.in_ok-yes.ensures.1 c.in_ok-no.ensures.0 c.in_ok-no.ensures.1 c.in_ok-forget_set.ensures c.in_ok-forget_set-2.ensures refl refl c.in_ok-push.ensures.ok)
 
 pub unroll_arms-returns-in_err-yes : goal.unroll_arms-returns-in_err-yes
 unroll_arms-returns-in_err-yes t c =
     let names = names_in c.args.unroller.now.vars.now in
     let b = c.args.branch.now in
-    handed c.from_residual.result c.in_err-yes.field-0.0 c.from_residual.ensures.1 c.in_err-yes.ensures
+    handed _ _ c.from_residual.result c.in_err-yes.field-0.0 c.from_residual.ensures.1 c.in_err-yes.ensures
     (form.first_never names b.cond.now c.args.stmt.now.span (block no_callees b.yes.now) (block no_callees b.no.now) (numbers_in c.args.known.now) c.requires.plain)
 
 pub unroll_arms-returns-in_err-no : goal.unroll_arms-returns-in_err-no
 unroll_arms-returns-in_err-no t c =
     let names = names_in c.args.unroller.now.vars.now in
     let b = c.args.branch.now in
-    handed c.from_residual-in_err-no.result c.in_err-no.field-0.0 c.from_residual-in_err-no.ensures.1 c.in_err-no.ensures
+    handed _ _ c.from_residual-in_err-no.result c.in_err-no.field-0.0 c.from_residual-in_err-no.ensures.1 c.in_err-no.ensures
     (form.second_never names b.cond.now c.args.stmt.now.span (block no_callees b.yes.now) (block no_callees b.no.now) (numbers_in c.args.known.now) c.args.known.now c.unroll_apart.new.known refl c.in_ok-yes.ensures.1 c.requires.plain)
 
 pub unroll_if-returns-in_ok-steps-in-Always : goal.unroll_if-returns-in_ok-steps-in-Always
@@ -110,11 +110,11 @@ unroll_if-returns-in_ok-steps-in-Always t c =
     (form.arm_adds names b.cond.now at c.in-Always.field-1 z b.yes.now b.no.now c.taken-arm.result.now k new out out2 steps
     (subst (λ i. IsTest names (numbers_in k) b.cond.now i) c.in-Always.is c.in_ok-answer.ensures) c.taken-arm.ensures c.in_ok-steps-in-Always.ensures)
 
-pub unroll_if-returns-in_err-test_of : goal.unroll_if-returns-in_err-test_of
-unroll_if-returns-in_err-test_of t c =
+pub unroll_if-returns-in_err-answer : goal.unroll_if-returns-in_err-answer
+unroll_if-returns-in_err-answer t c =
     let names = names_in c.args.unroller.now.vars.now in
     let b = c.args.branch.now in
-    handed c.from_residual.result c.in_err-test_of.field-0.0 c.from_residual.ensures.1 c.in_err-test_of.ensures
+    handed _ _ c.from_residual.result c.in_err-answer.field-0.0 c.from_residual.ensures.1 c.in_err-answer.ensures
     (form.if_test_never names b.cond.now c.args.stmt.now.span (block no_callees b.yes.now done) (block no_callees b.no.now done) (numbers_in c.args.known.now))
 
 pub unroll_if-returns-in_err-steps-in-Always : goal.unroll_if-returns-in_err-steps-in-Always
@@ -122,8 +122,8 @@ unroll_if-returns-in_err-steps-in-Always t c =
     let names = names_in c.args.unroller.now.vars.now in
     let b = c.args.branch.now in
     let e = numbers_in c.args.known.now in
-    handed c.from_residual-in_err-steps-in-Always.result c.in_err-steps-in-Always.field-0.0 c.from_residual-in_err-steps-in-Always.ensures.1 c.in_err-steps-in-Always.ensures
-    (form.arm_stops names b.cond.now c.args.stmt.now.span c.in-Always.field-1 c.in-Always.answer b.yes.now b.no.now c.taken-arm.result.now e (subst (λ i. IsTest names e b.cond.now i) c.in-Always.is c.in_ok-test_of.ensures) c.taken-arm.ensures)
+    handed _ _ c.from_residual-in_err-steps-in-Always.result c.in_err-steps-in-Always.field-0.0 c.from_residual-in_err-steps-in-Always.ensures.1 c.in_err-steps-in-Always.ensures
+    (form.arm_stops names b.cond.now c.args.stmt.now.span c.in-Always.field-1 c.in-Always.answer b.yes.now b.no.now c.taken-arm.result.now e (subst (λ i. IsTest names e b.cond.now i) c.in-Always.is c.in_ok-answer.ensures) c.taken-arm.ensures)
 
 -- ---- `while`
 
@@ -147,7 +147,7 @@ pub unroll_once-returns-in_err-steps : goal.unroll_once-returns-in_err-steps
 unroll_once-returns-in_err-steps t c =
     let names = names_in c.args.unroller.now.vars.now in
     let s = c.args.turns.now in
-    handed c.from_residual.result c.in_err-steps.field-0.0 c.from_residual.ensures.1 c.in_err-steps.ensures
+    handed _ _ c.from_residual.result c.in_err-steps.field-0.0 c.from_residual.ensures.1 c.in_err-steps.ensures
     (form.prologue_never names (not (is_some s.body.now)) (block no_callees s.prologue.now) s.cond.now c.args.at (body_piece no_callees s.body.now done) (numbers_in c.args.known.now) c.requires)
 
 pub unroll_once-returns-then-not-never : goal.unroll_once-returns-then-not-never
@@ -171,7 +171,7 @@ unroll_turns-returns t c =
 pub unroll_turns-returns-in_err-made : goal.unroll_turns-returns-in_err-made
 unroll_turns-returns-in_err-made t c =
     let names = names_in c.args.unroller.now.vars.now in
-    handed c.from_residual-in_err-made.result c.in_err-made.field-0.0 c.from_residual-in_err-made.ensures.1 c.in_err-made.ensures
+    handed _ _ c.from_residual-in_err-made.result c.in_err-made.field-0.0 c.from_residual-in_err-made.ensures.1 c.in_err-made.ensures
     (form.turns_never names c.args.turns.now c.args.stmt.now.span c.args.known.now c.forget_set.new.known c.forget_body.new.known c.requires c.in_ok-forget_set.ensures c.in_ok-forget_body.ensures)
 
 pub unroll_loop-returns : goal.unroll_loop-returns
@@ -189,19 +189,19 @@ unroll_loop-returns t c =
 pub unroll_loop-returns-in_err-steps : goal.unroll_loop-returns-in_err-steps
 unroll_loop-returns-in_err-steps t c =
     let names = names_in c.args.unroller.now.vars.now in
-    handed c.from_residual.result c.in_err-steps.field-0.0 c.from_residual.ensures.1 c.in_err-steps.ensures
+    handed _ _ c.from_residual.result c.in_err-steps.field-0.0 c.from_residual.ensures.1 c.in_err-steps.ensures
     (form.loop_prologue_never names c.args.turns.now c.args.known.now c.enter-outer.new.self c.enter-outer.ensures.numbers)
 
 pub unroll_loop-returns-in_err-cond : goal.unroll_loop-returns-in_err-cond
 unroll_loop-returns-in_err-cond t c =
     let names = names_in c.args.unroller.now.vars.now in
-    handed c.from_residual-in_err-cond.result c.in_err-cond.field-0.0 c.from_residual-in_err-cond.ensures.1 c.in_err-cond.ensures
+    handed _ _ c.from_residual-in_err-cond.result c.in_err-cond.field-0.0 c.from_residual-in_err-cond.ensures.1 c.in_err-cond.ensures
     (form.loop_test_never names c.args.turns.now c.args.known.now c.enter-outer.new.self c.unroll_all.new.known c.enter-outer.ensures.numbers c.in_ok-steps.ensures.only)
 
 pub unroll_loop-returns-in_err-turn : goal.unroll_loop-returns-in_err-turn
 unroll_loop-returns-in_err-turn t c =
     let names = names_in c.args.unroller.now.vars.now in
-    handed c.from_residual-in_err-turn.result c.in_err-turn.field-0.0 c.from_residual-in_err-turn.ensures.1 c.in_err-turn.ensures
+    handed _ _ c.from_residual-in_err-turn.result c.in_err-turn.field-0.0 c.from_residual-in_err-turn.ensures.1 c.in_err-turn.ensures
     (form.loop_body_never names c.args.turns.now c.args.known.now c.enter-outer.new.self c.unroll_all.new.known c.enter-outer.ensures.numbers c.in_ok-steps.ensures.only)
 
 pub unroll_turn-returns-in-None : goal.unroll_turn-returns-in-None
@@ -224,8 +224,8 @@ pub unroll_turn-returns-in_err-made-in-Some : goal.unroll_turn-returns-in_err-ma
 unroll_turn-returns-in_err-made-in-Some t c =
     let names = names_in c.args.unroller.now.vars.now in
     let e = numbers_in c.args.known.now in
-    handed c.from_residual.result c.in_err-made-in-Some.field-0.0 c.from_residual.ensures.1 c.in_err-made-in-Some.ensures
-    (λ no. subst (λ b. NeverFits names (body_piece no_callees b) e) (sym c.in-Some.is) no)
+    handed _ _ c.from_residual.result c.in_err-made-in-Some.field-0.0 c.from_residual.ensures.1 c.in_err-made-in-Some.ensures
+    (λ fails. subst (λ b. NeverFits names (body_piece no_callees b) e) (sym c.in-Some.is) fails)
 
 -- ---- `for`
 
@@ -264,7 +264,7 @@ unroll_rounds-returns-in_err-steps t c =
     let names = names_in c.args.unroller.now.vars.now in
     let r = c.args.rounds.now in
     let i = to_z w128 c.loop-next.at-bits in
-    handed c.from_residual-in_err-steps.result c.in_err-steps.field-0.0 c.from_residual-in_err-steps.ensures.1 c.in_err-steps.ensures
+    handed _ _ c.from_residual-in_err-steps.result c.in_err-steps.field-0.0 c.from_residual-in_err-steps.ensures.1 c.in_err-steps.ensures
     (form.rounds_stop names r c.args.body.now c.args.known.now c.loop-next.known c.set.new.self c.args.out.now c.loop-next.out c.loop-next.changes i c.in-Some.next _ _
     (subst (λ b. values_between r.down i b ≡ i ∷ values_between r.down c.in-Some.next b) (to_z-of_z w128 r.bound (search rules)) c.in-Some.ensures)
     (sym (ref_name r.counter.now)) (sym (ref_copy r.counter.now)) c.in_ok-set.ensures)
@@ -285,13 +285,13 @@ unroll_one-returns-in_ok-step-in-For t c =
     (c.in_ok-step-in-For.ensures f.from f.to s.span
     (record { same = refl; way = refl; inline = subst (λ v. IsInlineInt names v) (sym has.same) has.inline; first = has.first; bound = has.bound }))
 
-pub unroll_one-returns-in_err-step : goal.unroll_one-returns-in_err-step
-unroll_one-returns-in_err-step t c =
+pub unroll_one-returns-in_err-step-in-Value : goal.unroll_one-returns-in_err-step-in-Value
+unroll_one-returns-in_err-step-in-Value t c =
     let names = names_in c.args.unroller.now.vars.now in
     let s = c.args.stmt.now in
     let a = c.in-Assign in
-    handed c.from_residual.result c.in_err-step.field-0.0 c.from_residual.ensures.1 c.in_err-step.ensures
-    (λ no. never_as names (statement_tree no_callees s) (op (assign a.to a.op c.in-Value.value a.cond s.span)) (numbers_in c.args.known.now) (assign_is no_callees s a.to a.op (rhs.Value c.in-Value.value) a.cond (a.is ∙ ap (λ r. kind.Assign a.to a.op r a.cond) c.in-Value.is)) no)
+    handed _ _ c.from_residual.result c.in_err-step-in-Value.field-0.0 c.from_residual.ensures.1 c.in_err-step-in-Value.ensures
+    (λ fails. never_as names (statement_tree no_callees s) (op (assign a.to a.op c.in-Value.value a.cond s.span)) (numbers_in c.args.known.now) (assign_is no_callees s a.to a.op (rhs.Value c.in-Value.value) a.cond (a.is ∙ ap (λ r. kind.Assign a.to a.op r a.cond) c.in-Value.is)) fails)
 
 pub unroll_one-returns-in-Call : goal.unroll_one-returns-in-Call
 unroll_one-returns-in-Call t c =
@@ -307,32 +307,32 @@ unroll_one-returns-in_err-step-in-Intrinsic t c =
     let s = c.args.stmt.now in
     let a = c.in-Assign in
     let i = c.in-Intrinsic in
-    handed c.from_residual-in_err-step-in-Intrinsic.result c.in_err-step-in-Intrinsic.field-0.0 c.from_residual-in_err-step-in-Intrinsic.ensures.1 c.in_err-step-in-Intrinsic.ensures
-    (λ no. no)
+    handed _ _ c.from_residual-in_err-step-in-Intrinsic.result c.in_err-step-in-Intrinsic.field-0.0 c.from_residual-in_err-step-in-Intrinsic.ensures.1 c.in_err-step-in-Intrinsic.ensures
+    (λ fails. fails)
 
 pub unroll_one-returns-in_err-step-in-If : goal.unroll_one-returns-in_err-step-in-If
 unroll_one-returns-in_err-step-in-If t c =
     let names = names_in c.args.unroller.now.vars.now in
     let s = c.args.stmt.now in
     let b = c.in-If in
-    handed c.from_residual-in_err-step-in-If.result c.in_err-step-in-If.field-0.0 c.from_residual-in_err-step-in-If.ensures.1 c.in_err-step-in-If.ensures
-    (λ no. never_as names (statement_tree no_callees s) (choose (record { cond = b.cond; at = s.span }) (block no_callees b.yes done) (block no_callees b.no done)) (numbers_in c.args.known.now) (if_is no_callees s b.cond b.yes b.no b.is) no)
+    handed _ _ c.from_residual-in_err-step-in-If.result c.in_err-step-in-If.field-0.0 c.from_residual-in_err-step-in-If.ensures.1 c.in_err-step-in-If.ensures
+    (λ fails. never_as names (statement_tree no_callees s) (choose (record { cond = b.cond; at = s.span }) (block no_callees b.yes done) (block no_callees b.no done)) (numbers_in c.args.known.now) (if_is no_callees s b.cond b.yes b.no b.is) fails)
 
 pub unroll_one-returns-in_err-step-in-While : goal.unroll_one-returns-in_err-step-in-While
 unroll_one-returns-in_err-step-in-While t c =
     let names = names_in c.args.unroller.now.vars.now in
     let s = c.args.stmt.now in
     let w = c.in-While in
-    handed c.from_residual-in_err-step-in-While.result c.in_err-step-in-While.field-0.0 c.from_residual-in_err-step-in-While.ensures.1 c.in_err-step-in-While.ensures
-    (λ no. never_as names (statement_tree no_callees s) (form.loop_piece w.prologue w.cond w.body s.span) (numbers_in c.args.known.now) (while_is no_callees s w.prologue w.cond w.body w.is) no)
+    handed _ _ c.from_residual-in_err-step-in-While.result c.in_err-step-in-While.field-0.0 c.from_residual-in_err-step-in-While.ensures.1 c.in_err-step-in-While.ensures
+    (λ fails. never_as names (statement_tree no_callees s) (form.loop_piece w.prologue w.cond w.body s.span) (numbers_in c.args.known.now) (while_is no_callees s w.prologue w.cond w.body w.is) fails)
 
 pub unroll_one-returns-in_err-rounds-in-For : goal.unroll_one-returns-in_err-rounds-in-For
 unroll_one-returns-in_err-rounds-in-For t c =
     let names = names_in c.args.unroller.now.vars.now in
     let s = c.args.stmt.now in
     let f = c.in-For in
-    handed c.from_residual-in_err-rounds-in-For.result c.in_err-rounds-in-For.field-0.0 c.from_residual-in_err-rounds-in-For.ensures.1 c.in_err-rounds-in-For.ensures
-    (λ no. never_as names (statement_tree no_callees s) (each (record { counter = f.counter; from = f.from; down = f.down; to = f.to; at = s.span }) (block no_callees f.body done)) (numbers_in c.args.known.now) (for_is no_callees s f.counter f.from f.down f.to f.body f.is) (form.for_never names f.counter f.from f.down f.to s.span f.body (numbers_in c.args.known.now) no))
+    handed _ _ c.from_residual-in_err-rounds-in-For.result c.in_err-rounds-in-For.field-0.0 c.from_residual-in_err-rounds-in-For.ensures.1 c.in_err-rounds-in-For.ensures
+    (λ fails. never_as names (statement_tree no_callees s) (each (record { counter = f.counter; from = f.from; down = f.down; to = f.to; at = s.span }) (block no_callees f.body done)) (numbers_in c.args.known.now) (for_is no_callees s f.counter f.from f.down f.to f.body f.is) (form.for_never names f.counter f.from f.down f.to s.span f.body (numbers_in c.args.known.now) fails))
 
 pub unroll_one-returns-in_err-step-in-For : goal.unroll_one-returns-in_err-step-in-For
 unroll_one-returns-in_err-step-in-For t c =
@@ -341,11 +341,11 @@ unroll_one-returns-in_err-step-in-For t c =
     let f = c.in-For in
     let r = c.in_ok-rounds-in-For.rounds in
     let has = c.in_ok-rounds-in-For.ensures in
-    handed c.from_residual-in_err-step-in-For.result c.in_err-step-in-For.field-0.0 c.from_residual-in_err-step-in-For.ensures.1 c.in_err-step-in-For.ensures
-    (λ no.
+    handed _ _ c.from_residual-in_err-step-in-For.result c.in_err-step-in-For.field-0.0 c.from_residual-in_err-step-in-For.ensures.1 c.in_err-step-in-For.ensures
+    (λ fails.
     never_as names (statement_tree no_callees s) (for_of r f.from f.to s.span f.body) (numbers_in c.args.known.now)
     (for_is no_callees s f.counter f.from f.down f.to f.body f.is
     ∙ ap (λ v. each (record { counter = v; from = f.from; down = f.down; to = f.to; at = s.span }) (block no_callees f.body done)) (sym has.same)
     ∙ ap (λ d. each (record { counter = r.counter.now; from = f.from; down = d; to = f.to; at = s.span }) (block no_callees f.body done)) (sym has.way))
-    (no f.from f.to s.span
+    (fails f.from f.to s.span
     (record { same = refl; way = refl; inline = subst (λ v. IsInlineInt names v) (sym has.same) has.inline; first = has.first; bound = has.bound })))

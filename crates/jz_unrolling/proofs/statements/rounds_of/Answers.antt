@@ -11,10 +11,10 @@ returns-then-not-is_inline_number c =
 
 pub returns-in_err-first : goal.returns-in_err-first
 returns-in_err-first c =
-    handed c.from_residual.result c.in_err-first.field-0.0 c.from_residual.ensures.1 c.in_err-first.ensures
-    (λ no at is i j values. no values.first i values.from)
+    handed _ _ c.from_residual.result c.in_err-first.field-0.0 c.from_residual.ensures.1 c.in_err-first.ensures
+    (λ fails at is i j values. fails values.first i values.from)
 
 pub returns-in_err-bound : goal.returns-in_err-bound
 returns-in_err-bound c =
-    handed c.from_residual-in_err-bound.result c.in_err-bound.field-0.0 c.from_residual-in_err-bound.ensures.1 c.in_err-bound.ensures
-    (λ no at is i j values. no values.bound j values.to)
+    handed _ _ c.from_residual-in_err-bound.result c.in_err-bound.field-0.0 c.from_residual-in_err-bound.ensures.1 c.in_err-bound.ensures
+    (λ fails at is i j values. fails values.bound j values.to)

@@ -42,17 +42,17 @@ returns-in_err-number c =
     let names = names_in c.args.unroller.now.vars.now in
     let s = c.args.setting.now in
     let e = numbers_in c.args.known.now in
-    handed c.from_residual.result c.in_err-number.field-0.0 c.from_residual.ensures.1 c.in_err-number.ensures
-    (λ no at.
+    handed _ _ c.from_residual.result c.in_err-number.field-0.0 c.from_residual.ensures.1 c.in_err-number.ensures
+    (λ fails at.
     subst (λ to. NeverFits names (op (assign to s.op s.value.now s.cond.now at)) e) (sym c.requires.0)
-    (number_never names c.args.var.now s.op s.value.now s.cond.now at e c.requires.1 (λ n b int inline cond whole set. no n inline whole)))
+    (number_never names c.args.var.now s.op s.value.now s.cond.now at e c.requires.1 (λ n b int inline cond whole set. fails n inline whole)))
 
 pub returns-in_err-set : goal.returns-in_err-set
 returns-in_err-set c =
     let names = names_in c.args.unroller.now.vars.now in
     let s = c.args.setting.now in
     let e = numbers_in c.args.known.now in
-    handed c.from_residual-in_err-set.result c.in_err-set.field-0.0 c.from_residual-in_err-set.ensures.1 c.in_err-set.ensures
-    (λ no at.
+    handed _ _ c.from_residual-in_err-set.result c.in_err-set.field-0.0 c.from_residual-in_err-set.ensures.1 c.in_err-set.ensures
+    (λ fails at.
     subst (λ to. NeverFits names (op (assign to s.op s.value.now s.cond.now at)) e) (sym c.requires.0)
-    (number_never names c.args.var.now s.op s.value.now s.cond.now at e c.requires.1 (λ n b int inline cond whole set. no b cond set)))
+    (number_never names c.args.var.now s.op s.value.now s.cond.now at e c.requires.1 (λ n b int inline cond whole set. fails b cond set)))

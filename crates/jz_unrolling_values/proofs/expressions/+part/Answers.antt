@@ -120,8 +120,8 @@ part_of-returns-in_err-part t c =
     let names = names_in c.args.values.now.vars.now in
     let e = numbers_in c.args.values.now.known.now in
     let side = c.in_ok-waiting.field-0 in
-    handed c.from_residual-in_err-part.result c.in_err-part.field-0.0 c.from_residual-in_err-part.ensures.1 c.in_err-part.ensures
-    (λ no. subst (λ y. is_part names e y ≡ false) c.in_ok-waiting.ensures.whole (side_no_part names e side.waiting.items side.first.now no))
+    handed _ _ c.from_residual-in_err-part.result c.in_err-part.field-0.0 c.from_residual-in_err-part.ensures.1 c.in_err-part.ensures
+    (λ fails. subst (λ y. is_part names e y ≡ false) c.in_ok-waiting.ensures.whole (side_no_part names e side.waiting.items side.first.now fails))
 
 pub part_of-returns-in_err-right : goal.part_of-returns-in_err-right
 part_of-returns-in_err-right t c =
@@ -129,9 +129,9 @@ part_of-returns-in_err-right t c =
     let e = numbers_in c.args.values.now.known.now in
     let w = c.in-Some.field-0 in
     let way = c.loop-op.invariant in
-    handed c.from_residual-in_err-right.result c.in_err-right.field-0.0 c.from_residual-in_err-right.ensures.1 c.in_err-right.ensures
-    (λ no. way_no_part names e c.args.expr.now c.loop-op.waiting.items c.pop.new.self.items w c.loop-op.part c.in-Some.ensures.items way
-    (right_no_part names e w.op way.reached w.right.now w.span no))
+    handed _ _ c.from_residual-in_err-right.result c.in_err-right.field-0.0 c.from_residual-in_err-right.ensures.1 c.in_err-right.ensures
+    (λ fails. way_no_part names e c.args.expr.now c.loop-op.waiting.items c.pop.new.self.items w c.loop-op.part c.in-Some.ensures.items way
+    (right_no_part names e w.op way.reached w.right.now w.span fails))
 
 pub part_of-returns-in_err-part-2 : goal.part_of-returns-in_err-part-2
 part_of-returns-in_err-part-2 t c =
@@ -139,81 +139,81 @@ part_of-returns-in_err-part-2 t c =
     let e = numbers_in c.args.values.now.known.now in
     let w = c.in-Some.field-0 in
     let way = c.loop-op.invariant in
-    handed c.from_residual-in_err-part-2.result c.in_err-part-2.field-0.0 c.from_residual-in_err-part-2.ensures.1
+    handed _ _ c.from_residual-in_err-part-2.result c.in_err-part-2.field-0.0 c.from_residual-in_err-part-2.ensures.1
     (c.in_err-part-2.ensures names e way.reached w.right.now way.so c.in_ok-right.ensures)
-    (λ no. way_no_part names e c.args.expr.now c.loop-op.waiting.items c.pop.new.self.items w c.loop-op.part c.in-Some.ensures.items way no)
+    (λ fails. way_no_part names e c.args.expr.now c.loop-op.waiting.items c.pop.new.self.items w c.loop-op.part c.in-Some.ensures.items way fails)
 
 pub boxed_with_values-returns-in_err-part : goal.boxed_with_values-returns-in_err-part
 boxed_with_values-returns-in_err-part t c =
     let names = names_in c.args.values.now.vars.now in
     let e = numbers_in c.args.values.now.known.now in
-    handed c.from_residual.result c.in_err-part.field-0.0 c.from_residual.ensures.1 c.in_err-part.ensures
-    (λ no. no_values names e c.args.expr.now (subst (λ k. is_part names e k ≡ false) c.get.ensures no))
+    handed _ _ c.from_residual.result c.in_err-part.field-0.0 c.from_residual.ensures.1 c.in_err-part.ensures
+    (λ fails. no_values names e c.args.expr.now (subst (λ k. is_part names e k ≡ false) c.get.ensures fails))
 
 pub boxed_with_values-returns-in_err-whole : goal.boxed_with_values-returns-in_err-whole
 boxed_with_values-returns-in_err-whole t c =
     let names = names_in c.args.values.now.vars.now in
     let e = numbers_in c.args.values.now.known.now in
-    handed c.from_residual-in_err-whole.result c.in_err-whole.field-0.0 c.from_residual-in_err-whole.ensures.1
+    handed _ _ c.from_residual-in_err-whole.result c.in_err-whole.field-0.0 c.from_residual-in_err-whole.ensures.1
     (c.in_err-whole.ensures names e c.args.expr.now (subst (λ k. IsPart names e k c.in_ok-part.part) c.get.ensures c.in_ok-part.ensures))
-    (λ no. no)
+    (λ fails. fails)
 
 pub access_of-returns-in_err-at-clause-known : goal.access_of-returns-in_err-at-clause-known
 access_of-returns-in_err-at-clause-known t c =
-    handed c.from_residual.result c.in_err-at.field-0.0 c.from_residual.ensures.1 c.in_err-at.ensures
-    (λ no. access_known (names_in c.args.values.now.vars.now) (numbers_in c.args.values.now.known.now) c.args.access.now ∙ no)
+    handed _ _ c.from_residual.result c.in_err-at.field-0.0 c.from_residual.ensures.1 c.in_err-at.ensures
+    (λ fails. access_known (names_in c.args.values.now.vars.now) (numbers_in c.args.values.now.known.now) c.args.access.now ∙ fails)
 
-pub single_part-returns-in_err-part : goal.single_part-returns-in_err-part
-single_part-returns-in_err-part t c =
+pub single_part-returns-in_err-part-in-Var : goal.single_part-returns-in_err-part-in-Var
+single_part-returns-in_err-part-in-Var t c =
     let names = names_in c.args.values.now.vars.now in
     let e = numbers_in c.args.values.now.known.now in
-    handed c.from_residual.result c.in_err-part.field-0.0 c.from_residual.ensures.1 c.in_err-part.ensures
-    (λ no. subst (λ x. is_part names e x ≡ false) (sym c.in-Var.is) no)
+    handed _ _ c.from_residual.result c.in_err-part-in-Var.field-0.0 c.from_residual.ensures.1 c.in_err-part-in-Var.ensures
+    (λ fails. subst (λ x. is_part names e x ≡ false) (sym c.in-Var.is) fails)
 
 pub single_part-returns-in_err-array-in-Cell : goal.single_part-returns-in_err-array-in-Cell
 single_part-returns-in_err-array-in-Cell t c =
     let names = names_in c.args.values.now.vars.now in
     let e = numbers_in c.args.values.now.known.now in
     let i = c.in-Cell in
-    handed c.from_residual-in_err-array-in-Cell.result c.in_err-array-in-Cell.field-0.0 c.from_residual-in_err-array-in-Cell.ensures.1 c.in_err-array-in-Cell.ensures.plain
-    (λ no. subst (λ x. is_part names e x ≡ false) (sym i.is) (cell_no_array names e i.var i.at no))
+    handed _ _ c.from_residual-in_err-array-in-Cell.result c.in_err-array-in-Cell.field-0.0 c.from_residual-in_err-array-in-Cell.ensures.1 c.in_err-array-in-Cell.ensures.plain
+    (λ fails. subst (λ x. is_part names e x ≡ false) (sym i.is) (cell_no_array names e i.var i.at fails))
 
 pub single_part-returns-in_err-at-in-Cell : goal.single_part-returns-in_err-at-in-Cell
 single_part-returns-in_err-at-in-Cell t c =
     let names = names_in c.args.values.now.vars.now in
     let e = numbers_in c.args.values.now.known.now in
     let i = c.in-Cell in
-    handed c.from_residual-in_err-at-in-Cell.result c.in_err-at-in-Cell.field-0.0 c.from_residual-in_err-at-in-Cell.ensures.1 c.in_err-at-in-Cell.ensures
-    (λ no. subst (λ x. is_part names e x ≡ false) (sym i.is) (cell_no_index names e i.var i.at no))
+    handed _ _ c.from_residual-in_err-at-in-Cell.result c.in_err-at-in-Cell.field-0.0 c.from_residual-in_err-at-in-Cell.ensures.1 c.in_err-at-in-Cell.ensures
+    (λ fails. subst (λ x. is_part names e x ≡ false) (sym i.is) (cell_no_index names e i.var i.at fails))
 
 pub single_part-returns-in_err-access-in-Load : goal.single_part-returns-in_err-access-in-Load
 single_part-returns-in_err-access-in-Load t c =
     let names = names_in c.args.values.now.vars.now in
     let e = numbers_in c.args.values.now.known.now in
     let i = c.in-Load in
-    handed c.from_residual-in_err-access-in-Load.result c.in_err-access-in-Load.field-0.0 c.from_residual-in_err-access-in-Load.ensures.1 c.in_err-access-in-Load.ensures.known
-    (λ no. subst (λ x. is_part names e x ≡ false) (sym i.is) (load_no_part names e i.access no))
+    handed _ _ c.from_residual-in_err-access-in-Load.result c.in_err-access-in-Load.field-0.0 c.from_residual-in_err-access-in-Load.ensures.1 c.in_err-access-in-Load.ensures.known
+    (λ fails. subst (λ x. is_part names e x ≡ false) (sym i.is) (load_no_part names e i.access fails))
 
 pub single_part-returns-in_err-operand-in-Neg : goal.single_part-returns-in_err-operand-in-Neg
 single_part-returns-in_err-operand-in-Neg t c =
     let names = names_in c.args.values.now.vars.now in
     let e = numbers_in c.args.values.now.known.now in
     let i = c.in-Neg in
-    handed c.from_residual-in_err-operand-in-Neg.result c.in_err-operand-in-Neg.field-0.0 c.from_residual-in_err-operand-in-Neg.ensures.1 c.in_err-operand-in-Neg.ensures
-    (λ no. subst (λ x. is_part names e x ≡ false) (sym i.is) (neg_no_part names e i.e i.span (subst (λ k. is_part names e k ≡ false) c.get.ensures no)))
+    handed _ _ c.from_residual-in_err-operand-in-Neg.result c.in_err-operand-in-Neg.field-0.0 c.from_residual-in_err-operand-in-Neg.ensures.1 c.in_err-operand-in-Neg.ensures
+    (λ fails. subst (λ x. is_part names e x ≡ false) (sym i.is) (neg_no_part names e i.e i.span (subst (λ k. is_part names e k ≡ false) c.get.ensures fails)))
 
 pub single_part-returns-in_err-operand-in-Not : goal.single_part-returns-in_err-operand-in-Not
 single_part-returns-in_err-operand-in-Not t c =
     let names = names_in c.args.values.now.vars.now in
     let e = numbers_in c.args.values.now.known.now in
     let i = c.in-Not in
-    handed c.from_residual-in_err-operand-in-Not.result c.in_err-operand-in-Not.field-0.0 c.from_residual-in_err-operand-in-Not.ensures.1 c.in_err-operand-in-Not.ensures
-    (λ no. subst (λ x. is_part names e x ≡ false) (sym i.is) (not_no_part names e i.e i.span (subst (λ k. is_part names e k ≡ false) c.get-in-Not.ensures no)))
+    handed _ _ c.from_residual-in_err-operand-in-Not.result c.in_err-operand-in-Not.field-0.0 c.from_residual-in_err-operand-in-Not.ensures.1 c.in_err-operand-in-Not.ensures
+    (λ fails. subst (λ x. is_part names e x ≡ false) (sym i.is) (not_no_part names e i.e i.span (subst (λ k. is_part names e k ≡ false) c.get-in-Not.ensures fails)))
 
 pub single_part-returns-in_err-e-in-Cast : goal.single_part-returns-in_err-e-in-Cast
 single_part-returns-in_err-e-in-Cast t c =
     let names = names_in c.args.values.now.vars.now in
     let e = numbers_in c.args.values.now.known.now in
     let i = c.in-Cast in
-    handed c.from_residual-in_err-e-in-Cast.result c.in_err-e-in-Cast.field-0.0 c.from_residual-in_err-e-in-Cast.ensures.1 c.in_err-e-in-Cast.ensures
-    (λ no. subst (λ x. is_part names e x ≡ false) (sym i.is) (cast_no_part names e i.size i.signed i.e i.span no))
+    handed _ _ c.from_residual-in_err-e-in-Cast.result c.in_err-e-in-Cast.field-0.0 c.from_residual-in_err-e-in-Cast.ensures.1 c.in_err-e-in-Cast.ensures
+    (λ fails. subst (λ x. is_part names e x ≡ false) (sym i.is) (cast_no_part names e i.size i.signed i.e i.span fails))

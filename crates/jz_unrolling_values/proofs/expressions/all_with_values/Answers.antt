@@ -9,5 +9,5 @@ pub returns-in_err-whole-clause-known : goal.returns-in_err-whole-clause-known
 returns-in_err-whole-clause-known c =
     let names = names_in c.args.values.now.vars.now in
     let e = numbers_in c.args.values.now.known.now in
-    handed c.from_residual.result c.in_err-whole.field-0.0 c.from_residual.ensures.1 c.in_err-whole.ensures
+    handed _ _ c.from_residual.result c.in_err-whole.field-0.0 c.from_residual.ensures.1 c.in_err-whole.ensures
     (some_fails (has_values names e) c.args.exprs.now c.loop-expr.expr-index c.expr-item.result (search rules) (search rules))

@@ -5,7 +5,7 @@ use Rattle.jz_unrolling_values.specs.Numbers.{numbers_in}
 use Rattle.jz_unrolling_values.specs.Parts.{IsPart}
 use Rattle.jz_unrolling_values.proofs.expressions.number_of.Goals as goal
 
-pub returns-in_err-part_of : goal.returns-in_err-part_of
-returns-in_err-part_of c =
-    handed c.from_residual.result c.in_err-part_of.field-0.0 c.from_residual.ensures.1 c.in_err-part_of.ensures
+pub returns-in_err-n : goal.returns-in_err-n
+returns-in_err-n c =
+    handed _ _ c.from_residual.result c.in_err-n.field-0.0 c.from_residual.ensures.1 c.in_err-n.ensures
     (part_no_number (names_in c.args.values.now.vars.now) (numbers_in c.args.values.now.known.now) c.args.expr.now)

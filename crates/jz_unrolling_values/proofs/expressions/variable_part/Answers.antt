@@ -23,7 +23,7 @@ pub returns-in_err-var : goal.returns-in_err-var
 returns-in_err-var c =
     let names = names_in c.args.values.now.vars.now in
     let e = numbers_in c.args.values.now.known.now in
-    handed c.from_residual.result c.in_err-var.field-0.0 c.from_residual.ensures.1 c.in_err-var.ensures.plain
+    handed _ _ c.from_residual.result c.in_err-var.field-0.0 c.from_residual.ensures.1 c.in_err-var.ensures.plain
     (var_no_name names e c.args.var.now (sym (c.if-not-is_inline_int.ensures ∙ ap is_inline_int c.known.ensures)))
 
 pub returns-in-Some : goal.returns-in-Some

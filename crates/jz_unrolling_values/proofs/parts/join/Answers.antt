@@ -34,13 +34,13 @@ returns-in_ok-right-in-Plain-2 c =
 pub returns-in_err-left-in-Plain-right : goal.returns-in_err-left-in-Plain-right
 returns-in_err-left-in-Plain-right c =
     λ names e x y p q.
-    handed c.from_residual.result c.in_err-left-in-Plain-right.field-0.0 c.from_residual.ensures.1
+    handed _ _ c.from_residual.result c.in_err-left-in-Plain-right.field-0.0 c.from_residual.ensures.1
     (c.in_err-left-in-Plain-right.ensures names e x (subst (λ k. IsPart names e x k) c.in-Inline.is p))
     (left_no_value names e c.args.op x y c.args.span (subst (λ k. IsPart names e y k) c.in-Plain-right.is q).plain)
 
 pub returns-in_err-right-in-Plain : goal.returns-in_err-right-in-Plain
 returns-in_err-right-in-Plain c =
     λ names e x y p q.
-    handed c.from_residual-in_err-right-in-Plain.result c.in_err-right-in-Plain.field-0.0 c.from_residual-in_err-right-in-Plain.ensures.1
+    handed _ _ c.from_residual-in_err-right-in-Plain.result c.in_err-right-in-Plain.field-0.0 c.from_residual-in_err-right-in-Plain.ensures.1
     (c.in_err-right-in-Plain.ensures names e y q)
     (right_no_value names e c.args.op x y c.args.span (subst (λ k. IsPart names e x k) c.in-Plain.is p).plain)
