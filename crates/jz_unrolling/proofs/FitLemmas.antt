@@ -17,7 +17,7 @@ use Rattle.jz_integers.specs.declared.constant.Constant.{Constant}
 use Rattle.jz_integers.specs.declared.constant.Constant.TheVariants as constant
 use Rattle.jz_meaning.specs.Assignments.{whole_of}
 use Rattle.jz_meaning.specs.Trees.{done, op, quiet, choose, loop, each}
-use Rattle.jz_meaning.specs.Runs.{block, statement_tree}
+use Rattle.jz_meaning.specs.Runs.{instruction_tree, block, statement_tree}
 use Rattle.jz_meaning.specs.Statements.{Operation, assign, instruction, unset, meaningless, Condition, Counter, Block, values_between}
 use Rattle.jz_change.specs.declared.change.Numbers.{Numbers}
 use Rattle.jz_unroll.specs.Values.{InlineNames, is_inline_var, left_has_values, operation_has_values}
@@ -101,8 +101,8 @@ module _ (names : InlineNames) where
 
   -- ---- `if`
 
-  not_constant : (p p2 : Condition) (e : KnownNumbers) (os : List Operation) (is : List Numbers) (i : Numbers) (z : Bool) → UnrollsTest names p e os is p2 i → IsConstant p e z → ⊥
-  not_constant p p2 e os is i z (tested plain known) c = let q : true ≡ false = sym c.0 ∙ plain in absurd cc
+  not_constant : (p : Condition) (e : KnownNumbers) (p2 : Condition) (os : List Operation) (is : List Numbers) (i : Numbers) (z : Bool) → UnrollsTest names p e os is p2 i → IsConstant p e z → ⊥
+  not_constant p e p2 os is i z (tested plain known) c = let q : true ≡ false = sym c.0 ∙ plain in absurd cc
 
   pub if_on : (c : Expr) (at : Span) (a b : Block) (e : KnownNumbers) → is_inline c ≡ false → FitsOn names (choose (record { cond = c; at = at }) a b) e (forgotten names b (forgotten names a e))
   if_on c at a b e plain = λ t e2 h. next t e2 h
@@ -115,7 +115,7 @@ module _ (names : InlineNames) where
   arm_on c at z a b f e e1 constant0 is on = λ t e2 h. next t e2 h
     where
       next : (t : Block) (e2 : KnownNumbers) → Fits names (choose (record { cond = c; at = at }) a b t) e e2 → Fits names t e1 e2
-      next t e2 (fits_if {p2} {os} {is = js} {i} test fa fb h) = absurd (not_constant (record { cond = c; at = at }) p2 e os js i z test constant0)
+      next t e2 (fits_if {p2} {os} {is = js} {i} test fa fb h) = absurd (not_constant (record { cond = c; at = at }) e p2 os js i z test constant0)
       next t e2 (fits_arm {e1 = k} y const fa h) =
           let same : y ≡ z = same_truth e c y z const.1 constant0.1 in
           let arm : Fits names (f done) e k = subst (λ l. Fits names l e k) (ap (λ d. if d then a else b) same ∙ sym is) fa in
@@ -210,7 +210,7 @@ module _ (names : InlineNames) where
   arm_never c at z a b f e constant0 is fails = λ t e2 h. next t e2 h
     where
       next : (t : Block) (e2 : KnownNumbers) → Fits names (choose (record { cond = c; at = at }) a b t) e e2 → ⊥
-      next t e2 (fits_if {p2} {os} {is = js} {i} test fa fb h) = not_constant (record { cond = c; at = at }) p2 e os js i z test constant0
+      next t e2 (fits_if {p2} {os} {is = js} {i} test fa fb h) = not_constant (record { cond = c; at = at }) e p2 os js i z test constant0
       next t e2 (fits_arm {e1 = k} y const fa h) =
           let same : y ≡ z = same_truth e c y z const.1 constant0.1 in
           fails done k (subst (λ l. Fits names l e k) (ap (λ d. if d then a else b) same ∙ sym is) fa)
@@ -260,3 +260,9 @@ module _ (names : InlineNames) where
   -- the same piece in other words
   pub never_as : (f g : Block → Block) (e : KnownNumbers) → f ≡ g → NeverFits names g e → NeverFits names f e
   never_as f g e q fails = subst (λ p. NeverFits names p e) (sym q) fails
+
+-- an instruction has neither an operation nor a condition
+pub plain_instruction : (to : List Lval) (o : Option BinOp) (n : List ℕ) (es : List Expr) (c : Option Expr) (at : Span) → is_some o ≡ false → is_some c ≡ false → instruction_tree to o n es c at ≡ op (instruction to n es at)
+plain_instruction to None n es None at p q = refl
+plain_instruction to None n es (Some c) at p q = absurd cc
+plain_instruction to (Some o) n es c at p q = absurd cc

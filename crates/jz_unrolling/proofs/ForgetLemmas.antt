@@ -223,10 +223,10 @@ module _ (names : InlineNames) where
   instruction_forgets s to o n args at c k is =
       forgets_as s (instruction_tree to o n args c at) k k (assign_is no_callees s to o (rhs.Intrinsic n args at) c is) (same_instruction to o n args c at (numbers_in k)) (went_none k)
 
-  pub if_forgets : (s : Stmt) (c : Expr) (yes no1 : List Stmt) (k k1 k2 : Known) → s.kind ≡ kind.If c yes no1 → Forgets names (block no_callees yes) k k1 → Forgets names (block no_callees no1) k1 k2 → Forgets names (statement_tree no_callees s) k k2
-  if_forgets s c yes no1 k k1 k2 is p q =
-      forgets_as s (choose (record { cond = c; at = s.span }) (block no_callees yes done) (block no_callees no1 done)) k k2 (if_is no_callees s c yes no1 is)
-      (q.numbers ∙ ap (forgotten names (block no_callees no1 done)) p.numbers) (went_then k k1 k2 p.went q.went)
+  pub if_forgets : (s : Stmt) (c : Expr) (holds other : List Stmt) (k k1 k2 : Known) → s.kind ≡ kind.If c holds other → Forgets names (block no_callees holds) k k1 → Forgets names (block no_callees other) k1 k2 → Forgets names (statement_tree no_callees s) k k2
+  if_forgets s c holds other k k1 k2 is p q =
+      forgets_as s (choose (record { cond = c; at = s.span }) (block no_callees holds done) (block no_callees other done)) k k2 (if_is no_callees s c holds other is)
+      (q.numbers ∙ ap (forgotten names (block no_callees other done)) p.numbers) (went_then k k1 k2 p.went q.went)
 
   pub while_forgets : (s : Stmt) (q1 : List Stmt) (c : Expr) (body : Option (List Stmt)) (k k1 k2 : Known) → s.kind ≡ kind.While q1 c body → Forgets names (block no_callees q1) k k1 → Forgets names (body_piece no_callees body) k1 k2 → Forgets names (statement_tree no_callees s) k k2
   while_forgets s q1 c body k k1 k2 is p q =

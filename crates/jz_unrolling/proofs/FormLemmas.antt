@@ -263,8 +263,8 @@ module _ (names : InlineNames) where
 
   pub arm_stops : (c : Expr) (at at1 : Span) (z : Bool) (holds fails arm : List Stmt) (e : KnownNumbers) → IsTest names e c (Always z at1) → arm ≡ (if z then holds else fails) → NeverFits names (block no_callees arm) e
       → NeverFits names (choose (record { cond = c; at = at }) (block no_callees holds done) (block no_callees fails done)) e
-  arm_stops c at at1 z holds fails arm e test q fails =
-      arm_never names c at z (block no_callees holds done) (block no_callees fails done) (block no_callees arm) e (test.0, test.1) (ap (λ l. block no_callees l done) q ∙ picked z) fails
+  arm_stops c at at1 z holds fails arm e test q stops =
+      arm_never names c at z (block no_callees holds done) (block no_callees fails done) (block no_callees arm) e (test.0, test.1) (ap (λ l. block no_callees l done) q ∙ picked z) stops
     where
       picked : (b : Bool) → block no_callees (if b then holds else fails) done ≡ (if b then block no_callees holds done else block no_callees fails done)
       picked true = refl

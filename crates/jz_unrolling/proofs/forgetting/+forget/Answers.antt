@@ -59,10 +59,10 @@ forget_one-returns-in-Intrinsic t c =
     let i = c.in-Intrinsic in
     forget.instruction_forgets (names_in c.args.vars.now) c.args.stmt.now a.to a.op i.field-0 i.field-1 i.field-2 a.cond c.args.known.now (a.is ∙ ap (λ r. kind.Assign a.to a.op r a.cond) i.is)
 
-pub forget_one-returns-in_ok-forget_set-2-in-If : goal.forget_one-returns-in_ok-forget_set-2-in-If
-forget_one-returns-in_ok-forget_set-2-in-If t c =
+pub forget_one-returns-in_ok-forget_set-in-If-2 : goal.forget_one-returns-in_ok-forget_set-in-If-2
+forget_one-returns-in_ok-forget_set-in-If-2 t c =
     let i = c.in-If in
-    forget.if_forgets (names_in c.args.vars.now) c.args.stmt.now i.field-0 i.yes i.no c.args.known.now c.forget_set.new.known c.forget_set-2.new.known i.is c.in_ok-forget_set-in-If.ensures c.in_ok-forget_set-2-in-If.ensures
+    forget.if_forgets (names_in c.args.vars.now) c.args.stmt.now i.field-0 i.yes i.no c.args.known.now c.forget_set.new.known c.forget_set-in-If.new.known i.is c.in_ok-forget_set-in-If.ensures c.in_ok-forget_set-in-If-2.ensures
 
 pub forget_one-returns-in_ok-forget_body-in-While : goal.forget_one-returns-in_ok-forget_body-in-While
 forget_one-returns-in_ok-forget_body-in-While t c =

@@ -8,10 +8,10 @@ use Rattle.jz_tree.specs.declared.stmt.Stmt.{Stmt}
 use Rattle.jz_tree.specs.declared.stmt.StmtKind.TheVariants as kind
 use Rattle.jz_tree.specs.declared.stmt.Rhs.TheVariants as rhs
 use Rattle.jz_meaning.specs.Runs.{block, statement_tree, assign_tree}
-use Rattle.jz_meaning.specs.Trees.{op, choose, each, done}
-use Rattle.jz_meaning.specs.Statements.{assign, meaningless, instruction, values_between}
+use Rattle.jz_meaning.specs.Trees.{op, quiet, choose, each, done}
+use Rattle.jz_meaning.specs.Statements.{assign, meaningless, instruction, unset, values_between}
 use Rattle.jz_interp.proofs.Falls.{weights_at}
-use Rattle.jz_interp.proofs.Pieces.{assign_is, if_is, while_is, for_is}
+use Rattle.jz_interp.proofs.Pieces.{assign_is, if_is, while_is, for_is, mark_is}
 use Rattle.jz_change.specs.declared.change.Numbers.TheVariants.{Same}
 use Rattle.jz_change.specs.declared.change.Change.{Change}
 use Rattle.jz_change.specs.declared.change.Step.{Step}
@@ -28,8 +28,8 @@ use Rattle.jz_unrolling.specs.declared.statements.Loop.{Loop}
 use Rattle.jz_unrolling.specs.declared.statements.Turn.{Turn}
 use Rattle.jz_unrolling.specs.Refusals.{NeverFits}
 use Rattle.jz_unrolling.specs.Steps.{no_callees, Adds, AddsStep, IsApart, IsTurn, branch_of, turns_of, for_of, step_list}
-use Rattle.jz_unrolling.proofs.AddLemmas.{adds_next, adds_as}
-use Rattle.jz_unrolling.proofs.FitLemmas.{at_never, call_never, never_as}
+use Rattle.jz_unrolling.proofs.AddLemmas.{adds_none, adds_next, adds_as}
+use Rattle.jz_unrolling.proofs.FitLemmas.{at_never, call_never, instruction_never, plain_instruction, never_as}
 use Rattle.jz_unrolling.proofs.FormLemmas as form
 use Rattle.jz_unrolling.proofs.statements.+unroll.Goals as goal
 
@@ -37,6 +37,12 @@ pub unroll_all-unroll_one-requires : goal.unroll_all-unroll_one-requires
 unroll_all-unroll_one-requires t c =
     let fits = weights_at c.args.stmts.now c.loop-stmt.stmt-index c.stmt-item.result (search rules) (search rules) in
     (omega (arith, fits, c.decreases), tt)
+
+pub unroll_all-loop-stmt-init : goal.unroll_all-loop-stmt-init
+unroll_all-loop-stmt-init t c =
+    let names = names_in c.args.unroller.now.vars.now in
+    let k = c.args.known.now in
+    subst (λ l. Adds names (block no_callees (take 0 c.args.stmts.now)) k k c.args.out.now c.args.out.now l) (sym c.new-steps.ensures) (adds_none names k c.args.out.now)
 
 pub unroll_all-loop-stmt-preserved : goal.unroll_all-loop-stmt-preserved
 unroll_all-loop-stmt-preserved t c =
@@ -217,7 +223,7 @@ unroll_turn-returns-in_ok-made-in-Some t c =
     let names = names_in c.args.unroller.now.vars.now in
     let k = c.args.known.now in
     let made = c.in_ok-made-in-Some.made in
-    (subst (λ b. IsTurn names b (numbers_in k) (record { body = Some made.statements; steps = made.steps })) (sym c.in-Some.is) (form.turn_some names c.in-Some.body.now (numbers_in k) made c.in_ok-made-in-Some.ensures.0),
+    (subst (λ b. IsTurn names b (numbers_in k) (record { body = Some made.statements; steps = made.steps })) (sym c.in-Some.is) (form.turn_some names c.in-Some.body (numbers_in k) made c.in_ok-made-in-Some.ensures.0),
     c.in_ok-made-in-Some.ensures.1)
 
 pub unroll_turn-returns-in_err-made-in-Some : goal.unroll_turn-returns-in_err-made-in-Some
@@ -265,11 +271,43 @@ unroll_rounds-returns-in_err-steps t c =
     let r = c.args.rounds.now in
     let i = to_z w128 c.loop-next.at-bits in
     handed _ _ c.from_residual-in_err-steps.result c.in_err-steps.field-0.0 c.from_residual-in_err-steps.ensures.1 c.in_err-steps.ensures
-    (form.rounds_stop names r c.args.body.now c.args.known.now c.loop-next.known c.set.new.self c.args.out.now c.loop-next.out c.loop-next.changes i c.in-Some.next _ _
+    (λ fails. form.rounds_stop names r c.args.body.now c.args.known.now c.loop-next.known c.set.new.self c.args.out.now c.loop-next.out c.loop-next.changes i c.in-Some.next _ _
     (subst (λ b. values_between r.down i b ≡ i ∷ values_between r.down c.in-Some.next b) (to_z-of_z w128 r.bound (search rules)) c.in-Some.ensures)
-    (sym (ref_name r.counter.now)) (sym (ref_copy r.counter.now)) c.in_ok-set.ensures)
+    (sym (ref_name r.counter.now)) (sym (ref_copy r.counter.now)) c.in_ok-set.ensures fails c.loop-next.invariant)
 
 -- ---- single statements
+
+pub unroll_one-returns-in_ok-step-in-Value : goal.unroll_one-returns-in_ok-step-in-Value
+unroll_one-returns-in_ok-step-in-Value t c =
+    let names = names_in c.args.unroller.now.vars.now in
+    let s = c.args.stmt.now in
+    let a = c.in-Assign in
+    adds_as names (statement_tree no_callees s) (op (assign a.to a.op c.in-Value.value a.cond s.span)) c.args.known.now c.unroll_setting.new.known c.args.out.now c.unroll_setting.new.out (c.in_ok-step-in-Value.step ∷ [])
+    (assign_is no_callees s a.to a.op (rhs.Value c.in-Value.value) a.cond (a.is ∙ ap (λ r. kind.Assign a.to a.op r a.cond) c.in-Value.is)) c.in_ok-step-in-Value.ensures
+
+pub unroll_one-returns-in_ok-step-in-If : goal.unroll_one-returns-in_ok-step-in-If
+unroll_one-returns-in_ok-step-in-If t c =
+    let names = names_in c.args.unroller.now.vars.now in
+    let s = c.args.stmt.now in
+    let b = c.in-If in
+    adds_as names (statement_tree no_callees s) (choose (record { cond = b.cond; at = s.span }) (block no_callees b.yes done) (block no_callees b.no done)) c.args.known.now c.unroll_if.new.known c.args.out.now c.unroll_if.new.out (c.in_ok-step-in-If.step ∷ [])
+    (if_is no_callees s b.cond b.yes b.no b.is) c.in_ok-step-in-If.ensures
+
+pub unroll_one-returns-in_ok-step-in-While : goal.unroll_one-returns-in_ok-step-in-While
+unroll_one-returns-in_ok-step-in-While t c =
+    let names = names_in c.args.unroller.now.vars.now in
+    let s = c.args.stmt.now in
+    let w = c.in-While in
+    adds_as names (statement_tree no_callees s) (form.loop_piece w.prologue w.cond w.body s.span) c.args.known.now c.unroll_while.new.known c.args.out.now c.unroll_while.new.out (c.in_ok-step-in-While.step ∷ [])
+    (while_is no_callees s w.prologue w.cond w.body w.is) c.in_ok-step-in-While.ensures
+
+pub unroll_one-returns-in_ok-unroll_mark-in-Mark : goal.unroll_one-returns-in_ok-unroll_mark-in-Mark
+unroll_one-returns-in_ok-unroll_mark-in-Mark t c =
+    let names = names_in c.args.unroller.now.vars.now in
+    let s = c.args.stmt.now in
+    let m = c.in-Mark in
+    adds_as names (statement_tree no_callees s) (quiet (unset m.vars)) c.args.known.now c.unroll_mark.new.known c.args.out.now c.unroll_mark.new.out []
+    (mark_is no_callees s m.vars m.is) c.in_ok-unroll_mark-in-Mark.ensures
 
 pub unroll_one-returns-in_ok-step-in-For : goal.unroll_one-returns-in_ok-step-in-For
 unroll_one-returns-in_ok-step-in-For t c =
@@ -304,11 +342,16 @@ unroll_one-returns-in-Call t c =
 pub unroll_one-returns-in_err-step-in-Intrinsic : goal.unroll_one-returns-in_err-step-in-Intrinsic
 unroll_one-returns-in_err-step-in-Intrinsic t c =
     let names = names_in c.args.unroller.now.vars.now in
+    let e = numbers_in c.args.known.now in
     let s = c.args.stmt.now in
     let a = c.in-Assign in
     let i = c.in-Intrinsic in
     handed _ _ c.from_residual-in_err-step-in-Intrinsic.result c.in_err-step-in-Intrinsic.field-0.0 c.from_residual-in_err-step-in-Intrinsic.ensures.1 c.in_err-step-in-Intrinsic.ensures
-    (λ fails. fails)
+    (λ fails.
+    never_as names (statement_tree no_callees s) (op (instruction a.to i.name i.args i.at)) e
+    (assign_is no_callees s a.to a.op (rhs.Intrinsic i.name i.args i.at) a.cond (a.is ∙ ap (λ r. kind.Assign a.to a.op r a.cond) i.is)
+    ∙ plain_instruction a.to a.op i.name i.args a.cond i.at (sym c.is_some.ensures ∙ c.if-is_some.false) (sym c.is_some-else-is_some.ensures ∙ c.if-is_some-2.false))
+    (instruction_never names a.to i.name i.args i.at e fails))
 
 pub unroll_one-returns-in_err-step-in-If : goal.unroll_one-returns-in_err-step-in-If
 unroll_one-returns-in_err-step-in-If t c =

@@ -7,7 +7,7 @@ use Rattle.jz_unrolling.proofs.statements.rounds_of.Goals as goal
 
 pub returns-then-not-is_inline_number : goal.returns-then-not-is_inline_number
 returns-then-not-is_inline_number c =
-    λ at is i j values. no_number (names_in c.args.unroller.now.vars.now) c.args.counter.now (sym c.is_inline_number.ensures ∙ c.if-not-is_inline_number.true) values.counter
+    λ at is i j values. no_number (names_in c.args.unroller.now.vars.now) (numbers_in c.args.known.now) c.args.counter.now (sym c.is_inline_number.ensures ∙ c.if-not-is_inline_number.true) values.counter
 
 pub returns-in_err-first : goal.returns-in_err-first
 returns-in_err-first c =

@@ -24,7 +24,7 @@ returns c =
     let new = c.set_if.new.known in
     subst (λ q. AddsStep names (op (assign s.to.now s.op s.value.now s.cond.now at)) k new out out (step.Ops q)) (sym c.new.ensures)
     (subst (λ to. AddsStep names (op (assign to s.op s.value.now s.cond.now at)) k new out out (step.Ops [])) (sym c.requires.0)
-    (number_adds names c.args.var.now s.op s.value.now s.cond.now at c.in_ok-number.number k new out c.in_ok-set.set (number_is names c.args.var.now (sym c.is_inline_number.ensures ∙ c.if-not-is_inline_number.false)) c.in_ok-number.ensures c.in_ok-set.ensures
+    (number_adds names c.args.var.now s.op s.value.now s.cond.now at c.in_ok-number.number k new out c.in_ok-set.set (number_is names (numbers_in k) c.args.var.now (sym c.is_inline_number.ensures ∙ c.if-not-is_inline_number.false)) c.in_ok-number.ensures c.in_ok-set.ensures
     (subst (λ m. SetsIf c.in_ok-set.set k new c.args.var.now m) (to_z-of_z w128 c.in_ok-number.number (search rules)) c.in_ok-set_if.ensures)))
 
 pub returns-then-not-is_inline_number : goal.returns-then-not-is_inline_number
@@ -35,7 +35,7 @@ returns-then-not-is_inline_number c =
     let e = numbers_in c.args.known.now in
     subst (λ to. NeverFits names (op (assign to s.op s.value.now s.cond.now at)) e) (sym c.requires.0)
     (number_never names c.args.var.now s.op s.value.now s.cond.now at e c.requires.1
-    (λ n b int inline cond whole set. no_number names c.args.var.now (sym c.is_inline_number.ensures ∙ c.if-not-is_inline_number.true) int))
+    (λ n b int inline cond whole set. no_number names e c.args.var.now (sym c.is_inline_number.ensures ∙ c.if-not-is_inline_number.true) int))
 
 pub returns-in_err-number : goal.returns-in_err-number
 returns-in_err-number c =
