@@ -55,9 +55,10 @@ module _ (names : InlineNames) where
 
   -- what both arms set is forgotten
   pub arms_less : (f g : Block → Block) (e ea eb : KnownNumbers) → Spares names f e ea → Spares names g e eb → KnowsLess (forgotten names (g done) (forgotten names (f done) e)) ea × KnowsLess (forgotten names (g done) (forgotten names (f done) e)) eb
-  arms_less f g e ea eb p q =
-      (λ n d i r. p n d i (forgotten_less names (g done) (forgotten names (f done) e) n d i r),
-      λ n d i r. q n d i (forgotten_both names (g done) (forgotten names (f done) e) e (forgotten_less names (f done) e) n d i r))
+  arms_less f g e ea eb p q = (
+    λ n d i r. p n d i (forgotten_less names (g done) (forgotten names (f done) e) n d i r),
+    λ n d i r. q n d i (forgotten_both names (g done) (forgotten names (f done) e) e (forgotten_less names (f done) e) n d i r),
+  )
 
   -- what a loop sets is forgotten before it
   pub loop_less : (f g : Block → Block) (e eq eb : KnownNumbers) → Spares names f (forgotten names (g done) (forgotten names (f done) e)) eq → Spares names g eq eb

@@ -79,11 +79,7 @@ fn forget_one(vars: &InlineVars, known: &mut Known, stmt: &Stmt) -> Result<(), A
 }
 
 /// Nothing is known of the inline variable that is set, where nothing else is.
-fn forget_target(
-    vars: &InlineVars,
-    known: &mut Known,
-    to: &Seq<Lval>,
-) -> Result<(), AllocError>
+fn forget_target(vars: &InlineVars, known: &mut Known, to: &Seq<Lval>) -> Result<(), AllocError>
     ensures numbers { OnOk result (numbers_in known.new
         ≡ forgotten_left (names_in vars.now) to.now (numbers_in known.old)) }
     ensures went { OnOk result (Went known.old known.new) }

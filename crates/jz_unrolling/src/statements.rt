@@ -65,7 +65,7 @@ pub(crate) fn unroll_all(
     ensures { let names = names_in unroller.now.vars.now in
         let piece = block no_callees stmts.now in
         IfAnswered result (OrElse (Adds names piece known.old known.new out.old out.new)
-            (NeverFits names piece (numbers_in known.old))) }
+        (NeverFits names piece (numbers_in known.old))) }
 {
     let mut steps = Seq::new(unroller.alloc);
     for stmt in stmts.as_slice() {
@@ -97,7 +97,7 @@ fn unroll_one(
     ensures { let names = names_in unroller.now.vars.now in
         let piece = statement_tree no_callees stmt.now in
         IfAnswered result (OrElse (AddsOne names piece known.old known.new out.old out.new)
-            (NeverFits names piece (numbers_in known.old))) }
+        (NeverFits names piece (numbers_in known.old))) }
 {
     match &stmt.kind {
         StmtKind::Assign { to, op, rhs, cond } => match rhs {
@@ -181,7 +181,7 @@ fn unroll_setting(
     ensures { let names = names_in unroller.now.vars.now in
         let piece = op_node (setting_of setting.now stmt.now.span) in
         IfAnswered result (OrElse (AddsStep names piece known.old known.new out.old out.new)
-            (NeverFits names piece (numbers_in known.old))) }
+        (NeverFits names piece (numbers_in known.old))) }
 {
     match inline_target(unroller.vars, setting.to) {
         Some(var) => {
@@ -216,9 +216,9 @@ fn unroll_number(
     requires { SetsOne (names_in unroller.now.vars.now) setting.now.to.now var.now }
     ensures { let names = names_in unroller.now.vars.now in
         IfAnswered result (OrElse (λ step. (at : Place) (out : List Statement)
-            → AddsStep names (op_node (setting_of setting.now at)) known.old known.new out out step)
-            ((at : Place)
-            → NeverFits names (op_node (setting_of setting.now at)) (numbers_in known.old))) }
+        → AddsStep names (op_node (setting_of setting.now at)) known.old known.new out out step)
+        ((at : Place)
+        → NeverFits names (op_node (setting_of setting.now at)) (numbers_in known.old))) }
 {
     if !is_inline_number(unroller.vars, var) {
         return Err(Failure::Refused(var.span));
@@ -245,7 +245,7 @@ fn unroll_plain(
         let set = setting_of setting.now stmt.now.span in
         let e = numbers_in known.now in
         IfAnswered result (OrElse (AddsStep names (op_node set) known.now known.now out.old out.new)
-            (operation_has_values names e set ≡ false)) }
+        (operation_has_values names e set ≡ false)) }
 {
     let values = Values {
         alloc: unroller.alloc,
@@ -292,8 +292,8 @@ fn unroll_instruction(
         let done = instruction named.now.to.now named.now.name.now named.now.args.now named.now.at in
         let e = numbers_in known.now in
         IfAnswered result
-            (OrElse (AddsStep names (op_node done) known.now known.now out.old out.new)
-            (operation_has_values names e done ≡ false)) }
+        (OrElse (AddsStep names (op_node done) known.now known.now out.old out.new)
+        (operation_has_values names e done ≡ false)) }
 {
     let values = Values {
         alloc: unroller.alloc,
@@ -363,7 +363,7 @@ fn unroll_if(
     ensures { let names = names_in unroller.now.vars.now in
         let piece = branch_of branch.now stmt.now.span in
         IfAnswered result (OrElse (AddsStep names piece known.old known.new out.old out.new)
-            (NeverFits names piece (numbers_in known.old))) }
+        (NeverFits names piece (numbers_in known.old))) }
 {
     let values = Values {
         alloc: unroller.alloc,
@@ -401,7 +401,7 @@ fn unroll_arms(
     ensures { let names = names_in unroller.now.vars.now in
         let piece = branch_of branch.now stmt.now.span in
         IfAnswered result (OrElse (AddsStep names piece known.old known.new out.old out.new)
-            (NeverFits names piece (numbers_in known.old))) }
+        (NeverFits names piece (numbers_in known.old))) }
 {
     let yes = unroll_apart(unroller, known, branch.yes)?;
     let no = unroll_apart(unroller, known, branch.no)?;
@@ -438,9 +438,9 @@ fn unroll_apart(
     ensures { let names = names_in unroller.now.vars.now in
         let piece = block no_callees stmts.now in
         IfAnswered result
-            (OrElse (λ made. IsApart names piece (numbers_in known.old) made.statements made.steps
-            × IsSame known.old known.new)
-            (NeverFits names piece (numbers_in known.old))) }
+        (OrElse (λ made. IsApart names piece (numbers_in known.old) made.statements made.steps
+        × IsSame known.old known.new)
+        (NeverFits names piece (numbers_in known.old))) }
 {
     let outer = known.enter();
     let mut statements = Seq::new(unroller.alloc);
@@ -468,7 +468,7 @@ fn unroll_while(
     ensures { let names = names_in unroller.now.vars.now in
         let piece = turns_of turns.now stmt.now.span in
         IfAnswered result (OrElse (AddsStep names piece known.old known.new out.old out.new)
-            (NeverFits names piece (numbers_in known.old))) }
+        (NeverFits names piece (numbers_in known.old))) }
 {
     let values = Values {
         alloc: unroller.alloc,
@@ -497,7 +497,7 @@ fn unroll_once(
     ensures { let names = names_in unroller.now.vars.now in
         let piece = turns_of turns.now at in
         IfAnswered result (OrElse (AddsStep names piece known.old known.new out.old out.new)
-            (NeverFits names piece (numbers_in known.old))) }
+        (NeverFits names piece (numbers_in known.old))) }
 {
     let steps = unroll_all(unroller, known, turns.prologue, out)?;
     let values = Values {
@@ -528,7 +528,7 @@ fn unroll_turns(
     ensures { let names = names_in unroller.now.vars.now in
         let piece = turns_of turns.now stmt.now.span in
         IfAnswered result (OrElse (AddsStep names piece known.old known.new out.old out.new)
-            (NeverFits names piece (numbers_in known.old))) }
+        (NeverFits names piece (numbers_in known.old))) }
 {
     forget_set(unroller.vars, known, turns.prologue)?;
     forget_body(unroller.vars, known, turns.body)?;
@@ -574,8 +574,8 @@ fn unroll_loop(
     ensures { let names = names_in unroller.now.vars.now in
         let e = numbers_in known.old in
         IfAnswered result
-            (OrElse (λ made. IsLoop names turns.now e made × IsSame known.old known.new)
-            (NeverTurns names turns.now e)) }
+        (OrElse (λ made. IsLoop names turns.now e made × IsSame known.old known.new)
+        (NeverTurns names turns.now e)) }
 {
     let outer = known.enter();
     let mut statements = Seq::new(unroller.alloc);
@@ -612,8 +612,8 @@ fn unroll_turn(
     ensures { let names = names_in unroller.now.vars.now in
         let e = numbers_in known.old in
         IfAnswered result
-            (OrElse (λ made. IsTurn names body.now e made × IsSame known.old known.new)
-            (NeverFits names (body_piece no_callees body.now) e)) }
+        (OrElse (λ made. IsTurn names body.now e made × IsSame known.old known.new)
+        (NeverFits names (body_piece no_callees body.now) e)) }
 {
     match body {
         None => Ok(Turn {
@@ -652,8 +652,8 @@ fn rounds_of<'a>(
     ensures { let names = names_in unroller.now.vars.now in
         let e = numbers_in known.now in
         IfAnswered result
-            (OrElse (λ rounds. HasRounds names e rounds counter.now from.now down to.now)
-            (NeverCounts names e counter.now from.now down to.now)) }
+        (OrElse (λ rounds. HasRounds names e rounds counter.now from.now down to.now)
+        (NeverCounts names e counter.now from.now down to.now)) }
 {
     if !is_inline_number(unroller.vars, counter) {
         return Err(Failure::Refused(counter.span));
@@ -685,8 +685,8 @@ fn unroll_rounds(
     ensures { let names = names_in unroller.now.vars.now in
         let all = rounds.now in
         IfAnswered result
-            (OrElse (AddsRounds names all body.now known.old known.new out.old out.new)
-            (NeverRounds names all body.now known.old)) }
+        (OrElse (AddsRounds names all body.now known.old known.new out.old out.new)
+        (NeverRounds names all body.now known.old)) }
 {
     let counter = rounds.counter;
     let old = known.number(&counter.name, counter.copy);

@@ -260,14 +260,16 @@ module _ (names : InlineNames) (e : KnownNumbers) where
   true_test c at1 t = λ at. subst (λ x. UnrollsLoopTest names (record { cond = c; at = at }) e [] [] (record { cond = expr.Bool true x; at = at }) Same) (sym t.2) (always t.0 t.1)
 
   loop_tests : (c : Expr) (p : Condition) (p2 : Condition) (os : List Operation) (is : List Numbers) (i : Numbers) → p.cond ≡ c → UnrollsLoopTest names p e os is p2 i → (test : Test) × IsTest names e c test × (IsNever e c → ⊥)
-  loop_tests c p p2 os is i q (loops plain known) =
-      (Asked (with_values e p.cond),
-      subst (λ x. IsTest names e x (Asked (with_values e p.cond))) q (record { plain = plain; valued = record { copy = refl; known = known } }),
-      λ n. no_true (is_inline c) n.0 (ap is_inline (sym q) ∙ plain))
-  loop_tests c p p2 os is i q (always inline value) =
-      (Always true (span_of p.cond),
-      subst (λ x. IsTest names e x (Always true (span_of p.cond))) q (inline, value, refl),
-      λ n. let v : Some (constant.Bool true) ≡ Some (constant.Bool false) = sym value.1 ∙ ap (inline_value e) q ∙ n.1.1 in absurd cc)
+  loop_tests c p p2 os is i q (loops plain known) = (
+    Asked (with_values e p.cond),
+    subst (λ x. IsTest names e x (Asked (with_values e p.cond))) q (record { plain = plain; valued = record { copy = refl; known = known } }),
+    λ n. no_true (is_inline c) n.0 (ap is_inline (sym q) ∙ plain),
+  )
+  loop_tests c p p2 os is i q (always inline value) = (
+    Always true (span_of p.cond),
+    subst (λ x. IsTest names e x (Always true (span_of p.cond))) q (inline, value, refl),
+    λ n. let v : Some (constant.Bool true) ≡ Some (constant.Bool false) = sym value.1 ∙ ap (inline_value e) q ∙ n.1.1 in absurd cc,
+  )
 
   pub no_test_loops : (c : Expr) → NeverTests names e c → NeverLoops names e c
   no_test_loops c fails = λ at p os is i test. let t = loop_tests c (record { cond = c; at = at }) p os is i refl test in fails t.0 t.1

@@ -51,11 +51,14 @@ module _ (names : InlineNames) (e : KnownNumbers) where
   pub whole_so : (v : Var) (o : Option BinOp) (x : Expr) (n : ℤ) (found : Option Constant) (at : Span) → is_none (ref_of v).cell ≡ true → IsInlinePart names e x found at → updated_value e v o found ≡ Some (constant.Int n) → HasWhole e v o x n
   whole_so v None x n found at c p f = (x, refl, (p.whole, sym p.value ∙ f))
   whole_so v (Some o) x n found at c p f =
-      let place = (ref_of v).span in
-      (expr.Bin o (expr.Var v) x place,
-      ap Some (inline_updated e o (expr.Var v) x place (out-Expr x) (sym (inline_is (out-Expr x)) ∙ ap is_inline (roll-out-Expr x) ∙ p.inline)),
-      (both_cells o (expr.Var v) x place (read_cells v c) p.whole,
-      both_value o (expr.Var v) x place ∙ ap (λ j. joined o j (inline_value e x)) (read_value v) ∙ ap (joined o (number (e (out-Var v).name (out-Var v).copy))) (sym p.value) ∙ f))
+      let place = (ref_of v).span in (
+        expr.Bin o (expr.Var v) x place,
+        ap Some (inline_updated e o (expr.Var v) x place (out-Expr x) (sym (inline_is (out-Expr x)) ∙ ap is_inline (roll-out-Expr x) ∙ p.inline)),
+        (
+          both_cells o (expr.Var v) x place (read_cells v c) p.whole,
+          both_value o (expr.Var v) x place ∙ ap (λ j. joined o j (inline_value e x)) (read_value v) ∙ ap (joined o (number (e (out-Var v).name (out-Var v).copy))) (sym p.value) ∙ f,
+        ),
+      )
 
   -- ---- refusals
 
@@ -73,9 +76,10 @@ module _ (names : InlineNames) (e : KnownNumbers) where
   whole_value v (Some o) x n i h =
       let place = (ref_of v).span in
       let is : expr.Bin o (expr.Var v) x place ≡ h.0
-      = some_one (sym (ap Some (inline_updated e o (expr.Var v) x place (out-Expr x) (sym (inline_is (out-Expr x)) ∙ ap is_inline (roll-out-Expr x) ∙ i))) ∙ h.1) in
-      (bin_cells o (expr.Var v) x place (ap has_no_cell is ∙ h.2.0),
-      ap (λ j. joined o j (inline_value e x)) (sym (read_value v)) ∙ sym (both_value o (expr.Var v) x place) ∙ ap (inline_value e) is ∙ h.2.1)
+      = some_one (sym (ap Some (inline_updated e o (expr.Var v) x place (out-Expr x) (sym (inline_is (out-Expr x)) ∙ ap is_inline (roll-out-Expr x) ∙ i))) ∙ h.1) in (
+        bin_cells o (expr.Var v) x place (ap has_no_cell is ∙ h.2.0),
+        ap (λ j. joined o j (inline_value e x)) (sym (read_value v)) ∙ sym (both_value o (expr.Var v) x place) ∙ ap (inline_value e) is ∙ h.2.1,
+      )
 
   pub part_no_whole : (v : Var) (o : Option BinOp) (x : Expr) → is_part names e x ≡ false → NeverWhole e v o x
   part_no_whole v o x fails = λ n i h. let z : true ≡ false = sym (whole_value v o x n i h).0 ∙ sym (inline_part_is names e x i) ∙ fails in absurd cc

@@ -74,7 +74,7 @@ pub(crate) fn part_of(values: &Values<'_>, expr: &Expr) -> Result<Part, Failure<
     ensures { let names = names_in values.now.vars.now in
         let e = numbers_in values.now.known.now in
         IfAnswered result (OrElse (IsPart names e expr.now)
-            (is_part names e expr.now ≡ false)) }
+        (is_part names e expr.now ≡ false)) }
 {
     let Side { mut waiting, first } = left_side(values.alloc, expr)?;
     let mut part = single_part(values, first)?;
@@ -91,7 +91,7 @@ fn single_part(values: &Values<'_>, expr: &Expr) -> Result<Part, Failure<Span>>
     ensures { let names = names_in values.now.vars.now in
         let e = numbers_in values.now.known.now in
         IfAnswered result (OrElse (IsPart names e expr.now)
-            (is_part names e expr.now ≡ false)) }
+        (is_part names e expr.now ≡ false)) }
 {
     match expr {
         Expr::Num(n, span) => Ok(Part::Inline(Some(Constant::Int(*n)), *span)),
@@ -142,7 +142,7 @@ fn boxed_with_values(values: &Values<'_>, expr: &Boxed<Expr>) -> Result<Boxed<Ex
     ensures { let names = names_in values.now.vars.now in
         let e = numbers_in values.now.known.now in
         IfAnswered result (OrElse (IsValued names e expr.now)
-            (has_values names e expr.now ≡ false)) }
+        (has_values names e expr.now ≡ false)) }
 {
     let part = part_of(values, expr.get())?;
     let whole = part.into_expr()?;
@@ -171,7 +171,7 @@ fn variable_part(values: &Values<'_>, var: &Var) -> Result<Part, Failure<Span>>
     ensures { let names = names_in values.now.vars.now in
         let e = numbers_in values.now.known.now in
         IfAnswered result (OrElse (IsPart names e (expr.Var var.now))
-            (is_part names e (expr.Var var.now) ≡ false)) }
+        (is_part names e (expr.Var var.now) ≡ false)) }
 {
     if !is_inline_int(known(var)) {
         let var = plain_variable(values, var)?;
@@ -230,7 +230,7 @@ pub fn with_values(values: &Values<'_>, expr: &Expr) -> Result<Expr, Failure<Spa
     ensures { let names = names_in values.now.vars.now in
         let e = numbers_in values.now.known.now in
         IfAnswered result (OrElse (IsValued names e expr.now)
-            (has_values names e expr.now ≡ false)) }
+        (has_values names e expr.now ≡ false)) }
 {
     let part = part_of(values, expr)?;
     let whole = part.into_expr()?;
@@ -268,14 +268,11 @@ fn left_with_values(values: &Values<'_>, lval: &Lval) -> Result<Lval, Failure<Sp
 }
 
 /// Left sides in their order.
-pub fn lefts_with_values(
-    values: &Values<'_>,
-    lvals: &Seq<Lval>,
-) -> Result<Seq<Lval>, Failure<Span>>
+pub fn lefts_with_values(values: &Values<'_>, lvals: &Seq<Lval>) -> Result<Seq<Lval>, Failure<Span>>
     ensures copy { IfOk result (λ ys. ys ≡ map (left_values_of (numbers_in values.now.known.now))
         lvals.now) }
     ensures known { let has = left_has_values (names_in values.now.vars.now)
-            (numbers_in values.now.known.now) in
+        (numbers_in values.now.known.now) in
         let all = list_all has lvals.now in
         IfAnswered result (OrElse (λ ys. all ≡ true) (all ≡ false)) }
 {
@@ -288,14 +285,11 @@ pub fn lefts_with_values(
 }
 
 /// Expressions in their order.
-pub fn all_with_values(
-    values: &Values<'_>,
-    exprs: &Seq<Expr>,
-) -> Result<Seq<Expr>, Failure<Span>>
+pub fn all_with_values(values: &Values<'_>, exprs: &Seq<Expr>) -> Result<Seq<Expr>, Failure<Span>>
     ensures copy { IfOk result (λ ys. ys ≡ map (values_of (numbers_in values.now.known.now))
         exprs.now) }
     ensures known { let has = has_values (names_in values.now.vars.now)
-            (numbers_in values.now.known.now) in
+        (numbers_in values.now.known.now) in
         let all = list_all has exprs.now in
         IfAnswered result (OrElse (λ ys. all ≡ true) (all ≡ false)) }
 {
@@ -331,7 +325,7 @@ pub fn condition_with_values(
 pub fn number_of(values: &Values<'_>, expr: &Expr) -> Result<i128, Failure<Span>>
     ensures { let e = numbers_in values.now.known.now in
         IfAnswered result (OrElse (λ n. HasValue e expr.now (constant.Int n))
-            (NeverNumber e expr.now)) }
+        (NeverNumber e expr.now)) }
 {
     match part_of(values, expr)? {
         Part::Inline(Some(Constant::Int(n)), _) => Ok(n),

@@ -59,7 +59,7 @@ pub(crate) fn join(
     ensures { (names : InlineNames) (e : KnownNumbers) (x y : Tree) → IsPart names e x left
         → IsPart names e y right
         → IfAnswered result (OrElse (IsPart names e (expr.Bin op x y span))
-            (is_part names e (expr.Bin op x y span) ≡ false)) }
+        (is_part names e (expr.Bin op x y span) ≡ false)) }
 {
     match left {
         Part::Inline(a, at) => match right {

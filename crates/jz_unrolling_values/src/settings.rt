@@ -70,7 +70,11 @@ fn updated(
 {
     match op {
         None => value,
-        Some(op) => joined(op, constant_of(values.known.number(&var.name, var.copy)), value),
+        Some(op) => joined(
+            op,
+            constant_of(values.known.number(&var.name, var.copy)),
+            value,
+        ),
     }
 }
 
@@ -85,7 +89,7 @@ pub fn new_number(
     requires { IsInlineInt (names_in values.now.vars.now) var.now }
     ensures { let e = numbers_in values.now.known.now in
         IfAnswered result (OrElse (HasWhole e var.now op value.now)
-            (NeverWhole e var.now op value.now)) }
+        (NeverWhole e var.now op value.now)) }
 {
     let number = match part_of(values, value)? {
         Part::Plain(_) => return Err(Failure::Refused(var.span)),
@@ -99,11 +103,7 @@ pub fn new_number(
 }
 
 /// Whether the new number counts. Behind a condition the old one has to be there.
-pub fn is_set(
-    values: &Values<'_>,
-    var: &Var,
-    cond: &Option<Expr>,
-) -> Result<bool, Failure<Span>>
+pub fn is_set(values: &Values<'_>, var: &Var, cond: &Option<Expr>) -> Result<bool, Failure<Span>>
     ensures { let e = numbers_in values.now.known.now in
         IfAnswered result (OrElse (ConditionIs e var.now cond.now) (NeverIf e var.now cond.now)) }
 {

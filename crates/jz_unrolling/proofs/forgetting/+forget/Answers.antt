@@ -23,10 +23,11 @@ pub forget_set-loop-stmt-preserved : goal.forget_set-loop-stmt-preserved
 forget_set-loop-stmt-preserved t c =
     let names = names_in c.args.vars.now in
     let k = c.loop-stmt.known in
-    let next = c.forget_one.new.known in
-    (forget.forgets_next names c.args.stmts.now c.loop-stmt.stmt-index c.stmt-item.result k next (search rules) (search rules) c.in_ok-forget_one.ensures
-    ∙ c.loop-stmt.invariant.0,
-    went_then c.args.known.now k next c.loop-stmt.invariant.1 c.in_ok-forget_one.ensures.went)
+    let next = c.forget_one.new.known in (
+      forget.forgets_next names c.args.stmts.now c.loop-stmt.stmt-index c.stmt-item.result k next (search rules) (search rules) c.in_ok-forget_one.ensures
+          ∙ c.loop-stmt.invariant.0,
+      went_then c.args.known.now k next c.loop-stmt.invariant.1 c.in_ok-forget_one.ensures.went,
+    )
 
 pub forget_set-returns : goal.forget_set-returns
 forget_set-returns t c =

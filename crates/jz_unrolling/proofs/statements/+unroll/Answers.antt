@@ -62,10 +62,11 @@ unroll_all-returns-in_err-step t c =
 
 pub unroll_apart-returns : goal.unroll_apart-returns
 unroll_apart-returns t c =
-    let names = names_in c.args.unroller.now.vars.now in
-    (form.apart_so names c.args.stmts.now c.args.known.now c.enter-outer.new.self c.unroll_all.new.known c.unroll_all.new.out c.in_ok-steps.steps c.enter-outer.ensures.numbers
-    (subst (λ l. Adds names (block no_callees c.args.stmts.now) c.enter-outer.new.self c.unroll_all.new.known l c.unroll_all.new.out c.in_ok-steps.steps) c.new-statements.ensures c.in_ok-steps.ensures),
-    restored_same c.args.known.now c.enter-outer.new.self c.unroll_all.new.known c.leave.new.self c.enter-outer.result.items c.enter-outer.ensures.outer c.enter-outer.ensures.fresh c.enter-outer.ensures.numbers c.in_ok-steps.ensures.went c.in_ok-leave.ensures)
+    let names = names_in c.args.unroller.now.vars.now in (
+      form.apart_so names c.args.stmts.now c.args.known.now c.enter-outer.new.self c.unroll_all.new.known c.unroll_all.new.out c.in_ok-steps.steps c.enter-outer.ensures.numbers
+          (subst (λ l. Adds names (block no_callees c.args.stmts.now) c.enter-outer.new.self c.unroll_all.new.known l c.unroll_all.new.out c.in_ok-steps.steps) c.new-statements.ensures c.in_ok-steps.ensures),
+      restored_same c.args.known.now c.enter-outer.new.self c.unroll_all.new.known c.leave.new.self c.enter-outer.result.items c.enter-outer.ensures.outer c.enter-outer.ensures.fresh c.enter-outer.ensures.numbers c.in_ok-steps.ensures.went c.in_ok-leave.ensures,
+    )
 
 pub unroll_apart-returns-in_err-steps : goal.unroll_apart-returns-in_err-steps
 unroll_apart-returns-in_err-steps t c =
@@ -186,11 +187,12 @@ unroll_loop-returns t c =
     let s = c.args.turns.now in
     let old = c.args.known.now in
     let start = c.enter-outer.new.self in
-    let end = c.unroll_all.new.known in
-    (form.loop_so names s old start end (record { prologue = record { statements = c.unroll_all.new.out; steps = c.in_ok-steps.steps }; cond = c.in_ok-cond.cond; turn = c.in_ok-turn.turn }) c.enter-outer.ensures.numbers
-    (subst (λ l. Adds names (block no_callees s.prologue.now) start end l c.unroll_all.new.out c.in_ok-steps.steps) c.new-statements.ensures c.in_ok-steps.ensures)
-    c.in_ok-cond.ensures c.in_ok-turn.ensures.0,
-    form.loop_same names old start end c.unroll_turn.new.known c.leave.new.self c.enter-outer.result.items c.enter-outer.ensures.outer c.enter-outer.ensures.fresh c.enter-outer.ensures.numbers c.in_ok-steps.ensures.went c.in_ok-turn.ensures.1 c.in_ok-leave.ensures)
+    let end = c.unroll_all.new.known in (
+      form.loop_so names s old start end (record { prologue = record { statements = c.unroll_all.new.out; steps = c.in_ok-steps.steps }; cond = c.in_ok-cond.cond; turn = c.in_ok-turn.turn }) c.enter-outer.ensures.numbers
+          (subst (λ l. Adds names (block no_callees s.prologue.now) start end l c.unroll_all.new.out c.in_ok-steps.steps) c.new-statements.ensures c.in_ok-steps.ensures)
+          c.in_ok-cond.ensures c.in_ok-turn.ensures.0,
+      form.loop_same names old start end c.unroll_turn.new.known c.leave.new.self c.enter-outer.result.items c.enter-outer.ensures.outer c.enter-outer.ensures.fresh c.enter-outer.ensures.numbers c.in_ok-steps.ensures.went c.in_ok-turn.ensures.1 c.in_ok-leave.ensures,
+    )
 
 pub unroll_loop-returns-in_err-steps : goal.unroll_loop-returns-in_err-steps
 unroll_loop-returns-in_err-steps t c =
@@ -213,18 +215,20 @@ unroll_loop-returns-in_err-turn t c =
 pub unroll_turn-returns-in-None : goal.unroll_turn-returns-in-None
 unroll_turn-returns-in-None t c =
     let names = names_in c.args.unroller.now.vars.now in
-    let k = c.args.known.now in
-    (subst (λ l. IsTurn names c.args.body.now (numbers_in k) (record { body = None; steps = l })) (sym c.new.ensures)
-    (subst (λ b. IsTurn names b (numbers_in k) (record { body = None; steps = [] })) (sym c.in-None.is) (form.turn_none names (numbers_in k))),
-    record { changed = refl; numbers = refl })
+    let k = c.args.known.now in (
+      subst (λ l. IsTurn names c.args.body.now (numbers_in k) (record { body = None; steps = l })) (sym c.new.ensures)
+          (subst (λ b. IsTurn names b (numbers_in k) (record { body = None; steps = [] })) (sym c.in-None.is) (form.turn_none names (numbers_in k))),
+      record { changed = refl; numbers = refl },
+    )
 
 pub unroll_turn-returns-in_ok-made-in-Some : goal.unroll_turn-returns-in_ok-made-in-Some
 unroll_turn-returns-in_ok-made-in-Some t c =
     let names = names_in c.args.unroller.now.vars.now in
     let k = c.args.known.now in
-    let made = c.in_ok-made-in-Some.made in
-    (subst (λ b. IsTurn names b (numbers_in k) (record { body = Some made.statements; steps = made.steps })) (sym c.in-Some.is) (form.turn_some names c.in-Some.body (numbers_in k) made c.in_ok-made-in-Some.ensures.0),
-    c.in_ok-made-in-Some.ensures.1)
+    let made = c.in_ok-made-in-Some.made in (
+      subst (λ b. IsTurn names b (numbers_in k) (record { body = Some made.statements; steps = made.steps })) (sym c.in-Some.is) (form.turn_some names c.in-Some.body (numbers_in k) made c.in_ok-made-in-Some.ensures.0),
+      c.in_ok-made-in-Some.ensures.1,
+    )
 
 pub unroll_turn-returns-in_err-made-in-Some : goal.unroll_turn-returns-in_err-made-in-Some
 unroll_turn-returns-in_err-made-in-Some t c =

@@ -18,14 +18,16 @@ pub returns-in-Ok-Asked : goal.returns-in-Ok-Asked
 returns-in-Ok-Asked c =
     let names = names_in c.args.values.now.vars.now in
     let e = numbers_in c.args.values.now.known.now in
-    let i = c.in-Ok-Asked in
-    (λ q. let w : false ≡ true = q in absurd cc,
-    λ n. absurd (not_never_asked names e c.args.cond.now _ (subst (λ k. IsTest names e c.args.cond.now k) i.field-0-is i.ensures) n))
+    let i = c.in-Ok-Asked in (
+      λ q. let w : false ≡ true = q in absurd cc,
+      λ n. absurd (not_never_asked names e c.args.cond.now _ (subst (λ k. IsTest names e c.args.cond.now k) i.field-0-is i.ensures) n),
+    )
 
 pub returns-in-Err-Refused : goal.returns-in-Err-Refused
 returns-in-Err-Refused c =
     let names = names_in c.args.values.now.vars.now in
     let e = numbers_in c.args.values.now.known.now in
-    let i = c.in-Err-Refused in
-    (λ q. let w : false ≡ true = q in absurd cc,
-    λ n. absurd (not_never_untested names e c.args.cond.now (subst (λ k. IfAnswered (Err k) (OrElse (IsTest names e c.args.cond.now) (NeverTests names e c.args.cond.now))) i.field-0-is i.ensures) n))
+    let i = c.in-Err-Refused in (
+      λ q. let w : false ≡ true = q in absurd cc,
+      λ n. absurd (not_never_untested names e c.args.cond.now (subst (λ k. IfAnswered (Err k) (OrElse (IsTest names e c.args.cond.now) (NeverTests names e c.args.cond.now))) i.field-0-is i.ensures) n),
+    )
