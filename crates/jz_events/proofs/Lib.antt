@@ -1,0 +1,5 @@
+pub mod Blocks
+pub mod Forms
+pub mod Showing
+pub mod Fitting
+pub mod Law
