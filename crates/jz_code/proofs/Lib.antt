@@ -2,6 +2,6 @@ pub mod Trees
 pub mod Plain
 pub mod Shapes
 pub mod Unnamed
-pub mod Results
+pub mod Named
 pub mod Beside
 pub mod Whole

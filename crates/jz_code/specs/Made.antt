@@ -1,5 +1,5 @@
 -- The machine code of a function over variables, and when there is none.
-use Rattle.std.specs.Prelude.{◌≡◌, ◌<◌, ◌≤◌, ℕ, List, length, slice_index}
+use Rattle.std.specs.Prelude.{◌≡◌, ◌<◌, ◌≤◌, ◌⊎◌, ℕ, List, length, slice_index}
 use Rattle.x64_insn.specs.declared.types.Place.{Place}
 use Rattle.x64_insn.specs.declared.types.Insn.{Insn}
 use Rattle.jz_ir.specs.Places.{place_at, IsPlacing}
@@ -44,8 +44,17 @@ pub record IsCodeOf (f : Ir) (variables : List Stacked) (m : MachineCode) : Type
   pub rule : IsPlacing (seen_code f) (LiveInWhole f) places
   pub runs : DoesAll f (frame_of variables) (λ v. place_at places v) (function_of m)
 
--- the stack variables take more than 65,536 bytes; or first fit leaves a variable without a place
+-- the stack variables take more than 65,536 bytes
+abbrev pub IsTooLarge : List Stacked → NoCode → Type 0
+IsTooLarge variables no.Frame = 65536 < end_from 0 variables
+IsTooLarge variables (no.Place n) = ⊥
+
+-- first fit leaves a variable without a place
+abbrev pub IsUnplaced : Ir → NoCode → Type 0
+IsUnplaced f no.Frame = ⊥
+IsUnplaced f (no.Place n) = IsEvidence (seen_code f) (LiveInWhole f) n
+
+-- the first of both
 abbrev pub HasNoCode : Ir → List Stacked → NoCode → Type 0
-HasNoCode f variables no.Frame = 65536 < end_from 0 variables
-HasNoCode f variables (no.Place n) =
-    (end_from 0 variables ≤ 65536) × IsEvidence (seen_code f) (LiveInWhole f) n
+HasNoCode f variables c =
+    IsTooLarge variables c ⊎ ((end_from 0 variables ≤ 65536) × IsUnplaced f c)

@@ -163,7 +163,10 @@ impl FrameShape<'_> {
                 let offset = slot + bytes_before(size, cell.offset);
                 (Form::Frame(from_entry(offset, self.size)), false)
             }
-            Some(_) => (Form::Indexed(from_entry(slot, self.size), bytes(size), 0), true),
+            Some(_) => (
+                Form::Indexed(from_entry(slot, self.size), bytes(size), 0),
+                true,
+            ),
         }
     }
 
@@ -209,7 +212,11 @@ impl FrameShape<'_> {
     }
 
     /// The events of an operation.
-    pub(crate) fn operation_outs(&self, alloc: Global, action: Action) -> Result<Seq<Out>, AllocError>
+    pub(crate) fn operation_outs(
+        &self,
+        alloc: Global,
+        action: Action,
+    ) -> Result<Seq<Out>, AllocError>
         ensures { IfOk result
             (λ outs. outs ≡ operation_outs (slots_of self.now) self.now.size action) }
     {
@@ -234,4 +241,3 @@ impl FrameShape<'_> {
         }
     }
 }
-
