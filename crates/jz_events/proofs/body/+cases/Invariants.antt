@@ -3,7 +3,7 @@ use Rattle.jz_runs.specs.Trees.{done}
 use Rattle.jz_place.specs.Bodies.{then_body, body_of}
 use Rattle.jz_place.proofs.Bodies.{size}
 use Rattle.jz_events.specs.Cases.{cases_over, slots_of}
-use Rattle.jz_events.proofs.transformer.+cases.Given as goal
+use Rattle.jz_events.proofs.body.+cases.Given as goal
 
 abbrev pub invariant-block_cases-loop-i : goal.invariant-block_cases-loop-i
 invariant-block_cases-loop-i l = l.cases ≡ cases_over (slots_of l.frame) l.frame.size (body_of (take l.i l.nodes))

@@ -4,7 +4,7 @@ use Rattle.jz_place.specs.Bodies.{then_body, body_of}
 use Rattle.jz_place.proofs.Bodies.{size, size_at}
 use Rattle.jz_events.specs.Cases.{slots_of}
 use Rattle.jz_events.proofs.Blocks.{one_more}
-use Rattle.jz_events.proofs.transformer.+cases.Goals as goal
+use Rattle.jz_events.proofs.body.+cases.Goals as goal
 
 pub block_cases-node_case-requires : goal.block_cases-node_case-requires
 block_cases-node_case-requires t c =
