@@ -54,7 +54,7 @@ module _ (places : ℕ → Place) (slots : ℕ → ℕ) where
   operand_plain (arg.Cell c) s = refl
   operand_plain (arg.At r p) s = refl
 
-  extend_plain : (sign : Bool) (to from : Size) (r : Reg) (rm : Operand) → names_no_rip rm ≡ true → is_plain (extend_of places slots sign to from r rm) ≡ true
+  extend_plain : (sign : Bool) (to from : Size) (r : Reg) (rm : Operand) → names_no_rip rm ≡ true → is_plain (extend_of sign to from r rm) ≡ true
   extend_plain true to from r rm h = h
   extend_plain false S8 from r rm h = h
   extend_plain false S16 from r rm h = h
@@ -64,19 +64,19 @@ module _ (places : ℕ → Place) (slots : ℕ → ℕ) where
   extend_plain false S64 S32 r rm h = h
   extend_plain false S64 S64 r rm h = h
 
-  sign_plain : (s : Size) → is_plain (sign_of places slots s) ≡ true
+  sign_plain : (s : Size) → is_plain (sign_of s) ≡ true
   sign_plain S8 = refl
   sign_plain S16 = refl
   sign_plain S32 = refl
   sign_plain S64 = refl
 
   insn_plain : (a : Action) → is_plain (insn_of places slots a) ≡ true
-  insn_plain (action.Alu op s to from p) = both_true _ _ (operand_plain to s) (operand_plain from s)
+  insn_plain (action.Alu o s to from p) = both_true _ _ (operand_plain to s) (operand_plain from s)
   insn_plain (action.Mov s to from) = both_true _ _ (operand_plain to s) (operand_plain from s)
   insn_plain (action.Extend sign to from v rm) = extend_plain sign to from _ (operand_of places slots rm from) (operand_plain rm from)
   insn_plain (action.Lea v a) = base_plain a.base
-  insn_plain (action.One op s rm) = operand_plain rm s
-  insn_plain (action.Wide op s l h rm) = operand_plain rm s
+  insn_plain (action.One o s rm) = operand_plain rm s
+  insn_plain (action.Wide o s l h rm) = operand_plain rm s
   insn_plain (action.Imul s v rm) = operand_plain rm s
   insn_plain (action.ImulBy s v rm i) = operand_plain rm s
   insn_plain (action.Shift kind s rm n) = operand_plain rm s

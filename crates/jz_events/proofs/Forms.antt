@@ -62,7 +62,7 @@ module _ (places : ℕ → Place) (slots : ℕ → ℕ) where
   division_arg s (arg.Cell c) = refl
   division_arg s (arg.At r p) = refl
 
-  extended : (sign : Bool) (to from : Size) (r : Reg) (rm : Operand) → outs_of (extend_of places slots sign to from r rm) ≡ lines.access_outs rm
+  extended : (sign : Bool) (to from : Size) (r : Reg) (rm : Operand) → outs_of (extend_of sign to from r rm) ≡ lines.access_outs rm
   extended true to from r rm = refl
   extended false S8 from r rm = refl
   extended false S16 from r rm = refl
@@ -72,18 +72,18 @@ module _ (places : ℕ → Place) (slots : ℕ → ℕ) where
   extended false S64 S32 r rm = refl
   extended false S64 S64 r rm = refl
 
-  no_outs : (s : Size) → outs_of (sign_of places slots s) ≡ []
+  no_outs : (s : Size) → outs_of (sign_of s) ≡ []
   no_outs S8 = refl
   no_outs S16 = refl
   no_outs S32 = refl
   no_outs S64 = refl
 
   outs_are : (a : Action) → outs_of (insn_of places slots a) ≡ machine_outs (divides a) (accesses a)
-  outs_are (action.Alu op s to from p) = two_args s s to from
+  outs_are (action.Alu o s to from p) = two_args s s to from
   outs_are (action.Mov s to from) = two_args s s to from
   outs_are (action.Extend sign to from v rm) = extended sign to from _ (operand_of places slots rm from) ∙ one_arg from from rm
   outs_are (action.Lea v a) = refl
-  outs_are (action.One op s rm) = one_arg s s rm
+  outs_are (action.One o s rm) = one_arg s s rm
   outs_are (action.Wide wide.Mul s l h rm) = one_arg s s rm
   outs_are (action.Wide wide.Imul s l h rm) = one_arg s s rm
   outs_are (action.Wide wide.Div s l h rm) = division_arg s rm
@@ -113,7 +113,9 @@ cell_sum S8 r slot (pos o) = omega (arith, ints)
 cell_sum S16 r slot (pos o) = omega (arith, ints)
 cell_sum S32 r slot (pos o) = omega (arith, ints)
 cell_sum S64 r slot (pos o) = omega (arith, ints)
-cell_sum s r slot (negsuc o) = cell_signs s r slot o (pos r +ℤ (pos slot +ℤ (pos (bytes_of s) *ℤ negsuc o))) refl
+cell_sum s r slot (negsuc o) =
+    let z : negsuc o ≡ pos 0 +ℤ negsuc o = omega (arith, ints) in
+    cell_signs s r slot o (pos r +ℤ (pos slot +ℤ (pos (bytes_of s) *ℤ negsuc o))) refl ∙ ap (λ (x : ℤ). (r + slot + bytes_of s * residue S64 x) % 2 ^ 64) z
 
 module _ (slots : ℕ → ℕ) (size rsp0 : ℕ) (le : size ≤ rsp0) where
   down : (d : ℤ) → pos rsp0 +ℤ (d -ℤ pos size) ≡ pos (rsp0 - size) +ℤ d

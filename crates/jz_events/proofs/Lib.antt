@@ -1,4 +1,5 @@
 pub mod Blocks
+pub mod Slots
 pub mod Forms
 pub mod Showing
 pub mod Fitting

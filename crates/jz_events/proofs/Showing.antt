@@ -1,6 +1,6 @@
 -- The cases of a body give the events that the cases of its instructions give, where cells leak their addresses.
 use Rattle.std.proofs.Common.{◌≡◌, ℕ, ◌-◌, ◌≤◌, Bool, true, false, List, ◌++◌, refl, sym, ap, ◌∙◌, if◌then◌else◌}
-use Rattle.std.specs.Prelude.{not, ⊤}
+use Rattle.std.specs.Prelude.{not, ⊤, Some, None}
 use Rattle.x64_insn.specs.declared.types.Place.{Place}
 use Rattle.jz_leak.specs.declared.event.Event.{Event}
 use Rattle.jz_leak.specs.declared.transformer.Case.{Case}

@@ -133,10 +133,9 @@ fn push_slots(outs: &mut Seq<Out>, frame: &FrameShape<'_>) -> Result<(), AllocEr
     ensures { OnOk result (outs.new
         ≡ outs.old ++ slot_outs frame.now.size frame.now.first frame.now.saved.now) }
 {
-    let mut offset = frame.first;
-    for _ in frame.saved {
+    for i in 0..frame.saved.len() {
+        let offset = frame.first + 8 * i as u32;
         outs.push(slot_access(offset, frame.size))?;
-        offset += 8;
     }
     Ok(())
 }

@@ -12,7 +12,7 @@ block_cases-node_case-requires t c =
     let e = c.index-as_slice-i.is ∙ ap (λ x. get_or x c.loop-i.i c.index-as_slice-i.result) c.as_slice.ensures in
     let lt : c.loop-i.i < length c.args.nodes.now = omega (arith, ap length c.as_slice.ensures) in
     let h : 4 * size (then_body c.index-as_slice-i.result done) < t = omega (arith, size_at c.args.nodes.now c.loop-i.i c.index-as_slice-i.result lt e) in
-    h
+    (h, tt)
 
 pub block_cases-loop-i-preserved : goal.block_cases-loop-i-preserved
 block_cases-loop-i-preserved t c =
