@@ -278,12 +278,12 @@ module _ (f : Ir) (list : List Place) (frame : Frame) (slots : ℕ → ℕ) (end
 
     filtered_from : (p : Reg → Bool) (rs : List Reg) (r : Reg) → Among (filter p rs) r → Among rs r
     filtered_from p [] r a = a
-    filtered_from p (q ∷ rs) r a = by_test (p q) a
+    filtered_from p (q ∷ rs) r a = by_test (p q) a (λ x. filtered_from p rs r x)
       where
-        by_test : (z : Bool) → Among (cond z (q ∷ filter p rs) (filter p rs)) r → Among (q ∷ rs) r
-        by_test true (inl e) = inl e
-        by_test true (inr x) = inr (filtered_from p rs r x)
-        by_test false x = inr (filtered_from p rs r x)
+        by_test : (z : Bool) → Among (cond z (q ∷ filter p rs) (filter p rs)) r → (Among (filter p rs) r → Among rs r) → Among (q ∷ rs) r
+        by_test true (inl e) k = inl e
+        by_test true (inr x) k = inr (k x)
+        by_test false x k = inr (k x)
 
     result_unsaved : (r : Reg) → (Contains preserved_registers r → ⊥) → NotAmong shape.saved r
     result_unsaved r free' =

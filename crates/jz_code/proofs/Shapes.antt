@@ -49,34 +49,34 @@ preserved_other r (inr (inr (inr (inr (inr (inr e)))))) = absurd e
 -- ---- registers by a test
 pub among_filtered : (p : Reg → Bool) (rs : List Reg) (r : Reg) → Among rs r → p r ≡ true → Among (filter p rs) r
 among_filtered p [] r a t = absurd a
-among_filtered p (q ∷ rs) r a t = by_test (p q) refl a
+among_filtered p (q ∷ rs) r a t = by_test (p q) refl a (λ s. among_filtered p rs r s t)
   where
-    by_test : (b : Bool) → p q ≡ b → (q ≡ r) ⊎ Among rs r → Among (cond b (q ∷ filter p rs) (filter p rs)) r
-    by_test true e (inl s) = inl s
-    by_test true e (inr s) = inr (among_filtered p rs r s t)
-    by_test false e (inl s) = absurd (let k : p r ≡ false = subst (λ x. p x ≡ false) s e in let j : true ≡ false = sym t ∙ k in cc)
-    by_test false e (inr s) = among_filtered p rs r s t
+    by_test : (b : Bool) → p q ≡ b → (q ≡ r) ⊎ Among rs r → (Among rs r → Among (filter p rs) r) → Among (cond b (q ∷ filter p rs) (filter p rs)) r
+    by_test true e (inl s) k = inl s
+    by_test true e (inr s) k = inr (k s)
+    by_test false e (inl s) k = absurd (let z : p r ≡ false = subst (λ x. p x ≡ false) s e in let j : true ≡ false = sym t ∙ z in cc)
+    by_test false e (inr s) k = k s
 
 pub not_among_filtered : (p : Reg → Bool) (rs : List Reg) (r : Reg) → ((q : Reg) → p q ≡ true → number_of q ≢ number_of r) → NotAmong (filter p rs) r
 not_among_filtered p [] r h = tt
-not_among_filtered p (q ∷ rs) r h = by_test (p q) refl
+not_among_filtered p (q ∷ rs) r h = by_test (p q) refl (not_among_filtered p rs r h)
   where
-    by_test : (b : Bool) → p q ≡ b → NotAmong (cond b (q ∷ filter p rs) (filter p rs)) r
-    by_test true e = (h q e, not_among_filtered p rs r h)
-    by_test false e = not_among_filtered p rs r h
+    by_test : (b : Bool) → p q ≡ b → NotAmong (filter p rs) r → NotAmong (cond b (q ∷ filter p rs) (filter p rs)) r
+    by_test true e k = (h q e, k)
+    by_test false e k = k
 
 none_filtered : (p : Reg → Bool) (rs : List Reg) → NoneIsRsp rs → NoneIsRsp (filter p rs)
 none_filtered p [] h = tt
-none_filtered p (q ∷ rs) h = by_test (p q)
+none_filtered p (q ∷ rs) h = by_test (p q) (none_filtered p rs h.1)
   where
-    by_test : (b : Bool) → NoneIsRsp (cond b (q ∷ filter p rs) (filter p rs))
-    by_test true = (h.0, none_filtered p rs h.1)
-    by_test false = none_filtered p rs h.1
+    by_test : (b : Bool) → NoneIsRsp (filter p rs) → NoneIsRsp (cond b (q ∷ filter p rs) (filter p rs))
+    by_test true k = (h.0, k)
+    by_test false k = k
 
 pub saved_none : (is : List Insn) → NoneIsRsp (saved_of is)
 saved_none is =
     none_filtered (λ r. list_any (λ i. names i r) is) preserved_registers
-    ((λ e. omega (arith, e)), (λ e. omega (arith, e)), (λ e. omega (arith, e)), (λ e. omega (arith, e)), (λ e. omega (arith, e)), (λ e. omega (arith, e)), tt)
+    ((λ e. omega (arith, e)), ((λ e. omega (arith, e)), ((λ e. omega (arith, e)), ((λ e. omega (arith, e)), ((λ e. omega (arith, e)), ((λ e. omega (arith, e)), tt))))))
 
 pub saved_few : (is : List Insn) → length (saved_of is) ≤ 6
 saved_few is = filter_short (λ r. list_any (λ i. names i r) is) preserved_registers

@@ -171,3 +171,10 @@ too_large f vs OutOfMemory h = h
 pub unplaced : (f : Ir) (vs : List Stacked) (e : Failure NoCode) → end_from 0 vs ≤ 65536 → IfRefused e (IsUnplaced f) → IfRefused e (HasNoCode f vs)
 unplaced f vs (Refused c) le h = inr (le, h)
 unplaced f vs OutOfMemory le h = h
+
+-- ---- the transformer by the tables of the code
+pub made_transformer : (f : Ir) (offsets slots : List ℕ) (z first last : ℕ) (rs saved : List Reg) (t : Transformer) → slots ≡ offsets → first ≡ rounded_up 8 last → saved ≡ rs
+    → t ≡ transformer_over (λ v. slice_index slots v) z first saved (body_of f.body) → t ≡ transformer_over (λ v. slice_index offsets v) z (rounded_up 8 last) rs (body_of f.body)
+made_transformer f offsets slots z first last rs saved t es ef er e =
+    e ∙ ap (λ (o : List ℕ). transformer_over (λ v. slice_index o v) z first saved (body_of f.body)) es
+    ∙ ap (λ a. transformer_over (λ v. slice_index offsets v) z a saved (body_of f.body)) ef ∙ ap (λ x. transformer_over (λ v. slice_index offsets v) z (rounded_up 8 last) x (body_of f.body)) er

@@ -1,6 +1,6 @@
 //! The machine code of a function over variables, in its frame.
 
-ghost use Rattle.std.specs.Prelude.{◌≡◌, ◌≤◌, ◌<◌, ◌+◌, ◌*◌, ◌^◌, length, IfOk, IfErr};
+ghost use Rattle.std.specs.Prelude.{◌≡◌, ◌≤◌, ◌<◌, ◌^◌, ◌∷◌, [], length, IfOk, IfErr};
 ghost use Rattle.jz_data.specs.Failures.{IfRefused};
 ghost use Rattle.jz_ir.specs.Places.{IsPlacing, IsWithin};
 ghost use Rattle.jz_place.specs.Bodies.{seen_code, LiveInWhole};
@@ -75,20 +75,27 @@ fn placed(alloc: Global, ir: &Ir) -> Result<Places, Failure<NoCode>>
     }
 }
 
+/// A label is no instruction.
+fn weight(line: Line) -> u64
+    ensures { result ≡ length (instructions_in (line ∷ [])) }
+{
+    match line {
+        Line::Label(_) => 0,
+        Line::Insn(_) => 1,
+        Line::Jcc(_, _) => 1,
+        Line::Jmp(_) => 1,
+        Line::Call(_) => 1,
+    }
+}
+
 /// How many of the lines are instructions.
 fn instructions(lines: &[Line]) -> u64
+    requires { length lines.now < 2 ^ 64 }
     ensures { result ≡ length (instructions_in lines.now) }
 {
-    let _most = lines.len();
     let mut count: u64 = 0;
     for line in lines {
-        count += match line {
-            Line::Label(_) => 0,
-            Line::Insn(_) => 1,
-            Line::Jcc(_, _) => 1,
-            Line::Jmp(_) => 1,
-            Line::Call(_) => 1,
-        };
+        count += weight(*line);
     }
     count
 }
@@ -100,7 +107,7 @@ struct Encoded {
     insns: u64,
 }
 
-fn encoded(alloc: Global, nodes: &Seq<PlacedNode>) -> Result<Encoded, AllocError>
+fn encode_body(alloc: Global, nodes: &Seq<PlacedNode>) -> Result<Encoded, AllocError>
     requires plain { IsPlainCode (code_in nodes.now) }
     requires few { labels_in (code_in nodes.now) < 2 ^ 32 }
     requires short { total (linear_of (code_in nodes.now)) < 2 ^ 31 }
@@ -111,7 +118,9 @@ fn encoded(alloc: Global, nodes: &Seq<PlacedNode>) -> Result<Encoded, AllocError
 {
     let code = linearize(alloc, nodes)?;
     let bytes = assemble(alloc, &code)?;
-    let insns = instructions(code.lines.as_slice());
+    let lines = code.lines.as_slice();
+    let _count = lines.len();
+    let insns = instructions(lines);
     Ok(Encoded { bytes, insns })
 }
 
@@ -144,7 +153,7 @@ fn finished(
     };
     let body = place(alloc, ir, &spots)?;
     let framed = with_frame(alloc, body, layout.end)?;
-    let made = encoded(alloc, &framed.body)?;
+    let made = encode_body(alloc, &framed.body)?;
     let frame = FrameShape {
         slots: layout.offsets.as_slice(),
         first: slots_at(layout.end),
