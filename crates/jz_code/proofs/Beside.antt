@@ -1,12 +1,10 @@
 -- From the entry of a function on, its bytes do what its body over variables does.
 use Rattle.std.proofs.Common.{◌≡◌, ◌≢◌, ℕ, ◌+◌, ◌-◌, ◌*◌, ◌%◌, ◌^◌, ◌<◌, ◌≤◌, ◌⊎◌, inl, inr, ⊎_elim, Bool, true, false, List, [], ◌∷◌, length, IsTrue, cond, refl, sym, ap, ◌∙◌, subst, arith}
-use Rattle.std.specs.Prelude.{Option, Some, None, is_some, slice_get, slice_index, slice_set, Contains, map}
+use Rattle.std.specs.Prelude.{Option, Some, None, is_some, slice_index, Contains}
 use Rattle.std.specs.FinMap.{get}
 use Rattle.std.specs.List.{AllByRecursion, list_any, filter}
 use Rattle.std.proofs.lemmas.List.{get_or-set_other, get_or-set_same, length-set}
-use Rattle.jz_words.specs.declared.size.Size.{Size}
 use Rattle.jz_words.specs.Sizes.{modulus}
-use Rattle.jz_words.specs.Memory.{Memory, loaded}
 use Rattle.x64_insn.specs.declared.types.Place.{Place}
 use Rattle.x64_insn.specs.declared.types.Place.TheVariants as place
 use Rattle.x64_insn.specs.declared.types.Reg.{Reg}
@@ -17,39 +15,37 @@ use Rattle.x64_insn.specs.Table.{number_of}
 use Rattle.x64_insn.proofs.Registers.{same_register}
 use Rattle.jz_ir.specs.Places.{place_at}
 use Rattle.jz_leak.specs.RunLeaks.{Leak}
-use Rattle.jz_leak.specs.Applying.{apply_of, Fits}
 use Rattle.jz_runs.specs.Rules.{Outcome, End, Cut, Stuck, Goes}
 use Rattle.jz_runs.proofs.Steady.{one_outcome, has_outcome}
 use Rattle.x64_machine.specs.Steps.{Config}
 use Rattle.jz_live.specs.Lives.{live_before}
-use Rattle.jz_operations.specs.declared.operation.Stacked.{Stacked}
 use Rattle.jz_operations.specs.Values.{Value, word, boolean, State}
 use Rattle.jz_operations.specs.Rows.{Frame}
-use Rattle.jz_operations.specs.Insns.{reg_of, places_in, slots_in}
+use Rattle.jz_operations.specs.Insns.{reg_of}
 use Rattle.jz_operations.specs.Standing.{Stands}
 use Rattle.jz_operations.specs.Frames.{IsLaid, Holds}
 use Rattle.jz_operations.proofs.Bytes.{loaded_same}
 use Rattle.jz_placing.specs.Instructions.{Machine, state_of, Code, instructions}
 use Rattle.jz_placing.specs.Variables.{variables}
 use Rattle.jz_placing.specs.Following.{Follows, ended, was_cut, was_stuck}
-use Rattle.jz_placing.specs.Placing.{code_of, leak_of, StandsBeside}
+use Rattle.jz_placing.specs.Placing.{code_of, leak_of}
 use Rattle.jz_place.specs.declared.tree.Ir.{Ir}
 use Rattle.jz_place.specs.declared.tree.Passed.{Passed}
-use Rattle.jz_place.specs.Bodies.{body_of, returns_of, seen_code, LiveInWhole}
+use Rattle.jz_place.specs.Bodies.{body_of, returns_of}
 use Rattle.jz_place.specs.Laws.{AtEntry, AtReturn, KeepsRuns}
 use Rattle.jz_linear.specs.Plain.{IsPlainCode}
-use Rattle.jz_linear.specs.Lines.{linear_of, cases_of}
+use Rattle.jz_linear.specs.Lines.{linear_of}
 use Rattle.jz_linear.proofs.KeptRegs.{register_kept}
 use Rattle.jz_correct.specs.Frames.{preserved_registers, names, saved_of}
 use Rattle.x64_assemble.specs.Assembling.{total}
-use Rattle.x64_assemble.specs.CodeRuns.{Going, EndsAt, NeverFaults, entered_at}
-use Rattle.jz_stack.specs.Framed.{insns_in, framed, framed_tr}
+use Rattle.x64_assemble.specs.CodeRuns.{Going, EndsAt, entered_at}
+use Rattle.jz_stack.specs.Framed.{insns_in, framed}
 use Rattle.jz_stack.specs.FrameRuns as frames
 use Rattle.jz_stack.specs.FrameRuns.{Shape, Among, NotAmong, IsShape, IsBegun, Keeps, BodyKeeps, FunctionDoes}
 use Rattle.jz_stack.proofs.FrameLaw.{function_does}
 use Rattle.jz_events.specs.Cases.{transformer_over}
 use Rattle.jz_events.proofs.Law.{all_fit, all_show}
-use Rattle.jz_code.specs.Entries.{IsWordAt, IsWanted, StandsAtEntry, ResultStands, StandsAtReturn}
+use Rattle.jz_code.specs.Entries.{IsWordAt, StandsAtEntry, ResultStands, StandsAtReturn}
 use Rattle.jz_code.specs.Runs.{Function, RunEnds, RunGoesOn, DoesAsItsBody}
 use Rattle.jz_code.proofs.Trees.{each_lives, both_each}
 use Rattle.jz_code.proofs.Shapes.{member, preserved_other, among_filtered, not_among_filtered}

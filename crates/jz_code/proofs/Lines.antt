@@ -1,5 +1,5 @@
 -- The lines of a body become bytes, and have as many instructions.
-use Rattle.std.proofs.Common.{◌≡◌, ℕ, ◌^◌, ◌<◌, List, length, map, sym, ap, ◌∙◌, subst}
+use Rattle.std.proofs.Common.{◌≡◌, ℕ, ◌^◌, ◌<◌, List, length, sym, ap, ◌∙◌, subst}
 use Rattle.std.proofs.lemmas.List.{length-map}
 use Rattle.jz_placing.specs.Instructions.{Code}
 use Rattle.jz_linear.specs.declared.line.Line.{Line}

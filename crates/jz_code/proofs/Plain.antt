@@ -1,9 +1,8 @@
 -- The instructions of a body are such as become lines.
-use Rattle.std.proofs.Common.{◌≡◌, ◌≢◌, ℕ, zero, suc, ◌+◌, ◌*◌, ◌<◌, ◌≤◌, Bool, true, false, ◌&&◌, List, [], ◌∷◌, length, IsTrue, Option, Some, None, refl, ap, ◌∙◌, arith}
+use Rattle.std.proofs.Common.{◌≡◌, ℕ, zero, suc, ◌+◌, ◌*◌, ◌≤◌, Bool, true, false, ◌&&◌, List, [], ◌∷◌, length, Option, Some, None, refl, arith}
 use Rattle.std.specs.Prelude.{slice_index}
 use Rattle.x64_insn.specs.declared.types.Place.{Place}
 use Rattle.x64_insn.specs.declared.types.Reg.{Reg}
-use Rattle.x64_insn.specs.declared.types.Reg.TheVariants as reg
 use Rattle.x64_insn.specs.declared.types.Operand.{Operand}
 use Rattle.jz_words.specs.declared.size.Size.{Size}
 use Rattle.jz_words.specs.declared.size.Size.TheVariants.{S8, S16, S32, S64}
@@ -27,7 +26,7 @@ use Rattle.jz_placing.specs.Placing.{test_for, code_of}
 use Rattle.jz_place.specs.declared.tree.Ir.{Ir}
 use Rattle.jz_place.specs.Bodies.{body_of, returns_of, seen_code, LiveInWhole}
 use Rattle.jz_place.specs.Codes.{TestFits, BodyFits}
-use Rattle.jz_place.specs.Sorts.{TestSorted, AreSorted}
+use Rattle.jz_place.specs.Sorts.{AreSorted}
 use Rattle.jz_linear.specs.Plain as plain
 use Rattle.jz_linear.specs.Plain.{is_no_rip, names_no_rip, is_plain, IsPlain, IsPlainTest, IsPlainCode}
 use Rattle.jz_linear.specs.Lines.{parts_in}

@@ -1,5 +1,5 @@
 -- The operations of a function, one by one: each is over its variables, and each return has its register.
-use Rattle.std.proofs.Common.{◌≡◌, ◌≢◌, ℕ, ◌<◌, ⊎_elim, Bool, true, false, ◌||◌, List, [], ◌∷◌, ◌++◌, length, IsTrue, Option, Some, None, refl, ap, ◌∙◌, subst, arith, nat_eq, nat_le, nat_lt, map}
+use Rattle.std.proofs.Common.{◌≡◌, ◌≢◌, ℕ, ◌<◌, ⊎_elim, Bool, true, false, ◌||◌, List, [], ◌∷◌, ◌++◌, length, IsTrue, Option, Some, None, refl, subst, arith, nat_eq, nat_le, nat_lt, map}
 use Rattle.std.specs.Prelude.{slice_index_or}
 use Rattle.std.specs.List.{All, AllByRecursion, list_all}
 use Rattle.std.proofs.lemmas.Bool.{and_parts, or_cases, ltb-true, eqb-true}

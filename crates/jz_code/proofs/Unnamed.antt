@@ -1,5 +1,5 @@
 -- A preserved register that the code does not name is at an end as it was.
-use Rattle.std.proofs.Common.{◌≡◌, ◌≢◌, ℕ, Bool, true, false, ◌||◌, ◌==◌, List, [], ◌∷◌, ◌++◌, refl, sym, ap, ◌∙◌, arith}
+use Rattle.std.proofs.Common.{◌≡◌, Bool, true, false, ◌||◌, List, ◌++◌, refl, sym, ◌∙◌, arith}
 use Rattle.std.specs.Prelude.{Some, None}
 use Rattle.std.specs.List.{list_any}
 use Rattle.std.proofs.lemmas.Bool.Decides.{nat_tests}
@@ -10,11 +10,10 @@ use Rattle.x64_insn.specs.declared.types.Operand.{Operand}
 use Rattle.x64_insn.specs.declared.types.Operand.TheVariants as operand
 use Rattle.x64_insn.specs.declared.types.Insn.{Insn}
 use Rattle.x64_insn.specs.declared.types.Insn.TheVariants as insn
-use Rattle.x64_insn.specs.Table.{number_of}
 use Rattle.jz_runs.specs.Trees.{done, op, quiet, choose, loop, each, call}
 use Rattle.jz_placing.specs.Instructions.{Test, always, if_holds, Code}
 use Rattle.jz_linear.specs.Plain.{is_plain, IsPlainTest, IsPlainCode}
-use Rattle.jz_linear.proofs.KeptRegs.{is_reg, sets_operand, sets, Every, Spares, SparesTest}
+use Rattle.jz_linear.proofs.KeptRegs.{is_reg, sets_operand, Every, Spares, SparesTest}
 use Rattle.jz_correct.specs.Frames.{operand_names, names}
 use Rattle.jz_stack.specs.Framed.{test_insns, insns_in}
 use Rattle.jz_code.proofs.Shapes.{IsOther}

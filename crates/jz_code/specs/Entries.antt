@@ -1,5 +1,5 @@
 -- A machine at the entry of a function, beside a state over variables; and behind its return.
-use Rattle.std.specs.Prelude.{◌≡◌, ◌<◌, ◌≤◌, ◌⊎◌, ℕ, ◌+◌, ◌-◌, ◌%◌, ◌^◌, Bool, false, List, Some, None, IsTrue, length, slice_get, slice_index, Contains, is_some}
+use Rattle.std.specs.Prelude.{◌≡◌, ◌<◌, ◌≤◌, ◌⊎◌, ℕ, ◌+◌, ◌-◌, ◌%◌, ◌^◌, Bool, false, Some, None, IsTrue, length, slice_get, slice_index, Contains, is_some}
 use Rattle.std.specs.List.{AllByRecursion}
 use Rattle.std.specs.FinMap.{get}
 use Rattle.jz_words.specs.Memory.{loaded}

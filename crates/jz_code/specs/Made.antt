@@ -3,7 +3,6 @@ use Rattle.std.specs.Prelude.{◌≡◌, ◌<◌, ◌≤◌, ◌⊎◌, ℕ, Lis
 use Rattle.x64_insn.specs.declared.types.Place.{Place}
 use Rattle.x64_insn.specs.declared.types.Insn.{Insn}
 use Rattle.jz_ir.specs.Places.{place_at, IsPlacing}
-use Rattle.jz_alloc.specs.declared.placing.NoPlace.{NoPlace}
 use Rattle.jz_alloc.specs.Answers.{IsEvidence}
 use Rattle.jz_operations.specs.declared.operation.Stacked.{Stacked}
 use Rattle.jz_place.specs.declared.tree.Ir.{Ir}

@@ -1,5 +1,5 @@
 -- What a function over variables has to be to become bytes, whatever places its variables get.
-use Rattle.std.specs.Prelude.{◌≡◌, ◌≢◌, ◌<◌, ◌≤◌, ◌^◌, ℕ, ◌+◌, Bool, true, false, List, Some, None, IsTrue, length, Contains, ⊤}
+use Rattle.std.specs.Prelude.{◌≡◌, ◌≢◌, ◌<◌, ◌≤◌, ◌^◌, ℕ, ◌+◌, Bool, true, false, Some, None, IsTrue, length, Contains, ⊤}
 use Rattle.std.specs.List.{AllByRecursion}
 use Rattle.x64_insn.specs.declared.types.Place.{Place}
 use Rattle.x64_insn.specs.declared.types.Reg.TheVariants as reg

@@ -1,6 +1,6 @@
 -- The leaks of a body fit its cases; and a leak whose cells have their addresses is cut where it was.
-use Rattle.std.proofs.Common.{◌≡◌, ℕ, ◌+◌, ◌<◌, ◌≤◌, Bool, true, false, List, [], ◌∷◌, ◌++◌, length, refl, sym, ap, ◌∙◌, subst, arith, if◌then◌else◌}
-use Rattle.std.specs.Prelude.{not, ⊤, Option, Some, None}
+use Rattle.std.proofs.Common.{◌≡◌, ℕ, ◌<◌, ◌≤◌, Bool, true, false, List, [], ◌∷◌, ◌++◌, length, refl, sym, ap, subst, arith, if◌then◌else◌}
+use Rattle.std.specs.Prelude.{not, Option, Some, None}
 use Rattle.std.proofs.lemmas.List.{length-append}
 use Rattle.std.proofs.lemmas.List.Elements.{All-nil, All-cons}
 use Rattle.jz_words.specs.declared.size.Size.{Size}
@@ -20,11 +20,11 @@ use Rattle.jz_operations.specs.declared.operation.Action.TheVariants as action
 use Rattle.jz_operations.specs.declared.operation.Condition.{Condition}
 use Rattle.jz_operations.specs.declared.operation.Operation.{Operation}
 use Rattle.jz_operations.specs.Values.{State}
-use Rattle.jz_operations.specs.Rows.{Frame, Output, if_some, address_in, cell_in, cell_numbers, inputs, accesses, access_numbers, asked, inputs_in, Computed, computed, both_words, outputs, put_all, Done, step, done_by, holds_in}
+use Rattle.jz_operations.specs.Rows.{Frame, Output, if_some, address_in, cell_in, cell_numbers, inputs, accesses, access_numbers, asked, inputs_in, Computed, computed, both_words, outputs, put_all, Done, step, holds_in}
 use Rattle.jz_operations.specs.Standing.{division_of}
 use Rattle.jz_operations.proofs.Somes.{some_then, same_some}
 use Rattle.jz_placing.specs.Instructions.{division_numbers}
-use Rattle.jz_placing.specs.Variables.{Asked, always, asks, Body, by_step, does, does_if, tests, answer, answer_behind, variables}
+use Rattle.jz_placing.specs.Variables.{Asked, always, asks, Body, by_step, does, tests, answer, answer_behind, variables}
 use Rattle.jz_placing.specs.Renumbering.{on_ran, on_chose, on_looped, renumbered}
 use Rattle.jz_placing.proofs.Machine.{shown_is}
 use Rattle.jz_linear.proofs.Cases.{out_if, out_while}

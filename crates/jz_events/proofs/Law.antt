@@ -3,7 +3,7 @@ use Rattle.std.proofs.Common.{◌≡◌, ℕ, ◌-◌, ◌≤◌, Bool, List, []
 use Rattle.x64_insn.specs.declared.types.Place.{Place}
 use Rattle.x64_insn.specs.declared.types.Reg.{Reg}
 use Rattle.jz_leak.specs.RunLeaks.{Leak}
-use Rattle.jz_leak.specs.Applying.{is_cut, events_for, body_events, last_events, CasesFit, Fits}
+use Rattle.jz_leak.specs.Applying.{events_for, body_events, last_events, CasesFit}
 use Rattle.jz_runs.specs.Rules.{Outcome, End, Cut, Stuck, Goes}
 use Rattle.jz_operations.specs.Values.{State}
 use Rattle.jz_operations.specs.Rows.{Frame}

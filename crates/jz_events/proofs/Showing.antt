@@ -9,14 +9,14 @@ use Rattle.jz_leak.specs.declared.transformer.Case.TheViews.{out-Case}
 use Rattle.jz_leak.specs.declared.transformer.Case.TheVariants as case
 use Rattle.jz_leak.specs.RunLeaks as leak
 use Rattle.jz_leak.specs.RunLeaks.{Leak, Turns}
-use Rattle.jz_leak.specs.Applying.{is_cut, Loop, events_for, if_events, while_events, body_events, turns_events}
-use Rattle.jz_runs.specs.Trees.{done, op, quiet, choose, loop, each, call}
+use Rattle.jz_leak.specs.Applying.{Loop, events_for, if_events, while_events, body_events, turns_events}
+use Rattle.jz_runs.specs.Trees.{op, quiet, choose, loop}
 use Rattle.jz_runs.specs.Rules.{Outcome, End, Cut, Stuck, after, Goes, finished, did, did_not, quieted, chosen, chosen_cut, chosen_stuck, chose_not, loop_left, loop_cut, loop_stuck, counted, counted_cut, counted_stuck, counted_not, call_ended, call_cut, call_stuck, entered_not, left_not, Loops, in_prologue, prologue_stuck, tested_not, leaves_loop, no_turn, in_body, body_stuck, more_turns}
 use Rattle.jz_operations.specs.Values.{State}
 use Rattle.jz_operations.specs.Rows.{Frame}
 use Rattle.jz_placing.specs.Instructions.{Code}
 use Rattle.jz_placing.specs.Variables.{Asked, always, asks, Body, variables}
-use Rattle.jz_placing.specs.Placing.{test_for, code_of, numbers, test_numbers, leak_of}
+use Rattle.jz_placing.specs.Placing.{test_for, code_of, test_numbers, leak_of}
 use Rattle.jz_placing.specs.Renumbering.{on_turns}
 use Rattle.jz_linear.specs.Lines as lines
 use Rattle.jz_linear.specs.Lines.{cases_of, test_outs}

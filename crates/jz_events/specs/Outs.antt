@@ -15,7 +15,6 @@ use Rattle.jz_operations.specs.declared.operation.Arg.{Arg}
 use Rattle.jz_operations.specs.declared.operation.Arg.TheVariants as arg
 use Rattle.jz_operations.specs.declared.operation.Action.{Action}
 use Rattle.jz_operations.specs.declared.operation.Action.TheVariants as action
-use Rattle.jz_operations.specs.declared.operation.Operation.{Operation}
 use Rattle.jz_operations.specs.Rows.{Output, accesses}
 use Rattle.jz_operations.specs.Insns.{displacement}
 use Rattle.jz_placing.specs.Variables.{Asked, always, asks}

@@ -1,4 +1,4 @@
-use Rattle.std.proofs.Common.{rules, arith}
+use Rattle.std.proofs.Common.{rules}
 use Rattle.jz_events.proofs.Slots.{slots_on}
 use Rattle.jz_events.proofs.body.push_slots.Goals as goal
 
