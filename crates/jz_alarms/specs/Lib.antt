@@ -1,0 +1,4 @@
+pub mod Conditions
+pub mod Alarms
+pub use Rattle.jz_facts.specs.Facts
+pub use Rattle.jz_flow.specs.Flow

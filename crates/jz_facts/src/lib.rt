@@ -1,0 +1,3 @@
+//! What is known of a run before it runs: facts on variables, what statements and tests do to them,
+//! and the intervals of expressions.
+#![tactic(auto)]
