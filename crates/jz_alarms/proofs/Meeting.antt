@@ -23,7 +23,8 @@ use Rattle.jz_meaning.specs.Operators.{same_size, word_of, word_at, divided, sig
 use Rattle.jz_meaning.specs.Values.{Ref, key_of, cell_key, left_wanted, right_wanted, with_right, index_at, in_cells, cell_value, load_at, load_word, address_at, accessed, is_aligned}
 use Rattle.jz_meaning.proofs.Widths.{equal_sizes}
 use Rattle.jz_terms.specs.Terms.{Term, num, truth, var, cell, load, neg, inv, cast, bin, means, size_in}
-use Rattle.jz_facts.specs.Facts.{Facts, Interval, Given}
+use Rattle.jz_intervals.specs.declared.interval.Interval.{Interval}
+use Rattle.jz_facts.specs.Facts.{Facts, Given}
 use Rattle.jz_facts.specs.Intervals.{size_or_64, interval}
 use Rattle.jz_alarms.specs.Conditions.{Alarm, Target, named, division, or_else, unless, bounds_of, asks_index, divides, asks}
 use Rattle.jz_fact_laws.specs.Saying.{Holds, Yields, In, HasSize, is_number, IsPlain, AreSized}

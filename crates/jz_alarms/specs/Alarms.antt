@@ -1,17 +1,11 @@
--- The rules of facts along a body, and the first alarm of a function.
+-- The conditions along a body, and the first alarm of a function.
 use Rattle.std.specs.Prelude.{◌≡◌, List, Option}
 use Rattle.jz_tree.specs.declared.expr.Var.{Var}
 use Rattle.jz_meaning.specs.Statements.{Operation, Condition, Block}
-use Rattle.jz_flow.specs.Flow.{Steps}
 use Rattle.jz_flow.specs.Alarms.{Asks, First}
 use Rattle.jz_facts.specs.Facts.{Fact, Given, at_entry}
-use Rattle.jz_facts.specs.Holding.{does, quieted}
-use Rattle.jz_facts.specs.Tests.{tested, leaves}
+use Rattle.jz_facts.specs.Along.{fact_steps}
 use Rattle.jz_alarms.specs.Conditions.{Alarm, asks_operation, asks_test, asks_results}
-
-abbrev pub fact_steps : Given → Steps Operation Condition Fact
-fact_steps g =
-    record { does = does g; quiets = quieted; tests = tested g; leaves = leaves g }
 
 abbrev pub fact_asks : Given → Asks Operation Condition Fact Alarm
 fact_asks g = record { op = asks_operation g; test = asks_test g }

@@ -27,7 +27,8 @@ use Rattle.jz_meaning.specs.Assignments.{left_sizes, last_left, whole_of, as_exp
 use Rattle.jz_meaning.specs.Intrinsics.{intrinsic_size}
 use Rattle.jz_meaning.specs.Statements.{Operation, assign, instruction, Condition}
 use Rattle.jz_terms.specs.Terms.{Spot, Term, num, truth, var, cell, load, neg, inv, cast, bin, term_of, place_of, size_in}
-use Rattle.jz_facts.specs.Facts.{Set, Cell, Is, Under, Facts, Interval, Given, Region, least_of}
+use Rattle.jz_facts.specs.Facts.{Set, Cell, Is, Under, Facts, Given, Region, least_of}
+use Rattle.jz_intervals.specs.declared.interval.Interval.{Interval}
 use Rattle.jz_facts.specs.Intervals.{size_or_64, interval, is_multiple}
 
 pub data Target : Type 0 where

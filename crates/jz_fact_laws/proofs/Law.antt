@@ -20,7 +20,7 @@ use Rattle.jz_facts.specs.Facts.{Fact, Facts, Given}
 use Rattle.jz_facts.specs.Intervals.{interval, size_or_64}
 use Rattle.jz_facts.specs.Holding.{assigned, does, renewed, gained, the_word}
 use Rattle.jz_facts.specs.Tests.{adds, tested}
-use Rattle.jz_fact_laws.specs.Saying.{Says, Holds, Yields, is_number, IsPlain, AreSized}
+use Rattle.jz_fact_laws.specs.Saying.{Says, Holds, Yields, is_number, IsPlain, AreSized, IsAssigned}
 use Rattle.jz_fact_laws.proofs.Fitting.{yields_then}
 use Rattle.jz_fact_laws.proofs.Ranges.{Good, term_ok}
 use Rattle.jz_terms.proofs.Bridge.{term_so}
@@ -40,16 +40,10 @@ module _ (g : Given) (sizes : Key → Option Size) (entry : Key → ℕ) (s : Fa
       by (stuck k) a b c = tt
       by (went ns v) a b c = (a, b, c)
 
-  -- the right side and the variable it goes to are in order
-  pub record IsAssigned (x : Var) (o : Option BinOp) (e : Expr) : Type 0 where
-    pub plain : (whole : Expr) → whole_of (Some (lval.Var x)) o e ≡ Some whole → IsPlain sizes (term_of whole)
-    pub sized : (y : Size) → (ref_of x).kind ≡ kind.Word y → sizes (key_of (ref_of x)) ≡ Some y
-    pub no_number : (ref_of x).kind ≢ kind.Int
-
   written_then : (at : Span) (z : Option Size) (x : Var) (v : Value) (P : State → Type 0) → Yields P (written z (lval.Var x) (Some v) st) → Yields P (all_written at z (lval.Var x ∷ []) (Some v ∷ []) st)
   written_then at z x v P h = yields_then P P (written z (lval.Var x) (Some v) st) (λ t. went [] t) h (λ t q. q)
 
-  pub assign_ok : (x : Var) (o : Option BinOp) (e : Expr) (at : Span) → IsAssigned x o e → Yields (λ t. Holds g sizes entry (does g (assign (lval.Var x ∷ []) o e None at) s) t) (source.does (assign (lval.Var x ∷ []) o e None at) st)
+  pub assign_ok : (x : Var) (o : Option BinOp) (e : Expr) (at : Span) → IsAssigned sizes x o e → Yields (λ t. Holds g sizes entry (does g (assign (lval.Var x ∷ []) o e None at) s) t) (source.does (assign (lval.Var x ∷ []) o e None at) st)
   assign_ok x o e at h = by (whole_of (Some (lval.Var x)) o e) refl
     where
       by : (m : Option Expr) → whole_of (Some (lval.Var x)) o e ≡ m → Yields (λ t. Holds g sizes entry (assigned g (lval.Var x ∷ []) m None s) t) (assigned_whole (lval.Var x ∷ []) m None at st)

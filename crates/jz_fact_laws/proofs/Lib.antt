@@ -3,5 +3,7 @@ pub mod Ranges
 pub mod Setting
 pub mod Multiples
 pub mod MultipleValues
+pub mod MultipleTerms
 pub mod Testing
 pub mod Law
+pub mod Holding

@@ -10,18 +10,12 @@ use Rattle.jz_meaning.specs.Attempts.{stuck_at}
 use Rattle.jz_meaning.specs.States.{Value, word, boolean, integer}
 use Rattle.jz_meaning.specs.Operators.{same_size, on_words, combined}
 use Rattle.jz_facts.specs.Facts.{is_among}
-use Rattle.jz_fact_laws.specs.Saying.{Yields}
+use Rattle.jz_fact_laws.specs.Saying.{Yields, MultipleWord}
 use Rattle.jz_fact_laws.proofs.Fitting.{yields_if}
 use Rattle.jz_fact_laws.proofs.Multiples.{sum_multiple, product_multiple}
 
--- a word is a multiple of m, and so is a number in the place of any word
-abbrev pub MultipleWord : ℕ → Value → Type 0
-MultipleWord m (word s a) = a % m ≡ 0
-MultipleWord m (integer j) = (u : Size) → residue u j % m ≡ 0
-MultipleWord m (boolean c) = ⊥
-
 -- not two numbers
-abbrev NotNumbers : Value → Value → Type 0
+abbrev pub NotNumbers : Value → Value → Type 0
 NotNumbers (integer i) (integer j) = ⊥
 NotNumbers x y = Unit {0}
 

@@ -21,10 +21,13 @@ use Rattle.jz_meaning.specs.Operators.{same_size, on_words, shifted_word, by_fla
 use Rattle.jz_meaning.specs.Values.{key_of, cell_key, size_of, left_wanted, right_wanted, with_right, run_binary, index_at, cell_value, load_at, load_word, address_at, accessed, is_aligned}
 use Rattle.jz_meaning.proofs.Widths.{equal_sizes}
 use Rattle.jz_terms.specs.Terms.{Term, num, truth, var, cell, load, neg, inv, cast, bin, means, size_in}
-use Rattle.jz_facts.specs.Facts.{Interval, Fact, AtLeast, AtMost, Under, Facts, Start, Given, hi_of, greatest_word, greatest, least}
-use Rattle.jz_facts.specs.Intervals.{each_word, where_so, sum, difference, product, mask, quotient, remainder, shifted_by, size_or_64, under_most, of_variable, interval}
+use Rattle.jz_facts.specs.Facts.{Fact, AtLeast, AtMost, Under, Facts, Start, Given, hi_of, greatest, least}
+use Rattle.jz_intervals.specs.declared.interval.Interval.{Interval}
+use Rattle.jz_intervals.specs.Intervals.{greatest_word, each_word, where_so, sum, difference, product, mask, quotient, remainder, shifted_by, fitted}
+use Rattle.jz_facts.specs.Intervals.{size_or_64, under_most, of_variable, interval}
 use Rattle.jz_fact_laws.specs.Saying.{HasWord, Says, InRanges, Fits, Holds, Yields, In, HasSize, is_number, IsSized, IsPlain}
 use Rattle.jz_integers.specs.Integers as numbers
+use Rattle.jz_facts.proofs.Narrowing.{div_more, power_some}
 use Rattle.jz_fact_laws.proofs.Fitting.{yields_then, yields_defined, yields_if, yields_all, below_all, words_fit, flag_fits, count_fits, bools_fit, settled_is}
 
 -- the value of a term, of which a word of size z is looked at; a whole number comes from numbers alone
@@ -59,7 +62,7 @@ so true z lo hi n h k = k refl
 so false z lo hi n h k = in_each z n h
 
 pub sum_in : (z : Size) (i j : Interval) (a b t : ℕ) → In i a → In j b → t ≡ a + b → In (sum z i j) (t % modulus z)
-sum_in z i j a b t p q e = so (nat_le (i.hi + j.hi) (greatest_word z)) z (i.lo + j.lo) (i.hi + j.hi) (t % modulus z) (below_all z t) (λ c.
+sum_in z i j a b t p q e = so (nat_le (i.hi + j.hi) (greatest_word z)) z (min (i.lo + j.lo) (greatest_word z)) (i.hi + j.hi) (t % modulus z) (below_all z t) (λ c.
     let l : i.hi + j.hi ≤ modulus z - 1 = grind (arith, rules, c) in
     let s = some_words z in
     let lt : t < modulus z = omega (arith, l, p.1, q.1, e, s) in
@@ -74,7 +77,7 @@ difference_in z i j a b t f p q e = so (nat_le j.hi i.lo) z (i.lo - j.hi) (i.hi 
     (omega (arith, m, p.0, q.1), omega (arith, m, p.1, q.0)))
 
 pub product_in : (z : Size) (i j : Interval) (a b : ℕ) → In i a → In j b → In (product z i j) (a * b % modulus z)
-product_in z i j a b p q = so (nat_le (i.hi * j.hi) (greatest_word z)) z (i.lo * j.lo) (i.hi * j.hi) (a * b % modulus z) (below_all z _) (λ c.
+product_in z i j a b p q = so (nat_le (i.hi * j.hi) (greatest_word z)) z (min (i.lo * j.lo) (greatest_word z)) (i.hi * j.hi) (a * b % modulus z) (below_all z _) (λ c.
     let l : i.hi * j.hi ≤ modulus z - 1 = grind (arith, rules, c) in
     let s = some_words z in
     let lo : i.lo * j.lo ≤ a * b = mul-le-mul p.0 q.0 in
@@ -85,26 +88,16 @@ product_in z i j a b p q = so (nat_le (i.hi * j.hi) (greatest_word z)) z (i.lo *
 pub mask_in : (i j : Interval) (a b : ℕ) → In i a → In j b → In (mask i j) (bit_and a b)
 mask_in i j a b p q = let x = and_le_l a b in let y = and_le_r a b in (omega arith, omega (arith, x, y, p.1, q.1))
 
-pub div_more : (a b c d : ℕ) → a ≤ b → d ≤ c → 0 < d → a / c ≤ b / d
-div_more a b c d h k p = le-div (a / c) b d p (le3 (a / c * d) (a / c * c) b (mul-le-mul_left (a / c) k) (le3 _ a b (div-mul-le_self a c) h))
-  where
-    le3 : (x y z : ℕ) → x ≤ y → y ≤ z → x ≤ z
-    le3 x y z h k = omega (arith, h, k)
-
 pub quotient_in : (z : Size) (i j : Interval) (a b : ℕ) → a < modulus z → In i a → In j b → In (quotient z i j) (a / b)
 quotient_in z i j a b f p q = let d = div-le_self a b in so (nat_le 1 j.lo) z (i.lo / max j.hi 1) (i.hi / j.lo) (a / b) (omega (arith, d, f)) (λ c.
     let l : 1 ≤ j.lo = grind (arith, rules, c) in
     (div_more i.lo a (max j.hi 1) b p.0 (omega (arith, q.1)) (omega (arith, l, q.0)), div_more a i.hi b j.lo p.1 q.0 (omega (arith, l))))
 
-pub remainder_in : (z : Size) (i j : Interval) (a b : ℕ) → a < modulus z → In j b → In (remainder z i j) (a % b)
+pub remainder_in : (z : Size) (i j : Interval) (a b : ℕ) → a < modulus z → In j b → In (remainder z j) (a % b)
 remainder_in z i j a b f q = let d = mod-le a b in so (nat_le 1 j.lo) z 0 (j.hi - 1) (a % b) (omega (arith, d, f)) (λ c.
     let l : 1 ≤ j.lo = grind (arith, rules, c) in
     let m = mod-lt a {m = b} (omega (arith, l, q.0)) in
     (omega arith, omega (arith, m, q.1)))
-
-power_some : (n : ℕ) → 0 < 2 ^ n
-power_some zero = omega arith
-power_some (suc n) = let p = power_some n in omega (arith, p)
 
 pub shifted_in : (i : Interval) (a n : ℕ) → In i a → In (shifted_by n i) (a / 2 ^ n)
 shifted_in i a n p = (div_more i.lo a (2 ^ n) (2 ^ n) p.0 (omega arith) (power_some n), div_more a i.hi (2 ^ n) (2 ^ n) p.1 (omega arith) (power_some n))
@@ -302,13 +295,13 @@ module _ (g : Given) (sizes : Key → Option Size) (entry : Key → ℕ) (s : Fa
   inv_good i k z (integer j) h = (h.0, in_each z _ (residue_below z _))
   inv_good i k z (boolean c) h = bool_good k z (not c)
 
-  cast_good : (i : Interval) (k : Bool) (y z y0 : Size) (at : Span) (v : Value) → HasSize y0 v → Good i k y0 v → Yields (Good (where_so (nat_le i.hi (greatest_word z)) z i.lo i.hi) false z) (defined at (cast_value y false v))
+  cast_good : (i : Interval) (k : Bool) (y z y0 : Size) (at : Span) (v : Value) → HasSize y0 v → Good i k y0 v → Yields (Good (fitted z i) false z) (defined at (cast_value y false v))
   unfolding cast_value
   cast_good i k y z y0 at (word s a) u h = (
     below_all y a,
     λ e.
-        subst (λ q. In (where_so (nat_le i.hi (greatest_word z)) z i.lo i.hi) (a % modulus q)) (sym e)
-        (so (nat_le i.hi (greatest_word z)) z i.lo i.hi (a % modulus z) (below_all z a) (λ c.
+        subst (λ q. In (fitted z i) (a % modulus q)) (sym e)
+        (so (nat_le i.hi (greatest_word z)) z (min i.lo (greatest_word z)) i.hi (a % modulus z) (below_all z a) (λ c.
         let l : i.hi ≤ modulus z - 1 = grind (arith, rules, c) in
         let b = h.1 (u s a refl) in
         let p = some_words z in
@@ -366,10 +359,10 @@ module _ (g : Given) (sizes : Key → Option Size) (entry : Key → ℕ) (s : Fa
       (λ e. (let d = div-le_self a b in omega (arith, d, f), λ e. quotient_in z i j a b (subst (λ v. a < modulus v) e f) (h e) (m e))))
       (λ s a c f h m. tt) (λ c. tt) p q
 
-  rem_case : (at : Span) (w : Option Size) (z : Size) (i j : Interval) (k l : Bool) (x y : Value) → (k && l) ≡ false → Good i k z x → Good j l z y → Yields (Good (remainder z i j) (k && l) z) (binary o.Rem at w x y)
+  rem_case : (at : Span) (w : Option Size) (z : Size) (i j : Interval) (k l : Bool) (x y : Value) → (k && l) ≡ false → Good i k z x → Good j l z y → Yields (Good (remainder z j) (k && l) z) (binary o.Rem at w x y)
   unfolding binary
-  rem_case at w z i j k l x y n p q = combine o.Rem at z (remainder z i j) i j k l x y n
-      (λ s a b f g h m. yields_if (Good (remainder z i j) (k && l) z) (b == 0) (stuck_at at Divide) (went (0 ∷ a ∷ b ∷ []) (word s (a % b))) (λ e. tt)
+  rem_case at w z i j k l x y n p q = combine o.Rem at z (remainder z j) i j k l x y n
+      (λ s a b f g h m. yields_if (Good (remainder z j) (k && l) z) (b == 0) (stuck_at at Divide) (went (0 ∷ a ∷ b ∷ []) (word s (a % b))) (λ e. tt)
       (λ e. (let d = mod-le a b in omega (arith, d, f), λ e. remainder_in z i j a b (subst (λ v. a < modulus v) e f) (m e))))
       (λ s a c f h m. tt) (λ c. tt) p q
 
@@ -394,7 +387,7 @@ module _ (g : Given) (sizes : Key → Option Size) (entry : Key → ℕ) (s : Fa
   term_ok (cast y true a at) p z w = yields_then (λ v. Unit {0}) (Good (each_word z) false z) ((means a).run (size_in a) st) (λ v. defined at (cast_value y true v)) (anything _) (λ v h. cast_signed y z at v)
   term_ok (cast y false a at) p z w =
       let i = interval g s (size_or_64 (size_in a)) a in
-      yields_then (λ v. HasSize (size_or_64 (size_in a)) v × Good i (is_number a) (size_or_64 (size_in a)) v) (Good (where_so (nat_le i.hi (greatest_word z)) z i.lo i.hi) false z) ((means a).run (size_in a) st) (λ v. defined at (cast_value y false v))
+      yields_then (λ v. HasSize (size_or_64 (size_in a)) v × Good i (is_number a) (size_or_64 (size_in a)) v) (Good (fitted z i) false z) ((means a).run (size_in a) st) (λ v. defined at (cast_value y false v))
       (yields_both _ _ ((means a).run (size_in a) st) (sized_ok a p.1 (size_in a)) (term_ok a p.0 (size_or_64 (size_in a)) (size_in a)))
       (λ v h. cast_good i (is_number a) y z (size_or_64 (size_in a)) at v h.0 h.1)
     where
@@ -434,6 +427,6 @@ module _ (g : Given) (sizes : Key → Option Size) (entry : Key → ℕ) (s : Fa
   term_ok (bin o.Sub a b at) p z w = runs_good o.Sub at (left_wanted o.Sub w (size_in a) (size_in b)) z (difference z (interval g s z a) (interval g s z b)) (interval g s z a) (interval g s z b) (is_number a) (is_number b) (means a).run (means b).run (term_ok a p.1 z) (term_ok b p.2 z) (λ x q e. absurd (cc e)) (λ x y q r. sub_case at (left_wanted o.Sub w (size_in a) (size_in b)) z (interval g s z a) (interval g s z b) (is_number a) (is_number b) x y p.0 q r)
   term_ok (bin o.Mul a b at) p z w = runs_good o.Mul at (left_wanted o.Mul w (size_in a) (size_in b)) z (product z (interval g s z a) (interval g s z b)) (interval g s z a) (interval g s z b) (is_number a) (is_number b) (means a).run (means b).run (term_ok a p.1 z) (term_ok b p.2 z) (λ x q e. absurd (cc e)) (λ x y q r. mul_case at (left_wanted o.Mul w (size_in a) (size_in b)) z (interval g s z a) (interval g s z b) (is_number a) (is_number b) x y p.0 q r)
   term_ok (bin o.Div a b at) p z w = runs_good o.Div at (left_wanted o.Div w (size_in a) (size_in b)) z (quotient z (interval g s z a) (interval g s z b)) (interval g s z a) (interval g s z b) (is_number a) (is_number b) (means a).run (means b).run (term_ok a p.1 z) (term_ok b p.2 z) (λ x q e. absurd (cc e)) (λ x y q r. div_case at (left_wanted o.Div w (size_in a) (size_in b)) z (interval g s z a) (interval g s z b) (is_number a) (is_number b) x y p.0 q r)
-  term_ok (bin o.Rem a b at) p z w = runs_good o.Rem at (left_wanted o.Rem w (size_in a) (size_in b)) z (remainder z (interval g s z a) (interval g s z b)) (interval g s z a) (interval g s z b) (is_number a) (is_number b) (means a).run (means b).run (term_ok a p.1 z) (term_ok b p.2 z) (λ x q e. absurd (cc e)) (λ x y q r. rem_case at (left_wanted o.Rem w (size_in a) (size_in b)) z (interval g s z a) (interval g s z b) (is_number a) (is_number b) x y p.0 q r)
+  term_ok (bin o.Rem a b at) p z w = runs_good o.Rem at (left_wanted o.Rem w (size_in a) (size_in b)) z (remainder z (interval g s z b)) (interval g s z a) (interval g s z b) (is_number a) (is_number b) (means a).run (means b).run (term_ok a p.1 z) (term_ok b p.2 z) (λ x q e. absurd (cc e)) (λ x y q r. rem_case at (left_wanted o.Rem w (size_in a) (size_in b)) z (interval g s z a) (interval g s z b) (is_number a) (is_number b) x y p.0 q r)
   term_ok (bin o.DivS a b at) p z w = runs_good o.DivS at (left_wanted o.DivS w (size_in a) (size_in b)) z (each_word z) (interval g s z a) (interval g s z b) (is_number a) (is_number b) (means a).run (means b).run (term_ok a p.1 z) (term_ok b p.2 z) (λ x q e. absurd (cc e)) (λ x y q r. plain_case o.DivS at (left_wanted o.DivS w (size_in a) (size_in b)) z (interval g s z a) (interval g s z b) (is_number a) (is_number b) x y refl p.0 q r)
   term_ok (bin o.RemS a b at) p z w = runs_good o.RemS at (left_wanted o.RemS w (size_in a) (size_in b)) z (each_word z) (interval g s z a) (interval g s z b) (is_number a) (is_number b) (means a).run (means b).run (term_ok a p.1 z) (term_ok b p.2 z) (λ x q e. absurd (cc e)) (λ x y q r. plain_case o.RemS at (left_wanted o.RemS w (size_in a) (size_in b)) z (interval g s z a) (interval g s z b) (is_number a) (is_number b) x y refl p.0 q r)

@@ -6,13 +6,20 @@ use Rattle.x64_insn.specs.Size.TheVariants.{S64}
 use Rattle.x64_insn.specs.Sizes.{modulus}
 use Rattle.x64_insn.specs.Words.{residue, carried}
 use Rattle.x64_insn.specs.Memory.{loaded}
+use Rattle.jz_tree.specs.declared.expr.BinOp.{BinOp}
+use Rattle.jz_tree.specs.declared.expr.Expr.{Expr}
+use Rattle.jz_tree.specs.declared.expr.Var.{Var}
+use Rattle.jz_tree.specs.declared.stmt.Lval.TheVariants as lval
 use Rattle.jz_runs.specs.Rules.{stuck, went}
+use Rattle.jz_meaning.specs.declared.access.Kind.TheVariants as kind
+use Rattle.jz_meaning.specs.Assignments.{whole_of}
 use Rattle.jz_meaning.specs.Attempts.{Evaluation}
 use Rattle.jz_meaning.specs.States.{Value, word, boolean, integer, Key, Store, State}
 use Rattle.jz_meaning.specs.Operators.{is_shift}
-use Rattle.jz_meaning.specs.Values.{key_of, cell_key, size_of, left_wanted, right_wanted}
-use Rattle.jz_terms.specs.Terms.{Term, num, truth, var, cell, load, neg, inv, cast, bin, means, size_in}
-use Rattle.jz_facts.specs.Facts.{Fact, Set, Cell, AtLeast, AtMost, Under, Is, Multiple, Facts, Interval, Start, Given, hi_of}
+use Rattle.jz_meaning.specs.Values.{key_of, cell_key, ref_of, size_of, left_wanted, right_wanted}
+use Rattle.jz_terms.specs.Terms.{Term, num, truth, var, cell, load, neg, inv, cast, bin, term_of, means, size_in}
+use Rattle.jz_facts.specs.Facts.{Fact, Set, Cell, AtLeast, AtMost, Under, Is, Multiple, Facts, Start, Given, hi_of}
+use Rattle.jz_intervals.specs.declared.interval.Interval.{Interval}
 use Rattle.jz_facts.specs.Intervals.{size_or_64}
 
 -- ---- one fact
@@ -121,3 +128,19 @@ AreSized st w (bin op a b at) =
     × (is_shift op ≡ false → Yields (HasSize (size_or_64 v)) ((means a).run v st))
     × (is_shift op ≡ false
       → Yields (HasSize (size_or_64 v)) ((means b).run (right_wanted op v) st))
+
+-- the right side of an assignment to a variable, and the variable, are in order: what is expanded
+-- has no inline variable, and a variable has the size of its declaration
+pub record IsAssigned (sizes : Key → Option Size) (x : Var) (o : Option BinOp) (e : Expr) :
+    Type 0 where
+  pub plain :
+      (whole : Expr) → whole_of (Some (lval.Var x)) o e ≡ Some whole
+      → IsPlain sizes (term_of whole)
+  pub sized : (y : Size) → (ref_of x).kind ≡ kind.Word y → sizes (key_of (ref_of x)) ≡ Some y
+  pub no_number : (ref_of x).kind ≡ kind.Int → ⊥
+
+-- a word is a multiple of m, and so is a number in the place of any word; it is no flag
+abbrev pub MultipleWord : ℕ → Value → Type 0
+MultipleWord m (word s a) = a % m ≡ 0
+MultipleWord m (integer j) = (u : Size) → residue u j % m ≡ 0
+MultipleWord m (boolean c) = ⊥

@@ -1,8 +1,10 @@
 -- Facts over the scalars and the stack arrays of an expanded function, and what is given of its
 -- parameters.
-use Rattle.std.specs.Prelude.{ℕ, ◌-◌, ◌^◌, ◌%◌, ◌+◌, nat_le, ◌==◌, Bool, false, ◌&&◌, ◌||◌, List, [], ◌∷◌, ◌++◌, Option, Some, None, min, max, if◌then◌else◌}
+use Rattle.std.specs.Prelude.{ℕ, ◌%◌, nat_le, ◌==◌, Bool, false, ◌&&◌, ◌||◌, List, [], ◌∷◌, Option, Some, None, min, if◌then◌else◌}
 use Rattle.x64_insn.specs.Size.{Size}
-use Rattle.x64_insn.specs.Sizes.{modulus}
+use Rattle.jz_intervals.specs.declared.interval.Interval.{Interval}
+use Rattle.jz_intervals.specs.Intervals.{greatest_word}
+pub use Rattle.jz_intervals.specs.Constants.{is_among, greatest, least}
 use Rattle.jz_meaning.specs.States.{Key, same_key}
 use Rattle.jz_flow.specs.Sets as sets
 
@@ -33,11 +35,6 @@ subject (Under v x) = v
 subject (Is v x) = v
 subject (Multiple v m) = v
 
--- the numbers from lo to hi
-pub record Interval : Type 0 where
-  pub lo : ℕ
-  pub hi : ℕ
-
 -- a parameter, with the range and the alignment that its annotations state
 pub record Start : Type 0 where
   pub key : Key
@@ -58,43 +55,9 @@ pub record Given : Type 0 where
   pub params : List Start
   pub regions : List Region
 
--- ---- constants
-
-abbrev pub greatest_word : Size → ℕ
-greatest_word z = modulus z - 1
-
--- a constant, and it plus and minus 1, as far as they lie in 0 .. 2^64 - 1
-abbrev pub around : ℕ → List ℕ
-around c =
-    (if nat_le 1 c then (c - 1) ∷ [] else [])
-    ++ (if nat_le c (2 ^ 64 - 1) then c ∷ [] else [])
-    ++ (if nat_le (c + 1) (2 ^ 64 - 1) then (c + 1) ∷ [] else [])
-
-abbrev pub all_around : List ℕ → List ℕ
-all_around [] = []
-all_around (c ∷ cs) = around c ++ all_around cs
-
--- of the constants of a function and of its annotations
-abbrev pub constants : List ℕ → List ℕ
-constants cs =
-    0 ∷ 1 ∷ (2 ^ 8 - 1) ∷ (2 ^ 16 - 1) ∷ (2 ^ 32 - 1) ∷ (2 ^ 64 - 1) ∷ all_around cs
-
-abbrev pub is_among : ℕ → List ℕ → Bool
-is_among c [] = false
-is_among c (k ∷ ks) = (c == k) || is_among c ks
-
 -- the numbers of which facts say that something is a multiple
 abbrev pub multiples : List ℕ
 multiples = 2 ∷ 4 ∷ 8 ∷ []
-
--- the greatest of these numbers of which this is so, else 0; the least, else this one
-abbrev pub greatest : (ℕ → Bool) → List ℕ → ℕ
-greatest p [] = 0
-greatest p (c ∷ cs) = if p c then max c (greatest p cs) else greatest p cs
-
-abbrev pub least : (ℕ → Bool) → ℕ → List ℕ → ℕ
-least p m [] = m
-least p m (c ∷ cs) = if p c then min c (least p m cs) else least p m cs
 
 -- ---- parameters
 

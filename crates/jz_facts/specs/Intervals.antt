@@ -1,5 +1,5 @@
 -- The interval of a term, and whether it is a multiple of a number.
-use Rattle.std.specs.Prelude.{ℕ, pos, ◌+◌, ◌-◌, ◌*◌, ◌/◌, ◌%◌, ◌^◌, nat_le, ◌==◌, Bool, true, false, ◌&&◌, ◌||◌, List, [], ◌∷◌, Option, Some, None, min, max, if◌then◌else◌}
+use Rattle.std.specs.Prelude.{ℕ, pos, ◌-◌, ◌%◌, ◌^◌, ◌==◌, Bool, true, false, ◌&&◌, ◌||◌, List, [], ◌∷◌, Option, Some, None, min, if◌then◌else◌}
 use Rattle.x64_insn.specs.Size.{Size}
 use Rattle.x64_insn.specs.Size.TheVariants.{S64}
 use Rattle.x64_insn.specs.Words.{residue, modulo}
@@ -7,40 +7,9 @@ use Rattle.jz_tree.specs.declared.expr.BinOp.TheVariants as o
 use Rattle.jz_meaning.specs.States.{Key}
 use Rattle.jz_meaning.specs.Values.{key_of}
 use Rattle.jz_terms.specs.Terms.{Term, num, truth, var, cell, load, neg, inv, cast, bin, size_in}
-use Rattle.jz_facts.specs.Facts.{AtLeast, AtMost, Under, Multiple, Facts, Interval, Start, Given, greatest_word, greatest, least, hi_of, multiples}
-
--- ---- the rows, on intervals of words of a size
-
--- each word
-abbrev pub each_word : Size → Interval
-each_word z = record { lo = 0; hi = greatest_word z }
-
-abbrev pub only : ℕ → Interval
-only n = record { lo = n; hi = n }
-
-abbrev pub where_so : Bool → Size → ℕ → ℕ → Interval
-where_so c z lo hi = if c then record { lo = lo; hi = hi } else each_word z
-
-abbrev pub sum : Size → Interval → Interval → Interval
-sum z a b = where_so (nat_le (a.hi + b.hi) (greatest_word z)) z (a.lo + b.lo) (a.hi + b.hi)
-
-abbrev pub difference : Size → Interval → Interval → Interval
-difference z a b = where_so (nat_le b.hi a.lo) z (a.lo - b.hi) (a.hi - b.lo)
-
-abbrev pub product : Size → Interval → Interval → Interval
-product z a b = where_so (nat_le (a.hi * b.hi) (greatest_word z)) z (a.lo * b.lo) (a.hi * b.hi)
-
-abbrev pub mask : Interval → Interval → Interval
-mask a b = record { lo = 0; hi = min a.hi b.hi }
-
-abbrev pub quotient : Size → Interval → Interval → Interval
-quotient z a b = where_so (nat_le 1 b.lo) z (a.lo / max b.hi 1) (a.hi / b.lo)
-
-abbrev pub remainder : Size → Interval → Interval → Interval
-remainder z a b = where_so (nat_le 1 b.lo) z 0 (b.hi - 1)
-
-abbrev pub shifted_by : ℕ → Interval → Interval
-shifted_by n a = record { lo = a.lo / 2 ^ n; hi = a.hi / 2 ^ n }
+use Rattle.jz_intervals.specs.declared.interval.Interval.{Interval}
+use Rattle.jz_intervals.specs.Intervals.{greatest_word, each_word, only, sum, difference, product, mask, quotient, remainder, shifted_by, fitted}
+use Rattle.jz_facts.specs.Facts.{AtLeast, AtMost, Under, Multiple, Facts, Start, Given, greatest, least, hi_of, multiples}
 
 abbrev pub size_or_64 : Option Size → Size
 size_or_64 None = S64
@@ -70,15 +39,13 @@ module _ (g : Given) (s : Facts) where
   interval z (neg a at) = each_word z
   interval z (inv a at) = each_word z
   interval z (cast y true a at) = each_word z
-  interval z (cast y false a at) =
-      let i = interval (size_or_64 (size_in a)) a in
-      where_so (nat_le i.hi (greatest_word z)) z i.lo i.hi
+  interval z (cast y false a at) = fitted z (interval (size_or_64 (size_in a)) a)
   interval z (bin o.Add a b at) = sum z (interval z a) (interval z b)
   interval z (bin o.Sub a b at) = difference z (interval z a) (interval z b)
   interval z (bin o.Mul a b at) = product z (interval z a) (interval z b)
   interval z (bin o.And a b at) = mask (interval z a) (interval z b)
   interval z (bin o.Div a b at) = quotient z (interval z a) (interval z b)
-  interval z (bin o.Rem a b at) = remainder z (interval z a) (interval z b)
+  interval z (bin o.Rem a b at) = remainder z (interval z b)
   interval z (bin o.Shr a (num (pos n) t) at) = shifted_by n (interval z a)
   interval z (bin op a b at) = each_word z
 

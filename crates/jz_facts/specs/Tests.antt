@@ -100,9 +100,9 @@ module _ (g : Given) where
   tested c z s = s and adds s (term_of c.cond) z
 
   -- `while (true)` has behind it the facts at its head
+  abbrev pub leaving : Condition → Term → Facts → Facts → Facts
+  leaving c (truth true at) h s = h
+  leaving c t h s = tested c false s
+
   abbrev pub leaves : Condition → Facts → Facts → Facts
-  leaves c h s = by (term_of c.cond)
-    where
-      by : Term → Facts
-      by (truth true at) = h
-      by t = tested c false s
+  leaves c h s = leaving c (term_of c.cond) h s
