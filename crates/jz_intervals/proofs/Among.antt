@@ -11,4 +11,4 @@ among_any c [] = refl
 among_any c (k ∷ ks) = ap (λ b. (c == k) || b) (among_any c ks)
 
 pub among_permutation : (xs ys : List ℕ) → IsPermutation xs ys → (c : ℕ) → is_among c ys ≡ is_among c xs
-among_permutation xs ys h c = among_any c ys ∙ list_any-IsPermutation (λ k. c == k) xs ys h ∙ sym (among_any c xs)
+among_permutation xs ys h c = among_any c ys ∙ sym (list_any-IsPermutation (λ k. c == k) xs ys h) ∙ sym (among_any c xs)

@@ -7,6 +7,9 @@ use Rattle.std.proofs.lemmas.List.Sorted.{searched}
 use Rattle.jz_intervals.specs.Constants.{greatest, least}
 use Rattle.jz_intervals.proofs.Nearest.{greatest_found, greatest_none, greatest_before, least_found, least_none, least_at}
 
+one_less : (i : ℕ) → suc i - 1 ≡ i
+one_less i = omega arith
+
 module _ (cs : List ℕ) (n : ℕ) (r : Result ℕ ℕ) (h : IsBinarySearchResult (λ y. nat_cmp y n) cs r) (up : IsNonDecreasing cs) where
   ascends : (i j : ℕ) → i ≤ j → j < length cs → get_or cs i 0 ≤ get_or cs j 0
   ascends i j l m = up i j 0 l m
@@ -29,7 +32,7 @@ module _ (cs : List ℕ) (n : ℕ) (r : Result ℕ ℕ) (h : IsBinarySearchResul
   pub greatest_at : (i : ℕ) → r ≡ Err i → i ≢ 0 → get_or cs (i - 1) 0 ≡ greatest (λ c. nat_le c n) cs
   unfolding Here
   greatest_at zero e z = absurd (z refl)
-  greatest_at (suc i) e z = let p : Here (Err (suc i)) = subst Here e here in greatest_before cs n (suc i) p.0 p.1 p.2 i refl ascends
+  greatest_at (suc i) e z = let p : Here (Err (suc i)) = subst Here e here in subst (λ j. get_or cs j 0 ≡ greatest (λ c. nat_le c n) cs) (sym (one_less i)) (greatest_before cs n (suc i) p.0 p.1 p.2 i refl ascends)
 
   pub least_ok : (m k : ℕ) → r ≡ Ok k → min n m ≡ least (λ c. nat_le n c) m cs
   unfolding Here
