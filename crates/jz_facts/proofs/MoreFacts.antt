@@ -103,7 +103,7 @@ module _ (g : Given) (s t : Facts) (h : Below s t) where
 
   if_so_more : (c : Option Expr) (a b : Facts) → Below a b → Below (if_so c s a) (if_so c t b)
   if_so_more None a b k = k
-  if_so_more (Some c) a b k f q = and_more (a f) (s f) (b f) (t f) (k f) (h f) q
+  if_so_more (Some c) a b k = λ f q. and_more (a f) (s f) (b f) (t f) (k f) (h f) q
 
   assigned_more : (to : List Lval) (e c : Option Expr) → Below (assigned g to e c s) (assigned g to e c t)
   assigned_more to None c = h

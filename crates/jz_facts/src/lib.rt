@@ -2,6 +2,8 @@
 //! and the intervals of expressions.
 #![tactic(auto)]
 
+mod fact;
 mod laws;
 
+pub use fact::{Fact, entails, same_variable};
 pub use laws::more_facts_give_more;
