@@ -1,9 +1,8 @@
 -- The conditions of small programs, worked by hand from the rules.
-use Rattle.std.proofs.Common.{◌≡◌, ℕ, List, [], ◌∷◌, Option, Some, None, Bool, true, false, refl}
-use Rattle.std.specs.Prelude.{ℤ, pos, negsuc, ◌||◌, ◌&&◌, ◌==◌}
+use Rattle.std.proofs.Common.{◌≡◌, ℕ, [], ◌∷◌, Option, Some, None, true, false, refl}
+use Rattle.std.specs.Prelude.{pos, negsuc, ◌||◌, ◌&&◌, ◌==◌}
 use Rattle.jz_tree.specs.Span.{Span}
-use Rattle.x64_insn.specs.Size.{Size}
-use Rattle.x64_insn.specs.Size.TheVariants.{S8, S32, S64}
+use Rattle.x64_insn.specs.Size.TheVariants.{S8, S64}
 use Rattle.jz_intervals.specs.declared.interval.Interval.{Interval}
 use Rattle.jz_intervals.specs.Constants.{constants}
 use Rattle.jz_tree.specs.declared.expr.BinOp.TheVariants as o
@@ -12,9 +11,9 @@ use Rattle.jz_meaning.specs.declared.value.Why.TheVariants.{Bounds, Address, Ali
 use Rattle.jz_meaning.specs.States.{same_key}
 use Rattle.jz_meaning.specs.Values.{Ref, key_of}
 use Rattle.jz_terms.specs.Terms.{Term, num, var, cell, load, bin}
-use Rattle.jz_facts.specs.Facts.{Fact, Set, Cell, Facts, Start, Region, Given, at_entry}
+use Rattle.jz_facts.specs.Facts.{Cell, Facts, Start, Given, at_entry}
 use Rattle.jz_facts.specs.Tests.{adds, ◌and◌}
-use Rattle.jz_alarms.specs.Conditions.{Alarm, Target, memory, division, named, asks, asks_index}
+use Rattle.jz_alarms.specs.Conditions.{Alarm, memory, division, named, asks, asks_index}
 
 abbrev here : Span
 here = record { line = 1; col = 1 }
@@ -49,7 +48,6 @@ start r range align = record { key = key_of r; size = S64; range = range; align 
 
 abbrev number : ℕ → Term
 number k = num (pos k) here
-
 
 -- ---- an index below 8
 

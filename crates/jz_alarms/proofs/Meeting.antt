@@ -27,13 +27,10 @@ use Rattle.jz_intervals.specs.declared.interval.Interval.{Interval}
 use Rattle.jz_facts.specs.Facts.{Facts, Given}
 use Rattle.jz_facts.specs.Intervals.{size_or_64, interval}
 use Rattle.jz_alarms.specs.Conditions.{Alarm, Target, named, division, or_else, unless, bounds_of, asks_index, divides, asks}
+use Rattle.jz_alarms.specs.AlarmLaws.{Calm}
 use Rattle.jz_fact_laws.specs.Saying.{Holds, Yields, In, HasSize, is_number, IsPlain, AreSized}
 use Rattle.jz_fact_laws.proofs.Fitting.{yields_defined}
 use Rattle.jz_fact_laws.proofs.Ranges.{Good, term_ok}
-
-abbrev pub Calm : {A : Type 0} → Evaluation A → Type 0
-Calm (stuck k) = (k.why ≢ Bounds) × (k.why ≢ Divide)
-Calm (went ns x) = Unit {0}
 
 calm_first : {A : Type 0} (ns : List ℕ) (e : Evaluation A) → Calm e → Calm (numbers_first ns e)
 calm_first ns (stuck k) h = h

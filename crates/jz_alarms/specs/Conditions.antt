@@ -1,6 +1,6 @@
 -- The first condition that the facts don't give, in the order of evaluation; at one access in the
 -- order Bounds, Address, Align, Init.
-use Rattle.std.specs.Prelude.{ℕ, zero, suc, ℤ, pos, ◌+ℤ◌, ◌-ℤ◌, int_le, ◌+◌, ◌*◌, ◌==◌, nat_le, nat_lt, Bool, true, false, ◌&&◌, ◌||◌, List, [], ◌∷◌, ◌++◌, Option, Some, None, if◌then◌else◌}
+use Rattle.std.specs.Prelude.{ℕ, zero, suc, ℤ, pos, ◌+ℤ◌, ◌-ℤ◌, int_le, ◌+◌, ◌*◌, nat_le, nat_lt, Bool, true, false, ◌&&◌, ◌||◌, List, [], ◌∷◌, ◌++◌, Option, Some, None, if◌then◌else◌}
 use Rattle.std.specs.Option.{option_or}
 use Rattle.jz_tree.specs.Span.{Span}
 use Rattle.x64_insn.specs.Size.{Size}
@@ -59,10 +59,10 @@ pub record Sum : Type 0 where
 
 abbrev pub joined : Option Sum → Option Sum → Option Sum
 joined (Some a) (Some b) = Some (record {
-    plain = a.plain ++ b.plain;
-    scaled = a.scaled ++ b.scaled;
-    more = a.more +ℤ b.more;
-  })
+  plain = a.plain ++ b.plain;
+  scaled = a.scaled ++ b.scaled;
+  more = a.more +ℤ b.more;
+})
 joined a b = None
 
 abbrev pub taken : Option Sum → Term → Option Sum

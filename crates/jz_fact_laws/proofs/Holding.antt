@@ -1,15 +1,13 @@
 -- The laws of facts and runs.
-use Rattle.std.proofs.Common.{◌≡◌, ℕ, Option, Bool, true, sym, subst}
-use Rattle.jz_tree.specs.declared.expr.Expr.{Expr}
+use Rattle.std.proofs.Common.{Bool, sym, subst}
 use Rattle.x64_insn.specs.Size.{Size}
 use Rattle.jz_intervals.specs.declared.interval.Interval.{Interval}
-use Rattle.jz_meaning.specs.States.{Value, word, boolean, integer, Key, State}
+use Rattle.jz_meaning.specs.States.{Value, word, boolean, integer}
 use Rattle.jz_meaning.specs.Values.{Meaning}
 use Rattle.jz_terms.specs.Terms.{term_of, means}
 use Rattle.jz_terms.proofs.Bridge.{term_so}
-use Rattle.jz_facts.specs.Facts.{Facts, Given}
 use Rattle.jz_facts.specs.Intervals.{interval}
-use Rattle.jz_fact_laws.specs.Saying.{Holds, Yields, IsWithin, MultipleWord, is_number}
+use Rattle.jz_fact_laws.specs.Saying.{Yields, IsWithin, MultipleWord, is_number}
 use Rattle.jz_fact_laws.specs.FactLaws.{IntervalsHold, MultiplesHold, AssignmentsHold, TestsHold}
 use Rattle.jz_fact_laws.proofs.Fitting.{yields_all}
 use Rattle.jz_fact_laws.proofs.Ranges.{Good, term_ok}

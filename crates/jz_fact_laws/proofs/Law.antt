@@ -1,5 +1,5 @@
 -- The law of one operation: an assignment to a variable, and a test.
-use Rattle.std.proofs.Common.{◌≡◌, ◌≢◌, ◌⊎◌, inl, inr, ℕ, [], ◌∷◌, Option, Some, None, Bool, true, refl, ap, sym, subst}
+use Rattle.std.proofs.Common.{◌≡◌, ◌⊎◌, inl, inr, ℕ, [], ◌∷◌, Option, Some, None, Bool, true, refl, ap, sym, subst}
 use Rattle.std.specs.Option.{option_or}
 use Rattle.jz_tree.specs.Span.{Span}
 use Rattle.x64_insn.specs.Size.{Size}
@@ -8,7 +8,6 @@ use Rattle.jz_tree.specs.declared.expr.Expr.{Expr}
 use Rattle.jz_tree.specs.declared.expr.Var.{Var}
 use Rattle.jz_tree.specs.declared.stmt.Lval.TheVariants as lval
 use Rattle.jz_runs.specs.Rules.{stuck, went}
-use Rattle.jz_meaning.specs.declared.access.Kind.TheVariants as kind
 use Rattle.jz_meaning.specs.Attempts.{Evaluation, and_then}
 use Rattle.jz_meaning.specs.States.{Value, word, boolean, integer, Key, State}
 use Rattle.jz_meaning.specs.Values.{key_of, ref_of, own_size, evaluated, size_of, Meaning}

@@ -1,5 +1,5 @@
 -- A term that is a multiple of 2, 4 or 8 by the facts has such a value.
-use Rattle.std.proofs.Common.{◌≡◌, ◌⊎◌, inl, inr, ℕ, ◌+◌, ◌-◌, ◌*◌, ◌%◌, ◌^◌, List, [], ◌∷◌, Option, Some, None, Bool, true, false, refl, ap, sym, ◌∙◌, subst, arith, rules, if◌then◌else◌}
+use Rattle.std.proofs.Common.{◌≡◌, ◌⊎◌, inl, inr, ℕ, ◌+◌, ◌-◌, ◌%◌, ◌^◌, List, [], ◌∷◌, Option, Some, None, Bool, true, false, refl, ap, sym, ◌∙◌, subst, arith, rules}
 use Rattle.std.specs.Prelude.{◌==◌, ◌&&◌, ◌||◌, ℤ, pos, negsuc, bit_and}
 use Rattle.std.specs.Int.Bits.{and_zero_l}
 use Rattle.std.proofs.lemmas.Nat.{and_mod, and_comm}
@@ -25,7 +25,7 @@ use Rattle.jz_fact_laws.specs.Saying.{HasWord, Holds, Yields, MultipleWord, is_n
 use Rattle.jz_fact_laws.proofs.Fitting.{yields_then, yields_defined, yields_if, yields_all}
 use Rattle.jz_fact_laws.proofs.Ranges.{Good, term_ok}
 use Rattle.jz_fact_laws.proofs.Setting.{MultipleValue}
-use Rattle.jz_fact_laws.proofs.Multiples.{three, product_multiple_right, number_multiple, difference_multiple, shorter}
+use Rattle.jz_fact_laws.proofs.Multiples.{three, product_multiple_right, number_multiple, difference_multiple}
 use Rattle.jz_fact_laws.proofs.MultipleValues.{NotNumbers, sum_value, product_value}
 
 either : (a b : Bool) → (a || b) ≡ true → (a ≡ true) ⊎ (b ≡ true)

@@ -1,7 +1,6 @@
 -- Where a sum or a difference of multiples is asked, its value is one.
 use Rattle.std.proofs.Common.{◌≡◌, ℕ, ◌+◌, ◌%◌, [], ◌∷◌, true, subst, arith}
 use Rattle.jz_tree.specs.Span.{Span}
-use Rattle.x64_insn.specs.Size.{Size}
 use Rattle.x64_insn.specs.Sizes.{modulus}
 use Rattle.x64_insn.specs.Words.{residue}
 use Rattle.jz_tree.specs.declared.expr.BinOp.TheVariants as o

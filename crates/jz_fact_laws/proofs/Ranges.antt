@@ -1,9 +1,9 @@
 -- The interval of a term holds of its value.
-use Rattle.std.proofs.Common.{◌≡◌, ℕ, zero, suc, ◌+◌, ◌-◌, ◌*◌, ◌/◌, ◌%◌, ◌^◌, ◌<◌, ◌≤◌, List, [], ◌∷◌, Option, Some, None, Bool, true, false, refl, ap, sym, ◌∙◌, subst, arith, rules, min, max, if◌then◌else◌}
+use Rattle.std.proofs.Common.{◌≡◌, ℕ, ◌+◌, ◌-◌, ◌*◌, ◌/◌, ◌%◌, ◌^◌, ◌<◌, ◌≤◌, List, [], ◌∷◌, Option, Some, None, Bool, true, false, refl, ap, sym, ◌∙◌, subst, arith, rules, min, max, if◌then◌else◌}
 use Rattle.std.specs.Prelude.{◌==◌, nat_le, option_map, ℤ, pos, negsuc, not, ◌&&◌, ◌||◌, bit_and}
 use Rattle.std.specs.Option.{option_or}
-use Rattle.std.proofs.Math.Nat.{div-le_self, div-mul-le_self, mod-lt, mod-le, mod-eq_of_lt, add-mod_right, mul-le-mul_left, mul-le-mul}
-use Rattle.std.proofs.lemmas.Nat.{and_le_l, and_le_r, le-div}
+use Rattle.std.proofs.Math.Nat.{div-le_self, mod-lt, mod-le, mod-eq_of_lt, add-mod_right, mul-le-mul}
+use Rattle.std.proofs.lemmas.Nat.{and_le_l, and_le_r}
 use Rattle.jz_tree.specs.Span.{Span}
 use Rattle.x64_insn.specs.Size.{Size}
 use Rattle.x64_insn.specs.Size.TheVariants.{S8, S16, S32, S64}
@@ -21,11 +21,11 @@ use Rattle.jz_meaning.specs.Operators.{same_size, on_words, shifted_word, by_fla
 use Rattle.jz_meaning.specs.Values.{key_of, cell_key, size_of, left_wanted, right_wanted, with_right, run_binary, index_at, cell_value, load_at, load_word, address_at, accessed, is_aligned}
 use Rattle.jz_meaning.proofs.Widths.{equal_sizes}
 use Rattle.jz_terms.specs.Terms.{Term, num, truth, var, cell, load, neg, inv, cast, bin, means, size_in}
-use Rattle.jz_facts.specs.Facts.{Fact, AtLeast, AtMost, Under, Facts, Start, Given, hi_of, greatest, least}
+use Rattle.jz_facts.specs.Facts.{AtLeast, AtMost, Under, Facts, Start, Given, hi_of, greatest, least}
 use Rattle.jz_intervals.specs.declared.interval.Interval.{Interval}
 use Rattle.jz_intervals.specs.Intervals.{greatest_word, each_word, where_so, sum, difference, product, mask, quotient, remainder, shifted_by, fitted}
 use Rattle.jz_facts.specs.Intervals.{size_or_64, under_most, of_variable, interval}
-use Rattle.jz_fact_laws.specs.Saying.{HasWord, Says, InRanges, Fits, Holds, Yields, In, HasSize, is_number, IsSized, IsPlain}
+use Rattle.jz_fact_laws.specs.Saying.{HasWord, InRanges, Fits, Holds, Yields, In, HasSize, is_number, IsSized, IsPlain}
 use Rattle.jz_integers.specs.Integers as numbers
 use Rattle.jz_facts.proofs.Narrowing.{div_more, power_some}
 use Rattle.jz_fact_laws.proofs.Fitting.{yields_then, yields_defined, yields_if, yields_all, below_all, words_fit, flag_fits, count_fits, bools_fit, settled_is}

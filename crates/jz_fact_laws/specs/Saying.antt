@@ -1,5 +1,5 @@
 -- What facts say of a state of a run, where the parameters had these values at entry.
-use Rattle.std.specs.Prelude.{ℕ, ◌≡◌, ◌≤◌, ◌<◌, ◌%◌, ◌^◌, ◌&&◌, Bool, true, false, List, [], ◌∷◌, Option, Some, None, IsSome}
+use Rattle.std.specs.Prelude.{ℕ, ◌≡◌, ◌≤◌, ◌<◌, ◌%◌, ◌^◌, ◌&&◌, Bool, true, false, List, [], ◌∷◌, Option, Some, IsSome}
 use Rattle.std.specs.Option.{option_or}
 use Rattle.x64_insn.specs.Size.{Size}
 use Rattle.x64_insn.specs.Size.TheVariants.{S64}
@@ -127,7 +127,7 @@ AreSized st w (bin op a b at) =
     AreSized st v a × AreSized st (right_wanted op v) b
     × (is_shift op ≡ false → Yields (HasSize (size_or_64 v)) ((means a).run v st))
     × (is_shift op ≡ false
-      → Yields (HasSize (size_or_64 v)) ((means b).run (right_wanted op v) st))
+    → Yields (HasSize (size_or_64 v)) ((means b).run (right_wanted op v) st))
 
 -- the right side of an assignment to a variable, and the variable, are in order: what is expanded
 -- has no inline variable, and a variable has the size of its declaration

@@ -1,18 +1,18 @@
 -- Intervals, multiples, what assignments and tests add: small cases, worked by hand from the rules.
 use Rattle.std.proofs.Common.{◌≡◌, ℕ, List, [], ◌∷◌, Option, Some, None, Bool, true, false, refl}
-use Rattle.std.specs.Prelude.{ℤ, pos, negsuc, not, ◌&&◌, ◌||◌}
+use Rattle.std.specs.Prelude.{pos, negsuc}
 use Rattle.jz_tree.specs.Span.{Span}
 use Rattle.x64_insn.specs.Size.{Size}
-use Rattle.x64_insn.specs.Size.TheVariants.{S8, S16, S32, S64}
+use Rattle.x64_insn.specs.Size.TheVariants.{S8, S64}
 use Rattle.jz_intervals.specs.declared.interval.Interval.{Interval}
 use Rattle.jz_intervals.specs.Constants.{constants}
 use Rattle.jz_tree.specs.declared.expr.BinOp.{BinOp}
 use Rattle.jz_tree.specs.declared.expr.BinOp.TheVariants as o
 use Rattle.jz_meaning.specs.declared.access.Kind.TheVariants as kind
 use Rattle.jz_meaning.specs.Values.{Ref, key_of}
-use Rattle.jz_terms.specs.Terms.{Term, num, var, cell, load, neg, inv, cast, bin}
-use Rattle.jz_facts.specs.Facts.{Fact, Set, Cell, AtLeast, AtMost, Under, Is, Multiple, Facts, Start, Given, at_entry, entails}
-use Rattle.jz_facts.specs.Intervals.{interval, is_multiple, multiple}
+use Rattle.jz_terms.specs.Terms.{Term, num, var, load, neg, inv, cast, bin}
+use Rattle.jz_facts.specs.Facts.{Set, AtLeast, AtMost, Under, Is, Multiple, Facts, Start, Given, at_entry, entails}
+use Rattle.jz_facts.specs.Intervals.{interval, is_multiple}
 use Rattle.jz_facts.specs.Holding.{the_word, some_value, none, gained, renewed, instruction_gets}
 use Rattle.jz_facts.specs.Tests.{adds, ◌and◌}
 use Rattle.jz_tree.specs.declared.intrinsic.Intrinsic.TheVariants as name

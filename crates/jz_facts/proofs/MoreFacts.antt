@@ -1,6 +1,6 @@
 -- Of more facts before an operation, a mark or a test there are more behind it.
-use Rattle.std.proofs.Common.{◌≡◌, ℕ, ◌+◌, ◌-◌, ◌≤◌, [], List, ◌∷◌, Option, Some, None, Bool, true, false, refl, arith, if◌then◌else◌}
-use Rattle.std.specs.Prelude.{◌==◌, nat_le, not, ◌&&◌, ◌||◌}
+use Rattle.std.proofs.Common.{◌≡◌, ℕ, ◌+◌, ◌-◌, ◌≤◌, [], List, ◌∷◌, Option, Some, None, Bool, true, false, arith, if◌then◌else◌}
+use Rattle.std.specs.Prelude.{nat_le, not, ◌&&◌}
 use Rattle.std.specs.Option.{option_or}
 use Rattle.x64_insn.specs.Size.{Size}
 use Rattle.x64_insn.specs.Size.TheVariants.{S64}
@@ -8,7 +8,6 @@ use Rattle.x64_insn.specs.Words.{residue}
 use Rattle.jz_tree.specs.declared.expr.BinOp.{BinOp}
 use Rattle.jz_tree.specs.declared.expr.BinOp.TheVariants as o
 use Rattle.jz_tree.specs.declared.expr.Expr.{Expr}
-use Rattle.jz_tree.specs.declared.expr.Var.{Var}
 use Rattle.jz_tree.specs.declared.stmt.Lval.{Lval}
 use Rattle.jz_tree.specs.declared.stmt.Lval.TheVariants as lval
 use Rattle.jz_tree.specs.declared.intrinsic.Instance.{Instance}
@@ -19,13 +18,13 @@ use Rattle.jz_meaning.specs.States.{Key, same_key}
 use Rattle.jz_meaning.specs.Values.{Ref, key_of, ref_of, own_size}
 use Rattle.jz_meaning.specs.Assignments.{left_sizes, last_left, whole_of}
 use Rattle.jz_meaning.specs.Statements.{Operation, assign, instruction, unset, meaningless, Condition}
-use Rattle.jz_flow.specs.Sets.{Below, common}
+use Rattle.jz_flow.specs.Sets.{Below}
 use Rattle.jz_flow.specs.Soundness.{Monotone}
 use Rattle.jz_terms.specs.Terms.{Term, num, truth, var, cell, load, neg, inv, cast, bin, term_of, size_in}
 use Rattle.jz_facts.specs.Facts.{Fact, Set, Cell, AtLeast, AtMost, Under, Is, Multiple, Facts, subject, Given, is_among, multiples}
 use Rattle.jz_facts.specs.Intervals.{size_or_64, interval, multiple}
 use Rattle.jz_facts.specs.Holding.{renewed, is_read, copied, of_word, Gets, none, some_value, the_word, gained, same_cell, in_cell, written, all_written, results, if_so, assigned, counted, instruction_gets, instructed, is_marked, quieted, does}
-use Rattle.jz_facts.specs.Tests.{is_var, ◌and◌, at_most, at_least, under, under_what_is, is_the_same, less, less_or_same, same, not_zero, by_true, opposite, adds, tested, leaving, leaves}
+use Rattle.jz_facts.specs.Tests.{is_var, ◌and◌, at_most, at_least, under, under_what_is, is_the_same, less, less_or_same, same, by_true, opposite, adds, tested, leaving, leaves}
 use Rattle.jz_facts.specs.Along.{fact_steps}
 use Rattle.jz_facts.proofs.Narrowing.{and_more, or_more, le_more, le_less, narrow, multiple_more}
 

@@ -1,5 +1,5 @@
 -- Of more facts, intervals are narrower, and what is a multiple stays one.
-use Rattle.std.proofs.Common.{◌≡◌, ℕ, ◌+◌, ◌-◌, ◌*◌, ◌/◌, ◌%◌, ◌^◌, ◌<◌, ◌≤◌, zero, suc, List, [], ◌∷◌, Bool, true, false, true≢false, refl, sym, ◌∙◌, subst, arith, rules, min, max, if◌then◌else◌}
+use Rattle.std.proofs.Common.{◌≡◌, ℕ, ◌+◌, ◌-◌, ◌*◌, ◌/◌, ◌%◌, ◌^◌, ◌<◌, ◌≤◌, zero, suc, List, [], ◌∷◌, Bool, true, false, true≢false, refl, sym, ◌∙◌, arith, rules, min, max, if◌then◌else◌}
 use Rattle.std.specs.Prelude.{◌==◌, nat_le, ◌&&◌, ◌||◌, pos, negsuc}
 use Rattle.std.proofs.Math.Nat.{div-le_self, div-mul-le_self, mul-le-mul_left, mul-le-mul}
 use Rattle.std.proofs.lemmas.Nat.{le-div}

@@ -1,3 +1,4 @@
 pub mod Ordering
 pub mod Calm
 pub mod Holding
+pub mod OneFirst

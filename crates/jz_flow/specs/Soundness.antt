@@ -1,5 +1,5 @@
 -- What rules owe so that facts hold of runs.
-use Rattle.std.specs.Prelude.{◌≡◌, ℕ, List, Bool, false, Option, None}
+use Rattle.std.specs.Prelude.{◌≡◌, ℕ, List, Bool, false, None}
 use Rattle.jz_runs.specs.Rules.{stuck, went, Parts, Outcome, End, Cut, Stuck}
 use Rattle.jz_flow.specs.Sets.{Facts, Below}
 use Rattle.jz_flow.specs.Flow.{Steps}

@@ -41,15 +41,18 @@ pub trait Analysis {
     ghost sound: { Sound Self.steps Self.asks Self.parts Self.holds };
 }
 
-/// Of more facts before a body more hold behind it, so that one set stands behind it. Where a set
-/// stands behind a body that has no first alarm, some kept sets meet each of its conditions; and
-/// from a state in which the facts at entry hold no run is stuck where conditions are met, and at
-/// its end the facts behind the body hold.
+/// Of more facts before a body more hold behind it, so that one set stands behind it, and it has one
+/// first alarm or none. Where a set stands behind a body without an alarm, some kept sets meet each
+/// of its conditions; and from a state in which the facts at entry hold no run is stuck where
+/// conditions are met, and at its end the facts behind the body hold.
 pub fn facts_hold_along_runs<A: Analysis>()
     ensures more { (b : Tree A.Operation A.Test A.Counter A.Call) (s t x y : Facts A.Fact)
         → Below s t → After A.steps b s x → After A.steps b t y → Below x y }
     ensures one { (b : Tree A.Operation A.Test A.Counter A.Call) (s x y : Facts A.Fact)
         → After A.steps b s x → After A.steps b s y → x ≡ y }
+    ensures first { (b : Tree A.Operation A.Test A.Counter A.Call) (s : Facts A.Fact)
+        (v w : Option A.Alarm) → First A.steps A.asks b s v no_more
+        → First A.steps A.asks b s w no_more → v ≡ w }
     ensures calm { (b : Tree A.Operation A.Test A.Counter A.Call) (s x : Facts A.Fact)
         → After A.steps b s x → First A.steps A.asks b s None no_more → Meets A.steps A.asks b s x }
     ensures runs { (b : Tree A.Operation A.Test A.Counter A.Call) (n : ℕ) (m : A.State)

@@ -1,5 +1,5 @@
 -- What a search in ascending constants says of the nearest ones.
-use Rattle.std.proofs.Common.{◌≡◌, ◌≢◌, ℕ, zero, suc, ◌-◌, ◌<◌, ◌≤◌, List, length, refl, subst, sym, arith, rules, min}
+use Rattle.std.proofs.Common.{◌≡◌, ◌≢◌, ℕ, zero, suc, ◌-◌, ◌<◌, ◌≤◌, List, length, refl, subst, sym, arith, min}
 use Rattle.std.specs.Prelude.{nat_le, get_or, Result, Ok, Err, MatchResult}
 use Rattle.std.specs.List.Sorted.{IsNonDecreasing, IsBinarySearchResult}
 use Rattle.std.specs.Ordering.{nat_cmp}

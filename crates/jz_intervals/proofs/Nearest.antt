@@ -1,5 +1,5 @@
 -- The nearest of ascending numbers, by what a search in them finds.
-use Rattle.std.proofs.Common.{◌≡◌, ℕ, zero, suc, ◌<◌, ◌≤◌, List, [], ◌∷◌, length, Bool, true, false, true≢false, refl, sym, ◌∙◌, arith, rules, min, max, if◌then◌else◌}
+use Rattle.std.proofs.Common.{◌≡◌, ℕ, zero, suc, ◌<◌, ◌≤◌, List, [], ◌∷◌, length, Bool, true, false, true≢false, refl, sym, arith, rules, min, max, if◌then◌else◌}
 use Rattle.std.specs.Prelude.{nat_le, get_or}
 use Rattle.jz_intervals.specs.Constants.{greatest, least}
 

@@ -1,6 +1,7 @@
 use Rattle.jz_flow.specs.Alarms.{no_more}
 use Rattle.jz_flow.proofs.Ordering.{more, one_after}
 use Rattle.jz_flow.proofs.Calm.{calm}
+use Rattle.jz_flow.proofs.OneFirst.{one_first, none_more}
 use Rattle.jz_flow.proofs.Holding.{sound}
 use Rattle.jz_flow.proofs.laws.facts_hold_along_runs.Goals as goal
 
@@ -20,3 +21,7 @@ pub returns-clause-runs : goal.returns-clause-runs
 returns-clause-runs g c = λ b n m o s x r h i.
     sound g.A.Analysis.steps g.A.Analysis.asks g.A.Analysis.parts g.A.Analysis.holds
     g.A.Analysis.sound r s x h i
+
+pub returns-clause-first : goal.returns-clause-first
+returns-clause-first g c = λ b s v w f h.
+    one_first g.A.Analysis.steps g.A.Analysis.asks g.A.Analysis.monotone b s v w no_more none_more f h
