@@ -314,7 +314,7 @@ static RUNS: [Row; 37] = [
     },
     Row {
         words: &["jasminc", "interp", "add.jazz", "f"],
-        text: b"#[region=\"x: 8\"]\nexport fn f(reg u64 x) { }",
+        text: b"#[range=\"x: 9..1\"]\nexport fn f(reg u64 x) { }",
         status: Status::Typing,
         written: "type 8 BadAnnotation 1:1\n",
         made: 0,
