@@ -1,8 +1,7 @@
 -- A text without a colon.
-use Rattle.std.proofs.Common.{◌≡◌, ℕ, suc, ◌+◌, Bool, true, false, not, cond, ◌||◌, List, [], ◌∷◌, length, Option, Some, None, refl, sym, ap, ◌∙◌, arith, if◌then◌else◌}
+use Rattle.std.proofs.Common.{◌≡◌, ℕ, suc, ◌+◌, Bool, true, false, not, cond, ◌||◌, List, [], ◌∷◌, length, refl, ap, arith, if◌then◌else◌}
 use Rattle.std.specs.List.{list_any, position_or_len, before_first, after_first}
 use Rattle.std.specs.Option.{option_and_then}
-use Rattle.jz_items.specs.declared.item.Item.{Item}
 use Rattle.jz_items.specs.Items.{is_colon, at_address, bytes_of, in_slot, bytes_item}
 
 none_behind : (b : Bool) (n m : ℕ) (rest : Bool) → (n ≡ m → rest ≡ false) → cond (not b) (1 + n) 0 ≡ suc m → (b || rest) ≡ false

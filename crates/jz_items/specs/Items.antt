@@ -1,6 +1,6 @@
 -- The items of a command line.
-use Rattle.std.specs.Prelude.{ℕ, ◌+◌, ◌*◌, ◌-◌, ◌^◌, ◌==◌, nat_lt, nat_le, Bool, true, false, not, ◌&&◌, ◌||◌, if◌then◌else◌, List, [], ◌∷◌, ◌++◌, length, Option, Some, None, option_map}
-use Rattle.std.specs.List.{list_any, before_first, after_first}
+use Rattle.std.specs.Prelude.{ℕ, ◌<◌, ◌+◌, ◌*◌, ◌^◌, ◌==◌, nat_lt, nat_le, Bool, true, false, not, ◌&&◌, ◌||◌, if◌then◌else◌, List, [], ◌∷◌, ◌++◌, length, Option, Some, None, option_map, map}
+use Rattle.std.specs.List.{list_any, before_first, after_first, AllByRecursion}
 use Rattle.std.specs.Option.{option_and_then}
 use Rattle.std.specs.Result.{result_ok}
 use Rattle.hex.specs.Hex.{decode_of}
@@ -82,3 +82,16 @@ items_behind before (w ∷ ws) =
 
 abbrev pub items_of : List (List ℕ) → Option (List Item)
 items_of words = items_behind [] words
+
+-- ---- as arguments
+-- the number, or the address of the bytes
+abbrev pub word_of : Item → ℕ
+word_of (Number n) = n
+word_of (Bytes p) = p.at
+
+abbrev pub words_of : List Item → List ℕ
+words_of items = map word_of items
+
+-- each of them is a word of 64 bits
+abbrev pub ItemsFit : List Item → Type 0
+ItemsFit items = AllByRecursion (λ n. n < 2 ^ 64) (words_of items)

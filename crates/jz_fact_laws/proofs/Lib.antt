@@ -1,0 +1,9 @@
+pub mod Fitting
+pub mod Ranges
+pub mod Setting
+pub mod Multiples
+pub mod MultipleValues
+pub mod MultipleTerms
+pub mod Testing
+pub mod Law
+pub mod Holding

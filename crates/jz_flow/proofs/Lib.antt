@@ -1,0 +1,4 @@
+pub mod Ordering
+pub mod Calm
+pub mod Holding
+pub mod OneFirst

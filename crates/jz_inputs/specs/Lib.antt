@@ -1,0 +1,5 @@
+pub mod Held
+pub mod Inputs
+pub mod InnerCover
+pub mod InnerHeld
+pub mod InnerFilled

@@ -1,0 +1,55 @@
+-- The terms of a sum as the code has them.
+use Rattle.std.specs.Prelude.{◌≡◌, ℕ, ◌+◌, ◌%◌, ◌^◌, List, [], ◌∷◌, ◌++◌, Option, ℤ}
+use Rattle.jz_words.specs.declared.size.Size.TheVariants.{S64}
+use Rattle.jz_words.specs.Words.{residue}
+use Rattle.jz_tree.specs.declared.expr.Expr.{Expr}
+use Rattle.jz_operations.specs.declared.operation.Address.{Address}
+use Rattle.jz_homes.specs.Homes.{Homes}
+use Rattle.jz_homes.specs.Sums.{Sum, IsSum, IsAddress, IsIndex}
+use Rattle.jz_operands.specs.declared.sums.Term.{Term}
+use Rattle.jz_operands.specs.declared.sums.Found.{Found}
+use Rattle.jz_operands.specs.declared.sums.Found.TheVariants.{Nothing, One, Two}
+use Rattle.jz_operands.specs.declared.sums.Terms.{Terms}
+
+abbrev pub pair_of : Term → ℕ × ℕ
+pair_of t = (t.variable, t.factor)
+
+abbrev pub pairs_of : Found → List (ℕ × ℕ)
+pairs_of Nothing = []
+pairs_of (One t) = pair_of t ∷ []
+pairs_of (Two t u) = pair_of t ∷ pair_of u ∷ []
+
+-- the terms of a sum before others; numbers are taken modulo 2^64
+pub record Joins (t : Sum) (rest all : Terms) : Type 0 where
+  pub terms : pairs_of all.found ≡ t.terms ++ pairs_of rest.found
+  pub number : all.number % 2 ^ 64 ≡ (residue S64 t.number + rest.number) % 2 ^ 64
+
+-- the expression is a sum, whose terms stand before others
+pub record SumsBefore (home : Homes) (e : Expr) (rest all : Terms) : Type 0 where
+  pub sum : Sum
+  pub is : IsSum home e sum
+  pub joins : Joins sum rest all
+
+-- the sum of an expression, whose terms and number these are
+pub record IsWhole (home : Homes) (e : Expr) (all : Terms) : Type 0 where
+  pub sum : Sum
+  pub is : IsSum home e sum
+  pub terms : pairs_of all.found ≡ sum.terms
+  pub number : all.number % 2 ^ 64 ≡ residue S64 sum.number
+
+-- the expression is an address
+pub record IsAddressOf (home : Homes) (e : Expr) (m : Address) : Type 0 where
+  pub sum : Sum
+  pub is : IsSum home e sum
+  pub address : IsAddress sum m
+
+-- of two terms the base, the index and its factor
+pub data IsBased (t u : Term) : ℕ → ℕ → ℕ → Type 0 where
+  base_first : t.factor ≡ 1 → IsBased t u t.variable u.variable u.factor
+  base_second : (t.factor ≡ 1 → ⊥) → u.factor ≡ 1 → IsBased t u u.variable t.variable t.factor
+
+-- the expression is an index of a stack array
+pub record IsIndexOf (home : Homes) (e : Expr) (b : Option ℕ) (i : ℤ) : Type 0 where
+  pub sum : Sum
+  pub is : IsSum home e sum
+  pub index : IsIndex sum b i

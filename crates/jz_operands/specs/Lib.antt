@@ -1,0 +1,2 @@
+pub mod TableHomes
+pub mod InnerSums
