@@ -1,7 +1,7 @@
 -- Expressions and their parts, layer by layer.
 use Rattle.std.proofs.Common.{◌≡◌, ℕ, ◌<◌, ◌≤◌, List, [], ◌∷◌, ◌++◌, Option, Some, None, Bool, true, false, refl, ap, sym, ◌∙◌, subst, arith}
 use Rattle.std.specs.Prelude.{ℤ, ◌&&◌, not, is_none, is_some}
-use Rattle.std.proofs.lemmas.Bool.{and_parts, and_from}
+use Rattle.std.proofs.lemmas.Bool.{and_from}
 use Rattle.jz_tree.specs.Size.{Size}
 use Rattle.jz_tree.specs.Span.{Span}
 use Rattle.jz_tree.specs.declared.expr.BinOp.{BinOp}
@@ -26,7 +26,6 @@ use Rattle.jz_unroll.proofs.Parts.{inline_whole, plain_layer, inline_known, laye
 use Rattle.jz_unroll.proofs.Valued.{parts_in, parts_layer, access_values_is, access_known_is}
 use Rattle.jz_unrolling_values.specs.declared.expressions.Waiting.{Waiting}
 use Rattle.jz_unrolling_values.specs.declared.parts.Part.{Part}
-use Rattle.jz_unrolling_values.specs.declared.parts.Part.TheVariants.{Inline, Plain}
 use Rattle.jz_unrolling_values.specs.Parts.{on_left, written_at, IsValued, IsInlinePart, IsPlainPart, IsPart}
 
 -- ---- left sides

@@ -1,8 +1,8 @@
 -- When an expression is refused, layer by layer.
-use Rattle.std.proofs.Common.{◌≡◌, ℕ, List, [], ◌∷◌, ◌++◌, map, length, take, drop, get_or, ◌<◌, ◌+◌, Option, Some, None, Bool, true, false, refl, ap, sym, ◌∙◌, subst, Result, Ok, Err, IsErrAnd}
+use Rattle.std.proofs.Common.{◌≡◌, ℕ, List, [], ◌∷◌, ◌++◌, length, take, drop, get_or, ◌<◌, ◌+◌, Option, Some, None, Bool, true, false, refl, ap, sym, ◌∙◌, subst, Result, Ok, Err, IsErrAnd}
 use Rattle.std.specs.Prelude.{ℤ, ◌↔◌, ◌&&◌, not, is_none, is_some, if◌then◌else◌, IfErr}
 use Rattle.std.specs.List.{list_all}
-use Rattle.std.proofs.lemmas.Bool.{and_parts, and_from}
+use Rattle.std.proofs.lemmas.Bool.{and_parts}
 use Rattle.std.proofs.lemmas.List.{drop_more, take-append-drop}
 use Rattle.jz_tree.specs.Failure.{Failure}
 use Rattle.jz_tree.specs.Failure.TheVariants.{Refused, OutOfMemory}
@@ -18,13 +18,12 @@ use Rattle.jz_tree.specs.declared.expr.Expr.TheOpen.{Expr-F}
 use Rattle.jz_tree.specs.declared.stmt.Lval.TheVariants as lval
 use Rattle.jz_tree.specs.declared.expr.Expr.TheViews.{roll-Expr, out-Expr, out-Var, roll-out-Expr}
 use Rattle.jz_type_names.specs.Kinds.{known_of, is_inline_int, is_inline}
-use Rattle.jz_integers.specs.Integers.{KnownNumbers, number, joined, inline_value}
+use Rattle.jz_integers.specs.Integers.{KnownNumbers, inline_value}
 use Rattle.jz_integers.specs.declared.constant.Constant.{Constant}
 use Rattle.jz_integers.specs.declared.constant.Constant.TheVariants as constant
-use Rattle.jz_meaning.specs.Assignments.{whole_of}
 use Rattle.jz_meaning.specs.Values.{ref_of}
-use Rattle.jz_unroll.specs.Values.{has_no_cell, with_values, InlineNames, is_inline_var, is_int, is_known, has_values, access_has_values, left_has_values}
-use Rattle.jz_unroll.specs.Unrolling.{HasValue, IsInlineInt, UnrollsLoopTest, loops, always}
+use Rattle.jz_unroll.specs.Values.{has_no_cell, with_values, InlineNames, is_inline_var, is_known, has_values, access_has_values, left_has_values}
+use Rattle.jz_unroll.specs.Unrolling.{UnrollsLoopTest, loops, always}
 use Rattle.jz_meaning.specs.Statements.{Operation, Condition}
 use Rattle.jz_change.specs.declared.change.Numbers.{Numbers}
 use Rattle.jz_change.specs.declared.change.Numbers.TheVariants.{Same}
@@ -37,8 +36,8 @@ use Rattle.jz_unrolling_values.specs.declared.conditions.Test.TheVariants.{Alway
 use Rattle.jz_unrolling_values.specs.declared.expressions.Waiting.{Waiting}
 use Rattle.jz_unrolling_values.specs.declared.parts.Part.{Part}
 use Rattle.jz_unrolling_values.specs.declared.conditions.Test.{Test}
-use Rattle.jz_unrolling_values.specs.Parts.{on_left, IsInlinePart, IsPlainPart, IsTest, IsLoopTest, IsNever, updated_value, HasWhole}
-use Rattle.jz_unrolling_values.specs.Refusals.{OrElse, is_part, NeverTests, NeverLoops, NeverWhole, NeverNumber}
+use Rattle.jz_unrolling_values.specs.Parts.{on_left, IsInlinePart, IsPlainPart, IsTest, IsLoopTest, IsNever}
+use Rattle.jz_unrolling_values.specs.Refusals.{OrElse, is_part, NeverTests, NeverLoops, NeverNumber}
 use Rattle.jz_unrolling_values.proofs.PartLemmas.{ref_cell, last_waiting, IsOnTheWay}
 
 -- ---- refusals that are handed on

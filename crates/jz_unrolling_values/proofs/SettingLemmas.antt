@@ -10,7 +10,6 @@ use Rattle.jz_tree.specs.declared.expr.Expr.TheVariants as expr
 use Rattle.jz_tree.specs.declared.expr.Expr.TheViews.{out-Expr, out-Var, roll-out-Expr}
 use Rattle.jz_tree.specs.declared.expr.Var.{Var}
 use Rattle.jz_tree.specs.declared.stmt.Lval.{Lval}
-use Rattle.jz_tree.specs.declared.stmt.Lval.TheVariants as lval
 use Rattle.jz_type_names.specs.Kinds.{is_inline}
 use Rattle.jz_integers.specs.Integers.{KnownNumbers, inline_value, number, joined}
 use Rattle.jz_integers.specs.declared.constant.Constant.{Constant}

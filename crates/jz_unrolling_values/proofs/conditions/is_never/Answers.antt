@@ -1,4 +1,4 @@
-use Rattle.std.proofs.Common.{◌≡◌, true, false, subst, sym, Err}
+use Rattle.std.proofs.Common.{◌≡◌, true, false, subst, Err}
 use Rattle.jz_tree.specs.Failures.{IfAnswered}
 use Rattle.jz_unrolling_values.specs.InlineNames.{names_in}
 use Rattle.jz_unrolling_values.specs.Numbers.{numbers_in}

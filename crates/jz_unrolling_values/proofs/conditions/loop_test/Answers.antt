@@ -1,4 +1,4 @@
-use Rattle.std.proofs.Common.{true, false, subst, sym}
+use Rattle.std.proofs.Common.{subst}
 use Rattle.jz_unrolling_values.specs.declared.conditions.Test.TheVariants.{Always}
 use Rattle.jz_unrolling_values.specs.InlineNames.{names_in}
 use Rattle.jz_unrolling_values.specs.Numbers.{numbers_in}

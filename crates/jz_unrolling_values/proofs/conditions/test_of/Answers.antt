@@ -1,8 +1,6 @@
-use Rattle.jz_unrolling_values.proofs.RefusalLemmas.{handed, part_no_test, number_no_test}
-use Rattle.std.proofs.Common.{◌≡◌, ◌∙◌, ap, sym, subst, Some, None}
+use Rattle.jz_unrolling_values.proofs.RefusalLemmas.{handed, part_no_test}
 use Rattle.jz_unrolling_values.specs.InlineNames.{names_in}
 use Rattle.jz_unrolling_values.specs.Numbers.{numbers_in}
-use Rattle.jz_unrolling_values.specs.Parts.{IsPart}
 use Rattle.jz_unrolling_values.proofs.conditions.test_of.Goals as goal
 
 pub returns-in_err-answer : goal.returns-in_err-answer

@@ -1,4 +1,4 @@
-use Rattle.std.proofs.Common.{arith, rules, ap, sym, subst, ◌∙◌, Some, to_z, of_z, ◌≡◌, false, true}
+use Rattle.std.proofs.Common.{arith, rules, ap, sym, subst, ◌∙◌, Some, to_z, of_z, ◌≡◌, false}
 use Rattle.std.specs.Int.{w128}
 use Rattle.std.proofs.lemmas.Int.{to_z-of_z}
 use Rattle.jz_tree.specs.declared.expr.Expr.TheVariants as expr
@@ -10,7 +10,6 @@ use Rattle.jz_unrolling_values.specs.Parts.{IsValued, IsInlinePart, IsPlainPart,
 use Rattle.jz_unrolling_values.proofs.PartLemmas.{first_within, last_within, begins, goes_on, access_values, access_known, num_part, bool_part, cell_part, load_part, cast_part}
 use Rattle.jz_unrolling_values.proofs.RefusalLemmas.{handed, side_no_part, way_no_part, right_no_part, cell_no_array, cell_no_index, load_no_part, neg_no_part, not_no_part, cast_no_part, no_values}
 use Rattle.jz_unrolling_values.specs.Refusals.{is_part}
-use Rattle.jz_unroll.specs.Values.{has_values}
 use Rattle.jz_unrolling_values.proofs.expressions.+part.Goals as goal
 
 pub boxed_with_values-returns : goal.boxed_with_values-returns

@@ -1,7 +1,6 @@
-use Rattle.std.proofs.Common.{◌≡◌, ◌∙◌, ap, sym, subst, rules, Some}
+use Rattle.std.proofs.Common.{◌∙◌, ap, sym, subst, rules, Some}
 use Rattle.std.specs.Int.{w128}
 use Rattle.std.proofs.lemmas.Int.{to_z-of_z}
-use Rattle.jz_integers.specs.declared.constant.Constant.TheVariants as constant
 use Rattle.jz_unrolling_values.specs.InlineNames.{names_in}
 use Rattle.jz_unrolling_values.specs.Numbers.{numbers_in}
 use Rattle.jz_unrolling_values.specs.Parts.{HasWhole, IsPart}

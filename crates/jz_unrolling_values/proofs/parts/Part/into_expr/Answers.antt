@@ -1,4 +1,4 @@
-use Rattle.std.proofs.Common.{◌∙◌, ap, sym, subst}
+use Rattle.std.proofs.Common.{sym, subst}
 use Rattle.jz_unrolling_values.specs.Parts.{IsInlinePart, IsPart, IsValued}
 use Rattle.jz_unrolling_values.proofs.PartLemmas.{constant_valued}
 use Rattle.jz_unrolling_values.proofs.RefusalLemmas.{none_known}
