@@ -13,8 +13,7 @@ use Rattle.jz_homes.specs.Homes.{in_register, in_flag, in_cell}
 use Rattle.jz_operands.specs.declared.homes.Home.{Home}
 use Rattle.jz_operands.specs.declared.homes.Home.TheVariants.{Word, Flag, Slot, Cells}
 use Rattle.jz_operands.specs.TableHomes.{scalar_home, home_within}
-use Rattle.jz_homing.specs.declared.homing.Homing.{Homing}
-use Rattle.jz_homing.specs.Tables.{Table, table_in, no_homes, with_vars}
+use Rattle.jz_homing.specs.Tables.{Table, no_homes, with_vars}
 use Rattle.jz_declared.specs.Declared.{Differ, What, a_word, a_flag, Held, own_key, held_of, Kept, a_scalar, an_array, cells_of, key_in, kept_of, home_at, IsHeld, IsKept, AreDeclared}
 use Rattle.jz_declared.specs.Laws.{IsOfDeclarations}
 use Rattle.jz_declared.proofs.Growing.{entry_of, kept_key, kept_entry, FromKept, Has, declared_has, own, CellsApart, declared_apart}
@@ -122,8 +121,11 @@ module _ (hs : List Held) (cs : List Kept) (t : Table) (has : Has hs cs t) (apar
     others = λ k x e. others_by k x k.cell (t.entries (own k)) refl refl e;
   }
 
-pub of_declarations : (f : Fun) (h : Homing) → Differ (variables_of f) → table_in h ≡ with_vars no_homes (variables_of f) → IsOfDeclarations f h
-of_declarations f h differ made =
-    let has : Has (held_of f) (kept_of f) (table_in h) = subst (Has (held_of f) (kept_of f)) (sym made) (declared_has (variables_of f) differ) in
-    let apart : CellsApart (table_in h) = subst CellsApart (sym made) (declared_apart (variables_of f) differ) in
-    record { homes = all_declared (held_of f) (kept_of f) (table_in h) has apart; kinds = has.kinds; stack = has.stack }
+pub of_declarations : (f : Fun) → Differ (variables_of f) → IsOfDeclarations f (with_vars no_homes (variables_of f))
+of_declarations f differ =
+    let has = declared_has (variables_of f) differ in
+    record {
+      homes = all_declared (held_of f) (kept_of f) (with_vars no_homes (variables_of f)) has (declared_apart (variables_of f) differ);
+      kinds = has.kinds;
+      stack = has.stack;
+    }
