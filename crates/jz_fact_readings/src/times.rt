@@ -28,6 +28,17 @@ impl Times {
         Times::Eight
     }
 
+    /// Its value.
+    pub fn value(self) -> u64
+        ensures { result ≡ times_of self }
+    {
+        match self {
+            Times::Two => 2,
+            Times::Four => 4,
+            Times::Eight => 8,
+        }
+    }
+
     /// Whether a whole number is a multiple.
     pub fn divides(self, n: i128) -> bool
         ensures { result ≡ (modulo n (times_of self) == 0) }

@@ -3,7 +3,8 @@
 ghost use Rattle.std.specs.Prelude.{◌≡◌, ◌≤◌};
 ghost use Rattle.jz_tree.specs.LeftSides.{IsSingle};
 ghost use Rattle.jz_integers.specs.InnerLeftSides.{left_at, left_of};
-ghost use Rattle.jz_terms.specs.Terms.{term_of};
+ghost use Rattle.jz_tree.specs.Span.{Span};
+ghost use Rattle.jz_terms.specs.Terms.{num, term_of};
 ghost use Rattle.jz_facts.specs.Intervals as intervals;
 
 use crate::known::Knows;
@@ -87,18 +88,22 @@ fn operation<K: Knows>(set: &K, size: Size, op: BinOp, left: Interval, right: &E
     }
 }
 
+fn shifted_by_number(size: Size, left: Interval, n: i128) -> Interval
+    ensures { (at : Span) → result ≡ intervals.of_shift size left (num n at) }
+{
+    if n < 0 {
+        Interval::each(size)
+    } else {
+        left.shifted_by(n as u128)
+    }
+}
+
 /// What an interval becomes where its words are shifted to the right.
 fn shifted(size: Size, left: Interval, count: &Expr) -> Interval
     ensures { result ≡ intervals.of_shift size left (term_of count.now) }
 {
     match count {
-        Expr::Num(n, _) => {
-            if *n < 0 {
-                Interval::each(size)
-            } else {
-                left.shifted_by(*n as u128)
-            }
-        }
+        Expr::Num(n, _) => shifted_by_number(size, left, *n),
         Expr::Bool(_, _) => Interval::each(size),
         Expr::Var(_) => Interval::each(size),
         Expr::Cell(_, _) => Interval::each(size),
