@@ -5,7 +5,7 @@ use Rattle.indexmap.specs.IndexMap.{IndexMap, get}
 use Rattle.jz_tree.specs.declared.expr.Var.{Var}
 use Rattle.jz_meaning.specs.States.{Key, same_cell, same_key}
 use Rattle.jz_meaning.specs.Values.{key_of, ref_of}
-use Rattle.jz_facts.specs.Facts.{Fact, Set, Cell, AtLeast, AtMost, Under, Is, Multiple, Facts, subject, Start, Region, Given, hi_of, is_among, multiples}
+use Rattle.jz_facts.specs.Facts.{Fact, Set, Cell, AtLeast, AtMost, Under, Is, Multiple, Facts, subject, Start, Region, Given, hi_of, is_among, greatest, least, multiples}
 use Rattle.jz_fact_readings.specs.Multiples.{times_of}
 use Rattle.jz_fact_readings.specs.declared.times.Times.{Times}
 use Rattle.jz_fact_sets.specs.declared.given.Parameter as parameter
@@ -79,11 +79,22 @@ says cs ps k (Under v x) = is_named ps k.under x
 says cs ps k (Is v x) = is_named ps k.is x
 says cs ps k (Multiple v m) = is_among m multiples && is_times k.times m
 
+-- the greatest constant that is said to be below it, else 0; the least that is said to be above it,
+-- else m
+abbrev pub least_by : List ℕ → Option ℕ → ℕ
+least_by cs None = 0
+least_by cs (Some l) = greatest (λ c. nat_le c l) cs
+
+abbrev pub most_by : List ℕ → Option ℕ → ℕ → ℕ
+most_by cs None m = m
+most_by cs (Some h) m = least (λ c. nat_le h c) m cs
+
 -- the least of m and of the ends, less 1, of the parameters of which this says that it is below them
 abbrev pub below_all : List parameter.Parameter → ℕ → ℕ → List parameter.Parameter → ℕ
 below_all all bits m [] = m
 below_all all bits m (p ∷ ps) =
-    if is_named all bits (variable_key p.var) then min (hi_of (start_of p) - 1) (below_all all bits m ps)
+    if is_named all bits (variable_key p.var)
+    then min (hi_of (start_of p) - 1) (below_all all bits m ps)
     else below_all all bits m ps
 
 -- ---- the set

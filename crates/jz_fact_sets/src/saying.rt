@@ -11,7 +11,7 @@ use crate::given::Parameter;
 use crate::set::FactSet;
 use jz_fact_readings::{Knows, Times};
 use jz_facts::same_variable;
-use jz_intervals::{Interval, greatest_to, greatest_word, least_from, lower};
+use jz_intervals::{Constants, Interval, greatest_word, lower};
 use jz_tree::Var;
 use x64_insn::Size;
 
@@ -44,6 +44,24 @@ pub fn below_all(params: &[Parameter], bits: u64, most: u64) -> u64
     least
 }
 
+fn least_by(constants: &Constants, least: Option<u64>) -> u64
+    ensures { result ≡ kept.least_by constants.now least }
+{
+    match least {
+        None => 0,
+        Some(least) => constants.greatest_to(least),
+    }
+}
+
+fn most_by(constants: &Constants, most: Option<u64>, otherwise: u64) -> u64
+    ensures { result ≡ kept.most_by constants.now most otherwise }
+{
+    match most {
+        None => otherwise,
+        Some(most) => constants.least_from(most, otherwise),
+    }
+}
+
 impl Knows for FactSet {
     ghost use Rattle.jz_fact_sets.specs.Kept.{given_of, facts_of};
 
@@ -57,17 +75,11 @@ impl Knows for FactSet {
     {
         let known = self.known(var);
         let most = greatest_word(size);
-        let lo = match known.least {
-            None => 0,
-            Some(least) => greatest_to(self.constants.as_slice(), least),
-        };
-        let hi = match known.most {
-            None => most,
-            Some(bound) => least_from(self.constants.as_slice(), bound, most),
-        };
+        let lo = least_by(self.constants(), known.least);
+        let hi = most_by(self.constants(), known.most, most);
         Interval {
             lo: lower(lo, most),
-            hi: below_all(self.params.as_slice(), known.under, hi),
+            hi: below_all(self.params(), known.under, hi),
         }
     }
 
