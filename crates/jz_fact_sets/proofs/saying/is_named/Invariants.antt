@@ -4,5 +4,5 @@ use Rattle.jz_fact_sets.proofs.saying.is_named.Given as goal
 
 abbrev pub invariant-loop-param : goal.invariant-loop-param
 invariant-loop-param l =
-    is_named (drop l.param-index l.param-items) l.rest (variable_key l.var)
+    is_named (drop l.param-index l.params) l.rest (variable_key l.var)
     ≡ is_named l.params l.bits (variable_key l.var)

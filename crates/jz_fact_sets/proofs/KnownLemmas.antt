@@ -80,7 +80,7 @@ module _ (s : FactSet) (v : Key) where
 
 -- ---- multiples
 
-many : Option Times → ℕ → List ℕ → Bool
+abbrev many : Option Times → ℕ → List ℕ → Bool
 many o m [] = false
 many o m (k ∷ ks) = ((is_among k multiples && is_times o k) && (k % m == 0)) || many o m ks
 
