@@ -1,22 +1,33 @@
 -- One answer, and no other.
-use Rattle.std.proofs.Common.{◌≡◌, ℕ, ◌≤◌, ◌<◌, Option, Some, None, refl, sym, ap, ◌∙◌, subst, inl, inr, arith}
-use Rattle.std.specs.Prelude.{◌⊎◌, nat_le, Bool, true, false}
+use Rattle.std.proofs.Common.{◌≡◌, ℕ, ◌+◌, ◌≤◌, ◌<◌, Option, Some, None, refl, sym, ap, ◌∙◌, inl, inr, arith}
+use Rattle.std.specs.Prelude.{nat_le, Bool, true, false}
 use Rattle.std.proofs.lemmas.Bool.Decides.{nat_tests}
 use Rattle.jz_tree.specs.declared.program.Fun.{Fun}
 use Rattle.jz_tree.specs.declared.program.Program.{Program}
 use Rattle.jz_copies.specs.Counts.{copied_count}
 use Rattle.jz_limits.specs.declared.limit.Limit.{Limit}
-use Rattle.jz_limits.specs.Limits.{most_statements, IsWithin, IsFirstLimit}
+use Rattle.jz_limits.specs.Limits.{most_statements, count_of, IsWithin}
 use Rattle.jz_limits.specs.declared.limit.Limit.TheVariants.{Expand}
 use Rattle.jz_limits.specs.InnerFirst.{first_from}
 use Rattle.jz_limits.specs.Walks.{steps_of}
-use Rattle.jz_limits.proofs.First.{first_is, none_is, found_first, found_none, within_or_first, one_first, none_within}
-use Rattle.jz_first_limit.specs.FirstLimits.{PassesFirst, IsFirst, OneAnswer, SomeAnswer}
+use Rattle.jz_limits.proofs.First.{found_first, found_none, one_first, none_within}
+use Rattle.jz_first_limit.specs.declared.met.Met.{Met}
+use Rattle.jz_first_limit.specs.declared.met.Met.TheVariants.{Within, Passed}
+use Rattle.jz_first_limit.specs.InnerMet.{MeetsSteps}
+use Rattle.jz_first_limit.specs.FirstLimits.{PassesFirst, IsFirst, IsMet, OneAnswer, SomeAnswer}
 
 -- by what is found in expanded order
 pub found_is : (p : Program) (f : Fun) (found : Option Limit) → copied_count p f ≤ most_statements → found ≡ first_from 0 (steps_of p f) → IsFirst p f found
 found_is p f None few e = (few, found_none (steps_of p f) (sym e))
 found_is p f (Some l) few e = inr (few, found_first (steps_of p f) l (sym e))
+
+none_before : (n m : ℕ) → n ≡ 0 + m → n ≡ m
+none_before n m e = omega (arith, e)
+
+-- by what is met in expanded order
+pub met_is : (p : Program) (f : Fun) (met : Met) → copied_count p f ≤ most_statements → MeetsSteps 0 (steps_of p f) met → IsMet p f met
+met_is p f (Within n) few h = ((few, found_none (steps_of p f) h.none), none_before n (count_of (steps_of p f)) h.count)
+met_is p f (Passed l) few h = inr (few, found_first (steps_of p f) l h)
 
 clash : {A : Type 0} (n : ℕ) → n ≤ most_statements → most_statements < n → A
 clash n le lt = absurd (omega (arith, le, lt))

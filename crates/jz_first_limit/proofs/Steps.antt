@@ -1,5 +1,5 @@
 -- What is met, one part after another.
-use Rattle.std.proofs.Common.{◌≡◌, ℕ, zero, suc, ◌+◌, ◌-◌, ◌≤◌, ◌<◌, Bool, true, false, List, [], ◌∷◌, ◌++◌, Option, Some, None, refl, sym, ap, ◌∙◌, subst, if◌then◌else◌, arith, append-nil}
+use Rattle.std.proofs.Common.{◌≡◌, ℕ, zero, suc, ◌+◌, ◌-◌, ◌≤◌, ◌<◌, Bool, true, false, List, [], ◌∷◌, ◌++◌, Some, None, refl, sym, ap, ◌∙◌, subst, if◌then◌else◌, arith, append-nil}
 use Rattle.std.specs.Prelude.{nat_le, replicate}
 use Rattle.std.proofs.lemmas.Bool.Decides.{nat_tests}
 use Rattle.jz_integers.specs.Integers.{KnownNumbers}
@@ -15,7 +15,7 @@ use Rattle.jz_limits.specs.Walks.{Walk, limits, behind, followed, silent, operat
 use Rattle.jz_limits.proofs.First.{count-append}
 use Rattle.jz_first_limit.specs.declared.met.Met.{Met}
 use Rattle.jz_first_limit.specs.declared.met.Met.TheVariants.{Within, Passed}
-use Rattle.jz_first_limit.specs.InnerMet.{IsPassedBy, MeetsSteps, Knows, Meets}
+use Rattle.jz_first_limit.specs.InnerMet.{MeetsSteps, Knows, Meets}
 
 -- ---- lists of steps
 

@@ -1,21 +1,17 @@
 -- The arms that a test takes.
-use Rattle.std.proofs.Common.{◌≡◌, ℕ, Bool, true, false, List, [], ◌∷◌, ◌++◌, Option, Some, None, refl, sym, ap, ◌∙◌, subst, inl, inr, if◌then◌else◌}
-use Rattle.std.specs.Prelude.{◌⊎◌}
+use Rattle.std.proofs.Common.{◌≡◌, ℕ, Bool, true, false, Option, Some, None, sym, ap, ◌∙◌, subst, inl, inr, if◌then◌else◌}
 use Rattle.jz_tree.specs.declared.expr.Expr.{Expr}
 use Rattle.jz_integers.specs.Integers.{KnownNumbers, inline_value}
 use Rattle.jz_type_names.specs.Kinds.{is_inline}
 use Rattle.jz_type_names.specs.Parts.{span_of}
 use Rattle.jz_limits.specs.declared.limit.Limit.{Limit}
-use Rattle.jz_limits.specs.Limits.{passing}
-use Rattle.jz_limits.specs.declared.limit.Limit.TheVariants.{InlineWidth}
-use Rattle.jz_limits.specs.InnerLooked.{first}
 use Rattle.jz_limits.specs.Asked.{asked_condition}
 use Rattle.jz_limits.specs.Values.{truth_of}
 use Rattle.jz_limits.specs.Walks.{Walk, limits, behind, followed, silent, constant_steps, taken, arms}
 use Rattle.jz_first_limit.specs.declared.met.Met.{Met}
 use Rattle.jz_first_limit.specs.declared.met.Met.TheVariants.{Within, Passed}
 use Rattle.jz_first_limit.specs.declared.testing.Arms.TheVariants as arm
-use Rattle.jz_first_limit.specs.InnerMet.{Meets, StaysTest, IsTest}
+use Rattle.jz_first_limit.specs.InnerMet.{Meets, IsTest}
 use Rattle.jz_first_limit.proofs.Steps.{walk_then, walk_stop, ends, limits_none, limits_stop}
 
 module _ (c : Expr) (a b : KnownNumbers → Walk) (e : KnownNumbers) where

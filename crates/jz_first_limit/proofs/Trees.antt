@@ -1,5 +1,5 @@
 -- Walks over the trees of statements.
-use Rattle.std.proofs.Common.{◌≡◌, ℕ, zero, suc, Bool, ◌+◌, ◌-◌, ◌<◌, ◌≤◌, List, [], ◌∷◌, ◌++◌, length, drop, get_or, Option, Some, None, refl, sym, ap, ◌∙◌, arith, append-nil}
+use Rattle.std.proofs.Common.{◌≡◌, ℕ, zero, suc, Bool, ◌+◌, ◌-◌, ◌<◌, ◌≤◌, List, [], ◌∷◌, length, drop, get_or, Option, Some, None, refl, sym, ap, ◌∙◌, arith, append-nil}
 use Rattle.std.proofs.lemmas.List.{drop_more, drop_all}
 use Rattle.jz_tree.specs.Span.{Span}
 use Rattle.jz_tree.specs.declared.expr.BinOp.{BinOp}
@@ -16,11 +16,10 @@ use Rattle.jz_tree.specs.declared.stmt.StmtKind.TheOpen.{StmtKind-F}
 use Rattle.jz_tree.specs.declared.stmt.StmtKind.TheViews.{out-StmtKind, roll-out-StmtKind}
 use Rattle.jz_tree.specs.declared.stmt.StmtKind.TheFolds.{fold-StmtKind, fold-roll-Stmt, fold-roll-StmtKind, map-StmtKind}
 use Rattle.jz_integers.specs.Integers.{KnownNumbers}
-use Rattle.jz_meaning.specs.Trees.{done, call}
-use Rattle.jz_meaning.specs.Statements.{Block, Operation, assign, meaningless, Counter, Call}
+use Rattle.jz_meaning.specs.Trees.{done}
+use Rattle.jz_meaning.specs.Statements.{Block, Operation, assign, meaningless}
 use Rattle.jz_meaning.specs.Runs.{Callee, Callees, with_tree, callees_of, in_order, call_tree, instruction_tree, assign_tree, body_tree, kind_tree, statement_tree, block}
 use Rattle.jz_copies.specs.Called.{called_function}
-use Rattle.jz_interp.specs.InnerParts.{body_piece}
 use Rattle.jz_interp.proofs.Pieces.{assign_is, if_is, while_is, for_is, mark_is}
 use Rattle.jz_limits.specs.Limits.{one}
 use Rattle.jz_limits.specs.Walks.{Walk, behind, followed, silent, operation_walk, arms, turns, loop_walk, call_walk, walk}

@@ -11,6 +11,7 @@ mod straight;
 mod testing;
 mod turns;
 
-pub use first::first_limit;
+pub use first::{count_expanded, first_limit};
 pub use jz_limits::Limit;
 pub use laws::one_first_limit;
+pub use met::Met;

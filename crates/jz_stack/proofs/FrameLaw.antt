@@ -63,7 +63,11 @@ module _ (k at : ℕ) (saved : List Reg) (is : IsShape (record { size = suc k; a
   begun = frame.entered (suc k) at saved rsp0 s0 has body
 
   begins : IsBegun shape rsp0 s0 begun
-  begins = record { regs = frame.entered_regs (suc k) at saved rsp0 s0 has body; memory = begun_memory (suc k) at saved rsp0 s0 has body }
+  begins = record {
+    regs = frame.entered_regs (suc k) at saved rsp0 s0 has body;
+    flags = λ five. let m = frame.moved_down (suc k) at saved rsp0 s0 has body in m.five;
+    memory = begun_memory (suc k) at saved rsp0 s0 has body;
+  }
 
   counted : insns_of shape body ≡ length ws
   counted = insns_counted (target_in ws (place_of (linear_of (framed (suc k) at saved body)))) 0 ws
@@ -137,6 +141,7 @@ module _ (at : ℕ) (body : Code) (ok : IsPlainCode body) (base rsp0 target : �
   no_change : IsBegun empty rsp0 s0 s0
   no_change = record {
     regs = let e : slice_index s0.regs 4 ≡ rsp0 - 0 = room.stack ∙ omega arith in sym (set-get_or s0.regs 4 0) ∙ ap (slice_set s0.regs 4) e;
+    flags = λ five. five;
     memory = λ q out. refl;
   }
 

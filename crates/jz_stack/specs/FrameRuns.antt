@@ -54,9 +54,10 @@ pub record HasRoom (size rsp0 : ℕ) (s0 : Machine) : Type 0 where
   pub valid : (q : ℕ) → rsp0 - size ≤ q → q < rsp0 → is_some (get s0.memory q) ≡ true
 
 -- where the body begins: the stack pointer is down by the size of the frame, and each byte that is
--- in no slot of a saved register is as at entry
+-- in no slot of a saved register is as at entry; five flags stay five
 pub record IsBegun (f : Shape) (rsp0 : ℕ) (s0 b : Machine) : Type 0 where
   pub regs : b.regs ≡ slice_set s0.regs 4 (rsp0 - f.size)
+  pub flags : length s0.flags ≡ 5 → length b.flags ≡ 5
   pub memory : (q : ℕ)
       → (q < rsp0 - f.size + f.at) ⊎ (rsp0 - f.size + f.at + 8 * length f.saved ≤ q)
       → get b.memory q ≡ get s0.memory q

@@ -18,7 +18,7 @@ use Rattle.jz_tree.specs.declared.stmt.Stmt.{Stmt}
 use Rattle.jz_tree.specs.declared.stmt.StmtKind.TheVariants as kind
 use Rattle.jz_type_names.specs.Kinds.{is_inline}
 use Rattle.jz_integers.specs.Integers.{KnownNumbers}
-use Rattle.jz_meaning.specs.Trees.{op, quiet}
+use Rattle.jz_meaning.specs.Trees.{done, op, quiet}
 use Rattle.jz_meaning.specs.Assignments.{as_expr, last_left, left_span, whole_of, updated, updated_layer, is_flag, Layer}
 use Rattle.jz_meaning.specs.Runs.{block, statement_tree}
 use Rattle.jz_meaning.specs.Statements.{Operation, assign, instruction, unset, Block}
@@ -28,36 +28,42 @@ use Rattle.jz_change.specs.declared.change.Numbers.TheVariants.{Same}
 use Rattle.jz_change.specs.declared.change.Step.{Step}
 use Rattle.jz_change.specs.declared.change.Step.TheVariants as step
 use Rattle.jz_unroll.specs.Values.{with_values, left_with_values, operation_with_values, InlineNames, has_values, left_has_values, if_has_values, splits, is_split, operation_has_values}
-use Rattle.jz_unroll.specs.Unrolling.{all_unknown, ConditionIs, IsInlineInt, UnrollsOp, stays, vanishes, marked_vars, marked}
+use Rattle.jz_unroll.specs.Unrolling.{with_number, all_unknown, ConditionIs, IsInlineInt, UnrollsOp, stays, vanishes, marked_vars, marked}
 use Rattle.jz_unroll.proofs.InlineParts.{inline_bin}
 use Rattle.jz_unroll.proofs.Parts.{and_first_false, left_read, IfReadLeft, last_known}
-use Rattle.jz_unrolling.specs.declared.known.Known.{Known}
-use Rattle.jz_unrolling.specs.Numbers.{numbers_in, with_number_at, Sets, SetsIf, Went}
-use Rattle.jz_unrolling.specs.Parts.{HasWhole, StandsApart}
-use Rattle.jz_unrolling.specs.Steps.{no_callees, one_item, Becomes, Adds, AddsStep}
+use Rattle.jz_unrolling_values.specs.declared.known.Known.{Known}
+use Rattle.jz_unrolling_values.specs.Numbers.{numbers_in, with_number_at, Sets, SetsIf, Went}
+use Rattle.jz_unrolling_values.specs.Parts.{HasWhole, StandsApart}
+use Rattle.jz_unrolling.specs.Forgetting.{forgotten}
+use Rattle.jz_unrolling.specs.Steps.{no_callees, one_item, Becomes, FitsOn, Spares, Adds, AddsStep}
 use Rattle.jz_unrolling.proofs.Becoming.{block_append, nothing_becomes, both_become, op_becomes, gone_becomes, mark_becomes}
-use Rattle.jz_unrolling.proofs.NumberLemmas.{went_none, went_set, went_then}
-use Rattle.jz_unrolling.proofs.PartLemmas.{ref_name, ref_copy}
+use Rattle.jz_unrolling.proofs.FitLemmas.{on_both, stays_on, gone_on, mark_on}
+use Rattle.jz_unrolling.proofs.ForgetLemmas.{block_splits}
+use Rattle.jz_unrolling.proofs.SpareLemmas.{spares_same, spares_both, spares_set, spares_mark}
+use Rattle.jz_unrolling_values.proofs.NumberLemmas.{went_none, went_set, went_then}
+use Rattle.jz_unrolling_values.proofs.PartLemmas.{ref_name, ref_copy}
 use Rattle.std.proofs.lemmas.List.{take_more}
 
 module _ (names : InlineNames) where
   -- ---- one after another
 
   pub adds_none : (k : Known) (out : List Stmt) → Adds names (block no_callees []) k k out out []
-  adds_none k out = record { made = []; added = sym (append-nil out); becomes = nothing_becomes names (numbers_in k); went = went_none k }
+  adds_none k out = record { made = []; added = sym (append-nil out); becomes = nothing_becomes names (numbers_in k); only = λ t e2 h. h; spares = spares_same names (block no_callees []) (numbers_in k); went = went_none k }
 
-  pub adds_both : (f g : Block → Block) (a b c : Known) (o1 o2 o3 : List Stmt) (xs ys : List Step) → Adds names f a b o1 o2 xs → Adds names g b c o2 o3 ys → Adds names (λ t. f (g t)) a c o1 o3 (xs ++ ys)
-  adds_both f g a b c o1 o2 o3 xs ys p q = record {
+  pub adds_both : (f g : Block → Block) (a b c : Known) (o1 o2 o3 : List Stmt) (xs ys : List Step) → ((t : Block) (e : KnownNumbers) → forgotten names (f t) e ≡ forgotten names t (forgotten names (f done) e)) → Adds names f a b o1 o2 xs → Adds names g b c o2 o3 ys → Adds names (λ t. f (g t)) a c o1 o3 (xs ++ ys)
+  adds_both f g a b c o1 o2 o3 xs ys splits p q = record {
     made = p.made ++ q.made;
     added = q.added ∙ ap (λ l. l ++ q.made) p.added ∙ append_assoc o1 p.made q.made;
     becomes = both_become names f g (numbers_in a) (numbers_in b) (numbers_in c) p.made q.made xs ys p.becomes q.becomes;
+    only = on_both names f g (numbers_in a) (numbers_in b) (numbers_in c) p.only q.only;
+    spares = spares_both names f g (numbers_in a) (numbers_in b) (numbers_in c) splits p.spares q.spares;
     went = went_then a b c p.went q.went;
   }
 
   pub adds_next : (ss : List Stmt) (i : ℕ) (s : Stmt) (a b c : Known) (o1 o2 o3 : List Stmt) (xs ys : List Step) → i < length ss → s ≡ get_or ss i s → Adds names (block no_callees (take i ss)) a b o1 o2 xs → Adds names (statement_tree no_callees s) b c o2 o3 ys
       → Adds names (block no_callees (take (i + 1) ss)) a c o1 o3 (xs ++ ys)
   adds_next ss i s a b c o1 o2 o3 xs ys lt is p q =
-      subst (λ f. Adds names f a c o1 o3 (xs ++ ys)) same (adds_both (block no_callees (take i ss)) (statement_tree no_callees s) a b c o1 o2 o3 xs ys p q)
+      subst (λ f. Adds names f a c o1 o3 (xs ++ ys)) same (adds_both (block no_callees (take i ss)) (statement_tree no_callees s) a b c o1 o2 o3 xs ys (block_splits names (take i ss)) p q)
     where
       more : take (i + 1) ss ≡ take i ss ++ s ∷ []
       more = take_more ss i s lt ∙ ap (λ x. take i ss ++ x ∷ []) (sym is)
@@ -82,6 +88,8 @@ module _ (names : InlineNames) where
     made = s ∷ [];
     added = add;
     becomes = op_becomes names o o2 (numbers_in k) s (subst (λ x. UnrollsOp names o (numbers_in k) (x ∷ []) (Same ∷ []) (numbers_in k)) (sym q) (stays ok)) tree;
+    only = stays_on names o (numbers_in k) ok;
+    spares = spares_same names (op o) (numbers_in k);
     went = went_none k;
   }
 
@@ -159,20 +167,25 @@ module _ (names : InlineNames) where
 
   -- ---- what vanishes
 
-  gone_adds : (o : Operation) (old new : Known) (out : List Stmt) → UnrollsOp names o (numbers_in old) [] [] (numbers_in new) → Went old new → AddsStep names (op o) old new out out (step.Ops [])
-  gone_adds o old new out rule w = record { made = []; added = sym (append-nil out); becomes = gone_becomes names o (numbers_in old) (numbers_in new) rule; went = w }
+  gone_adds : (o : Operation) (old new : Known) (out : List Stmt) → UnrollsOp names o (numbers_in old) [] [] (numbers_in new) → FitsOn names (op o) (numbers_in old) (numbers_in new) → Spares names (op o) (numbers_in old) (numbers_in new) → Went old new → AddsStep names (op o) old new out out (step.Ops [])
+  gone_adds o old new out rule only spared w = record { made = []; added = sym (append-nil out); becomes = gone_becomes names o (numbers_in old) (numbers_in new) rule; only = only; spares = spared; went = w }
 
   pub set_adds : (v : Var) (o : Option BinOp) (x : Expr) (c : Option Expr) (at : Span) (n : ℤ) (old new : Known) (out : List Stmt) (m : List ℕ) (d : ℕ) → IsInlineInt names v → HasWhole (numbers_in old) v o x n → ConditionIs (numbers_in old) v c true → m ≡ (ref_of v).name → d ≡ (ref_of v).copy → Sets old new m d (Some n)
       → AddsStep names (op (assign (lval.Var v ∷ []) o x c at)) old new out out (step.Ops [])
   set_adds v o x c at n old new out m d inline whole cond p q sets =
+      let e = numbers_in old in
+      let is : numbers_in new ≡ with_number e v (Some n) = sets.numbers ∙ ap (λ y. with_number_at e y d (Some n)) p ∙ ap (λ y. with_number_at e (ref_of v).name y (Some n)) q in
       gone_adds (assign (lval.Var v ∷ []) o x c at) old new out
-      (subst (λ e. UnrollsOp names (assign (lval.Var v ∷ []) o x c at) (numbers_in old) [] [] e) (sym (sets.numbers ∙ ap (λ y. with_number_at (numbers_in old) y d (Some n)) p ∙ ap (λ y. with_number_at (numbers_in old) (ref_of v).name y (Some n)) q)) (vanishes true inline whole.1 whole.2 cond))
+      (subst (λ k. UnrollsOp names (assign (lval.Var v ∷ []) o x c at) e [] [] k) (sym is) (vanishes true inline whole.1 whole.2 cond))
+      (gone_on names v o x c at e (numbers_in new) n true inline.named whole cond (sym is))
+      (subst (λ k. Spares names (op (assign (lval.Var v ∷ []) o x c at)) e k) (sym is) (spares_set names v o x c at e (Some n) inline.named))
       (went_set old new m d (Some n) sets)
 
   pub unset_adds : (v : Var) (o : Option BinOp) (x : Expr) (c : Option Expr) (at : Span) (n : ℤ) (old : Known) (out : List Stmt) → IsInlineInt names v → HasWhole (numbers_in old) v o x n → ConditionIs (numbers_in old) v c false
       → AddsStep names (op (assign (lval.Var v ∷ []) o x c at)) old old out out (step.Ops [])
   unset_adds v o x c at n old out inline whole cond =
-      gone_adds (assign (lval.Var v ∷ []) o x c at) old old out (vanishes false inline whole.1 whole.2 cond) (went_none old)
+      gone_adds (assign (lval.Var v ∷ []) o x c at) old old out (vanishes false inline whole.1 whole.2 cond)
+      (gone_on names v o x c at (numbers_in old) (numbers_in old) n false inline.named whole cond refl) (spares_same names (op (assign (lval.Var v ∷ []) o x c at)) (numbers_in old)) (went_none old)
 
   pub number_adds : (v : Var) (o : Option BinOp) (x : Expr) (c : Option Expr) (at : Span) (n : ℤ) (old new : Known) (out : List Stmt) (b : Bool) → IsInlineInt names v → HasWhole (numbers_in old) v o x n → ConditionIs (numbers_in old) v c b → SetsIf b old new v n
       → AddsStep names (op (assign (lval.Var v ∷ []) o x c at)) old new out out (step.Ops [])
@@ -191,5 +204,7 @@ module _ (names : InlineNames) where
     becomes =
         subst (λ e. Becomes names (quiet (unset vs)) (numbers_in old) (s ∷ []) e []) (sym q)
         (mark_becomes names vs (marked_vars names vs) (numbers_in old) (all_unknown (numbers_in old) vs) s marked (is ∙ ap kind.Mark p));
+    only = subst (λ e. FitsOn names (quiet (unset vs)) (numbers_in old) e) (sym q) (mark_on names vs (numbers_in old));
+    spares = subst (λ e. Spares names (quiet (unset vs)) (numbers_in old) e) (sym q) (spares_mark names vs (numbers_in old));
     went = w;
   }

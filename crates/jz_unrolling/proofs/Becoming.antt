@@ -64,9 +64,9 @@ module _ (names : InlineNames) where
       ∙ ap (λ x. model.stays_if [] Same x (change_of (record { steps = tb })) k) (change_is (record { steps = ta }))
       ∙ ap (λ x. model.stays_if [] Same (steps_of ta) x k) (change_is (record { steps = tb }))
 
-  pub if_becomes : (c c2 : Expr) (at : Span) (f g : Block → Block) (e ea eb : KnownNumbers) (s : Stmt) (a2 b2 : List Stmt) (ta tb : List Step) → UnrollsTest names (record { cond = c; at = at }) e [] [] (record { cond = c2; at = at }) Same → Becomes names f e a2 ea ta → Becomes names g e b2 eb tb → KnowsLess e ea → KnowsLess e eb → s.kind ≡ kind.If c2 a2 b2 → s.span ≡ at
-      → Becomes names (choose (record { cond = c; at = at }) (f done) (g done)) e (s ∷ []) e (step.If [] Same (record { steps = ta }) (record { steps = tb }) ∷ [])
-  if_becomes c c2 at f g e ea eb s a2 b2 ta tb test p q la lb is place = λ t rest u e2 k h.
+  pub if_becomes : (c c2 : Expr) (at : Span) (f g : Block → Block) (e ea eb e0 : KnownNumbers) (s : Stmt) (a2 b2 : List Stmt) (ta tb : List Step) → UnrollsTest names (record { cond = c; at = at }) e [] [] (record { cond = c2; at = at }) Same → Becomes names f e a2 ea ta → Becomes names g e b2 eb tb → KnowsLess e0 ea → KnowsLess e0 eb → s.kind ≡ kind.If c2 a2 b2 → s.span ≡ at
+      → Becomes names (choose (record { cond = c; at = at }) (f done) (g done)) e (s ∷ []) e0 (step.If [] Same (record { steps = ta }) (record { steps = tb }) ∷ [])
+  if_becomes c c2 at f g e ea eb e0 s a2 b2 ta tb test p q la lb is place = λ t rest u e2 k h.
       at_trees refl (ap (λ (x : Block → Block). x u) (if_is no_callees s c2 a2 b2 is) ∙ ap (λ y. choose (record { cond = c2; at = y }) (block no_callees a2 done) (block no_callees b2 done) u) place) (if_step ta tb k)
       (u_if test (alone f e ea a2 ta done p) (alone g e eb b2 tb done q) la lb h)
 
@@ -90,20 +90,18 @@ module _ (names : InlineNames) where
   body_list None = refl
   body_list (Some ss) = refl
 
-  refl_less : (e : KnownNumbers) → KnowsLess e e
-  refl_less e = λ n c i q. q
-
-  pub while_becomes : (h0 : Bool) (c c2 : Expr) (at : Span) (f g : Block → Block) (e eq eb : KnownNumbers) (s : Stmt) (q2 : List Stmt) (b2 : Option (List Stmt)) (tq tb : List Step) → UnrollsLoopTest names (record { cond = c; at = at }) eq [] [] (record { cond = c2; at = at }) Same
-      → Becomes names f e q2 eq tq → Becomes names g eq (list_or b2) eb tb → KnowsLess e eb → KnowsLess e eq → s.kind ≡ kind.While q2 c2 b2 → s.span ≡ at → not (is_some b2) ≡ h0
-      → Becomes names (loop h0 (f done) (record { cond = c; at = at }) (g done)) e (s ∷ []) e (step.While (record { steps = tq }) [] Same (record { steps = tb }) ∷ [])
-  while_becomes h0 c c2 at f g e eq eb s q2 b2 tq tb test p q lb lq is place there = λ t rest u e2 k h.
+  -- e0 is known before it and behind it
+  pub while_becomes : (h0 : Bool) (c c2 : Expr) (at : Span) (f g : Block → Block) (e e0 eq eb : KnownNumbers) (s : Stmt) (q2 : List Stmt) (b2 : Option (List Stmt)) (tq tb : List Step) → UnrollsLoopTest names (record { cond = c; at = at }) eq [] [] (record { cond = c2; at = at }) Same
+      → Becomes names f e0 q2 eq tq → Becomes names g eq (list_or b2) eb tb → KnowsLess e0 e → KnowsLess e0 eb → KnowsLess e0 eq → s.kind ≡ kind.While q2 c2 b2 → s.span ≡ at → not (is_some b2) ≡ h0
+      → Becomes names (loop h0 (f done) (record { cond = c; at = at }) (g done)) e (s ∷ []) e0 (step.While (record { steps = tq }) [] Same (record { steps = tb }) ∷ [])
+  while_becomes h0 c c2 at f g e e0 eq eb s q2 b2 tq tb test p q less lb lq is place there = λ t rest u e2 k h.
       at_trees refl
       (ap (λ (x : Block → Block). x u) (while_is no_callees s q2 c2 b2 is)
       ∙ ap (λ y. loop y (block no_callees q2 done) (record { cond = c2; at = s.span }) (body_piece no_callees b2 done) u) there
       ∙ ap (λ y. loop h0 (block no_callees q2 done) (record { cond = c2; at = y }) (body_piece no_callees b2 done) u) place
       ∙ ap (λ y. loop h0 (block no_callees q2 done) (record { cond = c2; at = at }) y u) (body_list b2))
       (while_step tq tb k)
-      (u_while (refl_less e) test (alone f e eq q2 tq done p) (alone g eq eb (list_or b2) tb done q) lb lq h)
+      (u_while less test (alone f e0 eq q2 tq done p) (alone g eq eb (list_or b2) tb done q) lb lq h)
 
   once_step : (tq : List Step) (k : model.Change) → then_step (step.Once (record { steps = tq }) []) k ≡ model.once (steps_of tq) [] k
   once_step tq k = then_once (record { steps = tq }) [] k ∙ ap (λ x. model.once x [] k) (change_is (record { steps = tq }))

@@ -25,8 +25,8 @@ use Rattle.jz_unroll.proofs.Keeping.{unrolling_known, unrolling_items}
 use Rattle.jz_unroll.proofs.Parts.{not_true}
 use Rattle.jz_function_runs.specs.FunctionRuns.{plain_body, alike_where}
 use Rattle.jz_function_runs.proofs.Carrying.{functions_carry, always_carry}
-use Rattle.jz_unrolling.specs.InlineNames.{inline_names}
-use Rattle.jz_unrolling.specs.Numbers.{no_numbers}
+use Rattle.jz_unrolling_values.specs.InlineNames.{inline_names}
+use Rattle.jz_unrolling_values.specs.Numbers.{no_numbers}
 use Rattle.jz_unrolling.specs.Unrolled.{IsUnrolled, KeepsHead, GivesPlain, KeepsRuns, KeepsCases}
 
 module _ (names : InlineNames) where

@@ -1,9 +1,8 @@
-pub mod PartLemmas
-pub mod NumberLemmas
 pub mod Becoming
+pub mod ForgetLemmas
+pub mod SpareLemmas
+pub mod FitLemmas
 pub mod RoundLemmas
 pub mod AddLemmas
 pub mod FormLemmas
-pub mod NameLemmas
-pub mod SettingLemmas
 pub mod FunctionLemmas

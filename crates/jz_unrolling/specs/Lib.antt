@@ -1,5 +1,5 @@
-pub mod InlineNames
-pub mod Numbers
-pub mod Parts
+pub mod Forgetting
+pub mod Fits
 pub mod Steps
+pub mod Refusals
 pub mod Unrolled

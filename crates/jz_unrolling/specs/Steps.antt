@@ -1,5 +1,5 @@
 -- What statements become, before whatever follows, with the steps of the change.
-use Rattle.std.specs.Prelude.{◌≡◌, Bool, false, not, is_some, List, [], ◌∷◌, ◌++◌, map, Option, Some, None}
+use Rattle.std.specs.Prelude.{◌≡◌, Bool, not, is_some, List, [], ◌∷◌, ◌++◌, map, Option, Some, None}
 use Rattle.jz_tree.specs.Span.{Span}
 use Rattle.jz_tree.specs.declared.expr.Expr.{Expr}
 use Rattle.jz_tree.specs.declared.expr.Var.{Var}
@@ -18,19 +18,18 @@ use Rattle.jz_change.specs.declared.change.Step.{Step}
 use Rattle.jz_change.specs.declared.change.Step.TheVariants as step
 use Rattle.jz_pass.specs.Unrolling.{Unrolls}
 use Rattle.jz_unroll.specs.Values.{InlineNames}
-use Rattle.jz_unroll.specs.Unrolling.{HasValue, IsInlineInt, IsConstant, KnowsLess, UnrollsLoopTest, unrolling}
-use Rattle.jz_unrolling.specs.declared.known.Changed.{Changed}
-use Rattle.jz_unrolling.specs.declared.known.Known.{Known}
-use Rattle.jz_unrolling.specs.declared.settings.Setting.{Setting}
-use Rattle.jz_unrolling.specs.declared.statements.Apart.{Apart}
+use Rattle.jz_unroll.specs.Unrolling.{HasValue, IsInlineInt, KnowsLess, unrolling}
+use Rattle.jz_unrolling_values.specs.declared.known.Known.{Known}
+use Rattle.jz_unrolling.specs.declared.statements.Setting.{Setting}
 use Rattle.jz_unrolling.specs.declared.statements.Branch.{Branch}
-use Rattle.jz_unrolling.specs.declared.statements.Head.{Head}
-use Rattle.jz_unrolling.specs.declared.statements.LoopTest.{LoopTest}
-use Rattle.jz_unrolling.specs.declared.statements.LoopTest.TheVariants.{Once, Asks}
+use Rattle.jz_unrolling.specs.declared.statements.Loop.{Loop}
 use Rattle.jz_unrolling.specs.declared.statements.Rounds.{Rounds}
 use Rattle.jz_unrolling.specs.declared.statements.Turn.{Turn}
 use Rattle.jz_unrolling.specs.declared.statements.Turns.{Turns}
-use Rattle.jz_unrolling.specs.Numbers.{numbers_in, undone, Went}
+use Rattle.jz_unrolling.specs.Fits.{Fits}
+use Rattle.jz_unrolling.specs.Forgetting.{forgotten}
+use Rattle.jz_unrolling_values.specs.Numbers.{numbers_in, Went}
+use Rattle.jz_unrolling_values.specs.Parts.{IsLoopTest}
 
 -- ---- trees of statements
 
@@ -57,19 +56,9 @@ abbrev pub step_list : Option Step → List Step
 step_list None = []
 step_list (Some s) = s ∷ []
 
--- the same is known before and behind
-pub record IsSame (old new : Known) : Type 0 where
-  pub changed : new.changed.items ≡ old.changed.items
-  pub numbers : numbers_in new ≡ numbers_in old
-
 abbrev pub list_or : Option (List Stmt) → List Stmt
 list_or None = []
 list_or (Some ss) = ss
-
-abbrev pub loop_of : List Stmt → Expr → Option (List Stmt) → Span → Block → Block
-loop_of q c body at =
-    loop (not (is_some body)) (block no_callees q done) (record { cond = c; at = at })
-    (body_piece no_callees body done)
 
 abbrev pub for_of : Rounds → Expr → Expr → Span → List Stmt → Block → Block
 for_of r from to at body =
@@ -79,13 +68,21 @@ for_of r from to at body =
 
 module _ (names : InlineNames) where
   -- a piece of a tree, where e is known, becomes these statements; e1 is known behind it
-  abbrev pub Becomes :
-      (Block → Block) → KnownNumbers → List Stmt → KnownNumbers → List Step → Type 0
+  abbrev pub Becomes : (Block → Block) → KnownNumbers → List Stmt → KnownNumbers → List Step → Type 0
   Becomes piece e made e1 steps =
       (t rest u : Block) (e2 : KnownNumbers) (k : model.Change)
       → Unrolls (unrolling names) t e1 rest u e2 k
       → Unrolls (unrolling names) (piece t) e rest (block no_callees made u) e2
       (chain (map then_step steps) k)
+
+  -- what fits, with this piece in front, fits behind it, where e1 is known
+  abbrev pub FitsOn : (Block → Block) → KnownNumbers → KnownNumbers → Type 0
+  FitsOn piece e e1 =
+      (t : Block) (e2 : KnownNumbers) → Fits names (piece t) e e2 → Fits names t e1 e2
+
+  -- what is known and not set is known behind it
+  abbrev pub Spares : (Block → Block) → KnownNumbers → KnownNumbers → Type 0
+  Spares piece e e1 = KnowsLess (forgotten names (piece done) e) e1
 
   -- behind what is there
   pub record Adds (piece : Block → Block) (old new : Known) (before behind : List Stmt)
@@ -93,6 +90,8 @@ module _ (names : InlineNames) where
     pub made : List Stmt
     pub added : behind ≡ before ++ made
     pub becomes : Becomes piece (numbers_in old) made (numbers_in new) steps
+    pub only : FitsOn piece (numbers_in old) (numbers_in new)
+    pub spares : Spares piece (numbers_in old) (numbers_in new)
     pub went : Went old new
 
   abbrev pub AddsStep :
@@ -103,59 +102,32 @@ module _ (names : InlineNames) where
       (Block → Block) → Known → Known → List Stmt → List Stmt → Option Step → Type 0
   AddsOne piece old new before behind s = Adds piece old new before behind (step_list s)
 
-  -- by themselves; what is known before them is known behind them too
-  pub record IsApart (ss : List Stmt) (old new : Known) (made : Apart) : Type 0 where
+  -- by themselves
+  pub record IsApart (piece : Block → Block) (e : KnownNumbers) (made : List Stmt)
+      (steps : List Step) : Type 0 where
     pub behind : KnownNumbers
-    pub becomes :
-        Becomes (block no_callees ss) (numbers_in old) made.statements behind made.steps
-    pub less : KnowsLess (numbers_in old) behind
-    pub same : IsSame old new
+    pub becomes : Becomes piece e made behind steps
+    pub only : FitsOn piece e behind
+    pub spares : Spares piece e behind
+
+  -- nothing is known any more of what a piece sets
+  pub record Forgets (piece : Block → Block) (old new : Known) : Type 0 where
+    pub numbers : numbers_in new ≡ forgotten names (piece done) (numbers_in old)
+    pub went : Went old new
 
   -- ---- `while`
 
-  -- a body, where there is one; what is known before it is known behind it too
-  pub record IsTurn (body : Option (List Stmt)) (old new : Known) (made : Turn) : Type 0 where
+  -- a body, where there is one
+  pub record IsTurn (body : Option (List Stmt)) (e : KnownNumbers) (made : Turn) : Type 0 where
     pub there : is_some made.body ≡ is_some body
-    pub behind : KnownNumbers
-    pub becomes :
-        Becomes (body_piece no_callees body) (numbers_in old) (list_or made.body) behind
-        made.steps
-    pub less : KnowsLess (numbers_in old) behind
-    pub same : IsSame old new
+    pub apart : IsApart (body_piece no_callees body) e (list_or made.body) made.steps
 
-  -- false at once, or a test that stays
-  abbrev pub IsLoopTest : KnownNumbers → Expr → Span → LoopTest → Type 0
-  IsLoopTest e c at Once = IsConstant (record { cond = c; at = at }) e false
-  IsLoopTest e c at (Asks y) =
-      UnrollsLoopTest names (record { cond = c; at = at }) e [] []
-      (record { cond = y; at = at }) Same
-
-  -- behind a prologue: what it has become, and the test; e is known before it
-  pub record IsHead (e : KnownNumbers) (old : Known) (q : List Stmt) (c : Expr) (at : Span)
-      (head : Head) : Type 0 where
-    pub becomes :
-        Becomes (block no_callees q) e head.prologue.statements (numbers_in old)
-        head.prologue.steps
-    pub back : undone old.changed.items (numbers_in old) ≡ e
-    pub test :
-        UnrollsLoopTest names (record { cond = c; at = at }) (numbers_in old) [] []
-        (record { cond = head.cond; at = at }) Same
-
-  -- a whole loop, behind which the same is known as before it
-  pub record IsLoop (piece : Block → Block) (e : KnownNumbers) (new : Known)
-      (outer : List Changed) (before after : List Stmt) (s : Step) : Type 0 where
-    pub made : List Stmt
-    pub added : after ≡ before ++ made
-    pub becomes : Becomes piece e made e (s ∷ [])
-    pub numbers : numbers_in new ≡ e
-    pub changed : new.changed.items ≡ outer
-
-  abbrev pub EndsLoop :
-      Head → Option (List Stmt) → Span → Known → Known → List Stmt → List Stmt → Step → Type 0
-  EndsLoop head body at old new before behind s =
-      (e : KnownNumbers) (q : List Stmt) (c : Expr)
-      → IsHead e old q c at head
-      → IsLoop (loop_of q c body at) e new head.outer.items before behind s
+  -- one that stays
+  pub record IsLoop (t : Turns) (e : KnownNumbers) (made : Loop) : Type 0 where
+    pub prologue :
+        IsApart (block no_callees t.prologue.now) e made.prologue.statements made.prologue.steps
+    pub test : IsLoopTest names prologue.behind t.cond.now made.cond
+    pub turn : IsTurn t.body.now prologue.behind made.turn
 
   -- ---- rounds
 

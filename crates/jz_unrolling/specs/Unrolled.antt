@@ -13,8 +13,9 @@ use Rattle.jz_inline.specs.Functions.{body_runs}
 use Rattle.jz_unroll.specs.Values.{is_inline_var}
 use Rattle.jz_unroll.specs.Unrolling.{marked_vars, unrolling}
 use Rattle.jz_function_runs.specs.FunctionRuns.{plain_body, alike_always}
-use Rattle.jz_unrolling.specs.InlineNames.{inline_names}
-use Rattle.jz_unrolling.specs.Numbers.{no_numbers}
+use Rattle.jz_unrolling.specs.Fits.{Fits}
+use Rattle.jz_unrolling_values.specs.InlineNames.{inline_names}
+use Rattle.jz_unrolling_values.specs.Numbers.{no_numbers}
 
 -- the body is unrolled, where the variables that are declared as inline integers are inline
 pub record IsUnrolled (f g : Fun) (k : Change) : Type 0 where
@@ -38,11 +39,17 @@ pub record KeepsHead (f g : Fun) : Type 0 where
 abbrev pub GivesPlain : Fun → Type 0
 GivesPlain f = list_all (λ v. not (is_inline_var (inline_names (variables_of f)) v)) f.result ≡ true
 
+-- what is asked for has a value
+pub record IsUnrollable (f : Fun) : Type 0 where
+  pub behind : KnownNumbers
+  pub fits : Fits (inline_names (variables_of f)) (plain_body f) no_numbers behind
+  pub plain : GivesPlain f
+
 -- ---- runs
 
--- on each input, for each number of true tests of `while`: a run of the one is followed by one of
--- the other, with the same results and memory and the changed leak, and the one is stuck where the
--- other is, for the same reason
+-- on each input, for each number of true tests of `while`: a run of the one is followed by one of the
+-- other, with the same results and memory and the changed leak, and the one is stuck where the other
+-- is, for the same reason
 abbrev pub KeepsRuns : Fun → Fun → Change → Type 0
 KeepsRuns f g k =
     Carries alike_always (body_runs (plain_body f) f) (body_runs (plain_body g) g) k

@@ -1,19 +1,20 @@
 //! Whole functions.
 
-ghost use Rattle.std.specs.Prelude.{◌≡◌, true, not, IfOk, OnOk};
+ghost use Rattle.std.specs.Prelude.{◌≡◌, true, false, not, IfOk, IfErr};
+ghost use Rattle.jz_tree.specs.Failures.{IfAnswered, IfRefused};
 ghost use Rattle.std.specs.List.{list_all};
 ghost use Rattle.jz_change.specs.Views.{change_of};
 ghost use Rattle.jz_unroll.specs.Unrolling.{marked_vars};
 ghost use Rattle.jz_unroll.specs.Values.{is_inline_var};
-ghost use Rattle.jz_unrolling.specs.InlineNames.{names_in};
-ghost use Rattle.jz_unrolling.specs.Unrolled.{IsUnrolled, KeepsHead, GivesPlain};
+ghost use Rattle.jz_unrolling_values.specs.InlineNames.{names_in};
+ghost use Rattle.jz_unrolling.specs.Unrolled.{IsUnrolled, IsUnrollable, KeepsHead, GivesPlain};
+ghost use Rattle.jz_unrolling_values.specs.Refusals.{OrElse};
 ghost use Rattle.jz_unrolling.specs.Unrolled.{KeepsRuns, KeepsCases};
 
-use crate::inline_vars::InlineVars;
-use crate::known::Known;
 use crate::statements::{Unroller, unroll_all};
 use jz_pass::{Change, Passed};
 use jz_tree::{Failure, Fun, Param, Ret, Seq, Span, Stmt, Var, copy_notes, copy_vars};
+use jz_unrolling_values::{InlineVars, Known};
 use std::alloc::{AllocError, Global};
 
 fn copy_rets(alloc: Global, rets: &Seq<Ret>) -> Result<Seq<Ret>, AllocError>
@@ -39,8 +40,9 @@ fn copy_params(alloc: Global, params: &Seq<Param>) -> Result<Seq<Param>, AllocEr
 
 /// Refused where a result is an inline variable, at its place.
 fn ask_results(vars: &InlineVars, results: &Seq<Var>) -> Result<(), Failure<Span>>
-    ensures { OnOk result (list_all (λ v. not (is_inline_var (names_in vars.now) v)) results.now
-        ≡ true) }
+    ensures { let names = names_in vars.now in
+        let plain = list_all (λ v. not (is_inline_var names v)) results.now in
+        IfAnswered result (OrElse (λ u. plain ≡ true) (plain ≡ false)) }
 {
     for var in results.as_slice() {
         if vars.has(&var.name, var.copy) {
@@ -77,6 +79,7 @@ fn unroll_function(alloc: Global, fun: &Fun) -> Result<Passed<Fun>, Failure<Span
     ensures body { IfOk result (λ r. IsUnrolled fun.now r.program (change_of r.change)) }
     ensures head { IfOk result (λ r. KeepsHead fun.now r.program) }
     ensures plain { IfOk result (λ r. GivesPlain fun.now) }
+    ensures refused { IfErr result (λ failure. IfRefused failure (λ at. IsUnrollable fun.now → ⊥)) }
 {
     let vars = InlineVars::of(alloc, fun)?;
     ask_results(&vars, &fun.result)?;
@@ -94,12 +97,13 @@ fn unroll_function(alloc: Global, fun: &Fun) -> Result<Passed<Fun>, Failure<Span
 /// The function whose loops are their rounds, whose inline expressions are their values and whose
 /// constant tests are gone, with what that makes of its leaks. It is for functions without calls,
 /// whose expansion is within the limits: a `for` takes as long as it has rounds. Refused, at the
-/// place, where an inline expression that is asked for has no value, and what no typed text has.
+/// place, is what is not unrollable.
 pub fn unroll(alloc: Global, fun: &Fun) -> Result<Passed<Fun>, Failure<Span>>
     ensures body { IfOk result (λ r. IsUnrolled fun.now r.program (change_of r.change)) }
     ensures head { IfOk result (λ r. KeepsHead fun.now r.program) }
     ensures law { IfOk result (λ r. KeepsRuns fun.now r.program (change_of r.change)) }
     ensures cases { IfOk result (λ r. KeepsCases fun.now r.program (change_of r.change)) }
+    ensures refused { IfErr result (λ failure. IfRefused failure (λ at. IsUnrollable fun.now → ⊥)) }
 {
     let passed = unroll_function(alloc, fun)?;
     Ok(passed)

@@ -2,14 +2,8 @@
 //! expressions become their values; and what that makes of a leak.
 #![tactic(auto)]
 
-mod conditions;
-mod constants;
-mod expressions;
+mod forgetting;
 mod functions;
-mod inline_vars;
-mod known;
-mod parts;
-mod settings;
 mod statements;
 
 pub use functions::unroll;

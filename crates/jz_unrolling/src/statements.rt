@@ -2,34 +2,32 @@
 
 ghost use Rattle.std.specs.Prelude.{◌≡◌, ◌∷◌, ◌++◌, [], List, true, false};
 ghost use Rattle.std.specs.Prelude.{IfOk, OnOk, MatchOption, if◌then◌else◌};
-ghost use Rattle.jz_tree.specs.declared.stmt.Lval.TheVariants as lval;
+ghost use Rattle.jz_tree.specs.Failures.{IfAnswered};
 ghost use Rattle.jz_tree.specs.Span.{Span as Place};
 ghost use Rattle.jz_tree.specs.declared.stmt.Stmt.{Stmt as Statement};
 ghost use Rattle.jz_meaning.specs.Trees.{op as op_node, quiet};
 ghost use Rattle.jz_meaning.specs.Statements.{instruction, unset, values_between};
 ghost use Rattle.jz_meaning.specs.Runs.{block, statement_tree};
-ghost use Rattle.jz_unrolling.specs.InlineNames.{names_in};
-ghost use Rattle.jz_unrolling.specs.Numbers.{numbers_in, SetsIf};
-ghost use Rattle.jz_unrolling.specs.Parts.{IsTest};
-ghost use Rattle.jz_unrolling.specs.declared.conditions.Test.TheVariants.{Asked};
+ghost use Rattle.jz_interp.specs.InnerParts.{body_piece};
+ghost use Rattle.jz_unroll.specs.Values.{operation_has_values};
+ghost use Rattle.jz_unrolling_values.specs.InlineNames.{names_in};
+ghost use Rattle.jz_unrolling_values.specs.Numbers.{numbers_in, SetsIf, IsSame};
+ghost use Rattle.jz_unrolling_values.specs.Parts.{IsTest, IsNever};
+ghost use Rattle.jz_unrolling_values.specs.Refusals.{OrElse, SetsOne};
+ghost use Rattle.jz_unrolling_values.specs.declared.conditions.Test.TheVariants.{Asked};
+ghost use Rattle.jz_unrolling.specs.Refusals.{NeverFits, NeverTurns, NeverCounts, NeverRounds};
 ghost use Rattle.jz_unrolling.specs.Steps.{no_callees, setting_of, branch_of, turns_of};
-ghost use Rattle.jz_unrolling.specs.Steps.{one_item, step_list};
-ghost use Rattle.jz_unrolling.specs.Steps.{Adds, AddsOne, AddsStep, IsApart, IsTurn, EndsLoop};
-ghost use Rattle.jz_unrolling.specs.Steps.{IsLoopTest};
-ghost use Rattle.jz_tree.specs.declared.expr.Expr.{Expr as Tree};
-ghost use Rattle.jz_integers.specs.Integers.{KnownNumbers};
-ghost use Rattle.jz_unroll.specs.Values.{InlineNames};
-ghost use Rattle.jz_unrolling.specs.Steps.{HasRounds, AddsRounds};
+ghost use Rattle.jz_unrolling.specs.Steps.{one_item, step_list, Adds, AddsOne, AddsStep, IsApart};
+ghost use Rattle.jz_unrolling.specs.Steps.{IsLoop, IsTurn, HasRounds, AddsRounds};
 
-use crate::conditions::{Test, test_of};
-use crate::expressions::{
-    Values, all_with_values, condition_with_values, lefts_with_values, number_of, with_values,
-};
-use crate::inline_vars::InlineVars;
-use crate::known::{Changed, Known};
-use crate::settings::{Setting, inline_target, is_inline_number, is_set, new_number, stands_apart};
+use crate::forgetting::{forget_body, forget_set};
 use jz_change::{Change, Numbers, Step};
 use jz_tree::{BinOp, Expr, Failure, Lval, Rhs, Seq, Span, Stmt, StmtKind, Text, Var, copy_notes};
+use jz_unrolling_values::{
+    InlineVars, Known, Test, Values, all_with_values, condition_with_values, inline_target,
+    is_inline_number, is_never, is_set, lefts_with_values, loop_test, new_number, number_of,
+    stands_apart, test_of, with_values,
+};
 use std::alloc::{AllocError, Global};
 
 /// What is the same for all statements.
@@ -37,6 +35,15 @@ use std::alloc::{AllocError, Global};
 pub(crate) struct Unroller<'a> {
     pub alloc: Global,
     pub vars: &'a InlineVars,
+}
+
+/// An assignment: `to = value`, with an operation `to = to op value`, where `cond` holds.
+#[derive(Clone, Copy)]
+struct Setting<'a> {
+    to: &'a Seq<Lval>,
+    op: Option<BinOp>,
+    value: &'a Expr,
+    cond: &'a Option<Expr>,
 }
 
 /// Statements by themselves, and the steps of the change.
@@ -55,8 +62,10 @@ pub(crate) fn unroll_all(
     stmts: &Seq<Stmt>,
     out: &mut Seq<Stmt>,
 ) -> Result<Seq<Step>, Failure<Span>>
-    ensures { IfOk result (Adds (names_in unroller.now.vars.now) (block no_callees stmts.now)
-        known.old known.new out.old out.new) }
+    ensures { let names = names_in unroller.now.vars.now in
+        let piece = block no_callees stmts.now in
+        IfAnswered result (OrElse (Adds names piece known.old known.new out.old out.new)
+        (NeverFits names piece (numbers_in known.old))) }
 {
     let mut steps = Seq::new(unroller.alloc);
     for stmt in stmts.as_slice() {
@@ -85,8 +94,10 @@ fn unroll_one(
     stmt: &Stmt,
     out: &mut Seq<Stmt>,
 ) -> Result<Option<Step>, Failure<Span>>
-    ensures { IfOk result (AddsOne (names_in unroller.now.vars.now)
-        (statement_tree no_callees stmt.now) known.old known.new out.old out.new) }
+    ensures { let names = names_in unroller.now.vars.now in
+        let piece = statement_tree no_callees stmt.now in
+        IfAnswered result (OrElse (AddsOne names piece known.old known.new out.old out.new)
+        (NeverFits names piece (numbers_in known.old))) }
 {
     match &stmt.kind {
         StmtKind::Assign { to, op, rhs, cond } => match rhs {
@@ -167,8 +178,10 @@ fn unroll_setting(
     setting: &Setting<'_>,
     out: &mut Seq<Stmt>,
 ) -> Result<Step, Failure<Span>>
-    ensures { IfOk result (AddsStep (names_in unroller.now.vars.now) (op_node (setting_of
-        setting.now stmt.now.span)) known.old known.new out.old out.new) }
+    ensures { let names = names_in unroller.now.vars.now in
+        let piece = op_node (setting_of setting.now stmt.now.span) in
+        IfAnswered result (OrElse (AddsStep names piece known.old known.new out.old out.new)
+        (NeverFits names piece (numbers_in known.old))) }
 {
     match inline_target(unroller.vars, setting.to) {
         Some(var) => {
@@ -200,10 +213,12 @@ fn unroll_number(
     var: &Var,
     setting: &Setting<'_>,
 ) -> Result<Step, Failure<Span>>
-    requires { setting.now.to.now ≡ lval.Var var.now ∷ [] }
-    ensures { IfOk result (λ step. (at : Place) (out : List Statement)
-        → AddsStep (names_in unroller.now.vars.now) (op_node (setting_of setting.now at))
-        known.old known.new out out step) }
+    requires { SetsOne (names_in unroller.now.vars.now) setting.now.to.now var.now }
+    ensures { let names = names_in unroller.now.vars.now in
+        IfAnswered result (OrElse (λ step. (at : Place) (out : List Statement)
+        → AddsStep names (op_node (setting_of setting.now at)) known.old known.new out out step)
+        ((at : Place)
+        → NeverFits names (op_node (setting_of setting.now at)) (numbers_in known.old))) }
 {
     if !is_inline_number(unroller.vars, var) {
         return Err(Failure::Refused(var.span));
@@ -226,8 +241,11 @@ fn unroll_plain(
     setting: &Setting<'_>,
     out: &mut Seq<Stmt>,
 ) -> Result<Step, Failure<Span>>
-    ensures { IfOk result (AddsStep (names_in unroller.now.vars.now) (op_node (setting_of
-        setting.now stmt.now.span)) known.now known.now out.old out.new) }
+    ensures { let names = names_in unroller.now.vars.now in
+        let set = setting_of setting.now stmt.now.span in
+        let e = numbers_in known.now in
+        IfAnswered result (OrElse (AddsStep names (op_node set) known.now known.now out.old out.new)
+        (operation_has_values names e set ≡ false)) }
 {
     let values = Values {
         alloc: unroller.alloc,
@@ -270,9 +288,12 @@ fn unroll_instruction(
     named: &Named<'_>,
     out: &mut Seq<Stmt>,
 ) -> Result<Step, Failure<Span>>
-    ensures { IfOk result (AddsStep (names_in unroller.now.vars.now) (op_node (instruction
-        named.now.to.now named.now.name.now named.now.args.now named.now.at))
-        known.now known.now out.old out.new) }
+    ensures { let names = names_in unroller.now.vars.now in
+        let done = instruction named.now.to.now named.now.name.now named.now.args.now named.now.at in
+        let e = numbers_in known.now in
+        IfAnswered result
+        (OrElse (AddsStep names (op_node done) known.now known.now out.old out.new)
+        (operation_has_values names e done ≡ false)) }
 {
     let values = Values {
         alloc: unroller.alloc,
@@ -303,7 +324,7 @@ fn unroll_mark(
     stmt: &Stmt,
     vars: &Seq<Var>,
     out: &mut Seq<Stmt>,
-) -> Result<(), Failure<Span>>
+) -> Result<(), AllocError>
     ensures { OnOk result (Adds (names_in unroller.now.vars.now) (quiet (unset vars.now))
         known.old known.new out.old out.new []) }
 {
@@ -339,8 +360,10 @@ fn unroll_if(
     branch: &Branch<'_>,
     out: &mut Seq<Stmt>,
 ) -> Result<Step, Failure<Span>>
-    ensures { IfOk result (AddsStep (names_in unroller.now.vars.now) (branch_of branch.now
-        stmt.now.span) known.old known.new out.old out.new) }
+    ensures { let names = names_in unroller.now.vars.now in
+        let piece = branch_of branch.now stmt.now.span in
+        IfAnswered result (OrElse (AddsStep names piece known.old known.new out.old out.new)
+        (NeverFits names piece (numbers_in known.old))) }
 {
     let values = Values {
         alloc: unroller.alloc,
@@ -375,11 +398,15 @@ fn unroll_arms(
 ) -> Result<Step, Failure<Span>>
     requires { IsTest (names_in unroller.now.vars.now) (numbers_in known.old) branch.now.cond.now
         (Asked cond) }
-    ensures { IfOk result (AddsStep (names_in unroller.now.vars.now) (branch_of branch.now
-        stmt.now.span) known.old known.new out.old out.new) }
+    ensures { let names = names_in unroller.now.vars.now in
+        let piece = branch_of branch.now stmt.now.span in
+        IfAnswered result (OrElse (AddsStep names piece known.old known.new out.old out.new)
+        (NeverFits names piece (numbers_in known.old))) }
 {
-    let yes = unroll_apart(unroller, known, stmt.span, branch.yes)?;
-    let no = unroll_apart(unroller, known, stmt.span, branch.no)?;
+    let yes = unroll_apart(unroller, known, branch.yes)?;
+    let no = unroll_apart(unroller, known, branch.no)?;
+    forget_set(unroller.vars, known, branch.yes)?;
+    forget_set(unroller.vars, known, branch.no)?;
     let Apart {
         statements: yes_statements,
         steps: yes_steps,
@@ -401,25 +428,24 @@ fn unroll_arms(
     })
 }
 
-/// Statements by themselves. Behind them the same is known as before them. Refused where they
-/// change what is known before them.
+/// Statements by themselves. Behind them the same is known as before them.
 #[cycle(unroll)]
 fn unroll_apart(
     unroller: &Unroller<'_>,
     known: &mut Known,
-    at: Span,
     stmts: &Seq<Stmt>,
 ) -> Result<Apart, Failure<Span>>
-    ensures { IfOk result (IsApart (names_in unroller.now.vars.now) stmts.now known.old
-        known.new) }
+    ensures { let names = names_in unroller.now.vars.now in
+        let piece = block no_callees stmts.now in
+        IfAnswered result
+        (OrElse (λ made. IsApart names piece (numbers_in known.old) made.statements made.steps
+        × IsSame known.old known.new)
+        (NeverFits names piece (numbers_in known.old))) }
 {
     let outer = known.enter();
     let mut statements = Seq::new(unroller.alloc);
     let steps = unroll_all(unroller, known, stmts, &mut statements)?;
-    let kept = known.leave(outer)?;
-    if !kept {
-        return Err(Failure::Refused(at));
-    }
+    known.leave(outer)?;
     Ok(Apart { statements, steps })
 }
 
@@ -439,118 +465,134 @@ fn unroll_while(
     turns: &Turns<'_>,
     out: &mut Seq<Stmt>,
 ) -> Result<Step, Failure<Span>>
-    ensures { IfOk result (AddsStep (names_in unroller.now.vars.now) (turns_of turns.now
-        stmt.now.span) known.old known.new out.old out.new) }
+    ensures { let names = names_in unroller.now.vars.now in
+        let piece = turns_of turns.now stmt.now.span in
+        IfAnswered result (OrElse (AddsStep names piece known.old known.new out.old out.new)
+        (NeverFits names piece (numbers_in known.old))) }
 {
-    let outer = known.enter();
-    let mut statements = Seq::new(unroller.alloc);
-    let steps = unroll_all(unroller, known, turns.prologue, &mut statements)?;
     let values = Values {
         alloc: unroller.alloc,
         vars: unroller.vars,
         known: &*known,
     };
-    let test = test_of(&values, turns.cond)?;
-    let prologue = Apart { statements, steps };
-    match loop_test(test) {
-        LoopTest::Once => {
-            let Apart { statements, steps } = prologue;
-            known.join(outer)?;
-            out.append(statements)?;
-            Ok(Step::Once {
-                prologue: Change { steps },
-                before: Seq::new(unroller.alloc),
-            })
-        }
-        LoopTest::Asks(cond) => {
-            let head = Head {
-                outer,
-                prologue,
-                cond,
-            };
-            let step = unroll_body(unroller, known, stmt, head, turns.body, out)?;
-            Ok(step)
-        }
+    let never = is_never(&values, turns.cond)?;
+    if never {
+        let step = unroll_once(unroller, known, stmt.span, turns, out)?;
+        return Ok(step);
     }
+    let step = unroll_turns(unroller, known, stmt, turns, out)?;
+    Ok(step)
 }
 
-/// What a `while` with a test is.
-#[derive(Drop)]
-enum LoopTest {
-    /// Its prologue alone.
-    Once,
-    /// A loop with this test.
-    Asks(Expr),
-}
-
-fn loop_test(test: Test) -> LoopTest
-    ensures { (names : InlineNames) (e : KnownNumbers) (cond : Tree) (at : Place)
-        → IsTest names e cond test → IsLoopTest names e cond at result }
-{
-    match test {
-        Test::Asked(cond) => LoopTest::Asks(cond),
-        Test::Always(answer, span) => {
-            if answer {
-                LoopTest::Asks(Expr::Bool(true, span))
-            } else {
-                LoopTest::Once
-            }
-        }
-    }
-}
-
-/// The begin of a `while` that stays: the changes before it, what its prologue has become, and the
-/// test.
-#[derive(Drop)]
-struct Head {
-    outer: Vec<Changed>,
-    prologue: Apart,
-    cond: Expr,
-}
-
+/// A `while` whose test is false at once: its prologue alone.
 #[cycle(unroll)]
-fn unroll_body(
+fn unroll_once(
+    unroller: &Unroller<'_>,
+    known: &mut Known,
+    at: Span,
+    turns: &Turns<'_>,
+    out: &mut Seq<Stmt>,
+) -> Result<Step, Failure<Span>>
+    requires { IsNever (numbers_in known.old) turns.now.cond.now }
+    ensures { let names = names_in unroller.now.vars.now in
+        let piece = turns_of turns.now at in
+        IfAnswered result (OrElse (AddsStep names piece known.old known.new out.old out.new)
+        (NeverFits names piece (numbers_in known.old))) }
+{
+    let steps = unroll_all(unroller, known, turns.prologue, out)?;
+    let values = Values {
+        alloc: unroller.alloc,
+        vars: unroller.vars,
+        known: &*known,
+    };
+    let never = is_never(&values, turns.cond)?;
+    if !never {
+        return Err(Failure::Refused(at));
+    }
+    Ok(Step::Once {
+        prologue: Change { steps },
+        before: Seq::new(unroller.alloc),
+    })
+}
+
+/// A `while` that stays. Before it nothing is known of what it sets.
+#[cycle(unroll)]
+fn unroll_turns(
     unroller: &Unroller<'_>,
     known: &mut Known,
     stmt: &Stmt,
-    head: Head,
-    body: &Option<Seq<Stmt>>,
+    turns: &Turns<'_>,
     out: &mut Seq<Stmt>,
 ) -> Result<Step, Failure<Span>>
-    ensures { IfOk result (EndsLoop (names_in unroller.now.vars.now) head body.now stmt.now.span
-        known.old known.new out.old out.new) }
+    requires { IsNever (numbers_in known.old) turns.now.cond.now → ⊥ }
+    ensures { let names = names_in unroller.now.vars.now in
+        let piece = turns_of turns.now stmt.now.span in
+        IfAnswered result (OrElse (AddsStep names piece known.old known.new out.old out.new)
+        (NeverFits names piece (numbers_in known.old))) }
 {
-    let Head {
-        outer,
+    forget_set(unroller.vars, known, turns.prologue)?;
+    forget_body(unroller.vars, known, turns.body)?;
+    let made = unroll_loop(unroller, known, turns)?;
+    let Loop {
         prologue,
         cond,
-    } = head;
-    let made = unroll_turn(unroller, known, stmt.span, body)?;
-    let kept = known.leave(outer)?;
-    if !kept {
-        return Err(Failure::Refused(stmt.span));
-    }
-    let Apart {
-        statements: prologue_statements,
-        steps: prologue_steps,
-    } = prologue;
-    let Turn { body, steps } = made;
+        turn,
+    } = made;
+    let Apart { statements, steps } = prologue;
+    let Turn { body, steps: turn } = turn;
     out.push(Stmt {
         notes: copy_notes(unroller.alloc, &stmt.notes)?,
         span: stmt.span,
         kind: StmtKind::While {
-            prologue: prologue_statements,
+            prologue: statements,
             cond,
             body,
         },
     })?;
     Ok(Step::While {
-        prologue: Change {
-            steps: prologue_steps,
-        },
+        prologue: Change { steps },
         before: Seq::new(unroller.alloc),
         test: Numbers::Same,
-        body: Change { steps },
+        body: Change { steps: turn },
+    })
+}
+
+/// The parts of a `while` that stays.
+#[derive(Drop)]
+struct Loop {
+    prologue: Apart,
+    cond: Expr,
+    turn: Turn,
+}
+
+#[cycle(unroll)]
+fn unroll_loop(
+    unroller: &Unroller<'_>,
+    known: &mut Known,
+    turns: &Turns<'_>,
+) -> Result<Loop, Failure<Span>>
+    ensures { let names = names_in unroller.now.vars.now in
+        let e = numbers_in known.old in
+        IfAnswered result
+        (OrElse (λ made. IsLoop names turns.now e made × IsSame known.old known.new)
+        (NeverTurns names turns.now e)) }
+{
+    let outer = known.enter();
+    let mut statements = Seq::new(unroller.alloc);
+    let steps = unroll_all(unroller, known, turns.prologue, &mut statements)?;
+    let prologue = Apart { statements, steps };
+    let values = Values {
+        alloc: unroller.alloc,
+        vars: unroller.vars,
+        known: &*known,
+    };
+    let cond = loop_test(&values, turns.cond)?;
+    let turn = unroll_turn(unroller, known, turns.body)?;
+    known.leave(outer)?;
+    Ok(Loop {
+        prologue,
+        cond,
+        turn,
     })
 }
 
@@ -565,10 +607,13 @@ struct Turn {
 fn unroll_turn(
     unroller: &Unroller<'_>,
     known: &mut Known,
-    at: Span,
     body: &Option<Seq<Stmt>>,
 ) -> Result<Turn, Failure<Span>>
-    ensures { IfOk result (IsTurn (names_in unroller.now.vars.now) body.now known.old known.new) }
+    ensures { let names = names_in unroller.now.vars.now in
+        let e = numbers_in known.old in
+        IfAnswered result
+        (OrElse (λ made. IsTurn names body.now e made × IsSame known.old known.new)
+        (NeverFits names (body_piece no_callees body.now) e)) }
 {
     match body {
         None => Ok(Turn {
@@ -576,7 +621,7 @@ fn unroll_turn(
             steps: Seq::new(unroller.alloc),
         }),
         Some(body) => {
-            let made = unroll_apart(unroller, known, at, body)?;
+            let made = unroll_apart(unroller, known, body)?;
             let Apart { statements, steps } = made;
             Ok(Turn {
                 body: Some(statements),
@@ -604,8 +649,11 @@ fn rounds_of<'a>(
     down: bool,
     to: &Expr,
 ) -> Result<Rounds<'a>, Failure<Span>>
-    ensures { IfOk result (λ rounds. HasRounds (names_in unroller.now.vars.now)
-        (numbers_in known.now) rounds counter.now from.now down to.now) }
+    ensures { let names = names_in unroller.now.vars.now in
+        let e = numbers_in known.now in
+        IfAnswered result
+        (OrElse (λ rounds. HasRounds names e rounds counter.now from.now down to.now)
+        (NeverCounts names e counter.now from.now down to.now)) }
 {
     if !is_inline_number(unroller.vars, counter) {
         return Err(Failure::Refused(counter.span));
@@ -634,8 +682,11 @@ fn unroll_rounds(
     body: &Seq<Stmt>,
     out: &mut Seq<Stmt>,
 ) -> Result<Step, Failure<Span>>
-    ensures { IfOk result (AddsRounds (names_in unroller.now.vars.now) rounds.now body.now
-        known.old known.new out.old out.new) }
+    ensures { let names = names_in unroller.now.vars.now in
+        let all = rounds.now in
+        IfAnswered result
+        (OrElse (AddsRounds names all body.now known.old known.new out.old out.new)
+        (NeverRounds names all body.now known.old)) }
 {
     let counter = rounds.counter;
     let old = known.number(&counter.name, counter.copy);

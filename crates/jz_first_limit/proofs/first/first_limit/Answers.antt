@@ -1,6 +1,9 @@
-use Rattle.std.proofs.Common.{refl, inl}
-use Rattle.jz_first_limit.proofs.Answering.{found_is}
+use Rattle.std.proofs.Common.{subst}
+use Rattle.jz_first_limit.specs.FirstLimits.{IsMet}
 use Rattle.jz_first_limit.proofs.first.first_limit.Goals as goal
 
-pub returns-in_ok-found-in-Ok : goal.returns-in_ok-found-in-Ok
-returns-in_ok-found-in-Ok c = found_is c.args.program.now c.args.fun.now c.in_ok-found-in-Ok.found c.in-Ok.ensures.within.within c.in_ok-found-in-Ok.ensures
+pub returns-in-Within : goal.returns-in-Within
+returns-in-Within c = (subst (IsMet c.args.program.now c.args.fun.now) c.in-Within.is c.in_ok-met.ensures).0
+
+pub returns-in-Passed : goal.returns-in-Passed
+returns-in-Passed c = subst (IsMet c.args.program.now c.args.fun.now) c.in-Passed.is c.in_ok-met.ensures

@@ -1,12 +1,11 @@
-use Rattle.std.proofs.Common.{◌≡◌, ℕ, ◌+◌, ◌-◌, ◌≤◌, List, [], ◌∷◌, ◌++◌, drop, length, None, Some, refl, sym, ap, ◌∙◌, subst, rules, arith}
+use Rattle.std.proofs.Common.{◌≡◌, ◌+◌, ◌-◌, ◌≤◌, [], ◌∷◌, ◌++◌, drop, length, Some, sym, ap, ◌∙◌, subst, rules, arith}
 use Rattle.std.specs.Prelude.{replicate}
 use Rattle.std.specs.Option.{option_copied}
-use Rattle.jz_tree.specs.declared.stmt.Rhs.TheVariants as rhs
 use Rattle.std.specs.Int.{w128}
 use Rattle.std.proofs.lemmas.Int.{to_z-of_z}
 use Rattle.jz_integers.specs.Integers.{KnownNumbers}
 use Rattle.jz_meaning.specs.Statements.{Call, assign, meaningless}
-use Rattle.jz_meaning.specs.Runs.{Callees, assign_tree, call_tree, statement_tree}
+use Rattle.jz_meaning.specs.Runs.{Callees, assign_tree, statement_tree}
 use Rattle.jz_interp.proofs.Falls.{weights_at}
 use Rattle.jz_interp.proofs.Weights.{weight, weights}
 use Rattle.jz_copies.proofs.Depths.{one_deeper}

@@ -1,4 +1,4 @@
-use Rattle.std.proofs.Common.{◌≡◌, ◌∙◌, ◌-◌, ap, subst}
+use Rattle.std.proofs.Common.{◌∙◌, ◌-◌, ap, subst}
 use Rattle.std.specs.Prelude.{replicate}
 use Rattle.jz_limits.specs.Limits.{one}
 use Rattle.jz_first_limit.specs.declared.met.Met.TheVariants.{Within, Passed}

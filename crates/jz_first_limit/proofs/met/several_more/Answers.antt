@@ -1,4 +1,4 @@
-use Rattle.std.proofs.Common.{◌≤◌, ◌+◌, sym, subst}
+use Rattle.std.proofs.Common.{◌≤◌, sym, subst}
 use Rattle.jz_limits.specs.Limits.{one, most_statements}
 use Rattle.std.specs.Prelude.{replicate}
 use Rattle.jz_first_limit.specs.declared.met.Met.TheVariants.{Within}

@@ -3,7 +3,7 @@ use Rattle.std.specs.Option.{option_copied}
 use Rattle.jz_tree.specs.declared.expr.Expr.{Expr}
 use Rattle.jz_tree.specs.declared.program.Param.{Param}
 use Rattle.jz_limits.specs.InnerKnown.{numbers_of}
-use Rattle.jz_limits.specs.Walks.{with_argument, with_arguments}
+use Rattle.jz_limits.specs.Walks.{with_arguments}
 use Rattle.jz_first_limit.proofs.Copied.{at_item, at_got, at_none, no_more_numbers}
 use Rattle.jz_first_limit.proofs.passing.pass_numbers.Goals as goal
 

@@ -1,4 +1,4 @@
-use Rattle.std.proofs.Common.{◌∙◌, None, sym, subst}
+use Rattle.std.proofs.Common.{None, sym, subst}
 use Rattle.jz_meaning.specs.Statements.{instruction}
 use Rattle.jz_limits.specs.Asked.{asked}
 use Rattle.jz_limits.specs.InnerKnown.{numbers_of}

@@ -1,4 +1,3 @@
-use Rattle.std.proofs.Common.{◌∙◌, sym}
 use Rattle.jz_meaning.specs.Statements.{assign}
 use Rattle.jz_limits.specs.Asked.{asked}
 use Rattle.jz_limits.specs.InnerKnown.{numbers_of}

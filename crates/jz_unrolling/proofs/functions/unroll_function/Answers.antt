@@ -1,4 +1,4 @@
-use Rattle.std.proofs.Common.{◌≡◌, [], true, refl, ap, sym, subst}
+use Rattle.std.proofs.Common.{◌≡◌, ◌∙◌, [], true, false, refl, ap, sym, subst}
 use Rattle.std.specs.Prelude.{not}
 use Rattle.std.specs.List.{list_all}
 use Rattle.jz_tree.specs.declared.program.Fun.{Fun}
@@ -10,8 +10,10 @@ use Rattle.jz_change.proofs.StepViews.{change_is}
 use Rattle.jz_pass.specs.Unrolling.{Unrolls}
 use Rattle.jz_unroll.specs.Unrolling.{marked_vars, unrolling}
 use Rattle.jz_unroll.specs.Values.{is_inline_var}
-use Rattle.jz_unrolling.specs.InlineNames.{names_in, inline_names}
-use Rattle.jz_unrolling.specs.Numbers.{no_numbers, numbers_in}
+use Rattle.jz_unrolling_values.specs.InlineNames.{names_in, inline_names}
+use Rattle.jz_unrolling_values.specs.Numbers.{no_numbers, numbers_in}
+use Rattle.jz_unrolling_values.proofs.RefusalLemmas.{handed_refusal}
+use Rattle.jz_unrolling.specs.Refusals.{NeverFits}
 use Rattle.jz_unrolling.specs.Steps.{no_callees, Adds, Becomes}
 use Rattle.jz_unrolling.specs.Unrolled.{IsUnrolled, KeepsHead}
 use Rattle.jz_unrolling.proofs.Becoming.{alone}
@@ -65,3 +67,23 @@ pub returns-clause-plain : goal.returns-clause-plain
 returns-clause-plain c =
     let f : Fun = c.args.fun.now in
     subst (λ n. list_all (λ v. not (is_inline_var n v)) f.result ≡ true) c.in_ok-vars.ensures.names c.in_ok-ask_results.ensures
+
+pub returns-in_err-ask_results-clause-refused : goal.returns-in_err-ask_results-clause-refused
+returns-in_err-ask_results-clause-refused c =
+    let f : Fun = c.args.fun.now in
+    handed_refusal _ c.from_residual-in_err-ask_results.result c.in_err-ask_results.field-0.0 c.from_residual-in_err-ask_results.ensures.1 c.in_err-ask_results.ensures
+    (λ fails u.
+    let q : true ≡ false = sym u.plain ∙ subst (λ n. list_all (λ v. not (is_inline_var n v)) f.result ≡ false) c.in_ok-vars.ensures.names fails in
+    absurd cc)
+
+pub returns-in_err-steps-clause-refused : goal.returns-in_err-steps-clause-refused
+returns-in_err-steps-clause-refused c =
+    let f : Fun = c.args.fun.now in
+    let names = inline_names (variables_of f) in
+    handed_refusal _ c.from_residual-in_err-steps.result c.in_err-steps.field-0.0 c.from_residual-in_err-steps.ensures.1 c.in_err-steps.ensures
+    (λ fails u.
+    let never : NeverFits names (block no_callees f.body) no_numbers =
+    subst (λ e. NeverFits names (block no_callees f.body) e) c.new-known.ensures.numbers
+    (subst (λ n. NeverFits n (block no_callees f.body) (numbers_in c.new-known.result)) c.in_ok-vars.ensures.names fails)
+    in
+    never done u.behind u.fits)

@@ -2,7 +2,7 @@ use Rattle.std.proofs.Common.{◌+◌, ◌*◌, take, length}
 use Rattle.jz_meaning.specs.Runs.{block}
 use Rattle.jz_meaning.specs.Statements.{values_between}
 use Rattle.jz_interp.proofs.Weights.{weight, weights, body_weight}
-use Rattle.jz_unrolling.specs.InlineNames.{names_in}
+use Rattle.jz_unrolling_values.specs.InlineNames.{names_in}
 use Rattle.jz_unrolling.specs.Steps.{no_callees, Adds}
 use Rattle.jz_unrolling.proofs.FormLemmas.{IsRounding}
 use Rattle.jz_unrolling.proofs.statements.+unroll.Given as goal
@@ -23,10 +23,16 @@ abbrev pub decreases-unroll_apart : goal.decreases-unroll_apart
 decreases-unroll_apart l = 8 * weights l.stmts.now + 2
 
 abbrev pub decreases-unroll_while : goal.decreases-unroll_while
-decreases-unroll_while l = 8 * (weights l.turns.now.prologue.now + body_weight l.turns.now.body.now) + 5
+decreases-unroll_while l = 8 * (weights l.turns.now.prologue.now + body_weight l.turns.now.body.now) + 6
 
-abbrev pub decreases-unroll_body : goal.decreases-unroll_body
-decreases-unroll_body l = 8 * body_weight l.body.now + 4
+abbrev pub decreases-unroll_once : goal.decreases-unroll_once
+decreases-unroll_once l = 8 * (weights l.turns.now.prologue.now + body_weight l.turns.now.body.now) + 2
+
+abbrev pub decreases-unroll_turns : goal.decreases-unroll_turns
+decreases-unroll_turns l = 8 * (weights l.turns.now.prologue.now + body_weight l.turns.now.body.now) + 5
+
+abbrev pub decreases-unroll_loop : goal.decreases-unroll_loop
+decreases-unroll_loop l = 8 * (weights l.turns.now.prologue.now + body_weight l.turns.now.body.now) + 4
 
 abbrev pub decreases-unroll_turn : goal.decreases-unroll_turn
 decreases-unroll_turn l = 8 * body_weight l.body.now + 3

@@ -1,7 +1,7 @@
 use Rattle.std.proofs.Common.{rules, true, refl, sym, subst}
 use Rattle.std.specs.Int.{w128}
 use Rattle.std.proofs.lemmas.Int.{to_z-of_z}
-use Rattle.jz_unrolling.specs.Numbers.{SetsIf}
+use Rattle.jz_unrolling_values.specs.Numbers.{SetsIf}
 use Rattle.jz_unrolling.proofs.statements.set_if.Goals as goal
 
 pub returns-then-not-set : goal.returns-then-not-set

@@ -3,7 +3,7 @@ use Rattle.jz_tree.specs.declared.stmt.StmtKind.TheVariants as kind
 use Rattle.jz_tree.specs.declared.stmt.Rhs.TheVariants as rhs
 use Rattle.jz_runs.specs.Trees.{op}
 use Rattle.jz_meaning.specs.Statements.{instruction}
-use Rattle.jz_unrolling.specs.InlineNames.{names_in}
+use Rattle.jz_unrolling_values.specs.InlineNames.{names_in}
 use Rattle.jz_unrolling.specs.Steps.{Adds}
 use Rattle.jz_unrolling.proofs.AddLemmas.{instruction_adds}
 use Rattle.jz_unrolling.proofs.statements.unroll_instruction.Goals as goal

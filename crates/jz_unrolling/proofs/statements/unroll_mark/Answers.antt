@@ -1,6 +1,6 @@
 use Rattle.std.proofs.Common.{refl}
 use Rattle.jz_tree.specs.declared.stmt.StmtKind.TheVariants as kind
-use Rattle.jz_unrolling.specs.InlineNames.{names_in}
+use Rattle.jz_unrolling_values.specs.InlineNames.{names_in}
 use Rattle.jz_unrolling.proofs.AddLemmas.{mark_adds}
 use Rattle.jz_unrolling.proofs.statements.unroll_mark.Goals as goal
 

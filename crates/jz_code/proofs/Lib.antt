@@ -1,0 +1,9 @@
+pub mod Trees
+pub mod Plain
+pub mod Shapes
+pub mod Unnamed
+pub mod Named
+pub mod Counting
+pub mod Lines
+pub mod Beside
+pub mod Whole

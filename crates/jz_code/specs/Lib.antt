@@ -1,0 +1,4 @@
+pub mod Ready
+pub mod Entries
+pub mod Runs
+pub mod Made

@@ -1,0 +1,10 @@
+use Rattle.std.proofs.Common.{◌∙◌, subst}
+use Rattle.std.specs.List.{All}
+use Rattle.jz_ir.specs.Places.{Below}
+use Rattle.jz_ir.specs.Tree.{tree_of, ops_of}
+use Rattle.jz_place_tests.proofs.answers.add_checked.Goals as goal
+
+pub add_answer-requires-clause-within : goal.add_answer-requires-clause-within
+add_answer-requires-clause-within c =
+    let h = rw c.if-not-are_below.false at c.are_below.ensures in
+    subst (λ n. All (Below n) (ops_of (tree_of c.args.code.now.nodes))) c.len-count.ensures (subst (λ xs. All (Below c.len-count.result) xs) (c.as_slice.ensures ∙ c.in_ok-ops.ensures) h)

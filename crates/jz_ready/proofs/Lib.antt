@@ -1,0 +1,12 @@
+pub mod FixedParts
+pub mod NoJoins
+pub mod FixedStatements
+pub mod FixedBodies
+pub mod CopyNumbers
+pub mod FitParts
+pub mod CopiedParts
+pub mod CopiedBodies
+pub mod Truths
+pub mod ValuedParts
+pub mod Unrolled
+pub mod Whole

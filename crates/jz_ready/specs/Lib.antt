@@ -1,0 +1,2 @@
+pub mod CopiedKinds
+pub mod ReadyLaws

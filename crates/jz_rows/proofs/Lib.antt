@@ -1,0 +1,4 @@
+pub mod ArgLemmas
+pub mod BringLemmas
+pub mod RowLemmas
+pub mod SettingLemmas

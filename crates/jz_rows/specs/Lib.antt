@@ -1,0 +1,3 @@
+pub mod Rows
+pub mod InnerRows
+pub use Rattle.jz_operands.specs.TableHomes

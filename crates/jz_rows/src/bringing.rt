@@ -1,0 +1,105 @@
+//! How the first operand comes to the destination.
+
+ghost use Rattle.std.specs.Prelude.{◌≡◌, ◌≤◌, IfSome};
+ghost use Rattle.jz_homes.specs.Operands.{count_of};
+ghost use Rattle.jz_row_operations.specs.Lowering.{numbers_from};
+ghost use Rattle.jz_operands.specs.TableHomes.{leaks_of};
+ghost use Rattle.jz_rows.specs.Rows.{nth_of};
+ghost use Rattle.jz_rows.specs.InnerRows.{IsBrought};
+
+use crate::args::{is_free, same_arg};
+use crate::row::{Act, Shown};
+use jz_operands::{Leaks, Operand};
+use jz_operations::{Action, Arg};
+use jz_tree::Size;
+
+/// The copy before an action, the second operand, and the numbers that the action shows.
+#[derive(Clone, Copy)]
+pub(crate) struct Brought {
+    pub(crate) before: Option<Act>,
+    pub(crate) second: Arg,
+    pub(crate) shown: Shown,
+}
+
+/// Where there is no second operand.
+pub(crate) const NOTHING: Operand = Operand {
+    arg: Arg::Imm(0),
+    leaks: Leaks::Silent,
+};
+
+/// The place of the number that is shown of a part, so many being leaked before it.
+pub(crate) fn told(leaks: Leaks, before: u64) -> Option<u64>
+    ensures { nth_of result ≡ numbers_from (leaks_of leaks) before }
+{
+    match leaks {
+        Leaks::Silent => None,
+        Leaks::Hidden => None,
+        Leaks::Told => Some(before),
+    }
+}
+
+/// How many numbers a part leaks.
+pub(crate) fn count(leaks: Leaks) -> u64
+    ensures is { result ≡ count_of (leaks_of leaks) }
+    ensures most { result ≤ 1 }
+{
+    match leaks {
+        Leaks::Silent => 0,
+        Leaks::Hidden => 1,
+        Leaks::Told => 1,
+    }
+}
+
+/// The first operand is the destination; or the operands may be swapped, and the second one is; or
+/// the destination stands nowhere in the second one, and the first is copied to it.
+#[tactic(auto, using(crate::proofs::BringLemmas::in_place, crate::proofs::BringLemmas::swapped, crate::proofs::BringLemmas::copied))]
+pub(crate) fn bring(
+    swaps: bool,
+    size: Size,
+    to: Arg,
+    first: Operand,
+    second: Operand,
+) -> Option<Brought>
+    ensures { IfSome result (IsBrought swaps size to first second) }
+{
+    let one = told(first.leaks, 0);
+    let other = told(second.leaks, count(first.leaks));
+    if same_arg(to, first.arg) {
+        return Some(Brought {
+            before: None,
+            second: second.arg,
+            shown: Shown {
+                first: one,
+                second: other,
+            },
+        });
+    }
+    if swaps && same_arg(to, second.arg) {
+        return Some(Brought {
+            before: None,
+            second: first.arg,
+            shown: Shown {
+                first: other,
+                second: one,
+            },
+        });
+    }
+    if !is_free(to, second.arg) {
+        return None;
+    }
+    let copy = Act {
+        action: Action::Mov(size, to, first.arg),
+        shown: Shown {
+            first: one,
+            second: None,
+        },
+    };
+    Some(Brought {
+        before: Some(copy),
+        second: second.arg,
+        shown: Shown {
+            first: other,
+            second: None,
+        },
+    })
+}

@@ -1,0 +1,259 @@
+//! The row of a statement.
+
+ghost use Rattle.std.specs.Prelude.{◌≡◌, ◌∷◌, [], None, Some, IsTrue, IfOk, IfSome, All, ◌&&◌};
+ghost use Rattle.jz_tree.specs.Operators as operators;
+ghost use Rattle.jz_tree.specs.declared.expr.Expr.TheVariants as expr;
+ghost use Rattle.jz_tree.specs.declared.expr.Expr.TheViews.{out-Expr};
+ghost use Rattle.jz_tree.specs.declared.stmt.Lval.TheVariants as lval;
+ghost use Rattle.jz_meaning.specs.declared.access.Kind.TheVariants as kind;
+ghost use Rattle.jz_meaning.specs.Assignments as assignments;
+ghost use Rattle.jz_meaning.specs.Values.{ref_of};
+ghost use Rattle.jz_row_operations.specs.Lowering.{IsAccessedOnce};
+ghost use Rattle.jz_rows.specs.TableHomes.{homes_of};
+ghost use Rattle.jz_rows.specs.Rows.{acts_of, IsRowOf};
+ghost use Rattle.jz_rows.specs.InnerRows.{IsSet};
+
+use crate::args::{is_accessed_once, is_imm};
+use crate::assignments::assignment_row;
+use crate::bringing::{count, told};
+use crate::comparing::{compared, shown_of};
+use crate::operators::is_wide;
+use crate::row::{Act, Row, Shown};
+use crate::targets::{Target, word_in};
+use jz_meaning::{Kind, kind_of, own_size};
+use jz_operands::{Homes, operand_of};
+use jz_operations::{Action, Condition};
+use jz_run_assign::left_sizes;
+use jz_tree::{BinOp, Boxed, Expr, Lval, Seq, Size, Span, Var};
+use std::alloc::{AllocError, Global};
+
+/// A left side where it is read; `_` is not.
+fn read(alloc: Global, to: &Lval) -> Result<Option<Expr>, AllocError>
+    ensures { IfOk result (λ e. e ≡ assignments.as_expr to.now) }
+{
+    match to {
+        Lval::Skip(_) => Ok(None),
+        Lval::Var(var) => Ok(Some(Expr::Var(var.copy(alloc)?))),
+        Lval::Cell(var, at) => {
+            let index = Boxed::new(alloc, at.get().copy(alloc)?)?;
+            Ok(Some(Expr::Cell(var.copy(alloc)?, index)))
+        }
+        Lval::Store(access) => Ok(Some(Expr::Load(access.copy(alloc)?))),
+    }
+}
+
+fn left_span(to: &Lval) -> Span
+    ensures { result ≡ assignments.left_span to.now }
+{
+    match to {
+        Lval::Skip(span) => *span,
+        Lval::Var(var) => var.span,
+        Lval::Cell(var, _) => var.span,
+        Lval::Store(access) => access.span,
+    }
+}
+
+fn is_flag(e: &Expr) -> bool
+    ensures { result ≡ assignments.is_flag e.now }
+{
+    match e {
+        Expr::Var(var) => matches!(kind_of(var), Kind::Bool),
+        _ => false,
+    }
+}
+
+fn carries(op: BinOp, other: BinOp) -> bool
+    ensures { result ≡ operators.carries op other }
+{
+    match op {
+        BinOp::Add => matches!(other, BinOp::Add),
+        BinOp::Sub => matches!(other, BinOp::Sub),
+        _ => false,
+    }
+}
+
+/// Whether the flag is the carry of a sum, or the borrow of a difference.
+fn is_carry(op: BinOp, other: BinOp, flag: &Expr) -> bool
+    ensures { result ≡ (operators.carries op other && assignments.is_flag flag.now) }
+{
+    carries(op, other) && is_flag(flag)
+}
+
+fn binary(
+    alloc: Global,
+    op: BinOp,
+    left: Expr,
+    right: &Expr,
+    span: Span,
+) -> Result<Expr, AllocError>
+    ensures { IfOk result (λ e. e ≡ expr.Bin op left right.now span) }
+{
+    let first = Boxed::new(alloc, left)?;
+    let second = Boxed::new(alloc, right.copy(alloc)?)?;
+    Ok(Expr::Bin(op, first, second, span))
+}
+
+/// `left op e`; a flag behind e goes behind the whole.
+fn updated(alloc: Global, op: BinOp, left: Expr, e: &Expr, span: Span) -> Result<Expr, AllocError>
+    ensures { IfOk result
+        (λ w. w ≡ assignments.updated_layer op left e.now span (out-Expr e.now)) }
+{
+    match e {
+        Expr::Bin(outer, right, flag, _) => {
+            if is_carry(op, *outer, flag.get()) {
+                let inner = binary(alloc, op, left, right.get(), span)?;
+                let whole = binary(alloc, *outer, inner, flag.get(), span)?;
+                Ok(whole)
+            } else {
+                let whole = binary(alloc, op, left, e, span)?;
+                Ok(whole)
+            }
+        }
+        Expr::Num(_, _) => binary(alloc, op, left, e, span),
+        Expr::Bool(_, _) => binary(alloc, op, left, e, span),
+        Expr::Var(_) => binary(alloc, op, left, e, span),
+        Expr::Cell(_, _) => binary(alloc, op, left, e, span),
+        Expr::Load(_) => binary(alloc, op, left, e, span),
+        Expr::Neg(_, _) => binary(alloc, op, left, e, span),
+        Expr::Not(_, _) => binary(alloc, op, left, e, span),
+        Expr::Cast { .. } => binary(alloc, op, left, e, span),
+    }
+}
+
+/// The whole right side of `to op= e`.
+fn whole(alloc: Global, to: &Lval, op: BinOp, e: &Expr) -> Result<Option<Expr>, AllocError>
+    ensures { IfOk result (λ w. w ≡ assignments.whole_of (Some to.now) (Some op) e.now) }
+{
+    let old = read(alloc, to)?;
+    match old {
+        None => Ok(None),
+        Some(left) => {
+            let right = updated(alloc, op, left, e, left_span(to))?;
+            Ok(Some(right))
+        }
+    }
+}
+
+/// Whether each action accesses memory or a cell once at most.
+fn are_accessed_once(row: Row) -> bool
+    ensures { IsTrue result → All IsAccessedOnce (acts_of row) }
+{
+    match row.before {
+        None => is_accessed_once(row.last.action),
+        Some(act) => is_accessed_once(act.action) && is_accessed_once(row.last.action),
+    }
+}
+
+/// The row of an assignment, where the left sides have this size.
+fn set_row(homes: &Homes, left: Option<Size>, to: &Lval, value: &Expr) -> Option<Row>
+    ensures { IfSome result (IsSet (homes_of homes.now) left to.now value.now) }
+{
+    let size = left.or(own_size(value))?;
+    let row = assignment_row(&Target { homes, size, to }, value)?;
+    if are_accessed_once(row) {
+        Some(row)
+    } else {
+        None
+    }
+}
+
+/// The row of `to = value` or of `to op= value`.
+fn plain_row(
+    alloc: Global,
+    homes: &Homes,
+    left: Option<Size>,
+    to: &Lval,
+    op: Option<BinOp>,
+    value: &Expr,
+) -> Result<Option<Row>, AllocError>
+    requires { left ≡ assignments.left_sizes (to.now ∷ []) }
+    ensures { IfOk result (λ found. IfSome found
+        (IsRowOf (homes_of homes.now) (to.now ∷ []) op value.now None)) }
+{
+    match op {
+        None => Ok(set_row(homes, left, to, value)),
+        Some(op) => {
+            let right = whole(alloc, to, op, value)?;
+            match right {
+                None => Ok(None),
+                Some(right) => Ok(set_row(homes, left, to, &right)),
+            }
+        }
+    }
+}
+
+/// `r = o if c`, r a word of this size: the operand is read before the condition, and leaks before
+/// it.
+fn choice_row(homes: &Homes, size: Size, var: &Var, value: &Expr, cond: &Expr) -> Option<Row>
+    requires { (ref_of var.now).kind ≡ kind.Word size }
+    ensures { IfSome result (IsRowOf (homes_of homes.now) (lval.Var var.now ∷ []) None value.now
+        (Some cond.now)) }
+{
+    if !is_wide(size) {
+        return None;
+    }
+    let register = word_in(homes, size, var)?;
+    let y = operand_of(homes, size, value)?;
+    if is_imm(y.arg) {
+        return None;
+    }
+    let test = compared(homes, cond)?;
+    let compare = Act {
+        action: test.action,
+        shown: shown_of(test, count(y.leaks)),
+    };
+    let choose = Act {
+        action: Action::Cmov(Condition::Cc(test.cond), size, register, y.arg),
+        shown: Shown {
+            first: told(y.leaks, 0),
+            second: None,
+        },
+    };
+    Some(Row {
+        before: Some(compare),
+        last: choose,
+    })
+}
+
+fn chosen_row(homes: &Homes, to: &Lval, value: &Expr, cond: &Expr) -> Option<Row>
+    ensures { IfSome result (IsRowOf (homes_of homes.now) (to.now ∷ []) None value.now
+        (Some cond.now)) }
+{
+    match to {
+        Lval::Var(var) => match kind_of(var) {
+            Kind::Word(size) => choice_row(homes, size, var, value, cond),
+            Kind::Undeclared => None,
+            Kind::Int => None,
+            Kind::Bool => None,
+            Kind::Array(_, _) => None,
+        },
+        Lval::Skip(_) => None,
+        Lval::Cell(_, _) => None,
+        Lval::Store(_) => None,
+    }
+}
+
+/// The row of `to = value` or of `to op= value`, or of one with a condition. There is none of
+/// several left sides.
+pub fn row_of(
+    alloc: Global,
+    homes: &Homes,
+    to: &Seq<Lval>,
+    op: Option<BinOp>,
+    value: &Expr,
+    cond: &Option<Expr>,
+) -> Result<Option<Row>, AllocError>
+    ensures { IfOk result (λ found. IfSome found
+        (IsRowOf (homes_of homes.now) to.now op value.now cond.now)) }
+{
+    match to.as_slice() {
+        [left] => match cond {
+            None => plain_row(alloc, homes, left_sizes(to), left, op, value),
+            Some(cond) => match op {
+                None => Ok(chosen_row(homes, left, value, cond)),
+                Some(_) => Ok(None),
+            },
+        },
+        _ => Ok(None),
+    }
+}

@@ -1,0 +1,148 @@
+//! What a row goes by: a left side, its size, and where variables are.
+
+ghost use Rattle.std.specs.Prelude.{◌≡◌, IfSome, Some};
+ghost use Rattle.jz_words.specs.declared.size.Size.TheVariants.{S8};
+ghost use Rattle.jz_operations.specs.declared.operation.Arg.TheVariants as arg;
+ghost use Rattle.jz_meaning.specs.Values.{key_of, ref_of};
+ghost use Rattle.jz_homes.specs.Homes.{in_flag, in_register};
+ghost use Rattle.jz_homes.specs.Operands.{IsArg, IsDest, silent};
+ghost use Rattle.jz_operands.specs.TableHomes.{homes_of, leaks_of};
+ghost use Rattle.jz_operands.specs.declared.operands.Leaks.TheVariants.{Silent};
+
+use jz_operands::{Home, Homes, Leaks, Operand, destination_of, operand_of};
+use jz_operations::{Arg, Pinned};
+use jz_tree::{Expr, Lval, Size, Span, Var};
+use jz_type_names::same_size;
+
+/// A left side with the size of its assignment, and the homes of variables.
+#[derive(Clone, Copy)]
+pub(crate) struct Target<'a> {
+    pub(crate) homes: &'a Homes,
+    pub(crate) size: Size,
+    pub(crate) to: &'a Lval,
+}
+
+/// The variable that an operand is.
+pub(crate) fn variable_in(found: Operand) -> Option<u32>
+    ensures { IfSome result (λ n. (found.arg ≡ arg.Var n) × (found.leaks ≡ Silent)) }
+{
+    match found.arg {
+        Arg::Var(variable) => match found.leaks {
+            Leaks::Silent => Some(variable),
+            Leaks::Hidden => None,
+            Leaks::Told => None,
+        },
+        Arg::Imm(_) => None,
+        Arg::Mem(_) => None,
+        Arg::Cell(_) => None,
+        Arg::At(_, _) => None,
+    }
+}
+
+/// The number that an operand is, where an immediate of 64 bits is one.
+pub(crate) fn number_in(found: Operand) -> Option<i64>
+    ensures { IfSome result (λ i. (found.arg ≡ arg.Imm i) × (found.leaks ≡ Silent)) }
+{
+    match found.arg {
+        Arg::Imm(number) => match found.leaks {
+            Leaks::Silent => Some(number),
+            Leaks::Hidden => None,
+            Leaks::Told => None,
+        },
+        Arg::Var(_) => None,
+        Arg::Mem(_) => None,
+        Arg::Cell(_) => None,
+        Arg::At(_, _) => None,
+    }
+}
+
+impl Target<'_> {
+    /// An operand of the size of the assignment.
+    pub(crate) fn operand(&self, e: &Expr) -> Option<Operand>
+        ensures { let home = homes_of self.now.homes.now in IfSome result
+            (λ x. IsArg home self.now.size e.now x.arg (leaks_of x.leaks)) }
+    {
+        operand_of(self.homes, self.size, e)
+    }
+
+    pub(crate) fn destination(&self) -> Option<Operand>
+        ensures { let home = homes_of self.now.homes.now in IfSome result
+            (λ x. IsDest home self.now.size self.now.to.now x.arg (leaks_of x.leaks)) }
+    {
+        destination_of(self.homes, self.size, self.to)
+    }
+
+    /// The variable that the left side is.
+    #[tactic(auto, using(crate::proofs::RowLemmas::register_is))]
+    pub(crate) fn register(&self) -> Option<u32>
+        ensures { IfSome result (λ n. IsDest (homes_of self.now.homes.now) self.now.size
+            self.now.to.now (arg.Var n) silent) }
+    {
+        match self.destination() {
+            None => None,
+            Some(found) => variable_in(found),
+        }
+    }
+}
+
+fn place_of(var: &Var) -> Span
+    ensures { result ≡ (ref_of var.now).span }
+{
+    var.span
+}
+
+/// The variable of a flag, where the text names it.
+pub(crate) fn flag_in(homes: &Homes, var: &Var) -> Option<Pinned>
+    ensures { IfSome result (λ p.
+        (homes_of homes.now (key_of (ref_of var.now)) ≡ Some (in_flag p.variable))
+        × (p.span ≡ (ref_of var.now).span)) }
+{
+    let span = place_of(var);
+    match homes.scalar(var) {
+        None => None,
+        Some(Home::Flag(variable)) => Some(Pinned { variable, span }),
+        Some(Home::Word(_, _)) => None,
+        Some(Home::Slot(_, _)) => None,
+        Some(Home::Cells(_, _, _)) => None,
+    }
+}
+
+/// The variable of a byte, where the text names it.
+pub(crate) fn byte_in(homes: &Homes, var: &Var) -> Option<Pinned>
+    ensures { IfSome result (λ p.
+        (homes_of homes.now (key_of (ref_of var.now)) ≡ Some (in_register p.variable S8))
+        × (p.span ≡ (ref_of var.now).span)) }
+{
+    let span = place_of(var);
+    match homes.scalar(var) {
+        None => None,
+        Some(Home::Word(variable, Size::S8)) => Some(Pinned { variable, span }),
+        Some(Home::Word(_, Size::S16)) => None,
+        Some(Home::Word(_, Size::S32)) => None,
+        Some(Home::Word(_, Size::S64)) => None,
+        Some(Home::Flag(_)) => None,
+        Some(Home::Slot(_, _)) => None,
+        Some(Home::Cells(_, _, _)) => None,
+    }
+}
+
+/// The variable of a word of this size.
+#[tactic(auto, using(crate::proofs::RowLemmas::word_at))]
+pub(crate) fn word_in(homes: &Homes, size: Size, var: &Var) -> Option<u32>
+    ensures { IfSome result (λ n.
+        homes_of homes.now (key_of (ref_of var.now)) ≡ Some (in_register n size)) }
+{
+    match homes.scalar(var) {
+        None => None,
+        Some(Home::Word(variable, own)) => {
+            if same_size(own, size) {
+                Some(variable)
+            } else {
+                None
+            }
+        }
+        Some(Home::Flag(_)) => None,
+        Some(Home::Slot(_, _)) => None,
+        Some(Home::Cells(_, _, _)) => None,
+    }
+}

@@ -1,6 +1,0 @@
-use Rattle.std.proofs.Common.{◌≡◌}
-use Rattle.jz_unrolling.specs.Parts.{on_left}
-use Rattle.jz_unrolling.proofs.expressions.left_side.Given as goal
-
-abbrev pub invariant-loop-first : goal.invariant-loop-first
-invariant-loop-first l = on_left l.waiting.items l.first ≡ l.expr

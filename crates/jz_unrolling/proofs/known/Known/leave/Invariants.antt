@@ -1,9 +1,0 @@
-use Rattle.std.proofs.Common.{length}
-use Rattle.jz_unrolling.proofs.NumberLemmas.{IsTaking}
-use Rattle.jz_unrolling.proofs.known.Known.leave.Given as goal
-
-abbrev pub invariant-loop-entry : goal.invariant-loop-entry
-invariant-loop-entry l = IsTaking l.initial.self l.self
-
-abbrev pub decreases-loop-entry : goal.decreases-loop-entry
-decreases-loop-entry l = length l.self.changed.items

@@ -1,0 +1,5 @@
+pub mod PartLemmas
+pub mod NumberLemmas
+pub mod RefusalLemmas
+pub mod NameLemmas
+pub mod SettingLemmas

@@ -1,0 +1,13 @@
+use Rattle.jz_unrolling_values.proofs.RefusalLemmas.{handed, some_fails}
+use Rattle.std.proofs.Common.{rules}
+use Rattle.jz_unroll.specs.Values.{left_has_values}
+use Rattle.jz_unrolling_values.specs.InlineNames.{names_in}
+use Rattle.jz_unrolling_values.specs.Numbers.{numbers_in}
+use Rattle.jz_unrolling_values.proofs.expressions.lefts_with_values.Goals as goal
+
+pub returns-in_err-left-clause-known : goal.returns-in_err-left-clause-known
+returns-in_err-left-clause-known c =
+    let names = names_in c.args.values.now.vars.now in
+    let e = numbers_in c.args.values.now.known.now in
+    handed _ _ c.from_residual.result c.in_err-left.field-0.0 c.from_residual.ensures.1 c.in_err-left.ensures.known
+    (some_fails (left_has_values names e) c.args.lvals.now c.loop-lval.lval-index c.lval-item.result (search rules) (search rules))

@@ -1,0 +1,4 @@
+pub mod InlineNames
+pub mod Numbers
+pub mod Parts
+pub mod Refusals
