@@ -1,2 +1,0 @@
-pub mod Kept
-pub use Rattle.jz_facts.specs.Facts
