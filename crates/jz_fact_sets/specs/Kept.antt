@@ -89,13 +89,15 @@ abbrev pub most_by : List ℕ → Option ℕ → ℕ → ℕ
 most_by cs None m = m
 most_by cs (Some h) m = least (λ c. nat_le h c) m cs
 
--- the least of m and of the ends, less 1, of the parameters of which this says that it is below them
+-- the lower of m and the parameter's end, less 1, where this says that something is below it
+abbrev pub one_below : List parameter.Parameter → ℕ → parameter.Parameter → ℕ → ℕ
+one_below all bits p m =
+    if is_named all bits (variable_key p.var) then min (hi_of (start_of p) - 1) m else m
+
+-- the same of several
 abbrev pub below_all : List parameter.Parameter → ℕ → ℕ → List parameter.Parameter → ℕ
 below_all all bits m [] = m
-below_all all bits m (p ∷ ps) =
-    if is_named all bits (variable_key p.var)
-    then min (hi_of (start_of p) - 1) (below_all all bits m ps)
-    else below_all all bits m ps
+below_all all bits m (p ∷ ps) = one_below all bits p (below_all all bits m ps)
 
 -- ---- the set
 
@@ -122,4 +124,3 @@ kept_at f = subject f
 
 abbrev pub facts_of : FactSet → Facts
 facts_of s f = says s.constants s.params (known_at s (kept_at f)) f
-

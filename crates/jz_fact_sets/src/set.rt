@@ -43,8 +43,11 @@ impl FactSet {
         regions: Seq<Region>,
     ) -> FactSet
         ensures known { (k : Key) → kept.known_at result k ≡ kept.nothing }
-        ensures given { kept.given_of result ≡ record { consts = constants;
-            params = map start_of params; regions = map region_of regions } }
+        ensures given { kept.given_of result ≡ record {
+          consts = constants;
+          params = map start_of params;
+          regions = map region_of regions;
+        } }
     {
         FactSet {
             alloc,
