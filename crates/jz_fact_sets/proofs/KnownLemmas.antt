@@ -1,11 +1,11 @@
 -- What the facts of a set say of variables, by what is kept of them.
-use Rattle.std.proofs.Common.{◌≡◌, ℕ, ◌-◌, ◌%◌, List, [], ◌∷◌, map, Option, Some, None, Bool, true, false, refl, ap, sym, ◌∙◌, subst, arith, rules, min, max, if◌then◌else◌}
+use Rattle.std.proofs.Common.{◌≡◌, ℕ, ◌-◌, ◌%◌, List, [], ◌∷◌, map, Option, Some, None, Bool, true, false, refl, ap, sym, ◌∙◌, arith, rules, min, max, if◌then◌else◌}
 use Rattle.std.specs.Prelude.{◌==◌, nat_le, ◌&&◌, ◌||◌}
 use Rattle.x64_insn.specs.Size.{Size}
 use Rattle.jz_intervals.specs.declared.interval.Interval.{Interval}
 use Rattle.jz_intervals.specs.Intervals.{greatest_word}
 use Rattle.jz_meaning.specs.States.{Key}
-use Rattle.jz_facts.specs.Facts.{AtLeast, AtMost, Under, Multiple, is_among, greatest, least, hi_of, multiples}
+use Rattle.jz_facts.specs.Facts.{is_among, greatest, least, hi_of, multiples}
 use Rattle.jz_facts.specs.Intervals.{of_variable, under_most, has_multiple}
 use Rattle.jz_fact_readings.specs.Multiples.{times_of}
 use Rattle.jz_fact_readings.specs.declared.times.Times.{Times}

@@ -1,5 +1,5 @@
 -- What a set of facts of the code holds.
-use Rattle.std.specs.Prelude.{ℕ, zero, suc, ◌-◌, ◌/◌, ◌%◌, ◌==◌, nat_le, Bool, false, ◌&&◌, ◌||◌, is_none, List, [], ◌∷◌, map, Option, Some, None, option_map, min, if◌then◌else◌}
+use Rattle.std.specs.Prelude.{ℕ, ◌-◌, ◌/◌, ◌%◌, ◌==◌, nat_le, Bool, false, ◌&&◌, ◌||◌, is_none, List, [], ◌∷◌, map, Option, Some, None, option_map, min, if◌then◌else◌}
 use Rattle.std.specs.Str.{bytes_eq}
 use Rattle.indexmap.specs.IndexMap.{IndexMap, get}
 use Rattle.jz_tree.specs.declared.expr.Var.{Var}

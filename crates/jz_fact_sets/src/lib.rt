@@ -8,4 +8,5 @@ mod set;
 
 pub use given::{Parameter, Region};
 pub use knowledge::Knowledge;
+pub use saying::is_named;
 pub use set::FactSet;

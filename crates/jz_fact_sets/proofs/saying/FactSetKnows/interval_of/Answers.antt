@@ -1,4 +1,4 @@
-use Rattle.std.proofs.Common.{◌≡◌, ap, ◌∙◌, min}
+use Rattle.std.proofs.Common.{ap, ◌∙◌, min}
 use Rattle.jz_fact_sets.specs.Kept.{variable_key, least_by, most_by, below_all}
 use Rattle.jz_fact_sets.proofs.KnownLemmas.{variable_is}
 use Rattle.jz_fact_sets.proofs.saying.FactSetKnows.interval_of.Goals as goal
