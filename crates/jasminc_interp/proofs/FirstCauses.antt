@@ -1,6 +1,6 @@
 -- Which cause is the first, and when none stands.
 use Rattle.std.proofs.Common.{◌≡◌, ℕ, ◌<◌, List, length, ◌∙◌, arith, Some, None, subst, ap, refl, sym}
-use Rattle.std.specs.Prelude.{All, Err}
+use Rattle.std.specs.Prelude.{All, Result, Ok, Err, slice_get}
 use Rattle.jz_tree.specs.Failure.{Failure}
 use Rattle.jz_tree.specs.Failure.TheVariants as failure
 use Rattle.jz_tree.specs.Failures.{IfRefused, IfAnswered}
@@ -10,40 +10,46 @@ use Rattle.jz_grammar.specs.LexFault.{LexFault}
 use Rattle.jz_grammar.specs.declared.fault.SyntaxFault.{SyntaxFault}
 use Rattle.jz_parse.specs.Reading.{LexFails, ParseFails}
 use Rattle.jz_types.specs.declared.fault.TypeFault.{TypeFault}
+use Rattle.jz_annotations.specs.declared.precondition.Pre.{Pre}
+use Rattle.jz_items.specs.declared.item.Item.{Item}
 use Rattle.jasminc_interp.specs.declared.refused.FunLimit.{FunLimit}
 use Rattle.jasminc_interp.specs.declared.refused.Refused.{Refused}
-use Rattle.jasminc_interp.specs.declared.refused.Refused.TheVariants.{Lex, Parse, Typing, NoFunction, Limit, Items}
+use Rattle.jasminc_interp.specs.declared.refused.Refused.TheVariants.{Lex, Parse, Typing, NoFunction, Limit, Items, Unmet}
 use Rattle.jasminc_interp.specs.declared.telling.Ran.{Ran}
 use Rattle.jasminc_interp.specs.Texts.{TypesAs, FailsTyping}
 use Rattle.jasminc_interp.specs.Exports.{export_named, WithinIfExported, HasLimit}
-use Rattle.jasminc_interp.specs.Runs.{RunsOn}
-use Rattle.jasminc_interp.specs.Causes.{HasNoExport, PassesLimit, HasOtherItems, Cause, ReadingRefuses, stage_of, Clear, IsFirstCause}
+use Rattle.jasminc_interp.specs.Runs.{AllHold, BreaksFirst, RunsOn}
+use Rattle.jasminc_interp.specs.InnerRuns.{IsRunAt, FunctionAnswers}
+use Rattle.jasminc_interp.specs.Causes.{HasNoExport, PassesLimit, HasOtherItems, BreaksPrecondition, Cause, ReadingRefuses, stage_of, Clear, IsFirstCause}
 use Rattle.jasminc_interp.specs.Answers.{all_stages, Answers, IsDone}
 use Rattle.jasminc_interp.proofs.Causing.{reads_no_lex, reads_no_parse, fails_no_lex, types_one, types_no_fault}
 use Rattle.jasminc_interp.proofs.Limiting.{none_passes}
 use Rattle.jasminc_interp.proofs.Told.{same_fun}
+use Rattle.jasminc_interp.proofs.Readying.{none_breaks}
 
 -- ---- what excludes the causes before a stage
-pub record Excludes (text fun items : List ℕ) (n : ℕ) : Type 0 where
+pub record Excludes (text fun : List ℕ) (items : List Item) (n : ℕ) : Type 0 where
   pub lexer : (f : LexFault) → 2 < n → LexFails text f → ⊥
   pub parser : (f : SyntaxFault) → 3 < n → ParseFails text f → ⊥
   pub typing : (f : TypeFault) → 4 < n → FailsTyping text f → ⊥
   pub named : (name : List ℕ) → 5 < n → HasNoExport text fun name → ⊥
   pub limits : (l : FunLimit) → 6 < n → PassesLimit text l → ⊥
   pub counted : 9 < n → HasOtherItems text fun items → ⊥
+  pub met : (pre : Pre) → 10 < n → BreaksPrecondition text fun items pre → ⊥
 
-cleared : (text fun items : List ℕ) (n : ℕ) → Excludes text fun items n → Clear text fun items n
+cleared : (text fun : List ℕ) (items : List Item) (n : ℕ) → Excludes text fun items n → Clear text fun items n
 cleared text fun items n e (Lex f) lt c = e.lexer f lt c
 cleared text fun items n e (Parse f) lt c = e.parser f lt c
 cleared text fun items n e (Typing f) lt c = e.typing f lt c
 cleared text fun items n e (NoFunction name) lt c = e.named name lt c
 cleared text fun items n e (Limit l) lt c = e.limits l lt c
 cleared text fun items n e Items lt c = e.counted lt c
+cleared text fun items n e (Unmet pre) lt c = e.met pre lt c
 
-first_with : (text fun items : List ℕ) (r : Refused) → Cause text fun items r → Excludes text fun items (stage_of r) → IsFirstCause text fun items r
+first_with : (text fun : List ℕ) (items : List Item) (r : Refused) → Cause text fun items r → Excludes text fun items (stage_of r) → IsFirstCause text fun items r
 first_with text fun items r c e = record { cause = c; first = cleared text fun items (stage_of r) e }
 
-module _ (text fun items : List ℕ) where
+module _ (text fun : List ℕ) (items : List Item) where
   -- ---- a text without a typed program
   before_lexer : Excludes text fun items 2
   before_lexer = record {
@@ -53,6 +59,7 @@ module _ (text fun items : List ℕ) where
     named = λ name lt c. absurd (omega (arith, lt));
     limits = λ l lt c. absurd (omega (arith, lt));
     counted = λ lt c. absurd (omega (arith, lt));
+    met = λ pre lt c. absurd (omega (arith, lt));
   }
 
   before_parser : (g : SyntaxFault) → ParseFails text g → Excludes text fun items 3
@@ -63,6 +70,7 @@ module _ (text fun items : List ℕ) where
     named = λ name lt c. absurd (omega (arith, lt));
     limits = λ l lt c. absurd (omega (arith, lt));
     counted = λ lt c. absurd (omega (arith, lt));
+    met = λ pre lt c. absurd (omega (arith, lt));
   }
 
   before_typing : (g : TypeFault) → FailsTyping text g → Excludes text fun items 4
@@ -73,6 +81,7 @@ module _ (text fun items : List ℕ) where
     named = λ name lt c. absurd (omega (arith, lt));
     limits = λ l lt c. absurd (omega (arith, lt));
     counted = λ lt c. absurd (omega (arith, lt));
+    met = λ pre lt c. absurd (omega (arith, lt));
   }
 
   reading_first : (r : Refused) → ReadingRefuses text r → IsFirstCause text fun items r
@@ -91,6 +100,7 @@ module _ (text fun items : List ℕ) where
       named = λ name lt c. absurd (omega (arith, lt));
       limits = λ l lt c. absurd (omega (arith, lt));
       counted = λ lt c. absurd (omega (arith, lt));
+      met = λ pre lt c. absurd (omega (arith, lt));
     }
 
     pub function_first : export_named fun p.funs ≡ None → IsFirstCause text fun items (NoFunction fun)
@@ -111,6 +121,7 @@ module _ (text fun items : List ℕ) where
         named = λ name lt c. has_function name c;
         limits = λ l lt c. absurd (omega (arith, lt));
         counted = λ lt c. absurd (omega (arith, lt));
+        met = λ pre lt c. absurd (omega (arith, lt));
       }
 
       limit_first : (l : FunLimit) → HasLimit p l → IsFirstCause text fun items (Limit l)
@@ -129,9 +140,10 @@ module _ (text fun items : List ℕ) where
           named = λ name lt c. has_function name c;
           limits = λ l lt c. no_limit l c;
           counted = λ lt c. absurd (omega (arith, lt));
+          met = λ pre lt c. absurd (omega (arith, lt));
         }
 
-        pub items_first : (length items ≡ length f.params → ⊥) → IsFirstCause text fun items Items
+        items_first : (length items ≡ length f.params → ⊥) → IsFirstCause text fun items Items
         items_first differ =
             first_with text fun items Items (record { program = p; types = t; function = f; found = found; differ = differ }) before_items
 
@@ -142,36 +154,85 @@ module _ (text fun items : List ℕ) where
             let one = same_fun f h.function (export_named fun p.funs) found both in
             h.differ (many ∙ ap (λ (g : Fun). length g.params) one)
 
-        before_all : length items ≡ length f.params → Excludes text fun items all_stages
-        before_all many = record {
+        before_met : length items ≡ length f.params → Excludes text fun items 10
+        before_met many = record {
           lexer = λ f lt c. reads_no_lex text t.written f t.reads c;
           parser = λ f lt c. reads_no_parse text t.written f t.reads c;
           typing = λ f lt c. types_no_fault text p f t c;
           named = λ name lt c. has_function name c;
           limits = λ l lt c. no_limit l c;
           counted = λ lt c. has_items many c;
+          met = λ pre lt c. absurd (omega (arith, lt));
         }
 
-        pub run_done : (fuel : ℕ) (x : Ran) → length items ≡ length f.params → RunsOn p f items fuel x → IsDone text fun items fuel x
-        run_done fuel x many runs = record {
-          clear = cleared text fun items all_stages (before_all many);
+        unmet_first : (pre : Pre) → length items ≡ length f.params → BreaksFirst f items pre → IsFirstCause text fun items (Unmet pre)
+        unmet_first pre many breaks =
+            first_with text fun items (Unmet pre) (record { program = p; types = t; function = f; found = found; many = many; breaks = breaks }) (before_met many)
+
+        all_met : AllHold f items → (pre : Pre) → BreaksPrecondition text fun items pre → ⊥
+        all_met held pre h =
+            let same = types_one text p h.program t h.types in
+            let both : export_named fun p.funs ≡ Some h.function = ap (λ (q : Program). export_named fun q.funs) same ∙ h.found in
+            let one = same_fun f h.function (export_named fun p.funs) found both in
+            none_breaks h.function items pre (subst (λ (g : Fun). AllHold g items) one held) h.breaks
+
+        before_all : length items ≡ length f.params → AllHold f items → Excludes text fun items all_stages
+        before_all many held = record {
+          lexer = λ f lt c. reads_no_lex text t.written f t.reads c;
+          parser = λ f lt c. reads_no_parse text t.written f t.reads c;
+          typing = λ f lt c. types_no_fault text p f t c;
+          named = λ name lt c. has_function name c;
+          limits = λ l lt c. no_limit l c;
+          counted = λ lt c. has_items many c;
+          met = λ pre lt c. all_met held pre c;
+        }
+
+        run_done : (fuel : ℕ) (x : Ran) → length items ≡ length f.params → AllHold f items → RunsOn p f items fuel x → IsDone text fun items fuel x
+        run_done fuel x many held runs = record {
+          clear = cleared text fun items all_stages (before_all many held);
           gives = record { program = p; types = t; function = f; found = found; runs = runs };
         }
 
+        -- ---- what the function at its place answers
+        module _ (place fuel : ℕ) (there : slice_get p.funs place ≡ Some f) where
+          done_at : (x : Ran) → IsRunAt p place items fuel x → IsDone text fun items fuel x
+          done_at x h =
+              let same = same_fun h.function f (slice_get p.funs place) h.there there in
+              run_done fuel x (subst (λ (g : Fun). length items ≡ length g.params) same h.many) (subst (λ (g : Fun). AllHold g items) same h.held)
+              (subst (λ (g : Fun). RunsOn p g items fuel x) same h.runs)
+
+          refused_at : (r : Refused) → FunctionAnswers p place items fuel (Err r) → IsFirstCause text fun items r
+          refused_at Items h =
+              let same = same_fun h.function f (slice_get p.funs place) h.there there in
+              items_first (subst (λ (g : Fun). length items ≡ length g.params → ⊥) same h.differ)
+          refused_at (Unmet pre) h =
+              let same = same_fun h.function f (slice_get p.funs place) h.there there in
+              unmet_first pre (subst (λ (g : Fun). length items ≡ length g.params) same h.many) (subst (λ (g : Fun). BreaksFirst g items pre) same h.breaks)
+          refused_at (Lex fault) h = absurd h
+          refused_at (Parse fault) h = absurd h
+          refused_at (Typing fault) h = absurd h
+          refused_at (NoFunction name) h = absurd h
+          refused_at (Limit l) h = absurd h
+
+          pub function_answers : (answer : Result Ran (Failure Refused)) → IfAnswered answer (FunctionAnswers p place items fuel) → IfAnswered answer (Answers text fun items fuel)
+          function_answers (Ok x) h = done_at x h
+          function_answers (Err (failure.Refused r)) h = refused_at r h
+          function_answers (Err failure.OutOfMemory) h = tt
+
 -- ---- the same of failures
-answered : (text fun items : List ℕ) (fuel : ℕ) (P : Refused → Type 0) (e : Failure Refused) → ((r : Refused) → P r → IsFirstCause text fun items r) → IfRefused e P
+answered : (text fun : List ℕ) (items : List Item) (fuel : ℕ) (P : Refused → Type 0) (e : Failure Refused) → ((r : Refused) → P r → IsFirstCause text fun items r) → IfRefused e P
     → IfAnswered {A = Ran} (Err e) (Answers text fun items fuel)
 answered text fun items fuel P (failure.Refused r) f h = f r h
 answered text fun items fuel P failure.OutOfMemory f h = tt
 
-pub reading_fails : (text fun items : List ℕ) (fuel : ℕ) (e : Failure Refused) → IfRefused e (ReadingRefuses text) → IfAnswered {A = Ran} (Err e) (Answers text fun items fuel)
+pub reading_fails : (text fun : List ℕ) (items : List Item) (fuel : ℕ) (e : Failure Refused) → IfRefused e (ReadingRefuses text) → IfAnswered {A = Ran} (Err e) (Answers text fun items fuel)
 reading_fails text fun items fuel e h = answered text fun items fuel (ReadingRefuses text) e (reading_first text fun items) h
 
 -- a limit, as a refusal
 abbrev pub IsLimit : Program → Refused → Type 0
 IsLimit p r = (l : FunLimit) × (r ≡ Limit l) × HasLimit p l
 
-pub limits_fail : (text fun items : List ℕ) (fuel : ℕ) (p : Program) (f : Fun) (e : Failure Refused) → TypesAs text p → export_named fun p.funs ≡ Some f → IfRefused e (IsLimit p)
+pub limits_fail : (text fun : List ℕ) (items : List Item) (fuel : ℕ) (p : Program) (f : Fun) (e : Failure Refused) → TypesAs text p → export_named fun p.funs ≡ Some f → IfRefused e (IsLimit p)
     → IfAnswered {A = Ran} (Err e) (Answers text fun items fuel)
 limits_fail text fun items fuel p f e t found h =
     answered text fun items fuel (IsLimit p) e (λ r k. subst (IsFirstCause text fun items) (sym k.1) (limit_first text fun items p t f found k.0 k.2)) h

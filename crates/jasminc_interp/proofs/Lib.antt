@@ -5,4 +5,5 @@ pub mod Limiting
 pub mod InStep
 pub mod Parameters
 pub mod Told
+pub mod Readying
 pub mod FirstCauses

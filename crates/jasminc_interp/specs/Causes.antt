@@ -3,11 +3,14 @@ use Rattle.std.specs.Prelude.{◌≡◌, ◌<◌, ℕ, List, length, Some, None}
 use Rattle.jz_tree.specs.declared.program.Fun.{Fun}
 use Rattle.jz_tree.specs.declared.program.Program.{Program}
 use Rattle.jz_parse.specs.Reading.{LexFails, ParseFails}
+use Rattle.jz_annotations.specs.declared.precondition.Pre.{Pre}
+use Rattle.jz_items.specs.declared.item.Item.{Item}
 use Rattle.jasminc_interp.specs.declared.refused.FunLimit.{FunLimit}
 use Rattle.jasminc_interp.specs.declared.refused.Refused.{Refused}
 use Rattle.jasminc_interp.specs.declared.refused.Refused.TheVariants.{Lex, Parse, Typing}
-use Rattle.jasminc_interp.specs.declared.refused.Refused.TheVariants.{NoFunction, Limit, Items}
+use Rattle.jasminc_interp.specs.declared.refused.Refused.TheVariants.{NoFunction, Limit, Items, Unmet}
 use Rattle.jasminc_interp.specs.Texts.{TypesAs, FailsTyping}
+use Rattle.jasminc_interp.specs.Runs.{BreaksFirst}
 use Rattle.jasminc_interp.specs.Exports.{export_named, HasLimit}
 
 -- no export function of the text's program has the name
@@ -24,20 +27,30 @@ pub record PassesLimit (text : List ℕ) (l : FunLimit) : Type 0 where
   pub limit : HasLimit program l
 
 -- the function has another number of parameters than there are items
-pub record HasOtherItems (text fun items : List ℕ) : Type 0 where
+pub record HasOtherItems (text fun : List ℕ) (items : List Item) : Type 0 where
   pub program : Program
   pub types : TypesAs text program
   pub function : Fun
   pub found : export_named fun program.funs ≡ Some function
   pub differ : length items ≡ length function.params → ⊥
 
-abbrev pub Cause : List ℕ → List ℕ → List ℕ → Refused → Type 0
+-- there are as many items as parameters, and this is the first precondition that does not hold
+pub record BreaksPrecondition (text fun : List ℕ) (items : List Item) (pre : Pre) : Type 0 where
+  pub program : Program
+  pub types : TypesAs text program
+  pub function : Fun
+  pub found : export_named fun program.funs ≡ Some function
+  pub many : length items ≡ length function.params
+  pub breaks : BreaksFirst function items pre
+
+abbrev pub Cause : List ℕ → List ℕ → List Item → Refused → Type 0
 Cause text fun items (Lex fault) = LexFails text fault
 Cause text fun items (Parse fault) = ParseFails text fault
 Cause text fun items (Typing fault) = FailsTyping text fault
 Cause text fun items (NoFunction name) = HasNoExport text fun name
 Cause text fun items (Limit l) = PassesLimit text l
 Cause text fun items Items = HasOtherItems text fun items
+Cause text fun items (Unmet pre) = BreaksPrecondition text fun items pre
 
 -- why a text has no typed program
 abbrev pub ReadingRefuses : List ℕ → Refused → Type 0
@@ -47,7 +60,7 @@ ReadingRefuses text (Typing fault) = FailsTyping text fault
 ReadingRefuses text r = ⊥
 
 -- the stages in their order, by their numbers among those of all commands: lexer, parser, typing,
--- function name, limits, items
+-- function name, limits, the number of items, preconditions
 abbrev pub stage_of : Refused → ℕ
 stage_of (Lex fault) = 2
 stage_of (Parse fault) = 3
@@ -55,13 +68,14 @@ stage_of (Typing fault) = 4
 stage_of (NoFunction name) = 5
 stage_of (Limit l) = 6
 stage_of Items = 9
+stage_of (Unmet pre) = 10
 
 -- no stage before this one has a cause
-abbrev pub Clear : List ℕ → List ℕ → List ℕ → ℕ → Type 0
+abbrev pub Clear : List ℕ → List ℕ → List Item → ℕ → Type 0
 Clear text fun items stage =
     (r : Refused) → stage_of r < stage → Cause text fun items r → ⊥
 
 -- the first cause
-pub record IsFirstCause (text fun items : List ℕ) (r : Refused) : Type 0 where
+pub record IsFirstCause (text fun : List ℕ) (items : List Item) (r : Refused) : Type 0 where
   pub cause : Cause text fun items r
   pub first : Clear text fun items (stage_of r)

@@ -3,5 +3,6 @@ pub mod Texts
 pub mod Exports
 pub mod Telling
 pub mod Runs
+pub mod InnerRuns
 pub mod Causes
 pub mod Answers

@@ -1,7 +1,9 @@
 -- The text of a run of the source.
 use Rattle.std.specs.Prelude.{◌≡◌, ℕ, List, [], ◌++◌, map, codes}
 use Rattle.std.specs.List.{concat, zip}
+use Rattle.jz_tree.specs.Memory.{Memory}
 use Rattle.jz_tree.specs.declared.expr.Var.{Var}
+use Rattle.jz_tree.specs.declared.program.Fun.{Fun}
 use Rattle.jz_tree.specs.declared.expr.Expr.TheViews.{out-Var}
 use Rattle.jz_text.specs.Texts.{span_text}
 use Rattle.jz_meaning.specs.States.{Value, word}
@@ -10,7 +12,13 @@ use Rattle.jz_meaning.specs.Runs.{FunOutcome}
 use Rattle.jz_meaning.specs.declared.value.Why.{Why}
 use Rattle.jz_meaning.specs.declared.value.Why.TheVariants as why
 use Rattle.jz_meaning.specs.declared.value.Stuck as code
+use Rattle.jz_annotations.specs.declared.precondition.Pre.{Pre}
+use Rattle.jz_annotations.specs.declared.precondition.Pre.TheVariants as pre
+use Rattle.jz_preconditions.specs.Stating.{preconditions_of}
+use Rattle.jz_preconditions.specs.Meeting.{names_of, region_of}
+use Rattle.jz_inputs.specs.Inputs.{bytes_in}
 use Rattle.jasminc_lines.specs.Lines.{result_text, cut_line}
+use Rattle.jasminc_lines.specs.Preconditions.{region_line}
 use Rattle.jasminc_interp.specs.declared.telling.Ran.{Ran}
 use Rattle.jasminc_interp.specs.declared.telling.Ran.TheVariants as ran
 
@@ -34,14 +42,29 @@ value_text x v = []
 abbrev pub results_text : List Var → List Value → List ℕ
 results_text xs vs = concat (map (λ p. value_text p.0 p.1) (zip xs vs))
 
--- That it ended, and its results. A function has no regions, so none are told.
-abbrev pub end_text : List Var → List Value → List ℕ
-end_text xs vs = codes "end\n" ++ results_text xs vs
+-- the parameter that a precondition names first
+abbrev pub pointer_of : Pre → List ℕ
+pointer_of (pre.Region p factor v constant) = p
+pointer_of (pre.Range x low high) = x
+pointer_of (pre.Align p multiple) = p
 
--- what is told of the outcome of a function's run with so many turns, where it returns these
--- variables
-abbrev pub Tells : List Var → ℕ → FunOutcome → Ran → Type 0
-Tells xs n (End r k l) (ran.Ended text) = text ≡ end_text xs r.words
-Tells xs n (Cut l) (ran.Cut text) = text ≡ cut_line n
-Tells xs n (Stuck w) (ran.Stuck text) = text ≡ stuck_line w
-Tells xs n _ _ = ⊥
+-- the region that a precondition declares for argument words, with its bytes
+abbrev pub region_text : Fun → List ℕ → Memory → Pre → List ℕ
+region_text f words m p =
+    concat (map (λ r. region_line (pointer_of p) (bytes_in m r)) (region_of (names_of f) words p))
+
+-- all regions of a function, in the order of its text
+abbrev pub regions_text : Fun → List ℕ → Memory → List ℕ
+regions_text f words m = concat (map (region_text f words m) (preconditions_of f))
+
+-- that it ended, its results, and its regions at the end
+abbrev pub end_text : Fun → List ℕ → List Value → Memory → List ℕ
+end_text f words vs m =
+    codes "end\n" ++ results_text f.result vs ++ regions_text f words m
+
+-- what is told of the outcome of a function's run on argument words with so many turns
+abbrev pub Tells : Fun → List ℕ → ℕ → FunOutcome → Ran → Type 0
+Tells f words n (End r k l) (ran.Ended text) = text ≡ end_text f words r.words r.memory
+Tells f words n (Cut l) (ran.Cut text) = text ≡ cut_line n
+Tells f words n (Stuck w) (ran.Stuck text) = text ≡ stuck_line w
+Tells f words n _ _ = ⊥

@@ -2,7 +2,9 @@
 //! or to the first reason why there is none.
 #![tactic(auto)]
 
+mod calls;
 mod exports;
+mod laws;
 mod limits;
 mod reading;
 mod refused;
@@ -11,6 +13,7 @@ mod stage;
 mod stages;
 mod telling;
 
+pub use laws::typed_functions_can_be_met;
 pub use refused::{FunLimit, Refused};
 pub use stages::interp_text;
 pub use telling::Ran;

@@ -1,5 +1,6 @@
 //! Why a function of a text is not run.
 
+use jz_annotations::Pre;
 use jz_first_limit::Limit;
 use jz_grammar::{LexFault, SyntaxFault};
 use jz_tree::Text;
@@ -27,4 +28,6 @@ pub enum Refused {
     Limit(FunLimit),
     /// There is another number of items than of parameters.
     Items,
+    /// This precondition does not hold of the items.
+    Unmet(Pre),
 }

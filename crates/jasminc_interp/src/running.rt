@@ -1,60 +1,67 @@
 //! The run of an export function on items.
 
-ghost use Rattle.std.specs.Prelude.{◌≡◌, ◌<◌, IfOk, length};
-ghost use Rattle.jz_meaning.specs.States.{word};
-ghost use Rattle.jz_meaning.specs.Values.{ref_of};
-ghost use Rattle.jz_interp.specs.Outcomes.{values_of};
-ghost use Rattle.jasminc_interp.specs.Runs.{argument, argument_values, IsRunnable, RunsAt};
+ghost use Rattle.std.specs.Prelude.{◌<◌, IfOk, length};
+ghost use Rattle.jz_tree.specs.Failures.{IfAnswered};
+ghost use Rattle.jasminc_interp.specs.InnerRuns.{IsExportAt, IsReady, RunsAt, FunctionAnswers};
 
+use crate::calls::{Called, prepared, taken};
+use crate::exports::function_at;
+use crate::refused::Refused;
 use crate::telling::{Ran, tell};
+use jz_inputs::{first_unmet, memory_of};
 use jz_interp::{Input, interpret};
-use jz_leak::MemMap;
-use jz_meaning::{Kind, kind_of};
-use jz_tree::{Param, Seq, Word};
+use jz_items::Item;
+use jz_tree::{Failure, Seq};
 use jz_types::Typed;
-use jz_words::Size;
 use std::alloc::{AllocError, Global};
 
-/// The argument that an item is: as many of its low bits as the parameter has.
-fn argument(param: &Param, item: u64) -> Word
-    ensures { word result.size result.bits ≡ argument (ref_of param.now.var).kind item }
-{
-    match kind_of(&param.var) {
-        Kind::Word(size) => Word::truncate(size, item),
-        _ => Word::truncate(Size::S64, item),
-    }
-}
-
-/// The arguments that items are.
-fn arguments(alloc: Global, params: &Seq<Param>, items: &Seq<u64>) -> Result<Seq<Word>, AllocError>
-    ensures { IfOk result (λ words. values_of words ≡ argument_values params.now items.now) }
-{
-    let mut words = Seq::new(alloc);
-    for (i, param) in params.as_slice().iter().enumerate() {
-        match items.get(i) {
-            None => return Ok(words),
-            Some(item) => words.push(argument(param, *item))?,
-        }
-    }
-    Ok(words)
-}
-
-/// The run of the function at that place, with at most so many turns, in an empty memory.
-pub fn run(
+/// The run of the function at that place, with at most so many turns, in a memory of exactly the
+/// bytes of its regions.
+fn run(
     alloc: Global,
     typed: &Typed,
     place: usize,
-    items: &Seq<u64>,
+    items: &Seq<Item>,
+    called: Called,
     fuel: u64,
 ) -> Result<Ran, AllocError>
     requires there { place < length typed.now.program.funs }
-    requires runnable { IsRunnable typed.now.program place items.now }
+    requires ready { IsReady typed.now.program place items.now called }
     ensures { IfOk result (RunsAt typed.now.program place items.now fuel) }
 {
-    let function = &typed.program().funs.as_slice()[place];
-    let words = arguments(alloc, &function.params, items)?;
-    let mem = MemMap::new(alloc);
+    let tree = typed.program();
+    let function = function_at(&tree.funs, place);
+    let Called { words, bits, pres } = called;
+    let mem = memory_of(alloc, function, &bits, items, &pres)?;
     let input = Input { words, mem };
     let outcome = interpret(alloc, typed, place, &input, fuel)?;
-    tell(alloc, &function.result, &outcome, fuel)
+    tell(alloc, function, &bits, &pres, &outcome, fuel)
+}
+
+/// The run of the export function at that place on items, where there are as many as it has
+/// parameters and they meet its preconditions.
+pub fn run_function(
+    alloc: Global,
+    typed: &Typed,
+    place: usize,
+    items: &Seq<Item>,
+    fuel: u64,
+) -> Result<Ran, Failure<Refused>>
+    requires there { place < length typed.now.program.funs }
+    requires exported { IsExportAt typed.now.program place }
+    ensures { IfAnswered result (FunctionAnswers typed.now.program place items.now fuel) }
+{
+    let tree = typed.program();
+    let function = function_at(&tree.funs, place);
+    if items.len() != function.params.len() {
+        return Err(Failure::Refused(Refused::Items));
+    }
+    let called = prepared(alloc, function, items)?;
+    match first_unmet(function, &called.bits, items, &called.pres) {
+        Some(at) => Err(Failure::Refused(Refused::Unmet(taken(called.pres, at)))),
+        None => {
+            let ran = run(alloc, typed, place, items, called, fuel)?;
+            Ok(ran)
+        }
+    }
 }

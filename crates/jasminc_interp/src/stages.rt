@@ -5,13 +5,14 @@ ghost use Rattle.jz_tree.specs.Failures.{IfAnswered};
 ghost use Rattle.jasminc_interp.specs.Texts.{source_limit};
 ghost use Rattle.jasminc_interp.specs.Answers.{Answers};
 
-use crate::exports::{function_at, place_of};
+use crate::exports::place_of;
 use crate::limits::within_limits;
 use crate::reading::typed_program;
 use crate::refused::Refused;
-use crate::running::run;
+use crate::running::run_function;
 use crate::stage::as_refused;
 use crate::telling::Ran;
+use jz_items::Item;
 use jz_tree::{Failure, Seq, Text};
 use std::alloc::Global;
 
@@ -21,7 +22,7 @@ pub fn interp_text(
     alloc: Global,
     text: &[u8],
     fun: &str,
-    items: &Seq<u64>,
+    items: &Seq<Item>,
     fuel: u64,
 ) -> Result<Ran, Failure<Refused>>
     requires { length text.now ≤ source_limit }
@@ -34,10 +35,5 @@ pub fn interp_text(
         return Err(Failure::Refused(Refused::NoFunction(name)));
     };
     as_refused(within_limits(alloc, tree), Refused::Limit)?;
-    let function = function_at(&tree.funs, place);
-    if items.len() != function.params.len() {
-        return Err(Failure::Refused(Refused::Items));
-    }
-    let ran = run(alloc, &typed, place, items, fuel)?;
-    Ok(ran)
+    run_function(alloc, &typed, place, items, fuel)
 }

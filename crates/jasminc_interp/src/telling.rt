@@ -1,18 +1,25 @@
 //! The text of a run of the source.
 
-ghost use Rattle.std.specs.Prelude.{◌≡◌, ◌++◌, IfOk, OnOk};
+ghost use Rattle.std.specs.Prelude.{◌≡◌, ◌++◌, IfOk, OnOk, All, map};
+ghost use Rattle.std.specs.List.{concat};
+ghost use Rattle.jz_preconditions.specs.Stating.{preconditions_of};
+ghost use Rattle.jz_preconditions.specs.Meeting.{IsBelowEnd, names_of, region_of, regions_of};
+ghost use Rattle.jz_preconditions.specs.Meeting.{regions_for};
 ghost use Rattle.jz_meaning.specs.Runs.{FunOutcome};
 ghost use Rattle.jz_interp.specs.Outcomes.{values_of, Shows};
 ghost use Rattle.jasminc_lines.specs.Lines.{cut_line};
 ghost use Rattle.jasminc_interp.specs.Telling.{why_name, stuck_line, results_text, end_text};
-ghost use Rattle.jasminc_interp.specs.Telling.{Tells};
+ghost use Rattle.jasminc_interp.specs.Telling.{pointer_of, region_text, Tells};
 
-use jasminc_lines::{write_cut, write_result};
+use jasminc_lines::{write_cut, write_region, write_result};
+use jz_inputs::{bytes_in, region_of};
 use jz_interp::Outcome;
 use jz_io::Bytes;
+use jz_leak::MemMap;
 use jz_meaning::{Stuck, Why};
+use jz_preconditions::Pre;
 use jz_text::write_span;
-use jz_tree::{Seq, Var, Word};
+use jz_tree::{Fun, Seq, Var, Word};
 use std::alloc::{AllocError, Global};
 
 /// The text of a run.
@@ -71,11 +78,73 @@ fn write_results(
     Ok(())
 }
 
-fn end_text(alloc: Global, results: &Seq<Var>, words: &Seq<Word>) -> Result<Bytes, AllocError>
-    ensures { IfOk result (λ text. text ≡ end_text results.now (values_of words.now)) }
+/// The parameter that a precondition names first.
+fn pointer_of(pre: &Pre) -> &str
+    ensures { result.now ≡ pointer_of pre.now }
+{
+    match pre {
+        Pre::Region { pointer, .. } => pointer.as_str(),
+        Pre::Range { name, .. } => name.as_str(),
+        Pre::Align { pointer, .. } => pointer.as_str(),
+    }
+}
+
+/// The region that a precondition declares for argument words, where it is one.
+fn write_region_of(
+    alloc: Global,
+    text: &mut Vec<u8>,
+    function: &Fun,
+    words: &Seq<u64>,
+    memory: &MemMap,
+    pre: &Pre,
+) -> Result<(), AllocError>
+    requires { All IsBelowEnd (region_of (names_of function.now) words.now pre.now) }
+    ensures { OnOk result (text.new.items
+        ≡ text.old.items ++ region_text function.now words.now memory.now pre.now) }
+{
+    match region_of(function, words, pre) {
+        None => Ok(()),
+        Some(region) => {
+            let bytes = bytes_in(alloc, memory, region)?;
+            write_region(alloc, text, pointer_of(pre), &bytes)
+        }
+    }
+}
+
+fn write_regions(
+    alloc: Global,
+    text: &mut Vec<u8>,
+    function: &Fun,
+    words: &Seq<u64>,
+    memory: &MemMap,
+    pres: &Seq<Pre>,
+) -> Result<(), AllocError>
+    requires { All IsBelowEnd (regions_of (names_of function.now) pres.now words.now) }
+    ensures { OnOk result (text.new.items ≡ text.old.items
+        ++ concat (map (region_text function.now words.now memory.now) pres.now)) }
+{
+    for pre in pres.as_slice() {
+        write_region_of(alloc, text, function, words, memory, pre)?;
+    }
+    Ok(())
+}
+
+fn end_text(
+    alloc: Global,
+    function: &Fun,
+    words: &Seq<u64>,
+    pres: &Seq<Pre>,
+    results: &Seq<Word>,
+    memory: &MemMap,
+) -> Result<Bytes, AllocError>
+    requires pres { pres.now ≡ preconditions_of function.now }
+    requires below_end { All IsBelowEnd (regions_for function.now words.now) }
+    ensures { IfOk result (λ text.
+        text ≡ end_text function.now words.now (values_of results.now) memory.now) }
 {
     let mut text = Vec::from_slice(alloc, b"end\n")?;
-    write_results(alloc, &mut text, results, words)?;
+    write_results(alloc, &mut text, &function.result, results)?;
+    write_regions(alloc, &mut text, function, words, memory, pres)?;
     Ok(Bytes::from_vec(text))
 }
 
@@ -95,19 +164,23 @@ fn stuck_text(alloc: Global, stuck: Stuck) -> Result<Bytes, AllocError>
     Ok(Bytes::from_vec(text))
 }
 
-/// The text of what a run with so many turns came to.
+/// The text of what a run on argument words with so many turns came to.
 pub fn tell(
     alloc: Global,
-    results: &Seq<Var>,
+    function: &Fun,
+    words: &Seq<u64>,
+    pres: &Seq<Pre>,
     outcome: &Outcome,
     fuel: u64,
 ) -> Result<Ran, AllocError>
+    requires pres { pres.now ≡ preconditions_of function.now }
+    requires below_end { All IsBelowEnd (regions_for function.now words.now) }
     ensures { IfOk result (λ ran. (out : FunOutcome) → Shows out outcome.now
-        → Tells results.now fuel out ran) }
+        → Tells function.now words.now fuel out ran) }
 {
     match outcome {
-        Outcome::End(words, _, _) => {
-            let text = end_text(alloc, results, words)?;
+        Outcome::End(results, memory, _) => {
+            let text = end_text(alloc, function, words, pres, results, memory)?;
             Ok(Ran::Ended(text))
         }
         Outcome::Cut(_) => {

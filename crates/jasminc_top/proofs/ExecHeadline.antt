@@ -4,6 +4,7 @@ use Rattle.std.specs.Io.KnownBytes.{Appends}
 use Rattle.jz_first.specs.declared.tree.Program.{Program}
 use Rattle.jz_first.specs.declared.tree.Fun.{Fun}
 use Rattle.jz_listing.specs.declared.compiled.Compiled.{Compiled}
+use Rattle.jz_items.specs.Items.{words_of}
 use Rattle.jasminc_words.specs.Wanted.{Called, Wanted, compile, exec, interp, disasm, wanted_command}
 use Rattle.jasminc_words.proofs.NumbersFit.{words_fit}
 use Rattle.jasminc_exec.specs.Running.{ItemsFit}
@@ -44,23 +45,23 @@ as_many_items text fun items p f types found clear =
     (λ differ. clear Items (omega arith) (record { program = p; types = types; function = f; found = found; differ = differ }))
 
 -- ---- what was written
-module _ (call : Called) (told : SourceTold) (sink : SinkTold) (output : List ℕ) (made : List Compiled) (fit : ItemsFit call.items) (wrote : Appends sink.bytes sink.bytes_after output) where
+module _ (call : Called) (told : SourceTold) (sink : SinkTold) (output : List ℕ) (made : List Compiled) (fit : ItemsFit (words_of call.items)) (wrote : Appends sink.bytes sink.bytes_after output) where
   given_run : (text : List ℕ) (s : Status) → IsDone (Some (exec call)) text s output made → GivesRun text call s output made
   given_run text s x = subst (λ (w : Wanted). Gives w text s output made) (sym (same_command _ _ x.is)) x.gives
 
   done_printed : (text : List ℕ) → HasFile call.file told.files text → IsDone (Some (exec call)) text status.Ok output made → PrintsRun call told sink made
   done_printed text has x =
       let g = given_run text status.Ok x in
-      let f = function_there text call.fun call.items g.program g.makes.types x.clear in
+      let f = function_there text call.fun (words_of call.items) g.program g.makes.types x.clear in
       run_printed call text told sink output made g.program f.0 has g.makes f.1
-      (as_many_items text call.fun call.items g.program f.0 g.makes.types f.1 x.clear) fit wrote g.run
+      (as_many_items text call.fun (words_of call.items) g.program f.0 g.makes.types f.1 x.clear) fit wrote g.run
 
   done_cut : (text : List ℕ) → HasFile call.file told.files text → IsDone (Some (exec call)) text status.OutOfFuel output made → PrintsCut call told sink made
   done_cut text has x =
       let g = given_run text status.OutOfFuel x in
-      let f = function_there text call.fun call.items g.program g.makes.types x.clear in
+      let f = function_there text call.fun (words_of call.items) g.program g.makes.types x.clear in
       cut_printed call text told sink output made g.program f.0 has g.makes f.1
-      (as_many_items text call.fun call.items g.program f.0 g.makes.types f.1 x.clear) fit wrote g.run
+      (as_many_items text call.fun (words_of call.items) g.program f.0 g.makes.types f.1 x.clear) fit wrote g.run
 
   due_printed : IsDue (Some (exec call)) told status.Ok output made → PrintsRun call told sink made
   due_printed d = elim d.answers [
@@ -84,7 +85,7 @@ module _ (call : Called) (told : SourceTold) (sink : SinkTold) (output : List �
       let due = subst (λ (t : Status). Due (Some (exec call)) told t output made) (sym e) d in
       due_cut due.0
 
-prints_run : (call : Called) (run : Run) → ItemsFit call.items → Runs run → run.wish ≡ Some (exec call) → run.done.status ≡ status.Ok
+prints_run : (call : Called) (run : Run) → ItemsFit (words_of call.items) → Runs run → run.wish ≡ Some (exec call) → run.done.status ≡ status.Ok
     → PrintsRun call run.source run.sink run.done.made
 prints_run call run fit r is ok = elim r.wrote [
   | inl w ↦
@@ -94,7 +95,7 @@ prints_run call run fit r is ok = elim r.wrote [
   | inr w ↦ let e : status.Ok ≡ status.WriteFault = sym ok ∙ w.0 in cc
 ]
 
-prints_cut : (call : Called) (run : Run) → ItemsFit call.items → Runs run → run.wish ≡ Some (exec call) → run.done.status ≡ status.OutOfFuel
+prints_cut : (call : Called) (run : Run) → ItemsFit (words_of call.items) → Runs run → run.wish ≡ Some (exec call) → run.done.status ≡ status.OutOfFuel
     → PrintsCut call run.source run.sink run.done.made
 prints_cut call run fit r is cut = elim r.wrote [
   | inl w ↦
@@ -113,7 +114,7 @@ executes_wish (Some (exec call)) told sink made prints = prints call refl
 executes_wish (Some (interp call)) told sink made prints = tt
 executes_wish (Some (disasm file)) told sink made prints = tt
 
-items_fit : (words : List (List ℕ)) (wish : Option Wanted) (call : Called) → wish ≡ wanted_command words → wish ≡ Some (exec call) → ItemsFit call.items
+items_fit : (words : List (List ℕ)) (wish : Option Wanted) (call : Called) → wish ≡ wanted_command words → wish ≡ Some (exec call) → ItemsFit (words_of call.items)
 items_fit words wish call wished is = (words_fit words (exec call) (sym wished ∙ is)).0
 
 -- the items of words fit

@@ -11,6 +11,7 @@ use Rattle.jz_correct.specs.Correctness.{IsCorrect}
 use Rattle.jz_pipeline.specs.Compiling.{compiled_of}
 use Rattle.jz_pipeline.specs.Placed.{IsPlaceable}
 use Rattle.jz_pipeline.proofs.Linked.{compiled_correct}
+use Rattle.jz_items.specs.Items.{words_of}
 use Rattle.jasminc_words.specs.Wanted.{Called}
 use Rattle.jasminc_exec.specs.Running.{ItemsFit, IsStartMemory, EndsWithin, RunsTo}
 use Rattle.jasminc_exec.specs.declared.exec.Ran.{Ran}
@@ -71,9 +72,9 @@ module _ (text fun items : List ℕ) (made : List Compiled) (p : Program) (f : F
 
 module _ (call : Called) (text : List ℕ) (told : SourceTold) (sink : SinkTold) (output : List ℕ) (made : List Compiled) (p : Program) (f : Fun)
     (has : HasFile call.file told.files text) (makes : Makes text p made) (found : function_named call.fun p.funs ≡ Some f)
-    (many : length call.items ≡ length f.params) (fit : ItemsFit call.items) (wrote : Appends sink.bytes sink.bytes_after output) where
+    (many : length (words_of call.items) ≡ length f.params) (fit : ItemsFit (words_of call.items)) (wrote : Appends sink.bytes sink.bytes_after output) where
   abbrev that : Compiled
-  that = code text call.fun call.items made p f makes found many fit
+  that = code text call.fun (words_of call.items) made p f makes found many fit
 
   starts : (m : Memory) → IsStartMemory m → StartsRun call told made
   starts m is =
@@ -89,25 +90,25 @@ module _ (call : Called) (text : List ℕ) (told : SourceTold) (sink : SinkTold)
         function = f;
         found = found;
         compiled = that;
-        compiled_is = code_there text call.fun call.items made p f makes found many fit;
-        correct = right text call.fun call.items made p f makes found many fit;
-        meets = words_meet register f call.items fit many few l.within.0;
+        compiled_is = code_there text call.fun (words_of call.items) made p f makes found many fit;
+        correct = right text call.fun (words_of call.items) made p f makes found many fit;
+        meets = words_meet register f (words_of call.items) fit many few l.within.0;
         memory = m;
         is_start = is;
-        start = exec_starts register f call.items fit many few l.within.0 m is;
+        start = exec_starts register f (words_of call.items) fit many few l.within.0 m is;
       }
 
-  that_run : (r : RunsOne call status.Ok output made) → RunsTo that call.items call.fuel r.ran
+  that_run : (r : RunsOne call status.Ok output made) → RunsTo that (words_of call.items) call.fuel r.ran
   that_run r =
-      subst (λ (c : Compiled). RunsTo c call.items call.fuel r.ran)
-      (same_compiled r.compiled that (compiled_named call.fun made) r.found (code_there text call.fun call.items made p f makes found many fit)) r.runs
+      subst (λ (c : Compiled). RunsTo c (words_of call.items) call.fuel r.ran)
+      (same_compiled r.compiled that (compiled_named call.fun made) r.found (code_there text call.fun (words_of call.items) made p f makes found many fit)) r.runs
 
-  that_cut : (r : RunsOne call status.OutOfFuel output made) → RunsTo that call.items call.fuel r.ran
+  that_cut : (r : RunsOne call status.OutOfFuel output made) → RunsTo that (words_of call.items) call.fuel r.ran
   that_cut r =
-      subst (λ (c : Compiled). RunsTo c call.items call.fuel r.ran)
-      (same_compiled r.compiled that (compiled_named call.fun made) r.found (code_there text call.fun call.items made p f makes found many fit)) r.runs
+      subst (λ (c : Compiled). RunsTo c (words_of call.items) call.fuel r.ran)
+      (same_compiled r.compiled that (compiled_named call.fun made) r.found (code_there text call.fun (words_of call.items) made p f makes found many fit)) r.runs
 
-  run_by : (x : Ran) → RunsTo that call.items call.fuel x → IsToldBy x status.Ok output → PrintsRun call told sink made
+  run_by : (x : Ran) → RunsTo that (words_of call.items) call.fuel x → IsToldBy x status.Ok output → PrintsRun call told sink made
   unfolding starts
   run_by (ran.Ended written) r t = record {
     started = starts r.memory r.is_start;
@@ -118,13 +119,13 @@ module _ (call : Called) (text : List ℕ) (told : SourceTold) (sink : SinkTold)
   }
   run_by (ran.Cut written) r t = absurd (ended_not_cut t.0)
 
-  too_long : (written : List ℕ) → RunsTo that call.items call.fuel (ran.Cut written) → 1000000 ≤ call.fuel → ⊥
+  too_long : (written : List ℕ) → RunsTo that (words_of call.items) call.fuel (ran.Cut written) → 1000000 ≤ call.fuel → ⊥
   too_long written r h =
-      let e = ends text call.fun call.items made p f makes found many fit r.memory r.is_start in
+      let e = ends text call.fun (words_of call.items) made p f makes found many fit r.memory r.is_start in
       let ended = e.0.2.ended in
       let still = r.told.still e.0.0 (omega (arith, e.0.1, h)) in cc
 
-  cut_by : (x : Ran) → RunsTo that call.items call.fuel x → IsToldBy x status.OutOfFuel output → PrintsCut call told sink made
+  cut_by : (x : Ran) → RunsTo that (words_of call.items) call.fuel x → IsToldBy x status.OutOfFuel output → PrintsCut call told sink made
   unfolding starts
   cut_by (ran.Ended written) r t = absurd (cut_not_ended t.0)
   cut_by (ran.Cut written) r t = record {

@@ -22,6 +22,7 @@ use Rattle.jasminc_top.specs.declared.refusal.Refusal.TheVariants.{Lex, Parse, T
 use Rattle.jasminc_top.specs.declared.refusal.Status.{Status}
 use Rattle.jasminc_top.specs.declared.refusal.Status.TheVariants as status
 use Rattle.jasminc_top.specs.declared.answer.Reply.{Reply}
+use Rattle.jz_items.specs.Items.{words_of}
 use Rattle.jasminc_words.specs.Wanted.{Called, Wanted, compile, exec}
 use Rattle.jasminc_top.specs.Refusals.{stage_of, all_stages}
 use Rattle.jasminc_top.specs.Making.{TypesAs, AreMade}
@@ -180,13 +181,13 @@ pub exec_reading_fails : (call : Called) (text : List ℕ) (e : Failure Refusal)
     → IfAnswered {A = Reply} (Err e) (After (Some (exec call)) text)
 exec_reading_fails call text e short h =
     fails_after (Some (exec call)) text e
-    (answered (ReadingRefuses text) (IsFirstCause (ExecCause call.fun call.items text)) e (λ r. exec_reading_first text call.fun call.items r short) h)
+    (answered (ReadingRefuses text) (IsFirstCause (ExecCause call.fun (words_of call.items) text)) e (λ r. exec_reading_first text call.fun (words_of call.items) r short) h)
 
 pub exec_making_fails : (call : Called) (text : List ℕ) (p : Program) (f : Fun) (e : Failure Refusal) → length text ≤ source_limit → TypesAs text p → function_named call.fun p.funs ≡ Some f
     → IfRefused e (MakingRefuses p.funs) → IfAnswered {A = Reply} (Err e) (After (Some (exec call)) text)
 exec_making_fails call text p f e short t found h =
     fails_after (Some (exec call)) text e
-    (answered (MakingRefuses p.funs) (IsFirstCause (ExecCause call.fun call.items text)) e (λ r. exec_making_first text call.fun call.items p f r short t found) h)
+    (answered (MakingRefuses p.funs) (IsFirstCause (ExecCause call.fun (words_of call.items) text)) e (λ r. exec_making_first text call.fun (words_of call.items) p f r short t found) h)
 
 -- ---- items
 pub items_first : (text fun items : List ℕ) (p : Program) (f : Fun) (made : List Compiled) → length text ≤ source_limit → TypesAs text p → AreMade p.funs made
@@ -213,14 +214,14 @@ listing_done file text p output made short t m o = record {
 }
 
 pub run_done : (call : Called) (text : List ℕ) (p : Program) (f : Fun) (s : Status) (output : List ℕ) (made : List Compiled) → length text ≤ source_limit → TypesAs text p → AreMade p.funs made
-    → function_named call.fun p.funs ≡ Some f → length call.items ≡ length f.params → RunsOne call s output made → IsDone (Some (exec call)) text s output made
+    → function_named call.fun p.funs ≡ Some f → length (words_of call.items) ≡ length f.params → RunsOne call s output made → IsDone (Some (exec call)) text s output made
 run_done call text p f s output made short t m found count run = record {
   command = exec call;
   is = refl;
-  clear = clear_run text call.fun call.items all_stages (record {
+  clear = clear_run text call.fun (words_of call.items) all_stages (record {
     texts = excludes_all text p all_stages made short t m;
     named = λ name lt. has_function text call.fun name p f t found;
-    counted = λ lt. has_items text call.fun call.items p f t found count;
+    counted = λ lt. has_items text call.fun (words_of call.items) p f t found count;
   });
   gives = record { program = p; makes = record { types = t; are_made = m }; run = run };
 }

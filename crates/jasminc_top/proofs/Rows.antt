@@ -23,15 +23,16 @@ use Rattle.jz_disasm_text.specs.declared.Fault.TheVariants as fault
 use Rattle.jasminc_top.specs.Answers.{Cause, HasText, IsDue, IsUsage, IsNoCommand, IsQuiet, IsToldBy, IsToldAs, IsResult, Gives}
 use Rattle.jasminc_top.specs.Runs.{Run, Due, Runs, ReadsAll, Refuses, Completes, IsFree, IsGiven, IsEarlier, Tells, IsCaused, ComesOnly, IsTooLong}
 
-run_bounded : (r : Refused) → interp_causes.stage_of r < 10
+run_bounded : (r : Refused) → interp_causes.stage_of r < 11
 run_bounded (refusing.Lex fault) = omega arith
 run_bounded (refusing.Parse fault) = omega arith
 run_bounded (refusing.Typing fault) = omega arith
 run_bounded (refusing.NoFunction name) = omega arith
 run_bounded (refusing.Limit l) = omega arith
 run_bounded refusing.Items = omega arith
+run_bounded (refusing.Unmet pre) = omega arith
 
-bounded : (r : Refusal) → stage_of r < 10
+bounded : (r : Refusal) → stage_of r < 11
 bounded Usage = omega arith
 bounded (Interp r) = run_bounded r
 bounded _ = omega arith
@@ -119,6 +120,7 @@ no_other_run (refusing.Typing fault) h = h
 no_other_run (refusing.NoFunction name) h = h
 no_other_run (refusing.Limit l) h = h
 no_other_run refusing.Items h = h
+no_other_run (refusing.Unmet pre) h = h
 
 no_other_fault : (f : Fault) → IsOther (status_of_fault f) → ⊥
 no_other_fault (fault.BadListing line) h = h

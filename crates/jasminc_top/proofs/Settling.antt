@@ -45,6 +45,7 @@ run_late (refused.Typing fault) = omega arith
 run_late (refused.NoFunction name) = omega arith
 run_late (refused.Limit l) = omega arith
 run_late refused.Items = omega arith
+run_late (refused.Unmet pre) = omega arith
 
 clear_file : (wish : Wanted) (text : List ℕ) → Clear (Cause (Some wish) text) 1
 clear_file wish text Usage lt c = never_usage wish text c
@@ -95,6 +96,7 @@ run_bound (refused.Typing fault) h = h
 run_bound (refused.NoFunction name) h = h
 run_bound (refused.Limit l) h = h
 run_bound refused.Items h = h
+run_bound (refused.Unmet pre) h = h
 
 fault_bound : (f : Fault) → IsFree (status_of_fault f) → ⊥
 fault_bound (fault.BadListing line) h = h

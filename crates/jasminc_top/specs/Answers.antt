@@ -16,6 +16,7 @@ use Rattle.jz_pipeline.specs.Stages.{IsFirstRefusal, FirstLimit, FirstAlarm, Fir
 use Rattle.jz_listing.specs.Listing.{listing_text}
 use Rattle.jz_listing.specs.declared.compiled.Compiled.{Compiled}
 use Rattle.jz_disasm_text.specs.Shown.{FailsAs, Shows}
+use Rattle.jz_items.specs.Items.{words_of}
 use Rattle.jasminc_words.specs.Wanted.{Called, Wanted, compile, exec, interp, disasm, file_of}
 use Rattle.jasminc_interp.specs.Causes as runs
 use Rattle.jasminc_interp.specs.Answers as answers
@@ -115,7 +116,7 @@ IsUsage r = r ≡ Usage
 abbrev pub Cause : Option Wanted → List ℕ → Refusal → Type 0
 Cause None text = IsUsage
 Cause (Some (compile file)) text = TextCause text
-Cause (Some (exec call)) text = ExecCause call.fun call.items text
+Cause (Some (exec call)) text = ExecCause call.fun (words_of call.items) text
 Cause (Some (interp call)) text = InterpCause call text
 Cause (Some (disasm file)) text = DisasmCause text
 
@@ -143,13 +144,13 @@ abbrev pub IsToldBy : Ran → Status → List ℕ → Type 0
 IsToldBy (ran.Ended text) s output = (s ≡ status.Ok) × (output ≡ text)
 IsToldBy (ran.Cut text) s output = (s ≡ status.OutOfFuel) × (output ≡ text)
 
--- one of the functions that were made, and its run on the items, with at most so many steps
+-- one of the functions that were made, and its run on the items' words, with at most so many steps
 pub record RunsOne (call : Called) (s : Status) (output : List ℕ) (made : List Compiled) : Type 0
   where
     pub compiled : Compiled
     pub found : compiled_named call.fun made ≡ Some compiled
     pub ran : Ran
-    pub runs : RunsTo compiled call.items call.fuel ran
+    pub runs : RunsTo compiled (words_of call.items) call.fuel ran
     pub told : IsToldBy ran s output
 
 -- the function of that name was made, and no step of its run on the items faults

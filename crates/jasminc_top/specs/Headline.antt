@@ -12,6 +12,7 @@ use Rattle.jz_correct.specs.Starts.{MeetsPreconditions, IsStart}
 use Rattle.jz_correct.specs.Correctness.{IsCorrect, AreCorrect}
 use Rattle.x64_machine.specs.Steps.{steps_of}
 use Rattle.jz_disasm_text.specs.Shown.{Shows}
+use Rattle.jz_items.specs.Items.{words_of}
 use Rattle.jasminc_words.specs.Wanted.{Called, Wanted, compile, exec, interp, disasm}
 use Rattle.jasminc_interp.specs.Answers as answers
 use Rattle.jasminc_interp.specs.declared.telling.Ran as source
@@ -42,8 +43,8 @@ Compiles (Some (exec call)) told sink made = ⊤
 Compiles (Some (interp call)) told sink made = ⊤
 Compiles (Some (disasm file)) told sink made = ⊤
 
--- The function of that name is compiled correctly, the items meet its preconditions, and `exec`
--- starts it at a start on these items and a memory of the return slot alone.
+-- The function of that name is compiled correctly, the words of the items meet its preconditions,
+-- and `exec` starts it at a start on these words and a memory of the return slot alone.
 pub record StartsRun (call : Called) (told : SourceTold) (made : List Compiled) : Type 0 where
   pub text : List ℕ
   pub has : HasFile call.file told.files text
@@ -54,11 +55,12 @@ pub record StartsRun (call : Called) (told : SourceTold) (made : List Compiled) 
   pub compiled : Compiled
   pub compiled_is : compiled_named call.fun made ≡ Some compiled
   pub correct : IsCorrect program function compiled
-  pub meets : MeetsPreconditions compiled call.items map_of.empty
+  pub meets : MeetsPreconditions compiled (words_of call.items) map_of.empty
   pub memory : Memory
   pub is_start : IsStartMemory memory
   pub start :
-      IsStart compiled call.items map_of.empty return_slot code_base (exec_start call.items memory)
+      let words = words_of call.items in
+      IsStart compiled words map_of.empty return_slot code_base (exec_start words memory)
 
 -- What was written is the text of a run on the machine, from such a start to the step that ends it,
 -- which is among the first so many; and nothing else.
@@ -68,9 +70,10 @@ pub record PrintsRun (call : Called) (told : SourceTold) (sink : SinkTold) (made
   pub steps : ℕ
   pub within : steps ≤ call.fuel
   pub ends :
-      EndsAfter started.compiled.code code_base (exec_start call.items started.memory) steps
+      let start = exec_start (words_of call.items) started.memory in
+      EndsAfter started.compiled.code code_base start steps
   pub wrote :
-      let start = exec_start call.items started.memory in
+      let start = exec_start (words_of call.items) started.memory in
       let ran = steps_of started.compiled.code code_base start steps in
       Appends sink.bytes sink.bytes_after
       (run_text started.compiled ran.after.state ran.events steps)
@@ -81,10 +84,11 @@ pub record PrintsCut (call : Called) (told : SourceTold) (sink : SinkTold) (made
     : Type 0 where
   pub started : StartsRun call told made
   pub still :
-      RunsStill started.compiled.code code_base (exec_start call.items started.memory) call.fuel
+      let start = exec_start (words_of call.items) started.memory in
+      RunsStill started.compiled.code code_base start call.fuel
   pub few : call.fuel < 1000000
   pub wrote :
-      let start = exec_start call.items started.memory in
+      let start = exec_start (words_of call.items) started.memory in
       let events = (steps_of started.compiled.code code_base start call.fuel).events in
       Appends sink.bytes sink.bytes_after (cut_text events call.fuel)
 

@@ -8,6 +8,7 @@ use Rattle.jz_types.specs.Faults.{rule_number}
 use Rattle.jz_limits.specs.declared.limit.Limit.{Limit}
 use Rattle.jz_limits.specs.declared.limit.Limit.TheVariants as limit
 use Rattle.jz_text.specs.Texts.{span_text}
+use Rattle.jasminc_lines.specs.Preconditions.{pre_text}
 use Rattle.jasminc_interp.specs.declared.refused.FunLimit.{FunLimit}
 use Rattle.jasminc_interp.specs.declared.refused.Refused.{Refused}
 use Rattle.jasminc_interp.specs.declared.refused.Refused.TheVariants as refused
@@ -54,3 +55,4 @@ refused_text (refused.Typing fault) = type_line fault
 refused_text (refused.NoFunction name) = codes "unknown function " ++ name
 refused_text (refused.Limit l) = limit_text l
 refused_text refused.Items = codes "precondition items"
+refused_text (refused.Unmet pre) = codes "precondition " ++ pre_text pre

@@ -24,6 +24,7 @@ status_of_refused (refused.Typing fault) = status.Typing
 status_of_refused (refused.NoFunction name) = status.NoFunction
 status_of_refused (refused.Limit l) = status.Limit
 status_of_refused refused.Items = status.Precondition
+status_of_refused (refused.Unmet pre) = status.Precondition
 
 abbrev pub status_of_fault : Fault → Status
 status_of_fault (fault.BadListing line) = status.Syntax
@@ -65,7 +66,7 @@ abbrev pub line_of : Refusal → List ℕ
 line_of r = cause_text r ++ codes "\n"
 
 -- the stages in their order: words, file, lexer, parser, typing, function name, limits, safety,
--- places, items; a text has at most one reason to have no disassembly, right after the file
+-- places, the number of items, preconditions; a text has at most one reason to have no disassembly, right after the file
 abbrev pub stage_of : Refusal → ℕ
 stage_of Usage = 0
 stage_of ReadFault = 1
@@ -83,4 +84,4 @@ stage_of (Disasm f) = 2
 
 -- one past the last stage
 abbrev pub all_stages : ℕ
-all_stages = 10
+all_stages = 11

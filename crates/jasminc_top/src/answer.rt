@@ -4,6 +4,7 @@ ghost use Rattle.std.specs.Prelude.{◌≡◌, ◌≤◌, [], All, Some, IfOk, I
 ghost use Rattle.std.specs.Option.{option_copied};
 ghost use Rattle.jz_first.specs.Failures.{IfRefused, IfAnswered};
 ghost use Rattle.jz_io.specs.Telling.{IsWhole};
+ghost use Rattle.jz_items.specs.Items.{words_of};
 ghost use Rattle.jasminc_words.specs.Wanted.{compile, exec, interp, disasm, texts_of};
 ghost use Rattle.jasminc_words.specs.Wanted.{called_of, wanted_of};
 ghost use Rattle.jasminc_words.specs.Wanted.{wanted_command};
@@ -24,6 +25,7 @@ use jz_disasm_text::disasm_text;
 use jz_first::{Failure, Fun, Seq, Text, Typed, check, parse_first};
 use jz_grammar::lex;
 use jz_io::{Bytes, ReadRefused, Source, read_all};
+use jz_items::words_of;
 use jz_listing::{Compiled, listing};
 use jz_pipeline::{compile_all, expand_all, safe_all};
 use std::alloc::{AllocError, Global};
@@ -124,9 +126,15 @@ fn compiled_named<'a>(made: &'a [Compiled], name: &str) -> Option<&'a Compiled>
     made.iter().find(|compiled| compiled.name.as_str() == name)
 }
 
-/// The run of one of the functions that were made.
-fn run_reply(alloc: Global, made: Seq<Compiled>, call: &Call<'_>) -> Result<Reply, AllocError>
-    requires { IsSafeOne made call.now.fun.now call.now.items }
+/// The run of one of the functions that were made, on the words of its items.
+fn run_reply(
+    alloc: Global,
+    made: Seq<Compiled>,
+    call: &Call<'_>,
+    words: &[u64],
+) -> Result<Reply, AllocError>
+    requires safe { IsSafeOne made call.now.fun.now words.now }
+    requires words { words.now ≡ words_of call.now.items }
     ensures runs { let call = called_of call.now
         in IfOk result (λ r. RunsOne call r.status r.text r.made) }
     ensures made { IfOk result (λ r. r.made ≡ made) }
@@ -134,7 +142,7 @@ fn run_reply(alloc: Global, made: Seq<Compiled>, call: &Call<'_>) -> Result<Repl
     let Some(compiled) = compiled_named(made.as_slice(), call.fun) else {
         unreachable!()
     };
-    let ran = exec_text(alloc, compiled, call.items.as_slice(), call.fuel)?;
+    let ran = exec_text(alloc, compiled, words, call.fuel)?;
     match ran {
         Ran::Ended(text) => Ok(Reply {
             status: Status::Ok,
@@ -160,12 +168,13 @@ fn exec_reply(alloc: Global, call: &Call<'_>, text: &[u8]) -> Result<Reply, Fail
         return Err(Failure::Refused(Refusal::NoFunction(name)));
     };
     let made = compile_typed(alloc, &typed)?;
-    let items = call.items.as_slice();
+    let words = words_of(alloc, &call.items)?;
+    let items = words.as_slice();
     if items.len() != function.params.len() {
         return Err(Failure::Refused(Refusal::Items));
     }
     items_are_words(items);
-    Ok(run_reply(alloc, made, call)?)
+    Ok(run_reply(alloc, made, call, items)?)
 }
 
 /// What a run of the source is told by. Nothing was made for it.

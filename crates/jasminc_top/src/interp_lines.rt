@@ -7,6 +7,7 @@ ghost use Rattle.jasminc_top.specs.InterpLines.{limit_text, refused_text};
 
 use crate::lines::{write_lex_fault, write_syntax_fault};
 use jasminc_interp::{FunLimit, Refused};
+use jasminc_lines::write_pre;
 use jz_first::Text;
 use jz_first_limit::Limit;
 use jz_text::{write_number, write_span};
@@ -88,5 +89,9 @@ pub fn write_refused(line: &mut Vec<u8>, refused: &Refused) -> Result<(), AllocE
         }
         Refused::Limit(passed) => write_fun_limit(line, passed),
         Refused::Items => line.extend_from_slice(b"precondition items"),
+        Refused::Unmet(pre) => {
+            line.extend_from_slice(b"precondition ")?;
+            write_pre(line, pre)
+        }
     }
 }

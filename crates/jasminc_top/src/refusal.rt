@@ -78,7 +78,7 @@ fn status_of_refused(refused: &Refused) -> Status
         Refused::Typing(_) => Status::Typing,
         Refused::NoFunction(_) => Status::NoFunction,
         Refused::Limit(_) => Status::Limit,
-        Refused::Items => Status::Precondition,
+        Refused::Items | Refused::Unmet(_) => Status::Precondition,
     }
 }
 

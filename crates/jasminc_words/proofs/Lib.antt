@@ -1,4 +1,3 @@
 pub mod Adding
-pub mod Numerals
 pub mod NumbersFit
 mod WordExamples

@@ -1,51 +1,22 @@
 -- The numbers of a command are words of 64 bits.
-use Rattle.std.proofs.Common.{◌≡◌, ℕ, ◌<◌, ◌^◌, Bool, true, false, ◌&&◌, nat_lt, if◌then◌else◌, List, [], ◌∷◌, drop, codes, Option, Some, None, refl, arith, subst, lit<}
-use Rattle.std.specs.Prelude.{◌==◌, option_and_then, unwrap_or}
-use Rattle.std.specs.List.{starts_with}
+use Rattle.std.proofs.Common.{◌≡◌, ℕ, ◌<◌, ◌^◌, Bool, true, false, if◌then◌else◌, List, [], ◌∷◌, codes, Option, Some, None, refl, subst, lit<}
+use Rattle.std.specs.Prelude.{unwrap_or}
 use Rattle.std.specs.Option.{option_map}
 use Rattle.std.specs.Str.{bytes_eq}
 use Rattle.clap.specs.Words.{Row, Text, first_of, all_of, fault_of, subcommand_of}
 use Rattle.jasminc_words.specs.Commands.{jasminc_app}
-use Rattle.jasminc_words.specs.Numbers.{ItemsFit, is_numeral, numeral, has_leading_zero, number_of_word, numbers_of}
+use Rattle.jz_items.specs.declared.item.Item.{Item}
+use Rattle.jz_items.specs.Items.{ItemsFit}
+use Rattle.jz_items.proofs.Fitting.{word_fits, items_fit}
 use Rattle.jasminc_words.specs.Wanted.{Called, Wanted, compile, exec, interp, disasm, HasFit, HasNumbers, number_or, fuel_in, items_in, call_of, call_in, wanted_in, none_or, wanted_command}
-
--- ---- numbers
-below : (z : Bool) (v n : ℕ) → z ≡ nat_lt v (2 ^ 64) → (if z then Some v else None) ≡ Some n → n < 2 ^ 64
-below true v n q e = let same : v ≡ n = cc in let lt : v < 2 ^ 64 = grind (arith, q) in subst (λ k. k < 2 ^ 64) same lt
-below false v n q e = cc
-
-chosen : (a : Bool) (v n : ℕ) → (if a && nat_lt v (2 ^ 64) then Some v else None) ≡ Some n → n < 2 ^ 64
-chosen false v n e = cc
-chosen true v n e = below (nat_lt v (2 ^ 64)) v n refl e
-
-numeral_fits : (base : ℕ) (digits : List ℕ) (n : ℕ) → numeral base digits ≡ Some n → n < 2 ^ 64
-numeral_fits base digits n e = chosen (is_numeral base digits) _ n e
-
-picked : (z y : Bool) (a b : Option ℕ) (n : ℕ) → (if z then a else (if y then None else b)) ≡ Some n → (a ≡ Some n → n < 2 ^ 64) → (b ≡ Some n → n < 2 ^ 64) → n < 2 ^ 64
-picked true y a b n e h k = h e
-picked false true a b n e h k = cc
-picked false false a b n e h k = k e
-
-word_fits : (word : List ℕ) (n : ℕ) → number_of_word word ≡ Some n → n < 2 ^ 64
-word_fits word n e = picked (starts_with ◌==◌ word (codes "0x")) (has_leading_zero word) _ _ n e (λ h. numeral_fits 16 (drop 2 word) n h) (λ h. numeral_fits 10 word n h)
-
-joined : (o : Option ℕ) (os : Option (List ℕ)) (ns : List ℕ) → option_and_then (λ n. option_and_then (λ ms. Some (n ∷ ms)) os) o ≡ Some ns
-    → ((n : ℕ) → o ≡ Some n → n < 2 ^ 64) → ((ms : List ℕ) → os ≡ Some ms → ItemsFit ms) → ItemsFit ns
-joined None os ns e h hs = cc
-joined (Some n) None ns e h hs = cc
-joined (Some n) (Some ms) ns e h hs = let same : n ∷ ms ≡ ns = cc in subst ItemsFit same (h n refl, hs ms refl)
-
-items_fit : (words : List (List ℕ)) (ns : List ℕ) → numbers_of words ≡ Some ns → ItemsFit ns
-items_fit [] ns e = let same : [] ≡ ns = cc in subst ItemsFit same tt
-items_fit (word ∷ words) ns e = joined (number_of_word word) (numbers_of words) ns e (λ n h. word_fits word n h) (λ ms h. items_fit words ms h)
 
 fuel_fits : (o : Option Text) (n : ℕ) → number_or 1000000 o ≡ Some n → n < 2 ^ 64
 fuel_fits None n e = let same : 1000000 ≡ n = cc in subst (λ k. k < 2 ^ 64) same (lit< tt)
 fuel_fits (Some word) n e = word_fits word n e
 
 -- ---- a run
-called_fits : (file fun : Option Text) (fuel : Option ℕ) (items : Option (List ℕ)) (call : Called) → call_of file fun fuel items ≡ Some call
-    → ((n : ℕ) → fuel ≡ Some n → n < 2 ^ 64) → ((ns : List ℕ) → items ≡ Some ns → ItemsFit ns) → HasFit call
+called_fits : (file fun : Option Text) (fuel : Option ℕ) (items : Option (List Item)) (call : Called) → call_of file fun fuel items ≡ Some call
+    → ((n : ℕ) → fuel ≡ Some n → n < 2 ^ 64) → ((ns : List Item) → items ≡ Some ns → ItemsFit ns) → HasFit call
 called_fits None fun fuel items call e h k = cc
 called_fits (Some file) None fuel items call e h k = cc
 called_fits (Some file) (Some fun) None items call e h k = cc

@@ -1,6 +1,7 @@
 -- Words that are commands, and words that are none.
 use Rattle.std.proofs.Common.{◌≡◌, [], ◌∷◌, Some, None, refl, codes}
 use Rattle.clap.proofs.OnLiterals.{clap_on_literals}
+use Rattle.jz_items.specs.declared.item.Item.TheVariants.{Number}
 use Rattle.jasminc_words.specs.Wanted.{compile, exec, interp, disasm, wanted_command}
 
 pub a_file : wanted_command (codes "jasminc" ∷ codes "compile" ∷ codes "a" ∷ []) ≡ Some (compile (codes "a"))
@@ -20,7 +21,7 @@ unfolding wanted_command clap_on_literals
 no_words = refl
 
 pub a_run : wanted_command (codes "jasminc" ∷ codes "interp" ∷ codes "a" ∷ codes "f" ∷ codes "2" ∷ codes "0x0B" ∷ codes "--fuel" ∷ codes "5" ∷ [])
-    ≡ Some (interp (record { file = codes "a"; fun = codes "f"; items = 2 ∷ 11 ∷ []; fuel = 5 }))
+    ≡ Some (interp (record { file = codes "a"; fun = codes "f"; items = Number 2 ∷ Number 11 ∷ []; fuel = 5 }))
 unfolding wanted_command clap_on_literals
 a_run = refl
 

@@ -1,4 +1,3 @@
-pub mod Numbers
 pub mod Commands
 pub mod Wanted
 pub mod Matching

@@ -6,7 +6,9 @@ use Rattle.std.specs.Str.{bytes_eq}
 use Rattle.std.specs.declared.alloc.Global.{Global}
 use Rattle.clap.specs.Words.{Row, Text, first_of, all_of, fault_of, subcommand_of}
 use Rattle.jasminc_words.specs.Commands.{jasminc_app}
-use Rattle.jasminc_words.specs.Numbers.{ItemsFit, number_of_word, numbers_of}
+use Rattle.jz_items.specs.declared.item.Item.{Item}
+use Rattle.jz_items.specs.Numbers.{number_of_word}
+use Rattle.jz_items.specs.Items.{items_of, ItemsFit}
 use Rattle.jasminc_words.specs.declared.request.Call.{Call}
 use Rattle.jasminc_words.specs.declared.request.Request.{Request}
 use Rattle.jasminc_words.specs.declared.request.Request.TheVariants as request
@@ -15,7 +17,7 @@ use Rattle.jasminc_words.specs.declared.request.Request.TheVariants as request
 pub record Called : Type 0 where
   pub file : List ℕ
   pub fun : List ℕ
-  pub items : List ℕ
+  pub items : List Item
   pub fuel : ℕ
 
 -- a command; its file, or what it runs
@@ -56,10 +58,10 @@ number_or n (Some word) = number_of_word word
 abbrev pub fuel_in : List Row → Option ℕ
 fuel_in rows = number_or default_fuel (first_of (codes "fuel") rows)
 
-abbrev pub items_in : List Row → Option (List ℕ)
-items_in rows = numbers_of (unwrap_or (all_of (codes "ITEM") rows) [])
+abbrev pub items_in : List Row → Option (List Item)
+items_in rows = items_of (unwrap_or (all_of (codes "ITEM") rows) [])
 
-abbrev pub call_of : Option Text → Option Text → Option ℕ → Option (List ℕ) → Option Called
+abbrev pub call_of : Option Text → Option Text → Option ℕ → Option (List Item) → Option Called
 call_of (Some file) (Some fun) (Some fuel) (Some items) =
     Some (record { file = file; fun = fun; items = items; fuel = fuel })
 call_of file fun fuel items = None
@@ -89,7 +91,7 @@ none_or [] y = y
 none_or (x ∷ xs) y = None
 
 -- The command that all the words are, the program's name first. They are one where no step of
--- `clap`'s parse fails, and the numbers among them are numbers.
+-- `clap`'s parse fails, and the numbers and items among them are such.
 unfoldable pub wanted_command : List (List ℕ) → Option Wanted
 wanted_command words =
     none_or (fault_of jasminc_app words) (wanted_in (subcommand_of jasminc_app words))
@@ -98,7 +100,7 @@ wanted_command words =
 abbrev pub HasFit : Called → Type 0
 HasFit call = ItemsFit call.items × (call.fuel < 2 ^ 64)
 
--- its numbers are words of 64 bits
+-- its numbers, and the addresses among its items, are words of 64 bits
 abbrev pub HasNumbers : Wanted → Type 0
 HasNumbers (compile file) = ⊤
 HasNumbers (exec call) = HasFit call

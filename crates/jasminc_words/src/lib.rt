@@ -1,10 +1,9 @@
 //! The words of a command line: which of them are a command, and what they ask for. They are read
-//! by one command of `clap` with a level of subcommands; numbers among them are read here.
+//! by one command of `clap` with a level of subcommands; numbers and items among them by jz_items.
 #![tactic(auto)]
 
 mod command;
 mod laws;
-mod number;
 mod request;
 
 pub use laws::numbers_fit;

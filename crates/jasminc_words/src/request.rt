@@ -8,9 +8,9 @@ ghost use Rattle.jasminc_words.specs.Wanted.{called_of, wanted_of, fuel_in, item
 ghost use Rattle.jasminc_words.specs.Wanted.{file_in, wanted_in, wanted_command};
 
 use crate::command::{Taken, matches_of};
-use crate::number::{number, numbers};
 use clap::ArgMatches;
 use jz_data::Seq;
+use jz_items::{Item, items, number};
 use std::alloc::{AllocError, Global};
 
 const DEFAULT_FUEL: u64 = 1_000_000;
@@ -20,7 +20,7 @@ const DEFAULT_FUEL: u64 = 1_000_000;
 pub struct Call<'a> {
     pub file: &'a str,
     pub fun: &'a str,
-    pub items: Seq<u64>,
+    pub items: Seq<Item>,
     /// How many steps of the machine, or how many turns of loops.
     pub fuel: u64,
 }
@@ -74,13 +74,13 @@ fn fuel_in(inner: &ArgMatches<'_>) -> Option<u64>
     }
 }
 
-/// The items, if each is a number.
-fn items_in(alloc: Global, inner: &ArgMatches<'_>) -> Result<Option<Seq<u64>>, AllocError>
+/// The items, if each is one.
+fn items_in(alloc: Global, inner: &ArgMatches<'_>) -> Result<Option<Seq<Item>>, AllocError>
     ensures { IfOk result (λ items. items ≡ items_in (rows_of (found_of inner.now))) }
 {
     match values(inner, "ITEM") {
         None => Ok(Some(Seq::new(alloc))),
-        Some(words) => numbers(alloc, words),
+        Some(words) => items(alloc, words),
     }
 }
 
@@ -165,7 +165,7 @@ fn asked<'a>(alloc: Global, matches: &ArgMatches<'a>) -> Result<Option<Request<'
 }
 
 /// The command that all the words are, the program's name first; none where `clap` has no matches
-/// for them, or where a number among them is none.
+/// for them, or where a number or an item among them is malformed.
 pub fn request_of<'a>(alloc: Global, words: &'a [String]) -> Result<Option<Request<'a>>, AllocError>
     ensures { IfOk result (λ request. option_map wanted_of request
         ≡ wanted_command (texts_of words.now)) }

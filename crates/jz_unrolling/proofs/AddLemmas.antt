@@ -1,8 +1,8 @@
 -- What is added behind statements that are there, form by form.
-use Rattle.std.proofs.Common.{◌≡◌, ℕ, List, [], ◌∷◌, ◌++◌, map, length, take, get_or, ◌<◌, ◌+◌, Option, Some, None, Bool, true, false, refl, ap, sym, ◌∙◌, subst, arith, append-nil, append_assoc}
-use Rattle.std.specs.Prelude.{ℤ, ◌&&◌, ◌||◌, not, is_some, option_map, if◌then◌else◌}
+use Rattle.std.proofs.Common.{◌≡◌, ℕ, List, [], ◌∷◌, ◌++◌, map, length, take, get_or, ◌<◌, ◌+◌, Option, Some, None, Bool, true, false, refl, ap, sym, ◌∙◌, subst, append-nil, append_assoc}
+use Rattle.std.specs.Prelude.{ℤ, ◌&&◌, ◌||◌, not, option_map, if◌then◌else◌}
 use Rattle.std.specs.List.{list_all}
-use Rattle.std.proofs.lemmas.Bool.{and_parts, and_from}
+use Rattle.std.proofs.lemmas.Bool.{and_from}
 use Rattle.jz_tree.specs.Span.{Span}
 use Rattle.jz_tree.specs.Operators.{carries}
 use Rattle.jz_tree.specs.declared.expr.BinOp.{BinOp}
@@ -18,25 +18,24 @@ use Rattle.jz_tree.specs.declared.stmt.Stmt.{Stmt}
 use Rattle.jz_tree.specs.declared.stmt.StmtKind.TheVariants as kind
 use Rattle.jz_type_names.specs.Kinds.{is_inline}
 use Rattle.jz_integers.specs.Integers.{KnownNumbers}
-use Rattle.jz_meaning.specs.Trees.{done, op, quiet, choose, loop, each}
+use Rattle.jz_meaning.specs.Trees.{done, op, quiet}
 use Rattle.jz_meaning.specs.Assignments.{as_expr, last_left, left_span, whole_of, updated, updated_layer, is_flag, Layer}
 use Rattle.jz_meaning.specs.Runs.{block, statement_tree}
 use Rattle.jz_meaning.specs.Statements.{Operation, assign, instruction, unset, Block}
 use Rattle.jz_meaning.specs.Values.{ref_of}
-use Rattle.jz_interp.specs.InnerParts.{body_piece}
 use Rattle.jz_interp.proofs.Pieces.{assign_is}
 use Rattle.jz_change.specs.declared.change.Numbers.TheVariants.{Same}
 use Rattle.jz_change.specs.declared.change.Step.{Step}
 use Rattle.jz_change.specs.declared.change.Step.TheVariants as step
 use Rattle.jz_unroll.specs.Values.{with_values, left_with_values, operation_with_values, InlineNames, has_values, left_has_values, if_has_values, splits, is_split, operation_has_values}
-use Rattle.jz_unroll.specs.Unrolling.{with_number, all_unknown, ConditionIs, IsInlineInt, UnrollsOp, stays, vanishes, marked_vars, marked, unrolling}
+use Rattle.jz_unroll.specs.Unrolling.{with_number, all_unknown, ConditionIs, IsInlineInt, UnrollsOp, stays, vanishes, marked_vars, marked}
 use Rattle.jz_unroll.proofs.InlineParts.{inline_bin}
 use Rattle.jz_unroll.proofs.Parts.{and_first_false, left_read, IfReadLeft, last_known}
 use Rattle.jz_unrolling_values.specs.declared.known.Known.{Known}
 use Rattle.jz_unrolling_values.specs.Numbers.{numbers_in, with_number_at, Sets, SetsIf, Went}
 use Rattle.jz_unrolling_values.specs.Parts.{HasWhole, StandsApart}
 use Rattle.jz_unrolling.specs.Forgetting.{forgotten}
-use Rattle.jz_unrolling.specs.Steps.{no_callees, one_item, Becomes, FitsOn, Spares, Adds, AddsStep, step_list, AddsOne}
+use Rattle.jz_unrolling.specs.Steps.{no_callees, one_item, Becomes, FitsOn, Spares, Adds, AddsStep}
 use Rattle.jz_unrolling.proofs.Becoming.{block_append, nothing_becomes, both_become, op_becomes, gone_becomes, mark_becomes}
 use Rattle.jz_unrolling.proofs.FitLemmas.{on_both, stays_on, gone_on, mark_on}
 use Rattle.jz_unrolling.proofs.ForgetLemmas.{block_splits}

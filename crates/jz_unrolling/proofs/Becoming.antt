@@ -1,20 +1,19 @@
 -- What statements become, one after another and of each form.
-use Rattle.std.proofs.Common.{◌≡◌, ℕ, List, [], ◌∷◌, ◌++◌, map, length, take, get_or, ◌<◌, ◌+◌, Option, Some, None, Bool, true, false, refl, ap, sym, ◌∙◌, subst, arith, append-nil, append_assoc}
-use Rattle.std.specs.Prelude.{ℤ, not, is_some, if◌then◌else◌}
+use Rattle.std.proofs.Common.{◌≡◌, List, [], ◌∷◌, ◌++◌, map, Option, Some, None, Bool, false, refl, ap, sym, ◌∙◌, subst}
+use Rattle.std.specs.Prelude.{not, is_some, if◌then◌else◌}
 use Rattle.jz_tree.specs.Span.{Span}
 use Rattle.jz_tree.specs.declared.expr.Expr.{Expr}
 use Rattle.jz_tree.specs.declared.expr.Var.{Var}
 use Rattle.jz_tree.specs.declared.stmt.Stmt.{Stmt}
 use Rattle.jz_tree.specs.declared.stmt.StmtKind.TheVariants as kind
 use Rattle.jz_integers.specs.Integers.{KnownNumbers}
-use Rattle.jz_meaning.specs.Trees.{done, op, quiet, choose, loop, each}
-use Rattle.jz_meaning.specs.Runs.{in_order, block, statement_tree}
+use Rattle.jz_meaning.specs.Trees.{done, op, quiet, choose, loop}
+use Rattle.jz_meaning.specs.Runs.{block, statement_tree}
 use Rattle.jz_meaning.specs.Statements.{Operation, unset, Block}
 use Rattle.jz_interp.specs.InnerParts.{body_piece}
 use Rattle.jz_interp.proofs.Pieces.{if_is, while_is, mark_is}
 use Rattle.jz_change.specs.Changes as model
-use Rattle.jz_change.specs.Views.{chain, then_step, steps_of, change_of, changes_of}
-use Rattle.jz_change.specs.declared.change.Change.{Change}
+use Rattle.jz_change.specs.Views.{chain, then_step, steps_of, change_of}
 use Rattle.jz_change.specs.declared.change.Numbers.TheVariants.{Same}
 use Rattle.jz_change.specs.declared.change.Step.{Step}
 use Rattle.jz_change.specs.declared.change.Step.TheVariants as step

@@ -1,6 +1,6 @@
 -- What fits, piece by piece: what is known behind each, and when none fits.
 use Rattle.std.proofs.Common.{◌≡◌, ℕ, List, [], ◌∷◌, ◌++◌, length, take, drop, get_or, ◌<◌, ◌+◌, Option, Some, None, Bool, true, false, refl, ap, sym, ◌∙◌, subst}
-use Rattle.std.specs.Prelude.{ℤ, ◌&&◌, not, is_some, if◌then◌else◌}
+use Rattle.std.specs.Prelude.{ℤ, not, is_some, if◌then◌else◌}
 use Rattle.std.specs.List.{list_all}
 use Rattle.std.proofs.lemmas.Bool.{and_parts}
 use Rattle.std.proofs.lemmas.List.{drop_more, take-append-drop}
@@ -12,16 +12,14 @@ use Rattle.jz_tree.specs.declared.stmt.Lval.{Lval}
 use Rattle.jz_tree.specs.declared.stmt.Lval.TheVariants as lval
 use Rattle.jz_tree.specs.declared.stmt.Stmt.{Stmt}
 use Rattle.jz_type_names.specs.Kinds.{is_inline}
-use Rattle.jz_integers.specs.Integers.{KnownNumbers, inline_value}
-use Rattle.jz_integers.specs.declared.constant.Constant.{Constant}
+use Rattle.jz_integers.specs.Integers.{KnownNumbers}
 use Rattle.jz_integers.specs.declared.constant.Constant.TheVariants as constant
-use Rattle.jz_meaning.specs.Assignments.{whole_of}
 use Rattle.jz_meaning.specs.Trees.{done, op, quiet, choose, loop, each}
 use Rattle.jz_meaning.specs.Runs.{instruction_tree, block, statement_tree}
 use Rattle.jz_meaning.specs.Statements.{Operation, assign, instruction, unset, meaningless, Condition, Counter, Block, values_between}
 use Rattle.jz_change.specs.declared.change.Numbers.{Numbers}
 use Rattle.jz_unroll.specs.Values.{InlineNames, is_inline_var, left_has_values, operation_has_values}
-use Rattle.jz_unroll.specs.Unrolling.{with_number, number_of, all_unknown, HasValue, ConditionIs, IsInlineInt, UnrollsOp, stays, vanishes, UnrollsMark, marked, UnrollsTest, tested, UnrollsLoopTest, loops, always, HasValues, IsConstant}
+use Rattle.jz_unroll.specs.Unrolling.{with_number, number_of, all_unknown, HasValue, ConditionIs, IsInlineInt, UnrollsOp, stays, vanishes, UnrollsMark, marked, UnrollsTest, tested, UnrollsLoopTest, HasValues, IsConstant}
 use Rattle.jz_unroll.proofs.Parts.{not_true}
 use Rattle.jz_unrolling_values.specs.Parts.{IsInlineIf, HasWhole}
 use Rattle.jz_unrolling.specs.Forgetting.{forgotten}

@@ -1,5 +1,5 @@
 -- Branches and loops behind statements that are there.
-use Rattle.std.proofs.Common.{◌≡◌, ℕ, List, [], ◌∷◌, ◌++◌, map, Option, Some, None, Bool, true, false, refl, ap, sym, ◌∙◌, subst, append-nil, append_assoc}
+use Rattle.std.proofs.Common.{◌≡◌, ℕ, List, [], ◌∷◌, ◌++◌, Option, Some, None, Bool, true, false, refl, ap, sym, ◌∙◌, subst, append-nil, append_assoc}
 use Rattle.std.specs.Prelude.{ℤ, not, is_some, if◌then◌else◌}
 use Rattle.jz_tree.specs.Span.{Span}
 use Rattle.jz_tree.specs.declared.expr.Expr.{Expr}
@@ -9,7 +9,6 @@ use Rattle.jz_tree.specs.declared.stmt.StmtKind.TheVariants as kind
 use Rattle.jz_type_names.specs.Kinds.{is_inline}
 use Rattle.jz_type_names.specs.Parts.{span_of}
 use Rattle.jz_integers.specs.Integers.{KnownNumbers}
-use Rattle.jz_integers.specs.declared.constant.Constant.TheVariants as constant
 use Rattle.jz_meaning.specs.Trees.{done, choose, loop, each}
 use Rattle.jz_meaning.specs.Runs.{block}
 use Rattle.jz_meaning.specs.Statements.{Operation, Condition, Counter, Block, values_between}
@@ -21,7 +20,7 @@ use Rattle.jz_change.specs.declared.change.Numbers.TheVariants.{Same}
 use Rattle.jz_change.specs.declared.change.Step.{Step}
 use Rattle.jz_change.specs.declared.change.Step.TheVariants as step
 use Rattle.jz_unroll.specs.Values.{InlineNames, with_values}
-use Rattle.jz_unroll.specs.Unrolling.{with_number, number_of, HasValue, HasValues, UnrollsTest, tested, UnrollsLoopTest, IsConstant, KnowsLess}
+use Rattle.jz_unroll.specs.Unrolling.{with_number, number_of, HasValues, UnrollsTest, tested, UnrollsLoopTest, KnowsLess}
 use Rattle.jz_unrolling_values.specs.declared.conditions.Test.TheVariants.{Always, Asked}
 use Rattle.jz_unrolling_values.specs.declared.known.Changed.{Changed}
 use Rattle.jz_unrolling_values.specs.declared.known.Known.{Known}
@@ -32,16 +31,15 @@ use Rattle.jz_unrolling_values.proofs.NumberLemmas.{went_none, went_set, went_th
 use Rattle.jz_unrolling.specs.declared.statements.Apart.{Apart}
 use Rattle.jz_unrolling.specs.declared.statements.Loop.{Loop}
 use Rattle.jz_unrolling.specs.declared.statements.Rounds.{Rounds}
-use Rattle.jz_unrolling.specs.declared.statements.Turn.{Turn}
 use Rattle.jz_unrolling.specs.declared.statements.Turns.{Turns}
 use Rattle.jz_unrolling.specs.Fits.{Fits, FitsEach}
 use Rattle.jz_unrolling.specs.Forgetting.{forgotten}
 use Rattle.jz_unrolling.specs.Refusals.{NeverFits, NeverTurns, NeverRounds, NeverCounts}
-use Rattle.jz_unrolling.specs.Steps.{no_callees, Becomes, FitsOn, Spares, Adds, AddsStep, IsApart, Forgets, turns_of, list_or, IsTurn, IsLoop, HasRounds, for_of}
+use Rattle.jz_unrolling.specs.Steps.{no_callees, Becomes, FitsOn, Spares, Adds, AddsStep, IsApart, Forgets, turns_of, IsTurn, IsLoop, HasRounds, for_of}
 use Rattle.jz_unrolling.proofs.Becoming.{if_becomes, arm_becomes, while_becomes, once_becomes, nothing_becomes}
 use Rattle.jz_unrolling.proofs.FitLemmas.{ends_at, if_on, arm_on, once_on, loop_on, same_values, rounds_on, last_round, next_round, round_never, arm_never, arms_never, test_never, loop_never, once_never, rounds_never}
 use Rattle.jz_unrolling.proofs.RoundLemmas.{RoundsSo, no_rounds, one_round, all_rounds}
-use Rattle.jz_unrolling.proofs.SpareLemmas.{spares_same, spares_arm, spares_once, arms_less, loop_less, SparesRounds, no_rounds_spare, round_spares, spares_rounds}
+use Rattle.jz_unrolling.proofs.SpareLemmas.{spares_arm, spares_once, arms_less, loop_less, SparesRounds, no_rounds_spare, round_spares, spares_rounds}
 
 abbrev pub loop_piece : List Stmt → Expr → Option (List Stmt) → Span → Block → Block
 loop_piece q c body at =

@@ -1,17 +1,16 @@
 -- Whole functions.
-use Rattle.std.proofs.Common.{◌≡◌, ℕ, List, [], ◌∷◌, true, refl, ap, sym, ◌∙◌, subst}
+use Rattle.std.proofs.Common.{◌≡◌, List, [], ◌∷◌, true, refl, ap, sym, ◌∙◌, subst}
 use Rattle.std.specs.Prelude.{not}
 use Rattle.std.specs.List.{list_all}
 use Rattle.std.proofs.lemmas.Bool.{and_parts}
 use Rattle.jz_tree.specs.declared.expr.Var.{Var}
 use Rattle.jz_tree.specs.declared.program.Fun.{Fun}
 use Rattle.jz_type_names.specs.Scopes.{variables_of}
-use Rattle.jz_integers.specs.Integers.{KnownNumbers}
 use Rattle.jz_runs.specs.Rules.{went, Goes}
 use Rattle.jz_meaning.specs.Attempts.{and_then, defined}
 use Rattle.jz_meaning.specs.States.{State, empty_store}
 use Rattle.jz_meaning.specs.Values.{key_of, ref_of}
-use Rattle.jz_meaning.specs.Statements.{Block, source}
+use Rattle.jz_meaning.specs.Statements.{source}
 use Rattle.jz_meaning.specs.Runs.{with_arguments, entry_state, only_word, result_word, result_words}
 use Rattle.jz_change.specs.Changes.{Change}
 use Rattle.jz_pass.specs.Cases.{no_case}

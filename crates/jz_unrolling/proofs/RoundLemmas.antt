@@ -1,16 +1,13 @@
 -- The rounds of a `for`, one after another.
-use Rattle.std.proofs.Common.{◌≡◌, List, [], ◌∷◌, ◌++◌, map, Bool, refl, ap, sym, ◌∙◌, subst, append_assoc}
+use Rattle.std.proofs.Common.{◌≡◌, List, [], ◌∷◌, ◌++◌, map, refl, ap, sym, subst}
 use Rattle.std.specs.Prelude.{ℤ, Some}
-use Rattle.jz_tree.specs.Span.{Span}
-use Rattle.jz_tree.specs.declared.expr.Expr.{Expr}
-use Rattle.jz_tree.specs.declared.expr.Var.{Var}
 use Rattle.jz_tree.specs.declared.stmt.Stmt.{Stmt}
 use Rattle.jz_integers.specs.Integers.{KnownNumbers}
 use Rattle.jz_meaning.specs.Trees.{done, each}
-use Rattle.jz_meaning.specs.Runs.{block, statement_tree}
-use Rattle.jz_meaning.specs.Statements.{Counter, Block, values_between}
+use Rattle.jz_meaning.specs.Runs.{block}
+use Rattle.jz_meaning.specs.Statements.{Counter, Block}
 use Rattle.jz_change.specs.Changes as model
-use Rattle.jz_change.specs.Views.{chain, then_step, steps_of, change_of, changes_of, changes_before}
+use Rattle.jz_change.specs.Views.{change_of, changes_before}
 use Rattle.jz_change.specs.declared.change.Change.{Change}
 use Rattle.jz_change.specs.declared.change.Step.{Step}
 use Rattle.jz_change.specs.declared.change.Step.TheVariants as step

@@ -1,5 +1,5 @@
 -- What is known and not set is known behind each piece.
-use Rattle.std.proofs.Common.{◌≡◌, ℕ, List, [], ◌∷◌, ◌++◌, Option, Some, None, Bool, true, false, refl, ap, sym, ◌∙◌, subst}
+use Rattle.std.proofs.Common.{◌≡◌, ℕ, List, [], ◌∷◌, Option, Some, None, Bool, true, false, refl, ap, sym, ◌∙◌}
 use Rattle.std.specs.Prelude.{ℤ, ◌==◌, ◌&&◌, if◌then◌else◌}
 use Rattle.std.specs.Str.{bytes_eq}
 use Rattle.jz_tree.specs.Span.{Span}
@@ -9,7 +9,7 @@ use Rattle.jz_tree.specs.declared.expr.Var.{Var}
 use Rattle.jz_tree.specs.declared.stmt.Lval.TheVariants as lval
 use Rattle.jz_integers.specs.Integers.{KnownNumbers}
 use Rattle.jz_meaning.specs.Trees.{done, op, quiet, choose, loop, each}
-use Rattle.jz_meaning.specs.Statements.{Operation, assign, unset, Condition, Counter, Block}
+use Rattle.jz_meaning.specs.Statements.{assign, unset, Condition, Counter, Block}
 use Rattle.jz_meaning.specs.Values.{ref_of}
 use Rattle.jz_unroll.specs.Values.{InlineNames, is_inline_var}
 use Rattle.jz_unroll.specs.Unrolling.{with_number, number_of, all_unknown, KnowsLess}

@@ -1,7 +1,7 @@
 -- Which trees can be unrolled, where this is known, and what is known behind them: what is asked for
 -- has a value. Behind an `if` that stays nothing is known of what its arms set, and before a `while`
 -- that stays nothing of what it sets.
-use Rattle.std.specs.Prelude.{ℤ, ◌≡◌, Bool, true, false, if◌then◌else◌, List, [], ◌∷◌, Option, Some, None, ⊤}
+use Rattle.std.specs.Prelude.{ℤ, ◌≡◌, Bool, true, false, if◌then◌else◌, List, [], ◌∷◌, Option, Some, ⊤}
 use Rattle.jz_tree.specs.declared.expr.Expr.{Expr}
 use Rattle.jz_tree.specs.declared.stmt.Lval.{Lval}
 use Rattle.jz_tree.specs.declared.stmt.Lval.TheVariants as lval

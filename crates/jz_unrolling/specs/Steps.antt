@@ -1,5 +1,5 @@
 -- What statements become, before whatever follows, with the steps of the change.
-use Rattle.std.specs.Prelude.{ℤ, ◌≡◌, Bool, false, not, is_some, List, [], ◌∷◌, ◌++◌, map, Option, Some, None}
+use Rattle.std.specs.Prelude.{◌≡◌, Bool, not, is_some, List, [], ◌∷◌, ◌++◌, map, Option, Some, None}
 use Rattle.jz_tree.specs.Span.{Span}
 use Rattle.jz_tree.specs.declared.expr.Expr.{Expr}
 use Rattle.jz_tree.specs.declared.expr.Var.{Var}

@@ -1,20 +1,17 @@
-use Rattle.std.proofs.Common.{◌≡◌, ◌∙◌, sym, ap, subst, List, ℕ, rules, length, Some, None, bytes_eq}
-use Rattle.std.specs.Prelude.{All, slice_get}
+use Rattle.std.proofs.Common.{◌≡◌, ◌∙◌, sym, ap, subst, List, ℕ, rules, None, bytes_eq}
+use Rattle.std.specs.Prelude.{All}
 use Rattle.std.proofs.lemmas.Bool.{and_parts}
 use Rattle.std.proofs.lemmas.Result.{err_from_is_err_and}
 use Rattle.std.proofs.lemmas.Option.{slice_get_within}
-use Rattle.jz_tree.specs.declared.program.Fun.{Fun}
 use Rattle.jz_tree.specs.declared.program.Program.{Program}
 use Rattle.jz_type_rows.specs.Exports.{is_exported}
 use Rattle.jasminc_interp.specs.declared.refused.Refused.TheVariants.{NoFunction, Limit}
 use Rattle.jasminc_interp.specs.Exports.{export_named, IsFoundAt, HasLimit, WithinIfExported}
-use Rattle.jasminc_interp.specs.Runs.{RunsOn}
 use Rattle.jasminc_interp.specs.Causes.{IsFirstCause}
 use Rattle.jasminc_interp.proofs.Causing.{text_typed}
 use Rattle.jasminc_interp.proofs.Finding.{named_has}
-use Rattle.jasminc_interp.proofs.Told.{same_fun}
 use Rattle.jasminc_interp.proofs.Stopping.{stage_refuses, ok_says}
-use Rattle.jasminc_interp.proofs.FirstCauses.{reading_fails, function_first, limits_fail, items_first, run_done, IsLimit}
+use Rattle.jasminc_interp.proofs.FirstCauses.{reading_fails, function_first, limits_fail, function_answers, IsLimit}
 use Rattle.jasminc_interp.proofs.stages.interp_text.Goals as goal
 
 pub returns-in_err-typed : goal.returns-in_err-typed
@@ -42,40 +39,21 @@ returns-in_err-as_refused c =
     (stage_refuses (HasLimit tree) _ (IsLimit p) c.within_limits.result _ c.within_limits.ensures.refused
     (λ l r says becomes. let is : r ≡ Limit l = search rules in (l, is, subst (λ (q : Program). HasLimit q l) c.program-tree.ensures says)) c.in_err-as_refused.ensures.refused))
 
-pub function_at-function-requires : goal.function_at-function-requires
-function_at-function-requires c = slice_get_within c.program-tree.result.now.funs c.in-Some.place c.in-Some.ensures.found.function c.in-Some.ensures.found.there
-
-pub returns-then-len : goal.returns-then-len
-returns-then-len c =
-    let fun = c.args.fun.now in
-    let p = c.in_ok-typed.typed.program in
-    let tree = c.program-tree.result.now in
-    let f = c.in-Some.ensures.found.function in
-    let found = subst (λ (q : Program). export_named fun q.funs ≡ Some f) c.program-tree.ensures c.in-Some.ensures.found.named in
-    let same = same_fun f c.function_at-function.result.now (slice_get tree.funs c.in-Some.place) c.in-Some.ensures.found.there c.function_at-function.ensures in
-    let within = ok_says (λ u. All (WithinIfExported tree) tree.funs) c.within_limits.result c.in_ok-as_refused.field-0 c.in_ok-as_refused.ensures.ok c.within_limits.ensures.within in
-    items_first c.args.text.now fun c.args.items.now p c.in_ok-typed.ensures.program f found (subst (λ (q : Program). All (WithinIfExported q) q.funs) c.program-tree.ensures within)
-    (λ e. c.if-len.true (c.len.ensures ∙ e ∙ ap (λ (g : Fun). length g.params) same ∙ sym c.len-2.ensures))
-
-pub run-requires-clause-there : goal.run-requires-clause-there
-run-requires-clause-there c =
+pub run_function-requires-clause-there : goal.run_function-requires-clause-there
+run_function-requires-clause-there c =
     let found = subst (λ (q : Program). IsFoundAt c.args.fun.now q.funs c.in-Some.place) c.program-tree.ensures c.in-Some.ensures.found in
     slice_get_within c.in_ok-typed.typed.program.funs c.in-Some.place found.function found.there
 
-pub run-requires-clause-runnable : goal.run-requires-clause-runnable
-run-requires-clause-runnable c =
+pub run_function-requires-clause-exported : goal.run_function-requires-clause-exported
+run_function-requires-clause-exported c =
     let fun = c.args.fun.now in
     let p = c.in_ok-typed.typed.program in
-    let tree = c.program-tree.result.now in
-    let f = c.in-Some.ensures.found.function in
-    let named = subst (λ (q : Program). export_named fun q.funs ≡ Some f) c.program-tree.ensures c.in-Some.ensures.found.named in
-    let same = same_fun f c.function_at-function.result.now (slice_get tree.funs c.in-Some.place) c.in-Some.ensures.found.there c.function_at-function.ensures in
+    let found = subst (λ (q : Program). IsFoundAt fun q.funs c.in-Some.place) c.program-tree.ensures c.in-Some.ensures.found in
     record {
       typed = text_typed c.args.text.now p c.in_ok-typed.ensures.program;
-      function = f;
-      there = subst (λ (q : Program). slice_get q.funs c.in-Some.place ≡ Some f) c.program-tree.ensures c.in-Some.ensures.found.there;
-      exported = (and_parts (is_exported f.kind) (bytes_eq f.name fun) (named_has fun p.funs f named)).0;
-      many = sym c.len.ensures ∙ c.if-len.false ∙ c.len-2.ensures ∙ ap (λ (g : Fun). length g.params) (sym same);
+      function = found.function;
+      there = found.there;
+      exported = (and_parts (is_exported found.function.kind) (bytes_eq found.function.name fun) (named_has fun p.funs found.function found.named)).0;
     }
 
 pub returns : goal.returns
@@ -83,13 +61,7 @@ returns c =
     let fun = c.args.fun.now in
     let p = c.in_ok-typed.typed.program in
     let tree = c.program-tree.result.now in
-    let f = c.in-Some.ensures.found.function in
-    let named = subst (λ (q : Program). export_named fun q.funs ≡ Some f) c.program-tree.ensures c.in-Some.ensures.found.named in
-    let there = subst (λ (q : Program). slice_get q.funs c.in-Some.place ≡ Some f) c.program-tree.ensures c.in-Some.ensures.found.there in
-    let same = same_fun f c.function_at-function.result.now (slice_get tree.funs c.in-Some.place) c.in-Some.ensures.found.there c.function_at-function.ensures in
+    let found = subst (λ (q : Program). IsFoundAt fun q.funs c.in-Some.place) c.program-tree.ensures c.in-Some.ensures.found in
     let within = ok_says (λ u. All (WithinIfExported tree) tree.funs) c.within_limits.result c.in_ok-as_refused.field-0 c.in_ok-as_refused.ensures.ok c.within_limits.ensures.within in
-    let ran = c.in_ok-ran.ensures in
-    let at = same_fun ran.function f (slice_get p.funs c.in-Some.place) ran.there there in
-    run_done c.args.text.now fun c.args.items.now p c.in_ok-typed.ensures.program f named (subst (λ (q : Program). All (WithinIfExported q) q.funs) c.program-tree.ensures within)
-    c.args.fuel c.in_ok-ran.ran (sym c.len.ensures ∙ c.if-len.false ∙ c.len-2.ensures ∙ ap (λ (g : Fun). length g.params) (sym same))
-    (subst (λ (g : Fun). RunsOn p g c.args.items.now c.args.fuel c.in_ok-ran.ran) at ran.runs)
+    function_answers c.args.text.now fun c.args.items.now p c.in_ok-typed.ensures.program found.function found.named
+    (subst (λ (q : Program). All (WithinIfExported q) q.funs) c.program-tree.ensures within) c.in-Some.place c.args.fuel found.there c.run_function.result c.run_function.ensures

@@ -1,4 +1,4 @@
-use Rattle.std.proofs.Common.{◌≡◌, ◌≤◌, length, arith, rules}
+use Rattle.std.proofs.Common.{◌≡◌, rules}
 use Rattle.std.proofs.lemmas.Result.{err_from_is_err_and}
 use Rattle.jasminc_top.specs.declared.refusal.Refusal.TheVariants.{Disasm}
 use Rattle.jasminc_top.proofs.DisasmCauses.{disasm_fails, disasm_done}

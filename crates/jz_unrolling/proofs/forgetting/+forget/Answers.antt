@@ -1,11 +1,8 @@
-use Rattle.std.proofs.Common.{◌≡◌, ◌∙◌, ap, sym, subst, refl, arith, rules, None, Some}
-use Rattle.jz_tree.specs.declared.stmt.Rhs.TheVariants as rhs
+use Rattle.std.proofs.Common.{◌∙◌, ap, sym, subst, refl, arith, rules}
 use Rattle.jz_tree.specs.declared.stmt.StmtKind.TheVariants as kind
 use Rattle.jz_interp.proofs.Falls.{weights_at}
 use Rattle.jz_interp.specs.InnerParts.{body_piece}
-use Rattle.jz_meaning.specs.Runs.{block, statement_tree}
 use Rattle.jz_unrolling_values.specs.InlineNames.{names_in}
-use Rattle.jz_unrolling_values.specs.Numbers.{numbers_in}
 use Rattle.jz_unrolling_values.proofs.NumberLemmas.{went_none, went_then}
 use Rattle.jz_unrolling.specs.Steps.{no_callees, Forgets}
 use Rattle.jz_unrolling.proofs.ForgetLemmas as forget

@@ -1,20 +1,16 @@
-use Rattle.std.proofs.Common.{◌≡◌, ◌+◌, ◌∙◌, List, ◌∷◌, [], take, None, Some, true, false, refl, ap, sym, subst, arith, rules, to_z, of_z}
-use Rattle.std.specs.Prelude.{not, is_some, if◌then◌else◌}
+use Rattle.std.proofs.Common.{◌≡◌, ◌+◌, ◌∙◌, ◌∷◌, [], take, None, Some, true, false, refl, ap, sym, subst, arith, rules, to_z, of_z}
+use Rattle.std.specs.Prelude.{not, is_some}
 use Rattle.std.specs.Int.{w128}
 use Rattle.std.proofs.lemmas.Int.{to_z-of_z}
 use Rattle.jz_interp.specs.InnerParts.{body_piece}
-use Rattle.jz_tree.specs.Span.{Span}
-use Rattle.jz_tree.specs.declared.stmt.Stmt.{Stmt}
 use Rattle.jz_tree.specs.declared.stmt.StmtKind.TheVariants as kind
 use Rattle.jz_tree.specs.declared.stmt.Rhs.TheVariants as rhs
-use Rattle.jz_meaning.specs.Runs.{block, statement_tree, assign_tree}
+use Rattle.jz_meaning.specs.Runs.{block, statement_tree}
 use Rattle.jz_meaning.specs.Trees.{op, quiet, choose, each, done}
 use Rattle.jz_meaning.specs.Statements.{assign, meaningless, instruction, unset, values_between}
 use Rattle.jz_interp.proofs.Falls.{weights_at}
 use Rattle.jz_interp.proofs.Pieces.{assign_is, if_is, while_is, for_is, mark_is}
 use Rattle.jz_change.specs.declared.change.Numbers.TheVariants.{Same}
-use Rattle.jz_change.specs.declared.change.Change.{Change}
-use Rattle.jz_change.specs.declared.change.Step.{Step}
 use Rattle.jz_change.specs.declared.change.Step.TheVariants as step
 use Rattle.jz_unroll.specs.Unrolling.{IsInlineInt}
 use Rattle.jz_unrolling_values.specs.InlineNames.{names_in}
@@ -23,11 +19,8 @@ use Rattle.jz_unrolling_values.specs.Parts.{IsTest}
 use Rattle.jz_unrolling_values.proofs.NumberLemmas.{restored_same}
 use Rattle.jz_unrolling_values.proofs.PartLemmas.{ref_name, ref_copy}
 use Rattle.jz_unrolling_values.proofs.RefusalLemmas.{handed}
-use Rattle.jz_unrolling.specs.declared.statements.Apart.{Apart}
-use Rattle.jz_unrolling.specs.declared.statements.Loop.{Loop}
-use Rattle.jz_unrolling.specs.declared.statements.Turn.{Turn}
 use Rattle.jz_unrolling.specs.Refusals.{NeverFits}
-use Rattle.jz_unrolling.specs.Steps.{no_callees, Adds, AddsStep, IsApart, IsTurn, branch_of, turns_of, for_of, step_list}
+use Rattle.jz_unrolling.specs.Steps.{no_callees, Adds, AddsStep, IsTurn, branch_of, turns_of, for_of, step_list}
 use Rattle.jz_unrolling.proofs.AddLemmas.{adds_none, adds_next, adds_as}
 use Rattle.jz_unrolling.proofs.FitLemmas.{at_never, call_never, instruction_never, plain_instruction, never_as}
 use Rattle.jz_unrolling.proofs.FormLemmas as form

@@ -1,8 +1,8 @@
-use Rattle.std.proofs.Common.{◌≡◌, ◌∙◌, sym, ap}
+use Rattle.std.proofs.Common.{◌∙◌, sym}
 use Rattle.jz_unrolling_values.specs.InlineNames.{names_in}
 use Rattle.jz_unrolling_values.specs.Numbers.{numbers_in}
 use Rattle.jz_unrolling_values.proofs.RefusalLemmas.{handed}
-use Rattle.jz_unrolling_values.proofs.SettingLemmas.{number_is, no_number}
+use Rattle.jz_unrolling_values.proofs.SettingLemmas.{no_number}
 use Rattle.jz_unrolling.proofs.statements.rounds_of.Goals as goal
 
 pub returns-then-not-is_inline_number : goal.returns-then-not-is_inline_number

@@ -1,7 +1,6 @@
-use Rattle.std.proofs.Common.{◌∷◌, [], rules, sym, subst, ◌∙◌, ◌≡◌}
+use Rattle.std.proofs.Common.{[], rules, sym, subst, ◌∙◌}
 use Rattle.std.specs.Int.{w128}
 use Rattle.std.proofs.lemmas.Int.{to_z-of_z}
-use Rattle.jz_tree.specs.declared.stmt.Lval.TheVariants as lval
 use Rattle.jz_runs.specs.Trees.{op}
 use Rattle.jz_meaning.specs.Statements.{assign}
 use Rattle.jz_change.specs.declared.change.Step.TheVariants as step

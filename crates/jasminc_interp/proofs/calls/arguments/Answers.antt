@@ -7,7 +7,7 @@ use Rattle.jz_meaning.specs.Values.{ref_of}
 use Rattle.jz_interp.specs.Outcomes.{values_of}
 use Rattle.jasminc_interp.specs.Runs.{argument}
 use Rattle.jasminc_interp.proofs.InStep.{pair_more, pair_ended, pair_over, pushed, values_end}
-use Rattle.jasminc_interp.proofs.running.arguments.Goals as goal
+use Rattle.jasminc_interp.proofs.calls.arguments.Goals as goal
 
 pub returns-in-None : goal.returns-in-None
 returns-in-None c =

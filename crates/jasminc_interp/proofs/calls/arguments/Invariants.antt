@@ -3,7 +3,7 @@ use Rattle.std.specs.List.{zip}
 use Rattle.jz_meaning.specs.Values.{ref_of}
 use Rattle.jz_interp.specs.Outcomes.{values_of}
 use Rattle.jasminc_interp.specs.Runs.{argument, argument_values}
-use Rattle.jasminc_interp.proofs.running.arguments.Given as goal
+use Rattle.jasminc_interp.proofs.calls.arguments.Given as goal
 
 abbrev pub invariant-loop-i : goal.invariant-loop-i
 invariant-loop-i l =

@@ -1,0 +1,67 @@
+-- A function as operations over variables.
+use Rattle.std.specs.Prelude.{◌≡◌, List, [], ◌∷◌}
+use Rattle.x64_insn.specs.declared.types.Place.{Place}
+use Rattle.x64_insn.specs.declared.types.Place.TheVariants as place
+use Rattle.x64_insn.specs.declared.types.Reg.TheVariants as reg
+use Rattle.x64_insn.specs.declared.types.Flag.TheVariants as flag
+use Rattle.jz_tree.specs.declared.program.Fun.{Fun}
+use Rattle.jz_type_names.specs.Scopes.{variables_of}
+use Rattle.jz_runs.specs.Trees.{done}
+use Rattle.jz_runs.specs.Rules.{Goes}
+use Rattle.jz_meaning.specs.Runs.{block}
+use Rattle.jz_meaning.specs.Statements as statements
+use Rattle.jz_meaning.specs.Statements.{Block}
+use Rattle.jz_correct.specs.Registers.{argument_registers, result_registers}
+use Rattle.jz_change.specs.Changes.{Change}
+use Rattle.jz_pass.specs.Laws.{Carries}
+use Rattle.jz_pass.specs.Cases.{IsBetween, cases_of}
+use Rattle.jz_placing.specs.Variables.{variables}
+use Rattle.jz_place.specs.Bodies.{body_of}
+use Rattle.jz_place.specs.Sorts.{AreSorted}
+use Rattle.jz_homes.specs.Homes.{Homes}
+use Rattle.jz_row_operations.specs.Bodies.{beside}
+use Rattle.jz_lowered.specs.Functions.{IsLoweredFun}
+use Rattle.jz_operands.specs.TableHomes.{homes_by}
+use Rattle.jz_homing.specs.Tables.{Table, no_homes, with_vars, frame_of}
+use Rattle.jz_lowering.specs.declared.functions.LoweredFun.{LoweredFun}
+use Rattle.jz_lowering.specs.Becoming.{no_callees}
+
+-- the body of a function in which no call is left
+abbrev pub plain_body : Fun → Block
+plain_body f = block no_callees f.body done
+
+-- the homes of what a function declares
+abbrev pub table_of : Fun → Table
+table_of f = with_vars no_homes (variables_of f)
+
+abbrev pub homes_for : Fun → Homes
+homes_for f = homes_by (table_of f).entries
+
+-- all registers but RSP, and the flags
+abbrev pub all_places : List Place
+all_places =
+    place.Reg reg.Rax ∷ place.Reg reg.Rcx ∷ place.Reg reg.Rdx ∷ place.Reg reg.Rbx
+    ∷ place.Reg reg.Rbp ∷ place.Reg reg.Rsi ∷ place.Reg reg.Rdi ∷ place.Reg reg.R8
+    ∷ place.Reg reg.R9 ∷ place.Reg reg.R10 ∷ place.Reg reg.R11 ∷ place.Reg reg.R12
+    ∷ place.Reg reg.R13 ∷ place.Reg reg.R14 ∷ place.Reg reg.R15 ∷ place.Flag flag.Cf
+    ∷ place.Flag flag.Of ∷ place.Flag flag.Sf ∷ place.Flag flag.Pf ∷ place.Flag flag.Zf ∷ []
+
+-- the parameters, the body and the results by the homes of what is declared
+pub record IsFunctionLowered (f : Fun) (l : LoweredFun) (k : Change) : Type 0 where
+  pub lowered :
+      IsLoweredFun (homes_for f) argument_registers result_registers f (plain_body f) l.ir k
+  pub kinds : l.ir.kinds ≡ (table_of f).kinds
+  pub stack : l.stack ≡ (table_of f).stack
+  pub in_use : l.ir.in_use ≡ all_places
+
+-- each run of the body is followed by one of the operations, for each number of turns
+abbrev pub KeepsRuns : Fun → LoweredFun → Change → Type 0
+KeepsRuns f l k =
+    Carries (beside (homes_for f)) (λ s n. Goes statements.source (plain_body f) n s)
+    (λ σ n. Goes (variables (frame_of l.stack)) (body_of l.ir.body) n σ) k
+
+abbrev pub KeepsCases : Fun → LoweredFun → Change → Type 0
+KeepsCases f l k = IsBetween (cases_of (plain_body f)) (cases_of (body_of l.ir.body)) k
+
+abbrev pub IsSortedFun : LoweredFun → Type 0
+IsSortedFun l = AreSorted l.ir.kinds (body_of l.ir.body)

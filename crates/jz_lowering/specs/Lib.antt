@@ -1,0 +1,4 @@
+pub mod Becoming
+pub mod InnerParts
+pub mod InnerPassing
+pub mod Functions
