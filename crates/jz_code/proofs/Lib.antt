@@ -7,3 +7,4 @@ pub mod Counting
 pub mod Lines
 pub mod Beside
 pub mod Whole
+pub mod Refusals

@@ -19,6 +19,7 @@ use Rattle.jz_operations.specs.declared.operation.Operation.{Operation}
 use Rattle.jz_operations.specs.declared.operation.Stacked.{Stacked}
 use Rattle.jz_operations.specs.Reading.{seen_of}
 use Rattle.jz_operations.specs.Insns.{base_of, operand_of, extend_of, sign_of, insn_of}
+use Rattle.jz_encodable.specs.Encodable.{AreNear, IsEncodable}
 use Rattle.jz_placing.specs.Flow.{asked_op, flow}
 use Rattle.jz_placing.specs.Variables.{Asked, always, asks, Body, test_of}
 use Rattle.jz_placing.specs.Placing as placing
@@ -32,7 +33,7 @@ use Rattle.jz_linear.specs.Plain.{is_no_rip, names_no_rip, is_plain, IsPlain, Is
 use Rattle.jz_linear.specs.Lines.{parts_in}
 use Rattle.jz_stack.specs.Laying.{begins_at, ends_at, offsets_from, end_from}
 use Rattle.jz_stack.proofs.Laid.{end_above}
-use Rattle.jz_code.specs.Ready.{AreNear, IsEncodable, TestEncodable, HasForm, AreEncodable, parts_of, IsReady}
+use Rattle.jz_code.specs.Ready.{TestEncodable, HasForm, AreEncodable, parts_of, IsReady}
 use Rattle.jz_code.specs.Made.{slots_by}
 use Rattle.jz_code.proofs.Trees.{body_below, among_below, off_stack}
 

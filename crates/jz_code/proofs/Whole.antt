@@ -9,6 +9,7 @@ use Rattle.x64_insn.specs.declared.types.Reg.{Reg}
 use Rattle.jz_leak.specs.declared.transformer.Transformer.{Transformer}
 use Rattle.jz_ir.specs.Places.{place_at, IsPlacing}
 use Rattle.jz_operations.specs.declared.operation.Stacked.{Stacked}
+use Rattle.jz_encodable.specs.Encodable.{AreNear}
 use Rattle.jz_placing.specs.Instructions.{Code}
 use Rattle.jz_placing.specs.Placing.{code_of}
 use Rattle.jz_place.specs.declared.tree.Ir.{Ir}
@@ -29,16 +30,16 @@ use Rattle.jz_stack.proofs.SavedAll.{saved_all}
 use Rattle.jz_events.specs.Cases.{transformer_over}
 use Rattle.jz_code.specs.declared.code.MachineCode.{MachineCode}
 use Rattle.jz_code.specs.declared.code.NoCode.{NoCode}
-use Rattle.jz_code.specs.Ready.{AreNear, IsReady}
+use Rattle.jz_code.specs.Ready.{IsReady}
 use Rattle.jz_code.specs.Runs.{Function, DoesAll}
-use Rattle.jz_code.specs.Made.{slots_by, IsCodeOf, IsTooLarge, IsUnplaced, HasNoCode}
+use Rattle.jz_code.specs.Made.{AreFirst, slots_by, IsCodeOf, IsTooLarge, IsUnplaced, HasNoCode}
 use Rattle.jz_code.proofs.Trees.{results_in_registers}
 use Rattle.jz_code.proofs.Plain.{parts_are, code_plain, slots_near}
 use Rattle.jz_code.proofs.Shapes.{saved_none, saved_few, shape_of, is_shape, slots_small, whole_plain, whole_short, whole_few}
 use Rattle.jz_code.proofs.Beside.{function_runs}
 use Rattle.jz_code.proofs.Named.{saved_of_lines}
 
-module _ (f : Ir) (vs : List Stacked) (list : List Place) (ready : IsReady f) (within : end_from 0 vs ≤ 65536) (rule : IsPlacing (seen_code f) (LiveInWhole f) list) where
+module _ (f : Ir) (vs : List Stacked) (list : List Place) (ready : IsReady f) (within : end_from 0 vs ≤ 65536) (first : AreFirst f list) (rule : IsPlacing (seen_code f) (LiveInWhole f) list) where
   abbrev end : ℕ
   end = end_from 0 vs
 
@@ -110,6 +111,7 @@ module _ (f : Ir) (vs : List Stacked) (list : List Place) (ready : IsReady f) (w
     transformer = et ∙ ap (λ z. transformer_over (slots_by vs) z (rounded_up 8 end) saved (body_of f.body)) (sym ez)
         ∙ ap (λ rs. transformer_over (slots_by vs) m.frame (rounded_up 8 end) rs (body_of f.body)) (sym es);
     places = list;
+    first = first;
     rule = rule;
     runs = subst (DoesAll f (frame_of vs) places) (function_is m.bytes m.insns m.frame m.transformer eb ei ez et) (does_all keeps);
   }

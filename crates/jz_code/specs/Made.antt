@@ -2,7 +2,7 @@
 use Rattle.std.specs.Prelude.{◌≡◌, ◌<◌, ◌≤◌, ◌⊎◌, ℕ, List, length, slice_index}
 use Rattle.x64_insn.specs.declared.types.Place.{Place}
 use Rattle.x64_insn.specs.declared.types.Insn.{Insn}
-use Rattle.jz_ir.specs.Places.{place_at, IsPlacing}
+use Rattle.jz_ir.specs.Places.{place_at, IsPlacing, FirstFit, all_of}
 use Rattle.jz_alloc.specs.Answers.{IsEvidence}
 use Rattle.jz_operations.specs.declared.operation.Stacked.{Stacked}
 use Rattle.jz_place.specs.declared.tree.Ir.{Ir}
@@ -15,6 +15,11 @@ use Rattle.jz_code.specs.Runs.{Function, DoesAll}
 use Rattle.jz_code.specs.declared.code.MachineCode.{MachineCode}
 use Rattle.jz_code.specs.declared.code.NoCode.{NoCode}
 use Rattle.jz_code.specs.declared.code.NoCode.TheVariants as no
+
+-- first fit comes to these places
+abbrev pub AreFirst : Ir → List Place → Type 0
+AreFirst f places =
+    FirstFit (seen_code f).ops f.kinds f.in_use (LiveInWhole f) (all_of places)
 
 -- how far above the stack pointer each stack variable begins
 abbrev pub slots_by : List Stacked → ℕ → ℕ
@@ -40,6 +45,7 @@ pub record IsCodeOf (f : Ir) (variables : List Stacked) (m : MachineCode) : Type
   pub transformer : m.transformer ≡ transformer_over (slots_by variables) m.frame
       (rounded_up 8 (end_from 0 variables)) m.saved (body_of f.body)
   pub places : List Place
+  pub first : AreFirst f places
   pub rule : IsPlacing (seen_code f) (LiveInWhole f) places
   pub runs : DoesAll f (frame_of variables) (λ v. place_at places v) (function_of m)
 

@@ -1,37 +1,14 @@
 -- What a function over variables has to be to become bytes, whatever places its variables get.
-use Rattle.std.specs.Prelude.{◌≡◌, ◌≢◌, ◌<◌, ◌≤◌, ◌^◌, ℕ, ◌+◌, Bool, true, false, Some, None, IsTrue, length, Contains, ⊤}
+use Rattle.std.specs.Prelude.{◌<◌, ◌^◌, ℕ, ◌+◌, Bool, true, false, Some, None, length, Contains, ⊤}
 use Rattle.std.specs.List.{AllByRecursion}
-use Rattle.x64_insn.specs.declared.types.Place.{Place}
-use Rattle.x64_insn.specs.declared.types.Reg.TheVariants as reg
-use Rattle.x64_insn.specs.Chosen.{is_spelled}
-use Rattle.jz_ir.specs.Paths.{among}
 use Rattle.jz_ir.specs.Places.{IsWithin}
 use Rattle.jz_runs.specs.Trees.{done, op, quiet, choose, loop, each, call}
-use Rattle.jz_operations.specs.declared.operation.Operation.{Operation}
-use Rattle.jz_operations.specs.Rows.{accesses}
-use Rattle.jz_operations.specs.Reading.{reads_of, writes_of}
-use Rattle.jz_operations.specs.Insns.{reg_of, insn_of, AllFit}
+use Rattle.jz_encodable.specs.Encodable.{IsEncodable}
 use Rattle.jz_placing.specs.Variables.{Asked, always, asks, Body}
 use Rattle.jz_place.specs.declared.tree.Ir.{Ir}
 use Rattle.jz_place.specs.Bodies.{body_of, seen_code}
 use Rattle.jz_place.specs.Sorts.{AreSorted}
 use Rattle.jz_correct.specs.Frames.{preserved_registers}
-
--- the stack variables stand below the limit of a frame
-abbrev pub AreNear : (ℕ → ℕ) → Type 0
-AreNear slots = (v : ℕ) → slots v ≤ 65536
-
--- none of the variables of an operation is in the stack pointer
-pub record IsOffStack (places : ℕ → Place) (o : Operation) : Type 0 where
-  pub reads : (v : ℕ) → IsTrue (among (reads_of o) v) → reg_of (places v) ≢ reg.Rsp
-  pub writes : (v : ℕ) → IsTrue (among (writes_of o) v) → reg_of (places v) ≢ reg.Rsp
-
--- The instruction of the operation has a spelling, and its cells displacements of 32 bits,
--- whichever registers but the stack pointer its variables get.
-pub record IsEncodable (o : Operation) : Type 0 where
-  pub spelled : (places : ℕ → Place) (slots : ℕ → ℕ) → AreNear slots → IsOffStack places o
-      → is_spelled (insn_of places slots o.action) ≡ true
-  pub fits : (slots : ℕ → ℕ) → AreNear slots → AllFit slots (accesses o.action)
 
 abbrev pub TestEncodable : Asked → Type 0
 TestEncodable always = ⊤

@@ -12,7 +12,7 @@ ghost use Rattle.jz_linear.specs.LineRuns.{instructions_in};
 ghost use Rattle.x64_assemble.specs.Assembling.{total, insns_of_lines, bytes_of_lines};
 ghost use Rattle.jz_stack.specs.Laying.{offsets_from, end_from};
 ghost use Rattle.jz_code.specs.Ready.{IsReady};
-ghost use Rattle.jz_code.specs.Made.{IsCodeOf, HasNoCode, IsTooLarge, IsUnplaced};
+ghost use Rattle.jz_code.specs.Made.{AreFirst, IsCodeOf, HasNoCode, IsTooLarge, IsUnplaced};
 
 use jz_alloc::{NoPlace, Places};
 use jz_data::{Failure, Seq};
@@ -64,6 +64,7 @@ fn laid_out(alloc: Global, variables: &[Stacked]) -> Result<Layout, Failure<NoCo
 fn placed(alloc: Global, ir: &Ir) -> Result<Places, Failure<NoCode>>
     requires within { IsWithin (seen_code ir.now) }
     requires count { length ir.now.kinds < 2 ^ 32 }
+    ensures first { IfOk result (λ places. AreFirst ir.now places) }
     ensures rule { IfOk result
         (λ places. IsPlacing (seen_code ir.now) (LiveInWhole ir.now) places) }
     ensures evidence { IfErr result (λ e. IfRefused e (IsUnplaced ir.now)) }
@@ -144,6 +145,7 @@ fn finished(
     requires offsets { layout.now.offsets ≡ offsets_from 0 variables.now }
     requires end { layout.now.end ≡ end_from 0 variables.now }
     requires within { layout.now.end ≤ 65536 }
+    requires first { AreFirst ir.now places.now }
     requires rule { IsPlacing (seen_code ir.now) (LiveInWhole ir.now) places.now }
     ensures { IfOk result (IsCodeOf ir.now variables.now) }
 {

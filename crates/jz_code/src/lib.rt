@@ -2,5 +2,7 @@
 #![tactic(auto)]
 
 mod code;
+mod laws;
 
 pub use code::{MachineCode, NoCode, machine_code};
+pub use laws::code_or_refusal;

@@ -221,7 +221,7 @@ module _ (g : Given) (sizes : Key → Option Size) (entry : Key → ℕ) (s : Fa
     abbrev IsNumber : Value → Type 0
     IsNumber v = (i : ℤ) × ((v ≡ integer i) × MultipleWord m (integer i))
 
-    number_left : (t : Term) (u : Option Size) → is_number_times g s t m ≡ true → Yields IsNumber ((means t).run u st)
+    number_left : (t : Term) (u : Option Size) → is_number_times t m ≡ true → Yields IsNumber ((means t).run u st)
     number_left (num i at) u h = (i, (refl, number_value i h))
     number_left (truth b at) u h = absurd (cc h)
     number_left (var x) u h = absurd (cc h)
@@ -261,9 +261,9 @@ module _ (g : Given) (sizes : Key → Option Size) (entry : Key → ℕ) (s : Fa
         one (inr q) f k =
             let v = left_wanted o.Mul w (size_in a) (size_in b) in
             both o.Mul at v a b (λ x. Unit {0}) (MultipleWord m) (MultipleWord m) (λ x. refl) p.1 p.2 p.0 (λ u. anything ((means a).run u st)) (k q) (λ x y n i j. product_binary_right m e at v x y n j)
-    multiple_word (bin o.And a b at) p w h = one (either (is_number_times g s a m) (is_number_times g s b m) h)
+    multiple_word (bin o.And a b at) p w h = one (either (is_number_times a m) (is_number_times b m) h)
       where
-        one : (is_number_times g s a m ≡ true) ⊎ (is_number_times g s b m ≡ true) → Yields (MultipleWord m) ((means (bin o.And a b at)).run w st)
+        one : (is_number_times a m ≡ true) ⊎ (is_number_times b m ≡ true) → Yields (MultipleWord m) ((means (bin o.And a b at)).run w st)
         one (inl q) =
             let v = left_wanted o.And w (size_in a) (size_in b) in
             both o.And at v a b (IsNumber) (λ y. Unit {0}) (MultipleWord m) (λ x. refl) p.1 p.2 p.0 (λ u. number_left a u q) (λ u. anything ((means b).run u st)) (λ x y n i j. subst (λ c. NotNumbers c y → Yields (MultipleWord m) (binary o.And at v c y)) (sym i.1.0) (λ k. mask_binary m e at v i.0 y k i.1.1) n)

@@ -277,17 +277,6 @@ module _ (g : Given) (s t : Facts) (h : Below s t) where
   has_more v m [] e = e
   has_more v m (k ∷ ks) e = or_more (s (Multiple v k) && (k % m == 0)) (has_multiple g s v m ks) (t (Multiple v k) && (k % m == 0)) (has_multiple g t v m ks) (and_more (s (Multiple v k)) (k % m == 0) (t (Multiple v k)) (k % m == 0) (h (Multiple v k)) (λ i. i)) (has_more v m ks) e
 
-  number_same : (e : Term) (m : ℕ) → is_number_times g s e m ≡ true → is_number_times g t e m ≡ true
-  number_same (num i at) m q = q
-  number_same (truth b at) m q = q
-  number_same (var x) m q = q
-  number_same (cell x i) m q = q
-  number_same (load p a) m q = q
-  number_same (neg a at) m q = q
-  number_same (inv a at) m q = q
-  number_same (cast y sign a at) m q = q
-  number_same (bin op a b at) m q = q
-
   pub multiple_more : (e : Term) (m : ℕ) → multiple g s e m ≡ true → multiple g t e m ≡ true
   multiple_more (num i at) m q = q
   multiple_more (truth b at) m q = q
@@ -300,7 +289,7 @@ module _ (g : Given) (s t : Facts) (h : Below s t) where
   multiple_more (bin o.Add a b at) m q = and_more (multiple g s a m) (multiple g s b m) (multiple g t a m) (multiple g t b m) (multiple_more a m) (multiple_more b m) q
   multiple_more (bin o.Sub a b at) m q = and_more (multiple g s a m) (multiple g s b m) (multiple g t a m) (multiple g t b m) (multiple_more a m) (multiple_more b m) q
   multiple_more (bin o.Mul a b at) m q = or_more (multiple g s a m) (multiple g s b m) (multiple g t a m) (multiple g t b m) (multiple_more a m) (multiple_more b m) q
-  multiple_more (bin o.And a b at) m q = or_more (is_number_times g s a m) (is_number_times g s b m) (is_number_times g t a m) (is_number_times g t b m) (number_same a m) (number_same b m) q
+  multiple_more (bin o.And a b at) m q = q
   multiple_more (bin o.Shl a (num (pos n) q) at) m e = e
   multiple_more (bin o.Shl a (num (negsuc n) q) at) m e = e
   multiple_more (bin o.Shl a (truth n q) at) m e = e

@@ -3,6 +3,7 @@ use Rattle.std.specs.Prelude.{ℕ, pos, ◌-◌, ◌%◌, ◌^◌, ◌==◌, Boo
 use Rattle.x64_insn.specs.Size.{Size}
 use Rattle.x64_insn.specs.Size.TheVariants.{S64}
 use Rattle.x64_insn.specs.Words.{residue, modulo}
+use Rattle.jz_tree.specs.declared.expr.BinOp.{BinOp}
 use Rattle.jz_tree.specs.declared.expr.BinOp.TheVariants as o
 use Rattle.jz_meaning.specs.States.{Key}
 use Rattle.jz_meaning.specs.Values.{key_of}
@@ -14,6 +15,41 @@ use Rattle.jz_facts.specs.Facts.{AtLeast, AtMost, Under, Multiple, Facts, Start,
 abbrev pub size_or_64 : Option Size → Size
 size_or_64 None = S64
 size_or_64 (Some z) = z
+
+-- ---- operations, by the intervals of their operands and by the right one as it is written
+
+-- a count that is no number says nothing
+abbrev pub of_shift : Size → Interval → Term → Interval
+of_shift z i (num (pos n) at) = shifted_by n i
+of_shift z i t = each_word z
+
+abbrev pub of_operation : Size → BinOp → Interval → Interval → Term → Interval
+of_operation z o.Add i j b = sum z i j
+of_operation z o.Sub i j b = difference z i j
+of_operation z o.Mul i j b = product z i j
+of_operation z o.And i j b = mask i j
+of_operation z o.Div i j b = quotient z i j
+of_operation z o.Rem i j b = remainder z j
+of_operation z o.Shr i j b = of_shift z i b
+of_operation z op i j b = each_word z
+
+-- a number that is a multiple
+abbrev pub is_number_times : Term → ℕ → Bool
+is_number_times (num i at) m = modulo i m == 0
+is_number_times t m = false
+
+abbrev pub is_power_times : Term → ℕ → Bool
+is_power_times (num (pos n) at) m = 2 ^ n % m == 0
+is_power_times t m = false
+
+-- whether an operation gives a multiple, by whether its operands are some, and as they are written
+abbrev pub of_multiples : BinOp → Bool → Bool → Term → Term → ℕ → Bool
+of_multiples o.Add x y a b m = x && y
+of_multiples o.Sub x y a b m = x && y
+of_multiples o.Mul x y a b m = x || y
+of_multiples o.Shl x y a b m = is_power_times b m
+of_multiples o.And x y a b m = is_number_times a m || is_number_times b m
+of_multiples op x y a b m = false
 
 module _ (g : Given) (s : Facts) where
   -- the least range's end, less 1, of the parameters that the variable is below
@@ -40,14 +76,7 @@ module _ (g : Given) (s : Facts) where
   interval z (inv a at) = each_word z
   interval z (cast y true a at) = each_word z
   interval z (cast y false a at) = fitted z (interval (size_or_64 (size_in a)) a)
-  interval z (bin o.Add a b at) = sum z (interval z a) (interval z b)
-  interval z (bin o.Sub a b at) = difference z (interval z a) (interval z b)
-  interval z (bin o.Mul a b at) = product z (interval z a) (interval z b)
-  interval z (bin o.And a b at) = mask (interval z a) (interval z b)
-  interval z (bin o.Div a b at) = quotient z (interval z a) (interval z b)
-  interval z (bin o.Rem a b at) = remainder z (interval z b)
-  interval z (bin o.Shr a (num (pos n) t) at) = shifted_by n (interval z a)
-  interval z (bin op a b at) = each_word z
+  interval z (bin op a b at) = of_operation z op (interval z a) (interval z b) b
 
   -- ---- multiples
 
@@ -55,19 +84,11 @@ module _ (g : Given) (s : Facts) where
   has_multiple v m [] = false
   has_multiple v m (k ∷ ks) = (s (Multiple v k) && (k % m == 0)) || has_multiple v m ks
 
-  abbrev pub is_number_times : Term → ℕ → Bool
-  is_number_times (num i at) m = modulo i m == 0
-  is_number_times t m = false
-
   -- of 2, 4 or 8
   abbrev pub multiple : Term → ℕ → Bool
   multiple (num i at) m = modulo i m == 0
   multiple (var x) m = has_multiple (key_of x) m multiples
-  multiple (bin o.Add a b at) m = multiple a m && multiple b m
-  multiple (bin o.Sub a b at) m = multiple a m && multiple b m
-  multiple (bin o.Mul a b at) m = multiple a m || multiple b m
-  multiple (bin o.Shl a (num (pos n) t) at) m = 2 ^ n % m == 0
-  multiple (bin o.And a b at) m = is_number_times a m || is_number_times b m
+  multiple (bin op a b at) m = of_multiples op (multiple a m) (multiple b m) a b m
   multiple t m = false
 
   -- each is a multiple of 1

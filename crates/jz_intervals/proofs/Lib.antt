@@ -1,3 +1,4 @@
 pub mod Nearest
 pub mod Found
 pub mod Among
+pub mod Shifts

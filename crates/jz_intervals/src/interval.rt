@@ -1,6 +1,6 @@
 //! Intervals, and the operations on them.
 
-ghost use Rattle.std.specs.Prelude.{◌≡◌, ◌<◌, min};
+ghost use Rattle.std.specs.Prelude.{◌≡◌, ◌/◌, ◌^◌, min};
 ghost use Rattle.jz_intervals.specs.Intervals as intervals;
 
 use x64_insn::Size;
@@ -30,6 +30,16 @@ pub fn lower(a: u64, b: u64) -> u64
     ensures { result ≡ min a b }
 {
     if a <= b { a } else { b }
+}
+
+/// A word divided by 2 to the count.
+fn shifted(a: u64, count: u128) -> u64
+    ensures { result ≡ a / 2 ^ count }
+{
+    if count >= 64 {
+        return 0;
+    }
+    a >> (count as u32)
 }
 
 impl Interval {
@@ -138,13 +148,12 @@ impl Interval {
     }
 
     /// Of `a >> count`, unsigned.
-    pub fn shifted_by(self, count: u32) -> Interval
-        requires { count < 64 }
+    pub fn shifted_by(self, count: u128) -> Interval
         ensures { result ≡ intervals.shifted_by count self }
     {
         Interval {
-            lo: self.lo >> count,
-            hi: self.hi >> count,
+            lo: shifted(self.lo, count),
+            hi: shifted(self.hi, count),
         }
     }
 

@@ -5,7 +5,6 @@
 mod constants;
 mod interval;
 
-pub use constants::{greatest_to, in_order, least_from};
-pub use interval::{Interval, greatest_word};
-pub use jz_data::Seq;
+pub use constants::Constants;
+pub use interval::{Interval, greatest_word, lower};
 pub use x64_insn::Size;

@@ -13,7 +13,7 @@ use Rattle.jz_meaning.specs.declared.access.Kind.{Kind}
 use Rattle.jz_meaning.specs.Values.{Ref, MemoryAccess, Meaning, expr_step as meaning_step, ty_step, access_step as meaning_access, decl_step, var_step, meaning_of, ref_of, access_of}
 use Rattle.jz_terms.specs.Terms.{Place, Term, term_step, place_step, term_of, place_of, means}
 
-abbrev Layer : Type 0
+abbrev pub Layer : Type 0
 Layer = Expr-F Expr Ty Access Decl Var
 
 abbrev kind_of_ty : Ty → Kind
@@ -34,13 +34,13 @@ access_layer x = meaning_access (map-Access _ _ _ _ _ Meaning Kind MemoryAccess 
 access_is : (x : Access-F Expr Ty Access Decl Var) → access_of (roll-Access x) ≡ access_layer x
 access_is x = fold-roll-Access _ _ _ _ _ meaning_step ty_step meaning_access decl_step var_step x
 
-abbrev term_layer : Layer → Term
+abbrev pub term_layer : Layer → Term
 term_layer x = term_step (map-Expr _ _ _ _ _ _ _ _ _ _ (λ y. (y, term_of y)) (λ y. (y, tt)) (λ y. (y, place_of y)) (λ y. (y, tt)) (λ y. (y, tt)) x)
 
-term_is : (x : Layer) → term_of (roll-Expr x) ≡ term_layer x
+pub term_is : (x : Layer) → term_of (roll-Expr x) ≡ term_layer x
 term_is x = para-roll-Expr Term (Unit {0}) Place (Unit {0}) (Unit {0}) term_step (λ t. tt) place_step (λ d. tt) (λ v. tt) x
 
-place_is : (x : Access-F Expr Ty Access Decl Var) → place_of (roll-Access x) ≡ record { spot = record { size = x.size; unaligned = x.unaligned; span = x.span }; at = term_of x.at }
+pub place_is : (x : Access-F Expr Ty Access Decl Var) → place_of (roll-Access x) ≡ record { spot = record { size = x.size; unaligned = x.unaligned; span = x.span }; at = term_of x.at }
 place_is x = para-roll-Access Term (Unit {0}) Place (Unit {0}) (Unit {0}) term_step (λ t. tt) place_step (λ d. tt) (λ v. tt) x
 
 -- the access that a place is

@@ -11,25 +11,25 @@ place-requires c =
 
 pub encode_body-requires-clause-plain : goal.encode_body-requires-clause-plain
 encode_body-requires-clause-plain c =
-    made_plain c.args.ir.now c.args.variables.now c.args.places.now c.requires.ready (subst (λ n. n ≤ 65536) c.requires.end c.requires.within) c.requires.rule
+    made_plain c.args.ir.now c.args.variables.now c.args.places.now c.requires.ready (subst (λ n. n ≤ 65536) c.requires.end c.requires.within) c.requires.first c.requires.rule
     c.as_slice.result.now c.args.layout.now.end (c.as_slice.ensures ∙ c.requires.offsets) c.requires.end c.in_ok-body.body c.in_ok-body.ensures.code
     c.in_ok-framed.framed.saved c.in_ok-framed.framed.size c.in_ok-framed.framed.body c.in_ok-framed.ensures.saved c.in_ok-framed.ensures.size c.in_ok-framed.ensures.code
 
 pub encode_body-requires-clause-few : goal.encode_body-requires-clause-few
 encode_body-requires-clause-few c =
-    made_few c.args.ir.now c.args.variables.now c.args.places.now c.requires.ready (subst (λ n. n ≤ 65536) c.requires.end c.requires.within) c.requires.rule
+    made_few c.args.ir.now c.args.variables.now c.args.places.now c.requires.ready (subst (λ n. n ≤ 65536) c.requires.end c.requires.within) c.requires.first c.requires.rule
     c.as_slice.result.now c.args.layout.now.end (c.as_slice.ensures ∙ c.requires.offsets) c.requires.end c.in_ok-body.body c.in_ok-body.ensures.code
     c.in_ok-framed.framed.saved c.in_ok-framed.framed.size c.in_ok-framed.framed.body c.in_ok-framed.ensures.saved c.in_ok-framed.ensures.size c.in_ok-framed.ensures.code
 
 pub encode_body-requires-clause-short : goal.encode_body-requires-clause-short
 encode_body-requires-clause-short c =
-    made_short c.args.ir.now c.args.variables.now c.args.places.now c.requires.ready (subst (λ n. n ≤ 65536) c.requires.end c.requires.within) c.requires.rule
+    made_short c.args.ir.now c.args.variables.now c.args.places.now c.requires.ready (subst (λ n. n ≤ 65536) c.requires.end c.requires.within) c.requires.first c.requires.rule
     c.as_slice.result.now c.args.layout.now.end (c.as_slice.ensures ∙ c.requires.offsets) c.requires.end c.in_ok-body.body c.in_ok-body.ensures.code
     c.in_ok-framed.framed.saved c.in_ok-framed.framed.size c.in_ok-framed.framed.body c.in_ok-framed.ensures.saved c.in_ok-framed.ensures.size c.in_ok-framed.ensures.code
 
 pub returns : goal.returns
 returns c =
-    finished_is c.args.ir.now c.args.variables.now c.args.places.now c.requires.ready (subst (λ n. n ≤ 65536) c.requires.end c.requires.within) c.requires.rule
+    finished_is c.args.ir.now c.args.variables.now c.args.places.now c.requires.ready (subst (λ n. n ≤ 65536) c.requires.end c.requires.within) c.requires.first c.requires.rule
     c.as_slice.result.now c.args.layout.now.end (c.as_slice.ensures ∙ c.requires.offsets) c.requires.end c.in_ok-body.body c.in_ok-body.ensures.code
     c.in_ok-framed.framed.saved c.in_ok-framed.framed.size c.in_ok-framed.framed.body c.in_ok-framed.ensures.saved c.in_ok-framed.ensures.size c.in_ok-framed.ensures.code
     c.in_ok-body.ensures.runs _ c.in_ok-made.ensures.bytes c.in_ok-made.ensures.insns refl refl

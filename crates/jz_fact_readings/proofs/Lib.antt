@@ -1,0 +1,4 @@
+pub mod LeftSides
+pub mod Powers
+pub mod Settling
+pub mod Walking
