@@ -80,13 +80,21 @@ other_filter x keep (y ∷ ys) h = by_test (keep y) (other_filter x keep ys h.1)
     by_test true k = (h.0, k)
     by_test false k = k
 
-pub differ_filter : (keep : Var → Bool) (xs : List Var) → Differ xs → Differ (filter keep xs)
+differ_filter : (keep : Var → Bool) (xs : List Var) → Differ xs → Differ (filter keep xs)
 differ_filter keep [] h = tt
 differ_filter keep (x ∷ xs) h = by_test (keep x) (differ_filter keep xs h.1)
   where
     by_test : (b : Bool) → Differ (filter keep xs) → Differ (if b then x ∷ filter keep xs else filter keep xs)
     by_test true k = (other_filter x keep xs h.0, k)
     by_test false k = k
+
+each_filter : (xs : List Var) (keep : Var → Bool) (ys : List Var) → EachOther xs ys → EachOther xs (filter keep ys)
+each_filter [] keep ys h = tt
+each_filter (x ∷ xs) keep ys h = (other_filter x keep ys h.0, each_filter xs keep ys h.1)
+
+pub differ_part : (keep : Var → Bool) (xs ys : List Var) → Differ (xs ++ ys) → Differ (xs ++ filter keep ys)
+differ_part keep xs ys h =
+    differ_both xs (filter keep ys) (differ_first xs ys h) (differ_filter keep ys (differ_second xs ys h)) (each_filter xs keep ys (differ_apart xs ys h))
 
 -- ---- variables with groups between them
 other_behind : (u v : Var) (at : Span) (rest : List Group → List Var) (gs : List Group) → IsOther u v → ((hs : List Group) → AreOther u (all_in hs) → AreOther u (rest hs)) → AreOther u (all_in gs) → AreOther u (behind v at rest gs)

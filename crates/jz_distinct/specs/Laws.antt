@@ -1,5 +1,5 @@
 -- That the variables of a function without calls differ.
-use Rattle.std.specs.Prelude.{Bool, List, Contains}
+use Rattle.std.specs.Prelude.{Bool, List, ◌++◌, Contains}
 use Rattle.std.specs.List.{filter}
 use Rattle.jz_tree.specs.declared.expr.Var.{Var}
 use Rattle.jz_tree.specs.declared.program.Fun.{Fun}
@@ -16,4 +16,5 @@ CopiesDiffer =
     → Differ (variables_of (inlined_function p f))
 
 abbrev pub PartsDiffer : Type 0
-PartsDiffer = (keep : Var → Bool) (xs : List Var) → Differ xs → Differ (filter keep xs)
+PartsDiffer =
+    (keep : Var → Bool) (xs ys : List Var) → Differ (xs ++ ys) → Differ (xs ++ filter keep ys)
