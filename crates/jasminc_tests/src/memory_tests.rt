@@ -171,6 +171,7 @@ fn with_lines(alloc: Global, written: &str) -> Result<String, AllocError> {
 }
 
 /// A function of a text, and how its runs end.
+#[derive(Clone, Copy)]
 struct Asked {
     fun: &'static str,
     text: &'static str,
