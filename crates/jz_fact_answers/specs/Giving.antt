@@ -1,0 +1,43 @@
+-- Whether a set gives a fact, as the property and by what is kept of its variable.
+use Rattle.std.specs.Prelude.{ℕ, ◌≡◌, ◌≤◌, ◌-◌, ◌^◌, ◌%◌, ◌==◌, nat_le, Bool, true, false, ◌&&◌, is_none, List, Option, Some, None}
+use Rattle.jz_facts.specs.Facts.{Fact, Set, Cell, AtLeast, AtMost, Under, Is, Multiple, Facts, entails, is_among, greatest, least}
+use Rattle.jz_fact_readings.specs.Multiples.{times_of}
+use Rattle.jz_fact_readings.specs.declared.times.Times.{Times}
+use Rattle.jz_fact_sets.specs.declared.set.FactSet.{FactSet}
+use Rattle.jz_fact_sets.specs.Kept.{is_named, known_at}
+
+-- a fact of the set says it
+abbrev pub Gives : Facts → Fact → Type 0
+Gives s f = (h : Fact) × ((s h ≡ true) × (entails h f ≡ true))
+
+-- the constants are words, and 0 and the greatest word are among them, as of each text
+pub record HasEnds (cs : List ℕ) : Type 0 where
+  pub zero : is_among 0 cs ≡ true
+  pub most : is_among (2 ^ 64 - 1) cs ≡ true
+  pub words : (c : ℕ) → is_among c cs ≡ true → c ≤ 2 ^ 64 - 1
+
+-- ---- by what is kept: the nearest constant
+
+abbrev pub least_gives : List ℕ → Option ℕ → ℕ → Bool
+least_gives cs None c = false
+least_gives cs (Some l) c =
+    let n = greatest (λ d. nat_le d l) cs in nat_le n l && nat_le c n
+
+abbrev pub most_gives : List ℕ → Option ℕ → ℕ → Bool
+most_gives cs None c = false
+most_gives cs (Some h) c =
+    let n = least (λ d. nat_le h d) (2 ^ 64 - 1) cs in nat_le h n && nat_le n c
+
+abbrev pub times_gives : Option Times → ℕ → Bool
+times_gives None m = false
+times_gives (Some t) m = times_of t % m == 0
+
+abbrev pub is_given : FactSet → Fact → Bool
+is_given s (Set v) = (known_at s v).set
+is_given s (Cell a k) =
+    is_none a.cell && (known_at s (record { name = a.name; copy = a.copy; cell = Some k })).cell
+is_given s (AtLeast v c) = least_gives s.constants (known_at s v).least c
+is_given s (AtMost v c) = most_gives s.constants (known_at s v).most c
+is_given s (Under v x) = is_named s.params (known_at s v).under x
+is_given s (Is v x) = is_named s.params (known_at s v).is x
+is_given s (Multiple v m) = times_gives (known_at s v).times m

@@ -1,0 +1,2 @@
+pub mod Giving
+pub use Rattle.jz_fact_sets.specs.Kept

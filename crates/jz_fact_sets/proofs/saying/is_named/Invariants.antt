@@ -1,0 +1,8 @@
+use Rattle.std.proofs.Common.{◌≡◌, drop}
+use Rattle.jz_fact_sets.specs.Kept.{variable_key, is_named}
+use Rattle.jz_fact_sets.proofs.saying.is_named.Given as goal
+
+abbrev pub invariant-loop-param : goal.invariant-loop-param
+invariant-loop-param l =
+    is_named (drop l.param-index l.params) l.rest (variable_key l.var)
+    ≡ is_named l.params l.bits (variable_key l.var)

@@ -1,0 +1,40 @@
+//! What is given of a function: its parameters and its regions.
+
+ghost use Rattle.std.specs.Prelude.{◌≡◌};
+ghost use Rattle.jz_facts.specs.Facts.{hi_of};
+ghost use Rattle.jz_fact_sets.specs.Kept.{start_of};
+
+use jz_intervals::{Interval, greatest_word, lower};
+use jz_tree::Var;
+use x64_insn::Size;
+
+/// A parameter, with the range and the alignment that its annotations state.
+#[derive(Drop)]
+pub struct Parameter {
+    pub var: Var,
+    pub size: Size,
+    pub range: Option<Interval>,
+    pub align: Option<u64>,
+}
+
+/// `times * by + plus` bytes from what the parameter `of` was.
+#[derive(Drop)]
+pub struct Region {
+    pub of: Var,
+    pub times: u64,
+    pub by: Option<Var>,
+    pub plus: u64,
+}
+
+impl Parameter {
+    /// The greatest value that it may have at entry.
+    pub fn hi(&self) -> u64
+        ensures { result ≡ hi_of (start_of self.now) }
+    {
+        let most = greatest_word(self.size);
+        match self.range {
+            None => most,
+            Some(range) => lower(range.hi, most),
+        }
+    }
+}
