@@ -15,22 +15,21 @@ use Rattle.jz_meaning.specs.declared.access.Kind.TheVariants as kind
 use Rattle.jz_meaning.specs.Attempts.{Evaluation, and_then, defined}
 use Rattle.jz_meaning.specs.States.{Value, word, boolean, integer, Key, same_key, Store, put, State}
 use Rattle.jz_meaning.specs.Operators.{same_size, word_at}
-use Rattle.jz_meaning.specs.Values.{Ref, key_of, ref_of, own_size, evaluated, size_of, Meaning}
+use Rattle.jz_meaning.specs.Values.{key_of, ref_of, own_size, evaluated, size_of, Meaning}
 use Rattle.jz_meaning.specs.Assignments.{assigned_whole, Results, left_sizes, left_size, whole_of, as_expr, held, held_or_unset, with_value, written, all_written, results_of, old_value, chosen, conditioned, bool_in}
 use Rattle.jz_meaning.specs.Statements as source
 use Rattle.jz_meaning.specs.Statements.{assign}
 use Rattle.jz_meaning.proofs.Widths.{equal_sizes}
 use Rattle.jz_flow.specs.Sets.{Below, common}
-use Rattle.jz_terms.specs.Terms.{Term, var, means, term_of}
+use Rattle.jz_terms.specs.Terms.{Term, means, term_of}
 use Rattle.jz_terms.proofs.Bridge.{term_so}
 use Rattle.jz_terms.proofs.TermForms.{term_var}
-use Rattle.jz_facts.specs.Facts.{Fact, Facts, Given}
-use Rattle.jz_facts.specs.Intervals.{interval, size_or_64}
+use Rattle.jz_facts.specs.Facts.{Facts, Given}
+use Rattle.jz_facts.specs.Intervals.{size_or_64}
 use Rattle.jz_facts.specs.Holding.{assigned, does, renewed, gained, the_word}
-use Rattle.jz_facts.proofs.Narrowing.{and_more}
-use Rattle.jz_fact_laws.specs.Saying.{Holds, Yields, Fits, is_number, IsPlain, IsAssigned}
+use Rattle.jz_fact_laws.specs.Saying.{Holds, Yields, Fits, is_number, IsAssigned}
 use Rattle.jz_fact_laws.proofs.Fitting.{yields_then, yields_defined, yields_all}
-use Rattle.jz_fact_laws.proofs.Setting.{same_key-true, copy_ok, written_ok}
+use Rattle.jz_fact_laws.proofs.Setting.{same_key-true, written_ok}
 use Rattle.jz_fact_laws.proofs.MultipleTerms.{multiple_ok}
 use Rattle.jz_fact_laws.proofs.Law.{Known, known, written_then}
 
