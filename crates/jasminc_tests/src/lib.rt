@@ -17,6 +17,8 @@ mod language_tests;
 #[cfg(test)]
 mod live_tests;
 #[cfg(test)]
+mod memory_tests;
+#[cfg(test)]
 mod placing_tests;
 #[cfg(test)]
 mod refusal_tests;

@@ -1,0 +1,2 @@
+pub mod AskedValues
+pub mod CopiedValues
