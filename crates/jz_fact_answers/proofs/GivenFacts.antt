@@ -1,9 +1,9 @@
 -- A set gives a fact exactly where what is kept of its variable says so.
-use Rattle.std.proofs.Common.{◌≡◌, ◌⊎◌, inl, inr, ℕ, zero, suc, ◌%◌, ◌≤◌, ◌<◌, List, [], ◌∷◌, Option, Some, None, Bool, true, false, true≢false, refl, ap, sym, ◌∙◌, subst, arith, rules, min, max, if◌then◌else◌}
+use Rattle.std.proofs.Common.{◌≡◌, ◌⊎◌, inl, inr, ℕ, ◌%◌, ◌≤◌, ◌<◌, List, [], ◌∷◌, Option, Some, None, Bool, true, false, refl, ap, sym, ◌∙◌, subst, arith, rules, min, max, if◌then◌else◌}
 use Rattle.std.specs.Prelude.{◌==◌, nat_le, ◌&&◌, ◌||◌, ◌-◌, ◌^◌}
 use Rattle.std.proofs.lemmas.Bool.{and_parts}
 use Rattle.std.proofs.lemmas.Nat.Gcd.{dvd_of_mod-eq-zero, mod-eq-zero_of_dvd, dvd_trans}
-use Rattle.jz_meaning.specs.States.{Key, same_key}
+use Rattle.jz_meaning.specs.States.{same_key}
 use Rattle.jz_intervals.proofs.Nearest.{greatest_within, least_within}
 use Rattle.jz_facts.specs.Facts.{Fact, Set, Cell, AtLeast, AtMost, Under, Is, Multiple, is_among, greatest, least, multiples, entails}
 use Rattle.jz_fact_laws.proofs.Setting.{same_key-true, same_key-refl}
@@ -11,7 +11,7 @@ use Rattle.jz_fact_readings.specs.Multiples.{times_of}
 use Rattle.jz_fact_readings.specs.declared.times.Times.{Times}
 use Rattle.jz_fact_readings.specs.declared.times.Times.TheVariants.{Two, Four, Eight}
 use Rattle.jz_fact_sets.specs.declared.set.FactSet.{FactSet}
-use Rattle.jz_fact_sets.specs.Kept.{is_named, is_at_least, is_at_most, is_times, known_at, facts_of}
+use Rattle.jz_fact_sets.specs.Kept.{is_at_least, is_at_most, is_times, known_at, facts_of}
 use Rattle.jz_fact_answers.specs.Giving.{Gives, HasEnds, least_gives, most_gives, times_gives, is_given}
 
 both : (a b : Bool) → a ≡ true → b ≡ true → (a && b) ≡ true

@@ -29,17 +29,17 @@ use Rattle.jz_fact_laws.proofs.Testing.{either, test_ok}
 module _ (g : Given) (sizes : Key → Option Size) (entry : Key → ℕ) (s : Facts) (st : State) (H : Holds g sizes entry s st)
     (MO : (t : Term) → IsPlain sizes t → (z : Size) (w : Option Size) → Yields (MultipleValue g sizes entry s st H z t) ((means t).run w st)) where
   -- what is known of the value of a term
-  abbrev Known : Size → Term → Value → Type 0
+  abbrev pub Known : Size → Term → Value → Type 0
   Known z t v = Good (interval g s z t) (is_number t) z v × CopyOf g sizes entry s st H t v × MultipleValue g sizes entry s st H z t v
 
-  known : (z : Size) (t : Term) (w : Option Size) → IsPlain sizes t → Yields (Known z t) ((means t).run w st)
+  pub known : (z : Size) (t : Term) (w : Option Size) → IsPlain sizes t → Yields (Known z t) ((means t).run w st)
   known z t w p = by ((means t).run w st) (term_ok g sizes entry s st H t p z w) (copy_ok g sizes entry s st H t w) (MO t p z w)
     where
       by : (e : Evaluation Value) → Yields (Good (interval g s z t) (is_number t) z) e → Yields (CopyOf g sizes entry s st H t) e → Yields (MultipleValue g sizes entry s st H z t) e → Yields (Known z t) e
       by (stuck k) a b c = tt
       by (went ns v) a b c = (a, b, c)
 
-  written_then : (at : Span) (z : Option Size) (x : Var) (v : Value) (P : State → Type 0) → Yields P (written z (lval.Var x) (Some v) st) → Yields P (all_written at z (lval.Var x ∷ []) (Some v ∷ []) st)
+  pub written_then : (at : Span) (z : Option Size) (x : Var) (v : Value) (P : State → Type 0) → Yields P (written z (lval.Var x) (Some v) st) → Yields P (all_written at z (lval.Var x ∷ []) (Some v ∷ []) st)
   written_then at z x v P h = yields_then P P (written z (lval.Var x) (Some v) st) (λ t. went [] t) h (λ t q. q)
 
   pub assign_ok : (x : Var) (o : Option BinOp) (e : Expr) (at : Span) → IsAssigned sizes x o e → Yields (λ t. Holds g sizes entry (does g (assign (lval.Var x ∷ []) o e None at) s) t) (source.does (assign (lval.Var x ∷ []) o e None at) st)

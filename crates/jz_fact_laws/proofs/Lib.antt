@@ -7,3 +7,4 @@ pub mod MultipleTerms
 pub mod Testing
 pub mod Law
 pub mod Holding
+pub mod Conditional

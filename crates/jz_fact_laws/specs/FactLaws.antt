@@ -1,5 +1,5 @@
 -- What facts say of runs, as laws.
-use Rattle.std.specs.Prelude.{ℕ, ◌≡◌, true, [], ◌∷◌, Option, None}
+use Rattle.std.specs.Prelude.{ℕ, ◌≡◌, true, [], ◌∷◌, Option, Some, None}
 use Rattle.jz_tree.specs.Span.{Span}
 use Rattle.x64_insn.specs.Size.{Size}
 use Rattle.jz_tree.specs.declared.expr.BinOp.{BinOp}
@@ -43,6 +43,15 @@ AssignmentsHold =
     → (x : Var) (o : Option BinOp) (e : Expr) (at : Span) → IsAssigned sizes x o e
     → Yields (λ t. Holds g sizes entry (does g (assign (lval.Var x ∷ []) o e None at) s) t)
     (source.does (assign (lval.Var x ∷ []) o e None at) st)
+
+-- the same under a condition, which keeps what holds of both
+abbrev pub ConditionalAssignmentsHold : Type 0
+ConditionalAssignmentsHold =
+    (g : Given) (sizes : Key → Option Size) (entry : Key → ℕ) (s : Facts) (st : State)
+    → Holds g sizes entry s st
+    → (x : Var) (o : Option BinOp) (e c : Expr) (at : Span) → IsAssigned sizes x o e
+    → Yields (λ t. Holds g sizes entry (does g (assign (lval.Var x ∷ []) o e (Some c) at) s) t)
+    (source.does (assign (lval.Var x ∷ []) o e (Some c) at) st)
 
 -- what a test with its answer adds holds
 abbrev pub TestsHold : Type 0
