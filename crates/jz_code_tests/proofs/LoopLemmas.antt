@@ -1,5 +1,5 @@
 -- The small loop as nodes, and that its lines become bytes.
-use Rattle.std.proofs.Common.{◌≡◌, ℕ, ◌+◌, ◌*◌, ◌^◌, ◌<◌, false, List, [], ◌∷◌, refl, sym, ap, ◌∙◌, subst, arith}
+use Rattle.std.proofs.Common.{◌≡◌, ◌^◌, ◌<◌, false, List, [], ◌∷◌, refl, sym, ap, ◌∙◌, subst, arith}
 use Rattle.std.specs.Prelude.{Some}
 use Rattle.x64_insn.specs.declared.types.Reg.TheVariants as reg
 use Rattle.x64_insn.specs.declared.types.Cond.TheVariants as cond
@@ -9,10 +9,10 @@ use Rattle.jz_placing.specs.Instructions.{if_holds}
 use Rattle.jz_place.specs.declared.placed.PlacedTest.TheVariants as test
 use Rattle.jz_place.specs.declared.placed.PlacedNode.{PlacedNode}
 use Rattle.jz_place.specs.declared.placed.PlacedNode.TheVariants.{Do, While}
-use Rattle.jz_place.specs.Codes.{test_in, code_in}
+use Rattle.jz_place.specs.Codes.{code_in}
 use Rattle.jz_linear.specs.declared.line.Line.{Line}
 use Rattle.jz_linear.specs.Plain.{IsPlain, IsPlainCode}
-use Rattle.jz_linear.specs.Lines.{labels_in, parts_in, linear_of}
+use Rattle.jz_linear.specs.Lines.{labels_in, linear_of}
 use Rattle.jz_linear.specs.LineRuns.{Once}
 use Rattle.jz_linear.proofs.NodeLines.{do_is, while_is}
 use Rattle.jz_linear.proofs.Places.{linear_once}
