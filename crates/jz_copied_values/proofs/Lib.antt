@@ -1,0 +1,10 @@
+mod StillWalks
+mod CopiedWholes
+mod CopiedOperations
+mod CopiedNumbers
+mod CalledNames
+mod CalledNumbers
+mod CopiedForgetting
+mod CopiedCalls
+mod CopiedTrees
+mod CopiedWhole
