@@ -262,8 +262,8 @@ module _ (names : InlineNames) where
       let e1 : KnownNumbers = (rounds v (walk b) zs e).known in
       let e2 : KnownNumbers = with_number e1 v (number_of e v) in
       let made : Rounds i m c0 copy f first zs e1 k =
-          rounds_fit i m c0 copy f first (FitsCalled i b) (walk b) zs e k named.0
-          (λ e3 k3 h a. tree_fits (Ends names m c0 (walk b e3).known k3) b i m c0 c e3 k3 done copy up has.0 named.1 h a (λ k4 w. alone_done m c0 (walk b e3).known k3 k4 w)) fits.1 agree in
+      rounds_fit i m c0 copy f first (FitsCalled i b) (walk b) zs e k named.0
+      (λ e3 k3 h a. tree_fits (Ends names m c0 (walk b e3).known k3) b i m c0 c e3 k3 done copy up has.0 named.1 h a (λ k4 w. alone_done m c0 (walk b e3).known k3 k4 w)) fits.1 agree in
       let k2 : KnownNumbers = with_number made.behind (var_in m v) (number_of k (var_in m v)) in
       let ends : Ends names m c0 e2 k k2 = restored i m c0 copy v e e1 k made.behind named.0.text named.0.counter.named agree made.ends in
       let values : HasValues names (counter_in m f) k zs = record {
@@ -295,13 +295,13 @@ module _ (names : InlineNames) where
         only = λ n a out. mark_none inner c q.callee.vars k1 n a (agree1.only n a out);
       } in
       let inside = tree_fits Post b j inner c (suc c) given k2 back below (omega arith) has.1 named.1 fits.2 start
-          (λ k3 ends3.
-          (let kept : (n : List ℕ) (a : ℕ) → a < c → k3 n a ≡ k1 n a = λ n a lt. ends3.before n a lt ∙ mark_elsewhere inner c q.callee.vars k1 n a own (λ same. omega (arith, same, lt)) in
-          let agree3 : Agrees names m e k3 = record { numbers = λ n. kept (m n).0 (m n).1 (not_behind names i m c0 copy n c up) ∙ agree1.numbers n; only = ends3.agrees.only } in
-          results_fit names i j m inner c0 c copy below up e at Post k3 agree3 q.to q.callee.result last named.0.results fits.1
-          (tree_fits Post r i m c0 (suc c + copies b) e k3 rest copy (omega (arith, up)) has.2 named.2 fits.3 agree3
-          (λ k4 ends4. next k4 (record {
-            agrees = ends4.agrees;
-            before = λ n a lt. ends4.before n a lt ∙ kept n a (omega (arith, lt, up)) ∙ before1 n a (omega (arith, lt, up));
-          }))))) in
+      (λ k3 ends3.
+      (let kept : (n : List ℕ) (a : ℕ) → a < c → k3 n a ≡ k1 n a = λ n a lt. ends3.before n a lt ∙ mark_elsewhere inner c q.callee.vars k1 n a own (λ same. omega (arith, same, lt)) in
+      let agree3 : Agrees names m e k3 = record { numbers = λ n. kept (m n).0 (m n).1 (not_behind names i m c0 copy n c up) ∙ agree1.numbers n; only = ends3.agrees.only } in
+      results_fit names i j m inner c0 c copy below up e at Post k3 agree3 q.to q.callee.result last named.0.results fits.1
+      (tree_fits Post r i m c0 (suc c + copies b) e k3 rest copy (omega (arith, up)) has.2 named.2 fits.3 agree3
+      (λ k4 ends4. next k4 (record {
+        agrees = ends4.agrees;
+        before = λ n a lt. ends4.before n a lt ∙ kept n a (omega (arith, lt, up)) ∙ before1 n a (omega (arith, lt, up));
+      }))))) in
       (inside.0, fits_quiet marked inside.1, inside.2)))

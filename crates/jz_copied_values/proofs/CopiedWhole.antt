@@ -13,6 +13,6 @@ use Rattle.jz_copied_values.proofs.CopiedTrees.{tree_fits}
 pub whole_fits : CopiesFit
 whole_fits names i t own has named fits =
     let made = tree_fits names (Ends names own_names 0 (walk t no_numbers).known no_numbers) t i own_names 0 1 no_numbers no_numbers done
-        (record { named = own; place = λ n. inl refl }) (omega arith) has named fits (record { numbers = λ n. refl; only = λ n c out. refl })
-        (λ k1 h. (k1, fits_done, h)) in
+    (record { named = own; place = λ n. inl refl }) (omega arith) has named fits (record { numbers = λ n. refl; only = λ n c out. refl })
+    (λ k1 h. (k1, fits_done, h)) in
     (made.0, made.1)

@@ -52,7 +52,7 @@ module _ (m : Names) where
   access_span_in a =
       ap (λ b. (access_of (access_in m b)).span) (sym (roll-out-Access a))
       ∙ ap (λ b. (access_of b).span) (access_in_is m (out-Access a))
-      ∙ ap (λ (p : MemoryAccess). p.span) (access_is (access_layer_in m (out-Access a)) )
+      ∙ ap (λ (p : MemoryAccess). p.span) (access_is (access_layer_in m (out-Access a)))
       ∙ sym (ap (λ (p : MemoryAccess). p.span) (access_is (out-Access a)))
       ∙ ap (λ b. (access_of b).span) (roll-out-Access a)
 
