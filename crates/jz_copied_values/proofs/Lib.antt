@@ -1,10 +1,10 @@
-mod StillWalks
-mod CopiedWholes
-mod CopiedOperations
-mod CopiedNumbers
-mod CalledNames
-mod CalledNumbers
-mod CopiedForgetting
-mod CopiedCalls
-mod CopiedTrees
-mod CopiedWhole
+pub mod StillWalks
+pub mod CopiedWholes
+pub mod CopiedOperations
+pub mod CopiedNumbers
+pub mod CalledNames
+pub mod CalledNumbers
+pub mod CopiedForgetting
+pub mod CopiedCalls
+pub mod CopiedTrees
+pub mod CopiedWhole
