@@ -1,6 +1,6 @@
 //! Which actions can be encoded.
 
-ghost use Rattle.std.specs.Prelude.{◌≡◌, ◌≤◌, ◌≤ℤ◌, ◌*ℤ◌, ◌^◌, pos, negsuc};
+ghost use Rattle.std.specs.Prelude.{◌≡◌, ◌≤ℤ◌, ◌*ℤ◌, ◌^◌, ℕ, pos, negsuc};
 ghost use Rattle.jz_words.specs.Sizes.{bytes_of};
 ghost use Rattle.x64_insn.specs.declared.types.Reg.TheVariants.{Rax};
 ghost use Rattle.x64_insn.specs.Table.{immediate_by};
