@@ -1,5 +1,4 @@
-use Rattle.std.proofs.Common.{◌≡◌, true, rules}
-use Rattle.x64_insn.specs.Chosen.{fits_bytes}
+use Rattle.std.proofs.Common.{rules}
 use Rattle.jz_encodable.proofs.CodeLemmas.{address_by}
 use Rattle.jz_encodable.proofs.encodable.is_address.Goals as goal
 
