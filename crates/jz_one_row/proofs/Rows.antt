@@ -277,9 +277,9 @@ module _ (home : Homes) (z : Size) (d : Lval) where
 
   two_same : (o : BinOp) (a c a2 c2 : Expr) (x y b x2 y2 b2 : Arg) (p q r p2 q2 r2 : Leaks) → a ≡ a2 → c ≡ c2 → IsArg home z a x p → IsArg home z c y q → IsDest home z d b r → IsArg home z a2 x2 p2 → IsArg home z c2 y2 q2 → IsDest home z d b2 r2
       → (x ≡ x2) × (y ≡ y2) × (b ≡ b2) × (two_shown (commutes o) b x y p q ≡ two_shown (commutes o) b2 x2 y2 p2 q2)
-  two_same o a c a2 c2 x y b x2 y2 b2 p q r p2 q2 r2 fa fc sa sc f g h f2 g2 h2 =
-      let u = arg_again a a2 x x2 p p2 fa sa f f2 in
-      let v = arg_again c c2 y y2 q q2 fc sc g g2 in
+  two_same o a c a2 c2 x y b x2 y2 b2 p q r p2 q2 r2 sa sc f g h f2 g2 h2 =
+      let u = arg_again a a2 x x2 p p2 sa f f2 in
+      let v = arg_again c c2 y y2 q q2 sc g g2 in
       let w = one_dest home z d b b2 r r2 h h2 in
       (u.0, v.0, w.0, λ i. two_shown (commutes o) (w.0 i) (u.0 i) (v.0 i) (u.1 i) (v.1 i))
 

@@ -55,10 +55,10 @@ module _ (home : Homes) (at : Span) where
 
   compares_one : (u : BinOp) (k : Cond) (z : Size) (a b : Expr) (x y : Arg) (p q : Leaks) (here : Span) (o : Operation) (c : Cond) (r s : Leaks) → cond_of u ≡ Some k → option_or (own_size a) (own_size b) ≡ Some z → IsArg home z a x p → IsArg home z b y q
       → CompareLayer home at (Expr-F.Bin u a b here) o c r s → SameTest (plain at (action.Alu alu.Cmp z x y None)) o k c p q r s
-  compares_one u k z a b x y p q here o c r s fa fb h size f g (c_compares u2 k2 z2 a2 b2 x2 y2 p2 q2 here2 h2 size2 f2 g2) =
+  compares_one u k z a b x y p q here o c r s h size f g (c_compares u2 k2 z2 a2 b2 x2 y2 p2 q2 here2 h2 size2 f2 g2) =
       let z_is = same_some z z2 (sym size ∙ size2) in
-      let v = one_arg home z a x x2 p p2 fa f (subst (λ t. IsArg home t a x2 p2) (sym z_is) f2) in
-      let w = one_arg home z b y y2 q q2 fb g (subst (λ t. IsArg home t b y2 q2) (sym z_is) g2) in
+      let v = one_arg home z a x x2 p p2 f (subst (λ t. IsArg home t a x2 p2) (sym z_is) f2) in
+      let w = one_arg home z b y y2 q q2 g (subst (λ t. IsArg home t b y2 q2) (sym z_is) g2) in
       record { operation = λ i. plain at (action.Alu alu.Cmp (z_is i) (v.0 i) (w.0 i) None); cond = same_some k k2 (sym h ∙ h2); first = v.1; second = w.1 }
 
   denies_one : (e : Expr) (u : Operation) (k : Cond) (p q : Leaks) (here : Span) (o : Operation) (c : Cond) (r s : Leaks) → ((v : Operation) (d : Cond) (x y : Leaks) → IsCompared home at e v d x y → SameTest u v k d p q x y)
