@@ -86,7 +86,7 @@ one_lowers home o os us is js full (sets {d} {o = op} {e} {w} {z} {acts} {items}
     let again = subst (λ y. HasRow home y d w acts2 items2) (sym z_is) (subst (λ v. HasRow home z2 d v acts2 items2) (sym w_is) row2) in
     let r = one_row home z d full.0 w acts acts2 items items2 (full.1 w h) row again in
     (ap (lasting at no_flag) r.0, r.1)
-one_lowers home o os us is js full (sets_if {x} {e} {k} {y} {compare} {c} {m} {p} {q} {r} {at} z wide kz h f ni g) (sets_if {x = x2} {e = e2} {k = k2} {y = y2} {compare = compare2} {c = c2} {m = m2} {p = p2} {q = q2} {r = r2} {at = at2} z2 wide2 kz2 h2 f2 ni2 g2) =
+one_lowers home o os us is js full (sets_if {x} {e} {k} {y} {compare} {c} {m} {p} {q} {r} {at} z wide kz h f ni g can) (sets_if {x = x2} {e = e2} {k = k2} {y = y2} {compare = compare2} {c = c2} {m = m2} {p = p2} {q = q2} {r = r2} {at = at2} z2 wide2 kz2 h2 f2 ni2 g2 can2) =
     let m_is = register_of m m2 z z2 (sym h ∙ h2) in
     let z_is = size_of_register m m2 z z2 (sym h ∙ h2) in
     let v = one_arg home z e y y2 p p2 (full.1 e refl) f (subst (λ t. IsArg home t e y2 p2) (sym z_is) f2) in
