@@ -35,7 +35,7 @@ no_cell : (n w i : ℕ) (y z : Size) → ◌≡◌ {A = Option Home} (Some (in_r
 no_cell n w i y z e = absurd cc
 
 one_stack : (home : Homes) (x : Var) (z : Size) (m n v w : ℕ) → IsFull x → AreCells home x z m v → AreCells home x z n w → v ≡ w
-one_stack home x z m n v w full c d = cell_of v w 0 0 z z (sym (c.1 0 (full z m c.0)) ∙ d.1 0 (full z n d.0))
+one_stack home x z m n v w full c d = cell_of v w 0 0 z z (sym (c.2 0 c.1) ∙ d.2 0 d.1)
 
 cell_is : (v w : ℕ) (b c : Option ℕ) (i j : ℤ) → v ≡ w → b ≡ c → i ≡ j → ◌≡◌ {A = Arg} (arg.Cell (record { of = v; index = b; offset = i })) (arg.Cell (record { of = w; index = c; offset = j }))
 cell_is v w b c i j e f g = λ k. arg.Cell (record { of = e k; index = f k; offset = g k })
