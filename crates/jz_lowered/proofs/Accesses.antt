@@ -1,7 +1,8 @@
 -- An action that can be encoded accesses memory or a cell once at most.
-use Rattle.std.proofs.Common.{◌≡◌, ℕ, Bool, true, not, ◌&&◌, [], ◌∷◌}
+use Rattle.std.proofs.Common.{◌≡◌, true, not, ◌&&◌, [], ◌∷◌}
 use Rattle.std.proofs.lemmas.Bool.{and_parts}
 use Rattle.jz_words.specs.declared.size.Size.{Size}
+use Rattle.jz_words.specs.declared.size.Size.TheVariants.{S8}
 use Rattle.x64_insn.specs.declared.types.Alu.{Alu}
 use Rattle.x64_insn.specs.Chosen.{is_register, is_rm, is_test, are_alu_operands, are_mov_operands, is_spelled}
 use Rattle.jz_operations.specs.declared.operation.Arg.{Arg}
@@ -69,7 +70,7 @@ once_at (action.Shift kind z rm n) h = one_operand z rm
 once_at (action.ShiftBy kind z rm p) h = one_operand z rm
 once_at (action.Bswap z v) h = tt
 once_at (action.Sign z l k) h = tt
-once_at (action.Set c rm) h = one_operand _ rm
+once_at (action.Set c rm) h = one_operand S8 rm
 once_at (action.Cmov c z v rm) h = one_operand z rm
 
 pub accessed_once : (a : Action) → CanEncode a → HasOneAccess (accesses a)

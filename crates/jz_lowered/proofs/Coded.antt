@@ -1,5 +1,5 @@
 -- Functions over variables are what machine code asks of them.
-use Rattle.std.proofs.Common.{◌≡◌, ℕ, zero, suc, ◌<◌, ◌^◌, Bool, true, false, List, [], ◌∷◌, ◌++◌, length, map, Option, Some, None, refl, sym, ap, subst, arith}
+use Rattle.std.proofs.Common.{◌≡◌, ℕ, zero, suc, ◌<◌, Bool, true, false, List, [], ◌∷◌, ◌++◌, length, map, Option, Some, None, sym, ap, subst, arith}
 use Rattle.std.specs.Prelude.{slice_index_or, All, Contains, ⊤}
 use Rattle.std.specs.List.{AllByRecursion}
 use Rattle.std.proofs.lemmas.List.Elements.{All-nil, All-cons, All-head, All-tail, All-append, All-map}
@@ -78,14 +78,14 @@ module _ (n : ℕ) where
   BodyCoded (each f b r) = absurd f
   BodyCoded (call c b r) = absurd c
 
-  one_coded : (at : Span) (a : Action) → IsWithinOne n a → CanEncode a → IsCoded n (plain at a)
-  one_coded at a w can = record { below = w at; encodes = encodable (plain at a) can }
+  one_coded : (here : Span) (a : Action) → IsWithinOne n a → CanEncode a → IsCoded n (plain here a)
+  one_coded here a w can = record { below = w here; encodes = encodable (plain here a) can }
 
-  all_coded : (at : Span) (acts : List Action) → All (IsWithinOne n) acts → All CanEncode acts → AreCoded (lasting at no_flag acts)
-  all_coded at [] w can = tt
-  all_coded at (a ∷ []) w can = (one_coded at a (All-head (IsWithinOne n) a [] w) (All-head CanEncode a [] can), tt)
-  all_coded at (a ∷ b ∷ more) w can =
-      (one_coded at a (All-head (IsWithinOne n) a (b ∷ more) w) (All-head CanEncode a (b ∷ more) can), all_coded at (b ∷ more) (All-tail (IsWithinOne n) a (b ∷ more) w) (All-tail CanEncode a (b ∷ more) can))
+  all_coded : (here : Span) (acts : List Action) → All (IsWithinOne n) acts → All CanEncode acts → AreCoded (lasting here no_flag acts)
+  all_coded here [] w can = tt
+  all_coded here (a ∷ []) w can = (one_coded here a (All-head (IsWithinOne n) a [] w) (All-head CanEncode a [] can), tt)
+  all_coded here (a ∷ b ∷ more) w can =
+      (one_coded here a (All-head (IsWithinOne n) a (b ∷ more) w) (All-head CanEncode a (b ∷ more) can), all_coded here (b ∷ more) (All-tail (IsWithinOne n) a (b ∷ more) w) (All-tail CanEncode a (b ∷ more) can))
 
   turn_coded : (os : List Operation) (u : Body) → AreCoded os → BodyCoded (without_marks u) → BodyCoded (without_marks (in_turn os u))
   turn_coded [] u h k = k
@@ -165,10 +165,10 @@ abbrev IsFree : Reg → Type 0
 IsFree r = Contains preserved_registers r → ⊥
 
 rax_free : IsFree reg.Rax
-rax_free h = absent preserved_registers reg.Rax (λ k. omega (arith, k), λ k. omega (arith, k), λ k. omega (arith, k), λ k. omega (arith, k), λ k. omega (arith, k), λ k. omega (arith, k), tt) h.0 h.1 h.2
+rax_free h = absent preserved_registers reg.Rax (λ k. omega (arith, k), (λ k. omega (arith, k), (λ k. omega (arith, k), (λ k. omega (arith, k), (λ k. omega (arith, k), (λ k. omega (arith, k), tt)))))) h.0 h.1 h.2
 
 rdx_free : IsFree reg.Rdx
-rdx_free h = absent preserved_registers reg.Rdx (λ k. omega (arith, k), λ k. omega (arith, k), λ k. omega (arith, k), λ k. omega (arith, k), λ k. omega (arith, k), λ k. omega (arith, k), tt) h.0 h.1 h.2
+rdx_free h = absent preserved_registers reg.Rdx (λ k. omega (arith, k), (λ k. omega (arith, k), (λ k. omega (arith, k), (λ k. omega (arith, k), (λ k. omega (arith, k), (λ k. omega (arith, k), tt)))))) h.0 h.1 h.2
 
 passed_free : (home : Homes) {rs : List Reg} {xs : List Var} {ps : List Passed} → ArePassed home rs xs ps → AllByRecursion IsFree rs → AllByRecursion (λ p. IsFree p.reg) ps
 passed_free home none_passed h = tt
@@ -255,5 +255,5 @@ functions_ready home f b i k l formed short =
       sorted = subst (AreSorted i.kinds) (sym made.body) (bodies_sorted home i.kinds l.kinds made.made tt);
       encodable = body_encodable (length i.kinds) (body_of i.body) coded;
       short = short.short;
-      results = passed_free home l.returned (rax_free, rdx_free, tt);
+      results = passed_free home l.returned (rax_free, (rdx_free, tt));
     }

@@ -151,11 +151,7 @@ fn set_row(homes: &Homes, left: Option<Size>, to: &Lval, value: &Expr) -> Option
 {
     let size = left.or(own_size(value))?;
     let row = assignment_row(&Target { homes, size, to }, value)?;
-    if can_encode_all(row) {
-        Some(row)
-    } else {
-        None
-    }
+    if can_encode_all(row) { Some(row) } else { None }
 }
 
 /// The row of `to = value` or of `to op= value`.
