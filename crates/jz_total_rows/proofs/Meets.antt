@@ -33,7 +33,7 @@ use Rattle.jz_select.proofs.Uses.{touches_out}
 use Rattle.jz_select.proofs.TreeLaws.{tree_one}
 use Rattle.jz_row_laws.proofs.Booleans.{or_parts}
 use Rattle.jz_one_row.proofs.Outs.{out_num, out_var, out_cell, out_load, out_bin}
-use Rattle.jz_one_row.proofs.Sums.{address_by, address_is, index_by, index_is}
+use Rattle.jz_one_row.proofs.Sums.{one_address, one_index}
 use Rattle.jz_meaning.specs.States.{Key, same_key}
 use Rattle.jz_meaning.specs.Values.{key_of, cell_key, ref_of}
 use Rattle.jz_typed_runs.proofs.KindsOf.{ref_is}
@@ -281,14 +281,6 @@ module _ (home : Homes) (z : Size) where
   arrays_same : (v w : Var) (n m u x : ℕ) → AreCells home v z n u → AreCells home w z m x → names_eq (named_variable w) (named_variable v) ≡ true → u ≡ x
   arrays_same v w n m u x c d e = cell_one u x 0 0 z z (same_some _ _ (sym (c.2 0 c.1) ∙ (sym (ap home (one_cell_key w v 0 e)) ∙ d.2 0 d.1)))
 
-  index_one : (t u : Sum) (b c : Option ℕ) (i j : ℤ) → IsIndex t b i → IsIndex u c j → t ≡ u → (b ≡ c) × (i ≡ j)
-  index_one t u b c i j p q e =
-      let s = same_some _ _ (sym (index_is t b i p) ∙ (ap (λ x. index_by x.terms x.number) e ∙ index_is u c j q)) in
-      (ap (λ x. x.0) s, ap (λ x. x.1) s)
-
-  address_one : (t u : Sum) (m n : Address) → IsAddress t m → IsAddress u n → t ≡ u → m ≡ n
-  address_one t u m n p q e = same_some m n (sym (address_is t m p) ∙ (ap (λ x. address_by x.terms x.number) e ∙ address_is u n q))
-
   pub same_place : (d : Lval) (e : Expr) (b x : Arg) (r p : Leaks) → IsDest home z d b r → IsArg home z e x p → is_same_place (meeting_of A d e) ≡ true → same_arg b x ≡ true
   same_place d e b x r p (to_word v n k h) (operands.a_word w m g) s = eq-eqb n m (register_same v w n m h g (var_named_same v w s))
   same_place d e b x r p (to_word v n k h) (operands.a_scalar w c g) s =
@@ -309,7 +301,7 @@ module _ (home : Homes) (z : Size) where
   same_place d e b x r p (to_cell v i n u t c j cells f q) (operands.a_load a y m g o k) s = absurd (cell_elsewhere v i (expr.Load a) (Expr-F.Load a) (out_load a) (no_same_elsewhere _) s)
   same_place d e b x r p (to_cell v i n u t c j cells f q) (operands.a_cell w k m y t2 c2 j2 cells2 f2 q2) s =
       let o = cells_meet v i w k s in
-      let g = index_one t t2 c c2 j j2 q q2 (same_index_sum home i k t t2 f f2 o.indexes) in
+      let g = one_index t t2 c c2 j j2 (same_index_sum home i k t t2 f f2 o.indexes) q q2 in
       same_cells u y c c2 j j2 (arrays_same v w n m u y cells cells2 o.names) g.0 g.1
   same_place d e b x r p (to_memory a t m k f q) (operands.a_word w n g) s = absurd (false≢true (sym (ap (λ k. is_same_place (store_layer_meets (tree_of (out-Access a).at) k)) (out_var w)) ∙ s))
   same_place d e b x r p (to_memory a t m k f q) (operands.a_scalar w y g) s = absurd (false≢true (sym (ap (λ k. is_same_place (store_layer_meets (tree_of (out-Access a).at) k)) (out_var w)) ∙ s))
@@ -319,7 +311,7 @@ module _ (home : Homes) (z : Size) where
   same_place d e b x r p (to_memory a t m k f q) (operands.a_load c t2 m2 k2 f2 q2) s =
       let g = same_only (tree_eq (tree_of (out-Access a).at) (tree_of (out-Access c).at)) (sym (ap (λ k. is_same_place (store_layer_meets (tree_of (out-Access a).at) k)) (out_load c)) ∙ s) in
       let u = same_sum home a.at c.at t t2 f f2 (tree_one (tree_of a.at) (tree_of c.at) g) in
-      subst (λ y. same_arg (arg.Mem m) (arg.Mem y) ≡ true) (address_one t t2 m m2 q q2 u) (address_itself m)
+      subst (λ y. same_arg (arg.Mem m) (arg.Mem y) ≡ true) (one_address t t2 m m2 u q q2) (address_itself m)
 
 -- ---- a register that stands nowhere in the operand
 module _ (frame : Frame) (home : Homes) (homing : IsHoming frame home) (v : Var) (n : ℕ) (z : Size) (at : home (key_of (ref_of v)) ≡ Some (in_register n z)) where
@@ -397,3 +389,21 @@ module _ (frame : Frame) (home : Homes) (homing : IsHoming frame home) (v : Var)
   apart_place y e x p (operands.a_load a t m k f q) s =
       let h = apart_elsewhere (nowhere (expr.Load a)) (apart_at (expr.Load a) (Expr-F.Load a) (out_load a) s) in
       address_free t m q (sum_others a.at t f (nowhere_at (expr.Load a) (Expr-F.Load a) (out_load a) h))
+
+  -- and in a masked count it stands where its variable does
+  pub masked_apart : (o : BinOp) (w : Var) (b : Expr) (here : Span) (m : ℕ) (y : Size) → home (key_of (ref_of w)) ≡ Some (in_register m y)
+      → is_apart_from (meeting_of A (lval.Var v) (expr.Bin o (expr.Var w) b here)) ≡ true → is_free (arg.Var n) (arg.Var m) ≡ true
+  masked_apart o w b here m y g s =
+      let e = expr.Bin o (expr.Var w) b here in
+      let h = apart_elsewhere (nowhere e) (apart_at e (Expr-F.Bin o (expr.Var w) b here) (out_bin o (expr.Var w) b here) s) in
+      free_of_one m (other_register w m y g (variable_nowhere w (two_nowhere o (expr.Var w) b here h).0))
+
+-- an operation is no place
+pub operation_not_same : (d : Lval) (o : BinOp) (a b : Expr) (at : Span) → is_same_place (meeting_of A d (expr.Bin o a b at)) ≡ true → ⊥
+operation_not_same (lval.Skip here) o a b at h = false≢true h
+operation_not_same (lval.Var v) o a b at h =
+    no_same_elsewhere _ (sym (ap (λ k. is_same_place (var_layer_meets A (named_variable v) (expr.Bin o a b at) k)) (out_bin o a b at)) ∙ h)
+operation_not_same (lval.Cell v i) o a b at h =
+    no_same_elsewhere _ (sym (ap (λ k. is_same_place (cell_layer_meets A (named_variable v) (index_of i) (expr.Bin o a b at) k)) (out_bin o a b at)) ∙ h)
+operation_not_same (lval.Store c) o a b at h =
+    false≢true (sym (ap (λ k. is_same_place (store_layer_meets (tree_of (out-Access c).at) k)) (out_bin o a b at)) ∙ h)

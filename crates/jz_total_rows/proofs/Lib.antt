@@ -1,0 +1,15 @@
+pub mod Forms
+pub mod InlineValues
+pub mod Terms
+pub mod Summed
+pub mod Fits
+pub mod Stands
+pub mod Written
+pub mod Meets
+pub mod Bringing
+pub mod Operands
+pub mod Counting
+pub mod Rows
+pub mod Classes
+pub mod KeptLimits
+pub mod Assigned
