@@ -204,8 +204,8 @@ module _ (frame : Frame) (home : Homes) (homing : IsHoming frame home) (z : Size
   wide h = wide_of (class_size (dest_of d)) z D.sized h
 
   -- ---- two operands, where the first stands beside the destination
-  module _ (a b : Expr) (o : BinOp) (at : Span) (x : Arg) (p : Leaks) (i : IsArg home z a x p) (oa : Operand) (m : Beside z D.arg' x oa) (ia : is_i oa.class ≡ true → is_inline a ≡ true)
-      (y : IsExpanded home b) (n : is_inline a ≡ true → is_inline b ≡ true → ⊥) where
+  module _ (a b : Expr) (o : BinOp) (at : Span) (x : Arg) (p : Leaks) (i : IsArg home z a x p) (oa : Operand) (m : Beside z D.arg' x oa) (y : IsExpanded home b)
+      (n : is_i oa.class ≡ true → is_inline b ≡ true → ⊥) where
     abbrev ob : Operand
     ob = operand_of A d b
 
@@ -265,7 +265,7 @@ module _ (frame : Frame) (home : Homes) (homing : IsHoming frame home) (z : Size
     first_not_imm h = by_test (is_imm x) refl
       where
         by_test : (t : Bool) → is_imm x ≡ t → t ≡ false
-        by_test true e = absurd (n (ia (stands_i m.stands ∙ e)) h)
+        by_test true e = absurd (n (stands_i m.stands ∙ e) h)
         by_test false e = refl
 
     by_shift : (c : Class) → LimitB → p9 (S c (values.Two o oa ob)) ≡ true → RowFound home z d (expr.Bin o a b at)
@@ -328,11 +328,8 @@ module _ (frame : Frame) (home : Homes) (homing : IsHoming frame home) (z : Size
         let e = g.is ∙ ap (λ n. expr.Bin op.And (expr.Var g.var) (expr.Num (pos n) g.there) g.inner) (ap (λ s. mask_number (is_longest s)) (t k.0) ∙ mask_is z) in
         let u = sym (ap computes_by (masked_no_memory l ob.class q.0)) ∙ q.1 in
         subst (λ v. RowFound home z d (expr.Bin o a v at)) (sym e)
-        (shift_by_found home z d D.arg' D.leaks D.is (dest_of d) D.stands fd a x p i oa m o g.var g.number g.there g.inner at as_byte' (shift_operator o k.0) g.byte
+        (shift_by_found home z d D.arg' D.leaks D.is (dest_of d) D.stands fd a x p i oa m o g.var g.number g.there g.inner at (record { class = class.Reg S8; meeting = meeting_of A d b }) (shift_operator o k.0) g.byte
         (beside_byte g.var g.number g.there g.inner (mask_number l) g.byte g.is) u)
-      where
-        abbrev as_byte' : Operand
-        as_byte' = record { class = class.Reg S8; meeting = meeting_of A d b }
 
     -- ---- all rows of two operands but that of a quotient
     pub two_row : (c : Class) → Typed → LimitB → Sized → (p1 (S c (values.Two o oa ob)) ≡ true → RowFound home z d (expr.Bin o a b at)) → (p8 (S c (values.Two o oa ob)) ≡ true → ⊥)

@@ -15,7 +15,7 @@ use Rattle.jz_operations.specs.declared.operation.Action.TheVariants as action
 use Rattle.jz_encodable.specs.Encodable.{is_spelled_at, CanEncode}
 use Rattle.jz_row_operations.specs.Table.{same_arg, is_free, brought, nothing}
 use Rattle.jz_total_rows.proofs.Fits.{is_place, is_kept, Fits, mov_spelled}
-use Rattle.jz_total_rows.proofs.Stands.{Stands, stands_m, stands_place, variable_of}
+use Rattle.jz_total_rows.proofs.Stands.{Stands, stands_place, variable_of, kept_both}
 
 -- ---- what can be encoded
 both_true : (a b : Bool) → a ≡ true → b ≡ true → (a && b) ≡ true
@@ -53,10 +53,6 @@ no_left false b e = refl
 no_right : (a b : Bool) → b ≡ false → (a && b) ≡ false
 no_right true b e = e
 no_right false b e = refl
-
-not_true : (b : Bool) → not b ≡ true → b ≡ false
-not_true true h = absurd (false≢true h)
-not_true false h = refl
 
 module _ (swaps : Bool) (z : Size) (b x y : Arg) where
   by_tests : (s t u : Bool) → same_arg b x ≡ s → (swaps && same_arg b y) ≡ t → is_free b y ≡ u → is_place b ≡ true → Fits z b → Fits z x
@@ -101,20 +97,17 @@ module _ (swaps : Bool) (z : Size) (b x y : Arg) where
       }
 
   module _ (d : Class) (a o : Operand) (s : Stands d b) (f : Fits z b) (m : Beside z b x a) (n : Beside z b y o) where
-    kept_both : {c : Class} {w : Arg} → Stands c w → not (is_m d && is_m c) ≡ true → (is_kept b && is_kept w) ≡ false
-    kept_both {c} {w} t h = sym (ap (λ k. k && is_kept w) (stands_m s)) ∙ (sym (ap (λ k. is_m d && k) (stands_m t)) ∙ not_true (is_m d && is_m c) h)
-
     register_kept : is_r d ≡ true → is_kept b ≡ false
     register_kept h = let v = variable_of s h in ap is_kept v.1
 
     in_place : is_rm d ≡ true → is_same a ≡ true → not (is_m d && is_m o.class) ≡ true → Brought swaps z b x y
     in_place r h k =
         by_tests (same_arg b x) (swaps && same_arg b y) (is_free b y) refl refl refl (stands_place s r) f m.fits
-        (λ e. kept_both n.stands k) (λ e. absurd (false≢true (sym e ∙ m.same h))) (λ e. absurd (false≢true (sym e ∙ m.same h)))
+        (λ e. kept_both s n.stands k) (λ e. absurd (false≢true (sym e ∙ m.same h))) (λ e. absurd (false≢true (sym e ∙ m.same h)))
 
     in_second : is_rm d ≡ true → swaps ≡ true → is_same o ≡ true → not (is_m d && is_m a.class) ≡ true → Brought swaps z b x y
     in_second r w h k =
-        let c = kept_both m.stands k in
+        let c = kept_both s m.stands k in
         by_tests (same_arg b x) (swaps && same_arg b y) (is_free b y) refl refl refl (stands_place s r) f m.fits
         (λ e. no_left (is_kept b) (is_kept y) (itself (is_kept b) (is_kept x) (kept_same b x e) c))
         (λ e g. c)

@@ -45,7 +45,7 @@ by_inline test true c n h = refl
 by_inline test false c n h = absurd (n h)
 
 -- an operation that has this class is inline, which none is
-two_not : (home : Homes) (test : Class → Bool) → test class.Other ≡ false → test (class.Masked mask.Five) ≡ false → test (class.Masked mask.Six) ≡ false
+pub two_not : (home : Homes) (test : Class → Bool) → test class.Other ≡ false → test (class.Masked mask.Five) ≡ false → test (class.Masked mask.Six) ≡ false
     → (o : BinOp) (a b : Expr) (at : Span) → (is_inline a && is_inline b) ≡ false → IsExpanded home a → IsExpanded home b → test (class_of (expr.Bin o a b at)) ≡ true → ⊥
 two_not home test f g k o a b at n x y h =
     let i = by_inline test (bin_inline o (look_of a) (look_of b)) (masked_class o a b) (masked_none test f g k o a b) (test_at test (expr.Bin o a b at) (Expr-F.Bin o a b at) (out_bin o a b at) h) in

@@ -13,3 +13,4 @@ pub mod Rows
 pub mod Classes
 pub mod KeptLimits
 pub mod Assigned
+pub mod RightSides

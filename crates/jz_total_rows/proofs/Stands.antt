@@ -1,5 +1,5 @@
 -- What stands for an operand of a class: a variable, an access or a cell, a number.
-use Rattle.std.proofs.Common.{◌≡◌, ℕ, ℤ, Bool, true, false, Option, refl, sym, ap, ◌∙◌}
+use Rattle.std.proofs.Common.{◌≡◌, ℕ, ℤ, Bool, true, false, not, ◌&&◌, Option, refl, sym, ap, ◌∙◌}
 use Rattle.std.proofs.lemmas.Bool.{false≢true}
 use Rattle.jz_words.specs.declared.size.Size.{Size}
 use Rattle.jz_select.specs.declared.class.Class.{Class}
@@ -58,3 +58,11 @@ number_of (in_variable z n) h = absurd (false≢true h)
 number_of (in_memory z m) h = absurd (false≢true h)
 number_of (in_frame z c) h = absurd (false≢true h)
 number_of (as_number i) h = (i, refl)
+
+-- of two operands that are not both in memory one is outside
+not_true : (b : Bool) → not b ≡ true → b ≡ false
+not_true true h = absurd (false≢true h)
+not_true false h = refl
+
+pub kept_both : {c e : Class} {b x : Arg} → Stands c b → Stands e x → not (is_m c && is_m e) ≡ true → (is_kept b && is_kept x) ≡ false
+kept_both {c} {e} {b} {x} s t h = sym (ap (λ k. k && is_kept x) (stands_m s)) ∙ (sym (ap (λ k. is_m c && k) (stands_m t)) ∙ not_true (is_m c && is_m e) h)
