@@ -75,10 +75,10 @@ use Rattle.jz_total_rows.proofs.KeptLimits.{two_kept, minus_kept, denial_kept, c
 use Rattle.jz_total_rows.proofs.Rows.{sum_operator, wide_of, RowFound, move_found, sum_found, carry_found, times_found, times_by_found, sign_found, shift_found, shift_by_found, extend_found, lowest_found}
 
 -- ---- one of the rows
-none_more : (P : Type 0) → false ≡ true → P
+pub none_more : (P : Type 0) → false ≡ true → P
 none_more P e = absurd (false≢true e)
 
-either : (P : Type 0) (row rest : Bool) → (row ≡ true → P) → (rest ≡ true → P) → (row || rest) ≡ true → P
+pub either : (P : Type 0) (row rest : Bool) → (row ≡ true → P) → (rest ≡ true → P) → (row || rest) ≡ true → P
 either P row rest f g h = by_part (or_parts row rest h)
   where
     by_part : (row ≡ true) ⊎ (rest ≡ true) → P
@@ -89,7 +89,7 @@ either P row rest f g h = by_part (or_parts row rest h)
 truth_word : (z : Size) → place.truth ≡ place.word z → ⊥
 truth_word z e = absurd cc
 
-first_by : (o : BinOp) (a b : judged.Term) (p : place.Place) (z : Size) → p ≡ place.word z → Operates o a b p → HasType a (place.word z)
+pub first_by : (o : BinOp) (a b : judged.Term) (p : place.Place) (z : Size) → p ≡ place.word z → Operates o a b p → HasType a (place.word z)
 first_by o a b p z e (judged.arithmetic g k m x y) = subst (HasType a) e x
 first_by o a b p z e (judged.carry s k x y) = subst (HasType a) e x
 first_by o a b p z e (judged.shift g k m x y) = subst (HasType a) e x
@@ -100,7 +100,7 @@ first_by o a b p z e (judged.logic g x y) = absurd (truth_word z e)
 shift_not : group.Shift ≡ group.Arith → ⊥
 shift_not e = absurd cc
 
-second_by : (o : BinOp) (a : judged.Term) (b : Expr) (p : place.Place) (z : Size) → p ≡ place.word z → group_of o ≡ group.Arith → is_rmi (class_of b) ≡ true → Operates o a (value b) p → HasType (value b) (place.word z)
+pub second_by : (o : BinOp) (a : judged.Term) (b : Expr) (p : place.Place) (z : Size) → p ≡ place.word z → group_of o ≡ group.Arith → is_rmi (class_of b) ≡ true → Operates o a (value b) p → HasType (value b) (place.word z)
 second_by o a b p z e k h (judged.arithmetic g n m x y) = subst (HasType (value b)) e y
 second_by o a b p z e k h (judged.carry s n x y) = absurd (rmi_no_truth b h y)
 second_by o a b p z e k h (judged.shift g n m x y) = absurd (shift_not (sym g ∙ k))
@@ -109,7 +109,7 @@ second_by o a b p z e k h (judged.words y g m x w) = absurd (truth_word z e)
 second_by o a b p z e k h (judged.logic g x y) = absurd (truth_word z e)
 
 -- ---- operators
-sum_group : (o : BinOp) → (adds o || (joins_bits o && true)) ≡ true → group_of o ≡ group.Arith
+pub sum_group : (o : BinOp) → (adds o || (joins_bits o && true)) ≡ true → group_of o ≡ group.Arith
 sum_group op.Add h = refl
 sum_group op.Sub h = refl
 sum_group op.And h = refl
@@ -135,12 +135,12 @@ pub record AreCarries (o p : BinOp) : Type 0 where
   pub arith : group_of o ≡ group.Arith
   pub sum : place.IsSum p
 
-are_carries : (o p : BinOp) → carries o p ≡ true → AreCarries o p
+pub are_carries : (o p : BinOp) → carries o p ≡ true → AreCarries o p
 are_carries op.Add op.Add h = record { same = refl; is = tt; arith = refl; sum = tt }
 are_carries op.Sub op.Sub h = record { same = refl; is = tt; arith = refl; sum = tt }
 are_carries o p h = absurd (false≢true h)
 
-no_shift : (o : BinOp) → group_of o ≡ group.Arith → is_shift o ≡ false
+pub no_shift : (o : BinOp) → group_of o ≡ group.Arith → is_shift o ≡ false
 no_shift op.Shl h = absurd (shift_not h)
 no_shift op.Shr h = absurd (shift_not h)
 no_shift op.Sar h = absurd (shift_not h)
@@ -148,11 +148,11 @@ no_shift op.Rol h = absurd (shift_not h)
 no_shift op.Ror h = absurd (shift_not h)
 no_shift o h = refl
 
-if_false : {B : Type 0} (b : Bool) (x y w : B) → b ≡ false → (if b then x else y) ≡ w → y ≡ w
+pub if_false : {B : Type 0} (b : Bool) (x y w : B) → b ≡ false → (if b then x else y) ≡ w → y ≡ w
 if_false true x y w e h = absurd (true≢false e)
 if_false false x y w e h = h
 
-if_true : {B : Type 0} (b : Bool) (x y w : B) → b ≡ true → (if b then x else y) ≡ w → x ≡ w
+pub if_true : {B : Type 0} (b : Bool) (x y w : B) → b ≡ true → (if b then x else y) ≡ w → x ≡ w
 if_true true x y w e h = h
 if_true false x y w e h = absurd (false≢true e)
 
@@ -182,7 +182,7 @@ module _ (frame : Frame) (home : Homes) (homing : IsHoming frame home) (z : Size
       by_dest d b r (to_cell v j m w t c o cells s q) h k = absurd (cell_not _ n h)
       by_dest d b r (to_memory a t m c s q) h k = absurd (memory_not _ n h)
 
-  beside_operand : (e : Expr) (O : OperandAs home z e) → Fits z O.arg' → Beside z D.arg' O.arg' (operand_of A d e)
+  pub beside_operand : (e : Expr) (O : OperandAs home z e) → Fits z O.arg' → Beside z D.arg' O.arg' (operand_of A d e)
   beside_operand e O f =
       record {
         stands = O.stands;
@@ -191,7 +191,7 @@ module _ (frame : Frame) (home : Homes) (homing : IsHoming frame home) (z : Size
         fits = f;
       }
 
-  beside_itself : Beside z D.arg' D.arg' (itself d)
+  pub beside_itself : Beside z D.arg' D.arg' (itself d)
   beside_itself =
       record {
         stands = D.stands;

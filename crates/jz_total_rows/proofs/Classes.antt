@@ -37,8 +37,8 @@ use Rattle.jz_total_rows.proofs.InlineValues.{IsNumber, number_is_inline, inline
 use Rattle.jz_total_rows.proofs.Written.{written_is}
 
 -- ---- the class of a form
-test_at : (test : Class → Bool) (e : Expr) (l : Layer) → out-Expr e ≡ l → test (class_of e) ≡ true → test (class_layer l) ≡ true
-test_at test e l s h = sym (ap (λ k. test (class_layer k)) s) ∙ h
+pub class_test : (test : Class → Bool) (e : Expr) (l : Layer) → out-Expr e ≡ l → test (class_of e) ≡ true → test (class_layer l) ≡ true
+class_test test e l s h = sym (ap (λ k. test (class_layer k)) s) ∙ h
 
 by_inline : (test : Class → Bool) (b : Bool) (c : Class) → (test c ≡ true → ⊥) → test (inline_or b c) ≡ true → b ≡ true
 by_inline test true c n h = refl
@@ -48,11 +48,11 @@ by_inline test false c n h = absurd (n h)
 pub two_not : (home : Homes) (test : Class → Bool) → test class.Other ≡ false → test (class.Masked mask.Five) ≡ false → test (class.Masked mask.Six) ≡ false
     → (o : BinOp) (a b : Expr) (at : Span) → (is_inline a && is_inline b) ≡ false → IsExpanded home a → IsExpanded home b → test (class_of (expr.Bin o a b at)) ≡ true → ⊥
 two_not home test f g k o a b at n x y h =
-    let i = by_inline test (bin_inline o (look_of a) (look_of b)) (masked_class o a b) (masked_none test f g k o a b) (test_at test (expr.Bin o a b at) (Expr-F.Bin o a b at) (out_bin o a b at) h) in
+    let i = by_inline test (bin_inline o (look_of a) (look_of b)) (masked_class o a b) (masked_none test f g k o a b) (class_test test (expr.Bin o a b at) (Expr-F.Bin o a b at) (out_bin o a b at) h) in
     let p = and_parts (look_of b).inline (look_of a).inline (and_parts (gives_number o) ((look_of b).inline && (look_of a).inline) i).1 in
     not_both a b n (number_is_inline a (inline_number home a x p.1)) (number_is_inline b (inline_number home b y p.0))
 
-sign_not : (home : Homes) (test : Class → Bool) (a : Expr) → test class.Other ≡ false → is_inline a ≡ false → IsExpanded home a → test (inline_or (look_of a).inline class.Other) ≡ true → ⊥
+pub sign_not : (home : Homes) (test : Class → Bool) (a : Expr) → test class.Other ≡ false → is_inline a ≡ false → IsExpanded home a → test (inline_or (look_of a).inline class.Other) ≡ true → ⊥
 sign_not home test a f n x h =
     false≢true (sym n ∙ number_is_inline a (inline_number home a x (by_inline test (look_of a).inline class.Other (λ e. false≢true (sym f ∙ e)) h)))
 
@@ -65,15 +65,15 @@ home_class home test v (an_array z n w d c) r m o e = absurd (false≢true (sym 
 -- ---- an inline operand is a number
 pub class_number : (home : Homes) (e : Expr) → IsExpanded home e → is_i (class_of e) ≡ true → IsNumber e
 class_number home e (a_number i at) h = (i, at, refl)
-class_number home e (a_truth b at) h = absurd (false≢true (test_at is_i (expr.Bool b at) (Expr-F.Expr::Bool b at) (out_bool b at) h))
-class_number home e (a_variable v x) h = absurd (false≢true (home_class home is_i v x (λ z. refl) (λ z. refl) refl (test_at is_i (expr.Var v) (Expr-F.Var v) (out_var v) h)))
+class_number home e (a_truth b at) h = absurd (false≢true (class_test is_i (expr.Bool b at) (Expr-F.Expr::Bool b at) (out_bool b at) h))
+class_number home e (a_variable v x) h = absurd (false≢true (home_class home is_i v x (λ z. refl) (λ z. refl) refl (class_test is_i (expr.Var v) (Expr-F.Var v) (out_var v) h)))
 class_number home e (a_cell v i x y) h =
-    absurd (no_cell is_i (λ z. refl) (λ z. refl) refl (known_of v) (look_of i).inline (is_index (terms_of i)) (test_at is_i (expr.Cell v i) (Expr-F.Cell v i) (out_cell v i) h))
+    absurd (no_cell is_i (λ z. refl) (λ z. refl) refl (known_of v) (look_of i).inline (is_index (terms_of i)) (class_test is_i (expr.Cell v i) (Expr-F.Cell v i) (out_cell v i) h))
 class_number home e (a_load a x) h =
-    absurd (no_if is_i refl (is_address (terms_of (out-Access a).at)) (class.Mem (out-Access a).size) refl (test_at is_i (expr.Load a) (Expr-F.Load a) (out_load a) h))
-class_number home e (a_minus a at n x) h = absurd (sign_not home is_i a refl n x (test_at is_i (expr.Neg a at) (Expr-F.Neg a at) (out_neg a at) h))
-class_number home e (a_denial a at n x) h = absurd (sign_not home is_i a refl n x (test_at is_i (expr.Not a at) (Expr-F.Not a at) (out_not a at) h))
-class_number home e (a_cast z s a at x) h = absurd (false≢true (test_at is_i (expr.Cast z s a at) (Expr-F.Cast z s a at) (out_cast z s a at) h))
+    absurd (no_if is_i refl (is_address (terms_of (out-Access a).at)) (class.Mem (out-Access a).size) refl (class_test is_i (expr.Load a) (Expr-F.Load a) (out_load a) h))
+class_number home e (a_minus a at n x) h = absurd (sign_not home is_i a refl n x (class_test is_i (expr.Neg a at) (Expr-F.Neg a at) (out_neg a at) h))
+class_number home e (a_denial a at n x) h = absurd (sign_not home is_i a refl n x (class_test is_i (expr.Not a at) (Expr-F.Not a at) (out_not a at) h))
+class_number home e (a_cast z s a at x) h = absurd (false≢true (class_test is_i (expr.Cast z s a at) (Expr-F.Cast z s a at) (out_cast z s a at) h))
 class_number home e (of_two o a b at n x y) h = absurd (two_not home is_i refl refl refl o a b at n x y h)
 
 -- ---- a flag is a variable
@@ -91,20 +91,20 @@ flag_home home v (a_scalar z w d k h) e = absurd (false≢true (sym (ap (λ q. i
 flag_home home v (an_array z n w d c) e = absurd (false≢true (sym (ap (λ q. is_flag (var_class q)) d) ∙ e))
 
 pub flag_variable : (home : Homes) (e : Expr) → IsExpanded home e → is_flag (class_of e) ≡ true → IsFlagVariable home e
-flag_variable home e (a_number i at) h = absurd (false≢true (test_at is_flag (expr.Num i at) (Expr-F.Num i at) (out_num i at) h))
-flag_variable home e (a_truth b at) h = absurd (false≢true (test_at is_flag (expr.Bool b at) (Expr-F.Expr::Bool b at) (out_bool b at) h))
-flag_variable home e (a_variable v x) h = flag_home home v x (test_at is_flag (expr.Var v) (Expr-F.Var v) (out_var v) h)
+flag_variable home e (a_number i at) h = absurd (false≢true (class_test is_flag (expr.Num i at) (Expr-F.Num i at) (out_num i at) h))
+flag_variable home e (a_truth b at) h = absurd (false≢true (class_test is_flag (expr.Bool b at) (Expr-F.Expr::Bool b at) (out_bool b at) h))
+flag_variable home e (a_variable v x) h = flag_home home v x (class_test is_flag (expr.Var v) (Expr-F.Var v) (out_var v) h)
 flag_variable home e (a_cell v i x y) h =
-    absurd (no_cell is_flag (λ z. refl) (λ z. refl) refl (known_of v) (look_of i).inline (is_index (terms_of i)) (test_at is_flag (expr.Cell v i) (Expr-F.Cell v i) (out_cell v i) h))
+    absurd (no_cell is_flag (λ z. refl) (λ z. refl) refl (known_of v) (look_of i).inline (is_index (terms_of i)) (class_test is_flag (expr.Cell v i) (Expr-F.Cell v i) (out_cell v i) h))
 flag_variable home e (a_load a x) h =
-    absurd (no_if is_flag refl (is_address (terms_of (out-Access a).at)) (class.Mem (out-Access a).size) refl (test_at is_flag (expr.Load a) (Expr-F.Load a) (out_load a) h))
-flag_variable home e (a_minus a at n x) h = absurd (sign_flag (look_of a).inline (test_at is_flag (expr.Neg a at) (Expr-F.Neg a at) (out_neg a at) h))
+    absurd (no_if is_flag refl (is_address (terms_of (out-Access a).at)) (class.Mem (out-Access a).size) refl (class_test is_flag (expr.Load a) (Expr-F.Load a) (out_load a) h))
+flag_variable home e (a_minus a at n x) h = absurd (sign_flag (look_of a).inline (class_test is_flag (expr.Neg a at) (Expr-F.Neg a at) (out_neg a at) h))
   where
     sign_flag : (b : Bool) → is_flag (inline_or b class.Other) ≡ true → ⊥
     sign_flag true h = false≢true h
     sign_flag false h = false≢true h
-flag_variable home e (a_denial a at n x) h = absurd (sign_not home is_flag a refl n x (test_at is_flag (expr.Not a at) (Expr-F.Not a at) (out_not a at) h))
-flag_variable home e (a_cast z s a at x) h = absurd (false≢true (test_at is_flag (expr.Cast z s a at) (Expr-F.Cast z s a at) (out_cast z s a at) h))
+flag_variable home e (a_denial a at n x) h = absurd (sign_not home is_flag a refl n x (class_test is_flag (expr.Not a at) (Expr-F.Not a at) (out_not a at) h))
+flag_variable home e (a_cast z s a at x) h = absurd (false≢true (class_test is_flag (expr.Cast z s a at) (Expr-F.Cast z s a at) (out_cast z s a at) h))
 flag_variable home e (of_two o a b at n x y) h = absurd (two_not home is_flag refl refl refl o a b at n x y h)
 
 -- and what a run takes for one
@@ -235,17 +235,17 @@ not_inline longest true c h = absurd (false≢true h)
 not_inline longest false c h = h
 
 pub masked_byte : (home : Homes) (longest : Bool) (e : Expr) → IsExpanded home e → masks longest (class_of e) ≡ true → IsMaskedByte home e (mask_number longest)
-masked_byte home longest e (a_number i at) h = absurd (false≢true (test_at (masks longest) (expr.Num i at) (Expr-F.Num i at) (out_num i at) h))
-masked_byte home longest e (a_truth b at) h = absurd (false≢true (test_at (masks longest) (expr.Bool b at) (Expr-F.Expr::Bool b at) (out_bool b at) h))
+masked_byte home longest e (a_number i at) h = absurd (false≢true (class_test (masks longest) (expr.Num i at) (Expr-F.Num i at) (out_num i at) h))
+masked_byte home longest e (a_truth b at) h = absurd (false≢true (class_test (masks longest) (expr.Bool b at) (Expr-F.Expr::Bool b at) (out_bool b at) h))
 masked_byte home longest e (a_variable v x) h =
-    absurd (false≢true (home_class home (masks longest) v x (λ z. refl) (λ z. refl) refl (test_at (masks longest) (expr.Var v) (Expr-F.Var v) (out_var v) h)))
+    absurd (false≢true (home_class home (masks longest) v x (λ z. refl) (λ z. refl) refl (class_test (masks longest) (expr.Var v) (Expr-F.Var v) (out_var v) h)))
 masked_byte home longest e (a_cell v i x y) h =
-    absurd (no_cell (masks longest) (λ z. refl) (λ z. refl) refl (known_of v) (look_of i).inline (is_index (terms_of i)) (test_at (masks longest) (expr.Cell v i) (Expr-F.Cell v i) (out_cell v i) h))
+    absurd (no_cell (masks longest) (λ z. refl) (λ z. refl) refl (known_of v) (look_of i).inline (is_index (terms_of i)) (class_test (masks longest) (expr.Cell v i) (Expr-F.Cell v i) (out_cell v i) h))
 masked_byte home longest e (a_load a x) h =
-    absurd (no_if (masks longest) refl (is_address (terms_of (out-Access a).at)) (class.Mem (out-Access a).size) refl (test_at (masks longest) (expr.Load a) (Expr-F.Load a) (out_load a) h))
-masked_byte home longest e (a_minus a at n x) h = absurd (false≢true (not_inline longest (look_of a).inline class.Other (test_at (masks longest) (expr.Neg a at) (Expr-F.Neg a at) (out_neg a at) h)))
-masked_byte home longest e (a_denial a at n x) h = absurd (false≢true (not_inline longest (look_of a).inline class.Other (test_at (masks longest) (expr.Not a at) (Expr-F.Not a at) (out_not a at) h)))
-masked_byte home longest e (a_cast z s a at x) h = absurd (false≢true (test_at (masks longest) (expr.Cast z s a at) (Expr-F.Cast z s a at) (out_cast z s a at) h))
+    absurd (no_if (masks longest) refl (is_address (terms_of (out-Access a).at)) (class.Mem (out-Access a).size) refl (class_test (masks longest) (expr.Load a) (Expr-F.Load a) (out_load a) h))
+masked_byte home longest e (a_minus a at n x) h = absurd (false≢true (not_inline longest (look_of a).inline class.Other (class_test (masks longest) (expr.Neg a at) (Expr-F.Neg a at) (out_neg a at) h)))
+masked_byte home longest e (a_denial a at n x) h = absurd (false≢true (not_inline longest (look_of a).inline class.Other (class_test (masks longest) (expr.Not a at) (Expr-F.Not a at) (out_not a at) h)))
+masked_byte home longest e (a_cast z s a at x) h = absurd (false≢true (class_test (masks longest) (expr.Cast z s a at) (Expr-F.Cast z s a at) (out_cast z s a at) h))
 masked_byte home longest e (of_two o a b at n x y) h =
     masked_two home longest o a b at x y
-    (not_inline longest (bin_inline o (look_of a) (look_of b)) (masked_class o a b) (test_at (masks longest) (expr.Bin o a b at) (Expr-F.Bin o a b at) (out_bin o a b at) h))
+    (not_inline longest (bin_inline o (look_of a) (look_of b)) (masked_class o a b) (class_test (masks longest) (expr.Bin o a b at) (Expr-F.Bin o a b at) (out_bin o a b at) h))

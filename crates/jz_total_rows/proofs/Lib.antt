@@ -1,5 +1,6 @@
 pub mod Forms
 pub mod InlineValues
+pub mod OwnSizes
 pub mod Terms
 pub mod Summed
 pub mod Fits
@@ -14,3 +15,5 @@ pub mod Classes
 pub mod KeptLimits
 pub mod Assigned
 pub mod RightSides
+pub mod Comparing
+pub mod Statements

@@ -41,7 +41,7 @@ use Rattle.jz_judgement.proofs.Nothing.{none_not}
 use Rattle.jz_one_row.proofs.Outs.{out_num, out_bool, out_var, out_cell, out_load, out_neg, out_not, out_cast, out_bin}
 use Rattle.jz_meaning.specs.declared.access.Kind as meant
 use Rattle.jz_meaning.specs.declared.access.Kind.TheVariants as kind
-use Rattle.jz_meaning.specs.Values.{size_of, key_of, ref_of}
+use Rattle.jz_meaning.specs.Values.{size_of, key_of, ref_of, own_size}
 use Rattle.jz_limits.specs.declared.limit.Limit.{Limit}
 use Rattle.jz_limits.specs.declared.limit.Limit.TheVariants.{ImmRange}
 use Rattle.jz_limits.specs.declared.looked.Asking.{Asking}
@@ -49,7 +49,7 @@ use Rattle.jz_limits.specs.Values.{no_numbers}
 use Rattle.jz_limits.specs.Asked.{has_displacement, has_index, has_immediate, left_access}
 use Rattle.jz_limits.specs.InnerLooked as found
 use Rattle.jz_limits.specs.InnerLooked.{Seen, if_not}
-use Rattle.jz_limits.proofs.Layers.{look_num, look_cell, look_load}
+use Rattle.jz_limits.proofs.Layers.{own_var, look_num, look_cell, look_load}
 use Rattle.jz_meaning.specs.Assignments.{left_size, as_expr}
 use Rattle.jz_homes.proofs.Parts.{access_size}
 use Rattle.jz_operations.proofs.Somes.{same_some}
@@ -61,6 +61,7 @@ use Rattle.jz_homes.specs.Operands as operands
 use Rattle.jz_homes.specs.Operands.{AreCells, Leaks, silent, told, cell_leaks, IsArg, IsDest, to_word, to_scalar, to_cell, to_memory}
 use Rattle.jz_total_rows.specs.Expanded.{HasHome, a_word, a_flag, a_scalar, an_array, IsExpanded, a_number, a_truth, a_variable, a_cell, a_load, a_minus, a_denial, a_cast, of_two, IsExpandedLeft}
 use Rattle.jz_total_rows.specs.Expanded as left
+use Rattle.jz_total_rows.proofs.OwnSizes.{own_num, own_cell, own_load}
 use Rattle.jz_total_rows.proofs.InlineValues.{number_is_inline, inline_number, not_both}
 use Rattle.jz_total_rows.proofs.Terms.{IsCount, exact, both_counts, HasAddress, address_there, HasIndex, index_there}
 use Rattle.jz_total_rows.proofs.Summed.{AreFields, seen, SumAs, sum_there}
@@ -215,6 +216,7 @@ pub record OperandAs (home : Homes) (z : Size) (e : Expr) : Type 0 where
   -- the size that its class has, if any
   pub sized : (y : Size) → class_size (class_of e) ≡ Some y → y ≡ z
   pub said : Says (value e) z → class_size (class_of e) ≡ Some z
+  pub owns : (y : Size) → own_size e ≡ Some y → y ≡ z
   pub fits : (at : Option Span) → (seen (record { place = at; size = Some z }) e).operand ≡ None → Fits z arg'
 
 goes_of : (v : Var) (p : place.Place) → Types (Expr-F.Var v) p → Goes (known_of v) p
@@ -238,7 +240,7 @@ size_of_access a p z w (judged.bare s x) = bare_size a p z w s
 access_typed : (a : Access) (p : place.Place) (z : Size) → IsWordPlace p z → Types (Expr-F.Load a) p → option_or a.size (Some z) ≡ Some z
 access_typed a p z w (judged.load x) = size_of_access (out-Access a) p z w x
 
-typed_as : (e : Expr) (l : Layer) (p : place.Place) → out-Expr e ≡ l → HasType (value e) p → Types l p
+pub typed_as : (e : Expr) (l : Layer) (p : place.Place) → out-Expr e ≡ l → HasType (value e) p → Types l p
 typed_as e l p s t = subst (λ k. Types k p) s (types_of e p t)
 
 short_some : (i : ℤ) → is_some (if fits_bytes 4 i then Some i else None) ≡ true → fits_bytes 4 i ≡ true
@@ -265,6 +267,7 @@ number_there home z i at =
       is = operands.a_number i at;
       stands = subst (λ c. Stands c (arg.Imm (reading_of z i))) (sym (ap class_layer (out_num i at))) (as_number (reading_of z i));
       sized = λ y h. absurd (none_not y (sym (ap (λ l. class_size (class_layer l)) (out_num i at)) ∙ h));
+      owns = λ y h. absurd (none_not y (sym (own_num i at) ∙ h));
       said = λ h. absurd (number_says i at z (says_at (expr.Num i at) (Expr-F.Num i at) z (out_num i at) h));
       fits = λ p h d l.
           immediate_fits z i
@@ -296,6 +299,7 @@ operand_there home z q e w (a_variable v x) t h =
       leaks = silent;
       is = r.is_arg;
       stands = subst (λ c. Stands c r.arg') (sym (ap class_layer s)) r.stands;
+      owns = λ y k. one_size (own_size (expr.Var v)) z y (own_var v ∙ r.own) k;
       sized = λ y k. one_size (class_size (class_of (expr.Var v))) z y (ap (λ l. class_size (class_layer l)) s ∙ r.sized) k;
       said = λ k. ap (λ l. class_size (class_layer l)) s ∙ r.sized;
       fits = λ p k. r.fits;
@@ -309,6 +313,7 @@ operand_there home z q e w (a_cell v i x y) t h =
       leaks = r.leaks;
       is = r.is_arg;
       stands = subst (λ c. Stands c r.arg') (sym (ap class_layer s)) r.stands;
+      owns = λ y k. one_size (own_size (expr.Cell v i)) z y (own_cell v i ∙ r.own) k;
       sized = λ y k. one_size (class_size (class_of (expr.Cell v i))) z y (ap (λ l. class_size (class_layer l)) s ∙ r.sized) k;
       said = λ k. ap (λ l. class_size (class_layer l)) s ∙ r.sized;
       fits = λ p k. r.fits (record { place = Some (out-Var v).span; size = None }) (sym (ap (λ (q : Seen). q.operand) (look_cell no_numbers (record { place = p; size = Some z }) v i)) ∙ k);
@@ -322,6 +327,7 @@ operand_there home z q e w (a_load a x) t h =
       leaks = told;
       is = r.is_arg;
       stands = subst (λ c. Stands c r.arg') (sym (ap class_layer s)) r.stands;
+      owns = λ y k. asked_size a.size z y asks (sym (own_load a ∙ access_size a) ∙ k);
       sized = λ y k. asked_size a.size z y asks (sym (ap (λ l. class_size (class_layer l)) s ∙ r.sized) ∙ k);
       said = λ k. ap (λ l. class_size (class_layer l)) s ∙ (r.sized ∙ access_says a z (says_at (expr.Load a) (Expr-F.Load a) z s k));
       fits = λ p k.
@@ -377,13 +383,13 @@ known_goes : (k : Known) (z : Size) → IsWordOf z k → Goes k (place.word z)
 known_goes None z h = absurd h
 known_goes (Some d) z h = word_goes d.kind z h
 
-no_array_rm : (home : Homes) (v : Var) → HasHome home v → is_array (known_of v) ≡ true → is_rm (var_class (known_of v)) ≡ true → ⊥
+pub no_array_rm : (home : Homes) (v : Var) → HasHome home v → is_array (known_of v) ≡ true → is_rm (var_class (known_of v)) ≡ true → ⊥
 no_array_rm home v (a_word z n d k h) a e = false≢true (sym (ap is_array d) ∙ a)
 no_array_rm home v (a_flag n d k h) a e = false≢true (sym (ap is_array d) ∙ a)
 no_array_rm home v (a_scalar z w d k h) a e = false≢true (sym (ap is_array d) ∙ a)
 no_array_rm home v (an_array z n w d c) a e = false≢true (sym (ap (λ q. is_rm (var_class q)) d) ∙ e)
 
-no_number_home : (home : Homes) (v : Var) → HasHome home v → IsNumber (known_of v) → ⊥
+pub no_number_home : (home : Homes) (v : Var) → HasHome home v → IsNumber (known_of v) → ⊥
 no_number_home home v (a_word z n d k h) i = subst IsNumber d i
 no_number_home home v (a_flag n d k h) i = subst IsNumber d i
 no_number_home home v (a_scalar z w d k h) i = subst IsNumber d i

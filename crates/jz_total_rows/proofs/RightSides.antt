@@ -53,6 +53,7 @@ use Rattle.jz_homes.specs.Operands.{Leaks, silent, IsArg}
 use Rattle.jz_row_operations.specs.Rows as rows
 use Rattle.jz_row_operations.specs.Table.{is_imm}
 use Rattle.jz_total_rows.specs.Expanded.{IsExpanded, a_number, a_truth, a_variable, a_cell, a_load, a_minus, a_denial, a_cast, of_two}
+use Rattle.jz_total_rows.specs.Covered.{divides_layer}
 use Rattle.jz_total_rows.proofs.Forms.{minus_inline, denial_inline, cast_inline, two_inline}
 use Rattle.jz_total_rows.proofs.InlineValues.{IsNumber, number_is_inline, not_both}
 use Rattle.jz_total_rows.proofs.Summed.{seen}
@@ -66,11 +67,6 @@ use Rattle.jz_total_rows.proofs.Classes.{two_not, class_number, IsFlagVariable, 
 use Rattle.jz_total_rows.proofs.KeptLimits.{two_kept, minus_kept, denial_kept, cast_kept}
 use Rattle.jz_total_rows.proofs.Rows.{RowFound, move_found, carry_found, sign_found, extend_found, lowest_found}
 use Rattle.jz_total_rows.proofs.Assigned.{none_more, either, first_by, second_by, sum_group, AreCarries, are_carries, no_shift, if_false, at_size, IsKept, beside_operand, beside_itself, two_row}
-
--- ---- quotients
-abbrev pub divides_layer : Layer → Bool
-divides_layer (Expr-F.Bin o a b at) = divides o
-divides_layer _ = false
 
 -- ---- parts
 not_true : (b : Bool) → not b ≡ true → b ≡ false

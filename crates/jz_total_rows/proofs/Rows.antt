@@ -41,7 +41,7 @@ use Rattle.jz_total_rows.proofs.Stands.{Stands, is_variable, stands_i, stands_pl
 use Rattle.jz_total_rows.proofs.Bringing.{encode, Beside, Brought, brings, changes_brings}
 
 -- ---- immediates
-not_imm : (x : Arg) → is_imm x ≡ false → NotImm x
+pub not_imm : (x : Arg) → is_imm x ≡ false → NotImm x
 not_imm (arg.Var v) h = tt
 not_imm (arg.Mem m) h = tt
 not_imm (arg.Cell c) h = tt
@@ -59,7 +59,7 @@ not_both_imm (arg.Mem m) y h = tt
 not_both_imm (arg.Cell c) y h = tt
 not_both_imm (arg.At r p) y h = tt
 
-place_not_imm : (x : Arg) → is_place x ≡ true → is_imm x ≡ false
+pub place_not_imm : (x : Arg) → is_place x ≡ true → is_imm x ≡ false
 place_not_imm (arg.Var v) h = refl
 place_not_imm (arg.Mem m) h = refl
 place_not_imm (arg.Cell c) h = refl
