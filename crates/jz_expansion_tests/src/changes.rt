@@ -72,11 +72,45 @@ fn step(of: &Step, out: &mut String) -> Result<(), AllocError> {
             steps(body, out)?;
             out.push_str("}")
         }
-        Step::Arm { .. } => out.push_str("arm"),
-        Step::Once { .. } => out.push_str("once"),
-        Step::Unrolled(_) => out.push_str("rounds"),
-        Step::Opened { .. } => out.push_str("call"),
+        Step::Arm {
+            answer,
+            before: _,
+            part,
+        } => {
+            write!(out, "{answer}{{")?;
+            steps(part, out)?;
+            out.push_str("}")
+        }
+        Step::Once {
+            prologue,
+            before: _,
+        } => {
+            out.push_str("once{")?;
+            steps(prologue, out)?;
+            out.push_str("}")
+        }
+        Step::Unrolled(rounds) => all_rounds(rounds, out),
+        Step::Opened {
+            arguments: _,
+            body: _,
+            results: _,
+        } => out.push_str("call"),
     }
+}
+
+/// The steps of each round; of many rounds how many there are.
+#[cycle(steps)]
+fn all_rounds(rounds: &Seq<Change>, out: &mut String) -> Result<(), AllocError> {
+    if rounds.len() > 1000 {
+        return write!(out, "{} rounds", rounds.len());
+    }
+    out.push_str("rounds")?;
+    for round in rounds.as_slice() {
+        out.push_str("{")?;
+        steps(round, out)?;
+        out.push_str("}")?;
+    }
+    Ok(())
 }
 
 /// The steps of a change, with blanks between.

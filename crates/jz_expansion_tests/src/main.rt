@@ -2,11 +2,16 @@
 //! Standard input has a row a line; lines that begin with `#` say what the rows below are about. Of a
 //! text the last function is asked. The columns stand behind ` => `:
 //!
-//! - `scalars`, the text, the words of its parameters, so many true tests of `while`; what the
-//!   statements become where cells of register arrays are scalars, the steps with the places of the
-//!   numbers that are left, what a run of the function comes to with the numbers that it leaks, and
-//!   what a run of what it becomes comes to;
-//! - `expand`, the same for the expansion, with the count of its statements in place of the steps;
+//! - `inline`, the text, the words of its parameters, so many true tests of `while`; what the
+//!   statements become where each call is a copy, how many statements there are with all that it
+//!   calls and the variables of the frame, what a run of the function comes to with the numbers that
+//!   it leaks, and what a run of what it becomes comes to;
+//! - `columns`, the text; where the statements stand then;
+//! - `unroll`, the text; what the statements become where then each `for` is its rounds, and the
+//!   steps with the places of the numbers that are left, or where a value is missing;
+//! - `scalars`, as `inline`, where cells of register arrays are scalars, with the steps in place of
+//!   count and frame;
+//! - `expand`, as `inline`, for the expansion, with the count of its statements alone;
 //! - `count`, the text; how many statements there are in expanded order, or the first limit.
 //!
 //! 64 bytes of memory begin at 4096; the first of each eight is 1, the others are 0. What is printed

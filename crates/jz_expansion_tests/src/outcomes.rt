@@ -16,6 +16,12 @@ pub struct Given<'a> {
     pub turns: u64,
 }
 
+/// Where nothing is run.
+pub const NOTHING: Given<'static> = Given {
+    words: "",
+    turns: 0,
+};
+
 /// The size of a parameter's words.
 fn size_of(param: &Param) -> Size {
     match kind_of(&param.var) {

@@ -11,6 +11,8 @@ fn operator(op: BinOp) -> &'static str {
         BinOp::Mul => "*",
         BinOp::Div => "/",
         BinOp::Rem => "%",
+        BinOp::And => "&",
+        BinOp::Shl => "<<",
         BinOp::Lt => "<",
         BinOp::Eq => "==",
         _ => "?",
@@ -28,7 +30,8 @@ fn variable(var: &Var, out: &mut String) -> Result<(), AllocError> {
     }
 }
 
-fn variables(vars: &Seq<Var>, out: &mut String) -> Result<(), AllocError> {
+/// Variables, with blanks between.
+pub fn variables(vars: &Seq<Var>, out: &mut String) -> Result<(), AllocError> {
     for (i, var) in vars.as_slice().iter().enumerate() {
         if i > 0 {
             out.push_str(" ")?;
@@ -222,15 +225,29 @@ fn statement(stmt: &Stmt, out: &mut String) -> Result<(), AllocError> {
     }
 }
 
-/// Statements, each with `;` behind it.
+/// Statements, each with `;` behind it; of many how many there are.
 #[cycle(statements)]
 pub fn statements(stmts: &Seq<Stmt>, out: &mut String) -> Result<(), AllocError> {
+    if stmts.len() > 1000 {
+        return write!(out, "{} statements", stmts.len());
+    }
     for (i, stmt) in stmts.as_slice().iter().enumerate() {
         if i > 0 {
             out.push_str(" ")?;
         }
         statement(stmt, out)?;
         out.push_str(";")?;
+    }
+    Ok(())
+}
+
+/// The columns where statements stand, but for those that stand in one.
+pub fn columns(stmts: &Seq<Stmt>, out: &mut String) -> Result<(), AllocError> {
+    for (i, stmt) in stmts.as_slice().iter().enumerate() {
+        if i > 0 {
+            out.push_str(" ")?;
+        }
+        write!(out, "{}", stmt.span.col)?;
     }
     Ok(())
 }

@@ -85,8 +85,9 @@ pub fn stuck(found: Stuck, out: &mut String) -> Result<(), AllocError> {
     write!(out, "stuck {}:{} {} ;", span.line, span.col, why_text(why))
 }
 
-fn at(name: &str, span: Span, out: &mut String) -> Result<(), AllocError> {
-    write!(out, "{name} {}:{}", span.line, span.col)
+/// A word and a place.
+pub fn at(word: &str, place: Span, out: &mut String) -> Result<(), AllocError> {
+    write!(out, "{word} {}:{}", place.line, place.col)
 }
 
 /// Why a function is not expanded.
