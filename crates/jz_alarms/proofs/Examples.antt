@@ -60,19 +60,19 @@ behind g t = at_entry g and adds g (at_entry g) t true
 index_is_met : asks_index eight (behind eight (bin o.Lt (var i) (number 8) here)) s (var i) ≡ None
 index_is_met = refl
 
-index_is_not : asks_index eight (behind eight (bin o.Le (var i) (number 8) here)) s (var i) ≡ Some (record { span = here; why = Bounds; target = named (115 ∷ []) })
+index_is_not : asks_index eight (behind eight (bin o.Le (var i) (number 8) here)) s (var i) ≡ Some (record { span = here; why = Bounds; target = named (115 ∷ []) None })
 index_is_not = refl
 
-index_less_one : asks_index eight (behind eight (bin o.Le (var i) (number 8) here)) s (bin o.Sub (var i) (number 1) here) ≡ Some (record { span = here; why = Bounds; target = named (115 ∷ []) })
+index_less_one : asks_index eight (behind eight (bin o.Le (var i) (number 8) here)) s (bin o.Sub (var i) (number 1) here) ≡ Some (record { span = here; why = Bounds; target = named (115 ∷ []) None })
 index_less_one = refl
 
 constant_index : asks_index eight (at_entry eight) s (number 7) ≡ None
 constant_index = refl
 
-constant_index_past : asks_index eight (at_entry eight) s (number 8) ≡ Some (record { span = here; why = Bounds; target = named (115 ∷ []) })
+constant_index_past : asks_index eight (at_entry eight) s (number 8) ≡ Some (record { span = here; why = Bounds; target = named (115 ∷ []) None })
 constant_index_past = refl
 
-constant_index_below : asks_index eight (at_entry eight) s (num (negsuc 0) here) ≡ Some (record { span = here; why = Bounds; target = named (115 ∷ []) })
+constant_index_below : asks_index eight (at_entry eight) s (num (negsuc 0) here) ≡ Some (record { span = here; why = Bounds; target = named (115 ∷ []) None })
 constant_index_below = refl
 
 masked_index : asks_index eight (at_entry eight) s (bin o.And (var i) (number 7) here) ≡ None
@@ -80,17 +80,17 @@ masked_index = refl
 
 -- ---- what is read has a value; of an index outside and a cell without one Bounds is told
 
-variable_unset : asks eight (λ f. false) (Some S64) (var i) ≡ Some (record { span = here; why = Init; target = named (105 ∷ []) })
+variable_unset : asks eight (λ f. false) (Some S64) (var i) ≡ Some (record { span = here; why = Init; target = named (105 ∷ []) None })
 variable_unset = refl
 
-cell_unset : asks eight (at_entry eight) (Some S64) (cell s (number 3)) ≡ Some (record { span = here; why = Init; target = named (115 ∷ []) })
+cell_unset : asks eight (at_entry eight) (Some S64) (cell s (number 3)) ≡ Some (record { span = here; why = Init; target = named (115 ∷ []) None })
 cell_unset = refl
 
-outside_first : asks eight (at_entry eight) (Some S64) (cell s (number 8)) ≡ Some (record { span = here; why = Bounds; target = named (115 ∷ []) })
+outside_first : asks eight (at_entry eight) (Some S64) (cell s (number 8)) ≡ Some (record { span = here; why = Bounds; target = named (115 ∷ []) None })
 outside_first = refl
 
 -- the index is read before the cell is
-index_unset : asks eight (λ f. false) (Some S64) (cell s (var i)) ≡ Some (record { span = here; why = Init; target = named (105 ∷ []) })
+index_unset : asks eight (λ f. false) (Some S64) (cell s (var i)) ≡ Some (record { span = here; why = Init; target = named (105 ∷ []) None })
 index_unset = refl
 
 abbrev with_cells : ℕ → Facts

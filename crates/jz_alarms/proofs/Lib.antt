@@ -1,3 +1,4 @@
 pub mod Meeting
 pub mod Lawful
 mod Examples
+mod Edges

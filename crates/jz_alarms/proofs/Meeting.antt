@@ -217,7 +217,7 @@ module _ (g : Given) (sizes : Key → Option Size) (entry : Key → ℕ) (s : Fa
   calm_term (cell x i) w p z e =
       let a = both_met (asks g s (Some S64) i) _ e in
       let b = both_met (asks_index g s x i) _ a.1 in
-      let c = met (bounds_of x.kind (interval g s S64 i)) x.span Bounds (named x.name) b.0 in
+      let c = met (bounds_of x.kind (interval g s S64 i)) x.span Bounds (named x.name x.cell) b.0 in
       calm_then (Good (interval g s S64 i) (is_number i) S64) ((means i).run (Some S64) st) (λ v. cell_value x v st.store) (calm_term i (Some S64) p z a.0) (term_ok g sizes entry s st H i p S64 (Some S64)) (λ v h.
       calm_then (λ n. Unit {0}) (index_at x v) (λ n. defined x.span (st.store (cell_key x n))) (index_calm x (interval g s S64 i) (is_number i) v c h) (anything _) (λ n u. calm_defined x.span (st.store (cell_key x n))))
   calm_term (load q a) w p z e =

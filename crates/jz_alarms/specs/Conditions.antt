@@ -32,7 +32,8 @@ use Rattle.jz_intervals.specs.declared.interval.Interval.{Interval}
 use Rattle.jz_facts.specs.Intervals.{size_or_64, interval, is_multiple}
 
 pub data Target : Type 0 where
-  named : List ℕ → Target
+  -- a variable, or a scalar that was this cell of an array in registers
+  named : List ℕ → Option ℕ → Target
   memory : Target
   division : Target
 
@@ -164,7 +165,7 @@ module _ (g : Given) (s : Facts) where
 
   abbrev pub asks_index : Ref → Term → Option Alarm
   asks_index x i =
-      unless (bounds_of x.kind (interval g s S64 i)) x.span Bounds (named x.name)
+      unless (bounds_of x.kind (interval g s S64 i)) x.span Bounds (named x.name x.cell)
 
   abbrev pub divides : BinOp → Size → Term → Bool
   divides o.Div z b = nat_le 1 (interval g s z b).lo
@@ -180,10 +181,10 @@ module _ (g : Given) (s : Facts) where
   abbrev pub asks : Option Size → Term → Option Alarm
   asks w (num i at) = None
   asks w (truth b at) = None
-  asks w (var x) = unless (s (Set (key_of x))) x.span Init (named x.name)
+  asks w (var x) = unless (s (Set (key_of x))) x.span Init (named x.name x.cell)
   asks w (cell x i) =
       or_else (asks (Some S64) i)
-      (or_else (asks_index x i) (unless (cell_set x x.kind i) x.span Init (named x.name)))
+      (or_else (asks_index x i) (unless (cell_set x x.kind i) x.span Init (named x.name x.cell)))
   asks w (load p a) =
       or_else (asks (Some S64) a) (asks_access p (size_or_64 (option_or p.size w)) a)
   asks w (neg a at) = asks (option_or w (size_in a)) a
@@ -256,7 +257,7 @@ abbrev pub asks_results : List Var → Facts → Option Alarm
 asks_results [] s = None
 asks_results (x ∷ xs) s =
     let r = ref_of x in
-    or_else (unless (s (Set (key_of r))) r.span Init (named r.name)) (asks_results xs s)
+    or_else (unless (s (Set (key_of r))) r.span Init (named r.name r.cell)) (asks_results xs s)
 
 abbrev pub asks_operation : Given → Operation → Facts → Option Alarm
 asks_operation g (assign to o e c at) s = asks_assign g s to (whole_of (last_left to) o e) c

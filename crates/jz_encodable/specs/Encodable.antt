@@ -33,3 +33,6 @@ is_spelled_at d a = is_spelled (insn_of (λ v. place.Reg reg.Rax) (λ v. d) a)
 
 abbrev pub can_encode : Action → Bool
 can_encode a = is_spelled_at 0 a && is_spelled_at 65536 a
+
+abbrev pub CanEncode : Action → Type 0
+CanEncode a = IsTrue (can_encode a)

@@ -106,17 +106,11 @@ module _ (m : ℕ) (e : is_among m multiples ≡ true) where
   product_value_right at (boolean c) (integer j) n p = tt
   product_value_right at (boolean c) (boolean d) n p = tt
 
-  mask_value : (at : Span) (i : ℤ) (y : Value) → NotNumbers (integer i) y → MultipleWord m (integer i) → Yields (MultipleWord m) (combined o.And at (integer i) y)
+  mask_value : (at : Span) (x : Value) (j : ℤ) → NotNumbers x (integer j) → MultipleWord m (integer j) → Yields (MultipleWord m) (combined o.And at x (integer j))
   unfolding combined
-  mask_value at i (word t b) n p = masked m e (residue t i) b (p t)
-  mask_value at i (integer j) n p = absurd n
-  mask_value at i (boolean c) n p = tt
-
-  mask_value_right : (at : Span) (x : Value) (j : ℤ) → NotNumbers x (integer j) → MultipleWord m (integer j) → Yields (MultipleWord m) (combined o.And at x (integer j))
-  unfolding combined
-  mask_value_right at (word s a) j n p = masked_right m e a (residue s j) (p s)
-  mask_value_right at (integer i) j n p = absurd n
-  mask_value_right at (boolean c) j n p = tt
+  mask_value at (word s a) j n p = masked_right m e a (residue s j) (p s)
+  mask_value at (integer i) j n p = absurd n
+  mask_value at (boolean c) j n p = tt
 
   shifted_value : (at : Span) (w : Option Size) (k : Bool) (n : ℕ) (x : Value) → (k && true) ≡ false → OnlyNumber k x → 2 ^ n % m ≡ 0 → Yields (MultipleWord m) (defined at (shifted o.Shl w x (integer (pos n))))
   unfolding shifted
@@ -145,13 +139,9 @@ module _ (m : ℕ) (e : is_among m multiples ≡ true) where
   unfolding binary
   product_binary_right at w x y n p = product_value_right at x y n p
 
-  mask_binary : (at : Span) (w : Option Size) (i : ℤ) (y : Value) → NotNumbers (integer i) y → MultipleWord m (integer i) → Yields (MultipleWord m) (binary o.And at w (integer i) y)
+  mask_binary : (at : Span) (w : Option Size) (x : Value) (j : ℤ) → NotNumbers x (integer j) → MultipleWord m (integer j) → Yields (MultipleWord m) (binary o.And at w x (integer j))
   unfolding binary
-  mask_binary at w i y n p = mask_value at i y n p
-
-  mask_binary_right : (at : Span) (w : Option Size) (x : Value) (j : ℤ) → NotNumbers x (integer j) → MultipleWord m (integer j) → Yields (MultipleWord m) (binary o.And at w x (integer j))
-  unfolding binary
-  mask_binary_right at w x j n p = mask_value_right at x j n p
+  mask_binary at w x j n p = mask_value at x j n p
 
   shifted_binary : (at : Span) (w : Option Size) (k : Bool) (n : ℕ) (x : Value) → (k && true) ≡ false → OnlyNumber k x → 2 ^ n % m ≡ 0 → Yields (MultipleWord m) (binary o.Shl at w x (integer (pos n)))
   unfolding binary
@@ -261,15 +251,9 @@ module _ (g : Given) (sizes : Key → Option Size) (entry : Key → ℕ) (s : Fa
         one (inr q) f k =
             let v = left_wanted o.Mul w (size_in a) (size_in b) in
             both o.Mul at v a b (λ x. Unit {0}) (MultipleWord m) (MultipleWord m) (λ x. refl) p.1 p.2 p.0 (λ u. anything ((means a).run u st)) (k q) (λ x y n i j. product_binary_right m e at v x y n j)
-    multiple_word (bin o.And a b at) p w h = one (either (is_number_times a m) (is_number_times b m) h)
-      where
-        one : (is_number_times a m ≡ true) ⊎ (is_number_times b m ≡ true) → Yields (MultipleWord m) ((means (bin o.And a b at)).run w st)
-        one (inl q) =
-            let v = left_wanted o.And w (size_in a) (size_in b) in
-            both o.And at v a b (IsNumber) (λ y. Unit {0}) (MultipleWord m) (λ x. refl) p.1 p.2 p.0 (λ u. number_left a u q) (λ u. anything ((means b).run u st)) (λ x y n i j. subst (λ c. NotNumbers c y → Yields (MultipleWord m) (binary o.And at v c y)) (sym i.1.0) (λ k. mask_binary m e at v i.0 y k i.1.1) n)
-        one (inr q) =
-            let v = left_wanted o.And w (size_in a) (size_in b) in
-            both o.And at v a b (λ x. Unit {0}) (IsNumber) (MultipleWord m) (λ x. refl) p.1 p.2 p.0 (λ u. anything ((means a).run u st)) (λ u. number_left b u q) (λ x y n i j. subst (λ c. NotNumbers x c → Yields (MultipleWord m) (binary o.And at v x c)) (sym j.1.0) (λ k. mask_binary_right m e at v x j.0 k j.1.1) n)
+    multiple_word (bin o.And a b at) p w h =
+        let v = left_wanted o.And w (size_in a) (size_in b) in
+        both o.And at v a b (λ x. Unit {0}) (IsNumber) (MultipleWord m) (λ x. refl) p.1 p.2 p.0 (λ u. anything ((means a).run u st)) (λ u. number_left b u h) (λ x y n i j. subst (λ c. NotNumbers x c → Yields (MultipleWord m) (binary o.And at v x c)) (sym j.1.0) (λ k. mask_binary m e at v x j.0 k j.1.1) n)
     multiple_word (bin o.Shl a (num (pos n) t) at) p w h =
         let v = left_wanted o.Shl w (size_in a) None in
         yields_then (OnlyNumber (is_number a)) (MultipleWord m) ((means a).run v st) (with_right o.Shl (means (num (pos n) t)).run at v st) (only_number a v p.1) (λ x hx.

@@ -24,7 +24,7 @@ use Rattle.jz_terms.specs.Terms.{Term, num, truth, var, cell, load, neg, inv, ca
 use Rattle.jz_facts.specs.Facts.{AtLeast, AtMost, Under, Facts, Start, Given, hi_of, greatest, least}
 use Rattle.jz_intervals.specs.declared.interval.Interval.{Interval}
 use Rattle.jz_intervals.specs.Intervals.{greatest_word, each_word, where_so, sum, difference, product, mask, quotient, remainder, shifted_by, fitted}
-use Rattle.jz_facts.specs.Intervals.{size_or_64, under_most, of_variable, interval}
+use Rattle.jz_facts.specs.Intervals.{size_or_64, is_flag, under_most, of_variable, interval}
 use Rattle.jz_fact_laws.specs.Saying.{HasWord, InRanges, Fits, Holds, Yields, In, HasSize, is_number, IsSized, IsPlain}
 use Rattle.jz_integers.specs.Integers as numbers
 use Rattle.jz_facts.proofs.Narrowing.{div_more, power_some}
@@ -340,6 +340,15 @@ module _ (g : Given) (sizes : Key → Option Size) (entry : Key → ℕ) (s : Fa
       (λ s a c f h m. (below_all s _, λ e. subst (λ v. In (difference z i j) ((a + modulus v - (0 + carried c)) % modulus v)) (sym e) (difference_in z i j a (carried c) (0 + carried c) (subst (λ v. a < modulus v) e f) (h e) m (omega arith))))
       (λ c. tt) p q
 
+  -- with a flag they give each word
+  add_flag : (c : Bool) (at : Span) (w : Option Size) (z : Size) (i j : Interval) (k l : Bool) (x y : Value) → (k && l) ≡ false → Good i k z x → Good j l z y → Yields (Good (if c then each_word z else sum z i j) (k && l) z) (binary o.Add at w x y)
+  add_flag true at w z i j k l x y n p q = plain_case o.Add at w z i j k l x y refl n p q
+  add_flag false at w z i j k l x y n p q = add_case at w z i j k l x y n p q
+
+  sub_flag : (c : Bool) (at : Span) (w : Option Size) (z : Size) (i j : Interval) (k l : Bool) (x y : Value) → (k && l) ≡ false → Good i k z x → Good j l z y → Yields (Good (if c then each_word z else difference z i j) (k && l) z) (binary o.Sub at w x y)
+  sub_flag true at w z i j k l x y n p q = plain_case o.Sub at w z i j k l x y refl n p q
+  sub_flag false at w z i j k l x y n p q = sub_case at w z i j k l x y n p q
+
   mul_case : (at : Span) (w : Option Size) (z : Size) (i j : Interval) (k l : Bool) (x y : Value) → (k && l) ≡ false → Good i k z x → Good j l z y → Yields (Good (product z i j) (k && l) z) (binary o.Mul at w x y)
   unfolding binary
   mul_case at w z i j k l x y n p q = combine o.Mul at z (product z i j) i j k l x y n
@@ -423,8 +432,8 @@ module _ (g : Given) (sizes : Key → Option Size) (entry : Key → ℕ) (s : Fa
   term_ok (bin o.Sar a b at) p z w = runs_good o.Sar at (left_wanted o.Sar w (size_in a) (size_in b)) z (each_word z) (interval g s z a) (interval g s z b) (is_number a) (is_number b) (means a).run (means b).run (term_ok a p.1 z) (term_ok b p.2 z) (λ x q e. absurd (cc e)) (λ x y q r. shift_case o.Sar at (left_wanted o.Sar w (size_in a) (size_in b)) z (interval g s z a) (interval g s z b) (is_number a) (is_number b) x y refl p.0 q r)
   term_ok (bin o.Rol a b at) p z w = runs_good o.Rol at (left_wanted o.Rol w (size_in a) (size_in b)) z (each_word z) (interval g s z a) (interval g s z b) (is_number a) (is_number b) (means a).run (means b).run (term_ok a p.1 z) (term_ok b p.2 z) (λ x q e. absurd (cc e)) (λ x y q r. shift_case o.Rol at (left_wanted o.Rol w (size_in a) (size_in b)) z (interval g s z a) (interval g s z b) (is_number a) (is_number b) x y refl p.0 q r)
   term_ok (bin o.Ror a b at) p z w = runs_good o.Ror at (left_wanted o.Ror w (size_in a) (size_in b)) z (each_word z) (interval g s z a) (interval g s z b) (is_number a) (is_number b) (means a).run (means b).run (term_ok a p.1 z) (term_ok b p.2 z) (λ x q e. absurd (cc e)) (λ x y q r. shift_case o.Ror at (left_wanted o.Ror w (size_in a) (size_in b)) z (interval g s z a) (interval g s z b) (is_number a) (is_number b) x y refl p.0 q r)
-  term_ok (bin o.Add a b at) p z w = runs_good o.Add at (left_wanted o.Add w (size_in a) (size_in b)) z (sum z (interval g s z a) (interval g s z b)) (interval g s z a) (interval g s z b) (is_number a) (is_number b) (means a).run (means b).run (term_ok a p.1 z) (term_ok b p.2 z) (λ x q e. absurd (cc e)) (λ x y q r. add_case at (left_wanted o.Add w (size_in a) (size_in b)) z (interval g s z a) (interval g s z b) (is_number a) (is_number b) x y p.0 q r)
-  term_ok (bin o.Sub a b at) p z w = runs_good o.Sub at (left_wanted o.Sub w (size_in a) (size_in b)) z (difference z (interval g s z a) (interval g s z b)) (interval g s z a) (interval g s z b) (is_number a) (is_number b) (means a).run (means b).run (term_ok a p.1 z) (term_ok b p.2 z) (λ x q e. absurd (cc e)) (λ x y q r. sub_case at (left_wanted o.Sub w (size_in a) (size_in b)) z (interval g s z a) (interval g s z b) (is_number a) (is_number b) x y p.0 q r)
+  term_ok (bin o.Add a b at) p z w = runs_good o.Add at (left_wanted o.Add w (size_in a) (size_in b)) z (if is_flag b then each_word z else sum z (interval g s z a) (interval g s z b)) (interval g s z a) (interval g s z b) (is_number a) (is_number b) (means a).run (means b).run (term_ok a p.1 z) (term_ok b p.2 z) (λ x q e. absurd (cc e)) (λ x y q r. add_flag (is_flag b) at (left_wanted o.Add w (size_in a) (size_in b)) z (interval g s z a) (interval g s z b) (is_number a) (is_number b) x y p.0 q r)
+  term_ok (bin o.Sub a b at) p z w = runs_good o.Sub at (left_wanted o.Sub w (size_in a) (size_in b)) z (if is_flag b then each_word z else difference z (interval g s z a) (interval g s z b)) (interval g s z a) (interval g s z b) (is_number a) (is_number b) (means a).run (means b).run (term_ok a p.1 z) (term_ok b p.2 z) (λ x q e. absurd (cc e)) (λ x y q r. sub_flag (is_flag b) at (left_wanted o.Sub w (size_in a) (size_in b)) z (interval g s z a) (interval g s z b) (is_number a) (is_number b) x y p.0 q r)
   term_ok (bin o.Mul a b at) p z w = runs_good o.Mul at (left_wanted o.Mul w (size_in a) (size_in b)) z (product z (interval g s z a) (interval g s z b)) (interval g s z a) (interval g s z b) (is_number a) (is_number b) (means a).run (means b).run (term_ok a p.1 z) (term_ok b p.2 z) (λ x q e. absurd (cc e)) (λ x y q r. mul_case at (left_wanted o.Mul w (size_in a) (size_in b)) z (interval g s z a) (interval g s z b) (is_number a) (is_number b) x y p.0 q r)
   term_ok (bin o.Div a b at) p z w = runs_good o.Div at (left_wanted o.Div w (size_in a) (size_in b)) z (quotient z (interval g s z a) (interval g s z b)) (interval g s z a) (interval g s z b) (is_number a) (is_number b) (means a).run (means b).run (term_ok a p.1 z) (term_ok b p.2 z) (λ x q e. absurd (cc e)) (λ x y q r. div_case at (left_wanted o.Div w (size_in a) (size_in b)) z (interval g s z a) (interval g s z b) (is_number a) (is_number b) x y p.0 q r)
   term_ok (bin o.Rem a b at) p z w = runs_good o.Rem at (left_wanted o.Rem w (size_in a) (size_in b)) z (remainder z (interval g s z b)) (interval g s z a) (interval g s z b) (is_number a) (is_number b) (means a).run (means b).run (term_ok a p.1 z) (term_ok b p.2 z) (λ x q e. absurd (cc e)) (λ x y q r. rem_case at (left_wanted o.Rem w (size_in a) (size_in b)) z (interval g s z a) (interval g s z b) (is_number a) (is_number b) x y p.0 q r)

@@ -107,7 +107,7 @@ fn settled<K: Knows>(set: &K, op: BinOp, left: &Expr, right: &Expr, m: Times) ->
             }
         }
         BinOp::Shl => Some(is_power_times(right, m)),
-        BinOp::And => Some(is_number_times(left, m) || is_number_times(right, m)),
+        BinOp::And => Some(is_number_times(right, m)),
         _ => Some(false),
     }
 }

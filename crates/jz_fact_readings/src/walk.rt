@@ -4,13 +4,15 @@ ghost use Rattle.std.specs.Prelude.{◌≡◌, ◌≤◌};
 ghost use Rattle.jz_tree.specs.LeftSides.{IsSingle};
 ghost use Rattle.jz_integers.specs.InnerLeftSides.{left_at, left_of};
 ghost use Rattle.jz_tree.specs.Span.{Span};
+ghost use Rattle.jz_tree.specs.declared.expr.BinOp.TheVariants.{Add, Sub};
+ghost use Rattle.jz_meaning.specs.Assignments as assignments;
 ghost use Rattle.jz_terms.specs.Terms.{num, term_of};
 ghost use Rattle.jz_facts.specs.Intervals as intervals;
 
 use crate::known::Knows;
 use crate::sides::{down, way_down};
 use jz_intervals::Interval;
-use jz_meaning::own_size;
+use jz_meaning::{Kind, kind_of, own_size};
 use jz_tree::{BinOp, Expr};
 use x64_insn::{Size, residue};
 
@@ -77,8 +79,8 @@ fn operation<K: Knows>(set: &K, size: Size, op: BinOp, left: Interval, right: &E
         (term_of right.now) }
 {
     match op {
-        BinOp::Add => left.sum(interval(set, size, right), size),
-        BinOp::Sub => left.difference(interval(set, size, right), size),
+        BinOp::Add => sum(size, left, interval(set, size, right), right),
+        BinOp::Sub => difference(size, left, interval(set, size, right), right),
         BinOp::Mul => left.product(interval(set, size, right), size),
         BinOp::And => left.mask(interval(set, size, right)),
         BinOp::Div => left.quotient(interval(set, size, right), size),
@@ -86,6 +88,55 @@ fn operation<K: Knows>(set: &K, size: Size, op: BinOp, left: Interval, right: &E
         BinOp::Shr => shifted(size, left, right),
         _ => Interval::each(size),
     }
+}
+
+/// Whether an expression is a flag.
+fn is_flag(e: &Expr) -> bool
+    ensures { result ≡ intervals.is_flag (term_of e.now) }
+{
+    match e {
+        Expr::Num(_, _) => false,
+        Expr::Bool(_, _) => false,
+        Expr::Var(var) => is_bool(kind_of(var)),
+        Expr::Cell(_, _) => false,
+        Expr::Load(_) => false,
+        Expr::Neg(_, _) => false,
+        Expr::Not(_, _) => false,
+        Expr::Cast { .. } => false,
+        Expr::Bin(_, _, _, _) => false,
+    }
+}
+
+fn is_bool(kind: Kind) -> bool
+    ensures { result ≡ assignments.is_bool kind }
+{
+    match kind {
+        Kind::Undeclared => false,
+        Kind::Int => false,
+        Kind::Bool => true,
+        Kind::Word(_) => false,
+        Kind::Array(_, _) => false,
+    }
+}
+
+/// The interval of a sum, by those of its operands; with a flag on the right any word.
+fn sum(size: Size, left: Interval, of_right: Interval, right: &Expr) -> Interval
+    ensures { result ≡ intervals.of_operation size Add left of_right (term_of right.now) }
+{
+    if is_flag(right) {
+        return Interval::each(size);
+    }
+    left.sum(of_right, size)
+}
+
+/// The same of a difference.
+fn difference(size: Size, left: Interval, of_right: Interval, right: &Expr) -> Interval
+    ensures { result ≡ intervals.of_operation size Sub left of_right (term_of right.now) }
+{
+    if is_flag(right) {
+        return Interval::each(size);
+    }
+    left.difference(of_right, size)
 }
 
 fn shifted_by_number(size: Size, left: Interval, n: i128) -> Interval

@@ -4,7 +4,7 @@ ghost use Rattle.std.specs.Prelude.{◌≡◌};
 ghost use Rattle.jz_facts.specs.Facts.{hi_of};
 ghost use Rattle.jz_fact_sets.specs.Kept.{start_of};
 
-use jz_intervals::{Interval, greatest_word, lower};
+use jz_intervals::{Interval, greatest_word};
 use jz_tree::Var;
 use x64_insn::Size;
 
@@ -27,14 +27,13 @@ pub struct Region {
 }
 
 impl Parameter {
-    /// The greatest value that it may have at entry.
+    /// The end of its range, else the greatest word.
     pub fn hi(&self) -> u64
         ensures { result ≡ hi_of (start_of self.now) }
     {
-        let most = greatest_word(self.size);
         match self.range {
-            None => most,
-            Some(range) => lower(range.hi, most),
+            None => greatest_word(self.size),
+            Some(range) => range.hi,
         }
     }
 }

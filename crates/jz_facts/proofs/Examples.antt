@@ -199,6 +199,29 @@ under_any = refl
 under_zero : interval (counted (from_to 0 0)) below_n S64 (var v) ≡ just 0 0
 under_zero = refl
 
+-- a range may end past the size: the end less 1 is cut at the greatest word
+abbrev short_bound : Given
+short_bound = record { consts = numbers; params = start b S8 (from_to 0 1000) ∷ []; regions = [] }
+
+under_long_range : interval short_bound below_n S8 (var a) ≡ just 0 255
+under_long_range = refl
+
+-- with a flag a sum and a difference say nothing, whatever is known of the word: here that it is at
+-- least and at most 0 at once
+abbrev flag : Ref
+flag = record { name = 99 ∷ []; copy = 0; cell = None; kind = kind.Bool; span = here }
+
+abbrev against_itself : Facts
+against_itself (AtLeast k m) = true
+against_itself (AtMost k m) = true
+against_itself f = false
+
+sum_with_flag : interval (two None None) against_itself S64 (bin o.Add (var x) (var flag) here) ≡ just 0 word_most
+sum_with_flag = refl
+
+difference_with_flag : interval (two None None) against_itself S64 (bin o.Sub (var x) (var flag) here) ≡ just 0 word_most
+difference_with_flag = refl
+
 -- ---- multiples
 
 abbrev aligned : ℕ → Given
@@ -237,8 +260,12 @@ product_with_eight = refl
 shifted_by_three : of_aligned 1 (bin o.Shl (var y) (number 3) here) 8 ≡ true
 shifted_by_three = refl
 
-masked_by_24 : of_aligned 1 (bin o.And (number 24) (var y) here) 8 ≡ true
+masked_by_24 : of_aligned 1 (bin o.And (var y) (number 24) here) 8 ≡ true
 masked_by_24 = refl
+
+-- the number stands on the right
+mask_on_the_left : of_aligned 1 (bin o.And (number 24) (var y) here) 8 ≡ false
+mask_on_the_left = refl
 
 joined_with_eight : of_aligned 8 (bin o.Or (var x) (number 8) here) 8 ≡ false
 joined_with_eight = refl

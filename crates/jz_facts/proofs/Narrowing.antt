@@ -13,7 +13,7 @@ use Rattle.jz_terms.specs.Terms.{Term, num, truth, var, cell, load, neg, inv, ca
 use Rattle.jz_intervals.specs.declared.interval.Interval.{Interval}
 use Rattle.jz_intervals.specs.Intervals.{greatest_word, each_word, where_so, sum, difference, product, mask, quotient, remainder, shifted_by, fitted}
 use Rattle.jz_facts.specs.Facts.{AtLeast, AtMost, Under, Multiple, Facts, Start, Given, greatest, least, hi_of, multiples}
-use Rattle.jz_facts.specs.Intervals.{size_or_64, under_most, of_variable, interval, has_multiple, is_number_times, multiple}
+use Rattle.jz_facts.specs.Intervals.{size_or_64, is_flag, under_most, of_variable, interval, has_multiple, is_number_times, multiple}
 
 -- ---- tests
 
@@ -156,6 +156,10 @@ module _ (g : Given) (s : Facts) where
   each_below : (z : Size) → (each_word z).hi ≤ greatest_word z
   each_below z = omega arith
 
+  if_below : (c : Bool) (z : Size) (i : Interval) → i.hi ≤ greatest_word z → (if c then each_word z else i).hi ≤ greatest_word z
+  if_below true z i h = each_below z
+  if_below false z i h = h
+
   -- the end of an interval is a word
   pub hi_below : (z : Size) (t : Term) → (interval g s z t).hi ≤ greatest_word z
   hi_below z (num i at) = let l = residue_below z i in omega (arith, l)
@@ -170,8 +174,8 @@ module _ (g : Given) (s : Facts) where
   hi_below z (inv a at) = each_below z
   hi_below z (cast y true a at) = each_below z
   hi_below z (cast y false a at) = let i = interval g s (size_or_64 (size_in a)) a in where_below (nat_le i.hi (greatest_word z)) z (min i.lo (greatest_word z)) i.hi (λ c. grind (arith, rules, c))
-  hi_below z (bin o.Add a b at) = let i = interval g s z a in let j = interval g s z b in where_below (nat_le (i.hi + j.hi) (greatest_word z)) z (min (i.lo + j.lo) (greatest_word z)) (i.hi + j.hi) (λ c. grind (arith, rules, c))
-  hi_below z (bin o.Sub a b at) = let i = interval g s z a in let j = interval g s z b in let l = hi_below z a in where_below (nat_le j.hi i.lo) z (i.lo - j.hi) (i.hi - j.lo) (λ c. omega (arith, l))
+  hi_below z (bin o.Add a b at) = let i = interval g s z a in let j = interval g s z b in if_below (is_flag b) z (sum z i j) (where_below (nat_le (i.hi + j.hi) (greatest_word z)) z (min (i.lo + j.lo) (greatest_word z)) (i.hi + j.hi) (λ c. grind (arith, rules, c)))
+  hi_below z (bin o.Sub a b at) = let i = interval g s z a in let j = interval g s z b in let l = hi_below z a in if_below (is_flag b) z (difference z i j) (where_below (nat_le j.hi i.lo) z (i.lo - j.hi) (i.hi - j.lo) (λ c. omega (arith, l)))
   hi_below z (bin o.Mul a b at) = let i = interval g s z a in let j = interval g s z b in where_below (nat_le (i.hi * j.hi) (greatest_word z)) z (min (i.lo * j.lo) (greatest_word z)) (i.hi * j.hi) (λ c. grind (arith, rules, c))
   hi_below z (bin o.And a b at) = let l = hi_below z a in omega (arith, l)
   hi_below z (bin o.Div a b at) = let i = interval g s z a in let j = interval g s z b in let l = hi_below z a in let n = div-le_self i.hi j.lo in where_below (nat_le 1 j.lo) z (i.lo / max j.hi 1) (i.hi / j.lo) (λ c. omega (arith, l, n))
@@ -224,6 +228,10 @@ module _ (g : Given) (s t : Facts) (h : Below s t) where
       let b = least_more (λ c. s (AtMost v c)) (λ c. t (AtMost v c)) (greatest_word z) g.consts (λ c. h (AtMost v c)) in
       (omega (arith, a), under_more v _ _ g.params b)
 
+  if_narrow : (c : Bool) (z : Size) (i j : Interval) → Narrow i j → Narrow (if c then each_word z else i) (if c then each_word z else j)
+  if_narrow true z i j h = same_narrow _
+  if_narrow false z i j h = h
+
   pub narrow : (z : Size) (e : Term) → Narrow (interval g s z e) (interval g t z e)
   narrow z (num i at) = same_narrow _
   narrow z (truth b at) = same_narrow _
@@ -234,8 +242,8 @@ module _ (g : Given) (s t : Facts) (h : Below s t) where
   narrow z (inv a at) = same_narrow _
   narrow z (cast y true a at) = same_narrow _
   narrow z (cast y false a at) = fitted_narrow z (interval g s (size_or_64 (size_in a)) a) (interval g t (size_or_64 (size_in a)) a) (narrow (size_or_64 (size_in a)) a)
-  narrow z (bin o.Add a b at) = sum_narrow z (interval g s z a) (interval g s z b) (interval g t z a) (interval g t z b) (narrow z a) (narrow z b)
-  narrow z (bin o.Sub a b at) = difference_narrow z (interval g s z a) (interval g s z b) (interval g t z a) (interval g t z b) (hi_below g t z a) (narrow z a) (narrow z b)
+  narrow z (bin o.Add a b at) = if_narrow (is_flag b) z (sum z (interval g s z a) (interval g s z b)) (sum z (interval g t z a) (interval g t z b)) (sum_narrow z (interval g s z a) (interval g s z b) (interval g t z a) (interval g t z b) (narrow z a) (narrow z b))
+  narrow z (bin o.Sub a b at) = if_narrow (is_flag b) z (difference z (interval g s z a) (interval g s z b)) (difference z (interval g t z a) (interval g t z b)) (difference_narrow z (interval g s z a) (interval g s z b) (interval g t z a) (interval g t z b) (hi_below g t z a) (narrow z a) (narrow z b))
   narrow z (bin o.Mul a b at) = product_narrow z (interval g s z a) (interval g s z b) (interval g t z a) (interval g t z b) (narrow z a) (narrow z b)
   narrow z (bin o.And a b at) = mask_narrow (interval g s z a) (interval g s z b) (interval g t z a) (interval g t z b) (narrow z a) (narrow z b)
   narrow z (bin o.Div a b at) = quotient_narrow z (interval g s z a) (interval g s z b) (interval g t z a) (interval g t z b) (hi_below g t z a) (narrow z a) (narrow z b)

@@ -1,6 +1,6 @@
 -- Facts over the scalars and the stack arrays of an expanded function, and what is given of its
 -- parameters.
-use Rattle.std.specs.Prelude.{ℕ, ◌%◌, nat_le, ◌==◌, Bool, false, ◌&&◌, ◌||◌, List, [], ◌∷◌, Option, Some, None, min, if◌then◌else◌}
+use Rattle.std.specs.Prelude.{ℕ, ◌%◌, nat_le, ◌==◌, Bool, false, ◌&&◌, ◌||◌, List, [], ◌∷◌, Option, Some, None, if◌then◌else◌}
 use Rattle.x64_insn.specs.Size.{Size}
 use Rattle.jz_intervals.specs.declared.interval.Interval.{Interval}
 use Rattle.jz_intervals.specs.Intervals.{greatest_word}
@@ -74,7 +74,7 @@ hi_of p = by p.range
   where
     by : Option Interval → ℕ
     by None = greatest_word p.size
-    by (Some i) = min i.hi (greatest_word p.size)
+    by (Some i) = i.hi
 
 -- the least value that a parameter may have at entry
 abbrev pub least_of : List Start → Key → ℕ

@@ -7,6 +7,7 @@ use Rattle.jz_tree.specs.declared.expr.BinOp.{BinOp}
 use Rattle.jz_tree.specs.declared.expr.BinOp.TheVariants as o
 use Rattle.jz_meaning.specs.States.{Key}
 use Rattle.jz_meaning.specs.Values.{key_of}
+use Rattle.jz_meaning.specs.Assignments.{is_bool}
 use Rattle.jz_terms.specs.Terms.{Term, num, truth, var, cell, load, neg, inv, cast, bin, size_in}
 use Rattle.jz_intervals.specs.declared.interval.Interval.{Interval}
 use Rattle.jz_intervals.specs.Intervals.{greatest_word, each_word, only, sum, difference, product, mask, quotient, remainder, shifted_by, fitted}
@@ -23,9 +24,15 @@ abbrev pub of_shift : Size → Interval → Term → Interval
 of_shift z i (num (pos n) at) = shifted_by n i
 of_shift z i t = each_word z
 
+-- a flag, which may stand on the right of a sum or a difference
+abbrev pub is_flag : Term → Bool
+is_flag (var x) = is_bool x.kind
+is_flag t = false
+
+-- with a flag a sum and a difference say nothing
 abbrev pub of_operation : Size → BinOp → Interval → Interval → Term → Interval
-of_operation z o.Add i j b = sum z i j
-of_operation z o.Sub i j b = difference z i j
+of_operation z o.Add i j b = if is_flag b then each_word z else sum z i j
+of_operation z o.Sub i j b = if is_flag b then each_word z else difference z i j
 of_operation z o.Mul i j b = product z i j
 of_operation z o.And i j b = mask i j
 of_operation z o.Div i j b = quotient z i j
@@ -48,7 +55,7 @@ of_multiples o.Add x y a b m = x && y
 of_multiples o.Sub x y a b m = x && y
 of_multiples o.Mul x y a b m = x || y
 of_multiples o.Shl x y a b m = is_power_times b m
-of_multiples o.And x y a b m = is_number_times a m || is_number_times b m
+of_multiples o.And x y a b m = is_number_times b m
 of_multiples op x y a b m = false
 
 module _ (g : Given) (s : Facts) where

@@ -228,12 +228,38 @@ fn put_jumps(
     Ok(next)
 }
 
+/// The most lines that a body takes. Only the room for them goes by it.
+#[cycle(room)]
+fn room_of_block(nodes: &Seq<PlacedNode>) -> usize {
+    let mut room: usize = 0;
+    for node in nodes.as_slice() {
+        room = room.saturating_add(room_of_node(node));
+    }
+    room
+}
+
+#[cycle(room)]
+fn room_of_node(node: &PlacedNode) -> usize {
+    match node {
+        PlacedNode::Do(_) => 1,
+        PlacedNode::If(_, yes, no) => {
+            let parts = room_of_block(yes).saturating_add(room_of_block(no));
+            parts.saturating_add(5)
+        }
+        PlacedNode::While(_, prologue, _, inner) => {
+            let parts = room_of_block(prologue).saturating_add(room_of_block(inner));
+            parts.saturating_add(5)
+        }
+    }
+}
+
 /// The lines of a body, with the return behind it. The stack grows with its nesting alone.
 pub fn linearize(alloc: Global, nodes: &Seq<PlacedNode>) -> Result<Linear, AllocError>
     requires few { labels_in (code_in nodes.now) < 2 ^ 32 }
     ensures lines { IfOk result (λ made. made.lines ≡ linear_of (code_in nodes.now)) }
 {
-    let mut lines = Vec::new(alloc);
+    let room = room_of_block(nodes).saturating_add(1);
+    let mut lines = Vec::with_capacity(alloc, room)?;
     put_block(&mut lines, 0, nodes)?;
     lines.push(Line::Insn(Insn::Ret))?;
     Ok(Linear {

@@ -173,7 +173,8 @@ line_long t (line.Call l) next = call_long Rel32 (pos (slice_index t l) -ℤ pos
 
 -- what is left of the lines makes the whole table
 abbrev pub IsTabled : (ls : List Line) (k at : ℕ) (table : List ℕ) → Type 0
-IsTabled ls k at table = (table_from (drop k ls) at table ≡ table_from ls 0 []) × AllSpelled (drop k ls) × (at + total (drop k ls) < 2 ^ 31)
+IsTabled ls k at table =
+    (table_from (drop k ls) at table ≡ table_from ls 0 []) × AllSpelled (drop k ls) × (at + total (drop k ls) < 2 ^ 31) × (at + total (drop k ls) ≡ total ls)
 
 -- and all bytes
 abbrev pub ArePut : (table : List ℕ) (ls : List Line) (k : ℕ) (bytes : List ℕ) → Type 0
@@ -194,6 +195,7 @@ module _ (ls : List Line) (k : ℕ) (x : Line) (lt : k < length ls) (is : x ≡ 
         ap (λ y. table_from (drop (k + 1) ls) (at + bytes_in x) y) e ∙ ap (λ y. table_from y at old) (sym one_off) ∙ h.0,
         (spelled_here x (drop (k + 1) ls) (subst AllSpelled one_off h.1)).1,
         omega (arith, t, h.2),
+        omega (arith, t, h.3),
       )
 
   pub put_here : (table bytes : List ℕ) → ArePut table ls k bytes → IsReady table (length bytes) x

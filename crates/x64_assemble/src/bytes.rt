@@ -74,19 +74,26 @@ fn mark(table: &mut Vec<u64>, line: &Line, at: u64) -> Result<(), AllocError>
     }
 }
 
-/// The offset of each label.
-fn label_offsets(alloc: Global, lines: &[Line]) -> Result<Vec<u64>, AllocError>
+/// Where each label stands, and where the last line ends.
+#[derive(Drop)]
+struct LabelTable {
+    offsets: Vec<u64>,
+    end: u64,
+}
+
+fn label_offsets(alloc: Global, lines: &[Line]) -> Result<LabelTable, AllocError>
     requires spelled { AllSpelled lines.now }
     requires short { total lines.now < 2 ^ 31 }
-    ensures { IfOk result (λ table. table.items ≡ table_from lines.now 0 []) }
+    ensures offsets { IfOk result (λ made. made.offsets.items ≡ table_from lines.now 0 []) }
+    ensures end { IfOk result (λ made. made.end ≡ total lines.now) }
 {
-    let mut table = Vec::new(alloc);
+    let mut offsets = Vec::with_capacity(alloc, lines.len())?;
     let mut at: u64 = 0;
     for line in lines {
-        mark(&mut table, line, at)?;
+        mark(&mut offsets, line, at)?;
         at += length_of(line);
     }
-    Ok(table)
+    Ok(LabelTable { offsets, end: at })
 }
 
 fn target(table: &[u64], label: u32) -> u64
@@ -137,11 +144,17 @@ fn put_line(bytes: &mut Vec<u8>, table: &[u64], line: &Line) -> Result<(), Alloc
     }
 }
 
-fn line_bytes(alloc: Global, lines: &[Line], table: &[u64]) -> Result<Vec<u8>, AllocError>
+/// The bytes of all lines, in a room for so many.
+fn line_bytes(
+    alloc: Global,
+    lines: &[Line],
+    table: &[u64],
+    room: usize,
+) -> Result<Vec<u8>, AllocError>
     requires { AreReady table.now 0 lines.now }
     ensures { IfOk result (λ bytes. bytes.items ≡ code_from table.now 0 lines.now) }
 {
-    let mut bytes = Vec::new(alloc);
+    let mut bytes = Vec::with_capacity(alloc, room)?;
     for line in lines {
         put_line(&mut bytes, table, line)?;
     }
@@ -160,6 +173,7 @@ pub fn assemble(alloc: Global, code: &Linear) -> Result<Seq<u8>, AllocError>
 {
     let lines = code.lines.as_slice();
     let table = label_offsets(alloc, lines)?;
-    let bytes = line_bytes(alloc, lines, table.as_slice())?;
+    let room = table.end as usize;
+    let bytes = line_bytes(alloc, lines, table.offsets.as_slice(), room)?;
     Ok(Seq::from_vec(bytes))
 }

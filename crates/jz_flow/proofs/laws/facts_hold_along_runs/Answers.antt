@@ -18,9 +18,9 @@ returns-clause-calm g c = λ b s x i f.
     (calm g.A.Analysis.steps g.A.Analysis.asks g.A.Analysis.monotone b s x no_more i f).0
 
 pub returns-clause-runs : goal.returns-clause-runs
-returns-clause-runs g c = λ b n m o s x r h i.
-    sound g.A.Analysis.steps g.A.Analysis.asks g.A.Analysis.parts g.A.Analysis.holds
-    g.A.Analysis.sound r s x h i
+returns-clause-runs g c = λ b n m o s x f r h i.
+    sound g.A.Analysis.fine g.A.Analysis.fine_test g.A.Analysis.steps g.A.Analysis.asks
+    g.A.Analysis.parts g.A.Analysis.holds g.A.Analysis.sound r s x f h i
 
 pub returns-clause-first : goal.returns-clause-first
 returns-clause-first g c = λ b s v w f h.

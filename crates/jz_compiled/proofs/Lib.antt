@@ -1,0 +1,4 @@
+pub mod KindLemmas
+pub mod Regions
+pub mod Printed
+mod Examples

@@ -1,0 +1,5 @@
+pub mod Layout
+pub mod Showing
+pub mod Lines
+pub mod Matching
+pub mod Correct
