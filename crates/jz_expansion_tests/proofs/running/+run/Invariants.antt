@@ -1,6 +1,6 @@
 use Rattle.std.proofs.Common.{◌+◌, ◌*◌}
 use Rattle.jz_interp.proofs.Weights.{weight, weights, body_weight}
-use Rattle.jz_inline_tests.proofs.running.+run.Given as goal
+use Rattle.jz_expansion_tests.proofs.running.+run.Given as goal
 
 abbrev pub decreases-run_block : goal.decreases-run_block
 decreases-run_block l = 3 * weights l.stmts.now + 1

@@ -1,7 +1,7 @@
 use Rattle.std.proofs.Common.{ℕ, ◌+◌, ◌*◌, ◌≤◌, rules, arith}
 use Rattle.jz_interp.proofs.Falls.{weights_at}
 use Rattle.jz_interp.proofs.Weights.{weight, weights}
-use Rattle.jz_inline_tests.proofs.running.+run.Goals as goal
+use Rattle.jz_expansion_tests.proofs.running.+run.Goals as goal
 
 pub run_block-run_statement-requires : goal.run_block-run_statement-requires
 run_block-run_statement-requires t c =
