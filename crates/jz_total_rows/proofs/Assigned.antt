@@ -68,7 +68,7 @@ use Rattle.jz_total_rows.proofs.Stands as stands
 use Rattle.jz_total_rows.proofs.Stands.{Stands, is_variable, stands_r, stands_m, stands_i, stands_place, variable_of}
 use Rattle.jz_total_rows.proofs.Meets.{A, dest_itself, same_place, apart_place, masked_apart, operation_not_same}
 use Rattle.jz_total_rows.proofs.Bringing.{encode, Beside}
-use Rattle.jz_total_rows.proofs.Operands.{of_size, of_stated, OperandAs, number_there, operand_there, LeftAs, left_read}
+use Rattle.jz_total_rows.proofs.Operands.{of_size, of_stated, OperandAs, number_fits, operand_there, LeftAs, left_read}
 use Rattle.jz_total_rows.proofs.Counting.{says_own}
 use Rattle.jz_total_rows.proofs.Classes.{class_number, flag_variable, mask_number, masked_byte}
 use Rattle.jz_total_rows.proofs.KeptLimits.{two_kept, minus_kept, denial_kept, cast_kept, count_kept}
@@ -259,7 +259,7 @@ module _ (frame : Frame) (home : Homes) (homing : IsHoming frame home) (z : Size
         (subst (λ v. IsArg home z v (arg.Imm (reading_of z j.0)) silent) (sym j.2) (operands.a_number j.0 j.1)) f)
       where
         number_fit : (k : ℤ) (there : Span) → b ≡ expr.Num k there → (seen (at_size z) b).operand ≡ None → fits_bytes (immediate_by z) (reading_of z k) ≡ true
-        number_fit k there e l = (number_there home z k there).fits None (sym (ap (λ v. (seen (at_size z) v).operand) e) ∙ l) 0 (omega (arith))
+        number_fit k there e l = number_fits z k there (sym (ap (λ v. (seen (at_size z) v).operand) e) ∙ l)
 
     first_not_imm : is_inline b ≡ true → is_imm x ≡ false
     first_not_imm h = by_test (is_imm x) refl

@@ -17,3 +17,6 @@ pub mod Assigned
 pub mod RightSides
 pub mod Comparing
 pub mod Statements
+pub mod Whole
+pub mod Excluded
+pub mod Made

@@ -6,6 +6,7 @@ use Rattle.std.proofs.lemmas.Bool.{false≢true, true≢false, and_parts}
 use Rattle.jz_words.specs.declared.size.Size.{Size}
 use Rattle.jz_words.specs.declared.size.Size.TheVariants.{S64}
 use Rattle.jz_words.specs.Readings.{fits_bytes, reading_of}
+use Rattle.x64_insn.specs.Table.{immediate_by}
 use Rattle.jz_tree.specs.Span.{Span}
 use Rattle.jz_tree.specs.declared.expr.Storage.TheVariants as storage
 use Rattle.jz_tree.specs.declared.expr.Expr.{Expr}
@@ -274,6 +275,12 @@ number_there home z i at =
           (short_some (reading_of z i)
           (kept (has_immediate (Some z) (Some i)) (ImmRange at) (sym (ap (λ (k : Seen). k.operand) (look_num no_numbers (record { place = p; size = Some z }) i at)) ∙ h)));
     }
+
+pub number_fits : (z : Size) (i : ℤ) (at : Span) → (seen (record { place = None; size = Some z }) (expr.Num i at)).operand ≡ None → fits_bytes (immediate_by z) (reading_of z i) ≡ true
+number_fits z i at h =
+    immediate_fits z i
+    (short_some (reading_of z i)
+    (kept (has_immediate (Some z) (Some i)) (ImmRange at) (sym (ap (λ (k : Seen). k.operand) (look_num no_numbers (record { place = None; size = Some z }) i at)) ∙ h)))
 
 no_inline : (b : Bool) (c : Class) → (is_rmi c ≡ true → ⊥) → is_rmi (inline_or b c) ≡ true → b ≡ true
 no_inline true c n h = refl

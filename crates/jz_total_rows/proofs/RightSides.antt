@@ -440,11 +440,11 @@ module _ (frame : Frame) (home : Homes) (homing : IsHoming frame home) (z : Size
   -- ---- `d op= e`
   module _ (o : BinOp) (e r : Expr) (er : as_expr d ≡ Some r) (x : IsExpanded home e) (t : Operates o (left d) (value e) (place.word z))
       (l : (if is_shift o then count_field (Some z) (seen (at_size z) e) else (seen (at_size z) e).operand) ≡ None) (s : is_shift o ≡ true → left_size d ≡ Some z) (q : divides o ≡ false) where
-    here : Span
+    abbrev pub here : Span
     here = left_span d
 
     no_other : (v : Value) → p1 (S class.Other v) ≡ true → ⊥
-    no_other v h = false≢true (and_parts false _ (and_parts (is_rm (dest_of d)) _ h).1).0
+    no_other v h = false≢true (and_parts (is_rm (dest_of d)) false h).1
 
     read : IsArg home z r D.arg' D.leaks
     read = left_read home z d D.arg' D.leaks r D.is er

@@ -174,13 +174,13 @@ typed_left home d t x r (lefts.left p (lefts.access {a} {z} n k) o h) =
     record { size = z; holds = inr (lefts.access n k); typed = h; own = own_of (lval.Store a) t z (access_size a ∙ n) o }
 
 -- ---- the size of the statement
-left_first : (o : Option Size) (z : Size) (k : Option Size) → o ≡ Some z → option_or (option_or o None) k ≡ Some z
+pub left_first : (o : Option Size) (z : Size) (k : Option Size) → o ≡ Some z → option_or (option_or o None) k ≡ Some z
 left_first o z k h = ap (λ s. option_or (option_or s None) k) h
 
-right_first : (o : Option Size) (z : Size) (k : Option Size) → o ≡ None → k ≡ Some z → option_or (option_or o None) k ≡ Some z
+pub right_first : (o : Option Size) (z : Size) (k : Option Size) → o ≡ None → k ≡ Some z → option_or (option_or o None) k ≡ Some z
 right_first o z k h g = ap (λ s. option_or (option_or s None) k) h ∙ g
 
-read_size : (d : Lval) (r : Expr) → as_expr d ≡ Some r → own_size r ≡ left_size d
+pub read_size : (d : Lval) (r : Expr) → as_expr d ≡ Some r → own_size r ≡ left_size d
 read_size (lval.Skip at) r e = absurd cc
 read_size (lval.Var v) r e = ap own_size (sym (same_some (expr.Var v) r e)) ∙ own_var v
 read_size (lval.Cell v i) r e = ap own_size (sym (same_some (expr.Cell v i) r e)) ∙ own_cell v i
@@ -227,7 +227,7 @@ behind_says home d o e z x n (judged.updated k) = by_operand k
     by_operand (judged.shifted g s) = absurd (left_says home d z x n s)
 
 -- of a whole right side with an operation
-updated_size : (o : BinOp) (r e : Expr) (at : Span) (z : Size) → group_of o ≡ group.Arith → own_size r ≡ None → own_size e ≡ Some z → (l : Layer) → out-Expr e ≡ l → own_size (updated_layer o r e at l) ≡ Some z
+pub updated_size : (o : BinOp) (r e : Expr) (at : Span) (z : Size) → group_of o ≡ group.Arith → own_size r ≡ None → own_size e ≡ Some z → (l : Layer) → out-Expr e ≡ l → own_size (updated_layer o r e at l) ≡ Some z
 updated_size o r e at z g n s (Expr-F.Num i b) k = arith_size o r e at g ∙ (ap (λ w. option_or w (own_size e)) n ∙ s)
 updated_size o r e at z g n s (Expr-F.Expr::Bool i b) k = arith_size o r e at g ∙ (ap (λ w. option_or w (own_size e)) n ∙ s)
 updated_size o r e at z g n s (Expr-F.Var v) k = arith_size o r e at g ∙ (ap (λ w. option_or w (own_size e)) n ∙ s)

@@ -5,6 +5,10 @@ use Rattle.jz_tree.specs.declared.expr.BinOp.{BinOp}
 use Rattle.jz_tree.specs.declared.expr.Expr.{Expr}
 use Rattle.jz_tree.specs.declared.expr.Expr.TheVariants as expr
 use Rattle.jz_tree.specs.declared.stmt.Lval.{Lval}
+use Rattle.jz_tree.specs.declared.stmt.Rhs.TheVariants as rhs
+use Rattle.jz_tree.specs.declared.stmt.StmtKind.TheVariants as stmt
+use Rattle.jz_select.specs.declared.pattern.Pattern.{Pattern}
+use Rattle.jz_select.specs.Selected.{IsSelected}
 use Rattle.jz_select.specs.Shapes.{is_test}
 use Rattle.jz_judgement.specs.Places.{truth}
 use Rattle.jz_judgement.specs.HasType.{value, HasType}
@@ -49,6 +53,14 @@ AssignmentsHaveOperations =
     → IsHoming frame home → IsReadyAssign home d o e c at → IsCovered d o e c
     → HasOperations home (assign (d ∷ []) o e c at)
 
+-- no other assignment that has a row has operations
+abbrev pub OnlyCoveredHaveOperations : Type 0
+OnlyCoveredHaveOperations =
+    (home : Homes) (d : Lval) (o : Option BinOp) (e : Expr) (c : Option Expr) (at : Span)
+    (row : Pattern)
+    → IsSelected (stmt.Assign (d ∷ []) o (rhs.Value e) c) (Some row)
+    → HasOperations home (assign (d ∷ []) o e c at) → IsCovered d o e c
+
 -- ---- tests
 pub record IsReadyTest (home : Homes) (c : Expr) : Type 0 where
   pub expanded : IsExpanded home c
@@ -57,15 +69,30 @@ pub record IsReadyTest (home : Homes) (c : Expr) : Type 0 where
   pub matches : is_test c ≡ true
   pub within : asked_condition no_numbers c ≡ []
 
+abbrev pub HasTest : Homes → Condition → Type 0
+HasTest home t = (k : Asked) × (i : Numbers) × LowersTest home t k i
+
+abbrev pub HasLoopTest : Homes → Condition → Type 0
+HasLoopTest home t = (k : Asked) × (i : Numbers) × LowersLoopTest home t k i
+
+abbrev pub IsTrueTest : Expr → Type 0
+IsTrueTest c = (here : Span) × (c ≡ expr.Bool true here)
+
 abbrev pub TestsHaveOperations : Type 0
 TestsHaveOperations =
     (home : Homes) (t : Condition)
-    → IsReadyTest home t.cond → IsComparison t.cond
-    → (k : Asked) × (i : Numbers) × LowersTest home t k i
+    → IsReadyTest home t.cond → IsComparison t.cond → HasTest home t
+
+abbrev pub OnlyComparisonsAreTests : Type 0
+OnlyComparisonsAreTests = (home : Homes) (t : Condition) → HasTest home t → IsComparison t.cond
 
 -- that of a `while` may be `true`
 abbrev pub LoopTestsHaveOperations : Type 0
 LoopTestsHaveOperations =
     (home : Homes) (t : Condition)
-    → IsReadyTest home t.cond → IsComparison t.cond ⊎ ((here : Span) × (t.cond ≡ expr.Bool true here))
-    → (k : Asked) × (i : Numbers) × LowersLoopTest home t k i
+    → IsReadyTest home t.cond → IsComparison t.cond ⊎ IsTrueTest t.cond → HasLoopTest home t
+
+abbrev pub OnlyTheseAreLoopTests : Type 0
+OnlyTheseAreLoopTests =
+    (home : Homes) (t : Condition)
+    → HasLoopTest home t → IsComparison t.cond ⊎ IsTrueTest t.cond

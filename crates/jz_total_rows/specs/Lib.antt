@@ -1,3 +1,4 @@
 pub mod Expanded
 pub mod Covered
 pub mod Laws
+pub mod Bodies

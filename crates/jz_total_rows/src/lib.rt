@@ -1,10 +1,6 @@
-//! Which typed statements have operations.
+//! Which typed statements have operations; there is no code here.
 #![tactic(auto)]
 
-ghost use Rattle.std.specs.Prelude.{◌≡◌};
+mod laws;
 
-pub fn one() -> u32
-    ensures { result ≡ 1 }
-{
-    1
-}
+pub use laws::{assignments_have_operations, bodies_are_lowered, tests_have_operations};
