@@ -1,25 +1,20 @@
 -- The row of a typed assignment that the expansion leaves, by the form of its right side.
-use Rattle.std.proofs.Common.{◌≡◌, ℕ, ◌<◌, ◌≤◌, Bool, true, false, not, ◌&&◌, ◌||◌, List, [], ◌∷◌, ◌++◌, Option, Some, None, refl, sym, ap, ◌∙◌, subst, arith, inl, inr, if◌then◌else◌, ℤ, pos}
-use Rattle.std.specs.Prelude.{◌⊎◌, nat_lt}
+use Rattle.std.proofs.Common.{◌≡◌, ℕ, Bool, true, false, not, ◌&&◌, ◌||◌, Some, None, refl, sym, ap, ◌∙◌, subst, inl, inr, if◌then◌else◌, ℤ, pos}
+use Rattle.std.specs.Prelude.{◌⊎◌}
 use Rattle.std.specs.Option.{option_or}
-use Rattle.std.proofs.lemmas.Bool.{false≢true, true≢false, and_parts, ltb-true, ltb-false}
+use Rattle.std.proofs.lemmas.Bool.{false≢true, true≢false, and_parts}
 use Rattle.jz_words.specs.declared.size.Size.{Size}
 use Rattle.jz_words.specs.declared.size.Size.TheVariants.{S8, S16, S32, S64}
-use Rattle.jz_words.specs.Sizes.{bits_of}
 use Rattle.jz_words.specs.Readings.{reading_of, fits_bytes}
 use Rattle.x64_insn.specs.Table.{immediate_by}
-use Rattle.x64_insn.specs.declared.types.One.TheVariants as one
 use Rattle.jz_tree.specs.Span.{Span}
-use Rattle.jz_tree.specs.Operators.{carries, divides, is_shift}
+use Rattle.jz_tree.specs.Operators.{carries, is_shift}
 use Rattle.jz_tree.specs.declared.expr.BinOp.{BinOp}
 use Rattle.jz_tree.specs.declared.expr.BinOp.TheVariants as op
 use Rattle.jz_tree.specs.declared.expr.Expr.{Expr}
 use Rattle.jz_tree.specs.declared.expr.Expr.TheVariants as expr
-use Rattle.jz_tree.specs.declared.expr.Expr.TheOpen.{Expr-F}
-use Rattle.jz_tree.specs.declared.expr.Expr.TheViews.{out-Expr}
 use Rattle.jz_tree.specs.declared.expr.Var.{Var}
 use Rattle.jz_tree.specs.declared.stmt.Lval.{Lval}
-use Rattle.jz_tree.specs.declared.stmt.Lval.TheVariants as lval
 use Rattle.jz_type_names.specs.Kinds.{is_inline}
 use Rattle.jz_type_sizes.specs.declared.operators.Group.TheVariants as group
 use Rattle.jz_type_sizes.specs.Operators.{group_of}
@@ -30,49 +25,41 @@ use Rattle.jz_select.specs.declared.shape.Value.{Value}
 use Rattle.jz_select.specs.declared.shape.Value.TheVariants as values
 use Rattle.jz_select.specs.declared.shape.Shape as rowed
 use Rattle.jz_select.specs.declared.shape.Shape.TheVariants as shapes
-use Rattle.jz_select.specs.Places.{Layer, meeting_of, touches}
-use Rattle.jz_select.specs.Operands.{class_layer, class_of, dest_of, operand_of}
-use Rattle.jz_select.specs.Rows.{is_r, is_m, is_i, is_rm, is_rmi, is_flag, is_same_place, is_apart_from, class_size, is_wide, adds, joins_bits, multiplies, swaps, are_inline, computes, changes, masks, is_below, is_longest, p1, p2, p3, p4, p5, p6, p8, p9, p10, p11, p12, p13}
-use Rattle.jz_select.specs.Shapes.{whichever, itself, first_of, carry_layer, two_beside, value_layer, update_layer}
+use Rattle.jz_select.specs.Places.{meeting_of}
+use Rattle.jz_select.specs.Operands.{class_of, dest_of, operand_of}
+use Rattle.jz_select.specs.Rows.{is_r, is_m, is_i, is_rm, is_rmi, is_same_place, is_apart_from, class_size, is_wide, adds, joins_bits, multiplies, are_inline, computes, changes, masks, is_longest, p1, p2, p5, p6, p8, p9, p10}
+use Rattle.jz_select.specs.Shapes.{itself}
 use Rattle.jz_judgement.specs.Places as place
 use Rattle.jz_judgement.specs.HasType as judged
 use Rattle.jz_judgement.specs.HasType.{value, left, result, HasType, Types, Operates, Says}
-use Rattle.jz_run_laws.proofs.Sizes.{types_of}
 use Rattle.jz_row_laws.proofs.Booleans.{or_parts, or_left}
 use Rattle.jz_row_laws.proofs.Copied.{Matches}
 use Rattle.jz_stuck_runs.proofs.Classes.{rmi_no_truth}
-use Rattle.jz_stuck_runs.proofs.Updates.{sum_typed}
-use Rattle.jz_one_row.proofs.Outs.{out_num, out_bool, out_var, out_cell, out_load, out_neg, out_not, out_cast, out_bin}
-use Rattle.jz_meaning.specs.Values.{key_of, ref_of, own_size}
-use Rattle.jz_meaning.specs.Assignments.{as_expr, left_span, updated_layer}
-use Rattle.jz_meaning.specs.Assignments as assignments
+use Rattle.jz_meaning.specs.Values.{key_of, ref_of}
 use Rattle.jz_limits.specs.declared.looked.Asking.{Asking}
-use Rattle.jz_limits.specs.InnerLooked.{Seen, count_field}
+use Rattle.jz_limits.specs.InnerLooked.{count_field}
 use Rattle.jz_operations.specs.declared.operation.Address.{Address}
 use Rattle.jz_operations.specs.declared.operation.Cell.{Cell}
 use Rattle.jz_operations.specs.declared.operation.Arg.{Arg}
 use Rattle.jz_operations.specs.declared.operation.Arg.TheVariants as arg
-use Rattle.jz_operations.specs.declared.operation.Action.TheVariants as action
 use Rattle.jz_operations.specs.Rows.{Frame}
-use Rattle.jz_homes.specs.Homes.{Homes, IsHoming, in_register, in_flag}
+use Rattle.jz_homes.specs.Homes.{Homes, IsHoming, in_register}
 use Rattle.jz_homes.specs.Operands as operands
 use Rattle.jz_homes.specs.Operands.{Leaks, silent, IsArg, IsDest, to_word, to_scalar, to_cell, to_memory}
-use Rattle.jz_row_operations.specs.Rows.{IsWide, IsCarryOp, IsShiftOp, IsSign, a_minus, a_not, mask_of}
-use Rattle.jz_row_operations.specs.Table.{same_arg, is_free, is_imm}
-use Rattle.jz_total_rows.specs.Expanded as expanded
-use Rattle.jz_total_rows.specs.Expanded.{IsExpanded, a_number, a_truth, a_variable, a_cell, a_load, a_denial, a_cast, of_two}
-use Rattle.jz_total_rows.proofs.InlineValues.{IsNumber, number_is_inline, not_both}
+use Rattle.jz_row_operations.specs.Rows.{IsWide, IsCarryOp, IsShiftOp, mask_of}
+use Rattle.jz_row_operations.specs.Table.{is_free, is_imm}
+use Rattle.jz_total_rows.specs.Expanded.{IsExpanded}
+use Rattle.jz_total_rows.proofs.InlineValues.{number_is_inline}
 use Rattle.jz_total_rows.proofs.Summed.{seen}
-use Rattle.jz_total_rows.proofs.Fits.{is_place, is_kept, Fits, immediate_fits, mov_spelled, number_spelled}
+use Rattle.jz_total_rows.proofs.Fits.{Fits}
 use Rattle.jz_total_rows.proofs.Stands as stands
 use Rattle.jz_total_rows.proofs.Stands.{Stands, is_variable, stands_r, stands_m, stands_i, stands_place, variable_of}
 use Rattle.jz_total_rows.proofs.Meets.{A, dest_itself, same_place, apart_place, masked_apart, operation_not_same}
-use Rattle.jz_total_rows.proofs.Bringing.{encode, Beside}
-use Rattle.jz_total_rows.proofs.Operands.{of_size, of_stated, OperandAs, number_fits, operand_there, LeftAs, left_read}
-use Rattle.jz_total_rows.proofs.Counting.{says_own}
-use Rattle.jz_total_rows.proofs.Classes.{class_number, flag_variable, mask_number, masked_byte}
-use Rattle.jz_total_rows.proofs.KeptLimits.{two_kept, minus_kept, denial_kept, cast_kept, count_kept}
-use Rattle.jz_total_rows.proofs.Rows.{sum_operator, wide_of, RowFound, move_found, sum_found, carry_found, times_found, times_by_found, sign_found, shift_found, shift_by_found, extend_found, lowest_found}
+use Rattle.jz_total_rows.proofs.Bringing.{Beside}
+use Rattle.jz_total_rows.proofs.Operands.{of_size, OperandAs, number_fits, operand_there, LeftAs}
+use Rattle.jz_total_rows.proofs.Classes.{class_number, mask_number, masked_byte}
+use Rattle.jz_total_rows.proofs.KeptLimits.{count_kept}
+use Rattle.jz_total_rows.proofs.Rows.{sum_operator, wide_of, RowFound, sum_found, times_found, times_by_found, shift_found, shift_by_found}
 
 -- ---- one of the rows
 pub none_more : (P : Type 0) → false ≡ true → P

@@ -1,12 +1,12 @@
 -- Where the classes of a row fit, the first operand comes to the destination.
-use Rattle.std.proofs.Common.{◌≡◌, ℕ, ◌≤◌, Bool, true, false, not, ◌&&◌, ◌||◌, List, [], ◌∷◌, ◌++◌, Option, Some, None, refl, sym, ap, ◌∙◌, subst, arith, inl, inr, if◌then◌else◌}
+use Rattle.std.proofs.Common.{◌≡◌, ℕ, ◌≤◌, Bool, true, false, not, ◌&&◌, ◌||◌, List, [], ◌∷◌, Some, None, refl, sym, ap, ◌∙◌, arith, inl, inr, if◌then◌else◌}
 use Rattle.std.specs.Prelude.{◌⊎◌, All}
 use Rattle.std.proofs.lemmas.Bool.{false≢true, true≢false, and_parts}
 use Rattle.std.proofs.lemmas.List.Elements.{All-nil, All-cons}
 use Rattle.jz_words.specs.declared.size.Size.{Size}
 use Rattle.jz_select.specs.declared.class.Class.{Class}
 use Rattle.jz_select.specs.declared.class.Operand.{Operand}
-use Rattle.jz_select.specs.Rows.{is_r, is_m, is_i, is_rm, is_rmi, is_same_place, is_apart_from, is_same, is_apart, computes, changes}
+use Rattle.jz_select.specs.Rows.{is_r, is_m, is_rm, is_rmi, is_same_place, is_apart_from, is_same, is_apart, computes, changes}
 use Rattle.jz_row_laws.proofs.Booleans.{or_parts}
 use Rattle.jz_operations.specs.declared.operation.Arg.{Arg}
 use Rattle.jz_operations.specs.declared.operation.Arg.TheVariants as arg

@@ -1,8 +1,8 @@
 -- A typed condition that is a comparison has an operation, and a condition behind it.
-use Rattle.std.proofs.Common.{◌≡◌, ℕ, Bool, true, false, not, ◌&&◌, ◌||◌, Option, Some, None, refl, sym, ap, ◌∙◌, subst, inl, inr, if◌then◌else◌}
+use Rattle.std.proofs.Common.{◌≡◌, true, false, not, ◌&&◌, Option, Some, None, refl, sym, ap, ◌∙◌, subst, inl, inr}
 use Rattle.std.specs.Prelude.{◌⊎◌}
 use Rattle.std.specs.Option.{option_or}
-use Rattle.std.proofs.lemmas.Bool.{false≢true, true≢false, and_parts}
+use Rattle.std.proofs.lemmas.Bool.{false≢true, and_parts}
 use Rattle.jz_words.specs.declared.size.Size.{Size}
 use Rattle.x64_insn.specs.declared.types.Alu.TheVariants as alu
 use Rattle.x64_insn.specs.declared.types.Cond.{Cond}
@@ -15,7 +15,6 @@ use Rattle.jz_tree.specs.declared.expr.Expr.{Expr}
 use Rattle.jz_tree.specs.declared.expr.Expr.TheVariants as expr
 use Rattle.jz_tree.specs.declared.expr.Expr.TheOpen.{Expr-F}
 use Rattle.jz_tree.specs.declared.expr.Expr.TheViews.{out-Expr, out-Access}
-use Rattle.jz_tree.specs.declared.expr.Access.{Access}
 use Rattle.jz_tree.specs.declared.expr.Var.{Var}
 use Rattle.jz_type_names.specs.Kinds.{known_of, is_inline}
 use Rattle.jz_type_sizes.specs.declared.operators.Group.TheVariants as group
@@ -47,12 +46,11 @@ use Rattle.jz_row_operations.specs.Lowering.{IsCompared}
 use Rattle.jz_total_rows.specs.Expanded.{HasHome, a_word, a_flag, a_scalar, an_array, IsExpanded, a_number, a_truth, a_variable, a_cell, a_load, a_minus, a_denial, a_cast, of_two}
 use Rattle.jz_total_rows.specs.Covered as covered
 use Rattle.jz_total_rows.specs.Covered.{IsComparison}
-use Rattle.jz_total_rows.proofs.InlineValues.{number_is_inline}
 use Rattle.jz_total_rows.proofs.Summed.{seen}
 use Rattle.jz_total_rows.proofs.Fits.{alu_spelled}
 use Rattle.jz_total_rows.proofs.Stands.{stands_place, kept_both}
 use Rattle.jz_total_rows.proofs.Bringing.{encode}
-use Rattle.jz_total_rows.proofs.Operands.{of_size, typed_as, OperandAs, operand_there}
+use Rattle.jz_total_rows.proofs.Operands.{of_size, typed_as, operand_there}
 use Rattle.jz_total_rows.proofs.Counting.{says_own}
 use Rattle.jz_total_rows.proofs.Classes.{class_test, two_not, sign_not}
 use Rattle.jz_total_rows.proofs.KeptLimits.{two_kept, denial_kept}
@@ -223,7 +221,7 @@ compared_there home at k (a_cast z s a here x) t h c l = absurd (comparison_at (
 compared_there home at k (a_denial a here n x) t h c l =
     let e = expr.Not a here in
     let r = compared_there home at a x (truth_of (typed_as e (Expr-F.Not a here) place.truth (out_not a here) t)) (flags_at e (Expr-F.Not a here) (out_not a here) h) (comparison_at e (Expr-F.Not a here) (out_not a here) c)
-        (subst (λ s. (seen (record { place = None; size = s }) a).operand ≡ None) (compared_not a here) (denial_kept (at_compared e) a here n l)) in
+    (subst (λ s. (seen (record { place = None; size = s }) a).operand ≡ None) (compared_not a here) (denial_kept (at_compared e) a here n l)) in
     record { compare = r.compare; cond = opposite r.cond; first = r.first; second = r.second; is = lowering.denies here r.is }
   where
     truth_of : Types (Expr-F.Not a here) place.truth → HasType (value a) place.truth

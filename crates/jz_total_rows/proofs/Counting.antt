@@ -1,6 +1,6 @@
 -- What the expansion leaves has arrays with a number as their length alone, so that a size that it
 -- says is its own.
-use Rattle.std.proofs.Common.{◌≡◌, ℕ, ℤ, pos, negsuc, Bool, true, false, Option, Some, None, refl, sym, ap, ◌∙◌, subst}
+use Rattle.std.proofs.Common.{◌≡◌, ℕ, ℤ, pos, negsuc, true, Option, Some, None, refl, sym, ◌∙◌, subst}
 use Rattle.jz_tree.specs.Size.{Size}
 use Rattle.jz_tree.specs.declared.expr.Expr.{Expr}
 use Rattle.jz_tree.specs.declared.expr.Expr.TheVariants as expr
@@ -16,7 +16,6 @@ use Rattle.jz_run_laws.specs.Counted.{TyLayer, is_count, counted_type, counted_d
 use Rattle.jz_run_laws.proofs.Sizes.{says_law}
 use Rattle.jz_typed_runs.proofs.KindsOf.{kind_some, kind_by, decl_is}
 use Rattle.jz_one_row.proofs.Outs.{out_num, out_bool, out_var, out_cell, out_load, out_neg, out_not, out_cast, out_bin}
-use Rattle.jz_meaning.specs.declared.access.Kind.{Kind}
 use Rattle.jz_meaning.specs.declared.access.Kind.TheVariants as kind
 use Rattle.jz_meaning.specs.Values.{ref_of, own_size, array_kind}
 use Rattle.jz_homes.specs.Homes.{Homes}

@@ -1,5 +1,5 @@
 -- A statement that has operations is covered.
-use Rattle.std.proofs.Common.{◌≡◌, ℕ, Bool, true, false, ◌&&◌, List, [], ◌∷◌, Option, Some, None, refl, sym, ap, ◌∙◌, subst, inl, inr, if◌then◌else◌}
+use Rattle.std.proofs.Common.{◌≡◌, Bool, true, false, ◌&&◌, List, [], ◌∷◌, Option, Some, None, refl, sym, ap, ◌∙◌, inl, inr, if◌then◌else◌}
 use Rattle.std.specs.Prelude.{◌⊎◌, ⊤}
 use Rattle.std.proofs.lemmas.Bool.{false≢true, and_parts}
 use Rattle.jz_words.specs.declared.size.Size.{Size}
@@ -14,7 +14,6 @@ use Rattle.jz_tree.specs.declared.expr.Expr.TheVariants as expr
 use Rattle.jz_tree.specs.declared.expr.Expr.TheOpen.{Expr-F}
 use Rattle.jz_tree.specs.declared.expr.Expr.TheViews.{out-Expr}
 use Rattle.jz_tree.specs.declared.stmt.Lval.{Lval}
-use Rattle.jz_tree.specs.declared.stmt.Lval.TheVariants as lval
 use Rattle.jz_select.specs.Look.{compares_values}
 use Rattle.jz_select.specs.Places.{Layer}
 use Rattle.jz_meaning.specs.Assignments.{as_expr, is_flag, left_span, updated_layer, updated, whole_of}

@@ -1,6 +1,6 @@
 -- Operands that an instruction has fields for, and the operations of them that can be encoded.
-use Rattle.std.proofs.Common.{◌≡◌, ℕ, ◌+◌, ◌*◌, ◌<◌, ◌≤◌, ◌^◌, ◌/◌, Bool, true, false, not, ◌&&◌, Option, Some, None, refl, sym, ap, ◌∙◌, subst, arith, if◌then◌else◌, ℤ, pos, ◌+ℤ◌, ◌-ℤ◌, ◌*ℤ◌, ◌<ℤ◌, ◌≤ℤ◌}
-use Rattle.std.specs.Prelude.{nat_lt, ◌==◌, ◌||◌, int_le, int_lt, is_some, IsTrue}
+use Rattle.std.proofs.Common.{◌≡◌, ℕ, ◌*◌, ◌<◌, ◌≤◌, Bool, true, false, not, ◌&&◌, Option, Some, None, refl, sym, ap, subst, arith, ℤ, pos, ◌+ℤ◌, ◌-ℤ◌, ◌*ℤ◌, ◌<ℤ◌, ◌≤ℤ◌}
+use Rattle.std.specs.Prelude.{nat_lt, int_le, int_lt}
 use Rattle.std.proofs.lemmas.Bool.{false≢true, true≢false, and_parts, cond_both, ltb-true, ltb-false, lt-ltb}
 use Rattle.std.proofs.lemmas.Int.{ints}
 use Rattle.jz_words.specs.declared.size.Size.{Size}

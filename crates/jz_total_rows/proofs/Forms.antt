@@ -1,5 +1,5 @@
 -- Expressions by their forms: what they look like, and whether they are inline.
-use Rattle.std.proofs.Common.{◌≡◌, ℤ, Bool, true, false, ◌&&◌, Some, None, refl, sym, ap, ◌∙◌}
+use Rattle.std.proofs.Common.{◌≡◌, ℤ, Bool, true, false, ◌&&◌, sym, ap, ◌∙◌}
 use Rattle.jz_tree.specs.Span.{Span}
 use Rattle.jz_tree.specs.declared.expr.Expr.{Expr}
 use Rattle.jz_tree.specs.declared.expr.Expr.TheVariants as expr

@@ -1,5 +1,5 @@
 -- What the expansion leaves of inline integers are numbers, and of inline conditions bools.
-use Rattle.std.proofs.Common.{◌≡◌, ℤ, Bool, true, false, ◌&&◌, ◌||◌, refl, sym, ap, ◌∙◌, subst, if◌then◌else◌}
+use Rattle.std.proofs.Common.{◌≡◌, ℤ, Bool, true, false, ◌&&◌, refl, sym, ap, ◌∙◌, if◌then◌else◌}
 use Rattle.std.proofs.lemmas.Bool.{false≢true, and_parts}
 use Rattle.jz_tree.specs.Span.{Span}
 use Rattle.jz_tree.specs.Operators.{joins}
@@ -8,8 +8,7 @@ use Rattle.jz_tree.specs.declared.expr.Expr.{Expr}
 use Rattle.jz_tree.specs.declared.expr.Expr.TheVariants as expr
 use Rattle.jz_tree.specs.declared.expr.Expr.TheOpen.{Expr-F}
 use Rattle.jz_type_names.specs.Kinds.{is_inline}
-use Rattle.jz_select.specs.Look.{Look, look_of, gives_number, bin_inline, bin_condition, compares_values}
-use Rattle.jz_row_laws.proofs.Fixed.{Layer, look_layer}
+use Rattle.jz_select.specs.Look.{Look, look_of, gives_number, compares_values}
 use Rattle.jz_one_row.proofs.Outs.{out_num, out_bool, out_var, out_cell, out_load, out_neg, out_not, out_cast, out_bin}
 use Rattle.jz_homes.specs.Homes.{Homes}
 use Rattle.jz_total_rows.specs.Expanded.{IsExpanded, a_number, a_truth, a_variable, a_cell, a_load, a_minus, a_denial, a_cast, of_two}
@@ -20,7 +19,6 @@ IsNumber e = (i : ℤ) × (at : Span) × (e ≡ expr.Num i at)
 
 abbrev pub IsTruth : Expr → Type 0
 IsTruth e = (b : Bool) × (at : Span) × (e ≡ expr.Bool b at)
-
 
 pub number_is_inline : (e : Expr) → IsNumber e → is_inline e ≡ true
 number_is_inline e n = ap is_inline n.2 ∙ number_inline n.0 n.1

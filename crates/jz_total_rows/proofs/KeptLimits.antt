@@ -1,5 +1,5 @@
 -- What an expression that passes no limit says of its operands.
-use Rattle.std.proofs.Common.{◌≡◌, ℕ, ◌<◌, ℤ, pos, negsuc, Bool, true, false, ◌&&◌, List, [], ◌∷◌, ◌++◌, Option, Some, None, refl, sym, ap, ◌∙◌, subst, arith, if◌then◌else◌}
+use Rattle.std.proofs.Common.{◌≡◌, ℕ, ◌<◌, ℤ, pos, negsuc, Bool, true, false, ◌&&◌, List, [], ◌∷◌, ◌++◌, Option, Some, None, refl, sym, ap, ◌∙◌, arith, if◌then◌else◌}
 use Rattle.std.specs.Prelude.{int_le, int_lt}
 use Rattle.std.proofs.lemmas.Bool.{false≢true, true≢false, and_parts}
 use Rattle.std.proofs.lemmas.Int.{ints}
@@ -12,7 +12,6 @@ use Rattle.jz_tree.specs.declared.expr.Expr.{Expr}
 use Rattle.jz_tree.specs.declared.expr.Expr.TheVariants as expr
 use Rattle.jz_integers.specs.Integers.{the_number}
 use Rattle.jz_integers.specs.declared.constant.Constant.{Constant}
-use Rattle.jz_integers.specs.declared.constant.Constant.TheVariants as constant
 use Rattle.jz_type_names.specs.Kinds.{is_inline}
 use Rattle.jz_meaning.specs.Values.{own_size}
 use Rattle.jz_limits.specs.declared.limit.Limit.{Limit}
@@ -20,9 +19,8 @@ use Rattle.jz_limits.specs.declared.limit.Limit.TheVariants.{ImmRange}
 use Rattle.jz_limits.specs.declared.looked.Asking.{Asking}
 use Rattle.jz_limits.specs.Values.{no_numbers}
 use Rattle.jz_limits.specs.Asked.{is_count}
-use Rattle.jz_limits.specs.InnerLooked as found
 use Rattle.jz_limits.specs.InnerLooked.{Seen, Part, seen_as, sooner, if_not, count_field}
-use Rattle.jz_limits.proofs.Layers.{look_num, look_neg, look_not, look_cast, look_bin}
+use Rattle.jz_limits.proofs.Layers.{look_neg, look_not, look_cast, look_bin}
 use Rattle.jz_total_rows.proofs.Forms.{number_inline}
 use Rattle.jz_total_rows.proofs.Summed.{seen, number_value}
 use Rattle.jz_total_rows.proofs.Operands.{kept}

@@ -1,9 +1,9 @@
 -- Bodies over variables, statement by statement.
-use Rattle.std.proofs.Common.{◌≡◌, ℕ, Bool, List, [], ◌∷◌, Option, Some, None, refl}
+use Rattle.std.proofs.Common.{List, [], ◌∷◌, Some, None, refl}
 use Rattle.std.specs.Prelude.{⊤}
 use Rattle.jz_words.specs.declared.size.Size.TheVariants.{S8}
 use Rattle.jz_tree.specs.declared.stmt.Lval.TheVariants as lval
-use Rattle.jz_runs.specs.Trees.{Tree, done, op, quiet, choose, loop, each, call}
+use Rattle.jz_runs.specs.Trees.{done, op, quiet, choose, loop, each, call}
 use Rattle.jz_meaning.specs.Statements as source
 use Rattle.jz_meaning.specs.Statements.{Block, Condition, assign}
 use Rattle.jz_operations.specs.declared.operation.Action.TheVariants as action
@@ -17,9 +17,8 @@ use Rattle.jz_pass.specs.Unrolling.{Unrolls, u_done, u_op, u_quiet, u_if, u_arm,
 use Rattle.jz_homes.specs.Homes.{Homes, IsHoming}
 use Rattle.jz_row_operations.specs.Codes.{plain}
 use Rattle.jz_row_operations.specs.Lowering.{lowering, Lowers, sets, sets_if}
-use Rattle.jz_row_operations.specs.Bodies.{IsLowered, without_marks}
-use Rattle.jz_total_rows.specs.Covered.{IsCovered}
-use Rattle.jz_total_rows.specs.Laws.{IsReadyAssign, HasOperations}
+use Rattle.jz_row_operations.specs.Bodies.{without_marks}
+use Rattle.jz_total_rows.specs.Laws.{HasOperations}
 use Rattle.jz_total_rows.specs.Bodies.{IsReadyOperation, IsReadyBody, IsCoveredOperation, IsCoveredBody, HasPattern, HavePatterns, CoveredBodiesAreLowered, LoweredBodiesAreCovered}
 use Rattle.jz_total_rows.proofs.Whole.{assignments, tests_there, loop_tests_there}
 use Rattle.jz_total_rows.proofs.Excluded.{only_covered, test_compares, loop_test_compares}

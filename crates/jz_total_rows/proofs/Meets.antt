@@ -1,15 +1,13 @@
 -- How a destination and an operand meet: one place is one operand, and a register that stands
 -- nowhere in an operand is free of it.
-use Rattle.std.proofs.Common.{◌≡◌, ℕ, ◌<◌, Bool, true, false, not, ◌&&◌, ◌||◌, List, [], ◌∷◌, ◌++◌, Option, Some, None, refl, sym, ap, ◌∙◌, subst, inl, inr, if◌then◌else◌, ℤ, pos, ◌+ℤ◌, ◌-ℤ◌}
-use Rattle.std.specs.Prelude.{nat_eq, ◌==◌, ◌⊎◌}
-use Rattle.std.specs.Option.{option_to_list}
+use Rattle.std.proofs.Common.{◌≡◌, ℕ, Bool, true, false, not, ◌&&◌, ◌||◌, List, [], ◌∷◌, ◌++◌, Option, Some, None, refl, sym, ap, ◌∙◌, subst, inl, inr, if◌then◌else◌, ℤ, pos, ◌+ℤ◌, ◌-ℤ◌}
+use Rattle.std.specs.Prelude.{nat_eq, ◌⊎◌}
 use Rattle.std.specs.Ordering.{int_eq}
-use Rattle.std.proofs.lemmas.Bool.{false≢true, true≢false, and_parts, eq-eqb, ne_eqb}
+use Rattle.std.proofs.lemmas.Bool.{false≢true, true≢false, eq-eqb, ne_eqb}
 use Rattle.std.proofs.lemmas.Bool.Decides.{Decides-int_eq}
 use Rattle.jz_words.specs.declared.size.Size.{Size}
 use Rattle.jz_words.specs.declared.size.Size.TheVariants.{S64}
 use Rattle.jz_words.specs.Words.{residue}
-use Rattle.jz_words.specs.Readings.{reading_of}
 use Rattle.jz_tree.specs.Span.{Span}
 use Rattle.jz_tree.specs.declared.expr.BinOp.{BinOp}
 use Rattle.jz_tree.specs.declared.expr.BinOp.TheVariants as op
@@ -24,7 +22,7 @@ use Rattle.jz_tree.specs.declared.stmt.Lval.{Lval}
 use Rattle.jz_tree.specs.declared.stmt.Lval.TheVariants as lval
 use Rattle.jz_ir.specs.Paths.{among}
 use Rattle.jz_integers.specs.Integers.{written_number}
-use Rattle.jz_select.specs.Trees.{Named, named_variable, named_step, names_eq, Tree, Number, Name, CellOf, Both, tree_step, tree_of, numbered_tree, index_of, tree_eq}
+use Rattle.jz_select.specs.Trees.{Named, named_variable, named_step, names_eq, Tree, Number, Name, Both, tree_step, tree_of, numbered_tree, index_of, tree_eq}
 use Rattle.jz_select.specs.Places.{Layer, Answers, is_number, one_cell, touches, elsewhere, one_or_apart, var_layer_meets, cell_layer_meets, store_layer_meets, meeting_of}
 use Rattle.jz_select.specs.InnerLayers.{touches_layer}
 use Rattle.jz_select.specs.declared.class.Meeting.{Meeting}
@@ -40,10 +38,9 @@ use Rattle.jz_typed_runs.proofs.KindsOf.{ref_is}
 use Rattle.jz_operations.specs.declared.operation.Address.{Address}
 use Rattle.jz_operations.specs.declared.operation.Arg.{Arg}
 use Rattle.jz_operations.specs.declared.operation.Arg.TheVariants as arg
-use Rattle.jz_operations.specs.Reading.{is_var, found_by}
 use Rattle.jz_operations.specs.Rows.{Frame}
 use Rattle.jz_operations.proofs.Somes.{same_some}
-use Rattle.jz_homes.specs.Homes.{Home, Homes, in_register, in_flag, in_cell, AreApart, IsHoming}
+use Rattle.jz_homes.specs.Homes.{Home, Homes, in_register, in_cell, IsHoming}
 use Rattle.jz_homes.specs.Sums.{Sum, sum_of, IsSum, a_number, a_variable, a_multiple, multiple_of, added, less, IsAddress, of_base, of_both, of_swapped, IsIndex, constant, variable}
 use Rattle.jz_homes.specs.Operands as operands
 use Rattle.jz_homes.specs.Operands.{Leaks, AreCells, IsArg, IsDest, to_word, to_scalar, to_cell, to_memory}
@@ -273,8 +270,8 @@ module _ (home : Homes) (z : Size) where
   cells_meet : (v : Var) (i : Expr) (w : Var) (j : Expr) → is_same_place (meeting_of A (lval.Cell v i) (expr.Cell w j)) ≡ true → CellsMeet v i w j
   cells_meet v i w j h =
       let p = if_named (names_eq (named_variable w) (named_variable v)) (one_or_apart (one_cell A (index_of i) (index_of j))) (elsewhere (touches A (named_variable v) (Some (index_of i)) (expr.Cell w j)))
-          (sym (ap (λ k. is_same_place (cell_layer_meets A (named_variable v) (index_of i) (expr.Cell w j) k)) (out_cell w j)) ∙ h)
-          (no_same_elsewhere (touches A (named_variable v) (Some (index_of i)) (expr.Cell w j)))
+      (sym (ap (λ k. is_same_place (cell_layer_meets A (named_variable v) (index_of i) (expr.Cell w j) k)) (out_cell w j)) ∙ h)
+      (no_same_elsewhere (touches A (named_variable v) (Some (index_of i)) (expr.Cell w j)))
       in
       record { names = p.0; indexes = cell_same (index_of i) (index_of j) (same_only (one_cell A (index_of i) (index_of j)) p.1) }
 

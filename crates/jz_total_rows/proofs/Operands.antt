@@ -1,8 +1,8 @@
 -- A typed operand that the expansion leaves, and a left side, stand in variables, cells or memory.
-use Rattle.std.proofs.Common.{◌≡◌, ℕ, ◌+◌, Bool, true, false, ◌&&◌, ◌||◌, Option, Some, None, refl, sym, ap, ◌∙◌, subst, arith, inl, inr, if◌then◌else◌, ℤ, pos}
+use Rattle.std.proofs.Common.{◌≡◌, ℕ, Bool, true, false, ◌&&◌, ◌||◌, Option, Some, None, refl, sym, ap, ◌∙◌, subst, arith, inl, inr, if◌then◌else◌, ℤ, pos}
 use Rattle.std.specs.Prelude.{◌⊎◌, is_some}
 use Rattle.std.specs.Option.{option_or}
-use Rattle.std.proofs.lemmas.Bool.{false≢true, true≢false, and_parts}
+use Rattle.std.proofs.lemmas.Bool.{false≢true, and_parts}
 use Rattle.jz_words.specs.declared.size.Size.{Size}
 use Rattle.jz_words.specs.declared.size.Size.TheVariants.{S64}
 use Rattle.jz_words.specs.Readings.{fits_bytes, reading_of}
@@ -17,15 +17,13 @@ use Rattle.jz_tree.specs.declared.expr.Var.{Var}
 use Rattle.jz_tree.specs.declared.expr.Access.{Access}
 use Rattle.jz_tree.specs.declared.stmt.Lval.{Lval}
 use Rattle.jz_tree.specs.declared.stmt.Lval.TheVariants as lval
-use Rattle.jz_integers.specs.Integers.{the_number}
-use Rattle.jz_integers.specs.declared.constant.Constant.TheVariants as constant
 use Rattle.jz_type_names.specs.declared.kinds.Kind as known
 use Rattle.jz_type_names.specs.declared.kinds.Kind.TheVariants as scope
 use Rattle.jz_type_names.specs.Kinds.{Known, known_of, is_array, is_register_array}
 use Rattle.jz_select.specs.declared.class.Class.{Class}
 use Rattle.jz_select.specs.declared.class.Class.TheVariants as class
 use Rattle.jz_select.specs.Sums.{capped_count, is_sum, is_address, is_index}
-use Rattle.jz_select.specs.Look.{Look, look_of, terms_of, bin_inline}
+use Rattle.jz_select.specs.Look.{look_of, terms_of, bin_inline}
 use Rattle.jz_select.specs.Operands.{var_class, class_if, cell_class, cell_of, mem_of, inline_or, masked_class, class_layer, class_of, dest_of}
 use Rattle.jz_select.specs.Rows.{is_rm, is_rmi, class_size}
 use Rattle.jz_judgement.specs.Places as place
@@ -40,7 +38,6 @@ use Rattle.jz_row_laws.proofs.Fixed.{Layer}
 use Rattle.jz_stuck_runs.proofs.Classes.{masked_none}
 use Rattle.jz_judgement.proofs.Nothing.{none_not}
 use Rattle.jz_one_row.proofs.Outs.{out_num, out_bool, out_var, out_cell, out_load, out_neg, out_not, out_cast, out_bin}
-use Rattle.jz_meaning.specs.declared.access.Kind as meant
 use Rattle.jz_meaning.specs.declared.access.Kind.TheVariants as kind
 use Rattle.jz_meaning.specs.Values.{size_of, key_of, ref_of, own_size}
 use Rattle.jz_limits.specs.declared.limit.Limit.{Limit}
@@ -64,8 +61,8 @@ use Rattle.jz_total_rows.specs.Expanded.{HasHome, a_word, a_flag, a_scalar, an_a
 use Rattle.jz_total_rows.specs.Expanded as left
 use Rattle.jz_total_rows.proofs.OwnSizes.{own_num, own_cell, own_load}
 use Rattle.jz_total_rows.proofs.InlineValues.{number_is_inline, inline_number, not_both}
-use Rattle.jz_total_rows.proofs.Terms.{IsCount, exact, both_counts, HasAddress, address_there, HasIndex, index_there}
-use Rattle.jz_total_rows.proofs.Summed.{AreFields, seen, SumAs, sum_there}
+use Rattle.jz_total_rows.proofs.Terms.{IsCount, exact, both_counts, address_there, index_there}
+use Rattle.jz_total_rows.proofs.Summed.{seen, sum_there}
 use Rattle.jz_total_rows.proofs.Fits.{Fits, immediate_fits, address_fits, in_range, cell_fits, scalar_fits}
 use Rattle.jz_total_rows.proofs.Stands.{Stands, in_variable, in_memory, in_frame, as_number}
 
@@ -354,8 +351,8 @@ operand_there home z q e w (a_denial a at n x) t h =
 operand_there home z q e w (a_cast y s a at x) t h = absurd (false≢true (class_test (expr.Cast y s a at) (Expr-F.Cast y s a at) (out_cast y s a at) h))
 operand_there home z q e w (of_two o a b at n x y) t h =
     let i =
-        no_inline (bin_inline o (look_of a) (look_of b)) (masked_class o a b) (masked_none is_rmi refl refl refl o a b)
-        (class_test (expr.Bin o a b at) (Expr-F.Bin o a b at) (out_bin o a b at) h)
+    no_inline (bin_inline o (look_of a) (look_of b)) (masked_class o a b) (masked_none is_rmi refl refl refl o a b)
+    (class_test (expr.Bin o a b at) (Expr-F.Bin o a b at) (out_bin o a b at) h)
     in
     let p = and_parts (look_of b).inline (look_of a).inline (and_parts _ _ i).1 in
     absurd (not_both a b n (number_is_inline a (inline_number home a x p.1)) (number_is_inline b (inline_number home b y p.0)))

@@ -1,5 +1,5 @@
 -- The row of `d = e` and of `d op= e`.
-use Rattle.std.proofs.Common.{◌≡◌, ℕ, ◌<◌, ◌≤◌, Bool, true, false, not, ◌&&◌, ◌||◌, List, [], ◌∷◌, Option, Some, None, refl, sym, ap, ◌∙◌, subst, arith, inl, inr, if◌then◌else◌, ℤ, pos}
+use Rattle.std.proofs.Common.{◌≡◌, ℕ, ◌<◌, ◌≤◌, Bool, true, false, not, ◌&&◌, ◌||◌, Option, Some, None, refl, sym, ap, ◌∙◌, subst, inl, inr, if◌then◌else◌, ℤ}
 use Rattle.std.specs.Prelude.{◌⊎◌, nat_lt}
 use Rattle.std.specs.Option.{option_or}
 use Rattle.std.proofs.lemmas.Bool.{false≢true, true≢false, and_parts, ltb-true, ltb-false}
@@ -27,7 +27,7 @@ use Rattle.jz_select.specs.declared.shape.Shape as rowed
 use Rattle.jz_select.specs.declared.shape.Shape.TheVariants as shapes
 use Rattle.jz_select.specs.Places.{Layer}
 use Rattle.jz_select.specs.Operands.{class_of, dest_of, operand_of}
-use Rattle.jz_select.specs.Rows.{is_r, is_m, is_i, is_rm, is_rmi, is_flag, class_size, are_inline, computes, changes, swaps, is_below, is_wide, is_long, is_longest, masks, adds, joins_bits, multiplies, p1, p2, p3, p4, p5, p6, p8, p9, p10, p11, p12, p13}
+use Rattle.jz_select.specs.Rows.{is_r, is_m, is_i, is_rm, is_rmi, is_flag, class_size, are_inline, computes, swaps, is_below, is_wide, is_long, is_longest, masks, adds, joins_bits, multiplies, p1, p2, p3, p4, p5, p6, p8, p9, p10, p11, p12, p13}
 use Rattle.jz_select.specs.Shapes.{whichever, itself, carry_layer, two_beside, value_layer, update_layer}
 use Rattle.jz_judgement.specs.Places as place
 use Rattle.jz_judgement.specs.HasType as judged
@@ -37,7 +37,6 @@ use Rattle.jz_row_laws.proofs.Copied.{Matches}
 use Rattle.jz_stuck_runs.proofs.Updates.{sum_typed}
 use Rattle.jz_one_row.proofs.Outs.{out_num, out_bool, out_var, out_cell, out_load, out_neg, out_not, out_cast, out_bin}
 use Rattle.jz_meaning.specs.Values.{own_size}
-use Rattle.jz_meaning.specs.Assignments as assignments
 use Rattle.jz_meaning.specs.Assignments.{left_size, as_expr, left_span, updated_layer}
 use Rattle.jz_limits.specs.InnerLooked.{count_field}
 use Rattle.jz_operations.specs.declared.operation.Address.{Address}
@@ -58,7 +57,7 @@ use Rattle.jz_total_rows.proofs.Forms.{minus_inline, denial_inline, cast_inline,
 use Rattle.jz_total_rows.proofs.InlineValues.{IsNumber, number_is_inline, not_both}
 use Rattle.jz_total_rows.proofs.Summed.{seen}
 use Rattle.jz_total_rows.proofs.Fits.{Fits, mov_spelled, number_spelled}
-use Rattle.jz_total_rows.proofs.Stands.{Stands, stands_i, stands_place, variable_of, kept_both}
+use Rattle.jz_total_rows.proofs.Stands.{stands_i, stands_place, variable_of, kept_both}
 use Rattle.jz_total_rows.proofs.Meets.{A}
 use Rattle.jz_total_rows.proofs.Bringing.{encode, Beside}
 use Rattle.jz_total_rows.proofs.Operands.{of_size, of_stated, typed_as, OperandAs, operand_there, LeftAs, left_read}
@@ -66,7 +65,7 @@ use Rattle.jz_total_rows.proofs.Counting.{says_own}
 use Rattle.jz_total_rows.proofs.Classes.{two_not, class_number, IsFlagVariable, flag_variable, flags_same}
 use Rattle.jz_total_rows.proofs.KeptLimits.{two_kept, minus_kept, denial_kept, cast_kept}
 use Rattle.jz_total_rows.proofs.Rows.{RowFound, move_found, carry_found, sign_found, extend_found, lowest_found}
-use Rattle.jz_total_rows.proofs.Assigned.{none_more, either, first_by, second_by, sum_group, AreCarries, are_carries, no_shift, if_false, at_size, IsKept, beside_operand, beside_itself, two_row}
+use Rattle.jz_total_rows.proofs.Assigned.{none_more, either, first_by, second_by, AreCarries, are_carries, no_shift, if_false, at_size, IsKept, beside_operand, beside_itself, two_row}
 
 -- ---- parts
 not_true : (b : Bool) → not b ≡ true → b ≡ false

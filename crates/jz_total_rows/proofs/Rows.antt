@@ -7,7 +7,6 @@ use Rattle.jz_words.specs.declared.size.Size.{Size}
 use Rattle.jz_words.specs.declared.size.Size.TheVariants.{S8, S16, S32, S64}
 use Rattle.jz_words.specs.Sizes.{bits_of}
 use Rattle.x64_insn.specs.declared.types.Alu.{Alu}
-use Rattle.x64_insn.specs.declared.types.Alu.TheVariants as alu
 use Rattle.x64_insn.specs.declared.types.One.{One}
 use Rattle.x64_insn.specs.Table.{immediate_by}
 use Rattle.x64_insn.specs.Chosen.{is_test}
@@ -21,7 +20,7 @@ use Rattle.jz_tree.specs.declared.expr.Var.{Var}
 use Rattle.jz_tree.specs.declared.stmt.Lval.{Lval}
 use Rattle.jz_select.specs.declared.class.Class.{Class}
 use Rattle.jz_select.specs.declared.class.Operand.{Operand}
-use Rattle.jz_select.specs.Rows.{is_r, is_m, is_i, is_rm, is_rmi, is_wide, class_size, adds, joins_bits, swaps, are_inline, computes, changes}
+use Rattle.jz_select.specs.Rows.{is_r, is_i, is_rm, is_wide, adds, joins_bits, swaps, are_inline, computes, changes}
 use Rattle.jz_meaning.specs.Values.{key_of, ref_of, own_size}
 use Rattle.jz_operations.specs.declared.operation.Arg.{Arg}
 use Rattle.jz_operations.specs.declared.operation.Arg.TheVariants as arg
@@ -33,9 +32,9 @@ use Rattle.jz_encodable.specs.Encodable.{CanEncode}
 use Rattle.jz_homes.specs.Homes.{Homes, in_register, in_flag}
 use Rattle.jz_homes.specs.Operands.{Leaks, silent, IsArg, IsDest, to_word, to_scalar, to_cell, to_memory}
 use Rattle.jz_row_operations.specs.Rows.{IsWide, NotImm, NotBothImm, IsSumOp, alu_of, commutes, IsCarryOp, carry_alu, IsSign, IsShiftOp, shift_of, mask_of}
-use Rattle.jz_row_operations.specs.Table.{is_imm, brought, behind, nothing}
+use Rattle.jz_row_operations.specs.Table.{is_imm, behind}
 use Rattle.jz_row_operations.specs.Lowering.{HasRow, moves, sums, carries, signs, times, times_by, shifts, shifts_by, extends, lowest}
-use Rattle.jz_total_rows.proofs.Fits.{is_place, is_kept, Fits, alu_spelled, mov_spelled, one_spelled, shift_spelled, shift_by_spelled, imul_spelled, imul_by_spelled, extend_spelled}
+use Rattle.jz_total_rows.proofs.Fits.{is_place, Fits, alu_spelled, mov_spelled, one_spelled, shift_spelled, shift_by_spelled, imul_spelled, imul_by_spelled, extend_spelled}
 use Rattle.jz_total_rows.proofs.Stands as stands
 use Rattle.jz_total_rows.proofs.Stands.{Stands, is_variable, stands_i, stands_place, variable_of}
 use Rattle.jz_total_rows.proofs.Bringing.{encode, Beside, Brought, brings, changes_brings}

@@ -1,9 +1,8 @@
 -- A typed assignment that the expansion leaves, and that is covered, has operations.
-use Rattle.std.proofs.Common.{◌≡◌, ℕ, Bool, true, false, not, ◌&&◌, ◌||◌, List, [], ◌∷◌, ◌++◌, Option, Some, None, refl, sym, ap, ◌∙◌, subst, inl, inr, if◌then◌else◌}
-use Rattle.std.specs.Prelude.{◌⊎◌, All}
+use Rattle.std.proofs.Common.{◌≡◌, Bool, true, false, not, ◌&&◌, ◌||◌, List, [], ◌∷◌, Option, Some, None, refl, sym, ap, ◌∙◌, subst, inl, inr, if◌then◌else◌}
 use Rattle.std.specs.List.{list_any}
 use Rattle.std.specs.Option.{option_or}
-use Rattle.std.proofs.lemmas.Bool.{false≢true, true≢false, and_parts}
+use Rattle.std.proofs.lemmas.Bool.{false≢true, and_parts}
 use Rattle.std.proofs.lemmas.List.Folds.{list_any-append}
 use Rattle.jz_words.specs.declared.size.Size.{Size}
 use Rattle.jz_tree.specs.Span.{Span}
@@ -18,16 +17,14 @@ use Rattle.jz_tree.specs.declared.stmt.Lval.{Lval}
 use Rattle.jz_tree.specs.declared.stmt.Lval.TheVariants as lval
 use Rattle.jz_tree.specs.declared.stmt.Rhs.{Rhs}
 use Rattle.jz_tree.specs.declared.stmt.Rhs.TheVariants as rhs
-use Rattle.jz_tree.specs.declared.stmt.StmtKind.{StmtKind}
 use Rattle.jz_tree.specs.declared.stmt.StmtKind.TheVariants as stmt
 use Rattle.jz_tree.specs.declared.stmt.StmtKind.TheOpen.{StmtKind-F}
 use Rattle.jz_tree.specs.declared.stmt.StmtKind.TheViews.{out-StmtKind, out-roll-StmtKind}
-use Rattle.jz_type_names.specs.Kinds.{known_of, is_inline, is_register_word, is_register_array}
+use Rattle.jz_type_names.specs.Kinds.{known_of}
 use Rattle.jz_type_sizes.specs.declared.operators.Group.TheVariants as group
 use Rattle.jz_type_sizes.specs.Operators.{group_of, group_size}
 use Rattle.jz_select.specs.declared.class.Class.{Class}
 use Rattle.jz_select.specs.declared.class.Class.TheVariants as class
-use Rattle.jz_select.specs.declared.class.Operand.{Operand}
 use Rattle.jz_select.specs.declared.pattern.Pattern.{Pattern}
 use Rattle.jz_select.specs.declared.shape.Value.{Value}
 use Rattle.jz_select.specs.declared.shape.Value.TheVariants as values
@@ -35,9 +32,9 @@ use Rattle.jz_select.specs.declared.shape.Shape as rowed
 use Rattle.jz_select.specs.declared.shape.Shape.TheVariants as shapes
 use Rattle.jz_select.specs.Places.{Layer}
 use Rattle.jz_select.specs.Operands.{var_class, class_of, dest_of}
-use Rattle.jz_select.specs.Rows.{is_r, is_m, is_i, is_rm, is_rmi, is_wide, class_size, adds, joins_bits, multiplies, are_inline, p1, p2, p3, p4, p5, p6, p8, p9, p10, p11, p12, p13, p14}
+use Rattle.jz_select.specs.Rows.{is_r, is_m, is_i, is_rm, is_rmi, adds, joins_bits, multiplies, are_inline, p1, p2, p3, p4, p5, p6, p8, p9, p10, p11, p12, p13}
 use Rattle.jz_select.specs.Selected.{Row, rows, FirstMatches, Tells, IsSelected}
-use Rattle.jz_select.specs.Shapes.{Asked, whichever, has_flags, conditional, value_layer, update_layer, assign_of, kind_layer, shape_of}
+use Rattle.jz_select.specs.Shapes.{whichever, value_layer, update_layer, assign_of, kind_layer, shape_of}
 use Rattle.jz_judgement.specs.Places as place
 use Rattle.jz_judgement.specs.HasType as judged
 use Rattle.jz_judgement.specs.HasType.{Term, value, left, result, HasType, Operates, Says}
@@ -45,30 +42,21 @@ use Rattle.jz_judgement.specs.Lefts as lefts
 use Rattle.jz_judgement.specs.Lefts.{IsBool, Wants, Leaves, Holds, Own, Takes, value_term, Values}
 use Rattle.jz_run_laws.proofs.Sizes.{operation_size}
 use Rattle.jz_row_laws.proofs.Booleans.{or_left, or_right}
-use Rattle.jz_row_laws.proofs.Copied.{Matches, no_free}
-use Rattle.jz_meaning.specs.declared.access.Kind.{Kind}
-use Rattle.jz_meaning.specs.declared.access.Kind.TheVariants as kind
-use Rattle.jz_meaning.specs.Values.{size_of, size_of_operation, ref_of, own_size}
+use Rattle.jz_row_laws.proofs.Copied.{Matches}
+use Rattle.jz_meaning.specs.Values.{size_of, own_size}
 use Rattle.jz_meaning.specs.Assignments as assignments
 use Rattle.jz_meaning.specs.Assignments.{left_size, left_sizes, as_expr, left_span, updated_layer, whole_of}
-use Rattle.jz_meaning.specs.Statements.{assign}
 use Rattle.jz_homes.proofs.Parts.{access_size}
 use Rattle.jz_limits.proofs.Layers.{own_var}
-use Rattle.jz_operations.specs.declared.operation.Arg.{Arg}
-use Rattle.jz_operations.specs.Rows.{Frame}
 use Rattle.jz_operations.proofs.Somes.{same_some}
-use Rattle.jz_homes.specs.Homes.{Homes, IsHoming}
-use Rattle.jz_row_operations.specs.Codes.{no_flag, lasting}
-use Rattle.jz_row_operations.specs.Lowering.{Lowers, sets}
+use Rattle.jz_homes.specs.Homes.{Homes}
 use Rattle.jz_total_rows.specs.Expanded as expanded
 use Rattle.jz_total_rows.specs.Expanded.{HasHome, a_word, a_flag, a_scalar, an_array, IsExpanded, IsExpandedLeft}
 use Rattle.jz_total_rows.proofs.Forms.{home_not_inline}
 use Rattle.jz_total_rows.proofs.OwnSizes.{own_cell, own_load, own_bin}
-use Rattle.jz_total_rows.proofs.Stands.{Stands}
 use Rattle.jz_total_rows.proofs.Meets.{A}
-use Rattle.jz_total_rows.proofs.Operands.{LeftAs, left_there, no_array_rm, no_number_home}
-use Rattle.jz_total_rows.proofs.Counting.{says_own}
-use Rattle.jz_total_rows.proofs.Assigned.{none_more, either, are_carries, no_shift}
+use Rattle.jz_total_rows.proofs.Operands.{no_array_rm, no_number_home}
+use Rattle.jz_total_rows.proofs.Assigned.{none_more, either, are_carries}
 
 -- ---- one of the rows matches
 first_any : (rs : List Row) (s : rowed.Shape) (r : Row) → FirstMatches rs s r → list_any (λ (q : Row). q.1 s) rs ≡ true

@@ -1,6 +1,6 @@
 -- A sum that an address or an index may be is one over variables, whose number and factors are those
 -- that the limits ask.
-use Rattle.std.proofs.Common.{◌≡◌, ℕ, ◌+◌, Bool, true, false, ◌&&◌, ◌||◌, List, [], ◌∷◌, ◌++◌, Option, Some, None, refl, sym, ap, ◌∙◌, subst, arith, inl, inr, if◌then◌else◌, ℤ, pos, ◌+ℤ◌, ◌-ℤ◌}
+use Rattle.std.proofs.Common.{◌≡◌, ℕ, ◌+◌, Bool, true, false, ◌&&◌, ◌||◌, List, [], ◌∷◌, ◌++◌, Option, Some, refl, sym, ap, ◌∙◌, subst, arith, inl, inr, if◌then◌else◌, ℤ, pos, ◌+ℤ◌, ◌-ℤ◌}
 use Rattle.std.specs.Prelude.{◌⊎◌, ◌==◌}
 use Rattle.std.specs.Ordering.{int_eq}
 use Rattle.std.proofs.lemmas.Bool.{false≢true, true≢false, and_parts}
@@ -11,7 +11,6 @@ use Rattle.jz_words.specs.Words.{residue}
 use Rattle.jz_words.specs.Readings.{reading_of}
 use Rattle.jz_words.proofs.Residues.{residue_below}
 use Rattle.jz_tree.specs.Span.{Span}
-use Rattle.jz_tree.specs.declared.expr.Storage.{Storage}
 use Rattle.jz_tree.specs.declared.expr.Storage.TheVariants as storage
 use Rattle.jz_tree.specs.declared.expr.BinOp.{BinOp}
 use Rattle.jz_tree.specs.declared.expr.BinOp.TheVariants as op
@@ -23,10 +22,10 @@ use Rattle.jz_tree.specs.declared.expr.Var.{Var}
 use Rattle.jz_integers.specs.Integers.{the_number}
 use Rattle.jz_integers.specs.declared.constant.Constant.{Constant}
 use Rattle.jz_type_names.specs.declared.kinds.Kind.TheVariants as scope
-use Rattle.jz_type_names.specs.Kinds.{Known, known_of, is_inline}
+use Rattle.jz_type_names.specs.Kinds.{known_of, is_inline}
 use Rattle.jz_select.specs.declared.class.Sum as looked
 use Rattle.jz_select.specs.Sums.{sum_of as looks_of, term, joined_sum, taken_sum}
-use Rattle.jz_select.specs.Look.{Look, look_of, is_inline_var, is_reg64, is_regs64, reg64, regs64, gives_number, bin_inline, bin_scaled, bin_sum}
+use Rattle.jz_select.specs.Look.{Look, look_of, is_inline_var, is_reg64, is_regs64, reg64, gives_number, bin_inline, bin_scaled, bin_sum}
 use Rattle.jz_row_laws.proofs.Booleans.{or_parts}
 use Rattle.jz_row_laws.proofs.Fixed.{Layer, look_layer, var_looked, var_known}
 use Rattle.jz_one_row.proofs.Outs.{out_num, out_bool, out_var, out_cell, out_load, out_neg, out_not, out_cast, out_bin}
@@ -42,8 +41,8 @@ use Rattle.jz_homes.specs.Sums as sums
 use Rattle.jz_homes.specs.Sums.{Sum, sum_of, IsSum, a_multiple, multiple_of, added, less}
 use Rattle.jz_homes.proofs.Reading.{signed_itself}
 use Rattle.jz_total_rows.specs.Expanded.{HasHome, a_word, a_flag, a_scalar, an_array, IsExpanded, a_number, a_truth, a_variable, a_cell, a_load, a_minus, a_denial, a_cast, of_two}
-use Rattle.jz_total_rows.proofs.Forms.{look_at, look_test, home_looks, home_not_inline, looked_not_inline, number_inline}
-use Rattle.jz_total_rows.proofs.InlineValues.{IsNumber, number_is_inline, inline_number, not_both}
+use Rattle.jz_total_rows.proofs.Forms.{look_at, look_test, home_not_inline, looked_not_inline, number_inline}
+use Rattle.jz_total_rows.proofs.InlineValues.{number_is_inline, inline_number, not_both}
 use Rattle.jz_total_rows.proofs.Terms.{Counted, none, plain, scaled, both_counted, IsCount, exact, both_counts, other_order}
 
 -- ---- factors
@@ -282,12 +281,13 @@ module _ (home : Homes) (a b : Expr) (at : Span) (n : (is_inline a && is_inline 
         few = exact 0 (omega (arith));
         few_scaled = exact 1 (omega (arith));
         number = λ q. terms_two op.Mul q;
-        factors = λ q h.
-            (field_of k
-            (scale_right (is_inline a) (is_inline b) (the_number (seen q a).value) (the_number (seen q b).value) k
-            (ap is_inline r.is ∙ (inline_var r.var ∙ home_not_inline home r.var r.home_of)) (ap is_inline e ∙ number_inline k there) (number_value q b k there e)
-            (sym (scaled_two op.Mul q) ∙ h)),
-            tt);
+        factors = λ q h. (
+          field_of k
+              (scale_right (is_inline a) (is_inline b) (the_number (seen q a).value) (the_number (seen q b).value) k
+              (ap is_inline r.is ∙ (inline_var r.var ∙ home_not_inline home r.var r.home_of)) (ap is_inline e ∙ number_inline k there) (number_value q b k there e)
+              (sym (scaled_two op.Mul q) ∙ h)),
+          tt,
+        );
       }
 
   register_second : IsRegister home b → (k : ℤ) (there : Span) → a ≡ expr.Num k there → SumAs home (expr.Bin op.Mul a b at) (looks_of 0 1 true)
@@ -305,11 +305,12 @@ module _ (home : Homes) (a b : Expr) (at : Span) (n : (is_inline a && is_inline 
         few = exact 0 (omega (arith));
         few_scaled = exact 1 (omega (arith));
         number = λ q. terms_two op.Mul q;
-        factors = λ q h.
-            (field_of k
-            (scale_left (is_inline a) (is_inline b) (the_number (seen q a).value) (the_number (seen q b).value) k
-            (ap is_inline e ∙ number_inline k there) (number_value q a k there e) (sym (scaled_two op.Mul q) ∙ h)),
-            tt);
+        factors = λ q h. (
+          field_of k
+              (scale_left (is_inline a) (is_inline b) (the_number (seen q a).value) (the_number (seen q b).value) k
+              (ap is_inline e ∙ number_inline k there) (number_value q a k there e) (sym (scaled_two op.Mul q) ∙ h)),
+          tt,
+        );
       }
 
   both_numbers : IsExpanded home a → IsExpanded home b → (o : BinOp) → bin_inline o (look_of a) (look_of b) ≡ true → ⊥

@@ -1,6 +1,6 @@
 -- Assignments and tests that are covered have operations.
-use Rattle.std.proofs.Common.{◌≡◌, ℕ, Bool, true, false, not, ◌&&◌, ◌||◌, List, [], ◌∷◌, ◌++◌, Option, Some, None, refl, sym, ap, ◌∙◌, subst, inl, inr, if◌then◌else◌}
-use Rattle.std.specs.Prelude.{◌⊎◌, is_some}
+use Rattle.std.proofs.Common.{◌≡◌, ℕ, Bool, true, false, ◌&&◌, List, [], ◌∷◌, ◌++◌, Option, Some, None, refl, sym, ap, ◌∙◌, subst, inl, inr, if◌then◌else◌}
+use Rattle.std.specs.Prelude.{◌⊎◌}
 use Rattle.std.specs.Option.{option_or}
 use Rattle.std.proofs.lemmas.Bool.{false≢true, true≢false, and_parts}
 use Rattle.jz_words.specs.declared.size.Size.{Size}
@@ -14,10 +14,8 @@ use Rattle.jz_tree.specs.declared.expr.Expr.TheViews.{out-Expr}
 use Rattle.jz_tree.specs.declared.expr.Var.{Var}
 use Rattle.jz_tree.specs.declared.stmt.Lval.{Lval}
 use Rattle.jz_tree.specs.declared.stmt.Lval.TheVariants as lval
-use Rattle.jz_tree.specs.declared.stmt.Rhs.TheVariants as rhs
 use Rattle.jz_type_names.specs.Kinds.{known_of, is_inline, is_register_word, is_register_array}
 use Rattle.jz_integers.specs.Integers.{the_number}
-use Rattle.jz_integers.specs.declared.constant.Constant.TheVariants as constant
 use Rattle.jz_select.specs.declared.shape.Shape.TheVariants as shapes
 use Rattle.jz_select.specs.Look.{look_of}
 use Rattle.jz_select.specs.Places.{Layer}
@@ -27,58 +25,55 @@ use Rattle.jz_select.specs.Operands.{var_class, class_layer, class_of, dest_of}
 use Rattle.jz_select.proofs.Conditions.{flags_out}
 use Rattle.jz_one_row.proofs.Outs.{out_num, out_bool, out_bin, out_not}
 use Rattle.jz_select.specs.Rows.{is_r, is_i, is_rm, is_wide, class_size, p14}
-use Rattle.jz_select.specs.Shapes.{whichever, has_flags, is_test, conditional, assign_of}
+use Rattle.jz_select.specs.Shapes.{whichever, has_flags, is_test, assign_of}
 use Rattle.jz_judgement.specs.Places as place
 use Rattle.jz_judgement.specs.HasType as judged
 use Rattle.jz_judgement.specs.HasType.{Term, value, left, result, HasType, Operates, Says}
 use Rattle.jz_judgement.specs.Lefts as lefts
 use Rattle.jz_judgement.specs.Lefts.{Takes, value_term, Values}
-use Rattle.jz_judgement.specs.WellTyped as well
 use Rattle.jz_run_laws.proofs.Sizes.{right_type}
 use Rattle.jz_row_laws.proofs.Booleans.{or_left, or_parts}
 use Rattle.jz_row_laws.proofs.Copied.{Matches, no_free}
 use Rattle.jz_meaning.specs.declared.access.Kind.TheVariants as kind
 use Rattle.jz_meaning.specs.Values.{key_of, ref_of, own_size}
 use Rattle.jz_meaning.specs.Assignments.{left_size, left_sizes, as_expr, left_span, updated_layer, updated}
-use Rattle.jz_meaning.specs.Statements.{Condition, assign}
+use Rattle.jz_meaning.specs.Statements.{assign}
 use Rattle.jz_limits.specs.declared.limit.Limit.{Limit}
 use Rattle.jz_limits.specs.declared.limit.Limit.TheVariants.{ImmRange}
 use Rattle.jz_limits.specs.declared.operands.Role.{Role}
 use Rattle.jz_limits.specs.declared.operands.Role.TheVariants as role
-use Rattle.jz_limits.specs.Values.{no_numbers, is_int, only_int, inline_target}
+use Rattle.jz_limits.specs.Values.{no_numbers, is_int, only_int}
 use Rattle.jz_limits.specs.Asked.{told, Parts, in_kinds, is_count, left_access, to_register, is_free, value_role, value_as, asked_as, asked_if, left_parts, value_parts, assigned_parts, asked, asked_condition, size_compared}
 use Rattle.jz_limits.specs.InnerLooked as found
 use Rattle.jz_limits.specs.InnerLooked.{Seen, if_not, count_field}
 use Rattle.jz_limits.proofs.Layers.{inline_var, look_bool, count_is}
 use Rattle.jz_operations.specs.declared.operation.Arg.{Arg}
-use Rattle.jz_operations.specs.declared.operation.Arg.TheVariants as arg
 use Rattle.jz_operations.specs.declared.operation.Action.TheVariants as action
 use Rattle.jz_operations.specs.declared.operation.Condition.TheVariants as conditions
 use Rattle.jz_operations.specs.Rows.{Frame}
 use Rattle.jz_homes.specs.Homes.{Homes, IsHoming, in_register}
 use Rattle.jz_homes.specs.Operands.{Leaks, IsDest, to_word, to_scalar, to_cell, to_memory}
-use Rattle.jz_row_operations.specs.Codes.{no_flag, plain, lasting}
-use Rattle.jz_row_operations.specs.Lowering.{Lowers, sets, sets_if, tests, tests_each, never_false}
+use Rattle.jz_row_operations.specs.Codes.{no_flag, lasting}
+use Rattle.jz_row_operations.specs.Lowering.{sets, sets_if, tests, tests_each, never_false}
 use Rattle.jz_total_rows.specs.Expanded as expanded
 use Rattle.jz_total_rows.specs.Expanded.{HasHome, a_word, a_flag, a_scalar, an_array, IsExpanded, a_number, a_truth, a_variable, a_cell, a_load, a_minus, a_denial, a_cast, of_two, IsExpandedLeft}
 use Rattle.jz_total_rows.specs.Covered as covered
 use Rattle.jz_total_rows.specs.Covered.{divides_layer, is_quotient, IsComparison, IsCovered}
-use Rattle.jz_total_rows.specs.Laws.{IsReadyAssign, HasOperations, AssignmentsHaveOperations, IsReadyTest, TestsHaveOperations, LoopTestsHaveOperations}
+use Rattle.jz_total_rows.specs.Laws.{IsReadyAssign, HasOperations, AssignmentsHaveOperations, TestsHaveOperations, LoopTestsHaveOperations}
 use Rattle.jz_total_rows.proofs.Forms.{home_not_inline, minus_inline, denial_inline, cast_inline, two_inline, cell_inline, load_inline}
-use Rattle.jz_total_rows.proofs.InlineValues.{IsNumber, IsTruth, number_is_inline, condition_truth}
+use Rattle.jz_total_rows.proofs.InlineValues.{IsNumber, IsTruth, condition_truth}
 use Rattle.jz_total_rows.proofs.Summed.{seen}
 use Rattle.jz_total_rows.proofs.Fits.{Fits, cmov_spelled}
 use Rattle.jz_total_rows.proofs.Stands.{is_variable, stands_place, variable_of}
 use Rattle.jz_total_rows.proofs.Meets.{A}
 use Rattle.jz_total_rows.proofs.Bringing.{encode}
-use Rattle.jz_total_rows.proofs.Operands.{of_size, OperandAs, operand_there, left_operand, LeftAs, left_there}
+use Rattle.jz_total_rows.proofs.Operands.{of_size, operand_there, left_operand, LeftAs, left_there}
 use Rattle.jz_total_rows.proofs.Counting.{says_own}
-use Rattle.jz_total_rows.proofs.Classes.{class_number}
 use Rattle.jz_total_rows.proofs.KeptLimits.{both_nothing}
-use Rattle.jz_total_rows.proofs.Rows.{not_imm, place_not_imm, wide_of, InVariable, in_variable, RowFound}
+use Rattle.jz_total_rows.proofs.Rows.{not_imm, place_not_imm, wide_of}
 use Rattle.jz_total_rows.proofs.Assigned.{none_more, either, no_shift, at_size, IsKept}
 use Rattle.jz_total_rows.proofs.RightSides.{IsWithin, value_row, update_row}
-use Rattle.jz_total_rows.proofs.Comparing.{Compared, at_compared, compared_there}
+use Rattle.jz_total_rows.proofs.Comparing.{at_compared, compared_there}
 use Rattle.jz_total_rows.proofs.Statements.{assign_matches, assigned_rm, OwnSize, of_left, of_right, TypedLeft, typed_left, left_first, right_first, read_size, behind_says, updated_size}
 
 -- ---- inline right sides
@@ -295,10 +290,12 @@ module _ (frame : Frame) (home : Homes) (homing : IsHoming frame home) (d : Lval
       let l = O.fits None (operand_kept z w.0 (D.class_own) (size_by D t.own) f.right) in
       let K = compared_there home at k u v w.1 c (fields_condition home k u w.1 f.condition) in
       let i = wide_of (class_size (dest_of d)) z D.sized q.0 in
-      subst (λ d. HasOperations home (assign (d ∷ []) None e (Some k) at)) (sym g.left_is)
-      (_, _,
-      sets_if z i g.kind_is g.there O.is (not_imm O.arg' (place_not_imm O.arg' m)) K.is
-      (encode (action.Cmov (conditions.Cc K.cond) z g.number O.arg') (λ a b. cmov_spelled a K.cond z g.number O.arg' i m (l a b))))
+      subst (λ d. HasOperations home (assign (d ∷ []) None e (Some k) at)) (sym g.left_is) (
+        _,
+        _,
+        sets_if z i g.kind_is g.there O.is (not_imm O.arg' (place_not_imm O.arg' m)) K.is
+            (encode (action.Cmov (conditions.Cc K.cond) z g.number O.arg') (λ a b. cmov_spelled a K.cond z g.number O.arg' i m (l a b))),
+      )
     where
       size_by : (D : LeftAs home t.size d) → OwnSize d (value e) t.size → option_or (left_sizes (d ∷ [])) (own_size e) ≡ Some t.size
       size_by D (of_left w) = left_first (left_size d) t.size (own_size e) (D.wanted w)

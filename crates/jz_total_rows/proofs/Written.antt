@@ -152,7 +152,7 @@ written_sum home e t (added {a} {b} {t = u} {u = w} here p q) n h =
     let g = at_layer (expr.Bin op.Add a b here) (Expr-F.Bin op.Add a b here) n (out_bin op.Add a b here) h in
     let j = joined_of op.Add (plain_value a) (plain_value b) n g in
     let k : the_number (joined op.Add (Some (constant.Int j.first)) (Some (constant.Int j.second))) ≡ Some n =
-        sym (λ i. the_number (joined op.Add (constant_there (plain_value a) j.first j.first_is i) (constant_there (plain_value b) j.second j.second_is i))) ∙ g
+    sym (λ i. the_number (joined op.Add (constant_there (plain_value a) j.first j.first_is i) (constant_there (plain_value b) j.second j.second_is i))) ∙ g
     in
     sum_written u w j.first j.second n (written_sum home a u p j.first j.first_is) (written_sum home b w q j.second j.second_is) (in_range_is (j.first +ℤ j.second) n k)
 written_sum home e t (less {a} {t = u} i at here p) n h =
@@ -161,6 +161,6 @@ written_sum home e t (less {a} {t = u} i at here p) n h =
     let j = joined_of op.Sub (plain_value a) (plain_value b) n g in
     let m : i ≡ j.second = same_int i j.second (at_layer b (Expr-F.Num i at) j.second (out_num i at) j.second_is) in
     let k : the_number (joined op.Sub (Some (constant.Int j.first)) (Some (constant.Int j.second))) ≡ Some n =
-        sym (λ i. the_number (joined op.Sub (constant_there (plain_value a) j.first j.first_is i) (constant_there (plain_value b) j.second j.second_is i))) ∙ g
+    sym (λ i. the_number (joined op.Sub (constant_there (plain_value a) j.first j.first_is i) (constant_there (plain_value b) j.second j.second_is i))) ∙ g
     in
     less_written u j.first i n (written_sum home a u p j.first j.first_is) (ap (λ x. j.first -ℤ x) m ∙ in_range_is (j.first -ℤ j.second) n k)

@@ -1,5 +1,5 @@
 -- Which bodies are lowered.
-use Rattle.std.specs.Prelude.{◌≡◌, ◌⊎◌, [], ◌∷◌, Some, ⊤}
+use Rattle.std.specs.Prelude.{◌⊎◌, [], ◌∷◌, Some, ⊤}
 use Rattle.jz_tree.specs.declared.stmt.Rhs.TheVariants as rhs
 use Rattle.jz_tree.specs.declared.stmt.StmtKind.TheVariants as stmt
 use Rattle.jz_select.specs.declared.pattern.Pattern.{Pattern}
