@@ -163,7 +163,8 @@ fn around(
     ensures { IfOk result (λ made. code_in made
         ≡ framing.framed size at saved.now (code_in body)) }
 {
-    let mut nodes = Seq::new(alloc);
+    let room = body.len().saturating_add(2 * saved.len() + 2);
+    let mut nodes = Seq::from_vec(Vec::with_capacity(alloc, room)?);
     nodes.push(PlacedNode::Do(down(size)))?;
     push_saves(&mut nodes, at, saved)?;
     nodes.append(body)?;

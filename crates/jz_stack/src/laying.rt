@@ -62,7 +62,7 @@ pub fn lay_out(alloc: Global, variables: &[Stacked]) -> Result<Layout, Failure<F
     ensures limit { IfErr result
         (λ failure. IfRefused failure (λ _. 65536 < end_from 0 variables.now)) }
 {
-    let mut offsets = Seq::new(alloc);
+    let mut offsets = Seq::from_vec(Vec::with_capacity(alloc, variables.len())?);
     let mut end: u64 = 0;
     for variable in variables {
         let offset = rounded_up(variable.size, end);
