@@ -36,7 +36,7 @@ use Rattle.jz_correct.proofs.SlotLoads.{loads}
 use Rattle.x64_assemble.specs.CodeRuns.{EndsAt, entered_at}
 use Rattle.jz_stack.specs.Laying.{frame_of}
 use Rattle.jz_code.specs.declared.code.MachineCode.{MachineCode}
-use Rattle.jz_code.specs.Ready.{IsReady}
+use Rattle.jz_codable.specs.Ready.{IsReady}
 use Rattle.jz_code.specs.Entries.{IsWordAt, StandsAtEntry, ResultStands, StandsAtReturn}
 use Rattle.jz_code.specs.Runs.{DoesAsItsBody}
 use Rattle.jz_code.specs.Made.{IsCodeOf, function_of}

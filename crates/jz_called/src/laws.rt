@@ -5,7 +5,7 @@ ghost use Rattle.jz_listing.specs.declared.compiled.Compiled.{Compiled};
 ghost use Rattle.jz_operations.specs.declared.operation.Stacked.{Stacked};
 ghost use Rattle.jz_place.specs.declared.tree.Ir.{Ir};
 ghost use Rattle.jz_code.specs.declared.code.MachineCode.{MachineCode};
-ghost use Rattle.jz_code.specs.Ready.{IsReady};
+ghost use Rattle.jz_codable.specs.Ready.{IsReady};
 ghost use Rattle.jz_code.specs.Made.{IsCodeOf};
 ghost use Rattle.jz_called.specs.Called.{HasCode, DoesAsCalled};
 

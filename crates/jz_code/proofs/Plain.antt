@@ -33,7 +33,7 @@ use Rattle.jz_linear.specs.Plain.{is_no_rip, names_no_rip, is_plain, IsPlain, Is
 use Rattle.jz_linear.specs.Lines.{parts_in}
 use Rattle.jz_stack.specs.Laying.{begins_at, ends_at, offsets_from, end_from}
 use Rattle.jz_stack.proofs.Laid.{end_above}
-use Rattle.jz_code.specs.Ready.{TestEncodable, HasForm, AreEncodable, parts_of, IsReady}
+use Rattle.jz_codable.specs.Ready.{TestEncodable, HasForm, AreEncodable, parts_of, IsReady}
 use Rattle.jz_code.specs.Made.{slots_by}
 use Rattle.jz_code.proofs.Trees.{body_below, among_below, off_stack}
 

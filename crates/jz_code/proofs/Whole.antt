@@ -30,7 +30,7 @@ use Rattle.jz_stack.proofs.SavedAll.{saved_all}
 use Rattle.jz_events.specs.Cases.{transformer_over}
 use Rattle.jz_code.specs.declared.code.MachineCode.{MachineCode}
 use Rattle.jz_code.specs.declared.code.NoCode.{NoCode}
-use Rattle.jz_code.specs.Ready.{IsReady}
+use Rattle.jz_codable.specs.Ready.{IsReady}
 use Rattle.jz_code.specs.Runs.{Function, DoesAll}
 use Rattle.jz_code.specs.Made.{AreFirst, slots_by, IsCodeOf, IsTooLarge, IsUnplaced, HasNoCode}
 use Rattle.jz_code.proofs.Trees.{results_in_registers}

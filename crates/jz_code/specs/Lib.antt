@@ -1,4 +1,3 @@
-pub mod Ready
 pub mod Entries
 pub mod Runs
 pub mod Made

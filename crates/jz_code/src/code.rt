@@ -11,7 +11,7 @@ ghost use Rattle.jz_linear.specs.Lines.{labels_in, linear_of};
 ghost use Rattle.jz_linear.specs.LineRuns.{instructions_in};
 ghost use Rattle.x64_assemble.specs.Assembling.{total, insns_of_lines, bytes_of_lines};
 ghost use Rattle.jz_stack.specs.Laying.{offsets_from, end_from};
-ghost use Rattle.jz_code.specs.Ready.{IsReady};
+ghost use Rattle.jz_codable.specs.Ready.{IsReady};
 ghost use Rattle.jz_code.specs.Made.{AreFirst, IsCodeOf, HasNoCode, IsTooLarge, IsUnplaced};
 
 use jz_alloc::{NoPlace, Places};

@@ -28,7 +28,7 @@ use Rattle.jz_place.specs.Bodies.{body_of, return_op, returns_of}
 use Rattle.jz_place.specs.Sorts.{IsSorted, AreSorted}
 use Rattle.jz_place.proofs.Bodies.{do_is}
 use Rattle.jz_correct.specs.Frames.{preserved_registers}
-use Rattle.jz_code.specs.Ready.{AreEncodable, parts_of, IsReady}
+use Rattle.jz_codable.specs.Ready.{AreEncodable, parts_of, IsReady}
 use Rattle.jz_code.proofs.Shapes.{member, preserved_other}
 use Rattle.jz_code_tests.specs.Functions.{mov_five, in_rax}
 

@@ -1,7 +1,7 @@
 //! The machine code of small functions over variables, worked by hand.
 
 ghost use Rattle.std.specs.Prelude.{◌≡◌, IfOk};
-ghost use Rattle.jz_code.specs.Ready.{IsReady};
+ghost use Rattle.jz_codable.specs.Ready.{IsReady};
 ghost use Rattle.jz_code_tests.specs.Functions as of;
 
 use jz_code::{MachineCode, NoCode, machine_code};

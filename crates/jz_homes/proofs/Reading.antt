@@ -234,14 +234,14 @@ module _ (frame : Frame) (home : Homes) (homing : IsHoming frame home) (s : Stat
       let r = indexed (ref_of x) z n k.value j q.first q.value cells.0 u.stands q.came in
       let d = defined_went (ref_of x).span (s.store (cell_key (ref_of x) q.value)) q.second v q.went_on in
       let there : s.store (cell_key (ref_of x) j) ≡ Some v = ap (λ y. s.store (cell_key (ref_of x) y)) r.same ∙ d.0 in
-      let h = related.holds (cell_key (ref_of x) j) (in_cell w j z) v (cells.1 j r.within) there in
+      let h = related.holds (cell_key (ref_of x) j) (in_cell w j z) v (cells.2 j r.within) there in
       let at' = index_found σ w at u.total u.made in
       let nums : ns ≡ j ∷ [] = k.numbers ∙ ap (λ y. k.first ++ y) q.numbers ∙ three_middle k.first q.first q.second j u.none r.numbers d.1 in
       record {
         bits = h.0;
         word = ap (word_of z) h.1 ∙ word_itself z h.0;
         small = h.2;
-        value = ap (λ y. if_some y (cell_word frame w z σ)) at' ∙ cell_read w j z h.0 (homing.framed (cell_key (ref_of x) j) w j z (cells.1 j r.within)) h.3 h.2;
+        value = ap (λ y. if_some y (cell_word frame w z σ)) at' ∙ cell_read w j z h.0 (homing.framed (cell_key (ref_of x) j) w j z (cells.2 j r.within)) h.3 h.2;
         numbers = shown_index b _ j ns at' nums;
         counted = index_counted b j ns nums;
         form = subst IsWordValue (sym h.1) tt;

@@ -213,7 +213,7 @@ module _ (frame : Frame) (home : Homes) (homing : IsHoming frame home) where
         let r = indexed (ref_of x) z n k.value j q.first q.value cells.0 v.stands q.came in
         let c = cell_by (ref_of x) z q.value u a q.second t (left_size (lval.Cell x e)) (ap size_of cells.0) wo q.went_on in
         let at' = index_found σ w at v.total v.made in
-        let h = cells.1 j r.within in
+        let h = cells.2 j r.within in
         let is' : with_value s (cell_key (ref_of x) j) (Some (word z a)) ≡ t = ap (λ y. with_value s (cell_key (ref_of x) y) (Some (word z a))) r.same ∙ c.1 in
         let nums : ns ≡ j ∷ [] = k.numbers ∙ ap (λ y. k.first ++ y) q.numbers ∙ three_middle k.first q.first q.second j v.none r.numbers c.0 in
         record {

@@ -47,10 +47,11 @@ cell_leaks None = hidden
 cell_leaks (Some b) = told
 
 -- ---- operands
--- all cells of an array are those of a stack variable
+-- an array has cells, and all of them are those of a stack variable
 abbrev pub AreCells : Homes → Var → Size → ℕ → ℕ → Type 0
 AreCells home x z n w =
     ((ref_of x).kind ≡ kind.Array z n)
+    × (0 < n)
     × ((i : ℕ) → i < n → home (cell_key (ref_of x) i) ≡ Some (in_cell w i z))
 
 -- an operand of that size, and what it leaks; a number is the signed reading of its word

@@ -1,2 +1,5 @@
+pub mod Accesses
 pub mod Entries
 pub mod Sorted
+pub mod Within
+pub mod Coded

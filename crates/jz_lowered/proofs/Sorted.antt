@@ -33,8 +33,9 @@ use Rattle.jz_operations.specs.declared.operation.Operation.{Operation}
 use Rattle.jz_operations.specs.Rows.{Output, outputs, changes, flags_of}
 use Rattle.jz_operations.specs.Reading.{written_in, left_in, five_flags, flag_left, flags_left, fixed_of}
 use Rattle.jz_operations.proofs.Somes.{same_some}
+use Rattle.jz_encodable.specs.Encodable.{CanEncode}
 use Rattle.jz_placing.specs.Variables.{Asked, Body}
-use Rattle.jz_placing.specs.Placing.{HasOneAccess, Asks}
+use Rattle.jz_placing.specs.Placing.{Asks}
 use Rattle.jz_change.specs.Changes.{Change}
 use Rattle.jz_change.specs.declared.change.Numbers.{Numbers}
 use Rattle.jz_pass.specs.Operations.{in_turn}
@@ -45,9 +46,10 @@ use Rattle.jz_homes.specs.Operands.{Leaks, IsDest, to_word, to_scalar, to_cell, 
 use Rattle.jz_row_operations.specs.Codes.{no_flag, plain, lasting}
 use Rattle.jz_row_operations.specs.Rows.{IsSumOp, alu_of, commutes, IsCarryOp, carry_alu, shift_of}
 use Rattle.jz_row_operations.specs.Table.{same_arg, is_imm, is_free, brought, behind, nothing}
-use Rattle.jz_row_operations.specs.Lowering.{IsAccessedOnce, HasRow, moves, sums, carries, signs, times, times_by, shifts, shifts_by, extends, lowest, IsCompared, compares, denies, Lowers, sets, sets_if, LowersTest, tests, LowersLoopTest, tests_each, never_false, lowering}
+use Rattle.jz_row_operations.specs.Lowering.{HasRow, moves, sums, carries, signs, times, times_by, shifts, shifts_by, extends, lowest, IsCompared, compares, denies, Lowers, sets, sets_if, LowersTest, tests, LowersLoopTest, tests_each, never_false, lowering}
 use Rattle.jz_row_operations.specs.Bodies.{without_marks}
 use Rattle.jz_lowered.specs.Functions.{AreKinds}
+use Rattle.jz_lowered.proofs.Accesses.{one_operand, accessed_once}
 
 -- ---- no operation leaves anything in the stack pointer
 no_flag_there : (p : Option Pinned) (c : Bool) (f : Flag) (rest : List Place) → has_place rest 20 ≡ false → has_place (flag_left p c f ++ rest) 20 ≡ false
@@ -69,14 +71,7 @@ no_flags_there (p ∷ ps) (c ∷ cs) (f ∷ fs) = no_flag_there p c f (flags_lef
 nothing_left : (at : Span) (a : Action) → left_in (outputs a) ≡ [] → has_place (fixed_of (plain at a)) 20 ≡ false
 nothing_left at a e = ap (λ l. has_place (l ++ flags_left (flags_of no_flag) (changes a) five_flags) 20) e ∙ no_flags_there (flags_of no_flag) (changes a) five_flags
 
--- ---- one operand is accessed once at most
-one_operand : (z : Size) (b : Arg) → HasOneAccess ((z, b) ∷ [])
-one_operand z (arg.Var v) = tt
-one_operand z (arg.Imm i) = tt
-one_operand z (arg.Mem a) = tt
-one_operand z (arg.Cell c) = tt
-one_operand z (arg.At r p) = tt
-
+-- ---- what is written
 sum_outputs : (o : BinOp) (z : Size) (b u : Arg) (c : Option Pinned) → IsSumOp o → outputs (action.Alu (alu_of o) z b u c) ≡ (z, b) ∷ []
 sum_outputs o.Add z b u c h = refl
 sum_outputs o.Sub z b u c h = refl
@@ -113,11 +108,11 @@ module _ (home : Homes) (kinds : List Kind) (are : AreKinds home kinds) where
   written (to_cell x e n w t b i cells is at) = record { words = λ v h. absurd (let k : false ≡ true = h in cc); left = refl }
   written (to_memory a t m size is at) = record { words = λ v h. absurd (let k : false ≡ true = h in cc); left = refl }
 
-  sorted_one : (at : Span) (a : Action) (z : Size) (b : Arg) → outputs a ≡ (z, b) ∷ [] → IsWritten z b → IsAccessedOnce a → IsSorted kinds (plain at a)
-  sorted_one at a z b e w once = record {
+  sorted_one : (at : Span) (a : Action) (z : Size) (b : Arg) → outputs a ≡ (z, b) ∷ [] → IsWritten z b → CanEncode a → IsSorted kinds (plain at a)
+  sorted_one at a z b e w can = record {
     words = subst AreWords (sym e) w.words;
     stack = nothing_left at a (ap left_in e ∙ w.left);
-    one = once;
+    one = accessed_once a can;
   }
 
   -- ---- all operations of a row
@@ -125,23 +120,23 @@ module _ (home : Homes) (kinds : List Kind) (are : AreKinds home kinds) where
   AllSorted [] = ⊤
   AllSorted (o ∷ os) = IsSorted kinds o × AllSorted os
 
-  last_sorted : (at : Span) (a : Action) (z : Size) (b : Arg) → outputs a ≡ (z, b) ∷ [] → IsWritten z b → All IsAccessedOnce (a ∷ []) → AllSorted (lasting at no_flag (a ∷ []))
-  last_sorted at a z b e w once = (sorted_one at a z b e w (All-head IsAccessedOnce a [] once), tt)
+  last_sorted : (at : Span) (a : Action) (z : Size) (b : Arg) → outputs a ≡ (z, b) ∷ [] → IsWritten z b → All CanEncode (a ∷ []) → AllSorted (lasting at no_flag (a ∷ []))
+  last_sorted at a z b e w once = (sorted_one at a z b e w (All-head CanEncode a [] once), tt)
 
-  two_sorted : (at : Span) (a c : Action) (z : Size) (b : Arg) → outputs a ≡ (z, b) ∷ [] → outputs c ≡ (z, b) ∷ [] → IsWritten z b → All IsAccessedOnce (a ∷ c ∷ []) → AllSorted (lasting at no_flag (a ∷ c ∷ []))
-  two_sorted at a c z b e f w once = (sorted_one at a z b e w (All-head IsAccessedOnce a (c ∷ []) once), last_sorted at c z b f w (All-tail IsAccessedOnce a (c ∷ []) once))
+  two_sorted : (at : Span) (a c : Action) (z : Size) (b : Arg) → outputs a ≡ (z, b) ∷ [] → outputs c ≡ (z, b) ∷ [] → IsWritten z b → All CanEncode (a ∷ c ∷ []) → AllSorted (lasting at no_flag (a ∷ c ∷ []))
+  two_sorted at a c z b e f w once = (sorted_one at a z b e w (All-head CanEncode a (c ∷ []) once), last_sorted at c z b f w (All-tail CanEncode a (c ∷ []) once))
 
   way_sorted : (s1 s2 s3 : Bool) (f : Arg → Action) (at : Span) (z : Size) (b x y : Arg) (acts : List Action) → ((u : Arg) → outputs (f u) ≡ (z, b) ∷ []) → IsWritten z b
-      → behind f (if s1 then Some ([], y) else if s2 then Some ([], x) else if s3 then Some (action.Mov z b x ∷ [], y) else None) ≡ Some acts → All IsAccessedOnce acts → AllSorted (lasting at no_flag acts)
-  way_sorted true s2 s3 f at z b x y acts o w e = subst (λ l. All IsAccessedOnce l → AllSorted (lasting at no_flag l)) (same_some _ acts e) (λ once. last_sorted at (f y) z b (o y) w once)
-  way_sorted false true s3 f at z b x y acts o w e = subst (λ l. All IsAccessedOnce l → AllSorted (lasting at no_flag l)) (same_some _ acts e) (λ once. last_sorted at (f x) z b (o x) w once)
-  way_sorted false false true f at z b x y acts o w e = subst (λ l. All IsAccessedOnce l → AllSorted (lasting at no_flag l)) (same_some _ acts e) (λ once. two_sorted at (action.Mov z b x) (f y) z b refl (o y) w once)
+      → behind f (if s1 then Some ([], y) else if s2 then Some ([], x) else if s3 then Some (action.Mov z b x ∷ [], y) else None) ≡ Some acts → All CanEncode acts → AllSorted (lasting at no_flag acts)
+  way_sorted true s2 s3 f at z b x y acts o w e = subst (λ l. All CanEncode l → AllSorted (lasting at no_flag l)) (same_some _ acts e) (λ once. last_sorted at (f y) z b (o y) w once)
+  way_sorted false true s3 f at z b x y acts o w e = subst (λ l. All CanEncode l → AllSorted (lasting at no_flag l)) (same_some _ acts e) (λ once. last_sorted at (f x) z b (o x) w once)
+  way_sorted false false true f at z b x y acts o w e = subst (λ l. All CanEncode l → AllSorted (lasting at no_flag l)) (same_some _ acts e) (λ once. two_sorted at (action.Mov z b x) (f y) z b refl (o y) w once)
   way_sorted false false false f at z b x y acts o w e = absurd cc
 
-  brought_sorted : (swaps : Bool) (f : Arg → Action) (at : Span) (z : Size) (b x y : Arg) (acts : List Action) → ((u : Arg) → outputs (f u) ≡ (z, b) ∷ []) → IsWritten z b → behind f (brought swaps z b x y) ≡ Some acts → All IsAccessedOnce acts → AllSorted (lasting at no_flag acts)
+  brought_sorted : (swaps : Bool) (f : Arg → Action) (at : Span) (z : Size) (b x y : Arg) (acts : List Action) → ((u : Arg) → outputs (f u) ≡ (z, b) ∷ []) → IsWritten z b → behind f (brought swaps z b x y) ≡ Some acts → All CanEncode acts → AllSorted (lasting at no_flag acts)
   brought_sorted swaps f at z b x y acts o w e once = way_sorted (same_arg b x) (swaps && same_arg b y) (is_free b y) f at z b x y acts o w e once
 
-  row_sorted : {z : Size} {d : Lval} {e : Expr} {acts : List Action} {items : List Numbers} (at : Span) → HasRow home z d e acts items → All IsAccessedOnce acts → AllSorted (lasting at no_flag acts)
+  row_sorted : {z : Size} {d : Lval} {e : Expr} {acts : List Action} {items : List Numbers} (at : Span) → HasRow home z d e acts items → All CanEncode acts → AllSorted (lasting at no_flag acts)
   row_sorted {z} at (moves {x = x} {b = b} ia id) once = last_sorted at (action.Mov z b x) z b refl (written id) once
   row_sorted {z} at (sums {o} {x = x} {y = y} {b = b} {acts = acts} there h ia ic id nn e) once = brought_sorted (commutes o) (λ u. action.Alu (alu_of o) z b u None) at z b x y acts (λ u. sum_outputs o z b u None h) (written id) e once
   row_sorted {z} at (carries {o} {x = x} {y = y} {b = b} {acts = acts} f c inner there h ia ic id nn isf span e) once = brought_sorted (commutes o) (λ u. action.Alu (carry_alu o) z b u (Some c)) at z b x y acts (λ u. carry_outputs o z b u (Some c) h) (written id) e once
@@ -158,7 +153,7 @@ module _ (home : Homes) (kinds : List Kind) (are : AreKinds home kinds) where
   compared_sorted {at} (compares {z = z} {x = x} {y = y} here is size ia ib ni once) = record {
     words = λ v h. absurd (let k : false ≡ true = h in cc);
     stack = nothing_left at (action.Alu alu.Cmp z x y None) refl;
-    one = once;
+    one = accessed_once (action.Alu alu.Cmp z x y None) once;
   }
   compared_sorted (denies here h) = compared_sorted h
 
@@ -171,7 +166,7 @@ module _ (home : Homes) (kinds : List Kind) (are : AreKinds home kinds) where
 
   lowers_sorted : (o : statements.Operation) (os : List Operation) (items : List Numbers) → Lowers home o os items → AllSorted os
   lowers_sorted o os items (sets {at = at} whole size row once) = row_sorted at row once
-  lowers_sorted o os items (sets_if {x} {y = y} {c = c} {m = m} {at = at} z wide kind' h ie ni cmp) = (compared_sorted cmp, (moved_sorted at c z m y (key_of (ref_of x)) h, tt))
+  lowers_sorted o os items (sets_if {x} {y = y} {c = c} {m = m} {at = at} z wide kind' h ie ni cmp can) = (compared_sorted cmp, (moved_sorted at c z m y (key_of (ref_of x)) h, tt))
 
   -- ---- tests
   test_sorted : (t : Condition) (a : Asked) (i : Numbers) → LowersTest home t a i → TestSorted kinds a × Asks a

@@ -1,5 +1,5 @@
 -- What holds of functions over variables.
-use Rattle.std.specs.Prelude.{◌≡◌, ◌<◌, ℕ, List, Some}
+use Rattle.std.specs.Prelude.{◌≡◌, ◌<◌, ℕ, List, Some, ⊤}
 use Rattle.std.specs.List.{AllZip}
 use Rattle.std.specs.FinMap.{get}
 use Rattle.jz_words.specs.declared.size.Size.{Size}
@@ -9,6 +9,7 @@ use Rattle.jz_tree.specs.declared.expr.Var.{Var}
 use Rattle.jz_tree.specs.declared.program.Fun.{Fun}
 use Rattle.jz_tree.specs.declared.program.Param.{Param}
 use Rattle.jz_ir.specs.declared.code.Kind.{Kind}
+use Rattle.jz_runs.specs.Trees.{done, op, quiet, choose, loop, each, call}
 use Rattle.jz_runs.specs.Rules.{went}
 use Rattle.jz_meaning.specs.States as source
 use Rattle.jz_meaning.specs.Values.{key_of, ref_of}
@@ -18,10 +19,13 @@ use Rattle.jz_operations.specs.Values.{State, word}
 use Rattle.jz_operations.specs.Rows.{Frame}
 use Rattle.jz_placing.specs.Variables.{Body}
 use Rattle.jz_change.specs.Changes.{Change}
+use Rattle.jz_place.specs.declared.tree.Ir.{Ir}
 use Rattle.jz_place.specs.Sorts.{AreSorted}
+use Rattle.jz_correct.specs.Registers.{argument_registers, result_registers}
+use Rattle.jz_codable.specs.Ready.{HasForm, IsShort, IsReady}
 use Rattle.jz_homes.specs.Homes.{Homes, IsHoming, IsRelated, in_register}
 use Rattle.jz_row_operations.specs.Bodies.{IsLowered}
-use Rattle.jz_lowered.specs.Functions.{AreKinds, entry_of}
+use Rattle.jz_lowered.specs.Functions.{AreKinds, entry_of, IsLoweredFun}
 
 -- a parameter is a variable of this word's size
 abbrev pub IsWordFor : Homes → Param → source.Value → Type 0
@@ -51,3 +55,21 @@ abbrev pub BodiesAreSorted : Type 0
 BodiesAreSorted =
     (home : Homes) (kinds : List Kind) (b : Block) (u : Body) (k : Change)
     → AreKinds home kinds → IsLowered home b u k → AreSorted kinds u
+
+-- ---- what machine code asks
+-- each `while` that is written without a body has none
+abbrev pub AreFormed : Block → Type 0
+AreFormed done = ⊤
+AreFormed (op o r) = AreFormed r
+AreFormed (quiet o r) = AreFormed r
+AreFormed (choose c a b r) = AreFormed a × AreFormed b × AreFormed r
+AreFormed (loop q p c b r) = AreFormed p × HasForm q b × AreFormed b × AreFormed r
+AreFormed (each f b r) = AreFormed b × AreFormed r
+AreFormed (call c b r) = AreFormed b × AreFormed r
+
+-- by the registers of the calling convention
+abbrev pub FunctionsAreReady : Type 0
+FunctionsAreReady =
+    (home : Homes) (f : Fun) (b : Block) (ir : Ir) (k : Change)
+    → IsLoweredFun home argument_registers result_registers f b ir k → AreFormed b → IsShort ir
+    → IsReady ir

@@ -4,4 +4,4 @@
 
 mod laws;
 
-pub use laws::{bodies_are_sorted, entries_are_related, results_are_there};
+pub use laws::{bodies_are_sorted, entries_are_related, functions_are_ready, results_are_there};

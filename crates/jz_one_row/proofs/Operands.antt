@@ -1,4 +1,4 @@
--- An expression is one operand, and a left side one destination, where the array has cells.
+-- An expression is one operand, and a left side one destination.
 use Rattle.std.proofs.Common.{◌≡◌, ℕ, Option, Some, None, refl, sym, ap, ◌∙◌, subst, ℤ, pos}
 use Rattle.jz_words.specs.declared.size.Size.{Size}
 use Rattle.jz_words.specs.Readings.{reading_of}
@@ -17,7 +17,6 @@ use Rattle.jz_operations.specs.declared.operation.Arg.TheVariants as arg
 use Rattle.jz_homes.specs.Homes.{Home, Homes, in_register, in_cell}
 use Rattle.jz_homes.specs.Sums.{Sum, IsSum, IsAddress, IsIndex}
 use Rattle.jz_homes.specs.Operands.{Leaks, silent, told, cell_leaks, AreCells, IsArg, a_word, a_number, a_scalar, a_cell, a_load, IsDest, to_word, to_scalar, to_cell, to_memory}
-use Rattle.jz_one_row.specs.Arrays.{IsFull, is_cell, IsFullExpr, IsFullLeft}
 use Rattle.jz_one_row.proofs.Sums.{one_sum, one_address, one_index}
 use Rattle.jz_one_row.proofs.Outs.{out_cell, out_load, out_num, out_var}
 
@@ -34,8 +33,8 @@ cell_of v w i j y z e = cc
 no_cell : (n w i : ℕ) (y z : Size) → ◌≡◌ {A = Option Home} (Some (in_register n y)) (Some (in_cell w i z)) → ⊥
 no_cell n w i y z e = absurd cc
 
-one_stack : (home : Homes) (x : Var) (z : Size) (m n v w : ℕ) → IsFull x → AreCells home x z m v → AreCells home x z n w → v ≡ w
-one_stack home x z m n v w full c d = cell_of v w 0 0 z z (sym (c.1 0 (full z m c.0)) ∙ d.1 0 (full z n d.0))
+one_stack : (home : Homes) (x : Var) (z : Size) (m n v w : ℕ) → AreCells home x z m v → AreCells home x z n w → v ≡ w
+one_stack home x z m n v w c d = cell_of v w 0 0 z z (sym (c.2 0 c.1) ∙ d.2 0 d.1)
 
 cell_is : (v w : ℕ) (b c : Option ℕ) (i j : ℤ) → v ≡ w → b ≡ c → i ≡ j → ◌≡◌ {A = Arg} (arg.Cell (record { of = v; index = b; offset = i })) (arg.Cell (record { of = w; index = c; offset = j }))
 cell_is v w b c i j e f g = λ k. arg.Cell (record { of = e k; index = f k; offset = g k })
@@ -55,27 +54,27 @@ arg_layer home z e a p (a_scalar x w h) = subst (λ l. ArgLayer home z l (arg.Ce
 arg_layer home z e a p (a_cell x f n w t b i c s d) = subst (λ l. ArgLayer home z l (arg.Cell (record { of = w; index = b; offset = i })) (cell_leaks b)) (sym (out_cell x f)) (l_cell x f n w t b i c s d)
 arg_layer home z e a p (a_load f t m size s d) = subst (λ l. ArgLayer home z l (arg.Mem m) told) (sym (out_load f)) (l_load f t m s d)
 
-pub one_at : (home : Homes) (z : Size) (l : Layer) (a b : Arg) (p q : Leaks) → ((x : Var) (i : Expr) → l ≡ Expr-F.Cell x i → IsFull x) → ArgLayer home z l a p → ArgLayer home z l b q → (a ≡ b) × (p ≡ q)
-one_at home z l a b p q full (l_word x n h) (l_word y m g) = (ap arg.Var (register_of n m z z (sym h ∙ g)), refl)
-one_at home z l a b p q full (l_word x n h) (l_scalar y w g) = absurd (no_cell n w 0 z z (sym h ∙ g))
-one_at home z l a b p q full (l_scalar x w h) (l_word y n g) = absurd (no_cell n w 0 z z (sym g ∙ h))
-one_at home z l a b p q full (l_scalar x v h) (l_scalar y w g) = (cell_is v w None None (pos 0) (pos 0) (cell_of v w 0 0 z z (sym h ∙ g)) refl refl, refl)
-one_at home z l a b p q full (l_number i at) (l_number j here) = (refl, refl)
-one_at home z l a b p q full (l_cell x e m v t c i cells s d) (l_cell y f n w u k j cells2 s2 d2) =
+pub one_at : (home : Homes) (z : Size) (l : Layer) (a b : Arg) (p q : Leaks) → ArgLayer home z l a p → ArgLayer home z l b q → (a ≡ b) × (p ≡ q)
+one_at home z l a b p q (l_word x n h) (l_word y m g) = (ap arg.Var (register_of n m z z (sym h ∙ g)), refl)
+one_at home z l a b p q (l_word x n h) (l_scalar y w g) = absurd (no_cell n w 0 z z (sym h ∙ g))
+one_at home z l a b p q (l_scalar x w h) (l_word y n g) = absurd (no_cell n w 0 z z (sym g ∙ h))
+one_at home z l a b p q (l_scalar x v h) (l_scalar y w g) = (cell_is v w None None (pos 0) (pos 0) (cell_of v w 0 0 z z (sym h ∙ g)) refl refl, refl)
+one_at home z l a b p q (l_number i at) (l_number j here) = (refl, refl)
+one_at home z l a b p q (l_cell x e m v t c i cells s d) (l_cell y f n w u k j cells2 s2 d2) =
     let r = one_index t u c k i j (one_sum home e t u s s2) d d2 in
-    (cell_is v w c k i j (one_stack home x z m n v w (full x e refl) cells cells2) r.0 r.1, ap cell_leaks r.0)
-one_at home z l a b p q full (l_load f t m s d) (l_load g u n s2 d2) = (ap arg.Mem (one_address t u m n (one_sum home f.at t u s s2) d d2), refl)
+    (cell_is v w c k i j (one_stack home x z m n v w cells cells2) r.0 r.1, ap cell_leaks r.0)
+one_at home z l a b p q (l_load f t m s d) (l_load g u n s2 d2) = (ap arg.Mem (one_address t u m n (one_sum home f.at t u s s2) d d2), refl)
 
-pub one_arg : (home : Homes) (z : Size) (e : Expr) (a b : Arg) (p q : Leaks) → IsFullExpr e → IsArg home z e a p → IsArg home z e b q → (a ≡ b) × (p ≡ q)
-one_arg home z e a b p q full f g = one_at home z (out-Expr e) a b p q (λ x i s. full x (is_cell e i s)) (arg_layer home z e a p f) (arg_layer home z e b q g)
+pub one_arg : (home : Homes) (z : Size) (e : Expr) (a b : Arg) (p q : Leaks) → IsArg home z e a p → IsArg home z e b q → (a ≡ b) × (p ≡ q)
+one_arg home z e a b p q f g = one_at home z (out-Expr e) a b p q (arg_layer home z e a p f) (arg_layer home z e b q g)
 
 -- ---- destinations
-pub one_dest : (home : Homes) (z : Size) (d : Lval) (a b : Arg) (p q : Leaks) → IsFullLeft d → IsDest home z d a p → IsDest home z d b q → (a ≡ b) × (p ≡ q)
-one_dest home z d a b p q full (to_word x n k h) (to_word y m j g) = (ap arg.Var (register_of n m z z (sym h ∙ g)), refl)
-one_dest home z d a b p q full (to_word x n k h) (to_scalar y w j g) = absurd (no_cell n w 0 z z (sym h ∙ g))
-one_dest home z d a b p q full (to_scalar x w k h) (to_word y n j g) = absurd (no_cell n w 0 z z (sym g ∙ h))
-one_dest home z d a b p q full (to_scalar x v k h) (to_scalar y w j g) = (cell_is v w None None (pos 0) (pos 0) (cell_of v w 0 0 z z (sym h ∙ g)) refl refl, refl)
-one_dest home z d a b p q full (to_cell x e m v t c i cells s k) (to_cell y f n w u h j cells2 s2 k2) =
+pub one_dest : (home : Homes) (z : Size) (d : Lval) (a b : Arg) (p q : Leaks) → IsDest home z d a p → IsDest home z d b q → (a ≡ b) × (p ≡ q)
+one_dest home z d a b p q (to_word x n k h) (to_word y m j g) = (ap arg.Var (register_of n m z z (sym h ∙ g)), refl)
+one_dest home z d a b p q (to_word x n k h) (to_scalar y w j g) = absurd (no_cell n w 0 z z (sym h ∙ g))
+one_dest home z d a b p q (to_scalar x w k h) (to_word y n j g) = absurd (no_cell n w 0 z z (sym g ∙ h))
+one_dest home z d a b p q (to_scalar x v k h) (to_scalar y w j g) = (cell_is v w None None (pos 0) (pos 0) (cell_of v w 0 0 z z (sym h ∙ g)) refl refl, refl)
+one_dest home z d a b p q (to_cell x e m v t c i cells s k) (to_cell y f n w u h j cells2 s2 k2) =
     let r = one_index t u c h i j (one_sum home e t u s s2) k k2 in
-    (cell_is v w c h i j (one_stack home x z m n v w (full x e refl) cells cells2) r.0 r.1, ap cell_leaks r.0)
-one_dest home z d a b p q full (to_memory f t m size s k) (to_memory g u n size2 s2 k2) = (ap arg.Mem (one_address t u m n (one_sum home f.at t u s s2) k k2), refl)
+    (cell_is v w c h i j (one_stack home x z m n v w cells cells2) r.0 r.1, ap cell_leaks r.0)
+one_dest home z d a b p q (to_memory f t m size s k) (to_memory g u n size2 s2 k2) = (ap arg.Mem (one_address t u m n (one_sum home f.at t u s s2) k k2), refl)

@@ -29,7 +29,6 @@ use Rattle.jz_homes.specs.Operands.{Leaks, silent, count_of, IsArg, IsDest}
 use Rattle.jz_row_operations.specs.Rows.{NotImm, IsSumOp, alu_of, commutes, IsCarryOp, carry_alu, IsSign, a_minus, a_not, IsShiftOp, shift_of, mask_of}
 use Rattle.jz_row_operations.specs.Table.{is_imm, move_code, two_code, one_code, times_code, times_by_code, shift_code, shift_by_code, extend_code}
 use Rattle.jz_row_operations.specs.Lowering.{numbers_from, two_shown, one_shown, HasRow, moves, sums, carries, signs, times, times_by, shifts, shifts_by, extends, lowest}
-use Rattle.jz_one_row.specs.Arrays.{is_cell, in_negated, in_inverted, in_cast, in_first, in_second, IsFullExpr, IsFullLeft}
 use Rattle.jz_one_row.proofs.Sums.{same_var}
 use Rattle.jz_one_row.proofs.Operands.{register_of, ArgLayer, l_word, l_scalar, arg_layer, one_at, one_arg, one_dest}
 use Rattle.jz_one_row.proofs.Outs.{out_bin, out_cast, out_neg, out_not, out_num, out_var}
@@ -272,134 +271,133 @@ span_is f g s t e h k = h ∙ ap (λ v. (ref_of v).span) e ∙ sym k
 too_small : (from from2 z : Size) → from ≡ from2 → bits_of from < bits_of z → bits_of z ≤ bits_of from2 → ⊥
 too_small from from2 z e h k = let s : bits_of from ≡ bits_of from2 = ap bits_of e in omega (arith, s, h, k)
 
-module _ (home : Homes) (z : Size) (d : Lval) (left : IsFullLeft d) where
-  arg_again : (a a2 : Expr) (x y : Arg) (p q : Leaks) → IsFullExpr a → a ≡ a2 → IsArg home z a x p → IsArg home z a2 y q → (x ≡ y) × (p ≡ q)
-  arg_again a a2 x y p q full s f g = one_arg home z a x y p q full f (subst (λ e. IsArg home z e y q) (sym s) g)
+module _ (home : Homes) (z : Size) (d : Lval) where
+  arg_again : (a a2 : Expr) (x y : Arg) (p q : Leaks) → a ≡ a2 → IsArg home z a x p → IsArg home z a2 y q → (x ≡ y) × (p ≡ q)
+  arg_again a a2 x y p q s f g = one_arg home z a x y p q f (subst (λ e. IsArg home z e y q) (sym s) g)
 
-  two_same : (o : BinOp) (a c a2 c2 : Expr) (x y b x2 y2 b2 : Arg) (p q r p2 q2 r2 : Leaks) → IsFullExpr a → IsFullExpr c → a ≡ a2 → c ≡ c2 → IsArg home z a x p → IsArg home z c y q → IsDest home z d b r → IsArg home z a2 x2 p2 → IsArg home z c2 y2 q2 → IsDest home z d b2 r2
+  two_same : (o : BinOp) (a c a2 c2 : Expr) (x y b x2 y2 b2 : Arg) (p q r p2 q2 r2 : Leaks) → a ≡ a2 → c ≡ c2 → IsArg home z a x p → IsArg home z c y q → IsDest home z d b r → IsArg home z a2 x2 p2 → IsArg home z c2 y2 q2 → IsDest home z d b2 r2
       → (x ≡ x2) × (y ≡ y2) × (b ≡ b2) × (two_shown (commutes o) b x y p q ≡ two_shown (commutes o) b2 x2 y2 p2 q2)
-  two_same o a c a2 c2 x y b x2 y2 b2 p q r p2 q2 r2 fa fc sa sc f g h f2 g2 h2 =
-      let u = arg_again a a2 x x2 p p2 fa sa f f2 in
-      let v = arg_again c c2 y y2 q q2 fc sc g g2 in
-      let w = one_dest home z d b b2 r r2 left h h2 in
+  two_same o a c a2 c2 x y b x2 y2 b2 p q r p2 q2 r2 sa sc f g h f2 g2 h2 =
+      let u = arg_again a a2 x x2 p p2 sa f f2 in
+      let v = arg_again c c2 y y2 q q2 sc g g2 in
+      let w = one_dest home z d b b2 r r2 h h2 in
       (u.0, v.0, w.0, λ i. two_shown (commutes o) (w.0 i) (u.0 i) (v.0 i) (u.1 i) (v.1 i))
 
-  one_same : (a : Expr) (x b x2 b2 : Arg) (p r p2 r2 : Leaks) → IsFullExpr a → IsArg home z a x p → IsDest home z d b r → IsArg home z a x2 p2 → IsDest home z d b2 r2
+  one_same : (a : Expr) (x b x2 b2 : Arg) (p r p2 r2 : Leaks) → IsArg home z a x p → IsDest home z d b r → IsArg home z a x2 p2 → IsDest home z d b2 r2
       → (x ≡ x2) × (b ≡ b2) × (one_shown b x p ≡ one_shown b2 x2 p2)
-  one_same a x b x2 b2 p r p2 r2 full f g f2 g2 =
-      let u = one_arg home z a x x2 p p2 full f f2 in
-      let w = one_dest home z d b b2 r r2 left g g2 in
+  one_same a x b x2 b2 p r p2 r2 f g f2 g2 =
+      let u = one_arg home z a x x2 p p2 f f2 in
+      let w = one_dest home z d b b2 r r2 g g2 in
       (u.0, w.0, λ i. one_shown (w.0 i) (u.0 i) (u.1 i))
 
   word_same : (m n : ℕ) → IsDest home z d (arg.Var m) silent → IsDest home z d (arg.Var n) silent → m ≡ n
-  word_same m n f g = var_is m n (one_dest home z d (arg.Var m) (arg.Var n) silent silent left f g).0
+  word_same m n f g = var_is m n (one_dest home z d (arg.Var m) (arg.Var n) silent silent f g).0
 
-  one_at_layer : (l : Layer) (e : Expr) (acts us : List Action) (is js : List Numbers) → out-Expr e ≡ l → IsFullExpr e → RowLayer home z d l acts is → RowLayer home z d l us js → (acts ≡ us) × (is ≡ js)
-  one_at_layer l e acts us is js s full (r_moves l1 f x b p r s1 g h) (r_moves l2 f2 x2 b2 p2 r2 s2 g2 h2) =
-      let u = one_at home z l x x2 p p2 (λ v i t. full v (is_cell e i (s ∙ t))) (moved home z f l x p s1 g) (moved home z f2 l x2 p2 s2 g2) in
-      let v = one_dest home z d b b2 r r2 left h h2 in
+  one_at_layer : (l : Layer) (e : Expr) (acts us : List Action) (is js : List Numbers) → out-Expr e ≡ l → RowLayer home z d l acts is → RowLayer home z d l us js → (acts ≡ us) × (is ≡ js)
+  one_at_layer l e acts us is js s (r_moves l1 f x b p r s1 g h) (r_moves l2 f2 x2 b2 p2 r2 s2 g2 h2) =
+      let u = one_at home z l x x2 p p2 (moved home z f l x p s1 g) (moved home z f2 l x2 p2 s2 g2) in
+      let v = one_dest home z d b b2 r r2 h h2 in
       ((λ i. move_code z (v.0 i) (u.0 i)), λ i. These (numbers_from (v.1 i) (count_of (u.1 i)) ++ numbers_from (u.1 i) 0) ∷ [])
-  one_at_layer l e acts us is js s full (r_moves l1 f x b p r s1 g h) (r_sums o2 a2 c2 x2 y2 b2 p2 q2 r2 as2 at2 op2 f2 g2 h2 k2) = absurd (no_bin home z o2 a2 c2 at2 x p (moved home z f (Expr-F.Bin o2 a2 c2 at2) x p s1 g))
-  one_at_layer l e acts us is js s full (r_moves l1 f x b p r s1 g h) (r_carries o2 i2 j2 a2 c2 x2 y2 b2 p2 q2 r2 as2 v2 k2 inner2 at2 op2 e3 e4 f2 g2 h2 flag2 span2 code2) = absurd (no_bin home z o2 i2 j2 at2 x p (moved home z f (Expr-F.Bin o2 i2 j2 at2) x p s1 g))
-  one_at_layer l e acts us is js s full (r_moves l1 f x b p r s1 g h) (r_minus a2 x2 b2 p2 r2 as2 at2 f2 g2 k2) = absurd (no_neg home z a2 at2 x p (moved home z f (Expr-F.Neg a2 at2) x p s1 g))
-  one_at_layer l e acts us is js s full (r_moves l1 f x b p r s1 g h) (r_not a2 x2 b2 p2 r2 as2 at2 f2 g2 k2) = absurd (no_not home z a2 at2 x p (moved home z f (Expr-F.Not a2 at2) x p s1 g))
-  one_at_layer l e acts us is js s full (r_moves l1 f x b p r s1 g h) (r_times a2 c2 x2 y2 m2 p2 q2 as2 at2 f2 g2 h2 ni2 k2) = absurd (no_bin home z op.Mul a2 c2 at2 x p (moved home z f (Expr-F.Bin op.Mul a2 c2 at2) x p s1 g))
-  one_at_layer l e acts us is js s full (r_moves l1 f x b p r s1 g h) (r_times_by a2 c2 x2 i2 m2 p2 at2 f2 g2 h2) = absurd (no_bin home z op.Mul a2 c2 at2 x p (moved home z f (Expr-F.Bin op.Mul a2 c2 at2) x p s1 g))
-  one_at_layer l e acts us is js s full (r_moves l1 f x b p r s1 g h) (r_shifts o2 a2 g2 x2 b2 p2 r2 as2 n2 there2 at2 op2 e2x f2 h2 k2) = absurd (no_bin home z o2 a2 g2 at2 x p (moved home z f (Expr-F.Bin o2 a2 g2 at2) x p s1 g))
-  one_at_layer l e acts us is js s full (r_moves l1 f x b p r s1 g h) (r_shifts_by o2 a2 g2 u2 m2 x2 b2 p2 r2 as2 v2 k2 inner2 at2 op2 e3 e4 register2 span2 f2 h2 code2) = absurd (no_bin home z o2 a2 g2 at2 x p (moved home z f (Expr-F.Bin o2 a2 g2 at2) x p s1 g))
-  one_at_layer l e acts us is js s full (r_moves l1 f x b p r s1 g h) (r_extends a2 y2 from2 w2 m2 p2 sign2 at2 size2 less2 f2 g2) = absurd (no_cast home z w2 sign2 a2 at2 x p (moved home z f (Expr-F.Cast w2 sign2 a2 at2) x p s1 g))
-  one_at_layer l e acts us is js s full (r_moves l1 f x b p r s1 g h) (r_lowest a2 from2 w2 m2 n2 at2 size2 more2 f2 g2) = absurd (no_cast home z w2 false a2 at2 x p (moved home z f (Expr-F.Cast w2 false a2 at2) x p s1 g))
-  one_at_layer l e acts us is js s full (r_sums o a c x y b p q r as1 at op1 f g h k) (r_moves l2 f2 x2 b2 p2 r2 s2 g2 h2) = absurd (no_bin home z o a c at x2 p2 (moved home z f2 (Expr-F.Bin o a c at) x2 p2 s2 g2))
-  one_at_layer l e acts us is js s full (r_sums o a c x y b p q r as1 at op1 f g h k) (r_sums o2 a2 c2 x2 y2 b2 p2 q2 r2 as2 at2 op2 f2 g2 h2 k2) =
-      let t = two_same o a c a c x y b x2 y2 b2 p q r p2 q2 r2 (λ v n. full v (in_first e a c o at s n)) (λ v n. full v (in_second e a c o at s n)) refl refl f g h f2 g2 h2 in
+  one_at_layer l e acts us is js s (r_moves l1 f x b p r s1 g h) (r_sums o2 a2 c2 x2 y2 b2 p2 q2 r2 as2 at2 op2 f2 g2 h2 k2) = absurd (no_bin home z o2 a2 c2 at2 x p (moved home z f (Expr-F.Bin o2 a2 c2 at2) x p s1 g))
+  one_at_layer l e acts us is js s (r_moves l1 f x b p r s1 g h) (r_carries o2 i2 j2 a2 c2 x2 y2 b2 p2 q2 r2 as2 v2 k2 inner2 at2 op2 e3 e4 f2 g2 h2 flag2 span2 code2) = absurd (no_bin home z o2 i2 j2 at2 x p (moved home z f (Expr-F.Bin o2 i2 j2 at2) x p s1 g))
+  one_at_layer l e acts us is js s (r_moves l1 f x b p r s1 g h) (r_minus a2 x2 b2 p2 r2 as2 at2 f2 g2 k2) = absurd (no_neg home z a2 at2 x p (moved home z f (Expr-F.Neg a2 at2) x p s1 g))
+  one_at_layer l e acts us is js s (r_moves l1 f x b p r s1 g h) (r_not a2 x2 b2 p2 r2 as2 at2 f2 g2 k2) = absurd (no_not home z a2 at2 x p (moved home z f (Expr-F.Not a2 at2) x p s1 g))
+  one_at_layer l e acts us is js s (r_moves l1 f x b p r s1 g h) (r_times a2 c2 x2 y2 m2 p2 q2 as2 at2 f2 g2 h2 ni2 k2) = absurd (no_bin home z op.Mul a2 c2 at2 x p (moved home z f (Expr-F.Bin op.Mul a2 c2 at2) x p s1 g))
+  one_at_layer l e acts us is js s (r_moves l1 f x b p r s1 g h) (r_times_by a2 c2 x2 i2 m2 p2 at2 f2 g2 h2) = absurd (no_bin home z op.Mul a2 c2 at2 x p (moved home z f (Expr-F.Bin op.Mul a2 c2 at2) x p s1 g))
+  one_at_layer l e acts us is js s (r_moves l1 f x b p r s1 g h) (r_shifts o2 a2 g2 x2 b2 p2 r2 as2 n2 there2 at2 op2 e2x f2 h2 k2) = absurd (no_bin home z o2 a2 g2 at2 x p (moved home z f (Expr-F.Bin o2 a2 g2 at2) x p s1 g))
+  one_at_layer l e acts us is js s (r_moves l1 f x b p r s1 g h) (r_shifts_by o2 a2 g2 u2 m2 x2 b2 p2 r2 as2 v2 k2 inner2 at2 op2 e3 e4 register2 span2 f2 h2 code2) = absurd (no_bin home z o2 a2 g2 at2 x p (moved home z f (Expr-F.Bin o2 a2 g2 at2) x p s1 g))
+  one_at_layer l e acts us is js s (r_moves l1 f x b p r s1 g h) (r_extends a2 y2 from2 w2 m2 p2 sign2 at2 size2 less2 f2 g2) = absurd (no_cast home z w2 sign2 a2 at2 x p (moved home z f (Expr-F.Cast w2 sign2 a2 at2) x p s1 g))
+  one_at_layer l e acts us is js s (r_moves l1 f x b p r s1 g h) (r_lowest a2 from2 w2 m2 n2 at2 size2 more2 f2 g2) = absurd (no_cast home z w2 false a2 at2 x p (moved home z f (Expr-F.Cast w2 false a2 at2) x p s1 g))
+  one_at_layer l e acts us is js s (r_sums o a c x y b p q r as1 at op1 f g h k) (r_moves l2 f2 x2 b2 p2 r2 s2 g2 h2) = absurd (no_bin home z o a c at x2 p2 (moved home z f2 (Expr-F.Bin o a c at) x2 p2 s2 g2))
+  one_at_layer l e acts us is js s (r_sums o a c x y b p q r as1 at op1 f g h k) (r_sums o2 a2 c2 x2 y2 b2 p2 q2 r2 as2 at2 op2 f2 g2 h2 k2) =
+      let t = two_same o a c a c x y b x2 y2 b2 p q r p2 q2 r2 refl refl f g h f2 g2 h2 in
       (answers _ _ acts us (λ i. two_code (alu_of o) (commutes o) z (t.2 i) (t.0 i) (t.1 i) None) k k2, t.3)
-  one_at_layer l e acts us is js s full (r_sums o a c x y b p q r as1 at op1 f g h k) (r_carries o2 i2 j2 a2 c2 x2 y2 b2 p2 q2 r2 as2 v2 k2 inner2 at2 op2 e3 e4 f2 g2 h2 flag2 span2 code2) = absurd (no_flag home z v2 k2.variable y q flag2 (moved home z c (Expr-F.Var v2) y q e4 g))
-  one_at_layer l e acts us is js s full (r_sums o a c x y b p q r as1 at op1 f g h k) (r_times a2 c2 x2 y2 m2 p2 q2 as2 at2 f2 g2 h2 ni2 k2) = absurd (sum_times (group o) (sum_group o op1) (refl))
-  one_at_layer l e acts us is js s full (r_sums o a c x y b p q r as1 at op1 f g h k) (r_times_by a2 c2 x2 i2 m2 p2 at2 f2 g2 h2) = absurd (sum_times (group o) (sum_group o op1) (refl))
-  one_at_layer l e acts us is js s full (r_sums o a c x y b p q r as1 at op1 f g h k) (r_shifts o2 a2 g2 x2 b2 p2 r2 as2 n2 there2 at2 op2 e2x f2 h2 k2) = absurd (sum_shift (group o) (sum_group o op1) (shift_group o op2))
-  one_at_layer l e acts us is js s full (r_sums o a c x y b p q r as1 at op1 f g h k) (r_shifts_by o2 a2 g2 u2 m2 x2 b2 p2 r2 as2 v2 k2 inner2 at2 op2 e3 e4 register2 span2 f2 h2 code2) = absurd (sum_shift (group o) (sum_group o op1) (shift_group o op2))
-  one_at_layer l e acts us is js s full (r_carries o i j a c x y b p q r as1 v k inner at op1 e1 e2 f g h flag span code) (r_moves l2 f2 x2 b2 p2 r2 s2 g2 h2) = absurd (no_bin home z o i j at x2 p2 (moved home z f2 (Expr-F.Bin o i j at) x2 p2 s2 g2))
-  one_at_layer l e acts us is js s full (r_carries o i j a c x y b p q r as1 v k inner at op1 e1 e2 f g h flag span code) (r_sums o2 a2 c2 x2 y2 b2 p2 q2 r2 as2 at2 op2 f2 g2 h2 k2) = absurd (no_flag home z v k.variable y2 q2 flag (moved home z j (Expr-F.Var v) y2 q2 e2 g2))
-  one_at_layer l e acts us is js s full (r_carries o i j a c x y b p q r as1 v k inner at op1 e1 e2 f g h flag span code) (r_carries o2 i2 j2 a2 c2 x2 y2 b2 p2 q2 r2 as2 v2 k2 inner2 at2 op2 e3 e4 f2 g2 h2 flag2 span2 code2) =
+  one_at_layer l e acts us is js s (r_sums o a c x y b p q r as1 at op1 f g h k) (r_carries o2 i2 j2 a2 c2 x2 y2 b2 p2 q2 r2 as2 v2 k2 inner2 at2 op2 e3 e4 f2 g2 h2 flag2 span2 code2) = absurd (no_flag home z v2 k2.variable y q flag2 (moved home z c (Expr-F.Var v2) y q e4 g))
+  one_at_layer l e acts us is js s (r_sums o a c x y b p q r as1 at op1 f g h k) (r_times a2 c2 x2 y2 m2 p2 q2 as2 at2 f2 g2 h2 ni2 k2) = absurd (sum_times (group o) (sum_group o op1) (refl))
+  one_at_layer l e acts us is js s (r_sums o a c x y b p q r as1 at op1 f g h k) (r_times_by a2 c2 x2 i2 m2 p2 at2 f2 g2 h2) = absurd (sum_times (group o) (sum_group o op1) (refl))
+  one_at_layer l e acts us is js s (r_sums o a c x y b p q r as1 at op1 f g h k) (r_shifts o2 a2 g2 x2 b2 p2 r2 as2 n2 there2 at2 op2 e2x f2 h2 k2) = absurd (sum_shift (group o) (sum_group o op1) (shift_group o op2))
+  one_at_layer l e acts us is js s (r_sums o a c x y b p q r as1 at op1 f g h k) (r_shifts_by o2 a2 g2 u2 m2 x2 b2 p2 r2 as2 v2 k2 inner2 at2 op2 e3 e4 register2 span2 f2 h2 code2) = absurd (sum_shift (group o) (sum_group o op1) (shift_group o op2))
+  one_at_layer l e acts us is js s (r_carries o i j a c x y b p q r as1 v k inner at op1 e1 e2 f g h flag span code) (r_moves l2 f2 x2 b2 p2 r2 s2 g2 h2) = absurd (no_bin home z o i j at x2 p2 (moved home z f2 (Expr-F.Bin o i j at) x2 p2 s2 g2))
+  one_at_layer l e acts us is js s (r_carries o i j a c x y b p q r as1 v k inner at op1 e1 e2 f g h flag span code) (r_sums o2 a2 c2 x2 y2 b2 p2 q2 r2 as2 at2 op2 f2 g2 h2 k2) = absurd (no_flag home z v k.variable y2 q2 flag (moved home z j (Expr-F.Var v) y2 q2 e2 g2))
+  one_at_layer l e acts us is js s (r_carries o i j a c x y b p q r as1 v k inner at op1 e1 e2 f g h flag span code) (r_carries o2 i2 j2 a2 c2 x2 y2 b2 p2 q2 r2 as2 v2 k2 inner2 at2 op2 e3 e4 f2 g2 h2 flag2 span2 code2) =
       let inside = sym e1 ∙ e3 in
-      let full_i : IsFullExpr i = (λ v n. full v (in_first e i j o at s n)) in
-      let t = two_same o a c a2 c2 x y b x2 y2 b2 p q r p2 q2 r2 (λ u n. full_i u (in_first i a c o inner e1 n)) (λ u n. full_i u (in_second i a c o inner e1 n))
+      let t = two_same o a c a2 c2 x y b x2 y2 b2 p q r p2 q2 r2
       (first_of o o a c a2 c2 inner inner2 inside) (second_of o o a c a2 c2 inner inner2 inside) f g h f2 g2 h2 in
       let var = same_var v v2 (sym e2 ∙ e4) in
       let flag_one = flag_is k.variable k2.variable (sym flag ∙ ap (λ u. home (key_of (ref_of u))) var ∙ flag2) in
       let pin = pinned_is k k2 flag_one (span_is v v2 k.span k2.span var span span2) in
       (answers _ _ acts us (λ i. two_code (carry_alu o) (commutes o) z (t.2 i) (t.0 i) (t.1 i) (Some (pin i))) code code2, t.3)
-  one_at_layer l e acts us is js s full (r_carries o i j a c x y b p q r as1 v k inner at op1 e1 e2 f g h flag span code) (r_times a2 c2 x2 y2 m2 p2 q2 as2 at2 f2 g2 h2 ni2 k2) = absurd (sum_times (group o) (carry_group o op1) (refl))
-  one_at_layer l e acts us is js s full (r_carries o i j a c x y b p q r as1 v k inner at op1 e1 e2 f g h flag span code) (r_times_by a2 c2 x2 i2 m2 p2 at2 f2 g2 h2) = absurd (sum_times (group o) (carry_group o op1) (refl))
-  one_at_layer l e acts us is js s full (r_carries o i j a c x y b p q r as1 v k inner at op1 e1 e2 f g h flag span code) (r_shifts o2 a2 g2 x2 b2 p2 r2 as2 n2 there2 at2 op2 e2x f2 h2 k2) = absurd (sum_shift (group o) (carry_group o op1) (shift_group o op2))
-  one_at_layer l e acts us is js s full (r_carries o i j a c x y b p q r as1 v k inner at op1 e1 e2 f g h flag span code) (r_shifts_by o2 a2 g2 u2 m2 x2 b2 p2 r2 as2 v2 k2 inner2 at2 op2 e3 e4 register2 span2 f2 h2 code2) = absurd (sum_shift (group o) (carry_group o op1) (shift_group o op2))
-  one_at_layer l e acts us is js s full (r_minus a x b p r as1 at f g k) (r_moves l2 f2 x2 b2 p2 r2 s2 g2 h2) = absurd (no_neg home z a at x2 p2 (moved home z f2 (Expr-F.Neg a at) x2 p2 s2 g2))
-  one_at_layer l e acts us is js s full (r_minus a x b p r as1 at f g k) (r_minus a2 x2 b2 p2 r2 as2 at2 f2 g2 k2) =
-      let t = one_same a x b x2 b2 p r p2 r2 (λ v n. full v (in_negated e a at s n)) f g f2 g2 in
+  one_at_layer l e acts us is js s (r_carries o i j a c x y b p q r as1 v k inner at op1 e1 e2 f g h flag span code) (r_times a2 c2 x2 y2 m2 p2 q2 as2 at2 f2 g2 h2 ni2 k2) = absurd (sum_times (group o) (carry_group o op1) (refl))
+  one_at_layer l e acts us is js s (r_carries o i j a c x y b p q r as1 v k inner at op1 e1 e2 f g h flag span code) (r_times_by a2 c2 x2 i2 m2 p2 at2 f2 g2 h2) = absurd (sum_times (group o) (carry_group o op1) (refl))
+  one_at_layer l e acts us is js s (r_carries o i j a c x y b p q r as1 v k inner at op1 e1 e2 f g h flag span code) (r_shifts o2 a2 g2 x2 b2 p2 r2 as2 n2 there2 at2 op2 e2x f2 h2 k2) = absurd (sum_shift (group o) (carry_group o op1) (shift_group o op2))
+  one_at_layer l e acts us is js s (r_carries o i j a c x y b p q r as1 v k inner at op1 e1 e2 f g h flag span code) (r_shifts_by o2 a2 g2 u2 m2 x2 b2 p2 r2 as2 v2 k2 inner2 at2 op2 e3 e4 register2 span2 f2 h2 code2) = absurd (sum_shift (group o) (carry_group o op1) (shift_group o op2))
+  one_at_layer l e acts us is js s (r_minus a x b p r as1 at f g k) (r_moves l2 f2 x2 b2 p2 r2 s2 g2 h2) = absurd (no_neg home z a at x2 p2 (moved home z f2 (Expr-F.Neg a at) x2 p2 s2 g2))
+  one_at_layer l e acts us is js s (r_minus a x b p r as1 at f g k) (r_minus a2 x2 b2 p2 r2 as2 at2 f2 g2 k2) =
+      let t = one_same a x b x2 b2 p r p2 r2 f g f2 g2 in
       (answers _ _ acts us (λ i. one_code one.Neg z (t.1 i) (t.0 i)) k k2, t.2)
-  one_at_layer l e acts us is js s full (r_not a x b p r as1 at f g k) (r_moves l2 f2 x2 b2 p2 r2 s2 g2 h2) = absurd (no_not home z a at x2 p2 (moved home z f2 (Expr-F.Not a at) x2 p2 s2 g2))
-  one_at_layer l e acts us is js s full (r_not a x b p r as1 at f g k) (r_not a2 x2 b2 p2 r2 as2 at2 f2 g2 k2) =
-      let t = one_same a x b x2 b2 p r p2 r2 (λ v n. full v (in_inverted e a at s n)) f g f2 g2 in
+  one_at_layer l e acts us is js s (r_not a x b p r as1 at f g k) (r_moves l2 f2 x2 b2 p2 r2 s2 g2 h2) = absurd (no_not home z a at x2 p2 (moved home z f2 (Expr-F.Not a at) x2 p2 s2 g2))
+  one_at_layer l e acts us is js s (r_not a x b p r as1 at f g k) (r_not a2 x2 b2 p2 r2 as2 at2 f2 g2 k2) =
+      let t = one_same a x b x2 b2 p r p2 r2 f g f2 g2 in
       (answers _ _ acts us (λ i. one_code one.Not z (t.1 i) (t.0 i)) k k2, t.2)
-  one_at_layer l e acts us is js s full (r_times a c x y m p q as1 at f g h ni k) (r_moves l2 f2 x2 b2 p2 r2 s2 g2 h2) = absurd (no_bin home z op.Mul a c at x2 p2 (moved home z f2 (Expr-F.Bin op.Mul a c at) x2 p2 s2 g2))
-  one_at_layer l e acts us is js s full (r_times a c x y m p q as1 at f g h ni k) (r_sums o2 a2 c2 x2 y2 b2 p2 q2 r2 as2 at2 op2 f2 g2 h2 k2) = absurd (sum_times (group op.Mul) (sum_group op.Mul op2) (refl))
-  one_at_layer l e acts us is js s full (r_times a c x y m p q as1 at f g h ni k) (r_carries o2 i2 j2 a2 c2 x2 y2 b2 p2 q2 r2 as2 v2 k2 inner2 at2 op2 e3 e4 f2 g2 h2 flag2 span2 code2) = absurd (sum_times (group op.Mul) (carry_group op.Mul op2) (refl))
-  one_at_layer l e acts us is js s full (r_times a c x y m p q as1 at f g h ni k) (r_times a2 c2 x2 y2 m2 p2 q2 as2 at2 f2 g2 h2 ni2 k2) =
-      let u = one_arg home z a x x2 p p2 (λ v n. full v (in_first e a c op.Mul at s n)) f f2 in
-      let v = one_arg home z c y y2 q q2 (λ v n. full v (in_second e a c op.Mul at s n)) g g2 in
+  one_at_layer l e acts us is js s (r_times a c x y m p q as1 at f g h ni k) (r_moves l2 f2 x2 b2 p2 r2 s2 g2 h2) = absurd (no_bin home z op.Mul a c at x2 p2 (moved home z f2 (Expr-F.Bin op.Mul a c at) x2 p2 s2 g2))
+  one_at_layer l e acts us is js s (r_times a c x y m p q as1 at f g h ni k) (r_sums o2 a2 c2 x2 y2 b2 p2 q2 r2 as2 at2 op2 f2 g2 h2 k2) = absurd (sum_times (group op.Mul) (sum_group op.Mul op2) (refl))
+  one_at_layer l e acts us is js s (r_times a c x y m p q as1 at f g h ni k) (r_carries o2 i2 j2 a2 c2 x2 y2 b2 p2 q2 r2 as2 v2 k2 inner2 at2 op2 e3 e4 f2 g2 h2 flag2 span2 code2) = absurd (sum_times (group op.Mul) (carry_group op.Mul op2) (refl))
+  one_at_layer l e acts us is js s (r_times a c x y m p q as1 at f g h ni k) (r_times a2 c2 x2 y2 m2 p2 q2 as2 at2 f2 g2 h2 ni2 k2) =
+      let u = one_arg home z a x x2 p p2 f f2 in
+      let v = one_arg home z c y y2 q q2 g g2 in
       let w = word_same m m2 h h2 in
       (answers _ _ acts us (λ i. times_code z (w i) (u.0 i) (v.0 i)) k k2, λ i. two_shown (not (is_imm (u.0 i))) (arg.Var (w i)) (u.0 i) (v.0 i) (u.1 i) (v.1 i))
-  one_at_layer l e acts us is js s full (r_times a c x y m p q as1 at f g h ni k) (r_times_by a2 c2 x2 i2 m2 p2 at2 f2 g2 h2) = absurd (subst NotImm (one_arg home z c y (arg.Imm i2) q silent (λ v n. full v (in_second e a c op.Mul at s n)) g g2).0 ni)
-  one_at_layer l e acts us is js s full (r_times a c x y m p q as1 at f g h ni k) (r_shifts o2 a2 g2 x2 b2 p2 r2 as2 n2 there2 at2 op2 e2x f2 h2 k2) = absurd (times_shift (group op.Mul) (refl) (shift_group op.Mul op2))
-  one_at_layer l e acts us is js s full (r_times a c x y m p q as1 at f g h ni k) (r_shifts_by o2 a2 g2 u2 m2 x2 b2 p2 r2 as2 v2 k2 inner2 at2 op2 e3 e4 register2 span2 f2 h2 code2) = absurd (times_shift (group op.Mul) (refl) (shift_group op.Mul op2))
-  one_at_layer l e acts us is js s full (r_times_by a c x i m p at f g h) (r_moves l2 f2 x2 b2 p2 r2 s2 g2 h2) = absurd (no_bin home z op.Mul a c at x2 p2 (moved home z f2 (Expr-F.Bin op.Mul a c at) x2 p2 s2 g2))
-  one_at_layer l e acts us is js s full (r_times_by a c x i m p at f g h) (r_sums o2 a2 c2 x2 y2 b2 p2 q2 r2 as2 at2 op2 f2 g2 h2 k2) = absurd (sum_times (group op.Mul) (sum_group op.Mul op2) (refl))
-  one_at_layer l e acts us is js s full (r_times_by a c x i m p at f g h) (r_carries o2 i2 j2 a2 c2 x2 y2 b2 p2 q2 r2 as2 v2 k2 inner2 at2 op2 e3 e4 f2 g2 h2 flag2 span2 code2) = absurd (sum_times (group op.Mul) (carry_group op.Mul op2) (refl))
-  one_at_layer l e acts us is js s full (r_times_by a c x i m p at f g h) (r_times a2 c2 x2 y2 m2 p2 q2 as2 at2 f2 g2 h2 ni2 k2) = absurd (subst NotImm (sym (one_arg home z c (arg.Imm i) y2 silent q2 (λ v n. full v (in_second e a c op.Mul at s n)) g g2).0) ni2)
-  one_at_layer l e acts us is js s full (r_times_by a c x i m p at f g h) (r_times_by a2 c2 x2 i2 m2 p2 at2 f2 g2 h2) =
-      let u = one_arg home z a x x2 p p2 (λ v n. full v (in_first e a c op.Mul at s n)) f f2 in
-      let v = imm_is i i2 (one_arg home z c (arg.Imm i) (arg.Imm i2) silent silent (λ v n. full v (in_second e a c op.Mul at s n)) g g2).0 in
+  one_at_layer l e acts us is js s (r_times a c x y m p q as1 at f g h ni k) (r_times_by a2 c2 x2 i2 m2 p2 at2 f2 g2 h2) = absurd (subst NotImm (one_arg home z c y (arg.Imm i2) q silent g g2).0 ni)
+  one_at_layer l e acts us is js s (r_times a c x y m p q as1 at f g h ni k) (r_shifts o2 a2 g2 x2 b2 p2 r2 as2 n2 there2 at2 op2 e2x f2 h2 k2) = absurd (times_shift (group op.Mul) (refl) (shift_group op.Mul op2))
+  one_at_layer l e acts us is js s (r_times a c x y m p q as1 at f g h ni k) (r_shifts_by o2 a2 g2 u2 m2 x2 b2 p2 r2 as2 v2 k2 inner2 at2 op2 e3 e4 register2 span2 f2 h2 code2) = absurd (times_shift (group op.Mul) (refl) (shift_group op.Mul op2))
+  one_at_layer l e acts us is js s (r_times_by a c x i m p at f g h) (r_moves l2 f2 x2 b2 p2 r2 s2 g2 h2) = absurd (no_bin home z op.Mul a c at x2 p2 (moved home z f2 (Expr-F.Bin op.Mul a c at) x2 p2 s2 g2))
+  one_at_layer l e acts us is js s (r_times_by a c x i m p at f g h) (r_sums o2 a2 c2 x2 y2 b2 p2 q2 r2 as2 at2 op2 f2 g2 h2 k2) = absurd (sum_times (group op.Mul) (sum_group op.Mul op2) (refl))
+  one_at_layer l e acts us is js s (r_times_by a c x i m p at f g h) (r_carries o2 i2 j2 a2 c2 x2 y2 b2 p2 q2 r2 as2 v2 k2 inner2 at2 op2 e3 e4 f2 g2 h2 flag2 span2 code2) = absurd (sum_times (group op.Mul) (carry_group op.Mul op2) (refl))
+  one_at_layer l e acts us is js s (r_times_by a c x i m p at f g h) (r_times a2 c2 x2 y2 m2 p2 q2 as2 at2 f2 g2 h2 ni2 k2) = absurd (subst NotImm (sym (one_arg home z c (arg.Imm i) y2 silent q2 g g2).0) ni2)
+  one_at_layer l e acts us is js s (r_times_by a c x i m p at f g h) (r_times_by a2 c2 x2 i2 m2 p2 at2 f2 g2 h2) =
+      let u = one_arg home z a x x2 p p2 f f2 in
+      let v = imm_is i i2 (one_arg home z c (arg.Imm i) (arg.Imm i2) silent silent g g2).0 in
       let w = word_same m m2 h h2 in
       ((λ j. times_by_code z (w j) (u.0 j) (v j)), λ j. These (numbers_from (u.1 j) 0) ∷ [])
-  one_at_layer l e acts us is js s full (r_times_by a c x i m p at f g h) (r_shifts o2 a2 g2 x2 b2 p2 r2 as2 n2 there2 at2 op2 e2x f2 h2 k2) = absurd (times_shift (group op.Mul) (refl) (shift_group op.Mul op2))
-  one_at_layer l e acts us is js s full (r_times_by a c x i m p at f g h) (r_shifts_by o2 a2 g2 u2 m2 x2 b2 p2 r2 as2 v2 k2 inner2 at2 op2 e3 e4 register2 span2 f2 h2 code2) = absurd (times_shift (group op.Mul) (refl) (shift_group op.Mul op2))
-  one_at_layer l e acts us is js s full (r_shifts o a g x b p r as1 n there at op1 e1 f h k) (r_moves l2 f2 x2 b2 p2 r2 s2 g2 h2) = absurd (no_bin home z o a g at x2 p2 (moved home z f2 (Expr-F.Bin o a g at) x2 p2 s2 g2))
-  one_at_layer l e acts us is js s full (r_shifts o a g x b p r as1 n there at op1 e1 f h k) (r_sums o2 a2 c2 x2 y2 b2 p2 q2 r2 as2 at2 op2 f2 g2 h2 k2) = absurd (sum_shift (group o) (sum_group o op2) (shift_group o op1))
-  one_at_layer l e acts us is js s full (r_shifts o a g x b p r as1 n there at op1 e1 f h k) (r_carries o2 i2 j2 a2 c2 x2 y2 b2 p2 q2 r2 as2 v2 k2 inner2 at2 op2 e3 e4 f2 g2 h2 flag2 span2 code2) = absurd (sum_shift (group o) (carry_group o op2) (shift_group o op1))
-  one_at_layer l e acts us is js s full (r_shifts o a g x b p r as1 n there at op1 e1 f h k) (r_times a2 c2 x2 y2 m2 p2 q2 as2 at2 f2 g2 h2 ni2 k2) = absurd (times_shift (group o) (refl) (shift_group o op1))
-  one_at_layer l e acts us is js s full (r_shifts o a g x b p r as1 n there at op1 e1 f h k) (r_times_by a2 c2 x2 i2 m2 p2 at2 f2 g2 h2) = absurd (times_shift (group o) (refl) (shift_group o op1))
-  one_at_layer l e acts us is js s full (r_shifts o a g x b p r as1 n there at op1 e1 f h k) (r_shifts o2 a2 g2 x2 b2 p2 r2 as2 n2 there2 at2 op2 e2x f2 h2 k2) =
-      let t = one_same a x b x2 b2 p r p2 r2 (λ v n. full v (in_first e a g o at s n)) f h f2 h2 in
+  one_at_layer l e acts us is js s (r_times_by a c x i m p at f g h) (r_shifts o2 a2 g2 x2 b2 p2 r2 as2 n2 there2 at2 op2 e2x f2 h2 k2) = absurd (times_shift (group op.Mul) (refl) (shift_group op.Mul op2))
+  one_at_layer l e acts us is js s (r_times_by a c x i m p at f g h) (r_shifts_by o2 a2 g2 u2 m2 x2 b2 p2 r2 as2 v2 k2 inner2 at2 op2 e3 e4 register2 span2 f2 h2 code2) = absurd (times_shift (group op.Mul) (refl) (shift_group op.Mul op2))
+  one_at_layer l e acts us is js s (r_shifts o a g x b p r as1 n there at op1 e1 f h k) (r_moves l2 f2 x2 b2 p2 r2 s2 g2 h2) = absurd (no_bin home z o a g at x2 p2 (moved home z f2 (Expr-F.Bin o a g at) x2 p2 s2 g2))
+  one_at_layer l e acts us is js s (r_shifts o a g x b p r as1 n there at op1 e1 f h k) (r_sums o2 a2 c2 x2 y2 b2 p2 q2 r2 as2 at2 op2 f2 g2 h2 k2) = absurd (sum_shift (group o) (sum_group o op2) (shift_group o op1))
+  one_at_layer l e acts us is js s (r_shifts o a g x b p r as1 n there at op1 e1 f h k) (r_carries o2 i2 j2 a2 c2 x2 y2 b2 p2 q2 r2 as2 v2 k2 inner2 at2 op2 e3 e4 f2 g2 h2 flag2 span2 code2) = absurd (sum_shift (group o) (carry_group o op2) (shift_group o op1))
+  one_at_layer l e acts us is js s (r_shifts o a g x b p r as1 n there at op1 e1 f h k) (r_times a2 c2 x2 y2 m2 p2 q2 as2 at2 f2 g2 h2 ni2 k2) = absurd (times_shift (group o) (refl) (shift_group o op1))
+  one_at_layer l e acts us is js s (r_shifts o a g x b p r as1 n there at op1 e1 f h k) (r_times_by a2 c2 x2 i2 m2 p2 at2 f2 g2 h2) = absurd (times_shift (group o) (refl) (shift_group o op1))
+  one_at_layer l e acts us is js s (r_shifts o a g x b p r as1 n there at op1 e1 f h k) (r_shifts o2 a2 g2 x2 b2 p2 r2 as2 n2 there2 at2 op2 e2x f2 h2 k2) =
+      let t = one_same a x b x2 b2 p r p2 r2 f h f2 h2 in
       let count = count_is n n2 there there2 (sym e1 ∙ e2x) in
       (answers _ _ acts us (λ i. shift_code (shift_of o) z (t.1 i) (t.0 i) (count i)) k k2, t.2)
-  one_at_layer l e acts us is js s full (r_shifts o a g x b p r as1 n there at op1 e1 f h k) (r_shifts_by o2 a2 g2 u2 m2 x2 b2 p2 r2 as2 v2 k2 inner2 at2 op2 e3 e4 register2 span2 f2 h2 code2) = absurd (num_bin (pos n) op.And u2 m2 there inner2 (sym e1 ∙ e3))
-  one_at_layer l e acts us is js s full (r_shifts_by o a g u m x b p r as1 v k inner at op1 e1 e2 register span f h code) (r_moves l2 f2 x2 b2 p2 r2 s2 g2 h2) = absurd (no_bin home z o a g at x2 p2 (moved home z f2 (Expr-F.Bin o a g at) x2 p2 s2 g2))
-  one_at_layer l e acts us is js s full (r_shifts_by o a g u m x b p r as1 v k inner at op1 e1 e2 register span f h code) (r_sums o2 a2 c2 x2 y2 b2 p2 q2 r2 as2 at2 op2 f2 g2 h2 k2) = absurd (sum_shift (group o) (sum_group o op2) (shift_group o op1))
-  one_at_layer l e acts us is js s full (r_shifts_by o a g u m x b p r as1 v k inner at op1 e1 e2 register span f h code) (r_carries o2 i2 j2 a2 c2 x2 y2 b2 p2 q2 r2 as2 v2 k2 inner2 at2 op2 e3 e4 f2 g2 h2 flag2 span2 code2) = absurd (sum_shift (group o) (carry_group o op2) (shift_group o op1))
-  one_at_layer l e acts us is js s full (r_shifts_by o a g u m x b p r as1 v k inner at op1 e1 e2 register span f h code) (r_times a2 c2 x2 y2 m2 p2 q2 as2 at2 f2 g2 h2 ni2 k2) = absurd (times_shift (group o) (refl) (shift_group o op1))
-  one_at_layer l e acts us is js s full (r_shifts_by o a g u m x b p r as1 v k inner at op1 e1 e2 register span f h code) (r_times_by a2 c2 x2 i2 m2 p2 at2 f2 g2 h2) = absurd (times_shift (group o) (refl) (shift_group o op1))
-  one_at_layer l e acts us is js s full (r_shifts_by o a g u m x b p r as1 v k inner at op1 e1 e2 register span f h code) (r_shifts o2 a2 g2 x2 b2 p2 r2 as2 n2 there2 at2 op2 e2x f2 h2 k2) = absurd (num_bin (pos n2) op.And u m there2 inner (sym e2x ∙ e1))
-  one_at_layer l e acts us is js s full (r_shifts_by o a g u m x b p r as1 v k inner at op1 e1 e2 register span f h code) (r_shifts_by o2 a2 g2 u2 m2 x2 b2 p2 r2 as2 v2 k2 inner2 at2 op2 e3 e4 register2 span2 f2 h2 code2) =
-      let t = one_same a x b x2 b2 p r p2 r2 (λ v n. full v (in_first e a g o at s n)) f h f2 h2 in
+  one_at_layer l e acts us is js s (r_shifts o a g x b p r as1 n there at op1 e1 f h k) (r_shifts_by o2 a2 g2 u2 m2 x2 b2 p2 r2 as2 v2 k2 inner2 at2 op2 e3 e4 register2 span2 f2 h2 code2) = absurd (num_bin (pos n) op.And u2 m2 there inner2 (sym e1 ∙ e3))
+  one_at_layer l e acts us is js s (r_shifts_by o a g u m x b p r as1 v k inner at op1 e1 e2 register span f h code) (r_moves l2 f2 x2 b2 p2 r2 s2 g2 h2) = absurd (no_bin home z o a g at x2 p2 (moved home z f2 (Expr-F.Bin o a g at) x2 p2 s2 g2))
+  one_at_layer l e acts us is js s (r_shifts_by o a g u m x b p r as1 v k inner at op1 e1 e2 register span f h code) (r_sums o2 a2 c2 x2 y2 b2 p2 q2 r2 as2 at2 op2 f2 g2 h2 k2) = absurd (sum_shift (group o) (sum_group o op2) (shift_group o op1))
+  one_at_layer l e acts us is js s (r_shifts_by o a g u m x b p r as1 v k inner at op1 e1 e2 register span f h code) (r_carries o2 i2 j2 a2 c2 x2 y2 b2 p2 q2 r2 as2 v2 k2 inner2 at2 op2 e3 e4 f2 g2 h2 flag2 span2 code2) = absurd (sum_shift (group o) (carry_group o op2) (shift_group o op1))
+  one_at_layer l e acts us is js s (r_shifts_by o a g u m x b p r as1 v k inner at op1 e1 e2 register span f h code) (r_times a2 c2 x2 y2 m2 p2 q2 as2 at2 f2 g2 h2 ni2 k2) = absurd (times_shift (group o) (refl) (shift_group o op1))
+  one_at_layer l e acts us is js s (r_shifts_by o a g u m x b p r as1 v k inner at op1 e1 e2 register span f h code) (r_times_by a2 c2 x2 i2 m2 p2 at2 f2 g2 h2) = absurd (times_shift (group o) (refl) (shift_group o op1))
+  one_at_layer l e acts us is js s (r_shifts_by o a g u m x b p r as1 v k inner at op1 e1 e2 register span f h code) (r_shifts o2 a2 g2 x2 b2 p2 r2 as2 n2 there2 at2 op2 e2x f2 h2 k2) = absurd (num_bin (pos n2) op.And u m there2 inner (sym e2x ∙ e1))
+  one_at_layer l e acts us is js s (r_shifts_by o a g u m x b p r as1 v k inner at op1 e1 e2 register span f h code) (r_shifts_by o2 a2 g2 u2 m2 x2 b2 p2 r2 as2 v2 k2 inner2 at2 op2 e3 e4 register2 span2 f2 h2 code2) =
+      let t = one_same a x b x2 b2 p r p2 r2 f h f2 h2 in
       let inside = first_of op.And op.And u m u2 m2 inner inner2 (sym e1 ∙ e3) in
       let var = same_var v v2 (sym e2 ∙ ap out-Expr inside ∙ e4) in
       let one = register_of k.variable k2.variable S8 S8 (sym register ∙ ap (λ w. home (key_of (ref_of w))) var ∙ register2) in
       let pin = pinned_is k k2 one (span_is v v2 k.span k2.span var span span2) in
       (answers _ _ acts us (λ i. shift_by_code (shift_of o) z (t.1 i) (t.0 i) (pin i)) code code2, t.2)
-  one_at_layer l e acts us is js s full (r_extends a y from w m p sign at size less f g) (r_moves l2 f2 x2 b2 p2 r2 s2 g2 h2) = absurd (no_cast home z w sign a at x2 p2 (moved home z f2 (Expr-F.Cast w sign a at) x2 p2 s2 g2))
-  one_at_layer l e acts us is js s full (r_extends a y from w m p sign at size less f g) (r_extends a2 y2 from2 w2 m2 p2 sign2 at2 size2 less2 f2 g2) =
+  one_at_layer l e acts us is js s (r_extends a y from w m p sign at size less f g) (r_moves l2 f2 x2 b2 p2 r2 s2 g2 h2) = absurd (no_cast home z w sign a at x2 p2 (moved home z f2 (Expr-F.Cast w sign a at) x2 p2 s2 g2))
+  one_at_layer l e acts us is js s (r_extends a y from w m p sign at size less f g) (r_extends a2 y2 from2 w2 m2 p2 sign2 at2 size2 less2 f2 g2) =
       let from_is = same_some from from2 (sym size ∙ size2) in
-      let u = one_arg home from a y y2 p p2 (λ v n. full v (in_cast e a w sign at s n)) f (subst (λ t. IsArg home t a y2 p2) (sym from_is) f2) in
+      let u = one_arg home from a y y2 p p2 f (subst (λ t. IsArg home t a y2 p2) (sym from_is) f2) in
       let w1 = word_same m m2 g g2 in
       ((λ i. extend_code sign z (from_is i) (w1 i) (u.0 i)), λ i. These (numbers_from (u.1 i) 0) ∷ [])
-  one_at_layer l e acts us is js s full (r_extends a y from w m p sign at size less f g) (r_lowest a2 from2 w2 m2 n2 at2 size2 more2 f2 g2) = absurd (let from_is = same_some from from2 (sym size ∙ size2) in too_small from from2 z from_is less more2)
-  one_at_layer l e acts us is js s full (r_lowest a from w m n at size more f g) (r_moves l2 f2 x2 b2 p2 r2 s2 g2 h2) = absurd (no_cast home z w false a at x2 p2 (moved home z f2 (Expr-F.Cast w false a at) x2 p2 s2 g2))
-  one_at_layer l e acts us is js s full (r_lowest a from w m n at size more f g) (r_extends a2 y2 from2 w2 m2 p2 sign2 at2 size2 less2 f2 g2) = absurd (let from_is = same_some from2 from (sym size2 ∙ size) in too_small from2 from z from_is less2 more)
-  one_at_layer l e acts us is js s full (r_lowest a from w m n at size more f g) (r_lowest a2 from2 w2 m2 n2 at2 size2 more2 f2 g2) =
+  one_at_layer l e acts us is js s (r_extends a y from w m p sign at size less f g) (r_lowest a2 from2 w2 m2 n2 at2 size2 more2 f2 g2) = absurd (let from_is = same_some from from2 (sym size ∙ size2) in too_small from from2 z from_is less more2)
+  one_at_layer l e acts us is js s (r_lowest a from w m n at size more f g) (r_moves l2 f2 x2 b2 p2 r2 s2 g2 h2) = absurd (no_cast home z w false a at x2 p2 (moved home z f2 (Expr-F.Cast w false a at) x2 p2 s2 g2))
+  one_at_layer l e acts us is js s (r_lowest a from w m n at size more f g) (r_extends a2 y2 from2 w2 m2 p2 sign2 at2 size2 less2 f2 g2) = absurd (let from_is = same_some from2 from (sym size2 ∙ size) in too_small from2 from z from_is less2 more)
+  one_at_layer l e acts us is js s (r_lowest a from w m n at size more f g) (r_lowest a2 from2 w2 m2 n2 at2 size2 more2 f2 g2) =
       let from_is = same_some from from2 (sym size ∙ size2) in
-      let u = one_arg home from a (arg.Var n) (arg.Var n2) silent silent (λ v k. full v (in_cast e a w false at s k)) f (subst (λ t. IsArg home t a (arg.Var n2) silent) (sym from_is) f2) in
+      let u = one_arg home from a (arg.Var n) (arg.Var n2) silent silent f (subst (λ t. IsArg home t a (arg.Var n2) silent) (sym from_is) f2) in
       let w1 = word_same m m2 g g2 in
       ((λ i. move_code z (arg.Var (w1 i)) (u.0 i)), refl)
 
-  pub one_row : (e : Expr) (acts us : List Action) (is js : List Numbers) → IsFullExpr e → HasRow home z d e acts is → HasRow home z d e us js → (acts ≡ us) × (is ≡ js)
-  one_row e acts us is js full f g = one_at_layer (out-Expr e) e acts us is js refl full (row_layer home z d e acts is f) (row_layer home z d e us js g)
+  pub one_row : (e : Expr) (acts us : List Action) (is js : List Numbers) → HasRow home z d e acts is → HasRow home z d e us js → (acts ≡ us) × (is ≡ js)
+  one_row e acts us is js f g = one_at_layer (out-Expr e) e acts us is js refl (row_layer home z d e acts is f) (row_layer home z d e us js g)

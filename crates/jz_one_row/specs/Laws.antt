@@ -14,7 +14,6 @@ use Rattle.jz_homes.specs.Homes.{Homes}
 use Rattle.jz_homes.specs.Sums.{Sum, IsSum, IsAddress, IsIndex}
 use Rattle.jz_homes.specs.Operands.{Leaks, IsArg, IsDest}
 use Rattle.jz_row_operations.specs.Lowering.{Lowers, LowersTest, LowersLoopTest}
-use Rattle.jz_one_row.specs.Arrays.{IsFullExpr, IsFullLeft, IsFullOperation}
 
 abbrev pub OneAddress : Type 0
 OneAddress =
@@ -28,25 +27,25 @@ OneIndex =
 
 abbrev pub OneArgument : Type 0
 OneArgument =
-    (home : Homes) (z : Size) (e : Expr) (a b : Arg) (p q : Leaks) → IsFullExpr e
+    (home : Homes) (z : Size) (e : Expr) (a b : Arg) (p q : Leaks)
     → IsArg home z e a p → IsArg home z e b q → (a ≡ b) × (p ≡ q)
 
 abbrev pub OneDestination : Type 0
 OneDestination =
-    (home : Homes) (z : Size) (d : Lval) (a b : Arg) (p q : Leaks) → IsFullLeft d
+    (home : Homes) (z : Size) (d : Lval) (a b : Arg) (p q : Leaks)
     → IsDest home z d a p → IsDest home z d b q → (a ≡ b) × (p ≡ q)
 
 abbrev pub OneLowering : Type 0
 OneLowering =
     (home : Homes) (o : source.Operation) (os us : List Operation) (is js : List Numbers)
-    → IsFullOperation o → Lowers home o os is → Lowers home o us js → (os ≡ us) × (is ≡ js)
+    → Lowers home o os is → Lowers home o us js → (os ≡ us) × (is ≡ js)
 
 abbrev pub OneTest : Type 0
 OneTest =
-    (home : Homes) (t : Condition) (a b : Asked) (i j : Numbers) → IsFullExpr t.cond
+    (home : Homes) (t : Condition) (a b : Asked) (i j : Numbers)
     → LowersTest home t a i → LowersTest home t b j → (a ≡ b) × (i ≡ j)
 
 abbrev pub OneLoopTest : Type 0
 OneLoopTest =
-    (home : Homes) (t : Condition) (a b : Asked) (i j : Numbers) → IsFullExpr t.cond
+    (home : Homes) (t : Condition) (a b : Asked) (i j : Numbers)
     → LowersLoopTest home t a i → LowersLoopTest home t b j → (a ≡ b) × (i ≡ j)

@@ -3,8 +3,8 @@
 ghost use Rattle.jz_one_row.specs.Laws.{OneAddress, OneIndex, OneArgument, OneDestination};
 ghost use Rattle.jz_one_row.specs.Laws.{OneLowering, OneTest, OneLoopTest};
 
-/// An expression is one sum, address and index, one operand of each size, and a left side one
-/// destination, where the array has cells.
+/// An expression is one sum, address and index, and one operand of each size; a left side is one
+/// destination.
 pub fn one_argument()
     ensures addresses { OneAddress }
     ensures indices { OneIndex }
@@ -12,8 +12,8 @@ pub fn one_argument()
     ensures destinations { OneDestination }
 {}
 
-/// Where the arrays that it names have cells a statement has one list of operations, each of which
-/// shows one list of its numbers, and a test one comparison with its condition.
+/// A statement has one list of operations, each of which shows one list of its numbers, and a test
+/// one comparison with its condition.
 pub fn one_lowering()
     ensures statements { OneLowering }
     ensures tests { OneTest }

@@ -84,19 +84,20 @@ ref_copy x = ap (λ w. (ref_of w).copy) (sym (roll-out-Var x)) ∙ ap (λ (r : R
 below : (i n : ℕ) (w : ℕ) (s : Size) → i < n → (if nat_lt i n then Some (in_cell w i s) else None) ≡ Some (in_cell w i s)
 below i n w s h = let e : nat_lt i n ≡ true = lt-ltb i n h in rw e refl
 
-pub array_at : (t : code.Homes) (x : Var) (w : ℕ) (y z s : Size) (n m : ℕ) → (ref_of x).kind ≡ kind.Array z m → entry_at t (out-Var x).name (out-Var x).copy None ≡ Some (Cells w y n) → same_size z s ≡ true → same_size y s ≡ true → n ≡ m → IsArrayAt (homes_of t) x s w
-array_at t x w y z s n m k e f g same = (
+pub array_at : (t : code.Homes) (x : Var) (w : ℕ) (y z s : Size) (n m : ℕ) → (ref_of x).kind ≡ kind.Array z m → entry_at t (out-Var x).name (out-Var x).copy None ≡ Some (Cells w y n) → same_size z s ≡ true → same_size y s ≡ true → n ≡ m → 0 < m → IsArrayAt (homes_of t) x s w
+array_at t x w y z s n m k e f g same some = (
   m,
   k ∙ ap (λ u. kind.Array u m) (size_one z s f),
+  some,
   λ i h. ap (λ o. home_within (Some i) o (entry_at t (ref_of x).name (ref_of x).copy (Some i))) (ap (λ l. entry_at t l (ref_of x).copy None) (ref_name x) ∙ ap (λ c. entry_at t (out-Var x).name c None) (ref_copy x) ∙ e)
       ∙ below i n w y (subst (λ u. i < u) (sym same) h) ∙ ap (λ u. Some (in_cell w i u)) (size_one y s g),
 )
 
 pub cell_arg : {home : Homes} (x : Var) (e : Expr) (z : Size) (w : ℕ) (b : Option ℕ) (i : ℤ) → IsArrayAt home x z w → IsIndexOf home e b i → IsArg home z (expr.Cell x e) (arg.Cell (record { of = w; index = b; offset = i })) (cell_leaks b)
-cell_arg x e z w b i h k = a_cell x e h.0 w k.sum b i (h.1, h.2) k.is k.index
+cell_arg x e z w b i h k = a_cell x e h.0 w k.sum b i (h.1, h.2, h.3) k.is k.index
 
 pub cell_dest : {home : Homes} (x : Var) (e : Expr) (z : Size) (w : ℕ) (b : Option ℕ) (i : ℤ) → IsArrayAt home x z w → IsIndexOf home e b i → IsDest home z (lval.Cell x e) (arg.Cell (record { of = w; index = b; offset = i })) (cell_leaks b)
-cell_dest x e z w b i h k = to_cell x e h.0 w k.sum b i (h.1, h.2) k.is k.index
+cell_dest x e z w b i h k = to_cell x e h.0 w k.sum b i (h.1, h.2, h.3) k.is k.index
 
 -- ---- memory
 pub load_arg : {home : Homes} (a : Access) (z : Size) (m : Address) → HasSize a z → IsAddressOf home a.at m → IsArg home z (expr.Load a) (arg.Mem m) told

@@ -61,10 +61,10 @@ homes_by entries k = home_within k.cell (entries (record k { cell = None })) (en
 abbrev pub homes_of : code.Homes → homes.Homes
 homes_of t = homes_by (entries_of t)
 
--- the cells of an array are those of a stack variable
+-- an array has cells, which are those of a stack variable
 abbrev pub IsArrayAt : homes.Homes → Var → Size → ℕ → Type 0
 IsArrayAt home x z w =
-    (n : ℕ) × ((ref_of x).kind ≡ kind.Array z n)
+    (n : ℕ) × ((ref_of x).kind ≡ kind.Array z n) × (0 < n)
     × ((i : ℕ) → i < n → home (cell_key (ref_of x) i) ≡ Some (in_cell w i z))
 
 -- an access that has no size has that of the other side

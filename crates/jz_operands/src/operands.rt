@@ -88,7 +88,7 @@ fn cells(homes: &Homes, size: Size, var: &Var) -> Option<u32>
     match kind_of(var) {
         Kind::Array(z, count) => match homes.at(&var.name, var.copy, None) {
             Some(Home::Cells(w, y, n)) => {
-                if same_size(z, size) && same_size(y, size) && n == count {
+                if same_size(z, size) && same_size(y, size) && n == count && count > 0 {
                     Some(w)
                 } else {
                     None

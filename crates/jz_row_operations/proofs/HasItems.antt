@@ -47,7 +47,7 @@ row_many at (lowest there own le ia id) = one_each none_each
 
 lowers_many : (home : Homes) (o : Operation) (os : List Made) (items : List Numbers) → Lowers home o os items → AsMany os items
 lowers_many home o os items (sets {at = at} whole size row once) = row_many at row
-lowers_many home o os items (sets_if z wide kind' h ie ni cmp) = one_each (one_each none_each)
+lowers_many home o os items (sets_if z wide kind' h ie ni cmp can) = one_each (one_each none_each)
 
 nothing_many : (os : List Made) (items : List Numbers) → os ≡ [] → items ≡ [] → AsMany os items
 nothing_many os items e f = subst (λ x. AsMany x items) (sym e) (subst (λ y. AsMany {O = Made} [] y) (sym f) none_each)

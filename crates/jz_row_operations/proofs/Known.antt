@@ -115,7 +115,7 @@ module _ (frame : Frame) (home : Homes) (homing : IsHoming frame home) where
   op_goes o os items s t σ ns (sets {o = p} {e = e} {at = at} whole size row once) related run =
       let g = sets_goes frame home homing s σ related p e at t ns whole size row run in
       (g.goes.ran.state, does_all frame ns os items σ g.goes.ran g.goes.goes (subst (AreItems ns items) (sym g.goes.shows) g.are), g.goes.agrees)
-  op_goes o os items s t σ ns (sets_if {x} {at = at} z wide kind' h ie ni cmp) related run =
+  op_goes o os items s t σ ns (sets_if {x} {at = at} z wide kind' h ie ni cmp can) related run =
       let g = sets_if_goes frame home homing s σ related x at z t ns kind' h ie cmp run in
       (g.goes.ran.state, does_all frame ns os items σ g.goes.ran g.goes.goes (subst (AreItems ns items) (sym g.goes.shows) g.are), g.goes.agrees)
 

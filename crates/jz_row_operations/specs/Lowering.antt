@@ -27,8 +27,7 @@ use Rattle.jz_operations.specs.declared.operation.Condition.TheVariants as condi
 use Rattle.jz_operations.specs.declared.operation.Action.{Action}
 use Rattle.jz_operations.specs.declared.operation.Action.TheVariants as action
 use Rattle.jz_operations.specs.declared.operation.Operation.{Operation}
-use Rattle.jz_operations.specs.Rows.{accesses}
-use Rattle.jz_placing.specs.Placing.{HasOneAccess}
+use Rattle.jz_encodable.specs.Encodable.{CanEncode}
 use Rattle.jz_placing.specs.Variables.{Asked, always, asks}
 use Rattle.jz_change.specs.declared.change.Number.{Number}
 use Rattle.jz_change.specs.declared.change.Number.TheVariants.{Nth}
@@ -64,11 +63,6 @@ abbrev pub one_shown : Arg → Arg → Leaks → List Numbers
 one_shown d x p = both_shown (same_arg d x) false (numbers_from p 0) []
 
 -- ---- assignments
--- an instruction has at most one operand in memory or in a cell; as destination and first operand
--- it counts once
-abbrev pub IsAccessedOnce : Action → Type 0
-IsAccessedOnce a = HasOneAccess (accesses a)
-
 -- The row of `d = e`, at the size z: its actions, and the numbers that each of them shows. The
 -- source leaks the numbers of the operands from left to right, and then that of the destination.
 module _ (home : Homes) (z : Size) (d : Lval) where
@@ -151,7 +145,7 @@ pub data IsCompared (home : Homes) (at : Span) :
       {o : BinOp} {c : Cond} {z : Size} {a b : Expr} {x y : Arg} {p q : Leaks} (here : Span)
       → cond_of o ≡ Some c → option_or (own_size a) (own_size b) ≡ Some z
       → IsArg home z a x p → IsArg home z b y q → NotImm x
-      → IsAccessedOnce (action.Alu alu.Cmp z x y None)
+      → CanEncode (action.Alu alu.Cmp z x y None)
       → IsCompared home at (expr.Bin o a b here) (plain at (action.Alu alu.Cmp z x y None)) c p q
   denies :
       {e : Expr} {compare : Operation} {c : Cond} {p q : Leaks} (here : Span)
@@ -162,14 +156,16 @@ abbrev pub condition_shown : Leaks → Leaks → ℕ → Numbers
 condition_shown p q i = These (numbers_from p i ++ numbers_from q (i + count_of p))
 
 -- ---- statements
--- the operations of a statement, each at its span, with the numbers that each of them shows
+-- The operations of a statement, each at its span, with the numbers that each of them shows. Each
+-- can be encoded: it has at most one operand in memory or in a cell, which as destination and first
+-- operand counts once, and its numbers have fields.
 pub data Lowers (home : Homes) : source.Operation → List Operation → List Numbers → Type 0 where
   -- `d = e` and `d op= e`, which is `d = d op e`
   sets :
       {d : Lval} {o : Option BinOp} {e w : Expr} {z : Size} {acts : List Action}
       {items : List Numbers} {at : Span}
       → whole_of (Some d) o e ≡ Some w → option_or (left_sizes (d ∷ [])) (own_size w) ≡ Some z
-      → HasRow home z d w acts items → All IsAccessedOnce acts
+      → HasRow home z d w acts items → All CanEncode acts
       → Lowers home (assign (d ∷ []) o e None at) (lasting at no_flag acts) items
   -- `r = o if c`: the operand is read before the condition in the source, and behind it here
   sets_if :
@@ -177,7 +173,7 @@ pub data Lowers (home : Homes) : source.Operation → List Operation → List Nu
       {at : Span} (z : Size)
       → IsWide z → (ref_of x).kind ≡ kind.Word z
       → home (key_of (ref_of x)) ≡ Some (in_register m z) → IsArg home z e y p → NotImm y
-      → IsCompared home at k compare c q r
+      → IsCompared home at k compare c q r → CanEncode (action.Cmov (condition.Cc c) z m y)
       → Lowers home (assign (lval.Var x ∷ []) None e (Some k) at)
       (compare ∷ plain at (action.Cmov (condition.Cc c) z m y) ∷ [])
       (condition_shown q r (count_of p) ∷ These (numbers_from p 0) ∷ [])

@@ -19,12 +19,13 @@ use Rattle.jz_operations.specs.declared.operation.Condition.TheVariants as condi
 use Rattle.jz_operations.specs.declared.operation.Action.{Action}
 use Rattle.jz_operations.specs.declared.operation.Action.TheVariants as action
 use Rattle.jz_meaning.specs.Statements.{assign}
+use Rattle.jz_encodable.specs.Encodable.{CanEncode}
 use Rattle.jz_change.specs.declared.change.Numbers.TheVariants.{These}
 use Rattle.jz_homes.specs.Homes.{Homes, in_register}
 use Rattle.jz_homes.specs.Operands.{count_of, IsArg}
 use Rattle.jz_row_operations.specs.Codes.{no_flag, plain, lasting}
 use Rattle.jz_row_operations.specs.Rows.{IsWide, NotImm, opposite}
-use Rattle.jz_row_operations.specs.Lowering.{numbers_from, IsAccessedOnce, IsCompared, denies, condition_shown, Lowers, sets, sets_if}
+use Rattle.jz_row_operations.specs.Lowering.{numbers_from, IsCompared, denies, condition_shown, Lowers, sets, sets_if}
 use Rattle.jz_operands.specs.declared.operands.Operand.{Operand}
 use Rattle.jz_operands.specs.TableHomes.{leaks_of}
 use Rattle.jz_rows.specs.declared.row.Row.{Row}
@@ -35,16 +36,16 @@ use Rattle.jz_rows.specs.Rows.{nth_of, item_of, acts_of, items_of, Compares, IsR
 use Rattle.jz_rows.specs.InnerRows.{IsSet}
 use Rattle.jz_rows.proofs.BringLemmas.{item_both, item_one}
 
--- ---- accesses
-pub one_once : (a : Act) → IsAccessedOnce a.action → All IsAccessedOnce (a.action ∷ [])
-one_once a h = All-cons IsAccessedOnce a.action [] h (All-nil IsAccessedOnce)
+-- ---- actions that can be encoded
+pub one_can : (a : Act) → CanEncode a.action → All CanEncode (a.action ∷ [])
+one_can a h = All-cons CanEncode a.action [] h (All-nil CanEncode)
 
-pub alone_once : (r : Row) → r.before ≡ None → IsAccessedOnce r.last.action → All IsAccessedOnce (acts_of r)
-alone_once r e h = subst (λ b. All IsAccessedOnce (acts_of (record { before = b; last = r.last }))) (sym e) (one_once r.last h)
+pub alone_can : (r : Row) → r.before ≡ None → CanEncode r.last.action → All CanEncode (acts_of r)
+alone_can r e h = subst (λ b. All CanEncode (acts_of (record { before = b; last = r.last }))) (sym e) (one_can r.last h)
 
-pub both_once : (r : Row) (a : Act) → r.before ≡ Some a → IsAccessedOnce a.action → IsAccessedOnce r.last.action → All IsAccessedOnce (acts_of r)
-both_once r a e h k =
-    subst (λ b. All IsAccessedOnce (acts_of (record { before = b; last = r.last }))) (sym e) (All-cons IsAccessedOnce a.action (r.last.action ∷ []) h (one_once r.last k))
+pub both_can : (r : Row) (a : Act) → r.before ≡ Some a → CanEncode a.action → CanEncode r.last.action → All CanEncode (acts_of r)
+both_can r a e h k =
+    subst (λ b. All CanEncode (acts_of (record { before = b; last = r.last }))) (sym e) (All-cons CanEncode a.action (r.last.action ∷ []) h (one_can r.last k))
 
 -- ---- `to = value` and `to op= value`
 lasting_plain : (at : Span) (acts : List Action) → lasting at no_flag acts ≡ map (plain at) acts
@@ -55,7 +56,7 @@ lasting_plain at (a ∷ b ∷ bs) = ap (λ l. plain at a ∷ l) (lasting_plain a
 pub set_is : (home : Homes) (d : Lval) (o : Option BinOp) (e w : Expr) (left : Option Size) (r : Row) → whole_of (Some d) o e ≡ Some w → left ≡ left_sizes (d ∷ []) → IsSet home left d w r → IsRowOf home (d ∷ []) o e None r
 set_is home d o e w left r whole size h = λ at.
     subst (λ os. Lowers home (assign (d ∷ []) o e None at) os (items_of r)) (lasting_plain at (acts_of r))
-    (sets whole (ap (λ z. option_or z (own_size w)) (sym size) ∙ h.is_size) h.row h.once)
+    (sets whole (ap (λ z. option_or z (own_size w)) (sym size) ∙ h.is_size) h.row h.can)
 
 -- ---- comparisons
 pub denied_is : (home : Homes) (e : Expr) (here : Span) (c : Comparison) (k : Cond) → Compares home e c → k ≡ opposite c.cond → Compares home (expr.Not e here) (record { action = c.action; cond = k; first = c.first; second = c.second })
@@ -69,15 +70,15 @@ shown_is c n m s t e f g = item_both s t (numbers_from (leaks_of c.first) n) (nu
 pub choice_is : (home : Homes) (x : Var) (e k : Expr) (y : Operand) (z : Size) (m : ℕ) (c : Comparison) (s : Shown) (u : Option ℕ) (n : ℕ) → IsWide z → (ref_of x).kind ≡ kind.Word z → home (key_of (ref_of x)) ≡ Some (in_register m z)
     → IsArg home z e y.arg (leaks_of y.leaks) → NotImm y.arg → Compares home k c → n ≡ count_of (leaks_of y.leaks)
     → item_of s ≡ condition_shown (leaks_of c.first) (leaks_of c.second) n → nth_of u ≡ numbers_from (leaks_of y.leaks) 0
-    → IsRowOf home (lval.Var x ∷ []) None e (Some k) (record {
+    → CanEncode (action.Cmov (condition.Cc c.cond) z m y.arg) → IsRowOf home (lval.Var x ∷ []) None e (Some k) (record {
       before = Some (record { action = c.action; shown = s });
       last = record { action = action.Cmov (condition.Cc c.cond) z m y.arg; shown = record { first = u; second = None } };
     })
-choice_is home x e k y z m c s u n wide kind' h ie ni cmp is f j = λ at.
+choice_is home x e k y z m c s u n wide kind' h ie ni cmp is f j can = λ at.
     let p = leaks_of c.first in
     let q = leaks_of c.second in
     let compare : item_of s ≡ condition_shown p q (count_of (leaks_of y.leaks)) = f ∙ ap (λ i. condition_shown p q i) is in
     let choose : item_of (record { first = u; second = None }) ≡ These (numbers_from (leaks_of y.leaks) 0) = item_one u (numbers_from (leaks_of y.leaks) 0) j in
     subst (λ l. Lowers home (assign (lval.Var x ∷ []) None e (Some k) at) (plain at c.action ∷ plain at (action.Cmov (condition.Cc c.cond) z m y.arg) ∷ []) (l ∷ item_of (record { first = u; second = None }) ∷ [])) (sym compare)
     (subst (λ l. Lowers home (assign (lval.Var x ∷ []) None e (Some k) at) (plain at c.action ∷ plain at (action.Cmov (condition.Cc c.cond) z m y.arg) ∷ []) (condition_shown p q (count_of (leaks_of y.leaks)) ∷ l ∷ [])) (sym choose)
-    (sets_if z wide kind' h ie ni (cmp at)))
+    (sets_if z wide kind' h ie ni (cmp at) can))

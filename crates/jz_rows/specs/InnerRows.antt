@@ -6,9 +6,10 @@ use Rattle.jz_tree.specs.declared.expr.Expr.{Expr}
 use Rattle.jz_tree.specs.declared.stmt.Lval.{Lval}
 use Rattle.jz_meaning.specs.Values.{own_size}
 use Rattle.jz_operations.specs.declared.operation.Arg.{Arg}
+use Rattle.jz_encodable.specs.Encodable.{CanEncode}
 use Rattle.jz_homes.specs.Homes.{Homes}
 use Rattle.jz_row_operations.specs.Table.{brought}
-use Rattle.jz_row_operations.specs.Lowering.{two_shown, IsAccessedOnce, HasRow}
+use Rattle.jz_row_operations.specs.Lowering.{two_shown, HasRow}
 use Rattle.jz_operands.specs.declared.operands.Operand.{Operand}
 use Rattle.jz_operands.specs.TableHomes.{homes_of, leaks_of}
 use Rattle.jz_rows.specs.declared.bringing.Brought.{Brought}
@@ -28,9 +29,9 @@ pub record IsBrought (swaps : Bool) (z : Size) (d : Arg) (x y : Operand) (b : Br
       items_in b.before ++ (item_of b.shown ∷ [])
       ≡ two_shown swaps d x.arg y.arg (leaks_of x.leaks) (leaks_of y.leaks)
 
--- the row of an assignment, where the left sides have this size; each action accesses once
+-- the row of an assignment, where the left sides have this size; each action can be encoded
 pub record IsSet (home : Homes) (left : Option Size) (d : Lval) (w : Expr) (r : Row) : Type 0 where
   pub size : Size
   pub is_size : option_or left (own_size w) ≡ Some size
   pub row : HasRow home size d w (acts_of r) (items_of r)
-  pub once : All IsAccessedOnce (acts_of r)
+  pub can : All CanEncode (acts_of r)

@@ -1,15 +1,13 @@
 //! Operands compared.
 
-ghost use Rattle.std.specs.Prelude.{◌≡◌, ◌++◌, ◌&&◌, IsTrue};
+ghost use Rattle.std.specs.Prelude.{◌≡◌, ◌++◌, ◌&&◌};
 ghost use Rattle.std.specs.Option.{option_to_list};
 ghost use Rattle.jz_ir.specs.Paths.{among};
 ghost use Rattle.jz_operations.specs.declared.operation.Arg.TheVariants as arg;
 ghost use Rattle.jz_operations.specs.Reading.{is_var, found_by, index_var, address_vars};
-ghost use Rattle.jz_placing.specs.Placing.{IsOutside};
 ghost use Rattle.jz_row_operations.specs.Table as table;
-ghost use Rattle.jz_row_operations.specs.Lowering.{IsAccessedOnce};
 
-use jz_operations::{Action, Address, Arg, Cell, Pinned};
+use jz_operations::{Address, Arg, Cell, Pinned};
 
 fn same_option(a: Option<u32>, b: Option<u32>) -> bool
     ensures { result ≡ table.same_option a b }
@@ -158,41 +156,5 @@ pub(crate) fn is_free(operand: Arg, other: Arg) -> bool
         Arg::Mem(_) => false,
         Arg::Cell(_) => false,
         Arg::At(_, _) => false,
-    }
-}
-
-/// Whether an operand is neither in memory nor a cell.
-fn is_outside(operand: Arg) -> bool
-    ensures { IsTrue result → IsOutside operand }
-{
-    match operand {
-        Arg::Var(_) => true,
-        Arg::Imm(_) => true,
-        Arg::Mem(_) => false,
-        Arg::Cell(_) => false,
-        Arg::At(_, _) => true,
-    }
-}
-
-/// Whether an action has at most one operand in memory or in a cell.
-#[tactic(auto, using(crate::proofs::ArgLemmas::first_outside, crate::proofs::ArgLemmas::second_outside, crate::proofs::ArgLemmas::one_alone))]
-pub(crate) fn is_accessed_once(action: Action) -> bool
-    ensures { IsTrue result → IsAccessedOnce action }
-{
-    match action {
-        Action::Alu(_, _, to, from, _) => is_outside(to) || is_outside(from),
-        Action::Mov(_, to, from) => is_outside(to) || is_outside(from),
-        Action::Extend { .. } => true,
-        Action::Lea(_, _) => true,
-        Action::One(_, _, _) => true,
-        Action::Wide(_, _, _, _, _) => true,
-        Action::Imul(_, _, _) => true,
-        Action::ImulBy(_, _, _, _) => true,
-        Action::Shift(_, _, _, _) => true,
-        Action::ShiftBy(_, _, _, _) => true,
-        Action::Bswap(_, _) => true,
-        Action::Sign(_, _, _) => true,
-        Action::Set(_, _) => true,
-        Action::Cmov(_, _, _, _) => true,
     }
 }

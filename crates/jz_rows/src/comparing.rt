@@ -9,10 +9,11 @@ ghost use Rattle.jz_row_operations.specs.Lowering.{condition_shown};
 ghost use Rattle.jz_rows.specs.TableHomes.{homes_of, leaks_of};
 ghost use Rattle.jz_rows.specs.Rows.{item_of, Compares};
 
-use crate::args::{is_accessed_once, is_imm};
+use crate::args::is_imm;
 use crate::bringing::{count, told};
 use crate::operators::{cond_of, opposite};
 use crate::row::Shown;
+use jz_encodable::can_encode;
 use jz_meaning::own_size;
 use jz_operands::{Homes, Leaks, operand_of};
 use jz_operations::Action;
@@ -37,7 +38,7 @@ fn size_of_both(first: &Expr, second: &Expr) -> Option<Size>
     }
 }
 
-/// `a cmp o`, a no number.
+/// `a cmp o`, a no number, where CMP can be encoded.
 fn compare(homes: &Homes, op: BinOp, first: &Expr, second: &Expr) -> Option<Comparison>
     ensures { (here : Span) → IfSome result (Compares (homes_of homes.now)
         (expr.Bin op first.now second.now here)) }
@@ -50,7 +51,7 @@ fn compare(homes: &Homes, op: BinOp, first: &Expr, second: &Expr) -> Option<Comp
         return None;
     }
     let action = Action::Alu(Alu::Cmp, size, x.arg, y.arg, None);
-    if !is_accessed_once(action) {
+    if !can_encode(action) {
         return None;
     }
     Some(Comparison {

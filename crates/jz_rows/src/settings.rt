@@ -8,18 +8,19 @@ ghost use Rattle.jz_tree.specs.declared.stmt.Lval.TheVariants as lval;
 ghost use Rattle.jz_meaning.specs.declared.access.Kind.TheVariants as kind;
 ghost use Rattle.jz_meaning.specs.Assignments as assignments;
 ghost use Rattle.jz_meaning.specs.Values.{ref_of};
-ghost use Rattle.jz_row_operations.specs.Lowering.{IsAccessedOnce};
+ghost use Rattle.jz_encodable.specs.Encodable.{CanEncode};
 ghost use Rattle.jz_rows.specs.TableHomes.{homes_of};
 ghost use Rattle.jz_rows.specs.Rows.{acts_of, IsRowOf};
 ghost use Rattle.jz_rows.specs.InnerRows.{IsSet};
 
-use crate::args::{is_accessed_once, is_imm};
+use crate::args::is_imm;
 use crate::assignments::assignment_row;
 use crate::bringing::{count, told};
 use crate::comparing::{compared, shown_of};
 use crate::operators::is_wide;
 use crate::row::{Act, Row, Shown};
 use crate::targets::{Target, word_in};
+use jz_encodable::can_encode;
 use jz_meaning::{Kind, kind_of, own_size};
 use jz_operands::{Homes, operand_of};
 use jz_operations::{Action, Condition};
@@ -134,13 +135,13 @@ fn whole(alloc: Global, to: &Lval, op: BinOp, e: &Expr) -> Result<Option<Expr>, 
     }
 }
 
-/// Whether each action accesses memory or a cell once at most.
-fn are_accessed_once(row: Row) -> bool
-    ensures { IsTrue result → All IsAccessedOnce (acts_of row) }
+/// Whether each action can be encoded.
+fn can_encode_all(row: Row) -> bool
+    ensures { IsTrue result → All CanEncode (acts_of row) }
 {
     match row.before {
-        None => is_accessed_once(row.last.action),
-        Some(act) => is_accessed_once(act.action) && is_accessed_once(row.last.action),
+        None => can_encode(row.last.action),
+        Some(act) => can_encode(act.action) && can_encode(row.last.action),
     }
 }
 
@@ -150,11 +151,7 @@ fn set_row(homes: &Homes, left: Option<Size>, to: &Lval, value: &Expr) -> Option
 {
     let size = left.or(own_size(value))?;
     let row = assignment_row(&Target { homes, size, to }, value)?;
-    if are_accessed_once(row) {
-        Some(row)
-    } else {
-        None
-    }
+    if can_encode_all(row) { Some(row) } else { None }
 }
 
 /// The row of `to = value` or of `to op= value`.
@@ -202,8 +199,12 @@ fn choice_row(homes: &Homes, size: Size, var: &Var, value: &Expr, cond: &Expr) -
         action: test.action,
         shown: shown_of(test, count(y.leaks)),
     };
+    let action = Action::Cmov(Condition::Cc(test.cond), size, register, y.arg);
+    if !can_encode(action) {
+        return None;
+    }
     let choose = Act {
-        action: Action::Cmov(Condition::Cc(test.cond), size, register, y.arg),
+        action,
         shown: Shown {
             first: told(y.leaks, 0),
             second: None,

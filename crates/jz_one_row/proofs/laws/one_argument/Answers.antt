@@ -9,7 +9,7 @@ pub returns-clause-indices : goal.returns-clause-indices
 returns-clause-indices c = λ home e t u b d i j p q f g. one_index t u b d i j (one_sum home e t u p q) f g
 
 pub returns-clause-operands : goal.returns-clause-operands
-returns-clause-operands c = λ home z e a b p q full f g. one_arg home z e a b p q full f g
+returns-clause-operands c = λ home z e a b p q f g. one_arg home z e a b p q f g
 
 pub returns-clause-destinations : goal.returns-clause-destinations
-returns-clause-destinations c = λ home z d a b p q full f g. one_dest home z d a b p q full f g
+returns-clause-destinations c = λ home z d a b p q f g. one_dest home z d a b p q f g

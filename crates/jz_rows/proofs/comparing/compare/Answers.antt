@@ -6,4 +6,4 @@ use Rattle.jz_rows.proofs.comparing.compare.Goals as goal
 pub returns : goal.returns
 returns c = λ here at.
     compares here c.in_ok-cond.ensures (sym c.in_ok-size.ensures) c.in_ok-x.ensures c.in_ok-y.ensures (not_imm c.in_ok-x.x.arg (sym c.is_imm.ensures ∙ c.if-is_imm.false))
-    (c.is_accessed_once.ensures c.if-not-is_accessed_once.false)
+    (sym c.can_encode.ensures ∙ c.if-not-can_encode.false)

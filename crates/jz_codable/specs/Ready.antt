@@ -2,7 +2,7 @@
 use Rattle.std.specs.Prelude.{◌<◌, ◌^◌, ℕ, ◌+◌, Bool, true, false, Some, None, length, Contains, ⊤}
 use Rattle.std.specs.List.{AllByRecursion}
 use Rattle.jz_ir.specs.Places.{IsWithin}
-use Rattle.jz_runs.specs.Trees.{done, op, quiet, choose, loop, each, call}
+use Rattle.jz_runs.specs.Trees.{Tree, done, op, quiet, choose, loop, each, call}
 use Rattle.jz_encodable.specs.Encodable.{IsEncodable}
 use Rattle.jz_placing.specs.Variables.{Asked, always, asks, Body}
 use Rattle.jz_place.specs.declared.tree.Ir.{Ir}
@@ -16,7 +16,7 @@ TestEncodable (asks None k) = ⊤
 TestEncodable (asks (Some o) k) = IsEncodable o
 
 -- a `while` that is written without a body has none
-abbrev pub HasForm : Bool → Body → Type 0
+abbrev pub HasForm : {O T F C : Type 0} → Bool → Tree O T F C → Type 0
 HasForm false b = ⊤
 HasForm true done = ⊤
 HasForm true b = ⊥
@@ -41,6 +41,11 @@ parts_of (choose c a b r) = 1 + parts_of a + parts_of b + parts_of r
 parts_of (loop q p c b r) = 1 + parts_of p + parts_of b + parts_of r
 parts_of (each f b r) = absurd f
 parts_of (call c b r) = absurd c
+
+-- fewer variables and parts than have numbers and displacements of 32 bits
+pub record IsShort (f : Ir) : Type 0 where
+  pub count : length f.kinds < 2 ^ 32
+  pub short : parts_of (body_of f.body) < 2 ^ 26
 
 pub record IsReady (f : Ir) : Type 0 where
   -- each variable has a kind
