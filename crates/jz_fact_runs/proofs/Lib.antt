@@ -12,3 +12,6 @@ pub mod Going
 pub mod Apart
 pub mod Marks
 pub mod Assigning
+pub mod Cells
+pub mod Writing
+pub mod Safe
