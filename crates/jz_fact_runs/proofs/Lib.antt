@@ -15,3 +15,5 @@ pub mod Assigning
 pub mod Cells
 pub mod Writing
 pub mod Safe
+pub mod Instructing
+pub mod Lefts

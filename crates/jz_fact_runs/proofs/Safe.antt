@@ -7,6 +7,7 @@ use Rattle.jz_tree.specs.declared.expr.Expr.{Expr}
 use Rattle.jz_tree.specs.declared.expr.Var.{Var}
 use Rattle.jz_tree.specs.declared.stmt.Lval.{Lval}
 use Rattle.jz_tree.specs.declared.stmt.Lval.TheVariants as lval
+use Rattle.jz_tree.specs.Spellings.{spelled}
 use Rattle.jz_runs.specs.RunLeaks.{Leak}
 use Rattle.jz_runs.specs.Rules.{stuck, went, Outcome, End, Cut, Stuck, Goes}
 use Rattle.jz_meaning.specs.declared.access.Kind.TheVariants as kind
@@ -36,7 +37,8 @@ use Rattle.jz_facts.proofs.MoreFacts.{monotone}
 use Rattle.jz_fact_laws.specs.Saying.{Yields}
 use Rattle.jz_alarms.specs.Conditions.{named, asks_operation, asks_test, asks_results}
 use Rattle.jz_alarms.specs.Alarms.{fact_asks, IsFirstAlarm}
-use Rattle.jz_fact_runs.specs.Typing.{NoNumbers, IsAnswer, IsFine, IsFineTest, AreResults}
+use Rattle.jz_fact_runs.specs.Typing.{NoNumbers, IsAnswer}
+use Rattle.jz_fact_runs.specs.Fine.{IsFine, IsFineTest, AreResults}
 use Rattle.jz_fact_runs.specs.Standing.{Stands}
 use Rattle.jz_fact_runs.specs.RunLaws.{BodiesGo, SafeGoes}
 use Rattle.jz_fact_runs.proofs.Held.{scalar_holds}
@@ -48,6 +50,7 @@ use Rattle.jz_fact_runs.proofs.Marks.{marked_stands}
 use Rattle.jz_fact_runs.proofs.Assigning.{assigned_stands, assigned_runs}
 use Rattle.jz_fact_runs.proofs.Cells.{cell_stands, store_stands}
 use Rattle.jz_fact_runs.proofs.Writing.{cell_runs, store_runs}
+use Rattle.jz_fact_runs.proofs.Lefts.{instructed_stands, instructed_runs}
 use Rattle.jz_fact_runs.proofs.Going.{tests_run}
 
 from_went : {A : Type 0} (P : A → Type 0) (e : Evaluation A) (ns : List ℕ) (x : A) → e ≡ went ns x → Yields P e → P x
@@ -74,7 +77,7 @@ module _ (g : Given) (kinds : Kinds) (in_frame : Key → Bool) (entry : Key → 
   operation_stands (assign (lval.Cell x j ∷ d ∷ ds) o e c at) s st i H = absurd i
   operation_stands (assign (lval.Store a ∷ []) o e (Some c) at) s st i H = absurd i
   operation_stands (assign (lval.Store a ∷ d ∷ ds) o e c at) s st i H = absurd i
-  operation_stands (instruction to n args at) s st i H = absurd i
+  operation_stands (instruction to n args at) s st i H = instructed_stands g kinds in_frame entry s st H nn (spelled n) to args at i
   operation_stands (unset xs) s st i H = H
   operation_stands (meaningless at) s st i H = absurd i
 
@@ -89,7 +92,7 @@ module _ (g : Given) (kinds : Kinds) (in_frame : Key → Bool) (entry : Key → 
   operation_runs (assign (lval.Cell x j ∷ d ∷ ds) o e c at) s st i H q = absurd i
   operation_runs (assign (lval.Store a ∷ []) o e (Some c) at) s st i H q = absurd i
   operation_runs (assign (lval.Store a ∷ d ∷ ds) o e c at) s st i H q = absurd i
-  operation_runs (instruction to n args at) s st i H q = absurd i
+  operation_runs (instruction to n args at) s st i H q = instructed_runs g kinds in_frame entry s st H nn (spelled n) to args at i q
   operation_runs (unset xs) s st i H q = tt
   operation_runs (meaningless at) s st i H q = absurd i
 

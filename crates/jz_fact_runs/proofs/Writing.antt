@@ -50,7 +50,7 @@ runs_with : {A : Type 0} (P Q : A → Type 0) (e : Evaluation A) → Runs P e �
 runs_with P Q (stuck k) h q = h
 runs_with P Q (went ns x) h q = (h, q)
 
-word_goes : (at : Span) (z : Size) (k : Bool) (v : Value) → OfSize z k v → Runs (λ a. Unit {0}) (word_at at z v)
+pub word_goes : (at : Span) (z : Size) (k : Bool) (v : Value) → OfSize z k v → Runs (λ a. Unit {0}) (word_at at z v)
 word_goes at z k (word y n) h = subst (λ u. Runs (λ a. Unit {0}) (defined at (if same_size z u then Some n else None))) (sym h) (subst (λ c. Runs (λ a. Unit {0}) (defined at (if c then Some n else None))) (sym (same_size-refl z)) tt)
 word_goes at z k (integer j) h = tt
 word_goes at z k (boolean c) h = absurd h

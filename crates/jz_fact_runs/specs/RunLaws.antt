@@ -28,7 +28,8 @@ use Rattle.jz_facts.specs.Tests.{tested}
 use Rattle.jz_fact_laws.specs.Saying.{Yields}
 use Rattle.jz_alarms.specs.Conditions.{asks_expr, asks_operation, asks_test}
 use Rattle.jz_alarms.specs.Alarms.{fact_asks, IsFirstAlarm}
-use Rattle.jz_fact_runs.specs.Typing.{NoNumbers, IsWord, IsAnswer, AreMarks, IsWordAssigned, HasAnswer, IsFine, IsFineTest, AreResults}
+use Rattle.jz_fact_runs.specs.Typing.{NoNumbers, IsWord, IsAnswer, AreMarks, IsWordAssigned, HasAnswer}
+use Rattle.jz_fact_runs.specs.Fine.{IsFine, IsFineTest, AreResults}
 use Rattle.jz_fact_runs.specs.Standing.{Stands}
 
 -- it is not stuck

@@ -16,7 +16,6 @@ use Rattle.jz_meaning.specs.States.{Key}
 use Rattle.jz_meaning.specs.Operators.{is_shift}
 use Rattle.jz_meaning.specs.Values.{Ref, key_of, ref_of, own_size, size_of, left_wanted}
 use Rattle.jz_meaning.specs.Assignments.{left_sizes, whole_of}
-use Rattle.jz_meaning.specs.Statements.{Operation, assign, unset, Condition}
 use Rattle.jz_run_laws.specs.Kinds.{Kinds, kind_at}
 use Rattle.jz_run_laws.specs.DeclaredKinds.{IsDeclared}
 use Rattle.jz_terms.specs.Terms.{Term, num, truth, var, cell, load, neg, inv, cast, bin, term_of, place_of, size_in}
@@ -177,23 +176,3 @@ module _ (kinds : Kinds) (in_frame : Key → Bool) where
   abbrev pub HasAnswer : Option Expr → Type 0
   HasAnswer None = Unit {0}
   HasAnswer (Some c) = IsAnswer (term_of c)
-
-  -- what expansion leaves: assignments of one value, and marks
-  abbrev pub IsFine : Operation → Type 0
-  IsFine (assign (lval.Var x ∷ []) op e c at) = IsWordAssigned x op e × HasAnswer c
-  IsFine (assign (lval.Cell x i ∷ []) op e None at) = IsCellAssigned x i op e
-  IsFine (assign (lval.Store a ∷ []) op e None at) = IsStored a op e
-  IsFine (unset xs) = AreMarks in_frame xs
-  IsFine op = ⊥
-
-  abbrev pub IsFineTest : Condition → Type 0
-  IsFineTest c = IsAnswer (term_of c.cond)
-
-  pub record IsResult (x : Var) : Type 0 where
-    pub size : Size
-    pub is : (ref_of x).kind ≡ kind.Word size
-    pub scalar : IsScalar (ref_of x)
-
-  abbrev pub AreResults : List Var → Type 0
-  AreResults [] = Unit {0}
-  AreResults (x ∷ xs) = IsResult x × AreResults xs
