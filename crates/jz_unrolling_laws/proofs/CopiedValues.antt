@@ -64,7 +64,7 @@ module _ (e : KnownNumbers) where
   value_step_is (Expr-F.Cast z s a at) = refl
   value_step_is (Expr-F.Bin o a b at) = refl
 
-  value_is : (x : Layer) → inline_value e (roll-Expr x) ≡ value_layer e x
+  pub value_is : (x : Layer) → inline_value e (roll-Expr x) ≡ value_layer e x
   value_is x = fold-roll-Expr _ _ _ _ _ value_step (λ t. tt) (λ a. tt) (λ d. tt) (λ v. e v.name v.copy) x ∙ value_step_is x
 
 -- ---- the first token stays

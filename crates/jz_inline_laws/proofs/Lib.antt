@@ -1,0 +1,9 @@
+pub mod ClearVars
+pub mod NumberLemmas
+pub mod NamedParts
+pub mod RowSides
+pub mod SetBefore
+pub mod Assigning
+pub mod Passing
+pub mod Bodies
+pub mod Whole

@@ -1,0 +1,2 @@
+pub mod InlineParts
+pub mod InlineBodies
