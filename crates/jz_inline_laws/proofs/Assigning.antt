@@ -1,7 +1,7 @@
 -- What typing and rows give of inline variables in an assignment of a value and in an instruction.
-use Rattle.std.proofs.Common.{◌≡◌, ℕ, List, [], ◌∷◌, ◌++◌, Option, Some, None, Bool, true, false, not, ◌&&◌, flat_map, map, refl, ap, sym, ◌∙◌, subst, inl, inr, if◌then◌else◌}
-use Rattle.std.specs.Prelude.{◌⊎◌, ◌||◌, All, option_map, option_to_list, is_some}
-use Rattle.std.proofs.lemmas.Bool.{and_parts, and_from, false≢true, not_from_false}
+use Rattle.std.proofs.Common.{◌≡◌, ℕ, List, [], ◌∷◌, ◌++◌, Option, Some, None, Bool, true, false, not, ◌&&◌, flat_map, refl, ap, sym, ◌∙◌, inl, inr, if◌then◌else◌}
+use Rattle.std.specs.Prelude.{◌||◌, All, option_map, option_to_list, is_some}
+use Rattle.std.proofs.lemmas.Bool.{and_parts, and_from, false≢true}
 use Rattle.std.proofs.lemmas.List.Elements.{All-nil, All-cons, All-head, All-tail}
 use Rattle.jz_tree.specs.Operators.{carries}
 use Rattle.jz_tree.specs.Spellings.{spelled}
@@ -34,8 +34,8 @@ use Rattle.jz_type_names.proofs.Empty.{both, passed}
 use Rattle.jz_type_storage.specs.Settings.{Around, is_counter, may_set, left_set}
 use Rattle.jz_type_storage.specs.Paths.{assigning, has_to_be_set}
 use Rattle.jz_type_storage.specs.InnerSurely.{Names, after, first}
-use Rattle.jz_type_rows.specs.Matching.{may_be_inline, sets_inline, needs_row}
-use Rattle.jz_judgement.specs.Places.{Place, integer, truth, word, unsized}
+use Rattle.jz_type_rows.specs.Matching.{may_be_inline, needs_row}
+use Rattle.jz_judgement.specs.Places.{Place, integer, truth, unsized}
 use Rattle.jz_judgement.specs.HasType as judged
 use Rattle.jz_judgement.specs.HasType.{Term, value, result, HasType, Operates}
 use Rattle.jz_judgement.specs.Lefts as lefts
@@ -43,9 +43,8 @@ use Rattle.jz_judgement.specs.Lefts.{Wants, Leaves, Holds, Takes, Values, value_
 use Rattle.jz_judgement.specs.WellTyped as well
 use Rattle.jz_judgement.specs.WellTyped.{InPairs, Output, Operand, role_place, Instructs}
 use Rattle.jz_types.specs.Carried.{vars_in, used_by}
-use Rattle.jz_meaning.specs.Assignments.{as_expr, last_left, left_span, whole_of, updated, updated_layer, is_flag}
+use Rattle.jz_meaning.specs.Assignments.{last_left, left_span, whole_of, updated_layer, is_flag}
 use Rattle.jz_meaning.specs.Statements.{assign, instruction}
-use Rattle.jz_meaning.specs.Values.{ref_of}
 use Rattle.jz_row_laws.proofs.Copied.{Matches, no_free}
 use Rattle.jz_texts.proofs.Lists.{parted}
 use Rattle.jz_bodies.proofs.Passing.{array_out, array_used}
@@ -57,12 +56,12 @@ use Rattle.jz_unroll.proofs.Layers.{Layer as ExprLayer}
 use Rattle.jz_unrolling_laws.specs.AskedLaws.{has_named}
 use Rattle.jz_unrolling_laws.specs.CalledBodies.{inlines_of, IsTextIf, AreTexts, IsNamedOp}
 use Rattle.jz_unrolling_laws.proofs.AskedValues.{named_layer, named_is}
-use Rattle.jz_inline_laws.specs.InlineParts.{inline_in, NameSet, Within, WithinAnd, IsNumeric, IsInlineNumber, IsInlineTruth, IsInlineTest, IsNamedIf, IsInlineVar, IsOtherLeft, HasOld, SetsInline, sets_inline as sets_one, assigns, instructs}
+use Rattle.jz_inline_laws.specs.InlineParts.{inline_in, NameSet, IsNumeric, IsInlineNumber, IsInlineTest, IsNamedIf, SetsInline, sets_inline as sets_one, assigns, instructs}
 use Rattle.jz_inline_laws.proofs.ClearVars.{IsClear, inline_var}
 use Rattle.jz_inline_laws.proofs.NumberLemmas.{integer_number, truth_logical, arith_numeric, shift_numeric}
-use Rattle.jz_inline_laws.proofs.NamedParts.{bool_plain, word_plain, cells_plain, var_named, expr_named, expr_text, IsUsed, LeftIs, IsOther, all_named, all_plain, leaves_left, word_left, flag_left, product_left, takes_left}
+use Rattle.jz_inline_laws.proofs.NamedParts.{bool_plain, word_plain, var_named, expr_named, expr_text, IsUsed, LeftIs, IsOther, all_named, all_plain, leaves_left, word_left, flag_left, product_left, takes_left}
 use Rattle.jz_inline_laws.proofs.SetBefore.{Known, assigned_within, one_within, old_set}
-use Rattle.jz_inline_laws.proofs.RowSides.{TakesTwo, pair_apart, pair_updates, first_plain, second_plain, conditional_none}
+use Rattle.jz_inline_laws.proofs.RowSides.{TakesTwo, pair_apart, pair_updates, second_plain, conditional_none}
 
 abbrev pub RowAt : Layer → Type 0
 RowAt x = needs_row x ≡ true → (answers : Answers) × Matches (kind_layer (whichever answers) x)

@@ -1,8 +1,8 @@
 -- The tree of a function's body has what typing gives of inline variables, statement by statement.
-use Rattle.std.proofs.Common.{◌≡◌, ℕ, List, [], ◌∷◌, ◌++◌, Option, Some, None, Bool, true, false, not, ◌&&◌, ◌||◌, map, flat_map, bytes_eq, refl, sym, ap, ◌∙◌, subst, inl, inr}
-use Rattle.std.specs.Prelude.{◌⊎◌, All, Contains, is_some, option_to_list, slice_index_or}
-use Rattle.std.proofs.lemmas.Bool.{and_parts, false≢true}
-use Rattle.std.proofs.lemmas.List.Elements.{All-head, All-tail, All-contains, All-contains_itself, All-weaker}
+use Rattle.std.proofs.Common.{◌≡◌, ℕ, List, [], ◌∷◌, ◌++◌, Option, Some, None, Bool, true, false, not, ◌&&◌, ◌||◌, map, flat_map, refl, sym, ap, ◌∙◌, subst, inl, inr}
+use Rattle.std.specs.Prelude.{◌⊎◌, All, Contains, is_some}
+use Rattle.std.proofs.lemmas.Bool.{false≢true}
+use Rattle.std.proofs.lemmas.List.Elements.{All-head, All-tail}
 use Rattle.jz_tree.specs.Span.{Span}
 use Rattle.jz_tree.specs.declared.expr.BinOp.{BinOp}
 use Rattle.jz_tree.specs.declared.expr.Expr.{Expr}
@@ -18,48 +18,46 @@ use Rattle.jz_tree.specs.declared.stmt.StmtKind.TheViews.{out-StmtKind, out-roll
 use Rattle.jz_tree.specs.declared.stmt.StmtKind.TheFolds.{fold-Stmt, fold-StmtKind, fold-roll-Stmt, fold-roll-StmtKind, ind-Stmt, map-Stmt, map-StmtKind}
 use Rattle.jz_tree.specs.declared.program.Fun.{Fun}
 use Rattle.jz_tree.specs.declared.program.Program.{Program}
-use Rattle.jz_type_names.specs.Kinds.{known_of, is_inline}
-use Rattle.jz_type_names.specs.Order.{unless, earlier}
+use Rattle.jz_type_names.specs.Kinds.{is_inline}
+use Rattle.jz_type_names.specs.Order.{unless}
 use Rattle.jz_type_names.specs.Scopes.{function_named, name_of}
-use Rattle.jz_type_names.specs.Parts.{Layer, layer_of, nested_statements, nested_step, statements_in, statements_of, exprs_of, called_by}
+use Rattle.jz_type_names.specs.Parts.{Layer, layer_of, nested_statements, nested_step, statements_in, statements_of, called_by}
 use Rattle.jz_type_names.proofs.NestedLaws.{in_kind, pair, pairs, opened, in_stmt}
 use Rattle.jz_type_names.proofs.Empty.{both}
 use Rattle.jz_type_storage.specs.Settings.{Around, outermost, is_counter, all_set, left_set, entered_around, counting, set_step, Setting, wrongly_set_in}
-use Rattle.jz_type_storage.specs.Paths.{Flow, Skip, Does, Then, Either, Repeat, Sets, in_turn, reading_expr, assigning, turns_of, flow_step, flow_of, flow_of_all, has_to_be_set}
+use Rattle.jz_type_storage.specs.Paths.{Flow, Does, Then, Either, Repeat, Sets, in_turn, reading_expr, assigning, turns_of, flow_step, flow_of, flow_of_all, has_to_be_set}
 use Rattle.jz_type_storage.specs.InnerSurely.{Names, put, after, first}
 use Rattle.jz_type_storage.proofs.Walking.{idle_expr}
 use Rattle.jz_select.specs.declared.shape.Shape.TheVariants as shapes
 use Rattle.jz_select.specs.Shapes.{conditional}
 use Rattle.jz_type_sizes.specs.Signatures.{signature}
 use Rattle.jz_type_sizes.specs.Mismatches.{among}
-use Rattle.jz_judgement.specs.Places.{integer, truth}
+use Rattle.jz_judgement.specs.Places.{truth}
 use Rattle.jz_judgement.specs.WellTyped as well
 use Rattle.jz_judgement.specs.HasType.{value, HasType}
 use Rattle.jz_judgement.specs.Lefts.{Values}
 use Rattle.jz_judgement.specs.WellTyped.{Instructs, WellTyped}
 use Rattle.jz_types.specs.Carried.{vars_in, used_by}
-use Rattle.jz_meaning.specs.Trees.{done, op, choose, loop, each, call}
-use Rattle.jz_meaning.specs.Statements.{Block, Call, Counter}
+use Rattle.jz_meaning.specs.Trees.{done, choose, loop, each}
+use Rattle.jz_meaning.specs.Statements.{Block, Counter}
 use Rattle.jz_meaning.specs.Runs.{Callees, in_order, call_tree, assign_tree, kind_tree, statement_tree, block, body_of}
 use Rattle.jz_meaning.specs.Values.{ref_of}
 use Rattle.jz_run_laws.specs.Depths.{HasNoRecursion, with_own_tree, callees_in}
-use Rattle.jz_run_laws.proofs.Parts.{there_is}
 use Rattle.jz_run_laws.proofs.Uncut.{whole_law}
 use Rattle.jz_row_laws.proofs.Copied.{Matches, no_free}
 use Rattle.jz_texts.specs.Texts.{IsUnmarked}
 use Rattle.jz_texts.specs.Declared.{IsFunction}
 use Rattle.jz_texts.proofs.Lists.{parted}
 use Rattle.jz_bodies.proofs.Refs.{ref_name}
-use Rattle.jz_bodies.proofs.Trees.{found}
 use Rattle.jz_bodies.proofs.Variables.{flat_parts}
 use Rattle.jz_unrolling_laws.specs.AskedLaws.{is_text, has_named}
 use Rattle.jz_unrolling_laws.specs.CalledBodies.{inlines_of, IsNamedCounter, IsNamedCall}
-use Rattle.jz_inline_laws.specs.InlineParts.{inline_in, NameSet, Within, WithinAnd, IsOtherLeft, CountsInline, PassAll, GiveAll}
+use Rattle.jz_inline_laws.specs.InlineParts.{inline_in, NameSet, IsOtherLeft, CountsInline, PassAll, GiveAll}
 use Rattle.jz_inline_laws.specs.InlineBodies.{IsInlineBody, inline_done, inline_op, inline_choose, inline_loop, inline_each, inline_call}
 use Rattle.jz_inline_laws.proofs.ClearVars.{IsClear, inline_var}
-use Rattle.jz_inline_laws.proofs.NamedParts.{IsUsed, expr_named, expr_text, var_text}
+use Rattle.jz_inline_laws.proofs.NamedParts.{expr_named, expr_text, var_text}
 use Rattle.jz_inline_laws.proofs.SetBefore.{none_both, Known, put_known, assigned_within}
-use Rattle.jz_inline_laws.proofs.Assigning.{RowAt, assigned_parts, number_is, value_sets, instruction_sets}
+use Rattle.jz_inline_laws.proofs.Assigning.{RowAt, number_is, value_sets, instruction_sets}
 
 some_there : {A : Type 0} (o : Option A) → is_some o ≡ true → (x : A) × (o ≡ Some x)
 some_there None e = absurd (false≢true e)

@@ -1,9 +1,9 @@
 -- A variable of a function of a typed text is inline by its declaration, by its name and for a run, or by none of these.
-use Rattle.std.proofs.Common.{◌≡◌, ℕ, ℤ, pos, negsuc, Bool, true, false, not, ◌&&◌, ◌||◌, List, [], ◌∷◌, ◌++◌, Option, Some, None, map, flat_map, filter, refl, sym, ap, ◌∙◌, subst, inl, inr, bytes_eq, cond}
-use Rattle.std.specs.Prelude.{◌⊎◌, ◌==◌, All, Contains, option_map, is_some, is_none, slice_index_or}
+use Rattle.std.proofs.Common.{◌≡◌, ℕ, ℤ, pos, negsuc, Bool, true, false, ◌&&◌, ◌||◌, List, [], ◌∷◌, ◌++◌, Option, Some, None, map, flat_map, refl, sym, ap, ◌∙◌, subst, inl, inr, bytes_eq, cond}
+use Rattle.std.specs.Prelude.{◌⊎◌, ◌==◌, All, option_map, is_some, is_none}
 use Rattle.std.specs.List.{list_any}
-use Rattle.std.proofs.lemmas.Bool.{and_parts, and_from, false≢true, or_cases, or_left, or_right}
-use Rattle.std.proofs.lemmas.List.Elements.{All-nil, All-cons, All-head, All-tail, All-append, All-map, All-weaker, Contains-append_left, Contains-append_right}
+use Rattle.std.proofs.lemmas.Bool.{and_parts, and_from, false≢true, or_cases}
+use Rattle.std.proofs.lemmas.List.Elements.{All-nil, All-cons, All-head, All-tail, All-append, All-map, All-weaker}
 use Rattle.std.proofs.lemmas.List.Folds.{list_any-append}
 use Rattle.jz_tree.proofs.Texts.{bytes_eq-true}
 use Rattle.jz_tree.specs.declared.expr.Storage.{Storage}

@@ -1,12 +1,11 @@
 -- In an expression and in a left side that is typed, each whole variable is inline by its declaration and no cell, or it is not inline by its name; arrays are not inline.
-use Rattle.std.proofs.Common.{◌≡◌, List, [], ◌∷◌, Option, Some, None, Bool, true, false, not, refl, ap, sym, ◌∙◌, subst, inl, inr}
-use Rattle.std.specs.Prelude.{◌⊎◌, All, ◌&&◌, is_none, nat_eq, if◌then◌else◌}
+use Rattle.std.proofs.Common.{◌≡◌, List, [], ◌∷◌, Some, None, Bool, true, false, not, refl, ap, sym, ◌∙◌, subst, inl, inr}
+use Rattle.std.specs.Prelude.{All, is_none, nat_eq, if◌then◌else◌}
 use Rattle.std.proofs.lemmas.Bool.{and_from, false≢true, not_from_false}
 use Rattle.std.proofs.lemmas.List.Elements.{All-nil, All-cons, All-head, All-tail}
 use Rattle.jz_tree.specs.Size.{Size}
 use Rattle.jz_tree.specs.declared.expr.Storage.{Storage}
 use Rattle.jz_tree.specs.declared.expr.Storage.TheVariants as storage
-use Rattle.jz_tree.specs.declared.expr.BinOp.{BinOp}
 use Rattle.jz_tree.specs.declared.expr.Expr.{Expr}
 use Rattle.jz_tree.specs.declared.expr.Ty.{Ty}
 use Rattle.jz_tree.specs.declared.expr.Access.{Access}
@@ -22,7 +21,7 @@ use Rattle.jz_type_names.specs.declared.kinds.Kind as known
 use Rattle.jz_type_names.specs.declared.kinds.Kind.TheVariants as scope
 use Rattle.jz_type_names.specs.Kinds.{Known, known_of, inline_int, is_inline_int, is_array, is_array_kind}
 use Rattle.jz_type_names.specs.Parts.{left_exprs, left_vars}
-use Rattle.jz_judgement.specs.Places.{Place, truth, word, unsized, index, stated, WordKind, IsWordOf, ArrayKind, IsArrayOf}
+use Rattle.jz_judgement.specs.Places.{Place, word, unsized, index, stated, WordKind, IsWordOf, ArrayKind, IsArrayOf}
 use Rattle.jz_judgement.specs.HasType as judged
 use Rattle.jz_judgement.specs.HasType.{Term, value, HasType, Types}
 use Rattle.jz_judgement.specs.Lefts as lefts
@@ -39,7 +38,7 @@ use Rattle.jz_unroll.proofs.InlineParts.{inline_var as inline_var_is}
 use Rattle.jz_unrolling_laws.specs.AskedLaws.{is_named, has_named, access_named, of_text, any_array, is_text}
 use Rattle.jz_unrolling_laws.specs.CalledBodies.{inlines_of, IsNamedVar, IsNamedLeft, AreNamedLefts}
 use Rattle.jz_unrolling_laws.proofs.AskedValues.{named_layer, named_is, access_named_is}
-use Rattle.jz_inline_laws.specs.InlineParts.{inline_in, IsPlainVar, IsOtherLeft}
+use Rattle.jz_inline_laws.specs.InlineParts.{inline_in, IsOtherLeft}
 use Rattle.jz_inline_laws.proofs.ClearVars.{IsClear, plain_var}
 
 -- ---- what is not inline

@@ -1,7 +1,7 @@
 -- An expression that is typed as an integer is known when the text is compiled, and its value is a number; that of an inline condition is a truth.
-use Rattle.std.proofs.Common.{◌≡◌, ℤ, List, [], Option, Some, None, Bool, true, false, refl, ap, sym, ◌∙◌, subst}
+use Rattle.std.proofs.Common.{◌≡◌, ℤ, [], Option, Some, None, Bool, true, false, refl, ap, sym, ◌∙◌, subst}
 use Rattle.std.specs.Prelude.{All, ◌&&◌, option_map, if◌then◌else◌}
-use Rattle.std.proofs.lemmas.Bool.{and_parts, and_from, false≢true}
+use Rattle.std.proofs.lemmas.Bool.{and_from, false≢true}
 use Rattle.std.proofs.lemmas.List.Elements.{All-head}
 use Rattle.jz_tree.specs.Operators.{joins}
 use Rattle.jz_tree.specs.Span.{Span}
@@ -16,7 +16,7 @@ use Rattle.jz_tree.specs.declared.expr.Access.{Access}
 use Rattle.jz_tree.specs.declared.expr.Decl.{Decl}
 use Rattle.jz_tree.specs.declared.expr.Var.{Var}
 use Rattle.jz_tree.specs.declared.expr.Expr.TheOpen.{Expr-F}
-use Rattle.jz_tree.specs.declared.expr.Expr.TheViews.{out-Var, out-Access, roll-Expr, out-roll-Expr}
+use Rattle.jz_tree.specs.declared.expr.Expr.TheViews.{out-Access, roll-Expr, out-roll-Expr}
 use Rattle.jz_tree.specs.declared.expr.Expr.TheFolds.{ind-Expr, map-Expr}
 use Rattle.jz_tree.specs.declared.program.Fun.{Fun}
 use Rattle.jz_type_names.specs.declared.kinds.Kind as known
@@ -26,7 +26,7 @@ use Rattle.jz_type_sizes.specs.declared.operators.Group.{Group}
 use Rattle.jz_type_sizes.specs.declared.operators.Group.TheVariants as group
 use Rattle.jz_type_sizes.specs.Operators.{group_of}
 use Rattle.jz_type_storage.specs.Declarations.{may_keep}
-use Rattle.jz_integers.specs.Integers.{KnownNumbers, truth as truth_value, number, negated, inverted, on_integers, settles, is_settled, on_both, with_right, joined, minus, opposite, inline_value}
+use Rattle.jz_integers.specs.Integers.{KnownNumbers, truth as truth_value, number, negated, inverted, on_integers, settles, with_right, joined, minus, opposite, inline_value}
 use Rattle.jz_integers.specs.declared.constant.Constant.{Constant}
 use Rattle.jz_integers.specs.declared.constant.Constant.TheVariants as constant
 use Rattle.jz_judgement.specs.Places.{integer, truth, KindGoes, Goes}

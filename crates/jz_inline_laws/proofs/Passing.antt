@@ -1,17 +1,16 @@
 -- What typing gives of inline variables in a call: its arguments and its results.
-use Rattle.std.proofs.Common.{◌≡◌, ℕ, ℤ, pos, negsuc, List, [], ◌∷◌, ◌++◌, Option, Some, None, Bool, true, false, not, ◌&&◌, refl, ap, sym, ◌∙◌, subst, inl, inr, if◌then◌else◌}
+use Rattle.std.proofs.Common.{◌≡◌, List, [], ◌∷◌, Some, None, Bool, true, false, refl, ap, sym, ◌∙◌, subst, inl, inr, if◌then◌else◌}
 use Rattle.std.specs.Prelude.{◌⊎◌, All, is_none, option_map}
-use Rattle.std.proofs.lemmas.Bool.{and_parts, false≢true}
+use Rattle.std.proofs.lemmas.Bool.{false≢true}
 use Rattle.std.proofs.lemmas.List.Elements.{All-nil, All-cons, All-head, All-tail}
 use Rattle.jz_tree.specs.Size.{Size}
-use Rattle.jz_tree.specs.Span.{Span}
 use Rattle.jz_tree.specs.declared.expr.Storage.{Storage}
 use Rattle.jz_tree.specs.declared.expr.Storage.TheVariants as storage
 use Rattle.jz_tree.specs.declared.expr.Expr.{Expr}
 use Rattle.jz_tree.specs.declared.expr.Decl.{Decl}
 use Rattle.jz_tree.specs.declared.expr.Var.{Var}
 use Rattle.jz_tree.specs.declared.expr.Expr.TheOpen.{Expr-F}
-use Rattle.jz_tree.specs.declared.expr.Expr.TheViews.{out-Expr, out-Var}
+use Rattle.jz_tree.specs.declared.expr.Expr.TheViews.{out-Expr}
 use Rattle.jz_tree.specs.declared.stmt.Lval.{Lval}
 use Rattle.jz_tree.specs.declared.stmt.Lval.TheVariants as lval
 use Rattle.jz_tree.specs.declared.program.Fun.{Fun}
@@ -24,26 +23,19 @@ use Rattle.jz_type_names.specs.Kinds as names
 use Rattle.jz_type_names.specs.Kinds.{declared_of, known_of, kind_of, written_length, inline_int, is_inline_int, same_storage, whole_array}
 use Rattle.jz_type_storage.specs.Declarations.{may_pass, may_return, is_returned}
 use Rattle.jz_type_sizes.specs.Calls.{is_declared}
-use Rattle.jz_judgement.specs.Places.{integer, truth, word}
-use Rattle.jz_judgement.specs.HasType.{value, HasType}
-use Rattle.jz_judgement.specs.Lefts.{Holds, IsSound}
-use Rattle.jz_judgement.specs.Lefts as lefts
+use Rattle.jz_judgement.specs.Places.{truth, word}
 use Rattle.jz_judgement.specs.WellTyped as well
 use Rattle.jz_judgement.specs.WellTyped.{InPairs, PassedAs, PassedBy, Passed, GivenAs, Given, Returned, IsSkip}
 use Rattle.jz_judgement.proofs.Nothing.{none_not, same_some, size_same}
 use Rattle.jz_types.specs.Carried.{vars_in}
-use Rattle.jz_meaning.specs.declared.access.Kind.{Kind}
-use Rattle.jz_meaning.specs.declared.access.Kind.TheVariants as kind
-use Rattle.jz_meaning.specs.Statements as meaning
-use Rattle.jz_meaning.specs.Values.{Ref, ref_of}
+use Rattle.jz_meaning.specs.Values.{ref_of}
 use Rattle.jz_bodies.specs.Calls.{is_array}
-use Rattle.jz_bodies.proofs.Refs.{kind_from}
 use Rattle.jz_bodies.proofs.Variables.{IsVariable, array_is, plain_is, known_is}
-use Rattle.jz_bodies.proofs.Passing.{Parts, declared_parts, word_same, array_passed, array_used}
+use Rattle.jz_bodies.proofs.Passing.{declared_parts, word_same, array_passed, array_used}
 use Rattle.jz_unroll.proofs.Layers.{Layer as ExprLayer}
 use Rattle.jz_unrolling_laws.specs.AskedLaws.{has_named}
 use Rattle.jz_unrolling_laws.specs.CalledBodies.{ByTest, inlines_of, IsNamedVar, IsNamedLeft, IsNamedArgument, AreNamedArguments, IsPlainLeft, AreNamedResults}
-use Rattle.jz_inline_laws.specs.InlineParts.{inline_in, IsInlineVar, IsPlainVar, IsOtherLeft, PassesInline, passes_array, passes_number, passes_value, GivesInline, gives_array, gives_value, PassAll, GiveAll}
+use Rattle.jz_inline_laws.specs.InlineParts.{inline_in, IsPlainVar, IsOtherLeft, PassesInline, passes_array, passes_number, passes_value, GivesInline, gives_array, gives_value, PassAll, GiveAll}
 use Rattle.jz_inline_laws.proofs.ClearVars.{IsClear, inline_var, plain_var}
 use Rattle.jz_inline_laws.proofs.NamedParts.{cells_plain, IsUsed, LeftIs, plain_left, word_left, named_var, expr_named, expr_text, named_left}
 use Rattle.jz_inline_laws.proofs.Assigning.{number_is}

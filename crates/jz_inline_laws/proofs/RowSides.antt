@@ -1,5 +1,5 @@
 -- What rows ask of the left sides of an assignment, of its operands that are inline, and of its condition.
-use Rattle.std.proofs.Common.{◌≡◌, ℤ, pos, List, [], ◌∷◌, Option, Some, None, Bool, true, false, not, ◌&&◌, ◌||◌, refl, ap, sym, ◌∙◌, subst, inl, inr, if◌then◌else◌}
+use Rattle.std.proofs.Common.{◌≡◌, ℤ, pos, [], ◌∷◌, Option, Some, None, Bool, true, false, not, ◌&&◌, ◌||◌, refl, ap, sym, ◌∙◌, inl, inr, if◌then◌else◌}
 use Rattle.std.specs.Prelude.{◌⊎◌, option_map}
 use Rattle.std.specs.Ordering.{int_eq}
 use Rattle.std.proofs.lemmas.Bool.{and_parts, and_from, false≢true, not_from_false}
@@ -10,16 +10,13 @@ use Rattle.jz_tree.specs.declared.expr.Storage.TheVariants as storage
 use Rattle.jz_tree.specs.declared.expr.BinOp.{BinOp}
 use Rattle.jz_tree.specs.declared.expr.BinOp.TheVariants as op
 use Rattle.jz_tree.specs.declared.expr.Expr.{Expr}
-use Rattle.jz_tree.specs.declared.expr.Expr.TheVariants as expr
 use Rattle.jz_tree.specs.declared.expr.Var.{Var}
 use Rattle.jz_tree.specs.declared.expr.Expr.TheOpen.{Expr-F}
-use Rattle.jz_tree.specs.declared.expr.Expr.TheViews.{out-Expr, out-Access, out-Var, out-roll-Expr}
+use Rattle.jz_tree.specs.declared.expr.Expr.TheViews.{out-Expr, out-Var}
 use Rattle.jz_tree.specs.declared.stmt.Lval.{Lval}
 use Rattle.jz_tree.specs.declared.stmt.Lval.TheVariants as lval
 use Rattle.jz_tree.specs.declared.stmt.Rhs.TheVariants as rhs
-use Rattle.jz_tree.specs.declared.stmt.StmtKind.TheOpen.{StmtKind-F}
 use Rattle.jz_integers.specs.Integers.{written_number}
-use Rattle.jz_select.specs.Places.{Answers}
 use Rattle.jz_select.specs.declared.class.Class.{Class}
 use Rattle.jz_select.specs.declared.class.Class.TheVariants as class
 use Rattle.jz_select.specs.declared.class.Mask.TheVariants as mask
@@ -28,15 +25,13 @@ use Rattle.jz_select.specs.declared.shape.Value.{Value}
 use Rattle.jz_select.specs.declared.shape.Value.TheVariants as values
 use Rattle.jz_select.specs.declared.shape.Shape as rowed
 use Rattle.jz_select.specs.declared.shape.Shape.TheVariants as shapes
-use Rattle.jz_select.specs.Look.{look_of, terms_of, bin_inline}
-use Rattle.jz_select.specs.Sums.{is_address, is_index}
+use Rattle.jz_select.specs.Look.{look_of, bin_inline}
 use Rattle.jz_select.specs.Operands.{class_at, var_class, class_if, inline_or, mask_of, is_byte, register_layer, masked_class, class_layer, class_of, dest_of}
 use Rattle.jz_select.specs.Rows.{is_r, is_m, is_i, is_rm, is_rmi, is_skip, is_flag, is_flag_result, is_pinned, may_lead, are_inline, adds, joins_bits, multiplies, is_long, product_size, p2, p3, p7, p14}
-use Rattle.jz_select.specs.Shapes.{Asked, whichever, itself, beside, carry_layer, two_beside, value_layer, update_layer, assign_of, conditional, value_shape, kind_layer, has_flags}
+use Rattle.jz_select.specs.Shapes.{Asked, itself, beside, carry_layer, two_beside, value_layer, update_layer, assign_of, conditional, has_flags}
 use Rattle.jz_type_names.specs.declared.kinds.Kind as known
 use Rattle.jz_type_names.specs.declared.kinds.Kind.TheVariants as scope
 use Rattle.jz_type_names.specs.Kinds.{Known, declared_of, known_of, kind_of, written_length, inline_int, is_inline_int, is_inline}
-use Rattle.jz_meaning.specs.declared.access.Kind.TheVariants as kind
 use Rattle.jz_meaning.specs.Assignments as meant
 use Rattle.jz_meaning.specs.Values.{ref_of, declared_kind, kind_or}
 use Rattle.jz_row_laws.proofs.Booleans.{or_parts, or_left, or_right}

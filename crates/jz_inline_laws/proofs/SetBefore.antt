@@ -1,30 +1,29 @@
 -- Which inline variables are set on each path before a statement, and behind it.
-use Rattle.std.proofs.Common.{◌≡◌, ℕ, List, [], ◌∷◌, Option, Some, None, Bool, true, false, not, ◌&&◌, ◌||◌, map, refl, ap, sym, ◌∙◌, subst, inl, inr, if◌then◌else◌, bytes_eq}
+use Rattle.std.proofs.Common.{◌≡◌, ℕ, List, [], ◌∷◌, Option, Some, None, Bool, true, false, not, ◌&&◌, ◌||◌, refl, ap, sym, ◌∙◌, subst, inl, inr, if◌then◌else◌, bytes_eq}
 use Rattle.std.specs.Prelude.{◌⊎◌, All}
-use Rattle.std.proofs.lemmas.Bool.{and_parts, false≢true, or_cases, or_left, or_right}
+use Rattle.std.proofs.lemmas.Bool.{false≢true}
 use Rattle.std.proofs.lemmas.List.Elements.{All-head, All-tail}
 use Rattle.jz_tree.proofs.Texts.{bytes_eq-true}
 use Rattle.jz_tree.specs.Span.{Span}
 use Rattle.jz_tree.specs.declared.expr.BinOp.{BinOp}
 use Rattle.jz_tree.specs.declared.expr.Expr.{Expr}
 use Rattle.jz_tree.specs.declared.expr.Var.{Var}
-use Rattle.jz_tree.specs.declared.expr.Expr.TheViews.{out-Access, out-Var}
+use Rattle.jz_tree.specs.declared.expr.Expr.TheViews.{out-Access}
 use Rattle.jz_tree.specs.declared.stmt.Lval.{Lval}
 use Rattle.jz_tree.specs.declared.stmt.Lval.TheVariants as lval
 use Rattle.jz_tree.specs.declared.stmt.Rhs.{Rhs}
 use Rattle.jz_tree.specs.declared.program.Fun.{Fun}
-use Rattle.jz_tree.specs.declared.program.Program.{Program}
 use Rattle.jz_type_names.specs.Scopes.{name_of}
-use Rattle.jz_type_names.specs.Order.{is_before, earlier, IsEarliest, nowhere, here}
-use Rattle.jz_type_storage.specs.Paths.{Flow, Skip, Does, Then, Either, Repeat, Reads, Sets, reading_lefts, reading_right, reading_condition, reading_old, setting, setting_all, assigning, flow_of_all, has_to_be_set, IsReadUnset}
+use Rattle.jz_type_names.specs.Order.{is_before, earlier, IsEarliest, here}
+use Rattle.jz_type_storage.specs.Paths.{reading_lefts, reading_right, reading_condition, reading_old, setting, setting_all, assigning, flow_of_all, has_to_be_set, IsReadUnset}
 use Rattle.jz_type_storage.specs.InnerSurely.{Names, having, put, missing, after, first}
 use Rattle.jz_type_storage.specs.InnerWalks.{members}
 use Rattle.jz_type_storage.proofs.Walking.{idle_expr, idle_right, idle_condition, idle_old}
 use Rattle.jz_type_storage.proofs.Asking.{unset_law}
 use Rattle.jz_meaning.specs.Values.{ref_of}
-use Rattle.jz_bodies.proofs.Refs.{bytes_same, ref_name}
+use Rattle.jz_bodies.proofs.Refs.{ref_name}
 use Rattle.jz_unroll.specs.Values.{InlineNames}
-use Rattle.jz_inline_laws.specs.InlineParts.{NameSet, Within, WithinAnd, HasOld, IsPlainVar, IsOtherLeft}
+use Rattle.jz_inline_laws.specs.InlineParts.{NameSet, Within, WithinAnd, HasOld, IsOtherLeft}
 
 -- ---- nothing is read too early
 

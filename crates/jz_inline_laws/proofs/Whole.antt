@@ -1,6 +1,6 @@
 -- What typing gives of inline variables in each function of a typed text.
-use Rattle.std.proofs.Common.{◌≡◌, ℕ, List, [], ◌∷◌, ◌++◌, Option, Some, None, Bool, true, false, not, ◌&&◌, ◌||◌, map, length, bytes_eq, refl, sym, ap, ◌∙◌, subst, inl, inr}
-use Rattle.std.specs.Prelude.{◌⊎◌, All, Contains, option_map, nat_le, slice_index_or}
+use Rattle.std.proofs.Common.{◌≡◌, ℕ, List, [], ◌∷◌, ◌++◌, Some, None, Bool, true, false, not, ◌&&◌, ◌||◌, map, length, bytes_eq, refl, sym, ap, ◌∙◌, subst, inl, inr}
+use Rattle.std.specs.Prelude.{All, Contains, option_map, nat_le, slice_index_or}
 use Rattle.std.specs.List.{list_all}
 use Rattle.std.proofs.lemmas.Bool.{and_parts, false≢true}
 use Rattle.std.proofs.lemmas.List.Elements.{All-nil, All-cons, All-head, All-tail, All-map, All-weaker, All-contains, All-contains_itself}
@@ -23,12 +23,12 @@ use Rattle.jz_tree.specs.declared.program.Program.{Program}
 use Rattle.jz_type_names.specs.declared.kinds.Kind as known
 use Rattle.jz_type_names.specs.declared.kinds.Kind.TheVariants as scope
 use Rattle.jz_type_names.specs.Kinds.{Known, declared_of, known_of, inline_int, is_inline_int, is_register_word, is_word_kind, same_storage}
-use Rattle.jz_type_names.specs.Scopes.{constant_place, function_named, variables_of}
+use Rattle.jz_type_names.specs.Scopes.{constant_place, function_named}
 use Rattle.jz_type_names.specs.Parts.{layer_of, statements_of}
 use Rattle.jz_type_names.proofs.Empty.{both, passed, all_empty, no_member}
 use Rattle.jz_type_storage.specs.Declarations.{wrongly_kept}
 use Rattle.jz_type_storage.specs.Settings.{wrongly_set_in, wrongly_set}
-use Rattle.jz_type_storage.specs.Paths.{flow_of_all, has_to_be_set, IsReadUnset, IsReadUnsetIn}
+use Rattle.jz_type_storage.specs.Paths.{flow_of_all, has_to_be_set, IsReadUnsetIn}
 use Rattle.jz_type_storage.specs.InnerSurely.{after}
 use Rattle.jz_type_storage.specs.InnerWalks.{members}
 use Rattle.jz_type_storage.proofs.Adding.{none_member}
@@ -44,8 +44,6 @@ use Rattle.jz_types.specs.Carried.{vars_in}
 use Rattle.jz_types.specs.TypedPrograms.{IsTypedProgram}
 use Rattle.jz_types.specs.declared.fault.TypeRule.TheVariants as rule
 use Rattle.jz_types.proofs.ProgramsKept.{decl_known, var_out}
-use Rattle.jz_meaning.specs.Values.{ref_of}
-use Rattle.jz_run_laws.specs.Depths.{HasNoRecursion}
 use Rattle.jz_run_laws.proofs.Parts.{there_is}
 use Rattle.jz_run_laws.proofs.Uncut.{typed_law}
 use Rattle.jz_row_laws.proofs.Copied.{selected_matches}
@@ -56,7 +54,7 @@ use Rattle.jz_bodies.proofs.Whole as whole
 use Rattle.jz_bodies.proofs.Whole.{all_known, own_params, returned_variables, params_kept, rets_kept}
 use Rattle.jz_typed_runs.specs.TypedTexts.{IsTypedText}
 use Rattle.jz_inline_laws.specs.InlineParts.{inline_in, IsPlainVar}
-use Rattle.jz_inline_laws.specs.InlineBodies.{HasInlineParam, IsInlineFun, InlineLaw}
+use Rattle.jz_inline_laws.specs.InlineBodies.{IsInlineFun, InlineLaw}
 use Rattle.jz_inline_laws.proofs.ClearVars.{IsClear, plain_var, clear_own, clear_all, clear_results, not_asked}
 use Rattle.jz_inline_laws.proofs.SetBefore.{none_unset, Known as Set}
 use Rattle.jz_inline_laws.proofs.NamedParts.{IsUsed}

@@ -25,8 +25,7 @@ pub data IsInlineBody (p : Program) (f : Fun) : Bool → NameSet → Block → N
   inline_op :
       {i : Bool} {s s1 s2 : NameSet} {o : Operation} {r : Block}
       → IsNamedOp (inlines_of f) o → SetsInline (inline_in f) i s o s1
-      → IsInlineBody p f i s1 r s2
-      → IsInlineBody p f i s (op o r) s2
+      → IsInlineBody p f i s1 r s2 → IsInlineBody p f i s (op o r) s2
   inline_choose :
       {i : Bool} {s sa sb s1 s2 : NameSet} {c : Condition} {a b r : Block}
       → is_text c.cond ≡ true → has_named (inline_in f) c.cond ≡ true
@@ -37,14 +36,14 @@ pub data IsInlineBody (p : Program) (f : Fun) : Bool → NameSet → Block → N
   inline_loop :
       {h i : Bool} {s sq sb s2 : NameSet} {c : Condition} {q b r : Block}
       → is_text c.cond ≡ true → has_named (inline_in f) c.cond ≡ true
-      → IsInlineBody p f true s q sq
-      → IsInlineBody p f true sq b sb → IsInlineBody p f i sq r s2
+      → IsInlineBody p f true s q sq → IsInlineBody p f true sq b sb
+      → IsInlineBody p f i sq r s2
       → IsInlineBody p f i s (loop h q c b r) s2
   inline_each :
       {i : Bool} {s sc sb s2 : NameSet} {k : Counter} {b r : Block}
       → IsNamedCounter (inlines_of f) k → CountsInline (inline_in f) k
-      → WithinAnd (inline_in f) sc s k.counter → IsInlineBody p f i sc b sb → IsInlineBody p f i s r s2
-      → IsInlineBody p f i s (each k b r) s2
+      → WithinAnd (inline_in f) sc s k.counter → IsInlineBody p f i sc b sb
+      → IsInlineBody p f i s r s2 → IsInlineBody p f i s (each k b r) s2
   inline_call :
       {i : Bool} {s s1 s2 : NameSet} {q : Call} {b r : Block}
       → Contains p.funs q.callee → b ≡ body_of p q.callee

@@ -1,6 +1,6 @@
 -- What typing gives of inline variables in the parts of a body: a function's inline variables by
 -- their names, what is a number or a truth when the text is compiled, and which operations set one.
-use Rattle.std.specs.Prelude.{ℕ, ℤ, ◌≡◌, ◌⊎◌, Bool, true, false, is_none, List, [], ◌∷◌, All, Option, Some, None, ⊤}
+use Rattle.std.specs.Prelude.{ℕ, ℤ, ◌≡◌, ◌⊎◌, Bool, true, false, List, [], ◌∷◌, All, Option, Some, None, ⊤}
 use Rattle.jz_tree.specs.Span.{Span}
 use Rattle.jz_tree.specs.declared.expr.BinOp.{BinOp}
 use Rattle.jz_tree.specs.declared.expr.Expr.{Expr}
@@ -103,9 +103,9 @@ module _ (names : InlineNames) where
   HasOld set v None = ⊤
   HasOld set v (Some c) = set (ref_of v).name ≡ true
 
-  -- inside: of a `while` or an `if` that is not inline, where no inline variable is set. Where these
-  -- names are set before it, no others are set behind it but that of the inline variable that it
-  -- sets.
+  -- inside: of a `while` or an `if` that is not inline, where no inline variable is set. Where
+  -- these names are set before it, no others are set behind it but that of the inline variable that
+  -- it sets.
   pub data SetsInline (inside : Bool) (before : NameSet) : Operation → NameSet → Type 0 where
     sets_inline :
         {v : Var} {o : Option BinOp} {x y : Expr} {c : Option Expr} {at : Span} {behind : NameSet}

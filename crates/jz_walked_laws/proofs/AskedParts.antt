@@ -70,13 +70,13 @@ module _ (names : InlineNames) (e : KnownNumbers) where
   number_known x h t =
       let c = inline_known x h.inline t in
       let n = h.numeric e c.0 c.1 in
-      (n.0, no_cells names x h.inline h.named, c.1 ∙ ap Some n.1)
+      (n.0, (no_cells names x h.inline h.named, c.1 ∙ ap Some n.1))
 
   pub truth_known : (x : Expr) → IsInlineTruth names x → (told e x).widths None ≡ [] → (b : Bool) × HasValue e x (constant.Bool b)
   truth_known x h t =
       let c = inline_known x h.inline t in
       let b = h.logical e c.0 c.1 in
-      (b.0, no_cells names x h.inline h.named, c.1 ∙ ap Some b.1)
+      (b.0, (no_cells names x h.inline h.named, c.1 ∙ ap Some b.1))
 
   pub expr_known : (x : Expr) → has_named names x ≡ true → (told e x).widths None ≡ [] → has_values names e x ≡ true
   expr_known x h t = asked_values names e x h None t

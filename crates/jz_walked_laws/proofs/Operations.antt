@@ -106,13 +106,13 @@ module _ (f : Fun) (e : KnownNumbers) where
   keeps_old true v n = keeps_number e v n
   keeps_old false v n = keeps_same e
 
+  old_named : (s : NameSet) (v : Var) → Knows f s e → s (ref_of v).name ≡ true → (m : List ℕ) → inline_in f m 0 ≡ true → (s m ≡ true) ⊎ ((ref_of v).name ≡ m) → is_some (e m 0) ≡ true
+  old_named s v k o m i (inl a) = k m i a
+  old_named s v k o m i (inr a) = k m i (subst (λ t. s t ≡ true) a o)
+
   knows_old : (b : Bool) (v : Var) (n : ℤ) (s behind : NameSet) → (ref_of v).copy ≡ 0 → WithinAnd (inline_in f) behind s v → Knows f s e → (b ≡ false → s (ref_of v).name ≡ true) → Knows f behind (or_old b v n)
   knows_old true v n s behind z w k o = knows_number f behind s e v n z w k
-  knows_old false v n s behind z w k o m i j = by_name (w m i j)
-    where
-      by_name : (s m ≡ true) ⊎ ((ref_of v).name ≡ m) → is_some (e m 0) ≡ true
-      by_name (inl a) = k m i a
-      by_name (inr a) = k m i (subst (λ t. s t ≡ true) a (o refl))
+  knows_old false v n s behind z w k o = λ m i j. old_named s v k (o refl) m i (w m i j)
 
   sets_fits : (v : Var) (o : Option BinOp) (x y : Expr) (c : Option Expr) (at : Span) (s behind : NameSet) → IsInlineVar (inline_in f) v → is_inline x ≡ true → whole_of (Some (lval.Var v)) o x ≡ Some y → IsInlineNumber (inline_in f) y → IsInlineTest (inline_in f) c
       → HasOld (inline_in f) s v c → WithinAnd (inline_in f) behind s v → Knows f s e → asked e (assign (lval.Var v ∷ []) o x c at) ≡ [] → SetsOne v o x c at s behind

@@ -1,6 +1,6 @@
 -- Functions of typed texts that are within the limits have what unrolling asks for.
 use Rattle.std.proofs.Common.{◌≡◌, ℕ, List, [], ◌∷◌, Bool, true, false, sym, ◌∙◌, inl, inr}
-use Rattle.std.specs.Prelude.{◌⊎◌, All, Contains}
+use Rattle.std.specs.Prelude.{◌⊎◌, All, Contains, slice_index_or}
 use Rattle.std.proofs.lemmas.Bool.{false≢true}
 use Rattle.std.proofs.lemmas.List.Elements.{All-head, All-tail, All-contains}
 use Rattle.jz_tree.specs.declared.program.Fun.{Fun}
@@ -32,7 +32,7 @@ module _ (p : Program) (h : IsTypedText p) where
 pub named_law : NamedLaw
 named_law p h =
     let all = inline_law p h in
-    λ i f l. (let k = all i f l in named p (funs p h) (body_of p _) _ false k.before k.behind k.body)
+    λ i f l. (let k = all i f l in let g : Fun = slice_index_or p.funs i f in named p (funs p h) (body_of p g) g false k.before k.behind k.body)
 
 pub called_law : CalledLaw
 called_law p f h has exported (few, within) =
