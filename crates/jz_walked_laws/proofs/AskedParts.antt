@@ -99,12 +99,12 @@ module _ (names : InlineNames) (e : KnownNumbers) where
   cell_values : (v : Var) (i : Expr) → has_values names e (expr.Cell v i) ≡ left_has_values names e (lval.Cell v i)
   cell_values v i =
       ap (has_values names e) (sym (expr.rolls-Cell v i)) ∙ known_is names e (Expr-F.Cell v i)
-      ∙ ap (λ b. if b then unrolled.is_known e (roll-Expr (Expr-F.Cell v i)) else parts_layer names e (Expr-F.Cell v i)) (inline_is (Expr-F.Cell v i))
+      ∙ ap (λ b. if b then unrolled.is_known names e (roll-Expr (Expr-F.Cell v i)) else parts_layer names e (Expr-F.Cell v i)) (inline_is (Expr-F.Cell v i))
 
   load_values : (a : Access) → has_values names e (expr.Load a) ≡ left_has_values names e (lval.Store a)
   load_values a =
       ap (has_values names e) (sym (expr.rolls-Load a)) ∙ known_is names e (Expr-F.Load a)
-      ∙ ap (λ b. if b then unrolled.is_known e (roll-Expr (Expr-F.Load a)) else parts_layer names e (Expr-F.Load a)) (inline_is (Expr-F.Load a))
+      ∙ ap (λ b. if b then unrolled.is_known names e (roll-Expr (Expr-F.Load a)) else parts_layer names e (Expr-F.Load a)) (inline_is (Expr-F.Load a))
 
   pub left_known : (d : Lval) → IsOtherLeft names d → (asked_if e role.Operand None (left_access d)).widths ≡ [] → left_has_values names e d ≡ true
   left_known (lval.Skip at) h t = refl

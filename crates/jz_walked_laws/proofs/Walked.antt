@@ -44,6 +44,7 @@ still_op f s t _ (instructs {to} {n} {args} {at} l h within) = tt
 pub still : (p : Program) (f : Fun) (t : Block) (s s2 : NameSet) → IsInlineBody p f true s t s2 → IsStill t
 still p f done s s2 inline_done = tt
 still p f (op o r) s s2 (inline_op {s1 = s1} n h k) = (still_op f s s1 o h, still p f r s1 s2 k)
+still p f (quiet o r) s s2 x = elim x [ ]
 still p f (choose c a b r) s s2 (inline_choose {sa = sa} {sb = sb} {s1 = s1} x n ha hb wa wb k) = (
   still p f a s sa (subst (λ i. IsInlineBody p f i s a sa) (or_true (not (is_inline c.cond))) ha),
   still p f b s sb (subst (λ i. IsInlineBody p f i s b sb) (or_true (not (is_inline c.cond))) hb),
@@ -243,6 +244,7 @@ module _ (p : Program) (funs : (g : Fun) → Contains p.funs g → IsInlineFun p
   pub walked : (t : Block) (f : Fun) (i : Bool) (s s2 : NameSet) → IsInlineBody p f i s t s2 → Walks f s s2 t
   walked done f i s s2 inline_done = done_case f s
   walked (op o r) f i s s2 (inline_op {s1 = s1} n h k) = op_case f i s s1 s2 o r h (walked r f i s1 s2 k)
+  walked (quiet o r) f i s s2 x = elim x [ ]
   walked (choose c a b r) f i s s2 (inline_choose {sa = sa} {sb = sb} {s1 = s1} x n ha hb wa wb k) =
       choose_case f s sa sb s1 s2 c a b r n (both_still p f i s sa sb c a b ha hb) (walked a f (not (is_inline c.cond) || i) s sa ha) (walked b f (not (is_inline c.cond) || i) s sb hb) wa wb (walked r f i s1 s2 k)
   walked (loop h q c b r) f i s s2 (inline_loop {sq = sq} {sb = sb} x n hq hb k) =
@@ -257,6 +259,7 @@ module _ (p : Program) (funs : (g : Fun) → Contains p.funs g → IsInlineFun p
   pub named : (t : Block) (f : Fun) (i : Bool) (s s2 : NameSet) → IsInlineBody p f i s t s2 → IsNamed (inlines_of f) t
   named done f i s s2 inline_done = tt
   named (op o r) f i s s2 (inline_op {s1 = s1} n h k) = (n, named r f i s1 s2 k)
+  named (quiet o r) f i s s2 x = elim x [ ]
   named (choose c a b r) f i s s2 (inline_choose {sa = sa} {sb = sb} {s1 = s1} x n ha hb wa wb k) =
       (x, named a f (not (is_inline c.cond) || i) s sa ha, named b f (not (is_inline c.cond) || i) s sb hb, named r f i s1 s2 k)
   named (loop h q c b r) f i s s2 (inline_loop {sq = sq} {sb = sb} x n hq hb k) = (x, named q f true s sq hq, named b f true sq sb hb, named r f i sq s2 k)

@@ -1,12 +1,14 @@
 -- Functions of typed texts that are within the limits have what unrolling asks for.
-use Rattle.std.proofs.Common.{◌≡◌, ℕ, List, [], ◌∷◌, Bool, true, false, sym, ◌∙◌, inl, inr}
-use Rattle.std.specs.Prelude.{◌⊎◌, All, Contains, slice_index_or}
+use Rattle.std.proofs.Common.{◌≡◌, ℕ, List, [], ◌∷◌, Bool, true, false, sym, ap, ◌∙◌, inl, inr}
+use Rattle.std.specs.Prelude.{◌⊎◌, All, Contains, nat_eq, slice_index_or}
 use Rattle.std.proofs.lemmas.Bool.{false≢true}
 use Rattle.std.proofs.lemmas.List.Elements.{All-head, All-tail, All-contains}
 use Rattle.jz_tree.specs.declared.program.Fun.{Fun}
 use Rattle.jz_tree.specs.declared.program.Param.{Param}
 use Rattle.jz_tree.specs.declared.program.Program.{Program}
 use Rattle.jz_meaning.specs.Runs.{body_of}
+use Rattle.jz_bodies.proofs.Whole as whole
+use Rattle.jz_bodies.proofs.Whole.{all_known}
 use Rattle.jz_typed_runs.specs.TypedTexts.{IsTypedText}
 use Rattle.jz_limits.specs.Values.{no_numbers}
 use Rattle.jz_limits.specs.Limits.{IsWithin}
@@ -14,8 +16,9 @@ use Rattle.jz_limits.specs.Walks.{walk}
 use Rattle.jz_unroll.specs.Values.{InlineNames}
 use Rattle.jz_inline_laws.specs.InlineParts.{inline_in, IsPlainVar}
 use Rattle.jz_inline_laws.specs.InlineBodies.{HasInlineParam, IsInlineFun}
+use Rattle.jz_inline_laws.proofs.ClearVars.{clear_results}
 use Rattle.jz_inline_laws.proofs.Whole.{inline_law}
-use Rattle.jz_walked_laws.specs.WalkedLaws.{NamedLaw, CalledLaw}
+use Rattle.jz_walked_laws.specs.WalkedLaws.{NamedLaw, CalledLaw, ResultsLaw}
 use Rattle.jz_walked_laws.proofs.Ones.{only_ones}
 use Rattle.jz_walked_laws.proofs.Walked.{walked, named}
 
@@ -39,3 +42,9 @@ called_law p f h has exported (few, within) =
     let k = funs p h f has in
     (walked p (funs p h) (body_of p f) f false k.before k.behind k.body no_numbers
     (λ n i m. absurd (none_inline p h (inline_in f) f.params n (k.exported exported) (k.given n i m))) (only_ones (walk (body_of p f) no_numbers).steps within.none)).fits
+
+pub results_law : ResultsLaw
+results_law p f h has =
+    let clear = clear_results p f (All-contains (whole.IsKnown p) p.funs f (all_known p h.typed h.text) has) in
+    let plain = (funs p h f has).results in
+    λ i v l. (ap (λ d. nat_eq d 0) (clear i v l).copy, (plain i v l).named)
