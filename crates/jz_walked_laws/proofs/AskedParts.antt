@@ -1,5 +1,5 @@
 -- Where nothing is asked of an operation that passes a limit, each inline part of it has a value.
-use Rattle.std.proofs.Common.{◌≡◌, ℕ, ℤ, List, [], ◌∷◌, ◌++◌, Option, Some, None, Bool, true, false, not, refl, ap, sym, ◌∙◌, subst, if◌then◌else◌}
+use Rattle.std.proofs.Common.{◌≡◌, ℕ, ℤ, List, [], ◌∷◌, Option, Some, None, Bool, true, false, not, refl, ap, sym, ◌∙◌, subst, if◌then◌else◌}
 use Rattle.std.specs.Prelude.{All, ◌&&◌, is_some}
 use Rattle.std.specs.Option.{option_or}
 use Rattle.std.specs.List.{list_all}
@@ -17,21 +17,21 @@ use Rattle.jz_tree.specs.declared.expr.Expr.TheOpen.{Expr-F}
 use Rattle.jz_tree.specs.declared.expr.Expr.TheViews.{out-Expr, roll-Expr, roll-out-Expr}
 use Rattle.jz_tree.specs.declared.stmt.Lval.{Lval}
 use Rattle.jz_tree.specs.declared.stmt.Lval.TheVariants as lval
-use Rattle.jz_type_names.specs.Kinds.{known_of, is_inline_int, is_inline}
+use Rattle.jz_type_names.specs.Kinds.{is_inline}
 use Rattle.jz_type_names.specs.Parts.{span_of}
 use Rattle.jz_integers.specs.Integers.{KnownNumbers, inline_value}
 use Rattle.jz_integers.specs.declared.constant.Constant.{Constant}
 use Rattle.jz_integers.specs.declared.constant.Constant.TheVariants as constant
 use Rattle.jz_meaning.specs.Assignments.{left_sizes, last_left}
 use Rattle.jz_meaning.specs.Statements.{assign, instruction}
-use Rattle.jz_meaning.specs.Values.{ref_of, own_size}
+use Rattle.jz_meaning.specs.Values.{own_size}
 use Rattle.jz_limits.specs.declared.limit.Limit.{Limit}
 use Rattle.jz_limits.specs.declared.limit.Limit.TheVariants.{InlineWidth}
 use Rattle.jz_limits.specs.declared.operands.Role.{Role}
 use Rattle.jz_limits.specs.declared.operands.Role.TheVariants as role
 use Rattle.jz_limits.specs.declared.operands.Roles.{Roles}
-use Rattle.jz_limits.specs.Values.{is_int, inline_target}
-use Rattle.jz_limits.specs.Asked.{Told, told, told_as, place_or, unless, no_value, Parts, beside, in_kinds, without_fields, asked_as, asked_if, left_access, left_parts, operand_parts, all_in, to_register, is_free, value_role, value_as, value_parts, assigned_parts, asked, asked_condition, roles_of, size_by}
+use Rattle.jz_limits.specs.Values.{inline_target}
+use Rattle.jz_limits.specs.Asked.{Told, told, told_as, place_or, unless, no_value, beside, in_kinds, asked_if, left_access, left_parts, operand_parts, all_in, to_register, is_free, value_role, value_as, value_parts, assigned_parts, asked, asked_condition, roles_of, size_by}
 use Rattle.jz_unroll.specs.Values.{has_no_cell, InlineNames, is_inline_var, has_values, left_has_values, if_has_values, is_split, operation_has_values}
 use Rattle.jz_unroll.specs.Unrolling.{HasValue}
 use Rattle.jz_unroll.proofs.InlineParts.{inline_var, inline_is}
@@ -40,7 +40,7 @@ use Rattle.jz_unroll.proofs.Valued.{known_is, parts_layer}
 use Rattle.jz_unroll.specs.Values as unrolled
 use Rattle.jz_unrolling_laws.specs.AskedLaws.{has_named, access_named}
 use Rattle.jz_unrolling_laws.proofs.AskedValues.{named_is, paired, told_is, asked_values, no_cells}
-use Rattle.jz_inline_laws.specs.InlineParts.{IsNamedIf, IsPlainVar, IsOtherLeft, IsInlineNumber, IsInlineTruth}
+use Rattle.jz_inline_laws.specs.InlineParts.{IsNamedIf, IsOtherLeft, IsInlineNumber, IsInlineTruth}
 use Rattle.jz_walked_laws.proofs.Ones.{nothing_both}
 
 -- ---- values

@@ -1,8 +1,8 @@
 -- The arguments and results of a call of which nothing passes a limit have what unrolling asks for, and the callee's inline parameters have numbers.
-use Rattle.std.proofs.Common.{◌≡◌, ℕ, ℤ, List, [], ◌∷◌, ◌++◌, Option, Some, None, Bool, true, false, refl, ap, sym, ◌∙◌, subst, inl, inr, if◌then◌else◌, bytes_eq}
-use Rattle.std.specs.Prelude.{◌⊎◌, ◌==◌, ◌&&◌, All, is_some}
+use Rattle.std.proofs.Common.{◌≡◌, ℕ, ℤ, List, [], ◌∷◌, Some, None, Bool, true, false, refl, ap, sym, ◌∙◌, subst, inl, inr, if◌then◌else◌}
+use Rattle.std.specs.Prelude.{is_some}
 use Rattle.std.proofs.lemmas.Bool.{false≢true}
-use Rattle.std.proofs.lemmas.List.Elements.{All-nil, All-cons, All-head}
+use Rattle.std.proofs.lemmas.List.Elements.{All-nil, All-cons}
 use Rattle.jz_tree.specs.Span.{Span}
 use Rattle.jz_tree.specs.declared.expr.Expr.{Expr}
 use Rattle.jz_tree.specs.declared.expr.Expr.TheVariants as expr
@@ -11,27 +11,25 @@ use Rattle.jz_tree.specs.declared.stmt.Lval.{Lval}
 use Rattle.jz_tree.specs.declared.stmt.Lval.TheVariants as lval
 use Rattle.jz_tree.specs.declared.program.Fun.{Fun}
 use Rattle.jz_tree.specs.declared.program.Param.{Param}
-use Rattle.jz_type_names.specs.Kinds.{is_inline}
 use Rattle.jz_integers.specs.Integers.{KnownNumbers, the_number}
 use Rattle.jz_integers.specs.declared.constant.Constant.TheVariants as constant
 use Rattle.jz_meaning.specs.declared.access.Kind.{Kind}
 use Rattle.jz_meaning.specs.declared.access.Kind.TheVariants as kind
-use Rattle.jz_meaning.specs.Statements.{assign}
 use Rattle.jz_meaning.specs.Values.{ref_of}
 use Rattle.jz_bodies.specs.Calls as called
 use Rattle.jz_limits.specs.declared.limit.Limit.{Limit}
 use Rattle.jz_limits.specs.declared.operands.Role.TheVariants as role
-use Rattle.jz_limits.specs.Values.{is_int, inline_target, with_number, number_in}
+use Rattle.jz_limits.specs.Values.{is_int, with_number, number_in}
 use Rattle.jz_limits.specs.Asked.{told, asked_if, left_access, asked}
-use Rattle.jz_limits.specs.Walks.{is_array, copied_to, one_argument, argument_limits, with_argument, with_arguments, given_limits, one_result, result_limits}
-use Rattle.jz_unroll.specs.Values.{has_values, left_has_values}
+use Rattle.jz_limits.specs.Walks.{is_array, copied_to, one_argument, argument_limits, with_argument, with_arguments, one_result, result_limits}
+use Rattle.jz_unroll.specs.Values.{left_has_values}
 use Rattle.jz_unroll.specs.Unrolling.{HasValue}
 use Rattle.jz_unrolling_laws.specs.CalledBodies.{ByTest, inlines_of, FitsArgument, FitArguments, IsGiven, FitsResult, FitResults}
 use Rattle.jz_inline_laws.specs.InlineParts.{inline_in, IsInlineVar, IsPlainVar, IsOtherLeft, IsInlineNumber, PassesInline, passes_array, passes_number, passes_value, GivesInline, gives_array, gives_value, PassAll, GiveAll}
 use Rattle.jz_inline_laws.specs.InlineBodies.{HasInlineParam}
 use Rattle.jz_inline_laws.proofs.ClearVars.{ints_same}
 use Rattle.jz_walked_laws.proofs.Ones.{nothing_both}
-use Rattle.jz_walked_laws.proofs.AskedParts.{number_known, expr_known, left_known, no_target, AssignAsked, assign_asked}
+use Rattle.jz_walked_laws.proofs.AskedParts.{number_known, expr_known, left_known, no_target, assign_asked}
 use Rattle.jz_walked_laws.proofs.Knowing.{Keeps, keeps_same, keeps_on, keeps_number, at_itself}
 use Rattle.jz_walked_laws.proofs.Operations.{target_asked}
 

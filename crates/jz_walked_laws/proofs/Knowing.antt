@@ -1,7 +1,7 @@
 -- Numbers of inline variables that are known, as they change.
-use Rattle.std.proofs.Common.{◌≡◌, ℕ, ℤ, List, Option, Some, None, Bool, true, false, refl, ap, sym, ◌∙◌, subst, inl, inr, if◌then◌else◌, eqb-true, bytes_eq}
+use Rattle.std.proofs.Common.{◌≡◌, ℕ, ℤ, List, Option, Some, Bool, true, false, refl, ap, ◌∙◌, subst, inl, inr, if◌then◌else◌, eqb-true, bytes_eq}
 use Rattle.std.specs.Prelude.{◌⊎◌, ◌==◌, ◌&&◌, is_some}
-use Rattle.std.proofs.lemmas.Bool.{and_parts, and_from, false≢true}
+use Rattle.std.proofs.lemmas.Bool.{and_parts, and_from}
 use Rattle.jz_tree.proofs.Texts.{bytes_eq-true}
 use Rattle.jz_tree.specs.declared.expr.Var.{Var}
 use Rattle.jz_tree.specs.declared.program.Fun.{Fun}
@@ -9,7 +9,7 @@ use Rattle.jz_integers.specs.Integers.{KnownNumbers}
 use Rattle.jz_meaning.specs.Values.{ref_of}
 use Rattle.jz_bodies.proofs.Refs.{bytes_same}
 use Rattle.jz_limits.specs.Values.{with_number, number_of}
-use Rattle.jz_inline_laws.specs.InlineParts.{inline_in, NameSet, Within, WithinAnd, IsInlineVar}
+use Rattle.jz_inline_laws.specs.InlineParts.{inline_in, NameSet, Within, WithinAnd}
 
 -- of these names each inline variable has a number
 abbrev pub Knows : Fun → NameSet → KnownNumbers → Type 0

@@ -1,5 +1,5 @@
 -- Where all that is met is within the limits, each part of it is.
-use Rattle.std.proofs.Common.{◌≡◌, List, [], ◌∷◌, ◌++◌, Option, Some, None, Bool, true, false, map, refl, ap, sym, ◌∙◌, subst, inl, inr, if◌then◌else◌}
+use Rattle.std.proofs.Common.{◌≡◌, List, [], ◌∷◌, ◌++◌, Option, Some, None, Bool, true, false, refl, ap, ◌∙◌, subst, inl, inr, if◌then◌else◌}
 use Rattle.std.specs.Prelude.{◌⊎◌, All, ⊤}
 use Rattle.std.proofs.lemmas.List.Elements.{All-head, All-tail}
 use Rattle.jz_tree.specs.declared.expr.Expr.{Expr}
@@ -9,7 +9,6 @@ use Rattle.jz_integers.specs.Integers.{KnownNumbers, inline_value}
 use Rattle.jz_integers.specs.declared.constant.Constant.{Constant}
 use Rattle.jz_integers.specs.declared.constant.Constant.TheVariants as constant
 use Rattle.jz_limits.specs.declared.limit.Limit.{Limit}
-use Rattle.jz_limits.specs.declared.limit.Limit.TheVariants.{InlineWidth}
 use Rattle.jz_limits.specs.Limits.{Step, one, passing}
 use Rattle.jz_limits.specs.Values.{truth_of}
 use Rattle.jz_limits.specs.Asked.{asked_condition}

@@ -16,18 +16,18 @@ use Rattle.jz_integers.specs.declared.constant.Constant.TheVariants as constant
 use Rattle.jz_type_names.specs.Kinds.{is_inline}
 use Rattle.jz_judgement.proofs.Nothing.{same_some}
 use Rattle.jz_meaning.specs.Assignments.{last_left, whole_of}
-use Rattle.jz_meaning.specs.Statements.{Operation, assign, instruction}
+use Rattle.jz_meaning.specs.Statements.{Operation, assign}
 use Rattle.jz_meaning.specs.Values.{ref_of}
 use Rattle.jz_limits.specs.declared.limit.Limit.{Limit}
 use Rattle.jz_limits.specs.declared.limit.Limit.TheVariants.{InlineWidth}
 use Rattle.jz_limits.specs.declared.operands.Role.TheVariants as role
-use Rattle.jz_limits.specs.Values.{is_int, inline_target, with_number, number_of, number_in, truth_of, holds_in, chosen, set_to, first_left, known_after}
-use Rattle.jz_limits.specs.Asked.{told, unless, no_value, asked_if, value_of, set_value, set_parts, assigned_parts, without_fields, in_kinds, asked}
-use Rattle.jz_unroll.specs.Unrolling.{HasValue, ConditionIs, IsInlineInt}
+use Rattle.jz_limits.specs.Values.{inline_target, with_number, truth_of, holds_in, chosen, set_to, first_left, known_after}
+use Rattle.jz_limits.specs.Asked.{told, unless, no_value, asked_if, value_of, set_parts, assigned_parts, in_kinds, asked}
+use Rattle.jz_unroll.specs.Unrolling.{ConditionIs}
 use Rattle.jz_unrolling_values.specs.Parts.{IsInlineIf}
 use Rattle.jz_unrolling_laws.specs.CalledBodies.{inlines_of, FitsOp, stays_so, sets_one}
 use Rattle.jz_unrolling_laws.proofs.AskedValues.{no_cells}
-use Rattle.jz_inline_laws.specs.InlineParts.{inline_in, NameSet, Within, WithinAnd, IsInlineNumber, IsInlineTest, IsInlineVar, HasOld, SetsInline, sets_inline, assigns, instructs}
+use Rattle.jz_inline_laws.specs.InlineParts.{inline_in, NameSet, WithinAnd, IsInlineNumber, IsInlineTest, IsInlineVar, HasOld, SetsInline, sets_inline, assigns, instructs}
 use Rattle.jz_inline_laws.proofs.ClearVars.{ints_same}
 use Rattle.jz_walked_laws.proofs.Ones.{nothing_both}
 use Rattle.jz_walked_laws.proofs.AskedParts.{number_known, truth_known, no_target, assign_known, instruction_known}

@@ -1,27 +1,22 @@
 -- A body whose walk passes no limit has what unrolling asks for, where the walk comes to it.
-use Rattle.std.proofs.Common.{◌≡◌, ℕ, ℤ, List, [], ◌∷◌, ◌++◌, Option, Some, None, Bool, true, false, not, ◌||◌, replicate, refl, ap, sym, ◌∙◌, subst, inl, inr, if◌then◌else◌}
-use Rattle.std.specs.Prelude.{◌⊎◌, ◌+◌, ◌-◌, Contains, is_some, length}
+use Rattle.std.proofs.Common.{◌≡◌, ℕ, ℤ, List, [], ◌∷◌, ◌++◌, Some, Bool, true, false, not, ◌||◌, refl, ap, sym, subst, inl, inr}
+use Rattle.std.specs.Prelude.{◌⊎◌, Contains}
 use Rattle.std.proofs.lemmas.Bool.{false≢true}
-use Rattle.jz_tree.specs.declared.expr.Expr.{Expr}
 use Rattle.jz_tree.specs.declared.expr.Var.{Var}
 use Rattle.jz_tree.specs.declared.program.Fun.{Fun}
 use Rattle.jz_tree.specs.declared.program.Program.{Program}
 use Rattle.jz_type_names.specs.Kinds.{is_inline}
-use Rattle.jz_integers.specs.Integers.{KnownNumbers, inline_value, the_number}
-use Rattle.jz_integers.specs.declared.constant.Constant.TheVariants as constant
+use Rattle.jz_integers.specs.Integers.{KnownNumbers}
 use Rattle.jz_meaning.specs.Trees.{done, op, quiet, choose, loop, each, call}
 use Rattle.jz_meaning.specs.Statements.{Operation, Condition, Counter, Call, Block}
-use Rattle.jz_meaning.specs.Runs.{body_of}
 use Rattle.jz_meaning.specs.Values.{ref_of}
-use Rattle.jz_limits.specs.Limits.{Step, one}
+use Rattle.jz_limits.specs.Limits.{one}
 use Rattle.jz_limits.specs.Values.{no_numbers, with_number, number_of, number_in, known_after}
-use Rattle.jz_limits.specs.Asked.{asked, asked_condition, widths}
-use Rattle.jz_limits.specs.Walks.{Walk, limits, behind, silent, arms, turns, rounds, counted_values, loop_walk, more_than_eight, argument_limits, with_arguments, result_limits, walk}
-use Rattle.jz_unroll.specs.Values.{has_values}
-use Rattle.jz_unroll.specs.Unrolling.{HasValue}
+use Rattle.jz_limits.specs.Asked.{asked, widths}
+use Rattle.jz_limits.specs.Walks.{limits, silent, arms, rounds, counted_values, more_than_eight, argument_limits, with_arguments, result_limits, walk}
 use Rattle.jz_unrolling_laws.specs.AskedLaws.{has_named}
 use Rattle.jz_unrolling_laws.proofs.AskedValues.{no_cells}
-use Rattle.jz_unrolling_laws.specs.CalledBodies.{ByTest, inlines_of, in_source, IsStill, IsStillOp, IsAsked, IsTaken, FitsRounds, AreBounds, FitsCalled, IsNamed}
+use Rattle.jz_unrolling_laws.specs.CalledBodies.{inlines_of, IsStill, IsStillOp, IsAsked, IsTaken, FitsRounds, FitsCalled, IsNamed}
 use Rattle.jz_inline_laws.specs.InlineParts.{inline_in, NameSet, Within, WithinAnd, SetsInline, sets_inline, assigns, instructs, CountsInline, PassAll, GiveAll}
 use Rattle.jz_inline_laws.specs.InlineBodies.{IsInlineBody, inline_done, inline_op, inline_choose, inline_loop, inline_each, inline_call, HasInlineParam, IsInlineFun}
 use Rattle.jz_walked_laws.proofs.Ones.{OnlyOnes, ones_both, no_limits, nothing_both, Takes, Asks, arms_met}

@@ -1,6 +1,6 @@
 -- Functions of typed texts that are within the limits have what unrolling asks for.
-use Rattle.std.proofs.Common.{◌≡◌, ℕ, List, [], ◌∷◌, Bool, true, false, sym, ap, ◌∙◌, inl, inr}
-use Rattle.std.specs.Prelude.{◌⊎◌, All, Contains, nat_eq, slice_index_or}
+use Rattle.std.proofs.Common.{ℕ, List, [], ◌∷◌, false, sym, ap, ◌∙◌, inl, inr}
+use Rattle.std.specs.Prelude.{All, Contains, nat_eq, slice_index_or}
 use Rattle.std.proofs.lemmas.Bool.{false≢true}
 use Rattle.std.proofs.lemmas.List.Elements.{All-head, All-tail, All-contains}
 use Rattle.jz_tree.specs.declared.program.Fun.{Fun}
@@ -11,7 +11,6 @@ use Rattle.jz_bodies.proofs.Whole as whole
 use Rattle.jz_bodies.proofs.Whole.{all_known}
 use Rattle.jz_typed_runs.specs.TypedTexts.{IsTypedText}
 use Rattle.jz_limits.specs.Values.{no_numbers}
-use Rattle.jz_limits.specs.Limits.{IsWithin}
 use Rattle.jz_limits.specs.Walks.{walk}
 use Rattle.jz_unroll.specs.Values.{InlineNames}
 use Rattle.jz_inline_laws.specs.InlineParts.{inline_in, IsPlainVar}
