@@ -45,11 +45,11 @@ use Rattle.jz_walked_laws.proofs.Ones.{nothing_both}
 
 -- ---- values
 
-no_limit : (b : Bool) (l : Limit) → unless b l ≡ [] → b ≡ true
+pub no_limit : (b : Bool) (l : Limit) → unless b l ≡ [] → b ≡ true
 no_limit true l e = refl
 no_limit false l e = absurd cc
 
-some_of : (o : Option Constant) → is_some o ≡ true → (c : Constant) × (o ≡ Some c)
+pub some_of : (o : Option Constant) → is_some o ≡ true → (c : Constant) × (o ≡ Some c)
 some_of None e = absurd (false≢true e)
 some_of (Some c) e = (c, refl)
 

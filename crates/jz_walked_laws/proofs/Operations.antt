@@ -11,18 +11,16 @@ use Rattle.jz_tree.specs.declared.stmt.Lval.{Lval}
 use Rattle.jz_tree.specs.declared.stmt.Lval.TheVariants as lval
 use Rattle.jz_tree.specs.declared.program.Fun.{Fun}
 use Rattle.jz_integers.specs.Integers.{KnownNumbers, inline_value, the_number}
-use Rattle.jz_integers.specs.declared.constant.Constant.{Constant}
 use Rattle.jz_integers.specs.declared.constant.Constant.TheVariants as constant
 use Rattle.jz_type_names.specs.Kinds.{is_inline}
 use Rattle.jz_judgement.proofs.Nothing.{same_some}
 use Rattle.jz_meaning.specs.Assignments.{last_left, whole_of}
 use Rattle.jz_meaning.specs.Statements.{Operation, assign}
 use Rattle.jz_meaning.specs.Values.{ref_of}
-use Rattle.jz_limits.specs.declared.limit.Limit.{Limit}
 use Rattle.jz_limits.specs.declared.limit.Limit.TheVariants.{InlineWidth}
 use Rattle.jz_limits.specs.declared.operands.Role.TheVariants as role
 use Rattle.jz_limits.specs.Values.{inline_target, with_number, truth_of, holds_in, chosen, set_to, first_left, known_after}
-use Rattle.jz_limits.specs.Asked.{told, unless, no_value, asked_if, value_of, set_parts, assigned_parts, in_kinds, asked}
+use Rattle.jz_limits.specs.Asked.{told, no_value, asked_if, value_of, set_parts, assigned_parts, in_kinds, asked}
 use Rattle.jz_unroll.specs.Unrolling.{ConditionIs}
 use Rattle.jz_unrolling_values.specs.Parts.{IsInlineIf}
 use Rattle.jz_unrolling_laws.specs.CalledBodies.{inlines_of, FitsOp, stays_so, sets_one}
@@ -30,21 +28,13 @@ use Rattle.jz_unrolling_laws.proofs.AskedValues.{no_cells}
 use Rattle.jz_inline_laws.specs.InlineParts.{inline_in, NameSet, WithinAnd, IsInlineNumber, IsInlineTest, IsInlineVar, HasOld, SetsInline, sets_inline, assigns, instructs}
 use Rattle.jz_inline_laws.proofs.ClearVars.{ints_same}
 use Rattle.jz_walked_laws.proofs.Ones.{nothing_both}
-use Rattle.jz_walked_laws.proofs.AskedParts.{number_known, truth_known, no_target, assign_known, instruction_known}
+use Rattle.jz_walked_laws.proofs.AskedParts.{no_limit, some_of, number_known, truth_known, no_target, assign_known, instruction_known}
 use Rattle.jz_walked_laws.proofs.Knowing.{Knows, Keeps, keeps_same, keeps_number, knows_within, knows_number}
 
 -- ---- the inline variable that is set
 
 pub target_is : (f : Fun) (v : Var) → IsInlineVar (inline_in f) v → inline_target (lval.Var v ∷ []) ≡ Some v
 target_is f v h = ap (λ b. if b then Some v else None) (sym (ints_same (ref_of v).kind) ∙ h.number.int)
-
-no_limit : (b : Bool) (l : Limit) → unless b l ≡ [] → b ≡ true
-no_limit true l e = refl
-no_limit false l e = absurd cc
-
-some_of : (o : Option Constant) → is_some o ≡ true → (c : Constant) × (o ≡ Some c)
-some_of None e = absurd (false≢true e)
-some_of (Some c) e = (c, refl)
 
 module _ (f : Fun) (e : KnownNumbers) where
   -- what is asked of it
