@@ -9,12 +9,12 @@ use Rattle.jz_change.specs.Views.{change_of}
 use Rattle.jz_correct.specs.Registers.{argument_registers, result_registers}
 use Rattle.jz_place.specs.declared.tree.Passed.{Passed}
 use Rattle.jz_place.specs.Bodies.{body_of}
-use Rattle.jz_place.specs.Sorts.{AreSorted}
+use Rattle.jz_codable.specs.Ready.{IsShort}
 use Rattle.jz_homes.specs.Homes.{IsHoming}
 use Rattle.jz_row_operations.specs.Bodies.{IsLowered}
 use Rattle.jz_row_operations.proofs.Bodies.{bodies_carry, bodies_have_cases}
 use Rattle.jz_lowered.specs.Functions.{ArePassed, AreKinds}
-use Rattle.jz_lowered.proofs.Sorted.{bodies_sorted}
+use Rattle.jz_lowered.proofs.Coded.{functions_ready}
 use Rattle.jz_operands.specs.TableHomes.{homes_by, homes_of}
 use Rattle.jz_homing.specs.declared.homing.Homing.{Homing}
 use Rattle.jz_homing.specs.Tables.{Table, table_in, no_homes, frame_of}
@@ -24,7 +24,8 @@ use Rattle.jz_lowering.specs.declared.functions.LoweredFun.{LoweredFun}
 use Rattle.jz_lowering.specs.declared.parts.Lowered.{Lowered}
 use Rattle.jz_lowering.specs.Becoming.{no_callees, Becomes}
 use Rattle.jz_lowering.proofs.BecomingLemmas.{alone}
-use Rattle.jz_lowering.specs.Functions.{plain_body, table_of, homes_for, all_places, IsFunctionLowered, KeepsRuns, KeepsCases, IsSortedFun}
+use Rattle.jz_lowering.proofs.FormLemmas.{plain_formed}
+use Rattle.jz_lowering.specs.Functions.{plain_body, table_of, homes_for, all_places, IsFunctionLowered, KeepsRuns, KeepsCases, IsReadyFun}
 
 homing_for : (f : Fun) → IsHoming (frame_of (table_of f).stack) (homes_for f)
 homing_for f = table_is_homing (table_of f) (all_entered no_homes (variables_of f) none_entered)
@@ -39,10 +40,8 @@ keeps_runs f l k h =
 pub keeps_cases : (f : Fun) (l : LoweredFun) (k : Change) → IsFunctionLowered f l k → KeepsCases f l k
 keeps_cases f l k h = bodies_have_cases (homes_for f) (plain_body f) (body_of l.ir.body) k h.lowered.body
 
-pub is_sorted : (f : Fun) (l : LoweredFun) (k : Change) → IsFunctionLowered f l k → IsSortedFun l
-is_sorted f l k h =
-    let b = h.lowered.body in
-    subst (AreSorted l.ir.kinds) (sym b.body) (bodies_sorted (homes_for f) l.ir.kinds (subst (AreKinds (homes_for f)) (sym h.kinds) (kinds_for f)) b.made tt)
+pub is_ready : (f : Fun) (l : LoweredFun) (k : Change) → IsFunctionLowered f l k → IsShort l.ir → IsReadyFun l
+is_ready f l k h short = functions_ready (homes_for f) f (plain_body f) l.ir k h.lowered (plain_formed f) short
 
 pub function_is : (f : Fun) (h : Homing) (entry results : List Passed) (made : Lowered) (in_use : List Place) → table_in h ≡ table_of f → ArePassed (homes_of h.homes) argument_registers (map (λ p. p.var) f.params) entry
     → ArePassed (homes_of h.homes) result_registers f.result results → Becomes (homes_of h.homes) (block no_callees f.body) made.nodes made.steps → in_use ≡ all_places

@@ -1,5 +1,6 @@
 pub mod BecomingLemmas
 pub mod PartLemmas
 pub mod Forms
+pub mod FormLemmas
 pub mod PassingLemmas
 pub mod FunctionLemmas

@@ -17,7 +17,7 @@ use Rattle.jz_pass.specs.Laws.{Carries}
 use Rattle.jz_pass.specs.Cases.{IsBetween, cases_of}
 use Rattle.jz_placing.specs.Variables.{variables}
 use Rattle.jz_place.specs.Bodies.{body_of}
-use Rattle.jz_place.specs.Sorts.{AreSorted}
+use Rattle.jz_codable.specs.Ready.{IsReady}
 use Rattle.jz_homes.specs.Homes.{Homes}
 use Rattle.jz_row_operations.specs.Bodies.{beside}
 use Rattle.jz_lowered.specs.Functions.{IsLoweredFun}
@@ -63,5 +63,6 @@ KeepsRuns f l k =
 abbrev pub KeepsCases : Fun → LoweredFun → Change → Type 0
 KeepsCases f l k = IsBetween (cases_of (plain_body f)) (cases_of (body_of l.ir.body)) k
 
-abbrev pub IsSortedFun : LoweredFun → Type 0
-IsSortedFun l = AreSorted l.ir.kinds (body_of l.ir.body)
+-- it is what machine code asks
+abbrev pub IsReadyFun : LoweredFun → Type 0
+IsReadyFun l = IsReady l.ir

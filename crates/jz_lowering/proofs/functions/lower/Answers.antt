@@ -1,5 +1,5 @@
 use Rattle.jz_change.specs.Views.{change_of}
-use Rattle.jz_lowering.proofs.FunctionLemmas.{keeps_runs, keeps_cases, is_sorted}
+use Rattle.jz_lowering.proofs.FunctionLemmas.{keeps_runs, keeps_cases, is_ready}
 use Rattle.jz_lowering.proofs.functions.lower.Goals as goal
 
 pub returns-clause-law : goal.returns-clause-law
@@ -8,5 +8,6 @@ returns-clause-law c = keeps_runs c.args.fun.now c.in_ok-lowered.lowered (change
 pub returns-clause-cases : goal.returns-clause-cases
 returns-clause-cases c = keeps_cases c.args.fun.now c.in_ok-lowered.lowered (change_of c.in_ok-lowered.lowered.change) c.in_ok-lowered.ensures
 
-pub returns-clause-sorted : goal.returns-clause-sorted
-returns-clause-sorted c = is_sorted c.args.fun.now c.in_ok-lowered.lowered (change_of c.in_ok-lowered.lowered.change) c.in_ok-lowered.ensures
+pub returns-clause-ready : goal.returns-clause-ready
+returns-clause-ready c =
+    is_ready c.args.fun.now c.in_ok-lowered.lowered (change_of c.in_ok-lowered.lowered.change) c.in_ok-lowered.ensures (c.is_short.ensures.fits c.if-not-is_short.false)

@@ -1,0 +1,14 @@
+pub mod Held
+pub mod Counts
+pub mod SumForms
+pub mod Making
+pub mod Typed
+pub mod Plain
+pub mod Totals
+pub mod Sums
+pub mod Regions
+pub mod Firm
+pub mod Going
+pub mod Apart
+pub mod Marks
+pub mod Assigning
