@@ -7,7 +7,7 @@ ghost use Rattle.jz_inlining.specs.Inlined.{IsExport};
 use crate::changes::steps;
 use crate::outcomes::{Given, NOTHING, runs};
 use crate::printing::{columns, statements, variables};
-use crate::showing::{at, refusal};
+use crate::showing::{at, limit};
 use jz_expansion::expand;
 use jz_inlining::{Inlined, inline, is_export};
 use jz_lex::lex;
@@ -182,7 +182,8 @@ fn expanded(
     last: usize,
     out: &mut String,
 ) -> Result<(), AllocError>
-    requires { IsExport typed.now.program last }
+    requires export { IsExport typed.now.program last }
+    requires text { IsText typed.now.program }
 {
     match expand(alloc, typed, last) {
         Ok(made) => match row.asked {
@@ -193,7 +194,7 @@ fn expanded(
                 runs(alloc, row.given, typed, made.fun(), out)
             }
         },
-        Err(Failure::Refused(found)) => refusal(found, out),
+        Err(Failure::Refused(found)) => limit(found, out),
         Err(Failure::OutOfMemory) => Err(AllocError),
     }
 }
