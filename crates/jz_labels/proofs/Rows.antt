@@ -8,12 +8,11 @@ use Rattle.jz_tree.specs.declared.expr.BinOp.TheVariants as o
 use Rattle.jz_tree.specs.declared.program.Note.{Note}
 use Rattle.jz_tree.specs.declared.program.NoteValue.{NoteValue}
 use Rattle.jz_tree.specs.declared.program.NoteValue.TheVariants as value
-use Rattle.jz_meaning.specs.declared.access.Kind.{Kind}
 use Rattle.jz_meaning.specs.declared.access.Kind.TheVariants as kind
 use Rattle.jz_meaning.specs.States.{Key}
 use Rattle.jz_meaning.specs.Values.{Ref, key_of}
 use Rattle.jz_flow.specs.Sets.{common}
-use Rattle.jz_terms.specs.Terms.{Spot, Term, num, truth, var, cell, load, neg, inv, cast, bin}
+use Rattle.jz_terms.specs.Terms.{Term, num, truth, var, cell, load, neg, inv, cast, bin}
 use Rattle.jz_labels.specs.Operations.{Left, nothing, scalar, element, bytes, Plain}
 use Rattle.jz_labels.specs.Labels.{Publics, Secret, named, memory, secret_in, relabels, leaving}
 use Rattle.jz_labels.specs.Required.{Reason, Branch, Address, Divide, Breach, breach_in_operation, breach_in_test, secret_written}

@@ -1,13 +1,13 @@
 -- What has to be public, in the order of evaluation: conditions of `if` and `while`, indices and
 -- addresses, operands of divisions.
-use Rattle.std.specs.Prelude.{Bool, true, false, List, [], ◌∷◌, Option, Some, None, if◌then◌else◌}
+use Rattle.std.specs.Prelude.{Bool, List, [], ◌∷◌, Option, Some, None, if◌then◌else◌}
 use Rattle.jz_tree.specs.Span.{Span}
 use Rattle.jz_tree.specs.declared.expr.BinOp.{BinOp}
 use Rattle.jz_tree.specs.Operators.{divides}
 use Rattle.jz_meaning.specs.States.{Key}
-use Rattle.jz_meaning.specs.Values.{Ref, key_of}
+use Rattle.jz_meaning.specs.Values.{key_of}
 use Rattle.jz_flow.specs.Alarms.{Asks}
-use Rattle.jz_terms.specs.Terms.{Spot, Term, num, truth, var, cell, load, neg, inv, cast, bin}
+use Rattle.jz_terms.specs.Terms.{Term, num, truth, var, cell, load, neg, inv, cast, bin}
 use Rattle.jz_labels.specs.Operations.{Left, nothing, scalar, element, bytes, Plain}
 use Rattle.jz_labels.specs.Labels.{Publics, Secret, first, secret_in, secret_in_each, gives_public, labelled}
 
@@ -126,6 +126,7 @@ module _ {O T : Type 0} (plain : O → Plain) (term : T → Term) (arrays : Publ
 
   abbrev pub label_asks : Asks O T Key Unit
   label_asks = record {
-    op = λ o s. broken (breach_in_operation arrays (plain o) s) (secret_written arrays (plain o) s);
+    op = λ o s.
+        broken (breach_in_operation arrays (plain o) s) (secret_written arrays (plain o) s);
     test = λ c s. broken (breach_in_test arrays (term c) s) None;
   }
