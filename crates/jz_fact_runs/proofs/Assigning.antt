@@ -49,11 +49,11 @@ use Rattle.jz_fact_runs.proofs.Plain.{plain_word, scalar_size}
 use Rattle.jz_fact_runs.proofs.Sums.{Runs, runs_then, both_met}
 use Rattle.jz_fact_runs.proofs.Firm.{word_runs, answer_runs}
 
-if_went : {A : Type 0} (P : A → Type 0) (e : Evaluation A) → IfWent P e → Yields P e
+pub if_went : {A : Type 0} (P : A → Type 0) (e : Evaluation A) → IfWent P e → Yields P e
 if_went P (stuck k) h = tt
 if_went P (went ns x) h = h
 
-three : {A : Type 0} (P Q R S : A → Type 0) (e : Evaluation A) → ((x : A) → P x → Q x → R x → S x) → Yields P e → Yields Q e → Yields R e → Yields S e
+pub three : {A : Type 0} (P Q R S : A → Type 0) (e : Evaluation A) → ((x : A) → P x → Q x → R x → S x) → Yields P e → Yields Q e → Yields R e → Yields S e
 three P Q R S (stuck k) f p q r = tt
 three P Q R S (went ns x) f p q r = f x p q r
 

@@ -79,14 +79,14 @@ there_firm : {A : Type 0} (at : Span) (p : Option A) → IsSome p → Firm (defi
 there_firm at None h = absurd (cc h)
 there_firm at (Some x) h = tt
 
-some_size : (z : Size) → 0 < bytes_of z
+pub some_size : (z : Size) → 0 < bytes_of z
 some_size S8 = omega arith
 some_size S16 = omega arith
 some_size S32 = omega arith
 some_size S64 = omega arith
 
 -- a value of an index or an address as a word
-word_of_value : (at : Span) (i : ℤ) (k : Bool) (v : Value) → StandsFor i k v → Runs (λ a. a ≡ residue S64 i) (word_at at S64 v)
+pub word_of_value : (at : Span) (i : ℤ) (k : Bool) (v : Value) → StandsFor i k v → Runs (λ a. a ≡ residue S64 i) (word_at at S64 v)
 word_of_value at i k (word z a) h = subst (λ y. Runs (λ a. a ≡ residue S64 i) (word_at at S64 (word y a))) (sym h.0) h.1
 word_of_value at i k (integer j) h = ap (residue S64) h.1
 word_of_value at i k (boolean c) h = absurd h

@@ -48,7 +48,7 @@ apart_keys a b e h = true≢false (sym (same_key-refl a) ∙ ap (same_key a) (sy
 
 module _ (in_frame : Key → Bool) where
   -- a scalar, of a fact on another one or on a cell
-  scalar_elsewhere : (k : Key) (f : Fact) → in_frame (whole k) ≡ false → in_frame (whole (subject f)) ≡ is_of_cell f → same_key (subject f) k ≡ false → k ≡ seat f → ⊥
+  pub scalar_elsewhere : (k : Key) (f : Fact) → in_frame (whole k) ≡ false → in_frame (whole (subject f)) ≡ is_of_cell f → same_key (subject f) k ≡ false → k ≡ seat f → ⊥
   scalar_elsewhere k (Cell a j) i p e h = true≢false (sym p ∙ ap (λ q. in_frame (whole q)) (sym h) ∙ i)
   scalar_elsewhere k (Set v) i p e h = apart_keys v k e h
   scalar_elsewhere k (AtLeast v c) i p e h = apart_keys v k e h
