@@ -35,12 +35,14 @@ fn block_cases(alloc: Global, frame: &FrameShape<'_>, nodes: &Seq<Node>) -> Resu
     ensures { IfOk result (λ made. made
         ≡ record { cases = cases_over (slots_of frame.now) frame.now.size (body_of nodes.now) }) }
 {
-    let mut cases = Seq::new(alloc);
+    let mut cases = Vec::with_capacity(alloc, nodes.len())?;
     for i in 0..nodes.len() {
         let case = node_case(alloc, frame, &nodes.as_slice()[i])?;
         cases.push(case)?;
     }
-    Ok(Tr { cases })
+    Ok(Tr {
+        cases: Seq::from_vec(cases),
+    })
 }
 
 #[cycle(cases)]

@@ -18,4 +18,4 @@ pub block_cases-loop-i-preserved : goal.block_cases-loop-i-preserved
 block_cases-loop-i-preserved t c =
     let e = c.index-as_slice-i.is ∙ ap (λ x. get_or x c.loop-i.i c.index-as_slice-i.result) c.as_slice.ensures in
     let lt : c.loop-i.i < length c.args.nodes.now = omega (arith, ap length c.as_slice.ensures) in
-    one_more (slots_of c.args.frame.now) c.args.frame.now.size c.args.nodes.now c.loop-i.i c.index-as_slice-i.result c.in_ok-case.case c.loop-i.cases _ lt e c.loop-i.invariant c.in_ok-case.ensures c.in_ok-push.ensures.ok
+    one_more (slots_of c.args.frame.now) c.args.frame.now.size c.args.nodes.now c.loop-i.i c.index-as_slice-i.result c.in_ok-case.case c.loop-i.cases.items _ lt e c.loop-i.invariant c.in_ok-case.ensures c.in_ok-push.ensures.items

@@ -6,7 +6,7 @@ use Rattle.jz_events.specs.Cases.{cases_over, slots_of}
 use Rattle.jz_events.proofs.body.+cases.Given as goal
 
 abbrev pub invariant-block_cases-loop-i : goal.invariant-block_cases-loop-i
-invariant-block_cases-loop-i l = l.cases ≡ cases_over (slots_of l.frame) l.frame.size (body_of (take l.i l.nodes))
+invariant-block_cases-loop-i l = l.cases.items ≡ cases_over (slots_of l.frame) l.frame.size (body_of (take l.i l.nodes))
 
 abbrev pub decreases-block_cases : goal.decreases-block_cases
 decreases-block_cases l = 4 * size (body_of l.nodes.now) + 1

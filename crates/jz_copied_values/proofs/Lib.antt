@@ -1,0 +1,10 @@
+pub mod StillWalks
+pub mod CopiedWholes
+pub mod CopiedOperations
+pub mod CopiedNumbers
+pub mod CalledNames
+pub mod CalledNumbers
+pub mod CopiedForgetting
+pub mod CopiedCalls
+pub mod CopiedTrees
+pub mod CopiedWhole

@@ -1,0 +1,2 @@
+pub mod CopiedNames
+pub mod CopiedLaws
