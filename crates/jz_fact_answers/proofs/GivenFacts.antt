@@ -10,8 +10,10 @@ use Rattle.jz_fact_laws.proofs.Setting.{same_key-true, same_key-refl}
 use Rattle.jz_fact_readings.specs.Multiples.{times_of}
 use Rattle.jz_fact_readings.specs.declared.times.Times.{Times}
 use Rattle.jz_fact_readings.specs.declared.times.Times.TheVariants.{Two, Four, Eight}
-use Rattle.jz_fact_sets.specs.declared.set.FactSet.{FactSet}
-use Rattle.jz_fact_sets.specs.Kept.{is_at_least, is_at_most, is_times, known_at, facts_of}
+use Rattle.jz_layers.specs.declared.layers.Layers.{Layers}
+use Rattle.jz_fact_sets.specs.declared.given.Given.{Given}
+use Rattle.jz_fact_sets.specs.declared.knowledge.Knowledge.{Knowledge}
+use Rattle.jz_fact_sets.specs.Kept.{is_at_least, is_at_most, is_times, known_at, spot, facts_of}
 use Rattle.jz_fact_answers.specs.Giving.{Gives, HasEnds, least_gives, most_gives, times_gives, is_given}
 
 both : (a b : Bool) → a ≡ true → b ≡ true → (a && b) ≡ true
@@ -178,80 +180,80 @@ times_back (Some t) m n a e =
 
 -- ---- the set
 
-module _ (s : FactSet) (ends : HasEnds s.constants) where
-  pub given_to : (f : Fact) → is_given s f ≡ true → Gives (facts_of s) f
+module _ (g : Given) (s : Layers Knowledge) (ends : HasEnds g.constants) where
+  pub given_to : (f : Fact) → is_given g s f ≡ true → Gives (facts_of g s) f
   given_to (Set v) e = (Set v, (e, same_key-refl v))
   given_to (Cell a k) e = (Cell a k, (e, both (same_key a a) (k == k) (same_key-refl a) (same_number k)))
-  given_to (AtLeast v c) e = let t = least_to s.constants ends (known_at s v).least c e in (AtLeast v t.0, (t.1.0, both (same_key v v) (nat_le c t.0) (same_key-refl v) t.1.1))
-  given_to (AtMost v c) e = let t = most_to s.constants ends (known_at s v).most c e in (AtMost v t.0, (t.1.0, both (same_key v v) (nat_le t.0 c) (same_key-refl v) t.1.1))
+  given_to (AtLeast v c) e = let t = least_to g.constants ends (known_at s (spot (AtLeast v c))).least c e in (AtLeast v t.0, (t.1.0, both (same_key v v) (nat_le c t.0) (same_key-refl v) t.1.1))
+  given_to (AtMost v c) e = let t = most_to g.constants ends (known_at s (spot (AtMost v c))).most c e in (AtMost v t.0, (t.1.0, both (same_key v v) (nat_le t.0 c) (same_key-refl v) t.1.1))
   given_to (Under v x) e = (Under v x, (e, both (same_key v v) (same_key x x) (same_key-refl v) (same_key-refl x)))
   given_to (Is v x) e = (Is v x, (e, both (same_key v v) (same_key x x) (same_key-refl v) (same_key-refl x)))
-  given_to (Multiple v m) e = let t = times_to (known_at s v).times m e in (Multiple v t.0, (t.1.0, both (same_key v v) (t.0 % m == 0) (same_key-refl v) t.1.1))
+  given_to (Multiple v m) e = let t = times_to (known_at s (spot (Multiple v m))).times m e in (Multiple v t.0, (t.1.0, both (same_key v v) (t.0 % m == 0) (same_key-refl v) t.1.1))
 
-  from_fact : (f h : Fact) → facts_of s h ≡ true → entails h f ≡ true → is_given s f ≡ true
-  from_fact (Set v) (Set w) a e = ap (λ k. (known_at s k).set) (sym (same_key-true w v e)) ∙ a
+  from_fact : (f h : Fact) → facts_of g s h ≡ true → entails h f ≡ true → is_given g s f ≡ true
+  from_fact (Set v) (Set w) a e = ap (λ k. is_given g s (Set k)) (sym (same_key-true w v e)) ∙ a
   from_fact (Cell b k) (Cell d j) a e =
       let p = and_parts (same_key d b) (j == k) e in
       let q = same_key-true d b p.0 in
       let r : j ≡ k = number_same j k p.1 in
-      ap (λ z. is_given s (Cell z k)) (sym q) ∙ ap (λ i. is_given s (Cell d i)) (sym r) ∙ a
+      ap (λ z. is_given g s (Cell z k)) (sym q) ∙ ap (λ i. is_given g s (Cell d i)) (sym r) ∙ a
   from_fact (AtLeast v c) (AtLeast w d) a e =
       let p = and_parts (same_key w v) (nat_le c d) e in
-      ap (λ z. is_given s (AtLeast z c)) (sym (same_key-true w v p.0)) ∙ least_back s.constants ends (known_at s w).least c d a p.1
+      ap (λ z. is_given g s (AtLeast z c)) (sym (same_key-true w v p.0)) ∙ least_back g.constants ends (known_at s (spot (AtLeast w d))).least c d a p.1
   from_fact (AtMost v c) (AtMost w d) a e =
       let p = and_parts (same_key w v) (nat_le d c) e in
-      ap (λ z. is_given s (AtMost z c)) (sym (same_key-true w v p.0)) ∙ most_back s.constants ends (known_at s w).most c d a p.1
+      ap (λ z. is_given g s (AtMost z c)) (sym (same_key-true w v p.0)) ∙ most_back g.constants ends (known_at s (spot (AtMost w d))).most c d a p.1
   from_fact (Under v x) (Under w y) a e =
       let p = and_parts (same_key w v) (same_key y x) e in
-      ap (λ z. is_given s (Under z x)) (sym (same_key-true w v p.0)) ∙ ap (λ z. is_given s (Under w z)) (sym (same_key-true y x p.1)) ∙ a
+      ap (λ z. is_given g s (Under z x)) (sym (same_key-true w v p.0)) ∙ ap (λ z. is_given g s (Under w z)) (sym (same_key-true y x p.1)) ∙ a
   from_fact (Is v x) (Is w y) a e =
       let p = and_parts (same_key w v) (same_key y x) e in
-      ap (λ z. is_given s (Is z x)) (sym (same_key-true w v p.0)) ∙ ap (λ z. is_given s (Is w z)) (sym (same_key-true y x p.1)) ∙ a
+      ap (λ z. is_given g s (Is z x)) (sym (same_key-true w v p.0)) ∙ ap (λ z. is_given g s (Is w z)) (sym (same_key-true y x p.1)) ∙ a
   from_fact (Multiple v m) (Multiple w n) a e =
       let p = and_parts (same_key w v) (n % m == 0) e in
-      ap (λ z. is_given s (Multiple z m)) (sym (same_key-true w v p.0)) ∙ times_back (known_at s w).times m n a p.1
-  from_fact (Set v) (Cell b j) g e = absurd (cc e)
-  from_fact (Set v) (AtLeast w d) g e = absurd (cc e)
-  from_fact (Set v) (AtMost w d) g e = absurd (cc e)
-  from_fact (Set v) (Under w y) g e = absurd (cc e)
-  from_fact (Set v) (Is w y) g e = absurd (cc e)
-  from_fact (Set v) (Multiple w n) g e = absurd (cc e)
-  from_fact (Cell a k) (Set w) g e = absurd (cc e)
-  from_fact (Cell a k) (AtLeast w d) g e = absurd (cc e)
-  from_fact (Cell a k) (AtMost w d) g e = absurd (cc e)
-  from_fact (Cell a k) (Under w y) g e = absurd (cc e)
-  from_fact (Cell a k) (Is w y) g e = absurd (cc e)
-  from_fact (Cell a k) (Multiple w n) g e = absurd (cc e)
-  from_fact (AtLeast v c) (Set w) g e = absurd (cc e)
-  from_fact (AtLeast v c) (Cell b j) g e = absurd (cc e)
-  from_fact (AtLeast v c) (AtMost w d) g e = absurd (cc e)
-  from_fact (AtLeast v c) (Under w y) g e = absurd (cc e)
-  from_fact (AtLeast v c) (Is w y) g e = absurd (cc e)
-  from_fact (AtLeast v c) (Multiple w n) g e = absurd (cc e)
-  from_fact (AtMost v c) (Set w) g e = absurd (cc e)
-  from_fact (AtMost v c) (Cell b j) g e = absurd (cc e)
-  from_fact (AtMost v c) (AtLeast w d) g e = absurd (cc e)
-  from_fact (AtMost v c) (Under w y) g e = absurd (cc e)
-  from_fact (AtMost v c) (Is w y) g e = absurd (cc e)
-  from_fact (AtMost v c) (Multiple w n) g e = absurd (cc e)
-  from_fact (Under v x) (Set w) g e = absurd (cc e)
-  from_fact (Under v x) (Cell b j) g e = absurd (cc e)
-  from_fact (Under v x) (AtLeast w d) g e = absurd (cc e)
-  from_fact (Under v x) (AtMost w d) g e = absurd (cc e)
-  from_fact (Under v x) (Is w y) g e = absurd (cc e)
-  from_fact (Under v x) (Multiple w n) g e = absurd (cc e)
-  from_fact (Is v x) (Set w) g e = absurd (cc e)
-  from_fact (Is v x) (Cell b j) g e = absurd (cc e)
-  from_fact (Is v x) (AtLeast w d) g e = absurd (cc e)
-  from_fact (Is v x) (AtMost w d) g e = absurd (cc e)
-  from_fact (Is v x) (Under w y) g e = absurd (cc e)
-  from_fact (Is v x) (Multiple w n) g e = absurd (cc e)
-  from_fact (Multiple v m) (Set w) g e = absurd (cc e)
-  from_fact (Multiple v m) (Cell b j) g e = absurd (cc e)
-  from_fact (Multiple v m) (AtLeast w d) g e = absurd (cc e)
-  from_fact (Multiple v m) (AtMost w d) g e = absurd (cc e)
-  from_fact (Multiple v m) (Under w y) g e = absurd (cc e)
-  from_fact (Multiple v m) (Is w y) g e = absurd (cc e)
+      ap (λ z. is_given g s (Multiple z m)) (sym (same_key-true w v p.0)) ∙ times_back (known_at s (spot (Multiple w n))).times m n a p.1
+  from_fact (Set v) (Cell b j) z e = absurd (cc e)
+  from_fact (Set v) (AtLeast w d) z e = absurd (cc e)
+  from_fact (Set v) (AtMost w d) z e = absurd (cc e)
+  from_fact (Set v) (Under w y) z e = absurd (cc e)
+  from_fact (Set v) (Is w y) z e = absurd (cc e)
+  from_fact (Set v) (Multiple w n) z e = absurd (cc e)
+  from_fact (Cell a k) (Set w) z e = absurd (cc e)
+  from_fact (Cell a k) (AtLeast w d) z e = absurd (cc e)
+  from_fact (Cell a k) (AtMost w d) z e = absurd (cc e)
+  from_fact (Cell a k) (Under w y) z e = absurd (cc e)
+  from_fact (Cell a k) (Is w y) z e = absurd (cc e)
+  from_fact (Cell a k) (Multiple w n) z e = absurd (cc e)
+  from_fact (AtLeast v c) (Set w) z e = absurd (cc e)
+  from_fact (AtLeast v c) (Cell b j) z e = absurd (cc e)
+  from_fact (AtLeast v c) (AtMost w d) z e = absurd (cc e)
+  from_fact (AtLeast v c) (Under w y) z e = absurd (cc e)
+  from_fact (AtLeast v c) (Is w y) z e = absurd (cc e)
+  from_fact (AtLeast v c) (Multiple w n) z e = absurd (cc e)
+  from_fact (AtMost v c) (Set w) z e = absurd (cc e)
+  from_fact (AtMost v c) (Cell b j) z e = absurd (cc e)
+  from_fact (AtMost v c) (AtLeast w d) z e = absurd (cc e)
+  from_fact (AtMost v c) (Under w y) z e = absurd (cc e)
+  from_fact (AtMost v c) (Is w y) z e = absurd (cc e)
+  from_fact (AtMost v c) (Multiple w n) z e = absurd (cc e)
+  from_fact (Under v x) (Set w) z e = absurd (cc e)
+  from_fact (Under v x) (Cell b j) z e = absurd (cc e)
+  from_fact (Under v x) (AtLeast w d) z e = absurd (cc e)
+  from_fact (Under v x) (AtMost w d) z e = absurd (cc e)
+  from_fact (Under v x) (Is w y) z e = absurd (cc e)
+  from_fact (Under v x) (Multiple w n) z e = absurd (cc e)
+  from_fact (Is v x) (Set w) z e = absurd (cc e)
+  from_fact (Is v x) (Cell b j) z e = absurd (cc e)
+  from_fact (Is v x) (AtLeast w d) z e = absurd (cc e)
+  from_fact (Is v x) (AtMost w d) z e = absurd (cc e)
+  from_fact (Is v x) (Under w y) z e = absurd (cc e)
+  from_fact (Is v x) (Multiple w n) z e = absurd (cc e)
+  from_fact (Multiple v m) (Set w) z e = absurd (cc e)
+  from_fact (Multiple v m) (Cell b j) z e = absurd (cc e)
+  from_fact (Multiple v m) (AtLeast w d) z e = absurd (cc e)
+  from_fact (Multiple v m) (AtMost w d) z e = absurd (cc e)
+  from_fact (Multiple v m) (Under w y) z e = absurd (cc e)
+  from_fact (Multiple v m) (Is w y) z e = absurd (cc e)
 
-  pub given_from : (f : Fact) → Gives (facts_of s) f → is_given s f ≡ true
+  pub given_from : (f : Fact) → Gives (facts_of g s) f → is_given g s f ≡ true
   given_from f (h, (a, e)) = from_fact f h a e

@@ -1,10 +1,12 @@
 -- Whether a set gives a fact, as the property and by what is kept of its variable.
-use Rattle.std.specs.Prelude.{ℕ, ◌≡◌, ◌≤◌, ◌-◌, ◌^◌, ◌%◌, ◌==◌, nat_le, Bool, true, false, ◌&&◌, is_none, List, Option, Some, None}
+use Rattle.std.specs.Prelude.{ℕ, ◌≡◌, ◌≤◌, ◌-◌, ◌^◌, ◌%◌, ◌==◌, nat_le, Bool, true, false, ◌&&◌, List, Option, Some, None}
 use Rattle.jz_facts.specs.Facts.{Fact, Set, Cell, AtLeast, AtMost, Under, Is, Multiple, Facts, entails, is_among, greatest, least}
 use Rattle.jz_fact_readings.specs.Multiples.{times_of}
 use Rattle.jz_fact_readings.specs.declared.times.Times.{Times}
-use Rattle.jz_fact_sets.specs.declared.set.FactSet.{FactSet}
-use Rattle.jz_fact_sets.specs.Kept.{is_named, known_at}
+use Rattle.jz_layers.specs.declared.layers.Layers.{Layers}
+use Rattle.jz_fact_sets.specs.declared.given.Given.{Given}
+use Rattle.jz_fact_sets.specs.declared.knowledge.Knowledge.{Knowledge}
+use Rattle.jz_fact_sets.specs.Kept.{is_named, known_at, spot}
 
 -- a fact of the set says it
 abbrev pub Gives : Facts → Fact → Type 0
@@ -32,12 +34,15 @@ abbrev pub times_gives : Option Times → ℕ → Bool
 times_gives None m = false
 times_gives (Some t) m = times_of t % m == 0
 
-abbrev pub is_given : FactSet → Fact → Bool
-is_given s (Set v) = (known_at s v).set
-is_given s (Cell a k) =
-    is_none a.cell && (known_at s (record { name = a.name; copy = a.copy; cell = Some k })).cell
-is_given s (AtLeast v c) = least_gives s.constants (known_at s v).least c
-is_given s (AtMost v c) = most_gives s.constants (known_at s v).most c
-is_given s (Under v x) = is_named s.params (known_at s v).under x
-is_given s (Is v x) = is_named s.params (known_at s v).is x
-is_given s (Multiple v m) = times_gives (known_at s v).times m
+-- by what is known where the fact is kept
+abbrev pub says_it : Given → Knowledge → Fact → Bool
+says_it g k (Set v) = k.set
+says_it g k (Cell a j) = k.set
+says_it g k (AtLeast v c) = least_gives g.constants k.least c
+says_it g k (AtMost v c) = most_gives g.constants k.most c
+says_it g k (Under v x) = is_named g.params k.under x
+says_it g k (Is v x) = is_named g.params k.is x
+says_it g k (Multiple v m) = times_gives k.times m
+
+abbrev pub is_given : Given → Layers Knowledge → Fact → Bool
+is_given g s f = says_it g (known_at s (spot f)) f

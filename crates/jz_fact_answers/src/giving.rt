@@ -8,9 +8,10 @@ ghost use Rattle.jz_fact_answers.specs.Giving as giving;
 ghost use Rattle.jz_fact_answers.specs.Giving.{Gives, HasEnds};
 
 use jz_fact_readings::Times;
-use jz_fact_sets::{FactSet, is_named};
+use jz_fact_sets::{FactSet, Given, is_named, known, known_at};
 use jz_facts::Fact;
 use jz_intervals::Constants;
+use jz_layers::Named;
 
 fn least_gives(constants: &Constants, least: Option<u64>, c: u64) -> bool
     ensures { result ≡ giving.least_gives constants.now least c }
@@ -56,23 +57,25 @@ fn times_gives(times: Option<Times>, m: u8) -> bool
 }
 
 /// Whether a fact of the set says this one.
-pub fn gives(set: &FactSet, fact: &Fact) -> bool
-    requires { HasEnds set.now.constants }
-    ensures { IsTrue result ↔ Gives (facts_of set.now) (fact_of fact.now) }
+pub fn gives(given: &Given, set: &FactSet<'_>, fact: &Fact) -> bool
+    requires { HasEnds given.now.constants }
+    ensures { IsTrue result ↔ Gives (facts_of given.now set.now) (fact_of fact.now) }
 {
-    is_given(set, fact)
+    is_given(given, set, fact)
 }
 
-fn is_given(set: &FactSet, fact: &Fact) -> bool
-    ensures { result ≡ giving.is_given set.now (fact_of fact.now) }
+fn is_given(given: &Given, set: &FactSet<'_>, fact: &Fact) -> bool
+    ensures { result ≡ giving.is_given given.now set.now (fact_of fact.now) }
 {
+    let constants = &given.constants;
+    let params = given.params.as_slice();
     match fact {
-        Fact::Set(v) => set.known(v).set,
-        Fact::Cell(a, k) => a.cell.is_none() && set.known_at(&a.name, a.copy, Some(*k)).cell,
-        Fact::AtLeast(v, c) => least_gives(set.constants(), set.known(v).least, *c),
-        Fact::AtMost(v, c) => most_gives(set.constants(), set.known(v).most, *c),
-        Fact::Under(v, x) => is_named(set.params(), set.known(v).under, x),
-        Fact::Is(v, x) => is_named(set.params(), set.known(v).is, x),
-        Fact::Multiple(v, m) => times_gives(set.known(v).times, *m),
+        Fact::Set(v) => known(set, v).set,
+        Fact::Cell(a, k) => known_at(set, Named::cell_of(a, *k as u64)).set,
+        Fact::AtLeast(v, c) => least_gives(constants, known(set, v).least, *c),
+        Fact::AtMost(v, c) => most_gives(constants, known(set, v).most, *c),
+        Fact::Under(v, x) => is_named(params, known(set, v).under, x),
+        Fact::Is(v, x) => is_named(params, known(set, v).is, x),
+        Fact::Multiple(v, m) => times_gives(known(set, v).times, *m),
     }
 }

@@ -12,8 +12,10 @@ use Rattle.jz_fact_readings.specs.declared.times.Times.{Times}
 use Rattle.jz_fact_readings.specs.declared.times.Times.TheVariants.{Two, Four, Eight}
 use Rattle.jz_fact_sets.specs.declared.given.Parameter.{Parameter}
 use Rattle.jz_fact_sets.specs.declared.knowledge.Knowledge.{Knowledge}
-use Rattle.jz_fact_sets.specs.declared.set.FactSet.{FactSet}
-use Rattle.jz_fact_sets.specs.Kept.{variable_key, start_of, given_of, is_at_least, is_at_most, is_times, is_named, least_by, most_by, below_all, known_at, facts_of}
+use Rattle.jz_layers.specs.declared.layers.Layers.{Layers}
+use Rattle.jz_layers.specs.Spots.{Spot, variable_key}
+use Rattle.jz_fact_sets.specs.declared.given.Given.{Given}
+use Rattle.jz_fact_sets.specs.Kept.{start_of, given_of, is_at_least, is_at_most, is_times, is_named, least_by, most_by, below_all, known_at, facts_of}
 
 same_number : (c : ℕ) → (c == c) ≡ true
 same_number c = grind (arith, rules)
@@ -57,26 +59,30 @@ most_is : (cs : List ℕ) (o : Option ℕ) (m : ℕ) → most_by cs o m ≡ leas
 most_is cs None m = sym (least_among (λ c. false) cs m cs (λ c e. e) ∙ no_least m cs)
 most_is cs (Some h) m = sym (least_among (λ c. nat_le h c) cs m cs (λ c e. e))
 
-module _ (s : FactSet) (v : Key) where
-  below_is : (m : ℕ) (ps : List Parameter) → below_all s.params (known_at s v).under m ps ≡ under_most (given_of s) (facts_of s) v m (map start_of ps)
+-- where what is known of a variable stands
+abbrev pub at : Key → Spot
+at v = record { of = v; index = None }
+
+module _ (g : Given) (s : Layers Knowledge) (v : Key) where
+  below_is : (m : ℕ) (ps : List Parameter) → below_all g.params (known_at s (at v)).under m ps ≡ under_most (given_of g) (facts_of g s) v m (map start_of ps)
   below_is m [] = refl
-  below_is m (p ∷ ps) = ap (λ r. if is_named s.params (known_at s v).under (variable_key p.var) then min (hi_of (start_of p) - 1) r else r) (below_is m ps)
+  below_is m (p ∷ ps) = ap (λ r. if is_named g.params (known_at s (at v)).under (variable_key p.var) then min (hi_of (start_of p) - 1) r else r) (below_is m ps)
 
   -- the interval of a variable
-  pub variable_is : (z : Size) (k : Knowledge) (lo hi : ℕ) → k ≡ known_at s v
-      → lo ≡ min (least_by s.constants k.least) (greatest_word z)
-      → hi ≡ below_all s.params k.under (most_by s.constants k.most (greatest_word z)) s.params
-      → ◌≡◌ {A = Interval} (record { lo = lo; hi = hi }) (of_variable (given_of s) (facts_of s) z v)
+  pub variable_is : (z : Size) (k : Knowledge) (lo hi : ℕ) → k ≡ known_at s (at v)
+      → lo ≡ min (least_by g.constants k.least) (greatest_word z)
+      → hi ≡ below_all g.params k.under (most_by g.constants k.most (greatest_word z)) g.params
+      → ◌≡◌ {A = Interval} (record { lo = lo; hi = hi }) (of_variable (given_of g) (facts_of g s) z v)
   variable_is z k lo hi e f h = λ i. record { lo = low i; hi = high i }
     where
-      low : lo ≡ (of_variable (given_of s) (facts_of s) z v).lo
-      low = f ∙ ap (λ n. min (least_by s.constants n.least) (greatest_word z)) e ∙ ap (λ n. min n (greatest_word z)) (least_is s.constants (known_at s v).least)
+      low : lo ≡ (of_variable (given_of g) (facts_of g s) z v).lo
+      low = f ∙ ap (λ n. min (least_by g.constants n.least) (greatest_word z)) e ∙ ap (λ n. min n (greatest_word z)) (least_is g.constants (known_at s (at v)).least)
 
-      high : hi ≡ (of_variable (given_of s) (facts_of s) z v).hi
+      high : hi ≡ (of_variable (given_of g) (facts_of g s) z v).hi
       high =
-          h ∙ ap (λ n. below_all s.params n.under (most_by s.constants n.most (greatest_word z)) s.params) e
-          ∙ ap (λ m. below_all s.params (known_at s v).under m s.params) (most_is s.constants (known_at s v).most (greatest_word z))
-          ∙ below_is (least (λ c. is_among c s.constants && is_at_most (known_at s v).most c) (greatest_word z) s.constants) s.params
+          h ∙ ap (λ n. below_all g.params n.under (most_by g.constants n.most (greatest_word z)) g.params) e
+          ∙ ap (λ m. below_all g.params (known_at s (at v)).under m g.params) (most_is g.constants (known_at s (at v)).most (greatest_word z))
+          ∙ below_is (least (λ c. is_among c g.constants && is_at_most (known_at s (at v)).most c) (greatest_word z) g.constants) g.params
 
 -- ---- multiples
 
@@ -84,9 +90,9 @@ abbrev many : Option Times → ℕ → List ℕ → Bool
 many o m [] = false
 many o m (k ∷ ks) = ((is_among k multiples && is_times o k) && (k % m == 0)) || many o m ks
 
-has_is : (s : FactSet) (v : Key) (m : ℕ) (ks : List ℕ) → has_multiple (given_of s) (facts_of s) v m ks ≡ many (known_at s v).times m ks
-has_is s v m [] = refl
-has_is s v m (k ∷ ks) = ap (λ b. ((is_among k multiples && is_times (known_at s v).times k) && (k % m == 0)) || b) (has_is s v m ks)
+has_is : (g : Given) (s : Layers Knowledge) (v : Key) (m : ℕ) (ks : List ℕ) → has_multiple (given_of g) (facts_of g s) v m ks ≡ many (known_at s (at v)).times m ks
+has_is g s v m [] = refl
+has_is g s v m (k ∷ ks) = ap (λ b. ((is_among k multiples && is_times (known_at s (at v)).times k) && (k % m == 0)) || b) (has_is g s v m ks)
 
 none_many : (t : Times) → false ≡ many None (times_of t) multiples
 none_many Two = refl
@@ -104,9 +110,9 @@ some_many Eight Two = refl
 some_many Eight Four = refl
 some_many Eight Eight = refl
 
-module _ (s : FactSet) (v : Key) (t : Times) (k : Knowledge) (e : k ≡ known_at s v) where
-  pub no_times : k.times ≡ None → false ≡ has_multiple (given_of s) (facts_of s) v (times_of t) multiples
-  no_times h = none_many t ∙ ap (λ o. many o (times_of t) multiples) (sym h ∙ ap (λ n. n.times) e) ∙ sym (has_is s v (times_of t) multiples)
+module _ (g : Given) (s : Layers Knowledge) (v : Key) (t : Times) (k : Knowledge) (e : k ≡ known_at s (at v)) where
+  pub no_times : k.times ≡ None → false ≡ has_multiple (given_of g) (facts_of g s) v (times_of t) multiples
+  no_times h = none_many t ∙ ap (λ o. many o (times_of t) multiples) (sym h ∙ ap (λ n. n.times) e) ∙ sym (has_is g s v (times_of t) multiples)
 
-  pub some_times : (u : Times) → k.times ≡ Some u → (times_of u % times_of t == 0) ≡ has_multiple (given_of s) (facts_of s) v (times_of t) multiples
-  some_times u h = some_many u t ∙ ap (λ o. many o (times_of t) multiples) (sym h ∙ ap (λ n. n.times) e) ∙ sym (has_is s v (times_of t) multiples)
+  pub some_times : (u : Times) → k.times ≡ Some u → (times_of u % times_of t == 0) ≡ has_multiple (given_of g) (facts_of g s) v (times_of t) multiples
+  some_times u h = some_many u t ∙ ap (λ o. many o (times_of t) multiples) (sym h ∙ ap (λ n. n.times) e) ∙ sym (has_is g s v (times_of t) multiples)

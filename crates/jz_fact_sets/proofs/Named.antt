@@ -6,7 +6,8 @@ use Rattle.std.proofs.lemmas.List.{at_drop_more}
 use Rattle.jz_meaning.specs.States.{Key, same_key}
 use Rattle.jz_facts.specs.Facts.{hi_of}
 use Rattle.jz_fact_sets.specs.declared.given.Parameter.{Parameter}
-use Rattle.jz_fact_sets.specs.Kept.{variable_key, start_of, is_named, one_below, below_all}
+use Rattle.jz_layers.specs.Spots.{variable_key}
+use Rattle.jz_fact_sets.specs.Kept.{start_of, is_named, one_below, below_all}
 
 module _ (ps : List Parameter) (i : ℕ) (p : Parameter) (l : i < length ps) (e : p ≡ get_or ps i p) where
   named_here : (bits : ℕ) (x : Key) → is_named (drop i ps) bits x ≡ (((bits % 2 == 1) && same_key (variable_key p.var) x) || is_named (drop (i + 1) ps) (bits / 2) x)

@@ -1,23 +1,19 @@
 -- What a set of facts of the code holds.
-use Rattle.std.specs.Prelude.{ℕ, ◌-◌, ◌/◌, ◌%◌, ◌==◌, nat_le, Bool, false, ◌&&◌, ◌||◌, is_none, List, [], ◌∷◌, map, Option, Some, None, option_map, min, if◌then◌else◌}
-use Rattle.std.specs.Str.{bytes_eq}
-use Rattle.indexmap.specs.IndexMap.{IndexMap, get}
-use Rattle.jz_tree.specs.declared.expr.Var.{Var}
-use Rattle.jz_meaning.specs.States.{Key, same_cell, same_key}
-use Rattle.jz_meaning.specs.Values.{key_of, ref_of}
+use Rattle.std.specs.Prelude.{ℕ, ◌≡◌, ◌-◌, ◌/◌, ◌%◌, ◌==◌, nat_le, Bool, false, ◌&&◌, ◌||◌, List, [], ◌∷◌, map, Option, Some, None, option_map, min, if◌then◌else◌}
+use Rattle.jz_meaning.specs.States.{Key, same_key}
+use Rattle.jz_layers.specs.Spots.{Spot, variable_key}
+use Rattle.jz_layers.specs.Layered.{seen}
 use Rattle.jz_facts.specs.Facts.{Fact, Set, Cell, AtLeast, AtMost, Under, Is, Multiple, Facts, subject, Start, Region, Given, hi_of, is_among, greatest, least, multiples}
 use Rattle.jz_fact_readings.specs.Multiples.{times_of}
 use Rattle.jz_fact_readings.specs.declared.times.Times.{Times}
+use Rattle.jz_layers.specs.declared.layers.Layers.{Layers}
 use Rattle.jz_fact_sets.specs.declared.given.Parameter as parameter
 use Rattle.jz_fact_sets.specs.declared.given.Region as region
+use Rattle.jz_fact_sets.specs.declared.given.Given as given
 use Rattle.jz_fact_sets.specs.declared.knowledge.Knowledge.{Knowledge}
-use Rattle.jz_fact_sets.specs.declared.set.Place.{Place}
-use Rattle.jz_fact_sets.specs.declared.set.FactSet.{FactSet}
+use Rattle.jz_fact_sets.specs.Knowing.{nothing}
 
 -- ---- what is given
-
-abbrev pub variable_key : Var → Key
-variable_key v = key_of (ref_of v)
 
 abbrev pub start_of : parameter.Parameter → Start
 start_of p =
@@ -31,25 +27,14 @@ region_of r = record {
   plus = r.plus;
 }
 
-abbrev pub given_of : FactSet → Given
-given_of s = record {
-  consts = s.constants;
-  params = map start_of s.params;
-  regions = map region_of s.regions;
+abbrev pub given_of : given.Given → Given
+given_of g = record {
+  consts = g.constants;
+  params = map start_of g.params;
+  regions = map region_of g.regions;
 }
 
--- ---- what is known of one variable
-
-abbrev pub nothing : Knowledge
-nothing = record {
-  set = false;
-  cell = false;
-  least = None;
-  most = None;
-  times = None;
-  under = 0;
-  is = 0;
-}
+-- ---- what is known at one spot
 
 abbrev pub is_at_least : Option ℕ → ℕ → Bool
 is_at_least None c = false
@@ -69,10 +54,19 @@ is_named [] bits x = false
 is_named (p ∷ ps) bits x =
     ((bits % 2 == 1) && same_key (variable_key p.var) x) || is_named ps (bits / 2) x
 
+-- different parameters have different keys
+abbrev pub is_parameter : List parameter.Parameter → Key → Bool
+is_parameter [] x = false
+is_parameter (p ∷ ps) x = same_key (variable_key p.var) x || is_parameter ps x
+
+abbrev pub AreDifferent : List parameter.Parameter → Type 0
+AreDifferent [] = Unit {0}
+AreDifferent (p ∷ ps) = (is_parameter ps (variable_key p.var) ≡ false) × AreDifferent ps
+
 -- whether it has a fact, of whatever variable the fact is
 abbrev pub says : List ℕ → List parameter.Parameter → Knowledge → Fact → Bool
 says cs ps k (Set v) = k.set
-says cs ps k (Cell a j) = is_none a.cell && k.cell
+says cs ps k (Cell a j) = k.set
 says cs ps k (AtLeast v c) = is_among c cs && is_at_least k.least c
 says cs ps k (AtMost v c) = is_among c cs && is_at_most k.most c
 says cs ps k (Under v x) = is_named ps k.under x
@@ -101,26 +95,20 @@ below_all all bits m (p ∷ ps) = one_below all bits p (below_all all bits m ps)
 
 -- ---- the set
 
-abbrev pub same_place : Place → Place → Bool
-same_place a b = (a.copy == b.copy) && same_cell a.cell b.cell
-
 abbrev pub known_or : Option Knowledge → Knowledge
 known_or None = nothing
 known_or (Some k) = k
 
--- what a table of one name has at a place
-abbrev pub known_in : {S : Type 0} → Place → Option (IndexMap Place Knowledge S) → Knowledge
-known_in p None = nothing
-known_in p (Some m) = known_or (get same_place m p)
-
-abbrev pub known_at : FactSet → Key → Knowledge
-known_at s k =
-    known_in (record { copy = k.copy; cell = k.cell }) (get bytes_eq s.variables k.name)
+abbrev pub known_at : Layers Knowledge → Spot → Knowledge
+known_at s k = known_or (seen s k)
 
 -- where a fact is kept: that of a cell with the cell
-abbrev pub kept_at : Fact → Key
-kept_at (Cell a k) = record { name = a.name; copy = a.copy; cell = Some k }
-kept_at f = subject f
+abbrev pub spot : Fact → Spot
+spot (Cell a k) = record { of = a; index = Some k }
+spot f = record { of = subject f; index = None }
 
-abbrev pub facts_of : FactSet → Facts
-facts_of s f = says s.constants s.params (known_at s (kept_at f)) f
+abbrev pub facts_by : given.Given → (Spot → Knowledge) → Facts
+facts_by g know f = says g.constants g.params (know (spot f)) f
+
+abbrev pub facts_of : given.Given → Layers Knowledge → Facts
+facts_of g s = facts_by g (known_at s)

@@ -1,2 +1,5 @@
+pub mod Knowing
 pub mod Kept
+pub mod Renewing
+pub mod Meeting
 pub use Rattle.jz_facts.specs.Facts

@@ -1,10 +1,11 @@
-//! What is given of a function: its parameters and its regions.
+//! What is given of a function: its constants, its parameters and its regions.
 
 ghost use Rattle.std.specs.Prelude.{◌≡◌};
 ghost use Rattle.jz_facts.specs.Facts.{hi_of};
 ghost use Rattle.jz_fact_sets.specs.Kept.{start_of};
 
-use jz_intervals::{Interval, greatest_word};
+use jz_data::Seq;
+use jz_intervals::{Constants, Interval, greatest_word};
 use jz_tree::Var;
 use x64_insn::Size;
 
@@ -24,6 +25,15 @@ pub struct Region {
     pub times: u64,
     pub by: Option<Var>,
     pub plus: u64,
+}
+
+/// What is given of a function.
+#[derive(Drop)]
+pub struct Given {
+    /// What facts compare with.
+    pub constants: Constants,
+    pub params: Seq<Parameter>,
+    pub regions: Seq<Region>,
 }
 
 impl Parameter {

@@ -3,10 +3,16 @@
 
 mod given;
 mod knowledge;
+mod laws;
+mod meeting;
+mod renewing;
 mod saying;
 mod set;
 
-pub use given::{Parameter, Region};
+pub use given::{Given, Parameter, Region};
 pub use knowledge::Knowledge;
-pub use saying::is_named;
-pub use set::FactSet;
+pub use laws::changes_of_facts;
+pub use meeting::{meet, narrow};
+pub use renewing::{add_cell, forget_all, renew};
+pub use saying::{Saying, is_named};
+pub use set::{FactSet, Table, known, known_at};

@@ -2,19 +2,26 @@
 
 ghost use Rattle.std.specs.Prelude.{◌≡◌, ◌==◌, ◌%◌, ◌&&◌};
 ghost use Rattle.jz_meaning.specs.States.{same_key};
+ghost use Rattle.jz_layers.specs.Spots.{variable_key};
 ghost use Rattle.jz_facts.specs.Facts.{multiples};
 ghost use Rattle.jz_facts.specs.Intervals.{of_variable, has_multiple};
 ghost use Rattle.jz_fact_readings.specs.Multiples.{times_of};
 ghost use Rattle.jz_fact_sets.specs.Kept as kept;
-ghost use Rattle.jz_fact_sets.specs.Kept.{variable_key};
 
-use crate::given::Parameter;
-use crate::set::FactSet;
+use crate::given::{Given, Parameter};
+use crate::set::{FactSet, known};
 use jz_fact_readings::{Knows, Times};
 use jz_facts::same_variable;
 use jz_intervals::{Constants, Interval, greatest_word, lower};
 use jz_tree::Var;
 use x64_insn::Size;
+
+/// A set of facts with what is given of its function.
+#[derive(Clone, Copy)]
+pub struct Saying<'s, 'a> {
+    pub given: &'s Given,
+    pub set: &'s FactSet<'a>,
+}
 
 /// Whether the lowest bit is set and the parameter is this variable.
 fn is_first(bits: u64, param: &Parameter, var: &Var) -> bool
@@ -78,33 +85,34 @@ fn most_by(constants: &Constants, most: Option<u64>, otherwise: u64) -> u64
     }
 }
 
-impl Knows for FactSet {
+impl<'s, 'a> Knows for Saying<'s, 'a> {
     ghost use Rattle.jz_fact_sets.specs.Kept.{given_of, facts_of};
 
-    ghost given = { given_of };
+    ghost given = { λ s. given_of s.given.now };
 
-    ghost facts = { facts_of };
+    ghost facts = { λ s. facts_of s.given.now s.set.now };
 
     fn interval_of(&self, size: Size, var: &Var) -> Interval
-        ensures { result ≡ of_variable (given_of self.now) (facts_of self.now) size
-            (variable_key var.now) }
+        ensures { result ≡ of_variable (given_of self.now.given.now)
+            (facts_of self.now.given.now self.now.set.now) size (variable_key var.now) }
     {
-        let kept = self.known(var);
+        let kept = known(self.set, var);
         let most = greatest_word(size);
-        let all = self.constants();
+        let all = &self.given.constants;
         let lo = least_by(all, kept.least);
         let hi = most_by(all, kept.most, most);
         Interval {
             lo: lower(lo, most),
-            hi: below_all(self.params(), kept.under, hi),
+            hi: below_all(self.given.params.as_slice(), kept.under, hi),
         }
     }
 
     fn is_multiple(&self, var: &Var, m: Times) -> bool
-        ensures { result ≡ has_multiple (given_of self.now) (facts_of self.now)
-            (variable_key var.now) (times_of m) multiples }
+        ensures { result ≡ has_multiple (given_of self.now.given.now)
+            (facts_of self.now.given.now self.now.set.now) (variable_key var.now) (times_of m)
+            multiples }
     {
-        match self.known(var).times {
+        match known(self.set, var).times {
             None => false,
             Some(times) => times.value() % m.value() == 0,
         }

@@ -5,6 +5,6 @@ use Rattle.jz_fact_answers.proofs.giving.gives.Goals as goal
 
 pub returns : goal.returns
 returns c = (
-  λ h. given_to c.args.set.now c.requires (fact_of c.args.fact.now) (sym c.is_given.ensures ∙ h),
-  λ h. c.is_given.ensures ∙ given_from c.args.set.now c.requires (fact_of c.args.fact.now) h,
+  λ h. given_to c.args.given.now c.args.set.now c.requires (fact_of c.args.fact.now) (sym c.is_given.ensures ∙ h),
+  λ h. c.is_given.ensures ∙ given_from c.args.given.now c.args.set.now c.requires (fact_of c.args.fact.now) h,
 )

@@ -1,5 +1,5 @@
 use Rattle.std.proofs.Common.{sym, ◌∙◌}
-use Rattle.jz_fact_sets.specs.Kept.{variable_key}
+use Rattle.jz_layers.specs.Spots.{variable_key}
 use Rattle.jz_fact_sets.proofs.Named.{named_yes, named_no, named_end}
 use Rattle.jz_fact_sets.proofs.saying.is_named.Goals as goal
 

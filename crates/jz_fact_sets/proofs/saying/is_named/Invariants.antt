@@ -1,5 +1,6 @@
 use Rattle.std.proofs.Common.{◌≡◌, drop}
-use Rattle.jz_fact_sets.specs.Kept.{variable_key, is_named}
+use Rattle.jz_layers.specs.Spots.{variable_key}
+use Rattle.jz_fact_sets.specs.Kept.{is_named}
 use Rattle.jz_fact_sets.proofs.saying.is_named.Given as goal
 
 abbrev pub invariant-loop-param : goal.invariant-loop-param

@@ -1,0 +1,1 @@
+pub use Rattle.jz_intervals.specs.Constants

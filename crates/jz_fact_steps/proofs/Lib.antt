@@ -1,0 +1,5 @@
+pub mod Rounding
+pub mod Timing
+pub mod WordFacts
+pub mod AtEntry
+pub mod Joining

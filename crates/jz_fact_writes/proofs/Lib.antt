@@ -1,0 +1,4 @@
+pub mod Gaining
+pub mod Orders
+pub mod Layering
+pub mod Unmarking

@@ -1,0 +1,3 @@
+pub mod Writing
+pub mod Marking
+pub use Rattle.jz_facts.specs.Holding

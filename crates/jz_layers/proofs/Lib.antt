@@ -1,0 +1,4 @@
+pub mod SpotLemmas
+pub mod TableLemmas
+pub mod Covering
+pub mod Listing

@@ -1,0 +1,2 @@
+pub mod ToldFacts
+pub mod KnownFacts

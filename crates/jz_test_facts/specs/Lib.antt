@@ -1,0 +1,2 @@
+pub mod Comparing
+pub use Rattle.jz_facts.specs.Tests

@@ -1,0 +1,4 @@
+pub mod Expanded
+pub mod Covered
+pub mod Laws
+pub mod Bodies

@@ -1,0 +1,4 @@
+pub mod CalledFuns
+pub mod InlineLists
+pub mod FrameNames
+pub mod Unrollable
