@@ -1,38 +1,46 @@
--- Where unrolling has no value, the function is within the limits.
-use Rattle.std.proofs.Common.{◌≡◌, ℕ, sym, subst, Result, Ok, Err, IsErrAnd}
-use Rattle.std.specs.Prelude.{IfErr}
-use Rattle.jz_tree.specs.Failure.{Failure}
-use Rattle.jz_tree.specs.Failure.TheVariants.{Refused, OutOfMemory}
-use Rattle.jz_tree.specs.Failures.{IfRefused}
+-- Nothing else is refused than the first limit: a function that is within the limits is unrollable.
+use Rattle.std.proofs.Common.{◌≡◌, ℕ, true, sym, subst}
+use Rattle.std.specs.Prelude.{Contains}
+use Rattle.std.proofs.Math.Logic.{∥∥₁_map}
+use Rattle.std.proofs.lemmas.List.Elements.{All-contains}
 use Rattle.jz_tree.specs.declared.program.Fun.{Fun}
 use Rattle.jz_tree.specs.declared.program.Program.{Program}
+use Rattle.jz_type_rows.specs.Exports.{is_exported}
+use Rattle.jz_types.specs.TypedPrograms.{IsTypedProgram}
+use Rattle.jz_texts.specs.Texts.{IsText}
+use Rattle.jz_meaning.specs.Runs.{body_of}
+use Rattle.jz_typed_runs.specs.TypedTexts.{IsTypedText}
 use Rattle.jz_copies.specs.Counts.{Passes}
 use Rattle.jz_copies.specs.declared.extent.CopyLimit.{CopyLimit}
 use Rattle.jz_copies.specs.declared.extent.CopyLimit.TheVariants as copies
 use Rattle.jz_first_limit.specs.FirstLimits.{IsWithinLimits}
 use Rattle.jz_inlining.specs.declared.inlining.Inlined.{Inlined}
-use Rattle.jz_inlining.specs.Inlined.{IsInlined}
+use Rattle.jz_inlining.specs.Inlined.{IsExport, IsInlined, inlined_function}
 use Rattle.jz_unrolling.specs.Unrolled.{IsUnrollable}
-use Rattle.jz_expansion.proofs.Followed.{same_at}
-use Rattle.jz_expansion.specs.Expanding.{IsCountedAt, IsValueless, Refuses}
-use Rattle.jz_expansion.specs.declared.refusal.Refusal.{Refusal}
-use Rattle.jz_expansion.specs.declared.refusal.Refusal.TheVariants as refusal
+use Rattle.jz_unrolling_laws.specs.CalledBodies.{inlines_of, IsNamed}
+use Rattle.jz_walked_laws.proofs.Whole.{named_law, called_law, results_law}
+use Rattle.jz_unrollable.proofs.Unrollable.{unrollable}
+use Rattle.jz_expansion.proofs.Followed.{same_at, contains_at}
+use Rattle.jz_expansion.specs.Expanding.{IsCountedAt}
 
 -- the only limit of copies
 pub too_many : (p : Program) (f : Fun) (limit : CopyLimit) → Passes p f limit → Passes p f copies.Expand
 too_many p f copies.Expand h = h
 
-module _ (p : Program) (place n : ℕ) (counted : IsCountedAt p place n) (i : Inlined) (made : IsInlined p place i) where
-  valueless : (v : Failure Refusal) → IfRefused v (IsValueless i.fun) → IfRefused v (Refuses p place)
-  valueless OutOfMemory h = tt
-  valueless (Refused (refusal.Limit l)) h = absurd h
-  valueless (Refused (refusal.Valueless at)) h = (
-    made.source,
-    made.there,
-    subst (IsWithinLimits p) (same_at p place counted.0 made.source counted.1 made.there) counted.2,
-    λ u. h (subst IsUnrollable (sym made.made.function) u),
-  )
+-- ---- within the limits
 
-  pub handed : {B : Type 0} (r : Result B (Failure Refusal)) (e : Failure Refusal) → IsErrAnd r (λ v. v ≡ e) → IfRefused e (IsValueless i.fun) → IfErr r (λ failure. IfRefused failure (Refuses p place))
-  handed (Ok x) e is h = absurd is
-  handed (Err v) e is h = valueless v (subst (λ z. IfRefused z (IsValueless i.fun)) (sym is) h)
+within_unrollable : (p : Program) (f : Fun) → IsTypedText p → Contains p.funs f → is_exported f.kind ≡ true → IsWithinLimits p f → IsUnrollable (inlined_function p f)
+within_unrollable p f h has exported within =
+    unrollable p f h.typed h.text has
+    (All-contains (λ g. IsNamed (inlines_of g) (body_of p g)) p.funs f (named_law p h) has)
+    (called_law p f h has exported within)
+    (λ j q l. (results_law p f h has j q l).1)
+
+-- of the function at that place
+pub rounds_unrollable : (p : Program) (place n : ℕ) (i : Inlined) → IsCountedAt p place n → IsInlined p place i → IsExport p place → ∥ IsTypedProgram p ∥₁ → IsText p → ∥ IsUnrollable i.fun ∥₁
+rounds_unrollable p place n i counted made export typed text =
+    ∥∥₁_map typed
+    (λ t. subst IsUnrollable (sym made.made.function)
+    (within_unrollable p made.source (record { typed = t; text = text }) (contains_at p place made.source made.there)
+    (subst (λ (f : Fun). is_exported f.kind ≡ true) (same_at p place export.function made.source export.there made.there) export.exported)
+    (subst (IsWithinLimits p) (same_at p place counted.0 made.source counted.1 made.there) counted.2)))

@@ -13,13 +13,9 @@ use Rattle.jz_pass.specs.Laws.{Carries}
 use Rattle.jz_limits.specs.declared.limit.Limit.{Limit}
 use Rattle.jz_first_limit.specs.FirstLimits.{IsWithinLimits, PassesFirst, expanded_count}
 use Rattle.jz_inline.specs.Functions.{Given, runs_of, body_runs}
-use Rattle.jz_inlining.specs.Inlined.{inlined_function}
-use Rattle.jz_unrolling.specs.Unrolled.{IsUnrollable}
 use Rattle.jz_function_runs.specs.FunctionRuns.{plain_body, alike_where}
 use Rattle.jz_expansion.specs.Expansions.{IsExpansion}
 use Rattle.jz_expansion.specs.declared.expanded.Expanded.{Expanded}
-use Rattle.jz_expansion.specs.declared.refusal.Refusal.{Refusal}
-use Rattle.jz_expansion.specs.declared.refusal.Refusal.TheVariants as refusal
 
 -- of the function at that place
 pub record IsExpandedAt (p : Program) (place : ℕ) (r : Expanded) : Type 0 where
@@ -54,15 +50,3 @@ IsCountedAt p place n =
 -- it passes this limit, and no other before it
 abbrev pub PassesAt : Program → ℕ → Limit → Type 0
 PassesAt p place limit = (f : Fun) × (slice_get p.funs place ≡ Some f) × PassesFirst p f limit
-
--- of the function without calls: it is not unrollable, something that is asked for has no value
-abbrev pub IsValueless : Fun → Refusal → Type 0
-IsValueless f (refusal.Limit limit) = ⊥
-IsValueless f (refusal.Valueless at) = IsUnrollable f → ⊥
-
--- the first limit; or there is none, and the function without calls is not unrollable
-abbrev pub Refuses : Program → ℕ → Refusal → Type 0
-Refuses p place (refusal.Limit limit) = PassesAt p place limit
-Refuses p place (refusal.Valueless at) =
-    (f : Fun) × (slice_get p.funs place ≡ Some f) × IsWithinLimits p f
-    × (IsUnrollable (inlined_function p f) → ⊥)

@@ -42,6 +42,14 @@ impl Expanded {
         self.count
     }
 
+    /// The function, and what becomes of a leak.
+    pub fn into_parts(self) -> (Fun, Change)
+        ensures { (result.0 ≡ self.fun) × (result.1 ≡ self.change) }
+    {
+        let Expanded { fun, change, .. } = self;
+        (fun, change)
+    }
+
     /// These are the expansion of an export function of some typed program, within the limits.
     pub fn is_expanded(&self)
         ensures { let change = change_of self.now.change in

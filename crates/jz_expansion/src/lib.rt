@@ -4,8 +4,6 @@
 
 mod expanded;
 mod expanding;
-mod refusal;
 
 pub use expanded::Expanded;
 pub use expanding::expand;
-pub use refusal::Refusal;

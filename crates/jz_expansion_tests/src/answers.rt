@@ -1,11 +1,13 @@
 //! What is asked of a text, and the answer.
 
+ghost use Rattle.std.specs.Prelude.{IfOk};
+ghost use Rattle.jz_texts.specs.Texts.{IsText};
 ghost use Rattle.jz_inlining.specs.Inlined.{IsExport};
 
 use crate::changes::steps;
 use crate::outcomes::{Given, NOTHING, runs};
 use crate::printing::{columns, statements, variables};
-use crate::showing::{at, refusal};
+use crate::showing::{at, limit};
 use jz_expansion::expand;
 use jz_inlining::{Inlined, inline, is_export};
 use jz_lex::lex;
@@ -74,22 +76,32 @@ fn given_by(rest: &str) -> Option<(Given<'_>, &str)> {
     Some((Given { words, turns }, rest))
 }
 
-/// The answer to a row.
-pub fn answer(alloc: Global, row: &Row<'_>) -> Result<String, AllocError> {
-    if row.text.len() > 1_048_576 {
-        return String::from_str(alloc, "too long");
+/// The typed program that a text is, or why it is none.
+fn typed_text(alloc: Global, text: &str) -> Result<Typed, &'static str>
+    ensures { IfOk result (λ typed. IsText typed.program) }
+{
+    if text.len() > 1_048_576 {
+        return Err("too long");
     }
-    let Ok(tokens) = lex(alloc, row.text.as_bytes()) else {
-        return String::from_str(alloc, "no tokens");
+    let Ok(tokens) = lex(alloc, text.as_bytes()) else {
+        return Err("no tokens");
     };
     let Ok(program) = parse(alloc, &tokens) else {
-        return String::from_str(alloc, "no program");
+        return Err("no program");
     };
     let Ok(typed) = check(alloc, program) else {
-        return String::from_str(alloc, "not typed");
+        return Err("not typed");
     };
+    Ok(typed)
+}
+
+/// The answer to a row.
+pub fn answer(alloc: Global, row: &Row<'_>) -> Result<String, AllocError> {
     let mut out = String::new(alloc);
-    answer_typed(alloc, row, &typed, &mut out)?;
+    match typed_text(alloc, row.text) {
+        Ok(typed) => answer_typed(alloc, row, &typed, &mut out)?,
+        Err(word) => out.push_str(word)?,
+    }
     Ok(out)
 }
 
@@ -98,7 +110,9 @@ fn answer_typed(
     row: &Row<'_>,
     typed: &Typed,
     out: &mut String,
-) -> Result<(), AllocError> {
+) -> Result<(), AllocError>
+    requires { IsText typed.now.program }
+{
     let last = typed.program().funs.len().saturating_sub(1);
     if !is_export(typed, last) {
         return out.push_str("no export function");
@@ -168,7 +182,8 @@ fn expanded(
     last: usize,
     out: &mut String,
 ) -> Result<(), AllocError>
-    requires { IsExport typed.now.program last }
+    requires export { IsExport typed.now.program last }
+    requires text { IsText typed.now.program }
 {
     match expand(alloc, typed, last) {
         Ok(made) => match row.asked {
@@ -179,7 +194,7 @@ fn expanded(
                 runs(alloc, row.given, typed, made.fun(), out)
             }
         },
-        Err(Failure::Refused(found)) => refusal(found, out),
+        Err(Failure::Refused(found)) => limit(found, out),
         Err(Failure::OutOfMemory) => Err(AllocError),
     }
 }

@@ -1,6 +1,5 @@
-//! Words, numbers of leaks, and refusals.
+//! Words, numbers of leaks, and limits.
 
-use jz_expansion::Refusal;
 use jz_limits::Limit;
 use jz_meaning::{Item, Leak, Stuck, Turn, Why};
 use jz_tree::{Seq, Span};
@@ -90,13 +89,12 @@ pub fn at(word: &str, place: Span, out: &mut String) -> Result<(), AllocError> {
     write!(out, "{word} {}:{}", place.line, place.col)
 }
 
-/// Why a function is not expanded.
-pub fn refusal(found: Refusal, out: &mut String) -> Result<(), AllocError> {
+/// A limit that is passed.
+pub fn limit(found: Limit, out: &mut String) -> Result<(), AllocError> {
     match found {
-        Refusal::Limit(Limit::Expand) => out.push_str("Expand"),
-        Refusal::Limit(Limit::InlineWidth(span)) => at("InlineWidth", span, out),
-        Refusal::Limit(Limit::IndexRange(span)) => at("IndexRange", span, out),
-        Refusal::Limit(Limit::ImmRange(span)) => at("ImmRange", span, out),
-        Refusal::Valueless(span) => at("Valueless", span, out),
+        Limit::Expand => out.push_str("Expand"),
+        Limit::InlineWidth(span) => at("InlineWidth", span, out),
+        Limit::IndexRange(span) => at("IndexRange", span, out),
+        Limit::ImmRange(span) => at("ImmRange", span, out),
     }
 }

@@ -1,18 +1,22 @@
 -- The laws of what is not stuck.
-use Rattle.std.proofs.Common.{◌≡◌, [], ◌∷◌, Option, None, sym, subst}
-use Rattle.jz_tree.specs.Span.{Span}
+use Rattle.std.proofs.Common.{◌≡◌, ℕ, [], ◌∷◌, None, Bool, sym, subst}
 use Rattle.jz_runs.specs.Rules.{stuck, went}
 use Rattle.jz_meaning.specs.Attempts.{Evaluation, and_then}
-use Rattle.jz_meaning.specs.States.{Value, word, boolean, integer}
+use Rattle.jz_meaning.specs.States.{Value, word, boolean, integer, Key, State}
 use Rattle.jz_meaning.specs.Values.{Meaning}
 use Rattle.jz_meaning.specs.Assignments.{truth as truth_of}
 use Rattle.jz_tree.specs.declared.stmt.Lval.TheVariants as lval
 use Rattle.jz_meaning.specs.Statements as source
-use Rattle.jz_meaning.specs.Statements.{assign}
+use Rattle.jz_meaning.specs.Statements.{assign, Condition}
+use Rattle.jz_run_laws.specs.Kinds.{Kinds}
 use Rattle.jz_terms.specs.Terms.{term_of, means}
 use Rattle.jz_terms.proofs.Bridge.{term_so}
+use Rattle.jz_facts.specs.Facts.{Facts, Given}
 use Rattle.jz_fact_laws.specs.Saying.{is_number}
-use Rattle.jz_fact_runs.specs.RunLaws.{Goes, WordsGo, TestsGo, AssignmentsGo, TestsStand, MarksStand, AssignmentsStand}
+use Rattle.jz_alarms.specs.Conditions.{asks_test}
+use Rattle.jz_fact_runs.specs.Typing.{NoNumbers, IsAnswer}
+use Rattle.jz_fact_runs.specs.Standing.{Stands}
+use Rattle.jz_fact_runs.specs.RunLaws.{IsOn, WordsGo, TestsGo, AssignmentsGo, TestsStand, MarksStand, AssignmentsStand}
 use Rattle.jz_fact_runs.proofs.Making.{OfSize, IsTruth}
 use Rattle.jz_fact_runs.proofs.Sums.{Runs, runs_then}
 use Rattle.jz_fact_runs.proofs.Firm.{word_runs, answer_runs}
@@ -20,25 +24,28 @@ use Rattle.jz_fact_runs.proofs.Apart.{tested_stands}
 use Rattle.jz_fact_runs.proofs.Marks.{marked_stands}
 use Rattle.jz_fact_runs.proofs.Assigning.{assigned_stands, assigned_runs}
 
-goes : {A : Type 0} (Q : A → Type 0) (e : Evaluation A) → Runs Q e → Goes e
+goes : {A : Type 0} (Q : A → Type 0) (e : Evaluation A) → Runs Q e → IsOn e
 goes Q (stuck k) h = h
 goes Q (went ns x) h = tt
 
 pub words_go : WordsGo
 words_go g kinds in_frame entry s st nn H e w z i q =
-    subst (λ (m : Meaning). Goes (m.run w st)) (sym (term_so e))
+    subst (λ (m : Meaning). IsOn (m.run w st)) (sym (term_so e))
     (goes (OfSize z (is_number (term_of e))) ((means (term_of e)).run w st) (word_runs g kinds in_frame entry s st H nn (term_of e) w z i q))
 
+module _ (g : Given) (kinds : Kinds) (in_frame : Key → Bool) (entry : Key → ℕ) (s : Facts) (st : State) (nn : NoNumbers kinds) (H : Stands g kinds in_frame entry s st) where
+  pub tests_run : (c : Condition) → IsAnswer kinds in_frame (term_of c.cond) → asks_test g c s ≡ None → Runs (λ b. Unit {0}) (source.tests c st)
+  tests_run c i q =
+      subst (λ (m : Meaning). Runs (λ b. Unit {0}) (and_then (m.run None st) (truth_of c.at))) (sym (term_so c.cond))
+      (runs_then IsTruth (λ b. Unit {0}) ((means (term_of c.cond)).run None st) (truth_of c.at) (answer_runs g kinds in_frame entry s st H nn (term_of c.cond) None i q) (λ v h. by v h))
+    where
+      by : (v : Value) → IsTruth v → Runs (λ b. Unit {0}) (truth_of c.at v)
+      by (boolean b) h = tt
+      by (word z n) h = absurd h
+      by (integer j) h = absurd h
+
 pub tests_go : TestsGo
-tests_go g kinds in_frame entry s st nn H c i q =
-    subst (λ (m : Meaning). Goes (and_then (m.run None st) (truth_of c.at))) (sym (term_so c.cond))
-    (goes (λ b. Unit {0}) (and_then ((means (term_of c.cond)).run None st) (truth_of c.at))
-    (runs_then IsTruth (λ b. Unit {0}) ((means (term_of c.cond)).run None st) (truth_of c.at) (answer_runs g kinds in_frame entry s st H nn (term_of c.cond) None i q) (λ v h. by v h)))
-  where
-    by : (v : Value) → IsTruth v → Runs (λ b. Unit {0}) (truth_of c.at v)
-    by (boolean b) h = tt
-    by (word z n) h = absurd h
-    by (integer j) h = absurd h
+tests_go g kinds in_frame entry s st nn H c i q = goes (λ b. Unit {0}) (source.tests c st) (tests_run g kinds in_frame entry s st nn H c i q)
 
 pub assignments_go : AssignmentsGo
 assignments_go g kinds in_frame entry s st nn H x o e c at i a q = goes (λ t. Unit {0}) (source.does (assign (lval.Var x ∷ []) o e c at) st) (assigned_runs g kinds in_frame entry s st H nn x o e c at i a q)

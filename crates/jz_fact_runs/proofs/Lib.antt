@@ -12,3 +12,8 @@ pub mod Going
 pub mod Apart
 pub mod Marks
 pub mod Assigning
+pub mod Cells
+pub mod Writing
+pub mod Safe
+pub mod Instructing
+pub mod Lefts

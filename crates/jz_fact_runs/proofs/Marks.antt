@@ -1,6 +1,6 @@
 -- Where a run stands before a mark it stands behind it.
-use Rattle.std.proofs.Common.{◌≡◌, ◌⊎◌, inl, inr, ℕ, zero, suc, List, [], ◌∷◌, Option, Some, None, Bool, true, false, true≢false, refl, ap, sym, ◌∙◌, subst, if◌then◌else◌, ◌<◌, ◌≤◌, ◌%◌}
-use Rattle.std.specs.Prelude.{not, ◌&&◌, ◌||◌, IsSome}
+use Rattle.std.proofs.Common.{◌≡◌, ℕ, zero, suc, List, [], ◌∷◌, Option, Some, None, Bool, true, false, true≢false, refl, ap, sym, ◌∙◌, subst, if◌then◌else◌, ◌<◌, ◌≤◌, ◌%◌}
+use Rattle.std.specs.Prelude.{not, ◌||◌, IsSome}
 use Rattle.std.proofs.lemmas.Bool.{and_parts}
 use Rattle.jz_tree.specs.Span.{Span}
 use Rattle.jz_tree.specs.declared.expr.Var.{Var}
@@ -48,7 +48,7 @@ apart_keys a b e h = true≢false (sym (same_key-refl a) ∙ ap (same_key a) (sy
 
 module _ (in_frame : Key → Bool) where
   -- a scalar, of a fact on another one or on a cell
-  scalar_elsewhere : (k : Key) (f : Fact) → in_frame (whole k) ≡ false → in_frame (whole (subject f)) ≡ is_of_cell f → same_key (subject f) k ≡ false → k ≡ seat f → ⊥
+  pub scalar_elsewhere : (k : Key) (f : Fact) → in_frame (whole k) ≡ false → in_frame (whole (subject f)) ≡ is_of_cell f → same_key (subject f) k ≡ false → k ≡ seat f → ⊥
   scalar_elsewhere k (Cell a j) i p e h = true≢false (sym p ∙ ap (λ q. in_frame (whole q)) (sym h) ∙ i)
   scalar_elsewhere k (Set v) i p e h = apart_keys v k e h
   scalar_elsewhere k (AtLeast v c) i p e h = apart_keys v k e h

@@ -1,4 +1,5 @@
 pub mod Typing
+pub mod Fine
 pub mod Standing
 pub mod RunLaws
 pub use Rattle.jz_fact_laws.specs.Saying

@@ -7,17 +7,18 @@ use Rattle.x64_insn.specs.Size.TheVariants.{S8, S64}
 use Rattle.jz_tree.specs.declared.expr.BinOp.{BinOp}
 use Rattle.jz_tree.specs.declared.expr.BinOp.TheVariants as o
 use Rattle.jz_tree.specs.declared.expr.Expr.{Expr}
+use Rattle.jz_tree.specs.declared.expr.Access.{Access}
 use Rattle.jz_tree.specs.declared.expr.Var.{Var}
 use Rattle.jz_tree.specs.declared.stmt.Lval.TheVariants as lval
 use Rattle.jz_meaning.specs.declared.access.Kind.{Kind}
 use Rattle.jz_meaning.specs.declared.access.Kind.TheVariants as kind
 use Rattle.jz_meaning.specs.States.{Key}
 use Rattle.jz_meaning.specs.Operators.{is_shift}
-use Rattle.jz_meaning.specs.Values.{Ref, key_of, ref_of, size_of, left_wanted}
-use Rattle.jz_meaning.specs.Assignments.{whole_of}
+use Rattle.jz_meaning.specs.Values.{Ref, key_of, ref_of, own_size, size_of, left_wanted}
+use Rattle.jz_meaning.specs.Assignments.{left_sizes, whole_of}
 use Rattle.jz_run_laws.specs.Kinds.{Kinds, kind_at}
 use Rattle.jz_run_laws.specs.DeclaredKinds.{IsDeclared}
-use Rattle.jz_terms.specs.Terms.{Term, num, truth, var, cell, load, neg, inv, cast, bin, term_of, size_in}
+use Rattle.jz_terms.specs.Terms.{Term, num, truth, var, cell, load, neg, inv, cast, bin, term_of, place_of, size_in}
 use Rattle.jz_fact_laws.specs.Saying.{is_number}
 
 -- a variable, or what a cell is a cell of
@@ -71,6 +72,16 @@ IsRead u (var x) = Unit {0}
 IsRead u (cell x i) = Unit {0}
 IsRead u (load p b) = p.size ≡ Some u
 IsRead u t = ⊥
+
+-- what a mark may unset: an array, or a scalar that is no cell of an array in the frame
+abbrev pub IsMark : (Key → Bool) → Kind → Key → Type 0
+IsMark in_frame (kind.Array z n) k = Unit {0}
+IsMark in_frame d k = in_frame (whole k) ≡ false
+
+abbrev pub AreMarks : (Key → Bool) → List Var → Type 0
+AreMarks in_frame [] = Unit {0}
+AreMarks in_frame (x ∷ xs) =
+    IsMark in_frame (ref_of x).kind (key_of (ref_of x)) × AreMarks in_frame xs
 
 -- of the variables of a function, some arrays are in the frame; those in registers have become
 -- scalars, each a cell by its name
@@ -143,16 +154,25 @@ module _ (kinds : Kinds) (in_frame : Key → Bool) where
         (w : Expr) → whole_of (Some (lval.Var x)) op e ≡ Some w
         → IsWord (Some size) size (term_of w)
 
+  -- of one to a cell of an array in the frame, at an index
+  pub record IsCellAssigned (x : Var) (i : Expr) (op : Option BinOp) (e : Expr) : Type 0 where
+    pub size : Size
+    pub cells : ℕ
+    pub array : IsArray (ref_of x) size cells
+    pub index : IsSum (term_of i)
+    pub value :
+        (w : Expr) → whole_of (Some (lval.Cell x i)) op e ≡ Some w
+        → IsWord (Some size) size (term_of w)
+
+  -- of one to memory
+  pub record IsStored (a : Access) (op : Option BinOp) (e : Expr) : Type 0 where
+    pub size : Size
+    pub address : IsSum (place_of a).at
+    pub value :
+        (w : Expr) → whole_of (Some (lval.Store a)) op e ≡ Some w
+        → let z = option_or (left_sizes (lval.Store a ∷ [])) (own_size w) in
+        (option_or (place_of a).spot.size z ≡ Some size) × IsWord z size (term_of w)
+
   abbrev pub HasAnswer : Option Expr → Type 0
   HasAnswer None = Unit {0}
   HasAnswer (Some c) = IsAnswer (term_of c)
-
--- what a mark may unset: an array, or a scalar that is no cell of an array in the frame
-abbrev pub IsMark : (Key → Bool) → Kind → Key → Type 0
-IsMark in_frame (kind.Array z n) k = Unit {0}
-IsMark in_frame d k = in_frame (whole k) ≡ false
-
-abbrev pub AreMarks : (Key → Bool) → List Var → Type 0
-AreMarks in_frame [] = Unit {0}
-AreMarks in_frame (x ∷ xs) =
-    IsMark in_frame (ref_of x).kind (key_of (ref_of x)) × AreMarks in_frame xs

@@ -1,6 +1,6 @@
-//! Facts, conditions and runs.
+//! Facts, alarms and runs.
 
-ghost use Rattle.jz_fact_runs.specs.RunLaws.{WordsGo, TestsGo, AssignmentsGo, TestsStand, MarksStand, AssignmentsStand};
+ghost use Rattle.jz_fact_runs.specs.RunLaws.{WordsGo, TestsGo, AssignmentsGo, TestsStand, MarksStand, AssignmentsStand, BodiesGo, SafeGoes};
 
 /// Where the facts of a set hold of the state in which a run of an expanded function stands, an
 /// expression, a test and an assignment to a variable are not stuck, for whatever reason, whose
@@ -17,4 +17,11 @@ pub fn facts_stand_behind_statements()
     ensures tests { TestsStand }
     ensures marks { MarksStand }
     ensures assignments { AssignmentsStand }
+{}
+
+/// Where a body has no alarm no run of it is stuck that begins where the facts before it hold; and
+/// where an expanded function has none no run of the function is, however many turns are left.
+pub fn safe_is_never_stuck()
+    ensures bodies { BodiesGo }
+    ensures functions { SafeGoes }
 {}

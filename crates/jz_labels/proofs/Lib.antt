@@ -1,0 +1,3 @@
+pub mod MoreLabels
+pub mod OneBreach
+mod Rows

@@ -1,0 +1,7 @@
+//! Constant time: labels of variables along a body, what has to be public, and the first breach.
+//! There is no code here yet.
+#![tactic(auto)]
+
+mod laws;
+
+pub use laws::{more_public_makes_more_public, one_first_breach};

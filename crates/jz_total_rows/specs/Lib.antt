@@ -1,0 +1,5 @@
+pub mod Expanded
+pub mod Covered
+pub mod Laws
+pub mod Bodies
+pub mod Variables
