@@ -1,11 +1,13 @@
 -- The numbers of a body, those of a right operand before those of the left one.
-use Rattle.std.specs.Prelude.{ℤ, List, [], ◌∷◌, ◌++◌, flat_map}
+use Rattle.std.specs.Prelude.{ℤ, pos, List, [], ◌∷◌, ◌++◌, flat_map}
 use Rattle.jz_tree.specs.declared.expr.Expr.{Expr}
 use Rattle.jz_tree.specs.declared.expr.Expr.TheOpen.{Expr-F}
 use Rattle.jz_tree.specs.declared.expr.Expr.TheFolds.{fold-Expr, fold-Access}
 use Rattle.jz_tree.specs.declared.expr.Access.{Access}
 use Rattle.jz_tree.specs.declared.stmt.Stmt.{Stmt}
 use Rattle.jz_type_names.specs.Parts.{exprs_of, layer_of, statements_of}
+use Rattle.jz_annotations.specs.declared.precondition.Pre.{Pre}
+use Rattle.jz_annotations.specs.declared.precondition.Pre.TheVariants as pre
 
 abbrev pub Numbers : Type 0
 Numbers = List ℤ
@@ -36,3 +38,17 @@ of_statement s = flat_map of_expr (exprs_of (layer_of s))
 -- of statements and all that stand in them
 abbrev pub of_body : List Stmt → Numbers
 of_body ss = flat_map of_statement (statements_of ss)
+
+-- ---- preconditions
+
+abbrev pub of_pre : Pre → Numbers
+of_pre (pre.Region p factor v constant) = pos factor ∷ pos constant ∷ []
+of_pre (pre.Range n low high) = pos low ∷ pos high ∷ []
+of_pre (pre.Align p multiple) = pos multiple ∷ []
+
+abbrev pub of_pres : List Pre → Numbers
+of_pres ps = flat_map of_pre ps
+
+-- of a function, by its body and its preconditions
+abbrev pub of_function : List Stmt → List Pre → Numbers
+of_function ss ps = of_body ss ++ of_pres ps
