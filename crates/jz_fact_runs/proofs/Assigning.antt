@@ -1,7 +1,6 @@
 -- Where a run stands before an assignment to a variable it stands behind it, and where its conditions
 -- are given it is not stuck.
-use Rattle.std.proofs.Common.{◌≡◌, ◌⊎◌, inl, inr, ℕ, List, [], ◌∷◌, Option, Some, None, Bool, true, false, refl, ap, sym, ◌∙◌, subst, if◌then◌else◌}
-use Rattle.std.specs.Prelude.{◌&&◌, All}
+use Rattle.std.proofs.Common.{◌≡◌, ℕ, [], ◌∷◌, Option, Some, None, Bool, true, false, refl, ap, sym, ◌∙◌, subst, if◌then◌else◌}
 use Rattle.std.specs.Option.{option_or}
 use Rattle.std.proofs.lemmas.Bool.{and_parts}
 use Rattle.std.proofs.lemmas.List.Elements.{All-nil, All-cons}
@@ -11,35 +10,33 @@ use Rattle.jz_tree.specs.declared.expr.BinOp.{BinOp}
 use Rattle.jz_tree.specs.declared.expr.Expr.{Expr}
 use Rattle.jz_tree.specs.declared.expr.Expr.TheVariants as expr
 use Rattle.jz_tree.specs.declared.expr.Var.{Var}
-use Rattle.jz_tree.specs.declared.stmt.Lval.{Lval}
 use Rattle.jz_tree.specs.declared.stmt.Lval.TheVariants as lval
 use Rattle.jz_runs.specs.Rules.{stuck, went}
 use Rattle.jz_meaning.specs.declared.access.Kind.{Kind}
 use Rattle.jz_meaning.specs.declared.access.Kind.TheVariants as kind
-use Rattle.jz_meaning.specs.declared.value.Why.TheVariants.{Init}
 use Rattle.jz_meaning.specs.Attempts.{Evaluation, and_then, defined}
 use Rattle.jz_meaning.specs.States.{Value, word, boolean, integer, Key, same_key, State}
 use Rattle.jz_meaning.specs.Operators.{word_at, same_size}
 use Rattle.jz_meaning.specs.Values.{Ref, Meaning, key_of, ref_of, own_size, evaluated, size_of}
-use Rattle.jz_meaning.specs.Assignments.{Results, left_sizes, left_size, whole_of, as_expr, held, held_or_unset, with_value, written, all_written, results_of, old_value, chosen, conditioned, bool_in, truth as truth_of, assigned_whole}
+use Rattle.jz_meaning.specs.Assignments.{Results, left_sizes, left_size, whole_of, held, held_or_unset, with_value, written, all_written, results_of, old_value, chosen, conditioned, bool_in, truth as truth_of, assigned_whole}
 use Rattle.jz_meaning.specs.Statements as source
 use Rattle.jz_meaning.specs.Statements.{assign}
 use Rattle.jz_run_laws.specs.Kinds.{Kinds, IsOfKinds}
-use Rattle.jz_run_laws.specs.DeclaredKinds.{LeftDeclared, OperationDeclared}
+use Rattle.jz_run_laws.specs.DeclaredKinds.{LeftDeclared}
 use Rattle.jz_run_laws.specs.Kept.{IfWent}
 use Rattle.jz_run_laws.proofs.Nodes.{operations_keep}
 use Rattle.jz_terms.specs.Terms.{Term, var, term_of, means}
 use Rattle.jz_terms.proofs.Bridge.{term_so}
 use Rattle.jz_terms.proofs.TermForms.{term_var}
 use Rattle.jz_facts.specs.Facts.{Fact, Set, Cell, AtLeast, AtMost, Under, Is, Multiple, Facts, Given, subject}
-use Rattle.jz_facts.specs.Holding.{does, assigned, renewed, gained, the_word, only_set, of_word, if_so}
+use Rattle.jz_facts.specs.Holding.{does, assigned, renewed, gained, the_word}
 use Rattle.jz_facts.specs.Intervals.{size_or_64}
 use Rattle.jz_fact_laws.specs.Saying.{Holds, Yields, IsAssigned, is_number}
-use Rattle.jz_fact_laws.proofs.Fitting.{yields_then, yields_all}
+use Rattle.jz_fact_laws.proofs.Fitting.{yields_then}
 use Rattle.jz_fact_laws.proofs.Setting.{same_key-true}
 use Rattle.jz_fact_laws.proofs.Holding.{assignments_hold}
 use Rattle.jz_fact_laws.proofs.Conditional.{assign_if_ok}
-use Rattle.jz_alarms.specs.Conditions.{asks, asks_expr, asks_if, asks_old, asks_left, asks_lefts, asks_assign, asks_operation, or_else}
+use Rattle.jz_alarms.specs.Conditions.{asks, asks_expr, asks_if, asks_old, asks_assign, asks_operation}
 use Rattle.jz_fact_runs.specs.Typing.{whole, sizes_of, NoNumbers, IsScalar, IsWord, IsAnswer, IsWordAssigned, HasAnswer}
 use Rattle.jz_fact_runs.specs.Standing.{is_of_cell, AreValid, Stands}
 use Rattle.jz_fact_runs.proofs.Held.{holds}

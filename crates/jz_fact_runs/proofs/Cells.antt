@@ -1,6 +1,6 @@
 -- Assignments to a cell and to memory.
-use Rattle.std.proofs.Common.{◌≡◌, ◌⊎◌, inl, inr, ℕ, zero, suc, ◌+◌, ◌/◌, ◌%◌, ◌^◌, ◌<◌, ◌≤◌, List, [], ◌∷◌, Option, Some, None, Bool, true, false, refl, ap, sym, ◌∙◌, subst, arith, rules, cond, if◌then◌else◌, ℤ}
-use Rattle.std.specs.Prelude.{◌&&◌, ◌||◌, ◌==◌, nat_lt, IsSome}
+use Rattle.std.proofs.Common.{◌≡◌, ◌⊎◌, inl, inr, ℕ, zero, suc, ◌+◌, ◌/◌, ◌%◌, ◌^◌, List, [], ◌∷◌, Option, Some, None, Bool, true, false, refl, ap, sym, ◌∙◌, subst, arith, rules, cond, if◌then◌else◌, ℤ}
+use Rattle.std.specs.Prelude.{◌||◌, nat_lt, IsSome}
 use Rattle.std.specs.Option.{option_or}
 use Rattle.std.specs.Ordering.{nat_cmp, eq_by_cmp}
 use Rattle.std.specs.Cmp.{nat_cmp_total}
@@ -24,14 +24,14 @@ use Rattle.jz_tree.specs.declared.expr.Expr.TheViews.{roll-Access, out-Access, r
 use Rattle.jz_tree.specs.declared.expr.Expr.TheFolds.{fold-roll-Access}
 use Rattle.jz_tree.specs.declared.stmt.Lval.{Lval}
 use Rattle.jz_tree.specs.declared.stmt.Lval.TheVariants as lval
-use Rattle.jz_runs.specs.Rules.{stuck, went}
+use Rattle.jz_runs.specs.Rules.{went}
 use Rattle.jz_meaning.specs.declared.access.Kind.{Kind}
 use Rattle.jz_meaning.specs.declared.access.Kind.TheVariants as kind
-use Rattle.jz_meaning.specs.declared.value.Why.TheVariants.{Bounds, Address, Align, Init}
-use Rattle.jz_meaning.specs.Attempts.{Evaluation, stuck_at, and_then, defined}
-use Rattle.jz_meaning.specs.States.{Value, word, boolean, integer, Key, same_key, Store, put, State}
-use Rattle.jz_meaning.specs.Operators.{word_at, word_of, same_size}
-use Rattle.jz_meaning.specs.Values.{Ref, MemoryAccess, Meaning, expr_step, ty_step, access_step, decl_step, var_step, meaning_of, access_of, key_of, cell_key, ref_of, own_size, evaluated, size_of, in_cells, index_at, is_aligned, accessed, address_at, after_store, store_word, store_at}
+use Rattle.jz_meaning.specs.declared.value.Why.TheVariants.{Bounds, Align}
+use Rattle.jz_meaning.specs.Attempts.{stuck_at, and_then}
+use Rattle.jz_meaning.specs.States.{Value, integer, Key, same_key, Store, put, State}
+use Rattle.jz_meaning.specs.Operators.{word_at}
+use Rattle.jz_meaning.specs.Values.{Ref, Meaning, expr_step, ty_step, access_step, decl_step, var_step, meaning_of, access_of, key_of, cell_key, ref_of, own_size, evaluated, in_cells, index_at, is_aligned, accessed, address_at, after_store, store_word, store_at}
 use Rattle.jz_meaning.specs.Assignments as values
 use Rattle.jz_meaning.specs.Assignments.{Results, left_sizes, left_size, whole_of, word_value, with_value, written, all_written, results_of, conditioned, assigned_whole}
 use Rattle.jz_meaning.specs.Statements as source
@@ -39,29 +39,17 @@ use Rattle.jz_meaning.specs.Statements.{assign}
 use Rattle.jz_run_laws.specs.Kinds.{Kinds, IsOfKinds}
 use Rattle.jz_run_laws.specs.DeclaredKinds.{LeftDeclared}
 use Rattle.jz_run_laws.proofs.Nodes.{operations_keep}
-use Rattle.jz_terms.specs.Terms.{Term, Spot, num, truth, var, cell, load, neg, inv, cast, bin, term_of, place_of, means}
+use Rattle.jz_terms.specs.Terms.{Term, num, truth, var, cell, load, neg, inv, cast, bin, term_of, place_of, means}
 use Rattle.jz_terms.proofs.Bridge.{term_so, place_is, access_at}
-use Rattle.jz_intervals.specs.declared.interval.Interval.{Interval}
 use Rattle.jz_facts.specs.Facts.{Fact, Set, Cell, AtLeast, AtMost, Under, Is, Multiple, Facts, Given, Region, subject}
 use Rattle.jz_facts.specs.Holding.{does, assigned, in_cell, same_cell}
-use Rattle.jz_facts.specs.Intervals.{size_or_64, interval, is_multiple}
-use Rattle.jz_fact_laws.specs.Saying.{Yields, Says, In, is_number}
-use Rattle.jz_fact_laws.proofs.Fitting.{yields_then, yields_defined}
+use Rattle.jz_fact_laws.specs.Saying.{Yields, Says}
+use Rattle.jz_fact_laws.proofs.Fitting.{yields_then}
 use Rattle.jz_fact_laws.proofs.Setting.{same_key-true, same_key-refl}
 use Rattle.jz_fact_laws.proofs.Testing.{either}
-use Rattle.jz_fact_laws.proofs.Ranges.{Good, term_ok}
-use Rattle.jz_alarms.specs.Conditions.{named, memory, unless, or_else, readings, sum_of, in_some_reading, bounds_of, asks, asks_index, asks_access, asks_expr, asks_if, asks_old, asks_left, asks_lefts, asks_assign, asks_operation}
-use Rattle.jz_fact_runs.specs.Typing.{whole, sizes_of, NoNumbers, IsArray, IsSum, IsWord, IsCellAssigned, IsStored}
-use Rattle.jz_fact_runs.specs.Standing.{is_of_cell, IsValid, AreValid, Stands}
-use Rattle.jz_fact_runs.proofs.Held.{holds}
-use Rattle.jz_fact_runs.proofs.SumForms.{sum_word}
-use Rattle.jz_fact_runs.proofs.Making.{OfSize, same_size-refl}
+use Rattle.jz_fact_runs.specs.Typing.{whole, NoNumbers, IsArray, IsCellAssigned}
+use Rattle.jz_fact_runs.specs.Standing.{is_of_cell, AreValid, Stands}
 use Rattle.jz_fact_runs.proofs.Typed.{any_yields}
-use Rattle.jz_fact_runs.proofs.Plain.{plain_word}
-use Rattle.jz_fact_runs.proofs.Totals.{Bytes, bytes_valid}
-use Rattle.jz_fact_runs.proofs.Sums.{met, both_met, Runs, runs_then, runs_yields, StandsFor, total_of, held_vars, totals}
-use Rattle.jz_fact_runs.proofs.Regions.{bytes_there}
-use Rattle.jz_fact_runs.proofs.Firm.{word_of_value, some_size, IsAligned, may_be_aligned, aligned_at, word_runs}
 use Rattle.jz_fact_runs.proofs.Marks.{seat, says_same, put_elsewhere}
 use Rattle.jz_fact_runs.proofs.Assigning.{if_went, three}
 

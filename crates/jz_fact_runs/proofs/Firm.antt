@@ -1,6 +1,6 @@
 -- Where conditions are met, no typed term is stuck.
-use Rattle.std.proofs.Common.{◌≡◌, ◌⊎◌, inl, inr, ℕ, zero, suc, ◌+◌, ◌%◌, ◌^◌, ◌<◌, ◌≤◌, List, [], ◌∷◌, Option, Some, None, Bool, true, false, refl, ap, sym, ◌∙◌, subst, arith, rules, if◌then◌else◌, ℤ, pos}
-use Rattle.std.specs.Prelude.{◌&&◌, ◌||◌, ◌==◌, nat_lt, IsSome}
+use Rattle.std.proofs.Common.{◌≡◌, ◌⊎◌, inl, inr, ℕ, zero, suc, ◌+◌, ◌%◌, ◌^◌, ◌<◌, ◌≤◌, List, [], ◌∷◌, Option, Some, None, Bool, true, false, refl, ap, sym, ◌∙◌, subst, arith, rules, if◌then◌else◌, ℤ}
+use Rattle.std.specs.Prelude.{◌||◌, nat_lt, IsSome}
 use Rattle.std.specs.Option.{option_or}
 use Rattle.std.proofs.lemmas.Bool.{and_parts}
 use Rattle.jz_tree.specs.Span.{Span}
@@ -12,34 +12,32 @@ use Rattle.x64_insn.specs.Memory.{loaded}
 use Rattle.jz_tree.specs.declared.expr.BinOp.{BinOp}
 use Rattle.jz_tree.specs.declared.expr.BinOp.TheVariants as o
 use Rattle.jz_runs.specs.Rules.{stuck, went}
-use Rattle.jz_meaning.specs.declared.access.Kind.{Kind}
 use Rattle.jz_meaning.specs.declared.access.Kind.TheVariants as kind
-use Rattle.jz_meaning.specs.declared.value.Why.{Why}
 use Rattle.jz_meaning.specs.declared.value.Why.TheVariants.{Bounds, Address, Align, Init, Divide}
 use Rattle.jz_meaning.specs.Attempts.{Evaluation, stuck_at, numbers_first, and_then, defined}
 use Rattle.jz_meaning.specs.States.{Value, word, boolean, integer, Key, State}
-use Rattle.jz_meaning.specs.Operators.{binary, is_shift, is_settled, word_of, word_at, negated, inverted, cast as cast_value}
-use Rattle.jz_meaning.specs.Values.{Ref, key_of, cell_key, left_wanted, right_wanted, with_right, in_cells, index_at, cell_value, load_at, load_word, address_at, accessed, is_aligned}
+use Rattle.jz_meaning.specs.Operators.{binary, is_shift, is_settled, word_at, negated, inverted, cast as cast_value}
+use Rattle.jz_meaning.specs.Values.{Ref, key_of, cell_key, left_wanted, right_wanted, with_right, in_cells, index_at, cell_value, load_at, load_word, accessed, is_aligned}
 use Rattle.jz_run_laws.specs.Kinds.{Kinds}
 use Rattle.jz_terms.specs.Terms.{Spot, Term, num, truth, var, cell, load, neg, inv, cast, bin, means, size_in}
-use Rattle.jz_facts.specs.Facts.{Set, Cell, Facts, Given, multiples}
-use Rattle.jz_facts.specs.Intervals.{size_or_64, is_multiple, multiple}
+use Rattle.jz_facts.specs.Facts.{Set, Cell, Facts, Given}
+use Rattle.jz_facts.specs.Intervals.{size_or_64, is_multiple}
 use Rattle.jz_fact_laws.specs.Saying.{Yields, is_number, MultipleWord}
 use Rattle.jz_fact_laws.proofs.Fitting.{yields_then, yields_all}
 use Rattle.jz_fact_laws.proofs.MultipleTerms.{multiple_word}
 use Rattle.jz_alarms.specs.Conditions.{named, memory, division, unless, or_else, readings, sum_of, in_some_reading, asks_access, all_cells, cell_set, asks_index, divides, asks}
 use Rattle.jz_alarms.specs.AlarmLaws.{Calm}
 use Rattle.jz_alarms.proofs.Meeting.{calm_term}
-use Rattle.jz_fact_runs.specs.Typing.{IsRead, sizes_of, NoNumbers, is_computed, is_compared, is_carried, IsScalar, IsArray, IsFlag, IsCount, IsSum, IsWord, IsAnswer}
+use Rattle.jz_fact_runs.specs.Typing.{IsRead, sizes_of, NoNumbers, is_computed, is_carried, IsFlag, IsCount, IsSum, IsWord, IsAnswer}
 use Rattle.jz_fact_runs.specs.Standing.{Stands}
 use Rattle.jz_fact_runs.proofs.Held.{holds}
 use Rattle.jz_fact_runs.proofs.Counts.{counted}
 use Rattle.jz_fact_runs.proofs.SumForms.{summed, sum_word}
-use Rattle.jz_fact_runs.proofs.Making.{Made, OfSize, IsTruth, OfCount, binary_word, binary_flag, binary_answer, binary_shift, negated_made, inverted_made, cast_made, computed_no_shift, compared_no_shift}
+use Rattle.jz_fact_runs.proofs.Making.{Made, OfSize, IsTruth, OfCount, binary_word, binary_flag, binary_answer, binary_shift, negated_made, cast_made, computed_no_shift, compared_no_shift}
 use Rattle.jz_fact_runs.proofs.Typed.{no_number, typed, answered, flag_typed, count_typed, compared_wanted}
 use Rattle.jz_fact_runs.proofs.Plain.{plain_word, plain_answer, sized_word, sized_answer}
 use Rattle.jz_fact_runs.proofs.Totals.{some_is, Bytes, bytes_loaded}
-use Rattle.jz_fact_runs.proofs.Sums.{met, both_met, Runs, StandsFor, total_of, HeldVars, held_vars, totals}
+use Rattle.jz_fact_runs.proofs.Sums.{met, both_met, Runs, StandsFor, total_of, held_vars, totals}
 use Rattle.jz_fact_runs.proofs.Regions.{bytes_there}
 
 -- it went, or is stuck for a reason of which conditions of intervals speak

@@ -1,6 +1,5 @@
 -- The laws of what is not stuck.
-use Rattle.std.proofs.Common.{◌≡◌, ℕ, [], ◌∷◌, Option, None, Bool, sym, subst}
-use Rattle.jz_tree.specs.Span.{Span}
+use Rattle.std.proofs.Common.{◌≡◌, ℕ, [], ◌∷◌, None, Bool, sym, subst}
 use Rattle.jz_runs.specs.Rules.{stuck, went}
 use Rattle.jz_meaning.specs.Attempts.{Evaluation, and_then}
 use Rattle.jz_meaning.specs.States.{Value, word, boolean, integer, Key, State}

@@ -10,8 +10,7 @@ use Rattle.jz_meaning.specs.declared.access.Kind.{Kind}
 use Rattle.jz_meaning.specs.declared.access.Kind.TheVariants as kind
 use Rattle.jz_meaning.specs.States.{Value, word, boolean, integer, Key, State}
 use Rattle.jz_meaning.specs.Values.{Ref, key_of, cell_key, size_of}
-use Rattle.jz_run_laws.specs.Kinds.{Kinds, cell_of, part_of, kind_at, IsOfKind, HoldsBytes, IsOfKinds}
-use Rattle.jz_run_laws.specs.DeclaredKinds.{IsDeclared}
+use Rattle.jz_run_laws.specs.Kinds.{Kinds, cell_of, part_of, kind_at, IsOfKind, HoldsBytes}
 use Rattle.jz_facts.specs.Facts.{Facts, Given}
 use Rattle.jz_fact_laws.specs.Saying.{Fits, Holds}
 use Rattle.jz_fact_runs.specs.Typing.{sizes_of, NoNumbers, IsScalar, IsArray}

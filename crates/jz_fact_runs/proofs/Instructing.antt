@@ -1,12 +1,10 @@
 -- Instructions: what their left sides get, and where runs stand behind them.
-use Rattle.std.proofs.Common.{◌≡◌, ◌⊎◌, inl, inr, ℕ, List, [], ◌∷◌, ◌++◌, Option, Some, None, Bool, true, false, refl, ap, sym, ◌∙◌, subst, if◌then◌else◌}
-use Rattle.std.specs.Prelude.{map, IsSome, All}
+use Rattle.std.proofs.Common.{◌≡◌, ◌⊎◌, inl, ℕ, List, [], ◌∷◌, Option, Some, None, Bool, true, false, refl}
 use Rattle.jz_tree.specs.Span.{Span}
 use Rattle.x64_insn.specs.Size.{Size}
-use Rattle.x64_insn.specs.declared.types.FlagVal.{FlagVal}
 use Rattle.x64_insn.specs.Words.{swapped_of}
-use Rattle.x64_insn.specs.Answers.{flag, flags_of, result_flags, sum_answer, difference_answer, and_answer, or_answer, xor_answer, alu_answer, one_answer}
-use Rattle.x64_insn.specs.Products.{no_flags, product_flags, product_answer, low_product_answer}
+use Rattle.x64_insn.specs.Answers.{flag, flags_of, sum_answer, difference_answer, and_answer, or_answer, xor_answer, alu_answer, one_answer}
+use Rattle.x64_insn.specs.Products.{product_answer, low_product_answer}
 use Rattle.x64_insn.specs.declared.types.Alu.{Alu}
 use Rattle.x64_insn.specs.declared.types.Alu.TheVariants as alu
 use Rattle.x64_insn.specs.declared.types.One.TheVariants as one
@@ -15,8 +13,8 @@ use Rattle.jz_tree.specs.declared.intrinsic.Intrinsic.TheVariants as name
 use Rattle.jz_meaning.specs.States.{Value, word, boolean}
 use Rattle.jz_meaning.specs.Assignments.{Results}
 use Rattle.jz_meaning.specs.Intrinsics.{flag_result, all_flags, all_but_carry, before_value, alu_results, one_results, low_product_results, product_results, no_results, of_one, of_two, of_carry, intrinsic_results}
-use Rattle.jz_facts.specs.Holding.{Gets, none, some_value, the_word, flags, five, and_values, instruction_gets}
-use Rattle.jz_fact_runs.specs.Fine.{Shape, a_flag, a_word, five_flags, flags_and_word, shapes_of, one_word, two_words, with_carry, another, form_of}
+use Rattle.jz_facts.specs.Holding.{Gets, none, some_value, flags, five, and_values, instruction_gets}
+use Rattle.jz_fact_runs.specs.Fine.{Shape, a_flag, a_word, five_flags, flags_and_word, shapes_of, one_word, two_words, with_carry, form_of}
 
 -- what a left side gets
 abbrev pub IsGot : Gets → Shape → Option Value → Type 0

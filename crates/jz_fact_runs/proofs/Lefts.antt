@@ -15,33 +15,33 @@ use Rattle.jz_runs.specs.Rules.{stuck, went}
 use Rattle.jz_meaning.specs.declared.access.Kind.{Kind}
 use Rattle.jz_meaning.specs.declared.access.Kind.TheVariants as kind
 use Rattle.jz_meaning.specs.Attempts.{Evaluation, and_then, defined}
-use Rattle.jz_meaning.specs.States.{Value, word, boolean, integer, Key, same_key, Store, put, State}
-use Rattle.jz_meaning.specs.Operators.{word_at, same_size}
-use Rattle.jz_meaning.specs.Values.{Ref, Meaning, key_of, ref_of, evaluated}
-use Rattle.jz_meaning.specs.Assignments.{Results, word_in, bool_in, held, held_or_unset, with_value, written, all_written as all_put, truth as truth_of}
-use Rattle.jz_meaning.specs.Intrinsics.{of_one, of_two, of_carry, intrinsic_results, intrinsic_size, sized_results, instruction_done}
+use Rattle.jz_meaning.specs.States.{Value, word, boolean, integer, Key, same_key, put, State}
+use Rattle.jz_meaning.specs.Operators.{word_at}
+use Rattle.jz_meaning.specs.Values.{Ref, Meaning, key_of, ref_of}
+use Rattle.jz_meaning.specs.Assignments.{Results, word_in, bool_in, held_or_unset, with_value, written, all_written as all_put, truth as truth_of}
+use Rattle.jz_meaning.specs.Intrinsics.{intrinsic_results, intrinsic_size, sized_results, instruction_done}
 use Rattle.jz_run_laws.specs.Kinds.{Kinds, IsOfKinds}
 use Rattle.jz_run_laws.specs.DeclaredKinds.{LeftDeclared}
 use Rattle.jz_run_laws.proofs.Instructions.{instruction_keeps}
 use Rattle.jz_terms.specs.Terms.{Term, num, truth, var, cell, load, neg, inv, cast, bin, term_of, means}
 use Rattle.jz_terms.proofs.Bridge.{term_so}
 use Rattle.jz_facts.specs.Facts.{Fact, Set, Cell, AtLeast, AtMost, Under, Is, Multiple, Facts, Given, subject}
-use Rattle.jz_facts.specs.Holding.{Gets, none, some_value, the_word, renewed, nothing, only_set, gained, all_written, counted, instruction_gets, instructed}
+use Rattle.jz_facts.specs.Holding.{Gets, none, some_value, the_word, renewed, only_set, gained, all_written, counted, instruction_gets, instructed}
 use Rattle.jz_fact_laws.specs.Saying.{Yields, Says, is_number}
 use Rattle.jz_fact_laws.proofs.Fitting.{yields_then}
 use Rattle.jz_fact_laws.proofs.Setting.{same_key-true, same_key-refl}
-use Rattle.jz_alarms.specs.Conditions.{asks, asks_expr, asks_each, asks_instruction, or_else}
+use Rattle.jz_alarms.specs.Conditions.{asks, asks_expr, asks_each, asks_instruction}
 use Rattle.jz_fact_runs.specs.Typing.{whole, NoNumbers, IsScalar, IsFlag, IsWord}
 use Rattle.jz_fact_runs.specs.Fine.{Shape, a_flag, a_word, shapes_of, Form, one_word, two_words, with_carry, another, form_of, TakesShape, TakeShapes, AreOperands, IsInstructed}
 use Rattle.jz_fact_runs.specs.Standing.{is_of_cell, AreValid, Stands}
 use Rattle.jz_fact_runs.proofs.Making.{OfSize, IsTruth, same_size-refl}
-use Rattle.jz_fact_runs.proofs.Typed.{any_yields, flag_typed}
+use Rattle.jz_fact_runs.proofs.Typed.{any_yields}
 use Rattle.jz_fact_runs.proofs.Sums.{both_met, Runs, runs_then, runs_yields}
 use Rattle.jz_fact_runs.proofs.Firm.{word_runs, answer_runs}
 use Rattle.jz_fact_runs.proofs.Marks.{seat, says_same, put_elsewhere, scalar_elsewhere}
 use Rattle.jz_fact_runs.proofs.Assigning.{if_went, three}
 use Rattle.jz_fact_runs.proofs.Writing.{word_goes}
-use Rattle.jz_fact_runs.proofs.Instructing.{IsGot, AreGot, TwoWords, OneWord, WithCarry, two_of, one_of, carry_of}
+use Rattle.jz_fact_runs.proofs.Instructing.{IsGot, AreGot, two_of, one_of, carry_of}
 
 module _ (g : Given) (kinds : Kinds) (in_frame : Key → Bool) (entry : Key → ℕ) (first : Facts) (m : Memory) where
   -- the facts hold of this state, whose memory is m

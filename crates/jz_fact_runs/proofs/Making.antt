@@ -1,11 +1,10 @@
 -- What operations on values of the sizes that are wanted give: a word, an answer, or they are stuck
 -- by a division.
-use Rattle.std.proofs.Common.{◌≡◌, ℕ, ◌<◌, List, [], ◌∷◌, Option, Some, None, Bool, true, false, refl, ap, sym, ◌∙◌, subst, if◌then◌else◌, ℤ, pos, negsuc}
-use Rattle.std.specs.Prelude.{◌&&◌, ◌||◌, ◌==◌, not}
+use Rattle.std.proofs.Common.{◌≡◌, ℕ, [], ◌∷◌, Option, Some, Bool, true, false, refl, ap, sym, ◌∙◌, subst, if◌then◌else◌, ℤ, pos, negsuc}
+use Rattle.std.specs.Prelude.{◌&&◌, ◌||◌, ◌==◌}
 use Rattle.jz_tree.specs.Span.{Span}
 use Rattle.x64_insn.specs.Size.{Size}
 use Rattle.x64_insn.specs.Size.TheVariants.{S8, S16, S32, S64}
-use Rattle.x64_insn.specs.Sizes.{bits_of}
 use Rattle.x64_insn.specs.Words.{residue}
 use Rattle.jz_tree.specs.declared.expr.BinOp.{BinOp}
 use Rattle.jz_tree.specs.declared.expr.BinOp.TheVariants as o
@@ -13,7 +12,7 @@ use Rattle.jz_runs.specs.Rules.{stuck, went}
 use Rattle.jz_meaning.specs.declared.value.Why.TheVariants.{Divide, Init}
 use Rattle.jz_meaning.specs.Attempts.{Evaluation, stuck_at, defined}
 use Rattle.jz_meaning.specs.States.{Value, word, boolean, integer}
-use Rattle.jz_meaning.specs.Operators.{same_size, on_words, plain, divided, signed_divided, sign_word, is_least_by_minus_one, shifted_word, by_flag, combined, shifted, binary, is_shift, is_settled, negated, inverted, cast as cast_value, word_of}
+use Rattle.jz_meaning.specs.Operators.{same_size, on_words, divided, signed_divided, sign_word, is_least_by_minus_one, shifted_word, by_flag, combined, shifted, binary, is_shift, is_settled, negated, inverted, cast as cast_value}
 use Rattle.jz_fact_runs.specs.Typing.{is_computed, is_compared, is_carried}
 
 -- it went, and this is so of what came out; or it is stuck by a division

@@ -1,6 +1,6 @@
 -- Where a run stands before a mark it stands behind it.
-use Rattle.std.proofs.Common.{◌≡◌, ◌⊎◌, inl, inr, ℕ, zero, suc, List, [], ◌∷◌, Option, Some, None, Bool, true, false, true≢false, refl, ap, sym, ◌∙◌, subst, if◌then◌else◌, ◌<◌, ◌≤◌, ◌%◌}
-use Rattle.std.specs.Prelude.{not, ◌&&◌, ◌||◌, IsSome}
+use Rattle.std.proofs.Common.{◌≡◌, ℕ, zero, suc, List, [], ◌∷◌, Option, Some, None, Bool, true, false, true≢false, refl, ap, sym, ◌∙◌, subst, if◌then◌else◌, ◌<◌, ◌≤◌, ◌%◌}
+use Rattle.std.specs.Prelude.{not, ◌||◌, IsSome}
 use Rattle.std.proofs.lemmas.Bool.{and_parts}
 use Rattle.jz_tree.specs.Span.{Span}
 use Rattle.jz_tree.specs.declared.expr.Var.{Var}

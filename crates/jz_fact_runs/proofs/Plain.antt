@@ -1,28 +1,26 @@
 -- What the laws of facts ask of terms, of typed ones.
-use Rattle.std.proofs.Common.{◌≡◌, ◌⊎◌, inl, inr, ℕ, Option, Some, None, Bool, true, false, refl, ap, sym, ◌∙◌, subst, if◌then◌else◌, pos, negsuc}
-use Rattle.std.specs.Prelude.{◌&&◌, nat_lt}
+use Rattle.std.proofs.Common.{◌≡◌, ◌⊎◌, inl, inr, ℕ, Option, Some, None, Bool, true, false, refl, ap, sym, ◌∙◌, subst, if◌then◌else◌}
+use Rattle.std.specs.Prelude.{nat_lt}
 use Rattle.std.specs.Option.{option_or}
 use Rattle.x64_insn.specs.Size.{Size}
 use Rattle.x64_insn.specs.Size.TheVariants.{S8, S64}
 use Rattle.jz_tree.specs.declared.expr.BinOp.{BinOp}
-use Rattle.jz_tree.specs.declared.expr.BinOp.TheVariants as o
 use Rattle.jz_meaning.specs.declared.access.Kind.{Kind}
 use Rattle.jz_meaning.specs.declared.access.Kind.TheVariants as kind
-use Rattle.jz_meaning.specs.Attempts.{Evaluation}
 use Rattle.jz_meaning.specs.States.{Value, word, boolean, integer, Key, State}
 use Rattle.jz_meaning.specs.Operators.{is_shift}
-use Rattle.jz_meaning.specs.Values.{Ref, key_of, cell_key, size_of, left_wanted, right_wanted}
-use Rattle.jz_run_laws.specs.Kinds.{Kinds, cell_of, part_of}
+use Rattle.jz_meaning.specs.Values.{Ref, key_of, size_of, left_wanted, right_wanted}
+use Rattle.jz_run_laws.specs.Kinds.{Kinds, part_of}
 use Rattle.jz_terms.specs.Terms.{Term, num, truth, var, cell, load, neg, inv, cast, bin, means, size_in}
 use Rattle.jz_facts.specs.Facts.{Facts, Given}
 use Rattle.jz_facts.specs.Intervals.{size_or_64}
 use Rattle.jz_fact_laws.specs.Saying.{Yields, HasSize, is_number, IsPlain, IsSized, AreSized}
 use Rattle.jz_fact_laws.proofs.Fitting.{yields_all}
-use Rattle.jz_fact_runs.specs.Typing.{IsRead, sizes_of, is_computed, is_compared, is_carried, IsScalar, IsArray, IsFlag, IsCount, IsWord, IsAnswer}
+use Rattle.jz_fact_runs.specs.Typing.{IsRead, sizes_of, is_computed, is_carried, IsScalar, IsArray, IsFlag, IsCount, IsWord, IsAnswer}
 use Rattle.jz_fact_runs.specs.Standing.{Stands}
 use Rattle.jz_fact_runs.proofs.Counts.{counted}
 use Rattle.jz_fact_runs.proofs.SumForms.{sum_word}
-use Rattle.jz_fact_runs.proofs.Making.{OfSize, IsTruth, computed_no_shift, compared_no_shift, carried_computed}
+use Rattle.jz_fact_runs.proofs.Making.{OfSize, IsTruth, computed_no_shift, compared_no_shift}
 use Rattle.jz_fact_runs.proofs.Typed.{typed, flag_typed, compared_wanted}
 
 size_of_word : (k : Kind) (c : Option ℕ) (z : Size) → part_of k c ≡ kind.Word z → size_of k ≡ Some z

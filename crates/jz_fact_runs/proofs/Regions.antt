@@ -1,6 +1,6 @@
 -- An address that some reading puts into a region has valid bytes.
-use Rattle.std.proofs.Common.{◌≡◌, ◌⊎◌, inl, inr, ℕ, ◌+◌, ◌-◌, ◌*◌, ◌%◌, ◌^◌, ◌<◌, ◌≤◌, List, [], ◌∷◌, ◌++◌, Option, Some, None, Bool, true, false, refl, ap, sym, ◌∙◌, subst, arith, rules, if◌then◌else◌, ℤ, pos, negsuc, ◌+ℤ◌, ◌-ℤ◌, ◌≤ℤ◌}
-use Rattle.std.specs.Prelude.{◌&&◌, ◌||◌, int_le, nat_le, IsSome}
+use Rattle.std.proofs.Common.{◌≡◌, ◌⊎◌, inl, inr, ℕ, ◌+◌, ◌*◌, ◌^◌, ◌<◌, ◌≤◌, List, [], ◌∷◌, ◌++◌, Option, Some, None, Bool, true, false, refl, ap, sym, ◌∙◌, subst, arith, rules, ℤ, pos, negsuc, ◌+ℤ◌, ◌-ℤ◌, ◌≤ℤ◌}
+use Rattle.std.specs.Prelude.{◌||◌, int_le, nat_le, IsSome}
 use Rattle.std.specs.FinMap.{get}
 use Rattle.std.proofs.lemmas.Bool.{and_parts}
 use Rattle.std.proofs.lemmas.Int.{ints}
@@ -13,9 +13,8 @@ use Rattle.jz_meaning.specs.Attempts.{defined}
 use Rattle.jz_meaning.specs.States.{word, Key, State}
 use Rattle.jz_meaning.specs.Values.{Ref, key_of}
 use Rattle.jz_run_laws.specs.Kinds.{Kinds}
-use Rattle.jz_terms.specs.Terms.{Term, num, var, bin, means}
-use Rattle.jz_intervals.specs.declared.interval.Interval.{Interval}
-use Rattle.jz_facts.specs.Facts.{Is, Under, Facts, Region, Given, least_of}
+use Rattle.jz_terms.specs.Terms.{Term, num, var, bin}
+use Rattle.jz_facts.specs.Facts.{Is, Under, Facts, Region, Given}
 use Rattle.jz_facts.specs.Intervals.{interval}
 use Rattle.jz_fact_laws.specs.Saying.{HasWord, Yields, In}
 use Rattle.jz_fact_laws.proofs.Testing.{either}

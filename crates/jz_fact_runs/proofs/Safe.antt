@@ -1,50 +1,45 @@
 -- Where a function has no alarm, no run of it is stuck.
-use Rattle.std.proofs.Common.{◌≡◌, ℕ, List, [], ◌∷◌, Option, Some, None, Bool, true, false, refl, ap, sym, ◌∙◌, subst}
+use Rattle.std.proofs.Common.{◌≡◌, ℕ, List, [], ◌∷◌, Some, None, Bool, true, false, refl, ap, sym, ◌∙◌, subst}
 use Rattle.jz_tree.specs.Span.{Span}
 use Rattle.x64_insn.specs.Size.{Size}
-use Rattle.jz_tree.specs.declared.expr.BinOp.{BinOp}
-use Rattle.jz_tree.specs.declared.expr.Expr.{Expr}
 use Rattle.jz_tree.specs.declared.expr.Var.{Var}
-use Rattle.jz_tree.specs.declared.stmt.Lval.{Lval}
 use Rattle.jz_tree.specs.declared.stmt.Lval.TheVariants as lval
 use Rattle.jz_tree.specs.Spellings.{spelled}
 use Rattle.jz_runs.specs.RunLeaks.{Leak}
-use Rattle.jz_runs.specs.Rules.{stuck, went, Outcome, End, Cut, Stuck, Goes}
+use Rattle.jz_runs.specs.Rules.{stuck, went, Outcome, End, Cut, Stuck}
 use Rattle.jz_meaning.specs.declared.access.Kind.TheVariants as kind
 use Rattle.jz_meaning.specs.declared.value.Why.TheVariants.{Init}
 use Rattle.jz_meaning.specs.declared.value.Stuck as code
 use Rattle.jz_meaning.specs.Attempts.{Evaluation, and_then, defined}
-use Rattle.jz_meaning.specs.States.{Value, word, boolean, integer, Key, Store, State}
+use Rattle.jz_meaning.specs.States.{Value, word, boolean, integer, Key, State}
 use Rattle.jz_meaning.specs.Values.{key_of, ref_of}
 use Rattle.jz_meaning.specs.Statements as source
 use Rattle.jz_meaning.specs.Statements.{Operation, Condition, Block, assign, instruction, unset, meaningless}
 use Rattle.jz_meaning.specs.Assignments.{truth as truth_of}
 use Rattle.jz_meaning.specs.Runs.{only_word, result_word, result_words, outcome_of_words, outcome_of_body}
 use Rattle.jz_run_laws.specs.Kinds.{Kinds, IsOfKind}
-use Rattle.jz_flow.specs.Sets.{Facts as Sets, Below}
-use Rattle.jz_flow.specs.Flow.{After}
+use Rattle.jz_flow.specs.Sets.{Below}
 use Rattle.jz_flow.specs.Alarms.{Meets, no_more}
-use Rattle.jz_flow.specs.Soundness.{AllAre, Fine, Sound}
+use Rattle.jz_flow.specs.Soundness.{Fine, Sound}
 use Rattle.jz_flow.proofs.Calm.{calm}
 use Rattle.jz_flow.proofs.Holding.{sound}
 use Rattle.jz_terms.specs.Terms.{Term, num, truth, var, cell, load, neg, inv, cast, bin, term_of, means}
 use Rattle.jz_terms.proofs.Bridge.{term_so}
-use Rattle.jz_facts.specs.Facts.{Fact, Set, Facts, Given, at_entry}
+use Rattle.jz_facts.specs.Facts.{Set, Facts, Given, at_entry}
 use Rattle.jz_facts.specs.Holding.{does, quieted}
 use Rattle.jz_facts.specs.Tests.{tested, leaving, leaves}
 use Rattle.jz_facts.specs.Along.{fact_steps}
 use Rattle.jz_facts.proofs.MoreFacts.{monotone}
 use Rattle.jz_fact_laws.specs.Saying.{Yields}
-use Rattle.jz_alarms.specs.Conditions.{named, asks_operation, asks_test, asks_results}
-use Rattle.jz_alarms.specs.Alarms.{fact_asks, IsFirstAlarm}
-use Rattle.jz_fact_runs.specs.Typing.{NoNumbers, IsAnswer}
+use Rattle.jz_alarms.specs.Conditions.{named, asks_operation, asks_results}
+use Rattle.jz_alarms.specs.Alarms.{fact_asks}
+use Rattle.jz_fact_runs.specs.Typing.{NoNumbers}
 use Rattle.jz_fact_runs.specs.Fine.{IsFine, IsFineTest, AreResults}
 use Rattle.jz_fact_runs.specs.Standing.{Stands}
 use Rattle.jz_fact_runs.specs.RunLaws.{BodiesGo, SafeGoes}
 use Rattle.jz_fact_runs.proofs.Held.{scalar_holds}
 use Rattle.jz_fact_runs.proofs.Totals.{some_is}
 use Rattle.jz_fact_runs.proofs.Sums.{met, both_met, Runs, runs_then}
-use Rattle.jz_fact_runs.proofs.Firm.{answer_runs}
 use Rattle.jz_fact_runs.proofs.Apart.{tested_stands}
 use Rattle.jz_fact_runs.proofs.Marks.{marked_stands}
 use Rattle.jz_fact_runs.proofs.Assigning.{assigned_stands, assigned_runs}

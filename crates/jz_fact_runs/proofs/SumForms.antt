@@ -1,5 +1,5 @@
 -- The forms of an index or an address.
-use Rattle.std.proofs.Common.{◌≡◌, ◌⊎◌, inl, inr, ℕ, Bool, true, false, Option, Some, None, refl, ℤ, pos, negsuc}
+use Rattle.std.proofs.Common.{◌≡◌, inl, inr, ℕ, Bool, true, false, Some, refl, ℤ, pos, negsuc}
 use Rattle.std.specs.Prelude.{◌&&◌}
 use Rattle.jz_tree.specs.Span.{Span}
 use Rattle.x64_insn.specs.Size.TheVariants.{S64}

@@ -1,16 +1,12 @@
 -- The value of an index or an address, and that an address that lies in a region has valid bytes.
-use Rattle.std.proofs.Common.{◌≡◌, ◌⊎◌, inl, inr, ℕ, ◌+◌, ◌-◌, ◌*◌, ◌%◌, ◌^◌, ◌<◌, ◌≤◌, List, [], ◌∷◌, ◌++◌, Option, Some, None, Bool, true, false, refl, ap, sym, ◌∙◌, subst, arith, rules, if◌then◌else◌, ℤ, pos, negsuc, ◌+ℤ◌, ◌-ℤ◌, ◌≤ℤ◌}
-use Rattle.std.specs.Prelude.{◌&&◌, ◌||◌, int_le, nat_le, IsSome}
-use Rattle.std.proofs.lemmas.Bool.{and_parts}
-use Rattle.std.proofs.lemmas.Int.{ints}
+use Rattle.std.proofs.Common.{◌≡◌, ℕ, ◌+◌, ◌-◌, ◌*◌, ◌%◌, ◌^◌, ◌<◌, List, [], Option, Some, None, Bool, true, false, refl, ap, sym, ◌∙◌, subst, arith, if◌then◌else◌, ℤ, pos, ◌+ℤ◌, ◌-ℤ◌}
+use Rattle.std.specs.Prelude.{◌&&◌}
 use Rattle.std.proofs.lemmas.Nat.{mul-mod_first, mul-mod_second}
-use Rattle.std.proofs.Math.Nat.{mul-le-mul, mul-le-mul_left}
 use Rattle.jz_tree.specs.Span.{Span}
 use Rattle.x64_insn.specs.Size.{Size}
 use Rattle.x64_insn.specs.Size.TheVariants.{S64}
 use Rattle.x64_insn.specs.Sizes.{modulus}
 use Rattle.x64_insn.specs.Words.{residue, sum_of, difference_of}
-use Rattle.jz_tree.specs.declared.expr.BinOp.{BinOp}
 use Rattle.jz_tree.specs.declared.expr.BinOp.TheVariants as o
 use Rattle.jz_runs.specs.Rules.{stuck, went}
 use Rattle.jz_meaning.specs.declared.access.Kind.TheVariants as kind
@@ -18,22 +14,19 @@ use Rattle.jz_meaning.specs.declared.value.Why.{Why}
 use Rattle.jz_meaning.specs.declared.value.Why.TheVariants.{Init}
 use Rattle.jz_meaning.specs.Attempts.{Evaluation, stuck_at, numbers_first, and_then, defined}
 use Rattle.jz_meaning.specs.States.{Value, word, boolean, integer, Key, State}
-use Rattle.jz_meaning.specs.Operators.{same_size, on_words, combined, binary, word_of}
+use Rattle.jz_meaning.specs.Operators.{same_size, on_words, combined, binary}
 use Rattle.jz_meaning.specs.Values.{Ref, key_of, with_right}
 use Rattle.jz_run_laws.specs.Kinds.{Kinds, IsOfKind}
-use Rattle.jz_terms.specs.Terms.{Term, num, truth, var, cell, load, neg, inv, cast, bin, means}
-use Rattle.jz_intervals.specs.declared.interval.Interval.{Interval}
-use Rattle.jz_facts.specs.Facts.{Set, Is, Under, Facts, Region, Given, least_of}
-use Rattle.jz_facts.specs.Intervals.{interval, of_variable}
-use Rattle.jz_fact_laws.specs.Saying.{HasWord, Yields, In, is_number, Holds}
-use Rattle.jz_fact_laws.proofs.Ranges.{Good, term_ok}
-use Rattle.jz_alarms.specs.Conditions.{Target, Alarm, named, or_else, unless, Sum, joined, taken, sum_of as sum_in, Reading, readings_of, readings, scaled_interval, least_length, below_length, is_inside, in_some_region, in_some_reading, asks}
-use Rattle.jz_fact_runs.specs.Typing.{NoNumbers, IsScalar, IsSum, sizes_of}
-use Rattle.jz_fact_runs.specs.Standing.{length_of, IsValid, AreValid, Stands}
-use Rattle.jz_fact_runs.proofs.Held.{holds, scalar_holds}
+use Rattle.jz_terms.specs.Terms.{Term, num, var, bin, means}
+use Rattle.jz_facts.specs.Facts.{Set, Facts, Given}
+use Rattle.jz_fact_laws.specs.Saying.{Yields, is_number}
+use Rattle.jz_alarms.specs.Conditions.{Target, Alarm, named, or_else, unless, asks}
+use Rattle.jz_fact_runs.specs.Typing.{NoNumbers, IsScalar, IsSum}
+use Rattle.jz_fact_runs.specs.Standing.{Stands}
+use Rattle.jz_fact_runs.proofs.Held.{scalar_holds}
 use Rattle.jz_fact_runs.proofs.Making.{never_both, same_size-refl}
 use Rattle.jz_fact_runs.proofs.SumForms.{summed}
-use Rattle.jz_fact_runs.proofs.Totals.{residue_sum, residue_difference, residue_word, some_is, Bytes}
+use Rattle.jz_fact_runs.proofs.Totals.{residue_sum, residue_difference, residue_word, some_is}
 
 -- ---- conditions that are met
 

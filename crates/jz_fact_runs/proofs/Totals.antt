@@ -1,5 +1,5 @@
 -- Words as whole numbers modulo 2 ^ 64, and the bytes of a region.
-use Rattle.std.proofs.Common.{◌≡◌, ℕ, zero, suc, ◌+◌, ◌-◌, ◌*◌, ◌%◌, ◌^◌, ◌<◌, ◌≤◌, Bool, true, false, Option, Some, None, refl, ap, sym, ◌∙◌, subst, arith, ℤ, pos, negsuc, ◌+ℤ◌, ◌-ℤ◌, ◌*ℤ◌, ◌≤ℤ◌}
+use Rattle.std.proofs.Common.{◌≡◌, ℕ, zero, suc, ◌+◌, ◌-◌, ◌*◌, ◌%◌, ◌^◌, ◌<◌, ◌≤◌, Bool, true, false, Option, Some, None, refl, sym, subst, arith, ℤ, pos, ◌+ℤ◌, ◌-ℤ◌, ◌*ℤ◌}
 use Rattle.std.specs.Prelude.{IsSome, is_some, ◌&&◌}
 use Rattle.std.specs.Option.{option_and_then}
 use Rattle.std.specs.Int.{int_div_euclid}
@@ -7,7 +7,6 @@ use Rattle.std.specs.FinMap.{get}
 use Rattle.std.proofs.lemmas.Int.{ints}
 use Rattle.std.proofs.Math.Nat.{mod-eq_of_lt}
 use Rattle.x64_insn.specs.Size.TheVariants.{S64}
-use Rattle.x64_insn.specs.Sizes.{modulus}
 use Rattle.x64_insn.specs.Words.{residue}
 use Rattle.x64_insn.specs.Memory.{Memory, loaded, all_valid}
 use Rattle.jz_words.proofs.Residues.{residue_small, divided_by_words}

@@ -1,5 +1,5 @@
 -- What typed terms give: words of their size, and answers.
-use Rattle.std.proofs.Common.{◌≡◌, ◌⊎◌, inl, inr, ℕ, List, [], ◌∷◌, Option, Some, None, Bool, true, false, refl, ap, sym, ◌∙◌, subst, if◌then◌else◌, ℤ}
+use Rattle.std.proofs.Common.{◌≡◌, ◌⊎◌, inl, inr, ℕ, [], Option, Some, None, Bool, true, false, refl, ap, sym, ◌∙◌, subst, if◌then◌else◌, ℤ}
 use Rattle.std.specs.Prelude.{◌&&◌, ◌||◌}
 use Rattle.std.specs.Option.{option_or}
 use Rattle.jz_tree.specs.Span.{Span}
@@ -10,7 +10,6 @@ use Rattle.x64_insn.specs.Memory.{loaded}
 use Rattle.jz_tree.specs.declared.expr.BinOp.{BinOp}
 use Rattle.jz_tree.specs.declared.expr.BinOp.TheVariants as o
 use Rattle.jz_runs.specs.Rules.{stuck, went}
-use Rattle.jz_meaning.specs.declared.access.Kind.{Kind}
 use Rattle.jz_meaning.specs.declared.access.Kind.TheVariants as kind
 use Rattle.jz_meaning.specs.Attempts.{Evaluation, and_then, defined}
 use Rattle.jz_meaning.specs.States.{Value, word, boolean, integer, Key, State}
@@ -19,10 +18,9 @@ use Rattle.jz_meaning.specs.Values.{Ref, key_of, cell_key, left_wanted, right_wa
 use Rattle.jz_run_laws.specs.Kinds.{Kinds, IsOfKind}
 use Rattle.jz_terms.specs.Terms.{Term, num, truth, var, cell, load, neg, inv, cast, bin, means, size_in}
 use Rattle.jz_facts.specs.Facts.{Facts, Given}
-use Rattle.jz_facts.specs.Intervals.{size_or_64}
-use Rattle.jz_fact_laws.specs.Saying.{Yields, HasSize, is_number, IsPlain, IsSized, AreSized}
+use Rattle.jz_fact_laws.specs.Saying.{Yields, is_number}
 use Rattle.jz_fact_laws.proofs.Fitting.{yields_then, yields_defined, yields_if, yields_all}
-use Rattle.jz_fact_runs.specs.Typing.{IsRead, sizes_of, is_computed, is_compared, is_carried, IsScalar, IsArray, IsFlag, IsCount, IsWord, IsAnswer}
+use Rattle.jz_fact_runs.specs.Typing.{IsRead, is_computed, is_compared, is_carried, IsScalar, IsFlag, IsCount, IsWord, IsAnswer}
 use Rattle.jz_fact_runs.specs.Standing.{Stands}
 use Rattle.jz_fact_runs.proofs.Held.{scalar_holds, cell_holds}
 use Rattle.jz_fact_runs.proofs.Counts.{counted}

@@ -1,13 +1,13 @@
 -- Where its conditions are given an assignment to a cell or to memory is not stuck.
-use Rattle.std.proofs.Common.{◌≡◌, ◌⊎◌, ℕ, ◌+◌, ◌^◌, ◌<◌, ◌≤◌, List, [], ◌∷◌, Option, Some, None, Bool, true, false, refl, ap, sym, ◌∙◌, subst, arith, rules, if◌then◌else◌}
-use Rattle.std.specs.Prelude.{◌&&◌, ◌||◌, nat_lt}
+use Rattle.std.proofs.Common.{◌≡◌, ◌⊎◌, ℕ, ◌+◌, ◌^◌, ◌<◌, ◌≤◌, [], ◌∷◌, Option, Some, None, Bool, true, false, refl, ap, sym, subst, arith, rules, if◌then◌else◌}
+use Rattle.std.specs.Prelude.{◌||◌, nat_lt}
 use Rattle.std.specs.Option.{option_or}
 use Rattle.jz_tree.specs.Span.{Span}
 use Rattle.x64_insn.specs.Size.{Size}
 use Rattle.x64_insn.specs.Size.TheVariants.{S64}
 use Rattle.x64_insn.specs.Sizes.{bytes_of}
 use Rattle.x64_insn.specs.Words.{residue}
-use Rattle.x64_insn.specs.Memory.{Memory, stored, all_valid}
+use Rattle.x64_insn.specs.Memory.{stored}
 use Rattle.jz_tree.specs.declared.expr.BinOp.{BinOp}
 use Rattle.jz_tree.specs.declared.expr.Expr.{Expr}
 use Rattle.jz_tree.specs.declared.expr.Access.{Access}
@@ -20,20 +20,20 @@ use Rattle.jz_meaning.specs.declared.value.Why.TheVariants.{Bounds, Address, Ali
 use Rattle.jz_meaning.specs.Attempts.{Evaluation, stuck_at, and_then, defined}
 use Rattle.jz_meaning.specs.States.{Value, word, boolean, integer, Key, State}
 use Rattle.jz_meaning.specs.Operators.{word_at, same_size}
-use Rattle.jz_meaning.specs.Values.{Ref, MemoryAccess, Meaning, access_of, cell_key, ref_of, own_size, evaluated, size_of, in_cells, index_at, is_aligned, accessed, address_at, after_store, store_word, store_at}
+use Rattle.jz_meaning.specs.Values.{Ref, MemoryAccess, Meaning, cell_key, ref_of, own_size, size_of, in_cells, index_at, is_aligned, accessed, after_store, store_word, store_at}
 use Rattle.jz_meaning.specs.Assignments as values
 use Rattle.jz_meaning.specs.Assignments.{Results, left_sizes, left_size, whole_of, as_expr, word_value, with_value, written, all_written, results_of, conditioned, assigned_whole}
 use Rattle.jz_meaning.specs.Statements as source
 use Rattle.jz_meaning.specs.Statements.{assign}
 use Rattle.jz_run_laws.specs.Kinds.{Kinds}
-use Rattle.jz_terms.specs.Terms.{Term, Place, term_of, place_of, means}
+use Rattle.jz_terms.specs.Terms.{Place, term_of, place_of, means}
 use Rattle.jz_terms.proofs.Bridge.{term_so, access_at}
 use Rattle.jz_intervals.specs.declared.interval.Interval.{Interval}
 use Rattle.jz_facts.specs.Facts.{Facts, Given}
 use Rattle.jz_facts.specs.Intervals.{size_or_64, interval, is_multiple}
 use Rattle.jz_fact_laws.specs.Saying.{Yields, In, is_number}
 use Rattle.jz_fact_laws.proofs.Ranges.{Good, term_ok}
-use Rattle.jz_alarms.specs.Conditions.{named, memory, unless, or_else, readings, sum_of, in_some_reading, bounds_of, asks, asks_index, asks_access, asks_expr, asks_if, asks_old, asks_left, asks_lefts, asks_assign, asks_operation}
+use Rattle.jz_alarms.specs.Conditions.{named, memory, unless, or_else, readings, sum_of, in_some_reading, bounds_of, asks, asks_access, asks_expr, asks_left, asks_lefts, asks_assign, asks_operation}
 use Rattle.jz_fact_runs.specs.Typing.{sizes_of, NoNumbers, IsArray, IsSum, IsWord, IsCellAssigned, IsStored}
 use Rattle.jz_fact_runs.specs.Standing.{Stands}
 use Rattle.jz_fact_runs.proofs.Held.{holds}

@@ -20,12 +20,13 @@ use Rattle.jz_homing.specs.declared.homing.Homing.{Homing}
 use Rattle.jz_homing.specs.Tables.{Table, table_in, no_homes, frame_of}
 use Rattle.jz_homing.proofs.EntryLemmas.{none_entered, all_entered}
 use Rattle.jz_homing.proofs.HomingLemmas.{table_is_homing, table_has_kinds}
+use Rattle.jz_total_rows.proofs.Made.{lowered_covered}
 use Rattle.jz_lowering.specs.declared.functions.LoweredFun.{LoweredFun}
 use Rattle.jz_lowering.specs.declared.parts.Lowered.{Lowered}
 use Rattle.jz_lowering.specs.Becoming.{no_callees, Becomes}
 use Rattle.jz_lowering.proofs.BecomingLemmas.{alone}
 use Rattle.jz_lowering.proofs.FormLemmas.{plain_formed}
-use Rattle.jz_lowering.specs.Functions.{plain_body, table_of, homes_for, all_places, IsFunctionLowered, KeepsRuns, KeepsCases, IsReadyFun}
+use Rattle.jz_lowering.specs.Functions.{plain_body, table_of, homes_for, all_places, IsFunctionLowered, KeepsRuns, KeepsCases, IsReadyFun, OnlyCovered}
 
 homing_for : (f : Fun) → IsHoming (frame_of (table_of f).stack) (homes_for f)
 homing_for f = table_is_homing (table_of f) (all_entered no_homes (variables_of f) none_entered)
@@ -42,6 +43,9 @@ keeps_cases f l k h = bodies_have_cases (homes_for f) (plain_body f) (body_of l.
 
 pub is_ready : (f : Fun) (l : LoweredFun) (k : Change) → IsFunctionLowered f l k → IsShort l.ir → IsReadyFun l
 is_ready f l k h short = functions_ready (homes_for f) f (plain_body f) l.ir k h.lowered (plain_formed f) short
+
+pub is_covered : (f : Fun) (l : LoweredFun) (k : Change) → IsFunctionLowered f l k → OnlyCovered f
+is_covered f l k h = lowered_covered (homes_for f) (plain_body f) (body_of l.ir.body) k h.lowered.body
 
 pub function_is : (f : Fun) (h : Homing) (entry results : List Passed) (made : Lowered) (in_use : List Place) → table_in h ≡ table_of f → ArePassed (homes_of h.homes) argument_registers (map (λ p. p.var) f.params) entry
     → ArePassed (homes_of h.homes) result_registers f.result results → Becomes (homes_of h.homes) (block no_callees f.body) made.nodes made.steps → in_use ≡ all_places

@@ -23,6 +23,7 @@ use Rattle.jz_row_operations.specs.Bodies.{beside}
 use Rattle.jz_lowered.specs.Functions.{IsLoweredFun}
 use Rattle.jz_operands.specs.TableHomes.{homes_by}
 use Rattle.jz_homing.specs.Tables.{Table, no_homes, with_vars, frame_of}
+use Rattle.jz_total_rows.specs.Bodies.{IsCoveredBody}
 use Rattle.jz_lowering.specs.declared.functions.LoweredFun.{LoweredFun}
 use Rattle.jz_lowering.specs.Becoming.{no_callees}
 
@@ -66,3 +67,7 @@ KeepsCases f l k = IsBetween (cases_of (plain_body f)) (cases_of (body_of l.ir.b
 -- it is what machine code asks
 abbrev pub IsReadyFun : LoweredFun → Type 0
 IsReadyFun l = IsReady l.ir
+
+-- each of its statements is one of which there are operations, and each of its tests a comparison
+abbrev pub OnlyCovered : Fun → Type 0
+OnlyCovered f = IsCoveredBody (plain_body f)

@@ -4,7 +4,7 @@ ghost use Rattle.std.specs.Prelude.{◌≡◌, IfOk};
 ghost use Rattle.jz_change.specs.Views.{change_of};
 ghost use Rattle.jz_correct.specs.Registers.{argument_registers, result_registers};
 ghost use Rattle.jz_lowering.specs.Functions.{IsFunctionLowered, KeepsRuns, KeepsCases};
-ghost use Rattle.jz_lowering.specs.Functions.{IsReadyFun, all_places as twenty};
+ghost use Rattle.jz_lowering.specs.Functions.{IsReadyFun, OnlyCovered, all_places as twenty};
 
 use crate::parts::Lowered;
 use crate::passing::{pass_params, pass_results};
@@ -64,8 +64,9 @@ fn all_places(alloc: Global) -> Result<Seq<Place>, AllocError>
 
 /// The function as operations over variables, with what that makes of its leaks. It is for
 /// functions that the expansion has left: without calls, loops of known bounds and inline
-/// variables. Refused, at its place, where a statement or a test has no row, where a variable has
-/// no home, and where a parameter or a result has no register; and at the function's name, where it
+/// variables. Refused, at its place, where a statement or a test is not covered (a flag result, a
+/// pair of words, a quotient, a condition that is no comparison, an instruction), where a variable
+/// has no home, and where a parameter or a result has no register; and at the function's name, where it
 /// has 2^32 variables or more, or 2^26 operations, branches and loops. The stack grows with the
 /// nesting of the text.
 pub fn lower(alloc: Global, fun: &Fun) -> Result<LoweredFun, Failure<Span>>
@@ -73,6 +74,7 @@ pub fn lower(alloc: Global, fun: &Fun) -> Result<LoweredFun, Failure<Span>>
     ensures law { IfOk result (λ l. KeepsRuns fun.now l (change_of l.change)) }
     ensures cases { IfOk result (λ l. KeepsCases fun.now l (change_of l.change)) }
     ensures ready { IfOk result IsReadyFun }
+    ensures covered { IfOk result (λ l. OnlyCovered fun.now) }
 {
     let lowered = lower_function(alloc, fun)?;
     if !is_short(&lowered.ir) {

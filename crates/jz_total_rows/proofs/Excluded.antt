@@ -1,6 +1,6 @@
 -- A statement that has operations is covered.
 use Rattle.std.proofs.Common.{◌≡◌, Bool, true, false, ◌&&◌, List, [], ◌∷◌, Option, Some, None, refl, sym, ap, ◌∙◌, inl, inr, if◌then◌else◌}
-use Rattle.std.specs.Prelude.{◌⊎◌, ⊤}
+use Rattle.std.specs.Prelude.{◌⊎◌}
 use Rattle.std.proofs.lemmas.Bool.{false≢true, and_parts}
 use Rattle.jz_words.specs.declared.size.Size.{Size}
 use Rattle.x64_insn.specs.declared.types.One.{One}
@@ -31,6 +31,7 @@ use Rattle.jz_row_operations.specs.Lowering.{HasRow, moves, sums, carries as car
 use Rattle.jz_one_row.proofs.Outs.{out_num, out_var, out_cell, out_load, out_neg, out_not, out_cast, out_bin}
 use Rattle.jz_total_rows.specs.Covered as covered
 use Rattle.jz_total_rows.specs.Covered.{divides_layer, is_quotient, IsComparison, IfCompared, IsCovered}
+use Rattle.jz_total_rows.specs.Bodies.{IsCoveredOperation}
 use Rattle.jz_total_rows.specs.Laws.{OnlyCoveredHaveOperations, OnlyComparisonsAreTests, OnlyTheseAreLoopTests}
 
 -- ---- rows
@@ -146,11 +147,7 @@ is_comparison home at e o c p q (compares {o = v} {c = k} {z} {a} {b} {x} {y} {p
 is_comparison home at e o c p q (denies {e = a} {compare = v} {c = k} {p = r} {q = s} here f) = covered.denies a here (is_comparison home at a v k r s f)
 
 -- ---- statements
-abbrev Covers : source.Operation → Type 0
-Covers (assign (d ∷ []) o e c at) = (is_quotient o e ≡ false) × IfCompared c
-Covers s = ⊤
-
-covers : (home : Homes) (s : source.Operation) (os : List Operation) (is : List Numbers) → Lowers home s os is → Covers s
+pub covers : (home : Homes) (s : source.Operation) (os : List Operation) (is : List Numbers) → Lowers home s os is → IsCoveredOperation s
 covers home s os is (sets {d} {o} {e} {w} {z} {acts} {items} {at} h size k can) = (whole_divides d o e w h (row_no_quotient home z d w acts items k), tt)
 covers home s os is (sets_if {x} {e} {k} {y} {compare} {c} {m} {p} {q} {r} {at} z wide kz h f ni g can) = (operand_no_quotient home z e y p f, is_comparison home at k compare c q r g)
 

@@ -20,3 +20,4 @@ pub mod Statements
 pub mod Whole
 pub mod Excluded
 pub mod Made
+pub mod Placed

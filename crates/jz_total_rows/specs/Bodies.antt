@@ -1,5 +1,5 @@
 -- Which bodies are lowered.
-use Rattle.std.specs.Prelude.{◌⊎◌, [], ◌∷◌, Some, ⊤}
+use Rattle.std.specs.Prelude.{◌≡◌, ◌⊎◌, false, [], ◌∷◌, Some, ⊤}
 use Rattle.jz_tree.specs.declared.stmt.Rhs.TheVariants as rhs
 use Rattle.jz_tree.specs.declared.stmt.StmtKind.TheVariants as stmt
 use Rattle.jz_select.specs.declared.pattern.Pattern.{Pattern}
@@ -12,7 +12,7 @@ use Rattle.jz_placing.specs.Variables.{Body}
 use Rattle.jz_change.specs.Changes.{Change}
 use Rattle.jz_homes.specs.Homes.{Homes, IsHoming}
 use Rattle.jz_row_operations.specs.Bodies.{IsLowered}
-use Rattle.jz_total_rows.specs.Covered.{IsComparison, IsCovered}
+use Rattle.jz_total_rows.specs.Covered.{is_quotient, IsComparison, IfCompared}
 use Rattle.jz_total_rows.specs.Laws.{IsReadyAssign, IsReadyTest, IsTrueTest}
 
 -- ---- each assignment to one left side, and each test, is expanded, well typed and in the limits
@@ -31,9 +31,9 @@ IsReadyBody home (loop q p c b r) =
 IsReadyBody home (each f b r) = IsReadyBody home b × IsReadyBody home r
 IsReadyBody home (call c b r) = IsReadyBody home b × IsReadyBody home r
 
--- ---- each statement is covered; no `for` and no call is left
+-- ---- each statement that has a row is covered, and each test; no `for` and no call is left
 abbrev pub IsCoveredOperation : source.Operation → Type 0
-IsCoveredOperation (assign (d ∷ []) o e c at) = IsCovered d o e c
+IsCoveredOperation (assign (d ∷ []) o e c at) = (is_quotient o e ≡ false) × IfCompared c
 IsCoveredOperation _ = ⊥
 
 abbrev pub IsCoveredBody : Block → Type 0
@@ -67,10 +67,10 @@ HavePatterns (call c b r) = HavePatterns b × HavePatterns r
 abbrev pub CoveredBodiesAreLowered : Type 0
 CoveredBodiesAreLowered =
     (frame : Frame) (home : Homes) (b : Block)
-    → IsHoming frame home → IsReadyBody home b → IsCoveredBody b
+    → IsHoming frame home → IsReadyBody home b → HavePatterns b → IsCoveredBody b
     → (u : Body) × (k : Change) × IsLowered home b u k
 
 abbrev pub LoweredBodiesAreCovered : Type 0
 LoweredBodiesAreCovered =
     (home : Homes) (b : Block) (u : Body) (k : Change)
-    → HavePatterns b → IsLowered home b u k → IsCoveredBody b
+    → IsLowered home b u k → IsCoveredBody b

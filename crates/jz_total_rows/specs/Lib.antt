@@ -2,3 +2,4 @@ pub mod Expanded
 pub mod Covered
 pub mod Laws
 pub mod Bodies
+pub mod Variables

@@ -4,6 +4,13 @@ ghost use Rattle.jz_total_rows.specs.Laws.{AssignmentsHaveOperations, OnlyCovere
 ghost use Rattle.jz_total_rows.specs.Laws.{TestsHaveOperations, OnlyComparisonsAreTests};
 ghost use Rattle.jz_total_rows.specs.Laws.{LoopTestsHaveOperations, OnlyTheseAreLoopTests};
 ghost use Rattle.jz_total_rows.specs.Bodies.{CoveredBodiesAreLowered, LoweredBodiesAreCovered};
+ghost use Rattle.jz_total_rows.specs.Variables.{VariablesHaveHomes};
+
+/// A variable of a function has the home that its declaration gives it, and a cell of a register
+/// array that is a variable of its own that of the cell.
+pub fn variables_have_homes()
+    ensures { VariablesHaveHomes }
+{}
 
 /// A typed assignment to one left side that the expansion leaves, that is within the limits and
 /// whose row is no quotient's has operations, and no other one that has a row has any. Its

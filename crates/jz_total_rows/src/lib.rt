@@ -3,4 +3,6 @@
 
 mod laws;
 
-pub use laws::{assignments_have_operations, bodies_are_lowered, tests_have_operations};
+pub use laws::{
+    assignments_have_operations, bodies_are_lowered, tests_have_operations, variables_have_homes,
+};
