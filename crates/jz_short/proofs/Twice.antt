@@ -1,5 +1,5 @@
 -- Each statement has two operations at most.
-use Rattle.std.proofs.Common.{◌≡◌, ℕ, suc, ◌+◌, ◌*◌, ◌≤◌, Bool, true, false, List, [], ◌∷◌, length, Option, Some, None, refl, sym, ap, subst, arith}
+use Rattle.std.proofs.Common.{◌≡◌, suc, ◌+◌, ◌*◌, ◌≤◌, Bool, true, false, List, [], ◌∷◌, length, Some, None, refl, ap, subst, arith}
 use Rattle.std.specs.Prelude.{not, ◌&&◌, if◌then◌else◌, ⊤}
 use Rattle.jz_io.specs.declared.span.Span.{Span}
 use Rattle.jz_words.specs.declared.size.Size.{Size}
