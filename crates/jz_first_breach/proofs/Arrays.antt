@@ -24,20 +24,17 @@ use Rattle.jz_labels.proofs.Existing.{IsWhole, some_after}
 use Rattle.jz_labels.proofs.Comparing.{meets_below, head_below}
 use Rattle.jz_first_breach.proofs.Firsts.{some_first}
 
+number_same : (i : ℕ) → (i == i) ≡ true
+number_same i = grind (arith, nat_tests)
+
 cell_same : (c : Option ℕ) → same_cell c c ≡ true
 cell_same None = refl
 cell_same (Some i) = number_same i
-  where
-    number_same : (i : ℕ) → (i == i) ≡ true
-    number_same i = grind (arith, nat_tests)
-
-copy_same : (i : ℕ) → (i == i) ≡ true
-copy_same i = grind (arith, nat_tests)
 
 key_same : (k : Key) → same_key k k ≡ true
 key_same k =
     and_from (bytes_eq k.name k.name) ((k.copy == k.copy) && same_cell k.cell k.cell) ((bytes_eq-Decides k.name k.name).1 refl)
-    (and_from (k.copy == k.copy) (same_cell k.cell k.cell) (copy_same k.copy) (cell_same k.cell))
+    (and_from (k.copy == k.copy) (same_cell k.cell k.cell) (number_same k.copy) (cell_same k.cell))
 
 clash : {A B : Type 0} {v : B} → None ≡ Some v → A
 clash e = absurd (cc e)
