@@ -14,7 +14,8 @@ use Rattle.jz_layers.specs.declared.layers.Layers.{Layers}
 use Rattle.jz_fact_sets.specs.declared.given.Given.{Given}
 use Rattle.jz_fact_sets.specs.declared.knowledge.Knowledge.{Knowledge}
 use Rattle.jz_fact_sets.specs.Kept.{is_at_least, is_at_most, is_times, known_at, spot, facts_of}
-use Rattle.jz_fact_answers.specs.Giving.{Gives, HasEnds, least_gives, most_gives, times_gives, is_given}
+use Rattle.jz_fact_numbers.specs.Ends.{HasEnds}
+use Rattle.jz_fact_answers.specs.Giving.{Gives, least_gives, most_gives, times_gives, is_given}
 
 both : (a b : Bool) → a ≡ true → b ≡ true → (a && b) ≡ true
 both true true h k = refl

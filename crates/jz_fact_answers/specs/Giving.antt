@@ -1,6 +1,6 @@
 -- Whether a set gives a fact, as the property and by what is kept of its variable.
-use Rattle.std.specs.Prelude.{ℕ, ◌≡◌, ◌≤◌, ◌-◌, ◌^◌, ◌%◌, ◌==◌, nat_le, Bool, true, false, ◌&&◌, List, Option, Some, None}
-use Rattle.jz_facts.specs.Facts.{Fact, Set, Cell, AtLeast, AtMost, Under, Is, Multiple, Facts, entails, is_among, greatest, least}
+use Rattle.std.specs.Prelude.{ℕ, ◌≡◌, ◌-◌, ◌^◌, ◌%◌, ◌==◌, nat_le, Bool, true, false, ◌&&◌, List, Option, Some, None}
+use Rattle.jz_facts.specs.Facts.{Fact, Set, Cell, AtLeast, AtMost, Under, Is, Multiple, Facts, entails, greatest, least}
 use Rattle.jz_fact_readings.specs.Multiples.{times_of}
 use Rattle.jz_fact_readings.specs.declared.times.Times.{Times}
 use Rattle.jz_layers.specs.declared.layers.Layers.{Layers}
@@ -11,12 +11,6 @@ use Rattle.jz_fact_sets.specs.Kept.{is_named, known_at, spot}
 -- a fact of the set says it
 abbrev pub Gives : Facts → Fact → Type 0
 Gives s f = (h : Fact) × ((s h ≡ true) × (entails h f ≡ true))
-
--- the constants are words, and 0 and the greatest word are among them, as of each text
-pub record HasEnds (cs : List ℕ) : Type 0 where
-  pub zero : is_among 0 cs ≡ true
-  pub most : is_among (2 ^ 64 - 1) cs ≡ true
-  pub words : (c : ℕ) → is_among c cs ≡ true → c ≤ 2 ^ 64 - 1
 
 -- ---- by what is kept: the nearest constant
 

@@ -5,7 +5,8 @@ ghost use Rattle.jz_facts.specs.Coded.{fact_of};
 ghost use Rattle.jz_fact_readings.specs.Multiples.{times_of};
 ghost use Rattle.jz_fact_sets.specs.Kept.{facts_of};
 ghost use Rattle.jz_fact_answers.specs.Giving as giving;
-ghost use Rattle.jz_fact_answers.specs.Giving.{Gives, HasEnds};
+ghost use Rattle.jz_fact_answers.specs.Giving.{Gives};
+ghost use Rattle.jz_fact_numbers.specs.Ends.{HasEnds};
 
 use jz_fact_readings::Times;
 use jz_fact_sets::{FactSet, Given, is_named, known, known_at};

@@ -1,1 +1,2 @@
+pub mod Ends
 pub use Rattle.jz_intervals.specs.Constants

@@ -2,6 +2,7 @@
 
 ghost use Rattle.std.specs.Prelude.{◌≡◌, ◌<◌, ◌++◌, ◌-ℤ◌, ◌+ℤ◌, pos, ℕ, length, get_or, IfOk, OnOk};
 ghost use Rattle.jz_intervals.specs.Constants.{in_words, around, constants, is_among};
+ghost use Rattle.jz_fact_numbers.specs.Ends.{HasEnds};
 
 use jz_intervals::Constants;
 use std::alloc::{AllocError, Global};
@@ -62,7 +63,9 @@ fn add_at(out: &mut Vec<u64>, numbers: &[i128], i: usize) -> Result<(), AllocErr
 
 /// The constants of a text, by the numbers that stand in it and in its annotations.
 pub fn constants_of(alloc: Global, numbers: &[i128]) -> Result<Constants, AllocError>
-    ensures { IfOk result (λ all. (c : ℕ) → is_among c all ≡ is_among c (constants numbers.now)) }
+    ensures all { IfOk result
+        (λ all. (c : ℕ) → is_among c all ≡ is_among c (constants numbers.now)) }
+    ensures ends { IfOk result (λ all. HasEnds all) }
 {
     let mut all = Vec::new(alloc);
     all.push(0)?;

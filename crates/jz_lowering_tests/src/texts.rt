@@ -9,6 +9,7 @@ use jz_meaning::{Kind, kind_of};
 use jz_parse::parse;
 use jz_resolve::resolve;
 use jz_tree::{Fun, Storage, Var};
+use jz_unrolling::unroll;
 use std::alloc::{AllocError, Global};
 
 const HEAD: &str = "export fn run(reg u64 q) -> reg u64 { reg u64 r a b p i j; reg u32 e c d; \
@@ -49,7 +50,8 @@ fn names_of(alloc: Global, fun: &Fun) -> Result<Names<'_>, AllocError> {
     Ok(names)
 }
 
-fn lowered(alloc: Global, fun: &Fun) -> Result<String, AllocError> {
+/// The operations of a function's body, whose inline expressions are numbers.
+fn body_lowered(alloc: Global, fun: &Fun) -> Result<String, AllocError> {
     let Ok(table) = homing_of(alloc, fun) else {
         return String::from_str(alloc, "no homes");
     };
@@ -59,6 +61,13 @@ fn lowered(alloc: Global, fun: &Fun) -> Result<String, AllocError> {
             let names = names_of(alloc, fun)?;
             shown_nodes(alloc, &names, &made)
         }
+    }
+}
+
+fn lowered(alloc: Global, fun: &Fun) -> Result<String, AllocError> {
+    match unroll(alloc, fun) {
+        Err(_) => String::from_str(alloc, "no numbers"),
+        Ok(made) => body_lowered(alloc, &made.program),
     }
 }
 
