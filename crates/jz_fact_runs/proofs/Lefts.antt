@@ -268,7 +268,7 @@ module _ (g : Given) (kinds : Kinds) (in_frame : Key → Bool) (entry : Key → 
   flag_runs (cast y sign a at) w i q = absurd i
   flag_runs (bin op a b at) w i q = absurd i
 
-  bool_in_runs : (at : Span) (w : Option Size) (c : Expr) → IsFlag kinds in_frame (term_of c) → asks_expr g s w c ≡ None → Runs (λ b. Unit {0}) (bool_in at c st)
+  pub bool_in_runs : (at : Span) (w : Option Size) (c : Expr) → IsFlag kinds in_frame (term_of c) → asks_expr g s w c ≡ None → Runs (λ b. Unit {0}) (bool_in at c st)
   bool_in_runs at w c i q =
       subst (λ (m : Meaning). Runs (λ b. Unit {0}) (and_then (m.run None st) (truth_of at))) (sym (term_so c))
       (runs_then IsTruth (λ b. Unit {0}) ((means (term_of c)).run None st) (truth_of at) (flag_runs (term_of c) w i q) (λ v h. by v h))

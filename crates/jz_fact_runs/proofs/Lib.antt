@@ -19,3 +19,4 @@ pub mod Instructing
 pub mod Lefts
 pub mod Pairs
 pub mod Paired
+pub mod Carries

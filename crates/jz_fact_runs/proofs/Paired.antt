@@ -1,6 +1,6 @@
 -- Where a run stands behind two results, and that it is not stuck.
-use Rattle.std.proofs.Common.{◌≡◌, ℕ, [], ◌∷◌, Option, Some, None, Bool, true, false, refl, ap, sym, ◌∙◌, subst, if◌then◌else◌}
-use Rattle.std.specs.Prelude.{IsSome}
+use Rattle.std.proofs.Common.{◌≡◌, ◌⊎◌, inl, inr, ◌<◌, ℕ, [], ◌∷◌, Option, Some, None, Bool, true, false, refl, ap, sym, ◌∙◌, subst, if◌then◌else◌}
+use Rattle.std.specs.Prelude.{◌&&◌, IsSome}
 use Rattle.std.specs.Option.{option_or}
 use Rattle.std.proofs.lemmas.List.Elements.{All-nil, All-cons}
 use Rattle.jz_tree.specs.Span.{Span}
@@ -15,11 +15,12 @@ use Rattle.jz_tree.specs.declared.stmt.Lval.TheVariants as lval
 use Rattle.jz_runs.specs.Rules.{stuck, went}
 use Rattle.jz_meaning.specs.declared.access.Kind.{Kind}
 use Rattle.jz_meaning.specs.declared.access.Kind.TheVariants as kind
-use Rattle.jz_meaning.specs.Attempts.{Evaluation, and_then}
-use Rattle.jz_meaning.specs.States.{Value, word, Key, same_key, Store, put, State}
+use Rattle.jz_meaning.specs.declared.value.Why.TheVariants.{Init}
+use Rattle.jz_meaning.specs.Attempts.{Evaluation, stuck_at, and_then}
+use Rattle.jz_meaning.specs.States.{Value, word, boolean, integer, Key, same_key, Store, put, State}
 use Rattle.jz_meaning.specs.Operators.{word_at, binary}
 use Rattle.jz_meaning.specs.Values.{Ref, Meaning, key_of, ref_of, own_size, size_of}
-use Rattle.jz_meaning.specs.Assignments.{Layer, Results, left_sizes, whole_of, held_or_unset, with_value, written, all_written as all_put, word_in, two_results, with_two, with_three, two_of, conditioned, assigned_whole}
+use Rattle.jz_meaning.specs.Assignments.{Layer, Results, left_sizes, whole_of, held_or_unset, with_value, written, all_written as all_put, word_in, bool_in, truth as truth_of, two_results, with_two, with_three, two_of, conditioned, assigned_whole}
 use Rattle.jz_meaning.specs.Statements as source
 use Rattle.jz_meaning.specs.Statements.{assign}
 use Rattle.jz_run_laws.specs.Kinds.{Kinds, IsOfKinds}
@@ -38,16 +39,25 @@ use Rattle.jz_fact_laws.proofs.MultipleTerms.{multiple_ok}
 use Rattle.jz_fact_laws.proofs.Law.{Known, known}
 use Rattle.jz_alarms.specs.Conditions.{asks, asks_expr, asks_assign, asks_operation}
 use Rattle.jz_fact_runs.specs.Typing.{whole, sizes_of, NoNumbers, IsScalar}
-use Rattle.jz_fact_runs.specs.Fine.{Shape, a_flag, a_word, Pair, of_sum, of_difference, of_product, op_of, before, TakesShape, IsPair, IsPaired}
+use Rattle.jz_fact_runs.specs.Fine.{Shape, a_flag, a_word, Pair, of_sum, of_difference, of_product, op_of, before, TakesShape, IsPair, IsCarriedPair, IsPaired}
 use Rattle.jz_fact_runs.specs.Standing.{is_of_cell, AreValid, Stands}
 use Rattle.jz_fact_runs.proofs.Held.{holds}
-use Rattle.jz_fact_runs.proofs.Typed.{typed, any_yields}
-use Rattle.jz_fact_runs.proofs.Plain.{plain_word, scalar_size}
+use Rattle.jz_fact_runs.proofs.Typed.{flag_typed, typed, any_yields}
+use Rattle.jz_fact_runs.proofs.Plain.{plain_flag, plain_word, scalar_size}
 use Rattle.jz_fact_runs.proofs.Sums.{both_met, Runs, runs_then, runs_yields}
 use Rattle.jz_fact_runs.proofs.Marks.{seat, says_same, put_elsewhere, scalar_elsewhere}
 use Rattle.jz_fact_runs.proofs.Assigning.{if_went, three, gained_scalar}
 use Rattle.jz_fact_runs.proofs.Instructing.{IsGot}
-use Rattle.jz_fact_runs.proofs.Lefts.{Half, gains, one_half, word_held, is_there, left_held, takes, scalar, here, word_in_runs}
+use Rattle.jz_fact_runs.proofs.Lefts.{bool_in_runs, Half, gains, one_half, word_held, is_there, left_held, takes, scalar, here, word_in_runs}
+use Rattle.jz_words.proofs.Residues.{residue_below}
+use Rattle.jz_fact_laws.proofs.Ranges.{Good, term_ok}
+use Rattle.jz_intervals.specs.declared.interval.Interval.{Interval}
+use Rattle.jz_facts.specs.Intervals.{interval}
+use Rattle.x64_insn.specs.Sizes.{modulus}
+use Rattle.jz_fact_runs.specs.Typing.{IsFlag}
+use Rattle.jz_terms.specs.Terms.{num, truth, var, cell, load, neg, inv, cast}
+use Rattle.jz_fact_runs.proofs.Making.{OfSize}
+use Rattle.jz_fact_runs.proofs.Carries.{IsBelow, carried_of, carries_go}
 use Rattle.jz_fact_runs.proofs.Pairs.{IsPairOf, pair_of, results_go}
 
 -- ---- a pair and its term
@@ -64,6 +74,20 @@ as_asked : (g : Given) (s : Facts) (p : Pair) (a b : Term) (at : Span) (z : Size
 as_asked g s of_sum a b at z q = let c = both_met (asks g s (Some z) a) _ q in (c.0, (both_met (asks g s (Some z) b) _ c.1).0)
 as_asked g s of_difference a b at z q = let c = both_met (asks g s (Some z) a) _ q in (c.0, (both_met (asks g s (Some z) b) _ c.1).0)
 as_asked g s of_product a b at z q = let c = both_met (asks g s (Some z) a) _ q in (c.0, (both_met (asks g s (Some z) b) _ c.1).0)
+
+as_carried : (p : Pair) (P : Value → Type 0) (a b c : Term) (inner at : Span) (z : Size) (st : State) → Yields P ((means (bin (op_of p) (bin (op_of p) a b inner) c at)).run (Some z) st) → Yields P (and_then (and_then ((means a).run (Some z) st) (λ v. and_then ((means b).run (Some z) st) (λ u. binary (op_of p) inner (Some z) v u))) (λ s. and_then ((means c).run (Some z) st) (λ c. binary (op_of p) at (Some z) s c)))
+as_carried of_sum P a b c inner at z st h = h
+as_carried of_difference P a b c inner at z st h = h
+as_carried of_product P a b c inner at z st h = h
+
+below : (i : Interval) (k : Bool) (z : Size) (v : Value) → OfSize z k v → Good i k z v → IsBelow z v
+below i k z (word y n) h q = subst (λ y. n < modulus y) h q.0
+below i k z (integer j) h q = residue_below z j
+below i k z (boolean c) h q = absurd h
+
+two_so : {A : Type 0} (P Q R : A → Type 0) (e : Evaluation A) → ((x : A) → P x → Q x → R x) → Yields P e → Yields Q e → Yields R e
+two_so P Q R (stuck k) f p q = tt
+two_so P Q R (went ns x) f p q = f x p q
 
 -- ---- keys and facts
 
@@ -155,6 +179,79 @@ module _ (g : Given) (kinds : Kinds) (in_frame : Key → Bool) (entry : Key → 
       (runs_then (λ x. Unit {0}) (λ vs. Unit {0}) (word_in i.at z a st) (λ x. and_then (word_in i.at z b st) (λ y. two_results (op_of p) i.at z x y false)) (word_in_runs g kinds in_frame entry s st H nn i.at z a i.first c.0) (λ x u.
       runs_then (λ y. Unit {0}) (λ vs. Unit {0}) (word_in i.at z b st) (λ y. two_results (op_of p) i.at z x y false) (word_in_runs g kinds in_frame entry s st H nn i.at z b i.second c.1) (λ y u. results_go p i.at z x y))))
 
+  -- ---- with a flag
+
+  -- a flag is the same where a word is wanted
+  flag_run : (t : Term) → IsFlag kinds in_frame t → (w : Option Size) → (means t).run w st ≡ (means t).run None st
+  flag_run (var x) i w = refl
+  flag_run (num n at) i w = absurd i
+  flag_run (truth b at) i w = absurd i
+  flag_run (cell x j) i w = absurd i
+  flag_run (load p a) i w = absurd i
+  flag_run (neg a at) i w = absurd i
+  flag_run (inv a at) i w = absurd i
+  flag_run (cast y sign a at) i w = absurd i
+  flag_run (bin op a b at) i w = absurd i
+
+  abbrev Three : Pair → Span → Size → Expr → Expr → Expr → Evaluation Results
+  Three p at z a b c = and_then (word_in at z a st) (λ x. and_then (word_in at z b st) (λ y. and_then (bool_in at c st) (two_results (op_of p) at z x y)))
+
+  -- the forms of both layers
+  three_is : (p : Pair) (z : Size) (w : Expr) (at : Span) (i : IsCarriedPair kinds in_frame p z w) (Q : Evaluation Results → Type 0) → Q (Three p i.at z i.left i.right i.flag) → Q (two_of (out-Expr w) at (Some z) st)
+  three_is p z w at i Q h =
+      subst (λ (l : Layer). Q (two_of l at (Some z) st)) (sym i.is)
+      (subst (λ c. Q (if c then with_three (op_of p) (out-Expr i.inner) i.inner i.flag i.at z st else with_two (op_of p) i.inner i.flag i.at z st)) (sym i.by_flag)
+      (subst (λ (l : Layer). Q (with_three (op_of p) l i.inner i.flag i.at z st)) (sym i.inner_is)
+      (subst (λ c. Q (if c then Three p i.at z i.left i.right i.flag else stuck_at i.at Init)) (sym i.may_carry) h)))
+
+  carried_term : (p : Pair) (z : Size) (w : Expr) (i : IsCarriedPair kinds in_frame p z w) → term_of w ≡ bin (op_of p) (bin (op_of p) (term_of i.left) (term_of i.right) i.inner_at) (term_of i.flag) i.at
+  carried_term p z w i = pair_term w (op_of p) i.inner i.flag i.at i.is ∙ ap (λ t. bin (op_of p) t (term_of i.flag) i.at) (pair_term i.inner (op_of p) i.left i.right i.inner_at i.inner_is)
+
+  carried_yields : (p : Pair) (z : Size) (w : Expr) (at : Span) → IsCarriedPair kinds in_frame p z w → Yields (IsPairOf p z (KnownHere z (term_of w))) (two_of (out-Expr w) at (Some z) st)
+  carried_yields p z w at i =
+      let a = term_of i.left in
+      let b = term_of i.right in
+      let c = term_of i.flag in
+      let P : Value → Type 0 = KnownHere z (term_of w) in
+      let e = carried_term p z w i in
+      let pb = plain_word kinds in_frame b (Some z) z i.second in
+      let plain : IsPlain (sizes_of kinds) (term_of w) = subst (IsPlain (sizes_of kinds)) (sym e) (ap (λ k. k && is_number c) i.no_number, (i.no_number, plain_word kinds in_frame a (Some z) z i.first, pb), plain_flag kinds in_frame c i.third) in
+      let run = subst (λ t. Yields P ((means t).run (Some z) st)) e (known g (sizes_of kinds) entry s st so (λ t p z w. multiple_ok g (sizes_of kinds) entry s st so t p z w) z (term_of w) (Some z) plain) in
+      let R = IsPairOf p z P in
+      three_is p z w at i (Yields R)
+      (subst (λ (m : Meaning). Yields R (and_then (and_then (m.run (Some z) st) (word_at i.at z)) (λ x. and_then (word_in i.at z i.right st) (λ y. and_then (bool_in i.at i.flag st) (two_results (op_of p) i.at z x y))))) (sym (term_so i.left))
+      (subst (λ (m : Meaning). Yields R (and_then (and_then ((means a).run (Some z) st) (word_at i.at z)) (λ x. and_then (and_then (m.run (Some z) st) (word_at i.at z)) (λ y. and_then (bool_in i.at i.flag st) (two_results (op_of p) i.at z x y))))) (sym (term_so i.right))
+      (subst (λ (m : Meaning). Yields R (and_then (and_then ((means a).run (Some z) st) (word_at i.at z)) (λ x. and_then (and_then ((means b).run (Some z) st) (word_at i.at z)) (λ y. and_then (and_then (m.run None st) (truth_of i.at)) (two_results (op_of p) i.at z x y))))) (sym (term_so i.flag))
+      (carried_of p i.may_carry i.inner_at i.at z P (is_number a) (is_number b) i.no_number ((means a).run (Some z) st) ((means b).run (Some z) st) ((means c).run None st)
+      (typed g kinds in_frame entry s st H a (Some z) z i.first)
+      (typed g kinds in_frame entry s st H b (Some z) z i.second)
+      (two_so (OfSize z (is_number b)) (Good (interval g s z b) (is_number b) z) (IsBelow z) ((means b).run (Some z) st) (below (interval g s z b) (is_number b) z) (typed g kinds in_frame entry s st H b (Some z) z i.second) (term_ok g (sizes_of kinds) entry s st so b pb z (Some z)))
+      (flag_typed g kinds in_frame entry s st H c None i.third)
+      (subst (λ (f : Evaluation Value). Yields P (and_then (and_then ((means a).run (Some z) st) (λ v. and_then ((means b).run (Some z) st) (λ u. binary (op_of p) i.inner_at (Some z) v u))) (λ s. and_then f (λ c. binary (op_of p) i.at (Some z) s c)))) (flag_run c i.third (Some z))
+      (as_carried p P a b c i.inner_at i.at z st run))))))
+
+  flag_asked : (p : Pair) (a b c : Term) (inner at : Span) (z : Size) → asks g s (Some z) (bin (op_of p) (bin (op_of p) a b inner) c at) ≡ None → ((asks g s (Some z) a ≡ None) × (asks g s (Some z) b ≡ None)) × (asks g s (Some z) c ≡ None)
+  flag_asked p a b c inner at z q = let d = as_asked g s p (bin (op_of p) a b inner) c at z q in (as_asked g s p a b inner z d.0, d.1)
+
+  carried_goes : (p : Pair) (z : Size) (w : Expr) (at : Span) → IsCarriedPair kinds in_frame p z w → asks_expr g s (Some z) w ≡ None → Runs (λ vs. Unit {0}) (two_of (out-Expr w) at (Some z) st)
+  carried_goes p z w at i q =
+      let c = flag_asked p (term_of i.left) (term_of i.right) (term_of i.flag) i.inner_at i.at z (subst (λ t. asks g s (Some z) t ≡ None) (carried_term p z w i) q) in
+      three_is p z w at i (Runs (λ vs. Unit {0}))
+      (runs_then (λ x. Unit {0}) (λ vs. Unit {0}) (word_in i.at z i.left st) (λ x. and_then (word_in i.at z i.right st) (λ y. and_then (bool_in i.at i.flag st) (two_results (op_of p) i.at z x y))) (word_in_runs g kinds in_frame entry s st H nn i.at z i.left i.first c.0.0) (λ x u.
+      runs_then (λ y. Unit {0}) (λ vs. Unit {0}) (word_in i.at z i.right st) (λ y. and_then (bool_in i.at i.flag st) (two_results (op_of p) i.at z x y)) (word_in_runs g kinds in_frame entry s st H nn i.at z i.right i.second c.0.1) (λ y u.
+      runs_then (λ b. Unit {0}) (λ vs. Unit {0}) (bool_in i.at i.flag st) (two_results (op_of p) i.at z x y) (bool_in_runs g kinds in_frame entry s st H nn i.at (Some z) i.flag i.third c.1) (λ b u. carries_go p i.may_carry i.at z x y b))))
+
+  abbrev IsEither : Pair → Size → Expr → Type 0
+  IsEither p z w = IsPair kinds in_frame p z w ⊎ IsCarriedPair kinds in_frame p z w
+
+  either_yields : (p : Pair) (z : Size) (w : Expr) (at : Span) → IsEither p z w → Yields (IsPairOf p z (KnownHere z (term_of w))) (two_of (out-Expr w) at (Some z) st)
+  either_yields p z w at (inl i) = pair_yields p z w at i
+  either_yields p z w at (inr i) = carried_yields p z w at i
+
+  either_goes : (p : Pair) (z : Size) (w : Expr) (at : Span) → IsEither p z w → asks_expr g s (Some z) w ≡ None → Runs (λ vs. Unit {0}) (two_of (out-Expr w) at (Some z) st)
+  either_goes p z w at (inl i) q = pair_goes p z w at i q
+  either_goes p z w at (inr i) q = carried_goes p z w at i q
+
   -- ---- the left sides
 
   first_run : (zo : Option Size) (d : Lval) (h : Shape) (o : Option Value) → IsGot some_value h o → TakesShape kinds in_frame h d → Runs (HalfHere (holding.written g s d some_value s)) (written zo d o st)
@@ -221,7 +318,7 @@ module _ (g : Given) (kinds : Kinds) (in_frame : Key → Bool) (entry : Key → 
   abbrev FactsBehind : Lval → Var → Option Size → Term → Facts
   FactsBehind d x zo t = all_written g s (d ∷ lval.Var x ∷ []) (results (size_or_64 zo) t (d ∷ lval.Var x ∷ [])) s
 
-  pair_written : (p : Pair) (z : Size) (zo : Option Size) (d : Lval) (x : Var) (w : Expr) (at : Span) → IsPair kinds in_frame p z w → TakesShape kinds in_frame (before p z) d → (ref_of x).kind ≡ kind.Word z → IsScalar kinds in_frame (ref_of x) → zo ≡ Some z
+  pair_written : (p : Pair) (z : Size) (zo : Option Size) (d : Lval) (x : Var) (w : Expr) (at : Span) → IsEither p z w → TakesShape kinds in_frame (before p z) d → (ref_of x).kind ≡ kind.Word z → IsScalar kinds in_frame (ref_of x) → zo ≡ Some z
       → (vs : Results) → IsPairOf p z (KnownHere z (term_of w)) vs → Runs (HalfHere (FactsBehind d x zo (term_of w))) (and_then (conditioned (d ∷ lval.Var x ∷ []) None at vs st) (λ ws. all_put at zo (d ∷ lval.Var x ∷ []) ws st))
   pair_written p z zo d x w at i j e c f vs k =
       subst (λ u. Runs (HalfHere (FactsBehind d x u (term_of w))) (and_then (went [] vs) (λ ws. all_put at u (d ∷ lval.Var x ∷ []) ws st))) (sym f)
@@ -249,7 +346,7 @@ module _ (g : Given) (kinds : Kinds) (in_frame : Key → Bool) (entry : Key → 
           (λ t h k u. record { says = h.says; apart = h.apart; kept = k; ranges = H.ranges; least = H.least; regions = subst (λ d. AreValid entry d g.regions) (sym h.memory) H.regions })
           (subst (λ m. Yields (HalfHere (assigned g to m None s)) (assigned_whole to m None at st)) (sym r)
           (yields_then (IsPairOf p z (KnownHere z (term_of w))) (HalfHere F) (two_of (out-Expr w) at zo st) (λ vs. and_then (conditioned to None at vs st) (λ ws. all_put at zo to ws st))
-          (subst (λ u. Yields (IsPairOf p z (KnownHere z (term_of w))) (two_of (out-Expr w) at u st)) (sym f) (pair_yields p z w at v))
+          (subst (λ u. Yields (IsPairOf p z (KnownHere z (term_of w))) (two_of (out-Expr w) at u st)) (sym f) (either_yields p z w at v))
           (λ vs k. runs_yields (HalfHere F) (and_then (conditioned to None at vs st) (λ ws. all_put at zo to ws st)) (pair_written p z zo d x w at v i.other i.is i.scalar f vs k))))
           (if_went (IsOfKinds kinds) (source.does (assign to o e None at) st) (operations_keep kinds (assign to o e None at) st (All-cons (LeftDeclared kinds) d (lval.Var x ∷ []) (declared_left kinds in_frame (before p z) d i.other) (All-cons (LeftDeclared kinds) (lval.Var x) [] i.scalar.declared (All-nil (LeftDeclared kinds)))) H.kept))
           (any_yields _)
@@ -279,5 +376,5 @@ module _ (g : Given) (kinds : Kinds) (in_frame : Key → Bool) (entry : Key → 
           subst (λ m. Runs (λ t. Unit {0}) (assigned_whole to m None at st)) (sym r)
           (runs_then (IsPairOf p z (KnownHere z (term_of w))) (λ t. Unit {0}) (two_of (out-Expr w) at zo st) (λ vs. and_then (conditioned to None at vs st) (λ ws. all_put at zo to ws st))
           (subst (λ u. Runs (IsPairOf p z (KnownHere z (term_of w))) (two_of (out-Expr w) at u st)) (sym f)
-          (with_pair (λ vs. Unit {0}) (IsPairOf p z (KnownHere z (term_of w))) (two_of (out-Expr w) at (Some z) st) (pair_goes p z w at v (subst (λ u. asks_expr g s u w ≡ None) f b.0)) (pair_yields p z w at v)))
+          (with_pair (λ vs. Unit {0}) (IsPairOf p z (KnownHere z (term_of w))) (two_of (out-Expr w) at (Some z) st) (either_goes p z w at v (subst (λ u. asks_expr g s u w ≡ None) f b.0)) (either_yields p z w at v)))
           (λ vs k. runs_any (HalfHere F) (and_then (conditioned to None at vs st) (λ ws. all_put at zo to ws st)) (pair_written p z zo d x w at v i.other i.is i.scalar f vs k)))

@@ -25,7 +25,7 @@ number_of z (word y n) = n
 number_of z (integer j) = residue z j
 number_of z (boolean c) = 0
 
-at_word : (at : Span) (z : Size) (k : Bool) (v : Value) → OfSize z k v → Yields (λ x. x ≡ number_of z v) (word_at at z v)
+pub at_word : (at : Span) (z : Size) (k : Bool) (v : Value) → OfSize z k v → Yields (λ x. x ≡ number_of z v) (word_at at z v)
 at_word at z k (word y n) h = subst (λ u. Yields (λ x. x ≡ n) (defined at (if same_size z u then Some n else None))) (sym h) (subst (λ c. Yields (λ x. x ≡ n) (defined at (if c then Some n else None))) (sym (same_size-refl z)) refl)
 at_word at z k (integer j) h = refl
 at_word at z k (boolean c) h = absurd h
@@ -40,13 +40,13 @@ from_words of_sum at z P a b h = h
 from_words of_difference at z P a b h = h
 from_words of_product at z P a b h = h
 
-plain_binary : (p : Pair) (at : Span) (w : Option Size) (P : Value → Type 0) (v u : Value) → Yields P (binary (op_of p) at w v u) → Yields P (combined (op_of p) at v u)
+pub plain_binary : (p : Pair) (at : Span) (w : Option Size) (P : Value → Type 0) (v u : Value) → Yields P (binary (op_of p) at w v u) → Yields P (combined (op_of p) at v u)
 unfolding binary
 plain_binary of_sum at w P v u h = h
 plain_binary of_difference at w P v u h = h
 plain_binary of_product at w P v u h = h
 
-from_combined : (p : Pair) (at : Span) (z : Size) (P : Value → Type 0) (ka kb : Bool) → (ka && kb) ≡ false → (v u : Value) → OfSize z ka v → OfSize z kb u → Yields P (combined (op_of p) at v u) → P (word z (pair_word p z (number_of z v) (number_of z u)))
+pub from_combined : (p : Pair) (at : Span) (z : Size) (P : Value → Type 0) (ka kb : Bool) → (ka && kb) ≡ false → (v u : Value) → OfSize z ka v → OfSize z kb u → Yields P (combined (op_of p) at v u) → P (word z (pair_word p z (number_of z v) (number_of z u)))
 unfolding combined
 from_combined p at z P ka kb n (word y a) (word x b) h k q =
     from_words p at z P a b
@@ -64,7 +64,7 @@ from_combined p at z P ka kb n (integer i) (boolean c) h k q = absurd k
 abbrev pub IsPairOf : Pair → Size → (Value → Type 0) → Results → Type 0
 IsPairOf p z P vs = (o : Option Value) × (n : ℕ) × (vs ≡ o ∷ Some (word z n) ∷ []) × IsGot some_value (before p z) o × P (word z n)
 
-results_pair : (p : Pair) (at : Span) (z : Size) (P : Value → Type 0) (x y : ℕ) → P (word z (pair_word p z x y)) → Yields (IsPairOf p z P) (two_results (op_of p) at z x y false)
+pub results_pair : (p : Pair) (at : Span) (z : Size) (P : Value → Type 0) (x y : ℕ) → P (word z (pair_word p z x y)) → Yields (IsPairOf p z P) (two_results (op_of p) at z x y false)
 results_pair of_sum at z P x y h = (_, _, refl, (_, refl), h)
 results_pair of_difference at z P x y h = (_, _, refl, (_, refl), h)
 results_pair of_product at z P x y h = (_, _, refl, (_, refl), h)

@@ -45,7 +45,7 @@ module _ (kinds : Kinds) (in_frame : Key → Bool) where
   plain_count : (t : Term) → IsCount kinds in_frame t → IsPlain (sizes_of kinds) t
   plain_count = counted kinds in_frame (λ t. IsPlain (sizes_of kinds) t) (λ n at. tt) (λ x n t at e i. (refl, tt, tt))
 
-  plain_flag : (t : Term) → IsFlag kinds in_frame t → IsPlain (sizes_of kinds) t
+  pub plain_flag : (t : Term) → IsFlag kinds in_frame t → IsPlain (sizes_of kinds) t
   plain_flag (var x) i = tt
   plain_flag (num n at) i = absurd i
   plain_flag (truth b at) i = absurd i

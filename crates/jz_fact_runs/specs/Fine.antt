@@ -1,5 +1,5 @@
 -- What expansion leaves: operations, tests and results, as typing gives them.
-use Rattle.std.specs.Prelude.{◌≡◌, Bool, false, ◌&&◌, List, [], ◌∷◌, Option, Some, None}
+use Rattle.std.specs.Prelude.{◌≡◌, ◌⊎◌, Bool, true, false, ◌&&◌, List, [], ◌∷◌, Option, Some, None}
 use Rattle.x64_insn.specs.Size.{Size}
 use Rattle.jz_tree.specs.Span.{Span}
 use Rattle.jz_tree.specs.declared.expr.BinOp.{BinOp}
@@ -17,7 +17,7 @@ use Rattle.jz_tree.specs.Spellings.{spelled}
 use Rattle.jz_meaning.specs.declared.access.Kind.TheVariants as kind
 use Rattle.jz_meaning.specs.States.{Key}
 use Rattle.jz_meaning.specs.Values.{ref_of}
-use Rattle.jz_meaning.specs.Assignments.{whole_of, is_flag}
+use Rattle.jz_meaning.specs.Assignments.{whole_of, is_flag, carries}
 use Rattle.jz_meaning.specs.Intrinsics.{intrinsic_size}
 use Rattle.jz_meaning.specs.Statements.{Operation, assign, instruction, unset, meaningless, Condition}
 use Rattle.jz_run_laws.specs.Kinds.{Kinds}
@@ -127,6 +127,23 @@ module _ (kinds : Kinds) (in_frame : Key → Bool) where
     pub first : IsWord kinds in_frame (Some z) z (term_of left)
     pub second : IsWord kinds in_frame (Some z) z (term_of right)
 
+  -- the same with a flag behind it
+  pub record IsCarriedPair (p : Pair) (z : Size) (w : Expr) : Type 0 where
+    pub inner : Expr
+    pub left : Expr
+    pub right : Expr
+    pub flag : Expr
+    pub inner_at : Span
+    pub at : Span
+    pub is : out-Expr w ≡ Expr-F.Bin (op_of p) inner flag at
+    pub inner_is : out-Expr inner ≡ Expr-F.Bin (op_of p) left right inner_at
+    pub by_flag : is_flag flag ≡ true
+    pub may_carry : carries (op_of p) (op_of p) ≡ true
+    pub no_number : (is_number (term_of left) && is_number (term_of right)) ≡ false
+    pub first : IsWord kinds in_frame (Some z) z (term_of left)
+    pub second : IsWord kinds in_frame (Some z) z (term_of right)
+    pub third : IsFlag kinds in_frame (term_of flag)
+
   -- of two left sides, of which the last is a variable
   pub record IsPaired (d : Lval) (x : Var) (op : Option BinOp) (e : Expr) : Type 0 where
     pub pair : Pair
@@ -135,7 +152,8 @@ module _ (kinds : Kinds) (in_frame : Key → Bool) where
     pub scalar : IsScalar kinds in_frame (ref_of x)
     pub other : TakesShape (before pair size) d
     pub value :
-        (w : Expr) → whole_of (Some (lval.Var x)) op e ≡ Some w → IsPair pair size w
+        (w : Expr) → whole_of (Some (lval.Var x)) op e ≡ Some w
+        → IsPair pair size w ⊎ IsCarriedPair pair size w
 
   -- one value to a variable, to a cell or to memory
   abbrev pub IsOne : Lval → Option BinOp → Expr → Option Expr → Type 0
