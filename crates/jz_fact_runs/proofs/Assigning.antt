@@ -75,7 +75,7 @@ module _ (g : Given) (kinds : Kinds) (in_frame : Key → Bool) (entry : Key → 
 
   -- ---- the facts are of scalars or cells
 
-  gained_scalar : (k : Kind) (z : Size) (t : Term) (f : Fact) → gained g s k (the_word z t) f ≡ true → is_of_cell f ≡ false
+  pub gained_scalar : (k : Kind) (z : Size) (t : Term) (f : Fact) → gained g s k (the_word z t) f ≡ true → is_of_cell f ≡ false
   gained_scalar k z t (Set v) e = refl
   gained_scalar k z t (AtLeast v c) e = refl
   gained_scalar k z t (AtMost v c) e = refl

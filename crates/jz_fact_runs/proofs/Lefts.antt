@@ -51,12 +51,12 @@ module _ (g : Given) (kinds : Kinds) (in_frame : Key → Bool) (entry : Key → 
     pub memory : t.memory ≡ m
 
   -- what a flag or a word gains: that it is set, or nothing
-  abbrev Gains : Gets → Facts → Type 0
+  abbrev pub Gains : Gets → Facts → Type 0
   Gains none new = (f : Fact) → new f ≡ true → ⊥
   Gains some_value new = (f : Fact) → new f ≡ true → only_set f ≡ true
   Gains (the_word z t) new = ⊥
 
-  gains : (k : Kind) (y : Gets) (h : Shape) (o : Option Value) → IsGot y h o → Gains y (gained g first k y)
+  pub gains : (k : Kind) (y : Gets) (h : Shape) (o : Option Value) → IsGot y h o → Gains y (gained g first k y)
   gains k none h o e = λ f q. absurd (cc q)
   gains kind.Bool some_value h o e = λ f q. q
   gains kind.Int some_value h o e = λ f q. q
@@ -67,7 +67,7 @@ module _ (g : Given) (kinds : Kinds) (in_frame : Key → Bool) (entry : Key → 
   gains k (the_word z t) (a_word y) o e = absurd e
 
   -- one variable gets a value, or none
-  one_half : (k : Key) (y : Gets) (new : Facts) (v : Option Value) (s : Facts) (t : State) → in_frame (whole k) ≡ false → Gains y new → (y ≡ some_value → IsSome v) → Half s t → Half (renewed k new s) (with_value t k v)
+  pub one_half : (k : Key) (y : Gets) (new : Facts) (v : Option Value) (s : Facts) (t : State) → in_frame (whole k) ≡ false → Gains y new → (y ≡ some_value → IsSome v) → Half s t → Half (renewed k new s) (with_value t k v)
   one_half k y new v s t i n p H = record {
     says = λ f e. says f (same_key (subject f) k) refl e;
     apart = λ f e. apart f (same_key (subject f) k) refl e;
@@ -119,10 +119,10 @@ module _ (g : Given) (kinds : Kinds) (in_frame : Key → Bool) (entry : Key → 
   flag_held at k o e (inl q) = subst (λ u. Runs (λ h. h ≡ u) (held_or_unset at k u)) (sym q) refl
   flag_held at k o e (inr (b, q)) = subst (λ u. Runs (λ h. h ≡ u) (held_or_unset at k u)) (sym q) (subst (λ d. Runs (λ h. h ≡ Some (boolean b)) (held_or_unset at d (Some (boolean b)))) (sym e) refl)
 
-  word_held : (at : Span) (k : Kind) (z : Size) (n : ℕ) → k ≡ kind.Word z → Runs (λ h. h ≡ Some (word z n)) (held_or_unset at k (Some (word z n)))
+  pub word_held : (at : Span) (k : Kind) (z : Size) (n : ℕ) → k ≡ kind.Word z → Runs (λ h. h ≡ Some (word z n)) (held_or_unset at k (Some (word z n)))
   word_held at k z n e = subst (λ d. Runs (λ h. h ≡ Some (word z n)) (held_or_unset at d (Some (word z n)))) (sym e) (subst (λ c. Runs (λ h. h ≡ Some (word z n)) (and_then (and_then (defined at (if c then Some n else None)) (λ a. went [] (word z a))) (λ h. went [] (Some h)))) (sym (same_size-refl z)) refl)
 
-  is_there : (y : Gets) (h : Shape) (o : Option Value) → IsGot y h o → y ≡ some_value → IsSome o
+  pub is_there : (y : Gets) (h : Shape) (o : Option Value) → IsGot y h o → y ≡ some_value → IsSome o
   is_there some_value a_flag o (b, q) e = subst IsSome (sym q) refl
   is_there some_value (a_word z) o (n, q) e = subst IsSome (sym q) refl
   is_there none a_flag o q e = absurd (cc e)
@@ -130,11 +130,11 @@ module _ (g : Given) (kinds : Kinds) (in_frame : Key → Bool) (entry : Key → 
   is_there (the_word z t) a_flag o q e = absurd q
   is_there (the_word z t) (a_word u) o q e = absurd q
 
-  abbrev TakesRef : Shape → Ref → Type 0
+  abbrev pub TakesRef : Shape → Ref → Type 0
   TakesRef a_flag x = (x.kind ≡ kind.Bool) × IsScalar kinds in_frame x
   TakesRef (a_word z) x = (x.kind ≡ kind.Word z) × IsScalar kinds in_frame x
 
-  left_held : (x : Ref) (y : Gets) (h : Shape) (o : Option Value) → IsGot y h o → TakesRef h x → Runs (λ u. u ≡ o) (held_or_unset x.span x.kind o)
+  pub left_held : (x : Ref) (y : Gets) (h : Shape) (o : Option Value) → IsGot y h o → TakesRef h x → Runs (λ u. u ≡ o) (held_or_unset x.span x.kind o)
   left_held x none a_flag o q i = flag_held x.span x.kind o i.0 q
   left_held x some_value a_flag o q i = flag_held x.span x.kind o i.0 (inr q)
   left_held x some_value (a_word z) o (n, q) i = subst (λ u. Runs (λ h. h ≡ u) (held_or_unset x.span x.kind u)) (sym q) (word_held x.span x.kind z n i.0)
@@ -142,11 +142,11 @@ module _ (g : Given) (kinds : Kinds) (in_frame : Key → Bool) (entry : Key → 
   left_held x (the_word z t) a_flag o q i = absurd q
   left_held x (the_word z t) (a_word u) o q i = absurd q
 
-  takes : (h : Shape) (x : Var) → TakesShape kinds in_frame h (lval.Var x) → TakesRef h (ref_of x)
+  pub takes : (h : Shape) (x : Var) → TakesShape kinds in_frame h (lval.Var x) → TakesRef h (ref_of x)
   takes a_flag x i = i
   takes (a_word z) x i = i
 
-  scalar : (h : Shape) (x : Ref) → TakesRef h x → IsScalar kinds in_frame x
+  pub scalar : (h : Shape) (x : Ref) → TakesRef h x → IsScalar kinds in_frame x
   scalar a_flag x i = i.1
   scalar (a_word z) x i = i.1
 
@@ -233,7 +233,7 @@ module _ (g : Given) (kinds : Kinds) (in_frame : Key → Bool) (entry : Key → 
 
   -- ---- it stands behind it
 
-  here : Half g kinds in_frame entry s st.memory s st
+  pub here : Half g kinds in_frame entry s st.memory s st
   here = record { says = H.says; apart = H.apart; memory = refl }
 
   pub instructed_stands : (i : Option Instance) (to : List Lval) (args : List Expr) (at : Span) → IsInstructed kinds in_frame i to args → Yields (Stands g kinds in_frame entry (instructed g i to args s)) (instruction_done i to args at st)
@@ -252,7 +252,7 @@ module _ (g : Given) (kinds : Kinds) (in_frame : Key → Bool) (entry : Key → 
 
   -- ---- it is not stuck
 
-  word_in_runs : (at : Span) (z : Size) (a : Expr) → IsWord kinds in_frame (Some z) z (term_of a) → asks_expr g s (Some z) a ≡ None → Runs (λ n. Unit {0}) (word_in at z a st)
+  pub word_in_runs : (at : Span) (z : Size) (a : Expr) → IsWord kinds in_frame (Some z) z (term_of a) → asks_expr g s (Some z) a ≡ None → Runs (λ n. Unit {0}) (word_in at z a st)
   word_in_runs at z a i q =
       subst (λ (m : Meaning). Runs (λ n. Unit {0}) (and_then (m.run (Some z) st) (word_at at z))) (sym (term_so a))
       (runs_then (OfSize z (is_number (term_of a))) (λ n. Unit {0}) ((means (term_of a)).run (Some z) st) (word_at at z) (word_runs g kinds in_frame entry s st H nn (term_of a) (Some z) z i q) (λ v h. word_goes at z (is_number (term_of a)) v h))

@@ -17,3 +17,5 @@ pub mod Writing
 pub mod Safe
 pub mod Instructing
 pub mod Lefts
+pub mod Pairs
+pub mod Paired

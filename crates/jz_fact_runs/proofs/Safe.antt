@@ -46,6 +46,7 @@ use Rattle.jz_fact_runs.proofs.Assigning.{assigned_stands, assigned_runs}
 use Rattle.jz_fact_runs.proofs.Cells.{cell_stands, store_stands}
 use Rattle.jz_fact_runs.proofs.Writing.{cell_runs, store_runs}
 use Rattle.jz_fact_runs.proofs.Lefts.{instructed_stands, instructed_runs}
+use Rattle.jz_fact_runs.proofs.Paired.{paired_stands, paired_runs}
 use Rattle.jz_fact_runs.proofs.Going.{tests_run}
 
 from_went : {A : Type 0} (P : A → Type 0) (e : Evaluation A) (ns : List ℕ) (x : A) → e ≡ went ns x → Yields P e → P x
@@ -65,13 +66,16 @@ module _ (g : Given) (kinds : Kinds) (in_frame : Key → Bool) (entry : Key → 
   operation_stands (assign (lval.Var x ∷ []) o e c at) s st i H = assigned_stands g kinds in_frame entry s st H nn x o e c at i.0
   operation_stands (assign (lval.Cell x j ∷ []) o e None at) s st i H = cell_stands g kinds in_frame entry s st H nn x j o e at i
   operation_stands (assign (lval.Store a ∷ []) o e None at) s st i H = store_stands g kinds in_frame entry s st H nn a o e at
+  operation_stands (assign (d ∷ lval.Var x ∷ []) o e None at) s st i H = paired_stands g kinds in_frame entry s st H nn d x o e at i
   operation_stands (assign [] o e c at) s st i H = absurd i
-  operation_stands (assign (lval.Skip p ∷ ds) o e c at) s st i H = absurd i
-  operation_stands (assign (lval.Var x ∷ d ∷ ds) o e c at) s st i H = absurd i
+  operation_stands (assign (lval.Skip p ∷ []) o e c at) s st i H = absurd i
   operation_stands (assign (lval.Cell x j ∷ []) o e (Some c) at) s st i H = absurd i
-  operation_stands (assign (lval.Cell x j ∷ d ∷ ds) o e c at) s st i H = absurd i
   operation_stands (assign (lval.Store a ∷ []) o e (Some c) at) s st i H = absurd i
-  operation_stands (assign (lval.Store a ∷ d ∷ ds) o e c at) s st i H = absurd i
+  operation_stands (assign (d ∷ lval.Var x ∷ []) o e (Some c) at) s st i H = absurd i
+  operation_stands (assign (d ∷ lval.Skip p ∷ []) o e c at) s st i H = absurd i
+  operation_stands (assign (d ∷ lval.Cell x j ∷ []) o e c at) s st i H = absurd i
+  operation_stands (assign (d ∷ lval.Store a ∷ []) o e c at) s st i H = absurd i
+  operation_stands (assign (d ∷ b ∷ f ∷ ds) o e c at) s st i H = absurd i
   operation_stands (instruction to n args at) s st i H = instructed_stands g kinds in_frame entry s st H nn (spelled n) to args at i
   operation_stands (unset xs) s st i H = H
   operation_stands (meaningless at) s st i H = absurd i
@@ -80,13 +84,16 @@ module _ (g : Given) (kinds : Kinds) (in_frame : Key → Bool) (entry : Key → 
   operation_runs (assign (lval.Var x ∷ []) o e c at) s st i H q = assigned_runs g kinds in_frame entry s st H nn x o e c at i.0 i.1 q
   operation_runs (assign (lval.Cell x j ∷ []) o e None at) s st i H q = cell_runs g kinds in_frame entry s st H nn x j o e at i q
   operation_runs (assign (lval.Store a ∷ []) o e None at) s st i H q = store_runs g kinds in_frame entry s st H nn a o e at i q
+  operation_runs (assign (d ∷ lval.Var x ∷ []) o e None at) s st i H q = paired_runs g kinds in_frame entry s st H nn d x o e at i q
   operation_runs (assign [] o e c at) s st i H q = absurd i
-  operation_runs (assign (lval.Skip p ∷ ds) o e c at) s st i H q = absurd i
-  operation_runs (assign (lval.Var x ∷ d ∷ ds) o e c at) s st i H q = absurd i
+  operation_runs (assign (lval.Skip p ∷ []) o e c at) s st i H q = absurd i
   operation_runs (assign (lval.Cell x j ∷ []) o e (Some c) at) s st i H q = absurd i
-  operation_runs (assign (lval.Cell x j ∷ d ∷ ds) o e c at) s st i H q = absurd i
   operation_runs (assign (lval.Store a ∷ []) o e (Some c) at) s st i H q = absurd i
-  operation_runs (assign (lval.Store a ∷ d ∷ ds) o e c at) s st i H q = absurd i
+  operation_runs (assign (d ∷ lval.Var x ∷ []) o e (Some c) at) s st i H q = absurd i
+  operation_runs (assign (d ∷ lval.Skip p ∷ []) o e c at) s st i H q = absurd i
+  operation_runs (assign (d ∷ lval.Cell x j ∷ []) o e c at) s st i H q = absurd i
+  operation_runs (assign (d ∷ lval.Store a ∷ []) o e c at) s st i H q = absurd i
+  operation_runs (assign (d ∷ b ∷ f ∷ ds) o e c at) s st i H q = absurd i
   operation_runs (instruction to n args at) s st i H q = instructed_runs g kinds in_frame entry s st H nn (spelled n) to args at i q
   operation_runs (unset xs) s st i H q = tt
   operation_runs (meaningless at) s st i H q = absurd i

@@ -1,7 +1,12 @@
 -- What expansion leaves: operations, tests and results, as typing gives them.
-use Rattle.std.specs.Prelude.{◌≡◌, Bool, List, [], ◌∷◌, Option, Some, None}
+use Rattle.std.specs.Prelude.{◌≡◌, Bool, false, ◌&&◌, List, [], ◌∷◌, Option, Some, None}
 use Rattle.x64_insn.specs.Size.{Size}
+use Rattle.jz_tree.specs.Span.{Span}
+use Rattle.jz_tree.specs.declared.expr.BinOp.{BinOp}
+use Rattle.jz_tree.specs.declared.expr.BinOp.TheVariants as o
 use Rattle.jz_tree.specs.declared.expr.Expr.{Expr}
+use Rattle.jz_tree.specs.declared.expr.Expr.TheOpen.{Expr-F}
+use Rattle.jz_tree.specs.declared.expr.Expr.TheViews.{out-Expr}
 use Rattle.jz_tree.specs.declared.expr.Var.{Var}
 use Rattle.jz_tree.specs.declared.stmt.Lval.{Lval}
 use Rattle.jz_tree.specs.declared.stmt.Lval.TheVariants as lval
@@ -12,10 +17,12 @@ use Rattle.jz_tree.specs.Spellings.{spelled}
 use Rattle.jz_meaning.specs.declared.access.Kind.TheVariants as kind
 use Rattle.jz_meaning.specs.States.{Key}
 use Rattle.jz_meaning.specs.Values.{ref_of}
+use Rattle.jz_meaning.specs.Assignments.{whole_of, is_flag}
 use Rattle.jz_meaning.specs.Intrinsics.{intrinsic_size}
-use Rattle.jz_meaning.specs.Statements.{Operation, assign, instruction, unset, Condition}
+use Rattle.jz_meaning.specs.Statements.{Operation, assign, instruction, unset, meaningless, Condition}
 use Rattle.jz_run_laws.specs.Kinds.{Kinds}
 use Rattle.jz_terms.specs.Terms.{term_of}
+use Rattle.jz_fact_laws.specs.Saying.{is_number}
 use Rattle.jz_fact_runs.specs.Typing.{IsScalar, IsFlag, IsWord, IsAnswer, AreMarks, IsWordAssigned, IsCellAssigned, IsStored, HasAnswer}
 
 -- what an instruction gives a left side
@@ -67,6 +74,22 @@ form_of name.Not = one_word
 form_of name.Bswap = one_word
 form_of i = another
 
+-- two results: a carry before a sum, a borrow before a difference, a high word before a product
+pub data Pair : Type 0 where
+  of_sum : Pair
+  of_difference : Pair
+  of_product : Pair
+
+abbrev pub op_of : Pair → BinOp
+op_of of_sum = o.Add
+op_of of_difference = o.Sub
+op_of of_product = o.Mul
+
+abbrev pub before : Pair → Size → Shape
+before of_sum z = a_flag
+before of_difference z = a_flag
+before of_product z = a_word z
+
 module _ (kinds : Kinds) (in_frame : Key → Bool) where
   abbrev pub TakesShape : Shape → Lval → Type 0
   TakesShape h (lval.Skip at) = Unit {0}
@@ -93,14 +116,50 @@ module _ (kinds : Kinds) (in_frame : Key → Bool) where
       (z : Size) × (intrinsic_size i.name i.size to args ≡ Some z)
       × AreOperands (form_of i.name) z args × TakeShapes (shapes_of i.name z) to
 
-  -- assignments of one value, instructions without shifts and divisions, and marks
+  -- an operation on two words, none of them a flag
+  pub record IsPair (p : Pair) (z : Size) (w : Expr) : Type 0 where
+    pub left : Expr
+    pub right : Expr
+    pub at : Span
+    pub is : out-Expr w ≡ Expr-F.Bin (op_of p) left right at
+    pub no_flag : is_flag right ≡ false
+    pub no_number : (is_number (term_of left) && is_number (term_of right)) ≡ false
+    pub first : IsWord kinds in_frame (Some z) z (term_of left)
+    pub second : IsWord kinds in_frame (Some z) z (term_of right)
+
+  -- of two left sides, of which the last is a variable
+  pub record IsPaired (d : Lval) (x : Var) (op : Option BinOp) (e : Expr) : Type 0 where
+    pub pair : Pair
+    pub size : Size
+    pub is : (ref_of x).kind ≡ kind.Word size
+    pub scalar : IsScalar kinds in_frame (ref_of x)
+    pub other : TakesShape (before pair size) d
+    pub value :
+        (w : Expr) → whole_of (Some (lval.Var x)) op e ≡ Some w → IsPair pair size w
+
+  -- one value to a variable, to a cell or to memory
+  abbrev pub IsOne : Lval → Option BinOp → Expr → Option Expr → Type 0
+  IsOne (lval.Var x) op e c = IsWordAssigned kinds in_frame x op e × HasAnswer kinds in_frame c
+  IsOne (lval.Cell x i) op e None = IsCellAssigned kinds in_frame x i op e
+  IsOne (lval.Store a) op e None = IsStored kinds in_frame a op e
+  IsOne d op e c = ⊥
+
+  abbrev pub IsTwo : Lval → Lval → Option BinOp → Expr → Option Expr → Type 0
+  IsTwo d (lval.Var x) op e None = IsPaired d x op e
+  IsTwo d b op e c = ⊥
+
+  abbrev pub AreAssigned : List Lval → Option BinOp → Expr → Option Expr → Type 0
+  AreAssigned (d ∷ []) op e c = IsOne d op e c
+  AreAssigned (d ∷ b ∷ []) op e c = IsTwo d b op e c
+  AreAssigned to op e c = ⊥
+
+  -- assignments of one value, and of two to variables, instructions without shifts and divisions,
+  -- and marks
   abbrev pub IsFine : Operation → Type 0
-  IsFine (assign (lval.Var x ∷ []) op e c at) = IsWordAssigned kinds in_frame x op e × HasAnswer kinds in_frame c
-  IsFine (assign (lval.Cell x i ∷ []) op e None at) = IsCellAssigned kinds in_frame x i op e
-  IsFine (assign (lval.Store a ∷ []) op e None at) = IsStored kinds in_frame a op e
+  IsFine (assign to op e c at) = AreAssigned to op e c
   IsFine (instruction to n args at) = IsInstructed (spelled n) to args
   IsFine (unset xs) = AreMarks in_frame xs
-  IsFine op = ⊥
+  IsFine (meaningless at) = ⊥
 
   abbrev pub IsFineTest : Condition → Type 0
   IsFineTest c = IsAnswer kinds in_frame (term_of c.cond)

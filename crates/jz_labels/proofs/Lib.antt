@@ -1,3 +1,6 @@
 pub mod MoreLabels
 pub mod OneBreach
+pub mod Keys
+pub mod Existing
+pub mod Comparing
 mod Rows

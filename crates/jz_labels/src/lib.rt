@@ -4,4 +4,4 @@
 
 mod laws;
 
-pub use laws::{more_public_makes_more_public, one_first_breach};
+pub use laws::{labels_or_a_breach, more_public_makes_more_public, one_first_breach};
