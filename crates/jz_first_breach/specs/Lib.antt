@@ -1,0 +1,2 @@
+pub mod BreachLaws
+pub use Rattle.jz_labels.specs.ConstantTime

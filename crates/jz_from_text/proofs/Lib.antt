@@ -1,0 +1,4 @@
+pub mod Merging
+pub mod Parameters
+pub mod Head
+pub mod Compiled
