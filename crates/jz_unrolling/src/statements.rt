@@ -67,12 +67,20 @@ pub(crate) fn unroll_all(
         IfAnswered result (OrElse (Adds names piece known.old known.new out.old out.new)
         (NeverFits names piece (numbers_in known.old))) }
 {
-    let mut steps = Seq::new(unroller.alloc);
+    let mut steps = with_room(unroller.alloc, stmts.len())?;
     for stmt in stmts.as_slice() {
         let step = unroll_one(unroller, known, stmt, out)?;
         push_step(&mut steps, step)?;
     }
     Ok(steps)
+}
+
+/// No step yet, and room for so many: a round with one statement keeps one step alone.
+fn with_room(alloc: Global, count: usize) -> Result<Seq<Step>, AllocError>
+    ensures { IfOk result (λ steps. steps ≡ []) }
+{
+    let items = Vec::with_capacity(alloc, count)?;
+    Ok(Seq::from_vec(items))
 }
 
 fn push_step(steps: &mut Seq<Step>, step: Option<Step>) -> Result<(), AllocError>

@@ -35,7 +35,7 @@ pub unroll_all-loop-stmt-init : goal.unroll_all-loop-stmt-init
 unroll_all-loop-stmt-init t c =
     let names = names_in c.args.unroller.now.vars.now in
     let k = c.args.known.now in
-    subst (λ l. Adds names (block no_callees (take 0 c.args.stmts.now)) k k c.args.out.now c.args.out.now l) (sym c.new-steps.ensures) (adds_none names k c.args.out.now)
+    subst (λ l. Adds names (block no_callees (take 0 c.args.stmts.now)) k k c.args.out.now c.args.out.now l) (sym c.in_ok-steps.ensures) (adds_none names k c.args.out.now)
 
 pub unroll_all-loop-stmt-preserved : goal.unroll_all-loop-stmt-preserved
 unroll_all-loop-stmt-preserved t c =
@@ -48,7 +48,7 @@ unroll_all-loop-stmt-preserved t c =
 pub unroll_all-returns-in_err-step : goal.unroll_all-returns-in_err-step
 unroll_all-returns-in_err-step t c =
     let names = names_in c.args.unroller.now.vars.now in
-    handed _ _ c.from_residual.result c.in_err-step.field-0.0 c.from_residual.ensures.1 c.in_err-step.ensures
+    handed _ _ c.from_residual-in_err-step.result c.in_err-step.field-0.0 c.from_residual-in_err-step.ensures.1 c.in_err-step.ensures
     (at_never names c.args.stmts.now c.loop-stmt.stmt-index c.stmt-item.result (numbers_in c.args.known.now) (numbers_in c.loop-stmt.known) (search rules) (search rules) c.loop-stmt.invariant.only)
 
 -- ---- parts by themselves
