@@ -62,12 +62,15 @@ fn typed_text(alloc: Global, text: &str) -> Result<Typed, &'static str>
     Ok(typed)
 }
 
-/// The last function of a text.
-fn last_compiled(
-    rt: &impl Abort,
-    alloc: Global,
-    text: &str,
-) -> Result<Result<Compiled, NotCompiled>, Fail> {
+/// What becomes of a function.
+#[derive(Drop)]
+enum Answer {
+    Made(Compiled),
+    Refused(NotCompiled),
+}
+
+/// That of the last function of a text.
+fn last_compiled(rt: &impl Abort, alloc: Global, text: &str) -> Result<Answer, Fail> {
     let typed = typed_text(alloc, text)?;
     let functions = typed.program().funs.as_slice();
     let last = functions.len().checked_sub(1).ok_or("no function")?;
@@ -77,16 +80,16 @@ fn last_compiled(
         .ok_or("the function passes a limit")?;
     let (fun, change) = expanded.into_parts();
     match compile_expanded(alloc, &fun, change, Ct::Yes) {
-        Ok(compiled) => Ok(Ok(compiled)),
-        Err(Failure::Refused(why)) => Ok(Err(why)),
+        Ok(compiled) => Ok(Answer::Made(compiled)),
+        Err(Failure::Refused(why)) => Ok(Answer::Refused(why)),
         Err(Failure::OutOfMemory) => Err("no memory".into()),
     }
 }
 
 fn shown(rt: &impl Abort, alloc: Global, text: &str) -> Result<Seq<u8>, Fail> {
     match last_compiled(rt, alloc, text)? {
-        Ok(compiled) => Ok(listing(alloc, &[compiled])?),
-        Err(_) => panic!(rt; "refused: {text}"),
+        Answer::Made(compiled) => Ok(listing(alloc, &[compiled])?),
+        Answer::Refused(_) => panic!(rt; "refused: {text}"),
     }
 }
 
@@ -152,8 +155,8 @@ fn refusals(rt: HostRuntime) -> Result<(), Fail> {
             panic!(&rt; "no row: {row}")
         };
         match last_compiled(&rt, alloc, text)? {
-            Ok(_) => panic!(&rt; "compiled: {row}"),
-            Err(refusal) => {
+            Answer::Made(_) => panic!(&rt; "compiled: {row}"),
+            Answer::Refused(refusal) => {
                 let came = why(alloc, refusal)?;
                 assert!(rt; came.as_str() == *wanted, "{came}: {row}");
             }
