@@ -1,5 +1,6 @@
 -- Parts of a compiled function, and the function.
 use Rattle.std.specs.Prelude.{◌≡◌, ℕ, List}
+use Rattle.jz_io.specs.declared.verdict.Ct.{Ct}
 use Rattle.jz_tree.specs.declared.program.Fun.{Fun}
 use Rattle.jz_change.specs.Composing.{compose_of}
 use Rattle.jz_change.specs.Flattening.{flatten_of}
@@ -18,8 +19,8 @@ pub record IsHeadOf (g : Fun) (h : Head) : Type 0 where
   pub rets : AreResultLines result_registers g.result g.rets h.rets
   pub pre : h.pre ≡ listed_preconditions g
 
-pub record IsPutTogether (called : List ℕ) (h : Head) (b : Both) (m : MachineCode) (c : Compiled)
-    : Type 0 where
+pub record IsPutTogether (called : List ℕ) (h : Head) (b : Both) (m : MachineCode) (said : Ct)
+    (c : Compiled) : Type 0 where
   pub name : c.name ≡ called
   pub args : c.args ≡ h.args
   pub rets : c.rets ≡ h.rets
@@ -28,3 +29,4 @@ pub record IsPutTogether (called : List ℕ) (h : Head) (b : Both) (m : MachineC
   pub saved : c.saved ≡ m.saved
   pub transformer :
       c.tr ≡ flatten_of (compose_of (change_of b.first) (change_of b.second)) m.transformer
+  pub ct : c.ct ≡ said

@@ -113,7 +113,7 @@ fn put_together(
     code: MachineCode,
     ct: Ct,
 ) -> Result<Compiled, AllocError>
-    ensures { IfOk result (IsPutTogether name.now head changes code) }
+    ensures { IfOk result (IsPutTogether name.now head changes code ct) }
 {
     let MachineCode {
         bytes,
@@ -148,7 +148,7 @@ pub fn compile_expanded(
     change: Change,
     ct: Ct,
 ) -> Result<Compiled, Failure<NotCompiled>>
-    ensures { IfOk result (IsMadeOf fun.now (change_of change)) }
+    ensures { IfOk result (λ c. IsMadeOf fun.now (change_of change) c × (c.ct ≡ ct)) }
 {
     let head = headed(alloc, fun)?;
     let lowered = lowered(alloc, fun)?;

@@ -10,4 +10,5 @@ returns c = record {
   has = record { code = refl; insns = refl; frame = search rules };
   saved = refl;
   transformer = c.in_ok-tr.ensures;
+  ct = refl;
 }
