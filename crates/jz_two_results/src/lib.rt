@@ -1,0 +1,4 @@
+//! Assignments of two results in an expanded function: where the conditions are met, they are not stuck.
+#![tactic(auto)]
+
+mod laws;
