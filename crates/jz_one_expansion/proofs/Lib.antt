@@ -1,0 +1,3 @@
+pub mod ScalarTrees
+pub mod NoFor
+pub mod Expansions

@@ -1,0 +1,6 @@
+//! The expansion of a function is one. There is no code here.
+#![tactic(auto)]
+
+mod laws;
+
+pub use laws::one_expansion;
