@@ -98,7 +98,7 @@ module _ (g : Given) (kinds : Kinds) (in_frame : Key → Bool) (entry : Key → 
   pub store_last : (a : Access) (z : Size) (zo : Option Size) → option_or (place_of a).spot.size zo ≡ Some z → IsSum kinds in_frame (place_of a).at → asks_left g s zo (lval.Store a) ≡ None → (k : Bool) (v : Value) → OfSize z k v → (t : State) → AsBefore kinds in_frame st t → t.memory ≡ st.memory → Runs (λ u. Unit {0}) (written zo (lval.Store a) (Some v) t)
   store_last a z zo e j q k v h t b m =
       let p = place_of a in
-      let R = λ (e : Evaluation Value) (d : Memory). Runs (λ (u : State). Unit {0}) (and_then e (λ n. and_then (store_at (access_at p) zo n (Some v) d) (λ m. went [] (record t { memory = m })))) in
+      let R : Evaluation Value → Memory → Type 0 = λ (e : Evaluation Value) (d : Memory). Runs (λ (u : State). Unit {0}) (and_then e (λ n. and_then (store_at (access_at p) zo n (Some v) d) (λ m. went [] (record t { memory = m })))) in
       subst (λ (y : MemoryAccess). Runs (λ u. Unit {0}) (and_then (y.at t) (λ n. and_then (store_at y zo n (Some v) t.memory) (λ m. went [] (record t { memory = m }))))) (sym (access_so a))
       (subst (λ (e : Evaluation Value). R e t.memory) (sym (sum_same kinds in_frame st p.at j t b))
       (subst (λ (d : Memory). R ((means p.at).run (Some S64) st) d) (sym m)

@@ -231,7 +231,7 @@ module _ (g : Given) (kinds : Kinds) (in_frame : Key → Bool) (entry : Key → 
   last_yields : (zo : Option Size) (d : Lval) (y : Gets) (z : Size) (o : Option Value) → IsGot y (a_word z) o → TakesShape kinds in_frame (a_word z) d → (f : Facts) (t : State) → HalfHere f t → Yields (BehindHere (holding.written g s d y f)) (written zo d o t)
   last_yields zo (lval.Skip p) y z o q i f t h = half_behind f t h
   last_yields zo (lval.Var x) y z o q i f t h =
-      let F = renewed (key_of (ref_of x)) (gained g s (ref_of x).kind y) f in
+      let F : Facts = renewed (key_of (ref_of x)) (gained g s (ref_of x).kind y) f in
       yields_all (HalfHere F) (BehindHere F) (written zo (lval.Var x) o t) (λ u k. half_behind F u k) (runs_yields (HalfHere F) (written zo (lval.Var x) o t) (register_run zo x y (a_word z) o q i f t h))
   last_yields zo (lval.Cell x j) y z o q i f t h = cell_behind g in_frame entry kinds x j z i.0 i.1 zo o f t (half_behind f t h)
   last_yields zo (lval.Store a) y z o q i f t h = store_behind g in_frame entry a zo o f t (half_behind f t h)
@@ -249,7 +249,7 @@ module _ (g : Given) (kinds : Kinds) (in_frame : Key → Bool) (entry : Key → 
   pinned_lefts : (at : Span) (zo : Option Size) (ds : List Lval) (ys : List Gets) (hs : List Shape) (os : Results) (f : Facts) (t : State) → ArePinned hs → AreGot ys hs os → TakeShapes kinds in_frame hs ds → HalfHere f t → Runs (HalfHere (all_written g s ds ys f)) (all_put at zo ds os t)
   pinned_lefts at zo [] [] [] [] f t e q i h = h
   pinned_lefts at zo (d ∷ ds) (y ∷ ys) (a_pinned z ∷ hs) (o ∷ os) f t e q i h =
-      let F = holding.written g s d y f in
+      let F : Facts = holding.written g s d y f in
       runs_then (HalfHere F) (HalfHere (all_written g s ds ys F)) (written zo d o t) (λ u. all_put at zo ds os u) (pinned_run zo d y z o q.0 i.0 f t h) (λ u k. pinned_lefts at zo ds ys hs os F u e q.1 i.1 k)
   pinned_lefts at zo ds ys (a_flag ∷ hs) os f t e q i h = absurd e
   pinned_lefts at zo ds ys (a_word z ∷ hs) os f t e q i h = absurd e
@@ -263,15 +263,15 @@ module _ (g : Given) (kinds : Kinds) (in_frame : Key → Bool) (entry : Key → 
   pub lefts_yield : (at : Span) (zo : Option Size) (ds : List Lval) (ys : List Gets) (hs : List Shape) (os : Results) (f : Facts) (t : State) → (z : Size) → IsEnded z hs → AreGot ys hs os → TakeShapes kinds in_frame hs ds → HalfHere f t → Before t → Yields (BehindHere (all_written g s ds ys f)) (all_put at zo ds os t)
   lefts_yield at zo [] [] [] [] f t r e q i h b = half_behind f t h
   lefts_yield at zo (d ∷ ds) (y ∷ ys) (a_flag ∷ hs) (o ∷ os) f t r e q i h b =
-      let F = holding.written g s d y f in
-      let P = λ (u : State). HalfHere F u × Before u in
+      let F : Facts = holding.written g s d y f in
+      let P : State → Type 0 = λ (u : State). HalfHere F u × Before u in
       yields_then P (BehindHere (all_written g s ds ys F)) (written zo d o t) (λ u. all_put at zo ds os u) (runs_yields P (written zo d o t) (flag_run zo d y o q.0 i.0 f t h b)) (λ u k. lefts_yield at zo ds ys hs os F u r e q.1 i.1 k.0 k.1)
   lefts_yield at zo (d ∷ []) (y ∷ []) (a_word z ∷ []) (o ∷ []) f t r e q i h b =
-      let F = holding.written g s d y f in
+      let F : Facts = holding.written g s d y f in
       yields_then (BehindHere F) (BehindHere F) (written zo d o t) (λ u. went [] u) (last_yields zo d y z o q.0 i.0 f t h) (λ u k. k)
   lefts_yield at zo (d ∷ ds) (y ∷ ys) (a_pinned z ∷ hs) (o ∷ os) f t r e q i h b =
-      let F = all_written g s (d ∷ ds) (y ∷ ys) f in
-      let E = all_put at zo (d ∷ ds) (o ∷ os) t in
+      let F : Facts = all_written g s (d ∷ ds) (y ∷ ys) f in
+      let E : Evaluation State = all_put at zo (d ∷ ds) (o ∷ os) t in
       yields_all (HalfHere F) (BehindHere F) E (λ u k. half_behind F u k) (runs_yields (HalfHere F) E (pinned_lefts at zo (d ∷ ds) (y ∷ ys) (a_pinned z ∷ hs) (o ∷ os) f t e q i h))
   lefts_yield at zo ds (y ∷ ys) [] os f t r e q i h b = absurd q
   lefts_yield at zo ds [] (x ∷ hs) os f t r e q i h b = absurd q
@@ -287,7 +287,7 @@ module _ (g : Given) (kinds : Kinds) (in_frame : Key → Bool) (entry : Key → 
   pub lefts_go : (at : Span) (zo : Option Size) (ds : List Lval) (ys : List Gets) (hs : List Shape) (os : Results) (f : Facts) (t : State) → (z : Size) → zo ≡ Some z → asks_lefts g s zo ds ≡ None → IsEnded z hs → AreGot ys hs os → TakeShapes kinds in_frame hs ds → HalfHere f t → Before t → Runs (λ u. Unit {0}) (all_put at zo ds os t)
   lefts_go at zo [] [] [] [] f t r l a e q i h b = tt
   lefts_go at zo (d ∷ ds) (y ∷ ys) (a_flag ∷ hs) (o ∷ os) f t r l a e q i h b =
-      let F = holding.written g s d y f in
+      let F : Facts = holding.written g s d y f in
       runs_then (λ (u : State). HalfHere F u × Before u) (λ u. Unit {0}) (written zo d o t) (λ u. all_put at zo ds os u) (flag_run zo d y o q.0 i.0 f t h b) (λ u k. lefts_go at zo ds ys hs os F u r l (both_met (asks_left g s zo d) _ a).1 e q.1 i.1 k.0 k.1)
   lefts_go at zo (d ∷ []) (y ∷ []) (a_word z ∷ []) (o ∷ []) f t r l a e q i h b =
       let w = word_got z y o q.0 in

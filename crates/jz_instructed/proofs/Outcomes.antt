@@ -166,7 +166,7 @@ module _ (g : Given) (kinds : Kinds) (in_frame : Key → Bool) (entry : Key → 
     count_does (a ∷ n ∷ []) p q =
         let d = both_asked c (asks_expr g s (Some z) a) _ q in
         let e = both_asked c (asks_expr g s (Some z) n) _ d.1 in
-        let G = Got i (written_count (term_of n)) z in
+        let G : Results → Type 0 = Got i (written_count (term_of n)) z in
         subst (λ (f : List Expr → State → Evaluation Results). Does c G (f (a ∷ n ∷ []) st)) (sym R.is)
         (does_then c (λ x. Unit {0}) G (Word at z a) (λ x. and_then (evaluated n (Some S8) st) (λ v. shift_results R.keep R.kind at z x v)) (word_does g kinds in_frame entry s st H nn c at z a p.0 d.0) (λ x u.
         subst (λ (m : Meaning). Does c G (and_then (m.run (Some S8) st) (λ v. shift_results R.keep R.kind at z x v))) (sym (term_so n)) (shifts (term_of n) p.1 p.2 e.0 x)))
@@ -248,8 +248,8 @@ module _ (g : Given) (kinds : Kinds) (in_frame : Key → Bool) (entry : Key → 
       let zo = intrinsic_size i.name i.size to args in
       let z = p.0 in
       let n = counted args in
-      let facts = all_written g s to (instruction_gets i.name n) s in
-      let B = Behind g in_frame entry facts in
+      let facts : Facts = all_written g s to (instruction_gets i.name n) s in
+      let B : State → Type 0 = Behind g in_frame entry facts in
       three B (IsOfKinds kinds) (λ t. Unit {0}) (Stands g kinds in_frame entry facts) (instruction_done (Some i) to args at st)
       (λ t h k u. record { says = h.says; apart = h.apart; kept = k; ranges = H.ranges; least = H.least; regions = h.valid })
       (yields_then (Comes i.name n z) B (sized_results i.name at zo args st) (λ vs. all_put at zo to vs st)

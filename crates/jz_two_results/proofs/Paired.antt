@@ -321,7 +321,7 @@ module _ (g : Given) (kinds : Kinds) (in_frame : Key → Bool) (entry : Key → 
 
   both_yield : (p : Pair) (zo : Option Size) (at : Span) (d b : Lval) (z n : _) (o : Option Value) (t : Term) → IsGot some_value (before p z) o → TakesShape kinds in_frame (before p z) d → TakesShape kinds in_frame (last_of p z) b → KnownHere z t (word z n) → Yields (BehindHere (FactsBehind d b z t)) (all_put at zo (d ∷ b ∷ []) (o ∷ Some (word z n) ∷ []) st)
   both_yield p zo at d b z n o t q i j K =
-      let f1 = holding.written g s d some_value s in
+      let f1 : Facts = holding.written g s d some_value s in
       let F : State → Type 0 = BehindHere (holding.written g s b (the_word z t) f1) in
       let P : State → Type 0 = λ (u : State). HalfHere f1 u × (is_word_last p ≡ true → Before g kinds in_frame entry s st H nn u) in
       yields_then P F (written zo d o st) (λ u. all_put at zo (b ∷ []) (Some (word z n) ∷ []) u) (runs_yields P (written zo d o st) (first_run p zo d z o q i)) (λ u k.
@@ -339,7 +339,7 @@ module _ (g : Given) (kinds : Kinds) (in_frame : Key → Bool) (entry : Key → 
 
   both_run : (p : Pair) (zo : Option Size) (at : Span) (d b : Lval) (z n : _) (o : Option Value) → zo ≡ Some z → IsGot some_value (before p z) o → TakesShape kinds in_frame (before p z) d → TakesShape kinds in_frame (last_of p z) b → asks_lefts g s zo (d ∷ b ∷ []) ≡ None → Runs (λ t. Unit {0}) (all_put at zo (d ∷ b ∷ []) (o ∷ Some (word z n) ∷ []) st)
   both_run p zo at d b z n o e q i j a =
-      let f1 = holding.written g s d some_value s in
+      let f1 : Facts = holding.written g s d some_value s in
       let c = both_met (asks_left g s zo b) _ (both_met (asks_left g s zo d) _ a).1 in
       let P : State → Type 0 = λ (u : State). HalfHere f1 u × (is_word_last p ≡ true → Before g kinds in_frame entry s st H nn u) in
       runs_then P (λ t. Unit {0}) (written zo d o st) (λ u. all_put at zo (b ∷ []) (Some (word z n) ∷ []) u) (first_run p zo d z o q i) (λ u k.
@@ -354,8 +354,8 @@ module _ (g : Given) (kinds : Kinds) (in_frame : Key → Bool) (entry : Key → 
       let w = i.whole in
       let to = d ∷ b ∷ [] in
       let zo = option_or (left_sizes to) (own_size w) in
-      let Q = IsPairOf p z (KnownHere z (term_of w)) in
-      let B = BehindHere (FactsBehind d b z (term_of w)) in
+      let Q : Results → Type 0 = IsPairOf p z (KnownHere z (term_of w)) in
+      let B : State → Type 0 = BehindHere (FactsBehind d b z (term_of w)) in
       three (BehindHere (does g (assign to o e None at) s)) (IsOfKinds kinds) (λ t. Unit {0}) (Stands g kinds in_frame entry (does g (assign to o e None at) s)) (source.does (assign to o e None at) st)
       (λ t h k u. record { says = h.says; apart = h.apart; kept = k; ranges = H.ranges; least = H.least; regions = h.valid })
       (subst (λ m. Yields (BehindHere (assigned g to m None s)) (assigned_whole to m None at st)) (sym i.is)
@@ -377,7 +377,7 @@ module _ (g : Given) (kinds : Kinds) (in_frame : Key → Bool) (entry : Key → 
       let w = i.whole in
       let to = d ∷ b ∷ [] in
       let zo = option_or (left_sizes to) (own_size w) in
-      let Q = IsPairOf p z (KnownHere z (term_of w)) in
+      let Q : Results → Type 0 = IsPairOf p z (KnownHere z (term_of w)) in
       let a : asks_assign g s to (Some w) None ≡ None = subst (λ m. asks_assign g s to m None ≡ None) i.is q in
       let c = both_met (asks_expr g s zo w) _ a in
       subst (λ m. Runs (λ t. Unit {0}) (assigned_whole to m None at st)) (sym i.is)
