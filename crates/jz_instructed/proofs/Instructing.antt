@@ -113,24 +113,24 @@ carry_known shift.Sar z a n l = known _
 carry_known shift.Shl z a n l = subst (λ c. IsKnown (if c then Undefined else flag (has_bit a (bits_of z - n)))) (sym (not_past (bits_of z) n l)) (known (has_bit a (bits_of z - n)))
 carry_known shift.Shr z a n l = subst (λ c. IsKnown (if c then Undefined else flag (has_bit a (n - 1)))) (sym (not_past (bits_of z) n l)) (known (has_bit a (n - 1)))
 
--- what a count that is 0 leaves, or another one
+-- what a count that is 0 leaves, or another single
 abbrev After : Bool → ℕ → ℕ → List FlagVal → Answer
-After zero a v fs = if zero then record { value = a; flags = no_flags } else record { value = v; flags = fs }
+After nil a v fs = if nil then record { value = a; flags = no_flags } else record { value = v; flags = fs }
 
 abbrev Overflow : Bool → Bool → FlagVal
-Overflow one o = if one then flag o else Undefined
+Overflow single o = if single then flag o else Undefined
 
 abbrev Gots : Bool → Bool → List Gets
-Gots zero one = if zero then flags false false false false false else flags one true true true true
+Gots nil single = if nil then flags false false false false false else flags single true true true true
 
 -- of five flags OF is defined for a count of 1 alone
-five_shifted : (z : Size) (a v : ℕ) (zero one o : Bool) (cf : FlagVal) → IsKnown cf → AreGot (and_values (Gots zero one) 1) (flags_and_word z) (before_value (all_flags (After zero a v (Overflow one o ∷ cf ∷ result_flags z v)).flags) z (After zero a v (Overflow one o ∷ cf ∷ result_flags z v)).value)
-five_shifted z a v true one o cf k = (inl refl, (inl refl, (inl refl, (inl refl, (inl refl, ((_, refl), tt))))))
+five_shifted : (z : Size) (a v : ℕ) (nil single o : Bool) (cf : FlagVal) → IsKnown cf → AreGot (and_values (Gots nil single) 1) (flags_and_word z) (before_value (all_flags (After nil a v (Overflow single o ∷ cf ∷ result_flags z v)).flags) z (After nil a v (Overflow single o ∷ cf ∷ result_flags z v)).value)
+five_shifted z a v true single o cf k = (inl refl, (inl refl, (inl refl, (inl refl, (inl refl, ((_, refl), tt))))))
 five_shifted z a v false true o cf k = (known o, (k, (known _, (known _, (known _, ((_, refl), tt))))))
 five_shifted z a v false false o cf k = (inl refl, (k, (known _, (known _, (known _, ((_, refl), tt))))))
 
-two_shifted : (z : Size) (a v : ℕ) (zero one o : Bool) (cf : FlagVal) → IsKnown cf → AreGot (and_values (first_two (Gots zero one)) 1) (a_flag ∷ a_flag ∷ a_word z ∷ []) (before_value (two_of_flags (After zero a v (slice_set (slice_set no_flags 0 (Overflow one o)) 1 cf)).flags) z (After zero a v (slice_set (slice_set no_flags 0 (Overflow one o)) 1 cf)).value)
-two_shifted z a v true one o cf k = (inl refl, (inl refl, ((_, refl), tt)))
+two_shifted : (z : Size) (a v : ℕ) (nil single o : Bool) (cf : FlagVal) → IsKnown cf → AreGot (and_values (first_two (Gots nil single)) 1) (a_flag ∷ a_flag ∷ a_word z ∷ []) (before_value (two_of_flags (After nil a v (slice_set (slice_set no_flags 0 (Overflow single o)) 1 cf)).flags) z (After nil a v (slice_set (slice_set no_flags 0 (Overflow single o)) 1 cf)).value)
+two_shifted z a v true single o cf k = (inl refl, (inl refl, ((_, refl), tt)))
 two_shifted z a v false true o cf k = (known o, (k, ((_, refl), tt)))
 two_shifted z a v false false o cf k = (inl refl, (k, ((_, refl), tt)))
 
@@ -143,10 +143,10 @@ WithMask keep kind z a m = before_value (keep no_flags) z (shifted kind z a m)
 
 pub record WithCount (i : Intrinsic) (at : Span) (z : Size) : Type 0 where
   pub keep : List FlagVal → Results
-  pub kind : Shift
-  pub is : intrinsic_results i at z ≡ of_count keep kind at z
-  pub by_number : (a n : ℕ) → n < bits_of z → AreGot (instruction_gets i (Some n)) (shapes_of i z) (WithNumber keep kind z a (masked z n))
-  pub by_mask : (a n : ℕ) → AreGot (instruction_gets i None) (shapes_of i z) (WithMask keep kind z a (masked z n))
+  pub shift_of : Shift
+  pub is : intrinsic_results i at z ≡ of_count keep shift_of at z
+  pub by_number : (a n : ℕ) → n < bits_of z → AreGot (instruction_gets i (Some n)) (shapes_of i z) (WithNumber keep shift_of z a (masked z n))
+  pub by_mask : (a n : ℕ) → AreGot (instruction_gets i None) (shapes_of i z) (WithMask keep shift_of z a (masked z n))
 
 shl_number : (z : Size) (a n : ℕ) → n < bits_of z → AreGot (instruction_gets name.Shl (Some n)) (flags_and_word z) (WithNumber all_flags shift.Shl z a (masked z n))
 unfolding shift_answer
@@ -193,39 +193,39 @@ pub record WithCarry (i : Intrinsic) (n : Option ℕ) (at : Span) (z : Size) : T
   pub got : (x y : ℕ) (c : Bool) → AreGot (instruction_gets i n) (shapes_of i z) (f x y c)
 
 pub data Row (i : Intrinsic) : Type 0 where
-  one : form_of i ≡ one_word → ((n : Option ℕ) (at : Span) (z : Size) → OneWord i n at z) → Row i
-  two : form_of i ≡ two_words → ((n : Option ℕ) (at : Span) (z : Size) → TwoWords i n at z) → Row i
-  carry : form_of i ≡ with_carry → ((n : Option ℕ) (at : Span) (z : Size) → WithCarry i n at z) → Row i
-  count : form_of i ≡ with_count → ((at : Span) (z : Size) → WithCount i at z) → Row i
-  division : i ≡ name.Div → Row i
-  address : i ≡ name.Lea → Row i
-  condition : i ≡ name.Setcc → Row i
+  by_one : form_of i ≡ one_word → ((n : Option ℕ) (at : Span) (z : Size) → OneWord i n at z) → Row i
+  by_two : form_of i ≡ two_words → ((n : Option ℕ) (at : Span) (z : Size) → TwoWords i n at z) → Row i
+  by_carry : form_of i ≡ with_carry → ((n : Option ℕ) (at : Span) (z : Size) → WithCarry i n at z) → Row i
+  by_count : form_of i ≡ with_count → ((at : Span) (z : Size) → WithCount i at z) → Row i
+  by_division : i ≡ name.Div → Row i
+  by_address : i ≡ name.Lea → Row i
+  by_condition : i ≡ name.Setcc → Row i
 
 pub row_of : (i : Intrinsic) → Row i
-row_of name.Add = two refl (λ n at z. record { f = λ a b. alu_results alu.Add z a b false; is = refl; got = λ x y. alu_got alu.Add z x y false })
-row_of name.Sub = two refl (λ n at z. record { f = λ a b. alu_results alu.Sub z a b false; is = refl; got = λ x y. alu_got alu.Sub z x y false })
-row_of name.And = two refl (λ n at z. record { f = λ a b. alu_results alu.And z a b false; is = refl; got = λ x y. alu_got alu.And z x y false })
-row_of name.Or = two refl (λ n at z. record { f = λ a b. alu_results alu.Or z a b false; is = refl; got = λ x y. alu_got alu.Or z x y false })
-row_of name.Xor = two refl (λ n at z. record { f = λ a b. alu_results alu.Xor z a b false; is = refl; got = λ x y. alu_got alu.Xor z x y false })
-row_of name.Cmp = two refl (λ n at z. record { f = λ a b. all_flags (alu_answer alu.Cmp z a b false).flags; is = refl; got = cmp_got z })
-row_of name.Test = two refl (λ n at z. record { f = λ a b. all_flags (alu_answer alu.Test z a b false).flags; is = refl; got = test_got z })
-row_of name.Imul = two refl (λ n at z. record { f = low_product_results z; is = refl; got = imul_got z })
-row_of name.Mul = two refl (λ n at z. record { f = product_results z; is = refl; got = mul_got z })
-row_of name.Adc = carry refl (λ n at z. record { f = alu_results alu.Adc z; is = refl; got = λ x y c. alu_got alu.Adc z x y c })
-row_of name.Sbb = carry refl (λ n at z. record { f = alu_results alu.Sbb z; is = refl; got = λ x y c. alu_got alu.Sbb z x y c })
-row_of name.Neg = one refl (λ n at z. record { f = one_results all_flags one_op.Neg z; is = refl; got = neg_got z })
-row_of name.Inc = one refl (λ n at z. record { f = one_results all_but_carry one_op.Inc z; is = refl; got = inc_got z })
-row_of name.Dec = one refl (λ n at z. record { f = one_results all_but_carry one_op.Dec z; is = refl; got = dec_got z })
-row_of name.Not = one refl (λ n at z. record { f = one_results no_results one_op.Not z; is = refl; got = λ x. ((_, refl), tt) })
-row_of name.Bswap = one refl (λ n at z. record { f = λ a. before_value [] z (swapped_of z a); is = refl; got = λ x. ((_, refl), tt) })
-row_of name.Shl = count refl (λ at z. record { keep = all_flags; kind = shift.Shl; is = refl; by_number = shl_number z; by_mask = λ a n. five_masked z _ })
-row_of name.Shr = count refl (λ at z. record { keep = all_flags; kind = shift.Shr; is = refl; by_number = shr_number z; by_mask = λ a n. five_masked z _ })
-row_of name.Sar = count refl (λ at z. record { keep = all_flags; kind = shift.Sar; is = refl; by_number = sar_number z; by_mask = λ a n. five_masked z _ })
-row_of name.Rol = count refl (λ at z. record { keep = two_of_flags; kind = shift.Rol; is = refl; by_number = rol_number z; by_mask = λ a n. two_masked z _ })
-row_of name.Ror = count refl (λ at z. record { keep = two_of_flags; kind = shift.Ror; is = refl; by_number = ror_number z; by_mask = λ a n. two_masked z _ })
-row_of name.Div = division refl
-row_of name.Lea = address refl
-row_of name.Setcc = condition refl
+row_of name.Add = by_two refl (λ n at z. record { f = λ a b. alu_results alu.Add z a b false; is = refl; got = λ x y. alu_got alu.Add z x y false })
+row_of name.Sub = by_two refl (λ n at z. record { f = λ a b. alu_results alu.Sub z a b false; is = refl; got = λ x y. alu_got alu.Sub z x y false })
+row_of name.And = by_two refl (λ n at z. record { f = λ a b. alu_results alu.And z a b false; is = refl; got = λ x y. alu_got alu.And z x y false })
+row_of name.Or = by_two refl (λ n at z. record { f = λ a b. alu_results alu.Or z a b false; is = refl; got = λ x y. alu_got alu.Or z x y false })
+row_of name.Xor = by_two refl (λ n at z. record { f = λ a b. alu_results alu.Xor z a b false; is = refl; got = λ x y. alu_got alu.Xor z x y false })
+row_of name.Cmp = by_two refl (λ n at z. record { f = λ a b. all_flags (alu_answer alu.Cmp z a b false).flags; is = refl; got = cmp_got z })
+row_of name.Test = by_two refl (λ n at z. record { f = λ a b. all_flags (alu_answer alu.Test z a b false).flags; is = refl; got = test_got z })
+row_of name.Imul = by_two refl (λ n at z. record { f = low_product_results z; is = refl; got = imul_got z })
+row_of name.Mul = by_two refl (λ n at z. record { f = product_results z; is = refl; got = mul_got z })
+row_of name.Adc = by_carry refl (λ n at z. record { f = alu_results alu.Adc z; is = refl; got = λ x y c. alu_got alu.Adc z x y c })
+row_of name.Sbb = by_carry refl (λ n at z. record { f = alu_results alu.Sbb z; is = refl; got = λ x y c. alu_got alu.Sbb z x y c })
+row_of name.Neg = by_one refl (λ n at z. record { f = one_results all_flags one_op.Neg z; is = refl; got = neg_got z })
+row_of name.Inc = by_one refl (λ n at z. record { f = one_results all_but_carry one_op.Inc z; is = refl; got = inc_got z })
+row_of name.Dec = by_one refl (λ n at z. record { f = one_results all_but_carry one_op.Dec z; is = refl; got = dec_got z })
+row_of name.Not = by_one refl (λ n at z. record { f = one_results no_results one_op.Not z; is = refl; got = λ x. ((_, refl), tt) })
+row_of name.Bswap = by_one refl (λ n at z. record { f = λ a. before_value [] z (swapped_of z a); is = refl; got = λ x. ((_, refl), tt) })
+row_of name.Shl = by_count refl (λ at z. record { keep = all_flags; shift_of = shift.Shl; is = refl; by_number = shl_number z; by_mask = λ a n. five_masked z _ })
+row_of name.Shr = by_count refl (λ at z. record { keep = all_flags; shift_of = shift.Shr; is = refl; by_number = shr_number z; by_mask = λ a n. five_masked z _ })
+row_of name.Sar = by_count refl (λ at z. record { keep = all_flags; shift_of = shift.Sar; is = refl; by_number = sar_number z; by_mask = λ a n. five_masked z _ })
+row_of name.Rol = by_count refl (λ at z. record { keep = two_of_flags; shift_of = shift.Rol; is = refl; by_number = rol_number z; by_mask = λ a n. two_masked z _ })
+row_of name.Ror = by_count refl (λ at z. record { keep = two_of_flags; shift_of = shift.Ror; is = refl; by_number = ror_number z; by_mask = λ a n. two_masked z _ })
+row_of name.Div = by_division refl
+row_of name.Lea = by_address refl
+row_of name.Setcc = by_condition refl
 
 -- ---- the order of what left sides get: flags, and then one word or two in fixed registers
 

@@ -1,7 +1,8 @@
 -- Where a run stands behind an instruction, and that it is not stuck.
-use Rattle.std.proofs.Common.{◌≡◌, inl, inr, ℕ, ◌+◌, ◌*◌, ◌/◌, ◌%◌, ◌<◌, List, [], ◌∷◌, Option, Some, None, Bool, true, false, refl, sym, subst, arith, rules, ℤ, pos, if◌then◌else◌}
+use Rattle.std.proofs.Common.{◌≡◌, inl, inr, ℕ, ◌+◌, ◌*◌, ◌/◌, ◌%◌, ◌<◌, ◌≤◌, List, [], ◌∷◌, Option, Some, None, Bool, true, false, refl, sym, subst, arith, rules, ℤ, pos, if◌then◌else◌}
 use Rattle.std.specs.Prelude.{◌==◌, nat_lt}
 use Rattle.std.proofs.lemmas.Nat.{div_below}
+use Rattle.std.proofs.Math.Nat.{mul-le-mul_left}
 use Rattle.jz_tree.specs.Span.{Span}
 use Rattle.x64_insn.specs.Size.{Size}
 use Rattle.x64_insn.specs.Size.TheVariants.{S8, S16, S32, S64}
@@ -36,7 +37,7 @@ use Rattle.jz_fact_laws.proofs.Fitting.{yields_then}
 use Rattle.jz_alarms.specs.Conditions.{division, unless, asks, asks_expr, asks_each, asks_division, asks_lefts, asks_instruction}
 use Rattle.jz_standing.specs.Typing.{NoNumbers, IsScalar, IsCount, IsSum}
 use Rattle.jz_standing.specs.Standing.{Stands}
-use Rattle.jz_standing.proofs.Counts.{counted as by_count}
+use Rattle.jz_standing.proofs.Counts.{counted as counted_by}
 use Rattle.jz_standing.proofs.SumForms.{sum_word}
 use Rattle.jz_standing.proofs.Making.{OfSize}
 use Rattle.jz_standing.proofs.Typed.{typed, any_yields}
@@ -44,7 +45,7 @@ use Rattle.jz_unstuck.proofs.Sums.{met, both_met, Runs, runs_then}
 use Rattle.jz_unstuck.proofs.Firm.{word_runs}
 use Rattle.jz_assigned.proofs.Assigning.{if_went, three}
 use Rattle.jz_instructed.specs.Instructed.{shapes_of, flags_and_two, Form, one_word, two_words, three_words, with_carry, with_count, an_address, a_condition, form_of, CountFits, AreOperands, IsInstructed}
-use Rattle.jz_instructed.proofs.Instructing.{AreGot, WithNumber, WithMask, WithCount, TwoWords, OneWord, WithCarry, Row, one, two, carry, count, division as dividing, address, condition, row_of, ended}
+use Rattle.jz_instructed.proofs.Instructing.{AreGot, WithNumber, WithMask, WithCount, TwoWords, OneWord, WithCarry, Row, by_one, by_two, by_carry, by_count, by_division, by_address, by_condition, row_of, ended}
 use Rattle.jz_instructed.proofs.Lasts.{Behind}
 use Rattle.jz_instructed.proofs.Lefts.{declared, here, as_here, lefts_yield, lefts_go}
 use Rattle.jz_instructed.proofs.Operands.{Does, IfAsked, both_asked, does_went, does_then, does_any, does_yield, yields_done, IsIn, word_does, word_in_interval, flag_does, answer_does}
@@ -67,7 +68,11 @@ quotient_there z high low d h l = below (double_word z high low / d) (modulus z)
     below a b h = grind (arith, rules, h)
 
     product : (a b d m : ℕ) → a < d → b < m → a * m + b < m * d
-    product a b d m h l = grind (arith, h, l)
+    product a b d m h l =
+        let s : a + 1 ≤ d = omega (arith, h) in
+        let x : m * (a + 1) ≤ m * d = mul-le-mul_left m s in
+        let y : m * (a + 1) ≡ a * m + m = grind arith in
+        omega (arith, x, y, l)
 
 no_zero : (a d : ℕ) → a < d → (d == 0) ≡ false
 no_zero a d h = grind (arith, rules, h)
@@ -75,7 +80,7 @@ no_zero a d h = grind (arith, rules, h)
 abbrev Divided : Option ℕ → Size → Results → Type 0
 Divided n z vs = AreGot (instruction_gets name.Div n) (flags_and_two z) vs
 
-quotient_got : (n : Option ℕ) (at : Span) (z : Size) (ns : List ℕ) (zero fits : Bool) (q r : ℕ) → Yields (Divided n z) (divided_by at z ns (if zero then None else if fits then Some (record { high = r; low = q; flags = no_flags }) else None))
+quotient_got : (n : Option ℕ) (at : Span) (z : Size) (ns : List ℕ) (nil fits : Bool) (q r : ℕ) → Yields (Divided n z) (divided_by at z ns (if nil then None else if fits then Some (record { high = r; low = q; flags = no_flags }) else None))
 quotient_got n at z ns true fits q r = tt
 quotient_got n at z ns false true q r = (inl refl, (inl refl, (inl refl, (inl refl, (inl refl, ((_, refl), ((_, refl), tt)))))))
 quotient_got n at z ns false false q r = tt
@@ -108,7 +113,7 @@ module _ (g : Given) (kinds : Kinds) (in_frame : Key → Bool) (entry : Key → 
 
   one_does : (i : Intrinsic) (n : Option ℕ) (at : Span) (z : Size) → OneWord i n at z → (es : List Expr) → Operands one_word z es → IfAsked c (asks_each g s (Some z) es) → Does c (Got i n z) (intrinsic_results i at z es st)
   one_does i n at z R (a ∷ []) p q =
-      let d = both_asked c (asks_expr g s (Some z) a) _ q in
+      let d = both_asked c (asks_expr g s (Some z) a) None q in
       subst (λ (f : List Expr → State → Evaluation Results). Does c (Got i n z) (f (a ∷ []) st)) (sym R.is)
       (does_then c (λ x. Unit {0}) (Got i n z) (Word at z a) (λ x. went [] (R.f x)) (word_does g kinds in_frame entry s st H nn c at z a p d.0) (λ x u. does_went c (Got i n z) [] (R.f x) (R.got x)))
   one_does i n at z R [] p q = absurd p
@@ -116,8 +121,8 @@ module _ (g : Given) (kinds : Kinds) (in_frame : Key → Bool) (entry : Key → 
 
   two_do : (i : Intrinsic) (n : Option ℕ) (at : Span) (z : Size) → TwoWords i n at z → (es : List Expr) → Operands two_words z es → IfAsked c (asks_each g s (Some z) es) → Does c (Got i n z) (intrinsic_results i at z es st)
   two_do i n at z R (a ∷ b ∷ []) p q =
-      let d = both_asked c (asks_expr g s (Some z) a) _ q in
-      let e = both_asked c (asks_expr g s (Some z) b) _ d.1 in
+      let d = both_asked c (asks_expr g s (Some z) a) (asks_each g s (Some z) (b ∷ [])) q in
+      let e = both_asked c (asks_expr g s (Some z) b) None d.1 in
       subst (λ (f : List Expr → State → Evaluation Results). Does c (Got i n z) (f (a ∷ b ∷ []) st)) (sym R.is)
       (does_then c (λ x. Unit {0}) (Got i n z) (Word at z a) (λ x. and_then (Word at z b) (λ y. went [] (R.f x y))) (word_does g kinds in_frame entry s st H nn c at z a p.0 d.0) (λ x u.
       does_then c (λ y. Unit {0}) (Got i n z) (Word at z b) (λ y. went [] (R.f x y)) (word_does g kinds in_frame entry s st H nn c at z b p.1 e.0) (λ y u. does_went c (Got i n z) [] (R.f x y) (R.got x y))))
@@ -127,9 +132,9 @@ module _ (g : Given) (kinds : Kinds) (in_frame : Key → Bool) (entry : Key → 
 
   carry_does : (i : Intrinsic) (n : Option ℕ) (at : Span) (z : Size) → WithCarry i n at z → (es : List Expr) → Operands with_carry z es → IfAsked c (asks_each g s (Some z) es) → Does c (Got i n z) (intrinsic_results i at z es st)
   carry_does i n at z R (a ∷ b ∷ k ∷ []) p q =
-      let d = both_asked c (asks_expr g s (Some z) a) _ q in
-      let e = both_asked c (asks_expr g s (Some z) b) _ d.1 in
-      let f = both_asked c (asks_expr g s (Some z) k) _ e.1 in
+      let d = both_asked c (asks_expr g s (Some z) a) (asks_each g s (Some z) (b ∷ k ∷ [])) q in
+      let e = both_asked c (asks_expr g s (Some z) b) (asks_each g s (Some z) (k ∷ [])) d.1 in
+      let f = both_asked c (asks_expr g s (Some z) k) None e.1 in
       subst (λ (f : List Expr → State → Evaluation Results). Does c (Got i n z) (f (a ∷ b ∷ k ∷ []) st)) (sym R.is)
       (does_then c (λ x. Unit {0}) (Got i n z) (Word at z a) (λ x. and_then (Word at z b) (λ y. and_then (bool_in at k st) (λ h. went [] (R.f x y h)))) (word_does g kinds in_frame entry s st H nn c at z a p.0 d.0) (λ x u.
       does_then c (λ y. Unit {0}) (Got i n z) (Word at z b) (λ y. and_then (bool_in at k st) (λ h. went [] (R.f x y h))) (word_does g kinds in_frame entry s st H nn c at z b p.1 e.0) (λ y u.
@@ -143,7 +148,7 @@ module _ (g : Given) (kinds : Kinds) (in_frame : Key → Bool) (entry : Key → 
 
   module _ (i : Intrinsic) (at : Span) (z : Size) (R : WithCount i at z) where
     abbrev Shifts : Term → Type 0
-    Shifts t = CountFits z t → IfAsked c (asks g s (Some z) t) → (a : ℕ) → Does c (Got i (written_count t) z) (and_then ((means t).run (Some S8) st) (λ v. shift_results R.keep R.kind at z a v))
+    Shifts t = CountFits z t → IfAsked c (asks g s (Some z) t) → (a : ℕ) → Does c (Got i (written_count t) z) (and_then ((means t).run (Some S8) st) (λ v. shift_results R.keep R.shift_of at z a v))
 
     mask_does : (x : Ref) (n : ℤ) (t m : Span) → x.kind ≡ kind.Word S8 → IsScalar kinds in_frame x → IfAsked c (asks g s (Some z) (bin o.And (var x) (num n t) m)) → Does c (OfSize S8 false) ((means (bin o.And (var x) (num n t) m)).run (Some S8) st)
     mask_does x n t m e k q = by c q
@@ -152,24 +157,24 @@ module _ (g : Given) (kinds : Kinds) (in_frame : Key → Bool) (entry : Key → 
         by true q = word_runs g kinds in_frame entry s st H nn (bin o.And (var x) (num n t) m) (Some S8) S8 (refl, refl, (e, k), inr (inl (refl, tt))) q
         by false q = does_yield (OfSize S8 false) ((means (bin o.And (var x) (num n t) m)).run (Some S8) st) (typed g kinds in_frame entry s st H (bin o.And (var x) (num n t) m) (Some S8) S8 (refl, refl, (e, k), inr (inl (refl, tt))))
 
-    by_byte : (a : ℕ) (v : Value) → OfSize S8 false v → Does c (Got i None z) (shift_results R.keep R.kind at z a v)
-    by_byte a (word y n) h = does_went c (Got i None z) [] (WithMask R.keep R.kind z a (masked z n)) (R.by_mask a n)
+    by_byte : (a : ℕ) (v : Value) → OfSize S8 false v → Does c (Got i None z) (shift_results R.keep R.shift_of at z a v)
+    by_byte a (word y n) h = does_went c (Got i None z) [] (WithMask R.keep R.shift_of z a (masked z n)) (R.by_mask a n)
     by_byte a (integer j) h = absurd (cc h)
     by_byte a (boolean b) h = absurd h
 
     shifts : (t : Term) → IsCount kinds in_frame t → Shifts t
-    shifts = by_count kinds in_frame Shifts
-        (λ n m f q a. does_went c (Got i (Some n) z) [] (WithNumber R.keep R.kind z a (masked z n)) (R.by_number a n f))
-        (λ x n t m e k f q a. does_then c (OfSize S8 false) (Got i None z) ((means (bin o.And (var x) (num n t) m)).run (Some S8) st) (λ v. shift_results R.keep R.kind at z a v) (mask_does x n t m e k q) (λ v h. by_byte a v h))
+    shifts = counted_by kinds in_frame Shifts
+        (λ n m f q a. does_went c (Got i (Some n) z) [] (WithNumber R.keep R.shift_of z a (masked z n)) (R.by_number a n f))
+        (λ x n t m e k f q a. does_then c (OfSize S8 false) (Got i None z) ((means (bin o.And (var x) (num n t) m)).run (Some S8) st) (λ v. shift_results R.keep R.shift_of at z a v) (mask_does x n t m e k q) (λ v h. by_byte a v h))
 
     count_does : (es : List Expr) → Operands with_count z es → IfAsked c (asks_each g s (Some z) es) → Does c (Got i (counted es) z) (intrinsic_results i at z es st)
     count_does (a ∷ n ∷ []) p q =
-        let d = both_asked c (asks_expr g s (Some z) a) _ q in
-        let e = both_asked c (asks_expr g s (Some z) n) _ d.1 in
+        let d = both_asked c (asks_expr g s (Some z) a) (asks_each g s (Some z) (n ∷ [])) q in
+        let e = both_asked c (asks_expr g s (Some z) n) None d.1 in
         let G : Results → Type 0 = Got i (written_count (term_of n)) z in
         subst (λ (f : List Expr → State → Evaluation Results). Does c G (f (a ∷ n ∷ []) st)) (sym R.is)
-        (does_then c (λ x. Unit {0}) G (Word at z a) (λ x. and_then (evaluated n (Some S8) st) (λ v. shift_results R.keep R.kind at z x v)) (word_does g kinds in_frame entry s st H nn c at z a p.0 d.0) (λ x u.
-        subst (λ (m : Meaning). Does c G (and_then (m.run (Some S8) st) (λ v. shift_results R.keep R.kind at z x v))) (sym (term_so n)) (shifts (term_of n) p.1 p.2 e.0 x)))
+        (does_then c (λ x. Unit {0}) G (Word at z a) (λ x. and_then (evaluated n (Some S8) st) (λ v. shift_results R.keep R.shift_of at z x v)) (word_does g kinds in_frame entry s st H nn c at z a p.0 d.0) (λ x u.
+        subst (λ (m : Meaning). Does c G (and_then (m.run (Some S8) st) (λ v. shift_results R.keep R.shift_of at z x v))) (sym (term_so n)) (shifts (term_of n) p.1 p.2 e.0 x)))
     count_does [] p q = absurd p
     count_does (a ∷ []) p q = absurd p
     count_does (a ∷ b ∷ k ∷ es) p q = absurd p
@@ -209,7 +214,7 @@ module _ (g : Given) (kinds : Kinds) (in_frame : Key → Bool) (entry : Key → 
   same e = cc e
 
   lea_at : (n : Option ℕ) (at : Span) (es : List Expr) → Operands an_address S64 es → IfAsked c (asks_each g s (Some S64) es) → Does c (Got name.Lea n S64) (of_one (λ a. before_value [] S64 a) at S64 es st)
-  lea_at n at (a ∷ []) p q = does_then c (λ x. Unit {0}) (Got name.Lea n S64) (Word at S64 a) (λ x. went [] (before_value [] S64 x)) (word_does g kinds in_frame entry s st H nn c at S64 a (sum_word kinds in_frame (term_of a) p) (both_asked c (asks_expr g s (Some S64) a) _ q).0) (λ x u. does_went c (Got name.Lea n S64) [] (before_value [] S64 x) ((_, refl), tt))
+  lea_at n at (a ∷ []) p q = does_then c (λ x. Unit {0}) (Got name.Lea n S64) (Word at S64 a) (λ x. went [] (before_value [] S64 x)) (word_does g kinds in_frame entry s st H nn c at S64 a (sum_word kinds in_frame (term_of a) p) (both_asked c (asks_expr g s (Some S64) a) None q).0) (λ x u. does_went c (Got name.Lea n S64) [] (before_value [] S64 x) ((_, refl), tt))
   lea_at n at [] p q = absurd p
   lea_at n at (a ∷ b ∷ es) p q = absurd p
 
@@ -217,7 +222,7 @@ module _ (g : Given) (kinds : Kinds) (in_frame : Key → Bool) (entry : Key → 
   lea_does at z zo to es l p q d = subst (λ z. Operands an_address z es → IfAsked c (asks_each g s (Some z) es) → Does c (Got name.Lea (counted es) z) (of_one (λ a. before_value [] S64 a) at S64 es st)) (same l) (lea_at (counted es) at es) p q
 
   set_at : (n : Option ℕ) (at : Span) (es : List Expr) → Operands a_condition S8 es → IfAsked c (asks_each g s (Some S8) es) → Does c (Got name.Setcc n S8) (of_condition at es st)
-  set_at n at (k ∷ []) p q = does_then c (λ x. Unit {0}) (Got name.Setcc n S8) (bool_in at k st) (λ x. went [] (Some (word S8 (carried x)) ∷ [])) (answer_does g kinds in_frame entry s st H nn c at (Some S8) k p (both_asked c (asks_expr g s (Some S8) k) _ q).0) (λ x u. does_went c (Got name.Setcc n S8) [] (Some (word S8 (carried x)) ∷ []) ((_, refl), tt))
+  set_at n at (k ∷ []) p q = does_then c (λ x. Unit {0}) (Got name.Setcc n S8) (bool_in at k st) (λ x. went [] (Some (word S8 (carried x)) ∷ [])) (answer_does g kinds in_frame entry s st H nn c at (Some S8) k p (both_asked c (asks_expr g s (Some S8) k) None q).0) (λ x u. does_went c (Got name.Setcc n S8) [] (Some (word S8 (carried x)) ∷ []) ((_, refl), tt))
   set_at n at [] p q = absurd p
   set_at n at (a ∷ b ∷ es) p q = absurd p
 
@@ -230,13 +235,13 @@ module _ (g : Given) (kinds : Kinds) (in_frame : Key → Bool) (entry : Key → 
   results_do i at z zo to es l p q d = by (row_of i)
     where
       by : Row i → Does c (Got i (counted es) z) (intrinsic_results i at z es st)
-      by (one e R) = one_does i (counted es) at z (R (counted es) at z) es (subst (λ f. Operands f z es) e p) q
-      by (two e R) = two_do i (counted es) at z (R (counted es) at z) es (subst (λ f. Operands f z es) e p) q
-      by (carry e R) = carry_does i (counted es) at z (R (counted es) at z) es (subst (λ f. Operands f z es) e p) q
-      by (count e R) = count_does i at z (R at z) es (subst (λ f. Operands f z es) e p) q
-      by (dividing e) = subst (λ j. ResultsDo j at z zo to es) (sym e) (λ l p q d. division_does c (counted es) at z es p q d) l p q d
-      by (address e) = subst (λ j. ResultsDo j at z zo to es) (sym e) (lea_does at z zo to es) l p q d
-      by (condition e) = subst (λ j. ResultsDo j at z zo to es) (sym e) (set_does at z zo to es) l p q d
+      by (by_one e R) = one_does i (counted es) at z (R (counted es) at z) es (subst (λ f. Operands f z es) e p) q
+      by (by_two e R) = two_do i (counted es) at z (R (counted es) at z) es (subst (λ f. Operands f z es) e p) q
+      by (by_carry e R) = carry_does i (counted es) at z (R (counted es) at z) es (subst (λ f. Operands f z es) e p) q
+      by (by_count e R) = count_does i at z (R at z) es (subst (λ f. Operands f z es) e p) q
+      by (by_division e) = subst (λ j. ResultsDo j at z zo to es) (sym e) (λ l p q d. division_does c (counted es) at z es p q d) l p q d
+      by (by_address e) = subst (λ j. ResultsDo j at z zo to es) (sym e) (lea_does at z zo to es) l p q d
+      by (by_condition e) = subst (λ j. ResultsDo j at z zo to es) (sym e) (set_does at z zo to es) l p q d
 
 module _ (g : Given) (kinds : Kinds) (in_frame : Key → Bool) (entry : Key → ℕ) (s : Facts) (st : State) (H : Stands g kinds in_frame entry s st) (nn : NoNumbers kinds) where
   abbrev Comes : Intrinsic → Option ℕ → Size → Results → Type 0
