@@ -1,5 +1,5 @@
 -- The first alarm by the set of the constants.
-use Rattle.std.proofs.Common.{◌≡◌, ℕ, List, Option, sym, ap, ap₂, subst}
+use Rattle.std.proofs.Common.{◌≡◌, ℕ, List, Option, sym, ap₂, subst}
 use Rattle.jz_tree.specs.declared.expr.Var.{Var}
 use Rattle.jz_meaning.specs.Statements.{Operation, Condition, Block}
 use Rattle.jz_flow.specs.Flow.{Steps}

@@ -28,8 +28,8 @@ use Rattle.jz_flow.specs.Alarms.{Asks}
 use Rattle.jz_terms.specs.Terms.{Spot, Term, num, truth, var, cell, load, neg, inv, cast, bin, term_of, place_of, size_in}
 use Rattle.jz_intervals.specs.declared.interval.Interval.{Interval}
 use Rattle.jz_facts.specs.Facts.{Fact, Cell, Is, Facts, Start, Region, Given}
-use Rattle.jz_facts.specs.Intervals.{size_or_64, interval, is_multiple}
-use Rattle.jz_alarms.specs.Conditions.{named, memory, division, Alarm, or_else, unless, sum_of, Reading, readings, bounds_of, scaled_interval, least_length, below_length, is_inside, in_some_region, in_some_reading, asks_access, all_cells, cell_set, asks_index, divides, asks, asks_expr, asks_if, asks_each, asks_left, asks_lefts, asks_old, asks_assign, asks_division, asks_instruction, asks_operation, asks_test}
+use Rattle.jz_facts.specs.Intervals.{size_or_64, interval}
+use Rattle.jz_alarms.specs.Conditions.{named, memory, division, Alarm, or_else, unless, sum_of, Reading, readings, bounds_of, scaled_interval, least_length, below_length, is_inside, in_some_region, in_some_reading, asks_access, all_cells, cell_set, asks_index, divides, asks, asks_if, asks_each, asks_left, asks_lefts, asks_old, asks_assign, asks_division, asks_instruction, asks_operation, asks_test}
 use Rattle.jz_alarms.specs.Alarms.{fact_asks}
 use Rattle.jz_one_alarm.proofs.SameNumbers.{AreAlike}
 use Rattle.jz_one_alarm.proofs.SameIntervals.{given, interval_same, is_multiple_same}

@@ -1,5 +1,5 @@
 -- Intervals and multiples by the set of the constants.
-use Rattle.std.proofs.Common.{◌≡◌, ℕ, List, [], ◌∷◌, Bool, true, false, refl, ap, ap₂, ◌∙◌, min, if◌then◌else◌}
+use Rattle.std.proofs.Common.{◌≡◌, ℕ, List, [], ◌∷◌, true, false, refl, ap, ap₂, ◌∙◌, min, if◌then◌else◌}
 use Rattle.std.specs.Prelude.{◌%◌, ◌-◌, ◌==◌, ◌&&◌, ◌||◌}
 use Rattle.x64_insn.specs.Size.{Size}
 use Rattle.jz_meaning.specs.States.{Key}

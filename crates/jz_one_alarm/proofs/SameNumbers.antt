@@ -1,5 +1,5 @@
 -- Of two lists with one set of numbers the greatest and the least are the same.
-use Rattle.std.proofs.Common.{◌≡◌, ℕ, ◌≤◌, List, [], ◌∷◌, Bool, true, false, refl, ap, sym, ◌∙◌, subst, arith, rules, min, max, if◌then◌else◌}
+use Rattle.std.proofs.Common.{◌≡◌, ℕ, ◌≤◌, List, [], ◌∷◌, Bool, true, false, refl, ap, sym, ◌∙◌, arith, rules, min, max, if◌then◌else◌}
 use Rattle.std.specs.Prelude.{◌==◌, ◌||◌}
 use Rattle.jz_facts.specs.Facts.{is_among, greatest, least}
 
@@ -28,16 +28,16 @@ module _ (p : ℕ → Bool) where
 
   is_below : (c : ℕ) (ds : List ℕ) → is_among c ds ≡ true → p c ≡ true → c ≤ greatest p ds
   is_below c [] h q = absurd (cc h)
-  is_below c (d ∷ ds) h q = by (c == d) refl (p d) refl h
+  is_below c (d ∷ ds) h q = by (λ k. is_below c ds k q) (c == d) refl (p d) refl h
     where
       equal : (c == d) ≡ true → c ≡ d
       equal e = grind (arith, rules, e)
 
-      by : (b : Bool) → (c == d) ≡ b → (a : Bool) → p d ≡ a → (b || is_among c ds) ≡ true → c ≤ (if a then max d (greatest p ds) else greatest p ds)
-      by true e true f k = let x : c ≡ d = equal e in omega (arith, x)
-      by true e false f k = absurd (cc (sym (ap p (equal e) ∙ f) ∙ q))
-      by false e true f k = let x : c ≤ greatest p ds = is_below c ds k q in omega (arith, x)
-      by false e false f k = is_below c ds k q
+      by : (is_among c ds ≡ true → c ≤ greatest p ds) → (b : Bool) → (c == d) ≡ b → (a : Bool) → p d ≡ a → (b || is_among c ds) ≡ true → c ≤ (if a then max d (greatest p ds) else greatest p ds)
+      by g true e true f k = let x : c ≡ d = equal e in omega (arith, x)
+      by g true e false f k = absurd (cc (sym (ap p (equal e) ∙ f) ∙ q))
+      by g false e true f k = let x : c ≤ greatest p ds = g k in omega (arith, x)
+      by g false e false f k = g k
 
   greatest_within : (cs ds : List ℕ) → Within cs ds → greatest p cs ≤ greatest p ds
   greatest_within [] ds w = omega arith
@@ -60,16 +60,16 @@ module _ (p : ℕ → Bool) where
 
     is_above : (c : ℕ) (ds : List ℕ) → is_among c ds ≡ true → p c ≡ true → least p m ds ≤ c
     is_above c [] h q = absurd (cc h)
-    is_above c (d ∷ ds) h q = by (c == d) refl (p d) refl h
+    is_above c (d ∷ ds) h q = by (λ k. is_above c ds k q) (c == d) refl (p d) refl h
       where
         equal : (c == d) ≡ true → c ≡ d
         equal e = grind (arith, rules, e)
 
-        by : (b : Bool) → (c == d) ≡ b → (a : Bool) → p d ≡ a → (b || is_among c ds) ≡ true → (if a then min d (least p m ds) else least p m ds) ≤ c
-        by true e true f k = let x : c ≡ d = equal e in omega (arith, x)
-        by true e false f k = absurd (cc (sym (ap p (equal e) ∙ f) ∙ q))
-        by false e true f k = let x : least p m ds ≤ c = is_above c ds k q in omega (arith, x)
-        by false e false f k = is_above c ds k q
+        by : (is_among c ds ≡ true → least p m ds ≤ c) → (b : Bool) → (c == d) ≡ b → (a : Bool) → p d ≡ a → (b || is_among c ds) ≡ true → (if a then min d (least p m ds) else least p m ds) ≤ c
+        by g true e true f k = let x : c ≡ d = equal e in omega (arith, x)
+        by g true e false f k = absurd (cc (sym (ap p (equal e) ∙ f) ∙ q))
+        by g false e true f k = let x : least p m ds ≤ c = g k in omega (arith, x)
+        by g false e false f k = g k
 
     least_within : (cs ds : List ℕ) → Within cs ds → least p m ds ≤ least p m cs
     least_within [] ds w = at_most_m ds
