@@ -171,16 +171,16 @@ module _ (g : Given) (kinds : Kinds) (in_frame : Key → Bool) (entry : Key → 
   -- ---- with a flag
 
   -- a flag is the same where a word is wanted
-  flag_run : (t : Term) → IsFlag kinds in_frame t → (w : Option Size) → (means t).run w st ≡ (means t).run None st
-  flag_run (var x) i w = refl
-  flag_run (num n at) i w = absurd i
-  flag_run (truth b at) i w = absurd i
-  flag_run (cell x j) i w = absurd i
-  flag_run (load p a) i w = absurd i
-  flag_run (neg a at) i w = absurd i
-  flag_run (inv a at) i w = absurd i
-  flag_run (cast y sign a at) i w = absurd i
-  flag_run (bin op a b at) i w = absurd i
+  flag_same : (t : Term) → IsFlag kinds in_frame t → (w : Option Size) → (means t).run w st ≡ (means t).run None st
+  flag_same (var x) i w = refl
+  flag_same (num n at) i w = absurd i
+  flag_same (truth b at) i w = absurd i
+  flag_same (cell x j) i w = absurd i
+  flag_same (load p a) i w = absurd i
+  flag_same (neg a at) i w = absurd i
+  flag_same (inv a at) i w = absurd i
+  flag_same (cast y sign a at) i w = absurd i
+  flag_same (bin op a b at) i w = absurd i
 
   abbrev Three : Pair → Span → Size → Expr → Expr → Expr → Evaluation Results
   Three p at z a b c = and_then (word_in at z a st) (λ x. and_then (word_in at z b st) (λ y. and_then (bool_in at c st) (two_results (op_of p) at z x y)))
@@ -216,7 +216,7 @@ module _ (g : Given) (kinds : Kinds) (in_frame : Key → Bool) (entry : Key → 
       (typed g kinds in_frame entry s st H b (Some z) z i.second)
       (two_so (OfSize z (is_number b)) (Good (interval g s z b) (is_number b) z) (IsBelow z) ((means b).run (Some z) st) (below (interval g s z b) (is_number b) z) (typed g kinds in_frame entry s st H b (Some z) z i.second) (term_ok g (sizes_of kinds) entry s st so b pb z (Some z)))
       (flag_typed g kinds in_frame entry s st H c None i.third)
-      (subst (λ (f : Evaluation Value). Yields P (and_then (and_then ((means a).run (Some z) st) (λ v. and_then ((means b).run (Some z) st) (λ u. binary (op_of p) i.inner_at (Some z) v u))) (λ s. and_then f (λ c. binary (op_of p) i.at (Some z) s c)))) (flag_run c i.third (Some z))
+      (subst (λ (f : Evaluation Value). Yields P (and_then (and_then ((means a).run (Some z) st) (λ v. and_then ((means b).run (Some z) st) (λ u. binary (op_of p) i.inner_at (Some z) v u))) (λ s. and_then f (λ c. binary (op_of p) i.at (Some z) s c)))) (flag_same c i.third (Some z))
       (as_carried p P a b c i.inner_at i.at z st run))))))
 
   flag_asked : (p : Pair) (a b c : Term) (inner at : Span) (z : Size) → asks g s (Some z) (bin (op_of p) (bin (op_of p) a b inner) c at) ≡ None → ((asks g s (Some z) a ≡ None) × (asks g s (Some z) b ≡ None)) × (asks g s (Some z) c ≡ None)
