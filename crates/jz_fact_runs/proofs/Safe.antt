@@ -3,7 +3,6 @@ use Rattle.std.proofs.Common.{◌≡◌, ℕ, List, [], ◌∷◌, Some, None, B
 use Rattle.jz_tree.specs.Span.{Span}
 use Rattle.x64_insn.specs.Size.{Size}
 use Rattle.jz_tree.specs.declared.expr.Var.{Var}
-use Rattle.jz_tree.specs.declared.stmt.Lval.TheVariants as lval
 use Rattle.jz_tree.specs.Spellings.{spelled}
 use Rattle.jz_runs.specs.RunLeaks.{Leak}
 use Rattle.jz_runs.specs.Rules.{stuck, went, Outcome, End, Cut, Stuck}
@@ -14,7 +13,7 @@ use Rattle.jz_meaning.specs.Attempts.{Evaluation, and_then, defined}
 use Rattle.jz_meaning.specs.States.{Value, word, boolean, integer, Key, State}
 use Rattle.jz_meaning.specs.Values.{key_of, ref_of}
 use Rattle.jz_meaning.specs.Statements as source
-use Rattle.jz_meaning.specs.Statements.{Operation, Condition, Block, assign, instruction, unset, meaningless}
+use Rattle.jz_meaning.specs.Statements.{Operation, Condition, assign, instruction, unset, meaningless}
 use Rattle.jz_meaning.specs.Assignments.{truth as truth_of}
 use Rattle.jz_meaning.specs.Runs.{only_word, result_word, result_words, outcome_of_words, outcome_of_body}
 use Rattle.jz_run_laws.specs.Kinds.{Kinds, IsOfKind}

@@ -1,6 +1,6 @@
 -- Where a run stands behind two results, and that it is not stuck.
 use Rattle.std.proofs.Common.{◌≡◌, ◌⊎◌, inl, inr, ◌<◌, ℕ, [], ◌∷◌, Option, Some, None, Bool, true, false, refl, ap, sym, ◌∙◌, subst, if◌then◌else◌}
-use Rattle.std.specs.Prelude.{◌&&◌, IsSome}
+use Rattle.std.specs.Prelude.{◌&&◌}
 use Rattle.std.specs.Option.{option_or}
 use Rattle.std.proofs.lemmas.List.Elements.{All-nil, All-cons}
 use Rattle.jz_tree.specs.Span.{Span}
@@ -19,8 +19,8 @@ use Rattle.jz_meaning.specs.declared.value.Why.TheVariants.{Init}
 use Rattle.jz_meaning.specs.Attempts.{Evaluation, stuck_at, and_then}
 use Rattle.jz_meaning.specs.States.{Value, word, boolean, integer, Key, same_key, Store, put, State}
 use Rattle.jz_meaning.specs.Operators.{word_at, binary}
-use Rattle.jz_meaning.specs.Values.{Ref, Meaning, key_of, ref_of, own_size, size_of}
-use Rattle.jz_meaning.specs.Assignments.{Layer, Results, left_sizes, whole_of, held_or_unset, with_value, written, all_written as all_put, word_in, bool_in, truth as truth_of, two_results, with_two, with_three, two_of, conditioned, assigned_whole}
+use Rattle.jz_meaning.specs.Values.{Ref, Meaning, key_of, ref_of, own_size}
+use Rattle.jz_meaning.specs.Assignments.{Layer, Results, left_sizes, held_or_unset, with_value, written, all_written as all_put, word_in, bool_in, truth as truth_of, two_results, with_two, with_three, two_of, conditioned, assigned_whole}
 use Rattle.jz_meaning.specs.Statements as source
 use Rattle.jz_meaning.specs.Statements.{assign}
 use Rattle.jz_run_laws.specs.Kinds.{Kinds, IsOfKinds}
@@ -30,7 +30,7 @@ use Rattle.jz_terms.specs.Terms.{Term, bin, term_of, means}
 use Rattle.jz_terms.proofs.Bridge.{term_so, term_is}
 use Rattle.jz_facts.specs.Facts.{Fact, Set, Cell, AtLeast, AtMost, Under, Is, Multiple, Facts, Given, subject}
 use Rattle.jz_facts.specs.Intervals.{size_or_64}
-use Rattle.jz_facts.specs.Holding.{some_value, the_word, renewed, gained, results, assigned, does, all_written}
+use Rattle.jz_facts.specs.Holding.{some_value, the_word, renewed, gained, assigned, does, all_written}
 use Rattle.jz_facts.specs.Holding as holding
 use Rattle.jz_fact_laws.specs.Saying.{Says, Holds, Yields, IsPlain, is_number}
 use Rattle.jz_fact_laws.proofs.Fitting.{yields_then, yields_all}
@@ -41,7 +41,7 @@ use Rattle.jz_alarms.specs.Conditions.{asks, asks_expr, asks_left, asks_lefts, a
 use Rattle.jz_standing.specs.Typing.{whole, sizes_of, NoNumbers, IsScalar}
 use Rattle.jz_instructed.specs.Instructed.{Shape, a_flag, a_word, a_pinned, TakesShape}
 use Rattle.jz_two_results.specs.TwoResults.{Pair, of_sum, of_difference, of_product, op_of, before, last_of, IsPair, IsCarriedPair, IsPaired}
-use Rattle.jz_standing.specs.Standing.{is_of_cell, AreValid, Stands}
+use Rattle.jz_standing.specs.Standing.{is_of_cell, Stands}
 use Rattle.jz_standing.proofs.Held.{holds}
 use Rattle.jz_standing.proofs.Typed.{flag_typed, typed, any_yields}
 use Rattle.jz_standing.proofs.Plain.{plain_flag, plain_word, scalar_size}

@@ -1,5 +1,5 @@
 -- The laws of two results.
-use Rattle.std.proofs.Common.{◌≡◌, [], ◌∷◌, None}
+use Rattle.std.proofs.Common.{[], ◌∷◌, None}
 use Rattle.jz_meaning.specs.Statements as source
 use Rattle.jz_meaning.specs.Statements.{assign}
 use Rattle.jz_unstuck.proofs.Going.{goes}
