@@ -23,7 +23,7 @@ use Rattle.jz_meaning.specs.States.{Value, word, boolean}
 use Rattle.jz_meaning.specs.Assignments.{Results}
 use Rattle.jz_meaning.specs.Intrinsics.{flag_result, all_flags, first_two as two_of_flags, all_but_carry, before_value, alu_results, one_results, low_product_results, product_results, no_results, of_one, of_two, of_carry, of_count, intrinsic_results}
 use Rattle.jz_facts.specs.Holding.{Gets, none, some_value, flags, five, first_two, and_values, instruction_gets}
-use Rattle.jz_instructed.specs.Instructed.{Shape, a_flag, a_word, a_pinned, five_flags, flags_and_word, flags_and_two, shapes_of, one_word, two_words, with_carry, with_count, form_of}
+use Rattle.jz_instructed.specs.Instructed.{Shape, a_flag, a_word, a_pinned, five_flags, flags_and_word, shapes_of, one_word, two_words, with_carry, with_count, form_of}
 
 -- what a left side gets
 abbrev pub IsGot : Gets → Shape → Option Value → Type 0

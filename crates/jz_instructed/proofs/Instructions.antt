@@ -1,5 +1,4 @@
 -- The laws of instructions.
-use Rattle.std.proofs.Common.{◌≡◌}
 use Rattle.jz_tree.specs.Spellings.{spelled}
 use Rattle.jz_meaning.specs.Statements as source
 use Rattle.jz_meaning.specs.Statements.{instruction}

@@ -16,7 +16,7 @@ use Rattle.jz_meaning.specs.declared.access.Kind.TheVariants as kind
 use Rattle.jz_meaning.specs.Attempts.{Evaluation, and_then, defined}
 use Rattle.jz_meaning.specs.States.{Value, Key, State}
 use Rattle.jz_meaning.specs.Operators.{binary, is_settled}
-use Rattle.jz_meaning.specs.Values.{Ref, MemoryAccess, Meaning, key_of, cell_key, ref_of, right_wanted, with_right, run_binary, index_at, store_at}
+use Rattle.jz_meaning.specs.Values.{Ref, MemoryAccess, Meaning, key_of, ref_of, right_wanted, with_right, run_binary, index_at, store_at}
 use Rattle.jz_meaning.specs.Assignments as values
 use Rattle.jz_meaning.specs.Assignments.{left_size, with_value, written}
 use Rattle.jz_run_laws.specs.Kinds.{Kinds, kind_at}

@@ -5,10 +5,10 @@ use Rattle.std.proofs.lemmas.Nat.{div_below}
 use Rattle.std.proofs.Math.Nat.{mul-le-mul_left}
 use Rattle.jz_tree.specs.Span.{Span}
 use Rattle.x64_insn.specs.Size.{Size}
-use Rattle.x64_insn.specs.Size.TheVariants.{S8, S16, S32, S64}
-use Rattle.x64_insn.specs.Sizes.{bits_of, modulus}
+use Rattle.x64_insn.specs.Size.TheVariants.{S8, S64}
+use Rattle.x64_insn.specs.Sizes.{modulus}
 use Rattle.x64_insn.specs.Words.{carried}
-use Rattle.x64_insn.specs.Shifts.{masked, shifted, shift_answer}
+use Rattle.x64_insn.specs.Shifts.{masked}
 use Rattle.x64_insn.specs.Products.{no_flags, double_word, quotient_answer}
 use Rattle.jz_tree.specs.declared.expr.BinOp.TheVariants as o
 use Rattle.jz_tree.specs.declared.expr.Expr.{Expr}
@@ -16,7 +16,7 @@ use Rattle.jz_tree.specs.declared.stmt.Lval.{Lval}
 use Rattle.jz_tree.specs.declared.intrinsic.Intrinsic.{Intrinsic}
 use Rattle.jz_tree.specs.declared.intrinsic.Intrinsic.TheVariants as name
 use Rattle.jz_tree.specs.declared.intrinsic.Instance.{Instance}
-use Rattle.jz_runs.specs.Rules.{stuck, went}
+use Rattle.jz_runs.specs.Rules.{went}
 use Rattle.jz_meaning.specs.declared.access.Kind.TheVariants as kind
 use Rattle.jz_meaning.specs.declared.value.Why.TheVariants.{Divide}
 use Rattle.jz_meaning.specs.Attempts.{Evaluation, and_then}
@@ -34,8 +34,8 @@ use Rattle.jz_facts.specs.Intervals.{size_or_64, interval}
 use Rattle.jz_facts.specs.Holding.{all_written, counted, instruction_gets, instructed}
 use Rattle.jz_fact_laws.specs.Saying.{Yields, In}
 use Rattle.jz_fact_laws.proofs.Fitting.{yields_then}
-use Rattle.jz_alarms.specs.Conditions.{division, unless, asks, asks_expr, asks_each, asks_division, asks_lefts, asks_instruction}
-use Rattle.jz_standing.specs.Typing.{NoNumbers, IsScalar, IsCount, IsSum}
+use Rattle.jz_alarms.specs.Conditions.{division, asks, asks_expr, asks_each, asks_division, asks_instruction}
+use Rattle.jz_standing.specs.Typing.{NoNumbers, IsScalar, IsCount}
 use Rattle.jz_standing.specs.Standing.{Stands}
 use Rattle.jz_standing.proofs.Counts.{counted as counted_by}
 use Rattle.jz_standing.proofs.SumForms.{sum_word}
