@@ -1,0 +1,9 @@
+pub mod Bodies
+pub mod Parts
+pub mod Values
+pub mod Links
+pub mod RightSides
+pub mod LeftSides
+pub mod Instructions
+pub mod Operations
+pub mod Entry

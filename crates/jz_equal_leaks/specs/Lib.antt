@@ -1,0 +1,4 @@
+pub mod TwoRuns
+pub mod Fixed
+pub mod Agreeing
+pub mod Laws

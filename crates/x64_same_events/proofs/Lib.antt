@@ -1,0 +1,2 @@
+pub mod BothEffects
+pub mod BothRuns

@@ -1,0 +1,2 @@
+pub mod SameEvents
+pub use Rattle.x64_machine.specs.Steps
