@@ -214,9 +214,10 @@ module _ (g : Given) (kinds : Kinds) (in_frame : Key → Bool) (entry : Key → 
   flag_run zo (lval.Skip p) y o q i f t h b = (h, b)
   flag_run zo (lval.Var x) y o q i f t h b =
       let r = ref_of x in
-      runs_then (λ v. v ≡ o) (λ u. HalfHere (renewed (key_of r) (gained g s r.kind y) f) u × Before u) (held_or_unset r.span r.kind o) (λ v. went [] (with_value t (key_of r) v)) (left_held g kinds in_frame entry s st.memory r y a_flag o q i) (λ v e.
-      (one_half g kinds in_frame entry s st.memory (key_of r) y (gained g s r.kind y) v f t i.1.apart (gains g kinds in_frame entry s st.memory r.kind y a_flag o q) (λ p. subst IsSome (sym e) (is_there g kinds in_frame entry s st.memory y a_flag o q p)) h,
-      flag_kept (key_of r) v t (i.1.declared ∙ i.0) b))
+      runs_then (λ v. v ≡ o) (λ u. HalfHere (renewed (key_of r) (gained g s r.kind y) f) u × Before u) (held_or_unset r.span r.kind o) (λ v. went [] (with_value t (key_of r) v)) (left_held g kinds in_frame entry s st.memory r y a_flag o q i) (λ v e. (
+        one_half g kinds in_frame entry s st.memory (key_of r) y (gained g s r.kind y) v f t i.1.apart (gains g kinds in_frame entry s st.memory r.kind y a_flag o q) (λ p. subst IsSome (sym e) (is_there g kinds in_frame entry s st.memory y a_flag o q p)) h,
+        flag_kept (key_of r) v t (i.1.declared ∙ i.0) b,
+      ))
   flag_run zo (lval.Cell x j) y o q i f t h b = absurd i
   flag_run zo (lval.Store a) y o q i f t h b = absurd i
 
