@@ -79,17 +79,17 @@ stored_keeps m a zero v q h = h
 stored_keeps m a (suc n) v q h = stored_keeps (insert m a (v % 256)) ((a + 1) % 2 ^ 64) n (v / 256) q (inserted m a (v % 256) q h)
 
 -- each byte that was valid is
-abbrev Keeps : Memory → Memory → Type 0
+abbrev pub Keeps : Memory → Memory → Type 0
 Keeps m n = (q : ℕ) → IsSome (get m q) → IsSome (get n q)
 
-regions_kept : (entry : Key → ℕ) (m n : Memory) → Keeps m n → (rs : List Region) → AreValid entry m rs → AreValid entry n rs
+pub regions_kept : (entry : Key → ℕ) (m n : Memory) → Keeps m n → (rs : List Region) → AreValid entry m rs → AreValid entry n rs
 regions_kept entry m n k [] h = tt
 regions_kept entry m n k (r ∷ rs) h = (record { ends = h.0.ends; bytes = λ i l. k (entry r.of + i) (h.0.bytes i l) }, regions_kept entry m n k rs h.1)
 
 -- ---- an index
 
 -- of a number the index is that
-abbrev IndexIs : Term → ℕ → Type 0
+abbrev pub IndexIs : Term → ℕ → Type 0
 IndexIs (num i at) n = n ≡ residue S64 i
 IndexIs t n = Unit {0}
 
@@ -136,7 +136,8 @@ index_in_cells t at (kind.Word z) n h = tt
 index_yields : (t : Term) (x : Ref) (v : Value) → ValueIs t v → Yields (IndexIs t) (index_at x v)
 index_yields t x v h = yields_then (IndexIs t) (IndexIs t) (word_at x.span S64 v) (in_cells x.span x.kind) (word_is t x.span v h) (λ n k. index_in_cells t x.span x.kind n k)
 
-module _ (g : Given) (kinds : Kinds) (in_frame : Key → Bool) (entry : Key → ℕ) (s : Facts) (st : State) (H : Stands g kinds in_frame entry s st) (nn : NoNumbers kinds) where
+-- where these facts hold of a state, each of a scalar or of a cell of an array in the frame
+module _ (kinds : Kinds) (in_frame : Key → Bool) (entry : Key → ℕ) (s : Facts) (st : State) (S : (f : Fact) → s f ≡ true → Says entry st.store f) (P : (f : Fact) → s f ≡ true → in_frame (whole (subject f)) ≡ is_of_cell f) where
   -- ---- behind a write to a cell
 
   module _ (x : Ref) (z : Size) (m : ℕ) (A : IsArray kinds in_frame x z m) (n : ℕ) (w : Value) where
@@ -154,13 +155,13 @@ module _ (g : Given) (kinds : Kinds) (in_frame : Key → Bool) (entry : Key → 
       where
         by : (c : Bool) → IsSome (if c then Some w else st.store (record { name = a.name; copy = a.copy; cell = Some k }))
         by true = refl
-        by false = H.says (Cell a k) e
-    says_kept (Set v) e = scalar_same (Set v) refl (H.apart (Set v) e) (H.says (Set v) e)
-    says_kept (AtLeast v c) e = scalar_same (AtLeast v c) refl (H.apart (AtLeast v c) e) (H.says (AtLeast v c) e)
-    says_kept (AtMost v c) e = scalar_same (AtMost v c) refl (H.apart (AtMost v c) e) (H.says (AtMost v c) e)
-    says_kept (Under v y) e = scalar_same (Under v y) refl (H.apart (Under v y) e) (H.says (Under v y) e)
-    says_kept (Is v y) e = scalar_same (Is v y) refl (H.apart (Is v y) e) (H.says (Is v y) e)
-    says_kept (Multiple v c) e = scalar_same (Multiple v c) refl (H.apart (Multiple v c) e) (H.says (Multiple v c) e)
+        by false = S (Cell a k) e
+    says_kept (Set v) e = scalar_same (Set v) refl (P (Set v) e) (S (Set v) e)
+    says_kept (AtLeast v c) e = scalar_same (AtLeast v c) refl (P (AtLeast v c) e) (S (AtLeast v c) e)
+    says_kept (AtMost v c) e = scalar_same (AtMost v c) refl (P (AtMost v c) e) (S (AtMost v c) e)
+    says_kept (Under v y) e = scalar_same (Under v y) refl (P (Under v y) e) (S (Under v y) e)
+    says_kept (Is v y) e = scalar_same (Is v y) refl (P (Is v y) e) (S (Is v y) e)
+    says_kept (Multiple v c) e = scalar_same (Multiple v c) refl (P (Multiple v c) e) (S (Multiple v c) e)
 
     at_cell : (q : Key) → cell_key x n ≡ q → IsSome (put st.store (cell_key x n) (Some w) q)
     at_cell q e = subst (λ q. IsSome (put st.store (cell_key x n) (Some w) q)) e (by (same_key (cell_key x n) (cell_key x n)) refl)
@@ -182,7 +183,7 @@ module _ (g : Given) (kinds : Kinds) (in_frame : Key → Bool) (entry : Key → 
     says_new i e (Is v y) h = absurd (cc h)
     says_new i e (Multiple v c) h = absurd (cc h)
 
-    cell_says : (t : Term) → IndexIs t n → (f : Fact) → in_cell x t s f ≡ true → Says entry Behind f
+    pub cell_says : (t : Term) → IndexIs t n → (f : Fact) → in_cell x t s f ≡ true → Says entry Behind f
     cell_says (num i at) e f h = by (either (s f) (same_cell (key_of x) (residue S64 i) f) h)
       where
         by : (s f ≡ true) ⊎ (same_cell (key_of x) (residue S64 i) f ≡ true) → Says entry Behind f
@@ -207,23 +208,24 @@ module _ (g : Given) (kinds : Kinds) (in_frame : Key → Bool) (entry : Key → 
     new_apart r (Multiple v c) h = absurd (cc h)
 
   module _ (x : Ref) (z : Size) (m : ℕ) (A : IsArray kinds in_frame x z m) where
-    cell_apart : (t : Term) (f : Fact) → in_cell x t s f ≡ true → in_frame (whole (subject f)) ≡ is_of_cell f
+    pub cell_apart : (t : Term) (f : Fact) → in_cell x t s f ≡ true → in_frame (whole (subject f)) ≡ is_of_cell f
     cell_apart (num i at) f h = by (either (s f) (same_cell (key_of x) (residue S64 i) f) h)
       where
         by : (s f ≡ true) ⊎ (same_cell (key_of x) (residue S64 i) f ≡ true) → in_frame (whole (subject f)) ≡ is_of_cell f
-        by (inl q) = H.apart f q
+        by (inl q) = P f q
         by (inr q) = new_apart x z m A 0 (integer i) (residue S64 i) f q
-    cell_apart (truth b at) f h = H.apart f h
-    cell_apart (var y) f h = H.apart f h
-    cell_apart (cell y j) f h = H.apart f h
-    cell_apart (load p a) f h = H.apart f h
-    cell_apart (neg a at) f h = H.apart f h
-    cell_apart (inv a at) f h = H.apart f h
-    cell_apart (cast y sign a at) f h = H.apart f h
-    cell_apart (bin op a b at) f h = H.apart f h
+    cell_apart (truth b at) f h = P f h
+    cell_apart (var y) f h = P f h
+    cell_apart (cell y j) f h = P f h
+    cell_apart (load p a) f h = P f h
+    cell_apart (neg a at) f h = P f h
+    cell_apart (inv a at) f h = P f h
+    cell_apart (cast y sign a at) f h = P f h
+    cell_apart (bin op a b at) f h = P f h
 
+module _ (st : State) where
   -- what a write to a cell leaves
-  abbrev IsWritten : Var → Expr → State → Type 0
+  abbrev pub IsWritten : Var → Expr → State → Type 0
   IsWritten x i t = (n : ℕ) × (w : Value) × IndexIs (term_of i) n × (t ≡ with_value st (cell_key (ref_of x) n) (Some w))
 
   in_cell_leaves : (x : Var) (i : Expr) (n : ℕ) (y : Option Size) (v : Option Value) → IndexIs (term_of i) n → Yields (IsWritten x i) (values.in_cell (ref_of x) n y v st)
@@ -232,7 +234,7 @@ module _ (g : Given) (kinds : Kinds) (in_frame : Key → Bool) (entry : Key → 
   in_cell_leaves x i n (Some y) None h = tt
   in_cell_leaves x i n (Some y) (Some v) h = yields_then (λ w. Unit {0}) (IsWritten x i) (word_value (ref_of x).span y v) (λ w. went [] (with_value st (cell_key (ref_of x) n) (Some w))) (any_yields _) (λ w u. (n, w, h, refl))
 
-  cell_leaves : (zo : Option Size) (x : Var) (i : Expr) (v : Option Value) → Yields (IsWritten x i) (written zo (lval.Cell x i) v st)
+  pub cell_leaves : (zo : Option Size) (x : Var) (i : Expr) (v : Option Value) → Yields (IsWritten x i) (written zo (lval.Cell x i) v st)
   cell_leaves zo x i v =
       subst (λ (m : Meaning). Yields (IsWritten x i) (and_then (m.run (Some S64) st) (λ j. and_then (index_at (ref_of x) j) (λ n. values.in_cell (ref_of x) n (left_size (lval.Cell x i)) v st)))) (sym (term_so i))
       (yields_then (ValueIs (term_of i)) (IsWritten x i) ((means (term_of i)).run (Some S64) st) (λ j. and_then (index_at (ref_of x) j) (λ n. values.in_cell (ref_of x) n (left_size (lval.Cell x i)) v st)) (value_is (term_of i) st) (λ j h.
@@ -250,35 +252,9 @@ module _ (g : Given) (kinds : Kinds) (in_frame : Key → Bool) (entry : Key → 
       subst (λ us. Yields P (all_written at zo (d ∷ []) us st)) (sym k)
       (yields_then P P (written zo d (Some h.0) st) (λ t. went [] t) (f zo (Some h.0)) (λ t q. q))))
 
-  pub cell_stands : (x : Var) (i : Expr) (o : Option BinOp) (e : Expr) (at : Span) → IsCellAssigned kinds in_frame x i o e → Yields (λ t. Stands g kinds in_frame entry (does g (assign (lval.Cell x i ∷ []) o e None at) s) t) (source.does (assign (lval.Cell x i ∷ []) o e None at) st)
-  cell_stands x i o e at c =
-      three (IsWritten x i) (IsOfKinds kinds) (λ t. Unit {0}) (λ t. Stands g kinds in_frame entry (does g (assign (lval.Cell x i ∷ []) o e None at) s) t) (source.does (assign (lval.Cell x i ∷ []) o e None at) st)
-      (λ t h k u. behind t h k)
-      (one_left (IsWritten x i) (lval.Cell x i) (whole_of (Some (lval.Cell x i)) o e) at (λ zo v. cell_leaves zo x i v))
-      (if_went (IsOfKinds kinds) (source.does (assign (lval.Cell x i ∷ []) o e None at) st) (operations_keep kinds (assign (lval.Cell x i ∷ []) o e None at) st (All-cons (LeftDeclared kinds) (lval.Cell x i) [] c.array.declared (All-nil (LeftDeclared kinds))) H.kept))
-      (any_yields _)
-    where
-      facts : (m : Option Expr) (n : ℕ) (w : Value) → IndexIs (term_of i) n → (f : Fact) → assigned g (lval.Cell x i ∷ []) m None s f ≡ true → Says entry (put st.store (cell_key (ref_of x) n) (Some w)) f
-      facts None n w h f q = says_kept (ref_of x) c.size c.cells c.array n w f q
-      facts (Some u) n w h f q = cell_says (ref_of x) c.size c.cells c.array n w (term_of i) h f q
-
-      apart : (m : Option Expr) (f : Fact) → assigned g (lval.Cell x i ∷ []) m None s f ≡ true → in_frame (whole (subject f)) ≡ is_of_cell f
-      apart None f q = H.apart f q
-      apart (Some u) f q = cell_apart (ref_of x) c.size c.cells c.array (term_of i) f q
-
-      behind : (t : State) → IsWritten x i t → IsOfKinds kinds t → Stands g kinds in_frame entry (does g (assign (lval.Cell x i ∷ []) o e None at) s) t
-      behind t (n, w, h, q) k = record {
-        says = λ f p. subst (λ u. Says entry u f) (sym (ap (λ (u : State). u.store) q)) (facts (whole_of (Some (lval.Cell x i)) o e) n w h f p);
-        apart = apart (whole_of (Some (lval.Cell x i)) o e);
-        kept = k;
-        ranges = H.ranges;
-        least = H.least;
-        regions = subst (λ d. AreValid entry d g.regions) (sym (ap (λ (u : State). u.memory) q)) H.regions;
-      }
-
   -- ---- behind a store
 
-  abbrev IsMemory : State → Type 0
+  abbrev pub IsMemory : State → Type 0
   IsMemory t = (t.store ≡ st.store) × Keeps st.memory t.memory
 
   store_keeps : (at : Span) (u : Bool) (y : Option Size) (a : ℕ) (v : Option Value) → Yields (Keeps st.memory) (store_word at u y a v st.memory)
@@ -295,17 +271,46 @@ module _ (g : Given) (kinds : Kinds) (in_frame : Key → Bool) (entry : Key → 
       by b true = aligned (u || is_aligned y a) (stored st.memory a (bytes_of y) b) (λ q h. stored_keeps st.memory a (bytes_of y) b q h)
       by b false = tt
 
-  store_leaves : (zo : Option Size) (a : Access) (v : Option Value) → Yields IsMemory (written zo (lval.Store a) v st)
+  pub store_leaves : (zo : Option Size) (a : Access) (v : Option Value) → Yields IsMemory (written zo (lval.Store a) v st)
   store_leaves zo a v =
       yields_then (λ n. Unit {0}) IsMemory ((access_of a).at st) (λ n. and_then (store_at (access_of a) zo n v st.memory) (λ m. went [] (record st { memory = m }))) (any_yields _) (λ n u.
       yields_then (Keeps st.memory) IsMemory (store_at (access_of a) zo n v st.memory) (λ m. went [] (record st { memory = m }))
       (yields_then (λ q. Unit {0}) (Keeps st.memory) (address_at (access_of a) n) (λ q. store_word (access_of a).span (access_of a).unaligned (option_or (access_of a).size zo) q v st.memory) (any_yields _) (λ q u. store_keeps (access_of a).span (access_of a).unaligned (option_or (access_of a).size zo) q v)) (λ m h. (refl, h)))
 
+module _ (g : Given) (kinds : Kinds) (in_frame : Key → Bool) (entry : Key → ℕ) (s : Facts) (st : State) (H : Stands g kinds in_frame entry s st) (nn : NoNumbers kinds) where
+  -- ---- it stands
+
+  pub cell_stands : (x : Var) (i : Expr) (o : Option BinOp) (e : Expr) (at : Span) → IsCellAssigned kinds in_frame x i o e → Yields (λ t. Stands g kinds in_frame entry (does g (assign (lval.Cell x i ∷ []) o e None at) s) t) (source.does (assign (lval.Cell x i ∷ []) o e None at) st)
+  cell_stands x i o e at c =
+      three (IsWritten st x i) (IsOfKinds kinds) (λ t. Unit {0}) (λ t. Stands g kinds in_frame entry (does g (assign (lval.Cell x i ∷ []) o e None at) s) t) (source.does (assign (lval.Cell x i ∷ []) o e None at) st)
+      (λ t h k u. behind t h k)
+      (one_left st (IsWritten st x i) (lval.Cell x i) (whole_of (Some (lval.Cell x i)) o e) at (λ zo v. cell_leaves st zo x i v))
+      (if_went (IsOfKinds kinds) (source.does (assign (lval.Cell x i ∷ []) o e None at) st) (operations_keep kinds (assign (lval.Cell x i ∷ []) o e None at) st (All-cons (LeftDeclared kinds) (lval.Cell x i) [] c.array.declared (All-nil (LeftDeclared kinds))) H.kept))
+      (any_yields _)
+    where
+      facts : (m : Option Expr) (n : ℕ) (w : Value) → IndexIs (term_of i) n → (f : Fact) → assigned g (lval.Cell x i ∷ []) m None s f ≡ true → Says entry (put st.store (cell_key (ref_of x) n) (Some w)) f
+      facts None n w h f q = says_kept kinds in_frame entry s st H.says H.apart (ref_of x) c.size c.cells c.array n w f q
+      facts (Some u) n w h f q = cell_says kinds in_frame entry s st H.says H.apart (ref_of x) c.size c.cells c.array n w (term_of i) h f q
+
+      apart : (m : Option Expr) (f : Fact) → assigned g (lval.Cell x i ∷ []) m None s f ≡ true → in_frame (whole (subject f)) ≡ is_of_cell f
+      apart None f q = H.apart f q
+      apart (Some u) f q = cell_apart kinds in_frame entry s st H.says H.apart (ref_of x) c.size c.cells c.array (term_of i) f q
+
+      behind : (t : State) → IsWritten st x i t → IsOfKinds kinds t → Stands g kinds in_frame entry (does g (assign (lval.Cell x i ∷ []) o e None at) s) t
+      behind t (n, w, h, q) k = record {
+        says = λ f p. subst (λ u. Says entry u f) (sym (ap (λ (u : State). u.store) q)) (facts (whole_of (Some (lval.Cell x i)) o e) n w h f p);
+        apart = apart (whole_of (Some (lval.Cell x i)) o e);
+        kept = k;
+        ranges = H.ranges;
+        least = H.least;
+        regions = subst (λ d. AreValid entry d g.regions) (sym (ap (λ (u : State). u.memory) q)) H.regions;
+      }
+
   pub store_stands : (a : Access) (o : Option BinOp) (e : Expr) (at : Span) → Yields (λ t. Stands g kinds in_frame entry (does g (assign (lval.Store a ∷ []) o e None at) s) t) (source.does (assign (lval.Store a ∷ []) o e None at) st)
   store_stands a o e at =
-      three IsMemory (IsOfKinds kinds) (λ t. Unit {0}) (λ t. Stands g kinds in_frame entry (does g (assign (lval.Store a ∷ []) o e None at) s) t) (source.does (assign (lval.Store a ∷ []) o e None at) st)
+      three (IsMemory st) (IsOfKinds kinds) (λ t. Unit {0}) (λ t. Stands g kinds in_frame entry (does g (assign (lval.Store a ∷ []) o e None at) s) t) (source.does (assign (lval.Store a ∷ []) o e None at) st)
       (λ t h k u. behind t (whole_of (Some (lval.Store a)) o e) h k)
-      (one_left IsMemory (lval.Store a) (whole_of (Some (lval.Store a)) o e) at (λ zo v. store_leaves zo a v))
+      (one_left st (IsMemory st) (lval.Store a) (whole_of (Some (lval.Store a)) o e) at (λ zo v. store_leaves st zo a v))
       (if_went (IsOfKinds kinds) (source.does (assign (lval.Store a ∷ []) o e None at) st) (operations_keep kinds (assign (lval.Store a ∷ []) o e None at) st (All-cons (LeftDeclared kinds) (lval.Store a) [] tt (All-nil (LeftDeclared kinds))) H.kept))
       (any_yields _)
     where
@@ -313,7 +318,7 @@ module _ (g : Given) (kinds : Kinds) (in_frame : Key → Bool) (entry : Key → 
       same None f q = q
       same (Some w) f q = q
 
-      behind : (t : State) (m : Option Expr) → IsMemory t → IsOfKinds kinds t → Stands g kinds in_frame entry (assigned g (lval.Store a ∷ []) m None s) t
+      behind : (t : State) (m : Option Expr) → IsMemory st t → IsOfKinds kinds t → Stands g kinds in_frame entry (assigned g (lval.Store a ∷ []) m None s) t
       behind t m h k = record {
         says = λ f p. subst (λ u. Says entry u f) (sym h.0) (H.says f (same m f p));
         apart = λ f p. H.apart f (same m f p);

@@ -98,22 +98,22 @@ module _ (g : Given) (kinds : Kinds) (in_frame : Key → Bool) (entry : Key → 
       subst (λ d. Runs (λ n. Unit {0}) (and_then (word_at x.span S64 v) (in_cells x.span d))) (sym e)
       (runs_then (In i) (λ n. Unit {0}) (word_at x.span S64 v) (in_cells x.span (kind.Array z m)) (index_word x.span i 0 k v j h p) (λ a q. within x.span z m a i b q))
 
-  cell_goes : (x : Var) (i : Expr) (z : Size) (m : ℕ) (zo : Option Size) → IsArray kinds in_frame (ref_of x) z m → IsSum kinds in_frame (term_of i) → asks_left g s zo (lval.Cell x i) ≡ None → (k : Bool) (v : Value) → OfSize z k v → Runs (λ t. Unit {0}) (written zo (lval.Cell x i) (Some v) st)
-  cell_goes x i z m zo A j q k v h =
+  -- the index is evaluated here, and the cell written in a state behind
+  pub cell_goes : (later : State) (x : Var) (i : Expr) (z : Size) (m : ℕ) (zo : Option Size) → IsArray kinds in_frame (ref_of x) z m → IsSum kinds in_frame (term_of i) → asks_left g s zo (lval.Cell x i) ≡ None → (k : Bool) (v : Value) → OfSize z k v → Runs (λ t. Unit {0}) (and_then ((means (term_of i)).run (Some S64) st) (λ u. and_then (index_at (ref_of x) u) (λ n. values.in_cell (ref_of x) n (left_size (lval.Cell x i)) (Some v) later)))
+  cell_goes later x i z m zo A j q k v h =
       let r = ref_of x in
       let t = term_of i in
       let a = both_met (asks_expr g s (Some S64) i) _ q in
       let b : bounds_of (kind.Array z m) (interval g s S64 t) ≡ true = subst (λ d. bounds_of d (interval g s S64 t) ≡ true) A.is (met (bounds_of r.kind (interval g s S64 t)) r.span Bounds (named r.name r.cell) a.1) in
       let Q : Value → Type 0 = λ (u : Value). StandsFor (total_of st t) (is_number t) u × Good (interval g s S64 t) (is_number t) S64 u in
-      subst (λ (e : Meaning). Runs (λ t. Unit {0}) (and_then (e.run (Some S64) st) (λ u. and_then (index_at r u) (λ n. values.in_cell r n (left_size (lval.Cell x i)) (Some v) st)))) (sym (term_so i))
-      (runs_then Q (λ t. Unit {0}) ((means t).run (Some S64) st) (λ u. and_then (index_at r u) (λ n. values.in_cell r n (left_size (lval.Cell x i)) (Some v) st))
+      runs_then Q (λ t. Unit {0}) ((means t).run (Some S64) st) (λ u. and_then (index_at r u) (λ n. values.in_cell r n (left_size (lval.Cell x i)) (Some v) later))
       (runs_with (StandsFor (total_of st t) (is_number t)) (Good (interval g s S64 t) (is_number t) S64) ((means t).run (Some S64) st)
       (totals g kinds in_frame entry s st H nn t j (held_vars g kinds in_frame entry s st H nn t j a.0))
       (term_ok g (sizes_of kinds) entry s st (holds g kinds in_frame entry s st nn H) t (plain_word kinds in_frame t (Some S64) S64 (sum_word kinds in_frame t j)) S64 (Some S64))) (λ u p.
-      runs_then (λ n. Unit {0}) (λ t. Unit {0}) (index_at r u) (λ n. values.in_cell r n (left_size (lval.Cell x i)) (Some v) st) (index_goes r z m A.is (interval g s S64 t) (is_number t) u (total_of st t) b p.0 p.1) (λ n c.
-      subst (λ (y : Option Size). Runs (λ t. Unit {0}) (values.in_cell r n y (Some v) st)) (sym (ap size_of A.is))
-      (runs_then (λ w. Unit {0}) (λ t. Unit {0}) (word_value r.span z v) (λ w. went [] (with_value st (cell_key r n) (Some w)))
-      (runs_then (λ w. Unit {0}) (λ w. Unit {0}) (word_at r.span z v) (λ a. went [] (word z a)) (word_goes r.span z k v h) (λ a c. tt)) (λ w c. tt)))))
+      runs_then (λ n. Unit {0}) (λ t. Unit {0}) (index_at r u) (λ n. values.in_cell r n (left_size (lval.Cell x i)) (Some v) later) (index_goes r z m A.is (interval g s S64 t) (is_number t) u (total_of st t) b p.0 p.1) (λ n c.
+      subst (λ (y : Option Size). Runs (λ t. Unit {0}) (values.in_cell r n y (Some v) later)) (sym (ap size_of A.is))
+      (runs_then (λ w. Unit {0}) (λ t. Unit {0}) (word_value r.span z v) (λ w. went [] (with_value later (cell_key r n) (Some w)))
+      (runs_then (λ w. Unit {0}) (λ w. Unit {0}) (word_at r.span z v) (λ a. went [] (word z a)) (word_goes r.span z k v h) (λ a c. tt)) (λ w c. tt))))
 
   -- ---- memory
 
@@ -123,10 +123,11 @@ module _ (g : Given) (kinds : Kinds) (in_frame : Key → Bool) (entry : Key → 
       subst (λ d. Runs (λ m. Unit {0}) (accessed at u z a (if d then Some (stored st.memory a (bytes_of z) c) else None))) (sym (bytes_valid st.memory a (bytes_of z) b.0 b.1))
       (subst (λ d. Runs (λ m. Unit {0}) (if d then went (a ∷ []) (stored st.memory a (bytes_of z) c) else stuck_at at Align)) (sym q) tt))
 
-  place_goes : (p : Place) (zo : Option Size) (z : Size) (k : Bool) (v : Value) → IsSum kinds in_frame p.at → option_or p.spot.size zo ≡ Some z → OfSize z k v
+  -- the address is evaluated here, and the memory is this one, in a state behind
+  pub place_goes : (later : State) (p : Place) (zo : Option Size) (z : Size) (k : Bool) (v : Value) → IsSum kinds in_frame p.at → option_or p.spot.size zo ≡ Some z → OfSize z k v
       → or_else (asks g s (Some S64) p.at) (asks_access g s p.spot (size_or_64 (option_or p.spot.size zo)) p.at) ≡ None
-      → Runs (λ t. Unit {0}) (and_then ((access_at p).at st) (λ n. and_then (store_at (access_at p) zo n (Some v) st.memory) (λ m. went [] (record st { memory = m }))))
-  place_goes p zo z k v i e h q =
+      → Runs (λ t. Unit {0}) (and_then ((access_at p).at st) (λ n. and_then (store_at (access_at p) zo n (Some v) st.memory) (λ m. went [] (record later { memory = m }))))
+  place_goes later p zo z k v i e h q =
       let t = p.at in
       let d = both_met (asks g s (Some S64) t) _ q in
       let y : asks_access g s p.spot z t ≡ None = subst (λ u. asks_access g s p.spot (size_or_64 u) t ≡ None) e d.1 in
@@ -135,9 +136,9 @@ module _ (g : Given) (kinds : Kinds) (in_frame : Key → Bool) (entry : Key → 
       let u = met (p.spot.unaligned || is_multiple g s t (bytes_of z)) p.spot.span Align memory f.1 in
       let held = held_vars g kinds in_frame entry s st H nn t i d.0 in
       let Q : Value → Type 0 = λ (c : Value). StandsFor (total_of st t) (is_number t) c × ((p.spot.unaligned ≡ true) ⊎ IsAligned z c) in
-      runs_then Q (λ t. Unit {0}) ((means t).run (Some S64) st) (λ n. and_then (store_at (access_at p) zo n (Some v) st.memory) (λ m. went [] (record st { memory = m })))
+      runs_then Q (λ t. Unit {0}) ((means t).run (Some S64) st) (λ n. and_then (store_at (access_at p) zo n (Some v) st.memory) (λ m. went [] (record later { memory = m })))
       (runs_with (StandsFor (total_of st t) (is_number t)) (λ c. (p.spot.unaligned ≡ true) ⊎ IsAligned z c) ((means t).run (Some S64) st) (totals g kinds in_frame entry s st H nn t i held) (may_be_aligned g kinds in_frame entry s st H nn p.spot.unaligned z t i u)) (λ n c.
-      runs_then (λ m. Unit {0}) (λ t. Unit {0}) (store_at (access_at p) zo n (Some v) st.memory) (λ m. went [] (record st { memory = m }))
+      runs_then (λ m. Unit {0}) (λ t. Unit {0}) (store_at (access_at p) zo n (Some v) st.memory) (λ m. went [] (record later { memory = m }))
       (runs_then (λ a. a ≡ residue S64 (total_of st t)) (λ m. Unit {0}) (word_at p.spot.span S64 n) (λ a. store_word p.spot.span p.spot.unaligned (option_or p.spot.size zo) a (Some v) st.memory) (word_of_value p.spot.span (total_of st t) (is_number t) n c.0) (λ a l.
       subst (λ y. Runs (λ m. Unit {0}) (store_word p.spot.span p.spot.unaligned y a (Some v) st.memory)) (sym e)
       (stored_goes p.spot.span p.spot.unaligned z a k v h (bytes_there g kinds in_frame entry s st H nn (bytes_of z) (some_size z) t i held r a l) (aligned_at g kinds in_frame entry s st H nn p.spot.unaligned z (total_of st t) (is_number t) n a c.0 l c.1)))) (λ m c. tt))
@@ -168,7 +169,9 @@ module _ (g : Given) (kinds : Kinds) (in_frame : Key → Bool) (entry : Key → 
           let a : asks_assign g s (d ∷ []) (Some w) None ≡ None = subst (λ m. asks_assign g s (d ∷ []) m None ≡ None) r q in
           let b = both_met (asks_expr g s zo w) _ a in
           let z : zo ≡ Some c.size = ap (λ k. option_or (option_or (size_of k) None) (own_size w)) c.array.is in
-          one_goes d (whole_of (Some d) o e) w at c.size r (subst (λ u. IsWord kinds in_frame u c.size (term_of w)) (sym z) (c.value w r)) b.0 (λ k v h. cell_goes x i c.size c.cells zo c.array c.index (last_of_one d zo b.1) k v h)
+          one_goes d (whole_of (Some d) o e) w at c.size r (subst (λ u. IsWord kinds in_frame u c.size (term_of w)) (sym z) (c.value w r)) b.0 (λ k v h.
+          subst (λ (e : Meaning). Runs (λ t. Unit {0}) (and_then (e.run (Some S64) st) (λ u. and_then (index_at (ref_of x) u) (λ n. values.in_cell (ref_of x) n (left_size d) (Some v) st)))) (sym (term_so i))
+          (cell_goes st x i c.size c.cells zo c.array c.index (last_of_one d zo b.1) k v h))
 
   pub store_runs : (l : Access) (o : Option BinOp) (e : Expr) (at : Span) → IsStored kinds in_frame l o e → asks_operation g (assign (lval.Store l ∷ []) o e None at) s ≡ None → Runs (λ t. Unit {0}) (source.does (assign (lval.Store l ∷ []) o e None at) st)
   store_runs l o e at c q = by (has_whole o)
@@ -186,4 +189,4 @@ module _ (g : Given) (kinds : Kinds) (in_frame : Key → Bool) (entry : Key → 
           let f = c.value w r in
           one_goes d (whole_of (Some d) o e) w at c.size r f.1 b.0 (λ k v h.
           subst (λ (y : MemoryAccess). Runs (λ t. Unit {0}) (and_then (y.at st) (λ n. and_then (store_at y zo n (Some v) st.memory) (λ m. went [] (record st { memory = m }))))) (sym (access_so l))
-          (place_goes (place_of l) zo c.size k v c.address f.0 h (last_of_one d zo b.1)))
+          (place_goes st (place_of l) zo c.size k v c.address f.0 h (last_of_one d zo b.1)))

@@ -3,7 +3,6 @@ use Rattle.std.proofs.Common.{◌≡◌, ℕ, List, [], ◌∷◌, Some, None, B
 use Rattle.jz_tree.specs.Span.{Span}
 use Rattle.x64_insn.specs.Size.{Size}
 use Rattle.jz_tree.specs.declared.expr.Var.{Var}
-use Rattle.jz_tree.specs.declared.stmt.Lval.TheVariants as lval
 use Rattle.jz_tree.specs.Spellings.{spelled}
 use Rattle.jz_runs.specs.RunLeaks.{Leak}
 use Rattle.jz_runs.specs.Rules.{stuck, went, Outcome, End, Cut, Stuck}
@@ -14,7 +13,7 @@ use Rattle.jz_meaning.specs.Attempts.{Evaluation, and_then, defined}
 use Rattle.jz_meaning.specs.States.{Value, word, boolean, integer, Key, State}
 use Rattle.jz_meaning.specs.Values.{key_of, ref_of}
 use Rattle.jz_meaning.specs.Statements as source
-use Rattle.jz_meaning.specs.Statements.{Operation, Condition, Block, assign, instruction, unset, meaningless}
+use Rattle.jz_meaning.specs.Statements.{Operation, Condition, assign, instruction, unset, meaningless}
 use Rattle.jz_meaning.specs.Assignments.{truth as truth_of}
 use Rattle.jz_meaning.specs.Runs.{only_word, result_word, result_words, outcome_of_words, outcome_of_body}
 use Rattle.jz_run_laws.specs.Kinds.{Kinds, IsOfKind}
@@ -43,7 +42,7 @@ use Rattle.jz_unstuck.proofs.Sums.{met, both_met, Runs, runs_then}
 use Rattle.jz_unstuck.proofs.Apart.{tested_stands}
 use Rattle.jz_unstuck.proofs.Marks.{marked_stands}
 use Rattle.jz_assigned.proofs.OneValue.{one_stands, one_runs}
-use Rattle.jz_instructed.proofs.Lefts.{instructed_stands, instructed_runs}
+use Rattle.jz_instructed.proofs.Outcomes.{instructed_stands, instructed_runs}
 use Rattle.jz_two_results.proofs.Paired.{paired_stands, paired_runs}
 use Rattle.jz_unstuck.proofs.Going.{tests_run}
 
@@ -62,12 +61,9 @@ module _ (g : Given) (kinds : Kinds) (in_frame : Key → Bool) (entry : Key → 
 
   operation_stands : (o : Operation) (s : Facts) (st : State) → IsFine kinds in_frame o → There s st → Yields (There (does g o s)) (source.does o st)
   operation_stands (assign (d ∷ []) o e c at) s st i H = one_stands g kinds in_frame entry s st nn H d o e c at i
-  operation_stands (assign (d ∷ lval.Var x ∷ []) o e None at) s st i H = paired_stands g kinds in_frame entry s st H nn d x o e at i
+  operation_stands (assign (d ∷ b ∷ []) o e None at) s st i H = paired_stands g kinds in_frame entry s st H nn d b o e at i
   operation_stands (assign [] o e c at) s st i H = absurd i
-  operation_stands (assign (d ∷ lval.Var x ∷ []) o e (Some c) at) s st i H = absurd i
-  operation_stands (assign (d ∷ lval.Skip p ∷ []) o e c at) s st i H = absurd i
-  operation_stands (assign (d ∷ lval.Cell x j ∷ []) o e c at) s st i H = absurd i
-  operation_stands (assign (d ∷ lval.Store a ∷ []) o e c at) s st i H = absurd i
+  operation_stands (assign (d ∷ b ∷ []) o e (Some c) at) s st i H = absurd i
   operation_stands (assign (d ∷ b ∷ f ∷ ds) o e c at) s st i H = absurd i
   operation_stands (instruction to n args at) s st i H = instructed_stands g kinds in_frame entry s st H nn (spelled n) to args at i
   operation_stands (unset xs) s st i H = H
@@ -75,12 +71,9 @@ module _ (g : Given) (kinds : Kinds) (in_frame : Key → Bool) (entry : Key → 
 
   operation_runs : (o : Operation) (s : Facts) (st : State) → IsFine kinds in_frame o → There s st → asks_operation g o s ≡ None → Runs (λ t. Unit {0}) (source.does o st)
   operation_runs (assign (d ∷ []) o e c at) s st i H q = one_runs g kinds in_frame entry s st nn H d o e c at i q
-  operation_runs (assign (d ∷ lval.Var x ∷ []) o e None at) s st i H q = paired_runs g kinds in_frame entry s st H nn d x o e at i q
+  operation_runs (assign (d ∷ b ∷ []) o e None at) s st i H q = paired_runs g kinds in_frame entry s st H nn d b o e at i q
   operation_runs (assign [] o e c at) s st i H q = absurd i
-  operation_runs (assign (d ∷ lval.Var x ∷ []) o e (Some c) at) s st i H q = absurd i
-  operation_runs (assign (d ∷ lval.Skip p ∷ []) o e c at) s st i H q = absurd i
-  operation_runs (assign (d ∷ lval.Cell x j ∷ []) o e c at) s st i H q = absurd i
-  operation_runs (assign (d ∷ lval.Store a ∷ []) o e c at) s st i H q = absurd i
+  operation_runs (assign (d ∷ b ∷ []) o e (Some c) at) s st i H q = absurd i
   operation_runs (assign (d ∷ b ∷ f ∷ ds) o e c at) s st i H q = absurd i
   operation_runs (instruction to n args at) s st i H q = instructed_runs g kinds in_frame entry s st H nn (spelled n) to args at i q
   operation_runs (unset xs) s st i H q = tt

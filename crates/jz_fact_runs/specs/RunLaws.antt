@@ -2,7 +2,7 @@
 use Rattle.std.specs.Prelude.{ℕ, ◌≡◌, Bool, List, None}
 use Rattle.jz_tree.specs.declared.expr.Var.{Var}
 use Rattle.jz_runs.specs.RunLeaks.{Leak}
-use Rattle.jz_runs.specs.Rules.{stuck, Outcome, Stuck, Goes}
+use Rattle.jz_runs.specs.Rules.{Outcome, Stuck, Goes}
 use Rattle.jz_meaning.specs.declared.value.Stuck as code
 use Rattle.jz_meaning.specs.States.{Key, State}
 use Rattle.jz_meaning.specs.Statements as source

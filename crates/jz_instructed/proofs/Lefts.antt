@@ -1,47 +1,39 @@
--- Where a run stands behind the left sides of an instruction.
+-- Where a run stands behind several left sides, and that they are not stuck.
 use Rattle.std.proofs.Common.{◌≡◌, ◌⊎◌, inl, inr, ℕ, List, [], ◌∷◌, Option, Some, None, Bool, true, false, refl, ap, sym, ◌∙◌, subst, if◌then◌else◌}
 use Rattle.std.specs.Prelude.{IsSome, All}
+use Rattle.std.specs.Option.{option_or}
 use Rattle.std.proofs.lemmas.List.Elements.{All-nil, All-cons}
 use Rattle.jz_tree.specs.Span.{Span}
 use Rattle.x64_insn.specs.Size.{Size}
 use Rattle.x64_insn.specs.Memory.{Memory}
-use Rattle.jz_tree.specs.declared.expr.Expr.{Expr}
 use Rattle.jz_tree.specs.declared.expr.Var.{Var}
 use Rattle.jz_tree.specs.declared.stmt.Lval.{Lval}
 use Rattle.jz_tree.specs.declared.stmt.Lval.TheVariants as lval
-use Rattle.jz_tree.specs.declared.intrinsic.Intrinsic.{Intrinsic}
-use Rattle.jz_tree.specs.declared.intrinsic.Instance.{Instance}
 use Rattle.jz_runs.specs.Rules.{stuck, went}
 use Rattle.jz_meaning.specs.declared.access.Kind.{Kind}
 use Rattle.jz_meaning.specs.declared.access.Kind.TheVariants as kind
 use Rattle.jz_meaning.specs.Attempts.{Evaluation, and_then, defined}
-use Rattle.jz_meaning.specs.States.{Value, word, boolean, integer, Key, same_key, put, State}
-use Rattle.jz_meaning.specs.Operators.{word_at}
-use Rattle.jz_meaning.specs.Values.{Ref, Meaning, key_of, ref_of}
-use Rattle.jz_meaning.specs.Assignments.{Results, word_in, bool_in, held_or_unset, with_value, written, all_written as all_put, truth as truth_of}
-use Rattle.jz_meaning.specs.Intrinsics.{intrinsic_results, intrinsic_size, sized_results, instruction_done}
-use Rattle.jz_run_laws.specs.Kinds.{Kinds, IsOfKinds}
+use Rattle.jz_meaning.specs.States.{Value, word, boolean, Key, same_key, put, State}
+use Rattle.jz_meaning.specs.Values.{Ref, key_of, ref_of}
+use Rattle.jz_meaning.specs.Assignments.{Results, held_or_unset, with_value, written, all_written as all_put}
+use Rattle.jz_run_laws.specs.Kinds.{Kinds, kind_at}
 use Rattle.jz_run_laws.specs.DeclaredKinds.{LeftDeclared}
-use Rattle.jz_run_laws.proofs.Instructions.{instruction_keeps}
-use Rattle.jz_terms.specs.Terms.{Term, num, truth, var, cell, load, neg, inv, cast, bin, term_of, means}
-use Rattle.jz_terms.proofs.Bridge.{term_so}
+use Rattle.jz_terms.specs.Terms.{place_of}
 use Rattle.jz_facts.specs.Facts.{Fact, Set, Cell, AtLeast, AtMost, Under, Is, Multiple, Facts, Given, subject}
-use Rattle.jz_facts.specs.Holding.{Gets, none, some_value, the_word, renewed, only_set, gained, all_written, counted, instruction_gets, instructed}
-use Rattle.jz_fact_laws.specs.Saying.{Yields, Says, is_number}
-use Rattle.jz_fact_laws.proofs.Fitting.{yields_then}
+use Rattle.jz_facts.specs.Holding as holding
+use Rattle.jz_facts.specs.Holding.{Gets, none, some_value, the_word, renewed, only_set, gained, all_written}
+use Rattle.jz_fact_laws.specs.Saying.{Yields, Says}
+use Rattle.jz_fact_laws.proofs.Fitting.{yields_then, yields_all}
 use Rattle.jz_fact_laws.proofs.Setting.{same_key-true, same_key-refl}
-use Rattle.jz_alarms.specs.Conditions.{asks, asks_expr, asks_each, asks_instruction}
-use Rattle.jz_standing.specs.Typing.{whole, NoNumbers, IsScalar, IsFlag, IsWord}
-use Rattle.jz_instructed.specs.Instructed.{Shape, a_flag, a_word, shapes_of, Form, one_word, two_words, with_carry, another, form_of, TakesShape, TakeShapes, AreOperands, IsInstructed}
+use Rattle.jz_alarms.specs.Conditions.{asks_left, asks_lefts}
+use Rattle.jz_standing.specs.Typing.{whole, NoNumbers, IsScalar}
 use Rattle.jz_standing.specs.Standing.{is_of_cell, AreValid, Stands}
-use Rattle.jz_standing.proofs.Making.{OfSize, IsTruth, same_size-refl}
-use Rattle.jz_standing.proofs.Typed.{any_yields}
+use Rattle.jz_standing.proofs.Making.{same_size-refl}
 use Rattle.jz_unstuck.proofs.Sums.{both_met, Runs, runs_then, runs_yields}
-use Rattle.jz_unstuck.proofs.Firm.{word_runs, answer_runs}
 use Rattle.jz_unstuck.proofs.Marks.{seat, says_same, put_elsewhere, scalar_elsewhere}
-use Rattle.jz_assigned.proofs.Assigning.{if_went, three}
-use Rattle.jz_assigned.proofs.Writing.{word_goes}
-use Rattle.jz_instructed.proofs.Instructing.{IsGot, AreGot, two_of, one_of, carry_of}
+use Rattle.jz_instructed.specs.Instructed.{Shape, a_flag, a_word, a_pinned, TakesShape, TakeShapes}
+use Rattle.jz_instructed.proofs.Instructing.{IsGot, AreGot, ArePinned, IsEnded}
+use Rattle.jz_instructed.proofs.Lasts.{AsBefore, Behind, cell_behind, store_behind, cell_last, store_last}
 
 module _ (g : Given) (kinds : Kinds) (in_frame : Key → Bool) (entry : Key → ℕ) (first : Facts) (m : Memory) where
   -- the facts hold of this state, whose memory is m
@@ -65,6 +57,7 @@ module _ (g : Given) (kinds : Kinds) (in_frame : Key → Bool) (entry : Key → 
   gains (kind.Array z n) some_value h o e = λ f q. q
   gains k (the_word z t) a_flag o e = absurd e
   gains k (the_word z t) (a_word y) o e = absurd e
+  gains k (the_word z t) (a_pinned y) o e = absurd e
 
   -- one variable gets a value, or none
   pub one_half : (k : Key) (y : Gets) (new : Facts) (v : Option Value) (s : Facts) (t : State) → in_frame (whole k) ≡ false → Gains y new → (y ≡ some_value → IsSome v) → Half s t → Half (renewed k new s) (with_value t k v)
@@ -125,203 +118,191 @@ module _ (g : Given) (kinds : Kinds) (in_frame : Key → Bool) (entry : Key → 
   pub is_there : (y : Gets) (h : Shape) (o : Option Value) → IsGot y h o → y ≡ some_value → IsSome o
   is_there some_value a_flag o (b, q) e = subst IsSome (sym q) refl
   is_there some_value (a_word z) o (n, q) e = subst IsSome (sym q) refl
+  is_there some_value (a_pinned z) o (n, q) e = subst IsSome (sym q) refl
   is_there none a_flag o q e = absurd (cc e)
   is_there none (a_word z) o q e = absurd q
+  is_there none (a_pinned z) o q e = absurd q
   is_there (the_word z t) a_flag o q e = absurd q
   is_there (the_word z t) (a_word u) o q e = absurd q
+  is_there (the_word z t) (a_pinned u) o q e = absurd q
 
   abbrev pub TakesRef : Shape → Ref → Type 0
   TakesRef a_flag x = (x.kind ≡ kind.Bool) × IsScalar kinds in_frame x
   TakesRef (a_word z) x = (x.kind ≡ kind.Word z) × IsScalar kinds in_frame x
+  TakesRef (a_pinned z) x = (x.kind ≡ kind.Word z) × IsScalar kinds in_frame x
 
   pub left_held : (x : Ref) (y : Gets) (h : Shape) (o : Option Value) → IsGot y h o → TakesRef h x → Runs (λ u. u ≡ o) (held_or_unset x.span x.kind o)
   left_held x none a_flag o q i = flag_held x.span x.kind o i.0 q
   left_held x some_value a_flag o q i = flag_held x.span x.kind o i.0 (inr q)
   left_held x some_value (a_word z) o (n, q) i = subst (λ u. Runs (λ h. h ≡ u) (held_or_unset x.span x.kind u)) (sym q) (word_held x.span x.kind z n i.0)
+  left_held x some_value (a_pinned z) o (n, q) i = subst (λ u. Runs (λ h. h ≡ u) (held_or_unset x.span x.kind u)) (sym q) (word_held x.span x.kind z n i.0)
   left_held x none (a_word z) o q i = absurd q
+  left_held x none (a_pinned z) o q i = absurd q
   left_held x (the_word z t) a_flag o q i = absurd q
   left_held x (the_word z t) (a_word u) o q i = absurd q
+  left_held x (the_word z t) (a_pinned u) o q i = absurd q
 
   pub takes : (h : Shape) (x : Var) → TakesShape kinds in_frame h (lval.Var x) → TakesRef h (ref_of x)
   takes a_flag x i = i
   takes (a_word z) x i = i
+  takes (a_pinned z) x i = i
 
   pub scalar : (h : Shape) (x : Ref) → TakesRef h x → IsScalar kinds in_frame x
   scalar a_flag x i = i.1
   scalar (a_word z) x i = i.1
+  scalar (a_pinned z) x i = i.1
 
-  pub lefts_run : (at : Span) (zo : Option Size) (ds : List Lval) (ys : List Gets) (hs : List Shape) (os : Results) (s : Facts) (t : State) → AreGot ys hs os → TakeShapes kinds in_frame hs ds → Half s t → Runs (Half (all_written g first ds ys s)) (all_put at zo ds os t)
-  lefts_run at zo [] [] [] [] s t q i H = H
-  lefts_run at zo (lval.Skip p ∷ ds) (y ∷ ys) (h ∷ hs) (o ∷ os) s t q i H =
-      runs_then (λ u. u ≡ t) (Half (all_written g first ds ys s)) (written zo (lval.Skip p) o t) (λ u. all_put at zo ds os u) refl (λ u e.
-      subst (λ u. Runs (Half (all_written g first ds ys s)) (all_put at zo ds os u)) (sym e) (lefts_run at zo ds ys hs os s t q.1 i.1 H))
-  lefts_run at zo (lval.Var x ∷ ds) (y ∷ ys) (h ∷ hs) (o ∷ os) s t q i H =
-      let r = ref_of x in
-      let j = takes h x i.0 in
-      let new = gained g first r.kind y in
-      runs_then (Half (renewed (key_of r) new s)) (Half (all_written g first ds ys (renewed (key_of r) new s))) (written zo (lval.Var x) o t) (λ u. all_put at zo ds os u)
-      (runs_then (λ v. v ≡ o) (Half (renewed (key_of r) new s)) (held_or_unset r.span r.kind o) (λ v. went [] (with_value t (key_of r) v)) (left_held r y h o q.0 j) (λ v e.
-      one_half (key_of r) y new v s t (scalar h r j).apart (gains r.kind y h o q.0) (λ p. subst IsSome (sym e) (is_there y h o q.0 p)) H)) (λ u k.
-      lefts_run at zo ds ys hs os (renewed (key_of r) new s) u q.1 i.1 k)
-  lefts_run at zo (lval.Cell x j ∷ ds) (y ∷ ys) (a_flag ∷ hs) (o ∷ os) s t q i H = absurd i.0
-  lefts_run at zo (lval.Cell x j ∷ ds) (y ∷ ys) (a_word z ∷ hs) (o ∷ os) s t q i H = absurd i.0
-  lefts_run at zo (lval.Store a ∷ ds) (y ∷ ys) (a_flag ∷ hs) (o ∷ os) s t q i H = absurd i.0
-  lefts_run at zo (lval.Store a ∷ ds) (y ∷ ys) (a_word z ∷ hs) (o ∷ os) s t q i H = absurd i.0
-  lefts_run at zo ds (y ∷ ys) [] os s t q i H = absurd q
-  lefts_run at zo ds [] (h ∷ hs) os s t q i H = absurd q
-  lefts_run at zo ds (y ∷ ys) (h ∷ hs) [] s t q i H = absurd q
-  lefts_run at zo ds [] [] (o ∷ os) s t q i H = absurd q
-  lefts_run at zo [] (y ∷ ys) (h ∷ hs) (o ∷ os) s t q i H = absurd i
-  lefts_run at zo (d ∷ ds) [] [] [] s t q i H = absurd i
+pub declared_left : (kinds : Kinds) (in_frame : Key → Bool) (h : Shape) (d : Lval) → TakesShape kinds in_frame h d → LeftDeclared kinds d
+declared_left kinds in_frame h (lval.Skip at) i = tt
+declared_left kinds in_frame a_flag (lval.Var x) i = i.1.declared
+declared_left kinds in_frame (a_word z) (lval.Var x) i = i.1.declared
+declared_left kinds in_frame (a_pinned z) (lval.Var x) i = i.1.declared
+declared_left kinds in_frame (a_word z) (lval.Cell x j) i = i.1.declared
+declared_left kinds in_frame (a_word z) (lval.Store a) i = tt
+declared_left kinds in_frame a_flag (lval.Cell x j) i = absurd i
+declared_left kinds in_frame (a_pinned z) (lval.Cell x j) i = absurd i
+declared_left kinds in_frame a_flag (lval.Store a) i = absurd i
+declared_left kinds in_frame (a_pinned z) (lval.Store a) i = absurd i
 
-declared : (kinds : Kinds) (in_frame : Key → Bool) (hs : List Shape) (ds : List Lval) → TakeShapes kinds in_frame hs ds → All (LeftDeclared kinds) ds
+pub declared : (kinds : Kinds) (in_frame : Key → Bool) (hs : List Shape) (ds : List Lval) → TakeShapes kinds in_frame hs ds → All (LeftDeclared kinds) ds
 declared kinds in_frame [] [] i = All-nil (LeftDeclared kinds)
-declared kinds in_frame (h ∷ hs) (d ∷ ds) i = All-cons (LeftDeclared kinds) d ds (by h d i.0) (declared kinds in_frame hs ds i.1)
-  where
-    by : (h : Shape) (d : Lval) → TakesShape kinds in_frame h d → LeftDeclared kinds d
-    by h (lval.Skip at) i = tt
-    by a_flag (lval.Var x) i = i.1.declared
-    by (a_word z) (lval.Var x) i = i.1.declared
-    by a_flag (lval.Cell x j) i = absurd i
-    by (a_word z) (lval.Cell x j) i = absurd i
-    by a_flag (lval.Store a) i = absurd i
-    by (a_word z) (lval.Store a) i = absurd i
+declared kinds in_frame (h ∷ hs) (d ∷ ds) i = All-cons (LeftDeclared kinds) d ds (declared_left kinds in_frame h d i.0) (declared kinds in_frame hs ds i.1)
 declared kinds in_frame [] (d ∷ ds) i = absurd i
 declared kinds in_frame (h ∷ hs) [] i = absurd i
 
+pub runs_any : {A : Type 0} (Q : A → Type 0) (e : Evaluation A) → Runs Q e → Runs (λ x. Unit {0}) e
+runs_any Q (stuck k) h = h
+runs_any Q (went ns x) h = tt
+
+word_got : (z : Size) (y : Gets) (o : Option Value) → IsGot y (a_word z) o → (n : ℕ) × (o ≡ Some (word z n))
+word_got z some_value o q = q
+word_got z none o q = absurd q
+word_got z (the_word u t) o q = absurd q
+
 module _ (g : Given) (kinds : Kinds) (in_frame : Key → Bool) (entry : Key → ℕ) (s : Facts) (st : State) (H : Stands g kinds in_frame entry s st) (nn : NoNumbers kinds) where
-  -- ---- what comes out
+  abbrev pub HalfHere : Facts → State → Type 0
+  HalfHere f t = Half g kinds in_frame entry s st.memory f t
 
-  abbrev Got : Intrinsic → Option ℕ → Size → Results → Type 0
-  Got i n z vs = AreGot (instruction_gets i n) (shapes_of i z) vs
+  abbrev pub BehindHere : Facts → State → Type 0
+  BehindHere f t = Behind g in_frame entry f t
 
-  two_got : (i : Intrinsic) (n : Option ℕ) (at : Span) (z : Size) (a b : Expr) → form_of i ≡ two_words → Yields (Got i n z) (intrinsic_results i at z (a ∷ b ∷ []) st)
-  two_got i n at z a b e =
-      let R = two_of i e n at z in
-      subst (λ (f : List Expr → State → Evaluation Results). Yields (Got i n z) (f (a ∷ b ∷ []) st)) (sym R.is)
-      (yields_then (λ x. Unit {0}) (Got i n z) (word_in at z a st) (λ x. and_then (word_in at z b st) (λ y. went [] (R.f x y))) (any_yields _) (λ x u.
-      yields_then (λ y. Unit {0}) (Got i n z) (word_in at z b st) (λ y. went [] (R.f x y)) (any_yields _) (λ y u. R.got x y)))
+  abbrev pub Before : State → Type 0
+  Before t = AsBefore kinds in_frame st t
 
-  one_got : (i : Intrinsic) (n : Option ℕ) (at : Span) (z : Size) (a : Expr) → form_of i ≡ one_word → Yields (Got i n z) (intrinsic_results i at z (a ∷ []) st)
-  one_got i n at z a e =
-      let R = one_of i e n at z in
-      subst (λ (f : List Expr → State → Evaluation Results). Yields (Got i n z) (f (a ∷ []) st)) (sym R.is)
-      (yields_then (λ x. Unit {0}) (Got i n z) (word_in at z a st) (λ x. went [] (R.f x)) (any_yields _) (λ x u. R.got x))
-
-  carry_got : (i : Intrinsic) (n : Option ℕ) (at : Span) (z : Size) (a b c : Expr) → form_of i ≡ with_carry → Yields (Got i n z) (intrinsic_results i at z (a ∷ b ∷ c ∷ []) st)
-  carry_got i n at z a b c e =
-      let R = carry_of i e n at z in
-      subst (λ (f : List Expr → State → Evaluation Results). Yields (Got i n z) (f (a ∷ b ∷ c ∷ []) st)) (sym R.is)
-      (yields_then (λ x. Unit {0}) (Got i n z) (word_in at z a st) (λ x. and_then (word_in at z b st) (λ y. and_then (bool_in at c st) (λ k. went [] (R.f x y k)))) (any_yields _) (λ x u.
-      yields_then (λ y. Unit {0}) (Got i n z) (word_in at z b st) (λ y. and_then (bool_in at c st) (λ k. went [] (R.f x y k))) (any_yields _) (λ y u.
-      yields_then (λ k. Unit {0}) (Got i n z) (bool_in at c st) (λ k. went [] (R.f x y k)) (any_yields _) (λ k u. R.got x y k))))
-
-  any_got : (i : Intrinsic) (n : Option ℕ) (at : Span) (z : Size) (f : Form) → form_of i ≡ f → (es : List Expr) → AreOperands kinds in_frame f z es → Yields (Got i n z) (intrinsic_results i at z es st)
-  any_got i n at z one_word e (a ∷ []) p = one_got i n at z a e
-  any_got i n at z two_words e (a ∷ b ∷ []) p = two_got i n at z a b e
-  any_got i n at z with_carry e (a ∷ b ∷ c ∷ []) p = carry_got i n at z a b c e
-  any_got i n at z another e es p = absurd p
-  any_got i n at z one_word e [] p = absurd p
-  any_got i n at z one_word e (a ∷ b ∷ es) p = absurd p
-  any_got i n at z two_words e [] p = absurd p
-  any_got i n at z two_words e (a ∷ []) p = absurd p
-  any_got i n at z two_words e (a ∷ b ∷ c ∷ es) p = absurd p
-  any_got i n at z with_carry e [] p = absurd p
-  any_got i n at z with_carry e (a ∷ []) p = absurd p
-  any_got i n at z with_carry e (a ∷ b ∷ []) p = absurd p
-  any_got i n at z with_carry e (a ∷ b ∷ c ∷ d ∷ es) p = absurd p
-
-  -- ---- it stands behind it
-
-  pub here : Half g kinds in_frame entry s st.memory s st
+  pub here : HalfHere s st
   here = record { says = H.says; apart = H.apart; memory = refl }
 
-  pub instructed_stands : (i : Option Instance) (to : List Lval) (args : List Expr) (at : Span) → IsInstructed kinds in_frame i to args → Yields (Stands g kinds in_frame entry (instructed g i to args s)) (instruction_done i to args at st)
-  instructed_stands None to args at p = absurd p
-  instructed_stands (Some i) to args at p =
-      let zo = intrinsic_size i.name i.size to args in
-      let n = counted args in
-      let facts = all_written g s to (instruction_gets i.name n) s in
-      three (Half g kinds in_frame entry s st.memory facts) (IsOfKinds kinds) (λ t. Unit {0}) (Stands g kinds in_frame entry facts) (instruction_done (Some i) to args at st)
-      (λ t h k u. record { says = h.says; apart = h.apart; kept = k; ranges = H.ranges; least = H.least; regions = subst (λ d. AreValid entry d g.regions) (sym h.memory) H.regions })
-      (yields_then (Got i.name n p.0) (Half g kinds in_frame entry s st.memory facts) (sized_results i.name at zo args st) (λ vs. all_put at zo to vs st)
-      (subst (λ u. Yields (Got i.name n p.0) (sized_results i.name at u args st)) (sym p.1) (any_got i.name n at p.0 (form_of i.name) refl args p.2))
-      (λ vs q. runs_yields (Half g kinds in_frame entry s st.memory facts) (all_put at zo to vs st) (lefts_run g kinds in_frame entry s st.memory at zo to (instruction_gets i.name n) (shapes_of i.name p.0) vs s st q p.3 here)))
-      (if_went (IsOfKinds kinds) (instruction_done (Some i) to args at st) (instruction_keeps kinds (Some i) to args at st (declared kinds in_frame (shapes_of i.name p.0) to p.3) H.kept))
-      (any_yields _)
+  pub as_here : Before st
+  as_here k n = refl
 
-  -- ---- it is not stuck
+  pub half_behind : (f : Facts) (t : State) → HalfHere f t → BehindHere f t
+  half_behind f t h = record { says = h.says; apart = h.apart; valid = subst (λ d. AreValid entry d g.regions) (sym h.memory) H.regions }
 
-  pub word_in_runs : (at : Span) (z : Size) (a : Expr) → IsWord kinds in_frame (Some z) z (term_of a) → asks_expr g s (Some z) a ≡ None → Runs (λ n. Unit {0}) (word_in at z a st)
-  word_in_runs at z a i q =
-      subst (λ (m : Meaning). Runs (λ n. Unit {0}) (and_then (m.run (Some z) st) (word_at at z))) (sym (term_so a))
-      (runs_then (OfSize z (is_number (term_of a))) (λ n. Unit {0}) ((means (term_of a)).run (Some z) st) (word_at at z) (word_runs g kinds in_frame entry s st H nn (term_of a) (Some z) z i q) (λ v h. word_goes at z (is_number (term_of a)) v h))
+  flag_kept : (k : Key) (v : Option Value) (t : State) → kind_at kinds k ≡ kind.Bool → Before t → Before (with_value t k v)
+  flag_kept k v t e b q n = put_elsewhere t.store k q v (λ p. n (ap (kind_at kinds) (sym p) ∙ e)) ∙ b q n
 
-  flag_runs : (t : Term) (w : Option Size) → IsFlag kinds in_frame t → asks g s w t ≡ None → Runs IsTruth ((means t).run None st)
-  flag_runs (var x) w i q = answer_runs g kinds in_frame entry s st H nn (var x) None i q
-  flag_runs (num n at) w i q = absurd i
-  flag_runs (truth b at) w i q = absurd i
-  flag_runs (cell x j) w i q = absurd i
-  flag_runs (load p a) w i q = absurd i
-  flag_runs (neg a at) w i q = absurd i
-  flag_runs (inv a at) w i q = absurd i
-  flag_runs (cast y sign a at) w i q = absurd i
-  flag_runs (bin op a b at) w i q = absurd i
+  -- ---- a register or a flag
 
-  pub bool_in_runs : (at : Span) (w : Option Size) (c : Expr) → IsFlag kinds in_frame (term_of c) → asks_expr g s w c ≡ None → Runs (λ b. Unit {0}) (bool_in at c st)
-  bool_in_runs at w c i q =
-      subst (λ (m : Meaning). Runs (λ b. Unit {0}) (and_then (m.run None st) (truth_of at))) (sym (term_so c))
-      (runs_then IsTruth (λ b. Unit {0}) ((means (term_of c)).run None st) (truth_of at) (flag_runs (term_of c) w i q) (λ v h. by v h))
-    where
-      by : (v : Value) → IsTruth v → Runs (λ b. Unit {0}) (truth_of at v)
-      by (boolean b) h = tt
-      by (word z n) h = absurd h
-      by (integer j) h = absurd h
+  pub register_run : (zo : Option Size) (x : Var) (y : Gets) (h : Shape) (o : Option Value) → IsGot y h o → TakesShape kinds in_frame h (lval.Var x) → (f : Facts) (t : State) → HalfHere f t → Runs (HalfHere (renewed (key_of (ref_of x)) (gained g s (ref_of x).kind y) f)) (written zo (lval.Var x) o t)
+  register_run zo x y h o q i f t p =
+      let r = ref_of x in
+      let j = takes g kinds in_frame entry s st.memory h x i in
+      runs_then (λ v. v ≡ o) (HalfHere (renewed (key_of r) (gained g s r.kind y) f)) (held_or_unset r.span r.kind o) (λ v. went [] (with_value t (key_of r) v)) (left_held g kinds in_frame entry s st.memory r y h o q j) (λ v e.
+      one_half g kinds in_frame entry s st.memory (key_of r) y (gained g s r.kind y) v f t (scalar g kinds in_frame entry s st.memory h r j).apart (gains g kinds in_frame entry s st.memory r.kind y h o q) (λ p. subst IsSome (sym e) (is_there g kinds in_frame entry s st.memory y h o q p)) p)
 
-  results_run : (i : Intrinsic) (n : Option ℕ) (at : Span) (z : Size) (f : Form) → form_of i ≡ f → (es : List Expr) → AreOperands kinds in_frame f z es → asks_each g s (Some z) es ≡ None → Runs (Got i n z) (intrinsic_results i at z es st)
-  results_run i n at z one_word e (a ∷ []) p q =
-      let R = one_of i e n at z in
-      let c = both_met (asks_expr g s (Some z) a) _ q in
-      subst (λ (f : List Expr → State → Evaluation Results). Runs (Got i n z) (f (a ∷ []) st)) (sym R.is)
-      (runs_then (λ x. Unit {0}) (Got i n z) (word_in at z a st) (λ x. went [] (R.f x)) (word_in_runs at z a p c.0) (λ x u. R.got x))
-  results_run i n at z two_words e (a ∷ b ∷ []) p q =
-      let R = two_of i e n at z in
-      let c = both_met (asks_expr g s (Some z) a) _ q in
-      let d = both_met (asks_expr g s (Some z) b) _ c.1 in
-      subst (λ (f : List Expr → State → Evaluation Results). Runs (Got i n z) (f (a ∷ b ∷ []) st)) (sym R.is)
-      (runs_then (λ x. Unit {0}) (Got i n z) (word_in at z a st) (λ x. and_then (word_in at z b st) (λ y. went [] (R.f x y))) (word_in_runs at z a p.0 c.0) (λ x u.
-      runs_then (λ y. Unit {0}) (Got i n z) (word_in at z b st) (λ y. went [] (R.f x y)) (word_in_runs at z b p.1 d.0) (λ y u. R.got x y)))
-  results_run i n at z with_carry e (a ∷ b ∷ k ∷ []) p q =
-      let R = carry_of i e n at z in
-      let c = both_met (asks_expr g s (Some z) a) _ q in
-      let d = both_met (asks_expr g s (Some z) b) _ c.1 in
-      let l = both_met (asks_expr g s (Some z) k) _ d.1 in
-      subst (λ (f : List Expr → State → Evaluation Results). Runs (Got i n z) (f (a ∷ b ∷ k ∷ []) st)) (sym R.is)
-      (runs_then (λ x. Unit {0}) (Got i n z) (word_in at z a st) (λ x. and_then (word_in at z b st) (λ y. and_then (bool_in at k st) (λ h. went [] (R.f x y h)))) (word_in_runs at z a p.0 c.0) (λ x u.
-      runs_then (λ y. Unit {0}) (Got i n z) (word_in at z b st) (λ y. and_then (bool_in at k st) (λ h. went [] (R.f x y h))) (word_in_runs at z b p.1 d.0) (λ y u.
-      runs_then (λ h. Unit {0}) (Got i n z) (bool_in at k st) (λ h. went [] (R.f x y h)) (bool_in_runs at (Some z) k p.2 l.0) (λ h u. R.got x y h))))
-  results_run i n at z another e es p q = absurd p
-  results_run i n at z one_word e [] p q = absurd p
-  results_run i n at z one_word e (a ∷ b ∷ es) p q = absurd p
-  results_run i n at z two_words e [] p q = absurd p
-  results_run i n at z two_words e (a ∷ []) p q = absurd p
-  results_run i n at z two_words e (a ∷ b ∷ c ∷ es) p q = absurd p
-  results_run i n at z with_carry e [] p q = absurd p
-  results_run i n at z with_carry e (a ∷ []) p q = absurd p
-  results_run i n at z with_carry e (a ∷ b ∷ []) p q = absurd p
-  results_run i n at z with_carry e (a ∷ b ∷ c ∷ d ∷ es) p q = absurd p
+  pub flag_run : (zo : Option Size) (d : Lval) (y : Gets) (o : Option Value) → IsGot y a_flag o → TakesShape kinds in_frame a_flag d → (f : Facts) (t : State) → HalfHere f t → Before t → Runs (λ u. HalfHere (holding.written g s d y f) u × Before u) (written zo d o t)
+  flag_run zo (lval.Skip p) y o q i f t h b = (h, b)
+  flag_run zo (lval.Var x) y o q i f t h b =
+      let r = ref_of x in
+      runs_then (λ v. v ≡ o) (λ u. HalfHere (renewed (key_of r) (gained g s r.kind y) f) u × Before u) (held_or_unset r.span r.kind o) (λ v. went [] (with_value t (key_of r) v)) (left_held g kinds in_frame entry s st.memory r y a_flag o q i) (λ v e. (
+        one_half g kinds in_frame entry s st.memory (key_of r) y (gained g s r.kind y) v f t i.1.apart (gains g kinds in_frame entry s st.memory r.kind y a_flag o q) (λ p. subst IsSome (sym e) (is_there g kinds in_frame entry s st.memory y a_flag o q p)) h,
+        flag_kept (key_of r) v t (i.1.declared ∙ i.0) b,
+      ))
+  flag_run zo (lval.Cell x j) y o q i f t h b = absurd i
+  flag_run zo (lval.Store a) y o q i f t h b = absurd i
 
-  runs_any : {A : Type 0} (Q : A → Type 0) (e : Evaluation A) → Runs Q e → Runs (λ x. Unit {0}) e
-  runs_any Q (stuck k) h = h
-  runs_any Q (went ns x) h = tt
+  pub pinned_run : (zo : Option Size) (d : Lval) (y : Gets) (z : Size) (o : Option Value) → IsGot y (a_pinned z) o → TakesShape kinds in_frame (a_pinned z) d → (f : Facts) (t : State) → HalfHere f t → Runs (HalfHere (holding.written g s d y f)) (written zo d o t)
+  pinned_run zo (lval.Skip p) y z o q i f t h = h
+  pinned_run zo (lval.Var x) y z o q i f t h = register_run zo x y (a_pinned z) o q i f t h
+  pinned_run zo (lval.Cell x j) y z o q i f t h = absurd i
+  pinned_run zo (lval.Store a) y z o q i f t h = absurd i
 
-  pub instructed_runs : (i : Option Instance) (to : List Lval) (args : List Expr) (at : Span) → IsInstructed kinds in_frame i to args → asks_instruction g s i to args at ≡ None → Runs (λ t. Unit {0}) (instruction_done i to args at st)
-  instructed_runs None to args at p q = absurd p
-  instructed_runs (Some i) to args at p q =
-      let zo = intrinsic_size i.name i.size to args in
-      let n = counted args in
-      let facts = all_written g s to (instruction_gets i.name n) s in
-      let a = both_met (asks_each g s zo args) _ q in
-      runs_then (Got i.name n p.0) (λ t. Unit {0}) (sized_results i.name at zo args st) (λ vs. all_put at zo to vs st)
-      (subst (λ u. Runs (Got i.name n p.0) (sized_results i.name at u args st)) (sym p.1) (results_run i.name n at p.0 (form_of i.name) refl args p.2 (subst (λ u. asks_each g s u args ≡ None) p.1 a.0)))
-      (λ vs h. runs_any (Half g kinds in_frame entry s st.memory facts) (all_put at zo to vs st) (lefts_run g kinds in_frame entry s st.memory at zo to (instruction_gets i.name n) (shapes_of i.name p.0) vs s st h p.3 here))
+  -- ---- the last one
+
+  last_yields : (zo : Option Size) (d : Lval) (y : Gets) (z : Size) (o : Option Value) → IsGot y (a_word z) o → TakesShape kinds in_frame (a_word z) d → (f : Facts) (t : State) → HalfHere f t → Yields (BehindHere (holding.written g s d y f)) (written zo d o t)
+  last_yields zo (lval.Skip p) y z o q i f t h = half_behind f t h
+  last_yields zo (lval.Var x) y z o q i f t h =
+      let F : Facts = renewed (key_of (ref_of x)) (gained g s (ref_of x).kind y) f in
+      yields_all (HalfHere F) (BehindHere F) (written zo (lval.Var x) o t) (λ u k. half_behind F u k) (runs_yields (HalfHere F) (written zo (lval.Var x) o t) (register_run zo x y (a_word z) o q i f t h))
+  last_yields zo (lval.Cell x j) y z o q i f t h = cell_behind g in_frame entry kinds x j z i.0 i.1 zo o f t (half_behind f t h)
+  last_yields zo (lval.Store a) y z o q i f t h = store_behind g in_frame entry a zo o f t (half_behind f t h)
+
+  pub last_goes : (zo : Option Size) (d : Lval) (z : Size) (n : ℕ) → zo ≡ Some z → TakesShape kinds in_frame (a_word z) d → asks_left g s zo d ≡ None → (t : State) → t.memory ≡ st.memory → Before t → Runs (λ u. Unit {0}) (written zo d (Some (word z n)) t)
+  last_goes zo (lval.Skip p) z n e i a t m b = tt
+  last_goes zo (lval.Var x) z n e i a t m b =
+      let r = ref_of x in
+      runs_then (λ v. v ≡ Some (word z n)) (λ u. Unit {0}) (held_or_unset r.span r.kind (Some (word z n))) (λ v. went [] (with_value t (key_of r) v)) (word_held g kinds in_frame entry s st.memory r.span r.kind z n i.0) (λ v p. tt)
+  last_goes zo (lval.Cell x j) z n e i a t m b = cell_last g kinds in_frame entry s st H nn x j z i.0 i.1 i.2 zo a false (word z n) refl t b
+  last_goes zo (lval.Store l) z n e i a t m b = store_last g kinds in_frame entry s st H nn l z zo (ap (option_or (place_of l).spot.size) e ∙ i.0) i.1 a false (word z n) refl t b m
+
+  -- ---- all of them
+
+  pinned_lefts : (at : Span) (zo : Option Size) (ds : List Lval) (ys : List Gets) (hs : List Shape) (os : Results) (f : Facts) (t : State) → ArePinned hs → AreGot ys hs os → TakeShapes kinds in_frame hs ds → HalfHere f t → Runs (HalfHere (all_written g s ds ys f)) (all_put at zo ds os t)
+  pinned_lefts at zo [] [] [] [] f t e q i h = h
+  pinned_lefts at zo (d ∷ ds) (y ∷ ys) (a_pinned z ∷ hs) (o ∷ os) f t e q i h =
+      let F : Facts = holding.written g s d y f in
+      runs_then (HalfHere F) (HalfHere (all_written g s ds ys F)) (written zo d o t) (λ u. all_put at zo ds os u) (pinned_run zo d y z o q.0 i.0 f t h) (λ u k. pinned_lefts at zo ds ys hs os F u e q.1 i.1 k)
+  pinned_lefts at zo ds ys (a_flag ∷ hs) os f t e q i h = absurd e
+  pinned_lefts at zo ds ys (a_word z ∷ hs) os f t e q i h = absurd e
+  pinned_lefts at zo ds (y ∷ ys) [] os f t e q i h = absurd q
+  pinned_lefts at zo ds [] (a_pinned z ∷ hs) os f t e q i h = absurd q
+  pinned_lefts at zo ds (y ∷ ys) (a_pinned z ∷ hs) [] f t e q i h = absurd q
+  pinned_lefts at zo ds [] [] (o ∷ os) f t e q i h = absurd q
+  pinned_lefts at zo [] (y ∷ ys) (a_pinned z ∷ hs) (o ∷ os) f t e q i h = absurd i
+  pinned_lefts at zo (d ∷ ds) [] [] [] f t e q i h = absurd i
+
+  pub lefts_yield : (at : Span) (zo : Option Size) (ds : List Lval) (ys : List Gets) (hs : List Shape) (os : Results) (f : Facts) (t : State) → (z : Size) → IsEnded z hs → AreGot ys hs os → TakeShapes kinds in_frame hs ds → HalfHere f t → Before t → Yields (BehindHere (all_written g s ds ys f)) (all_put at zo ds os t)
+  lefts_yield at zo [] [] [] [] f t r e q i h b = half_behind f t h
+  lefts_yield at zo (d ∷ ds) (y ∷ ys) (a_flag ∷ hs) (o ∷ os) f t r e q i h b =
+      let F : Facts = holding.written g s d y f in
+      let P : State → Type 0 = λ (u : State). HalfHere F u × Before u in
+      yields_then P (BehindHere (all_written g s ds ys F)) (written zo d o t) (λ u. all_put at zo ds os u) (runs_yields P (written zo d o t) (flag_run zo d y o q.0 i.0 f t h b)) (λ u k. lefts_yield at zo ds ys hs os F u r e q.1 i.1 k.0 k.1)
+  lefts_yield at zo (d ∷ []) (y ∷ []) (a_word z ∷ []) (o ∷ []) f t r e q i h b =
+      let F : Facts = holding.written g s d y f in
+      yields_then (BehindHere F) (BehindHere F) (written zo d o t) (λ u. went [] u) (last_yields zo d y z o q.0 i.0 f t h) (λ u k. k)
+  lefts_yield at zo (d ∷ ds) (y ∷ ys) (a_pinned z ∷ hs) (o ∷ os) f t r e q i h b =
+      let F : Facts = all_written g s (d ∷ ds) (y ∷ ys) f in
+      let E : Evaluation State = all_put at zo (d ∷ ds) (o ∷ os) t in
+      yields_all (HalfHere F) (BehindHere F) E (λ u k. half_behind F u k) (runs_yields (HalfHere F) E (pinned_lefts at zo (d ∷ ds) (y ∷ ys) (a_pinned z ∷ hs) (o ∷ os) f t e q i h))
+  lefts_yield at zo ds (y ∷ ys) [] os f t r e q i h b = absurd q
+  lefts_yield at zo ds [] (x ∷ hs) os f t r e q i h b = absurd q
+  lefts_yield at zo ds (y ∷ ys) (x ∷ hs) [] f t r e q i h b = absurd q
+  lefts_yield at zo ds [] [] (o ∷ os) f t r e q i h b = absurd q
+  lefts_yield at zo [] (y ∷ ys) (x ∷ hs) (o ∷ os) f t r e q i h b = absurd i
+  lefts_yield at zo (d ∷ ds) [] [] [] f t r e q i h b = absurd i
+  lefts_yield at zo ds ys (a_word z ∷ x ∷ hs) os f t r e q i h b = absurd (cc e.1)
+  lefts_yield at zo ds (y ∷ v ∷ ys) (a_word z ∷ []) (o ∷ os) f t r e q i h b = absurd q.1
+  lefts_yield at zo ds (y ∷ []) (a_word z ∷ []) (o ∷ w ∷ os) f t r e q i h b = absurd q.1
+  lefts_yield at zo (d ∷ c ∷ ds) (y ∷ []) (a_word z ∷ []) (o ∷ []) f t r e q i h b = absurd i.1
+
+  pub lefts_go : (at : Span) (zo : Option Size) (ds : List Lval) (ys : List Gets) (hs : List Shape) (os : Results) (f : Facts) (t : State) → (z : Size) → zo ≡ Some z → asks_lefts g s zo ds ≡ None → IsEnded z hs → AreGot ys hs os → TakeShapes kinds in_frame hs ds → HalfHere f t → Before t → Runs (λ u. Unit {0}) (all_put at zo ds os t)
+  lefts_go at zo [] [] [] [] f t r l a e q i h b = tt
+  lefts_go at zo (d ∷ ds) (y ∷ ys) (a_flag ∷ hs) (o ∷ os) f t r l a e q i h b =
+      let F : Facts = holding.written g s d y f in
+      runs_then (λ (u : State). HalfHere F u × Before u) (λ u. Unit {0}) (written zo d o t) (λ u. all_put at zo ds os u) (flag_run zo d y o q.0 i.0 f t h b) (λ u k. lefts_go at zo ds ys hs os F u r l (both_met (asks_left g s zo d) _ a).1 e q.1 i.1 k.0 k.1)
+  lefts_go at zo (d ∷ []) (y ∷ []) (a_word z ∷ []) (o ∷ []) f t r l a e q i h b =
+      let w = word_got z y o q.0 in
+      subst (λ v. Runs (λ u. Unit {0}) (and_then (written zo d v t) (λ u. went [] u))) (sym w.1)
+      (runs_then (λ u. Unit {0}) (λ u. Unit {0}) (written zo d (Some (word z w.0)) t) (λ u. went [] u) (last_goes zo d z w.0 (l ∙ ap Some (sym e.0)) i.0 (both_met (asks_left g s zo d) _ a).0 t h.memory b) (λ u k. tt))
+  lefts_go at zo (d ∷ ds) (y ∷ ys) (a_pinned z ∷ hs) (o ∷ os) f t r l a e q i h b =
+      runs_any (HalfHere (all_written g s (d ∷ ds) (y ∷ ys) f)) (all_put at zo (d ∷ ds) (o ∷ os) t) (pinned_lefts at zo (d ∷ ds) (y ∷ ys) (a_pinned z ∷ hs) (o ∷ os) f t e q i h)
+  lefts_go at zo ds (y ∷ ys) [] os f t r l a e q i h b = absurd q
+  lefts_go at zo ds [] (x ∷ hs) os f t r l a e q i h b = absurd q
+  lefts_go at zo ds (y ∷ ys) (x ∷ hs) [] f t r l a e q i h b = absurd q
+  lefts_go at zo ds [] [] (o ∷ os) f t r l a e q i h b = absurd q
+  lefts_go at zo [] (y ∷ ys) (x ∷ hs) (o ∷ os) f t r l a e q i h b = absurd i
+  lefts_go at zo (d ∷ ds) [] [] [] f t r l a e q i h b = absurd i
+  lefts_go at zo ds ys (a_word z ∷ x ∷ hs) os f t r l a e q i h b = absurd (cc e.1)
+  lefts_go at zo ds (y ∷ v ∷ ys) (a_word z ∷ []) (o ∷ os) f t r l a e q i h b = absurd q.1
+  lefts_go at zo ds (y ∷ []) (a_word z ∷ []) (o ∷ w ∷ os) f t r l a e q i h b = absurd q.1
+  lefts_go at zo (d ∷ c ∷ ds) (y ∷ []) (a_word z ∷ []) (o ∷ []) f t r l a e q i h b = absurd i.1

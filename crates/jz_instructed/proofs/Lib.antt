@@ -1,3 +1,6 @@
 pub mod Instructing
+pub mod Lasts
 pub mod Lefts
+pub mod Operands
+pub mod Outcomes
 pub mod Instructions

@@ -1,6 +1,8 @@
 -- What typing and expansion give of an instruction.
-use Rattle.std.specs.Prelude.{◌≡◌, Bool, List, [], ◌∷◌, Option, Some, None}
+use Rattle.std.specs.Prelude.{ℕ, ◌≡◌, ◌<◌, pos, Bool, List, [], ◌∷◌, Option, Some, None}
+use Rattle.std.specs.Option.{option_or}
 use Rattle.x64_insn.specs.Size.{Size}
+use Rattle.x64_insn.specs.Sizes.{bits_of}
 use Rattle.jz_tree.specs.declared.expr.Expr.{Expr}
 use Rattle.jz_tree.specs.declared.stmt.Lval.{Lval}
 use Rattle.jz_tree.specs.declared.stmt.Lval.TheVariants as lval
@@ -12,13 +14,14 @@ use Rattle.jz_meaning.specs.States.{Key}
 use Rattle.jz_meaning.specs.Values.{ref_of}
 use Rattle.jz_meaning.specs.Intrinsics.{intrinsic_size}
 use Rattle.jz_run_laws.specs.Kinds.{Kinds}
-use Rattle.jz_terms.specs.Terms.{term_of}
-use Rattle.jz_standing.specs.Typing.{IsScalar, IsFlag, IsWord}
+use Rattle.jz_terms.specs.Terms.{Term, num, term_of, place_of}
+use Rattle.jz_standing.specs.Typing.{IsScalar, IsArray, IsFlag, IsCount, IsSum, IsWord, IsAnswer}
 
--- what an instruction gives a left side
+-- what an instruction gives a left side: a flag, a word, or a word in a fixed register
 pub data Shape : Type 0 where
   a_flag : Shape
   a_word : Size → Shape
+  a_pinned : Size → Shape
 
 abbrev pub five_flags : List Shape
 five_flags = a_flag ∷ a_flag ∷ a_flag ∷ a_flag ∷ a_flag ∷ []
@@ -26,24 +29,35 @@ five_flags = a_flag ∷ a_flag ∷ a_flag ∷ a_flag ∷ a_flag ∷ []
 abbrev pub flags_and_word : Size → List Shape
 flags_and_word z = a_flag ∷ a_flag ∷ a_flag ∷ a_flag ∷ a_flag ∷ a_word z ∷ []
 
--- INC and DEC keep CF, which is no result
+abbrev pub flags_and_two : Size → List Shape
+flags_and_two z = a_flag ∷ a_flag ∷ a_flag ∷ a_flag ∷ a_flag ∷ a_pinned z ∷ a_pinned z ∷ []
+
+-- INC and DEC keep CF, and rotations SF, PF and ZF, which are no results
 abbrev pub shapes_of : Intrinsic → Size → List Shape
 shapes_of name.Inc z = a_flag ∷ a_flag ∷ a_flag ∷ a_flag ∷ a_word z ∷ []
 shapes_of name.Dec z = a_flag ∷ a_flag ∷ a_flag ∷ a_flag ∷ a_word z ∷ []
 shapes_of name.Not z = a_word z ∷ []
 shapes_of name.Bswap z = a_word z ∷ []
 shapes_of name.Lea z = a_word z ∷ []
+shapes_of name.Setcc z = a_word z ∷ []
 shapes_of name.Cmp z = five_flags
 shapes_of name.Test z = five_flags
-shapes_of name.Mul z = a_flag ∷ a_flag ∷ a_flag ∷ a_flag ∷ a_flag ∷ a_word z ∷ a_word z ∷ []
+shapes_of name.Rol z = a_flag ∷ a_flag ∷ a_word z ∷ []
+shapes_of name.Ror z = a_flag ∷ a_flag ∷ a_word z ∷ []
+shapes_of name.Mul z = flags_and_two z
+shapes_of name.Div z = flags_and_two z
 shapes_of i z = flags_and_word z
 
--- the operands of an instruction: so many words, or two words and a flag
+-- the operands of an instruction: so many words; two words and a flag; a word and a count; an
+-- address; a condition
 pub data Form : Type 0 where
   one_word : Form
   two_words : Form
+  three_words : Form
   with_carry : Form
-  another : Form
+  with_count : Form
+  an_address : Form
+  a_condition : Form
 
 abbrev pub form_of : Intrinsic → Form
 form_of name.Add = two_words
@@ -62,13 +76,34 @@ form_of name.Inc = one_word
 form_of name.Dec = one_word
 form_of name.Not = one_word
 form_of name.Bswap = one_word
-form_of i = another
+form_of name.Shl = with_count
+form_of name.Shr = with_count
+form_of name.Sar = with_count
+form_of name.Rol = with_count
+form_of name.Ror = with_count
+form_of name.Div = three_words
+form_of name.Lea = an_address
+form_of name.Setcc = a_condition
+
+-- a count that is written is below the number of bits
+abbrev pub CountFits : Size → Term → Type 0
+CountFits z (num (pos n) at) = n < bits_of z
+CountFits z t = Unit {0}
 
 module _ (kinds : Kinds) (in_frame : Key → Bool) where
   abbrev pub TakesShape : Shape → Lval → Type 0
   TakesShape h (lval.Skip at) = Unit {0}
-  TakesShape a_flag (lval.Var x) = ((ref_of x).kind ≡ kind.Bool) × IsScalar kinds in_frame (ref_of x)
-  TakesShape (a_word z) (lval.Var x) = ((ref_of x).kind ≡ kind.Word z) × IsScalar kinds in_frame (ref_of x)
+  TakesShape a_flag (lval.Var x) =
+      ((ref_of x).kind ≡ kind.Bool) × IsScalar kinds in_frame (ref_of x)
+  TakesShape (a_word z) (lval.Var x) =
+      ((ref_of x).kind ≡ kind.Word z) × IsScalar kinds in_frame (ref_of x)
+  TakesShape (a_word z) (lval.Cell x i) =
+      (n : ℕ) × IsArray kinds in_frame (ref_of x) z n × IsSum kinds in_frame (term_of i)
+  TakesShape (a_word z) (lval.Store a) =
+      (option_or (place_of a).spot.size (Some z) ≡ Some z)
+      × IsSum kinds in_frame (place_of a).at
+  TakesShape (a_pinned z) (lval.Var x) =
+      ((ref_of x).kind ≡ kind.Word z) × IsScalar kinds in_frame (ref_of x)
   TakesShape h d = ⊥
 
   abbrev pub TakeShapes : List Shape → List Lval → Type 0
@@ -76,12 +111,19 @@ module _ (kinds : Kinds) (in_frame : Key → Bool) where
   TakeShapes (h ∷ hs) (d ∷ ds) = TakesShape h d × TakeShapes hs ds
   TakeShapes hs ds = ⊥
 
+  abbrev pub IsOperand : Size → Expr → Type 0
+  IsOperand z a = IsWord kinds in_frame (Some z) z (term_of a)
+
   abbrev pub AreOperands : Form → Size → List Expr → Type 0
-  AreOperands one_word z (a ∷ []) = IsWord kinds in_frame (Some z) z (term_of a)
-  AreOperands two_words z (a ∷ b ∷ []) = IsWord kinds in_frame (Some z) z (term_of a) × IsWord kinds in_frame (Some z) z (term_of b)
+  AreOperands one_word z (a ∷ []) = IsOperand z a
+  AreOperands two_words z (a ∷ b ∷ []) = IsOperand z a × IsOperand z b
+  AreOperands three_words z (a ∷ b ∷ c ∷ []) = IsOperand z a × IsOperand z b × IsOperand z c
   AreOperands with_carry z (a ∷ b ∷ c ∷ []) =
-      IsWord kinds in_frame (Some z) z (term_of a) × IsWord kinds in_frame (Some z) z (term_of b)
-      × IsFlag kinds in_frame (term_of c)
+      IsOperand z a × IsOperand z b × IsFlag kinds in_frame (term_of c)
+  AreOperands with_count z (a ∷ n ∷ []) =
+      IsOperand z a × IsCount kinds in_frame (term_of n) × CountFits z (term_of n)
+  AreOperands an_address z (a ∷ []) = IsSum kinds in_frame (term_of a)
+  AreOperands a_condition z (c ∷ []) = IsAnswer kinds in_frame (term_of c)
   AreOperands f z es = ⊥
 
   abbrev pub IsInstructed : Option Instance → List Lval → List Expr → Type 0

@@ -1,6 +1,6 @@
 -- Where a run stands behind two results, and that it is not stuck.
 use Rattle.std.proofs.Common.{◌≡◌, ◌⊎◌, inl, inr, ◌<◌, ℕ, [], ◌∷◌, Option, Some, None, Bool, true, false, refl, ap, sym, ◌∙◌, subst, if◌then◌else◌}
-use Rattle.std.specs.Prelude.{◌&&◌, IsSome}
+use Rattle.std.specs.Prelude.{◌&&◌}
 use Rattle.std.specs.Option.{option_or}
 use Rattle.std.proofs.lemmas.List.Elements.{All-nil, All-cons}
 use Rattle.jz_tree.specs.Span.{Span}
@@ -19,8 +19,8 @@ use Rattle.jz_meaning.specs.declared.value.Why.TheVariants.{Init}
 use Rattle.jz_meaning.specs.Attempts.{Evaluation, stuck_at, and_then}
 use Rattle.jz_meaning.specs.States.{Value, word, boolean, integer, Key, same_key, Store, put, State}
 use Rattle.jz_meaning.specs.Operators.{word_at, binary}
-use Rattle.jz_meaning.specs.Values.{Ref, Meaning, key_of, ref_of, own_size, size_of}
-use Rattle.jz_meaning.specs.Assignments.{Layer, Results, left_sizes, whole_of, held_or_unset, with_value, written, all_written as all_put, word_in, bool_in, truth as truth_of, two_results, with_two, with_three, two_of, conditioned, assigned_whole}
+use Rattle.jz_meaning.specs.Values.{Ref, Meaning, key_of, ref_of, own_size}
+use Rattle.jz_meaning.specs.Assignments.{Layer, Results, left_sizes, held_or_unset, with_value, written, all_written as all_put, word_in, bool_in, truth as truth_of, two_results, with_two, with_three, two_of, conditioned, assigned_whole}
 use Rattle.jz_meaning.specs.Statements as source
 use Rattle.jz_meaning.specs.Statements.{assign}
 use Rattle.jz_run_laws.specs.Kinds.{Kinds, IsOfKinds}
@@ -30,18 +30,18 @@ use Rattle.jz_terms.specs.Terms.{Term, bin, term_of, means}
 use Rattle.jz_terms.proofs.Bridge.{term_so, term_is}
 use Rattle.jz_facts.specs.Facts.{Fact, Set, Cell, AtLeast, AtMost, Under, Is, Multiple, Facts, Given, subject}
 use Rattle.jz_facts.specs.Intervals.{size_or_64}
-use Rattle.jz_facts.specs.Holding.{some_value, the_word, renewed, gained, results, assigned, does, all_written}
+use Rattle.jz_facts.specs.Holding.{some_value, the_word, renewed, gained, assigned, does, all_written}
 use Rattle.jz_facts.specs.Holding as holding
 use Rattle.jz_fact_laws.specs.Saying.{Says, Holds, Yields, IsPlain, is_number}
-use Rattle.jz_fact_laws.proofs.Fitting.{yields_then}
+use Rattle.jz_fact_laws.proofs.Fitting.{yields_then, yields_all}
 use Rattle.jz_fact_laws.proofs.Setting.{same_key-true, same_key-refl, written_ok}
 use Rattle.jz_fact_laws.proofs.MultipleTerms.{multiple_ok}
 use Rattle.jz_fact_laws.proofs.Law.{Known, known}
-use Rattle.jz_alarms.specs.Conditions.{asks, asks_expr, asks_assign, asks_operation}
+use Rattle.jz_alarms.specs.Conditions.{asks, asks_expr, asks_left, asks_lefts, asks_assign, asks_operation}
 use Rattle.jz_standing.specs.Typing.{whole, sizes_of, NoNumbers, IsScalar}
-use Rattle.jz_instructed.specs.Instructed.{Shape, a_flag, a_word, TakesShape}
-use Rattle.jz_two_results.specs.TwoResults.{Pair, of_sum, of_difference, of_product, op_of, before, IsPair, IsCarriedPair, IsPaired}
-use Rattle.jz_standing.specs.Standing.{is_of_cell, AreValid, Stands}
+use Rattle.jz_instructed.specs.Instructed.{Shape, a_flag, a_word, a_pinned, TakesShape}
+use Rattle.jz_two_results.specs.TwoResults.{Pair, of_sum, of_difference, of_product, op_of, before, last_of, IsPair, IsCarriedPair, IsPaired}
+use Rattle.jz_standing.specs.Standing.{is_of_cell, Stands}
 use Rattle.jz_standing.proofs.Held.{holds}
 use Rattle.jz_standing.proofs.Typed.{flag_typed, typed, any_yields}
 use Rattle.jz_standing.proofs.Plain.{plain_flag, plain_word, scalar_size}
@@ -49,7 +49,9 @@ use Rattle.jz_unstuck.proofs.Sums.{both_met, Runs, runs_then, runs_yields}
 use Rattle.jz_unstuck.proofs.Marks.{seat, says_same, put_elsewhere, scalar_elsewhere}
 use Rattle.jz_assigned.proofs.Assigning.{if_went, three, gained_scalar}
 use Rattle.jz_instructed.proofs.Instructing.{IsGot}
-use Rattle.jz_instructed.proofs.Lefts.{bool_in_runs, Half, gains, one_half, word_held, is_there, left_held, takes, scalar, here, word_in_runs}
+use Rattle.jz_instructed.proofs.Lasts.{Behind, cell_behind, store_behind}
+use Rattle.jz_instructed.proofs.Lefts.{Half, word_held, declared_left, Before, here, as_here, half_behind, flag_run, pinned_run, last_goes}
+use Rattle.jz_instructed.proofs.Operands.{word_in_runs, bool_in_runs}
 use Rattle.jz_words.proofs.Residues.{residue_below}
 use Rattle.jz_fact_laws.proofs.Ranges.{Good, term_ok}
 use Rattle.jz_intervals.specs.declared.interval.Interval.{Interval}
@@ -108,35 +110,21 @@ what_went : {A B : Type 0} (P : B → Type 0) (v : A) (f : A → B) (e : Evaluat
 what_went P v f (stuck k) h q = absurd h
 what_went P v f (went ns x) h q = subst (λ y. P (f y)) h q
 
--- ---- sizes
+-- the word of the last left side has the size of the statement
+abbrev IsLast : Shape → Size → Type 0
+IsLast a_flag z = ⊥
+IsLast (a_word y) z = y ≡ z
+IsLast (a_pinned y) z = y ≡ z
 
-abbrev IsBefore : Shape → Size → Type 0
-IsBefore a_flag z = Unit {0}
-IsBefore (a_word y) z = y ≡ z
+-- a cell or memory may be the last one
+abbrev is_word_last : Pair → Bool
+is_word_last of_sum = true
+is_word_last of_difference = true
+is_word_last of_product = false
 
-is_before : (p : Pair) (z : Size) → IsBefore (before p z) z
-is_before of_sum z = tt
-is_before of_difference z = tt
-is_before of_product z = refl
-
-module _ (kinds : Kinds) (in_frame : Key → Bool) where
-  size_of_two : (h : Shape) (z : Size) (d : Lval) (x : Var) (more : Option Size) → IsBefore h z → TakesShape kinds in_frame h d → (ref_of x).kind ≡ kind.Word z → option_or (left_sizes (d ∷ lval.Var x ∷ [])) more ≡ Some z
-  size_of_two h z (lval.Skip at) x more b i e = ap (λ k. option_or (option_or (size_of k) None) more) e
-  size_of_two a_flag z (lval.Var y) x more b i e = ap (λ k. option_or (option_or (size_of k) (option_or (size_of (ref_of x).kind) None)) more) i.0 ∙ ap (λ k. option_or (option_or (size_of k) None) more) e
-  size_of_two (a_word y) z (lval.Var v) x more b i e = ap (λ k. option_or (option_or (size_of k) (option_or (size_of (ref_of x).kind) None)) more) i.0 ∙ ap Some b
-  size_of_two a_flag z (lval.Cell y j) x more b i e = absurd i
-  size_of_two (a_word y) z (lval.Cell v j) x more b i e = absurd i
-  size_of_two a_flag z (lval.Store a) x more b i e = absurd i
-  size_of_two (a_word y) z (lval.Store a) x more b i e = absurd i
-
-  declared_left : (h : Shape) (d : Lval) → TakesShape kinds in_frame h d → LeftDeclared kinds d
-  declared_left h (lval.Skip at) i = tt
-  declared_left a_flag (lval.Var x) i = i.1.declared
-  declared_left (a_word z) (lval.Var x) i = i.1.declared
-  declared_left a_flag (lval.Cell x j) i = absurd i
-  declared_left (a_word z) (lval.Cell x j) i = absurd i
-  declared_left a_flag (lval.Store a) i = absurd i
-  declared_left (a_word z) (lval.Store a) i = absurd i
+runs_all : {A : Type 0} (P Q : A → Type 0) (e : Evaluation A) → ((x : A) → P x → Q x) → Runs P e → Runs Q e
+runs_all P Q (stuck k) f h = h
+runs_all P Q (went ns x) f h = f x h
 
 module _ (g : Given) (kinds : Kinds) (in_frame : Key → Bool) (entry : Key → ℕ) (s : Facts) (st : State) (H : Stands g kinds in_frame entry s st) (nn : NoNumbers kinds) where
   abbrev There : Type 0
@@ -183,16 +171,16 @@ module _ (g : Given) (kinds : Kinds) (in_frame : Key → Bool) (entry : Key → 
   -- ---- with a flag
 
   -- a flag is the same where a word is wanted
-  flag_run : (t : Term) → IsFlag kinds in_frame t → (w : Option Size) → (means t).run w st ≡ (means t).run None st
-  flag_run (var x) i w = refl
-  flag_run (num n at) i w = absurd i
-  flag_run (truth b at) i w = absurd i
-  flag_run (cell x j) i w = absurd i
-  flag_run (load p a) i w = absurd i
-  flag_run (neg a at) i w = absurd i
-  flag_run (inv a at) i w = absurd i
-  flag_run (cast y sign a at) i w = absurd i
-  flag_run (bin op a b at) i w = absurd i
+  flag_same : (t : Term) → IsFlag kinds in_frame t → (w : Option Size) → (means t).run w st ≡ (means t).run None st
+  flag_same (var x) i w = refl
+  flag_same (num n at) i w = absurd i
+  flag_same (truth b at) i w = absurd i
+  flag_same (cell x j) i w = absurd i
+  flag_same (load p a) i w = absurd i
+  flag_same (neg a at) i w = absurd i
+  flag_same (inv a at) i w = absurd i
+  flag_same (cast y sign a at) i w = absurd i
+  flag_same (bin op a b at) i w = absurd i
 
   abbrev Three : Pair → Span → Size → Expr → Expr → Expr → Evaluation Results
   Three p at z a b c = and_then (word_in at z a st) (λ x. and_then (word_in at z b st) (λ y. and_then (bool_in at c st) (two_results (op_of p) at z x y)))
@@ -228,7 +216,7 @@ module _ (g : Given) (kinds : Kinds) (in_frame : Key → Bool) (entry : Key → 
       (typed g kinds in_frame entry s st H b (Some z) z i.second)
       (two_so (OfSize z (is_number b)) (Good (interval g s z b) (is_number b) z) (IsBelow z) ((means b).run (Some z) st) (below (interval g s z b) (is_number b) z) (typed g kinds in_frame entry s st H b (Some z) z i.second) (term_ok g (sizes_of kinds) entry s st so b pb z (Some z)))
       (flag_typed g kinds in_frame entry s st H c None i.third)
-      (subst (λ (f : Evaluation Value). Yields P (and_then (and_then ((means a).run (Some z) st) (λ v. and_then ((means b).run (Some z) st) (λ u. binary (op_of p) i.inner_at (Some z) v u))) (λ s. and_then f (λ c. binary (op_of p) i.at (Some z) s c)))) (flag_run c i.third (Some z))
+      (subst (λ (f : Evaluation Value). Yields P (and_then (and_then ((means a).run (Some z) st) (λ v. and_then ((means b).run (Some z) st) (λ u. binary (op_of p) i.inner_at (Some z) v u))) (λ s. and_then f (λ c. binary (op_of p) i.at (Some z) s c)))) (flag_same c i.third (Some z))
       (as_carried p P a b c i.inner_at i.at z st run))))))
 
   flag_asked : (p : Pair) (a b c : Term) (inner at : Span) (z : Size) → asks g s (Some z) (bin (op_of p) (bin (op_of p) a b inner) c at) ≡ None → ((asks g s (Some z) a ≡ None) × (asks g s (Some z) b ≡ None)) × (asks g s (Some z) c ≡ None)
@@ -254,18 +242,6 @@ module _ (g : Given) (kinds : Kinds) (in_frame : Key → Bool) (entry : Key → 
   either_goes p z w at (inr i) q = carried_goes p z w at i q
 
   -- ---- the left sides
-
-  first_run : (zo : Option Size) (d : Lval) (h : Shape) (o : Option Value) → IsGot some_value h o → TakesShape kinds in_frame h d → Runs (HalfHere (holding.written g s d some_value s)) (written zo d o st)
-  first_run zo (lval.Skip at) h o q i = here g kinds in_frame entry s st H nn
-  first_run zo (lval.Var x) h o q i =
-      let r = ref_of x in
-      let j = takes g kinds in_frame entry s st.memory h x i in
-      runs_then (λ v. v ≡ o) (HalfHere (renewed (key_of r) (gained g s r.kind some_value) s)) (held_or_unset r.span r.kind o) (λ v. went [] (with_value st (key_of r) v)) (left_held g kinds in_frame entry s st.memory r some_value h o q j) (λ v e.
-      one_half g kinds in_frame entry s st.memory (key_of r) some_value (gained g s r.kind some_value) v s st (scalar g kinds in_frame entry s st.memory h r j).apart (gains g kinds in_frame entry s st.memory r.kind some_value h o q) (λ p. subst IsSome (sym e) (is_there g kinds in_frame entry s st.memory some_value h o q p)) (here g kinds in_frame entry s st H nn))
-  first_run zo (lval.Cell x j) a_flag o q i = absurd i
-  first_run zo (lval.Cell x j) (a_word z) o q i = absurd i
-  first_run zo (lval.Store a) a_flag o q i = absurd i
-  first_run zo (lval.Store a) (a_word z) o q i = absurd i
 
   word_half : (r : Ref) (z n : _) (t : Term) → KnownHere z t (word z n) → r.kind ≡ kind.Word z → IsScalar kinds in_frame r → (f1 : Facts) (t1 : State) → HalfHere f1 t1 → HalfHere (renewed (key_of r) (gained g s r.kind (the_word z t)) f1) (with_value t1 (key_of r) (Some (word z n)))
   word_half r z n t K e i f1 t1 h1 = record {
@@ -303,79 +279,110 @@ module _ (g : Given) (kinds : Kinds) (in_frame : Key → Bool) (entry : Key → 
       apart f true q p = ap (λ q. in_frame (whole q)) (same_key-true (subject f) k q) ∙ i.apart ∙ sym (gained_scalar g kinds in_frame entry s st H nn r.kind z t f p)
       apart f false q p = h1.apart f p
 
-  both_written : (zo : Option Size) (at : Span) (d : Lval) (x : Var) (h : Shape) (z n : _) (o : Option Value) (t : Term) → IsGot some_value h o → TakesShape kinds in_frame h d → KnownHere z t (word z n) → (ref_of x).kind ≡ kind.Word z → IsScalar kinds in_frame (ref_of x)
-      → Runs (HalfHere (all_written g s (d ∷ lval.Var x ∷ []) (some_value ∷ the_word z t ∷ []) s)) (all_put at zo (d ∷ lval.Var x ∷ []) (o ∷ Some (word z n) ∷ []) st)
-  both_written zo at d x h z n o t q i K e c =
+  abbrev BehindHere : Facts → State → Type 0
+  BehindHere f t = Behind g in_frame entry f t
+
+  -- the word of the term, to a register
+  word_run : (zo : Option Size) (x : Var) (z n : _) (t : Term) → KnownHere z t (word z n) → (ref_of x).kind ≡ kind.Word z → IsScalar kinds in_frame (ref_of x) → (f : Facts) (u : State) → HalfHere f u → Runs (HalfHere (renewed (key_of (ref_of x)) (gained g s (ref_of x).kind (the_word z t)) f)) (written zo (lval.Var x) (Some (word z n)) u)
+  word_run zo x z n t K e c f u h =
       let r = ref_of x in
-      let f1 = holding.written g s d some_value s in
-      let F : State → Type 0 = HalfHere (renewed (key_of r) (gained g s r.kind (the_word z t)) f1) in
-      runs_then (HalfHere f1) F (written zo d o st) (λ u. all_put at zo (lval.Var x ∷ []) (Some (word z n) ∷ []) u) (first_run zo d h o q i) (λ u h1.
-      runs_then F F (written zo (lval.Var x) (Some (word z n)) u) (λ u. went [] u)
-      (runs_then (λ v. v ≡ Some (word z n)) F (held_or_unset r.span r.kind (Some (word z n))) (λ v. went [] (with_value u (key_of r) v)) (word_held g kinds in_frame entry s st.memory r.span r.kind z n e) (λ v p.
-      subst (λ v. F (with_value u (key_of r) v)) (sym p) (word_half r z n t K e c f1 u h1))) (λ u p. p))
+      let F : State → Type 0 = HalfHere (renewed (key_of r) (gained g s r.kind (the_word z t)) f) in
+      runs_then (λ v. v ≡ Some (word z n)) F (held_or_unset r.span r.kind (Some (word z n))) (λ v. went [] (with_value u (key_of r) v)) (word_held g kinds in_frame entry s st.memory r.span r.kind z n e) (λ v p.
+      subst (λ v. F (with_value u (key_of r) v)) (sym p) (word_half r z n t K e c f u h))
+
+  as_behind : (f : Facts) (e : Evaluation State) → Runs (HalfHere f) e → Yields (BehindHere f) e
+  as_behind f e h = yields_all (HalfHere f) (BehindHere f) e (λ u k. half_behind g kinds in_frame entry s st H nn f u k) (runs_yields (HalfHere f) e h)
+
+  last_yields : (h : Shape) (zo : Option Size) (b : Lval) (z n : _) (t : Term) → IsLast h z → TakesShape kinds in_frame h b → KnownHere z t (word z n) → (f : Facts) (u : State) → HalfHere f u → Yields (BehindHere (holding.written g s b (the_word z t) f)) (written zo b (Some (word z n)) u)
+  last_yields h zo (lval.Skip p) z n t l i K f u k = half_behind g kinds in_frame entry s st H nn f u k
+  last_yields (a_word y) zo (lval.Var x) z n t l i K f u k = as_behind (renewed (key_of (ref_of x)) (gained g s (ref_of x).kind (the_word z t)) f) (written zo (lval.Var x) (Some (word z n)) u) (word_run zo x z n t K (i.0 ∙ ap kind.Word l) i.1 f u k)
+  last_yields (a_pinned y) zo (lval.Var x) z n t l i K f u k = as_behind (renewed (key_of (ref_of x)) (gained g s (ref_of x).kind (the_word z t)) f) (written zo (lval.Var x) (Some (word z n)) u) (word_run zo x z n t K (i.0 ∙ ap kind.Word l) i.1 f u k)
+  last_yields (a_word y) zo (lval.Cell x j) z n t l i K f u k = cell_behind g in_frame entry kinds x j y i.0 i.1 zo (Some (word z n)) f u (half_behind g kinds in_frame entry s st H nn f u k)
+  last_yields (a_word y) zo (lval.Store a) z n t l i K f u k = store_behind g in_frame entry a zo (Some (word z n)) f u (half_behind g kinds in_frame entry s st H nn f u k)
+  last_yields a_flag zo (lval.Var x) z n t l i K f u k = absurd l
+  last_yields a_flag zo (lval.Cell x j) z n t l i K f u k = absurd i
+  last_yields a_flag zo (lval.Store a) z n t l i K f u k = absurd i
+  last_yields (a_pinned y) zo (lval.Cell x j) z n t l i K f u k = absurd i
+  last_yields (a_pinned y) zo (lval.Store a) z n t l i K f u k = absurd i
+
+  -- before a sum or a difference a flag is written, and before a product a register
+  first_run : (p : Pair) (zo : Option Size) (d : Lval) (z : Size) (o : Option Value) → IsGot some_value (before p z) o → TakesShape kinds in_frame (before p z) d → Runs (λ u. HalfHere (holding.written g s d some_value s) u × (is_word_last p ≡ true → Before g kinds in_frame entry s st H nn u)) (written zo d o st)
+  first_run of_sum zo d z o q i = runs_all (λ u. HalfHere (holding.written g s d some_value s) u × Before g kinds in_frame entry s st H nn u) (λ u. HalfHere (holding.written g s d some_value s) u × (true ≡ true → Before g kinds in_frame entry s st H nn u)) (written zo d o st) (λ u k. (k.0, λ e. k.1)) (flag_run g kinds in_frame entry s st H nn zo d some_value o q i s st (here g kinds in_frame entry s st H nn) (as_here g kinds in_frame entry s st H nn))
+  first_run of_difference zo d z o q i = runs_all (λ u. HalfHere (holding.written g s d some_value s) u × Before g kinds in_frame entry s st H nn u) (λ u. HalfHere (holding.written g s d some_value s) u × (true ≡ true → Before g kinds in_frame entry s st H nn u)) (written zo d o st) (λ u k. (k.0, λ e. k.1)) (flag_run g kinds in_frame entry s st H nn zo d some_value o q i s st (here g kinds in_frame entry s st H nn) (as_here g kinds in_frame entry s st H nn))
+  first_run of_product zo d z o q i = runs_all (HalfHere (holding.written g s d some_value s)) (λ u. HalfHere (holding.written g s d some_value s) u × (false ≡ true → Before g kinds in_frame entry s st H nn u)) (written zo d o st) (λ u k. (k, λ e. absurd (cc e))) (pinned_run g kinds in_frame entry s st H nn zo d some_value z o q i s st (here g kinds in_frame entry s st H nn))
+
+  is_last : (p : Pair) (z : Size) → IsLast (last_of p z) z
+  is_last of_sum z = refl
+  is_last of_difference z = refl
+  is_last of_product z = refl
+
+  abbrev FactsBehind : Lval → Lval → Size → Term → Facts
+  FactsBehind d b z t = all_written g s (d ∷ b ∷ []) (some_value ∷ the_word z t ∷ []) s
+
+  both_yield : (p : Pair) (zo : Option Size) (at : Span) (d b : Lval) (z n : _) (o : Option Value) (t : Term) → IsGot some_value (before p z) o → TakesShape kinds in_frame (before p z) d → TakesShape kinds in_frame (last_of p z) b → KnownHere z t (word z n) → Yields (BehindHere (FactsBehind d b z t)) (all_put at zo (d ∷ b ∷ []) (o ∷ Some (word z n) ∷ []) st)
+  both_yield p zo at d b z n o t q i j K =
+      let f1 : Facts = holding.written g s d some_value s in
+      let F : State → Type 0 = BehindHere (holding.written g s b (the_word z t) f1) in
+      let P : State → Type 0 = λ (u : State). HalfHere f1 u × (is_word_last p ≡ true → Before g kinds in_frame entry s st H nn u) in
+      yields_then P F (written zo d o st) (λ u. all_put at zo (b ∷ []) (Some (word z n) ∷ []) u) (runs_yields P (written zo d o st) (first_run p zo d z o q i)) (λ u k.
+      yields_then F F (written zo b (Some (word z n)) u) (λ u. went [] u) (last_yields (last_of p z) zo b z n t (is_last p z) j K f1 u k.0) (λ u l. l))
+
+  last_run : (p : Pair) (zo : Option Size) (b : Lval) (z n : _) → zo ≡ Some z → TakesShape kinds in_frame (last_of p z) b → asks_left g s zo b ≡ None → (u : State) → u.memory ≡ st.memory → (is_word_last p ≡ true → Before g kinds in_frame entry s st H nn u) → Runs (λ t. Unit {0}) (written zo b (Some (word z n)) u)
+  last_run of_sum zo b z n e i a u m k = last_goes g kinds in_frame entry s st H nn zo b z n e i a u m (k refl)
+  last_run of_difference zo b z n e i a u m k = last_goes g kinds in_frame entry s st H nn zo b z n e i a u m (k refl)
+  last_run of_product zo (lval.Skip p) z n e i a u m k = tt
+  last_run of_product zo (lval.Var x) z n e i a u m k =
+      let r = ref_of x in
+      runs_then (λ v. v ≡ Some (word z n)) (λ t. Unit {0}) (held_or_unset r.span r.kind (Some (word z n))) (λ v. went [] (with_value u (key_of r) v)) (word_held g kinds in_frame entry s st.memory r.span r.kind z n i.0) (λ v p. tt)
+  last_run of_product zo (lval.Cell x j) z n e i a u m k = absurd i
+  last_run of_product zo (lval.Store l) z n e i a u m k = absurd i
+
+  both_run : (p : Pair) (zo : Option Size) (at : Span) (d b : Lval) (z n : _) (o : Option Value) → zo ≡ Some z → IsGot some_value (before p z) o → TakesShape kinds in_frame (before p z) d → TakesShape kinds in_frame (last_of p z) b → asks_lefts g s zo (d ∷ b ∷ []) ≡ None → Runs (λ t. Unit {0}) (all_put at zo (d ∷ b ∷ []) (o ∷ Some (word z n) ∷ []) st)
+  both_run p zo at d b z n o e q i j a =
+      let f1 : Facts = holding.written g s d some_value s in
+      let c = both_met (asks_left g s zo b) _ (both_met (asks_left g s zo d) _ a).1 in
+      let P : State → Type 0 = λ (u : State). HalfHere f1 u × (is_word_last p ≡ true → Before g kinds in_frame entry s st H nn u) in
+      runs_then P (λ t. Unit {0}) (written zo d o st) (λ u. all_put at zo (b ∷ []) (Some (word z n) ∷ []) u) (first_run p zo d z o q i) (λ u k.
+      runs_then (λ t. Unit {0}) (λ t. Unit {0}) (written zo b (Some (word z n)) u) (λ u. went [] u) (last_run p zo b z n e j c.0 u k.0.memory k.1) (λ t l. tt))
 
   -- ---- statements
 
-  abbrev FactsBehind : Lval → Var → Option Size → Term → Facts
-  FactsBehind d x zo t = all_written g s (d ∷ lval.Var x ∷ []) (results (size_or_64 zo) t (d ∷ lval.Var x ∷ [])) s
-
-  pair_written : (p : Pair) (z : Size) (zo : Option Size) (d : Lval) (x : Var) (w : Expr) (at : Span) → IsEither p z w → TakesShape kinds in_frame (before p z) d → (ref_of x).kind ≡ kind.Word z → IsScalar kinds in_frame (ref_of x) → zo ≡ Some z
-      → (vs : Results) → IsPairOf p z (KnownHere z (term_of w)) vs → Runs (HalfHere (FactsBehind d x zo (term_of w))) (and_then (conditioned (d ∷ lval.Var x ∷ []) None at vs st) (λ ws. all_put at zo (d ∷ lval.Var x ∷ []) ws st))
-  pair_written p z zo d x w at i j e c f vs k =
-      subst (λ u. Runs (HalfHere (FactsBehind d x u (term_of w))) (and_then (went [] vs) (λ ws. all_put at u (d ∷ lval.Var x ∷ []) ws st))) (sym f)
-      (runs_then (λ ws. ws ≡ k.0 ∷ Some (word z k.1) ∷ []) (HalfHere (FactsBehind d x (Some z) (term_of w))) (went [] vs) (λ ws. all_put at (Some z) (d ∷ lval.Var x ∷ []) ws st) k.2 (λ ws l.
-      subst (λ us. Runs (HalfHere (FactsBehind d x (Some z) (term_of w))) (all_put at (Some z) (d ∷ lval.Var x ∷ []) us st)) (sym l)
-      (both_written (Some z) at d x (before p z) z k.1 k.0 (term_of w) k.3 j k.4 e c)))
-
-  has_whole : (x : Var) (o : Option BinOp) (e : Expr) → (w : Expr) × (whole_of (Some (lval.Var x)) o e ≡ Some w)
-  has_whole x None e = (e, refl)
-  has_whole x (Some op) e = (_, refl)
-
-  pub paired_stands : (d : Lval) (x : Var) (o : Option BinOp) (e : Expr) (at : Span) → IsPaired kinds in_frame d x o e → Yields (Stands g kinds in_frame entry (does g (assign (d ∷ lval.Var x ∷ []) o e None at) s)) (source.does (assign (d ∷ lval.Var x ∷ []) o e None at) st)
-  paired_stands d x o e at i = by (has_whole x o e)
-    where
-      by : (w : Expr) × (whole_of (Some (lval.Var x)) o e ≡ Some w) → Yields (Stands g kinds in_frame entry (does g (assign (d ∷ lval.Var x ∷ []) o e None at) s)) (source.does (assign (d ∷ lval.Var x ∷ []) o e None at) st)
-      by (w, r) =
-          let p = i.pair in
-          let z = i.size in
-          let to = d ∷ lval.Var x ∷ [] in
-          let zo = option_or (left_sizes to) (own_size w) in
-          let f : zo ≡ Some z = size_of_two kinds in_frame (before p z) z d x (own_size w) (is_before p z) i.other i.is in
-          let F : Facts = FactsBehind d x zo (term_of w) in
-          let v = i.value w r in
-          three (HalfHere (does g (assign to o e None at) s)) (IsOfKinds kinds) (λ t. Unit {0}) (Stands g kinds in_frame entry (does g (assign to o e None at) s)) (source.does (assign to o e None at) st)
-          (λ t h k u. record { says = h.says; apart = h.apart; kept = k; ranges = H.ranges; least = H.least; regions = subst (λ d. AreValid entry d g.regions) (sym h.memory) H.regions })
-          (subst (λ m. Yields (HalfHere (assigned g to m None s)) (assigned_whole to m None at st)) (sym r)
-          (yields_then (IsPairOf p z (KnownHere z (term_of w))) (HalfHere F) (two_of (out-Expr w) at zo st) (λ vs. and_then (conditioned to None at vs st) (λ ws. all_put at zo to ws st))
-          (subst (λ u. Yields (IsPairOf p z (KnownHere z (term_of w))) (two_of (out-Expr w) at u st)) (sym f) (either_yields p z w at v))
-          (λ vs k. runs_yields (HalfHere F) (and_then (conditioned to None at vs st) (λ ws. all_put at zo to ws st)) (pair_written p z zo d x w at v i.other i.is i.scalar f vs k))))
-          (if_went (IsOfKinds kinds) (source.does (assign to o e None at) st) (operations_keep kinds (assign to o e None at) st (All-cons (LeftDeclared kinds) d (lval.Var x ∷ []) (declared_left kinds in_frame (before p z) d i.other) (All-cons (LeftDeclared kinds) (lval.Var x) [] i.scalar.declared (All-nil (LeftDeclared kinds)))) H.kept))
-          (any_yields _)
+  pub paired_stands : (d b : Lval) (o : Option BinOp) (e : Expr) (at : Span) → IsPaired kinds in_frame d b o e → Yields (Stands g kinds in_frame entry (does g (assign (d ∷ b ∷ []) o e None at) s)) (source.does (assign (d ∷ b ∷ []) o e None at) st)
+  paired_stands d b o e at i =
+      let p = i.pair in
+      let z = i.size in
+      let w = i.whole in
+      let to = d ∷ b ∷ [] in
+      let zo = option_or (left_sizes to) (own_size w) in
+      let Q : Results → Type 0 = IsPairOf p z (KnownHere z (term_of w)) in
+      let B : State → Type 0 = BehindHere (FactsBehind d b z (term_of w)) in
+      three (BehindHere (does g (assign to o e None at) s)) (IsOfKinds kinds) (λ t. Unit {0}) (Stands g kinds in_frame entry (does g (assign to o e None at) s)) (source.does (assign to o e None at) st)
+      (λ t h k u. record { says = h.says; apart = h.apart; kept = k; ranges = H.ranges; least = H.least; regions = h.valid })
+      (subst (λ m. Yields (BehindHere (assigned g to m None s)) (assigned_whole to m None at st)) (sym i.is)
+      (subst (λ u. Yields (BehindHere (FactsBehind d b (size_or_64 u) (term_of w))) (and_then (two_of (out-Expr w) at u st) (λ vs. and_then (conditioned to None at vs st) (λ ws. all_put at u to ws st)))) (sym i.sized)
+      (yields_then Q B (two_of (out-Expr w) at (Some z) st) (λ vs. and_then (conditioned to None at vs st) (λ ws. all_put at (Some z) to ws st)) (either_yields p z w at i.value)
+      (λ vs k. yields_then (λ ws. ws ≡ k.0 ∷ Some (word z k.1) ∷ []) B (went [] vs) (λ ws. all_put at (Some z) to ws st) k.2 (λ ws l.
+      subst (λ us. Yields B (all_put at (Some z) to us st)) (sym l) (both_yield p (Some z) at d b z k.1 k.0 (term_of w) k.3 i.first i.last k.4))))))
+      (if_went (IsOfKinds kinds) (source.does (assign to o e None at) st) (operations_keep kinds (assign to o e None at) st (All-cons (LeftDeclared kinds) d (b ∷ []) (declared_left kinds in_frame (before p z) d i.first) (All-cons (LeftDeclared kinds) b [] (declared_left kinds in_frame (last_of p z) b i.last) (All-nil (LeftDeclared kinds)))) H.kept))
+      (any_yields _)
 
   with_pair : {A : Type 0} (P Q : A → Type 0) (e : Evaluation A) → Runs P e → Yields Q e → Runs Q e
   with_pair P Q (stuck k) h q = h
   with_pair P Q (went ns x) h q = q
 
-  runs_any : {A : Type 0} (Q : A → Type 0) (e : Evaluation A) → Runs Q e → Runs (λ x. Unit {0}) e
-  runs_any Q (stuck k) h = h
-  runs_any Q (went ns x) h = tt
-
-  pub paired_runs : (d : Lval) (x : Var) (o : Option BinOp) (e : Expr) (at : Span) → IsPaired kinds in_frame d x o e → asks_operation g (assign (d ∷ lval.Var x ∷ []) o e None at) s ≡ None → Runs (λ t. Unit {0}) (source.does (assign (d ∷ lval.Var x ∷ []) o e None at) st)
-  paired_runs d x o e at i q = by (has_whole x o e)
-    where
-      by : (w : Expr) × (whole_of (Some (lval.Var x)) o e ≡ Some w) → Runs (λ t. Unit {0}) (source.does (assign (d ∷ lval.Var x ∷ []) o e None at) st)
-      by (w, r) =
-          let p = i.pair in
-          let z = i.size in
-          let to = d ∷ lval.Var x ∷ [] in
-          let zo = option_or (left_sizes to) (own_size w) in
-          let f : zo ≡ Some z = size_of_two kinds in_frame (before p z) z d x (own_size w) (is_before p z) i.other i.is in
-          let v = i.value w r in
-          let a : asks_assign g s to (Some w) None ≡ None = subst (λ m. asks_assign g s to m None ≡ None) r q in
-          let b = both_met (asks_expr g s zo w) _ a in
-          let F : Facts = FactsBehind d x zo (term_of w) in
-          subst (λ m. Runs (λ t. Unit {0}) (assigned_whole to m None at st)) (sym r)
-          (runs_then (IsPairOf p z (KnownHere z (term_of w))) (λ t. Unit {0}) (two_of (out-Expr w) at zo st) (λ vs. and_then (conditioned to None at vs st) (λ ws. all_put at zo to ws st))
-          (subst (λ u. Runs (IsPairOf p z (KnownHere z (term_of w))) (two_of (out-Expr w) at u st)) (sym f)
-          (with_pair (λ vs. Unit {0}) (IsPairOf p z (KnownHere z (term_of w))) (two_of (out-Expr w) at (Some z) st) (either_goes p z w at v (subst (λ u. asks_expr g s u w ≡ None) f b.0)) (either_yields p z w at v)))
-          (λ vs k. runs_any (HalfHere F) (and_then (conditioned to None at vs st) (λ ws. all_put at zo to ws st)) (pair_written p z zo d x w at v i.other i.is i.scalar f vs k)))
+  pub paired_runs : (d b : Lval) (o : Option BinOp) (e : Expr) (at : Span) → IsPaired kinds in_frame d b o e → asks_operation g (assign (d ∷ b ∷ []) o e None at) s ≡ None → Runs (λ t. Unit {0}) (source.does (assign (d ∷ b ∷ []) o e None at) st)
+  paired_runs d b o e at i q =
+      let p = i.pair in
+      let z = i.size in
+      let w = i.whole in
+      let to = d ∷ b ∷ [] in
+      let zo = option_or (left_sizes to) (own_size w) in
+      let Q : Results → Type 0 = IsPairOf p z (KnownHere z (term_of w)) in
+      let a : asks_assign g s to (Some w) None ≡ None = subst (λ m. asks_assign g s to m None ≡ None) i.is q in
+      let c = both_met (asks_expr g s zo w) _ a in
+      subst (λ m. Runs (λ t. Unit {0}) (assigned_whole to m None at st)) (sym i.is)
+      (subst (λ u. Runs (λ t. Unit {0}) (and_then (two_of (out-Expr w) at u st) (λ vs. and_then (conditioned to None at vs st) (λ ws. all_put at u to ws st)))) (sym i.sized)
+      (runs_then Q (λ t. Unit {0}) (two_of (out-Expr w) at (Some z) st) (λ vs. and_then (conditioned to None at vs st) (λ ws. all_put at (Some z) to ws st))
+      (with_pair (λ vs. Unit {0}) Q (two_of (out-Expr w) at (Some z) st) (either_goes p z w at i.value (subst (λ u. asks_expr g s u w ≡ None) i.sized c.0)) (either_yields p z w at i.value))
+      (λ vs k. runs_then (λ ws. ws ≡ k.0 ∷ Some (word z k.1) ∷ []) (λ t. Unit {0}) (went [] vs) (λ ws. all_put at (Some z) to ws st) k.2 (λ ws l.
+      subst (λ us. Runs (λ t. Unit {0}) (all_put at (Some z) to us st)) (sym l) (both_run p (Some z) at d b z k.1 k.0 refl k.3 i.first i.last (subst (λ u. asks_lefts g s u to ≡ None) i.sized c.1))))))

@@ -1,5 +1,6 @@
 -- What typing and expansion give of an assignment of two results.
-use Rattle.std.specs.Prelude.{◌≡◌, ◌⊎◌, Bool, true, false, ◌&&◌, Option, Some}
+use Rattle.std.specs.Prelude.{◌≡◌, ◌⊎◌, Bool, true, false, ◌&&◌, [], ◌∷◌, Option, Some}
+use Rattle.std.specs.Option.{option_or}
 use Rattle.x64_insn.specs.Size.{Size}
 use Rattle.jz_tree.specs.Span.{Span}
 use Rattle.jz_tree.specs.declared.expr.BinOp.{BinOp}
@@ -7,18 +8,15 @@ use Rattle.jz_tree.specs.declared.expr.BinOp.TheVariants as o
 use Rattle.jz_tree.specs.declared.expr.Expr.{Expr}
 use Rattle.jz_tree.specs.declared.expr.Expr.TheOpen.{Expr-F}
 use Rattle.jz_tree.specs.declared.expr.Expr.TheViews.{out-Expr}
-use Rattle.jz_tree.specs.declared.expr.Var.{Var}
 use Rattle.jz_tree.specs.declared.stmt.Lval.{Lval}
-use Rattle.jz_tree.specs.declared.stmt.Lval.TheVariants as lval
-use Rattle.jz_meaning.specs.declared.access.Kind.TheVariants as kind
 use Rattle.jz_meaning.specs.States.{Key}
-use Rattle.jz_meaning.specs.Values.{ref_of}
-use Rattle.jz_meaning.specs.Assignments.{whole_of, is_flag, carries}
+use Rattle.jz_meaning.specs.Values.{own_size}
+use Rattle.jz_meaning.specs.Assignments.{left_sizes, whole_of, is_flag, carries}
 use Rattle.jz_run_laws.specs.Kinds.{Kinds}
 use Rattle.jz_terms.specs.Terms.{term_of}
 use Rattle.jz_fact_laws.specs.Saying.{is_number}
-use Rattle.jz_standing.specs.Typing.{IsScalar, IsFlag, IsWord}
-use Rattle.jz_instructed.specs.Instructed.{Shape, a_flag, a_word, TakesShape}
+use Rattle.jz_standing.specs.Typing.{IsFlag, IsWord}
+use Rattle.jz_instructed.specs.Instructed.{Shape, a_flag, a_word, a_pinned, TakesShape}
 
 -- two results: a carry before a sum, a borrow before a difference, a high word before a product
 pub data Pair : Type 0 where
@@ -34,7 +32,12 @@ op_of of_product = o.Mul
 abbrev pub before : Pair → Size → Shape
 before of_sum z = a_flag
 before of_difference z = a_flag
-before of_product z = a_word z
+before of_product z = a_pinned z
+
+abbrev pub last_of : Pair → Size → Shape
+last_of of_sum z = a_word z
+last_of of_difference z = a_word z
+last_of of_product z = a_pinned z
 
 module _ (kinds : Kinds) (in_frame : Key → Bool) where
   -- an operation on two words, none of them a flag
@@ -65,13 +68,13 @@ module _ (kinds : Kinds) (in_frame : Key → Bool) where
     pub second : IsWord kinds in_frame (Some z) z (term_of right)
     pub third : IsFlag kinds in_frame (term_of flag)
 
-  -- of two left sides, of which the last is a variable
-  pub record IsPaired (d : Lval) (x : Var) (op : Option BinOp) (e : Expr) : Type 0 where
+  -- of two left sides
+  pub record IsPaired (d b : Lval) (op : Option BinOp) (e : Expr) : Type 0 where
     pub pair : Pair
     pub size : Size
-    pub is : (ref_of x).kind ≡ kind.Word size
-    pub scalar : IsScalar kinds in_frame (ref_of x)
-    pub other : TakesShape kinds in_frame (before pair size) d
-    pub value :
-        (w : Expr) → whole_of (Some (lval.Var x)) op e ≡ Some w
-        → IsPair pair size w ⊎ IsCarriedPair pair size w
+    pub whole : Expr
+    pub is : whole_of (Some b) op e ≡ Some whole
+    pub sized : option_or (left_sizes (d ∷ b ∷ [])) (own_size whole) ≡ Some size
+    pub first : TakesShape kinds in_frame (before pair size) d
+    pub last : TakesShape kinds in_frame (last_of pair size) b
+    pub value : IsPair pair size whole ⊎ IsCarriedPair pair size whole
