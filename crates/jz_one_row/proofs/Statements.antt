@@ -37,7 +37,7 @@ data CompareLayer (home : Homes) (at : Span) : Layer → Operation → Cond → 
       → CompareLayer home at (Expr-F.Bin o a b here) (plain at (action.Alu alu.Cmp z x y None)) c p q
   c_denies : (e : Expr) (compare : Operation) (c : Cond) (p q : Leaks) (here : Span) → IsCompared home at e compare c p q → CompareLayer home at (Expr-F.Not e here) compare (opposite c) p q
 
-record SameTest (o u : Operation) (c d : Cond) (p q r s : Leaks) : Type 0 where
+pub record SameTest (o u : Operation) (c d : Cond) (p q r s : Leaks) : Type 0 where
   pub operation : o ≡ u
   pub cond : c ≡ d
   pub first : p ≡ r
@@ -66,7 +66,7 @@ module _ (home : Homes) (at : Span) where
   denies_one e u k p q here o c r s one (c_denies e2 v d x y here2 f) =
       let t = one v d x y f in record { operation = t.operation; cond = ap opposite t.cond; first = t.first; second = t.second }
 
-  one_compared : (e : Expr) (o u : Operation) (c d : Cond) (p q r s : Leaks) → IsCompared home at e o c p q → IsCompared home at e u d r s → SameTest o u c d p q r s
+  pub one_compared : (e : Expr) (o u : Operation) (c d : Cond) (p q r s : Leaks) → IsCompared home at e o c p q → IsCompared home at e u d r s → SameTest o u c d p q r s
   one_compared e o u c d p q r s (compares {o = v} {c = k} {z} {a} {b} {x} {y} {p = p2} {q = q2} here h size f g ni once) m =
       compares_one v k z a b x y p2 q2 here u d r s h size f g
       (at_layer (expr.Bin v a b here) (Expr-F.Bin v a b here) u d r s (out_bin v a b here) m)

@@ -38,7 +38,7 @@ one_register : (home : Homes) (x y : Var) (m n : ℕ) → x ≡ y → home (key_
 one_register home x y m n s e f = register_is m n (sym e ∙ ap (λ v. home (key_of (ref_of v))) s ∙ f)
 
 -- ---- a sum by the outermost layer
-data SumLayer (home : Homes) : Layer → Sum → Type 0 where
+pub data SumLayer (home : Homes) : Layer → Sum → Type 0 where
   s_number : (i : ℤ) (at : Span) → SumLayer home (Expr-F.Num i at) (sum_of [] i)
   s_variable : (x : Var) (n : ℕ) → home (key_of (ref_of x)) ≡ Some (in_register n S64) → SumLayer home (Expr-F.Var x) (sum_of ((n, 1) ∷ []) (pos 0))
   s_multiple : (a b : Expr) (x : Var) (n : ℕ) (k : ℤ) (at here : Span) → out-Expr a ≡ Expr-F.Var x → out-Expr b ≡ Expr-F.Num k at → home (key_of (ref_of x)) ≡ Some (in_register n S64)
@@ -48,7 +48,7 @@ data SumLayer (home : Homes) : Layer → Sum → Type 0 where
   s_added : (a b : Expr) (t u : Sum) (here : Span) → IsSum home a t → IsSum home b u → SumLayer home (Expr-F.Bin op.Add a b here) (sum_of (t.terms ++ u.terms) (t.number +ℤ u.number))
   s_less : (a b : Expr) (t : Sum) (i : ℤ) (at here : Span) → IsSum home a t → out-Expr b ≡ Expr-F.Num i at → SumLayer home (Expr-F.Bin op.Sub a b here) (sum_of t.terms (t.number -ℤ i))
 
-sum_layer : (home : Homes) (e : Expr) (t : Sum) → IsSum home e t → SumLayer home (out-Expr e) t
+pub sum_layer : (home : Homes) (e : Expr) (t : Sum) → IsSum home e t → SumLayer home (out-Expr e) t
 sum_layer home e t (a_number i at) = subst (λ l. SumLayer home l (sum_of [] i)) (sym (out_num i at)) (s_number i at)
 sum_layer home e t (a_variable x n h) = subst (λ l. SumLayer home l (sum_of ((n, 1) ∷ []) (pos 0))) (sym (out_var x)) (s_variable x n h)
 sum_layer home e t (a_multiple x n k at here h) =
@@ -63,7 +63,7 @@ sum_layer home e t (less {a} {t = u} i at here p) =
     subst (λ l. SumLayer home l (sum_of u.terms (u.number -ℤ i))) (sym (out_bin op.Sub a (expr.Num i at) here)) (s_less a (expr.Num i at) u i at here p (out_num i at))
 
 -- the layers of both are one
-at_layer : (home : Homes) (e : Expr) (l : Layer) (u : Sum) → out-Expr e ≡ l → IsSum home e u → SumLayer home l u
+pub at_layer : (home : Homes) (e : Expr) (l : Layer) (u : Sum) → out-Expr e ≡ l → IsSum home e u → SumLayer home l u
 at_layer home e l u s p = subst (λ k. SumLayer home k u) s (sum_layer home e u p)
 
 -- ---- one sum, by the first layer

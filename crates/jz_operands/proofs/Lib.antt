@@ -1,3 +1,5 @@
 pub mod SumLemmas
+pub mod SumRefusals
 pub mod OperandLemmas
+pub mod OperandRefusals
 pub mod TableLemmas

@@ -18,11 +18,21 @@ use Rattle.jz_homes.proofs.SumValues.{residue_add, residue_sub}
 use Rattle.jz_operands.specs.declared.sums.Term.{Term}
 use Rattle.jz_operands.specs.declared.sums.Found.TheVariants.{Nothing, One, Two}
 use Rattle.jz_operands.specs.declared.sums.Terms.{Terms}
+use Rattle.jz_operands.specs.Refusals.{FindsOr}
 use Rattle.jz_operands.specs.InnerSums.{pair_of, pairs_of, SumsBefore, IsWhole, IsAddressOf, IsBased, base_first, base_second, IsIndexOf}
 
 pub for_some : {A : Type 0} {P Q : A → Type 0} (o : Option A) → ((x : A) → P x → Q x) → IfSome o P → IfSome o Q
 for_some None f h = h
 for_some (Some x) f h = f x h
+
+pub for_found : {A : Type 0} {P R : A → Type 0} {Q S : Type 0} (o : Option A) → ((x : A) → P x → R x) → (Q → S) → FindsOr o P Q → FindsOr o R S
+for_found None f g h = g h
+for_found (Some x) f g h = f x h
+
+-- where a call hands nothing on
+pub none_or : {A : Type 0} {Q : Type 0} (P : A → Type 0) (o : Option A) → o ≡ None → Q → FindsOr o P Q
+none_or P None e q = q
+none_or P (Some x) e q = absurd cc
 
 pub number_before : {home : Homes} (i : ℤ) (at : Span) (rest all : Terms) → all.found ≡ rest.found → all.number ≡ (residue S64 i + rest.number) % 2 ^ 64 → SumsBefore home (expr.Num i at) rest all
 number_before i at rest all e f = record { sum = sum_of [] i; is = a_number i at; joins = record { terms = ap pairs_of e; number = omega (arith, f) } }

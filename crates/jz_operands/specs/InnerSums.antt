@@ -1,8 +1,10 @@
 -- The terms of a sum as the code has them.
-use Rattle.std.specs.Prelude.{◌≡◌, ℕ, ◌+◌, ◌%◌, ◌^◌, List, [], ◌∷◌, ◌++◌, Option, ℤ}
+use Rattle.std.specs.Prelude.{◌≡◌, ℕ, ◌+◌, ◌%◌, ◌^◌, ◌≤◌, IsTrue, List, [], ◌∷◌, ◌++◌, length, Option, ℤ}
 use Rattle.jz_words.specs.declared.size.Size.TheVariants.{S64}
 use Rattle.jz_words.specs.Words.{residue}
+use Rattle.jz_tree.specs.Span.{Span}
 use Rattle.jz_tree.specs.declared.expr.Expr.{Expr}
+use Rattle.jz_tree.specs.declared.expr.Expr.TheVariants as expr
 use Rattle.jz_operations.specs.declared.operation.Address.{Address}
 use Rattle.jz_homes.specs.Homes.{Homes}
 use Rattle.jz_homes.specs.Sums.{Sum, IsSum, IsAddress, IsIndex}
@@ -10,6 +12,7 @@ use Rattle.jz_operands.specs.declared.sums.Term.{Term}
 use Rattle.jz_operands.specs.declared.sums.Found.{Found}
 use Rattle.jz_operands.specs.declared.sums.Found.TheVariants.{Nothing, One, Two}
 use Rattle.jz_operands.specs.declared.sums.Terms.{Terms}
+use Rattle.jz_operands.specs.Refusals.{is_scale}
 
 abbrev pub pair_of : Term → ℕ × ℕ
 pair_of t = (t.variable, t.factor)
@@ -53,3 +56,18 @@ pub record IsIndexOf (home : Homes) (e : Expr) (b : Option ℕ) (i : ℤ) : Type
   pub sum : Sum
   pub is : IsSum home e sum
   pub index : IsIndex sum b i
+
+-- ---- what is not found
+-- it is no sum whose terms have room before others
+abbrev pub NeverBefore : Homes → Expr → Terms → Type 0
+NeverBefore home e rest =
+    (t : Sum) → IsSum home e t → length t.terms + length (pairs_of rest.found) ≤ 2 → ⊥
+
+abbrev pub NeverWhole : Homes → Expr → Type 0
+NeverWhole home e = (t : Sum) → IsSum home e t → length t.terms ≤ 2 → ⊥
+
+abbrev pub NeverNumber : Expr → Type 0
+NeverNumber e = (i : ℤ) (at : Span) → e ≡ expr.Num i at → ⊥
+
+abbrev pub NeverBased : Term → Term → Type 0
+NeverBased t u = (b j k : ℕ) → IsBased t u b j k → IsTrue (is_scale k) → ⊥

@@ -1,2 +1,3 @@
 pub mod TableHomes
+pub mod Refusals
 pub mod InnerSums

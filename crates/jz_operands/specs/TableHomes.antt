@@ -1,11 +1,12 @@
 -- The homes that a table of variables says.
-use Rattle.std.specs.Prelude.{◌≡◌, ◌<◌, ℕ, ◌==◌, nat_lt, Bool, ◌&&◌, List, Option, Some, None, if◌then◌else◌}
+use Rattle.std.specs.Prelude.{◌≡◌, ◌<◌, ℕ, ◌==◌, nat_lt, nat_le, Bool, ◌&&◌, List, Option, Some, None, if◌then◌else◌}
 use Rattle.std.specs.Option.{option_or}
 use Rattle.std.specs.Str.{bytes_eq}
 use Rattle.jz_words.specs.declared.size.Size.{Size}
 use Rattle.jz_tree.specs.declared.expr.Access.{Access}
 use Rattle.jz_tree.specs.declared.expr.Var.{Var}
 use Rattle.indexmap.specs.IndexMap.{IndexMap, get}
+use Rattle.jz_type_names.specs.Kinds.{same_size}
 use Rattle.jz_meaning.specs.States.{Key, same_cell, same_key}
 use Rattle.jz_homes.specs.Homes as homes
 use Rattle.jz_homes.specs.Homes.{in_register, in_flag, in_cell}
@@ -55,11 +56,35 @@ abbrev pub home_within : Option ℕ → Option Home → Option Home → Option h
 home_within (Some i) (Some (Cells w z n)) e = if nat_lt i n then Some (in_cell w i z) else None
 home_within _ _ e = scalar_home e
 
+-- the first of the cells of a stack array, as a scalar
+abbrev pub first_cell : ℕ → ℕ → Size → ℕ → Option Home
+first_cell i w z n = if (i == 0) && nat_lt 0 n then Some (Slot w z) else None
+
 abbrev pub homes_by : (Key → Option Home) → homes.Homes
 homes_by entries k = home_within k.cell (entries (record k { cell = None })) (entries k)
 
 abbrev pub homes_of : code.Homes → homes.Homes
 homes_of t = homes_by (entries_of t)
+
+-- the stack variable of a cell that is where a scalar is
+abbrev pub one_cell : Option Home → Option (ℕ × Size × ℕ)
+one_cell (Some (Slot w z)) = Some (w, z, 1)
+one_cell _ = None
+
+-- the cells of a variable are these, and no others
+pub record IsStackOf (home : homes.Homes) (x : Var) (w : ℕ) (z : Size) (n : ℕ) : Type 0 where
+  pub all : (i : ℕ) → i < n → home (cell_key (ref_of x) i) ≡ Some (in_cell w i z)
+  pub only : (v i : ℕ) (y : Size)
+      → home (cell_key (ref_of x) i) ≡ Some (in_cell v i y) → (v ≡ w) × (y ≡ z) × (i < n)
+
+abbrev pub HasNoCell : homes.Homes → Var → Type 0
+HasNoCell home x =
+    (v i : ℕ) (y : Size) → home (cell_key (ref_of x) i) ≡ Some (in_cell v i y) → ⊥
+
+-- an array of so many cells has some, which a stack variable has, and both are of this size
+abbrev pub have_cells : Size → Size → ℕ → Size → ℕ → Bool
+have_cells z own count y many =
+    same_size own z && (same_size y z && (nat_lt 0 count && nat_le count many))
 
 -- an array has cells, which are those of a stack variable
 abbrev pub IsArrayAt : homes.Homes → Var → Size → ℕ → Type 0

@@ -1,11 +1,12 @@
 //! Where the variables of a function are.
 
-ghost use Rattle.std.specs.Prelude.{◌≡◌, None, Some, IfSome, OnOk};
+ghost use Rattle.std.specs.Prelude.{◌≡◌, None, Some, OnOk};
 ghost use Rattle.jz_meaning.specs.Values.{key_of, ref_of};
 ghost use Rattle.std.specs.Str.{bytes_eq};
 ghost use Rattle.indexmap.specs.IndexMap.{get};
 ghost use Rattle.jz_operands.specs.TableHomes.{entry_at, scalar_home, homes_of, entries_of};
-ghost use Rattle.jz_operands.specs.TableHomes.{with_entry, no_entries, key_at};
+ghost use Rattle.jz_operands.specs.TableHomes.{with_entry, no_entries, key_at, first_cell};
+ghost use Rattle.jz_operands.specs.Refusals.{FindsOr, IsNoScalar};
 
 use indexmap::IndexMap;
 use jz_tree::{Size, Text, Var};
@@ -97,10 +98,10 @@ impl Homes {
         self.begin(name, place, home)
     }
 
-    /// The home of a variable that is no array of the stack, nor a cell of one.
+    /// The home of a variable that is no array of the stack, nor a cell of one but the first.
     pub fn scalar(&self, var: &Var) -> Option<Home>
-        ensures { IfSome result (λ home.
-            homes_of self.now (key_of (ref_of var.now)) ≡ scalar_home (Some home)) }
+        ensures { let home = homes_of self.now (key_of (ref_of var.now)) in
+            FindsOr result (λ found. home ≡ scalar_home (Some found)) (IsNoScalar home) }
     {
         match var.cell {
             None => self.at(&var.name, var.copy, None),
@@ -109,8 +110,19 @@ impl Homes {
                 Some(Home::Word(_, _)) => self.at(&var.name, var.copy, Some(cell)),
                 Some(Home::Flag(_)) => self.at(&var.name, var.copy, Some(cell)),
                 Some(Home::Slot(_, _)) => self.at(&var.name, var.copy, Some(cell)),
-                Some(Home::Cells(_, _, _)) => None,
+                Some(Home::Cells(of, size, count)) => first_of(cell, of, size, count),
             },
         }
+    }
+}
+
+/// The first cell of an array of the stack is where a scalar is.
+fn first_of(cell: u32, of: u32, size: Size, count: u128) -> Option<Home>
+    ensures { result ≡ first_cell cell of size count }
+{
+    if cell == 0 && count > 0 {
+        Some(Home::Slot(of, size))
+    } else {
+        None
     }
 }

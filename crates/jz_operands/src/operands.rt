@@ -1,12 +1,15 @@
 //! Operands and destinations of statements.
 
-ghost use Rattle.std.specs.Prelude.{◌≡◌, IfSome, IsTrue, None, pos};
+ghost use Rattle.std.specs.Prelude.{◌≡◌, ◌↔◌, ℕ, IsTrue, None, Some, pos};
 ghost use Rattle.jz_tree.specs.declared.expr.Expr.TheVariants as expr;
 ghost use Rattle.jz_tree.specs.declared.stmt.Lval.TheVariants as lval;
 ghost use Rattle.jz_homes.specs.Operands.{cell_leaks, IsArg, IsDest};
 ghost use Rattle.jz_meaning.specs.Values.{ref_of};
 ghost use Rattle.jz_meaning.specs.declared.access.Kind.TheVariants as kind;
+ghost use Rattle.jz_tree.specs.declared.expr.Expr.TheViews.{out-Var};
 ghost use Rattle.jz_operands.specs.TableHomes.{homes_of, leaks_of, IsArrayAt, HasSize};
+ghost use Rattle.jz_operands.specs.TableHomes.{entry_at, one_cell, IsStackOf, HasNoCell, have_cells};
+ghost use Rattle.jz_operands.specs.Refusals.{FindsOr, NeverArg, NeverDest};
 
 use crate::homes::{Home, Homes};
 use crate::sums::{address_of, index_of};
@@ -51,10 +54,12 @@ fn scalar(of: u32) -> Operand
 /// A word in a variable, or in a stack variable.
 #[tactic(auto, using(crate::proofs::OperandLemmas::word_arg, crate::proofs::OperandLemmas::word_dest, crate::proofs::OperandLemmas::slot_arg, crate::proofs::OperandLemmas::slot_dest))]
 fn word(homes: &Homes, size: Size, var: &Var) -> Option<Operand>
-    ensures read { IfSome result
-        (λ x. IsArg (homes_of homes.now) size (expr.Var var.now) x.arg (leaks_of x.leaks)) }
-    ensures written { (ref_of var.now).kind ≡ kind.Word size → IfSome result
-        (λ x. IsDest (homes_of homes.now) size (lval.Var var.now) x.arg (leaks_of x.leaks)) }
+    ensures read { let home = homes_of homes.now in
+        let e = expr.Var var.now in
+        FindsOr result (λ x. IsArg home size e x.arg (leaks_of x.leaks)) (NeverArg home size e) }
+    ensures written { (ref_of var.now).kind ≡ kind.Word size → let home = homes_of homes.now in
+        let d = lval.Var var.now in
+        FindsOr result (λ x. IsDest home size d x.arg (leaks_of x.leaks)) (NeverDest home size d) }
 {
     match homes.scalar(var) {
         None => None,
@@ -80,25 +85,56 @@ fn word(homes: &Homes, size: Size, var: &Var) -> Option<Operand>
     }
 }
 
+/// The stack variable of an array of one cell, which is where a scalar is.
+fn only_cell(homes: &Homes, var: &Var) -> Option<(u32, Size, u128)>
+    ensures { result ≡ one_cell (entry_at homes.now (out-Var var.now).name (out-Var var.now).copy
+        (Some 0)) }
+{
+    match homes.at(&var.name, var.copy, Some(0)) {
+        Some(Home::Slot(of, size)) => Some((of, size, 1)),
+        Some(Home::Word(_, _)) => None,
+        Some(Home::Flag(_)) => None,
+        Some(Home::Cells(_, _, _)) => None,
+        None => None,
+    }
+}
+
+/// The stack variable that has the cells of a variable, their size, and how many they are.
+fn stack_of(homes: &Homes, var: &Var) -> Option<(u32, Size, u128)>
+    ensures { let home = homes_of homes.now in
+        FindsOr result (λ s. IsStackOf home var.now s.0 s.1 s.2) (HasNoCell home var.now) }
+{
+    match homes.at(&var.name, var.copy, None) {
+        Some(Home::Cells(of, size, count)) => Some((of, size, count)),
+        Some(Home::Word(_, _)) => only_cell(homes, var),
+        Some(Home::Flag(_)) => only_cell(homes, var),
+        Some(Home::Slot(_, _)) => only_cell(homes, var),
+        None => only_cell(homes, var),
+    }
+}
+
+/// Whether an array has cells, of this size, and a stack variable has so many.
+fn are_cells(size: Size, own: Size, count: u128, other: Size, many: u128) -> bool
+    ensures { result ≡ have_cells size own count other many }
+{
+    same_size(own, size) && same_size(other, size) && 0 < count && count <= many
+}
+
 /// The stack variable of an array whose cells have this size.
-#[tactic(auto, using(crate::proofs::OperandLemmas::array_at))]
 fn cells(homes: &Homes, size: Size, var: &Var) -> Option<u32>
-    ensures { IfSome result (λ w. IsArrayAt (homes_of homes.now) var.now size w) }
+    ensures { let home = homes_of homes.now in
+        FindsOr result (IsArrayAt home var.now size)
+        ((w : ℕ) → IsArrayAt home var.now size w → ⊥) }
 {
     match kind_of(var) {
-        Kind::Array(z, count) => match homes.at(&var.name, var.copy, None) {
-            Some(Home::Cells(w, y, n)) => {
-                if same_size(z, size) && same_size(y, size) && n == count && count > 0 {
-                    Some(w)
-                } else {
-                    None
-                }
+        Kind::Array(own, count) => {
+            let (of, z, many) = stack_of(homes, var)?;
+            if are_cells(size, own, count, z, many) {
+                Some(of)
+            } else {
+                None
             }
-            Some(Home::Word(_, _)) => None,
-            Some(Home::Flag(_)) => None,
-            Some(Home::Slot(_, _)) => None,
-            None => None,
-        },
+        }
         Kind::Undeclared => None,
         Kind::Int => None,
         Kind::Bool => None,
@@ -119,10 +155,12 @@ fn index_leaks(variable: Option<u32>) -> Leaks
 /// A cell of a stack array.
 #[tactic(auto, using(crate::proofs::OperandLemmas::cell_arg, crate::proofs::OperandLemmas::cell_dest))]
 fn cell(homes: &Homes, size: Size, var: &Var, at: &Expr) -> Option<Operand>
-    ensures read { IfSome result (λ x.
-        IsArg (homes_of homes.now) size (expr.Cell var.now at.now) x.arg (leaks_of x.leaks)) }
-    ensures written { IfSome result (λ x.
-        IsDest (homes_of homes.now) size (lval.Cell var.now at.now) x.arg (leaks_of x.leaks)) }
+    ensures read { let home = homes_of homes.now in
+        let e = expr.Cell var.now at.now in
+        FindsOr result (λ x. IsArg home size e x.arg (leaks_of x.leaks)) (NeverArg home size e) }
+    ensures written { let home = homes_of homes.now in
+        let d = lval.Cell var.now at.now in
+        FindsOr result (λ x. IsDest home size d x.arg (leaks_of x.leaks)) (NeverDest home size d) }
 {
     let of = cells(homes, size, var)?;
     let found = index_of(homes, at)?;
@@ -138,7 +176,7 @@ fn cell(homes: &Homes, size: Size, var: &Var, at: &Expr) -> Option<Operand>
 
 #[tactic(auto, using(crate::proofs::OperandLemmas::with_size, crate::proofs::OperandLemmas::without_size))]
 fn has_size(access: &Access, size: Size) -> bool
-    ensures { IsTrue result → HasSize access.now size }
+    ensures { IsTrue result ↔ HasSize access.now size }
 {
     match access.size {
         None => true,
@@ -149,10 +187,12 @@ fn has_size(access: &Access, size: Size) -> bool
 /// What memory holds.
 #[tactic(auto, using(crate::proofs::OperandLemmas::load_arg, crate::proofs::OperandLemmas::store_dest))]
 fn load(homes: &Homes, size: Size, access: &Access) -> Option<Operand>
-    ensures read { IfSome result (λ x.
-        IsArg (homes_of homes.now) size (expr.Load access.now) x.arg (leaks_of x.leaks)) }
-    ensures written { IfSome result (λ x.
-        IsDest (homes_of homes.now) size (lval.Store access.now) x.arg (leaks_of x.leaks)) }
+    ensures read { let home = homes_of homes.now in
+        let e = expr.Load access.now in
+        FindsOr result (λ x. IsArg home size e x.arg (leaks_of x.leaks)) (NeverArg home size e) }
+    ensures written { let home = homes_of homes.now in
+        let d = lval.Store access.now in
+        FindsOr result (λ x. IsDest home size d x.arg (leaks_of x.leaks)) (NeverDest home size d) }
 {
     if !has_size(access, size) {
         return None;
@@ -164,10 +204,12 @@ fn load(homes: &Homes, size: Size, access: &Access) -> Option<Operand>
     })
 }
 
-/// An operand of that size: a number, a variable, a cell or an access.
+/// An operand of that size: a number, a variable, a cell or an access. There is none where its
+/// displacement, its offset or its scale has no field.
 pub fn operand_of(homes: &Homes, size: Size, e: &Expr) -> Option<Operand>
-    ensures { IfSome result
-        (λ x. IsArg (homes_of homes.now) size e.now x.arg (leaks_of x.leaks)) }
+    ensures { let home = homes_of homes.now in
+        FindsOr result (λ x. IsArg home size e.now x.arg (leaks_of x.leaks))
+        (NeverArg home size e.now) }
 {
     match e {
         Expr::Num(number, _) => Some(Operand {
@@ -187,8 +229,9 @@ pub fn operand_of(homes: &Homes, size: Size, e: &Expr) -> Option<Operand>
 
 /// A variable that is written.
 fn written(homes: &Homes, size: Size, var: &Var) -> Option<Operand>
-    ensures { IfSome result
-        (λ x. IsDest (homes_of homes.now) size (lval.Var var.now) x.arg (leaks_of x.leaks)) }
+    ensures { let home = homes_of homes.now in
+        let d = lval.Var var.now in
+        FindsOr result (λ x. IsDest home size d x.arg (leaks_of x.leaks)) (NeverDest home size d) }
 {
     match kind_of(var) {
         Kind::Word(z) => {
@@ -205,10 +248,12 @@ fn written(homes: &Homes, size: Size, var: &Var) -> Option<Operand>
     }
 }
 
-/// A destination of that size.
+/// A destination of that size. There is none where its displacement, its offset or its scale has no
+/// field.
 pub fn destination_of(homes: &Homes, size: Size, d: &Lval) -> Option<Operand>
-    ensures { IfSome result
-        (λ x. IsDest (homes_of homes.now) size d.now x.arg (leaks_of x.leaks)) }
+    ensures { let home = homes_of homes.now in
+        FindsOr result (λ x. IsDest home size d.now x.arg (leaks_of x.leaks))
+        (NeverDest home size d.now) }
 {
     match d {
         Lval::Skip(_) => None,

@@ -1,9 +1,10 @@
 //! The sums of addresses and indices.
 
-ghost use Rattle.std.specs.Prelude.{◌≡◌, ◌+◌, ◌%◌, ◌^◌, ◌-◌, ◌∷◌, [], Some, IfSome};
+ghost use Rattle.std.specs.Prelude.{◌≡◌, ◌+◌, ◌%◌, ◌^◌, ◌-◌, ◌≤◌, ◌∷◌, [], ℕ, length, Some, false};
 ghost use Rattle.jz_tree.specs.Span.{Span};
 ghost use Rattle.jz_words.specs.declared.size.Size.TheVariants.{S64};
 ghost use Rattle.jz_words.specs.Words.{residue as residue_of};
+ghost use Rattle.jz_words.specs.Readings.{fits_bytes};
 ghost use Rattle.jz_tree.specs.declared.expr.BinOp.TheVariants as op;
 ghost use Rattle.jz_tree.specs.declared.expr.Expr.TheVariants as expr;
 ghost use Rattle.jz_homes.specs.Homes.{in_register};
@@ -11,7 +12,9 @@ ghost use Rattle.jz_meaning.specs.Values.{key_of, ref_of};
 ghost use Rattle.jz_operands.specs.TableHomes.{homes_of};
 ghost use Rattle.jz_words.specs.Sizes.{signed};
 ghost use Rattle.jz_operands.specs.InnerSums.{pair_of, pairs_of, SumsBefore, IsBased, IsWhole};
-ghost use Rattle.jz_operands.specs.InnerSums.{IsAddressOf, IsIndexOf};
+ghost use Rattle.jz_operands.specs.InnerSums.{IsAddressOf, IsIndexOf, NeverBefore, NeverWhole};
+ghost use Rattle.jz_operands.specs.InnerSums.{NeverBased, NeverNumber};
+ghost use Rattle.jz_operands.specs.Refusals.{FindsOr, is_scale, NeverAddress, NeverIndex};
 
 use crate::homes::{Home, Homes};
 use jz_operations::Address;
@@ -48,7 +51,8 @@ fn word_64(number: i128) -> u64
 
 /// One term before others, where there is room.
 fn before(term: Term, found: Found) -> Option<Found>
-    ensures { IfSome result (λ all. pairs_of all ≡ pair_of term ∷ pairs_of found) }
+    ensures { FindsOr result (λ all. pairs_of all ≡ pair_of term ∷ pairs_of found)
+        (2 ≤ length (pairs_of found)) }
 {
     match found {
         Found::Nothing => Some(Found::One(term)),
@@ -59,8 +63,9 @@ fn before(term: Term, found: Found) -> Option<Found>
 
 /// The variable that holds a word of 64 bits.
 fn word_variable(homes: &Homes, var: &Var) -> Option<u32>
-    ensures { IfSome result (λ n.
-        homes_of homes.now (key_of (ref_of var.now)) ≡ Some (in_register n S64)) }
+    ensures { let home = homes_of homes.now (key_of (ref_of var.now)) in
+        FindsOr result (λ n. home ≡ Some (in_register n S64))
+        ((n : ℕ) → home ≡ Some (in_register n S64) → ⊥) }
 {
     match homes.scalar(var) {
         None => None,
@@ -75,8 +80,10 @@ fn word_variable(homes: &Homes, var: &Var) -> Option<u32>
 }
 
 fn with_factor(variable: u32, factor: u64, rest: Terms) -> Option<Terms>
-    ensures { IfSome result (λ all. (pairs_of all.found ≡ (variable, factor) ∷ pairs_of rest.found)
-        × (all.number ≡ rest.number)) }
+    ensures { FindsOr result
+        (λ all. (pairs_of all.found ≡ (variable, factor) ∷ pairs_of rest.found)
+        × (all.number ≡ rest.number))
+        (2 ≤ length (pairs_of rest.found)) }
 {
     match before(Term { variable, factor }, rest.found) {
         None => None,
@@ -89,8 +96,9 @@ fn with_factor(variable: u32, factor: u64, rest: Terms) -> Option<Terms>
 
 #[tactic(auto, using(crate::proofs::SumLemmas::variable_before))]
 fn with_variable(homes: &Homes, var: &Var, rest: Terms) -> Option<Terms>
-    ensures { IfSome result (λ all.
-        SumsBefore (homes_of homes.now) (expr.Var var.now) rest all) }
+    ensures { let home = homes_of homes.now in
+        FindsOr result (SumsBefore home (expr.Var var.now) rest)
+        (NeverBefore home (expr.Var var.now) rest) }
 {
     match word_variable(homes, var) {
         None => None,
@@ -100,10 +108,12 @@ fn with_variable(homes: &Homes, var: &Var, rest: Terms) -> Option<Terms>
 
 #[tactic(auto, using(crate::proofs::SumLemmas::multiple_before, crate::proofs::SumLemmas::before_multiple))]
 fn with_multiple(homes: &Homes, var: &Var, factor: i128, rest: Terms) -> Option<Terms>
-    ensures right { (at here : Span) → IfSome result (λ all. SumsBefore (homes_of homes.now)
-        (expr.Bin op.Mul (expr.Var var.now) (expr.Num factor at) here) rest all) }
-    ensures left { (at here : Span) → IfSome result (λ all. SumsBefore (homes_of homes.now)
-        (expr.Bin op.Mul (expr.Num factor at) (expr.Var var.now) here) rest all) }
+    ensures right { (at here : Span) → let home = homes_of homes.now in
+        let e = expr.Bin op.Mul (expr.Var var.now) (expr.Num factor at) here in
+        FindsOr result (SumsBefore home e rest) (NeverBefore home e rest) }
+    ensures left { (at here : Span) → let home = homes_of homes.now in
+        let e = expr.Bin op.Mul (expr.Num factor at) (expr.Var var.now) here in
+        FindsOr result (SumsBefore home e rest) (NeverBefore home e rest) }
 {
     match word_variable(homes, var) {
         None => None,
@@ -141,8 +151,9 @@ fn without_number(number: i128, rest: Terms) -> Terms
 
 /// A product of a variable and a number, in either order.
 fn with_product(homes: &Homes, a: &Expr, b: &Expr, rest: Terms) -> Option<Terms>
-    ensures { (here : Span) → IfSome result (λ all. SumsBefore (homes_of homes.now)
-        (expr.Bin op.Mul a.now b.now here) rest all) }
+    ensures { (here : Span) → let home = homes_of homes.now in
+        let e = expr.Bin op.Mul a.now b.now here in
+        FindsOr result (SumsBefore home e rest) (NeverBefore home e rest) }
 {
     match a {
         Expr::Var(var) => match b {
@@ -159,7 +170,7 @@ fn with_product(homes: &Homes, a: &Expr, b: &Expr, rest: Terms) -> Option<Terms>
 
 /// The number that is taken away.
 fn number_in(e: &Expr) -> Option<i128>
-    ensures { IfSome result (λ i. (at : Span) × (e.now ≡ expr.Num i at)) }
+    ensures { FindsOr result (λ i. (at : Span) × (e.now ≡ expr.Num i at)) (NeverNumber e.now) }
 {
     match e {
         Expr::Num(number, _) => Some(*number),
@@ -170,7 +181,8 @@ fn number_in(e: &Expr) -> Option<i128>
 /// The terms of an expression before others, by a loop down its left side.
 #[tactic(auto, using(crate::proofs::SumLemmas::number_before, crate::proofs::SumLemmas::added_before, crate::proofs::SumLemmas::less_before))]
 pub(crate) fn with_terms(homes: &Homes, e: &Expr, rest: Terms) -> Option<Terms>
-    ensures { IfSome result (λ all. SumsBefore (homes_of homes.now) e.now rest all) }
+    ensures { let home = homes_of homes.now in
+        FindsOr result (SumsBefore home e.now rest) (NeverBefore home e.now rest) }
 {
     let mut left = e;
     let mut after = rest;
@@ -209,14 +221,16 @@ fn nothing() -> Terms
 /// The sum that an expression is.
 #[tactic(auto, using(crate::proofs::SumLemmas::whole_sum))]
 fn whole(homes: &Homes, e: &Expr) -> Option<Terms>
-    ensures { IfSome result (λ all. IsWhole (homes_of homes.now) e.now all) }
+    ensures { let home = homes_of homes.now in
+        FindsOr result (IsWhole home e.now) (NeverWhole home e.now) }
 {
     with_terms(homes, e, nothing())
 }
 
 /// The signed reading of a number of 64 bits, where it has 32.
 fn displacement(number: u64) -> Option<i32>
-    ensures { IfSome result (λ d. d ≡ signed S64 (number % 2 ^ 64)) }
+    ensures { let reading = signed S64 (number % 2 ^ 64) in
+        FindsOr result (λ d. d ≡ reading) (fits_bytes 4 reading ≡ false) }
 {
     let reading = Word::truncate(Size::S64, number).signed();
     if fits_four_bytes(reading) {
@@ -228,7 +242,7 @@ fn displacement(number: u64) -> Option<i32>
 
 /// A factor that an address has.
 fn scale(factor: u64) -> Option<u8>
-    ensures { IfSome result (λ s. s ≡ factor) }
+    ensures { FindsOr result (λ s. s ≡ factor) (is_scale factor ≡ false) }
 {
     match factor {
         1 => Some(1),
@@ -242,7 +256,7 @@ fn scale(factor: u64) -> Option<u8>
 /// A base and an index; of two variables with the factor 1 the first is the base.
 #[tactic(auto, using(crate::proofs::SumLemmas::first_based, crate::proofs::SumLemmas::second_based))]
 fn based(first: Term, second: Term) -> Option<(u32, u32, u8)>
-    ensures { IfSome result (λ m. IsBased first second m.0 m.1 m.2) }
+    ensures { FindsOr result (λ m. IsBased first second m.0 m.1 m.2) (NeverBased first second) }
 {
     if first.factor == 1 {
         let scale = scale(second.factor)?;
@@ -258,7 +272,8 @@ fn based(first: Term, second: Term) -> Option<(u32, u32, u8)>
 /// The address that an expression is.
 #[tactic(auto, using(crate::proofs::SumLemmas::base_address, crate::proofs::SumLemmas::both_address))]
 pub fn address_of(homes: &Homes, at: &Expr) -> Option<Address>
-    ensures { IfSome result (λ m. IsAddressOf (homes_of homes.now) at.now m) }
+    ensures { let home = homes_of homes.now in
+        FindsOr result (IsAddressOf home at.now) (NeverAddress home at.now) }
 {
     let terms = whole(homes, at)?;
     let disp = displacement(terms.number)?;
@@ -296,7 +311,8 @@ pub struct Index {
 /// The index that an expression is.
 #[tactic(auto, using(crate::proofs::SumLemmas::constant_index, crate::proofs::SumLemmas::variable_index))]
 pub fn index_of(homes: &Homes, at: &Expr) -> Option<Index>
-    ensures { IfSome result (λ i. IsIndexOf (homes_of homes.now) at.now i.variable i.offset) }
+    ensures { let home = homes_of homes.now in
+        FindsOr result (λ i. IsIndexOf home at.now i.variable i.offset) (NeverIndex home at.now) }
 {
     let terms = whole(homes, at)?;
     let offset = displacement(terms.number)?;
