@@ -1,5 +1,5 @@
 -- What the walk of a whole body gives, and what is given of a function.
-use Rattle.std.proofs.Common.{◌≡◌, ℕ, List, map, flat_map, length, Option, Some, None, refl, sym, ap, ◌∙◌, subst}
+use Rattle.std.proofs.Common.{◌≡◌, ℕ, List, map, flat_map, length, Option, Some, None, sym, ap, ◌∙◌, subst}
 use Rattle.std.proofs.lemmas.List.{length-map}
 use Rattle.jz_tree.specs.declared.expr.Var.{Var}
 use Rattle.jz_tree.specs.declared.program.Fun.{Fun}

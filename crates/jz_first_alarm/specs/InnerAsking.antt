@@ -3,7 +3,7 @@ use Rattle.std.specs.Prelude.{◌≡◌, ℕ, ◌+◌, not, is_some, List, Optio
 use Rattle.jz_tree.specs.declared.expr.Var.{Var}
 use Rattle.jz_runs.specs.Trees.{done, loop}
 use Rattle.jz_meaning.specs.Runs.{block}
-use Rattle.jz_meaning.specs.Statements.{Condition, Block}
+use Rattle.jz_meaning.specs.Statements.{Block}
 use Rattle.jz_flow.specs.Flow.{After}
 use Rattle.jz_flow.specs.Alarms.{First}
 use Rattle.jz_facts.specs.Facts.{Facts}

@@ -1,4 +1,4 @@
-use Rattle.std.proofs.Common.{◌≡◌, Some, None, ap, sym, ◌∙◌}
+use Rattle.std.proofs.Common.{None, ap, sym, ◌∙◌}
 use Rattle.jz_fact_sets.specs.Kept.{given_of, facts_of}
 use Rattle.jz_block_facts.specs.Pieces.{operation_of}
 use Rattle.jz_alarms.specs.Conditions as conditions

@@ -1,5 +1,4 @@
-use Rattle.std.proofs.Common.{◌≡◌, sym, ap, ◌∙◌, subst}
-use Rattle.jz_runs.specs.Trees.{done}
+use Rattle.std.proofs.Common.{sym, ◌∙◌, subst}
 use Rattle.jz_fact_sets.specs.Kept.{given_of, facts_of}
 use Rattle.jz_facts.specs.Facts.{at_entry}
 use Rattle.jz_block_facts.specs.Heads.{plain_block, AreHeads}

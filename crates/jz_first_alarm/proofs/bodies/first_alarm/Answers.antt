@@ -1,4 +1,4 @@
-use Rattle.std.proofs.Common.{◌≡◌, length, ◌≤◌, sym, ap, ◌∙◌, subst, arith}
+use Rattle.std.proofs.Common.{sym, subst, arith}
 use Rattle.jz_fact_sets.specs.Kept.{AreDifferent, given_of}
 use Rattle.jz_first_alarm.proofs.Stepping.{handed_on}
 use Rattle.jz_first_alarm.proofs.Whole.{given_is, as_many}

@@ -1,17 +1,17 @@
-use Rattle.std.proofs.Common.{◌≡◌, ◌<◌, ◌≤◌, ◌+◌, ◌*◌, length, get_or, true, false, Some, None, refl, sym, ap, ◌∙◌, subst, arith, rules}
-use Rattle.std.specs.Prelude.{suc, not, is_some, slice_get}
+use Rattle.std.proofs.Common.{◌≡◌, ◌<◌, ◌≤◌, ◌+◌, length, get_or, true, false, refl, sym, ap, ◌∙◌, arith, rules}
+use Rattle.std.specs.Prelude.{suc, not, is_some}
 use Rattle.jz_runs.specs.Trees.{done, op, quiet, choose, loop}
 use Rattle.jz_meaning.specs.Statements.{Condition, unset}
 use Rattle.jz_meaning.specs.Runs.{block, statement_tree}
 use Rattle.jz_flow.specs.Sets.{common}
 use Rattle.jz_facts.specs.Tests.{leaves}
-use Rattle.jz_fact_sets.specs.Kept.{given_of, facts_of, known_at, known_or}
+use Rattle.jz_fact_sets.specs.Kept.{given_of, facts_of, known_at}
 use Rattle.jz_block_facts.specs.Heads.{no_callees, laid}
 use Rattle.jz_block_facts.specs.Pieces.{body_piece, operation_of, answered}
-use Rattle.jz_block_facts.proofs.LaidFacts.{returned, facts_seen, facts_as, over_facts}
-use Rattle.jz_block_facts.proofs.Splitting.{if_is, assign_is, mark_is, for_is, while_is}
-use Rattle.jz_block_facts.proofs.Measures.{weights, body_weight, weights_at, weight_if, weight_while}
-use Rattle.jz_first_alarm.specs.InnerAsking.{loop_piece, turn_piece}
+use Rattle.jz_block_facts.proofs.LaidFacts.{returned, facts_seen, facts_as}
+use Rattle.jz_block_facts.proofs.Splitting.{if_is, assign_is, mark_is, while_is}
+use Rattle.jz_block_facts.proofs.Measures.{body_weight, weights_at, weight_if, weight_while}
+use Rattle.jz_first_alarm.specs.InnerAsking.{turn_piece}
 use Rattle.jz_asked.specs.Asked.{alarm_of}
 use Rattle.jz_first_alarm.proofs.Stepping.{handed_on, op_goes, op_stops, quiet_goes, choose_goes, first_arm_stops, second_arm_stops, test_stops, prologue_stops, loop_test_stops, body_stops, loop_goes}
 use Rattle.jz_first_alarm.proofs.Walking.{ready_as, ready_from, goes_as, goes_from, goes_at, stops_as, stops_from, nothing_goes, yes_ready, no_ready, head_there, head_is, prologue_ready, rest_ready, none_on, one_ready, one_on, one_stops, all_on}
