@@ -1,0 +1,16 @@
+-- The expansion of a function of a typed text is typed.
+use Rattle.std.specs.Prelude.{ℕ, Contains}
+use Rattle.jz_tree.specs.declared.program.Fun.{Fun}
+use Rattle.jz_tree.specs.declared.program.Program.{Program}
+use Rattle.jz_types.specs.TypedPrograms.{IsTypedProgram}
+use Rattle.jz_texts.specs.Texts.{IsText}
+use Rattle.jz_change.specs.Changes.{Change}
+use Rattle.jz_function_runs.specs.FunctionRuns.{plain_body}
+use Rattle.jz_expansion.specs.Expansions.{IsExpansion}
+use Rattle.jz_kept_types.specs.Operations.{IsTypedBody}
+
+abbrev pub ExpansionsAreTyped : Type 0
+ExpansionsAreTyped =
+    (p : Program) (f g : Fun) (k : Change) (count : ℕ)
+    → IsTypedProgram p → IsText p → Contains p.funs f → IsExpansion p f g k count
+    → IsTypedBody (plain_body g)
