@@ -15,11 +15,7 @@ pub fn why(refusal: NotCompiled, out: &mut String) -> Result<(), AllocError> {
 }
 
 /// The lines of the listing.
-pub fn in_one_line(
-    alloc: Global,
-    compiled: Compiled,
-    out: &mut String,
-) -> Result<(), AllocError> {
+pub fn in_one_line(alloc: Global, compiled: Compiled, out: &mut String) -> Result<(), AllocError> {
     let bytes = listing(alloc, &[compiled])?;
     let text = str::from_utf8(bytes.as_slice()).unwrap_or("no text");
     for line in text.lines() {

@@ -31,6 +31,7 @@ const MACHINE_LENGTH: usize = 66_192;
 
 /// How many true tests of `while` the source may make, and how many steps the machine.
 const TURNS: u64 = 1000;
+
 const STEPS: u64 = 100_000;
 
 const ARGUMENTS: [Reg; 6] = [Reg::Rdi, Reg::Rsi, Reg::Rdx, Reg::Rcx, Reg::R8, Reg::R9];
@@ -128,7 +129,10 @@ fn start(numbers: &Seq<u64>) -> State {
 
 /// The low bits of the registers of results.
 fn results_of(alloc: Global, state: &State, rets: &Seq<Arg>) -> Result<Seq<Word>, AllocError> {
-    rets.try_map(alloc, |ret| Ok(Word::truncate(ret.size, state.reg(ret.reg))))
+    rets.try_map(
+        alloc,
+        |ret| Ok(Word::truncate(ret.size, state.reg(ret.reg))),
+    )
 }
 
 /// The machine where the function starts.
