@@ -2,7 +2,7 @@ use Rattle.std.proofs.Common.{subst, sym}
 use Rattle.jz_texts.specs.Texts.{IsText}
 use Rattle.jz_texts.proofs.Reading.{read_so}
 use Rattle.jz_texts.proofs.Resolved.{stays}
-use Rattle.jz_compiling_tests.proofs.listing_tests.typed_text.Goals as goal
+use Rattle.jz_compiling_tests.proofs.texts.typed_text.Goals as goal
 
 pub returns : goal.returns
 returns c =
