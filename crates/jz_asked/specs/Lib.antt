@@ -1,0 +1,3 @@
+pub mod Asked
+pub mod InnerAsked
+pub use Rattle.jz_alarms.specs.Conditions
