@@ -3,8 +3,8 @@ use Rattle.std.specs.Prelude.{ℤ, List, [], ◌∷◌, Some, option_map}
 use Rattle.jz_intervals.specs.declared.interval.Interval.{Interval}
 use Rattle.jz_meaning.specs.Values.{Ref, ref_of}
 use Rattle.jz_alarms.specs.Conditions as conditions
-use Rattle.jz_inside.specs.InnerWide.{value}
-use Rattle.jz_inside.specs.InnerNumbers.{shown}
+use Rattle.jz_wide.specs.Values.{value}
+use Rattle.jz_wide.specs.Sums.{shown}
 use Rattle.jz_inside.specs.InnerSums.{scaled_of}
 use Rattle.jz_inside.specs.declared.regions.Reading.{Reading}
 use Rattle.jz_inside.specs.declared.regions.Ends.{Ends}

@@ -4,7 +4,7 @@ use Rattle.jz_meaning.specs.Values.{Ref, ref_of}
 use Rattle.jz_terms.specs.Terms.{Term, num, var}
 use Rattle.jz_alarms.specs.Conditions as conditions
 use Rattle.jz_alarms.specs.Conditions.{joined}
-use Rattle.jz_inside.specs.InnerWide.{sum}
+use Rattle.jz_wide.specs.Values.{sum}
 use Rattle.jz_inside.specs.declared.sums.Scaled.{Scaled}
 use Rattle.jz_inside.specs.declared.sums.Sum.{Sum}
 

@@ -7,14 +7,14 @@ ghost use Rattle.jz_terms.specs.Terms.{term_of};
 ghost use Rattle.jz_inside.specs.Said.{given_in, facts_in};
 ghost use Rattle.jz_alarms.specs.Conditions as conditions;
 ghost use Rattle.jz_alarms.specs.Conditions.{sum_of, readings, readings_of};
-ghost use Rattle.jz_inside.specs.InnerNumbers.{shown, AreFew};
+ghost use Rattle.jz_wide.specs.Sums.{shown, AreFew};
 ghost use Rattle.jz_inside.specs.InnerSums.{seen};
 ghost use Rattle.jz_inside.specs.InnerReadings.{either_reading};
 
-use crate::numbers::Numbers;
+use jz_wide::Numbers;
 use crate::regions::{Reading, in_some_region};
 use crate::sums::{Scaled, Sum, add_sum};
-use crate::wide::total;
+use jz_wide::total;
 use jz_fact_sets::Saying;
 use jz_tree::{Expr, Var};
 use std::alloc::{AllocError, Global};

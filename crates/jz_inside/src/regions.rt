@@ -7,13 +7,13 @@ ghost use Rattle.jz_facts.specs.Facts.{Is, Under, least_of, lo_of};
 ghost use Rattle.jz_fact_sets.specs.Kept.{start_of, region_of};
 ghost use Rattle.jz_inside.specs.Said.{given_in, facts_in};
 ghost use Rattle.jz_alarms.specs.Conditions as conditions;
-ghost use Rattle.jz_inside.specs.InnerNumbers.{shown, AreFew};
+ghost use Rattle.jz_wide.specs.Sums.{shown, AreFew};
 ghost use Rattle.jz_inside.specs.InnerSums.{scaled_of};
 ghost use Rattle.jz_inside.specs.InnerReadings.{reading_of, interval_of};
 
-use crate::numbers::Numbers;
+use jz_wide::Numbers;
 use crate::sums::Scaled;
-use crate::wide::Wide;
+use jz_wide::Wide;
 use jz_fact_readings::Knows;
 use jz_fact_sets::{Parameter, Region, Saying, is_named, known};
 use jz_facts::same_variable;

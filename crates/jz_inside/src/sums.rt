@@ -48,10 +48,11 @@ impl<'e> Sum<'e> {
         ensures { OnOk result (seen self.new ≡ inner.with_number n (seen self.old)) }
     {
         if n < 0 {
-            self.taken.push(n.unsigned_abs())
-        } else {
-            self.added.push(n.unsigned_abs())
+            self.taken.push(n.unsigned_abs())?;
+            return Ok(());
         }
+        self.added.push(n.unsigned_abs())?;
+        Ok(())
     }
 
     /// Takes a number away.
@@ -59,10 +60,11 @@ impl<'e> Sum<'e> {
         ensures { OnOk result (seen self.new ≡ inner.without_number n (seen self.old)) }
     {
         if n < 0 {
-            self.added.push(n.unsigned_abs())
-        } else {
-            self.taken.push(n.unsigned_abs())
+            self.added.push(n.unsigned_abs())?;
+            return Ok(());
         }
+        self.taken.push(n.unsigned_abs())?;
+        Ok(())
     }
 }
 

@@ -1,6 +1,6 @@
 -- What a wide number is.
 use Rattle.std.specs.Prelude.{ℕ, ◌+◌, ◌*◌, ◌^◌, List, [], ◌∷◌}
-use Rattle.jz_inside.specs.declared.wide.Wide.{Wide}
+use Rattle.jz_wide.specs.declared.wide.Wide.{Wide}
 
 abbrev pub value : Wide → ℕ
 value w = w.high * 2 ^ 64 + w.low

@@ -1,21 +1,21 @@
 //! Numbers below 2 to the 192.
 
 ghost use Rattle.std.specs.Prelude.{◌≡◌, ◌<◌, ◌≤◌, ◌+◌, ◌-◌, ◌*◌, ◌^◌, nat_le};
-ghost use Rattle.jz_inside.specs.InnerWide.{value, sum};
+ghost use Rattle.jz_wide.specs.Values.{value, sum};
 
 /// 2 to the 64.
 const BASE: u128 = 0x1_0000_0000_0000_0000;
 
 /// 2 to the 64, `high` times, and `low`.
 #[derive(Clone, Copy)]
-pub(crate) struct Wide {
+pub struct Wide {
     high: u128,
     low: u64,
 }
 
 impl Wide {
     /// A number of 128 bits.
-    pub(crate) fn of(n: u128) -> Wide
+    pub fn of(n: u128) -> Wide
         ensures { value result ≡ n }
     {
         Wide {
@@ -25,7 +25,7 @@ impl Wide {
     }
 
     /// The product of a number of 128 bits and one of 64.
-    pub(crate) fn product(n: u128, times: u64) -> Wide
+    pub fn product(n: u128, times: u64) -> Wide
         ensures { value result ≡ n * times }
     {
         let times = times as u128;
@@ -38,7 +38,7 @@ impl Wide {
     }
 
     /// The sum of two, which is below 2 to the 192.
-    pub(crate) fn plus(self, other: Wide) -> Wide
+    pub fn plus(self, other: Wide) -> Wide
         requires { value self + value other < 2 ^ 192 }
         ensures { value result ≡ value self + value other }
     {
@@ -50,7 +50,7 @@ impl Wide {
     }
 
     /// Whether it is no greater than another one.
-    pub(crate) fn is_at_most(self, other: Wide) -> bool
+    pub fn is_at_most(self, other: Wide) -> bool
         ensures { result ≡ nat_le (value self) (value other) }
     {
         if self.high == other.high {
@@ -60,7 +60,7 @@ impl Wide {
     }
 
     /// What is left of it without another one, which is no greater.
-    pub(crate) fn minus(self, other: Wide) -> Wide
+    pub fn minus(self, other: Wide) -> Wide
         requires { value other ≤ value self }
         ensures { value result ≡ value self - value other }
     {
@@ -78,7 +78,7 @@ impl Wide {
 }
 
 /// The sum of numbers of 128 bits.
-pub(crate) fn total(numbers: &[u128]) -> Wide
+pub fn total(numbers: &[u128]) -> Wide
     ensures all { value result ≡ sum numbers.now }
     ensures few { value result ≤ 2 ^ 191 }
 {

@@ -1,7 +1,7 @@
 -- Numbers that are added and taken away.
 use Rattle.std.specs.Prelude.{◌≤◌, ◌^◌, ℤ, pos, ◌-ℤ◌}
-use Rattle.jz_inside.specs.InnerWide.{value}
-use Rattle.jz_inside.specs.declared.numbers.Numbers.{Numbers}
+use Rattle.jz_wide.specs.Values.{value}
+use Rattle.jz_wide.specs.declared.numbers.Numbers.{Numbers}
 
 abbrev pub shown : Numbers → ℤ
 shown n = pos (value n.added) -ℤ pos (value n.taken)

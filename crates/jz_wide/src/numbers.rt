@@ -2,22 +2,22 @@
 
 ghost use Rattle.std.specs.Prelude.{◌≡◌, ◌≤◌, ◌<◌, ◌+◌, ◌^◌, pos, ◌+ℤ◌, int_le};
 ghost use Rattle.x64_insn.specs.Sizes.{bytes_of};
-ghost use Rattle.jz_inside.specs.InnerWide.{value};
-ghost use Rattle.jz_inside.specs.InnerNumbers.{shown, AreFew};
+ghost use Rattle.jz_wide.specs.Values.{value};
+ghost use Rattle.jz_wide.specs.Sums.{shown, AreFew};
 
 use crate::wide::Wide;
 use x64_insn::Size;
 
 /// What numbers that are added make, and what those make that are taken away.
 #[derive(Clone, Copy)]
-pub(crate) struct Numbers {
-    pub(crate) added: Wide,
-    pub(crate) taken: Wide,
+pub struct Numbers {
+    pub added: Wide,
+    pub taken: Wide,
 }
 
 impl Numbers {
     /// The same with the bytes of a size.
-    pub(crate) fn with_size(self, size: Size) -> Numbers
+    pub fn with_size(self, size: Size) -> Numbers
         requires { AreFew self }
         ensures more { shown result ≡ pos (bytes_of size) +ℤ shown self }
         ensures taken { result.taken ≡ self.taken }
@@ -29,7 +29,7 @@ impl Numbers {
     }
 
     /// Whether it is 0 or more beside this number.
-    pub(crate) fn is_from_zero(self, lo: Wide) -> bool
+    pub fn is_from_zero(self, lo: Wide) -> bool
         ensures { result ≡ int_le (pos 0) (pos (value lo) +ℤ shown self) }
     {
         if self.taken.is_at_most(self.added) {
@@ -39,7 +39,7 @@ impl Numbers {
     }
 
     /// Whether it is no more than `end` beside this number.
-    pub(crate) fn is_to(self, hi: Wide, end: u128) -> bool
+    pub fn is_to(self, hi: Wide, end: u128) -> bool
         requires { value self.taken ≤ 2 ^ 191 }
         ensures { result ≡ int_le (pos (value hi) +ℤ shown self) (pos end) }
     {
