@@ -1,22 +1,13 @@
 -- What a walk over a body keeps, and what it needs.
-use Rattle.std.specs.Prelude.{◌≡◌, ◌⊎◌, ◌+◌, ◌<◌, ◌≤◌, ℕ, Bool, true, not, is_some, List, length, Option, Some, None, slice_get}
+use Rattle.std.specs.Prelude.{◌≡◌, ◌⊎◌, ◌+◌, ◌<◌, ◌≤◌, ℕ, true, not, is_some, List, length, None, slice_get}
 use Rattle.indexmap.specs.IndexMap.{IndexMap}
-use Rattle.jz_tree.specs.Span.{Span}
-use Rattle.jz_tree.specs.declared.expr.BinOp.{BinOp}
-use Rattle.jz_tree.specs.declared.expr.Expr.{Expr}
-use Rattle.jz_tree.specs.declared.stmt.Lval.{Lval}
-use Rattle.jz_tree.specs.declared.stmt.Rhs.{Rhs}
-use Rattle.jz_tree.specs.declared.stmt.Rhs.TheVariants as rhs
-use Rattle.jz_tree.specs.declared.stmt.Stmt.{Stmt}
 use Rattle.jz_runs.specs.Trees.{done, loop}
 use Rattle.jz_meaning.specs.Runs.{block}
-use Rattle.jz_meaning.specs.Statements.{Operation, assign, instruction, meaningless, Condition, Block}
+use Rattle.jz_meaning.specs.Statements.{Condition, Block}
 use Rattle.jz_flow.specs.Sets.{Below}
 use Rattle.jz_flow.specs.Flow.{After}
-use Rattle.jz_terms.specs.Terms.{Term, truth, term_of}
 use Rattle.jz_facts.specs.Facts.{Facts}
 use Rattle.jz_facts.specs.Along.{fact_steps}
-use Rattle.jz_facts.specs.Tests.{adds, ◌and◌}
 use Rattle.jz_layers.specs.declared.named.Named.{Named}
 use Rattle.jz_layers.specs.declared.layers.Layers.{Layers}
 use Rattle.jz_fact_sets.specs.declared.given.Given as code
@@ -25,13 +16,9 @@ use Rattle.jz_fact_sets.specs.Kept.{AreDifferent, given_of, facts_of}
 use Rattle.jz_test_facts.specs.Comparing.{AreWords}
 use Rattle.jz_block_facts.specs.declared.looping.Loop.{Loop}
 use Rattle.jz_block_facts.specs.Heads.{no_callees, HasNoFor, loops, AreHeads}
+use Rattle.jz_block_facts.specs.Pieces.{body_piece, answered}
 
--- ---- pieces of trees, before what follows
-
--- a body that may be absent
-abbrev pub body_piece : Option (List Stmt) → Block → Block
-body_piece None rest = rest
-body_piece (Some ss) rest = block no_callees ss rest
+-- ---- pieces of loops, before what follows
 
 abbrev pub condition_of : Loop → Condition
 condition_of l = record { cond = l.cond.now; at = l.span }
@@ -45,23 +32,6 @@ turn_piece l = body_piece l.body.now
 abbrev pub loop_piece : Loop → Block → Block
 loop_piece l =
     loop (not (is_some l.body.now)) (prologue_piece l done) (condition_of l) (turn_piece l done)
-
--- what an assignment is at a place
-abbrev pub operation_of :
-    List Lval → Option BinOp → Rhs → Option Expr → Span → Operation
-operation_of to o (rhs.Value e) c at = assign to o e c at
-operation_of to o (rhs.Call n args place) c at = meaningless place
-operation_of to None (rhs.Intrinsic n args place) None at = instruction to n args place
-operation_of to o (rhs.Intrinsic n args place) c at = meaningless place
-
--- `true`
-abbrev pub is_truth : Term → Bool
-is_truth (truth b at) = b
-is_truth t = false
-
--- behind a test with its answer
-abbrev pub answered : code.Given → Expr → Bool → Facts → Facts
-answered g e z s = s and adds (given_of g) s (term_of e) z
 
 -- ---- where a walk stands: the facts, the number of the next loop, the tables of heads
 pub record Place (S : Type 0) : Type 0 where

@@ -9,3 +9,5 @@ mod walk;
 
 pub use bodies::{heads_of, holds_after};
 pub use laying::{lay, meet_both, taken};
+pub use looping::leave;
+pub use single::{after_single, open_arm};

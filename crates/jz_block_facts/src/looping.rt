@@ -15,7 +15,7 @@ ghost use Rattle.jz_fact_sets.specs.Kept.{AreDifferent, given_of, facts_of, know
 ghost use Rattle.jz_fact_sets.specs.Meeting.{Falls, amount};
 ghost use Rattle.jz_test_facts.specs.Comparing.{AreWords};
 ghost use Rattle.jz_block_facts.specs.Heads.{laid};
-ghost use Rattle.jz_block_facts.specs.InnerWalks.{is_truth};
+ghost use Rattle.jz_block_facts.specs.Pieces.{is_truth};
 
 use crate::laying::{lay, taken};
 use indexmap::IndexMap;
@@ -114,22 +114,19 @@ fn is_true(e: &Expr) -> bool
     }
 }
 
-/// What holds behind a loop, by its head's table and what the prologue lays over it.
-fn leave<'a>(
+/// What holds behind a loop, where its head holds, by what its prologue lays over that.
+pub fn leave<'a>(
     given: &Given,
     set: &mut FactSet<'a>,
-    head: &Table<'a>,
-    prologue: &Table<'a>,
     cond: &'a Expr,
+    prologue: &Table<'a>,
 ) -> Result<(), AllocError>
     requires { AreWords given.now.constants }
     ensures below { OnOk result (set.new.below.items ≡ set.old.below.items) }
-    ensures facts { OnOk result ((at : Place)
-        → let h = laid given.now head.now (facts_of given.now set.old) in
-        facts_of given.now set.new ≡ leaves (given_of given.now)
-        (record { cond = cond.now; at = at }) h (laid given.now prologue.now h)) }
+    ensures facts { OnOk result ((at : Place) → facts_of given.now set.new
+        ≡ leaves (given_of given.now) (record { cond = cond.now; at = at })
+        (facts_of given.now set.old) (laid given.now prologue.now (facts_of given.now set.old))) }
 {
-    lay(set, head)?;
     if is_true(cond) {
         return Ok(());
     }
@@ -167,7 +164,8 @@ pub(crate) fn end_loop<'a>(
         ≡ slice_set heads.old.items at set.old.top) }
 {
     let head = taken(set);
-    leave(given, set, &head, prologue, cond)?;
+    lay(set, &head)?;
+    leave(given, set, cond, prologue)?;
     put_head(heads, at, head);
     Ok(())
 }

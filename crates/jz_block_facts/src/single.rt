@@ -5,7 +5,7 @@ ghost use Rattle.jz_tree.specs.Span.{Span};
 ghost use Rattle.jz_facts.specs.Holding.{does};
 ghost use Rattle.jz_fact_sets.specs.Kept.{AreDifferent, given_of, facts_of};
 ghost use Rattle.jz_test_facts.specs.Comparing.{AreWords};
-ghost use Rattle.jz_block_facts.specs.InnerWalks.{answered, operation_of};
+ghost use Rattle.jz_block_facts.specs.Pieces.{answered, operation_of};
 
 use jz_fact_sets::{FactSet, Given};
 use jz_fact_writes::{after_assignment, after_instruction};
@@ -14,7 +14,7 @@ use jz_tree::{BinOp, Expr, Lval, Rhs, Seq};
 use std::alloc::AllocError;
 
 /// Behind an assignment. A call is followed nowhere.
-pub(crate) fn after_single<'a>(
+pub fn after_single<'a>(
     given: &Given,
     set: &mut FactSet<'a>,
     to: &'a Seq<Lval>,
@@ -48,7 +48,7 @@ pub(crate) fn after_single<'a>(
 }
 
 /// Opens a table for an arm behind a test with its answer.
-pub(crate) fn open_arm<'a>(
+pub fn open_arm<'a>(
     given: &Given,
     set: &mut FactSet<'a>,
     cond: &'a Expr,

@@ -9,7 +9,8 @@ ghost use Rattle.jz_layers.specs.Layered.{seen};
 ghost use Rattle.jz_fact_sets.specs.Kept.{facts_of};
 ghost use Rattle.jz_block_facts.specs.Heads.{no_callees, laid};
 ghost use Rattle.jz_block_facts.specs.InnerWalks.{IsReady, IsTurnReady, Leads, Place, Turns};
-ghost use Rattle.jz_block_facts.specs.InnerWalks.{answered, loop_piece, place_of, turn_piece};
+ghost use Rattle.jz_block_facts.specs.InnerWalks.{loop_piece, place_of, turn_piece};
+ghost use Rattle.jz_block_facts.specs.Pieces.{answered};
 
 use crate::laying::{meet_both, taken};
 use crate::looping::{Loop, end_loop, lower_head, open_head};
