@@ -1,0 +1,6 @@
+pub mod Laying
+pub mod Splitting
+pub mod Greatest
+pub mod Measures
+pub mod Leading
+pub mod Turning

@@ -1,0 +1,3 @@
+pub mod Heads
+pub mod Pieces
+pub mod InnerWalks

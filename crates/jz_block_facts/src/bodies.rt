@@ -1,0 +1,55 @@
+//! Facts of whole bodies.
+
+ghost use Rattle.std.specs.Prelude.{◌≡◌, OnOk, IfOk};
+ghost use Rattle.jz_flow.specs.Flow.{After};
+ghost use Rattle.jz_facts.specs.Along.{fact_steps};
+ghost use Rattle.jz_layers.specs.Layered.{seen};
+ghost use Rattle.jz_fact_sets.specs.Kept.{AreDifferent, given_of, facts_of};
+ghost use Rattle.jz_test_facts.specs.Comparing.{AreWords};
+ghost use Rattle.jz_block_facts.specs.Heads.{AreHeads, HasNoFor, plain_block};
+
+use crate::walk::walk_block;
+use jz_fact_sets::{FactSet, Given, Table};
+use jz_tree::{Seq, Stmt};
+use std::alloc::AllocError;
+
+/// Behind statements of an expanded function, in which there is no `for`.
+pub fn holds_after<'a>(
+    given: &Given,
+    set: &mut FactSet<'a>,
+    stmts: &'a Seq<Stmt>,
+) -> Result<(), AllocError>
+    requires different { AreDifferent given.now.params }
+    requires words { AreWords given.now.constants }
+    requires plain { HasNoFor (plain_block stmts.now) }
+    ensures below { OnOk result (set.new.below.items ≡ set.old.below.items) }
+    ensures facts { OnOk result (After (fact_steps (given_of given.now)) (plain_block stmts.now)
+        (facts_of given.now set.old) (facts_of given.now set.new)) }
+{
+    let mut heads = Vec::new(set.allocator());
+    walk_block(given, set, &mut heads, 0, stmts)?;
+    Ok(())
+}
+
+/// The heads of the loops of statements of an expanded function, in which there is no `for`, one
+/// table for each loop in the order of the text: what holds at its head where the table lies over
+/// what comes in. The set is then as it was.
+pub fn heads_of<'a>(
+    given: &Given,
+    set: &mut FactSet<'a>,
+    stmts: &'a Seq<Stmt>,
+) -> Result<Vec<Table<'a>>, AllocError>
+    requires different { AreDifferent given.now.params }
+    requires words { AreWords given.now.constants }
+    requires plain { HasNoFor (plain_block stmts.now) }
+    ensures below { OnOk result (set.new.below.items ≡ set.old.below.items) }
+    ensures seen { OnOk result (seen set.new ≡ seen set.old) }
+    ensures heads { IfOk result (λ heads. AreHeads given.now (plain_block stmts.now) 0
+        heads.items (facts_of given.now set.old)) }
+{
+    let mut heads = Vec::new(set.allocator());
+    set.open()?;
+    walk_block(given, set, &mut heads, 0, stmts)?;
+    set.close();
+    Ok(heads)
+}
