@@ -64,10 +64,7 @@ pub(crate) fn asks_access<'e>(
     let inside = is_inside(alloc, says, size, address)?;
     let aligned = is_unaligned(access) || is_multiple(&says, address, bytes(size));
     let first = unless(inside, span, Why::Address, About::Memory);
-    Ok(first_of(
-        first,
-        unless(aligned, span, Why::Align, About::Memory),
-    ))
+    Ok(first_of(first, unless(aligned, span, Why::Align, About::Memory)))
 }
 
 /// Whether a division by this is never stuck.

@@ -55,12 +55,7 @@ pub(crate) fn first_of<'e>(a: Option<Asked<'e>>, b: Option<Asked<'e>>) -> Option
 }
 
 /// Where a condition holds there is no alarm.
-pub(crate) fn unless<'e>(
-    holds: bool,
-    span: Span,
-    why: Why,
-    of: About<'e>,
-) -> Option<Asked<'e>>
+pub(crate) fn unless<'e>(holds: bool, span: Span, why: Why, of: About<'e>) -> Option<Asked<'e>>
     ensures { shown result ≡ conditions.unless holds span why (about of.entry) }
 {
     if holds {
@@ -84,10 +79,7 @@ fn target(alloc: Global, of: About<'_>) -> Result<Target, AllocError>
 }
 
 /// An alarm with names of its own.
-pub(crate) fn owned(
-    alloc: Global,
-    asked: Option<Asked<'_>>,
-) -> Result<Option<Alarm>, AllocError>
+pub(crate) fn owned(alloc: Global, asked: Option<Asked<'_>>) -> Result<Option<Alarm>, AllocError>
     ensures { IfOk result (λ alarm. found_of alarm ≡ shown asked.entry) }
 {
     match asked {

@@ -58,11 +58,7 @@ fn is_within(kind: Kind, index: Interval) -> bool
 }
 
 /// An index is one of an array's cells.
-pub(crate) fn asks_index<'e>(
-    says: Saying<'_, '_>,
-    var: &'e Var,
-    index: &Expr,
-) -> Option<Asked<'e>>
+pub(crate) fn asks_index<'e>(says: Saying<'_, '_>, var: &'e Var, index: &Expr) -> Option<Asked<'e>>
     ensures { shown result ≡ conditions.asks_index (given_in says.entry) (facts_in says.entry)
         (ref_of var.now) (term_of index.now) }
 {

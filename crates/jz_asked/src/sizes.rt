@@ -87,11 +87,7 @@ fn first_size(operands: &[Expr]) -> Option<Size>
 }
 
 /// The size of the words of an instruction.
-pub(crate) fn intrinsic_size(
-    instance: Instance,
-    to: &Seq<Lval>,
-    operands: &[Expr],
-) -> Option<Size>
+pub(crate) fn intrinsic_size(instance: Instance, to: &Seq<Lval>, operands: &[Expr]) -> Option<Size>
     ensures { result ≡ intrinsics.intrinsic_size instance.name instance.size to.now
         operands.now }
 {

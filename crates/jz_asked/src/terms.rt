@@ -61,10 +61,7 @@ fn asks_behind<'e>(
         (facts_in says.entry) op wanted (term_of right.now) span) }
 {
     let found = asks(alloc, says, right_wanted(op, wanted), right)?;
-    Ok(first_of(
-        found,
-        asks_divisor(says, op, wanted, right, span),
-    ))
+    Ok(first_of(found, asks_divisor(says, op, wanted, right, span)))
 }
 
 /// Of a cell that is read.

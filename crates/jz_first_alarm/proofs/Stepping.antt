@@ -58,8 +58,14 @@ module _ (g : code.Given) where
       next = count i j k (loops (a done)) (loops (b done)) p.next q.next;
       after = λ r z f. (x, y, p.after done x refl, q.after done y refl, subst (λ u. After (fact_steps (given_of g)) r u z) e f);
       first = λ xs r w f. skipped (asks_test (given_of g) c s) w none (
-        None, p.first [] done None refl, skipped None w refl (
-          None, q.first [] done None refl, skipped None w refl (x, y, p.after done x refl, q.after done y refl, subst (λ u. FirstIn g r u w xs) e f)));
+        None,
+        p.first [] done None refl,
+        skipped None w refl (
+          None,
+          q.first [] done None refl,
+          skipped None w refl (x, y, p.after done x refl, q.after done y refl, subst (λ u. FirstIn g r u w xs) e f),
+        ),
+      );
     }
       where
         count : (i j k n m : ℕ) → j ≡ i + n → k ≡ j + m → k ≡ i + (n + m + 0)
@@ -86,18 +92,38 @@ module _ (g : code.Given) where
       loop_test_stops v e xs r = (h, head, None, turn.first [] done None refl, skipped None (Some v) refl (q, turn.after done q refl, told (asks_test (given_of g) c q) v e))
 
       pub body_stops : (v : Alarm) → asks_test (given_of g) c q ≡ None → Stops g b (tested (given_of g) c true q) v → Stops g (loop w0 (p done) c (b done)) s v
-      body_stops v n z xs r =
-          (h, head, None, turn.first [] done None refl, skipped None (Some v) refl (
-            q, turn.after done q refl, skipped (asks_test (given_of g) c q) (Some v) n (Some v, z [] done, told (Some v) v refl)))
+      body_stops v n z xs r = (
+        h,
+        head,
+        None,
+        turn.first [] done None refl,
+        skipped None (Some v) refl (
+          q,
+          turn.after done q refl,
+          skipped (asks_test (given_of g) c q) (Some v) n (Some v, z [] done, told (Some v) v refl),
+        ),
+      )
 
       pub loop_goes : (k : ℕ) (y t : Facts) → asks_test (given_of g) c q ≡ None → Goes g b j (tested (given_of g) c true q) k y → t ≡ leaves (given_of g) c h q
           → Goes g (loop w0 (p done) c (b done)) i s k t
       loop_goes k y t n z e = record {
         next = count i j k (loops (p done)) (loops (b done)) turn.next z.next;
         after = λ r u f. (h, q, head, turn.after done q refl, subst (λ x. After (fact_steps (given_of g)) r x u) e f);
-        first = λ xs r w f. (h, head, None, turn.first [] done None refl, skipped None w refl (
-          q, turn.after done q refl, skipped (asks_test (given_of g) c q) w n (
-            None, z.first [] done None refl, skipped None w refl (subst (λ x. FirstIn g r x w xs) e f))));
+        first = λ xs r w f. (
+          h,
+          head,
+          None,
+          turn.first [] done None refl,
+          skipped None w refl (
+            q,
+            turn.after done q refl,
+            skipped (asks_test (given_of g) c q) w n (
+              None,
+              z.first [] done None refl,
+              skipped None w refl (subst (λ x. FirstIn g r x w xs) e f),
+            ),
+          ),
+        );
       }
         where
           count : (i j k n m : ℕ) → j ≡ suc i + n → k ≡ j + m → k ≡ i + suc (n + m + 0)

@@ -88,11 +88,7 @@ pub(crate) fn ask_single<'a>(
 }
 
 /// The conditions of a test.
-pub(crate) fn ask_test(
-    given: &Given,
-    set: &FactSet<'_>,
-    cond: &Expr,
-) -> Result<(), Failure<Alarm>>
+pub(crate) fn ask_test(given: &Given, set: &FactSet<'_>, cond: &Expr) -> Result<(), Failure<Alarm>>
     ensures none { OnOk result ((at : Where) → conditions.asks_test (given_of given.now)
         (record { cond = cond.now; at = at }) (facts_of given.now set.now) ≡ None) }
     ensures some { IfErr result (λ failure. IfRefused failure (λ alarm. (at : Where)

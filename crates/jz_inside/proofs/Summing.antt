@@ -54,7 +54,7 @@ regroup a b c = omega (arith, ints)
 joined_thrice : (a b s : Sum) → joined (Some a) (joined (Some b) (Some s)) ≡ joined (joined (Some a) (Some b)) (Some s)
 joined_thrice a b s =
     ap Some (same_sum (a.plain ++ (b.plain ++ s.plain)) ((a.plain ++ b.plain) ++ s.plain) (a.scaled ++ (b.scaled ++ s.scaled)) ((a.scaled ++ b.scaled) ++ s.scaled) (a.more +ℤ (b.more +ℤ s.more)) ((a.more +ℤ b.more) +ℤ s.more)
-        (sym (append_assoc a.plain b.plain s.plain)) (sym (append_assoc a.scaled b.scaled s.scaled)) (regroup a.more b.more s.more))
+    (sym (append_assoc a.plain b.plain s.plain)) (sym (append_assoc a.scaled b.scaled s.scaled)) (regroup a.more b.more s.more))
 
 -- a sum more behind a left operand
 pub after_add : (q r : Option Sum) (yes : Bool) (s t : Sum) → if_sum yes t ≡ joined r (Some s) → behind (unless_no yes) q t ≡ joined (joined q r) (Some s)

@@ -11,12 +11,11 @@ ghost use Rattle.jz_wide.specs.Sums.{shown, AreFew};
 ghost use Rattle.jz_inside.specs.InnerSums.{seen};
 ghost use Rattle.jz_inside.specs.InnerReadings.{either_reading};
 
-use jz_wide::Numbers;
 use crate::regions::{Reading, in_some_region};
 use crate::sums::{Scaled, Sum, add_sum};
-use jz_wide::total;
 use jz_fact_sets::Saying;
 use jz_tree::{Expr, Var};
+use jz_wide::{Numbers, total};
 use std::alloc::{AllocError, Global};
 use x64_insn::Size;
 
@@ -33,13 +32,7 @@ fn numbers_of(sum: &Sum<'_>) -> Numbers
 
 /// Whether an access lies in some region where one of two variables is the base and the other one
 /// the index.
-fn in_either(
-    says: Saying<'_, '_>,
-    size: Size,
-    first: &Var,
-    second: &Var,
-    more: Numbers,
-) -> bool
+fn in_either(says: Saying<'_, '_>, size: Size, first: &Var, second: &Var, more: Numbers) -> bool
     requires { AreFew more }
     ensures { result ≡ conditions.in_some_reading (given_in says.entry)
         (facts_in says.entry) (bytes_of size)
@@ -69,10 +62,26 @@ fn in_some_reading(says: Saying<'_, '_>, size: Size, sum: &Sum<'_>) -> bool
     match sum.plain.as_slice() {
         [] => false,
         [base] => match scaled {
-            [] => in_some_region(says, size, Reading { base: *base, index: None, more }),
+            [] => in_some_region(
+                says,
+                size,
+                Reading {
+                    base: *base,
+                    index: None,
+                    more,
+                },
+            ),
             [index] => {
                 let index = Some(*index);
-                in_some_region(says, size, Reading { base: *base, index, more })
+                in_some_region(
+                    says,
+                    size,
+                    Reading {
+                        base: *base,
+                        index,
+                        more,
+                    },
+                )
             }
             [_, _, ..] => false,
         },

@@ -11,13 +11,12 @@ ghost use Rattle.jz_wide.specs.Sums.{shown, AreFew};
 ghost use Rattle.jz_inside.specs.InnerSums.{scaled_of};
 ghost use Rattle.jz_inside.specs.InnerReadings.{reading_of, interval_of};
 
-use jz_wide::Numbers;
 use crate::sums::Scaled;
-use jz_wide::Wide;
 use jz_fact_readings::Knows;
 use jz_fact_sets::{Parameter, Region, Saying, is_named, known};
 use jz_facts::same_variable;
 use jz_tree::Var;
+use jz_wide::{Numbers, Wide};
 use x64_insn::Size;
 
 /// A base, an index that is scaled, and numbers.

@@ -208,11 +208,7 @@ fn product<'e>(left: &'e Expr, right: &'e Expr) -> Option<Scaled<'e>>
 }
 
 /// Adds a product, if it is a scaled variable; whether it is one.
-fn add_product<'e>(
-    sum: &mut Sum<'e>,
-    left: &'e Expr,
-    right: &'e Expr,
-) -> Result<bool, AllocError>
+fn add_product<'e>(sum: &mut Sum<'e>, left: &'e Expr, right: &'e Expr) -> Result<bool, AllocError>
     ensures { IfOk result (λ yes. (at : Span) → if_sum yes (seen sum.new)
         ≡ joined (inner.of_product (inner.product (term_of left.now) (term_of right.now)))
         (Some (seen sum.old))) }
