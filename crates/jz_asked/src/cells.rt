@@ -1,6 +1,6 @@
 //! Conditions of variables and of arrays.
 
-ghost use Rattle.std.specs.Prelude.{◌≡◌};
+ghost use Rattle.std.specs.Prelude.{◌≡◌, ◌≤◌, ◌^◌};
 ghost use Rattle.jz_layers.specs.Spots.{variable_key};
 ghost use Rattle.jz_meaning.specs.Values.{ref_of};
 ghost use Rattle.jz_terms.specs.Terms.{term_of};
@@ -71,11 +71,31 @@ pub(crate) fn asks_index<'e>(says: Saying<'_, '_>, var: &'e Var, index: &Expr) -
     )
 }
 
+/// 2 to the 64.
+const PAST: u128 = 0x1_0000_0000_0000_0000;
+
 /// Whether the facts say that a cell is set.
 fn is_cell_set(says: Saying<'_, '_>, var: &Var, index: u64) -> bool
     ensures { result ≡ facts_in says.entry (Cell (variable_key var.now) index) }
 {
     known_at(says.set, Named::cell_of(var, index)).set
+}
+
+/// Nothing is known of cells past the 64 bits of an index.
+fn is_set_past(says: Saying<'_, '_>, var: &Var, index: u128) -> bool
+    requires { 2 ^ 64 ≤ index }
+    ensures { result ≡ facts_in says.entry (Cell (variable_key var.now) index) }
+{
+    false
+}
+
+fn is_set_at(says: Saying<'_, '_>, var: &Var, index: u128) -> bool
+    ensures { result ≡ facts_in says.entry (Cell (variable_key var.now) index) }
+{
+    if index >= PAST {
+        return is_set_past(says, var, index);
+    }
+    is_cell_set(says, var, index as u64)
 }
 
 /// Whether they say it of so many first cells.
@@ -86,7 +106,7 @@ fn are_cells_set(says: Saying<'_, '_>, var: &Var, cells: u128) -> bool
     let mut rest = cells;
     while rest > 0 {
         rest -= 1;
-        if !is_cell_set(says, var, rest as u64) {
+        if !is_set_at(says, var, rest) {
             return false;
         }
     }
