@@ -1,0 +1,4 @@
+pub mod AlarmLines
+pub mod Safety
+pub mod Causes
+pub mod Answers
