@@ -2,3 +2,4 @@ pub mod AlarmLines
 pub mod Safety
 pub mod Causes
 pub mod Answers
+pub mod InnerSafety
