@@ -180,6 +180,9 @@ module _ {S : Type 0} (g : code.Given) (l : Loop) where
   one_turn : (now : Place S) (q : Facts) (z : Place S) → Turns g l now q z → OneTurn (fact_steps (given_of g)) (prologue_piece l done) (condition_of l) (turn_piece l done) now.facts z.facts
   one_turn now q z t = (q, t.prologue.after done q refl, t.body.after done z.facts refl)
 
+  pub still_there : (p now : Place S) (q : Facts) (z : Place S) → Heading p now → Turns g l now q z → p.next < length z.heads
+  still_there p now q z h t = let a = t.prologue.next in let b = t.body.next in let i = h.inner in let v = t.body.within in omega (arith, a, b, i, v)
+
   pub turned : (p now : Place S) (q : Facts) (z : Place S) (x : Facts) → Heading p now → Turns g l now q z → x ≡ common now.facts z.facts → Heading p (record { facts = x; next = now.next; heads = z.heads })
   turned p now q z x h t e =
       let m = t.prologue.next in

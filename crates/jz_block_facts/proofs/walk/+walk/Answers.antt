@@ -1,17 +1,19 @@
 use Rattle.std.proofs.Common.{◌≡◌, ◌<◌, ◌≤◌, ◌+◌, ◌*◌, length, get_or, true, false, Some, None, refl, sym, ap, ◌∙◌, subst, arith, rules}
-use Rattle.std.specs.Prelude.{not, is_some}
+use Rattle.std.specs.Prelude.{suc, not, is_some, slice_get}
 use Rattle.jz_runs.specs.Trees.{done, op, quiet, choose, loop}
 use Rattle.jz_meaning.specs.Statements.{unset}
 use Rattle.jz_meaning.specs.Runs.{block, statement_tree}
 use Rattle.jz_flow.specs.Sets.{common}
-use Rattle.jz_fact_sets.specs.Kept.{facts_of, known_at}
+use Rattle.jz_facts.specs.Tests.{leaves}
+use Rattle.jz_fact_sets.specs.Kept.{given_of, facts_of, known_at, known_or}
+use Rattle.jz_fact_sets.specs.Meeting.{amount, Falls}
 use Rattle.jz_block_facts.specs.Heads.{no_callees, HasNoFor, laid}
 use Rattle.jz_block_facts.specs.Pieces.{body_piece, operation_of, answered}
 use Rattle.jz_block_facts.specs.InnerWalks.{place_of, loop_piece, turn_piece, prologue_piece, condition_of}
-use Rattle.jz_block_facts.proofs.Laying.{returned, facts_seen, facts_as}
+use Rattle.jz_block_facts.proofs.Laying.{returned, facts_seen, facts_as, over_facts, none_more}
 use Rattle.jz_block_facts.proofs.Splitting.{if_is, assign_is, mark_is, for_is, while_is}
 use Rattle.jz_block_facts.proofs.Measures.{weights, body_weight, weights_at, weight_if, weight_while, falls_to}
-use Rattle.jz_block_facts.proofs.Turning.{prologue_ready, rest_ready, never_empty, each_way, begins, turned, ends}
+use Rattle.jz_block_facts.proofs.Turning.{prologue_ready, rest_ready, never_empty, each_way, begins, still_there, turned, ends}
 use Rattle.jz_block_facts.proofs.Leading.{nothing_leads, none_on, one_ready, one_on, all_on, ready_as, leads_as, ready_from, leads_from, op_leads, quiet_leads, yes_ready, no_ready, arms_lead}
 use Rattle.jz_block_facts.proofs.walk.+walk.Goals as goal
 
@@ -232,3 +234,90 @@ walk_turn-returns-clause-turns t c =
       body = leads_from g (turn_piece l) _ _ _ _ c.in_ok-middle.middle c.in_ok-arm.arm.next c.walk_block-middle.new.heads.items c.walk_rest-arm.new.heads.items
           (ap (answered g l.cond.now true) is_q) (ap (laid g c.in_ok-arm.arm.table) is_q) c.in_ok-arm.ensures.leads;
     }
+
+-- ---- a loop
+
+pub walk_while-open_head-requires : goal.walk_while-open_head-requires
+walk_while-open_head-requires t c = c.requires.within
+
+pub walk_while-loop-set-init : goal.walk_while-loop-set-init
+walk_while-loop-set-init t c =
+    let g = c.args.given.now in
+    let zero = c.args.set.now in
+    let one = c.open_head-inner.new.set in
+    let n = c.in_ok-inner.ensures.next in
+    let inner : c.in_ok-inner.inner ≡ suc c.args.at = omega (arith, n) in
+    (
+      c.in_ok-inner.ensures.below,
+      c.in_ok-inner.ensures.less,
+      begins g c.args.parts (place_of g zero c.args.at c.args.heads.now.items) (place_of g one c.in_ok-inner.inner c.open_head-inner.new.heads.items) c.requires inner c.in_ok-inner.ensures.within c.in_ok-inner.ensures.others
+          (each_way _ _ _ _ (slice_get c.args.heads.now.items c.args.at) (λ h. h g) (λ m h. h g c.requires.different) c.in_ok-inner.ensures.facts),
+    )
+
+pub walk_while-walk_turn-requires : goal.walk_while-walk_turn-requires
+walk_while-walk_turn-requires t c = (omega (arith, c.decreases), c.loop-set.invariant.2.ready)
+
+pub walk_while-loop-set-preserved : goal.walk_while-loop-set-preserved
+walk_while-loop-set-preserved t c =
+    let g = c.args.given.now in
+    let l = c.args.parts in
+    let zero = c.args.set.now in
+    let now = c.loop-set.set in
+    let two = c.walk_turn-turn.new.set in
+    let three = c.lower_head-fell.new.set in
+    let a = c.in_ok-turn.turn in
+    let same = facts_seen g now two c.in_ok-turn.ensures.seen in
+    (
+      c.in_ok-fell.ensures.below ∙ c.in_ok-turn.ensures.below ∙ c.loop-set.invariant.0,
+      λ k. let x = none_more c.in_ok-fell.fell (known_at two) (known_at three) c.in_ok-fell.ensures.same c.in_ok-fell.ensures.falls k in
+          let y = ap (λ s. amount (known_or (s k))) c.in_ok-turn.ensures.seen in
+          let z = c.loop-set.invariant.1 k in
+          omega (arith, x, y, z),
+      turned g l (place_of g zero c.args.at c.args.heads.now.items) (place_of g now c.in_ok-inner.inner c.loop-set.heads.items) (laid g a.prologue (facts_of g now))
+          (record { facts = laid g a.body (laid g a.prologue (facts_of g now)); next = a.next; heads = c.walk_turn-turn.new.heads.items }) (facts_of g three)
+          c.loop-set.invariant.2 c.in_ok-turn.ensures.turns
+          (c.in_ok-fell.ensures.facts g c.requires.different ∙ ap (λ s. common s (laid g a.body (laid g a.prologue s))) same),
+    )
+
+pub walk_while-loop-set-smaller : goal.walk_while-loop-set-smaller
+walk_while-loop-set-smaller t c =
+    let now = c.loop-set.set in
+    let two = c.walk_turn-turn.new.set in
+    let three = c.lower_head-fell.new.set in
+    let same : known_at two ≡ known_at now = ap (λ s k. known_or (s k)) c.in_ok-turn.ensures.seen in
+    falls_to c.args.set.now (known_at now) (known_at three) c.loop-set.invariant.1 (subst (λ f. Falls f (known_at three)) same (c.in_ok-fell.ensures.falls (search rules)))
+
+pub walk_while-end_loop-requires : goal.walk_while-end_loop-requires
+walk_while-end_loop-requires t c =
+    let g = c.args.given.now in
+    let zero = c.args.set.now in
+    let a = c.in_ok-turn.turn in
+    let three = c.lower_head-fell.new.set in
+    record {
+      over = never_empty zero.below.items zero.top three.below.items (c.in_ok-fell.ensures.below ∙ c.in_ok-turn.ensures.below ∙ c.loop-set.invariant.0);
+      words = c.requires.words;
+      within = still_there g c.args.parts (place_of g zero c.args.at c.args.heads.now.items) (place_of g c.loop-set.set c.in_ok-inner.inner c.loop-set.heads.items) _ _ c.loop-set.invariant.2 c.in_ok-turn.ensures.turns;
+    }
+
+pub walk_while-returns-in_ok-end_loop-clause-below : goal.walk_while-returns-in_ok-end_loop-clause-below
+walk_while-returns-in_ok-end_loop-clause-below t c = c.in_ok-end_loop.ensures.below c.args.set.now (c.in_ok-fell.ensures.below ∙ c.in_ok-turn.ensures.below ∙ c.loop-set.invariant.0)
+
+pub walk_while-returns-in_ok-end_loop-clause-leads : goal.walk_while-returns-in_ok-end_loop-clause-leads
+walk_while-returns-in_ok-end_loop-clause-leads t c =
+    let g = c.args.given.now in
+    let l = c.args.parts in
+    let zero = c.args.set.now in
+    let now = c.loop-set.set in
+    let two = c.walk_turn-turn.new.set in
+    let three = c.lower_head-fell.new.set in
+    let a = c.in_ok-turn.turn in
+    let q = laid g a.prologue (facts_of g now) in
+    let z = record { facts = laid g a.body q; next = a.next; heads = c.walk_turn-turn.new.heads.items } in
+    let same = facts_seen g now two c.in_ok-turn.ensures.seen in
+    let still = facts_as g (known_at two) (known_at three) (c.in_ok-fell.ensures.same (search rules)) ∙ same in
+    ends g l (place_of g zero c.args.at c.args.heads.now.items) (place_of g now c.in_ok-inner.inner c.loop-set.heads.items) q z three.top c.end_loop.new.heads.items (facts_of g c.end_loop.new.set)
+    c.loop-set.invariant.2 c.in_ok-turn.ensures.turns
+    (sym (c.in_ok-fell.ensures.facts g c.requires.different ∙ ap (λ s. common s (laid g a.body (laid g a.prologue s))) same) ∙ still)
+    (sym still ∙ over_facts g three zero three.top refl (c.in_ok-fell.ensures.below ∙ c.in_ok-turn.ensures.below ∙ c.loop-set.invariant.0))
+    c.in_ok-end_loop.ensures.heads
+    (c.in_ok-end_loop.ensures.facts l.span ∙ ap (λ s. leaves (given_of g) (condition_of l) s (laid g a.prologue s)) still)

@@ -31,11 +31,11 @@ invariant-walk_block-loop-stmt l =
     (l.set.below.items ≡ l.fn.set.below.items)
     × IsOn l.given l.stmts l.stmt-index (place_of l.given l.fn.set l.at l.fn.heads.items) (place_of l.given l.set l.next l.heads.items)
 
-abbrev pub invariant-walk_while-loop-1 : goal.invariant-walk_while-loop-1
-invariant-walk_while-loop-1 l =
+abbrev pub invariant-walk_while-loop-set : goal.invariant-walk_while-loop-set
+invariant-walk_while-loop-set l =
     (l.set.below.items ≡ l.fn.set.below.items ++ l.fn.set.top ∷ [])
     × ((k : Spot) → amount (known_at l.set k) ≤ amount (known_at l.fn.set k))
     × Heading l.given l.parts (place_of l.given l.fn.set l.at l.fn.heads.items) (place_of l.given l.set l.inner l.heads.items)
 
-abbrev pub decreases-walk_while-loop-1 : goal.decreases-walk_while-loop-1
-decreases-walk_while-loop-1 l = total (spots_of l.fn.set) (known_at l.set)
+abbrev pub decreases-walk_while-loop-set : goal.decreases-walk_while-loop-set
+decreases-walk_while-loop-set l = total (spots_of l.fn.set) (known_at l.set)
