@@ -2,7 +2,7 @@
 use Rattle.std.proofs.Common.{◌≡◌, ◌⊎◌, inl, inr, ℕ, suc, ◌+◌, ◌<◌, ◌≤◌, Bool, true, false, List, [], ◌∷◌, ◌++◌, length, Option, None, Some, refl, sym, ap, ◌∙◌, subst, arith}
 use Rattle.std.specs.Prelude.{slice_get, slice_set, not, is_some, MatchOption}
 use Rattle.indexmap.specs.IndexMap.{IndexMap}
-use Rattle.jz_runs.specs.Trees.{done, loop}
+use Rattle.jz_runs.specs.Trees.{done, op, quiet, choose, loop, each, call}
 use Rattle.jz_meaning.specs.Statements.{Condition, Block}
 use Rattle.jz_flow.specs.Sets.{Below, common}
 use Rattle.jz_flow.specs.Flow.{IsHead, After, OneTurn}
@@ -16,7 +16,7 @@ use Rattle.jz_fact_sets.specs.declared.given.Given as code
 use Rattle.jz_fact_sets.specs.declared.knowledge.Knowledge.{Knowledge}
 use Rattle.jz_fact_sets.specs.Kept.{AreDifferent, given_of}
 use Rattle.jz_block_facts.specs.declared.looping.Loop.{Loop}
-use Rattle.jz_block_facts.specs.Heads.{HasNoFor, loops, laid, AreHeads}
+use Rattle.jz_block_facts.specs.Heads.{HasNoFor, loops, laid, AreHeads, IsLoop, IsHeadOf}
 use Rattle.jz_block_facts.specs.Pieces.{answered}
 use Rattle.jz_block_facts.specs.InnerWalks.{condition_of, prologue_piece, turn_piece, loop_piece, Place, IsFresh, AreSame, Covers, IsReady, Leads, IsTurnReady, Turns}
 use Rattle.jz_block_facts.proofs.Laying.{warmed}
@@ -250,3 +250,15 @@ module _ {S : Type 0} (g : code.Given) (l : Loop) where
                     (subst (λ y. AreHeads g r z.next us y) (out ∙ ap (λ y. leaves (given_of g) (condition_of l) y q) over) f),
               );
         }
+
+-- ---- one loop
+
+pub first_head : {S : Type 0} (g : code.Given) (t : Block) (hs : List (IndexMap Named Knowledge S)) (s : Facts) → IsLoop t → AreHeads g t 0 hs s
+    → (m : IndexMap Named Knowledge S) × (slice_get hs 0 ≡ Some m) × IsHeadOf g t s (laid g m s)
+first_head g done hs s l h = absurd l
+first_head g (op o r) hs s l h = absurd l
+first_head g (quiet o r) hs s l h = absurd l
+first_head g (choose c a b r) hs s l h = absurd l
+first_head g (loop w p c b r) hs s l (m, q, is, k, rest) = (m, is, k)
+first_head g (each f b r) hs s l h = absurd l
+first_head g (call c b r) hs s l h = absurd l
