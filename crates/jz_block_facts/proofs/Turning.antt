@@ -259,6 +259,6 @@ first_head g done hs s l h = absurd l
 first_head g (op o r) hs s l h = absurd l
 first_head g (quiet o r) hs s l h = absurd l
 first_head g (choose c a b r) hs s l h = absurd l
-first_head g (loop w p c b r) hs s l (m, q, is, k, rest) = (m, is, k)
+first_head g (loop w p c b r) hs s l h = (h.0, h.2, h.3)
 first_head g (each f b r) hs s l h = absurd l
 first_head g (call c b r) hs s l h = absurd l
