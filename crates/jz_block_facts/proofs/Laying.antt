@@ -14,7 +14,7 @@ use Rattle.jz_fact_sets.specs.declared.knowledge.Knowledge.{Knowledge}
 use Rattle.jz_fact_sets.specs.Kept.{AreDifferent, says, spot, known_at, known_or, facts_by, facts_of}
 use Rattle.jz_fact_sets.specs.Meeting.{or_known, over_known, IsMet, narrowed, amount, Falls}
 use Rattle.jz_fact_sets.proofs.FactLemmas.{common_facts, met_everywhere, narrowed_everywhere}
-use Rattle.jz_fact_writes.proofs.Layering.{over_is}
+use Rattle.jz_fact_writes.proofs.Layering.{back, over_is}
 use Rattle.jz_block_facts.specs.Heads.{said_or, laid}
 
 module _ {S : Type 0} where
@@ -71,3 +71,17 @@ over_facts g with without table t e = sym (laid_is g table (known_at without) �
 pub none_more : (fell : Bool) (old new : Spot → Knowledge) → (fell ≡ false → new ≡ old) → (fell ≡ true → Falls old new) → (k : Spot) → amount (new k) ≤ amount (old k)
 none_more true old new s f k = (f refl).nowhere_more k
 none_more false old new s f k = let e = ap (λ h. amount (h k)) (s refl) in omega (arith, e)
+
+-- a set from which a table was taken away again
+pub returned : (zero three : Layers Knowledge) (ms : List (IndexMap Named Knowledge (BuildHasherDefault FoldHasher))) → ms ≡ zero.below.items ++ zero.top ∷ [] → ms ≡ three.below.items ++ three.top ∷ []
+    → (three.below.items ≡ zero.below.items) × (seen three ≡ seen zero) × (known_at three ≡ known_at zero)
+returned zero three ms e h =
+    let b = back zero three ms e h in
+    let f : known_at three ≡ known_at zero = ap (λ (s : Spot → Option Knowledge) (k : Spot). known_or (s k)) b.1 in
+    (b.0, b.1, f)
+
+pub facts_as : (g : code.Given) (old new : Spot → Knowledge) → new ≡ old → facts_by g new ≡ facts_by g old
+facts_as g old new e = ap (facts_by g) e
+
+pub facts_seen : (g : code.Given) (old new : Layers Knowledge) → seen new ≡ seen old → facts_of g new ≡ facts_of g old
+facts_seen g old new e = ap (λ s. facts_by g (λ k. known_or (s k))) e

@@ -1,5 +1,6 @@
 pub mod Laying
 pub mod Splitting
+pub mod Leaving
 pub mod Greatest
 pub mod Measures
 pub mod Leading

@@ -78,3 +78,14 @@ module _ {S : Type 0} (g : code.Given) where
       × AreHeads r (suc i + loops p + loops b) hs (leaves (given_of g) c (laid m s) q)
   AreHeads (each f b r) i hs s = ⊥
   AreHeads (call c b r) i hs s = ⊥
+
+-- ---- one loop
+
+abbrev pub IsLoop : Block → Type 0
+IsLoop (loop w p c b r) = Unit {0}
+IsLoop t = ⊥
+
+-- the greatest kept set of a loop
+abbrev pub IsHeadOf : code.Given → Block → Facts → Facts → Type 0
+IsHeadOf g (loop w p c b r) s h = IsHead (OneTurn (fact_steps (given_of g)) p c b) s h
+IsHeadOf g t s h = ⊥

@@ -1,7 +1,7 @@
 //! The heads of loops.
 
 ghost use Rattle.std.specs.Prelude.{◌≡◌, ◌++◌, ◌∷◌, ◌+◌, ◌<◌, ◌≤◌, ℕ, [], OnOk, IfOk};
-ghost use Rattle.std.specs.Prelude.{true, false, length, slice_get, slice_set, MatchOption};
+ghost use Rattle.std.specs.Prelude.{true, false, length, slice_get, slice_set, MatchOption, IsSomeAnd};
 ghost use Rattle.jz_tree.specs.Span.{Span as Place};
 ghost use Rattle.jz_flow.specs.Sets.{common};
 ghost use Rattle.jz_terms.specs.Terms.{term_of};
@@ -33,15 +33,21 @@ pub(crate) struct Loop<'a> {
     pub body: &'a Option<Seq<Stmt>>,
 }
 
-/// Narrows what is known by a table of a head.
-fn narrow_by<'a>(set: &mut FactSet<'a>, table: &Table<'a>) -> Result<(), AllocError>
+/// Narrows what is known by the table of this number.
+fn narrow_head<'a>(
+    set: &mut FactSet<'a>,
+    heads: &Vec<Table<'a>>,
+    at: usize,
+) -> Result<(), AllocError>
+    requires { at < length heads.now.items }
     ensures below { OnOk result (set.new.below.items ≡ set.old.below.items) }
     ensures less { OnOk result ((k : Spot)
         → amount (known_at set.new k) ≤ amount (known_at set.old k)) }
-    ensures facts { OnOk result ((g : code.Given) → AreDifferent g.params → facts_of g set.new
-        ≡ common (facts_of g set.old) (laid g table.now (facts_of g set.old))) }
+    ensures facts { OnOk result (IsSomeAnd (slice_get heads.now.items at)
+        (λ m. (g : code.Given) → AreDifferent g.params → facts_of g set.new
+        ≡ common (facts_of g set.old) (laid g m (facts_of g set.old)))) }
 {
-    narrow(set, table)?;
+    narrow(set, &heads.as_slice()[at])?;
     Ok(())
 }
 
@@ -68,7 +74,7 @@ pub(crate) fn open_head<'a>(
 {
     set.open()?;
     if at < heads.len() {
-        narrow_by(set, &heads.as_slice()[at])?;
+        narrow_head(set, heads, at)?;
         return Ok(at + 1);
     }
     heads.push(IndexMap::new(set.allocator()))?;
