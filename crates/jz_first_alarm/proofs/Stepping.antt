@@ -128,29 +128,3 @@ module _ (g : code.Given) where
         where
           count : (i j k n m : ℕ) → j ≡ suc i + n → k ≡ j + m → k ≡ i + suc (n + m + 0)
           count i j k n m h l = omega (arith, h, l)
-
-  -- ---- statements in their order
-
-  -- from some statement on, what is there from the beginning
-  pub record OnWay (ss rest : List Stmt) (s t : Facts) : Type 0 where
-    pub after :
-        (r : Block) (z : Facts) → After (fact_steps (given_of g)) (block no_callees rest r) t z
-        → After (fact_steps (given_of g)) (block no_callees ss r) s z
-    pub first :
-        (xs : List Var) (r : Block) (w : Option Alarm) → FirstIn g (block no_callees rest r) t w xs
-        → FirstIn g (block no_callees ss r) s w xs
-
-  pub set_out : (ss : List Stmt) (s : Facts) → OnWay ss ss s s
-  set_out ss s = record { after = λ r z f. f; first = λ xs r w f. f }
-
-  pub one_on : (ss rest more : List Stmt) (x : Stmt) (i j : ℕ) (s t u : Facts) → rest ≡ x ∷ more → OnWay ss rest s t → Goes g (statement_tree no_callees x) i t j u → OnWay ss more s u
-  one_on ss rest more x i j s t u e o p = record {
-    after = λ r z f. o.after r z (subst (λ y. After (fact_steps (given_of g)) (block no_callees y r) t z) (sym e) (p.after (block no_callees more r) z f));
-    first = λ xs r w f. o.first xs r w (subst (λ y. FirstIn g (block no_callees y r) t w xs) (sym e) (p.first xs (block no_callees more r) w f));
-  }
-
-  pub way_stops : (ss rest more : List Stmt) (x : Stmt) (s t : Facts) (v : Alarm) → rest ≡ x ∷ more → OnWay ss rest s t → Stops g (statement_tree no_callees x) t v → Stops g (block no_callees ss) s v
-  way_stops ss rest more x s t v e o p xs r = o.first xs r (Some v) (subst (λ y. FirstIn g (block no_callees y r) t (Some v) xs) (sym e) (p xs (block no_callees more r)))
-
-  pub arrives : (ss : List Stmt) (i j : ℕ) (s t : Facts) → j ≡ i + loops (block no_callees ss done) → OnWay ss [] s t → Goes g (block no_callees ss) i s j t
-  arrives ss i j s t e o = record { next = e; after = o.after; first = o.first }
