@@ -1,0 +1,23 @@
+use Rattle.std.proofs.Common.{Some, ap, sym}
+use Rattle.jz_alarms.specs.Conditions.{joined, sum_of}
+use Rattle.jz_inside.specs.InnerSums.{seen}
+use Rattle.jz_terms.proofs.TermForms.{term_bool, term_cast, term_cell, term_load, term_neg, term_not}
+use Rattle.jz_inside.proofs.sums.add_single.Goals as goal
+
+pub returns-in-Bool : goal.returns-in-Bool
+returns-in-Bool c = sym (ap (λ t. joined (sum_of t) (Some (seen c.args.sum.now))) (term_bool _ _ _ c.in-Bool.is))
+
+pub returns-in-Cell : goal.returns-in-Cell
+returns-in-Cell c = sym (ap (λ t. joined (sum_of t) (Some (seen c.args.sum.now))) (term_cell _ _ _ c.in-Cell.is))
+
+pub returns-in-Load : goal.returns-in-Load
+returns-in-Load c = sym (ap (λ t. joined (sum_of t) (Some (seen c.args.sum.now))) (term_load _ _ c.in-Load.is))
+
+pub returns-in-Neg : goal.returns-in-Neg
+returns-in-Neg c = sym (ap (λ t. joined (sum_of t) (Some (seen c.args.sum.now))) (term_neg _ _ _ c.in-Neg.is))
+
+pub returns-in-Not : goal.returns-in-Not
+returns-in-Not c = sym (ap (λ t. joined (sum_of t) (Some (seen c.args.sum.now))) (term_not _ _ _ c.in-Not.is))
+
+pub returns-in-Cast : goal.returns-in-Cast
+returns-in-Cast c = sym (ap (λ t. joined (sum_of t) (Some (seen c.args.sum.now))) (term_cast _ _ _ _ _ c.in-Cast.is))
