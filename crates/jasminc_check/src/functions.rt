@@ -10,7 +10,7 @@ ghost use Rattle.jz_expansion.specs.Expanding.{IsExpandedAt};
 ghost use Rattle.jz_asked.specs.Asked.{alarm_of};
 ghost use Rattle.jasminc_source.specs.Exports.{WithinIfExported};
 ghost use Rattle.jasminc_check.specs.Safety.{AreSafe, HasAlarm, safe_line};
-ghost use Rattle.jasminc_check.specs.InnerSafety.{IsReadyAt, IsJudgedAt};
+ghost use Rattle.jasminc_check.specs.InnerSafety.{IsReadyAt, IsJudgedAt, IsAmong, AddsLine, AlarmAt};
 
 use jasminc_source::{function_at, is_exported};
 use jz_asked::Alarm;
@@ -72,6 +72,27 @@ fn write_safe(out: &mut Vec<u8>, function: &Fun, count: usize) -> Result<(), All
     out.extend_from_slice(b"\n")
 }
 
+/// The line of the function at a place, if it is exported.
+fn add_line(
+    alloc: Global,
+    typed: &Typed,
+    place: usize,
+    out: &mut Vec<u8>,
+) -> Result<(), Failure<Alarm>>
+    requires { IsAmong typed.now.program place }
+    ensures safe { OnOk result (AddsLine typed.now.program place out.old.items out.new.items) }
+    ensures alarm { IfErr result (λ failure. IfRefused failure
+        (AlarmAt typed.now.program place)) }
+{
+    let function = function_at(&typed.program().funs, place);
+    if !is_exported(function) {
+        return Ok(());
+    }
+    let count = judge_at(alloc, typed, place)?;
+    write_safe(out, function, count)?;
+    Ok(())
+}
+
 /// A line for each export function of a program, each of which is safe; or the first alarm of the
 /// first that is not.
 pub fn check_functions(alloc: Global, typed: &Typed) -> Result<Bytes, Failure<Alarm>>
@@ -82,14 +103,10 @@ pub fn check_functions(alloc: Global, typed: &Typed) -> Result<Bytes, Failure<Al
     ensures alarm { IfErr result (λ failure. IfRefused failure (HasAlarm typed.now.program)) }
 {
     let mut out = Vec::new(alloc);
-    let funs = typed.program().funs.as_slice();
+    let count = typed.program().funs.len();
     let mut place = 0;
-    while place < funs.len() {
-        let function = &funs[place];
-        if is_exported(function) {
-            let count = judge_at(alloc, typed, place)?;
-            write_safe(&mut out, function, count)?;
-        }
+    while place < count {
+        add_line(alloc, typed, place, &mut out)?;
         place += 1;
     }
     Ok(Seq::from_vec(out))
