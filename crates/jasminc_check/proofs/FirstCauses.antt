@@ -1,6 +1,13 @@
 -- Which cause is the first, and when none stands before alarms.
 use Rattle.std.proofs.Common.{◌≡◌, ℕ, ◌<◌, List, arith, subst, sym}
-use Rattle.std.specs.Prelude.{All}
+use Rattle.std.specs.Prelude.{All, Result, Ok, Err}
+use Rattle.jz_tree.specs.Failure.{Failure}
+use Rattle.jz_tree.specs.Failure.TheVariants as failure
+use Rattle.jz_tree.specs.Failures.{IfRefused, IfAnswered}
+use Rattle.jz_parse.specs.Reading.{Reads}
+use Rattle.jz_texts.specs.Texts.{IsText}
+use Rattle.jz_texts.proofs.Reading.{read_so}
+use Rattle.jz_texts.proofs.Resolved.{stays}
 use Rattle.jz_tree.specs.declared.program.Program.{Program}
 use Rattle.jasminc_source.specs.declared.limits.FunLimit.{FunLimit}
 use Rattle.jasminc_source.specs.declared.unread.Unread as source
@@ -10,10 +17,11 @@ use Rattle.jasminc_source.specs.Exports.{WithinIfExported, HasLimit}
 use Rattle.jasminc_source.proofs.Causing.{types_as_read, first_unread, unread_early, types_one}
 use Rattle.jasminc_source.proofs.Limiting.{none_passes}
 use Rattle.jz_asked.specs.declared.alarms.Alarm as asked
+use Rattle.jasminc_check.specs.declared.refused.Refused.{Refused}
 use Rattle.jasminc_check.specs.declared.refused.Refused.TheVariants.{Unread, Limit, Alarm}
 use Rattle.jasminc_check.specs.Safety.{AreSafe, HasAlarm}
 use Rattle.jasminc_check.specs.Causes.{PassesLimit, Clear, IsFirstCause}
-use Rattle.jasminc_check.specs.Answers.{IsDone, all_stages}
+use Rattle.jasminc_check.specs.Answers.{IsDone, Answers}
 
 module _ (text : List ℕ) where
   before_reading : (u : source.Unread) → IsUnread text u → Clear text (unread_stage u)
@@ -47,3 +55,37 @@ module _ (text : List ℕ) where
 
       pub all_done : (output : List ℕ) → AreSafe p p.funs output → IsDone text output
       all_done output h = record { clear = before_alarms; gives = record { program = p; types = t; safe = h } }
+
+-- ---- the same of failures
+
+answered : (text : List ℕ) (P : Refused → Type 0) (e : Failure Refused) → ((r : Refused) → P r → IsFirstCause text r) → IfRefused e P
+    → IfAnswered {A = List ℕ} (Err e) (Answers text)
+answered text P (failure.Refused r) f h = f r h
+answered text P failure.OutOfMemory f h = tt
+
+-- no typed program, as a refusal
+abbrev pub IsUnreadable : List ℕ → Refused → Type 0
+IsUnreadable text r = (u : source.Unread) × (r ≡ Unread u) × IsUnread text u
+
+pub reading_fails : (text : List ℕ) (e : Failure Refused) → IfRefused e (IsUnreadable text) → IfAnswered {A = List ℕ} (Err e) (Answers text)
+reading_fails text e h = answered text (IsUnreadable text) e (λ r k. subst (IsFirstCause text) (sym k.1) (reading_first text k.0 k.2)) h
+
+-- a limit, as a refusal
+abbrev pub IsLimit : Program → Refused → Type 0
+IsLimit p r = (l : FunLimit) × (r ≡ Limit l) × HasLimit p l
+
+pub limits_fail : (text : List ℕ) (p : Program) (e : Failure Refused) → TypesAs text p → IfRefused e (IsLimit p) → IfAnswered {A = List ℕ} (Err e) (Answers text)
+limits_fail text p e t h = answered text (IsLimit p) e (λ r k. subst (IsFirstCause text) (sym k.1) (limit_first text p t k.0 k.2)) h
+
+-- an alarm, as a refusal
+abbrev pub IsAlarm : Program → Refused → Type 0
+IsAlarm p r = (a : asked.Alarm) × (r ≡ Alarm a) × HasAlarm p a
+
+pub alarms_fail : (text : List ℕ) (p : Program) (e : Failure Refused) → TypesAs text p → All (WithinIfExported p) p.funs → IfRefused e (IsAlarm p) → IfAnswered {A = List ℕ} (Err e) (Answers text)
+alarms_fail text p e t w h = answered text (IsAlarm p) e (λ r k. subst (IsFirstCause text) (sym k.1) (alarm_first text p t w k.0 k.2)) h
+
+-- ---- a typed text is a program of a text
+
+pub text_text : (text : List ℕ) (p : Program) → TypesAs text p → IsText p
+unfolding Reads
+text_text text p t = subst IsText (sym t.is) (stays t.written (read_so text t.reads.0 t.written t.reads.1 t.reads.2))
