@@ -38,7 +38,7 @@ pub one_down : (g : Given) (s : Facts) (rest n : Expr) (op : BinOp) (a b : Expr)
     → or_else (asks g s v (term_of n)) new ≡ or_else (asks g s w (term_of rest)) found
 one_down g s rest n op a b at l r w v found here new h i j m k q f =
     let t : term_of rest ≡ bin op (term_of l) (term_of r) at =
-        term_bin rest op a b at h ∙ ap (λ x. bin op (term_of x) (term_of b) at) (sym i) ∙ ap (λ x. bin op (term_of l) (term_of x) at) (sym j) in
+    term_bin rest op a b at h ∙ ap (λ x. bin op (term_of x) (term_of b) at) (sym i) ∙ ap (λ x. bin op (term_of l) (term_of x) at) (sym j) in
     let same : term_of n ≡ term_of l = ap term_of (m ∙ sym i) in
     ap (λ x. or_else (asks g s v x) new) same
     ∙ ap (or_else (asks g s v (term_of l))) (f ∙ ap (λ x. or_else x found) q)

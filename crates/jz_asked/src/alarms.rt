@@ -7,7 +7,7 @@ ghost use Rattle.jz_asked.specs.InnerAsked.{about, shown};
 
 use jz_meaning::Why;
 use jz_tree::{Span, Text, Var};
-use std::alloc::{AllocError, Global};
+use std::alloc::AllocError;
 
 /// What an alarm is of.
 #[derive(Drop)]
@@ -68,26 +68,29 @@ pub(crate) fn unless<'e>(holds: bool, span: Span, why: Why, of: About<'e>) -> Op
     })
 }
 
-fn target(alloc: Global, of: About<'_>) -> Result<Target, AllocError>
+fn target(of: About<'_>) -> Result<Target, AllocError>
     ensures { IfOk result (λ target. target_of target ≡ about of.entry) }
 {
     match of {
-        About::Variable(var) => Ok(Target::Variable(var.name.copy(alloc)?, var.cell)),
+        About::Variable(var) => Ok(Target::Variable(var.name.clone()?, var.cell)),
         About::Memory => Ok(Target::Memory),
         About::Division => Ok(Target::Division),
     }
 }
 
-/// An alarm with names of its own.
-pub(crate) fn owned(alloc: Global, asked: Option<Asked<'_>>) -> Result<Option<Alarm>, AllocError>
+/// An alarm with a name of its own.
+pub(crate) fn owned(asked: Option<Asked<'_>>) -> Result<Option<Alarm>, AllocError>
     ensures { IfOk result (λ alarm. found_of alarm ≡ shown asked.entry) }
 {
     match asked {
         None => Ok(None),
-        Some(asked) => Ok(Some(Alarm {
-            span: asked.span,
-            why: asked.why,
-            target: target(alloc, asked.about)?,
-        })),
+        Some(asked) => {
+            let target = target(asked.about)?;
+            Ok(Some(Alarm {
+                span: asked.span,
+                why: asked.why,
+                target,
+            }))
+        }
     }
 }

@@ -67,7 +67,7 @@ pub fn asks_assignment(
     match op {
         None => {
             let found = asks_whole(alloc, says, to, e, cond)?;
-            let alarm = owned(alloc, found)?;
+            let alarm = owned(found)?;
             Ok(alarm)
         }
         Some(op) => {
@@ -76,7 +76,7 @@ pub fn asks_assignment(
                 None => Ok(None),
                 Some(right) => {
                     let found = asks_whole(alloc, says, to, &right, cond)?;
-                    let alarm = owned(alloc, found)?;
+                    let alarm = owned(found)?;
                     Ok(alarm)
                 }
             }
@@ -121,7 +121,7 @@ pub fn asks_instruction(
         None => Ok(None),
         Some(instance) => {
             let found = asks_instance(alloc, says, instance, to, args, span)?;
-            let alarm = owned(alloc, found)?;
+            let alarm = owned(found)?;
             Ok(alarm)
         }
     }
@@ -138,16 +138,12 @@ pub fn asks_test(
         (facts_in says.entry)) }
 {
     let found = asks(alloc, says, None, cond)?;
-    let alarm = owned(alloc, found)?;
+    let alarm = owned(found)?;
     Ok(alarm)
 }
 
 /// The first result that the facts don't say to be set.
-pub fn asks_results(
-    alloc: Global,
-    says: Saying<'_, '_>,
-    results: &Seq<Var>,
-) -> Result<Option<Alarm>, AllocError>
+pub fn asks_results(says: Saying<'_, '_>, results: &Seq<Var>) -> Result<Option<Alarm>, AllocError>
     ensures { IfOk result (λ found. found_of found
         ≡ conditions.asks_results results.now (facts_in says.entry)) }
 {
@@ -155,7 +151,7 @@ pub fn asks_results(
         match asks_variable(says, result) {
             None => {}
             Some(found) => {
-                let alarm = owned(alloc, Some(found))?;
+                let alarm = owned(Some(found))?;
                 return Ok(alarm);
             }
         }

@@ -46,7 +46,7 @@ fn ask_function<'a>(
     };
     ask_block(known, &mut set, 0, &fun.body)?;
     let says = Saying { given, set: &set };
-    let found = asks_results(alloc, says, &fun.result)?;
+    let found = asks_results(says, &fun.result)?;
     refuse(found)?;
     Ok(())
 }
