@@ -68,7 +68,7 @@ pub(crate) fn unless<'e>(holds: bool, span: Span, why: Why, of: About<'e>) -> Op
     })
 }
 
-fn target(of: About<'_>) -> Result<Target, AllocError>
+fn own_target(of: About<'_>) -> Result<Target, AllocError>
     ensures { IfOk result (λ target. target_of target ≡ about of.entry) }
 {
     match of {
@@ -85,7 +85,7 @@ pub(crate) fn owned(asked: Option<Asked<'_>>) -> Result<Option<Alarm>, AllocErro
     match asked {
         None => Ok(None),
         Some(asked) => {
-            let target = target(asked.about)?;
+            let target = own_target(asked.about)?;
             Ok(Some(Alarm {
                 span: asked.span,
                 why: asked.why,
