@@ -72,7 +72,7 @@ fn least_length(says: Saying<'_, '_>, region: &Region) -> u128
 }
 
 /// What an index may be, scaled.
-fn ends(says: Saying<'_, '_>, index: Option<Scaled<'_>>) -> Ends
+fn scaled_ends(says: Saying<'_, '_>, index: Option<Scaled<'_>>) -> Ends
     ensures { interval_of result ≡ conditions.scaled_interval (given_in says.entry)
         (facts_in says.entry) (option_map scaled_of index.entry) }
 {
@@ -144,7 +144,7 @@ fn is_in(says: Saying<'_, '_>, size: Size, reading: Reading<'_>, region: &Region
     if !is_base(says, reading.base, region) {
         return false;
     }
-    let index = ends(says, reading.index);
+    let index = scaled_ends(says, reading.index);
     if !reading.more.is_from_zero(index.lo) {
         return false;
     }

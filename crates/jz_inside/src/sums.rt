@@ -184,7 +184,7 @@ fn variable<'e>(e: &'e Expr) -> Option<&'e Var>
 }
 
 /// The one operand scaled by the other one.
-fn scaled<'e>(number: &Expr, var: &'e Expr) -> Option<Scaled<'e>>
+fn scaled_by<'e>(number: &Expr, var: &'e Expr) -> Option<Scaled<'e>>
     ensures { option_map inner.scaled_of result
         ≡ inner.scaled (term_of number.now) (term_of var.now) }
 {
@@ -201,8 +201,8 @@ fn product<'e>(left: &'e Expr, right: &'e Expr) -> Option<Scaled<'e>>
     ensures { option_map inner.scaled_of result
         ≡ inner.product (term_of left.now) (term_of right.now) }
 {
-    match scaled(left, right) {
-        None => scaled(right, left),
+    match scaled_by(left, right) {
+        None => scaled_by(right, left),
         Some(scaled) => Some(scaled),
     }
 }
