@@ -19,7 +19,7 @@ use Rattle.jz_block_facts.specs.declared.looping.Loop.{Loop}
 use Rattle.jz_block_facts.specs.Heads.{HasNoFor, loops, laid, AreHeads, IsLoop, IsHeadOf}
 use Rattle.jz_block_facts.specs.Pieces.{answered}
 use Rattle.jz_block_facts.specs.InnerWalks.{condition_of, prologue_piece, turn_piece, loop_piece, Place, IsFresh, AreSame, Covers, IsReady, Leads, IsTurnReady, Turns}
-use Rattle.jz_block_facts.proofs.Laying.{warmed}
+use Rattle.jz_block_facts.proofs.LaidFacts.{warmed}
 use Rattle.jz_block_facts.proofs.Splitting.{heads_at, same_heads}
 use Rattle.jz_block_facts.proofs.Greatest.{Above, begun, lowered, reached, again}
 use Rattle.jz_block_facts.proofs.Leading.{still_fresh}

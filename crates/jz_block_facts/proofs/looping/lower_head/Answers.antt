@@ -3,7 +3,7 @@ use Rattle.jz_flow.specs.Sets.{common}
 use Rattle.jz_fact_sets.specs.Kept.{known_at, facts_of}
 use Rattle.jz_fact_sets.specs.Meeting.{Falls}
 use Rattle.jz_block_facts.specs.Heads.{laid}
-use Rattle.jz_block_facts.proofs.Laying.{returned, narrower, over_facts, facts_as, facts_seen}
+use Rattle.jz_block_facts.proofs.LaidFacts.{returned, narrower, over_facts, facts_as, facts_seen}
 use Rattle.jz_block_facts.proofs.looping.lower_head.Goals as goal
 
 pub returns-clause-below : goal.returns-clause-below

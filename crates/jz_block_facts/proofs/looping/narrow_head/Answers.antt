@@ -1,7 +1,7 @@
 use Rattle.std.proofs.Common.{◌≡◌, ◌<◌, length, get_or, sym, refl, rules, ap, ◌∙◌}
 use Rattle.std.proofs.lemmas.Option.{slice_get_read}
 use Rattle.jz_fact_sets.specs.Kept.{known_at}
-use Rattle.jz_block_facts.proofs.Laying.{narrower, none_more}
+use Rattle.jz_block_facts.proofs.LaidFacts.{narrower, none_more}
 use Rattle.jz_block_facts.proofs.looping.narrow_head.Goals as goal
 
 pub returns-clause-less : goal.returns-clause-less

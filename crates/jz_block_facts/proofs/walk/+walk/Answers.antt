@@ -10,7 +10,7 @@ use Rattle.jz_fact_sets.specs.Meeting.{amount, Falls}
 use Rattle.jz_block_facts.specs.Heads.{no_callees, HasNoFor, laid}
 use Rattle.jz_block_facts.specs.Pieces.{body_piece, operation_of, answered}
 use Rattle.jz_block_facts.specs.InnerWalks.{place_of, loop_piece, turn_piece, prologue_piece, condition_of}
-use Rattle.jz_block_facts.proofs.Laying.{returned, facts_seen, facts_as, over_facts, none_more}
+use Rattle.jz_block_facts.proofs.LaidFacts.{returned, facts_seen, facts_as, over_facts, none_more}
 use Rattle.jz_block_facts.proofs.Splitting.{if_is, assign_is, mark_is, for_is, while_is}
 use Rattle.jz_block_facts.proofs.Measures.{weights, body_weight, weights_at, weight_if, weight_while, falls_to}
 use Rattle.jz_block_facts.proofs.Turning.{prologue_ready, rest_ready, never_empty, each_way, begins, still_there, turned, ends}
