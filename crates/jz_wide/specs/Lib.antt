@@ -1,0 +1,3 @@
+pub mod Values
+pub mod Sums
+pub use Rattle.x64_insn.specs.Sizes
