@@ -218,12 +218,14 @@ module _ {S : Type 0} (g : code.Given) where
           behind = λ k h. b.behind k h ∙ a.behind k (omega (arith, h, n));
           after = λ r u h. (q.facts, z.facts, a.after done q.facts refl, b.after done z.facts refl, subst (λ y. After (fact_steps (given_of g)) r y u) e h);
           heads = λ us s r h. (
-              q.facts, z.facts,
-              a.heads us (λ k i j. s k i (omega (arith, j, n)) ∙ b.before k j) done tt,
-              heads_at g (no done) q.next (p.next + loops (yes done)) us (answered g c.cond false p.facts) m (b.heads us (λ k i j. s k (omega (arith, i, m)) j) done tt),
-              a.after done q.facts refl, b.after done z.facts refl,
-              heads_at g r z.next (p.next + loops (yes done) + loops (no done)) us (common q.facts z.facts) (omega (arith, m, n)) (subst (λ y. AreHeads g r z.next us y) e h),
-            );
+            q.facts,
+            z.facts,
+            a.heads us (λ k i j. s k i (omega (arith, j, n)) ∙ b.before k j) done tt,
+            heads_at g (no done) q.next (p.next + loops (yes done)) us (answered g c.cond false p.facts) m (b.heads us (λ k i j. s k (omega (arith, i, m)) j) done tt),
+            a.after done q.facts refl,
+            b.after done z.facts refl,
+            heads_at g r z.next (p.next + loops (yes done) + loops (no done)) us (common q.facts z.facts) (omega (arith, m, n)) (subst (λ y. AreHeads g r z.next us y) e h),
+          );
         }
 
   -- the arms of a branch, as the code walks them: what comes in is the same before each step

@@ -1,4 +1,4 @@
-pub mod Laying
+pub mod LaidFacts
 pub mod Splitting
 pub mod Leaving
 pub mod Greatest

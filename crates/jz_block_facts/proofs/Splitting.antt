@@ -97,21 +97,24 @@ module _ {S : Type 0} (g : code.Given) where
   same_heads (op o r) i us vs s e h = same_heads r i us vs (does (given_of g) o s) e h
   same_heads (quiet o r) i us vs s e h = same_heads r i us vs (quieted o s) e h
   same_heads (choose c a b r) i us vs s e (x, y, ha, hb, fa, fb, hr) = (
-      x, y,
-      same_heads a i us vs _ (λ k l m. e k (omega (arith, l)) (omega (arith, m))) ha,
-      same_heads b (i + loops a) us vs _ (λ k l m. e k (omega (arith, l)) (omega (arith, m))) hb,
-      fa, fb,
-      same_heads r (i + loops a + loops b) us vs _ (λ k l m. e k (omega (arith, l)) (omega (arith, m))) hr,
-    )
+    x,
+    y,
+    same_heads a i us vs _ (λ k l m. e k (omega (arith, l)) (omega (arith, m))) ha,
+    same_heads b (i + loops a) us vs _ (λ k l m. e k (omega (arith, l)) (omega (arith, m))) hb,
+    fa,
+    fb,
+    same_heads r (i + loops a + loops b) us vs _ (λ k l m. e k (omega (arith, l)) (omega (arith, m))) hr,
+  )
   same_heads (loop w p c b r) i us vs s e (m, q, is, k, hp, fp, hb, hr) = (
-      m, q,
-      e i (omega arith) (omega arith) ∙ is,
-      k,
-      same_heads p (suc i) us vs _ (λ k l m. e k (omega (arith, l)) (omega (arith, m))) hp,
-      fp,
-      same_heads b (suc i + loops p) us vs _ (λ k l m. e k (omega (arith, l)) (omega (arith, m))) hb,
-      same_heads r (suc i + loops p + loops b) us vs _ (λ k l m. e k (omega (arith, l)) (omega (arith, m))) hr,
-    )
+    m,
+    q,
+    e i (omega arith) (omega arith) ∙ is,
+    k,
+    same_heads p (suc i) us vs _ (λ k l m. e k (omega (arith, l)) (omega (arith, m))) hp,
+    fp,
+    same_heads b (suc i + loops p) us vs _ (λ k l m. e k (omega (arith, l)) (omega (arith, m))) hb,
+    same_heads r (suc i + loops p + loops b) us vs _ (λ k l m. e k (omega (arith, l)) (omega (arith, m))) hr,
+  )
   same_heads (each f b r) i us vs s e h = absurd h
   same_heads (call c b r) i us vs s e h = absurd h
 
@@ -162,13 +165,13 @@ module _ {S : Type 0} (g : code.Given) where
           → AreHeads g (loop w p c b done) i hs s
           × ((x : Facts) × After (fact_steps (given_of g)) (loop w p c b done) s x × AreHeads g r (i + loops (loop w p c b done)) hs x)
       on r i hs s (m, q, is, k, hp, fp, hb, hr) = (
-          (m, q, is, k, hp, fp, hb, tt),
-          (
-            leaves (given_of g) c (laid g m s) q,
-            (laid g m s, q, k, fp, refl),
-            heads_at r (suc i + loops p + loops b) (i + suc (loops p + loops b + 0)) hs (leaves (given_of g) c (laid g m s) q) (omega arith) hr,
-          ),
-        )
+        (m, q, is, k, hp, fp, hb, tt),
+        (
+          leaves (given_of g) c (laid g m s) q,
+          (laid g m s, q, k, fp, refl),
+          heads_at r (suc i + loops p + loops b) (i + suc (loops p + loops b + 0)) hs (leaves (given_of g) c (laid g m s) q) (omega arith) hr,
+        ),
+      )
 
   each_splits : (f : Counter) (b : Block) → Splits (each f b)
   each_splits f b = record {

@@ -19,7 +19,7 @@ use Rattle.jz_block_facts.specs.declared.looping.Loop.{Loop}
 use Rattle.jz_block_facts.specs.Heads.{HasNoFor, loops, laid, AreHeads, IsLoop, IsHeadOf}
 use Rattle.jz_block_facts.specs.Pieces.{answered}
 use Rattle.jz_block_facts.specs.InnerWalks.{condition_of, prologue_piece, turn_piece, loop_piece, Place, IsFresh, AreSame, Covers, IsReady, Leads, IsTurnReady, Turns}
-use Rattle.jz_block_facts.proofs.Laying.{warmed}
+use Rattle.jz_block_facts.proofs.LaidFacts.{warmed}
 use Rattle.jz_block_facts.proofs.Splitting.{heads_at, same_heads}
 use Rattle.jz_block_facts.proofs.Greatest.{Above, begun, lowered, reached, again}
 use Rattle.jz_block_facts.proofs.Leading.{still_fresh}
@@ -106,7 +106,8 @@ module _ {S : Type 0} (g : code.Given) (l : Loop) where
         let f = e ∙ warmed g m p.facts x w in
         begun_with (subst (AboveIn p.facts) (sym f) (again (given_of g) (prologue_piece l done) (condition_of l) (turn_piece l done) p.facts x (laid g m x) w k))
         (inr (
-          laid g m x, y,
+          laid g m x,
+          y,
           subst (λ s. Below s (laid g m x)) (sym f) (common_right p.facts (laid g m x)),
           same_heads g (prologue_piece l done) now.next now.heads p.heads (laid g m x) (λ i b c. others i (λ q. omega (arith, q, b, inner)))
               (heads_at g (prologue_piece l done) (suc p.next) now.next p.heads (laid g m x) (sym inner) hp),
@@ -198,7 +199,8 @@ module _ {S : Type 0} (g : code.Given) (l : Loop) where
           body = h.ready.body;
           within = let v = t.body.within in omega (arith, m, n, v);
           stored = inr (
-            now.facts, q,
+            now.facts,
+            q,
             subst (λ s. Below s now.facts) (sym e) (common_left now.facts z.facts),
             t.prologue.heads z.heads (λ k a b. t.body.before k b) done tt,
             t.prologue.after done q refl,
@@ -235,9 +237,9 @@ module _ {S : Type 0} (g : code.Given) (l : Loop) where
           after = λ r u f. (now.facts, q, head, t.prologue.after done q refl, subst (λ y. After (fact_steps (given_of g)) r y u) out f);
           heads = λ us same r f.
               let on : (k : ℕ) → suc p.next ≤ k → k < z.next → slice_get us k ≡ slice_get z.heads k =
-                  λ k c d. same k (omega (arith, c)) d ∙ ap (λ vs. slice_get vs k) set ∙ get_set_other z.heads p.next k m (λ e. omega (arith, e, c)) in
-              (
-                m, q,
+              λ k c d. same k (omega (arith, c)) d ∙ ap (λ vs. slice_get vs k) set ∙ get_set_other z.heads p.next k m (λ e. omega (arith, e, c)) in (
+                m,
+                q,
                 same p.next (omega arith) (omega (arith, a, b, i)) ∙ ap (λ vs. slice_get vs p.next) set ∙ get_set_same z.heads p.next m there,
                 subst (IsHead (OneTurn (fact_steps (given_of g)) (prologue_piece l done) (condition_of l) (turn_piece l done)) p.facts) over head,
                 subst (AreHeads g (prologue_piece l done) (suc p.next) us) over

@@ -60,11 +60,7 @@ pub fn heads_of<'a>(
 
 /// What holds at the head of a `while` of an expanded function, in which there is no `for`: the
 /// greatest set of what comes in that each turn keeps.
-pub fn at_head<'a>(
-    given: &Given,
-    set: &mut FactSet<'a>,
-    stmt: &'a Stmt,
-) -> Result<(), AllocError>
+pub fn at_head<'a>(given: &Given, set: &mut FactSet<'a>, stmt: &'a Stmt) -> Result<(), AllocError>
     requires different { AreDifferent given.now.params }
     requires words { AreWords given.now.constants }
     requires plain { HasNoFor (statement_tree no_callees stmt.now done) }

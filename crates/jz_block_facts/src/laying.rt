@@ -33,11 +33,7 @@ pub fn taken<'a>(set: &mut FactSet<'a>) -> Table<'a>
 }
 
 /// Where the paths of two tables meet, the common facts hold.
-pub fn meet_both<'a>(
-    set: &mut FactSet<'a>,
-    a: &Table<'a>,
-    b: &Table<'a>,
-) -> Result<(), AllocError>
+pub fn meet_both<'a>(set: &mut FactSet<'a>, a: &Table<'a>, b: &Table<'a>) -> Result<(), AllocError>
     ensures below { OnOk result (set.new.below.items ≡ set.old.below.items) }
     ensures facts { OnOk result ((g : code.Given) → AreDifferent g.params → facts_of g set.new
         ≡ common (laid g a.now (facts_of g set.old)) (laid g b.now (facts_of g set.old))) }

@@ -131,16 +131,23 @@ fn walk_arm<'a>(
     stmts: &'a Seq<Stmt>,
 ) -> Result<Arm<'a>, AllocError>
     requires { IsReady given.now (block no_callees stmts.now) (record {
-        facts = answered given.now cond.now answer (facts_of given.now set.old);
-        next = at;
-        heads = heads.old.items }) }
+      facts = answered given.now cond.now answer (facts_of given.now set.old);
+      next = at;
+      heads = heads.old.items;
+    }) }
     ensures below { OnOk result (set.new.below.items ≡ set.old.below.items) }
     ensures seen { OnOk result (seen set.new ≡ seen set.old) }
     ensures leads { let s = facts_of given.now set.old in
         IfOk result (λ arm. Leads given.now (block no_callees stmts.now) (record {
-        facts = answered given.now cond.now answer s; next = at; heads = heads.old.items })
-        (record { facts = laid given.now arm.table s; next = arm.next;
-        heads = heads.new.items })) }
+          facts = answered given.now cond.now answer s;
+          next = at;
+          heads = heads.old.items;
+        })
+        (record {
+          facts = laid given.now arm.table s;
+          next = arm.next;
+          heads = heads.new.items;
+        })) }
 {
     open_arm(given, set, cond, answer)?;
     let next = walk_block(given, set, heads, at, stmts)?;
@@ -158,17 +165,23 @@ fn walk_rest<'a>(
     parts: Loop<'a>,
 ) -> Result<Arm<'a>, AllocError>
     requires { IsReady given.now (turn_piece parts) (record {
-        facts = answered given.now parts.cond.now true (facts_of given.now set.old);
-        next = at;
-        heads = heads.old.items }) }
+      facts = answered given.now parts.cond.now true (facts_of given.now set.old);
+      next = at;
+      heads = heads.old.items;
+    }) }
     ensures below { OnOk result (set.new.below.items ≡ set.old.below.items) }
     ensures seen { OnOk result (seen set.new ≡ seen set.old) }
     ensures leads { let s = facts_of given.now set.old in
         IfOk result (λ arm. Leads given.now (turn_piece parts.entry) (record {
-        facts = answered given.now parts.entry.cond.now true s; next = at;
-        heads = heads.old.items })
-        (record { facts = laid given.now arm.table s; next = arm.next;
-        heads = heads.new.items })) }
+          facts = answered given.now parts.entry.cond.now true s;
+          next = at;
+          heads = heads.old.items;
+        })
+        (record {
+          facts = laid given.now arm.table s;
+          next = arm.next;
+          heads = heads.new.items;
+        })) }
 {
     match parts.body {
         None => {
@@ -198,8 +211,11 @@ fn walk_turn<'a>(
     ensures turns { let s = facts_of given.now set.old in
         IfOk result (λ turn. let q = laid given.now turn.prologue s in
         Turns given.now parts.entry (place_of given.now set.old at heads.old.items) q
-        (record { facts = laid given.now turn.body q; next = turn.next;
-        heads = heads.new.items })) }
+        (record {
+          facts = laid given.now turn.body q;
+          next = turn.next;
+          heads = heads.new.items;
+        })) }
 {
     set.open()?;
     let middle = walk_block(given, set, heads, at, parts.prologue)?;

@@ -33,21 +33,19 @@ use Rattle.jz_facts.proofs.MoreFacts.{monotone}
 use Rattle.jz_fact_laws.specs.Saying.{Yields}
 use Rattle.jz_alarms.specs.Conditions.{named, asks_operation, asks_results}
 use Rattle.jz_alarms.specs.Alarms.{fact_asks}
-use Rattle.jz_fact_runs.specs.Typing.{NoNumbers}
+use Rattle.jz_standing.specs.Typing.{NoNumbers}
 use Rattle.jz_fact_runs.specs.Fine.{IsFine, IsFineTest, AreResults}
-use Rattle.jz_fact_runs.specs.Standing.{Stands}
+use Rattle.jz_standing.specs.Standing.{Stands}
 use Rattle.jz_fact_runs.specs.RunLaws.{BodiesGo, SafeGoes}
-use Rattle.jz_fact_runs.proofs.Held.{scalar_holds}
-use Rattle.jz_fact_runs.proofs.Totals.{some_is}
-use Rattle.jz_fact_runs.proofs.Sums.{met, both_met, Runs, runs_then}
-use Rattle.jz_fact_runs.proofs.Apart.{tested_stands}
-use Rattle.jz_fact_runs.proofs.Marks.{marked_stands}
-use Rattle.jz_fact_runs.proofs.Assigning.{assigned_stands, assigned_runs}
-use Rattle.jz_fact_runs.proofs.Cells.{cell_stands, store_stands}
-use Rattle.jz_fact_runs.proofs.Writing.{cell_runs, store_runs}
-use Rattle.jz_fact_runs.proofs.Lefts.{instructed_stands, instructed_runs}
-use Rattle.jz_fact_runs.proofs.Paired.{paired_stands, paired_runs}
-use Rattle.jz_fact_runs.proofs.Going.{tests_run}
+use Rattle.jz_standing.proofs.Held.{scalar_holds}
+use Rattle.jz_unstuck.proofs.Totals.{some_is}
+use Rattle.jz_unstuck.proofs.Sums.{met, both_met, Runs, runs_then}
+use Rattle.jz_unstuck.proofs.Apart.{tested_stands}
+use Rattle.jz_unstuck.proofs.Marks.{marked_stands}
+use Rattle.jz_assigned.proofs.OneValue.{one_stands, one_runs}
+use Rattle.jz_instructed.proofs.Lefts.{instructed_stands, instructed_runs}
+use Rattle.jz_two_results.proofs.Paired.{paired_stands, paired_runs}
+use Rattle.jz_unstuck.proofs.Going.{tests_run}
 
 from_went : {A : Type 0} (P : A → Type 0) (e : Evaluation A) (ns : List ℕ) (x : A) → e ≡ went ns x → Yields P e → P x
 from_went P e ns x q h = subst (Yields P) q h
@@ -63,14 +61,9 @@ module _ (g : Given) (kinds : Kinds) (in_frame : Key → Bool) (entry : Key → 
   less a b st l H = record { says = λ f e. H.says f (l f e); apart = λ f e. H.apart f (l f e); kept = H.kept; ranges = H.ranges; least = H.least; regions = H.regions }
 
   operation_stands : (o : Operation) (s : Facts) (st : State) → IsFine kinds in_frame o → There s st → Yields (There (does g o s)) (source.does o st)
-  operation_stands (assign (lval.Var x ∷ []) o e c at) s st i H = assigned_stands g kinds in_frame entry s st H nn x o e c at i.0
-  operation_stands (assign (lval.Cell x j ∷ []) o e None at) s st i H = cell_stands g kinds in_frame entry s st H nn x j o e at i
-  operation_stands (assign (lval.Store a ∷ []) o e None at) s st i H = store_stands g kinds in_frame entry s st H nn a o e at
+  operation_stands (assign (d ∷ []) o e c at) s st i H = one_stands g kinds in_frame entry s st nn H d o e c at i
   operation_stands (assign (d ∷ lval.Var x ∷ []) o e None at) s st i H = paired_stands g kinds in_frame entry s st H nn d x o e at i
   operation_stands (assign [] o e c at) s st i H = absurd i
-  operation_stands (assign (lval.Skip p ∷ []) o e c at) s st i H = absurd i
-  operation_stands (assign (lval.Cell x j ∷ []) o e (Some c) at) s st i H = absurd i
-  operation_stands (assign (lval.Store a ∷ []) o e (Some c) at) s st i H = absurd i
   operation_stands (assign (d ∷ lval.Var x ∷ []) o e (Some c) at) s st i H = absurd i
   operation_stands (assign (d ∷ lval.Skip p ∷ []) o e c at) s st i H = absurd i
   operation_stands (assign (d ∷ lval.Cell x j ∷ []) o e c at) s st i H = absurd i
@@ -81,14 +74,9 @@ module _ (g : Given) (kinds : Kinds) (in_frame : Key → Bool) (entry : Key → 
   operation_stands (meaningless at) s st i H = absurd i
 
   operation_runs : (o : Operation) (s : Facts) (st : State) → IsFine kinds in_frame o → There s st → asks_operation g o s ≡ None → Runs (λ t. Unit {0}) (source.does o st)
-  operation_runs (assign (lval.Var x ∷ []) o e c at) s st i H q = assigned_runs g kinds in_frame entry s st H nn x o e c at i.0 i.1 q
-  operation_runs (assign (lval.Cell x j ∷ []) o e None at) s st i H q = cell_runs g kinds in_frame entry s st H nn x j o e at i q
-  operation_runs (assign (lval.Store a ∷ []) o e None at) s st i H q = store_runs g kinds in_frame entry s st H nn a o e at i q
+  operation_runs (assign (d ∷ []) o e c at) s st i H q = one_runs g kinds in_frame entry s st nn H d o e c at i q
   operation_runs (assign (d ∷ lval.Var x ∷ []) o e None at) s st i H q = paired_runs g kinds in_frame entry s st H nn d x o e at i q
   operation_runs (assign [] o e c at) s st i H q = absurd i
-  operation_runs (assign (lval.Skip p ∷ []) o e c at) s st i H q = absurd i
-  operation_runs (assign (lval.Cell x j ∷ []) o e (Some c) at) s st i H q = absurd i
-  operation_runs (assign (lval.Store a ∷ []) o e (Some c) at) s st i H q = absurd i
   operation_runs (assign (d ∷ lval.Var x ∷ []) o e (Some c) at) s st i H q = absurd i
   operation_runs (assign (d ∷ lval.Skip p ∷ []) o e c at) s st i H q = absurd i
   operation_runs (assign (d ∷ lval.Cell x j ∷ []) o e c at) s st i H q = absurd i

@@ -5,7 +5,7 @@ use Rattle.jz_runs.specs.Trees.{done}
 use Rattle.jz_meaning.specs.Runs.{statement_tree}
 use Rattle.jz_fact_sets.specs.Kept.{facts_of}
 use Rattle.jz_block_facts.specs.Heads.{no_callees, AreHeads}
-use Rattle.jz_block_facts.proofs.Laying.{returned, facts_seen}
+use Rattle.jz_block_facts.proofs.LaidFacts.{returned, facts_seen}
 use Rattle.jz_block_facts.proofs.Leading.{first_place}
 use Rattle.jz_block_facts.proofs.Turning.{first_head}
 use Rattle.jz_block_facts.proofs.bodies.at_head.Goals as goal

@@ -3,7 +3,7 @@ use Rattle.jz_runs.specs.Trees.{done}
 use Rattle.jz_meaning.specs.Runs.{block}
 use Rattle.jz_fact_sets.specs.Kept.{facts_of}
 use Rattle.jz_block_facts.specs.Heads.{no_callees, plain_block, AreHeads}
-use Rattle.jz_block_facts.proofs.Laying.{returned, facts_seen}
+use Rattle.jz_block_facts.proofs.LaidFacts.{returned, facts_seen}
 use Rattle.jz_block_facts.proofs.Leading.{first_place}
 use Rattle.jz_block_facts.proofs.bodies.heads_of.Goals as goal
 

@@ -1,4 +1,4 @@
-use Rattle.jz_block_facts.proofs.Laying.{poured}
+use Rattle.jz_block_facts.proofs.LaidFacts.{poured}
 use Rattle.jz_block_facts.proofs.laying.lay.Goals as goal
 
 pub returns-clause-facts : goal.returns-clause-facts

@@ -1,5 +1,5 @@
 use Rattle.jz_fact_sets.specs.Kept.{known_at}
-use Rattle.jz_block_facts.proofs.Laying.{both_met}
+use Rattle.jz_block_facts.proofs.LaidFacts.{both_met}
 use Rattle.jz_block_facts.proofs.laying.meet_both.Goals as goal
 
 pub returns-clause-facts : goal.returns-clause-facts

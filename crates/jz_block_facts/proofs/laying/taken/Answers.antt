@@ -1,4 +1,4 @@
-use Rattle.jz_block_facts.proofs.Laying.{over_facts}
+use Rattle.jz_block_facts.proofs.LaidFacts.{over_facts}
 use Rattle.jz_block_facts.proofs.laying.taken.Goals as goal
 
 pub returns-clause-facts : goal.returns-clause-facts

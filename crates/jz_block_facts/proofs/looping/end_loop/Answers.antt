@@ -3,7 +3,7 @@ use Rattle.std.specs.Prelude.{slice_set}
 use Rattle.jz_facts.specs.Tests.{leaves}
 use Rattle.jz_fact_sets.specs.Kept.{given_of, facts_of}
 use Rattle.jz_block_facts.specs.Heads.{laid}
-use Rattle.jz_block_facts.proofs.Laying.{returned}
+use Rattle.jz_block_facts.proofs.LaidFacts.{returned}
 use Rattle.jz_block_facts.proofs.looping.end_loop.Goals as goal
 
 pub returns-clause-below : goal.returns-clause-below

@@ -3,7 +3,7 @@ use Rattle.jz_flow.specs.Sets.{common}
 use Rattle.jz_fact_sets.specs.Kept.{known_at, facts_of}
 use Rattle.jz_fact_sets.specs.Meeting.{Falls}
 use Rattle.jz_block_facts.specs.Heads.{laid}
-use Rattle.jz_block_facts.proofs.Laying.{returned, narrower, over_facts, facts_as, facts_seen}
+use Rattle.jz_block_facts.proofs.LaidFacts.{returned, narrower, over_facts, facts_as, facts_seen}
 use Rattle.jz_block_facts.proofs.looping.lower_head.Goals as goal
 
 pub returns-clause-below : goal.returns-clause-below
@@ -20,7 +20,7 @@ returns-clause-facts c g d =
     let same = returned zero three two.below.items (c.in_ok-lay-2.ensures.below ∙ c.in_ok-lay.ensures.below ∙ c.in_ok-open.ensures.below) c.close-turn.ensures.below in
     narrower g turn (known_at three) (known_at c.narrow-fell.new.set) d c.in_ok-fell.ensures.known
     ∙ ap (λ s. common (facts_of g three) s) (sym (over_facts g two three turn c.close-turn.ensures.table c.close-turn.ensures.below)
-      ∙ c.in_ok-lay-2.ensures.facts g ∙ ap (laid g c.args.body.now) (c.in_ok-lay.ensures.facts g ∙ ap (laid g c.args.prologue.now) (facts_seen g zero c.open.new.self c.in_ok-open.ensures.seen)))
+    ∙ c.in_ok-lay-2.ensures.facts g ∙ ap (laid g c.args.body.now) (c.in_ok-lay.ensures.facts g ∙ ap (laid g c.args.prologue.now) (facts_seen g zero c.open.new.self c.in_ok-open.ensures.seen)))
     ∙ ap (λ s. common s (laid g c.args.body.now (laid g c.args.prologue.now (facts_of g zero)))) (facts_as g (known_at zero) (known_at three) same.2)
 
 pub returns-clause-same : goal.returns-clause-same

@@ -1,6 +1,6 @@
 use Rattle.std.proofs.Common.{ap, ◌∙◌}
 use Rattle.jz_block_facts.specs.Pieces.{answered}
-use Rattle.jz_block_facts.proofs.Laying.{facts_seen}
+use Rattle.jz_block_facts.proofs.LaidFacts.{facts_seen}
 use Rattle.jz_block_facts.proofs.single.open_arm.Goals as goal
 
 pub returns-clause-facts : goal.returns-clause-facts

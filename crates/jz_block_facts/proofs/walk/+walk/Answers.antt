@@ -10,7 +10,7 @@ use Rattle.jz_fact_sets.specs.Meeting.{amount, Falls}
 use Rattle.jz_block_facts.specs.Heads.{no_callees, HasNoFor, laid}
 use Rattle.jz_block_facts.specs.Pieces.{body_piece, operation_of, answered}
 use Rattle.jz_block_facts.specs.InnerWalks.{place_of, loop_piece, turn_piece, prologue_piece, condition_of}
-use Rattle.jz_block_facts.proofs.Laying.{returned, facts_seen, facts_as, over_facts, none_more}
+use Rattle.jz_block_facts.proofs.LaidFacts.{returned, facts_seen, facts_as, over_facts, none_more}
 use Rattle.jz_block_facts.proofs.Splitting.{if_is, assign_is, mark_is, for_is, while_is}
 use Rattle.jz_block_facts.proofs.Measures.{weights, body_weight, weights_at, weight_if, weight_while, falls_to}
 use Rattle.jz_block_facts.proofs.Turning.{prologue_ready, rest_ready, never_empty, each_way, begins, still_there, turned, ends}
@@ -34,8 +34,7 @@ pub walk_block-loop-stmt-preserved : goal.walk_block-loop-stmt-preserved
 walk_block-loop-stmt-preserved t c =
     let ss = c.args.stmts.now in
     let lt : c.loop-stmt.stmt-index < length ss = search rules in
-    let is : c.stmt-item.result ≡ get_or ss c.loop-stmt.stmt-index c.stmt-item.result = search rules in
-    (
+    let is : c.stmt-item.result ≡ get_or ss c.loop-stmt.stmt-index c.stmt-item.result = search rules in (
       c.in_ok-next.ensures.below ∙ c.loop-stmt.invariant.0,
       one_on c.args.given.now ss c.loop-stmt.stmt-index c.stmt-item.result _ _ _ lt is c.loop-stmt.invariant.1 c.in_ok-next.ensures.leads,
     )
@@ -63,8 +62,7 @@ walk_statement-walk_arm-requires t c =
     let s = c.args.stmt.now in
     let i = c.in-If in
     let q = record { cond = i.cond; at = s.span } in
-    let w = weight_if s i.cond i.yes i.no i.is in
-    (
+    let w = weight_if s i.cond i.yes i.no i.is in (
       omega (arith, w, c.decreases),
       yes_ready g q (block no_callees i.yes) (block no_callees i.no) _ (ready_as g (statement_tree no_callees s) (choose q (block no_callees i.yes done) (block no_callees i.no done)) _ (if_is s i.cond i.yes i.no i.is) c.requires),
     )
@@ -78,11 +76,10 @@ walk_statement-walk_arm-requires-2 t c =
     let w = weight_if s i.cond i.yes i.no i.is in
     let zero = c.args.set.now in
     let one = c.walk_arm.new.set in
-    let same = facts_seen g zero one c.in_ok-first-in-If.ensures.seen in
-    (
+    let same = facts_seen g zero one c.in_ok-first-in-If.ensures.seen in (
       omega (arith, w, c.decreases),
       ready_from g (block no_callees i.no) (answered g i.cond false (facts_of g zero)) (answered g i.cond false (facts_of g one)) _ _ (ap (answered g i.cond false) (sym same))
-      (no_ready g q (block no_callees i.yes) (block no_callees i.no) (place_of g zero c.args.at c.args.heads.now.items) _ (ready_as g (statement_tree no_callees s) (choose q (block no_callees i.yes done) (block no_callees i.no done)) _ (if_is s i.cond i.yes i.no i.is) c.requires) c.in_ok-first-in-If.ensures.leads),
+          (no_ready g q (block no_callees i.yes) (block no_callees i.no) (place_of g zero c.args.at c.args.heads.now.items) _ (ready_as g (statement_tree no_callees s) (choose q (block no_callees i.yes done) (block no_callees i.no done)) _ (if_is s i.cond i.yes i.no i.is) c.requires) c.in_ok-first-in-If.ensures.leads),
     )
 
 pub walk_statement-returns-in_ok-meet_both-in-If-clause-below : goal.walk_statement-returns-in_ok-meet_both-in-If-clause-below
@@ -103,18 +100,17 @@ walk_statement-returns-in_ok-meet_both-in-If-clause-leads t c =
     let more = facts_seen g one two c.in_ok-second-in-If.ensures.seen in
     leads_as g (choose q (block no_callees i.yes done) (block no_callees i.no done)) (statement_tree no_callees s) _ _ (if_is s i.cond i.yes i.no i.is)
     (arms_lead g q (block no_callees i.yes) (block no_callees i.no) (facts_of g zero) (facts_of g one) _ _ _ _ _ _ (laid g first (facts_of g zero)) (laid g second (facts_of g one)) (facts_of g c.meet_both.new.set) same
-      c.in_ok-first-in-If.ensures.leads c.in_ok-second-in-If.ensures.leads
-      (c.in_ok-meet_both-in-If.ensures.facts g c.requires.different
-      ∙ ap (λ x. common (laid g first x) (laid g second (facts_of g two))) (more ∙ same)
-      ∙ ap (λ x. common (laid g first (facts_of g zero)) (laid g second x)) more))
+    c.in_ok-first-in-If.ensures.leads c.in_ok-second-in-If.ensures.leads
+    (c.in_ok-meet_both-in-If.ensures.facts g c.requires.different
+    ∙ ap (λ x. common (laid g first x) (laid g second (facts_of g two))) (more ∙ same)
+    ∙ ap (λ x. common (laid g first (facts_of g zero)) (laid g second x)) more))
 
 pub walk_statement-walk_while-requires : goal.walk_statement-walk_while-requires
 walk_statement-walk_while-requires t c =
     let g = c.args.given.now in
     let s = c.args.stmt.now in
     let i = c.in-While in
-    let w = weight_while s i.prologue i.cond i.body i.is in
-    (
+    let w = weight_while s i.prologue i.cond i.body i.is in (
       omega (arith, w, c.decreases),
       ready_as g (statement_tree no_callees s) (loop (not (is_some i.body)) (block no_callees i.prologue done) (record { cond = i.cond; at = s.span }) (body_piece i.body done)) _ (while_is s i.prologue i.cond i.body i.is) c.requires,
     )
@@ -172,8 +168,8 @@ walk_rest-returns-in-None-clause-leads t c =
     let back = returned c.args.set.now c.taken-table.new.set c.open_arm.new.set.below.items c.in_ok-open_arm-in-None.ensures.below c.taken-table.ensures.below in
     leads_as g (λ r. r) (turn_piece c.args.parts) _ _ (ap body_piece c.in-None.is)
     (leads_from g (λ r. r) _ _ _ _ c.args.at c.args.at c.args.heads.now.items c.args.heads.now.items refl
-      (sym c.in_ok-open_arm-in-None.ensures.facts ∙ c.taken-table.ensures.facts g ∙ ap (laid g c.taken-table.result) (facts_as g (known_at c.args.set.now) (known_at c.taken-table.new.set) back.2))
-      (nothing_leads g p c.requires.within))
+    (sym c.in_ok-open_arm-in-None.ensures.facts ∙ c.taken-table.ensures.facts g ∙ ap (laid g c.taken-table.result) (facts_as g (known_at c.args.set.now) (known_at c.taken-table.new.set) back.2))
+    (nothing_leads g p c.requires.within))
 
 pub walk_rest-walk_arm-requires : goal.walk_rest-walk_arm-requires
 walk_rest-walk_arm-requires t c =
@@ -188,21 +184,19 @@ walk_rest-returns-in_ok-arm-in-Some-clause-leads t c =
 
 pub walk_turn-walk_block-requires : goal.walk_turn-walk_block-requires
 walk_turn-walk_block-requires t c =
-    let g = c.args.given.now in
-    (
+    let g = c.args.given.now in (
       omega (arith, c.decreases),
       ready_from g (prologue_piece c.args.parts) _ _ c.args.at c.args.heads.now.items (sym (facts_seen g c.args.set.now c.open.new.self c.in_ok-open.ensures.seen))
-      (prologue_ready g c.args.parts _ c.requires),
+          (prologue_ready g c.args.parts _ c.requires),
     )
 
 pub walk_turn-walk_rest-requires : goal.walk_turn-walk_rest-requires
 walk_turn-walk_rest-requires t c =
     let g = c.args.given.now in
-    let same = facts_seen g c.args.set.now c.open.new.self c.in_ok-open.ensures.seen in
-    (
+    let same = facts_seen g c.args.set.now c.open.new.self c.in_ok-open.ensures.seen in (
       omega (arith, c.decreases),
       rest_ready g c.args.parts (place_of g c.args.set.now c.args.at c.args.heads.now.items) (place_of g c.walk_block-middle.new.set c.in_ok-middle.middle c.walk_block-middle.new.heads.items) c.requires
-      (leads_from g (prologue_piece c.args.parts) _ _ _ _ c.args.at c.in_ok-middle.middle c.args.heads.now.items c.walk_block-middle.new.heads.items same refl c.in_ok-middle.ensures.leads),
+          (leads_from g (prologue_piece c.args.parts) _ _ _ _ c.args.at c.in_ok-middle.middle c.args.heads.now.items c.walk_block-middle.new.heads.items same refl c.in_ok-middle.ensures.leads),
     )
 
 pub walk_turn-returns-clause-below : goal.walk_turn-returns-clause-below
@@ -246,8 +240,7 @@ walk_while-loop-set-init t c =
     let zero = c.args.set.now in
     let one = c.open_head-inner.new.set in
     let n = c.in_ok-inner.ensures.next in
-    let inner : c.in_ok-inner.inner ≡ suc c.args.at = omega (arith, n) in
-    (
+    let inner : c.in_ok-inner.inner ≡ suc c.args.at = omega (arith, n) in (
       c.in_ok-inner.ensures.below,
       c.in_ok-inner.ensures.less,
       begins g c.args.parts (place_of g zero c.args.at c.args.heads.now.items) (place_of g one c.in_ok-inner.inner c.open_head-inner.new.heads.items) c.requires inner c.in_ok-inner.ensures.within c.in_ok-inner.ensures.others
@@ -266,8 +259,7 @@ walk_while-loop-set-preserved t c =
     let two = c.walk_turn-turn.new.set in
     let three = c.lower_head-fell.new.set in
     let a = c.in_ok-turn.turn in
-    let same = facts_seen g now two c.in_ok-turn.ensures.seen in
-    (
+    let same = facts_seen g now two c.in_ok-turn.ensures.seen in (
       c.in_ok-fell.ensures.below ∙ c.in_ok-turn.ensures.below ∙ c.loop-set.invariant.0,
       λ k. let x = none_more c.in_ok-fell.fell (known_at two) (known_at three) c.in_ok-fell.ensures.same c.in_ok-fell.ensures.falls k in
           let y = ap (λ s. amount (known_or (s k))) c.in_ok-turn.ensures.seen in

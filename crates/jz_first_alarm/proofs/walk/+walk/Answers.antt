@@ -8,7 +8,7 @@ use Rattle.jz_facts.specs.Tests.{leaves}
 use Rattle.jz_fact_sets.specs.Kept.{given_of, facts_of, known_at, known_or}
 use Rattle.jz_block_facts.specs.Heads.{no_callees, laid}
 use Rattle.jz_block_facts.specs.Pieces.{body_piece, operation_of, answered}
-use Rattle.jz_block_facts.proofs.Laying.{returned, facts_seen, facts_as, over_facts}
+use Rattle.jz_block_facts.proofs.LaidFacts.{returned, facts_seen, facts_as, over_facts}
 use Rattle.jz_block_facts.proofs.Splitting.{if_is, assign_is, mark_is, while_is}
 use Rattle.jz_block_facts.proofs.Measures.{weights, body_weight, weights_at, weight_if, weight_while}
 use Rattle.jz_first_alarm.specs.InnerAsking.{loop_piece, turn_piece}

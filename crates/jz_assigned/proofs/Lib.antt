@@ -1,0 +1,4 @@
+pub mod Assigning
+pub mod Cells
+pub mod Writing
+pub mod OneValue

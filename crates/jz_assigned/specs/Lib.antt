@@ -1,0 +1,2 @@
+pub mod AssignedLaws
+pub use Rattle.jz_standing.specs.Standing

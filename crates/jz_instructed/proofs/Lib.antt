@@ -1,0 +1,3 @@
+pub mod Instructing
+pub mod Lefts
+pub mod Instructions

@@ -1,0 +1,3 @@
+pub mod Instructed
+pub mod InstructedLaws
+pub use Rattle.jz_standing.specs.Standing

@@ -1,0 +1,4 @@
+//! Instructions in an expanded function: where the conditions are met, they are not stuck.
+#![tactic(auto)]
+
+mod laws;

@@ -1,0 +1,4 @@
+//! Where a run of an expanded function stands, and what expressions give there.
+#![tactic(auto)]
+
+mod laws;

@@ -1,0 +1,4 @@
+pub mod Pairs
+pub mod Carries
+pub mod Paired
+pub mod TwoValues

@@ -1,0 +1,2 @@
+pub mod MetLaws
+pub use Rattle.jz_standing.specs.Standing
