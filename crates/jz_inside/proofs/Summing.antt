@@ -1,18 +1,23 @@
 -- What is added to sums.
-use Rattle.std.proofs.Common.{◌≡◌, ℕ, suc, ◌+◌, ◌*◌, ◌<◌, ◌≤◌, Bool, true, false, List, [], ◌∷◌, ◌++◌, map, Option, Some, None, refl, ap, sym, ◌∙◌, subst, arith, ints, cc}
+use Rattle.std.proofs.Common.{◌≡◌, ℕ, suc, ◌+◌, ◌*◌, ◌<◌, ◌≤◌, Bool, true, false, List, [], ◌∷◌, ◌++◌, map, Option, Some, None, refl, ap, sym, ◌∙◌, subst, arith}
 use Rattle.std.specs.Prelude.{ℤ, pos, negsuc, ◌+ℤ◌, ◌-ℤ◌, ◌<ℤ◌, unsigned_abs, reverse}
+use Rattle.std.proofs.lemmas.Int.{ints}
 use Rattle.std.proofs.lemmas.List.{append_assoc, reverse-append}
 use Rattle.jz_tree.specs.Span.{Span}
 use Rattle.jz_tree.specs.declared.expr.BinOp.{BinOp}
 use Rattle.jz_tree.specs.declared.expr.BinOp.TheVariants as o
 use Rattle.jz_tree.specs.declared.expr.Expr.{Expr}
 use Rattle.jz_tree.specs.declared.expr.Expr.TheVariants as expr
-use Rattle.jz_meaning.specs.Values.{Ref}
+use Rattle.jz_meaning.specs.Values.{Ref, ref_of}
 use Rattle.jz_terms.specs.Terms.{Term, num, truth, var, cell, load, neg, inv, cast, bin, term_of}
 use Rattle.jz_terms.proofs.TermForms.{term_bin}
 use Rattle.jz_alarms.specs.Conditions.{Sum, joined, taken, sum_of}
 use Rattle.jz_wide.specs.Values.{sum}
-use Rattle.jz_inside.specs.InnerSums.{with_number, without_number, if_sum, unless_no, behind, taken_from, product, of_product}
+use Rattle.std.specs.Borrow.{Bor}
+use Rattle.jz_tree.specs.declared.expr.Var.{Var}
+use Rattle.jz_inside.specs.declared.sums.Join.{Join}
+use Rattle.jz_inside.specs.declared.sums.Scaled.{Scaled}
+use Rattle.jz_inside.specs.InnerSums.{without_number, if_sum, unless_no, behind, taken_from, scaled_of, product, of_product, join_of, sum_as}
 
 -- ---- numbers
 
@@ -23,21 +28,24 @@ sum_push (y ∷ ys) x = ap (λ n. y + n) (sum_push ys x) ∙ regroup y (sum ys) 
     regroup : (a b c : ℕ) → a + (b + c) ≡ a + b + c
     regroup a b c = omega arith
 
-pub less_by : (p t a : ℕ) (n : ℤ) → n <ℤ pos 0 → a ≡ unsigned_abs n → pos p -ℤ pos (t + a) ≡ (pos p -ℤ pos t) +ℤ n
-less_by p t a (pos m) l h = absurd (omega (arith, ints, l))
-less_by p t a (negsuc m) l h = let k : a ≡ suc m = h in omega (arith, ints, k)
+-- where a number is below 0 its amount is taken away
+pub below_zero : (more less less2 : List ℕ) (a : ℕ) (n : ℤ) → less2 ≡ less ++ a ∷ [] → n <ℤ pos 0 → a ≡ unsigned_abs n → pos (sum more) -ℤ pos (sum less2) ≡ (pos (sum more) -ℤ pos (sum less)) +ℤ n
+below_zero more less less2 a (pos m) e l h = absurd (omega (arith, ints, l))
+below_zero more less less2 a (negsuc m) e l h =
+    let k : a ≡ suc m = h in
+    let s : sum less2 ≡ sum less + a = ap sum e ∙ sum_push less a in
+    omega (arith, ints, k, s)
 
-pub more_by : (p t a : ℕ) (n : ℤ) → (n <ℤ pos 0 → ⊥) → a ≡ unsigned_abs n → pos (p + a) -ℤ pos t ≡ (pos p -ℤ pos t) +ℤ n
-more_by p t a (pos m) l h = let k : a ≡ m = h in omega (arith, ints, k)
-more_by p t a (negsuc m) l h = absurd (l (omega (arith, ints)))
+pub from_zero : (more less more2 : List ℕ) (a : ℕ) (n : ℤ) → more2 ≡ more ++ a ∷ [] → (n <ℤ pos 0 → ⊥) → a ≡ unsigned_abs n → pos (sum more2) -ℤ pos (sum less) ≡ (pos (sum more) -ℤ pos (sum less)) +ℤ n
+from_zero more less more2 a (pos m) e l h =
+    let k : a ≡ m = h in
+    let s : sum more2 ≡ sum more + a = ap sum e ∙ sum_push more a in
+    omega (arith, ints, k, s)
+from_zero more less more2 a (negsuc m) e l h = absurd (l (omega (arith, ints)))
 
-pub less_taken : (p t a : ℕ) (n : ℤ) → (n <ℤ pos 0 → ⊥) → a ≡ unsigned_abs n → pos p -ℤ pos (t + a) ≡ (pos p -ℤ pos t) -ℤ n
-less_taken p t a (pos m) l h = let k : a ≡ m = h in omega (arith, ints, k)
-less_taken p t a (negsuc m) l h = absurd (l (omega (arith, ints)))
-
-pub more_taken : (p t a : ℕ) (n : ℤ) → n <ℤ pos 0 → a ≡ unsigned_abs n → pos (p + a) -ℤ pos t ≡ (pos p -ℤ pos t) -ℤ n
-more_taken p t a (pos m) l h = absurd (omega (arith, ints, l))
-more_taken p t a (negsuc m) l h = let k : a ≡ suc m = h in omega (arith, ints, k)
+-- the same the other way round
+pub turned : (p t q u n : ℤ) → q -ℤ u ≡ (p -ℤ t) +ℤ n → u -ℤ q ≡ (t -ℤ p) -ℤ n
+turned p t q u n e = omega (arith, ints, e)
 
 -- ---- sums
 
@@ -57,7 +65,7 @@ joined_thrice a b s =
     (sym (append_assoc a.plain b.plain s.plain)) (sym (append_assoc a.scaled b.scaled s.scaled)) (regroup a.more b.more s.more))
 
 -- a sum more behind a left operand
-pub after_add : (q r : Option Sum) (yes : Bool) (s t : Sum) → if_sum yes t ≡ joined r (Some s) → behind (unless_no yes) q t ≡ joined (joined q r) (Some s)
+pub after_add : (q r : Option Sum) (z : Bool) (s t : Sum) → if_sum z t ≡ joined r (Some s) → behind (unless_no z) q t ≡ joined (joined q r) (Some s)
 after_add None None true s t h = absurd (cc h)
 after_add None (Some b) true s t h = refl
 after_add (Some a) None true s t h = absurd (cc h)
@@ -71,7 +79,7 @@ less_more : (a b n : ℤ) → a +ℤ (b -ℤ n) ≡ (a -ℤ n) +ℤ b
 less_more a b n = omega (arith, ints)
 
 -- a number less
-pub after_take : (q : Option Sum) (e : Term) (yes : Bool) (s t : Sum) → if_sum yes t ≡ taken_from s e → behind (unless_no yes) q t ≡ joined (taken q e) (Some s)
+pub after_take : (q : Option Sum) (e : Term) (z : Bool) (s t : Sum) → if_sum z t ≡ taken_from s e → behind (unless_no z) q t ≡ joined (taken q e) (Some s)
 after_take None (num i at) true s t h = refl
 after_take (Some a) (num i at) true s t h =
     ap (joined (Some a)) h
@@ -105,7 +113,8 @@ after_take (Some u) (bin op a b at) false s t h = refl
 -- ---- products
 
 number_by : (i : ℤ) (t : Span) (b : Term) (at : Span) → sum_of (bin o.Mul (num i t) b at) ≡ of_product (product (num i t) b)
-number_by (pos k) t (num j u) at = refl
+number_by (pos k) t (num (pos j) u) at = refl
+number_by (pos k) t (num (negsuc j) u) at = refl
 number_by (pos k) t (truth c u) at = refl
 number_by (pos k) t (var x) at = refl
 number_by (pos k) t (cell x i) at = refl
@@ -211,6 +220,66 @@ product_so (bin op d e u) (inv l v) at = refl
 product_so (bin op d e u) (cast n m l v) at = refl
 product_so (bin op d e u) (bin r l t v) at = refl
 
+-- ---- each operation
+
+pub sum_by : (op : BinOp) (a b : Term) (at : Span) → sum_of (bin op a b at) ≡ sum_as (join_of op) a b
+sum_by o.OrElse a b at = refl
+sum_by o.AndThen a b at = refl
+sum_by o.Or a b at = refl
+sum_by o.Xor a b at = refl
+sum_by o.And a b at = refl
+sum_by o.Eq a b at = refl
+sum_by o.Ne a b at = refl
+sum_by o.Lt a b at = refl
+sum_by o.Le a b at = refl
+sum_by o.Gt a b at = refl
+sum_by o.Ge a b at = refl
+sum_by o.LtS a b at = refl
+sum_by o.LeS a b at = refl
+sum_by o.GtS a b at = refl
+sum_by o.GeS a b at = refl
+sum_by o.Shl a b at = refl
+sum_by o.Shr a b at = refl
+sum_by o.Sar a b at = refl
+sum_by o.Rol a b at = refl
+sum_by o.Ror a b at = refl
+sum_by o.Add a b at = refl
+sum_by o.Sub a b at = refl
+sum_by o.Mul a b at = product_so a b at
+sum_by o.Div a b at = refl
+sum_by o.Rem a b at = refl
+sum_by o.DivS a b at = refl
+sum_by o.RemS a b at = refl
+
+pub as_join : (op : BinOp) (j : Join) (a b : Term) (at : Span) → j ≡ join_of op → sum_of (bin op a b at) ≡ sum_as j a b
+as_join op j a b at e = sum_by op a b at ∙ ap (λ x. sum_as x a b) (sym e)
+
+-- ---- what is added
+
+none_first : (m : ℤ) → m ≡ pos 0 +ℤ m
+none_first m = omega (arith, ints)
+
+other_way : (m n k : ℤ) → k ≡ m +ℤ n → k ≡ n +ℤ m
+other_way m n k e = omega (arith, ints, e)
+
+pub number_sum : (ps : List Ref) (ss : List (Ref × ℕ)) (m n k : ℤ) → k ≡ m +ℤ n
+    → Some (record { plain = ps; scaled = ss; more = k }) ≡ joined (Some (record { plain = []; scaled = []; more = n })) (Some (record { plain = ps; scaled = ss; more = m }))
+number_sum ps ss m n k e = ap Some (same_sum ps ps ss ss k (n +ℤ m) refl refl (other_way m n k e))
+
+pub var_sum : (vs us : List (Bor Var)) (v : Bor Var) (ss : List (Ref × ℕ)) (m : ℤ) → us ≡ vs ++ v ∷ []
+    → Some (record { plain = map (λ x. ref_of x.now) (reverse us); scaled = ss; more = m })
+    ≡ joined (Some (record { plain = ref_of v.now ∷ []; scaled = []; more = pos 0 })) (Some (record { plain = map (λ x. ref_of x.now) (reverse vs); scaled = ss; more = m }))
+var_sum vs us v ss m e =
+    ap Some (same_sum (map (λ x. ref_of x.now) (reverse us)) (ref_of v.now ∷ map (λ x. ref_of x.now) (reverse vs)) ss ss m (pos 0 +ℤ m)
+    (ap (λ xs. map (λ x. ref_of x.now) (reverse xs)) e ∙ ap (map (λ x. ref_of x.now)) (reverse-append vs (v ∷ []))) refl (none_first m))
+
+pub scaled_sum : (ps : List Ref) (vs us : List Scaled) (v : Scaled) (m : ℤ) → us ≡ vs ++ v ∷ []
+    → Some (record { plain = ps; scaled = map scaled_of (reverse us); more = m })
+    ≡ joined (Some (record { plain = []; scaled = scaled_of v ∷ []; more = pos 0 })) (Some (record { plain = ps; scaled = map scaled_of (reverse vs); more = m }))
+scaled_sum ps vs us v m e =
+    ap Some (same_sum ps ps (map scaled_of (reverse us)) (scaled_of v ∷ map scaled_of (reverse vs)) m (pos 0 +ℤ m)
+    refl (ap (λ xs. map scaled_of (reverse xs)) e ∙ ap (map scaled_of) (reverse-append vs (v ∷ []))) (none_first m))
+
 -- ---- an operation at a place of the left side
 
 module _ (rest : Expr) (op : BinOp) (a b : Expr) (at : Span) (l r : Expr) (q : Option Bool) (s t : Sum)
@@ -222,8 +291,11 @@ module _ (rest : Expr) (op : BinOp) (a b : Expr) (at : Span) (l r : Expr) (q : O
   whole : behind q (sum_of (term_of l)) t ≡ joined (sum_of (term_of rest)) (Some s)
   whole = k at ∙ ap (λ x. joined (sum_of x) (Some s)) (sym term_is)
 
-  pub answer_there : (yes : Bool) → q ≡ Some yes → if_sum yes t ≡ joined (sum_of (term_of rest)) (Some s)
-  answer_there yes e = ap (λ x. behind x (sum_of (term_of l)) t) (sym e) ∙ whole
+  pub answer_there : (z : Bool) → q ≡ Some z → if_sum z t ≡ joined (sum_of (term_of rest)) (Some s)
+  answer_there z e = ap (λ x. behind x (sum_of (term_of l)) t) (sym e) ∙ whole
 
   pub more_left : (n : Expr) → n ≡ a → q ≡ None → joined (sum_of (term_of n)) (Some t) ≡ joined (sum_of (term_of rest)) (Some s)
   more_left n e f = ap (λ x. joined (sum_of (term_of x)) (Some t)) (e ∙ sym i) ∙ ap (λ x. behind x (sum_of (term_of l)) t) (sym f) ∙ whole
+
+pub with_more : (ps : List Ref) (ss : List (Ref × ℕ)) (m n : ℤ) → m ≡ n → ◌≡◌ {A = Option Sum} (Some (record { plain = ps; scaled = ss; more = m })) (Some (record { plain = ps; scaled = ss; more = n }))
+with_more ps ss m n e = ap (λ x. Some (record { plain = ps; scaled = ss; more = x })) e

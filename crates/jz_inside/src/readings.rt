@@ -48,7 +48,9 @@ fn in_either(says: Saying<'_, '_>, size: Size, first: &Var, second: &Var, more: 
         index: Some(Scaled { var: first, by: 1 }),
         more,
     };
-    in_some_region(says, size, one) || in_some_region(says, size, other)
+    let first = in_some_region(says, size, one);
+    let second = in_some_region(says, size, other);
+    first || second
 }
 
 /// Whether it lies in one in some reading of a sum.

@@ -141,16 +141,14 @@ fn is_in(says: Saying<'_, '_>, size: Size, reading: Reading<'_>, region: &Region
         (facts_in says.entry) (bytes_of size)
         (reading_of reading.entry) (region_of region.now) }
 {
-    if !is_base(says, reading.base, region) {
-        return false;
-    }
+    let based = is_base(says, reading.base, region);
     let index = scaled_ends(says, reading.index);
-    if !reading.more.is_from_zero(index.lo) {
-        return false;
-    }
+    let low = reading.more.is_from_zero(index.lo);
     let more = reading.more.with_size(size);
-    more.is_to(index.hi, least_length(says, region))
-        || is_below_length(says, reading.index, region, more)
+    let length = least_length(says, region);
+    let inside = more.is_to(index.hi, length);
+    let below = is_below_length(says, reading.index, region, more);
+    based && (low && (inside || below))
 }
 
 /// Whether they lie in some region.

@@ -1,11 +1,12 @@
 //! Sums of variables, of scaled variables and of numbers.
 
-ghost use Rattle.std.specs.Prelude.{◌≡◌, IfOk, OnOk, Some, option_map};
+ghost use Rattle.std.specs.Prelude.{◌≡◌, pos, ◌+ℤ◌, ◌-ℤ◌, IfOk, OnOk, Some, option_map};
 ghost use Rattle.jz_tree.specs.Span.{Span};
 ghost use Rattle.jz_tree.specs.LeftSides.{IsSingle};
 ghost use Rattle.jz_meaning.specs.Values.{ref_of};
 ghost use Rattle.jz_terms.specs.Terms.{bin, term_of};
 ghost use Rattle.jz_alarms.specs.Conditions.{joined, sum_of};
+ghost use Rattle.jz_wide.specs.Values.{sum};
 ghost use Rattle.jz_inside.specs.InnerSums as inner;
 ghost use Rattle.jz_inside.specs.InnerSums.{seen, if_sum, behind};
 
@@ -42,30 +43,20 @@ impl<'e> Sum<'e> {
             taken: Vec::new(alloc),
         }
     }
+}
 
-    /// Adds a number.
-    fn add(&mut self, n: i128) -> Result<(), AllocError>
-        ensures { OnOk result (seen self.new ≡ inner.with_number n (seen self.old)) }
-    {
-        if n < 0 {
-            self.taken.push(n.unsigned_abs())?;
-            return Ok(());
-        }
-        self.added.push(n.unsigned_abs())?;
-        Ok(())
+/// Adds a number to those that are added, its amount to those that are taken away where it is below
+/// 0.
+fn add_number(more: &mut Vec<u128>, less: &mut Vec<u128>, n: i128) -> Result<(), AllocError>
+    ensures { OnOk result (pos (sum more.new.items) -ℤ pos (sum less.new.items)
+        ≡ (pos (sum more.old.items) -ℤ pos (sum less.old.items)) +ℤ n) }
+{
+    if n < 0 {
+        less.push(n.unsigned_abs())?;
+        return Ok(());
     }
-
-    /// Takes a number away.
-    fn take(&mut self, n: i128) -> Result<(), AllocError>
-        ensures { OnOk result (seen self.new ≡ inner.without_number n (seen self.old)) }
-    {
-        if n < 0 {
-            self.added.push(n.unsigned_abs())?;
-            return Ok(());
-        }
-        self.taken.push(n.unsigned_abs())?;
-        Ok(())
-    }
+    more.push(n.unsigned_abs())?;
+    Ok(())
 }
 
 /// Adds an expression, if it is a sum; whether it is one.
@@ -76,8 +67,9 @@ pub(crate) fn add_sum<'e>(sum: &mut Sum<'e>, e: &'e Expr) -> Result<bool, AllocE
 {
     let mut rest = e;
     while let Expr::Bin(op, left, right, _) = rest {
-        match add_behind(sum, *op, left.get(), right.get())? {
-            Some(answer) => return Ok(answer),
+        let answer = add_behind(sum, *op, left.get(), right.get())?;
+        match answer {
+            Some(settled) => return Ok(settled),
             None => rest = left.get(),
         }
     }
@@ -99,20 +91,40 @@ fn add_behind<'e>(
         ≡ joined (sum_of (bin op (term_of left.now) (term_of right.now) at))
         (Some (seen sum.old))) }
 {
-    match op {
-        BinOp::Add => {
+    match join_of(op) {
+        Join::Added => {
             let yes = add_sum(sum, right)?;
             Ok(unless_no(yes))
         }
-        BinOp::Sub => {
+        Join::Taken => {
             let yes = take_number(sum, right)?;
             Ok(unless_no(yes))
         }
-        BinOp::Mul => {
+        Join::Product => {
             let yes = add_product(sum, left, right)?;
             Ok(Some(yes))
         }
-        _ => Ok(Some(false)),
+        Join::Nothing => Ok(Some(false)),
+    }
+}
+
+/// How an operation joins a sum and its right operand.
+#[derive(Clone, Copy)]
+enum Join {
+    Added,
+    Taken,
+    Product,
+    Nothing,
+}
+
+fn join_of(op: BinOp) -> Join
+    ensures { result ≡ inner.join_of op }
+{
+    match op {
+        BinOp::Add => Join::Added,
+        BinOp::Sub => Join::Taken,
+        BinOp::Mul => Join::Product,
+        _ => Join::Nothing,
     }
 }
 
@@ -130,7 +142,7 @@ fn take_number(sum: &mut Sum<'_>, e: &Expr) -> Result<bool, AllocError>
 {
     match e {
         Expr::Num(n, _) => {
-            sum.take(*n)?;
+            add_number(&mut sum.taken, &mut sum.added, *n)?;
             Ok(true)
         }
         Expr::Bool(_, _) => Ok(false),
@@ -209,7 +221,7 @@ fn product<'e>(left: &'e Expr, right: &'e Expr) -> Option<Scaled<'e>>
 
 /// Adds a product, if it is a scaled variable; whether it is one.
 fn add_product<'e>(sum: &mut Sum<'e>, left: &'e Expr, right: &'e Expr) -> Result<bool, AllocError>
-    ensures { IfOk result (λ yes. (at : Span) → if_sum yes (seen sum.new)
+    ensures { IfOk result (λ yes. if_sum yes (seen sum.new)
         ≡ joined (inner.of_product (inner.product (term_of left.now) (term_of right.now)))
         (Some (seen sum.old))) }
 {
@@ -230,7 +242,7 @@ fn add_single<'e>(sum: &mut Sum<'e>, e: &'e Expr) -> Result<bool, AllocError>
 {
     match e {
         Expr::Num(n, _) => {
-            sum.add(*n)?;
+            add_number(&mut sum.added, &mut sum.taken, *n)?;
             Ok(true)
         }
         Expr::Bool(_, _) => Ok(false),

@@ -8,5 +8,5 @@ use Rattle.jz_inside.proofs.regions.in_some_region.Given as goal
 
 abbrev pub invariant-loop-region : goal.invariant-loop-region
 invariant-loop-region l =
-    conditions.in_some_region (given_in l.says) (facts_in l.says) (bytes_of l.size) (reading_of l.reading) (map region_of (drop l.region-index l.region-items))
+    conditions.in_some_region (given_in l.says) (facts_in l.says) (bytes_of l.size) (reading_of l.reading) (map region_of (drop l.region-index l.says.given.now.regions))
     ≡ conditions.in_some_region (given_in l.says) (facts_in l.says) (bytes_of l.size) (reading_of l.reading) (map region_of l.says.given.now.regions)
