@@ -8,7 +8,6 @@ use Rattle.jz_tree.specs.declared.expr.BinOp.{BinOp}
 use Rattle.jz_tree.specs.declared.expr.Access.{Access}
 use Rattle.jz_tree.specs.declared.expr.Expr.{Expr}
 use Rattle.jz_tree.specs.declared.expr.Expr.TheVariants as expr
-use Rattle.jz_tree.specs.declared.expr.Expr.TheViews.{out-Access, roll-out-Access}
 use Rattle.jz_meaning.specs.Values.{left_wanted, own_size}
 use Rattle.jz_terms.specs.Terms.{Place, bin, term_of, place_of, size_in}
 use Rattle.jz_terms.proofs.Bridge.{term_so, place_is}
@@ -48,8 +47,8 @@ one_down g s rest n op a b at l r w v found here new h i j m k q f =
 
 -- ---- accesses
 
-pub place_out : (a : Access) → place_of a ≡ record { spot = record { size = (out-Access a).size; unaligned = (out-Access a).unaligned; span = (out-Access a).span }; at = term_of (out-Access a).at }
-place_out a = ap place_of (sym (roll-out-Access a)) ∙ place_is (out-Access a)
+pub place_out : (a : Access) → place_of a ≡ record { spot = record { size = a.size; unaligned = a.unaligned; span = a.span }; at = term_of a.at }
+place_out a = place_is (record { size = a.size; at = a.at; unaligned = a.unaligned; span = a.span })
 
 -- ---- lists
 

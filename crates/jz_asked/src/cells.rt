@@ -1,7 +1,8 @@
 //! Conditions of variables and of arrays.
 
-ghost use Rattle.std.specs.Prelude.{◌≡◌, ◌≤◌, ◌^◌};
-ghost use Rattle.jz_layers.specs.Spots.{variable_key};
+ghost use Rattle.std.specs.Prelude.{◌≡◌, Some};
+ghost use Rattle.jz_meaning.specs.States.{same_cell};
+ghost use Rattle.jz_layers.specs.Spots.{variable_key, cell_spot, spot_of, same_spot};
 ghost use Rattle.jz_meaning.specs.Values.{ref_of};
 ghost use Rattle.jz_terms.specs.Terms.{term_of};
 ghost use Rattle.jz_facts.specs.Facts.{Set, Cell};
@@ -81,11 +82,40 @@ fn is_cell_set(says: Saying<'_, '_>, var: &Var, index: u64) -> bool
     known_at(says.set, Named::cell_of(var, index)).set
 }
 
-/// Nothing is known of cells past the 64 bits of an index.
-fn is_set_past(says: Saying<'_, '_>, var: &Var, index: u128) -> bool
-    requires { 2 ^ 64 ≤ index }
+fn is_index(index: u128, other: Option<u64>) -> bool
+    ensures { result ≡ same_cell (Some index) other }
+{
+    match other {
+        None => false,
+        Some(other) => index == (other as u128),
+    }
+}
+
+/// Whether something is this cell of a variable.
+fn is_that(var: &Var, index: u128, other: Named<'_>) -> bool
+    ensures { result ≡ same_spot (cell_spot var.now index) (spot_of other.entry) }
+{
+    var.name == *other.name
+        && (var.copy == other.copy && (var.cell == other.cell && is_index(index, other.index)))
+}
+
+/// The same by a look at each cell that is noted, for an index of more than 64 bits.
+fn is_noted_set(says: Saying<'_, '_>, var: &Var, index: u128) -> bool
     ensures { result ≡ facts_in says.entry (Cell (variable_key var.now) index) }
 {
+    let count = says.set.noted();
+    let mut i = 0;
+    while i < count {
+        match says.set.noted_at(i) {
+            None => unreachable!(),
+            Some(other) => {
+                if is_that(var, index, other) {
+                    return known_at(says.set, other).set;
+                }
+            }
+        }
+        i += 1;
+    }
     false
 }
 
@@ -93,7 +123,7 @@ fn is_set_at(says: Saying<'_, '_>, var: &Var, index: u128) -> bool
     ensures { result ≡ facts_in says.entry (Cell (variable_key var.now) index) }
 {
     if index >= PAST {
-        return is_set_past(says, var, index);
+        return is_noted_set(says, var, index);
     }
     is_cell_set(says, var, index as u64)
 }

@@ -50,9 +50,10 @@ pub(crate) fn asks_lefts<'e>(
         (facts_in says.entry) size to.now) }
 {
     for left in to.as_slice() {
-        match asks_left(alloc, says, size, left)? {
+        let found = asks_left(alloc, says, size, left)?;
+        match found {
             None => {}
-            Some(found) => return Ok(Some(found)),
+            Some(asked) => return Ok(Some(asked)),
         }
     }
     Ok(None)
@@ -139,9 +140,10 @@ pub(crate) fn asks_each<'e>(
         (facts_in says.entry) size operands.now) }
 {
     for operand in operands {
-        match asks(alloc, says, size, operand)? {
+        let found = asks(alloc, says, size, operand)?;
+        match found {
             None => {}
-            Some(found) => return Ok(Some(found)),
+            Some(asked) => return Ok(Some(asked)),
         }
     }
     Ok(None)

@@ -5,4 +5,4 @@ use Rattle.jz_asked.proofs.lefts.asks_lefts.Given as goal
 
 abbrev pub invariant-loop-left : goal.invariant-loop-left
 invariant-loop-left l =
-    asks_lefts (given_in l.says) (facts_in l.says) l.size (drop l.left-index l.left-items) ≡ asks_lefts (given_in l.says) (facts_in l.says) l.size l.to
+    asks_lefts (given_in l.says) (facts_in l.says) l.size (drop l.left-index l.to) ≡ asks_lefts (given_in l.says) (facts_in l.says) l.size l.to

@@ -4,4 +4,4 @@ use Rattle.jz_inside.specs.Said.{facts_in}
 use Rattle.jz_asked.proofs.operations.asks_results.Given as goal
 
 abbrev pub invariant-loop-result : goal.invariant-loop-result
-invariant-loop-result l = asks_results (drop l.result-index l.result-items) (facts_in l.says) ≡ asks_results l.results (facts_in l.says)
+invariant-loop-result l = asks_results (drop l.result-index l.results) (facts_in l.says) ≡ asks_results l.results (facts_in l.says)
