@@ -1,7 +1,9 @@
 -- What each statement asks, with what its parts ask.
 use Rattle.std.proofs.Common.{◌≡◌, ℕ, suc, ◌+◌, Bool, true, false, List, [], ◌∷◌, drop, length, ◌<◌, ◌≤◌, Option, Some, None, refl, sym, ap, ◌∙◌, subst, arith}
-use Rattle.std.specs.Prelude.{slice_get}
-use Rattle.indexmap.specs.IndexMap.{IndexMap}
+use Rattle.std.specs.Prelude.{Result, Ok, Err, IfErr, IsErrAnd}
+use Rattle.jz_tree.specs.Failure.{Failure}
+use Rattle.jz_tree.specs.Failure.TheVariants as failure
+use Rattle.jz_tree.specs.Failures.{IfRefused}
 use Rattle.jz_tree.specs.declared.expr.Var.{Var}
 use Rattle.jz_tree.specs.declared.stmt.Stmt.{Stmt}
 use Rattle.jz_runs.specs.Trees.{Tree, done, op, quiet, choose, loop}
@@ -19,6 +21,15 @@ use Rattle.jz_fact_sets.specs.Kept.{given_of}
 use Rattle.jz_block_facts.specs.Heads.{no_callees, loops}
 use Rattle.jz_alarms.specs.Conditions.{Alarm, asks_operation, asks_test}
 use Rattle.jz_first_alarm.specs.InnerAsking.{FirstIn, Goes, Stops}
+
+refused_too : {C : Type 0} (e : Failure C) (P Q : C → Type 0) → ((c : C) → P c → Q c) → IfRefused e P → IfRefused e Q
+refused_too (failure.Refused c) P Q f h = f c h
+refused_too failure.OutOfMemory P Q f h = tt
+
+-- what holds of a refusal that is handed on
+pub handed_on : {A C : Type 0} (r : Result A (Failure C)) (e : Failure C) (P Q : C → Type 0) → IsErrAnd r (λ v. v ≡ e) → ((c : C) → P c → Q c) → IfRefused e P → IfErr r (λ v. IfRefused v Q)
+handed_on (Ok x) e P Q is f h = tt
+handed_on (Err v) e P Q is f h = refused_too v P Q f (subst (λ w. IfRefused w P) (sym is) h)
 
 -- of what comes first there is none
 skipped : {P : Type 0} (x w : Option Alarm) → x ≡ None → P → FirstOf x w P

@@ -1,23 +1,30 @@
 -- One piece after another, and where a walk stands.
-use Rattle.std.proofs.Common.{◌≡◌, ℕ, ◌+◌, ◌<◌, ◌≤◌, Bool, List, [], ◌∷◌, length, drop, get_or, Some, refl, sym, ap, ◌∙◌, subst, arith}
+use Rattle.std.proofs.Common.{BuildHasherDefault, FoldHasher, ◌≡◌, ℕ, suc, ◌+◌, ◌<◌, ◌≤◌, Bool, true, false, List, [], ◌∷◌, length, drop, get_or, Option, Some, refl, sym, ap, ◌∙◌, subst, arith}
+use Rattle.std.specs.Prelude.{slice_get}
 use Rattle.std.proofs.lemmas.List.{drop_more, drop_all}
+use Rattle.std.proofs.lemmas.Option.{slice_get_within}
 use Rattle.indexmap.specs.IndexMap.{IndexMap}
 use Rattle.jz_tree.specs.declared.stmt.Stmt.{Stmt}
-use Rattle.jz_runs.specs.Trees.{done}
-use Rattle.jz_meaning.specs.Statements.{Block}
+use Rattle.jz_runs.specs.Trees.{done, choose, loop}
+use Rattle.jz_meaning.specs.Statements.{Condition, Block}
+use Rattle.jz_flow.specs.Flow.{IsHead, After, OneTurn}
 use Rattle.jz_meaning.specs.Runs.{block, statement_tree}
 use Rattle.jz_flow.proofs.Ordering.{one_after}
 use Rattle.jz_facts.specs.Facts.{Facts}
+use Rattle.jz_facts.specs.Tests.{tested}
 use Rattle.jz_facts.specs.Along.{fact_steps}
 use Rattle.jz_facts.proofs.MoreFacts.{monotone}
 use Rattle.jz_layers.specs.declared.named.Named.{Named}
 use Rattle.jz_fact_sets.specs.declared.knowledge.Knowledge.{Knowledge}
 use Rattle.jz_fact_sets.specs.Kept.{given_of}
-use Rattle.jz_block_facts.specs.Heads.{no_callees, loops, AreHeads}
+use Rattle.jz_block_facts.specs.Heads.{no_callees, loops, laid, AreHeads}
 use Rattle.jz_block_facts.proofs.Splitting.{Splits, heads_at, statement_splits}
 use Rattle.jz_alarms.specs.Conditions.{Alarm}
 use Rattle.jz_first_alarm.specs.declared.arms.Known.{Known}
 use Rattle.jz_first_alarm.specs.InnerAsking.{IsReady, Goes, Stops}
+
+some_one : {A : Type 0} (a b : A) → ◌≡◌ {A = Option A} (Some a) (Some b) → a ≡ b
+some_one a b e = cc e
 
 module _ (k : Known) where
   pub ready_as : (f h : Block → Block) (i : ℕ) (s : Facts) → f ≡ h → IsReady k f i s → IsReady k h i s
@@ -74,6 +81,51 @@ module _ (k : Known) where
 
     pub later_stops : (v : Alarm) → Goes k.given.now piece i s j t → Stops k.given.now rest t v → Stops k.given.now (λ r. piece (rest r)) s v
     later_stops v a h xs r = a.first xs (rest r) (Some v) (h xs r)
+
+  -- ---- arms and turns
+
+  pub yes_ready : (c : Condition) (a b : Block → Block) (i : ℕ) (s : Facts) → IsReady k (choose c (a done) (b done)) i s → IsReady k a i (tested (given_of k.given.now) c true s)
+  yes_ready c a b i s h = record { different = h.different; words = h.words; heads = h.heads.2 }
+
+  pub no_ready : (c : Condition) (a b : Block → Block) (i j : ℕ) (s : Facts) → j ≡ i + loops (a done) → IsReady k (choose c (a done) (b done)) i s → IsReady k b j (tested (given_of k.given.now) c false s)
+  no_ready c a b i j s e h = record {
+    different = h.different;
+    words = h.words;
+    heads = heads_at k.given.now (b done) (i + loops (a done)) j k.heads.now (tested (given_of k.given.now) c false s) (sym e) h.heads.3;
+  }
+
+  module _ (w : Bool) (p : Block → Block) (c : Condition) (b : Block → Block) (i : ℕ) (s : Facts) (h : IsReady k (loop w (p done) c (b done)) i s) where
+    pub head_there : i < length k.heads.now
+    head_there = slice_get_within k.heads.now i h.heads.0 h.heads.2
+
+    module _ (m : IndexMap Named Knowledge (BuildHasherDefault FoldHasher)) (is : slice_get k.heads.now i ≡ Some m) where
+      same_table : h.heads.0 ≡ m
+      same_table = some_one h.heads.0 m (sym h.heads.2 ∙ is)
+
+      pub head_is : IsHead (OneTurn (fact_steps (given_of k.given.now)) (p done) c (b done)) s (laid k.given.now m s)
+      head_is = subst (λ x. IsHead (OneTurn (fact_steps (given_of k.given.now)) (p done) c (b done)) s (laid k.given.now x s)) same_table h.heads.3
+
+      pub prologue_ready : (n : ℕ) → n ≡ suc i → IsReady k p n (laid k.given.now m s)
+      prologue_ready n e = record {
+        different = h.different;
+        words = h.words;
+        heads = subst (λ x. AreHeads k.given.now (p done) n k.heads.now (laid k.given.now x s)) same_table
+            (heads_at k.given.now (p done) (suc i) n k.heads.now (laid k.given.now h.heads.0 s) (sym e) h.heads.4);
+      }
+
+      pub rest_ready : (j : ℕ) (t : Facts) → Goes k.given.now p (suc i) (laid k.given.now m s) j t → IsReady k b j (tested (given_of k.given.now) c true t)
+      rest_ready j t l =
+          let one = one_after (fact_steps (given_of k.given.now)) (monotone (given_of k.given.now)) (p done) (laid k.given.now m s) h.heads.1 t
+          (subst (λ x. After (fact_steps (given_of k.given.now)) (p done) (laid k.given.now x s) h.heads.1) same_table h.heads.5) (l.after done t refl) in
+          record {
+            different = h.different;
+            words = h.words;
+            heads = subst (λ x. AreHeads k.given.now (b done) j k.heads.now (tested (given_of k.given.now) c true x)) one
+                (heads_at k.given.now (b done) (suc i + loops (p done)) j k.heads.now (tested (given_of k.given.now) c true h.heads.1) (sym l.next) h.heads.6);
+          }
+
+  pub goes_at : (piece : Block → Block) (i n j : ℕ) (s t : Facts) → n ≡ i → Goes k.given.now piece n s j t → Goes k.given.now piece i s j t
+  goes_at piece i n j s t e l = subst (λ x. Goes k.given.now piece x s j t) e l
 
   -- ---- statements in their order
 

@@ -23,11 +23,7 @@ use jz_tree::{Failure, Fun, Seq};
 use std::alloc::Global;
 
 /// The first alarm of a function by what is given of it: that of its body, or else of its results.
-fn ask_function<'a>(
-    alloc: Global,
-    given: &'a Given,
-    fun: &'a Fun,
-) -> Result<(), Failure<Alarm>>
+fn ask_function<'a>(alloc: Global, given: &'a Given, fun: &'a Fun) -> Result<(), Failure<Alarm>>
     requires different { AreDifferent given.now.params }
     requires few { length given.now.params ≤ 64 }
     requires words { AreWords given.now.constants }

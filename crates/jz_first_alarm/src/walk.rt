@@ -1,7 +1,7 @@
 //! The walk along a body, in which each condition is asked once, by the facts of its place; a
 //! loop's are those of its head. The stack grows with the nesting of the text.
 
-ghost use Rattle.std.specs.Prelude.{◌≡◌, OnOk, IfOk, IfErr};
+ghost use Rattle.std.specs.Prelude.{◌≡◌, ◌<◌, OnOk, IfOk, IfErr, Some, length, slice_get};
 ghost use Rattle.jz_tree.specs.Failures.{IfRefused};
 ghost use Rattle.jz_meaning.specs.Runs.{block, statement_tree};
 ghost use Rattle.jz_layers.specs.Layered.{seen};
@@ -15,7 +15,7 @@ use crate::arms::{Arm, Known, Loop};
 use crate::asking::{ask_single, ask_test};
 use jz_asked::Alarm;
 use jz_block_facts::{lay, leave, meet_both, open_arm, taken};
-use jz_fact_sets::FactSet;
+use jz_fact_sets::{FactSet, Table};
 use jz_fact_writes::after_mark;
 use jz_tree::{Expr, Failure, Seq, Stmt, StmtKind};
 
@@ -167,6 +167,14 @@ fn ask_rest<'a>(
     }
 }
 
+/// The table of the head of the loop of this number.
+fn head_of<'s, 'a>(heads: &'s [Table<'a>], at: usize) -> &'s Table<'a>
+    requires { at < length heads.now }
+    ensures { slice_get heads.now at ≡ Some result.now }
+{
+    &heads[at]
+}
+
 /// A loop: its prologue, its test and its body, by the facts at its head.
 #[cycle(walk)]
 fn ask_while<'a>(
@@ -184,7 +192,8 @@ fn ask_while<'a>(
         IfErr result (λ failure. IfRefused failure (λ alarm. Stops g (loop_piece parts.entry)
         (facts_of g set.old) (alarm_of alarm))) }
 {
-    lay(set, &known.heads[at])?;
+    let head = head_of(known.heads, at);
+    lay(set, head)?;
     set.open()?;
     let middle = ask_block(known, set, at + 1, parts.prologue)?;
     ask_test(known.given, set, parts.cond)?;
