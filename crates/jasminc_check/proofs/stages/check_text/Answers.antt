@@ -2,6 +2,8 @@ use Rattle.std.proofs.Common.{◌≡◌, sym, subst, rules}
 use Rattle.std.specs.Prelude.{All}
 use Rattle.std.proofs.lemmas.Result.{err_from_is_err_and}
 use Rattle.jz_tree.specs.declared.program.Program.{Program}
+use Rattle.jz_types.specs.declared.typed.Typed.{Typed}
+use Rattle.jasminc_source.specs.Texts.{TypesAs}
 use Rattle.jasminc_source.specs.Unreadable.{IsUnread}
 use Rattle.jasminc_source.specs.Exports.{WithinIfExported, HasLimit}
 use Rattle.jasminc_source.proofs.Causing.{text_typed}
@@ -23,6 +25,6 @@ returns-in_err-as_refused c =
     let p = c.in_ok-typed.typed.program in
     let tree = c.program.result.now in
     let e = err_from_is_err_and c.from_residual-in_err-as_refused.result c.from_residual-in_err-as_refused.ensures.1 in
-    rw (e.1, e.2) (limits_fail c.args.text.now p _ c.in_ok-typed.ensures.program
+    rw (e.1, e.2) (limits_fail c.args.text.now p _ (ok_says (λ (t : Typed). TypesAs c.args.text.now t.program) c.typed_program.result c.in_ok-typed.typed c.in_ok-typed.ensures.ok c.typed_program.ensures.program)
     (stage_refuses (HasLimit tree) _ (IsLimit p) c.within_limits.result _ c.within_limits.ensures.refused
     (λ l r says becomes. let is : r ≡ Limit l = search rules in (l, is, subst (λ (q : Program). HasLimit q l) c.program.ensures says)) c.in_err-as_refused.ensures.refused))
