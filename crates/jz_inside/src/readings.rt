@@ -1,6 +1,6 @@
 //! What an address is read as.
 
-ghost use Rattle.std.specs.Prelude.{◌≡◌, IfOk};
+ghost use Rattle.std.specs.Prelude.{◌≡◌, ◌||◌, IfOk};
 ghost use Rattle.x64_insn.specs.Sizes.{bytes_of};
 ghost use Rattle.jz_meaning.specs.Values.{ref_of};
 ghost use Rattle.jz_terms.specs.Terms.{term_of};
@@ -30,6 +30,12 @@ fn numbers_of(sum: &Sum<'_>) -> Numbers
     }
 }
 
+fn one_of(a: bool, b: bool) -> bool
+    ensures { result ≡ (a || b) }
+{
+    a || b
+}
+
 /// Whether an access lies in some region where one of two variables is the base and the other one
 /// the index.
 fn in_either(says: Saying<'_, '_>, size: Size, first: &Var, second: &Var, more: Numbers) -> bool
@@ -50,10 +56,11 @@ fn in_either(says: Saying<'_, '_>, size: Size, first: &Var, second: &Var, more: 
     };
     let first = in_some_region(says, size, one);
     let second = in_some_region(says, size, other);
-    first || second
+    one_of(first, second)
 }
 
 /// Whether it lies in one in some reading of a sum.
+#[tactic(auto, using(crate::proofs::Reading::no_plain_reading, crate::proofs::Reading::three_plain, crate::proofs::Reading::two_scaled, crate::proofs::Reading::two_and_some))]
 fn in_some_reading(says: Saying<'_, '_>, size: Size, sum: &Sum<'_>) -> bool
     ensures { result ≡ conditions.in_some_reading (given_in says.entry)
         (facts_in says.entry) (bytes_of size)

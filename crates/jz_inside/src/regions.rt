@@ -1,12 +1,13 @@
 //! Regions of memory, and accesses that lie in them.
 
-ghost use Rattle.std.specs.Prelude.{◌≡◌, map, option_map};
+ghost use Rattle.std.specs.Prelude.{◌≡◌, ◌≤◌, ◌^◌, ◌&&◌, ◌||◌, map, option_map};
 ghost use Rattle.x64_insn.specs.Sizes.{bytes_of};
 ghost use Rattle.jz_layers.specs.Spots.{variable_key};
 ghost use Rattle.jz_facts.specs.Facts.{Is, Under, least_of, lo_of};
 ghost use Rattle.jz_fact_sets.specs.Kept.{start_of, region_of};
 ghost use Rattle.jz_inside.specs.Said.{given_in, facts_in};
 ghost use Rattle.jz_alarms.specs.Conditions as conditions;
+ghost use Rattle.jz_wide.specs.Values.{value};
 ghost use Rattle.jz_wide.specs.Sums.{shown, AreFew};
 ghost use Rattle.jz_inside.specs.InnerSums.{scaled_of};
 ghost use Rattle.jz_inside.specs.InnerReadings.{reading_of, interval_of};
@@ -116,7 +117,7 @@ fn is_below_length(
     region: &Region,
     more: Numbers,
 ) -> bool
-    requires { AreFew more }
+    requires { value more.taken ≤ 2 ^ 191 }
     ensures { result ≡ conditions.below_length (given_in says.entry)
         (facts_in says.entry) (option_map scaled_of index.entry)
         (region_of region.now) (shown more) }
@@ -134,6 +135,13 @@ fn is_below_length(
     }
 }
 
+/// The first two, and one of the others.
+fn all_of(based: bool, low: bool, inside: bool, below: bool) -> bool
+    ensures { result ≡ (based && (low && (inside || below))) }
+{
+    based && (low && (inside || below))
+}
+
 /// Whether the bytes of a size at a reading lie in a region.
 fn is_in(says: Saying<'_, '_>, size: Size, reading: Reading<'_>, region: &Region) -> bool
     requires { AreFew reading.more }
@@ -148,7 +156,7 @@ fn is_in(says: Saying<'_, '_>, size: Size, reading: Reading<'_>, region: &Region
     let length = least_length(says, region);
     let inside = more.is_to(index.hi, length);
     let below = is_below_length(says, reading.index, region, more);
-    based && (low && (inside || below))
+    all_of(based, low, inside, below)
 }
 
 /// Whether they lie in some region.

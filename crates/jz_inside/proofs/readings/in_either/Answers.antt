@@ -10,6 +10,7 @@ use Rattle.jz_inside.proofs.readings.in_either.Goals as goal
 
 pub returns : goal.returns
 returns c =
-    either_of c.in_some_region-first.result c.in_some_region-second.result
+    c.one_of.ensures
+    ∙ either_of c.in_some_region-first.result c.in_some_region-second.result
     ∙ ap (λ x. x || (c.in_some_region-second.result || false)) c.in_some_region-first.ensures
     ∙ ap (λ x. in_some_region (given_in c.args.says) (facts_in c.args.says) (bytes_of c.args.size) (record { base = ref_of c.args.first.now; index = Some (ref_of c.args.second.now, 1); more = shown c.args.more }) (given_in c.args.says).regions || (x || false)) c.in_some_region-second.ensures

@@ -9,6 +9,7 @@ use Rattle.jz_inside.proofs.regions.is_in.Goals as goal
 
 pub returns : goal.returns
 returns c =
-    inside_is (given_in c.args.says) (facts_in c.args.says) (bytes_of c.args.size) (reading_of c.args.reading) (region_of c.args.region.now) c.is_base-based.result c.is_from_zero-low.result c.is_to-inside.result c.is_below_length-below.result
+    c.all_of.ensures
+    ∙ inside_is (given_in c.args.says) (facts_in c.args.says) (bytes_of c.args.size) (reading_of c.args.reading) (region_of c.args.region.now) c.is_base-based.result c.is_from_zero-low.result c.is_to-inside.result c.is_below_length-below.result
     (interval_of c.scaled_ends-index.result) (shown c.with_size-more.result) c.least_length-length.result
     c.is_base-based.ensures c.scaled_ends-index.ensures c.is_from_zero-low.ensures c.with_size-more.ensures.more c.least_length-length.ensures c.is_to-inside.ensures c.is_below_length-below.ensures
