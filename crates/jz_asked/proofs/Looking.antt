@@ -2,7 +2,6 @@
 use Rattle.std.proofs.Common.{◌≡◌, ℕ, zero, suc, ◌+◌, ◌<◌, ◌≤◌, Bool, true, false, List, [], ◌∷◌, length, Option, Some, None, refl, ap, sym, ◌∙◌, subst, arith, rules}
 use Rattle.std.specs.Prelude.{cond, nat_lt, slice_get, is_none, is_some, ◌&&◌, ◌||◌}
 use Rattle.std.specs.Map.{lookup}
-use Rattle.indexmap.specs.IndexMap.{IndexMap}
 use Rattle.jz_layers.specs.declared.named.Named.{Named}
 use Rattle.jz_layers.specs.declared.layers.Layers.{Layers}
 use Rattle.jz_layers.specs.Spots.{Spot, spot_of, same_spot, is_plain, is_noted, entry_in, IsListed}

@@ -28,7 +28,7 @@ decreases-asks_single l = 4 * size-Expr l.e.now + 2
 abbrev pub invariant-asks-loop-rest : goal.invariant-asks-loop-rest
 invariant-asks-loop-rest l =
     (or_else (asks (given_in l.says) (facts_in l.says) l.inner (term_of l.rest)) (shown l.found)
-    ≡ asks (given_in l.says) (facts_in l.says) l.wanted (term_of l.e))
+    ≡ asks (given_in l.says) (facts_in l.says) l.fn.wanted (term_of l.e))
     × (size-Expr l.rest ≤ size-Expr l.e)
 
 abbrev pub decreases-asks-loop-rest : goal.decreases-asks-loop-rest
