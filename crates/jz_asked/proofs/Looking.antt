@@ -16,8 +16,11 @@ NoneBefore es i s = (k : ℕ) → k < i → (n : Named) (u : Unit {0}) → slice
 pub none_first : (es : List (Named × Unit {0})) (s : Spot) → NoneBefore es 0 s
 none_first es s k lt n u e = absurd (omega (arith, lt))
 
+some_one : (a b : Named × Unit {0}) → ◌≡◌ {A = Option (Named × Unit {0})} (Some a) (Some b) → a ≡ b
+some_one a b e = cc e
+
 same_name : (n o : Named) (u v : Unit {0}) → ◌≡◌ {A = Option (Named × Unit {0})} (Some (o, u)) (Some (n, v)) → o ≡ n
-same_name n o u v e = cc e
+same_name n o u v e = ap (λ (p : Named × Unit {0}). p.0) (some_one (o, u) (n, v) e)
 
 pub next_none : (es : List (Named × Unit {0})) (i : ℕ) (s : Spot) (o : Named) (w : Unit {0}) → NoneBefore es i s → slice_get es i ≡ Some (o, w) → same_spot s (spot_of o) ≡ false → NoneBefore es (i + 1) s
 next_none es i s o w h e f k lt n u q = by (nat_lt k i) refl

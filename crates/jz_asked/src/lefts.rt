@@ -3,6 +3,7 @@
 ghost use Rattle.std.specs.Prelude.{◌≡◌, IfOk, None};
 ghost use Rattle.std.specs.Option.{option_copied};
 ghost use Rattle.jz_meaning.specs.Assignments as assignments;
+ghost use Rattle.jz_meaning.specs.Values.{access_of};
 ghost use Rattle.jz_inside.specs.Said.{given_in, facts_in};
 ghost use Rattle.jz_alarms.specs.Conditions as conditions;
 ghost use Rattle.jz_asked.specs.InnerAsked.{shown};
@@ -11,7 +12,7 @@ use crate::alarms::{Asked, first_of};
 use crate::cells::{asks_index, asks_variable};
 use crate::terms::{asks, asks_cell, asks_load};
 use jz_fact_sets::Saying;
-use jz_tree::{Expr, Lval, Seq};
+use jz_tree::{Access, Expr, Lval, Seq};
 use std::alloc::{AllocError, Global};
 use x64_insn::Size;
 
@@ -59,6 +60,13 @@ pub(crate) fn asks_lefts<'e>(
     Ok(None)
 }
 
+/// The size that an access says.
+fn written_size(access: &Access) -> Option<Size>
+    ensures { result ≡ (access_of access.now).size }
+{
+    access.size
+}
+
 /// Of the old value of a left side.
 fn asks_read<'e>(
     alloc: Global,
@@ -76,7 +84,7 @@ fn asks_read<'e>(
             Ok(found)
         }
         Lval::Store(access) => {
-            let found = asks_load(alloc, says, access.size, access)?;
+            let found = asks_load(alloc, says, written_size(access), access)?;
             Ok(found)
         }
     }

@@ -8,15 +8,18 @@ use Rattle.jz_terms.proofs.TermForms.{term_bool, term_num, term_var, term_cell, 
 use Rattle.jz_fact_readings.proofs.LeftSides.{operands_within}
 use Rattle.jz_alarms.specs.Conditions.{or_else, asks}
 use Rattle.jz_inside.specs.Said.{given_in, facts_in}
-use Rattle.jz_asked.specs.InnerAsked.{shown}
+use Rattle.jz_asked.specs.InnerAsked.{shown, asks_behind}
 use Rattle.jz_asked.proofs.Asking.{one_down, place_out}
 use Rattle.jz_asked.proofs.terms.+asks.Goals as goal
 
 pub asks-loop-rest-preserved : goal.asks-loop-rest-preserved
 asks-loop-rest-preserved t c =
-    let l = operands_within _ _ _ _ _ _ c.in-Bin.is c.get-rest.ensures in (
-      one_down (given_in c.args.says) (facts_in c.args.says) c.loop-rest.rest.now _ c.in-Bin.op _ _ _ c.get.result.now c.get-in-Bin.result.now c.loop-rest.inner c.left_wanted-inner.result (shown c.loop-rest.found) (shown c.in_ok-here.here) (shown c.first_of-found.result)
-          c.in-Bin.is c.get.ensures c.get-in-Bin.ensures c.get-rest.ensures c.left_wanted-inner.ensures c.in_ok-here.ensures c.first_of-found.ensures
+    let g = given_in c.args.says in
+    let s = facts_in c.args.says in
+    let l = operands_within _ _ _ _ _ _ c.in-Bin.is c.get-rest.ensures in
+    let here = c.in_ok-here.ensures ∙ ap (λ x. asks_behind g s c.in-Bin.op c.left_wanted-inner.result (term_of x) c.in-Bin.span) (c.get-in-Bin-2.ensures ∙ sym c.get-in-Bin.ensures) in (
+      one_down g s c.loop-rest.rest.now _ c.in-Bin.op _ _ c.in-Bin.span c.get.result.now c.get-in-Bin.result.now c.loop-rest.inner c.left_wanted-inner.result (shown c.loop-rest.found) (shown c.in_ok-here.here) (shown c.first_of-found.result)
+          c.in-Bin.is c.get.ensures c.get-in-Bin.ensures c.get-rest.ensures c.left_wanted-inner.ensures here c.first_of-found.ensures
           ∙ c.loop-rest.invariant.0,
       omega (arith, l, c.loop-rest.invariant.1),
     )
