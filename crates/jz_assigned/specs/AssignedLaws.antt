@@ -1,5 +1,5 @@
 -- Assignments of one value where their conditions are met, as laws.
-use Rattle.std.specs.Prelude.{◌≡◌, [], ◌∷◌, Option, None}
+use Rattle.std.specs.Prelude.{◌≡◌, Bool, [], ◌∷◌, Option, None}
 use Rattle.jz_tree.specs.Span.{Span}
 use Rattle.jz_tree.specs.declared.expr.BinOp.{BinOp}
 use Rattle.jz_tree.specs.declared.expr.Expr.{Expr}

@@ -6,6 +6,8 @@ use Rattle.std.proofs.lemmas.Option.{slice_get_within}
 use Rattle.jz_tree.specs.declared.program.Program.{Program}
 use Rattle.jz_type_rows.specs.Exports.{is_exported}
 use Rattle.jasminc_interp.specs.declared.refused.Refused.TheVariants.{Unread, NoFunction, Limit}
+use Rattle.jasminc_source.specs.Texts.{TypesAs}
+use Rattle.jasminc_source.specs.Unreadable.{IsUnread}
 use Rattle.jasminc_source.specs.Exports.{export_named, IsFoundAt, HasLimit, WithinIfExported}
 use Rattle.jasminc_interp.specs.Causes.{IsFirstCause}
 use Rattle.jasminc_source.proofs.Causing.{text_typed}
@@ -17,7 +19,9 @@ use Rattle.jasminc_interp.proofs.stages.interp_text.Goals as goal
 pub returns-in_err-typed : goal.returns-in_err-typed
 returns-in_err-typed c =
     let p = err_from_is_err_and c.from_residual.result c.from_residual.ensures.1 in
-    rw (p.1, p.2) (reading_fails c.args.text.now c.args.fun.now c.args.items.now c.args.fuel _ c.in_err-typed.ensures.refused)
+    rw (p.1, p.2) (reading_fails c.args.text.now c.args.fun.now c.args.items.now c.args.fuel _
+    (stage_refuses (IsUnread c.args.text.now) _ (IsUnreadable c.args.text.now) c.typed_program.result _ c.typed_program.ensures.refused
+    (λ u r says becomes. let is : r ≡ Unread u = search rules in (u, is, says)) c.in_err-typed.ensures.refused))
 
 pub returns-in_default : goal.returns-in_default
 returns-in_default c =
@@ -26,7 +30,7 @@ returns-in_default c =
     let none : export_named fun p.funs ≡ None = ap (λ (q : Program). export_named fun q.funs) (sym c.program-tree.ensures) ∙ c.place_of.ensures.none c.in_default.is in
     let name : c.from_string-name.result ≡ fun = c.from_string-name.ensures ∙ c.in_ok-from_str.ensures.ok in
     subst (λ (n : List ℕ). IsFirstCause c.args.text.now fun c.args.items.now (NoFunction n)) (sym name)
-    (function_first c.args.text.now fun c.args.items.now p c.in_ok-typed.ensures.program none)
+    (function_first c.args.text.now fun c.args.items.now p (ok_says (λ t. TypesAs c.args.text.now t.program) c.typed_program.result c.in_ok-typed.typed c.in_ok-typed.ensures.ok c.typed_program.ensures.program) none)
 
 pub returns-in_err-as_refused : goal.returns-in_err-as_refused
 returns-in_err-as_refused c =
@@ -35,7 +39,7 @@ returns-in_err-as_refused c =
     let tree = c.program-tree.result.now in
     let found = subst (λ (q : Program). IsFoundAt fun q.funs c.in-Some.place) c.program-tree.ensures c.in-Some.ensures.found in
     let e = err_from_is_err_and c.from_residual-in_err-as_refused.result c.from_residual-in_err-as_refused.ensures.1 in
-    rw (e.1, e.2) (limits_fail c.args.text.now fun c.args.items.now c.args.fuel p found.function _ c.in_ok-typed.ensures.program found.named
+    rw (e.1, e.2) (limits_fail c.args.text.now fun c.args.items.now c.args.fuel p found.function _ (ok_says (λ t. TypesAs c.args.text.now t.program) c.typed_program.result c.in_ok-typed.typed c.in_ok-typed.ensures.ok c.typed_program.ensures.program) found.named
     (stage_refuses (HasLimit tree) _ (IsLimit p) c.within_limits.result _ c.within_limits.ensures.refused
     (λ l r says becomes. let is : r ≡ Limit l = search rules in (l, is, subst (λ (q : Program). HasLimit q l) c.program-tree.ensures says)) c.in_err-as_refused.ensures.refused))
 
@@ -50,7 +54,7 @@ run_function-requires-clause-exported c =
     let p = c.in_ok-typed.typed.program in
     let found = subst (λ (q : Program). IsFoundAt fun q.funs c.in-Some.place) c.program-tree.ensures c.in-Some.ensures.found in
     record {
-      typed = text_typed c.args.text.now p c.in_ok-typed.ensures.program;
+      typed = text_typed c.args.text.now p (ok_says (λ t. TypesAs c.args.text.now t.program) c.typed_program.result c.in_ok-typed.typed c.in_ok-typed.ensures.ok c.typed_program.ensures.program);
       function = found.function;
       there = found.there;
       exported = (and_parts (is_exported found.function.kind) (bytes_eq found.function.name fun) (named_has fun p.funs found.function found.named)).0;
@@ -63,5 +67,5 @@ returns c =
     let tree = c.program-tree.result.now in
     let found = subst (λ (q : Program). IsFoundAt fun q.funs c.in-Some.place) c.program-tree.ensures c.in-Some.ensures.found in
     let within = ok_says (λ u. All (WithinIfExported tree) tree.funs) c.within_limits.result c.in_ok-as_refused.field-0 c.in_ok-as_refused.ensures.ok c.within_limits.ensures.within in
-    function_answers c.args.text.now fun c.args.items.now p c.in_ok-typed.ensures.program found.function found.named
+    function_answers c.args.text.now fun c.args.items.now p (ok_says (λ t. TypesAs c.args.text.now t.program) c.typed_program.result c.in_ok-typed.typed c.in_ok-typed.ensures.ok c.typed_program.ensures.program) found.function found.named
     (subst (λ (q : Program). All (WithinIfExported q) q.funs) c.program-tree.ensures within) c.in-Some.place c.args.fuel found.there c.run_function.result c.run_function.ensures

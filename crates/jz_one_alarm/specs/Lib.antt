@@ -1,0 +1,2 @@
+pub mod SetLaws
+pub use Rattle.jz_alarms.specs.Alarms

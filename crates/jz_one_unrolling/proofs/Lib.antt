@@ -1,0 +1,4 @@
+pub mod Twice
+pub mod Knowing
+pub mod Valuing
+pub mod One
