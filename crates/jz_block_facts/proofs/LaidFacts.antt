@@ -77,11 +77,7 @@ pub returned : (zero three : Layers Knowledge) (ms : List (IndexMap Named Knowle
     → (three.below.items ≡ zero.below.items) × (seen three ≡ seen zero) × (known_at three ≡ known_at zero)
 returned zero three ms e h =
     let b = back zero three ms e h in
-<<<<<<< HEAD
-    let f : known_at three ≡ known_at zero = ap (λ (s : Spot → Option Knowledge) (k : Spot). known_or (s k)) b.1 in
-=======
     let f : known_at three ≡ known_at zero = ap {B = Spot → Knowledge} (λ s k. known_or (s k)) b.1 in
->>>>>>> 1d21789a52c514ffe6cd981fa22cd40f73335d45
     (b.0, b.1, f)
 
 pub facts_as : (g : code.Given) (old new : Spot → Knowledge) → new ≡ old → facts_by g new ≡ facts_by g old

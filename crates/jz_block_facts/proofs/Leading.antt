@@ -26,12 +26,9 @@ use Rattle.jz_block_facts.specs.Pieces.{answered}
 use Rattle.jz_block_facts.specs.InnerWalks.{Place, IsFresh, AreSame, Covers, IsReady, Leads}
 use Rattle.jz_block_facts.proofs.Splitting.{Splits, heads_at, same_heads, statement_splits}
 
-<<<<<<< HEAD
-=======
 at_index : (ss : List Stmt) (i : ℕ) (s : Stmt) → i < length ss → s ≡ get_or ss i s → drop i ss ≡ s ∷ drop (i + 1) ss
 at_index ss i s lt is = drop_more ss i s lt ∙ ap (λ y. y ∷ drop (i + 1) ss) (sym is)
 
->>>>>>> 1d21789a52c514ffe6cd981fa22cd40f73335d45
 module _ {S : Type 0} (g : code.Given) where
   -- nothing more stands there behind a piece
   pub still_fresh : (piece : Block → Block) (p q : Place S) → Leads g piece p q → IsFresh p.next p.heads → IsFresh q.next q.heads
@@ -64,11 +61,7 @@ module _ {S : Type 0} (g : code.Given) where
       subst (λ x. Leads g piece (record { facts = t; next = m; heads = hs }) (record { facts = x; next = n; heads = us })) f
       (subst (λ x. Leads g piece (record { facts = x; next = m; heads = hs }) (record { facts = u; next = n; heads = us })) e h)
 
-<<<<<<< HEAD
-  module _ (piece rest : Block → Block) (splits : Splits {S = S} g piece) where
-=======
   module _ (piece rest : Block → Block) (splits : Splits S g piece) where
->>>>>>> 1d21789a52c514ffe6cd981fa22cd40f73335d45
     pub first_ready : (p : Place S) → IsReady g (λ r. piece (rest r)) p → IsReady g piece p
     first_ready p h = record {
       different = h.different;
@@ -94,19 +87,11 @@ module _ {S : Type 0} (g : code.Given) where
         by : Covers g (piece (rest done)) p → Covers g (rest done) q
         by (inl f) = inl (still_fresh piece p q l f)
         by (inr (x, w, k)) =
-<<<<<<< HEAD
-            let (y, a, hr) = (splits.heads_on (rest done) p.next p.heads x k).1 in
-            inr (
-              y,
-              more (fact_steps (given_of g)) (monotone (given_of g)) (piece done) p.facts x q.facts y w (l.after done q.facts refl) a,
-              same_heads g (rest done) q.next q.heads p.heads y (λ i a b. l.behind i a) (heads_at g (rest done) (p.next + loops (piece done)) q.next p.heads y (sym l.next) hr),
-=======
             let y = (splits.heads_on (rest done) p.next p.heads x k).1 in
             inr (
               y.0,
               more (fact_steps (given_of g)) (monotone (given_of g)) (piece done) p.facts x q.facts y.0 w (l.after done q.facts refl) y.1,
               same_heads g (rest done) q.next q.heads p.heads y.0 (λ i a b. l.behind i a) (heads_at g (rest done) (p.next + loops (piece done)) q.next p.heads y.0 (sym l.next) y.2),
->>>>>>> 1d21789a52c514ffe6cd981fa22cd40f73335d45
             )
 
     pub both_lead : (p q z : Place S) → Leads g piece p q → Leads g rest q z → Leads g (λ r. piece (rest r)) p z
@@ -135,33 +120,17 @@ module _ {S : Type 0} (g : code.Given) where
   pub none_on : (ss : List Stmt) (p : Place S) → IsReady g (block no_callees ss) p → IsOn ss 0 p p
   none_on ss p h = record { ready = h; leads = λ z l. l }
 
-<<<<<<< HEAD
-  at_index : (ss : List Stmt) (i : ℕ) (s : Stmt) → i < length ss → s ≡ get_or ss i s → drop i ss ≡ s ∷ drop (i + 1) ss
-  at_index ss i s lt is = drop_more ss i s lt ∙ ap (λ y. y ∷ drop (i + 1) ss) (sym is)
-
-  pub one_ready : (ss : List Stmt) (i : ℕ) (s : Stmt) (p q : Place S) → i < length ss → s ≡ get_or ss i s → IsOn ss i p q → IsReady g (statement_tree no_callees s) q
-  one_ready ss i s p q lt is on =
-      first_ready (statement_tree no_callees s) (block no_callees (drop (i + 1) ss)) (statement_splits g s) q
-=======
   pub one_ready : (ss : List Stmt) (i : ℕ) (s : Stmt) (p q : Place S) → i < length ss → s ≡ get_or ss i s → IsOn ss i p q → IsReady g (statement_tree no_callees s) q
   one_ready ss i s p q lt is on =
       first_ready (statement_tree no_callees s) (block no_callees (drop (i + 1) ss)) (statement_splits S g s) q
->>>>>>> 1d21789a52c514ffe6cd981fa22cd40f73335d45
       (subst (λ l. IsReady g (block no_callees l) q) (at_index ss i s lt is) on.ready)
 
   pub one_on : (ss : List Stmt) (i : ℕ) (s : Stmt) (p q z : Place S) → i < length ss → s ≡ get_or ss i s → IsOn ss i p q → Leads g (statement_tree no_callees s) q z → IsOn ss (i + 1) p z
   one_on ss i s p q z lt is on l = record {
-<<<<<<< HEAD
-    ready = next_ready (statement_tree no_callees s) (block no_callees (drop (i + 1) ss)) (statement_splits g s) q z
-        (subst (λ l. IsReady g (block no_callees l) q) (at_index ss i s lt is) on.ready) l;
-    leads = λ u h. on.leads u (subst (λ x. Leads g (block no_callees x) q u) (sym (at_index ss i s lt is))
-        (both_lead (statement_tree no_callees s) (block no_callees (drop (i + 1) ss)) (statement_splits g s) q z u l h));
-=======
     ready = next_ready (statement_tree no_callees s) (block no_callees (drop (i + 1) ss)) (statement_splits S g s) q z
         (subst (λ l. IsReady g (block no_callees l) q) (at_index ss i s lt is) on.ready) l;
     leads = λ u h. on.leads u (subst (λ x. Leads g (block no_callees x) q u) (sym (at_index ss i s lt is))
         (both_lead (statement_tree no_callees s) (block no_callees (drop (i + 1) ss)) (statement_splits S g s) q z u l h));
->>>>>>> 1d21789a52c514ffe6cd981fa22cd40f73335d45
   }
 
   pub all_on : (ss : List Stmt) (i : ℕ) (p q : Place S) → length ss ≤ i → IsOn ss i p q → Leads g (block no_callees ss) p q
@@ -205,13 +174,8 @@ module _ {S : Type 0} (g : code.Given) where
   abbrev pub arm_at : Expr → Bool → Place S → Place S
   arm_at e z p = record p { facts = answered g e z p.facts }
 
-<<<<<<< HEAD
-  module _ (c : Condition) (yes no : Block → Block) (p : Place S) where
-    pub yes_ready : IsReady g (choose c (yes done) (no done)) p → IsReady g yes (arm_at c.cond true p)
-=======
   module _ (c : Condition) (holding other : Block → Block) (p : Place S) where
     pub yes_ready : IsReady g (choose c (holding done) (other done)) p → IsReady g holding (arm_at c.cond true p)
->>>>>>> 1d21789a52c514ffe6cd981fa22cd40f73335d45
     yes_ready h = record {
       different = h.different;
       words = h.words;
@@ -220,19 +184,11 @@ module _ {S : Type 0} (g : code.Given) where
       stored = by h.stored;
     }
       where
-<<<<<<< HEAD
-        by : Covers g (choose c (yes done) (no done) done) p → Covers g (yes done) (arm_at c.cond true p)
-        by (inl f) = inl f
-        by (inr (x, w, k)) = inr (tested (given_of g) c true x, (monotone (given_of g)).tests c true p.facts x w, k.2)
-
-    pub no_ready : (q : Place S) → IsReady g (choose c (yes done) (no done)) p → Leads g yes (arm_at c.cond true p) q → IsReady g no (record q { facts = answered g c.cond false p.facts })
-=======
         by : Covers g (choose c (holding done) (other done) done) p → Covers g (holding done) (arm_at c.cond true p)
         by (inl f) = inl f
         by (inr (x, w, k)) = inr (tested (given_of g) c true x, (monotone (given_of g)).tests c true p.facts x w, k.2)
 
     pub no_ready : (q : Place S) → IsReady g (choose c (holding done) (other done)) p → Leads g holding (arm_at c.cond true p) q → IsReady g other (record q { facts = answered g c.cond false p.facts })
->>>>>>> 1d21789a52c514ffe6cd981fa22cd40f73335d45
     no_ready q h l = record {
       different = h.different;
       words = h.words;
@@ -241,19 +197,6 @@ module _ {S : Type 0} (g : code.Given) where
       stored = by h.stored;
     }
       where
-<<<<<<< HEAD
-        by : Covers g (choose c (yes done) (no done) done) p → Covers g (no done) (record q { facts = answered g c.cond false p.facts })
-        by (inl f) = inl (still_fresh yes (arm_at c.cond true p) q l f)
-        by (inr (x, w, k)) = inr (
-          tested (given_of g) c false x,
-          (monotone (given_of g)).tests c false p.facts x w,
-          same_heads g (no done) q.next q.heads p.heads (tested (given_of g) c false x) (λ i a b. l.behind i a)
-              (heads_at g (no done) (p.next + loops (yes done)) q.next p.heads (tested (given_of g) c false x) (sym l.next) k.3),
-        )
-
-    pub if_leads : (q z : Place S) (x : Facts) → Leads g yes (arm_at c.cond true p) q → Leads g no (record q { facts = answered g c.cond false p.facts }) z → x ≡ common q.facts z.facts
-        → Leads g (choose c (yes done) (no done)) p (record z { facts = x })
-=======
         by : Covers g (choose c (holding done) (other done) done) p → Covers g (other done) (record q { facts = answered g c.cond false p.facts })
         by (inl f) = inl (still_fresh holding (arm_at c.cond true p) q l f)
         by (inr (x, w, k)) = inr (
@@ -265,7 +208,6 @@ module _ {S : Type 0} (g : code.Given) where
 
     pub if_leads : (q z : Place S) (x : Facts) → Leads g holding (arm_at c.cond true p) q → Leads g other (record q { facts = answered g c.cond false p.facts }) z → x ≡ common q.facts z.facts
         → Leads g (choose c (holding done) (other done)) p (record z { facts = x })
->>>>>>> 1d21789a52c514ffe6cd981fa22cd40f73335d45
     if_leads q z x a b e =
         let m = a.next in
         let n = b.next in
@@ -279,31 +221,14 @@ module _ {S : Type 0} (g : code.Given) where
             q.facts,
             z.facts,
             a.heads us (λ k i j. s k i (omega (arith, j, n)) ∙ b.before k j) done tt,
-<<<<<<< HEAD
-            heads_at g (no done) q.next (p.next + loops (yes done)) us (answered g c.cond false p.facts) m (b.heads us (λ k i j. s k (omega (arith, i, m)) j) done tt),
-            a.after done q.facts refl,
-            b.after done z.facts refl,
-            heads_at g r z.next (p.next + loops (yes done) + loops (no done)) us (common q.facts z.facts) (omega (arith, m, n)) (subst (λ y. AreHeads g r z.next us y) e h),
-=======
             heads_at g (other done) q.next (p.next + loops (holding done)) us (answered g c.cond false p.facts) m (b.heads us (λ k i j. s k (omega (arith, i, m)) j) done tt),
             a.after done q.facts refl,
             b.after done z.facts refl,
             heads_at g r z.next (p.next + loops (holding done) + loops (other done)) us (common q.facts z.facts) (omega (arith, m, n)) (subst (λ y. AreHeads g r z.next us y) e h),
->>>>>>> 1d21789a52c514ffe6cd981fa22cd40f73335d45
           );
         }
 
   -- the arms of a branch, as the code walks them: what comes in is the same before each step
-<<<<<<< HEAD
-  pub arms_lead : (c : Condition) (yes no : Block → Block) (s t : Facts) (at m n : ℕ) (hs us vs : List (IndexMap Named Knowledge S)) (x y v : Facts) → t ≡ s
-      → Leads g yes (record { facts = answered g c.cond true s; next = at; heads = hs }) (record { facts = x; next = m; heads = us })
-      → Leads g no (record { facts = answered g c.cond false t; next = m; heads = us }) (record { facts = y; next = n; heads = vs })
-      → v ≡ common x y
-      → Leads g (choose c (yes done) (no done)) (record { facts = s; next = at; heads = hs }) (record { facts = v; next = n; heads = vs })
-  arms_lead c yes no s t at m n hs us vs x y v e a b h =
-      if_leads c yes no (record { facts = s; next = at; heads = hs }) (record { facts = x; next = m; heads = us }) (record { facts = y; next = n; heads = vs }) v a
-      (subst (λ z. Leads g no (record { facts = answered g c.cond false z; next = m; heads = us }) (record { facts = y; next = n; heads = vs })) e b) h
-=======
   pub arms_lead : (c : Condition) (holding other : Block → Block) (s t : Facts) (at m n : ℕ) (hs us vs : List (IndexMap Named Knowledge S)) (x y v : Facts) → t ≡ s
       → Leads g holding (record { facts = answered g c.cond true s; next = at; heads = hs }) (record { facts = x; next = m; heads = us })
       → Leads g other (record { facts = answered g c.cond false t; next = m; heads = us }) (record { facts = y; next = n; heads = vs })
@@ -312,4 +237,3 @@ module _ {S : Type 0} (g : code.Given) where
   arms_lead c holding other s t at m n hs us vs x y v e a b h =
       if_leads c holding other (record { facts = s; next = at; heads = hs }) (record { facts = x; next = m; heads = us }) (record { facts = y; next = n; heads = vs }) v a
       (subst (λ z. Leads g other (record { facts = answered g c.cond false z; next = m; heads = us }) (record { facts = y; next = n; heads = vs })) e b) h
->>>>>>> 1d21789a52c514ffe6cd981fa22cd40f73335d45

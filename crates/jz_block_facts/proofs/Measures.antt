@@ -40,13 +40,6 @@ total_less (k ∷ ks) old new at (inr o) h l = let x = h k in let y = total_less
 
 -- ---- the spots of tables
 
-<<<<<<< HEAD
-module _ {S : Type 0} where
-  abbrev pub spots_in : List (Named × Knowledge) → List Spot → List Spot
-  spots_in [] ks = ks
-  spots_in (e ∷ es) ks = spot_of e.0 ∷ spots_in es ks
-
-=======
 abbrev pub spots_in : List (Named × Knowledge) → List Spot → List Spot
 spots_in [] ks = ks
 spots_in (e ∷ es) ks = spot_of e.0 ∷ spots_in es ks
@@ -66,26 +59,10 @@ occurs_there [] ks k v e = absurd (cc e)
 occurs_there (x ∷ es) ks k v e = occurs_by (same_spot k (spot_of x.0)) x es ks k v refl (occurs_there es ks k v) e
 
 module _ {S : Type 0} where
->>>>>>> 1d21789a52c514ffe6cd981fa22cd40f73335d45
   abbrev pub all_spots : List (IndexMap Named Knowledge S) → List Spot
   all_spots [] = []
   all_spots (m ∷ ms) = spots_in m.entries (all_spots ms)
 
-<<<<<<< HEAD
-  occurs_behind : (es : List (Named × Knowledge)) (ks : List Spot) (k : Spot) → Occurs ks k → Occurs (spots_in es ks) k
-  occurs_behind [] ks k o = o
-  occurs_behind (e ∷ es) ks k o = inr (occurs_behind es ks k o)
-
-  occurs_there : (es : List (Named × Knowledge)) (ks : List Spot) (k : Spot) (v : Knowledge) → lookup (λ n. same_spot k (spot_of n)) es ≡ Some v → Occurs (spots_in es ks) k
-  occurs_there [] ks k v e = absurd (cc e)
-  occurs_there (x ∷ es) ks k v e = by (same_spot k (spot_of x.0)) refl e
-    where
-      by : (b : Bool) → same_spot k (spot_of x.0) ≡ b → cond b (Some x.1) (lookup (λ n. same_spot k (spot_of n)) es) ≡ Some v → Occurs (spots_in (x ∷ es) ks) k
-      by true q h = inl (sym (same_spot-true k (spot_of x.0) q))
-      by false q h = inr (occurs_there es ks k v h)
-
-=======
->>>>>>> 1d21789a52c514ffe6cd981fa22cd40f73335d45
   found_from : (f : Spot → Option Knowledge) (ms : List (IndexMap Named Knowledge S)) (k : Spot) (v : Knowledge) → seen_from f ms k ≡ Some v → Occurs (all_spots ms) k ⊎ (f k ≡ Some v)
   found_from f [] k v e = inr e
   found_from f (m ∷ ms) k v e = by (found_from (over m f) ms k v e)

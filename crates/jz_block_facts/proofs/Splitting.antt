@@ -118,10 +118,7 @@ module _ {S : Type 0} (g : code.Given) where
   same_heads (each f b r) i us vs s e h = absurd h
   same_heads (call c b r) i us vs s e h = absurd h
 
-<<<<<<< HEAD
-=======
 module _ (S : Type 0) (g : code.Given) where
->>>>>>> 1d21789a52c514ffe6cd981fa22cd40f73335d45
   -- a piece and what follows it
   pub record Splits (piece : Block → Block) : Type 0 where
     pub loops_on : (r : Block) → loops (piece r) ≡ loops (piece done) + loops r
@@ -135,22 +132,14 @@ module _ (S : Type 0) (g : code.Given) where
   op_splits o = record {
     loops_on = λ r. omega arith;
     plain_on = λ r h. ((tt, tt), h.1);
-<<<<<<< HEAD
-    heads_on = λ r i hs s h. (tt, (does (given_of g) o s, refl, heads_at r i (i + 0) hs (does (given_of g) o s) (omega arith) h));
-=======
     heads_on = λ r i hs s h. (tt, (does (given_of g) o s, refl, heads_at g r i (i + 0) hs (does (given_of g) o s) (omega arith) h));
->>>>>>> 1d21789a52c514ffe6cd981fa22cd40f73335d45
   }
 
   quiet_splits : (o : Operation) → Splits (quiet o)
   quiet_splits o = record {
     loops_on = λ r. omega arith;
     plain_on = λ r h. ((tt, tt), h.1);
-<<<<<<< HEAD
-    heads_on = λ r i hs s h. (tt, (quieted o s, refl, heads_at r i (i + 0) hs (quieted o s) (omega arith) h));
-=======
     heads_on = λ r i hs s h. (tt, (quieted o s, refl, heads_at g r i (i + 0) hs (quieted o s) (omega arith) h));
->>>>>>> 1d21789a52c514ffe6cd981fa22cd40f73335d45
   }
 
   choose_splits : (c : Condition) (a b : Block) → Splits (choose c a b)
@@ -164,11 +153,7 @@ module _ (S : Type 0) (g : code.Given) where
           → AreHeads g (choose c a b done) i hs s
           × ((x : Facts) × After (fact_steps (given_of g)) (choose c a b done) s x × AreHeads g r (i + loops (choose c a b done)) hs x)
       on r i hs s (x, y, ha, hb, fa, fb, hr) =
-<<<<<<< HEAD
-          ((x, y, ha, hb, fa, fb, tt), (common x y, (x, y, fa, fb, refl), heads_at r (i + loops a + loops b) (i + (loops a + loops b + 0)) hs (common x y) (omega arith) hr))
-=======
           ((x, y, ha, hb, fa, fb, tt), (common x y, (x, y, fa, fb, refl), heads_at g r (i + loops a + loops b) (i + (loops a + loops b + 0)) hs (common x y) (omega arith) hr))
->>>>>>> 1d21789a52c514ffe6cd981fa22cd40f73335d45
 
   loop_splits : (w : Bool) (p : Block) (c : Condition) (b : Block) → Splits (loop w p c b)
   loop_splits w p c b = record {
@@ -185,11 +170,7 @@ module _ (S : Type 0) (g : code.Given) where
         (
           leaves (given_of g) c (laid g m s) q,
           (laid g m s, q, k, fp, refl),
-<<<<<<< HEAD
-          heads_at r (suc i + loops p + loops b) (i + suc (loops p + loops b + 0)) hs (leaves (given_of g) c (laid g m s) q) (omega arith) hr,
-=======
           heads_at g r (suc i + loops p + loops b) (i + suc (loops p + loops b + 0)) hs (leaves (given_of g) c (laid g m s) q) (omega arith) hr,
->>>>>>> 1d21789a52c514ffe6cd981fa22cd40f73335d45
         ),
       )
 

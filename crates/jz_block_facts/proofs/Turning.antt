@@ -1,11 +1,6 @@
 -- The turns of a loop, from its begin to its end.
-<<<<<<< HEAD
-use Rattle.std.proofs.Common.{◌≡◌, ◌⊎◌, inl, inr, ℕ, suc, ◌+◌, ◌<◌, ◌≤◌, Bool, true, false, List, [], ◌∷◌, ◌++◌, length, Option, None, Some, refl, sym, ap, ◌∙◌, subst, arith}
-use Rattle.std.specs.Prelude.{slice_get, slice_set, not, is_some, MatchOption}
-=======
 use Rattle.std.proofs.Common.{◌≡◌, ◌⊎◌, inl, inr, ℕ, zero, suc, ◌+◌, ◌<◌, ◌≤◌, Bool, true, false, List, [], ◌∷◌, ◌++◌, length, Option, None, Some, refl, sym, ap, ◌∙◌, subst, arith}
 use Rattle.std.specs.Prelude.{slice_get, slice_set, not, is_some, MatchOption, IsSomeAnd}
->>>>>>> 1d21789a52c514ffe6cd981fa22cd40f73335d45
 use Rattle.indexmap.specs.IndexMap.{IndexMap}
 use Rattle.jz_runs.specs.Trees.{done, op, quiet, choose, loop, each, call}
 use Rattle.jz_meaning.specs.Statements.{Condition, Block}
@@ -33,33 +28,19 @@ use Rattle.jz_block_facts.proofs.Leading.{still_fresh}
 
 get_set_same : {A : Type 0} (xs : List A) (i : ℕ) (x : A) → i < length xs → slice_get (slice_set xs i x) i ≡ Some x
 get_set_same [] i x l = absurd (omega (arith, l))
-<<<<<<< HEAD
-get_set_same (y ∷ ys) 0 x l = refl
-=======
 get_set_same (y ∷ ys) zero x l = refl
->>>>>>> 1d21789a52c514ffe6cd981fa22cd40f73335d45
 get_set_same (y ∷ ys) (suc i) x l = let m : i < length ys = omega (arith, l) in get_set_same ys i x m
 
 get_set_other : {A : Type 0} (xs : List A) (i k : ℕ) (x : A) → (k ≡ i → ⊥) → slice_get (slice_set xs i x) k ≡ slice_get xs k
 get_set_other [] i k x d = refl
-<<<<<<< HEAD
-get_set_other (y ∷ ys) 0 0 x d = absurd (d refl)
-get_set_other (y ∷ ys) 0 (suc k) x d = refl
-get_set_other (y ∷ ys) (suc i) 0 x d = refl
-=======
 get_set_other (y ∷ ys) zero zero x d = absurd (d refl)
 get_set_other (y ∷ ys) zero (suc k) x d = refl
 get_set_other (y ∷ ys) (suc i) zero x d = refl
->>>>>>> 1d21789a52c514ffe6cd981fa22cd40f73335d45
 get_set_other (y ∷ ys) (suc i) (suc k) x d = get_set_other ys i k x (λ e. d (ap suc e))
 
 length_set : {A : Type 0} (xs : List A) (i : ℕ) (x : A) → length (slice_set xs i x) ≡ length xs
 length_set [] i x = refl
-<<<<<<< HEAD
-length_set (y ∷ ys) 0 x = refl
-=======
 length_set (y ∷ ys) zero x = refl
->>>>>>> 1d21789a52c514ffe6cd981fa22cd40f73335d45
 length_set (y ∷ ys) (suc i) x = ap suc (length_set ys i x)
 
 pub never_empty : {A : Type 0} (xs : List A) (x : A) (ys : List A) → ys ≡ xs ++ x ∷ [] → ys ≡ [] → ⊥
@@ -70,15 +51,6 @@ pub each_way : {A : Type 0} (P X : Type 0) (Q Y : A → Type 0) (o : Option A) �
 each_way P X Q Y None f h m = f m
 each_way P X Q Y (Some a) f h m = h a m
 
-<<<<<<< HEAD
-module _ {S : Type 0} (g : code.Given) (l : Loop) where
-  abbrev pub AboveIn : Facts → Facts → Type 0
-  AboveIn = Above (given_of g) (prologue_piece l done) (condition_of l) (turn_piece l done)
-
-  -- the head of a loop that comes in at one place is sought from another one
-  pub record Heading (p now : Place S) : Type 0 where
-    pub above : AboveIn p.facts now.facts
-=======
 module _ (g : code.Given) (l : Loop) where
   abbrev pub AboveIn : Facts → Facts → Type 0
   AboveIn = Above (given_of g) (prologue_piece l done) (condition_of l) (turn_piece l done)
@@ -87,7 +59,6 @@ module _ {S : Type 0} (g : code.Given) (l : Loop) where
   -- the head of a loop that comes in at one place is sought from another one
   pub record Heading (p now : Place S) : Type 0 where
     pub above : AboveIn g l p.facts now.facts
->>>>>>> 1d21789a52c514ffe6cd981fa22cd40f73335d45
     pub ready : IsTurnReady g l now
     pub inner : now.next ≡ suc p.next
     pub within : p.next < length now.heads
@@ -98,11 +69,7 @@ module _ {S : Type 0} (g : code.Given) (l : Loop) where
 
   module _ (p now : Place S) (ready : IsReady g (loop_piece l) p) (inner : now.next ≡ suc p.next) (within : p.next < length now.heads)
       (others : (k : ℕ) → (k ≡ p.next → ⊥) → slice_get now.heads k ≡ slice_get p.heads k) where
-<<<<<<< HEAD
-    begun_with : AboveIn p.facts now.facts
-=======
     begun_with : AboveIn g l p.facts now.facts
->>>>>>> 1d21789a52c514ffe6cd981fa22cd40f73335d45
         → (IsFresh now.next now.heads
         ⊎ ((x : Facts) × (y : Facts) × Below now.facts x
         × AreHeads g (prologue_piece l done) now.next now.heads x
@@ -127,11 +94,7 @@ module _ {S : Type 0} (g : code.Given) (l : Loop) where
 
     begins_fresh : IsFresh p.next p.heads → now.facts ≡ p.facts → Heading p now
     begins_fresh f e =
-<<<<<<< HEAD
-        begun_with (subst (AboveIn p.facts) (sym e) (begun (given_of g) (prologue_piece l done) (condition_of l) (turn_piece l done) p.facts))
-=======
         begun_with (subst (AboveIn g l p.facts) (sym e) (begun (given_of g) (prologue_piece l done) (condition_of l) (turn_piece l done) p.facts))
->>>>>>> 1d21789a52c514ffe6cd981fa22cd40f73335d45
         (inl (λ k h. others k (λ q. omega (arith, q, h, inner)) ∙ f k (omega (arith, h, inner))))
 
     begins_again : (m : IndexMap Named Knowledge S) (x y : Facts) → Below p.facts x → now.facts ≡ common p.facts (laid g m p.facts)
@@ -142,11 +105,7 @@ module _ {S : Type 0} (g : code.Given) (l : Loop) where
         → Heading p now
     begins_again m x y w e k hp a hb =
         let f = e ∙ warmed g m p.facts x w in
-<<<<<<< HEAD
-        begun_with (subst (AboveIn p.facts) (sym f) (again (given_of g) (prologue_piece l done) (condition_of l) (turn_piece l done) p.facts x (laid g m x) w k))
-=======
         begun_with (subst (AboveIn g l p.facts) (sym f) (again (given_of g) (prologue_piece l done) (condition_of l) (turn_piece l done) p.facts x (laid g m x) w k))
->>>>>>> 1d21789a52c514ffe6cd981fa22cd40f73335d45
         (inr (
           laid g m x,
           y,
@@ -233,11 +192,7 @@ module _ {S : Type 0} (g : code.Given) (l : Loop) where
       let i = h.inner in
       let w = h.within in
       record {
-<<<<<<< HEAD
-        above = subst (AboveIn p.facts) (sym e) (lowered (given_of g) (prologue_piece l done) (condition_of l) (turn_piece l done) p.facts now.facts z.facts h.above (one_turn now q z t));
-=======
         above = subst (AboveIn g l p.facts) (sym e) (lowered (given_of g) (prologue_piece l done) (condition_of l) (turn_piece l done) p.facts now.facts z.facts h.above (one_turn now q z t));
->>>>>>> 1d21789a52c514ffe6cd981fa22cd40f73335d45
         ready = record {
           different = h.ready.different;
           words = h.ready.words;
@@ -310,8 +265,6 @@ first_head g (choose c a b r) hs s l h = absurd l
 first_head g (loop w p c b r) hs s l h = (h.0, h.2, h.3)
 first_head g (each f b r) hs s l h = absurd l
 first_head g (call c b r) hs s l h = absurd l
-<<<<<<< HEAD
-=======
 
 -- ---- a list with one item more
 
@@ -328,4 +281,3 @@ some_and (Some a) P Q R f h = f a h
 pub none_match : {A : Type 0} (o : Option A) (P : Type 0) (Q : A → Type 0) → o ≡ None → P → MatchOption o P Q
 none_match None P Q e p = p
 none_match (Some a) P Q e p = absurd (cc e)
->>>>>>> 1d21789a52c514ffe6cd981fa22cd40f73335d45

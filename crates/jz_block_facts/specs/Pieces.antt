@@ -1,9 +1,5 @@
 -- The pieces that statements of an expanded function put before what follows.
-<<<<<<< HEAD
-use Rattle.std.specs.Prelude.{Bool, List, Option, Some, None}
-=======
 use Rattle.std.specs.Prelude.{Bool, false, List, Option, Some, None}
->>>>>>> 1d21789a52c514ffe6cd981fa22cd40f73335d45
 use Rattle.jz_tree.specs.Span.{Span}
 use Rattle.jz_tree.specs.declared.expr.BinOp.{BinOp}
 use Rattle.jz_tree.specs.declared.expr.Expr.{Expr}

@@ -1,27 +1,14 @@
 //! Facts of whole bodies.
 
 ghost use Rattle.std.specs.Prelude.{◌≡◌, OnOk, IfOk};
-<<<<<<< HEAD
-ghost use Rattle.jz_runs.specs.Trees.{done};
-ghost use Rattle.jz_meaning.specs.Runs.{statement_tree};
-=======
->>>>>>> 1d21789a52c514ffe6cd981fa22cd40f73335d45
 ghost use Rattle.jz_flow.specs.Flow.{After};
 ghost use Rattle.jz_facts.specs.Along.{fact_steps};
 ghost use Rattle.jz_layers.specs.Layered.{seen};
 ghost use Rattle.jz_fact_sets.specs.Kept.{AreDifferent, given_of, facts_of};
 ghost use Rattle.jz_test_facts.specs.Comparing.{AreWords};
-<<<<<<< HEAD
-ghost use Rattle.jz_block_facts.specs.Heads.{no_callees, plain_block, HasNoFor, AreHeads};
-ghost use Rattle.jz_block_facts.specs.Heads.{IsLoop, IsHeadOf};
-
-use crate::laying::lay;
-use crate::walk::{walk_block, walk_statement};
-=======
 ghost use Rattle.jz_block_facts.specs.Heads.{plain_block, HasNoFor, AreHeads};
 
 use crate::walk::walk_block;
->>>>>>> 1d21789a52c514ffe6cd981fa22cd40f73335d45
 use jz_fact_sets::{FactSet, Given, Table};
 use jz_tree::{Seq, Stmt};
 use std::alloc::AllocError;
@@ -39,11 +26,7 @@ pub fn holds_after<'a>(
     ensures facts { OnOk result (After (fact_steps (given_of given.now)) (plain_block stmts.now)
         (facts_of given.now set.old) (facts_of given.now set.new)) }
 {
-<<<<<<< HEAD
-    let mut heads = Vec::new(set.allocator());
-=======
     let mut heads = Seq::new(set.allocator());
->>>>>>> 1d21789a52c514ffe6cd981fa22cd40f73335d45
     walk_block(given, set, &mut heads, 0, stmts)?;
     Ok(())
 }
@@ -64,36 +47,9 @@ pub fn heads_of<'a>(
     ensures heads { IfOk result (λ heads. AreHeads given.now (plain_block stmts.now) 0
         heads.items (facts_of given.now set.old)) }
 {
-<<<<<<< HEAD
-    let mut heads = Vec::new(set.allocator());
-    set.open()?;
-    walk_block(given, set, &mut heads, 0, stmts)?;
-    set.close();
-    Ok(heads)
-}
-
-/// What holds at the head of a `while` of an expanded function, in which there is no `for`: the
-/// greatest set of what comes in that each turn keeps.
-pub fn at_head<'a>(given: &Given, set: &mut FactSet<'a>, stmt: &'a Stmt) -> Result<(), AllocError>
-    requires different { AreDifferent given.now.params }
-    requires words { AreWords given.now.constants }
-    requires plain { HasNoFor (statement_tree no_callees stmt.now done) }
-    requires turns { IsLoop (statement_tree no_callees stmt.now done) }
-    ensures below { OnOk result (set.new.below.items ≡ set.old.below.items) }
-    ensures head { OnOk result (IsHeadOf given.now (statement_tree no_callees stmt.now done)
-        (facts_of given.now set.old) (facts_of given.now set.new)) }
-{
-    let mut heads = Vec::new(set.allocator());
-    set.open()?;
-    walk_statement(given, set, &mut heads, 0, stmt)?;
-    set.close();
-    lay(set, &heads.as_slice()[0])?;
-    Ok(())
-=======
     let mut heads = Seq::new(set.allocator());
     set.open()?;
     walk_block(given, set, &mut heads, 0, stmts)?;
     set.close();
     Ok(heads.into_vec())
->>>>>>> 1d21789a52c514ffe6cd981fa22cd40f73335d45
 }

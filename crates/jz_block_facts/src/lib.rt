@@ -7,11 +7,7 @@ mod looping;
 mod single;
 mod walk;
 
-<<<<<<< HEAD
-pub use bodies::{at_head, heads_of, holds_after};
-=======
 pub use bodies::{heads_of, holds_after};
->>>>>>> 1d21789a52c514ffe6cd981fa22cd40f73335d45
 pub use laying::{lay, meet_both, taken};
 pub use looping::leave;
 pub use single::{after_single, open_arm};

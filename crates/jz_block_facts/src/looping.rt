@@ -36,16 +36,6 @@ pub(crate) struct Loop<'a> {
 /// Narrows what is known by the table of this number.
 fn narrow_head<'a>(
     set: &mut FactSet<'a>,
-<<<<<<< HEAD
-    heads: &Vec<Table<'a>>,
-    at: usize,
-) -> Result<(), AllocError>
-    requires { at < length heads.now.items }
-    ensures below { OnOk result (set.new.below.items ≡ set.old.below.items) }
-    ensures less { OnOk result ((k : Spot)
-        → amount (known_at set.new k) ≤ amount (known_at set.old k)) }
-    ensures facts { OnOk result (IsSomeAnd (slice_get heads.now.items at)
-=======
     heads: &Seq<Table<'a>>,
     at: usize,
 ) -> Result<(), AllocError>
@@ -54,7 +44,6 @@ fn narrow_head<'a>(
     ensures less { OnOk result ((k : Spot)
         → amount (known_at set.new k) ≤ amount (known_at set.old k)) }
     ensures facts { OnOk result (IsSomeAnd (slice_get heads.now at)
->>>>>>> 1d21789a52c514ffe6cd981fa22cd40f73335d45
         (λ m. (g : code.Given) → AreDifferent g.params → facts_of g set.new
         ≡ common (facts_of g set.old) (laid g m (facts_of g set.old)))) }
 {
@@ -66,16 +55,6 @@ fn narrow_head<'a>(
 /// next number.
 pub(crate) fn open_head<'a>(
     set: &mut FactSet<'a>,
-<<<<<<< HEAD
-    heads: &mut Vec<Table<'a>>,
-    at: usize,
-) -> Result<usize, AllocError>
-    requires { at ≤ length heads.old.items }
-    ensures next { IfOk result (λ next. next ≡ at + 1) }
-    ensures within { OnOk result (at < length heads.new.items) }
-    ensures others { OnOk result ((k : ℕ) → (k ≡ at → ⊥)
-        → slice_get heads.new.items k ≡ slice_get heads.old.items k) }
-=======
     heads: &mut Seq<Table<'a>>,
     at: usize,
 ) -> Result<usize, AllocError>
@@ -84,16 +63,11 @@ pub(crate) fn open_head<'a>(
     ensures within { OnOk result (at < length heads.new) }
     ensures others { OnOk result ((k : ℕ) → (k ≡ at → ⊥)
         → slice_get heads.new k ≡ slice_get heads.old k) }
->>>>>>> 1d21789a52c514ffe6cd981fa22cd40f73335d45
     ensures below { OnOk result (set.new.below.items
         ≡ set.old.below.items ++ set.old.top ∷ []) }
     ensures less { OnOk result ((k : Spot)
         → amount (known_at set.new k) ≤ amount (known_at set.old k)) }
-<<<<<<< HEAD
-    ensures facts { OnOk result (MatchOption (slice_get heads.old.items at)
-=======
     ensures facts { OnOk result (MatchOption (slice_get heads.old at)
->>>>>>> 1d21789a52c514ffe6cd981fa22cd40f73335d45
         ((g : code.Given) → facts_of g set.new ≡ facts_of g set.old)
         (λ m. (g : code.Given) → AreDifferent g.params → facts_of g set.new
         ≡ common (facts_of g set.old) (laid g m (facts_of g set.old)))) }
@@ -167,57 +141,29 @@ pub fn leave<'a>(
     Ok(())
 }
 
-<<<<<<< HEAD
-/// The table of the loop of this number.
-fn put_head<'a>(heads: &mut Vec<Table<'a>>, at: usize, head: Table<'a>)
-    requires { at < length heads.old.items }
-    ensures { heads.new.items ≡ slice_set heads.old.items at head.entry }
-{
-    heads[at] = head;
-}
-
-=======
->>>>>>> 1d21789a52c514ffe6cd981fa22cd40f73335d45
 /// Takes the table of a head, over the set that comes in, stores it, and leaves the loop.
 pub(crate) fn end_loop<'a>(
     given: &Given,
     set: &mut FactSet<'a>,
-<<<<<<< HEAD
-    heads: &mut Vec<Table<'a>>,
-=======
     heads: &mut Seq<Table<'a>>,
->>>>>>> 1d21789a52c514ffe6cd981fa22cd40f73335d45
     at: usize,
     cond: &'a Expr,
     prologue: &Table<'a>,
 ) -> Result<(), AllocError>
     requires over { IsOver set.old }
     requires words { AreWords given.now.constants }
-<<<<<<< HEAD
-    requires within { at < length heads.old.items }
-=======
     requires within { at < length heads.old }
->>>>>>> 1d21789a52c514ffe6cd981fa22cd40f73335d45
     ensures below { OnOk result ((zero : Layers Knowledge) → ClosesTo set.old zero
         → set.new.below.items ≡ zero.below.items) }
     ensures facts { OnOk result ((span : Place) → facts_of given.now set.new
         ≡ leaves (given_of given.now) (record { cond = cond.now; at = span })
         (facts_of given.now set.old) (laid given.now prologue.now (facts_of given.now set.old))) }
-<<<<<<< HEAD
-    ensures heads { OnOk result (heads.new.items
-        ≡ slice_set heads.old.items at set.old.top) }
-=======
     ensures heads { OnOk result (heads.new
         ≡ slice_set heads.old at set.old.top) }
->>>>>>> 1d21789a52c514ffe6cd981fa22cd40f73335d45
 {
     let head = taken(set);
     lay(set, &head)?;
     leave(given, set, cond, prologue)?;
-<<<<<<< HEAD
-    put_head(heads, at, head);
-=======
     heads.set(at, head);
->>>>>>> 1d21789a52c514ffe6cd981fa22cd40f73335d45
     Ok(())
 }

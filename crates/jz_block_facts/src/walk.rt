@@ -2,11 +2,7 @@
 //! was for no fewer facts, so that an inner loop goes on from where it was in the turn before. The
 //! stack grows with the nesting of the text.
 
-<<<<<<< HEAD
-ghost use Rattle.std.specs.Prelude.{◌≡◌, OnOk, IfOk};
-=======
 ghost use Rattle.std.specs.Prelude.{◌≡◌, true, OnOk, IfOk};
->>>>>>> 1d21789a52c514ffe6cd981fa22cd40f73335d45
 ghost use Rattle.jz_tree.specs.Span.{Span as Where};
 ghost use Rattle.jz_meaning.specs.Runs.{block, statement_tree};
 ghost use Rattle.jz_layers.specs.Layered.{seen};
@@ -45,28 +41,16 @@ pub(crate) struct Turn<'a> {
 pub(crate) fn walk_block<'a>(
     given: &Given,
     set: &mut FactSet<'a>,
-<<<<<<< HEAD
-    heads: &mut Vec<Table<'a>>,
-=======
     heads: &mut Seq<Table<'a>>,
->>>>>>> 1d21789a52c514ffe6cd981fa22cd40f73335d45
     at: usize,
     stmts: &'a Seq<Stmt>,
 ) -> Result<usize, AllocError>
     requires { IsReady given.now (block no_callees stmts.now)
-<<<<<<< HEAD
-        (place_of given.now set.old at heads.old.items) }
-    ensures below { OnOk result (set.new.below.items ≡ set.old.below.items) }
-    ensures leads { IfOk result (λ next. Leads given.now (block no_callees stmts.now)
-        (place_of given.now set.old at heads.old.items)
-        (place_of given.now set.new next heads.new.items)) }
-=======
         (place_of given.now set.old at heads.old) }
     ensures below { OnOk result (set.new.below.items ≡ set.old.below.items) }
     ensures leads { IfOk result (λ next. Leads given.now (block no_callees stmts.now)
         (place_of given.now set.old at heads.old)
         (place_of given.now set.new next heads.new)) }
->>>>>>> 1d21789a52c514ffe6cd981fa22cd40f73335d45
 {
     let mut next = at;
     for stmt in stmts.as_slice() {
@@ -76,34 +60,19 @@ pub(crate) fn walk_block<'a>(
 }
 
 #[cycle(walk)]
-<<<<<<< HEAD
-pub(crate) fn walk_statement<'a>(
-    given: &Given,
-    set: &mut FactSet<'a>,
-    heads: &mut Vec<Table<'a>>,
-=======
 fn walk_statement<'a>(
     given: &Given,
     set: &mut FactSet<'a>,
     heads: &mut Seq<Table<'a>>,
->>>>>>> 1d21789a52c514ffe6cd981fa22cd40f73335d45
     at: usize,
     stmt: &'a Stmt,
 ) -> Result<usize, AllocError>
     requires { IsReady given.now (statement_tree no_callees stmt.now)
-<<<<<<< HEAD
-        (place_of given.now set.old at heads.old.items) }
-    ensures below { OnOk result (set.new.below.items ≡ set.old.below.items) }
-    ensures leads { IfOk result (λ next. Leads given.now (statement_tree no_callees stmt.now)
-        (place_of given.now set.old at heads.old.items)
-        (place_of given.now set.new next heads.new.items)) }
-=======
         (place_of given.now set.old at heads.old) }
     ensures below { OnOk result (set.new.below.items ≡ set.old.below.items) }
     ensures leads { IfOk result (λ next. Leads given.now (statement_tree no_callees stmt.now)
         (place_of given.now set.old at heads.old)
         (place_of given.now set.new next heads.new)) }
->>>>>>> 1d21789a52c514ffe6cd981fa22cd40f73335d45
 {
     match &stmt.kind {
         StmtKind::Assign { to, op, rhs, cond } => {
@@ -155,11 +124,7 @@ fn walk_statement<'a>(
 fn walk_arm<'a>(
     given: &Given,
     set: &mut FactSet<'a>,
-<<<<<<< HEAD
-    heads: &mut Vec<Table<'a>>,
-=======
     heads: &mut Seq<Table<'a>>,
->>>>>>> 1d21789a52c514ffe6cd981fa22cd40f73335d45
     at: usize,
     cond: &'a Expr,
     answer: bool,
@@ -168,11 +133,7 @@ fn walk_arm<'a>(
     requires { IsReady given.now (block no_callees stmts.now) (record {
       facts = answered given.now cond.now answer (facts_of given.now set.old);
       next = at;
-<<<<<<< HEAD
-      heads = heads.old.items;
-=======
       heads = heads.old;
->>>>>>> 1d21789a52c514ffe6cd981fa22cd40f73335d45
     }) }
     ensures below { OnOk result (set.new.below.items ≡ set.old.below.items) }
     ensures seen { OnOk result (seen set.new ≡ seen set.old) }
@@ -180,20 +141,12 @@ fn walk_arm<'a>(
         IfOk result (λ arm. Leads given.now (block no_callees stmts.now) (record {
           facts = answered given.now cond.now answer s;
           next = at;
-<<<<<<< HEAD
-          heads = heads.old.items;
-=======
           heads = heads.old;
->>>>>>> 1d21789a52c514ffe6cd981fa22cd40f73335d45
         })
         (record {
           facts = laid given.now arm.table s;
           next = arm.next;
-<<<<<<< HEAD
-          heads = heads.new.items;
-=======
           heads = heads.new;
->>>>>>> 1d21789a52c514ffe6cd981fa22cd40f73335d45
         })) }
 {
     open_arm(given, set, cond, answer)?;
@@ -207,22 +160,14 @@ fn walk_arm<'a>(
 fn walk_rest<'a>(
     given: &Given,
     set: &mut FactSet<'a>,
-<<<<<<< HEAD
-    heads: &mut Vec<Table<'a>>,
-=======
     heads: &mut Seq<Table<'a>>,
->>>>>>> 1d21789a52c514ffe6cd981fa22cd40f73335d45
     at: usize,
     parts: Loop<'a>,
 ) -> Result<Arm<'a>, AllocError>
     requires { IsReady given.now (turn_piece parts) (record {
       facts = answered given.now parts.cond.now true (facts_of given.now set.old);
       next = at;
-<<<<<<< HEAD
-      heads = heads.old.items;
-=======
       heads = heads.old;
->>>>>>> 1d21789a52c514ffe6cd981fa22cd40f73335d45
     }) }
     ensures below { OnOk result (set.new.below.items ≡ set.old.below.items) }
     ensures seen { OnOk result (seen set.new ≡ seen set.old) }
@@ -230,20 +175,12 @@ fn walk_rest<'a>(
         IfOk result (λ arm. Leads given.now (turn_piece parts.entry) (record {
           facts = answered given.now parts.entry.cond.now true s;
           next = at;
-<<<<<<< HEAD
-          heads = heads.old.items;
-=======
           heads = heads.old;
->>>>>>> 1d21789a52c514ffe6cd981fa22cd40f73335d45
         })
         (record {
           facts = laid given.now arm.table s;
           next = arm.next;
-<<<<<<< HEAD
-          heads = heads.new.items;
-=======
           heads = heads.new;
->>>>>>> 1d21789a52c514ffe6cd981fa22cd40f73335d45
         })) }
 {
     match parts.body {
@@ -264,36 +201,20 @@ fn walk_rest<'a>(
 fn walk_turn<'a>(
     given: &Given,
     set: &mut FactSet<'a>,
-<<<<<<< HEAD
-    heads: &mut Vec<Table<'a>>,
-    at: usize,
-    parts: Loop<'a>,
-) -> Result<Turn<'a>, AllocError>
-    requires { IsTurnReady given.now parts (place_of given.now set.old at heads.old.items) }
-=======
     heads: &mut Seq<Table<'a>>,
     at: usize,
     parts: Loop<'a>,
 ) -> Result<Turn<'a>, AllocError>
     requires { IsTurnReady given.now parts (place_of given.now set.old at heads.old) }
->>>>>>> 1d21789a52c514ffe6cd981fa22cd40f73335d45
     ensures below { OnOk result (set.new.below.items ≡ set.old.below.items) }
     ensures seen { OnOk result (seen set.new ≡ seen set.old) }
     ensures turns { let s = facts_of given.now set.old in
         IfOk result (λ turn. let q = laid given.now turn.prologue s in
-<<<<<<< HEAD
-        Turns given.now parts.entry (place_of given.now set.old at heads.old.items) q
-        (record {
-          facts = laid given.now turn.body q;
-          next = turn.next;
-          heads = heads.new.items;
-=======
         Turns given.now parts.entry (place_of given.now set.old at heads.old) q
         (record {
           facts = laid given.now turn.body q;
           next = turn.next;
           heads = heads.new;
->>>>>>> 1d21789a52c514ffe6cd981fa22cd40f73335d45
         })) }
 {
     set.open()?;
@@ -312,28 +233,16 @@ fn walk_turn<'a>(
 fn walk_while<'a>(
     given: &Given,
     set: &mut FactSet<'a>,
-<<<<<<< HEAD
-    heads: &mut Vec<Table<'a>>,
-=======
     heads: &mut Seq<Table<'a>>,
->>>>>>> 1d21789a52c514ffe6cd981fa22cd40f73335d45
     at: usize,
     parts: Loop<'a>,
 ) -> Result<usize, AllocError>
     requires { IsReady given.now (loop_piece parts)
-<<<<<<< HEAD
-        (place_of given.now set.old at heads.old.items) }
-    ensures below { OnOk result (set.new.below.items ≡ set.old.below.items) }
-    ensures leads { IfOk result (λ next. Leads given.now (loop_piece parts.entry)
-        (place_of given.now set.old at heads.old.items)
-        (place_of given.now set.new next heads.new.items)) }
-=======
         (place_of given.now set.old at heads.old) }
     ensures below { OnOk result (set.new.below.items ≡ set.old.below.items) }
     ensures leads { IfOk result (λ next. Leads given.now (loop_piece parts.entry)
         (place_of given.now set.old at heads.old)
         (place_of given.now set.new next heads.new)) }
->>>>>>> 1d21789a52c514ffe6cd981fa22cd40f73335d45
 {
     let inner = open_head(set, heads, at)?;
     loop {

@@ -84,11 +84,7 @@ module _ (p : Program) where
   values = values_of p.consts
 
   resolved_few : (f : Fun) → HasFew f → HasFew (resolved_whole (constant_place p.consts) values f)
-<<<<<<< HEAD
-  resolved_few f h x = let l = length-map (counted_param values) f.params in let m = h x in omega (arith, l, m)
-=======
   resolved_few f h x = let l = length-map f.params (counted_param values) in let m = h x in omega (arith, l, m)
->>>>>>> 1d21789a52c514ffe6cd981fa22cd40f73335d45
 
   all_few : in_functions misshapen_places p ≡ [] → All HasFew (resolved_program p).funs
   all_few e =

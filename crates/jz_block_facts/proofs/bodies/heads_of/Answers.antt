@@ -1,8 +1,4 @@
-<<<<<<< HEAD
-use Rattle.std.proofs.Common.{refl, subst, ◌∙◌}
-=======
 use Rattle.std.proofs.Common.{refl, sym, subst, ◌∙◌}
->>>>>>> 1d21789a52c514ffe6cd981fa22cd40f73335d45
 use Rattle.jz_runs.specs.Trees.{done}
 use Rattle.jz_meaning.specs.Runs.{block}
 use Rattle.jz_fact_sets.specs.Kept.{facts_of}
@@ -13,11 +9,7 @@ use Rattle.jz_block_facts.proofs.bodies.heads_of.Goals as goal
 
 pub walk_block-requires : goal.walk_block-requires
 walk_block-requires c =
-<<<<<<< HEAD
-    first_place c.args.given.now (block no_callees c.args.stmts.now) (facts_of c.args.given.now c.open.new.self) c.new-heads.result.items c.new-heads.ensures c.requires.different c.requires.words c.requires.plain
-=======
     first_place c.args.given.now (block no_callees c.args.stmts.now) (facts_of c.args.given.now c.open.new.self) c.new-heads.result c.new-heads.ensures c.requires.different c.requires.words c.requires.plain
->>>>>>> 1d21789a52c514ffe6cd981fa22cd40f73335d45
 
 pub returns-clause-below : goal.returns-clause-below
 returns-clause-below c =
@@ -29,11 +21,6 @@ returns-clause-seen c =
 
 pub returns-clause-heads : goal.returns-clause-heads
 returns-clause-heads c =
-<<<<<<< HEAD
-    subst (AreHeads c.args.given.now (plain_block c.args.stmts.now) 0 c.walk_block.new.heads.items) (facts_seen c.args.given.now c.args.set.now c.open.new.self c.in_ok-open.ensures.seen)
-    (c.in_ok-walk_block.ensures.leads.heads c.walk_block.new.heads.items (λ k i j. refl) done tt)
-=======
     subst (λ us. AreHeads c.args.given.now (plain_block c.args.stmts.now) 0 us (facts_of c.args.given.now c.args.set.now)) (sym c.into_vec.ensures)
     (subst (AreHeads c.args.given.now (plain_block c.args.stmts.now) 0 c.walk_block.new.heads) (facts_seen c.args.given.now c.args.set.now c.open.new.self c.in_ok-open.ensures.seen)
     (c.in_ok-walk_block.ensures.leads.heads c.walk_block.new.heads (λ k i j. refl) done tt))
->>>>>>> 1d21789a52c514ffe6cd981fa22cd40f73335d45

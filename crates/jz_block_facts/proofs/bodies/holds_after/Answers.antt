@@ -8,11 +8,7 @@ use Rattle.jz_block_facts.proofs.bodies.holds_after.Goals as goal
 
 pub walk_block-requires : goal.walk_block-requires
 walk_block-requires c =
-<<<<<<< HEAD
-    first_place c.args.given.now (block no_callees c.args.stmts.now) (facts_of c.args.given.now c.args.set.now) c.new-heads.result.items c.new-heads.ensures c.requires.different c.requires.words c.requires.plain
-=======
     first_place c.args.given.now (block no_callees c.args.stmts.now) (facts_of c.args.given.now c.args.set.now) c.new-heads.result c.new-heads.ensures c.requires.different c.requires.words c.requires.plain
->>>>>>> 1d21789a52c514ffe6cd981fa22cd40f73335d45
 
 pub returns-clause-facts : goal.returns-clause-facts
 returns-clause-facts c = c.in_ok-walk_block.ensures.leads.after done (facts_of c.args.given.now c.walk_block.new.set) refl

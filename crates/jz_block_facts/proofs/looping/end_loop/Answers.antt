@@ -17,8 +17,4 @@ returns-clause-facts c span =
     ∙ ap (λ s. leaves (given_of g) (record { cond = c.args.cond.now; at = span }) s (laid g c.args.prologue.now s)) (c.in_ok-lay.ensures.facts g ∙ sym (c.taken-head.ensures.facts g))
 
 pub returns-clause-heads : goal.returns-clause-heads
-<<<<<<< HEAD
-returns-clause-heads c = c.put_head.ensures ∙ ap (slice_set c.args.heads.now.items c.args.at) c.taken-head.ensures.table
-=======
 returns-clause-heads c = c.set.ensures ∙ ap (slice_set c.args.heads.now c.args.at) c.taken-head.ensures.table
->>>>>>> 1d21789a52c514ffe6cd981fa22cd40f73335d45

@@ -18,11 +18,7 @@ returns-clause-facts c g d =
     let three = c.close-turn.new.self in
     let turn = c.close-turn.result in
     let same = returned zero three two.below.items (c.in_ok-lay-2.ensures.below ∙ c.in_ok-lay.ensures.below ∙ c.in_ok-open.ensures.below) c.close-turn.ensures.below in
-<<<<<<< HEAD
-    narrower g turn (known_at three) (known_at c.narrow-fell.new.set) d c.in_ok-fell.ensures.known
-=======
     narrower g turn (known_at three) (known_at c.narrow.new.set) d c.in_ok-fell.ensures.known
->>>>>>> 1d21789a52c514ffe6cd981fa22cd40f73335d45
     ∙ ap (λ s. common (facts_of g three) s) (sym (over_facts g two three turn c.close-turn.ensures.table c.close-turn.ensures.below)
     ∙ c.in_ok-lay-2.ensures.facts g ∙ ap (laid g c.args.body.now) (c.in_ok-lay.ensures.facts g ∙ ap (laid g c.args.prologue.now) (facts_seen g zero c.open.new.self c.in_ok-open.ensures.seen)))
     ∙ ap (λ s. common s (laid g c.args.body.now (laid g c.args.prologue.now (facts_of g zero)))) (facts_as g (known_at zero) (known_at three) same.2)
@@ -35,8 +31,4 @@ returns-clause-same c e =
 pub returns-clause-falls : goal.returns-clause-falls
 returns-clause-falls c e =
     let two = c.in_ok-lay-2.ensures.below ∙ c.in_ok-lay.ensures.below ∙ c.in_ok-open.ensures.below in
-<<<<<<< HEAD
-    subst (λ k. Falls k (known_at c.narrow-fell.new.set)) (returned c.args.set.now c.close-turn.new.self c.lay-2.new.set.below.items two c.close-turn.ensures.below).2 (c.in_ok-fell.ensures.falls e)
-=======
     subst (λ k. Falls k (known_at c.narrow.new.set)) (returned c.args.set.now c.close-turn.new.self c.lay-2.new.set.below.items two c.close-turn.ensures.below).2 (c.in_ok-fell.ensures.falls e)
->>>>>>> 1d21789a52c514ffe6cd981fa22cd40f73335d45

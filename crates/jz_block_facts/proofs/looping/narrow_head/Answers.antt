@@ -13,11 +13,7 @@ returns-clause-less c = none_more c.in_ok-narrow.field-0 (known_at c.args.set.no
 
 pub returns-clause-facts : goal.returns-clause-facts
 returns-clause-facts c =
-<<<<<<< HEAD
-    let xs = c.args.heads.now.items in
-=======
     let xs = c.args.heads.now in
->>>>>>> 1d21789a52c514ffe6cd981fa22cd40f73335d45
     let e = c.index-as_slice-at.result in
     let is : e ≡ get_or xs c.args.at e = c.index-as_slice-at.is ∙ ap (λ l. get_or l c.args.at e) c.as_slice.ensures in
     subst (λ o. IsSomeAnd o (λ m. (g : code.Given) → AreDifferent g.params → facts_of g c.narrow.new.set ≡ common (facts_of g c.args.set.now) (laid g m (facts_of g c.args.set.now))))

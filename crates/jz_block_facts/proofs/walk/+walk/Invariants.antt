@@ -29,18 +29,6 @@ decreases-walk_while l = 8 * (weights l.parts.prologue.now + body_weight l.parts
 abbrev pub invariant-walk_block-loop-stmt : goal.invariant-walk_block-loop-stmt
 invariant-walk_block-loop-stmt l =
     (l.set.below.items ≡ l.fn.set.below.items)
-<<<<<<< HEAD
-    × IsOn l.given l.stmts l.stmt-index (place_of l.given l.fn.set l.at l.fn.heads.items) (place_of l.given l.set l.next l.heads.items)
-
-abbrev pub invariant-walk_while-loop-set : goal.invariant-walk_while-loop-set
-invariant-walk_while-loop-set l =
-    (l.set.below.items ≡ l.fn.set.below.items ++ l.fn.set.top ∷ [])
-    × ((k : Spot) → amount (known_at l.set k) ≤ amount (known_at l.fn.set k))
-    × Heading l.given l.parts (place_of l.given l.fn.set l.at l.fn.heads.items) (place_of l.given l.set l.inner l.heads.items)
-
-abbrev pub decreases-walk_while-loop-set : goal.decreases-walk_while-loop-set
-decreases-walk_while-loop-set l = total (spots_of l.fn.set) (known_at l.set)
-=======
     × IsOn l.given l.stmts l.stmt-index (place_of l.given l.fn.set l.at l.fn.heads) (place_of l.given l.set l.next l.heads)
 
 abbrev pub invariant-walk_while-loop-turn : goal.invariant-walk_while-loop-turn
@@ -51,4 +39,3 @@ invariant-walk_while-loop-turn l =
 
 abbrev pub decreases-walk_while-loop-turn : goal.decreases-walk_while-loop-turn
 decreases-walk_while-loop-turn l = total (spots_of l.fn.set) (known_at l.set)
->>>>>>> 1d21789a52c514ffe6cd981fa22cd40f73335d45
