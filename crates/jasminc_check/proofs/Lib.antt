@@ -1,0 +1,2 @@
+pub mod FirstCauses
+pub mod Lines

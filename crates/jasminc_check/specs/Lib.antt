@@ -1,0 +1,5 @@
+pub mod AlarmLines
+pub mod Safety
+pub mod Causes
+pub mod Answers
+pub mod InnerSafety
