@@ -17,8 +17,11 @@ use Rattle.jasminc_words.specs.Wanted.{Called, Wanted, compile, exec, interp, di
 use Rattle.jasminc_interp.specs.Answers as answers
 use Rattle.jasminc_interp.specs.declared.telling.Ran as source
 use Rattle.jasminc_top.specs.Making.{TypesAs}
-use Rattle.jasminc_exec.specs.Running.{code_base, return_slot, IsStartMemory, exec_start}
-use Rattle.jasminc_exec.specs.Running.{RunsStill, run_text, cut_text}
+use Rattle.jasminc_steps.specs.Starting.{code_base, return_slot, exec_start}
+use Rattle.jasminc_exec.specs.Running.{IsStartMemory}
+use Rattle.jasminc_steps.specs.Stepping.{RunsStill}
+use Rattle.jasminc_steps.specs.Telling.{cut_text}
+use Rattle.jasminc_exec.specs.Running.{run_text}
 use Rattle.jasminc_top.specs.Told.{SourceTold, SinkTold}
 use Rattle.jasminc_top.specs.Answers.{HasFile, function_named, compiled_named, IsToldAs}
 use Rattle.jasminc_top.specs.declared.refusal.Status.{Status}

@@ -2,7 +2,7 @@
 use Rattle.std.proofs.Common.{◌≡◌, ℕ, zero, suc, ◌≤◌, List, [], ◌∷◌, length, drop, refl, ap, ◌∙◌, arith}
 use Rattle.x64_insn.specs.declared.types.Reg.{Reg}
 use Rattle.jz_correct.specs.Registers.{argument_registers}
-use Rattle.jasminc_exec.specs.Running.{with_numbers}
+use Rattle.jasminc_steps.specs.Starting.{with_numbers}
 
 past : (rs : List Reg) (i : ℕ) → length rs ≤ i → drop i rs ≡ []
 past [] zero h = refl

@@ -1,7 +1,7 @@
 use Rattle.std.proofs.Common.{arith, ap, length}
 use Rattle.jz_text.proofs.NextLines.{next_line}
-use Rattle.jasminc_exec.specs.Running.{result_line}
-use Rattle.jasminc_exec.proofs.exec.write_results.Goals as goal
+use Rattle.jasminc_steps.specs.Telling.{result_line}
+use Rattle.jasminc_steps.proofs.telling.write_results.Goals as goal
 
 pub loop-ret-preserved : goal.loop-ret-preserved
 loop-ret-preserved c =

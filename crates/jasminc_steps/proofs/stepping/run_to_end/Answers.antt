@@ -3,7 +3,7 @@ use Rattle.x64_machine.specs.MachineRuns.{code_of, base_of, config_of}
 use Rattle.x64_machine.specs.Steps.{Config, Moved, steps_of, events_of}
 use Rattle.x64_machine.proofs.MachineRunning.{none_made, same_step}
 use Rattle.x64_machine.proofs.Following.{none_shown, open_first, step_on, events_on, goes, ends, up_to}
-use Rattle.jasminc_exec.proofs.exec.run_to_end.Goals as goal
+use Rattle.jasminc_steps.proofs.stepping.run_to_end.Goals as goal
 
 pub loop-made-init : goal.loop-made-init
 loop-made-init c =

@@ -1,7 +1,7 @@
 use Rattle.std.proofs.Common.{◌≡◌, ℕ, ◌+◌, ◌<◌, false}
 use Rattle.x64_machine.specs.MachineRuns.{code_of, base_of, config_of}
 use Rattle.x64_machine.specs.Steps.{steps_of}
-use Rattle.jasminc_exec.proofs.exec.run_to_end.Given as goal
+use Rattle.jasminc_steps.proofs.stepping.run_to_end.Given as goal
 
 -- the machine stands where so many steps lead, with their events, and has not ended up to there
 abbrev pub invariant-loop-made : goal.invariant-loop-made

@@ -1,8 +1,8 @@
 use Rattle.std.proofs.Common.{arith, ap, length, refl, get_or, false}
 use Rattle.jz_text.proofs.NextLines.{next_line}
 use Rattle.jz_leak.specs.declared.event.Event.TheVariants as event
-use Rattle.jasminc_exec.specs.Running.{event_line}
-use Rattle.jasminc_exec.proofs.exec.write_events.Goals as goal
+use Rattle.jasminc_steps.specs.Telling.{event_line}
+use Rattle.jasminc_steps.proofs.telling.write_events.Goals as goal
 
 pub loop-event-preserved : goal.loop-event-preserved
 loop-event-preserved c =

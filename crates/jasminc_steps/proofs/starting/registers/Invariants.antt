@@ -1,7 +1,7 @@
 use Rattle.std.proofs.Common.{◌≡◌, drop}
 use Rattle.jz_correct.specs.Registers.{argument_registers}
-use Rattle.jasminc_exec.specs.Running.{with_numbers, bare_registers}
-use Rattle.jasminc_exec.proofs.exec.registers.Given as goal
+use Rattle.jasminc_steps.specs.Starting.{with_numbers, bare_registers}
+use Rattle.jasminc_steps.proofs.starting.registers.Given as goal
 
 abbrev pub invariant-loop-i : goal.invariant-loop-i
 invariant-loop-i l =

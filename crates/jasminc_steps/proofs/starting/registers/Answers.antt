@@ -1,6 +1,6 @@
 use Rattle.std.proofs.Common.{◌∙◌, sym, drop}
-use Rattle.jasminc_exec.proofs.ArgumentRegisters.{none_placed}
-use Rattle.jasminc_exec.proofs.exec.registers.Goals as goal
+use Rattle.jasminc_steps.proofs.ArgumentRegisters.{none_placed}
+use Rattle.jasminc_steps.proofs.starting.registers.Goals as goal
 
 pub returns-in_default : goal.returns-in_default
 returns-in_default c =
