@@ -1,7 +1,7 @@
 use Rattle.std.proofs.Common.{◌≡◌, ◌++◌, map, take}
 use Rattle.std.specs.List.{concat}
-use Rattle.jasminc_interp.specs.Telling.{region_text}
-use Rattle.jasminc_interp.proofs.telling.write_regions.Given as goal
+use Rattle.jasminc_regions.specs.Regions.{region_text}
+use Rattle.jasminc_regions.proofs.regions.write_regions.Given as goal
 
 abbrev pub invariant-loop-pre : goal.invariant-loop-pre
 invariant-loop-pre l =

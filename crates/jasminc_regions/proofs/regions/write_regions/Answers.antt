@@ -1,9 +1,9 @@
 use Rattle.std.proofs.Common.{arith, ap, length, get_or, ◌∙◌}
 use Rattle.jz_preconditions.specs.Meeting.{IsBelowEnd, names_of, region_of}
 use Rattle.jz_text.proofs.NextLines.{next_line}
-use Rattle.jasminc_interp.specs.Telling.{region_text}
-use Rattle.jasminc_interp.proofs.Readying.{part_of}
-use Rattle.jasminc_interp.proofs.telling.write_regions.Goals as goal
+use Rattle.jasminc_regions.specs.Regions.{region_text}
+use Rattle.jasminc_regions.proofs.Parts.{part_of}
+use Rattle.jasminc_regions.proofs.regions.write_regions.Goals as goal
 
 pub write_region_of-requires : goal.write_region_of-requires
 write_region_of-requires c =
