@@ -1,0 +1,10 @@
+//! Runs of compiled functions of the whole language on items: from the bytes to the text of a run.
+#![tactic(auto)]
+
+mod running;
+mod starting;
+mod telling;
+
+pub use running::run_compiled;
+pub use starting::Input;
+pub use telling::Ran;
