@@ -51,7 +51,7 @@ pub fn run_text(
         &mut text,
         input.function,
         input.words,
-        &machine.mem,
+        &machine.mem.map,
         input.pres,
     )?;
     Ok(Bytes::from_vec(text))
