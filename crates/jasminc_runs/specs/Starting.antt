@@ -1,5 +1,6 @@
 -- Where `exec` starts a compiled function of the whole language: the memory, and the machine.
-use Rattle.std.specs.Prelude.{◌≡◌, ◌<◌, ◌≤◌, ℕ, ◌+◌, ◌-◌, List, None, replicate}
+use Rattle.std.specs.Prelude.{◌≡◌, ◌<◌, ◌≤◌, ℕ, ◌+◌, ◌-◌, ◌%◌, List, [], ◌∷◌, None, replicate, ⊤}
+use Rattle.jz_words.specs.Sizes.{modulus}
 use Rattle.jz_words.specs.Memory.{Memory}
 use Rattle.jz_tree.specs.declared.program.Fun.{Fun}
 use Rattle.jz_leak.specs.MemoryMap.{AddsBytes}
@@ -8,6 +9,7 @@ use Rattle.jz_items.specs.declared.item.Item.{Item}
 use Rattle.jz_items.specs.Items.{words_of}
 use Rattle.jz_inputs.specs.Held.{byte_at}
 use Rattle.jz_inputs.specs.Inputs.{HoldsRegions}
+use Rattle.jz_listing.specs.declared.compiled.Arg.{Arg}
 use Rattle.jz_listing.specs.declared.compiled.Compiled.{Compiled}
 use Rattle.x64_machine.specs.declared.machine.Machine.{Machine}
 use Rattle.x64_machine.specs.MachineRuns.{code_of, base_of, config_of}
@@ -48,3 +50,10 @@ pub record IsLoaded (c : Compiled) (f : Fun) (words : List ℕ) (items : List It
   pub code_is : code_of machine ≡ c.code
   pub base_is : base_of machine ≡ code_base
   pub config_is : config_of machine ≡ exec_start (words_of items) memory
+
+-- ---- arguments
+-- argument words are the low bits of the items' words, by the lines of the listing
+abbrev pub AreLowBits : List Arg → List ℕ → List ℕ → Type 0
+AreLowBits [] [] [] = ⊤
+AreLowBits (a ∷ args) (n ∷ ns) (w ∷ words) = (w ≡ n % modulus a.size) × AreLowBits args ns words
+AreLowBits _ _ _ = ⊥
