@@ -1,7 +1,7 @@
 -- Where `exec` starts a function is a start of it.
 use Rattle.std.proofs.Common.{◌≡◌, ℕ, zero, suc, ◌+◌, ◌-◌, ◌%◌, ◌^◌, ◌<◌, ◌≤◌, true, List, [], ◌∷◌, length, get_or, refl, sym, ap, ◌∙◌, arith, subst, lit<}
-use Rattle.std.specs.Prelude.{IsSome, is_some, slice_index, slice_set, replicate, ⊤}
-use Rattle.std.specs.List.{AllByRecursion}
+use Rattle.std.specs.Prelude.{All, IsSome, is_some, slice_index, slice_set, replicate, ⊤}
+use Rattle.std.specs.List.{AllByRecursion, AllZip}
 use Rattle.std.specs.FinMap.{get}
 use Rattle.std.proofs.lemmas.List.{get_or-set_same, length-set}
 use Rattle.jz_words.specs.declared.size.Size.{Size}
@@ -16,6 +16,12 @@ use Rattle.x64_insn.specs.Rows.{reg_value}
 use Rattle.x64_insn.proofs.Registers.{number_small}
 use Rattle.jz_tree.specs.declared.program.Fun.{Fun}
 use Rattle.jz_tree.specs.declared.program.Param.{Param}
+use Rattle.jz_tree.specs.declared.program.Program.{Program}
+use Rattle.jz_meaning.specs.Rules.{End, Cut, Stuck}
+use Rattle.jz_meaning.specs.Runs.{FunOutcome}
+use Rattle.jz_preconditions.specs.Stating.{preconditions_of}
+use Rattle.jz_inputs.specs.Held.{IsHeld}
+use Rattle.jz_inputs.proofs.Meets.{meets_by}
 use Rattle.jz_preconditions.specs.Meeting as declared
 use Rattle.jz_items.specs.declared.item.Item.{Item}
 use Rattle.jz_items.specs.Items.{words_of, ItemsFit}
@@ -24,7 +30,12 @@ use Rattle.jz_listing.specs.declared.compiled.Compiled.{Compiled}
 use Rattle.jz_correct.specs.Registers.{argument_registers}
 use Rattle.jz_correct.specs.Starts.{IsIn, IsInOne, IsValid, IsStart, AreInRegisters, stack_at, regions_for}
 use Rattle.jz_compiled.specs.Lines.{AreArgumentLines, listed_preconditions}
+use Rattle.jz_compiled.specs.Matching.{Matches}
+use Rattle.jz_compiled.specs.Correct.{IsCompilation}
 use Rattle.jz_compiled.proofs.Printed.{in_declared}
+use Rattle.jz_correct.specs.Agreement.{NeverFaults}
+use Rattle.x64_machine.specs.Steps.{Config}
+use Rattle.jasminc_runs.specs.Running.{IsSafe}
 use Rattle.jasminc_steps.specs.Starting.{code_base, return_slot, with_numbers, bare_registers, start_state, exec_start}
 use Rattle.jasminc_steps.proofs.Placing.{is_far, AreWords, placed-other, placed-length, placed-words, bare_words}
 use Rattle.jasminc_runs.specs.Starting.{most_frame, StandApart, AreLowBits, IsStartMemory}
@@ -101,3 +112,18 @@ module _ (f : Fun) (c : Compiled) (words : List ℕ) (items : List Item) (m : Me
         region_valid = λ q inside. subst IsSome (sym (input_stays c.frame f words items m small apart s q (in_input q inside))) (in_input q inside);
         region_holds = λ q inside. input_stays c.frame f words items m small apart s q (in_input q inside);
       }
+
+-- ---- runs of correct code
+never : (c : Compiled) (words : List ℕ) (rsp0 base : ℕ) (start : Config) (n : ℕ) (o : FunOutcome) → Matches c words rsp0 base start n o → NeverFaults c.code base start
+never c words rsp0 base start n (End r k l) h = h.ends.no_fault
+never c words rsp0 base start n (Cut l) h = h.no_fault
+never c words rsp0 base start n (Stuck w) h = absurd h
+
+pub never_faults : (p : Program) (f : Fun) (c : Compiled) (words : List ℕ) (items : List Item) → IsCompilation p f c → ItemsFit items → AreLowBits c.args (words_of items) words → StandApart items
+    → c.frame ≤ most_frame → code_base + length c.code ≤ 2 ^ 64 → AllZip declared.IsArgument f.params words → All (IsHeld f words items) (preconditions_of f) → IsSafe c f words items
+never_faults p f c words items correct fit low apart small fits sizes held m s =
+    let start = starts f c words items m correct.args correct.pre fit low apart small fits s in
+    let meets = meets_by f words items s.input sizes held s.holds in
+    let run = correct.carries.runs words s.input 0 meets in
+    never c words return_slot code_base (exec_start (words_of items) m) 0 run.0
+    (correct.carries.matches words s.input 0 run.0 meets run.1 return_slot code_base (exec_start (words_of items) m) start)

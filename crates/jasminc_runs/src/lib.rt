@@ -6,7 +6,7 @@ mod running;
 mod starting;
 mod telling;
 
-pub use laws::exec_is_a_start;
+pub use laws::{correct_functions_never_fault, exec_is_a_start};
 pub use running::run_compiled;
 pub use starting::Input;
 pub use telling::Ran;
