@@ -16,3 +16,7 @@ pub mod ExecHeadline
 pub mod Promises
 pub mod DisasmCauses
 pub mod DisasmHeadline
+pub mod CheckCauses
+pub mod CtCauses
+pub mod CheckHeadline
+pub mod CtHeadline
