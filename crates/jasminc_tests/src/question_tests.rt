@@ -1,13 +1,11 @@
-//! The commands `check` and `ct`: whether the export functions of a text are safe, and whether they
-//! are constant-time, with the answers that the rules give by hand.
+//! The command `check`: whether the export functions of a text are safe, with the answers that the
+//! rules give by hand.
 
 use crate::tests::{Row, answer_rows};
 use jasminc_top::Status;
 use std::test::Fail;
 
 const CHECK: &[&str] = &["jasminc", "check", "add.jazz"];
-
-const CT: &[&str] = &["jasminc", "ct", "add.jazz"];
 
 /// Functions that are safe, and functions with their first alarm.
 static SAFETY: [Row; 13] = [
@@ -104,93 +102,7 @@ static SAFETY: [Row; 13] = [
     },
 ];
 
-/// Functions that are constant-time, and functions with their first breach.
-static SECRECY: [Row; 11] = [
-    Row {
-        words: CT,
-        text: b"export fn z(#secret reg u64 s) -> reg u64 {\n  reg u64 r t;\n  r = 1; t = 0;\n  if (s == 0) { r = t; }\n  return r;\n}\n",
-        status: Status::CtNo,
-        written: "ct z no 4:7 Branch s\n",
-        made: 0,
-    },
-    Row {
-        words: CT,
-        text: b"export fn z(#secret reg u64 s) -> reg u64 {\n  reg u64 r t;\n  r = 1; t = 0;\n  r = t if s == 0;\n  return r;\n}\n",
-        status: Status::Ok,
-        written: "ct z yes\n",
-        made: 0,
-    },
-    Row {
-        words: CT,
-        text: b"#[region=\"p: 8*len\"]\n#[range=\"len: 0..1024\"]\n#[align=\"p: 8\"]\nexport fn tot(#public reg u64 p, #public reg u64 len, reg u64 i) -> reg u64 {\n  reg u64 r;\n  r = 0; i = 0;\n  while (i < len) {\n    r += [p + 8*i];\n    i += 1;\n  }\n  return r;\n}\n",
-        status: Status::Ok,
-        written: "ct tot yes\n",
-        made: 0,
-    },
-    Row {
-        words: CT,
-        text: b"#[region=\"p: 8*len\"]\n#[range=\"len: 0..1024\"]\n#[align=\"p: 8\"]\nexport fn tot(reg u64 p, #public reg u64 len, reg u64 i) -> reg u64 {\n  reg u64 r;\n  r = 0; i = 0;\n  while (i < len) {\n    r += [p + 8*i];\n    i += 1;\n  }\n  return r;\n}\n",
-        status: Status::CtNo,
-        written: "ct tot no 8:10 Address p\n",
-        made: 0,
-    },
-    Row {
-        words: CT,
-        text: b"#[range=\"y: 1..9\"]\nexport fn quo(#public reg u64 x y) -> reg u64 {\n  reg u64 q;\n  q = x / y;\n  return q;\n}\n",
-        status: Status::Ok,
-        written: "ct quo yes\n",
-        made: 0,
-    },
-    Row {
-        words: CT,
-        text: b"export fn f(#secret reg u64 s) -> reg u64 { reg u64 r; r = s; return r; }\nexport fn z(#secret reg u64 s) -> reg u64 {\n  reg u64 r t;\n  r = 1; t = 0;\n  if (s == 0) { r = t; }\n  return r;\n}\n",
-        status: Status::CtNo,
-        written: "ct z no 5:7 Branch s\n",
-        made: 0,
-    },
-    Row {
-        words: CT,
-        text: b"export fn f(#secret reg u64 s) -> reg u64 { reg u64 r; r = s; return r; }\nexport fn g() { }\n",
-        status: Status::Ok,
-        written: "ct f yes\nct g yes\n",
-        made: 0,
-    },
-    Row {
-        words: CT,
-        text: b"export fn u() -> reg u64 { reg u64 r t; r = t; return r; }",
-        status: Status::Ok,
-        written: "ct u yes\n",
-        made: 0,
-    },
-    Row {
-        words: CT,
-        text: b"",
-        status: Status::Ok,
-        written: "",
-        made: 0,
-    },
-    Row {
-        words: CT,
-        text: b"export fn f() { inline int i; for i = 0 to 65537 { } }\n",
-        status: Status::Limit,
-        written: "limit Expand f\n",
-        made: 0,
-    },
-    Row {
-        words: &["jasminc", "ct"],
-        text: b"export fn f() { }",
-        status: Status::Usage,
-        written: "usage: jasminc COMMAND ARGS\n",
-        made: 0,
-    },
-];
-
 #[test]
 fn safety_of_functions(rt: HostRuntime) -> Result<(), Fail> {
     answer_rows(&rt, rt.alloc(), &SAFETY)
-}
-
-#[test]
-fn secrecy_of_functions(rt: HostRuntime) -> Result<(), Fail> {
-    answer_rows(&rt, rt.alloc(), &SECRECY)
 }

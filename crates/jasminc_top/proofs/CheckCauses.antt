@@ -1,5 +1,5 @@
 -- Which cause of `check` is the first, and when none stands.
-use Rattle.std.proofs.Common.{◌≡◌, ℕ, ◌≤◌, List, [], length, arith, Some, refl, sym, subst}
+use Rattle.std.proofs.Common.{◌≡◌, ℕ, ◌<◌, ◌≤◌, List, [], length, arith, Some, refl, sym, subst}
 use Rattle.std.specs.Prelude.{Result, Ok, Err, IfErr}
 use Rattle.jz_first.specs.Failure.{Failure}
 use Rattle.jz_first.specs.Failure.TheVariants as failure
@@ -7,11 +7,13 @@ use Rattle.jz_first.specs.Failures.{IfRefused, IfAnswered}
 use Rattle.jz_listing.specs.declared.compiled.Compiled.{Compiled}
 use Rattle.jasminc_words.specs.Wanted.{check}
 use Rattle.jasminc_check.specs.declared.refused.Refused.{Refused}
+use Rattle.jasminc_check.specs.declared.refused.Refused.TheVariants as refused
+use Rattle.jasminc_source.specs.declared.unread.Unread.TheVariants as unread
 use Rattle.jasminc_check.specs.Causes as causes
 use Rattle.jasminc_check.specs.Answers as answers
 use Rattle.jasminc_top.specs.declared.refusal.Status.TheVariants as status
 use Rattle.jasminc_top.specs.declared.refusal.Refusal.{Refusal}
-use Rattle.jasminc_top.specs.declared.refusal.Refusal.TheVariants.{Usage, ReadFault, Source, Lex, Parse, Typing, NoFunction, Limit, Alarm, NoPlace, Items, Interp, Disasm, Check, Ct}
+use Rattle.jasminc_top.specs.declared.refusal.Refusal.TheVariants.{Usage, ReadFault, Source, Lex, Parse, Typing, NoFunction, Limit, Alarm, NoPlace, Items, Interp, Disasm, Check}
 use Rattle.jasminc_top.specs.declared.answer.Reply.{Reply}
 use Rattle.jasminc_top.specs.Refusals.{all_stages}
 use Rattle.jasminc_top.specs.Stage.{ComesFrom}
@@ -33,7 +35,17 @@ cleared text n short clear Items lt c = c
 cleared text n short clear (Interp r) lt c = c
 cleared text n short clear (Disasm f) lt c = c
 cleared text n short clear (Check r) lt c = clear r lt c
-cleared text n short clear (Ct r) lt c = c
+
+-- each cause is among the stages
+early : (r : Refused) → causes.stage_of r < answers.all_stages
+early (refused.Unread (unread.Lex fault)) = omega arith
+early (refused.Unread (unread.Parse fault)) = omega arith
+early (refused.Unread (unread.Typing fault)) = omega arith
+early (refused.Limit l) = omega arith
+early (refused.Alarm a) = omega arith
+
+all_cleared : (text : List ℕ) → causes.Clear text answers.all_stages → causes.Clear text all_stages
+all_cleared text clear r lt c = clear r (early r) c
 
 first_cause : (text : List ℕ) → length text ≤ source_limit → (r : Refused) → causes.IsFirstCause text r → IsFirstCause (CheckCause text) (Check r)
 first_cause text short r h = record { cause = h.cause; first = cleared text (causes.stage_of r) short h.first }
@@ -66,6 +78,6 @@ check_done file text answer out made short is h none =
     record {
       command = check file;
       is = refl;
-      clear = cleared text all_stages short done.clear;
+      clear = cleared text all_stages short (all_cleared text done.clear);
       gives = record { gives = done.gives; ok = refl; none = none };
     }

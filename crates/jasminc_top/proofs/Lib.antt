@@ -17,6 +17,4 @@ pub mod Promises
 pub mod DisasmCauses
 pub mod DisasmHeadline
 pub mod CheckCauses
-pub mod CtCauses
 pub mod CheckHeadline
-pub mod CtHeadline

@@ -2,7 +2,6 @@ pub mod Lines
 pub mod InterpLines
 pub mod DisasmLines
 pub mod CheckLines
-pub mod CtLines
 pub mod Refusals
 pub mod Making
 pub mod Told

@@ -4,7 +4,6 @@
 mod answer;
 mod check_lines;
 pub mod correctness;
-mod ct_lines;
 mod disasm_lines;
 mod interp_lines;
 mod lines;
