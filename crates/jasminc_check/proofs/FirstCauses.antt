@@ -14,14 +14,21 @@ use Rattle.jasminc_source.specs.declared.unread.Unread as source
 use Rattle.jasminc_source.specs.Texts.{TypesAs}
 use Rattle.jasminc_source.specs.Unreadable.{IsUnread, unread_stage}
 use Rattle.jasminc_source.specs.Exports.{WithinIfExported, HasLimit}
-use Rattle.jasminc_source.proofs.Causing.{types_as_read, first_unread, unread_early, types_one}
+use Rattle.jasminc_source.proofs.Causing.{types_as_read, first_unread, unread_early, types_one, text_typed}
 use Rattle.jasminc_source.proofs.Limiting.{none_passes}
 use Rattle.jz_asked.specs.declared.alarms.Alarm as asked
 use Rattle.jasminc_check.specs.declared.refused.Refused.{Refused}
 use Rattle.jasminc_check.specs.declared.refused.Refused.TheVariants.{Unread, Limit, Alarm}
 use Rattle.jasminc_check.specs.Safety.{AreSafe, HasAlarm}
-use Rattle.jasminc_check.specs.Causes.{PassesLimit, Clear, IsFirstCause}
-use Rattle.jasminc_check.specs.Answers.{IsDone, Answers}
+use Rattle.jasminc_check.specs.Causes.{PassesLimit, GivesAlarm, Clear, IsFirstCause}
+use Rattle.jasminc_check.specs.Answers.{all_stages, IsDone, Answers}
+use Rattle.jasminc_check.proofs.Judged.{safe_no_alarm}
+
+-- ---- a typed text is a program of a text
+
+pub text_text : (text : List ℕ) (p : Program) → TypesAs text p → IsText p
+unfolding Reads
+text_text text p t = subst IsText (sym t.is) (stays t.written (read_so text t.reads.0 t.written t.reads.1 t.reads.2))
 
 module _ (text : List ℕ) where
   before_reading : (u : source.Unread) → IsUnread text u → Clear text (unread_stage u)
@@ -53,8 +60,19 @@ module _ (text : List ℕ) where
       pub alarm_first : (a : asked.Alarm) → HasAlarm p a → IsFirstCause text (Alarm a)
       alarm_first a h = record { cause = record { program = p; types = t; alarm = h }; first = before_alarms }
 
+      -- a text whose functions are safe has no alarm
+      no_alarm : (output : List ℕ) → AreSafe p p.funs output → (a : asked.Alarm) → GivesAlarm text a → ⊥
+      no_alarm output safe a h =
+          safe_no_alarm p (record { typed = text_typed text p t; text = text_text text p t }) output a safe
+          (subst (λ (q : Program). HasAlarm q a) (types_one text h.program p h.types t) h.alarm)
+
+      before_all : (output : List ℕ) → AreSafe p p.funs output → Clear text all_stages
+      before_all output safe (Unread v) lt h = types_as_read text p t v h
+      before_all output safe (Limit l) lt h = no_limit l h
+      before_all output safe (Alarm a) lt h = no_alarm output safe a h
+
       pub all_done : (output : List ℕ) → AreSafe p p.funs output → IsDone text output
-      all_done output h = record { clear = before_alarms; gives = record { program = p; types = t; safe = h } }
+      all_done output h = record { clear = before_all output h; gives = record { program = p; types = t; safe = h } }
 
 -- ---- the same of failures
 
@@ -83,9 +101,3 @@ IsAlarm p r = (a : asked.Alarm) × (r ≡ Alarm a) × HasAlarm p a
 
 pub alarms_fail : (text : List ℕ) (p : Program) (e : Failure Refused) → TypesAs text p → All (WithinIfExported p) p.funs → IfRefused e (IsAlarm p) → IfAnswered {A = List ℕ} (Err e) (Answers text)
 alarms_fail text p e t w h = answered text (IsAlarm p) e (λ r k. subst (IsFirstCause text) (sym k.1) (alarm_first text p t w k.0 k.2)) h
-
--- ---- a typed text is a program of a text
-
-pub text_text : (text : List ℕ) (p : Program) → TypesAs text p → IsText p
-unfolding Reads
-text_text text p t = subst IsText (sym t.is) (stays t.written (read_so text t.reads.0 t.written t.reads.1 t.reads.2))

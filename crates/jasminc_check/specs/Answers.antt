@@ -12,9 +12,9 @@ pub record Gives (text output : List ℕ) : Type 0 where
   pub types : TypesAs text program
   pub safe : AreSafe program program.funs output
 
--- the stage of alarms, before which nothing refuses
+-- one past the last stage
 abbrev pub all_stages : ℕ
-all_stages = 7
+all_stages = 8
 
 -- the lines, where nothing refuses them
 pub record IsDone (text output : List ℕ) : Type 0 where

@@ -3,3 +3,4 @@ pub mod Safety
 pub mod Causes
 pub mod Answers
 pub mod InnerSafety
+pub mod JudgementLaws

@@ -4,11 +4,13 @@
 
 mod alarms;
 mod functions;
+mod laws;
 mod refused;
 mod stages;
 
 pub use alarms::write_alarm;
 pub use jasminc_source::{FunLimit, Unread};
 pub use jz_asked::{Alarm, Target};
+pub use laws::one_judgement;
 pub use refused::Refused;
 pub use stages::check_text;

@@ -1,3 +1,4 @@
+pub mod ArgumentRegisters
 pub mod CodeLengths
 pub mod ExecStart
 pub mod StartLaws

@@ -34,9 +34,8 @@ use Rattle.jz_lower.specs.Lowering.{kind_insns, insns_of}
 use Rattle.jz_lower.specs.Placing.{variable_of}
 use Rattle.x64_insn.proofs.Registers.{word_same}
 use Rattle.jz_pipeline.specs.Compiling.{lines_of, code_insns, compiled_of}
-use Rattle.jasminc_steps.specs.Starting.{code_base, return_slot, with_numbers, bare_registers, start_state, exec_start}
-use Rattle.jasminc_exec.specs.Running.{IsStartMemory, EndsWithin}
-use Rattle.jasminc_steps.proofs.Placing.{AreWords, is_far, placed-other, placed-length, placed-words, bare_words}
+use Rattle.jasminc_exec.specs.Running.{code_base, return_slot, with_numbers, bare_registers, start_state, IsStartMemory, exec_start, EndsWithin}
+use Rattle.jasminc_exec.proofs.ExecStart.{AreWords, is_far, placed-other, placed-length, placed-words, bare_words}
 use Rattle.jasminc_exec.specs.Running.{ItemsFit, IsSafe}
 use Rattle.jasminc_exec.proofs.CodeLengths.{code_short}
 

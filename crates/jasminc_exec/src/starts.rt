@@ -8,7 +8,7 @@ ghost use Rattle.jz_first.specs.declared.tree.Fun.{Fun};
 ghost use Rattle.jz_correct.specs.Starts.{IsStart, MeetsPreconditions};
 ghost use Rattle.jz_pipeline.specs.Compiling.{compiled_of};
 ghost use Rattle.jasminc_exec.specs.Running.{ItemsFit, IsStartMemory};
-ghost use Rattle.jasminc_steps.specs.Starting.{code_base, return_slot, exec_start};
+ghost use Rattle.jasminc_exec.specs.Running.{code_base, return_slot, exec_start};
 
 /// Items are words of 64 bits.
 pub fn items_are_words(items: &[u64])

@@ -1,8 +1,8 @@
 -- What a function is run on: arguments, memory, and preconditions that hold.
-use Rattle.std.proofs.Common.{◌≡◌, ℕ, zero, suc, List, [], ◌∷◌, length, Option, Some, sym, ap, ◌∙◌, subst}
+use Rattle.std.proofs.Common.{◌≡◌, ℕ, zero, suc, ◌<◌, List, [], ◌∷◌, ◌++◌, length, get_or, flat_map, Option, Some, sym, ap, ◌∙◌, subst, arith}
 use Rattle.std.specs.Prelude.{All, slice_get}
 use Rattle.std.specs.List.{AllZip}
-use Rattle.std.proofs.lemmas.List.Elements.{All-head, All-tail}
+use Rattle.std.proofs.lemmas.List.Elements.{All-nil, All-cons, All-head, All-tail}
 use Rattle.jz_tree.specs.Memory.{Memory}
 use Rattle.jz_tree.specs.declared.program.Fun.{Fun}
 use Rattle.jz_tree.specs.declared.program.Program.{Program}
@@ -34,6 +34,20 @@ held_at P (y ∷ ys) (suc i) x h e = held_at P ys i x (All-tail P y ys h) e
 pub none_breaks : (f : Fun) (items : List Item) (pre : Pre) → AllHold f items → BreaksFirst f items pre → ⊥
 none_breaks f items pre h b =
     b.first.unmet (held_at (IsHeld f (argument_words f items) items) (preconditions_of f) b.place b.first.pre h b.first.there)
+
+-- ---- a part of several that all hold
+front_of : {A : Type 0} (P : A → Type 0) (xs ys : List A) → All P (xs ++ ys) → All P xs
+front_of P [] ys h = All-nil P
+front_of P (x ∷ xs) ys h = All-cons P x xs (All-head P x (xs ++ ys) h) (front_of P xs ys (All-tail P x (xs ++ ys) h))
+
+rest_of : {A : Type 0} (P : A → Type 0) (xs ys : List A) → All P (xs ++ ys) → All P ys
+rest_of P [] ys h = h
+rest_of P (x ∷ xs) ys h = rest_of P xs ys (All-tail P x (xs ++ ys) h)
+
+pub part_of : {A B : Type 0} (P : B → Type 0) (g : A → List B) (xs : List A) (i : ℕ) (x : A) → i < length xs → x ≡ get_or xs i x → All P (flat_map g xs) → All P (g x)
+part_of P g [] i x lt is h = absurd (omega (arith, lt))
+part_of P g (y ∷ ys) zero x lt is h = subst (λ z. All P (g z)) (sym is) (front_of P (g y) (flat_map g ys) h)
+part_of P g (y ∷ ys) (suc i) x lt is h = part_of P g ys i x (omega (arith, lt)) is (rest_of P (g y) (flat_map g ys) h)
 
 -- ---- before the run
 module _ (p : Program) (place : ℕ) (items : List Item) (h : IsExportAt p place) (f : Fun) (there : slice_get p.funs place ≡ Some f) where

@@ -111,7 +111,7 @@ DisasmCause text Source = source_limit < length text
 DisasmCause text (Disasm fault) = FailsAs text fault
 DisasmCause text r = ⊥
 
--- why the functions of a text are not all safe, or not all constant-time
+-- why the export functions of a text are not all safe
 abbrev pub CheckCause : List ℕ → Refusal → Type 0
 CheckCause text Source = source_limit < length text
 CheckCause text (Check r) = checks.Cause text r
@@ -196,7 +196,7 @@ pub record GivesDisassembly (text : List ℕ) (s : Status) (output : List ℕ) (
   pub ok : s ≡ status.Ok
   pub none : made ≡ []
 
--- a line for each export function that it is safe, or that it is constant-time; nothing is made
+-- a line for each export function, each of which is safe; nothing is made
 pub record GivesChecks (text : List ℕ) (s : Status) (output : List ℕ) (made : List Compiled)
     : Type 0 where
   pub gives : checked.Gives text output

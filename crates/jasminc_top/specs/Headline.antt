@@ -19,11 +19,8 @@ use Rattle.jasminc_check.specs.Answers as checked
 use Rattle.jasminc_interp.specs.Answers as answers
 use Rattle.jasminc_interp.specs.declared.telling.Ran as source
 use Rattle.jasminc_top.specs.Making.{TypesAs}
-use Rattle.jasminc_steps.specs.Starting.{code_base, return_slot, exec_start}
-use Rattle.jasminc_exec.specs.Running.{IsStartMemory}
-use Rattle.jasminc_steps.specs.Stepping.{RunsStill}
-use Rattle.jasminc_steps.specs.Telling.{cut_text}
-use Rattle.jasminc_exec.specs.Running.{run_text}
+use Rattle.jasminc_exec.specs.Running.{code_base, return_slot, IsStartMemory, exec_start}
+use Rattle.jasminc_exec.specs.Running.{RunsStill, run_text, cut_text}
 use Rattle.jasminc_top.specs.Told.{SourceTold, SinkTold}
 use Rattle.jasminc_top.specs.Answers.{HasFile, function_named, compiled_named, IsToldAs}
 use Rattle.jasminc_top.specs.declared.refusal.Status.{Status}
@@ -183,4 +180,3 @@ Checks (Some (exec call)) told sink = ⊤
 Checks (Some (interp call)) told sink = ⊤
 Checks (Some (disasm file)) told sink = ⊤
 Checks (Some (check file)) told sink = PrintsChecks file told sink
-

@@ -117,7 +117,6 @@ fn status_of_unsafe(refused: &checking::Refused) -> Status
     }
 }
 
-/// The status of a text whose functions are not all constant-time.
 impl Refusal {
     /// The status that it ends a command with.
     pub fn status(&self) -> Status

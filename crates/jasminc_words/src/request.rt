@@ -37,7 +37,6 @@ pub enum Request<'a> {
     Disasm { file: &'a str },
     /// Whether each export function is safe.
     Check { file: &'a str },
-    /// Whether each export function is constant-time.
 }
 
 impl<'a> Request<'a> {

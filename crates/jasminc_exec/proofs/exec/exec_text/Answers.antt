@@ -1,7 +1,7 @@
 use Rattle.std.proofs.Common.{subst}
 use Rattle.x64_machine.specs.MachineRuns.{code_of, base_of, config_of}
-use Rattle.jasminc_steps.specs.declared.stepping.Finish.{Finish}
-use Rattle.jasminc_steps.specs.Stepping.{Finishes}
+use Rattle.jasminc_exec.specs.declared.exec.Finish.{Finish}
+use Rattle.jasminc_exec.specs.Running.{Finishes}
 use Rattle.jasminc_exec.proofs.ExecStart.{not_faulted, ended_run, cut_run}
 use Rattle.jasminc_exec.proofs.exec.exec_text.Goals as goal
 

@@ -1,8 +1,7 @@
 use Rattle.std.proofs.Common.{◌∙◌, ap}
 use Rattle.std.proofs.lemmas.Result.{IfOk-weaker}
 use Rattle.x64_machine.specs.MachineRuns.{Starts, start_of}
-use Rattle.jasminc_steps.specs.Starting.{code_base}
-use Rattle.jasminc_exec.specs.Running.{IsLoaded}
+use Rattle.jasminc_exec.specs.Running.{IsLoaded, code_base}
 use Rattle.jasminc_exec.proofs.exec.loaded.Goals as goal
 
 pub returns : goal.returns

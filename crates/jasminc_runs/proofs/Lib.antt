@@ -1,3 +1,0 @@
-pub mod Memories
-pub mod Ended
-pub mod Starts

@@ -1,5 +1,0 @@
-use Rattle.jasminc_runs.proofs.Starts.{starts}
-use Rattle.jasminc_runs.proofs.laws.exec_is_a_start.Goals as goal
-
-pub returns : goal.returns
-returns c = starts

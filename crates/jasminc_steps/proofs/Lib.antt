@@ -1,2 +1,0 @@
-pub mod ArgumentRegisters
-pub mod Placing

@@ -1,3 +1,0 @@
-pub mod Starting
-pub mod Stepping
-pub mod Telling
