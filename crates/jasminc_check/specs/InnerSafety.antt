@@ -1,5 +1,6 @@
 -- What is judged of the function at a place.
-use Rattle.std.specs.Prelude.{◌≡◌, ◌<◌, ◌++◌, ◌⊎◌, ℕ, true, false, All, List, length, Option, Some, None, slice_get}
+use Rattle.std.specs.Prelude.{◌≡◌, ◌<◌, ◌++◌, ◌⊎◌, ℕ, true, false, All, List, length}
+use Rattle.std.specs.Prelude.{Option, Some, None, slice_get}
 use Rattle.jz_tree.specs.declared.program.Fun.{Fun}
 use Rattle.jz_tree.specs.declared.program.Program.{Program}
 use Rattle.jz_type_rows.specs.Exports.{is_exported}
@@ -41,7 +42,8 @@ pub record AddsLine (p : Program) (place : ℕ) (old new : List ℕ) : Type 0 wh
   pub function : Fun
   pub there : slice_get p.funs place ≡ Some function
   pub line :
-      ((is_exported function.kind ≡ true) × (n : ℕ) × IsSafe p function n × (new ≡ old ++ safe_line function n))
+      ((is_exported function.kind ≡ true) × (n : ℕ) × IsSafe p function n
+      × (new ≡ old ++ safe_line function n))
       ⊎ ((is_exported function.kind ≡ false) × (new ≡ old))
 
 -- the function at a place is exported and has this alarm first

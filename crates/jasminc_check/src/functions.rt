@@ -10,7 +10,8 @@ ghost use Rattle.jz_expansion.specs.Expanding.{IsExpandedAt};
 ghost use Rattle.jz_asked.specs.Asked.{alarm_of};
 ghost use Rattle.jasminc_source.specs.Exports.{WithinIfExported};
 ghost use Rattle.jasminc_check.specs.Safety.{AreSafe, HasAlarm, safe_line};
-ghost use Rattle.jasminc_check.specs.InnerSafety.{IsReadyAt, IsJudgedAt, IsAmong, AddsLine, AlarmAt};
+ghost use Rattle.jasminc_check.specs.InnerSafety.{IsReadyAt, IsJudgedAt};
+ghost use Rattle.jasminc_check.specs.InnerSafety.{IsAmong, AddsLine, AlarmAt};
 
 use jasminc_source::{function_at, is_exported};
 use jz_asked::Alarm;

@@ -152,8 +152,6 @@ refusal_due wish told (Check r) p =
       read = p.read;
     })
     p.quiet
-)
-    p.quiet
 refusal_due wish told r p = (
   record {
     text = p.text;

@@ -82,7 +82,8 @@ abbrev pub line_of : Refusal → List ℕ
 line_of r = cause_text r ++ codes "\n"
 
 -- the stages in their order: words, file, lexer, parser, typing, function name, limits, safety,
--- places, the number of items, preconditions; a text has at most one reason to have no disassembly, right after the file
+-- places, the number of items, preconditions; a text has at most one reason to have no
+-- disassembly, right after the file
 abbrev pub stage_of : Refusal → ℕ
 stage_of Usage = 0
 stage_of ReadFault = 1

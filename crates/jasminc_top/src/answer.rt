@@ -225,10 +225,10 @@ fn check_reply(alloc: Global, file: &str, text: &[u8]) -> Result<Reply, Failure<
     ensures { IfAnswered result (After (Some (check file.now)) text.now) }
 {
     let answer = check_text(alloc, text);
-    let lines = as_refusal(answer, Refusal::Check)?;
+    let safe = as_refusal(answer, Refusal::Check)?;
     Ok(Reply {
         status: Status::Ok,
-        text: lines,
+        text: safe,
         made: Seq::new(alloc),
     })
 }
