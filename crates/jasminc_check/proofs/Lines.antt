@@ -3,7 +3,7 @@ use Rattle.std.proofs.Common.{◌≡◌, ℕ, suc, ◌+◌, ◌<◌, ◌≤◌, 
 use Rattle.std.specs.Prelude.{All, slice_get}
 use Rattle.std.proofs.Math.Seq.{split_at}
 use Rattle.std.proofs.lemmas.List.{append_assoc, append_nil, take_more, take_all}
-use Rattle.std.proofs.lemmas.List.Elements.{All-push}
+use Rattle.std.proofs.lemmas.List.Elements.{All-nil, All-push}
 use Rattle.std.proofs.lemmas.Option.{slice_get_within, get_or_from_slice_get}
 use Rattle.jz_tree.specs.declared.program.Fun.{Fun}
 use Rattle.jz_tree.specs.declared.program.Program.{Program}
@@ -36,6 +36,9 @@ module _ (p : Program) where
   pub record IsSoFar (i : ℕ) (text : List ℕ) : Type 0 where
     pub safe : AreSafe p (take i p.funs) text
     pub earlier : All (SafeIfExported p) (take i p.funs)
+
+  pub none_so_far : IsSoFar 0 []
+  none_so_far = record { safe = refl; earlier = All-nil (SafeIfExported p) }
 
   one_more : (i : ℕ) (f : Fun) → slice_get p.funs i ≡ Some f → take (i + 1) p.funs ≡ take i p.funs ++ f ∷ []
   one_more i f e = take_more p.funs i f (slice_get_within p.funs i f e) ∙ ap (λ x. take i p.funs ++ x ∷ []) (get_or_from_slice_get p.funs i f f e)

@@ -4,6 +4,9 @@ use Rattle.std.proofs.Common.{◌≡◌, ℕ, ◌<◌, ◌≤◌, ◌∙◌, Lis
 use Rattle.std.specs.Prelude.{All, Contains, slice_get}
 use Rattle.std.proofs.lemmas.Option.{slice_get_within, get_or_from_slice_get}
 use Rattle.std.proofs.lemmas.List.Elements.{All-contains}
+use Rattle.jz_tree.specs.Failure.{Failure}
+use Rattle.jz_tree.specs.Failure.TheVariants as failure
+use Rattle.jz_tree.specs.Failures.{IfRefused}
 use Rattle.jz_tree.specs.declared.program.Fun.{Fun}
 use Rattle.jz_tree.specs.declared.program.Param.{Param}
 use Rattle.jz_tree.specs.declared.program.Program.{Program}
@@ -29,6 +32,8 @@ use Rattle.jz_given_laws.specs.GivenLaws.{HasDifferent, HasFew}
 use Rattle.jz_given_laws.proofs.Parameters.{differ_law, few_law}
 use Rattle.jz_block_facts.specs.Heads.{HasNoFor, plain_block}
 use Rattle.jz_alarms.specs.Conditions.{Alarm}
+use Rattle.jz_asked.specs.declared.alarms.Alarm as asked
+use Rattle.jz_asked.specs.Asked.{alarm_of}
 use Rattle.jz_one_expansion.proofs.Expansions.{expansion_plain}
 use Rattle.jz_first_alarm.specs.FirstAlarms.{HasFirstAlarm}
 use Rattle.jasminc_interp.proofs.Parameters.{asked_well}
@@ -41,6 +46,11 @@ same_fun p place f g a b = let e : Some f ≡ Some g = sym a ∙ b in cc
 
 contains_at : (p : Program) (place : ℕ) (f : Fun) → slice_get p.funs place ≡ Some f → Contains p.funs f
 contains_at p place f e = (place, slice_get_within p.funs place f e, get_or_from_slice_get p.funs place f f e)
+
+-- what holds of a refusal that is handed on
+pub refused_too : {C : Type 0} (e : Failure C) (P Q : C → Type 0) → ((c : C) → P c → Q c) → IfRefused e P → IfRefused e Q
+refused_too (failure.Refused c) P Q f h = f c h
+refused_too failure.OutOfMemory P Q f h = tt
 
 -- ---- what is ready
 
@@ -107,6 +117,16 @@ among_ready p place h f there exported = record {
 
 pub safe_at : (p : Program) (place n : ℕ) (f : Fun) → slice_get p.funs place ≡ Some f → IsJudgedAt p place n None → IsSafe p f n
 safe_at p place n f there j = subst (λ (g : Fun). IsSafe p g n) (same_fun p place j.function f j.there there) j.judged
+
+pub alarm_at : (p : Program) (place : ℕ) (f : Fun) (a : asked.Alarm) → slice_get p.funs place ≡ Some f → is_exported f.kind ≡ true
+    → (count : ℕ) × IsJudgedAt p place count (Some (alarm_of a)) → AlarmAt p place a
+alarm_at p place f a there exported j = record {
+  function = j.1.function;
+  there = j.1.there;
+  exported = subst (λ (g : Fun). is_exported g.kind ≡ true) (same_fun p place f j.1.function there j.1.there) exported;
+  count = j.0;
+  judged = j.1.judged;
+}
 
 pub line_added : (p : Program) (place n : ℕ) (f : Fun) (old new : List ℕ) → slice_get p.funs place ≡ Some f → is_exported f.kind ≡ true
     → IsJudgedAt p place n None → new ≡ old ++ safe_line f n → AddsLine p place old new

@@ -104,11 +104,8 @@ pub fn check_functions(alloc: Global, typed: &Typed) -> Result<Bytes, Failure<Al
     ensures alarm { IfErr result (λ failure. IfRefused failure (HasAlarm typed.now.program)) }
 {
     let mut out = Vec::new(alloc);
-    let count = typed.program().funs.len();
-    let mut place = 0;
-    while place < count {
+    for place in 0..typed.program().funs.len() {
         add_line(alloc, typed, place, &mut out)?;
-        place += 1;
     }
     Ok(Seq::from_vec(out))
 }
