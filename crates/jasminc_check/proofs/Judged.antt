@@ -77,4 +77,4 @@ safe_no_alarm p t text a safe h =
     let good = split_has p (each_safe p p.funs text safe) h.front h.rest h.function h.split h.exported in
     let one = one_judged p h.function good.0 h.count None (Some (alarm_of a)) t (among p h.front h.rest h.function h.split) good.1 h.judged in
     let e : None ≡ Some (alarm_of a) = one.1 in
-    absurd cc
+    cc

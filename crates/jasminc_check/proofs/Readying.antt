@@ -65,7 +65,7 @@ module _ (p : Program) (place : ℕ) (h : IsReadyAt p place) where
   never_passes limit x =
       let same = same_fun p place h.function x.0 h.there x.1 in
       let e : None ≡ Some limit = one_answer p x.0 None (Some limit) (subst (IsWithinLimits p) same h.within) x.2 in
-      absurd cc
+      cc
 
   pub none_refused : (f : Fun) → slice_get p.funs place ≡ Some f → refused_places f ≡ []
   none_refused f e =
@@ -85,8 +85,8 @@ module _ (p : Program) (place : ℕ) (h : IsReadyAt p place) where
     pub few : length e.params ≤ 64
     few =
         let exported : is_exported f.kind ≡ true = subst (λ (g : Fun). is_exported g.kind ≡ true) (same_fun p place h.function f h.there there) h.exported in
-        let six = All-contains HasFew p.funs f (few_law p h.typed) (contains_at p place f there) exported in
-        let l = ap (λ (qs : List Param). length qs) params_same in omega (arith, six, l)
+        let six : length f.params ≤ 6 = All-contains HasFew p.funs f (few_law p h.typed) (contains_at p place f there) exported in
+        let l : length e.params ≡ length f.params = ap (λ (qs : List Param). length qs) params_same in omega (arith, six, l)
 
     pub plain : HasNoFor (plain_block e.body)
     plain = expansion_plain p f e k n x

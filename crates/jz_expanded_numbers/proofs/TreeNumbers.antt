@@ -135,6 +135,10 @@ mapped y = map-StmtKind _ _ (Span → Block → Block) (Block → Block) kind_of
 behind : (c : Expr) (n m r : Numbers) → n ≡ m ++ r → of_all (c ∷ []) ++ n ≡ (of_all (c ∷ []) ++ m) ++ r
 behind c n m r e = ap (λ l. of_all (c ∷ []) ++ l) e ∙ sym (append_assoc (of_all (c ∷ [])) m r)
 
+no_exprs : of_all [] ≡ []
+unfolding of_all
+no_exprs = refl
+
 lone : (o : Operation) (r : Block) → of_operation o ++ of_tree r ≡ (of_operation o ++ []) ++ of_tree r
 lone o r = ap (λ l. l ++ of_tree r) (sym (append-nil (of_operation o)))
 
@@ -153,7 +157,8 @@ layer_law (StmtKind-F.While p c None) at r h =
 layer_law (StmtKind-F.While p c (Some b)) at r h =
     record { numbers = behind c _ _ (of_tree r) (both p b r h.0 h.1); rest = h.2 }
 layer_law (StmtKind-F.For i from down to b) at r h = absurd h
-layer_law (StmtKind-F.Mark vs) at r h = record { numbers = refl; rest = h }
+layer_law (StmtKind-F.Mark vs) at r h =
+    record { numbers = ap (λ (l : Numbers). (l ++ []) ++ of_tree r) (sym no_exprs); rest = h }
 
 kind_case : (y : Kinds) → KindLaw (roll-StmtKind (bare y))
 unfolding kind_of
@@ -161,7 +166,7 @@ kind_case y at =
     let z = bare y in
     subst (λ (g : Span → Block → Block). Adds (g at) (own (out-StmtKind (roll-StmtKind z)) ++ total (in_kind (roll-StmtKind z))))
     (sym (fold-roll-StmtKind _ _ (kind_tree no_callees) (λ s. s.kind s.span) z))
-    (subst (λ ns. Adds (kind_tree no_callees (mapped y) at) ns)
+    (subst (λ (ns : Numbers). Adds (kind_tree no_callees (mapped y) at) ns)
     (ap₂ (λ k ss. own k ++ total ss) (sym (out-roll-StmtKind z)) (sym (opened z)))
     (layer_law y at))
 
@@ -170,7 +175,7 @@ unfolding kind_of total
 stmt_case y =
     let x = map-Stmt _ _ StmtKind Stmt (λ e. e.0) (λ e. e.0) y in
     subst (λ (g : Block → Block). Adds g (total (statements_in (roll-Stmt x)))) (sym (fold-roll-Stmt _ _ (kind_tree no_callees) (λ s. s.kind s.span) x))
-    (subst (λ ns. Adds (kind_of x.kind x.span) ns) (ap total (sym (in_stmt x))) (y.kind.1 y.span))
+    (subst (λ (ns : Numbers). Adds (kind_of x.kind x.span) ns) (ap total (sym (in_stmt x))) (y.kind.1 y.span))
 
 statement_numbers : (s : Stmt) → StmtLaw s
 statement_numbers =
