@@ -23,11 +23,7 @@ fn kind_name(why: Why) -> &'static str
 }
 
 /// A variable, or the scalar that was a cell of a register array.
-fn write_variable(
-    line: &mut Vec<u8>,
-    name: &Text,
-    cell: Option<u32>,
-) -> Result<(), AllocError>
+fn write_variable(line: &mut Vec<u8>, name: &Text, cell: Option<u32>) -> Result<(), AllocError>
     ensures { OnOk result (line.new.items ≡ line.old.items ++ variable_text name.now cell) }
 {
     line.extend_from_slice(name.as_str().as_bytes())?;

@@ -57,8 +57,11 @@ returns-in_err-first_alarm-clause-alarm c =
     let there = subst (λ (q : Program). slice_get q.funs c.args.place ≡ Some f) c.program.ensures c.function_at-function.ensures in
     let e = err_from_is_err_and c.from_residual-in_err-first_alarm.result c.from_residual-in_err-first_alarm.ensures.1 in
     rw (e.1, e.2) (refused_too _ _ _
-    (λ a h. (r.count, judged_at p c.args.place c.requires f r.fun there (change_of r.change) r.count (expansion_at p c.args.place f r there c.in_ok-expanded.ensures) c.in_ok-pres.pres (Some (alarm_of a)) c.in_ok-pres.ensures
-    (subst (λ (g : Fun). HasFirstAlarm g c.in_ok-pres.pres (Some (alarm_of a))) c.fun.ensures h)))
+    (λ a h. (
+      r.count,
+      judged_at p c.args.place c.requires f r.fun there (change_of r.change) r.count (expansion_at p c.args.place f r there c.in_ok-expanded.ensures) c.in_ok-pres.pres (Some (alarm_of a)) c.in_ok-pres.ensures
+          (subst (λ (g : Fun). HasFirstAlarm g c.in_ok-pres.pres (Some (alarm_of a))) c.fun.ensures h),
+    ))
     c.in_err-first_alarm.ensures.some)
 
 pub returns-clause-safe : goal.returns-clause-safe

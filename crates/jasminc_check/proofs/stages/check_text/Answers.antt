@@ -51,7 +51,7 @@ returns-in_err-lines c =
     let tree = c.program.result.now in
     let types = ok_says (λ (t : Typed). TypesAs c.args.text.now t.program) c.typed_program.result c.in_ok-typed.typed c.in_ok-typed.ensures.ok c.typed_program.ensures.program in
     let within = subst (λ (q : Program). All (WithinIfExported q) q.funs) c.program.ensures
-        (ok_says (λ u. All (WithinIfExported tree) tree.funs) c.within_limits.result c.in_ok-as_refused.field-0 c.in_ok-as_refused.ensures.ok c.within_limits.ensures.within) in
+    (ok_says (λ u. All (WithinIfExported tree) tree.funs) c.within_limits.result c.in_ok-as_refused.field-0 c.in_ok-as_refused.ensures.ok c.within_limits.ensures.within) in
     let e = err_from_is_err_and c.from_residual-in_err-lines.result c.from_residual-in_err-lines.ensures.1 in
     rw (e.1, e.2) (alarms_fail c.args.text.now p _ types within
     (stage_refuses (HasAlarm p) _ (IsAlarm p) c.check_functions.result _ c.check_functions.ensures.alarm
@@ -63,6 +63,6 @@ returns c =
     let tree = c.program.result.now in
     let types = ok_says (λ (t : Typed). TypesAs c.args.text.now t.program) c.typed_program.result c.in_ok-typed.typed c.in_ok-typed.ensures.ok c.typed_program.ensures.program in
     let within = subst (λ (q : Program). All (WithinIfExported q) q.funs) c.program.ensures
-        (ok_says (λ u. All (WithinIfExported tree) tree.funs) c.within_limits.result c.in_ok-as_refused.field-0 c.in_ok-as_refused.ensures.ok c.within_limits.ensures.within) in
+    (ok_says (λ u. All (WithinIfExported tree) tree.funs) c.within_limits.result c.in_ok-as_refused.field-0 c.in_ok-as_refused.ensures.ok c.within_limits.ensures.within) in
     all_done c.args.text.now p types within c.in_ok-lines.lines
     (ok_says (AreSafe p p.funs) c.check_functions.result c.in_ok-lines.lines c.in_ok-lines.ensures.ok c.check_functions.ensures.safe)
