@@ -1,2 +1,4 @@
+pub mod HandedOn
 pub mod EntryLemmas
+pub mod HomelessLemmas
 pub mod HomingLemmas

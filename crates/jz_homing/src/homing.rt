@@ -1,6 +1,7 @@
 //! Homes for the variables that a function declares, one after another.
 
-ghost use Rattle.std.specs.Prelude.{◌≡◌, IfOk, OnOk, map};
+ghost use Rattle.std.specs.Prelude.{◌≡◌, ◌≤◌, ◌<◌, ◌+◌, IfOk, IfErr, OnOk, length, map};
+ghost use Rattle.jz_tree.specs.Failures.{IfRefused};
 ghost use Rattle.jz_type_names.specs.Scopes.{variables_of};
 ghost use Rattle.jz_meaning.specs.Values.{ref_of};
 ghost use Rattle.jz_homes.specs.Homes.{IsHoming};
@@ -9,6 +10,7 @@ ghost use Rattle.jz_operands.specs.TableHomes.{homes_of};
 ghost use Rattle.jz_homing.specs.Tables as tables;
 ghost use Rattle.jz_homing.specs.Tables.{table_in, with_word, with_flag, with_slot, with_cells};
 ghost use Rattle.jz_homing.specs.Tables.{with_each, with_var, with_vars, no_homes, frame_of};
+ghost use Rattle.jz_homing.specs.Refusals.{most, NoVariable, NoStacked, HasNoHome, IsHomeless};
 
 use jz_ir::Kind as VariableKind;
 use jz_meaning::{Kind, kind_of};
@@ -28,7 +30,9 @@ pub struct Homing {
 
 /// The next number, where there is one.
 fn next(len: usize, at: Span) -> Result<u32, Failure<Span>>
-    ensures { IfOk result (λ n. n ≡ len) }
+    ensures made { IfOk result (λ n. n ≡ len) }
+    ensures refused { IfErr result (λ failure. IfRefused failure (λ s.
+        (s ≡ at) × (most ≤ len))) }
 {
     if len < 0xffff_ffff {
         Ok(len as u32)
@@ -44,8 +48,10 @@ fn add_word(
     cell: Option<u32>,
     size: Size,
 ) -> Result<(), Failure<Span>>
-    ensures { OnOk result (table_in table.new
+    ensures made { OnOk result (table_in table.new
         ≡ with_word (table_in table.old) var.now cell size) }
+    ensures refused { IfErr result (λ failure. IfRefused failure (λ s.
+        (s ≡ (ref_of var.now).span) × (most ≤ length table.old.kinds))) }
 {
     let number = next(table.kinds.len(), var.span)?;
     table
@@ -56,7 +62,9 @@ fn add_word(
 }
 
 fn add_flag(table: &mut Homing, var: &Var) -> Result<(), Failure<Span>>
-    ensures { OnOk result (table_in table.new ≡ with_flag (table_in table.old) var.now) }
+    ensures made { OnOk result (table_in table.new ≡ with_flag (table_in table.old) var.now) }
+    ensures refused { IfErr result (λ failure. IfRefused failure (λ s.
+        (s ≡ (ref_of var.now).span) × (most ≤ length table.old.kinds))) }
 {
     let number = next(table.kinds.len(), var.span)?;
     table
@@ -68,7 +76,9 @@ fn add_flag(table: &mut Homing, var: &Var) -> Result<(), Failure<Span>>
 
 /// A stack variable of one cell.
 fn add_slot(table: &mut Homing, var: &Var, size: Size) -> Result<(), Failure<Span>>
-    ensures { OnOk result (table_in table.new ≡ with_slot (table_in table.old) var.now size) }
+    ensures made { OnOk result (table_in table.new ≡ with_slot (table_in table.old) var.now size) }
+    ensures refused { IfErr result (λ failure. IfRefused failure (λ s.
+        (s ≡ (ref_of var.now).span) × (most ≤ length table.old.stack))) }
 {
     let number = next(table.stack.len(), var.span)?;
     table
@@ -80,8 +90,10 @@ fn add_slot(table: &mut Homing, var: &Var, size: Size) -> Result<(), Failure<Spa
 
 /// A stack variable of so many cells.
 fn add_cells(table: &mut Homing, var: &Var, size: Size, count: u32) -> Result<(), Failure<Span>>
-    ensures { OnOk result (table_in table.new
+    ensures made { OnOk result (table_in table.new
         ≡ with_cells (table_in table.old) var.now size count) }
+    ensures refused { IfErr result (λ failure. IfRefused failure (λ s.
+        (s ≡ (ref_of var.now).span) × (most ≤ length table.old.stack))) }
 {
     let number = next(table.stack.len(), var.span)?;
     table.homes.put(
@@ -96,7 +108,9 @@ fn add_cells(table: &mut Homing, var: &Var, size: Size, count: u32) -> Result<()
 
 /// How many cells an array has, where that is a number of 32 bits.
 fn count_of(count: u128, at: Span) -> Result<u32, Failure<Span>>
-    ensures { IfOk result (λ n. n ≡ count) }
+    ensures made { IfOk result (λ n. n ≡ count) }
+    ensures refused { IfErr result (λ failure. IfRefused failure (λ s.
+        (s ≡ at) × (most < count))) }
 {
     if count < 0x1_0000_0000 {
         Ok(count as u32)
@@ -107,8 +121,10 @@ fn count_of(count: u128, at: Span) -> Result<u32, Failure<Span>>
 
 /// A variable for each cell of a register array.
 fn add_each(table: &mut Homing, var: &Var, size: Size, count: u32) -> Result<(), Failure<Span>>
-    ensures { OnOk result (table_in table.new
+    ensures made { OnOk result (table_in table.new
         ≡ with_each (table_in table.old) var.now size count) }
+    ensures refused { IfErr result (λ failure. IfRefused failure (λ s.
+        (s ≡ (ref_of var.now).span) × (most < length table.old.kinds + count))) }
 {
     for cell in 0..count {
         add_word(table, var, Some(cell), size)?;
@@ -117,8 +133,10 @@ fn add_each(table: &mut Homing, var: &Var, size: Size, count: u32) -> Result<(),
 }
 
 fn add_register(table: &mut Homing, var: &Var) -> Result<(), Failure<Span>>
-    ensures { OnOk result (table_in table.new ≡ tables.in_registers (table_in table.old)
+    ensures made { OnOk result (table_in table.new ≡ tables.in_registers (table_in table.old)
         var.now (ref_of var.now).kind) }
+    ensures refused { IfErr result (λ failure. IfRefused failure (λ s.
+        (s ≡ (ref_of var.now).span) × NoVariable (table_in table.old) (ref_of var.now).kind)) }
 {
     match kind_of(var) {
         Kind::Word(size) => add_word(table, var, None, size),
@@ -133,8 +151,10 @@ fn add_register(table: &mut Homing, var: &Var) -> Result<(), Failure<Span>>
 }
 
 fn add_stacked(table: &mut Homing, var: &Var) -> Result<(), Failure<Span>>
-    ensures { OnOk result (table_in table.new ≡ tables.on_stack (table_in table.old)
+    ensures made { OnOk result (table_in table.new ≡ tables.on_stack (table_in table.old)
         var.now (ref_of var.now).kind) }
+    ensures refused { IfErr result (λ failure. IfRefused failure (λ s.
+        (s ≡ (ref_of var.now).span) × NoStacked (table_in table.old) (ref_of var.now).kind)) }
 {
     match kind_of(var) {
         Kind::Word(size) => add_slot(table, var, size),
@@ -150,7 +170,9 @@ fn add_stacked(table: &mut Homing, var: &Var) -> Result<(), Failure<Span>>
 
 /// A home for a variable. An inline variable has none.
 fn add_var(table: &mut Homing, var: &Var) -> Result<(), Failure<Span>>
-    ensures { OnOk result (table_in table.new ≡ with_var (table_in table.old) var.now) }
+    ensures made { OnOk result (table_in table.new ≡ with_var (table_in table.old) var.now) }
+    ensures refused { IfErr result (λ failure. IfRefused failure (λ s.
+        (s ≡ (ref_of var.now).span) × HasNoHome (table_in table.old) var.now)) }
 {
     match &var.decl {
         None => Err(Failure::Refused(var.span)),
@@ -163,8 +185,10 @@ fn add_var(table: &mut Homing, var: &Var) -> Result<(), Failure<Span>>
 }
 
 fn add_params(table: &mut Homing, params: &Seq<Param>) -> Result<(), Failure<Span>>
-    ensures { OnOk result (table_in table.new
+    ensures made { OnOk result (table_in table.new
         ≡ with_vars (table_in table.old) (map (λ p. p.var) params.now)) }
+    ensures refused { IfErr result (λ failure. IfRefused failure (λ s.
+        IsHomeless (table_in table.old) (map (λ p. p.var) params.now) s)) }
 {
     for param in params.as_slice() {
         add_var(table, &param.var)?;
@@ -173,7 +197,9 @@ fn add_params(table: &mut Homing, params: &Seq<Param>) -> Result<(), Failure<Spa
 }
 
 fn add_vars(table: &mut Homing, vars: &Seq<Var>) -> Result<(), Failure<Span>>
-    ensures { OnOk result (table_in table.new ≡ with_vars (table_in table.old) vars.now) }
+    ensures made { OnOk result (table_in table.new ≡ with_vars (table_in table.old) vars.now) }
+    ensures refused { IfErr result (λ failure. IfRefused failure (λ s.
+        IsHomeless (table_in table.old) vars.now s)) }
 {
     for var in vars.as_slice() {
         add_var(table, var)?;
@@ -182,7 +208,9 @@ fn add_vars(table: &mut Homing, vars: &Seq<Var>) -> Result<(), Failure<Span>>
 }
 
 fn table_of(alloc: Global, fun: &Fun) -> Result<Homing, Failure<Span>>
-    ensures { IfOk result (λ h. table_in h ≡ with_vars no_homes (variables_of fun.now)) }
+    ensures made { IfOk result (λ h. table_in h ≡ with_vars no_homes (variables_of fun.now)) }
+    ensures refused { IfErr result (λ failure. IfRefused failure (λ s.
+        IsHomeless no_homes (variables_of fun.now) s)) }
 {
     let mut table = Homing {
         homes: Homes::new(alloc),
@@ -201,6 +229,8 @@ pub fn homing_of(alloc: Global, fun: &Fun) -> Result<Homing, Failure<Span>>
     ensures table { IfOk result (λ h. table_in h ≡ with_vars no_homes (variables_of fun.now)) }
     ensures homing { IfOk result (λ h. IsHoming (frame_of h.stack) (homes_of h.homes)) }
     ensures kinds { IfOk result (λ h. AreKinds (homes_of h.homes) h.kinds) }
+    ensures refused { IfErr result (λ failure. IfRefused failure
+        (IsHomeless no_homes (variables_of fun.now))) }
 {
     let table = table_of(alloc, fun)?;
     Ok(table)

@@ -1,13 +1,22 @@
-use Rattle.std.proofs.Common.{None, Some, ap, sym, ◌∙◌}
+use Rattle.std.proofs.Common.{length, ◌≤◌, ◌≡◌, None, Some, ap, sym, ◌∙◌}
 use Rattle.jz_tree.specs.declared.expr.Expr.TheViews.{out-Var}
 use Rattle.jz_operands.specs.declared.homes.Home.TheVariants.{Cells}
 use Rattle.jz_operands.specs.TableHomes.{entries_of, with_entry}
 use Rattle.jz_operands.proofs.OperandLemmas.{ref_name, ref_copy}
 use Rattle.jz_homing.specs.Tables.{table_in}
 use Rattle.jz_homing.proofs.EntryLemmas.{stacked_added}
+use Rattle.jz_homing.specs.Refusals.{most}
+use Rattle.jz_homing.proofs.HandedOn.{handed_cause}
+use Rattle.jz_homing.proofs.HomelessLemmas.{At, used}
 use Rattle.jz_homing.proofs.homing.add_cells.Goals as goal
 
-pub returns : goal.returns
-returns c =
+pub returns-clause-made : goal.returns-clause-made
+returns-clause-made c =
     stacked_added (table_in c.args.table.now) c.args.var.now None _ _ c.in_ok-number.number (sym (ref_name c.args.var.now)) (sym (ref_copy c.args.var.now)) (entries_of c.put.new.self)
-    (λ n. Cells n c.args.size c.args.count) (record { size = c.args.size; count = c.args.count }) c.push.new.self (c.in_ok-number.ensures ∙ c.len.ensures) (c.in_ok-put.ensures ∙ ap (λ m. with_entry (entries_of c.args.table.now.homes) (record { name = (out-Var c.args.var.now).name; copy = (out-Var c.args.var.now).copy; cell = None }) (Some (Cells c.in_ok-number.number c.args.size m))) c.from.ensures) c.in_ok-push.ensures.ok
+    (λ n. Cells n c.args.size c.args.count) (record { size = c.args.size; count = c.args.count }) c.push.new.self (c.in_ok-number.ensures.made ∙ c.len.ensures) (c.in_ok-put.ensures ∙ ap (λ m. with_entry (entries_of c.args.table.now.homes) (record { name = (out-Var c.args.var.now).name; copy = (out-Var c.args.var.now).copy; cell = None }) (Some (Cells c.in_ok-number.number c.args.size m))) c.from.ensures) c.in_ok-push.ensures.ok
+
+pub returns-in_err-number-clause-refused : goal.returns-in_err-number-clause-refused
+returns-in_err-number-clause-refused c =
+    let x = c.args.var.now in
+    handed_cause (λ s. (s ≡ (out-Var x).span) × (most ≤ c.len.result)) (At x (most ≤ length c.args.table.now.stack)) c.from_residual.result c.in_err-number.field-0.0 c.from_residual.ensures.1 c.in_err-number.ensures.refused
+    (λ s h. used x s c.len.result (length c.args.table.now.stack) c.len.ensures h)

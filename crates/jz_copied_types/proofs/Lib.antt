@@ -1,0 +1,5 @@
+pub mod Copying
+pub mod Kept
+pub mod TypedTrees
+pub mod Passed
+pub mod Copies
