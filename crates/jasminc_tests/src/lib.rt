@@ -21,6 +21,8 @@ mod memory_tests;
 #[cfg(test)]
 mod placing_tests;
 #[cfg(test)]
+mod question_tests;
+#[cfg(test)]
 mod refusal_tests;
 #[cfg(test)]
 mod tests;

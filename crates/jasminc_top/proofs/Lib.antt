@@ -16,3 +16,5 @@ pub mod ExecHeadline
 pub mod Promises
 pub mod DisasmCauses
 pub mod DisasmHeadline
+pub mod CheckCauses
+pub mod CheckHeadline

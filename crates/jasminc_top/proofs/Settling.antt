@@ -10,15 +10,18 @@ use Rattle.jasminc_top.specs.declared.answer.Reply.{Reply}
 use Rattle.jasminc_top.specs.declared.refusal.Status.{Status}
 use Rattle.jasminc_top.specs.declared.refusal.Status.TheVariants as status
 use Rattle.jasminc_top.specs.declared.refusal.Refusal.{Refusal}
-use Rattle.jasminc_top.specs.declared.refusal.Refusal.TheVariants.{Usage, ReadFault, Source, Interp, Disasm}
-use Rattle.jasminc_words.specs.Wanted.{Wanted, compile, exec, interp, disasm, file_of}
+use Rattle.jasminc_top.specs.declared.refusal.Refusal.TheVariants.{Usage, ReadFault, Source, Interp, Disasm, Check}
+use Rattle.jasminc_words.specs.Wanted.{Wanted, compile, exec, interp, disasm, check, file_of}
 use Rattle.jasminc_interp.specs.declared.refused.Refused.{Refused}
 use Rattle.jasminc_interp.specs.declared.refused.Refused.TheVariants as refused
 use Rattle.jasminc_source.specs.declared.unread.Unread.TheVariants as unread
 use Rattle.jasminc_interp.specs.Causes as interp_causes
+use Rattle.jasminc_check.specs.declared.refused.Refused as checking
+use Rattle.jasminc_check.specs.declared.refused.Refused.TheVariants as found
+use Rattle.jasminc_check.specs.Causes as checks
 use Rattle.jz_disasm_text.specs.declared.Fault.{Fault}
 use Rattle.jz_disasm_text.specs.declared.Fault.TheVariants as fault
-use Rattle.jasminc_top.specs.Refusals.{status_of_refused, status_of_fault, status_of, line_of}
+use Rattle.jasminc_top.specs.Refusals.{status_of_refused, status_of_fault, status_of_unsafe, status_of, line_of}
 use Rattle.jasminc_top.specs.Told.{SourceTold}
 use Rattle.jasminc_top.specs.Answers.{source_limit, Cause, Clear, HasText, IsDue, IsQuiet, IsResult, FileRefuses, After, Performs}
 use Rattle.jasminc_top.specs.Runs.{Run, Due, Runs, IsFree, Writes, WritesRefusal, WritesNoMemory}
@@ -38,6 +41,7 @@ long_cause (compile file) text long = long
 long_cause (exec call) text long = long
 long_cause (interp call) text long = long
 long_cause (disasm file) text long = long
+long_cause (check file) text long = long
 
 run_late : (r : Refused) → 1 ≤ interp_causes.stage_of r
 run_late (refused.Unread (unread.Lex fault)) = omega arith
@@ -48,9 +52,17 @@ run_late (refused.Limit l) = omega arith
 run_late refused.Items = omega arith
 run_late (refused.Unmet pre) = omega arith
 
+check_late : (r : checking.Refused) → 1 ≤ checks.stage_of r
+check_late (found.Unread (unread.Lex fault)) = omega arith
+check_late (found.Unread (unread.Parse fault)) = omega arith
+check_late (found.Unread (unread.Typing fault)) = omega arith
+check_late (found.Limit l) = omega arith
+check_late (found.Alarm a) = omega arith
+
 clear_file : (wish : Wanted) (text : List ℕ) → Clear (Cause (Some wish) text) 1
 clear_file wish text Usage lt c = never_usage wish text c
 clear_file wish text (Interp r) lt c = let late = run_late r in absurd (omega (arith, lt, late))
+clear_file wish text (Check r) lt c = let late = check_late r in absurd (omega (arith, lt, late))
 clear_file wish text r lt c = absurd (omega (arith, lt))
 
 pub file_refused : (wish : Wanted) (told : SourceTold) (r : Refusal) → FileRefuses (file_of wish) told r → Performs (Some wish) told (Err r)
@@ -104,6 +116,13 @@ fault_bound (fault.BadListing line) h = h
 fault_bound (fault.BadHex offset) h = h
 fault_bound (fault.Undecodable gap) h = h
 
+check_bound : (r : checking.Refused) → IsFree (status_of_unsafe r) → ⊥
+check_bound (found.Unread (unread.Lex fault)) h = h
+check_bound (found.Unread (unread.Parse fault)) h = h
+check_bound (found.Unread (unread.Typing fault)) h = h
+check_bound (found.Limit l) h = h
+check_bound (found.Alarm a) h = h
+
 refusal_due : (wish : Option Wanted) (told : SourceTold) (r : Refusal) → Performs wish told (Err r) → Due wish told (status_of r) (line_of r) []
 refusal_due wish told ReadFault p = (refl, refl, p)
 refusal_due wish told (Interp r) p =
@@ -121,6 +140,15 @@ refusal_due wish told (Disasm f) p =
       text = p.text;
       has = p.has;
       answers = inl (record { refusal = Disasm f; cause = p.after.cause; first = p.after.first; status = refl; line = refl; none = refl });
+      read = p.read;
+    })
+    p.quiet
+refusal_due wish told (Check r) p =
+    plain_due wish told (status_of_unsafe r) (line_of (Check r)) [] (check_bound r)
+    (record {
+      text = p.text;
+      has = p.has;
+      answers = inl (record { refusal = Check r; cause = p.after.cause; first = p.after.first; status = refl; line = refl; none = refl });
       read = p.read;
     })
     p.quiet

@@ -1,4 +1,4 @@
--- What the program promises of a listing, of a run and of a disassembly that it prints.
+-- What the program promises of a listing, of a run, of a disassembly and of answers that it prints.
 use Rattle.std.specs.Prelude.{◌≡◌, ◌<◌, ◌≤◌, List, ℕ, Option, Some, None, Ok, ⊤}
 use Rattle.std.specs.Io.KnownBytes.{Appends}
 use Rattle.std.specs.FinMap as map_of
@@ -14,6 +14,8 @@ use Rattle.x64_machine.specs.Steps.{steps_of}
 use Rattle.jz_disasm_text.specs.Shown.{Shows}
 use Rattle.jz_items.specs.Items.{words_of}
 use Rattle.jasminc_words.specs.Wanted.{Called, Wanted, compile, exec, interp, disasm}
+use Rattle.jasminc_words.specs.Wanted.{check}
+use Rattle.jasminc_check.specs.Answers as checked
 use Rattle.jasminc_interp.specs.Answers as answers
 use Rattle.jasminc_interp.specs.declared.telling.Ran as source
 use Rattle.jasminc_top.specs.Making.{TypesAs}
@@ -42,6 +44,7 @@ Compiles (Some (compile file)) told sink made = PrintsCorrect file told sink mad
 Compiles (Some (exec call)) told sink made = ⊤
 Compiles (Some (interp call)) told sink made = ⊤
 Compiles (Some (disasm file)) told sink made = ⊤
+Compiles (Some (check file)) told sink made = ⊤
 
 -- The function of that name is compiled correctly, the words of the items meet its preconditions,
 -- and `exec` starts it at a start on these words and a memory of the return slot alone.
@@ -99,6 +102,7 @@ Executes (Some (compile file)) told sink made = ⊤
 Executes (Some (exec call)) told sink made = PrintsRun call told sink made
 Executes (Some (interp call)) told sink made = ⊤
 Executes (Some (disasm file)) told sink made = ⊤
+Executes (Some (check file)) told sink made = ⊤
 
 -- The file's text reads as a program in the whole language that is typed, its export functions are
 -- within the limits of expansion, and what was written is what this status tells of the run of the
@@ -121,6 +125,7 @@ Interprets (Some (compile file)) told sink = ⊤
 Interprets (Some (exec call)) told sink = ⊤
 Interprets (Some (interp call)) told sink = PrintsOutcome call told sink status.Ok
 Interprets (Some (disasm file)) told sink = ⊤
+Interprets (Some (check file)) told sink = ⊤
 
 -- a run that is stuck, as none but one of `interp` is
 abbrev pub IsStuck : Option Wanted → SourceTold → SinkTold → Type 0
@@ -129,6 +134,7 @@ IsStuck (Some (compile file)) told sink = ⊥
 IsStuck (Some (exec call)) told sink = ⊥
 IsStuck (Some (interp call)) told sink = PrintsOutcome call told sink status.Stuck
 IsStuck (Some (disasm file)) told sink = ⊥
+IsStuck (Some (check file)) told sink = ⊥
 
 -- a run that was cut, as none but one of `exec` and `interp` is
 abbrev pub IsCut : Option Wanted → SourceTold → SinkTold → List Compiled → Type 0
@@ -137,6 +143,7 @@ IsCut (Some (compile file)) told sink made = ⊥
 IsCut (Some (exec call)) told sink made = PrintsCut call told sink made
 IsCut (Some (interp call)) told sink made = PrintsOutcome call told sink status.OutOfFuel
 IsCut (Some (disasm file)) told sink made = ⊥
+IsCut (Some (check file)) told sink made = ⊥
 
 -- What was written is the disassembly of the file's text: of each function of the listing that it
 -- is, or of the bytes of which it is the hexadecimal text; and nothing else.
@@ -154,3 +161,22 @@ Disassembles (Some (compile file)) told sink = ⊤
 Disassembles (Some (exec call)) told sink = ⊤
 Disassembles (Some (interp call)) told sink = ⊤
 Disassembles (Some (disasm file)) told sink = PrintsDisassembly file told sink
+Disassembles (Some (check file)) told sink = ⊤
+
+-- The file's text reads as a program that is typed, its export functions are within the limits and
+-- safe, and what was written is a line for each of them; and nothing else.
+pub record PrintsChecks (file : List ℕ) (told : SourceTold) (sink : SinkTold) : Type 0 where
+  pub text : List ℕ
+  pub has : HasFile file told.files text
+  pub output : List ℕ
+  pub done : checked.IsDone text output
+  pub wrote : Appends sink.bytes sink.bytes_after output
+
+-- the same of a command; it speaks of `check` alone
+abbrev pub Checks : Option Wanted → SourceTold → SinkTold → Type 0
+Checks None told sink = ⊤
+Checks (Some (compile file)) told sink = ⊤
+Checks (Some (exec call)) told sink = ⊤
+Checks (Some (interp call)) told sink = ⊤
+Checks (Some (disasm file)) told sink = ⊤
+Checks (Some (check file)) told sink = PrintsChecks file told sink

@@ -1,6 +1,7 @@
 pub mod Lines
 pub mod InterpLines
 pub mod DisasmLines
+pub mod CheckLines
 pub mod Refusals
 pub mod Making
 pub mod Told

@@ -6,16 +6,20 @@ use Rattle.jasminc_top.specs.declared.refusal.Refusal.{Refusal}
 use Rattle.jasminc_top.specs.declared.refusal.Refusal.TheVariants.{Usage, ReadFault, Source}
 use Rattle.jasminc_top.specs.declared.refusal.Refusal.TheVariants.{Lex, Parse, Typing, NoFunction}
 use Rattle.jasminc_top.specs.declared.refusal.Refusal.TheVariants.{Limit, Alarm, NoPlace, Items}
-use Rattle.jasminc_top.specs.declared.refusal.Refusal.TheVariants.{Interp, Disasm}
+use Rattle.jasminc_top.specs.declared.refusal.Refusal.TheVariants.{Interp, Disasm, Check}
 use Rattle.jasminc_interp.specs.declared.refused.Refused.{Refused}
 use Rattle.jasminc_interp.specs.declared.refused.Refused.TheVariants as refused
 use Rattle.jasminc_source.specs.declared.unread.Unread.{Unread}
 use Rattle.jasminc_source.specs.declared.unread.Unread.TheVariants as unread
 use Rattle.jasminc_interp.specs.Causes as interp
+use Rattle.jasminc_check.specs.declared.refused.Refused as checking
+use Rattle.jasminc_check.specs.declared.refused.Refused.TheVariants as found
+use Rattle.jasminc_check.specs.Causes as checks
 use Rattle.jz_disasm_text.specs.declared.Fault.{Fault}
 use Rattle.jz_disasm_text.specs.declared.Fault.TheVariants as fault
 use Rattle.jasminc_top.specs.InterpLines.{refused_text}
 use Rattle.jasminc_top.specs.DisasmLines.{fault_text}
+use Rattle.jasminc_top.specs.CheckLines.{unsafe_text}
 use Rattle.jasminc_top.specs.Lines.{lexer_line, parser_line, type_line}
 use Rattle.jasminc_top.specs.Lines.{limit_line, alarm_line, no_place_line}
 
@@ -36,6 +40,11 @@ status_of_fault (fault.BadListing line) = status.Syntax
 status_of_fault (fault.BadHex offset) = status.Syntax
 status_of_fault (fault.Undecodable gap) = status.Undecodable
 
+abbrev pub status_of_unsafe : checking.Refused → Status
+status_of_unsafe (found.Unread u) = status_of_unread u
+status_of_unsafe (found.Limit l) = status.Limit
+status_of_unsafe (found.Alarm a) = status.Alarm
+
 abbrev pub status_of : Refusal → Status
 status_of Usage = status.Usage
 status_of ReadFault = status.ReadFault
@@ -50,6 +59,7 @@ status_of (NoPlace refusal) = status.NoPlace
 status_of Items = status.Precondition
 status_of (Interp r) = status_of_refused r
 status_of (Disasm f) = status_of_fault f
+status_of (Check r) = status_of_unsafe r
 
 -- the line without its line feed
 abbrev pub cause_text : Refusal → List ℕ
@@ -66,12 +76,14 @@ cause_text (NoPlace refusal) = no_place_line refusal
 cause_text Items = codes "precondition items"
 cause_text (Interp r) = refused_text r
 cause_text (Disasm f) = fault_text f
+cause_text (Check r) = unsafe_text r
 
 abbrev pub line_of : Refusal → List ℕ
 line_of r = cause_text r ++ codes "\n"
 
 -- the stages in their order: words, file, lexer, parser, typing, function name, limits, safety,
--- places, the number of items, preconditions; a text has at most one reason to have no disassembly, right after the file
+-- places, the number of items, preconditions; a text has at most one reason to have no
+-- disassembly, right after the file
 abbrev pub stage_of : Refusal → ℕ
 stage_of Usage = 0
 stage_of ReadFault = 1
@@ -86,6 +98,7 @@ stage_of (NoPlace refusal) = 8
 stage_of Items = 9
 stage_of (Interp r) = interp.stage_of r
 stage_of (Disasm f) = 2
+stage_of (Check r) = checks.stage_of r
 
 -- one past the last stage
 abbrev pub all_stages : ℕ

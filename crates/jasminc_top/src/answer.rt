@@ -5,9 +5,9 @@ ghost use Rattle.std.specs.Option.{option_copied};
 ghost use Rattle.jz_first.specs.Failures.{IfRefused, IfAnswered};
 ghost use Rattle.jz_io.specs.Telling.{IsWhole};
 ghost use Rattle.jz_items.specs.Items.{words_of};
-ghost use Rattle.jasminc_words.specs.Wanted.{compile, exec, interp, disasm, texts_of};
+ghost use Rattle.jasminc_words.specs.Wanted.{compile, exec, interp, disasm, check};
 ghost use Rattle.jasminc_words.specs.Wanted.{called_of, wanted_of};
-ghost use Rattle.jasminc_words.specs.Wanted.{wanted_command};
+ghost use Rattle.jasminc_words.specs.Wanted.{texts_of, wanted_command};
 ghost use Rattle.jasminc_top.specs.Making.{TypesAs, IsWritten, AreMade};
 ghost use Rattle.jasminc_top.specs.Told.{source_told};
 ghost use Rattle.jasminc_top.specs.Answers.{source_limit, function_named, compiled_named};
@@ -17,6 +17,7 @@ ghost use Rattle.jasminc_top.specs.Answers.{IsSafeOne, IsToldAs, After, Performs
 
 use crate::refusal::{Refusal, Status};
 use crate::stage::as_refusal;
+use jasminc_check::check_text;
 use jasminc_exec::{Ran, exec_text, items_are_words};
 use jasminc_interp as source;
 use jasminc_interp::interp_text;
@@ -218,6 +219,20 @@ fn disasm_reply(alloc: Global, file: &str, text: &[u8]) -> Result<Reply, Failure
     })
 }
 
+/// Whether the functions of a text are safe. Nothing is made for it.
+fn check_reply(alloc: Global, file: &str, text: &[u8]) -> Result<Reply, Failure<Refusal>>
+    requires { length text.now ≤ source_limit }
+    ensures { IfAnswered result (After (Some (check file.now)) text.now) }
+{
+    let answer = check_text(alloc, text);
+    let safe = as_refusal(answer, Refusal::Check)?;
+    Ok(Reply {
+        status: Status::Ok,
+        text: safe,
+        made: Seq::new(alloc),
+    })
+}
+
 /// A request, from the reading on.
 fn perform<S: Source>(
     alloc: Global,
@@ -233,6 +248,7 @@ fn perform<S: Source>(
         Request::Exec(call) => exec_reply(alloc, &call, text.as_slice()),
         Request::Interp(call) => interp_reply(alloc, &call, text.as_slice()),
         Request::Disasm { file } => disasm_reply(alloc, file, text.as_slice()),
+        Request::Check { file } => check_reply(alloc, file, text.as_slice()),
     }
 }
 

@@ -68,7 +68,7 @@ fn write_subject(line: &mut Vec<u8>, fun: &Text, limit: Limit) -> Result<(), All
     }
 }
 
-fn write_fun_limit(line: &mut Vec<u8>, passed: &FunLimit) -> Result<(), AllocError>
+pub fn write_fun_limit(line: &mut Vec<u8>, passed: &FunLimit) -> Result<(), AllocError>
     ensures { OnOk result (line.new.items ≡ line.old.items ++ limit_text passed.now) }
 {
     line.extend_from_slice(b"limit ")?;
@@ -78,7 +78,7 @@ fn write_fun_limit(line: &mut Vec<u8>, passed: &FunLimit) -> Result<(), AllocErr
 }
 
 /// Why a text has no typed program.
-fn write_unread(line: &mut Vec<u8>, unread: Unread) -> Result<(), AllocError>
+pub fn write_unread(line: &mut Vec<u8>, unread: Unread) -> Result<(), AllocError>
     ensures { OnOk result (line.new.items ≡ line.old.items ++ unread_text unread) }
 {
     match unread {

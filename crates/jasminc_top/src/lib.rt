@@ -2,6 +2,7 @@
 #![tactic(auto)]
 
 mod answer;
+mod check_lines;
 pub mod correctness;
 mod disasm_lines;
 mod interp_lines;

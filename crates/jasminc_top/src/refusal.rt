@@ -2,13 +2,16 @@
 
 ghost use Rattle.std.specs.Prelude.{◌≡◌, ◌++◌, IfOk, OnOk, codes, decimal};
 ghost use Rattle.jasminc_top.specs.Refusals.{status_of_unread, status_of_refused, status_of_fault};
-ghost use Rattle.jasminc_top.specs.Refusals.{status_of, cause_text, line_of};
+ghost use Rattle.jasminc_top.specs.Refusals.{status_of_unsafe, status_of};
+ghost use Rattle.jasminc_top.specs.Refusals.{cause_text, line_of};
 
+use crate::check_lines::write_unsafe;
 use crate::disasm_lines::write_disasm_fault;
 use crate::interp_lines::write_refused;
 use crate::lines::{
     write_alarm, write_lex_fault, write_limit, write_no_place, write_syntax_fault, write_type_fault,
 };
+use jasminc_check as checking;
 use jasminc_interp::Refused;
 use jasminc_source::Unread;
 use jz_disasm_text::Fault;
@@ -68,6 +71,8 @@ pub enum Refusal {
     Interp(Refused),
     /// A text has no disassembly.
     Disasm(Fault),
+    /// An export function of a text is not safe.
+    Check(checking::Refused),
 }
 
 fn status_of_unread(unread: Unread) -> Status
@@ -101,6 +106,17 @@ fn status_of_fault(fault: Fault) -> Status
     }
 }
 
+/// The status of a text whose functions are not all safe.
+fn status_of_unsafe(refused: &checking::Refused) -> Status
+    ensures { result ≡ status_of_unsafe refused.now }
+{
+    match refused {
+        checking::Refused::Unread(unread) => status_of_unread(*unread),
+        checking::Refused::Limit(_) => Status::Limit,
+        checking::Refused::Alarm(_) => Status::Alarm,
+    }
+}
+
 impl Refusal {
     /// The status that it ends a command with.
     pub fn status(&self) -> Status
@@ -118,6 +134,7 @@ impl Refusal {
             Refusal::Items => Status::Precondition,
             Refusal::Interp(refused) => status_of_refused(refused),
             Refusal::Disasm(fault) => status_of_fault(*fault),
+            Refusal::Check(refused) => status_of_unsafe(refused),
         }
     }
 
@@ -142,6 +159,7 @@ impl Refusal {
             Refusal::Items => line.extend_from_slice(b"precondition items"),
             Refusal::Interp(refused) => write_refused(line, refused),
             Refusal::Disasm(fault) => write_disasm_fault(line, *fault),
+            Refusal::Check(refused) => write_unsafe(line, refused),
         }
     }
 

@@ -8,7 +8,7 @@ use Rattle.jasminc_words.specs.Commands.{jasminc_app}
 use Rattle.jz_items.specs.declared.item.Item.{Item}
 use Rattle.jz_items.specs.Items.{ItemsFit}
 use Rattle.jz_items.proofs.Fitting.{word_fits, items_fit}
-use Rattle.jasminc_words.specs.Wanted.{Called, Wanted, compile, exec, interp, disasm, HasFit, HasNumbers, number_or, fuel_in, items_in, call_of, call_in, wanted_in, none_or, wanted_command}
+use Rattle.jasminc_words.specs.Wanted.{Called, Wanted, compile, exec, interp, disasm, check, HasFit, HasNumbers, number_or, fuel_in, items_in, call_of, call_in, wanted_in, none_or, wanted_command}
 
 fuel_fits : (o : Option Text) (n : ℕ) → number_or 1000000 o ≡ Some n → n < 2 ^ 64
 fuel_fits None n e = let same : 1000000 ≡ n = cc in subst (λ k. k < 2 ^ 64) same (lit< tt)
@@ -49,19 +49,25 @@ disasm_fits : (file : Option Text) (wish : Wanted) → option_map disasm file �
 disasm_fits None wish e = cc
 disasm_fits (Some file) wish e = let same : disasm file ≡ wish = cc in subst HasNumbers same tt
 
-by_name : (a b d f : Bool) (file : Option Text) (o : Option Called) (wish : Wanted)
-    → (if a then option_map compile file else (if b then option_map exec o else (if d then option_map interp o else (if f then option_map disasm file else None)))) ≡ Some wish
+check_fits : (file : Option Text) (wish : Wanted) → option_map check file ≡ Some wish → HasNumbers wish
+check_fits None wish e = cc
+check_fits (Some file) wish e = let same : check file ≡ wish = cc in subst HasNumbers same tt
+
+by_name : (a b d f g : Bool) (file : Option Text) (o : Option Called) (wish : Wanted)
+    → (if a then option_map compile file else (if b then option_map exec o else (if d then option_map interp o else (if f then option_map disasm file
+    else (if g then option_map check file else None))))) ≡ Some wish
     → ((call : Called) → o ≡ Some call → HasFit call) → HasNumbers wish
-by_name true b d f file o wish e h = compile_fits file wish e
-by_name false true d f file o wish e h = exec_fits o wish e h
-by_name false false true f file o wish e h = interp_fits o wish e h
-by_name false false false true file o wish e h = disasm_fits file wish e
-by_name false false false false file o wish e h = cc
+by_name true b d f g file o wish e h = compile_fits file wish e
+by_name false true d f g file o wish e h = exec_fits o wish e h
+by_name false false true f g file o wish e h = interp_fits o wish e h
+by_name false false false true g file o wish e h = disasm_fits file wish e
+by_name false false false false true file o wish e h = check_fits file wish e
+by_name false false false false false file o wish e h = cc
 
 rows_fit : (rows : Option (Text × List Row)) (wish : Wanted) → wanted_in rows ≡ Some wish → HasNumbers wish
 rows_fit None wish e = cc
 rows_fit (Some p) wish e =
-    by_name (bytes_eq p.0 (codes "compile")) (bytes_eq p.0 (codes "exec")) (bytes_eq p.0 (codes "interp")) (bytes_eq p.0 (codes "disasm")) (first_of (codes "FILE") p.1) (call_in p.1) wish e
+    by_name (bytes_eq p.0 (codes "compile")) (bytes_eq p.0 (codes "exec")) (bytes_eq p.0 (codes "interp")) (bytes_eq p.0 (codes "disasm")) (bytes_eq p.0 (codes "check")) (first_of (codes "FILE") p.1) (call_in p.1) wish e
     (λ call h. call_fits p.1 call h)
 
 no_faults : {X : Type 0} (faults : List X) (o : Option Wanted) (wish : Wanted) → none_or faults o ≡ Some wish → o ≡ Some wish

@@ -54,8 +54,13 @@ bare_app = let a = new_app (codes "jasminc") in record a {
   };
 }
 
+-- the commands that read a file and run nothing stand beside `exec` and `interp`
+abbrev pub run_commands : App
+run_commands =
+    with_subcommand (with_subcommand (with_subcommand bare_app (file_app (codes "compile")).top)
+    (run_app (codes "exec")).top) (run_app (codes "interp")).top
+
 abbrev pub jasminc_app : App
 jasminc_app =
-    with_subcommand (with_subcommand (with_subcommand (with_subcommand bare_app
-    (file_app (codes "compile")).top) (run_app (codes "exec")).top) (run_app (codes "interp")).top)
-    (file_app (codes "disasm")).top
+    with_subcommand (with_subcommand run_commands (file_app (codes "disasm")).top)
+    (file_app (codes "check")).top

@@ -26,12 +26,14 @@ pub data Wanted : Type 0 where
   exec : Called → Wanted
   interp : Called → Wanted
   disasm : List ℕ → Wanted
+  check : List ℕ → Wanted
 
 abbrev pub file_of : Wanted → List ℕ
 file_of (compile file) = file
 file_of (exec call) = call.file
 file_of (interp call) = call.file
 file_of (disasm file) = file
+file_of (check file) = file
 
 abbrev pub texts_of : List (String Global) → List (List ℕ)
 texts_of words = map string_bytes words
@@ -45,6 +47,7 @@ wanted_of (request.Compile file) = compile file.now
 wanted_of (request.Exec call) = exec (called_of call)
 wanted_of (request.Interp call) = interp (called_of call)
 wanted_of (request.Disasm file) = disasm file.now
+wanted_of (request.Check file) = check file.now
 
 -- ---- what matches ask for
 -- without `--fuel`
@@ -80,7 +83,8 @@ named name rows =
     if bytes_eq name (codes "compile") then option_map compile (file_in rows)
     else (if bytes_eq name (codes "exec") then option_map exec (call_in rows)
     else (if bytes_eq name (codes "interp") then option_map interp (call_in rows)
-    else (if bytes_eq name (codes "disasm") then option_map disasm (file_in rows) else None)))
+    else (if bytes_eq name (codes "disasm") then option_map disasm (file_in rows)
+    else (if bytes_eq name (codes "check") then option_map check (file_in rows) else None))))
 
 abbrev pub wanted_in : Option (Text × List Row) → Option Wanted
 wanted_in rows = option_and_then (λ p. named p.0 p.1) rows
@@ -106,3 +110,4 @@ HasNumbers (compile file) = ⊤
 HasNumbers (exec call) = HasFit call
 HasNumbers (interp call) = HasFit call
 HasNumbers (disasm file) = ⊤
+HasNumbers (check file) = ⊤

@@ -74,7 +74,8 @@ fn jasminc<'a>(alloc: Global) -> Result<Command<'a>, AllocError>
     let with_compile = top.subcommand(of_file(alloc, "compile")?)?;
     let with_exec = with_compile.subcommand(run(alloc, "exec")?)?;
     let with_interp = with_exec.subcommand(run(alloc, "interp")?)?;
-    with_interp.subcommand(of_file(alloc, "disasm")?)
+    let with_disasm = with_interp.subcommand(of_file(alloc, "disasm")?)?;
+    with_disasm.subcommand(of_file(alloc, "check")?)
 }
 
 /// There are matches exactly where no step of the command's parse fails.

@@ -3,7 +3,8 @@
 ghost use Rattle.std.specs.Prelude.{◌≡◌, IfOk, map};
 ghost use Rattle.std.specs.Option.{option_map};
 ghost use Rattle.clap.specs.Words.{rows_of, found_of, first_of, all_of, subcommand_rows_of};
-ghost use Rattle.jasminc_words.specs.Wanted.{compile, exec, interp, disasm, file_of, texts_of};
+ghost use Rattle.jasminc_words.specs.Wanted.{compile, exec, interp, disasm, check, file_of};
+ghost use Rattle.jasminc_words.specs.Wanted.{texts_of};
 ghost use Rattle.jasminc_words.specs.Wanted.{called_of, wanted_of, fuel_in, items_in, call_in};
 ghost use Rattle.jasminc_words.specs.Wanted.{file_in, wanted_in, wanted_command};
 
@@ -34,6 +35,8 @@ pub enum Request<'a> {
     /// A run of the source.
     Interp(Call<'a>),
     Disasm { file: &'a str },
+    /// Whether each export function is safe.
+    Check { file: &'a str },
 }
 
 impl<'a> Request<'a> {
@@ -43,6 +46,7 @@ impl<'a> Request<'a> {
     {
         match self {
             Request::Compile { file } | Request::Disasm { file } => file,
+            Request::Check { file } => file,
             Request::Exec(call) => call.file,
             Request::Interp(call) => call.file,
         }
@@ -150,6 +154,14 @@ fn disasm_request<'a>(inner: &ArgMatches<'a>) -> Option<Request<'a>>
     Some(Request::Disasm { file })
 }
 
+fn check_request<'a>(inner: &ArgMatches<'a>) -> Option<Request<'a>>
+    ensures { option_map wanted_of result
+        ≡ option_map check (file_in (rows_of (found_of inner.now))) }
+{
+    let file = value(inner, "FILE")?;
+    Some(Request::Check { file })
+}
+
 /// What matches ask for.
 fn asked<'a>(alloc: Global, matches: &ArgMatches<'a>) -> Result<Option<Request<'a>>, AllocError>
     ensures { IfOk result (λ request. option_map wanted_of request
@@ -160,6 +172,7 @@ fn asked<'a>(alloc: Global, matches: &ArgMatches<'a>) -> Result<Option<Request<'
         Some(("exec", inner)) => exec_request(alloc, inner),
         Some(("interp", inner)) => interp_request(alloc, inner),
         Some(("disasm", inner)) => Ok(disasm_request(inner)),
+        Some(("check", inner)) => Ok(check_request(inner)),
         _ => Ok(None),
     }
 }

@@ -1,0 +1,6 @@
+pub mod AlarmLines
+pub mod Safety
+pub mod Causes
+pub mod Answers
+pub mod InnerSafety
+pub mod JudgementLaws

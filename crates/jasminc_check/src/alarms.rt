@@ -1,0 +1,60 @@
+//! The line of an alarm.
+
+ghost use Rattle.std.specs.Prelude.{◌≡◌, ◌++◌, OnOk};
+ghost use Rattle.jasminc_check.specs.AlarmLines.{kind_name, variable_text, target_text, alarm_line};
+
+use jz_asked::{Alarm, Target};
+use jz_meaning::Why;
+use jz_text::{write_number, write_span};
+use jz_tree::Text;
+use std::alloc::AllocError;
+
+#[tactic(auto, unfolding(crate::specs::AlarmLines::kind_name))]
+fn kind_name(why: Why) -> &'static str
+    ensures { result.now ≡ kind_name why }
+{
+    match why {
+        Why::Bounds => "Bounds",
+        Why::Address => "Address",
+        Why::Align => "Align",
+        Why::Init => "Init",
+        Why::Divide => "Divide",
+    }
+}
+
+/// A variable, or the scalar that was a cell of a register array.
+fn write_variable(line: &mut Vec<u8>, name: &Text, cell: Option<u32>) -> Result<(), AllocError>
+    ensures { OnOk result (line.new.items ≡ line.old.items ++ variable_text name.now cell) }
+{
+    line.extend_from_slice(name.as_str().as_bytes())?;
+    match cell {
+        None => Ok(()),
+        Some(cell) => {
+            line.extend_from_slice(b"[")?;
+            write_number(line, u64::from(cell))?;
+            line.extend_from_slice(b"]")
+        }
+    }
+}
+
+fn write_target(line: &mut Vec<u8>, target: &Target) -> Result<(), AllocError>
+    ensures { OnOk result (line.new.items ≡ line.old.items ++ target_text target.now) }
+{
+    match target {
+        Target::Variable(name, cell) => write_variable(line, name, *cell),
+        Target::Memory => line.extend_from_slice(b"mem"),
+        Target::Division => line.extend_from_slice(b"div"),
+    }
+}
+
+/// The line of an alarm, without its line feed.
+pub fn write_alarm(line: &mut Vec<u8>, alarm: &Alarm) -> Result<(), AllocError>
+    ensures { OnOk result (line.new.items ≡ line.old.items ++ alarm_line alarm.now) }
+{
+    line.extend_from_slice(b"alarm ")?;
+    write_span(line, alarm.span)?;
+    line.extend_from_slice(b" ")?;
+    line.extend_from_slice(kind_name(alarm.why).as_bytes())?;
+    line.extend_from_slice(b" ")?;
+    write_target(line, &alarm.target)
+}

@@ -1,0 +1,3 @@
+pub mod Spoken
+pub mod TreeNumbers
+pub mod Expansions
