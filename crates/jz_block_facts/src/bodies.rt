@@ -1,14 +1,18 @@
 //! Facts of whole bodies.
 
 ghost use Rattle.std.specs.Prelude.{◌≡◌, OnOk, IfOk};
+ghost use Rattle.jz_runs.specs.Trees.{done};
+ghost use Rattle.jz_meaning.specs.Runs.{statement_tree};
 ghost use Rattle.jz_flow.specs.Flow.{After};
 ghost use Rattle.jz_facts.specs.Along.{fact_steps};
 ghost use Rattle.jz_layers.specs.Layered.{seen};
 ghost use Rattle.jz_fact_sets.specs.Kept.{AreDifferent, given_of, facts_of};
 ghost use Rattle.jz_test_facts.specs.Comparing.{AreWords};
-ghost use Rattle.jz_block_facts.specs.Heads.{plain_block, HasNoFor, AreHeads};
+ghost use Rattle.jz_block_facts.specs.Heads.{no_callees, plain_block, HasNoFor, AreHeads};
+ghost use Rattle.jz_block_facts.specs.Heads.{IsLoop, IsHeadOf};
 
-use crate::walk::walk_block;
+use crate::laying::lay;
+use crate::walk::{walk_block, walk_statement};
 use jz_fact_sets::{FactSet, Given, Table};
 use jz_tree::{Seq, Stmt};
 use std::alloc::AllocError;
@@ -52,4 +56,24 @@ pub fn heads_of<'a>(
     walk_block(given, set, &mut heads, 0, stmts)?;
     set.close();
     Ok(heads.into_vec())
+}
+
+/// What holds at the head of a `while` of an expanded function, in which there is no `for`: the
+/// greatest set of what comes in that each turn keeps.
+pub fn at_head<'a>(given: &Given, set: &mut FactSet<'a>, stmt: &'a Stmt) -> Result<(), AllocError>
+    requires different { AreDifferent given.now.params }
+    requires words { AreWords given.now.constants }
+    requires plain { HasNoFor (statement_tree no_callees stmt.now done) }
+    requires turns { IsLoop (statement_tree no_callees stmt.now done) }
+    ensures below { OnOk result (set.new.below.items ≡ set.old.below.items) }
+    ensures head { OnOk result (IsHeadOf given.now (statement_tree no_callees stmt.now done)
+        (facts_of given.now set.old) (facts_of given.now set.new)) }
+{
+    let mut heads = Seq::new(set.allocator());
+    set.open()?;
+    walk_statement(given, set, &mut heads, 0, stmt)?;
+    set.close();
+    let first = 0;
+    lay(set, &heads.as_slice()[first])?;
+    Ok(())
 }

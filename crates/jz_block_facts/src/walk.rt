@@ -60,7 +60,7 @@ pub(crate) fn walk_block<'a>(
 }
 
 #[cycle(walk)]
-fn walk_statement<'a>(
+pub(crate) fn walk_statement<'a>(
     given: &Given,
     set: &mut FactSet<'a>,
     heads: &mut Seq<Table<'a>>,

@@ -1,14 +1,11 @@
 -- What each statement asks, with what its parts ask.
-use Rattle.std.proofs.Common.{◌≡◌, ℕ, suc, ◌+◌, Bool, true, false, List, [], ◌∷◌, drop, length, ◌<◌, ◌≤◌, Option, Some, None, refl, sym, ap, ◌∙◌, subst, arith}
+use Rattle.std.proofs.Common.{◌≡◌, ℕ, suc, ◌+◌, Bool, true, false, [], Option, Some, None, refl, sym, ◌∙◌, subst, arith}
 use Rattle.std.specs.Prelude.{Result, Ok, Err, IfErr, IsErrAnd}
 use Rattle.jz_tree.specs.Failure.{Failure}
 use Rattle.jz_tree.specs.Failure.TheVariants as failure
 use Rattle.jz_tree.specs.Failures.{IfRefused}
-use Rattle.jz_tree.specs.declared.expr.Var.{Var}
-use Rattle.jz_tree.specs.declared.stmt.Stmt.{Stmt}
-use Rattle.jz_runs.specs.Trees.{Tree, done, op, quiet, choose, loop}
+use Rattle.jz_runs.specs.Trees.{done, op, quiet, choose, loop}
 use Rattle.jz_meaning.specs.Statements.{Operation, Condition, Block}
-use Rattle.jz_meaning.specs.Runs.{block, statement_tree}
 use Rattle.jz_flow.specs.Sets.{common}
 use Rattle.jz_flow.specs.Flow.{IsHead, After, OneTurn}
 use Rattle.jz_flow.specs.Alarms.{FirstOf}
@@ -18,7 +15,7 @@ use Rattle.jz_facts.specs.Tests.{tested, leaves}
 use Rattle.jz_facts.specs.Along.{fact_steps}
 use Rattle.jz_fact_sets.specs.declared.given.Given as code
 use Rattle.jz_fact_sets.specs.Kept.{given_of}
-use Rattle.jz_block_facts.specs.Heads.{no_callees, loops}
+use Rattle.jz_block_facts.specs.Heads.{loops}
 use Rattle.jz_alarms.specs.Conditions.{Alarm, asks_operation, asks_test}
 use Rattle.jz_first_alarm.specs.InnerAsking.{FirstIn, Goes, Stops}
 

@@ -1,5 +1,5 @@
 -- One piece after another, and where a walk stands.
-use Rattle.std.proofs.Common.{BuildHasherDefault, FoldHasher, ◌≡◌, ℕ, suc, ◌+◌, ◌<◌, ◌≤◌, Bool, true, false, List, [], ◌∷◌, length, drop, get_or, Option, Some, refl, sym, ap, ◌∙◌, subst, arith}
+use Rattle.std.proofs.Common.{BuildHasherDefault, FoldHasher, ◌≡◌, ℕ, suc, ◌+◌, ◌<◌, ◌≤◌, Bool, true, false, List, ◌∷◌, length, drop, get_or, Option, Some, refl, sym, ap, ◌∙◌, subst, arith}
 use Rattle.std.specs.Prelude.{slice_get}
 use Rattle.std.proofs.lemmas.List.{drop_more, drop_all}
 use Rattle.std.proofs.lemmas.Option.{slice_get_within}
@@ -50,7 +50,7 @@ module _ (k : Known) where
 
   -- ---- one piece before another
 
-  module _ (piece rest : Block → Block) (splits : Splits k.given.now piece) (i j : ℕ) (s t : Facts) where
+  module _ (piece rest : Block → Block) (splits : Splits (BuildHasherDefault FoldHasher) k.given.now piece) (i j : ℕ) (s t : Facts) where
     pub first_ready : IsReady k (λ r. piece (rest r)) i s → IsReady k piece i s
     first_ready h = record {
       different = h.different;
@@ -60,12 +60,12 @@ module _ (k : Known) where
 
     pub next_ready : IsReady k (λ r. piece (rest r)) i s → Goes k.given.now piece i s j t → IsReady k rest j t
     next_ready h l =
-        let (x, a, hr) = (splits.heads_on (rest done) i k.heads.now s h.heads).1 in
-        let same = one_after (fact_steps (given_of k.given.now)) (monotone (given_of k.given.now)) (piece done) s x t a (l.after done t refl) in
+        let y = (splits.heads_on (rest done) i k.heads.now s h.heads).1 in
+        let same = one_after (fact_steps (given_of k.given.now)) (monotone (given_of k.given.now)) (piece done) s y.0 t y.1 (l.after done t refl) in
         record {
           different = h.different;
           words = h.words;
-          heads = subst (AreHeads k.given.now (rest done) j k.heads.now) same (heads_at k.given.now (rest done) (i + loops (piece done)) j k.heads.now x (sym l.next) hr);
+          heads = subst (AreHeads k.given.now (rest done) j k.heads.now) same (heads_at k.given.now (rest done) (i + loops (piece done)) j k.heads.now y.0 (sym l.next) y.2);
         }
 
     pub both_go : (n : ℕ) (u : Facts) → Goes k.given.now piece i s j t → Goes k.given.now rest j t n u → Goes k.given.now (λ r. piece (rest r)) i s n u
@@ -146,15 +146,15 @@ module _ (k : Known) where
     both_ready = subst (λ l. IsReady k (block no_callees l) j t) (at_index ss n x lt is) on.ready
 
     pub one_ready : IsReady k (statement_tree no_callees x) j t
-    one_ready = first_ready (statement_tree no_callees x) (block no_callees (drop (n + 1) ss)) (statement_splits k.given.now x) j j t t both_ready
+    one_ready = first_ready (statement_tree no_callees x) (block no_callees (drop (n + 1) ss)) (statement_splits (BuildHasherDefault FoldHasher) k.given.now x) j j t t both_ready
 
     pub one_on : (m : ℕ) (u : Facts) → Goes k.given.now (statement_tree no_callees x) j t m u → IsOn ss (n + 1) i s m u
     one_on m u l = record {
-      ready = next_ready (statement_tree no_callees x) (block no_callees (drop (n + 1) ss)) (statement_splits k.given.now x) j m t u both_ready l;
+      ready = next_ready (statement_tree no_callees x) (block no_callees (drop (n + 1) ss)) (statement_splits (BuildHasherDefault FoldHasher) k.given.now x) j m t u both_ready l;
       goes = λ o v h. on.goes o v (subst (λ y. Goes k.given.now (block no_callees y) j t o v) (sym (at_index ss n x lt is))
-          (both_go (statement_tree no_callees x) (block no_callees (drop (n + 1) ss)) (statement_splits k.given.now x) j m t u o v l h));
+          (both_go (statement_tree no_callees x) (block no_callees (drop (n + 1) ss)) (statement_splits (BuildHasherDefault FoldHasher) k.given.now x) j m t u o v l h));
       stops = λ v h. on.stops v (subst (λ y. Stops k.given.now (block no_callees y) t v) (sym (at_index ss n x lt is))
-          (later_stops (statement_tree no_callees x) (block no_callees (drop (n + 1) ss)) (statement_splits k.given.now x) j m t u v l h));
+          (later_stops (statement_tree no_callees x) (block no_callees (drop (n + 1) ss)) (statement_splits (BuildHasherDefault FoldHasher) k.given.now x) j m t u v l h));
     }
 
     pub one_stops : (v : Alarm) → Stops k.given.now (statement_tree no_callees x) t v → Stops k.given.now (block no_callees ss) s v

@@ -3,7 +3,7 @@ use Rattle.std.specs.Prelude.{◌≡◌, ℕ, ◌+◌, not, is_some, List, Optio
 use Rattle.jz_tree.specs.declared.expr.Var.{Var}
 use Rattle.jz_runs.specs.Trees.{done, loop}
 use Rattle.jz_meaning.specs.Runs.{block}
-use Rattle.jz_meaning.specs.Statements.{Condition, Block}
+use Rattle.jz_meaning.specs.Statements.{Block}
 use Rattle.jz_flow.specs.Flow.{After}
 use Rattle.jz_flow.specs.Alarms.{First}
 use Rattle.jz_facts.specs.Facts.{Facts}
@@ -45,9 +45,9 @@ pub record IsReady (known : Known) (piece : Block → Block) (at : ℕ) (s : Fac
   pub heads : AreHeads known.given.now (piece done) at known.heads.now s
 
 -- the piece has no alarm, and leads from these facts to those, whatever follows
-pub record Goes (g : code.Given) (piece : Block → Block) (at : ℕ) (s : Facts) (next : ℕ) (t : Facts) :
+pub record Goes (g : code.Given) (piece : Block → Block) (i : ℕ) (s : Facts) (j : ℕ) (t : Facts) :
     Type 0 where
-  pub next : next ≡ at + loops (piece done)
+  pub next : j ≡ i + loops (piece done)
   pub after :
       (r : Block) (z : Facts) → After (fact_steps (given_of g)) r t z
       → After (fact_steps (given_of g)) (piece r) s z

@@ -1,7 +1,7 @@
 //! The walk along a body, in which each condition is asked once, by the facts of its place; a
 //! loop's are those of its head. The stack grows with the nesting of the text.
 
-ghost use Rattle.std.specs.Prelude.{◌≡◌, ◌<◌, OnOk, IfOk, IfErr, Some, length, slice_get};
+ghost use Rattle.std.specs.Prelude.{◌≡◌, ◌<◌, OnOk, IfOk, IfErr, Some, true, length, slice_get};
 ghost use Rattle.jz_tree.specs.Failures.{IfRefused};
 ghost use Rattle.jz_meaning.specs.Runs.{block, statement_tree};
 ghost use Rattle.jz_layers.specs.Layered.{seen};

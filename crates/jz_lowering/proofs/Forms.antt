@@ -1,5 +1,5 @@
 -- The trees of single statements.
-use Rattle.std.proofs.Common.{◌≡◌, true, false, List, Option, Some, None, sym, ap, ◌∙◌}
+use Rattle.std.proofs.Common.{◌≡◌, Bool, true, false, List, Option, Some, None, sym, ap, ◌∙◌}
 use Rattle.jz_tree.specs.Span.{Span}
 use Rattle.jz_tree.specs.declared.expr.BinOp.{BinOp}
 use Rattle.jz_tree.specs.declared.expr.Expr.{Expr}
@@ -10,7 +10,7 @@ use Rattle.jz_tree.specs.declared.stmt.Stmt.{Stmt}
 use Rattle.jz_tree.specs.declared.stmt.StmtKind.TheVariants as kind
 use Rattle.jz_tree.specs.declared.stmt.StmtKind.TheOpen.{StmtKind-F}
 use Rattle.jz_tree.specs.declared.stmt.StmtKind.TheFolds.{fold-roll-Stmt, fold-roll-StmtKind}
-use Rattle.jz_runs.specs.Trees.{done, quiet, choose, loop}
+use Rattle.jz_runs.specs.Trees.{done, quiet, choose, loop, each}
 use Rattle.jz_meaning.specs.Statements.{unset}
 use Rattle.jz_meaning.specs.Runs.{block, statement_tree, kind_tree, assign_tree}
 use Rattle.jz_lowering.specs.Becoming.{no_callees}
@@ -33,3 +33,6 @@ turns_is at p c b = ap (λ x. kind_piece x at) (sym (kind.rolls-While p c (Some 
 
 pub mark_is : (at : Span) (xs : List Var) → kind_piece (kind.Mark xs) at ≡ quiet (unset xs)
 mark_is at xs = ap (λ x. kind_piece x at) (sym (kind.rolls-Mark xs)) ∙ ap (λ f. f at) (fold-roll-StmtKind _ _ (kind_tree no_callees) (λ s. s.kind s.span) (StmtKind-F.Mark xs))
+
+pub for_is : (at : Span) (i : Var) (from : Expr) (down : Bool) (to : Expr) (b : List Stmt) → kind_piece (kind.For i from down to b) at ≡ each (record { counter = i; from = from; down = down; to = to; at = at }) (block no_callees b done)
+for_is at i from down to b = ap (λ x. kind_piece x at) (sym (kind.rolls-For i from down to b)) ∙ ap (λ f. f at) (fold-roll-StmtKind _ _ (kind_tree no_callees) (λ s. s.kind s.span) (StmtKind-F.For i from down to b))

@@ -1,5 +1,8 @@
 -- A function over variables keeps the runs, and is what the placing of variables asks.
-use Rattle.std.proofs.Common.{◌≡◌, List, map, sym, ap, subst}
+use Rattle.std.proofs.Common.{◌≡◌, ℕ, ◌*◌, ◌^◌, ◌<◌, ◌≤◌, List, length, map, sym, ap, subst, arith}
+use Rattle.std.specs.Prelude.{◌⊎◌}
+use Rattle.std.proofs.Common.{inl, inr}
+use Rattle.std.proofs.lemmas.Bool.{cases_lt}
 use Rattle.x64_insn.specs.declared.types.Place.{Place}
 use Rattle.jz_tree.specs.declared.program.Fun.{Fun}
 use Rattle.jz_type_names.specs.Scopes.{variables_of}
@@ -9,12 +12,14 @@ use Rattle.jz_change.specs.Views.{change_of}
 use Rattle.jz_correct.specs.Registers.{argument_registers, result_registers}
 use Rattle.jz_place.specs.declared.tree.Passed.{Passed}
 use Rattle.jz_place.specs.Bodies.{body_of}
-use Rattle.jz_codable.specs.Ready.{IsShort}
+use Rattle.jz_codable.specs.Ready.{parts_of, IsShort}
 use Rattle.jz_homes.specs.Homes.{IsHoming}
 use Rattle.jz_row_operations.specs.Bodies.{IsLowered}
 use Rattle.jz_row_operations.proofs.Bodies.{bodies_carry, bodies_have_cases}
 use Rattle.jz_lowered.specs.Functions.{ArePassed, AreKinds}
 use Rattle.jz_lowered.proofs.Coded.{functions_ready}
+use Rattle.jz_short.specs.Lengths.{statements_in}
+use Rattle.jz_short.proofs.Twice.{twice}
 use Rattle.jz_operands.specs.TableHomes.{homes_by, homes_of}
 use Rattle.jz_homing.specs.declared.homing.Homing.{Homing}
 use Rattle.jz_homing.specs.Tables.{Table, table_in, no_homes, frame_of}
@@ -25,7 +30,10 @@ use Rattle.jz_lowering.specs.declared.functions.LoweredFun.{LoweredFun}
 use Rattle.jz_lowering.specs.declared.parts.Lowered.{Lowered}
 use Rattle.jz_lowering.specs.Becoming.{no_callees, Becomes}
 use Rattle.jz_lowering.proofs.BecomingLemmas.{alone}
+use Rattle.jz_lowering.proofs.CodeOfParts.{covered_code, lowered_code, never_both}
 use Rattle.jz_lowering.proofs.FormLemmas.{plain_formed}
+use Rattle.jz_lowering.specs.Parts.{parts_in}
+use Rattle.jz_lowering.specs.Laws.{CoveredFunctionsHaveCode, LoweredFunctionsHaveCode}
 use Rattle.jz_lowering.specs.Functions.{plain_body, table_of, homes_for, all_places, IsFunctionLowered, KeepsRuns, KeepsCases, IsReadyFun, OnlyCovered}
 
 homing_for : (f : Fun) → IsHoming (frame_of (table_of f).stack) (homes_for f)
@@ -47,6 +55,31 @@ is_ready f l k h short = functions_ready (homes_for f) f (plain_body f) l.ir k h
 pub is_covered : (f : Fun) (l : LoweredFun) (k : Change) → IsFunctionLowered f l k → OnlyCovered f
 is_covered f l k h = lowered_covered (homes_for f) (plain_body f) (body_of l.ir.body) k h.lowered.body
 
+at_most_long : (a b : ℕ) → a ≤ 2 * b → b < 2 ^ 25 → a < 2 ^ 26
+at_most_long a b e f = omega (arith, e, f)
+
+-- what is not short is long in the source too, or has many variables
+pub is_long : (f : Fun) (l : LoweredFun) (k : Change) → IsFunctionLowered f l k → (IsShort l.ir → ⊥) → (2 ^ 25 ≤ statements_in (plain_body f)) ⊎ (2 ^ 32 ≤ length (table_of f).kinds)
+is_long f l k h none = by (cases_lt (statements_in (plain_body f)) (2 ^ 25)) (cases_lt (length (table_of f).kinds) (2 ^ 32))
+  where
+    by : (statements_in (plain_body f) < 2 ^ 25) ⊎ (2 ^ 25 ≤ statements_in (plain_body f)) → (length (table_of f).kinds < 2 ^ 32) ⊎ (2 ^ 32 ≤ length (table_of f).kinds) → (2 ^ 25 ≤ statements_in (plain_body f)) ⊎ (2 ^ 32 ≤ length (table_of f).kinds)
+    by (inr few) m = inl few
+    by (inl few) (inr many) = inr many
+    by (inl few) (inl many) = absurd (none (record {
+      count = subst (λ ks. length ks < 2 ^ 32) (sym h.kinds) many;
+      short = at_most_long (parts_of (body_of l.ir.body)) (statements_in (plain_body f)) (twice (homes_for f) (plain_body f) (body_of l.ir.body) k h.lowered.body) few;
+    }))
+
+pub covered_have_code : CoveredFunctionsHaveCode
+covered_have_code f at r p h first =
+    never_both (homes_for f) (parts_in (plain_body f)) at (covered_code (homes_for f) (frame_of (table_of f).stack) (homing_for f) (plain_body f) r p h) first
+
+pub lowered_have_code : LoweredFunctionsHaveCode
+lowered_have_code f l k at h first = never_both (homes_for f) (parts_in (plain_body f)) at (lowered_code (homes_for f) (plain_body f) (body_of l.ir.body) k h.lowered.body) first
+
+pub same_homes : (f : Fun) (h : Homing) → table_in h ≡ table_of f → homes_of h.homes ≡ homes_for f
+same_homes f h e = ap (λ (t : Table). homes_by t.entries) e
+
 pub function_is : (f : Fun) (h : Homing) (entry results : List Passed) (made : Lowered) (in_use : List Place) → table_in h ≡ table_of f → ArePassed (homes_of h.homes) argument_registers (map (λ p. p.var) f.params) entry
     → ArePassed (homes_of h.homes) result_registers f.result results → Becomes (homes_of h.homes) (block no_callees f.body) made.nodes made.steps → in_use ≡ all_places
     → IsFunctionLowered f (record {
@@ -55,7 +88,7 @@ pub function_is : (f : Fun) (h : Homing) (entry results : List Passed) (made : L
       change = record { steps = made.steps };
     }) (change_of (record { steps = made.steps }))
 function_is f h entry results made in_use e a r b places =
-    let same : homes_of h.homes ≡ homes_for f = ap (λ (t : Table). homes_by t.entries) e in
+    let same = same_homes f h e in
     let held : h.kinds ≡ (table_of f).kinds = ap (λ (t : Table). t.kinds) e in
     record {
       lowered = record {

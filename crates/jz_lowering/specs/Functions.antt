@@ -1,9 +1,10 @@
 -- A function as operations over variables.
-use Rattle.std.specs.Prelude.{◌≡◌, List, [], ◌∷◌}
+use Rattle.std.specs.Prelude.{◌≡◌, ◌≤◌, ◌^◌, ◌⊎◌, List, [], ◌∷◌, length, map}
 use Rattle.x64_insn.specs.declared.types.Place.{Place}
 use Rattle.x64_insn.specs.declared.types.Place.TheVariants as place
 use Rattle.x64_insn.specs.declared.types.Reg.TheVariants as reg
 use Rattle.x64_insn.specs.declared.types.Flag.TheVariants as flag
+use Rattle.jz_tree.specs.Span.{Span}
 use Rattle.jz_tree.specs.declared.program.Fun.{Fun}
 use Rattle.jz_type_names.specs.Scopes.{variables_of}
 use Rattle.jz_runs.specs.Trees.{done}
@@ -16,16 +17,21 @@ use Rattle.jz_change.specs.Changes.{Change}
 use Rattle.jz_pass.specs.Laws.{Carries}
 use Rattle.jz_pass.specs.Cases.{IsBetween, cases_of}
 use Rattle.jz_placing.specs.Variables.{variables}
+use Rattle.jz_place.specs.declared.tree.Passed.{Passed}
 use Rattle.jz_place.specs.Bodies.{body_of}
 use Rattle.jz_codable.specs.Ready.{IsReady}
 use Rattle.jz_homes.specs.Homes.{Homes}
 use Rattle.jz_row_operations.specs.Bodies.{beside}
-use Rattle.jz_lowered.specs.Functions.{IsLoweredFun}
+use Rattle.jz_lowered.specs.Functions.{ArePassed, IsLoweredFun}
+use Rattle.jz_short.specs.Lengths.{statements_in}
 use Rattle.jz_operands.specs.TableHomes.{homes_by}
 use Rattle.jz_homing.specs.Tables.{Table, no_homes, with_vars, frame_of}
+use Rattle.jz_homing.specs.Refusals.{IsHomeless}
 use Rattle.jz_total_rows.specs.Bodies.{IsCoveredBody}
 use Rattle.jz_lowering.specs.declared.functions.LoweredFun.{LoweredFun}
 use Rattle.jz_lowering.specs.Becoming.{no_callees}
+use Rattle.jz_lowering.specs.Parts.{parts_in, IsFirstWithout}
+use Rattle.jz_lowering.specs.Passing.{IsFirstUnpassed}
 
 -- the body of a function in which no call is left
 abbrev pub plain_body : Fun → Block
@@ -71,3 +77,24 @@ IsReadyFun l = IsReady l.ir
 -- each of its statements is one of which there are operations, and each of its tests a comparison
 abbrev pub OnlyCovered : Fun → Type 0
 OnlyCovered f = IsCoveredBody (plain_body f)
+
+-- ---- why a function is refused, where what comes before is there
+pub data Refuses (f : Fun) : Span → Type 0 where
+  no_home : {at : Span} → IsHomeless no_homes (variables_of f) at → Refuses f at
+  no_argument :
+      {at : Span}
+      → IsFirstUnpassed (homes_for f) argument_registers (map (λ p. p.var) f.params) at
+      → Refuses f at
+  no_result :
+      {at : Span} (ps : List Passed)
+      → ArePassed (homes_for f) argument_registers (map (λ p. p.var) f.params) ps
+      → IsFirstUnpassed (homes_for f) result_registers f.result at → Refuses f at
+  no_operations :
+      {at : Span} (ps rs : List Passed)
+      → ArePassed (homes_for f) argument_registers (map (λ p. p.var) f.params) ps
+      → ArePassed (homes_for f) result_registers f.result rs
+      → IsFirstWithout (homes_for f) (parts_in (plain_body f)) at → Refuses f at
+  -- it has 2^25 statements or more, those in branches and loops too, or 2^32 variables
+  too_long :
+      (2 ^ 25 ≤ statements_in (plain_body f)) ⊎ (2 ^ 32 ≤ length (table_of f).kinds)
+      → Refuses f f.span

@@ -1,5 +1,5 @@
 -- What the code makes of parts of statements.
-use Rattle.std.specs.Prelude.{Bool, List, [], ◌∷◌, ◌++◌, Option, Some, None}
+use Rattle.std.specs.Prelude.{◌≡◌, Bool, List, [], ◌∷◌, ◌++◌, Option, Some, None, Result, Ok, Err}
 use Rattle.jz_tree.specs.Span.{Span}
 use Rattle.jz_tree.specs.declared.expr.Expr.{Expr}
 use Rattle.jz_tree.specs.declared.stmt.StmtKind.{StmtKind}
@@ -16,6 +16,7 @@ use Rattle.jz_place.specs.Bodies.{asked_of}
 use Rattle.jz_homes.specs.Homes.{Homes}
 use Rattle.jz_row_operations.specs.Codes.{plain}
 use Rattle.jz_row_operations.specs.Lowering.{condition_shown, LowersTest, LowersLoopTest}
+use Rattle.jz_total_rows.specs.Laws.{HasTest, HasLoopTest}
 use Rattle.jz_operands.specs.TableHomes.{leaks_of}
 use Rattle.jz_rows.specs.declared.row.Act.{Act}
 use Rattle.jz_rows.specs.declared.row.Row.{Row}
@@ -56,6 +57,15 @@ IsTest home at e a = LowersTest home (record { cond = e; at = at }) (asked_of a.
 abbrev pub IsLoopTest : Homes → Span → Expr → Asking → Type 0
 IsLoopTest home at e a =
     LowersLoopTest home (record { cond = e; at = at }) (asked_of a.test) a.item
+
+-- the test, or it is refused where its statement stands
+abbrev pub TestOr : Homes → Span → Expr → Result Asking Span → Type 0
+TestOr home at e (Ok a) = IsTest home at e a
+TestOr home at e (Err s) = (s ≡ at) × (HasTest home (record { cond = e; at = at }) → ⊥)
+
+abbrev pub LoopTestOr : Homes → Span → Expr → Result Asking Span → Type 0
+LoopTestOr home at e (Ok a) = IsLoopTest home at e a
+LoopTestOr home at e (Err s) = (s ≡ at) × (HasLoopTest home (record { cond = e; at = at }) → ⊥)
 
 -- ---- branches and loops
 abbrev pub branch_lowered : Asking → Lowered → Lowered → Lowered

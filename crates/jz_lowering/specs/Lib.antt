@@ -1,4 +1,7 @@
 pub mod Becoming
+pub mod Parts
 pub mod InnerParts
+pub mod Passing
 pub mod InnerPassing
 pub mod Functions
+pub mod Laws

@@ -1,10 +1,11 @@
 //! Whole functions.
 
-ghost use Rattle.std.specs.Prelude.{◌≡◌, IfOk};
+ghost use Rattle.std.specs.Prelude.{◌≡◌, IfOk, IfErr};
+ghost use Rattle.jz_tree.specs.Failures.{IfRefused};
 ghost use Rattle.jz_change.specs.Views.{change_of};
-ghost use Rattle.jz_correct.specs.Registers.{argument_registers, result_registers};
 ghost use Rattle.jz_lowering.specs.Functions.{IsFunctionLowered, KeepsRuns, KeepsCases};
-ghost use Rattle.jz_lowering.specs.Functions.{IsReadyFun, OnlyCovered, all_places as twenty};
+ghost use Rattle.jz_lowering.specs.Functions.{IsReadyFun, OnlyCovered, Refuses};
+ghost use Rattle.jz_lowering.specs.Functions.{all_places as twenty};
 
 use crate::parts::Lowered;
 use crate::passing::{pass_params, pass_results};
@@ -66,15 +67,15 @@ fn all_places(alloc: Global) -> Result<Seq<Place>, AllocError>
 /// functions that the expansion has left: without calls, loops of known bounds and inline
 /// variables. Refused, at its place, where a statement or a test is not covered (a flag result, a
 /// pair of words, a quotient, a condition that is no comparison, an instruction), where a variable
-/// has no home, and where a parameter or a result has no register; and at the function's name, where it
-/// has 2^32 variables or more, or 2^26 operations, branches and loops. The stack grows with the
-/// nesting of the text.
+/// has no home, and where a parameter or a result has no register; and at the function's name,
+/// where it has 2^25 statements or more. The stack grows with the nesting of the text.
 pub fn lower(alloc: Global, fun: &Fun) -> Result<LoweredFun, Failure<Span>>
     ensures made { IfOk result (λ l. IsFunctionLowered fun.now l (change_of l.change)) }
     ensures law { IfOk result (λ l. KeepsRuns fun.now l (change_of l.change)) }
     ensures cases { IfOk result (λ l. KeepsCases fun.now l (change_of l.change)) }
     ensures ready { IfOk result IsReadyFun }
     ensures covered { IfOk result (λ l. OnlyCovered fun.now) }
+    ensures refused { IfErr result (λ failure. IfRefused failure (Refuses fun.now)) }
 {
     let lowered = lower_function(alloc, fun)?;
     if !is_short(&lowered.ir) {
@@ -84,7 +85,8 @@ pub fn lower(alloc: Global, fun: &Fun) -> Result<LoweredFun, Failure<Span>>
 }
 
 fn lower_function(alloc: Global, fun: &Fun) -> Result<LoweredFun, Failure<Span>>
-    ensures { IfOk result (λ l. IsFunctionLowered fun.now l (change_of l.change)) }
+    ensures made { IfOk result (λ l. IsFunctionLowered fun.now l (change_of l.change)) }
+    ensures refused { IfErr result (λ failure. IfRefused failure (Refuses fun.now)) }
 {
     let table = homing_of(alloc, fun)?;
     let Homing {

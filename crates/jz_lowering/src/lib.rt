@@ -2,6 +2,7 @@
 #![tactic(auto)]
 
 mod functions;
+mod laws;
 mod operations;
 mod parts;
 mod passing;
@@ -9,5 +10,6 @@ mod statements;
 
 pub use functions::{LoweredFun, lower};
 pub use jz_pass::{Change, Step};
+pub use laws::functions_have_code;
 pub use parts::Lowered;
 pub use statements::lower_block;

@@ -1,8 +1,9 @@
 //! Statements, of what the bodies in them have become.
 
 ghost use Rattle.std.specs.Prelude.{◌≡◌, ◌∷◌, [], IfOk};
+ghost use Rattle.jz_tree.specs.Failures.{IfAnswered};
 ghost use Rattle.jz_operands.specs.TableHomes.{homes_of};
-ghost use Rattle.jz_lowering.specs.InnerParts.{branch_lowered, loop_lowered, IsTest, IsLoopTest};
+ghost use Rattle.jz_lowering.specs.InnerParts.{branch_lowered, loop_lowered, TestOr, LoopTestOr};
 ghost use Rattle.jz_lowering.specs.InnerParts.{asking_of, always_asking};
 
 use crate::operations::{numbers, operation};
@@ -72,7 +73,7 @@ pub(crate) fn test_at(
     span: Span,
     cond: &Expr,
 ) -> Result<Asking, Failure<Span>>
-    ensures { IfOk result (IsTest (homes_of homes.now) span cond.now) }
+    ensures { IfAnswered result (TestOr (homes_of homes.now) span cond.now) }
 {
     match compared(homes, cond) {
         None => Err(Failure::Refused(span)),
@@ -99,7 +100,7 @@ pub(crate) fn loop_test_at(
     span: Span,
     cond: &Expr,
 ) -> Result<Asking, Failure<Span>>
-    ensures { IfOk result (IsLoopTest (homes_of homes.now) span cond.now) }
+    ensures { IfAnswered result (LoopTestOr (homes_of homes.now) span cond.now) }
 {
     match cond {
         Expr::Bool(truth, _) => {

@@ -1,9 +1,11 @@
 //! Parameters and results in their registers.
 
-ghost use Rattle.std.specs.Prelude.{◌≡◌, IfOk, IfSome, OnOk, map};
+ghost use Rattle.std.specs.Prelude.{◌≡◌, IfErr, OnOk, length, map};
+ghost use Rattle.jz_tree.specs.Failures.{IfAnswered, IfRefused};
 ghost use Rattle.jz_meaning.specs.Values.{ref_of};
-ghost use Rattle.jz_lowered.specs.Functions.{ArePassed};
 ghost use Rattle.jz_operands.specs.TableHomes.{homes_of};
+ghost use Rattle.jz_operands.specs.Refusals.{FindsOr};
+ghost use Rattle.jz_lowering.specs.Passing.{IsNoWord, CannotPass, PassedOr};
 ghost use Rattle.jz_lowering.specs.InnerPassing.{IsPassed, PassesNext};
 
 use jz_operands::{Home, Homes};
@@ -21,7 +23,8 @@ fn place_of(var: &Var) -> Span
 
 /// A word's variable in a register, where the text names it.
 fn passed_in(homes: &Homes, var: &Var, reg: Reg) -> Option<Passed>
-    ensures { IfSome result (IsPassed (homes_of homes.now) var.now reg) }
+    ensures { let home = homes_of homes.now in
+        FindsOr result (IsPassed home var.now reg) (IsNoWord home var.now) }
 {
     let span = place_of(var);
     match homes.scalar(var) {
@@ -43,8 +46,11 @@ fn pass_next(
     var: &Var,
     passed: &mut Seq<Passed>,
 ) -> Result<(), Failure<Span>>
-    ensures { OnOk result (PassesNext (homes_of homes.now) regs.now var.now passed.old
+    ensures passed { OnOk result (PassesNext (homes_of homes.now) regs.now var.now passed.old
         passed.new) }
+    ensures refused { IfErr result (λ failure. IfRefused failure
+        (λ at. (at ≡ (ref_of var.now).span)
+        × CannotPass (homes_of homes.now) regs.now (length passed.old) var.now)) }
 {
     match regs.get(passed.len()) {
         None => Err(Failure::Refused(var.span)),
@@ -64,7 +70,8 @@ pub(crate) fn pass_params(
     regs: &[Reg],
     params: &Seq<Param>,
 ) -> Result<Seq<Passed>, Failure<Span>>
-    ensures { IfOk result (ArePassed (homes_of homes.now) regs.now (map (λ p. p.var) params.now)) }
+    ensures { IfAnswered result (PassedOr (homes_of homes.now) regs.now
+        (map (λ p. p.var) params.now)) }
 {
     let mut passed = Seq::new(alloc);
     for param in params.as_slice() {
@@ -79,7 +86,7 @@ pub(crate) fn pass_results(
     regs: &[Reg],
     vars: &Seq<Var>,
 ) -> Result<Seq<Passed>, Failure<Span>>
-    ensures { IfOk result (ArePassed (homes_of homes.now) regs.now vars.now) }
+    ensures { IfAnswered result (PassedOr (homes_of homes.now) regs.now vars.now) }
 {
     let mut passed = Seq::new(alloc);
     for var in vars.as_slice() {

@@ -1,9 +1,12 @@
 //! Statements as operations.
 
 ghost use Rattle.std.specs.Prelude.{IfOk};
+ghost use Rattle.jz_tree.specs.Failures.{IfAnswered};
+ghost use Rattle.jz_runs.specs.Trees.{done};
 ghost use Rattle.jz_meaning.specs.Runs.{block, statement_tree, assign_tree};
 ghost use Rattle.jz_operands.specs.TableHomes.{homes_of};
 ghost use Rattle.jz_lowering.specs.Becoming.{no_callees, Becomes};
+ghost use Rattle.jz_lowering.specs.Parts.{parts_in, HaveCode};
 ghost use Rattle.jz_lowering.specs.InnerParts.{kind_piece};
 
 use crate::operations::row_at;
@@ -30,8 +33,10 @@ fn lower_assign(
     rhs: &Rhs,
     cond: &Option<Expr>,
 ) -> Result<Lowered, Failure<Span>>
-    ensures { IfOk result (λ made. Becomes (homes_of lowerer.now.homes.now)
+    ensures made { IfOk result (λ made. Becomes (homes_of lowerer.now.homes.now)
         (assign_tree no_callees to.now op rhs.now cond.now span) made.nodes made.steps) }
+    ensures code { IfAnswered result (HaveCode (homes_of lowerer.now.homes.now)
+        (parts_in (assign_tree no_callees to.now op rhs.now cond.now span done))) }
 {
     match rhs {
         Rhs::Value(value) => {
@@ -51,8 +56,10 @@ fn lower_assign(
 
 #[cycle(lowering)]
 fn lower_all(lowerer: &Lowerer<'_>, stmts: &Seq<Stmt>) -> Result<Lowered, Failure<Span>>
-    ensures { IfOk result (λ made. Becomes (homes_of lowerer.now.homes.now)
+    ensures made { IfOk result (λ made. Becomes (homes_of lowerer.now.homes.now)
         (block no_callees stmts.now) made.nodes made.steps) }
+    ensures code { IfAnswered result (HaveCode (homes_of lowerer.now.homes.now)
+        (parts_in (block no_callees stmts.now done))) }
 {
     let mut nodes = Seq::new(lowerer.alloc);
     let mut steps = Seq::new(lowerer.alloc);
@@ -70,8 +77,10 @@ fn lower_all(lowerer: &Lowerer<'_>, stmts: &Seq<Stmt>) -> Result<Lowered, Failur
 
 #[cycle(lowering)]
 fn lower_statement(lowerer: &Lowerer<'_>, stmt: &Stmt) -> Result<Lowered, Failure<Span>>
-    ensures { IfOk result (λ made. Becomes (homes_of lowerer.now.homes.now)
+    ensures made { IfOk result (λ made. Becomes (homes_of lowerer.now.homes.now)
         (statement_tree no_callees stmt.now) made.nodes made.steps) }
+    ensures code { IfAnswered result (HaveCode (homes_of lowerer.now.homes.now)
+        (parts_in (statement_tree no_callees stmt.now done))) }
 {
     let made = lower_kind(lowerer, stmt.span, &stmt.kind)?;
     Ok(made)
@@ -79,8 +88,10 @@ fn lower_statement(lowerer: &Lowerer<'_>, stmt: &Stmt) -> Result<Lowered, Failur
 
 #[cycle(lowering)]
 fn lower_kind(lowerer: &Lowerer<'_>, span: Span, kind: &StmtKind) -> Result<Lowered, Failure<Span>>
-    ensures { IfOk result (λ made. Becomes (homes_of lowerer.now.homes.now)
+    ensures made { IfOk result (λ made. Becomes (homes_of lowerer.now.homes.now)
         (kind_piece kind.now span) made.nodes made.steps) }
+    ensures code { IfAnswered result (HaveCode (homes_of lowerer.now.homes.now)
+        (parts_in (kind_piece kind.now span done))) }
 {
     match kind {
         StmtKind::Assign { to, op, rhs, cond } => {
@@ -126,15 +137,18 @@ fn lower_kind(lowerer: &Lowerer<'_>, span: Span, kind: &StmtKind) -> Result<Lowe
 }
 
 /// The operations of statements that the expansion has left, in their order, with the steps of the
-/// change. Refused, at its place, where a statement has no row, or a test is no comparison; and of
-/// a call, of an instruction and of a `for`. The stack grows with the nesting of the text.
+/// change. Refused, at the place of the first, where a statement has no row, or a test is no
+/// comparison; and of a call, of an instruction and of a `for`. The stack grows with the nesting of
+/// the text.
 pub fn lower_block(
     alloc: Global,
     homes: &Homes,
     stmts: &Seq<Stmt>,
 ) -> Result<Lowered, Failure<Span>>
-    ensures { IfOk result (λ made. Becomes (homes_of homes.now) (block no_callees stmts.now)
+    ensures made { IfOk result (λ made. Becomes (homes_of homes.now) (block no_callees stmts.now)
         made.nodes made.steps) }
+    ensures code { IfAnswered result (HaveCode (homes_of homes.now)
+        (parts_in (block no_callees stmts.now done))) }
 {
     let lowerer = Lowerer { alloc, homes };
     let made = lower_all(&lowerer, stmts)?;

@@ -1,4 +1,9 @@
 pub mod ArgLemmas
 pub mod BringLemmas
+pub mod FieldLemmas
+pub mod RowRules
+pub mod Dispatch
 pub mod RowLemmas
+pub mod FoundRows
 pub mod SettingLemmas
+pub mod SettingRefusals

@@ -1,8 +1,8 @@
 -- Each row, of the operands that were found.
-use Rattle.std.proofs.Common.{◌≡◌, ℕ, ◌<◌, ◌≤◌, Bool, true, false, [], ◌∷◌, ◌++◌, Option, Some, None, sym, ap, ◌∙◌, subst, ℤ, pos}
+use Rattle.std.proofs.Common.{◌≡◌, ℕ, ◌<◌, ◌≤◌, Bool, true, false, [], ◌∷◌, ◌++◌, Option, Some, None, refl, sym, ap, ◌∙◌, subst, ℤ, pos}
 use Rattle.std.specs.Prelude.{not, ◌&&◌}
 use Rattle.jz_words.specs.declared.size.Size.{Size}
-use Rattle.jz_words.specs.declared.size.Size.TheVariants.{S8}
+use Rattle.jz_words.specs.declared.size.Size.TheVariants.{S8, S16, S32, S64}
 use Rattle.jz_words.specs.Sizes.{bits_of}
 use Rattle.x64_insn.specs.declared.types.Alu.{Alu}
 use Rattle.x64_insn.specs.declared.types.One.{One}
@@ -70,6 +70,15 @@ number_is {home} {z} {e} x i h f g = subst (λ b. IsArg home z e b silent) f (su
 
 pub word_at : (home : Homes) (x : Var) (n : ℕ) (y z : Size) → home (key_of (ref_of x)) ≡ scalar_home (Some (Word n y)) → same_size y z ≡ true → home (key_of (ref_of x)) ≡ Some (in_register n z)
 word_at home x n y z h e = h ∙ ap (λ s. Some (in_register n s)) (size_one y z e)
+
+size_same : (z : Size) → same_size z z ≡ true
+size_same S8 = refl
+size_same S16 = refl
+size_same S32 = refl
+size_same S64 = refl
+
+pub size_differs : (y z : Size) → same_size y z ≡ false → y ≡ z → ⊥
+size_differs y z e f = let s : same_size y z ≡ true = subst (λ x. same_size y x ≡ true) f (size_same y) in absurd cc
 
 -- an action behind what was brought
 abbrev pub row_behind : Brought → Action → Row

@@ -1,8 +1,8 @@
 -- Rows of statements.
-use Rattle.std.proofs.Common.{◌≡◌, ℕ, ◌+◌, List, [], ◌∷◌, map, Option, Some, None, refl, sym, ap, ◌∙◌, subst}
-use Rattle.std.specs.Prelude.{All}
+use Rattle.std.proofs.Common.{◌≡◌, ℕ, ◌+◌, Bool, List, [], ◌∷◌, map, Option, Some, None, refl, sym, ap, ◌∙◌, subst}
+use Rattle.std.specs.Prelude.{All, IsTrue, ◌↔◌}
 use Rattle.std.specs.Option.{option_or}
-use Rattle.std.proofs.lemmas.List.Elements.{All-nil, All-cons}
+use Rattle.std.proofs.lemmas.List.Elements.{All-nil, All-cons, All-head}
 use Rattle.jz_words.specs.declared.size.Size.{Size}
 use Rattle.x64_insn.specs.declared.types.Cond.{Cond}
 use Rattle.jz_tree.specs.Span.{Span}
@@ -19,7 +19,7 @@ use Rattle.jz_operations.specs.declared.operation.Condition.TheVariants as condi
 use Rattle.jz_operations.specs.declared.operation.Action.{Action}
 use Rattle.jz_operations.specs.declared.operation.Action.TheVariants as action
 use Rattle.jz_meaning.specs.Statements.{assign}
-use Rattle.jz_encodable.specs.Encodable.{CanEncode}
+use Rattle.jz_encodable.specs.Encodable.{can_encode, CanEncode}
 use Rattle.jz_change.specs.declared.change.Numbers.TheVariants.{These}
 use Rattle.jz_homes.specs.Homes.{Homes, in_register}
 use Rattle.jz_homes.specs.Operands.{count_of, IsArg}
@@ -43,9 +43,14 @@ one_can a h = All-cons CanEncode a.action [] h (All-nil CanEncode)
 pub alone_can : (r : Row) → r.before ≡ None → CanEncode r.last.action → All CanEncode (acts_of r)
 alone_can r e h = subst (λ b. All CanEncode (acts_of (record { before = b; last = r.last }))) (sym e) (one_can r.last h)
 
-pub both_can : (r : Row) (a : Act) → r.before ≡ Some a → CanEncode a.action → CanEncode r.last.action → All CanEncode (acts_of r)
-both_can r a e h k =
-    subst (λ b. All CanEncode (acts_of (record { before = b; last = r.last }))) (sym e) (All-cons CanEncode a.action (r.last.action ∷ []) h (one_can r.last k))
+can_first : (a : Action) (rest : List Action) → All CanEncode (a ∷ rest) → CanEncode a
+can_first a rest h = All-head CanEncode a rest h
+
+pub alone_encodes : (r : Row) (b : Bool) → r.before ≡ None → b ≡ can_encode r.last.action → IsTrue b ↔ All CanEncode (acts_of r)
+alone_encodes r b e is = (
+  λ t. alone_can r e (sym is ∙ t),
+  λ all. is ∙ can_first r.last.action [] (subst (λ o. All CanEncode (acts_of (record { before = o; last = r.last }))) e all),
+)
 
 -- ---- `to = value` and `to op= value`
 lasting_plain : (at : Span) (acts : List Action) → lasting at no_flag acts ≡ map (plain at) acts

@@ -1,6 +1,7 @@
 -- Rows as values: their actions, and the numbers that each of them shows.
 use Rattle.std.specs.Prelude.{ℕ, List, [], ◌∷◌, ◌++◌, map, Option, Some, None}
 use Rattle.jz_tree.specs.Span.{Span}
+use Rattle.x64_insn.specs.declared.types.Cond.{Cond}
 use Rattle.jz_tree.specs.declared.expr.BinOp.{BinOp}
 use Rattle.jz_tree.specs.declared.expr.Expr.{Expr}
 use Rattle.jz_tree.specs.declared.stmt.Lval.{Lval}
@@ -12,6 +13,7 @@ use Rattle.jz_change.specs.declared.change.Number.TheVariants.{Nth}
 use Rattle.jz_change.specs.declared.change.Numbers.{Numbers}
 use Rattle.jz_change.specs.declared.change.Numbers.TheVariants.{These}
 use Rattle.jz_homes.specs.Homes.{Homes}
+use Rattle.jz_homes.specs.Operands.{Leaks}
 use Rattle.jz_row_operations.specs.Codes.{plain}
 use Rattle.jz_row_operations.specs.Lowering.{IsCompared, Lowers}
 use Rattle.jz_operands.specs.TableHomes.{leaks_of}
@@ -57,3 +59,13 @@ Compares home e c =
 abbrev pub IsRowOf : Homes → List Lval → Option BinOp → Expr → Option Expr → Row → Type 0
 IsRowOf home to o e c r =
     (at : Span) → Lowers home (assign to o e c at) (operations_at at r) (items_of r)
+
+-- ---- what has no row
+abbrev pub NeverCompares : Homes → Expr → Type 0
+NeverCompares home e =
+    (at : Span) (o : Operation) (c : Cond) (p q : Leaks) → IsCompared home at e o c p q → ⊥
+
+abbrev pub NeverLowers : Homes → List Lval → Option BinOp → Expr → Option Expr → Type 0
+NeverLowers home to o e c =
+    (at : Span) (os : List Operation) (is : List Numbers)
+    → Lowers home (assign to o e c at) os is → ⊥

@@ -1,12 +1,15 @@
 //! The row of an assignment of one left side, form by form.
 
-ghost use Rattle.std.specs.Prelude.{◌≡◌, IfSome, pos};
+ghost use Rattle.std.specs.Prelude.{◌≡◌, false, pos};
 ghost use Rattle.jz_tree.specs.Span.{Span};
 ghost use Rattle.jz_tree.specs.declared.expr.BinOp.TheVariants.{And, Mul};
 ghost use Rattle.jz_tree.specs.declared.expr.Expr.{Expr as Tree};
 ghost use Rattle.jz_tree.specs.declared.expr.Expr.TheVariants as expr;
 ghost use Rattle.jz_row_operations.specs.Rows.{IsSign, mask_of as mask_at};
-ghost use Rattle.jz_rows.specs.InnerRows.{IsRow};
+ghost use Rattle.jz_rows.specs.Refusals.{FindsOr};
+ghost use Rattle.jz_rows.specs.InnerRows.{IsRow, NeverBy, NeverRow, Moves, Sums, Carries, Signs};
+ghost use Rattle.jz_rows.specs.InnerRows.{Times, TimesBy, Shifts, ShiftsBy, Extends, Lowest};
+ghost use Rattle.jz_words.specs.Readings.{fits_bytes};
 
 use crate::args::{are_imm, is_imm};
 use crate::bringing::{NOTHING, bring, count, told};
@@ -26,7 +29,7 @@ use x64_insn::One;
 /// `d = o`.
 #[tactic(auto, using(crate::proofs::RowLemmas::move_is))]
 fn move_row(target: &Target<'_>, value: &Expr) -> Option<Row>
-    ensures { IfSome result (IsRow target.now value.now) }
+    ensures { FindsOr result (IsRow target.now value.now) (NeverBy Moves target.now value.now) }
 {
     let from = target.operand(value)?;
     let to = target.destination()?;
@@ -45,8 +48,8 @@ fn move_row(target: &Target<'_>, value: &Expr) -> Option<Row>
 
 /// `d = a op o`, op one of `+ - & | ^`.
 fn sum_row(target: &Target<'_>, op: BinOp, first: &Expr, second: &Expr) -> Option<Row>
-    ensures { (at : Span) → IfSome result (IsRow target.now
-        (expr.Bin op first.now second.now at)) }
+    ensures { (at : Span) → let e = expr.Bin op first.now second.now at in
+        FindsOr result (IsRow target.now e) (NeverBy Sums target.now e) }
 {
     let alu = alu_of(op)?;
     let x = target.operand(first)?;
@@ -68,8 +71,9 @@ fn sum_row(target: &Target<'_>, op: BinOp, first: &Expr, second: &Expr) -> Optio
 
 /// `d = a + o + c`, `d = a - o - c`, c a flag.
 fn carry_row(target: &Target<'_>, op: BinOp, first: &Expr, second: &Expr, flag: &Var) -> Option<Row>
-    ensures { (inner at : Span) → IfSome result (IsRow target.now
-        (expr.Bin op (expr.Bin op first.now second.now inner) (expr.Var flag.now) at)) }
+    ensures { (inner at : Span) → let sum = expr.Bin op first.now second.now inner in
+        let e = expr.Bin op sum (expr.Var flag.now) at in
+        FindsOr result (IsRow target.now e) (NeverBy Carries target.now e) }
 {
     let alu = carry_of(op)?;
     let carry = flag_in(target.homes, flag)?;
@@ -98,8 +102,9 @@ fn flagged_row(
     second: &Expr,
     last: &Expr,
 ) -> Option<Row>
-    ensures { (inner at : Span) → IfSome result (IsRow target.now
-        (expr.Bin op (expr.Bin op first.now second.now inner) last.now at)) }
+    ensures { (inner at : Span) → let sum = expr.Bin op first.now second.now inner in
+        let e = expr.Bin op sum last.now at in
+        FindsOr result (IsRow target.now e) (NeverBy Carries target.now e) }
 {
     match last {
         Expr::Var(flag) => carry_row(target, op, first, second, flag),
@@ -109,7 +114,8 @@ fn flagged_row(
 
 /// `- !` of one operand.
 fn sign_row(target: &Target<'_>, op: One, operand: &Expr) -> Option<Row>
-    ensures { (e : Tree) → IsSign op e operand.now → IfSome result (IsRow target.now e) }
+    ensures { (e : Tree) → IsSign op e operand.now →
+        FindsOr result (IsRow target.now e) (NeverBy Signs target.now e) }
 {
     let x = target.operand(operand)?;
     if is_imm(x.arg) {
@@ -128,8 +134,8 @@ fn sign_row(target: &Target<'_>, op: One, operand: &Expr) -> Option<Row>
 
 /// `r = a * o`, o no number.
 fn times_row(target: &Target<'_>, first: &Expr, second: &Expr) -> Option<Row>
-    ensures { (at : Span) → IfSome result (IsRow target.now
-        (expr.Bin Mul first.now second.now at)) }
+    ensures { (at : Span) → let e = expr.Bin Mul first.now second.now at in
+        FindsOr result (IsRow target.now e) (NeverBy Times target.now e) }
 {
     if !is_wide(target.size) {
         return None;
@@ -153,7 +159,7 @@ fn times_row(target: &Target<'_>, first: &Expr, second: &Expr) -> Option<Row>
 
 /// A number of 32 bits.
 fn narrow(number: i64) -> Option<i32>
-    ensures { IfSome result (λ n. n ≡ number) }
+    ensures { FindsOr result (λ n. n ≡ number) (fits_bytes 4 number ≡ false) }
 {
     if fits_four_bytes(i128::from(number)) {
         Some(number as i32)
@@ -164,8 +170,8 @@ fn narrow(number: i64) -> Option<i32>
 
 /// `r = a * c`, c a number.
 fn times_by_row(target: &Target<'_>, first: &Expr, second: &Expr) -> Option<Row>
-    ensures { (at : Span) → IfSome result (IsRow target.now
-        (expr.Bin Mul first.now second.now at)) }
+    ensures { (at : Span) → let e = expr.Bin Mul first.now second.now at in
+        FindsOr result (IsRow target.now e) (NeverBy TimesBy target.now e) }
 {
     if !is_wide(target.size) {
         return None;
@@ -191,8 +197,9 @@ fn times_by_row(target: &Target<'_>, first: &Expr, second: &Expr) -> Option<Row>
 }
 
 fn product_row(target: &Target<'_>, first: &Expr, second: &Expr) -> Option<Row>
-    ensures { (at : Span) → IfSome result (IsRow target.now
-        (expr.Bin Mul first.now second.now at)) }
+    ensures { (at : Span) → let e = expr.Bin Mul first.now second.now at in
+        FindsOr result (IsRow target.now e)
+        (NeverBy Times target.now e × NeverBy TimesBy target.now e) }
 {
     match times_by_row(target, first, second) {
         Some(row) => Some(row),
@@ -202,8 +209,8 @@ fn product_row(target: &Target<'_>, first: &Expr, second: &Expr) -> Option<Row>
 
 /// `d = a sh c`, c a number below the size.
 fn shift_by_number(target: &Target<'_>, op: BinOp, first: &Expr, number: i128) -> Option<Row>
-    ensures { (there at : Span) → IfSome result (IsRow target.now
-        (expr.Bin op first.now (expr.Num number there) at)) }
+    ensures { (there at : Span) → let e = expr.Bin op first.now (expr.Num number there) at in
+        FindsOr result (IsRow target.now e) (NeverBy Shifts target.now e) }
 {
     let kind = shift_of(op)?;
     let places = count_in(number, target.size)?;
@@ -224,9 +231,10 @@ fn shift_by_number(target: &Target<'_>, op: BinOp, first: &Expr, number: i128) -
 
 /// `d = a sh (v & k)`, v a byte.
 fn shift_by_variable(target: &Target<'_>, op: BinOp, first: &Expr, var: &Var) -> Option<Row>
-    ensures { (there inner at : Span) → IfSome result (IsRow target.now (expr.Bin op first.now
-        (expr.Bin And (expr.Var var.now) (expr.Num (pos (mask_at target.now.size)) there) inner)
-        at)) }
+    ensures { (there inner at : Span) →
+        let mask = expr.Num (pos (mask_at target.now.size)) there in
+        let e = expr.Bin op first.now (expr.Bin And (expr.Var var.now) mask inner) at in
+        FindsOr result (IsRow target.now e) (NeverBy ShiftsBy target.now e) }
 {
     let kind = shift_of(op)?;
     let places = byte_in(target.homes, var)?;
@@ -254,8 +262,9 @@ fn shift_masked(
     var: &Expr,
     mask: &Expr,
 ) -> Option<Row>
-    ensures { (inner at : Span) → IfSome result (IsRow target.now (expr.Bin op first.now
-        (expr.Bin And var.now mask.now inner) at)) }
+    ensures { (inner at : Span) →
+        let e = expr.Bin op first.now (expr.Bin And var.now mask.now inner) at in
+        FindsOr result (IsRow target.now e) (NeverBy ShiftsBy target.now e) }
 {
     match var {
         Expr::Var(var) => match mask {
@@ -273,8 +282,9 @@ fn shift_masked(
 }
 
 fn shift_row(target: &Target<'_>, op: BinOp, first: &Expr, second: &Expr) -> Option<Row>
-    ensures { (at : Span) → IfSome result (IsRow target.now
-        (expr.Bin op first.now second.now at)) }
+    ensures { (at : Span) → let e = expr.Bin op first.now second.now at in
+        FindsOr result (IsRow target.now e)
+        (NeverBy Shifts target.now e × NeverBy ShiftsBy target.now e) }
 {
     match second {
         Expr::Num(number, _) => shift_by_number(target, op, first, *number),
@@ -288,8 +298,8 @@ fn shift_row(target: &Target<'_>, op: BinOp, first: &Expr, second: &Expr) -> Opt
 
 /// `r = (tu)o`, `r = (ts)o`, o smaller.
 fn extend_row(target: &Target<'_>, signed: bool, operand: &Expr) -> Option<Row>
-    ensures { (at : Span) → IfSome result (IsRow target.now
-        (expr.Cast target.now.size signed operand.now at)) }
+    ensures { (at : Span) → let e = expr.Cast target.now.size signed operand.now at in
+        FindsOr result (IsRow target.now e) (NeverBy Extends target.now e) }
 {
     let from = own_size(operand)?;
     if !is_below(from, target.size) {
@@ -320,8 +330,8 @@ fn extend_row(target: &Target<'_>, signed: bool, operand: &Expr) -> Option<Row>
 
 /// `r = (tu)a`, a in a register of the same size or a larger one.
 fn lowest_row(target: &Target<'_>, operand: &Expr) -> Option<Row>
-    ensures { (at : Span) → IfSome result (IsRow target.now
-        (expr.Cast target.now.size (Rattle.std.specs.Prelude.false) operand.now at)) }
+    ensures { (at : Span) → let e = expr.Cast target.now.size false operand.now at in
+        FindsOr result (IsRow target.now e) (NeverBy Lowest target.now e) }
 {
     let from = own_size(operand)?;
     if is_below(from, target.size) {
@@ -343,8 +353,9 @@ fn lowest_row(target: &Target<'_>, operand: &Expr) -> Option<Row>
 }
 
 fn cast_row(target: &Target<'_>, size: Size, signed: bool, operand: &Expr) -> Option<Row>
-    ensures { (at : Span) → IfSome result (IsRow target.now
-        (expr.Cast size signed operand.now at)) }
+    ensures { (at : Span) → let e = expr.Cast size signed operand.now at in
+        FindsOr result (IsRow target.now e)
+        (NeverBy Extends target.now e × NeverBy Lowest target.now e) }
 {
     if !same_size(size, target.size) {
         return None;
@@ -362,8 +373,9 @@ fn cast_row(target: &Target<'_>, size: Size, signed: bool, operand: &Expr) -> Op
 }
 
 fn sums_row(target: &Target<'_>, op: BinOp, first: &Expr, second: &Expr) -> Option<Row>
-    ensures { (at : Span) → IfSome result (IsRow target.now
-        (expr.Bin op first.now second.now at)) }
+    ensures { (at : Span) → let e = expr.Bin op first.now second.now at in
+        FindsOr result (IsRow target.now e)
+        (NeverBy Sums target.now e × NeverBy Carries target.now e) }
 {
     match first {
         Expr::Bin(inner, left, right, _) => {
@@ -379,8 +391,8 @@ fn sums_row(target: &Target<'_>, op: BinOp, first: &Expr, second: &Expr) -> Opti
 
 /// The row of an operation on two operands.
 fn operation_row(target: &Target<'_>, op: BinOp, first: &Expr, second: &Expr) -> Option<Row>
-    ensures { (at : Span) → IfSome result (IsRow target.now
-        (expr.Bin op first.now second.now at)) }
+    ensures { (at : Span) → let e = expr.Bin op first.now second.now at in
+        FindsOr result (IsRow target.now e) (NeverRow target.now e) }
 {
     if is_shift(op) {
         return shift_row(target, op, first, second);
@@ -393,7 +405,7 @@ fn operation_row(target: &Target<'_>, op: BinOp, first: &Expr, second: &Expr) ->
 
 /// The row of an assignment of this right side.
 pub(crate) fn assignment_row(target: &Target<'_>, value: &Expr) -> Option<Row>
-    ensures { IfSome result (IsRow target.now value.now) }
+    ensures { FindsOr result (IsRow target.now value.now) (NeverRow target.now value.now) }
 {
     match value {
         Expr::Num(_, _) => move_row(target, value),

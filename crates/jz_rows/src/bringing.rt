@@ -1,9 +1,11 @@
 //! How the first operand comes to the destination.
 
-ghost use Rattle.std.specs.Prelude.{◌≡◌, ◌≤◌, IfSome};
+ghost use Rattle.std.specs.Prelude.{◌≡◌, ◌≤◌, None};
 ghost use Rattle.jz_homes.specs.Operands.{count_of};
+ghost use Rattle.jz_row_operations.specs.Table.{brought};
 ghost use Rattle.jz_row_operations.specs.Lowering.{numbers_from};
 ghost use Rattle.jz_operands.specs.TableHomes.{leaks_of};
+ghost use Rattle.jz_rows.specs.Refusals.{FindsOr};
 ghost use Rattle.jz_rows.specs.Rows.{nth_of};
 ghost use Rattle.jz_rows.specs.InnerRows.{IsBrought};
 
@@ -60,7 +62,8 @@ pub(crate) fn bring(
     first: Operand,
     second: Operand,
 ) -> Option<Brought>
-    ensures { IfSome result (IsBrought swaps size to first second) }
+    ensures { FindsOr result (IsBrought swaps size to first second)
+        (brought swaps size to first.arg second.arg ≡ None) }
 {
     let one = told(first.leaks, 0);
     let other = told(second.leaks, count(first.leaks));

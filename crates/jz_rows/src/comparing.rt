@@ -1,13 +1,14 @@
 //! Comparisons, and the conditions behind them.
 
-ghost use Rattle.std.specs.Prelude.{◌≡◌, ◌≤◌, IfSome};
+ghost use Rattle.std.specs.Prelude.{◌≡◌, ◌≤◌};
 ghost use Rattle.std.specs.Option.{option_or};
 ghost use Rattle.jz_tree.specs.Span.{Span};
 ghost use Rattle.jz_tree.specs.declared.expr.Expr.TheVariants as expr;
 ghost use Rattle.jz_meaning.specs.Values as values;
 ghost use Rattle.jz_row_operations.specs.Lowering.{condition_shown};
 ghost use Rattle.jz_rows.specs.TableHomes.{homes_of, leaks_of};
-ghost use Rattle.jz_rows.specs.Rows.{item_of, Compares};
+ghost use Rattle.jz_rows.specs.Refusals.{FindsOr};
+ghost use Rattle.jz_rows.specs.Rows.{item_of, Compares, NeverCompares};
 
 use crate::args::is_imm;
 use crate::bringing::{count, told};
@@ -40,8 +41,9 @@ fn size_of_both(first: &Expr, second: &Expr) -> Option<Size>
 
 /// `a cmp o`, a no number, where CMP can be encoded.
 fn compare(homes: &Homes, op: BinOp, first: &Expr, second: &Expr) -> Option<Comparison>
-    ensures { (here : Span) → IfSome result (Compares (homes_of homes.now)
-        (expr.Bin op first.now second.now here)) }
+    ensures { (here : Span) → let home = homes_of homes.now in
+        let e = expr.Bin op first.now second.now here in
+        FindsOr result (Compares home e) (NeverCompares home e) }
 {
     let cond = cond_of(op)?;
     let size = size_of_both(first, second)?;
@@ -76,9 +78,10 @@ pub fn shown_of(found: Comparison, before: u64) -> Shown
     }
 }
 
-/// A comparison, or one that is denied.
+/// A comparison, or one that is denied; nothing where CMP has none of it.
 pub fn compared(homes: &Homes, condition: &Expr) -> Option<Comparison>
-    ensures { IfSome result (Compares (homes_of homes.now) condition.now) }
+    ensures { let home = homes_of homes.now in
+        FindsOr result (Compares home condition.now) (NeverCompares home condition.now) }
 {
     match condition {
         Expr::Bin(op, first, second, _) => compare(homes, *op, first.get(), second.get()),

@@ -1,16 +1,17 @@
 //! The operators of rows.
 
-ghost use Rattle.std.specs.Prelude.{◌≡◌, ◌<◌, ◌≤◌, pos, Some, IsTrue, IsFalse, IfSome};
+ghost use Rattle.std.specs.Prelude.{◌≡◌, ◌<◌, ◌≤◌, ℕ, pos, None, Some, IsTrue, IsFalse};
 ghost use Rattle.jz_words.specs.Sizes.{bits_of};
 ghost use Rattle.jz_row_operations.specs.Rows as rows;
 ghost use Rattle.jz_row_operations.specs.Rows.{IsSumOp, IsCarryOp, IsShiftOp, IsWide};
+ghost use Rattle.jz_rows.specs.Refusals.{FindsOr};
 
 use jz_tree::{BinOp, Size};
 use x64_insn::{Alu, Cond, Shift};
 
 /// `+ - & | ^`.
 pub(crate) fn alu_of(op: BinOp) -> Option<Alu>
-    ensures { IfSome result (λ alu. IsSumOp op × (alu ≡ rows.alu_of op)) }
+    ensures { FindsOr result (λ alu. IsSumOp op × (alu ≡ rows.alu_of op)) (IsSumOp op → ⊥) }
 {
     match op {
         BinOp::Add => Some(Alu::Add),
@@ -37,7 +38,8 @@ pub(crate) fn commutes(op: BinOp) -> bool
 
 /// `+ -` with a flag behind.
 pub(crate) fn carry_of(op: BinOp) -> Option<Alu>
-    ensures { IfSome result (λ alu. IsCarryOp op × (alu ≡ rows.carry_alu op)) }
+    ensures { FindsOr result (λ alu. IsCarryOp op × (alu ≡ rows.carry_alu op))
+        (IsCarryOp op → ⊥) }
 {
     match op {
         BinOp::Add => Some(Alu::Adc),
@@ -48,7 +50,8 @@ pub(crate) fn carry_of(op: BinOp) -> Option<Alu>
 
 /// `<< >> >>s <<r >>r`.
 pub(crate) fn shift_of(op: BinOp) -> Option<Shift>
-    ensures { IfSome result (λ kind. IsShiftOp op × (kind ≡ rows.shift_of op)) }
+    ensures { FindsOr result (λ kind. IsShiftOp op × (kind ≡ rows.shift_of op))
+        (IsShiftOp op → ⊥) }
 {
     match op {
         BinOp::Shl => Some(Shift::Shl),
@@ -62,7 +65,8 @@ pub(crate) fn shift_of(op: BinOp) -> Option<Shift>
 
 /// Whether two sums, or two differences, stand one in the other.
 pub(crate) fn is_repeated(op: BinOp, inner: BinOp) -> bool
-    ensures { IsTrue result → op ≡ inner }
+    ensures yes { IsTrue result → op ≡ inner }
+    ensures no { IsFalse result → op ≡ inner → IsCarryOp op → ⊥ }
 {
     match op {
         BinOp::Add => matches!(inner, BinOp::Add),
@@ -85,7 +89,8 @@ pub(crate) fn mask_of(size: Size) -> i128
 
 /// Whether a size has 16 bits or more.
 pub(crate) fn is_wide(size: Size) -> bool
-    ensures { IsTrue result → IsWide size }
+    ensures yes { IsTrue result → IsWide size }
+    ensures no { IsFalse result → IsWide size → ⊥ }
 {
     match size {
         Size::S8 => false,
@@ -105,7 +110,8 @@ pub(crate) fn is_below(size: Size, other: Size) -> bool
 
 /// A count below the bits of a size.
 pub(crate) fn count_in(number: i128, size: Size) -> Option<u8>
-    ensures { IfSome result (λ n. (number ≡ pos n) × (n < bits_of size)) }
+    ensures { FindsOr result (λ n. (number ≡ pos n) × (n < bits_of size))
+        ((n : ℕ) → number ≡ pos n → n < bits_of size → ⊥) }
 {
     if number < 0 {
         return None;
@@ -120,7 +126,7 @@ pub(crate) fn count_in(number: i128, size: Size) -> Option<u8>
 
 /// The condition behind CMP that holds where a comparison does.
 pub(crate) fn cond_of(op: BinOp) -> Option<Cond>
-    ensures { IfSome result (λ cond. rows.cond_of op ≡ Some cond) }
+    ensures { FindsOr result (λ cond. rows.cond_of op ≡ Some cond) (rows.cond_of op ≡ None) }
 {
     match op {
         BinOp::Eq => Some(Cond::E),

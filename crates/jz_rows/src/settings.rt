@@ -1,14 +1,15 @@
 //! The row of a statement.
 
-ghost use Rattle.std.specs.Prelude.{◌≡◌, ◌∷◌, [], None, Some, IsTrue, IfOk, IfSome, All};
+ghost use Rattle.std.specs.Prelude.{◌≡◌, ◌∷◌, [], None, Some, IsTrue, ◌↔◌, IfOk, All};
 ghost use Rattle.jz_tree.specs.declared.stmt.Lval.TheVariants as lval;
 ghost use Rattle.jz_meaning.specs.declared.access.Kind.TheVariants as kind;
 ghost use Rattle.jz_meaning.specs.Assignments as assignments;
 ghost use Rattle.jz_meaning.specs.Values.{ref_of};
 ghost use Rattle.jz_encodable.specs.Encodable.{CanEncode};
 ghost use Rattle.jz_rows.specs.TableHomes.{homes_of};
-ghost use Rattle.jz_rows.specs.Rows.{acts_of, IsRowOf};
-ghost use Rattle.jz_rows.specs.InnerRows.{IsSet};
+ghost use Rattle.jz_rows.specs.Refusals.{FindsOr};
+ghost use Rattle.jz_rows.specs.Rows.{acts_of, IsRowOf, NeverLowers};
+ghost use Rattle.jz_rows.specs.InnerRows.{IsSet, NeverSet};
 
 use crate::args::is_imm;
 use crate::assignments::assignment_row;
@@ -27,7 +28,7 @@ use std::alloc::{AllocError, Global};
 
 /// Whether each action can be encoded.
 fn can_encode_all(row: Row) -> bool
-    ensures { IsTrue result → All CanEncode (acts_of row) }
+    ensures { IsTrue result ↔ All CanEncode (acts_of row) }
 {
     match row.before {
         None => can_encode(row.last.action),
@@ -37,7 +38,8 @@ fn can_encode_all(row: Row) -> bool
 
 /// The row of an assignment, where the left sides have this size.
 fn set_row(homes: &Homes, left: Option<Size>, to: &Lval, value: &Expr) -> Option<Row>
-    ensures { IfSome result (IsSet (homes_of homes.now) left to.now value.now) }
+    ensures { let home = homes_of homes.now in
+        FindsOr result (IsSet home left to.now value.now) (NeverSet home left to.now value.now) }
 {
     let size = left.or(own_size(value))?;
     let row = assignment_row(&Target { homes, size, to }, value)?;
@@ -54,8 +56,9 @@ fn plain_row(
     value: &Expr,
 ) -> Result<Option<Row>, AllocError>
     requires { left ≡ assignments.left_sizes (to.now ∷ []) }
-    ensures { IfOk result (λ found. IfSome found
-        (IsRowOf (homes_of homes.now) (to.now ∷ []) op value.now None)) }
+    ensures { let home = homes_of homes.now in
+        IfOk result (λ found. FindsOr found (IsRowOf home (to.now ∷ []) op value.now None)
+        (NeverLowers home (to.now ∷ []) op value.now None)) }
 {
     match op {
         None => Ok(set_row(homes, left, to, value)),
@@ -73,8 +76,10 @@ fn plain_row(
 /// it.
 fn choice_row(homes: &Homes, size: Size, var: &Var, value: &Expr, cond: &Expr) -> Option<Row>
     requires { (ref_of var.now).kind ≡ kind.Word size }
-    ensures { IfSome result (IsRowOf (homes_of homes.now) (lval.Var var.now ∷ []) None value.now
-        (Some cond.now)) }
+    ensures { let home = homes_of homes.now in
+        let to = lval.Var var.now ∷ [] in
+        FindsOr result (IsRowOf home to None value.now (Some cond.now))
+        (NeverLowers home to None value.now (Some cond.now)) }
 {
     if !is_wide(size) {
         return None;
@@ -107,8 +112,10 @@ fn choice_row(homes: &Homes, size: Size, var: &Var, value: &Expr, cond: &Expr) -
 }
 
 fn chosen_row(homes: &Homes, to: &Lval, value: &Expr, cond: &Expr) -> Option<Row>
-    ensures { IfSome result (IsRowOf (homes_of homes.now) (to.now ∷ []) None value.now
-        (Some cond.now)) }
+    ensures { let home = homes_of homes.now in
+        let to = to.now ∷ [] in
+        FindsOr result (IsRowOf home to None value.now (Some cond.now))
+        (NeverLowers home to None value.now (Some cond.now)) }
 {
     match to {
         Lval::Var(var) => match kind_of(var) {
@@ -124,8 +131,8 @@ fn chosen_row(homes: &Homes, to: &Lval, value: &Expr, cond: &Expr) -> Option<Row
     }
 }
 
-/// The row of `to = value` or of `to op= value`, or of one with a condition. There is none of
-/// several left sides.
+/// The row of `to = value` or of `to op= value`, or of one with a condition; nothing where the
+/// table has none. There is none of several left sides.
 pub fn row_of(
     alloc: Global,
     homes: &Homes,
@@ -134,8 +141,9 @@ pub fn row_of(
     value: &Expr,
     cond: &Option<Expr>,
 ) -> Result<Option<Row>, AllocError>
-    ensures { IfOk result (λ found. IfSome found
-        (IsRowOf (homes_of homes.now) to.now op value.now cond.now)) }
+    ensures { let home = homes_of homes.now in
+        IfOk result (λ found. FindsOr found (IsRowOf home to.now op value.now cond.now)
+        (NeverLowers home to.now op value.now cond.now)) }
 {
     match to.as_slice() {
         [left] => match cond {

@@ -1,12 +1,13 @@
 //! What a row goes by: a left side, its size, and where variables are.
 
-ghost use Rattle.std.specs.Prelude.{◌≡◌, IfSome, Some};
+ghost use Rattle.std.specs.Prelude.{◌≡◌, ℕ, ℤ, Some};
 ghost use Rattle.jz_words.specs.declared.size.Size.TheVariants.{S8};
 ghost use Rattle.jz_operations.specs.declared.operation.Arg.TheVariants as arg;
 ghost use Rattle.jz_meaning.specs.Values.{key_of, ref_of};
 ghost use Rattle.jz_homes.specs.Homes.{in_flag, in_register};
 ghost use Rattle.jz_homes.specs.Operands.{IsArg, IsDest, silent};
 ghost use Rattle.jz_operands.specs.TableHomes.{homes_of, leaks_of};
+ghost use Rattle.jz_operands.specs.Refusals.{FindsOr, NeverArg, NeverDest};
 ghost use Rattle.jz_operands.specs.declared.operands.Leaks.TheVariants.{Silent};
 
 use jz_operands::{Home, Homes, Leaks, Operand, destination_of, operand_of};
@@ -24,7 +25,8 @@ pub(crate) struct Target<'a> {
 
 /// The variable that an operand is.
 pub(crate) fn variable_in(found: Operand) -> Option<u32>
-    ensures { IfSome result (λ n. (found.arg ≡ arg.Var n) × (found.leaks ≡ Silent)) }
+    ensures { FindsOr result (λ n. (found.arg ≡ arg.Var n) × (found.leaks ≡ Silent))
+        ((n : ℕ) → found.arg ≡ arg.Var n → found.leaks ≡ Silent → ⊥) }
 {
     match found.arg {
         Arg::Var(variable) => match found.leaks {
@@ -41,7 +43,8 @@ pub(crate) fn variable_in(found: Operand) -> Option<u32>
 
 /// The number that an operand is, where an immediate of 64 bits is one.
 pub(crate) fn number_in(found: Operand) -> Option<i64>
-    ensures { IfSome result (λ i. (found.arg ≡ arg.Imm i) × (found.leaks ≡ Silent)) }
+    ensures { FindsOr result (λ i. (found.arg ≡ arg.Imm i) × (found.leaks ≡ Silent))
+        ((i : ℤ) → found.arg ≡ arg.Imm i → found.leaks ≡ Silent → ⊥) }
 {
     match found.arg {
         Arg::Imm(number) => match found.leaks {
@@ -59,15 +62,18 @@ pub(crate) fn number_in(found: Operand) -> Option<i64>
 impl Target<'_> {
     /// An operand of the size of the assignment.
     pub(crate) fn operand(&self, e: &Expr) -> Option<Operand>
-        ensures { let home = homes_of self.now.homes.now in IfSome result
-            (λ x. IsArg home self.now.size e.now x.arg (leaks_of x.leaks)) }
+        ensures { let home = homes_of self.now.homes.now in
+            FindsOr result (λ x. IsArg home self.now.size e.now x.arg (leaks_of x.leaks))
+            (NeverArg home self.now.size e.now) }
     {
         operand_of(self.homes, self.size, e)
     }
 
     pub(crate) fn destination(&self) -> Option<Operand>
-        ensures { let home = homes_of self.now.homes.now in IfSome result
-            (λ x. IsDest home self.now.size self.now.to.now x.arg (leaks_of x.leaks)) }
+        ensures { let home = homes_of self.now.homes.now in
+            FindsOr result
+            (λ x. IsDest home self.now.size self.now.to.now x.arg (leaks_of x.leaks))
+            (NeverDest home self.now.size self.now.to.now) }
     {
         destination_of(self.homes, self.size, self.to)
     }
@@ -75,8 +81,9 @@ impl Target<'_> {
     /// The variable that the left side is.
     #[tactic(auto, using(crate::proofs::RowLemmas::register_is))]
     pub(crate) fn register(&self) -> Option<u32>
-        ensures { IfSome result (λ n. IsDest (homes_of self.now.homes.now) self.now.size
-            self.now.to.now (arg.Var n) silent) }
+        ensures { let home = homes_of self.now.homes.now in
+            FindsOr result (λ n. IsDest home self.now.size self.now.to.now (arg.Var n) silent)
+            ((n : ℕ) → IsDest home self.now.size self.now.to.now (arg.Var n) silent → ⊥) }
     {
         match self.destination() {
             None => None,
@@ -93,9 +100,10 @@ fn place_of(var: &Var) -> Span
 
 /// The variable of a flag, where the text names it.
 pub(crate) fn flag_in(homes: &Homes, var: &Var) -> Option<Pinned>
-    ensures { IfSome result (λ p.
-        (homes_of homes.now (key_of (ref_of var.now)) ≡ Some (in_flag p.variable))
-        × (p.span ≡ (ref_of var.now).span)) }
+    ensures { let home = homes_of homes.now (key_of (ref_of var.now)) in
+        FindsOr result
+        (λ p. (home ≡ Some (in_flag p.variable)) × (p.span ≡ (ref_of var.now).span))
+        ((n : ℕ) → home ≡ Some (in_flag n) → ⊥) }
 {
     let span = place_of(var);
     match homes.scalar(var) {
@@ -109,9 +117,10 @@ pub(crate) fn flag_in(homes: &Homes, var: &Var) -> Option<Pinned>
 
 /// The variable of a byte, where the text names it.
 pub(crate) fn byte_in(homes: &Homes, var: &Var) -> Option<Pinned>
-    ensures { IfSome result (λ p.
-        (homes_of homes.now (key_of (ref_of var.now)) ≡ Some (in_register p.variable S8))
-        × (p.span ≡ (ref_of var.now).span)) }
+    ensures { let home = homes_of homes.now (key_of (ref_of var.now)) in
+        FindsOr result
+        (λ p. (home ≡ Some (in_register p.variable S8)) × (p.span ≡ (ref_of var.now).span))
+        ((n : ℕ) → home ≡ Some (in_register n S8) → ⊥) }
 {
     let span = place_of(var);
     match homes.scalar(var) {
@@ -129,8 +138,9 @@ pub(crate) fn byte_in(homes: &Homes, var: &Var) -> Option<Pinned>
 /// The variable of a word of this size.
 #[tactic(auto, using(crate::proofs::RowLemmas::word_at))]
 pub(crate) fn word_in(homes: &Homes, size: Size, var: &Var) -> Option<u32>
-    ensures { IfSome result (λ n.
-        homes_of homes.now (key_of (ref_of var.now)) ≡ Some (in_register n size)) }
+    ensures { let home = homes_of homes.now (key_of (ref_of var.now)) in
+        FindsOr result (λ n. home ≡ Some (in_register n size))
+        ((n : ℕ) → home ≡ Some (in_register n size) → ⊥) }
 {
     match homes.scalar(var) {
         None => None,

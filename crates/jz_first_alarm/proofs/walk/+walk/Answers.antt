@@ -1,17 +1,17 @@
-use Rattle.std.proofs.Common.{◌≡◌, ◌<◌, ◌≤◌, ◌+◌, ◌*◌, length, get_or, true, false, Some, None, refl, sym, ap, ◌∙◌, subst, arith, rules}
-use Rattle.std.specs.Prelude.{suc, not, is_some, slice_get}
+use Rattle.std.proofs.Common.{◌≡◌, ◌<◌, ◌≤◌, ◌+◌, length, get_or, true, false, refl, sym, ap, ◌∙◌, arith, rules}
+use Rattle.std.specs.Prelude.{suc, not, is_some}
 use Rattle.jz_runs.specs.Trees.{done, op, quiet, choose, loop}
-use Rattle.jz_meaning.specs.Statements.{unset}
+use Rattle.jz_meaning.specs.Statements.{Condition, unset}
 use Rattle.jz_meaning.specs.Runs.{block, statement_tree}
 use Rattle.jz_flow.specs.Sets.{common}
 use Rattle.jz_facts.specs.Tests.{leaves}
-use Rattle.jz_fact_sets.specs.Kept.{given_of, facts_of, known_at, known_or}
+use Rattle.jz_fact_sets.specs.Kept.{given_of, facts_of, known_at}
 use Rattle.jz_block_facts.specs.Heads.{no_callees, laid}
 use Rattle.jz_block_facts.specs.Pieces.{body_piece, operation_of, answered}
-use Rattle.jz_block_facts.proofs.LaidFacts.{returned, facts_seen, facts_as, over_facts}
+use Rattle.jz_block_facts.proofs.LaidFacts.{returned, facts_seen, facts_as}
 use Rattle.jz_block_facts.proofs.Splitting.{if_is, assign_is, mark_is, while_is}
-use Rattle.jz_block_facts.proofs.Measures.{weights, body_weight, weights_at, weight_if, weight_while}
-use Rattle.jz_first_alarm.specs.InnerAsking.{loop_piece, turn_piece}
+use Rattle.jz_block_facts.proofs.Measures.{body_weight, weights_at, weight_if, weight_while}
+use Rattle.jz_first_alarm.specs.InnerAsking.{turn_piece}
 use Rattle.jz_asked.specs.Asked.{alarm_of}
 use Rattle.jz_first_alarm.proofs.Stepping.{handed_on, op_goes, op_stops, quiet_goes, choose_goes, first_arm_stops, second_arm_stops, test_stops, prologue_stops, loop_test_stops, body_stops, loop_goes}
 use Rattle.jz_first_alarm.proofs.Walking.{ready_as, ready_from, goes_as, goes_from, goes_at, stops_as, stops_from, nothing_goes, yes_ready, no_ready, head_there, head_is, prologue_ready, rest_ready, none_on, one_ready, one_on, one_stops, all_on}
@@ -80,7 +80,7 @@ ask_statement-returns-in_err-ask_test-in-If-clause-stops t c =
     let g = c.args.known.given.now in
     let s = c.args.stmt.now in
     let i = c.in-If in
-    let q = record { cond = i.cond; at = s.span } in
+    let q : Condition = record { cond = i.cond; at = s.span } in
     handed_on c.from_residual-in_err-ask_test-in-If.result c.in_err-ask_test-in-If.field-0.0 _ _ c.from_residual-in_err-ask_test-in-If.ensures.1
     (λ v h. stops_as c.args.known (choose q (block no_callees i.yes done) (block no_callees i.no done)) (statement_tree no_callees s) (facts_of g c.args.set.now) (alarm_of v) (if_is s i.cond i.yes i.no i.is)
     (test_stops g q (block no_callees i.yes done) (block no_callees i.no done) (facts_of g c.args.set.now) (alarm_of v) (h s.span)))
@@ -90,7 +90,7 @@ pub ask_statement-ask_arm-requires : goal.ask_statement-ask_arm-requires
 ask_statement-ask_arm-requires t c =
     let s = c.args.stmt.now in
     let i = c.in-If in
-    let q = record { cond = i.cond; at = s.span } in
+    let q : Condition = record { cond = i.cond; at = s.span } in
     let w = weight_if s i.cond i.yes i.no i.is in (
       omega (arith, w, c.decreases),
       yes_ready c.args.known q (block no_callees i.yes) (block no_callees i.no) _ _ (ready_as c.args.known (statement_tree no_callees s) (choose q (block no_callees i.yes done) (block no_callees i.no done)) _ _ (if_is s i.cond i.yes i.no i.is) c.requires),
@@ -101,18 +101,18 @@ ask_statement-returns-in_err-first-in-If-clause-stops t c =
     let g = c.args.known.given.now in
     let s = c.args.stmt.now in
     let i = c.in-If in
-    let q = record { cond = i.cond; at = s.span } in
+    let q : Condition = record { cond = i.cond; at = s.span } in
     handed_on c.from_residual-in_err-first-in-If.result c.in_err-first-in-If.field-0.0 _ _ c.from_residual-in_err-first-in-If.ensures.1
     (λ v h. stops_as c.args.known (choose q (block no_callees i.yes done) (block no_callees i.no done)) (statement_tree no_callees s) (facts_of g c.args.set.now) (alarm_of v) (if_is s i.cond i.yes i.no i.is)
     (first_arm_stops g q (block no_callees i.yes) (block no_callees i.no) (facts_of g c.args.set.now) (c.in_ok-ask_test-in-If.ensures.none s.span) (alarm_of v) h))
     c.in_err-first-in-If.ensures.stops
 
-pub ask_statement-ask_arm-requires-2 : goal.ask_statement-ask_arm-requires-2
-ask_statement-ask_arm-requires-2 t c =
+pub ask_statement-ask_arm-requires-in-If : goal.ask_statement-ask_arm-requires-in-If
+ask_statement-ask_arm-requires-in-If t c =
     let g = c.args.known.given.now in
     let s = c.args.stmt.now in
     let i = c.in-If in
-    let q = record { cond = i.cond; at = s.span } in
+    let q : Condition = record { cond = i.cond; at = s.span } in
     let w = weight_if s i.cond i.yes i.no i.is in
     let zero = c.args.set.now in
     let one = c.ask_arm.new.set in
@@ -128,7 +128,7 @@ ask_statement-returns-in_err-second-in-If-clause-stops t c =
     let g = c.args.known.given.now in
     let s = c.args.stmt.now in
     let i = c.in-If in
-    let q = record { cond = i.cond; at = s.span } in
+    let q : Condition = record { cond = i.cond; at = s.span } in
     let zero = c.args.set.now in
     let one = c.ask_arm.new.set in
     let same = facts_seen g zero one c.in_ok-first-in-If.ensures.seen in
@@ -146,7 +146,7 @@ ask_statement-returns-in_ok-meet_both-in-If-clause-goes t c =
     let g = c.args.known.given.now in
     let s = c.args.stmt.now in
     let i = c.in-If in
-    let q = record { cond = i.cond; at = s.span } in
+    let q : Condition = record { cond = i.cond; at = s.span } in
     let zero = c.args.set.now in
     let one = c.ask_arm.new.set in
     let two = c.ask_arm-in-If.new.set in
@@ -205,16 +205,16 @@ ask_arm-ask_block-requires t c =
 
 pub ask_arm-returns-clause-below : goal.ask_arm-returns-clause-below
 ask_arm-returns-clause-below t c =
-    (returned c.args.set.now c.taken-table.new.set c.ask_block-next.new.set.below.items (c.in_ok-next.ensures.below ∙ c.in_ok-open_arm.ensures.below) c.taken-table.ensures.below).0
+    (returned c.args.set.now c.taken-table.new.set c.ask_block.new.set.below.items (c.in_ok-next.ensures.below ∙ c.in_ok-open_arm.ensures.below) c.taken-table.ensures.below).0
 
 pub ask_arm-returns-clause-seen : goal.ask_arm-returns-clause-seen
 ask_arm-returns-clause-seen t c =
-    (returned c.args.set.now c.taken-table.new.set c.ask_block-next.new.set.below.items (c.in_ok-next.ensures.below ∙ c.in_ok-open_arm.ensures.below) c.taken-table.ensures.below).1
+    (returned c.args.set.now c.taken-table.new.set c.ask_block.new.set.below.items (c.in_ok-next.ensures.below ∙ c.in_ok-open_arm.ensures.below) c.taken-table.ensures.below).1
 
 pub ask_arm-returns-clause-goes : goal.ask_arm-returns-clause-goes
 ask_arm-returns-clause-goes t c =
     let g = c.args.known.given.now in
-    let back = returned c.args.set.now c.taken-table.new.set c.ask_block-next.new.set.below.items (c.in_ok-next.ensures.below ∙ c.in_ok-open_arm.ensures.below) c.taken-table.ensures.below in
+    let back = returned c.args.set.now c.taken-table.new.set c.ask_block.new.set.below.items (c.in_ok-next.ensures.below ∙ c.in_ok-open_arm.ensures.below) c.taken-table.ensures.below in
     goes_from c.args.known (block no_callees c.args.stmts.now) c.args.at c.in_ok-next.next _ _ _ _ c.in_ok-open_arm.ensures.facts
     (c.taken-table.ensures.facts g ∙ ap (laid g c.taken-table.result) (facts_as g (known_at c.args.set.now) (known_at c.taken-table.new.set) back.2))
     c.in_ok-next.ensures.goes
@@ -228,14 +228,14 @@ ask_arm-returns-in_err-next-clause-stops t c =
 
 -- ---- the rest of a turn
 
-pub ask_rest-returns-in-None-clause-below : goal.ask_rest-returns-in-None-clause-below
-ask_rest-returns-in-None-clause-below t c = (returned c.args.set.now c.taken-table.new.set c.open_arm.new.set.below.items c.in_ok-open_arm-in-None.ensures.below c.taken-table.ensures.below).0
+pub ask_rest-returns-in_ok-open_arm-in-None-clause-below : goal.ask_rest-returns-in_ok-open_arm-in-None-clause-below
+ask_rest-returns-in_ok-open_arm-in-None-clause-below t c = (returned c.args.set.now c.taken-table.new.set c.open_arm.new.set.below.items c.in_ok-open_arm-in-None.ensures.below c.taken-table.ensures.below).0
 
-pub ask_rest-returns-in-None-clause-seen : goal.ask_rest-returns-in-None-clause-seen
-ask_rest-returns-in-None-clause-seen t c = (returned c.args.set.now c.taken-table.new.set c.open_arm.new.set.below.items c.in_ok-open_arm-in-None.ensures.below c.taken-table.ensures.below).1
+pub ask_rest-returns-in_ok-open_arm-in-None-clause-seen : goal.ask_rest-returns-in_ok-open_arm-in-None-clause-seen
+ask_rest-returns-in_ok-open_arm-in-None-clause-seen t c = (returned c.args.set.now c.taken-table.new.set c.open_arm.new.set.below.items c.in_ok-open_arm-in-None.ensures.below c.taken-table.ensures.below).1
 
-pub ask_rest-returns-in-None-clause-goes : goal.ask_rest-returns-in-None-clause-goes
-ask_rest-returns-in-None-clause-goes t c =
+pub ask_rest-returns-in_ok-open_arm-in-None-clause-goes : goal.ask_rest-returns-in_ok-open_arm-in-None-clause-goes
+ask_rest-returns-in_ok-open_arm-in-None-clause-goes t c =
     let g = c.args.known.given.now in
     let back = returned c.args.set.now c.taken-table.new.set c.open_arm.new.set.below.items c.in_ok-open_arm-in-None.ensures.below c.taken-table.ensures.below in
     goes_as c.args.known (λ r. r) (turn_piece c.args.parts) _ _ _ _ (ap body_piece c.in-None.is)
@@ -260,8 +260,8 @@ ask_rest-returns-in_err-arm-in-Some-clause-stops t c =
 
 -- ---- a loop
 
-pub ask_while-head_of-requires : goal.ask_while-head_of-requires
-ask_while-head_of-requires t c = head_there c.args.known _ (block no_callees c.args.parts.prologue.now) _ (turn_piece c.args.parts) c.args.at _ c.requires
+pub ask_while-head_of-head-requires : goal.ask_while-head_of-head-requires
+ask_while-head_of-head-requires t c = head_there c.args.known _ (block no_callees c.args.parts.prologue.now) _ (turn_piece c.args.parts) c.args.at _ c.requires
 
 pub ask_while-ask_block-requires : goal.ask_while-ask_block-requires
 ask_while-ask_block-requires t c =
@@ -278,7 +278,7 @@ ask_while-ask_rest-requires t c =
     let e = facts_seen g c.lay.new.set c.open.new.self c.in_ok-open.ensures.seen ∙ c.in_ok-lay.ensures.facts g in
     let p = block no_callees c.args.parts.prologue.now in (
       omega (arith, c.decreases),
-      rest_ready c.args.known _ p _ (turn_piece c.args.parts) c.args.at _ c.requires c.head_of-head.result.now c.head_of-head.ensures c.in_ok-middle.middle (facts_of g c.ask_block-middle.new.set)
+      rest_ready c.args.known _ p _ (turn_piece c.args.parts) c.args.at _ c.requires c.head_of-head.result.now c.head_of-head.ensures c.in_ok-middle.middle (facts_of g c.ask_block.new.set)
           (goes_at c.args.known p (suc c.args.at) (c.args.at + 1) c.in_ok-middle.middle _ _ (omega arith) (goes_from c.args.known p (c.args.at + 1) c.in_ok-middle.middle _ _ _ _ e refl c.in_ok-middle.ensures.goes)),
     )
 
@@ -288,8 +288,12 @@ ask_while-returns-in_err-middle-clause-stops t c =
     let e = facts_seen g c.lay.new.set c.open.new.self c.in_ok-open.ensures.seen ∙ c.in_ok-lay.ensures.facts g in
     let p = block no_callees c.args.parts.prologue.now in
     let b = turn_piece c.args.parts in
+    let w = not (is_some c.args.parts.body.now) in
+    let q : Condition = record { cond = c.args.parts.cond.now; at = c.args.parts.span } in
+    let head = c.head_of-head.result.now in
+    let h = laid g head (facts_of g c.args.set.now) in
     handed_on c.from_residual-in_err-middle.result c.in_err-middle.field-0.0 _ _ c.from_residual-in_err-middle.ensures.1
-    (λ v h. prologue_stops g _ p _ b (facts_of g c.args.set.now) _ (head_is c.args.known _ p _ b c.args.at _ c.requires c.head_of-head.result.now c.head_of-head.ensures) (alarm_of v) (stops_from c.args.known p _ _ (alarm_of v) e h))
+    (λ v z. prologue_stops g w p q b (facts_of g c.args.set.now) h (head_is c.args.known w p q b c.args.at (facts_of g c.args.set.now) c.requires head c.head_of-head.ensures) (alarm_of v) (stops_from c.args.known p (facts_of g c.open.new.self) h (alarm_of v) e z))
     c.in_err-middle.ensures.stops
 
 pub ask_while-returns-in_err-ask_test-clause-stops : goal.ask_while-returns-in_err-ask_test-clause-stops
@@ -298,9 +302,13 @@ ask_while-returns-in_err-ask_test-clause-stops t c =
     let e = facts_seen g c.lay.new.set c.open.new.self c.in_ok-open.ensures.seen ∙ c.in_ok-lay.ensures.facts g in
     let p = block no_callees c.args.parts.prologue.now in
     let b = turn_piece c.args.parts in
-    let turn = goes_at c.args.known p (suc c.args.at) (c.args.at + 1) c.in_ok-middle.middle _ _ (omega arith) (goes_from c.args.known p (c.args.at + 1) c.in_ok-middle.middle _ _ _ _ e refl c.in_ok-middle.ensures.goes) in
+    let w = not (is_some c.args.parts.body.now) in
+    let q : Condition = record { cond = c.args.parts.cond.now; at = c.args.parts.span } in
+    let head = c.head_of-head.result.now in
+    let h = laid g head (facts_of g c.args.set.now) in
+    let turn = goes_at c.args.known p (suc c.args.at) (c.args.at + 1) c.in_ok-middle.middle h (facts_of g c.ask_block.new.set) (omega arith) (goes_from c.args.known p (c.args.at + 1) c.in_ok-middle.middle (facts_of g c.open.new.self) h (facts_of g c.ask_block.new.set) (facts_of g c.ask_block.new.set) e refl c.in_ok-middle.ensures.goes) in
     handed_on c.from_residual-in_err-ask_test.result c.in_err-ask_test.field-0.0 _ _ c.from_residual-in_err-ask_test.ensures.1
-    (λ v h. loop_test_stops g _ p _ b (facts_of g c.args.set.now) _ (head_is c.args.known _ p _ b c.args.at _ c.requires c.head_of-head.result.now c.head_of-head.ensures) c.args.at c.in_ok-middle.middle _ turn (alarm_of v) (h c.args.parts.span))
+    (λ v z. loop_test_stops g w p q b (facts_of g c.args.set.now) h (head_is c.args.known w p q b c.args.at (facts_of g c.args.set.now) c.requires head c.head_of-head.ensures) c.args.at c.in_ok-middle.middle (facts_of g c.ask_block.new.set) turn (alarm_of v) (z c.args.parts.span))
     c.in_err-ask_test.ensures.some
 
 pub ask_while-returns-in_err-arm-clause-stops : goal.ask_while-returns-in_err-arm-clause-stops
@@ -309,14 +317,18 @@ ask_while-returns-in_err-arm-clause-stops t c =
     let e = facts_seen g c.lay.new.set c.open.new.self c.in_ok-open.ensures.seen ∙ c.in_ok-lay.ensures.facts g in
     let p = block no_callees c.args.parts.prologue.now in
     let b = turn_piece c.args.parts in
-    let turn = goes_at c.args.known p (suc c.args.at) (c.args.at + 1) c.in_ok-middle.middle _ _ (omega arith) (goes_from c.args.known p (c.args.at + 1) c.in_ok-middle.middle _ _ _ _ e refl c.in_ok-middle.ensures.goes) in
+    let w = not (is_some c.args.parts.body.now) in
+    let q : Condition = record { cond = c.args.parts.cond.now; at = c.args.parts.span } in
+    let head = c.head_of-head.result.now in
+    let h = laid g head (facts_of g c.args.set.now) in
+    let turn = goes_at c.args.known p (suc c.args.at) (c.args.at + 1) c.in_ok-middle.middle h (facts_of g c.ask_block.new.set) (omega arith) (goes_from c.args.known p (c.args.at + 1) c.in_ok-middle.middle (facts_of g c.open.new.self) h (facts_of g c.ask_block.new.set) (facts_of g c.ask_block.new.set) e refl c.in_ok-middle.ensures.goes) in
     handed_on c.from_residual-in_err-arm.result c.in_err-arm.field-0.0 _ _ c.from_residual-in_err-arm.ensures.1
-    (λ v h. body_stops g _ p _ b (facts_of g c.args.set.now) _ (head_is c.args.known _ p _ b c.args.at _ c.requires c.head_of-head.result.now c.head_of-head.ensures) c.args.at c.in_ok-middle.middle _ turn (alarm_of v) (c.in_ok-ask_test.ensures.none c.args.parts.span) h)
+    (λ v z. body_stops g w p q b (facts_of g c.args.set.now) h (head_is c.args.known w p q b c.args.at (facts_of g c.args.set.now) c.requires head c.head_of-head.ensures) c.args.at c.in_ok-middle.middle (facts_of g c.ask_block.new.set) turn (alarm_of v) (c.in_ok-ask_test.ensures.none c.args.parts.span) z)
     c.in_err-arm.ensures.stops
 
 pub ask_while-returns-clause-below : goal.ask_while-returns-clause-below
 ask_while-returns-clause-below t c =
-    let back = returned c.lay.new.set c.taken-prologue.new.set c.ask_rest-arm.new.set.below.items (c.in_ok-arm.ensures.below ∙ c.in_ok-middle.ensures.below ∙ c.in_ok-open.ensures.below) c.taken-prologue.ensures.below in
+    let back = returned c.lay.new.set c.taken-prologue.new.set c.ask_rest.new.set.below.items (c.in_ok-arm.ensures.below ∙ c.in_ok-middle.ensures.below ∙ c.in_ok-open.ensures.below) c.taken-prologue.ensures.below in
     c.in_ok-leave.ensures.below ∙ back.0 ∙ c.in_ok-lay.ensures.below
 
 pub ask_while-returns-clause-goes : goal.ask_while-returns-clause-goes
@@ -324,8 +336,8 @@ ask_while-returns-clause-goes t c =
     let g = c.args.known.given.now in
     let zero = c.args.set.now in
     let laidset = c.lay.new.set in
-    let one = c.ask_block-middle.new.set in
-    let two = c.ask_rest-arm.new.set in
+    let one = c.ask_block.new.set in
+    let two = c.ask_rest.new.set in
     let three = c.taken-prologue.new.set in
     let head = c.head_of-head.result.now in
     let h = laid g head (facts_of g zero) in
@@ -333,11 +345,12 @@ ask_while-returns-clause-goes t c =
     let e = facts_seen g laidset c.open.new.self c.in_ok-open.ensures.seen ∙ eh in
     let p = block no_callees c.args.parts.prologue.now in
     let b = turn_piece c.args.parts in
-    let q = record { cond = c.args.parts.cond.now; at = c.args.parts.span } in
+    let w = not (is_some c.args.parts.body.now) in
+    let q : Condition = record { cond = c.args.parts.cond.now; at = c.args.parts.span } in
     let turn = goes_at c.args.known p (suc c.args.at) (c.args.at + 1) c.in_ok-middle.middle h (facts_of g one) (omega arith) (goes_from c.args.known p (c.args.at + 1) c.in_ok-middle.middle _ h _ (facts_of g one) e refl c.in_ok-middle.ensures.goes) in
     let back = returned laidset three two.below.items (c.in_ok-arm.ensures.below ∙ c.in_ok-middle.ensures.below ∙ c.in_ok-open.ensures.below) c.taken-prologue.ensures.below in
     let e4 = facts_as g (known_at laidset) (known_at three) back.2 ∙ eh in
     let e5 = sym (c.taken-prologue.ensures.facts g) ∙ facts_seen g one two c.in_ok-arm.ensures.seen in
-    loop_goes g _ p q b (facts_of g zero) h (head_is c.args.known _ p q b c.args.at _ c.requires head c.head_of-head.ensures) c.args.at c.in_ok-middle.middle (facts_of g one) turn
+    loop_goes g w p q b (facts_of g zero) h (head_is c.args.known w p q b c.args.at (facts_of g zero) c.requires head c.head_of-head.ensures) c.args.at c.in_ok-middle.middle (facts_of g one) turn
     c.in_ok-arm.arm.next (laid g c.in_ok-arm.arm.table (facts_of g one)) (facts_of g c.leave.new.set) (c.in_ok-ask_test.ensures.none c.args.parts.span) c.in_ok-arm.ensures.goes
     (c.in_ok-leave.ensures.facts c.args.parts.span ∙ ap (λ x. leaves (given_of g) q x (laid g c.taken-prologue.result (facts_of g three))) e4 ∙ ap (leaves (given_of g) q h) e5)
