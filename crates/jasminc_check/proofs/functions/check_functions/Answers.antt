@@ -7,7 +7,7 @@ use Rattle.jasminc_check.proofs.functions.check_functions.Goals as goal
 
 pub loop-place-init : goal.loop-place-init
 loop-place-init c =
-    subst (λ (xs : List ℕ). IsSoFar c.args.typed.now.program 0 xs) (sym c.new-out.ensures) (none_so_far c.args.typed.now.program)
+    subst (λ (xs : List ℕ). IsSoFar c.args.typed.now.program 0 xs) (sym c.new-out.ensures.items) (none_so_far c.args.typed.now.program)
 
 pub add_line-requires : goal.add_line-requires
 add_line-requires c =
