@@ -1,8 +1,8 @@
 -- The lines of functions, one after another.
 use Rattle.std.proofs.Common.{◌≡◌, ℕ, suc, ◌+◌, ◌<◌, ◌≤◌, Bool, true, false, List, [], ◌∷◌, ◌++◌, length, take, drop, Some, None, refl, sym, ap, ◌∙◌, subst, inl, inr}
-use Rattle.std.specs.Prelude.{All, slice_get}
+use Rattle.std.specs.Prelude.{All, ◌⊎◌, slice_get}
 use Rattle.std.proofs.Math.Seq.{split_at}
-use Rattle.std.proofs.lemmas.List.{append_assoc, append_nil, take_more, take_all}
+use Rattle.std.proofs.lemmas.List.{append_assoc, append-nil, take_more, take_all}
 use Rattle.std.proofs.lemmas.List.Elements.{All-nil, All-push}
 use Rattle.std.proofs.lemmas.Option.{slice_get_within, get_or_from_slice_get}
 use Rattle.jz_tree.specs.declared.program.Fun.{Fun}
@@ -17,7 +17,7 @@ module _ (p : Program) where
   pub line_more : (fs : List Fun) (text : List ℕ) (f : Fun) (n : ℕ) → is_exported f.kind ≡ true → IsSafe p f n → AreSafe p fs text → AreSafe p (fs ++ f ∷ []) (text ++ safe_line f n)
   line_more [] text f n e s h =
       subst (λ b. SafeLine b p f (AreSafe p []) (text ++ safe_line f n)) (sym e)
-      (n, s, [], ap (λ t. t ++ safe_line f n) h ∙ sym (append_nil (safe_line f n)), refl)
+      (n, s, [], ap (λ t. t ++ safe_line f n) h ∙ sym (append-nil (safe_line f n)), refl)
   line_more (g ∷ gs) text f n e s h = by (is_exported g.kind) h (λ rest. line_more gs rest f n e s)
     where
       by : (b : Bool) → SafeLine b p g (AreSafe p gs) text → ((rest : List ℕ) → AreSafe p gs rest → AreSafe p (gs ++ f ∷ []) (rest ++ safe_line f n)) → SafeLine b p g (AreSafe p (gs ++ f ∷ [])) (text ++ safe_line f n)

@@ -6,11 +6,11 @@ use Rattle.jz_type_rows.specs.Exports.{is_exported}
 use Rattle.jasminc_check.proofs.Readying.{refused_too, among_ready, alarm_at, line_added, nothing_added}
 use Rattle.jasminc_check.proofs.functions.add_line.Goals as goal
 
-pub function_at-requires : goal.function_at-requires
-function_at-requires c = subst (λ (q : Program). c.args.place < length q.funs) (sym c.program.ensures) c.requires.below
+pub function_at-function-requires : goal.function_at-function-requires
+function_at-function-requires c = subst (λ (q : Program). c.args.place < length q.funs) (sym c.program.ensures) c.requires.below
 
-pub returns-then-is_exported-clause-safe : goal.returns-then-is_exported-clause-safe
-returns-then-is_exported-clause-safe c =
+pub returns-then-not-is_exported-clause-safe : goal.returns-then-not-is_exported-clause-safe
+returns-then-not-is_exported-clause-safe c =
     let f = c.function_at-function.result.now in
     let there = subst (λ (q : Program). slice_get q.funs c.args.place ≡ Some f) c.program.ensures c.function_at-function.ensures in
     let hidden : is_exported f.kind ≡ false = search rules in

@@ -1,11 +1,13 @@
-use Rattle.std.proofs.Common.{◌<◌, ◌≤◌, length, rules}
+use Rattle.std.proofs.Common.{◌<◌, ◌≤◌, ℕ, List, length, sym, subst, rules}
 use Rattle.std.proofs.lemmas.Result.{err_from_is_err_and}
+use Rattle.jasminc_check.specs.Safety.{AreSafe}
 use Rattle.jasminc_check.proofs.Readying.{refused_too}
-use Rattle.jasminc_check.proofs.Lines.{none_so_far, next_so_far, alarm_there, all_so_far}
+use Rattle.jasminc_check.proofs.Lines.{IsSoFar, none_so_far, next_so_far, alarm_there, all_so_far}
 use Rattle.jasminc_check.proofs.functions.check_functions.Goals as goal
 
 pub loop-place-init : goal.loop-place-init
-loop-place-init c = none_so_far c.args.typed.now.program
+loop-place-init c =
+    subst (λ (xs : List ℕ). IsSoFar c.args.typed.now.program 0 xs) (sym c.new-out.ensures.items) (none_so_far c.args.typed.now.program)
 
 pub add_line-requires : goal.add_line-requires
 add_line-requires c =
@@ -24,4 +26,5 @@ returns-in_err-add_line-clause-alarm c =
 pub returns-clause-safe : goal.returns-clause-safe
 returns-clause-safe c =
     let le : length c.args.typed.now.program.funs ≤ c.loop-place.place = search rules in
-    all_so_far c.args.typed.now.program c.loop-place.place _ le c.loop-place.invariant
+    subst (AreSafe c.args.typed.now.program c.args.typed.now.program.funs) (sym c.from_vec.ensures)
+    (all_so_far c.args.typed.now.program c.loop-place.place _ le c.loop-place.invariant)

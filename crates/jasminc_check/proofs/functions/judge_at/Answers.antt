@@ -7,14 +7,15 @@ use Rattle.jz_change.specs.Views.{change_of}
 use Rattle.jz_fact_sets.specs.Kept.{AreDifferent}
 use Rattle.jz_given.specs.Giving.{param_of}
 use Rattle.jz_block_facts.specs.Heads.{HasNoFor, plain_block}
+use Rattle.jz_asked.specs.declared.alarms.Alarm as asked
 use Rattle.jz_asked.specs.Asked.{alarm_of}
 use Rattle.jz_first_alarm.specs.FirstAlarms.{HasFirstAlarm}
 use Rattle.jasminc_check.specs.InnerSafety.{IsJudgedAt}
 use Rattle.jasminc_check.proofs.Readying.{ready_below, none_refused, refused_too, expansion_at, differ, few, plain, judged_at}
 use Rattle.jasminc_check.proofs.functions.judge_at.Goals as goal
 
-pub function_at-requires : goal.function_at-requires
-function_at-requires c =
+pub function_at-function-requires : goal.function_at-function-requires
+function_at-function-requires c =
     subst (λ (q : Program). c.args.place < length q.funs) (sym c.program.ensures) (ready_below c.args.typed.now.program c.args.place c.requires)
 
 pub stated-requires : goal.stated-requires
@@ -56,13 +57,12 @@ returns-in_err-first_alarm-clause-alarm c =
     let r = c.in_ok-expanded.expanded in
     let there = subst (λ (q : Program). slice_get q.funs c.args.place ≡ Some f) c.program.ensures c.function_at-function.ensures in
     let e = err_from_is_err_and c.from_residual-in_err-first_alarm.result c.from_residual-in_err-first_alarm.ensures.1 in
-    rw (e.1, e.2) (refused_too _ _ _
-    (λ a h. (
-      r.count,
-      judged_at p c.args.place c.requires f r.fun there (change_of r.change) r.count (expansion_at p c.args.place f r there c.in_ok-expanded.ensures) c.in_ok-pres.pres (Some (alarm_of a)) c.in_ok-pres.ensures
-          (subst (λ (g : Fun). HasFirstAlarm g c.in_ok-pres.pres (Some (alarm_of a))) c.fun.ensures h),
-    ))
-    c.in_err-first_alarm.ensures.some)
+    let expansion = expansion_at p c.args.place f r there c.in_ok-expanded.ensures in
+    let told : (a : asked.Alarm) → HasFirstAlarm c.fun.result.now c.in_ok-pres.pres (Some (alarm_of a)) → (count : ℕ) × IsJudgedAt p c.args.place count (Some (alarm_of a)) =
+        λ a h. (r.count, judged_at p c.args.place c.requires f r.fun there (change_of r.change) r.count expansion c.in_ok-pres.pres (Some (alarm_of a)) c.in_ok-pres.ensures
+        (subst (λ (g : Fun). HasFirstAlarm g c.in_ok-pres.pres (Some (alarm_of a))) c.fun.ensures h)) in
+    rw (e.1, e.2) (refused_too _ (λ (a : asked.Alarm). HasFirstAlarm c.fun.result.now c.in_ok-pres.pres (Some (alarm_of a)))
+    (λ (a : asked.Alarm). (count : ℕ) × IsJudgedAt p c.args.place count (Some (alarm_of a))) told c.in_err-first_alarm.ensures.some)
 
 pub returns-clause-safe : goal.returns-clause-safe
 returns-clause-safe c =
