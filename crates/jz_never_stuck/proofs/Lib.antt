@@ -1,0 +1,3 @@
+pub mod NoAlarms
+pub mod Words
+pub mod Whole
