@@ -59,8 +59,11 @@ returns-in_err-first_alarm-clause-alarm c =
     let e = err_from_is_err_and c.from_residual-in_err-first_alarm.result c.from_residual-in_err-first_alarm.ensures.1 in
     let expansion = expansion_at p c.args.place f r there c.in_ok-expanded.ensures in
     let told : (a : asked.Alarm) → HasFirstAlarm c.fun.result.now c.in_ok-pres.pres (Some (alarm_of a)) → (count : ℕ) × IsJudgedAt p c.args.place count (Some (alarm_of a)) =
-        λ a h. (r.count, judged_at p c.args.place c.requires f r.fun there (change_of r.change) r.count expansion c.in_ok-pres.pres (Some (alarm_of a)) c.in_ok-pres.ensures
-        (subst (λ (g : Fun). HasFirstAlarm g c.in_ok-pres.pres (Some (alarm_of a))) c.fun.ensures h)) in
+    λ a h. (
+      r.count,
+      judged_at p c.args.place c.requires f r.fun there (change_of r.change) r.count expansion c.in_ok-pres.pres (Some (alarm_of a)) c.in_ok-pres.ensures
+          (subst (λ (g : Fun). HasFirstAlarm g c.in_ok-pres.pres (Some (alarm_of a))) c.fun.ensures h),
+    ) in
     rw (e.1, e.2) (refused_too _ (λ (a : asked.Alarm). HasFirstAlarm c.fun.result.now c.in_ok-pres.pres (Some (alarm_of a)))
     (λ (a : asked.Alarm). (count : ℕ) × IsJudgedAt p c.args.place count (Some (alarm_of a))) told c.in_err-first_alarm.ensures.some)
 
