@@ -1,0 +1,7 @@
+pub mod Layers
+pub mod Sums
+pub mod Operands
+pub mod Counts
+pub mod Counting
+pub mod Answers
+pub mod Lefts
