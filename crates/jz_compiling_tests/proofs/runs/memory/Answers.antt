@@ -4,4 +4,4 @@ use Rattle.std.specs.FinMap.{get, get-empty}
 use Rattle.jz_compiling_tests.proofs.runs.memory.Goals as goal
 
 pub add-requires : goal.add-requires
-add-requires c = λ q low high fits. ap (λ m. get m q) c.new-mem.ensures ∙ get-empty nat_cmp q
+add-requires c = λ q low high fits. ap (λ m. get m q) c.new-memory.ensures ∙ get-empty nat_cmp q
