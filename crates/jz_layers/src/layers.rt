@@ -1,6 +1,6 @@
 //! Tables of variables, each over those below it.
 
-ghost use Rattle.std.specs.Prelude.{◌≡◌, ◌⊎◌, ◌++◌, ◌∷◌, [], ℕ, true, false, is_some, Some, None, OnOk, slice_get, length, ◌<◌};
+ghost use Rattle.std.specs.Prelude.{◌≡◌, ◌⊎◌, ◌++◌, ◌∷◌, [], ℕ, true, false, is_some, Some, None, IfOk, OnOk, slice_get, length, ◌<◌};
 ghost use Rattle.std.specs.Option.{option_map};
 ghost use Rattle.jz_layers.specs.Spots.{Spot, same_spot, spot_of, entry_in, over, seen_in, put_in, nowhere, is_noted, AreListed, IsListed};
 ghost use Rattle.jz_layers.specs.Spots.{without_index, cell_at, AreHeld};
@@ -194,5 +194,20 @@ impl<'a, V: Copy> Layers<'a, V> {
             i += 1;
         }
         Ok(())
+    }
+
+    /// The same values, in one table.
+    pub fn copy(&self) -> Result<Layers<'a, V>, AllocError>
+        ensures { IfOk result (λ copy. seen copy ≡ seen self.now) }
+    {
+        let mut copy = Layers::new(self.alloc);
+        let count = self.below.len();
+        let mut i = 0;
+        while i < count {
+            copy.pour(&self.below[i])?;
+            i += 1;
+        }
+        copy.pour(&self.top)?;
+        Ok(copy)
     }
 }
