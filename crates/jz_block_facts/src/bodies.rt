@@ -50,8 +50,8 @@ pub fn holds_behind<'a>(
     requires { AreWords given.now.constants }
     ensures { IfOk result (λ behind. facts_of given.now behind
         ≡ (facts_of given.now set.now
-            and tests.adds (given_of given.now) (facts_of given.now set.now)
-            (term_of test.now) answer)) }
+        and tests.adds (given_of given.now) (facts_of given.now set.now)
+        (term_of test.now) answer)) }
 {
     let mut behind = set.copy()?;
     after_test(given, &mut behind, test, answer)?;

@@ -32,7 +32,7 @@ returns c =
     let read = slice_get_read hs (length hs) 0 e refl (slice_get_within hs 0 f.0 f.1) is in
     let back = returned zero four c.walk_statement.new.set.below.items (c.in_ok-walk_statement.ensures.below ∙ c.in_ok-open.ensures.below) c.close.ensures.below in
     let head : IsHeadOf g t s (facts_of g c.lay.new.set) =
-        subst (IsHeadOf g t s)
-        (ap (λ m. laid g m s) (same_some (slice_get hs 0) f.0 e f.1 read) ∙ ap (laid g e) (sym (facts_seen g zero four back.1)) ∙ sym (c.in_ok-lay.ensures.facts g))
-        f.2 in
+    subst (IsHeadOf g t s)
+    (ap (λ m. laid g m s) (same_some (slice_get hs 0) f.0 e f.1 read) ∙ ap (laid g e) (sym (facts_seen g zero four back.1)) ∙ sym (c.in_ok-lay.ensures.facts g))
+    f.2 in
     subst (λ from. IsHeadOf g t from (facts_of g c.lay.new.set)) (facts_seen g c.args.set.now zero c.in_ok-head.ensures) head

@@ -19,5 +19,5 @@ returns c =
     let t = statement_tree no_callees c.args.stmt.now done in
     let behind = facts_of g c.walk_statement.new.set in
     subst (λ s. After (fact_steps (given_of g)) t s behind)
-        (facts_seen g c.args.set.now c.in_ok-behind.behind c.in_ok-behind.ensures)
-        (c.in_ok-walk_statement.ensures.leads.after done behind refl)
+    (facts_seen g c.args.set.now c.in_ok-behind.behind c.in_ok-behind.ensures)
+    (c.in_ok-walk_statement.ensures.leads.after done behind refl)
