@@ -111,7 +111,7 @@ module _ (T : Expr → Expr) (L : Lval → Lval) (K : IsTurning T L) where
     says_back : {b : Expr} {z : Size} → Says (value b) z → (e : Expr) → b ≡ T e → Says (value e) z
     says_back {b = b} (judged.expression s) e i =
         elim (K.expressions e) [
-          inl v ↦ absurd (says_none (judged.expression {e = b} s) (ap is_inline i ∙ v.stays))
+          | inl v ↦ absurd (says_none (judged.expression {e = b} s) (ap is_inline i ∙ v.stays))
           | inr t ↦ judged.expression (layer_back s (subst (Turns T (out-Expr e)) (sym (ap out-Expr i)) t))
         ]
 
