@@ -34,7 +34,7 @@ module _ (p : Program) (f g : Fun) (k : Change) (count : ℕ) (typed : IsTypedPr
   whole : IsTypedText p
   whole = record { typed = typed; text = text }
 
-  copied : IsTypedBody (plain_body (inlined_function p f))
+  pub copied : IsTypedBody (plain_body (inlined_function p f))
   copied = subst IsTypedBody (inlined_is p f) (copies_are_typed p f typed text has)
 
   pub rounds : IsTypedBody (plain_body x.unrolled)
