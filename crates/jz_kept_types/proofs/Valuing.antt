@@ -78,7 +78,7 @@ module _ (k : KnownNumbers) where
       ap (λ x. out-Access (access_with_values k x)) (sym (roll-out-Access a)) ∙ ap out-Access (access_values_is k (out-Access a))
       ∙ out-roll-Access _
 
-  access_turns : (a : Access) → AccessTurns T a (access_with_values k a)
+  pub access_turns : (a : Access) → AccessTurns T a (access_with_values k a)
   access_turns a = record {
     size = ap (λ (x : Access-F Expr Ty Access Decl Var). x.size) (access_out a);
     at = ap (λ (x : Access-F Expr Ty Access Decl Var). x.at) (access_out a);
