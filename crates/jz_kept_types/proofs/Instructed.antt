@@ -213,7 +213,7 @@ module _ (T : Expr → Expr) (L : Lval → Lval) (K : IsTurning T L) where
   array_stays : (e : Expr) → IsArrayVariable e → IsArrayVariable (T e)
   array_stays e k =
       elim (K.expressions e) [
-        inl v ↦ absurd (false≢true (sym (inline_out e ∙ (ap inline_layer k.is ∙ known_not_inline (known_of k.variable) k.array)) ∙ v.inline))
+        | inl v ↦ absurd (false≢true (sym (inline_out e ∙ (ap inline_layer k.is ∙ known_not_inline (known_of k.variable) k.array)) ∙ v.inline))
         | inr t ↦ of_turning (variable_turns (subst (λ x. Turns T x (out-Expr (T e))) k.is t))
       ]
     where
