@@ -22,7 +22,7 @@ use Rattle.jz_integers.specs.Integers as numbers
 use Rattle.jz_integers.specs.Integers.{plain_value, the_number, written_number}
 use Rattle.jz_type_names.specs.declared.kinds.Kind.{Kind}
 use Rattle.jz_type_names.specs.declared.kinds.Kind.TheVariants as kind
-use Rattle.jz_type_names.specs.Kinds.{Known, known_of}
+use Rattle.jz_type_names.specs.Kinds.{Known, known_of, is_inline}
 use Rattle.jz_select.specs.declared.class.Mask.TheVariants as mask
 use Rattle.jz_select.specs.declared.class.Class.{Class}
 use Rattle.jz_select.specs.declared.class.Sum.{Sum}
@@ -400,16 +400,22 @@ module _ (a b c d : Expr) (x : Kept a c) (y : Kept b d) where
     flags = compares_kept o (class_of a) (class_of b) (class_of c) (class_of d) x.kept y.kept;
   }
 
+-- an inline expression becomes one
+pub record KeptWhole (e b : Expr) : Type 0 where
+  pub kept : Kept e b
+  pub inline : is_inline e ≡ true
+  pub stays : is_inline b ≡ true
+
 -- ---- all expressions
 module _ (T : Expr → Expr) where
   -- each is kept as a whole, or by its form
   abbrev pub Turned : Type 0
-  Turned = (e : Expr) → Formed e → Kept e (T e) ⊎ Becomes T (out-Expr e) (out-Expr (T e))
+  Turned = (e : Expr) → Formed e → KeptWhole e (T e) ⊎ Becomes T (out-Expr e) (out-Expr (T e))
 
   module _ (K : Turned) where
     mutual
       pub all_kept : (e : Expr) → Formed e → Kept e (T e)
-      all_kept e (counted.expression f) = elim (K e (counted.expression f)) [ inl k ↦ k | inr t ↦ by_layers e (T e) (layer_kept f t) ]
+      all_kept e (counted.expression f) = elim (K e (counted.expression f)) [ inl k ↦ k.kept | inr t ↦ by_layers e (T e) (layer_kept f t) ]
 
       layer_kept : {x y : Layer} → FormedLayer x → Becomes T x y → KeptLayer x y
       layer_kept (counted.number {n = n} {at = at}) b_number = same_layer (Expr-F.Num n at)

@@ -15,6 +15,7 @@ use Rattle.jz_tree.specs.declared.stmt.Lval.{Lval}
 use Rattle.jz_tree.specs.declared.stmt.Lval.TheVariants as lval
 use Rattle.jz_type_names.specs.declared.kinds.Kind.TheVariants as kind
 use Rattle.jz_type_names.specs.Kinds.{Known, kind_step, kind_of, declared_of, known_of, is_inline}
+use Rattle.jz_type_names.specs.Parts.{span_of}
 use Rattle.jz_integers.specs.Integers.{KnownNumbers, inline_value}
 use Rattle.jz_select.specs.Look.{Look, look_of}
 use Rattle.jz_judgement.specs.HasType.{Layer}
@@ -33,7 +34,7 @@ use Rattle.jz_kept_classes.specs.ClassLaws.{ValuesKeepClasses, ScalarsKeepClasse
 use Rattle.jz_kept_classes.proofs.Formed.{Formed}
 use Rattle.jz_kept_classes.proofs.Layers.{look_out}
 use Rattle.jz_kept_classes.proofs.Inline.{value_kept}
-use Rattle.jz_kept_classes.proofs.Kept.{register, Kept, Becomes, b_number, b_truth, b_variable, b_cell, b_scalar, b_load, b_minus, b_denial, b_cast, b_two, LeftBecomes, l_nothing, l_variable, l_cell, l_scalar, l_store, Turned, classes_kept}
+use Rattle.jz_kept_classes.proofs.Kept.{register, Kept, KeptWhole, Becomes, b_number, b_truth, b_variable, b_cell, b_scalar, b_load, b_minus, b_denial, b_cast, b_two, LeftBecomes, l_nothing, l_variable, l_cell, l_scalar, l_store, Turned, classes_kept}
 
 -- ---- values
 module _ (k : KnownNumbers) where
@@ -51,8 +52,14 @@ module _ (k : KnownNumbers) where
   layer_valued (Expr-F.Cast z s a at) = b_cast
   layer_valued (Expr-F.Bin o a b at) = b_two
 
-  by_inline : (e : Expr) → Formed e → (b : Bool) → is_inline e ≡ b → Kept e (with_values k e) ⊎ Becomes V (out-Expr e) (out-Expr (with_values k e))
-  by_inline e f true q = inl (subst (Kept e) (sym (inline_whole k e q)) (value_kept k e f q (inline_value k e) refl))
+  by_inline : (e : Expr) → Formed e → (b : Bool) → is_inline e ≡ b → KeptWhole e (with_values k e) ⊎ Becomes V (out-Expr e) (out-Expr (with_values k e))
+  by_inline e f true q =
+      let is = inline_whole k e q in
+      inl (record {
+        kept = subst (Kept e) (sym is) (value_kept k e f q (inline_value k e) refl);
+        inline = q;
+        stays = ap is_inline is ∙ valuing.constant_inline e (span_of e) (inline_value k e) q;
+      })
   by_inline e f false q = inr (subst (Becomes V (out-Expr e)) (sym (out_plain k e q)) (layer_valued (out-Expr e)))
 
   left_valued : (d : Lval) → LeftBecomes V d (left_with_values k d)
@@ -61,8 +68,11 @@ module _ (k : KnownNumbers) where
   left_valued (lval.Cell v i) = l_cell refl
   left_valued (lval.Store a) = l_store (valuing.access_turns k a)
 
+  pub values_turned : Turned (with_values k)
+  values_turned e f = by_inline e f (is_inline e) refl
+
 pub values_keep_classes : ValuesKeepClasses
-values_keep_classes k = classes_kept (with_values k) (λ e f. by_inline k e f (is_inline e) refl) (left_with_values k) (left_valued k)
+values_keep_classes k = classes_kept (with_values k) (values_turned k) (left_with_values k) (left_valued k)
 
 -- ---- words of cells
 abbrev S : Expr → Expr
@@ -138,8 +148,8 @@ layer_scaled (Expr-F.Not a at) = becomes_rolled (Expr-F.Not a at) (Expr-F.Not (w
 layer_scaled (Expr-F.Cast z s a at) = becomes_rolled (Expr-F.Cast z s a at) (Expr-F.Cast z s (with_scalars a) at) b_cast
 layer_scaled (Expr-F.Bin o a b at) = becomes_rolled (Expr-F.Bin o a b at) (Expr-F.Bin o (with_scalars a) (with_scalars b) at) b_two
 
-scalars_turn : Turned with_scalars
-scalars_turn e f = inr (subst (Becomes S (out-Expr e)) (sym (out_is e)) (layer_scaled (out-Expr e)))
+pub scalars_turned : Turned with_scalars
+scalars_turned e f = inr (subst (Becomes S (out-Expr e)) (sym (out_is e)) (layer_scaled (out-Expr e)))
 
 left_cell : (v : Var) (i : Expr) (z : Option Size) (n : Option ℕ) → size_at v ≡ z → cell_in v i ≡ n → LeftBecomes S (lval.Cell v i) (left_or v i z n)
 left_cell v i (Some z) (Some n) e f = l_scalar z (array_at v z e) (scalar_at v z n) (index_looked v i n f)
@@ -154,4 +164,4 @@ left_scaled (lval.Cell v i) = left_cell v i (size_at v) (cell_in v i) refl refl
 left_scaled (lval.Store a) = l_store (scaling.access_turns a)
 
 pub scalars_keep_classes : ScalarsKeepClasses
-scalars_keep_classes = classes_kept with_scalars scalars_turn left_with_scalars left_scaled
+scalars_keep_classes = classes_kept with_scalars scalars_turned left_with_scalars left_scaled

@@ -283,11 +283,12 @@ module _ (T : Expr → Expr) (L : Lval → Lval) (K : IsTurning T L) where
   sounds_kept (d ∷ ds) h = All-cons IsSound (L d) (map L ds) (sound_there T L K d (All-head IsSound d ds h)) (sounds_kept ds (All-tail IsSound d ds h))
 
   -- ---- instructions
+  pub size_kept : (g : Signature) (to : List Lval) (args : List Expr) → Instructs (Some g) to args → size_of_intrinsic g (map L to) (map T args) ≡ size_of_intrinsic g to args
+  size_kept g to args (well.instance_of r a) = ap (option_or g.size) (ap₂ option_or (results_same g.results to) (arguments_same (size_of_intrinsic g to args) g.arguments args a))
+
   pub instructs_kept : (g : Option Signature) (to : List Lval) (args : List Expr) → Instructs g to args → Instructs g (map L to) (map T args)
   instructs_kept None to args (well.unknown h) = well.unknown (sounds_kept to h)
   instructs_kept (Some g) to args (well.instance_of r a) =
       let z : Option Size = size_of_intrinsic g to args in
-      let e : size_of_intrinsic g (map L to) (map T args) ≡ z =
-      ap (option_or g.size) (ap₂ option_or (results_same g.results to) (arguments_same z g.arguments args a))
-      in
+      let e : size_of_intrinsic g (map L to) (map T args) ≡ z = size_kept g to args (well.instance_of r a) in
       well.instance_of (subst (λ k. InPairs (Output k) g.results (map L to)) (sym e) (outputs_kept z g.results to r)) (subst (λ k. InPairs (Operand k) g.arguments (map T args)) (sym e) (operands_kept z g.arguments args a))

@@ -51,7 +51,7 @@ number_inline i at = ap is_inline (sym (expr.rolls-Num i at)) ∙ inline_is (Exp
 truth_inline : (b : Bool) (at : Span) → is_inline (expr.Bool b at) ≡ true
 truth_inline b at = ap is_inline (sym (expr.rolls-Bool b at)) ∙ inline_is (Expr-F.Expr::Bool b at)
 
-constant_inline : (e : Expr) (at : Span) (c : Option Constant) → is_inline e ≡ true → is_inline (constant_expr at e c) ≡ true
+pub constant_inline : (e : Expr) (at : Span) (c : Option Constant) → is_inline e ≡ true → is_inline (constant_expr at e c) ≡ true
 constant_inline e at None q = q
 constant_inline e at (Some (constant.Int i)) q = number_inline i at
 constant_inline e at (Some (constant.Bool b)) q = truth_inline b at
