@@ -165,7 +165,7 @@ mask_kept None n h = from_none (mask_of n) (value_mask n)
 mask_kept (Some i) n h = subst (λ (k : Option ℤ). KeepsClass (mask_of (Some i)) (mask_of k)) (sym (h i refl)) the_same
 
 -- ---- values of what no variable is known of
-abbrev none_known : numbers.KnownNumbers
+abbrev pub none_known : numbers.KnownNumbers
 none_known = λ name copy. None
 
 abbrev pub Values : Option Constant → Option Constant → Type 0
@@ -227,7 +227,7 @@ by_layers e b k = record {
 }
 
 -- ---- the form of each
-abbrev register : Kind → Known
+abbrev pub register : Kind → Known
 register k = Some (record { storage = storage.Reg; kind = k })
 
 module _ (T : Expr → Expr) where

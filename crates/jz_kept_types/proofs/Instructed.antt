@@ -72,7 +72,7 @@ array_not_inline s kind.Truth h = absurd (false≢true h)
 array_not_inline s (kind.Word z) h = absurd (false≢true h)
 
 known_not_inline : (k : Known) → is_array k ≡ true → is_inline_int k ≡ false
-known_not_inline None h = refl
+known_not_inline None h = absurd (false≢true h)
 known_not_inline (Some d) h = array_not_inline d.storage d.kind h
 
 -- ---- an inline expression is no word
@@ -108,23 +108,27 @@ mutual
 module _ (T : Expr → Expr) (L : Lval → Lval) (K : IsTurning T L) where
   -- ---- sizes that are said behind were said before
   mutual
-    says_back : {e : Expr} {z : Size} → Says (value (T e)) z → Says (value e) z
-    says_back {e = e} (judged.expression s) = elim (K.expressions e) [ inl v ↦ absurd (says_none (judged.expression {e = T e} s) v.stays) | inr t ↦ judged.expression (layer_back s t) ]
+    says_back : {b : Expr} {z : Size} → Says (value b) z → (e : Expr) → b ≡ T e → Says (value e) z
+    says_back {b = b} (judged.expression s) e i =
+        elim (K.expressions e) [
+          inl v ↦ absurd (says_none (judged.expression {e = b} s) (ap is_inline i ∙ v.stays))
+          | inr t ↦ judged.expression (layer_back s (subst (Turns T (out-Expr e)) (sym (ap out-Expr i)) t))
+        ]
 
     layer_back : {x y : Layer} {z : Size} → LayerSays y z → Turns T x y → LayerSays x z
     layer_back {z = z} (judged.variable w) (t_variable k) = judged.variable (subst (IsWordOf z) k w)
     layer_back {z = z} (judged.variable {v = u} w) (t_scalar {v = v} y a b) = judged.cell (subst (λ s. IsArrayOf s (known_of v)) (one_word y z (known_of u) b w) a)
     layer_back {z = z} (judged.cell w) (t_cell k) = judged.cell (subst (IsArrayOf z) k w)
     layer_back (judged.load w) (t_load k) = judged.load (sym k.size ∙ w)
-    layer_back (judged.negated s) (t_minus {a = a}) = judged.negated (says_back {e = a} s)
-    layer_back (judged.inverted s) (t_denial {a = a}) = judged.inverted (says_back {e = a} s)
+    layer_back (judged.negated s) (t_minus {a = a}) = judged.negated (says_back s a refl)
+    layer_back (judged.inverted s) (t_denial {a = a}) = judged.inverted (says_back s a refl)
     layer_back judged.cast t_cast = judged.cast
-    layer_back (judged.operation s) (t_two {a = a} {b = b}) = judged.operation (operand_back {a = a} {b = b} s)
+    layer_back (judged.operation s) (t_two {a = a} {b = b}) = judged.operation (operand_back s a b refl refl)
 
-    operand_back : {o : BinOp} {a b : Expr} {z : Size} → OperandSays o (value (T a)) (value (T b)) z → OperandSays o (value a) (value b) z
-    operand_back {a = a} (judged.first g s) = judged.first g (says_back {e = a} s)
-    operand_back {b = b} (judged.second g s) = judged.second g (says_back {e = b} s)
-    operand_back {a = a} (judged.shifted g s) = judged.shifted g (says_back {e = a} s)
+    operand_back : {o : BinOp} {c d : Expr} {z : Size} → OperandSays o (value c) (value d) z → (a b : Expr) → c ≡ T a → d ≡ T b → OperandSays o (value a) (value b) z
+    operand_back (judged.first g s) a b i j = judged.first g (says_back s a i)
+    operand_back (judged.second g s) a b i j = judged.second g (says_back s b j)
+    operand_back (judged.shifted g s) a b i j = judged.shifted g (says_back s a i)
 
   -- ---- the size of a typed expression
   abbrev size_of : Expr → Option Size
@@ -146,7 +150,7 @@ module _ (T : Expr → Expr) (L : Lval → Lval) (K : IsTurning T L) where
       by_sizes None None p q = refl
       by_sizes (Some y) (Some x) p q = ap (λ s. Some s) ((agree (T e)).one x z ((agree (T e)).right (word z) kept) q ∙ sym ((agree e).one y z ((agree e).right (word z) h) p))
       by_sizes (Some y) None p q = absurd (no_size (size_of (T e)) q ((agree (T e)).said y (says_kept T L K ((agree e).says y p))))
-      by_sizes None (Some x) p q = absurd (no_size (size_of e) p ((agree e).said x (says_back {e = e} ((agree (T e)).says x q))))
+      by_sizes None (Some x) p q = absurd (no_size (size_of e) p ((agree e).said x (says_back ((agree (T e)).says x q) e refl)))
 
   free_same : (e : Expr) → HasType (value e) unsized → size_of (T e) ≡ size_of e
   free_same e h = (agree (T e)).free ((agree (T e)).right unsized (type_kept T L K h)) ∙ sym ((agree e).free ((agree e).right unsized h))
@@ -240,6 +244,13 @@ module _ (T : Expr → Expr) (L : Lval → Lval) (K : IsTurning T L) where
 
   arguments_same : (z : Option Size) (rs : List Role) (es : List Expr) → InPairs (Operand z) rs es → argument_size rs (map T es) ≡ argument_size rs es
   arguments_same z [] [] well.none = refl
+  arguments_same z [] (e ∷ es) x = elim x [ ]
+  arguments_same z (role.Value ∷ rs) [] x = elim x [ ]
+  arguments_same z (role.Flag ∷ rs) [] x = elim x [ ]
+  arguments_same z (role.Count ∷ rs) [] x = elim x [ ]
+  arguments_same z (role.Condition ∷ rs) [] x = elim x [ ]
+  arguments_same z (role.Address ∷ rs) [] x = elim x [ ]
+  arguments_same z (role.Byte ∷ rs) [] x = elim x [ ]
   arguments_same z (role.Value ∷ rs) (e ∷ es) (well.next h k) =
       ap (first_size (is_worded (T e)) (size_of (T e))) (arguments_same z rs es k) ∙ value_operand z e (argument_size rs es) h
   arguments_same z (role.Flag ∷ rs) (e ∷ es) (well.next h k) = arguments_same z rs es k
@@ -250,6 +261,8 @@ module _ (T : Expr → Expr) (L : Lval → Lval) (K : IsTurning T L) where
 
   operands_kept : (z : Option Size) (rs : List Role) (es : List Expr) → InPairs (Operand z) rs es → InPairs (Operand z) rs (map T es)
   operands_kept z [] [] well.none = well.none
+  operands_kept z [] (e ∷ es) x = elim x [ ]
+  operands_kept z (r ∷ rs) [] x = elim x [ ]
   operands_kept z (r ∷ rs) (e ∷ es) (well.next h k) = well.next (operand_kept z r e h) (operands_kept z rs es k)
 
   -- ---- results
@@ -276,6 +289,8 @@ module _ (T : Expr → Expr) (L : Lval → Lval) (K : IsTurning T L) where
 
   outputs_kept : (z : Option Size) (rs : List Role) (ds : List Lval) → InPairs (Output z) rs ds → InPairs (Output z) rs (map L ds)
   outputs_kept z [] [] well.none = well.none
+  outputs_kept z [] (d ∷ ds) x = elim x [ ]
+  outputs_kept z (r ∷ rs) [] x = elim x [ ]
   outputs_kept z (r ∷ rs) (d ∷ ds) (well.next h k) = well.next (output_kept z r d h) (outputs_kept z rs ds k)
 
   sounds_kept : (ds : List Lval) → All IsSound ds → All IsSound (map L ds)
