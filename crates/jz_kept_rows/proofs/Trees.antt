@@ -19,7 +19,8 @@ use Rattle.jz_unroll.specs.Values.{InlineNames}
 use Rattle.jz_unroll.specs.Unrolling.{stays, vanishes, tested, loops, always, unrolling}
 use Rattle.jz_arrays.specs.Arrays.{assigns, instructs, tests, arrays}
 use Rattle.jz_kept_types.specs.Operations.{IsTypedBody}
-use Rattle.jz_kept_rows.specs.KeptRows.{IsRowedBody, IsClassedBody, UnrolledBodiesAreClassed, BodiesOfScalarsAreClassed}
+use Rattle.jz_row_classes.specs.RowClasses.{IsClassedBody}
+use Rattle.jz_kept_rows.specs.KeptRows.{IsRowedBody, UnrolledBodiesAreClassed, BodiesOfScalarsAreClassed}
 use Rattle.jz_kept_rows.proofs.Operations.{values_stay_classed, scalars_stay_classed, values_test, scalars_test}
 
 -- ---- values

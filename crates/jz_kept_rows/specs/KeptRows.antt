@@ -12,7 +12,7 @@ use Rattle.jz_unroll.specs.Values.{InlineNames, operation_with_values, operation
 use Rattle.jz_unroll.specs.Unrolling.{unrolling}
 use Rattle.jz_arrays.specs.Arrays.{arrays}
 use Rattle.jz_kept_types.specs.Operations.{IsTyped, IsTypedBody, operation_with_scalars}
-use Rattle.jz_row_classes.specs.RowClasses.{AreClassed, IsClassed, IsClassedTest}
+use Rattle.jz_row_classes.specs.RowClasses.{AreClassed, IsClassed, IsClassedTest, IsClassedBody}
 
 -- ---- operations
 -- what sets one inline variable alone needs no row
@@ -43,17 +43,6 @@ IsRowedBody (loop h q c b r) =
     IsClassedTest c × IsRowedBody q × IsRowedBody b × IsRowedBody r
 IsRowedBody (each i b r) = IsRowedBody b × IsRowedBody r
 IsRowedBody (call c b r) = ⊥
-
-abbrev pub IsClassedBody : Block → Type 0
-IsClassedBody done = ⊤
-IsClassedBody (op o r) = IsClassed o × IsClassedBody r
-IsClassedBody (quiet o r) = IsClassedBody r
-IsClassedBody (choose c a b r) =
-    IsClassedTest c × IsClassedBody a × IsClassedBody b × IsClassedBody r
-IsClassedBody (loop h q c b r) =
-    IsClassedTest c × IsClassedBody q × IsClassedBody b × IsClassedBody r
-IsClassedBody (each i b r) = IsClassedBody b × IsClassedBody r
-IsClassedBody (call c b r) = ⊥
 
 abbrev pub UnrolledBodiesAreClassed : Type 0
 UnrolledBodiesAreClassed =

@@ -21,7 +21,8 @@ use Rattle.jz_select.specs.Look.{look_of}
 use Rattle.jz_select.specs.Operands.{class_of, dest_of}
 use Rattle.jz_select.specs.Rows.{is_i, is_r, is_rm, is_rmi, is_flag, is_flag_result, is_pinned, is_wide, is_long, class_size, adds, multiplies, masks, product_size}
 use Rattle.jz_select.specs.Shapes.{Asked, is_test, has_flags, value_layer, update_layer}
-use Rattle.jz_meaning.specs.Statements.{Operation, assign, instruction, unset, meaningless, Condition}
+use Rattle.jz_runs.specs.Trees.{done, op, quiet, choose, loop, each, call}
+use Rattle.jz_meaning.specs.Statements.{Operation, assign, instruction, unset, meaningless, Condition, Block}
 use Rattle.jz_stuck_runs.specs.Sizes.{gives_byte}
 use Rattle.jz_standing.specs.Typing.{is_computed}
 use Rattle.jz_instructed.specs.Instructed.{Shape, a_flag, a_word, a_pinned, shapes_of, Form, one_word, two_words, three_words, with_carry, with_count, an_address, a_condition, form_of}
@@ -158,3 +159,15 @@ IsClassed (meaningless at) = ⊥
 
 abbrev pub IsClassedTest : Condition → Type 0
 IsClassedTest c = is_test c.cond ≡ true
+
+-- ---- bodies in which no call is left
+abbrev pub IsClassedBody : Block → Type 0
+IsClassedBody done = ⊤
+IsClassedBody (op o r) = IsClassed o × IsClassedBody r
+IsClassedBody (quiet o r) = IsClassedBody r
+IsClassedBody (choose c a b r) =
+    IsClassedTest c × IsClassedBody a × IsClassedBody b × IsClassedBody r
+IsClassedBody (loop h q c b r) =
+    IsClassedTest c × IsClassedBody q × IsClassedBody b × IsClassedBody r
+IsClassedBody (each i b r) = IsClassedBody b × IsClassedBody r
+IsClassedBody (call c b r) = ⊥
