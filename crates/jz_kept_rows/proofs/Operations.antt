@@ -43,39 +43,40 @@ use Rattle.jz_kept_rows.specs.KeptRows.{ValuesStayClassed, ScalarsStayClassed}
 use Rattle.jz_kept_rows.proofs.Values.{class_at, layer_turned, update_kept}
 use Rattle.jz_kept_rows.proofs.Closed.{count_kept, any_operands, operands_closed, inline_row, pairs_closed, inline_no_pair}
 
-module _ (T : Expr → Expr) (L : Lval → Lval) (K : Turned T) (F : (d : Lval) → KeepsClass (dest_of d) (dest_of (L d))) where
+module _ (T : Expr → Expr) (K : Turned T) where
   abbrev C : (e : Expr) → KeepsClass (class_of e) (class_of (T e))
-  C = class_at T L K F
+  C = class_at T K
 
   rmi_at : (e : Expr) → is_rmi (class_of e) ≡ true → is_rmi (class_of (T e)) ≡ true
   rmi_at e h = test_kept is_rmi refl (class_of e) (class_of (T e)) (C e) h
 
   -- ---- one value
-  value_stays : (asked : Asked) (d : Lval) (o : Option BinOp) (e : Expr) → ValueClassed asked d o e → ValueClassed asked (L d) o (T e)
-  value_stays asked d None e h =
+  value_stays : (asked : Asked) (d l : Lval) → KeepsClass (dest_of d) (dest_of l) → (o : Option BinOp) (e : Expr) → ValueClassed asked d o e → ValueClassed asked l o (T e)
+  value_stays asked d l f None e h =
       elim (K e (formed e)) [
-        | inl k ↦ any_operands (class_of (T e)) (value_layer asked (L d) (out-Expr (T e))) (rmi_at e (inline_row asked d e k.inline h))
-        | inr t ↦ layer_turned T L K F (AreOperands (class_of e)) (AreOperands (class_of (T e))) (operands_closed (class_of e) (class_of (T e)) (C e)) asked d t h
+        | inl k ↦ any_operands (class_of (T e)) (value_layer asked l (out-Expr (T e))) (rmi_at e (inline_row asked d e k.inline h))
+        | inr t ↦ layer_turned T K (AreOperands (class_of e)) (AreOperands (class_of (T e))) (operands_closed (class_of e) (class_of (T e)) (C e)) asked d l t h
       ]
-  value_stays asked d (Some o) e h =
-      update_kept T L K F (AreOperands class.Other) (AreOperands class.Other) (operands_closed class.Other class.Other the_same) asked d o e h
+  value_stays asked d l f (Some o) e h =
+      update_kept T K (AreOperands class.Other) (AreOperands class.Other) (operands_closed class.Other class.Other the_same) asked d l f o e h
 
-  one_stays : (d : Lval) (o : Option BinOp) (e : Expr) → IsOneClassed d o e → IsOneClassed (L d) o (T e)
-  one_stays d o e r = record {
-    to = test_kept is_rm refl (dest_of d) (dest_of (L d)) (F d) r.to;
+  pub one_stays : (d l : Lval) → KeepsClass (dest_of d) (dest_of l) → (o : Option BinOp) (e : Expr) → IsOneClassed d o e → IsOneClassed l o (T e)
+  one_stays d l f o e r = record {
+    to = test_kept is_rm refl (dest_of d) (dest_of l) f r.to;
     asked = r.asked;
-    operands = value_stays r.asked d o e r.operands;
+    operands = value_stays r.asked d l f o e r.operands;
   }
 
   pub flags_stay : (c : Expr) → has_flags c ≡ true → has_flags (T c) ≡ true
   flags_stay c h = (all_kept T K c (formed c)).flags h
 
+module _ (T : Expr → Expr) (L : Lval → Lval) (K : Turned T) (F : (d : Lval) → KeepsClass (dest_of d) (dest_of (L d))) where
   chosen_stays : (d : Lval) (e c : Expr) → IsChosen d e c → IsChosen (L d) (T e) (T c)
   chosen_stays d e c r = record {
     to = test_kept is_r refl (dest_of d) (dest_of (L d)) (F d) r.to;
     wide = ap (λ x. is_wide (class_size x)) (same_class is_r refl (dest_of d) (dest_of (L d)) (F d) r.to) ∙ r.wide;
-    operand = test_kept is_rm refl (class_of e) (class_of (T e)) (C e) r.operand;
-    flags = flags_stay c r.flags;
+    operand = test_kept is_rm refl (class_of e) (class_of (T e)) (C T K e) r.operand;
+    flags = flags_stay T K c r.flags;
   }
 
   -- ---- two results
@@ -83,13 +84,13 @@ module _ (T : Expr → Expr) (L : Lval → Lval) (K : Turned T) (F : (d : Lval) 
   pair_stays asked x d None e h =
       elim (K e (formed e)) [
         | inl k ↦ absurd (inline_no_pair asked (dest_of x) (dest_of d) d e k.inline h)
-        | inr t ↦ layer_turned T L K F (PairFits (dest_of x) (dest_of d)) (PairFits (dest_of (L x)) (dest_of (L d))) (pairs_closed (dest_of x) (dest_of (L x)) (dest_of d) (dest_of (L d)) (F x) (F d)) asked d t h
+        | inr t ↦ layer_turned T K (PairFits (dest_of x) (dest_of d)) (PairFits (dest_of (L x)) (dest_of (L d))) (pairs_closed (dest_of x) (dest_of (L x)) (dest_of d) (dest_of (L d)) (F x) (F d)) asked d (L d) t h
       ]
   pair_stays asked x d (Some o) e h =
-      update_kept T L K F (PairFits (dest_of x) (dest_of d)) (PairFits (dest_of (L x)) (dest_of (L d))) (pairs_closed (dest_of x) (dest_of (L x)) (dest_of d) (dest_of (L d)) (F x) (F d)) asked d o e h
+      update_kept T K (PairFits (dest_of x) (dest_of d)) (PairFits (dest_of (L x)) (dest_of (L d))) (pairs_closed (dest_of x) (dest_of (L x)) (dest_of d) (dest_of (L d)) (F x) (F d)) asked d (L d) (F d) o e h
 
   assign_stays : (to : List Lval) (o : Option BinOp) (e : Expr) (c : Option Expr) → AreClassed to o e c → AreClassed (map L to) o (T e) (option_map T c)
-  assign_stays (d ∷ []) o e None h = one_stays d o e h
+  assign_stays (d ∷ []) o e None h = one_stays T K d (L d) (F d) o e h
   assign_stays (d ∷ []) None e (Some c) h = chosen_stays d e c h
   assign_stays (d ∷ []) (Some o) e (Some c) h = absurd h
   assign_stays (x ∷ d ∷ []) o e None h = record { asked = h.asked; fits = pair_stays h.asked x d o e h.fits }
@@ -110,19 +111,19 @@ module _ (T : Expr → Expr) (L : Lval → Lval) (K : Turned T) (F : (d : Lval) 
   lefts_stay (h ∷ hs) [] t = absurd t
 
   flag_at : (e : Expr) → is_flag (class_of e) ≡ true → is_flag (class_of (T e)) ≡ true
-  flag_at e h = test_kept is_flag refl (class_of e) (class_of (T e)) (C e) h
+  flag_at e h = test_kept is_flag refl (class_of e) (class_of (T e)) (C T K e) h
 
   sum_at : (e : Expr) → (look_of e).sum.good ≡ true → (look_of (T e)).sum.good ≡ true
   sum_at e h = ap (λ (s : Sum). s.good) ((operand_kept T K e).sum h) ∙ h
 
   operands_stay : (f : Form) (es : List Expr) → Classed f es → Classed f (map T es)
-  operands_stay one_word (a ∷ []) h = rmi_at a h
-  operands_stay two_words (a ∷ b ∷ []) h = (rmi_at a h.0, rmi_at b h.1)
-  operands_stay three_words (a ∷ b ∷ c ∷ []) h = (rmi_at a h.0, rmi_at b h.1, rmi_at c h.2)
-  operands_stay with_carry (a ∷ b ∷ c ∷ []) h = (rmi_at a h.0, rmi_at b h.1, flag_at c h.2)
-  operands_stay with_count (a ∷ n ∷ []) h = (rmi_at a h.0, count_kept (class_of n) (class_of (T n)) (C n) h.1)
+  operands_stay one_word (a ∷ []) h = rmi_at T K a h
+  operands_stay two_words (a ∷ b ∷ []) h = (rmi_at T K a h.0, rmi_at T K b h.1)
+  operands_stay three_words (a ∷ b ∷ c ∷ []) h = (rmi_at T K a h.0, rmi_at T K b h.1, rmi_at T K c h.2)
+  operands_stay with_carry (a ∷ b ∷ c ∷ []) h = (rmi_at T K a h.0, rmi_at T K b h.1, flag_at c h.2)
+  operands_stay with_count (a ∷ n ∷ []) h = (rmi_at T K a h.0, count_kept (class_of n) (class_of (T n)) (C T K n) h.1)
   operands_stay an_address (a ∷ []) h = sum_at a h
-  operands_stay a_condition (c ∷ []) h = flags_stay c h
+  operands_stay a_condition (c ∷ []) h = flags_stay T K c h
   operands_stay f es h = absurd h
 
   module _ (S : (g : Signature) (to : List Lval) (args : List Expr) → Instructs (Some g) to args → size_of_intrinsic g (map L to) (map T args) ≡ size_of_intrinsic g to args) where
@@ -144,7 +145,7 @@ module _ (T : Expr → Expr) (L : Lval → Lval) (K : Turned T) (F : (d : Lval) 
   test_stays c h = by_part (or_parts (has_flags c) (look_of c).condition h)
     where
       by_part : (has_flags c ≡ true) ⊎ ((look_of c).condition ≡ true) → is_test (T c) ≡ true
-      by_part (inl t) = or_left (has_flags (T c)) (look_of (T c)).condition (flags_stay c t)
+      by_part (inl t) = or_left (has_flags (T c)) (look_of (T c)).condition (flags_stay T K c t)
       by_part (inr t) = or_right (has_flags (T c)) (look_of (T c)).condition ((all_kept T K c (formed c)).condition t)
 
 -- ---- what sets no inline variable

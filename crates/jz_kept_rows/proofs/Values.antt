@@ -87,18 +87,18 @@ pub record IsClosed (P Q : Value → Type 0) : Type 0 where
   pub inner : (p : BinOp) (asked : Asked) (d : Lval) (a b : Expr) (f g : Operand) → f.class ≡ class_of a → g.class ≡ class_of b → is_inline a ≡ true → is_inline b ≡ true → P (values.Carry p f g) → (v : Value) → Q v
   pub whatever : P values.Alone → (v : Value) → Q v
 
-module _ (T : Expr → Expr) (L : Lval → Lval) (K : Turned T) (F : (d : Lval) → KeepsClass (dest_of d) (dest_of (L d))) where
+module _ (T : Expr → Expr) (K : Turned T) where
   pub class_at : (e : Expr) → KeepsClass (class_of e) (class_of (T e))
   class_at e = (all_kept T K e (formed e)).kept
 
-  module _ (P Q : Value → Type 0) (C : IsClosed P Q) (asked : Asked) (d : Lval) where
+  module _ (P Q : Value → Type 0) (C : IsClosed P Q) (asked : Asked) (d l : Lval) where
     -- ---- sums that end with a flag
     by_carries : (o : BinOp) (c : Bool) (x y : Expr) → P (if c then values.Carry o (beside asked d (Some x) x) (beside asked d (Some x) y) else values.Alone)
-        → Q (if c then values.Carry o (beside asked (L d) (Some (T x)) (T x)) (beside asked (L d) (Some (T x)) (T y)) else values.Alone)
-    by_carries o true x y h = C.carry o (beside asked d (Some x) x) (beside asked d (Some x) y) (beside asked (L d) (Some (T x)) (T x)) (beside asked (L d) (Some (T x)) (T y)) (class_at x) (class_at y) h
+        → Q (if c then values.Carry o (beside asked l (Some (T x)) (T x)) (beside asked l (Some (T x)) (T y)) else values.Alone)
+    by_carries o true x y h = C.carry o (beside asked d (Some x) x) (beside asked d (Some x) y) (beside asked l (Some (T x)) (T x)) (beside asked l (Some (T x)) (T y)) (class_at x) (class_at y) h
     by_carries o false x y h = C.alone h
 
-    carry_turned : {x y : Layer} → (o : BinOp) → Becomes T x y → P (carry_layer asked d o x) → Q (carry_layer asked (L d) o y)
+    carry_turned : {x y : Layer} → (o : BinOp) → Becomes T x y → P (carry_layer asked d o x) → Q (carry_layer asked l o y)
     carry_turned o b_number h = C.alone h
     carry_turned o b_truth h = C.alone h
     carry_turned o (b_variable k) h = C.alone h
@@ -125,59 +125,59 @@ module _ (T : Expr → Expr) (L : Lval → Lval) (K : Turned T) (F : (d : Lval) 
     inline_carry o (Expr-F.Not a at) i h v = C.whatever h v
     inline_carry o (Expr-F.Cast z s a at) i h v = C.whatever h v
 
-    carry_kept : (o : BinOp) (a : Expr) → P (carry_layer asked d o (out-Expr a)) → Q (carry_layer asked (L d) o (out-Expr (T a)))
+    carry_kept : (o : BinOp) (a : Expr) → P (carry_layer asked d o (out-Expr a)) → Q (carry_layer asked l o (out-Expr (T a)))
     carry_kept o a h =
         elim (K a (formed a)) [
-          | inl k ↦ inline_carry o (out-Expr a) (sym (inline_out a) ∙ k.inline) h (carry_layer asked (L d) o (out-Expr (T a)))
+          | inl k ↦ inline_carry o (out-Expr a) (sym (inline_out a) ∙ k.inline) h (carry_layer asked l o (out-Expr (T a)))
           | inr t ↦ carry_turned o t h
         ]
 
     -- ---- operations on two
-    by_flag : (o : BinOp) (a b : Expr) (f : Bool) → P (if f then carry_layer asked d o (out-Expr a) else two_beside asked d o a b) → Q (if f then carry_layer asked (L d) o (out-Expr (T a)) else two_beside asked (L d) o (T a) (T b))
+    by_flag : (o : BinOp) (a b : Expr) (f : Bool) → P (if f then carry_layer asked d o (out-Expr a) else two_beside asked d o a b) → Q (if f then carry_layer asked l o (out-Expr (T a)) else two_beside asked l o (T a) (T b))
     by_flag o a b true h = carry_kept o a h
     by_flag o a b false h =
-        C.two o (beside asked d (first_of o a) a) (beside asked d (first_of o a) b) (beside asked (L d) (first_of o (T a)) (T a)) (beside asked (L d) (first_of o (T a)) (T b)) (class_at a) (class_at b) h
+        C.two o (beside asked d (first_of o a) a) (beside asked d (first_of o a) b) (beside asked l (first_of o (T a)) (T a)) (beside asked l (first_of o (T a)) (T b)) (class_at a) (class_at b) h
 
     two_turned : (o : BinOp) (a b : Expr) → P (if is_flag (class_of b) then carry_layer asked d o (out-Expr a) else two_beside asked d o a b)
-        → Q (if is_flag (class_of (T b)) then carry_layer asked (L d) o (out-Expr (T a)) else two_beside asked (L d) o (T a) (T b))
+        → Q (if is_flag (class_of (T b)) then carry_layer asked l o (out-Expr (T a)) else two_beside asked l o (T a) (T b))
     two_turned o a b h =
-        subst (λ f. Q (if f then carry_layer asked (L d) o (out-Expr (T a)) else two_beside asked (L d) o (T a) (T b))) (sym (flag_same (class_of b) (class_of (T b)) (class_at b)))
+        subst (λ f. Q (if f then carry_layer asked l o (out-Expr (T a)) else two_beside asked l o (T a) (T b))) (sym (flag_same (class_of b) (class_of (T b)) (class_at b)))
         (by_flag o a b (is_flag (class_of b)) h)
 
-    pub layer_turned : {x y : Layer} → Becomes T x y → P (value_layer asked d x) → Q (value_layer asked (L d) y)
+    pub layer_turned : {x y : Layer} → Becomes T x y → P (value_layer asked d x) → Q (value_layer asked l y)
     layer_turned b_number h = C.alone h
     layer_turned b_truth h = C.alone h
     layer_turned (b_variable k) h = C.alone h
     layer_turned (b_cell k) h = C.alone h
     layer_turned (b_scalar z e f i) h = C.alone h
     layer_turned (b_load k) h = C.alone h
-    layer_turned (b_minus {a = a}) h = C.one (beside asked d (Some a) a) (beside asked (L d) (Some (T a)) (T a)) (class_at a) h
-    layer_turned (b_denial {a = a}) h = C.one (beside asked d (Some a) a) (beside asked (L d) (Some (T a)) (T a)) (class_at a) h
+    layer_turned (b_minus {a = a}) h = C.one (beside asked d (Some a) a) (beside asked l (Some (T a)) (T a)) (class_at a) h
+    layer_turned (b_denial {a = a}) h = C.one (beside asked d (Some a) a) (beside asked l (Some (T a)) (T a)) (class_at a) h
     layer_turned (b_cast {z = z} {s = s} {a = a}) h = C.cast z s (class_of a) (class_of (T a)) (class_at a) h
     layer_turned (b_two {o = o} {a = a} {b = b}) h = two_turned o a b h
 
     -- ---- `d op= e`
-    two_updated : (o : BinOp) (e : Expr) → P (values.Two o (itself d) (beside asked d None e)) → Q (values.Two o (itself (L d)) (beside asked (L d) None (T e)))
-    two_updated o e h = C.two o (itself d) (beside asked d None e) (itself (L d)) (beside asked (L d) None (T e)) (F d) (class_at e) h
+    two_updated : (f : KeepsClass (dest_of d) (dest_of l)) (o : BinOp) (e : Expr) → P (values.Two o (itself d) (beside asked d None e)) → Q (values.Two o (itself l) (beside asked l None (T e)))
+    two_updated f o e h = C.two o (itself d) (beside asked d None e) (itself l) (beside asked l None (T e)) f (class_at e) h
 
-    by_update : (o : BinOp) (e a : Expr) (c : Bool) → P (if c then values.Carry o (itself d) (beside asked d None a) else values.Two o (itself d) (beside asked d None e))
-        → Q (if c then values.Carry o (itself (L d)) (beside asked (L d) None (T a)) else values.Two o (itself (L d)) (beside asked (L d) None (T e)))
-    by_update o e a true h = C.carry o (itself d) (beside asked d None a) (itself (L d)) (beside asked (L d) None (T a)) (F d) (class_at a) h
-    by_update o e a false h = two_updated o e h
+    by_update : (f : KeepsClass (dest_of d) (dest_of l)) (o : BinOp) (e a : Expr) (c : Bool) → P (if c then values.Carry o (itself d) (beside asked d None a) else values.Two o (itself d) (beside asked d None e))
+        → Q (if c then values.Carry o (itself l) (beside asked l None (T a)) else values.Two o (itself l) (beside asked l None (T e)))
+    by_update f o e a true h = C.carry o (itself d) (beside asked d None a) (itself l) (beside asked l None (T a)) f (class_at a) h
+    by_update f o e a false h = two_updated f o e h
 
-    update_turned : {x y : Layer} → (o : BinOp) (e : Expr) → Becomes T x y → P (update_layer asked d o e x) → Q (update_layer asked (L d) o (T e) y)
-    update_turned o e b_number h = two_updated o e h
-    update_turned o e b_truth h = two_updated o e h
-    update_turned o e (b_variable k) h = two_updated o e h
-    update_turned o e (b_cell k) h = two_updated o e h
-    update_turned o e (b_scalar z p f i) h = two_updated o e h
-    update_turned o e (b_load k) h = two_updated o e h
-    update_turned o e b_minus h = two_updated o e h
-    update_turned o e b_denial h = two_updated o e h
-    update_turned o e b_cast h = two_updated o e h
-    update_turned o e (b_two {o = p} {a = a} {b = b}) h =
-        subst (λ f. Q (if carries o p && f then values.Carry o (itself (L d)) (beside asked (L d) None (T a)) else values.Two o (itself (L d)) (beside asked (L d) None (T e)))) (sym (flag_same (class_of b) (class_of (T b)) (class_at b)))
-        (by_update o e a (carries o p && is_flag (class_of b)) h)
+    update_turned : {x y : Layer} → KeepsClass (dest_of d) (dest_of l) → (o : BinOp) (e : Expr) → Becomes T x y → P (update_layer asked d o e x) → Q (update_layer asked l o (T e) y)
+    update_turned f o e b_number h = two_updated f o e h
+    update_turned f o e b_truth h = two_updated f o e h
+    update_turned f o e (b_variable k) h = two_updated f o e h
+    update_turned f o e (b_cell k) h = two_updated f o e h
+    update_turned f o e (b_scalar z p q i) h = two_updated f o e h
+    update_turned f o e (b_load k) h = two_updated f o e h
+    update_turned f o e b_minus h = two_updated f o e h
+    update_turned f o e b_denial h = two_updated f o e h
+    update_turned f o e b_cast h = two_updated f o e h
+    update_turned f o e (b_two {o = p} {a = a} {b = b}) h =
+        subst (λ f. Q (if carries o p && f then values.Carry o (itself l) (beside asked l None (T a)) else values.Two o (itself l) (beside asked l None (T e)))) (sym (flag_same (class_of b) (class_of (T b)) (class_at b)))
+        (by_update f o e a (carries o p && is_flag (class_of b)) h)
 
     and_false : (a b : Bool) → b ≡ false → (a && b) ≡ false
     and_false true b e = e
@@ -200,9 +200,9 @@ module _ (T : Expr → Expr) (L : Lval → Lval) (K : Turned T) (F : (d : Lval) 
     plain_update : (o : BinOp) (to : Lval) (e : Expr) → is_inline e ≡ true → update_layer asked to o e (out-Expr e) ≡ values.Two o (itself to) (beside asked to None e)
     plain_update o to e q = plain_layer o to e (out-Expr e) (sym (inline_out e) ∙ q)
 
-    pub update_kept : (o : BinOp) (e : Expr) → P (update_layer asked d o e (out-Expr e)) → Q (update_layer asked (L d) o (T e) (out-Expr (T e)))
-    update_kept o e h =
+    pub update_kept : KeepsClass (dest_of d) (dest_of l) → (o : BinOp) (e : Expr) → P (update_layer asked d o e (out-Expr e)) → Q (update_layer asked l o (T e) (out-Expr (T e)))
+    update_kept f o e h =
         elim (K e (formed e)) [
-          | inl k ↦ subst Q (sym (plain_update o (L d) (T e) k.stays)) (two_updated o e (subst P (plain_update o d e k.inline) h))
-          | inr t ↦ update_turned o e t h
+          | inl k ↦ subst Q (sym (plain_update o l (T e) k.stays)) (two_updated f o e (subst P (plain_update o d e k.inline) h))
+          | inr t ↦ update_turned f o e t h
         ]
