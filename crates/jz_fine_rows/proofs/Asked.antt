@@ -1,7 +1,6 @@
 -- What the limits ask of the count of a shift: a number is not below zero.
 use Rattle.std.proofs.Common.{◌≡◌, ℤ, pos, negsuc, Bool, true, false, ◌&&◌, List, [], ◌∷◌, ◌++◌, Option, Some, None, refl, sym, ap, ◌∙◌, subst, if◌then◌else◌}
-use Rattle.std.specs.Prelude.{int_le}
-use Rattle.std.proofs.lemmas.Bool.{false≢true, true≢false, and_parts}
+use Rattle.std.proofs.lemmas.Bool.{false≢true, true≢false}
 use Rattle.x64_insn.specs.Size.{Size}
 use Rattle.jz_tree.specs.Span.{Span}
 use Rattle.jz_tree.specs.Operators.{is_shift}

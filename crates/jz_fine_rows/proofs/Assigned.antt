@@ -1,8 +1,8 @@
 -- Assignments of one value are fine.
-use Rattle.std.proofs.Common.{◌≡◌, Bool, true, false, ◌&&◌, ◌||◌, List, [], ◌∷◌, ◌++◌, Option, Some, None, refl, sym, ap, ◌∙◌, subst, inl, inr, if◌then◌else◌}
+use Rattle.std.proofs.Common.{◌≡◌, Bool, true, false, ◌&&◌, List, [], ◌∷◌, ◌++◌, Option, Some, None, refl, sym, ap, ◌∙◌, subst, inl, inr, if◌then◌else◌}
 use Rattle.std.specs.Prelude.{◌⊎◌}
 use Rattle.std.specs.Option.{option_or}
-use Rattle.std.proofs.lemmas.Bool.{false≢true, true≢false, and_parts}
+use Rattle.std.proofs.lemmas.Bool.{false≢true, true≢false}
 use Rattle.x64_insn.specs.Size.{Size}
 use Rattle.jz_tree.specs.Span.{Span}
 use Rattle.jz_tree.specs.Operators.{is_shift}
@@ -22,7 +22,7 @@ use Rattle.jz_type_sizes.specs.Operators.{group_of}
 use Rattle.jz_select.specs.declared.class.Class.TheVariants as class
 use Rattle.jz_select.specs.Sums.{is_address, is_index}
 use Rattle.jz_select.specs.Look.{look_of, terms_of}
-use Rattle.jz_select.specs.Operands.{var_class, cell_class, cell_of, mem_of, class_of, dest_of}
+use Rattle.jz_select.specs.Operands.{var_class, cell_class, cell_of, class_of, dest_of}
 use Rattle.jz_select.specs.Rows.{is_r, is_rm}
 use Rattle.jz_judgement.specs.Places as place
 use Rattle.jz_judgement.specs.Places.{truth, word}

@@ -1,6 +1,6 @@
 -- An inline expression is no register, no memory and no flag, and its value has its class.
 use Rattle.std.proofs.Common.{◌≡◌, inl, inr, ℤ, Option, Some, None, Bool, true, false, refl, sym, ap, ◌∙◌, subst}
-use Rattle.std.proofs.lemmas.Bool.{false≢true, true≢false, and_parts}
+use Rattle.std.proofs.lemmas.Bool.{false≢true, and_parts}
 use Rattle.jz_tree.specs.Span.{Span}
 use Rattle.jz_tree.specs.declared.expr.Storage.{Storage}
 use Rattle.jz_tree.specs.declared.expr.Storage.TheVariants as storage
@@ -25,7 +25,7 @@ use Rattle.jz_select.specs.Rows.{is_rm, is_flag}
 use Rattle.jz_select.specs.Shapes.{has_flags}
 use Rattle.jz_judgement.specs.HasType.{Layer}
 use Rattle.jz_run_laws.specs.Counted as counted
-use Rattle.jz_row_laws.proofs.Fixed.{look_layer, look_is, var_looked, var_known}
+use Rattle.jz_row_laws.proofs.Fixed.{look_layer, look_is, var_known}
 use Rattle.jz_unroll.specs.Values.{constant_expr}
 use Rattle.jz_unroll.specs.Unrolling.{KnowsLess}
 use Rattle.jz_unroll.proofs.InlineParts.{inline_layer, inline_out}
@@ -33,7 +33,7 @@ use Rattle.jz_one_unrolling.proofs.Knowing.{value_grows}
 use Rattle.jz_kept_classes.specs.Classes.{KeepsClass, the_same}
 use Rattle.jz_kept_classes.proofs.Formed.{Formed, FormedLayer}
 use Rattle.jz_kept_classes.proofs.Layers.{look_out, flags_layer, flags_out, value_layer, value_out}
-use Rattle.jz_kept_classes.proofs.Building.{IsNumber, IsNothing, IsBuilt, alike, otherwise, Inlined}
+use Rattle.jz_kept_classes.proofs.Building.{IsBuilt, alike, otherwise, Inlined}
 use Rattle.jz_kept_classes.proofs.InlineValues.{inline_looked, number_not_truth, condition_no_number}
 use Rattle.jz_kept_classes.proofs.Kept.{inline_class, none_known, Kept, same_kept}
 

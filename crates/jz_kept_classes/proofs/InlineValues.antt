@@ -1,7 +1,7 @@
 -- What is inline: an integer by what it looks like has no truth as its value, and an inline condition
 -- no number.
-use Rattle.std.proofs.Common.{◌≡◌, ◌⊎◌, inl, inr, ℤ, Option, Some, None, Bool, true, false, ◌&&◌, ◌||◌, not, refl, sym, ap, ◌∙◌, subst, if◌then◌else◌}
-use Rattle.std.proofs.lemmas.Bool.{false≢true, true≢false, and_parts}
+use Rattle.std.proofs.Common.{◌≡◌, ◌⊎◌, inl, inr, ℤ, Option, Some, None, Bool, true, false, ◌&&◌, not, refl, sym, ap, ◌∙◌, subst, if◌then◌else◌}
+use Rattle.std.proofs.lemmas.Bool.{false≢true, and_parts}
 use Rattle.std.specs.Int.{w128, int_bit_and, int_bit_or, int_bit_xor}
 use Rattle.jz_tree.specs.Operators.{joins}
 use Rattle.jz_tree.specs.declared.expr.Storage.{Storage}
@@ -9,22 +9,20 @@ use Rattle.jz_tree.specs.declared.expr.Storage.TheVariants as storage
 use Rattle.jz_tree.specs.declared.expr.BinOp.{BinOp}
 use Rattle.jz_tree.specs.declared.expr.BinOp.TheVariants as op
 use Rattle.jz_tree.specs.declared.expr.Expr.{Expr}
-use Rattle.jz_tree.specs.declared.expr.Expr.TheOpen.{Expr-F}
-use Rattle.jz_tree.specs.declared.expr.Expr.TheViews.{out-Expr}
-use Rattle.jz_integers.specs.Integers.{KnownNumbers, number, negated, inverted, on_integers, is_settled, on_both, with_right, joined, minus, opposite, inline_value}
+use Rattle.jz_integers.specs.Integers.{KnownNumbers, number, negated, inverted, on_integers, is_settled, with_right, joined, minus, opposite, inline_value}
 use Rattle.jz_integers.specs.declared.constant.Constant.{Constant}
 use Rattle.jz_integers.specs.declared.constant.Constant.TheVariants as constant
 use Rattle.jz_type_names.specs.declared.kinds.Kind.{Kind}
 use Rattle.jz_type_names.specs.declared.kinds.Kind.TheVariants as kind
 use Rattle.jz_type_names.specs.Kinds.{Known, known_of, inline_int, is_inline_int, is_inline}
-use Rattle.jz_select.specs.Look.{Look, look_of, looks, is_inline_var, is_reg64, reg64, compares_values, gives_number, bin_condition}
+use Rattle.jz_select.specs.Look.{Look, look_of, looks, is_inline_var, is_reg64, reg64, compares_values, gives_number}
 use Rattle.jz_judgement.specs.HasType.{Layer}
 use Rattle.jz_run_laws.specs.Counted as counted
-use Rattle.jz_row_laws.proofs.Fixed.{look_layer, var_looked, var_known}
+use Rattle.jz_row_laws.proofs.Fixed.{look_layer, var_known}
 use Rattle.jz_unroll.proofs.InlineParts.{inline_layer, inline_out}
 use Rattle.jz_kept_classes.proofs.Formed.{Formed, FormedLayer}
 use Rattle.jz_kept_classes.proofs.Layers.{look_out, number_of_var, value_layer, value_out}
-use Rattle.jz_kept_classes.proofs.Building.{IsNumber, IsNothing, Inlined, bool_inlined, two_inlined}
+use Rattle.jz_kept_classes.proofs.Building.{Inlined, bool_inlined, two_inlined}
 
 -- ---- what it looks like
 kind_inlined : (s : Storage) (k : Kind) → inline_int s k ≡ true → Inlined (looks (inline_int s k) false (reg64 s k) false)

@@ -1,8 +1,8 @@
 -- What turns expressions into expressions form by form keeps their classes.
-use Rattle.std.proofs.Common.{◌≡◌, ◌⊎◌, inl, inr, ◌+◌, ℤ, pos, Option, Some, None, Bool, true, false, ◌&&◌, not, refl, sym, ap, ap₂, ◌∙◌, subst, if◌then◌else◌}
+use Rattle.std.proofs.Common.{◌≡◌, ◌⊎◌, inl, inr, ◌+◌, ℤ, pos, Option, Some, None, Bool, true, false, ◌&&◌, refl, sym, ap, ap₂, ◌∙◌, subst, if◌then◌else◌}
 use Rattle.std.specs.Ordering.{int_eq}
 use Rattle.std.specs.Prelude.{nat_le}
-use Rattle.std.proofs.lemmas.Bool.{false≢true, true≢false, and_parts, and_from}
+use Rattle.std.proofs.lemmas.Bool.{false≢true, and_parts}
 use Rattle.jz_tree.specs.Size.{Size}
 use Rattle.jz_tree.specs.Size.TheVariants as sizes
 use Rattle.jz_tree.specs.Span.{Span}
@@ -28,9 +28,9 @@ use Rattle.jz_select.specs.declared.class.Class.{Class}
 use Rattle.jz_select.specs.declared.class.Sum.{Sum}
 use Rattle.jz_select.specs.declared.class.Class.TheVariants as class
 use Rattle.jz_select.specs.Sums.{term, sum_of, joined_sum, is_sum, is_address, is_index}
-use Rattle.jz_select.specs.Look.{Look, look_of, terms_of, looks, is_inline_var, is_reg64, is_regs64, reg64, regs64, compares_values, bin_inline}
+use Rattle.jz_select.specs.Look.{Look, look_of, terms_of, looks, is_inline_var, is_reg64, is_regs64, compares_values, bin_inline}
 use Rattle.jz_select.specs.Operands.{class_at, var_class, class_if, cell_at, cell_class, mem_of, inline_or, mask_of, is_byte, register_layer, masked_class, class_layer, class_of, dest_of}
-use Rattle.jz_select.specs.Rows.{is_m, is_rm, is_rmi, is_flag, is_skip}
+use Rattle.jz_select.specs.Rows.{is_rm, is_rmi, is_flag, is_skip}
 use Rattle.jz_select.specs.Shapes.{compares, has_flags}
 use Rattle.jz_judgement.specs.HasType.{Layer}
 use Rattle.jz_run_laws.specs.Counted as counted
@@ -39,7 +39,7 @@ use Rattle.jz_kept_types.proofs.Turning.{AccessTurns}
 use Rattle.jz_kept_classes.specs.Classes.{KeepsClass, the_same, from_other, KeepsOperand, KeepsClasses}
 use Rattle.jz_kept_classes.proofs.Formed.{Formed, FormedLayer, formed}
 use Rattle.jz_kept_classes.proofs.Layers.{look_out, flags_layer, flags_out, number_of_var, number_at, value_layer, value_out}
-use Rattle.jz_kept_classes.proofs.Building.{IsNothing, IsBuilt, alike, otherwise, itself, and_first, and_second, two, two_built, inline_kept, sum_kept, signed, two_condition}
+use Rattle.jz_kept_classes.proofs.Building.{IsBuilt, alike, otherwise, itself, and_first, and_second, two, two_built, inline_kept, sum_kept, signed, two_condition}
 
 -- ---- classes
 pub test_kept : (test : Class → Bool) → test class.Other ≡ false → (c d : Class) → KeepsClass c d → test c ≡ true → test d ≡ true

@@ -1,5 +1,5 @@
 -- Looks, values and conditions by the outermost form.
-use Rattle.std.proofs.Common.{◌≡◌, ℤ, List, ℕ, Option, Some, None, Bool, true, false, refl, sym, ap, ◌∙◌}
+use Rattle.std.proofs.Common.{◌≡◌, ℤ, Option, Bool, false, refl, sym, ap, ◌∙◌}
 use Rattle.jz_tree.specs.declared.expr.Expr.{Expr}
 use Rattle.jz_tree.specs.declared.expr.Var.{Var}
 use Rattle.jz_tree.specs.declared.expr.Expr.TheOpen.{Expr-F}
@@ -8,7 +8,7 @@ use Rattle.jz_tree.specs.declared.expr.Expr.TheFolds.{fold-Var, fold-roll-Expr, 
 use Rattle.jz_integers.specs.Integers.{KnownNumbers, value_step, inline_value}
 use Rattle.jz_integers.specs.declared.constant.Constant.{Constant}
 use Rattle.jz_type_names.specs.Kinds.{known_of}
-use Rattle.jz_select.specs.Look.{Look, look_of}
+use Rattle.jz_select.specs.Look.{look_of}
 use Rattle.jz_select.specs.Operands.{class_of, var_class}
 use Rattle.jz_select.specs.Rows.{is_flag}
 use Rattle.jz_select.specs.Shapes.{TestLayer, compares, flags_step, has_flags}

@@ -14,7 +14,7 @@ use Rattle.jz_tree.specs.declared.expr.Expr.TheViews.{out-Expr, out-Var, out-Ty,
 use Rattle.jz_tree.specs.declared.stmt.Lval.{Lval}
 use Rattle.jz_tree.specs.declared.stmt.Lval.TheVariants as lval
 use Rattle.jz_type_names.specs.declared.kinds.Kind.TheVariants as kind
-use Rattle.jz_type_names.specs.Kinds.{Known, kind_step, kind_of, declared_of, known_of, is_inline}
+use Rattle.jz_type_names.specs.Kinds.{kind_step, declared_of, known_of, is_inline}
 use Rattle.jz_type_names.specs.Parts.{span_of}
 use Rattle.jz_integers.specs.Integers.{KnownNumbers, inline_value}
 use Rattle.jz_select.specs.Look.{Look, look_of}
@@ -25,7 +25,7 @@ use Rattle.jz_row_laws.proofs.Fixed.{look_layer}
 use Rattle.jz_unroll.specs.Values.{with_values, left_with_values}
 use Rattle.jz_unroll.proofs.Valued.{parts_in}
 use Rattle.jz_unroll.proofs.Parts.{inline_whole, out_plain}
-use Rattle.jz_arrays.specs.Cells.{is_register, cells_of_ty, cells_of_decl, size_at, constant_layer, index_in, is_below, number_below, cell_in, scalar, cell_or, with_scalars, access_with_scalars, left_or, left_with_scalars}
+use Rattle.jz_arrays.specs.Cells.{is_register, cells_of_ty, cells_of_decl, size_at, constant_layer, index_in, number_below, cell_in, scalar, cell_or, with_scalars, access_with_scalars, left_or, left_with_scalars}
 use Rattle.jz_arrays.proofs.Reading.{rolled}
 use Rattle.jz_kept_types.proofs.Valuing as valuing
 use Rattle.jz_kept_types.proofs.Scaling as scaling

@@ -1,9 +1,8 @@
 -- The operands of one value and of two results stay, where each keeps its class.
-use Rattle.std.proofs.Common.{◌≡◌, ◌⊎◌, inl, inr, Bool, true, false, ◌&&◌, Option, Some, None, refl, sym, ap, ap₂, ◌∙◌, subst, if◌then◌else◌}
+use Rattle.std.proofs.Common.{◌≡◌, ◌⊎◌, inl, inr, Bool, true, false, ◌&&◌, None, refl, sym, ap, ap₂, ◌∙◌, if◌then◌else◌}
 use Rattle.std.specs.Option.{option_or}
 use Rattle.std.proofs.lemmas.Bool.{false≢true, and_parts}
 use Rattle.jz_tree.specs.Size.{Size}
-use Rattle.jz_tree.specs.Operators.{carries, is_shift}
 use Rattle.jz_tree.specs.declared.expr.BinOp.{BinOp}
 use Rattle.jz_tree.specs.declared.expr.Expr.{Expr}
 use Rattle.jz_tree.specs.declared.expr.Expr.TheOpen.{Expr-F}
@@ -15,16 +14,16 @@ use Rattle.jz_select.specs.declared.class.Class.TheVariants as class
 use Rattle.jz_select.specs.declared.class.Operand.{Operand}
 use Rattle.jz_select.specs.declared.shape.Value.{Value}
 use Rattle.jz_select.specs.declared.shape.Value.TheVariants as values
-use Rattle.jz_select.specs.Look.{look_of, gives_number, bin_inline}
+use Rattle.jz_select.specs.Look.{look_of, bin_inline}
 use Rattle.jz_select.specs.Operands.{inline_or, masked_class, class_layer, class_of}
-use Rattle.jz_select.specs.Rows.{is_i, is_rm, is_rmi, is_flag, is_flag_result, is_pinned, is_long, class_size, adds, masks}
-use Rattle.jz_select.specs.Shapes.{Asked, first_of, beside, carry_layer, two_beside, value_layer}
+use Rattle.jz_select.specs.Rows.{is_i, is_rm, is_rmi, is_flag, is_flag_result, is_pinned, is_long, class_size, masks}
+use Rattle.jz_select.specs.Shapes.{Asked, carry_layer, two_beside, value_layer}
 use Rattle.jz_judgement.specs.HasType.{Layer}
 use Rattle.jz_unroll.proofs.InlineParts.{inline_layer, inline_out}
 use Rattle.jz_kept_classes.specs.Classes.{KeepsClass}
 use Rattle.jz_kept_classes.proofs.Kept.{test_kept, same_class}
 use Rattle.jz_row_classes.specs.RowClasses.{IsCountClass, IsSecond, NotBothInline, AreOperands, IsSumRow, IsProductRow, PairFits}
-use Rattle.jz_row_laws.proofs.Copied.{rm_class, i_class}
+use Rattle.jz_row_laws.proofs.Copied.{i_class}
 use Rattle.jz_kept_rows.proofs.Values.{inline_looks, inline_not, both_inline, computed_gives, shift_gives, two_inline, IsClosed}
 
 rmi_kept : (c d : Class) → KeepsClass c d → is_rmi c ≡ true → is_rmi d ≡ true

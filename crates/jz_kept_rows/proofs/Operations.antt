@@ -1,18 +1,15 @@
 -- Statements with a row keep the classes of their results and operands.
-use Rattle.std.proofs.Common.{◌≡◌, ◌⊎◌, inl, inr, ℕ, Bool, true, false, ◌&&◌, ◌||◌, not, List, [], ◌∷◌, map, Option, Some, None, refl, sym, ap, ◌∙◌, subst}
+use Rattle.std.proofs.Common.{◌≡◌, ◌⊎◌, inl, inr, ℕ, true, false, ◌&&◌, not, List, [], ◌∷◌, map, Option, Some, None, refl, sym, ap, ◌∙◌, subst}
 use Rattle.std.specs.Prelude.{option_map}
 use Rattle.std.specs.List.{list_all}
-use Rattle.std.proofs.lemmas.Bool.{false≢true, and_parts}
-use Rattle.jz_tree.specs.Size.{Size}
-use Rattle.jz_tree.specs.Spellings.{spelled}
+use Rattle.std.proofs.lemmas.Bool.{and_parts}
 use Rattle.jz_tree.specs.declared.expr.BinOp.{BinOp}
 use Rattle.jz_tree.specs.declared.expr.Expr.{Expr}
 use Rattle.jz_tree.specs.declared.expr.Expr.TheVariants as expr
 use Rattle.jz_tree.specs.declared.expr.Expr.TheViews.{out-Expr}
 use Rattle.jz_tree.specs.declared.stmt.Lval.{Lval}
 use Rattle.jz_tree.specs.declared.stmt.Lval.TheVariants as lval
-use Rattle.jz_tree.specs.declared.intrinsic.Instance.{Instance}
-use Rattle.jz_type_names.specs.Kinds.{known_of, is_inline_int, is_inline}
+use Rattle.jz_type_names.specs.Kinds.{is_inline}
 use Rattle.jz_type_sizes.specs.Signatures.{Signature, instance_signature, signature}
 use Rattle.jz_type_sizes.specs.Intrinsics.{size_of_intrinsic}
 use Rattle.jz_type_rows.specs.Matching.{is_set_inline, may_be_inline, sets_inline}
@@ -24,7 +21,7 @@ use Rattle.jz_select.specs.Operands.{class_of, dest_of}
 use Rattle.jz_select.specs.Rows.{is_r, is_rm, is_rmi, is_flag, is_flag_result, is_pinned, is_wide, class_size}
 use Rattle.jz_select.specs.Shapes.{Asked, is_test, has_flags, value_layer}
 use Rattle.jz_judgement.specs.WellTyped.{Instructs}
-use Rattle.jz_meaning.specs.Statements.{Operation, assign, instruction, unset, meaningless}
+use Rattle.jz_meaning.specs.Statements.{assign, instruction, unset, meaningless}
 use Rattle.jz_row_laws.proofs.Booleans.{or_parts, or_left, or_right}
 use Rattle.jz_unroll.specs.Values.{InlineNames, is_inline_var, with_values, left_with_values, left_has_values}
 use Rattle.jz_unroll.proofs.InlineParts.{inline_var}
@@ -38,7 +35,7 @@ use Rattle.jz_kept_classes.specs.Classes.{KeepsClass, the_same}
 use Rattle.jz_kept_classes.proofs.Formed.{formed}
 use Rattle.jz_kept_classes.proofs.Kept.{test_kept, same_class, Turned, all_kept, operand_kept}
 use Rattle.jz_kept_classes.proofs.Turned.{values_turned, scalars_turned, values_keep_classes, scalars_keep_classes}
-use Rattle.jz_row_classes.specs.RowClasses.{AreOperands, ValueClassed, IsOneClassed, IsChosen, PairFits, PairValue, IsPairClassed, Classed, LeftClassed, LeftsClassed, IsInstanceClassed, AreClassed}
+use Rattle.jz_row_classes.specs.RowClasses.{AreOperands, ValueClassed, IsOneClassed, IsChosen, PairFits, PairValue, Classed, LeftClassed, LeftsClassed, IsInstanceClassed, AreClassed}
 use Rattle.jz_kept_rows.specs.KeptRows.{ValuesStayClassed, ScalarsStayClassed}
 use Rattle.jz_kept_rows.proofs.Values.{class_at, layer_turned, update_kept}
 use Rattle.jz_kept_rows.proofs.Closed.{count_kept, any_operands, operands_closed, inline_row, pairs_closed, inline_no_pair}

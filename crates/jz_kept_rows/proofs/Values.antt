@@ -1,6 +1,6 @@
 -- The value of an assignment, with its operands, where each part keeps its class.
-use Rattle.std.proofs.Common.{◌≡◌, ◌⊎◌, inl, inr, Bool, true, false, ◌&&◌, Some, None, refl, sym, ap, ap₂, ◌∙◌, subst, if◌then◌else◌}
-use Rattle.std.proofs.lemmas.Bool.{false≢true, true≢false, and_parts, and_from}
+use Rattle.std.proofs.Common.{◌≡◌, inl, inr, Bool, true, false, ◌&&◌, Some, None, refl, sym, ap, ◌∙◌, subst, if◌then◌else◌}
+use Rattle.std.proofs.lemmas.Bool.{false≢true, and_parts, and_from}
 use Rattle.jz_tree.specs.Size.{Size}
 use Rattle.jz_tree.specs.Operators.{carries, is_shift}
 use Rattle.jz_tree.specs.declared.expr.BinOp.{BinOp}
@@ -16,15 +16,15 @@ use Rattle.jz_select.specs.declared.class.Operand.{Operand}
 use Rattle.jz_select.specs.declared.shape.Value.{Value}
 use Rattle.jz_select.specs.declared.shape.Value.TheVariants as values
 use Rattle.jz_select.specs.Look.{look_of, gives_number, bin_inline}
-use Rattle.jz_select.specs.Operands.{inline_or, masked_class, class_layer, class_of, dest_of}
-use Rattle.jz_select.specs.Rows.{is_i, is_rm, is_rmi, is_flag, masks}
+use Rattle.jz_select.specs.Operands.{inline_or, masked_class, class_of, dest_of}
+use Rattle.jz_select.specs.Rows.{is_i, is_rmi, is_flag}
 use Rattle.jz_select.specs.Shapes.{Asked, first_of, itself, beside, carry_layer, two_beside, value_layer, update_layer}
 use Rattle.jz_judgement.specs.HasType.{Layer}
 use Rattle.jz_unroll.proofs.InlineParts.{inline_layer, inline_out}
 use Rattle.jz_standing.specs.Typing.{is_computed}
 use Rattle.jz_kept_classes.specs.Classes.{KeepsClass}
 use Rattle.jz_kept_classes.proofs.Formed.{formed}
-use Rattle.jz_kept_classes.proofs.Kept.{flag_same, Kept, KeptWhole, Becomes, b_number, b_truth, b_variable, b_cell, b_scalar, b_load, b_minus, b_denial, b_cast, b_two, Turned, all_kept}
+use Rattle.jz_kept_classes.proofs.Kept.{flag_same, Becomes, b_number, b_truth, b_variable, b_cell, b_scalar, b_load, b_minus, b_denial, b_cast, b_two, Turned, all_kept}
 use Rattle.jz_kept_classes.proofs.Inline.{inline_class_is}
 use Rattle.jz_row_classes.specs.RowClasses.{NotBothInline}
 

@@ -1,5 +1,5 @@
 -- What a row gives of the classes of an instruction's operands and left sides.
-use Rattle.std.proofs.Common.{◌≡◌, Bool, true, false, ◌&&◌, ◌||◌, List, [], ◌∷◌, Option, Some, None, refl, sym, ap, ◌∙◌, subst, inl, inr, if◌then◌else◌}
+use Rattle.std.proofs.Common.{◌≡◌, Bool, true, false, ◌&&◌, ◌||◌, List, [], ◌∷◌, Option, Some, None, refl, sym, ap, ◌∙◌, inl, inr, if◌then◌else◌}
 use Rattle.std.specs.Prelude.{◌⊎◌}
 use Rattle.std.specs.Option.{option_or}
 use Rattle.std.proofs.lemmas.Bool.{and_parts, false≢true}
@@ -18,12 +18,12 @@ use Rattle.jz_select.specs.declared.shaping.Flags.TheVariants as flags
 use Rattle.jz_select.specs.Sums.{is_sum}
 use Rattle.jz_select.specs.Look.{look_of, terms_of}
 use Rattle.jz_select.specs.Operands.{class_of, dest_of}
-use Rattle.jz_select.specs.Rows.{is_r, is_i, is_m, is_rm, is_rmi, is_flag, is_skip, is_pinned, is_longest, class_size, changes, computes, times, times_inline, shifts_inline, shifts_masked, masks, one_fits, two_fits, three_fits, is_product, divides_long, sets, named_if}
+use Rattle.jz_select.specs.Rows.{is_r, is_i, is_m, is_rm, is_rmi, is_flag, is_skip, is_pinned, is_longest, class_size, changes, computes, times, times_inline, shifts_inline, shifts_masked, masks, one_fits, two_fits, three_fits, is_product, divides_long, sets}
 use Rattle.jz_select.specs.Shapes.{Asked, leads, two_lead, four_lead, five_lead, if_lead, value_behind, address_shape, set_shape, compare_shape, has_flags, beside, one_shape, two_shape, three_shape, product_shape, stand_apart, division_shape, intrinsic_shape}
 use Rattle.jz_row_laws.proofs.Booleans.{or_left, or_right, or_parts}
 use Rattle.jz_row_laws.proofs.Copied.{Matches, no_free, rm_class, i_class, r_class}
 use Rattle.jz_stuck_runs.proofs.RowSizes.{named_fits}
-use Rattle.jz_instructed.specs.Instructed.{a_flag, a_word, a_pinned, five_flags, flags_and_word, flags_and_two, shapes_of, Form, one_word, two_words, three_words, with_carry, with_count, an_address, a_condition, form_of}
+use Rattle.jz_instructed.specs.Instructed.{a_flag, a_word, five_flags, flags_and_word, flags_and_two, shapes_of, Form, one_word, two_words, three_words, with_carry, with_count, an_address, a_condition, form_of}
 use Rattle.jz_row_classes.specs.RowClasses.{Classed, LeftsClassed}
 
 -- ---- classes

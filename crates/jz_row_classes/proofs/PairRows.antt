@@ -16,7 +16,7 @@ use Rattle.jz_select.specs.declared.shape.Value.TheVariants as values
 use Rattle.jz_select.specs.declared.shape.Shape as rowed
 use Rattle.jz_select.specs.declared.shape.Shape.TheVariants as shapes
 use Rattle.jz_select.specs.Operands.{class_of, dest_of}
-use Rattle.jz_select.specs.Rows.{is_i, is_r, is_m, is_rm, is_rmi, is_skip, is_flag, is_flag_result, is_pinned, is_long, may_lead, are_inline, adds, joins_bits, multiplies, computes, product_size, p2, p3, p7}
+use Rattle.jz_select.specs.Rows.{is_r, is_rm, is_rmi, is_skip, is_flag, is_flag_result, is_pinned, is_long, may_lead, are_inline, adds, joins_bits, multiplies, computes, product_size, p2, p3, p7}
 use Rattle.jz_select.specs.Shapes.{Asked, beside, first_of, carry_layer, value_layer, assign_of}
 use Rattle.jz_judgement.specs.HasType.{Layer}
 use Rattle.jz_row_laws.proofs.Booleans.{or_left, or_right, or_parts}

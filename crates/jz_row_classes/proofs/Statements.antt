@@ -1,5 +1,5 @@
 -- A statement that matches a row has classes.
-use Rattle.std.proofs.Common.{◌≡◌, ℕ, Bool, true, false, ◌&&◌, ◌||◌, List, [], ◌∷◌, Option, Some, None, refl, sym, ap, ◌∙◌, subst, if◌then◌else◌}
+use Rattle.std.proofs.Common.{◌≡◌, ℕ, Bool, true, false, ◌&&◌, ◌||◌, List, [], ◌∷◌, Option, Some, None, refl, sym, ap, ◌∙◌, subst}
 use Rattle.std.proofs.lemmas.Bool.{false≢true, and_parts}
 use Rattle.jz_tree.specs.Size.TheVariants.{S64}
 use Rattle.jz_tree.specs.Span.{Span}
@@ -18,7 +18,6 @@ use Rattle.jz_tree.specs.declared.intrinsic.Intrinsic.TheVariants as name
 use Rattle.jz_tree.specs.declared.intrinsic.Instance.{Instance}
 use Rattle.jz_type_sizes.specs.Signatures.{instance_signature}
 use Rattle.jz_type_sizes.specs.Intrinsics.{size_of_intrinsic}
-use Rattle.jz_select.specs.declared.class.Class.{Class}
 use Rattle.jz_select.specs.declared.class.Class.TheVariants as class
 use Rattle.jz_select.specs.declared.shape.Shape.TheVariants as shapes
 use Rattle.jz_select.specs.declared.shaping.Flags.TheVariants as flags
@@ -28,12 +27,12 @@ use Rattle.jz_select.specs.Places.{Answers}
 use Rattle.jz_select.specs.Operands.{class_of, dest_of}
 use Rattle.jz_select.specs.Rows.{is_r, is_rm, is_wide, is_longest, class_size, p14}
 use Rattle.std.specs.Option.{option_or}
-use Rattle.jz_select.specs.Shapes.{Asked, whichever, has_flags, is_test, value_layer, update_layer, value_behind, address_shape, intrinsic_shape, named_shape, kind_layer}
+use Rattle.jz_select.specs.Shapes.{whichever, has_flags, is_test, value_layer, update_layer, value_behind, address_shape, intrinsic_shape, named_shape, kind_layer}
 use Rattle.jz_row_laws.proofs.Copied.{Matches, selected_matches, no_free}
 use Rattle.jz_stuck_runs.specs.Sizes.{gives_byte}
 use Rattle.jz_stuck_runs.proofs.RowSizes.{named_fits}
 use Rattle.jz_stuck_runs.proofs.Instructing.{lea_size}
-use Rattle.jz_row_classes.specs.RowClasses.{IsChosen, AreClassed, IsOfSize, HasSize, IsInstanceClassed, Classed}
+use Rattle.jz_row_classes.specs.RowClasses.{IsChosen, AreClassed, IsOfSize, HasSize, IsInstanceClassed}
 use Rattle.jz_row_classes.specs.RowLaws.{HasRow, AssignmentsHaveClasses, InstructionsHaveClasses}
 use Rattle.jz_row_classes.proofs.ValueRows.{found}
 use Rattle.jz_row_classes.proofs.PairRows.{pair_fits}
