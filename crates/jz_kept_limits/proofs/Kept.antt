@@ -1,5 +1,5 @@
 -- Values in place of inline parts pass the limits that those pass.
-use Rattle.std.proofs.Common.{◌≡◌, ℕ, Bool, true, false, ◌&&◌, Option, Some, None, refl, sym, ap, ◌∙◌, subst, ℤ, pos, if◌then◌else◌}
+use Rattle.std.proofs.Common.{◌≡◌, Bool, true, false, ◌&&◌, Option, Some, None, refl, sym, ap, ◌∙◌, pos}
 use Rattle.jz_words.specs.declared.size.Size.{Size}
 use Rattle.jz_tree.specs.Span.{Span}
 use Rattle.jz_tree.specs.declared.expr.Access.{Access}
@@ -8,7 +8,7 @@ use Rattle.jz_tree.specs.declared.expr.Decl.{Decl}
 use Rattle.jz_tree.specs.declared.expr.Ty.{Ty}
 use Rattle.jz_tree.specs.declared.expr.Expr.{Expr}
 use Rattle.jz_tree.specs.declared.expr.Expr.TheVariants as expr
-use Rattle.jz_tree.specs.declared.expr.Expr.TheOpen.{Expr-F, Access-F}
+use Rattle.jz_tree.specs.declared.expr.Expr.TheOpen.{Access-F}
 use Rattle.jz_tree.specs.declared.expr.Expr.TheViews.{out-Var, out-Access, roll-Access, roll-out-Access, out-roll-Access}
 use Rattle.jz_tree.specs.declared.expr.Var.{Var}
 use Rattle.jz_integers.specs.Integers.{KnownNumbers, inline_value, minus, opposite, number}
@@ -24,7 +24,7 @@ use Rattle.jz_limits.specs.declared.limit.Limit.TheVariants.{ImmRange}
 use Rattle.jz_limits.specs.declared.looked.Asking.{Asking}
 use Rattle.jz_limits.specs.Values.{no_numbers}
 use Rattle.jz_limits.specs.Asked.{has_displacement}
-use Rattle.jz_limits.specs.InnerLooked.{Seen, seen_as, look_of, sooner, if_not, no_part, inner_part, cell_part, load_part, range_of, index_field, operation_seen}
+use Rattle.jz_limits.specs.InnerLooked.{Seen, seen_as, look_of, if_not, no_part, inner_part, cell_part, load_part, range_of, index_field, operation_seen}
 use Rattle.jz_limits.proofs.Layers.{inline_var, look_num, look_bool, look_var, look_cell, look_load, look_neg, look_not, look_cast, look_bin}
 use Rattle.jz_homes.specs.Homes.{Homes}
 use Rattle.jz_total_rows.specs.Expanded.{HasHome}

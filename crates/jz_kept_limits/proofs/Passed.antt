@@ -1,5 +1,5 @@
 -- What passes the limits, and what stands in its place.
-use Rattle.std.proofs.Common.{◌≡◌, Bool, true, false, ◌&&◌, Option, Some, None, refl, sym, ap, ◌∙◌, subst, ℤ, ◌+ℤ◌, ◌-ℤ◌, pos, if◌then◌else◌}
+use Rattle.std.proofs.Common.{◌≡◌, Bool, true, false, ◌&&◌, Option, Some, None, refl, sym, ap, ◌∙◌, subst, ℤ, ◌+ℤ◌, ◌-ℤ◌, if◌then◌else◌}
 use Rattle.std.proofs.lemmas.Bool.{true≢false}
 use Rattle.jz_tree.specs.Size.{Size}
 use Rattle.jz_tree.specs.Span.{Span}
@@ -14,14 +14,13 @@ use Rattle.jz_integers.specs.Integers.{KnownNumbers, inline_value, the_number, j
 use Rattle.jz_integers.specs.declared.constant.Constant.{Constant}
 use Rattle.jz_integers.specs.declared.constant.Constant.TheVariants as constant
 use Rattle.jz_type_names.specs.Kinds.{is_inline, known_of, is_inline_int}
-use Rattle.jz_type_names.specs.Parts.{span_of}
 use Rattle.jz_meaning.specs.Assignments.{Layer}
 use Rattle.jz_meaning.specs.Values.{own_size}
-use Rattle.jz_limits.specs.Limits.{Limit}
+use Rattle.jz_limits.specs.declared.limit.Limit.{Limit}
 use Rattle.jz_limits.specs.declared.limit.Limit.TheVariants.{ImmRange}
 use Rattle.jz_limits.specs.declared.looked.Asking.{Asking}
 use Rattle.jz_limits.specs.Asked.{has_immediate, is_count, or_zero}
-use Rattle.jz_limits.specs.InnerLooked.{Seen, Part, seen_as, look_of, sooner, if_not, no_part, inner_part, cell_part, load_part, count_field, scale_value, product_scaled, operation_terms, operation_scaled, operation_part, operation_seen}
+use Rattle.jz_limits.specs.InnerLooked.{Seen, Part, seen_as, look_of, sooner, if_not, no_part, inner_part, cell_part, load_part, count_field, scale_value, operation_terms, operation_scaled, operation_part, operation_seen}
 use Rattle.jz_kept_limits.specs.Passing.{Passes}
 use Rattle.jz_limits.proofs.Layers.{look_num, look_bool, look_var, look_cell, look_load, look_neg, look_not, look_cast, look_bin}
 

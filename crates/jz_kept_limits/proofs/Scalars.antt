@@ -1,5 +1,6 @@
 -- Words in place of the cells of register arrays pass the limits that those pass.
-use Rattle.std.proofs.Common.{◌≡◌, ℕ, Bool, true, false, ◌&&◌, Option, Some, None, refl, sym, ap, ◌∙◌, subst, ℤ, pos, if◌then◌else◌}
+use Rattle.std.proofs.Common.{◌≡◌, ℕ, Bool, true, false, ◌&&◌, Some, None, refl, sym, ap, ◌∙◌, pos}
+use Rattle.std.specs.FinMap.{empty}
 use Rattle.jz_words.specs.declared.size.Size.{Size}
 use Rattle.jz_tree.specs.Span.{Span}
 use Rattle.jz_tree.specs.declared.expr.Access.{Access}
@@ -11,14 +12,14 @@ use Rattle.jz_tree.specs.declared.expr.Expr.TheVariants as expr
 use Rattle.jz_tree.specs.declared.expr.Expr.TheOpen.{Expr-F, Access-F}
 use Rattle.jz_tree.specs.declared.expr.Expr.TheViews.{out-Var, out-Access, roll-Access, roll-out-Access, out-roll-Access}
 use Rattle.jz_tree.specs.declared.expr.Var.{Var}
-use Rattle.jz_integers.specs.Integers.{KnownNumbers, inline_value, minus, opposite, number}
+use Rattle.jz_integers.specs.Integers.{minus, opposite, number}
 use Rattle.jz_integers.specs.declared.constant.Constant.TheVariants as constant
-use Rattle.jz_type_names.specs.Kinds.{is_inline, known_of, is_inline_int}
-use Rattle.jz_meaning.specs.Values.{ref_of, own_size}
+use Rattle.jz_type_names.specs.Kinds.{is_inline}
+use Rattle.jz_meaning.specs.Values.{own_size}
 use Rattle.jz_meaning.specs.States.{State, empty_store}
 use Rattle.jz_meaning.specs.Shapes.{words}
 use Rattle.jz_unroll.specs.Values.{with_values}
-use Rattle.jz_arrays.specs.Cells.{size_at, cell_in, scalar, cell_or, with_scalars, access_with_scalars}
+use Rattle.jz_arrays.specs.Cells.{cell_in, scalar, cell_or, with_scalars, access_with_scalars}
 use Rattle.jz_arrays.proofs.Reading.{in_is, access_in_is}
 use Rattle.jz_limits.specs.declared.looked.Asking.{Asking}
 use Rattle.jz_limits.specs.Values.{no_numbers}
@@ -27,11 +28,11 @@ use Rattle.jz_limits.proofs.Layers.{look_num, look_bool, look_var, look_cell, lo
 use Rattle.jz_homes.specs.Homes.{Homes}
 use Rattle.jz_total_rows.specs.Expanded.{HasHome}
 use Rattle.jz_total_rows.proofs.Forms.{home_not_inline}
-use Rattle.jz_expanded.specs.Valued.{IsStackArray, IsScalarCell, IsValued}
+use Rattle.jz_expanded.specs.Valued.{IsStackArray, IsScalarCell}
 use Rattle.jz_expanded.proofs.Values.{IsScalable, s_number, s_truth, s_variable, s_cell, s_scalar, s_load, s_minus, s_denial, s_cast, s_two, scalable}
 use Rattle.jz_expanded.proofs.Scalars.{scalars_cell, stack_size, number_of, access_at}
 use Rattle.jz_kept_limits.specs.Passing.{Passes}
-use Rattle.jz_kept_limits.specs.Laws.{AreApart, ExpressionsStayWithin}
+use Rattle.jz_kept_limits.specs.Laws.{ExpressionsStayWithin}
 use Rattle.jz_kept_limits.proofs.Passed.{passes_as, passes_then, plain, constant_itself, both_pass}
 use Rattle.jz_kept_limits.proofs.Kept.{cell_passes, load_passes, inner_passes, kept}
 use Rattle.jz_kept_limits.proofs.SizeLemmas.{values_own, scalars_own}
@@ -143,8 +144,8 @@ module _ (home : Homes) (own : (e : Expr) → own_size (with_scalars e) ≡ own_
   scalars_kept e (s_two o a b at n x y) q = two_kept o a b at n (scalars_kept a x) (scalars_kept b y) q
 
 -- ---- both
-a_state : State
-a_state = record { store = empty_store; memory = λ a. None }
+abbrev a_state : State
+a_state = record { store = empty_store; memory = empty }
 
 pub expressions : ExpressionsStayWithin
 expressions home k e q apart v =

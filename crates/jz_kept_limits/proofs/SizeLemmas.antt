@@ -1,26 +1,25 @@
 -- Expressions keep their own sizes.
-use Rattle.std.proofs.Common.{◌≡◌, ℕ, Bool, Option, Some, None, refl, sym, ap, ◌∙◌, ℤ, pos}
+use Rattle.std.proofs.Common.{◌≡◌, Bool, true, Some, refl, sym, ap, ◌∙◌, subst}
 use Rattle.jz_words.specs.declared.size.Size.{Size}
 use Rattle.jz_tree.specs.Span.{Span}
 use Rattle.jz_tree.specs.declared.expr.Access.{Access}
-use Rattle.jz_tree.specs.declared.expr.BinOp.{BinOp}
 use Rattle.jz_tree.specs.declared.expr.Decl.{Decl}
 use Rattle.jz_tree.specs.declared.expr.Ty.{Ty}
 use Rattle.jz_tree.specs.declared.expr.Expr.{Expr}
 use Rattle.jz_tree.specs.declared.expr.Expr.TheVariants as expr
 use Rattle.jz_tree.specs.declared.expr.Expr.TheOpen.{Expr-F, Access-F}
-use Rattle.jz_tree.specs.declared.expr.Expr.TheViews.{out-Access, roll-Access, roll-out-Access, roll-Expr}
+use Rattle.jz_tree.specs.declared.expr.Expr.TheViews.{out-Access, roll-Access, roll-out-Access}
 use Rattle.jz_tree.specs.declared.expr.Var.{Var}
 use Rattle.jz_integers.specs.Integers.{KnownNumbers, inline_value}
 use Rattle.jz_integers.specs.declared.constant.Constant.{Constant}
 use Rattle.jz_integers.specs.declared.constant.Constant.TheVariants as constant
 use Rattle.jz_type_names.specs.Kinds.{is_inline}
 use Rattle.jz_type_names.specs.Parts.{span_of}
-use Rattle.jz_meaning.specs.States.{State, Value, empty_store}
+use Rattle.jz_meaning.specs.States.{State, empty_store}
 use Rattle.jz_meaning.specs.Shapes.{Sorts, HoldsSorts}
 use Rattle.jz_meaning.specs.Values.{Meaning, MemoryAccess, size_of_operation, access_of, own_size}
 use Rattle.jz_unroll.specs.Values.{constant_expr, with_values, access_with_values}
-use Rattle.jz_unroll.proofs.Layers.{meaning_layer, meaning_is, access_is}
+use Rattle.jz_unroll.proofs.Layers.{meaning_is, access_is}
 use Rattle.jz_unroll.proofs.InlineParts.{no_size}
 use Rattle.jz_unroll.proofs.Valued.{access_values_is}
 use Rattle.jz_unroll.proofs.Parts.{inline_whole, values_bin, values_var, values_cell, values_load}

@@ -1,13 +1,12 @@
 -- What passes the limits passes them too where values stand in place of its inline parts, and words
 -- in place of the cells of register arrays.
-use Rattle.std.specs.Prelude.{◌≡◌, Option, Some, None, ⊤}
+use Rattle.std.specs.Prelude.{◌≡◌, None}
 use Rattle.jz_tree.specs.declared.expr.Expr.{Expr}
 use Rattle.jz_tree.specs.declared.expr.Var.{Var}
 use Rattle.jz_tree.specs.declared.expr.Expr.TheViews.{out-Var}
 use Rattle.jz_integers.specs.Integers.{KnownNumbers}
 use Rattle.jz_unroll.specs.Values.{with_values}
 use Rattle.jz_arrays.specs.Cells.{with_scalars}
-use Rattle.jz_limits.specs.Limits.{Limit}
 use Rattle.jz_limits.specs.declared.looked.Asking.{Asking}
 use Rattle.jz_limits.specs.Values.{no_numbers}
 use Rattle.jz_limits.specs.InnerLooked.{look_of}
