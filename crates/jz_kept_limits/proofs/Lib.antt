@@ -1,0 +1,4 @@
+pub mod Passed
+pub mod SizeLemmas
+pub mod Kept
+pub mod Scalars
