@@ -38,7 +38,7 @@ at_layer x =
     ap (λ m. (out-Access m).at) (access_in_is x)
     ∙ ap (λ (y : Access-F Expr Ty Access Decl Var). y.at) (out-roll-Access (record { size = x.size; at = with_scalars x.at; unaligned = x.unaligned; span = x.span }))
 
-pub access_at : (a : Access) → (out-Access (access_with_scalars a)).at ≡ with_scalars (out-Access a).at
+access_at : (a : Access) → (out-Access (access_with_scalars a)).at ≡ with_scalars (out-Access a).at
 access_at a = ap (λ m. (out-Access (access_with_scalars m)).at) (sym (roll-out-Access a)) ∙ at_layer (out-Access a)
 
 -- ---- cells
@@ -51,15 +51,15 @@ stack_decl None z e = refl
 stack_decl (Some d) z e =
     ap (λ (k : Declared). if is_register k.storage then cells_of_ty (out-Ty d.ty) else None) (same_item (declared_of d) (record { storage = storage.Stack; kind = scope.Array z }) e)
 
-pub stack_size : (home : Homes) (v : Var) → IsStackArray home v → size_at v ≡ None
+stack_size : (home : Homes) (v : Var) → IsStackArray home v → size_at v ≡ None
 stack_size home v a = stack_decl (out-Var v).decl a.size a.declared
 
-pub number_of : (v : Var) (n : ℕ) (at : Span) → is_below (ref_of v).kind n ≡ true → cell_in v (expr.Num (pos n) at) ≡ Some n
+number_of : (v : Var) (n : ℕ) (at : Span) → is_below (ref_of v).kind n ≡ true → cell_in v (expr.Num (pos n) at) ≡ Some n
 number_of v n at h =
     ap (λ l. number_below (ref_of v).kind (constant_layer l)) (out_num (pos n) at) ∙ ap (λ b. if b then Some n else None) h
 
 -- ---- forms
-pub scalars_cell : (v : Var) (i : Expr) → with_scalars (expr.Cell v i) ≡ cell_or v (with_scalars i) (size_at v) (cell_in v i)
+scalars_cell : (v : Var) (i : Expr) → with_scalars (expr.Cell v i) ≡ cell_or v (with_scalars i) (size_at v) (cell_in v i)
 scalars_cell v i = ap with_scalars (sym (expr.rolls-Cell v i)) ∙ in_is (Expr-F.Cell v i)
 
 module _ (home : Homes) where

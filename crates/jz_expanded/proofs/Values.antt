@@ -53,17 +53,17 @@ and_same a b c d p q h = (λ i. p i && q i) ∙ h
 
 -- ---- forms
 module _ (k : KnownNumbers) where
-  pub values_minus : (a : Expr) (at : Span) → is_inline a ≡ false → with_values k (expr.Neg a at) ≡ expr.Neg (with_values k a) at
+  values_minus : (a : Expr) (at : Span) → is_inline a ≡ false → with_values k (expr.Neg a at) ≡ expr.Neg (with_values k a) at
   values_minus a at h =
       ap (with_values k) (sym (expr.rolls-Neg a at)) ∙ plain_layer k (Expr-F.Neg a at) (ap is_inline (expr.rolls-Neg a at) ∙ (minus_inline a at ∙ h))
       ∙ expr.rolls-Neg (with_values k a) at
 
-  pub values_denial : (a : Expr) (at : Span) → is_inline a ≡ false → with_values k (expr.Not a at) ≡ expr.Not (with_values k a) at
+  values_denial : (a : Expr) (at : Span) → is_inline a ≡ false → with_values k (expr.Not a at) ≡ expr.Not (with_values k a) at
   values_denial a at h =
       ap (with_values k) (sym (expr.rolls-Not a at)) ∙ plain_layer k (Expr-F.Not a at) (ap is_inline (expr.rolls-Not a at) ∙ (denial_inline a at ∙ h))
       ∙ expr.rolls-Not (with_values k a) at
 
-  pub values_cast : (z : Size) (s : Bool) (a : Expr) (at : Span) → with_values k (expr.Cast z s a at) ≡ expr.Cast z s (with_values k a) at
+  values_cast : (z : Size) (s : Bool) (a : Expr) (at : Span) → with_values k (expr.Cast z s a at) ≡ expr.Cast z s (with_values k a) at
   values_cast z s a at =
       ap (with_values k) (sym (expr.rolls-Cast z s a at)) ∙ plain_layer k (Expr-F.Cast z s a at) (ap is_inline (expr.rolls-Cast z s a at) ∙ cast_inline z s a at)
       ∙ expr.rolls-Cast z s (with_values k a) at

@@ -1,4 +1,9 @@
 pub mod Passed
+pub mod ValuedParts
 pub mod SizeLemmas
 pub mod Kept
 pub mod Scalars
+pub mod Compared
+pub mod Firsts
+pub mod Turned
+pub mod Statements

@@ -10,17 +10,18 @@ use Rattle.jz_tree.specs.declared.expr.Expr.{Expr}
 use Rattle.jz_tree.specs.declared.expr.Expr.TheVariants as expr
 use Rattle.jz_tree.specs.declared.expr.Expr.TheOpen.{Expr-F}
 use Rattle.jz_tree.specs.declared.expr.Expr.TheViews.{out-Expr, out-Var, out-Access, roll-Expr, roll-out-Expr}
+use Rattle.jz_tree.specs.declared.expr.Var.{Var}
 use Rattle.jz_integers.specs.Integers.{KnownNumbers, inline_value, the_number, joined, minus, opposite, number}
 use Rattle.jz_integers.specs.declared.constant.Constant.{Constant}
 use Rattle.jz_integers.specs.declared.constant.Constant.TheVariants as constant
 use Rattle.jz_type_names.specs.Kinds.{is_inline, known_of, is_inline_int}
 use Rattle.jz_meaning.specs.Assignments.{Layer}
-use Rattle.jz_meaning.specs.Values.{own_size}
+use Rattle.jz_meaning.specs.Values.{own_size, ref_of}
 use Rattle.jz_limits.specs.declared.limit.Limit.{Limit}
 use Rattle.jz_limits.specs.declared.limit.Limit.TheVariants.{ImmRange}
 use Rattle.jz_limits.specs.declared.looked.Asking.{Asking}
-use Rattle.jz_limits.specs.Asked.{has_immediate, is_count, or_zero}
-use Rattle.jz_limits.specs.InnerLooked.{Seen, Part, seen_as, look_of, sooner, if_not, no_part, inner_part, cell_part, load_part, count_field, scale_value, operation_terms, operation_scaled, operation_part, operation_seen}
+use Rattle.jz_limits.specs.Asked.{has_immediate, has_displacement, is_count, or_zero}
+use Rattle.jz_limits.specs.InnerLooked.{Seen, Part, seen_as, look_of, sooner, if_not, no_part, inner_part, range_of, index_field, cell_part, load_part, count_field, scale_value, operation_terms, operation_scaled, operation_part, operation_seen}
 use Rattle.jz_kept_limits.specs.Passing.{Passes}
 use Rattle.jz_limits.proofs.Layers.{look_num, look_bool, look_var, look_cell, look_load, look_neg, look_not, look_cast, look_bin}
 
@@ -32,12 +33,15 @@ pub passes_then : (x y z : Seen) → Passes x y → Passes y z → Passes x z
 passes_then x y z p q = record {
   inline = q.inline ∙ p.inline;
   value = q.value ∙ p.value;
-  width = q.width;
+  width = λ g. q.width (p.width g);
   range = λ g. q.range (p.range g);
   operand = λ g. q.operand (p.operand g);
   terms = q.terms ∙ p.terms;
   scaled = q.scaled ∙ p.scaled;
 }
+
+pub passes_itself : (x : Seen) → Passes x x
+passes_itself x = record { inline = refl; value = refl; width = λ g. g; range = λ g. g; operand = λ g. g; terms = refl; scaled = refl }
 
 -- ---- limits
 pub neither : (a b : Option Limit) → sooner a b ≡ None → (a ≡ None) × (b ≡ None)
@@ -53,9 +57,51 @@ pub fine_too : (b : Bool) (l m : Limit) → if_not b l ≡ None → if_not b m �
 fine_too true l m h = refl
 fine_too false l m h = absurd cc
 
--- ---- what is not inline
-pub plain : (vx vy : Option Constant) (at there : Span) (q r : Asking) (p s : Part) → vy ≡ vx → s.width ≡ None → (p.range ≡ None → s.range ≡ None) → (p.operand ≡ None → s.operand ≡ None) → s.terms ≡ p.terms → s.scaled ≡ p.scaled → Passes (seen_as false vx at q p) (seen_as false vy there r s)
-plain vx vy at there q r p s e w f g t u = record { inline = refl; value = e; width = w; range = f; operand = g; terms = t; scaled = u }
+-- ---- parts
+-- the second part passes what the first one passes
+pub record PartPasses (p s : Part) : Type 0 where
+  pub width : p.width ≡ None → s.width ≡ None
+  pub range : p.range ≡ None → s.range ≡ None
+  pub operand : p.operand ≡ None → s.operand ≡ None
+  pub terms : s.terms ≡ p.terms
+  pub scaled : s.scaled ≡ p.scaled
+
+-- what is not inline, wherever it stands
+pub plain : (v w : Option Constant) (at there : Span) (q r : Asking) (p s : Part) → w ≡ v → PartPasses p s → Passes (seen_as false v at q p) (seen_as false w there r s)
+plain v w at there q r p s e h = record { inline = refl; value = e; width = h.width; range = h.range; operand = h.operand; terms = h.terms; scaled = h.scaled }
+
+same_form : (b : Bool) (v : Option Constant) (at : Span) (q : Asking) (p s : Part) → PartPasses p s → Passes (seen_as b v at q p) (seen_as b v at q s)
+same_form true v at q p s h = record { inline = refl; value = refl; width = λ g. g; range = h.range; operand = λ g. g; terms = refl; scaled = refl }
+same_form false v at q p s h = plain v v at at q q p s refl h
+
+-- at one place, whether it is inline or not
+pub form : (b c : Bool) (v w : Option Constant) (at : Span) (q : Asking) (p s : Part) → c ≡ b → w ≡ v → PartPasses p s → Passes (seen_as b v at q p) (seen_as c w at q s)
+form b c v w at q p s e f h =
+    subst (λ d. Passes (seen_as b v at q p) (seen_as d w at q s)) (sym e) (subst (λ u. Passes (seen_as b v at q p) (seen_as b u at q s)) (sym f) (same_form b v at q p s h))
+
+pub no_parts : PartPasses no_part no_part
+no_parts = record { width = λ g. g; range = λ g. g; operand = λ g. g; terms = refl; scaled = refl }
+
+pub inner_parts : (x y : Seen) → Passes x y → PartPasses (inner_part x) (inner_part y)
+inner_parts x y p = record { width = p.width; range = p.range; operand = p.operand; terms = refl; scaled = refl }
+
+pub cell_parts : (v : Var) (x y : Seen) → Passes x y → PartPasses (cell_part v x) (cell_part v y)
+cell_parts v x y p = record {
+  width = p.width;
+  range = λ g. (let h = neither (range_of v x.value) x.range g in both (range_of v y.value) y.range (ap (range_of v) p.value ∙ h.0) (p.range h.1));
+  operand = λ g. ap (index_field v) p.terms ∙ g;
+  terms = refl;
+  scaled = refl;
+}
+
+pub load_parts : (at : Span) (x y : Seen) → Passes x y → PartPasses (load_part at x) (load_part at y)
+load_parts at x y p = record {
+  width = p.width;
+  range = p.range;
+  operand = λ g. (λ j. if_not (has_displacement (p.terms j) && p.scaled j) (ImmRange at)) ∙ g;
+  terms = refl;
+  scaled = refl;
+}
 
 -- ---- what is inline
 record SeenAs (q : Asking) (s : Seen) : Type 0 where
@@ -105,7 +151,7 @@ constant_passes k q e c at h v =
     record {
       inline = sym h;
       value = sym v;
-      width = refl;
+      width = λ g. refl;
       range = λ g. refl;
       operand = λ g. fine_too (has_immediate q.size (the_number (Some c))) (ImmRange s.span) (ImmRange at)
           (ap (λ x. if_not (has_immediate q.size (the_number x)) (ImmRange s.span)) (sym v) ∙ sym i.operand ∙ g);
@@ -113,17 +159,13 @@ constant_passes k q e c at h v =
       scaled = sym i.scaled;
     }
 
--- and one in its own place
-pub constant_itself : (q : Asking) (c : Constant) (at : Span) → Passes (seen_as true (Some c) at q no_part) (seen_as true (Some c) at q no_part)
-constant_itself q c at = record { inline = refl; value = refl; width = refl; range = λ g. g; operand = λ g. g; terms = refl; scaled = refl }
-
 -- ---- operations on two
 count_by : (b : Bool) (z : Option Size) (v : Option Constant) (s t : Span) (x y : Option Limit) → (x ≡ None → y ≡ None)
     → (if b then if_not (is_count z (the_number v)) (ImmRange s) else x) ≡ None → (if b then if_not (is_count z (the_number v)) (ImmRange t) else y) ≡ None
 count_by true z v s t x y f h = fine_too (is_count z (the_number v)) (ImmRange s) (ImmRange t) h
 count_by false z v s t x y f h = f h
 
-count_passes : (z : Option Size) (x y : Seen) → Passes x y → count_field z x ≡ None → count_field z y ≡ None
+pub count_passes : (z : Option Size) (x y : Seen) → Passes x y → count_field z x ≡ None → count_field z y ≡ None
 count_passes z x y p h =
     (λ j. if p.inline j then if_not (is_count z (the_number (p.value j))) (ImmRange y.span) else y.operand) ∙ count_by x.inline z x.value x.span y.span x.operand y.operand p.operand h
 
@@ -189,15 +231,17 @@ scaled_same op.Rem a b c d p q = refl
 scaled_same op.DivS a b c d p q = refl
 scaled_same op.RemS a b c d p q = refl
 
-pub both_pass : (q : Asking) (o : BinOp) (at : Span) (a b c d : Seen) → (a.inline && b.inline) ≡ false → Passes a c → Passes b d → Passes (operation_seen q o at a b) (operation_seen q o at c d)
-both_pass q o at a b c d n p r =
-    passes_as (seen_as false (joined o a.value b.value) at q (operation_part o q.size a b)) (seen_as false (joined o c.value d.value) at q (operation_part o q.size c d)) (operation_seen q o at a b) (operation_seen q o at c d)
-    (ap (λ i. seen_as i (joined o a.value b.value) at q (operation_part o q.size a b)) n)
-    (ap (λ i. seen_as i (joined o c.value d.value) at q (operation_part o q.size c d)) ((λ j. p.inline j && r.inline j) ∙ n))
-    (plain (joined o a.value b.value) (joined o c.value d.value) at at q q (operation_part o q.size a b) (operation_part o q.size c d) (λ j. joined o (p.value j) (r.value j))
-    (both c.width d.width p.width r.width)
-    (λ g. let h = neither a.range b.range g in both c.range d.range (p.range h.0) (r.range h.1))
-    (λ g. let h = neither a.operand (if is_shift o then count_field q.size b else b.operand) g in
-        both c.operand (if is_shift o then count_field q.size d else d.operand) (p.operand h.0) (second_by (is_shift o) q.size b d r h.1))
-    (terms_same o a b c d p.terms r.terms r.value)
-    (scaled_same o a b c d p r))
+pub two_parts : (o : BinOp) (z : Option Size) (a b c d : Seen) → Passes a c → Passes b d → PartPasses (operation_part o z a b) (operation_part o z c d)
+two_parts o z a b c d p r = record {
+  width = λ g. (let h = neither a.width b.width g in both c.width d.width (p.width h.0) (r.width h.1));
+  range = λ g. (let h = neither a.range b.range g in both c.range d.range (p.range h.0) (r.range h.1));
+  operand = λ g. (let h = neither a.operand (if is_shift o then count_field z b else b.operand) g in
+      both c.operand (if is_shift o then count_field z d else d.operand) (p.operand h.0) (second_by (is_shift o) z b d r h.1));
+  terms = terms_same o a b c d p.terms r.terms r.value;
+  scaled = scaled_same o a b c d p r;
+}
+
+pub both_pass : (q : Asking) (o : BinOp) (at : Span) (a b c d : Seen) → Passes a c → Passes b d → Passes (operation_seen q o at a b) (operation_seen q o at c d)
+both_pass q o at a b c d p r =
+    form (a.inline && b.inline) (c.inline && d.inline) (joined o a.value b.value) (joined o c.value d.value) at q (operation_part o q.size a b) (operation_part o q.size c d)
+    (λ j. p.inline j && r.inline j) (λ j. joined o (p.value j) (r.value j)) (two_parts o q.size a b c d p r)

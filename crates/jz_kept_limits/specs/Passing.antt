@@ -6,7 +6,7 @@ use Rattle.jz_limits.specs.InnerLooked.{Seen}
 pub record Passes (x y : Seen) : Type 0 where
   pub inline : y.inline ≡ x.inline
   pub value : y.value ≡ x.value
-  pub width : y.width ≡ None
+  pub width : x.width ≡ None → y.width ≡ None
   pub range : x.range ≡ None → y.range ≡ None
   pub operand : x.operand ≡ None → y.operand ≡ None
   pub terms : y.terms ≡ x.terms

@@ -3,4 +3,4 @@
 
 mod laws;
 
-pub use laws::expressions_stay_within;
+pub use laws::{expressions_stay_within, operations_stay_within};
