@@ -1,5 +1,5 @@
 -- What conditions compare keeps its size.
-use Rattle.std.proofs.Common.{◌≡◌, ℕ, Bool, true, false, Option, Some, None, refl, sym, ap, ◌∙◌, subst}
+use Rattle.std.proofs.Common.{◌≡◌, ℕ, false, Option, Some, None, refl, sym, ap, ◌∙◌, subst}
 use Rattle.std.specs.Option.{option_or}
 use Rattle.std.proofs.lemmas.Bool.{true≢false}
 use Rattle.jz_tree.specs.Size.{Size}
@@ -9,19 +9,18 @@ use Rattle.jz_tree.specs.declared.expr.Ty.{Ty}
 use Rattle.jz_tree.specs.declared.expr.Expr.{Expr}
 use Rattle.jz_tree.specs.declared.expr.Expr.TheVariants as expr
 use Rattle.jz_tree.specs.declared.expr.Expr.TheOpen.{Expr-F}
-use Rattle.jz_tree.specs.declared.expr.Expr.TheViews.{out-Access, roll-Expr}
+use Rattle.jz_tree.specs.declared.expr.Expr.TheViews.{roll-Expr}
 use Rattle.jz_tree.specs.declared.expr.Expr.TheFolds.{ind-Expr, map-Expr}
 use Rattle.jz_tree.specs.declared.expr.Var.{Var}
 use Rattle.jz_integers.specs.Integers.{KnownNumbers}
 use Rattle.jz_type_names.specs.Kinds.{is_inline}
-use Rattle.jz_meaning.specs.Values.{own_size}
 use Rattle.jz_unroll.specs.Values.{with_values, access_with_values}
 use Rattle.jz_unroll.proofs.Layers.{Layer}
 use Rattle.jz_unroll.proofs.Parts.{values_var, values_cell, values_load}
 use Rattle.jz_arrays.specs.Cells.{size_at, cell_in, scalar, cell_or, with_scalars, access_with_scalars}
 use Rattle.jz_arrays.proofs.Reading.{rolled, in_is}
 use Rattle.jz_limits.specs.Asked.{size_compared}
-use Rattle.jz_limits.proofs.Compared.{compared_num, compared_bool, compared_var, compared_cell, compared_load, compared_neg, compared_not, compared_cast, compared_bin}
+use Rattle.jz_limits.proofs.Compared.{compared_var, compared_cell, compared_load, compared_neg, compared_not, compared_cast, compared_bin}
 use Rattle.jz_kept_limits.proofs.ValuedParts.{IsValued, an_inline, a_variable, a_cell, a_load, a_minus, a_denial, a_cast, of_two}
 use Rattle.jz_kept_limits.proofs.SizeLemmas.{values_minus, values_denial, values_cast, values_two, values_own, scalars_own}
 

@@ -1,9 +1,9 @@
 -- Parts of statements of which nothing passes a limit.
-use Rattle.std.proofs.Common.{◌≡◌, Bool, true, false, List, [], ◌∷◌, ◌++◌, Option, Some, None, refl, sym, ap, ◌∙◌, subst, if◌then◌else◌}
+use Rattle.std.proofs.Common.{◌≡◌, List, [], ◌∷◌, None, refl, sym, ap, ◌∙◌, subst}
 use Rattle.jz_limits.specs.Limits.{Limit}
 use Rattle.jz_limits.specs.declared.operands.Firsts.{Firsts}
 use Rattle.jz_limits.specs.Asked.{Parts, no_parts, beside, without_fields, in_kinds}
-use Rattle.jz_limits.specs.InnerLooked.{first, sooner, firsts_of, firsts_beside, first_in_kinds, firsts_without_fields}
+use Rattle.jz_limits.specs.InnerLooked.{first, sooner, firsts_of, firsts_beside, first_in_kinds}
 use Rattle.jz_limits.proofs.PartLemmas.{beside_firsts, first_kinds}
 use Rattle.jz_kept_limits.proofs.Passed.{neither, both}
 

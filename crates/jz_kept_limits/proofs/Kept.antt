@@ -1,5 +1,5 @@
 -- Values in place of inline parts pass the limits that those pass.
-use Rattle.std.proofs.Common.{◌≡◌, Bool, true, false, ◌&&◌, Option, Some, None, refl, sym, ap, ◌∙◌}
+use Rattle.std.proofs.Common.{◌≡◌, Bool, true, false, Some, None, refl, sym, ap, ◌∙◌}
 use Rattle.jz_tree.specs.Size.{Size}
 use Rattle.jz_tree.specs.Span.{Span}
 use Rattle.jz_tree.specs.declared.expr.Access.{Access}
@@ -21,7 +21,7 @@ use Rattle.jz_unroll.specs.Values.{constant_expr, with_values, access_with_value
 use Rattle.jz_unroll.proofs.Parts.{inline_whole, values_var, values_cell, values_load}
 use Rattle.jz_limits.specs.declared.looked.Asking.{Asking}
 use Rattle.jz_limits.specs.Values.{no_numbers}
-use Rattle.jz_limits.specs.InnerLooked.{Seen, seen_as, look_of, no_part, inner_part, cell_part, load_part, operation_seen}
+use Rattle.jz_limits.specs.InnerLooked.{seen_as, look_of, no_part, inner_part, cell_part, load_part, operation_seen}
 use Rattle.jz_limits.proofs.Layers.{inline_var, look_num, look_bool, look_var, look_cell, look_load, look_neg, look_not, look_cast, look_bin}
 use Rattle.jz_kept_limits.specs.Passing.{Passes}
 use Rattle.jz_kept_limits.proofs.ValuedParts.{IsValued, an_inline, a_variable, a_cell, a_load, a_minus, a_denial, a_cast, of_two}

@@ -6,4 +6,6 @@ pub mod Scalars
 pub mod Compared
 pub mod Firsts
 pub mod Turned
+pub mod Lefts
+pub mod Operations
 pub mod Statements

@@ -16,7 +16,7 @@ use Rattle.jz_integers.specs.declared.constant.Constant.{Constant}
 use Rattle.jz_integers.specs.declared.constant.Constant.TheVariants as constant
 use Rattle.jz_type_names.specs.Kinds.{is_inline, known_of, is_inline_int}
 use Rattle.jz_meaning.specs.Assignments.{Layer}
-use Rattle.jz_meaning.specs.Values.{own_size, ref_of}
+use Rattle.jz_meaning.specs.Values.{own_size}
 use Rattle.jz_limits.specs.declared.limit.Limit.{Limit}
 use Rattle.jz_limits.specs.declared.limit.Limit.TheVariants.{ImmRange}
 use Rattle.jz_limits.specs.declared.looked.Asking.{Asking}

@@ -1,5 +1,5 @@
 -- Words in place of the cells of register arrays pass the limits that those pass.
-use Rattle.std.proofs.Common.{◌≡◌, ℕ, Bool, true, false, Option, Some, None, refl, sym, ap, ◌∙◌, subst}
+use Rattle.std.proofs.Common.{◌≡◌, ℕ, false, Option, Some, None, refl, sym, ap, ◌∙◌, subst}
 use Rattle.std.specs.Prelude.{option_map}
 use Rattle.jz_tree.specs.Size.{Size}
 use Rattle.jz_tree.specs.declared.expr.Access.{Access}
@@ -11,9 +11,9 @@ use Rattle.jz_tree.specs.declared.expr.Expr.TheOpen.{Expr-F, Access-F, Var-F}
 use Rattle.jz_tree.specs.declared.expr.Expr.TheViews.{out-Var, out-Access, roll-Expr, roll-Access, out-roll-Access, out-roll-Var}
 use Rattle.jz_tree.specs.declared.expr.Expr.TheFolds.{ind-Expr, map-Expr, map-Access}
 use Rattle.jz_tree.specs.declared.expr.Var.{Var}
-use Rattle.jz_integers.specs.Integers.{KnownNumbers, number}
+use Rattle.jz_integers.specs.Integers.{number}
 use Rattle.jz_type_names.specs.Kinds.{declared_of, known_of, is_inline_int}
-use Rattle.jz_unroll.specs.Values.{with_values, InlineNames, has_values}
+use Rattle.jz_unroll.specs.Values.{with_values}
 use Rattle.jz_unroll.proofs.Layers.{Layer}
 use Rattle.jz_arrays.specs.Cells.{size_at, cell_in, scalar, cell_or, with_scalars, access_with_scalars}
 use Rattle.jz_arrays.proofs.Reading.{rolled, in_is}

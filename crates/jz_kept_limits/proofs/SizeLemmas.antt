@@ -9,7 +9,7 @@ use Rattle.jz_tree.specs.declared.expr.Ty.{Ty}
 use Rattle.jz_tree.specs.declared.expr.Expr.{Expr}
 use Rattle.jz_tree.specs.declared.expr.Expr.TheVariants as expr
 use Rattle.jz_tree.specs.declared.expr.Expr.TheOpen.{Expr-F, Access-F}
-use Rattle.jz_tree.specs.declared.expr.Expr.TheViews.{out-Access, roll-Access, roll-out-Access, out-roll-Access}
+use Rattle.jz_tree.specs.declared.expr.Expr.TheViews.{out-Access, roll-out-Access, out-roll-Access}
 use Rattle.jz_tree.specs.declared.expr.Var.{Var}
 use Rattle.jz_integers.specs.Integers.{KnownNumbers, inline_value}
 use Rattle.jz_integers.specs.declared.constant.Constant.{Constant}
