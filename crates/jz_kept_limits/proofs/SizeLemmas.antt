@@ -39,16 +39,16 @@ own_cell v i = ap own_size (sym (expr.rolls-Cell v i)) ∙ ap (λ (m : Meaning).
 pub own_load : (a : Access) → own_size (expr.Load a) ≡ (access_of a).size
 own_load a = ap own_size (sym (expr.rolls-Load a)) ∙ ap (λ (m : Meaning). m.size) (meaning_is (Expr-F.Load a))
 
-own_neg : (a : Expr) (at : Span) → own_size (expr.Neg a at) ≡ own_size a
+pub own_neg : (a : Expr) (at : Span) → own_size (expr.Neg a at) ≡ own_size a
 own_neg a at = ap own_size (sym (expr.rolls-Neg a at)) ∙ ap (λ (m : Meaning). m.size) (meaning_is (Expr-F.Neg a at))
 
-own_not : (a : Expr) (at : Span) → own_size (expr.Not a at) ≡ own_size a
+pub own_not : (a : Expr) (at : Span) → own_size (expr.Not a at) ≡ own_size a
 own_not a at = ap own_size (sym (expr.rolls-Not a at)) ∙ ap (λ (m : Meaning). m.size) (meaning_is (Expr-F.Not a at))
 
-own_cast : (z : Size) (s : Bool) (a : Expr) (at : Span) → own_size (expr.Cast z s a at) ≡ Some z
+pub own_cast : (z : Size) (s : Bool) (a : Expr) (at : Span) → own_size (expr.Cast z s a at) ≡ Some z
 own_cast z s a at = ap own_size (sym (expr.rolls-Cast z s a at)) ∙ ap (λ (m : Meaning). m.size) (meaning_is (Expr-F.Cast z s a at))
 
-own_bin : (o : BinOp) (a b : Expr) (at : Span) → own_size (expr.Bin o a b at) ≡ size_of_operation o (own_size a) (own_size b)
+pub own_bin : (o : BinOp) (a b : Expr) (at : Span) → own_size (expr.Bin o a b at) ≡ size_of_operation o (own_size a) (own_size b)
 own_bin o a b at = ap own_size (sym (expr.rolls-Bin o a b at)) ∙ ap (λ (m : Meaning). m.size) (meaning_is (Expr-F.Bin o a b at))
 
 -- ---- values by forms
@@ -90,7 +90,7 @@ scalars_access_out a =
     ap (λ m. out-Access (access_with_scalars m)) (sym (roll-out-Access a)) ∙ ap out-Access (access_in_is (out-Access a))
     ∙ out-roll-Access (record { size = (out-Access a).size; at = with_scalars (out-Access a).at; unaligned = (out-Access a).unaligned; span = (out-Access a).span })
 
-size_out : (a : Access) → (access_of a).size ≡ (out-Access a).size
+pub size_out : (a : Access) → (access_of a).size ≡ (out-Access a).size
 size_out a = ap (λ m. (access_of m).size) (sym (roll-out-Access a)) ∙ ap (λ (m : MemoryAccess). m.size) (access_is (out-Access a))
 
 pub values_access_size : (k : KnownNumbers) (a : Access) → (access_of (access_with_values k a)).size ≡ (access_of a).size
