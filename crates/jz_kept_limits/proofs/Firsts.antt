@@ -1,6 +1,6 @@
 -- Parts of statements of which nothing passes a limit.
 use Rattle.std.proofs.Common.{◌≡◌, List, [], ◌∷◌, None, refl, sym, ap, ◌∙◌, subst}
-use Rattle.jz_limits.specs.Limits.{Limit}
+use Rattle.jz_limits.specs.declared.limit.Limit.{Limit}
 use Rattle.jz_limits.specs.declared.operands.Firsts.{Firsts}
 use Rattle.jz_limits.specs.Asked.{Parts, no_parts, beside, without_fields, in_kinds}
 use Rattle.jz_limits.specs.InnerLooked.{first, sooner, firsts_of, firsts_beside, first_in_kinds}

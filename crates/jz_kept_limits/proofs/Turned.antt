@@ -16,7 +16,7 @@ use Rattle.jz_type_names.specs.Kinds.{is_inline}
 use Rattle.jz_meaning.specs.Assignments.{left_size, left_sizes, last_left}
 use Rattle.jz_meaning.specs.Intrinsics.{first_size, intrinsic_size}
 use Rattle.jz_meaning.specs.Values.{own_size}
-use Rattle.jz_limits.specs.Limits.{Limit}
+use Rattle.jz_limits.specs.declared.limit.Limit.{Limit}
 use Rattle.jz_limits.specs.declared.limit.Limit.TheVariants.{ImmRange}
 use Rattle.jz_limits.specs.declared.looked.Asking.{Asking}
 use Rattle.jz_limits.specs.declared.operands.Role.{Role}
