@@ -9,6 +9,6 @@ loop-i-preserved g c =
     let l : c.loop-i.i < length ms = omega (arith, c.loop-i-test.true, c.len-count.ensures) in (
       omega (arith, l),
       c.in_ok-pour.ensures.seen
-      ∙ ap {B = Spot → Option g.row.V.Denot} (λ f. over c.index.result.now f) c.loop-i.invariant.1
-      ∙ sym (take_next nowhere ms c.loop-i.i c.index.result.now l c.index.ensures),
+          ∙ ap {B = Spot → Option g.row.V.Denot} (λ f. over c.index.result.now f) c.loop-i.invariant.1
+          ∙ sym (take_next nowhere ms c.loop-i.i c.index.result.now l c.index.ensures),
     )
