@@ -42,17 +42,17 @@ use Rattle.jz_unroll.proofs.Parts.{values_var}
 use Rattle.jz_arrays.specs.Cells.{with_scalars, left_with_scalars}
 use Rattle.jz_arrays.proofs.Reading.{in_is}
 use Rattle.jz_unrolling_laws.specs.AskedLaws.{of_text, is_text}
-use Rattle.jz_unrolling_laws.specs.CalledBodies.{Inlines, IsNamedVar, IsNamedLeft, IsNamedArgument, AreNamedArguments, IsPlainLeft, AreNamedResults}
+use Rattle.jz_unrolling_laws.specs.CalledBodies.{in_source, Inlines, IsNamedVar, IsNamedLeft, IsNamedArgument, AreNamedArguments, IsPlainLeft, AreNamedResults}
 use Rattle.jz_unrolling_laws.proofs.CopiedValues.{copied_inline}
 use Rattle.jz_copied_values.proofs.CopiedOperations.{var_named}
 use Rattle.jz_copied_values.proofs.CopiedNumbers.{copy_itself, text_copy, number_elsewhere, set_only, IsCopy, own_place, not_behind, own_copy}
 use Rattle.jz_copied_values.proofs.CalledNames.{by_not}
-use Rattle.jz_copied_values.proofs.CalledNumbers.{array_no_int}
+use Rattle.jz_copied_values.proofs.CalledNumbers.{param_int, array_no_int}
 use Rattle.jz_walked_laws.proofs.Ones.{nothing_both}
 use Rattle.jz_kept_limits.proofs.Firsts.{AreClean, clean_none, clean_from, clean_to, clean_parts, clean_both, clean_without}
 use Rattle.jz_kept_limits.proofs.Turned.{asking}
 use Rattle.jz_kept_limits.proofs.Operations.{assignment_within}
-use Rattle.jz_expanded_limits.proofs.Known.{Knows, value_back}
+use Rattle.jz_expanded_limits.proofs.Known.{KnowsOnly, Knows, value_back}
 use Rattle.jz_expanded_limits.proofs.CopiedParts.{no_int, part_turned, variable_left, left_turned}
 use Rattle.jz_expanded_limits.proofs.CopiedSets.{Good}
 

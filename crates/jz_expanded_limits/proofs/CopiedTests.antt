@@ -12,12 +12,14 @@ use Rattle.jz_type_names.specs.Parts.{span_of}
 use Rattle.jz_integers.specs.Integers.{KnownNumbers, inline_value, the_number}
 use Rattle.jz_integers.specs.declared.constant.Constant.TheVariants as constant
 use Rattle.jz_runs.specs.Trees.{done, choose, loop, each}
-use Rattle.jz_meaning.specs.Statements.{Condition, Counter, Block}
+use Rattle.jz_meaning.specs.Statements.{Operation, Condition, Counter, Call, Block}
+use Rattle.jz_change.specs.declared.change.Numbers.{Numbers}
 use Rattle.jz_change.specs.Changes.{Change, Changes}
+use Rattle.jz_pass.specs.Operations.{in_turn}
 use Rattle.jz_pass.specs.Unrolling.{Unrolls, UnrollsEach, u_done, u_if, u_arm, u_while, u_once, u_for, u_none, u_more}
 use Rattle.jz_inline.specs.Names.{Names, var_in, expr_in, test_in, counter_in}
-use Rattle.jz_unroll.specs.Values.{with_values, InlineNames}
-use Rattle.jz_unroll.specs.Unrolling.{with_number, number_of, KnowsLess, tested, loops, always, unrolling}
+use Rattle.jz_unroll.specs.Values.{with_values, has_values, InlineNames}
+use Rattle.jz_unroll.specs.Unrolling.{with_number, number_of, KnowsLess, HasValue, tested, UnrollsLoopTest, loops, always, unrolling}
 use Rattle.jz_arrays.specs.Cells.{with_scalars}
 use Rattle.jz_arrays.proofs.Reading.{in_is}
 use Rattle.jz_limits.specs.Limits.{one}
@@ -71,7 +73,7 @@ module _ (names : InlineNames) (i : Inlines) (m : Names) (c0 : ℕ) (copy : IsCo
   Rest Post t e k R k1 =
       (k2 : KnownNumbers) (u : Block) (d : Change) → Ends names i m c0 e k k2 → Unrolls (unrolling names) t k2 R u k1 d → Leads Post R u k1
 
-  pub end_here : (P : KnownNumbers → Type 0) (k k1 : KnownNumbers) (R u : Block) (d : Change) → P k → Unrolls (unrolling names) done k R u k1 d → Leads P R u k1
+  pub end_here : (P : KnownNumbers → Type 0) (k k1 : KnownNumbers) (R u : Block) (d : Change) → P k → Unrolls {C = Call} (unrolling names) done k R u k1 d → Leads P R u k1
   end_here P k k1 R u d h u_done = (h, λ g. g)
 
   not_inline : (c : Expr) → is_inline c ≡ true → is_inline (expr_in m c) ≡ false → ⊥
@@ -127,25 +129,42 @@ module _ (names : InlineNames) (i : Inlines) (m : Names) (c0 : ℕ) (copy : IsCo
     abbrev behind2 : KnownNumbers
     behind2 = (arms p.cond B silent inside).known
 
+    -- the test that is left
+    abbrev Kept : KnownNumbers → Condition → Type 0
+    Kept kq p2 =
+        ((is_inline (expr_in m p.cond) ≡ false) × (has_values names kq (expr_in m p.cond) ≡ true) × (p2.cond ≡ with_values kq (expr_in m p.cond)))
+        ⊎ ((is_inline (expr_in m p.cond) ≡ true) × HasValue kq (expr_in m p.cond) (constant.Bool true) × (p2.cond ≡ expr.Bool true (span_of (expr_in m p.cond))))
+
+    kept : (kq : KnownNumbers) (os : List Operation) (ns : List Numbers) (p2 : Condition) (j : Numbers) → UnrollsLoopTest names (test_in m p) kq os ns p2 j → (os ≡ []) × Kept kq p2
+    kept kq os ns p2 j (loops plain has) = (refl, inl (plain, has, refl))
+    kept kq os ns p2 j (always inline value) = (refl, inr (inline, value, refl))
+
     -- it stays
-    turned_leads : (s : Span) (c : Expr) (k k0 kq kb k3 k1 : KnownNumbers) (q2 b2 R w : Block) (dq db dr : Change) → behind2 ≡ inside → asked_condition no_numbers (with_scalars c) ≡ [] → Knows names i m e k → Part second inside (B inside).known
+    turned_leads : (p2 : Condition) (k k0 kq kb k3 k1 : KnownNumbers) (q2 b2 R w : Block) (dq db dr : Change) → behind2 ≡ inside → asked_condition no_numbers (with_scalars p2.cond) ≡ [] → Knows names i m e k → Part second inside (B inside).known
         → Rest Post next behind2 k R k1 → KnowsLess k0 k → Unrolls (unrolling names) first k0 done q2 kq dq → Unrolls (unrolling names) second kq done b2 kb db → KnowsLess k3 kq → Unrolls (unrolling names) next k3 R w k1 dr
-        → Leads Post R (loop l q2 (record { cond = c; at = s }) b2 w) k1
-    turned_leads s c k k0 kq kb k3 k1 q2 b2 R w dq db dr known within h fb rest less q b l3 x =
+        → Leads Post R (loop l q2 p2 b2 w) k1
+    turned_leads p2 k k0 kq kb k3 k1 q2 b2 R w dq db dr known within h fb rest less q b l3 x =
         let fst = fq k0 kq done q2 dq (knows_less names i m e k k0 less h) q in
         let snd = fb kq kb done b2 db fst.0.knows b in
         let ends : Ends names i m c0 inside k k3 = ends_from names i m c0 inside k k0 k3 less (ends_less names i m c0 inside k0 kq k3 l3 fst.0) in
         let more = rest k3 w dr (subst (λ v. Ends names i m c0 v k k3) (sym known) ends) x in
         (more.0, λ g. (within, fst.1 tt, snd.1 tt, more.1 g))
 
+    always_kept : (z : Bool) → Takes p.cond B silent inside z → behind2 ≡ inside → (z ≡ true → Part second inside (B inside).known) → (p2 : Condition) (k k0 kq kb k3 k1 : KnownNumbers) (q2 b2 R w : Block) (dq db dr : Change) → Knows names i m e k
+        → Rest Post next behind2 k R k1 → KnowsLess k0 k → Unrolls (unrolling names) first k0 done q2 kq dq → Unrolls (unrolling names) second kq done b2 kb db → KnowsLess k3 kq → Unrolls (unrolling names) next k3 R w k1 dr
+        → Kept kq p2 → Leads Post R (loop l q2 p2 b2 w) k1
+    always_kept z t known fb p2 k k0 kq kb k3 k1 q2 b2 R w dq db dr h rest less q b l3 x (inl s) = absurd (not_inline p.cond t.inline s.0)
+    always_kept true t known fb p2 k k0 kq kb k3 k1 q2 b2 R w dq db dr h rest less q b l3 x (inr s) =
+        turned_leads p2 k k0 kq kb k3 k1 q2 b2 R w dq db dr known (subst (λ y. asked_condition no_numbers (with_scalars y) ≡ []) (sym s.2) (truth_within true (span_of (expr_in m p.cond)))) h (fb refl) rest less q b l3 x
+    always_kept false t known fb p2 k k0 kq kb k3 k1 q2 b2 R w dq db dr h rest less q b l3 x (inr s) =
+        let fst = fq k0 kq done q2 dq (knows_less names i m e k k0 less h) q in
+        absurd (true≢false (answer inside kq p.cond true false fst.0.knows text s.1.1 t.value))
+
     always_leads : (z : Bool) → Takes p.cond B silent inside z → behind2 ≡ inside → (z ≡ true → Part second inside (B inside).known) → (k k1 : KnownNumbers) (R u : Block) (d : Change) → Knows names i m e k → Rest Post next behind2 k R k1
         → Unrolls (unrolling names) (loop l first (test_in m p) second next) k R u k1 d → Leads Post R u k1
-    always_leads z t known fb k k1 R u d h rest (u_while less (loops plain has) q b lb l3 x) = absurd (not_inline p.cond t.inline plain)
-    always_leads true t known fb k k1 R u d h rest (u_while {e0 = k0} {eq = kq} {eb = kb} {e3 = k3} {u = w} {q2 = q2} {b2 = b2} {tq = dq} {tb = db} {k = dr} less (always inline value) q b lb l3 x) =
-        turned_leads p.at (expr.Bool true (span_of (expr_in m p.cond))) k k0 kq kb k3 k1 q2 b2 R w dq db dr known (truth_within true (span_of (expr_in m p.cond))) h (fb refl) rest less q b l3 x
-    always_leads false t known fb k k1 R u d h rest (u_while {e0 = k0} {eq = kq} {q2 = q2} {tq = dq} less (always inline value) q b lb l3 x) =
-        let fst = fq k0 kq done q2 dq (knows_less names i m e k k0 less h) q in
-        absurd (true≢false (answer inside kq p.cond true false fst.0.knows text value.1 t.value))
+    always_leads z t known fb k k1 R u d h rest (u_while {e0 = k0} {eq = kq} {eb = kb} {e3 = k3} {u = w} {q2 = q2} {b2 = b2} {os = os} {is = ns} {p2 = p2} {i = j} {tq = dq} {tb = db} {k = dr} less test q b lb l3 x) =
+        let s = kept kq os ns p2 j test in
+        always_kept z t known fb p2 k k0 kq kb k3 k1 q2 b2 R w dq db dr h rest less (subst (λ y. Unrolls (unrolling names) first k0 (in_turn y done) q2 kq dq) s.0 q) b l3 x s.1
     always_leads true t known fb k k1 R u d h rest (u_once {e1 = k2} {u = w} {tq = dq} q c x) =
         let fst = fq k k2 w u dq h q in
         absurd (true≢false (sym (answer inside k2 p.cond false true fst.0.knows text c.1.1 t.value)))
@@ -154,12 +173,19 @@ module _ (names : InlineNames) (i : Inlines) (m : Names) (c0 : ℕ) (copy : IsCo
         let more = rest k2 w dr (subst (λ v. Ends names i m c0 v k k2) (sym known) fst.0) x in
         (more.0, λ g. fst.1 (more.1 g))
 
+    asked_kept : Asks p.cond B silent inside → behind2 ≡ inside → Part second inside (B inside).known → (p2 : Condition) (k k0 kq kb k3 k1 : KnownNumbers) (q2 b2 R w : Block) (dq db dr : Change) → Knows names i m e k
+        → Rest Post next behind2 k R k1 → KnowsLess k0 k → Unrolls (unrolling names) first k0 done q2 kq dq → Unrolls (unrolling names) second kq done b2 kb db → KnowsLess k3 kq → Unrolls (unrolling names) next k3 R w k1 dr
+        → Kept kq p2 → Leads Post R (loop l q2 p2 b2 w) k1
+    asked_kept t known fb p2 k k0 kq kb k3 k1 q2 b2 R w dq db dr h rest less q b l3 x (inl s) =
+        let fst = fq k0 kq done q2 dq (knows_less names i m e k k0 less h) q in
+        turned_leads p2 k k0 kq kb k3 k1 q2 b2 R w dq db dr known (subst (λ y. asked_condition no_numbers (with_scalars y) ≡ []) (sym s.2) (test_within names i m copy.named inside kq fst.0.knows p.cond text s.1 t.none)) h fb rest less q b l3 x
+    asked_kept t known fb p2 k k0 kq kb k3 k1 q2 b2 R w dq db dr h rest less q b l3 x (inr s) = absurd (inline_not p.cond t.plain s.0)
+
     asked_leads : Asks p.cond B silent inside → behind2 ≡ inside → Part second inside (B inside).known → (k k1 : KnownNumbers) (R u : Block) (d : Change) → Knows names i m e k → Rest Post next behind2 k R k1
         → Unrolls (unrolling names) (loop l first (test_in m p) second next) k R u k1 d → Leads Post R u k1
-    asked_leads t known fb k k1 R u d h rest (u_while {e0 = k0} {eq = kq} {eb = kb} {e3 = k3} {u = w} {q2 = q2} {b2 = b2} {tq = dq} {tb = db} {k = dr} less (loops plain has) q b lb l3 x) =
-        let fst = fq k0 kq done q2 dq (knows_less names i m e k k0 less h) q in
-        turned_leads p.at (with_values kq (expr_in m p.cond)) k k0 kq kb k3 k1 q2 b2 R w dq db dr known (test_within names i m copy.named inside kq fst.0.knows p.cond text has t.none) h fb rest less q b l3 x
-    asked_leads t known fb k k1 R u d h rest (u_while less (always inline value) q b lb l3 x) = absurd (inline_not p.cond t.plain inline)
+    asked_leads t known fb k k1 R u d h rest (u_while {e0 = k0} {eq = kq} {eb = kb} {e3 = k3} {u = w} {q2 = q2} {b2 = b2} {os = os} {is = ns} {p2 = p2} {i = j} {tq = dq} {tb = db} {k = dr} less test q b lb l3 x) =
+        let s = kept kq os ns p2 j test in
+        asked_kept t known fb p2 k k0 kq kb k3 k1 q2 b2 R w dq db dr h rest less (subst (λ y. Unrolls (unrolling names) first k0 (in_turn y done) q2 kq dq) s.0 q) b l3 x s.1
     asked_leads t known fb k k1 R u d h rest (u_once q c x) = absurd (inline_not p.cond t.plain c.0)
 
     pub loop_leads : ((z : Bool) × Takes p.cond B silent inside z) ⊎ Asks p.cond B silent inside → behind2 ≡ inside → (Takes p.cond B silent inside true → Part second inside (B inside).known) → (Asks p.cond B silent inside → Part second inside (B inside).known)

@@ -1,7 +1,7 @@
 -- A body that passes no limit where a walk comes to it, through its calls, passes none where its
 -- calls are copies and its loops their rounds.
 use Rattle.std.proofs.Common.{◌≡◌, ℕ, suc, ◌+◌, ◌<◌, ◌++◌, List, [], ◌∷◌, Bool, true, false, refl, sym, ◌∙◌, subst, arith, inl, inr}
-use Rattle.std.specs.Prelude.{◌⊎◌, ⊤, Some, map}
+use Rattle.std.specs.Prelude.{◌⊎◌, ⊤, Some, map, if◌then◌else◌}
 use Rattle.std.proofs.lemmas.Bool.{true≢false}
 use Rattle.jz_tree.specs.declared.expr.Expr.{Expr}
 use Rattle.jz_integers.specs.Integers.{KnownNumbers}
