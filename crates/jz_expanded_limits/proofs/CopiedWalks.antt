@@ -18,7 +18,7 @@ use Rattle.jz_inline.specs.Calls.{call_place, result_ops, names_of_callee, inlin
 use Rattle.jz_limits.specs.Limits.{one}
 use Rattle.jz_limits.specs.Values.{no_numbers, number_in, known_after}
 use Rattle.jz_limits.specs.Asked.{asked, widths}
-use Rattle.jz_limits.specs.Walks.{limits, silent, arms, turns, rounds, counted_values, loop_walk, more_than_eight, argument_limits, with_arguments, result_limits, walk}
+use Rattle.jz_limits.specs.Walks.{limits, silent, arms, rounds, counted_values, loop_walk, more_than_eight, argument_limits, with_arguments, result_limits, walk}
 use Rattle.jz_unroll.specs.Values.{InlineNames}
 use Rattle.jz_unroll.specs.Unrolling.{all_unknown, marked, unrolling}
 use Rattle.jz_unrolling_laws.specs.CalledBodies.{Inlines, inlines_of, IsNamed, IsAsked, IsTaken, ByTest, IsStill, FitsCalled}
