@@ -13,6 +13,7 @@ use Rattle.jz_plain_expansions.proofs.Whole.{expansions_are_plain}
 use Rattle.jz_expanded_limits.specs.WithinBodies as limits
 use Rattle.jz_expanded_limits.proofs.Whole.{expansions_are_within}
 use Rattle.jz_expanded_classes.proofs.Whole.{expansions_are_classed}
+use Rattle.jz_expanded_runs.proofs.Followed.{expansions_keep_runs}
 use Rattle.jz_expanded_heads.specs.HeadLaws.{IsFineHead}
 use Rattle.jz_expanded_heads.proofs.Heads.{heads_are_fine}
 use Rattle.jz_fine_bodies.proofs.Whole.{bodies_are_fine}
@@ -59,5 +60,6 @@ pub safe_never : SafeIsNeverStuck
 safe_never p f g k count c x none lines = functions.safe_never p f g c x.there (head p f g k count x).1 (fine p f g k count x) none lines
 
 pub source_never : SourceIsNeverStuck
-source_never p f g k count words values memory n w x e none meets are run =
-    functions.source_never p f g k words values memory n w x.there (head p f g k count x).1 e (fine p f g k count x) none meets are run
+source_never p f g k count words values memory n w x none meets are run =
+    functions.source_never p f g k words values memory n w x.there (head p f g k count x).1
+    (expansions_keep_runs p f g k count x.typed x.text x.there x.exported x.expansion) (fine p f g k count x) none meets are run

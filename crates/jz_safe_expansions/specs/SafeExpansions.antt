@@ -19,7 +19,7 @@ use Rattle.jz_expansion.specs.Expansions.{IsExpansion}
 use Rattle.jz_listing.specs.declared.compiled.Compiled.{Compiled}
 use Rattle.jz_correct.specs.Registers.{argument_registers}
 use Rattle.jz_compiled.specs.Lines.{AreArgumentLines}
-use Rattle.jz_joined.specs.Making.{IsNeverStuck, IsExpandedTo}
+use Rattle.jz_joined.specs.Making.{IsNeverStuck}
 use Rattle.jz_fact_entry.specs.Entry.{AreWords}
 use Rattle.jz_never_stuck.specs.Safety.{IsFineFunction, HasNoAlarm}
 
@@ -43,11 +43,11 @@ SafeIsNeverStuck =
     → IsExpandedExport p f g k count → HasNoAlarm (plain_body g) g
     → AreArgumentLines argument_registers f.params c.args → IsNeverStuck f g c
 
--- nor is the function of the text, where its runs are those of the expansion
+-- nor is the function of the text
 abbrev pub SourceIsNeverStuck : Type 0
 SourceIsNeverStuck =
     (p : Program) (f g : Fun) (k : Change) (count : ℕ) (words : List ℕ) (values : List Value)
     (memory : Memory) (n : ℕ) (w : Reason)
-    → IsExpandedExport p f g k count → IsExpandedTo p f g k → HasNoAlarm (plain_body g) g
+    → IsExpandedExport p f g k count → HasNoAlarm (plain_body g) g
     → MeetsPreconditions f words memory → AreWords f.params words values
     → IsRun p f values memory n (Stuck w) → ⊥
