@@ -10,6 +10,7 @@ use Rattle.jz_total_rows.specs.Expanded.{IsExpanded}
 use Rattle.jz_total_rows.specs.Laws.{IsReadyTest}
 use Rattle.jz_total_rows.specs.Bodies.{IsReadyOperation, IsReadyBody}
 use Rattle.jz_expanded_types.proofs.Expanded.{expansions_are_typed}
+use Rattle.jz_expanded_classes.proofs.Whole.{expansions_are_classed}
 use Rattle.jz_expanded_limits.specs.WithinBodies.{IsWithin, IsWithinTest, IsWithinBody}
 use Rattle.jz_expanded_limits.proofs.Whole.{expansions_are_within}
 use Rattle.jz_ready_expansions.specs.ExpandedBodies.{IsExpandedOperation, IsExpandedBody}
@@ -39,5 +40,5 @@ module _ (home : Homes) where
   ready_body (call c b r) t w m x = absurd w
 
 pub expansions_are_ready : ExpansionsAreReady
-expansions_are_ready p f g k count home typed text has exported x classed parts =
-    ready_body home (plain_body g) (expansions_are_typed p f g k count typed text has x) (expansions_are_within p f g k count typed text has exported x) classed parts
+expansions_are_ready p f g k count home typed text has exported x parts =
+    ready_body home (plain_body g) (expansions_are_typed p f g k count typed text has x) (expansions_are_within p f g k count typed text has exported x) (expansions_are_classed p f g k count typed text has x) parts

@@ -10,15 +10,14 @@ use Rattle.jz_change.specs.Changes.{Change}
 use Rattle.jz_function_runs.specs.FunctionRuns.{plain_body}
 use Rattle.jz_expansion.specs.Expansions.{IsExpansion}
 use Rattle.jz_homes.specs.Homes.{Homes}
-use Rattle.jz_row_classes.specs.RowClasses.{IsClassedBody}
 use Rattle.jz_total_rows.specs.Bodies.{IsReadyBody}
 use Rattle.jz_ready_expansions.specs.ExpandedBodies.{IsExpandedBody}
 
--- its statements are well typed and within the limits, whatever the homes are
+-- its statements are well typed and within the limits and its tests are conditions, whatever the
+-- homes are
 abbrev pub ExpansionsAreReady : Type 0
 ExpansionsAreReady =
     (p : Program) (f g : Fun) (k : Change) (count : ℕ) (home : Homes)
     → IsTypedProgram p → IsText p → Contains p.funs f → is_exported f.kind ≡ true
-    → IsExpansion p f g k count
-    → IsClassedBody (plain_body g) → IsExpandedBody home (plain_body g)
+    → IsExpansion p f g k count → IsExpandedBody home (plain_body g)
     → IsReadyBody home (plain_body g)
