@@ -76,7 +76,8 @@ known_at p f k = copy_known p f k.name k.copy
 -- ---- variables
 -- a variable of a copy, with its declaration, which typing admits; kinds and known: those of the
 -- copies
-pub record IsSeen (kinds : Kinds) (frame : Key → Bool) (known : Key → Known) (v : Var) : Type 0 where
+pub record IsSeen
+    (kinds : Kinds) (frame : Key → Bool) (known : Key → Known) (v : Var) : Type 0 where
   pub decl : Decl
   pub is : (out-Var v).decl ≡ Some decl
   pub kept : is_kept (declared_of decl) ≡ true
