@@ -22,7 +22,7 @@ use Rattle.jz_meaning.specs.declared.access.Kind.{Kind}
 use Rattle.jz_meaning.specs.declared.access.Kind.TheVariants as kind
 use Rattle.jz_meaning.specs.States.{Key}
 use Rattle.jz_meaning.specs.Values.{Ref, key_of, ref_of, declared_kind, kind_or}
-use Rattle.jz_run_laws.specs.Kinds.{Kinds, part_of}
+use Rattle.jz_run_laws.specs.Kinds.{Kinds, part_of, kind_at}
 use Rattle.jz_run_laws.specs.DeclaredKinds.{IsDeclared}
 use Rattle.jz_typed_runs.specs.TypedTexts.{kinds_in}
 use Rattle.jz_typed_runs.proofs.Declaring.{IsKept}
@@ -97,3 +97,11 @@ module _ (p : Program) (kinds : Kinds) (frame : Key → Bool) (store : Key → K
         stored = ap (λ (x : Ref). store (key_of x)) (ref_so names v) ∙ stands;
         entire = ap (λ (x : Ref). x.cell) (ref_so names v) ∙ cell;
       }
+
+-- ---- two variables at one place
+module _ (kinds : Kinds) (frame : Key → Bool) {store : Key → Known} (v w : Var) (h : IsSeen kinds frame store v) (k : IsSeen kinds frame store w) (same : key_of (ref_of v) ≡ key_of (ref_of w)) where
+  pub same_known : known_of v ≡ known_of w
+  same_known = sym h.stored ∙ (ap store same ∙ k.stored)
+
+  pub same_kind : (ref_of v).kind ≡ (ref_of w).kind
+  same_kind = sym h.declared ∙ (ap (kind_at kinds) same ∙ k.declared)
