@@ -107,7 +107,7 @@ module _ (p : Program) (f g : Fun) (k : Change) (count : ℕ) (typed : IsTypedPr
   copied : OverBody Q (frame_of p f) (inlined_body p f)
   copied = copies_have_variables p f typed text has
 
-  rounds : ClearBody Q (frame_of p f) (plain_body x.unrolled)
+  pub rounds : ClearBody Q (frame_of p f) (plain_body x.unrolled)
   rounds = rounds_are_clear Q (frame_of p f) (inline_names (variables_of (inlined_function p f))) x.body.body (subst (OverBody Q (frame_of p f)) (inlined_is p f) copied)
 
   ready : IsReady (copied_kinds p f) (plain_body x.unrolled)
@@ -115,7 +115,7 @@ module _ (p : Program) (f g : Fun) (k : Change) (count : ℕ) (typed : IsTypedPr
       ready_law p f (inline_names (variables_of (inlined_function p f))) no_numbers x.body.behind (plain_body x.unrolled) x.rounds whole has
       (subst (λ (t : Block). Unrolls (unrolling (inline_names (variables_of (inlined_function p f)))) t no_numbers done (plain_body x.unrolled) x.body.behind x.rounds) (sym (inlined_is p f)) x.body.body)
 
-  rewritten : Rewrites (arrays (copied_kinds p f)) (plain_body x.unrolled) done (plain_body (function_with_scalars x.unrolled)) (scalar_change x.unrolled)
+  pub rewritten : Rewrites (arrays (copied_kinds p f)) (plain_body x.unrolled) done (plain_body (function_with_scalars x.unrolled)) (scalar_change x.unrolled)
   rewritten =
       (keeps_runs x.unrolled (function_with_scalars x.unrolled) (scalar_change x.unrolled) (record { function = refl; change = refl }) (copied_kinds p f) ready).rewritten
 
