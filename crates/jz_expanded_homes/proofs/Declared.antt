@@ -139,7 +139,7 @@ module _ (p : Program) (f : Fun) where
       of_copied w (suc c) (same_copy w (1 + c) (suc c) all number (wider w (1 + c) frame all (λ y i. Contains-append_right params frame y i) there))
 
   -- ---- a variable of a copy
-  record HasOwn (v : Var) : Type 0 where
+  pub record HasOwn (v : Var) : Type 0 where
     pub own : Var
     pub among : Contains all own
     pub one : AreOneName own v
