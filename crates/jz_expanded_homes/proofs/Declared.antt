@@ -126,10 +126,11 @@ module _ (p : Program) (f : Fun) where
   }
 
   own_place : All IsPlain (variables_of f) → (w : Var) → Contains (variables_of f) w → HasPlace w 0
-  own_place plain w h = elim (Contains-append_cases params f.vars w h) [
-    inl i ↦ record { own = w; among = Contains-append_left params frame w i; name = refl; copy = ref_copy w ∙ (All-contains IsPlain (variables_of f) w plain h).0; known = refl; kind = refl }
-  | inr i ↦ of_copied w 0 (record { names = own_names; name = refl; there = Contains-append_right params frame (var_in own_names w) (in_frame p.funs (length p.funs) own_names 1 f w i) })
-  ]
+  own_place plain w h =
+      elim (Contains-append_cases params f.vars w h) [
+        | inl i ↦ record { own = w; among = Contains-append_left params frame w i; name = refl; copy = ref_copy w ∙ (All-contains IsPlain (variables_of f) w plain h).0; known = refl; kind = refl }
+        | inr i ↦ of_copied w 0 (record { names = own_names; name = refl; there = Contains-append_right params frame (var_in own_names w) (in_frame p.funs (length p.funs) own_names 1 f w i) })
+      ]
 
   copy_place : (g : Fun) (c : ℕ) → slice_get (callees_of (body_of p f)) c ≡ Some g → (w : Var) → Contains (variables_of g) w → is_lent g.params (ref_of w).name ≡ false → HasPlace w (suc c)
   copy_place g c e w h n =
@@ -211,7 +212,9 @@ module _ (p : Program) (f : Fun) where
     pub among_left : (y : Var) → Contains all y → is_inline_int (known_of y) ≡ false → Contains (variables_of (function_with_scalars u)) y
     among_left y c i =
         let t : keep y ≡ true = kept_by y c i (is_inline_var (inline_names all) y) refl in
-        subst (λ vs. Contains vs y) (sym left) (elim (Contains-append_cases params frame y c) [
-          inl a ↦ Contains-append_left params (filter keep frame) y a
-        | inr a ↦ Contains-append_right params (filter keep frame) y (in_kept frame a.0 y a.1 a.2 t)
-        ])
+        let there : Contains (params ++ filter keep frame) y =
+        elim (Contains-append_cases params frame y c) [
+          | inl a ↦ Contains-append_left params (filter keep frame) y a
+          | inr a ↦ Contains-append_right params (filter keep frame) y (in_kept frame a.0 y a.1 a.2 t)
+        ] in
+        subst (λ vs. Contains vs y) (sym left) there

@@ -115,8 +115,8 @@ module _ (w : Var) where
         let none : NoArray c.of.params (ref_of w).name = not_lent c.of.params (ref_of w).name (ap (λ (x : Fun). is_lent x.params (ref_of w).name) e ∙ own) in
         let here : Contains (variables_of c.of) w = subst (λ (x : Fun). Contains (variables_of x) w) (sym e) among in
         let there : Contains (first ++ frame) (var_in inner w) = elim (Contains-append_cases (map (λ (q : Param). q.var) c.of.params) c.of.vars w here) [
-          inl i ↦ Contains-append_left first frame (var_in inner w) (has_own inner c.of.params w i.0 i.1 i.2 none)
-        | inr i ↦ Contains-append_right first frame (var_in inner w) (in_frame fs d inner (suc j) c.of w i)
+          | inl i ↦ Contains-append_left first frame (var_in inner w) (has_own inner c.of.params w i.0 i.1 i.2 none)
+          | inr i ↦ Contains-append_right first frame (var_in inner w) (in_frame fs d inner (suc j) c.of w i)
         ] in
         record { names = inner; name = own_name m j c.of.params c.args (ref_of w).name none; there = there }
 
@@ -136,10 +136,10 @@ module _ (w : Var) where
         let rest : List Var = brought d m next cs in
         let number : suc j + k ≡ j + suc k = omega arith in
         elim (in_parts g (funs_in fs d c.of) (funs_with (funs_in fs d) cs) k e) [
-          inl i ↦ same_copy (suc j + k) (j + suc k) ((first ++ frame) ++ rest) number
-          (wider (suc j + k) frame ((first ++ frame) ++ rest) (λ y r. Contains-append_left (first ++ frame) rest y (Contains-append_right first frame y r)) (law inner (suc j) c.of k i))
-        | inr r ↦ same_copy (next + r.0) (j + suc k) ((first ++ frame) ++ rest) (later_number j k (length (funs_in fs d c.of)) (copies_in fs d c.of) r.0 (funs_counted fs d c.of) r.1)
-          (wider (next + r.0) rest ((first ++ frame) ++ rest) (λ y q. Contains-append_right (first ++ frame) rest y q) (in_groups d law m next cs r.0 r.2))
+          | inl i ↦ same_copy (suc j + k) (j + suc k) ((first ++ frame) ++ rest) number
+              (wider (suc j + k) frame ((first ++ frame) ++ rest) (λ y r. Contains-append_left (first ++ frame) rest y (Contains-append_right first frame y r)) (law inner (suc j) c.of k i))
+          | inr r ↦ same_copy (next + r.0) (j + suc k) ((first ++ frame) ++ rest) (later_number j k (length (funs_in fs d c.of)) (copies_in fs d c.of) r.0 (funs_counted fs d c.of) r.1)
+              (wider (next + r.0) rest ((first ++ frame) ++ rest) (λ y q. Contains-append_right (first ++ frame) rest y q) (in_groups d law m next cs r.0 r.2))
         ]
 
     pub in_frames : (depth : ℕ) → InFrame depth

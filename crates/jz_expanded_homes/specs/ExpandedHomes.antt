@@ -1,5 +1,5 @@
--- Each variable that the expansion of an export function of a typed text names has the home that the
--- declarations give it, so its parts are expanded and it is ready for lowering.
+-- Each variable that the expansion of an export function of a typed text names has the home that
+-- the declarations give it, so its parts are expanded and it is ready for lowering.
 use Rattle.std.specs.Prelude.{ℕ, ◌≡◌, true, Contains}
 use Rattle.jz_tree.specs.declared.program.Fun.{Fun}
 use Rattle.jz_tree.specs.declared.program.Program.{Program}
