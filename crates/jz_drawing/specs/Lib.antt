@@ -1,0 +1,5 @@
+pub mod Drawings
+pub mod Draws
+pub use Rattle.jz_labels.specs.ConstantTime
+pub use Rattle.jz_required.specs.Readings
+pub use Rattle.jz_secrets.specs.Graphs
