@@ -6,41 +6,35 @@ use Rattle.jz_tree.specs.Failure.TheVariants as failure
 use Rattle.jz_tree.specs.Failures.{IfRefused, IfAnswered}
 use Rattle.jz_tree.specs.declared.program.Fun.{Fun}
 use Rattle.jz_tree.specs.declared.program.Program.{Program}
-use Rattle.jz_grammar.specs.LexFault.{LexFault}
-use Rattle.jz_grammar.specs.declared.fault.SyntaxFault.{SyntaxFault}
-use Rattle.jz_parse.specs.Reading.{LexFails, ParseFails}
-use Rattle.jz_types.specs.declared.fault.TypeFault.{TypeFault}
 use Rattle.jz_annotations.specs.declared.precondition.Pre.{Pre}
 use Rattle.jz_items.specs.declared.item.Item.{Item}
-use Rattle.jasminc_interp.specs.declared.refused.FunLimit.{FunLimit}
+use Rattle.jasminc_source.specs.declared.limits.FunLimit.{FunLimit}
+use Rattle.jasminc_source.specs.declared.unread.Unread as source
 use Rattle.jasminc_interp.specs.declared.refused.Refused.{Refused}
-use Rattle.jasminc_interp.specs.declared.refused.Refused.TheVariants.{Lex, Parse, Typing, NoFunction, Limit, Items, Unmet}
+use Rattle.jasminc_interp.specs.declared.refused.Refused.TheVariants.{Unread, NoFunction, Limit, Items, Unmet}
 use Rattle.jasminc_interp.specs.declared.telling.Ran.{Ran}
-use Rattle.jasminc_interp.specs.Texts.{TypesAs, FailsTyping}
-use Rattle.jasminc_interp.specs.Exports.{export_named, WithinIfExported, HasLimit}
+use Rattle.jasminc_source.specs.Texts.{TypesAs}
+use Rattle.jasminc_source.specs.Unreadable.{IsUnread, unread_stage}
+use Rattle.jasminc_source.specs.Exports.{export_named, WithinIfExported, HasLimit}
 use Rattle.jasminc_interp.specs.Runs.{AllHold, BreaksFirst, RunsOn}
 use Rattle.jasminc_interp.specs.InnerRuns.{IsRunAt, FunctionAnswers}
-use Rattle.jasminc_interp.specs.Causes.{HasNoExport, PassesLimit, HasOtherItems, BreaksPrecondition, Cause, ReadingRefuses, stage_of, Clear, IsFirstCause}
+use Rattle.jasminc_interp.specs.Causes.{HasNoExport, PassesLimit, HasOtherItems, BreaksPrecondition, Cause, stage_of, Clear, IsFirstCause}
 use Rattle.jasminc_interp.specs.Answers.{all_stages, Answers, IsDone}
-use Rattle.jasminc_interp.proofs.Causing.{reads_no_lex, reads_no_parse, fails_no_lex, types_one, types_no_fault}
-use Rattle.jasminc_interp.proofs.Limiting.{none_passes}
+use Rattle.jasminc_source.proofs.Causing.{types_as_read, first_unread, unread_early, types_one}
+use Rattle.jasminc_source.proofs.Limiting.{none_passes}
 use Rattle.jasminc_interp.proofs.Told.{same_fun}
 use Rattle.jasminc_interp.proofs.Readying.{none_breaks}
 
 -- ---- what excludes the causes before a stage
 pub record Excludes (text fun : List ℕ) (items : List Item) (n : ℕ) : Type 0 where
-  pub lexer : (f : LexFault) → 2 < n → LexFails text f → ⊥
-  pub parser : (f : SyntaxFault) → 3 < n → ParseFails text f → ⊥
-  pub typing : (f : TypeFault) → 4 < n → FailsTyping text f → ⊥
+  pub reading : (u : source.Unread) → unread_stage u < n → IsUnread text u → ⊥
   pub named : (name : List ℕ) → 5 < n → HasNoExport text fun name → ⊥
   pub limits : (l : FunLimit) → 6 < n → PassesLimit text l → ⊥
   pub counted : 9 < n → HasOtherItems text fun items → ⊥
   pub met : (pre : Pre) → 10 < n → BreaksPrecondition text fun items pre → ⊥
 
 cleared : (text fun : List ℕ) (items : List Item) (n : ℕ) → Excludes text fun items n → Clear text fun items n
-cleared text fun items n e (Lex f) lt c = e.lexer f lt c
-cleared text fun items n e (Parse f) lt c = e.parser f lt c
-cleared text fun items n e (Typing f) lt c = e.typing f lt c
+cleared text fun items n e (Unread u) lt c = e.reading u lt c
 cleared text fun items n e (NoFunction name) lt c = e.named name lt c
 cleared text fun items n e (Limit l) lt c = e.limits l lt c
 cleared text fun items n e Items lt c = e.counted lt c
@@ -51,52 +45,25 @@ first_with text fun items r c e = record { cause = c; first = cleared text fun i
 
 module _ (text fun : List ℕ) (items : List Item) where
   -- ---- a text without a typed program
-  before_lexer : Excludes text fun items 2
-  before_lexer = record {
-    lexer = λ f lt c. absurd (omega (arith, lt));
-    parser = λ f lt c. absurd (omega (arith, lt));
-    typing = λ f lt c. absurd (omega (arith, lt));
-    named = λ name lt c. absurd (omega (arith, lt));
-    limits = λ l lt c. absurd (omega (arith, lt));
-    counted = λ lt c. absurd (omega (arith, lt));
-    met = λ pre lt c. absurd (omega (arith, lt));
-  }
+  before_reading : (u : source.Unread) → IsUnread text u → Excludes text fun items (unread_stage u)
+  before_reading u h =
+      let early = unread_early u in
+      record {
+        reading = λ v lt c. first_unread text u v h lt c;
+        named = λ name lt c. absurd (omega (arith, early, lt));
+        limits = λ l lt c. absurd (omega (arith, early, lt));
+        counted = λ lt c. absurd (omega (arith, early, lt));
+        met = λ pre lt c. absurd (omega (arith, early, lt));
+      }
 
-  before_parser : (g : SyntaxFault) → ParseFails text g → Excludes text fun items 3
-  before_parser g h = record {
-    lexer = λ f lt c. fails_no_lex text g f h c;
-    parser = λ f lt c. absurd (omega (arith, lt));
-    typing = λ f lt c. absurd (omega (arith, lt));
-    named = λ name lt c. absurd (omega (arith, lt));
-    limits = λ l lt c. absurd (omega (arith, lt));
-    counted = λ lt c. absurd (omega (arith, lt));
-    met = λ pre lt c. absurd (omega (arith, lt));
-  }
-
-  before_typing : (g : TypeFault) → FailsTyping text g → Excludes text fun items 4
-  before_typing g h = record {
-    lexer = λ f lt c. reads_no_lex text h.program f h.reads c;
-    parser = λ f lt c. reads_no_parse text h.program f h.reads c;
-    typing = λ f lt c. absurd (omega (arith, lt));
-    named = λ name lt c. absurd (omega (arith, lt));
-    limits = λ l lt c. absurd (omega (arith, lt));
-    counted = λ lt c. absurd (omega (arith, lt));
-    met = λ pre lt c. absurd (omega (arith, lt));
-  }
-
-  reading_first : (r : Refused) → ReadingRefuses text r → IsFirstCause text fun items r
-  reading_first (Lex f) c = first_with text fun items (Lex f) c before_lexer
-  reading_first (Parse f) c = first_with text fun items (Parse f) c (before_parser f c)
-  reading_first (Typing f) c = first_with text fun items (Typing f) c (before_typing f c)
-  reading_first r c = absurd c
+  reading_first : (u : source.Unread) → IsUnread text u → IsFirstCause text fun items (Unread u)
+  reading_first u c = first_with text fun items (Unread u) c (before_reading u c)
 
   -- ---- a typed text
   module _ (p : Program) (t : TypesAs text p) where
     before_names : Excludes text fun items 5
     before_names = record {
-      lexer = λ f lt c. reads_no_lex text t.written f t.reads c;
-      parser = λ f lt c. reads_no_parse text t.written f t.reads c;
-      typing = λ f lt c. types_no_fault text p f t c;
+      reading = λ u lt c. types_as_read text p t u c;
       named = λ name lt c. absurd (omega (arith, lt));
       limits = λ l lt c. absurd (omega (arith, lt));
       counted = λ lt c. absurd (omega (arith, lt));
@@ -115,9 +82,7 @@ module _ (text fun : List ℕ) (items : List Item) where
 
       before_limits : Excludes text fun items 6
       before_limits = record {
-        lexer = λ f lt c. reads_no_lex text t.written f t.reads c;
-        parser = λ f lt c. reads_no_parse text t.written f t.reads c;
-        typing = λ f lt c. types_no_fault text p f t c;
+        reading = λ u lt c. types_as_read text p t u c;
         named = λ name lt c. has_function name c;
         limits = λ l lt c. absurd (omega (arith, lt));
         counted = λ lt c. absurd (omega (arith, lt));
@@ -134,9 +99,7 @@ module _ (text fun : List ℕ) (items : List Item) where
 
         before_items : Excludes text fun items 9
         before_items = record {
-          lexer = λ f lt c. reads_no_lex text t.written f t.reads c;
-          parser = λ f lt c. reads_no_parse text t.written f t.reads c;
-          typing = λ f lt c. types_no_fault text p f t c;
+          reading = λ u lt c. types_as_read text p t u c;
           named = λ name lt c. has_function name c;
           limits = λ l lt c. no_limit l c;
           counted = λ lt c. absurd (omega (arith, lt));
@@ -156,9 +119,7 @@ module _ (text fun : List ℕ) (items : List Item) where
 
         before_met : length items ≡ length f.params → Excludes text fun items 10
         before_met many = record {
-          lexer = λ f lt c. reads_no_lex text t.written f t.reads c;
-          parser = λ f lt c. reads_no_parse text t.written f t.reads c;
-          typing = λ f lt c. types_no_fault text p f t c;
+          reading = λ u lt c. types_as_read text p t u c;
           named = λ name lt c. has_function name c;
           limits = λ l lt c. no_limit l c;
           counted = λ lt c. has_items many c;
@@ -178,9 +139,7 @@ module _ (text fun : List ℕ) (items : List Item) where
 
         before_all : length items ≡ length f.params → AllHold f items → Excludes text fun items all_stages
         before_all many held = record {
-          lexer = λ f lt c. reads_no_lex text t.written f t.reads c;
-          parser = λ f lt c. reads_no_parse text t.written f t.reads c;
-          typing = λ f lt c. types_no_fault text p f t c;
+          reading = λ u lt c. types_as_read text p t u c;
           named = λ name lt c. has_function name c;
           limits = λ l lt c. no_limit l c;
           counted = λ lt c. has_items many c;
@@ -208,9 +167,7 @@ module _ (text fun : List ℕ) (items : List Item) where
           refused_at (Unmet pre) h =
               let same = same_fun h.function f (slice_get p.funs place) h.there there in
               unmet_first pre (subst (λ (g : Fun). length items ≡ length g.params) same h.many) (subst (λ (g : Fun). BreaksFirst g items pre) same h.breaks)
-          refused_at (Lex fault) h = absurd h
-          refused_at (Parse fault) h = absurd h
-          refused_at (Typing fault) h = absurd h
+          refused_at (Unread u) h = absurd h
           refused_at (NoFunction name) h = absurd h
           refused_at (Limit l) h = absurd h
 
@@ -225,8 +182,13 @@ answered : (text fun : List ℕ) (items : List Item) (fuel : ℕ) (P : Refused �
 answered text fun items fuel P (failure.Refused r) f h = f r h
 answered text fun items fuel P failure.OutOfMemory f h = tt
 
-pub reading_fails : (text fun : List ℕ) (items : List Item) (fuel : ℕ) (e : Failure Refused) → IfRefused e (ReadingRefuses text) → IfAnswered {A = Ran} (Err e) (Answers text fun items fuel)
-reading_fails text fun items fuel e h = answered text fun items fuel (ReadingRefuses text) e (reading_first text fun items) h
+-- no typed program, as a refusal
+abbrev pub IsUnreadable : List ℕ → Refused → Type 0
+IsUnreadable text r = (u : source.Unread) × (r ≡ Unread u) × IsUnread text u
+
+pub reading_fails : (text fun : List ℕ) (items : List Item) (fuel : ℕ) (e : Failure Refused) → IfRefused e (IsUnreadable text) → IfAnswered {A = Ran} (Err e) (Answers text fun items fuel)
+reading_fails text fun items fuel e h =
+    answered text fun items fuel (IsUnreadable text) e (λ r k. subst (IsFirstCause text fun items) (sym k.1) (reading_first text fun items k.0 k.2)) h
 
 -- a limit, as a refusal
 abbrev pub IsLimit : Program → Refused → Type 0

@@ -5,8 +5,8 @@ use Rattle.jz_tree.specs.declared.program.Program.{Program}
 use Rattle.jz_items.specs.declared.item.Item.{Item}
 use Rattle.jasminc_interp.specs.declared.refused.Refused.{Refused}
 use Rattle.jasminc_interp.specs.declared.telling.Ran.{Ran}
-use Rattle.jasminc_interp.specs.Texts.{TypesAs}
-use Rattle.jasminc_interp.specs.Exports.{export_named}
+use Rattle.jasminc_source.specs.Texts.{TypesAs}
+use Rattle.jasminc_source.specs.Exports.{export_named}
 use Rattle.jasminc_interp.specs.Runs.{RunsOn}
 use Rattle.jasminc_interp.specs.Causes.{Clear, IsFirstCause}
 

@@ -2,16 +2,16 @@
 use Rattle.std.specs.Prelude.{◌≡◌, ◌<◌, ℕ, List, length, Some, None}
 use Rattle.jz_tree.specs.declared.program.Fun.{Fun}
 use Rattle.jz_tree.specs.declared.program.Program.{Program}
-use Rattle.jz_parse.specs.Reading.{LexFails, ParseFails}
 use Rattle.jz_annotations.specs.declared.precondition.Pre.{Pre}
 use Rattle.jz_items.specs.declared.item.Item.{Item}
-use Rattle.jasminc_interp.specs.declared.refused.FunLimit.{FunLimit}
+use Rattle.jasminc_source.specs.declared.limits.FunLimit.{FunLimit}
 use Rattle.jasminc_interp.specs.declared.refused.Refused.{Refused}
-use Rattle.jasminc_interp.specs.declared.refused.Refused.TheVariants.{Lex, Parse, Typing}
+use Rattle.jasminc_interp.specs.declared.refused.Refused.TheVariants.{Unread}
 use Rattle.jasminc_interp.specs.declared.refused.Refused.TheVariants.{NoFunction, Limit, Items, Unmet}
-use Rattle.jasminc_interp.specs.Texts.{TypesAs, FailsTyping}
+use Rattle.jasminc_source.specs.Texts.{TypesAs}
+use Rattle.jasminc_source.specs.Unreadable.{IsUnread, unread_stage}
 use Rattle.jasminc_interp.specs.Runs.{BreaksFirst}
-use Rattle.jasminc_interp.specs.Exports.{export_named, HasLimit}
+use Rattle.jasminc_source.specs.Exports.{export_named, HasLimit}
 
 -- no export function of the text's program has the name
 pub record HasNoExport (text fun name : List ℕ) : Type 0 where
@@ -44,27 +44,16 @@ pub record BreaksPrecondition (text fun : List ℕ) (items : List Item) (pre : P
   pub breaks : BreaksFirst function items pre
 
 abbrev pub Cause : List ℕ → List ℕ → List Item → Refused → Type 0
-Cause text fun items (Lex fault) = LexFails text fault
-Cause text fun items (Parse fault) = ParseFails text fault
-Cause text fun items (Typing fault) = FailsTyping text fault
+Cause text fun items (Unread u) = IsUnread text u
 Cause text fun items (NoFunction name) = HasNoExport text fun name
 Cause text fun items (Limit l) = PassesLimit text l
 Cause text fun items Items = HasOtherItems text fun items
 Cause text fun items (Unmet pre) = BreaksPrecondition text fun items pre
 
--- why a text has no typed program
-abbrev pub ReadingRefuses : List ℕ → Refused → Type 0
-ReadingRefuses text (Lex fault) = LexFails text fault
-ReadingRefuses text (Parse fault) = ParseFails text fault
-ReadingRefuses text (Typing fault) = FailsTyping text fault
-ReadingRefuses text r = ⊥
-
--- the stages in their order, by their numbers among those of all commands: lexer, parser, typing,
--- function name, limits, the number of items, preconditions
+-- the stages in their order, by their numbers among those of all commands: reading, function name,
+-- limits, the number of items, preconditions
 abbrev pub stage_of : Refused → ℕ
-stage_of (Lex fault) = 2
-stage_of (Parse fault) = 3
-stage_of (Typing fault) = 4
+stage_of (Unread u) = unread_stage u
 stage_of (NoFunction name) = 5
 stage_of (Limit l) = 6
 stage_of Items = 9

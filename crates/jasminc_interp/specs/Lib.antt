@@ -1,6 +1,3 @@
-pub mod Stage
-pub mod Texts
-pub mod Exports
 pub mod Telling
 pub mod Runs
 pub mod InnerRuns

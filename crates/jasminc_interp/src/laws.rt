@@ -5,7 +5,7 @@ ghost use Rattle.jz_tree.specs.declared.program.Fun.{Fun};
 ghost use Rattle.jz_tree.specs.declared.program.Program.{Program};
 ghost use Rattle.jz_preconditions.specs.Permitted.{MeetsWithZeros, least_arguments};
 ghost use Rattle.jz_type_rows.specs.Exports.{is_exported};
-ghost use Rattle.jasminc_interp.specs.Texts.{TypesAs};
+ghost use Rattle.jasminc_source.specs.Texts.{TypesAs};
 
 /// Each export function of a typed text is met by its least permitted arguments, with zero bytes in
 /// its regions.

@@ -3,17 +3,14 @@
 #![tactic(auto)]
 
 mod calls;
-mod exports;
 mod laws;
-mod limits;
-mod reading;
 mod refused;
 mod running;
-mod stage;
 mod stages;
 mod telling;
 
+pub use jasminc_source::{FunLimit, Unread};
 pub use laws::typed_functions_can_be_met;
-pub use refused::{FunLimit, Refused};
+pub use refused::Refused;
 pub use stages::interp_text;
 pub use telling::Ran;

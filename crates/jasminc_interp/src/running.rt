@@ -5,9 +5,9 @@ ghost use Rattle.jz_tree.specs.Failures.{IfAnswered};
 ghost use Rattle.jasminc_interp.specs.InnerRuns.{IsExportAt, IsReady, RunsAt, FunctionAnswers};
 
 use crate::calls::{Called, prepared, taken};
-use crate::exports::function_at;
 use crate::refused::Refused;
 use crate::telling::{Ran, tell};
+use jasminc_source::function_at;
 use jz_inputs::{first_unmet, memory_of};
 use jz_interp::{Input, interpret};
 use jz_items::Item;

@@ -2,16 +2,13 @@
 
 ghost use Rattle.std.specs.Prelude.{◌≤◌, length};
 ghost use Rattle.jz_tree.specs.Failures.{IfAnswered};
-ghost use Rattle.jasminc_interp.specs.Texts.{source_limit};
+ghost use Rattle.jasminc_source.specs.Texts.{source_limit};
 ghost use Rattle.jasminc_interp.specs.Answers.{Answers};
 
-use crate::exports::place_of;
-use crate::limits::within_limits;
-use crate::reading::typed_program;
 use crate::refused::Refused;
 use crate::running::run_function;
-use crate::stage::as_refused;
 use crate::telling::Ran;
+use jasminc_source::{as_refused, place_of, typed_program, within_limits};
 use jz_items::Item;
 use jz_tree::{Failure, Seq, Text};
 use std::alloc::Global;
@@ -28,7 +25,7 @@ pub fn interp_text(
     requires { length text.now ≤ source_limit }
     ensures { IfAnswered result (Answers text.now fun.now items.now fuel) }
 {
-    let typed = typed_program(alloc, text)?;
+    let typed = as_refused(typed_program(alloc, text), Refused::Unread)?;
     let tree = typed.program();
     let Some(place) = place_of(&tree.funs, fun) else {
         let name = Text::from_string(String::from_str(alloc, fun)?);

@@ -17,6 +17,7 @@ use Rattle.jasminc_interp.specs.declared.telling.Ran as source
 use Rattle.jasminc_interp.specs.declared.telling.Ran.TheVariants as source_ran
 use Rattle.jasminc_interp.specs.declared.refused.Refused.{Refused}
 use Rattle.jasminc_interp.specs.declared.refused.Refused.TheVariants as refusing
+use Rattle.jasminc_source.specs.declared.unread.Unread.TheVariants as unread
 use Rattle.jasminc_interp.specs.Causes as interp_causes
 use Rattle.jz_disasm_text.specs.declared.Fault.{Fault}
 use Rattle.jz_disasm_text.specs.declared.Fault.TheVariants as fault
@@ -24,9 +25,9 @@ use Rattle.jasminc_top.specs.Answers.{Cause, HasText, IsDue, IsUsage, IsNoComman
 use Rattle.jasminc_top.specs.Runs.{Run, Due, Runs, ReadsAll, Refuses, Completes, IsFree, IsGiven, IsEarlier, Tells, IsCaused, ComesOnly, IsTooLong}
 
 run_bounded : (r : Refused) → interp_causes.stage_of r < 11
-run_bounded (refusing.Lex fault) = omega arith
-run_bounded (refusing.Parse fault) = omega arith
-run_bounded (refusing.Typing fault) = omega arith
+run_bounded (refusing.Unread (unread.Lex fault)) = omega arith
+run_bounded (refusing.Unread (unread.Parse fault)) = omega arith
+run_bounded (refusing.Unread (unread.Typing fault)) = omega arith
 run_bounded (refusing.NoFunction name) = omega arith
 run_bounded (refusing.Limit l) = omega arith
 run_bounded refusing.Items = omega arith
@@ -114,9 +115,9 @@ IsOther status.WriteFault = ⊤
 IsOther s = ⊥
 
 no_other_run : (r : Refused) → IsOther (status_of_refused r) → ⊥
-no_other_run (refusing.Lex fault) h = h
-no_other_run (refusing.Parse fault) h = h
-no_other_run (refusing.Typing fault) h = h
+no_other_run (refusing.Unread (unread.Lex fault)) h = h
+no_other_run (refusing.Unread (unread.Parse fault)) h = h
+no_other_run (refusing.Unread (unread.Typing fault)) h = h
 no_other_run (refusing.NoFunction name) h = h
 no_other_run (refusing.Limit l) h = h
 no_other_run refusing.Items h = h

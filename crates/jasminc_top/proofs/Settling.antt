@@ -14,6 +14,7 @@ use Rattle.jasminc_top.specs.declared.refusal.Refusal.TheVariants.{Usage, ReadFa
 use Rattle.jasminc_words.specs.Wanted.{Wanted, compile, exec, interp, disasm, file_of}
 use Rattle.jasminc_interp.specs.declared.refused.Refused.{Refused}
 use Rattle.jasminc_interp.specs.declared.refused.Refused.TheVariants as refused
+use Rattle.jasminc_source.specs.declared.unread.Unread.TheVariants as unread
 use Rattle.jasminc_interp.specs.Causes as interp_causes
 use Rattle.jz_disasm_text.specs.declared.Fault.{Fault}
 use Rattle.jz_disasm_text.specs.declared.Fault.TheVariants as fault
@@ -39,9 +40,9 @@ long_cause (interp call) text long = long
 long_cause (disasm file) text long = long
 
 run_late : (r : Refused) → 1 ≤ interp_causes.stage_of r
-run_late (refused.Lex fault) = omega arith
-run_late (refused.Parse fault) = omega arith
-run_late (refused.Typing fault) = omega arith
+run_late (refused.Unread (unread.Lex fault)) = omega arith
+run_late (refused.Unread (unread.Parse fault)) = omega arith
+run_late (refused.Unread (unread.Typing fault)) = omega arith
 run_late (refused.NoFunction name) = omega arith
 run_late (refused.Limit l) = omega arith
 run_late refused.Items = omega arith
@@ -90,9 +91,9 @@ plain_due wish told status.WriteFault output made bound due quiet = absurd (boun
 plain_due wish told s output made bound due quiet = (due, quiet)
 
 run_bound : (r : Refused) → IsFree (status_of_refused r) → ⊥
-run_bound (refused.Lex fault) h = h
-run_bound (refused.Parse fault) h = h
-run_bound (refused.Typing fault) h = h
+run_bound (refused.Unread (unread.Lex fault)) h = h
+run_bound (refused.Unread (unread.Parse fault)) h = h
+run_bound (refused.Unread (unread.Typing fault)) h = h
 run_bound (refused.NoFunction name) h = h
 run_bound (refused.Limit l) h = h
 run_bound refused.Items h = h

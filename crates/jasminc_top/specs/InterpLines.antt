@@ -9,7 +9,9 @@ use Rattle.jz_limits.specs.declared.limit.Limit.{Limit}
 use Rattle.jz_limits.specs.declared.limit.Limit.TheVariants as limit
 use Rattle.jz_text.specs.Texts.{span_text}
 use Rattle.jasminc_lines.specs.Preconditions.{pre_text}
-use Rattle.jasminc_interp.specs.declared.refused.FunLimit.{FunLimit}
+use Rattle.jasminc_source.specs.declared.limits.FunLimit.{FunLimit}
+use Rattle.jasminc_source.specs.declared.unread.Unread.{Unread}
+use Rattle.jasminc_source.specs.declared.unread.Unread.TheVariants as unread
 use Rattle.jasminc_interp.specs.declared.refused.Refused.{Refused}
 use Rattle.jasminc_interp.specs.declared.refused.Refused.TheVariants as refused
 use Rattle.jasminc_top.specs.Lines.{lexer_line, parser_line}
@@ -48,10 +50,13 @@ abbrev pub limit_text : FunLimit → List ℕ
 limit_text l =
     codes "limit " ++ limit_name l.limit ++ codes " " ++ limit_subject l.fun l.limit
 
+abbrev pub unread_text : Unread → List ℕ
+unread_text (unread.Lex fault) = lexer_line fault
+unread_text (unread.Parse fault) = parser_line fault
+unread_text (unread.Typing fault) = type_line fault
+
 abbrev pub refused_text : Refused → List ℕ
-refused_text (refused.Lex fault) = lexer_line fault
-refused_text (refused.Parse fault) = parser_line fault
-refused_text (refused.Typing fault) = type_line fault
+refused_text (refused.Unread u) = unread_text u
 refused_text (refused.NoFunction name) = codes "unknown function " ++ name
 refused_text (refused.Limit l) = limit_text l
 refused_text refused.Items = codes "precondition items"

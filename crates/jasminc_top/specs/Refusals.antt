@@ -9,6 +9,8 @@ use Rattle.jasminc_top.specs.declared.refusal.Refusal.TheVariants.{Limit, Alarm,
 use Rattle.jasminc_top.specs.declared.refusal.Refusal.TheVariants.{Interp, Disasm}
 use Rattle.jasminc_interp.specs.declared.refused.Refused.{Refused}
 use Rattle.jasminc_interp.specs.declared.refused.Refused.TheVariants as refused
+use Rattle.jasminc_source.specs.declared.unread.Unread.{Unread}
+use Rattle.jasminc_source.specs.declared.unread.Unread.TheVariants as unread
 use Rattle.jasminc_interp.specs.Causes as interp
 use Rattle.jz_disasm_text.specs.declared.Fault.{Fault}
 use Rattle.jz_disasm_text.specs.declared.Fault.TheVariants as fault
@@ -17,10 +19,13 @@ use Rattle.jasminc_top.specs.DisasmLines.{fault_text}
 use Rattle.jasminc_top.specs.Lines.{lexer_line, parser_line, type_line}
 use Rattle.jasminc_top.specs.Lines.{limit_line, alarm_line, no_place_line}
 
+abbrev pub status_of_unread : Unread → Status
+status_of_unread (unread.Lex fault) = status.Syntax
+status_of_unread (unread.Parse fault) = status.Syntax
+status_of_unread (unread.Typing fault) = status.Typing
+
 abbrev pub status_of_refused : Refused → Status
-status_of_refused (refused.Lex fault) = status.Syntax
-status_of_refused (refused.Parse fault) = status.Syntax
-status_of_refused (refused.Typing fault) = status.Typing
+status_of_refused (refused.Unread u) = status_of_unread u
 status_of_refused (refused.NoFunction name) = status.NoFunction
 status_of_refused (refused.Limit l) = status.Limit
 status_of_refused refused.Items = status.Precondition

@@ -3,11 +3,12 @@
 
 ghost use Rattle.std.specs.Prelude.{◌≡◌, ◌++◌, OnOk};
 ghost use Rattle.jasminc_top.specs.InterpLines.{rule_name, type_line, limit_name, limit_subject};
-ghost use Rattle.jasminc_top.specs.InterpLines.{limit_text, refused_text};
+ghost use Rattle.jasminc_top.specs.InterpLines.{limit_text, unread_text, refused_text};
 
 use crate::lines::{write_lex_fault, write_syntax_fault};
-use jasminc_interp::{FunLimit, Refused};
+use jasminc_interp::Refused;
 use jasminc_lines::write_pre;
+use jasminc_source::{FunLimit, Unread};
 use jz_first::Text;
 use jz_first_limit::Limit;
 use jz_text::{write_number, write_span};
@@ -76,13 +77,22 @@ fn write_fun_limit(line: &mut Vec<u8>, passed: &FunLimit) -> Result<(), AllocErr
     write_subject(line, &passed.fun, passed.limit)
 }
 
+/// Why a text has no typed program.
+fn write_unread(line: &mut Vec<u8>, unread: Unread) -> Result<(), AllocError>
+    ensures { OnOk result (line.new.items ≡ line.old.items ++ unread_text unread) }
+{
+    match unread {
+        Unread::Lex(fault) => write_lex_fault(line, fault),
+        Unread::Parse(fault) => write_syntax_fault(line, fault),
+        Unread::Typing(fault) => write_typing(line, fault),
+    }
+}
+
 pub fn write_refused(line: &mut Vec<u8>, refused: &Refused) -> Result<(), AllocError>
     ensures { OnOk result (line.new.items ≡ line.old.items ++ refused_text refused.now) }
 {
     match refused {
-        Refused::Lex(fault) => write_lex_fault(line, *fault),
-        Refused::Parse(fault) => write_syntax_fault(line, *fault),
-        Refused::Typing(fault) => write_typing(line, *fault),
+        Refused::Unread(unread) => write_unread(line, *unread),
         Refused::NoFunction(name) => {
             line.extend_from_slice(b"unknown function ")?;
             line.extend_from_slice(name.as_str().as_bytes())

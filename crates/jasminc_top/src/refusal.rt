@@ -1,8 +1,8 @@
 //! The statuses of the program, and the answers other than Ok with their lines.
 
 ghost use Rattle.std.specs.Prelude.{◌≡◌, ◌++◌, IfOk, OnOk, codes, decimal};
-ghost use Rattle.jasminc_top.specs.Refusals.{status_of_refused, status_of_fault, status_of};
-ghost use Rattle.jasminc_top.specs.Refusals.{cause_text, line_of};
+ghost use Rattle.jasminc_top.specs.Refusals.{status_of_unread, status_of_refused, status_of_fault};
+ghost use Rattle.jasminc_top.specs.Refusals.{status_of, cause_text, line_of};
 
 use crate::disasm_lines::write_disasm_fault;
 use crate::interp_lines::write_refused;
@@ -10,6 +10,7 @@ use crate::lines::{
     write_alarm, write_lex_fault, write_limit, write_no_place, write_syntax_fault, write_type_fault,
 };
 use jasminc_interp::Refused;
+use jasminc_source::Unread;
 use jz_disasm_text::Fault;
 use jz_first::{Text, TypeFault};
 use jz_grammar::{LexFault, SyntaxFault};
@@ -69,13 +70,21 @@ pub enum Refusal {
     Disasm(Fault),
 }
 
+fn status_of_unread(unread: Unread) -> Status
+    ensures { result ≡ status_of_unread unread }
+{
+    match unread {
+        Unread::Lex(_) | Unread::Parse(_) => Status::Syntax,
+        Unread::Typing(_) => Status::Typing,
+    }
+}
+
 /// The status of a function that is not run.
 fn status_of_refused(refused: &Refused) -> Status
     ensures { result ≡ status_of_refused refused.now }
 {
     match refused {
-        Refused::Lex(_) | Refused::Parse(_) => Status::Syntax,
-        Refused::Typing(_) => Status::Typing,
+        Refused::Unread(unread) => status_of_unread(*unread),
         Refused::NoFunction(_) => Status::NoFunction,
         Refused::Limit(_) => Status::Limit,
         Refused::Items | Refused::Unmet(_) => Status::Precondition,

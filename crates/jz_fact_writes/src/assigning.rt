@@ -11,13 +11,12 @@ ghost use Rattle.jz_meaning.specs.Statements as statements;
 ghost use Rattle.jz_facts.specs.Holding as holding;
 ghost use Rattle.jz_fact_sets.specs.Kept.{given_of, facts_of, AreDifferent};
 
-use crate::whole::whole_of;
 use crate::writes::write_all;
 use indexmap::IndexMap;
 use jz_fact_sets::{FactSet, Given, meet};
 use jz_fact_steps::of_word;
 use jz_meaning::own_size;
-use jz_run_assign::left_sizes;
+use jz_run_assign::{left_sizes, whole_of};
 use jz_tree::{BinOp, Expr, Lval, Seq};
 use std::alloc::AllocError;
 use x64_insn::Size;

@@ -62,7 +62,7 @@ fn operation(op: BinOp, left: Counted, right: Counted) -> Counted
     }
 }
 
-fn is_int(var: &Var) -> bool
+pub fn is_int(var: &Var) -> bool
     ensures { result ≡ is_whole (sort_of_kind (ref_of var.now).kind) }
 {
     match kind_of(var) {

@@ -14,7 +14,9 @@ use jz_change::Change;
 use jz_copies::{Callable, CopyLimit, Extent, copied_extent};
 use jz_frames::frame_vars;
 use jz_inline::NamesInCopy;
-use jz_tree::{Failure, Fun, FunKind, Param, Program, Ret, Seq, Stmt, Var, copy_notes, copy_vars};
+use jz_tree::{
+    Failure, Fun, FunKind, Program, Seq, Stmt, Var, copy_notes, copy_params, copy_rets, copy_vars,
+};
 use jz_types::Typed;
 use std::alloc::{AllocError, Global};
 
@@ -40,27 +42,6 @@ fn copy_statements(alloc: Global, program: &Program, fun: &Fun) -> Result<Body, 
     let names = NamesInCopy::own(alloc);
     let body = copy_body(&copier, left, &names, &fun.body, 1)?;
     Ok(body)
-}
-
-fn copy_ret(alloc: Global, ret: &Ret) -> Result<Ret, AllocError>
-    ensures { IfOk result (λ copy. copy ≡ ret.now) }
-{
-    Ok(Ret {
-        notes: copy_notes(alloc, &ret.notes)?,
-        decl: ret.decl.copy(alloc)?,
-    })
-}
-
-fn copy_params(alloc: Global, params: &Seq<Param>) -> Result<Seq<Param>, AllocError>
-    ensures { IfOk result (λ copy. copy ≡ params.now) }
-{
-    params.try_map(alloc, |param| param.copy(alloc))
-}
-
-fn copy_rets(alloc: Global, rets: &Seq<Ret>) -> Result<Seq<Ret>, AllocError>
-    ensures { IfOk result (λ copy. copy ≡ rets.now) }
-{
-    rets.try_map(alloc, |ret| copy_ret(alloc, ret))
 }
 
 /// The function with other variables and another body.

@@ -1,7 +1,6 @@
 //! Copies of arguments and results, and the mark at the head of a copied body.
 
 ghost use Rattle.std.specs.Prelude.{◌≡◌, ◌+◌, ◌<◌, ◌++◌, ◌∷◌, [], map, IfOk, OnOk};
-ghost use Rattle.jz_meaning.specs.Assignments as assignments;
 ghost use Rattle.jz_change.specs.declared.change.Step.TheVariants as step;
 ghost use Rattle.jz_inline.specs.Names.{var_in};
 ghost use Rattle.jz_inline.specs.Calls as calls;
@@ -19,19 +18,9 @@ use crate::parts::Call;
 use crate::plain::{one_step, vars_in_copy};
 use jz_change::{Change, Step};
 use jz_inline::{NamesInCopy, expr_in_copy, is_array, lval_in_copy};
+use jz_meaning::left_span;
 use jz_tree::{Expr, Lval, Param, Rhs, Seq, Span, Stmt, StmtKind, Var};
 use std::alloc::{AllocError, Global};
-
-fn left_span(to: &Lval) -> Span
-    ensures { result ≡ assignments.left_span to.now }
-{
-    match to {
-        Lval::Skip(span) => *span,
-        Lval::Var(var) => var.span,
-        Lval::Cell(var, _) => var.span,
-        Lval::Store(access) => access.span,
-    }
-}
 
 /// The place of the statement that is a call.
 fn call_place(to: &Seq<Lval>, name: Span) -> Span

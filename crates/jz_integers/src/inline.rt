@@ -12,7 +12,8 @@ use crate::sides::{LeftSide, Waiting, left_side};
 use jz_tree::{BinOp, Expr, joins};
 use std::alloc::{AllocError, Global};
 
-pub(super) fn minus(value: Option<Constant>) -> Option<Constant>
+/// The opposite of a number.
+pub fn minus(value: Option<Constant>) -> Option<Constant>
     ensures { result ≡ values.minus value }
 {
     match value {
@@ -25,7 +26,8 @@ pub(super) fn minus(value: Option<Constant>) -> Option<Constant>
     }
 }
 
-pub(super) fn opposite(value: Option<Constant>) -> Option<Constant>
+/// The complement of a number, or the other truth.
+pub fn opposite(value: Option<Constant>) -> Option<Constant>
     ensures { result ≡ values.opposite value }
 {
     match value {

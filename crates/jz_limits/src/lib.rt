@@ -4,7 +4,6 @@
 #![tactic(auto)]
 
 mod calls;
-mod constants;
 mod known;
 mod laws;
 mod lefts;
@@ -17,7 +16,7 @@ mod statements;
 mod terms;
 
 pub use calls::{ask_argument, ask_result};
-pub use constants::the_number;
+pub use jz_integers::the_number;
 pub use known::Known;
 pub use laws::{counts_of_loops, first_limits};
 pub use lefts::{inline_target, is_int};

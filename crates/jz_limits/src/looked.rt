@@ -7,10 +7,9 @@ ghost use Rattle.jz_limits.specs.Asked as asks;
 ghost use Rattle.jz_limits.specs.Asked.{or_zero};
 ghost use Rattle.jz_integers.specs.Integers.{the_number};
 
-use crate::constants::{joined, the_number};
 use crate::limit::Limit;
 use crate::terms::{Terms, added, is_displacement, is_index, is_scale, less, of_number};
-use jz_integers::Constant;
+use jz_integers::{Constant, joined, the_number};
 use jz_meaning::{Kind, kind_of};
 use jz_select::immediate;
 use jz_tree::{BinOp, Size, Span, Var, is_shift};

@@ -8,12 +8,11 @@ ghost use Rattle.jz_limits.specs.InnerKnown.{numbers_of};
 ghost use Rattle.jz_limits.specs.InnerLooked.{seen_left, seen_of};
 ghost use Rattle.jz_limits.specs.InnerLooked.{cell_found, left_asking, load_found, look_of, pieces_of};
 
-use crate::constants::{minus, opposite};
 use crate::known::Known;
 use crate::looked::{
     Asking, Looked, Pieces, cell_pieces, finished, inner_pieces, load_pieces, no_pieces, operation,
 };
-use jz_integers::{Constant, Numbers};
+use jz_integers::{Constant, Numbers, minus, opposite};
 use jz_meaning::own_size;
 use jz_tree::{Access, BinOp, Expr, Span, Var};
 use jz_type_names::{is_inline_int, known};

@@ -1,47 +1,17 @@
 //! What an inline variable is set to.
 
-ghost use Rattle.std.specs.Prelude.{◌≡◌, IfOk, ◌&&◌};
-ghost use Rattle.jz_tree.specs.Operators as operators;
-ghost use Rattle.jz_meaning.specs.Assignments as assignments;
+ghost use Rattle.std.specs.Prelude.{◌≡◌, IfOk};
 ghost use Rattle.jz_integers.specs.Integers as integers;
 ghost use Rattle.jz_limits.specs.InnerKnown.{numbers_of};
 ghost use Rattle.jz_limits.specs.Asked as asks;
 ghost use Rattle.jz_limits.specs.InnerSets.{updated_value};
 
-use crate::constants::joined;
 use crate::known::Known;
 use crate::looking::as_constant;
-use jz_integers::{Constant, Numbers, inline_value};
-use jz_meaning::{Kind, kind_of};
-use jz_tree::{BinOp, Expr, Var};
+use jz_integers::{Constant, Numbers, inline_value, joined};
+use jz_meaning::is_flag;
+use jz_tree::{BinOp, Expr, Var, carries};
 use std::alloc::{AllocError, Global};
-
-/// Whether an expression is a bool variable.
-fn is_flag(expr: &Expr) -> bool
-    ensures { result ≡ assignments.is_flag expr.now }
-{
-    match expr {
-        Expr::Var(var) => matches!(kind_of(var), Kind::Bool),
-        Expr::Num(_, _) => false,
-        Expr::Bool(_, _) => false,
-        Expr::Cell(_, _) => false,
-        Expr::Load(_) => false,
-        Expr::Neg(_, _) => false,
-        Expr::Not(_, _) => false,
-        Expr::Cast { .. } => false,
-        Expr::Bin(_, _, _, _) => false,
-    }
-}
-
-fn carries(op: BinOp, other: BinOp) -> bool
-    ensures { result ≡ operators.carries op other }
-{
-    match op {
-        BinOp::Add => matches!(other, BinOp::Add),
-        BinOp::Sub => matches!(other, BinOp::Sub),
-        _ => false,
-    }
-}
 
 /// The value of `before inner op flag`, with the operand of the inner operation.
 fn carried_value(

@@ -4,6 +4,7 @@ ghost use Rattle.std.specs.Prelude.{◌≡◌, ◌<◌, ℕ, List, Some, option_
 ghost use Rattle.std.specs.Option.{option_or};
 ghost use Rattle.x64_insn.specs.Memory.{all_valid};
 ghost use Rattle.x64_insn.specs.Sizes.{bytes_of, modulus};
+ghost use Rattle.jz_meaning.specs.Assignments as assignments;
 ghost use Rattle.jz_meaning.specs.InnerAccesses as accesses;
 ghost use Rattle.jz_meaning.specs.Attempts.{did, seen, numbers_first, Gives, Evaluates, Changes};
 ghost use Rattle.jz_meaning.specs.Operators as operators;
@@ -16,7 +17,7 @@ use crate::operators::word_of;
 use crate::store::Store;
 use crate::value::{Stuck, Value, Why, defined};
 use jz_runs::MemMap;
-use jz_tree::{Access, Decl, Expr, Failure, Seq, Span, Ty, Var};
+use jz_tree::{Access, Decl, Expr, Failure, Lval, Seq, Span, Ty, Var};
 use x64_insn::{Size, Word};
 
 /// What a variable can hold, by its declaration.
@@ -71,6 +72,28 @@ pub fn kind_of(var: &Var) -> Kind
     match &var.decl {
         None => Kind::Undeclared,
         Some(decl) => declared_kind(decl),
+    }
+}
+
+/// Whether an expression is a bool variable.
+pub fn is_flag(expr: &Expr) -> bool
+    ensures { result ≡ assignments.is_flag expr.now }
+{
+    match expr {
+        Expr::Var(var) => matches!(kind_of(var), Kind::Bool),
+        _ => false,
+    }
+}
+
+/// Where a left side stands in the text.
+pub fn left_span(left: &Lval) -> Span
+    ensures { result ≡ assignments.left_span left.now }
+{
+    match left {
+        Lval::Skip(span) => *span,
+        Lval::Var(var) => var.span,
+        Lval::Cell(var, _) => var.span,
+        Lval::Store(access) => access.span,
     }
 }
 

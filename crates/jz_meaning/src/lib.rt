@@ -10,7 +10,7 @@ mod state;
 mod store;
 mod value;
 
-pub use access::{Kind, cell, index, kind_of, load, size_of, variable, write};
+pub use access::{Kind, cell, index, is_flag, kind_of, left_span, load, size_of, variable, write};
 pub use evaluating::{evaluate, right_wanted, value_of};
 pub use jz_runs::{Item, Leak, MemMap, Turn};
 pub use laws::{

@@ -1,9 +1,6 @@
 //! The row of a statement.
 
-ghost use Rattle.std.specs.Prelude.{◌≡◌, ◌∷◌, [], None, Some, IsTrue, IfOk, IfSome, All, ◌&&◌};
-ghost use Rattle.jz_tree.specs.Operators as operators;
-ghost use Rattle.jz_tree.specs.declared.expr.Expr.TheVariants as expr;
-ghost use Rattle.jz_tree.specs.declared.expr.Expr.TheViews.{out-Expr};
+ghost use Rattle.std.specs.Prelude.{◌≡◌, ◌∷◌, [], None, Some, IsTrue, IfOk, IfSome, All};
 ghost use Rattle.jz_tree.specs.declared.stmt.Lval.TheVariants as lval;
 ghost use Rattle.jz_meaning.specs.declared.access.Kind.TheVariants as kind;
 ghost use Rattle.jz_meaning.specs.Assignments as assignments;
@@ -24,116 +21,9 @@ use jz_encodable::can_encode;
 use jz_meaning::{Kind, kind_of, own_size};
 use jz_operands::{Homes, operand_of};
 use jz_operations::{Action, Condition};
-use jz_run_assign::left_sizes;
-use jz_tree::{BinOp, Boxed, Expr, Lval, Seq, Size, Span, Var};
+use jz_run_assign::{left_sizes, whole};
+use jz_tree::{BinOp, Expr, Lval, Seq, Size, Var};
 use std::alloc::{AllocError, Global};
-
-/// A left side where it is read; `_` is not.
-fn read(alloc: Global, to: &Lval) -> Result<Option<Expr>, AllocError>
-    ensures { IfOk result (λ e. e ≡ assignments.as_expr to.now) }
-{
-    match to {
-        Lval::Skip(_) => Ok(None),
-        Lval::Var(var) => Ok(Some(Expr::Var(var.copy(alloc)?))),
-        Lval::Cell(var, at) => {
-            let index = Boxed::new(alloc, at.get().copy(alloc)?)?;
-            Ok(Some(Expr::Cell(var.copy(alloc)?, index)))
-        }
-        Lval::Store(access) => Ok(Some(Expr::Load(access.copy(alloc)?))),
-    }
-}
-
-fn left_span(to: &Lval) -> Span
-    ensures { result ≡ assignments.left_span to.now }
-{
-    match to {
-        Lval::Skip(span) => *span,
-        Lval::Var(var) => var.span,
-        Lval::Cell(var, _) => var.span,
-        Lval::Store(access) => access.span,
-    }
-}
-
-fn is_flag(e: &Expr) -> bool
-    ensures { result ≡ assignments.is_flag e.now }
-{
-    match e {
-        Expr::Var(var) => matches!(kind_of(var), Kind::Bool),
-        _ => false,
-    }
-}
-
-fn carries(op: BinOp, other: BinOp) -> bool
-    ensures { result ≡ operators.carries op other }
-{
-    match op {
-        BinOp::Add => matches!(other, BinOp::Add),
-        BinOp::Sub => matches!(other, BinOp::Sub),
-        _ => false,
-    }
-}
-
-/// Whether the flag is the carry of a sum, or the borrow of a difference.
-fn is_carry(op: BinOp, other: BinOp, flag: &Expr) -> bool
-    ensures { result ≡ (operators.carries op other && assignments.is_flag flag.now) }
-{
-    carries(op, other) && is_flag(flag)
-}
-
-fn binary(
-    alloc: Global,
-    op: BinOp,
-    left: Expr,
-    right: &Expr,
-    span: Span,
-) -> Result<Expr, AllocError>
-    ensures { IfOk result (λ e. e ≡ expr.Bin op left right.now span) }
-{
-    let first = Boxed::new(alloc, left)?;
-    let second = Boxed::new(alloc, right.copy(alloc)?)?;
-    Ok(Expr::Bin(op, first, second, span))
-}
-
-/// `left op e`; a flag behind e goes behind the whole.
-fn updated(alloc: Global, op: BinOp, left: Expr, e: &Expr, span: Span) -> Result<Expr, AllocError>
-    ensures { IfOk result
-        (λ w. w ≡ assignments.updated_layer op left e.now span (out-Expr e.now)) }
-{
-    match e {
-        Expr::Bin(outer, right, flag, _) => {
-            if is_carry(op, *outer, flag.get()) {
-                let inner = binary(alloc, op, left, right.get(), span)?;
-                let whole = binary(alloc, *outer, inner, flag.get(), span)?;
-                Ok(whole)
-            } else {
-                let whole = binary(alloc, op, left, e, span)?;
-                Ok(whole)
-            }
-        }
-        Expr::Num(_, _) => binary(alloc, op, left, e, span),
-        Expr::Bool(_, _) => binary(alloc, op, left, e, span),
-        Expr::Var(_) => binary(alloc, op, left, e, span),
-        Expr::Cell(_, _) => binary(alloc, op, left, e, span),
-        Expr::Load(_) => binary(alloc, op, left, e, span),
-        Expr::Neg(_, _) => binary(alloc, op, left, e, span),
-        Expr::Not(_, _) => binary(alloc, op, left, e, span),
-        Expr::Cast { .. } => binary(alloc, op, left, e, span),
-    }
-}
-
-/// The whole right side of `to op= e`.
-fn whole(alloc: Global, to: &Lval, op: BinOp, e: &Expr) -> Result<Option<Expr>, AllocError>
-    ensures { IfOk result (λ w. w ≡ assignments.whole_of (Some to.now) (Some op) e.now) }
-{
-    let old = read(alloc, to)?;
-    match old {
-        None => Ok(None),
-        Some(left) => {
-            let right = updated(alloc, op, left, e, left_span(to))?;
-            Ok(Some(right))
-        }
-    }
-}
 
 /// Whether each action can be encoded.
 fn can_encode_all(row: Row) -> bool

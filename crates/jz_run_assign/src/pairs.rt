@@ -14,9 +14,9 @@ ghost use Rattle.jz_run_assign.specs.InnerPairs.{two_from, three_from, results_o
 
 use crate::operands::{truth_in, word_at, word_in};
 use crate::reading::operand;
-use crate::right::{Operand, Right, carries, is_flag};
-use jz_meaning::{State, Stuck, Value, missing};
-use jz_tree::{BinOp, Expr, Failure, Seq, Span};
+use crate::right::{Operand, Right};
+use jz_meaning::{State, Stuck, Value, is_flag, missing};
+use jz_tree::{BinOp, Expr, Failure, Seq, Span, carries};
 use jz_words::{Size, Word, add_carry, mul_wide, sub_borrow};
 
 /// An operation with two results, `left op right` or `left op right op flag`.

@@ -1,6 +1,6 @@
 //! Right sides: an expression, or an operation on what a left side has.
 
-ghost use Rattle.std.specs.Prelude.{◌≡◌, IfSome, None, option_map};
+ghost use Rattle.std.specs.Prelude.{◌≡◌, ◌&&◌, true, IsTrue, IfSome, None, option_map};
 ghost use Rattle.std.specs.Option.{option_copied};
 ghost use Rattle.jz_tree.specs.Operators as operators;
 ghost use Rattle.jz_tree.specs.declared.expr.Expr.TheViews.{out-Expr};
@@ -8,8 +8,8 @@ ghost use Rattle.jz_meaning.specs.Values as values;
 ghost use Rattle.jz_meaning.specs.Assignments as assignments;
 ghost use Rattle.jz_run_assign.specs.InnerRights.{read_of, right_side, IsCarry};
 
-use jz_meaning::{Kind, gives_word, kind_of, own_size, size_of};
-use jz_tree::{Access, BinOp, Expr, Lval, Seq, Span, Var, is_shift};
+use jz_meaning::{gives_word, is_flag, kind_of, left_span, own_size, size_of};
+use jz_tree::{Access, BinOp, Expr, Lval, Seq, Span, Var, carries, is_shift};
 use jz_words::Size;
 
 /// A left side that is read.
@@ -59,65 +59,14 @@ pub(crate) fn place_of(left: &Lval) -> Option<Place<'_>>
     }
 }
 
-fn left_span(left: &Lval) -> Span
-    ensures { result ≡ assignments.left_span left.now }
-{
-    match left {
-        Lval::Skip(span) => *span,
-        Lval::Var(var) => var.span,
-        Lval::Cell(var, _) => var.span,
-        Lval::Store(access) => access.span,
-    }
-}
-
-fn is_bool(kind: Kind) -> bool
-    ensures { result ≡ assignments.is_bool kind }
-{
-    match kind {
-        Kind::Bool => true,
-        Kind::Undeclared | Kind::Int | Kind::Word(_) | Kind::Array(_, _) => false,
-    }
-}
-
-/// Whether an expression is a bool variable.
-pub(crate) fn is_flag(e: &Expr) -> bool
-    ensures { result ≡ assignments.is_flag e.now }
-{
-    match e {
-        Expr::Var(var) => is_bool(kind_of(var)),
-        Expr::Num(_, _) => false,
-        Expr::Bool(_, _) => false,
-        Expr::Cell(_, _) => false,
-        Expr::Load(_) => false,
-        Expr::Neg(_, _) => false,
-        Expr::Not(_, _) => false,
-        Expr::Cast { .. } => false,
-        Expr::Bin(_, _, _, _) => false,
-    }
-}
-
-/// Whether these are two sums, or two differences.
-pub(crate) fn carries(op: BinOp, other: BinOp) -> bool
-    ensures value { result ≡ operators.carries op other }
-    ensures turned { result ≡ operators.carries other op }
-{
-    match op {
-        BinOp::Add => matches!(other, BinOp::Add),
-        BinOp::Sub => matches!(other, BinOp::Sub),
-        _ => false,
-    }
-}
-
 /// Whether the flag is the carry of a sum, or the borrow of a difference.
-fn is_carry(op: BinOp, other: BinOp, flag: &Expr) -> bool
+pub(crate) fn is_carry(op: BinOp, other: BinOp, flag: &Expr) -> bool
     ensures value { result ≡ (operators.carries op other && assignments.is_flag flag.now) }
     ensures turned { IsTrue result → (operators.carries other op ≡ true)
         × (assignments.is_flag flag.now ≡ true) }
 {
     carries(op, other) && is_flag(flag)
 }
-
-ghost use Rattle.std.specs.Prelude.{◌&&◌, IsTrue, true};
 
 fn updated<'a>(op: BinOp, left: Place<'a>, e: &'a Expr, span: Span) -> Right<'a>
     ensures side { right_side result ≡ assignments.updated_layer op (read_of left.entry) e.now span
@@ -157,7 +106,7 @@ fn updated<'a>(op: BinOp, left: Place<'a>, e: &'a Expr, span: Span) -> Right<'a>
 }
 
 #[tactic(auto, using(crate::proofs::LastLeft::last_is))]
-fn last_left(to: &Seq<Lval>) -> Option<&Lval>
+pub(crate) fn last_left(to: &Seq<Lval>) -> Option<&Lval>
     ensures { option_copied result ≡ assignments.last_left to.now }
 {
     to.as_slice().last()

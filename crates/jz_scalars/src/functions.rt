@@ -8,29 +8,8 @@ use crate::made::Made;
 use crate::statements::made_block;
 use jz_change::Change;
 use jz_pass::Passed;
-use jz_tree::{Fun, Param, Ret, Seq, Stmt, copy_notes, copy_vars};
+use jz_tree::{Fun, Seq, Stmt, copy_notes, copy_params, copy_rets, copy_vars};
 use std::alloc::{AllocError, Global};
-
-fn copy_ret(alloc: Global, ret: &Ret) -> Result<Ret, AllocError>
-    ensures { IfOk result (λ copy. copy ≡ ret.now) }
-{
-    Ok(Ret {
-        notes: copy_notes(alloc, &ret.notes)?,
-        decl: ret.decl.copy(alloc)?,
-    })
-}
-
-fn copy_rets(alloc: Global, rets: &Seq<Ret>) -> Result<Seq<Ret>, AllocError>
-    ensures { IfOk result (λ copy. copy ≡ rets.now) }
-{
-    rets.try_map(alloc, |ret| copy_ret(alloc, ret))
-}
-
-fn copy_params(alloc: Global, params: &Seq<Param>) -> Result<Seq<Param>, AllocError>
-    ensures { IfOk result (λ copy. copy ≡ params.now) }
-{
-    params.try_map(alloc, |param| param.copy(alloc))
-}
 
 /// The function with another body.
 fn with_body(alloc: Global, fun: &Fun, body: Seq<Stmt>) -> Result<Fun, AllocError>

@@ -1,16 +1,15 @@
 //! Which of the numbers that an expression leaks are left, by a loop down its left side.
 
 ghost use Rattle.std.specs.Prelude.{◌≡◌, ◌++◌, ◌∷◌, [], true, false, IfOk, OnOk, option_map};
-ghost use Rattle.jz_meaning.specs.Values.{ref_of};
 ghost use Rattle.jz_meaning.specs.Assignments.{as_expr};
-ghost use Rattle.jz_run_laws.specs.Kinds.{sort_of_kind};
-ghost use Rattle.jz_inline.specs.InnerWidths.{is_whole, count_of_operation};
+ghost use Rattle.jz_inline.specs.InnerWidths.{count_of_operation};
 ghost use Rattle.jz_arrays.specs.Cells.{all_kept, mask_of};
 ghost use Rattle.jz_scalars.specs.Scalars.{declared_sort};
 ghost use Rattle.jz_scalars.specs.InnerMasks.{masked_of, masked_cell_of, masked_access, masked_operation, masked_left};
 
 use crate::cells::register_cell;
-use jz_meaning::{Kind, gives_word, kind_of};
+use jz_inline::is_int;
+use jz_meaning::gives_word;
 use jz_tree::{BinOp, Expr, Lval, Seq, Var, divides};
 use std::alloc::{AllocError, Global};
 
@@ -35,18 +34,6 @@ pub(crate) struct Operand {
 struct Side {
     operands: Vec<Operand>,
     first: Masked,
-}
-
-fn is_int(var: &Var) -> bool
-    ensures { result ≡ is_whole (sort_of_kind (ref_of var.now).kind) }
-{
-    match kind_of(var) {
-        Kind::Int => true,
-        Kind::Undeclared => false,
-        Kind::Bool => false,
-        Kind::Word(_) => false,
-        Kind::Array(_, _) => false,
-    }
 }
 
 /// The three numbers that a division shows, which are left.

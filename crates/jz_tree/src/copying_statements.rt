@@ -3,7 +3,7 @@
 ghost use Rattle.std.specs.Prelude.{◌≡◌, IfOk};
 
 use crate::expr::{Expr, Var};
-use crate::program::{Note, NoteValue, Param};
+use crate::program::{Note, NoteValue, Param, Ret};
 use crate::stmt::{Lval, Rhs, Stmt, StmtKind};
 use jz_data::{Boxed, Seq};
 use std::alloc::{AllocError, Global};
@@ -48,6 +48,29 @@ impl Param {
             var: self.var.copy(alloc)?,
         })
     }
+}
+
+pub fn copy_params(alloc: Global, params: &Seq<Param>) -> Result<Seq<Param>, AllocError>
+    ensures { IfOk result (λ copy. copy ≡ params.now) }
+{
+    params.try_map(alloc, |param| param.copy(alloc))
+}
+
+impl Ret {
+    pub fn copy(&self, alloc: Global) -> Result<Ret, AllocError>
+        ensures { IfOk result (λ copy. copy ≡ self.now) }
+    {
+        Ok(Ret {
+            notes: copy_notes(alloc, &self.notes)?,
+            decl: self.decl.copy(alloc)?,
+        })
+    }
+}
+
+pub fn copy_rets(alloc: Global, rets: &Seq<Ret>) -> Result<Seq<Ret>, AllocError>
+    ensures { IfOk result (λ copy. copy ≡ rets.now) }
+{
+    rets.try_map(alloc, |ret| ret.copy(alloc))
 }
 
 impl Lval {

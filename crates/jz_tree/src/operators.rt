@@ -28,3 +28,15 @@ pub fn divides(op: BinOp) -> bool
 {
     matches!(op, BinOp::Div | BinOp::Rem | BinOp::DivS | BinOp::RemS)
 }
+
+/// Whether these are two sums, or two differences: a flag behind both is their carry or borrow.
+pub fn carries(op: BinOp, other: BinOp) -> bool
+    ensures value { result ≡ operators.carries op other }
+    ensures turned { result ≡ operators.carries other op }
+{
+    match op {
+        BinOp::Add => matches!(other, BinOp::Add),
+        BinOp::Sub => matches!(other, BinOp::Sub),
+        _ => false,
+    }
+}

@@ -13,30 +13,9 @@ ghost use Rattle.jz_unrolling.specs.Unrolled.{KeepsRuns, KeepsCases};
 
 use crate::statements::{Unroller, unroll_all};
 use jz_pass::{Change, Passed};
-use jz_tree::{Failure, Fun, Param, Ret, Seq, Span, Stmt, Var, copy_notes, copy_vars};
+use jz_tree::{Failure, Fun, Seq, Span, Stmt, Var, copy_notes, copy_params, copy_rets, copy_vars};
 use jz_unrolling_values::{InlineVars, Known};
 use std::alloc::{AllocError, Global};
-
-fn copy_rets(alloc: Global, rets: &Seq<Ret>) -> Result<Seq<Ret>, AllocError>
-    ensures { IfOk result (λ copy. copy ≡ rets.now) }
-{
-    rets.try_map(alloc, |ret| copy_ret(alloc, ret))
-}
-
-fn copy_ret(alloc: Global, ret: &Ret) -> Result<Ret, AllocError>
-    ensures { IfOk result (λ copy. copy ≡ ret.now) }
-{
-    Ok(Ret {
-        notes: copy_notes(alloc, &ret.notes)?,
-        decl: ret.decl.copy(alloc)?,
-    })
-}
-
-fn copy_params(alloc: Global, params: &Seq<Param>) -> Result<Seq<Param>, AllocError>
-    ensures { IfOk result (λ copy. copy ≡ params.now) }
-{
-    params.try_map(alloc, |param| param.copy(alloc))
-}
 
 /// Refused where a result is an inline variable, at its place.
 fn ask_results(vars: &InlineVars, results: &Seq<Var>) -> Result<(), Failure<Span>>

@@ -18,11 +18,10 @@ ghost use Rattle.jz_tree.specs.Failures.{IfAnswered};
 ghost use Rattle.jz_unrolling_values.specs.Parts.{on_left, IsPart, IsValued};
 ghost use Rattle.jz_unrolling_values.specs.Refusals.{OrElse, is_part, NeverNumber};
 
-use crate::constants::{constant_of, minus, opposite};
 use crate::inline_vars::InlineVars;
 use crate::known::Known;
 use crate::parts::{Part, join};
-use jz_integers::Constant;
+use jz_integers::{Constant, constant_of, minus, opposite};
 use jz_tree::{Access, BinOp, Boxed, Expr, Failure, Lval, Seq, Span, Var};
 use jz_type_names::{is_inline_int, known, span_of};
 use std::alloc::{AllocError, Global};

@@ -3,7 +3,6 @@
 #![tactic(auto)]
 
 mod conditions;
-mod constants;
 mod expressions;
 mod inline_vars;
 mod known;

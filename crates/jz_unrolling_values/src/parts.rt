@@ -9,8 +9,7 @@ ghost use Rattle.jz_unroll.specs.Values.{InlineNames, has_values};
 ghost use Rattle.jz_unrolling_values.specs.Parts.{IsPart, IsValued, written_at};
 ghost use Rattle.jz_unrolling_values.specs.Refusals.{OrElse, is_part};
 
-use crate::constants::joined;
-use jz_integers::Constant;
+use jz_integers::{Constant, joined};
 use jz_tree::{BinOp, Boxed, Expr, Failure, Span};
 use std::alloc::Global;
 

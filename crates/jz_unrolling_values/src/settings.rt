@@ -3,7 +3,6 @@
 ghost use Rattle.std.specs.Prelude.{◌≡◌, ◌↔◌, true, MatchOption};
 ghost use Rattle.jz_tree.specs.Failures.{IfAnswered};
 ghost use Rattle.jz_tree.specs.declared.expr.Expr.TheViews.{out-Expr};
-ghost use Rattle.jz_meaning.specs.Assignments as assignments;
 ghost use Rattle.jz_unroll.specs.Values as inlined;
 ghost use Rattle.jz_meaning.specs.Values.{ref_of};
 ghost use Rattle.jz_unroll.specs.Values.{is_int};
@@ -14,12 +13,11 @@ ghost use Rattle.jz_unrolling_values.specs.Parts.{is_number, updated_value, HasW
 ghost use Rattle.jz_unrolling_values.specs.Refusals.{OrElse, SetsNoInline, SetsOne, NeverWhole, NeverIf};
 
 use crate::conditions::{Test, test_of};
-use crate::constants::{constant_of, joined};
 use crate::expressions::{Values, part_of};
 use crate::inline_vars::InlineVars;
 use crate::parts::Part;
-use jz_integers::Constant;
-use jz_meaning::{Kind, kind_of};
+use jz_integers::{Constant, constant_of, joined};
+use jz_meaning::{Kind, is_flag, kind_of};
 use jz_tree::{BinOp, Expr, Failure, Lval, Seq, Span, Var};
 use jz_type_names::is_inline;
 
@@ -118,15 +116,6 @@ pub fn is_set(values: &Values<'_>, var: &Var, cond: &Option<Expr>) -> Result<boo
                 Ok(answer)
             }
         },
-    }
-}
-
-fn is_flag(expr: &Expr) -> bool
-    ensures { result ≡ assignments.is_flag expr.now }
-{
-    match expr {
-        Expr::Var(var) => matches!(kind_of(var), Kind::Bool),
-        _ => false,
     }
 }
 

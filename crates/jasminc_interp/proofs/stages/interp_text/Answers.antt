@@ -5,13 +5,13 @@ use Rattle.std.proofs.lemmas.Result.{err_from_is_err_and}
 use Rattle.std.proofs.lemmas.Option.{slice_get_within}
 use Rattle.jz_tree.specs.declared.program.Program.{Program}
 use Rattle.jz_type_rows.specs.Exports.{is_exported}
-use Rattle.jasminc_interp.specs.declared.refused.Refused.TheVariants.{NoFunction, Limit}
-use Rattle.jasminc_interp.specs.Exports.{export_named, IsFoundAt, HasLimit, WithinIfExported}
+use Rattle.jasminc_interp.specs.declared.refused.Refused.TheVariants.{Unread, NoFunction, Limit}
+use Rattle.jasminc_source.specs.Exports.{export_named, IsFoundAt, HasLimit, WithinIfExported}
 use Rattle.jasminc_interp.specs.Causes.{IsFirstCause}
-use Rattle.jasminc_interp.proofs.Causing.{text_typed}
-use Rattle.jasminc_interp.proofs.Finding.{named_has}
-use Rattle.jasminc_interp.proofs.Stopping.{stage_refuses, ok_says}
-use Rattle.jasminc_interp.proofs.FirstCauses.{reading_fails, function_first, limits_fail, function_answers, IsLimit}
+use Rattle.jasminc_source.proofs.Causing.{text_typed}
+use Rattle.jasminc_source.proofs.Finding.{named_has}
+use Rattle.jasminc_source.proofs.Stopping.{stage_refuses, ok_says}
+use Rattle.jasminc_interp.proofs.FirstCauses.{reading_fails, function_first, limits_fail, function_answers, IsLimit, IsUnreadable}
 use Rattle.jasminc_interp.proofs.stages.interp_text.Goals as goal
 
 pub returns-in_err-typed : goal.returns-in_err-typed

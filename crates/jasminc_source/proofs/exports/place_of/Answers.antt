@@ -1,6 +1,6 @@
 use Rattle.std.proofs.Common.{rules, sym, ◌∙◌}
-use Rattle.jasminc_interp.proofs.Finding.{found_here, not_here, none_left}
-use Rattle.jasminc_interp.proofs.exports.place_of.Goals as goal
+use Rattle.jasminc_source.proofs.Finding.{found_here, not_here, none_left}
+use Rattle.jasminc_source.proofs.exports.place_of.Goals as goal
 
 pub returns-then-has_name-clause-found : goal.returns-then-has_name-clause-found
 returns-then-has_name-clause-found c =

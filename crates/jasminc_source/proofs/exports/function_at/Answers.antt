@@ -1,6 +1,6 @@
 use Rattle.std.proofs.Common.{◌∙◌, ap, get_or, length, refl}
 use Rattle.std.proofs.lemmas.Option.{slice_get_read}
-use Rattle.jasminc_interp.proofs.exports.function_at.Goals as goal
+use Rattle.jasminc_source.proofs.exports.function_at.Goals as goal
 
 pub returns : goal.returns
 returns c =

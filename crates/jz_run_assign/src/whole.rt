@@ -1,14 +1,12 @@
 //! The whole right side of an assignment with an operation.
 
-ghost use Rattle.std.specs.Prelude.{◌≡◌, IfOk, ◌&&◌};
-ghost use Rattle.jz_tree.specs.Operators as operators;
+ghost use Rattle.std.specs.Prelude.{◌≡◌, IfOk, Some};
 ghost use Rattle.jz_tree.specs.declared.expr.Expr.TheVariants as expr;
 ghost use Rattle.jz_tree.specs.declared.expr.Expr.TheViews.{out-Expr};
 ghost use Rattle.jz_meaning.specs.Assignments as assignments;
-ghost use Rattle.std.specs.Prelude.{Some};
-ghost use Rattle.std.specs.Option.{option_copied};
 
-use jz_meaning::{Kind, kind_of};
+use crate::right::{is_carry, last_left};
+use jz_meaning::left_span;
 use jz_tree::{BinOp, Boxed, Expr, Lval, Seq, Span};
 use std::alloc::{AllocError, Global};
 
@@ -25,43 +23,6 @@ fn read(alloc: Global, to: &Lval) -> Result<Option<Expr>, AllocError>
         }
         Lval::Store(access) => Ok(Some(Expr::Load(access.copy(alloc)?))),
     }
-}
-
-fn left_span(to: &Lval) -> Span
-    ensures { result ≡ assignments.left_span to.now }
-{
-    match to {
-        Lval::Skip(span) => *span,
-        Lval::Var(var) => var.span,
-        Lval::Cell(var, _) => var.span,
-        Lval::Store(access) => access.span,
-    }
-}
-
-fn is_flag(e: &Expr) -> bool
-    ensures { result ≡ assignments.is_flag e.now }
-{
-    match e {
-        Expr::Var(var) => matches!(kind_of(var), Kind::Bool),
-        _ => false,
-    }
-}
-
-fn carries(op: BinOp, other: BinOp) -> bool
-    ensures { result ≡ operators.carries op other }
-{
-    match op {
-        BinOp::Add => matches!(other, BinOp::Add),
-        BinOp::Sub => matches!(other, BinOp::Sub),
-        _ => false,
-    }
-}
-
-/// Whether the flag is the carry of a sum, or the borrow of a difference.
-fn is_carry(op: BinOp, other: BinOp, flag: &Expr) -> bool
-    ensures { result ≡ (operators.carries op other && assignments.is_flag flag.now) }
-{
-    carries(op, other) && is_flag(flag)
 }
 
 fn binary(
@@ -106,7 +67,7 @@ fn updated(alloc: Global, op: BinOp, left: Expr, e: &Expr, span: Span) -> Result
 }
 
 /// The whole right side of `to op= e`.
-fn whole(alloc: Global, to: &Lval, op: BinOp, e: &Expr) -> Result<Option<Expr>, AllocError>
+pub fn whole(alloc: Global, to: &Lval, op: BinOp, e: &Expr) -> Result<Option<Expr>, AllocError>
     ensures { IfOk result (λ w. w ≡ assignments.whole_of (Some to.now) (Some op) e.now) }
 {
     let old = read(alloc, to)?;
@@ -117,13 +78,6 @@ fn whole(alloc: Global, to: &Lval, op: BinOp, e: &Expr) -> Result<Option<Expr>, 
             Ok(Some(right))
         }
     }
-}
-
-#[tactic(auto, using(jz_run_assign::proofs::LastLeft::last_is))]
-fn last_left(to: &Seq<Lval>) -> Option<&Lval>
-    ensures { option_copied result ≡ assignments.last_left to.now }
-{
-    to.as_slice().last()
 }
 
 /// The whole right side of `to op= e`, where there is an operation and something to read.

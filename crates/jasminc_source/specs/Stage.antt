@@ -1,4 +1,4 @@
--- The refusal of a stage as one of a run.
+-- The refusal of a stage as one of a command.
 use Rattle.std.specs.Prelude.{Result, Err}
 use Rattle.jz_tree.specs.Failure.{Failure}
 use Rattle.jz_tree.specs.Failure.TheVariants.{Refused}

@@ -4,7 +4,7 @@ use Rattle.std.proofs.lemmas.List.{drop_all}
 use Rattle.std.proofs.lemmas.Option.{slice_get_read}
 use Rattle.jz_tree.specs.declared.program.Fun.{Fun}
 use Rattle.jz_run_assign.proofs.RestLemmas.{rest_at}
-use Rattle.jasminc_interp.specs.Exports.{has_name, export_named, IsFoundAt}
+use Rattle.jasminc_source.specs.Exports.{has_name, export_named, IsFoundAt}
 
 module _ (name : List ℕ) (funs : List Fun) (i : ℕ) (so : export_named name funs ≡ export_named name (drop i funs)) where
   module _ (f : Fun) (lt : i < length funs) (ix : f ≡ get_or funs i f) where

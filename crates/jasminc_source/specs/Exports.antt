@@ -7,7 +7,7 @@ use Rattle.jz_tree.specs.declared.program.Program.{Program}
 use Rattle.jz_type_rows.specs.Exports.{is_exported}
 use Rattle.jz_limits.specs.declared.limit.Limit.{Limit}
 use Rattle.jz_first_limit.specs.FirstLimits.{IsWithinLimits, PassesFirst}
-use Rattle.jasminc_interp.specs.declared.refused.FunLimit.{FunLimit}
+use Rattle.jasminc_source.specs.declared.limits.FunLimit.{FunLimit}
 
 -- ---- by name
 abbrev pub has_name : List ℕ → Fun → Bool

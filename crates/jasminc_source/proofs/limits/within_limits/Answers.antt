@@ -1,6 +1,6 @@
 use Rattle.std.proofs.Common.{◌∙◌, arith, ap, length, get_or, rules}
-use Rattle.jasminc_interp.proofs.Limiting.{one_more, limit_here, all_within}
-use Rattle.jasminc_interp.proofs.limits.within_limits.Goals as goal
+use Rattle.jasminc_source.proofs.Limiting.{one_more, limit_here, all_within}
+use Rattle.jasminc_source.proofs.limits.within_limits.Goals as goal
 
 pub returns-in-Some-clause-refused : goal.returns-in-Some-clause-refused
 returns-in-Some-clause-refused c =

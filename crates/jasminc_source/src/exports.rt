@@ -2,7 +2,7 @@
 
 ghost use Rattle.std.specs.Prelude.{◌≡◌, ◌<◌, None, Some, IfSome, length, slice_get};
 ghost use Rattle.jz_type_rows.specs.Exports.{is_exported};
-ghost use Rattle.jasminc_interp.specs.Exports.{has_name, export_named, IsFoundAt};
+ghost use Rattle.jasminc_source.specs.Exports.{has_name, export_named, IsFoundAt};
 
 use jz_tree::{Fun, FunKind, Seq};
 

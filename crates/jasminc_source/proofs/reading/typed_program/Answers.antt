@@ -4,17 +4,17 @@ use Rattle.jz_parse.specs.Deriving.{DerivesProgram, IsSyntaxFault}
 use Rattle.jz_resolve.specs.Programs.{resolved_program}
 use Rattle.jz_types.specs.Rules.{IsTyped, IsFirstTypeFault}
 use Rattle.jz_grammar.specs.Lexing.{IsLexed, HasNoToken}
-use Rattle.jasminc_interp.specs.declared.refused.Refused.TheVariants.{Lex, Parse, Typing}
-use Rattle.jasminc_interp.specs.Causes.{ReadingRefuses}
-use Rattle.jasminc_interp.proofs.Causing.{reads_from}
-use Rattle.jasminc_interp.proofs.Stopping.{stage_refuses, ok_says, lexer_refuses, parser_refuses, typing_refuses}
-use Rattle.jasminc_interp.proofs.reading.typed_program.Goals as goal
+use Rattle.jasminc_source.specs.declared.unread.Unread.TheVariants.{Lex, Parse, Typing}
+use Rattle.jasminc_source.specs.Unreadable.{IsUnread}
+use Rattle.jasminc_source.proofs.Causing.{reads_from}
+use Rattle.jasminc_source.proofs.Stopping.{stage_refuses, ok_says, lexer_refuses, parser_refuses, typing_refuses}
+use Rattle.jasminc_source.proofs.reading.typed_program.Goals as goal
 
 pub returns-in_err-tokens-clause-refused : goal.returns-in_err-tokens-clause-refused
 returns-in_err-tokens-clause-refused c =
     let text = c.args.text.now in
     let p = err_from_is_err_and c.from_residual.result c.from_residual.ensures.1 in
-    rw (p.1, p.2) (stage_refuses (HasNoToken text) _ (ReadingRefuses text) c.lex.result _ c.lex.ensures.fault
+    rw (p.1, p.2) (stage_refuses (HasNoToken text) _ (IsUnread text) c.lex.result _ c.lex.ensures.fault
     (λ f r says becomes. let is : r ≡ Lex f = search rules in lexer_refuses text f r says is) c.in_err-tokens.ensures.refused)
 
 pub returns-in_err-program-clause-refused : goal.returns-in_err-program-clause-refused
@@ -23,7 +23,7 @@ returns-in_err-program-clause-refused c =
     let tokens = c.in_ok-tokens.tokens in
     let p = err_from_is_err_and c.from_residual-in_err-program.result c.from_residual-in_err-program.ensures.1 in
     let lexed = ok_says (IsLexed text) c.lex.result tokens c.in_ok-tokens.ensures.ok c.lex.ensures.tokens in
-    rw (p.1, p.2) (stage_refuses (IsSyntaxFault tokens) _ (ReadingRefuses text) c.parse.result _ c.parse.ensures.fault
+    rw (p.1, p.2) (stage_refuses (IsSyntaxFault tokens) _ (IsUnread text) c.parse.result _ c.parse.ensures.fault
     (λ f r says becomes. let is : r ≡ Parse f = search rules in parser_refuses text tokens f r lexed says is) c.in_err-program.ensures.refused)
 
 pub returns-in_err-typed-clause-refused : goal.returns-in_err-typed-clause-refused
@@ -35,7 +35,7 @@ returns-in_err-typed-clause-refused c =
     let lexed = ok_says (IsLexed text) c.lex.result tokens c.in_ok-tokens.ensures.ok c.lex.ensures.tokens in
     let derived = ok_says (DerivesProgram tokens) c.parse.result program c.in_ok-program.ensures.ok c.parse.ensures.program in
     let reads = reads_from text tokens program lexed derived in
-    rw (p.1, p.2) (stage_refuses (IsFirstTypeFault program) _ (ReadingRefuses text) c.check.result _ c.check.ensures.fault
+    rw (p.1, p.2) (stage_refuses (IsFirstTypeFault program) _ (IsUnread text) c.check.result _ c.check.ensures.fault
     (λ f r says becomes. let is : r ≡ Typing f = search rules in typing_refuses text program f r reads says is) c.in_err-typed.ensures.refused)
 
 pub returns-clause-program : goal.returns-clause-program

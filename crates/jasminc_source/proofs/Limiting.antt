@@ -10,8 +10,8 @@ use Rattle.jz_limits.specs.declared.limit.Limit.{Limit}
 use Rattle.jz_first_limit.specs.FirstLimits.{IsWithinLimits, PassesFirst}
 use Rattle.jz_limits.proofs.First.{none_within}
 use Rattle.jz_limits.specs.Walks.{steps_of}
-use Rattle.jasminc_interp.specs.declared.refused.FunLimit.{FunLimit}
-use Rattle.jasminc_interp.specs.Exports.{WithinIfExported, PassesIfExported, HasLimit}
+use Rattle.jasminc_source.specs.declared.limits.FunLimit.{FunLimit}
+use Rattle.jasminc_source.specs.Exports.{WithinIfExported, PassesIfExported, HasLimit}
 
 module _ (p : Program) (i : ℕ) (f : Fun) (lt : i < length p.funs) (ix : f ≡ get_or p.funs i f) (before : All (WithinIfExported p) (take i p.funs)) where
   -- one more within

@@ -2,13 +2,19 @@
 
 ghost use Rattle.std.specs.Prelude.{All, MatchOption, IfOk, IfErr};
 ghost use Rattle.jz_tree.specs.Failures.{IfRefused};
-ghost use Rattle.jasminc_interp.specs.Exports.{WithinIfExported, PassesIfExported, HasLimit};
+ghost use Rattle.jasminc_source.specs.Exports.{WithinIfExported, PassesIfExported, HasLimit};
 
 use crate::exports::is_exported;
-use crate::refused::FunLimit;
 use jz_first_limit::{Limit, first_limit};
-use jz_tree::{Failure, Fun, Program};
+use jz_tree::{Failure, Fun, Program, Text};
 use std::alloc::{AllocError, Global};
+
+/// A limit that a function passes.
+#[derive(Drop)]
+pub struct FunLimit {
+    pub fun: Text,
+    pub limit: Limit,
+}
 
 /// The first limit of an export function, if it passes one.
 fn limit_of(alloc: Global, program: &Program, fun: &Fun) -> Result<Option<Limit>, AllocError>

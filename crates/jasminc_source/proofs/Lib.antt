@@ -1,0 +1,4 @@
+pub mod Causing
+pub mod Stopping
+pub mod Finding
+pub mod Limiting

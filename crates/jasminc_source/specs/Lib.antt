@@ -1,0 +1,4 @@
+pub mod Stage
+pub mod Texts
+pub mod Exports
+pub mod Unreadable
