@@ -14,7 +14,7 @@ mod pairs;
 mod reading;
 mod right;
 mod variables;
-mod whole;
+mod wholes;
 
 pub use assigning::{Assignment, assign};
 pub use calling::{Call, enter, leave};
@@ -23,4 +23,4 @@ pub use entering::unset_all;
 pub use left::{held, left_sizes, write, write_all};
 pub use operands::{truth_in, word_in};
 pub use variables::{set, unset, value_of};
-pub use whole::{whole, whole_of};
+pub use wholes::{whole, whole_of};
