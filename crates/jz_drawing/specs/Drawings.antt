@@ -8,6 +8,7 @@ use Rattle.jz_meaning.specs.Statements.{Operation, Condition, Block}
 use Rattle.jz_flow.specs.Sets.{Below}
 use Rattle.jz_flow.specs.Flow.{Steps}
 use Rattle.jz_flow.specs.Alarms.{Asks}
+use Rattle.jz_flow.specs.Soundness.{AllAre}
 use Rattle.jz_labels.specs.Operations.{Left, nothing, scalar, element, bytes, Plain, plain_of, tested_by}
 use Rattle.jz_labels.specs.Labels.{Publics, first, label_steps}
 use Rattle.jz_labels.specs.Required.{Breach, breach_asks, write_asks}
@@ -95,6 +96,10 @@ drawn_operation o v = let n = next v in let r = right_reading o in record {
 }
 
 -- ---- which scalars a body sets
+
+-- there is neither a call nor a `for` in it
+abbrev pub IsFree : Block → Type 0
+IsFree t = AllAre (λ o. Unit {0}) (λ c. Unit {0}) t
 
 abbrev pub sets_left : Key → Left → Bool
 sets_left q nothing = false

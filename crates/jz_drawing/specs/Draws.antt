@@ -1,5 +1,5 @@
 -- That what is drawn of a piece of a body has its labels.
-use Rattle.std.specs.Prelude.{◌≡◌, ◌<◌, ◌≤◌, ℕ, nat_lt, Bool, true, false, List, [], ◌∷◌, ◌++◌, Option, if◌then◌else◌}
+use Rattle.std.specs.Prelude.{◌≡◌, ◌<◌, ◌≤◌, ℕ, nat_lt, Bool, true, false, List, [], ◌∷◌, ◌++◌, Option, Some, None, if◌then◌else◌}
 use Rattle.jz_meaning.specs.States.{Key}
 use Rattle.jz_meaning.specs.Statements.{Block}
 use Rattle.jz_flow.specs.Sets.{Below}
@@ -8,7 +8,7 @@ use Rattle.jz_flow.specs.Alarms.{FirstOf, First, Meets, no_more}
 use Rattle.jz_labels.specs.Labels.{Publics}
 use Rattle.jz_labels.specs.Required.{Breach}
 use Rattle.jz_secrets.specs.Graphs.{IsLabelling}
-use Rattle.jz_drawing.specs.Drawings.{Asked, View, next, sets, labels_of, first_asked, IsBounded, flow, breaches, writes}
+use Rattle.jz_drawing.specs.Drawings.{Asked, View, next, IsFree, sets, labels_of, first_asked, IsBounded, flow, breaches, writes}
 
 -- labels of drawn ones stay below n
 abbrev pub Agrees : ℕ → (ℕ → Bool) → (ℕ → Bool) → Type 0
@@ -23,10 +23,10 @@ pub record Along (f : Block → Block) (new : View) (a : Publics) (t : ℕ → B
   pub behind : Publics
   pub below : Below (labels_of t new.nodes) behind
   pub meets :
-      (r : Block) (x : Publics)
+      (r : Block) (x : Publics) → IsFree (f r)
       → Meets (flow a) (writes a) r behind x → Meets (flow a) (writes a) (f r) s x
   pub spares :
-      (r : Block) (k : Key) → sets k (f r) ≡ false
+      (r : Block) (k : Key) → IsFree (f r) → sets k (f r) ≡ false
       → (sets k r ≡ false) × (s k ≡ true → behind k ≡ true)
 
 -- the labels along a piece before r, from those of t on
@@ -51,6 +51,7 @@ pub record Told (a : Publics) (t : ℕ → Bool) (f : Block → Block) (old new 
       → Under (next old) u t → Under (next new) u labels
 
 pub record Draws (f : Block → Block) (old new : View) : Type 0 where
+  pub free : (r : Block) → IsFree (f r) → IsFree r
   pub longer : next old ≤ next new
   pub earlier :
       (a : Publics) (t : ℕ → Bool) → IsLabelling a t new.arrows → IsLabelling a t old.arrows
@@ -79,25 +80,32 @@ AllUnder m (n ∷ ns) = (n < m) × AllUnder m ns
 abbrev pub from_on : ℕ → (ℕ → Bool) → (ℕ → Bool) → ℕ → Bool
 from_on n t u i = if nat_lt i n then t i else u i
 
+-- a number that is no label counts as public
+abbrev pub owned : Publics → Option Key → Bool
+owned h None = true
+owned h (Some k) = h k
+
 pub record Renews (sources : Key → List ℕ) (is_new : Key → Bool) (old new : View) : Type 0 where
   pub asked : new.asked ≡ old.asked
   pub longer : next old ≤ next new
   pub earlier :
       (a : Publics) (t : ℕ → Bool) → IsLabelling a t new.arrows → IsLabelling a t old.arrows
   -- the scalar of a new label
-  pub owner : ℕ → Key
+  pub owner : ℕ → Option Key
   pub kept : (k : Key) → is_new k ≡ false → new.nodes k ≡ old.nodes k
   pub fresh :
       (k : Key) → is_new k ≡ true
-      → (next old ≤ new.nodes k) × (new.nodes k < next new) × (owner (new.nodes k) ≡ k)
+      → (next old ≤ new.nodes k) × (new.nodes k < next new) × (owner (new.nodes k) ≡ Some k)
+  pub one :
+      (n : ℕ) (k : Key) → owner n ≡ Some k → (is_new k ≡ true) × (n ≡ new.nodes k)
   pub comes :
-      (a : Publics) (t : ℕ → Bool) (n : ℕ) → IsLabelling a t new.arrows
-      → next old ≤ n → n < next new → t n ≡ true → AllPublic t (sources (owner n))
+      (a : Publics) (t : ℕ → Bool) (n : ℕ) (k : Key) → IsLabelling a t new.arrows
+      → owner n ≡ Some k → t n ≡ true → AllPublic t (sources k)
   pub labelled :
       (a : Publics) (t : ℕ → Bool) (h : Publics) → IsLabelling a t old.arrows
       → IsBounded old → ((k : Key) → AllUnder (next old) (sources k))
       → ((k : Key) → h k ≡ true → AllPublic t (sources k))
-      → IsLabelling a (from_on (next old) t (λ i. h (owner i))) new.arrows
+      → IsLabelling a (from_on (next old) t (λ i. owned h (owner i))) new.arrows
   pub bounded :
       ((k : Key) → AllUnder (next old) (sources k)) → IsBounded old → IsBounded new
 
@@ -116,5 +124,6 @@ pub record ComesBack (head end : Key → ℕ) (is_new : Key → Bool) (old new :
       (a : Publics) (t : ℕ → Bool) → IsLabelling a t old.arrows
       → ((k : Key) → t (head k) ≡ true → t (end k) ≡ true) → IsLabelling a t new.arrows
   pub bounded :
-      ((k : Key) → (0 < head k) × (head k < next old)) → ((k : Key) → end k < next old)
+      ((k : Key) → is_new k ≡ true → (0 < head k) × (head k < next old))
+      → ((k : Key) → end k < next old)
       → IsBounded old → IsBounded new

@@ -15,6 +15,7 @@ ghost use Rattle.jz_required.specs.Kept.{reading_of, demands_of};
 use crate::found::{Found, both, cell, load, nothing, one, operation, place, require};
 use crate::looking::look;
 use crate::part::{Part, Reason, Required};
+use jz_meaning::left_span;
 use jz_tree::{BinOp, Expr, Intrinsic, Lval, Seq, Span, Text, divides, spelled};
 use std::alloc::{AllocError, Global};
 
@@ -23,17 +24,6 @@ fn last_left(to: &Seq<Lval>) -> Option<&Lval>
     ensures { option_copied result ≡ assignments.last_left to.now }
 {
     to.as_slice().last()
-}
-
-fn left_span(left: &Lval) -> Span
-    ensures { result ≡ assignments.left_span left.now }
-{
-    match left {
-        Lval::Skip(span) => *span,
-        Lval::Var(var) => var.span,
-        Lval::Cell(var, _) => var.span,
-        Lval::Store(access) => access.span,
-    }
 }
 
 /// A left side where it is read; `_` is not.
