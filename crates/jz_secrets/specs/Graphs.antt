@@ -62,9 +62,10 @@ AreBelow n (x ∷ xs) = (IsBelow n x.from × IsEnd n x.to) × AreBelow n xs
 
 -- ---- the labels with the fewest secrets
 
-pub record AreFewest (xs : List Arrow) (public : Vertex → Bool) : Type 0 where
+-- of the first n drawn labels
+pub record AreFewest (n : ℕ) (xs : List Arrow) (public : Vertex → Bool) : Type 0 where
   pub secret : public hidden ≡ false
-  pub labelling : IsLabelling (λ k. public (array k)) (λ n. public (drawn n)) xs
+  pub labelling : IsLabelling (λ k. public (array k)) (λ i. public (drawn i)) xs
   pub most :
       (a : Publics) (t : ℕ → Bool) (v : Vertex)
-      → IsLabelling a t xs → label a t v ≡ true → public v ≡ true
+      → IsLabelling a t xs → IsBelow n v → label a t v ≡ true → public v ≡ true

@@ -1,5 +1,5 @@
 -- Graphs over numbers, as the code keeps them.
-use Rattle.std.specs.Prelude.{◌≡◌, ◌⊎◌, ◌<◌, ℕ, suc, nat_eq, Bool, true, false, ◌&&◌, ◌||◌, List, [], ◌∷◌, Option, Some, None, get_or, length}
+use Rattle.std.specs.Prelude.{◌≡◌, ◌⊎◌, ◌<◌, ◌≤◌, ℕ, suc, nat_eq, Bool, true, false, ◌&&◌, ◌||◌, List, [], ◌∷◌, Option, Some, None, get_or, length}
 use Rattle.jz_meaning.specs.States.{Key}
 use Rattle.jz_layers.specs.Spots.{Spot, entry_in}
 use Rattle.jz_secrets.specs.declared.graph.Graph.{Graph}
@@ -34,12 +34,14 @@ pub record IsFine (g : Graph) : Type 0 where
 -- each number stays, and each row
 pub record Grows (old new : Graph) : Type 0 where
   pub count : new.count ≡ old.count
+  pub longer : length old.rows.items ≤ length new.rows.items
   pub numbers : (v : Vertex) (n : ℕ) → number_in old v ≡ Some n → number_in new v ≡ Some n
   pub rows :
       (u v : ℕ) → has (row_at new.rows.items u) v ≡ has (row_at old.rows.items u) v
 
 pub record AddsArrow (x : Arrow) (old new : Graph) : Type 0 where
   pub count : new.count ≡ old.count
+  pub longer : length old.rows.items ≤ length new.rows.items
   pub numbers : (v : Vertex) (n : ℕ) → number_in old v ≡ Some n → number_in new v ≡ Some n
   pub from : ℕ
   pub to : ℕ

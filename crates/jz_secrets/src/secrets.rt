@@ -52,7 +52,7 @@ pub fn secrets_of<'a>(
 ) -> Result<Secrets<'a>, AllocError>
     requires below { AreBelow count (arrows_of edges.now) }
     requires some { 0 < count }
-    ensures { IfOk result (λ s. AreFewest (arrows_of edges.now) (public_by s)) }
+    ensures { IfOk result (λ s. AreFewest count (arrows_of edges.now) (public_by s)) }
 {
     let graph = graph_of(alloc, edges, count)?;
     let marked = reached(alloc, graph.rows.as_slice(), graph.count)?;
