@@ -12,8 +12,12 @@ use Rattle.indexmap.specs.IndexMap.{IndexMap}
 use Rattle.jz_layers.specs.Spots.{Spot, entry_in, over, variable_key}
 use Rattle.jz_layers.specs.declared.named.Named.{Named}
 use Rattle.jz_secrets.specs.Graphs.{Arrow, drawn}
+use Rattle.jz_tree.specs.declared.stmt.Lval.{Lval}
+use Rattle.jz_terms.specs.Terms.{Term, truth}
+use Rattle.jz_labels.specs.Operations.{left_of}
 use Rattle.jz_drawing.specs.declared.heads.Head.{Head}
-use Rattle.jz_drawing.specs.Drawings.{View, put_left, left_arrows, arrow_between, asks_in, sets, IsBounded}
+use Rattle.jz_drawing.specs.declared.heads.Target.{Target}
+use Rattle.jz_drawing.specs.Drawings.{View, put_left, left_arrows, arrow_between, asks_in, sets_lefts, sets, IsBounded}
 use Rattle.jz_drawing.specs.Draws.{Renews}
 use Rattle.jz_drawing.specs.Kept.{whole, nodes_by}
 
@@ -55,8 +59,8 @@ Covers f ks =
     (r : Block) (k : Key) → sets k r ≡ false → has_key ks k ≡ false → sets k (f r) ≡ false
 
 -- the keys of variables
-abbrev pub keys_of : List (Ref Var) → List Key
-keys_of xs = map (λ x. variable_key x.now) xs
+abbrev pub keys_of : List Target → List Key
+keys_of xs = map (λ (x : Target). variable_key x.var.now) xs
 
 abbrev pub CoversLefts : List Lval → List Key → Type 0
 CoversLefts ds ks =
@@ -105,3 +109,7 @@ pub record Meeting (a b : Key → ℕ) (start : View) (before : Spot → Option 
   pub renews : Renews (two a b) is_new start new
   pub stays : (k : Key) → is_new k ≡ false → behind (whole k) ≡ before (whole k)
   pub given_is : (k : Key) → given k ≡ true → is_new k ≡ true
+
+abbrev pub is_truth : Term → Bool
+is_truth (truth b at) = b
+is_truth t = false

@@ -126,7 +126,10 @@ pub(crate) fn meet<'a>(
     ensures low { OnOk result (IsLow drawing.new) }
     ensures below { OnOk result
         (drawing.new.table.layers.below.items ≡ drawing.old.table.layers.below.items) }
-    ensures meets { OnOk result (AreMet first.now second.now drawing.old drawing.new) }
+    ensures meets { OnOk result (IsBounded (view_of drawing.old)
+        → (drawing.old.table.floor ≤ first.now.floor)
+        → (drawing.old.table.floor ≤ second.now.floor)
+        → AreBelow drawing.old → AreMet first.now second.now drawing.old drawing.new) }
 {
     let start = drawing.sheet.next();
     let floor = drawing.table.floor;

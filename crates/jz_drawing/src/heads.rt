@@ -23,15 +23,21 @@ pub struct Head<'a> {
     pub node: usize,
 }
 
+/// A scalar that is set.
+#[derive(Clone, Copy)]
+pub struct Target<'a> {
+    pub var: &'a Var,
+}
+
 /// The scalars among left sides.
-fn left_scalars<'a>(to: &'a Seq<Lval>, vars: &mut Vec<&'a Var>) -> Result<(), AllocError>
+fn left_scalars<'a>(to: &'a Seq<Lval>, vars: &mut Vec<Target<'a>>) -> Result<(), AllocError>
     ensures grows { OnOk result (Has (keys_of vars.new.items) (keys_of vars.old.items)) }
     ensures covers { OnOk result (CoversLefts to.now (keys_of vars.new.items)) }
 {
     for left in to.as_slice() {
         match left {
             Lval::Skip(_) => {}
-            Lval::Var(var) => vars.push(var)?,
+            Lval::Var(var) => vars.push(Target { var })?,
             Lval::Cell(_, _) => {}
             Lval::Store(_) => {}
         }
@@ -43,7 +49,7 @@ fn left_scalars<'a>(to: &'a Seq<Lval>, vars: &mut Vec<&'a Var>) -> Result<(), Al
 #[cycle(setting)]
 pub(crate) fn scalars_set<'a>(
     stmts: &'a Seq<Stmt>,
-    vars: &mut Vec<&'a Var>,
+    vars: &mut Vec<Target<'a>>,
 ) -> Result<(), AllocError>
     ensures grows { OnOk result (Has (keys_of vars.new.items) (keys_of vars.old.items)) }
     ensures covers { OnOk result (Covers (block no_callees stmts.now) (keys_of vars.new.items)) }
@@ -55,7 +61,7 @@ pub(crate) fn scalars_set<'a>(
 }
 
 #[cycle(setting)]
-fn statement_sets<'a>(stmt: &'a Stmt, vars: &mut Vec<&'a Var>) -> Result<(), AllocError>
+fn statement_sets<'a>(stmt: &'a Stmt, vars: &mut Vec<Target<'a>>) -> Result<(), AllocError>
     ensures grows { OnOk result (Has (keys_of vars.new.items) (keys_of vars.old.items)) }
     ensures covers { OnOk result
         (Covers (statement_tree no_callees stmt.now) (keys_of vars.new.items)) }
@@ -65,7 +71,7 @@ fn statement_sets<'a>(stmt: &'a Stmt, vars: &mut Vec<&'a Var>) -> Result<(), All
 }
 
 #[cycle(setting)]
-fn kind_sets<'a>(kind: &'a StmtKind, vars: &mut Vec<&'a Var>) -> Result<(), AllocError>
+fn kind_sets<'a>(kind: &'a StmtKind, vars: &mut Vec<Target<'a>>) -> Result<(), AllocError>
     ensures grows { OnOk result (Has (keys_of vars.new.items) (keys_of vars.old.items)) }
     ensures covers { OnOk result
         ((at : Place) → Covers (kind_piece kind.now at) (keys_of vars.new.items)) }
@@ -145,7 +151,7 @@ fn split_one<'a>(
 pub(crate) fn split<'a>(
     alloc: Global,
     drawing: &mut Drawing<'a>,
-    vars: &[&'a Var],
+    vars: &[Target<'a>],
 ) -> Result<Vec<Head<'a>>, AllocError>
     requires { IsLow drawing.old }
     ensures low { OnOk result (IsLow drawing.new) }
@@ -158,8 +164,8 @@ pub(crate) fn split<'a>(
 {
     let start = drawing.sheet.next();
     let mut heads = Vec::new(alloc);
-    for var in vars {
-        split_one(drawing, &mut heads, *var, start)?;
+    for target in vars {
+        split_one(drawing, &mut heads, target.var, start)?;
     }
     Ok(heads)
 }

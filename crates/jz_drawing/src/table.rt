@@ -1,11 +1,12 @@
 //! Which label each scalar has.
 
 ghost use Rattle.std.specs.Prelude.{◌≡◌, ◌≤◌, ℕ, OnOk};
-ghost use Rattle.jz_layers.specs.Spots.{variable_key};
+ghost use Rattle.jz_layers.specs.Spots.{spot_of, variable_key};
+ghost use Rattle.jz_layers.specs.Layered.{seen};
 ghost use Rattle.jz_required.specs.Kept.{origin_of};
 ghost use Rattle.jz_secrets.specs.Graphs.{vertex_of};
 ghost use Rattle.jz_drawing.specs.Drawings.{vertex_in, put_node};
-ghost use Rattle.jz_drawing.specs.Kept.{nodes_of, standing};
+ghost use Rattle.jz_drawing.specs.Kept.{nodes_of, standing, whole};
 
 use jz_layers::{Layers, Named};
 use jz_required::Part;
@@ -69,6 +70,25 @@ impl<'a> Table<'a> {
 }
 
 /// Gives a scalar a label.
+pub(crate) fn put_named<'a>(
+    table: &mut Table<'a>,
+    named: Named<'a>,
+    node: usize,
+) -> Result<(), AllocError>
+    requires floor { table.old.floor ≤ node }
+    requires scalar { (spot_of named).index ≡ None }
+    ensures nodes { OnOk result (nodes_of table.new
+        ≡ put_node (spot_of named.entry).of node (nodes_of table.old)) }
+    ensures seen { OnOk result ((k : Key) → same_key k (spot_of named.entry).of ≡ false
+        → seen table.new.layers (whole k) ≡ seen table.old.layers (whole k)) }
+    ensures floor { table.new.floor ≡ table.old.floor }
+    ensures below { table.new.layers.below.items ≡ table.old.layers.below.items }
+{
+    table.layers.put(named, node)?;
+    Ok(())
+}
+
+/// Gives a scalar a label.
 pub(crate) fn put<'a>(
     table: &mut Table<'a>,
     var: &'a Var,
@@ -80,8 +100,8 @@ pub(crate) fn put<'a>(
     ensures floor { table.new.floor ≡ table.old.floor }
     ensures below { table.new.layers.below.items ≡ table.old.layers.below.items }
 {
-    table.layers.put(Named::of(var), node)?;
-    Ok(())
+    put_named(table, Named::of(var), node)
 }
 
-ghost use Rattle.jz_meaning.specs.States.{Key};
+ghost use Rattle.std.specs.Prelude.{None, false};
+ghost use Rattle.jz_meaning.specs.States.{Key, same_key};
