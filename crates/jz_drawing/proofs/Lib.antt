@@ -4,3 +4,4 @@ pub mod Operating
 pub mod Renewing
 pub mod Choosing
 pub mod Looping
+pub mod Judging

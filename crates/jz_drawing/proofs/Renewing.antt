@@ -8,7 +8,8 @@ use Rattle.jz_meaning.specs.States.{Key, same_cell, same_key}
 use Rattle.jz_labels.specs.Labels.{Publics}
 use Rattle.jz_labels.proofs.Keys.{keys_same}
 use Rattle.jz_secrets.specs.Graphs.{drawn, Arrow, Keeps, IsLabelling, AreBelow}
-use Rattle.jz_drawing.specs.Drawings.{View, next, put_node, arrow_between, new_arrow, IsBounded}
+use Rattle.jz_drawing.specs.Drawings.{View, next, new_arrow, IsBounded}
+use Rattle.jz_drawing.specs.Laws.{source_arrows, renewed_at}
 use Rattle.jz_drawing.specs.Draws.{Agrees, AllPublic, AllUnder, from_on, owned, Renews}
 use Rattle.jz_drawing.proofs.Labellings.{keeps_agreed, keeps_both, keeps_left, keeps_right, arrows_more, arrows_both, asked_more, below_on, behind_on}
 
@@ -51,17 +52,6 @@ nothing_renewed sources v = record {
     keeps = keeps_agreed (next v) a t (from_on (next v) t (λ i. true)) v.arrows (below_on (next v) t (λ i. true)) b.arrows l.keeps;
   };
   bounded = λ un b. b;
-}
-
-abbrev pub source_arrows : List ℕ → ℕ → List Arrow
-source_arrows ms n = map (λ m. arrow_between (drawn m) (drawn n)) ms
-
--- a new label for one more
-abbrev pub renewed_at : Key → List ℕ → View → View
-renewed_at key ms w = record {
-  nodes = put_node key (next w) w.nodes;
-  arrows = w.arrows ++ (new_arrow (next w) ∷ source_arrows ms (next w));
-  asked = w.asked;
 }
 
 sources_come : (a : Publics) (t : ℕ → Bool) (n : ℕ) (ms : List ℕ) → Keeps a t (source_arrows ms n) → t n ≡ true → AllPublic t ms

@@ -5,13 +5,13 @@ use Rattle.jz_meaning.specs.States.{Key, same_key}
 use Rattle.jz_layers.specs.Spots.{Spot, same_spot, entry_in}
 use Rattle.jz_layers.specs.Layered.{seen}
 use Rattle.jz_layers.specs.declared.named.Named.{Named}
-use Rattle.jz_drawing.specs.declared.arms.Arm.{Arm}
-use Rattle.jz_drawing.specs.declared.arms.Arms.{Arms}
-use Rattle.jz_drawing.specs.declared.drawing.Drawing.{Drawing}
+use Rattle.jz_breaches.specs.declared.arms.Arm.{Arm}
+use Rattle.jz_breaches.specs.declared.arms.Arms.{Arms}
+use Rattle.jz_breaches.specs.declared.drawing.Drawing.{Drawing}
 use Rattle.jz_drawing.specs.Drawings.{View, next, IsBounded}
 use Rattle.jz_drawing.specs.Draws.{Renews}
-use Rattle.jz_drawing.specs.Kept.{view_of, view_with, nodes_of, nodes_by, whole}
-use Rattle.jz_drawing.specs.InnerPieces.{arm_nodes, two, Meeting}
+use Rattle.jz_breaches.specs.Kept.{view_of, view_with, nodes_of, nodes_by, whole}
+use Rattle.jz_breaches.specs.InnerPieces.{arm_nodes, two, Meeting}
 
 -- labels behind an arm, over what was there
 abbrev pub behind_arm : Arm → (Spot → Option ℕ) → Key → ℕ

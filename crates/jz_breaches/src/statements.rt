@@ -4,8 +4,8 @@ ghost use Rattle.std.specs.Prelude.{◌≡◌, OnOk};
 ghost use Rattle.jz_meaning.specs.Runs.{block, statement_tree};
 ghost use Rattle.jz_drawing.specs.Drawings.{IsBounded};
 ghost use Rattle.jz_drawing.specs.Draws.{Draws};
-ghost use Rattle.jz_drawing.specs.Kept.{view_of, IsLow};
-ghost use Rattle.jz_drawing.specs.InnerPieces.{no_callees, kind_piece};
+ghost use Rattle.jz_breaches.specs.Kept.{view_of, IsLow};
+ghost use Rattle.jz_breaches.specs.InnerPieces.{no_callees, kind_piece};
 
 use crate::arms::{Arm, end_arm, meet};
 use crate::drawing::Drawing;
@@ -199,4 +199,4 @@ fn draw_kind<'a>(
 }
 
 ghost use Rattle.jz_terms.specs.Terms.{term_of};
-ghost use Rattle.jz_drawing.specs.InnerPieces.{is_truth};
+ghost use Rattle.jz_breaches.specs.InnerPieces.{is_truth};

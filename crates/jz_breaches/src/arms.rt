@@ -5,8 +5,8 @@ ghost use Rattle.jz_meaning.specs.States.{Key};
 ghost use Rattle.jz_layers.specs.Spots.{Spot, entry_in, over, spot_of};
 ghost use Rattle.jz_layers.specs.Layered.{seen, IsOver, ClosesTo};
 ghost use Rattle.jz_drawing.specs.Drawings.{View, next, IsBounded};
-ghost use Rattle.jz_drawing.specs.Kept.{view_of, whole, standing, IsLow};
-ghost use Rattle.jz_drawing.specs.InnerPieces.{arm_nodes, Meeting};
+ghost use Rattle.jz_breaches.specs.Kept.{view_of, whole, standing, IsLow};
+ghost use Rattle.jz_breaches.specs.InnerPieces.{arm_nodes, Meeting};
 
 use crate::drawing::Drawing;
 use crate::sheet::{fresh, link};
@@ -147,4 +147,4 @@ pub(crate) fn meet<'a>(
 }
 
 ghost use Rattle.std.specs.Prelude.{ℕ, Option};
-ghost use Rattle.jz_drawing.specs.InnerMeetings.{MeetsOne, MeetsLayer, AreMet};
+ghost use Rattle.jz_breaches.specs.InnerMeetings.{MeetsOne, MeetsLayer, AreMet};

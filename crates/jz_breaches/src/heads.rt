@@ -5,9 +5,9 @@ ghost use Rattle.jz_meaning.specs.Runs.{block, statement_tree};
 ghost use Rattle.jz_layers.specs.Spots.{variable_key};
 ghost use Rattle.jz_secrets.specs.Graphs.{arrows_of};
 ghost use Rattle.jz_drawing.specs.Drawings.{next, IsBounded};
-ghost use Rattle.jz_drawing.specs.Kept.{view_of, nodes_of, IsLow};
-ghost use Rattle.jz_drawing.specs.InnerPieces.{no_callees, kind_piece, Covers, Has, Splits};
-ghost use Rattle.jz_drawing.specs.InnerPieces.{back_arrows, has_key, head_keys, keys_of};
+ghost use Rattle.jz_breaches.specs.Kept.{view_of, nodes_of, IsLow};
+ghost use Rattle.jz_breaches.specs.InnerPieces.{no_callees, kind_piece, Covers, Has, Splits};
+ghost use Rattle.jz_breaches.specs.InnerPieces.{back_arrows, has_key, head_keys, keys_of};
 
 use crate::drawing::Drawing;
 use crate::sheet::{Sheet, fresh, link};
@@ -188,4 +188,4 @@ pub(crate) fn come_back<'a>(
 ghost use Rattle.jz_tree.specs.Span.{Span as Place};
 ghost use Rattle.jz_drawing.specs.Drawings.{View};
 ghost use Rattle.std.specs.Prelude.{true};
-ghost use Rattle.jz_drawing.specs.InnerPieces.{CoversLefts};
+ghost use Rattle.jz_breaches.specs.InnerPieces.{CoversLefts};

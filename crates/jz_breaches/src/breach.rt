@@ -38,4 +38,4 @@ pub fn first_breach<'a>(
 ghost use Rattle.std.specs.Prelude.{IfOk};
 ghost use Rattle.jz_labels.specs.ConstantTime.{IsFirstBreach};
 ghost use Rattle.jz_drawing.specs.Drawings.{IsFree};
-ghost use Rattle.jz_drawing.specs.Answers.{plain_block, told};
+ghost use Rattle.jz_breaches.specs.Answers.{plain_block, told};

@@ -8,8 +8,8 @@ ghost use Rattle.jz_required.specs.Readings.{right_reading};
 ghost use Rattle.jz_required.specs.Kept.{reading_of};
 ghost use Rattle.jz_drawing.specs.Drawings.{next, drawn_operation};
 ghost use Rattle.jz_drawing.specs.Draws.{Draws};
-ghost use Rattle.jz_drawing.specs.Kept.{view_of, IsLow};
-ghost use Rattle.jz_drawing.specs.InnerPieces.{no_callees, left_drawn};
+ghost use Rattle.jz_breaches.specs.Kept.{view_of, IsLow};
+ghost use Rattle.jz_breaches.specs.InnerPieces.{no_callees, left_drawn};
 
 use crate::drawing::Drawing;
 use crate::sheet::{ask, fresh, link, link_all};
@@ -140,4 +140,4 @@ pub(crate) fn draw_assign<'a>(
     }
 }
 
-ghost use Rattle.jz_drawing.specs.InnerPieces.{left_written, lefts_drawn};
+ghost use Rattle.jz_breaches.specs.InnerPieces.{left_written, lefts_drawn};

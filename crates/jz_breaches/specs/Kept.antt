@@ -5,10 +5,10 @@ use Rattle.jz_layers.specs.Spots.{Spot}
 use Rattle.jz_layers.specs.Layered.{seen}
 use Rattle.jz_required.specs.Kept.{demand_of}
 use Rattle.jz_secrets.specs.Graphs.{vertex_of, arrows_of}
-use Rattle.jz_drawing.specs.declared.sheet.Ask.{Ask}
-use Rattle.jz_drawing.specs.declared.sheet.Sheet.{Sheet}
-use Rattle.jz_drawing.specs.declared.table.Table.{Table}
-use Rattle.jz_drawing.specs.declared.drawing.Drawing.{Drawing}
+use Rattle.jz_breaches.specs.declared.sheet.Ask.{Ask}
+use Rattle.jz_breaches.specs.declared.sheet.Sheet.{Sheet}
+use Rattle.jz_breaches.specs.declared.table.Table.{Table}
+use Rattle.jz_breaches.specs.declared.drawing.Drawing.{Drawing}
 use Rattle.jz_drawing.specs.Drawings.{Asked, View, next}
 
 abbrev pub asked_of : Ask → Asked

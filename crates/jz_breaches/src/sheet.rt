@@ -5,7 +5,7 @@ ghost use Rattle.jz_meaning.specs.States.{Key};
 ghost use Rattle.jz_secrets.specs.Graphs.{vertex_of, arrows_of};
 ghost use Rattle.jz_required.specs.Kept.{origins_of, demands_of};
 ghost use Rattle.jz_drawing.specs.Drawings.{new_arrow, arrow_between, arrows_from, asks_in};
-ghost use Rattle.jz_drawing.specs.Kept.{asked_of, nodes_of};
+ghost use Rattle.jz_breaches.specs.Kept.{asked_of, nodes_of};
 
 use crate::table::Table;
 use jz_required::{Part, Required};

@@ -6,7 +6,7 @@ ghost use Rattle.jz_layers.specs.Layered.{seen};
 ghost use Rattle.jz_required.specs.Kept.{origin_of};
 ghost use Rattle.jz_secrets.specs.Graphs.{vertex_of};
 ghost use Rattle.jz_drawing.specs.Drawings.{vertex_in, put_node};
-ghost use Rattle.jz_drawing.specs.Kept.{nodes_of, standing, whole};
+ghost use Rattle.jz_breaches.specs.Kept.{nodes_of, standing, whole};
 
 use jz_layers::{Layers, Named};
 use jz_required::Part;

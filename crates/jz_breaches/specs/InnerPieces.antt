@@ -15,11 +15,11 @@ use Rattle.jz_secrets.specs.Graphs.{Arrow, drawn}
 use Rattle.jz_tree.specs.declared.stmt.Lval.{Lval}
 use Rattle.jz_terms.specs.Terms.{Term, truth}
 use Rattle.jz_labels.specs.Operations.{left_of}
-use Rattle.jz_drawing.specs.declared.heads.Head.{Head}
-use Rattle.jz_drawing.specs.declared.heads.Target.{Target}
+use Rattle.jz_breaches.specs.declared.heads.Head.{Head}
+use Rattle.jz_breaches.specs.declared.heads.Target.{Target}
 use Rattle.jz_drawing.specs.Drawings.{View, put_left, left_arrows, arrow_between, asks_in, sets_lefts, sets, IsBounded}
 use Rattle.jz_drawing.specs.Draws.{Renews}
-use Rattle.jz_drawing.specs.Kept.{whole, nodes_by}
+use Rattle.jz_breaches.specs.Kept.{whole, nodes_by}
 
 -- no call is left
 abbrev pub no_callees : Callees

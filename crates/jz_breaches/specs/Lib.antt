@@ -1,0 +1,5 @@
+pub mod Kept
+pub mod InnerPieces
+pub mod InnerMeetings
+pub mod Answers
+pub use Rattle.jz_drawing.specs.Draws
