@@ -85,8 +85,16 @@ fn meet_one<'a>(
     let node = fresh(&mut drawing.sheet.edges)?;
     let first = arms.first.node(named, below);
     let second = arms.second.node(named, below);
-    link(&mut drawing.sheet.edges, Node::Drawn(first), Node::Drawn(node))?;
-    link(&mut drawing.sheet.edges, Node::Drawn(second), Node::Drawn(node))?;
+    link(
+        &mut drawing.sheet.edges,
+        Node::Drawn(first),
+        Node::Drawn(node),
+    )?;
+    link(
+        &mut drawing.sheet.edges,
+        Node::Drawn(second),
+        Node::Drawn(node),
+    )?;
     put_named(&mut drawing.table, named, node)?;
     Ok(())
 }

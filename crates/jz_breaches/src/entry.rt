@@ -38,8 +38,7 @@ fn is_public(notes: &Seq<Note>) -> bool
 
 /// The drawing before the first statement: one label that is secret, which all parameters have that
 /// are not public.
-pub(crate) fn entry<'a>(alloc: Global, params: &'a Seq<Param>) -> Result<Drawing<'a>, AllocError>
-{
+pub(crate) fn entry<'a>(alloc: Global, params: &'a Seq<Param>) -> Result<Drawing<'a>, AllocError> {
     let mut table = Table::new(alloc);
     let mut sheet = Sheet::new(alloc);
     let node = fresh(&mut sheet.edges)?;

@@ -141,7 +141,11 @@ fn split_one<'a>(
         return Ok(());
     }
     let node = fresh(&mut drawing.sheet.edges)?;
-    link(&mut drawing.sheet.edges, Node::Drawn(before), Node::Drawn(node))?;
+    link(
+        &mut drawing.sheet.edges,
+        Node::Drawn(before),
+        Node::Drawn(node),
+    )?;
     put(&mut drawing.table, var, node)?;
     heads.push(Head { var, node })?;
     Ok(())
@@ -180,7 +184,11 @@ pub(crate) fn come_back<'a>(
         ≡ arrows_of edges.old.items ++ back_arrows (nodes_of table.now) heads.now) }
 {
     for head in heads {
-        link(edges, Node::Drawn(table.node(head.var)), Node::Drawn(head.node))?;
+        link(
+            edges,
+            Node::Drawn(table.node(head.var)),
+            Node::Drawn(head.node),
+        )?;
     }
     Ok(())
 }

@@ -20,11 +20,7 @@ use jz_tree::{BinOp, Expr, Lval, Rhs, Seq};
 use std::alloc::{AllocError, Global};
 
 /// The label of what is written comes to a left side.
-fn write<'a>(
-    drawing: &mut Drawing<'a>,
-    left: &'a Lval,
-    node: usize,
-) -> Result<(), AllocError>
+fn write<'a>(drawing: &mut Drawing<'a>, left: &'a Lval, node: usize) -> Result<(), AllocError>
     requires { drawing.old.table.floor ≤ node }
     ensures floor { OnOk result (drawing.new.table.floor ≡ drawing.old.table.floor) }
     ensures below { OnOk result
@@ -36,7 +32,11 @@ fn write<'a>(
         Lval::Skip(_) => {}
         Lval::Var(var) => put(&mut drawing.table, var, node)?,
         Lval::Cell(var, _) => {
-            link(&mut drawing.sheet.edges, Node::Drawn(node), Node::Array(var))?;
+            link(
+                &mut drawing.sheet.edges,
+                Node::Drawn(node),
+                Node::Array(var),
+            )?;
         }
         Lval::Store(_) => {}
     }

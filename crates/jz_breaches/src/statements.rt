@@ -46,8 +46,7 @@ fn draw_test<'a>(
     alloc: Global,
     drawing: &mut Drawing<'a>,
     cond: &'a Expr,
-) -> Result<(), AllocError>
-{
+) -> Result<(), AllocError> {
     let required = test_demands(alloc, cond)?;
     ask(&mut drawing.sheet.asked, &drawing.table, &required)?;
     Ok(())
@@ -96,8 +95,7 @@ fn draw_arm<'a>(
     alloc: Global,
     drawing: &mut Drawing<'a>,
     stmts: &'a Seq<Stmt>,
-) -> Result<Arm<'a>, AllocError>
-{
+) -> Result<Arm<'a>, AllocError> {
     let floor = drawing.table.floor;
     drawing.table.layers.open()?;
     draw_block(alloc, drawing, stmts)?;
@@ -110,8 +108,7 @@ fn draw_turn<'a>(
     alloc: Global,
     drawing: &mut Drawing<'a>,
     body: &'a Option<Seq<Stmt>>,
-) -> Result<(), AllocError>
-{
+) -> Result<(), AllocError> {
     match body {
         None => Ok(()),
         Some(body) => {
@@ -126,8 +123,7 @@ fn draw_loop<'a>(
     alloc: Global,
     drawing: &mut Drawing<'a>,
     parts: Loop<'a>,
-) -> Result<(), AllocError>
-{
+) -> Result<(), AllocError> {
     let mut vars = Vec::new(alloc);
     scalars_set(parts.prologue, &mut vars)?;
     match parts.body {

@@ -28,13 +28,7 @@ pub(crate) fn above(floor: usize, node: Option<usize>) -> usize
 {
     match node {
         None => 0,
-        Some(node) => {
-            if node < floor {
-                0
-            } else {
-                node
-            }
-        }
+        Some(node) => { if node < floor { 0 } else { node } }
     }
 }
 
@@ -89,11 +83,7 @@ pub(crate) fn put_named<'a>(
 }
 
 /// Gives a scalar a label.
-pub(crate) fn put<'a>(
-    table: &mut Table<'a>,
-    var: &'a Var,
-    node: usize,
-) -> Result<(), AllocError>
+pub(crate) fn put<'a>(table: &mut Table<'a>, var: &'a Var, node: usize) -> Result<(), AllocError>
     requires { table.old.floor ≤ node }
     ensures nodes { OnOk result (nodes_of table.new
         ≡ put_node (variable_key var.now) node (nodes_of table.old)) }

@@ -93,11 +93,7 @@ pub(crate) fn cell<'a>(
 }
 
 /// What memory holds at an address.
-pub(crate) fn load<'a>(
-    alloc: Global,
-    inner: Found<'a>,
-    span: Span,
-) -> Result<Found<'a>, AllocError>
+pub(crate) fn load<'a>(alloc: Global, inner: Found<'a>, span: Span) -> Result<Found<'a>, AllocError>
     ensures { IfOk result (λ f. reading_of f ≡ readings.load_reading span (reading_of inner)) }
 {
     let required = place(inner, span)?;
