@@ -1,11 +1,15 @@
 -- Arrows as rows of numbers.
-use Rattle.std.proofs.Common.{◌≡◌, ◌⊎◌, inl, inr, ◌<◌, ◌≤◌, ℕ, zero, suc, ◌+◌, Bool, true, false, List, [], ◌∷◌, ◌++◌, length, Option, Some, None, refl, sym, ap, ◌∙◌, subst, arith}
+use Rattle.std.proofs.Common.{◌≡◌, ◌⊎◌, inl, inr, ◌<◌, ◌≤◌, ℕ, zero, suc, ◌+◌, Bool, true, false, List, [], ◌∷◌, ◌++◌, length, Option, Some, None, if◌then◌else◌, refl, sym, ap, ◌∙◌, subst, arith, length-append}
 use Rattle.std.specs.Prelude.{◌&&◌, ◌||◌, nat_eq}
 use Rattle.std.proofs.lemmas.Bool.{false≢true, and_parts}
 use Rattle.std.proofs.lemmas.Bool.Decides.{nat_tests}
+use Rattle.jz_meaning.specs.States.{Key}
+use Rattle.jz_layers.specs.Spots.{Spot, same_spot, put_in, entry_in}
+use Rattle.jz_layers.proofs.SpotLemmas.{same_spot-true, same_spot-refl}
 use Rattle.jz_secrets.specs.declared.graph.Graph.{Graph}
 use Rattle.jz_secrets.specs.Graphs.{Vertex, hidden, drawn, array, Arrow, IsBelow, IsEnd, AreBelow}
 use Rattle.jz_secrets.specs.InnerGraphs.{has, row_at, whole, number_in, IsFine, Grows, AddsArrow, Occurs, IsGraphOf}
+use Rattle.jz_secrets.proofs.Rows.{row_more}
 
 either : (a b : Bool) → (a || b) ≡ true → (a ≡ true) ⊎ (b ≡ true)
 either true b e = inl refl
@@ -98,3 +102,94 @@ one_more xs x g h end p f a = record {
         let from : a.from ≡ u = same a.from u b.0 in
         let to : a.to ≡ v = same a.to v b.1 in
         (x, occurs_last xs x, a.from_is ∙ ap Some from, a.to_is ∙ ap Some to, end_number h f x.to v (subst (λ (c : ℕ). IsEnd c x.to) (sym a.count) end) (a.to_is ∙ ap Some to))
+
+-- ---- the number of an array
+
+same_spot_no : {A : Type 0} (f : Spot → Option ℕ) (s : Spot) (k : Key) (m : ℕ) → f s ≡ None → f (whole k) ≡ Some m → same_spot s (whole k) ≡ true → A
+same_spot_no f s k m e h i = absurd (cc (sym e ∙ (ap f (same_spot-true s (whole k) i) ∙ h)))
+
+module _ (g h : Graph) (s : Spot) (n : ℕ) (f : IsFine g) (index : s.index ≡ None) (count : h.count ≡ g.count) (rows : h.rows.items ≡ g.rows.items ++ [] ∷ [])
+    (arrays : entry_in h.arrays ≡ put_in (entry_in g.arrays) s n) (absent : entry_in g.arrays s ≡ None) (at : n ≡ length g.rows.items) where
+  longer : length h.rows.items ≡ length g.rows.items + 1
+  longer = ap length rows ∙ length-append g.rows.items ([] ∷ [])
+
+  entry_is : (k : Key) → entry_in h.arrays (whole k) ≡ put_in (entry_in g.arrays) s n (whole k)
+  entry_is k = ap (λ (e : Spot → Option ℕ). e (whole k)) arrays
+
+  stays : (k : Key) (m : ℕ) → entry_in g.arrays (whole k) ≡ Some m → entry_in h.arrays (whole k) ≡ Some m
+  stays k m e = entry_is k ∙ by (same_spot s (whole k)) refl
+    where
+      by : (c : Bool) → same_spot s (whole k) ≡ c → (if c then Some n else entry_in g.arrays (whole k)) ≡ Some m
+      by true i = same_spot_no (entry_in g.arrays) s k m absent e i
+      by false i = e
+
+  numbers : (v : Vertex) (m : ℕ) → number_in g v ≡ Some m → number_in h v ≡ Some m
+  numbers hidden m e = ap Some count ∙ e
+  numbers (drawn i) m e = e
+  numbers (array k) m e = stays k m e
+
+  -- an entry is the new one or an old one
+  entry_by : (k : Key) (m : ℕ) → entry_in h.arrays (whole k) ≡ Some m → ((s ≡ whole k) × (m ≡ n)) ⊎ (entry_in g.arrays (whole k) ≡ Some m)
+  entry_by k m e = by (same_spot s (whole k)) refl (sym (entry_is k) ∙ e)
+    where
+      some_is : (a b : ℕ) → Some a ≡ Some b → b ≡ a
+      some_is a b e = sym (ap (λ (o : Option ℕ). or a o) e)
+        where
+          or : ℕ → Option ℕ → ℕ
+          or d None = d
+          or d (Some x) = x
+
+      by : (c : Bool) → same_spot s (whole k) ≡ c → (if c then Some n else entry_in g.arrays (whole k)) ≡ Some m → ((s ≡ whole k) × (m ≡ n)) ⊎ (entry_in g.arrays (whole k) ≡ Some m)
+      by true i h = inl (same_spot-true s (whole k) i, some_is n m h)
+      by false i h = inr h
+
+  pub array_fine : IsFine h
+  array_fine = record {
+    long = let x = f.long in omega (arith, x, longer, count);
+    within = λ k m e. within_by k m (entry_by k m e);
+    apart = λ j k m p q. apart_by j k m (entry_by j m p) (entry_by k m q);
+  }
+    where
+      within_by : (k : Key) (m : ℕ) → ((s ≡ whole k) × (m ≡ n)) ⊎ (entry_in g.arrays (whole k) ≡ Some m) → (h.count < m) × (m < length h.rows.items)
+      within_by k m (inl e) = let x = f.long in let y = e.1 in (omega (arith, x, y, at, count), omega (arith, y, at, longer))
+      within_by k m (inr e) = let x = f.within k m e in (omega (arith, x.0, count), omega (arith, x.1, longer))
+
+      key : (j k : Key) → s ≡ whole j → s ≡ whole k → j ≡ k
+      key j k p q = ap (λ (x : Spot). x.of) (sym p ∙ q)
+
+      old_new : (j k : Key) (m : ℕ) → m ≡ n → entry_in g.arrays (whole k) ≡ Some m → j ≡ k
+      old_new j k m e q = let x = f.within k m q in absurd (omega (arith, x.1, e, at))
+
+      apart_by : (j k : Key) (m : ℕ) → ((s ≡ whole j) × (m ≡ n)) ⊎ (entry_in g.arrays (whole j) ≡ Some m) → ((s ≡ whole k) × (m ≡ n)) ⊎ (entry_in g.arrays (whole k) ≡ Some m) → j ≡ k
+      apart_by j k m (inl p) (inl q) = key j k p.0 q.0
+      apart_by j k m (inl p) (inr q) = old_new j k m p.1 q
+      apart_by j k m (inr p) (inl q) = sym (old_new k j m q.1 p)
+      apart_by j k m (inr p) (inr q) = f.apart j k m p q
+
+  pub array_grows : Grows g h
+  array_grows = record {
+    count = count;
+    longer = omega (arith, longer);
+    numbers = numbers;
+    rows = λ u v. ap (λ (rs : List (List ℕ)). has (row_at rs u) v) rows ∙ row_more g.rows.items u v;
+  }
+
+  pub array_number : entry_in h.arrays s ≡ Some n
+  array_number = ap (λ (e : Spot → Option ℕ). e s) arrays ∙ ap (λ (c : Bool). if c then Some n else entry_in g.arrays s) (same_spot-refl s)
+
+pub stays_fine : (g : Graph) → Grows g g
+stays_fine g = record { count = refl; longer = omega (arith); numbers = λ v n e. e; rows = λ u v. refl }
+
+-- both ends have their numbers, and the row has one more
+pub adds : (x : Arrow) (g h i j : Graph) (from to : ℕ) → Grows g h → Grows h i → number_in h x.from ≡ Some from → number_in i x.to ≡ Some to → j.count ≡ i.count → length j.rows.items ≡ length i.rows.items → ((v : Vertex) → number_in j v ≡ number_in i v)
+    → ((u v : ℕ) → has (row_at j.rows.items u) v ≡ (has (row_at i.rows.items u) v || (nat_eq from u && nat_eq to v))) → AddsArrow x g j
+adds x g h i j from to p q a b c l s r = record {
+  count = c ∙ q.count ∙ p.count;
+  longer = let y = p.longer in let z = q.longer in omega (arith, y, z, l);
+  numbers = λ v n e. s v ∙ q.numbers v n (p.numbers v n e);
+  from = from;
+  to = to;
+  from_is = s x.from ∙ q.numbers x.from from a;
+  to_is = s x.to ∙ b;
+  rows = λ u v. r u v ∙ ap (λ z. z || (nat_eq from u && nat_eq to v)) (q.rows u v ∙ p.rows u v);
+}

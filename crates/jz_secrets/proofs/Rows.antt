@@ -1,7 +1,8 @@
 -- Rows of numbers, and marks.
-use Rattle.std.proofs.Common.{◌≡◌, ◌⊎◌, inl, inr, ◌<◌, ◌≤◌, ℕ, zero, suc, ◌+◌, Bool, true, false, not, List, [], ◌∷◌, ◌++◌, length, get_or, refl, sym, ap, ◌∙◌, subst, arith}
+use Rattle.std.proofs.Common.{◌≡◌, ◌⊎◌, inl, inr, ◌<◌, ◌≤◌, ℕ, zero, suc, ◌+◌, Bool, true, false, not, List, [], ◌∷◌, ◌++◌, length, take, get_or, refl, sym, ap, ◌∙◌, subst, arith}
 use Rattle.std.specs.Prelude.{◌&&◌, ◌||◌, nat_eq, slice_set}
 use Rattle.std.proofs.lemmas.Bool.{false≢true}
+use Rattle.std.proofs.lemmas.List.{take_more, take_all}
 use Rattle.std.proofs.lemmas.Bool.Decides.{nat_tests}
 use Rattle.jz_secrets.specs.Kept.{marked_at}
 use Rattle.jz_secrets.specs.InnerGraphs.{has, row_at, unmarked, MarksRow, Path, here, on, AreReached}
@@ -269,3 +270,33 @@ module _ (rows : List (List ℕ)) (start : ℕ) (within : (u v : ℕ) → has (r
       by : (u v : ℕ) → (has [] u ≡ true) ⊎ (marked_at ms v ≡ true) → marked_at ms v ≡ true
       by u v (inl e) = absurd (false≢true e)
       by u v (inr e) = e
+
+-- ---- rows and marks that are pushed
+
+pub row_more : (rows : List (List ℕ)) (u v : ℕ) → has (row_at (rows ++ [] ∷ []) u) v ≡ has (row_at rows u) v
+row_more [] zero v = refl
+row_more [] (suc u) v = refl
+row_more (r ∷ rows) zero v = refl
+row_more (r ∷ rows) (suc u) v = row_more rows u v
+
+pub mark_more : (ms : List Bool) (n : ℕ) → marked_at (ms ++ false ∷ []) n ≡ marked_at ms n
+mark_more [] zero = refl
+mark_more [] (suc n) = refl
+mark_more (m ∷ ms) zero = refl
+mark_more (m ∷ ms) (suc n) = mark_more ms n
+
+-- ---- a row, as far as a loop has come
+
+next_taken : (row : List ℕ) (i x : ℕ) → i < length row → x ≡ get_or row i x → take (i + 1) row ≡ take i row ++ x ∷ []
+next_taken row i x lt is = take_more row i x lt ∙ ap (λ y. take i row ++ y ∷ []) (sym is)
+
+pub row_next : (row : List ℕ) (i x : ℕ) (a b c : List Bool) (l m n : List ℕ) → i < length row → x ≡ get_or row i x → MarksRow (take i row) a b l m → MarksRow (x ∷ []) b c m n → MarksRow (take (i + 1) row) a c l n
+row_next row i x a b c l m n lt is p q = subst (λ (z : List ℕ). MarksRow z a c l n) (sym (next_taken row i x lt is)) (one_more (take i row) x a b c l m n p q)
+
+pub row_done : (row : List ℕ) (i : ℕ) (a b : List Bool) (l m : List ℕ) → length row ≤ i → MarksRow (take i row) a b l m → MarksRow row a b l m
+row_done row i a b l m e p = subst (λ (z : List ℕ). MarksRow z a b l m) (take_all row i e) p
+
+pub row_has : (row : List ℕ) (i x : ℕ) → i < length row → x ≡ get_or row i x → has row x ≡ true
+row_has [] i x lt is = absurd (omega (arith, lt))
+row_has (y ∷ row) zero x lt is = left_or (nat_eq y x) (has row x) (subst (λ (z : ℕ). nat_eq y z ≡ true) (sym is) (itself y))
+row_has (y ∷ row) (suc i) x lt is = let h : i < length row = omega (arith, lt) in right_or (nat_eq y x) (has row x) (row_has row i x h is)
