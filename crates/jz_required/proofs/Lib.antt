@@ -4,3 +4,4 @@ pub mod Assigning
 pub mod Spans
 pub mod Parts
 pub mod Pushing
+pub mod Rights
