@@ -129,14 +129,11 @@ module _ (v w : View) (hs : List Head) (s : Splits v w hs) (h : Head) (old : s.i
       by : (c : Bool) → c ≡ true → h.node ≡ (if c then next w else w.nodes key)
       by true e = at
       by false e = absurd (false≢true e)
-  others (g ∷ gs) f n = (by (same_key q key) refl, others gs (λ k e. f k (right_or (same_key k q) (has_key (head_keys gs) k) e)) n.1)
+  others (g ∷ gs) f n = (by (same_key (key_of_head g) key) refl, others gs (λ k e. f k (right_or (same_key k (key_of_head g)) (has_key (head_keys gs) k) e)) n.1)
     where
-      abbrev q : Key
-      q = key_of_head g
-
-      by : (c : Bool) → same_key q key ≡ c → g.node ≡ (if c then next w else w.nodes q)
+      by : (c : Bool) → same_key (key_of_head g) key ≡ c → g.node ≡ (if c then next w else w.nodes (key_of_head g))
       by true e =
-          absurd (false≢true (sym old ∙ ap s.is_new (sym (keys_same q key e)) ∙ f q (left_or (same_key q q) (has_key (head_keys gs) q) (key_itself q))))
+          absurd (false≢true (sym old ∙ ap s.is_new (sym (keys_same (key_of_head g) key e)) ∙ f (key_of_head g) (left_or (same_key (key_of_head g) (key_of_head g)) (has_key (head_keys gs) (key_of_head g)) (key_itself (key_of_head g)))))
       by false e = n.0
 
   pub one_split : Splits v x (hs ++ h ∷ [])

@@ -27,9 +27,6 @@ neither false b e = (refl, e)
 
 -- ---- a test asks
 
-pub test_asked : Condition → View → List Asked
-test_asked c v = asks_in v.nodes (test_demands (tested_by c))
-
 pub test_bounded : (c : Condition) (v : View) → IsBounded v → IsBounded (with_asked (asks_in v.nodes (test_demands (tested_by c))) v)
 test_bounded c v b = record {
   nodes = b.nodes;
@@ -71,7 +68,7 @@ module _ (c : Condition) (f g : Block → Block) (v va vb vc : View) (base : Key
   abbrev all_asked : List Asked
   all_asked = asks ++ (da.asked ++ db.asked)
 
-  pub choice : Block → Block
+  abbrev pub choice : Block → Block
   choice r = choose c (f done) (g done) r
 
   middle_bounded : IsBounded v → IsBounded vm

@@ -67,13 +67,13 @@ among_sets a q (call c b r) = refl
 
 -- ---- the head of a loop, where what no turn sets is as before
 
-pub record Head (a : Publics) (p : Block) (c : Condition) (b : Block) (s : Publics) : Type 0 where
+pub record LoopHead (a : Publics) (p : Block) (c : Condition) (b : Block) (s : Publics) : Type 0 where
   pub public : Publics
   pub is_head : IsHead (OneTurn (flow a) p c b) s public
   pub stays : (k : Key) → sets k p ≡ false → sets k b ≡ false → s k ≡ true → public k ≡ true
 
-head : (a : Publics) (p : Block) (c : Condition) (b : Block) → IsWhole p → IsWhole b → (s : Publics) → Head a p c b s
-head a p c b wp wb s =
+loop_head : (a : Publics) (p : Block) (c : Condition) (b : Block) → IsWhole p → IsWhole b → (s : Publics) → LoopHead a p c b s
+loop_head a p c b wp wb s =
     let prologue = λ (x : Publics). some_after plain_of tested_by a p wp x in
     let body = λ (x : Publics). some_after plain_of tested_by a b wb x in
     let f = found (set_in plain_of tested_by a p ++ set_in plain_of tested_by a b) (λ x y. (z : Publics) × After (flow a) p x z × After (flow a) b z y) (λ x. (body (prologue x).0).0)
@@ -110,7 +110,7 @@ module _ (w : Bool) (c : Condition) (f g : Block → Block) (v vh vp vb ve vl : 
   abbrev all_asked : List Asked
   all_asked = dp.asked ++ (asks ++ db.asked)
 
-  pub turns : Block → Block
+  abbrev pub turns : Block → Block
   turns r = loop w (f done) c (g done) r
 
   sources_under : IsBounded v → (k : Key) → AllUnder (next v) (v.nodes k ∷ [])
@@ -159,7 +159,7 @@ module _ (w : Bool) (c : Condition) (f g : Block → Block) (v vh vp vb ve vl : 
     is_set k = sets k (f done) || sets k (g done)
 
     -- at the head of the loop
-    pub at_head : Publics
+    abbrev pub at_head : Publics
     at_head k = if is_set k then t (vh.nodes k) else s k
 
     lh : IsLabelling a t vh.arrows
@@ -231,8 +231,8 @@ module _ (w : Bool) (c : Condition) (f g : Block → Block) (v vh vp vb ve vl : 
     wb : IsFree (g done)
     wb = meets_whole (flow a) (writes a) (g done) m.1 m.2 m.6
 
-    h : Head a (f done) c (g done) S
-    h = head a (f done) c (g done) wp wb S
+    h : LoopHead a (f done) c (g done) S
+    h = loop_head a (f done) c (g done) wp wb S
 
     abbrev H : Publics
     H = h.public

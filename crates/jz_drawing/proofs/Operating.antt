@@ -13,7 +13,7 @@ use Rattle.jz_flow.specs.Flow.{After}
 use Rattle.jz_flow.specs.Alarms.{FirstOf, First, Meets, no_more}
 use Rattle.jz_flow.proofs.Ordering.{below_self}
 use Rattle.jz_labels.specs.Operations.{Left, nothing, scalar, element, bytes, Plain, plain_of}
-use Rattle.jz_labels.specs.Labels.{Publics, first, is_none, gives_public, labelled, all_labelled, relabels}
+use Rattle.jz_labels.specs.Labels.{Publics, Secret, first, is_none, gives_public, labelled, all_labelled, relabels}
 use Rattle.jz_labels.specs.Required.{Breach, breach_in_left, breach_in_lefts, breach_in_operation, into_public, secret_written}
 use Rattle.jz_labels.proofs.MoreLabels.{gives_more, relabels_more, written_less}
 use Rattle.jz_required.specs.Readings.{Origin, right_reading, left_demands, is_public, secret_unless, first_secret, first_breach}
@@ -38,7 +38,7 @@ sources_public a t e n [] k h = refl
 sources_public a t e n (o ∷ os) k h =
     ap (λ z. first (secret_unless z o) (first_secret a (labels_of t e) os)) (sym (origin_label a t e o) ∙ k.0 h) ∙ sources_public a t e n os k.1 h
 
-by_none : (c : Bool) (o : Origin) (x : Option _) → first (secret_unless c o) x ≡ None → (c ≡ true) × (x ≡ None)
+by_none : (c : Bool) (o : Origin) (x : Option Secret) → first (secret_unless c o) x ≡ None → (c ≡ true) × (x ≡ None)
 by_none true o x e = (refl, e)
 by_none false o x e = absurd (cc e)
 
@@ -227,7 +227,7 @@ module _ (o : Operation) (v : View) where
   public_none : (a s : Publics) → gives_public a s p ≡ true → first_secret a s os ≡ None
   public_none a s e = by (first_secret a s os) (sym (value_is a s p) ∙ e)
     where
-      by : (y : Option _) → is_none y ≡ true → y ≡ None
+      by : (y : Option Secret) → is_none y ≡ true → y ≡ None
       by None h = refl
       by (Some z) h = absurd (cc h)
 

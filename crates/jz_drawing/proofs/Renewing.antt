@@ -168,30 +168,31 @@ module _ (sources : Key → List ℕ) (is_new : Key → Bool) (v w : View) (re :
       put true k l = more
       put false k l = omega (arith, l, more)
 
+  -- the labels where the new ones are these
+  abbrev labels_with : (ℕ → Bool) → Publics → ℕ → Bool
+  labels_with t h = from_on (next v) t (λ i. owned h (owner_too i))
+
+  abbrev labels_before : (ℕ → Bool) → Publics → ℕ → Bool
+  labels_before t h = from_on (next v) t (λ i. owned h (re.owner i))
+
+  agree_before : (t : ℕ → Bool) (h : Publics) → Agrees n (labels_before t h) (labels_with t h)
+  agree_before t h i e = ap (λ o. if nat_lt i (next v) then t i else owned h o) (owner_else i e)
+
+  at_new : (t : ℕ → Bool) (h : Publics) → labels_with t h n ≡ h key
+  at_new t h = behind_on (next v) t (λ i. owned h (owner_too i)) n up ∙ ap (owned h) owner_at
+
   labelled_one : (a : Publics) (t : ℕ → Bool) (h : Publics) → IsLabelling a t v.arrows → IsBounded v → ((k : Key) → AllUnder (next v) (sources k)) → ((k : Key) → h k ≡ true → AllPublic t (sources k))
-      → IsLabelling a (from_on (next v) t (λ i. owned h (owner_too i))) x.arrows
+      → IsLabelling a (labels_with t h) x.arrows
   labelled_one a t h l b un f =
       let c = re.bounded un b in
       let k = re.labelled a t h l b un f in
-      let first_is : new 0 ≡ true = below_on (next v) t (λ i. owned h (owner_too i)) 0 (omega (arith)) ∙ l.first in
+      let first_is : labels_with t h 0 ≡ true = below_on (next v) t (λ i. owned h (owner_too i)) 0 (omega (arith)) ∙ l.first in
       record {
         first = first_is;
         keeps =
-            keeps_both a new w.arrows (new_arrow n ∷ source_arrows ms n) (keeps_agreed n a before new w.arrows agree c.arrows k.keeps)
-            (λ e. first_is, sources_kept a t new (next v) n ms (below_on (next v) t (λ i. owned h (owner_too i))) (un key) (λ e. f key (sym at_new ∙ e)));
+            keeps_both a (labels_with t h) w.arrows (new_arrow n ∷ source_arrows ms n) (keeps_agreed n a (labels_before t h) (labels_with t h) w.arrows (agree_before t h) c.arrows k.keeps)
+            (λ e. first_is, sources_kept a t (labels_with t h) (next v) n ms (below_on (next v) t (λ i. owned h (owner_too i))) (un key) (λ e. f key (sym (at_new t h) ∙ e)));
       }
-    where
-      abbrev new : ℕ → Bool
-      new = from_on (next v) t (λ i. owned h (owner_too i))
-
-      abbrev before : ℕ → Bool
-      before = from_on (next v) t (λ i. owned h (re.owner i))
-
-      agree : Agrees n before new
-      agree i e = ap (λ o. if nat_lt i (next v) then t i else owned h o) (owner_else i e)
-
-      at_new : new n ≡ h key
-      at_new = behind_on (next v) t (λ i. owned h (owner_too i)) n up ∙ ap (owned h) owner_at
 
   pub one_renewed : Renews sources is_new_too v x
   one_renewed = record {

@@ -65,43 +65,55 @@ end_number g f (drawn i) n b e = let x = some_is i n e in let y = f.long in omeg
         or d (Some x) = x
 end_number g f (array k) n b e = (f.within k n e).1
 
-pub one_more : (xs : List Arrow) (x : Arrow) (g h : Graph) → IsEnd g.count x.to → IsGraphOf xs g → IsFine h → AddsArrow x g h → IsGraphOf (xs ++ x ∷ []) h
-one_more xs x g h end p f a = record {
-  fine = f;
-  there = λ y o. there y (occurs_one xs x y o);
-  only = λ u v e. only u v (either (has (row_at g.rows.items u) v) (nat_eq a.from u && nat_eq a.to v) (sym (a.rows u v) ∙ e));
-}
-  where
-    same : (n m : ℕ) → nat_eq n m ≡ true → n ≡ m
-    same n m e = grind (arith, nat_tests, e)
+same_number : (n m : ℕ) → nat_eq n m ≡ true → n ≡ m
+same_number n m e = grind (arith, nat_tests, e)
 
-    itself : (n : ℕ) → nat_eq n n ≡ true
-    itself n = grind (arith, nat_tests)
+itself : (n : ℕ) → nat_eq n n ≡ true
+itself n = grind (arith, nat_tests)
 
-    There : Arrow → Type 0
-    There y = (u : ℕ) × (v : ℕ) × (number_in h y.from ≡ Some u) × (number_in h y.to ≡ Some v) × (has (row_at h.rows.items u) v ≡ true)
+-- an arrow stands in a row
+abbrev There : Graph → Arrow → Type 0
+There h y =
+    (u : ℕ) × (v : ℕ) × (number_in h y.from ≡ Some u) × (number_in h y.to ≡ Some v) × (has (row_at h.rows.items u) v ≡ true)
 
-    last : There x
-    last = (a.from, a.to, a.from_is, a.to_is, a.rows a.from a.to ∙ right_or (has (row_at g.rows.items a.from) a.to) (nat_eq a.from a.from && nat_eq a.to a.to) (both_of (nat_eq a.from a.from) (nat_eq a.to a.to) (itself a.from) (itself a.to)))
+-- what stands in a row is one of these arrows
+abbrev Only : List Arrow → Graph → ℕ → ℕ → Type 0
+Only xs h u v = (y : Arrow) × Occurs xs y × (number_in h y.from ≡ Some u) × (number_in h y.to ≡ Some v) × (v < length h.rows.items)
 
-    there : (y : Arrow) → Occurs xs y ⊎ (x ≡ y) → There y
-    there y (inl o) =
-        let t = p.there y o in
-        (t.0, t.1, a.numbers y.from t.0 t.2, a.numbers y.to t.1 t.3, a.rows t.0 t.1 ∙ left_or (has (row_at g.rows.items t.0) t.1) (nat_eq a.from t.0 && nat_eq a.to t.1) t.4)
-    there y (inr e) = subst (λ (z : Arrow). There z) e last
+module _ (xs : List Arrow) (x : Arrow) (g h : Graph) (end : IsEnd g.count x.to) (p : IsGraphOf xs g) (f : IsFine h) (a : AddsArrow x g h) where
+  last : There h x
+  last = (
+    a.from,
+    a.to,
+    a.from_is,
+    a.to_is,
+    a.rows a.from a.to ∙ right_or (has (row_at g.rows.items a.from) a.to) (nat_eq a.from a.from && nat_eq a.to a.to) (both_of (nat_eq a.from a.from) (nat_eq a.to a.to) (itself a.from) (itself a.to)),
+  )
 
-    Only : ℕ → ℕ → Type 0
-    Only u v = (y : Arrow) × Occurs (xs ++ x ∷ []) y × (number_in h y.from ≡ Some u) × (number_in h y.to ≡ Some v) × (v < length h.rows.items)
+  there_is : (y : Arrow) → Occurs xs y ⊎ (x ≡ y) → There h y
+  there_is y (inl o) =
+      let t = p.there y o in
+      (t.0, t.1, a.numbers y.from t.0 t.2, a.numbers y.to t.1 t.3, a.rows t.0 t.1 ∙ left_or (has (row_at g.rows.items t.0) t.1) (nat_eq a.from t.0 && nat_eq a.to t.1) t.4)
+  there_is y (inr e) = subst (λ (z : Arrow). There h z) e last
 
-    only : (u v : ℕ) → (has (row_at g.rows.items u) v ≡ true) ⊎ ((nat_eq a.from u && nat_eq a.to v) ≡ true) → Only u v
-    only u v (inl e) =
-        let o = p.only u v e in
-        (o.0, occurs_more xs x o.0 o.1, a.numbers o.0.from u o.2, a.numbers o.0.to v o.3, omega (arith, o.4, a.longer))
-    only u v (inr e) =
-        let b = and_parts (nat_eq a.from u) (nat_eq a.to v) e in
-        let from : a.from ≡ u = same a.from u b.0 in
-        let to : a.to ≡ v = same a.to v b.1 in
-        (x, occurs_last xs x, a.from_is ∙ ap Some from, a.to_is ∙ ap Some to, end_number h f x.to v (subst (λ (c : ℕ). IsEnd c x.to) (sym a.count) end) (a.to_is ∙ ap Some to))
+  only_these : (u v : ℕ) → (has (row_at g.rows.items u) v ≡ true) ⊎ ((nat_eq a.from u && nat_eq a.to v) ≡ true) → Only (xs ++ x ∷ []) h u v
+  only_these u v (inl e) =
+      let o = p.only u v e in
+      let l = o.4 in
+      let m = a.longer in
+      (o.0, occurs_more xs x o.0 o.1, a.numbers o.0.from u o.2, a.numbers o.0.to v o.3, omega (arith, l, m))
+  only_these u v (inr e) =
+      let b = and_parts (nat_eq a.from u) (nat_eq a.to v) e in
+      let from : a.from ≡ u = same_number a.from u b.0 in
+      let to : a.to ≡ v = same_number a.to v b.1 in
+      (x, occurs_last xs x, a.from_is ∙ ap Some from, a.to_is ∙ ap Some to, end_number h f x.to v (subst (λ (c : ℕ). IsEnd c x.to) (sym a.count) end) (a.to_is ∙ ap Some to))
+
+  pub one_more : IsGraphOf (xs ++ x ∷ []) h
+  one_more = record {
+    fine = f;
+    there = λ y o. there_is y (occurs_one xs x y o);
+    only = λ u v e. only_these u v (either (has (row_at g.rows.items u) v) (nat_eq a.from u && nat_eq a.to v) (sym (a.rows u v) ∙ e));
+  }
 
 -- ---- the number of an array
 
