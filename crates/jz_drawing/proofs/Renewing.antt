@@ -19,12 +19,12 @@ clash e = absurd (cc e)
 none_some : {A : Type 0} {v : A} {B : Type 0} → None ≡ Some v → B
 none_some e = absurd (cc e)
 
-some_same : {A : Type 0} (a b : A) → Some a ≡ Some b → a ≡ b
-some_same {A} a b e = ap (λ o. or a o) e
-  where
-    or : A → Option A → A
-    or d None = d
-    or d (Some x) = x
+abbrev key_or : Key → Option Key → Key
+key_or d None = d
+key_or d (Some x) = x
+
+some_same : (a b : Key) → Some a ≡ Some b → a ≡ b
+some_same a b e = ap (key_or a) e
 
 cell_itself : (c : Option ℕ) → same_cell c c ≡ true
 cell_itself None = refl

@@ -48,12 +48,12 @@ no_expr (Some d) e = absurd (cc e)
 pub updated_none : (o : Option Expr) (op : BinOp) (e : Expr) (at : Span) (r : Reading) → None ≡ option_map read_of o → r ≡ no_reading → r ≡ all_readings (read_if (updated o op e at))
 updated_none o op e at r h g = g ∙ sym (ap (λ x. all_readings (read_if (updated x op e at))) (no_expr o h))
 
+abbrev reading_or : Reading → Option Reading → Reading
+reading_or d None = d
+reading_or d (Some x) = x
+
 some_same : (a b : Reading) → Some a ≡ Some b → a ≡ b
-some_same a b e = ap (λ (o : Option Reading). or a o) e
-  where
-    or : Reading → Option Reading → Reading
-    or d None = d
-    or d (Some x) = x
+some_same a b e = ap (reading_or a) e
 
 pub updated_some : (o : Option Expr) (op : BinOp) (e : Expr) (at : Span) (first second r : Reading) → Some first ≡ option_map read_of o → second ≡ read_of e → r ≡ operation_reading (divides op) at first second → r ≡ all_readings (read_if (updated o op e at))
 updated_some None op e at first second r h g k = absurd (cc h)

@@ -13,12 +13,12 @@ use Rattle.jz_secrets.specs.InnerGraphs.{has, row_at, whole, number_in, IsFine, 
 clash : {A : Type 0} → true ≡ false → A
 clash e = absurd (cc e)
 
+abbrev number_or : ℕ → Option ℕ → ℕ
+number_or d None = d
+number_or d (Some x) = x
+
 some_same : (a b : ℕ) → Some a ≡ Some b → a ≡ b
-some_same a b e = ap (λ (o : Option ℕ). or a o) e
-  where
-    or : ℕ → Option ℕ → ℕ
-    or d None = d
-    or d (Some x) = x
+some_same a b e = ap (number_or a) e
 
 below_of : (n : ℕ) (v : Vertex) → IsEnd n v → IsBelow n v
 below_of n hidden e = absurd e

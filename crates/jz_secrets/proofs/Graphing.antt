@@ -1,13 +1,16 @@
 -- Arrows as rows of numbers.
-use Rattle.std.proofs.Common.{◌≡◌, ◌⊎◌, inl, inr, ◌<◌, ◌≤◌, ℕ, zero, suc, ◌+◌, Bool, true, false, List, [], ◌∷◌, ◌++◌, length, Option, Some, None, if◌then◌else◌, refl, sym, ap, ◌∙◌, subst, arith, length-append}
+use Rattle.std.proofs.Common.{◌≡◌, ◌⊎◌, inl, inr, ◌<◌, ◌≤◌, ℕ, zero, suc, ◌+◌, Bool, true, false, List, [], ◌∷◌, ◌++◌, length, take, get_or, Option, Some, None, if◌then◌else◌, refl, sym, ap, ◌∙◌, subst, arith, length-append}
 use Rattle.std.specs.Prelude.{◌&&◌, ◌||◌, nat_eq}
 use Rattle.std.proofs.lemmas.Bool.{false≢true, and_parts}
 use Rattle.std.proofs.lemmas.Bool.Decides.{nat_tests}
+use Rattle.std.proofs.lemmas.List.{take_more, take_all, map-append}
 use Rattle.jz_meaning.specs.States.{Key}
 use Rattle.jz_layers.specs.Spots.{Spot, same_spot, put_in, entry_in}
+use Rattle.jz_layers.proofs.TableLemmas.{none_in}
 use Rattle.jz_layers.proofs.SpotLemmas.{same_spot-true, same_spot-refl}
 use Rattle.jz_secrets.specs.declared.graph.Graph.{Graph}
-use Rattle.jz_secrets.specs.Graphs.{Vertex, hidden, drawn, array, Arrow, IsBelow, IsEnd, AreBelow}
+use Rattle.jz_secrets.specs.declared.edge.Edge.{Edge}
+use Rattle.jz_secrets.specs.Graphs.{Vertex, hidden, drawn, array, Arrow, arrow_of, arrows_of, IsBelow, IsEnd, AreBelow}
 use Rattle.jz_secrets.specs.InnerGraphs.{has, row_at, whole, number_in, IsFine, Grows, AddsArrow, Occurs, IsGraphOf}
 use Rattle.jz_secrets.proofs.Rows.{row_more}
 
@@ -46,6 +49,13 @@ occurs_one (z ∷ xs) x y (inr o) = by (occurs_one xs x y o)
     by (inl p) = inl (inr p)
     by (inr e) = inr e
 
+abbrev number_or : ℕ → Option ℕ → ℕ
+number_or d None = d
+number_or d (Some x) = x
+
+some_is : (a b : ℕ) → Some a ≡ Some b → a ≡ b
+some_is a b e = ap (number_or a) e
+
 pub none_begun : (g : Graph) → IsFine g → ((u v : ℕ) → has (row_at g.rows.items u) v ≡ false) → IsGraphOf [] g
 none_begun g f e = record {
   fine = f;
@@ -56,13 +66,6 @@ none_begun g f e = record {
 end_number : (g : Graph) → IsFine g → (v : Vertex) (n : ℕ) → IsEnd g.count v → number_in g v ≡ Some n → n < length g.rows.items
 end_number g f hidden n b e = absurd b
 end_number g f (drawn i) n b e = let x = some_is i n e in let y = f.long in omega (arith, x, y, b.1)
-  where
-    some_is : (a b : ℕ) → Some a ≡ Some b → a ≡ b
-    some_is a b e = ap (λ (o : Option ℕ). or a o) e
-      where
-        or : ℕ → Option ℕ → ℕ
-        or d None = d
-        or d (Some x) = x
 end_number g f (array k) n b e = (f.within k n e).1
 
 same_number : (n m : ℕ) → nat_eq n m ≡ true → n ≡ m
@@ -144,15 +147,8 @@ module _ (g h : Graph) (s : Spot) (n : ℕ) (f : IsFine g) (index : s.index ≡ 
   entry_by : (k : Key) (m : ℕ) → entry_in h.arrays (whole k) ≡ Some m → ((s ≡ whole k) × (m ≡ n)) ⊎ (entry_in g.arrays (whole k) ≡ Some m)
   entry_by k m e = by (same_spot s (whole k)) refl (sym (entry_is k) ∙ e)
     where
-      some_is : (a b : ℕ) → Some a ≡ Some b → b ≡ a
-      some_is a b e = sym (ap (λ (o : Option ℕ). or a o) e)
-        where
-          or : ℕ → Option ℕ → ℕ
-          or d None = d
-          or d (Some x) = x
-
       by : (c : Bool) → same_spot s (whole k) ≡ c → (if c then Some n else entry_in g.arrays (whole k)) ≡ Some m → ((s ≡ whole k) × (m ≡ n)) ⊎ (entry_in g.arrays (whole k) ≡ Some m)
-      by true i h = inl (same_spot-true s (whole k) i, some_is n m h)
+      by true i h = inl (same_spot-true s (whole k) i, sym (some_is n m h))
       by false i h = inr h
 
   pub array_fine : IsFine h
@@ -205,3 +201,39 @@ adds x g h i j from to p q a b c l s r = record {
   to_is = s x.to ∙ b;
   rows = λ u v. r u v ∙ ap (λ z. z || (nat_eq from u && nat_eq to v)) (q.rows u v ∙ p.rows u v);
 }
+
+-- ---- a list of edges, as far as a loop has come
+
+pub begun : (g : Graph) → g.count < length g.rows.items → g.arrays.entries ≡ [] → ((u v : ℕ) → has (row_at g.rows.items u) v ≡ false) → IsGraphOf [] g
+begun g l e f =
+    none_begun g (record {
+      long = l;
+      within = λ k n h. absurd (cc (sym (none k) ∙ h));
+      apart = λ j k n h i. absurd (cc (sym (none j) ∙ h));
+    }) f
+  where
+    none : (k : Key) → entry_in g.arrays (whole k) ≡ None
+    none k = ap (λ (h : Spot → Option ℕ). h (whole k)) (none_in g.arrays e)
+
+pub below_at : (n : ℕ) (xs : List Edge) (i : ℕ) (x : Edge) → i < length xs → x ≡ get_or xs i x → AreBelow n (arrows_of xs) → IsBelow n (arrow_of x).from × IsEnd n (arrow_of x).to
+below_at n [] i x lt is b = absurd (omega (arith, lt))
+below_at n (y ∷ xs) zero x lt is b = subst (λ (z : Edge). IsBelow n (arrow_of z).from × IsEnd n (arrow_of z).to) (sym is) b.0
+below_at n (y ∷ xs) (suc i) x lt is b = let h : i < length xs = omega (arith, lt) in below_at n xs i x h is b.1
+
+arrows_next : (xs : List Edge) (i : ℕ) (x : Edge) → i < length xs → x ≡ get_or xs i x → arrows_of (take (i + 1) xs) ≡ arrows_of (take i xs) ++ arrow_of x ∷ []
+arrows_next xs i x lt is = ap arrows_of (take_more xs i x lt ∙ ap (λ y. take i xs ++ y ∷ []) (sym is)) ∙ map-append arrow_of (take i xs) (x ∷ [])
+
+pub graph_more : (n : ℕ) (xs : List Edge) (i : ℕ) (x : Edge) (g h : Graph) → i < length xs → x ≡ get_or xs i x → AreBelow n (arrows_of xs) → g.count ≡ n → IsGraphOf (arrows_of (take i xs)) g → IsFine h → AddsArrow (arrow_of x) g h
+    → (h.count ≡ n) × IsGraphOf (arrows_of (take (i + 1) xs)) h
+graph_more n xs i x g h lt is b c p f a =
+    let e = subst (λ (m : ℕ). IsEnd m (arrow_of x).to) (sym c) (below_at n xs i x lt is b).1 in
+    (a.count ∙ c, subst (λ (z : List Arrow). IsGraphOf z h) (sym (arrows_next xs i x lt is)) (one_more (arrows_of (take i xs)) (arrow_of x) g h e p f a))
+
+pub graph_all : (xs : List Edge) (i : ℕ) (g : Graph) → length xs ≤ i → IsGraphOf (arrows_of (take i xs)) g → IsGraphOf (arrows_of xs) g
+graph_all xs i g l p = subst (λ (z : List Edge). IsGraphOf (arrows_of z) g) (take_all xs i l) p
+
+-- the number of what is below stands in the rows
+pub number_within : (g : Graph) → IsFine g → (m : ℕ) → g.count ≡ m → (v : Vertex) (n : ℕ) → number_in g v ≡ Some n → IsBelow m v → n < length g.rows.items
+number_within g f m c hidden n e b = let x = some_is g.count n e in let y = f.long in omega (arith, x, y)
+number_within g f m c (drawn i) n e b = let x = some_is i n e in let y = f.long in omega (arith, x, y, b, c)
+number_within g f m c (array k) n e b = (f.within k n e).1

@@ -60,6 +60,8 @@ impl<'a> Graph<'a> {
         ensures fine { OnOk result (IsFine self.new) }
         ensures grows { OnOk result (Grows self.old self.new) }
         ensures number { IfOk result (λ n. number_in self.new (vertex_of node.entry) ≡ Some n) }
+        ensures within { IfOk result (λ n. IsBelow self.old.count (vertex_of node.entry)
+            → n < length self.new.rows.items) }
     {
         match node {
             Node::Secret => Ok(self.count),
