@@ -9,7 +9,10 @@ use jz_tree::{Param, Seq, Stmt};
 use std::alloc::{AllocError, Global};
 
 /// The first that is asked to be public and is not.
-fn first_asked<'a>(secrets: &Secrets<'a>, asked: &[Ask<'a>]) -> Option<Required<'a>> {
+fn first_asked<'a>(secrets: &Secrets<'a>, asked: &[Ask<'a>]) -> Option<Required<'a>>
+    ensures { told result ≡ drawings.first_asked (λ k. public_by secrets.now (array k))
+        (λ i. public_by secrets.now (drawn i)) (map asked_of asked.now) }
+{
     for ask in asked {
         if !secrets.is_public(ask.at) {
             return Some(ask.required);
@@ -35,7 +38,11 @@ pub fn first_breach<'a>(
     Ok(first_asked(&secrets, drawing.sheet.asked.as_slice()))
 }
 
-ghost use Rattle.std.specs.Prelude.{IfOk};
+ghost use Rattle.std.specs.Prelude.{◌≡◌, map, IfOk};
+ghost use Rattle.jz_secrets.specs.Graphs.{array, drawn};
+ghost use Rattle.jz_secrets.specs.Kept.{public_by};
+ghost use Rattle.jz_drawing.specs.Drawings as drawings;
+ghost use Rattle.jz_breaches.specs.Kept.{asked_of};
 ghost use Rattle.jz_labels.specs.ConstantTime.{IsFirstBreach};
 ghost use Rattle.jz_drawing.specs.Drawings.{IsFree};
 ghost use Rattle.jz_breaches.specs.Answers.{plain_block, told};

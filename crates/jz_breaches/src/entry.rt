@@ -38,7 +38,10 @@ fn is_public(notes: &Seq<Note>) -> bool
 
 /// The drawing before the first statement: one label that is secret, which all parameters have that
 /// are not public.
-pub(crate) fn entry<'a>(alloc: Global, params: &'a Seq<Param>) -> Result<Drawing<'a>, AllocError> {
+pub(crate) fn entry<'a>(alloc: Global, params: &'a Seq<Param>) -> Result<Drawing<'a>, AllocError>
+    ensures low { IfOk result IsLow }
+    ensures view { IfOk result (λ d. view_of d ≡ entry_view (at_entry params.now)) }
+{
     let mut table = Table::new(alloc);
     let mut sheet = Sheet::new(alloc);
     let node = fresh(&mut sheet.edges)?;
@@ -51,5 +54,7 @@ pub(crate) fn entry<'a>(alloc: Global, params: &'a Seq<Param>) -> Result<Drawing
     Ok(Drawing { table, sheet })
 }
 
-ghost use Rattle.std.specs.Prelude.{◌≡◌};
-ghost use Rattle.jz_labels.specs.ConstantTime.{is_bare, has_label, is_labelled_public};
+ghost use Rattle.std.specs.Prelude.{◌≡◌, IfOk};
+ghost use Rattle.jz_drawing.specs.Laws.{entry_view};
+ghost use Rattle.jz_breaches.specs.Kept.{view_of, IsLow};
+ghost use Rattle.jz_labels.specs.ConstantTime.{is_bare, has_label, is_labelled_public, at_entry};

@@ -42,11 +42,11 @@ pub(crate) struct Loop<'a> {
 }
 
 /// What has to be public of a condition.
-fn draw_test<'a>(
-    alloc: Global,
-    drawing: &mut Drawing<'a>,
-    cond: &'a Expr,
-) -> Result<(), AllocError> {
+fn draw_test<'a>(alloc: Global, drawing: &mut Drawing<'a>, cond: &'a Expr) -> Result<(), AllocError>
+    ensures table { OnOk result (drawing.new.table ≡ drawing.old.table) }
+    ensures view { OnOk result ((at : Place)
+        → view_of drawing.new ≡ tested (condition_at cond.now at) (view_of drawing.old)) }
+{
     let required = test_demands(alloc, cond)?;
     ask(&mut drawing.sheet.asked, &drawing.table, &required)?;
     Ok(())
@@ -62,6 +62,7 @@ pub(crate) fn draw_block<'a>(
     ensures low { OnOk result (IsLow drawing.new) }
     ensures below { OnOk result
         (drawing.new.table.layers.below.items ≡ drawing.old.table.layers.below.items) }
+    ensures raised { OnOk result (HasRisen drawing.old drawing.new.table.floor) }
     ensures draws { OnOk result (IsBounded (view_of drawing.old)
         → Draws (block no_callees stmts.now) (view_of drawing.old) (view_of drawing.new)) }
 {
@@ -81,6 +82,7 @@ fn draw_statement<'a>(
     ensures low { OnOk result (IsLow drawing.new) }
     ensures below { OnOk result
         (drawing.new.table.layers.below.items ≡ drawing.old.table.layers.below.items) }
+    ensures raised { OnOk result (HasRisen drawing.old drawing.new.table.floor) }
     ensures draws { OnOk result (IsBounded (view_of drawing.old)
         → Draws (statement_tree no_callees stmt.now) (view_of drawing.old)
         (view_of drawing.new)) }
@@ -95,7 +97,15 @@ fn draw_arm<'a>(
     alloc: Global,
     drawing: &mut Drawing<'a>,
     stmts: &'a Seq<Stmt>,
-) -> Result<Arm<'a>, AllocError> {
+) -> Result<Arm<'a>, AllocError>
+    requires { IsLow drawing.old }
+    ensures low { OnOk result (IsLow drawing.new) }
+    ensures back { OnOk result (IsBack drawing.old drawing.new) }
+    ensures raised { IfOk result (λ arm. HasRisen drawing.old arm.floor) }
+    ensures draws { IfOk result (λ arm. IsBounded (view_of drawing.old)
+        → Draws (block no_callees stmts.now) (view_of drawing.old)
+        (view_with (behind_arm arm (seen drawing.old.table.layers)) drawing.new.sheet)) }
+{
     let floor = drawing.table.floor;
     drawing.table.layers.open()?;
     draw_block(alloc, drawing, stmts)?;
@@ -108,7 +118,15 @@ fn draw_turn<'a>(
     alloc: Global,
     drawing: &mut Drawing<'a>,
     body: &'a Option<Seq<Stmt>>,
-) -> Result<(), AllocError> {
+) -> Result<(), AllocError>
+    requires { IsLow drawing.old }
+    ensures low { OnOk result (IsLow drawing.new) }
+    ensures below { OnOk result
+        (drawing.new.table.layers.below.items ≡ drawing.old.table.layers.below.items) }
+    ensures raised { OnOk result (HasRisen drawing.old drawing.new.table.floor) }
+    ensures draws { OnOk result (IsBounded (view_of drawing.old)
+        → Draws (turn_piece body.now) (view_of drawing.old) (view_of drawing.new)) }
+{
     match body {
         None => Ok(()),
         Some(body) => {
@@ -123,7 +141,15 @@ fn draw_loop<'a>(
     alloc: Global,
     drawing: &mut Drawing<'a>,
     parts: Loop<'a>,
-) -> Result<(), AllocError> {
+) -> Result<(), AllocError>
+    requires { IsLow drawing.old }
+    ensures low { OnOk result (IsLow drawing.new) }
+    ensures below { OnOk result
+        (drawing.new.table.layers.below.items ≡ drawing.old.table.layers.below.items) }
+    ensures raised { OnOk result (HasRisen drawing.old drawing.new.table.floor) }
+    ensures draws { OnOk result ((bare : Bool) (at : Place) → IsBounded (view_of drawing.old)
+        → Draws (loop_piece bare parts at) (view_of drawing.old) (view_of drawing.new)) }
+{
     let mut vars = Vec::new(alloc);
     scalars_set(parts.prologue, &mut vars)?;
     match parts.body {
@@ -155,6 +181,7 @@ fn draw_kind<'a>(
     ensures low { OnOk result (IsLow drawing.new) }
     ensures below { OnOk result
         (drawing.new.table.layers.below.items ≡ drawing.old.table.layers.below.items) }
+    ensures raised { OnOk result (HasRisen drawing.old drawing.new.table.floor) }
     ensures draws { OnOk result (IsBounded (view_of drawing.old)
         → Draws (kind_piece kind.now span) (view_of drawing.old) (view_of drawing.new)) }
 {
@@ -195,4 +222,11 @@ fn draw_kind<'a>(
 }
 
 ghost use Rattle.jz_terms.specs.Terms.{term_of};
+ghost use Rattle.std.specs.Prelude.{Bool, IfOk};
+ghost use Rattle.jz_tree.specs.Span.{Span as Place};
+ghost use Rattle.jz_layers.specs.Layered.{seen};
+ghost use Rattle.jz_drawing.specs.Laws.{tested};
+ghost use Rattle.jz_breaches.specs.Kept.{view_with};
 ghost use Rattle.jz_breaches.specs.InnerPieces.{is_truth};
+ghost use Rattle.jz_breaches.specs.InnerMeetings.{behind_arm};
+ghost use Rattle.jz_breaches.specs.InnerLoops.{condition_at, turn_piece, loop_piece, IsBack, HasRisen};
