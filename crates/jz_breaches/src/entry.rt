@@ -55,6 +55,6 @@ pub(crate) fn entry<'a>(alloc: Global, params: &'a Seq<Param>) -> Result<Drawing
 }
 
 ghost use Rattle.std.specs.Prelude.{◌≡◌, IfOk};
-ghost use Rattle.jz_drawing.specs.Laws.{entry_view};
+ghost use Rattle.jz_drawn_bodies.specs.Bodies.{entry_view};
 ghost use Rattle.jz_breaches.specs.Kept.{view_of, IsLow};
 ghost use Rattle.jz_labels.specs.ConstantTime.{is_bare, has_label, is_labelled_public, at_entry};

@@ -225,7 +225,7 @@ ghost use Rattle.jz_terms.specs.Terms.{term_of};
 ghost use Rattle.std.specs.Prelude.{Bool, IfOk};
 ghost use Rattle.jz_tree.specs.Span.{Span as Place};
 ghost use Rattle.jz_layers.specs.Layered.{seen};
-ghost use Rattle.jz_drawing.specs.Laws.{tested};
+ghost use Rattle.jz_drawn_bodies.specs.Bodies.{tested};
 ghost use Rattle.jz_breaches.specs.Kept.{view_with};
 ghost use Rattle.jz_breaches.specs.InnerPieces.{is_truth};
 ghost use Rattle.jz_breaches.specs.InnerMeetings.{behind_arm};

@@ -1,8 +1,9 @@
 -- What is drawn of pieces one after another.
 use Rattle.std.proofs.Common.{◌≡◌, ◌<◌, ◌≤◌, ℕ, suc, Bool, true, false, List, [], ◌∷◌, ◌++◌, length, Option, Some, None, refl, sym, ap, ◌∙◌, subst, arith, append_assoc, append-nil}
 use Rattle.jz_meaning.specs.States.{Key}
-use Rattle.jz_meaning.specs.Statements.{Operation, Block}
-use Rattle.jz_runs.specs.Trees.{quiet}
+use Rattle.jz_tree.specs.Span.{Span}
+use Rattle.jz_meaning.specs.Statements.{Operation, meaningless, Counter, Block}
+use Rattle.jz_runs.specs.Trees.{op, quiet, each}
 use Rattle.jz_flow.specs.Sets.{Below}
 use Rattle.jz_flow.specs.Flow.{After}
 use Rattle.jz_flow.specs.Alarms.{FirstOf, First, Meets, no_more}
@@ -112,3 +113,39 @@ module _ (f g : Block → Block) (v w x : View) (d : Draws f v w) (e : Draws g w
     along = along_both;
     told = told_both;
   }
+
+-- what typing excludes changes no label
+pub meaningless_drawn : (at : Span) (v : View) → Draws (op (meaningless at)) v v
+meaningless_drawn at v = record {
+  free = λ r w. w.1;
+  longer = omega (arith);
+  earlier = λ a t l. l;
+  asked = [];
+  asked_are = sym (append-nil v.asked);
+  bounded = λ b. b;
+  along = λ a t s l b. record { behind = s; below = b; meets = λ r x w m. (refl, m); spares = λ r k w e. (e, λ h. h) };
+  told = λ a t r s0 x0 b l u m. record {
+    labels = t;
+    agrees = λ i h. refl;
+    labelling = l;
+    after = λ x h. h;
+    first = λ w h. h;
+    kept = s0;
+    less = u;
+    meets = m.1;
+    most = λ c w i j h. h;
+  };
+}
+
+-- no `for` stands in it
+pub each_drawn : (k : Counter) (b : Block) (v : View) → Draws (each k b) v v
+each_drawn k b v = record {
+  free = λ r w. absurd w;
+  longer = omega (arith);
+  earlier = λ a t l. l;
+  asked = [];
+  asked_are = sym (append-nil v.asked);
+  bounded = λ b. b;
+  along = λ a t s l b. record { behind = s; below = b; meets = λ r x w m. absurd w; spares = λ r k w e. absurd w };
+  told = λ a t r s0 x0 b l u m. absurd m;
+}

@@ -4,7 +4,4 @@
 
 mod laws;
 
-pub use laws::{
-    arms_are_drawn, first_asked_is_first_breach, labels_are_renewed, loops_are_drawn,
-    operations_are_drawn, pieces_are_drawn,
-};
+pub use laws::{labels_are_renewed, operations_are_drawn, pieces_are_drawn};

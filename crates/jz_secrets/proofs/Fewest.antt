@@ -2,7 +2,7 @@
 use Rattle.std.proofs.Common.{◌≡◌, ◌⊎◌, inl, inr, ◌<◌, ◌≤◌, ℕ, zero, suc, Bool, true, false, not, List, [], ◌∷◌, Option, Some, None, refl, sym, ap, ◌∙◌, subst, arith}
 use Rattle.std.proofs.lemmas.Bool.{false≢true}
 use Rattle.jz_meaning.specs.States.{Key}
-use Rattle.jz_layers.specs.Spots.{entry_in}
+use Rattle.jz_layers.specs.Spots.{Spot, entry_in}
 use Rattle.jz_labels.specs.Labels.{Publics}
 use Rattle.jz_secrets.specs.declared.graph.Graph.{Graph}
 use Rattle.jz_secrets.specs.declared.secrets.Secrets.{Secrets}
@@ -141,3 +141,18 @@ module _ (xs : List Arrow) (g : Graph) (graph : IsGraphOf xs g) (below : AreBelo
       };
       most = most_public;
     }
+
+-- of a graph that has so many drawn labels
+pub fewest_of : (n : ℕ) (xs : List Arrow) (g : Graph) → g.count ≡ n → IsGraphOf xs g → AreBelow n xs → 0 < n → (marked : List Bool) → AreReached g.rows.items g.count marked → (s : Secrets) → s.marked.items ≡ marked
+    → ((k : Key) → entry_in s.arrays (whole k) ≡ entry_in g.arrays (whole k)) → AreFewest n xs (public_by s)
+fewest_of n xs g c graph below some marked reach s is same =
+    let b : AreBelow g.count xs = subst (λ (m : ℕ). AreBelow m xs) (sym c) below in
+    let p : 0 < g.count = subst (λ (m : ℕ). 0 < m) (sym c) some in
+    subst (λ (m : ℕ). AreFewest m xs (public_by s)) c (fewest xs g graph b p marked reach s is same)
+
+-- whether a label is public
+pub no_number : (s : Secrets) (q : Spot) (k : Key) → q ≡ whole k → None ≡ entry_in s.arrays q → true ≡ public_by s (array k)
+no_number s q k e h = ap (unless_marked s.marked.items) (h ∙ ap (λ (x : Spot). entry_in s.arrays x) e)
+
+pub its_number : (s : Secrets) (q : Spot) (k : Key) (n : ℕ) (b : Bool) → q ≡ whole k → Some n ≡ entry_in s.arrays q → b ≡ marked_at s.marked.items n → not b ≡ public_by s (array k)
+its_number s q k n b e h m = ap not m ∙ ap (unless_marked s.marked.items) (h ∙ ap (λ (x : Spot). entry_in s.arrays x) e)

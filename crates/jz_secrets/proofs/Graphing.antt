@@ -1,6 +1,6 @@
 -- Arrows as rows of numbers.
 use Rattle.std.proofs.Common.{◌≡◌, ◌⊎◌, inl, inr, ◌<◌, ◌≤◌, ℕ, zero, suc, ◌+◌, Bool, true, false, List, [], ◌∷◌, ◌++◌, length, take, get_or, Option, Some, None, if◌then◌else◌, refl, sym, ap, ◌∙◌, subst, arith, length-append}
-use Rattle.std.specs.Prelude.{◌&&◌, ◌||◌, nat_eq}
+use Rattle.std.specs.Prelude.{◌&&◌, ◌||◌, nat_eq, slice_set}
 use Rattle.std.proofs.lemmas.Bool.{false≢true, and_parts}
 use Rattle.std.proofs.lemmas.Bool.Decides.{nat_tests}
 use Rattle.std.proofs.lemmas.List.{take_more, take_all, map-append}
@@ -12,7 +12,7 @@ use Rattle.jz_secrets.specs.declared.graph.Graph.{Graph}
 use Rattle.jz_secrets.specs.declared.edge.Edge.{Edge}
 use Rattle.jz_secrets.specs.Graphs.{Vertex, hidden, drawn, array, Arrow, arrow_of, arrows_of, IsBelow, IsEnd, AreBelow}
 use Rattle.jz_secrets.specs.InnerGraphs.{has, row_at, whole, number_in, IsFine, Grows, AddsArrow, Occurs, IsGraphOf}
-use Rattle.jz_secrets.proofs.Rows.{row_more}
+use Rattle.jz_secrets.proofs.Rows.{row_more, row_longer, rows_long}
 
 either : (a b : Bool) → (a || b) ≡ true → (a ≡ true) ⊎ (b ≡ true)
 either true b e = inl refl
@@ -185,6 +185,19 @@ module _ (g h : Graph) (s : Spot) (n : ℕ) (f : IsFine g) (index : s.index ≡ 
   pub array_number : entry_in h.arrays s ≡ Some n
   array_number = ap (λ (e : Spot → Option ℕ). e s) arrays ∙ ap (λ (c : Bool). if c then Some n else entry_in g.arrays s) (same_spot-refl s)
 
+pub array_added : (g h : Graph) (s : Spot) (k : Key) (n : ℕ) → IsFine g → s ≡ whole k → h.count ≡ g.count → h.rows.items ≡ g.rows.items ++ [] ∷ [] → entry_in h.arrays ≡ put_in (entry_in g.arrays) s n → None ≡ entry_in g.arrays s → n ≡ length g.rows.items
+    → IsFine h × Grows g h × (number_in h (array k) ≡ Some n)
+array_added g h s k n f e c r a none at =
+    let i : s.index ≡ None = ap (λ (x : Spot). x.index) e in (
+      array_fine g h s n f i c r a (sym none) at,
+      array_grows g h s n f i c r a (sym none) at,
+      ap (λ (x : Spot). entry_in h.arrays x) (sym e) ∙ array_number g h s n f i c r a (sym none) at,
+    )
+
+-- it has one
+pub array_had : (g : Graph) (s : Spot) (k : Key) (n : ℕ) → s ≡ whole k → Some n ≡ entry_in g.arrays s → number_in g (array k) ≡ Some n
+array_had g s k n e h = ap (λ (x : Spot). entry_in g.arrays x) (sym e) ∙ sym h
+
 pub stays_fine : (g : Graph) → Grows g g
 stays_fine g = record { count = refl; longer = omega (arith); numbers = λ v n e. e; rows = λ u v. refl }
 
@@ -201,6 +214,30 @@ adds x g h i j from to p q a b c l s r = record {
   to_is = s x.to ∙ b;
   rows = λ u v. r u v ∙ ap (λ z. z || (nat_eq from u && nat_eq to v)) (q.rows u v ∙ p.rows u v);
 }
+
+same_numbers : (i j : Graph) → j.count ≡ i.count → j.arrays ≡ i.arrays → (v : Vertex) → number_in j v ≡ number_in i v
+same_numbers i j c a hidden = ap Some c
+same_numbers i j c a (drawn n) = refl
+same_numbers i j c a (array k) = ap (λ m. entry_in m (whole k)) a
+
+same_fine : (i j : Graph) → IsFine i → j.count ≡ i.count → length j.rows.items ≡ length i.rows.items → j.arrays ≡ i.arrays → IsFine j
+same_fine i j f c l a = record {
+  long = let x = f.long in omega (arith, x, c, l);
+  within = λ k n e. let p = f.within k n (back k n e) in (omega (arith, p.0, c), omega (arith, p.1, l));
+  apart = λ p q n e h. f.apart p q n (back p n e) (back q n h);
+}
+  where
+    back : (k : Key) (n : ℕ) → entry_in j.arrays (whole k) ≡ Some n → entry_in i.arrays (whole k) ≡ Some n
+    back k n e = ap (λ m. entry_in m (whole k)) (sym a) ∙ e
+
+pub edge_added : (x : Arrow) (g h i j : Graph) (from to : ℕ) (row new : List ℕ) → Grows g h → Grows h i → IsFine i → number_in h x.from ≡ Some from → number_in i x.to ≡ Some to → j.count ≡ i.count → j.arrays ≡ i.arrays → from < length i.rows.items
+    → row ≡ get_or i.rows.items from row → new ≡ row ++ to ∷ [] → j.rows.items ≡ slice_set i.rows.items from new → IsFine j × AddsArrow x g j
+edge_added x g h i j from to row new p q f a b c m l e n r =
+    let k : j.rows.items ≡ slice_set i.rows.items from (row ++ to ∷ []) = r ∙ ap (slice_set i.rows.items from) n in
+    let long : length j.rows.items ≡ length i.rows.items = ap length k ∙ rows_long i.rows.items from (row ++ to ∷ []) in (
+      same_fine i j f c long m,
+      adds x g h i j from to p q a b c long (same_numbers i j c m) (λ u v. ap (λ (z : List (List ℕ)). has (row_at z u) v) k ∙ row_longer i.rows.items from to row l e u v),
+    )
 
 -- ---- a list of edges, as far as a loop has come
 
@@ -237,3 +274,10 @@ pub number_within : (g : Graph) → IsFine g → (m : ℕ) → g.count ≡ m →
 number_within g f m c hidden n e b = let x = some_is g.count n e in let y = f.long in omega (arith, x, y)
 number_within g f m c (drawn i) n e b = let x = some_is i n e in let y = f.long in omega (arith, x, y, b, c)
 number_within g f m c (array k) n e b = (f.within k n e).1
+
+-- and those behind it, which have more rows
+pub number_behind : (g h i : Graph) (m : ℕ) (v : Vertex) (n : ℕ) → IsFine h → Grows g h → Grows h i → g.count ≡ m → number_in h v ≡ Some n → IsBelow m v → n < length i.rows.items
+number_behind g h i m v n f p q c e b =
+    let x = number_within h f m (p.count ∙ c) v n e b in
+    let y = q.longer in
+    omega (arith, x, y)

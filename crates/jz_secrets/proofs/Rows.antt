@@ -1,8 +1,8 @@
 -- Rows of numbers, and marks.
-use Rattle.std.proofs.Common.{◌≡◌, ◌⊎◌, inl, inr, ◌<◌, ◌≤◌, ℕ, zero, suc, ◌+◌, Bool, true, false, not, List, [], ◌∷◌, ◌++◌, length, take, get_or, refl, sym, ap, ◌∙◌, subst, arith}
+use Rattle.std.proofs.Common.{◌≡◌, ◌⊎◌, inl, inr, ◌<◌, ◌≤◌, ℕ, zero, suc, ◌+◌, Bool, true, false, not, List, [], ◌∷◌, ◌++◌, length, take, replicate, get_or, refl, sym, ap, ◌∙◌, subst, arith, length-append}
 use Rattle.std.specs.Prelude.{◌&&◌, ◌||◌, nat_eq, slice_set}
 use Rattle.std.proofs.lemmas.Bool.{false≢true}
-use Rattle.std.proofs.lemmas.List.{take_more, take_all}
+use Rattle.std.proofs.lemmas.List.{take_more, take_all, get_or_default}
 use Rattle.std.proofs.lemmas.Bool.Decides.{nat_tests}
 use Rattle.jz_secrets.specs.Kept.{marked_at}
 use Rattle.jz_secrets.specs.InnerGraphs.{has, row_at, unmarked, MarksRow, Path, here, on, AreReached}
@@ -259,11 +259,28 @@ module _ (rows : List (List ℕ)) (start : ℕ) (within : (u v : ℕ) → has (r
       is_below n (inl h) = r.below n (had n h)
       is_below n (inr h) = within x n h
 
-  pub all_reached : (ms : List Bool) → Reaching rows start ms [] → AreReached rows start ms
-  all_reached ms r = record {
+  x_there : (left rest : List ℕ) (x : ℕ) → left ≡ rest ++ x ∷ [] → has left x ≡ true
+  x_there left rest x e = ap (λ z. has z x) e ∙ has_right rest (x ∷ []) x (that_one x)
+
+  pub popped_below : (ms : List Bool) (left rest : List ℕ) (x : ℕ) → left ≡ rest ++ x ∷ [] → Reaching rows start ms left → x < length rows
+  popped_below ms left rest x e r = r.below x (x_there left rest x e)
+
+  pub row_within : (ms : List Bool) (left rest : List ℕ) (x : ℕ) (row : List ℕ) → left ≡ rest ++ x ∷ [] → row ≡ get_or rows x row → Reaching rows start ms left → (n : ℕ) → has row n ≡ true → n < length ms
+  row_within ms left rest x row e is r n h =
+      let row_is : row ≡ row_at rows x = is ∙ get_or_default rows x row [] (popped_below ms left rest x e r) in
+      let below : n < length rows = within x n (ap (λ z. has z n) (sym row_is) ∙ h) in
+      let long = r.long in
+      omega (arith, below, long)
+
+  pub gone_on : (ms new : List Bool) (left rest behind : List ℕ) (x : ℕ) (row : List ℕ) → left ≡ rest ++ x ∷ [] → row ≡ get_or rows x row → Reaching rows start ms left → MarksRow row ms new rest behind → Reaching rows start new behind
+  gone_on ms new left rest behind x row e is r m =
+      next_reached ms new left rest behind x e r (subst (λ (z : List ℕ). MarksRow z ms new rest behind) (is ∙ get_or_default rows x row [] (popped_below ms left rest x e r)) m)
+
+  pub all_reached : (ms : List Bool) (left : List ℕ) → left ≡ [] → Reaching rows start ms left → AreReached rows start ms
+  all_reached ms left e s = let r = subst (λ (z : List ℕ). Reaching rows start ms z) e s in record {
     long = r.long;
     begun = r.begun;
-    closed = λ u v e h. by u v (r.open_ones u v e h);
+    closed = λ u v g h. by u v (r.open_ones u v g h);
     forced = r.paths;
   }
     where
@@ -300,3 +317,86 @@ pub row_has : (row : List ℕ) (i x : ℕ) → i < length row → x ≡ get_or r
 row_has [] i x lt is = absurd (omega (arith, lt))
 row_has (y ∷ row) zero x lt is = left_or (nat_eq y x) (has row x) (subst (λ (z : ℕ). nat_eq y z ≡ true) (sym is) (itself y))
 row_has (y ∷ row) (suc i) x lt is = let h : i < length row = omega (arith, lt) in right_or (nat_eq y x) (has row x) (row_has row i x h is)
+
+-- ---- one number
+
+pub marks_again : (x : ℕ) (ms : List Bool) (left : List ℕ) (r : Bool) → x < length ms → r ≡ get_or ms x r → r ≡ true → MarksRow (x ∷ []) ms ms left left
+marks_again x ms left r l p e = marked_before x ms left (sym (p ∙ get_or_default ms x r false l) ∙ e)
+
+pub fewer_now : (x : ℕ) (ms new : List Bool) (left behind : List ℕ) (r : Bool) → x < length ms → r ≡ get_or ms x r → r ≡ false → new ≡ slice_set ms x true → behind ≡ left ++ x ∷ []
+    → unmarked new + length behind ≡ unmarked ms + length left
+fewer_now x ms new left behind r l p e q b =
+    let one : suc (unmarked (slice_set ms x true)) ≡ unmarked ms = set_fewer ms x l (sym (p ∙ get_or_default ms x r false l) ∙ e) in
+    let same : unmarked new ≡ unmarked (slice_set ms x true) = ap unmarked q in
+    let longer : length behind ≡ length left + 1 = ap length b ∙ length-append left (x ∷ []) in
+    omega (arith, one, same, longer)
+
+-- ---- before the first, and behind one that is taken
+
+pub replicated : (count : ℕ) → length (replicate count false) ≡ count
+replicated zero = refl
+replicated (suc count) = ap suc (replicated count)
+
+pub fewer_left : (ms new : List Bool) (left rest behind : List ℕ) (x : ℕ) → left ≡ rest ++ x ∷ [] → unmarked new + length behind ≡ unmarked ms + length rest → unmarked new + length behind < unmarked ms + length left
+fewer_left ms new left rest behind x e f =
+    let longer : length left ≡ length rest + 1 = ap length e ∙ length-append rest (x ∷ []) in omega (arith, longer, f)
+
+pub none_is : (count n : ℕ) → marked_at (replicate count false) n ≡ false
+none_is zero n = refl
+none_is (suc count) zero = refl
+none_is (suc count) (suc n) = none_is count n
+
+pub first_row : (u v : ℕ) → has (row_at ([] ∷ []) u) v ≡ false
+first_row zero v = refl
+first_row (suc u) v = refl
+
+pub row_pushed : (rows new : List (List ℕ)) (row : List ℕ) → new ≡ rows ++ row ∷ [] → row ≡ [] → ((u v : ℕ) → has (row_at rows u) v ≡ false) → (u v : ℕ) → has (row_at new u) v ≡ false
+row_pushed rows new row e f h u v =
+    ap (λ (z : List (List ℕ)). has (row_at z u) v) (e ∙ ap (λ (r : List ℕ). rows ++ r ∷ []) f) ∙ row_more rows u v ∙ h u v
+
+-- ---- a row that is longer
+
+or_false : (b : Bool) → (b || false) ≡ b
+or_false true = refl
+or_false false = refl
+
+not_same : (i n : ℕ) → (i ≡ n → ⊥) → nat_eq i n ≡ false
+not_same i n f = by (nat_eq i n) refl
+  where
+    by : (c : Bool) → nat_eq i n ≡ c → c ≡ false
+    by true e = absurd (f (grind (arith, nat_tests, e)))
+    by false e = refl
+
+same_row : (rows : List (List ℕ)) (i : ℕ) (x : List ℕ) → i < length rows → row_at (slice_set rows i x) i ≡ x
+same_row [] i x l = absurd (omega (arith, l))
+same_row (r ∷ rows) zero x l = refl
+same_row (r ∷ rows) (suc i) x l = let h : i < length rows = omega (arith, l) in same_row rows i x h
+
+other_row : (rows : List (List ℕ)) (i u : ℕ) (x : List ℕ) → (i ≡ u → ⊥) → row_at (slice_set rows i x) u ≡ row_at rows u
+other_row [] i u x f = refl
+other_row (r ∷ rows) zero zero x f = absurd (f refl)
+other_row (r ∷ rows) zero (suc u) x f = refl
+other_row (r ∷ rows) (suc i) zero x f = refl
+other_row (r ∷ rows) (suc i) (suc u) x f = other_row rows i u x (λ e. f (ap suc e))
+
+pub rows_long : (rows : List (List ℕ)) (i : ℕ) (x : List ℕ) → length (slice_set rows i x) ≡ length rows
+rows_long [] i x = refl
+rows_long (r ∷ rows) zero x = refl
+rows_long (r ∷ rows) (suc i) x = ap suc (rows_long rows i x)
+
+pub row_longer : (rows : List (List ℕ)) (i to : ℕ) (row : List ℕ) → i < length rows → row ≡ get_or rows i row → (u v : ℕ) → has (row_at (slice_set rows i (row ++ to ∷ [])) u) v ≡ (has (row_at rows u) v || (nat_eq i u && nat_eq to v))
+row_longer rows i to row l e u v = by (same_or_not i u)
+  where
+    by : (i ≡ u) ⊎ (i ≡ u → ⊥) → has (row_at (slice_set rows i (row ++ to ∷ [])) u) v ≡ (has (row_at rows u) v || (nat_eq i u && nat_eq to v))
+    by (inl h) =
+        ap (λ (j : ℕ). has (row_at (slice_set rows i (row ++ to ∷ [])) j) v) (sym h)
+        ∙ ap (λ (z : List ℕ). has z v) (same_row rows i (row ++ to ∷ []) l)
+        ∙ has_both row (to ∷ []) v
+        ∙ ap (λ (b : Bool). has row v || b) (or_false (nat_eq to v))
+        ∙ ap (λ (z : List ℕ). has z v || nat_eq to v) (e ∙ get_or_default rows i row [] l)
+        ∙ ap (λ (b : Bool). has (row_at rows i) v || (b && nat_eq to v)) (sym (itself i))
+        ∙ ap (λ (j : ℕ). has (row_at rows j) v || (nat_eq i j && nat_eq to v)) h
+    by (inr f) =
+        ap (λ (z : List ℕ). has z v) (other_row rows i u (row ++ to ∷ []) f)
+        ∙ sym (or_false (has (row_at rows u) v))
+        ∙ ap (λ (b : Bool). has (row_at rows u) v || (b && nat_eq to v)) (sym (not_same i u f))

@@ -1,7 +1,8 @@
 //! Edges by the numbers of where they begin.
 
-ghost use Rattle.std.specs.Prelude.{◌≡◌, ◌<◌, Some, IfOk, OnOk, length};
-ghost use Rattle.jz_secrets.specs.Graphs.{vertex_of, arrow_of, arrows_of, IsBelow, AreBelow};
+ghost use Rattle.std.specs.Prelude.{◌≡◌, ◌<◌, ℕ, false, Some, IfOk, OnOk, length};
+ghost use Rattle.jz_layers.specs.Spots.{variable_key};
+ghost use Rattle.jz_secrets.specs.Graphs.{array, vertex_of, arrow_of, arrows_of, IsBelow, AreBelow};
 ghost use Rattle.jz_secrets.specs.InnerGraphs.{number_in, has, row_at};
 ghost use Rattle.jz_secrets.specs.InnerGraphs.{IsFine, Grows, AddsArrow, IsGraphOf};
 
@@ -60,8 +61,6 @@ impl<'a> Graph<'a> {
         ensures fine { OnOk result (IsFine self.new) }
         ensures grows { OnOk result (Grows self.old self.new) }
         ensures number { IfOk result (λ n. number_in self.new (vertex_of node.entry) ≡ Some n) }
-        ensures within { IfOk result (λ n. IsBelow self.old.count (vertex_of node.entry)
-            → n < length self.new.rows.items) }
     {
         match node {
             Node::Secret => Ok(self.count),
@@ -96,9 +95,10 @@ pub(crate) fn graph_of<'a>(
     ensures count { IfOk result (λ g. g.count ≡ count) }
     ensures graph { IfOk result (IsGraphOf (arrows_of edges.now)) }
 {
+    let rows = empty_rows(alloc, count)?;
     let mut graph = Graph {
         count,
-        rows: empty_rows(alloc, count)?,
+        rows,
         arrays: IndexMap::new(alloc),
     };
     for edge in edges {
@@ -106,7 +106,3 @@ pub(crate) fn graph_of<'a>(
     }
     Ok(graph)
 }
-
-ghost use Rattle.std.specs.Prelude.{ℕ, false};
-ghost use Rattle.jz_layers.specs.Spots.{variable_key};
-ghost use Rattle.jz_secrets.specs.Graphs.{array};

@@ -1,7 +1,7 @@
 //! What is reached from a number along rows.
 
-ghost use Rattle.std.specs.Prelude.{◌≡◌, ◌<◌, ◌+◌, ℕ, true, IfOk, OnOk, length};
-ghost use Rattle.jz_secrets.specs.Kept.{marked_at};
+ghost use Rattle.std.specs.Prelude.{◌≡◌, ◌<◌, ◌+◌, ℕ, true, false, [], ◌∷◌, IfOk, OnOk};
+ghost use Rattle.std.specs.Prelude.{length, replicate};
 ghost use Rattle.jz_secrets.specs.InnerGraphs.{has, row_at, unmarked, MarksRow, AreReached};
 
 use jz_tree::Seq;
@@ -42,14 +42,9 @@ fn mark(number: usize, marked: &mut Vec<bool>, left: &mut Vec<usize>) -> Result<
 }
 
 fn none_marked(alloc: Global, count: usize) -> Result<Vec<bool>, AllocError>
-    ensures long { IfOk result (λ ms. length ms.items ≡ count) }
-    ensures none { IfOk result (λ ms. (n : ℕ) → marked_at ms.items n ≡ false) }
+    ensures { IfOk result (λ marked. marked.items ≡ replicate count false) }
 {
-    let mut marked = Vec::new(alloc);
-    for number in 0..count {
-        let _ = number;
-        marked.push(false)?;
-    }
+    let marked = vec![in alloc; false; count]?;
     Ok(marked)
 }
 
@@ -71,5 +66,3 @@ pub(crate) fn reached(
     }
     Ok(marked)
 }
-
-ghost use Rattle.std.specs.Prelude.{false, [], ◌∷◌};

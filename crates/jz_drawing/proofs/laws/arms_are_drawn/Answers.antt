@@ -1,5 +1,0 @@
-use Rattle.jz_drawing.proofs.Choosing.{choice_drawn}
-use Rattle.jz_drawing.proofs.laws.arms_are_drawn.Goals as goal
-
-pub returns : goal.returns
-returns c = λ q f g v va vb vc base n da db re e. choice_drawn q f g v va vb vc base n da db re e.is e.same

@@ -1,7 +1,0 @@
-use Rattle.std.proofs.Common.{refl}
-use Rattle.jz_drawing.specs.Laws.{with_nodes}
-use Rattle.jz_drawing.proofs.Looping.{loop_drawn}
-use Rattle.jz_drawing.proofs.laws.loops_are_drawn.Goals as goal
-
-pub returns : goal.returns
-returns c = λ w q f g v vh vp vb ve out n re dp db back l s. loop_drawn w q f g v vh vp vb ve (with_nodes out ve) out n re dp db back refl l.is l.same s

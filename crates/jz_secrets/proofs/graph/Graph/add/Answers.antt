@@ -1,0 +1,9 @@
+use Rattle.std.proofs.Common.{refl}
+use Rattle.jz_secrets.specs.Graphs.{arrow_of}
+use Rattle.jz_secrets.proofs.Graphing.{edge_added, number_behind}
+use Rattle.jz_secrets.proofs.graph.Graph.add.Goals as goal
+
+pub index_mut-requires : goal.index_mut-requires
+index_mut-requires c =
+    number_behind c.args.self.now c.number.new.self c.number-2.new.self c.args.self.now.count (arrow_of c.args.edge).from c.in_ok-from.from c.in_ok-from.ensures.fine c.in_ok-from.ensures.grows c.in_ok-to.ensures.grows refl
+    c.in_ok-from.ensures.number c.requires.below
