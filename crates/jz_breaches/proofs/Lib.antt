@@ -1,3 +1,11 @@
-pub mod Heads
-pub mod Tables
+pub mod LoopHeads
+pub mod Split
+pub mod SetScalars
+pub mod Forms
 pub mod Meets
+pub mod MeetingLabels
+pub mod BehindArms
+pub mod LaidOver
+pub mod Blocks
+pub mod Choices
+pub mod Loops

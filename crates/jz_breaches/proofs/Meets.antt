@@ -10,11 +10,11 @@ use Rattle.jz_layers.specs.Spots.{Spot, same_spot, put_in, entry_in, over, or_be
 use Rattle.jz_layers.proofs.SpotLemmas.{same_spot-true}
 use Rattle.jz_drawing.specs.Drawings.{View, next, put_node, IsBounded}
 use Rattle.jz_drawing.specs.Draws.{Renews}
-use Rattle.jz_drawing.specs.Laws.{renewed_at}
+use Rattle.jz_drawing.specs.Laws.{source_arrows, renewed_at}
 use Rattle.jz_drawing.proofs.Renewing.{nothing_renewed, one_renewed}
-use Rattle.jz_breaches.specs.Kept.{standing, whole, nodes_by}
-use Rattle.jz_breaches.specs.InnerPieces.{arm_nodes, two, Meeting}
-use Rattle.jz_breaches.proofs.Tables.{spot_key}
+use Rattle.jz_drawn_labels.specs.Kept.{standing, whole, nodes_by}
+use Rattle.jz_drawn_labels.proofs.Tables.{spot_key}
+use Rattle.jz_breaches.specs.InnerMeetings.{two, Meeting}
 
 either : (a b : Bool) → (a || b) ≡ true → (a ≡ true) ⊎ (b ≡ true)
 either true b e = inl refl
@@ -90,13 +90,6 @@ module _ (a b : Key → ℕ) (start : View) (before : Spot → Option ℕ) where
             right true d i = refl
             right false d i = i
 
--- ---- behind both arms
-
--- neither table has it: each arm goes on with what was before, or has died
-module _ {S : Type 0} (f : Spot → Option ℕ) (m : IndexMap Named ℕ S) (k : Key) where
-  pub unset_arm : (floor : ℕ) → is_some (entry_in m (whole k)) ≡ false → arm_nodes floor m f k ≡ nodes_by floor f k
-  unset_arm floor e = ap (λ (o : Option ℕ). standing floor (or_below o (f (whole k)))) (no_entry (entry_in m (whole k)) e)
-    where
-      no_entry : (o : Option ℕ) → is_some o ≡ false → o ≡ None
-      no_entry None h = refl
-      no_entry (Some x) h = absurd (false≢true (sym h))
+    -- fewer of which it is said
+    pub given_less : (fewer : Key → Bool) → ((k : Key) → fewer k ≡ true → given k ≡ true) → Meeting a b start before w now fewer
+    given_less fewer f = record { is_new = m.is_new; renews = m.renews; stays = m.stays; given_is = λ k h. m.given_is k (f k h) }

@@ -1,21 +1,37 @@
 -- Where the arms of the code meet.
-use Rattle.std.specs.Prelude.{◌≡◌, ◌⊎◌, ℕ, Bool, true, false, ◌&&◌, ◌||◌, is_some, Option}
-use Rattle.indexmap.specs.IndexMap.{IndexMap}
-use Rattle.jz_meaning.specs.States.{Key, same_key}
-use Rattle.jz_layers.specs.Spots.{Spot, same_spot, entry_in}
+use Rattle.std.specs.Prelude.{◌≡◌, ◌⊎◌, ℕ, ◌==◌, Bool, true, false, ◌&&◌, ◌||◌, List, [], ◌∷◌, Option, if◌then◌else◌}
+use Rattle.jz_meaning.specs.States.{Key}
+use Rattle.jz_layers.specs.Spots.{Spot, over}
 use Rattle.jz_layers.specs.Layered.{seen}
-use Rattle.jz_layers.specs.declared.named.Named.{Named}
-use Rattle.jz_breaches.specs.declared.arms.Arm.{Arm}
-use Rattle.jz_breaches.specs.declared.arms.Arms.{Arms}
-use Rattle.jz_breaches.specs.declared.drawing.Drawing.{Drawing}
 use Rattle.jz_drawing.specs.Drawings.{View, next, IsBounded}
 use Rattle.jz_drawing.specs.Draws.{Renews}
-use Rattle.jz_breaches.specs.Kept.{view_of, view_with, nodes_of, nodes_by, whole}
-use Rattle.jz_breaches.specs.InnerPieces.{arm_nodes, two, Meeting}
+use Rattle.jz_drawn_labels.specs.declared.drawing.Drawing.{Drawing}
+use Rattle.jz_drawn_labels.specs.Kept.{view_of, view_with, nodes_of, nodes_by, whole, IsLow}
+use Rattle.jz_drawn_labels.specs.Drew.{HasRisen}
+use Rattle.jz_breaches.specs.declared.arms.Arm.{Arm}
 
 -- labels behind an arm, over what was there
 abbrev pub behind_arm : Arm → (Spot → Option ℕ) → Key → ℕ
-behind_arm x f = arm_nodes x.floor x.layer f
+behind_arm x f = nodes_by x.floor (over x.layer f)
+
+abbrev pub two : (Key → ℕ) → (Key → ℕ) → Key → List ℕ
+two a b k = a k ∷ b k ∷ []
+
+abbrev pub met_floor : ℕ → ℕ → ℕ → ℕ → ℕ
+met_floor f a b start = if a == f then f else (if b == f then f else start)
+
+-- no path goes on behind an arm, or no label before it has fallen
+abbrev pub HasEnded : Arm → Drawing → Type 0
+HasEnded a d =
+    (a.floor ≡ d.table.floor) ⊎ ((k : Key) → nodes_by a.floor (seen d.table.layers) k ≡ 0)
+
+-- of the tables of arms these scalars have been given labels
+pub record Meeting (a b : Key → ℕ) (start : View) (before : Spot → Option ℕ) (new : View)
+    (behind : Spot → Option ℕ) (given : Key → Bool) : Type 0 where
+  pub is_new : Key → Bool
+  pub renews : Renews (two a b) is_new start new
+  pub stays : (k : Key) → is_new k ≡ false → behind (whole k) ≡ before (whole k)
+  pub given_is : (k : Key) → given k ≡ true → is_new k ≡ true
 
 -- how far the labels of arms have met, from a view and what its layers say
 abbrev pub Met : Arm → Arm → View → (Spot → Option ℕ) → Drawing → (Key → Bool) → Type 0
@@ -23,24 +39,21 @@ Met a b start before d given =
     Meeting (behind_arm a before) (behind_arm b before) start before (view_of d)
     (seen d.table.layers) given
 
-abbrev pub MeetsOne : Arms → Spot → Drawing → Drawing → Type 0
-MeetsOne x n old new =
-    (start : View) (before : Spot → Option ℕ) (given : Key → Bool)
-    → x.start ≡ next start → IsBounded start
-    → Met x.first.now x.second.now start before old given
-    → Met x.first.now x.second.now start before new (λ k. same_spot n (whole k) || given k)
-
-abbrev pub MeetsLayer :
-    {S : Type 0} → Arms → IndexMap Named ℕ S → Drawing → Drawing → Type 0
-MeetsLayer x m old new =
-    (start : View) (before : Spot → Option ℕ) (given : Key → Bool)
-    → x.start ≡ next start → IsBounded start
-    → Met x.first.now x.second.now start before old given
-    → Met x.first.now x.second.now start before new
-    (λ k. is_some (entry_in m (whole k)) || given k)
+-- more scalars are given labels, those from n on being the new ones
+pub record MeetsFor (a b : Arm) (n : ℕ) (given : Key → Bool) (old new : Drawing) : Type 0 where
+  pub low : IsLow new
+  pub floor : new.table.floor ≡ old.table.floor
+  pub below : new.table.layers.below.items ≡ old.table.layers.below.items
+  pub meets :
+      (start : View) (before : Spot → Option ℕ) (others : Key → Bool)
+      → n ≡ next start → IsBounded start → Met a b start before old others
+      → Met a b start before new (λ k. given k || others k)
 
 -- what meets comes of both arms; what neither has given a label to stays, unless no path goes on
 pub record AreMet (a b : Arm) (old new : Drawing) : Type 0 where
+  pub low : IsLow new
+  pub below : new.table.layers.below.items ≡ old.table.layers.below.items
+  pub risen : HasRisen old new.table.floor
   pub is_new : Key → Bool
   pub base : Key → ℕ
   pub renews :

@@ -1,73 +1,70 @@
--- Pieces of what the code draws.
-use Rattle.std.specs.Prelude.{◌≡◌, ◌<◌, ◌≤◌, ◌∷◌, ◌++◌, [], ℕ, Bool, true, false, ◌||◌, is_some, List, Option, Some, None, map}
+-- Statements as the code draws them, and the scalars that they set.
+use Rattle.std.specs.Prelude.{◌≡◌, ℕ, Bool, true, false, ◌||◌, List, [], ◌∷◌, Option, Some, None, map}
 use Rattle.jz_tree.specs.Span.{Span}
+use Rattle.jz_tree.specs.declared.expr.Expr.{Expr}
+use Rattle.jz_tree.specs.declared.expr.Var.{Var}
+use Rattle.jz_tree.specs.declared.stmt.Lval.{Lval}
+use Rattle.jz_tree.specs.declared.stmt.Stmt.{Stmt}
 use Rattle.jz_tree.specs.declared.stmt.StmtKind.{StmtKind}
 use Rattle.jz_tree.specs.declared.stmt.StmtKind.TheFolds.{fold-StmtKind}
+use Rattle.jz_runs.specs.Trees.{done, loop}
 use Rattle.jz_meaning.specs.States.{Key, same_key}
-use Rattle.jz_meaning.specs.Runs.{Callees, kind_tree}
-use Rattle.jz_meaning.specs.Statements.{Block}
-use Rattle.jz_labels.specs.Operations.{Left}
-use Rattle.jz_required.specs.Readings.{left_demands}
-use Rattle.indexmap.specs.IndexMap.{IndexMap}
-use Rattle.jz_layers.specs.Spots.{Spot, entry_in, over, variable_key}
-use Rattle.jz_layers.specs.declared.named.Named.{Named}
-use Rattle.jz_secrets.specs.Graphs.{Arrow, drawn}
-use Rattle.jz_tree.specs.declared.stmt.Lval.{Lval}
+use Rattle.jz_meaning.specs.Runs.{block, kind_tree}
+use Rattle.jz_meaning.specs.Statements.{Condition, Block}
 use Rattle.jz_terms.specs.Terms.{Term, truth}
 use Rattle.jz_labels.specs.Operations.{left_of}
+use Rattle.jz_layers.specs.Spots.{variable_key}
+use Rattle.jz_secrets.specs.Graphs.{Arrow, drawn}
+use Rattle.jz_drawing.specs.Drawings.{View, next, arrow_between, sets_lefts, sets, IsBounded}
+use Rattle.jz_drawing.specs.Draws.{Renews}
+use Rattle.jz_drawn_labels.specs.declared.drawing.Drawing.{Drawing}
+use Rattle.jz_drawn_labels.specs.Kept.{view_of, IsLow}
+use Rattle.jz_drawn_labels.specs.Drew.{no_callees}
 use Rattle.jz_breaches.specs.declared.heads.Head.{Head}
 use Rattle.jz_breaches.specs.declared.heads.Target.{Target}
-use Rattle.jz_drawing.specs.Drawings.{View, put_left, left_arrows, arrow_between, asks_in, sets_lefts, sets, IsBounded}
-use Rattle.jz_drawing.specs.Draws.{Renews}
-use Rattle.jz_breaches.specs.Kept.{whole, nodes_by}
-
--- no call is left
-abbrev pub no_callees : Callees
-no_callees = λ n. None
 
 -- a statement without its annotations, at a place
 abbrev pub kind_piece : StmtKind → Span → Block → Block
 kind_piece = fold-StmtKind _ _ (kind_tree no_callees) (λ s. s.kind s.span)
 
-abbrev pub left_written : ℕ → Left → View → View
-left_written n d v = record {
-  nodes = put_left n d v.nodes;
-  arrows = v.arrows ++ left_arrows n d;
-  asked = v.asked;
-}
+abbrev pub condition_at : Expr → Span → Condition
+condition_at e at = record { cond = e; at = at }
 
-abbrev pub left_drawn : ℕ → Left → View → View
-left_drawn n d v = record {
-  nodes = put_left n d v.nodes;
-  arrows = v.arrows ++ left_arrows n d;
-  asked = v.asked ++ asks_in v.nodes (left_demands d);
-}
+-- the body of a loop, which may be absent
+abbrev pub turn_piece : Option (List Stmt) → Block → Block
+turn_piece None r = r
+turn_piece (Some b) r = block no_callees b r
 
-abbrev pub lefts_drawn : ℕ → List Left → View → View
-lefts_drawn n [] v = v
-lefts_drawn n (d ∷ ds) v = lefts_drawn n ds (left_drawn n d v)
+abbrev pub is_truth : Term → Bool
+is_truth (truth b at) = b
+is_truth t = false
 
--- ---- what loops set
+-- ---- what statements set
 
 abbrev pub has_key : List Key → Key → Bool
 has_key [] k = false
 has_key (x ∷ xs) k = same_key k x || has_key xs k
+
+-- these keys and more
+abbrev pub Has : List Key → List Key → Type 0
+Has new old = (k : Key) → has_key new k ≡ false → has_key old k ≡ false
 
 -- what a piece sets is among these
 abbrev pub Covers : (Block → Block) → List Key → Type 0
 Covers f ks =
     (r : Block) (k : Key) → sets k r ≡ false → has_key ks k ≡ false → sets k (f r) ≡ false
 
+abbrev pub CoversMore : (Block → Block) → List Key → List Key → Type 0
+CoversMore f old new = Has new old × Covers f new
+
+abbrev pub LeftsMore : List Lval → List Key → List Key → Type 0
+LeftsMore ds old new =
+    Has new old
+    × ((k : Key) → has_key new k ≡ false → sets_lefts k (map left_of ds) ≡ false)
+
 -- the keys of variables
 abbrev pub keys_of : List Target → List Key
 keys_of xs = map (λ (x : Target). variable_key x.var.now) xs
-
-abbrev pub CoversLefts : List Lval → List Key → Type 0
-CoversLefts ds ks =
-    (k : Key) → has_key ks k ≡ false → sets_lefts k (map left_of ds) ≡ false
-
-abbrev pub Has : List Key → List Key → Type 0
-Has new old = (k : Key) → has_key new k ≡ false → has_key old k ≡ false
 
 -- ---- labels of their own at the head of a loop
 
@@ -93,23 +90,21 @@ pub record Splits (start : View) (new : View) (hs : List Head) : Type 0 where
   pub heads : (k : Key) → is_new k ≡ has_key (head_keys hs) k
   pub nodes : AreHeads new.nodes hs
 
--- ---- where arms meet
+-- one more, unless it has one from n on
+pub record SplitsFor (n : ℕ) (x : Var) (old : Drawing) (hs : List Head) (new : Drawing)
+    (gs : List Head) : Type 0 where
+  pub low : IsLow new
+  pub floor : new.table.floor ≡ old.table.floor
+  pub below : new.table.layers.below.items ≡ old.table.layers.below.items
+  pub grows : Has (head_keys gs) (head_keys hs)
+  pub splits :
+      (start : View) → n ≡ next start → IsBounded start → Splits start (view_of old) hs
+      → Splits start (view_of new) gs × (has_key (head_keys gs) (variable_key x) ≡ true)
 
--- labels behind an arm, which lies over what was there before it
-abbrev pub arm_nodes : {S : Type 0} → ℕ → IndexMap Named ℕ S → (Spot → Option ℕ) → Key → ℕ
-arm_nodes floor m f = nodes_by floor (over m f)
-
-abbrev pub two : (Key → ℕ) → (Key → ℕ) → Key → List ℕ
-two a b k = a k ∷ b k ∷ []
-
--- of the tables of arms these scalars have been given labels
-pub record Meeting (a b : Key → ℕ) (start : View) (before : Spot → Option ℕ) (new : View)
-    (behind : Spot → Option ℕ) (given : Key → Bool) : Type 0 where
-  pub is_new : Key → Bool
-  pub renews : Renews (two a b) is_new start new
-  pub stays : (k : Key) → is_new k ≡ false → behind (whole k) ≡ before (whole k)
-  pub given_is : (k : Key) → given k ≡ true → is_new k ≡ true
-
-abbrev pub is_truth : Term → Bool
-is_truth (truth b at) = b
-is_truth t = false
+-- all of these keys
+pub record HasHeads (ks : List Key) (old new : Drawing) (hs : List Head) : Type 0 where
+  pub low : IsLow new
+  pub floor : new.table.floor ≡ old.table.floor
+  pub below : new.table.layers.below.items ≡ old.table.layers.below.items
+  pub splits : Splits (view_of old) (view_of new) hs
+  pub all : Has (head_keys hs) ks

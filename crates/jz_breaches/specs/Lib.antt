@@ -1,4 +1,3 @@
-pub mod Kept
 pub mod InnerPieces
 pub mod InnerMeetings
 pub mod InnerLoops

@@ -1,17 +1,16 @@
 //! Where two arms meet.
 
-ghost use Rattle.std.specs.Prelude.{◌≡◌, ◌≤◌, ◌||◌, is_some, true, OnOk};
+ghost use Rattle.std.specs.Prelude.{◌≡◌, ℕ, Option, None, is_some, OnOk};
 ghost use Rattle.jz_meaning.specs.States.{Key};
-ghost use Rattle.jz_layers.specs.Spots.{Spot, entry_in, over, spot_of};
-ghost use Rattle.jz_layers.specs.Layered.{seen, IsOver, ClosesTo};
-ghost use Rattle.jz_drawing.specs.Drawings.{View, next, IsBounded};
-ghost use Rattle.jz_breaches.specs.Kept.{view_of, whole, standing, IsLow};
-ghost use Rattle.jz_breaches.specs.InnerPieces.{arm_nodes, Meeting};
+ghost use Rattle.jz_layers.specs.Spots.{Spot, same_spot, entry_in, over, spot_of};
+ghost use Rattle.jz_layers.specs.Layered.{IsOver, ClosesTo};
+ghost use Rattle.jz_drawn_labels.specs.Kept.{whole, standing, IsLow};
+ghost use Rattle.jz_drawn_labels.specs.Drew.{IsDrawn};
+ghost use Rattle.jz_breaches.specs.InnerMeetings as meetings;
+ghost use Rattle.jz_breaches.specs.InnerMeetings.{HasEnded, MeetsFor, AreMet};
 
-use crate::drawing::Drawing;
-use crate::sheet::{fresh, link};
-use crate::table::{Table, above, put_named};
 use indexmap::IndexMap;
+use jz_drawn_labels::{Drawing, Table, above, fresh, link, put_named};
 use jz_layers::Named;
 use jz_secrets::Node;
 use std::alloc::AllocError;
@@ -52,107 +51,114 @@ impl<'a> Arm<'a> {
     }
 }
 
-/// Two arms that meet.
-#[derive(Clone, Copy)]
-pub(crate) struct Arms<'r, 'a> {
-    pub(crate) first: &'r Arm<'a>,
-    pub(crate) second: &'r Arm<'a>,
-    /// The first label that is drawn where they meet.
-    pub(crate) start: usize,
+/// The floor where arms meet that end with these: no path goes on where none of them does.
+fn met_floor(floor: usize, first: usize, second: usize, start: usize) -> usize
+    ensures { result ≡ meetings.met_floor floor first second start }
+{
+    if first == floor {
+        return floor;
+    }
+    if second == floor {
+        return floor;
+    }
+    start
 }
 
-/// A label for a scalar of which one of the arms has one, unless it has been given one: it comes of
-/// those behind both. A cell of an array has none.
-fn meet_one<'a>(
+/// A label for a scalar of which one of the arms has one, unless it has been given one from `start`
+/// on: it comes of those behind both.
+fn meet_scalar<'a>(
     drawing: &mut Drawing<'a>,
-    arms: Arms<'_, 'a>,
+    first: &Arm<'a>,
+    second: &Arm<'a>,
+    start: usize,
     named: Named<'a>,
 ) -> Result<(), AllocError>
-    requires { IsLow drawing.old }
-    ensures low { OnOk result (IsLow drawing.new) }
-    ensures floor { OnOk result (drawing.new.table.floor ≡ drawing.old.table.floor) }
-    ensures below { OnOk result
-        (drawing.new.table.layers.below.items ≡ drawing.old.table.layers.below.items) }
-    ensures meets { OnOk result (MeetsOne arms (spot_of named.entry) drawing.old drawing.new) }
+    requires low { IsLow drawing.old }
+    requires scalar { (spot_of named).index ≡ None }
+    ensures { OnOk result (MeetsFor first.now second.now start
+        (λ k. same_spot (spot_of named.entry) (whole k)) drawing.old drawing.new) }
 {
-    if named.index.is_some() {
-        return Ok(());
-    }
     let below = drawing.table.layers.get(named);
-    if above(drawing.table.floor, below) >= arms.start {
+    let before = above(drawing.table.floor, below);
+    if before >= start {
         return Ok(());
     }
     let node = fresh(&mut drawing.sheet.edges)?;
-    let first = arms.first.node(named, below);
-    let second = arms.second.node(named, below);
+    let left = first.node(named, below);
+    let right = second.node(named, below);
     link(
         &mut drawing.sheet.edges,
-        Node::Drawn(first),
+        Node::Drawn(left),
         Node::Drawn(node),
     )?;
     link(
         &mut drawing.sheet.edges,
-        Node::Drawn(second),
+        Node::Drawn(right),
         Node::Drawn(node),
     )?;
     put_named(&mut drawing.table, named, node)?;
     Ok(())
 }
 
+/// The same; a cell of an array has no label.
+fn meet_one<'a>(
+    drawing: &mut Drawing<'a>,
+    first: &Arm<'a>,
+    second: &Arm<'a>,
+    start: usize,
+    named: Named<'a>,
+) -> Result<(), AllocError>
+    requires { IsLow drawing.old }
+    ensures { OnOk result (MeetsFor first.now second.now start
+        (λ k. same_spot (spot_of named.entry) (whole k)) drawing.old drawing.new) }
+{
+    match named.index {
+        Some(_) => Ok(()),
+        None => {
+            meet_scalar(drawing, first, second, start, named)?;
+            Ok(())
+        }
+    }
+}
+
 /// The same for all of a layer.
 fn meet_layer<'a>(
     drawing: &mut Drawing<'a>,
-    arms: Arms<'_, 'a>,
+    first: &Arm<'a>,
+    second: &Arm<'a>,
+    start: usize,
     layer: &IndexMap<Named<'a>, usize>,
 ) -> Result<(), AllocError>
     requires { IsLow drawing.old }
-    ensures low { OnOk result (IsLow drawing.new) }
-    ensures floor { OnOk result (drawing.new.table.floor ≡ drawing.old.table.floor) }
-    ensures below { OnOk result
-        (drawing.new.table.layers.below.items ≡ drawing.old.table.layers.below.items) }
-    ensures meets { OnOk result (MeetsLayer arms layer.now drawing.old drawing.new) }
+    ensures { OnOk result (MeetsFor first.now second.now start
+        (λ k. is_some (entry_in layer.now (whole k))) drawing.old drawing.new) }
 {
     let count = layer.len();
     let mut i = 0;
     while i < count {
         match layer.get_index(i) {
             None => unreachable!(),
-            Some(entry) => meet_one(drawing, arms, *entry.0)?,
+            Some(entry) => meet_one(drawing, first, second, start, *entry.0)?,
         }
         i += 1;
     }
     Ok(())
 }
 
-/// The labels where two arms meet. No path goes on where none of them does.
+/// The labels where two arms meet.
 pub(crate) fn meet<'a>(
     drawing: &mut Drawing<'a>,
     first: &Arm<'a>,
     second: &Arm<'a>,
 ) -> Result<(), AllocError>
-    requires { IsLow drawing.old }
-    ensures low { OnOk result (IsLow drawing.new) }
-    ensures below { OnOk result
-        (drawing.new.table.layers.below.items ≡ drawing.old.table.layers.below.items) }
-    ensures meets { OnOk result (IsBounded (view_of drawing.old)
-        → (drawing.old.table.floor ≤ first.now.floor)
-        → (drawing.old.table.floor ≤ second.now.floor)
-        → AreBelow drawing.old → AreMet first.now second.now drawing.old drawing.new) }
+    requires drawn { IsDrawn drawing.old }
+    requires first { HasEnded first.now drawing.old }
+    requires second { HasEnded second.now drawing.old }
+    ensures { OnOk result (AreMet first.now second.now drawing.old drawing.new) }
 {
     let start = drawing.sheet.next();
-    let floor = drawing.table.floor;
-    if first.floor != floor && second.floor != floor {
-        drawing.table.floor = start;
-    }
-    let arms = Arms {
-        first,
-        second,
-        start,
-    };
-    meet_layer(drawing, arms, &first.layer)?;
-    meet_layer(drawing, arms, &second.layer)?;
+    drawing.table.floor = met_floor(drawing.table.floor, first.floor, second.floor, start);
+    meet_layer(drawing, first, second, start, &first.layer)?;
+    meet_layer(drawing, first, second, start, &second.layer)?;
     Ok(())
 }
-
-ghost use Rattle.std.specs.Prelude.{ℕ, Option};
-ghost use Rattle.jz_breaches.specs.InnerMeetings.{MeetsOne, MeetsLayer, AreMet};

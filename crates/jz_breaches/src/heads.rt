@@ -1,19 +1,17 @@
 //! Labels of their own that scalars have at the head of a loop.
 
-ghost use Rattle.std.specs.Prelude.{◌≡◌, ◌≤◌, ◌++◌, ◌∷◌, [], suc, length, map, IfOk, OnOk};
+ghost use Rattle.std.specs.Prelude.{◌≡◌, ◌++◌, ◌∷◌, [], OnOk, IfOk};
+ghost use Rattle.jz_tree.specs.Span.{Span as Place};
 ghost use Rattle.jz_meaning.specs.Runs.{block, statement_tree};
-ghost use Rattle.jz_layers.specs.Spots.{variable_key};
 ghost use Rattle.jz_secrets.specs.Graphs.{arrows_of};
-ghost use Rattle.jz_drawing.specs.Drawings.{next, IsBounded};
-ghost use Rattle.jz_breaches.specs.Kept.{view_of, nodes_of, IsLow};
-ghost use Rattle.jz_breaches.specs.InnerPieces.{no_callees, kind_piece, Covers, Has, Splits};
-ghost use Rattle.jz_breaches.specs.InnerPieces.{back_arrows, has_key, head_keys, keys_of};
+ghost use Rattle.jz_drawn_labels.specs.Kept.{nodes_of, IsLow};
+ghost use Rattle.jz_drawn_labels.specs.Drew.{no_callees, IsDrawn};
+ghost use Rattle.jz_breaches.specs.InnerPieces.{kind_piece, turn_piece, CoversMore, LeftsMore};
+ghost use Rattle.jz_breaches.specs.InnerPieces.{back_arrows, keys_of, SplitsFor, HasHeads};
 
-use crate::drawing::Drawing;
-use crate::sheet::{Sheet, fresh, link};
-use crate::table::{Table, put};
+use jz_drawn_labels::{Drawing, Table, fresh, link, put};
 use jz_secrets::{Edge, Node};
-use jz_tree::{Lval, Seq, Span, Stmt, StmtKind, Var};
+use jz_tree::{Lval, Seq, Stmt, StmtKind, Var};
 use std::alloc::{AllocError, Global};
 
 /// The label of a scalar at the head of a loop.
@@ -29,18 +27,29 @@ pub struct Target<'a> {
     pub var: &'a Var,
 }
 
+/// The scalar of a left side, where it is one.
+fn left_scalar<'a>(left: &'a Lval, vars: &mut Vec<Target<'a>>) -> Result<(), AllocError>
+    ensures { OnOk result
+        (LeftsMore (left.now ∷ []) (keys_of vars.old.items) (keys_of vars.new.items)) }
+{
+    match left {
+        Lval::Skip(_) => Ok(()),
+        Lval::Var(var) => {
+            vars.push(Target { var })?;
+            Ok(())
+        }
+        Lval::Cell(_, _) => Ok(()),
+        Lval::Store(_) => Ok(()),
+    }
+}
+
 /// The scalars among left sides.
 fn left_scalars<'a>(to: &'a Seq<Lval>, vars: &mut Vec<Target<'a>>) -> Result<(), AllocError>
-    ensures grows { OnOk result (Has (keys_of vars.new.items) (keys_of vars.old.items)) }
-    ensures covers { OnOk result (CoversLefts to.now (keys_of vars.new.items)) }
+    ensures { OnOk result
+        (LeftsMore to.now (keys_of vars.old.items) (keys_of vars.new.items)) }
 {
     for left in to.as_slice() {
-        match left {
-            Lval::Skip(_) => {}
-            Lval::Var(var) => vars.push(Target { var })?,
-            Lval::Cell(_, _) => {}
-            Lval::Store(_) => {}
-        }
+        left_scalar(left, vars)?;
     }
     Ok(())
 }
@@ -51,8 +60,8 @@ pub(crate) fn scalars_set<'a>(
     stmts: &'a Seq<Stmt>,
     vars: &mut Vec<Target<'a>>,
 ) -> Result<(), AllocError>
-    ensures grows { OnOk result (Has (keys_of vars.new.items) (keys_of vars.old.items)) }
-    ensures covers { OnOk result (Covers (block no_callees stmts.now) (keys_of vars.new.items)) }
+    ensures { OnOk result (CoversMore (block no_callees stmts.now) (keys_of vars.old.items)
+        (keys_of vars.new.items)) }
 {
     for stmt in stmts.as_slice() {
         statement_sets(stmt, vars)?;
@@ -62,9 +71,8 @@ pub(crate) fn scalars_set<'a>(
 
 #[cycle(setting)]
 fn statement_sets<'a>(stmt: &'a Stmt, vars: &mut Vec<Target<'a>>) -> Result<(), AllocError>
-    ensures grows { OnOk result (Has (keys_of vars.new.items) (keys_of vars.old.items)) }
-    ensures covers { OnOk result
-        (Covers (statement_tree no_callees stmt.now) (keys_of vars.new.items)) }
+    ensures { OnOk result (CoversMore (statement_tree no_callees stmt.now)
+        (keys_of vars.old.items) (keys_of vars.new.items)) }
 {
     kind_sets(&stmt.kind, vars)?;
     Ok(())
@@ -72,9 +80,8 @@ fn statement_sets<'a>(stmt: &'a Stmt, vars: &mut Vec<Target<'a>>) -> Result<(), 
 
 #[cycle(setting)]
 fn kind_sets<'a>(kind: &'a StmtKind, vars: &mut Vec<Target<'a>>) -> Result<(), AllocError>
-    ensures grows { OnOk result (Has (keys_of vars.new.items) (keys_of vars.old.items)) }
-    ensures covers { OnOk result
-        ((at : Place) → Covers (kind_piece kind.now at) (keys_of vars.new.items)) }
+    ensures { OnOk result ((at : Place) → CoversMore (kind_piece kind.now at)
+        (keys_of vars.old.items) (keys_of vars.new.items)) }
 {
     match kind {
         StmtKind::Assign {
@@ -95,17 +102,11 @@ fn kind_sets<'a>(kind: &'a StmtKind, vars: &mut Vec<Target<'a>>) -> Result<(), A
             prologue,
             cond: _,
             body,
-        } => match body {
-            None => {
-                scalars_set(prologue, vars)?;
-                Ok(())
-            }
-            Some(body) => {
-                scalars_set(prologue, vars)?;
-                scalars_set(body, vars)?;
-                Ok(())
-            }
-        },
+        } => {
+            scalars_set(prologue, vars)?;
+            turn_sets(body, vars)?;
+            Ok(())
+        }
         StmtKind::For {
             counter: _,
             from: _,
@@ -117,6 +118,23 @@ fn kind_sets<'a>(kind: &'a StmtKind, vars: &mut Vec<Target<'a>>) -> Result<(), A
     }
 }
 
+#[cycle(setting)]
+pub(crate) fn turn_sets<'a>(
+    body: &'a Option<Seq<Stmt>>,
+    vars: &mut Vec<Target<'a>>,
+) -> Result<(), AllocError>
+    ensures { OnOk result (CoversMore (turn_piece body.now) (keys_of vars.old.items)
+        (keys_of vars.new.items)) }
+{
+    match body {
+        None => Ok(()),
+        Some(body) => {
+            scalars_set(body, vars)?;
+            Ok(())
+        }
+    }
+}
+
 /// A label of its own for a scalar that has none from `start` on: it comes of the one before.
 fn split_one<'a>(
     drawing: &mut Drawing<'a>,
@@ -125,16 +143,8 @@ fn split_one<'a>(
     start: usize,
 ) -> Result<(), AllocError>
     requires { IsLow drawing.old }
-    ensures low { OnOk result (IsLow drawing.new) }
-    ensures below { OnOk result
-        (drawing.new.table.layers.below.items ≡ drawing.old.table.layers.below.items) }
-    ensures splits { OnOk result ((v : View) → start ≡ next v → IsBounded v
-        → Splits v (view_of drawing.old) heads.old.items
-        → Splits v (view_of drawing.new) heads.new.items) }
-    ensures there { OnOk result ((v : View) → start ≡ next v → IsBounded v
-        → Splits v (view_of drawing.old) heads.old.items
-        → has_key (head_keys heads.new.items) (variable_key var.now) ≡ true) }
-    ensures grows { OnOk result (Has (head_keys heads.new.items) (head_keys heads.old.items)) }
+    ensures { OnOk result
+        (SplitsFor start var.now drawing.old heads.old.items drawing.new heads.new.items) }
 {
     let before = drawing.table.node(var);
     if before >= start {
@@ -157,14 +167,9 @@ pub(crate) fn split<'a>(
     drawing: &mut Drawing<'a>,
     vars: &[Target<'a>],
 ) -> Result<Vec<Head<'a>>, AllocError>
-    requires { IsLow drawing.old }
-    ensures low { OnOk result (IsLow drawing.new) }
-    ensures below { OnOk result
-        (drawing.new.table.layers.below.items ≡ drawing.old.table.layers.below.items) }
-    ensures splits { IfOk result (λ heads. IsBounded (view_of drawing.old)
-        → Splits (view_of drawing.old) (view_of drawing.new) heads.items) }
-    ensures all { IfOk result (λ heads. IsBounded (view_of drawing.old)
-        → Has (head_keys heads.items) (keys_of vars.now)) }
+    requires { IsDrawn drawing.old }
+    ensures { IfOk result
+        (λ heads. HasHeads (keys_of vars.now) drawing.old drawing.new heads.items) }
 {
     let start = drawing.sheet.next();
     let mut heads = Vec::new(alloc);
@@ -192,8 +197,3 @@ pub(crate) fn come_back<'a>(
     }
     Ok(())
 }
-
-ghost use Rattle.jz_tree.specs.Span.{Span as Place};
-ghost use Rattle.jz_drawing.specs.Drawings.{View};
-ghost use Rattle.std.specs.Prelude.{true};
-ghost use Rattle.jz_breaches.specs.InnerPieces.{CoversLefts};

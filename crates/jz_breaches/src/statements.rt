@@ -1,22 +1,26 @@
 //! What statements draw.
 
-ghost use Rattle.std.specs.Prelude.{◌≡◌, OnOk};
+ghost use Rattle.std.specs.Prelude.{◌≡◌, Bool, OnOk, IfOk, if◌then◌else◌};
+ghost use Rattle.jz_tree.specs.Span.{Span as Place};
+ghost use Rattle.jz_runs.specs.Trees as tree;
 ghost use Rattle.jz_meaning.specs.Runs.{block, statement_tree};
-ghost use Rattle.jz_drawing.specs.Drawings.{IsBounded};
-ghost use Rattle.jz_drawing.specs.Draws.{Draws};
-ghost use Rattle.jz_breaches.specs.Kept.{view_of, IsLow};
-ghost use Rattle.jz_breaches.specs.InnerPieces.{no_callees, kind_piece};
+ghost use Rattle.jz_terms.specs.Terms.{term_of};
+ghost use Rattle.jz_required.specs.Readings.{test_demands as demanded};
+ghost use Rattle.jz_drawing.specs.Drawings.{asks_in, with_asked};
+ghost use Rattle.jz_drawn_labels.specs.Kept.{view_of};
+ghost use Rattle.jz_drawn_labels.specs.Drew.{no_callees, IsDrawn, Drew};
+ghost use Rattle.jz_breaches.specs.InnerPieces.{kind_piece, turn_piece, condition_at, is_truth};
+ghost use Rattle.jz_breaches.specs.InnerPieces.{Covers, keys_of};
+ghost use Rattle.jz_breaches.specs.InnerLoops.{ArmDrawn, TurnDrawn};
 
 use crate::arms::{Arm, end_arm, meet};
-use crate::drawing::Drawing;
-use crate::heads::{come_back, scalars_set, split};
-use crate::operating::draw_assign;
-use crate::sheet::ask;
+use crate::heads::{Head, Target, come_back, scalars_set, split, turn_sets};
+use jz_drawn_labels::{Drawing, ask, draw_assign};
 use jz_required::test_demands;
-use jz_tree::{Expr, Seq, Span, Stmt, StmtKind};
+use jz_tree::{Expr, Seq, Stmt, StmtKind};
 use std::alloc::{AllocError, Global};
 
-/// `true`
+/// Whether it is `true`.
 fn is_true(e: &Expr) -> bool
     ensures { result ≡ is_truth (term_of e.now) }
 {
@@ -33,23 +37,39 @@ fn is_true(e: &Expr) -> bool
     }
 }
 
-/// A loop, but for its place.
-#[derive(Clone, Copy)]
-pub(crate) struct Loop<'a> {
-    pub(crate) prologue: &'a Seq<Stmt>,
-    pub(crate) cond: &'a Expr,
-    pub(crate) body: &'a Option<Seq<Stmt>>,
+/// The floor behind a loop: behind `while (true)` no path goes on.
+fn floor_behind(cond: &Expr, floor: usize, next: usize) -> usize
+    ensures { result ≡ (if is_truth (term_of cond.now) then next else floor) }
+{
+    if is_true(cond) { next } else { floor }
 }
 
 /// What has to be public of a condition.
 fn draw_test<'a>(alloc: Global, drawing: &mut Drawing<'a>, cond: &'a Expr) -> Result<(), AllocError>
     ensures table { OnOk result (drawing.new.table ≡ drawing.old.table) }
-    ensures view { OnOk result ((at : Place)
-        → view_of drawing.new ≡ tested (condition_at cond.now at) (view_of drawing.old)) }
+    ensures view { OnOk result (view_of drawing.new ≡ with_asked
+        (asks_in (view_of drawing.old).nodes (demanded (term_of cond.now)))
+        (view_of drawing.old)) }
 {
     let required = test_demands(alloc, cond)?;
     ask(&mut drawing.sheet.asked, &drawing.table, &required)?;
     Ok(())
+}
+
+/// The scalars that a loop sets.
+fn set_in_loop<'a>(
+    alloc: Global,
+    prologue: &'a Seq<Stmt>,
+    body: &'a Option<Seq<Stmt>>,
+) -> Result<Vec<Target<'a>>, AllocError>
+    ensures prologue { IfOk result
+        (λ vars. Covers (block no_callees prologue.now) (keys_of vars.items)) }
+    ensures body { IfOk result (λ vars. Covers (turn_piece body.now) (keys_of vars.items)) }
+{
+    let mut vars = Vec::new(alloc);
+    scalars_set(prologue, &mut vars)?;
+    turn_sets(body, &mut vars)?;
+    Ok(vars)
 }
 
 #[cycle(drawing)]
@@ -58,13 +78,8 @@ pub(crate) fn draw_block<'a>(
     drawing: &mut Drawing<'a>,
     stmts: &'a Seq<Stmt>,
 ) -> Result<(), AllocError>
-    requires { IsLow drawing.old }
-    ensures low { OnOk result (IsLow drawing.new) }
-    ensures below { OnOk result
-        (drawing.new.table.layers.below.items ≡ drawing.old.table.layers.below.items) }
-    ensures raised { OnOk result (HasRisen drawing.old drawing.new.table.floor) }
-    ensures draws { OnOk result (IsBounded (view_of drawing.old)
-        → Draws (block no_callees stmts.now) (view_of drawing.old) (view_of drawing.new)) }
+    requires { IsDrawn drawing.old }
+    ensures { OnOk result (Drew (block no_callees stmts.now) drawing.old drawing.new) }
 {
     for stmt in stmts.as_slice() {
         draw_statement(alloc, drawing, stmt)?;
@@ -78,16 +93,10 @@ fn draw_statement<'a>(
     drawing: &mut Drawing<'a>,
     stmt: &'a Stmt,
 ) -> Result<(), AllocError>
-    requires { IsLow drawing.old }
-    ensures low { OnOk result (IsLow drawing.new) }
-    ensures below { OnOk result
-        (drawing.new.table.layers.below.items ≡ drawing.old.table.layers.below.items) }
-    ensures raised { OnOk result (HasRisen drawing.old drawing.new.table.floor) }
-    ensures draws { OnOk result (IsBounded (view_of drawing.old)
-        → Draws (statement_tree no_callees stmt.now) (view_of drawing.old)
-        (view_of drawing.new)) }
+    requires { IsDrawn drawing.old }
+    ensures { OnOk result (Drew (statement_tree no_callees stmt.now) drawing.old drawing.new) }
 {
-    draw_kind(alloc, drawing, stmt.span, &stmt.kind)?;
+    draw_kind(alloc, drawing, &stmt.kind)?;
     Ok(())
 }
 
@@ -98,13 +107,8 @@ fn draw_arm<'a>(
     drawing: &mut Drawing<'a>,
     stmts: &'a Seq<Stmt>,
 ) -> Result<Arm<'a>, AllocError>
-    requires { IsLow drawing.old }
-    ensures low { OnOk result (IsLow drawing.new) }
-    ensures back { OnOk result (IsBack drawing.old drawing.new) }
-    ensures raised { IfOk result (λ arm. HasRisen drawing.old arm.floor) }
-    ensures draws { IfOk result (λ arm. IsBounded (view_of drawing.old)
-        → Draws (block no_callees stmts.now) (view_of drawing.old)
-        (view_with (behind_arm arm (seen drawing.old.table.layers)) drawing.new.sheet)) }
+    requires { IsDrawn drawing.old }
+    ensures { IfOk result (λ arm. ArmDrawn stmts.now drawing.old arm drawing.new) }
 {
     let floor = drawing.table.floor;
     drawing.table.layers.open()?;
@@ -114,18 +118,33 @@ fn draw_arm<'a>(
 }
 
 #[cycle(drawing)]
-fn draw_turn<'a>(
+fn draw_choice<'a>(
+    alloc: Global,
+    drawing: &mut Drawing<'a>,
+    cond: &'a Expr,
+    holds: &'a Seq<Stmt>,
+    other: &'a Seq<Stmt>,
+) -> Result<(), AllocError>
+    requires { IsDrawn drawing.old }
+    ensures { OnOk result ((at : Place) → Drew (tree.choose (condition_at cond.now at)
+        (block no_callees holds.now tree.done) (block no_callees other.now tree.done))
+        drawing.old drawing.new) }
+{
+    draw_test(alloc, drawing, cond)?;
+    let first = draw_arm(alloc, drawing, holds)?;
+    let second = draw_arm(alloc, drawing, other)?;
+    meet(drawing, &first, &second)?;
+    Ok(())
+}
+
+#[cycle(drawing)]
+fn draw_body<'a>(
     alloc: Global,
     drawing: &mut Drawing<'a>,
     body: &'a Option<Seq<Stmt>>,
 ) -> Result<(), AllocError>
-    requires { IsLow drawing.old }
-    ensures low { OnOk result (IsLow drawing.new) }
-    ensures below { OnOk result
-        (drawing.new.table.layers.below.items ≡ drawing.old.table.layers.below.items) }
-    ensures raised { OnOk result (HasRisen drawing.old drawing.new.table.floor) }
-    ensures draws { OnOk result (IsBounded (view_of drawing.old)
-        → Draws (turn_piece body.now) (view_of drawing.old) (view_of drawing.new)) }
+    requires { IsDrawn drawing.old }
+    ensures { OnOk result (Drew (turn_piece body.now) drawing.old drawing.new) }
 {
     match body {
         None => Ok(()),
@@ -136,37 +155,45 @@ fn draw_turn<'a>(
     }
 }
 
+/// A turn, which lies over what was there before it.
+#[cycle(drawing)]
+fn draw_turn<'a>(
+    alloc: Global,
+    drawing: &mut Drawing<'a>,
+    body: &'a Option<Seq<Stmt>>,
+    heads: &[Head<'a>],
+) -> Result<(), AllocError>
+    requires { IsDrawn drawing.old }
+    ensures { OnOk result (TurnDrawn body.now heads.now drawing.old drawing.new) }
+{
+    let floor = drawing.table.floor;
+    drawing.table.layers.open()?;
+    draw_body(alloc, drawing, body)?;
+    come_back(&mut drawing.sheet.edges, &drawing.table, heads)?;
+    end_arm(&mut drawing.table, floor);
+    Ok(())
+}
+
 #[cycle(drawing)]
 fn draw_loop<'a>(
     alloc: Global,
     drawing: &mut Drawing<'a>,
-    parts: Loop<'a>,
+    prologue: &'a Seq<Stmt>,
+    cond: &'a Expr,
+    body: &'a Option<Seq<Stmt>>,
 ) -> Result<(), AllocError>
-    requires { IsLow drawing.old }
-    ensures low { OnOk result (IsLow drawing.new) }
-    ensures below { OnOk result
-        (drawing.new.table.layers.below.items ≡ drawing.old.table.layers.below.items) }
-    ensures raised { OnOk result (HasRisen drawing.old drawing.new.table.floor) }
-    ensures draws { OnOk result ((bare : Bool) (at : Place) → IsBounded (view_of drawing.old)
-        → Draws (loop_piece bare parts at) (view_of drawing.old) (view_of drawing.new)) }
+    requires { IsDrawn drawing.old }
+    ensures { OnOk result ((bare : Bool) (at : Place) → Drew (tree.loop bare
+        (block no_callees prologue.now tree.done) (condition_at cond.now at)
+        (turn_piece body.now tree.done)) drawing.old drawing.new) }
 {
-    let mut vars = Vec::new(alloc);
-    scalars_set(parts.prologue, &mut vars)?;
-    match parts.body {
-        None => {}
-        Some(body) => scalars_set(body, &mut vars)?,
-    }
+    let vars = set_in_loop(alloc, prologue, body)?;
     let heads = split(alloc, drawing, vars.as_slice())?;
-    draw_block(alloc, drawing, parts.prologue)?;
-    draw_test(alloc, drawing, parts.cond)?;
-    let floor = drawing.table.floor;
-    drawing.table.layers.open()?;
-    draw_turn(alloc, drawing, parts.body)?;
-    come_back(&mut drawing.sheet.edges, &drawing.table, heads.as_slice())?;
-    end_arm(&mut drawing.table, floor);
-    if is_true(parts.cond) {
-        drawing.table.floor = drawing.sheet.next();
-    }
+    draw_block(alloc, drawing, prologue)?;
+    draw_test(alloc, drawing, cond)?;
+    draw_turn(alloc, drawing, body, heads.as_slice())?;
+    let next = drawing.sheet.next();
+    drawing.table.floor = floor_behind(cond, drawing.table.floor, next);
     Ok(())
 }
 
@@ -174,16 +201,11 @@ fn draw_loop<'a>(
 fn draw_kind<'a>(
     alloc: Global,
     drawing: &mut Drawing<'a>,
-    span: Span,
     kind: &'a StmtKind,
 ) -> Result<(), AllocError>
-    requires { IsLow drawing.old }
-    ensures low { OnOk result (IsLow drawing.new) }
-    ensures below { OnOk result
-        (drawing.new.table.layers.below.items ≡ drawing.old.table.layers.below.items) }
-    ensures raised { OnOk result (HasRisen drawing.old drawing.new.table.floor) }
-    ensures draws { OnOk result (IsBounded (view_of drawing.old)
-        → Draws (kind_piece kind.now span) (view_of drawing.old) (view_of drawing.new)) }
+    requires { IsDrawn drawing.old }
+    ensures { OnOk result
+        ((at : Place) → Drew (kind_piece kind.now at) drawing.old drawing.new) }
 {
     match kind {
         StmtKind::Assign { to, op, rhs, cond } => {
@@ -191,10 +213,7 @@ fn draw_kind<'a>(
             Ok(())
         }
         StmtKind::If(cond, holds, other) => {
-            draw_test(alloc, drawing, cond)?;
-            let first = draw_arm(alloc, drawing, holds)?;
-            let second = draw_arm(alloc, drawing, other)?;
-            meet(drawing, &first, &second)?;
+            draw_choice(alloc, drawing, cond, holds, other)?;
             Ok(())
         }
         StmtKind::While {
@@ -202,12 +221,7 @@ fn draw_kind<'a>(
             cond,
             body,
         } => {
-            let parts = Loop {
-                prologue,
-                cond,
-                body,
-            };
-            draw_loop(alloc, drawing, parts)?;
+            draw_loop(alloc, drawing, prologue, cond, body)?;
             Ok(())
         }
         StmtKind::For {
@@ -220,13 +234,3 @@ fn draw_kind<'a>(
         StmtKind::Mark(_) => Ok(()),
     }
 }
-
-ghost use Rattle.jz_terms.specs.Terms.{term_of};
-ghost use Rattle.std.specs.Prelude.{Bool, IfOk};
-ghost use Rattle.jz_tree.specs.Span.{Span as Place};
-ghost use Rattle.jz_layers.specs.Layered.{seen};
-ghost use Rattle.jz_drawn_bodies.specs.Bodies.{tested};
-ghost use Rattle.jz_breaches.specs.Kept.{view_with};
-ghost use Rattle.jz_breaches.specs.InnerPieces.{is_truth};
-ghost use Rattle.jz_breaches.specs.InnerMeetings.{behind_arm};
-ghost use Rattle.jz_breaches.specs.InnerLoops.{condition_at, turn_piece, loop_piece, IsBack, HasRisen};

@@ -66,7 +66,3 @@ all_fall floor high f v e b l m k = by (f (whole k)) refl
     by : (o : Option ℕ) → f (whole k) ≡ o → standing high o ≡ 0
     by None i = refl
     by (Some n) i = falls high n (below n (nat_lt n floor) refl i)
-
--- what is put says nothing of other scalars
-pub put_else : (f : Spot → Option ℕ) (s : Spot) (n : ℕ) (k : Key) → s.index ≡ None → same_key k s.of ≡ false → put_in f s n (whole k) ≡ f (whole k)
-put_else f s n k e h = ap (λ (b : Bool). if b then Some n else f (whole k)) (spot_key s k e ∙ h)

@@ -1,13 +1,13 @@
 //! Which label each scalar has.
 
-ghost use Rattle.std.specs.Prelude.{◌≡◌, ◌≤◌, ℕ, false, None, OnOk};
-ghost use Rattle.jz_meaning.specs.States.{Key, same_key};
-ghost use Rattle.jz_layers.specs.Spots.{spot_of, variable_key};
+ghost use Rattle.std.specs.Prelude.{◌≡◌, ◌≤◌, ℕ, None, OnOk};
+ghost use Rattle.jz_meaning.specs.States.{Key};
+ghost use Rattle.jz_layers.specs.Spots.{spot_of, variable_key, put_in};
 ghost use Rattle.jz_layers.specs.Layered.{seen};
 ghost use Rattle.jz_required.specs.Kept.{origin_of};
 ghost use Rattle.jz_secrets.specs.Graphs.{vertex_of};
 ghost use Rattle.jz_drawing.specs.Drawings.{vertex_in, put_node};
-ghost use Rattle.jz_drawn_labels.specs.Kept.{nodes_of, standing, whole};
+ghost use Rattle.jz_drawn_labels.specs.Kept.{nodes_of, standing};
 
 use jz_layers::{Layers, Named};
 use jz_required::Part;
@@ -74,8 +74,8 @@ pub fn put_named<'a>(
     requires scalar { (spot_of named).index ≡ None }
     ensures nodes { OnOk result (nodes_of table.new
         ≡ put_node (spot_of named.entry).of node (nodes_of table.old)) }
-    ensures seen { OnOk result ((k : Key) → same_key k (spot_of named.entry).of ≡ false
-        → seen table.new.layers (whole k) ≡ seen table.old.layers (whole k)) }
+    ensures seen { OnOk result (seen table.new.layers
+        ≡ put_in (seen table.old.layers) (spot_of named.entry) node) }
     ensures floor { table.new.floor ≡ table.old.floor }
     ensures below { table.new.layers.below.items ≡ table.old.layers.below.items }
 {

@@ -85,7 +85,7 @@ comes_back head is_new v w hs n s e = subst (λ (x : View). ComesBack head v.nod
 pub none_split : (v : View) → Splits v v []
 none_split v = record { is_new = λ k. false; renews = nothing_renewed (own v.nodes) v; heads = λ k. refl; nodes = tt }
 
-keys_more : (xs : List Key) (y k : Key) → has_key (xs ++ y ∷ []) k ≡ (same_key k y || has_key xs k)
+pub keys_more : (xs : List Key) (y k : Key) → has_key (xs ++ y ∷ []) k ≡ (same_key k y || has_key xs k)
 keys_more [] y k = refl
 keys_more (x ∷ xs) y k = ap (λ z. same_key k x || z) (keys_more xs y k) ∙ by (same_key k x) (same_key k y) (has_key xs k)
   where
