@@ -9,3 +9,7 @@ pub mod LaidOver
 pub mod Blocks
 pub mod Choices
 pub mod Loops
+pub mod Measures
+pub mod Overlays
+pub mod Entered
+pub mod Answered

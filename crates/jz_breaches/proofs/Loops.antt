@@ -21,6 +21,7 @@ use Rattle.jz_drawn_labels.specs.Kept.{view_of, nodes_of, nodes_by, IsLow}
 use Rattle.jz_drawn_labels.specs.Drew.{no_callees, IsDrawn, HasRisen, Drew}
 use Rattle.jz_drawn_labels.proofs.Tables.{all_fall}
 use Rattle.jz_drawn_labels.proofs.Lefts.{same_view}
+use Rattle.jz_drawn_labels.proofs.Sheets.{arrows_long}
 use Rattle.jz_breaches.specs.declared.heads.Head.{Head}
 use Rattle.jz_breaches.specs.InnerPieces.{condition_at, turn_piece, is_truth, has_key, head_keys, Covers, own, back_arrows, HasHeads}
 use Rattle.jz_breaches.specs.InnerLoops.{TurnDrawn}
@@ -52,6 +53,9 @@ leaves_all (neg a at) s k e = refl
 leaves_all (inv a at) s k e = refl
 leaves_all (cast z sign a at) s k e = refl
 leaves_all (bin op a b at) s k e = refl
+
+pub floor_at : (cond : Expr) (h : Drawing) (floor n : ℕ) → n ≡ suc (length h.sheet.edges.items) → floor ≡ (if is_truth (term_of cond) then n else h.table.floor) → floor ≡ (if is_truth (term_of cond) then next (view_of h) else h.table.floor)
+floor_at cond h floor n e f = f ∙ ap (λ (m : ℕ). if is_truth (term_of cond) then m else h.table.floor) (e ∙ ap suc (sym (arrows_long h.sheet.edges.items)))
 
 module _ (ks : List Key) (hs : List Head) (d e : Drawing) (drawn : IsDrawn d) (heads : HasHeads ks d e hs) where
   pub heads_drawn : IsDrawn e

@@ -1,6 +1,7 @@
-use Rattle.std.proofs.Common.{rules, ℕ, ◌≤◌, refl, sym, subst, ap, ◌∙◌, arith}
+use Rattle.std.proofs.Common.{rules, ℕ, ◌≤◌, List, [], ◌∷◌, ◌++◌, refl, sym, subst, ap, ◌∙◌}
 use Rattle.jz_layers.specs.Spots.{spot_of}
-use Rattle.jz_secrets.specs.Graphs.{arrows_of}
+use Rattle.jz_secrets.specs.Graphs.{drawn, Arrow, arrows_of}
+use Rattle.jz_drawing.specs.Drawings.{arrow_between}
 use Rattle.jz_breaches.proofs.MeetingLabels.{again_for, now_for}
 use Rattle.jz_breaches.proofs.arms.meet_scalar.Goals as goal
 
@@ -14,5 +15,6 @@ returns-then-before c =
 pub returns : goal.returns
 returns c =
     now_for c.args.first.now c.args.second.now c.args.start (spot_of c.args.named) c.args.drawing.now c.requires.low _ c.get-below.result c.above-before.result c.in_ok-node.node c.node-left.result c.node-right.result (arrows_of c.link.new.edges.items)
-    c.requires.scalar c.get-below.ensures c.above-before.ensures (search rules) c.in_ok-node.ensures.number c.node-left.ensures c.node-right.ensures ? c.in_ok-link-2.ensures c.in_ok-put_named.ensures.nodes c.in_ok-put_named.ensures.seen refl
+    c.requires.scalar c.get-below.ensures c.above-before.ensures (search rules) c.in_ok-node.ensures.number c.node-left.ensures c.node-right.ensures
+    (c.in_ok-link.ensures ∙ ap (λ (xs : List Arrow). xs ++ arrow_between (drawn c.node-left.result) (drawn c.in_ok-node.node) ∷ []) c.in_ok-node.ensures.arrows) c.in_ok-link-2.ensures c.in_ok-put_named.ensures.nodes c.in_ok-put_named.ensures.seen refl
     c.put_named.ensures.floor c.put_named.ensures.below

@@ -1,7 +1,30 @@
-use Rattle.std.proofs.Common.{rules}
+use Rattle.std.proofs.Common.{rules, ap, arith}
 use Rattle.jz_breaches.specs.InnerPieces.{keys_of}
 use Rattle.jz_breaches.proofs.SetScalars.{block_begun, block_next, block_done, statement_covers, assign_covers, if_covers, while_covers, for_covers, mark_covers, turn_none, turn_some}
+use Rattle.jz_breaches.proofs.Measures.{body_weight, weights_at, weight_is, weight_if, weight_while}
 use Rattle.jz_breaches.proofs.heads.+setting.Goals as goal
+
+pub scalars_set-statement_sets-requires : goal.scalars_set-statement_sets-requires
+scalars_set-statement_sets-requires t c =
+    let fits = weights_at c.args.stmts.now c.loop-stmt.stmt-index c.stmt-item.result (search rules) (search rules) in (omega (arith, fits, c.decreases), tt)
+
+pub statement_sets-kind_sets-requires : goal.statement_sets-kind_sets-requires
+statement_sets-kind_sets-requires t c = let e = weight_is c.args.stmt.now in (omega (arith, e, c.decreases), tt)
+
+pub kind_sets-scalars_set-requires : goal.kind_sets-scalars_set-requires
+kind_sets-scalars_set-requires t c = let e = weight_if c.args.kind.now _ _ _ c.in-If.is in (omega (arith, e, c.decreases), tt)
+
+pub kind_sets-scalars_set-requires-2 : goal.kind_sets-scalars_set-requires-2
+kind_sets-scalars_set-requires-2 t c = let e = weight_if c.args.kind.now _ _ _ c.in-If.is in (omega (arith, e, c.decreases), tt)
+
+pub kind_sets-scalars_set-requires-3 : goal.kind_sets-scalars_set-requires-3
+kind_sets-scalars_set-requires-3 t c = let e = weight_while c.args.kind.now _ _ _ c.in-While.is in (omega (arith, e, c.decreases), tt)
+
+pub kind_sets-turn_sets-requires : goal.kind_sets-turn_sets-requires
+kind_sets-turn_sets-requires t c = let e = weight_while c.args.kind.now _ _ _ c.in-While.is in (omega (arith, e, c.decreases), tt)
+
+pub turn_sets-scalars_set-requires : goal.turn_sets-scalars_set-requires
+turn_sets-scalars_set-requires t c = let e = ap body_weight c.in-Some.is in (omega (arith, e, c.decreases), tt)
 
 pub scalars_set-loop-stmt-init : goal.scalars_set-loop-stmt-init
 scalars_set-loop-stmt-init t c = block_begun c.args.stmts.now (keys_of c.args.vars.now.items)

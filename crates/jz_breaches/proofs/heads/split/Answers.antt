@@ -1,4 +1,5 @@
 use Rattle.std.proofs.Common.{rules, refl}
+use Rattle.jz_breaches.proofs.LaidOver.{next_of}
 use Rattle.jz_breaches.proofs.Split.{heads_begun, heads_next, heads_done}
 use Rattle.jz_breaches.proofs.heads.split.Goals as goal
 
@@ -10,7 +11,7 @@ split_one-requires c = c.loop-target.invariant.low
 
 pub loop-target-preserved : goal.loop-target-preserved
 loop-target-preserved c =
-    heads_next c.args.vars.now c.loop-target.target-index c.target-item.result _ c.next-start.result c.args.drawing.now c.loop-target.drawing c.split_one.new.drawing c.loop-target.heads.items c.split_one.new.heads.items (search rules) (search rules) refl ?
+    heads_next c.args.vars.now c.loop-target.target-index c.target-item.result _ c.next-start.result c.args.drawing.now c.loop-target.drawing c.split_one.new.drawing c.loop-target.heads.items c.split_one.new.heads.items (search rules) (search rules) refl (next_of c.args.drawing.now c.next-start.result c.next-start.ensures)
     c.requires.bounded c.loop-target.invariant c.in_ok-split_one.ensures
 
 pub returns : goal.returns
