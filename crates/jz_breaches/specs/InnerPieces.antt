@@ -1,8 +1,9 @@
 -- Statements as the code draws them, and the scalars that they set.
-use Rattle.std.specs.Prelude.{◌≡◌, ℕ, Bool, true, false, ◌||◌, List, [], ◌∷◌, Option, Some, None, map}
+use Rattle.std.specs.Prelude.{◌≡◌, ℕ, Bool, true, false, ◌||◌, List, [], ◌∷◌, Option, Some, None, map, if◌then◌else◌}
 use Rattle.jz_tree.specs.Span.{Span}
 use Rattle.jz_tree.specs.declared.expr.Expr.{Expr}
 use Rattle.jz_tree.specs.declared.expr.Var.{Var}
+use Rattle.jz_tree.specs.declared.program.Param.{Param}
 use Rattle.jz_tree.specs.declared.stmt.Lval.{Lval}
 use Rattle.jz_tree.specs.declared.stmt.Stmt.{Stmt}
 use Rattle.jz_tree.specs.declared.stmt.StmtKind.{StmtKind}
@@ -13,12 +14,14 @@ use Rattle.jz_meaning.specs.Runs.{block, kind_tree}
 use Rattle.jz_meaning.specs.Statements.{Condition, Block}
 use Rattle.jz_terms.specs.Terms.{Term, truth}
 use Rattle.jz_labels.specs.Operations.{left_of}
+use Rattle.jz_labels.specs.ConstantTime.{secret_parameters, all_but}
 use Rattle.jz_layers.specs.Spots.{variable_key}
 use Rattle.jz_secrets.specs.Graphs.{Arrow, drawn}
 use Rattle.jz_drawing.specs.Drawings.{View, next, arrow_between, sets_lefts, sets, IsBounded}
 use Rattle.jz_drawing.specs.Draws.{Renews}
 use Rattle.jz_drawn_labels.specs.declared.drawing.Drawing.{Drawing}
-use Rattle.jz_drawn_labels.specs.Kept.{view_of, IsLow}
+use Rattle.jz_drawn_labels.specs.declared.table.Table.{Table}
+use Rattle.jz_drawn_labels.specs.Kept.{view_of, nodes_of, IsLow}
 use Rattle.jz_drawn_labels.specs.Drew.{no_callees}
 use Rattle.jz_breaches.specs.declared.heads.Head.{Head}
 use Rattle.jz_breaches.specs.declared.heads.Target.{Target}
@@ -108,3 +111,12 @@ pub record HasHeads (ks : List Key) (old new : Drawing) (hs : List Head) : Type 
   pub below : new.table.layers.below.items ≡ old.table.layers.below.items
   pub splits : Splits (view_of old) (view_of new) hs
   pub all : Has (head_keys hs) ks
+
+-- ---- the labels at entry
+
+-- the secret ones of these parameters have the label
+pub record HasSecrets (ps : List Param) (n : ℕ) (old new : Table) : Type 0 where
+  pub floor : new.floor ≡ old.floor
+  pub nodes :
+      (k : Key)
+      → nodes_of new k ≡ (if all_but (secret_parameters ps) k then nodes_of old k else n)

@@ -1,8 +1,17 @@
 //! The first breach.
 
+ghost use Rattle.std.specs.Prelude.{◌≡◌, map, IfOk};
+ghost use Rattle.jz_labels.specs.ConstantTime.{IsFirstBreach};
+ghost use Rattle.jz_secrets.specs.Graphs.{array, drawn};
+ghost use Rattle.jz_secrets.specs.Kept.{public_by};
+ghost use Rattle.jz_drawing.specs.Drawings as drawings;
+ghost use Rattle.jz_drawing.specs.Drawings.{IsFree};
+ghost use Rattle.jz_drawn_labels.specs.Kept.{asked_of};
+ghost use Rattle.jz_breaches.specs.Answers.{plain_block, told};
+
 use crate::entry::entry;
-use crate::sheet::Ask;
 use crate::statements::draw_block;
+use jz_drawn_labels::Ask;
 use jz_required::Required;
 use jz_secrets::{Secrets, secrets_of};
 use jz_tree::{Param, Seq, Stmt};
@@ -37,12 +46,3 @@ pub fn first_breach<'a>(
     let secrets = secrets_of(alloc, drawing.sheet.edges.as_slice(), count)?;
     Ok(first_asked(&secrets, drawing.sheet.asked.as_slice()))
 }
-
-ghost use Rattle.std.specs.Prelude.{◌≡◌, map, IfOk};
-ghost use Rattle.jz_secrets.specs.Graphs.{array, drawn};
-ghost use Rattle.jz_secrets.specs.Kept.{public_by};
-ghost use Rattle.jz_drawing.specs.Drawings as drawings;
-ghost use Rattle.jz_breaches.specs.Kept.{asked_of};
-ghost use Rattle.jz_labels.specs.ConstantTime.{IsFirstBreach};
-ghost use Rattle.jz_drawing.specs.Drawings.{IsFree};
-ghost use Rattle.jz_breaches.specs.Answers.{plain_block, told};

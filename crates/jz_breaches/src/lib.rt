@@ -3,12 +3,8 @@
 
 mod arms;
 mod breach;
-mod drawing;
 mod entry;
 mod heads;
-mod operating;
-mod sheet;
 mod statements;
-mod table;
 
 pub use breach::first_breach;

@@ -14,10 +14,11 @@ use Rattle.jz_labels.specs.Operations.{plain_of, tested_by}
 use Rattle.jz_labels.specs.Labels.{Publics, first}
 use Rattle.jz_labels.specs.Required.{Breach}
 use Rattle.jz_labels.specs.ConstantTime.{at_entry, AreKept, AreMost, IsFirst, IsFirstBreach}
+use Rattle.jz_first_breach.proofs.Arrays.{answer}
 use Rattle.jz_required.specs.Readings.{demand_breach}
 use Rattle.jz_secrets.specs.Graphs.{Vertex, hidden, drawn, array, Arrow, label, IsLabelling, IsBelow, AreBelow, AreFewest}
 use Rattle.jz_drawing.specs.Drawings.{Asked, View, next, IsFree, arrow_between, new_arrow, labels_of, ask_breach, first_asked, AreAskedBelow, IsBounded, flow, breaches, writes}
-use Rattle.jz_drawn_bodies.specs.Bodies.{entry_node, entry_view}
+use Rattle.jz_drawn_bodies.specs.Bodies.{entry_node, entry_view, BreachLaw}
 use Rattle.jz_drawing.specs.Draws.{Agrees, Under, Along, Told, Draws}
 use Rattle.jz_drawing.proofs.Labellings.{first_is, asked_below_right}
 
@@ -30,7 +31,7 @@ node_below : (c : Bool) → entry_node c < 3
 node_below true = omega (arith)
 node_below false = omega (arith)
 
-entry_bounded : (public : Key → Bool) → IsBounded (entry_view public)
+pub entry_bounded : (public : Key → Bool) → IsBounded (entry_view public)
 entry_bounded public =
     let zero_below : 0 < 3 = omega (arith) in
     let one : 0 < 1 = omega (arith) in
@@ -129,3 +130,6 @@ module _ (public : Key → Bool) (f : Block → Block) (free : IsFree (f done)) 
   pub is_first : (x : (o : Option Breach) × IsFirst plain_of tested_by public (f done) o) → IsFirst plain_of tested_by public (f done) (first_asked a t w.asked)
   is_first (o, (arrays, most, one)) =
       subst (λ (y : Option Breach). IsFirst plain_of tested_by public (f done) y) (told_breach arrays most o one) (arrays, most, one)
+
+pub breach_law : BreachLaw
+breach_law params f w public free d few = is_first (at_entry params) f free w d public few (answer plain_of tested_by (at_entry params) (f done) free)
