@@ -3,7 +3,8 @@ use Rattle.std.proofs.Common.{◌≡◌, ◌<◌, ◌≤◌, ℕ, suc, ◌+◌, 
 use Rattle.std.specs.Prelude.{not, ◌&&◌, ◌||◌}
 use Rattle.std.specs.Str.{bytes_eq}
 use Rattle.std.proofs.Math.Path.{fun_ext}
-use Rattle.std.proofs.lemmas.List.{take_more, take_all, at_drop_more, drop_of_length-le}
+use Rattle.std.proofs.lemmas.List.{take_more, take_all, at_drop_more}
+use Rattle.std.proofs.Math.ListN.{drop_of_length-le}
 use Rattle.jz_tree.specs.declared.program.Note.{Note}
 use Rattle.jz_tree.specs.declared.program.Param.{Param}
 use Rattle.jz_meaning.specs.States.{Key, same_key}

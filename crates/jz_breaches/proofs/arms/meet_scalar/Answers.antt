@@ -8,8 +8,8 @@ use Rattle.jz_breaches.proofs.arms.meet_scalar.Goals as goal
 pub put_named-requires-clause-floor : goal.put_named-requires-clause-floor
 put_named-requires-clause-floor c = subst (λ (n : ℕ). c.args.drawing.now.table.floor ≤ n) (sym c.in_ok-node.ensures.number) c.requires.low
 
-pub returns-then-before : goal.returns-then-before
-returns-then-before c =
+pub returns-then-before-start : goal.returns-then-before-start
+returns-then-before-start c =
     again_for c.args.first.now c.args.second.now c.args.start (spot_of c.args.named) c.args.drawing.now c.requires.low c.get-below.result c.above-before.result c.requires.scalar c.get-below.ensures c.above-before.ensures (search rules)
 
 pub returns : goal.returns

@@ -6,8 +6,8 @@ use Rattle.jz_breaches.proofs.heads.split_one.Goals as goal
 pub put-requires : goal.put-requires
 put-requires c = subst (λ (n : ℕ). c.args.drawing.now.table.floor ≤ n) (sym c.in_ok-node.ensures.number) c.requires
 
-pub returns-then-before : goal.returns-then-before
-returns-then-before c = again_split c.args.start c.args.var.now c.args.drawing.now c.args.heads.now.items c.requires c.node-before.result c.node-before.ensures (search rules)
+pub returns-then-before-start : goal.returns-then-before-start
+returns-then-before-start c = again_split c.args.start c.args.var.now c.args.drawing.now c.args.heads.now.items c.requires c.node-before.result c.node-before.ensures (search rules)
 
 pub returns : goal.returns
 returns c =
