@@ -21,7 +21,6 @@ use Rattle.jz_required.specs.Kept.{origin_of, reason_of}
 use Rattle.jz_drawing.specs.Drawings.{IsFree}
 use Rattle.jz_breaches.specs.Answers as drawn
 use Rattle.jz_change.specs.Changes.{Change}
-use Rattle.jz_inline.specs.Statements.{no_callees}
 use Rattle.jz_expansion.specs.Expansions.{IsExpanded}
 use Rattle.jz_one_expansion.proofs.Expansions.{expansion_plain}
 use Rattle.jz_ct.specs.declared.breach.Secret.{Secret}
@@ -71,7 +70,6 @@ free_one (each f b r) x y = absurd x
 free_one (call c b r) x y = absurd x
 
 expanded_free : (g : Fun) (k : Change) (n : ℕ) → IsExpanded g k n → IsFree (plain_body g)
-unfolding no_callees
 expanded_free g k n e = expansion_plain e.program e.source g k n e.expansion
 
 pub free_of : (g : Fun) (k : Change) (n : ℕ) → ∥ IsExpanded g k n ∥₁ → IsFree (plain_body g)
