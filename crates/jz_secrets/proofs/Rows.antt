@@ -350,9 +350,19 @@ pub first_row : (u v : ℕ) → has (row_at ([] ∷ []) u) v ≡ false
 first_row zero v = refl
 first_row (suc u) v = refl
 
-pub row_pushed : (rows new : List (List ℕ)) (row : List ℕ) → new ≡ rows ++ row ∷ [] → row ≡ [] → ((u v : ℕ) → has (row_at rows u) v ≡ false) → (u v : ℕ) → has (row_at new u) v ≡ false
+pub rows_begun : (none rows : List (List ℕ)) (row : List ℕ) → none ≡ [] → rows ≡ none ++ row ∷ [] → row ≡ [] → (length rows ≡ 0 + 1) × ((u v : ℕ) → has (row_at rows u) v ≡ false)
+rows_begun none rows row e f g =
+    let one : rows ≡ [] ∷ [] = f ∙ ap (λ (z : List (List ℕ)). z ++ row ∷ []) e ∙ ap (λ (r : List ℕ). r ∷ []) g in
+    (ap length one, λ u v. ap (λ (z : List (List ℕ)). has (row_at z u) v) one ∙ first_row u v)
+
+row_pushed : (rows new : List (List ℕ)) (row : List ℕ) → new ≡ rows ++ row ∷ [] → row ≡ [] → ((u v : ℕ) → has (row_at rows u) v ≡ false) → (u v : ℕ) → has (row_at new u) v ≡ false
 row_pushed rows new row e f h u v =
     ap (λ (z : List (List ℕ)). has (row_at z u) v) (e ∙ ap (λ (r : List ℕ). rows ++ r ∷ []) f) ∙ row_more rows u v ∙ h u v
+
+pub rows_pushed : (rows new : List (List ℕ)) (row : List ℕ) (n : ℕ) → new ≡ rows ++ row ∷ [] → row ≡ [] → length rows ≡ n + 1 → ((u v : ℕ) → has (row_at rows u) v ≡ false) → (length new ≡ n + 1 + 1) × ((u v : ℕ) → has (row_at new u) v ≡ false)
+rows_pushed rows new row n e f l h =
+    let longer : length new ≡ length rows + 1 = ap length e ∙ length-append rows (row ∷ []) in
+    (omega (arith, longer, l), row_pushed rows new row e f h)
 
 -- ---- a row that is longer
 

@@ -1,5 +1,6 @@
-use Rattle.std.proofs.Common.{rules, arith, ap, length, ◌≡◌, ◌∙◌, sym}
+use Rattle.std.proofs.Common.{rules, arith, ap, length, ℕ, List, [], ◌∷◌, ◌≡◌, ◌∙◌, subst}
 use Rattle.jz_secrets.specs.Kept.{marked_at}
+use Rattle.jz_secrets.specs.InnerGraphs.{MarksRow}
 use Rattle.jz_secrets.proofs.Rows.{first_reached, popped_below, row_within, gone_on, fewer_left, all_reached, none_is, replicated}
 use Rattle.jz_secrets.proofs.reach.reached.Goals as goal
 
@@ -12,7 +13,8 @@ mark-requires c =
 pub loop-number-init : goal.loop-number-init
 loop-number-init c =
     first_reached c.args.rows.now c.args.start c.requires.within c.in_ok-marked.marked.items c.mark.new.marked.items c.mark.new.left.items (ap length c.in_ok-marked.ensures ∙ replicated _)
-    (λ n. ap (λ ms. marked_at ms n) c.in_ok-marked.ensures ∙ none_is _ n) c.requires.start c.in_ok-mark.ensures.marks
+    (λ n. ap (λ ms. marked_at ms n) c.in_ok-marked.ensures ∙ none_is _ n) c.requires.start
+    (subst (λ (z : List ℕ). MarksRow (c.args.start ∷ []) c.in_ok-marked.marked.items c.mark.new.marked.items z c.mark.new.left.items) c.new-left.ensures.items c.in_ok-mark.ensures.marks)
 
 pub index-rows-number-requires : goal.index-rows-number-requires
 index-rows-number-requires c =
