@@ -38,7 +38,7 @@ fn empty_rows(alloc: Global, count: usize) -> Result<Vec<Seq<usize>>, AllocError
 
 impl<'a> Graph<'a> {
     /// The number of an array, which is a new one where it had none.
-    fn array(&mut self, alloc: Global, var: &'a Var) -> Result<usize, AllocError>
+    fn number_of_array(&mut self, alloc: Global, var: &'a Var) -> Result<usize, AllocError>
         requires { IsFine self.old }
         ensures fine { OnOk result (IsFine self.new) }
         ensures grows { OnOk result (Grows self.old self.new) }
@@ -56,7 +56,7 @@ impl<'a> Graph<'a> {
         Ok(number)
     }
 
-    fn number(&mut self, alloc: Global, node: Node<'a>) -> Result<usize, AllocError>
+    fn number_of(&mut self, alloc: Global, node: Node<'a>) -> Result<usize, AllocError>
         requires { IsFine self.old }
         ensures fine { OnOk result (IsFine self.new) }
         ensures grows { OnOk result (Grows self.old self.new) }
@@ -66,7 +66,7 @@ impl<'a> Graph<'a> {
             Node::Secret => Ok(self.count),
             Node::Drawn(number) => Ok(number),
             Node::Array(var) => {
-                let number = self.array(alloc, var)?;
+                let number = self.number_of_array(alloc, var)?;
                 Ok(number)
             }
         }
@@ -78,8 +78,8 @@ impl<'a> Graph<'a> {
         ensures fine { OnOk result (IsFine self.new) }
         ensures adds { OnOk result (AddsArrow (arrow_of edge.entry) self.old self.new) }
     {
-        let from = self.number(alloc, edge.from)?;
-        let to = self.number(alloc, edge.to)?;
+        let from = self.number_of(alloc, edge.from)?;
+        let to = self.number_of(alloc, edge.to)?;
         self.rows[from].push(to)?;
         Ok(())
     }

@@ -2,7 +2,7 @@ use Rattle.std.proofs.Common.{rules, refl, ap, ◌∙◌, ◌++◌, ◌∷◌, [
 use Rattle.jz_layers.specs.Spots.{spot_of, variable_key}
 use Rattle.jz_layers.proofs.TableLemmas.{put_is}
 use Rattle.jz_secrets.proofs.Graphing.{stays_fine, array_had, array_added}
-use Rattle.jz_secrets.proofs.graph.Graph.array.Goals as goal
+use Rattle.jz_secrets.proofs.graph.Graph.number_of_array.Goals as goal
 
 pub returns-in-Some-clause-grows : goal.returns-in-Some-clause-grows
 returns-in-Some-clause-grows c = stays_fine c.args.self.now
