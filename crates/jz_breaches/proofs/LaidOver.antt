@@ -47,7 +47,7 @@ module _ (before with_it behind : Layers ℕ) (opened : with_it.below.items ≡ 
 
   -- what stands below it
   pub below_it : seen_in with_it.below.items ≡ seen before
-  below_it = ap (λ ms. seen_in ms) opened ∙ seen_more nowhere before.below.items before.top
+  below_it = ap {B = Spot → Option ℕ} (λ ms. seen_in ms) opened ∙ seen_more nowhere before.below.items before.top
 
   module _ (closed : ClosesTo with_it behind) where
     same_lists : behind.below.items ++ behind.top ∷ [] ≡ before.below.items ++ before.top ∷ []
@@ -58,8 +58,8 @@ module _ (before with_it behind : Layers ℕ) (opened : with_it.below.items ≡ 
 
     pub seen_again : seen behind ≡ seen before
     seen_again =
-        ap (λ m. over m (seen_in behind.below.items)) (same_last behind.below.items before.below.items behind.top before.top same_lists)
-        ∙ ap (λ ms. over before.top (seen_in ms)) below_again
+        ap {B = Spot → Option ℕ} (λ m. over m (seen_in behind.below.items)) (same_last behind.below.items before.below.items behind.top before.top same_lists)
+        ∙ ap {B = Spot → Option ℕ} (λ ms. over before.top (seen_in ms)) below_again
 
 -- the next label, as the code counts it
 pub next_of : (d : Drawing) (n : ℕ) → n ≡ suc (length d.sheet.edges.items) → n ≡ next (view_of d)
