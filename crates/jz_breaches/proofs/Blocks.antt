@@ -14,8 +14,8 @@ use Rattle.jz_drawn_labels.specs.declared.drawing.Drawing.{Drawing}
 use Rattle.jz_drawn_labels.specs.Kept.{view_of}
 use Rattle.jz_drawn_labels.specs.Drew.{no_callees, IsDrawn, Drew}
 use Rattle.jz_drawn_labels.proofs.Operated.{nothing_drew}
-use Rattle.jz_breaches.specs.InnerPieces.{kind_piece, turn_piece}
-use Rattle.jz_breaches.proofs.Forms.{statement_is, block_then}
+use Rattle.jz_drawn_heads.specs.Pieces.{kind_piece, turn_piece}
+use Rattle.jz_drawn_heads.proofs.Forms.{statement_is, block_then}
 use Rattle.jz_breaches.proofs.LaidOver.{risen_then}
 
 pub drew_drawn : (f : Block → Block) (old new : Drawing) → IsDrawn old → Drew f old new → IsDrawn new

@@ -21,9 +21,9 @@ use Rattle.jz_drawn_labels.specs.Kept.{view_of, view_with, nodes_of, nodes_by, I
 use Rattle.jz_drawn_labels.specs.Drew.{no_callees, IsDrawn, HasRisen, Drew}
 use Rattle.jz_drawn_labels.proofs.Tables.{all_fall}
 use Rattle.jz_drawn_labels.proofs.Lefts.{same_view}
-use Rattle.jz_breaches.specs.declared.arms.Arm.{Arm}
-use Rattle.jz_breaches.specs.InnerPieces.{condition_at}
-use Rattle.jz_breaches.specs.InnerMeetings.{behind_arm, two, HasEnded, AreMet}
+use Rattle.jz_drawn_arms.specs.declared.arms.Arm.{Arm}
+use Rattle.jz_drawn_heads.specs.Pieces.{condition_at}
+use Rattle.jz_drawn_arms.specs.Meetings.{behind_arm, two, HasEnded, AreMet}
 use Rattle.jz_breaches.specs.InnerLoops.{IsBack, ArmDrawn}
 use Rattle.jz_breaches.proofs.LaidOver.{risen_from}
 

@@ -1,5 +1,5 @@
 -- A table that is laid over others and taken away again.
-use Rattle.std.proofs.Common.{◌≡◌, ◌⊎◌, inl, inr, ◌<◌, ◌≤◌, ℕ, suc, length, List, [], ◌∷◌, ◌++◌, Option, refl, sym, ap, ◌∙◌, subst, arith}
+use Rattle.std.proofs.Common.{◌≡◌, ◌⊎◌, inl, inr, ◌<◌, ◌≤◌, ℕ, List, [], ◌∷◌, ◌++◌, Option, refl, sym, ap, ◌∙◌, subst, arith}
 use Rattle.jz_meaning.specs.States.{Key}
 use Rattle.jz_layers.specs.Spots.{Spot, over, seen_in, nowhere}
 use Rattle.jz_layers.specs.Layered.{seen, IsOver, ClosesTo}
@@ -9,7 +9,6 @@ use Rattle.jz_drawing.specs.Drawings.{View, next, IsBounded}
 use Rattle.jz_drawn_labels.specs.declared.drawing.Drawing.{Drawing}
 use Rattle.jz_drawn_labels.specs.Kept.{view_of, nodes_by, IsLow}
 use Rattle.jz_drawn_labels.specs.Drew.{IsDrawn, HasRisen}
-use Rattle.jz_drawn_labels.proofs.Sheets.{arrows_long}
 
 but_last : {A : Type 0} → List A → List A
 but_last [] = []
@@ -60,10 +59,6 @@ module _ (before with_it behind : Layers ℕ) (opened : with_it.below.items ≡ 
     seen_again =
         ap {B = Spot → Option ℕ} (λ m. over m (seen_in behind.below.items)) (same_last behind.below.items before.below.items behind.top before.top same_lists)
         ∙ ap {B = Spot → Option ℕ} (λ ms. over before.top (seen_in ms)) below_again
-
--- the next label, as the code counts it
-pub next_of : (d : Drawing) (n : ℕ) → n ≡ suc (length d.sheet.edges.items) → n ≡ next (view_of d)
-next_of d n e = e ∙ ap suc (sym (arrows_long d.sheet.edges.items))
 
 -- ---- drawings of the same labels
 

@@ -1,15 +1,7 @@
-pub mod LoopHeads
-pub mod Split
-pub mod SetScalars
-pub mod Forms
-pub mod Meets
-pub mod MeetingLabels
-pub mod BehindArms
 pub mod LaidOver
+pub mod Overlays
 pub mod Blocks
 pub mod Choices
 pub mod Loops
-pub mod Measures
-pub mod Overlays
 pub mod Entered
 pub mod Answered

@@ -22,10 +22,11 @@ use Rattle.jz_drawn_labels.specs.Drew.{no_callees, IsDrawn, HasRisen, Drew}
 use Rattle.jz_drawn_labels.proofs.Tables.{all_fall}
 use Rattle.jz_drawn_labels.proofs.Lefts.{same_view}
 use Rattle.jz_drawn_labels.proofs.Sheets.{arrows_long}
-use Rattle.jz_breaches.specs.declared.heads.Head.{Head}
-use Rattle.jz_breaches.specs.InnerPieces.{condition_at, turn_piece, is_truth, has_key, head_keys, Covers, own, back_arrows, HasHeads}
+use Rattle.jz_drawn_heads.specs.declared.heads.Head.{Head}
+use Rattle.jz_drawn_heads.specs.Pieces.{condition_at, turn_piece, has_key, head_keys, Covers, own, back_arrows, HasHeads}
+use Rattle.jz_breaches.specs.InnerPieces.{is_truth}
 use Rattle.jz_breaches.specs.InnerLoops.{TurnDrawn}
-use Rattle.jz_breaches.proofs.LoopHeads.{comes_back}
+use Rattle.jz_drawn_heads.proofs.LoopHeads.{comes_back}
 use Rattle.jz_breaches.proofs.LaidOver.{risen_from}
 use Rattle.jz_breaches.proofs.Blocks.{drew_drawn}
 use Rattle.jz_breaches.proofs.Choices.{same_next, tested_drawn, nodes_back}

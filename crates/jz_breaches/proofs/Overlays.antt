@@ -14,10 +14,10 @@ use Rattle.jz_drawn_labels.specs.declared.table.Table.{Table}
 use Rattle.jz_drawn_labels.specs.Kept.{view_of, view_with, nodes_of, nodes_by}
 use Rattle.jz_drawn_labels.specs.Drew.{no_callees, IsDrawn, HasRisen, Drew}
 use Rattle.jz_drawn_labels.proofs.Lefts.{same_view}
-use Rattle.jz_breaches.specs.declared.arms.Arm.{Arm}
-use Rattle.jz_breaches.specs.declared.heads.Head.{Head}
-use Rattle.jz_breaches.specs.InnerPieces.{turn_piece, back_arrows}
-use Rattle.jz_breaches.specs.InnerMeetings.{behind_arm}
+use Rattle.jz_drawn_arms.specs.declared.arms.Arm.{Arm}
+use Rattle.jz_drawn_heads.specs.declared.heads.Head.{Head}
+use Rattle.jz_drawn_heads.specs.Pieces.{turn_piece, back_arrows}
+use Rattle.jz_drawn_arms.specs.Meetings.{behind_arm}
 use Rattle.jz_breaches.specs.InnerLoops.{IsBack, ArmDrawn, TurnDrawn}
 use Rattle.jz_breaches.proofs.LaidOver.{is_over, below_it, below_again, seen_again, same_drawn, risen_from}
 

@@ -8,10 +8,10 @@ use Rattle.jz_drawing.specs.Draws.{Draws}
 use Rattle.jz_drawn_labels.specs.declared.drawing.Drawing.{Drawing}
 use Rattle.jz_drawn_labels.specs.Kept.{view_of, view_with, IsLow}
 use Rattle.jz_drawn_labels.specs.Drew.{no_callees, HasRisen}
-use Rattle.jz_breaches.specs.declared.arms.Arm.{Arm}
-use Rattle.jz_breaches.specs.declared.heads.Head.{Head}
-use Rattle.jz_breaches.specs.InnerPieces.{turn_piece, back_arrows}
-use Rattle.jz_breaches.specs.InnerMeetings.{behind_arm}
+use Rattle.jz_drawn_arms.specs.declared.arms.Arm.{Arm}
+use Rattle.jz_drawn_heads.specs.declared.heads.Head.{Head}
+use Rattle.jz_drawn_heads.specs.Pieces.{turn_piece, back_arrows}
+use Rattle.jz_drawn_arms.specs.Meetings.{behind_arm}
 
 -- what was laid over the labels is taken away: they are those before it
 pub record IsBack (old new : Drawing) : Type 0 where

@@ -9,12 +9,13 @@ ghost use Rattle.jz_required.specs.Readings.{test_demands as demanded};
 ghost use Rattle.jz_drawing.specs.Drawings.{asks_in, with_asked};
 ghost use Rattle.jz_drawn_labels.specs.Kept.{view_of};
 ghost use Rattle.jz_drawn_labels.specs.Drew.{no_callees, IsDrawn, Drew};
-ghost use Rattle.jz_breaches.specs.InnerPieces.{kind_piece, turn_piece, condition_at, is_truth};
-ghost use Rattle.jz_breaches.specs.InnerPieces.{Covers, keys_of};
+ghost use Rattle.jz_drawn_heads.specs.Pieces.{kind_piece, turn_piece, condition_at};
+ghost use Rattle.jz_breaches.specs.InnerPieces.{is_truth};
+ghost use Rattle.jz_drawn_heads.specs.Pieces.{Covers, keys_of};
 ghost use Rattle.jz_breaches.specs.InnerLoops.{ArmDrawn, TurnDrawn};
 
-use crate::arms::{Arm, end_arm, meet};
-use crate::heads::{Head, Target, come_back, scalars_set, split, turn_sets};
+use jz_drawn_arms::{Arm, end_arm, meet};
+use jz_drawn_heads::{Head, Target, come_back, scalars_set, split, turn_sets};
 use jz_drawn_labels::{Drawing, ask, draw_assign};
 use jz_required::test_demands;
 use jz_tree::{Expr, Seq, Stmt, StmtKind};

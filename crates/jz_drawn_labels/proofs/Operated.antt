@@ -21,6 +21,7 @@ use Rattle.jz_drawn_labels.specs.Kept.{view_of, IsLow}
 use Rattle.jz_drawn_labels.specs.Drew.{no_callees, IsDrawn, Drew}
 use Rattle.jz_drawn_labels.specs.InnerLefts.{lefts_drawn}
 use Rattle.jz_drawn_labels.proofs.Lefts.{same_view, lefts_are}
+use Rattle.jz_drawn_labels.proofs.Sheets.{arrows_long}
 
 -- by its label, its left sides and what it reads
 abbrev drawn_by : ℕ → List Left → Reading → View → View
@@ -102,3 +103,7 @@ module _ (to : List Lval) (o : Option BinOp) (r : Rhs) (c : Option Expr) (at : S
       subst (λ (x : Rhs). Drew (assign_tree no_callees to o x c at) d d) (sym h)
       (subst (λ (x : Option BinOp). Drew (assign_tree no_callees to x (rhs.Intrinsic n args place) c at) d d) (sym e)
       (subst (λ (x : Option Expr). Drew (assign_tree no_callees to None (rhs.Intrinsic n args place) x at) d d) (sym g) (meaningless_drew place d b)))
+
+-- the next label, as the code counts it
+pub next_of : (d : Drawing) (n : ℕ) → n ≡ suc (length d.sheet.edges.items) → n ≡ next (view_of d)
+next_of d n e = e ∙ ap suc (sym (arrows_long d.sheet.edges.items))

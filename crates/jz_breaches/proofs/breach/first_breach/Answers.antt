@@ -1,4 +1,4 @@
-use Rattle.jz_breaches.proofs.LaidOver.{next_of}
+use Rattle.jz_drawn_labels.proofs.Operated.{next_of}
 use Rattle.jz_breaches.proofs.Answered.{entry_drawn, edges_below, some_label, answered}
 use Rattle.jz_breaches.proofs.breach.first_breach.Goals as goal
 

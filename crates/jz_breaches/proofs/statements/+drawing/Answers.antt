@@ -8,12 +8,12 @@ use Rattle.jz_drawing.proofs.Pieces.{mark_drawn, each_drawn}
 use Rattle.jz_drawn_labels.specs.Kept.{view_of}
 use Rattle.jz_drawn_labels.specs.Drew.{no_callees}
 use Rattle.jz_drawn_labels.proofs.Operated.{nothing_drew}
-use Rattle.jz_breaches.specs.declared.heads.Head.{Head}
-use Rattle.jz_breaches.specs.declared.heads.Target.{Target}
-use Rattle.jz_breaches.specs.InnerPieces.{kind_piece, turn_piece, keys_of, HasHeads}
+use Rattle.jz_drawn_heads.specs.declared.heads.Head.{Head}
+use Rattle.jz_drawn_heads.specs.declared.heads.Target.{Target}
+use Rattle.jz_drawn_heads.specs.Pieces.{kind_piece, turn_piece, keys_of, HasHeads}
 use Rattle.jz_breaches.specs.InnerLoops.{TurnDrawn}
-use Rattle.jz_breaches.proofs.Measures.{body_weight, weights_at, weight_is, weight_if, weight_while}
-use Rattle.jz_breaches.proofs.Forms.{assign_is, if_is, while_is, for_is, mark_is}
+use Rattle.jz_drawn_heads.proofs.Measures.{body_weight, weights_at, weight_is, weight_if, weight_while}
+use Rattle.jz_drawn_heads.proofs.Forms.{assign_is, if_is, while_is, for_is, mark_is}
 use Rattle.jz_breaches.proofs.Blocks.{drew_drawn, drew_as, block_begun, block_next, block_done, statement_drew, body_none, body_some}
 use Rattle.jz_breaches.proofs.Overlays.{opened_drawn, over_it, arm_is, turn_is}
 use Rattle.jz_breaches.proofs.Choices.{tested_drawn, arm_drawn, second_drawn, first_ended, second_ended, choice_drew}

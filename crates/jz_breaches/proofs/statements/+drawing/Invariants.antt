@@ -1,7 +1,7 @@
 use Rattle.std.proofs.Common.{take, ◌+◌, ◌*◌}
 use Rattle.jz_meaning.specs.Runs.{block}
 use Rattle.jz_drawn_labels.specs.Drew.{no_callees, Drew}
-use Rattle.jz_breaches.proofs.Measures.{weight, weight_kind, weights, body_weight}
+use Rattle.jz_drawn_heads.proofs.Measures.{weight, weight_kind, weights, body_weight}
 use Rattle.jz_breaches.proofs.statements.+drawing.Given as goal
 
 abbrev pub decreases-draw_kind : goal.decreases-draw_kind

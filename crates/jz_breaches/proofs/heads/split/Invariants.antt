@@ -1,6 +1,0 @@
-use Rattle.std.proofs.Common.{take}
-use Rattle.jz_breaches.specs.InnerPieces.{keys_of, HasHeads}
-use Rattle.jz_breaches.proofs.heads.split.Given as goal
-
-abbrev pub invariant-loop-target : goal.invariant-loop-target
-invariant-loop-target l = HasHeads (keys_of (take l.target-index l.target-items)) l.fn.drawing l.drawing l.heads.items
