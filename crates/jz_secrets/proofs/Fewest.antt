@@ -9,16 +9,7 @@ use Rattle.jz_secrets.specs.declared.secrets.Secrets.{Secrets}
 use Rattle.jz_secrets.specs.Graphs.{Vertex, hidden, drawn, array, Arrow, label, Keeps, IsLabelling, IsBelow, IsEnd, AreBelow, AreFewest}
 use Rattle.jz_secrets.specs.Kept.{marked_at, unless_marked, public_by}
 use Rattle.jz_secrets.specs.InnerGraphs.{has, row_at, whole, number_in, IsFine, Occurs, IsGraphOf, Path, here, on, AreReached}
-
-clash : {A : Type 0} → true ≡ false → A
-clash e = absurd (cc e)
-
-abbrev number_or : ℕ → Option ℕ → ℕ
-number_or d None = d
-number_or d (Some x) = x
-
-some_same : (a b : ℕ) → Some a ≡ Some b → a ≡ b
-some_same a b e = ap (number_or a) e
+use Rattle.jz_secrets.proofs.Graphing.{some_is}
 
 below_of : (n : ℕ) (v : Vertex) → IsEnd n v → IsBelow n v
 below_of n hidden e = absurd e
@@ -42,13 +33,13 @@ below_each n [] b x o = absurd o
 
 same_vertex : (g : Graph) → IsFine g → (v w : Vertex) (n : ℕ) → IsBelow g.count v → IsBelow g.count w → number_in g v ≡ Some n → number_in g w ≡ Some n → v ≡ w
 same_vertex g f hidden hidden n b c p q = refl
-same_vertex g f hidden (drawn j) n b c p q = let x = some_same g.count n p in let y = some_same j n q in absurd (omega (arith, x, y, c))
-same_vertex g f hidden (array k) n b c p q = let x = some_same g.count n p in let y = f.within k n q in absurd (omega (arith, x, y.0))
-same_vertex g f (drawn i) hidden n b c p q = let x = some_same g.count n q in let y = some_same i n p in absurd (omega (arith, x, y, b))
-same_vertex g f (drawn i) (drawn j) n b c p q = ap drawn (some_same i n p ∙ sym (some_same j n q))
-same_vertex g f (drawn i) (array k) n b c p q = let x = some_same i n p in let y = f.within k n q in absurd (omega (arith, x, y.0, b))
-same_vertex g f (array k) hidden n b c p q = let x = some_same g.count n q in let y = f.within k n p in absurd (omega (arith, x, y.0))
-same_vertex g f (array k) (drawn j) n b c p q = let x = some_same j n q in let y = f.within k n p in absurd (omega (arith, x, y.0, c))
+same_vertex g f hidden (drawn j) n b c p q = let x = some_is g.count n p in let y = some_is j n q in absurd (omega (arith, x, y, c))
+same_vertex g f hidden (array k) n b c p q = let x = some_is g.count n p in let y = f.within k n q in absurd (omega (arith, x, y.0))
+same_vertex g f (drawn i) hidden n b c p q = let x = some_is g.count n q in let y = some_is i n p in absurd (omega (arith, x, y, b))
+same_vertex g f (drawn i) (drawn j) n b c p q = ap drawn (some_is i n p ∙ sym (some_is j n q))
+same_vertex g f (drawn i) (array k) n b c p q = let x = some_is i n p in let y = f.within k n q in absurd (omega (arith, x, y.0, b))
+same_vertex g f (array k) hidden n b c p q = let x = some_is g.count n q in let y = f.within k n p in absurd (omega (arith, x, y.0))
+same_vertex g f (array k) (drawn j) n b c p q = let x = some_is j n q in let y = f.within k n p in absurd (omega (arith, x, y.0, c))
 same_vertex g f (array k) (array l) n b c p q = ap array (f.apart k l n p q)
 
 module _ (xs : List Arrow) (g : Graph) (graph : IsGraphOf xs g) (below : AreBelow g.count xs) where
@@ -58,7 +49,7 @@ module _ (xs : List Arrow) (g : Graph) (graph : IsGraphOf xs g) (below : AreBelo
     where
       by : (v : Vertex) → IsBelow g.count v → number_in g v ≡ Some g.count → label a t v ≡ false
       by hidden b e = refl
-      by (drawn i) b e = let x = some_same i g.count e in absurd (omega (arith, x, b))
+      by (drawn i) b e = let x = some_is i g.count e in absurd (omega (arith, x, b))
       by (array k) b e = let x = graph.fine.within k g.count e in absurd (omega (arith, x.0))
   reached_secret a t l n (on {u} {w} p h) v b e =
       let o = graph.only u n h in
@@ -76,8 +67,8 @@ module _ (xs : List Arrow) (g : Graph) (graph : IsGraphOf xs g) (below : AreBelo
     public v = public_by s v
 
     at_number : (v : Vertex) (n : ℕ) → number_in g v ≡ Some n → public v ≡ not (marked_at marked n)
-    at_number hidden n e = sym (ap (λ m. not (marked_at marked m)) (sym (some_same g.count n e)) ∙ ap not reach.begun)
-    at_number (drawn i) n e = ap (λ ms. not (marked_at ms i)) is ∙ ap (λ m. not (marked_at marked m)) (some_same i n e)
+    at_number hidden n e = sym (ap (λ m. not (marked_at marked m)) (sym (some_is g.count n e)) ∙ ap not reach.begun)
+    at_number (drawn i) n e = ap (λ ms. not (marked_at ms i)) is ∙ ap (λ m. not (marked_at marked m)) (some_is i n e)
     at_number (array k) n e = ap (λ ms. unless_marked ms (entry_in s.arrays (whole k))) is ∙ ap (unless_marked marked) (same k ∙ e)
 
     label_is : (v : Vertex) → label (λ k. public (array k)) (λ i. public (drawn i)) v ≡ public v
@@ -104,7 +95,7 @@ module _ (xs : List Arrow) (g : Graph) (graph : IsGraphOf xs g) (below : AreBelo
       where
         no_end : (v : Vertex) → IsEnd g.count v → number_in g v ≡ Some 0 → ⊥
         no_end hidden b h = b
-        no_end (drawn i) b h = let x = some_same i 0 h in absurd (omega (arith, x, b.0))
+        no_end (drawn i) b h = let x = some_is i 0 h in absurd (omega (arith, x, b.0))
         no_end (array k) b h = let x = graph.fine.within k 0 h in absurd (omega (arith, x.0))
 
         by_path : (n : ℕ) → Path g.rows.items g.count n → n ≡ 0 → ⊥

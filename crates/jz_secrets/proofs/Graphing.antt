@@ -12,19 +12,7 @@ use Rattle.jz_secrets.specs.declared.graph.Graph.{Graph}
 use Rattle.jz_secrets.specs.declared.edge.Edge.{Edge}
 use Rattle.jz_secrets.specs.Graphs.{Vertex, hidden, drawn, array, Arrow, arrow_of, arrows_of, IsBelow, IsEnd, AreBelow}
 use Rattle.jz_secrets.specs.InnerGraphs.{has, row_at, whole, number_in, IsFine, Grows, AddsArrow, Occurs, IsGraphOf}
-use Rattle.jz_secrets.proofs.Rows.{row_more, row_longer, rows_long}
-
-either : (a b : Bool) → (a || b) ≡ true → (a ≡ true) ⊎ (b ≡ true)
-either true b e = inl refl
-either false b e = inr e
-
-left_or : (a b : Bool) → a ≡ true → (a || b) ≡ true
-left_or true b e = refl
-left_or false b e = absurd (false≢true e)
-
-right_or : (a b : Bool) → b ≡ true → (a || b) ≡ true
-right_or true b e = refl
-right_or false b e = e
+use Rattle.jz_secrets.proofs.Rows.{itself, either, left_or, right_or, row_more, row_longer, rows_long}
 
 both_of : (a b : Bool) → a ≡ true → b ≡ true → (a && b) ≡ true
 both_of true b p q = q
@@ -53,7 +41,7 @@ abbrev number_or : ℕ → Option ℕ → ℕ
 number_or d None = d
 number_or d (Some x) = x
 
-some_is : (a b : ℕ) → Some a ≡ Some b → a ≡ b
+pub some_is : (a b : ℕ) → Some a ≡ Some b → a ≡ b
 some_is a b e = ap (number_or a) e
 
 pub none_begun : (g : Graph) → IsFine g → ((u v : ℕ) → has (row_at g.rows.items u) v ≡ false) → IsGraphOf [] g
@@ -70,9 +58,6 @@ end_number g f (array k) n b e = (f.within k n e).1
 
 same_number : (n m : ℕ) → nat_eq n m ≡ true → n ≡ m
 same_number n m e = grind (arith, nat_tests, e)
-
-itself : (n : ℕ) → nat_eq n n ≡ true
-itself n = grind (arith, nat_tests)
 
 -- an arrow stands in a row
 abbrev There : Graph → Arrow → Type 0
