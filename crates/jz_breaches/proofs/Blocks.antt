@@ -46,7 +46,7 @@ block_next ss i s old middle new lt is d e =
     (both_drew (block no_callees (take i ss)) (statement_tree no_callees s) old middle new d e)
 
 pub block_done : (ss : List Stmt) (i : ℕ) (old new : Drawing) → length ss ≤ i → Drew (block no_callees (take i ss)) old new → Drew (block no_callees ss) old new
-block_done ss i old new l d = subst (λ (xs : List Stmt). Drew (block no_callees xs) old new) (take_all ss i l) d
+block_done ss i old new l d = subst (λ (xs : List Stmt). Drew (block no_callees xs) old new) (take_all i ss l) d
 
 pub statement_drew : (s : Stmt) (old new : Drawing) → Drew (kind_piece s.kind s.span) old new → Drew (statement_tree no_callees s) old new
 statement_drew s old new d = drew_as (statement_tree no_callees s) (kind_piece s.kind s.span) old new (statement_is s) d

@@ -93,7 +93,7 @@ secrets_next ps i p n t u v lt is a b =
     })
 
 pub secrets_done : (ps : List Param) (i : ℕ) (n : ℕ) (t u : Table) → length ps ≤ i → HasSecrets (take i ps) n t u → HasSecrets ps n t u
-secrets_done ps i n t u l a = subst (λ (qs : List Param). HasSecrets qs n t u) (take_all ps i l) a
+secrets_done ps i n t u l a = subst (λ (qs : List Param). HasSecrets qs n t u) (take_all i ps l) a
 
 -- ---- the view before the first statement
 

@@ -81,7 +81,7 @@ lefts_next ds i d a b c lt is p q =
     )
 
 pub lefts_done : (ds : List Lval) (i : ℕ) (a b : List Key) → length ds ≤ i → LeftsMore (take i ds) a b → LeftsMore ds a b
-lefts_done ds i a b l p = subst (λ (xs : List Lval). LeftsMore xs a b) (take_all ds i l) p
+lefts_done ds i a b l p = subst (λ (xs : List Lval). LeftsMore xs a b) (take_all i ds l) p
 
 -- ---- statements
 
@@ -100,7 +100,7 @@ block_next ss i s a b c lt is p q =
     )
 
 pub block_done : (ss : List Stmt) (i : ℕ) (a b : List Key) → length ss ≤ i → CoversMore (block no_callees (take i ss)) a b → CoversMore (block no_callees ss) a b
-block_done ss i a b l p = subst (λ (xs : List Stmt). CoversMore (block no_callees xs) a b) (take_all ss i l) p
+block_done ss i a b l p = subst (λ (xs : List Stmt). CoversMore (block no_callees xs) a b) (take_all i ss l) p
 
 pub statement_covers : (s : Stmt) (a b : List Key) → CoversMore (kind_piece s.kind s.span) a b → CoversMore (statement_tree no_callees s) a b
 statement_covers s a b p = subst (λ (f : Block → Block). CoversMore f a b) (sym (statement_is s)) p

@@ -121,7 +121,7 @@ heads_next ts i t x n d e new hs gs lt is of start bound p q = record {
         absurd (false≢true (sym h ∙ ap (has_key (head_keys gs)) (keys_same k (variable_key t.var.now) j ∙ ap variable_key of) ∙ (q.splits (view_of d) start bound p.splits).1))
 
 pub heads_done : (ts : List Target) (i : ℕ) (d e : Drawing) (hs : List Head) → length ts ≤ i → HasHeads (keys_of (take i ts)) d e hs → HasHeads (keys_of ts) d e hs
-heads_done ts i d e hs l p = subst (λ (us : List Target). HasHeads (keys_of us) d e hs) (take_all ts i l) p
+heads_done ts i d e hs l p = subst (λ (us : List Target). HasHeads (keys_of us) d e hs) (take_all i ts l) p
 
 -- ---- what comes back
 
@@ -133,4 +133,4 @@ back_next e hs i h before old now new lt is b p q =
     ∙ ap (λ (xs : List Arrow). old ++ xs) (sym (ap (back_arrows e) (take_more hs i h lt ∙ ap (λ y. take i hs ++ y ∷ []) (sym is)) ∙ map-append (λ (g : Head). arrow_between (drawn (e (variable_key g.var.now))) (drawn g.node)) (take i hs) (h ∷ [])))
 
 pub back_done : (e : Key → ℕ) (hs : List Head) (i : ℕ) (old now : List Arrow) → length hs ≤ i → now ≡ old ++ back_arrows e (take i hs) → now ≡ old ++ back_arrows e hs
-back_done e hs i old now l q = q ∙ ap (λ (gs : List Head). old ++ back_arrows e gs) (take_all hs i l)
+back_done e hs i old now l q = q ∙ ap (λ (gs : List Head). old ++ back_arrows e gs) (take_all i hs l)

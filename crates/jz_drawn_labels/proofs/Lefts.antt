@@ -51,7 +51,7 @@ lefts_more n ds i d v m w lt is e h =
     ∙ ap (λ xs. lefts_drawn n xs v) (sym (ap (map left_of) (take_more ds i d lt ∙ ap (λ y. take i ds ++ y ∷ []) (sym is)) ∙ map-append left_of (take i ds) (d ∷ [])))
 
 pub lefts_all : (n : ℕ) (ds : List Lval) (i : ℕ) (v m : View) → length ds ≤ i → m ≡ lefts_drawn n (map left_of (take i ds)) v → m ≡ lefts_drawn n (map left_of ds) v
-lefts_all n ds i v m l h = h ∙ ap (λ xs. lefts_drawn n (map left_of xs) v) (take_all ds i l)
+lefts_all n ds i v m l h = h ∙ ap (λ xs. lefts_drawn n (map left_of xs) v) (take_all i ds l)
 
 -- all of them at once
 pub lefts_are : (n : ℕ) (ds : List Left) (v : View) → lefts_drawn n ds v ≡ record { nodes = put_lefts n ds v.nodes; arrows = v.arrows ++ lefts_arrows n ds; asked = v.asked ++ lefts_asked n ds v.nodes }

@@ -43,7 +43,7 @@ linked_next e n ps i p v old now new lt is at h k =
     ∙ ap (λ (xs : List Arrow). old ++ xs) (sym (arrows_both e n (origins_of (take i ps)) (origin_of p ∷ [])) ∙ ap (λ os. arrows_from e os n) (sym (origins_next ps i p lt is)))
 
 pub linked_all : (e : Key → ℕ) (n : ℕ) (ps : List Part) (i : ℕ) (old now : List Arrow) → length ps ≤ i → now ≡ old ++ arrows_from e (origins_of (take i ps)) n → now ≡ old ++ arrows_from e (origins_of ps) n
-linked_all e n ps i old now l k = k ∙ ap (λ qs. old ++ arrows_from e (origins_of qs) n) (take_all ps i l)
+linked_all e n ps i old now l k = k ∙ ap (λ qs. old ++ arrows_from e (origins_of qs) n) (take_all i ps l)
 
 -- ---- one demand more
 
@@ -63,4 +63,4 @@ asked_next e ds i d at old now new lt is v h k =
     ∙ ap (λ (xs : List Asked). old ++ xs) (sym (asks_both e (demands_of (take i ds)) (demand_of d ∷ [])) ∙ ap (asks_in e) (sym (demands_next ds i d lt is)))
 
 pub asked_all : (e : Key → ℕ) (ds : List Required) (i : ℕ) (old now : List Asked) → length ds ≤ i → now ≡ old ++ asks_in e (demands_of (take i ds)) → now ≡ old ++ asks_in e (demands_of ds)
-asked_all e ds i old now l k = k ∙ ap (λ qs. old ++ asks_in e (demands_of qs)) (take_all ds i l)
+asked_all e ds i old now l k = k ∙ ap (λ qs. old ++ asks_in e (demands_of qs)) (take_all i ds l)

@@ -29,7 +29,7 @@ one_demand ps i p at why old now new lt is e h =
 
 pub all_demands : (ps : List Part) (i : ℕ) (at : Span) (why : Reason) (old : List Demand) (now : List Required) → length ps ≤ i
     → demands_of now ≡ old ++ demands_at at (reason_of why) (origins_of (take i ps)) → demands_of now ≡ old ++ demands_at at (reason_of why) (origins_of ps)
-all_demands ps i at why old now l h = h ∙ ap (λ x. old ++ demands_at at (reason_of why) (origins_of x)) (take_all ps i l)
+all_demands ps i at why old now l h = h ∙ ap (λ x. old ++ demands_at at (reason_of why) (origins_of x)) (take_all i ps l)
 
 -- readings of lists
 same_reading : (a b : Reading) → a.origins ≡ b.origins → a.demands ≡ b.demands → a ≡ b

@@ -61,7 +61,7 @@ pub(crate) fn require<'a>(
 /// What has to be public of an index or an address.
 pub(crate) fn place<'a>(inner: Found<'a>, span: Span) -> Result<Seq<Required<'a>>, AllocError>
     ensures { IfOk result
-        (λ r. demands_of r ≡ readings.place_demands span (reading_of inner)) }
+        (λ r. demands_of r ≡ readings.place_demands span (reading_of inner.entry)) }
 {
     let Found {
         parts,
@@ -79,7 +79,7 @@ pub(crate) fn cell<'a>(
     span: Span,
 ) -> Result<Found<'a>, AllocError>
     ensures { IfOk result (λ f. reading_of f ≡ readings.cell_reading (variable_key array.now) span
-        (reading_of inner)) }
+        (reading_of inner.entry)) }
 {
     let Found {
         parts: read,
@@ -94,7 +94,8 @@ pub(crate) fn cell<'a>(
 
 /// What memory holds at an address.
 pub(crate) fn load<'a>(alloc: Global, inner: Found<'a>, span: Span) -> Result<Found<'a>, AllocError>
-    ensures { IfOk result (λ f. reading_of f ≡ readings.load_reading span (reading_of inner)) }
+    ensures { IfOk result
+        (λ f. reading_of f ≡ readings.load_reading span (reading_of inner.entry)) }
 {
     let required = place(inner, span)?;
     let mut parts = Seq::new(alloc);
@@ -104,8 +105,8 @@ pub(crate) fn load<'a>(alloc: Global, inner: Found<'a>, span: Span) -> Result<Fo
 
 /// One after another.
 pub(crate) fn both<'a>(left: Found<'a>, right: Found<'a>) -> Result<Found<'a>, AllocError>
-    ensures { IfOk result
-        (λ f. reading_of f ≡ readings.both_readings (reading_of left) (reading_of right)) }
+    ensures { IfOk result (λ f. reading_of f
+        ≡ readings.both_readings (reading_of left.entry) (reading_of right.entry)) }
 {
     let Found {
         mut parts,
@@ -127,8 +128,8 @@ pub(crate) fn operation<'a>(
     left: Found<'a>,
     right: Found<'a>,
 ) -> Result<Found<'a>, AllocError>
-    ensures { IfOk result (λ f. reading_of f
-        ≡ readings.operation_reading divides span (reading_of left) (reading_of right)) }
+    ensures { IfOk result (λ f. reading_of f ≡ readings.operation_reading divides span
+        (reading_of left.entry) (reading_of right.entry)) }
 {
     let joined = both(left, right)?;
     if !divides {

@@ -31,7 +31,7 @@ pub(crate) struct Side<'a> {
 #[tactic(auto, using(crate::proofs::Sides::last_operand))]
 fn joined_side<'a>(side: Side<'a>) -> Result<Found<'a>, AllocError>
     ensures { IfOk result
-        (λ f. reading_of f ≡ on_operands side.operands.items (reading_of side.first)) }
+        (λ f. reading_of f ≡ on_operands side.entry.operands.items (reading_of side.entry.first)) }
 {
     let Side {
         mut operands,

@@ -80,7 +80,7 @@ fn whole_reads<'a>(
     value: &'a Expr,
 ) -> Result<Found<'a>, AllocError>
     ensures { IfOk result (λ f. reading_of f ≡ readings.all_readings
-        (plain.read_if (assignments.whole_of (option_copied last) op value.now))) }
+        (plain.read_if (assignments.whole_of (option_copied last.entry) op value.now))) }
 {
     match op {
         None => {
@@ -100,7 +100,7 @@ fn whole_reads<'a>(
 /// The old value of what a condition guards.
 fn kept_reads<'a>(alloc: Global, last: Option<&'a Lval>) -> Result<Found<'a>, AllocError>
     ensures { IfOk result (λ f. reading_of f
-        ≡ readings.all_readings (plain.old_of (option_copied last))) }
+        ≡ readings.all_readings (plain.old_of (option_copied last.entry))) }
 {
     match last {
         None => Ok(nothing(alloc)),
@@ -121,7 +121,7 @@ fn guard_reads<'a>(
     cond: &'a Option<Expr>,
 ) -> Result<Found<'a>, AllocError>
     ensures { IfOk result (λ f. reading_of f
-        ≡ readings.all_readings (plain.with_condition cond.now (option_copied last))) }
+        ≡ readings.all_readings (plain.with_condition cond.now (option_copied last.entry))) }
 {
     match cond {
         None => Ok(nothing(alloc)),

@@ -252,7 +252,7 @@ graph_more n xs i x g h lt is b c p f a =
     (a.count ∙ c, subst (λ (z : List Arrow). IsGraphOf z h) (sym (arrows_next xs i x lt is)) (one_more (arrows_of (take i xs)) (arrow_of x) g h e p f a))
 
 pub graph_all : (xs : List Edge) (i : ℕ) (g : Graph) → length xs ≤ i → IsGraphOf (arrows_of (take i xs)) g → IsGraphOf (arrows_of xs) g
-graph_all xs i g l p = subst (λ (z : List Edge). IsGraphOf (arrows_of z) g) (take_all xs i l) p
+graph_all xs i g l p = subst (λ (z : List Edge). IsGraphOf (arrows_of z) g) (take_all i xs l) p
 
 -- the number of what is below stands in the rows
 pub number_within : (g : Graph) → IsFine g → (m : ℕ) → g.count ≡ m → (v : Vertex) (n : ℕ) → number_in g v ≡ Some n → IsBelow m v → n < length g.rows.items

@@ -311,7 +311,7 @@ pub row_next : (row : List ℕ) (i x : ℕ) (a b c : List Bool) (l m n : List �
 row_next row i x a b c l m n lt is p q = subst (λ (z : List ℕ). MarksRow z a c l n) (sym (next_taken row i x lt is)) (one_more (take i row) x a b c l m n p q)
 
 pub row_done : (row : List ℕ) (i : ℕ) (a b : List Bool) (l m : List ℕ) → length row ≤ i → MarksRow (take i row) a b l m → MarksRow row a b l m
-row_done row i a b l m e p = subst (λ (z : List ℕ). MarksRow z a b l m) (take_all row i e) p
+row_done row i a b l m e p = subst (λ (z : List ℕ). MarksRow z a b l m) (take_all i row e) p
 
 pub row_has : (row : List ℕ) (i x : ℕ) → i < length row → x ≡ get_or row i x → has row x ≡ true
 row_has [] i x lt is = absurd (omega (arith, lt))

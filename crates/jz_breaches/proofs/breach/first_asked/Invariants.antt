@@ -9,4 +9,4 @@ abbrev pub invariant-loop-ask : goal.invariant-loop-ask
 invariant-loop-ask l =
     let a = λ k. public_by l.secrets (array k) in
     let t = λ i. public_by l.secrets (drawn i) in
-    first_asked a t (map asked_of l.ask-items) ≡ first_asked a t (map asked_of (drop l.ask-index l.ask-items))
+    first_asked a t (map asked_of l.asked) ≡ first_asked a t (map asked_of (drop l.ask-index l.asked))

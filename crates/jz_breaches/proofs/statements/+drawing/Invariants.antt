@@ -29,4 +29,4 @@ abbrev pub decreases-draw_loop : goal.decreases-draw_loop
 decreases-draw_loop l = 8 * (weights l.prologue.now + body_weight l.body.now) + 5
 
 abbrev pub invariant-draw_block-loop-stmt : goal.invariant-draw_block-loop-stmt
-invariant-draw_block-loop-stmt l = Drew (block no_callees (take l.stmt-index l.stmt-items)) l.fn.drawing l.drawing
+invariant-draw_block-loop-stmt l = Drew (block no_callees (take l.stmt-index l.stmts)) l.fn.drawing l.drawing

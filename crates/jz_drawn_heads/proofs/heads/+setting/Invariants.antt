@@ -19,4 +19,4 @@ decreases-turn_sets l = 4 * body_weight l.body.now + 3
 
 abbrev pub invariant-scalars_set-loop-stmt : goal.invariant-scalars_set-loop-stmt
 invariant-scalars_set-loop-stmt l =
-    CoversMore (block no_callees (take l.stmt-index l.stmt-items)) (keys_of l.fn.vars.items) (keys_of l.vars.items)
+    CoversMore (block no_callees (take l.stmt-index l.stmts)) (keys_of l.fn.vars.items) (keys_of l.vars.items)

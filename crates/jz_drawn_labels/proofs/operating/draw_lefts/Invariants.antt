@@ -8,4 +8,4 @@ abbrev pub invariant-loop-left : goal.invariant-loop-left
 invariant-loop-left l =
     (l.drawing.table.floor ≡ l.fn.drawing.table.floor)
     × (l.drawing.table.layers.below.items ≡ l.fn.drawing.table.layers.below.items)
-    × (view_of l.drawing ≡ lefts_drawn l.node (map left_of (take l.left-index l.left-items)) (view_of l.fn.drawing))
+    × (view_of l.drawing ≡ lefts_drawn l.node (map left_of (take l.left-index l.to)) (view_of l.fn.drawing))

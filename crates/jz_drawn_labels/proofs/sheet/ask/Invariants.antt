@@ -6,4 +6,4 @@ use Rattle.jz_drawn_labels.proofs.sheet.ask.Given as goal
 
 abbrev pub invariant-loop-one : goal.invariant-loop-one
 invariant-loop-one l =
-    map asked_of l.asked.items ≡ map asked_of l.fn.asked.items ++ asks_in (nodes_of l.table) (demands_of (take l.one-index l.one-items))
+    map asked_of l.asked.items ≡ map asked_of l.fn.asked.items ++ asks_in (nodes_of l.table) (demands_of (take l.one-index l.required))

@@ -7,4 +7,4 @@ use Rattle.jz_drawn_labels.proofs.sheet.link_all.Given as goal
 
 abbrev pub invariant-loop-part : goal.invariant-loop-part
 invariant-loop-part l =
-    arrows_of l.edges.items ≡ arrows_of l.fn.edges.items ++ arrows_from (nodes_of l.table) (origins_of (take l.part-index l.part-items)) l.to
+    arrows_of l.edges.items ≡ arrows_of l.fn.edges.items ++ arrows_from (nodes_of l.table) (origins_of (take l.part-index l.parts)) l.to

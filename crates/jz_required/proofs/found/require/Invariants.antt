@@ -5,4 +5,4 @@ use Rattle.jz_required.proofs.found.require.Given as goal
 
 abbrev pub invariant-loop-part : goal.invariant-loop-part
 invariant-loop-part l =
-    demands_of l.required ≡ demands_of l.fn.required ++ demands_at l.span (reason_of l.why) (origins_of (take l.part-index l.part-items))
+    demands_of l.required ≡ demands_of l.fn.required ++ demands_at l.span (reason_of l.why) (origins_of (take l.part-index l.parts))

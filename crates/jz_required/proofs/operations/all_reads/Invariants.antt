@@ -6,4 +6,4 @@ use Rattle.jz_required.specs.Kept.{reading_of}
 use Rattle.jz_required.proofs.operations.all_reads.Given as goal
 
 abbrev pub invariant-loop-arg : goal.invariant-loop-arg
-invariant-loop-arg l = reading_of l.found ≡ all_readings (map term_of (take l.arg-index l.arg-items))
+invariant-loop-arg l = reading_of l.found ≡ all_readings (map term_of (take l.arg-index l.args))
