@@ -1,0 +1,24 @@
+-- The line of a breach, without its line feed.
+use Rattle.std.specs.Prelude.{ℕ, List, ◌++◌, codes, decimal, Option, Some, None}
+use Rattle.jz_text.specs.Texts.{span_text}
+use Rattle.jz_required.specs.declared.part.Reason.{Reason}
+use Rattle.jz_required.specs.declared.part.Reason.TheVariants as reason
+use Rattle.jz_ct.specs.declared.breach.Secret.{Secret}
+use Rattle.jz_ct.specs.declared.breach.Secret.TheVariants as secret
+use Rattle.jasminc_ct.specs.declared.breaches.FunBreach.{FunBreach}
+
+unfoldable pub kind_name : Reason → List ℕ
+kind_name reason.Branch = codes "Branch"
+kind_name reason.Address = codes "Address"
+kind_name reason.Divide = codes "Divide"
+
+-- `NAME`, `NAME[CELL]` or `mem`
+abbrev pub secret_text : Secret → List ℕ
+secret_text (secret.Variable name None) = name
+secret_text (secret.Variable name (Some k)) = name ++ (codes "[" ++ (decimal k ++ codes "]"))
+secret_text secret.Memory = codes "mem"
+
+abbrev pub breach_line : FunBreach → List ℕ
+breach_line x =
+    codes "ct " ++ x.fun ++ codes " no " ++ span_text x.breach.span ++ codes " "
+    ++ kind_name x.breach.why ++ codes " " ++ secret_text x.breach.secret

@@ -1,0 +1,33 @@
+-- What is judged of the function at a place.
+use Rattle.std.specs.Prelude.{◌≡◌, ◌↔◌, ℕ, true, Some, slice_get}
+use Rattle.jz_tree.specs.declared.program.Fun.{Fun}
+use Rattle.jz_tree.specs.declared.program.Program.{Program}
+use Rattle.jz_type_rows.specs.Exports.{is_exported}
+use Rattle.jz_types.specs.TypedPrograms.{IsTypedProgram}
+use Rattle.jz_texts.specs.Texts.{IsText}
+use Rattle.jz_first_limit.specs.FirstLimits.{IsWithinLimits}
+use Rattle.jz_change.specs.Changes.{Change}
+use Rattle.jz_expansion.specs.Expansions.{IsExpansion}
+use Rattle.jz_ct.specs.declared.judging.Ct.{Ct}
+use Rattle.jz_ct.specs.declared.judging.Ct.TheVariants as told
+use Rattle.jz_ct.specs.Told.{told_by, IsConstantTime, HasFirstBreach}
+
+-- an export function of a text, within the limits
+pub record IsReadyAt (p : Program) (place : ℕ) : Type 0 where
+  pub typed : IsTypedProgram p
+  pub text : IsText p
+  pub function : Fun
+  pub there : slice_get p.funs place ≡ Some function
+  pub exported : is_exported function.kind ≡ true
+  pub within : IsWithinLimits p function
+
+-- what is told of an expansion of it
+pub record IsJudgedAt (p : Program) (place : ℕ) (ct : Ct) : Type 0 where
+  pub function : Fun
+  pub there : slice_get p.funs place ≡ Some function
+  pub expanded : Fun
+  pub change : Change
+  pub count : ℕ
+  pub expansion : IsExpansion p function expanded change count
+  pub yes : (ct ≡ told.Yes) ↔ IsConstantTime expanded
+  pub first : HasFirstBreach expanded (told_by ct)

@@ -1,0 +1,5 @@
+pub mod BreachLines
+pub mod Judging
+pub mod Causes
+pub mod Answers
+pub mod InnerJudging

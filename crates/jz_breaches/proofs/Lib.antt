@@ -1,0 +1,7 @@
+pub mod LaidOver
+pub mod Overlays
+pub mod Blocks
+pub mod Choices
+pub mod Loops
+pub mod Entered
+pub mod Answered

@@ -1,0 +1,4 @@
+pub mod InnerPieces
+pub mod InnerLoops
+pub mod Answers
+pub use Rattle.jz_drawing.specs.Draws

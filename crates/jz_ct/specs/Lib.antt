@@ -1,0 +1,2 @@
+pub mod Told
+pub use Rattle.jz_labels.specs.ConstantTime

@@ -1,0 +1,4 @@
+pub mod Labellings
+pub mod Pieces
+pub mod Operating
+pub mod Renewing

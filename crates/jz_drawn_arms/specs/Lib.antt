@@ -1,0 +1,2 @@
+pub mod Meetings
+pub use Rattle.jz_drawing.specs.Draws

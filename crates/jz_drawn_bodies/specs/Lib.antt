@@ -1,0 +1,2 @@
+pub mod Bodies
+pub use Rattle.jz_drawing.specs.Draws

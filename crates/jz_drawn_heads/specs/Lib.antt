@@ -1,0 +1,2 @@
+pub mod Pieces
+pub use Rattle.jz_drawing.specs.Draws

@@ -1,0 +1,4 @@
+pub mod Tables
+pub mod Sheets
+pub mod Lefts
+pub mod Operated

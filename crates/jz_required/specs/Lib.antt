@@ -1,0 +1,4 @@
+pub mod Readings
+pub mod Kept
+pub mod InnerSides
+pub use Rattle.jz_labels.specs.Required
