@@ -14,7 +14,7 @@ pub record Gives (text output : List ℕ) : Type 0 where
 
 -- one past the last stage
 abbrev pub all_stages : ℕ
-all_stages = 11
+all_stages = 8
 
 -- the lines, where nothing refuses them
 pub record IsDone (text output : List ℕ) : Type 0 where

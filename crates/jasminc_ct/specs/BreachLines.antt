@@ -12,10 +12,13 @@ kind_name reason.Branch = codes "Branch"
 kind_name reason.Address = codes "Address"
 kind_name reason.Divide = codes "Divide"
 
--- `NAME`, `NAME[CELL]` or `mem`
+-- `NAME`, or `NAME[CELL]`
+abbrev pub variable_text : List ℕ → Option ℕ → List ℕ
+variable_text name None = name
+variable_text name (Some k) = name ++ (codes "[" ++ (decimal k ++ codes "]"))
+
 abbrev pub secret_text : Secret → List ℕ
-secret_text (secret.Variable name None) = name
-secret_text (secret.Variable name (Some k)) = name ++ (codes "[" ++ (decimal k ++ codes "]"))
+secret_text (secret.Variable name cell) = variable_text name cell
 secret_text secret.Memory = codes "mem"
 
 abbrev pub breach_line : FunBreach → List ℕ

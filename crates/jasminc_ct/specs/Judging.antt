@@ -1,10 +1,12 @@
 -- Which export functions are constant time, and the first breach of one that is not.
-use Rattle.std.specs.Prelude.{◌≡◌, ℕ, Bool, true, false, List, [], ◌∷◌, ◌++◌, All, codes, Some}
+use Rattle.std.specs.Prelude.{◌≡◌, ℕ, Bool, true, false, List, [], ◌∷◌, ◌++◌}
+use Rattle.std.specs.Prelude.{All, codes, Option, Some}
 use Rattle.jz_tree.specs.declared.program.Fun.{Fun}
 use Rattle.jz_tree.specs.declared.program.Program.{Program}
 use Rattle.jz_type_rows.specs.Exports.{is_exported}
 use Rattle.jz_change.specs.Changes.{Change}
 use Rattle.jz_expansion.specs.Expansions.{IsExpansion}
+use Rattle.jz_labels.specs.Required.{Breach}
 use Rattle.jz_ct.specs.Told.{breach_of, IsConstantTime, HasFirstBreach}
 use Rattle.jasminc_ct.specs.declared.breaches.FunBreach.{FunBreach}
 
@@ -16,11 +18,19 @@ pub record IsConstant (p : Program) (f : Fun) : Type 0 where
   pub expansion : IsExpansion p f expanded change count
   pub constant : IsConstantTime expanded
 
+-- an expansion of the function f has this first breach, or none
+pub record IsJudged (p : Program) (f : Fun) (w : Option Breach) : Type 0 where
+  pub expanded : Fun
+  pub change : Change
+  pub count : ℕ
+  pub expansion : IsExpansion p f expanded change count
+  pub first : HasFirstBreach expanded w
+
 abbrev pub ConstantIfExported : Program → Fun → Type 0
 ConstantIfExported p f = is_exported f.kind ≡ true → IsConstant p f
 
--- of the export functions the first that is not constant time is this one, and an expansion of it
--- has this breach first
+-- of the export functions the first that is not constant time is this one, and this is its first
+-- breach
 pub record HasBreach (p : Program) (x : FunBreach) : Type 0 where
   pub front : List Fun
   pub function : Fun
@@ -29,11 +39,7 @@ pub record HasBreach (p : Program) (x : FunBreach) : Type 0 where
   pub earlier : All (ConstantIfExported p) front
   pub exported : is_exported function.kind ≡ true
   pub named : x.fun ≡ function.name
-  pub expanded : Fun
-  pub change : Change
-  pub count : ℕ
-  pub expansion : IsExpansion p function expanded change count
-  pub first : HasFirstBreach expanded (Some (breach_of x.breach))
+  pub judged : IsJudged p function (Some (breach_of x.breach))
 
 -- ---- the text of what is constant time
 

@@ -3,3 +3,4 @@ pub mod Judging
 pub mod Causes
 pub mod Answers
 pub mod InnerJudging
+pub mod JudgementLaws

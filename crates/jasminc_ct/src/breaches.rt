@@ -1,7 +1,7 @@
 //! The line of a breach.
 
 ghost use Rattle.std.specs.Prelude.{◌≡◌, ◌++◌, OnOk};
-ghost use Rattle.jasminc_ct.specs.BreachLines.{kind_name, secret_text, breach_line};
+ghost use Rattle.jasminc_ct.specs.BreachLines.{kind_name, variable_text, secret_text, breach_line};
 
 use jz_ct::{Breach, Reason, Secret};
 use jz_text::{write_number, write_span};
@@ -26,18 +26,26 @@ fn kind_name(why: Reason) -> &'static str
     }
 }
 
-/// A variable, or the scalar that was a cell of a register array, as the text writes it; `mem`.
+/// A variable, or the scalar that was a cell of a register array.
+fn write_variable(line: &mut Vec<u8>, name: &Text, cell: Option<u32>) -> Result<(), AllocError>
+    ensures { OnOk result (line.new.items ≡ line.old.items ++ variable_text name.now cell) }
+{
+    line.extend_from_slice(name.as_str().as_bytes())?;
+    match cell {
+        None => Ok(()),
+        Some(cell) => {
+            line.extend_from_slice(b"[")?;
+            write_number(line, u64::from(cell))?;
+            line.extend_from_slice(b"]")
+        }
+    }
+}
+
 fn write_secret(line: &mut Vec<u8>, secret: &Secret) -> Result<(), AllocError>
     ensures { OnOk result (line.new.items ≡ line.old.items ++ secret_text secret.now) }
 {
     match secret {
-        Secret::Variable(name, None) => line.extend_from_slice(name.as_str().as_bytes()),
-        Secret::Variable(name, Some(cell)) => {
-            line.extend_from_slice(name.as_str().as_bytes())?;
-            line.extend_from_slice(b"[")?;
-            write_number(line, u64::from(*cell))?;
-            line.extend_from_slice(b"]")
-        }
+        Secret::Variable(name, cell) => write_variable(line, name, *cell),
         Secret::Memory => line.extend_from_slice(b"mem"),
     }
 }

@@ -4,11 +4,13 @@
 
 mod breaches;
 mod functions;
+mod laws;
 mod refused;
 mod stages;
 
 pub use breaches::{FunBreach, write_breach};
 pub use jasminc_source::{FunLimit, Unread};
 pub use jz_ct::{Breach, Reason, Secret};
+pub use laws::one_judgement;
 pub use refused::Refused;
 pub use stages::ct_text;

@@ -28,7 +28,8 @@ use Rattle.jz_ct.specs.declared.breach.Secret.TheVariants as secret
 use Rattle.jz_ct.specs.declared.breach.Breach.{Breach}
 use Rattle.jz_ct.specs.declared.judging.Ct.{Ct}
 use Rattle.jz_ct.specs.declared.judging.Ct.TheVariants as ct
-use Rattle.jz_ct.specs.Told.{secret_of, told_by, plain_body, IsConstantTime, HasFirstBreach}
+use Rattle.jz_function_runs.specs.FunctionRuns.{plain_body}
+use Rattle.jz_ct.specs.Told.{secret_of, told_by, IsConstantTime, HasFirstBreach}
 
 name_is : (v : Var) → (out-Var v).name ≡ (variable_key v).name
 name_is v = sym (ap (λ (r : Ref). r.name) (ap ref_of (sym (roll-out-Var v)) ∙ fold-roll-Var _ _ _ _ _ expr_step ty_step access_step decl_step var_step (out-Var v)))

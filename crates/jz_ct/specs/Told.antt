@@ -1,9 +1,7 @@
 -- What is told of a function.
 use Rattle.std.specs.Prelude.{Option, Some, None}
 use Rattle.jz_tree.specs.declared.program.Fun.{Fun}
-use Rattle.jz_runs.specs.Trees.{done}
-use Rattle.jz_meaning.specs.Runs.{block}
-use Rattle.jz_meaning.specs.Statements.{Block}
+use Rattle.jz_function_runs.specs.FunctionRuns.{plain_body}
 use Rattle.jz_labels.specs.Labels as labels
 use Rattle.jz_labels.specs.Required as required
 use Rattle.jz_labels.specs.ConstantTime as constant
@@ -26,9 +24,6 @@ told_by ct.Yes = None
 told_by (ct.No b) = Some (breach_of b)
 
 -- ---- an expanded function, in which no call is left
-
-abbrev pub plain_body : Fun → Block
-plain_body f = block (λ n. None) f.body done
 
 abbrev pub IsConstantTime : Fun → Type 0
 IsConstantTime f = constant.IsConstantTime f.params (plain_body f)

@@ -8,7 +8,8 @@ ghost use Rattle.jz_required.specs.Readings as readings;
 ghost use Rattle.jz_drawing.specs.Drawings.{IsFree};
 ghost use Rattle.jz_ct.specs.declared.judging.Ct.TheVariants as judged;
 ghost use Rattle.jz_ct.specs.Told as told;
-ghost use Rattle.jz_ct.specs.Told.{told_by, plain_body, IsConstantTime, HasFirstBreach};
+ghost use Rattle.jz_function_runs.specs.FunctionRuns.{plain_body};
+ghost use Rattle.jz_ct.specs.Told.{told_by, IsConstantTime, HasFirstBreach};
 
 use crate::breach::{Breach, Secret};
 use jz_breaches::first_breach;
@@ -75,6 +76,7 @@ pub fn judge(alloc: Global, expanded: &Expanded) -> Result<Ct, AllocError>
     ensures yes { IfOk result (λ ct. (ct ≡ judged.Yes) ↔ IsConstantTime expanded.now.fun) }
     ensures breach { IfOk result (λ ct. HasFirstBreach expanded.now.fun (told_by ct)) }
 {
+    expanded.is_expanded();
     let ct = judge_function(alloc, expanded.fun())?;
     Ok(ct)
 }

@@ -1,0 +1,4 @@
+pub mod FirstCauses
+pub mod Lines
+pub mod Judged
+pub mod Readying

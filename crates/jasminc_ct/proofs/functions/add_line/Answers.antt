@@ -1,0 +1,42 @@
+use Rattle.std.proofs.Common.{◌≡◌, ◌<◌, true, false, length, sym, subst, rules}
+use Rattle.std.specs.Prelude.{Some, slice_get}
+use Rattle.std.proofs.lemmas.Result.{err_from_is_err_and}
+use Rattle.jz_tree.specs.declared.program.Program.{Program}
+use Rattle.jz_type_rows.specs.Exports.{is_exported}
+use Rattle.jasminc_ct.specs.declared.breaches.FunBreach.{FunBreach}
+use Rattle.jasminc_ct.specs.InnerJudging.{BreachAt}
+use Rattle.jasminc_ct.proofs.Readying.{refused_too, among_ready, breach_at, line_added, nothing_added}
+use Rattle.jasminc_ct.proofs.functions.add_line.Goals as goal
+
+pub function_at-function-requires : goal.function_at-function-requires
+function_at-function-requires c = subst (λ (q : Program). c.args.place < length q.funs) (sym c.program.ensures) c.requires.below
+
+pub returns-then-not-is_exported-clause-yes : goal.returns-then-not-is_exported-clause-yes
+returns-then-not-is_exported-clause-yes c =
+    let f = c.function_at-function.result.now in
+    let there = subst (λ (q : Program). slice_get q.funs c.args.place ≡ Some f) c.program.ensures c.function_at-function.ensures in
+    let hidden : is_exported f.kind ≡ false = search rules in
+    nothing_added c.args.typed.now.program c.args.place f _ there hidden
+
+pub judge_at-requires : goal.judge_at-requires
+judge_at-requires c =
+    let f = c.function_at-function.result.now in
+    let there = subst (λ (q : Program). slice_get q.funs c.args.place ≡ Some f) c.program.ensures c.function_at-function.ensures in
+    let exported : is_exported f.kind ≡ true = search rules in
+    among_ready c.args.typed.now.program c.args.place c.requires f there exported
+
+pub returns-in_err-tell-clause-breach : goal.returns-in_err-tell-clause-breach
+returns-in_err-tell-clause-breach c =
+    let p = c.args.typed.now.program in
+    let f = c.function_at-function.result.now in
+    let there = subst (λ (q : Program). slice_get q.funs c.args.place ≡ Some f) c.program.ensures c.function_at-function.ensures in
+    let exported : is_exported f.kind ≡ true = search rules in
+    let e = err_from_is_err_and c.from_residual-in_err-tell.result c.from_residual-in_err-tell.ensures.1 in
+    rw (e.1, e.2) (refused_too _ _ _ (λ x h. breach_at p c.args.place f c.in_ok-ct.ct there exported c.in_ok-ct.ensures x h) c.in_err-tell.ensures.breach)
+
+pub returns-clause-yes : goal.returns-clause-yes
+returns-clause-yes c =
+    let f = c.function_at-function.result.now in
+    let there = subst (λ (q : Program). slice_get q.funs c.args.place ≡ Some f) c.program.ensures c.function_at-function.ensures in
+    let exported : is_exported f.kind ≡ true = search rules in
+    line_added c.args.typed.now.program c.args.place f c.in_ok-ct.ct _ _ there exported c.in_ok-ct.ensures c.in_ok-tell.ensures.yes c.in_ok-tell.ensures.line
