@@ -40,11 +40,11 @@ label_none n xs i l h = sym (h ∙ ap (has_label n) (drop_of_length-le xs l))
 
 secrets_both : (ps qs : List Param) → secret_parameters (ps ++ qs) ≡ secret_parameters ps ++ secret_parameters qs
 secrets_both [] qs = refl
-secrets_both (p ∷ ps) qs = by (is_labelled_public p.notes)
+secrets_both (p ∷ ps) qs = by (is_labelled_public p.notes) (secrets_both ps qs)
   where
-    by : (c : Bool) → (if c then secret_parameters (ps ++ qs) else key_of (ref_of p.var) ∷ secret_parameters (ps ++ qs)) ≡ (if c then secret_parameters ps else key_of (ref_of p.var) ∷ secret_parameters ps) ++ secret_parameters qs
-    by true = secrets_both ps qs
-    by false = ap (λ ks. key_of (ref_of p.var) ∷ ks) (secrets_both ps qs)
+    by : (c : Bool) → secret_parameters (ps ++ qs) ≡ secret_parameters ps ++ secret_parameters qs → (if c then secret_parameters (ps ++ qs) else key_of (ref_of p.var) ∷ secret_parameters (ps ++ qs)) ≡ (if c then secret_parameters ps else key_of (ref_of p.var) ∷ secret_parameters ps) ++ secret_parameters qs
+    by true h = h
+    by false h = ap (λ ks. key_of (ref_of p.var) ∷ ks) h
 
 but_both : (xs ys : List Key) (k : Key) → all_but (xs ++ ys) k ≡ (all_but xs k && all_but ys k)
 but_both [] ys k = refl

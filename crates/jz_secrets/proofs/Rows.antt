@@ -296,12 +296,6 @@ row_more [] (suc u) v = refl
 row_more (r ∷ rows) zero v = refl
 row_more (r ∷ rows) (suc u) v = row_more rows u v
 
-pub mark_more : (ms : List Bool) (n : ℕ) → marked_at (ms ++ false ∷ []) n ≡ marked_at ms n
-mark_more [] zero = refl
-mark_more [] (suc n) = refl
-mark_more (m ∷ ms) zero = refl
-mark_more (m ∷ ms) (suc n) = mark_more ms n
-
 -- ---- a row, as far as a loop has come
 
 pub row_next : (xs row : List ℕ) (i : ℕ) (a b c : List Bool) (l m n : List ℕ) → xs ≡ row → i < length xs → MarksRow (take i row) a b l m → MarksRow (get_or xs i 0 ∷ []) b c m n → MarksRow (take (i + 1) row) a c l n
