@@ -1,16 +1,16 @@
 -- Labels of their own at the head of a loop, and what comes back to them.
-use Rattle.std.proofs.Common.{◌≡◌, ◌⊎◌, inl, inr, ◌<◌, ◌≤◌, ℕ, zero, suc, Bool, true, false, List, [], ◌∷◌, ◌++◌, map, length, refl, sym, ap, ◌∙◌, subst, arith, length-append, append-nil}
+use Rattle.std.proofs.Common.{◌≡◌, ◌⊎◌, inl, inr, ◌<◌, ◌≤◌, ℕ, suc, Bool, true, false, List, [], ◌∷◌, ◌++◌, length, refl, sym, ap, ◌∙◌, subst, arith, length-append}
 use Rattle.std.specs.Prelude.{◌||◌, if◌then◌else◌}
 use Rattle.std.proofs.lemmas.Bool.{false≢true}
 use Rattle.jz_meaning.specs.States.{Key, same_key}
 use Rattle.jz_labels.specs.Labels.{Publics}
 use Rattle.jz_labels.proofs.Keys.{keys_same}
 use Rattle.jz_layers.specs.Spots.{variable_key}
-use Rattle.jz_secrets.specs.Graphs.{drawn, Keeps, IsLabelling, AreBelow}
+use Rattle.jz_secrets.specs.Graphs.{Keeps, AreBelow}
 use Rattle.jz_drawn_heads.specs.declared.heads.Head.{Head}
-use Rattle.jz_drawing.specs.Drawings.{View, next, put_node, IsBounded}
+use Rattle.jz_drawing.specs.Drawings.{View, next, IsBounded}
 use Rattle.jz_drawing.specs.Laws.{renewed_at}
-use Rattle.jz_drawing.specs.Draws.{Renews, ComesBack}
+use Rattle.jz_drawing.specs.Draws.{ComesBack}
 use Rattle.jz_drawn_heads.specs.Pieces.{has_key, head_keys, back_arrows, own, AreHeads, Splits}
 use Rattle.jz_drawing.proofs.Labellings.{keeps_both, keeps_left, keeps_right, arrows_more, arrows_both, asked_more}
 use Rattle.jz_drawing.proofs.Renewing.{key_itself, nothing_renewed, one_renewed}
