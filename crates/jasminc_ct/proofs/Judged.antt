@@ -17,7 +17,7 @@ use Rattle.jz_function_runs.specs.FunctionRuns.{plain_body}
 use Rattle.jz_one_unrolling.proofs.One.{one_unrolling}
 use Rattle.jz_one_expansion.specs.OneExpansion.{IsSame}
 use Rattle.jz_one_expansion.proofs.Expansions.{expansions_same}
-use Rattle.jz_ct.specs.Told.{breach_of, IsConstantTime, HasFirstBreach}
+use Rattle.jz_ct.specs.Told.{breach_of, HasFirstBreach}
 use Rattle.jasminc_ct.specs.declared.breaches.FunBreach.{FunBreach}
 use Rattle.jasminc_ct.specs.Judging.{IsConstant, IsJudged, ConstantIfExported, HasBreach, YesLine, AreConstant}
 use Rattle.jasminc_ct.specs.JudgementLaws.{OneJudgement}

@@ -1,6 +1,6 @@
 -- What the judgement of an export function asks: nothing refuses it; and what is told of it.
-use Rattle.std.proofs.Common.{◌≡◌, ℕ, ◌<◌, ◌∙◌, List, ◌++◌, Option, Some, None, true, false, length, refl, sym, ap, subst, inl, inr}
-use Rattle.std.specs.Prelude.{◌↔◌, All, Contains, slice_get}
+use Rattle.std.proofs.Common.{◌≡◌, ℕ, ◌∙◌, List, ◌++◌, Option, Some, None, true, false, refl, sym, ap, subst, inl, inr}
+use Rattle.std.specs.Prelude.{◌↔◌, Contains, slice_get}
 use Rattle.std.proofs.lemmas.Option.{slice_get_within, get_or_from_slice_get}
 use Rattle.std.proofs.lemmas.List.Elements.{All-contains}
 use Rattle.jz_tree.specs.Failure.{Failure}
@@ -19,7 +19,7 @@ use Rattle.jz_expansion.specs.Expanding.{IsExpandedAt, PassesAt}
 use Rattle.jz_expansion.specs.declared.expanded.Expanded.{Expanded}
 use Rattle.jz_ct.specs.declared.judging.Ct.{Ct}
 use Rattle.jz_ct.specs.declared.judging.Ct.TheVariants as told
-use Rattle.jz_ct.specs.Told.{told_by, breach_of, IsConstantTime, HasFirstBreach}
+use Rattle.jz_ct.specs.Told.{told_by, IsConstantTime, HasFirstBreach}
 use Rattle.jasminc_source.specs.Exports.{WithinIfExported}
 use Rattle.jasminc_ct.specs.declared.breaches.FunBreach.{FunBreach}
 use Rattle.jasminc_ct.specs.Judging.{IsConstant, IsJudged, yes_line}

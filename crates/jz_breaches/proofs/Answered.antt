@@ -1,10 +1,9 @@
 -- The first that is asked to be public and is not.
-use Rattle.std.proofs.Common.{◌≡◌, ◌<◌, ◌≤◌, ℕ, ◌+◌, Bool, true, false, List, [], ◌∷◌, map, length, drop, get_or, Option, Some, None, refl, sym, ap, ◌∙◌, subst, arith}
+use Rattle.std.proofs.Common.{◌≡◌, ◌<◌, ◌≤◌, ℕ, ◌+◌, Bool, true, false, List, ◌∷◌, map, length, drop, get_or, Option, Some, None, refl, sym, ap, ◌∙◌, subst, arith}
 use Rattle.std.proofs.lemmas.List.{at_drop_more}
 use Rattle.std.proofs.Math.ListN.{drop_of_length-le}
 use Rattle.jz_tree.specs.declared.program.Param.{Param}
 use Rattle.jz_tree.specs.declared.stmt.Stmt.{Stmt}
-use Rattle.jz_runs.specs.Trees.{done}
 use Rattle.jz_meaning.specs.Runs.{block}
 use Rattle.jz_labels.specs.Labels.{first}
 use Rattle.jz_labels.specs.Required.{Breach}
@@ -23,7 +22,7 @@ use Rattle.jz_drawn_labels.specs.declared.drawing.Drawing.{Drawing}
 use Rattle.jz_drawn_labels.specs.declared.sheet.Ask.{Ask}
 use Rattle.jz_drawn_labels.specs.Kept.{asked_of, view_of}
 use Rattle.jz_drawn_labels.specs.Drew.{no_callees, IsDrawn, Drew}
-use Rattle.jz_breaches.specs.Answers.{plain_block, breach_of, told}
+use Rattle.jz_breaches.specs.Answers.{plain_block, told}
 
 module _ (s : Secrets) where
   abbrev of_asked : List Asked → Option Breach

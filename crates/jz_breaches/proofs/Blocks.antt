@@ -1,14 +1,10 @@
 -- What statements one after another draw.
-use Rattle.std.proofs.Common.{◌≡◌, ◌⊎◌, inl, ◌<◌, ◌≤◌, ℕ, ◌+◌, List, [], ◌∷◌, ◌++◌, length, take, get_or, Option, Some, None, refl, sym, ap, ◌∙◌, subst}
+use Rattle.std.proofs.Common.{◌≡◌, ◌<◌, ◌≤◌, ℕ, ◌+◌, List, [], ◌∷◌, ◌++◌, length, take, get_or, Option, Some, None, sym, ap, ◌∙◌, subst}
 use Rattle.std.proofs.Math.Path.{fun_ext}
 use Rattle.std.proofs.lemmas.List.{take_more, take_all}
-use Rattle.jz_tree.specs.Span.{Span}
 use Rattle.jz_tree.specs.declared.stmt.Stmt.{Stmt}
-use Rattle.jz_tree.specs.declared.stmt.StmtKind.{StmtKind}
 use Rattle.jz_meaning.specs.Runs.{block, statement_tree}
 use Rattle.jz_meaning.specs.Statements.{Block}
-use Rattle.jz_drawing.specs.Drawings.{next}
-use Rattle.jz_drawing.specs.Draws.{Draws}
 use Rattle.jz_drawing.proofs.Pieces.{nothing_drawn, both_drawn}
 use Rattle.jz_drawn_labels.specs.declared.drawing.Drawing.{Drawing}
 use Rattle.jz_drawn_labels.specs.Kept.{view_of}

@@ -1,12 +1,11 @@
 -- What two arms draw.
-use Rattle.std.proofs.Common.{◌≡◌, ◌⊎◌, inl, inr, ◌<◌, ◌≤◌, ℕ, Bool, false, ◌&&◌, true, List, [], ◌∷◌, Option, refl, sym, ap, ◌∙◌, subst, arith}
+use Rattle.std.proofs.Common.{◌≡◌, ◌⊎◌, inl, inr, ◌<◌, ◌≤◌, ℕ, Bool, false, ◌&&◌, true, List, Option, refl, sym, ap, ◌∙◌, subst, arith}
 use Rattle.jz_tree.specs.Span.{Span}
 use Rattle.jz_tree.specs.declared.expr.Expr.{Expr}
 use Rattle.jz_tree.specs.declared.stmt.Stmt.{Stmt}
 use Rattle.jz_runs.specs.Trees.{done, choose}
 use Rattle.jz_meaning.specs.States.{Key}
 use Rattle.jz_meaning.specs.Runs.{block}
-use Rattle.jz_meaning.specs.Statements.{Block}
 use Rattle.jz_terms.specs.Terms.{term_of}
 use Rattle.jz_layers.specs.Spots.{Spot}
 use Rattle.jz_layers.specs.Layered.{seen}
@@ -17,7 +16,7 @@ use Rattle.jz_drawing.proofs.Labellings.{asked_below_both, asks_below}
 use Rattle.jz_drawn_bodies.proofs.Choosing.{choice_drawn}
 use Rattle.jz_drawn_labels.specs.declared.drawing.Drawing.{Drawing}
 use Rattle.jz_drawn_labels.specs.declared.table.Table.{Table}
-use Rattle.jz_drawn_labels.specs.Kept.{view_of, view_with, nodes_of, nodes_by, IsLow}
+use Rattle.jz_drawn_labels.specs.Kept.{view_of, view_with, nodes_of, nodes_by}
 use Rattle.jz_drawn_labels.specs.Drew.{no_callees, IsDrawn, HasRisen, Drew}
 use Rattle.jz_drawn_labels.proofs.Tables.{all_fall}
 use Rattle.jz_drawn_labels.proofs.Lefts.{same_view}

@@ -1,5 +1,5 @@
 -- The labels at entry.
-use Rattle.std.proofs.Common.{◌≡◌, ◌<◌, ◌≤◌, ℕ, suc, ◌+◌, Bool, true, false, List, [], ◌∷◌, ◌++◌, length, take, drop, get_or, if◌then◌else◌, refl, sym, ap, ◌∙◌, subst, arith}
+use Rattle.std.proofs.Common.{◌≡◌, ◌<◌, ◌≤◌, ℕ, suc, ◌+◌, Bool, true, false, List, [], ◌∷◌, ◌++◌, length, take, drop, get_or, if◌then◌else◌, refl, sym, ap, ◌∙◌, subst}
 use Rattle.std.specs.Prelude.{not, ◌&&◌, ◌||◌}
 use Rattle.std.specs.Str.{bytes_eq}
 use Rattle.std.proofs.Math.Path.{fun_ext}
@@ -40,11 +40,11 @@ label_none n xs i l h = sym (h ∙ ap (has_label n) (drop_of_length-le xs l))
 
 secrets_both : (ps qs : List Param) → secret_parameters (ps ++ qs) ≡ secret_parameters ps ++ secret_parameters qs
 secrets_both [] qs = refl
-secrets_both (p ∷ ps) qs = by (is_labelled_public p.notes)
+secrets_both (p ∷ ps) qs = by (is_labelled_public p.notes) (secrets_both ps qs)
   where
-    by : (c : Bool) → (if c then secret_parameters (ps ++ qs) else key_of (ref_of p.var) ∷ secret_parameters (ps ++ qs)) ≡ (if c then secret_parameters ps else key_of (ref_of p.var) ∷ secret_parameters ps) ++ secret_parameters qs
-    by true = secrets_both ps qs
-    by false = ap (λ ks. key_of (ref_of p.var) ∷ ks) (secrets_both ps qs)
+    by : (c : Bool) → secret_parameters (ps ++ qs) ≡ secret_parameters ps ++ secret_parameters qs → (if c then secret_parameters (ps ++ qs) else key_of (ref_of p.var) ∷ secret_parameters (ps ++ qs)) ≡ (if c then secret_parameters ps else key_of (ref_of p.var) ∷ secret_parameters ps) ++ secret_parameters qs
+    by true h = h
+    by false h = ap (λ ks. key_of (ref_of p.var) ∷ ks) h
 
 but_both : (xs ys : List Key) (k : Key) → all_but (xs ++ ys) k ≡ (all_but xs k && all_but ys k)
 but_both [] ys k = refl
@@ -97,9 +97,9 @@ secrets_done ps i n t u l a = subst (λ (qs : List Param). HasSecrets qs n t u) 
 
 -- ---- the view before the first statement
 
-pub entry_is : (ps : List Param) (n : ℕ) (t u : Table) (w : View) (none first second : List Arrow) → HasSecrets ps n t u → ((k : Key) → nodes_of t k ≡ 0) → w.nodes ≡ nodes_of u → none ≡ [] → n ≡ suc (length none) → first ≡ none ++ new_arrow (suc (length none)) ∷ []
+pub entry_is : (ps : List Param) (n : ℕ) (t u : Table) (w : View) (none first : List Arrow) → HasSecrets ps n t u → ((k : Key) → nodes_of t k ≡ 0) → w.nodes ≡ nodes_of u → none ≡ [] → n ≡ suc (length none) → first ≡ none ++ new_arrow (suc (length none)) ∷ []
     → w.arrows ≡ first ++ arrow_between hidden (drawn n) ∷ [] → w.asked ≡ [] → w ≡ entry_view (at_entry ps)
-entry_is ps n t u w none first second a z e h i f g k =
+entry_is ps n t u w none first a z e h i f g k =
     same_view w (entry_view (at_entry ps))
     (e ∙ fun_ext (λ q. a.nodes q ∙ ap (λ (m : ℕ). if at_entry ps q then m else n) (z q) ∙ ap (λ (m : ℕ). if at_entry ps q then 0 else m) one ∙ by (at_entry ps q)))
     (g ∙ ap (λ (xs : List Arrow). xs ++ arrow_between hidden (drawn n) ∷ []) (f ∙ ap (λ (xs : List Arrow). xs ++ new_arrow (suc (length xs)) ∷ []) h) ∙ ap (λ (m : ℕ). new_arrow 1 ∷ arrow_between hidden (drawn m) ∷ []) one)

@@ -1,16 +1,15 @@
 -- A table that is laid over others and taken away again.
-use Rattle.std.proofs.Common.{◌≡◌, ◌⊎◌, inl, inr, ◌<◌, ◌≤◌, ℕ, List, [], ◌∷◌, ◌++◌, Option, refl, sym, ap, ◌∙◌, subst, arith}
-use Rattle.jz_meaning.specs.States.{Key}
+use Rattle.std.proofs.Common.{◌≡◌, inl, inr, ◌≤◌, ℕ, List, [], ◌∷◌, ◌++◌, Option, refl, sym, ap, ◌∙◌, subst, arith}
 use Rattle.jz_layers.specs.Spots.{Spot, over, seen_in, nowhere}
 use Rattle.jz_layers.specs.Layered.{seen, IsOver, ClosesTo}
 use Rattle.jz_layers.specs.declared.layers.Layers.{Layers}
 use Rattle.jz_layers.proofs.TableLemmas.{seen_more}
 use Rattle.jz_drawing.specs.Drawings.{View, next, IsBounded}
 use Rattle.jz_drawn_labels.specs.declared.drawing.Drawing.{Drawing}
-use Rattle.jz_drawn_labels.specs.Kept.{view_of, nodes_by, IsLow}
+use Rattle.jz_drawn_labels.specs.Kept.{view_of}
 use Rattle.jz_drawn_labels.specs.Drew.{IsDrawn, HasRisen}
 
-but_last : {A : Type 0} → List A → List A
+abbrev but_last : {A : Type 0} → List A → List A
 but_last [] = []
 but_last (x ∷ []) = []
 but_last (x ∷ y ∷ xs) = x ∷ but_last (y ∷ xs)
@@ -20,7 +19,7 @@ but_last_is [] x = refl
 but_last_is (y ∷ []) x = refl
 but_last_is (y ∷ z ∷ xs) x = ap (λ l. y ∷ l) (but_last_is (z ∷ xs) x)
 
-last_or : {A : Type 0} → A → List A → A
+abbrev last_or : {A : Type 0} → A → List A → A
 last_or d [] = d
 last_or d (x ∷ xs) = last_or x xs
 

@@ -1,19 +1,18 @@
 -- What a loop draws.
-use Rattle.std.proofs.Common.{◌≡◌, ◌⊎◌, inl, inr, ◌<◌, ◌≤◌, ℕ, suc, ◌+◌, Bool, true, false, List, [], ◌∷◌, ◌++◌, length, Option, if◌then◌else◌, refl, sym, ap, ◌∙◌, subst, arith, length-append}
+use Rattle.std.proofs.Common.{◌≡◌, ◌⊎◌, inl, inr, ◌≤◌, ℕ, suc, ◌+◌, Bool, true, false, List, ◌++◌, length, Option, if◌then◌else◌, refl, sym, ap, ◌∙◌, subst, arith, length-append}
 use Rattle.jz_tree.specs.Span.{Span}
 use Rattle.jz_tree.specs.declared.expr.Expr.{Expr}
 use Rattle.jz_tree.specs.declared.stmt.Stmt.{Stmt}
 use Rattle.jz_runs.specs.Trees.{done, loop}
 use Rattle.jz_meaning.specs.States.{Key}
 use Rattle.jz_meaning.specs.Runs.{block}
-use Rattle.jz_meaning.specs.Statements.{Block}
 use Rattle.jz_terms.specs.Terms.{Term, num, truth, var, cell, load, neg, inv, cast, bin, term_of}
 use Rattle.jz_labels.specs.Labels.{Publics, leaving}
 use Rattle.jz_layers.specs.Spots.{Spot}
 use Rattle.jz_layers.specs.Layered.{seen}
 use Rattle.jz_required.specs.Readings.{test_demands}
-use Rattle.jz_drawing.specs.Drawings.{View, next, asks_in, with_asked, sets, labels_of, IsBounded}
-use Rattle.jz_drawing.specs.Draws.{Draws, Renews, ComesBack}
+use Rattle.jz_drawing.specs.Drawings.{View, next, asks_in, with_asked, sets, labels_of}
+use Rattle.jz_drawing.specs.Draws.{Draws, ComesBack}
 use Rattle.jz_drawn_bodies.proofs.Looping.{loop_drawn}
 use Rattle.jz_drawn_labels.specs.declared.drawing.Drawing.{Drawing}
 use Rattle.jz_drawn_labels.specs.declared.table.Table.{Table}
@@ -23,7 +22,7 @@ use Rattle.jz_drawn_labels.proofs.Tables.{all_fall}
 use Rattle.jz_drawn_labels.proofs.Lefts.{same_view}
 use Rattle.jz_drawn_labels.proofs.Sheets.{arrows_long}
 use Rattle.jz_drawn_heads.specs.declared.heads.Head.{Head}
-use Rattle.jz_drawn_heads.specs.Pieces.{condition_at, turn_piece, has_key, head_keys, Covers, own, back_arrows, HasHeads}
+use Rattle.jz_drawn_heads.specs.Pieces.{condition_at, turn_piece, Covers, back_arrows, HasHeads}
 use Rattle.jz_breaches.specs.InnerPieces.{is_truth}
 use Rattle.jz_breaches.specs.InnerLoops.{TurnDrawn}
 use Rattle.jz_drawn_heads.proofs.LoopHeads.{comes_back}

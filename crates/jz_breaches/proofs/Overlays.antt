@@ -1,19 +1,15 @@
 -- What is drawn in a table that is laid over the others.
-use Rattle.std.proofs.Common.{◌≡◌, ◌⊎◌, inl, inr, ◌≤◌, ℕ, List, [], ◌∷◌, ◌++◌, Option, refl, sym, ap, ◌∙◌, subst, arith}
+use Rattle.std.proofs.Common.{◌≡◌, ℕ, List, [], ◌∷◌, ◌++◌, Option, sym, ap, ◌∙◌, subst, arith}
 use Rattle.jz_tree.specs.declared.stmt.Stmt.{Stmt}
-use Rattle.jz_meaning.specs.States.{Key}
 use Rattle.jz_meaning.specs.Runs.{block}
 use Rattle.jz_meaning.specs.Statements.{Block}
-use Rattle.jz_layers.specs.Spots.{over, seen_in}
+use Rattle.jz_layers.specs.Spots.{over}
 use Rattle.jz_layers.specs.Layered.{seen, IsOver, ClosesTo}
 use Rattle.jz_drawing.specs.Drawings.{View, next}
 use Rattle.jz_drawing.specs.Draws.{Draws}
 use Rattle.jz_drawn_labels.specs.declared.drawing.Drawing.{Drawing}
-use Rattle.jz_drawn_labels.specs.declared.sheet.Sheet.{Sheet}
-use Rattle.jz_drawn_labels.specs.declared.table.Table.{Table}
 use Rattle.jz_drawn_labels.specs.Kept.{view_of, view_with, nodes_of, nodes_by}
 use Rattle.jz_drawn_labels.specs.Drew.{no_callees, IsDrawn, HasRisen, Drew}
-use Rattle.jz_drawn_labels.proofs.Lefts.{same_view}
 use Rattle.jz_drawn_arms.specs.declared.arms.Arm.{Arm}
 use Rattle.jz_drawn_heads.specs.declared.heads.Head.{Head}
 use Rattle.jz_drawn_heads.specs.Pieces.{turn_piece, back_arrows}

@@ -1,12 +1,12 @@
 -- Statements with bodies, as the code draws them.
-use Rattle.std.specs.Prelude.{◌≡◌, ◌≤◌, ◌++◌, ℕ, Bool, List, Option}
+use Rattle.std.specs.Prelude.{◌≡◌, ◌++◌, List, Option}
 use Rattle.jz_tree.specs.declared.stmt.Stmt.{Stmt}
 use Rattle.jz_meaning.specs.Runs.{block}
 use Rattle.jz_layers.specs.Layered.{seen}
-use Rattle.jz_drawing.specs.Drawings.{View, next}
+use Rattle.jz_drawing.specs.Drawings.{View}
 use Rattle.jz_drawing.specs.Draws.{Draws}
 use Rattle.jz_drawn_labels.specs.declared.drawing.Drawing.{Drawing}
-use Rattle.jz_drawn_labels.specs.Kept.{view_of, view_with, IsLow}
+use Rattle.jz_drawn_labels.specs.Kept.{view_of, view_with}
 use Rattle.jz_drawn_labels.specs.Drew.{no_callees, HasRisen}
 use Rattle.jz_drawn_arms.specs.declared.arms.Arm.{Arm}
 use Rattle.jz_drawn_heads.specs.declared.heads.Head.{Head}

@@ -1,5 +1,5 @@
 -- Whether a test is `true`, and the labels at entry.
-use Rattle.std.specs.Prelude.{◌≡◌, ℕ, Bool, true, false, List, if◌then◌else◌}
+use Rattle.std.specs.Prelude.{◌≡◌, ℕ, Bool, false, List, if◌then◌else◌}
 use Rattle.jz_tree.specs.declared.program.Param.{Param}
 use Rattle.jz_meaning.specs.States.{Key}
 use Rattle.jz_terms.specs.Terms.{Term, truth}

@@ -49,11 +49,7 @@ fn is_public(notes: &Seq<Note>) -> bool
 }
 
 /// The label that is secret, unless the parameter is public.
-fn put_secret<'a>(
-    table: &mut Table<'a>,
-    param: &'a Param,
-    node: usize,
-) -> Result<(), AllocError>
+fn put_secret<'a>(table: &mut Table<'a>, param: &'a Param, node: usize) -> Result<(), AllocError>
     requires { table.old.floor ≤ node }
     ensures { OnOk result (HasSecrets (param.now ∷ []) node table.old table.new) }
 {

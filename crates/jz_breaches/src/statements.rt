@@ -16,7 +16,7 @@ ghost use Rattle.jz_breaches.specs.InnerLoops.{ArmDrawn, TurnDrawn};
 
 use jz_drawn_arms::{Arm, end_arm, meet};
 use jz_drawn_heads::{Head, Target, come_back, scalars_set, split, turn_sets};
-use jz_drawn_labels::{Drawing, ask, draw_assign};
+use jz_drawn_labels::{Drawing, ask_all, draw_assign};
 use jz_required::test_demands;
 use jz_tree::{Expr, Seq, Stmt, StmtKind};
 use std::alloc::{AllocError, Global};
@@ -53,7 +53,7 @@ fn draw_test<'a>(alloc: Global, drawing: &mut Drawing<'a>, cond: &'a Expr) -> Re
         (view_of drawing.old)) }
 {
     let required = test_demands(alloc, cond)?;
-    ask(&mut drawing.sheet.asked, &drawing.table, &required)?;
+    ask_all(&mut drawing.sheet.asked, &drawing.table, &required)?;
     Ok(())
 }
 

@@ -6,12 +6,11 @@ use Rattle.jz_tree.specs.declared.expr.Var.{Var}
 use Rattle.jz_tree.specs.declared.expr.Expr.TheViews.{out-Var, roll-out-Var}
 use Rattle.jz_tree.specs.declared.expr.Expr.TheFolds.{fold-roll-Var}
 use Rattle.jz_tree.specs.declared.program.Fun.{Fun}
-use Rattle.jz_runs.specs.Trees.{Tree, done, op, quiet, choose, loop, each, call}
-use Rattle.jz_meaning.specs.Values.{Ref, key_of, ref_of, expr_step, ty_step, access_step, decl_step, var_step}
+use Rattle.jz_runs.specs.Trees.{done, op, quiet, choose, loop, each, call}
+use Rattle.jz_meaning.specs.Values.{Ref, ref_of, expr_step, ty_step, access_step, decl_step, var_step}
 use Rattle.jz_meaning.specs.Statements.{Block}
 use Rattle.jz_labels.specs.Labels.{named}
 use Rattle.jz_labels.specs.Operations.{plain_of, tested_by}
-use Rattle.jz_labels.specs.Required as required
 use Rattle.jz_labels.specs.ConstantTime.{at_entry}
 use Rattle.jz_labels.proofs.Comparing.{labels_no_breach, no_breach_labels}
 use Rattle.jz_layers.specs.Spots.{variable_key}
@@ -25,7 +24,6 @@ use Rattle.jz_expansion.specs.Expansions.{IsExpanded}
 use Rattle.jz_one_expansion.proofs.Expansions.{expansion_plain}
 use Rattle.jz_ct.specs.declared.breach.Secret.{Secret}
 use Rattle.jz_ct.specs.declared.breach.Secret.TheVariants as secret
-use Rattle.jz_ct.specs.declared.breach.Breach.{Breach}
 use Rattle.jz_ct.specs.declared.judging.Ct.{Ct}
 use Rattle.jz_ct.specs.declared.judging.Ct.TheVariants as ct
 use Rattle.jz_function_runs.specs.FunctionRuns.{plain_body}
@@ -62,11 +60,11 @@ yes_told f x h = (
 -- ---- neither a call nor a `for` is left
 
 free_one : (t : Block) (x y : IsFree t) → x ≡ y
-free_one done tt tt = refl
-free_one (op o r) (tt, x) (tt, y) = ap (λ z. (tt, z)) (free_one r x y)
-free_one (quiet o r) (tt, x) (tt, y) = ap (λ z. (tt, z)) (free_one r x y)
-free_one (choose c a b r) (tt, x0, x1, x2) (tt, y0, y1, y2) = λ i. (tt, free_one a x0 y0 i, free_one b x1 y1 i, free_one r x2 y2 i)
-free_one (loop w p c b r) (tt, x0, x1, x2) (tt, y0, y1, y2) = λ i. (tt, free_one p x0 y0 i, free_one b x1 y1 i, free_one r x2 y2 i)
+free_one done x y = refl
+free_one (op o r) (p, x) (q, y) = ap (λ z. (p, z)) (free_one r x y)
+free_one (quiet o r) (p, x) (q, y) = ap (λ z. (p, z)) (free_one r x y)
+free_one (choose c a b r) (p, x0, x1, x2) (q, y0, y1, y2) = λ i. (p, free_one a x0 y0 i, free_one b x1 y1 i, free_one r x2 y2 i)
+free_one (loop w h c b r) (p, x0, x1, x2) (q, y0, y1, y2) = λ i. (p, free_one h x0 y0 i, free_one b x1 y1 i, free_one r x2 y2 i)
 free_one (each f b r) x y = absurd x
 free_one (call c b r) x y = absurd x
 

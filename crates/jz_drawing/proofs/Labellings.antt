@@ -1,15 +1,14 @@
 -- Labels that agree below a number; lists of arrows and of what is asked.
-use Rattle.std.proofs.Common.{◌≡◌, ◌<◌, ◌≤◌, ℕ, zero, suc, ◌+◌, Bool, true, false, List, [], ◌∷◌, ◌++◌, length, Option, Some, None, if◌then◌else◌, refl, sym, ap, ◌∙◌, subst, arith}
+use Rattle.std.proofs.Common.{◌≡◌, ◌<◌, ◌≤◌, ℕ, Bool, true, false, List, [], ◌∷◌, ◌++◌, Option, Some, None, if◌then◌else◌, refl, sym, ap, ◌∙◌, subst, arith}
 use Rattle.std.specs.Prelude.{nat_lt}
 use Rattle.std.proofs.lemmas.Bool.Decides.{nat_tests}
 use Rattle.jz_meaning.specs.States.{Key}
 use Rattle.jz_flow.specs.Alarms.{FirstOf}
 use Rattle.jz_labels.specs.Labels.{Publics, first}
-use Rattle.jz_labels.specs.Required.{Breach}
 use Rattle.jz_required.specs.Readings.{Origin, memory, of_scalar, of_array, Demand, is_public, demand_breach, first_breach}
-use Rattle.jz_secrets.specs.Graphs.{Vertex, hidden, drawn, array, Arrow, label, Keeps, IsLabelling, IsBelow, IsEnd, AreBelow}
-use Rattle.jz_drawing.specs.Drawings.{Asked, View, next, vertex_in, asks_in, labels_of, ask_breach, first_asked, AreAskedBelow, IsBounded}
-use Rattle.jz_drawing.specs.Draws.{Agrees, Under, from_on}
+use Rattle.jz_secrets.specs.Graphs.{Vertex, hidden, drawn, array, Arrow, label, Keeps, IsBelow, IsEnd, AreBelow}
+use Rattle.jz_drawing.specs.Drawings.{Asked, vertex_in, asks_in, labels_of, ask_breach, first_asked, AreAskedBelow}
+use Rattle.jz_drawing.specs.Draws.{Agrees, from_on}
 
 -- ---- the first of two
 

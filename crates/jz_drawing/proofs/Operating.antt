@@ -1,6 +1,6 @@
 -- What is drawn of an operation.
-use Rattle.std.proofs.Common.{◌≡◌, ◌<◌, ◌≤◌, ℕ, zero, suc, ◌+◌, Bool, true, false, List, [], ◌∷◌, ◌++◌, length, Option, Some, None, if◌then◌else◌, refl, sym, ap, ◌∙◌, subst, arith, length-append}
-use Rattle.std.specs.Prelude.{◌||◌, not, nat_eq, nat_lt, map}
+use Rattle.std.proofs.Common.{◌≡◌, ◌<◌, ◌≤◌, ℕ, Bool, true, false, List, [], ◌∷◌, ◌++◌, Option, Some, None, if◌then◌else◌, refl, sym, ap, ◌∙◌, subst, arith, length-append}
+use Rattle.std.specs.Prelude.{◌||◌, nat_eq, nat_lt}
 use Rattle.std.proofs.Math.Path.{fun_ext}
 use Rattle.std.proofs.lemmas.Bool.{false≢true}
 use Rattle.std.proofs.lemmas.Bool.Decides.{nat_tests}
@@ -14,12 +14,12 @@ use Rattle.jz_flow.specs.Alarms.{FirstOf, First, Meets, no_more}
 use Rattle.jz_flow.proofs.Ordering.{below_self}
 use Rattle.jz_labels.specs.Operations.{Left, nothing, scalar, element, bytes, Plain, plain_of}
 use Rattle.jz_labels.specs.Labels.{Publics, Secret, first, is_none, gives_public, labelled, all_labelled, relabels}
-use Rattle.jz_labels.specs.Required.{Breach, breach_in_left, breach_in_lefts, breach_in_operation, into_public, secret_written}
+use Rattle.jz_labels.specs.Required.{breach_in_left, breach_in_lefts, breach_in_operation, into_public, secret_written}
 use Rattle.jz_labels.proofs.MoreLabels.{gives_more, relabels_more, written_less}
 use Rattle.jz_required.specs.Readings.{Origin, right_reading, left_demands, is_public, secret_unless, first_secret, first_breach}
 use Rattle.jz_required.proofs.Exact.{value_is, operation_is, left_is}
-use Rattle.jz_secrets.specs.Graphs.{drawn, array, Arrow, label, Keeps, IsLabelling, AreBelow}
-use Rattle.jz_drawing.specs.Drawings.{Asked, View, next, vertex_in, asks_in, put_left, put_lefts, arrows_from, left_arrows, lefts_arrows, lefts_asked, new_arrow, drawn_operation, sets_left, sets_lefts, sets, labels_of, first_asked, AreAskedBelow, IsBounded, flow, breaches, writes}
+use Rattle.jz_secrets.specs.Graphs.{Arrow, label, Keeps, IsLabelling, AreBelow}
+use Rattle.jz_drawing.specs.Drawings.{Asked, View, next, vertex_in, asks_in, put_left, put_lefts, arrows_from, lefts_arrows, lefts_asked, new_arrow, drawn_operation, sets_lefts, sets, labels_of, first_asked, AreAskedBelow, IsBounded, flow, breaches, writes}
 use Rattle.jz_drawing.specs.Draws.{Agrees, Under, from_on, Along, Told, Draws}
 use Rattle.jz_drawing.proofs.Labellings.{first_same, label_agrees, keeps_agreed, keeps_both, keeps_left, keeps_right, arrows_more, arrows_both, asked_more, asked_below_both, asked_both, asks_are, asks_below, origin_label, origin_below, below_on, behind_on}
 
@@ -96,11 +96,11 @@ unwritten : (a : Publics) (t : ℕ → Bool) (n : ℕ) (ds : List Left) → (t n
 unwritten a t n [] f k = refl
 unwritten a t n (nothing ∷ ds) f k = unwritten a t n ds f k
 unwritten a t n (scalar x ∷ ds) f k = unwritten a t n ds f k
-unwritten a t n (element x i ∷ ds) f k = by (a (key_of x)) refl
+unwritten a t n (element x i ∷ ds) f k = by (a (key_of x)) refl (unwritten a t n ds f k.1)
   where
-    by : (c : Bool) → a (key_of x) ≡ c → (if c then Some (key_of x) else into_public a ds) ≡ None
-    by true e = absurd (f (k.0 e))
-    by false e = unwritten a t n ds f k.1
+    by : (c : Bool) → a (key_of x) ≡ c → into_public a ds ≡ None → (if c then Some (key_of x) else into_public a ds) ≡ None
+    by true e h = absurd (f (k.0 e))
+    by false e h = h
 unwritten a t n (bytes p i ∷ ds) f k = unwritten a t n ds f k
 
 pub none_written : (a : Publics) (t : ℕ → Bool) (n : ℕ) (ds : List Left) (z : Bool) → (t n ≡ true → z ≡ true) → Keeps a t (lefts_arrows n ds) → (if z then None else into_public a ds) ≡ None

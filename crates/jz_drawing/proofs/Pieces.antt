@@ -1,17 +1,14 @@
 -- What is drawn of pieces one after another.
-use Rattle.std.proofs.Common.{◌≡◌, ◌<◌, ◌≤◌, ℕ, suc, Bool, true, false, List, [], ◌∷◌, ◌++◌, length, Option, Some, None, refl, sym, ap, ◌∙◌, subst, arith, append_assoc, append-nil}
-use Rattle.jz_meaning.specs.States.{Key}
+use Rattle.std.proofs.Common.{◌≡◌, ℕ, Bool, [], ◌++◌, Some, None, refl, sym, ap, ◌∙◌, subst, arith, append_assoc, append-nil}
 use Rattle.jz_tree.specs.Span.{Span}
 use Rattle.jz_meaning.specs.Statements.{Operation, meaningless, Counter, Block}
 use Rattle.jz_runs.specs.Trees.{op, quiet, each}
 use Rattle.jz_flow.specs.Sets.{Below}
-use Rattle.jz_flow.specs.Flow.{After}
-use Rattle.jz_flow.specs.Alarms.{FirstOf, First, Meets, no_more}
+use Rattle.jz_flow.specs.Alarms.{First, Meets, no_more}
 use Rattle.jz_labels.specs.Labels.{Publics, first}
-use Rattle.jz_labels.specs.Required.{Breach}
 use Rattle.jz_secrets.specs.Graphs.{IsLabelling}
-use Rattle.jz_drawing.specs.Drawings.{Asked, View, next, sets, labels_of, first_asked, AreAskedBelow, IsBounded, flow, breaches, writes}
-use Rattle.jz_drawing.specs.Draws.{Agrees, Under, Along, Told, Draws}
+use Rattle.jz_drawing.specs.Drawings.{View, next, labels_of, first_asked, AreAskedBelow, IsBounded, flow, breaches, writes}
+use Rattle.jz_drawing.specs.Draws.{Along, Told, Draws}
 use Rattle.jz_drawing.proofs.Labellings.{first_then, first_as, first_same, asked_both, asked_agrees, asked_below_right}
 
 pub nothing_drawn : (v : View) → Draws (λ r. r) v v

@@ -1,13 +1,13 @@
 -- Labels that are drawn anew for some scalars.
-use Rattle.std.proofs.Common.{◌≡◌, ◌<◌, ◌≤◌, ℕ, zero, suc, ◌+◌, Bool, true, false, List, [], ◌∷◌, ◌++◌, length, Option, Some, None, if◌then◌else◌, refl, sym, ap, ◌∙◌, subst, arith, length-append}
-use Rattle.std.specs.Prelude.{◌||◌, nat_eq, nat_lt, ◌==◌, map}
+use Rattle.std.proofs.Common.{◌≡◌, ◌<◌, ◌≤◌, ℕ, Bool, true, false, List, [], ◌∷◌, Option, Some, None, if◌then◌else◌, refl, sym, ap, ◌∙◌, subst, arith, length-append}
+use Rattle.std.specs.Prelude.{◌||◌, nat_eq, nat_lt, ◌==◌}
 use Rattle.std.proofs.lemmas.Bool.{false≢true}
 use Rattle.std.proofs.lemmas.Bool.Decides.{nat_tests}
 use Rattle.std.proofs.lemmas.Slice.Eq.{bytes_eq-Decides}
 use Rattle.jz_meaning.specs.States.{Key, same_cell, same_key}
 use Rattle.jz_labels.specs.Labels.{Publics}
 use Rattle.jz_labels.proofs.Keys.{keys_same}
-use Rattle.jz_secrets.specs.Graphs.{drawn, Arrow, Keeps, IsLabelling, AreBelow}
+use Rattle.jz_secrets.specs.Graphs.{Keeps, IsLabelling, AreBelow}
 use Rattle.jz_drawing.specs.Drawings.{View, next, new_arrow, IsBounded}
 use Rattle.jz_drawing.specs.Laws.{source_arrows, renewed_at}
 use Rattle.jz_drawing.specs.Draws.{Agrees, AllPublic, AllUnder, from_on, owned, Renews}

@@ -1,11 +1,10 @@
 -- What statements draw: which label each scalar has, which labels come of which, and which have to
 -- be public.
-use Rattle.std.specs.Prelude.{◌≡◌, ◌<◌, ℕ, zero, suc, Bool, true, false, ◌||◌, List, [], ◌∷◌, ◌++◌, map, length, Option, None, if◌then◌else◌}
+use Rattle.std.specs.Prelude.{◌<◌, ℕ, suc, Bool, false, ◌||◌, List, [], ◌∷◌, ◌++◌, map, length, Option, None, if◌then◌else◌}
 use Rattle.jz_runs.specs.Trees.{done, op, quiet, choose, loop, each, call}
 use Rattle.jz_meaning.specs.States.{Key, same_key}
 use Rattle.jz_meaning.specs.Values.{key_of}
 use Rattle.jz_meaning.specs.Statements.{Operation, Condition, Block}
-use Rattle.jz_flow.specs.Sets.{Below}
 use Rattle.jz_flow.specs.Flow.{Steps}
 use Rattle.jz_flow.specs.Alarms.{Asks}
 use Rattle.jz_flow.specs.Soundness.{AllAre}

@@ -1,5 +1,5 @@
 -- The law of labels that are drawn anew.
-use Rattle.std.specs.Prelude.{◌≡◌, ℕ, Bool, true, false, ◌||◌, List, [], ◌∷◌, ◌++◌, map, if◌then◌else◌}
+use Rattle.std.specs.Prelude.{◌≡◌, ℕ, Bool, false, ◌||◌, List, ◌∷◌, ◌++◌, map}
 use Rattle.jz_meaning.specs.States.{Key, same_key}
 use Rattle.jz_secrets.specs.Graphs.{drawn, Arrow}
 use Rattle.jz_drawing.specs.Drawings.{View, next, arrow_between, new_arrow, put_node}

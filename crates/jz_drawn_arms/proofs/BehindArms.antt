@@ -3,18 +3,16 @@ use Rattle.std.proofs.Common.{◌≡◌, ◌⊎◌, inl, inr, ◌<◌, ◌≤◌
 use Rattle.std.specs.Prelude.{◌||◌, ◌==◌, is_some}
 use Rattle.std.proofs.lemmas.Bool.{false≢true}
 use Rattle.std.proofs.lemmas.Bool.Decides.{nat_tests}
-use Rattle.indexmap.specs.IndexMap.{IndexMap}
 use Rattle.jz_meaning.specs.States.{Key}
-use Rattle.jz_layers.specs.declared.named.Named.{Named}
 use Rattle.jz_layers.specs.Spots.{Spot, entry_in, or_below}
 use Rattle.jz_layers.specs.Layered.{seen}
-use Rattle.jz_drawing.specs.Drawings.{View, next, IsBounded}
+use Rattle.jz_drawing.specs.Drawings.{next, IsBounded}
 use Rattle.jz_drawn_labels.specs.declared.drawing.Drawing.{Drawing}
-use Rattle.jz_drawn_labels.specs.Kept.{view_of, view_with, nodes_of, nodes_by, standing, whole, IsLow}
+use Rattle.jz_drawn_labels.specs.Kept.{view_of, nodes_of, nodes_by, standing, whole, IsLow}
 use Rattle.jz_drawn_labels.specs.Drew.{IsDrawn, HasRisen}
 use Rattle.jz_drawn_labels.proofs.Tables.{all_fall}
 use Rattle.jz_drawn_arms.specs.declared.arms.Arm.{Arm}
-use Rattle.jz_drawn_arms.specs.Meetings.{behind_arm, two, met_floor, HasEnded, Meeting, Met, MeetsFor, AreMet}
+use Rattle.jz_drawn_arms.specs.Meetings.{behind_arm, met_floor, HasEnded, Met, MeetsFor, AreMet}
 use Rattle.jz_drawn_arms.proofs.Meets.{none_met}
 use Rattle.jz_drawn_arms.proofs.MeetingLabels.{then_for}
 
@@ -167,7 +165,7 @@ module _ (a b : Arm) (old : Drawing) (drawn : IsDrawn old) (first : HasEnded a o
           both_true false d i j = absurd (false≢true i)
 
   module _ (middle new : Drawing) (one : MeetsFor a b n (λ k. is_some (entry_in a.layer (whole k))) raised middle) (other : MeetsFor a b n (λ k. is_some (entry_in b.layer (whole k))) middle new) where
-    given : Key → Bool
+    abbrev given : Key → Bool
     given k = is_some (entry_in b.layer (whole k)) || is_some (entry_in a.layer (whole k))
 
     whole_meets : MeetsFor a b n given raised new

@@ -1,7 +1,6 @@
 -- The labels that the code gives where arms meet.
-use Rattle.std.proofs.Common.{◌≡◌, ◌⊎◌, inl, inr, ◌<◌, ◌≤◌, ℕ, suc, ◌+◌, Bool, true, false, List, [], ◌∷◌, ◌++◌, length, Option, Some, None, refl, sym, ap, ◌∙◌, subst, arith, append_assoc, length-append}
-use Rattle.std.specs.Prelude.{◌||◌, ◌&&◌, slice_get, is_some}
-use Rattle.std.specs.Option.{option_map}
+use Rattle.std.proofs.Common.{◌≡◌, ◌⊎◌, inl, inr, ◌<◌, ◌≤◌, ℕ, ◌+◌, Bool, true, false, List, [], ◌∷◌, ◌++◌, length, Option, Some, None, refl, sym, ap, ◌∙◌, subst, arith, append_assoc, length-append}
+use Rattle.std.specs.Prelude.{◌||◌, slice_get, is_some}
 use Rattle.std.proofs.lemmas.Bool.{false≢true}
 use Rattle.indexmap.specs.IndexMap.{IndexMap}
 use Rattle.jz_meaning.specs.States.{Key}
@@ -14,7 +13,7 @@ use Rattle.jz_secrets.specs.Graphs.{drawn, Arrow}
 use Rattle.jz_drawing.specs.Drawings.{View, next, put_node, arrow_between, new_arrow, IsBounded}
 use Rattle.jz_drawing.specs.Laws.{renewed_at}
 use Rattle.jz_drawn_labels.specs.declared.drawing.Drawing.{Drawing}
-use Rattle.jz_drawn_labels.specs.Kept.{view_of, nodes_of, nodes_by, standing, whole, IsLow}
+use Rattle.jz_drawn_labels.specs.Kept.{view_of, nodes_of, standing, whole, IsLow}
 use Rattle.jz_drawn_labels.proofs.Lefts.{same_view}
 use Rattle.jz_drawn_arms.specs.declared.arms.Arm.{Arm}
 use Rattle.jz_drawn_arms.specs.Meetings.{behind_arm, two, Meeting, Met, MeetsFor}
@@ -47,7 +46,7 @@ module _ (a b : Arm) (n : ℕ) (s : Spot) (d : Drawing) (low : IsLow d) where
         again_met (behind_arm a before) (behind_arm b before) start before (view_of d) (seen d.table.layers) others q bound s e (omega (arith, l, p, is));
   }
 
-  module _ (new : Drawing) (o : Option ℕ) (m node x y : ℕ) (first second : List Arrow) (e : s.index ≡ None) (h : o ≡ seen d.table.layers s) (k : m ≡ standing d.table.floor o) (less : m < n) (node_next : node ≡ next (view_of d))
+  module _ (new : Drawing) (o : Option ℕ) (m node x y : ℕ) (first : List Arrow) (e : s.index ≡ None) (h : o ≡ seen d.table.layers s) (k : m ≡ standing d.table.floor o) (less : m < n) (node_next : node ≡ next (view_of d))
       (x_is : (f : Spot → Option ℕ) → o ≡ f s → x ≡ standing a.floor (over a.layer f s)) (y_is : (f : Spot → Option ℕ) → o ≡ f s → y ≡ standing b.floor (over b.layer f s))
       (first_is : first ≡ ((view_of d).arrows ++ new_arrow (next (view_of d)) ∷ []) ++ arrow_between (drawn x) (drawn node) ∷ []) (second_is : (view_of new).arrows ≡ first ++ arrow_between (drawn y) (drawn node) ∷ [])
       (nodes : nodes_of new.table ≡ put_node s.of node (nodes_of d.table)) (put : seen new.table.layers ≡ put_in (seen d.table.layers) s node) (asked : (view_of new).asked ≡ (view_of d).asked) (floor : new.table.floor ≡ d.table.floor)
@@ -73,36 +72,37 @@ module _ (a b : Arm) (n : ℕ) (s : Spot) (d : Drawing) (low : IsLow d) where
     now_low : IsLow new
     now_low = let l = longer in let f : d.table.floor ≤ next v = low in omega (arith, l, f, floor)
 
-    meets_now : (start : View) (before : Spot → Option ℕ) (others : Key → Bool) → n ≡ next start → IsBounded start → Met a b start before d others → Met a b start before new (λ q. same_spot s (whole q) || others q)
-    meets_now start before others p bound q =
-        subst (λ (w : View). Meeting A B start before w (seen new.table.layers) (λ g. same_spot s (whole g) || others g)) (sym same)
-        (now_met A B start before v (seen d.table.layers) others q bound s node (seen new.table.layers) e old put)
-      where
-        abbrev A : Key → ℕ
-        A = behind_arm a before
+    module _ (start : View) (before : Spot → Option ℕ) (others : Key → Bool) (p : n ≡ next start) (bound : IsBounded start) (q : Met a b start before d others) where
+      abbrev A : Key → ℕ
+      A = behind_arm a before
 
-        abbrev B : Key → ℕ
-        B = behind_arm b before
+      abbrev B : Key → ℕ
+      B = behind_arm b before
 
-        old : v.nodes s.of < next start
-        old = let is = node_is o m e h k in omega (arith, less, p, is)
+      old : v.nodes s.of < next start
+      old = let is = node_is o m e h k in omega (arith, less, p, is)
 
-        here : o ≡ before s
-        here =
-            h ∙ ap (λ (g : Spot). seen d.table.layers g) (whole_is s e)
-            ∙ q.stays s.of (met_old A B start before v (seen d.table.layers) others q bound s.of old) ∙ ap before (sym (whole_is s e))
+      here : o ≡ before s
+      here =
+          h ∙ ap (λ (g : Spot). seen d.table.layers g) (whole_is s e)
+          ∙ q.stays s.of (met_old A B start before v (seen d.table.layers) others q bound s.of old) ∙ ap before (sym (whole_is s e))
 
-        x_there : x ≡ A s.of
-        x_there = x_is before here ∙ ap (λ (g : Spot). standing a.floor (over a.layer before g)) (whole_is s e)
+      x_there : x ≡ A s.of
+      x_there = x_is before here ∙ ap (λ (g : Spot). standing a.floor (over a.layer before g)) (whole_is s e)
 
-        y_there : y ≡ B s.of
-        y_there = y_is before here ∙ ap (λ (g : Spot). standing b.floor (over b.layer before g)) (whole_is s e)
+      y_there : y ≡ B s.of
+      y_there = y_is before here ∙ ap (λ (g : Spot). standing b.floor (over b.layer before g)) (whole_is s e)
 
-        same : view_of new ≡ renewed_at s.of (two A B s.of) v
-        same = same_view (view_of new) (renewed_at s.of (two A B s.of) v) (nodes ∙ ap (λ (i : ℕ). put_node s.of i v.nodes) node_next) (arrows_are (A s.of) (B s.of) x_there y_there) asked
+      same : view_of new ≡ renewed_at s.of (two A B s.of) v
+      same = same_view (view_of new) (renewed_at s.of (two A B s.of) v) (nodes ∙ ap (λ (i : ℕ). put_node s.of i v.nodes) node_next) (arrows_are (A s.of) (B s.of) x_there y_there) asked
+
+      meets_now : Met a b start before new (λ g. same_spot s (whole g) || others g)
+      meets_now =
+          subst (λ (w : View). Meeting A B start before w (seen new.table.layers) (λ g. same_spot s (whole g) || others g)) (sym same)
+          (now_met A B start before v (seen d.table.layers) others q bound s node (seen new.table.layers) e old put)
 
     pub now_for : MeetsFor a b n (λ q. same_spot s (whole q)) d new
-    now_for = record { low = now_low; floor = floor; below = below; meets = meets_now }
+    now_for = record { low = now_low; floor = floor; below = below; meets = λ start before others p bound q. meets_now start before others p bound q }
 
 -- ---- all of a layer
 

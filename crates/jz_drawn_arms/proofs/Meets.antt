@@ -1,18 +1,15 @@
 -- Where arms meet.
-use Rattle.std.proofs.Common.{◌≡◌, ◌⊎◌, inl, inr, ◌<◌, ◌≤◌, ℕ, zero, suc, Bool, true, false, ◌&&◌, List, [], ◌∷◌, ◌++◌, Option, Some, None, if◌then◌else◌, refl, sym, ap, ◌∙◌, subst, arith}
-use Rattle.std.specs.Prelude.{◌||◌, is_some}
+use Rattle.std.proofs.Common.{◌≡◌, ◌⊎◌, inl, inr, ◌<◌, ◌≤◌, ℕ, Bool, true, false, Option, Some, None, if◌then◌else◌, refl, sym, ap, ◌∙◌, arith}
+use Rattle.std.specs.Prelude.{◌||◌}
 use Rattle.std.proofs.lemmas.Bool.{false≢true}
-use Rattle.indexmap.specs.IndexMap.{IndexMap}
 use Rattle.jz_meaning.specs.States.{Key, same_key}
 use Rattle.jz_labels.proofs.Keys.{keys_same}
-use Rattle.jz_layers.specs.declared.named.Named.{Named}
-use Rattle.jz_layers.specs.Spots.{Spot, same_spot, put_in, entry_in, over, or_below}
+use Rattle.jz_layers.specs.Spots.{Spot, same_spot, put_in}
 use Rattle.jz_layers.proofs.SpotLemmas.{same_spot-true}
-use Rattle.jz_drawing.specs.Drawings.{View, next, put_node, IsBounded}
-use Rattle.jz_drawing.specs.Draws.{Renews}
-use Rattle.jz_drawing.specs.Laws.{source_arrows, renewed_at}
+use Rattle.jz_drawing.specs.Drawings.{View, next, IsBounded}
+use Rattle.jz_drawing.specs.Laws.{renewed_at}
 use Rattle.jz_drawing.proofs.Renewing.{nothing_renewed, one_renewed}
-use Rattle.jz_drawn_labels.specs.Kept.{standing, whole, nodes_by}
+use Rattle.jz_drawn_labels.specs.Kept.{whole}
 use Rattle.jz_drawn_labels.proofs.Tables.{spot_key}
 use Rattle.jz_drawn_arms.specs.Meetings.{two, Meeting}
 

@@ -1,5 +1,5 @@
 -- What is drawn of two arms and of where they meet.
-use Rattle.std.proofs.Common.{◌≡◌, ◌⊎◌, inl, inr, ◌<◌, ◌≤◌, ℕ, zero, suc, Bool, true, false, ◌&&◌, List, [], ◌∷◌, ◌++◌, Option, Some, None, if◌then◌else◌, refl, sym, ap, ◌∙◌, subst, arith, append_assoc}
+use Rattle.std.proofs.Common.{◌≡◌, ◌⊎◌, inl, inr, ◌<◌, ℕ, Bool, true, false, ◌&&◌, List, [], ◌∷◌, ◌++◌, Option, Some, None, if◌then◌else◌, refl, sym, ap, ◌∙◌, subst, arith, append_assoc}
 use Rattle.std.specs.Prelude.{◌||◌, nat_lt}
 use Rattle.std.proofs.Math.Path.{fun_ext}
 use Rattle.std.proofs.lemmas.Bool.{and_parts, and_from}
@@ -14,7 +14,7 @@ use Rattle.jz_flow.proofs.Ordering.{common_below}
 use Rattle.jz_labels.specs.Operations.{tested_by}
 use Rattle.jz_labels.specs.Labels.{Publics, first}
 use Rattle.jz_labels.specs.Required.{Breach, breach_in_test}
-use Rattle.jz_required.specs.Readings.{Demand, test_demands, first_breach}
+use Rattle.jz_required.specs.Readings.{test_demands, first_breach}
 use Rattle.jz_required.proofs.Exact.{test_is}
 use Rattle.jz_secrets.specs.Graphs.{IsLabelling}
 use Rattle.jz_drawing.specs.Drawings.{Asked, View, next, asks_in, with_asked, sets, labels_of, first_asked, AreAskedBelow, IsBounded, flow, breaches, writes}

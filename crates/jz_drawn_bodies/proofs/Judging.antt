@@ -1,25 +1,24 @@
 -- From what is drawn of a body to its first breach.
-use Rattle.std.proofs.Common.{◌≡◌, ◌<◌, ◌≤◌, ℕ, zero, suc, Bool, true, false, not, List, [], ◌∷◌, ◌++◌, Option, Some, None, if◌then◌else◌, refl, sym, ap, ◌∙◌, subst, arith}
+use Rattle.std.proofs.Common.{◌≡◌, ◌<◌, ℕ, Bool, true, false, not, List, [], ◌∷◌, Option, refl, sym, ap, ◌∙◌, subst, arith}
 use Rattle.std.specs.Prelude.{nat_eq}
 use Rattle.std.proofs.Math.Path.{fun_ext}
 use Rattle.std.proofs.lemmas.Bool.{false≢true}
 use Rattle.std.proofs.lemmas.Bool.Decides.{nat_tests}
-use Rattle.jz_tree.specs.declared.program.Param.{Param}
 use Rattle.jz_runs.specs.Trees.{done}
 use Rattle.jz_meaning.specs.States.{Key}
 use Rattle.jz_meaning.specs.Statements.{Block}
 use Rattle.jz_flow.specs.Sets.{Below}
-use Rattle.jz_flow.specs.Alarms.{FirstOf, First, Meets, no_more}
+use Rattle.jz_flow.specs.Alarms.{First, no_more}
 use Rattle.jz_labels.specs.Operations.{plain_of, tested_by}
 use Rattle.jz_labels.specs.Labels.{Publics, first}
 use Rattle.jz_labels.specs.Required.{Breach}
-use Rattle.jz_labels.specs.ConstantTime.{at_entry, AreKept, AreMost, IsFirst, IsFirstBreach}
+use Rattle.jz_labels.specs.ConstantTime.{at_entry, AreKept, AreMost, IsFirst}
 use Rattle.jz_first_breach.proofs.Arrays.{answer}
 use Rattle.jz_required.specs.Readings.{demand_breach}
-use Rattle.jz_secrets.specs.Graphs.{Vertex, hidden, drawn, array, Arrow, label, IsLabelling, IsBelow, AreBelow, AreFewest}
-use Rattle.jz_drawing.specs.Drawings.{Asked, View, next, IsFree, arrow_between, new_arrow, labels_of, ask_breach, first_asked, AreAskedBelow, IsBounded, flow, breaches, writes}
+use Rattle.jz_secrets.specs.Graphs.{Vertex, hidden, drawn, array, label, IsLabelling, IsBelow, AreFewest}
+use Rattle.jz_drawing.specs.Drawings.{Asked, View, next, IsFree, labels_of, ask_breach, first_asked, AreAskedBelow, IsBounded, flow, breaches}
 use Rattle.jz_drawn_bodies.specs.Bodies.{entry_node, entry_view, BreachLaw}
-use Rattle.jz_drawing.specs.Draws.{Agrees, Under, Along, Told, Draws}
+use Rattle.jz_drawing.specs.Draws.{Under, Along, Told, Draws}
 use Rattle.jz_drawing.proofs.Labellings.{first_is, asked_below_right}
 
 -- ---- the drawing before the first statement: one label that is secret

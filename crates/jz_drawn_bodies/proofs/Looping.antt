@@ -1,6 +1,6 @@
 -- What is drawn of a loop: the scalars that it sets have labels of their own at its head, and what
 -- they have at the end of a turn comes back to these.
-use Rattle.std.proofs.Common.{◌≡◌, ◌⊎◌, inl, inr, ◌<◌, ◌≤◌, ℕ, zero, suc, Bool, true, false, List, [], ◌∷◌, ◌++◌, Option, Some, None, if◌then◌else◌, refl, sym, ap, ◌∙◌, subst, arith, append_assoc}
+use Rattle.std.proofs.Common.{◌≡◌, ◌⊎◌, inl, inr, ◌<◌, ℕ, Bool, true, false, List, [], ◌∷◌, ◌++◌, Option, Some, None, if◌then◌else◌, refl, sym, ap, ◌∙◌, subst, arith, append_assoc}
 use Rattle.std.specs.Prelude.{◌||◌, nat_lt}
 use Rattle.std.proofs.Math.Path.{fun_ext}
 use Rattle.std.proofs.lemmas.Bool.{false≢true}
@@ -12,17 +12,17 @@ use Rattle.jz_meaning.specs.Statements.{Condition, Block}
 use Rattle.jz_flow.specs.Sets.{Below}
 use Rattle.jz_flow.specs.Flow.{After, IsHead, OneTurn}
 use Rattle.jz_flow.specs.Alarms.{FirstOf, First, Meets, no_more}
-use Rattle.jz_flow.proofs.Ordering.{below_self, same_sets, one_head, more}
+use Rattle.jz_flow.proofs.Ordering.{below_self, one_head, more}
 use Rattle.jz_labels.specs.Operations.{Left, nothing, scalar, element, bytes, plain_of, tested_by}
 use Rattle.jz_labels.specs.Labels.{Publics, first, leaving}
 use Rattle.jz_labels.specs.Required.{Breach, breach_in_test}
 use Rattle.jz_labels.proofs.MoreLabels.{labels_monotone, leaving_more}
 use Rattle.jz_labels.proofs.Keys.{is_among, not_left, not_right}
-use Rattle.jz_labels.proofs.Existing.{IsWhole, Spares, keys_of, set_in, some_after, found, leaving_spares}
+use Rattle.jz_labels.proofs.Existing.{IsWhole, keys_of, set_in, some_after, found, leaving_spares}
 use Rattle.jz_labels.proofs.Comparing.{meets_whole, head_below}
 use Rattle.jz_secrets.specs.Graphs.{IsLabelling}
 use Rattle.jz_drawing.specs.Drawings.{Asked, View, next, asks_in, with_asked, IsFree, sets_lefts, sets, labels_of, first_asked, IsBounded, flow, breaches, writes}
-use Rattle.jz_drawing.specs.Draws.{Agrees, Under, AllPublic, AllUnder, from_on, owned, Along, Told, Draws, Renews, ComesBack}
+use Rattle.jz_drawing.specs.Draws.{Agrees, Under, AllUnder, from_on, owned, Along, Told, Draws, Renews, ComesBack}
 use Rattle.jz_drawing.proofs.Labellings.{first_then, first_as, first_is, first_same, asked_both, asked_agrees, keeps_agreed, below_on, behind_on}
 use Rattle.jz_drawn_bodies.proofs.Choosing.{test_bounded, test_asks, labels_stay, asked_behind}
 use Rattle.jz_required.specs.Readings.{test_demands}

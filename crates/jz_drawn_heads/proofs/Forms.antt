@@ -1,5 +1,5 @@
 -- Statements of each form.
-use Rattle.std.proofs.Common.{◌≡◌, ℕ, Bool, List, [], ◌∷◌, ◌++◌, map, Option, Some, None, refl, sym, ap, ◌∙◌}
+use Rattle.std.proofs.Common.{◌≡◌, Bool, List, [], ◌∷◌, ◌++◌, Option, Some, None, refl, sym, ap, ◌∙◌}
 use Rattle.std.specs.Prelude.{not, is_some}
 use Rattle.jz_tree.specs.Span.{Span}
 use Rattle.jz_tree.specs.declared.expr.BinOp.{BinOp}
@@ -13,8 +13,8 @@ use Rattle.jz_tree.specs.declared.stmt.StmtKind.TheVariants as kind
 use Rattle.jz_tree.specs.declared.stmt.StmtKind.TheOpen.{StmtKind-F}
 use Rattle.jz_tree.specs.declared.stmt.StmtKind.TheFolds.{fold-roll-Stmt, fold-roll-StmtKind}
 use Rattle.jz_runs.specs.Trees.{done, quiet, choose, loop, each}
-use Rattle.jz_meaning.specs.Runs.{in_order, block, statement_tree, kind_tree, assign_tree}
-use Rattle.jz_meaning.specs.Statements.{unset, Counter, Block}
+use Rattle.jz_meaning.specs.Runs.{block, statement_tree, kind_tree, assign_tree}
+use Rattle.jz_meaning.specs.Statements.{unset, Block}
 use Rattle.jz_drawn_labels.specs.Drew.{no_callees}
 use Rattle.jz_drawn_heads.specs.Pieces.{kind_piece, condition_at, turn_piece}
 

@@ -1,5 +1,5 @@
 pub mod LoopHeads
-pub mod Split
+pub mod Splitting
 pub mod SetScalars
 pub mod Forms
 pub mod Measures

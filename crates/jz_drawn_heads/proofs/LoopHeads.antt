@@ -1,16 +1,16 @@
 -- Labels of their own at the head of a loop, and what comes back to them.
-use Rattle.std.proofs.Common.{◌≡◌, ◌⊎◌, inl, inr, ◌<◌, ◌≤◌, ℕ, zero, suc, Bool, true, false, List, [], ◌∷◌, ◌++◌, map, length, refl, sym, ap, ◌∙◌, subst, arith, length-append, append-nil}
+use Rattle.std.proofs.Common.{◌≡◌, ◌⊎◌, inl, inr, ◌<◌, ◌≤◌, ℕ, suc, Bool, true, false, List, [], ◌∷◌, ◌++◌, length, refl, sym, ap, ◌∙◌, subst, arith, length-append}
 use Rattle.std.specs.Prelude.{◌||◌, if◌then◌else◌}
 use Rattle.std.proofs.lemmas.Bool.{false≢true}
 use Rattle.jz_meaning.specs.States.{Key, same_key}
 use Rattle.jz_labels.specs.Labels.{Publics}
 use Rattle.jz_labels.proofs.Keys.{keys_same}
 use Rattle.jz_layers.specs.Spots.{variable_key}
-use Rattle.jz_secrets.specs.Graphs.{drawn, Keeps, IsLabelling, AreBelow}
+use Rattle.jz_secrets.specs.Graphs.{Keeps, AreBelow}
 use Rattle.jz_drawn_heads.specs.declared.heads.Head.{Head}
-use Rattle.jz_drawing.specs.Drawings.{View, next, put_node, IsBounded}
+use Rattle.jz_drawing.specs.Drawings.{View, next, IsBounded}
 use Rattle.jz_drawing.specs.Laws.{renewed_at}
-use Rattle.jz_drawing.specs.Draws.{Renews, ComesBack}
+use Rattle.jz_drawing.specs.Draws.{ComesBack}
 use Rattle.jz_drawn_heads.specs.Pieces.{has_key, head_keys, back_arrows, own, AreHeads, Splits}
 use Rattle.jz_drawing.proofs.Labellings.{keeps_both, keeps_left, keeps_right, arrows_more, arrows_both, asked_more}
 use Rattle.jz_drawing.proofs.Renewing.{key_itself, nothing_renewed, one_renewed}
@@ -35,13 +35,13 @@ key_of_head h = variable_key h.var.now
 module _ (head : Key → ℕ) (e : Key → ℕ) where
   head_comes : (a : Publics) (t : ℕ → Bool) (hs : List Head) → AreHeads head hs → Keeps a t (back_arrows e hs) → (k : Key) → has_key (head_keys hs) k ≡ true → t (head k) ≡ true → t (e k) ≡ true
   head_comes a t [] n k q h i = absurd (false≢true h)
-  head_comes a t (x ∷ hs) n k q h i = by (either (same_key q (key_of_head x)) (has_key (head_keys hs) q) h)
+  head_comes a t (x ∷ hs) n k q h i = by (either (same_key q (key_of_head x)) (has_key (head_keys hs) q) h) (λ j. head_comes a t hs n.1 k.1 q j i)
     where
-      by : (same_key q (key_of_head x) ≡ true) ⊎ (has_key (head_keys hs) q ≡ true) → t (e q) ≡ true
-      by (inl j) =
+      by : (same_key q (key_of_head x) ≡ true) ⊎ (has_key (head_keys hs) q ≡ true) → (has_key (head_keys hs) q ≡ true → t (e q) ≡ true) → t (e q) ≡ true
+      by (inl j) on =
           let s : q ≡ key_of_head x = keys_same q (key_of_head x) j in
           ap (λ (y : Key). t (e y)) s ∙ k.0 (ap t (n.0 ∙ ap head (sym s)) ∙ i)
-      by (inr j) = head_comes a t hs n.1 k.1 q j i
+      by (inr j) on = on j
 
   heads_kept : (a : Publics) (t : ℕ → Bool) (hs : List Head) → AreHeads head hs → ((k : Key) → t (head k) ≡ true → t (e k) ≡ true) → Keeps a t (back_arrows e hs)
   heads_kept a t [] n f = tt

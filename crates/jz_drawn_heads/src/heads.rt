@@ -56,10 +56,7 @@ fn left_scalars<'a>(to: &'a Seq<Lval>, vars: &mut Vec<Target<'a>>) -> Result<(),
 
 /// The scalars that statements set.
 #[cycle(setting)]
-pub fn scalars_set<'a>(
-    stmts: &'a Seq<Stmt>,
-    vars: &mut Vec<Target<'a>>,
-) -> Result<(), AllocError>
+pub fn scalars_set<'a>(stmts: &'a Seq<Stmt>, vars: &mut Vec<Target<'a>>) -> Result<(), AllocError>
     ensures { OnOk result (CoversMore (block no_callees stmts.now) (keys_of vars.old.items)
         (keys_of vars.new.items)) }
 {

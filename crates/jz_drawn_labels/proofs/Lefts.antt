@@ -7,12 +7,11 @@ use Rattle.jz_tree.specs.declared.expr.Expr.{Expr}
 use Rattle.jz_tree.specs.declared.expr.Var.{Var}
 use Rattle.jz_tree.specs.declared.stmt.Lval.{Lval}
 use Rattle.jz_tree.specs.declared.stmt.Lval.TheVariants as lval
-use Rattle.jz_meaning.specs.States.{Key}
 use Rattle.jz_labels.specs.Operations.{Left, left_of}
 use Rattle.jz_layers.specs.Spots.{variable_key}
 use Rattle.jz_required.specs.Readings.{left_demands}
-use Rattle.jz_secrets.specs.Graphs.{drawn, array, Arrow}
-use Rattle.jz_drawing.specs.Drawings.{Asked, View, put_node, put_left, put_lefts, left_arrows, lefts_arrows, lefts_asked, asks_in, arrow_between}
+use Rattle.jz_secrets.specs.Graphs.{drawn, array}
+use Rattle.jz_drawing.specs.Drawings.{View, put_node, put_left, put_lefts, left_arrows, lefts_arrows, lefts_asked, asks_in, arrow_between}
 use Rattle.jz_drawn_labels.specs.InnerLefts.{left_written, left_drawn, lefts_drawn}
 
 pub same_view : (v w : View) → v.nodes ≡ w.nodes → v.arrows ≡ w.arrows → v.asked ≡ w.asked → v ≡ w
@@ -59,12 +58,12 @@ lefts_are n [] v = same_view v (record { nodes = v.nodes; arrows = v.arrows ++ [
 lefts_are n (d ∷ ds) v =
     lefts_are n ds (left_drawn n d v)
     ∙ same_view
-        (record {
-          nodes = put_lefts n ds (put_left n d v.nodes);
-          arrows = (v.arrows ++ left_arrows n d) ++ lefts_arrows n ds;
-          asked = (v.asked ++ asks_in v.nodes (left_demands d)) ++ lefts_asked n ds (put_left n d v.nodes);
-        })
-        (record { nodes = put_lefts n (d ∷ ds) v.nodes; arrows = v.arrows ++ lefts_arrows n (d ∷ ds); asked = v.asked ++ lefts_asked n (d ∷ ds) v.nodes })
-        refl
-        (append_assoc v.arrows (left_arrows n d) (lefts_arrows n ds))
-        (append_assoc v.asked (asks_in v.nodes (left_demands d)) (lefts_asked n ds (put_left n d v.nodes)))
+    (record {
+      nodes = put_lefts n ds (put_left n d v.nodes);
+      arrows = (v.arrows ++ left_arrows n d) ++ lefts_arrows n ds;
+      asked = (v.asked ++ asks_in v.nodes (left_demands d)) ++ lefts_asked n ds (put_left n d v.nodes);
+    })
+    (record { nodes = put_lefts n (d ∷ ds) v.nodes; arrows = v.arrows ++ lefts_arrows n (d ∷ ds); asked = v.asked ++ lefts_asked n (d ∷ ds) v.nodes })
+    refl
+    (append_assoc v.arrows (left_arrows n d) (lefts_arrows n ds))
+    (append_assoc v.asked (asks_in v.nodes (left_demands d)) (lefts_asked n ds (put_left n d v.nodes)))

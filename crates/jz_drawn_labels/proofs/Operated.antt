@@ -1,5 +1,5 @@
 -- What an operation draws.
-use Rattle.std.proofs.Common.{◌≡◌, ◌⊎◌, inl, ◌≤◌, ℕ, suc, ◌+◌, List, [], ◌∷◌, ◌++◌, length, Option, Some, None, refl, sym, ap, ◌∙◌, subst, arith, append_assoc, length-append}
+use Rattle.std.proofs.Common.{◌≡◌, inl, ◌≤◌, ℕ, suc, ◌+◌, List, [], ◌∷◌, ◌++◌, length, Option, Some, None, refl, sym, ap, ◌∙◌, subst, arith, append_assoc, length-append}
 use Rattle.jz_tree.specs.Span.{Span}
 use Rattle.jz_tree.specs.declared.expr.BinOp.{BinOp}
 use Rattle.jz_tree.specs.declared.expr.Expr.{Expr}
@@ -10,7 +10,7 @@ use Rattle.jz_meaning.specs.Runs.{assign_tree}
 use Rattle.jz_meaning.specs.Statements.{Operation, assign, instruction, meaningless, Block}
 use Rattle.jz_runs.specs.Trees.{op}
 use Rattle.jz_labels.specs.Operations.{Left, Plain, plain_of}
-use Rattle.jz_required.specs.Readings.{Reading, Demand, right_reading}
+use Rattle.jz_required.specs.Readings.{Reading, right_reading}
 use Rattle.jz_secrets.specs.Graphs.{Arrow}
 use Rattle.jz_drawing.specs.Drawings.{View, next, put_lefts, lefts_arrows, lefts_asked, arrows_from, asks_in, new_arrow, drawn_operation}
 use Rattle.jz_drawing.specs.Draws.{Draws}
@@ -42,14 +42,14 @@ module _ (v m w : View) (n : ℕ) (r : Reading) (ds : List Left) (b : List Arrow
       ∙ ap (lefts_drawn n ds) (same_view m (record { nodes = v.nodes; arrows = (v.arrows ++ new_arrow (next v) ∷ []) ++ arrows_from v.nodes r.origins n; asked = v.asked ++ asks_in v.nodes r.demands }) nodes arrows_are asked)
       ∙ lefts_are n ds (record { nodes = v.nodes; arrows = (v.arrows ++ new_arrow (next v) ∷ []) ++ arrows_from v.nodes r.origins n; asked = v.asked ++ asks_in v.nodes r.demands })
       ∙ same_view
-          (record {
-            nodes = put_lefts n ds v.nodes;
-            arrows = ((v.arrows ++ new_arrow (next v) ∷ []) ++ arrows_from v.nodes r.origins n) ++ lefts_arrows n ds;
-            asked = (v.asked ++ asks_in v.nodes r.demands) ++ lefts_asked n ds v.nodes;
-          })
-          (drawn_by n ds r v) refl
-          (append_assoc (v.arrows ++ new_arrow (next v) ∷ []) (arrows_from v.nodes r.origins n) (lefts_arrows n ds) ∙ append_assoc v.arrows (new_arrow (next v) ∷ []) (arrows_from v.nodes r.origins n ++ lefts_arrows n ds))
-          (append_assoc v.asked (asks_in v.nodes r.demands) (lefts_asked n ds v.nodes))
+      (record {
+        nodes = put_lefts n ds v.nodes;
+        arrows = ((v.arrows ++ new_arrow (next v) ∷ []) ++ arrows_from v.nodes r.origins n) ++ lefts_arrows n ds;
+        asked = (v.asked ++ asks_in v.nodes r.demands) ++ lefts_asked n ds v.nodes;
+      })
+      (drawn_by n ds r v) refl
+      (append_assoc (v.arrows ++ new_arrow (next v) ∷ []) (arrows_from v.nodes r.origins n) (lefts_arrows n ds) ∙ append_assoc v.arrows (new_arrow (next v) ∷ []) (arrows_from v.nodes r.origins n ++ lefts_arrows n ds))
+      (append_assoc v.asked (asks_in v.nodes r.demands) (lefts_asked n ds v.nodes))
 
   pub operated : n ≡ next v → (o : Plain) → r ≡ right_reading o → ds ≡ o.to → w ≡ drawn_operation o v
   operated e o h k = drawn_is ∙ ap (λ (i : ℕ). drawn_by i ds r v) e ∙ ap (λ (q : Reading). drawn_by (next v) ds q v) h ∙ ap (λ (xs : List Left). drawn_by (next v) xs (right_reading o) v) k

@@ -1,5 +1,5 @@
 -- What the code has drawn.
-use Rattle.std.specs.Prelude.{◌≡◌, ◌≤◌, ℕ, nat_lt, Bool, List, map, Option, Some, None, if◌then◌else◌}
+use Rattle.std.specs.Prelude.{◌≤◌, ℕ, nat_lt, map, Option, Some, None, if◌then◌else◌}
 use Rattle.jz_meaning.specs.States.{Key}
 use Rattle.jz_layers.specs.Spots.{Spot}
 use Rattle.jz_layers.specs.Layered.{seen}

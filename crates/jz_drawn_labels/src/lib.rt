@@ -9,5 +9,5 @@ mod table;
 
 pub use drawing::Drawing;
 pub use operating::draw_assign;
-pub use sheet::{Ask, Sheet, ask, fresh, link};
+pub use sheet::{Ask, Sheet, ask_all, fresh, link};
 pub use table::{Table, above, put, put_named};

@@ -12,7 +12,7 @@ ghost use Rattle.jz_drawn_labels.specs.Drew.{no_callees, IsDrawn, Drew};
 ghost use Rattle.jz_drawn_labels.specs.InnerLefts.{left_written, left_drawn, lefts_drawn};
 
 use crate::drawing::Drawing;
-use crate::sheet::{ask, fresh, link, link_all};
+use crate::sheet::{ask_all, fresh, link, link_all};
 use crate::table::put;
 use jz_required::{Found, assignment_reads, instruction_reads, left_demands};
 use jz_secrets::Node;
@@ -61,7 +61,7 @@ fn draw_left<'a>(
         ≡ left_drawn node (left_of left.now) (view_of drawing.old)) }
 {
     let required = left_demands(alloc, left)?;
-    ask(&mut drawing.sheet.asked, &drawing.table, &required)?;
+    ask_all(&mut drawing.sheet.asked, &drawing.table, &required)?;
     write(drawing, left, node)?;
     Ok(())
 }
@@ -103,7 +103,7 @@ fn operate<'a>(
 {
     let node = fresh(&mut drawing.sheet.edges)?;
     link_all(&mut drawing.sheet.edges, &drawing.table, &found.parts, node)?;
-    ask(&mut drawing.sheet.asked, &drawing.table, &found.required)?;
+    ask_all(&mut drawing.sheet.asked, &drawing.table, &found.required)?;
     draw_lefts(alloc, drawing, to, node)?;
     Ok(())
 }

@@ -49,11 +49,7 @@ impl<'a> Sheet<'a> {
 }
 
 /// Draws that a label comes of another.
-pub fn link<'a>(
-    edges: &mut Vec<Edge<'a>>,
-    from: Node<'a>,
-    to: Node<'a>,
-) -> Result<(), AllocError>
+pub fn link<'a>(edges: &mut Vec<Edge<'a>>, from: Node<'a>, to: Node<'a>) -> Result<(), AllocError>
     ensures { OnOk result (arrows_of edges.new.items ≡ arrows_of edges.old.items
         ++ arrow_between (vertex_of from.entry) (vertex_of to.entry) ∷ []) }
 {
@@ -90,7 +86,7 @@ pub(crate) fn link_all<'a>(
 }
 
 /// Notes that these have to be public.
-pub fn ask<'a>(
+pub fn ask_all<'a>(
     asked: &mut Vec<Ask<'a>>,
     table: &Table<'a>,
     required: &Seq<Required<'a>>,

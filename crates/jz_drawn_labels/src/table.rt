@@ -65,11 +65,7 @@ impl<'a> Table<'a> {
 }
 
 /// Gives a scalar a label.
-pub fn put_named<'a>(
-    table: &mut Table<'a>,
-    named: Named<'a>,
-    node: usize,
-) -> Result<(), AllocError>
+pub fn put_named<'a>(table: &mut Table<'a>, named: Named<'a>, node: usize) -> Result<(), AllocError>
     requires floor { table.old.floor ≤ node }
     requires scalar { (spot_of named).index ≡ None }
     ensures nodes { OnOk result (nodes_of table.new

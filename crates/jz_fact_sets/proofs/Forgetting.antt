@@ -1,5 +1,5 @@
 -- What is forgotten, cell by cell.
-use Rattle.std.proofs.Common.{◌≡◌, ℕ, zero, suc, ◌+◌, ◌<◌, ◌≤◌, List, [], ◌∷◌, arith, length, Option, Some, None, Bool, true, false, true≢false, refl, ap, sym, ◌∙◌}
+use Rattle.std.proofs.Common.{◌≡◌, ℕ, zero, suc, ◌+◌, ◌<◌, ◌≤◌, List, [], ◌∷◌, arith, length, Option, Some, None, Bool, true, false, true≢false, refl, ap, sym, ◌∙◌, subst}
 use Rattle.std.specs.Prelude.{if◌then◌else◌, not, ◌&&◌, ◌||◌, ◌==◌, is_some, is_none, slice_get}
 use Rattle.std.specs.Str.{bytes_eq}
 use Rattle.std.proofs.Math.Path.{fun_ext}
@@ -116,6 +116,38 @@ module _ (v : Key) (x : Knowledge) (know : Spot → Knowledge) where
           → known_if (b && (c && (l && same_cell None i))) x (known_if ((b && (c && l)) && not (is_none k.of.cell && is_none i)) nothing (know k)) ≡ known_if (b && (c && l)) (known_if (is_none i) x nothing) (know k)
       by None e b c l = plain b c l (is_none k.of.cell)
       by (Some j) e b c l = cell b c l (is_none k.of.cell)
+
+-- a value behind a test is asked for where the test is false alone
+pub known_else : (b : Bool) (x y z : Knowledge) → (b ≡ false → y ≡ z) → known_if b x y ≡ known_if b x z
+known_else true x y z h = refl
+known_else false x y z h = h refl
+
+module _ (v : Key) (know : Spot → Knowledge) (no : (i : ℕ) → know (record { of = v; index = Some i }) ≡ nothing) where
+  -- of what has no cell none is to be forgotten
+  pub none_forgotten : (k : Spot) → same_spot (record { of = v; index = None }) k ≡ false → know k ≡ without_cells (record { of = v; index = None }) false know k
+  none_forgotten k e = by k.index refl (bytes_eq v.name k.of.name) refl (v.copy == k.of.copy) refl (same_cell v.cell k.of.cell) refl (is_none k.of.cell) e
+    where
+      key : bytes_eq v.name k.of.name ≡ true → (v.copy == k.of.copy) ≡ true → same_cell v.cell k.of.cell ≡ true → v ≡ k.of
+      key b c l =
+          let t : same_spot (record { of = v; index = None }) (record { of = k.of; index = None }) ≡ true = rw (b, c, l) in
+          ap (λ s. s.of) (same_spot-true (record { of = v; index = None }) (record { of = k.of; index = None }) t)
+
+      here : v ≡ k.of → (i : ℕ) → k.index ≡ Some i → know k ≡ nothing
+      here p i q =
+          let w : know (record { of = k.of; index = Some i }) ≡ nothing = subst (λ w. know (record { of = w; index = Some i }) ≡ nothing) p (no i) in
+          subst (λ j. know (record { of = k.of; index = j }) ≡ nothing) (sym q) w
+
+      by : (j : Option ℕ) → k.index ≡ j → (b : Bool) → bytes_eq v.name k.of.name ≡ b → (c : Bool) → (v.copy == k.of.copy) ≡ c → (l : Bool) → same_cell v.cell k.of.cell ≡ l → (p : Bool)
+          → (b && (c && (l && same_cell None j))) ≡ false → know k ≡ known_if ((b && (c && l)) && not (p && is_none j)) nothing (know k)
+      by None q true x true y true z p e = absurd (true≢false e)
+      by None q true x true y false z p e = refl
+      by None q true x false y l z p e = refl
+      by None q false x c y l z p e = refl
+      by (Some i) q true x true y true z true e = here (key x y z) i q
+      by (Some i) q true x true y true z false e = here (key x y z) i q
+      by (Some i) q true x true y false z p e = refl
+      by (Some i) q true x false y l z p e = refl
+      by (Some i) q false x c y l z p e = refl
 
 module _ (v : Key) (know : Spot → Knowledge) where
   pub forgotten_is : (k : Spot) → known_if (same_spot (whole_spot v) k) nothing (without_cells (whole_spot v) true know k) ≡ forgotten_at v know k

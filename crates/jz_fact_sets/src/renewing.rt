@@ -1,7 +1,7 @@
 //! What a write changes.
 
-ghost use Rattle.std.specs.Prelude.{◌≡◌, true, OnOk};
-ghost use Rattle.jz_layers.specs.Spots.{spot_of, variable_key, is_noted};
+ghost use Rattle.std.specs.Prelude.{◌≡◌, true, false, OnOk};
+ghost use Rattle.jz_layers.specs.Spots.{Spot, same_spot, spot_of, variable_key, variable_spot, is_noted};
 ghost use Rattle.jz_fact_sets.specs.Kept.{known_at};
 ghost use Rattle.jz_fact_sets.specs.Renewing as renewing;
 
@@ -59,15 +59,29 @@ fn forget_cells<'a>(set: &mut FactSet<'a>, named: Named<'a>, all: bool) -> Resul
     Ok(())
 }
 
+/// Nothing is known of the cells of an array, if it is one.
+fn forget_own<'a>(set: &mut FactSet<'a>, var: &'a Var) -> Result<(), AllocError>
+    ensures below { OnOk result (set.new.below.items ≡ set.old.below.items) }
+    ensures known { let n = variable_spot var.now in
+        OnOk result ((k : Spot) → same_spot n k ≡ false
+        → known_at set.new k ≡ renewing.without_cells n false (known_at set.old) k) }
+{
+    let named = Named::of(var);
+    if !set.has_cells(named) {
+        return Ok(());
+    }
+    forget_cells(set, named, false)?;
+    Ok(())
+}
+
 /// This becomes known of a variable; of the cells of an array of its name nothing is known.
 pub fn renew<'a>(set: &mut FactSet<'a>, var: &'a Var, known: Knowledge) -> Result<(), AllocError>
     ensures below { OnOk result (set.new.below.items ≡ set.old.below.items) }
     ensures known { OnOk result (known_at set.new
         ≡ renewing.renewed_at (variable_key var.now) known (known_at set.old)) }
 {
-    let named = Named::of(var);
-    forget_cells(set, named, false)?;
-    set.put(named, known)?;
+    forget_own(set, var)?;
+    set.put(Named::of(var), known)?;
     Ok(())
 }
 

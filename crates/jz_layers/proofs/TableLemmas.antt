@@ -48,6 +48,9 @@ module _ {V S : Type 0} where
   take_more f (x ∷ ms) zero m l e = ap {B = Spot → Option V} (λ y. over y f) (sym e)
   take_more f (x ∷ ms) (suc i) m l e = let h : i < length ms = omega (arith, l) in take_more (over x f) ms i m h e
 
+  pub take_next : (f : Spot → Option V) (ms : List (IndexMap Named V S)) (i : ℕ) (m : IndexMap Named V S) → i < length ms → m ≡ get_or ms i m → seen_from f (take (i + 1) ms) ≡ over m (seen_from f (take i ms))
+  take_next f ms i m l e = let j : i + 1 ≡ suc i = omega arith in ap (λ n. seen_from f (take n ms)) j ∙ take_more f ms i m l e
+
   pub found_one : (ms : List (IndexMap Named V S)) (i : ℕ) (m : IndexMap Named V S) (k : Spot) (v : V) → 0 < i → i ≤ length ms → m ≡ get_or ms (i - 1) m
       → Some v ≡ entry_in m k → seen_in (take i ms) k ≡ seen_in ms k → Some v ≡ seen_in ms k
   found_one ms zero m k v p l e h t = absurd (omega (arith, p))

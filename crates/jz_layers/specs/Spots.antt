@@ -81,3 +81,17 @@ abbrev pub AreListed :
 AreListed {U} {V} {S} r ms =
     (m : IndexMap Named V S) → Occurs ms m → (k : Spot) (v : V)
     → entry_in m k ≡ Some v → is_noted r k ≡ true
+
+-- ---- arrays of cells by an index
+
+abbrev pub without_index : Spot → Spot
+without_index k = record { of = k.of; index = None }
+
+abbrev pub cell_at : Spot → ℕ → Spot
+cell_at k i = record { of = k.of; index = Some i }
+
+-- each array of which a cell is noted is there
+abbrev pub AreHeld : {U S T : Type 0} → IndexMap Named U S → IndexMap Named U T → Type 0
+AreHeld r a =
+    (k : Spot) (i : ℕ) → is_some (entry_in r (cell_at k i)) ≡ true
+    → is_some (entry_in a (without_index k)) ≡ true

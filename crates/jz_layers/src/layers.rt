@@ -1,8 +1,9 @@
 //! Tables of variables, each over those below it.
 
-ghost use Rattle.std.specs.Prelude.{◌≡◌, ◌++◌, ◌∷◌, [], true, is_some, Some, OnOk, slice_get, length, ◌<◌};
+ghost use Rattle.std.specs.Prelude.{◌≡◌, ◌⊎◌, ◌++◌, ◌∷◌, [], ℕ, true, false, is_some, Some, None, IfOk, OnOk, slice_get, length, ◌<◌};
 ghost use Rattle.std.specs.Option.{option_map};
-ghost use Rattle.jz_layers.specs.Spots.{Spot, spot_of, entry_in, over, seen_in, put_in, nowhere, is_noted, AreListed, IsListed};
+ghost use Rattle.jz_layers.specs.Spots.{Spot, same_spot, spot_of, entry_in, over, seen_in, put_in, nowhere, is_noted, AreListed, IsListed};
+ghost use Rattle.jz_layers.specs.Spots.{without_index, cell_at, AreHeld};
 
 use crate::named::Named;
 use indexmap::IndexMap;
@@ -16,20 +17,39 @@ pub struct Layers<'a, V> {
     alloc: Global,
     /// The cells that a table knows of, or knew of.
     noted: IndexMap<Named<'a>, ()>,
+    /// The stack arrays of these cells.
+    arrays: IndexMap<Named<'a>, ()>,
     below: Vec<IndexMap<Named<'a>, V>>,
     top: IndexMap<Named<'a>, V>,
     ghost listed: { AreListed noted (top ∷ below.items) },
+    ghost held: { AreHeld noted arrays },
 }
 
 /// Notes what is a cell.
 fn note<'a>(noted: &mut IndexMap<Named<'a>, ()>, named: Named<'a>) -> Result<(), AllocError>
     ensures grows { (k : Spot) → is_noted noted.old k ≡ true → is_noted noted.new k ≡ true }
     ensures there { OnOk result (is_noted noted.new (spot_of named.entry) ≡ true) }
+    ensures alone { (k : Spot) → is_some (entry_in noted.new k) ≡ true
+        → (is_some (entry_in noted.old k) ≡ true) ⊎ (same_spot (spot_of named.entry) k ≡ true) }
 {
     if named.cell.is_none() && named.index.is_none() {
         return Ok(());
     }
     noted.insert(named, ())?;
+    Ok(())
+}
+
+/// Holds the array of what is a cell by an index.
+fn hold<'a>(arrays: &mut IndexMap<Named<'a>, ()>, named: Named<'a>) -> Result<(), AllocError>
+    ensures grows { (k : Spot)
+        → is_some (entry_in arrays.old k) ≡ true → is_some (entry_in arrays.new k) ≡ true }
+    ensures there { OnOk result ((i : ℕ) → named.entry.index ≡ Some i
+        → is_some (entry_in arrays.new (without_index (spot_of named.entry))) ≡ true) }
+{
+    if named.index.is_none() {
+        return Ok(());
+    }
+    arrays.insert(named.whole(), ())?;
     Ok(())
 }
 
@@ -43,6 +63,7 @@ impl<'a, V: Copy> Layers<'a, V> {
         Layers {
             alloc,
             noted: IndexMap::new(alloc),
+            arrays: IndexMap::new(alloc),
             below: Vec::new(alloc),
             top: IndexMap::new(alloc),
         }
@@ -96,6 +117,16 @@ impl<'a, V: Copy> Layers<'a, V> {
         }
     }
 
+    /// Whether some cell by an index may be known of what is named.
+    pub fn has_cells(&self, named: Named<'a>) -> bool
+        ensures { result ≡ false → (i : ℕ) → seen self.now (cell_at (spot_of named.entry) i) ≡ None }
+    {
+        match self.arrays.get(&named.whole()) {
+            Some(_) => true,
+            None => false,
+        }
+    }
+
     /// Gives a variable a value in the uppermost table.
     pub fn put(&mut self, named: Named<'a>, value: V) -> Result<(), AllocError>
         ensures below { self.new.below.items ≡ self.old.below.items }
@@ -104,6 +135,7 @@ impl<'a, V: Copy> Layers<'a, V> {
         ensures put { OnOk result (seen self.new
             ≡ put_in (seen self.old) (spot_of named.entry) value) }
     {
+        hold(&mut self.arrays, named)?;
         note(&mut self.noted, named)?;
         self.top.insert(named, value)?;
         Ok(())
@@ -162,5 +194,20 @@ impl<'a, V: Copy> Layers<'a, V> {
             i += 1;
         }
         Ok(())
+    }
+
+    /// The same values, in one table.
+    pub fn copy(&self) -> Result<Layers<'a, V>, AllocError>
+        ensures { IfOk result (λ copy. seen copy ≡ seen self.now) }
+    {
+        let mut copy = Layers::new(self.alloc);
+        let count = self.below.len();
+        let mut i = 0;
+        while i < count {
+            copy.pour(&self.below[i])?;
+            i += 1;
+        }
+        copy.pour(&self.top)?;
+        Ok(copy)
     }
 }

@@ -1,7 +1,7 @@
 //! What tables speak of.
 
 ghost use Rattle.std.specs.Prelude.{◌≡◌};
-ghost use Rattle.jz_layers.specs.Spots.{spot_of, variable_spot, cell_spot};
+ghost use Rattle.jz_layers.specs.Spots.{spot_of, variable_spot, cell_spot, without_index};
 
 use jz_tree::{Text, Var};
 
@@ -38,6 +38,18 @@ impl<'a> Named<'a> {
             copy: var.copy,
             cell: var.cell,
             index: Some(index),
+        }
+    }
+
+    /// The array of a cell by an index.
+    pub fn whole(self) -> Named<'a>
+        ensures { spot_of result ≡ without_index (spot_of self.entry) }
+    {
+        Named {
+            name: self.name,
+            copy: self.copy,
+            cell: self.cell,
+            index: None,
         }
     }
 }

@@ -1,6 +1,6 @@
 -- What assignments read.
-use Rattle.std.proofs.Common.{◌≡◌, ◌-◌, ℕ, suc, Bool, true, false, List, [], ◌∷◌, ◌++◌, Option, Some, None, if◌then◌else◌, refl, sym, ap, ◌∙◌, length, arith, append_assoc, append-nil}
-use Rattle.std.specs.Prelude.{map, ◌&&◌, slice_get, option_map}
+use Rattle.std.proofs.Common.{◌≡◌, ◌-◌, suc, Bool, true, false, List, [], ◌∷◌, ◌++◌, Option, Some, if◌then◌else◌, refl, sym, ap, ◌∙◌, length, arith, append_assoc, append-nil}
+use Rattle.std.specs.Prelude.{◌&&◌, slice_get}
 use Rattle.jz_tree.specs.Span.{Span}
 use Rattle.jz_tree.specs.declared.expr.BinOp.{BinOp}
 use Rattle.jz_tree.specs.declared.expr.BinOp.TheVariants as o
@@ -8,18 +8,14 @@ use Rattle.jz_tree.specs.declared.expr.Expr.{Expr}
 use Rattle.jz_tree.specs.declared.expr.Expr.TheVariants as expr
 use Rattle.jz_tree.specs.declared.expr.Expr.TheOpen.{Expr-F}
 use Rattle.jz_tree.specs.declared.expr.Expr.TheViews.{out-Expr, roll-Expr, roll-out-Expr}
-use Rattle.jz_tree.specs.declared.expr.Ty.{Ty}
-use Rattle.jz_tree.specs.declared.expr.Access.{Access}
-use Rattle.jz_tree.specs.declared.expr.Decl.{Decl}
-use Rattle.jz_tree.specs.declared.expr.Var.{Var}
 use Rattle.jz_tree.specs.declared.stmt.Lval.{Lval}
 use Rattle.jz_tree.specs.Operators.{divides, carries}
-use Rattle.jz_meaning.specs.Assignments.{Layer, is_flag, updated_layer, updated, last_left, whole_of, as_expr}
+use Rattle.jz_meaning.specs.Assignments.{Layer, is_flag, updated_layer, updated, last_left, whole_of}
 use Rattle.jz_meaning.specs.Statements.{assign}
 use Rattle.jz_terms.specs.Terms.{Term, term_of}
 use Rattle.jz_terms.proofs.TermForms.{term_bin}
 use Rattle.jz_labels.specs.Operations.{read_if, with_condition, plain_of}
-use Rattle.jz_required.specs.Readings.{Origin, Demand, Reading, divided, operation_reading, both_readings, no_reading, reading, all_readings, division_reading, right_reading}
+use Rattle.jz_required.specs.Readings.{Reading, operation_reading, both_readings, no_reading, reading, all_readings, right_reading}
 
 pub last_is : (ds : List Lval) → slice_get ds (length ds - 1) ≡ last_left ds
 last_is [] = refl

@@ -1,6 +1,5 @@
 -- What is secret and what is broken, by readings.
 use Rattle.std.proofs.Common.{◌≡◌, Bool, true, false, List, [], ◌∷◌, ◌++◌, Option, Some, None, if◌then◌else◌, refl, sym, ap, ◌∙◌}
-use Rattle.std.specs.Prelude.{map}
 use Rattle.jz_tree.specs.Span.{Span}
 use Rattle.jz_tree.specs.declared.expr.BinOp.TheVariants.{Add}
 use Rattle.jz_tree.specs.Operators.{divides}
@@ -8,7 +7,7 @@ use Rattle.jz_meaning.specs.Values.{Ref, key_of}
 use Rattle.jz_terms.specs.Terms.{Term, num, truth, var, cell, load, neg, inv, cast, bin}
 use Rattle.jz_labels.specs.Operations.{Left, nothing, scalar, element, bytes, Plain}
 use Rattle.jz_labels.specs.Labels.{Publics, Secret, first, is_none, unless_public, secret_in, secret_in_each, gives_public}
-use Rattle.jz_labels.specs.Required.{Reason, Address, Branch, Divide, Breach, breach_at, begin_of, breach_in_place, breach_of, breach_in, breach_in_each, breach_in_division, breach_in_left, breach_in_lefts, breach_in_operation, breach_in_test}
+use Rattle.jz_labels.specs.Required.{Reason, Address, Branch, Divide, breach_at, begin_of, breach_in_place, breach_of, breach_in, breach_in_each, breach_in_division, breach_in_left, breach_in_lefts, breach_in_operation, breach_in_test}
 use Rattle.jz_required.specs.Readings.{Origin, of_array, Demand, Reading, demands_at, place_demands, divided, reading, all_readings, division_reading, right_reading, left_demands, test_demands, is_public, secret_unless, first_secret, demand_breach, first_breach}
 
 pub first_apart : {A : Type 0} (x y z : Option A) → first (first x y) z ≡ first x (first y z)

@@ -6,7 +6,7 @@ use Rattle.jz_tree.specs.declared.expr.Var.{Var}
 use Rattle.jz_tree.specs.declared.expr.Expr.TheViews.{out-Access, out-Var}
 use Rattle.jz_meaning.specs.Values.{key_of, ref_of}
 use Rattle.jz_terms.specs.Terms.{cell, load, term_of, place_of}
-use Rattle.jz_required.specs.Readings.{Reading, Demand, reading, cell_reading, load_reading, place_demands}
+use Rattle.jz_required.specs.Readings.{Reading, reading, cell_reading, load_reading, place_demands}
 use Rattle.jz_required.proofs.Spans.{span_is, spot_span, spot_at}
 
 -- by what is read of the index

@@ -1,13 +1,14 @@
 -- Parts that are pushed.
-use Rattle.std.proofs.Common.{◌≡◌, ℕ, ◌+◌, ◌<◌, ◌≤◌, List, [], ◌∷◌, ◌++◌, map, length, take, get_or, refl, sym, ap, ◌∙◌, append_assoc}
+use Rattle.std.proofs.Common.{◌≡◌, ℕ, ◌+◌, ◌<◌, ◌≤◌, List, [], ◌∷◌, ◌++◌, map, length, take, get_or, sym, ap, ◌∙◌, append_assoc}
 use Rattle.std.proofs.lemmas.List.{take_more, take_all, map-append}
 use Rattle.jz_tree.specs.Span.{Span}
-use Rattle.jz_terms.specs.Terms.{Term}
+use Rattle.jz_tree.specs.declared.expr.Expr.{Expr}
+use Rattle.jz_terms.specs.Terms.{term_of}
 use Rattle.jz_required.specs.declared.part.Part.{Part}
 use Rattle.jz_required.specs.declared.part.Reason.{Reason}
 use Rattle.jz_required.specs.declared.part.Required.{Required}
 use Rattle.jz_required.specs.declared.found.Found.{Found}
-use Rattle.jz_required.specs.Readings.{Demand, Reading, demands_at, reading, all_readings, both_readings, no_reading}
+use Rattle.jz_required.specs.Readings.{Demand, Reading, demands_at, reading, all_readings, both_readings}
 use Rattle.jz_required.specs.Kept.{demand_of, origin_of, origins_of, demands_of, reason_of, reading_of}
 use Rattle.jz_required.proofs.Assigning.{readings_both, then_nothing}
 
@@ -39,7 +40,9 @@ pub both_found : (f g h : Found) → h.parts ≡ f.parts ++ g.parts → h.requir
 both_found f g h p q =
     same_reading (reading_of h) (both_readings (reading_of f) (reading_of g)) (ap origins_of p ∙ origins_both f.parts g.parts) (ap demands_of q ∙ demands_both f.required g.required)
 
-pub one_reading_more : (ts : List Term) (i : ℕ) (t : Term) (now read new : Reading) → i < length ts → t ≡ get_or ts i t → read ≡ reading t → new ≡ both_readings now read → now ≡ all_readings (take i ts) → new ≡ all_readings (take (i + 1) ts)
-one_reading_more ts i t now read new lt is e f h =
-    f ∙ ap (λ r. both_readings r read) h ∙ ap (both_readings (all_readings (take i ts))) (e ∙ sym (then_nothing (reading t))) ∙ sym (readings_both (take i ts) (t ∷ []))
-    ∙ ap all_readings (sym (take_more ts i t lt ∙ ap (λ x. take i ts ++ x ∷ []) (sym is)))
+-- one argument more
+pub one_argument_more : (es : List Expr) (i : ℕ) (e : Expr) (now read new : Reading) → i < length es → e ≡ get_or es i e → read ≡ reading (term_of e) → new ≡ both_readings now read
+    → now ≡ all_readings (map term_of (take i es)) → new ≡ all_readings (map term_of (take (i + 1) es))
+one_argument_more es i e now read new lt is p q h =
+    q ∙ ap (λ r. both_readings r read) h ∙ ap (both_readings (all_readings (map term_of (take i es)))) (p ∙ sym (then_nothing (reading (term_of e)))) ∙ sym (readings_both (map term_of (take i es)) (term_of e ∷ []))
+    ∙ ap all_readings (sym (ap (map term_of) (take_more es i e lt ∙ ap (λ x. take i es ++ x ∷ []) (sym is)) ∙ map-append term_of (take i es) (e ∷ [])))

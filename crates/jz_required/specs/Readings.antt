@@ -3,7 +3,7 @@ use Rattle.std.specs.Prelude.{Bool, false, List, [], ◌∷◌, ◌++◌, map, O
 use Rattle.jz_tree.specs.Span.{Span}
 use Rattle.jz_tree.specs.Operators.{divides}
 use Rattle.jz_meaning.specs.States.{Key}
-use Rattle.jz_meaning.specs.Values.{Ref, key_of}
+use Rattle.jz_meaning.specs.Values.{key_of}
 use Rattle.jz_terms.specs.Terms.{Term, num, truth, var, cell, load, neg, inv, cast, bin}
 use Rattle.jz_labels.specs.Operations.{Left, nothing, scalar, element, bytes, Plain}
 use Rattle.jz_labels.specs.Labels as labels

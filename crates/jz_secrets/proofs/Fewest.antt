@@ -1,5 +1,5 @@
 -- What is not reached has the labels with the fewest secrets.
-use Rattle.std.proofs.Common.{◌≡◌, ◌⊎◌, inl, inr, ◌<◌, ◌≤◌, ℕ, zero, suc, Bool, true, false, not, List, [], ◌∷◌, Option, Some, None, refl, sym, ap, ◌∙◌, subst, arith}
+use Rattle.std.proofs.Common.{◌≡◌, inl, inr, ◌<◌, ℕ, Bool, true, false, not, List, [], ◌∷◌, Option, Some, None, refl, sym, ap, ◌∙◌, subst, arith}
 use Rattle.std.proofs.lemmas.Bool.{false≢true}
 use Rattle.jz_meaning.specs.States.{Key}
 use Rattle.jz_layers.specs.Spots.{Spot, entry_in}
@@ -8,7 +8,7 @@ use Rattle.jz_secrets.specs.declared.graph.Graph.{Graph}
 use Rattle.jz_secrets.specs.declared.secrets.Secrets.{Secrets}
 use Rattle.jz_secrets.specs.Graphs.{Vertex, hidden, drawn, array, Arrow, label, Keeps, IsLabelling, IsBelow, IsEnd, AreBelow, AreFewest}
 use Rattle.jz_secrets.specs.Kept.{marked_at, unless_marked, public_by}
-use Rattle.jz_secrets.specs.InnerGraphs.{has, row_at, whole, number_in, IsFine, Occurs, IsGraphOf, Path, here, on, AreReached}
+use Rattle.jz_secrets.specs.InnerGraphs.{whole, number_in, IsFine, Occurs, IsGraphOf, Path, here, on, AreReached}
 use Rattle.jz_secrets.proofs.Graphing.{some_is}
 
 below_of : (n : ℕ) (v : Vertex) → IsEnd n v → IsBelow n v
@@ -51,16 +51,16 @@ module _ (xs : List Arrow) (g : Graph) (graph : IsGraphOf xs g) (below : AreBelo
       by hidden b e = refl
       by (drawn i) b e = let x = some_is i g.count e in absurd (omega (arith, x, b))
       by (array k) b e = let x = graph.fine.within k g.count e in absurd (omega (arith, x.0))
-  reached_secret a t l n (on {u} {w} p h) v b e =
+  reached_secret a t l n (on {u} p h) v b e =
       let o = graph.only u n h in
       let c = below_each g.count xs below o.0 o.1 in
       let from = reached_secret a t l u p o.0.from c.0 o.2 in
       let at : o.0.to ≡ v = same_vertex g graph.fine o.0.to v n (below_of g.count o.0.to c.1) b o.3 e in
-      by (label a t o.0.to) refl (kept_each a t xs l.keeps o.0 o.1) from at
+      by o.0 (label a t o.0.to) refl (kept_each a t xs l.keeps o.0 o.1) from at
     where
-      by : {x : Arrow} → (c : Bool) → label a t x.to ≡ c → (label a t x.to ≡ true → label a t x.from ≡ true) → label a t x.from ≡ false → x.to ≡ v → label a t v ≡ false
-      by true i f d at = absurd (false≢true (sym d ∙ f i))
-      by false i f d at = ap (label a t) (sym at) ∙ i
+      by : (x : Arrow) (c : Bool) → label a t x.to ≡ c → (label a t x.to ≡ true → label a t x.from ≡ true) → label a t x.from ≡ false → x.to ≡ v → label a t v ≡ false
+      by x true i f d at = absurd (false≢true (sym d ∙ f i))
+      by x false i f d at = ap (label a t) (sym at) ∙ i
 
   module _ (some : 0 < g.count) (marked : List Bool) (reach : AreReached g.rows.items g.count marked) (s : Secrets) (is : s.marked.items ≡ marked) (same : (k : Key) → entry_in s.arrays (whole k) ≡ entry_in g.arrays (whole k)) where
     abbrev public : Vertex → Bool
@@ -100,7 +100,7 @@ module _ (xs : List Arrow) (g : Graph) (graph : IsGraphOf xs g) (below : AreBelo
 
         by_path : (n : ℕ) → Path g.rows.items g.count n → n ≡ 0 → ⊥
         by_path n here z = absurd (omega (arith, z, some))
-        by_path n (on {u} {w} p h) z =
+        by_path n (on {u} p h) z =
             let o = graph.only u n h in
             no_end o.0.to (below_each g.count xs below o.0 o.1).1 (o.3 ∙ ap Some z)
 

@@ -1,5 +1,5 @@
 -- Rows of numbers, and marks.
-use Rattle.std.proofs.Common.{◌≡◌, ◌⊎◌, inl, inr, ◌<◌, ◌≤◌, ℕ, zero, suc, ◌+◌, Bool, true, false, not, List, [], ◌∷◌, ◌++◌, length, take, replicate, get_or, refl, sym, ap, ◌∙◌, subst, arith, length-append}
+use Rattle.std.proofs.Common.{◌≡◌, ◌⊎◌, inl, inr, ◌<◌, ◌≤◌, ℕ, zero, suc, ◌+◌, Bool, true, false, List, [], ◌∷◌, ◌++◌, length, take, replicate, get_or, refl, sym, ap, ◌∙◌, subst, arith, length-append}
 use Rattle.std.specs.Prelude.{◌&&◌, ◌||◌, nat_eq, slice_set}
 use Rattle.std.proofs.lemmas.Bool.{false≢true}
 use Rattle.std.proofs.lemmas.List.{take_more, take_all, get_or_default}
@@ -27,11 +27,11 @@ right_or false b e = e
 
 pub has_both : (xs ys : List ℕ) (n : ℕ) → has (xs ++ ys) n ≡ (has xs n || has ys n)
 has_both [] ys n = refl
-has_both (x ∷ xs) ys n = by (nat_eq x n)
+has_both (x ∷ xs) ys n = by (nat_eq x n) (has_both xs ys n)
   where
-    by : (c : Bool) → (c || has (xs ++ ys) n) ≡ ((c || has xs n) || has ys n)
-    by true = refl
-    by false = has_both xs ys n
+    by : (c : Bool) → has (xs ++ ys) n ≡ (has xs n || has ys n) → (c || has (xs ++ ys) n) ≡ ((c || has xs n) || has ys n)
+    by true e = refl
+    by false e = e
 
 pub has_left : (xs ys : List ℕ) (n : ℕ) → has xs n ≡ true → has (xs ++ ys) n ≡ true
 has_left xs ys n e = has_both xs ys n ∙ left_or (has xs n) (has ys n) e
@@ -296,27 +296,26 @@ row_more [] (suc u) v = refl
 row_more (r ∷ rows) zero v = refl
 row_more (r ∷ rows) (suc u) v = row_more rows u v
 
-pub mark_more : (ms : List Bool) (n : ℕ) → marked_at (ms ++ false ∷ []) n ≡ marked_at ms n
-mark_more [] zero = refl
-mark_more [] (suc n) = refl
-mark_more (m ∷ ms) zero = refl
-mark_more (m ∷ ms) (suc n) = mark_more ms n
-
 -- ---- a row, as far as a loop has come
 
-next_taken : (row : List ℕ) (i x : ℕ) → i < length row → x ≡ get_or row i x → take (i + 1) row ≡ take i row ++ x ∷ []
-next_taken row i x lt is = take_more row i x lt ∙ ap (λ y. take i row ++ y ∷ []) (sym is)
-
-pub row_next : (row : List ℕ) (i x : ℕ) (a b c : List Bool) (l m n : List ℕ) → i < length row → x ≡ get_or row i x → MarksRow (take i row) a b l m → MarksRow (x ∷ []) b c m n → MarksRow (take (i + 1) row) a c l n
-row_next row i x a b c l m n lt is p q = subst (λ (z : List ℕ). MarksRow z a c l n) (sym (next_taken row i x lt is)) (one_more (take i row) x a b c l m n p q)
+pub row_next : (xs row : List ℕ) (i : ℕ) (a b c : List Bool) (l m n : List ℕ) → xs ≡ row → i < length xs → MarksRow (take i row) a b l m → MarksRow (get_or xs i 0 ∷ []) b c m n → MarksRow (take (i + 1) row) a c l n
+row_next xs row i a b c l m n e lt p q =
+    subst (λ (z : List ℕ). MarksRow (take (i + 1) z) a c l n) e
+    (subst (λ (z : List ℕ). MarksRow z a c l n) (sym (take_more xs i 0 lt))
+    (one_more (take i xs) (get_or xs i 0) a b c l m n (subst (λ (z : List ℕ). MarksRow (take i z) a b l m) (sym e) p) q))
 
 pub row_done : (row : List ℕ) (i : ℕ) (a b : List Bool) (l m : List ℕ) → length row ≤ i → MarksRow (take i row) a b l m → MarksRow row a b l m
 row_done row i a b l m e p = subst (λ (z : List ℕ). MarksRow z a b l m) (take_all i row e) p
 
-pub row_has : (row : List ℕ) (i x : ℕ) → i < length row → x ≡ get_or row i x → has row x ≡ true
-row_has [] i x lt is = absurd (omega (arith, lt))
-row_has (y ∷ row) zero x lt is = left_or (nat_eq y x) (has row x) (subst (λ (z : ℕ). nat_eq y z ≡ true) (sym is) (itself y))
-row_has (y ∷ row) (suc i) x lt is = let h : i < length row = omega (arith, lt) in right_or (nat_eq y x) (has row x) (row_has row i x h is)
+its_own : (xs : List ℕ) (i : ℕ) → i < length xs → has xs (get_or xs i 0) ≡ true
+its_own [] i lt = absurd (omega (arith, lt))
+its_own (y ∷ xs) zero lt = left_or (nat_eq y y) (has xs y) (itself y)
+its_own (y ∷ xs) (suc i) lt =
+    let h : i < length xs = omega (arith, lt) in
+    right_or (nat_eq y (get_or xs i 0)) (has xs (get_or xs i 0)) (its_own xs i h)
+
+pub row_has : (xs row : List ℕ) (i : ℕ) → xs ≡ row → i < length xs → has row (get_or xs i 0) ≡ true
+row_has xs row i e lt = subst (λ (z : List ℕ). has z (get_or xs i 0) ≡ true) e (its_own xs i lt)
 
 -- ---- one number
 

@@ -3,8 +3,6 @@ use Rattle.std.specs.Prelude.{Some, slice_get}
 use Rattle.std.proofs.lemmas.Result.{err_from_is_err_and}
 use Rattle.jz_tree.specs.declared.program.Program.{Program}
 use Rattle.jz_type_rows.specs.Exports.{is_exported}
-use Rattle.jasminc_ct.specs.declared.breaches.FunBreach.{FunBreach}
-use Rattle.jasminc_ct.specs.InnerJudging.{BreachAt}
 use Rattle.jasminc_ct.proofs.Readying.{refused_too, among_ready, breach_at, line_added, nothing_added}
 use Rattle.jasminc_ct.proofs.functions.add_line.Goals as goal
 

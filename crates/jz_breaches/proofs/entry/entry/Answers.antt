@@ -1,4 +1,4 @@
-use Rattle.std.proofs.Common.{refl, ap, ◌∙◌, sym, arith, map}
+use Rattle.std.proofs.Common.{refl, ap, ◌∙◌, arith, map}
 use Rattle.jz_secrets.specs.Graphs.{arrows_of}
 use Rattle.jz_drawn_labels.specs.Kept.{asked_of}
 use Rattle.jz_breaches.proofs.Entered.{entry_is}
@@ -12,5 +12,5 @@ returns-clause-floor c = c.in_ok-put_secrets.ensures.floor ∙ c.new-table.ensur
 
 pub returns-clause-view : goal.returns-clause-view
 returns-clause-view c =
-    entry_is c.args.params.now c.in_ok-node.node c.new-table.result c.put_secrets.new.table _ (arrows_of c.new-sheet.result.edges.items) (arrows_of c.fresh.new.edges.items) _ c.in_ok-put_secrets.ensures c.new-table.ensures.nodes refl
+    entry_is c.args.params.now c.in_ok-node.node c.new-table.result c.put_secrets.new.table _ (arrows_of c.new-sheet.result.edges.items) (arrows_of c.fresh.new.edges.items) c.in_ok-put_secrets.ensures c.new-table.ensures.nodes refl
     (ap arrows_of c.new-sheet.ensures.edges) c.in_ok-node.ensures.number c.in_ok-node.ensures.arrows c.in_ok-link.ensures (ap (map asked_of) c.new-sheet.ensures.asked)

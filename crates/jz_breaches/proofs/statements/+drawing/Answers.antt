@@ -49,8 +49,8 @@ pub draw_arm-draw_block-requires : goal.draw_arm-draw_block-requires
 draw_arm-draw_block-requires t c =
     (omega (arith, c.decreases), opened_drawn c.args.drawing.now _ c.args.drawing.now c.in_ok-open.ensures.below c.in_ok-open.ensures.seen refl refl c.requires)
 
-pub draw_arm-end_arm-requires : goal.draw_arm-end_arm-requires
-draw_arm-end_arm-requires t c =
+pub draw_arm-end_arm-arm-requires : goal.draw_arm-end_arm-arm-requires
+draw_arm-end_arm-arm-requires t c =
     over_it c.args.drawing.now _ c.draw_block.new.drawing c.in_ok-open.ensures.below c.in_ok-open.ensures.seen refl refl (block no_callees c.args.stmts.now) c.in_ok-draw_block.ensures
 
 pub draw_arm-returns : goal.draw_arm-returns
@@ -141,7 +141,7 @@ draw_loop-returns t c = λ bare at.
     let turn : TurnDrawn c.args.body.now hs c.draw_test.new.drawing c.draw_turn.new.drawing =
     subst (λ (xs : List Head). TurnDrawn c.args.body.now xs c.draw_test.new.drawing c.draw_turn.new.drawing) c.as_slice-2.ensures.value c.in_ok-draw_turn.ensures in
     loop_drew (keys_of c.in_ok-vars.vars.items) hs d c.split.new.drawing c.requires heads c.args.prologue.now c.args.cond.now c.args.body.now c.draw_block.new.drawing c.draw_test.new.drawing c.draw_turn.new.drawing c.in_ok-draw_block.ensures e.table e.view turn
-    c.in_ok-vars.ensures.prologue c.in_ok-vars.ensures.body c.floor_behind.result (floor_at c.args.cond.now c.draw_turn.new.drawing c.floor_behind.result c.next-next.result c.next-next.ensures c.floor_behind.ensures) bare at
+    c.in_ok-vars.ensures.prologue c.in_ok-vars.ensures.body c.floor_behind-drawing.result (floor_at c.args.cond.now c.draw_turn.new.drawing c.floor_behind-drawing.result c.next-next.result c.next-next.ensures c.floor_behind-drawing.ensures) bare at
 
 -- ---- a statement of each form
 

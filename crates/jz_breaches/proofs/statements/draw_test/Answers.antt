@@ -7,4 +7,4 @@ use Rattle.jz_breaches.proofs.statements.draw_test.Goals as goal
 pub returns-clause-view : goal.returns-clause-view
 returns-clause-view c =
     let d = c.args.drawing.now in
-    same_view _ _ refl refl (c.in_ok-ask.ensures ∙ ap (λ ds. map asked_of d.sheet.asked.items ++ asks_in (nodes_of d.table) ds) c.in_ok-required.ensures)
+    same_view _ _ refl refl (c.in_ok-ask_all.ensures ∙ ap (λ ds. map asked_of d.sheet.asked.items ++ asks_in (nodes_of d.table) ds) c.in_ok-required.ensures)

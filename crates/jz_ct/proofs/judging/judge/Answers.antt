@@ -11,3 +11,6 @@ judge_function-requires c = subst (λ (f : Fun). IsFree (plain_body f)) (sym c.f
 
 pub returns-clause-yes : goal.returns-clause-yes
 returns-clause-yes c = yes_told c.args.expanded.now.fun c.in_ok-ct.ct (subst (λ (f : Fun). HasFirstBreach f (told_by c.in_ok-ct.ct)) c.fun.ensures c.in_ok-ct.ensures)
+
+pub returns-clause-breach : goal.returns-clause-breach
+returns-clause-breach c = subst (λ (f : Fun). HasFirstBreach f (told_by c.in_ok-ct.ct)) c.fun.ensures c.in_ok-ct.ensures

@@ -11,7 +11,7 @@ meet_one-requires c = c.loop-i.invariant.low
 pub loop-i-preserved : goal.loop-i-preserved
 loop-i-preserved c =
     let e = c.in-Some.entry in
-    layer_next c.args.first.now c.args.second.now c.args.start c.args.layer.now c.args.drawing.now c.loop-i.drawing c.meet_one-in-Some.new.drawing c.loop-i.i e.0.now e.1.now (sym c.in-Some.ensures.entry) c.loop-i.invariant c.in_ok-meet_one-in-Some.ensures
+    layer_next c.args.first.now c.args.second.now c.args.start c.args.layer.now c.args.drawing.now c.loop-i.drawing c.meet_one.new.drawing c.loop-i.i e.0.now e.1.now (sym c.in-Some.ensures.entry) c.loop-i.invariant c.in_ok-meet_one-in-Some.ensures
 
 pub returns : goal.returns
 returns c =

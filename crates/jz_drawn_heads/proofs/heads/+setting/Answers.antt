@@ -14,11 +14,11 @@ statement_sets-kind_sets-requires t c = let e = weight_is c.args.stmt.now in (om
 pub kind_sets-scalars_set-requires : goal.kind_sets-scalars_set-requires
 kind_sets-scalars_set-requires t c = let e = weight_if c.args.kind.now _ _ _ c.in-If.is in (omega (arith, e, c.decreases), tt)
 
-pub kind_sets-scalars_set-requires-2 : goal.kind_sets-scalars_set-requires-2
-kind_sets-scalars_set-requires-2 t c = let e = weight_if c.args.kind.now _ _ _ c.in-If.is in (omega (arith, e, c.decreases), tt)
+pub kind_sets-scalars_set-requires-in-If : goal.kind_sets-scalars_set-requires-in-If
+kind_sets-scalars_set-requires-in-If t c = let e = weight_if c.args.kind.now _ _ _ c.in-If.is in (omega (arith, e, c.decreases), tt)
 
-pub kind_sets-scalars_set-requires-3 : goal.kind_sets-scalars_set-requires-3
-kind_sets-scalars_set-requires-3 t c = let e = weight_while c.args.kind.now _ _ _ c.in-While.is in (omega (arith, e, c.decreases), tt)
+pub kind_sets-scalars_set-requires-in-While : goal.kind_sets-scalars_set-requires-in-While
+kind_sets-scalars_set-requires-in-While t c = let e = weight_while c.args.kind.now _ _ _ c.in-While.is in (omega (arith, e, c.decreases), tt)
 
 pub kind_sets-turn_sets-requires : goal.kind_sets-turn_sets-requires
 kind_sets-turn_sets-requires t c = let e = weight_while c.args.kind.now _ _ _ c.in-While.is in (omega (arith, e, c.decreases), tt)

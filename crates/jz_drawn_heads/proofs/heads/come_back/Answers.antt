@@ -1,7 +1,7 @@
 use Rattle.std.proofs.Common.{rules}
 use Rattle.jz_secrets.specs.Graphs.{arrows_of}
 use Rattle.jz_drawn_labels.specs.Kept.{nodes_of}
-use Rattle.jz_drawn_heads.proofs.Split.{back_next, back_done}
+use Rattle.jz_drawn_heads.proofs.Splitting.{back_next, back_done}
 use Rattle.jz_drawn_heads.proofs.heads.come_back.Goals as goal
 
 pub loop-head-preserved : goal.loop-head-preserved

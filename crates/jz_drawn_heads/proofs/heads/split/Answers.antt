@@ -1,6 +1,6 @@
 use Rattle.std.proofs.Common.{rules, refl}
 use Rattle.jz_drawn_labels.proofs.Operated.{next_of}
-use Rattle.jz_drawn_heads.proofs.Split.{heads_begun, heads_next, heads_done}
+use Rattle.jz_drawn_heads.proofs.Splitting.{heads_begun, heads_next, heads_done}
 use Rattle.jz_drawn_heads.proofs.heads.split.Goals as goal
 
 pub loop-target-init : goal.loop-target-init

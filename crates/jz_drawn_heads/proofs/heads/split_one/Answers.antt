@@ -1,6 +1,6 @@
 use Rattle.std.proofs.Common.{rules, ℕ, ◌≤◌, refl, sym, subst}
 use Rattle.jz_secrets.specs.Graphs.{arrows_of}
-use Rattle.jz_drawn_heads.proofs.Split.{again_split, now_split}
+use Rattle.jz_drawn_heads.proofs.Splitting.{again_split, now_split}
 use Rattle.jz_drawn_heads.proofs.heads.split_one.Goals as goal
 
 pub put-requires : goal.put-requires

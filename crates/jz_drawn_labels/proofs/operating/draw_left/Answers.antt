@@ -9,4 +9,4 @@ pub returns-clause-view : goal.returns-clause-view
 returns-clause-view c =
     let d = c.args.drawing.now in
     left_is_drawn c.args.node (left_of c.args.left.now) (view_of d) _ _ c.in_ok-write.ensures.view refl refl
-    (c.in_ok-ask.ensures ∙ ap (λ ds. map asked_of d.sheet.asked.items ++ asks_in (nodes_of d.table) ds) c.in_ok-required.ensures)
+    (c.in_ok-ask_all.ensures ∙ ap (λ ds. map asked_of d.sheet.asked.items ++ asks_in (nodes_of d.table) ds) c.in_ok-required.ensures)

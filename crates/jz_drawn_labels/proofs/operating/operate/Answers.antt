@@ -12,12 +12,12 @@ draw_lefts-requires c = subst (λ (n : ℕ). c.args.drawing.now.table.floor ≤ 
 
 pub returns-clause-low : goal.returns-clause-low
 returns-clause-low c =
-    let l = longer (view_of c.args.drawing.now) _ _ c.in_ok-node.node (reading_of c.args.found.now) (map left_of c.args.to.now) (arrows_of c.fresh.new.edges.items) refl c.in_ok-node.ensures.arrows c.in_ok-link_all.ensures c.in_ok-ask.ensures c.in_ok-draw_lefts.ensures.view in
+    let l = longer (view_of c.args.drawing.now) _ _ c.in_ok-node.node (reading_of c.args.found.now) (map left_of c.args.to.now) (arrows_of c.fresh.new.edges.items) refl c.in_ok-node.ensures.arrows c.in_ok-link_all.ensures c.in_ok-ask_all.ensures c.in_ok-draw_lefts.ensures.view in
     let f = c.in_ok-draw_lefts.ensures.floor in
     let r : c.args.drawing.now.table.floor ≤ next (view_of c.args.drawing.now) = c.requires in
     omega (arith, l, f, r)
 
 pub returns-clause-view : goal.returns-clause-view
 returns-clause-view c = λ o h k.
-    operated (view_of c.args.drawing.now) _ _ c.in_ok-node.node (reading_of c.args.found.now) (map left_of c.args.to.now) (arrows_of c.fresh.new.edges.items) refl c.in_ok-node.ensures.arrows c.in_ok-link_all.ensures c.in_ok-ask.ensures
+    operated (view_of c.args.drawing.now) _ _ c.in_ok-node.node (reading_of c.args.found.now) (map left_of c.args.to.now) (arrows_of c.fresh.new.edges.items) refl c.in_ok-node.ensures.arrows c.in_ok-link_all.ensures c.in_ok-ask_all.ensures
     c.in_ok-draw_lefts.ensures.view c.in_ok-node.ensures.number o h k

@@ -4,7 +4,7 @@ use Rattle.jz_tree.specs.declared.expr.Expr.TheVariants.{Bin}
 use Rattle.jz_tree.proofs.Sides.{left_smaller}
 use Rattle.jz_terms.specs.Terms.{term_of}
 use Rattle.jz_terms.proofs.TermForms.{term_num, term_bool, term_var, term_cell, term_load, term_neg, term_not, term_cast, term_bin}
-use Rattle.jz_required.specs.Readings.{Reading, reading, operation_reading}
+use Rattle.jz_required.specs.Readings.{reading, operation_reading}
 use Rattle.jz_required.specs.Kept.{reading_of}
 use Rattle.jz_required.specs.InnerSides.{on_operands}
 use Rattle.jz_required.proofs.Sides.{last_operand}

@@ -8,10 +8,10 @@ use Rattle.jz_required.proofs.operations.kept_reads.Goals as goal
 pub returns-in-None : goal.returns-in-None
 returns-in-None c = kept_nothing (option_copied c.args.last) _ (ap option_copied c.in-None.is) c.nothing.ensures
 
-pub returns-in-None-2 : goal.returns-in-None-2
-returns-in-None-2 c =
-    kept_none (option_copied c.args.last) c.in-Some.left.now _ (ap option_copied c.in-Some.is) (sym (ap (option_map reading_of) c.in-None-2.is) ∙ c.in_ok-old-in-Some.ensures) c.nothing-2.ensures
+pub returns-in-None-old : goal.returns-in-None-old
+returns-in-None-old c =
+    kept_none (option_copied c.args.last) c.in-Some.left.now _ (ap option_copied c.in-Some.is) (sym (ap (option_map reading_of) c.in-None-old.is) ∙ c.in_ok-old-in-Some.ensures) c.nothing-in-None-old.ensures
 
-pub returns-in-Some : goal.returns-in-Some
-returns-in-Some c =
-    kept_some (option_copied c.args.last) c.in-Some.left.now _ (ap option_copied c.in-Some.is) (sym (ap (option_map reading_of) c.in-Some-2.is) ∙ c.in_ok-old-in-Some.ensures)
+pub returns-in-Some-old : goal.returns-in-Some-old
+returns-in-Some-old c =
+    kept_some (option_copied c.args.last) c.in-Some.left.now _ (ap option_copied c.in-Some.is) (sym (ap (option_map reading_of) c.in-Some-old.is) ∙ c.in_ok-old-in-Some.ensures)

@@ -6,4 +6,4 @@ loop-row-init c = rows_begun c.new-rows.result.items c.push.new.self.items c.new
 
 pub loop-row-preserved : goal.loop-row-preserved
 loop-row-preserved c =
-    rows_pushed c.loop-row.rows.items c.push-2.new.self.items c.new-2.result c.loop-row.row c.in_ok-push-2.ensures.items c.new-2.ensures c.loop-row.invariant.0 c.loop-row.invariant.1
+    rows_pushed c.loop-row.rows.items c.push-in-loop-row.new.self.items c.new-in-loop-row.result c.loop-row.row c.in_ok-push-2.ensures.items c.new-in-loop-row.ensures c.loop-row.invariant.0 c.loop-row.invariant.1

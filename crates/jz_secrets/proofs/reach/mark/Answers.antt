@@ -1,4 +1,4 @@
-use Rattle.std.proofs.Common.{rules, refl}
+use Rattle.std.proofs.Common.{refl}
 use Rattle.jz_secrets.proofs.Rows.{marks_again, marked_now, fewer_now}
 use Rattle.jz_secrets.proofs.reach.mark.Goals as goal
 

@@ -1,4 +1,4 @@
-use Rattle.std.proofs.Common.{rules, arith, ap, length, ℕ, List, [], ◌∷◌, ◌≡◌, ◌∙◌, subst}
+use Rattle.std.proofs.Common.{rules, ◌<◌, arith, ap, length, ℕ, List, [], ◌∷◌, ◌≡◌, ◌∙◌, subst}
 use Rattle.jz_secrets.specs.Kept.{marked_at}
 use Rattle.jz_secrets.specs.InnerGraphs.{MarksRow}
 use Rattle.jz_secrets.proofs.Rows.{first_reached, popped_below, row_within, gone_on, fewer_left, all_reached, none_is, replicated}
@@ -16,8 +16,14 @@ loop-number-init c =
     (λ n. ap (λ ms. marked_at ms n) c.in_ok-marked.ensures ∙ none_is _ n) c.requires.start
     (subst (λ (z : List ℕ). MarksRow (c.args.start ∷ []) c.in_ok-marked.marked.items c.mark.new.marked.items z c.mark.new.left.items) c.new-left.ensures.items c.in_ok-mark.ensures.marks)
 
-pub index-rows-number-requires : goal.index-rows-number-requires
-index-rows-number-requires c =
+pub offset_bounds-rows-number : goal.offset_bounds-rows-number
+offset_bounds-rows-number c =
+    let below : c.in-Some.number < length c.args.rows.now =
+    popped_below c.args.rows.now c.args.start c.requires.within c.loop-number.marked.items c.loop-number.left.items c.pop.new.self.items c.in-Some.number c.in-Some.ensures.items c.loop-number.invariant in
+    search rules
+
+pub bounds-rows-number : goal.bounds-rows-number
+bounds-rows-number c =
     popped_below c.args.rows.now c.args.start c.requires.within c.loop-number.marked.items c.loop-number.left.items c.pop.new.self.items c.in-Some.number c.in-Some.ensures.items c.loop-number.invariant
 
 pub mark_row-requires : goal.mark_row-requires

@@ -16,4 +16,4 @@ pub returns : goal.returns
 returns c =
     let g = c.in_ok-graph.graph in
     let reach = subst (λ (rs : List (List ℕ)). AreReached rs g.count c.in_ok-marked.marked.items) c.as_slice.ensures.value c.in_ok-marked.ensures in
-    fewest_of c.args.count (arrows_of c.args.edges.now) g c.in_ok-graph.ensures.count c.in_ok-graph.ensures.graph c.requires.below c.requires.some c.in_ok-marked.marked.items reach _ refl (λ k. refl)
+    fewest_of c.args.count (arrows_of c.args.edges.now) g c.in_ok-graph.ensures.count c.in_ok-graph.ensures.graph c.requires.below c.requires.some c.in_ok-marked.marked.items reach (record { marked = c.in_ok-marked.marked; arrays = g.arrays }) refl (λ k. refl)

@@ -22,4 +22,5 @@ invariant_of-self g c =
       listed = listed_opened s.noted c.replace-table.result c.replace-table.new.dest s.below.items c.push.new.self.items (is_ok c.push.result) c.push.ensures.items
           (none_in c.replace-table.new.dest (ap (λ m. m.entries) c.replace-table.ensures.after ∙ c.new.ensures.empty))
           (subst (λ m. AreListed s.noted (m ∷ s.below.items)) (sym c.replace-table.ensures.value) s.listed);
+      held = s.held;
     }

@@ -11,4 +11,7 @@ returns-clause-put g c =
 pub invariant_of-self : goal.invariant_of-self
 invariant_of-self g c =
     let s = c.args.self.now in
-    record { listed = listed_insert s.noted c.insert.result s.top c.insert.new.self s.below.items c.args.named c.args.value c.insert.ensures.updates c.insert.ensures.err c.requires s.listed }
+    record {
+      listed = listed_insert s.noted c.insert.result s.top c.insert.new.self s.below.items c.args.named c.args.value c.insert.ensures.updates c.insert.ensures.err c.requires s.listed;
+      held = s.held;
+    }

@@ -14,17 +14,17 @@ returns-in-Some-clause-number c =
 pub returns-clause-fine : goal.returns-clause-fine
 returns-clause-fine c =
     let g = c.args.self.now in
-    (array_added g _ (spot_of c.of-named.result) (variable_key c.args.var.now) _ c.requires c.of-named.ensures refl (c.in_ok-push.ensures.items ∙ ap (λ (r : List ℕ). g.rows.items ++ r ∷ []) c.new.ensures)
+    (array_added g (record g { rows = c.push.new.self; arrays = c.insert.new.self }) (spot_of c.of-named.result) (variable_key c.args.var.now) _ c.requires c.of-named.ensures refl (c.in_ok-push.ensures.items ∙ ap (λ (r : List ℕ). g.rows.items ++ r ∷ []) c.new.ensures)
     (put_is g.arrays c.insert.new.self c.of-named.result _ c.in_ok-insert.ensures.updates.0) c.in-None.ensures.value (search rules)).0
 
 pub returns-clause-grows : goal.returns-clause-grows
 returns-clause-grows c =
     let g = c.args.self.now in
-    (array_added g _ (spot_of c.of-named.result) (variable_key c.args.var.now) _ c.requires c.of-named.ensures refl (c.in_ok-push.ensures.items ∙ ap (λ (r : List ℕ). g.rows.items ++ r ∷ []) c.new.ensures)
+    (array_added g (record g { rows = c.push.new.self; arrays = c.insert.new.self }) (spot_of c.of-named.result) (variable_key c.args.var.now) _ c.requires c.of-named.ensures refl (c.in_ok-push.ensures.items ∙ ap (λ (r : List ℕ). g.rows.items ++ r ∷ []) c.new.ensures)
     (put_is g.arrays c.insert.new.self c.of-named.result _ c.in_ok-insert.ensures.updates.0) c.in-None.ensures.value (search rules)).1
 
 pub returns-clause-number : goal.returns-clause-number
 returns-clause-number c =
     let g = c.args.self.now in
-    (array_added g _ (spot_of c.of-named.result) (variable_key c.args.var.now) _ c.requires c.of-named.ensures refl (c.in_ok-push.ensures.items ∙ ap (λ (r : List ℕ). g.rows.items ++ r ∷ []) c.new.ensures)
+    (array_added g (record g { rows = c.push.new.self; arrays = c.insert.new.self }) (spot_of c.of-named.result) (variable_key c.args.var.now) _ c.requires c.of-named.ensures refl (c.in_ok-push.ensures.items ∙ ap (λ (r : List ℕ). g.rows.items ++ r ∷ []) c.new.ensures)
     (put_is g.arrays c.insert.new.self c.of-named.result _ c.in_ok-insert.ensures.updates.0) c.in-None.ensures.value (search rules)).2

@@ -1,7 +1,7 @@
 use Rattle.std.proofs.Common.{rules, map}
 use Rattle.jz_drawn_labels.specs.Kept.{asked_of, nodes_of}
 use Rattle.jz_drawn_labels.proofs.Sheets.{asked_next, asked_all}
-use Rattle.jz_drawn_labels.proofs.sheet.ask.Goals as goal
+use Rattle.jz_drawn_labels.proofs.sheet.ask_all.Goals as goal
 
 pub loop-one-preserved : goal.loop-one-preserved
 loop-one-preserved c =

@@ -2,7 +2,7 @@ use Rattle.std.proofs.Common.{◌≡◌, ◌++◌, take, map}
 use Rattle.jz_required.specs.Kept.{demands_of}
 use Rattle.jz_drawing.specs.Drawings.{asks_in}
 use Rattle.jz_drawn_labels.specs.Kept.{asked_of, nodes_of}
-use Rattle.jz_drawn_labels.proofs.sheet.ask.Given as goal
+use Rattle.jz_drawn_labels.proofs.sheet.ask_all.Given as goal
 
 abbrev pub invariant-loop-one : goal.invariant-loop-one
 invariant-loop-one l =
