@@ -7,7 +7,7 @@ mod looping;
 mod single;
 mod walk;
 
-pub use bodies::{at_head, heads_of, holds_after};
+pub use bodies::{at_head, heads_of, holds_after, holds_behind};
 pub use laying::{lay, meet_both, taken};
 pub use looping::leave;
 pub use single::{after_single, open_arm};

@@ -33,7 +33,7 @@ module _ (names : Names) where
   pub known_in : (v : Var) → known_of (var_in names v) ≡ known_of v
   known_in v = ap (λ (x : Var-F Expr Ty Access Decl Var). option_map declared_of x.decl) (out-roll-Var _)
 
-  access_turns : (a : Access) → AccessTurns T a (access_in names a)
+  pub access_turns : (a : Access) → AccessTurns T a (access_in names a)
   access_turns a = record {
     size = ap (λ (x : Access-F Expr Ty Access Decl Var). x.size) (access_out a);
     at = ap (λ (x : Access-F Expr Ty Access Decl Var). x.at) (access_out a);

@@ -5,12 +5,14 @@ use Rattle.jz_tree.specs.declared.expr.Expr.{Expr}
 use Rattle.jz_tree.specs.declared.expr.Expr.TheOpen.{Expr-F}
 use Rattle.jz_tree.specs.declared.expr.Expr.TheViews.{out-Expr}
 use Rattle.jz_type_sizes.specs.Values.{product_layer, is_product}
+use Rattle.jz_type_sizes.specs.Signatures.{signature}
 use Rattle.jz_judgement.specs.HasType.{Layer}
 use Rattle.jz_meaning.specs.Statements.{assign, instruction, unset, meaningless}
 use Rattle.jz_inline.specs.Names.{Names, expr_in, lval_in}
 use Rattle.jz_inline.proofs.Reading.{layer_in}
 use Rattle.jz_kept_types.proofs.Turning.{type_kept}
 use Rattle.jz_kept_types.proofs.Assigned.{values_kept, condition_kept}
+use Rattle.jz_kept_types.proofs.Instructed.{instructs_kept}
 use Rattle.jz_kept_types.proofs.Whole.{two, same_product}
 use Rattle.jz_copied_types.specs.CopiedLaws.{CopiesKeepTypes, CopiesStayTyped}
 use Rattle.jz_copied_types.proofs.Copying.{out_in, copies_turn}
@@ -38,6 +40,6 @@ copies_stay names (assign to o e c at) h = (
   values_kept (expr_in names) (lval_in names) (copies_turn names) to o e (two to (copied_product names o e)) h.0,
   condition_kept (expr_in names) (lval_in names) (copies_turn names) c h.1,
 )
-copies_stay names (instruction to n args at) h = tt
+copies_stay names (instruction to n args at) h = instructs_kept (expr_in names) (lval_in names) (copies_turn names) (signature n) to args h
 copies_stay names (unset vs) h = tt
 copies_stay names (meaningless at) h = tt

@@ -20,10 +20,11 @@ use Rattle.jz_type_names.specs.Scopes.{function_named}
 use Rattle.jz_type_names.specs.Parts.{Layer, layer_of, called_by, nested_statements, nested_step, statements_in, statements_of}
 use Rattle.jz_type_names.proofs.NestedLaws.{in_kind, pair, pairs, opened, in_stmt}
 use Rattle.jz_type_sizes.specs.Mismatches.{among}
+use Rattle.jz_type_sizes.specs.Signatures.{signature}
 use Rattle.jz_judgement.specs.Places.{truth}
 use Rattle.jz_judgement.specs.HasType.{value, HasType}
 use Rattle.jz_judgement.specs.WellTyped as well
-use Rattle.jz_judgement.specs.WellTyped.{Calls, WellTyped}
+use Rattle.jz_judgement.specs.WellTyped.{Calls, Instructs, WellTyped}
 use Rattle.jz_types.specs.TypedPrograms.{IsTypedProgram}
 use Rattle.jz_runs.specs.Trees.{done, op, quiet, choose, loop, each, call}
 use Rattle.jz_meaning.specs.Statements.{Block}
@@ -112,6 +113,9 @@ module _ (q : Program) where
   call_typed : (to : List Lval) (o : Option BinOp) (n : List ℕ) (args : List Expr) (place : Span) (c : Option Expr) → WellTyped (among q.funs) (StmtKind-F.Assign to o (rhs.Call n args place) c) → Calls (function_named n q.funs) to args
   call_typed to o n args place c (well.assigned h k) = h
 
+  instruction_typed : (to : List Lval) (n : List ℕ) (args : List Expr) (place : Span) (c : Option Expr) → WellTyped (among q.funs) (StmtKind-F.Assign to None (rhs.Intrinsic n args place) c) → Instructs (signature n) to args
+  instruction_typed to n args place c (well.assigned h k) = h
+
   branch_typed : (c : Expr) (a b : List Stmt) → WellTyped (among q.funs) (StmtKind-F.If c a b) → HasType (value c) truth
   branch_typed c a b (well.branch h) = h
 
@@ -135,7 +139,7 @@ module _ (q : Program) where
       let g = some_there (function_named n q.funs) (All-head (IsFunction q) (n, place) [] s.called) in
       let k = subst (λ x. Calls x to args) g.1 (call_typed to o n args place c s.typed) in
       subst (λ x. HoldsTyped (call_tree x to o args c place r)) (sym (ap (with_own_tree q) g.1)) (of_callee g.0 to o args c place r (within n g.0 g.1) k b)
-  assigned to None (rhs.Intrinsic n args place) None at s r b = (tt, b)
+  assigned to None (rhs.Intrinsic n args place) None at s r b = (instruction_typed to n args place None s.typed, b)
   assigned to None (rhs.Intrinsic n args place) (Some c) at s r b = (tt, b)
   assigned to (Some o) (rhs.Intrinsic n args place) None at s r b = (tt, b)
   assigned to (Some o) (rhs.Intrinsic n args place) (Some c) at s r b = (tt, b)

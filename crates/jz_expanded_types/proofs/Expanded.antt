@@ -34,10 +34,10 @@ module _ (p : Program) (f g : Fun) (k : Change) (count : ℕ) (typed : IsTypedPr
   whole : IsTypedText p
   whole = record { typed = typed; text = text }
 
-  copied : IsTypedBody (plain_body (inlined_function p f))
+  pub copied : IsTypedBody (plain_body (inlined_function p f))
   copied = subst IsTypedBody (inlined_is p f) (copies_are_typed p f typed text has)
 
-  rounds : IsTypedBody (plain_body x.unrolled)
+  pub rounds : IsTypedBody (plain_body x.unrolled)
   rounds = unrolled_stay (inline_names (variables_of (inlined_function p f))) no_numbers x.body.behind (plain_body (inlined_function p f)) (plain_body x.unrolled) x.rounds x.body.body copied
 
   ready : IsReady (copied_kinds p f) (plain_body x.unrolled)
@@ -45,7 +45,7 @@ module _ (p : Program) (f g : Fun) (k : Change) (count : ℕ) (typed : IsTypedPr
       ready_law p f (inline_names (variables_of (inlined_function p f))) no_numbers x.body.behind (plain_body x.unrolled) x.rounds whole has
       (subst (λ (t : Block). Unrolls (unrolling (inline_names (variables_of (inlined_function p f)))) t no_numbers done (plain_body x.unrolled) x.body.behind x.rounds) (sym (inlined_is p f)) x.body.body)
 
-  rewritten : Rewrites (arrays (copied_kinds p f)) (plain_body x.unrolled) done (plain_body (function_with_scalars x.unrolled)) (scalar_change x.unrolled)
+  pub rewritten : Rewrites (arrays (copied_kinds p f)) (plain_body x.unrolled) done (plain_body (function_with_scalars x.unrolled)) (scalar_change x.unrolled)
   rewritten =
       (keeps_runs x.unrolled (function_with_scalars x.unrolled) (scalar_change x.unrolled) (record { function = refl; change = refl }) (copied_kinds p f) ready).rewritten
 

@@ -1,5 +1,5 @@
 -- The last of several left sides, where it is a cell or memory and flags were written before it.
-use Rattle.std.proofs.Common.{◌≡◌, ℕ, [], Option, Some, None, Bool, pos, refl, ap, sym, ◌∙◌, subst, if◌then◌else◌, true}
+use Rattle.std.proofs.Common.{◌≡◌, ℕ, [], Option, Some, None, Bool, refl, ap, sym, ◌∙◌, subst, if◌then◌else◌, true}
 use Rattle.std.specs.Option.{option_or}
 use Rattle.jz_tree.specs.Span.{Span}
 use Rattle.x64_insn.specs.Size.{Size}
@@ -53,8 +53,8 @@ module _ (kinds : Kinds) (in_frame : Key → Bool) (st : State) where
   sum_same = summed kinds in_frame (λ t. (u : State) → AsBefore u → (means t).run (Some S64) u ≡ (means t).run (Some S64) st)
       (λ i at u b. refl)
       (λ x e i u b. variable_same x e i u b (Some S64))
-      (λ k t x at e i u b. two_same o.Mul (num (pos k) t) (var x) at (Some S64) u refl (variable_same x e i u b (Some S64)))
-      (λ x k t at e i u b. two_same o.Mul (var x) (num (pos k) t) at (Some S64) u (variable_same x e i u b (Some S64)) refl)
+      (λ k t x at e i u b. two_same o.Mul (num k t) (var x) at (Some S64) u refl (variable_same x e i u b (Some S64)))
+      (λ x k t at e i u b. two_same o.Mul (var x) (num k t) at (Some S64) u (variable_same x e i u b (Some S64)) refl)
       (λ a c at n i j p r u b. two_same o.Add a c at (Some S64) u (p u b) (r u b))
       (λ a i t at n j p u b. two_same o.Sub a (num i t) at (Some S64) u (p u b) refl)
 

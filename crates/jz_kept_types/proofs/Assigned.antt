@@ -64,6 +64,9 @@ module _ (T : Expr → Expr) (L : Lval → Lval) (K : IsTurning T L) where
   sound_kept (lefts.cell z a h) (l_scalar y c d) = lefts.variable
   sound_kept (lefts.access h) (l_store k) = lefts.access (at_kept k h)
 
+  pub sound_there : (d : Lval) → IsSound d → IsSound (L d)
+  sound_there d s = sound_kept s (K.lefts d)
+
   flag_by : {d b : Lval} → IsFlag d → LeftTurns T d b → IsFlag b
   flag_by lefts.nothing l_nothing = lefts.nothing
   flag_by (lefts.variable i) (l_variable k) = lefts.variable (subst IsBool (sym k) i)

@@ -3,5 +3,7 @@ pub mod Valued
 pub mod Valuing
 pub mod Scaling
 pub mod Assigned
+pub mod Worded
+pub mod Instructed
 pub mod Whole
 pub mod Trees

@@ -45,10 +45,10 @@ array_decl (Some d) z e = by (is_register d.storage) e
 array_at : (v : Var) (z : Size) → size_at v ≡ Some z → IsArrayOf z (known_of v)
 array_at v z e = array_decl (out-Var v).decl z e
 
-word_ty : (z : Size) → kind_of (ty.Word z) ≡ kind.Word z
+pub word_ty : (z : Size) → kind_of (ty.Word z) ≡ kind.Word z
 word_ty z = ap (λ t. kind_of t) (sym (ty.rolls-Word z)) ∙ ap kind_step (out-roll-Ty (Ty-F.Word z))
 
-known_scalar : (v : Var) (z : Size) (n : ℕ) → known_of (scalar v z n) ≡ Some (record { storage = storage.Reg; kind = kind_of (ty.Word z) })
+pub known_scalar : (v : Var) (z : Size) (n : ℕ) → known_of (scalar v z n) ≡ Some (record { storage = storage.Reg; kind = kind_of (ty.Word z) })
 known_scalar v z n = ap (λ (x : Var-F Expr Ty Access Decl Var). option_map declared_of x.decl) (out-roll-Var _)
 
 scalar_word : (v : Var) (z : Size) (n : ℕ) → IsWordOf z (known_of (scalar v z n))
@@ -60,7 +60,7 @@ access_out a =
     ap (λ x. out-Access (access_with_scalars x)) (sym (roll-out-Access a)) ∙ ap out-Access (access_in_is (out-Access a))
     ∙ out-roll-Access _
 
-access_turns : (a : Access) → AccessTurns T a (access_with_scalars a)
+pub access_turns : (a : Access) → AccessTurns T a (access_with_scalars a)
 access_turns a = record {
   size = ap (λ (x : Access-F Expr Ty Access Decl Var). x.size) (access_out a);
   at = ap (λ (x : Access-F Expr Ty Access Decl Var). x.at) (access_out a);

@@ -51,7 +51,7 @@ number_inline i at = ap is_inline (sym (expr.rolls-Num i at)) ∙ inline_is (Exp
 truth_inline : (b : Bool) (at : Span) → is_inline (expr.Bool b at) ≡ true
 truth_inline b at = ap is_inline (sym (expr.rolls-Bool b at)) ∙ inline_is (Expr-F.Expr::Bool b at)
 
-constant_inline : (e : Expr) (at : Span) (c : Option Constant) → is_inline e ≡ true → is_inline (constant_expr at e c) ≡ true
+pub constant_inline : (e : Expr) (at : Span) (c : Option Constant) → is_inline e ≡ true → is_inline (constant_expr at e c) ≡ true
 constant_inline e at None q = q
 constant_inline e at (Some (constant.Int i)) q = number_inline i at
 constant_inline e at (Some (constant.Bool b)) q = truth_inline b at
@@ -78,7 +78,7 @@ module _ (k : KnownNumbers) where
       ap (λ x. out-Access (access_with_values k x)) (sym (roll-out-Access a)) ∙ ap out-Access (access_values_is k (out-Access a))
       ∙ out-roll-Access _
 
-  access_turns : (a : Access) → AccessTurns T a (access_with_values k a)
+  pub access_turns : (a : Access) → AccessTurns T a (access_with_values k a)
   access_turns a = record {
     size = ap (λ (x : Access-F Expr Ty Access Decl Var). x.size) (access_out a);
     at = ap (λ (x : Access-F Expr Ty Access Decl Var). x.at) (access_out a);

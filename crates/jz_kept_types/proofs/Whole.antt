@@ -13,6 +13,7 @@ use Rattle.jz_tree.specs.declared.expr.Expr.TheViews.{out-Expr, out-roll-Expr}
 use Rattle.jz_tree.specs.declared.stmt.Lval.{Lval}
 use Rattle.jz_type_names.specs.Kinds.{is_inline}
 use Rattle.jz_type_sizes.specs.Values.{product_layer, is_product}
+use Rattle.jz_type_sizes.specs.Signatures.{signature}
 use Rattle.jz_integers.specs.Integers.{KnownNumbers}
 use Rattle.jz_judgement.specs.HasType.{Layer}
 use Rattle.jz_meaning.specs.Assignments.{last_left, whole_of}
@@ -27,6 +28,7 @@ use Rattle.jz_kept_types.proofs.Turning.{type_kept}
 use Rattle.jz_kept_types.proofs.Valuing.{values_turn}
 use Rattle.jz_kept_types.proofs.Scaling.{out_is, scalars_turn}
 use Rattle.jz_kept_types.proofs.Assigned.{IfTwo, values_kept, condition_kept}
+use Rattle.jz_kept_types.proofs.Instructed.{instructs_kept}
 
 -- ---- expressions
 pub values_keep : ValuesKeepTypes
@@ -128,7 +130,7 @@ values_stay names k (assign to o e c at) h v =
       values_kept (with_values k) (left_with_values k) (values_turn k) to o e (if_split k to o e d.1) h.0,
       condition_kept (with_values k) (left_with_values k) (values_turn k) c h.1,
     )
-values_stay names k (instruction to n args at) h v = tt
+values_stay names k (instruction to n args at) h v = instructs_kept (with_values k) (left_with_values k) (values_turn k) (signature n) to args h
 values_stay names k (unset vs) h v = tt
 values_stay names k (meaningless at) h v = tt
 
@@ -137,6 +139,6 @@ scalars_stay (assign to o e c at) h = (
   values_kept with_scalars left_with_scalars scalars_turn to o e (two to (scaled_product o e)) h.0,
   condition_kept with_scalars left_with_scalars scalars_turn c h.1,
 )
-scalars_stay (instruction to n args at) h = tt
+scalars_stay (instruction to n args at) h = instructs_kept with_scalars left_with_scalars scalars_turn (signature n) to args h
 scalars_stay (unset vs) h = tt
 scalars_stay (meaningless at) h = tt

@@ -3,16 +3,18 @@ use Rattle.std.specs.Prelude.{map, option_map, ⊤}
 use Rattle.jz_judgement.specs.Places.{truth}
 use Rattle.jz_judgement.specs.HasType.{value, HasType}
 use Rattle.jz_judgement.specs.Lefts.{Values}
+use Rattle.jz_type_sizes.specs.Signatures.{signature}
 use Rattle.jz_judgement.specs.WellTyped as well
+use Rattle.jz_judgement.specs.WellTyped.{Instructs}
 use Rattle.jz_runs.specs.Trees.{done, op, quiet, choose, loop, each, call}
 use Rattle.jz_meaning.specs.Statements.{Operation, assign, instruction, unset, meaningless, Condition, Block}
 use Rattle.jz_arrays.specs.Cells.{with_scalars, left_with_scalars}
 
--- the left sides of an assignment take its value, and the condition is a truth; of instructions,
--- of marks and of what typing excludes nothing is said here
+-- the left sides of an assignment take its value, and the condition is a truth; the operands and
+-- results of an instruction are of its types; of marks and of what typing excludes nothing is said
 abbrev pub IsTyped : Operation → Type 0
 IsTyped (assign to o e c at) = Values to o e × well.Condition c
-IsTyped (instruction to n args at) = ⊤
+IsTyped (instruction to n args at) = Instructs (signature n) to args
 IsTyped (unset vs) = ⊤
 IsTyped (meaningless at) = ⊤
 
@@ -27,7 +29,7 @@ operation_with_scalars (instruction to n args at) =
     instruction (map left_with_scalars to) n (map with_scalars args) at
 operation_with_scalars o = o
 
--- ---- trees in which each assignment and each test is typed, and no call is left
+-- ---- trees in which each operation and each test is typed, and no call is left
 abbrev pub IsTypedBody : Block → Type 0
 IsTypedBody done = ⊤
 IsTypedBody (op o r) = IsTyped o × IsTypedBody r

@@ -106,8 +106,8 @@ module _ (kinds : Kinds) (in_frame : Key → Bool) where
   integer_layer (Expr-F.Num i at) a_number h t = false≢true h
   integer_layer (Expr-F.Expr::Bool b at) a_truth h t = false≢true h
   integer_layer (Expr-F.Var v) (a_variable x) h (judged.variable g) = goes_integer v x g
-  integer_layer (Expr-F.Cell v i) (a_cell x s y) h (judged.cell z a k t) = k
-  integer_layer (Expr-F.Load a) (a_load s x) h (judged.load t) = access_integer (out-Access a) t
+  integer_layer (Expr-F.Cell v i) (a_cell x y) h (judged.cell z a k t) = k
+  integer_layer (Expr-F.Load a) (a_load x) h (judged.load t) = access_integer (out-Access a) t
   integer_layer (Expr-F.Neg a at) (a_minus n x) h t = sign_not kinds in_frame is_rm a refl n x h
   integer_layer (Expr-F.Not a at) (a_denial n x) h t = sign_not kinds in_frame is_rm a refl n x h
   integer_layer (Expr-F.Cast z s a at) (a_cast x) h t = false≢true h
@@ -121,8 +121,8 @@ module _ (kinds : Kinds) (in_frame : Key → Bool) where
   size_layer (Expr-F.Num i at) z a_number h w = inl refl
   size_layer (Expr-F.Expr::Bool b at) z a_truth h w = absurd (false≢true h)
   size_layer (Expr-F.Var v) z (a_variable x) h w = inr (ap size_of w.0)
-  size_layer (Expr-F.Cell v i) z (a_cell x s y) h w = inr (ap size_of w.1.is)
-  size_layer (Expr-F.Load a) z (a_load s x) h w = or_size (place_of a).spot.size z w.0
+  size_layer (Expr-F.Cell v i) z (a_cell x y) h w = inr (ap size_of w.1.is)
+  size_layer (Expr-F.Load a) z (a_load x) h w = or_size (place_of a).spot.size z w.0
   size_layer (Expr-F.Neg a at) z (a_minus n x) h w = absurd (sign_not kinds in_frame is_rmi a refl n x h)
   size_layer (Expr-F.Not a at) z (a_denial n x) h w = absurd (sign_not kinds in_frame is_rmi a refl n x h)
   size_layer (Expr-F.Cast y s a at) z (a_cast x) h w = absurd (false≢true h)
@@ -132,8 +132,8 @@ module _ (kinds : Kinds) (in_frame : Key → Bool) where
   said_layer (Expr-F.Num i at) z a_number h w q = elim q [ ]
   said_layer (Expr-F.Expr::Bool b at) z a_truth h w q = absurd (false≢true h)
   said_layer (Expr-F.Var v) z (a_variable x) h w q = ap size_of w.0
-  said_layer (Expr-F.Cell v i) z (a_cell x s y) h w q = ap size_of w.1.is
-  said_layer (Expr-F.Load a) z (a_load s x) h w (judged.load q) = ap (λ k. k.spot.size) (place_out a) ∙ q
+  said_layer (Expr-F.Cell v i) z (a_cell x y) h w q = ap size_of w.1.is
+  said_layer (Expr-F.Load a) z (a_load x) h w (judged.load q) = ap (λ k. k.spot.size) (place_out a) ∙ q
   said_layer (Expr-F.Neg a at) z (a_minus n x) h w q = absurd (sign_not kinds in_frame is_rmi a refl n x h)
   said_layer (Expr-F.Not a at) z (a_denial n x) h w q = absurd (sign_not kinds in_frame is_rmi a refl n x h)
   said_layer (Expr-F.Cast y s a at) z (a_cast x) h w q = absurd (false≢true h)
@@ -199,8 +199,8 @@ module _ (kinds : Kinds) (in_frame : Key → Bool) where
     flagged_layer (Expr-F.Num i at) a_number t h = absurd (false≢true h)
     flagged_layer (Expr-F.Expr::Bool b at) a_truth t h = tt
     flagged_layer (Expr-F.Var v) (a_variable x) t h = flag_variable kinds in_frame v x h
-    flagged_layer (Expr-F.Cell v i) (a_cell x s y) t h = absurd (false≢true h)
-    flagged_layer (Expr-F.Load a) (a_load s x) t h = absurd (false≢true h)
+    flagged_layer (Expr-F.Cell v i) (a_cell x y) t h = absurd (false≢true h)
+    flagged_layer (Expr-F.Load a) (a_load x) t h = absurd (false≢true h)
     flagged_layer (Expr-F.Neg a at) (a_minus n x) t h = absurd (false≢true h)
     flagged_layer (Expr-F.Not a at) (a_denial n x) (judged.inverted t) h = flagged a x t h
     flagged_layer (Expr-F.Cast y s a at) (a_cast x) t h = absurd (false≢true h)

@@ -82,8 +82,8 @@ module _ (kinds : Kinds) (in_frame : Key → Bool) where
     counted_layer (Expr-F.Num i at) a_number = counted.number
     counted_layer (Expr-F.Expr::Bool b at) a_truth = counted.bool
     counted_layer (Expr-F.Var v) (a_variable x) = counted.variable (plain_counted v x)
-    counted_layer (Expr-F.Cell v i) (a_cell x s y) = counted.cell (plain_counted v x) (all_counted i y)
-    counted_layer (Expr-F.Load a) (a_load s x) = counted.load (all_counted (out-Access a).at x)
+    counted_layer (Expr-F.Cell v i) (a_cell x y) = counted.cell (plain_counted v x) (all_counted i y)
+    counted_layer (Expr-F.Load a) (a_load x) = counted.load (all_counted (out-Access a).at x)
     counted_layer (Expr-F.Neg a at) (a_minus n x) = counted.negated (all_counted a x)
     counted_layer (Expr-F.Not a at) (a_denial n x) = counted.inverted (all_counted a x)
     counted_layer (Expr-F.Cast z s a at) (a_cast x) = counted.cast (all_counted a x)
@@ -99,8 +99,8 @@ module _ (kinds : Kinds) (in_frame : Key → Bool) where
   pub counted_left : (test : Class → Bool) → test class.Other ≡ false → (d : Lval) → IsPlainLeft kinds in_frame d → test (dest_of d) ≡ true → IsCountedLeft d
   counted_left test o (lval.Skip at) to_nothing h = (tt, refl)
   counted_left test o (lval.Var v) (to_variable x) h = (plain_counted v x, no_whole test o v x h)
-  counted_left test o (lval.Cell v i) (to_cell x s y) h = ((plain_counted v x, all_counted i y), refl)
-  counted_left test o (lval.Store a) (to_memory s x) h = (all_counted (out-Access a).at x, refl)
+  counted_left test o (lval.Cell v i) (to_cell x y) h = ((plain_counted v x, all_counted i y), refl)
+  counted_left test o (lval.Store a) (to_memory x) h = (all_counted (out-Access a).at x, refl)
 
   -- ---- a flag by its class is one of runs
   flag_same : (v : Var) → IsPlain kinds in_frame v → is_bool (ref_of v).kind ≡ is_flag (var_class (known_of v))
@@ -113,8 +113,8 @@ module _ (kinds : Kinds) (in_frame : Key → Bool) where
   same_layer (Expr-F.Num i at) a_number = refl
   same_layer (Expr-F.Expr::Bool b at) a_truth = refl
   same_layer (Expr-F.Var v) (a_variable x) = flag_same v x
-  same_layer (Expr-F.Cell v i) (a_cell x s y) = not_true _ (no_cell is_flag (λ z. refl) (λ z. refl) refl (known_of v) (look_of i).inline (is_index (terms_of i)))
-  same_layer (Expr-F.Load a) (a_load s x) = not_true _ (no_if is_flag refl (is_address (terms_of (out-Access a).at)) (class.Mem (out-Access a).size) refl)
+  same_layer (Expr-F.Cell v i) (a_cell x y) = not_true _ (no_cell is_flag (λ z. refl) (λ z. refl) refl (known_of v) (look_of i).inline (is_index (terms_of i)))
+  same_layer (Expr-F.Load a) (a_load x) = not_true _ (no_if is_flag refl (is_address (terms_of (out-Access a).at)) (class.Mem (out-Access a).size) refl)
   same_layer (Expr-F.Neg a at) (a_minus n x) = not_true _ (sign_not kinds in_frame is_flag a refl n x)
   same_layer (Expr-F.Not a at) (a_denial n x) = not_true _ (sign_not kinds in_frame is_flag a refl n x)
   same_layer (Expr-F.Cast z s a at) (a_cast x) = refl

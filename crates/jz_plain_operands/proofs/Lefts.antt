@@ -88,11 +88,11 @@ module _ (kinds : Kinds) (in_frame : Key → Bool) where
   pub word_taken : (d : Lval) (z : Size) → IsPlainLeft kinds in_frame d → Holds (word z) d → is_rm (dest_of d) ≡ true → TakesShape kinds in_frame (a_word z) d
   word_taken (lval.Skip at) z to_nothing t h = tt
   word_taken (lval.Var v) z (to_variable x) t h = variable_there is_rm refl v z x t h
-  word_taken (lval.Cell v i) z (to_cell x s y) t h =
+  word_taken (lval.Cell v i) z (to_cell x y) t h =
       let k = cell_typed v i z t in
       let c = cell_there kinds in_frame is_rm refl v i z z x k.array refl h in
-      (c.count, c.array, sum_there kinds in_frame i y s k.index_typed c.good)
-  word_taken (lval.Store a) z (to_memory s x) t h = memory_there kinds in_frame is_rm refl a z (store_size a z t) (store_index a z t) s x h
+      (c.count, c.array, sum_there kinds in_frame i y k.index_typed c.good)
+  word_taken (lval.Store a) z (to_memory x) t h = memory_there kinds in_frame is_rm refl a z (store_size a z t) (store_index a z t) x h
 
   -- ---- a word in a fixed register
   no_pinned_cell : (v : Var) (i : Expr) → IsPlain kinds in_frame v → is_pinned (cell_of v i) ≡ true → ⊥
@@ -105,8 +105,8 @@ module _ (kinds : Kinds) (in_frame : Key → Bool) where
   pub pinned_taken : (d : Lval) (z : Size) → IsPlainLeft kinds in_frame d → Holds (word z) d → is_pinned (dest_of d) ≡ true → TakesShape kinds in_frame (a_pinned z) d
   pinned_taken (lval.Skip at) z to_nothing t h = tt
   pinned_taken (lval.Var v) z (to_variable x) t h = variable_there is_pinned refl v z x t h
-  pinned_taken (lval.Cell v i) z (to_cell x s y) t h = absurd (no_pinned_cell v i x h)
-  pinned_taken (lval.Store a) z (to_memory s x) t h = absurd (no_if is_pinned refl (is_address (terms_of (out-Access a).at)) (class.Mem (out-Access a).size) refl h)
+  pinned_taken (lval.Cell v i) z (to_cell x y) t h = absurd (no_pinned_cell v i x h)
+  pinned_taken (lval.Store a) z (to_memory x) t h = absurd (no_if is_pinned refl (is_address (terms_of (out-Access a).at)) (class.Mem (out-Access a).size) refl h)
 
   -- ---- a flag
   flag_or : (c : Class) → is_skip c ≡ false → is_flag_result c ≡ true → is_flag c ≡ true
@@ -127,8 +127,8 @@ module _ (kinds : Kinds) (in_frame : Key → Bool) where
   pub flag_taken : (d : Lval) → IsPlainLeft kinds in_frame d → is_flag_result (dest_of d) ≡ true → TakesShape kinds in_frame a_flag d
   flag_taken (lval.Skip at) to_nothing h = tt
   flag_taken (lval.Var v) (to_variable x) h = flag_variable kinds in_frame v x (flag_or (var_class (known_of v)) (no_skip v x) h)
-  flag_taken (lval.Cell v i) (to_cell x s y) h = absurd (no_cell is_flag_result (λ z. refl) (λ z. refl) refl (known_of v) (look_of i).inline (is_index (terms_of i)) h)
-  flag_taken (lval.Store a) (to_memory s x) h = absurd (no_if is_flag_result refl (is_address (terms_of (out-Access a).at)) (class.Mem (out-Access a).size) refl h)
+  flag_taken (lval.Cell v i) (to_cell x y) h = absurd (no_cell is_flag_result (λ z. refl) (λ z. refl) refl (known_of v) (look_of i).inline (is_index (terms_of i)) h)
+  flag_taken (lval.Store a) (to_memory x) h = absurd (no_if is_flag_result refl (is_address (terms_of (out-Access a).at)) (class.Mem (out-Access a).size) refl h)
 
 pub words_are_taken : WordsAreTaken
 words_are_taken kinds in_frame d z x t h = word_taken kinds in_frame d z x t h

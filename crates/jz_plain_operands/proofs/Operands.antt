@@ -26,7 +26,7 @@ use Rattle.jz_row_laws.proofs.Fixed.{no_if, no_cell}
 use Rattle.jz_terms.specs.Terms.{Place as Accessed, term_of, place_of}
 use Rattle.jz_terms.proofs.Bridge.{term_layer}
 use Rattle.jz_standing.specs.Typing.{IsScalar, IsArray, IsFlag, IsSum, IsWord}
-use Rattle.jz_plain_operands.specs.Plain.{IsPlain, a_word, a_slot, a_flag, an_array, AreScaled, IsPlainExpr, expression, IsPlainLayer, a_number, a_truth, a_variable, a_cell, a_load, a_minus, a_denial, a_cast, of_two}
+use Rattle.jz_plain_operands.specs.Plain.{IsPlain, a_word, a_slot, a_flag, an_array, IsPlainExpr, expression, IsPlainLayer, a_number, a_truth, a_variable, a_cell, a_load, a_minus, a_denial, a_cast, of_two}
 use Rattle.jz_plain_operands.specs.PlainLaws.{WordsAreOperands, FlagsAreOperands, SumsAreOperands}
 use Rattle.jz_plain_operands.proofs.Layers.{term_out, place_out, two_not, sign_not}
 use Rattle.jz_plain_operands.proofs.Sums.{word_variable, sum_there}
@@ -69,22 +69,22 @@ module _ (kinds : Kinds) (in_frame : Key → Bool) where
   IsMemory z q = (option_or q.spot.size (Some z) ≡ Some z) × IsSum kinds in_frame q.at
 
   pub memory_there : (test : Class → Bool) → test class.Other ≡ false → (a : Access) (z : Size) → option_or (out-Access a).size (Some z) ≡ Some z → HasType (value (out-Access a).at) index
-      → AreScaled (term_of (out-Access a).at) → IsPlainExpr kinds in_frame (out-Access a).at → test (mem_of (out-Access a).size (out-Access a).at) ≡ true → IsMemory z (place_of a)
-  memory_there test o a z k t s x h =
+      → IsPlainExpr kinds in_frame (out-Access a).at → test (mem_of (out-Access a).size (out-Access a).at) ≡ true → IsMemory z (place_of a)
+  memory_there test o a z k t x h =
       let is = if_true test o (is_address (terms_of (out-Access a).at)) (class.Mem (out-Access a).size) h in
       let good = (and_parts (look_of (out-Access a).at).sum.good _ (and_parts (is_sum (terms_of (out-Access a).at)) _ is).0).0 in
-      subst (IsMemory z) (sym (place_out a)) (k, sum_there kinds in_frame (out-Access a).at x s t good)
+      subst (IsMemory z) (sym (place_out a)) (k, sum_there kinds in_frame (out-Access a).at x t good)
 
   -- ---- words
   word_layer : (l : Layer) (z : Size) → IsPlainLayer kinds in_frame l → Types l (word z) → is_rmi (class_layer l) ≡ true → IsWord kinds in_frame (Some z) z (term_layer l)
   word_layer (Expr-F.Num i at) z a_number t h = tt
   word_layer (Expr-F.Expr::Bool b at) z a_truth t h = absurd (false≢true h)
   word_layer (Expr-F.Var v) z (a_variable x) (judged.variable g) h = word_variable kinds in_frame v (word z) z (λ y k. k) (λ k. k) x g
-  word_layer (Expr-F.Cell v i) z (a_cell x s y) (judged.cell w a k t) h =
+  word_layer (Expr-F.Cell v i) z (a_cell x y) (judged.cell w a k t) h =
       let c = cell_there is_rmi refl v i w z x a k h in
-      (c.count, c.array, sum_there kinds in_frame i y s t c.good)
-  word_layer (Expr-F.Load a) z (a_load s x) (judged.load t) h =
-      memory_there is_rmi refl a z (given_size (out-Access a) z t) (at_index (out-Access a) (word z) t) s x h
+      (c.count, c.array, sum_there kinds in_frame i y t c.good)
+  word_layer (Expr-F.Load a) z (a_load x) (judged.load t) h =
+      memory_there is_rmi refl a z (given_size (out-Access a) z t) (at_index (out-Access a) (word z) t) x h
   word_layer (Expr-F.Neg a at) z (a_minus n x) t h = absurd (sign_not kinds in_frame is_rmi a refl n x h)
   word_layer (Expr-F.Not a at) z (a_denial n x) t h = absurd (sign_not kinds in_frame is_rmi a refl n x h)
   word_layer (Expr-F.Cast y s a at) z (a_cast x) t h = absurd (false≢true h)
@@ -104,8 +104,8 @@ module _ (kinds : Kinds) (in_frame : Key → Bool) where
   flag_layer (Expr-F.Num i at) a_number h = absurd (false≢true h)
   flag_layer (Expr-F.Expr::Bool b at) a_truth h = absurd (false≢true h)
   flag_layer (Expr-F.Var v) (a_variable x) h = flag_variable v x h
-  flag_layer (Expr-F.Cell v i) (a_cell x s y) h = absurd (no_cell is_flag (λ z. refl) (λ z. refl) refl (known_of v) (look_of i).inline (is_index (terms_of i)) h)
-  flag_layer (Expr-F.Load a) (a_load s x) h = absurd (no_if is_flag refl (is_address (terms_of (out-Access a).at)) (class.Mem (out-Access a).size) refl h)
+  flag_layer (Expr-F.Cell v i) (a_cell x y) h = absurd (no_cell is_flag (λ z. refl) (λ z. refl) refl (known_of v) (look_of i).inline (is_index (terms_of i)) h)
+  flag_layer (Expr-F.Load a) (a_load x) h = absurd (no_if is_flag refl (is_address (terms_of (out-Access a).at)) (class.Mem (out-Access a).size) refl h)
   flag_layer (Expr-F.Neg a at) (a_minus n x) h = absurd (sign_not kinds in_frame is_flag a refl n x h)
   flag_layer (Expr-F.Not a at) (a_denial n x) h = absurd (sign_not kinds in_frame is_flag a refl n x h)
   flag_layer (Expr-F.Cast y s a at) (a_cast x) h = absurd (false≢true h)
@@ -121,4 +121,4 @@ pub flags_are_operands : FlagsAreOperands
 flags_are_operands kinds in_frame e x h = flag_there kinds in_frame e x h
 
 pub sums_are_operands : SumsAreOperands
-sums_are_operands kinds in_frame e x s t h = sum_there kinds in_frame e x s t h
+sums_are_operands kinds in_frame e x t h = sum_there kinds in_frame e x t h

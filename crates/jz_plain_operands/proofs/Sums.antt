@@ -1,5 +1,5 @@
 -- An index or an address that the expansion leaves is a sum.
-use Rattle.std.proofs.Common.{◌≡◌, ℕ, ℤ, pos, negsuc, Bool, true, false, ◌&&◌, ◌||◌, Some, refl, sym, ap, ◌∙◌, subst, inl, inr}
+use Rattle.std.proofs.Common.{◌≡◌, Bool, true, false, ◌&&◌, ◌||◌, Some, refl, sym, ap, ◌∙◌, subst, inl, inr}
 use Rattle.std.specs.Prelude.{◌⊎◌}
 use Rattle.std.proofs.lemmas.Bool.{false≢true, and_parts}
 use Rattle.x64_insn.specs.Size.{Size}
@@ -29,7 +29,7 @@ use Rattle.jz_terms.specs.Terms.{num, var, bin, term_of}
 use Rattle.jz_terms.proofs.Bridge.{term_layer}
 use Rattle.jz_fact_laws.specs.Saying.{is_number}
 use Rattle.jz_standing.specs.Typing.{IsScalar, IsSum}
-use Rattle.jz_plain_operands.specs.Plain.{IsPlain, a_word, a_slot, a_flag, an_array, NotNegative, AreScaled, IsPlainExpr, expression, IsPlainLayer, a_number, a_truth, a_variable, a_cell, a_load, a_minus, a_denial, a_cast, of_two}
+use Rattle.jz_plain_operands.specs.Plain.{IsPlain, a_word, a_slot, a_flag, an_array, IsPlainExpr, expression, IsPlainLayer, a_number, a_truth, a_variable, a_cell, a_load, a_minus, a_denial, a_cast, of_two}
 use Rattle.jz_plain_operands.proofs.Layers.{look_test, term_out, IsNumber, number_is_inline, not_both, looked_not_inline, inline_number, no_number, not_numbers}
 
 pub typed : (e : Expr) (l : Layer) (p : Place) → out-Expr e ≡ l → HasType (value e) p → Types l p
@@ -76,8 +76,8 @@ module _ (kinds : Kinds) (in_frame : Key → Bool) where
   reg_layer e (Expr-F.Var v) s (a_variable x) h = record { variable = v; is = s; plain = x }
   reg_layer e (Expr-F.Num i at) s a_number h = absurd (false≢true h)
   reg_layer e (Expr-F.Expr::Bool b at) s a_truth h = absurd (false≢true h)
-  reg_layer e (Expr-F.Cell v i) s (a_cell x k y) h = absurd (false≢true (sym (ap (λ b. b && (look_of i).inline) (no_cells v x)) ∙ h))
-  reg_layer e (Expr-F.Load a) s (a_load k x) h = absurd (false≢true h)
+  reg_layer e (Expr-F.Cell v i) s (a_cell x y) h = absurd (false≢true (sym (ap (λ b. b && (look_of i).inline) (no_cells v x)) ∙ h))
+  reg_layer e (Expr-F.Load a) s (a_load x) h = absurd (false≢true h)
   reg_layer e (Expr-F.Neg a at) s (a_minus n x) h = absurd (false≢true h)
   reg_layer e (Expr-F.Not a at) s (a_denial n x) h = absurd (false≢true h)
   reg_layer e (Expr-F.Cast z k a at) s (a_cast x) h = absurd (false≢true h)
@@ -93,29 +93,21 @@ module _ (kinds : Kinds) (in_frame : Key → Bool) where
   variable_sum e r t = word_variable r.variable index S64 (λ y k. k) (λ k. k) r.plain (goes_of r.variable index (typed e (Expr-F.Var r.variable) index r.is t))
 
   -- ---- a scaled register
-  right_scale : (v : Var) (i : ℤ) (here at : Span) → NotNegative (num i here) → IsWordOfSize S64 v → IsSum kinds in_frame (bin op.Mul (var (ref_of v)) (num i here) at)
-  right_scale v (pos k) here at n w = w
-  right_scale v (negsuc k) here at n w = absurd n
-
-  left_scale : (v : Var) (i : ℤ) (here at : Span) → NotNegative (num i here) → IsWordOfSize S64 v → IsSum kinds in_frame (bin op.Mul (num i here) (var (ref_of v)) at)
-  left_scale v (pos k) here at n w = w
-  left_scale v (negsuc k) here at n w = absurd n
-
-  scaled_right : (a b : Expr) (at : Span) → IsVariable a → IsNumber b → NotNegative (term_of b) → HasType (value a) index → IsSum kinds in_frame (bin op.Mul (term_of a) (term_of b) at)
-  scaled_right a b at r n k t =
+  scaled_right : (a b : Expr) (at : Span) → IsVariable a → IsNumber b → HasType (value a) index → IsSum kinds in_frame (bin op.Mul (term_of a) (term_of b) at)
+  scaled_right a b at r n t =
       let first = term_out a ∙ ap term_layer r.is in
       let second = term_out b ∙ ap term_layer n.2 in
       subst (λ x. IsSum kinds in_frame (bin op.Mul x (term_of b) at)) (sym first)
       (subst (λ x. IsSum kinds in_frame (bin op.Mul (var (ref_of r.variable)) x at)) (sym second)
-      (right_scale r.variable n.0 n.1 at (subst NotNegative second k) (variable_sum a r t)))
+      (variable_sum a r t))
 
-  scaled_left : (a b : Expr) (at : Span) → IsNumber a → IsVariable b → NotNegative (term_of a) → HasType (value b) index → IsSum kinds in_frame (bin op.Mul (term_of a) (term_of b) at)
-  scaled_left a b at n r k t =
+  scaled_left : (a b : Expr) (at : Span) → IsNumber a → IsVariable b → HasType (value b) index → IsSum kinds in_frame (bin op.Mul (term_of a) (term_of b) at)
+  scaled_left a b at n r t =
       let first = term_out a ∙ ap term_layer n.2 in
       let second = term_out b ∙ ap term_layer r.is in
       subst (λ x. IsSum kinds in_frame (bin op.Mul (term_of a) x at)) (sym second)
       (subst (λ x. IsSum kinds in_frame (bin op.Mul x (var (ref_of r.variable)) at)) (sym first)
-      (left_scale r.variable n.0 n.1 at (subst NotNegative first k) (variable_sum b r t)))
+      (variable_sum b r t))
 
   -- ---- both are inline in no operation
   none_inline : (o : BinOp) (a b : Expr) → (is_inline a && is_inline b) ≡ false → IsPlainExpr kinds in_frame a → IsPlainExpr kinds in_frame b → bin_inline o (look_of a) (look_of b) ≡ true → ⊥
@@ -154,8 +146,8 @@ module _ (kinds : Kinds) (in_frame : Key → Bool) where
   truth_layer (Expr-F.Num i at) a_number h (judged.number k) = k
   truth_layer (Expr-F.Expr::Bool b at) a_truth h t = false≢true h
   truth_layer (Expr-F.Var v) (a_variable x) h (judged.variable g) = truth_variable v x h g
-  truth_layer (Expr-F.Cell v i) (a_cell x s y) h (judged.cell z a k t) = k
-  truth_layer (Expr-F.Load a) (a_load s x) h (judged.load t) = access_truth (out-Access a) t
+  truth_layer (Expr-F.Cell v i) (a_cell x y) h (judged.cell z a k t) = k
+  truth_layer (Expr-F.Load a) (a_load x) h (judged.load t) = access_truth (out-Access a) t
   truth_layer (Expr-F.Neg a at) (a_minus n x) h (judged.negated k t) = k
   truth_layer (Expr-F.Not a at) (a_denial n x) h t = false≢true (sym n ∙ number_is_inline a (inline_number kinds in_frame a x (inline_good (look_of a).inline h)))
   truth_layer (Expr-F.Cast z s a at) (a_cast x) h t = false≢true h
@@ -178,57 +170,57 @@ module _ (kinds : Kinds) (in_frame : Key → Bool) where
   less a b at n k s =
       subst (λ x. IsSum kinds in_frame (bin op.Sub (term_of a) x at)) (sym (term_out b ∙ ap term_layer n.2)) (k, s)
 
-  times : (a b : Expr) (at : Span) → IsPlainExpr kinds in_frame a → IsPlainExpr kinds in_frame b → NotNegative (term_of a) × NotNegative (term_of b) → HasType (value a) index → HasType (value b) index
+  times : (a b : Expr) (at : Span) → IsPlainExpr kinds in_frame a → IsPlainExpr kinds in_frame b → HasType (value a) index → HasType (value b) index
       → (((look_of a).reg && (look_of b).inline) || ((look_of a).inline && (look_of b).reg)) ≡ true → IsSum kinds in_frame (bin op.Mul (term_of a) (term_of b) at)
-  times a b at x y s t u h = by_order (or_parts ((look_of a).reg && (look_of b).inline) ((look_of a).inline && (look_of b).reg) h)
+  times a b at x y t u h = by_order (or_parts ((look_of a).reg && (look_of b).inline) ((look_of a).inline && (look_of b).reg) h)
     where
       by_order : (((look_of a).reg && (look_of b).inline) ≡ true) ⊎ (((look_of a).inline && (look_of b).reg) ≡ true) → IsSum kinds in_frame (bin op.Mul (term_of a) (term_of b) at)
       by_order (inl g) =
           let p = and_parts (look_of a).reg (look_of b).inline g in
-          scaled_right a b at (reg_variable a x p.0) (inline_number kinds in_frame b y p.1) s.1 t
+          scaled_right a b at (reg_variable a x p.0) (inline_number kinds in_frame b y p.1) t
       by_order (inr g) =
           let p = and_parts (look_of a).inline (look_of b).reg g in
-          scaled_left a b at (inline_number kinds in_frame a x p.0) (reg_variable b y p.1) s.0 u
+          scaled_left a b at (inline_number kinds in_frame a x p.0) (reg_variable b y p.1) u
 
-  product : (a b : Expr) (at : Span) → (is_inline a && is_inline b) ≡ false → IsPlainExpr kinds in_frame a → IsPlainExpr kinds in_frame b → NotNegative (term_of a) × NotNegative (term_of b) → HasType (value a) index → HasType (value b) index
+  product : (a b : Expr) (at : Span) → (is_inline a && is_inline b) ≡ false → IsPlainExpr kinds in_frame a → IsPlainExpr kinds in_frame b → HasType (value a) index → HasType (value b) index
       → (term (bin_inline op.Mul (look_of a) (look_of b)) false (bin_scaled op.Mul (look_of a) (look_of b))).good ≡ true → IsSum kinds in_frame (bin op.Mul (term_of a) (term_of b) at)
-  product a b at n x y s t u h = by_look (scaled_good (bin_inline op.Mul (look_of a) (look_of b)) (bin_scaled op.Mul (look_of a) (look_of b)) h)
+  product a b at n x y t u h = by_look (scaled_good (bin_inline op.Mul (look_of a) (look_of b)) (bin_scaled op.Mul (look_of a) (look_of b)) h)
     where
       by_look : (bin_inline op.Mul (look_of a) (look_of b) ≡ true) ⊎ (bin_scaled op.Mul (look_of a) (look_of b) ≡ true) → IsSum kinds in_frame (bin op.Mul (term_of a) (term_of b) at)
       by_look (inl g) = absurd (none_inline op.Mul a b n x y g)
-      by_look (inr g) = times a b at x y s t u g
+      by_look (inr g) = times a b at x y t u g
 
   -- ---- sums
   mutual
-    pub sum_there : (e : Expr) → IsPlainExpr kinds in_frame e → AreScaled (term_of e) → HasType (value e) index → (look_of e).sum.good ≡ true → IsSum kinds in_frame (term_of e)
-    sum_there e (expression x) s (judged.expression t) h =
+    pub sum_there : (e : Expr) → IsPlainExpr kinds in_frame e → HasType (value e) index → (look_of e).sum.good ≡ true → IsSum kinds in_frame (term_of e)
+    sum_there e (expression x) (judged.expression t) h =
         subst (λ y. IsSum kinds in_frame y) (sym (term_out e))
-        (sum_layer (out-Expr e) x (subst AreScaled (term_out e) s) t (look_test (λ l. l.sum.good) e h))
+        (sum_layer (out-Expr e) x t (look_test (λ l. l.sum.good) e h))
 
-    sum_layer : (l : Layer) → IsPlainLayer kinds in_frame l → AreScaled (term_layer l) → Types l index → (look_layer l).sum.good ≡ true → IsSum kinds in_frame (term_layer l)
-    sum_layer (Expr-F.Num i at) a_number s t h = tt
-    sum_layer (Expr-F.Expr::Bool b at) a_truth s t h = absurd (false≢true h)
-    sum_layer (Expr-F.Var v) (a_variable x) s (judged.variable g) h = word_variable v index S64 (λ y k. k) (λ k. k) x g
-    sum_layer (Expr-F.Cell v i) (a_cell x k y) s t h =
+    sum_layer : (l : Layer) → IsPlainLayer kinds in_frame l → Types l index → (look_layer l).sum.good ≡ true → IsSum kinds in_frame (term_layer l)
+    sum_layer (Expr-F.Num i at) a_number t h = tt
+    sum_layer (Expr-F.Expr::Bool b at) a_truth t h = absurd (false≢true h)
+    sum_layer (Expr-F.Var v) (a_variable x) (judged.variable g) h = word_variable v index S64 (λ y k. k) (λ k. k) x g
+    sum_layer (Expr-F.Cell v i) (a_cell x y) t h =
         absurd (false≢true (sym (ap (λ b. (term false (b && (look_of i).inline) false).good) (no_cells v x)) ∙ h))
-    sum_layer (Expr-F.Load a) (a_load k x) s t h = absurd (false≢true h)
-    sum_layer (Expr-F.Neg a at) (a_minus n x) s t h = absurd (false≢true (sym n ∙ number_is_inline a (inline_number kinds in_frame a x (inline_good (look_of a).inline h))))
-    sum_layer (Expr-F.Not a at) (a_denial n x) s t h = absurd (false≢true (sym n ∙ number_is_inline a (inline_number kinds in_frame a x (inline_good (look_of a).inline h))))
-    sum_layer (Expr-F.Cast z k a at) (a_cast x) s t h = absurd (false≢true h)
-    sum_layer (Expr-F.Bin op.Add a b at) (of_two n x y) s (judged.operation (judged.arithmetic g k m u w)) h =
+    sum_layer (Expr-F.Load a) (a_load x) t h = absurd (false≢true h)
+    sum_layer (Expr-F.Neg a at) (a_minus n x) t h = absurd (false≢true (sym n ∙ number_is_inline a (inline_number kinds in_frame a x (inline_good (look_of a).inline h))))
+    sum_layer (Expr-F.Not a at) (a_denial n x) t h = absurd (false≢true (sym n ∙ number_is_inline a (inline_number kinds in_frame a x (inline_good (look_of a).inline h))))
+    sum_layer (Expr-F.Cast z k a at) (a_cast x) t h = absurd (false≢true h)
+    sum_layer (Expr-F.Bin op.Add a b at) (of_two n x y) (judged.operation (judged.arithmetic g k m u w)) h =
         let p = and_parts (look_of b).sum.good (look_of a).sum.good h in
-        (not_numbers kinds in_frame a b x y n, sum_there a x s.0 u p.1, sum_there b y s.1 w p.0)
-    sum_layer (Expr-F.Bin op.Add a b at) (of_two n x y) s (judged.operation (judged.carry g k u w)) h =
+        (not_numbers kinds in_frame a b x y n, sum_there a x u p.1, sum_there b y w p.0)
+    sum_layer (Expr-F.Bin op.Add a b at) (of_two n x y) (judged.operation (judged.carry g k u w)) h =
         absurd (no_truth b y (and_parts (look_of b).sum.good (look_of a).sum.good h).0 w)
-    sum_layer (Expr-F.Bin op.Add a b at) (of_two n x y) s (judged.operation (judged.shift g k m u w)) h = absurd (arith_shift (sym g))
-    sum_layer (Expr-F.Bin op.Sub a b at) (of_two n x y) s (judged.operation (judged.arithmetic g k m u w)) h =
+    sum_layer (Expr-F.Bin op.Add a b at) (of_two n x y) (judged.operation (judged.shift g k m u w)) h = absurd (arith_shift (sym g))
+    sum_layer (Expr-F.Bin op.Sub a b at) (of_two n x y) (judged.operation (judged.arithmetic g k m u w)) h =
         let p = and_parts (look_of b).inline (look_of a).sum.good h in
         let i = inline_number kinds in_frame b y p.0 in
-        less a b at i (no_number kinds in_frame a x (other_inline (is_inline a) (is_inline b) n (number_is_inline b i))) (sum_there a x s u p.1)
-    sum_layer (Expr-F.Bin op.Sub a b at) (of_two n x y) s (judged.operation (judged.carry g k u w)) h =
+        less a b at i (no_number kinds in_frame a x (other_inline (is_inline a) (is_inline b) n (number_is_inline b i))) (sum_there a x u p.1)
+    sum_layer (Expr-F.Bin op.Sub a b at) (of_two n x y) (judged.operation (judged.carry g k u w)) h =
         absurd (number_no_truth b (inline_number kinds in_frame b y (and_parts (look_of b).inline (look_of a).sum.good h).0) w)
-    sum_layer (Expr-F.Bin op.Sub a b at) (of_two n x y) s (judged.operation (judged.shift g k m u w)) h = absurd (arith_shift (sym g))
-    sum_layer (Expr-F.Bin op.Mul a b at) (of_two n x y) s (judged.operation (judged.arithmetic g k m u w)) h = product a b at n x y s u w h
-    sum_layer (Expr-F.Bin op.Mul a b at) (of_two n x y) s (judged.operation (judged.carry g k u w)) h = absurd g
-    sum_layer (Expr-F.Bin op.Mul a b at) (of_two n x y) s (judged.operation (judged.shift g k m u w)) h = absurd (arith_shift (sym g))
-    sum_layer (Expr-F.Bin o a b at) (of_two n x y) s t h = absurd (none_inline o a b n x y (inline_good (bin_inline o (look_of a) (look_of b)) h))
+    sum_layer (Expr-F.Bin op.Sub a b at) (of_two n x y) (judged.operation (judged.shift g k m u w)) h = absurd (arith_shift (sym g))
+    sum_layer (Expr-F.Bin op.Mul a b at) (of_two n x y) (judged.operation (judged.arithmetic g k m u w)) h = product a b at n x y u w h
+    sum_layer (Expr-F.Bin op.Mul a b at) (of_two n x y) (judged.operation (judged.carry g k u w)) h = absurd g
+    sum_layer (Expr-F.Bin op.Mul a b at) (of_two n x y) (judged.operation (judged.shift g k m u w)) h = absurd (arith_shift (sym g))
+    sum_layer (Expr-F.Bin o a b at) (of_two n x y) t h = absurd (none_inline o a b n x y (inline_good (bin_inline o (look_of a) (look_of b)) h))

@@ -1,12 +1,11 @@
 -- What the expansion leaves of the variables, the expressions and the left sides of a function: no
 -- inline part but numbers and bools, no cell of an array in registers.
-use Rattle.std.specs.Prelude.{◌≡◌, ◌&&◌, ℕ, ℤ, pos, negsuc, Bool, false, Some}
+use Rattle.std.specs.Prelude.{◌≡◌, ◌&&◌, ℕ, ℤ, negsuc, Bool, false, Some}
 use Rattle.x64_insn.specs.Size.{Size}
 use Rattle.jz_tree.specs.Span.{Span}
 use Rattle.jz_tree.specs.declared.expr.Storage.{Storage}
 use Rattle.jz_tree.specs.declared.expr.Storage.TheVariants as storage
 use Rattle.jz_tree.specs.declared.expr.BinOp.{BinOp}
-use Rattle.jz_tree.specs.declared.expr.BinOp.TheVariants as o
 use Rattle.jz_tree.specs.declared.expr.Expr.{Expr}
 use Rattle.jz_tree.specs.declared.expr.Expr.TheOpen.{Expr-F}
 use Rattle.jz_tree.specs.declared.expr.Expr.TheViews.{out-Expr, out-Access}
@@ -22,7 +21,7 @@ use Rattle.jz_meaning.specs.declared.access.Kind.TheVariants as kind
 use Rattle.jz_meaning.specs.States.{Key}
 use Rattle.jz_meaning.specs.Values.{ref_of}
 use Rattle.jz_run_laws.specs.Kinds.{Kinds}
-use Rattle.jz_terms.specs.Terms.{Term, num, bin, term_of}
+use Rattle.jz_terms.specs.Terms.{Term, num}
 use Rattle.jz_standing.specs.Typing.{IsScalar, IsArray}
 
 -- ---- variables
@@ -44,17 +43,10 @@ pub data IsPlain (kinds : Kinds) (in_frame : Key → Bool) (v : Var) : Type 0 wh
       (z : Size) (n : ℕ) → HasDeclaration v storage.Stack (scope.Array z)
       → IsArray kinds in_frame (ref_of v) z n → IsPlain kinds in_frame v
 
--- ---- the scales of an index or an address
+-- ---- how far a shift goes
 abbrev pub NotNegative : Term → Type 0
 NotNegative (num (negsuc k) at) = ⊥
 NotNegative t = Unit {0}
-
--- a factor of a term of the sum is no negative number
-abbrev pub AreScaled : Term → Type 0
-AreScaled (bin o.Mul a b at) = NotNegative a × NotNegative b
-AreScaled (bin o.Add a b at) = AreScaled a × AreScaled b
-AreScaled (bin o.Sub a b at) = AreScaled a
-AreScaled t = Unit {0}
 
 -- ---- expressions, by their outermost forms
 mutual
@@ -66,11 +58,10 @@ mutual
     a_truth : {b : Bool} {at : Span} → IsPlainLayer kinds in_frame (Expr-F.Expr::Bool b at)
     a_variable : {v : Var} → IsPlain kinds in_frame v → IsPlainLayer kinds in_frame (Expr-F.Var v)
     a_cell :
-        {v : Var} {i : Expr} → IsPlain kinds in_frame v → AreScaled (term_of i)
-        → IsPlainExpr kinds in_frame i → IsPlainLayer kinds in_frame (Expr-F.Cell v i)
+        {v : Var} {i : Expr} → IsPlain kinds in_frame v → IsPlainExpr kinds in_frame i
+        → IsPlainLayer kinds in_frame (Expr-F.Cell v i)
     a_load :
-        {a : Access} → AreScaled (term_of (out-Access a).at)
-        → IsPlainExpr kinds in_frame (out-Access a).at
+        {a : Access} → IsPlainExpr kinds in_frame (out-Access a).at
         → IsPlainLayer kinds in_frame (Expr-F.Load a)
     a_minus :
         {a : Expr} {at : Span} → is_inline a ≡ false → IsPlainExpr kinds in_frame a
@@ -91,8 +82,8 @@ pub data IsPlainLeft (kinds : Kinds) (in_frame : Key → Bool) : Lval → Type 0
   to_nothing : {at : Span} → IsPlainLeft kinds in_frame (lval.Skip at)
   to_variable : {v : Var} → IsPlain kinds in_frame v → IsPlainLeft kinds in_frame (lval.Var v)
   to_cell :
-      {v : Var} {i : Expr} → IsPlain kinds in_frame v → AreScaled (term_of i)
-      → IsPlainExpr kinds in_frame i → IsPlainLeft kinds in_frame (lval.Cell v i)
+      {v : Var} {i : Expr} → IsPlain kinds in_frame v → IsPlainExpr kinds in_frame i
+      → IsPlainLeft kinds in_frame (lval.Cell v i)
   to_memory :
-      {a : Access} → AreScaled (term_of (out-Access a).at)
-      → IsPlainExpr kinds in_frame (out-Access a).at → IsPlainLeft kinds in_frame (lval.Store a)
+      {a : Access} → IsPlainExpr kinds in_frame (out-Access a).at
+      → IsPlainLeft kinds in_frame (lval.Store a)

@@ -15,7 +15,7 @@ use Rattle.jz_run_laws.specs.Kinds.{Kinds}
 use Rattle.jz_terms.specs.Terms.{term_of}
 use Rattle.jz_standing.specs.Typing.{IsFlag, IsCount, IsSum, IsWord, IsAnswer}
 use Rattle.jz_instructed.specs.Instructed.{a_flag, a_word, a_pinned, TakesShape}
-use Rattle.jz_plain_operands.specs.Plain.{NotNegative, AreScaled, IsPlainExpr, IsPlainLeft}
+use Rattle.jz_plain_operands.specs.Plain.{NotNegative, IsPlainExpr, IsPlainLeft}
 
 abbrev pub Where : (Kinds → (Key → Bool) → Type 0) → Type 0
 Where P = (kinds : Kinds) (in_frame : Key → Bool) → P kinds in_frame
@@ -35,7 +35,7 @@ FlagsAreOperands = Where (λ kinds in_frame.
 -- an index or an address
 abbrev pub SumsAreOperands : Type 0
 SumsAreOperands = Where (λ kinds in_frame.
-    (e : Expr) → IsPlainExpr kinds in_frame e → AreScaled (term_of e) → HasType (value e) index
+    (e : Expr) → IsPlainExpr kinds in_frame e → HasType (value e) index
     → (look_of e).sum.good ≡ true → IsSum kinds in_frame (term_of e))
 
 -- how far a shift goes: a number, or a masked byte

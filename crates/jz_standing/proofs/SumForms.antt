@@ -1,5 +1,5 @@
 -- The forms of an index or an address.
-use Rattle.std.proofs.Common.{◌≡◌, inl, inr, ℕ, Bool, true, false, Some, refl, ℤ, pos, negsuc}
+use Rattle.std.proofs.Common.{◌≡◌, inl, inr, ℕ, Bool, true, false, Some, refl, ℤ}
 use Rattle.std.specs.Prelude.{◌&&◌}
 use Rattle.jz_tree.specs.Span.{Span}
 use Rattle.x64_insn.specs.Size.TheVariants.{S64}
@@ -16,15 +16,15 @@ module _ (kinds : Kinds) (in_frame : Key → Bool) where
   module _ (P : Term → Type 0)
       (by_number : (i : ℤ) (at : Span) → P (num i at))
       (by_variable : (x : Ref) → x.kind ≡ kind.Word S64 → IsScalar kinds in_frame x → P (var x))
-      (by_scale : (k : ℕ) (t : Span) (x : Ref) (at : Span) → x.kind ≡ kind.Word S64 → IsScalar kinds in_frame x → P (bin o.Mul (num (pos k) t) (var x) at))
-      (by_scaled : (x : Ref) (k : ℕ) (t at : Span) → x.kind ≡ kind.Word S64 → IsScalar kinds in_frame x → P (bin o.Mul (var x) (num (pos k) t) at))
+      (by_scale : (k : ℤ) (t : Span) (x : Ref) (at : Span) → x.kind ≡ kind.Word S64 → IsScalar kinds in_frame x → P (bin o.Mul (num k t) (var x) at))
+      (by_scaled : (x : Ref) (k : ℤ) (t at : Span) → x.kind ≡ kind.Word S64 → IsScalar kinds in_frame x → P (bin o.Mul (var x) (num k t) at))
       (by_sum : (a b : Term) (at : Span) → (is_number a && is_number b) ≡ false → IsSum kinds in_frame a → IsSum kinds in_frame b → P a → P b → P (bin o.Add a b at))
       (by_difference : (a : Term) (i : ℤ) (t at : Span) → is_number a ≡ false → IsSum kinds in_frame a → P a → P (bin o.Sub a (num i t) at)) where
     pub summed : (t : Term) → IsSum kinds in_frame t → P t
     summed (num i at) h = by_number i at
     summed (var x) h = by_variable x h.0 h.1
-    summed (bin o.Mul (num (pos k) t) (var x) at) h = by_scale k t x at h.0 h.1
-    summed (bin o.Mul (var x) (num (pos k) t) at) h = by_scaled x k t at h.0 h.1
+    summed (bin o.Mul (num k t) (var x) at) h = by_scale k t x at h.0 h.1
+    summed (bin o.Mul (var x) (num k t) at) h = by_scaled x k t at h.0 h.1
     summed (bin o.Add a b at) h = by_sum a b at h.0 h.1 h.2 (summed a h.1) (summed b h.2)
     summed (bin o.Sub a (num i t) at) h = by_difference a i t at h.0 h.1 (summed a h.1)
     summed (truth b at) h = absurd h
@@ -41,16 +41,14 @@ module _ (kinds : Kinds) (in_frame : Key → Bool) where
     summed (bin o.Sub a (cast e0 e1 e2 e3) at) h = absurd h
     summed (bin o.Sub a (bin e0 e1 e2 e3) at) h = absurd h
     summed (bin o.Sub a (var e0) at) h = absurd h
-    summed (bin o.Mul (num (negsuc k) t) b at) h = absurd h
-    summed (bin o.Mul (num (pos k) t) (num e0 e1) at) h = absurd h
-    summed (bin o.Mul (num (pos k) t) (truth e0 e1) at) h = absurd h
-    summed (bin o.Mul (num (pos k) t) (cell e0 e1) at) h = absurd h
-    summed (bin o.Mul (num (pos k) t) (load e0 e1) at) h = absurd h
-    summed (bin o.Mul (num (pos k) t) (neg e0 e1) at) h = absurd h
-    summed (bin o.Mul (num (pos k) t) (inv e0 e1) at) h = absurd h
-    summed (bin o.Mul (num (pos k) t) (cast e0 e1 e2 e3) at) h = absurd h
-    summed (bin o.Mul (num (pos k) t) (bin e0 e1 e2 e3) at) h = absurd h
-    summed (bin o.Mul (var x) (num (negsuc k) t) at) h = absurd h
+    summed (bin o.Mul (num k t) (num e0 e1) at) h = absurd h
+    summed (bin o.Mul (num k t) (truth e0 e1) at) h = absurd h
+    summed (bin o.Mul (num k t) (cell e0 e1) at) h = absurd h
+    summed (bin o.Mul (num k t) (load e0 e1) at) h = absurd h
+    summed (bin o.Mul (num k t) (neg e0 e1) at) h = absurd h
+    summed (bin o.Mul (num k t) (inv e0 e1) at) h = absurd h
+    summed (bin o.Mul (num k t) (cast e0 e1 e2 e3) at) h = absurd h
+    summed (bin o.Mul (num k t) (bin e0 e1 e2 e3) at) h = absurd h
     summed (bin o.Mul (var x) (var e0) at) h = absurd h
     summed (bin o.Mul (var x) (truth e0 e1) at) h = absurd h
     summed (bin o.Mul (var x) (cell e0 e1) at) h = absurd h

@@ -111,8 +111,8 @@ module _ (kinds : Kinds) (in_frame : Key → Bool) where
   abbrev pub IsSum : Term → Type 0
   IsSum (num i at) = Unit {0}
   IsSum (var x) = (x.kind ≡ kind.Word S64) × IsScalar x
-  IsSum (bin o.Mul (num (pos k) t) (var x) at) = (x.kind ≡ kind.Word S64) × IsScalar x
-  IsSum (bin o.Mul (var x) (num (pos k) t) at) = (x.kind ≡ kind.Word S64) × IsScalar x
+  IsSum (bin o.Mul (num k t) (var x) at) = (x.kind ≡ kind.Word S64) × IsScalar x
+  IsSum (bin o.Mul (var x) (num k t) at) = (x.kind ≡ kind.Word S64) × IsScalar x
   IsSum (bin o.Add a b at) = ((is_number a && is_number b) ≡ false) × IsSum a × IsSum b
   IsSum (bin o.Sub a (num i t) at) = (is_number a ≡ false) × IsSum a
   IsSum t = ⊥

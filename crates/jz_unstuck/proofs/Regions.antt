@@ -89,16 +89,35 @@ only_plain n = omega (arith, ints)
 only_scaled : (n : ℕ) → (pos 0 +ℤ (pos n +ℤ pos 0)) +ℤ pos 0 ≡ pos n
 only_scaled n = omega (arith, ints)
 
+-- what is read as a sum has sums as its parts
+both_some : (x y : Option Sum) → IsSome (joined x y) → IsSome x × IsSome y
+both_some (Some x) (Some y) h = (refl, refl)
+both_some (Some x) None h = absurd (cc h)
+both_some None y h = absurd (cc h)
+
+left_some : (x : Option Sum) (i : ℤ) (t : Span) → IsSome (taken x (num i t)) → IsSome x
+left_some (Some x) i t h = refl
+left_some None i t h = absurd (cc h)
+
 module _ (kinds : Kinds) (in_frame : Key → Bool) (st : State) where
-  total_is : (t : Term) → IsSum kinds in_frame t → HeldVars st t → IsTotal st t
-  total_is = summed kinds in_frame (λ t. HeldVars st t → IsTotal st t)
-      (λ i at h. record { sum = record { plain = []; scaled = []; more = i }; is = refl; total = only_more i; plain = tt; scaled = tt })
-      (λ x e i h. record { sum = record { plain = x ∷ []; scaled = []; more = pos 0 }; is = refl; total = only_plain (word_here st x); plain = (h, tt); scaled = tt })
-      (λ k t x at e i h. record { sum = record { plain = []; scaled = (x, k) ∷ []; more = pos 0 }; is = refl; total = only_scaled (k * word_here st x); plain = tt; scaled = (h, tt) })
-      (λ x k t at e i h. record { sum = record { plain = []; scaled = (x, k) ∷ []; more = pos 0 }; is = refl; total = only_scaled (k * word_here st x); plain = tt; scaled = (h, tt) })
-      (λ a b at n i j p q h. both a b at (p h.0) (q h.1))
-      (λ a i t at n j p h. less a i t at (p h))
+  total_is : (t : Term) → IsSum kinds in_frame t → HeldVars st t → IsSome (sum_in t) → IsTotal st t
+  total_is = summed kinds in_frame (λ t. HeldVars st t → IsSome (sum_in t) → IsTotal st t)
+      (λ i at h q. record { sum = record { plain = []; scaled = []; more = i }; is = refl; total = only_more i; plain = tt; scaled = tt })
+      (λ x e i h q. record { sum = record { plain = x ∷ []; scaled = []; more = pos 0 }; is = refl; total = only_plain (word_here st x); plain = (h, tt); scaled = tt })
+      (λ k t x at e i h q. scale k t x at h q)
+      (λ x k t at e i h q. scaled x k t at h q)
+      (λ a b at n i j p r h q. let d = both_some (sum_in a) (sum_in b) q in both a b at (p h.0 d.0) (r h.1 d.1))
+      (λ a i t at n j p h q. less a i t at (p h (left_some (sum_in a) i t q)))
     where
+      -- a scale below zero is read as no sum
+      scale : (k : ℤ) (t : Span) (x : Ref) (at : Span) → HasWordAt st x → IsSome (sum_in (bin o.Mul (num k t) (var x) at)) → IsTotal st (bin o.Mul (num k t) (var x) at)
+      scale (pos k) t x at h q = record { sum = record { plain = []; scaled = (x, k) ∷ []; more = pos 0 }; is = refl; total = only_scaled (k * word_here st x); plain = tt; scaled = (h, tt) }
+      scale (negsuc k) t x at h q = absurd (cc q)
+
+      scaled : (x : Ref) (k : ℤ) (t at : Span) → HasWordAt st x → IsSome (sum_in (bin o.Mul (var x) (num k t) at)) → IsTotal st (bin o.Mul (var x) (num k t) at)
+      scaled x (pos k) t at h q = record { sum = record { plain = []; scaled = (x, k) ∷ []; more = pos 0 }; is = refl; total = only_scaled (k * word_here st x); plain = tt; scaled = (h, tt) }
+      scaled x (negsuc k) t at h q = absurd (cc q)
+
       both : (a b : Term) (at : Span) → IsTotal st a → IsTotal st b → IsTotal st (bin o.Add a b at)
       both a b at x y = record {
         sum = record { plain = x.sum.plain ++ y.sum.plain; scaled = x.sum.scaled ++ y.sum.scaled; more = x.sum.more +ℤ y.sum.more };
@@ -278,10 +297,14 @@ module _ (g : Given) (kinds : Kinds) (in_frame : Key → Bool) (entry : Key → 
 
   -- ---- the address
 
+  is_sum : (k : ℕ) (u : Option Sum) → in_some_reading g s k (readings u) ≡ true → IsSome u
+  is_sum k (Some u) e = refl
+  is_sum k None e = absurd (cc e)
+
   pub bytes_there : (k : ℕ) → 0 < k → (t : Term) → IsSum kinds in_frame t → HeldVars st t → in_some_reading g s k (readings (sum_in t)) ≡ true
       → (a : ℕ) → a ≡ residue S64 (total_of st t) → (a + k ≤ 2 ^ 64) × Bytes st.memory a k
   bytes_there k one t i h e a q =
-      let T = total_is kinds in_frame st t i h in
+      let T = total_is kinds in_frame st t i h (is_sum k (sum_in t) e) in
       let r = some_reading k T.sum.plain T.sum.scaled T.sum.more T.plain T.scaled (subst (λ u. in_some_reading g s k (readings u) ≡ true) T.is e) in
       let w = r.placed.within in
       let x = entry r.placed.region.of + w.off in

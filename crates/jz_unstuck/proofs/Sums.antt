@@ -1,5 +1,5 @@
 -- The value of an index or an address, and that an address that lies in a region has valid bytes.
-use Rattle.std.proofs.Common.{◌≡◌, ℕ, ◌+◌, ◌-◌, ◌*◌, ◌%◌, ◌^◌, ◌<◌, List, [], Option, Some, None, Bool, true, false, refl, ap, sym, ◌∙◌, subst, arith, if◌then◌else◌, ℤ, pos, ◌+ℤ◌, ◌-ℤ◌}
+use Rattle.std.proofs.Common.{◌≡◌, ℕ, ◌+◌, ◌-◌, ◌*◌, ◌%◌, ◌^◌, ◌<◌, List, [], Option, Some, None, Bool, true, false, refl, ap, sym, ◌∙◌, subst, arith, if◌then◌else◌, ℤ, pos, negsuc, ◌+ℤ◌, ◌-ℤ◌}
 use Rattle.std.specs.Prelude.{◌&&◌}
 use Rattle.std.proofs.lemmas.Nat.{mul-mod_first, mul-mod_second}
 use Rattle.jz_tree.specs.Span.{Span}
@@ -73,11 +73,16 @@ HasWordAt st x = (n : ℕ) × (st.store (key_of x) ≡ Some (word S64 n)) × (n 
 pub here_is : (st : State) (x : Ref) (n : ℕ) → st.store (key_of x) ≡ Some (word S64 n) → word_here st x ≡ n
 here_is st x n e = ap number_in e
 
+-- a word times a whole number; times the word of one that is below zero
+abbrev pub scaled_by : ℤ → ℕ → ℤ
+scaled_by (pos k) n = pos (k * n)
+scaled_by (negsuc k) n = pos (residue S64 (negsuc k) * n)
+
 abbrev pub total_of : State → Term → ℤ
 total_of st (num i at) = i
 total_of st (var x) = pos (word_here st x)
-total_of st (bin o.Mul (num (pos k) t) (var x) at) = pos (k * word_here st x)
-total_of st (bin o.Mul (var x) (num (pos k) t) at) = pos (k * word_here st x)
+total_of st (bin o.Mul (num k t) (var x) at) = scaled_by k (word_here st x)
+total_of st (bin o.Mul (var x) (num k t) at) = scaled_by k (word_here st x)
 total_of st (bin o.Add a b at) = total_of st a +ℤ total_of st b
 total_of st (bin o.Sub a (num i t) at) = total_of st a -ℤ i
 total_of st t = pos 0
@@ -85,8 +90,8 @@ total_of st t = pos 0
 abbrev pub HeldVars : State → Term → Type 0
 HeldVars st (num i at) = Unit {0}
 HeldVars st (var x) = HasWordAt st x
-HeldVars st (bin o.Mul (num (pos k) t) (var x) at) = HasWordAt st x
-HeldVars st (bin o.Mul (var x) (num (pos k) t) at) = HasWordAt st x
+HeldVars st (bin o.Mul (num k t) (var x) at) = HasWordAt st x
+HeldVars st (bin o.Mul (var x) (num k t) at) = HasWordAt st x
 HeldVars st (bin o.Add a b at) = HeldVars st a × HeldVars st b
 HeldVars st (bin o.Sub a (num i t) at) = HeldVars st a
 HeldVars st t = Unit {0}
@@ -135,16 +140,18 @@ take_value at i j k (word z a) n p = (p.0, difference_words z a (residue z j) i 
 take_value at i j k (integer a) n p = absurd (cc (sym p.0 ∙ n))
 take_value at i j k (boolean a) n p = absurd p
 
-scale_value : (at : Span) (k n : ℕ) → Runs (StandsFor (pos (k * n)) false) (combined o.Mul at (integer (pos k)) (word S64 n))
+scale_value : (at : Span) (k : ℤ) (n : ℕ) → Runs (StandsFor (scaled_by k n) false) (combined o.Mul at (integer k) (word S64 n))
 unfolding combined
-scale_value at k n = (refl, mul-mod_first k n (modulus S64))
+scale_value at (pos k) n = (refl, mul-mod_first k n (modulus S64))
+scale_value at (negsuc k) n = (refl, refl)
 
-scaled_value : (at : Span) (k n : ℕ) → Runs (StandsFor (pos (k * n)) false) (combined o.Mul at (word S64 n) (integer (pos k)))
+swapped : (a b : ℕ) → a * b ≡ b * a
+swapped a b = grind arith
+
+scaled_value : (at : Span) (k : ℤ) (n : ℕ) → Runs (StandsFor (scaled_by k n) false) (combined o.Mul at (word S64 n) (integer k))
 unfolding combined
-scaled_value at k n = (refl, mul-mod_second n k (modulus S64) ∙ ap (λ x. x % modulus S64) (swapped n k))
-  where
-    swapped : (a b : ℕ) → a * b ≡ b * a
-    swapped a b = grind arith
+scaled_value at (pos k) n = (refl, mul-mod_second n k (modulus S64) ∙ ap (λ x. x % modulus S64) (swapped n k))
+scaled_value at (negsuc k) n = (refl, ap (λ x. x % modulus S64) (swapped n (residue S64 (negsuc k))))
 
 -- the same of operations where a word of 64 bits is wanted
 add_binary : (at : Span) (i j : ℤ) (k l : Bool) (x y : Value) → (k && l) ≡ false → StandsFor i k x → StandsFor j l y → Runs (StandsFor (i +ℤ j) (k && l)) (binary o.Add at (Some S64) x y)
@@ -155,11 +162,11 @@ take_binary : (at : Span) (i j : ℤ) (k : Bool) (x : Value) → k ≡ false →
 unfolding binary
 take_binary at i j k x n p = take_value at i j k x n p
 
-scale_binary : (at : Span) (k n : ℕ) → Runs (StandsFor (pos (k * n)) false) (binary o.Mul at (Some S64) (integer (pos k)) (word S64 n))
+scale_binary : (at : Span) (k : ℤ) (n : ℕ) → Runs (StandsFor (scaled_by k n) false) (binary o.Mul at (Some S64) (integer k) (word S64 n))
 unfolding binary
 scale_binary at k n = scale_value at k n
 
-scaled_binary : (at : Span) (k n : ℕ) → Runs (StandsFor (pos (k * n)) false) (binary o.Mul at (Some S64) (word S64 n) (integer (pos k)))
+scaled_binary : (at : Span) (k : ℤ) (n : ℕ) → Runs (StandsFor (scaled_by k n) false) (binary o.Mul at (Some S64) (word S64 n) (integer k))
 unfolding binary
 scaled_binary at k n = scaled_value at k n
 
@@ -196,14 +203,14 @@ module _ (g : Given) (kinds : Kinds) (in_frame : Key → Bool) (entry : Key → 
   pub totals : (t : Term) → IsSum kinds in_frame t → Totals t
   totals = summed kinds in_frame Totals (λ i at h. (refl, refl))
       (λ x e i h. runs_all (λ v. v ≡ word S64 (word_here st x)) (StandsFor (pos (word_here st x)) false) ((means (var x)).run (Some S64) st) (λ v q. as_total x h v q) (variable_runs x (Some S64) h))
-      (λ k t x at e i h. runs_then (λ y. y ≡ integer (pos k)) (StandsFor (pos (k * word_here st x)) false) (went [] (integer (pos k))) (with_right o.Mul (means (var x)).run at (Some S64) st) refl (λ y q.
-      subst (λ u. Runs (StandsFor (pos (k * word_here st x)) false) (with_right o.Mul (means (var x)).run at (Some S64) st u)) (sym q)
-      (runs_then (λ y. y ≡ word S64 (word_here st x)) (StandsFor (pos (k * word_here st x)) false) ((means (var x)).run (Some S64) st) (λ y. binary o.Mul at (Some S64) (integer (pos k)) y) (variable_runs x (Some S64) h) (λ y q.
-      subst (λ u. Runs (StandsFor (pos (k * word_here st x)) false) (binary o.Mul at (Some S64) (integer (pos k)) u)) (sym q) (scale_binary at k (word_here st x))))))
-      (λ x k t at e i h. runs_then (λ y. y ≡ word S64 (word_here st x)) (StandsFor (pos (k * word_here st x)) false) ((means (var x)).run (Some S64) st) (with_right o.Mul (means (num (pos k) t)).run at (Some S64) st) (variable_runs x (Some S64) h) (λ y q.
-      subst (λ u. Runs (StandsFor (pos (k * word_here st x)) false) (with_right o.Mul (means (num (pos k) t)).run at (Some S64) st u)) (sym q)
-      (runs_then (λ y. y ≡ integer (pos k)) (StandsFor (pos (k * word_here st x)) false) (went [] (integer (pos k))) (λ y. binary o.Mul at (Some S64) (word S64 (word_here st x)) y) refl (λ y q.
-      subst (λ u. Runs (StandsFor (pos (k * word_here st x)) false) (binary o.Mul at (Some S64) (word S64 (word_here st x)) u)) (sym q) (scaled_binary at k (word_here st x))))))
+      (λ k t x at e i h. runs_then (λ y. y ≡ integer k) (StandsFor (scaled_by k (word_here st x)) false) (went [] (integer k)) (with_right o.Mul (means (var x)).run at (Some S64) st) refl (λ y q.
+      subst (λ u. Runs (StandsFor (scaled_by k (word_here st x)) false) (with_right o.Mul (means (var x)).run at (Some S64) st u)) (sym q)
+      (runs_then (λ y. y ≡ word S64 (word_here st x)) (StandsFor (scaled_by k (word_here st x)) false) ((means (var x)).run (Some S64) st) (λ y. binary o.Mul at (Some S64) (integer k) y) (variable_runs x (Some S64) h) (λ y q.
+      subst (λ u. Runs (StandsFor (scaled_by k (word_here st x)) false) (binary o.Mul at (Some S64) (integer k) u)) (sym q) (scale_binary at k (word_here st x))))))
+      (λ x k t at e i h. runs_then (λ y. y ≡ word S64 (word_here st x)) (StandsFor (scaled_by k (word_here st x)) false) ((means (var x)).run (Some S64) st) (with_right o.Mul (means (num k t)).run at (Some S64) st) (variable_runs x (Some S64) h) (λ y q.
+      subst (λ u. Runs (StandsFor (scaled_by k (word_here st x)) false) (with_right o.Mul (means (num k t)).run at (Some S64) st u)) (sym q)
+      (runs_then (λ y. y ≡ integer k) (StandsFor (scaled_by k (word_here st x)) false) (went [] (integer k)) (λ y. binary o.Mul at (Some S64) (word S64 (word_here st x)) y) refl (λ y q.
+      subst (λ u. Runs (StandsFor (scaled_by k (word_here st x)) false) (binary o.Mul at (Some S64) (word S64 (word_here st x)) u)) (sym q) (scaled_binary at k (word_here st x))))))
       (λ a b at n i j p r h. runs_then (StandsFor (total_of st a) (is_number a)) (StandsFor (total_of st a +ℤ total_of st b) (is_number a && is_number b)) ((means a).run (Some S64) st) (with_right o.Add (means b).run at (Some S64) st) (p h.0) (λ x hx.
       runs_then (StandsFor (total_of st b) (is_number b)) (StandsFor (total_of st a +ℤ total_of st b) (is_number a && is_number b)) ((means b).run (Some S64) st) (λ y. binary o.Add at (Some S64) x y) (r h.1) (λ y hy.
       add_binary at (total_of st a) (total_of st b) (is_number a) (is_number b) x y n hx hy)))

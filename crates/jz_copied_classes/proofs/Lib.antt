@@ -1,0 +1,4 @@
+pub mod Copied
+pub mod RowedTrees
+pub mod Passed
+pub mod Copies

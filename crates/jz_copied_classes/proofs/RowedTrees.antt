@@ -1,0 +1,257 @@
+-- The tree of a function's body, with the bodies that it calls: each statement that needs a row has the
+-- classes of one, and so have the copies of a call.
+use Rattle.std.proofs.Common.{◌≡◌, ℕ, List, [], ◌∷◌, Option, Some, None, true, false, not, map, bytes_eq, refl, sym, ap, subst}
+use Rattle.std.specs.Prelude.{All, Contains, is_some, option_map, slice_index_or, ⊤}
+use Rattle.std.specs.List.{zip}
+use Rattle.std.proofs.lemmas.Bool.{false≢true}
+use Rattle.std.proofs.lemmas.List.Elements.{All-head, All-tail, All-contains, All-contains_itself}
+use Rattle.jz_tree.specs.Span.{Span}
+use Rattle.jz_tree.specs.Spellings.{spelled}
+use Rattle.jz_tree.specs.declared.expr.BinOp.{BinOp}
+use Rattle.jz_tree.specs.declared.expr.Expr.{Expr}
+use Rattle.jz_tree.specs.declared.stmt.Lval.{Lval}
+use Rattle.jz_tree.specs.declared.stmt.Rhs.{Rhs}
+use Rattle.jz_tree.specs.declared.stmt.Rhs.TheVariants as rhs
+use Rattle.jz_tree.specs.declared.stmt.Stmt.{Stmt}
+use Rattle.jz_tree.specs.declared.stmt.StmtKind.{StmtKind}
+use Rattle.jz_tree.specs.declared.stmt.StmtKind.TheOpen.{StmtKind-F, Stmt-F}
+use Rattle.jz_tree.specs.declared.stmt.StmtKind.TheViews.{out-StmtKind, out-roll-StmtKind, roll-Stmt, roll-StmtKind}
+use Rattle.jz_tree.specs.declared.stmt.StmtKind.TheFolds.{fold-StmtKind, fold-roll-Stmt, fold-roll-StmtKind, ind-Stmt, map-Stmt, map-StmtKind}
+use Rattle.jz_tree.specs.declared.intrinsic.Instance.{Instance}
+use Rattle.jz_tree.specs.declared.program.Fun.{Fun}
+use Rattle.jz_tree.specs.declared.program.Program.{Program}
+use Rattle.jz_type_names.specs.Scopes.{function_named}
+use Rattle.jz_type_names.specs.Parts.{Layer, layer_of, called_by, nested_statements, nested_step, statements_in, statements_of}
+use Rattle.jz_type_names.proofs.NestedLaws.{in_kind, pair, pairs, opened, in_stmt}
+use Rattle.jz_type_rows.specs.Callees.{entered_by, left_by, callee_of, callee_by}
+use Rattle.jz_type_rows.specs.Matching.{needs_row}
+use Rattle.jz_select.specs.declared.shape.Shape.TheVariants as shapes
+use Rattle.jz_select.specs.Places.{Answers}
+use Rattle.jz_select.specs.Shapes.{whichever, is_test, conditional, kind_layer}
+use Rattle.jz_types.specs.TypedPrograms.{IsTypedProgram}
+use Rattle.jz_types.specs.Guarantees.{Enters, Leaves, HasCopies}
+use Rattle.jz_runs.specs.Trees.{done, op, quiet, choose, loop, each, call}
+use Rattle.jz_meaning.specs.Statements.{assign, instruction, Block}
+use Rattle.jz_meaning.specs.Runs.{Callees, in_order, call_tree, assign_tree, kind_tree, statement_tree, block, body_of}
+use Rattle.jz_run_laws.specs.Depths.{HasNoRecursion, with_own_tree, callees_in}
+use Rattle.jz_run_laws.proofs.Parts.{there_is}
+use Rattle.jz_run_laws.proofs.Uncut.{whole_law, typed_law}
+use Rattle.jz_row_laws.proofs.Copied.{Matches, selected_matches, no_free}
+use Rattle.jz_texts.specs.Texts.{IsText}
+use Rattle.jz_texts.specs.Declared.{IsFunction}
+use Rattle.jz_texts.proofs.Lists.{parted}
+use Rattle.jz_bodies.proofs.Trees.{found}
+use Rattle.jz_bodies.proofs.Whole as whole
+use Rattle.jz_bodies.proofs.Whole.{all_known}
+use Rattle.jz_typed_runs.specs.TypedTexts.{IsTypedText}
+use Rattle.jz_stuck_runs.specs.Sizes.{gives_byte, HasOneSize}
+use Rattle.jz_stuck_runs.proofs.Sizes.{size_law}
+use Rattle.jz_row_classes.specs.RowClasses.{HasSize, IsClassedTest}
+use Rattle.jz_row_classes.proofs.Statements.{value_classed, instruction_classed, branch_classed, loop_classed}
+use Rattle.jz_kept_rows.specs.KeptRows.{IsRowed}
+
+some_there : {A : Type 0} (o : Option A) → is_some o ≡ true → (x : A) × (o ≡ Some x)
+some_there None e = absurd (false≢true e)
+some_there (Some x) e = (x, refl)
+
+-- ---- what has no row
+abbrev NoValue : Rhs → Type 0
+NoValue (rhs.Value e) = ⊥
+NoValue (rhs.Call n args at) = ⊤
+NoValue (rhs.Intrinsic n args at) = ⊤
+
+free_conditional : (to : List Lval) (o : Option BinOp) (r : Rhs) (c : Expr) → NoValue r → conditional to o r c ≡ shapes.Free
+free_conditional [] o r c n = refl
+free_conditional (d ∷ []) None (rhs.Value e) c n = absurd n
+free_conditional (d ∷ []) None (rhs.Call m args at) c n = refl
+free_conditional (d ∷ []) None (rhs.Intrinsic m args at) c n = refl
+free_conditional (d ∷ []) (Some o) r c n = refl
+free_conditional (d ∷ b ∷ ds) o r c n = refl
+
+no_conditional : (to : List Lval) (o : Option BinOp) (r : Rhs) (c : Expr) → NoValue r → Matches (conditional to o r c) → ⊥
+no_conditional to o r c n m = no_free (subst Matches (free_conditional to o r c n) m)
+
+-- a parameter becomes an argument, and a left side what is given back
+pub record PassesRowed (g : Fun) (to : List Lval) (args : List Expr) : Type 0 where
+  pub entered : All Enters (zip (map entered_by g.params) args)
+  pub given : All Leaves (zip (map left_by g.result) to)
+
+module _ (q : Program) where
+  -- a body of which each call holds the body of a function of the program
+  abbrev HoldsRowed : Block → Type 0
+  HoldsRowed done = ⊤
+  HoldsRowed (op o r) = IsRowed o × HoldsRowed r
+  HoldsRowed (quiet o r) = HoldsRowed r
+  HoldsRowed (choose p a b r) = IsClassedTest p × HoldsRowed a × HoldsRowed b × HoldsRowed r
+  HoldsRowed (loop h w p b r) = IsClassedTest p × HoldsRowed w × HoldsRowed b × HoldsRowed r
+  HoldsRowed (each i b r) = HoldsRowed b × HoldsRowed r
+  HoldsRowed (call c b r) = Contains q.funs c.callee × (b ≡ body_of q c.callee) × PassesRowed c.callee c.to c.args × HoldsRowed r
+
+  -- the same down into the bodies
+  abbrev pub IsRowedTree : Block → Type 0
+  IsRowedTree done = ⊤
+  IsRowedTree (op o r) = IsRowed o × IsRowedTree r
+  IsRowedTree (quiet o r) = IsRowedTree r
+  IsRowedTree (choose p a b r) = IsClassedTest p × IsRowedTree a × IsRowedTree b × IsRowedTree r
+  IsRowedTree (loop h w p b r) = IsClassedTest p × IsRowedTree w × IsRowedTree b × IsRowedTree r
+  IsRowedTree (each i b r) = IsRowedTree b × IsRowedTree r
+  IsRowedTree (call c b r) = Contains q.funs c.callee × PassesRowed c.callee c.to c.args × IsRowedTree b × IsRowedTree r
+
+  abbrev Sized : List Lval → List ℕ → List Expr → Type 0
+  Sized to n args = (i : Instance) → spelled n ≡ Some i → gives_byte i.name ≡ false → HasSize i to args
+
+  -- what rows say of a statement, without those that stand in it
+  pub record IsSaid (x : Layer) : Type 0 where
+    pub row : needs_row x ≡ true → (answers : Answers) × Matches (kind_layer (whichever answers) x)
+    pub copies : HasCopies (callee_by q.funs x) x
+    pub sized : (to : List Lval) (n : List ℕ) (args : List Expr) (at : Span) → x ≡ StmtKind-F.Assign to None (rhs.Intrinsic n args at) None → Sized to n args
+    pub called : All (IsFunction q) (called_by x)
+
+  abbrev callees : Callees
+  callees = callees_in q
+
+  abbrev Said : Stmt → Type 0
+  Said s = IsSaid (layer_of s)
+
+  abbrev Before : (Block → Block) → Type 0
+  Before g = (r : Block) → HoldsRowed r → HoldsRowed (g r)
+
+  abbrev kind_of : StmtKind → Span → Block → Block
+  kind_of = fold-StmtKind _ _ (kind_tree callees) (λ s. s.kind s.span)
+
+  abbrev StmtLaw : Stmt → Type 0
+  StmtLaw s = All Said (statements_in s) → Before (statement_tree callees s)
+
+  abbrev KindLaw : StmtKind → Type 0
+  KindLaw k = All Said (in_kind k) → IsSaid (out-StmtKind k) → (at : Span) → Before (kind_of k at)
+
+  abbrev Parts : Type 0
+  Parts = StmtKind-F ((k : StmtKind) × KindLaw k) ((s : Stmt) × StmtLaw s)
+
+  abbrev bare : Parts → StmtKind-F StmtKind Stmt
+  bare y = map-StmtKind _ _ _ _ (λ e. e.0) (λ e. e.0) y
+
+  abbrev firsts : List ((s : Stmt) × StmtLaw s) → List Stmt
+  firsts ss = map (λ e. e.0) ss
+
+  abbrev mapped : Parts → StmtKind-F (Span → Block → Block) (Block → Block)
+  mapped y = map-StmtKind _ _ (Span → Block → Block) (Block → Block) kind_of (statement_tree callees) (bare y)
+
+  rows : (ss : List ((s : Stmt) × StmtLaw s)) → All Said (nested_statements (map pair (firsts ss))) → Before (in_order (map (statement_tree callees) (firsts ss)))
+  rows [] h r b = b
+  rows (s ∷ ss) h r b =
+      let p = parted Said (statements_in s.0) (nested_statements (map pair (firsts ss))) h in
+      s.1 p.0 (in_order (map (statement_tree callees) (firsts ss)) r) (rows ss p.1 r b)
+
+  -- ---- what is said, taken apart
+  value_rowed : (to : List Lval) (o : Option BinOp) (e : Expr) (c : Option Expr) (at : Span) → IsSaid (StmtKind-F.Assign to o (rhs.Value e) c) → IsRowed (assign to o e c at)
+  value_rowed to o e c at s = λ n. (let m = s.row (ap not n) in value_classed m.0 to o e c m.1)
+
+  instruction_rowed : (to : List Lval) (n : List ℕ) (args : List Expr) (at : Span) → IsSaid (StmtKind-F.Assign to None (rhs.Intrinsic n args at) None) → IsRowed (instruction to n args at)
+  instruction_rowed to n args at s = let m = s.row refl in instruction_classed m.0 to n args at (s.sized to n args at refl) m.1
+
+  branch_rowed : (c : Expr) (a b : List Stmt) → IsSaid (StmtKind-F.If c a b) → is_test c ≡ true
+  branch_rowed c a b s = let m = s.row refl in branch_classed m.0 c a b m.1
+
+  loop_rowed : (p : List Stmt) (c : Expr) (b : Option (List Stmt)) → IsSaid (StmtKind-F.While p c b) → is_test c ≡ true
+  loop_rowed p c b s = let m = s.row refl in loop_classed m.0 p c b m.1
+
+  passes : (n : List ℕ) (g : Fun) (to : List Lval) (args : List Expr) (at : Span) → function_named n q.funs ≡ Some g → IsSaid (StmtKind-F.Assign to None (rhs.Call n args at) None) → PassesRowed g to args
+  passes n g to args at e s =
+      let k = subst (λ x. HasCopies (option_map callee_of x) (StmtKind-F.Assign to None (rhs.Call n args at) None)) e s.copies in
+      record { entered = k.0; given = k.1 }
+
+  -- ---- assignments
+  within : (n : List ℕ) (g : Fun) → function_named n q.funs ≡ Some g → Contains q.funs g
+  within n g e = there_is (Contains q.funs) (function_named n q.funs) g e (found (Contains q.funs) (λ h. bytes_eq n h.name) q.funs (All-contains_itself q.funs))
+
+  called : (to : List Lval) (n : List ℕ) (args : List Expr) (place at : Span) → IsSaid (StmtKind-F.Assign to None (rhs.Call n args place) None) → Before (call_tree (callees n) to None args None place)
+  called to n args place at s r b =
+      let g = some_there (function_named n q.funs) (All-head (IsFunction q) (n, place) [] s.called) in
+      subst (λ x. HoldsRowed (call_tree x to None args None place r)) (sym (ap (with_own_tree q) g.1)) (within n g.0 g.1, refl, passes n g.0 to args place g.1 s, b)
+
+  assigned : (to : List Lval) (o : Option BinOp) (from : Rhs) (c : Option Expr) (at : Span) → IsSaid (StmtKind-F.Assign to o from c) → Before (assign_tree callees to o from c at)
+  assigned to o (rhs.Value e) c at s r b = (value_rowed to o e c at s, b)
+  assigned to None (rhs.Call n args place) None at s r b = called to n args place at s r b
+  assigned to None (rhs.Call n args place) (Some c) at s r b = absurd (no_conditional to None (rhs.Call n args place) c tt (s.row refl).1)
+  assigned to (Some o) (rhs.Call n args place) None at s r b = absurd (no_free (s.row refl).1)
+  assigned to (Some o) (rhs.Call n args place) (Some c) at s r b = absurd (no_conditional to (Some o) (rhs.Call n args place) c tt (s.row refl).1)
+  assigned to None (rhs.Intrinsic n args place) None at s r b = (instruction_rowed to n args place s, b)
+  assigned to None (rhs.Intrinsic n args place) (Some c) at s r b = absurd (no_conditional to None (rhs.Intrinsic n args place) c tt (s.row refl).1)
+  assigned to (Some o) (rhs.Intrinsic n args place) None at s r b = absurd (no_free (s.row refl).1)
+  assigned to (Some o) (rhs.Intrinsic n args place) (Some c) at s r b = absurd (no_conditional to (Some o) (rhs.Intrinsic n args place) c tt (s.row refl).1)
+
+  -- ---- layers
+  layer_law : (y : Parts) → All Said (nested_step (pairs (bare y))) → IsSaid (bare y) → (at : Span) → Before (kind_tree callees (mapped y) at)
+  unfolding pairs
+  layer_law (StmtKind-F.Assign to o from c) h d at r b = assigned to o from c at d r b
+  layer_law (StmtKind-F.If c y z) h d at r b =
+      let p = parted Said (nested_statements (map pair (firsts y))) (nested_statements (map pair (firsts z))) h in
+      (branch_rowed c (firsts y) (firsts z) d, rows y p.0 done tt, rows z p.1 done tt, b)
+  layer_law (StmtKind-F.While p c None) h d at r b = (loop_rowed (firsts p) c None d, rows p h done tt, tt, b)
+  layer_law (StmtKind-F.While p c (Some y)) h d at r b =
+      let w = parted Said (nested_statements (map pair (firsts p))) (nested_statements (map pair (firsts y))) h in
+      (loop_rowed (firsts p) c (Some (firsts y)) d, rows p w.0 done tt, rows y w.1 done tt, b)
+  layer_law (StmtKind-F.For i from down to y) h d at r b = (rows y h done tt, b)
+  layer_law (StmtKind-F.Mark xs) h d at r b = b
+
+  kind_case : (y : Parts) → KindLaw (roll-StmtKind (bare y))
+  kind_case y h d at =
+      let z = bare y in
+      subst (λ (g : Span → Block → Block). Before (g at)) (sym (fold-roll-StmtKind _ _ (kind_tree callees) (λ s. s.kind s.span) z))
+      (layer_law y (subst (All Said) (opened z) h) (subst IsSaid (out-roll-StmtKind z) d) at)
+
+  stmt_case : (y : Stmt-F ((k : StmtKind) × KindLaw k) ((s : Stmt) × StmtLaw s)) → StmtLaw (roll-Stmt (map-Stmt _ _ StmtKind Stmt (λ e. e.0) (λ e. e.0) y))
+  stmt_case y h =
+      let z = map-Stmt _ _ StmtKind Stmt (λ e. e.0) (λ e. e.0) y in
+      let k : All Said (roll-Stmt z ∷ in_kind z.kind) = subst (All Said) (in_stmt z) h in
+      subst Before (sym (fold-roll-Stmt _ _ (kind_tree callees) (λ s. s.kind s.span) z))
+      (y.kind.1 (All-tail Said (roll-Stmt z) (in_kind z.kind) k) (All-head Said (roll-Stmt z) (in_kind z.kind) k) y.span)
+
+  statement_holds : (s : Stmt) → StmtLaw s
+  statement_holds =
+      ind-Stmt KindLaw StmtLaw
+      (λ z y is. subst (λ z. KindLaw (roll-StmtKind z)) is (kind_case y))
+      (λ z y is. subst (λ z. StmtLaw (roll-Stmt z)) is (stmt_case y))
+
+  block_holds : (ss : List Stmt) → All Said (statements_of ss) → Before (block callees ss)
+  block_holds [] h r b = b
+  block_holds (s ∷ ss) h r b =
+      let p = parted Said (statements_in s) (statements_of ss) h in
+      statement_holds s p.0 (block callees ss r) (block_holds ss p.1 r b)
+
+  body_holds : (f : Fun) → HasNoRecursion q → All Said (statements_of f.body) → HoldsRowed (body_of q f)
+  body_holds f never k = subst HoldsRowed (sym (whole_law q f never)) (block_holds f.body k done tt)
+
+-- ---- down the tree, into the bodies that it holds
+module _ (q : Program) (h : IsTypedProgram q) (text : IsText q) where
+  there : IsTypedText q
+  there = record { typed = h; text = text }
+
+  has_size : (i : Instance) (to : List Lval) (args : List Expr) → HasOneSize i to args → HasSize i to args
+  has_size i to args s = (s.size, s.found)
+
+  said_of : (f : Fun) → Contains q.funs f → All (λ s. IsSaid q (layer_of s)) (statements_of f.body)
+  said_of f has =
+      let k = All-contains (whole.IsKnown q) q.funs f (all_known q h text) has in
+      λ i s l. record {
+        row = λ e. (let r = (k.rows i s l).0 e in selected_matches (slice_index_or (statements_of f.body) i s).kind r.0 r.1);
+        copies = (k.rows i s l).1;
+        sized = λ to n args at e j g b. has_size j to args (size_law q f (slice_index_or (statements_of f.body) i s) to n args at j there has (All-contains_itself (statements_of f.body) i s l) e g b);
+        called = k.names.called i s l;
+      }
+
+  holds : (f : Fun) → Contains q.funs f → HoldsRowed q (body_of q f)
+  holds f has = body_holds q f (typed_law q h) (said_of f has)
+
+  each_body : (t : Block) → HoldsRowed q t → IsRowedTree q t
+  each_body done k = tt
+  each_body (op o r) k = (k.0, each_body r k.1)
+  each_body (quiet o r) k = each_body r k
+  each_body (choose p a b r) k = (k.0, each_body a k.1, each_body b k.2, each_body r k.3)
+  each_body (loop w p t b r) k = (k.0, each_body p k.1, each_body b k.2, each_body r k.3)
+  each_body (each i b r) k = (each_body b k.0, each_body r k.1)
+  each_body (call c b r) k = (k.0, k.2, each_body b (subst (HoldsRowed q) (sym k.1) (holds c.callee k.0)), each_body r k.3)
+
+  pub tree_rowed : (f : Fun) → Contains q.funs f → IsRowedTree q (body_of q f)
+  tree_rowed f has = each_body (body_of q f) (holds f has)

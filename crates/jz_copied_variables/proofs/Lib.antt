@@ -1,0 +1,7 @@
+pub mod Integers
+pub mod Over
+pub mod Seen
+pub mod Legal
+pub mod Source
+pub mod Layers
+pub mod Copied

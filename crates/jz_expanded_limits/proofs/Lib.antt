@@ -1,0 +1,10 @@
+pub mod CopiedLooks
+pub mod CopiedConstants
+pub mod Known
+pub mod CopiedParts
+pub mod CopiedSets
+pub mod CopiedArguments
+pub mod CopiedTests
+pub mod CopiedWalks
+pub mod Scaled
+pub mod Whole

@@ -1,0 +1,82 @@
+-- Limits through the three passes of an expansion.
+use Rattle.std.proofs.Common.{ℕ, true, refl, sym, subst, arith, inl}
+use Rattle.std.specs.Prelude.{◌≡◌, ⊤, Contains}
+use Rattle.std.proofs.lemmas.List.Elements.{All-contains}
+use Rattle.jz_tree.specs.declared.program.Fun.{Fun}
+use Rattle.jz_tree.specs.declared.program.Program.{Program}
+use Rattle.jz_type_names.specs.Scopes.{variables_of}
+use Rattle.jz_type_rows.specs.Exports.{is_exported}
+use Rattle.jz_types.specs.TypedPrograms.{IsTypedProgram}
+use Rattle.jz_texts.specs.Texts.{IsText}
+use Rattle.jz_texts.proofs.Declaring.{declarations_law}
+use Rattle.jz_runs.specs.Trees.{done}
+use Rattle.jz_meaning.specs.Runs.{body_of}
+use Rattle.jz_meaning.specs.Statements.{Block}
+use Rattle.jz_typed_runs.specs.TypedTexts.{IsTypedText}
+use Rattle.jz_change.specs.Changes.{Change}
+use Rattle.jz_pass.specs.Unrolling.{Unrolls}
+use Rattle.jz_pass.specs.Rewriting.{Rewrites}
+use Rattle.jz_inline.specs.Functions.{own_names, inlined_body}
+use Rattle.jz_inline.proofs.Made.{inlined_is}
+use Rattle.jz_inlining.specs.Inlined.{inlined_function}
+use Rattle.jz_limits.specs.Values.{no_numbers}
+use Rattle.jz_limits.specs.Walks.{walk}
+use Rattle.jz_unroll.specs.Values.{InlineNames}
+use Rattle.jz_unroll.specs.Unrolling.{unrolling}
+use Rattle.jz_unrolling_values.specs.InlineNames.{inline_names}
+use Rattle.jz_unrolling_laws.specs.CalledBodies.{inlines_of, IsNamed}
+use Rattle.jz_copied_values.proofs.CopiedNumbers.{IsCopy}
+use Rattle.jz_walked_laws.proofs.Ones.{only_ones}
+use Rattle.jz_walked_laws.proofs.Whole.{named_law, called_law}
+use Rattle.jz_unrollable.proofs.FrameNames.{frame_names}
+use Rattle.jz_arrays.specs.Arrays.{arrays}
+use Rattle.jz_scalars.specs.Functions.{function_with_scalars, scalar_change}
+use Rattle.jz_scalars.specs.Ready.{IsReady}
+use Rattle.jz_scalars.proofs.Keeping.{keeps_runs}
+use Rattle.jz_function_runs.specs.FunctionRuns.{plain_body}
+use Rattle.jz_ready.specs.CopiedKinds.{copied_kinds}
+use Rattle.jz_ready.proofs.Whole.{ready_law}
+use Rattle.jz_expansion.specs.Expansions.{IsExpansion}
+use Rattle.jz_expanded_limits.specs.WithinBodies.{IsWithinBody}
+use Rattle.jz_expanded_limits.specs.ExpandedLimits.{ExpansionsAreWithin}
+use Rattle.jz_expanded_limits.proofs.Known.{Knows}
+use Rattle.jz_expanded_limits.proofs.CopiedSets.{Good}
+use Rattle.jz_expanded_limits.proofs.CopiedTests.{end_here}
+use Rattle.jz_expanded_limits.proofs.CopiedWalks.{tree_leads}
+use Rattle.jz_expanded_limits.proofs.Scaled.{scaled_within}
+
+module _ (p : Program) (f g : Fun) (k : Change) (count : ℕ) (typed : IsTypedProgram p) (text : IsText p) (has : Contains p.funs f) (exported : is_exported f.kind ≡ true) (x : IsExpansion p f g k count) where
+  whole : IsTypedText p
+  whole = record { typed = typed; text = text }
+
+  abbrev names : InlineNames
+  names = inline_names (variables_of (inlined_function p f))
+
+  copied : Unrolls (unrolling names) (inlined_body p f) no_numbers done (plain_body x.unrolled) x.body.behind x.rounds
+  copied = subst (λ (t : Block). Unrolls (unrolling names) t no_numbers done (plain_body x.unrolled) x.body.behind x.rounds) (sym (inlined_is p f)) x.body.body
+
+  rounds_good : Good (plain_body x.unrolled)
+  rounds_good =
+      let own = frame_names p f (declarations_law p typed text) text has in
+      let copy : IsCopy names (inlines_of f) own_names 0 = record { named = own.0; place = λ n. inl refl } in
+      let named = All-contains (λ h. IsNamed (inlines_of h) (body_of p h)) p.funs f (named_law p whole) has in
+      let known : Knows names (inlines_of f) own_names no_numbers no_numbers = record { less = λ n z q. q; only = λ n c out. refl; inline = λ n c out. refl } in
+      let made = tree_leads names (λ n. ⊤) (body_of p f) (inlines_of f) own_names 0 1 no_numbers no_numbers done done (plain_body x.unrolled) x.body.behind x.rounds copy (omega arith) own.1 named
+      (called_law p f whole has exported x.within) (only_ones (walk (body_of p f) no_numbers).steps x.within.1.none) known
+      (λ k2 u d ends more. end_here names (inlines_of f) own_names 0 copy (λ n. ⊤) k2 x.body.behind done u d tt more) copied in
+      made.1 tt
+
+  ready : IsReady (copied_kinds p f) (plain_body x.unrolled)
+  ready = ready_law p f names no_numbers x.body.behind (plain_body x.unrolled) x.rounds whole has copied
+
+  rewritten : Rewrites (arrays (copied_kinds p f)) (plain_body x.unrolled) done (plain_body (function_with_scalars x.unrolled)) (scalar_change x.unrolled)
+  rewritten =
+      (keeps_runs x.unrolled (function_with_scalars x.unrolled) (scalar_change x.unrolled) (record { function = refl; change = refl }) (copied_kinds p f) ready).rewritten
+
+  within : IsWithinBody (plain_body g)
+  within =
+      subst (λ h. IsWithinBody (plain_body h)) (sym x.function)
+      (scaled_within (copied_kinds p f) (plain_body x.unrolled) (plain_body (function_with_scalars x.unrolled)) (scalar_change x.unrolled) rewritten rounds_good)
+
+pub expansions_are_within : ExpansionsAreWithin
+expansions_are_within p f g k count typed text has exported x = within p f g k count typed text has exported x

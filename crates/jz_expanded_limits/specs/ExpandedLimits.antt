@@ -1,0 +1,17 @@
+-- The expansion of an export function of a typed text is within the limits.
+use Rattle.std.specs.Prelude.{ℕ, ◌≡◌, true, Contains}
+use Rattle.jz_tree.specs.declared.program.Fun.{Fun}
+use Rattle.jz_tree.specs.declared.program.Program.{Program}
+use Rattle.jz_type_rows.specs.Exports.{is_exported}
+use Rattle.jz_types.specs.TypedPrograms.{IsTypedProgram}
+use Rattle.jz_texts.specs.Texts.{IsText}
+use Rattle.jz_change.specs.Changes.{Change}
+use Rattle.jz_function_runs.specs.FunctionRuns.{plain_body}
+use Rattle.jz_expansion.specs.Expansions.{IsExpansion}
+use Rattle.jz_expanded_limits.specs.WithinBodies.{IsWithinBody}
+
+abbrev pub ExpansionsAreWithin : Type 0
+ExpansionsAreWithin =
+    (p : Program) (f g : Fun) (k : Change) (count : ℕ)
+    → IsTypedProgram p → IsText p → Contains p.funs f → is_exported f.kind ≡ true
+    → IsExpansion p f g k count → IsWithinBody (plain_body g)

@@ -1,0 +1,2 @@
+pub mod WithinBodies
+pub mod ExpandedLimits

@@ -1,0 +1,4 @@
+pub mod Forms
+pub mod Matching
+pub mod Pairs
+pub mod Instructions

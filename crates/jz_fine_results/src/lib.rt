@@ -1,0 +1,7 @@
+//! Typed assignments of two results and typed instructions that the expansion leaves are of the forms
+//! that facts and conditions ask. There is no code here.
+#![tactic(auto)]
+
+mod laws;
+
+pub use laws::results_are_fine;

@@ -1,0 +1,4 @@
+pub mod Keys
+pub mod Inlined
+pub mod Valued
+pub mod Numbers

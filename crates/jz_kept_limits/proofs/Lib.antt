@@ -1,0 +1,11 @@
+pub mod Passed
+pub mod ValuedParts
+pub mod SizeLemmas
+pub mod Kept
+pub mod Scalars
+pub mod Compared
+pub mod Firsts
+pub mod Turned
+pub mod Lefts
+pub mod Operations
+pub mod Statements

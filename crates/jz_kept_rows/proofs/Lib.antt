@@ -1,0 +1,4 @@
+pub mod Values
+pub mod Closed
+pub mod Operations
+pub mod Trees

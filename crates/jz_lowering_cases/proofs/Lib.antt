@@ -1,0 +1,4 @@
+pub mod Parts
+pub mod Operands
+pub mod Rows
+pub mod Whole

@@ -1,0 +1,7 @@
+pub mod Clear
+pub mod Variables
+pub mod Passes
+pub mod Ranges
+pub mod Final
+pub mod Within
+pub mod Whole

@@ -1,0 +1,2 @@
+pub mod ExpandedBodies
+pub mod ReadyExpansions

@@ -1,0 +1,4 @@
+pub mod ValueRows
+pub mod PairRows
+pub mod InstructionRows
+pub mod Statements

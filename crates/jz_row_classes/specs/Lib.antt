@@ -1,0 +1,2 @@
+pub mod RowClasses
+pub mod RowLaws
