@@ -1,4 +1,4 @@
-//! The command `ct`: whether the export functions of a text are constant time, with the answers that
+//! The command `ct`: whether the export functions of a text are constant time, with answers that
 //! the rules give by hand.
 
 use crate::tests::{Row, answer_rows};

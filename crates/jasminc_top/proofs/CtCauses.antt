@@ -43,7 +43,7 @@ early (refused.Unread (unread.Lex fault)) = omega arith
 early (refused.Unread (unread.Parse fault)) = omega arith
 early (refused.Unread (unread.Typing fault)) = omega arith
 early (refused.Limit l) = omega arith
-early (refused.Alarm a) = omega arith
+early (refused.Breach b) = omega arith
 
 all_cleared : (text : List ℕ) → causes.Clear text answers.all_stages → causes.Clear text all_stages
 all_cleared text clear r lt c = clear r (early r) c

@@ -1,4 +1,4 @@
--- The lines that tell why the functions of a text are not all constant time, without their line feeds.
+-- The lines that tell why functions of a text are not constant time, without their line feeds.
 use Rattle.std.specs.Prelude.{List, ℕ}
 use Rattle.jasminc_ct.specs.declared.refused.Refused.{Refused}
 use Rattle.jasminc_ct.specs.declared.refused.Refused.TheVariants as refused

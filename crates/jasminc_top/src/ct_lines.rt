@@ -1,4 +1,4 @@
-//! The lines that tell why the functions of a text are not all constant time, without their line feeds.
+//! The lines that tell why functions of a text are not constant time, without their line feeds.
 
 ghost use Rattle.std.specs.Prelude.{◌≡◌, ◌++◌, OnOk};
 ghost use Rattle.jasminc_top.specs.CtLines.{breached_text};
