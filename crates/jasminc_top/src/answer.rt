@@ -240,10 +240,10 @@ fn ct_reply(alloc: Global, file: &str, text: &[u8]) -> Result<Reply, Failure<Ref
     ensures { IfAnswered result (After (Some (ct file.now)) text.now) }
 {
     let answer = ct_text(alloc, text);
-    let lines = as_refusal(answer, Refusal::Ct)?;
+    let constant = as_refusal(answer, Refusal::Ct)?;
     Ok(Reply {
         status: Status::Ok,
-        text: lines,
+        text: constant,
         made: Seq::new(alloc),
     })
 }
