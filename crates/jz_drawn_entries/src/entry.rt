@@ -5,7 +5,7 @@ ghost use Rattle.std.specs.Str.{bytes_eq};
 ghost use Rattle.jz_labels.specs.ConstantTime as labels;
 ghost use Rattle.jz_drawn_bodies.specs.Bodies.{entry_view};
 ghost use Rattle.jz_drawn_labels.specs.Kept.{view_of};
-ghost use Rattle.jz_breaches.specs.InnerPieces.{HasSecrets};
+ghost use Rattle.jz_drawn_entries.specs.InnerEntries.{HasSecrets};
 
 use jz_drawn_labels::{Drawing, Sheet, Table, fresh, link, put};
 use jz_secrets::Node;
@@ -77,7 +77,7 @@ fn put_secrets<'a>(
 
 /// The drawing before the first statement: one label that is secret, which all parameters have that
 /// are not public.
-pub(crate) fn entry<'a>(alloc: Global, params: &'a Seq<Param>) -> Result<Drawing<'a>, AllocError>
+pub fn entry<'a>(alloc: Global, params: &'a Seq<Param>) -> Result<Drawing<'a>, AllocError>
     ensures floor { IfOk result (λ d. d.table.floor ≡ 0) }
     ensures view { IfOk result
         (λ d. view_of d ≡ entry_view (labels.at_entry params.now)) }

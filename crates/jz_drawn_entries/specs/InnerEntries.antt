@@ -1,15 +1,10 @@
--- Whether a test is `true`, and the labels at entry.
-use Rattle.std.specs.Prelude.{◌≡◌, ℕ, Bool, false, List, if◌then◌else◌}
+-- The labels at entry.
+use Rattle.std.specs.Prelude.{◌≡◌, ℕ, List, if◌then◌else◌}
 use Rattle.jz_tree.specs.declared.program.Param.{Param}
 use Rattle.jz_meaning.specs.States.{Key}
-use Rattle.jz_terms.specs.Terms.{Term, truth}
 use Rattle.jz_labels.specs.ConstantTime.{secret_parameters, all_but}
 use Rattle.jz_drawn_labels.specs.declared.table.Table.{Table}
 use Rattle.jz_drawn_labels.specs.Kept.{nodes_of}
-
-abbrev pub is_truth : Term → Bool
-is_truth (truth b at) = b
-is_truth t = false
 
 -- the secret ones of these parameters have the label
 pub record HasSecrets (ps : List Param) (n : ℕ) (old new : Table) : Type 0 where

@@ -17,7 +17,7 @@ use Rattle.jz_drawn_bodies.specs.Bodies.{entry_node, entry_view}
 use Rattle.jz_drawn_labels.specs.declared.table.Table.{Table}
 use Rattle.jz_drawn_labels.specs.Kept.{nodes_of}
 use Rattle.jz_drawn_labels.proofs.Lefts.{same_view}
-use Rattle.jz_breaches.specs.InnerPieces.{HasSecrets}
+use Rattle.jz_drawn_entries.specs.InnerEntries.{HasSecrets}
 
 -- ---- labels of a parameter, by what is left of its annotations
 
