@@ -1,7 +1,9 @@
 //! The command `ct`: whether the export functions of a text are constant time, with answers that
 //! the rules give by hand.
 
-use crate::tests::{Row, answer_rows};
+use crate::interp_tests::{BYTE_ORDER, CARRY_CHAIN, CONDITIONAL_SWAP, EQUAL_GROUPS, QUARTER_ROUND};
+use crate::language_tests::{EXCHANGE, MIX, SUM_AND_DIFFERENCE};
+use crate::tests::{Row, SUM, answer_rows};
 use jasminc_top::Status;
 use std::test::Fail;
 
@@ -67,8 +69,103 @@ static CONSTANT: [Row; 8] = [
     },
 ];
 
+/// The routines of examples/.
+static EXAMPLES: [Row; 12] = [
+    Row {
+        words: CT,
+        text: SUM,
+        status: Status::Ok,
+        written: "ct add yes\n",
+        made: 0,
+    },
+    Row {
+        words: CT,
+        text: BYTE_ORDER,
+        status: Status::Ok,
+        written: "ct byte_order yes\n",
+        made: 0,
+    },
+    Row {
+        words: CT,
+        text: CARRY_CHAIN,
+        status: Status::Ok,
+        written: "ct add_word yes\n",
+        made: 0,
+    },
+    Row {
+        words: CT,
+        text: CONDITIONAL_SWAP,
+        status: Status::Ok,
+        written: "ct conditional_swap yes\n",
+        made: 0,
+    },
+    Row {
+        words: CT,
+        text: EQUAL_GROUPS,
+        status: Status::Ok,
+        written: "ct equal_groups yes\n",
+        made: 0,
+    },
+    Row {
+        words: CT,
+        text: EXCHANGE,
+        status: Status::Ok,
+        written: "ct exchange yes\n",
+        made: 0,
+    },
+    Row {
+        words: CT,
+        text: b"#[region=\"target: 8*len\"]\n#[region=\"source: 8*len\"]\n#[range=\"len: 0..4096\"]\n#[align=\"target: 8\"]\n#[align=\"source: 8\"]\nexport fn masked_copy(#public reg u64 target source len, #secret reg u64 flag) {\n  reg u64 i mask old new;\n  mask = -flag;\n  i = 0;\n  while (i < len) {\n    old = [target + 8*i];\n    new = [source + 8*i];\n    new ^= old;\n    new &= mask;\n    old ^= new;\n    [target + 8*i] = old;\n    i += 1;\n  }\n}\n",
+        status: Status::Ok,
+        written: "ct masked_copy yes\n",
+        made: 0,
+    },
+    Row {
+        words: CT,
+        text: b"#[region=\"table: 8*len\"]\n#[range=\"len: 0..4096\"]\n#[align=\"table: 8\"]\nexport fn masked_lookup(#public reg u64 table len, #secret reg u64 index) -> reg u64 {\n  reg u64 found word i;\n  found = 0;\n  i = 0;\n  while (i < len) {\n    word = [table + 8*i];\n    found = word if i == index;\n    i += 1;\n  }\n  return found;\n}\n",
+        status: Status::Ok,
+        written: "ct masked_lookup yes\n",
+        made: 0,
+    },
+    Row {
+        words: CT,
+        text: MIX,
+        status: Status::Ok,
+        written: "ct mix yes\n",
+        made: 0,
+    },
+    Row {
+        words: CT,
+        text: QUARTER_ROUND,
+        status: Status::Ok,
+        written: "ct quarter_round yes\n",
+        made: 0,
+    },
+    Row {
+        words: CT,
+        text: b"#[region=\"p: 8*len\"]\n#[range=\"len: 0..1024\"]\n#[align=\"p: 8\"]\nexport fn sum(#public reg u64 p len) -> reg u64 {\n  reg u64 total i;\n  total = 0;\n  i = 0;\n  while (i < len) {\n    total += [p + 8*i];\n    i += 1;\n  }\n  return total;\n}\n",
+        status: Status::Ok,
+        written: "ct sum yes\n",
+        made: 0,
+    },
+    Row {
+        words: CT,
+        text: SUM_AND_DIFFERENCE,
+        status: Status::Ok,
+        written: "ct sum_and_difference yes\n",
+        made: 0,
+    },
+];
+
 /// The first function that is not, and its first breach.
-static BREACHES: [Row; 6] = [
+static BREACHES: [Row; 7] = [
+    Row {
+        words: CT,
+        text: b"// Gives word index of a table of len words. The address that is read tells index, so `ct` refuses it;\n// masked_lookup.jazz reads all words of the table in its place.\n//\n// ./jasminc ct examples/table_lookup.jazz\n// ct table_lookup no 11:11 Address index\n#[region=\"table: 8*len\"]\n#[range=\"len: 1..4096\"]\n#[align=\"table: 8\"]\nexport fn table_lookup(#public reg u64 table len, #secret reg u64 index) -> reg u64 {\n  reg u64 found;\n  found = [table + 8*index];\n  return found;\n}\n",
+        status: Status::CtNo,
+        written: "ct table_lookup no 11:11 Address index\n",
+        made: 0,
+    },
     Row {
         words: CT,
         text: b"export fn z(#secret reg u64 s) -> reg u64 {\n  reg u64 r t;\n  r = 1; t = 0;\n  if (s == 0) { r = t; }\n  return r;\n}\n",
@@ -114,7 +211,7 @@ static BREACHES: [Row; 6] = [
 ];
 
 /// What is told before the first breach.
-static REFUSALS: [Row; 4] = [
+static REFUSALS: [Row; 5] = [
     Row {
         words: CT,
         text: b"export fn f(reg u64 x) -> reg u64 { if (x == 0) { x = 1 / 0; } return x; }\n",
@@ -127,6 +224,13 @@ static REFUSALS: [Row; 4] = [
         text: b"export fn u() -> reg u64 { reg u64 r t; r = t; return r; }\nexport fn u() { }\n",
         status: Status::Typing,
         written: "type 2 Duplicate 2:11\n",
+        made: 0,
+    },
+    Row {
+        words: &["jasminc", "ct"],
+        text: b"export fn f() { }",
+        status: Status::Usage,
+        written: "usage: jasminc COMMAND ARGS\n",
         made: 0,
     },
     Row {
@@ -148,6 +252,11 @@ static REFUSALS: [Row; 4] = [
 #[test]
 fn constant_time(rt: HostRuntime) -> Result<(), Fail> {
     answer_rows(&rt, rt.alloc(), &CONSTANT)
+}
+
+#[test]
+fn routines_of_examples(rt: HostRuntime) -> Result<(), Fail> {
+    answer_rows(&rt, rt.alloc(), &EXAMPLES)
 }
 
 #[test]
