@@ -3,7 +3,7 @@ use Rattle.std.proofs.Common.{◌≡◌}
 use Rattle.std.proofs.Math.Logic.{∥∥₁_elim}
 use Rattle.jz_change.specs.Views.{change_of}
 use Rattle.jz_safe_expansions.proofs.Whole.{safe_never, source_never}
-use Rattle.jz_safe.specs.Texts.{SafeRunsOn, SourceRunsOn}
+use Rattle.jz_safe.specs.SafeRuns.{SafeRunsOn, SourceRunsOn}
 
 one_absurd : (x y : ⊥) → x ≡ y
 one_absurd x y = absurd x

@@ -1,6 +1,6 @@
 //! What is found to be safe.
 
-ghost use Rattle.jz_safe.specs.Texts.{SafeRunsOn, SourceRunsOn};
+ghost use Rattle.jz_safe.specs.SafeRuns.{SafeRunsOn, SourceRunsOn};
 
 /// What is found to be safe is stuck on no input that meets the preconditions, however many turns
 /// are left and for whatever reason: neither the expansion nor the function of the text.

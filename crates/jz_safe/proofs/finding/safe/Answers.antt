@@ -24,6 +24,7 @@ first_alarm-requires-clause-plain c = subst (λ (g : Fun). HasNoFor (plain_block
 pub invariant_of-result : goal.invariant_of-result
 invariant_of-result c =
     record {
+      text = ∣ c.requires ∣₁;
       rule = ∣ no_alarm c.args.expanded.fun (of_stated c.args.expanded.fun c.fun-function.result.now c.in_ok-pres.pres None c.fun-function.ensures c.in_ok-pres.ensures c.in_ok-first_alarm.ensures.none) ∣₁;
     }
 
