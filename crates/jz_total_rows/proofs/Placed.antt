@@ -11,12 +11,11 @@ use Rattle.jz_tree.specs.declared.program.Fun.{Fun}
 use Rattle.jz_type_names.specs.declared.kinds.Declared.{Declared}
 use Rattle.jz_type_names.specs.declared.kinds.Kind as known
 use Rattle.jz_type_names.specs.declared.kinds.Kind.TheVariants as scope
-use Rattle.jz_type_names.specs.Kinds.{declared_of}
+use Rattle.jz_type_names.specs.Kinds.{declared_of, known_of}
 use Rattle.jz_type_names.specs.Scopes.{variables_of}
 use Rattle.jz_meaning.specs.declared.access.Kind.{Kind}
 use Rattle.jz_meaning.specs.declared.access.Kind.TheVariants as kind
 use Rattle.jz_meaning.specs.Values.{key_of, cell_key, ref_of}
-use Rattle.jz_typed_runs.proofs.KindsOf.{kind_some}
 use Rattle.jz_homes.specs.Homes.{Homes}
 use Rattle.jz_declared.specs.Declared.{AreDeclared, Held, Kept, a_flag as held_flag, a_scalar as kept_scalar, an_array as kept_array, own_key, word_at, held_as, held_by, held_for, held_of, kept_as, kept_by, kept_for, kept_of}
 use Rattle.jz_total_rows.specs.Expanded as expanded
@@ -80,40 +79,40 @@ module _ (f : Fun) (home : Homes) (n : ℕ) (x v : Var) (h : AreDeclared (held_o
   kept_at i g l e k = get_flat kept_for (variables_of f) n i x g at (subst (λ w. slice_get w i ≡ Some g) (sym e) k)
 
   -- of the same declaration
-  module _ (e : AreOneName x v) (c : (ref_of v).cell ≡ None) (d : (out-Var v).decl ≡ (out-Var x).decl) where
+  module _ (e : AreOneName x v) (c : (ref_of v).cell ≡ None) (d : known_of v ≡ known_of x) (q : (ref_of v).kind ≡ (ref_of x).kind) where
     own_is : key_of (ref_of v) ≡ own_key (ref_of x)
     own_is = same_key x v None e c
 
     declared_too : (s : Storage) (k : known.Kind) → IsDeclared v s k → IsDeclared x s k
-    declared_too s k i = ap (option_map declared_of) (sym d) ∙ i
+    declared_too s k i = sym d ∙ i
 
-    kind_too : (s : Storage) (k : Kind) → HasDecl v s → (ref_of v).kind ≡ k → (ref_of x).kind ≡ k
-    kind_too s k i m = kind_some x i.decl (sym d ∙ i.there) ∙ (sym (kind_some v i.decl i.there) ∙ m)
+    kind_too : (k : Kind) → (ref_of v).kind ≡ k → (ref_of x).kind ≡ k
+    kind_too k m = sym q ∙ m
 
     by_place : IsPlaced v → HasHome home v
     by_place (a_word z i k) =
-        let m = kind_too storage.Reg (kind.Word z) (has_decl v storage.Reg (scope.Word z) i) k in
+        let m = kind_too (kind.Word z) k in
         let g = word_at z (own_key (ref_of x)) in
         let r = held_at 0 g (g ∷ []) (held_is x storage.Reg (kind.Word z) (has_decl x storage.Reg (scope.Word z) (declared_too storage.Reg (scope.Word z) i)) m) refl in
         expanded.a_word z r.0 i k (ap home own_is ∙ h.held r.0 g r.1)
     by_place (a_flag i k) =
-        let m = kind_too storage.Reg kind.Bool (has_decl v storage.Reg scope.Truth i) k in
+        let m = kind_too kind.Bool k in
         let g : Held = record { key = own_key (ref_of x); what = held_flag } in
         let r = held_at 0 g (g ∷ []) (held_is x storage.Reg kind.Bool (has_decl x storage.Reg scope.Truth (declared_too storage.Reg scope.Truth i)) m) refl in
         expanded.a_flag r.0 i k (ap home own_is ∙ h.held r.0 g r.1)
     by_place (a_scalar z i k) =
-        let m = kind_too storage.Stack (kind.Word z) (has_decl v storage.Stack (scope.Word z) i) k in
+        let m = kind_too (kind.Word z) k in
         let g = kept_scalar (ref_of x) z in
         let r = kept_at 0 g (g ∷ []) (kept_is x storage.Stack (kind.Word z) (has_decl x storage.Stack (scope.Word z) (declared_too storage.Stack (scope.Word z) i)) m) refl in
         expanded.a_scalar z r.0 i k (ap home own_is ∙ h.kept r.0 0 g r.1 (omega arith))
     by_place (an_array z k i m lt) =
-        let o = kind_too storage.Stack (kind.Array z k) (has_decl v storage.Stack (scope.Array z) i) m in
+        let o = kind_too (kind.Array z k) m in
         let g = kept_array (ref_of x) z k in
         let r = kept_at 0 g (g ∷ []) (kept_is x storage.Stack (kind.Array z k) (has_decl x storage.Stack (scope.Array z) (declared_too storage.Stack (scope.Array z) i)) o) refl in
         expanded.an_array z k r.0 i (m, lt, λ j less. ap home (same_cell_key x v j e) ∙ h.kept r.0 j g r.1 less)
 
   by_name : Names x v → HasHome home v
-  by_name (itself e c d p) = by_place e c d p
+  by_name (itself e c d q p) = by_place e c d q p
   by_name (a_cell z k i e c lt d m o p) =
       let g = word_at z (cell_key (ref_of x) i) in
       let r =

@@ -2,10 +2,10 @@
 use Rattle.std.specs.Prelude.{◌≡◌, ◌<◌, ℕ, Some, None, slice_get}
 use Rattle.jz_words.specs.declared.size.Size.{Size}
 use Rattle.jz_tree.specs.declared.expr.Storage.TheVariants as storage
-use Rattle.jz_tree.specs.declared.expr.Expr.TheViews.{out-Var}
 use Rattle.jz_tree.specs.declared.expr.Var.{Var}
 use Rattle.jz_tree.specs.declared.program.Fun.{Fun}
 use Rattle.jz_type_names.specs.declared.kinds.Kind.TheVariants as scope
+use Rattle.jz_type_names.specs.Kinds.{known_of}
 use Rattle.jz_type_names.specs.Scopes.{variables_of}
 use Rattle.jz_meaning.specs.declared.access.Kind.TheVariants as kind
 use Rattle.jz_meaning.specs.Values.{ref_of}
@@ -29,12 +29,13 @@ pub data IsPlaced (v : Var) : Type 0 where
 abbrev pub AreOneName : Var → Var → Type 0
 AreOneName x v = ((ref_of v).name ≡ (ref_of x).name) × ((ref_of v).copy ≡ (ref_of x).copy)
 
--- what stands for a declared variable: the variable itself, with its declaration, or a cell of a
--- register array, which the expansion makes a word of its own
+-- what stands for a declared variable: the variable itself, declared alike (an array that is lent has
+-- the declaration of the parameter), or a cell of a register array, which the expansion makes a word
+-- of its own
 pub data Names (x v : Var) : Type 0 where
   itself :
-      AreOneName x v → (ref_of v).cell ≡ None → (out-Var v).decl ≡ (out-Var x).decl → IsPlaced v
-      → Names x v
+      AreOneName x v → (ref_of v).cell ≡ None → known_of v ≡ known_of x
+      → (ref_of v).kind ≡ (ref_of x).kind → IsPlaced v → Names x v
   a_cell :
       (z : Size) (n i : ℕ)
       → AreOneName x v → (ref_of v).cell ≡ Some i → i < n
